@@ -211,7 +211,7 @@ def law_function(n):
     return "\n".join(
         [
             documented("`alt` of %s parsers returns the result of the first branch that does not backtrack, or of the last branch. Every branch runs at the same offset." % NUMBER[n]),
-            "pub fn alt_of_%s_answers_as_the_first<%s, I: Stream, O, E: ParserError<I>>()" % (NUMBER[n], types),
+            "pub fn alt_of_%s_is_ordered_choice<%s, I: Stream, O, E: ParserError<I>>()" % (NUMBER[n], types),
             "    ensures { ChoosesFirst%d %s (⟦<%s as Alt<I, O, E>>⟧.meaning E.form) }" % (n, meanings, parsers),
             "{",
             "}",
@@ -234,7 +234,7 @@ use winnow_core::parser::Parser;
 
 LAW_ANSWERS = """-- {head}
 use Rattle.winnow_comb.proofs.ChoiceLaws.{{chooses_first{n}}}
-use Rattle.winnow_comb.proofs.laws.choices.alt_of_{number}_answers_as_the_first.Goals as goal
+use Rattle.winnow_comb.proofs.laws.choices.alt_of_{number}_is_ordered_choice.Goals as goal
 
 pub returns : goal.returns
 returns g c = chooses_first{n} {runs}
@@ -258,6 +258,6 @@ def write_choices():
     write(comb + "proofs/ChoiceLaws.antt", LAW_LEMMAS, laws=laws, family="\n\n".join(law_lemma(n) for n in sizes))
     write(comb + "src/laws/choices.rt", LAW_FUNCTIONS, laws=laws, family="\n\n".join(law_function(n) for n in sizes))
     for n in sizes:
-        path = comb + "proofs/laws/choices/alt_of_%s_answers_as_the_first/Answers.antt" % NUMBER[n]
+        path = comb + "proofs/laws/choices/alt_of_%s_is_ordered_choice/Answers.antt" % NUMBER[n]
         runs = " ".join("(g.P%d.Parser.meaning g.E.HasKind.form)" % k for k in upto(n))
         write(path, LAW_ANSWERS, n=n, number=NUMBER[n], runs=runs)

@@ -86,12 +86,12 @@ def class_claims(is_member, least):
     """Returns the claim of a parser of a class, and its proof."""
     parts = "%s %d I.Token.code I.seen_as I.reading" % (is_member, least)
     claim = {
-        "premise": "SeesApart I.seen_as",
+        "premise": "TokenEqInjective I.seen_as",
         "backtracks": "⊤",
         "spares_memory": "⊤",
         "consumes": "⊤" if least else "⊥",
         "grammar": "Class %s" % parts,
-        "decides": "SeenOnce I.seen_as I.Token.code",
+        "decides": "CharIsFunction I.seen_as I.Token.code",
         "alike": "ShowSame I.reading",
     }
     claimed = {
@@ -108,12 +108,12 @@ CLASS_STRUCT = """//! {about}
 //! {head}
 ghost use Rattle.std.specs.Prelude.{{None, ⊤}};
 ghost use Rattle.stream_sets.specs.AsChar.{{{member}}};
-ghost use Rattle.stream_sets.specs.Once.{{SeesApart}};
+ghost use Rattle.stream_sets.specs.Once.{{TokenEqInjective}};
 ghost use Rattle.stream_sets.specs.Range.{{from_to}};
 ghost use Rattle.grammars.specs.Grammar.{{Class}};
 ghost use Rattle.winnow_ascii.specs.Class.{{ClassRuns}};
 ghost use Rattle.winnow_ascii.specs.Class.Laws.{{class_exact, class_fails, {laws}}};
-ghost use Rattle.winnow_ascii.specs.Class.Says.{{SeenOnce, class_decided, class_said, class_says}};
+ghost use Rattle.winnow_ascii.specs.Class.Says.{{CharIsFunction, class_decided, class_said, class_says}};
 ghost use Rattle.winnow_core.specs.Exact.Allowed.{{backs}};
 ghost use Rattle.winnow_core.specs.Literal.Laws.{{ShowSame}};
 ghost use Rattle.winnow_core.specs.Runs.{{Keeps}};

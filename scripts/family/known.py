@@ -147,7 +147,7 @@ use Rattle.std.specs.Prelude.{{Ok, Err, ◌⊎◌}}
 use Rattle.std.proofs.Common.{{refl, inl, inr}}
 use Rattle.streams.specs.Input.{{Input}}
 use Rattle.streams.specs.Kind.{{Kind}}
-use Rattle.stream_errors.specs.Form.Known.{{at_kind, at_output, ok_is_err}}
+use Rattle.stream_errors.specs.Form.Inversion.{{at_kind, at_output, ok_is_err}}
 use Rattle.winnow_core.specs.Sequence.Cases.{{{names}}}
 
 {family}
@@ -163,7 +163,7 @@ def write_known():
         family="\n\n".join(known_cases(n) for n in some),
     )
     write(
-        core + "Known.antt",
+        core + "Inversion.antt",
         SEQUENCE_KNOWN,
         names=", ".join("SequenceCases%d" % n for n in some),
         family="\n\n".join("-- Sequences of %s.\n%s\n\n%s" % (NUMBER[n], known_ok(n), known_err(n)) for n in some),

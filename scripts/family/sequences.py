@@ -64,7 +64,7 @@ pub mod Cases
 pub mod Claim
 pub mod Exact
 pub mod Grows
-pub mod Known
+pub mod Inversion
 pub mod LargeGrows
 pub mod Laws
 pub mod Says

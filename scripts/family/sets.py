@@ -8,7 +8,7 @@ def tells(k):
 
 def tells_from(k, n):
     """Returns the relation of the sets from k to n, which are tested in order."""
-    return tells(n) if k == n else "(EitherTells %s %s)" % (tells(k), tells_from(k + 1, n))
+    return tells(n) if k == n else "(InEither %s %s)" % (tells(k), tells_from(k + 1, n))
 
 
 def once_from(k, n):
@@ -46,7 +46,7 @@ SET_IMPLS = """//! Tuples of sets: their unions. The sets are tested in order.
 //!
 //! {head}
 ghost use Rattle.stream_sets.specs.Once.{{either_once}};
-ghost use Rattle.stream_sets.specs.Sets.{{EitherTells}};
+ghost use Rattle.stream_sets.specs.Sets.{{InEither}};
 
 use crate::sets::ContainsToken;
 

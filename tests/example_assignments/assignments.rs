@@ -26,7 +26,7 @@ fn check_assignments_by_rows(rt: HostRuntime) {
     for (text, want) in ROWS {
         let place = match check_assignments(rt.alloc(), *text) {
             Ok(()) => None,
-            Err(ParseFault::Refused(fault)) => Some(fault.offset()),
+            Err(ParseFault::Invalid(fault)) => Some(fault.offset()),
             Err(ParseFault::Incomplete(_)) => Some(usize::MAX),
         };
         assert_eq!(rt; place, *want);

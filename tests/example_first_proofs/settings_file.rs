@@ -51,7 +51,7 @@ const REFUSED: &[(&[u8], usize)] = &[
 fn faults_say_where_the_settings_end(rt: HostRuntime) {
     for (file, at) in REFUSED {
         match parse_settings(rt.alloc(), file) {
-            Err(ParseFault::Refused(error)) => assert_eq!(rt; error.offset(), *at, "{file:?}"),
+            Err(ParseFault::Invalid(error)) => assert_eq!(rt; error.offset(), *at, "{file:?}"),
             _ => assert!(rt; false, "{file:?}"),
         }
     }

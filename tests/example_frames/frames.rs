@@ -5,7 +5,7 @@ use std::io;
 use std::io::{ErrorKind, Read};
 use std::process::Abort;
 use test_support::refusing::Refusing;
-use examples::frames::fault::FrameFault;
+use examples::frames::fault::FrameError;
 use examples::frames::first::first_frame;
 use examples::frames::frames::{FrameBuffer, read_frames};
 
@@ -51,7 +51,7 @@ struct Row {
     stream: &'static [u8],
     room: usize,
     payloads: &'static [&'static [u8]],
-    end: Result<(), FrameFault>,
+    end: Result<(), FrameError>,
     held: &'static [u8],
 }
 
@@ -88,28 +88,28 @@ const ROWS: &[Row] = &[
         stream: b"\x00\x02ab\x00",
         room: 8,
         payloads: &[b"ab"],
-        end: Err(FrameFault::EndsWithin),
+        end: Err(FrameError::EndsWithin),
         held: b"\x00",
     },
     Row {
         stream: b"\x00\x02ab\x00\x02",
         room: 8,
         payloads: &[b"ab"],
-        end: Err(FrameFault::EndsWithin),
+        end: Err(FrameError::EndsWithin),
         held: b"\x00\x02",
     },
     Row {
         stream: b"\x00\x02ab\x00\x02c",
         room: 8,
         payloads: &[b"ab"],
-        end: Err(FrameFault::EndsWithin),
+        end: Err(FrameError::EndsWithin),
         held: b"\x00\x02c",
     },
     Row {
         stream: b"\xff\xffxyz",
         room: 65537,
         payloads: &[],
-        end: Err(FrameFault::EndsWithin),
+        end: Err(FrameError::EndsWithin),
         held: b"\xff\xffxyz",
     },
 ];
@@ -128,7 +128,7 @@ fn check<A: Allocator + Copy>(
     room: &mut [u8],
     stream: &[u8],
     payloads: &[&[u8]],
-    end: Result<(), FrameFault>,
+    end: Result<(), FrameError>,
     held: &[u8],
 ) {
     let mut buffer = FrameBuffer::new(room);
@@ -175,7 +175,7 @@ fn read_frames_too_long(rt: HostRuntime) {
         &mut room,
         stream,
         &[b"a"],
-        Err(FrameFault::TooLong),
+        Err(FrameError::TooLong),
         b"\x00\x03",
     );
     same(&rt, stream, source.bytes, b"bcd".as_slice());
@@ -187,7 +187,7 @@ fn read_frames_too_long(rt: HostRuntime) {
         &mut room[..1],
         stream,
         &[],
-        Err(FrameFault::TooLong),
+        Err(FrameError::TooLong),
         b"",
     );
     same(&rt, stream, source.bytes, stream.as_slice());
@@ -201,7 +201,7 @@ fn fill_goes_on_behind_a_fault(rt: HostRuntime) {
     let mut buffer = FrameBuffer::new(&mut room);
     let mut source = Pieces::new(stream, 1);
     source.reads = 4;
-    same(&rt, stream, buffer.fill(&mut source), Err(FrameFault::Unreadable));
+    same(&rt, stream, buffer.fill(&mut source), Err(FrameError::Unreadable));
     same(&rt, stream, buffer.held(), b"\x00\x03ab".as_slice());
     source.reads = 1;
     same(&rt, stream, buffer.fill(&mut source), Ok(true));
@@ -253,7 +253,7 @@ fn fill_goes_on_over_a_socket_byte_by_byte(rt: HostRuntime) {
             }
             Ok(false) => break,
             Err(fault) => {
-                same(&rt, stream, fault, FrameFault::Unreadable);
+                same(&rt, stream, fault, FrameError::Unreadable);
                 blocked += 1;
             }
         }
@@ -304,7 +304,7 @@ fn read_frames_wants_memory(rt: HostRuntime) {
         let end = read_frames(&heap, &mut source, &mut buffer, &mut found);
         met = heap.met();
         if met {
-            same(&rt, stream, end, Err(FrameFault::NoMemory));
+            same(&rt, stream, end, Err(FrameError::NoMemory));
             same(&rt, stream, 2 + buffer.payload().len(), buffer.held().len());
             let last = if found.is_empty() { b"a".as_slice() } else { b"bc".as_slice() };
             same(&rt, stream, buffer.payload(), last);

@@ -118,7 +118,7 @@ fn places(rt: HostRuntime) {
             Parser::<&[u8], _, ErrMode<EmptyError>>::parse_outcome(&mut setting, *text);
         let place = match answer {
             Ok(_) => None,
-            Err(ParseFault::Refused(fault)) => Some(fault.offset()),
+            Err(ParseFault::Invalid(fault)) => Some(fault.offset()),
             Err(ParseFault::Incomplete(_)) => Some(usize::MAX),
         };
         assert_eq!(rt; place, *want);

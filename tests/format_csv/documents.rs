@@ -83,7 +83,7 @@ fn parse_document_of_documents(rt: HostRuntime) {
 fn parse_document_of_none(rt: HostRuntime) {
     for (text, place) in NO_DOCUMENTS {
         match parse_document(rt.alloc(), LineEnd::CrLf, text) {
-            Err(ParseFault::Refused(error)) => same(&rt, text, error.offset(), *place),
+            Err(ParseFault::Invalid(error)) => same(&rt, text, error.offset(), *place),
             _ => same(&rt, text, true, false),
         }
     }

@@ -13,7 +13,7 @@ fn parse_document_refused_memory(rt: HostRuntime) {
     while met {
         let heap: Refusing<Global> = Refusing::once(rt.alloc(), n);
         let wants = match parse_document(&heap, LineEnd::CrLf, TEXT) {
-            Err(ParseFault::Refused(error)) => ParserError::<&[u8]>::is_memory(error.inner()),
+            Err(ParseFault::Invalid(error)) => ParserError::<&[u8]>::is_memory(error.inner()),
             _ => false,
         };
         met = heap.met();

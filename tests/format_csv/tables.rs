@@ -4,7 +4,7 @@ use std::fmt::Debug;
 use std::process::Abort;
 use test_support::refusing::Refusing;
 use format_csv::{LineEnd, Record};
-use format_csv::table::{Ragged, Table, TableFault, parse_table};
+use format_csv::table::{Ragged, Table, TableError, parse_table};
 use winnow::error::{ParseFault, ParserError};
 
 /// A document with a header, the fields of the header, and the fields of the following records. The
@@ -78,7 +78,7 @@ fn parse_table_of_ragged_records(rt: HostRuntime) {
     for (text, number, has, wants) in RAGGED {
         let want = Ragged { number: *number, has: *has, wants: *wants };
         match parse_table(rt.alloc(), LineEnd::CrLf, text) {
-            Err(TableFault::Width(ragged)) => same(&rt, text, ragged, want),
+            Err(TableError::Width(ragged)) => same(&rt, text, ragged, want),
             _ => same(&rt, text, true, false),
         }
     }
@@ -88,14 +88,14 @@ fn parse_table_of_ragged_records(rt: HostRuntime) {
 fn parse_table_of_no_document(rt: HostRuntime) {
     for (text, place) in NO_DOCUMENTS {
         match parse_table(rt.alloc(), LineEnd::CrLf, text) {
-            Err(TableFault::Document(ParseFault::Refused(error))) => {
+            Err(TableError::Document(ParseFault::Invalid(error))) => {
                 same(&rt, text, error.offset(), *place);
             }
             _ => same(&rt, text, true, false),
         }
     }
     let none = parse_table(rt.alloc(), LineEnd::CrLf, b"".as_slice());
-    same(&rt, b"".as_slice(), matches!(none, Err(TableFault::Empty)), true);
+    same(&rt, b"".as_slice(), matches!(none, Err(TableError::Empty)), true);
 }
 
 #[test]
@@ -110,7 +110,7 @@ fn parse_table_by_line_feeds(rt: HostRuntime) {
     }
     let other = b"a,b\r\n1,2\r\n".as_slice();
     let refused = parse_table(rt.alloc(), LineEnd::Lf, other);
-    same(&rt, other, matches!(refused, Err(TableFault::Document(_))), true);
+    same(&rt, other, matches!(refused, Err(TableError::Document(_))), true);
 }
 
 fn has_field<A: Allocator>(table: &Table<A>, fields: &Record<A>, name: &[u8], want: &[u8]) -> bool {
@@ -157,7 +157,7 @@ fn parse_table_refused_memory(rt: HostRuntime) {
     while met {
         let heap: Refusing<Global> = Refusing::once(rt.alloc(), n);
         let wants = match parse_table(&heap, LineEnd::CrLf, text) {
-            Err(TableFault::Document(ParseFault::Refused(error))) => {
+            Err(TableError::Document(ParseFault::Invalid(error))) => {
                 ParserError::<&[u8]>::is_memory(error.inner())
             }
             _ => false,

@@ -4,20 +4,20 @@ use crate::tables::show;
 use format_csv_reader::error::ReadError;
 use format_csv_reader::reader::Reader;
 use format_csv_records::dialect::{Dialect, LineEnds};
-use format_csv_records::read::Refusal;
+use format_csv_records::read::Reason;
 use format_csv_records::record::ByteRecord;
 use std::io::ErrorKind;
 
 /// A line ending, a table, the offset of the first invalid byte, and the reason. The offsets are
 /// determined by hand from RFC 4180.
-const REFUSED: &[(LineEnds, &[u8], u64, Refusal)] = &[
-    (LineEnds::CrLf, b"a,b\r\nc\"\r\n", 6, Refusal::QuoteInField),
-    (LineEnds::CrLf, b"a\r\n\"b\"c\r\n", 6, Refusal::ByteBehindQuote),
-    (LineEnds::CrLf, b"a\r\nb\r\n\"c\r\n", 10, Refusal::OpenQuote),
-    (LineEnds::CrLf, b"a\nb", 1, Refusal::WrongLineEnd),
-    (LineEnds::CrLf, b"a\r\nb\r", 5, Refusal::WrongLineEnd),
-    (LineEnds::Lf, b"a\nb\r\n", 3, Refusal::WrongLineEnd),
-    (LineEnds::Either, b"a\nb\r\nc\rd", 7, Refusal::WrongLineEnd),
+const REFUSED: &[(LineEnds, &[u8], u64, Reason)] = &[
+    (LineEnds::CrLf, b"a,b\r\nc\"\r\n", 6, Reason::QuoteInField),
+    (LineEnds::CrLf, b"a\r\n\"b\"c\r\n", 6, Reason::ByteBehindQuote),
+    (LineEnds::CrLf, b"a\r\nb\r\n\"c\r\n", 10, Reason::OpenQuote),
+    (LineEnds::CrLf, b"a\nb", 1, Reason::WrongLineEnd),
+    (LineEnds::CrLf, b"a\r\nb\r", 5, Reason::WrongLineEnd),
+    (LineEnds::Lf, b"a\nb\r\n", 3, Reason::WrongLineEnd),
+    (LineEnds::Either, b"a\nb\r\nc\rd", 7, Reason::WrongLineEnd),
 ];
 
 #[test]
@@ -32,7 +32,7 @@ fn a_table_is_refused_at_a_byte_of_it(rt: HostRuntime) {
             let (mut fields, mut shown) = (ByteRecord::new(alloc), Vec::new(alloc));
             for _ in 0..2 {
                 match show(&rt, &mut table, &mut fields, &mut shown) {
-                    Err(ReadError::Refused(fault)) => {
+                    Err(ReadError::Invalid(fault)) => {
                         assert_eq!(rt; fault.offset, *offset);
                         assert!(rt; fault.why == *why, "{bytes:?} {step}");
                     }

@@ -2,7 +2,7 @@
 use crate::records::{REFUSED, STANDARD, dialect};
 use format_csv_records::buffers::{record_size, write_fields};
 use format_csv_records::dialect::{Dialect, LineEnds};
-use format_csv_records::read::RecordFault;
+use format_csv_records::read::InvalidRecord;
 
 /// The offset and the length of a field.
 const NOWHERE: (usize, usize) = (0, 0);
@@ -39,7 +39,7 @@ fn the_examples_of_the_standard_in_buffers(rt: HostRuntime) {
 #[test]
 fn a_size_is_refused_where_no_record_can_go_on(rt: HostRuntime) {
     for (ends, bytes, offset, why) in REFUSED {
-        let wanted = RecordFault { offset: *offset, why: *why };
+        let wanted = InvalidRecord { offset: *offset, why: *why };
         match record_size(dialect(b',', *ends, &rt), bytes) {
             Err(fault) => assert!(rt; fault == wanted, "{offset}"),
             Ok(_) => assert!(rt; false, "{offset}"),

@@ -1,14 +1,14 @@
 //! Dialects that there are, and those that there are not.
-use format_csv_records::dialect::{Dialect, DialectFault, LineEnds};
+use format_csv_records::dialect::{Dialect, DialectError, LineEnds};
 
 /// A delimiter, a quote, and why they are invalid.
-const IMPOSSIBLE: &[(u8, u8, DialectFault)] = &[
-    (b',', b',', DialectFault::DelimiterIsQuote),
-    (b'\n', b'\n', DialectFault::DelimiterIsQuote),
-    (b'\n', b'"', DialectFault::DelimiterEndsLines),
-    (b'\r', b'\n', DialectFault::DelimiterEndsLines),
-    (b',', b'\r', DialectFault::QuoteEndsLines),
-    (b',', b'\n', DialectFault::QuoteEndsLines),
+const IMPOSSIBLE: &[(u8, u8, DialectError)] = &[
+    (b',', b',', DialectError::DelimiterIsQuote),
+    (b'\n', b'\n', DialectError::DelimiterIsQuote),
+    (b'\n', b'"', DialectError::DelimiterEndsLines),
+    (b'\r', b'\n', DialectError::DelimiterEndsLines),
+    (b',', b'\r', DialectError::QuoteEndsLines),
+    (b',', b'\n', DialectError::QuoteEndsLines),
 ];
 
 #[test]

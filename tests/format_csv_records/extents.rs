@@ -4,13 +4,13 @@ use crate::records::{REFUSED, STANDARD, dialect};
 use format_csv_records::buffers::{RecordSize, record_size, write_fields};
 use format_csv_records::dialect::{Dialect, LineEnds};
 use format_csv_records::extent::{RecordExtent, RecordPlace};
-use format_csv_records::read::RecordFault;
+use format_csv_records::read::InvalidRecord;
 
 /// The result of a call: the numbers of fields, of bytes of fields and of bytes, and whether the
 /// line ending is present; or nothing.
-type Told = Result<Option<(usize, usize, usize, bool)>, RecordFault>;
+type Told = Result<Option<(usize, usize, usize, bool)>, InvalidRecord>;
 
-fn told(answer: Result<Option<RecordSize>, RecordFault>) -> Told {
+fn told(answer: Result<Option<RecordSize>, InvalidRecord>) -> Told {
     match answer {
         Ok(Some(size)) => Ok(Some((size.fields, size.text, size.length, size.ended))),
         Ok(None) => Ok(None),
@@ -57,7 +57,7 @@ fn advance_refuses_the_first_byte(rt: HostRuntime) {
             let answer = extent.advance(lines, &bytes[..cut]);
             assert!(rt; told(answer) == Ok(None), "{bytes:?} {cut}");
         }
-        let never = Err(RecordFault { offset: *offset, why: *why });
+        let never = Err(InvalidRecord { offset: *offset, why: *why });
         if *offset < bytes.len() {
             assert!(rt; told(extent.advance(lines, &bytes[..*offset + 1])) == never);
             assert!(rt; told(extent.advance(lines, bytes)) == never);

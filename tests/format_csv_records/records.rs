@@ -1,7 +1,7 @@
 //! Records and documents: fields, the rest, and the first byte that cannot continue a record.
 use std::process::Abort;
 use format_csv_records::dialect::{Dialect, LineEnds};
-use format_csv_records::read::{RecordError, RecordFault, Refusal, read_record_into};
+use format_csv_records::read::{RecordError, InvalidRecord, Reason, read_record_into};
 use format_csv_records::record::ByteRecord;
 use format_csv_records::records::{Records, skip_mark, column_of, field_of};
 
@@ -59,22 +59,22 @@ fn the_examples_of_the_standard(rt: HostRuntime) {
 
 /// A line ending, bytes that do not start with a record, the offset of the error, and the reason.
 /// The offsets are determined by hand: the first byte that cannot continue a record.
-pub const REFUSED: &[(LineEnds, &[u8], usize, Refusal)] = &[
-    (LineEnds::Lf, b"a\"", 1, Refusal::QuoteInField),
-    (LineEnds::Lf, b"a,b\"c\n", 3, Refusal::QuoteInField),
-    (LineEnds::Lf, b"\"a\"b", 3, Refusal::ByteBehindQuote),
-    (LineEnds::Lf, b"\"a\" ,b", 3, Refusal::ByteBehindQuote),
-    (LineEnds::Lf, b"\"", 1, Refusal::OpenQuote),
-    (LineEnds::Lf, b"a,\"b\"\",\n", 8, Refusal::OpenQuote),
-    (LineEnds::Lf, b"a\r\n", 1, Refusal::WrongLineEnd),
-    (LineEnds::Lf, b"\"a\"\r\n", 3, Refusal::WrongLineEnd),
-    (LineEnds::CrLf, b"a\n", 1, Refusal::WrongLineEnd),
-    (LineEnds::CrLf, b"\n", 0, Refusal::WrongLineEnd),
-    (LineEnds::CrLf, b"a\r", 2, Refusal::WrongLineEnd),
-    (LineEnds::CrLf, b"a\rb", 2, Refusal::WrongLineEnd),
-    (LineEnds::CrLf, b"a\r\r\n", 2, Refusal::WrongLineEnd),
-    (LineEnds::Either, b"a,b\rc", 4, Refusal::WrongLineEnd),
-    (LineEnds::Either, b"\r", 1, Refusal::WrongLineEnd),
+pub const REFUSED: &[(LineEnds, &[u8], usize, Reason)] = &[
+    (LineEnds::Lf, b"a\"", 1, Reason::QuoteInField),
+    (LineEnds::Lf, b"a,b\"c\n", 3, Reason::QuoteInField),
+    (LineEnds::Lf, b"\"a\"b", 3, Reason::ByteBehindQuote),
+    (LineEnds::Lf, b"\"a\" ,b", 3, Reason::ByteBehindQuote),
+    (LineEnds::Lf, b"\"", 1, Reason::OpenQuote),
+    (LineEnds::Lf, b"a,\"b\"\",\n", 8, Reason::OpenQuote),
+    (LineEnds::Lf, b"a\r\n", 1, Reason::WrongLineEnd),
+    (LineEnds::Lf, b"\"a\"\r\n", 3, Reason::WrongLineEnd),
+    (LineEnds::CrLf, b"a\n", 1, Reason::WrongLineEnd),
+    (LineEnds::CrLf, b"\n", 0, Reason::WrongLineEnd),
+    (LineEnds::CrLf, b"a\r", 2, Reason::WrongLineEnd),
+    (LineEnds::CrLf, b"a\rb", 2, Reason::WrongLineEnd),
+    (LineEnds::CrLf, b"a\r\r\n", 2, Reason::WrongLineEnd),
+    (LineEnds::Either, b"a,b\rc", 4, Reason::WrongLineEnd),
+    (LineEnds::Either, b"\r", 1, Reason::WrongLineEnd),
 ];
 
 #[test]
@@ -83,8 +83,8 @@ fn refused_where_no_record_can_go_on(rt: HostRuntime) {
     for (ends, bytes, offset, why) in REFUSED {
         let mut input = *bytes;
         let told = read_record_into(dialect(b',', *ends, &rt), &mut fields, &mut input);
-        let fault = RecordFault { offset: *offset, why: *why };
-        assert!(rt; told == Err(RecordError::Refused(fault)), "{offset}");
+        let fault = InvalidRecord { offset: *offset, why: *why };
+        assert!(rt; told == Err(RecordError::Invalid(fault)), "{offset}");
         assert_eq!(rt; input, *bytes);
         assert!(rt; fields.is_empty());
     }

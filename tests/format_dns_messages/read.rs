@@ -1,6 +1,6 @@
 //! Messages, by hand from RFC 1035 (section 4.1).
 use format_dns::data::Data;
-use format_dns::fault::{Fault, MessageFault, Section};
+use format_dns::fault::{PartError, MessageError, Section};
 use format_dns::message::read_message;
 
 /// A response about the mail of `ISI.ARPA`: one question, two answer records, a name server, and
@@ -28,24 +28,24 @@ const CUTS: &[(usize, Section, usize, usize)] = &[
 
 /// The offset of a changed byte of the message, its new value, and the invalid entry with its
 /// error.
-const CHANGES: &[(usize, u8, Section, usize, Fault)] = &[
+const CHANGES: &[(usize, u8, Section, usize, PartError)] = &[
     // The header counts another question: the first answer is also read as a name, a type and a
     // class. The first byte of its time to live is then the root, and a length of 18112 precedes
     // offset 43.
-    (5, 2, Section::Answer, 0, Fault::Ends(43)),
+    (5, 2, Section::Answer, 0, PartError::Ends(43)),
     // The question is not counted, so it is read as a record: with one octet of a mail exchange.
-    (5, 0, Section::Answer, 0, Fault::Ends(32)),
+    (5, 0, Section::Answer, 0, PartError::Ends(32)),
     // The header counts one more answer, or one more record of a later section: records of all
     // sections have the same form, so the last one is missing.
-    (7, 3, Section::Additional, 0, Fault::Ends(94)),
-    (9, 2, Section::Additional, 0, Fault::Ends(94)),
-    (11, 2, Section::Additional, 1, Fault::Ends(94)),
-    (10, 1, Section::Additional, 1, Fault::Ends(94)),
+    (7, 3, Section::Additional, 0, PartError::Ends(94)),
+    (9, 2, Section::Additional, 0, PartError::Ends(94)),
+    (11, 2, Section::Additional, 1, PartError::Ends(94)),
+    (10, 1, Section::Additional, 1, PartError::Ends(94)),
     // The name of the second answer leads to itself.
-    (45, 44, Section::Answer, 1, Fault::NotPrior(44)),
+    (45, 44, Section::Answer, 1, PartError::NotPrior(44)),
     // The data of the name server have an octet that is none of a name.
-    (75, 3, Section::Authority, 0, Fault::Trailing(78)),
-    (78, 128, Section::Additional, 0, Fault::Reserved(78)),
+    (75, 3, Section::Authority, 0, PartError::Trailing(78)),
+    (78, 128, Section::Additional, 0, PartError::Reserved(78)),
 ];
 
 #[test]
@@ -70,8 +70,8 @@ fn read_message_of_a_server(rt: HostRuntime) {
         Err(fault) => assert!(rt; false, "{fault}"),
     }
     let deeper = read_message(rt.alloc(), 1, MESSAGE);
-    let why = Fault::TooMany(42);
-    let fault = MessageFault { section: Section::Answer, entry: 1, why };
+    let why = PartError::TooMany(42);
+    let fault = MessageError { section: Section::Answer, entry: 1, why };
     assert!(rt; matches!(deeper, Err(got) if got == fault));
 }
 
@@ -93,7 +93,7 @@ fn read_message_cut_off(rt: HostRuntime) {
             Ok(_) => assert!(rt; false, "{size}"),
             Err(fault) => {
                 assert_eq!(rt; (fault.section, fault.entry), (*section, *entry), "{size}");
-                assert_eq!(rt; fault.why, Fault::Ends(*place), "{size}");
+                assert_eq!(rt; fault.why, PartError::Ends(*place), "{size}");
             }
         }
     }

@@ -1,5 +1,5 @@
 //! Allocation failures, and errors as text.
-use format_dns::fault::{Fault, MessageFault, Section};
+use format_dns::fault::{PartError, MessageError, Section};
 use format_dns::message::read_message;
 use std::alloc::Global;
 use test_support::refusing::Refusing;
@@ -16,7 +16,7 @@ const MESSAGE: &[u8] = b"\0\0\0\0\0\x02\0\x02\0\x02\0\x02\
 \xc0\x0c\0\x01\0\x01\0\0\0\0\0\x04\x7f\0\0\x01";
 
 /// Returns the number of entries of the message before that of the error.
-fn entries_before(fault: MessageFault) -> usize {
+fn entries_before(fault: MessageError) -> usize {
     let sections = match fault.section {
         Section::Header => 9,
         Section::Question => 0,
@@ -41,7 +41,7 @@ fn read_message_refused_memory(rt: HostRuntime) {
             Ok(_) => assert!(rt; !met, "{n}"),
             Err(fault) => {
                 let now = entries_before(fault);
-                assert!(rt; met && fault.why == Fault::NoMemory && fault.entry < 2, "{n}");
+                assert!(rt; met && fault.why == PartError::NoMemory && fault.entry < 2, "{n}");
                 assert!(rt; now == before || now == before + 1, "{n} {now}");
                 before = now;
             }
@@ -57,39 +57,39 @@ fn read_message_that_counts_too_many(rt: HostRuntime) {
     let header = b"\0\0\0\0\xff\xff\xff\xff\xff\xff\xff\xff".as_slice();
     let heap: Refusing<Global> = Refusing::once(rt.alloc(), 0);
     let read = read_message(&heap, 127, header);
-    let why = Fault::Ends(12);
-    let fault = MessageFault { section: Section::Question, entry: 0, why };
+    let why = PartError::Ends(12);
+    let fault = MessageError { section: Section::Question, entry: 0, why };
     assert!(rt; matches!(read, Err(got) if got == fault));
     assert!(rt; !heap.met());
 }
 
-const SAID: &[(MessageFault, &str)] = &[
+const SAID: &[(MessageError, &str)] = &[
     (
-        MessageFault { section: Section::Header, entry: 0, why: Fault::Ends(0) },
+        MessageError { section: Section::Header, entry: 0, why: PartError::Ends(0) },
         "entry 0 of the header section: incomplete element at offset 0",
     ),
     (
-        MessageFault { section: Section::Question, entry: 1, why: Fault::TooLong(12) },
+        MessageError { section: Section::Question, entry: 1, why: PartError::TooLong(12) },
         "entry 1 of the question section: name too long at offset 12",
     ),
     (
-        MessageFault { section: Section::Answer, entry: 2, why: Fault::TooMany(42) },
+        MessageError { section: Section::Answer, entry: 2, why: PartError::TooMany(42) },
         "entry 2 of the answer section: too many compression pointers at offset 42",
     ),
     (
-        MessageFault { section: Section::Authority, entry: 0, why: Fault::NotPrior(9) },
+        MessageError { section: Section::Authority, entry: 0, why: PartError::NotPrior(9) },
         "entry 0 of the authority section: compression pointer without a prior target at offset 9",
     ),
     (
-        MessageFault { section: Section::Additional, entry: 3, why: Fault::Reserved(78) },
+        MessageError { section: Section::Additional, entry: 3, why: PartError::Reserved(78) },
         "entry 3 of the additional section: reserved label type at offset 78",
     ),
     (
-        MessageFault { section: Section::Answer, entry: 0, why: Fault::Trailing(30) },
+        MessageError { section: Section::Answer, entry: 0, why: PartError::Trailing(30) },
         "entry 0 of the answer section: unexpected trailing data at offset 30",
     ),
     (
-        MessageFault { section: Section::Answer, entry: 0, why: Fault::NoMemory },
+        MessageError { section: Section::Answer, entry: 0, why: PartError::NoMemory },
         "entry 0 of the answer section: out of memory",
     ),
 ];

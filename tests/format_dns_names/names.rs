@@ -1,5 +1,5 @@
 //! Names, from RFC 1035 (section 4.1.4) and by hand, and why there is none.
-use format_dns::fault::Fault;
+use format_dns::fault::PartError;
 use format_dns::name::read_name;
 use std::fmt::Debug;
 use std::process::Abort;
@@ -20,26 +20,26 @@ const NAMES: &[(usize, usize, &[&[u8]], usize)] = &[
 ];
 
 /// A message, a place, a level, and why no name begins there.
-const FAULTS: &[(&[u8], usize, usize, Fault)] = &[
-    (b"", 0, 3, Fault::Ends(0)),
-    (b"\0", 1, 3, Fault::Ends(1)),
-    (b"\0", 2, 3, Fault::Ends(2)),
-    (b"\x01a", 0, 3, Fault::Ends(2)),
-    (b"\x01a\x03bc", 0, 3, Fault::Ends(2)),
-    (b"\x01a\xc0", 0, 3, Fault::Ends(2)),
-    (b"\x01a\x40", 0, 3, Fault::Reserved(2)),
-    (b"\x01a\x80\0", 0, 3, Fault::Reserved(2)),
-    (b"\xbf\0", 0, 3, Fault::Reserved(0)),
+const FAULTS: &[(&[u8], usize, usize, PartError)] = &[
+    (b"", 0, 3, PartError::Ends(0)),
+    (b"\0", 1, 3, PartError::Ends(1)),
+    (b"\0", 2, 3, PartError::Ends(2)),
+    (b"\x01a", 0, 3, PartError::Ends(2)),
+    (b"\x01a\x03bc", 0, 3, PartError::Ends(2)),
+    (b"\x01a\xc0", 0, 3, PartError::Ends(2)),
+    (b"\x01a\x40", 0, 3, PartError::Reserved(2)),
+    (b"\x01a\x80\0", 0, 3, PartError::Reserved(2)),
+    (b"\xbf\0", 0, 3, PartError::Reserved(0)),
     // A pointer to itself, to a later offset, to the labels before it, and two in a cycle.
-    (b"\xc0\0", 0, 3, Fault::NotPrior(0)),
-    (b"\xc0\x02\0", 0, 3, Fault::NotPrior(0)),
-    (b"\x01a\xc0\0", 0, 3, Fault::NotPrior(2)),
-    (b"\xc0\x02\xc0\0", 2, 3, Fault::NotPrior(0)),
-    (b"\xc0\x02\xc0\0", 0, 3, Fault::NotPrior(0)),
+    (b"\xc0\0", 0, 3, PartError::NotPrior(0)),
+    (b"\xc0\x02\0", 0, 3, PartError::NotPrior(0)),
+    (b"\x01a\xc0\0", 0, 3, PartError::NotPrior(2)),
+    (b"\xc0\x02\xc0\0", 2, 3, PartError::NotPrior(0)),
+    (b"\xc0\x02\xc0\0", 0, 3, PartError::NotPrior(0)),
     // The pointers that are followed are counted.
-    (b"\0\xc0\0\xc0\x01", 1, 0, Fault::TooMany(1)),
-    (b"\0\xc0\0\xc0\x01", 3, 1, Fault::TooMany(1)),
-    (b"\x40\xc0\0\xc0\x01", 3, 2, Fault::Reserved(0)),
+    (b"\0\xc0\0\xc0\x01", 1, 0, PartError::TooMany(1)),
+    (b"\0\xc0\0\xc0\x01", 3, 1, PartError::TooMany(1)),
+    (b"\x40\xc0\0\xc0\x01", 3, 2, PartError::Reserved(0)),
 ];
 
 fn same<T: PartialEq + Debug + Drop>(rt: &impl Abort, place: usize, got: T, want: T) {
@@ -81,7 +81,7 @@ fn read_name_takes_labels_to_63_bytes(rt: HostRuntime) {
     assert!(rt; matches!(name, Ok(name) if name.labels[0].len() == 63 && name.behind == 65));
     let longer = [64; 66];
     let none = read_name(rt.alloc(), 0, &longer, 0);
-    assert!(rt; matches!(none, Err(Fault::Reserved(0))));
+    assert!(rt; matches!(none, Err(PartError::Reserved(0))));
 }
 
 #[test]

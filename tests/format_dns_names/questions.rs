@@ -1,5 +1,5 @@
 //! Questions, from RFC 1035 (sections 4.1.2 and 4.1.4) by hand.
-use format_dns::fault::Fault;
+use format_dns::fault::PartError;
 use format_dns::question::read_questions;
 
 /// The name, the type and the class of a question, and the offset after it.
@@ -19,19 +19,19 @@ const ROWS: &[Row] = &[
 ];
 
 /// The length of a prefix of the message, the number of questions to read, and the error.
-const FAULTS: &[(usize, u16, Fault)] = &[
+const FAULTS: &[(usize, u16, PartError)] = &[
     // The fourth question, which is wholly missing.
-    (36, 4, Fault::Ends(36)),
+    (36, 4, PartError::Ends(36)),
     // Cut in the class, in the type and in the name of the third, and in the pointer of the second.
-    (35, 3, Fault::Ends(32)),
-    (33, 3, Fault::Ends(32)),
-    (32, 3, Fault::Ends(32)),
-    (31, 3, Fault::Ends(31)),
-    (26, 3, Fault::Ends(25)),
-    (25, 2, Fault::Ends(25)),
-    (22, 1, Fault::Ends(19)),
-    (11, 1, Fault::Ends(12)),
-    (36, 65535, Fault::Ends(36)),
+    (35, 3, PartError::Ends(32)),
+    (33, 3, PartError::Ends(32)),
+    (32, 3, PartError::Ends(32)),
+    (31, 3, PartError::Ends(31)),
+    (26, 3, PartError::Ends(25)),
+    (25, 2, PartError::Ends(25)),
+    (22, 1, PartError::Ends(19)),
+    (11, 1, PartError::Ends(12)),
+    (36, 65535, PartError::Ends(36)),
 ];
 
 #[test]
@@ -64,5 +64,5 @@ fn questions_that_are_not_there(rt: HostRuntime) {
         }
     }
     let deeper = read_questions(rt.alloc(), 0, MESSAGE, 12, 2);
-    assert!(rt; matches!(deeper, Err(Fault::TooMany(25))));
+    assert!(rt; matches!(deeper, Err(PartError::TooMany(25))));
 }

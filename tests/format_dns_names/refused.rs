@@ -1,5 +1,5 @@
 //! Allocation failures.
-use format_dns::fault::Fault;
+use format_dns::fault::PartError;
 use format_dns::name::read_name;
 use format_dns::question::read_questions;
 use std::alloc::Global;
@@ -12,7 +12,7 @@ fn read_name_refused_memory(rt: HostRuntime) {
     while met {
         let heap: Refusing<Global> = Refusing::once(rt.alloc(), n);
         let name = read_name(&heap, 1, b"\x01a\0\x01b\xc0\0".as_slice(), 3);
-        let wants = matches!(name, Err(Fault::NoMemory));
+        let wants = matches!(name, Err(PartError::NoMemory));
         met = heap.met();
         assert_eq!(rt; wants, met, "{n}");
         n += 1;
@@ -28,7 +28,7 @@ fn read_questions_refused_memory(rt: HostRuntime) {
         let heap: Refusing<Global> = Refusing::once(rt.alloc(), n);
         let message = b"\x01a\0\0\x01\0\x01\x01b\xc0\0\0\x01\0\x01".as_slice();
         let questions = read_questions(&heap, 1, message, 0, 2);
-        let wants = matches!(questions, Err(Fault::NoMemory));
+        let wants = matches!(questions, Err(PartError::NoMemory));
         met = heap.met();
         assert_eq!(rt; wants, met, "{n}");
         n += 1;

@@ -1,6 +1,6 @@
 //! Names as text, by the rules of RFC 1035 (section 5.1), names of 255 octets and more (section
 //! 2.3.4), and names that differ in the case of letters (RFC 4343).
-use format_dns::fault::Fault;
+use format_dns::fault::PartError;
 use format_dns::name::read_name;
 
 /// A message that is a name, and the text of it.
@@ -74,13 +74,13 @@ fn put_labels(message: &mut [u8], place: usize, sizes: &[usize]) -> usize {
 }
 
 /// Sizes of labels, and why there is no name of them; none where there is.
-const LONG: &[(&[usize], Option<Fault>)] = &[
+const LONG: &[(&[usize], Option<PartError>)] = &[
     // 3 * 64 + 62 + 1 = 255 octets, and one more.
     (&[63, 63, 63, 61], None),
-    (&[63, 63, 63, 62], Some(Fault::TooLong(0))),
-    (&[63, 63, 63, 63], Some(Fault::TooLong(0))),
+    (&[63, 63, 63, 62], Some(PartError::TooLong(0))),
+    (&[63, 63, 63, 63], Some(PartError::TooLong(0))),
     (&[1, 63, 63, 63, 59], None),
-    (&[1, 63, 63, 63, 60], Some(Fault::TooLong(0))),
+    (&[1, 63, 63, 63, 60], Some(PartError::TooLong(0))),
 ];
 
 #[test]
@@ -107,7 +107,7 @@ fn names_of_127_labels(rt: HostRuntime) {
         }
         match read_name(rt.alloc(), 0, &message, 0) {
             Ok(name) => assert_eq!(rt; (count, name.labels.len()), (127, 127)),
-            Err(fault) => assert_eq!(rt; (count, fault), (128, Fault::TooLong(0))),
+            Err(fault) => assert_eq!(rt; (count, fault), (128, PartError::TooLong(0))),
         }
     }
 }
@@ -115,7 +115,7 @@ fn names_of_127_labels(rt: HostRuntime) {
 #[test]
 fn names_too_long_by_a_pointer(rt: HostRuntime) {
     // 193 octets with the root at 0, and 61 or 62 before them.
-    for (size, want) in [(61usize, None), (62, Some(Fault::TooLong(0)))] {
+    for (size, want) in [(61usize, None), (62, Some(PartError::TooLong(0)))] {
         let mut message = [0u8; 300];
         let start = put_labels(&mut message, 0, &[63, 63, 63]) + 1;
         let end = put_labels(&mut message, start, &[size]);

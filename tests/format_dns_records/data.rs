@@ -1,6 +1,6 @@
 //! Records of each type, from RFC 1035 (sections 3.3, 3.4 and 4.1.4), RFC 3596 and RFC 2782 by hand.
 use format_dns::data::Data;
-use format_dns::fault::Fault;
+use format_dns::fault::PartError;
 use format_dns::record::{Record, read_record};
 use std::alloc::{Allocator, Global};
 use std::process::Abort;
@@ -46,48 +46,48 @@ const ROWS: &[(&[u8], &str)] = &[
 
 /// The bytes after the name of an invalid record, and its error. The name is at offset 5 and ends
 /// at 7; the data are at 17.
-const FAULTS: &[(&[u8], Fault)] = &[
+const FAULTS: &[(&[u8], PartError)] = &[
     // Fewer octets than a type has, and more.
-    (b"\0\x01\0\x01\0\0\0\0\0\x03\x01\x02\x03", Fault::Ends(17)),
-    (b"\0\x01\0\x01\0\0\0\0\0\x05\x01\x02\x03\x04\x05", Fault::Trailing(21)),
-    (b"\0\x01\0\x01\0\0\0\0\0\0", Fault::Ends(17)),
-    (b"\0\x1c\0\x01\0\0\0\0\0\x04\x01\x02\x03\x04", Fault::Ends(17)),
-    (b"\0\x1c\0\x01\0\0\0\0\0\x11\0\0\0\0\0\0\0\0\0\0\0\0\0\0\0\0\0", Fault::Trailing(33)),
-    (b"\0\x02\0\x01\0\0\0\0\0\x03\xc0\0\0", Fault::Trailing(19)),
-    (b"\0\x02\0\x01\0\0\0\0\0\x01\xc0\0", Fault::Ends(17)),
-    (b"\0\x02\0\x01\0\0\0\0\0\x02\x01c\0", Fault::Ends(19)),
-    (b"\0\x05\0\x01\0\0\0\0\0\0\0", Fault::Ends(17)),
-    (b"\0\x0c\0\x01\0\0\0\0\0\x02\xc0\x11", Fault::NotPrior(17)),
-    (b"\0\x0c\0\x01\0\0\0\0\0\x01\x80", Fault::Reserved(17)),
-    (b"\0\x0c\0\x01\0\0\0\0\0\x02\xc0\x05", Fault::TooMany(5)),
-    (b"\0\x0f\0\x01\0\0\0\0\0\x01\0", Fault::Ends(17)),
-    (b"\0\x0f\0\x01\0\0\0\0\0\x02\0\x01\0", Fault::Ends(19)),
-    (b"\0\x0f\0\x01\0\0\0\0\0\x04\0\x01\0\0", Fault::Trailing(20)),
+    (b"\0\x01\0\x01\0\0\0\0\0\x03\x01\x02\x03", PartError::Ends(17)),
+    (b"\0\x01\0\x01\0\0\0\0\0\x05\x01\x02\x03\x04\x05", PartError::Trailing(21)),
+    (b"\0\x01\0\x01\0\0\0\0\0\0", PartError::Ends(17)),
+    (b"\0\x1c\0\x01\0\0\0\0\0\x04\x01\x02\x03\x04", PartError::Ends(17)),
+    (b"\0\x1c\0\x01\0\0\0\0\0\x11\0\0\0\0\0\0\0\0\0\0\0\0\0\0\0\0\0", PartError::Trailing(33)),
+    (b"\0\x02\0\x01\0\0\0\0\0\x03\xc0\0\0", PartError::Trailing(19)),
+    (b"\0\x02\0\x01\0\0\0\0\0\x01\xc0\0", PartError::Ends(17)),
+    (b"\0\x02\0\x01\0\0\0\0\0\x02\x01c\0", PartError::Ends(19)),
+    (b"\0\x05\0\x01\0\0\0\0\0\0\0", PartError::Ends(17)),
+    (b"\0\x0c\0\x01\0\0\0\0\0\x02\xc0\x11", PartError::NotPrior(17)),
+    (b"\0\x0c\0\x01\0\0\0\0\0\x01\x80", PartError::Reserved(17)),
+    (b"\0\x0c\0\x01\0\0\0\0\0\x02\xc0\x05", PartError::TooMany(5)),
+    (b"\0\x0f\0\x01\0\0\0\0\0\x01\0", PartError::Ends(17)),
+    (b"\0\x0f\0\x01\0\0\0\0\0\x02\0\x01\0", PartError::Ends(19)),
+    (b"\0\x0f\0\x01\0\0\0\0\0\x04\0\x01\0\0", PartError::Trailing(20)),
     // No character string, a truncated one, and two.
-    (b"\0\x10\0\x01\0\0\0\0\0\0", Fault::Ends(17)),
-    (b"\0\x10\0\x01\0\0\0\0\0\x02\x02ab", Fault::Ends(17)),
-    (b"\0\x10\0\x01\0\0\0\0\0\x04\x01a\x02b", Fault::Ends(19)),
+    (b"\0\x10\0\x01\0\0\0\0\0\0", PartError::Ends(17)),
+    (b"\0\x10\0\x01\0\0\0\0\0\x02\x02ab", PartError::Ends(17)),
+    (b"\0\x10\0\x01\0\0\0\0\0\x04\x01a\x02b", PartError::Ends(19)),
     (
         b"\0\x06\0\x01\0\0\0\0\0\x15\0\0\0\0\0\x01\0\0\0\x02\0\0\x01\0\0\x01\0\0\x80\0\0",
-        Fault::Ends(19),
+        PartError::Ends(19),
     ),
     (
         b"\0\x06\0\x01\0\0\0\0\0\x17\0\0\0\0\0\x01\0\0\0\x02\0\0\x01\0\0\x01\0\0\x80\0\0\0\0",
-        Fault::Trailing(39),
+        PartError::Trailing(39),
     ),
-    (b"\0\x06\0\x01\0\0\0\0\0\x01\0\0", Fault::Ends(18)),
-    (b"\0\x06\0\x01\0\0\0\0\0\0\0\0", Fault::Ends(17)),
-    (b"\0\x21\0\x01\0\0\0\0\0\x05\0\0\0\0\0", Fault::Ends(17)),
-    (b"\0\x21\0\x01\0\0\0\0\0\x06\0\0\0\0\0\0", Fault::Ends(23)),
-    (b"\0\x21\0\x01\0\0\0\0\0\x08\0\0\0\0\0\0\0\0", Fault::Trailing(24)),
+    (b"\0\x06\0\x01\0\0\0\0\0\x01\0\0", PartError::Ends(18)),
+    (b"\0\x06\0\x01\0\0\0\0\0\0\0\0", PartError::Ends(17)),
+    (b"\0\x21\0\x01\0\0\0\0\0\x05\0\0\0\0\0", PartError::Ends(17)),
+    (b"\0\x21\0\x01\0\0\0\0\0\x06\0\0\0\0\0\0", PartError::Ends(23)),
+    (b"\0\x21\0\x01\0\0\0\0\0\x08\0\0\0\0\0\0\0\0", PartError::Trailing(24)),
     // No data, in the class before those that may have none; and some, but too few.
-    (b"\0\x0f\0\xfd\0\0\0\0\0\0", Fault::Ends(17)),
-    (b"\0\x0f\0\xff\0\0\0\0\0\x01\0", Fault::Ends(17)),
+    (b"\0\x0f\0\xfd\0\0\0\0\0\0", PartError::Ends(17)),
+    (b"\0\x0f\0\xff\0\0\0\0\0\x01\0", PartError::Ends(17)),
     // The message ends in the fields, and in the data.
-    (b"", Fault::Ends(7)),
-    (b"\0\x01\0\x01\0\0\0\0\0", Fault::Ends(7)),
-    (b"\0\x01\0\x01\0\0\0\0\0\x01", Fault::Ends(17)),
-    (b"\0\x63\0\x01\0\0\0\0\xff\xffabc", Fault::Ends(17)),
+    (b"", PartError::Ends(7)),
+    (b"\0\x01\0\x01\0\0\0\0\0", PartError::Ends(7)),
+    (b"\0\x01\0\x01\0\0\0\0\0\x01", PartError::Ends(17)),
+    (b"\0\x63\0\x01\0\0\0\0\xff\xffabc", PartError::Ends(17)),
 ];
 
 /// Data as text: numbers, names, and octets.
@@ -153,7 +153,7 @@ fn records_of_each_type(rt: HostRuntime) {
 }
 
 /// The error of an invalid record.
-fn fault_of<'m, A: Allocator>(read: Result<Record<'m, A>, Fault>) -> Option<Fault> {
+fn fault_of<'m, A: Allocator>(read: Result<Record<'m, A>, PartError>) -> Option<PartError> {
     match read {
         Ok(_) => None,
         Err(fault) => Some(fault),
@@ -181,7 +181,7 @@ fn records_cut_off(rt: HostRuntime) {
                 7..=16 => 7,
                 _ => 17,
             };
-            assert_eq!(rt; got, Some(Fault::Ends(place)), "{wants} {size}");
+            assert_eq!(rt; got, Some(PartError::Ends(place)), "{wants} {size}");
         }
     }
 }

@@ -1,6 +1,6 @@
 //! The records of a message, by hand from RFC 1035 (sections 4.1 and 4.1.4).
 use format_dns::data::Data;
-use format_dns::fault::Fault;
+use format_dns::fault::PartError;
 use format_dns::record::read_records;
 
 /// A response about the mail of `ISI.ARPA`: one question, two answer records, a name server, and
@@ -52,9 +52,9 @@ fn records_in_order(rt: HostRuntime) {
         }
     }
     let more = read_records(rt.alloc(), 2, MESSAGE, 26, 5);
-    assert!(rt; matches!(more, Err(Fault::Ends(94))));
+    assert!(rt; matches!(more, Err(PartError::Ends(94))));
     let deeper = read_records(rt.alloc(), 1, MESSAGE, 26, 2);
-    assert!(rt; matches!(deeper, Err(Fault::TooMany(42))));
+    assert!(rt; matches!(deeper, Err(PartError::TooMany(42))));
 }
 
 /// Cut anywhere the last is not there, and the fault is no further than the cut.
@@ -63,7 +63,7 @@ fn records_cut_off(rt: HostRuntime) {
     for size in 26..MESSAGE.len() {
         match read_records(rt.alloc(), 2, &MESSAGE[..size], 26, 4) {
             Ok(_) => assert!(rt; false, "{size}"),
-            Err(Fault::Ends(place)) => assert!(rt; place <= size, "{size}"),
+            Err(PartError::Ends(place)) => assert!(rt; place <= size, "{size}"),
             Err(fault) => assert!(rt; false, "{size}: {fault:?}"),
         }
     }

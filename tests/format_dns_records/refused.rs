@@ -1,5 +1,5 @@
 //! Allocation failures.
-use format_dns::fault::Fault;
+use format_dns::fault::PartError;
 use format_dns::record::read_records;
 use std::alloc::Global;
 use test_support::refusing::Refusing;
@@ -19,7 +19,7 @@ fn read_records_refused_memory(rt: HostRuntime) {
     while met {
         let heap: Refusing<Global> = Refusing::once(rt.alloc(), n);
         let records = read_records(&heap, 1, MESSAGE, 19, 4);
-        let wants = matches!(records, Err(Fault::NoMemory));
+        let wants = matches!(records, Err(PartError::NoMemory));
         met = heap.met();
         assert_eq!(rt; wants, met, "{n}");
         n += 1;

@@ -1,13 +1,13 @@
 //! How long bodies are, by the rules of RFC 9112, section 6.3.
 use format_http::bodies::framing::{
-    BodyLength, FramingFault, Message, body_length, request_body_length,
+    BodyLength, FramingError, Message, body_length, request_body_length,
 };
 use format_http::heads::field_line::{Field, read_field_line};
 use format_http::heads::head::read_head;
 use std::alloc::Global;
 use std::process::Abort;
 
-type Answer = Result<BodyLength, FramingFault>;
+type Answer = Result<BodyLength, FramingError>;
 
 const NO_BODY: Answer = Ok(BodyLength::NoBody);
 
@@ -15,19 +15,19 @@ const CHUNKED: Answer = Ok(BodyLength::Chunked);
 
 const CLOSE: Answer = Ok(BodyLength::UntilClose);
 
-const NUMBER: Answer = Err(FramingFault::LengthIsNoNumber);
+const NUMBER: Answer = Err(FramingError::LengthIsNoNumber);
 
-const DIFFER: Answer = Err(FramingFault::LengthsDiffer);
+const DIFFER: Answer = Err(FramingError::LengthsDiffer);
 
-const LARGE: Answer = Err(FramingFault::LengthTooLarge);
+const LARGE: Answer = Err(FramingError::LengthTooLarge);
 
-const BESIDE: Answer = Err(FramingFault::LengthBesideCoding);
+const BESIDE: Answer = Err(FramingError::LengthBesideCoding);
 
-const NOT_CHUNKED: Answer = Err(FramingFault::NotChunked);
+const NOT_CHUNKED: Answer = Err(FramingError::NotChunked);
 
-const NOT_LAST: Answer = Err(FramingFault::ChunkedNotLast);
+const NOT_LAST: Answer = Err(FramingError::ChunkedNotLast);
 
-const BEFORE: Answer = Err(FramingFault::CodingBeforeVersion);
+const BEFORE: Answer = Err(FramingError::CodingBeforeVersion);
 
 /// Field lines of an HTTP/1.1 message, and the body lengths of a request and of a response to GET
 /// with status 200 (rules 3 to 8).

@@ -1,5 +1,5 @@
 //! Bodies by the grammar of RFC 9112, section 7.1, at every pair of cuts.
-use format_http_chunked::decoder::{Decoder, Fault, Limits, SAFE_LIMITS, Step};
+use format_http_chunked::decoder::{Decoder, ChunkError, Limits, SAFE_LIMITS, Step};
 use std::alloc::{AllocError, Allocator};
 use std::process::Abort;
 
@@ -12,7 +12,7 @@ pub(crate) struct Decoded<A: Allocator> {
     /// was rejected.
     pub(crate) taken: usize,
     pub(crate) ended: bool,
-    pub(crate) fault: Option<Fault>,
+    pub(crate) fault: Option<ChunkError>,
 }
 
 fn take_piece<A: Allocator>(

@@ -1,49 +1,49 @@
 //! Invalid bodies, with the first byte that cannot continue a body, and limits.
 use crate::bodies::decode;
-use format_http_chunked::decoder::{Fault, Limits, SAFE_LIMITS};
+use format_http_chunked::decoder::{ChunkError, Limits, SAFE_LIMITS};
 use std::alloc::Allocator;
 use std::process::Abort;
 
 /// Bytes, the length of their longest prefix that can start a body, and why the next byte is
 /// rejected.
-const REFUSED: &[(&[u8], usize, Fault)] = &[
-    (b"\r\n", 0, Fault::Size),
-    (b"g\r\n", 0, Fault::Size),
-    (b"-1\r\n", 0, Fault::Size),
-    (b"+1\r\n", 0, Fault::Size),
-    (b" 1\r\n", 0, Fault::Size),
-    (b";a\r\n", 0, Fault::Size),
-    (b"1\n", 1, Fault::SizeLine),
-    (b"0x1\r\n", 1, Fault::SizeLine),
-    (b"1\r\r", 2, Fault::SizeLine),
-    (b"1 \r\n", 2, Fault::SizeLine),
-    (b"1;\r\n", 2, Fault::SizeLine),
-    (b"1;;", 2, Fault::SizeLine),
-    (b"1;a =\r", 5, Fault::SizeLine),
-    (b"1;a \r", 4, Fault::SizeLine),
-    (b"1;a=,", 4, Fault::SizeLine),
-    (b"1;a=\"\r", 5, Fault::SizeLine),
-    (b"1;a=\"\\\r", 6, Fault::SizeLine),
-    (b"1;a=\"b\"c", 7, Fault::SizeLine),
-    (b"1;a=b c", 6, Fault::SizeLine),
-    (b"1;a=b\"", 5, Fault::SizeLine),
-    (b"10000000000000000\r\n", 16, Fault::SizeTooLarge),
-    (b"fffffffffffffffff", 16, Fault::SizeTooLarge),
-    (b"0FFFFFFFFFFFFFFFFa", 17, Fault::SizeTooLarge),
-    (b"1\r\nab", 4, Fault::DataEnd),
-    (b"1\r\na\n", 4, Fault::DataEnd),
-    (b"1\r\na\rb", 5, Fault::DataEnd),
-    (b"1\r\na\r\n\r\n", 6, Fault::Size),
-    (b"0\r\n\n", 3, Fault::Trailers),
-    (b"0\r\n\r\r", 4, Fault::Trailers),
-    (b"0\r\n:", 3, Fault::Trailers),
-    (b"0\r\n a: b\r\n", 3, Fault::Trailers),
-    (b"0\r\na :", 4, Fault::Trailers),
-    (b"0\r\na\r\n", 4, Fault::Trailers),
-    (b"0\r\na: b\n", 7, Fault::Trailers),
-    (b"0\r\na: b\r\r", 8, Fault::Trailers),
-    (b"0\r\na: \0", 6, Fault::Trailers),
-    (b"0\r\na: b\r\n c", 9, Fault::Trailers),
+const REFUSED: &[(&[u8], usize, ChunkError)] = &[
+    (b"\r\n", 0, ChunkError::Size),
+    (b"g\r\n", 0, ChunkError::Size),
+    (b"-1\r\n", 0, ChunkError::Size),
+    (b"+1\r\n", 0, ChunkError::Size),
+    (b" 1\r\n", 0, ChunkError::Size),
+    (b";a\r\n", 0, ChunkError::Size),
+    (b"1\n", 1, ChunkError::SizeLine),
+    (b"0x1\r\n", 1, ChunkError::SizeLine),
+    (b"1\r\r", 2, ChunkError::SizeLine),
+    (b"1 \r\n", 2, ChunkError::SizeLine),
+    (b"1;\r\n", 2, ChunkError::SizeLine),
+    (b"1;;", 2, ChunkError::SizeLine),
+    (b"1;a =\r", 5, ChunkError::SizeLine),
+    (b"1;a \r", 4, ChunkError::SizeLine),
+    (b"1;a=,", 4, ChunkError::SizeLine),
+    (b"1;a=\"\r", 5, ChunkError::SizeLine),
+    (b"1;a=\"\\\r", 6, ChunkError::SizeLine),
+    (b"1;a=\"b\"c", 7, ChunkError::SizeLine),
+    (b"1;a=b c", 6, ChunkError::SizeLine),
+    (b"1;a=b\"", 5, ChunkError::SizeLine),
+    (b"10000000000000000\r\n", 16, ChunkError::SizeTooLarge),
+    (b"fffffffffffffffff", 16, ChunkError::SizeTooLarge),
+    (b"0FFFFFFFFFFFFFFFFa", 17, ChunkError::SizeTooLarge),
+    (b"1\r\nab", 4, ChunkError::DataEnd),
+    (b"1\r\na\n", 4, ChunkError::DataEnd),
+    (b"1\r\na\rb", 5, ChunkError::DataEnd),
+    (b"1\r\na\r\n\r\n", 6, ChunkError::Size),
+    (b"0\r\n\n", 3, ChunkError::Trailers),
+    (b"0\r\n\r\r", 4, ChunkError::Trailers),
+    (b"0\r\n:", 3, ChunkError::Trailers),
+    (b"0\r\n a: b\r\n", 3, ChunkError::Trailers),
+    (b"0\r\na :", 4, ChunkError::Trailers),
+    (b"0\r\na\r\n", 4, ChunkError::Trailers),
+    (b"0\r\na: b\n", 7, ChunkError::Trailers),
+    (b"0\r\na: b\r\r", 8, ChunkError::Trailers),
+    (b"0\r\na: \0", 6, ChunkError::Trailers),
+    (b"0\r\na: b\r\n c", 9, ChunkError::Trailers),
 ];
 
 fn refused<A: Allocator + Copy>(
@@ -51,7 +51,7 @@ fn refused<A: Allocator + Copy>(
     alloc: A,
     limits: Limits,
     pieces: &[&[u8]],
-    want: (usize, Fault),
+    want: (usize, ChunkError),
 ) {
     match decode(alloc, limits, pieces) {
         Ok(decoded) => {
@@ -89,8 +89,8 @@ const FEW: Limits = Limits { size_line: 7, trailers: 6 };
 
 #[test]
 fn limits_are_between_data_and_of_all_trailers(rt: HostRuntime) {
-    let line = Fault::SizeLineTooLong;
-    let trailers = Fault::TrailersTooLong;
+    let line = ChunkError::SizeLineTooLong;
+    let trailers = ChunkError::TrailersTooLong;
     refused(&rt, rt.alloc(), FEW, &[b"000", b"00001\r\n"], (7, line));
     refused(&rt, rt.alloc(), FEW, &[b"1;abcde\r\n"], (7, line));
     refused(&rt, rt.alloc(), FEW, &[b"000000\r\n"], (7, line));

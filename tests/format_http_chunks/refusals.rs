@@ -1,12 +1,12 @@
 //! Requests that a server must reject, by their heads.
 use format_http::heads::field_line::read_field_line;
-use format_http::chunks::refusals::{Refusal, refusal_of};
+use format_http::chunks::refusals::{Reason, refusal_of};
 use format_http::heads::head::read_head;
 use std::alloc::Global;
 use std::process::Abort;
 
 /// Heads, and why each is rejected (RFC 9112, section 3.2, whose examples are the first rows).
-const HEADS: &[(&[u8], Option<Refusal>)] = &[
+const HEADS: &[(&[u8], Option<Reason>)] = &[
     (b"GET /where?q=now HTTP/1.1\r\nHost: www.example.org\r\n\r\n", None),
     (b"OPTIONS * HTTP/1.1\r\nHost: www.example.org:8001\r\n\r\n", None),
     (b"CONNECT server.example.com:80 HTTP/1.1\r\nHost: server.example.com\r\n\r\n", None),
@@ -16,27 +16,27 @@ const HEADS: &[(&[u8], Option<Refusal>)] = &[
     (b"GET / HTTP/1.0\r\nX: Host\r\n\r\n", None),
     (b"GET / HTTP/2.0\r\n\r\n", None),
     (b"GET / HTTP/0.9\r\n\r\n", None),
-    (b"GET / HTTP/1.1\r\n\r\n", Some(Refusal::NoHost)),
-    (b"GET / HTTP/1.2\r\n\r\n", Some(Refusal::NoHost)),
-    (b"GET / HTTP/1.1\r\nHosts: a\r\nHos: b\r\nX: Host\r\n\r\n", Some(Refusal::NoHost)),
-    (b"GET / HTTP/1.1\r\nHost: a\r\nHost: a\r\n\r\n", Some(Refusal::ManyHosts)),
-    (b"GET / HTTP/1.1\r\nHost: a\r\nX: y\r\nHOST: b\r\n\r\n", Some(Refusal::ManyHosts)),
-    (b"GET / HTTP/1.0\r\nhost: a\r\nHost: b\r\nhosT:\r\n\r\n", Some(Refusal::ManyHosts)),
+    (b"GET / HTTP/1.1\r\n\r\n", Some(Reason::NoHost)),
+    (b"GET / HTTP/1.2\r\n\r\n", Some(Reason::NoHost)),
+    (b"GET / HTTP/1.1\r\nHosts: a\r\nHos: b\r\nX: Host\r\n\r\n", Some(Reason::NoHost)),
+    (b"GET / HTTP/1.1\r\nHost: a\r\nHost: a\r\n\r\n", Some(Reason::ManyHosts)),
+    (b"GET / HTTP/1.1\r\nHost: a\r\nX: y\r\nHOST: b\r\n\r\n", Some(Reason::ManyHosts)),
+    (b"GET / HTTP/1.0\r\nhost: a\r\nHost: b\r\nhosT:\r\n\r\n", Some(Reason::ManyHosts)),
 ];
 
-const BESIDE: Option<Refusal> = Some(Refusal::LengthBesideCoding);
+const BESIDE: Option<Reason> = Some(Reason::LengthBesideCoding);
 
-const NOT_CHUNKED: Option<Refusal> = Some(Refusal::NotChunked);
+const NOT_CHUNKED: Option<Reason> = Some(Reason::NotChunked);
 
-const NOT_LAST: Option<Refusal> = Some(Refusal::ChunkedNotLast);
+const NOT_LAST: Option<Reason> = Some(Reason::ChunkedNotLast);
 
-const DIFFER: Option<Refusal> = Some(Refusal::LengthsDiffer);
+const DIFFER: Option<Reason> = Some(Reason::LengthsDiffer);
 
-const NO_NUMBER: Option<Refusal> = Some(Refusal::LengthIsNoNumber);
+const NO_NUMBER: Option<Reason> = Some(Reason::LengthIsNoNumber);
 
 /// Fields after a Host field of an HTTP/1.1 request, and why the request is rejected (RFC 9112,
 /// sections 6.1 and 6.3, and RFC 9110, section 8.6).
-const FRAMINGS: &[(&[u8], Option<Refusal>)] = &[
+const FRAMINGS: &[(&[u8], Option<Reason>)] = &[
     (b"", None),
     (b"Content-Length: 42\r\n", None),
     (b"Content-Length: 0\r\n", None),
@@ -81,7 +81,7 @@ const FRAMINGS: &[(&[u8], Option<Refusal>)] = &[
     (b"Content-Length: 4\r\nTransfer-Encoding: chunked\r\n", BESIDE),
     (b"TRANSFER-ENCODING: gzip\r\ncontent-length: a\r\n", BESIDE),
     (b"X: Content-Length\r\nContent-Lengths: a\r\nTransfer-Encodings: a\r\n", None),
-    (b"Host: b\r\nContent-Length: a\r\n", Some(Refusal::ManyHosts)),
+    (b"Host: b\r\nContent-Length: a\r\n", Some(Reason::ManyHosts)),
 ];
 
 /// White space before a colon (section 5.1), and lone carriage returns (section 2.2): no heads.
@@ -105,7 +105,7 @@ fn refusal_of_heads(rt: HostRuntime) {
 }
 
 /// Checks the reason for which the request of a head is rejected.
-fn refuses(rt: &impl Abort, alloc: Global, text: &[u8], want: Option<Refusal>) {
+fn refuses(rt: &impl Abort, alloc: Global, text: &[u8], want: Option<Reason>) {
     let mut input = text;
     let head = read_head(alloc, &mut input);
     assert!(rt; head.is_ok_and(|it| refusal_of(&it) == want), "{text:?}");
@@ -125,9 +125,9 @@ fn refusal_of_framings(rt: HostRuntime) {
 #[test]
 fn refusal_of_no_host_comes_first(rt: HostRuntime) {
     let text = b"POST / HTTP/1.1\r\nContent-Length: a\r\nTransfer-Encoding: a\r\n\r\n";
-    refuses(&rt, rt.alloc(), text, Some(Refusal::NoHost));
+    refuses(&rt, rt.alloc(), text, Some(Reason::NoHost));
     let text = b"POST / HTTP/1.0\r\nContent-Length: a\r\n\r\n";
-    refuses(&rt, rt.alloc(), text, Some(Refusal::LengthIsNoNumber));
+    refuses(&rt, rt.alloc(), text, Some(Reason::LengthIsNoNumber));
 }
 
 #[test]

@@ -1,7 +1,7 @@
 //! Where heads end, at every cut and in many pieces.
 use crate::heads::{HEADS, NO_HEADS, next, same};
 use std::process::Abort;
-use format_http_places::extent::{HeadExtent, HeadPlace, Refused};
+use format_http_places::extent::{HeadExtent, HeadPlace, Invalid};
 use format_http_places::places::{Field, Span};
 use format_http_places::read::{HeadError, read_head_into};
 
@@ -35,7 +35,7 @@ fn advance_at_every_cut(rt: HostRuntime) {
 #[test]
 fn advance_refuses(rt: HostRuntime) {
     for (text, place) in NO_HEADS {
-        let never = Err(Refused { place: *place });
+        let never = Err(Invalid { place: *place });
         let mut extent = HeadExtent::new();
         for cut in 0..*place + 1 {
             same(&rt, text, extent.advance(&text[..cut]), Ok(None));
@@ -64,7 +64,7 @@ fn agree(rt: &impl Abort, text: &[u8], cut: usize) {
     let told = if first == Ok(None) { extent.advance(text) } else { first };
     match read_head_into(text, &mut entries) {
         Ok(head) => same(rt, text, told, Ok(Some(head.length))),
-        Err(HeadError::Refused(place)) => same(rt, text, told, Err(Refused { place })),
+        Err(HeadError::Invalid(place)) => same(rt, text, told, Err(Invalid { place })),
         Err(HeadError::Incomplete) => same(rt, text, told, Ok(None)),
         Err(error) => same(rt, text, Err(error), Ok(())),
     }
@@ -113,6 +113,6 @@ fn advance_of_many_pieces(rt: HostRuntime) {
 
 #[test]
 fn refused_is_shown(rt: HostRuntime) {
-    let shown = format!(in rt.alloc(); "{}", Refused { place: 20 });
+    let shown = format!(in rt.alloc(); "{}", Invalid { place: 20 });
     assert!(rt; matches!(shown, Ok(text) if text.as_str() == "invalid byte at offset 20"));
 }

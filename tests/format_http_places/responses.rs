@@ -148,11 +148,11 @@ fn read_response_head_into_of_none(rt: HostRuntime) {
     for (text, place) in NO_HEADS {
         let mut entries = [NO_FIELD; 4];
         let answer = read_response_head_into(text, &mut entries);
-        same(&rt, text, answer, Err(HeadError::Refused(*place)));
+        same(&rt, text, answer, Err(HeadError::Invalid(*place)));
         // The text up to and including that byte gives the same error; without that byte the reader
         // needs more input.
         let answer = read_response_head_into(&text[..*place + 1], &mut entries);
-        same(&rt, text, answer, Err(HeadError::Refused(*place)));
+        same(&rt, text, answer, Err(HeadError::Invalid(*place)));
         let answer = read_response_head_into(&text[..*place], &mut entries);
         same(&rt, text, answer, Err(HeadError::Incomplete));
     }
@@ -179,11 +179,11 @@ fn agree(rt: &impl Abort, alloc: std::alloc::Global, text: &[u8]) {
             }
         }
         (Err(HeadError::Incomplete), Err(_)) => (),
-        (Err(HeadError::Refused(place)), Err(_)) => {
+        (Err(HeadError::Invalid(place)), Err(_)) => {
             let more = read_response_head_into(&text[..place], &mut entries);
             same(rt, text, matches!(more, Err(HeadError::Incomplete)), true);
             let never = read_response_head_into(&text[..place + 1], &mut entries);
-            same(rt, text, matches!(never, Err(HeadError::Refused(it)) if it == place), true);
+            same(rt, text, matches!(never, Err(HeadError::Invalid(it)) if it == place), true);
         }
         (answer, _) => same(rt, text, answer.is_ok(), false),
     }

@@ -1,5 +1,5 @@
 //! Heads of responses, and the lengths of the bodies after them.
-use format_http::bodies::framing::{BodyLength, FramingFault};
+use format_http::bodies::framing::{BodyLength, FramingError};
 use format_http::responses::head::{read_response_head, response_body_length};
 
 /// The response of RFC 9110, section 3.9, whose body has 51 bytes.
@@ -50,14 +50,14 @@ fn read_response_head_of_none(rt: HostRuntime) {
 }
 
 /// Heads of responses to GET, and how long their bodies are (RFC 9112, section 6.3).
-const BODIES: &[(&[u8], Result<BodyLength, FramingFault>)] = &[
+const BODIES: &[(&[u8], Result<BodyLength, FramingError>)] = &[
     (b"HTTP/1.1 200 OK\r\n\r\n", Ok(BodyLength::UntilClose)),
     (b"HTTP/1.1 200\r\nTransfer-Encoding: chunked\r\n\r\n", Ok(BodyLength::Chunked)),
     (b"HTTP/1.1 200 OK\r\nTransfer-Encoding: gzip\r\n\r\n", Ok(BodyLength::UntilClose)),
     (b"HTTP/1.1 304 \r\nContent-Length: 51\r\n\r\n", Ok(BodyLength::NoBody)),
     (
         b"HTTP/1.0 200 OK\r\nTransfer-Encoding: chunked\r\n\r\n",
-        Err(FramingFault::CodingBeforeVersion),
+        Err(FramingError::CodingBeforeVersion),
     ),
 ];
 

@@ -1,6 +1,6 @@
 //! Entries of bytes with their offsets, call by call. The offsets are counted by hand.
 use format_ini::dialect::{Delimiters, Dialect};
-use format_ini::lines::{Entry, Places, Refusal};
+use format_ini::lines::{Entry, Places, Reason};
 use format_ini::places::{Placed, Reading, Stop, next_placed};
 use std::process::Abort;
 
@@ -71,7 +71,7 @@ fn places_of_stops(rt: HostRuntime) {
     let bytes = b"[a]\nb\n".as_slice();
     let mut reading = Reading::begin(bytes);
     tells(&rt, desktop, bytes, &mut reading, Entry::Section("a"), 1, 1);
-    stops(&rt, desktop, bytes, &mut reading, Stop::Refused(Refusal::NoDelimiter));
+    stops(&rt, desktop, bytes, &mut reading, Stop::Invalid(Reason::NoDelimiter));
     assert_eq!(rt; reading.offset, 4);
     let colon = Dialect {
         delimiters: Delimiters::Colon,

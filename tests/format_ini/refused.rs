@@ -1,32 +1,32 @@
 //! Invalid documents: the offset of the first invalid line, and the reason.
 use format_ini::dialect::Dialect;
-use format_ini::documents::{Entries, Fault, IniError, read_document};
-use format_ini::lines::{Entry, Refusal};
+use format_ini::documents::{Entries, InvalidLine, IniError, read_document};
+use format_ini::lines::{Entry, Reason};
 use text_positions::Position;
 
 /// A text, the number of bytes before the invalid line, and the reason. Python's `configparser`
 /// rejects the same lines, except for text after a section, and `[` at the start of a key.
-const REFUSED: &[(&str, usize, Refusal)] = &[
-    ("a = b\n", 0, Refusal::NoSection),
-    ("\n# c\na\n", 5, Refusal::NoSection),
-    ("\u{feff}a = b\n", 3, Refusal::NoSection),
-    ("[s]\na\n", 4, Refusal::NoDelimiter),
-    ("[s]\na = b\nc\n", 10, Refusal::NoDelimiter),
-    ("[s]\n= b\n", 4, Refusal::NoKey),
-    ("[s]\n  : b\n", 4, Refusal::NoKey),
-    ("[s\na = b\n", 0, Refusal::OpenSection),
-    ("[s]\na = b\n[t = c\n", 10, Refusal::OpenSection),
-    ("[]\n", 0, Refusal::EmptySection),
-    ("[s] t\n", 0, Refusal::TextBehindSection),
-    ("[s]]\n", 0, Refusal::TextBehindSection),
+const REFUSED: &[(&str, usize, Reason)] = &[
+    ("a = b\n", 0, Reason::NoSection),
+    ("\n# c\na\n", 5, Reason::NoSection),
+    ("\u{feff}a = b\n", 3, Reason::NoSection),
+    ("[s]\na\n", 4, Reason::NoDelimiter),
+    ("[s]\na = b\nc\n", 10, Reason::NoDelimiter),
+    ("[s]\n= b\n", 4, Reason::NoKey),
+    ("[s]\n  : b\n", 4, Reason::NoKey),
+    ("[s\na = b\n", 0, Reason::OpenSection),
+    ("[s]\na = b\n[t = c\n", 10, Reason::OpenSection),
+    ("[]\n", 0, Reason::EmptySection),
+    ("[s] t\n", 0, Reason::TextBehindSection),
+    ("[s]]\n", 0, Reason::TextBehindSection),
 ];
 
 #[test]
 fn lines_that_are_refused(rt: HostRuntime) {
     for (text, offset, why) in REFUSED {
         match read_document(rt.alloc(), Dialect::python(), text) {
-            Err(IniError::Refused(fault)) => {
-                assert_eq!(rt; fault, Fault { offset: *offset, why: *why });
+            Err(IniError::Invalid(fault)) => {
+                assert_eq!(rt; fault, InvalidLine { offset: *offset, why: *why });
             }
             _ => assert!(rt; false),
         }
@@ -45,8 +45,8 @@ fn entries_before_a_refusal(rt: HostRuntime) {
     };
     assert!(rt; entries.next_entry() == Ok(Some(pair)));
     assert!(rt; entries.next_entry() == Ok(Some(Entry::More(""))));
-    assert!(rt; entries.next_entry() == Err(Refusal::NoKey));
-    assert!(rt; entries.next_entry() == Err(Refusal::NoKey));
+    assert!(rt; entries.next_entry() == Err(Reason::NoKey));
+    assert!(rt; entries.next_entry() == Err(Reason::NoKey));
 }
 
 /// Errors as text, with the line and the column of the invalid line.
@@ -54,7 +54,7 @@ fn entries_before_a_refusal(rt: HostRuntime) {
 fn faults_are_shown(rt: HostRuntime) {
     let text = "[gr\u{f6}\u{df}e]\n\n= b\n";
     match read_document(rt.alloc(), Dialect::python(), text) {
-        Err(IniError::Refused(fault)) => {
+        Err(IniError::Invalid(fault)) => {
             let position = Position { line: 3, column: 1 };
             assert_eq!(rt; fault.position(text), Some(position));
             match format!(in rt.alloc(); "{fault}") {

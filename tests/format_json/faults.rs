@@ -1,5 +1,5 @@
 //! Errors: the position and the expected item, as displayed.
-use format_json::{Fault, Location, Value, from_bytes, from_text};
+use format_json::{JsonError, Location, Value, from_bytes, from_text};
 use std::alloc::Global;
 use std::process::Abort;
 use test_support::outcomes::Kind;
@@ -48,7 +48,7 @@ const ROWS: &[(&str, &str)] = &[
 ];
 
 /// Returns the message of an error.
-fn said(alloc: Global, fault: Fault) -> Option<String<Global>> {
+fn said(alloc: Global, fault: JsonError) -> Option<String<Global>> {
     format!(in alloc; "{fault}").ok()
 }
 
@@ -104,10 +104,10 @@ fn the_place_of_a_fault(rt: HostRuntime) {
 }
 
 /// The outcome of a read.
-fn read(answer: Result<Value<&Refusing<Global>>, Fault>) -> (Result<(), Kind>, usize) {
+fn read(answer: Result<Value<&Refusing<Global>>, JsonError>) -> (Result<(), Kind>, usize) {
     match answer {
         Ok(_) => (Ok(()), 0),
-        Err(Fault::NoMemory) => (Err(Kind::Memory), 0),
+        Err(JsonError::NoMemory) => (Err(Kind::Memory), 0),
         Err(_) => (Err(Kind::Backtrack), 0),
     }
 }

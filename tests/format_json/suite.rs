@@ -3,7 +3,7 @@
 //! The offset of an error is that of the first byte that cannot continue a JSON text, as found by a
 //! recursive descent parser in Python. If the text is not UTF-8, it is the offset that Python's
 //! decoder reports.
-use format_json::{Fault, SAFE_LEVEL, from_bytes};
+use format_json::{JsonError, SAFE_DEPTH, from_bytes};
 use std::alloc::Global;
 
 /// The result for a text.
@@ -371,11 +371,11 @@ const REFUSED: &[(&str, &[u8], Answer)] = &[
 
 /// The result for a text at the safe level.
 fn answer(alloc: Global, bytes: &[u8]) -> Answer {
-    match from_bytes(alloc, SAFE_LEVEL, bytes) {
+    match from_bytes(alloc, SAFE_DEPTH, bytes) {
         Ok(_) => Answer::Read,
-        Err(Fault::Unexpected { at, .. }) => Answer::Unexpected(at.offset),
-        Err(Fault::End { at, .. }) => Answer::End(at.offset),
-        Err(Fault::NotUtf8 { at }) => Answer::NotUtf8(at.offset),
+        Err(JsonError::Unexpected { at, .. }) => Answer::Unexpected(at.offset),
+        Err(JsonError::End { at, .. }) => Answer::End(at.offset),
+        Err(JsonError::NotUtf8 { at }) => Answer::NotUtf8(at.offset),
         Err(_) => Answer::Other,
     }
 }
@@ -413,20 +413,20 @@ fn texts_that_nest_deep(rt: HostRuntime) {
     // n_structure_100000_opening_arrays, n_structure_open_array_object and
     // i_structure_500_nested_arrays
     let rows = [
-        ("[", "", 100_000, SAFE_LEVEL),
-        ("[{\"\":", "", 50_000, 5 * (SAFE_LEVEL / 2)),
-        ("[", "]", 500, SAFE_LEVEL),
+        ("[", "", 100_000, SAFE_DEPTH),
+        ("[{\"\":", "", 50_000, 5 * (SAFE_DEPTH / 2)),
+        ("[", "]", 500, SAFE_DEPTH),
     ];
     for row in rows {
         let (first, last, level, place) = row;
         let Some(text) = nested(rt.alloc(), first, last, level) else {
             return;
         };
-        let fault = from_bytes(rt.alloc(), SAFE_LEVEL, text.as_bytes());
-        let Err(Fault::TooDeep { at, level }) = fault else {
+        let fault = from_bytes(rt.alloc(), SAFE_DEPTH, text.as_bytes());
+        let Err(JsonError::TooDeep { at, level }) = fault else {
             return assert!(rt; false, "{first:?}");
         };
-        assert_eq!(rt; (at.offset, level), (place, SAFE_LEVEL));
+        assert_eq!(rt; (at.offset, level), (place, SAFE_DEPTH));
     }
     let Some(text) = nested(rt.alloc(), "[", "]", 500) else {
         return;

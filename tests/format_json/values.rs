@@ -1,12 +1,12 @@
 //! Lookups in values.
-use format_json::{SAFE_LEVEL, Step, Value, from_text};
+use format_json::{SAFE_DEPTH, Step, Value, from_text};
 use std::alloc::Global;
 
 const TEXT: &str = "{\"a\": [1, -2, 3.0, \"\\u00e9\", null, true], \"b\": {\"c\": 4}, \"a\": false, \"\": 5}";
 
 /// A value of a text.
 fn value(alloc: Global, text: &str) -> Value<Global> {
-    match from_text(alloc, SAFE_LEVEL, text) {
+    match from_text(alloc, SAFE_DEPTH, text) {
         Ok(value) => value,
         Err(_) => Value::Text(String::new(alloc)),
     }

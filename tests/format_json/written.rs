@@ -1,5 +1,5 @@
 //! Values as text: compact, and over several lines.
-use format_json::{SAFE_LEVEL, Value, WriteFault, from_text, to_text, to_text_pretty};
+use format_json::{SAFE_DEPTH, Value, JsonWriteError, from_text, to_text, to_text_pretty};
 use std::alloc::Global;
 
 /// A text, and as Python's `json.dumps` lays it out with an indent of two.
@@ -19,20 +19,20 @@ const ROWS: &[(&str, &str)] = &[
 fn texts_over_lines(rt: HostRuntime) {
     for row in ROWS {
         let (text, want) = *row;
-        let Ok(value) = from_text(rt.alloc(), SAFE_LEVEL, text) else {
+        let Ok(value) = from_text(rt.alloc(), SAFE_DEPTH, text) else {
             return assert!(rt; false, "{text:?}");
         };
-        match to_text_pretty(rt.alloc(), SAFE_LEVEL, 2, &value) {
+        match to_text_pretty(rt.alloc(), SAFE_DEPTH, 2, &value) {
             Ok(written) => {
                 assert_eq!(rt; written.as_str(), want);
-                let again = from_text(rt.alloc(), SAFE_LEVEL, written.as_str());
+                let again = from_text(rt.alloc(), SAFE_DEPTH, written.as_str());
                 assert!(rt; matches!(again, Ok(again) if again == value), "{text:?}");
             }
             Err(_) => assert!(rt; false, "{text:?}"),
         }
-        match to_text(rt.alloc(), SAFE_LEVEL, &value) {
+        match to_text(rt.alloc(), SAFE_DEPTH, &value) {
             Ok(written) => {
-                let again = from_text(rt.alloc(), SAFE_LEVEL, written.as_str());
+                let again = from_text(rt.alloc(), SAFE_DEPTH, written.as_str());
                 assert!(rt; matches!(again, Ok(again) if again == value), "{text:?}");
             }
             Err(_) => assert!(rt; false, "{text:?}"),
@@ -43,13 +43,13 @@ fn texts_over_lines(rt: HostRuntime) {
 #[test]
 fn values_that_are_not_written(rt: HostRuntime) {
     let number: Value<Global> = Value::Number(String::from_str(rt.alloc(), "01").unwrap());
-    assert!(rt; to_text(rt.alloc(), 1, &number).err() == Some(WriteFault::NotANumber));
-    assert!(rt; to_text_pretty(rt.alloc(), 1, 2, &number).err() == Some(WriteFault::NotANumber));
+    assert!(rt; to_text(rt.alloc(), 1, &number).err() == Some(JsonWriteError::NotANumber));
+    assert!(rt; to_text_pretty(rt.alloc(), 1, 2, &number).err() == Some(JsonWriteError::NotANumber));
     let Ok(nested) = from_text(rt.alloc(), 2, "[[]]") else {
         return assert!(rt; false);
     };
-    assert!(rt; to_text(rt.alloc(), 1, &nested).err() == Some(WriteFault::TooDeep));
-    assert!(rt; to_text_pretty(rt.alloc(), 1, 2, &nested).err() == Some(WriteFault::TooDeep));
-    let said = format!(in rt.alloc(); "{}", WriteFault::TooDeep);
+    assert!(rt; to_text(rt.alloc(), 1, &nested).err() == Some(JsonWriteError::TooDeep));
+    assert!(rt; to_text_pretty(rt.alloc(), 1, 2, &nested).err() == Some(JsonWriteError::TooDeep));
+    let said = format!(in rt.alloc(); "{}", JsonWriteError::TooDeep);
     assert!(rt; matches!(said, Ok(said) if said.as_str() == "nested too deep"));
 }

@@ -48,7 +48,7 @@ fn parse_value_of_rows(rt: HostRuntime) {
 fn parse_value_refuses(rt: HostRuntime) {
     for (bytes, place) in NONE {
         match parse_value_of_bytes(rt.alloc(), 1, bytes) {
-            Err(ParseFault::Refused(error)) => {
+            Err(ParseFault::Invalid(error)) => {
                 assert_eq!(rt; error.offset(), *place, "{bytes:?}");
                 assert_eq!(rt; *error.input(), *bytes);
             }

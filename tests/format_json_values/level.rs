@@ -1,5 +1,5 @@
 //! The safe level, with the documented stack size.
-use format_json_values::value::{SAFE_LEVEL, parse_value};
+use format_json_values::value::{SAFE_DEPTH, parse_value};
 use std::alloc::Global;
 use std::thread::Builder;
 
@@ -19,7 +19,7 @@ fn nested(alloc: Global, first: &str, last: &str, level: usize) -> Option<String
 /// Whether the text is read at the safe level.
 fn is_read(alloc: Global, first: &str, last: &str, level: usize) -> bool {
     match nested(alloc, first, last, level) {
-        Some(text) => parse_value(alloc, SAFE_LEVEL, text.as_str()).is_ok(),
+        Some(text) => parse_value(alloc, SAFE_DEPTH, text.as_str()).is_ok(),
         None => false,
     }
 }
@@ -28,9 +28,9 @@ fn is_read(alloc: Global, first: &str, last: &str, level: usize) -> bool {
 fn parse_value_at_the_safe_level(rt: HostRuntime) {
     let alloc = rt.alloc();
     let thread = Builder::new().stack_size(2 << 20).spawn(&rt, move || {
-        is_read(alloc, "[", "]", SAFE_LEVEL)
-            && is_read(alloc, "{\"a\":", "}", SAFE_LEVEL)
-            && !is_read(alloc, "[", "]", SAFE_LEVEL + 1)
+        is_read(alloc, "[", "]", SAFE_DEPTH)
+            && is_read(alloc, "{\"a\":", "}", SAFE_DEPTH)
+            && !is_read(alloc, "[", "]", SAFE_DEPTH + 1)
     });
     assert!(rt; thread.is_ok_and(|it| it.join(&rt)));
 }

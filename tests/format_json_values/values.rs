@@ -135,7 +135,7 @@ fn parse_value_by_level(rt: HostRuntime) {
 fn parse_value_refuses(rt: HostRuntime) {
     for (text, place) in NONE {
         match parse_value(rt.alloc(), 9, text) {
-            Err(ParseFault::Refused(error)) => assert_eq!(rt; error.offset(), *place, "{text:?}"),
+            Err(ParseFault::Invalid(error)) => assert_eq!(rt; error.offset(), *place, "{text:?}"),
             _ => assert!(rt; false, "{text:?}"),
         }
     }

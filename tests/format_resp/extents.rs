@@ -1,7 +1,7 @@
 //! Where replies end, at every cut and in many pieces.
 use crate::replies::{REPLIES, same};
 use std::alloc::{AllocError, Allocator};
-use format_resp::extent::{Extent, Refused};
+use format_resp::extent::{Extent, Invalid};
 
 /// Bytes that do not start a reply, and the length of the shortest prefix that is rejected: up to
 /// the end of an invalid line, otherwise up to the first byte that cannot continue a reply.
@@ -58,8 +58,8 @@ fn advance_refuses(rt: HostRuntime) {
         for cut in 0..*told {
             same(&rt, text, extent.advance(&text[..cut]), Ok(None));
         }
-        same(&rt, text, extent.advance(&text[..*told]), Err(Refused));
-        same(&rt, text, Extent::new().advance(text), Err(Refused));
+        same(&rt, text, extent.advance(&text[..*told]), Err(Invalid));
+        same(&rt, text, Extent::new().advance(text), Err(Invalid));
     }
 }
 

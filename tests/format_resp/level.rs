@@ -1,7 +1,7 @@
 //! The safe level, with the documented stack size.
 use std::alloc::Global;
 use std::thread::Builder;
-use format_resp::read::{SAFE_LEVEL, read_reply};
+use format_resp::read::{SAFE_DEPTH, read_reply};
 use format_resp::reply::Protocol;
 use winnow::stream::{Partial, StreamIsPartial};
 
@@ -18,12 +18,12 @@ fn is_read(alloc: Global, protocol: Protocol, level: usize) -> bool {
     }
     let mut input = Partial::new(bytes.as_slice());
     input.complete();
-    read_reply(alloc, protocol, SAFE_LEVEL, &mut input).is_ok()
+    read_reply(alloc, protocol, SAFE_DEPTH, &mut input).is_ok()
 }
 
 /// Whether the safe level is that up to which replies are read.
 fn is_the_level(alloc: Global, protocol: Protocol) -> bool {
-    is_read(alloc, protocol, SAFE_LEVEL) && !is_read(alloc, protocol, SAFE_LEVEL + 1)
+    is_read(alloc, protocol, SAFE_DEPTH) && !is_read(alloc, protocol, SAFE_DEPTH + 1)
 }
 
 #[test]

@@ -312,7 +312,7 @@ fn parse_lines_of_the_standard(rt: HostRuntime) {
 fn parse_lines_refuses(rt: HostRuntime) {
     for (text, place) in NONE {
         match parse_lines(rt.alloc(), 2, text) {
-            Err(ParseFault::Refused(error)) => assert_eq!(rt; error.offset(), *place, "{text:?}"),
+            Err(ParseFault::Invalid(error)) => assert_eq!(rt; error.offset(), *place, "{text:?}"),
             _ => assert!(rt; false, "{text:?}"),
         }
     }

@@ -1,6 +1,6 @@
 //! The safe level, with the documented stack size.
 use format_toml::lines::parse_lines;
-use format_toml::values::SAFE_LEVEL;
+use format_toml::values::SAFE_DEPTH;
 use std::alloc::Global;
 use std::thread::Builder;
 
@@ -20,7 +20,7 @@ fn nested(alloc: Global, level: usize, opens: &str, closes: &str) -> Option<Stri
 /// Whether the line is read at the safe level.
 fn is_read(alloc: Global, level: usize, opens: &str, closes: &str) -> bool {
     match nested(alloc, level, opens, closes) {
-        Some(text) => parse_lines(alloc, SAFE_LEVEL, text.as_str()).is_ok(),
+        Some(text) => parse_lines(alloc, SAFE_DEPTH, text.as_str()).is_ok(),
         None => false,
     }
 }
@@ -29,10 +29,10 @@ fn is_read(alloc: Global, level: usize, opens: &str, closes: &str) -> bool {
 fn parse_lines_at_the_safe_level(rt: HostRuntime) {
     let alloc = rt.alloc();
     let thread = Builder::new().stack_size(2 << 20).spawn(&rt, move || {
-        is_read(alloc, SAFE_LEVEL, "[", "]")
-            && !is_read(alloc, SAFE_LEVEL + 1, "[", "]")
-            && is_read(alloc, SAFE_LEVEL, "{b=", "}")
-            && !is_read(alloc, SAFE_LEVEL + 1, "{b=", "}")
+        is_read(alloc, SAFE_DEPTH, "[", "]")
+            && !is_read(alloc, SAFE_DEPTH + 1, "[", "]")
+            && is_read(alloc, SAFE_DEPTH, "{b=", "}")
+            && !is_read(alloc, SAFE_DEPTH + 1, "{b=", "}")
     });
     assert!(rt; thread.is_ok_and(|it| it.join(&rt)));
 }

@@ -13,7 +13,7 @@ fn parse_lines_refused_memory(rt: HostRuntime) {
     while met {
         let heap: Refusing<Global> = Refusing::once(rt.alloc(), n);
         let wants = match parse_lines(&heap, 2, TEXT) {
-            Err(ParseFault::Refused(error)) => ParserError::<&str>::is_memory(error.inner()),
+            Err(ParseFault::Invalid(error)) => ParserError::<&str>::is_memory(error.inner()),
             _ => false,
         };
         met = heap.met();

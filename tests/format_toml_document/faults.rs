@@ -1,5 +1,5 @@
 //! The messages of errors, and the contents of a tree.
-use format_toml_document::{Document, Fault, Location, Refusal, from_bytes, from_text};
+use format_toml_document::{Document, TomlError, Location, Reason, from_bytes, from_text};
 use std::alloc::Global;
 
 /// Returns the error message for a text, with a maximum nesting depth of 1, or an empty text if it
@@ -37,13 +37,13 @@ fn location_is_that_of_the_fault(rt: HostRuntime) {
     let mut document = Document::new(rt.alloc());
     match from_text(rt.alloc(), 1, "a = 1\n[a]\n", &mut document) {
         Err(fault) => {
-            assert!(rt; matches!(fault, Fault::Refused { why: Refusal::Defined, .. }));
+            assert!(rt; matches!(fault, TomlError::Invalid { why: Reason::Defined, .. }));
             assert!(rt; matches!(fault.location(), Some(at) if at == Location { offset: 6, line: 2, column: 1 }));
         }
         Ok(_) => assert!(rt; false),
     }
-    assert!(rt; Fault::OutOfMemory.location().is_none());
-    let said = format!(in rt.alloc(); "{}", Fault::OutOfMemory);
+    assert!(rt; TomlError::OutOfMemory.location().is_none());
+    let said = format!(in rt.alloc(); "{}", TomlError::OutOfMemory);
     assert!(rt; matches!(said, Ok(said) if said.as_str() == "out of memory"));
 }
 

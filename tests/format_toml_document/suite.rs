@@ -2,15 +2,15 @@
 //! valid ones are accepted, the others rejected. Python's `tomllib` accepts and rejects the same.
 use crate::invalid_strings::STRINGS;
 use crate::{invalid_tables, invalid_values, valid_tables, valid_values};
-use format_toml_document::{Document, Fault, SAFE_LEVEL, from_bytes, from_text};
+use format_toml_document::{Document, TomlError, SAFE_DEPTH, from_bytes, from_text};
 use std::alloc::Global;
 
 /// Returns whether a text is accepted, or `None` if it is neither accepted nor rejected.
 fn is_read(alloc: Global, text: &str) -> Option<bool> {
     let mut document = Document::new(alloc);
-    match from_text(alloc, SAFE_LEVEL, text, &mut document) {
+    match from_text(alloc, SAFE_DEPTH, text, &mut document) {
         Ok(_) => Some(true),
-        Err(Fault::Unexpected { .. } | Fault::Refused { .. }) => Some(false),
+        Err(TomlError::Unexpected { .. } | TomlError::Invalid { .. }) => Some(false),
         Err(_) => None,
     }
 }
@@ -54,8 +54,8 @@ fn from_bytes_refuses_what_is_no_utf8(rt: HostRuntime) {
     ];
     for (bytes, line, column) in rows {
         let mut document = Document::new(rt.alloc());
-        match from_bytes(rt.alloc(), SAFE_LEVEL, bytes, &mut document) {
-            Err(Fault::NotUtf8 { at }) => {
+        match from_bytes(rt.alloc(), SAFE_DEPTH, bytes, &mut document) {
+            Err(TomlError::NotUtf8 { at }) => {
                 assert_eq!(rt; (at.line, at.column), (line, column));
             }
             _ => assert!(rt; false),

@@ -1,6 +1,6 @@
 //! Deeply nested formulas: pending operators are kept in a list, not on the call stack.
 use readers::calc::value;
-use readers::fault::Fault;
+use readers::fault::ReadError;
 use std::alloc::Global;
 use std::process::Abort;
 use std::test::Fail;
@@ -27,7 +27,7 @@ fn comes_to(
     rt: &impl Abort,
     alloc: Global,
     (first, part, times, last): (&str, &str, usize, &str),
-    want: Result<i64, Fault>,
+    want: Result<i64, ReadError>,
 ) -> Result<(), Fail> {
     let text = text_of(alloc, first, (part, times), last)?;
     let got = value(alloc, text.as_str());
@@ -46,7 +46,7 @@ fn operators_in_one_another(rt: HostRuntime) -> Result<(), Fail> {
         &rt,
         alloc,
         ("1", "^-1^1", 1_000, ""),
-        Err(Fault::Refused(5_001)),
+        Err(ReadError::Invalid(5_001)),
     )?;
     comes_to(&rt, alloc, ("1", "^+1", 1_000, ""), Ok(1))
 }
@@ -68,20 +68,20 @@ fn deep_formulas_that_are_refused(rt: HostRuntime) -> Result<(), Fail> {
         &rt,
         alloc,
         ("", "-", 10_000, ""),
-        Err(Fault::Refused(10_000)),
+        Err(ReadError::Invalid(10_000)),
     )?;
     comes_to(
         &rt,
         alloc,
         ("1", "^1", 1_000, "^"),
-        Err(Fault::Refused(2_002)),
+        Err(ReadError::Invalid(2_002)),
     )?;
     comes_to(
         &rt,
         alloc,
         ("", "-", 1_000, "1=1=1"),
-        Err(Fault::Refused(1_003)),
+        Err(ReadError::Invalid(1_003)),
     )?;
-    comes_to(&rt, alloc, ("", "(", 1_000, "1"), Err(Fault::Refused(0)))?;
-    comes_to(&rt, alloc, ("1", "(", 1_000, ""), Err(Fault::Refused(1)))
+    comes_to(&rt, alloc, ("", "(", 1_000, "1"), Err(ReadError::Invalid(0)))?;
+    comes_to(&rt, alloc, ("1", "(", 1_000, ""), Err(ReadError::Invalid(1)))
 }

@@ -1,7 +1,7 @@
 //! Allocation failures.
 use crate::common::{AtBytes, Bytes, counting};
 use readers::calc::value;
-use readers::fault::Fault;
+use readers::fault::ReadError;
 use readers::ini::document;
 use std::alloc::{Allocator, Global};
 use std::cell::Cell;
@@ -63,7 +63,7 @@ fn document_without_memory(rt: HostRuntime) {
             Ok(sections) => Ok(sections.len()),
             Err(fault) => Err(fault),
         },
-        (Ok(2), Err(Fault::NoMemory)),
+        (Ok(2), Err(ReadError::NoMemory)),
     );
 }
 
@@ -74,12 +74,12 @@ fn value_without_memory(rt: HostRuntime) {
         "value",
         rt.alloc(),
         |heap| value(heap, "-3!+2*4"),
-        (Ok(2), Err(Fault::NoMemory)),
+        (Ok(2), Err(ReadError::NoMemory)),
     );
     let heap = Refusing::always_from(rt.alloc(), 0);
     assert_eq!(rt; value(&heap, "7!"), Ok(5040), "no operator waits");
     assert!(rt; !heap.met(), "no operator waits");
-    assert_eq!(rt; value(&heap, "-1"), Err(Fault::NoMemory), "one waits");
+    assert_eq!(rt; value(&heap, "-1"), Err(ReadError::NoMemory), "one waits");
 }
 
 /// Differences, nested to the right.

@@ -30,7 +30,7 @@ where
 {
     match answer {
         Ok(_) => (Ok(()), 0),
-        Err(ParseFault::Refused(error)) => (Err(kind_of::<I, E>(error.inner())), 0),
+        Err(ParseFault::Invalid(error)) => (Err(kind_of::<I, E>(error.inner())), 0),
         Err(ParseFault::Incomplete(needed)) => (Err(Kind::Incomplete(needed)), 0),
     }
 }

@@ -59,6 +59,6 @@ fn digits_of_all_bytes_by_outcome(rt: HostRuntime) {
     for (text, offset) in [(b"12;3".as_slice(), 2), (b";", 0), (b"", 0)] {
         let fault: Result<&[u8], ParseFault<&[u8], EmptyError>> =
             Parser::<_, _, ErrMode<EmptyError>>::parse_outcome(&mut Digit1, text);
-        assert!(rt; matches!(fault, Err(ParseFault::Refused(it)) if it.offset() == offset));
+        assert!(rt; matches!(fault, Err(ParseFault::Invalid(it)) if it.offset() == offset));
     }
 }

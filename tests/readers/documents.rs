@@ -1,6 +1,6 @@
 //! Tables of documents.
 use crate::runs::{answers, ran};
-use readers::fault::Fault;
+use readers::fault::ReadError;
 use readers::ini::{category, document, key_value};
 use std::alloc::Global;
 use std::process::Abort;
@@ -168,7 +168,7 @@ fn a_byte_too_many(rt: HostRuntime) -> Result<(), Fail> {
 
 /// Returns the number of sections of a document, with allocation `n` failing, and whether it
 /// failed.
-fn counted(alloc: Global, n: u64, text: &str) -> (Result<usize, Fault>, bool) {
+fn counted(alloc: Global, n: u64, text: &str) -> (Result<usize, ReadError>, bool) {
     let heap = Refusing::once(alloc, n);
     let got = match document(&heap, text.as_bytes()) {
         Ok(sections) => Ok(sections.len()),
@@ -192,7 +192,7 @@ fn refused_lists(rt: HostRuntime) {
                 is_done = true;
                 break;
             }
-            assert_eq!(rt; got, Err(Fault::NoMemory), "{text:?}");
+            assert_eq!(rt; got, Err(ReadError::NoMemory), "{text:?}");
         }
         assert!(rt; is_done);
     }
@@ -220,10 +220,10 @@ fn sections(rt: HostRuntime) -> Result<(), Fail> {
 
 #[test]
 fn faults(rt: HostRuntime) -> Result<(), Fail> {
-    assert_eq!(rt; Fault::Refused(1), Fault::Refused(1));
-    assert!(rt; Fault::Refused(1) != Fault::Refused(2));
-    assert!(rt; Fault::Refused(1) != Fault::NoMemory);
-    let shown = format!(in rt.alloc(); "{:?} {:?}", Fault::Refused(7), Fault::NoMemory)?;
-    assert_eq!(rt; shown.as_str(), "Refused(7) NoMemory");
+    assert_eq!(rt; ReadError::Invalid(1), ReadError::Invalid(1));
+    assert!(rt; ReadError::Invalid(1) != ReadError::Invalid(2));
+    assert!(rt; ReadError::Invalid(1) != ReadError::NoMemory);
+    let shown = format!(in rt.alloc(); "{:?} {:?}", ReadError::Invalid(7), ReadError::NoMemory)?;
+    assert_eq!(rt; shown.as_str(), "Invalid(7) NoMemory");
     Ok(())
 }

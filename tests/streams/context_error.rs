@@ -113,8 +113,8 @@ fn add_context(rt: HostRuntime) {
         <EmptyError as ParserError<Bytes>>::no_memory(&INPUT),
         Memory,
     );
-    let error = told(&rt, alloc, "ControlError", ControlError::Refused, Backtrack);
-    assert_eq!(rt; error, ControlError::Refused, "add_context, ControlError");
+    let error = told(&rt, alloc, "ControlError", ControlError::Invalid, Backtrack);
+    assert_eq!(rt; error, ControlError::Invalid, "add_context, ControlError");
     let error = told(&rt, alloc, "ControlError", ControlError::NoMemory, Memory);
     assert_eq!(rt; error, ControlError::NoMemory, "add_context, ControlError");
     let error = told(&rt, alloc, "InputError", InputError::at(INPUT), Backtrack);
@@ -190,7 +190,7 @@ fn made<E: ParserError<Bytes> + FromExternalError<Bytes, &'static str>>(
 fn from_external_error(rt: HostRuntime) {
     let _error: EmptyError = made(&rt, "EmptyError");
     let error: ControlError = made(&rt, "ControlError");
-    assert_eq!(rt; error, ControlError::Refused, "from_external_error, ControlError");
+    assert_eq!(rt; error, ControlError::Invalid, "from_external_error, ControlError");
     let error: InputError<Bytes> = made(&rt, "InputError");
     assert_eq!(rt;
         error.input,

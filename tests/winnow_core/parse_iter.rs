@@ -21,7 +21,7 @@ use winnow_token::token::impls::{Any, RestLen};
 #[derive(Clone, Copy, Debug, PartialEq, Eq)]
 enum End {
     Read,
-    Refused(usize),
+    Invalid(usize),
     Lacks(Needed),
 }
 
@@ -51,9 +51,9 @@ where
             assert!(rt; false, "parse_iter at {row:?} gives an item more");
             End::Read
         }
-        Some(Err(ParseFault::Refused(error))) => {
+        Some(Err(ParseFault::Invalid(error))) => {
             same(rt, "parse_iter, its input", row, *error.input(), input);
-            End::Refused(error.offset())
+            End::Invalid(error.offset())
         }
         Some(Err(ParseFault::Incomplete(needed))) => End::Lacks(needed),
     };
@@ -74,7 +74,7 @@ where
     I: OfText + Copy + Stream<Token = char, Slice = &'static str>,
 {
     for (text, items, end) in [
-        ("abc", ["ab"].as_slice(), End::Refused(2)),
+        ("abc", ["ab"].as_slice(), End::Invalid(2)),
         ("abcd", ["ab", "cd"].as_slice(), End::Read),
         ("", [].as_slice(), End::Read),
     ] {
@@ -82,9 +82,9 @@ where
         gives::<I, &str, E, _>(rt, text, pair, I::of_text(text), items, end);
     }
     for (text, items, end) in [
-        ("12a3", ["12"].as_slice(), End::Refused(2)),
+        ("12a3", ["12"].as_slice(), End::Invalid(2)),
         ("12", ["12"].as_slice(), End::Read),
-        ("a", [].as_slice(), End::Refused(0)),
+        ("a", [].as_slice(), End::Invalid(0)),
     ] {
         let digits = token::take_while::<_, I, E>(
             Range::from(0..),
@@ -92,14 +92,14 @@ where
         );
         gives::<I, &str, E, _>(rt, text, digits, I::of_text(text), items, end);
     }
-    for (text, end) in [("ab", End::Refused(0)), ("", End::Read)] {
+    for (text, end) in [("ab", End::Invalid(0)), ("", End::Read)] {
         gives::<I, usize, E, _>(rt, text, RestLen, I::of_text(text), &[], end);
     }
     // The start is where the input was when it was passed.
     let mut input = I::of_text("xabc");
     let _x = input.next_token();
     let pair = token::take::<_, I, E>(2usize);
-    gives::<I, &str, E, _>(rt, "behind x", pair, input, &["ab"], End::Refused(2));
+    gives::<I, &str, E, _>(rt, "behind x", pair, input, &["ab"], End::Invalid(2));
     let mut any = Any;
     let all: ParseIter<'_, Any, I, char, E> = any.parse_iter(I::of_text("éab"));
     let mut count = 0u8;
@@ -115,7 +115,7 @@ fn parse_iter(rt: HostRuntime) {
     slices::<&str, Modal>(&rt);
     slices::<LocatingSlice<&str>, Modal>(&rt);
     // The place is where the failing run left the input, and units of text are bytes.
-    let (items, end) = ([('é', 'a')], End::Refused(4));
+    let (items, end) = ([('é', 'a')], End::Invalid(4));
     gives::<&str, _, EmptyError, _>(&rt, "éab", (Any, Any), "éab", &items, end);
     gives::<&str, _, Modal, _>(&rt, "éab", (Any, Any), "éab", &items, end);
 }

@@ -113,7 +113,7 @@ fn parse(rt: HostRuntime) {
         match want {
             Ok(slice) => assert_eq!(rt; got, Ok(slice.as_bytes()), "parse at {text:?}"),
             Err(place) => match got {
-                Err(ParseFault::Refused(error)) => {
+                Err(ParseFault::Invalid(error)) => {
                     assert_eq!(rt; *error.input(), text.as_bytes(), "parse at {text:?}");
                     assert_eq!(rt; error.offset(), place, "parse at {text:?}");
                 }
@@ -206,7 +206,7 @@ fn parse_under_errors_with_a_mode(rt: HostRuntime) {
     same(&rt, name, "12", got.ok(), Some("12"));
     for (text, place) in [("12a", 2), ("a", 0)] {
         match Parser::<&str, &str, ModalAt<&str>>::parse(&mut Digit1, text) {
-            Err(ParseFault::Refused(error)) => {
+            Err(ParseFault::Invalid(error)) => {
                 same(&rt, name, text, error.offset(), place);
                 same(&rt, name, text, *error.input(), text);
                 same(&rt, name, text, error.into_inner().input, &text[place..]);

@@ -23,7 +23,8 @@ use Rattle.winnow_expression.specs.declared.combinator.places.Next.TheVariants.{
   Postfix as postfix_read,
 }
 use Rattle.winnow_expression.specs.declared.combinator.places.Next.TheVariants.{Infix as infix_read}
-use Rattle.winnow_expression_trees.specs.Failure.{Comes, EndedBy, RefusedBy, Unmoved, comes_infix}
+use Rattle.winnow_expression_trees.specs.Failure.{ReadsTo, EndedBy, RejectedBy, Unmoved}
+use Rattle.winnow_expression_trees.specs.Failure.{comes_infix}
 use Rattle.winnow_expression_trees.specs.Failure.{comes_operand, comes_postfix, comes_prefix}
 use Rattle.winnow_expression_trees.specs.Failure.{comes_start}
 use Rattle.winnow_expression_trees.specs.Items.{AreItems, FirstItems, Gives, ItemRuns, Items}
@@ -151,7 +152,7 @@ module _ {T V F G H L : Type 0} (reading : Reading T L) (refusal : Kind)
   gives_err given i j k some (inr (none, e, place)) = none some.0 some.1
 
   pub none_refused : (level : ℤ) (i : Input T) (k : Kind) (j : Input T)
-      → RefusedBy whole states level i k j → ⊥
+      → RejectedBy whole states level i k j → ⊥
   none_refused level start kind j
       (inl (m, i, k, n, p, f, r, all, v, begins, read, over, keeps, value, refused)) =
       gives_err (one f v) n j kind (ones f v) refused
@@ -185,13 +186,13 @@ module _ {T V F G H L : Type 0} (reading : Reading T L) (refusal : Kind)
   -- ---- so errors occur where an operand is expected
 
   abbrev ItemsCome : List T → Bool → List T → Type 0
-  ItemsCome = Comes (FirstItems operand prefix) (NextItems postfix infix_)
+  ItemsCome = ReadsTo (FirstItems operand prefix) (NextItems postfix infix_)
 
   abbrev LacksAt : List T → List T → Type 0
   LacksAt start place = ItemsCome start true place × NoItem operand place × NoItem prefix place
 
   comes_down : (i : Input T) (b : Bool) (k : Input T)
-      → Comes (FirstStep whole states) (NextStep whole states) i b k
+      → ReadsTo (FirstStep whole states) (NextStep whole states) i b k
       → ItemsCome i.left.tokens b k.left.tokens
   comes_down i _ _ comes_start = comes_start
   comes_down i _ _ (comes_operand m k v before read) =

@@ -12,7 +12,7 @@ use Rattle.winnow_expression.specs.declared.combinator.operators.Infix.{Infix}
 use Rattle.winnow_expression.specs.declared.combinator.operators.Infix.TheVariants.{Left, Neither}
 use Rattle.winnow_expression.specs.declared.combinator.operators.Postfix.{Postfix}
 use Rattle.winnow_expression.specs.declared.combinator.operators.Prefix.{Prefix}
-use Rattle.winnow_expression_trees.specs.Failure.{Comes}
+use Rattle.winnow_expression_trees.specs.Failure.{ReadsTo}
 use Rattle.winnow_expression_trees.specs.Items.{FirstItems, Items, NextItems, NoItem}
 use Rattle.winnow_expression_trees.specs.Items.Grammar.{ReadsTree}
 pub mod Laws
@@ -52,7 +52,7 @@ logic_value Same v w x = x ≡ (if v then w else (if w then false else true))
 -- expected and neither an operand nor a prefix operator begins.
 abbrev pub LacksOperand : List ℕ → List ℕ → Type 0
 LacksOperand start place =
-    Comes (FirstItems (ByteItem operand_at) (ByteItem prefix_at))
+    ReadsTo (FirstItems (ByteItem operand_at) (ByteItem prefix_at))
     (NextItems (ByteItem postfix_at) (ByteItem infix_at)) start true place
     × NoItem (ByteItem operand_at) place × NoItem (ByteItem prefix_at) place
 

@@ -23,7 +23,7 @@ use stream_errors::parser_error::ParserError;
 use streams::stream::Stream;
 use winnow_core::parser::Parser;
 use winnow_expression::combinator::{FoldBinary, FoldUnary, Infix, Postfix, Prefix, expression};
-use winnow_expression_trees::laws::{Likeness, expression_reads_the_one_tree};
+use winnow_expression_trees::laws::{Likeness, expression_is_unambiguous};
 use winnow_token::token::impls::Any;
 
 /// Equality of truth values.
@@ -273,7 +273,7 @@ pub fn truth<'i, A: Allocator + Copy>(alloc: A, input: &mut &'i [u8]) -> Result<
         ⊎ ((⟦<EmptyError as HasKind>⟧.kind error ≡ backtrack)
         × LacksOperand input.old.now input.new.now)) }
 {
-    expression_reads_the_one_tree::<
+    expression_is_unambiguous::<
         &'i [u8],
         bool,
         Part,

@@ -1,7 +1,7 @@
 //! Formulas in a larger grammar: an expression is a rule, and parsers are made of it.
 ghost use Rattle.std.specs.Fn.{CalledAtMut};
 ghost use Rattle.std.specs.Prelude.{⊤};
-ghost use Rattle.grammars.specs.Grammar.Known.{Byte};
+ghost use Rattle.grammars.specs.Grammar.Inversion.{Byte};
 ghost use Rattle.streams.specs.Bytes.{bytes_input, bytes_reading};
 ghost use Rattle.winnow_core.specs.Exact.{Reads};
 ghost use Rattle.winnow_grammar.specs.Rule.{CallsRead};

@@ -1,19 +1,19 @@
 -- Lemmas that derive properties of all items of an iterator from the call that stopped it.
 use Rattle.std.proofs.Common.{◌≡◌, ◌∙◌, List, ◌⊎◌, Ok, Err, inl, inr, subst, sym}
 use Rattle.winnow.specs.Input.{Input}
-use Rattle.winnow.specs.Iterator.{IteratorState, IteratorStops, Standing, done, finish_answer}
+use Rattle.winnow.specs.Iterator.{IteratorState, IteratorStops, IteratorStatus, done, finish_answer}
 use Rattle.winnow.specs.Iterator.{stopped}
-use Rattle.winnow.specs.Iterator.Known.{finish_failed, finish_succeeded}
+use Rattle.winnow.specs.Iterator.Inversion.{finish_failed, finish_succeeded}
 use Rattle.winnow.specs.Kind.{Kind, backtrack}
-use Rattle.winnow.specs.Repeat.Known.{Items}
+use Rattle.winnow.specs.Repeat.Inversion.{Items}
 use Rattle.winnow.specs.Runs.{Runs}
-use Rattle.example_callers.specs.Items.{EndsBehind, FailsBehind}
+use Rattle.example_callers.specs.Items.{EndsAfterChain, FailsAfterChain}
 
 -- no error at last: it backtracked
 pub ends_told : {S T O : Type 0} (run : Runs S T O) (assert_kind : Kind) (u v : IteratorState S T)
     (s : S) (i : Input T) (outputs : List O) → Items run s i outputs u.parser u.input
     → IteratorStops run assert_kind u v → Ok tt ≡ finish_answer v.standing
-    → EndsBehind run s i outputs v.input
+    → EndsAfterChain run s i outputs v.input
 ends_told run assert_kind u v s i outputs chain stops answer =
     let (m, tried, back, ended) = finish_succeeded run assert_kind u v stops answer in
     record {
@@ -31,7 +31,7 @@ pub fails_told : {S T O : Type 0} (run : Runs S T O) (assert_kind : Kind) (u v :
     (s : S) (i : Input T) (outputs : List O) (k : Kind)
     → Items run s i outputs u.parser u.input → IteratorStops run assert_kind u v
     → Err k ≡ finish_answer v.standing
-    → FailsBehind run assert_kind s i outputs k v.input
+    → FailsAfterChain run assert_kind s i outputs k v.input
 fails_told {O = O} run assert_kind u v s i outputs k chain stops answer = record {
   state = u.parser;
   input = u.input;

@@ -9,7 +9,7 @@ use Rattle.winnow.specs.Counted.{counted_reading}
 use Rattle.winnow.specs.Form.{answer_by, plain}
 use Rattle.winnow.specs.Input.{Input}
 use Rattle.winnow.specs.Kind.{Kind}
-use Rattle.winnow.specs.TakeWhile.Known.{tells_of, took_all, took_counted}
+use Rattle.winnow.specs.TakeWhile.Inversion.{tells_of, took_all, took_counted}
 
 pub letters_told : {E : Type 0} (kind : E → Kind) (i j : Input ℕ)
     (result : Result (Bor (List ℕ)) E)

@@ -2,7 +2,7 @@
 use Rattle.std.specs.Prelude.{◌≡◌, List, [], ◌∷◌, ◌++◌, Option, Ok, Err, MatchOption, ◌⊎◌}
 use Rattle.winnow.specs.Input.{Input, back_at}
 use Rattle.winnow.specs.Kind.{Kind, backtrack}
-use Rattle.winnow.specs.Repeat.Known.{Items}
+use Rattle.winnow.specs.Repeat.Inversion.{Items}
 use Rattle.winnow.specs.Runs.{Runs}
 
 -- The last of the outputs, or none where there are none.
@@ -12,7 +12,7 @@ IsLastOf {O} outputs last =
 
 -- The outputs are those of a chain of runs that consume, after which one backtracks: the input is
 -- left where that one began.
-pub record EndsBehind {S T O : Type 0} (run : Runs S T O) (s : S) (i : Input T)
+pub record EndsAfterChain {S T O : Type 0} (run : Runs S T O) (s : S) (i : Input T)
     (outputs : List O) (j : Input T) : Type 0 where
   pub state : S
   pub input : Input T
@@ -24,7 +24,7 @@ pub record EndsBehind {S T O : Type 0} (run : Runs S T O) (s : S) (i : Input T)
 
 -- The outputs are those of such a chain, and the run after it fails by this kind, or consumes
 -- nothing, which is the assert error; the input is left where that one left it.
-pub record FailsBehind {S T O : Type 0} (run : Runs S T O) (assert_kind : Kind) (s : S)
+pub record FailsAfterChain {S T O : Type 0} (run : Runs S T O) (assert_kind : Kind) (s : S)
     (i : Input T) (outputs : List O) (k : Kind) (j : Input T) : Type 0 where
   pub state : S
   pub input : Input T

@@ -23,8 +23,8 @@ abbrev pub One : Grammar ℕ ℕ
 One = Token (λ x. x)
 
 -- a token after the space
-abbrev pub Dark : Grammar ℕ ℕ
-Dark = Meaning (λ o u. (32 < o) × (u ≡ o)) One
+abbrev pub TokenAfterSpace : Grammar ℕ ℕ
+TokenAfterSpace = Meaning (λ o u. (32 < o) × (u ≡ o)) One
 
 -- a decimal digit has this value
 abbrev pub IsValue : ℕ → ℕ → Type 0

@@ -4,7 +4,7 @@ use Rattle.std.specs.Borrow.{Bor}
 use Rattle.winnow.specs.AsChar.{IsAlpha}
 use Rattle.winnow.specs.Counted.{counted_reading}
 use Rattle.winnow.specs.Grammar.{Both, Class, Either, Grammar, Three}
-use Rattle.winnow.specs.Grammar.Known.{Byte}
+use Rattle.winnow.specs.Grammar.Inversion.{Byte}
 
 -- A word: the longest prefix of letters, at least one.
 abbrev pub Word : Grammar ℕ (Bor (List ℕ))

@@ -5,9 +5,9 @@ ghost use Rattle.std.specs.Prelude.{◌≡◌, false, List, [], IfErr, IfOk};
 ghost use Rattle.winnow.specs.Form.{assert_kind};
 ghost use Rattle.winnow.specs.Input.{Input, IsEndOf};
 ghost use Rattle.winnow.specs.Parse.{IsFaultAt};
-ghost use Rattle.winnow.specs.ParseIter.Known.{IsRefused};
-ghost use Rattle.winnow.specs.Repeat.Known.{Items};
-ghost use Rattle.example_callers.specs.Items.{EndsBehind, FailsBehind, IsLastOf};
+ghost use Rattle.winnow.specs.ParseIter.Inversion.{IsErrorAfterItems};
+ghost use Rattle.winnow.specs.Repeat.Inversion.{Items};
+ghost use Rattle.example_callers.specs.Items.{EndsAfterChain, FailsAfterChain, IsLastOf};
 
 use winnow::Parser;
 use winnow::combinator::impls::ParseIter;
@@ -24,11 +24,11 @@ pub fn last_item<P: Parser<I, O, E> + Drop, I: Stream, O: Drop, E: ParserError<I
 ) -> Result<Option<O>, E>
     requires { P.can_parse parser }
     ensures last { IfOk result (λ last. (outputs : List O)
-        × EndsBehind (P.meaning E.form) (P.state parser) (I.view input.old) outputs
+        × EndsAfterChain (P.meaning E.form) (P.state parser) (I.view input.old) outputs
         (I.view input.new)
         × IsLastOf outputs last) }
     ensures fails { IfErr result (λ error. (outputs : List O)
-        × FailsBehind (P.meaning E.form) (assert_kind E.form) (P.state parser)
+        × FailsAfterChain (P.meaning E.form) (assert_kind E.form) (P.state parser)
         (I.view input.old) outputs (E.kind error) (I.view input.new)) }
     ensures ends { IsEndOf I.reading (I.view input.new) (I.view input.old) }
 {
@@ -55,7 +55,7 @@ pub fn last_of_all<P: Parser<I, O, E>, I: StreamIsPartial, O: Drop, E: ParserErr
         × Items (P.meaning E.form) (P.state parser.old) (I.view input) outputs u m
         × (m.left.tokens ≡ []) × IsLastOf outputs last) }
     ensures refused { IfErr result (λ fault. (outputs : List O)
-        × IsRefused (P.meaning E.form) (assert_kind E.form)
+        × IsErrorAfterItems (P.meaning E.form) (assert_kind E.form)
         (IsFaultAt I.view I.reading.units E.inner_kind) (P.state parser.old) (I.view input)
         outputs fault) }
 {

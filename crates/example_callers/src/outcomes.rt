@@ -3,7 +3,7 @@
 #![tactic(auto)]
 
 ghost use Rattle.std.specs.Prelude.{◌≡◌, ⊤, ℕ};
-ghost use Rattle.winnow.specs.Class.Says.{SeenOnce};
+ghost use Rattle.winnow.specs.Class.Says.{CharIsFunction};
 ghost use Rattle.winnow.specs.Form.{answer_by};
 ghost use Rattle.winnow.specs.Outcome.{outcome_of};
 ghost use Rattle.winnow.specs.Says.{Tells};
@@ -12,7 +12,7 @@ ghost use Rattle.winnow.specs.Says.Longer.{EachLongerGets};
 use winnow::Parser;
 use winnow::ascii::impls::Digit1;
 use winnow::error::{EmptyError, ErrMode, ParserError};
-use winnow::laws::a_longer_input_gets_the_answer_of_a_cut_one;
+use winnow::laws::partial_results_are_final;
 use winnow::stream::{AsChar, Compare, Partial, StreamIsPartial};
 
 /// Parses a time such as `12:30`, over any stream. The result, and the position of an error, are
@@ -22,7 +22,7 @@ where
     I: StreamIsPartial + Compare<u8>,
     I::Token: AsChar,
     E: ParserError<I>,
-    requires seen { SeenOnce I.seen_as I.Token.code }
+    requires seen { CharIsFunction I.seen_as I.Token.code }
     ensures tells { Tells
         (⟦<(Digit1, u8, Digit1) as Parser<I, (I::Slice, u8, I::Slice), E>>⟧.says (tt, 58, tt))
         E.form (I.view input.old)
@@ -38,18 +38,13 @@ where
     I: StreamIsPartial + Compare<u8>,
     I::Token: AsChar,
     E: ParserError<I>,
-    requires seen { SeenOnce I.seen_as I.Token.code }
+    requires seen { CharIsFunction I.seen_as I.Token.code }
     ensures { EachLongerGets (tt, 58, tt)
         ⟦<(Digit1, u8, Digit1) as Parser<I, (I::Slice, u8, I::Slice), E>>⟧.meaning
         (⟦<(Digit1, u8, Digit1) as Parser<I, (I::Slice, u8, I::Slice), E>>⟧.says
         (tt, 58, tt)).alike }
 {
-    a_longer_input_gets_the_answer_of_a_cut_one::<
-        (Digit1, u8, Digit1),
-        I,
-        (I::Slice, u8, I::Slice),
-        E,
-    >();
+    partial_results_are_final::<(Digit1, u8, Digit1), I, (I::Slice, u8, I::Slice), E>();
 }
 
 /// A time of bytes.

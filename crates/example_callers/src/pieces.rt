@@ -7,7 +7,7 @@ ghost use Rattle.winnow.specs.Stable.{EachSettlesOnCut, SettlesOnCut};
 use std::alloc::Allocator;
 use winnow::ascii::impls::{DecUint, Digit1, LineEnding};
 use winnow::combinator::impls::Separated;
-use winnow::laws::a_cut_input_is_answered_as_each_longer_one;
+use winnow::laws::longer_inputs_have_partial_results;
 use winnow::prelude::*;
 use winnow::stable::Stable;
 use winnow::stream::{AsBStr, AsChar, Compare, SlicesAsBytes};
@@ -44,7 +44,7 @@ where
         (⟦<Separated<DecUint, u8, I, u8, u8, Vec<u8, A>, E, A> as Parser<I, Vec<u8, A>, E>>⟧.meaning
         E.form) }
 {
-    a_cut_input_is_answered_as_each_longer_one::<
+    longer_inputs_have_partial_results::<
         Separated<DecUint, u8, I, u8, u8, Vec<u8, A>, E, A>,
         I,
         Vec<u8, A>,

@@ -20,8 +20,8 @@ use winnow::combinator::impls::{AltParser, Fail, Value};
 use winnow::combinator::{FoldBinary, FoldUnary, Infix, NoFold, Postfix, Prefix, alt, expression};
 use winnow::error::{EmptyError, HasKind, ParserError};
 use winnow::laws::{
-    Likeness, a_byte_consumes, a_choice_consumes, a_decided_part_is_stateless, a_value_consumes,
-    expression_reads_the_one_tree,
+    Likeness, a_byte_consumes, a_choice_consumes, a_value_consumes,
+    deterministic_parts_are_stateless, expression_is_unambiguous,
 };
 use winnow::stream::Stream;
 
@@ -154,14 +154,14 @@ pub fn read_size<'i, A: Allocator + Copy>(alloc: A, input: &mut &'i [u8]) -> Res
         (bytes_input input.new.now) }
     ensures ends { IsEndOf bytes_reading (bytes_input input.new.now) (bytes_input input.old.now) }
 {
-    a_decided_part_is_stateless::<DecUint, &'i [u8], u32, EmptyError>();
-    a_decided_part_is_stateless::<
+    deterministic_parts_are_stateless::<DecUint, &'i [u8], u32, EmptyError>();
+    deterministic_parts_are_stateless::<
         Marks<&'i [u8], Postfix<Scale>>,
         &'i [u8],
         Postfix<Scale>,
         EmptyError,
     >();
-    a_decided_part_is_stateless::<
+    deterministic_parts_are_stateless::<
         Marks<&'i [u8], Infix<Sign>>,
         &'i [u8],
         Infix<Sign>,
@@ -176,7 +176,7 @@ pub fn read_size<'i, A: Allocator + Copy>(alloc: A, input: &mut &'i [u8]) -> Res
         Mark<&'i [u8], Infix<Sign>>,
         EmptyError,
     >();
-    expression_reads_the_one_tree::<
+    expression_is_unambiguous::<
         &'i [u8],
         u32,
         DecUint,

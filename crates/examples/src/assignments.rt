@@ -1,9 +1,9 @@
 //! Lines of settings and flags, as `width=12` and `debug`. A value must follow an equals sign, so a
 //! missing value is a final error at the offset where the value is expected.
 ghost use Rattle.std.specs.Prelude.{◌≡◌, false};
-ghost use Rattle.examples.specs.Assignments.Assignments.{IsTold};
+ghost use Rattle.examples.specs.Assignments.Assignments.{IsErrorOfLines};
 ghost use Rattle.examples.specs.Assignments.Says.{LineSays, LinesSay};
-ghost use Rattle.winnow.specs.Class.Says.{SeenOnce};
+ghost use Rattle.winnow.specs.Class.Says.{CharIsFunction};
 ghost use Rattle.winnow.specs.Says.Whole.{TellsAll};
 
 use std::alloc::Allocator;
@@ -37,7 +37,7 @@ where
     E: ParserError<I> + ModalError,
     A: Allocator + Copy,
     requires whole { I.supports_partial ≡ false }
-    requires seen { SeenOnce I.seen_as I.Token.code }
+    requires seen { CharIsFunction I.seen_as I.Token.code }
     ensures { TellsAll I.reading.units E.inner_kind
         (LinesSay (LineSays I.reading I.seen_as I.Token.code I.spells)) E.form (I.view input)
         result }
@@ -60,15 +60,16 @@ where
 /// assert!(rt; check_assignments(alloc, b"width=12\ndebug\n".as_slice()).is_ok());
 /// // The value lacks at byte 12; a line that has no name begins at byte 14.
 /// let lacks = check_assignments(alloc, b"debug\nwidth=\n=1\n".as_slice());
-/// assert!(rt; matches!(lacks, Err(ParseFault::Refused(fault)) if fault.offset() == 12));
+/// assert!(rt; matches!(lacks, Err(ParseFault::Invalid(fault)) if fault.offset() == 12));
 /// let other = check_assignments(alloc, b"debug\nwidth=1\n=1\n".as_slice());
-/// assert!(rt; matches!(other, Err(ParseFault::Refused(fault)) if fault.offset() == 14));
+/// assert!(rt; matches!(other, Err(ParseFault::Invalid(fault)) if fault.offset() == 14));
 /// ```
 pub fn check_assignments<'i, A: Allocator + Copy>(
     alloc: A,
     text: &'i [u8],
 ) -> Result<(), ParseFault<&'i [u8], EmptyError>>
-    ensures { IsTold ⟦<ErrMode<EmptyError> as ParserError<&'i [u8]>>⟧.inner_kind text.now result }
+    ensures { IsErrorOfLines ⟦<ErrMode<EmptyError> as ParserError<&'i [u8]>>⟧.inner_kind text.now
+        result }
 {
     lines::<&'i [u8], ErrMode<EmptyError>, A>(alloc, text)
 }

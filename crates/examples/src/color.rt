@@ -5,7 +5,7 @@ ghost use Rattle.examples.specs.Color.Color.{Color};
 ghost use Rattle.winnow.specs.AsChar.{IsHexDigit};
 ghost use Rattle.winnow.specs.Exact.Whole.{ReadsAll};
 ghost use Rattle.winnow.specs.Grammar.{Literally};
-ghost use Rattle.winnow.specs.Once.{SeesApart, holds_once};
+ghost use Rattle.winnow.specs.Once.{TokenEqInjective, holds_once};
 ghost use Rattle.winnow.specs.Told.{IsTextOf};
 
 use winnow::Parser;
@@ -34,7 +34,7 @@ where
     I: StreamIsPartial<Token = u8> + Compare<u8>,
     E: ParserError<I>,
     requires whole { I.supports_partial ≡ false }
-    requires seen { SeesApart I.seen_as }
+    requires seen { TokenEqInjective I.seen_as }
     ensures { ReadsAll E.inner_kind (ColorRead I.reading I.seen_as
         (Literally I.reading I.spells (λ s _. s))) (I.view input).left.tokens result }
 {

@@ -11,7 +11,8 @@
 //! [`FromExternalError`]: winnow::error::FromExternalError
 ghost use Rattle.std.specs.Prelude.{◌≡◌, ◌∷◌, ◌⊎◌, IfErr, IfOk, MatchResult, None, Some};
 ghost use Rattle.winnow.specs.Kind.{backtrack};
-ghost use Rattle.examples.specs.Errors.Lines.{NoColonStands, NoLevelStands, StartsLevel, level_at};
+ghost use Rattle.examples.specs.Errors.Lines.{StartsWithNoColon, StartsWithNoLevel, StartsLevel};
+ghost use Rattle.examples.specs.Errors.Lines.{level_at};
 
 pub mod error;
 
@@ -67,7 +68,7 @@ pub fn read_letter<'i, A: Allocator + Copy>(
 ) -> Result<Level, ErrMode<LineError>>
     ensures level { IfOk result (λ level. StartsLevel input.old.now level input.new.now) }
     ensures none { IfErr result (λ error. (⟦<ErrMode<LineError> as HasKind>⟧.kind error ≡ backtrack)
-        × NoLevelStands input.old.now × (input.new.now ≡ input.old.now)) }
+        × StartsWithNoLevel input.old.now × (input.new.now ≡ input.old.now)) }
 {
     let mut letter = Any.try_map(level_of).context(alloc, Part::Level);
     match letter.parse_next(input) {
@@ -93,7 +94,7 @@ pub fn read_colon<'i, A: Allocator + Copy>(
     ensures colon { IfOk result (λ colon. (colon ≡ 58)
         × (input.old.now ≡ 58 ∷ input.new.now)) }
     ensures none { IfErr result (λ error. (⟦<ErrMode<LineError> as HasKind>⟧.kind error ≡ backtrack)
-        × NoColonStands input.old.now × (input.new.now ≡ input.old.now)) }
+        × StartsWithNoColon input.old.now × (input.new.now ≡ input.old.now)) }
 {
     match b':'.context(alloc, Part::Colon).parse_next(input) {
         Ok(colon) => Ok(colon),
@@ -121,9 +122,9 @@ pub fn read_level<'i, A: Allocator + Copy>(
     ensures kind { IfErr result (λ error.
         ⟦<ErrMode<LineError> as HasKind>⟧.kind error ≡ backtrack) }
     ensures none { IfErr result (λ _.
-        (NoLevelStands input.old.now × (input.new.now ≡ input.old.now))
+        (StartsWithNoLevel input.old.now × (input.new.now ≡ input.old.now))
         ⊎ ((level : Level) × StartsLevel input.old.now level input.new.now
-        × NoColonStands input.new.now)) }
+        × StartsWithNoColon input.new.now)) }
 {
     let level = read_letter(alloc, input)?;
     let _colon = read_colon(alloc, input)?;

@@ -1,7 +1,7 @@
 //! Options in brackets, as `[mode=fast,debug]`: a composition of eleven parsers that is specified
 //! by its grammar, on complete and on partial input.
 ghost use Rattle.std.specs.Prelude.{◌≡◌, []};
-ghost use Rattle.winnow.specs.Class.Says.{SeenOnce};
+ghost use Rattle.winnow.specs.Class.Says.{CharIsFunction};
 ghost use Rattle.winnow.specs.Form.{answer_by, modal};
 ghost use Rattle.winnow.specs.Bytes.{bytes_follow, bytes_input, bytes_reading};
 ghost use Rattle.winnow.specs.Outcome.{outcome_of};
@@ -10,7 +10,7 @@ ghost use Rattle.examples.specs.Options.Options.{AreOptions, InBrackets, Options
 ghost use Rattle.examples.specs.Options.Options.{in_brackets_says, option_says, options_say};
 ghost use Rattle.winnow.specs.Exact.{Reads};
 ghost use Rattle.winnow.specs.Cut.{ReadsOrAsks};
-ghost use Rattle.winnow.specs.Once.{SeesApart};
+ghost use Rattle.winnow.specs.Once.{TokenEqInjective};
 ghost use Rattle.winnow.specs.Grammar.{Literally};
 
 use std::alloc::Allocator;
@@ -54,8 +54,8 @@ where
     E: ParserError<I>,
     A: Allocator + Copy,
     requires modal { E.form ≡ modal }
-    requires seen { SeesApart I.seen_as }
-    requires once { SeenOnce I.seen_as I.Token.code }
+    requires seen { TokenEqInjective I.seen_as }
+    requires once { CharIsFunction I.seen_as I.Token.code }
     requires comma { I.spells 44 [] → ⊥ }
     ensures reads { ReadsOrAsks I.reading I.following E.kind (OptionsOf I.reading I.seen_as
         I.Token.code (Literally I.reading I.spells (λ s _. s))) (I.view input.old) result

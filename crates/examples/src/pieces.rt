@@ -6,7 +6,7 @@
 ghost use Rattle.std.specs.Prelude.{◌≡◌, true};
 ghost use Rattle.winnow.specs.Form.{answer_by, modal};
 ghost use Rattle.examples.specs.Pieces.Pieces.{SameSettings};
-ghost use Rattle.winnow.specs.ForGood.{IsForGood};
+ghost use Rattle.winnow.specs.ForGood.{HasFinalResults};
 
 use winnow::Parser;
 use winnow::ascii::impls::{Alpha1, Digit1};
@@ -38,7 +38,7 @@ pub fn read_setting<'i>(
     input: &mut Partial<&'i [u8]>,
 ) -> Result<(&'i [u8], u8, &'i [u8]), ErrMode<EmptyError>>
     requires is_cut { (⟦<Bytes as Stream>⟧.view input.old).status.cut ≡ true }
-    ensures for_good { IsForGood ⟦<Bytes as Stream>⟧.following (tt, 61, tt)
+    ensures for_good { HasFinalResults ⟦<Bytes as Stream>⟧.following (tt, 61, tt)
         (⟦<(Alpha1, u8, Digit1) as Parser<Bytes, Setting, Error>>⟧.meaning modal) SameSettings
         (⟦<Bytes as Stream>⟧.view input.old) (answer_by ⟦<Error as HasKind>⟧.kind result)
         (⟦<Bytes as Stream>⟧.view input.new) }

@@ -4,7 +4,7 @@ ghost use Rattle.examples.specs.SettingsFile.Settings.{InKey, InValue, Settings}
 ghost use Rattle.examples.specs.SettingsFile.Read.{SettingsRead};
 ghost use Rattle.winnow.specs.Exact.Whole.{ReadsAll};
 ghost use Rattle.winnow.specs.Grammar.{Literally};
-ghost use Rattle.winnow.specs.Once.{SeesApart, holds_once};
+ghost use Rattle.winnow.specs.Once.{TokenEqInjective, holds_once};
 ghost use Rattle.winnow.specs.Told.{IsTextOf};
 
 use std::alloc::Allocator;
@@ -52,7 +52,7 @@ where
     E: ParserError<I>,
     A: Allocator + Copy,
     requires whole { I.supports_partial ≡ false }
-    requires seen { SeesApart I.seen_as }
+    requires seen { TokenEqInjective I.seen_as }
     ensures { ReadsAll E.inner_kind (SettingsRead I.reading I.seen_as
         (Literally I.reading I.spells (λ s _. s))) (I.view input).left.tokens result }
 {

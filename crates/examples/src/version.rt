@@ -4,7 +4,7 @@ ghost use Rattle.examples.specs.Version.Read.{VersionRead};
 ghost use Rattle.examples.specs.Version.Version.{InWord, Version};
 ghost use Rattle.winnow.specs.Exact.Whole.{ReadsAll};
 ghost use Rattle.winnow.specs.Grammar.{Literally};
-ghost use Rattle.winnow.specs.Once.{SeesApart, holds_once};
+ghost use Rattle.winnow.specs.Once.{TokenEqInjective, holds_once};
 ghost use Rattle.winnow.specs.Told.{IsTextOf};
 
 use std::alloc::Allocator;
@@ -42,7 +42,7 @@ where
     E: ParserError<I>,
     A: Allocator + Copy,
     requires whole { I.supports_partial ≡ false }
-    requires seen { SeesApart I.seen_as }
+    requires seen { TokenEqInjective I.seen_as }
     requires dot { I.spells 46 [] → ⊥ }
     ensures { ReadsAll E.inner_kind (VersionRead I.reading I.seen_as
         (Literally I.reading I.spells (λ s _. s))) (I.view input).left.tokens result }

@@ -8,7 +8,7 @@ use Rattle.format_http_chunked.specs.Room.{Spends}
 use Rattle.format_http_chunked.specs.Outputs.{OutputBeforeRest}
 use Rattle.format_http_chunked.specs.State.{decoder_of}
 use Rattle.format_http_chunked.specs.declared.decoder.Decoder.{Decoder}
-use Rattle.format_http_chunked.specs.declared.decoder.Fault.{Fault}
+use Rattle.format_http_chunked.specs.declared.decoder.ChunkError.{ChunkError}
 use Rattle.format_http_chunked.specs.declared.decoder.Step.{Step}
 use Rattle.format_http_chunked.specs.declared.places.Place.{Place}
 use Rattle.format_http_chunked.specs.declared.state.ChunkedState.{ChunkedState}
@@ -17,7 +17,7 @@ use Rattle.exported.specs.declared.http.chunked.ChunkedStep.{ChunkedStep}
 
 -- what a decoder says, of the states that are of it
 pub tells : (old new : ChunkedState) (before after : Decoder) (bytes rest : List ℕ)
-    (said : Result Step Fault) (code : ℕ) (out : ChunkedStep) → before ≡ decoder_of old
+    (said : Result Step ChunkError) (code : ℕ) (out : ChunkedStep) → before ≡ decoder_of old
     → decoder_of new ≡ after → length bytes ≡ out.taken + length rest
     → Writes bytes rest said code out → Spends before after bytes rest said
     → ((front given fields : List ℕ) → IsAt before.place front given fields
@@ -38,7 +38,7 @@ tells old new before after bytes rest said code out was is taken writes spends a
 
 -- ---- places
 
-pub taken_before : (bytes rest : List ℕ) (said : Result Step Fault)
+pub taken_before : (bytes rest : List ℕ) (said : Result Step ChunkError)
     → OutputBeforeRest bytes rest said
     → (before : List ℕ) × (bytes ≡ before ++ rest)
 taken_before bytes rest said (before, e) =

@@ -10,7 +10,7 @@ use Rattle.format_ini.specs.Documents.{BehindMark, IsDocument, IsRefused, ReadsL
 use Rattle.format_ini.specs.Lines.{Said, said_in}
 use Rattle.format_ini.specs.Places.{NextPlaced}
 use Rattle.format_ini.specs.declared.dialect.Dialect.{Dialect}
-use Rattle.format_ini.specs.declared.lines.Refusal.{Refusal}
+use Rattle.format_ini.specs.declared.lines.Reason.{Reason}
 use Rattle.format_ini.specs.declared.lines.State.{State}
 use Rattle.format_ini.specs.declared.places.Placed.{Placed}
 use Rattle.format_ini.specs.declared.places.Reading.{Reading}
@@ -94,7 +94,7 @@ more_by dialect bytes said from new (Ok None) out next (code, none) here =
     absurd (omega (arith, code))
 more_by dialect bytes said from new (Err stops.NoText) out next (code, none) here =
     absurd (omega (arith, code))
-more_by dialect bytes said from new (Err (stops.Refused reason)) out next (code, none) here =
+more_by dialect bytes said from new (Err (stops.Invalid reason)) out next (code, none) here =
     absurd (omega (arith, code))
 
 stands_more : (dialect : ℕ) (bytes : List ℕ) (said : List Said) (state next : IniState)
@@ -139,16 +139,16 @@ over_by dialect bytes said from new (Ok (Some it)) out next (code, none) here =
     absurd (omega (arith, code))
 over_by dialect bytes said from new (Err stops.NoText) out next (code, none) here =
     absurd (omega (arith, code))
-over_by dialect bytes said from new (Err (stops.Refused reason)) out next (code, none) here =
+over_by dialect bytes said from new (Err (stops.Invalid reason)) out next (code, none) here =
     absurd (omega (arith, code))
 
 refused_by : (dialect : ℕ) (bytes : List ℕ) (said : List Said) (from new : Reading)
     (answer : Result (Option Placed) Stop) (out : IniEntry)
     → NextPlaced (dialect_of dialect) bytes from answer new
     → Writes answer new.offset invalid out → SoFar dialect bytes said from
-    → (reason : Refusal) × (out.error ≡ fault_number reason)
+    → (reason : Reason) × (out.error ≡ fault_number reason)
     × IsRefused (dialect_of dialect) bytes (record { offset = out.error_offset; why = reason })
-refused_by dialect bytes said from new (Err (stops.Refused reason)) out
+refused_by dialect bytes said from new (Err (stops.Invalid reason)) out
     ((least, passes), less, stop) (code, (kind, key, value, place, fault)) here =
     let (lines, mark, reads) = passed dialect bytes said from new here passes in (
       reason,
@@ -184,7 +184,7 @@ no_text_by dialect bytes said from new (Ok None) out next (code, none) here is =
     omega (arith, code)
 no_text_by dialect bytes said from new (Ok (Some it)) out next (code, none) here is =
     omega (arith, code)
-no_text_by dialect bytes said from new (Err (stops.Refused reason)) out next (code, none) here is =
+no_text_by dialect bytes said from new (Err (stops.Invalid reason)) out next (code, none) here is =
     omega (arith, code)
 
 module _ (dialect : ℕ) (bytes : List ℕ) (outs : List IniEntry) (said : List Said)
@@ -199,7 +199,7 @@ module _ (dialect : ℕ) (bytes : List ℕ) (outs : List IniEntry) (said : List 
       last.writes (here last.from last.begins)
 
   pub refuses : TellsEntry dialect state next bytes invalid out
-      → (reason : Refusal) × (out.error ≡ fault_number reason)
+      → (reason : Reason) × (out.error ≡ fault_number reason)
       × IsRefused (dialect_of dialect) bytes (record { offset = out.error_offset; why = reason })
   refuses last = refused_by dialect bytes said last.from (reading_at next) last.answer out
       last.next last.writes (here last.from last.begins)

@@ -4,7 +4,7 @@ use Rattle.std.specs.Prelude.{IfOk, OnOk}
 use Rattle.std.proofs.Common.{arith, refl, subst, sym}
 use Rattle.format_resp.specs.Extents.{IsOf, IsWanting, ReplyResult}
 use Rattle.format_resp.specs.declared.extent.Extent.{Extent}
-use Rattle.format_resp.specs.declared.extent.Refused.{Refused}
+use Rattle.format_resp.specs.declared.extent.Invalid.{Invalid}
 use Rattle.format_resp.proofs.Passing.{none_passed}
 use Rattle.exported.specs.Code.{done, incomplete, invalid}
 use Rattle.exported.specs.Extent.{CallsInTurn, TellsEnd, extent_of, nothing}
@@ -14,7 +14,7 @@ use Rattle.exported.proofs.Turns.{calls_from_nothing}
 
 -- ---- one call, from the specification of the extent
 
-module _ (old new : Extent) (bytes : List ℕ) (answer : Result (Option ℕ) Refused)
+module _ (old new : Extent) (bytes : List ℕ) (answer : Result (Option ℕ) Invalid)
     (told : IsOf old bytes → ReplyResult bytes answer)
     (kept : OnOk answer (IsOf old bytes → (more : List ℕ) → IsOf new (bytes ++ more)))
     (wants : IsOf old bytes → IfOk answer (IsWanting new bytes))
@@ -26,20 +26,20 @@ module _ (old new : Extent) (bytes : List ℕ) (answer : Result (Option ℕ) Ref
   it_is : (inside : Option ℕ) → answer ≡ Ok inside → (more : List ℕ)
       → IsOf (extent_of after) (bytes ++ more)
   it_is inside e more =
-      let P : Result (Option ℕ) Refused → Type 0 =
+      let P : Result (Option ℕ) Invalid → Type 0 =
       λ a. OnOk a (IsOf old bytes → (rest : List ℕ) → IsOf new (bytes ++ rest)) in
       let Q : Extent → Type 0 = λ x. IsOf x (bytes ++ more) in
       subst Q (sym is) (subst P e kept it_was more)
 
   it_tells : (inside : Option ℕ) → answer ≡ Ok inside → ReplyResult bytes (Ok inside)
   it_tells inside e =
-      let P : Result (Option ℕ) Refused → Type 0 = λ a. ReplyResult bytes a in
+      let P : Result (Option ℕ) Invalid → Type 0 = λ a. ReplyResult bytes a in
       subst P e (told it_was)
 
   it_wants : (inside : Option ℕ) → answer ≡ Ok inside
       → IsWanting (extent_of after) bytes inside
   it_wants inside e =
-      let P : Result (Option ℕ) Refused → Type 0 = λ a. IfOk a (IsWanting new bytes) in
+      let P : Result (Option ℕ) Invalid → Type 0 = λ a. IfOk a (IsWanting new bytes) in
       let Q : Extent → Type 0 = λ x. IsWanting x bytes inside in
       subst Q (sym is) (subst P e (wants it_was))
 
@@ -66,10 +66,10 @@ module _ (old new : Extent) (bytes : List ℕ) (answer : Result (Option ℕ) Ref
         kept = λ _. it_is inside e;
       }
 
-  pub tells_never : (why : Refused) (count : ℕ) → answer ≡ Err why
+  pub tells_never : (why : Invalid) (count : ℕ) → answer ≡ Err why
       → TellsEnd bytes invalid count after
   tells_never why count e =
-      let P : Result (Option ℕ) Refused → Type 0 = λ a. ReplyResult bytes a in
+      let P : Result (Option ℕ) Invalid → Type 0 = λ a. ReplyResult bytes a in
       record {
         ends = λ other. absurd (omega (arith, other));
         wants = λ other. absurd (omega (arith, other));

@@ -3,7 +3,7 @@ use Rattle.std.specs.Prelude.{◌≡◌, ◌++◌, ℕ, List, [], Option, None, 
 use Rattle.std.proofs.Common.{refl, subst, sym}
 use Rattle.format_http_places.specs.Extents.{HeadResult, IsOf}
 use Rattle.format_http_places.specs.declared.extent.HeadExtent.{HeadExtent}
-use Rattle.format_http_places.specs.declared.extent.Refused.{Refused}
+use Rattle.format_http_places.specs.declared.extent.Invalid.{Invalid}
 use Rattle.format_http_places.proofs.Extents.{of_none}
 use Rattle.exported.specs.Code.{done, incomplete, invalid}
 use Rattle.exported.specs.HttpExtent.{HeadCalls, TellsHead, head_extent_of, nothing}
@@ -11,7 +11,7 @@ use Rattle.exported.specs.Turns.{all_of}
 use Rattle.exported.specs.declared.http.extent.HttpHeadState.{HttpHeadState}
 use Rattle.exported.proofs.Turns.{calls_from_nothing}
 
-pub tells_head : (old new : HeadExtent) (bytes : List ℕ) (answer : Result (Option ℕ) Refused)
+pub tells_head : (old new : HeadExtent) (bytes : List ℕ) (answer : Result (Option ℕ) Invalid)
     (before after : HttpHeadState) (code out : ℕ)
     → (IsOf old bytes → HeadResult bytes answer)
     → (IsOf old bytes → (more : List ℕ) → IsOf new (bytes ++ more))
@@ -21,7 +21,7 @@ pub tells_head : (old new : HeadExtent) (bytes : List ℕ) (answer : Result (Opt
     → IsOf (head_extent_of before) bytes → TellsHead bytes code out after
 tells_head old new bytes answer before after code out told kept was is ends wants never here =
     let P : HeadExtent → Type 0 = λ e. IsOf e bytes in
-    let Q : Result (Option ℕ) Refused → Type 0 = λ a. HeadResult bytes a in
+    let Q : Result (Option ℕ) Invalid → Type 0 = λ a. HeadResult bytes a in
     let it : IsOf old bytes = subst P (sym was) here in
     record {
       ends = λ e. subst Q (ends e) (told it);

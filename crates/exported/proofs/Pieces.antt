@@ -10,7 +10,7 @@ use Rattle.winnow.specs.Input.{Input}
 use Rattle.winnow.specs.Kind.{Kind, memory}
 use Rattle.winnow.specs.Partial.{with_flag}
 use Rattle.winnow.specs.Cut.{Asks, ReadsOrAsks}
-use Rattle.winnow.specs.Grammar.{Grammar, NoneStands}
+use Rattle.winnow.specs.Grammar.{Grammar, NoMatch}
 use Rattle.exported.specs.Pieces.{MayFollow}
 
 follows : (bytes more : List ℕ) → MayFollow bytes more → Follows bytes_follow
@@ -38,7 +38,7 @@ module _ {O E : Type 0} {kind : E → Kind} (grammar : Grammar ℕ O) (bytes : L
   pub none_for_good : (e : E) → i ≡ with_flag (bytes_input bytes) true → (kind e ≡ memory → ⊥)
       → (IsSome (need_of_kind (kind e)) → ⊥)
       → ReadsOrAsks bytes_reading bytes_follow kind grammar i (Err e) j
-      → (more : List ℕ) → MayFollow bytes more → NoneStands grammar (bytes ++ more)
+      → (more : List ℕ) → MayFollow bytes more → NoMatch grammar (bytes ++ more)
   none_for_good e is not_memory asks_not r more f =
       let P : Input ℕ → Type 0 = λ x.
       ReadsOrAsks {O = O} bytes_reading bytes_follow kind grammar x (Err e) j in
@@ -58,7 +58,7 @@ module _ {O E : Type 0} {kind : E → Kind} (grammar : Grammar ℕ O) (bytes : L
 
   pub none_whole : (e : E) → i ≡ with_flag (bytes_input bytes) false → (kind e ≡ memory → ⊥)
       → ReadsOrAsks bytes_reading bytes_follow kind grammar i (Err e) j
-      → NoneStands grammar bytes
+      → NoMatch grammar bytes
   none_whole e is not_memory r =
       let P : Input ℕ → Type 0 = λ x.
       ReadsOrAsks {O = O} bytes_reading bytes_follow kind grammar x (Err e) j in

@@ -6,7 +6,7 @@ use Rattle.format_csv_records.specs.Refused.{IsRefused}
 use Rattle.format_csv_records.specs.declared.buffers.RecordSize.{RecordSize}
 use Rattle.format_csv_records.specs.declared.dialect.Dialect.{Dialect}
 use Rattle.format_csv_records.specs.declared.extent.RecordExtent.{RecordExtent}
-use Rattle.format_csv_records.specs.declared.read.RecordFault.{RecordFault}
+use Rattle.format_csv_records.specs.declared.read.InvalidRecord.{InvalidRecord}
 use Rattle.format_csv_records.proofs.Extents.{of_none}
 use Rattle.exported.specs.Code.{done, incomplete, invalid}
 use Rattle.exported.specs.CsvExtent.{RecordCalls, TellsRecord, nothing, record_extent_of}
@@ -17,17 +17,17 @@ use Rattle.exported.proofs.Records.{HasCounts, wanted}
 use Rattle.exported.proofs.Turns.{calls_from_nothing}
 
 module _ (d : Dialect) (old new : RecordExtent) (bytes : List ℕ)
-    (answer : Result (Option RecordSize) RecordFault) (before after : CsvRecordState) (code : ℕ)
+    (answer : Result (Option RecordSize) InvalidRecord) (before after : CsvRecordState) (code : ℕ)
     (out : Record) (told : IsOf d old bytes → RecordResult d bytes answer)
     (kept : IsOf d old bytes → (more : List ℕ) → IsOf d new (bytes ++ more))
     (was : old ≡ record_extent_of before) (is : record_extent_of after ≡ new)
     (ends : code ≡ done → (size : RecordSize) × (answer ≡ Ok (Some size)) × HasCounts out size)
     (wants : code ≡ incomplete → answer ≡ Ok None)
     (never : code ≡ invalid
-    → (fault : RecordFault) × (answer ≡ Err fault) × (out.error_offset ≡ fault.offset)) where
+    → (fault : InvalidRecord) × (answer ≡ Err fault) × (out.error_offset ≡ fault.offset)) where
   tells_of : IsOf d old bytes → TellsRecord d bytes code out after
   tells_of it =
-      let Q : Result (Option RecordSize) RecordFault → Type 0 = λ a. RecordResult d bytes a in
+      let Q : Result (Option RecordSize) InvalidRecord → Type 0 = λ a. RecordResult d bytes a in
       record {
         ends = λ e.
             let (size, at, counts) = ends e in

@@ -11,7 +11,7 @@ use Rattle.format_csv_records.specs.Early.{IsViablePrefix}
 use Rattle.format_csv_records.specs.Refused.{IsRefused}
 use Rattle.format_csv_records.specs.declared.buffers.RecordSize.{RecordSize}
 use Rattle.format_csv_records.specs.declared.dialect.Dialect.{Dialect}
-use Rattle.format_csv_records.specs.declared.read.RecordFault.{RecordFault}
+use Rattle.format_csv_records.specs.declared.read.InvalidRecord.{InvalidRecord}
 use Rattle.format_csv_records.proofs.Early.{none_goes_on, open_goes_on}
 use Rattle.format_csv_records.proofs.Early.{record_goes_on}
 use Rattle.format_csv_records.proofs.One.{refused_none}
@@ -105,7 +105,7 @@ module _ (d : Dialect) (line_feeds : ℕ) (same : d ≡ dialect_of line_feeds) (
         goes_on (subst P (sym none) (none_goes_on d)),
       )
 
-  pub refused_may : (fault : RecordFault) → IsRefused d input fault → length input ≤ fault.offset
+  pub refused_may : (fault : InvalidRecord) → IsRefused d input fault → length input ≤ fault.offset
       → NoneForGood (dialect_of line_feeds) input × IsViablePrefix (dialect_of line_feeds) input
   refused_may fault it far =
       let quote : d.quote ≡ 34 = ap (λ (x : Dialect). x.quote) same in (

@@ -1,4 +1,4 @@
--- Refused bytes begin with no head.
+-- Invalid bytes begin with no head.
 use Rattle.std.proofs.Common.{◌≡◌, ◌∙◌, ◌++◌, ◌∷◌, [], ℕ, List, ap, append_assoc, subst, sym}
 use Rattle.std.proofs.lemmas.List.{append-nil}
 use Rattle.format_http.specs.Heads.Head.{IsHead}

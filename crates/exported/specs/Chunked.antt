@@ -3,8 +3,8 @@ use Rattle.std.specs.Prelude.{◌≡◌, ◌+◌, ◌++◌, ℕ, List, [], ◌�
 use Rattle.format_http_chunked.specs.Decoded.{IsAnswer, IsAt, content_of, trailers_of}
 use Rattle.format_http_chunked.specs.Room.{Spends}
 use Rattle.format_http_chunked.specs.State.{decoder_of}
-use Rattle.format_http_chunked.specs.declared.decoder.Fault.{Fault}
-use Rattle.format_http_chunked.specs.declared.decoder.Fault.TheVariants as fault
+use Rattle.format_http_chunked.specs.declared.decoder.ChunkError.{ChunkError}
+use Rattle.format_http_chunked.specs.declared.decoder.ChunkError.TheVariants as fault
 use Rattle.format_http_chunked.specs.declared.decoder.Step.{Step}
 use Rattle.format_http_chunked.specs.declared.decoder.Step.TheVariants as step
 use Rattle.format_http_chunked.specs.declared.places.Framing.TheVariants as framing
@@ -22,7 +22,7 @@ abbrev pub trailers_kind : ℕ
 trailers_kind = 1
 
 -- the number of an error
-abbrev pub fault_number : Fault → ℕ
+abbrev pub fault_number : ChunkError → ℕ
 fault_number fault.Size = 0
 fault_number fault.SizeLine = 1
 fault_number fault.SizeTooLarge = 2
@@ -37,7 +37,7 @@ GivesNone out = (out.kind ≡ 0) × (out.span ≡ nowhere)
 
 -- `Writes bytes rest said code out`: `code` and `out` report the result `said` of the decoder,
 -- after which `rest` remains. The span of data or trailers ends directly before `rest`.
-abbrev pub Writes : List ℕ → List ℕ → Result Step Fault → ℕ → ChunkedStep → Type 0
+abbrev pub Writes : List ℕ → List ℕ → Result Step ChunkError → ℕ → ChunkedStep → Type 0
 Writes bytes rest (Ok (step.Data chunk)) code out =
     (code ≡ done) × (out.kind ≡ data_kind) × StandsAt bytes out.span chunk.now rest
     × (out.error ≡ 0)
@@ -54,7 +54,7 @@ Writes bytes rest (Err why) code out =
 -- after them.
 pub record TellsStep (old new : ChunkedState) (bytes : List ℕ) (code : ℕ) (out : ChunkedStep)
     : Type 0 where
-  pub said : Result Step Fault
+  pub said : Result Step ChunkError
   pub rest : List ℕ
   pub taken : length bytes ≡ out.taken + length rest
   pub writes : Writes bytes rest said code out

@@ -7,7 +7,7 @@ use Rattle.format_csv_records.specs.Refused.{IsRefused}
 use Rattle.format_csv_records.specs.declared.dialect.Dialect.{Dialect}
 use Rattle.format_csv_records.specs.declared.dialect.LineEnds.{LineEnds}
 use Rattle.format_csv_records.specs.declared.dialect.LineEnds.TheVariants.{CrLf, Lf}
-use Rattle.format_csv_records.specs.declared.read.Refusal.{Refusal}
+use Rattle.format_csv_records.specs.declared.read.Reason.{Reason}
 use Rattle.exported.specs.Span.{span_of}
 use Rattle.exported.specs.declared.csv.Record.{Record}
 use Rattle.exported.specs.declared.span.Span.{Span}
@@ -34,7 +34,7 @@ NoRecord d input = (fields : List (List ℕ)) (rest : List ℕ) → IsRecord d i
 -- continue a record.
 abbrev pub IsRefusedAt : Dialect → List ℕ → ℕ → Type 0
 IsRefusedAt d input place = ((input ≡ []) × (place ≡ 0))
-    ⊎ ((why : Refusal) × IsRefused d input (record { offset = place; why = why }))
+    ⊎ ((why : Reason) × IsRefused d input (record { offset = place; why = why }))
 
 -- The input begins with a record, which has that many fields, bytes of these, and bytes.
 pub record CountsRecord (begins : List ℕ → List (List ℕ) → List ℕ → Type 0) (input : List ℕ)

@@ -13,8 +13,8 @@ use Rattle.format_ini.specs.declared.dialect.Marks.TheVariants as marks
 use Rattle.format_ini.specs.declared.lines.Entry.{Entry}
 use Rattle.format_ini.specs.declared.lines.Entry.TheVariants as entries
 use Rattle.format_ini.specs.declared.lines.Places.{Places}
-use Rattle.format_ini.specs.declared.lines.Refusal.{Refusal}
-use Rattle.format_ini.specs.declared.lines.Refusal.TheVariants as why
+use Rattle.format_ini.specs.declared.lines.Reason.{Reason}
+use Rattle.format_ini.specs.declared.lines.Reason.TheVariants as why
 use Rattle.format_ini.specs.declared.places.Placed.{Placed}
 use Rattle.format_ini.specs.declared.places.Reading.{Reading}
 use Rattle.format_ini.specs.declared.places.Stop.{Stop}
@@ -90,7 +90,7 @@ zeros = record { offset = 0; section = 0; pair = 0; indent = 0 }
 -- ---- results
 
 -- the number of the reason why a line is invalid
-abbrev pub fault_number : Refusal → ℕ
+abbrev pub fault_number : Reason → ℕ
 fault_number why.OpenSection = 0
 fault_number why.EmptySection = 1
 fault_number why.TextBehindSection = 2
@@ -127,7 +127,7 @@ abbrev pub Writes : Result (Option Placed) Stop → ℕ → ℕ → IniEntry →
 Writes (Ok (Some it)) offset code out = (code ≡ done) × ShowsEntry it.entry it.at out
 Writes (Ok None) offset code out = (code ≡ end) × ShowsNone out 0 0
 Writes (Err stops.NoText) offset code out = (code ≡ invalid_utf8) × ShowsNone out offset 0
-Writes (Err (stops.Refused reason)) offset code out =
+Writes (Err (stops.Invalid reason)) offset code out =
     (code ≡ invalid) × ShowsNone out offset (fault_number reason)
 
 -- `TellsEntry dialect old new bytes code out`: a call returns the result of the parser of entries

@@ -9,15 +9,15 @@ use Rattle.format_toml.specs.Toml.{DocumentText}
 use Rattle.format_toml.specs.declared.expected.Expected.{Expected}
 use Rattle.format_toml.specs.declared.expected.Expected.TheVariants as lacks
 use Rattle.format_toml_document.specs.Fault.{IsDocument, IsErrorOf}
-use Rattle.format_toml_document.specs.declared.fault.Fault.{Fault}
-use Rattle.format_toml_document.specs.declared.fault.Fault.TheVariants as faults
+use Rattle.format_toml_document.specs.declared.fault.TomlError.{TomlError}
+use Rattle.format_toml_document.specs.declared.fault.TomlError.TheVariants as faults
 use Rattle.format_toml_nodes.specs.Laying.{IsSizeOf}
 use Rattle.format_toml_nodes.specs.Nodes.{AreNodesOf}
 use Rattle.format_toml_nodes.specs.declared.node.TomlNode.{TomlNode}
 use Rattle.format_toml_tree.specs.Holds.{HoldsTree}
 use Rattle.format_toml_tree.specs.Runs.{Gives, Tree as Given, empty}
-use Rattle.format_toml_tree.specs.declared.roles.Refusal.{Refusal}
-use Rattle.format_toml_tree.specs.declared.roles.Refusal.TheVariants as refusals
+use Rattle.format_toml_tree.specs.declared.roles.Reason.{Reason}
+use Rattle.format_toml_tree.specs.declared.roles.Reason.TheVariants as refusals
 use Rattle.format_toml_tree.specs.declared.tree.Tree.{Tree}
 use Rattle.format_toml_tree.specs.declared.value.Item.{Item}
 
@@ -33,35 +33,35 @@ lack_of lacks.ClosingBracket = 5
 lack_of lacks.LineEnd = 6
 
 -- the number of the reason why a line is invalid
-abbrev pub refusal_of : Refusal → ℕ
+abbrev pub refusal_of : Reason → ℕ
 refusal_of refusals.Defined = 7
 refusal_of refusals.NoTable = 8
 refusal_of refusals.Closed = 9
 refusal_of refusals.NoTables = 10
 
-abbrev pub fault_of : Fault → ℕ
+abbrev pub fault_of : TomlError → ℕ
 fault_of (faults.Unexpected at expected) = lack_of expected
-fault_of (faults.Refused at why) = refusal_of why
+fault_of (faults.Invalid at why) = refusal_of why
 fault_of (faults.NotUtf8 at) = 0
 fault_of faults.OutOfMemory = 0
 
-abbrev pub place_of : Fault → ℕ
+abbrev pub place_of : TomlError → ℕ
 place_of (faults.Unexpected at expected) = at.offset
-place_of (faults.Refused at why) = at.offset
+place_of (faults.Invalid at why) = at.offset
 place_of (faults.NotUtf8 at) = at.offset
 place_of faults.OutOfMemory = 0
 
 -- the code that reports an error
-abbrev pub code_of : Fault → ℕ
+abbrev pub code_of : TomlError → ℕ
 code_of (faults.Unexpected at expected) = invalid
-code_of (faults.Refused at why) = invalid
+code_of (faults.Invalid at why) = invalid
 code_of (faults.NotUtf8 at) = invalid_utf8
 code_of faults.OutOfMemory = no_memory
 
 -- `IsFaultOf code level bytes out`: `out` has the offset and the number of an error of `bytes`, and
 -- `code` reports it.
 pub record IsFaultOf (code level : ℕ) (bytes : List ℕ) (out : TomlResult) : Type 0 where
-  pub fault : Fault
+  pub fault : TomlError
   pub is_code : code_of fault ≡ code
   pub tells : IsErrorOf Global level bytes fault
   pub place : out.error_offset ≡ place_of fault

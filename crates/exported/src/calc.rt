@@ -3,12 +3,12 @@
 ghost use Rattle.std.specs.Prelude.{◌≡◌, ◌⊎◌, pos};
 ghost use Rattle.std.specs.Str.{IsUtf8};
 ghost use Rattle.format_calculator.specs.Calculator.{IsFormulaFault, IsValue};
-ghost use Rattle.format_calculator.specs.declared.fault.Fault.TheVariants.{Refused};
+ghost use Rattle.format_calculator.specs.declared.fault.ReadError.TheVariants.{Invalid};
 ghost use Rattle.exported.specs.Code.{done, invalid, invalid_utf8, no_memory};
 
 use crate::code::{DONE, INVALID, INVALID_UTF8, NO_MEMORY};
 use format_calculator::calc;
-use format_calculator::fault::Fault;
+use format_calculator::fault::ReadError;
 use std::alloc::Global;
 
 /// The value of a formula, or the offset of an error.
@@ -30,7 +30,7 @@ const NONE: Number = Number {
 /// Parses `text`, and writes its value or the offset of the error.
 fn read(alloc: Global, text: &str, out: &mut Number) -> u32
     ensures value { result ≡ done → IsValue text.now out.new.value }
-    ensures refused { result ≡ invalid → IsFormulaFault text.now (Refused out.new.error_offset) }
+    ensures refused { result ≡ invalid → IsFormulaFault text.now (Invalid out.new.error_offset) }
     ensures none { (result ≡ done → ⊥) → out.new.value ≡ pos 0 }
     ensures nowhere { (result ≡ invalid → ⊥) → out.new.error_offset ≡ 0 }
     ensures codes { (result ≡ done) ⊎ ((result ≡ invalid) ⊎ (result ≡ no_memory)) }
@@ -43,14 +43,14 @@ fn read(alloc: Global, text: &str, out: &mut Number) -> u32
             };
             DONE
         }
-        Err(Fault::Refused(place)) => {
+        Err(ReadError::Invalid(place)) => {
             *out = Number {
                 value: 0,
                 error_offset: place,
             };
             INVALID
         }
-        Err(Fault::NoMemory) => {
+        Err(ReadError::NoMemory) => {
             *out = NONE;
             NO_MEMORY
         }
@@ -88,7 +88,7 @@ fn read(alloc: Global, text: &str, out: &mut Number) -> u32
 pub extern "C" fn exported_calc_value(alloc: Global, text: &[u8], out: &mut Number) -> u32
     ensures value { result ≡ done → IsUtf8 text.now × IsValue text.now out.new.value }
     ensures refused { result ≡ invalid
-        → IsUtf8 text.now × IsFormulaFault text.now (Refused out.new.error_offset) }
+        → IsUtf8 text.now × IsFormulaFault text.now (Invalid out.new.error_offset) }
     ensures none { (result ≡ done → ⊥) → out.new.value ≡ pos 0 }
     ensures nowhere { (result ≡ invalid → ⊥) → out.new.error_offset ≡ 0 }
     ensures text { result ≡ invalid_utf8 → IsUtf8 text.now → ⊥ }

@@ -126,7 +126,7 @@ pub extern "C" fn exported_http_head(bytes: &[u8], fields: &mut [Field], out: &m
             *out = none(0, bytes.len());
             INVALID
         }
-        Err(HeadError::Refused(place)) => {
+        Err(HeadError::Invalid(place)) => {
             *out = none(0, place);
             INVALID
         }
@@ -189,7 +189,7 @@ pub extern "C" fn exported_http_head_partial(
             *out = none(0, 0);
             INCOMPLETE
         }
-        Err(HeadError::Refused(place)) => {
+        Err(HeadError::Invalid(place)) => {
             *out = none(0, place);
             INVALID
         }

@@ -14,7 +14,7 @@ pub mod entries;
 use crate::code::{BUFFER_TOO_SMALL, DONE, INVALID, NO_MEMORY};
 use crate::ini::entries::{bytes_of, copy_entries, entries_of, place_entries};
 use crate::span::{NOWHERE, Span};
-use readers::fault::Fault;
+use readers::fault::ReadError;
 use readers::ini;
 use std::alloc::Global;
 
@@ -69,7 +69,7 @@ pub extern "C" fn exported_ini_pair(bytes: &[u8], out: &mut Pair) -> u32
             };
             DONE
         }
-        Err(Fault::Refused(place)) => {
+        Err(ReadError::Invalid(place)) => {
             *out = Pair {
                 key: NOWHERE,
                 value: NOWHERE,
@@ -77,7 +77,7 @@ pub extern "C" fn exported_ini_pair(bytes: &[u8], out: &mut Pair) -> u32
             };
             INVALID
         }
-        Err(Fault::NoMemory) => unreachable!(),
+        Err(ReadError::NoMemory) => unreachable!(),
     }
 }
 
@@ -201,10 +201,10 @@ pub extern "C" fn exported_ini_document(
             Some(found) => write_entries(&found, text, entries, out),
             None => NO_MEMORY,
         },
-        Err(Fault::Refused(place)) => {
+        Err(ReadError::Invalid(place)) => {
             out.error_offset = place;
             INVALID
         }
-        Err(Fault::NoMemory) => NO_MEMORY,
+        Err(ReadError::NoMemory) => NO_MEMORY,
     }
 }

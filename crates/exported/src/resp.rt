@@ -18,7 +18,7 @@ use crate::json::MAX_DEPTH;
 use crate::resp::extent::{extent_at, state_at};
 use crate::resp::places::reply_at;
 use crate::span::{MAX_PARTIAL, NOWHERE, Span};
-use format_resp::extent::Refused;
+use format_resp::extent::Invalid;
 use format_resp::read::read_reply;
 use format_resp::reply::Protocol;
 use std::alloc::Global;
@@ -265,6 +265,6 @@ pub extern "C" fn exported_resp_extent(
             DONE
         }
         Ok(None) => INCOMPLETE,
-        Err(Refused) => INVALID,
+        Err(Invalid) => INVALID,
     }
 }

@@ -10,7 +10,7 @@ ghost use Rattle.exported.specs.Toml.{place_of, refusal_of};
 
 use crate::code::{BUFFER_TOO_SMALL, DONE, INVALID, INVALID_UTF8, MAX_DEPTH_TOO_LARGE, NO_MEMORY};
 use crate::json::MAX_DEPTH;
-use format_toml_document::{Document, Expected, Fault, Refusal, Tree, from_bytes};
+use format_toml_document::{Document, Expected, Reason, TomlError, Tree, from_bytes};
 pub use format_toml_nodes::node::{
     Span, TOML_ARRAY, TOML_BOOLEAN, TOML_FLOAT, TOML_INTEGER, TOML_LOCAL_DATE,
     TOML_LOCAL_DATE_TIME, TOML_LOCAL_TIME, TOML_OFFSET_DATE_TIME, TOML_STRING, TOML_TABLE,
@@ -90,19 +90,19 @@ fn number_of_lack(expected: Expected) -> usize
 }
 
 /// Returns the number of an error.
-fn number_of_refusal(why: Refusal) -> usize
+fn number_of_refusal(why: Reason) -> usize
     ensures { result ≡ refusal_of why }
 {
     match why {
-        Refusal::Defined => TOML_ERROR_DEFINED,
-        Refusal::NoTable => TOML_ERROR_NOT_A_TABLE,
-        Refusal::Closed => TOML_ERROR_CLOSED,
-        Refusal::NoTables => TOML_ERROR_NOT_AN_ARRAY_OF_TABLES,
+        Reason::Defined => TOML_ERROR_DEFINED,
+        Reason::NoTable => TOML_ERROR_NOT_A_TABLE,
+        Reason::Closed => TOML_ERROR_CLOSED,
+        Reason::NoTables => TOML_ERROR_NOT_AN_ARRAY_OF_TABLES,
     }
 }
 
 /// Writes an error and its offset.
-fn write_fault(fault: Fault, out: &mut TomlResult) -> u32
+fn write_fault(fault: TomlError, out: &mut TomlResult) -> u32
     ensures code { result ≡ code_of fault }
     ensures place { out.new.error_offset ≡ place_of fault }
     ensures fault { out.new.error ≡ fault_of fault }
@@ -111,10 +111,10 @@ fn write_fault(fault: Fault, out: &mut TomlResult) -> u32
     ensures sizes { (out.new.nodes ≡ 0) × (out.new.text ≡ 0) }
 {
     let (place, number, code) = match fault {
-        Fault::Unexpected { at, expected } => (at.offset, number_of_lack(expected), INVALID),
-        Fault::Refused { at, why } => (at.offset, number_of_refusal(why), INVALID),
-        Fault::NotUtf8 { at } => (at.offset, TOML_ERROR_NONE, INVALID_UTF8),
-        Fault::OutOfMemory => (0, TOML_ERROR_NONE, NO_MEMORY),
+        TomlError::Unexpected { at, expected } => (at.offset, number_of_lack(expected), INVALID),
+        TomlError::Invalid { at, why } => (at.offset, number_of_refusal(why), INVALID),
+        TomlError::NotUtf8 { at } => (at.offset, TOML_ERROR_NONE, INVALID_UTF8),
+        TomlError::OutOfMemory => (0, TOML_ERROR_NONE, NO_MEMORY),
     };
     *out = TomlResult {
         error_offset: place,

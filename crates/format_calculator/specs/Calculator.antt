@@ -11,8 +11,8 @@ use Rattle.winnow.specs.Kind.{backtrack}
 use Rattle.std.specs.Str.{chars}
 use Rattle.winnow.specs.Stream.{IsBoundary}
 use Rattle.winnow.specs.Text.{width}
-use Rattle.format_calculator.specs.declared.fault.Fault.{Fault}
-use Rattle.format_calculator.specs.declared.fault.Fault.TheVariants.{NoMemory, Refused}
+use Rattle.format_calculator.specs.declared.fault.ReadError.{ReadError}
+use Rattle.format_calculator.specs.declared.fault.ReadError.TheVariants.{NoMemory, Invalid}
 use Rattle.format_calculator.specs.declared.calc.operators.Mark.{Mark}
 use Rattle.format_calculator.specs.declared.calc.operators.Mark.TheVariants.{Factorial}
 use Rattle.format_calculator.specs.declared.calc.operators.Pair.{Pair}
@@ -174,7 +174,7 @@ IsValue text v = HasFormula text v × ((w : ℤ) → HasFormula text w → w ≡
 
 -- `IsFormulaFault text fault`: either `text` is not a formula that has a value, and the offset in
 -- bytes is a character boundary of it, or memory allocation failed.
-abbrev pub IsFormulaFault : List ℕ → Fault → Type 0
-IsFormulaFault text (Refused n) =
+abbrev pub IsFormulaFault : List ℕ → ReadError → Type 0
+IsFormulaFault text (Invalid n) =
     ((v : ℤ) → HasFormula text v → ⊥) × IsBoundary width (chars text) n
 IsFormulaFault text NoMemory = Unit {0}

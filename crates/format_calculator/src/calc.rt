@@ -18,12 +18,12 @@ mod parts;
 use crate::calc::items::white;
 use crate::calc::operators::{Mark, Pair, Sign};
 use crate::calc::parts::{BeforeIt, BehindIt, BetweenThem, Number};
-use crate::fault::Fault;
+use crate::fault::ReadError;
 use std::alloc::Allocator;
 use winnow::Parser;
 use winnow::combinator::expression;
 use winnow::error::{EmptyError, HasKind, ParserError};
-use winnow::laws::{Likeness, expression_reads_the_one_tree};
+use winnow::laws::{Likeness, expression_is_unambiguous};
 use winnow::stream::Stream;
 
 /// Equality of numbers.
@@ -40,7 +40,7 @@ fn formula<'i, A: Allocator + Copy>(alloc: A, input: &mut &'i str) -> Result<i64
         (answer_by ⟦<EmptyError as HasKind>⟧.kind result) (text_input input.new.now) }
     ensures ends { IsEndOf text_reading (text_input input.new.now) (text_input input.old.now) }
 {
-    expression_reads_the_one_tree::<
+    expression_is_unambiguous::<
         &'i str,
         i64,
         Number,
@@ -82,12 +82,12 @@ fn formula<'i, A: Allocator + Copy>(alloc: A, input: &mut &'i str) -> Result<i64
 ///
 /// ```
 /// use format_calculator::calc;
-/// use format_calculator::fault::Fault;
+/// use format_calculator::fault::ReadError;
 ///
 /// assert_eq!(rt; calc::value(alloc, " 2 + 3 * 4 "), Ok(14));
-/// assert_eq!(rt; calc::value(alloc, "1/0"), Err(Fault::Refused(3)));
+/// assert_eq!(rt; calc::value(alloc, "1/0"), Err(ReadError::Invalid(3)));
 /// ```
-pub fn value<A: Allocator + Copy>(alloc: A, text: &str) -> Result<i64, Fault>
+pub fn value<A: Allocator + Copy>(alloc: A, text: &str) -> Result<i64, ReadError>
     ensures ok { IfOk result (λ v. IsValue text.now v) }
     ensures refused { IfErr result (λ f. IsFormulaFault text.now f) }
 {
@@ -99,14 +99,14 @@ pub fn value<A: Allocator + Copy>(alloc: A, text: &str) -> Result<i64, Fault>
             if left == 0 {
                 Ok(value)
             } else {
-                Err(Fault::Refused(text.eof_offset().saturating_sub(left)))
+                Err(ReadError::Invalid(text.eof_offset().saturating_sub(left)))
             }
         }
         Err(error) => {
             if ParserError::<&str>::is_memory(&error) {
-                Err(Fault::NoMemory)
+                Err(ReadError::NoMemory)
             } else {
-                Err(Fault::Refused(text.eof_offset().saturating_sub(input.eof_offset())))
+                Err(ReadError::Invalid(text.eof_offset().saturating_sub(input.eof_offset())))
             }
         }
     }

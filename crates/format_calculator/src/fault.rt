@@ -4,14 +4,14 @@
 ///
 /// ```
 /// use format_calculator::calc;
-/// use format_calculator::fault::Fault;
+/// use format_calculator::fault::ReadError;
 ///
-/// assert_eq!(rt; calc::value(alloc, "1/0"), Err(Fault::Refused(3)));
+/// assert_eq!(rt; calc::value(alloc, "1/0"), Err(ReadError::Invalid(3)));
 /// ```
 #[derive(Clone, Copy, Debug, PartialEq)]
-pub enum Fault {
+pub enum ReadError {
     /// The input is invalid at this offset, in bytes from its start.
-    Refused(usize),
+    Invalid(usize),
     /// Memory allocation failed.
     NoMemory,
 }

@@ -10,7 +10,7 @@ use Rattle.std.proofs.lemmas.List.Elements.{All-nil}
 use Rattle.format_csv_records.specs.Dialects.{IsRecord}
 use Rattle.format_csv_records.specs.Refused.{IsRefused, ReadsRecord}
 use Rattle.format_csv_records.specs.declared.dialect.Dialect.{Dialect}
-use Rattle.format_csv_records.specs.declared.read.RecordFault.{RecordFault}
+use Rattle.format_csv_records.specs.declared.read.InvalidRecord.{InvalidRecord}
 use Rattle.format_csv_records.proofs.Early.{never_goes_on, none_goes_on, open_goes_on}
 use Rattle.format_csv_records.proofs.Early.{record_goes_on}
 use Rattle.format_csv.specs.Csv as csv
@@ -37,7 +37,7 @@ read_goes_on d ends same bytes false fields rest (e, behind, none) =
 
 -- an error before the end of the bytes is final
 pub refused_told : (d : Dialect) (ends : LineEnd) → d ≡ commas ends → (bytes : List ℕ)
-    (fault : RecordFault) → IsRefused d bytes fault
+    (fault : InvalidRecord) → IsRefused d bytes fault
     → MatchBool (leb (length bytes) fault.offset) (MayGoOn ends bytes) (NeverGoesOn ends bytes)
 refused_told d ends same bytes fault it =
     let P : Dialect → Type 0 = λ x. IsRefused x bytes fault in

@@ -15,11 +15,11 @@ use Rattle.format_csv.specs.Table.{TableTold, table_told}
 use Rattle.format_csv.specs.declared.LineEnd.{LineEnd}
 use Rattle.format_csv.specs.declared.table.Ragged.{Ragged}
 use Rattle.format_csv.specs.declared.table.Table.{Table}
-use Rattle.format_csv.specs.declared.table.TableFault.{TableFault}
-use Rattle.format_csv.specs.declared.table.TableFault.TheVariants.{Document, Empty, Width}
+use Rattle.format_csv.specs.declared.table.TableError.{TableError}
+use Rattle.format_csv.specs.declared.table.TableError.TheVariants.{Document, Empty, Width}
 use Rattle.winnow.specs.Exact.Whole.{IsWant, ReadsAll}
 use Rattle.winnow.specs.Grammar.{Each}
-use Rattle.winnow.specs.Grammar.Known.{Listed}
+use Rattle.winnow.specs.Grammar.Inversion.{Listed}
 
 -- The same numbers.
 abbrev pub SameNumbers : Ragged → Ragged → Type 0
@@ -60,7 +60,7 @@ module _ {A : Type 0} where
   -- `Answers inner_kind table result`: `result` is a table with the same fields as `table`, or out
   -- of memory.
   abbrev pub Answers : {I X : Type 0} → (X → Kind) → Table A
-      → Result (Table A) (TableFault (ParseFault I X Needed)) → Type 0
+      → Result (Table A) (TableError (ParseFault I X Needed)) → Type 0
   Answers inner_kind table (Ok other) =
       AllZip SameFields (table.header ∷ table.records.items) (other.header ∷ other.records.items)
   Answers inner_kind table (Err (Document fault)) = IsWant inner_kind fault
@@ -69,7 +69,7 @@ module _ {A : Type 0} where
 
   pub table_answered : {I X : Type 0} (inner_kind : X → Kind) (ends : LineEnd) (bytes : List ℕ)
       (table : Table A) (document : Vec (Vec (Vec ℕ A) A) A)
-      (result : Result (Table A) (TableFault (ParseFault I X Needed)))
+      (result : Result (Table A) (TableError (ParseFault I X Needed)))
       → AreRecords ends bytes document [] → IsHeaded document.items table
       → TableTold inner_kind ends bytes result → Answers inner_kind table result
   unfolding Listed
@@ -130,7 +130,7 @@ module _ {A : Type 0} where
 
   -- `AnswersRagged inner_kind ragged result`: `result` reports `ragged`, or out of memory.
   abbrev pub AnswersRagged : {I X : Type 0} → (X → Kind) → Ragged
-      → Result (Table A) (TableFault (ParseFault I X Needed)) → Type 0
+      → Result (Table A) (TableError (ParseFault I X Needed)) → Type 0
   AnswersRagged inner_kind ragged (Ok table) = ⊥
   AnswersRagged inner_kind ragged (Err (Document fault)) = IsWant inner_kind fault
   AnswersRagged inner_kind ragged (Err Empty) = ⊥
@@ -144,7 +144,7 @@ module _ {A : Type 0} where
 
   pub ragged_answered : {I X : Type 0} (inner_kind : X → Kind) (ends : LineEnd) (bytes : List ℕ)
       (ragged : Ragged) (document : Vec (Vec (Vec ℕ A) A) A)
-      (result : Result (Table A) (TableFault (ParseFault I X Needed)))
+      (result : Result (Table A) (TableError (ParseFault I X Needed)))
       → AreRecords ends bytes document [] → IsRagged document.items ragged
       → TableTold inner_kind ends bytes result → AnswersRagged inner_kind ragged result
   unfolding Listed
@@ -164,7 +164,7 @@ module _ {A : Type 0} where
   -- `IsAnswered inner_kind ends bytes result`: if `bytes` is a document, `result` is its table or
   -- its first ragged record, or out of memory.
   abbrev pub IsAnswered : {I X : Type 0} → (X → Kind) → LineEnd → List ℕ
-      → Result (Table A) (TableFault (ParseFault I X Needed)) → Type 0
+      → Result (Table A) (TableError (ParseFault I X Needed)) → Type 0
   IsAnswered inner_kind ends bytes result =
       ((document : Vec (Vec (Vec ℕ A) A) A) → AreRecords ends bytes document []
       → ((table : Table A) → IsHeaded document.items table → Answers inner_kind table result)
@@ -172,7 +172,7 @@ module _ {A : Type 0} where
       → AnswersRagged inner_kind ragged result))
 
   pub told_answers : {I X : Type 0} (inner_kind : X → Kind) (ends : LineEnd) (bytes : List ℕ)
-      (result : Result (Table A) (TableFault (ParseFault I X Needed)))
+      (result : Result (Table A) (TableError (ParseFault I X Needed)))
       → TableTold inner_kind ends bytes result → IsAnswered inner_kind ends bytes result
   told_answers kind ends bytes result told document are = (
     λ table is. table_answered kind ends bytes table document result are is told,
@@ -181,7 +181,7 @@ module _ {A : Type 0} where
 
   pub table_answers : {I X : Type 0} {inner_kind : X → Kind} {bytes : List ℕ}
       {document : Vec (Vec (Vec ℕ A) A) A} (ends : LineEnd)
-      (result : Result (Table A) (TableFault (ParseFault I X Needed)))
+      (result : Result (Table A) (TableError (ParseFault I X Needed)))
       → ReadsAll {I = I} inner_kind (AreRecords ends) bytes (Ok document)
       → HeadTold document.items result → IsAnswered inner_kind ends bytes result
   table_answers {inner_kind = inner_kind} {bytes = bytes} ends result r told =

@@ -5,7 +5,7 @@ use Rattle.std.specs.declared.vec.Vec.{Vec}
 use Rattle.format_csv.specs.declared.LineEnd.{LineEnd}
 use Rattle.format_csv.specs.declared.LineEnd.TheVariants.{CrLf, Lf}
 use Rattle.winnow.specs.Grammar.{Grammar}
-use Rattle.winnow.specs.Grammar.Known.{Listed}
+use Rattle.winnow.specs.Grammar.Inversion.{Listed}
 use Rattle.winnow.specs.Texts.{AtLeast, BothText, EachText, EitherText, InList, Itself, PartedText}
 use Rattle.winnow.specs.Texts.{Text, TokenOfText}
 

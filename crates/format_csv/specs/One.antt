@@ -15,8 +15,8 @@ use Rattle.format_csv.specs.Read.{in_quotes_unique}
 use Rattle.format_csv.specs.Read.{list_unique, plain_byte, plain_byte_unique, record_unique}
 use Rattle.format_csv.specs.declared.LineEnd.{LineEnd}
 use Rattle.winnow.specs.Grammar.{Each}
-use Rattle.winnow.specs.Grammar.Known.{Listed, byte_unique}
-use Rattle.winnow.specs.Texts.{EachText, InList, Itself, MayBegin, Spelled, Text, TokenOfText}
+use Rattle.winnow.specs.Grammar.Inversion.{Listed, byte_unique}
+use Rattle.winnow.specs.Texts.{EachText, InList, Itself, MayStartWith, Spelled, Text, TokenOfText}
 use Rattle.winnow.specs.Back.{IsUnambiguous, among_one, in_list_one, joined_one}
 use Rattle.winnow.specs.Back.{never_both, one_weaker, row_one, split_one, spelled_one}
 use Rattle.winnow.specs.Back.{then_one}
@@ -85,7 +85,7 @@ module _ {A : Type 0} (ends : LineEnd) where
   -- the rest after the text of a record
   behind_text : (bytes : List ℕ) (list : Vec (Vec ℕ A) A) (rest : List ℕ)
       → IsRecord ends bytes list rest → (text : List ℕ) × (behind : List ℕ)
-      × RecordText list text × (bytes ≡ text ++ behind) × MayBegin IsBreak behind
+      × RecordText list text × (bytes ≡ text ++ behind) × MayStartWith IsBreak behind
   unfolding IsRecord
   behind_text bytes list rest (some, text, t, inl e) =
       (text, line_end ends ++ rest, t, e, breaks ends rest)

@@ -16,7 +16,7 @@ use Rattle.format_csv.specs.Read.{FieldsRead, breaks, fields, some_end}
 use Rattle.format_csv.specs.declared.LineEnd.{LineEnd}
 use Rattle.winnow.specs.Exact.{Reads}
 use Rattle.winnow.specs.Cut.{ReadsOrAsks}
-use Rattle.winnow.specs.Grammar.{Both, Grammar, Literally, NoneStands}
+use Rattle.winnow.specs.Grammar.{Both, Grammar, Literally, NoMatch}
 
 -- `IsLine ends bytes list rest`: `bytes` starts with the record `list` and a line ending, followed
 -- by `rest`.
@@ -76,10 +76,10 @@ module _ {A : Type 0} (ends : LineEnd) where
       → end.now ≡ line_end ends → i.status.cut ≡ false
       → Reads counted_reading kind g i result j → g ≡ LineRead end
       → IfErr result (λ e. (kind e ≡ memory)
-      ⊎ ((kind e ≡ backtrack) × NoneStands (IsLine {A = A} ends) i.left.tokens))
+      ⊎ ((kind e ≡ backtrack) × NoMatch (IsLine {A = A} ends) i.left.tokens))
   line_fails {result = Ok list} end is whole r e = tt
   line_fails {g = g} {i = i} {result = Err error} end is whole r e =
-      let P : Grammar ℕ (Vec (Vec ℕ A) A) → Type 0 = λ h. NoneStands h i.left.tokens in
+      let P : Grammar ℕ (Vec (Vec ℕ A) A) → Type 0 = λ h. NoMatch h i.left.tokens in
       elim (r.none whole) [
         | inl wants ↦ inl wants
         | inr (backs, none) ↦ inr (

@@ -11,7 +11,7 @@ use Rattle.winnow.specs.Kind.{Kind}
 use Rattle.winnow.specs.{Needed}
 use Rattle.winnow.specs.{ParseFault}
 use Rattle.winnow.specs.Range.{from_to}
-use Rattle.winnow.specs.Sets.{EitherTells}
+use Rattle.winnow.specs.Sets.{InEither}
 use Rattle.format_csv.specs.Csv.{AreRecords, FieldText, InQuotes, IsPlain, IsRecord}
 use Rattle.format_csv.specs.Csv.{QuotedText, RecordText, line_end}
 use Rattle.format_csv.specs.declared.LineEnd.{LineEnd}
@@ -19,18 +19,18 @@ use Rattle.format_csv.specs.declared.LineEnd.TheVariants.{CrLf, Lf}
 use Rattle.winnow.specs.Grammar.Same.{Same, unique_as}
 use Rattle.winnow.specs.Exact.Whole.{ReadsAll, reads_all_as}
 use Rattle.winnow.specs.Grammar.{Ahead, Both, Either, Gathered, Grammar, IsUnique, Literally}
-use Rattle.winnow.specs.Grammar.{Made, Many, NoTokens, NoneStands, Parted}
+use Rattle.winnow.specs.Grammar.{Made, Many, NoTokens, NoMatch, Parted}
 use Rattle.winnow.specs.Once.{Others}
 use Rattle.winnow.specs.Grammar.{TakesTokens, Three, Token, TokenOf}
-use Rattle.winnow.specs.Grammar.Known.{Byte, byte_stands, byte_unique}
-use Rattle.winnow.specs.Grammar.Known.{repeated_list, slice_for}
+use Rattle.winnow.specs.Grammar.Inversion.{Byte, byte_stands, byte_unique}
+use Rattle.winnow.specs.Grammar.Inversion.{repeated_list, slice_for}
 use Rattle.winnow.specs.Grammar.Sequences.{three_unique}
 use Rattle.winnow.specs.Grammar.Unique.{ahead_unique, both_unique}
 use Rattle.winnow.specs.Grammar.Unique.{either_unique, gathered_unique, literally_unique}
 use Rattle.winnow.specs.Grammar.Unique.{made_unique, many_unique}
 use Rattle.winnow.specs.Grammar.Unique.{parted_unique, token_of_unique}
 use Rattle.winnow.specs.Texts.{Anything, AtLeast, EachText, InFront, InList, IsGrammarOf, Itself}
-use Rattle.winnow.specs.Texts.{MayBegin, NotFirst, Spelled, TokenOfText}
+use Rattle.winnow.specs.Texts.{MayStartWith, NotFirst, Spelled, TokenOfText}
 use Rattle.winnow.specs.Texts.Fronts.{begins_wider, both_front, each_front, front_any, front_begins}
 use Rattle.winnow.specs.Texts.Fronts.{front_behind, in_list_front, may_begin_more, none_begins}
 use Rattle.winnow.specs.Texts.Fronts.{spelled_begins, token_of_begins}
@@ -68,7 +68,7 @@ in_quotes_unique = either_unique (both_unique (λ _ b. b) (byte_unique 34) (byte
 abbrev pub IsClosed : List ℕ → Type 0
 IsClosed bytes = (rest : List ℕ) × (bytes ≡ 34 ∷ rest) × NotFirst (λ b. b ≡ 34) rest
 
-none_in_quotes : (bytes : List ℕ) → IsClosed bytes → NoneStands InQuotesRead bytes
+none_in_quotes : (bytes : List ℕ) → IsClosed bytes → NoMatch InQuotesRead bytes
 unfolding Either Both TokenOf
 none_in_quotes bytes (rest, split, only) b more (inl (o1, o2, mid, x, y, e)) =
     let P : List ℕ → Type 0 = λ l. NotFirst (λ c. c ≡ 34) l in
@@ -106,8 +106,8 @@ module _ {A : Type 0} where
 
 -- what the set `(b'"', b',', b'\r', b'\n')` tells
 abbrev pub Special : ℕ × ℕ × ℕ × ℕ → ℕ → Bool → Type 0
-Special s = EitherTells (ByteResult s.0)
-    (EitherTells (ByteResult s.1) (EitherTells (ByteResult s.2) (ByteResult s.3)))
+Special s = InEither (ByteResult s.0)
+    (InEither (ByteResult s.1) (InEither (ByteResult s.2) (ByteResult s.3)))
 
 -- a carriage return or line feed; and these or a comma
 abbrev pub IsBreak : ℕ → Type 0
@@ -133,10 +133,10 @@ plain_byte = token_of (λ b. b) (Others Special) (34, 44, 13, 10)
 pub plain_byte_unique : IsUnique PlainByte
 plain_byte_unique = token_of_unique (λ b. b) (Others Special) (34, 44, 13, 10)
 
-pub comma_ends : InFront (Itself 44) Anything (MayBegin IsEnd)
+pub comma_ends : InFront (Itself 44) Anything (MayStartWith IsEnd)
 comma_ends = front_begins (λ b is. (λ e. omega (arith, is, e), inl is)) (spelled_begins 44 [] 44)
 
-not_quote : (rest : List ℕ) → MayBegin IsEnd rest → NotFirst (λ b. b ≡ 34) rest
+not_quote : (rest : List ℕ) → MayStartWith IsEnd rest → NotFirst (λ b. b ≡ 34) rest
 not_quote = may_begin_more IsEnd (λ b. b ≡ 34 → ⊥) (λ b end. end.0)
 
 end_not_plain : (b : ℕ) → IsEnd b → IsPlain b → ⊥
@@ -144,15 +144,15 @@ end_not_plain b (_, inl is) plain = plain.1.0 is
 end_not_plain b (_, inr (_, inl is)) plain = plain.1.1.0 is
 end_not_plain b (_, inr (_, inr (_, is))) plain = plain.1.1.1 is
 
-no_plain : (rest : List ℕ) → MayBegin IsEnd rest → NoneStands PlainByte rest
+no_plain : (rest : List ℕ) → MayStartWith IsEnd rest → NoMatch PlainByte rest
 no_plain rest end = none_begins plain_byte
     (begins_wider (λ b (k, e, plain). subst IsPlain e plain) (token_of_begins (λ b. b) IsPlain))
     rest
     (may_begin_more IsEnd (λ b. IsPlain b → ⊥) end_not_plain rest end)
 
-no_comma : (rest : List ℕ) → MayBegin IsBreak rest → NoneStands (Byte 44) rest
+no_comma : (rest : List ℕ) → MayStartWith IsBreak rest → NoMatch (Byte 44) rest
 no_comma rest end o more x =
-    let P : List ℕ → Type 0 = λ l. MayBegin IsBreak l in
+    let P : List ℕ → Type 0 = λ l. MayStartWith IsBreak l in
     elim (subst P (byte_stands 44 rest o more x).0 end) [
       | inl return ↦ absurd (omega (arith, return))
       | inr (_, feed) ↦ absurd (omega (arith, feed))
@@ -166,7 +166,7 @@ module _ {A : Type 0} where
   abbrev pub FieldRead : Grammar ℕ (Vec ℕ A)
   FieldRead = Either QuotedRead PlainRead
 
-  pub field : IsGrammarOf FieldRead FieldText (MayBegin IsEnd)
+  pub field : IsGrammarOf FieldRead FieldText (MayStartWith IsEnd)
   field = either_apart (behind_less not_quote quoted)
       (list_of (many_of plain_byte (from_to 0 None) 0 refl front_any (λ rest x. tt) no_plain))
       (both_front (λ _ o. o) (spelled_begins 34 [] 34) front_any)
@@ -183,7 +183,7 @@ module _ {A : Type 0} where
   abbrev pub FieldsRead : Grammar ℕ (Vec (Vec ℕ A) A)
   FieldsRead = Gathered Lists (Parted FieldRead (Byte 44) (from_to 1 None))
 
-  pub fields : IsGrammarOf FieldsRead RecordText (MayBegin IsBreak)
+  pub fields : IsGrammarOf FieldsRead RecordText (MayStartWith IsBreak)
   fields = list_of (parted_of field (byte_of 44)
       comma_ends front_any
       (from_to 1 None) 1 refl (may_begin_more IsBreak IsEnd break_ends) no_comma
@@ -195,7 +195,7 @@ module _ {A : Type 0} where
 
 -- ---- records
 
-pub breaks : (ends : LineEnd) (rest : List ℕ) → MayBegin IsBreak (line_end ends ++ rest)
+pub breaks : (ends : LineEnd) (rest : List ℕ) → MayStartWith IsBreak (line_end ends ++ rest)
 breaks CrLf rest = inl refl
 breaks Lf rest = inr (λ e. omega (arith, e), refl)
 
@@ -278,7 +278,7 @@ module _ {A : Type 0} (ends : LineEnd) where
 
   -- after the fields
   behind : (bytes text mid rest : List ℕ) (list : Vec (Vec ℕ A) A) → 0 < length bytes
-      → RecordText list text → bytes ≡ text ++ mid → MayBegin IsBreak mid
+      → RecordText list text → bytes ≡ text ++ mid → MayStartWith IsBreak mid
       → EndRead ends mid tt rest → RecordRead ends bytes list rest
   unfolding Both Ahead Token
   behind [] text mid rest list some t e may tail = absurd (omega (arith, some))

@@ -19,13 +19,13 @@ use Rattle.winnow.specs.Exact.{Reads}
 use Rattle.winnow.specs.Read.{reads_wanting}
 use Rattle.winnow.specs.Grammar.Same.{Same}
 use Rattle.winnow.specs.Grammar.{Both, Each, Either, Gathered, Grammar, Literally, Longest}
-use Rattle.winnow.specs.Grammar.{Many, NoneStands, TokenOf}
+use Rattle.winnow.specs.Grammar.{Many, NoMatch, TokenOf}
 use Rattle.winnow.specs.Once.{Others}
-use Rattle.winnow.specs.Grammar.Known.{byte_stands, slice_for}
+use Rattle.winnow.specs.Grammar.Inversion.{byte_stands, slice_for}
 use Rattle.winnow.specs.RunByRun as runs
 use Rattle.winnow.specs.RunByRun.{RunOf, each_behind, each_one, each_run, run_same}
 use Rattle.winnow.specs.RunByRun.{run_takes, run_wants}
-use Rattle.winnow.specs.Texts.{BothText, EitherText, MayBegin, Spelled, TokenOfText}
+use Rattle.winnow.specs.Texts.{BothText, EitherText, MayStartWith, Spelled, TokenOfText}
 use Rattle.winnow.specs.Texts.Fronts.{begins_wider, may_begin_more, none_begins, token_of_begins}
 use Rattle.winnow.specs.Texts.Tokens.{divides_either, divides_others, divides_seen}
 use Rattle.winnow.specs.Texts.Tokens.{divides_where}
@@ -111,7 +111,7 @@ special_not_plain b (inr (_, inl comma)) plain = plain.1.0 comma
 special_not_plain b (inr (_, inr (_, inl return))) plain = plain.1.1.0 return
 special_not_plain b (inr (_, inr (_, inr (_, feed)))) plain = plain.1.1.1 feed
 
-no_plain : (rest : List ℕ) → MayBegin IsSpecial rest → NoneStands PlainByte rest
+no_plain : (rest : List ℕ) → MayStartWith IsSpecial rest → NoMatch PlainByte rest
 no_plain rest special = none_begins plain_byte
     (begins_wider (λ b (k, e, plain). subst IsPlain e plain) (token_of_begins (λ b. b) IsPlain))
     rest
@@ -189,14 +189,14 @@ fewer_left start mid rest slice run two =
     run_takes counted_reading (λ b. b ≡ 34 → ⊥) (λ b. b ≡ 34) start mid rest slice run
     (omega (arith, ap (λ l. length l) two))
 
-none_more : (bytes : List ℕ) → MayBegin (λ b. b ≡ 34) bytes → NoneStands TwoQuotes bytes
-    → NoneStands InQuotesRead bytes
+none_more : (bytes : List ℕ) → MayStartWith (λ b. b ≡ 34) bytes → NoMatch TwoQuotes bytes
+    → NoMatch InQuotesRead bytes
 unfolding Either Both TokenOf
 none_more bytes ends none b more (inl (o1, o2, mid, x, y, e)) =
     none tt more ((byte_stands 34 bytes o1 mid x).0
     ∙ ap (λ l. 34 ∷ l) (byte_stands 34 mid o2 more y).0)
 none_more bytes ends none b more (inr (_, (told, e))) =
-    let P : List ℕ → Type 0 = λ l. MayBegin (λ b. b ≡ 34) l in
+    let P : List ℕ → Type 0 = λ l. MayStartWith (λ b. b ≡ 34) l in
     true_is_false (sym (told.1 (subst P e ends)))
 
 -- if a run is not followed by two quotes, it is the last

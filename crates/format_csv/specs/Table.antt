@@ -17,11 +17,11 @@ use Rattle.format_csv.specs.Csv.{AreRecords, IsRecord}
 use Rattle.format_csv.specs.declared.LineEnd.{LineEnd}
 use Rattle.format_csv.specs.declared.table.Ragged.{Ragged}
 use Rattle.format_csv.specs.declared.table.Table.{Table}
-use Rattle.format_csv.specs.declared.table.TableFault.{TableFault}
-use Rattle.format_csv.specs.declared.table.TableFault.TheVariants.{Document, Empty, Width}
+use Rattle.format_csv.specs.declared.table.TableError.{TableError}
+use Rattle.format_csv.specs.declared.table.TableError.TheVariants.{Document, Empty, Width}
 use Rattle.winnow.specs.Exact.Whole.{IsWant, ReadsAll}
 use Rattle.winnow.specs.Grammar.{Each}
-use Rattle.winnow.specs.Grammar.Known.{Listed}
+use Rattle.winnow.specs.Grammar.Inversion.{Listed}
 
 -- `IsFirst such those xs place`: the item of `xs` at index `place` satisfies `those`, and all items
 -- before it satisfy `such`.
@@ -62,7 +62,7 @@ IsHeaded all table = (all ≡ table.header ∷ table.records.items)
 -- or they are not a document; or they are empty; or they are a document in which `ragged` is the
 -- first record of another width.
 abbrev pub TableTold : {A I X : Type 0} → (X → Kind) → LineEnd → List ℕ
-    → Result (Table A) (TableFault (ParseFault I X Needed)) → Type 0
+    → Result (Table A) (TableError (ParseFault I X Needed)) → Type 0
 TableTold {A} inner_kind ends bytes (Ok table) = (document : Vec (Vec (Vec ℕ A) A) A)
     × AreRecords ends bytes document [] × IsHeaded document.items table
 TableTold {A} inner_kind ends bytes (Err (Document fault)) = IsWant inner_kind fault
@@ -93,7 +93,7 @@ FirstOdd width records None = All (HasWidth width) records
 FirstOdd width records (Some ragged) = IsFirstOdd width records ragged
 
 -- what the records of a document are
-abbrev pub HeadTold : {F A : Type 0} → List (Vec (Vec ℕ A) A) → Result (Table A) (TableFault F)
+abbrev pub HeadTold : {F A : Type 0} → List (Vec (Vec ℕ A) A) → Result (Table A) (TableError F)
     → Type 0
 HeadTold all (Ok table) = IsHeaded all table
 HeadTold all (Err (Document fault)) = ⊥
@@ -133,7 +133,7 @@ module _ {X : Type 0} (such : X → Type 0) (xs : List X) (place : ℕ) where
 -- what a document's records are, the document is
 pub table_told : {A I X : Type 0} {inner_kind : X → Kind} {bytes : List ℕ}
     {document : Vec (Vec (Vec ℕ A) A) A} (ends : LineEnd)
-    (result : Result (Table A) (TableFault (ParseFault I X Needed)))
+    (result : Result (Table A) (TableError (ParseFault I X Needed)))
     → ReadsAll {I = I} inner_kind (AreRecords ends) bytes (Ok document)
     → HeadTold document.items result → TableTold inner_kind ends bytes result
 unfolding Listed

@@ -2,7 +2,7 @@
 
 ghost use Rattle.std.specs.Prelude.{◌≡◌, ◌⊎◌, IfErr, IfOk, MatchBool};
 ghost use Rattle.winnow.specs.Bytes.{bytes_follow, bytes_input, bytes_reading};
-ghost use Rattle.winnow.specs.Grammar.{NoneStands};
+ghost use Rattle.winnow.specs.Grammar.{NoMatch};
 ghost use Rattle.winnow.specs.Input.{IsEndOf};
 ghost use Rattle.winnow.specs.Kind.{backtrack, memory};
 ghost use Rattle.format_csv.specs.Csv.{IsRecord};
@@ -32,7 +32,7 @@ fn read_line<'i, A: Allocator + Copy>(
     ensures line { IfOk result (λ fields. IsLine end input.old.now fields input.new.now) }
     ensures none { IfErr result (λ e. (⟦<ErrMode<EmptyError> as HasKind>⟧.kind e ≡ memory)
         ⊎ ((⟦<ErrMode<EmptyError> as HasKind>⟧.kind e ≡ backtrack)
-        × NoneStands (IsLine {A = A} end) input.old.now)) }
+        × NoMatch (IsLine {A = A} end) input.old.now)) }
 {
     let fields = Fields(alloc).by(|input: &mut &[u8]| read_fields(alloc, input));
     terminated(fields, literal(end.bytes())).read(input)
@@ -47,7 +47,7 @@ fn may_go_on<A: Allocator + Copy>(alloc: A, end: LineEnd, bytes: &[u8]) -> Resul
     let mut rest = bytes;
     match read_record_into(dialect_of(end), &mut fields, &mut rest) {
         Ok(_) => Ok(true),
-        Err(RecordError::Refused(fault)) => Ok(fault.offset >= bytes.len()),
+        Err(RecordError::Invalid(fault)) => Ok(fault.offset >= bytes.len()),
         Err(RecordError::OutOfMemory) => Err(AllocError),
     }
 }
@@ -86,7 +86,7 @@ pub fn read_record_in_pieces<'i, A: Allocator + Copy>(
         (IsRecord end) (⟦<Partial<&'static [u8]> as Stream>⟧.view input.old) result
         (⟦<Partial<&'static [u8]> as Stream>⟧.view input.new) }
     ensures asks { IfErr result (λ e. Asks (⟦<ErrMode<EmptyError> as HasKind>⟧.kind e)
-        → NoneStands (IsLine {A = A} end)
+        → NoMatch (IsLine {A = A} end)
         (⟦<Partial<&'static [u8]> as Stream>⟧.view input.old).left.tokens) }
     ensures goes_on { IfErr result (λ e. Asks (⟦<ErrMode<EmptyError> as HasKind>⟧.kind e)
         → MayGoOn end (⟦<Partial<&'static [u8]> as Stream>⟧.view input.old).left.tokens) }

@@ -52,17 +52,17 @@ pub struct Ragged {
 ///
 /// ```
 /// use format_csv::LineEnd;
-/// use format_csv::table::{TableFault, parse_table};
+/// use format_csv::table::{TableError, parse_table};
 ///
 /// match parse_table(alloc, LineEnd::Lf, b"a,b\nc,\"d\n".as_slice()) {
-///     Err(TableFault::Document(ParseFault::Refused(error))) => {
+///     Err(TableError::Document(ParseFault::Invalid(error))) => {
 ///         assert_eq!(rt; error.offset(), 4);
 ///     }
 ///     _ => assert!(rt; false),
 /// }
 /// ```
 #[derive(Debug, PartialEq, Drop)]
-pub enum TableFault<F> {
+pub enum TableError<F> {
     /// The bytes are not a document, with the offset where the records ended (which is tested and
     /// not proved); or memory allocation failed.
     Document(F),
@@ -87,17 +87,17 @@ fn first_odd<A: Allocator>(wants: usize, records: &[Record<A>]) -> Option<Ragged
 }
 
 /// The table that the records of a document are.
-fn table_of<F, A: Allocator>(records: Vec<Record<A>, A>) -> Result<Table<A>, TableFault<F>>
+fn table_of<F, A: Allocator>(records: Vec<Record<A>, A>) -> Result<Table<A>, TableError<F>>
     ensures { HeadTold records.items result }
 {
     let mut records = records;
     if records.is_empty() {
-        return Err(TableFault::Empty);
+        return Err(TableError::Empty);
     }
     let header = records.remove(0);
     match first_odd(header.len(), &records) {
         None => Ok(Table { header, records }),
-        Some(ragged) => Err(TableFault::Width(ragged)),
+        Some(ragged) => Err(TableError::Width(ragged)),
     }
 }
 
@@ -114,19 +114,19 @@ fn table_of<F, A: Allocator>(records: Vec<Record<A>, A>) -> Result<Table<A>, Tab
 ///
 /// ```
 /// use format_csv::LineEnd;
-/// use format_csv::table::{Ragged, TableFault, parse_table};
+/// use format_csv::table::{Ragged, TableError, parse_table};
 ///
 /// let ragged = parse_table(alloc, LineEnd::CrLf, b"a,b\r\n1,2\r\n3\r\n".as_slice());
 /// let second = Ragged { number: 2, has: 1, wants: 2 };
-/// assert!(rt; matches!(ragged, Err(TableFault::Width(it)) if it == second));
+/// assert!(rt; matches!(ragged, Err(TableError::Width(it)) if it == second));
 /// let none = parse_table(alloc, LineEnd::CrLf, b"".as_slice());
-/// assert!(rt; matches!(none, Err(TableFault::Empty)));
+/// assert!(rt; matches!(none, Err(TableError::Empty)));
 /// ```
 pub fn parse_table<'i, A: Allocator + Copy>(
     alloc: A,
     end: LineEnd,
     input: &'i [u8],
-) -> Result<Table<A>, TableFault<ParseFault<&'i [u8], EmptyError>>>
+) -> Result<Table<A>, TableError<ParseFault<&'i [u8], EmptyError>>>
     ensures told { TableTold ⟦<ErrMode<EmptyError> as ParserError<&'i [u8]>>⟧.inner_kind end
         input.now result }
     ensures answered { IsAnswered ⟦<ErrMode<EmptyError> as ParserError<&'i [u8]>>⟧.inner_kind end
@@ -134,7 +134,7 @@ pub fn parse_table<'i, A: Allocator + Copy>(
 {
     match parse_document(alloc, end, input) {
         Ok(records) => table_of(records),
-        Err(fault) => Err(TableFault::Document(fault)),
+        Err(fault) => Err(TableError::Document(fault)),
     }
 }
 

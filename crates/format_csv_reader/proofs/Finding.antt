@@ -10,7 +10,7 @@ use Rattle.format_csv_records.specs.Refused.{IsRefused}
 use Rattle.format_csv_records.specs.declared.buffers.RecordSize.{RecordSize}
 use Rattle.format_csv_records.specs.declared.dialect.Dialect.{Dialect}
 use Rattle.format_csv_records.specs.declared.extent.RecordExtent.{RecordExtent}
-use Rattle.format_csv_records.specs.declared.read.RecordFault.{RecordFault}
+use Rattle.format_csv_records.specs.declared.read.InvalidRecord.{InvalidRecord}
 use Rattle.format_csv_reader.specs.Finds.{IsFound, IsSmall, StartsForGood, WantsMore}
 use Rattle.format_csv_reader.specs.Held.{Grew}
 use Rattle.format_csv_reader.specs.declared.finds.Found.{Found}
@@ -55,7 +55,7 @@ is_enough d bytes IsOver found e it =
     let P : Found → Type 0 = λ f. IsFound d bytes IsOver f in
     subst P e it
 
-pub is_never : (d : Dialect) (bytes : List ℕ) (IsOver : Type 0) (found : Found) (at : RecordFault)
+pub is_never : (d : Dialect) (bytes : List ℕ) (IsOver : Type 0) (found : Found) (at : InvalidRecord)
     → found ≡ Never at → IsFound d bytes IsOver found
     → IsRefused d bytes at × IsPrefixOfNone d bytes
 is_never d bytes IsOver found at e it =

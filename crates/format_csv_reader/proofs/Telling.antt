@@ -12,19 +12,19 @@ use Rattle.format_csv_records.specs.Early.{IsPrefixOfNone}
 use Rattle.format_csv_records.specs.Refused.{IsRefused, ReadsRecord}
 use Rattle.format_csv_records.specs.declared.dialect.Dialect.{Dialect}
 use Rattle.format_csv_records.specs.declared.read.RecordError.{RecordError}
-use Rattle.format_csv_records.specs.declared.read.RecordFault.{RecordFault}
-use Rattle.format_csv_records.specs.declared.read.Refusal.{Refusal}
-use Rattle.format_csv_records.specs.declared.read.Refusal.TheVariants.{QuoteInField}
-use Rattle.format_csv_records.specs.declared.read.Refusal.TheVariants.{ByteBehindQuote}
-use Rattle.format_csv_records.specs.declared.read.Refusal.TheVariants.{OpenQuote, WrongLineEnd}
+use Rattle.format_csv_records.specs.declared.read.InvalidRecord.{InvalidRecord}
+use Rattle.format_csv_records.specs.declared.read.Reason.{Reason}
+use Rattle.format_csv_records.specs.declared.read.Reason.TheVariants.{QuoteInField}
+use Rattle.format_csv_records.specs.declared.read.Reason.TheVariants.{ByteBehindQuote}
+use Rattle.format_csv_records.specs.declared.read.Reason.TheVariants.{OpenQuote, WrongLineEnd}
 use Rattle.format_csv_reader.specs.Finds.{IsOfReader, IsSmall, StartsForGood, WantsMore}
 use Rattle.format_csv_reader.specs.Held.{Grew}
 use Rattle.format_csv_reader.specs.Results.{IsAnswer, IsFaultAt, IsOfAll, IsTaken, Reads}
 use Rattle.format_csv_reader.specs.Results.{ReadsOfAll, offset_after}
 use Rattle.format_csv_reader.specs.declared.error.ReadError.{ReadError}
 use Rattle.format_csv_reader.specs.declared.error.ReadError.TheVariants.{Failed, OutOfMemory}
-use Rattle.format_csv_reader.specs.declared.error.ReadError.TheVariants.{Refused}
-use Rattle.format_csv_reader.specs.declared.error.TableFault.{TableFault}
+use Rattle.format_csv_reader.specs.declared.error.ReadError.TheVariants.{Invalid}
+use Rattle.format_csv_reader.specs.declared.error.InvalidTable.{InvalidTable}
 
 -- ---- what is left after a record is the end of the bytes
 
@@ -99,7 +99,7 @@ longer : (bytes before back ys : List ℕ) → bytes ≡ before ++ back
 longer bytes before back ys e = ap (λ l. l ++ ys) e ∙ append_assoc before back ys
 
 -- by cases of the error, since it determines the byte at that offset
-refused_why : (d : Dialect) (bytes ys : List ℕ) (offset : ℕ) (why : Refusal)
+refused_why : (d : Dialect) (bytes ys : List ℕ) (offset : ℕ) (why : Reason)
     → IsRefused d bytes (record { offset = offset; why = why }) → IsPrefixOfNone d bytes
     → IsRefused d (bytes ++ ys) (record { offset = offset; why = why })
 refused_why d bytes ys offset QuoteInField (before, [], more, fs, e, size, on, lack, none) never =
@@ -150,7 +150,7 @@ refused_why d bytes ys offset OpenQuote
     (before, b ∷ bs, more, fs, e, size, on, (quote, over), none) never =
     absurd (none_first over)
 
-pub refused_on : (d : Dialect) (bytes ys : List ℕ) (at : RecordFault) → IsRefused d bytes at
+pub refused_on : (d : Dialect) (bytes ys : List ℕ) (at : InvalidRecord) → IsRefused d bytes at
     → IsPrefixOfNone d bytes → IsRefused d (bytes ++ ys) at
 refused_on d bytes ys at it never = refused_why d bytes ys at.offset at.why it never
 
@@ -183,11 +183,11 @@ answer_taken d bytes IsOver start (Ok false) fields rest (inl good) (none, l, f)
     absurd (omega (arith, is.0, ap (λ l. length l) none))
 answer_taken d bytes IsOver start (Ok false) fields rest (inr over) (none, l, f) =
     (none, l, f, over)
-answer_taken d bytes IsOver start (Err (Refused fault)) fields rest (inl good)
+answer_taken d bytes IsOver start (Err (Invalid fault)) fields rest (inl good)
     ((at, refusal, is), l, f) =
     let (fs, left, it) = some_for_good d bytes good in
     absurd (refused_none d bytes at fs left refusal it)
-answer_taken d bytes IsOver start (Err (Refused fault)) fields rest (inr over)
+answer_taken d bytes IsOver start (Err (Invalid fault)) fields rest (inr over)
     ((at, refusal, is), l, f) = ((at, refusal, is, inr over), l, f)
 answer_taken d bytes IsOver start (Err (Failed e)) fields rest either it = absurd it
 answer_taken d bytes IsOver start (Err OutOfMemory) fields rest either it = it
@@ -213,10 +213,10 @@ answer_all d bytes ys start (Ok true) fields rest (it, inr over) =
     over_all d bytes ys start (Ok true) fields rest over it
 answer_all d bytes ys start (Ok false) fields rest (none, left, f, over) =
     over_all d bytes ys start (Ok false) fields rest over (none, left, f)
-answer_all d bytes ys start (Err (Refused fault)) fields rest ((at, why, is, inl never), left, f) =
+answer_all d bytes ys start (Err (Invalid fault)) fields rest ((at, why, is, inl never), left, f) =
     ((at, refused_on d bytes ys at why never, is), ap (λ l. l ++ ys) left, f)
-answer_all d bytes ys start (Err (Refused fault)) fields rest ((at, why, is, inr over), left, f) =
-    over_all d bytes ys start (Err (Refused fault)) fields rest over ((at, why, is), left, f)
+answer_all d bytes ys start (Err (Invalid fault)) fields rest ((at, why, is, inr over), left, f) =
+    over_all d bytes ys start (Err (Invalid fault)) fields rest over ((at, why, is), left, f)
 answer_all d bytes ys start (Err (Failed e)) fields rest (wants, left, f) =
     (ap (λ l. l ++ ys) left, f)
 answer_all d bytes ys start (Err OutOfMemory) fields rest (left, f) =
@@ -264,12 +264,12 @@ module _ (d : Dialect) (old mid : List ℕ) (before after : Option (List ℕ)) (
           small = subst (λ l. IsSmall d size room l) grew.grew small;
         }
 
-    pub reads_never : (at : RecordFault) (fault : TableFault) → IsRefused d mid at
+    pub reads_never : (at : InvalidRecord) (fault : InvalidTable) → IsRefused d mid at
         → IsPrefixOfNone d mid → IsFaultAt start at fault → fields ≡ [] → start < 2 ^ 64
-        → Reads d old mid before after start start size room (Err (Refused fault)) fields
+        → Reads d old mid before after start start size room (Err (Invalid fault)) fields
     reads_never at fault refusal never is none few =
         let P : List ℕ → Type 0 =
-        λ l. IsAnswer d l (IsAtEnd after) start (Err (Refused fault)) fields mid in
+        λ l. IsAnswer d l (IsAtEnd after) start (Err (Invalid fault)) fields mid in
         record {
           read = grew.read;
           consumed = grew.consumed;
@@ -280,7 +280,7 @@ module _ (d : Dialect) (old mid : List ℕ) (before after : Option (List ℕ)) (
 
     failed : (error : ReadError) → IsOfReader error → WantsMore d mid → fields ≡ []
         → IsAnswer d mid (IsAtEnd after) start (Err error) fields mid
-    failed (Refused fault) none wants empty = absurd none
+    failed (Invalid fault) none wants empty = absurd none
     failed (Failed error) it wants empty = (wants, refl, empty)
     failed OutOfMemory it wants empty = (refl, empty)
 

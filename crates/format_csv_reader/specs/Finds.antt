@@ -6,13 +6,13 @@ use Rattle.format_csv_records.specs.Refused.{IsRefused}
 use Rattle.format_csv_records.specs.declared.dialect.Dialect.{Dialect}
 use Rattle.format_csv_reader.specs.declared.error.ReadError.{ReadError}
 use Rattle.format_csv_reader.specs.declared.error.ReadError.TheVariants.{Failed, OutOfMemory}
-use Rattle.format_csv_reader.specs.declared.error.ReadError.TheVariants.{Refused}
+use Rattle.format_csv_reader.specs.declared.error.ReadError.TheVariants.{Invalid}
 use Rattle.format_csv_reader.specs.declared.finds.Found.{Found}
 use Rattle.format_csv_reader.specs.declared.finds.Found.TheVariants.{Enough, Never}
 
 -- An error that does not depend on the bytes: the reader failed, or memory allocation failed.
 abbrev pub IsOfReader : ReadError → Type 0
-IsOfReader (Refused fault) = ⊥
+IsOfReader (Invalid fault) = ⊥
 IsOfReader (Failed error) = ⊤
 IsOfReader OutOfMemory = ⊤
 

@@ -8,12 +8,12 @@ use Rattle.format_csv_records.specs.Dialects.{IsRecord}
 use Rattle.format_csv_records.specs.Early.{IsPrefixOfNone}
 use Rattle.format_csv_records.specs.Refused.{IsRefused}
 use Rattle.format_csv_records.specs.declared.dialect.Dialect.{Dialect}
-use Rattle.format_csv_records.specs.declared.read.RecordFault.{RecordFault}
+use Rattle.format_csv_records.specs.declared.read.InvalidRecord.{InvalidRecord}
 use Rattle.format_csv_reader.specs.Finds.{IsSmall, WantsMore}
 use Rattle.format_csv_reader.specs.declared.error.ReadError.{ReadError}
 use Rattle.format_csv_reader.specs.declared.error.ReadError.TheVariants.{Failed, OutOfMemory}
-use Rattle.format_csv_reader.specs.declared.error.ReadError.TheVariants.{Refused}
-use Rattle.format_csv_reader.specs.declared.error.TableFault.{TableFault}
+use Rattle.format_csv_reader.specs.declared.error.ReadError.TheVariants.{Invalid}
+use Rattle.format_csv_reader.specs.declared.error.InvalidTable.{InvalidTable}
 
 -- An offset that stops at the greatest number of 64 bits.
 abbrev pub offset_after : ℕ → ℕ → ℕ
@@ -21,14 +21,14 @@ offset_after start count = min (start + count) (2 ^ 64 - 1)
 
 -- `IsFaultAt start at fault`: `fault` is the error `at` of a record that starts at offset `start`
 -- of the table.
-abbrev pub IsFaultAt : ℕ → RecordFault → TableFault → Type 0
+abbrev pub IsFaultAt : ℕ → InvalidRecord → InvalidTable → Type 0
 IsFaultAt start at fault = (fault.why ≡ at.why) × (fault.offset ≡ offset_after start at.offset)
 
 -- `IsRefusedAt d bytes start fault`: `bytes` starts at offset `start` of the table, and `fault` is
 -- the first error there.
-abbrev pub IsRefusedAt : Dialect → List ℕ → ℕ → TableFault → Type 0
+abbrev pub IsRefusedAt : Dialect → List ℕ → ℕ → InvalidTable → Type 0
 IsRefusedAt d bytes start fault =
-    (at : RecordFault) × IsRefused d bytes at × IsFaultAt start at fault
+    (at : InvalidRecord) × IsRefused d bytes at × IsFaultAt start at fault
 
 -- The result of a call that has `bytes`, its fields, and the rest. `IsOver` is that no more bytes
 -- follow. A record, or an error in the bytes, is final or `IsOver` holds. If the reader failed,
@@ -39,8 +39,8 @@ IsAnswer d bytes IsOver start (Ok true) fields rest =
     IsRecord d bytes fields rest × (IsForGood d bytes fields rest ⊎ IsOver)
 IsAnswer d bytes IsOver start (Ok false) fields rest =
     (bytes ≡ []) × (rest ≡ []) × (fields ≡ []) × IsOver
-IsAnswer d bytes IsOver start (Err (Refused fault)) fields rest =
-    ((at : RecordFault) × IsRefused d bytes at × IsFaultAt start at fault
+IsAnswer d bytes IsOver start (Err (Invalid fault)) fields rest =
+    ((at : InvalidRecord) × IsRefused d bytes at × IsFaultAt start at fault
     × (IsPrefixOfNone d bytes ⊎ IsOver)) × (rest ≡ bytes) × (fields ≡ [])
 IsAnswer d bytes IsOver start (Err (Failed error)) fields rest =
     WantsMore d bytes × (rest ≡ bytes) × (fields ≡ [])
@@ -61,7 +61,7 @@ abbrev pub IsOfAll : Dialect → List ℕ → ℕ → Result Bool ReadError → 
     → Type 0
 IsOfAll d bytes start (Ok true) fields rest = IsRecord d bytes fields rest
 IsOfAll d bytes start (Ok false) fields rest = (bytes ≡ []) × (rest ≡ []) × (fields ≡ [])
-IsOfAll d bytes start (Err (Refused fault)) fields rest =
+IsOfAll d bytes start (Err (Invalid fault)) fields rest =
     IsRefusedAt d bytes start fault × (rest ≡ bytes) × (fields ≡ [])
 IsOfAll d bytes start (Err (Failed error)) fields rest = (rest ≡ bytes) × (fields ≡ [])
 IsOfAll d bytes start (Err OutOfMemory) fields rest = (rest ≡ bytes) × (fields ≡ [])

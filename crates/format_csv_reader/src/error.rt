@@ -1,23 +1,23 @@
 //! Why no record was read.
 
-use format_csv_records::read::Refusal;
+use format_csv_records::read::Reason;
 use std::io;
 
 /// The first offset in a table at which no record can continue, and the reason.
 ///
 /// ```
-/// use format_csv_reader::error::TableFault;
-/// use format_csv_records::read::Refusal;
+/// use format_csv_reader::error::InvalidTable;
+/// use format_csv_records::read::Reason;
 ///
-/// let fault = TableFault { offset: 3, why: Refusal::OpenQuote };
+/// let fault = InvalidTable { offset: 3, why: Reason::OpenQuote };
 /// assert_eq!(rt; fault.offset, 3);
 /// ```
 #[derive(Clone, Copy, Debug, PartialEq, Eq)]
-pub struct TableFault {
+pub struct InvalidTable {
     /// The offset in the table of the byte that cannot continue a record.
     pub offset: u64,
     /// Why.
-    pub why: Refusal,
+    pub why: Reason,
 }
 
 /// Why no record was read.
@@ -30,7 +30,7 @@ pub struct TableFault {
 #[derive(Clone, Copy, Debug)]
 pub enum ReadError {
     /// The bytes that are not read yet do not start with a record.
-    Refused(TableFault),
+    Invalid(InvalidTable),
     /// The reader failed.
     Failed(io::Error),
     /// Memory allocation failed.

@@ -10,7 +10,7 @@ use crate::buffer::Buffer;
 use crate::error::ReadError;
 use format_csv_records::dialect::Dialect;
 use format_csv_records::extent::RecordExtent;
-use format_csv_records::read::RecordFault;
+use format_csv_records::read::InvalidRecord;
 use std::alloc::Allocator;
 use std::io::Read;
 
@@ -19,7 +19,7 @@ pub(crate) enum Found {
     /// The bytes start with a record for any continuation, or no more bytes follow.
     Enough,
     /// No continuation of the bytes starts with a record.
-    Never(RecordFault),
+    Never(InvalidRecord),
 }
 
 /// Returns the result for `held`, or `None` if more bytes are needed. Bytes that `extent` has

@@ -148,7 +148,7 @@ impl<R: Read, A: Allocator> Reader<R, A> {
     ///
     /// After each error the bytes of the incomplete record are kept, and none is consumed.
     ///
-    /// - [`ReadError::Refused`]: the bytes do not start with a record. The error holds the offset
+    /// - [`ReadError::Invalid`]: the bytes do not start with a record. The error holds the offset
     ///   in the table of the first byte that cannot continue a record, or of its end, and the
     ///   reason. The next call returns the same error if no bytes arrived.
     /// - [`ReadError::Failed`]: the reader failed while more bytes were needed. The next call reads
@@ -182,7 +182,7 @@ impl<R: Read, A: Allocator> Reader<R, A> {
                 let (buffer, extent) = (&mut self.buffer, &mut self.extent);
                 take_record(self.dialect, buffer, extent, &mut self.offset, fields)
             }
-            Ok(Found::Never(fault)) => { Err(ReadError::Refused(fault_at(start, fault))) }
+            Ok(Found::Never(fault)) => { Err(ReadError::Invalid(fault_at(start, fault))) }
             Err(error) => Err(error),
         }
     }

@@ -7,19 +7,19 @@ ghost use Rattle.format_csv_records.specs.Refused.{ReadsRecord};
 ghost use Rattle.format_csv_reader.specs.Results.{IsFaultAt, IsTaken, offset_after};
 
 use crate::buffer::Buffer;
-use crate::error::{ReadError, TableFault};
+use crate::error::{InvalidTable, ReadError};
 use format_csv_records::dialect::Dialect;
 use format_csv_records::extent::RecordExtent;
-use format_csv_records::read::{RecordError, RecordFault, read_record_into};
+use format_csv_records::read::{InvalidRecord, RecordError, read_record_into};
 use format_csv_records::record::ByteRecord;
 use std::alloc::Allocator;
 
 /// Converts the error of a record that starts at offset `start` of the table to an error of the
 /// table.
-pub(crate) fn fault_at(start: u64, fault: RecordFault) -> TableFault
+pub(crate) fn fault_at(start: u64, fault: InvalidRecord) -> InvalidTable
     ensures { IsFaultAt start fault result }
 {
-    TableFault {
+    InvalidTable {
         offset: start.saturating_add(fault.offset as u64),
         why: fault.why,
     }
@@ -68,7 +68,7 @@ pub(crate) fn take_record<A: Allocator, B: Allocator>(
             *extent = RecordExtent::new();
             Ok(read)
         }
-        Err(RecordError::Refused(fault)) => Err(ReadError::Refused(fault_at(start, fault))),
+        Err(RecordError::Invalid(fault)) => Err(ReadError::Invalid(fault_at(start, fault))),
         Err(RecordError::OutOfMemory) => Err(ReadError::OutOfMemory),
     }
 }

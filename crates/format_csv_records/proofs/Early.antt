@@ -11,11 +11,11 @@ use Rattle.format_csv_records.specs.Refused.{IsRefused, Lacks, NoneWith}
 use Rattle.format_csv_records.specs.declared.dialect.Dialect.{Dialect}
 use Rattle.format_csv_records.specs.declared.dialect.LineEnds.{LineEnds}
 use Rattle.format_csv_records.specs.declared.dialect.LineEnds.TheVariants.{CrLf, Either, Lf}
-use Rattle.format_csv_records.specs.declared.read.RecordFault.{RecordFault}
-use Rattle.format_csv_records.specs.declared.read.Refusal.{Refusal}
-use Rattle.format_csv_records.specs.declared.read.Refusal.TheVariants.{QuoteInField}
-use Rattle.format_csv_records.specs.declared.read.Refusal.TheVariants.{ByteBehindQuote}
-use Rattle.format_csv_records.specs.declared.read.Refusal.TheVariants.{OpenQuote, WrongLineEnd}
+use Rattle.format_csv_records.specs.declared.read.InvalidRecord.{InvalidRecord}
+use Rattle.format_csv_records.specs.declared.read.Reason.{Reason}
+use Rattle.format_csv_records.specs.declared.read.Reason.TheVariants.{QuoteInField}
+use Rattle.format_csv_records.specs.declared.read.Reason.TheVariants.{ByteBehindQuote}
+use Rattle.format_csv_records.specs.declared.read.Reason.TheVariants.{OpenQuote, WrongLineEnd}
 
 -- ---- complete fields, with bytes that end their record
 
@@ -161,7 +161,7 @@ none_goes_on d =
     }
 
 -- the missing bytes, if the error is at the end of the bytes
-lacks_one : (d : Dialect) → d.quote < 256 → (why : Refusal) (before more : List ℕ)
+lacks_one : (d : Dialect) → d.quote < 256 → (why : Reason) (before more : List ℕ)
     → Lacks d why before more [] → (length more ≤ 1) × All (λ b. b < 256) more
 lacks_one d small QuoteInField before more (is, none, ends) = absurd none
 lacks_one d small ByteBehindQuote before more (is, none, ends) = absurd none
@@ -178,7 +178,7 @@ no_bytes [] e = refl
 no_bytes (b ∷ bytes) e = absurd (omega (arith, e))
 
 -- an error at the end of the bytes
-pub open_goes_on : (d : Dialect) → d.quote < 256 → (bytes : List ℕ) (fault : RecordFault)
+pub open_goes_on : (d : Dialect) → d.quote < 256 → (bytes : List ℕ) (fault : InvalidRecord)
     → IsRefused d bytes fault → length bytes ≤ fault.offset → IsViablePrefix d bytes
 open_goes_on d small bytes fault (before, back, more, fields, e, size, on, lacks, none) far =
     let nothing : back ≡ [] = no_bytes back (omega (
@@ -202,7 +202,7 @@ none_within d before (b ∷ bs) some none more fields rest it =
     let P : List ℕ → Type 0 = λ l. IsRecord d l fields rest in
     none (bs ++ more) fields rest (subst P (append_assoc before (b ∷ bs) more) it)
 
-pub never_goes_on : (d : Dialect) (bytes : List ℕ) (fault : RecordFault) → IsRefused d bytes fault
+pub never_goes_on : (d : Dialect) (bytes : List ℕ) (fault : InvalidRecord) → IsRefused d bytes fault
     → fault.offset < length bytes → IsPrefixOfNone d bytes
 never_goes_on d bytes fault (before, back, more, fields, e, size, on, lacks, none) near =
     let P : List ℕ → Type 0 = λ l. IsPrefixOfNone d l in

@@ -14,8 +14,8 @@ use Rattle.format_csv_records.specs.declared.dialect.Dialect.{Dialect}
 use Rattle.format_csv_records.specs.declared.extent.RecordExtent.{RecordExtent}
 use Rattle.format_csv_records.specs.declared.extent.RecordPlace.{RecordPlace}
 use Rattle.format_csv_records.specs.declared.extent.RecordPlace.TheVariants as place
-use Rattle.format_csv_records.specs.declared.read.RecordFault.{RecordFault}
-use Rattle.format_csv_records.specs.declared.read.Refusal.{Refusal}
+use Rattle.format_csv_records.specs.declared.read.InvalidRecord.{InvalidRecord}
+use Rattle.format_csv_records.specs.declared.read.Reason.{Reason}
 use Rattle.format_csv_records.proofs.Closing.{goes_on, none_for_good, sized_whole}
 use Rattle.format_csv_records.proofs.Early.{never_goes_on}
 
@@ -27,7 +27,7 @@ pub record After (d : Dialect) (new : RecordExtent) (bytes left : List ℕ) : Ty
   pub passed : Passed d (IsFieldPrefix d new.place) new.text new.fields front
 
 pub after : (d : Dialect) (old new : RecordExtent) (bytes : List ℕ)
-    (result : Result (Option RecordSize) RecordFault) (is : IsOf d old bytes)
+    (result : Result (Option RecordSize) InvalidRecord) (is : IsOf d old bytes)
     (led : IsLed d old (drop old.passed bytes) new result) → After d new bytes led.1
 after d old new bytes result is (taken, left, why, e, sum, keeps, stopped, says) =
     let fresh : drop old.passed bytes ≡ is.left =
@@ -48,8 +48,8 @@ module _ (d : Dialect) (apart : IsApart d.delimiter d.quote) (new : RecordExtent
       let P : List ℕ → Type 0 = λ l. Passed d (IsFieldPrefix d new.place) new.text new.fields l in
       subst P (sym (it.splits ∙ ap (λ l. it.front ++ l) none ∙ append-nil it.front)) it.passed
 
-  tells : d.quote < 256 → (result : Result (Option RecordSize) RecordFault)
-      (why : Option Refusal) → IsStopped d new.place left why → Says new why result
+  tells : d.quote < 256 → (result : Result (Option RecordSize) InvalidRecord)
+      (why : Option Reason) → IsStopped d new.place left why → Says new why result
       → RecordResult d bytes result
   tells small (Ok (Some size)) why stopped (none, done, count, total, long, closed) =
       let P : RecordPlace → Type 0 =
@@ -59,7 +59,7 @@ module _ (d : Dialect) (apart : IsApart d.delimiter d.quote) (new : RecordExtent
         closed,
       )
   tells small (Ok None) why stopped (none, not) =
-      let P : Option Refusal → Type 0 = λ w. IsStopped d new.place left w in
+      let P : Option Reason → Type 0 = λ w. IsStopped d new.place left w in
       elim (subst P none stopped) [
         | inl done ↦ absurd (not done)
         | inr nothing ↦
@@ -69,7 +69,7 @@ module _ (d : Dialect) (apart : IsApart d.delimiter d.quote) (new : RecordExtent
             )
       ]
   tells small (Err fault) why stopped (is, at) =
-      let P : Option Refusal → Type 0 = λ w. IsStopped d new.place left w in
+      let P : Option Reason → Type 0 = λ w. IsStopped d new.place left w in
       let (not, (b, more, starts, never)) = subst P is stopped in
       let split : bytes ≡ it.front ++ b ∷ more =
       it.splits ∙ ap (λ l. it.front ++ l) starts in
@@ -99,7 +99,7 @@ module _ (d : Dialect) (apart : IsApart d.delimiter d.quote) (new : RecordExtent
   }
 
 pub told : (d : Dialect) → IsApart d.delimiter d.quote → d.quote < 256
-    → (old new : RecordExtent) (bytes : List ℕ) (result : Result (Option RecordSize) RecordFault)
+    → (old new : RecordExtent) (bytes : List ℕ) (result : Result (Option RecordSize) InvalidRecord)
     → IsOf d old bytes → IsLed d old (drop old.passed bytes) new result
     → RecordResult d bytes result
 told d apart small old new bytes result is led =
@@ -107,14 +107,14 @@ told d apart small old new bytes result is led =
     led.7
 
 pub kept : (d : Dialect) → IsApart d.delimiter d.quote → (old new : RecordExtent)
-    (bytes : List ℕ) (result : Result (Option RecordSize) RecordFault)
+    (bytes : List ℕ) (result : Result (Option RecordSize) InvalidRecord)
     → IsOf d old bytes → IsLed d old (drop old.passed bytes) new result
     → (more : List ℕ) → IsOf d new (bytes ++ more)
 kept d apart old new bytes result is led =
     of_after d apart new bytes led.1 (after d old new bytes result is led)
 
 said : (d : Dialect) (old new : RecordExtent) (fresh : List ℕ)
-    (result : Result (Option RecordSize) RecordFault) (led : IsLed d old fresh new result)
+    (result : Result (Option RecordSize) InvalidRecord) (led : IsLed d old fresh new result)
     → Says new led.2 result
 said d old new fresh result led = led.7
 
@@ -125,7 +125,7 @@ pub open_after : (d : Dialect) → IsApart d.delimiter d.quote → (old new : Re
     × (new.place ≡ place.Done → ⊥)
 open_after d apart old new bytes is led =
     let it = after d old new bytes (Ok None) is led in
-    let P : Option Refusal → Type 0 = λ w. IsStopped d new.place led.1 w in
+    let P : Option Reason → Type 0 = λ w. IsStopped d new.place led.1 w in
     let (none, not) = said d old new (drop old.passed bytes) (Ok None) led in
     elim (subst P none led.6) [
       | inl done ↦ absurd (not done)

@@ -8,7 +8,7 @@ use Rattle.format_csv_records.specs.Refused.{IsRefused, NoneWith}
 use Rattle.format_csv_records.specs.declared.dialect.Dialect.{Dialect}
 use Rattle.format_csv_records.specs.declared.dialect.LineEnds.{LineEnds}
 use Rattle.format_csv_records.specs.declared.dialect.LineEnds.TheVariants.{CrLf, Lf, Either}
-use Rattle.format_csv_records.specs.declared.read.RecordFault.{RecordFault}
+use Rattle.format_csv_records.specs.declared.read.InvalidRecord.{InvalidRecord}
 use Rattle.format_csv_records.proofs.Alone.{field_apart, same_first, same_others, text_first}
 use Rattle.format_csv_records.proofs.Ending.{ends_apart, ends_stop}
 
@@ -90,7 +90,7 @@ none_with d bytes before (b ∷ bs) fields rest none e it =
     let P : List ℕ → Type 0 = λ l. IsRecord d l fields rest in
     none bs fields rest (subst P e it)
 
-pub refused_none : (d : Dialect) (bytes : List ℕ) (fault : RecordFault) (fields : List (List ℕ))
+pub refused_none : (d : Dialect) (bytes : List ℕ) (fault : InvalidRecord) (fields : List (List ℕ))
     (rest : List ℕ) → IsRefused d bytes fault → IsRecord d bytes fields rest → ⊥
 refused_none d bytes fault fields rest (before, back, more, others, e, size, on, lacks, none) it =
     none_with d bytes before back fields rest none e it

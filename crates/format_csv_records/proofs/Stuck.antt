@@ -11,13 +11,13 @@ use Rattle.format_csv_records.specs.Parts.{FieldFirst, NotFirst, WhyNot}
 use Rattle.format_csv_records.specs.Refused.{IsRefused}
 use Rattle.format_csv_records.specs.declared.dialect.Dialect.{Dialect}
 use Rattle.format_csv_records.specs.declared.extent.RecordPlace.TheVariants as place
-use Rattle.format_csv_records.specs.declared.read.Refusal.{Refusal}
-use Rattle.format_csv_records.specs.declared.read.Refusal.TheVariants.{WrongLineEnd}
+use Rattle.format_csv_records.specs.declared.read.Reason.{Reason}
+use Rattle.format_csv_records.specs.declared.read.Reason.TheVariants.{WrongLineEnd}
 use Rattle.format_csv_records.proofs.Alone.{quoted_behind, text_first}
 use Rattle.format_csv_records.proofs.Whole.{SoFar, so_far_bad}
 
 module _ (d : Dialect) (apart : IsApart d.delimiter d.quote) (b : ℕ) where
-  pub stuck : (why : Refusal) (so : List ℕ → List ℕ → Type 0)
+  pub stuck : (why : Reason) (so : List ℕ → List ℕ → Type 0)
       → ((field begun bs : List ℕ) → so field begun
       → FieldFirst d (begun ++ b ∷ bs) field (b ∷ bs))
       → (b ≡ d.delimiter → ⊥) → ((after rest : List ℕ) → EndsHere d.ends (b ∷ after) rest → ⊥)

@@ -11,8 +11,8 @@ use Rattle.format_csv_records.specs.declared.buffers.RecordSize.{RecordSize}
 use Rattle.format_csv_records.specs.declared.extent.RecordExtent.{RecordExtent}
 use Rattle.format_csv_records.specs.declared.extent.RecordPlace.{RecordPlace}
 use Rattle.format_csv_records.specs.declared.extent.Walked.{Walked}
-use Rattle.format_csv_records.specs.declared.read.RecordFault.{RecordFault}
-use Rattle.format_csv_records.specs.declared.read.Refusal.{Refusal}
+use Rattle.format_csv_records.specs.declared.read.InvalidRecord.{InvalidRecord}
+use Rattle.format_csv_records.specs.declared.read.Reason.{Reason}
 use Rattle.format_csv_records.specs.declared.turns.Step.{Step}
 use Rattle.format_csv_records.specs.declared.turns.Turn.TheVariants.{Goes}
 
@@ -81,7 +81,7 @@ walking_byte d from at next fresh left more b step it starts (less, few, keeps)
     (omega (arith, less, text)) (omega (arith, few, fields))
 
 pub walks : (d : Dialect) (from at : Step) (fresh : List ℕ) (left : Bor (List ℕ))
-    (why : Option Refusal) → Walking d from at fresh left.now → IsStopped d at.place left.now why
+    (why : Option Reason) → Walking d from at fresh left.now → IsStopped d at.place left.now why
     → Walks d from fresh (record { at = at; left = left; why = why })
 walks d from at fresh left why it stopped = (
   it.taken,
@@ -94,7 +94,7 @@ walks d from at fresh left why it stopped = (
 
 -- from an extent to the next, by a scan from its state
 pub led : (d : Dialect) (old : RecordExtent) (bytes fresh : List ℕ) (from : Step)
-    (walked : Walked) (result : Result (Option RecordSize) RecordFault)
+    (walked : Walked) (result : Result (Option RecordSize) InvalidRecord)
     → fresh ≡ take (length bytes - old.passed) (drop old.passed bytes)
     → old.passed ≤ length bytes
     → (from.place ≡ old.place) × (from.text ≡ old.text) × (from.fields ≡ old.fields)

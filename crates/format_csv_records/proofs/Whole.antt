@@ -11,10 +11,10 @@ use Rattle.format_csv_records.specs.Parts.{NotFirst, OpenFirst, WhyNot}
 use Rattle.format_csv_records.specs.Refused.{EndsAField, IsRefused, Lacks, NoneWith}
 use Rattle.format_csv_records.specs.declared.dialect.Dialect.{Dialect}
 use Rattle.format_csv_records.specs.declared.dialect.LineEnds.{LineEnds}
-use Rattle.format_csv_records.specs.declared.read.Refusal.{Refusal}
-use Rattle.format_csv_records.specs.declared.read.Refusal.TheVariants.{QuoteInField}
-use Rattle.format_csv_records.specs.declared.read.Refusal.TheVariants.{ByteBehindQuote}
-use Rattle.format_csv_records.specs.declared.read.Refusal.TheVariants.{OpenQuote, WrongLineEnd}
+use Rattle.format_csv_records.specs.declared.read.Reason.{Reason}
+use Rattle.format_csv_records.specs.declared.read.Reason.TheVariants.{QuoteInField}
+use Rattle.format_csv_records.specs.declared.read.Reason.TheVariants.{ByteBehindQuote}
+use Rattle.format_csv_records.specs.declared.read.Reason.TheVariants.{OpenQuote, WrongLineEnd}
 use Rattle.format_csv_records.proofs.Alone.{field_apart}
 use Rattle.format_csv_records.proofs.Alone.{open_apart, quoted_behind, same_others}
 use Rattle.format_csv_records.proofs.Alone.{text_first}
@@ -197,7 +197,7 @@ stuck : (ends : LineEnds) (left : List ℕ) (begun : ℕ) → EndsNowhere ends l
 stuck ends [] begun it = absurd it
 stuck ends (b ∷ bs) begun it = record { b = b; bs = bs; is = refl; ends_not = it }
 
-lacks : (d : Dialect) (why : Refusal) (before more left : List ℕ) → WhyNot d.quote left why
+lacks : (d : Dialect) (why : Reason) (before more left : List ℕ) → WhyNot d.quote left why
     → NotFirst (λ b. b ≡ d.delimiter) left → EndsAField d before → IsLineEnd d.ends more
     → Lacks d why before more left
 lacks d QuoteInField before more left it not ends is = (is, it, ends)
@@ -207,7 +207,7 @@ lacks d ByteBehindQuote before more [] it not ends is = absurd it
 lacks d ByteBehindQuote before more (b ∷ left) (other, unbroken) not ends is =
     (is, (other, (not, (λ e. unbroken (inl e), λ e. unbroken (inr e)))), ends)
 
-lacks_feed : (d : Dialect) → IsApart d.delimiter d.quote → (why : Refusal)
+lacks_feed : (d : Dialect) → IsApart d.delimiter d.quote → (why : Reason)
     (before back left : List ℕ) → WhyNot d.quote (13 ∷ left) why
     → Lacks d why (before ++ (13 ∷ [])) (10 ∷ []) back
 lacks_feed d apart QuoteInField before back left it = absurd (apart.quote_stays.0 (sym it))
@@ -316,7 +316,7 @@ module _ (d : Dialect) (apart : IsApart d.delimiter d.quote) (bytes rest : List 
         (λ o. lone_return d.ends (c ∷ after) o not) before e all end
         (subst P (append_assoc before (13 ∷ []) (c ∷ after)) them)
 
-    pub so_far_bad : (begun offset : ℕ) (why : Refusal) → NotFirst (λ b. b ≡ d.delimiter) left
+    pub so_far_bad : (begun offset : ℕ) (why : Reason) → NotFirst (λ b. b ≡ d.delimiter) left
         → EndsNowhere d.ends left begun → WhyNot d.quote left why
         → offset ≡ (length bytes - length left) + begun
         → IsRefused d bytes (record { offset = offset; why = why })

@@ -1,9 +1,9 @@
 -- The bytes that a dialect tells apart.
 use Rattle.std.specs.Prelude.{◌≡◌, ◌⊎◌, ℕ}
-use Rattle.format_csv_records.specs.declared.dialect.DialectFault.{DialectFault}
-use Rattle.format_csv_records.specs.declared.dialect.DialectFault.TheVariants.{DelimiterEndsLines}
-use Rattle.format_csv_records.specs.declared.dialect.DialectFault.TheVariants.{DelimiterIsQuote}
-use Rattle.format_csv_records.specs.declared.dialect.DialectFault.TheVariants.{QuoteEndsLines}
+use Rattle.format_csv_records.specs.declared.dialect.DialectError.{DialectError}
+use Rattle.format_csv_records.specs.declared.dialect.DialectError.TheVariants.{DelimiterEndsLines}
+use Rattle.format_csv_records.specs.declared.dialect.DialectError.TheVariants.{DelimiterIsQuote}
+use Rattle.format_csv_records.specs.declared.dialect.DialectError.TheVariants.{QuoteEndsLines}
 
 -- The delimiter, the quote, the carriage return and the line feed are four bytes.
 pub record IsApart (delimiter quote : ℕ) : Type 0 where
@@ -16,7 +16,7 @@ abbrev pub IsBreak : ℕ → Type 0
 IsBreak b = (b ≡ 13) ⊎ (b ≡ 10)
 
 -- The reason why two bytes do not make a dialect; the first one that applies.
-abbrev pub WhyNone : ℕ → ℕ → DialectFault → Type 0
+abbrev pub WhyNone : ℕ → ℕ → DialectError → Type 0
 WhyNone delimiter quote DelimiterIsQuote = delimiter ≡ quote
 WhyNone delimiter quote DelimiterEndsLines = (delimiter ≡ quote → ⊥) × IsBreak delimiter
 WhyNone delimiter quote QuoteEndsLines = (delimiter ≡ quote → ⊥) × (IsBreak delimiter → ⊥)

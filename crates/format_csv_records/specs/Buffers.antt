@@ -6,7 +6,7 @@ use Rattle.format_csv_records.specs.Dialects.{AreFields, IsRecord}
 use Rattle.format_csv_records.specs.Refused.{IsRefused}
 use Rattle.format_csv_records.specs.declared.buffers.RecordSize.{RecordSize}
 use Rattle.format_csv_records.specs.declared.dialect.Dialect.{Dialect}
-use Rattle.format_csv_records.specs.declared.read.RecordFault.{RecordFault}
+use Rattle.format_csv_records.specs.declared.read.InvalidRecord.{InvalidRecord}
 
 -- The concatenated bytes of fields.
 abbrev pub text_of : List (List ℕ) → List ℕ
@@ -44,7 +44,7 @@ IsSized d bytes size = (fields : List (List ℕ)) × SizedAs d bytes fields size
 
 -- The contract of the size of a record: the record at the start of the bytes; or no bytes; or the
 -- error.
-abbrev pub SizesRecord : Dialect → List ℕ → Result (Option RecordSize) RecordFault → Type 0
+abbrev pub SizesRecord : Dialect → List ℕ → Result (Option RecordSize) InvalidRecord → Type 0
 SizesRecord d bytes (Ok (Some size)) = IsSized d bytes size
 SizesRecord d bytes (Ok None) = bytes ≡ []
 SizesRecord d bytes (Err fault) = IsRefused d bytes fault

@@ -13,8 +13,8 @@ use Rattle.format_csv_records.specs.declared.extent.RecordExtent.{RecordExtent}
 use Rattle.format_csv_records.specs.declared.extent.RecordPlace.{RecordPlace}
 use Rattle.format_csv_records.specs.declared.extent.RecordPlace.TheVariants as place
 use Rattle.format_csv_records.specs.declared.extent.Walked.{Walked}
-use Rattle.format_csv_records.specs.declared.read.RecordFault.{RecordFault}
-use Rattle.format_csv_records.specs.declared.read.Refusal.{Refusal}
+use Rattle.format_csv_records.specs.declared.read.InvalidRecord.{InvalidRecord}
+use Rattle.format_csv_records.specs.declared.read.Reason.{Reason}
 use Rattle.format_csv_records.specs.declared.turns.Step.{Step}
 use Rattle.format_csv_records.specs.declared.turns.Turn.{Turn}
 use Rattle.format_csv_records.specs.declared.turns.Turn.TheVariants.{Ends, Goes, Never}
@@ -61,7 +61,7 @@ pub record IsOf (d : Dialect) (extent : RecordExtent) (bytes : List ℕ) : Type 
 -- The contract of a scan: the size of the record at the start, for any continuation; or `None`, if
 -- no record is final and some continuation has one; or the first byte that cannot continue a
 -- record.
-abbrev pub RecordResult : Dialect → List ℕ → Result (Option RecordSize) RecordFault → Type 0
+abbrev pub RecordResult : Dialect → List ℕ → Result (Option RecordSize) InvalidRecord → Type 0
 RecordResult d bytes (Ok (Some size)) = IsSized d bytes size × (size.ended ≡ true)
 RecordResult d bytes (Ok None) = IsViablePrefix d bytes × NoneForGood d bytes
 RecordResult d bytes (Err fault) = IsRefused d bytes fault × IsPrefixOfNone d bytes
@@ -75,14 +75,14 @@ Keeps d at text fields taken next more others = (front : List ℕ)
     → Passed d (IsFieldPrefix d next) more others (front ++ taken)
 
 -- After the passed bytes no record continues with byte `b`, for this reason.
-abbrev pub IsNever : Dialect → RecordPlace → ℕ → Refusal → Type 0
+abbrev pub IsNever : Dialect → RecordPlace → ℕ → Reason → Type 0
 IsNever d at b why = (text fields : ℕ) (front bs : List ℕ)
     → Passed d (IsFieldPrefix d at) text fields front
     → IsRefused d (front ++ b ∷ bs) (record { offset = length front; why = why })
 
 -- the scan stops: the record is complete, or no bytes remain, or no record continues with the next
 -- byte
-abbrev pub IsStopped : Dialect → RecordPlace → List ℕ → Option Refusal → Type 0
+abbrev pub IsStopped : Dialect → RecordPlace → List ℕ → Option Reason → Type 0
 IsStopped d at left None = (at ≡ place.Done) ⊎ (left ≡ [])
 IsStopped d at left (Some why) = (at ≡ place.Done → ⊥)
     × ((b : ℕ) × (more : List ℕ) × (left ≡ b ∷ more) × IsNever d at b why)
@@ -96,7 +96,7 @@ Walks d old fresh new = (taken : List ℕ) × (fresh ≡ taken ++ new.left.now)
     × (new.at.fields + length new.left.now ≤ old.fields + length fresh)
 
 -- the result of an extent, with the reason `why` if no record can continue
-abbrev pub Says : RecordExtent → Option Refusal → Result (Option RecordSize) RecordFault → Type 0
+abbrev pub Says : RecordExtent → Option Reason → Result (Option RecordSize) InvalidRecord → Type 0
 Says new why (Ok (Some size)) = (why ≡ None) × (new.place ≡ place.Done)
     × (size.fields ≡ new.fields + 1) × (size.text ≡ new.text) × (size.length ≡ new.passed)
     × (size.ended ≡ true)
@@ -110,8 +110,8 @@ IsFew extent = (extent.text ≤ extent.passed) × (extent.fields ≤ extent.pass
 -- From one extent to the next: some of the new bytes are passed, and the result depends on the new
 -- state and the rest. The bytes that were passed before do not matter.
 abbrev pub IsLed : Dialect → RecordExtent → List ℕ → RecordExtent
-    → Result (Option RecordSize) RecordFault → Type 0
-IsLed d old fresh new result = (taken : List ℕ) × (left : List ℕ) × (why : Option Refusal)
+    → Result (Option RecordSize) InvalidRecord → Type 0
+IsLed d old fresh new result = (taken : List ℕ) × (left : List ℕ) × (why : Option Reason)
     × (fresh ≡ taken ++ left) × (new.passed ≡ old.passed + length taken)
     × Keeps d old.place old.text old.fields taken new.place new.text new.fields
     × IsStopped d new.place left why × Says new why result

@@ -6,10 +6,10 @@ use Rattle.format_csv_records.specs.Apart.{IsBreak}
 use Rattle.format_csv_records.specs.Dialects.{EndsHere, IsFieldText, IsLineEnd, IsPlain, doubled}
 use Rattle.format_csv_records.specs.declared.dialect.Dialect.{Dialect}
 use Rattle.format_csv_records.specs.declared.dialect.LineEnds.{LineEnds}
-use Rattle.format_csv_records.specs.declared.read.Refusal.{Refusal}
-use Rattle.format_csv_records.specs.declared.read.Refusal.TheVariants.{QuoteInField}
-use Rattle.format_csv_records.specs.declared.read.Refusal.TheVariants.{ByteBehindQuote}
-use Rattle.format_csv_records.specs.declared.read.Refusal.TheVariants.{OpenQuote, WrongLineEnd}
+use Rattle.format_csv_records.specs.declared.read.Reason.{Reason}
+use Rattle.format_csv_records.specs.declared.read.Reason.TheVariants.{QuoteInField}
+use Rattle.format_csv_records.specs.declared.read.Reason.TheVariants.{ByteBehindQuote}
+use Rattle.format_csv_records.specs.declared.read.Reason.TheVariants.{OpenQuote, WrongLineEnd}
 
 -- There is no byte, or the first is one of these.
 abbrev pub MayBegin : (ℕ → Type 0) → List ℕ → Type 0
@@ -69,7 +69,7 @@ EndsNowhere ends (b ∷ bs) begun =
     ⊎ ((begun ≡ 1) × (b ≡ 13) × IsLineEnd ends (13 ∷ 10 ∷ []) × NotFirst (λ c. c ≡ 10) bs)
 
 -- the reason why a record neither ends nor continues with the first byte
-abbrev pub WhyNot : ℕ → List ℕ → Refusal → Type 0
+abbrev pub WhyNot : ℕ → List ℕ → Reason → Type 0
 WhyNot quote bytes QuoteInField = StartsWith (λ b. b ≡ quote) bytes
 WhyNot quote bytes WrongLineEnd = StartsWith IsBreak bytes
 WhyNot quote bytes ByteBehindQuote = StartsWith (λ b. (b ≡ quote → ⊥) × (IsBreak b → ⊥)) bytes

@@ -5,13 +5,13 @@ use Rattle.format_csv_records.specs.Apart.{IsBreak}
 use Rattle.format_csv_records.specs.Dialects.{IsLineEnd, IsPlain, IsRecord}
 use Rattle.format_csv_records.specs.Parts.{StartsWith}
 use Rattle.format_csv_records.specs.declared.dialect.Dialect.{Dialect}
-use Rattle.format_csv_records.specs.declared.read.Refusal.{Refusal}
-use Rattle.format_csv_records.specs.declared.read.Refusal.TheVariants.{QuoteInField}
-use Rattle.format_csv_records.specs.declared.read.Refusal.TheVariants.{ByteBehindQuote}
-use Rattle.format_csv_records.specs.declared.read.Refusal.TheVariants.{OpenQuote, WrongLineEnd}
-use Rattle.format_csv_records.specs.declared.read.RecordFault.{RecordFault}
+use Rattle.format_csv_records.specs.declared.read.Reason.{Reason}
+use Rattle.format_csv_records.specs.declared.read.Reason.TheVariants.{QuoteInField}
+use Rattle.format_csv_records.specs.declared.read.Reason.TheVariants.{ByteBehindQuote}
+use Rattle.format_csv_records.specs.declared.read.Reason.TheVariants.{OpenQuote, WrongLineEnd}
+use Rattle.format_csv_records.specs.declared.read.InvalidRecord.{InvalidRecord}
 use Rattle.format_csv_records.specs.declared.read.RecordError.{RecordError}
-use Rattle.format_csv_records.specs.declared.read.RecordError.TheVariants.{OutOfMemory, Refused}
+use Rattle.format_csv_records.specs.declared.read.RecordError.TheVariants.{OutOfMemory, Invalid}
 
 -- Each line ending of the dialect makes `before` a record: it ends with a complete field, without a
 -- part of a line ending.
@@ -22,7 +22,7 @@ EndsAField d before = (end : List ℕ) → IsLineEnd d.ends end
 -- `Lacks d why before more back`: `more` would make `before` a record, but `back` starts with a
 -- quote or a plain byte after a field; is empty, if a quote is open; starts with a carriage return
 -- or line feed that is not a line ending; or does not have a line feed after a carriage return.
-abbrev pub Lacks : Dialect → Refusal → List ℕ → List ℕ → List ℕ → Type 0
+abbrev pub Lacks : Dialect → Reason → List ℕ → List ℕ → List ℕ → Type 0
 Lacks d QuoteInField before more back =
     IsLineEnd d.ends more × StartsWith (λ b. b ≡ d.quote) back × EndsAField d before
 Lacks d ByteBehindQuote before more back =
@@ -40,7 +40,7 @@ NoneWith d before (b ∷ bs) = (after : List ℕ) (fields : List (List ℕ)) (re
 
 -- `fault.offset` is the first offset at which no record can continue: the bytes before it are a
 -- prefix of a record, and with the next byte they are not.
-abbrev pub IsRefused : Dialect → List ℕ → RecordFault → Type 0
+abbrev pub IsRefused : Dialect → List ℕ → InvalidRecord → Type 0
 IsRefused d bytes fault = (before : List ℕ) × (back : List ℕ) × (more : List ℕ)
     × (fields : List (List ℕ)) × (bytes ≡ before ++ back) × (length before ≡ fault.offset)
     × IsRecord d (before ++ more) fields [] × Lacks d fault.why before more back
@@ -48,7 +48,7 @@ IsRefused d bytes fault = (before : List ℕ) × (back : List ℕ) × (more : Li
 
 -- The facts that an error states about the bytes; out of memory states nothing.
 abbrev pub IsNoRecord : Dialect → List ℕ → RecordError → Type 0
-IsNoRecord d bytes (Refused fault) = IsRefused d bytes fault
+IsNoRecord d bytes (Invalid fault) = IsRefused d bytes fault
 IsNoRecord d bytes OutOfMemory = ⊤
 
 -- The contract of a call with `bytes`, its fields and the rest: the record at the start; or that

@@ -15,7 +15,7 @@ ghost use Rattle.format_csv_records.specs.Refused.{IsRefused};
 
 use crate::dialect::Dialect;
 use crate::read::{
-    RecordFault, Refusal, behind, first_is, is_plain, plain_len, read_end, unquoted_len, why_not,
+    InvalidRecord, Reason, behind, first_is, is_plain, plain_len, read_end, unquoted_len, why_not,
 };
 
 /// How the place of a field is written: a type of its own, or the offset and the length.
@@ -200,7 +200,7 @@ fn put_fields<P: FieldPlace>(
     bytes: &[u8],
     text: &mut [u8],
     places: &mut [P],
-) -> Result<RecordSize, RecordFault>
+) -> Result<RecordSize, InvalidRecord>
     ensures { MatchResult result
         (λ size. PutsFields P.made dialect bytes.now text.old text.new places.old places.new size)
         (λ fault. IsRefused dialect bytes.now fault) }
@@ -211,8 +211,8 @@ fn put_fields<P: FieldPlace>(
     'fields: loop {
         match put_field(dialect, rest, end, text) {
             None => {
-                let why = Refusal::OpenQuote;
-                return Err(RecordFault {
+                let why = Reason::OpenQuote;
+                return Err(InvalidRecord {
                     offset: bytes.len(),
                     why,
                 });
@@ -235,7 +235,7 @@ fn put_fields<P: FieldPlace>(
                 Err(begun) => {
                     let offset = bytes.len() - rest.len() + begun;
                     let why = why_not(dialect.quote, rest);
-                    Err(RecordFault { offset, why })
+                    Err(InvalidRecord { offset, why })
                 }
             };
         }
@@ -259,7 +259,7 @@ fn put_fields<P: FieldPlace>(
 /// }
 /// ```
 #[inline(always)]
-pub fn record_size(dialect: Dialect, bytes: &[u8]) -> Result<Option<RecordSize>, RecordFault>
+pub fn record_size(dialect: Dialect, bytes: &[u8]) -> Result<Option<RecordSize>, InvalidRecord>
     ensures { SizesRecord dialect bytes.now result }
 {
     if bytes.is_empty() {

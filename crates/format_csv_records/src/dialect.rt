@@ -23,13 +23,13 @@ pub enum LineEnds {
 /// Why two bytes make no dialect.
 ///
 /// ```
-/// use format_csv_records::dialect::{Dialect, DialectFault, LineEnds};
+/// use format_csv_records::dialect::{Dialect, DialectError, LineEnds};
 ///
 /// let none = Dialect::new(b'"', b'"', LineEnds::Lf);
-/// assert!(rt; matches!(none, Err(DialectFault::DelimiterIsQuote)));
+/// assert!(rt; matches!(none, Err(DialectError::DelimiterIsQuote)));
 /// ```
 #[derive(Clone, Copy, Debug, PartialEq, Eq)]
-pub enum DialectFault {
+pub enum DialectError {
     /// The delimiter and the quote are one byte.
     DelimiterIsQuote,
     /// The delimiter is a carriage return or a line feed.
@@ -69,28 +69,28 @@ fn ends_lines(byte: u8) -> bool
 impl Dialect {
     /// Creates a dialect. The delimiter, the quote, the carriage return and the line feed must be
     /// four different bytes. If there are two reasons for an error, returns the first one in
-    /// [`DialectFault`].
+    /// [`DialectError`].
     ///
     /// ```
-    /// use format_csv_records::dialect::{Dialect, DialectFault, LineEnds};
+    /// use format_csv_records::dialect::{Dialect, DialectError, LineEnds};
     ///
     /// assert!(rt; Dialect::new(b'\t', b'"', LineEnds::CrLf).is_ok());
     /// let none = Dialect::new(b',', b'\r', LineEnds::CrLf);
-    /// assert!(rt; matches!(none, Err(DialectFault::QuoteEndsLines)));
+    /// assert!(rt; matches!(none, Err(DialectError::QuoteEndsLines)));
     /// ```
-    pub fn new(delimiter: u8, quote: u8, ends: LineEnds) -> Result<Dialect, DialectFault>
+    pub fn new(delimiter: u8, quote: u8, ends: LineEnds) -> Result<Dialect, DialectError>
         ensures { MatchResult result
             (λ it. (it.delimiter ≡ delimiter) × (it.quote ≡ quote) × (it.ends ≡ ends))
             (λ fault. WhyNone delimiter quote fault) }
     {
         if delimiter == quote {
-            return Err(DialectFault::DelimiterIsQuote);
+            return Err(DialectError::DelimiterIsQuote);
         }
         if ends_lines(delimiter) {
-            return Err(DialectFault::DelimiterEndsLines);
+            return Err(DialectError::DelimiterEndsLines);
         }
         if ends_lines(quote) {
-            return Err(DialectFault::QuoteEndsLines);
+            return Err(DialectError::QuoteEndsLines);
         }
         Ok(Dialect {
             delimiter,

@@ -14,7 +14,7 @@ ghost use Rattle.format_csv_records.specs.declared.dialect.Dialect.{Dialect};
 
 use crate::buffers::{RecordSize, is_some};
 use crate::dialect::Dialect;
-use crate::read::{RecordFault, Refusal, behind};
+use crate::read::{InvalidRecord, Reason, behind};
 use crate::turns::{Step, Turn, after, run_len, turn_at};
 
 /// The position of the next byte in a record.
@@ -73,7 +73,7 @@ struct Walked<'i> {
     /// The remaining bytes.
     left: &'i [u8],
     /// The reason why no record continues with the first of these, if none does.
-    why: Option<Refusal>,
+    why: Option<Reason>,
 }
 
 /// Proves that a byte is below 256, as the contracts of its callers require.
@@ -157,8 +157,8 @@ impl RecordExtent {
     ///
     /// # Errors
     ///
-    /// A [`RecordFault`] holds the offset of the first byte at which no record can continue, for
-    /// any continuation, and the reason. It is never [`Refusal::OpenQuote`], since more bytes may
+    /// A [`InvalidRecord`] holds the offset of the first byte at which no record can continue, for
+    /// any continuation, and the reason. It is never [`Reason::OpenQuote`], since more bytes may
     /// close the quote.
     ///
     /// ```
@@ -183,7 +183,7 @@ impl RecordExtent {
         &mut self,
         dialect: Dialect,
         bytes: &[u8],
-    ) -> Result<Option<RecordSize>, RecordFault>
+    ) -> Result<Option<RecordSize>, InvalidRecord>
         ensures told { IsOf dialect self.old bytes.now → RecordResult dialect bytes.now result }
         ensures kept { IsOf dialect self.old bytes.now
             → (more : List ℕ) → IsOf dialect self.new (bytes.now ++ more) }
@@ -227,12 +227,12 @@ impl RecordExtent {
 
     /// Returns the result for the passed bytes. `why` is the reason if no record can continue.
     #[inline(always)]
-    fn say(&self, why: Option<Refusal>) -> Result<Option<RecordSize>, RecordFault>
+    fn say(&self, why: Option<Reason>) -> Result<Option<RecordSize>, InvalidRecord>
         requires { self.now.fields < 2 ^ 63 }
         ensures { Says self.now why result }
     {
         if let Some(why) = why {
-            return Err(RecordFault {
+            return Err(InvalidRecord {
                 offset: self.passed,
                 why,
             });
@@ -265,8 +265,8 @@ impl RecordExtent {
     ///
     /// # Errors
     ///
-    /// A [`RecordFault`] holds the offset of the first byte at which no record can continue, or of
-    /// the end of the bytes if a byte is missing there, and the reason.
+    /// A [`InvalidRecord`] holds the offset of the first byte at which no record can continue, or
+    /// of the end of the bytes if a byte is missing there, and the reason.
     ///
     /// ```
     /// use format_csv_records::dialect::Dialect;
@@ -285,7 +285,7 @@ impl RecordExtent {
         &mut self,
         dialect: Dialect,
         bytes: &[u8],
-    ) -> Result<Option<RecordSize>, RecordFault>
+    ) -> Result<Option<RecordSize>, InvalidRecord>
         ensures told { IsOf dialect self.old bytes.now → SizesRecord dialect bytes.now result }
         ensures kept { IsOf dialect self.old bytes.now
             → (more : List ℕ) → IsOf dialect self.new (bytes.now ++ more) }
@@ -298,7 +298,7 @@ impl RecordExtent {
 
     /// Returns the result at the end of the input, if all bytes were passed and the record was not
     /// complete.
-    fn end(&self, bytes: &[u8]) -> Result<Option<RecordSize>, RecordFault>
+    fn end(&self, bytes: &[u8]) -> Result<Option<RecordSize>, InvalidRecord>
         ensures { (d : Dialect) → (self.now.place ≡ RecordPlace.Done → ⊥)
             → Passed d (IsFieldPrefix d self.now.place) self.now.text self.now.fields bytes.now
             → self.now.passed ≡ length bytes.now → SizesRecord d bytes.now result }
@@ -310,13 +310,13 @@ impl RecordExtent {
             return Ok(None);
         }
         match self.place {
-            RecordPlace::Quoted => Err(RecordFault {
+            RecordPlace::Quoted => Err(InvalidRecord {
                 offset: bytes.len(),
-                why: Refusal::OpenQuote,
+                why: Reason::OpenQuote,
             }),
-            RecordPlace::Return => Err(RecordFault {
+            RecordPlace::Return => Err(InvalidRecord {
                 offset: bytes.len(),
-                why: Refusal::WrongLineEnd,
+                why: Reason::WrongLineEnd,
             }),
             _ => Ok(Some(self.size(false))),
         }

@@ -3,7 +3,7 @@
 ghost use Rattle.std.specs.Prelude.{◌≡◌, List, ℕ};
 ghost use Rattle.format_csv_records.specs.Dialects.{IsRecord};
 ghost use Rattle.format_csv_records.specs.Refused.{IsRefused};
-ghost use Rattle.format_csv_records.specs.declared.read.RecordFault.{RecordFault};
+ghost use Rattle.format_csv_records.specs.declared.read.InvalidRecord.{InvalidRecord};
 
 use crate::dialect::Dialect;
 
@@ -17,6 +17,6 @@ pub fn bytes_begin_with_one_record(dialect: Dialect)
 
 /// Proves that bytes with an error do not start with a record.
 pub fn refused_bytes_begin_with_none(dialect: Dialect)
-    ensures { (bytes : List ℕ) (fault : RecordFault) (fields : List (List ℕ)) (rest : List ℕ)
+    ensures { (bytes : List ℕ) (fault : InvalidRecord) (fields : List (List ℕ)) (rest : List ℕ)
         → IsRefused dialect bytes fault → IsRecord dialect bytes fields rest → ⊥ }
 {}

@@ -23,20 +23,20 @@ use std::alloc::{AllocError, Allocator};
 ///
 /// ```
 /// use format_csv_records::dialect::Dialect;
-/// use format_csv_records::read::{RecordError, Refusal, read_record_into};
+/// use format_csv_records::read::{RecordError, Reason, read_record_into};
 /// use format_csv_records::record::ByteRecord;
 ///
 /// let mut fields = ByteRecord::new(alloc);
 /// let mut input = b"a,\"b\"c\r\n".as_slice();
 /// match read_record_into(Dialect::standard(), &mut fields, &mut input) {
-///     Err(RecordError::Refused(fault)) => {
-///         assert!(rt; fault.why == Refusal::ByteBehindQuote);
+///     Err(RecordError::Invalid(fault)) => {
+///         assert!(rt; fault.why == Reason::ByteBehindQuote);
 ///     }
 ///     _ => assert!(rt; false),
 /// }
 /// ```
 #[derive(Clone, Copy, Debug, PartialEq, Eq)]
-pub enum Refusal {
+pub enum Reason {
     /// A quote after bytes of a field without quotes.
     QuoteInField,
     /// A byte of a field without quotes after a closing quote.
@@ -52,18 +52,18 @@ pub enum Refusal {
 /// prefix of a record, and with the next byte they are not.
 ///
 /// ```
-/// use format_csv_records::read::{RecordFault, Refusal};
+/// use format_csv_records::read::{InvalidRecord, Reason};
 ///
-/// let fault = RecordFault { offset: 3, why: Refusal::OpenQuote };
+/// let fault = InvalidRecord { offset: 3, why: Reason::OpenQuote };
 /// assert_eq!(rt; fault.offset, 3);
 /// ```
 #[derive(Clone, Copy, Debug, PartialEq, Eq)]
-pub struct RecordFault {
+pub struct InvalidRecord {
     /// The offset of the byte that cannot continue a record. The bytes before it are a prefix of a
     /// record.
     pub offset: usize,
     /// Why.
-    pub why: Refusal,
+    pub why: Reason,
 }
 
 /// Why no record was read.
@@ -76,7 +76,7 @@ pub struct RecordFault {
 #[derive(Clone, Copy, Debug, PartialEq, Eq)]
 pub enum RecordError {
     /// The bytes begin with none.
-    Refused(RecordFault),
+    Invalid(InvalidRecord),
     /// Memory allocation failed.
     OutOfMemory,
 }
@@ -274,14 +274,14 @@ pub(crate) fn read_end<'i>(ends: LineEnds, rest: &'i [u8]) -> Result<&'i [u8], u
 }
 
 // Returns the reason why a record neither ends nor continues with the first byte.
-pub(crate) fn why_not(quote: u8, bytes: &[u8]) -> Refusal
+pub(crate) fn why_not(quote: u8, bytes: &[u8]) -> Reason
     requires { 0 < length bytes.now }
     ensures { WhyNot quote bytes.now result }
 {
     match bytes.first() {
-        Some(byte) if *byte == quote => Refusal::QuoteInField,
-        Some(b'\r' | b'\n') => Refusal::WrongLineEnd,
-        _ => Refusal::ByteBehindQuote,
+        Some(byte) if *byte == quote => Reason::QuoteInField,
+        Some(b'\r' | b'\n') => Reason::WrongLineEnd,
+        _ => Reason::ByteBehindQuote,
     }
 }
 
@@ -300,8 +300,8 @@ fn read_fields<'i, A: Allocator>(
     let mut rest = bytes;
     'fields: loop {
         if !read_field(dialect, fields, &mut rest)? {
-            let why = Refusal::OpenQuote;
-            return Err(RecordError::Refused(RecordFault {
+            let why = Reason::OpenQuote;
+            return Err(RecordError::Invalid(InvalidRecord {
                 offset: bytes.len(),
                 why,
             }));
@@ -312,7 +312,7 @@ fn read_fields<'i, A: Allocator>(
                 Err(begun) => {
                     let offset = bytes.len() - rest.len() + begun;
                     let why = why_not(dialect.quote, rest);
-                    Err(RecordError::Refused(RecordFault { offset, why }))
+                    Err(RecordError::Invalid(InvalidRecord { offset, why }))
                 }
             };
         }
@@ -327,22 +327,22 @@ fn read_fields<'i, A: Allocator>(
 ///
 /// # Errors
 ///
-/// - `Refused`: the bytes do not start with a record. It holds the offset at which no record can
+/// - `Invalid`: the bytes do not start with a record. It holds the offset at which no record can
 ///   continue, and the reason.
 /// - `OutOfMemory`: memory allocation failed.
 ///
 /// ```
 /// use format_csv_records::dialect::Dialect;
-/// use format_csv_records::read::{RecordError, RecordFault, Refusal, read_record_into};
+/// use format_csv_records::read::{RecordError, InvalidRecord, Reason, read_record_into};
 /// use format_csv_records::record::ByteRecord;
 ///
 /// let mut fields = ByteRecord::new(alloc);
 /// let mut input = b"a,\"b \"\"c\"\"\"\r\nd\"".as_slice();
 /// assert!(rt; read_record_into(Dialect::standard(), &mut fields, &mut input) == Ok(true));
 /// assert!(rt; matches!(fields.get(1), Some(field) if field == b"b \"c\"".as_slice()));
-/// let fault = RecordFault { offset: 1, why: Refusal::QuoteInField };
+/// let fault = InvalidRecord { offset: 1, why: Reason::QuoteInField };
 /// let told = read_record_into(Dialect::standard(), &mut fields, &mut input);
-/// assert!(rt; told == Err(RecordError::Refused(fault)));
+/// assert!(rt; told == Err(RecordError::Invalid(fault)));
 /// ```
 pub fn read_record_into<A: Allocator>(
     dialect: Dialect,

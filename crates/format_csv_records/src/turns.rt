@@ -6,7 +6,7 @@ ghost use Rattle.format_csv_records.specs.Parts.{WhyNot};
 
 use crate::dialect::Dialect;
 use crate::extent::RecordPlace;
-use crate::read::{Refusal, by_both, by_line_feed, is_plain, plain_len, unquoted_len};
+use crate::read::{Reason, by_both, by_line_feed, is_plain, plain_len, unquoted_len};
 
 /// The state for the next byte, and the numbers of bytes and fields that were added.
 #[derive(Clone, Copy)]
@@ -24,7 +24,7 @@ pub(crate) enum Turn {
     /// The record was at its end.
     Ends,
     /// No record continues with the byte, and the reason.
-    Never(Refusal),
+    Never(Reason),
 }
 
 /// Returns the state `place` with `text` more bytes of text and no more fields.
@@ -73,15 +73,15 @@ fn step_behind(dialect: Dialect, byte: u8) -> Option<Step>
 
 /// Returns the reason why a record neither ends nor continues with the byte.
 #[inline(always)]
-fn why_byte(quote: u8, byte: u8) -> Refusal
+fn why_byte(quote: u8, byte: u8) -> Reason
     ensures { (more : List ℕ) → WhyNot quote (byte ∷ more) result }
 {
     if byte == quote {
-        return Refusal::QuoteInField;
+        return Reason::QuoteInField;
     }
     match byte {
-        b'\r' | b'\n' => Refusal::WrongLineEnd,
-        _ => Refusal::ByteBehindQuote,
+        b'\r' | b'\n' => Reason::WrongLineEnd,
+        _ => Reason::ByteBehindQuote,
     }
 }
 
@@ -149,7 +149,7 @@ fn turn_return(dialect: Dialect, byte: u8) -> Turn
     if byte == b'\n' {
         return Turn::Goes(step_to(RecordPlace::Done, 0));
     }
-    Turn::Never(Refusal::WrongLineEnd)
+    Turn::Never(Reason::WrongLineEnd)
 }
 
 /// The effect of a byte in a state.

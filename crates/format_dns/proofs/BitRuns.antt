@@ -14,20 +14,20 @@ use Rattle.winnow.specs.BitList.{bit_number, bits_cons, bits_nil, bits_of, low_b
 use Rattle.winnow.specs.BitList.{number_append, number_low, number_nil, number_of}
 use Rattle.winnow.specs.BitReading.{bits_reading}
 use Rattle.winnow.specs.BitTake.{BitTakeRuns}
-use Rattle.winnow.specs.BitTake.Known.{bit_take_ok}
+use Rattle.winnow.specs.BitTake.Inversion.{bit_take_ok}
 use Rattle.winnow.specs.BitsOfBytes.{BitsOfBytesRuns}
-use Rattle.winnow.specs.BitsOfBytes.Known.{bits_ok, whole_number}
+use Rattle.winnow.specs.BitsOfBytes.Inversion.{bits_ok, whole_number}
 use Rattle.winnow.specs.Equal.{true_is_false}
 use Rattle.winnow.specs.Following.{most_bytes}
 use Rattle.winnow.specs.Form.{Answer, ErrorForm, modal}
-use Rattle.winnow.specs.Form.Known.{ok_is_err, same_kind, same_ok}
+use Rattle.winnow.specs.Form.Inversion.{ok_is_err, same_kind, same_ok}
 use Rattle.winnow.specs.InParts.{reads_below, reads_both, reads_fewer}
 use Rattle.winnow.specs.Input.{Input}
 use Rattle.winnow.specs.Kind.{Kind}
 use Rattle.winnow.specs.Reading.{Reading}
 use Rattle.winnow.specs.Runs.{Keeps, Runs}
 use Rattle.winnow.specs.Sequence.{SequenceRuns3}
-use Rattle.winnow.specs.Sequence.Known.{sequence3_err, sequence3_ok}
+use Rattle.winnow.specs.Sequence.Inversion.{sequence3_err, sequence3_ok}
 use Rattle.winnow.specs.Within.{ReadsNumber}
 use Rattle.winnow.specs.Needs.{need_in_bytes, with_need}
 use Rattle.winnow.specs.Short.{ShortKind}

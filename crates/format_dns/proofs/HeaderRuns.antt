@@ -11,10 +11,10 @@ use Rattle.winnow.specs.BitReading.{bits_reading}
 use Rattle.winnow.specs.BitsOfBytes.{BitsOfBytesRuns}
 use Rattle.winnow.specs.Following.{most_bytes}
 use Rattle.winnow.specs.Form.{ErrorForm, modal}
-use Rattle.winnow.specs.Form.Known.{ok_is_err}
+use Rattle.winnow.specs.Form.Inversion.{ok_is_err}
 use Rattle.winnow.specs.Input.{Input}
 use Rattle.winnow.specs.Integer.{IntegerRuns, value_of}
-use Rattle.winnow.specs.Integer.Known.{integer_ok}
+use Rattle.winnow.specs.Integer.Inversion.{integer_ok}
 use Rattle.winnow.specs.Integer.Values.{value_of_fits}
 use Rattle.winnow.specs.Integer.Written.{be_written, length_written}
 use Rattle.winnow.specs.Kind.{Kind}

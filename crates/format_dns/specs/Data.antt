@@ -5,7 +5,7 @@ use Rattle.std.specs.Prelude.{if◌then◌else◌}
 use Rattle.std.specs.Net.Addr.{ipv4_octets, ipv6_segments, segments_of}
 use Rattle.std.specs.declared.net.ipv4_addr.Ipv4Addr.{Ipv4Addr}
 use Rattle.std.specs.declared.net.ipv6_addr.Ipv6Addr.{Ipv6Addr}
-use Rattle.winnow.specs.Grammar.{Each, NoneStands}
+use Rattle.winnow.specs.Grammar.{Each, NoMatch}
 use Rattle.format_dns.specs.Fields.{AreOfService, AreOfZone, IsField}
 use Rattle.format_dns.specs.Names.{At, HasNoName, IsString, Label}
 use Rattle.format_dns.specs.Questions.{HasName, IsShort}
@@ -18,8 +18,8 @@ use Rattle.format_dns.specs.declared.data.Form.TheVariants.{Sixteen, Strings, Zo
 use Rattle.format_dns.specs.declared.data.MailExchange as Mails
 use Rattle.format_dns.specs.declared.data.Service as Services
 use Rattle.format_dns.specs.declared.data.StartOfAuthority as Zones
-use Rattle.format_dns.specs.declared.fault.Fault.{Fault}
-use Rattle.format_dns.specs.declared.fault.Fault.TheVariants.{Ends, Trailing}
+use Rattle.format_dns.specs.declared.fault.PartError.{PartError}
+use Rattle.format_dns.specs.declared.fault.PartError.TheVariants.{Ends, Trailing}
 use Rattle.format_dns.specs.declared.name.Name as Names
 
 -- The contents of the data of the types A, AAAA and SRV, which exist only in the class of the
@@ -59,7 +59,7 @@ form_of_data (Other octets) = Any
 
 module _ (message : List ℕ) where
   -- The message does not end `size` octets after `place`: there are fewer, or more.
-  abbrev pub HasOtherSize : ℕ → ℕ → Fault → Type 0
+  abbrev pub HasOtherSize : ℕ → ℕ → PartError → Type 0
   HasOtherSize place size fault =
       ((fault ≡ Ends place) × (length message < place + size))
       ⊎ ((fault ≡ Trailing (place + size)) × (place + size < length message))
@@ -83,12 +83,12 @@ module _ (message : List ℕ) where
     pub some : 1 ≤ length strings
 
   -- There is nothing; or strings, and after them one that is cut off.
-  abbrev pub NoStrings : ℕ → Fault → Type 0
+  abbrev pub NoStrings : ℕ → PartError → Type 0
   NoStrings place fault =
       ((fault ≡ Ends place) × (length message ≤ place))
       ⊎ ((tokens : List ℕ) × (strings : List Label) × (end : ℕ) × (rest : List ℕ)
       × At message place tokens × Each IsString tokens strings rest × At message end rest
-      × NoneStands IsString rest × (1 ≤ length rest) × (fault ≡ Ends end))
+      × NoMatch IsString rest × (1 ≤ length rest) × (fault ≡ Ends end))
 
   module _ (pointers : ℕ) where
     -- A name that ends where the data do.
@@ -96,7 +96,7 @@ module _ (message : List ℕ) where
     IsLastName place name = HasName message pointers place name × (name.behind ≡ length message)
 
     -- There is no name; or one that ends elsewhere.
-    abbrev pub NoLastName : ℕ → Fault → Type 0
+    abbrev pub NoLastName : ℕ → PartError → Type 0
     NoLastName place fault =
         HasNoName message pointers 254 place fault
         ⊎ ((labels : List Label) × (behind : ℕ) × IsShort message pointers place labels behind
@@ -110,7 +110,7 @@ module _ (message : List ℕ) where
       pub preference : IsField 2 mail.preference tokens rest
       pub exchange : IsLastName (place + 2) mail.exchange
 
-    abbrev pub NoMail : ℕ → Fault → Type 0
+    abbrev pub NoMail : ℕ → PartError → Type 0
     NoMail place fault =
         ((fault ≡ Ends place) × (length message < place + 2))
         ⊎ ((place + 2 ≤ length message) × NoLastName (place + 2) fault)
@@ -123,7 +123,7 @@ module _ (message : List ℕ) where
       pub fields : AreOfService service.priority service.weight service.port tokens rest
       pub target : IsLastName (place + 6) service.target
 
-    abbrev pub NoService : ℕ → Fault → Type 0
+    abbrev pub NoService : ℕ → PartError → Type 0
     NoService place fault =
         ((fault ≡ Ends place) × (length message < place + 6))
         ⊎ ((place + 6 ≤ length message) × NoLastName (place + 6) fault)
@@ -141,7 +141,7 @@ module _ (message : List ℕ) where
 
     -- The first name is not there, or the second, or not as many octets after them as the numbers
     -- have.
-    abbrev pub NoZone : ℕ → Fault → Type 0
+    abbrev pub NoZone : ℕ → PartError → Type 0
     NoZone place fault =
         HasNoName message pointers 254 place fault
         ⊎ ((labels : List Label) × (second : ℕ) × IsShort message pointers place labels second
@@ -165,7 +165,7 @@ module _ (message : List ℕ) where
     IsOfForm place form held = (form_of_data held ≡ form) × IsDataAt place held
 
     -- Why no data of a form are there.
-    abbrev pub NoForm : ℕ → Form → Fault → Type 0
+    abbrev pub NoForm : ℕ → Form → PartError → Type 0
     NoForm place Four fault = HasOtherSize place 4 fault
     NoForm place Sixteen fault = HasOtherSize place 16 fault
     NoForm place OneName fault = NoLastName place fault

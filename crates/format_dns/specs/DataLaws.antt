@@ -5,7 +5,7 @@ use Rattle.std.proofs.Common.{refl, sym, ap, subst, inl, inr, ◌∙◌, arith, 
 use Rattle.std.proofs.Common.{append_assoc}
 use Rattle.winnow.specs.Equal.{same_first, same_others, same_some}
 use Rattle.winnow.specs.Range.{from_to}
-use Rattle.winnow.specs.Grammar.{Each, Gathered, Grammar, Many, NoneStands}
+use Rattle.winnow.specs.Grammar.{Each, Gathered, Grammar, Many, NoMatch}
 use Rattle.winnow.specs.Grammar.Lengths.{same_beginnings}
 use Rattle.winnow.specs.Grammar.Unique.{many_unique}
 use Rattle.format_dns.specs.Data.{AreStrings, HasMail, HasOtherSize, HasService, HasZone}
@@ -23,8 +23,8 @@ use Rattle.format_dns.specs.declared.data.Form.{Form}
 use Rattle.format_dns.specs.declared.data.MailExchange as Mails
 use Rattle.format_dns.specs.declared.data.Service as Services
 use Rattle.format_dns.specs.declared.data.StartOfAuthority as Zones
-use Rattle.format_dns.specs.declared.fault.Fault.{Fault}
-use Rattle.format_dns.specs.declared.fault.Fault.TheVariants.{Ends}
+use Rattle.format_dns.specs.declared.fault.PartError.{PartError}
+use Rattle.format_dns.specs.declared.fault.PartError.TheVariants.{Ends}
 use Rattle.format_dns.specs.declared.name.Name as Names
 
 -- strings take a byte each, and more
@@ -46,7 +46,7 @@ strings_none (first ∷ strings) tokens rest none each = absurd (omega (arith, n
 
 -- if some strings are read and the bytes consist of more, another string follows
 string_next : (some all : List Label) (tokens rest : List ℕ) → Each IsString tokens some rest
-    → Each IsString tokens all [] → NoneStands IsString rest → 1 ≤ length rest → ⊥
+    → Each IsString tokens all [] → NoMatch IsString rest → 1 ≤ length rest → ⊥
 string_next [] [] tokens rest e f none left =
     omega (arith, left, ap (λ l. length l) e, ap (λ l. length l) f)
 string_next [] (x ∷ all) tokens rest e (mid, is, more) none left =
@@ -74,7 +74,7 @@ each_read most tokens rest strings (xs, held, (each, least, stops)) =
 -- the strings read are all there are
 none_left : {A : Type 0} (tokens rest : List ℕ) (strings : Vec Label A)
     → StringsRead (length tokens) tokens strings rest → 1 ≤ length rest
-    → NoneStands IsString rest
+    → NoMatch IsString rest
 unfolding Gathered Many
 none_left tokens rest strings (xs, held, (each, least, stops)) left =
     elim stops [
@@ -139,12 +139,12 @@ module _ (message : List ℕ) where
         refl,
       )
 
-  pub no_size : {place size : ℕ} {tokens : List ℕ} {fault : Fault} → At message place tokens
+  pub no_size : {place size : ℕ} {tokens : List ℕ} {fault : PartError} → At message place tokens
       → length tokens ≡ size → HasOtherSize message place size fault → ⊥
   no_size at is (inl (e, few)) = omega (arith, at_length at, is, few)
   no_size at is (inr (e, many)) = omega (arith, at_length at, is, many)
 
-  pub no_strings : (place : ℕ) (fault : Fault) (strings : List Label)
+  pub no_strings : (place : ℕ) (fault : PartError) (strings : List Label)
       → NoStrings message place fault → AreStrings message place strings → ⊥
   no_strings place fault strings (inl (e, few)) are =
       omega (
@@ -161,7 +161,7 @@ module _ (message : List ℕ) where
       (subst P (one_place message at are.starts) each) are.each none left
 
   module _ (pointers : ℕ) where
-    pub no_last_name : {A : Type 0} (place : ℕ) (fault : Fault) (name : Names.Name A)
+    pub no_last_name : {A : Type 0} (place : ℕ) (fault : PartError) (name : Names.Name A)
         → NoLastName message pointers place fault → IsLastName message pointers place name → ⊥
     no_last_name place fault name (inl none) (is, ends) =
         no_name message pointers 254 place fault none name.labels.items name.behind is.0 is.1
@@ -169,21 +169,21 @@ module _ (message : List ℕ) where
         other (one_behind message pointers place labels name.labels.items behind name.behind short.0
         is.0 ∙ ends)
 
-    pub no_mail : {A : Type 0} (place : ℕ) (fault : Fault) (mail : Mails.MailExchange A)
+    pub no_mail : {A : Type 0} (place : ℕ) (fault : PartError) (mail : Mails.MailExchange A)
         → NoMail message pointers place fault → HasMail message pointers place mail → ⊥
     no_mail place fault mail (inl (e, few)) is =
         omega (arith, few, at_length is.fields_at, field_length is.preference)
     no_mail place fault mail (inr (enough, none)) is =
         no_last_name (place + 2) fault mail.exchange none is.exchange
 
-    pub no_service : {A : Type 0} (place : ℕ) (fault : Fault) (service : Services.Service A)
+    pub no_service : {A : Type 0} (place : ℕ) (fault : PartError) (service : Services.Service A)
         → NoService message pointers place fault → HasService message pointers place service → ⊥
     no_service place fault service (inl (e, few)) is =
         omega (arith, few, at_length is.fields_at, service_length is.fields)
     no_service place fault service (inr (enough, none)) is =
         no_last_name (place + 6) fault service.target none is.target
 
-    pub no_zone : {A : Type 0} (place : ℕ) (fault : Fault) (zone : Zones.StartOfAuthority A)
+    pub no_zone : {A : Type 0} (place : ℕ) (fault : PartError) (zone : Zones.StartOfAuthority A)
         → NoZone message pointers place fault → HasZone message pointers place zone → ⊥
     no_zone place fault zone (inl none) is =
         no_name message pointers 254 place fault none zone.primary.labels.items zone.primary.behind
@@ -212,7 +212,7 @@ module _ (message : List ℕ) where
               ]
         ]
 
-    no_held : {A : Type 0} (place : ℕ) (fault : Fault) (it : Data A)
+    no_held : {A : Type 0} (place : ℕ) (fault : PartError) (it : Data A)
         → NoForm message pointers place (form_of_data it) fault
         → IsDataAt message pointers place it → ⊥
     no_held place fault (Ipv4 address) none (at, size) = no_size at size none
@@ -225,7 +225,7 @@ module _ (message : List ℕ) where
     no_held place fault (Other octets) (e, past) at = omega (arith, past, at_length at)
 
     -- if there is an error, there are no data of this form
-    pub no_form : {A : Type 0} (place : ℕ) (form : Form) (fault : Fault) (it : Data A)
+    pub no_form : {A : Type 0} (place : ℕ) (form : Form) (fault : PartError) (it : Data A)
         → NoForm message pointers place form fault → IsOfForm message pointers place form it → ⊥
     no_form place form fault it none (is, stands) =
         let P : Form → Type 0 = λ f. NoForm message pointers place f fault in

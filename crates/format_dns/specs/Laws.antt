@@ -9,15 +9,15 @@ use Rattle.winnow.specs.Counted.{counted_reading}
 use Rattle.winnow.specs.Equal.{same_first, same_others, true_is_false}
 use Rattle.winnow.specs.Range.{from_to}
 use Rattle.winnow.specs.Grammar.Same.{Same}
-use Rattle.winnow.specs.Grammar.{Counted, Gathered, Grammar, IsUnique, Many, NoneStands}
+use Rattle.winnow.specs.Grammar.{Counted, Gathered, Grammar, IsUnique, Many, NoMatch}
 use Rattle.winnow.specs.Grammar.{TokenOf}
-use Rattle.winnow.specs.Grammar.Known.{slice_for}
+use Rattle.winnow.specs.Grammar.Inversion.{slice_for}
 use Rattle.winnow.specs.Grammar.Lengths.{SaysOne, Sized, same_beginnings}
 use Rattle.format_dns.specs.Names.{IsCut, IsNameEnding, IsNoNameEnding}
 use Rattle.format_dns.specs.Names.{IsLabel, IsPointer, IsRoot, IsSized, Label}
 use Rattle.format_dns.specs.Names.{EndingResult, NoEnding}
-use Rattle.format_dns.specs.declared.fault.Fault.{Fault}
-use Rattle.format_dns.specs.declared.fault.Fault.TheVariants.{Ends}
+use Rattle.format_dns.specs.declared.fault.PartError.{PartError}
+use Rattle.format_dns.specs.declared.fault.PartError.TheVariants.{Ends}
 use Rattle.format_dns.specs.declared.name.Ending.{Ending}
 use Rattle.format_dns.specs.declared.name.Ending.TheVariants.{Pointer, Root}
 
@@ -72,7 +72,7 @@ pub label_unique : IsUnique IsLabel
 label_unique = sized_unique
 
 -- where none is the bytes after its length are too few
-pub label_cut : (n : ℕ) (bytes : List ℕ) → 1 ≤ n → n ≤ 63 → NoneStands IsLabel (n ∷ bytes)
+pub label_cut : (n : ℕ) (bytes : List ℕ) → 1 ≤ n → n ≤ 63 → NoMatch IsLabel (n ∷ bytes)
     → n ≤ length bytes → ⊥
 label_cut n bytes least most none enough =
     let (label, shown) = slice_for (take n bytes) in
@@ -93,9 +93,9 @@ LabelsRead {A} most = Gathered (λ (list : Vec Label A) labels. list.items ≡ l
 
 -- a length, and too few bytes for a label
 pub ending_cut : {tokens bytes : List ℕ} {b : ℕ} (place : ℕ) → tokens ≡ b ∷ bytes → 1 ≤ b → b ≤ 63
-    → NoneStands IsLabel tokens → NoEnding tokens place (Ends place)
+    → NoMatch IsLabel tokens → NoEnding tokens place (Ends place)
 ending_cut {tokens} {bytes} {b} place e least most none =
-    let P : List ℕ → Type 0 = λ l. NoneStands IsLabel l in
+    let P : List ℕ → Type 0 = λ l. NoMatch IsLabel l in
     let Q : List ℕ → Type 0 = λ l. IsCut l in
     let few = label_cut b bytes least most (subst P e none) in
     inl (refl, subst Q (sym e) (inl (least, most, omega (arith, few))))
@@ -120,7 +120,7 @@ one_pointer p q =
     let same = sym p.splits ∙ q.splits in
     omega (arith, p.number, q.number, same_first same, same_first (same_others same))
 
-ending_root : {tokens : List ℕ} {place : ℕ} {fault : Fault} → NoEnding tokens place fault
+ending_root : {tokens : List ℕ} {place : ℕ} {fault : PartError} → NoEnding tokens place fault
     → IsRoot tokens → ⊥
 ending_root (inl (is, cut)) (rest, e) =
     let P : List ℕ → Type 0 = λ l. IsCut l in none (subst P e cut)
@@ -131,7 +131,7 @@ ending_root (inl (is, cut)) (rest, e) =
 ending_root (inr (is, (b, rest, e, least, most))) (others, d) =
     omega (arith, least, same_first (sym e ∙ d))
 
-ending_pointer : {tokens : List ℕ} {place to : ℕ} {fault : Fault}
+ending_pointer : {tokens : List ℕ} {place to : ℕ} {fault : PartError}
     → NoEnding tokens place fault → IsPointer tokens to → ⊥
 ending_pointer (inl (is, cut)) p =
     let P : List ℕ → Type 0 = λ l. IsCut l in
@@ -144,9 +144,9 @@ ending_pointer (inr (is, (b, rest, e, least, most))) p =
     omega (arith, most, same_first (sym e ∙ p.splits))
 
 -- if the name after a pointer excludes its errors, so does a name with this pointer
-pub goes_one : {others : ℕ → List Label → Type 0} {faults : ℕ → ℕ → Fault → Type 0}
-    → ((end to : ℕ) (fault : Fault) (more : List Label) → faults end to fault
-    → others to more → ⊥) → (start end : ℕ) (rest : List ℕ) (fault : Fault)
+pub goes_one : {others : ℕ → List Label → Type 0} {faults : ℕ → ℕ → PartError → Type 0}
+    → ((end to : ℕ) (fault : PartError) (more : List Label) → faults end to fault
+    → others to more → ⊥) → (start end : ℕ) (rest : List ℕ) (fault : PartError)
     (here : List Label) (after : ℕ) (labels : List Label) (behind : ℕ)
     → IsNoNameEnding faults start end rest fault
     → IsNameEnding others start here after rest labels behind → ⊥

@@ -15,8 +15,8 @@ use Rattle.format_dns.specs.PartLaws.{lack_questions, one_question, rows_end}
 use Rattle.format_dns.specs.Questions.{AreQuestions, IsQuestion, QuestionsLack, QuestionsWant}
 use Rattle.format_dns.specs.RecordLaws.{lack_records, one_field, one_record}
 use Rattle.format_dns.specs.Records.{AreRecords, IsRecord, RecordsLack, RecordsWant}
-use Rattle.format_dns.specs.declared.fault.Fault.{Fault}
-use Rattle.format_dns.specs.declared.fault.MessageFault.{MessageFault}
+use Rattle.format_dns.specs.declared.fault.PartError.{PartError}
+use Rattle.format_dns.specs.declared.fault.MessageError.{MessageError}
 use Rattle.format_dns.specs.declared.fault.Section.{Section}
 use Rattle.format_dns.specs.declared.fault.Section.TheVariants as section
 use Rattle.format_dns.specs.declared.header.Header.{Header}
@@ -122,7 +122,7 @@ module _ (message : List ℕ) (pointers : ℕ) where
       some.behind records.behind rows (subst P (sym at) (others, many)).0
       (size ∙ same ∙ sym many)
 
-  records_lack : {A : Type 0} (start other count number entry : ℕ) (fault : Fault)
+  records_lack : {A : Type 0} (start other count number entry : ℕ) (fault : PartError)
       (records : Records A) → start ≡ other → count ≡ number
       → RecordsLack message pointers A start count entry fault
       → AreRecords message pointers other number records → ⊥
@@ -132,7 +132,7 @@ module _ (message : List ℕ) (pointers : ℕ) where
       lack_records message pointers start count entry fault records lacks
       (subst Q (sym same) (subst P (sym at) are))
 
-  questions_lack : {A : Type 0} (count number entry : ℕ) (fault : Fault)
+  questions_lack : {A : Type 0} (count number entry : ℕ) (fault : PartError)
       (questions : Questions A) → count ≡ number
       → QuestionsLack message pointers A 12 count entry fault
       → AreQuestions message pointers 12 number questions → ⊥
@@ -141,7 +141,8 @@ module _ (message : List ℕ) (pointers : ℕ) where
       lack_questions message pointers 12 count entry fault questions lacks (subst P (sym same) are)
 
   -- a section that lacks an entry is that of no message
-  no_section : {A : Type 0} (s : Section) (entry : ℕ) (why : Fault) (h : Header) (it : Message A)
+  no_section : {A : Type 0} (s : Section) (entry : ℕ) (why : PartError) (h : Header)
+      (it : Message A)
       → SameCounts h it.header → SectionLacks message pointers A h s entry why
       → IsMessage message pointers it → ⊥
   no_section section.Header entry why h it same lacks m = lacks
@@ -170,7 +171,7 @@ module _ (message : List ℕ) (pointers : ℕ) where
       (records_end second it.answers.behind h.authority_count it.header.authority_count start
       it.authority b authority last m.authority) additional lacks m.additional
 
-  pub no_message : {A : Type 0} (fault : MessageFault) (it : Message A)
+  pub no_message : {A : Type 0} (fault : MessageError) (it : Message A)
       → HasNoMessage message pointers A fault → IsMessage message pointers it → ⊥
   no_message fault it (inl (is, short)) m =
       omega (
@@ -183,8 +184,8 @@ module _ (message : List ℕ) (pointers : ℕ) where
       no_section fault.section fault.entry fault.why h it (one_header header m.header) lacks m
 
   -- a property of the error's section, from that of a section equal to it
-  pub section_stops : (A : Type 0) (h : Header) (s : Section) (fault : MessageFault)
-      → (OfQuestions OfRecords : ℕ → ℕ → ℕ → Fault → Type 0) → StartsWithHeader message h
+  pub section_stops : (A : Type 0) (h : Header) (s : Section) (fault : MessageError)
+      → (OfQuestions OfRecords : ℕ → ℕ → ℕ → PartError → Type 0) → StartsWithHeader message h
       → fault.section ≡ s
       → SectionStops message pointers A OfQuestions OfRecords h s fault.entry fault.why
       → (header : Header) × StartsWithHeader message header
@@ -195,20 +196,20 @@ module _ (message : List ℕ) (pointers : ℕ) where
       λ x. SectionStops message pointers A OfQuestions OfRecords h x fault.entry fault.why in
       (h, header, subst P (sym is) stops)
 
-  pub message_err : {A : Type 0} (fault : MessageFault) (r : Result (Message A) MessageFault)
+  pub message_err : {A : Type 0} (fault : MessageError) (r : Result (Message A) MessageError)
       → IsErrAnd r (λ y. y ≡ fault)
       → WantsMessage message pointers A fault ⊎ HasNoMessage message pointers A fault
       → MessageResult message pointers r
   message_err fault (Ok it) is why = elim is [ ]
   message_err {A} fault (Err y) is (inl wants) =
-      let P : MessageFault → Type 0 = λ f. WantsMessage message pointers A f in
+      let P : MessageError → Type 0 = λ f. WantsMessage message pointers A f in
       inl (subst P (sym is) wants)
   message_err {A} fault (Err y) is (inr none) =
-      let P : MessageFault → Type 0 = λ f. HasNoMessage message pointers A f in
+      let P : MessageError → Type 0 = λ f. HasNoMessage message pointers A f in
       let here = subst P (sym is) none in inr (here, λ it. no_message y it here)
 
   -- where a section ends
-  pub section_err : {A : Type 0} (fault : MessageFault) (r : Result (Message A) MessageFault)
+  pub section_err : {A : Type 0} (fault : MessageError) (r : Result (Message A) MessageError)
       → IsErrAnd r (λ y. y ≡ fault) → (h : Header) (s : Section) → StartsWithHeader message h
       → fault.section ≡ s → SectionWants message pointers A h s fault.entry fault.why
       ⊎ SectionLacks message pointers A h s fault.entry fault.why → MessageResult message pointers r

@@ -3,9 +3,9 @@ use Rattle.std.specs.Prelude.{◌≡◌, ◌⊎◌, ◌<◌, ℕ, List, [], leng
 use Rattle.format_dns.specs.Header.{IsHeader}
 use Rattle.format_dns.specs.Questions.{AreQuestions, QuestionsLack, QuestionsWant}
 use Rattle.format_dns.specs.Records.{AreRecords, RecordsLack, RecordsWant}
-use Rattle.format_dns.specs.declared.fault.Fault.{Fault}
-use Rattle.format_dns.specs.declared.fault.Fault.TheVariants.{Ends}
-use Rattle.format_dns.specs.declared.fault.MessageFault.{MessageFault}
+use Rattle.format_dns.specs.declared.fault.PartError.{PartError}
+use Rattle.format_dns.specs.declared.fault.PartError.TheVariants.{Ends}
+use Rattle.format_dns.specs.declared.fault.MessageError.{MessageError}
 use Rattle.format_dns.specs.declared.fault.Section.{Section}
 use Rattle.format_dns.specs.declared.fault.Section.TheVariants as section
 use Rattle.format_dns.specs.declared.header.Header.{Header}
@@ -18,7 +18,7 @@ abbrev pub StartsWithHeader : List ℕ → Header → Type 0
 StartsWithHeader message header = IsHeader header (take 12 message) []
 
 -- the contract of a message's header
-abbrev pub HeaderResult : List ℕ → Result Header MessageFault → Type 0
+abbrev pub HeaderResult : List ℕ → Result Header MessageError → Type 0
 HeaderResult message (Ok header) = StartsWithHeader message header
 HeaderResult message (Err fault) =
     (fault ≡ record { section = section.Header; entry = 0; why = Ends 0 }) × (length message < 12)
@@ -49,8 +49,9 @@ module _ (message : List ℕ) (pointers : ℕ) where
   -- After a header and all earlier sections the section has `entry` entries, and the next fails for
   -- this reason. `OfQuestions` and `OfRecords` state this for questions and records: the start, the
   -- count, the number of entries, and the reason.
-  abbrev pub SectionStops : Type 0 → (ℕ → ℕ → ℕ → Fault → Type 0) → (ℕ → ℕ → ℕ → Fault → Type 0)
-      → Header → Section → ℕ → Fault → Type 0
+  abbrev pub SectionStops : Type 0 → (ℕ → ℕ → ℕ → PartError → Type 0) → (ℕ → ℕ → ℕ → PartError
+      → Type 0)
+      → Header → Section → ℕ → PartError → Type 0
   SectionStops A OfQuestions OfRecords header section.Header entry why = ⊥
   SectionStops A OfQuestions OfRecords header section.Question entry why =
       OfQuestions 12 header.question_count entry why
@@ -67,18 +68,18 @@ module _ (message : List ℕ) (pointers : ℕ) where
       × OfRecords start header.additional_count entry why))
 
   -- The section lacks the entry after these.
-  abbrev pub SectionLacks : Type 0 → Header → Section → ℕ → Fault → Type 0
+  abbrev pub SectionLacks : Type 0 → Header → Section → ℕ → PartError → Type 0
   SectionLacks A =
       SectionStops A (QuestionsLack message pointers A) (RecordsLack message pointers A)
 
   -- Memory allocation failed for the entry after these.
-  abbrev pub SectionWants : Type 0 → Header → Section → ℕ → Fault → Type 0
+  abbrev pub SectionWants : Type 0 → Header → Section → ℕ → PartError → Type 0
   SectionWants A =
       SectionStops A (QuestionsWant message pointers A) (RecordsWant message pointers A)
 
   -- The reason why the bytes are not a message: they end within the header, or an entry that it
   -- counts does not follow the one before it.
-  abbrev pub HasNoMessage : Type 0 → MessageFault → Type 0
+  abbrev pub HasNoMessage : Type 0 → MessageError → Type 0
   HasNoMessage A fault =
       ((fault ≡ record { section = section.Header; entry = 0; why = Ends 0 })
       × (length message < 12))
@@ -86,13 +87,13 @@ module _ (message : List ℕ) (pointers : ℕ) where
       × SectionLacks A header fault.section fault.entry fault.why)
 
   -- The bytes start with a header, and memory allocation failed for an entry that it counts.
-  abbrev pub WantsMessage : Type 0 → MessageFault → Type 0
+  abbrev pub WantsMessage : Type 0 → MessageError → Type 0
   WantsMessage A fault = (header : Header) × StartsWithHeader message header
       × SectionWants A header fault.section fault.entry fault.why
 
   -- The contract of a message: it is the one at the start of the bytes; or memory allocation failed
   -- for an entry; or an entry is invalid, and the bytes do not start with a message.
-  abbrev pub MessageResult : {A : Type 0} → Result (Message A) MessageFault → Type 0
+  abbrev pub MessageResult : {A : Type 0} → Result (Message A) MessageError → Type 0
   MessageResult (Ok it) = IsMessage it
   MessageResult {A} (Err fault) =
       WantsMessage A fault

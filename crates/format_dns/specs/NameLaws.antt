@@ -17,9 +17,9 @@ use Rattle.format_dns.specs.Names.{HasMore, IsLabel, IsName, IsPointer, IsRoot, 
 use Rattle.format_dns.specs.Names.{NameWithin, NoEnding, octets}
 use Rattle.format_dns.specs.Octets.{each_here, none_here, octets_append, octets_each}
 use Rattle.format_dns.specs.Octets.{octets_least, octets_most}
-use Rattle.format_dns.specs.declared.fault.Fault.{Fault}
-use Rattle.format_dns.specs.declared.fault.Fault.TheVariants.{NoMemory, NotPrior, TooLong}
-use Rattle.format_dns.specs.declared.fault.Fault.TheVariants.{TooMany}
+use Rattle.format_dns.specs.declared.fault.PartError.{PartError}
+use Rattle.format_dns.specs.declared.fault.PartError.TheVariants.{NoMemory, NotPrior, TooLong}
+use Rattle.format_dns.specs.declared.fault.PartError.TheVariants.{TooMany}
 use Rattle.format_dns.specs.declared.name.Name.{Name}
 use Rattle.format_dns.specs.Laws.{LabelsRead, goes_one, label_unique, root_pointer}
 
@@ -122,9 +122,9 @@ module _ (message : List ℕ) where
   first_octets start here end rest labels behind (inr (to, p, prior, (more, o, out, is))) =
       omega (arith, ap octets out, octets_append here more)
 
-  not_both : {others : ℕ → List Label → Type 0} {faults : ℕ → ℕ → ℕ → Fault → Type 0}
-      → ((left end to : ℕ) (fault : Fault) (more : List Label) → faults left end to fault
-      → others to more × (octets more ≤ left) → ⊥) → (room start : ℕ) (fault : Fault)
+  not_both : {others : ℕ → List Label → Type 0} {faults : ℕ → ℕ → ℕ → PartError → Type 0}
+      → ((left end to : ℕ) (fault : PartError) (more : List Label) → faults left end to fault
+      → others to more × (octets more ≤ left) → ⊥) → (room start : ℕ) (fault : PartError)
       (labels : List Label) (behind : ℕ) → FaultBy message faults room start fault
       → NameBy message others start labels behind → octets labels ≤ room → ⊥
   not_both below room start fault labels behind (inl (is, past)) (here, end, rest, a, ends) fits =
@@ -151,7 +151,7 @@ module _ (message : List ℕ) where
       (octets_most here here2 b.tokens rest rest2 (subst Q (one_place a.starts b.starts)
       (each_here a)) (each_here b) (none_here b)) fits ends)
 
-  pub no_name : (pointers room start : ℕ) (fault : Fault)
+  pub no_name : (pointers room start : ℕ) (fault : PartError)
       → HasNoName message pointers room start fault
       → (labels : List Label) (behind : ℕ) → IsName message pointers start labels behind
       → octets labels ≤ room → ⊥
@@ -256,7 +256,7 @@ module _ (message : List ℕ) where
         );
       }
 
-  pub told_fault : (pointers room start : ℕ) (fault : Fault)
+  pub told_fault : (pointers room start : ℕ) (fault : PartError)
       → HasNoName message pointers room start fault
       → (fault ≡ NoMemory) ⊎ (HasNoName message pointers room start fault
       × ((labels : List Label) (behind : ℕ) → IsName message pointers start labels behind
@@ -264,14 +264,15 @@ module _ (message : List ℕ) where
   told_fault pointers room start fault h = inr (h, no_name pointers room start fault h)
 
   -- ... where it is passed on
-  pub told_err : {A : Type 0} (pointers room start : ℕ) {fault : Fault} (r : Result (Name A) Fault)
+  pub told_err : {A : Type 0} (pointers room start : ℕ) {fault : PartError}
+      (r : Result (Name A) PartError)
       → IsErrAnd r (λ y. y ≡ fault)
       → (fault ≡ NoMemory) ⊎ HasNoName message pointers room start fault
       → NameWithin message pointers room start r
   told_err pointers room start (Ok name) is _ = elim is [ ]
   told_err pointers room start (Err y) is (inl memory) = inl (is ∙ memory)
   told_err pointers room start (Err y) is (inr h) =
-      let P : Fault → Type 0 = λ f. HasNoName message pointers room start f in
+      let P : PartError → Type 0 = λ f. HasNoName message pointers room start f in
       told_fault pointers room start y (subst P (sym is) h)
 
   module _ {start end : ℕ} {here : List Label} {rest : List ℕ}
@@ -315,7 +316,7 @@ module _ (message : List ℕ) where
 
     module _ {room : ℕ} (fits : octets here ≤ room) where
       -- no ending
-      pub none_ends : (pointers : ℕ) (fault : Fault) → NoEnding rest end fault
+      pub none_ends : (pointers : ℕ) (fault : PartError) → NoEnding rest end fault
           → HasNoName message pointers room start fault
       none_ends zero fault none = inr (inr (here, end, rest, a, fits, inl none))
       none_ends (suc pointers) fault none = inr (inr (here, end, rest, a, fits, inl none))
@@ -338,7 +339,7 @@ module _ (message : List ℕ) where
       -- a pointer to where none is
       none_further : (pointers below left : ℕ) → 1 ≤ pointers → below ≡ pointers - 1
           → left ≡ room - octets here → {to : ℕ} → IsPointer rest to → to < start
-          → (fault : Fault) → HasNoName message below left to fault
+          → (fault : PartError) → HasNoName message below left to fault
           → HasNoName message pointers room start fault
       none_further zero below left some is less p prior fault h = absurd (omega (arith, some))
       none_further (suc pointers) below left some is less {to} p prior fault h =
@@ -360,7 +361,7 @@ module _ (message : List ℕ) where
       -- what a call for the others tells
       pub err_further : (pointers below left : ℕ) → 1 ≤ pointers → below ≡ pointers - 1
           → left ≡ room - octets here → {to : ℕ} → IsPointer rest to → to < start
-          → {fault : Fault} → (fault ≡ NoMemory) ⊎ (HasNoName message below left to fault
+          → {fault : PartError} → (fault ≡ NoMemory) ⊎ (HasNoName message below left to fault
           × ((labels : List Label) (behind : ℕ) → IsName message below to labels behind
           → octets labels ≤ left → ⊥))
           → (fault ≡ NoMemory) ⊎ HasNoName message pointers room start fault

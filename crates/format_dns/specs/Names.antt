@@ -5,9 +5,9 @@ use Rattle.std.specs.Borrow.{Bor}
 use Rattle.winnow.specs.Range.{from_to}
 use Rattle.winnow.specs.Grammar.{Each, Grammar, Many}
 use Rattle.format_dns.specs.declared.name.Name.{Name}
-use Rattle.format_dns.specs.declared.fault.Fault.{Fault}
-use Rattle.format_dns.specs.declared.fault.Fault.TheVariants.{Ends, NoMemory, NotPrior}
-use Rattle.format_dns.specs.declared.fault.Fault.TheVariants.{Reserved, TooLong, TooMany}
+use Rattle.format_dns.specs.declared.fault.PartError.{PartError}
+use Rattle.format_dns.specs.declared.fault.PartError.TheVariants.{Ends, NoMemory, NotPrior}
+use Rattle.format_dns.specs.declared.fault.PartError.TheVariants.{Reserved, TooLong, TooMany}
 use Rattle.format_dns.specs.declared.name.Ending.{Ending}
 use Rattle.format_dns.specs.declared.name.Ending.TheVariants.{Pointer, Root}
 
@@ -58,12 +58,12 @@ IsReserved tokens =
     (b : ℕ) × (rest : List ℕ) × (tokens ≡ b ∷ rest) × (64 ≤ b) × (b < 192)
 
 -- The reason why labels are not followed by a label, a pointer or the root at offset `place`.
-abbrev pub NoEnding : List ℕ → ℕ → Fault → Type 0
+abbrev pub NoEnding : List ℕ → ℕ → PartError → Type 0
 NoEnding tokens place fault =
     ((fault ≡ Ends place) × IsCut tokens) ⊎ ((fault ≡ Reserved place) × IsReserved tokens)
 
 -- the contract of an ending, for bytes that do not start with a label
-abbrev pub EndingResult : List ℕ → ℕ → Result Ending Fault → Type 0
+abbrev pub EndingResult : List ℕ → ℕ → Result Ending PartError → Type 0
 EndingResult tokens place (Ok Root) = IsRoot tokens
 EndingResult tokens place (Ok (Pointer to)) = IsPointer tokens to
 EndingResult tokens place (Err fault) = NoEnding tokens place fault
@@ -79,7 +79,7 @@ IsNameEnding others start here end rest labels behind =
 
 -- The labels are followed by an invalid ending, by a pointer to an offset that is not smaller, or
 -- by a pointer to an offset without a valid name.
-abbrev pub IsNoNameEnding : (ℕ → ℕ → Fault → Type 0) → ℕ → ℕ → List ℕ → Fault → Type 0
+abbrev pub IsNoNameEnding : (ℕ → ℕ → PartError → Type 0) → ℕ → ℕ → List ℕ → PartError → Type 0
 IsNoNameEnding faults start end rest fault =
     NoEnding rest end fault
     ⊎ ((to : ℕ) × IsPointer rest to
@@ -118,7 +118,7 @@ module _ (message : List ℕ) where
 
   -- the place is past the end, or the labels at it have more octets than there is room for, or
   -- after them is nothing that a name has there
-  abbrev pub FaultBy : (ℕ → ℕ → ℕ → Fault → Type 0) → ℕ → ℕ → Fault → Type 0
+  abbrev pub FaultBy : (ℕ → ℕ → ℕ → PartError → Type 0) → ℕ → ℕ → PartError → Type 0
   FaultBy faults room start fault =
       ((fault ≡ Ends start) × (length message < start))
       ⊎ (((fault ≡ TooLong start) × HasMore start room)
@@ -127,14 +127,14 @@ module _ (message : List ℕ) where
 
   -- `HasNoName pointers room start fault`: the reason why offset `start` has no name that follows
   -- at most `pointers` pointers and whose labels have at most `room` octets.
-  abbrev pub HasNoName : ℕ → ℕ → ℕ → Fault → Type 0
+  abbrev pub HasNoName : ℕ → ℕ → ℕ → PartError → Type 0
   HasNoName zero = FaultBy (λ room end to fault. fault ≡ TooMany end)
   HasNoName (suc pointers) = FaultBy (λ room end to fault. HasNoName pointers room to fault)
 
   -- The contract of the name at an offset, for at most `pointers` pointers and labels of at most
   -- `room` octets: it is that name; or the error is the reason why there is none; or memory
   -- allocation failed.
-  abbrev pub NameWithin : {A : Type 0} → ℕ → ℕ → ℕ → Result (Name A) Fault → Type 0
+  abbrev pub NameWithin : {A : Type 0} → ℕ → ℕ → ℕ → Result (Name A) PartError → Type 0
   NameWithin pointers room start (Ok name) =
       IsName pointers start name.labels.items name.behind × (octets name.labels.items ≤ room)
   NameWithin pointers room start (Err fault) =
@@ -144,5 +144,5 @@ module _ (message : List ℕ) where
       → octets labels ≤ room → ⊥))
 
   -- The same contract for any name: it has at most 255 octets, including the octet of the root.
-  abbrev pub NameResult : {A : Type 0} → ℕ → ℕ → Result (Name A) Fault → Type 0
+  abbrev pub NameResult : {A : Type 0} → ℕ → ℕ → Result (Name A) PartError → Type 0
   NameResult pointers = NameWithin pointers 254

@@ -2,7 +2,7 @@
 use Rattle.std.specs.Prelude.{◌≡◌, ◌≤◌, ◌+◌, ◌*◌, ◌++◌, ℕ, List, [], ◌∷◌, length}
 use Rattle.std.proofs.Common.{sym, ap, subst, inl, inr, ◌∙◌, arith, length-append}
 use Rattle.winnow.specs.Equal.{none_is_some, same_first, same_others}
-use Rattle.winnow.specs.Grammar.{Each, Many, NoneStands}
+use Rattle.winnow.specs.Grammar.{Each, Many, NoMatch}
 use Rattle.winnow.specs.Grammar.Lengths.{same_beginnings}
 use Rattle.format_dns.specs.Names.{AreLabels, IsLabel, Label, octets}
 
@@ -30,11 +30,11 @@ octets_least (label ∷ labels) tokens rest (mid, (least, most, e), more) =
     omega (arith, least, octets_least labels mid rest more)
 
 pub octets_most : (some all : List Label) (tokens other rest : List ℕ)
-    → Each IsLabel tokens some other → Each IsLabel tokens all rest → NoneStands IsLabel rest
+    → Each IsLabel tokens some other → Each IsLabel tokens all rest → NoMatch IsLabel rest
     → octets some ≤ octets all
 octets_most [] all tokens other rest e f none = omega arith
 octets_most (label ∷ some) [] tokens other rest (mid, x, more) f none =
-    let P : List ℕ → Type 0 = λ l. NoneStands IsLabel l in
+    let P : List ℕ → Type 0 = λ l. NoMatch IsLabel l in
     absurd (subst P f none label mid x)
 octets_most (label ∷ some) (first ∷ all) tokens other rest (mid, (a, b, e), more)
     (mid2, (c, d, f), more2) none =
@@ -53,7 +53,7 @@ module _ {message : List ℕ} {start end : ℕ} {here : List Label} {rest : List
   unfolding Many
   each_here = a.each.0
 
-  pub none_here : NoneStands IsLabel rest
+  pub none_here : NoMatch IsLabel rest
   unfolding Many
   none_here =
       elim a.each.2 [

@@ -10,13 +10,13 @@ use Rattle.format_dns.specs.NameLaws.{no_name, one_behind}
 use Rattle.format_dns.specs.Names.{At}
 use Rattle.format_dns.specs.Questions.{AreQuestions, HasNoQuestion, HaveNoQuestions, IsQuestion}
 use Rattle.format_dns.specs.Questions.{PartResult, QuestionsLack, Rows, RowsFail, RowsLack}
-use Rattle.format_dns.specs.declared.fault.Fault.{Fault}
-use Rattle.format_dns.specs.declared.fault.Fault.TheVariants.{NoMemory}
+use Rattle.format_dns.specs.declared.fault.PartError.{PartError}
+use Rattle.format_dns.specs.declared.fault.PartError.TheVariants.{NoMemory}
 use Rattle.format_dns.specs.declared.question.Question.{Question}
 use Rattle.format_dns.specs.declared.question.Questions.{Questions}
 
-pub part_err : {X : Type 0} (Is : X → Type 0) (Fails : Fault → Type 0) {fault : Fault}
-    (r : Result X Fault) → IsErrAnd r (λ y. y ≡ fault)
+pub part_err : {X : Type 0} (Is : X → Type 0) (Fails : PartError → Type 0) {fault : PartError}
+    (r : Result X PartError) → IsErrAnd r (λ y. y ≡ fault)
     → (fault ≡ NoMemory) ⊎ (Fails fault × ((part : X) → Is part → ⊥)) → PartResult Is Fails r
 part_err Is Fails (Ok part) is why = elim is [ ]
 part_err Is Fails (Err y) is (inl memory) = inl (is ∙ memory)
@@ -48,9 +48,9 @@ module _ {X : Type 0} (Is : ℕ → X → Type 0) (behind : X → ℕ) where
         (omega (arith, few))
 
     -- where the next fails there are not as many
-    pub rows_none : (Fails : ℕ → Fault → Type 0)
-        → ((start : ℕ) (fault : Fault) (x : X) → Fails start fault → Is start x → ⊥)
-        → (start count : ℕ) (fault : Fault) → RowsFail Is behind Fails start count fault
+    pub rows_none : (Fails : ℕ → PartError → Type 0)
+        → ((start : ℕ) (fault : PartError) (x : X) → Fails start fault → Is start x → ⊥)
+        → (start count : ℕ) (fault : PartError) → RowsFail Is behind Fails start count fault
         → (others : List X) (other : ℕ) → Rows Is behind start others other
         → length others ≡ count → ⊥
     rows_none Fails never start count fault (parts, place, rows, few, fails) others other more
@@ -71,7 +71,7 @@ module _ {X : Type 0} (Is : ℕ → X → Type 0) (behind : X → ℕ) where
         (omega (arith, same))
 
 pub lack_fails : {X : Type 0} (Is : ℕ → X → Type 0) (behind : X → ℕ)
-    (Fails : ℕ → Fault → Type 0) (start count entry : ℕ) (fault : Fault)
+    (Fails : ℕ → PartError → Type 0) (start count entry : ℕ) (fault : PartError)
     → RowsLack Is behind Fails start count entry fault
     → RowsFail Is behind Fails start count fault
 lack_fails Is behind Fails start count entry fault (parts, place, rows, size, few, fails) =
@@ -96,7 +96,7 @@ at_length {tokens = tokens} (front, size, e) =
     omega (arith, size, ap (λ l. length l) e, length-append front tokens)
 
 module _ (message : List ℕ) (pointers : ℕ) where
-  pub no_question : {A : Type 0} (start : ℕ) (fault : Fault) (question : Question A)
+  pub no_question : {A : Type 0} (start : ℕ) (fault : PartError) (question : Question A)
       → HasNoQuestion message pointers start fault → IsQuestion message pointers start question → ⊥
   no_question start fault question (inl none) q =
       no_name message pointers 254 start fault none question.name.labels.items question.name.behind
@@ -123,7 +123,7 @@ module _ (message : List ℕ) (pointers : ℕ) where
             y.name.behind a.name.0 b.name.0,
       )
 
-  pub no_questions : {A : Type 0} (start count : ℕ) (fault : Fault) (questions : Questions A)
+  pub no_questions : {A : Type 0} (start count : ℕ) (fault : PartError) (questions : Questions A)
       → HaveNoQuestions message pointers A start count fault
       → AreQuestions message pointers start count questions → ⊥
   no_questions {A} start count fault questions fails (rows, many) =
@@ -132,14 +132,14 @@ module _ (message : List ℕ) (pointers : ℕ) where
       (HasNoQuestion message pointers) (λ place f x. no_question place f x) start count fault fails
       questions.list.items questions.behind rows many
 
-  pub fail_questions : {A : Type 0} (start count entry : ℕ) (fault : Fault)
+  pub fail_questions : {A : Type 0} (start count entry : ℕ) (fault : PartError)
       → QuestionsLack message pointers A start count entry fault
       → HaveNoQuestions message pointers A start count fault
   fail_questions {A} start count entry fault lacks =
       lack_fails (λ place (question : Question A). IsQuestion message pointers place question)
       (λ question. question.behind) (HasNoQuestion message pointers) start count entry fault lacks
 
-  pub lack_questions : {A : Type 0} (start count entry : ℕ) (fault : Fault)
+  pub lack_questions : {A : Type 0} (start count entry : ℕ) (fault : PartError)
       (questions : Questions A) → QuestionsLack message pointers A start count entry fault
       → AreQuestions message pointers start count questions → ⊥
   lack_questions {A} start count entry fault questions lacks =

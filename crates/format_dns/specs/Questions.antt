@@ -2,9 +2,9 @@
 use Rattle.std.specs.Prelude.{◌≡◌, ◌⊎◌, ◌≤◌, ◌<◌, ◌+◌, ℕ, List, [], ◌∷◌, length, Result, Ok, Err}
 use Rattle.format_dns.specs.Fields.{AreAsked}
 use Rattle.format_dns.specs.Names.{At, HasNoName, IsName, Label, octets}
-use Rattle.format_dns.specs.declared.fault.Fault.{Fault}
-use Rattle.format_dns.specs.declared.fault.Fault.TheVariants.{Ends, NoMemory}
-use Rattle.format_dns.specs.declared.fault.MessageFault.{MessageFault}
+use Rattle.format_dns.specs.declared.fault.PartError.{PartError}
+use Rattle.format_dns.specs.declared.fault.PartError.TheVariants.{Ends, NoMemory}
+use Rattle.format_dns.specs.declared.fault.MessageError.{MessageError}
 use Rattle.format_dns.specs.declared.fault.Section.{Section}
 use Rattle.format_dns.specs.declared.name.Name.{Name}
 use Rattle.format_dns.specs.declared.question.Question.{Question}
@@ -12,7 +12,8 @@ use Rattle.format_dns.specs.declared.question.Questions.{Questions}
 
 -- The contract of a part of a message: it is that part; or the error is the reason why there is
 -- none; or memory allocation failed.
-abbrev pub PartResult : {X : Type 0} → (X → Type 0) → (Fault → Type 0) → Result X Fault → Type 0
+abbrev pub PartResult : {X : Type 0} → (X → Type 0) → (PartError → Type 0) → Result X PartError
+    → Type 0
 PartResult Is Fails (Ok part) = Is part
 PartResult {X} Is Fails (Err fault) =
     (fault ≡ NoMemory) ⊎ (Fails fault × ((part : X) → Is part → ⊥))
@@ -23,27 +24,27 @@ Rows Is behind start [] end = end ≡ start
 Rows Is behind start (part ∷ parts) end = Is start part × Rows Is behind (behind part) parts end
 
 -- There are fewer than `count` parts, and after them the next fails.
-abbrev pub RowsFail : {X : Type 0} → (ℕ → X → Type 0) → (X → ℕ) → (ℕ → Fault → Type 0) → ℕ → ℕ
-    → Fault → Type 0
+abbrev pub RowsFail : {X : Type 0} → (ℕ → X → Type 0) → (X → ℕ) → (ℕ → PartError → Type 0) → ℕ → ℕ
+    → PartError → Type 0
 RowsFail {X} Is behind Fails start count fault =
     (parts : List X) × (place : ℕ) × Rows Is behind start parts place × (length parts < count)
     × Fails place fault
 
 -- Memory allocation failed, at any offset.
-abbrev pub WantsMemory : ℕ → Fault → Type 0
+abbrev pub WantsMemory : ℕ → PartError → Type 0
 WantsMemory place fault = fault ≡ NoMemory
 
 -- There are `entry` parts, fewer than `count`, and after them the next fails.
-abbrev pub RowsLack : {X : Type 0} → (ℕ → X → Type 0) → (X → ℕ) → (ℕ → Fault → Type 0) → ℕ → ℕ
-    → ℕ → Fault → Type 0
+abbrev pub RowsLack : {X : Type 0} → (ℕ → X → Type 0) → (X → ℕ) → (ℕ → PartError → Type 0) → ℕ → ℕ
+    → ℕ → PartError → Type 0
 RowsLack {X} Is behind Fails start count entry fault =
     (parts : List X) × (place : ℕ) × Rows Is behind start parts place × (length parts ≡ entry)
     × (entry < count) × Fails place fault
 
 -- The contract of a section: its entries; or the number of entries before a failed allocation; or
 -- the number before the first invalid entry, the reason, and that the section is invalid.
-abbrev pub SectionResult : {X : Type 0} → Section → (X → Type 0) → (ℕ → Fault → Type 0)
-    → (ℕ → Fault → Type 0) → Result X MessageFault → Type 0
+abbrev pub SectionResult : {X : Type 0} → Section → (X → Type 0) → (ℕ → PartError → Type 0)
+    → (ℕ → PartError → Type 0) → Result X MessageError → Type 0
 SectionResult section Is Wants Fails (Ok entries) = Is entries
 SectionResult {X} section Is Wants Fails (Err fault) =
     (fault.section ≡ section)
@@ -53,7 +54,7 @@ SectionResult {X} section Is Wants Fails (Err fault) =
 -- The contract of fields at an offset, of `size` bytes together: their values, or that the message
 -- ends within them.
 abbrev pub FieldsResult : {X : Type 0} → List ℕ → ℕ → (X → List ℕ → List ℕ → Type 0) → ℕ
-    → Result X Fault → Type 0
+    → Result X PartError → Type 0
 FieldsResult message size Are place (Ok fields) =
     (tokens : List ℕ) × (rest : List ℕ) × At message place tokens × Are fields tokens rest
 FieldsResult message size Are place (Err fault) =
@@ -79,7 +80,7 @@ module _ (message : List ℕ) (pointers : ℕ) where
 
   -- The reason why there is no question at an offset: there is no name, or the message ends within
   -- the fields after it.
-  abbrev pub HasNoQuestion : ℕ → Fault → Type 0
+  abbrev pub HasNoQuestion : ℕ → PartError → Type 0
   HasNoQuestion start fault =
       HasNoName message pointers 254 start fault
       ⊎ ((labels : List Label) × (behind : ℕ) × IsShort start labels behind
@@ -93,24 +94,24 @@ module _ (message : List ℕ) (pointers : ℕ) where
       × (length questions.list.items ≡ count)
 
   -- There are fewer than `count` questions, and the next is invalid for this reason.
-  abbrev pub HaveNoQuestions : Type 0 → ℕ → ℕ → Fault → Type 0
+  abbrev pub HaveNoQuestions : Type 0 → ℕ → ℕ → PartError → Type 0
   HaveNoQuestions A =
       RowsFail (λ place (question : Question A). IsQuestion place question)
       (λ question. question.behind) HasNoQuestion
 
   -- After `entry` questions, fewer than `count`, the next is invalid for this reason.
-  abbrev pub QuestionsLack : Type 0 → ℕ → ℕ → ℕ → Fault → Type 0
+  abbrev pub QuestionsLack : Type 0 → ℕ → ℕ → ℕ → PartError → Type 0
   QuestionsLack A =
       RowsLack (λ place (question : Question A). IsQuestion place question)
       (λ question. question.behind) HasNoQuestion
 
   -- After `entry` questions, fewer than `count`, memory allocation failed.
-  abbrev pub QuestionsWant : Type 0 → ℕ → ℕ → ℕ → Fault → Type 0
+  abbrev pub QuestionsWant : Type 0 → ℕ → ℕ → ℕ → PartError → Type 0
   QuestionsWant A =
       RowsLack (λ place (question : Question A). IsQuestion place question)
       (λ question. question.behind) WantsMemory
 
   -- the contract of `count` questions
-  abbrev pub QuestionsResult : {A : Type 0} → ℕ → ℕ → Result (Questions A) Fault → Type 0
+  abbrev pub QuestionsResult : {A : Type 0} → ℕ → ℕ → Result (Questions A) PartError → Type 0
   QuestionsResult {A} start count =
       PartResult (AreQuestions start count) (HaveNoQuestions A start count)

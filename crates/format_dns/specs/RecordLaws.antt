@@ -14,7 +14,7 @@ use Rattle.format_dns.specs.Names.{At}
 use Rattle.format_dns.specs.PartLaws.{at_length, lack_fails, rows_none}
 use Rattle.format_dns.specs.Records.{AreRecords, HasNoRecord, HaveNoRecords, IsRecord}
 use Rattle.format_dns.specs.Records.{RecordsLack}
-use Rattle.format_dns.specs.declared.fault.Fault.{Fault}
+use Rattle.format_dns.specs.declared.fault.PartError.{PartError}
 use Rattle.format_dns.specs.declared.record.Record.{Record}
 use Rattle.format_dns.specs.declared.record.Records.{Records}
 
@@ -44,7 +44,7 @@ one_fields e a b =
     let size = one_field time.1 a.size_field b.size_field in (kind.0, class.0, size.0)
 
 module _ (message : List ℕ) (pointers : ℕ) where
-  pub no_record : {A : Type 0} (start : ℕ) (fault : Fault) (it : Record A)
+  pub no_record : {A : Type 0} (start : ℕ) (fault : PartError) (it : Record A)
       → HasNoRecord message pointers start fault → IsRecord message pointers start it → ⊥
   no_record start fault it (inl none) r =
       no_name message pointers 254 start fault none it.name.labels.items it.name.behind r.name.0
@@ -95,7 +95,7 @@ module _ (message : List ℕ) (pointers : ℕ) where
       let (kind, class, size) = one_fields same a.fields b.fields in
       omega (arith, a.behind, b.behind, there, size)
 
-  pub no_records : {A : Type 0} (start count : ℕ) (fault : Fault) (records : Records A)
+  pub no_records : {A : Type 0} (start count : ℕ) (fault : PartError) (records : Records A)
       → HaveNoRecords message pointers A start count fault
       → AreRecords message pointers start count records → ⊥
   no_records {A} start count fault records fails (rows, many) =
@@ -104,14 +104,14 @@ module _ (message : List ℕ) (pointers : ℕ) where
       (HasNoRecord message pointers) (λ place f x. no_record place f x) start count fault fails
       records.list.items records.behind rows many
 
-  pub fail_records : {A : Type 0} (start count entry : ℕ) (fault : Fault)
+  pub fail_records : {A : Type 0} (start count entry : ℕ) (fault : PartError)
       → RecordsLack message pointers A start count entry fault
       → HaveNoRecords message pointers A start count fault
   fail_records {A} start count entry fault lacks =
       lack_fails (λ place (it : Record A). IsRecord message pointers place it) (λ it. it.behind)
       (HasNoRecord message pointers) start count entry fault lacks
 
-  pub lack_records : {A : Type 0} (start count entry : ℕ) (fault : Fault) (records : Records A)
+  pub lack_records : {A : Type 0} (start count entry : ℕ) (fault : PartError) (records : Records A)
       → RecordsLack message pointers A start count entry fault
       → AreRecords message pointers start count records → ⊥
   lack_records {A} start count entry fault records lacks =

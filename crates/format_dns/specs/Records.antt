@@ -5,8 +5,8 @@ use Rattle.format_dns.specs.Fields.{AreRecordFields}
 use Rattle.format_dns.specs.Names.{At, HasNoName, Label}
 use Rattle.format_dns.specs.Questions.{HasName, IsShort, PartResult, Rows, RowsFail, RowsLack}
 use Rattle.format_dns.specs.Questions.{WantsMemory}
-use Rattle.format_dns.specs.declared.fault.Fault.{Fault}
-use Rattle.format_dns.specs.declared.fault.Fault.TheVariants.{Ends}
+use Rattle.format_dns.specs.declared.fault.PartError.{PartError}
+use Rattle.format_dns.specs.declared.fault.PartError.TheVariants.{Ends}
 use Rattle.format_dns.specs.declared.record.Record.{Record}
 use Rattle.format_dns.specs.declared.record.Records.{Records}
 
@@ -28,7 +28,7 @@ module _ (message : List ℕ) (pointers : ℕ) where
 
   -- The data of `size` octets are invalid: the message ends within them, or they are not of this
   -- type and class.
-  abbrev pub HasNoData : ℕ → ℕ → ℕ → ℕ → Fault → Type 0
+  abbrev pub HasNoData : ℕ → ℕ → ℕ → ℕ → PartError → Type 0
   HasNoData kind class start size fault =
       ((fault ≡ Ends start) × (length message < start + size))
       ⊎ ((start + size ≤ length message)
@@ -36,7 +36,7 @@ module _ (message : List ℕ) (pointers : ℕ) where
 
   -- The reason why there is no record at an offset: there is no name, the message ends within the
   -- fields after it, or the data are invalid.
-  abbrev pub HasNoRecord : ℕ → Fault → Type 0
+  abbrev pub HasNoRecord : ℕ → PartError → Type 0
   HasNoRecord start fault =
       HasNoName message pointers 254 start fault
       ⊎ ((labels : List Label) × (behind : ℕ) × IsShort message pointers start labels behind
@@ -53,21 +53,21 @@ module _ (message : List ℕ) (pointers : ℕ) where
       × (length records.list.items ≡ count)
 
   -- There are fewer than `count` records, and the next is invalid for this reason.
-  abbrev pub HaveNoRecords : Type 0 → ℕ → ℕ → Fault → Type 0
+  abbrev pub HaveNoRecords : Type 0 → ℕ → ℕ → PartError → Type 0
   HaveNoRecords A =
       RowsFail (λ place (it : Record A). IsRecord place it) (λ it. it.behind) HasNoRecord
 
   -- After `entry` records, fewer than `count`, the next is invalid for this reason.
-  abbrev pub RecordsLack : Type 0 → ℕ → ℕ → ℕ → Fault → Type 0
+  abbrev pub RecordsLack : Type 0 → ℕ → ℕ → ℕ → PartError → Type 0
   RecordsLack A =
       RowsLack (λ place (it : Record A). IsRecord place it) (λ it. it.behind) HasNoRecord
 
   -- After `entry` records, fewer than `count`, memory allocation failed.
-  abbrev pub RecordsWant : Type 0 → ℕ → ℕ → ℕ → Fault → Type 0
+  abbrev pub RecordsWant : Type 0 → ℕ → ℕ → ℕ → PartError → Type 0
   RecordsWant A =
       RowsLack (λ place (it : Record A). IsRecord place it) (λ it. it.behind) WantsMemory
 
   -- the contract of `count` records
-  abbrev pub RecordsResult : {A : Type 0} → ℕ → ℕ → Result (Records A) Fault → Type 0
+  abbrev pub RecordsResult : {A : Type 0} → ℕ → ℕ → Result (Records A) PartError → Type 0
   RecordsResult {A} start count =
       PartResult (AreRecords start count) (HaveNoRecords A start count)

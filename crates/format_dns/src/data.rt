@@ -7,7 +7,7 @@ ghost use Rattle.format_dns.specs.Names.{At};
 ghost use Rattle.format_dns.specs.Questions.{PartResult};
 ghost use Rattle.std.specs.Prelude.{◌≡◌, length};
 
-use crate::fault::Fault;
+use crate::fault::PartError;
 use crate::fields::{of_service_at, of_zone_at, short_at};
 use crate::labels::read_strings;
 use crate::name::{Name, read_name};
@@ -153,18 +153,18 @@ pub(crate) fn form_in(kind: u16, class: u16, length: u16) -> Form
 }
 
 /// That many octets from a place to the end.
-fn octets_to_end<'m>(message: &'m [u8], place: usize, size: usize) -> Result<&'m [u8], Fault>
+fn octets_to_end<'m>(message: &'m [u8], place: usize, size: usize) -> Result<&'m [u8], PartError>
     ensures { PartResult (λ octets. At message.now place octets.now × (length octets.now ≡ size))
         (HasOtherSize message.now place size) result }
 {
     let Some(octets) = message.get(place..) else {
-        return Err(Fault::Ends(place));
+        return Err(PartError::Ends(place));
     };
     if octets.len() < size {
-        return Err(Fault::Ends(place));
+        return Err(PartError::Ends(place));
     }
     if octets.len() > size {
-        return Err(Fault::Trailing(place + size));
+        return Err(PartError::Trailing(place + size));
     }
     Ok(octets)
 }
@@ -175,14 +175,14 @@ fn name_to_end<'m, A: Allocator + Copy>(
     pointers: usize,
     message: &'m [u8],
     place: usize,
-) -> Result<Name<'m, A>, Fault>
+) -> Result<Name<'m, A>, PartError>
     ensures { PartResult (IsLastName message.now pointers place)
         (NoLastName message.now pointers place)
         result }
 {
     let name = read_name(alloc, pointers, message, place)?;
     if name.behind != message.len() {
-        return Err(Fault::Trailing(name.behind));
+        return Err(PartError::Trailing(name.behind));
     }
     Ok(name)
 }
@@ -192,18 +192,18 @@ fn strings_to_end<'m, A: Allocator + Copy>(
     alloc: A,
     message: &'m [u8],
     place: usize,
-) -> Result<Vec<&'m [u8], A>, Fault>
+) -> Result<Vec<&'m [u8], A>, PartError>
     ensures { PartResult (λ strings. AreStrings message.now place strings.items)
         (NoStrings message.now place) result }
 {
     let Some(mut rest) = message.get(place..) else {
-        return Err(Fault::Ends(place));
+        return Err(PartError::Ends(place));
     };
     let Ok(strings) = read_strings(alloc, rest.len(), &mut rest) else {
-        return Err(Fault::NoMemory);
+        return Err(PartError::NoMemory);
     };
     if strings.is_empty() || !rest.is_empty() {
-        return Err(Fault::Ends(message.len() - rest.len()));
+        return Err(PartError::Ends(message.len() - rest.len()));
     }
     Ok(strings)
 }
@@ -214,7 +214,7 @@ fn mail_to_end<'m, A: Allocator + Copy>(
     pointers: usize,
     message: &'m [u8],
     place: usize,
-) -> Result<MailExchange<'m, A>, Fault>
+) -> Result<MailExchange<'m, A>, PartError>
     ensures { PartResult (HasMail message.now pointers place) (NoMail message.now pointers place)
         result }
 {
@@ -232,7 +232,7 @@ fn zone_to_end<'m, A: Allocator + Copy>(
     pointers: usize,
     message: &'m [u8],
     place: usize,
-) -> Result<StartOfAuthority<'m, A>, Fault>
+) -> Result<StartOfAuthority<'m, A>, PartError>
     ensures { PartResult (HasZone message.now pointers place) (NoZone message.now pointers place)
         result }
 {
@@ -241,7 +241,7 @@ fn zone_to_end<'m, A: Allocator + Copy>(
     let zone = of_zone_at(message, mailbox.behind)?;
     let end = mailbox.behind + 20;
     if end != message.len() {
-        return Err(Fault::Trailing(end));
+        return Err(PartError::Trailing(end));
     }
     Ok(StartOfAuthority {
         primary,
@@ -260,7 +260,7 @@ fn service_to_end<'m, A: Allocator + Copy>(
     pointers: usize,
     message: &'m [u8],
     place: usize,
-) -> Result<Service<'m, A>, Fault>
+) -> Result<Service<'m, A>, PartError>
     ensures { PartResult (HasService message.now pointers place)
         (NoService message.now pointers place)
         result }
@@ -276,7 +276,7 @@ fn service_to_end<'m, A: Allocator + Copy>(
 }
 
 /// The address of four octets from a place to the end.
-fn ipv4_to_end(message: &[u8], place: usize) -> Result<Ipv4Addr, Fault>
+fn ipv4_to_end(message: &[u8], place: usize) -> Result<Ipv4Addr, PartError>
     ensures { PartResult (IsIpv4 message.now place)
         (HasOtherSize message.now place 4) result }
 {
@@ -286,7 +286,7 @@ fn ipv4_to_end(message: &[u8], place: usize) -> Result<Ipv4Addr, Fault>
 }
 
 /// The address of sixteen octets from a place to the end.
-fn ipv6_to_end(message: &[u8], place: usize) -> Result<Ipv6Addr, Fault>
+fn ipv6_to_end(message: &[u8], place: usize) -> Result<Ipv6Addr, PartError>
     ensures { PartResult (IsIpv6 message.now place) (HasOtherSize message.now place 16) result }
 {
     let mut octets = [0; 16];
@@ -301,7 +301,7 @@ pub(crate) fn read_data<'m, A: Allocator + Copy>(
     form: Form,
     message: &'m [u8],
     place: usize,
-) -> Result<Data<'m, A>, Fault>
+) -> Result<Data<'m, A>, PartError>
     ensures { PartResult (IsOfForm message.now pointers place form)
         (NoForm message.now pointers place form) result }
 {
@@ -336,7 +336,7 @@ pub(crate) fn read_data<'m, A: Allocator + Copy>(
         }
         Form::Any => match message.get(place..) {
             Some(octets) => Ok(Data::Other(octets)),
-            None => Err(Fault::Ends(place)),
+            None => Err(PartError::Ends(place)),
         },
     }
 }

@@ -3,12 +3,12 @@
 /// The reason why a part is invalid. Offsets are in bytes from the start of the message.
 ///
 /// ```
-/// use format_dns::fault::Fault;
+/// use format_dns::fault::PartError;
 ///
-/// assert!(rt; Fault::Ends(3) != Fault::Reserved(3));
+/// assert!(rt; PartError::Ends(3) != PartError::Reserved(3));
 /// ```
 #[derive(Clone, Copy, Debug, PartialEq, Eq)]
-pub enum Fault {
+pub enum PartError {
     /// The message, or a record's data by their length, end within what begins here: a label, a
     /// pointer, the end of a name, fields of a fixed length, a character string, or data.
     Ends(usize),
@@ -53,20 +53,20 @@ pub enum Section {
 /// All entries before it are valid.
 ///
 /// ```
-/// use format_dns::fault::{Fault, MessageFault, Section};
+/// use format_dns::fault::{PartError, MessageError, Section};
 ///
-/// let fault = MessageFault { section: Section::Answer, entry: 2, why: Fault::Ends(40) };
+/// let fault = MessageError { section: Section::Answer, entry: 2, why: PartError::Ends(40) };
 /// let said = format!(in alloc; "{fault}");
 /// let told = "entry 2 of the answer section: incomplete element at offset 40";
 /// assert!(rt; matches!(said, Ok(said) if said.as_str().starts_with(told)));
 /// ```
 #[derive(Clone, Copy, Debug, PartialEq, Eq)]
-pub struct MessageFault {
+pub struct MessageError {
     /// The section that it is of.
     pub section: Section,
     /// The number of entries of the section before it.
     pub entry: usize,
     /// The reason why it is invalid, and the offset; or that memory allocation failed, in which
     /// case it may be valid.
-    pub why: Fault,
+    pub why: PartError,
 }

@@ -3,7 +3,7 @@ ghost use Rattle.format_dns.specs.Fields.{AreOfService, AreOfZone, AreRecordFiel
 ghost use Rattle.format_dns.specs.Questions.{FieldsResult};
 ghost use Rattle.std.specs.Prelude.{◌≤◌, length, IfOk, IsOk};
 
-use crate::fault::Fault;
+use crate::fault::PartError;
 use crate::header::number;
 use winnow::Parser;
 use winnow::binary::impls::BeU32;
@@ -110,56 +110,56 @@ fn read_of_zone<'m>(input: &mut &'m [u8]) -> Result<OfZone, ErrMode<EmptyError>>
 }
 
 /// Reads the fields of a record at offset `place`.
-pub(crate) fn record_fields_at(message: &[u8], place: usize) -> Result<RecordFields, Fault>
+pub(crate) fn record_fields_at(message: &[u8], place: usize) -> Result<RecordFields, PartError>
     ensures { FieldsResult message.now 10
         (λ f. AreRecordFields f.kind f.class f.time_to_live f.length) place result }
 {
     let Some(mut rest) = message.get(place..) else {
-        return Err(Fault::Ends(place));
+        return Err(PartError::Ends(place));
     };
     match read_record_fields(&mut rest) {
         Ok(fields) => Ok(fields),
-        Err(_) => Err(Fault::Ends(place)),
+        Err(_) => Err(PartError::Ends(place)),
     }
 }
 
 /// Reads a number of two bytes at offset `place`.
-pub(crate) fn short_at(message: &[u8], place: usize) -> Result<u16, Fault>
+pub(crate) fn short_at(message: &[u8], place: usize) -> Result<u16, PartError>
     ensures { FieldsResult message.now 2 (λ n. IsField 2 n) place result }
 {
     let Some(mut rest) = message.get(place..) else {
-        return Err(Fault::Ends(place));
+        return Err(PartError::Ends(place));
     };
     match short(&mut rest) {
         Ok(number) => Ok(number),
-        Err(_) => Err(Fault::Ends(place)),
+        Err(_) => Err(PartError::Ends(place)),
     }
 }
 
 /// Reads the numbers of a service at offset `place`.
-pub(crate) fn of_service_at(message: &[u8], place: usize) -> Result<OfService, Fault>
+pub(crate) fn of_service_at(message: &[u8], place: usize) -> Result<OfService, PartError>
     ensures { FieldsResult message.now 6 (λ s. AreOfService s.priority s.weight s.port) place
         result }
 {
     let Some(mut rest) = message.get(place..) else {
-        return Err(Fault::Ends(place));
+        return Err(PartError::Ends(place));
     };
     match read_of_service(&mut rest) {
         Ok(fields) => Ok(fields),
-        Err(_) => Err(Fault::Ends(place)),
+        Err(_) => Err(PartError::Ends(place)),
     }
 }
 
 /// Reads the numbers of a zone at offset `place`.
-pub(crate) fn of_zone_at(message: &[u8], place: usize) -> Result<OfZone, Fault>
+pub(crate) fn of_zone_at(message: &[u8], place: usize) -> Result<OfZone, PartError>
     ensures { FieldsResult message.now 20
         (λ z. AreOfZone z.serial z.refresh z.retry z.expire z.minimum) place result }
 {
     let Some(mut rest) = message.get(place..) else {
-        return Err(Fault::Ends(place));
+        return Err(PartError::Ends(place));
     };
     match read_of_zone(&mut rest) {
         Ok(fields) => Ok(fields),
-        Err(_) => Err(Fault::Ends(place)),
+        Err(_) => Err(PartError::Ends(place)),
     }
 }

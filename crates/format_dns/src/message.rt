@@ -3,7 +3,7 @@
 ghost use Rattle.std.specs.Prelude.{◌≡◌};
 ghost use Rattle.format_dns.specs.Messages.{HeaderResult, MessageResult};
 
-use crate::fault::{Fault, MessageFault, Section};
+use crate::fault::{MessageError, PartError, Section};
 use crate::header::{Header, read_header};
 use crate::question::{Questions, questions_in};
 use crate::record::{Records, records_in};
@@ -42,13 +42,13 @@ impl<'m, A: Allocator> Message<'m, A> {
 }
 
 /// The header with which a message begins.
-fn header_in(message: &[u8]) -> Result<Header, MessageFault>
+fn header_in(message: &[u8]) -> Result<Header, MessageError>
     ensures { HeaderResult message.now result }
 {
-    let lacks = MessageFault {
+    let lacks = MessageError {
         section: Section::Header,
         entry: 0,
-        why: Fault::Ends(0),
+        why: PartError::Ends(0),
     };
     let Some(mut first) = message.get(..12) else {
         return Err(lacks);
@@ -74,7 +74,7 @@ fn header_in(message: &[u8]) -> Result<Header, MessageFault>
 /// counts: for a message of twelve bytes nothing is allocated.
 ///
 /// ```
-/// use format_dns::fault::{Fault, Section};
+/// use format_dns::fault::{PartError, Section};
 /// use format_dns::message::read_message;
 ///
 /// let bytes = b"\x12\x34\x01\x00\x00\x01\x00\x00\x00\x00\x00\x00\x03com\x00\x00\x02\x00\x01";
@@ -89,7 +89,7 @@ fn header_in(message: &[u8]) -> Result<Header, MessageFault>
 ///     Ok(_) => assert!(rt; false),
 ///     Err(fault) => {
 ///         assert!(rt; fault.section == Section::Question && fault.entry == 0);
-///         assert!(rt; fault.why == Fault::Ends(17));
+///         assert!(rt; fault.why == PartError::Ends(17));
 ///     }
 /// }
 /// ```
@@ -97,7 +97,7 @@ pub fn read_message<'m, A: Allocator + Copy>(
     alloc: A,
     pointers: usize,
     message: &'m [u8],
-) -> Result<Message<'m, A>, MessageFault>
+) -> Result<Message<'m, A>, MessageError>
     ensures { MessageResult message.now pointers result }
 {
     let header = header_in(message)?;

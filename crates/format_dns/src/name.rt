@@ -1,8 +1,8 @@
 //! Names.
 ghost use Rattle.format_dns.specs.Names.{EndingResult, IsLabel, NameResult, NameWithin};
-ghost use Rattle.winnow.specs.Grammar.{NoneStands};
+ghost use Rattle.winnow.specs.Grammar.{NoMatch};
 
-use crate::fault::Fault;
+use crate::fault::PartError;
 use crate::labels::read_labels;
 use std::alloc::Allocator;
 
@@ -24,23 +24,23 @@ enum Ending {
 }
 
 /// Reads the ending at offset `place`, where no label follows.
-fn read_ending(rest: &[u8], place: usize) -> Result<Ending, Fault>
-    requires { NoneStands IsLabel rest.now }
+fn read_ending(rest: &[u8], place: usize) -> Result<Ending, PartError>
+    requires { NoMatch IsLabel rest.now }
     ensures { EndingResult rest.now place result }
 {
     let Some((first, behind)) = rest.split_first() else {
-        return Err(Fault::Ends(place));
+        return Err(PartError::Ends(place));
     };
     match *first {
         0 => Ok(Ending::Root),
-        1..=63 => Err(Fault::Ends(place)),
-        64..=191 => Err(Fault::Reserved(place)),
+        1..=63 => Err(PartError::Ends(place)),
+        64..=191 => Err(PartError::Reserved(place)),
         high => match behind.split_first() {
             Some((low, _)) => {
                 let to = usize::from(high - 192) * 256 + usize::from(*low);
                 Ok(Ending::Pointer(to))
             }
-            None => Err(Fault::Ends(place)),
+            None => Err(PartError::Ends(place)),
         },
     }
 }
@@ -53,18 +53,18 @@ fn read_within<'m, A: Allocator + Copy>(
     room: usize,
     message: &'m [u8],
     place: usize,
-) -> Result<Name<'m, A>, Fault>
+) -> Result<Name<'m, A>, PartError>
     ensures { NameWithin message.now pointers room place result }
 {
     let Some(mut rest) = message.get(place..) else {
-        return Err(Fault::Ends(place));
+        return Err(PartError::Ends(place));
     };
     let Ok(mut labels) = read_labels(alloc, room / 2 + 1, &mut rest) else {
-        return Err(Fault::NoMemory);
+        return Err(PartError::NoMemory);
     };
     let end = message.len() - rest.len();
     let Some(left) = room.checked_sub(end - place) else {
-        return Err(Fault::TooLong(place));
+        return Err(PartError::TooLong(place));
     };
     match read_ending(rest, end)? {
         Ending::Root => Ok(Name {
@@ -73,14 +73,14 @@ fn read_within<'m, A: Allocator + Copy>(
         }),
         Ending::Pointer(to) => {
             if to >= place {
-                return Err(Fault::NotPrior(end));
+                return Err(PartError::NotPrior(end));
             }
             let Some(below) = pointers.checked_sub(1) else {
-                return Err(Fault::TooMany(end));
+                return Err(PartError::TooMany(end));
             };
             let further = read_within(alloc, below, left, message, to)?;
             if labels.extend_from_slice(&further.labels).is_err() {
-                return Err(Fault::NoMemory);
+                return Err(PartError::NoMemory);
             }
             Ok(Name {
                 labels,
@@ -114,7 +114,7 @@ pub fn read_name<'m, A: Allocator + Copy>(
     pointers: usize,
     message: &'m [u8],
     place: usize,
-) -> Result<Name<'m, A>, Fault>
+) -> Result<Name<'m, A>, PartError>
     ensures { NameResult message.now pointers place result }
 {
     read_within(alloc, pointers, 254, message, place)

@@ -7,7 +7,7 @@ ghost use Rattle.format_dns.specs.Questions.{QuestionsWant};
 ghost use Rattle.format_dns.specs.Questions.{SectionResult};
 ghost use Rattle.std.specs.Prelude.{◌≤◌, length, IfOk, IsOk};
 
-use crate::fault::{Fault, MessageFault, Section};
+use crate::fault::{MessageError, PartError, Section};
 use crate::header::number;
 use crate::name::{Name, read_name};
 use std::alloc::Allocator;
@@ -45,15 +45,15 @@ fn read_asked<'m>(input: &mut &'m [u8]) -> Result<Asked, ErrMode<EmptyError>>
 }
 
 /// Reads the type and the class at offset `place`.
-fn asked_at(message: &[u8], place: usize) -> Result<Asked, Fault>
+fn asked_at(message: &[u8], place: usize) -> Result<Asked, PartError>
     ensures { FieldsResult message.now 4 (λ asked. AreAsked asked.kind asked.class) place result }
 {
     let Some(mut rest) = message.get(place..) else {
-        return Err(Fault::Ends(place));
+        return Err(PartError::Ends(place));
     };
     match read_asked(&mut rest) {
         Ok(asked) => Ok(asked),
-        Err(_) => Err(Fault::Ends(place)),
+        Err(_) => Err(PartError::Ends(place)),
     }
 }
 
@@ -76,7 +76,7 @@ pub fn read_question<'m, A: Allocator + Copy>(
     pointers: usize,
     message: &'m [u8],
     place: usize,
-) -> Result<Question<'m, A>, Fault>
+) -> Result<Question<'m, A>, PartError>
     ensures { PartResult (IsQuestion message.now pointers place)
         (HasNoQuestion message.now pointers place)
         result }
@@ -122,7 +122,7 @@ pub fn read_questions<'m, A: Allocator + Copy>(
     message: &'m [u8],
     place: usize,
     count: u16,
-) -> Result<Questions<'m, A>, Fault>
+) -> Result<Questions<'m, A>, PartError>
     ensures { QuestionsResult message.now pointers place count result }
 {
     match questions_in(alloc, pointers, message, place, count) {
@@ -139,7 +139,7 @@ pub(crate) fn questions_in<'m, A: Allocator + Copy>(
     message: &'m [u8],
     place: usize,
     count: u16,
-) -> Result<Questions<'m, A>, MessageFault>
+) -> Result<Questions<'m, A>, MessageError>
     ensures { SectionResult Section.Question (AreQuestions message.now pointers place count)
         (QuestionsWant message.now pointers A place count)
         (QuestionsLack message.now pointers A place count) result }
@@ -151,7 +151,7 @@ pub(crate) fn questions_in<'m, A: Allocator + Copy>(
         let entry = list.len();
         let question = match read_question(alloc, pointers, message, behind) {
             Ok(question) => question,
-            Err(why) => return Err(MessageFault {
+            Err(why) => return Err(MessageError {
                 section,
                 entry,
                 why,
@@ -159,8 +159,8 @@ pub(crate) fn questions_in<'m, A: Allocator + Copy>(
         };
         behind = question.behind;
         if list.push(question).is_err() {
-            let why = Fault::NoMemory;
-            return Err(MessageFault {
+            let why = PartError::NoMemory;
+            return Err(MessageError {
                 section,
                 entry,
                 why,

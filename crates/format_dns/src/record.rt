@@ -4,7 +4,7 @@ ghost use Rattle.format_dns.specs.Records.{AreRecords, HasNoRecord, IsRecord, Re
 ghost use Rattle.format_dns.specs.Records.{RecordsResult, RecordsWant};
 
 use crate::data::{Data, form_in, read_data};
-use crate::fault::{Fault, MessageFault, Section};
+use crate::fault::{MessageError, PartError, Section};
 use crate::fields::record_fields_at;
 use crate::name::{Name, read_name};
 use std::alloc::Allocator;
@@ -51,7 +51,7 @@ pub fn read_record<'m, A: Allocator + Copy>(
     pointers: usize,
     message: &'m [u8],
     place: usize,
-) -> Result<Record<'m, A>, Fault>
+) -> Result<Record<'m, A>, PartError>
     ensures { PartResult (IsRecord message.now pointers place)
         (HasNoRecord message.now pointers place)
         result }
@@ -61,7 +61,7 @@ pub fn read_record<'m, A: Allocator + Copy>(
     let start = name.behind + 10;
     let behind = start + usize::from(fields.length);
     let Some(whole) = message.get(..behind) else {
-        return Err(Fault::Ends(start));
+        return Err(PartError::Ends(start));
     };
     let form = form_in(fields.kind, fields.class, fields.length);
     let data = read_data(alloc, pointers, form, whole, start)?;
@@ -105,7 +105,7 @@ pub fn read_records<'m, A: Allocator + Copy>(
     message: &'m [u8],
     place: usize,
     count: u16,
-) -> Result<Records<'m, A>, Fault>
+) -> Result<Records<'m, A>, PartError>
     ensures { RecordsResult message.now pointers place count result }
 {
     match records_in(Section::Answer, alloc, pointers, message, place, count) {
@@ -123,7 +123,7 @@ pub(crate) fn records_in<'m, A: Allocator + Copy>(
     message: &'m [u8],
     place: usize,
     count: u16,
-) -> Result<Records<'m, A>, MessageFault>
+) -> Result<Records<'m, A>, MessageError>
     ensures { SectionResult section (AreRecords message.now pointers place count)
         (RecordsWant message.now pointers A place count)
         (RecordsLack message.now pointers A place count) result }
@@ -134,7 +134,7 @@ pub(crate) fn records_in<'m, A: Allocator + Copy>(
         let entry = list.len();
         let record = match read_record(alloc, pointers, message, behind) {
             Ok(record) => record,
-            Err(why) => return Err(MessageFault {
+            Err(why) => return Err(MessageError {
                 section,
                 entry,
                 why,
@@ -142,8 +142,8 @@ pub(crate) fn records_in<'m, A: Allocator + Copy>(
         };
         behind = record.behind;
         if list.push(record).is_err() {
-            let why = Fault::NoMemory;
-            return Err(MessageFault {
+            let why = PartError::NoMemory;
+            return Err(MessageError {
                 section,
                 entry,
                 why,

@@ -10,7 +10,7 @@ use Rattle.format_http_chunked.specs.Dues.{DueFields, IsDue, IsFramingDue}
 use Rattle.format_http_chunked.specs.Room.{IsSpent, PartSpends, Spends}
 use Rattle.format_http_chunked.specs.Steps.{IsFault, IsNever, IsPart, IsSaid, IsTaken, IsViableByte}
 use Rattle.format_http_chunked.specs.declared.decoder.Decoder.{Decoder}
-use Rattle.format_http_chunked.specs.declared.decoder.Fault.{Fault}
+use Rattle.format_http_chunked.specs.declared.decoder.ChunkError.{ChunkError}
 use Rattle.format_http_chunked.specs.declared.decoder.Limits.{Limits}
 use Rattle.format_http_chunked.specs.declared.decoder.Step.{Step}
 use Rattle.format_http_chunked.specs.declared.decoder.Step.TheVariants as step
@@ -33,7 +33,7 @@ framing_at at other next b e =
     → IsFramingDue k content trailers (b ∷ bytes) ↔ IsDue next content trailers bytes in
     subst P (sym e)
 
-pub fault_at : (at other : Framing) (b : ℕ) (why : Fault) → at ≡ other
+pub fault_at : (at other : Framing) (b : ℕ) (why : ChunkError) → at ≡ other
     → ((room left : ℕ) → IsFault (place.Framing other) room left b why)
     → (room left : ℕ) → IsFault (place.Framing at) room left b why
 fault_at at other b why e =
@@ -68,7 +68,7 @@ taken_alike at other new bytes rest given fields same (taken, e, f) = (
 )
 
 pub part_alike : (old other new : Decoder) (bytes rest : List ℕ)
-    (r : Result (Option Step) Fault)
+    (r : Result (Option Step) ChunkError)
     → ((content trailers more : List ℕ) → IsDue old.place content trailers more
     ↔ IsDue other.place content trailers more)
     → IsPart other new bytes rest r → IsPart old new bytes rest r
@@ -85,7 +85,7 @@ part_alike old other new bytes rest (Ok None) same (t, x) =
 part_alike old other new bytes rest (Err why) same (t, x) =
     (taken_alike old.place other.place new.place bytes rest [] [] same t, x)
 
-pub said_then : (old mid new : Decoder) (bytes ahead rest : List ℕ) (r : Result Step Fault)
+pub said_then : (old mid new : Decoder) (bytes ahead rest : List ℕ) (r : Result Step ChunkError)
     → IsTaken old.place mid.place bytes ahead [] [] → IsSaid mid new ahead rest r
     → IsSaid old new bytes rest r
 said_then old mid new bytes ahead rest (Ok (step.Data chunk)) t (u, x) =
@@ -99,7 +99,7 @@ said_then old mid new bytes ahead rest (Ok step.More) t (u, x, y) =
 said_then old mid new bytes ahead rest (Err why) t (u, x) =
     (taken_then old.place mid.place new.place bytes ahead rest [] [] t u, x)
 
-pub fault_from : (at : Place) (framing : Framing) (b : ℕ) (why : Fault)
+pub fault_from : (at : Place) (framing : Framing) (b : ℕ) (why : ChunkError)
     → at ≡ place.Framing framing
     → ((room left : ℕ) → IsFault (place.Framing framing) room left b why)
     → (room left : ℕ) → IsFault at room left b why
@@ -154,7 +154,7 @@ zero_alike at e =
 
 -- what is spent does not depend on the place
 pub spends_alike : (old : Decoder) (at : Place) (new : Decoder) (bytes rest : List ℕ)
-    (r : Result (Option Step) Fault)
+    (r : Result (Option Step) ChunkError)
     → PartSpends (record {
       place = at;
       room = old.room;
@@ -173,7 +173,7 @@ pub spent_then : (old mid new : Decoder) (bytes ahead rest : List ℕ) (n : ℕ)
 spent_then old mid new bytes ahead rest n (e, f, g) (h, i, j) =
     (h ∙ e, omega (arith, f, i), omega (arith, g, j))
 
-pub spends_then : (old mid new : Decoder) (bytes ahead rest : List ℕ) (r : Result Step Fault)
+pub spends_then : (old mid new : Decoder) (bytes ahead rest : List ℕ) (r : Result Step ChunkError)
     → IsSpent old mid bytes ahead 0 → Spends mid new ahead rest r → Spends old new bytes rest r
 spends_then old mid new bytes ahead rest (Ok (step.Data chunk)) (e, f, g) (h, i, j) =
     (h ∙ e, i ∙ ap (λ (l : Limits). l.size_line) e, omega (arith, g, j))

@@ -10,8 +10,8 @@ use Rattle.format_http_chunked.specs.Decoded.{IsAnswer, IsAt, IsBodyPrefix, IsNo
 use Rattle.format_http_chunked.specs.Dues.{IsDue}
 use Rattle.format_http_chunked.specs.Steps.{IsFault, IsNever, IsSaid, IsTooLarge, IsViableByte}
 use Rattle.format_http_chunked.specs.declared.decoder.Decoder.{Decoder}
-use Rattle.format_http_chunked.specs.declared.decoder.Fault.{Fault}
-use Rattle.format_http_chunked.specs.declared.decoder.Fault.TheVariants as fault
+use Rattle.format_http_chunked.specs.declared.decoder.ChunkError.{ChunkError}
+use Rattle.format_http_chunked.specs.declared.decoder.ChunkError.TheVariants as fault
 use Rattle.format_http_chunked.specs.declared.decoder.Step.{Step}
 use Rattle.format_http_chunked.specs.declared.decoder.Step.TheVariants as step
 use Rattle.format_http_chunked.specs.declared.places.Framing.TheVariants as framing
@@ -118,7 +118,7 @@ module _ (front given fields : List ℕ) where
           length-append given left,
         )
 
-  refused : (decoder : Decoder) → IsAt decoder.place front given fields → (b : ℕ) (why : Fault)
+  refused : (decoder : Decoder) → IsAt decoder.place front given fields → (b : ℕ) (why : ChunkError)
       → IsFault decoder.place decoder.room decoder.trailer_room b why
       → IsRefusal decoder front b why
   refused decoder is b fault.Size f = (f.0, none_goes_on decoder.place is b f.1)
@@ -131,7 +131,7 @@ module _ (front given fields : List ℕ) where
   refused decoder is b fault.TrailersTooLong (at, on, no_room) =
       (at, some_goes_on decoder.place is b on, no_room)
 
-pub told : (old new : Decoder) (bytes rest : List ℕ) (r : Result Step Fault)
+pub told : (old new : Decoder) (bytes rest : List ℕ) (r : Result Step ChunkError)
     → IsSaid old new bytes rest r → (front given fields : List ℕ)
     → IsAt old.place front given fields → IsAnswer new front given fields bytes rest r
 told old new bytes rest (Ok (step.Data chunk)) ((taken, e, f), some) front given fields is = (

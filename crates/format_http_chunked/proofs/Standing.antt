@@ -4,11 +4,11 @@ use Rattle.std.proofs.Common.{ap, append_assoc, refl, sym, ◌∙◌}
 use Rattle.format_http_chunked.proofs.Lists.{front_is}
 use Rattle.format_http_chunked.specs.Decoded.{content_of, trailers_of}
 use Rattle.format_http_chunked.specs.Outputs.{OutputBeforeRest}
-use Rattle.format_http_chunked.specs.declared.decoder.Fault.{Fault}
+use Rattle.format_http_chunked.specs.declared.decoder.ChunkError.{ChunkError}
 use Rattle.format_http_chunked.specs.declared.decoder.Step.{Step}
 
 -- where bytes before those that it saw are taken too
-pub stands_then : (taken bytes ahead rest : List ℕ) (said : Result Step Fault)
+pub stands_then : (taken bytes ahead rest : List ℕ) (said : Result Step ChunkError)
     → bytes ≡ taken ++ ahead → OutputBeforeRest ahead rest said → OutputBeforeRest bytes rest said
 stands_then taken bytes ahead rest said e (before, f) = (
   taken ++ before,

@@ -6,8 +6,8 @@ use Rattle.format_http_chunked.specs.Dues.{IsDue}
 use Rattle.format_http_chunked.specs.Steps.{IsAtDataEnd, IsBetweenData, IsDigitAt, IsInSizeLine}
 use Rattle.format_http_chunked.specs.Steps.{IsInTrailers, IsTrailerByte}
 use Rattle.format_http_chunked.specs.declared.decoder.Decoder.{Decoder}
-use Rattle.format_http_chunked.specs.declared.decoder.Fault.{Fault}
-use Rattle.format_http_chunked.specs.declared.decoder.Fault.TheVariants as fault
+use Rattle.format_http_chunked.specs.declared.decoder.ChunkError.{ChunkError}
+use Rattle.format_http_chunked.specs.declared.decoder.ChunkError.TheVariants as fault
 use Rattle.format_http_chunked.specs.declared.decoder.Step.{Step}
 use Rattle.format_http_chunked.specs.declared.decoder.Step.TheVariants as step
 use Rattle.format_http_chunked.specs.declared.places.Framing.TheVariants as framing
@@ -38,7 +38,7 @@ IsNone bytes = (content trailers more : List ℕ) → IsBody content trailers (b
 -- the rest of a size line, the line ending of data, or trailers are expected. Or it is a digit of a
 -- size, and no body of less than 2 ^ 64 bytes of content continues with it. Or some body continues
 -- with it, and the limit of bytes between data or of trailers is reached.
-abbrev pub IsRefusal : Decoder → List ℕ → ℕ → Fault → Type 0
+abbrev pub IsRefusal : Decoder → List ℕ → ℕ → ChunkError → Type 0
 IsRefusal decoder front byte fault.Size =
     (decoder.place ≡ place.Framing framing.Start) × IsNone (front ++ byte ∷ [])
 IsRefusal decoder front byte fault.SizeLine =
@@ -57,14 +57,14 @@ IsRefusal decoder front byte fault.TrailersTooLong =
     × (decoder.trailer_room ≡ 0)
 
 -- the content and the bytes of trailers that a call gives out
-abbrev pub content_of : Result Step Fault → List ℕ
+abbrev pub content_of : Result Step ChunkError → List ℕ
 content_of (Ok (step.Data chunk)) = chunk.now
 content_of (Ok (step.Trailers fields)) = []
 content_of (Ok step.End) = []
 content_of (Ok step.More) = []
 content_of (Err why) = []
 
-abbrev pub trailers_of : Result Step Fault → List ℕ
+abbrev pub trailers_of : Result Step ChunkError → List ℕ
 trailers_of (Ok (step.Data chunk)) = []
 trailers_of (Ok (step.Trailers fields)) = fields.now
 trailers_of (Ok step.End) = []
@@ -76,7 +76,7 @@ trailers_of (Err why) = []
 -- its content and trailers. At `More` no byte remains, and the consumed bytes are a proper prefix
 -- of a body. At an error no body continues with the next byte, for the given reason, and the
 -- consumed bytes are a prefix of a body.
-abbrev pub Says : Decoder → List ℕ → List ℕ → List ℕ → List ℕ → Result Step Fault → Type 0
+abbrev pub Says : Decoder → List ℕ → List ℕ → List ℕ → List ℕ → Result Step ChunkError → Type 0
 Says decoder front given fields rest (Ok (step.Data chunk)) = 0 < length chunk.now
 Says decoder front given fields rest (Ok (step.Trailers some)) = 0 < length some.now
 Says decoder front given fields rest (Ok step.End) = IsBody given fields front
@@ -89,7 +89,7 @@ Says decoder front given fields rest (Err why) =
 
 -- The contract of a call after `front` was consumed and `given` and `fields` were returned: it
 -- consumes some of the bytes, leaves the rest, and returns the next part of content or trailers.
-abbrev pub IsAnswer : Decoder → List ℕ → List ℕ → List ℕ → List ℕ → List ℕ → Result Step Fault
+abbrev pub IsAnswer : Decoder → List ℕ → List ℕ → List ℕ → List ℕ → List ℕ → Result Step ChunkError
     → Type 0
 IsAnswer decoder front given fields bytes rest result =
     (taken : List ℕ) × (bytes ≡ taken ++ rest)

@@ -1,7 +1,7 @@
 -- How many bytes more a decoder takes.
 use Rattle.std.specs.Prelude.{◌≡◌, ◌+◌, ℕ, List, length, Option, Some, None, Result, Ok, Err}
 use Rattle.format_http_chunked.specs.declared.decoder.Decoder.{Decoder}
-use Rattle.format_http_chunked.specs.declared.decoder.Fault.{Fault}
+use Rattle.format_http_chunked.specs.declared.decoder.ChunkError.{ChunkError}
 use Rattle.format_http_chunked.specs.declared.decoder.Step.{Step}
 use Rattle.format_http_chunked.specs.declared.decoder.Step.TheVariants as step
 
@@ -13,7 +13,7 @@ IsSpent old new bytes rest fields =
     × (new.trailer_room + fields ≡ old.trailer_room)
 
 -- Data leave all of the room between data after them, and other steps less.
-abbrev pub Spends : Decoder → Decoder → List ℕ → List ℕ → Result Step Fault → Type 0
+abbrev pub Spends : Decoder → Decoder → List ℕ → List ℕ → Result Step ChunkError → Type 0
 Spends old new bytes rest (Ok (step.Data chunk)) =
     (new.limits ≡ old.limits) × (new.room ≡ old.limits.size_line)
     × (new.trailer_room ≡ old.trailer_room)
@@ -24,7 +24,8 @@ Spends old new bytes rest (Ok step.More) = IsSpent old new bytes rest 0
 Spends old new bytes rest (Err why) = IsSpent old new bytes rest 0
 
 -- likewise for a part of a call
-abbrev pub PartSpends : Decoder → Decoder → List ℕ → List ℕ → Result (Option Step) Fault → Type 0
+abbrev pub PartSpends : Decoder → Decoder → List ℕ → List ℕ → Result (Option Step) ChunkError
+    → Type 0
 PartSpends old new bytes rest (Ok (Some said)) = Spends old new bytes rest (Ok said)
 PartSpends old new bytes rest (Ok None) = IsSpent old new bytes rest 0
 PartSpends old new bytes rest (Err why) = Spends old new bytes rest (Err why)

@@ -4,8 +4,8 @@ use Rattle.std.specs.Prelude.{Err, None, Ok, Option, Result, Some}
 use Rattle.format_http_chunked.specs.Bodies.{ChunksAfterSize, IsHexDigit}
 use Rattle.format_http_chunked.specs.Dues.{DueFields, IsDue, IsFramingDue}
 use Rattle.format_http_chunked.specs.declared.decoder.Decoder.{Decoder}
-use Rattle.format_http_chunked.specs.declared.decoder.Fault.{Fault}
-use Rattle.format_http_chunked.specs.declared.decoder.Fault.TheVariants as fault
+use Rattle.format_http_chunked.specs.declared.decoder.ChunkError.{ChunkError}
+use Rattle.format_http_chunked.specs.declared.decoder.ChunkError.TheVariants as fault
 use Rattle.format_http_chunked.specs.declared.decoder.Step.{Step}
 use Rattle.format_http_chunked.specs.declared.decoder.Step.TheVariants as step
 use Rattle.format_http_chunked.specs.declared.lines.Turn.{Turn}
@@ -84,7 +84,7 @@ IsBetweenData at byte =
 -- The reason to reject the byte in this state, if `room` more bytes are allowed between data, and
 -- `left` more of trailers: no body continues with it; or none of less than 2 ^ 64 bytes; or some
 -- body does, and a limit is exceeded.
-abbrev pub IsFault : Place → ℕ → ℕ → ℕ → Fault → Type 0
+abbrev pub IsFault : Place → ℕ → ℕ → ℕ → ChunkError → Type 0
 IsFault at room left byte fault.Size = (at ≡ place.Framing framing.Start) × IsNever at byte
 IsFault at room left byte fault.SizeLine = IsInSizeLine at × IsNever at byte
 IsFault at room left byte fault.SizeTooLarge = IsDigitAt at byte × IsTooLarge at byte
@@ -115,7 +115,7 @@ IsTaken old new bytes rest given fields =
     × (trailers ≡ fields ++ others) × IsDue new left others more))
 
 -- The result of the decoder for the bytes that it consumes.
-abbrev pub IsSaid : Decoder → Decoder → List ℕ → List ℕ → Result Step Fault → Type 0
+abbrev pub IsSaid : Decoder → Decoder → List ℕ → List ℕ → Result Step ChunkError → Type 0
 IsSaid old new bytes rest (Ok (step.Data chunk)) =
     IsTaken old.place new.place bytes rest chunk.now [] × (0 < length chunk.now)
 IsSaid old new bytes rest (Ok (step.Trailers fields)) =
@@ -129,7 +129,7 @@ IsSaid old new bytes rest (Err fault) =
     × (rest ≡ byte ∷ others) × IsFault new.place new.room new.trailer_room byte fault)
 
 -- Like `IsSaid`, for a part of a call, which may not have a result yet.
-abbrev pub IsPart : Decoder → Decoder → List ℕ → List ℕ → Result (Option Step) Fault → Type 0
+abbrev pub IsPart : Decoder → Decoder → List ℕ → List ℕ → Result (Option Step) ChunkError → Type 0
 IsPart old new bytes rest (Ok (Some said)) = IsSaid old new bytes rest (Ok said)
 IsPart old new bytes rest (Ok None) =
     IsTaken old.place new.place bytes rest [] [] × (length rest < length bytes)

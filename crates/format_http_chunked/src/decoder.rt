@@ -33,12 +33,12 @@ use crate::state::{ChunkedState, numbers_of, place_of};
 /// Data have no limit here except that of a chunk, 2<sup>64</sup> - 1 bytes.
 ///
 /// ```
-/// use format_http_chunked::decoder::{Decoder, Fault, Limits};
+/// use format_http_chunked::decoder::{Decoder, ChunkError, Limits};
 ///
 /// let mut decoder = Decoder::new(Limits { size_line: 3, trailers: 0 });
 /// assert!(rt; decoder.advance(&mut b"0;".as_slice()).is_ok());
 /// let refused = decoder.advance(&mut b"ab".as_slice());
-/// assert!(rt; matches!(refused, Err(Fault::SizeLineTooLong)));
+/// assert!(rt; matches!(refused, Err(ChunkError::SizeLineTooLong)));
 /// ```
 #[derive(Clone, Copy, Debug, PartialEq, Eq)]
 pub struct Limits {
@@ -64,16 +64,16 @@ pub const SAFE_LIMITS: Limits = Limits {
 /// The reason why a byte is rejected. It is the first byte of the input after the call.
 ///
 /// ```
-/// use format_http_chunked::decoder::{Decoder, Fault, SAFE_LIMITS};
+/// use format_http_chunked::decoder::{Decoder, ChunkError, SAFE_LIMITS};
 ///
 /// let mut input = b"1\r\nab".as_slice();
 /// let mut decoder = Decoder::new(SAFE_LIMITS);
 /// assert!(rt; decoder.advance(&mut input).is_ok());
-/// assert!(rt; matches!(decoder.advance(&mut input), Err(Fault::DataEnd)));
+/// assert!(rt; matches!(decoder.advance(&mut input), Err(ChunkError::DataEnd)));
 /// assert_eq!(rt; input, b"b".as_slice());
 /// ```
 #[derive(Clone, Copy, Debug, PartialEq, Eq)]
-pub enum Fault {
+pub enum ChunkError {
     /// A size line does not start with a hexadecimal digit.
     Size,
     /// No size line continues with the byte: it is not part of an extension or of a line ending.
@@ -231,7 +231,7 @@ impl Decoder {
         &mut self,
         at: Framing,
         input: &mut &'i [u8],
-    ) -> Result<Option<Step<'i>>, Fault>
+    ) -> Result<Option<Step<'i>>, ChunkError>
         requires { self.old.place ≡ place.Framing at }
         ensures told { IsPart self.old self.new input.old.now input.new.now result }
         ensures spent { PartSpends self.old self.new input.old.now input.new.now result }
@@ -242,7 +242,7 @@ impl Decoder {
             Some((byte, rest)) => match place_after(at, *byte) {
                 Err(fault) => Err(fault),
                 Ok(next) => match self.room.checked_sub(1) {
-                    None => Err(Fault::SizeLineTooLong),
+                    None => Err(ChunkError::SizeLineTooLong),
                     Some(room) => {
                         self.place = next;
                         self.room = room;
@@ -279,7 +279,7 @@ impl Decoder {
         &mut self,
         at: InField,
         input: &mut &'i [u8],
-    ) -> Result<Option<Step<'i>>, Fault>
+    ) -> Result<Option<Step<'i>>, ChunkError>
         requires { self.old.place ≡ place.Trailers at }
         ensures told { IsPart self.old self.new input.old.now input.new.now result }
         ensures spent { PartSpends self.old self.new input.old.now input.new.now result }
@@ -290,7 +290,7 @@ impl Decoder {
             None => Ok(Some(Step::More)),
             Some((byte, behind)) => match field_behind(at, *byte) {
                 Some(next) => match self.trailer_room.checked_sub(1) {
-                    None => Err(Fault::TrailersTooLong),
+                    None => Err(ChunkError::TrailersTooLong),
                     Some(room) => {
                         let (last, less, rest) = pass_fields(next, room, behind);
                         self.place = Place::Trailers(last);
@@ -301,10 +301,10 @@ impl Decoder {
                 },
                 None => {
                     if !ends_there(at, *byte) {
-                        return Err(Fault::Trailers);
+                        return Err(ChunkError::Trailers);
                     }
                     match self.room.checked_sub(1) {
-                        None => Err(Fault::SizeLineTooLong),
+                        None => Err(ChunkError::SizeLineTooLong),
                         Some(room) => {
                             self.place = Place::Framing(Framing::LastReturn);
                             self.room = room;
@@ -318,7 +318,7 @@ impl Decoder {
     }
 
     /// Takes some of the bytes that are there.
-    fn part<'i>(&mut self, input: &mut &'i [u8]) -> Result<Option<Step<'i>>, Fault>
+    fn part<'i>(&mut self, input: &mut &'i [u8]) -> Result<Option<Step<'i>>, ChunkError>
         ensures told { IsPart self.old self.new input.old.now input.new.now result }
         ensures spent { PartSpends self.old self.new input.old.now input.new.now result }
         ensures stands { PartBeforeRest input.old.now input.new.now result }
@@ -338,7 +338,7 @@ impl Decoder {
     }
 
     /// Consumes bytes up to the next result.
-    fn run<'i>(&mut self, input: &mut &'i [u8]) -> Result<Step<'i>, Fault>
+    fn run<'i>(&mut self, input: &mut &'i [u8]) -> Result<Step<'i>, ChunkError>
         ensures told { IsSaid self.old self.new input.old.now input.new.now result }
         ensures spent { Spends self.old self.new input.old.now input.new.now result }
         ensures stands { OutputBeforeRest input.old.now input.new.now result }
@@ -373,10 +373,10 @@ impl Decoder {
     ///
     /// # Errors
     ///
-    /// The [`Fault`] is the reason. [`Fault::SizeTooLarge`] is for a body of 2<sup>64</sup> bytes
-    /// or more, which the standard allows. The two errors for excessive length are for the limits;
-    /// some body continues with the byte. With any other error no body starts with the bytes up to
-    /// that one, and the error names the part that is expected.
+    /// The [`ChunkError`] is the reason. [`ChunkError::SizeTooLarge`] is for a body of
+    /// 2<sup>64</sup> bytes or more, which the standard allows. The two errors for excessive length
+    /// are for the limits; some body continues with the byte. With any other error no body starts
+    /// with the bytes up to that one, and the error names the part that is expected.
     ///
     /// ```
     /// use format_http_chunked::decoder::{Decoder, SAFE_LIMITS, Step};
@@ -387,7 +387,7 @@ impl Decoder {
     /// assert!(rt; matches!(fields, Ok(Step::Trailers(b"Name: value\r\n"))));
     /// assert!(rt; matches!(decoder.advance(&mut input), Ok(Step::End)));
     /// ```
-    pub fn advance<'i>(&mut self, input: &mut &'i [u8]) -> Result<Step<'i>, Fault>
+    pub fn advance<'i>(&mut self, input: &mut &'i [u8]) -> Result<Step<'i>, ChunkError>
         ensures spent { Spends self.old self.new input.old.now input.new.now result }
         ensures stands { OutputBeforeRest input.old.now input.new.now result }
         ensures told { (front given fields : List ℕ) → IsAt self.old.place front given fields

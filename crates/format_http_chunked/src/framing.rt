@@ -10,7 +10,7 @@ ghost use Rattle.std.specs.Prelude.{◌≡◌, ◌↔◌, ◌≤◌, ◌+◌, �
 ghost use Rattle.std.specs.Prelude.{IfOk, IfSome, None};
 
 use crate::bytes::digit_of;
-use crate::decoder::Fault;
+use crate::decoder::ChunkError;
 use crate::lines::{Turn, turn_at};
 use crate::places::{Framing, InField, InLine, Place};
 
@@ -51,7 +51,7 @@ fn number_after(number: u64, digit: u64) -> Option<u64>
 }
 
 /// Returns the position after this byte in the digits of a size.
-fn after_digit(number: u64, byte: u8) -> Result<Place, Fault>
+fn after_digit(number: u64, byte: u8) -> Result<Place, ChunkError>
     ensures ok { IfOk result (λ next. (content trailers bytes : List ℕ)
         → IsFramingDue (framing.Digits number) content trailers (byte ∷ bytes)
         ↔ IsDue next content trailers bytes) }
@@ -61,17 +61,17 @@ fn after_digit(number: u64, byte: u8) -> Result<Place, Fault>
     match digit_of(byte) {
         None => match after_in_line(InLine::AfterSize, number, byte) {
             Some(next) => Ok(next),
-            None => Err(Fault::SizeLine),
+            None => Err(ChunkError::SizeLine),
         },
         Some(digit) => match number_after(number, digit) {
             Some(sum) => Ok(Place::Framing(Framing::Digits(sum))),
-            None => Err(Fault::SizeTooLarge),
+            None => Err(ChunkError::SizeTooLarge),
         },
     }
 }
 
 /// Returns the position after this byte, which is not part of the output.
-pub(crate) fn place_after(at: Framing, byte: u8) -> Result<Place, Fault>
+pub(crate) fn place_after(at: Framing, byte: u8) -> Result<Place, ChunkError>
     ensures ok { IfOk result (λ next. (content trailers bytes : List ℕ)
         → IsFramingDue at content trailers (byte ∷ bytes)
         ↔ IsDue next content trailers bytes) }
@@ -81,24 +81,24 @@ pub(crate) fn place_after(at: Framing, byte: u8) -> Result<Place, Fault>
     match at {
         Framing::Start => match digit_of(byte) {
             Some(digit) => Ok(Place::Framing(Framing::Digits(digit))),
-            None => Err(Fault::Size),
+            None => Err(ChunkError::Size),
         },
         Framing::Digits(number) => after_digit(number, byte),
         Framing::Line(line, size) => match after_in_line(line, size, byte) {
             Some(next) => Ok(next),
-            None => Err(Fault::SizeLine),
+            None => Err(ChunkError::SizeLine),
         },
         Framing::DataEnd => match byte {
             b'\r' => Ok(Place::Framing(Framing::DataReturn)),
-            _ => Err(Fault::DataEnd),
+            _ => Err(ChunkError::DataEnd),
         },
         Framing::DataReturn => match byte {
             b'\n' => Ok(Place::Framing(Framing::Start)),
-            _ => Err(Fault::DataEnd),
+            _ => Err(ChunkError::DataEnd),
         },
         Framing::LastReturn => match byte {
             b'\n' => Ok(Place::Done),
-            _ => Err(Fault::Trailers),
+            _ => Err(ChunkError::Trailers),
         },
     }
 }

@@ -13,7 +13,7 @@ use Rattle.format_http_places.specs.Grammar.{Run, SomeOf, Text, VersionText}
 use Rattle.format_http_places.specs.declared.extent.HeadExtent.{HeadExtent}
 use Rattle.format_http_places.specs.declared.extent.HeadPlace.{HeadPlace}
 use Rattle.format_http_places.specs.declared.extent.HeadPlace.TheVariants as place
-use Rattle.format_http_places.specs.declared.extent.Refused.{Refused}
+use Rattle.format_http_places.specs.declared.extent.Invalid.{Invalid}
 use Rattle.format_http_places.proofs.EquivalentAfter.{EquivalentAfter, Live, NoneFirst, behind_both}
 use Rattle.format_http_places.proofs.EquivalentAfter.{behind_none}
 use Rattle.format_http_places.proofs.EquivalentAfter.{live_byte, live_one, live_run, live_text}
@@ -114,7 +114,7 @@ record After (new : HeadExtent) (bytes left : List ℕ) : Type 0 where
   pub size : length front ≡ new.passed
   pub behind : EquivalentAfter HeadText front (Due new.place)
 
-after : (old new : HeadExtent) (bytes : List ℕ) (result : Result (Option ℕ) Refused)
+after : (old new : HeadExtent) (bytes : List ℕ) (result : Result (Option ℕ) Invalid)
     (is : IsOf old bytes) (led : IsLed old (drop old.passed bytes) new result)
     → After new bytes led.1
 after old new bytes result is (taken, left, e, sum, goes, stopped, said) =
@@ -130,7 +130,7 @@ after old new bytes result is (taken, left, e, sum, goes, stopped, said) =
     }
 
 tells : (new : HeadExtent) (bytes left : List ℕ) → After new bytes left
-    → (result : Result (Option ℕ) Refused) → IsStopped new.place left → Says new left result
+    → (result : Result (Option ℕ) Invalid) → IsStopped new.place left → Says new left result
     → HeadResult bytes result
 tells new bytes left it (Ok (Some n)) stopped (done, count) =
     let P : HeadPlace → Type 0 = λ p. EquivalentAfter HeadText it.front (Due p) in
@@ -164,13 +164,13 @@ tells new bytes (b ∷ more) it (Err refused) (inr never) (not, some, at) =
     (omega (arith, at, it.size, ap (λ l. length l) it.splits, length-append it.front left))
 
 -- the result, by the state and the rest
-pub told : (old new : HeadExtent) (bytes : List ℕ) (result : Result (Option ℕ) Refused)
+pub told : (old new : HeadExtent) (bytes : List ℕ) (result : Result (Option ℕ) Invalid)
     → IsOf old bytes → IsLed old (drop old.passed bytes) new result → HeadResult bytes result
 told old new bytes result is led =
     tells new bytes led.1 (after old new bytes result is led) result led.5 led.6
 
 -- and the next extent is of the same bytes, and of more
-pub kept : (old new : HeadExtent) (bytes : List ℕ) (result : Result (Option ℕ) Refused)
+pub kept : (old new : HeadExtent) (bytes : List ℕ) (result : Result (Option ℕ) Invalid)
     → IsOf old bytes → IsLed old (drop old.passed bytes) new result
     → (more : List ℕ) → IsOf new (bytes ++ more)
 kept old new bytes result is led more =
@@ -245,7 +245,7 @@ stopped_byte at b left more starts it =
 
 -- from an extent to the next, by a scan from its state
 pub led : (old : HeadExtent) (bytes fresh left : List ℕ) (at : HeadPlace)
-    (result : Result (Option ℕ) Refused)
+    (result : Result (Option ℕ) Invalid)
     → fresh ≡ take (length bytes - old.passed) (drop old.passed bytes)
     → old.passed ≤ length bytes → Walks old.place fresh at left
     → Says (record { passed = length bytes - length left; place = at }) left result

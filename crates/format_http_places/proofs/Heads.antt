@@ -16,7 +16,7 @@ use Rattle.format_http_places.specs.Refusals.{IsErrorAt, IsRefused, NoneRead, Re
 use Rattle.format_http_places.specs.declared.line.RequestLine.{RequestLine}
 use Rattle.format_http_places.specs.declared.places.Field.{Field}
 use Rattle.format_http_places.specs.declared.read.HeadError.{HeadError}
-use Rattle.format_http_places.specs.declared.read.HeadError.TheVariants.{Incomplete, Refused}
+use Rattle.format_http_places.specs.declared.read.HeadError.TheVariants.{Incomplete, Invalid}
 use Rattle.format_http_places.specs.declared.read.HeadError.TheVariants.{TooManyFields}
 use Rattle.format_http_places.proofs.EquivalentAfter.{stops_behind}
 use Rattle.format_http_places.proofs.FieldLines.{fields_small, lines_text, text_lines}
@@ -107,7 +107,7 @@ wanting bytes it =
 pub head_told : (bytes : List ℕ) (fields : List Field) (left : ℕ) (e : HeadError)
     → Stops HeadText bytes left → IsErrorAt (length bytes) left e → ReadsHead bytes (Err e) fields
 head_told bytes fields left (TooManyFields count) it never = absurd never
-head_told bytes fields left (Refused place) it (some, at) =
+head_told bytes fields left (Invalid place) it (some, at) =
     refused_at bytes left place it some at
 head_told bytes fields left Incomplete it none =
     wanting bytes (subst (λ n. Stops HeadText bytes n) none it)

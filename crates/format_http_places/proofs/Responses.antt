@@ -18,7 +18,7 @@ use Rattle.format_http_places.specs.Responses.{IsCodeFirst, NoResponseRead, Read
 use Rattle.format_http_places.specs.Responses.{ReadsResponseParts, ShowsStatus}
 use Rattle.format_http_places.specs.declared.places.Field.{Field}
 use Rattle.format_http_places.specs.declared.read.HeadError.{HeadError}
-use Rattle.format_http_places.specs.declared.read.HeadError.TheVariants.{Incomplete, Refused}
+use Rattle.format_http_places.specs.declared.read.HeadError.TheVariants.{Incomplete, Invalid}
 use Rattle.format_http_places.specs.declared.read.HeadError.TheVariants.{TooManyFields}
 use Rattle.format_http_places.specs.declared.status.StatusLine.{StatusLine}
 use Rattle.format_http_places.proofs.EquivalentAfter.{stops_behind}
@@ -140,7 +140,7 @@ pub response_told : (bytes : List ℕ) (fields : List Field) (left : ℕ) (e : H
     → Stops ResponseText bytes left → IsErrorAt (length bytes) left e
     → ReadsResponse bytes (Err e) fields
 response_told bytes fields left (TooManyFields count) it never = absurd never
-response_told bytes fields left (Refused place) it (some, at) =
+response_told bytes fields left (Invalid place) it (some, at) =
     refused_by ResponseText BeginsResponseHead NoResponseHead response_begins
     (λ front none line pairs more rest head.
     none more rest (response_text line pairs (front ++ more) rest head)) bytes left place it some at

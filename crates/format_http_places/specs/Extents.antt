@@ -11,7 +11,7 @@ use Rattle.format_http_places.specs.Refusals.{IsRefused, NoneRead}
 use Rattle.format_http_places.specs.declared.extent.HeadExtent.{HeadExtent}
 use Rattle.format_http_places.specs.declared.extent.HeadPlace.{HeadPlace}
 use Rattle.format_http_places.specs.declared.extent.HeadPlace.TheVariants as place
-use Rattle.format_http_places.specs.declared.extent.Refused.{Refused}
+use Rattle.format_http_places.specs.declared.extent.Invalid.{Invalid}
 
 -- the numbers of a version and a line ending, followed by fields
 abbrev pub NumbersText : Language
@@ -68,7 +68,7 @@ IsLong bytes n = (line : Request) × (fields : List Pair) × (rest : List ℕ)
 
 -- The contract of a scan: the length of the head at the start; or `None`, if the bytes do not start
 -- with a head and some continuation does; or the first offset at which no head can continue.
-abbrev pub HeadResult : List ℕ → Result (Option ℕ) Refused → Type 0
+abbrev pub HeadResult : List ℕ → Result (Option ℕ) Invalid → Type 0
 HeadResult bytes (Ok (Some n)) = IsLong bytes n
 HeadResult bytes (Ok None) = BeginsHead bytes × NoneRead bytes
 HeadResult bytes (Err refused) = IsRefused bytes refused.place
@@ -86,7 +86,7 @@ Walks old fresh new left = (taken : List ℕ) × (fresh ≡ taken ++ left) × St
     × IsStopped new left
 
 -- the result in a state, with the rest and the number of bytes passed
-abbrev pub Says : HeadExtent → List ℕ → Result (Option ℕ) Refused → Type 0
+abbrev pub Says : HeadExtent → List ℕ → Result (Option ℕ) Invalid → Type 0
 Says new left (Ok (Some n)) = (new.place ≡ place.Done) × (n ≡ new.passed)
 Says new left (Ok None) = (new.place ≡ place.Done → ⊥) × (left ≡ [])
 Says new left (Err refused) = (new.place ≡ place.Done → ⊥) × (0 < length left)
@@ -94,7 +94,7 @@ Says new left (Err refused) = (new.place ≡ place.Done → ⊥) × (0 < length 
 
 -- From one extent to the next: the longest possible prefix of the new bytes is passed, and the
 -- result depends on the new state. The bytes that were passed before do not matter.
-abbrev pub IsLed : HeadExtent → List ℕ → HeadExtent → Result (Option ℕ) Refused → Type 0
+abbrev pub IsLed : HeadExtent → List ℕ → HeadExtent → Result (Option ℕ) Invalid → Type 0
 IsLed old fresh new result = (taken : List ℕ) × (left : List ℕ) × (fresh ≡ taken ++ left)
     × (new.passed ≡ old.passed + length taken) × StateAfter old.place taken new.place
     × IsStopped new.place left × Says new left result

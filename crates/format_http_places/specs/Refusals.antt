@@ -7,7 +7,7 @@ use Rattle.format_http_places.specs.Places.{IsWanted, ShowsHead}
 use Rattle.format_http_places.specs.declared.places.Field.{Field}
 use Rattle.format_http_places.specs.declared.places.Head.{Head}
 use Rattle.format_http_places.specs.declared.read.HeadError.{HeadError}
-use Rattle.format_http_places.specs.declared.read.HeadError.TheVariants.{Incomplete, Refused}
+use Rattle.format_http_places.specs.declared.read.HeadError.TheVariants.{Incomplete, Invalid}
 use Rattle.format_http_places.specs.declared.read.HeadError.TheVariants.{TooManyFields}
 
 -- The bytes begin with no head.
@@ -38,7 +38,7 @@ abbrev pub ReadsHead : List ℕ → Result Head HeadError → List Field → Typ
 ReadsHead bytes (Ok head) fields = ShowsHead bytes head (take head.fields fields)
 ReadsHead bytes (Err (TooManyFields count)) fields =
     IsWanted bytes count × (length fields < count)
-ReadsHead bytes (Err (Refused place)) fields = IsRefused bytes place
+ReadsHead bytes (Err (Invalid place)) fields = IsRefused bytes place
 ReadsHead bytes (Err Incomplete) fields = BeginsHead bytes × NoneRead bytes
 
 -- The bytes start with a head, and the entries hold as many of its fields as there is room for.
@@ -51,5 +51,5 @@ ReadsParts bytes head fields =
 -- is 0
 abbrev pub IsErrorAt : ℕ → ℕ → HeadError → Type 0
 IsErrorAt whole left (TooManyFields count) = ⊥
-IsErrorAt whole left (Refused place) = (0 < left) × (place ≡ whole - left)
+IsErrorAt whole left (Invalid place) = (0 < left) × (place ≡ whole - left)
 IsErrorAt whole left Incomplete = left ≡ 0

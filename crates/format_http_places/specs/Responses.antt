@@ -12,7 +12,7 @@ use Rattle.format_http_places.specs.Refusals.{IsRefusedBy}
 use Rattle.format_http_places.specs.declared.places.Field.{Field}
 use Rattle.format_http_places.specs.declared.places.ResponseHead.{ResponseHead}
 use Rattle.format_http_places.specs.declared.read.HeadError.{HeadError}
-use Rattle.format_http_places.specs.declared.read.HeadError.TheVariants.{Incomplete, Refused}
+use Rattle.format_http_places.specs.declared.read.HeadError.TheVariants.{Incomplete, Invalid}
 use Rattle.format_http_places.specs.declared.read.HeadError.TheVariants.{TooManyFields}
 use Rattle.format_http_places.specs.declared.status.Reason.{Reason}
 use Rattle.format_http_places.specs.declared.status.StatusLine.{StatusLine}
@@ -58,7 +58,7 @@ abbrev pub ReadsResponse : List ℕ → Result ResponseHead HeadError → List F
 ReadsResponse bytes (Ok head) fields = ShowsResponse bytes head (take head.fields fields)
 ReadsResponse bytes (Err (TooManyFields count)) fields =
     IsResponseWanted bytes count × (length fields < count)
-ReadsResponse bytes (Err (Refused place)) fields = IsResponseRefused bytes place
+ReadsResponse bytes (Err (Invalid place)) fields = IsResponseRefused bytes place
 ReadsResponse bytes (Err Incomplete) fields = BeginsResponseHead bytes × NoResponseRead bytes
 
 -- The bytes start with a head, and the entries hold as many of its fields as there is room for.

@@ -21,23 +21,23 @@ use std::fmt::{Display, Formatter};
 /// no continuation of these and the next byte does.
 ///
 /// ```
-/// use format_http_places::extent::{HeadExtent, Refused};
+/// use format_http_places::extent::{HeadExtent, Invalid};
 ///
-/// assert!(rt; HeadExtent::new().advance(b"GET /\r") == Err(Refused { place: 5 }));
+/// assert!(rt; HeadExtent::new().advance(b"GET /\r") == Err(Invalid { place: 5 }));
 /// ```
 #[derive(Clone, Copy, Debug, PartialEq, Eq)]
-pub struct Refused {
+pub struct Invalid {
     /// The number of bytes before it.
     pub place: usize,
 }
 
-impl Display for Refused {
+impl Display for Invalid {
     fn fmt<W: fmt::Write>(&self, f: &mut Formatter<W>) -> fmt::Result {
         write!(f, "invalid byte at offset {}", self.place)
     }
 }
 
-impl Error for Refused {}
+impl Error for Invalid {}
 
 /// The position of the next byte in a head.
 ///
@@ -287,11 +287,11 @@ impl HeadExtent {
     ///
     /// # Errors
     ///
-    /// [`Refused`], with the same offset as the error of
+    /// [`Invalid`], with the same offset as the error of
     /// [`read_head_into`](crate::read::read_head_into) for these bytes.
     ///
     /// ```
-    /// use format_http_places::extent::{HeadExtent, Refused};
+    /// use format_http_places::extent::{HeadExtent, Invalid};
     /// use format_http_places::places::{Field, Span};
     /// use format_http_places::read::read_head_into;
     ///
@@ -303,7 +303,7 @@ impl HeadExtent {
     /// let mut fields = [Field { name: nowhere, value: nowhere }; 1];
     /// assert!(rt; read_head_into(&bytes[..27], &mut fields).is_ok());
     /// ```
-    pub fn advance(&mut self, bytes: &[u8]) -> Result<Option<usize>, Refused>
+    pub fn advance(&mut self, bytes: &[u8]) -> Result<Option<usize>, Invalid>
         ensures told { IsOf self.old bytes.now → HeadResult bytes.now result }
         ensures kept { IsOf self.old bytes.now
             → (more : List ℕ) → IsOf self.new (bytes.now ++ more) }
@@ -327,7 +327,7 @@ impl HeadExtent {
 
     /// Returns the result for the passed bytes, if `left` remains.
     #[inline(always)]
-    fn say(&self, left: &[u8]) -> Result<Option<usize>, Refused>
+    fn say(&self, left: &[u8]) -> Result<Option<usize>, Invalid>
         ensures { Says self.now left.now result }
     {
         match self.place {
@@ -336,7 +336,7 @@ impl HeadExtent {
                 if left.is_empty() {
                     Ok(None)
                 } else {
-                    Err(Refused { place: self.passed })
+                    Err(Invalid { place: self.passed })
                 }
             }
         }

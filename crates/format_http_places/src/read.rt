@@ -21,13 +21,13 @@ use std::fmt::{Display, Formatter};
 /// ```
 /// use format_http_places::read::HeadError;
 ///
-/// assert!(rt; HeadError::Refused(3) != HeadError::Incomplete);
+/// assert!(rt; HeadError::Invalid(3) != HeadError::Incomplete);
 /// ```
 #[derive(Clone, Copy, Debug, PartialEq, Eq)]
 pub enum HeadError {
     /// No head can continue at this offset: some head starts with the bytes before it, and no
     /// continuation of these and the next byte does.
-    Refused(usize),
+    Invalid(usize),
     /// The bytes begin with no head, and with more after them they can.
     Incomplete,
     /// The bytes start with a head of this number of fields, which exceeds the number of entries.
@@ -37,7 +37,7 @@ pub enum HeadError {
 impl Display for HeadError {
     fn fmt<W: fmt::Write>(&self, f: &mut Formatter<W>) -> fmt::Result {
         match *self {
-            HeadError::Refused(place) => write!(f, "invalid byte at offset {place}"),
+            HeadError::Invalid(place) => write!(f, "invalid byte at offset {place}"),
             HeadError::Incomplete => f.write_str("incomplete input: more bytes are needed"),
             HeadError::TooManyFields(count) => write!(f, "too many fields: {count}"),
         }
@@ -55,7 +55,7 @@ pub(crate) fn error_at(whole: usize, stop: Stop) -> HeadError
     if stop.left == 0 {
         HeadError::Incomplete
     } else {
-        HeadError::Refused(whole - stop.left)
+        HeadError::Invalid(whole - stop.left)
     }
 }
 
@@ -83,7 +83,7 @@ fn read_parts(bytes: &[u8], fields: &mut [Field]) -> Result<Head, Stop>
 ///
 /// # Errors
 ///
-/// - [`Refused`](HeadError::Refused) holds the first offset at which no head can continue.
+/// - [`Invalid`](HeadError::Invalid) holds the first offset at which no head can continue.
 /// - [`Incomplete`](HeadError::Incomplete): the bytes end within a head. If more bytes arrive, read
 ///   again from the start. Complete input starts with no head in this case either.
 /// - [`TooManyFields`](HeadError::TooManyFields) holds the required number of entries.
@@ -107,7 +107,7 @@ fn read_parts(bytes: &[u8], fields: &mut [Field]) -> Result<Head, Stop>
 /// let head = read_head_into(&text[..20], &mut fields);
 /// assert!(rt; head == Err(HeadError::Incomplete));
 /// let head = read_head_into(b"GET /\r\n".as_slice(), &mut fields);
-/// assert!(rt; head == Err(HeadError::Refused(5)));
+/// assert!(rt; head == Err(HeadError::Invalid(5)));
 /// ```
 pub fn read_head_into(bytes: &[u8], fields: &mut [Field]) -> Result<Head, HeadError>
     ensures { ReadsHead bytes.now result fields.new }

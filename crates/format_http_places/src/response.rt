@@ -39,7 +39,7 @@ fn read_response_parts(bytes: &[u8], fields: &mut [Field]) -> Result<ResponseHea
 /// # Errors
 ///
 /// Those of [`read_head_into`](crate::read::read_head_into), for heads of responses:
-/// [`Refused`](HeadError::Refused) holds the first offset at which no head can continue,
+/// [`Invalid`](HeadError::Invalid) holds the first offset at which no head can continue,
 /// [`Incomplete`](HeadError::Incomplete) means that the bytes end within one, and
 /// [`TooManyFields`](HeadError::TooManyFields) holds the required number of entries. After an error
 /// any entry may have been overwritten.
@@ -59,7 +59,7 @@ fn read_response_parts(bytes: &[u8], fields: &mut [Field]) -> Result<ResponseHea
 /// let head = read_response_head_into(&text[..11], &mut fields);
 /// assert!(rt; head == Err(HeadError::Incomplete));
 /// let head = read_response_head_into(b"HTTP/1.1 20 OK\r\n".as_slice(), &mut fields);
-/// assert!(rt; head == Err(HeadError::Refused(11)));
+/// assert!(rt; head == Err(HeadError::Invalid(11)));
 /// ```
 pub fn read_response_head_into(
     bytes: &[u8],

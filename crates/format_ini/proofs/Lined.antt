@@ -8,7 +8,7 @@ use Rattle.format_ini.specs.Lines.{more, said_of}
 use Rattle.format_ini.specs.Marks.{IsMark}
 use Rattle.format_ini.specs.declared.dialect.Dialect.{Dialect}
 use Rattle.format_ini.specs.declared.lines.Line.{Line}
-use Rattle.format_ini.specs.declared.lines.Refusal.{Refusal}
+use Rattle.format_ini.specs.declared.lines.Reason.{Reason}
 use Rattle.format_ini.specs.declared.lines.State.{State}
 
 not_idle : (d : Dialect) (text : List ℕ) → 0 < length text → NotFirst (IsMark d.comments) text
@@ -43,7 +43,7 @@ more_line d s line kept text depth on is e h o goes some not =
 pub own_line : (d : Dialect) (s : State) (line kept text : List ℕ) (depth : ℕ) (on : Bool)
     → IsKept d.inline_comments line kept → text ≡ trimmed kept → depth ≡ indent_of line
     → on ≡ is_deeper s.pair depth → on ≡ false → 0 < length text
-    → NotFirst (IsMark d.comments) text → (result : Result Line Refusal)
+    → NotFirst (IsMark d.comments) text → (result : Result Line Reason)
     → MatchResult result (λ l. OwnSays d s depth text (said_of l.entry) l.next)
     (λ why. LacksOwn d s text why)
     → MatchResult result (λ l. Step d s line (said_of l.entry) l.next) (λ why. Lacks d s line why)

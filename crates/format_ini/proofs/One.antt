@@ -16,9 +16,9 @@ use Rattle.format_ini.specs.declared.dialect.Continued.{Continued}
 use Rattle.format_ini.specs.declared.dialect.Continued.TheVariants.{Never, PastEmpty, UntilEmpty}
 use Rattle.format_ini.specs.declared.dialect.Dialect.{Dialect}
 use Rattle.format_ini.specs.declared.dialect.Marks.{Marks}
-use Rattle.format_ini.specs.declared.documents.Fault.{Fault}
-use Rattle.format_ini.specs.declared.lines.Refusal.{Refusal}
-use Rattle.format_ini.specs.declared.lines.Refusal.TheVariants as why
+use Rattle.format_ini.specs.declared.documents.InvalidLine.{InvalidLine}
+use Rattle.format_ini.specs.declared.lines.Reason.{Reason}
+use Rattle.format_ini.specs.declared.lines.Reason.TheVariants as why
 use Rattle.format_ini.specs.declared.lines.State.{State}
 use Rattle.format_ini.proofs.Runs.{line_less}
 
@@ -211,7 +211,7 @@ step_one d s line said other next left (kept, is, it) (kept', too, at) =
 
 -- ---- why a line is invalid
 
-no_section : (text name : List ℕ) (reason : Refusal) → NoSection text reason → IsSection text name
+no_section : (text name : List ℕ) (reason : Reason) → NoSection text reason → IsSection text name
     → ⊥
 no_section text name why.OpenSection (inside, e, all) (f, too, some) =
     let h : inside ≡ name ++ 93 ∷ [] = cc in
@@ -232,7 +232,7 @@ none_first : (d : Dialect) (text : List ℕ) → StartsWith (IsDelimiter d.delim
 none_first d [] is all = is
 none_first d (b ∷ bs) is all = All-head (λ x. IsDelimiter d.delimiters x → ⊥) b bs all is
 
-no_pair : (d : Dialect) (text key : List ℕ) (value : Option (List ℕ)) (reason : Refusal)
+no_pair : (d : Dialect) (text key : List ℕ) (value : Option (List ℕ)) (reason : Reason)
     → NoPair d text reason → IsPair d text key value → ⊥
 no_pair d text key value why.OpenSection it is = it
 no_pair d text key value why.EmptySection it is = it
@@ -250,7 +250,7 @@ no_pair d text key value why.NoDelimiter (all, never)
 no_pair d text key value why.NoDelimiter (all, never) (inr (too, may, k, v)) = unlike never may
 
 none_own : (d : Dialect) (s : State) (depth : ℕ) (text : List ℕ) (said : List Said) (next : State)
-    (reason : Refusal) → LacksOwn d s text reason → OwnSays d s depth text said next → ⊥
+    (reason : Reason) → LacksOwn d s text reason → OwnSays d s depth text said next → ⊥
 none_own d s depth text said next reason (inl (first, lacks))
     (inl (name, is, e, n)) =
     no_section text name reason lacks is
@@ -266,7 +266,7 @@ none_own d s depth text said next reason (inr (not, inr (may, lacks)))
     (inr (k, v, first, too, is, e, n)) = no_pair d text k v reason lacks is
 
 none_of : (d : Dialect) (s : State) (line kept : List ℕ) (said : List Said) (next : State)
-    (reason : Refusal) → (IsIdle d (trimmed kept) → ⊥) → (ContinuesPair s (indent_of line) → ⊥)
+    (reason : Reason) → (IsIdle d (trimmed kept) → ⊥) → (ContinuesPair s (indent_of line) → ⊥)
     → LacksOwn d s (trimmed kept) reason → StepOf d s line kept said next → ⊥
 none_of d s line kept said next reason busy alone lacks (inl (idle, at)) = busy idle
 none_of d s line kept said next reason busy alone lacks (inr (inl (too, on, e, n))) =
@@ -275,7 +275,7 @@ none_of d s line kept said next reason busy alone lacks (inr (inr (too, single, 
     none_own d s (indent_of line) (trimmed kept) said next reason lacks at
 
 pub lacks_none : (d : Dialect) (s : State) (line : List ℕ) (said : List Said) (next : State)
-    (reason : Refusal) → Lacks d s line reason → Step d s line said next → ⊥
+    (reason : Reason) → Lacks d s line reason → Step d s line said next → ⊥
 lacks_none d s line said next reason (kept, is, busy, alone, lacks) (kept', too, at) =
     let P : List ℕ → Type 0 = λ l. StepOf d s line l said next in
     let same = kept_one d.inline_comments line kept kept' is too in
@@ -308,7 +308,7 @@ says_one d s text (l ∷ ls) (k ∷ ks) said other next left (rest, first, more)
     e ∙ ap (λ a. a ++ said') saying ∙ ap (λ a. two ++ a) others ∙ sym f
 
 pub stops_none : (d : Dialect) (s : State) (text : List ℕ) (lines others : List (List ℕ))
-    (said other : List Said) (next left : State) (here line behind : List ℕ) (reason : Refusal)
+    (said other : List Said) (next left : State) (here line behind : List ℕ) (reason : Reason)
     → AreLines text lines here → LinesSay d s lines said next → FirstLine here line behind
     → Lacks d next line reason → AreLines text others [] → LinesSay d s others other left → ⊥
 unfolding AreLines LinesSay
@@ -349,7 +349,7 @@ document_one d text said others (lines, next, at, (ls, are, it)) (left, last, on
     says_one d start lines ls ks said others next last are
     (subst P (sym (mark_one text lines left at on)) too) it more
 
-pub refused_none : (d : Dialect) (text : List ℕ) (fault : Fault) (said : List Said)
+pub refused_none : (d : Dialect) (text : List ℕ) (fault : InvalidLine) (said : List Said)
     → IsRefused d text fault → IsDocument d text said → ⊥
 refused_none d text fault said
     (lines, before, next, here, at, ((ls, are, it), (line, behind, first, lacks)), place)

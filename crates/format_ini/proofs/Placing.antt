@@ -22,7 +22,7 @@ use Rattle.format_ini.specs.declared.lines.Entry.{Entry}
 use Rattle.format_ini.specs.declared.lines.Entry.TheVariants as entries
 use Rattle.format_ini.specs.declared.lines.Line.{Line}
 use Rattle.format_ini.specs.declared.lines.Places.{Places}
-use Rattle.format_ini.specs.declared.lines.Refusal.{Refusal}
+use Rattle.format_ini.specs.declared.lines.Reason.{Reason}
 
 -- ---- blanks
 
@@ -261,7 +261,7 @@ module _ (d : Dialect) (from : ℕ) (marks : Marks) (line kept text : List ℕ) 
         h ∙ ap (λ k. from + k) (n ∙ sym m),
       )
 
-  pub line_ok_at : (result : Result Line Refusal)
+  pub line_ok_at : (result : Result Line Reason)
       → IfOk result (λ l. SaidAt d (from + depth) text l.entry l.at)
       → IfOk result (λ l. SaidAt d from line l.entry l.at)
   line_ok_at (Ok l) said = line_at l.entry l.at said

@@ -8,9 +8,9 @@ use Rattle.format_ini.specs.Documents.{NextEntry, ReadsLines, start}
 use Rattle.format_ini.specs.Front.{FirstLine}
 use Rattle.format_ini.specs.Lines.{Lacks, Said, Step, said_in, said_of}
 use Rattle.format_ini.specs.declared.dialect.Dialect.{Dialect}
-use Rattle.format_ini.specs.declared.documents.Fault.{Fault}
+use Rattle.format_ini.specs.declared.documents.InvalidLine.{InvalidLine}
 use Rattle.format_ini.specs.declared.lines.Entry.{Entry}
-use Rattle.format_ini.specs.declared.lines.Refusal.{Refusal}
+use Rattle.format_ini.specs.declared.lines.Reason.{Reason}
 use Rattle.format_ini.specs.declared.lines.State.{State}
 use Rattle.format_ini.proofs.Runs.{line_less}
 
@@ -102,7 +102,7 @@ module _ (d d' : Dialect) (same : d' ≡ d) (s mid : State) (text here : List �
         omega (arith, h, k),
       )
 
-  pub next_err : (line behind : List ℕ) (why : Refusal) → FirstLine here line behind
+  pub next_err : (line behind : List ℕ) (why : Reason) → FirstLine here line behind
       → Lacks d' mid line why → NextEntry d s text (Err why) mid here
   next_err line behind why first lacks =
       let P : Dialect → Type 0 = λ x. Lacks x mid line why in
@@ -144,13 +144,13 @@ module _ (d d' : Dialect) (same : d' ≡ d) (text : List ℕ) (said : List Said)
             (reads_more d start s next it.0 here rest said [] it.2 (subst P same on))),
       )
 
-  pub so_far_err : (next : State) (rest : List ℕ) (fault : Fault) (why : Refusal)
+  pub so_far_err : (next : State) (rest : List ℕ) (fault : InvalidLine) (why : Reason)
       → NextEntry d' s here (Err why) next rest → fault.why ≡ why
       → fault.offset + length rest ≡ length text → IsRefused d text fault
   so_far_err next rest fault why (on, (line, behind, first, lacks)) is place =
       let P : Dialect → Type 0 = λ x. ReadsLines x s here [] next rest in
       let Q : Dialect → Type 0 = λ x. Lacks x next line why in
-      let S : Refusal → Type 0 = λ w. Lacks d next line w in (
+      let S : Reason → Type 0 = λ w. Lacks d next line w in (
         it.0,
         said ++ [],
         next,
@@ -163,7 +163,7 @@ module _ (d d' : Dialect) (same : d' ≡ d) (text : List ℕ) (said : List Said)
         place,
       )
 
-  pub so_far_within : (next : State) (rest : List ℕ) (why : Refusal)
+  pub so_far_within : (next : State) (rest : List ℕ) (why : Reason)
       → NextEntry d' s here (Err why) next rest → length rest ≤ length text
   so_far_within next rest why (on, stop) =
       let h = reads_less d' s next here rest [] on in

@@ -4,11 +4,11 @@ use Rattle.std.specs.Prelude.{Result, Ok, Err, Option, Some, None}
 use Rattle.format_ini.specs.Front.{FirstLine}
 use Rattle.format_ini.specs.Lines.{Lacks, Said, Step, said_of}
 use Rattle.format_ini.specs.declared.dialect.Dialect.{Dialect}
-use Rattle.format_ini.specs.declared.documents.Fault.{Fault}
+use Rattle.format_ini.specs.declared.documents.InvalidLine.{InvalidLine}
 use Rattle.format_ini.specs.declared.documents.IniError.{IniError}
-use Rattle.format_ini.specs.declared.documents.IniError.TheVariants.{OutOfMemory, Refused}
+use Rattle.format_ini.specs.declared.documents.IniError.TheVariants.{OutOfMemory, Invalid}
 use Rattle.format_ini.specs.declared.lines.Entry.{Entry}
-use Rattle.format_ini.specs.declared.lines.Refusal.{Refusal}
+use Rattle.format_ini.specs.declared.lines.Reason.{Reason}
 use Rattle.format_ini.specs.declared.lines.State.{State}
 
 -- The bytes do not start with a UTF-8 byte order mark.
@@ -48,26 +48,26 @@ IsDocument d text said = (lines : List ℕ) × (next : State) × BehindMark text
 
 -- `StopsBy d s text said next rest why`: `text` starts with lines that mean `said`, followed by
 -- `rest`, which starts with a line that is invalid in this dialect.
-abbrev pub StopsBy : Dialect → State → List ℕ → List Said → State → List ℕ → Refusal → Type 0
+abbrev pub StopsBy : Dialect → State → List ℕ → List Said → State → List ℕ → Reason → Type 0
 StopsBy d s text said next rest why = ReadsLines d s text said next rest
     × ((line : List ℕ) × (behind : List ℕ) × FirstLine rest line behind × Lacks d next line why)
 
 -- `IsRefused d text fault`: `fault` holds the offset of the first line of `text` that is invalid in
 -- this dialect.
-abbrev pub IsRefused : Dialect → List ℕ → Fault → Type 0
+abbrev pub IsRefused : Dialect → List ℕ → InvalidLine → Type 0
 IsRefused d text fault = (lines : List ℕ) × (said : List Said) × (next : State) × (rest : List ℕ)
     × BehindMark text lines × StopsBy d start lines said next rest fault.why
     × (fault.offset + length rest ≡ length text)
 
 -- the meaning of an error for a text; out of memory means nothing for it
 abbrev pub IsNoDocument : Dialect → List ℕ → IniError → Type 0
-IsNoDocument d text (Refused fault) = IsRefused d text fault
+IsNoDocument d text (Invalid fault) = IsRefused d text fault
 IsNoDocument d text OutOfMemory = ⊤
 
 -- The result of a call, and the state and the text that it leaves. The result is the next entry; or
 -- `None`, if all other lines are empty or comments; or the reason why the next line that is neither
 -- is invalid in the dialect. In the last case the text that it leaves starts with that line.
-abbrev pub NextEntry : Dialect → State → List ℕ → Result (Option Entry) Refusal → State → List ℕ
+abbrev pub NextEntry : Dialect → State → List ℕ → Result (Option Entry) Reason → State → List ℕ
     → Type 0
 NextEntry d s text (Ok None) next rest = ReadsLines d s text [] next rest × (rest ≡ [])
 NextEntry d s text (Ok (Some entry)) next rest =

@@ -11,8 +11,8 @@ use Rattle.format_ini.specs.declared.dialect.Continued.TheVariants.{Never, PastE
 use Rattle.format_ini.specs.declared.dialect.Dialect.{Dialect}
 use Rattle.format_ini.specs.declared.lines.Entry.{Entry}
 use Rattle.format_ini.specs.declared.lines.Entry.TheVariants as entries
-use Rattle.format_ini.specs.declared.lines.Refusal.{Refusal}
-use Rattle.format_ini.specs.declared.lines.Refusal.TheVariants as why
+use Rattle.format_ini.specs.declared.lines.Reason.{Reason}
+use Rattle.format_ini.specs.declared.lines.Reason.TheVariants as why
 use Rattle.format_ini.specs.declared.lines.State.{State}
 
 -- The meaning of a line: a section by its name; a pair, with its key and the value, or the value's
@@ -52,7 +52,7 @@ IsPair d text key value =
     × (value ≡ None))
 
 -- The reason why a text that begins with `[` is not a section.
-abbrev pub NoSection : List ℕ → Refusal → Type 0
+abbrev pub NoSection : List ℕ → Reason → Type 0
 NoSection text why.OpenSection = (inside : List ℕ) × (text ≡ 91 ∷ inside) × All (IsOther 93) inside
 NoSection text why.EmptySection = (behind : List ℕ) × (text ≡ 91 ∷ 93 ∷ behind)
 NoSection text why.TextBehindSection = (name : List ℕ) × (behind : List ℕ)
@@ -62,7 +62,7 @@ NoSection text why.NoKey = ⊥
 NoSection text why.NoDelimiter = ⊥
 
 -- The reason why a text is not a pair.
-abbrev pub NoPair : Dialect → List ℕ → Refusal → Type 0
+abbrev pub NoPair : Dialect → List ℕ → Reason → Type 0
 NoPair d text why.OpenSection = ⊥
 NoPair d text why.EmptySection = ⊥
 NoPair d text why.TextBehindSection = ⊥
@@ -94,7 +94,7 @@ OwnSays d s indent text said next =
     × (next ≡ record { section = s.section; pair = pair_at d.continued indent value }))
 
 -- Why it is none.
-abbrev pub LacksOwn : Dialect → State → List ℕ → Refusal → Type 0
+abbrev pub LacksOwn : Dialect → State → List ℕ → Reason → Type 0
 LacksOwn d s text reason =
     (StartsWith (λ b. b ≡ 91) text × NoSection text reason)
     ⊎ (NotFirst (λ b. b ≡ 91) text × (((reason ≡ why.NoSection) × (MayPair d s → ⊥))
@@ -145,7 +145,7 @@ Step d s line said next = (kept : List ℕ) × IsKept d.inline_comments line kep
     × StepOf d s line kept said next
 
 -- The reason why a line is invalid in this dialect.
-abbrev pub Lacks : Dialect → State → List ℕ → Refusal → Type 0
+abbrev pub Lacks : Dialect → State → List ℕ → Reason → Type 0
 Lacks d s line reason = (kept : List ℕ) × IsKept d.inline_comments line kept
     × (IsIdle d (trimmed kept) → ⊥) × (ContinuesPair s (indent_of line) → ⊥)
     × LacksOwn d s (trimmed kept) reason

@@ -58,7 +58,7 @@ SaidAt d from text (Some entry) at = EntryAt d from text entry at
 -- why a line is invalid: it is not UTF-8, or not a line of this dialect
 abbrev pub StopsAtLine : Dialect → State → List ℕ → Stop → Type 0
 StopsAtLine d s line stops.NoText = IsUtf8 line → ⊥
-StopsAtLine d s line (stops.Refused why) = Lacks d s line why
+StopsAtLine d s line (stops.Invalid why) = Lacks d s line why
 
 -- at most a byte order mark at the start of `bytes` has been read
 abbrev pub IsAtStart : List ℕ → Reading → Type 0

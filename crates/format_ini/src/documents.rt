@@ -7,23 +7,23 @@ ghost use Rattle.format_ini.specs.Lines.{said_in};
 
 use crate::dialect::Dialect;
 use crate::front::first_line;
-use crate::lines::{Entry, Refusal, State, read_line};
+use crate::lines::{Entry, Reason, State, read_line};
 use std::alloc::Allocator;
 
 /// The first line of a text that is invalid in the dialect, and why it is.
 #[derive(Clone, Copy, Debug, PartialEq, Eq)]
-pub struct Fault {
+pub struct InvalidLine {
     /// The offset of that line, in bytes.
     pub offset: usize,
     /// Why it is none.
-    pub why: Refusal,
+    pub why: Reason,
 }
 
 /// Why no document was read.
 #[derive(Clone, Copy, Debug, PartialEq, Eq)]
 pub enum IniError {
     /// The text is not a document of the dialect.
-    Refused(Fault),
+    Invalid(InvalidLine),
     /// Memory allocation failed.
     OutOfMemory,
 }
@@ -68,7 +68,7 @@ impl<'i> Entries<'i> {
 
     /// Reads the next entry, and skips empty lines and comments before it. Returns `None` if no
     /// line remains. After an error, the rejected line is still the next one.
-    pub fn next_entry(&mut self) -> Result<Option<Entry<'i>>, Refusal>
+    pub fn next_entry(&mut self) -> Result<Option<Entry<'i>>, Reason>
         ensures read { NextEntry self.old.dialect self.old.state self.old.rest.now result
             self.new.state self.new.rest.now }
         ensures same { self.new.dialect ≡ self.old.dialect }
@@ -100,33 +100,33 @@ fn skip_mark(text: &str) -> &str
 }
 
 // Returns the error for the line that `rest` starts with.
-fn fault_at(text: &str, rest: &str, why: Refusal) -> Fault
+fn fault_at(text: &str, rest: &str, why: Reason) -> InvalidLine
     requires { length rest.now ≤ length text.now }
     ensures { (result.why ≡ why) × (result.offset + length rest.now ≡ length text.now) }
 {
     let offset = text.len() - rest.len();
-    Fault { offset, why }
+    InvalidLine { offset, why }
 }
 
 /// Returns the entries of a document, in order. It is `Ok` if and only if the text consists of
 /// lines of the dialect. A byte order mark at the start is skipped.
 ///
-/// `Refused` holds the offset in bytes of the first line that is invalid in the dialect, and the
+/// `Invalid` holds the offset in bytes of the first line that is invalid in the dialect, and the
 /// reason. `OutOfMemory` means that the list could not grow.
 ///
 /// ```
 /// use format_ini::dialect::Dialect;
-/// use format_ini::documents::{Fault, IniError, read_document};
-/// use format_ini::lines::Refusal;
+/// use format_ini::documents::{InvalidLine, IniError, read_document};
+/// use format_ini::lines::Reason;
 ///
 /// match read_document(alloc, Dialect::python(), "[s]\na = b\n") {
 ///     Ok(entries) => assert_eq!(rt; entries.len(), 2),
 ///     Err(_) => assert!(rt; false),
 /// }
-/// let fault = Fault { offset: 4, why: Refusal::NoDelimiter };
+/// let fault = InvalidLine { offset: 4, why: Reason::NoDelimiter };
 /// match read_document(alloc, Dialect::python(), "[s]\na\n") {
 ///     Ok(_) => assert!(rt; false),
-///     Err(error) => assert!(rt; error == IniError::Refused(fault)),
+///     Err(error) => assert!(rt; error == IniError::Invalid(fault)),
 /// }
 /// ```
 pub fn read_document<'i, A: Allocator>(
@@ -148,7 +148,7 @@ pub fn read_document<'i, A: Allocator>(
                 }
             }
             Ok(None) => return Ok(entries),
-            Err(why) => return Err(IniError::Refused(fault_at(text, left.rest, why))),
+            Err(why) => return Err(IniError::Invalid(fault_at(text, left.rest, why))),
         }
     }
 }

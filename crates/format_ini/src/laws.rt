@@ -3,7 +3,7 @@
 ghost use Rattle.std.specs.Prelude.{◌≡◌, List, ℕ};
 ghost use Rattle.format_ini.specs.Documents.{IsDocument, IsRefused};
 ghost use Rattle.format_ini.specs.Lines.{Said};
-ghost use Rattle.format_ini.specs.declared.documents.Fault.{Fault};
+ghost use Rattle.format_ini.specs.declared.documents.InvalidLine.{InvalidLine};
 
 use crate::dialect::Dialect;
 
@@ -15,6 +15,6 @@ pub fn a_text_is_one_document(dialect: Dialect)
 
 /// States that a rejected text is not a document of the dialect.
 pub fn a_refused_text_is_none(dialect: Dialect)
-    ensures { (text : List ℕ) (fault : Fault) (said : List Said)
+    ensures { (text : List ℕ) (fault : InvalidLine) (said : List Said)
         → IsRefused dialect text fault → IsDocument dialect text said → ⊥ }
 {}

@@ -30,7 +30,7 @@ pub enum Entry<'i> {
 
 /// Why a line is none of the dialect.
 #[derive(Clone, Copy, Debug, PartialEq, Eq)]
-pub enum Refusal {
+pub enum Reason {
     /// The line starts with `[` and has no `]`.
     OpenSection,
     /// There is nothing between `[` and `]`.
@@ -90,22 +90,22 @@ fn both_at(place: usize) -> Places
 }
 
 // The name of the section that begins.
-fn read_section(text: &str) -> Result<&str, Refusal>
+fn read_section(text: &str) -> Result<&str, Reason>
     requires { StartsWith (λ b. b ≡ 91) text.now }
     ensures { MatchResult result (λ name. IsSection text.now name.now)
         (λ why. NoSection text.now why) }
 {
     let (_, inside) = around(text, 0);
     match cut(Stop::Bracket, inside) {
-        None => Err(Refusal::OpenSection),
-        Some((name, _)) if name.is_empty() => Err(Refusal::EmptySection),
+        None => Err(Reason::OpenSection),
+        Some((name, _)) if name.is_empty() => Err(Reason::EmptySection),
         Some((name, left)) if left.is_empty() => Ok(name),
-        Some(_) => Err(Refusal::TextBehindSection),
+        Some(_) => Err(Reason::TextBehindSection),
     }
 }
 
 // Returns the key and the value of a pair that begins at `place`.
-fn read_pair<'i>(dialect: Dialect, place: usize, text: &'i str) -> Result<Pair<'i>, Refusal>
+fn read_pair<'i>(dialect: Dialect, place: usize, text: &'i str) -> Result<Pair<'i>, Reason>
     requires { place + length text.now < 2 ^ 63 }
     ensures pair { MatchResult result
         (λ it. IsPair dialect text.now it.key.now (value_of it.value))
@@ -114,7 +114,7 @@ fn read_pair<'i>(dialect: Dialect, place: usize, text: &'i str) -> Result<Pair<'
     ensures value { IfOk result (λ it. ValueAt dialect place text.now (value_of it.value) it.at) }
 {
     match cut(Stop::Delimiter(dialect.delimiters), text) {
-        Some((before, _)) if before.is_empty() => Err(Refusal::NoKey),
+        Some((before, _)) if before.is_empty() => Err(Reason::NoKey),
         Some((before, behind)) => {
             let (lead, key) = trim(before);
             let (gap, value) = trim(behind);
@@ -133,7 +133,7 @@ fn read_pair<'i>(dialect: Dialect, place: usize, text: &'i str) -> Result<Pair<'
             value: None,
             at: both_at(place),
         }),
-        None => Err(Refusal::NoDelimiter),
+        None => Err(Reason::NoDelimiter),
     }
 }
 
@@ -157,7 +157,7 @@ fn read_own<'i>(
     indent: usize,
     place: usize,
     text: &'i str,
-) -> Result<Line<'i>, Refusal>
+) -> Result<Line<'i>, Reason>
     requires some { 0 < length text.now }
     requires within { place + length text.now < 2 ^ 63 }
     ensures said { MatchResult result
@@ -178,7 +178,7 @@ fn read_own<'i>(
         });
     }
     if !state.section && !dialect.before_sections {
-        return Err(Refusal::NoSection);
+        return Err(Reason::NoSection);
     }
     let Pair { key, value, at } = read_pair(dialect, place, text)?;
     let next = State {
@@ -241,7 +241,7 @@ pub(crate) fn read_line<'i>(
     state: State,
     place: usize,
     line: &'i str,
-) -> Result<Line<'i>, Refusal>
+) -> Result<Line<'i>, Reason>
     requires { place + length line.now < 2 ^ 63 }
     ensures said { MatchResult result
         (λ it. Step dialect state line.now (said_of it.entry) it.next)

@@ -7,7 +7,7 @@ ghost use Rattle.format_ini.specs.Places.{IsAtStart, LineAt, NextPlaced, StopsAt
 
 use crate::dialect::Dialect;
 use crate::front;
-use crate::lines::{Entry, Line, Places, Refusal, State, read_line};
+use crate::lines::{Entry, Line, Places, Reason, State, read_line};
 
 /// How far a document is read.
 #[derive(Clone, Copy, Debug, PartialEq, Eq)]
@@ -33,7 +33,7 @@ pub enum Stop {
     /// The line is no UTF-8.
     NoText,
     /// The line is none of the dialect.
-    Refused(Refusal),
+    Invalid(Reason),
 }
 
 impl Reading {
@@ -108,7 +108,7 @@ fn read_at<'i>(
         Some((line, offset)) => match str::from_utf8(line) {
             Err(_) => Err(Stop::NoText),
             Ok(text) => match read_line(dialect, reading.state, reading.offset, text) {
-                Err(why) => Err(Stop::Refused(why)),
+                Err(why) => Err(Stop::Invalid(why)),
                 Ok(line) => {
                     let state = line.next;
                     Ok(Some((line, Reading { offset, state })))

@@ -1,14 +1,14 @@
--- Lemmas that a `Fault` is correct for its offset.
+-- Lemmas that a `JsonError` is correct for its offset.
 use Rattle.std.specs.Prelude.{◌≡◌, ◌⊎◌, ◌≤◌, ℕ, suc, List, [], ◌∷◌, drop, length, take}
 use Rattle.std.proofs.Common.{ap, arith, inl, inr, subst, sym, ◌∙◌}
 use Rattle.std.proofs.lemmas.List.{take-append-drop, take-append-le}
 use Rattle.std.specs.Str.{IsUtf8}
 use Rattle.std.specs.Str.Lossy.{utf8_valid_len}
 use Rattle.format_json.specs.Fault.{IsErrorOf, IsLocation, write_fault}
-use Rattle.format_json.specs.declared.fault.Fault.TheVariants as faults
+use Rattle.format_json.specs.declared.fault.JsonError.TheVariants as faults
 use Rattle.format_json.specs.declared.fault.Location.{Location}
-use Rattle.format_json.specs.declared.fault.WriteFault.{WriteFault}
-use Rattle.format_json.specs.declared.fault.WriteFault.TheVariants as unwritten
+use Rattle.format_json.specs.declared.fault.JsonWriteError.{JsonWriteError}
+use Rattle.format_json.specs.declared.fault.JsonWriteError.TheVariants as unwritten
 use Rattle.format_json_pieces.specs.Begun.{MayBegin}
 use Rattle.format_json_pieces.specs.Place.{IsPlace}
 use Rattle.format_json_pieces.specs.Stepped.{begun_front}
@@ -44,7 +44,7 @@ module _ (level : ℕ) where
 
 -- ---- what is not written
 
-pub unwritten_memory : {P : Type 0} (error : WriteError) (fault : WriteFault)
+pub unwritten_memory : {P : Type 0} (error : WriteError) (fault : JsonWriteError)
     → fault ≡ write_fault error → (error ≡ errors.Memory) ⊎ P → (fault ≡ unwritten.NoMemory) ⊎ P
 unwritten_memory error fault is (inl memory) = inl (is ∙ ap write_fault memory)
 unwritten_memory error fault is (inr none) = inr none

@@ -1,12 +1,12 @@
--- The specification of `Fault`: why bytes are not a JSON text.
+-- The specification of `JsonError`: why bytes are not a JSON text.
 use Rattle.std.specs.Prelude.{◌≡◌, ◌⊎◌, ◌<◌, ◌≤◌, ℕ, List, Option, Some, None, length, take, ⊤}
 use Rattle.std.specs.Str.{IsCharBoundary, IsUtf8, chars}
 use Rattle.std.specs.Str.Lossy.{utf8_valid_len}
-use Rattle.format_json.specs.declared.fault.Fault.{Fault}
-use Rattle.format_json.specs.declared.fault.Fault.TheVariants as faults
+use Rattle.format_json.specs.declared.fault.JsonError.{JsonError}
+use Rattle.format_json.specs.declared.fault.JsonError.TheVariants as faults
 use Rattle.format_json.specs.declared.fault.Location.{Location}
-use Rattle.format_json.specs.declared.fault.WriteFault.{WriteFault}
-use Rattle.format_json.specs.declared.fault.WriteFault.TheVariants as unwritten
+use Rattle.format_json.specs.declared.fault.JsonWriteError.{JsonWriteError}
+use Rattle.format_json.specs.declared.fault.JsonWriteError.TheVariants as unwritten
 use Rattle.format_json_pieces.specs.Begun.{MayBegin}
 use Rattle.format_json_pieces.specs.Place.{IsPlace}
 use Rattle.format_json_pieces.specs.declared.expected.Expected.TheVariants.{NoDeeper}
@@ -31,7 +31,7 @@ IsReadable bytes offset = IsUtf8 bytes ⊎ (offset < utf8_valid_len bytes)
 
 -- `IsErrorOf level bytes fault`: `fault` is why `bytes` is not a JSON text. A bracket that exceeds
 -- `level` is reported as `TooDeep`.
-abbrev pub IsErrorOf : ℕ → List ℕ → Fault → Type 0
+abbrev pub IsErrorOf : ℕ → List ℕ → JsonError → Type 0
 IsErrorOf level bytes (faults.Unexpected at expected) =
     (expected ≡ NoDeeper → ⊥) × IsPlace level bytes at.offset expected
     × (at.offset < length bytes) × IsReadable bytes at.offset × IsLocated bytes at
@@ -46,14 +46,14 @@ IsErrorOf level bytes (faults.NotUtf8 at) =
     × MayBegin level (take at.offset bytes) × IsLocated bytes at
 IsErrorOf level bytes faults.NoMemory = ⊤
 
-abbrev pub location_of : Fault → Option Location
+abbrev pub location_of : JsonError → Option Location
 location_of (faults.Unexpected at expected) = Some at
 location_of (faults.End at expected) = Some at
 location_of (faults.TooDeep at level) = Some at
 location_of (faults.NotUtf8 at) = Some at
 location_of faults.NoMemory = None
 
-abbrev pub write_fault : WriteError → WriteFault
+abbrev pub write_fault : WriteError → JsonWriteError
 write_fault errors.Number = unwritten.NotANumber
 write_fault errors.Level = unwritten.TooDeep
 write_fault errors.Memory = unwritten.NoMemory

@@ -17,9 +17,9 @@ use winnow::stream::position_in;
 /// A place in a text.
 ///
 /// ```
-/// use format_json::{Fault, from_text};
+/// use format_json::{JsonError, from_text};
 ///
-/// if let Err(Fault::Unexpected { at, .. }) = from_text(alloc, 1, "[1,\n 2 3]") {
+/// if let Err(JsonError::Unexpected { at, .. }) = from_text(alloc, 1, "[1,\n 2 3]") {
 ///     assert_eq!(rt; (at.offset, at.line, at.column), (7, 2, 4));
 /// }
 /// ```
@@ -52,7 +52,7 @@ impl Display for Location {
 /// assert!(rt; matches!(said, Ok(said) if said.as_str() == wanted));
 /// ```
 #[derive(Clone, Copy, Debug, PartialEq, Eq, Drop)]
-pub enum Fault {
+pub enum JsonError {
     /// The input at this position is invalid, regardless of what follows it.
     Unexpected {
         /// The first such place.
@@ -83,7 +83,7 @@ pub enum Fault {
     NoMemory,
 }
 
-impl Fault {
+impl JsonError {
     /// Returns the position of the error in the text, or `None` if memory allocation failed.
     ///
     /// ```
@@ -97,42 +97,45 @@ impl Fault {
         ensures { result ≡ location_of self.now }
     {
         match *self {
-            Fault::Unexpected { at, .. }
-            | Fault::End { at, .. }
-            | Fault::TooDeep { at, .. }
-            | Fault::NotUtf8 { at } => Some(at),
-            Fault::NoMemory => None,
+            JsonError::Unexpected { at, .. }
+            | JsonError::End { at, .. }
+            | JsonError::TooDeep { at, .. }
+            | JsonError::NotUtf8 { at } => Some(at),
+            JsonError::NoMemory => None,
         }
     }
 }
 
-impl Display for Fault {
+impl Display for JsonError {
     fn fmt<W: fmt::Write>(&self, f: &mut Formatter<W>) -> fmt::Result {
         match *self {
-            Fault::Unexpected { at, expected } => write!(f, "{at}: expected {expected}"),
-            Fault::End { at, expected } => {
+            JsonError::Unexpected { at, expected } => write!(f, "{at}: expected {expected}"),
+            JsonError::End { at, expected } => {
                 write!(f, "{at}: unexpected end of input, expected {expected}")
             }
-            Fault::TooDeep { at, level } => write!(f, "{at}: nested deeper than {level} levels"),
-            Fault::NotUtf8 { at } => write!(f, "{at}: invalid UTF-8"),
-            Fault::NoMemory => f.write_str("out of memory"),
+            JsonError::TooDeep { at, level } => write!(
+                f,
+                "{at}: nested deeper than {level} levels"
+            ),
+            JsonError::NotUtf8 { at } => write!(f, "{at}: invalid UTF-8"),
+            JsonError::NoMemory => f.write_str("out of memory"),
         }
     }
 }
 
-impl Error for Fault {}
+impl Error for JsonError {}
 
 /// Why a value is not written.
 ///
 /// ```
-/// use format_json::{Value, WriteFault, to_text};
+/// use format_json::{Value, JsonWriteError, to_text};
 /// use std::alloc::Global;
 ///
 /// let value: Value<Global> = Value::Number(String::from_str(alloc, "01").unwrap());
-/// assert!(rt; matches!(to_text(alloc, 0, &value), Err(WriteFault::NotANumber)));
+/// assert!(rt; matches!(to_text(alloc, 0, &value), Err(JsonWriteError::NotANumber)));
 /// ```
 #[derive(Clone, Copy, Debug, PartialEq, Eq, Drop)]
-pub enum WriteFault {
+pub enum JsonWriteError {
     /// The text of a number in the value is not a number of RFC 8259 (section 6).
     NotANumber,
     /// Arrays and objects are nested deeper than the level allows.
@@ -141,30 +144,30 @@ pub enum WriteFault {
     NoMemory,
 }
 
-impl WriteFault {
+impl JsonWriteError {
     /// The same as another crate says it.
-    pub(crate) fn of(error: WriteError) -> WriteFault
+    pub(crate) fn of(error: WriteError) -> JsonWriteError
         ensures { result ≡ write_fault error }
     {
         match error {
-            WriteError::Number => WriteFault::NotANumber,
-            WriteError::Level => WriteFault::TooDeep,
-            WriteError::Memory => WriteFault::NoMemory,
+            WriteError::Number => JsonWriteError::NotANumber,
+            WriteError::Level => JsonWriteError::TooDeep,
+            WriteError::Memory => JsonWriteError::NoMemory,
         }
     }
 }
 
-impl Display for WriteFault {
+impl Display for JsonWriteError {
     fn fmt<W: fmt::Write>(&self, f: &mut Formatter<W>) -> fmt::Result {
         f.write_str(match *self {
-            WriteFault::NotANumber => "invalid JSON number in the value",
-            WriteFault::TooDeep => "nested too deep",
-            WriteFault::NoMemory => "out of memory",
+            JsonWriteError::NotANumber => "invalid JSON number in the value",
+            JsonWriteError::TooDeep => "nested too deep",
+            JsonWriteError::NoMemory => "out of memory",
         })
     }
 }
 
-impl Error for WriteFault {}
+impl Error for JsonWriteError {}
 
 /// A place, with its line and its column.
 fn located(bytes: &[u8], offset: usize) -> Location
@@ -178,33 +181,33 @@ fn located(bytes: &[u8], offset: usize) -> Location
     }
 }
 
-/// Returns the [`Fault`] for `place` in `text`.
-fn fault_at(level: usize, text: &[u8], place: Place) -> Fault
+/// Returns the [`JsonError`] for `place` in `text`.
+fn fault_at(level: usize, text: &[u8], place: Place) -> JsonError
     ensures { IsPlace level text.now place.offset place.expected
         → IsReadable text.now place.offset → IsErrorOf level text.now result }
 {
     let at = located(text, place.offset);
     match place.expected {
-        Expected::NoDeeper => Fault::TooDeep { at, level },
-        expected if place.offset < text.len() => Fault::Unexpected { at, expected },
-        expected => Fault::End { at, expected },
+        Expected::NoDeeper => JsonError::TooDeep { at, level },
+        expected if place.offset < text.len() => JsonError::Unexpected { at, expected },
+        expected => JsonError::End { at, expected },
     }
 }
 
-/// Returns the [`Fault`] of a text that is not JSON.
-pub(crate) fn fault_of_text<A: Allocator>(alloc: A, level: usize, text: &[u8]) -> Fault
+/// Returns the [`JsonError`] of a text that is not JSON.
+pub(crate) fn fault_of_text<A: Allocator>(alloc: A, level: usize, text: &[u8]) -> JsonError
     requires { IsUtf8 text.now }
     ensures { IsErrorOf level text.now result }
 {
     match first_place(alloc, level, text) {
         Ok(place) => fault_at(level, text, place),
-        Err(_) => Fault::NoMemory,
+        Err(_) => JsonError::NoMemory,
     }
 }
 
-/// Returns the [`Fault`] of bytes that are not JSON. It is that they are not UTF-8, unless another
-/// error has a smaller offset.
-pub(crate) fn fault_of_bytes<A: Allocator>(alloc: A, level: usize, bytes: &[u8]) -> Fault
+/// Returns the [`JsonError`] of bytes that are not JSON. It is that they are not UTF-8, unless
+/// another error has a smaller offset.
+pub(crate) fn fault_of_bytes<A: Allocator>(alloc: A, level: usize, bytes: &[u8]) -> JsonError
     ensures { IsErrorOf level bytes.now result }
 {
     let valid = match str::from_utf8(bytes) {
@@ -213,9 +216,9 @@ pub(crate) fn fault_of_bytes<A: Allocator>(alloc: A, level: usize, bytes: &[u8])
     };
     match first_place(alloc, level, bytes) {
         Ok(place) if place.offset < valid => fault_at(level, bytes, place),
-        Ok(_) => Fault::NotUtf8 {
+        Ok(_) => JsonError::NotUtf8 {
             at: located(bytes, valid),
         },
-        Err(_) => Fault::NoMemory,
+        Err(_) => JsonError::NoMemory,
     }
 }

@@ -5,7 +5,7 @@ ghost use Rattle.format_json_decimals.specs.Numbers.{IsWritten, Number};
 ghost use Rattle.format_json_texts.specs.Kinds.{Has};
 ghost use Rattle.format_json_texts.specs.declared.value.Value as values;
 
-use format_json_decimals::{Decimal, DecimalFault, decimal};
+use format_json_decimals::{Decimal, DecimalError, decimal};
 use format_json_texts::value::Value;
 use std::alloc::Allocator;
 
@@ -22,7 +22,7 @@ use std::alloc::Allocator;
 /// let found = Decimal { negative: false, digits: 1995, exponent: -2 };
 /// assert!(rt; matches!(as_decimal(&price), Some(Ok(decimal)) if decimal == found));
 /// ```
-pub fn as_decimal<A: Allocator>(value: &Value<A>) -> Option<Result<Decimal, DecimalFault>>
+pub fn as_decimal<A: Allocator>(value: &Value<A>) -> Option<Result<Decimal, DecimalError>>
     ensures { Has values.Number (λ text result. (n : Number) → IsWritten (string_bytes text) n
         → Answers n result) value.now result }
 {

@@ -1,6 +1,6 @@
 //! Values from text and from bytes.
 ghost use Rattle.format_json.specs.Fault.{IsErrorOf};
-ghost use Rattle.format_json.specs.declared.fault.Fault.TheVariants.{NoMemory};
+ghost use Rattle.format_json.specs.declared.fault.JsonError.TheVariants.{NoMemory};
 ghost use Rattle.format_json_pieces.specs.Value.{InUtf8};
 ghost use Rattle.format_json_texts.specs.Values.{JsonText};
 ghost use Rattle.std.specs.Prelude.{◌≡◌, ◌⊎◌, IfErr, IfOk, IsTrue};
@@ -8,7 +8,7 @@ ghost use Rattle.std.specs.Str.{chars};
 ghost use Rattle.winnow.specs.Accumulator.Holds.{HasCharacters};
 ghost use Rattle.winnow.specs.Exact.Whole.{IsWant};
 
-use crate::fault::{Fault, fault_of_bytes, fault_of_text};
+use crate::fault::{JsonError, fault_of_bytes, fault_of_text};
 use format_json_pieces::value::parse_value_of_bytes;
 use format_json_texts::value::Value;
 use format_json_values::value::parse_value;
@@ -21,7 +21,7 @@ fn text_wants_memory<'i>(fault: &ParseFault<&'i str, EmptyError>) -> bool
         → IsTrue result }
 {
     match fault {
-        ParseFault::Refused(error) => ParserError::<&str>::is_memory(error.inner()),
+        ParseFault::Invalid(error) => ParserError::<&str>::is_memory(error.inner()),
         ParseFault::Incomplete(_) => false,
     }
 }
@@ -32,29 +32,33 @@ fn bytes_want_memory<'i>(fault: &ParseFault<&'i [u8], EmptyError>) -> bool
         → IsTrue result }
 {
     match fault {
-        ParseFault::Refused(error) => ParserError::<&[u8]>::is_memory(error.inner()),
+        ParseFault::Invalid(error) => ParserError::<&[u8]>::is_memory(error.inner()),
         ParseFault::Incomplete(_) => false,
     }
 }
 
 /// Parses a JSON text: a value with whitespace around it, whose arrays and objects are nested at
-/// most `level` deep. Each level uses some of the stack: up to [`SAFE_LEVEL`](crate::SAFE_LEVEL)
+/// most `level` deep. Each level uses some of the stack: up to [`SAFE_DEPTH`](crate::SAFE_DEPTH)
 /// two megabytes suffice.
 ///
-/// If the text is invalid, the [`Fault`] gives the first offset at which it cannot continue a JSON
-/// text, and the input that is expected there. Otherwise the text ends too early, is nested too
-/// deeply, or memory allocation failed. A second pass over the text finds the offset.
+/// If the text is invalid, the [`JsonError`] gives the first offset at which it cannot continue a
+/// JSON text, and the input that is expected there. Otherwise the text ends too early, is nested
+/// too deeply, or memory allocation failed. A second pass over the text finds the offset.
 ///
 /// ```
-/// use format_json::{Expected, Fault, from_text};
+/// use format_json::{Expected, JsonError, from_text};
 ///
 /// let value = from_text(alloc, 1, " [1, true] ");
 /// assert!(rt; matches!(value, Ok(value) if value.elements().len() == 2));
 /// let fault = from_text(alloc, 1, "[1, true,]");
-/// assert!(rt; matches!(fault, Err(Fault::Unexpected { at, expected: Expected::Value })
+/// assert!(rt; matches!(fault, Err(JsonError::Unexpected { at, expected: Expected::Value })
 ///     if at.offset == 9 && at.column == 10));
 /// ```
-pub fn from_text<A: Allocator + Copy>(alloc: A, level: usize, text: &str) -> Result<Value<A>, Fault>
+pub fn from_text<A: Allocator + Copy>(
+    alloc: A,
+    level: usize,
+    text: &str,
+) -> Result<Value<A>, JsonError>
     ensures value { IfOk result (λ v. JsonText HasCharacters level v (chars text.now)) }
     ensures none { IfErr result (λ fault. (fault ≡ NoMemory)
         ⊎ ((v : Value A) → JsonText HasCharacters level v (chars text.now) → ⊥)) }
@@ -64,7 +68,7 @@ pub fn from_text<A: Allocator + Copy>(alloc: A, level: usize, text: &str) -> Res
         Ok(value) => Ok(value),
         Err(fault) => {
             if text_wants_memory(&fault) {
-                Err(Fault::NoMemory)
+                Err(JsonError::NoMemory)
             } else {
                 Err(fault_of_text(alloc, level, text.as_bytes()))
             }
@@ -73,21 +77,21 @@ pub fn from_text<A: Allocator + Copy>(alloc: A, level: usize, text: &str) -> Res
 }
 
 /// Like [`from_text`], for bytes, which must be UTF-8. If they are not UTF-8, and no other error
-/// has a smaller offset, the [`Fault`] reports it.
+/// has a smaller offset, the [`JsonError`] reports it.
 ///
 /// ```
-/// use format_json::{Fault, from_bytes};
+/// use format_json::{JsonError, from_bytes};
 ///
 /// let value = from_bytes(alloc, 0, b"12");
 /// assert!(rt; matches!(value, Ok(value) if value.as_u64() == Some(12)));
 /// let fault = from_bytes(alloc, 0, b"\"ab\xff\"");
-/// assert!(rt; matches!(fault, Err(Fault::NotUtf8 { at }) if at.offset == 3));
+/// assert!(rt; matches!(fault, Err(JsonError::NotUtf8 { at }) if at.offset == 3));
 /// ```
 pub fn from_bytes<A: Allocator + Copy>(
     alloc: A,
     level: usize,
     bytes: &[u8],
-) -> Result<Value<A>, Fault>
+) -> Result<Value<A>, JsonError>
     ensures value { IfOk result (λ v. InUtf8 (JsonText HasCharacters level) v bytes.now) }
     ensures none { IfErr result (λ fault. (fault ≡ NoMemory)
         ⊎ ((v : Value A) → InUtf8 (JsonText HasCharacters level) v bytes.now → ⊥)) }
@@ -97,7 +101,7 @@ pub fn from_bytes<A: Allocator + Copy>(
         Ok(value) => Ok(value),
         Err(fault) => {
             if bytes_want_memory(&fault) {
-                Err(Fault::NoMemory)
+                Err(JsonError::NoMemory)
             } else {
                 Err(fault_of_bytes(alloc, level, bytes))
             }

@@ -1,7 +1,7 @@
 //! Values as text.
 ghost use Rattle.format_json.specs.Fault.{write_fault};
 ghost use Rattle.format_json.specs.Layout.{LaidValue};
-ghost use Rattle.format_json.specs.declared.fault.WriteFault.TheVariants.{NoMemory};
+ghost use Rattle.format_json.specs.declared.fault.JsonWriteError.TheVariants.{NoMemory};
 ghost use Rattle.format_json_texts.specs.Values.{ValueText};
 ghost use Rattle.format_json_writer.specs.Compact.{CompactValue};
 ghost use Rattle.format_json_writer.specs.Refused.{HasNoText, IsRefused};
@@ -10,7 +10,7 @@ ghost use Rattle.std.specs.Prelude.{◌≡◌, ◌⊎◌, IfErr, IfOk, string_by
 ghost use Rattle.std.specs.Str.{chars};
 ghost use Rattle.winnow.specs.Accumulator.Holds.{HasCharacters};
 
-use crate::fault::WriteFault;
+use crate::fault::JsonWriteError;
 use crate::layout::{Indent, write_pretty};
 use format_json_texts::value::Value;
 use format_json_writer::value as writer;
@@ -36,7 +36,7 @@ pub fn to_text<A: Allocator, B: Allocator>(
     alloc: B,
     level: usize,
     value: &Value<A>,
-) -> Result<String<B>, WriteFault>
+) -> Result<String<B>, JsonWriteError>
     ensures written { IfOk result (λ text. CompactValue level value.now
         (chars (string_bytes text))) }
     ensures text { IfOk result (λ text. ValueText HasCharacters level value.now
@@ -47,7 +47,7 @@ pub fn to_text<A: Allocator, B: Allocator>(
 {
     match writer::to_text(alloc, level, value) {
         Ok(text) => Ok(text),
-        Err(error) => Err(WriteFault::of(error)),
+        Err(error) => Err(JsonWriteError::of(error)),
     }
 }
 
@@ -71,7 +71,7 @@ pub fn to_text_pretty<A: Allocator, B: Allocator>(
     level: usize,
     indent: usize,
     value: &Value<A>,
-) -> Result<String<B>, WriteFault>
+) -> Result<String<B>, JsonWriteError>
     ensures written { IfOk result (λ text. LaidValue indent level 0 value.now
         (chars (string_bytes text))) }
     ensures text { IfOk result (λ text. ValueText HasCharacters level value.now
@@ -90,6 +90,6 @@ pub fn to_text_pretty<A: Allocator, B: Allocator>(
             let _written = text.as_str();
             Ok(text)
         }
-        Err(error) => Err(WriteFault::of(error)),
+        Err(error) => Err(JsonWriteError::of(error)),
     }
 }

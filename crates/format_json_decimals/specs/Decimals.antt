@@ -5,8 +5,8 @@ use Rattle.std.specs.Int.{w32}
 use Rattle.std.specs.declared.result.Result.{Result}
 use Rattle.format_json_decimals.specs.Numbers.{Number, coefficient, scale, with_sign}
 use Rattle.format_json_decimals.specs.declared.decimal.Decimal.{Decimal}
-use Rattle.format_json_decimals.specs.declared.decimal.DecimalFault.{DecimalFault}
-use Rattle.format_json_decimals.specs.declared.decimal.DecimalFault.TheVariants as faults
+use Rattle.format_json_decimals.specs.declared.decimal.DecimalError.{DecimalError}
+use Rattle.format_json_decimals.specs.declared.decimal.DecimalError.TheVariants as faults
 
 -- a times ten to the power p is b times ten to the power q: of whichever powers of ten make up for
 -- the difference of p and q, the integers are equal
@@ -27,13 +27,13 @@ IsDecimal n negative digits exponent =
 
 -- The digits are too many for 64 bits, or they are not, and the power does not fit 32 bits with a
 -- sign.
-abbrev pub Exceeds : DecimalFault → ℕ → ℤ → Type 0
+abbrev pub Exceeds : DecimalError → ℕ → ℤ → Type 0
 Exceeds faults.TooManyDigits digits exponent = 2 ^ 64 ≤ digits
 Exceeds faults.ExponentOutOfRange digits exponent =
     (digits < 2 ^ 64) × (FitsSigned w32 exponent → ⊥)
 
 -- The number's decimal, or why it does not fit.
-abbrev pub Answers : Number → Result Decimal DecimalFault → Type 0
+abbrev pub Answers : Number → Result Decimal DecimalError → Type 0
 Answers n result =
     MatchResult result (λ d. IsDecimal n d.negative d.digits d.exponent)
     (λ fault. (negative : Bool) × (digits : ℕ) × (exponent : ℤ)

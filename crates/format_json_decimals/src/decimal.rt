@@ -33,15 +33,15 @@ pub struct Decimal {
 /// Why a number has no decimal that fits.
 ///
 /// ```
-/// use format_json_decimals::{DecimalFault, as_decimal};
+/// use format_json_decimals::{DecimalError, as_decimal};
 ///
 /// let long = as_decimal(b"18446744073709551617".as_slice());
-/// assert_eq!(rt; long, Err(DecimalFault::TooManyDigits));
+/// assert_eq!(rt; long, Err(DecimalError::TooManyDigits));
 /// let large = as_decimal(b"1e2147483648".as_slice());
-/// assert_eq!(rt; large, Err(DecimalFault::ExponentOutOfRange));
+/// assert_eq!(rt; large, Err(DecimalError::ExponentOutOfRange));
 /// ```
 #[derive(Clone, Copy, Debug, PartialEq, Eq)]
-pub enum DecimalFault {
+pub enum DecimalError {
     /// The digits, without zeros at their end, are 2<sup>64</sup> or more.
     TooManyDigits,
     /// The digits fit, and their power of ten is below -2<sup>31</sup>, or 2<sup>31</sup> or more.
@@ -69,8 +69,8 @@ fn skip_sign<'i>(number: &'i [u8]) -> (bool, &'i [u8])
 /// `10e400` fits, and so does a one followed by a thousand zeros. The result is unspecified if the
 /// bytes are not a JSON number.
 ///
-/// Fails with [`DecimalFault::TooManyDigits`] if the digits do not fit 64 bits. Otherwise fails
-/// with [`DecimalFault::ExponentOutOfRange`] if the power of ten does not fit 32 bits. Each number
+/// Fails with [`DecimalError::TooManyDigits`] if the digits do not fit 64 bits. Otherwise fails
+/// with [`DecimalError::ExponentOutOfRange`] if the power of ten does not fit 32 bits. Each number
 /// has only one decimal
 /// ([`each_number_has_one_decimal`](crate::laws::each_number_has_one_decimal)), so none that fits
 /// is missed.
@@ -83,12 +83,12 @@ fn skip_sign<'i>(number: &'i [u8]) -> (bool, &'i [u8])
 /// let small = Decimal { negative: true, digits: 5, exponent: -3 };
 /// assert_eq!(rt; as_decimal(b"-0.005".as_slice()), Ok(small));
 /// ```
-pub fn as_decimal(number: &[u8]) -> Result<Decimal, DecimalFault>
+pub fn as_decimal(number: &[u8]) -> Result<Decimal, DecimalError>
     ensures { (n : Number) → IsWritten number.now n → Answers n result }
 {
     let (negative, unsigned) = skip_sign(number);
     let Some(read) = read_coefficient(unsigned) else {
-        return Err(DecimalFault::TooManyDigits);
+        return Err(DecimalError::TooManyDigits);
     };
     if read.digits == 0 {
         return Ok(Decimal {
@@ -98,7 +98,7 @@ pub fn as_decimal(number: &[u8]) -> Result<Decimal, DecimalFault>
         });
     }
     let Some(power) = power_of(read.exponent) else {
-        return Err(DecimalFault::ExponentOutOfRange);
+        return Err(DecimalError::ExponentOutOfRange);
     };
     match shifted(power, read.zeros, read.places) {
         Some(exponent) => Ok(Decimal {
@@ -106,6 +106,6 @@ pub fn as_decimal(number: &[u8]) -> Result<Decimal, DecimalFault>
             digits: read.digits,
             exponent,
         }),
-        None => Err(DecimalFault::ExponentOutOfRange),
+        None => Err(DecimalError::ExponentOutOfRange),
     }
 }

@@ -2,12 +2,12 @@
 //! digits, and a power of ten.
 //!
 //! ```
-//! use format_json_decimals::{Decimal, DecimalFault, as_decimal};
+//! use format_json_decimals::{Decimal, DecimalError, as_decimal};
 //!
 //! let price = Decimal { negative: true, digits: 1995, exponent: -2 };
 //! assert_eq!(rt; as_decimal(b"-19.950".as_slice()), Ok(price));
 //! let long = as_decimal(b"0.1000000000000000055511151231257827".as_slice());
-//! assert_eq!(rt; long, Err(DecimalFault::TooManyDigits));
+//! assert_eq!(rt; long, Err(DecimalError::TooManyDigits));
 //! ```
 #![tactic(auto)]
 
@@ -17,4 +17,4 @@ mod digits;
 pub mod laws;
 mod power;
 
-pub use decimal::{Decimal, DecimalFault, as_decimal};
+pub use decimal::{Decimal, DecimalError, as_decimal};

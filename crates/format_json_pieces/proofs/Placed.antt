@@ -103,11 +103,11 @@ module _ {level : ℕ} {bytes left : List ℕ} {mode : Mode} {items : List Brack
     )
 
     pub at_refused : (expected : Expected) (n : ℕ) → n ≡ length bytes - length left
-        → steps.Refused ≡ next_step mode (last_open w.held) b
+        → steps.Invalid ≡ next_step mode (last_open w.held) b
         → expected ≡ wanted mode (last_open w.held) → IsPlace level bytes n expected
     at_refused expected n is refused wants =
         placed expected n is
-        (λ x. (led steps.Refused refused []).1
+        (λ x. (led steps.Invalid refused []).1
         (subst (λ l. MayBegin level l) (sym (append-nil (w.front ++ b ∷ []))) x))
         (mode, w.held, w.leads, inl (sym refused, wants))
 

@@ -7,7 +7,7 @@ use Rattle.format_json_pieces.specs.Extent.{behind_plain, byte, escaped, open_be
 use Rattle.format_json_pieces.specs.Extent.{plain}
 use Rattle.format_json_pieces.specs.Extent.{quote, string}
 use Rattle.format_json_pieces.specs.General.{split_two}
-use Rattle.winnow.specs.Compare.{IsShort, StandsFirst}
+use Rattle.winnow.specs.Compare.{IsShort, StartsWithSpelling}
 
 -- ---- in a string
 
@@ -61,7 +61,7 @@ module _ {b : ℕ} {bytes left more : List ℕ} (first : left ≡ b ∷ more) wh
 -- ---- at a word
 
 pub no_word : (word bytes : List ℕ) → (IsShort (λ xs. xs ≡ word) bytes → ⊥)
-    × (StandsFirst (λ xs. xs ≡ word) bytes → ⊥) → (more rest : List ℕ)
+    × (StartsWithSpelling (λ xs. xs ≡ word) bytes → ⊥) → (more rest : List ℕ)
     → bytes ++ more ≡ word ++ rest → ⊥
 no_word word bytes (not_short, not_first) more rest e =
     elim (split_two bytes more word rest e) [

@@ -16,7 +16,7 @@ use Rattle.format_json_pieces.specs.declared.begun.Mode.TheVariants.{Number, Tex
 use Rattle.format_json_pieces.specs.declared.begun.Step.{Step}
 use Rattle.format_json_pieces.specs.declared.begun.Step.TheVariants.{Closes, Ended, Ends, Goes}
 use Rattle.format_json_pieces.specs.declared.begun.Step.TheVariants.{Opens}
-use Rattle.format_json_pieces.specs.declared.begun.Step.TheVariants.{Refused}
+use Rattle.format_json_pieces.specs.declared.begun.Step.TheVariants.{Invalid}
 use Rattle.format_json_pieces.specs.declared.inside.Figure.{Figure}
 use Rattle.format_json_pieces.specs.declared.inside.Figure.TheVariants.{Minus, Whole, Zero}
 use Rattle.format_json_pieces.specs.declared.inside.Inner.{Inner}
@@ -37,12 +37,12 @@ value_step mode b =
     if b == 102 then Goes (Word Alse) else if b == 110 then Goes (Word Ull) else
     if b == 116 then Goes (Word Rue) else if b == 45 then Goes (Number Minus) else
     if b == 48 then Goes (Number Zero) else
-    if nat_le 49 b && nat_le b 57 then Goes (Number Whole) else Refused
+    if nat_le 49 b && nat_le b 57 then Goes (Number Whole) else Invalid
 
 -- where a name is to come
 abbrev pub name_step : Mode → ℕ → Step
 name_step mode b =
-    if is_gap b then Goes mode else if b == 34 then Goes (Name Plain) else Refused
+    if is_gap b then Goes mode else if b == 34 then Goes (Name Plain) else Invalid
 
 abbrev pub item_step : Mode → Option Bracket → ℕ → Step
 item_step mode None b = value_step mode b
@@ -52,21 +52,21 @@ item_step mode (Some Object) b = name_step mode b
 
 -- a comma, or what closes the bracket
 abbrev pub item_ends : Bracket → ℕ → Step
-item_ends Array b = if b == 44 then Goes Item else if b == 93 then Closes else Refused
-item_ends Object b = if b == 44 then Goes Item else if b == 125 then Closes else Refused
-item_ends Whole b = Refused
+item_ends Array b = if b == 44 then Goes Item else if b == 93 then Closes else Invalid
+item_ends Object b = if b == 44 then Goes Item else if b == 125 then Closes else Invalid
+item_ends Whole b = Invalid
 
 -- after an item
 abbrev pub after_step : Bracket → ℕ → Step
 after_step held b = if is_gap b then Goes After else item_ends held b
 
 abbrev pub within_text : Inner → Step
-within_text inners.Broken = Refused
+within_text inners.Broken = Invalid
 within_text inners.Quote = Ends
 within_text (inners.Part next) = Goes (Text next)
 
 abbrev pub within_name : Inner → Step
-within_name inners.Broken = Refused
+within_name inners.Broken = Invalid
 within_name inners.Quote = Goes Colon
 within_name (inners.Part next) = Goes (Name next)
 
@@ -83,7 +83,7 @@ behind_number (Some held) b = after_step held b
 abbrev pub number_step : Option Figure → Bool → Option Bracket → ℕ → Step
 number_step (Some next) final held b = Goes (Number next)
 number_step None final held b =
-    if not final || goes_on b then Refused else behind_number held b
+    if not final || goes_on b then Invalid else behind_number held b
 
 abbrev pub figure_step : Figure → Option Bracket → ℕ → Step
 figure_step figure held b = number_step (figure_behind figure b) (is_final figure) held b
@@ -94,7 +94,7 @@ word_step (Some next) = Goes (Word next)
 
 abbrev pub letters_step : Letters → ℕ → Step
 letters_step letters b =
-    if b == expected letters then word_step (letters_behind letters) else Refused
+    if b == expected letters then word_step (letters_behind letters) else Invalid
 
 abbrev pub first_step : Option Bracket → ℕ → Step
 first_step None b = value_step First b
@@ -108,7 +108,7 @@ next_step First held b = first_step held b
 next_step Item held b = item_step Item held b
 next_step Value held b = value_step Value b
 next_step Colon held b =
-    if is_gap b then Goes Colon else if b == 58 then Goes Value else Refused
+    if is_gap b then Goes Colon else if b == 58 then Goes Value else Invalid
 next_step After held b = behind_number held b
 next_step (Name part) held b = name_part_step part b
 next_step (Text part) held b = text_step part b
@@ -130,7 +130,7 @@ IsAfterValue on [] = ⊤
 IsAfterValue on (bracket ∷ held) = on After (bracket ∷ held)
 
 abbrev pub IsNextStep : (Mode → List Bracket → Type 0) → ℕ → List Bracket → Step → Type 0
-IsNextStep on level held Refused = ⊥
+IsNextStep on level held Invalid = ⊥
 IsNextStep on level held Ended = ⊤
 IsNextStep on level held (Goes mode) = on mode held
 IsNextStep on level held (Opens bracket) = (length held < level) × on First (bracket ∷ held)

@@ -19,7 +19,7 @@ use Rattle.format_json_pieces.specs.Value.{InUtf8, IsNumeral, IsNumeric}
 use Rattle.winnow.specs.Accumulator.Holds.{HasCharacters}
 use Rattle.winnow.specs.AsChar.{IsMultispace}
 use Rattle.winnow.specs.Equal.{same_first}
-use Rattle.winnow.specs.Texts.{Begins, InFront, NotFirst, Spelled}
+use Rattle.winnow.specs.Texts.{StartsWith, InFront, NotFirst, Spelled}
 use Rattle.winnow.specs.Texts.Fronts.{either_front}
 
 numeral_ascii : (c : ℕ) → IsNumeral c → c < 128
@@ -35,7 +35,7 @@ module _ (rest : List ℕ) where
   -- bytes of numbers, and the rest
   abbrev Number : List ℕ → Type 0
   Number bytes =
-      (text : List ℕ) × (bytes ≡ text ++ rest) × Begins IsNumeric text × All IsNumeral text
+      (text : List ℕ) × (bytes ≡ text ++ rest) × StartsWith IsNumeric text × All IsNumeral text
 
   abbrev Alone : List ℕ → Type 0
   Alone bytes = IsClosed bytes rest ⊎ Number bytes
@@ -62,7 +62,7 @@ module _ (rest : List ℕ) where
   numbers : InFront NumberText (Coded rest At) (Coded rest Alone)
   numbers = record {
     makes = λ slice xs cs x e.
-        let P : List ℕ → Type 0 = λ l. Begins IsNumeric l × All IsNumeral l in
+        let P : List ℕ → Type 0 = λ l. StartsWith IsNumeric l × All IsNumeral l in
         let (begins, all) = subst P (append-nil xs) (
           number_begins.makes slice xs [] x tt,
           (number_front numerals).makes slice xs [] x (All-nil IsNumeral),
@@ -104,17 +104,17 @@ module _ (rest : List ℕ) where
             ((value_front rest HasCharacters level alone).makes v (chars text) [] written refl)),
       )
     where
-      by : Alone bytes → IsClosed bytes rest ⊎ (Begins IsNumeric text × All IsNumeral text)
+      by : Alone bytes → IsClosed bytes rest ⊎ (StartsWith IsNumeric text × All IsNumeral text)
       by (inl c) = inl c
       by (inr (it, f, begins, all)) =
-          let P : List ℕ → Type 0 = λ l. Begins IsNumeric l × All IsNumeral l in
+          let P : List ℕ → Type 0 = λ l. StartsWith IsNumeric l × All IsNumeral l in
           inr (subst P (append_cancel_right it text rest (sym f ∙ e)) (begins, all))
 
 -- ---- what it begins with
 
 -- what closes does not begin as a number does
 pub closed_other : {P : Type 0} (bytes rest text left : List ℕ) → IsClosed bytes rest
-    → bytes ≡ text ++ left → Begins IsNumeric text → P
+    → bytes ≡ text ++ left → StartsWith IsNumeric text → P
 closed_other bytes rest [] left c e b = absurd b
 closed_other bytes rest (x ∷ text) left c e b =
     let Q : List ℕ → Type 0 = λ l. IsClosed l rest in

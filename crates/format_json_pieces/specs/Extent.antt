@@ -10,8 +10,8 @@ use Rattle.format_json_pieces.specs.Value.{IsNumeral, IsNumeric}
 use Rattle.winnow.specs.Equal.{same_rest}
 use Rattle.format_json_pieces.specs.declared.extent.Lack.{Lack}
 use Rattle.format_json_pieces.specs.declared.extent.Lack.TheVariants as lacks
-use Rattle.winnow.specs.Grammar.{Grammar, NoneStands}
-use Rattle.winnow.specs.Texts.{Begins, NotFirst}
+use Rattle.winnow.specs.Grammar.{Grammar, NoMatch}
+use Rattle.winnow.specs.Texts.{StartsWith, NotFirst}
 
 -- ---- what ends where
 
@@ -65,13 +65,14 @@ IsClosed (b ∷ more) rest =
 -- begins as a number does.
 abbrev pub MayEnd : Grammar ℕ (List ℕ)
 MayEnd bytes text rest =
-    (bytes ≡ text ++ rest) × (IsClosed bytes rest ⊎ (Begins IsNumeric text × All IsNumeral text))
+    (bytes ≡ text ++ rest) × (IsClosed bytes rest ⊎ (StartsWith IsNumeric text × All IsNumeral
+    text))
 
 -- `Ends cut bytes text left`: `text` may end there, and if it is a number, no byte of numbers
 -- follows it, for any continuation.
 abbrev pub Ends : Bool → List ℕ → List ℕ → List ℕ → Type 0
 Ends cut bytes text left =
-    MayEnd bytes text left × (Begins IsNumeric text → (more : List ℕ) → Allows cut more
+    MayEnd bytes text left × (StartsWith IsNumeric text → (more : List ℕ) → Allows cut more
     → NotFirst IsNumeral (left ++ more))
 
 -- `Lacks cut bytes lack`: why no text is returned. `Bytes`: the input is partial, and a text may
@@ -80,7 +81,7 @@ abbrev pub Lacks : Bool → List ℕ → Lack → Type 0
 Lacks cut bytes lack =
     (lack ≡ lacks.Bytes → (cut ≡ true) × ((text rest : List ℕ) → MayEnd bytes text rest
     → All IsNumeral bytes))
-    × (lack ≡ lacks.Text → (more : List ℕ) → Allows cut more → NoneStands MayEnd (bytes ++ more))
+    × (lack ≡ lacks.Text → (more : List ℕ) → Allows cut more → NoMatch MayEnd (bytes ++ more))
 
 -- ---- each ends at one place
 

@@ -16,8 +16,8 @@ use Rattle.winnow.specs.AsChar.{IsMultispace}
 use Rattle.winnow.specs.Cut.{Asks}
 use Rattle.winnow.specs.Equal.{true_is_false}
 use Rattle.winnow.specs.Kind.{Kind, incomplete}
-use Rattle.winnow.specs.Grammar.{NoneStands}
-use Rattle.winnow.specs.Texts.{Begins, BothText, InFront, InList, PartedText, Text}
+use Rattle.winnow.specs.Grammar.{NoMatch}
+use Rattle.winnow.specs.Texts.{StartsWith, BothText, InFront, InList, PartedText, Text}
 use Rattle.winnow.specs.Texts.Fronts.{both_front, either_front, in_list_front}
 use Rattle.format_json_texts.specs.Values.{ArrayText, HasText, IsArray, IsNumber, IsObject}
 use Rattle.format_json_texts.specs.Values.{IsString, IsWord, Mark, ObjectText, ScalarText}
@@ -116,7 +116,7 @@ module _ (level : ℕ) (rest : List ℕ) where
       x modes.Item,
     )
       where
-        refused : (b == 93) ≡ true → value_step modes.First b ≡ steps.Refused
+        refused : (b == 93) ≡ true → value_step modes.First b ≡ steps.Invalid
         refused e = grind (arith, nat_tests, e)
 
     value_here : (l : List ℕ) → Started level (Object ∷ held) l
@@ -204,10 +204,10 @@ module _ (level : ℕ) (rest : List ℕ) where
 
 module _ (level : ℕ) where
   -- the first byte of a number is its first character
-  numeric : (cs : List ℕ) → Begins IsNumeric cs → Begins IsNumeric (encode_utf8_all cs)
+  numeric : (cs : List ℕ) → StartsWith IsNumeric cs → StartsWith IsNumeric (encode_utf8_all cs)
   numeric [] x = absurd x
   numeric (c ∷ cs) x =
-      let P : List ℕ → Type 0 = λ l. Begins IsNumeric (l ++ encode_utf8_all cs) in
+      let P : List ℕ → Type 0 = λ l. StartsWith IsNumeric (l ++ encode_utf8_all cs) in
       subst P (sym (encode_ascii c (grind (arith, x)))) x
 
   started_value : (l : List ℕ) → Started level [] l → IsViablePrefix level modes.Value [] l
@@ -223,7 +223,7 @@ module _ {A : Type 0} (level : ℕ) where
       let cs = chars text in
       let whole : encode_utf8_all (cs ++ []) ++ rest ≡ bytes =
       ap (λ l. encode_utf8_all l ++ rest) (append-nil cs) ∙ ap (λ l. l ++ rest) same ∙ sym e in
-      let P : List ℕ → Type 0 = λ l. Begins IsNumeric l in
+      let P : List ℕ → Type 0 = λ l. StartsWith IsNumeric l in
       let Q : List ℕ → Type 0 = λ l. all_scalars l ≡ true in
       subst (λ l. IsViablePrefix level modes.Value [] l) whole (started_value level _
       ((value_spells level rest HasCharacters level (omega arith) (outer level rest)).makes v cs []
@@ -233,7 +233,7 @@ module _ {A : Type 0} (level : ℕ) where
 
   pub none_begun : (bytes : List ℕ) → (IsViablePrefix level modes.Value [] bytes → ⊥)
       → (more : List ℕ)
-      → NoneStands (IsValueIn {A = A} level) (bytes ++ more)
+      → NoMatch (IsValueIn {A = A} level) (bytes ++ more)
   none_begun bytes not more v rest x =
       not (begun_front level bytes more modes.Value [] (value_begun (bytes ++ more) v rest x))
 

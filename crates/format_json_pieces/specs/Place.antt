@@ -10,7 +10,7 @@ use Rattle.format_json_pieces.specs.declared.begun.Mode.{Mode}
 use Rattle.format_json_pieces.specs.declared.begun.Mode.TheVariants.{After, Colon, First, Item}
 use Rattle.format_json_pieces.specs.declared.begun.Mode.TheVariants.{Name}
 use Rattle.format_json_pieces.specs.declared.begun.Mode.TheVariants.{Number, Text, Value, Word}
-use Rattle.format_json_pieces.specs.declared.begun.Step.TheVariants.{Opens, Refused}
+use Rattle.format_json_pieces.specs.declared.begun.Step.TheVariants.{Opens, Invalid}
 use Rattle.format_json_pieces.specs.declared.expected.Expected.{Expected}
 use Rattle.format_json_pieces.specs.declared.expected.Expected.TheVariants as what
 use Rattle.format_json_pieces.specs.declared.inside.Figure.{Figure}
@@ -88,7 +88,7 @@ LeadsTo level front mode held =
 abbrev pub IsNamed : ℕ → Mode → List Bracket → List ℕ → Expected → Type 0
 IsNamed level mode held [] expected = expected ≡ wanted mode (last_open held)
 IsNamed level mode held (b ∷ rest) expected =
-    ((next_step mode (last_open held) b ≡ Refused) × (expected ≡ wanted mode (last_open held)))
+    ((next_step mode (last_open held) b ≡ Invalid) × (expected ≡ wanted mode (last_open held)))
     ⊎ ((k : Bracket) × (next_step mode (last_open held) b ≡ Opens k) × (level < length held)
     × (expected ≡ what.NoDeeper))
 

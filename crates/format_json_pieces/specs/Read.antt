@@ -24,9 +24,9 @@ use Rattle.format_json_texts.specs.declared.value.Value.{Value}
 use Rattle.winnow.specs.AsChar.{IsMultispace}
 use Rattle.winnow.specs.Kind.{Kind}
 use Rattle.winnow.specs.Utf8.{chars_all}
-use Rattle.winnow.specs.Grammar.{Grammar, NoneStands}
+use Rattle.winnow.specs.Grammar.{Grammar, NoMatch}
 use Rattle.winnow.specs.Accumulator.Holds.{HasCharacters}
-use Rattle.winnow.specs.Texts.{Begins, NotFirst}
+use Rattle.winnow.specs.Texts.{StartsWith, NotFirst}
 use Rattle.winnow.specs.Texts.Fronts.{begins_never, not_first}
 
 -- ---- matches in the bytes are matches in the text
@@ -58,8 +58,8 @@ ends_within cut bytes text left more t rest ((e, it), ends) allowed (f, other) =
     whole : bytes ++ more ≡ text ++ (left ++ more)
     whole = ap (λ l. l ++ more) e ∙ append_assoc text left more
 
-    by : IsClosed bytes left ⊎ (Begins IsNumeric text × All IsNumeral text)
-        → IsClosed (bytes ++ more) rest ⊎ (Begins IsNumeric t × All IsNumeral t)
+    by : IsClosed bytes left ⊎ (StartsWith IsNumeric text × All IsNumeral text)
+        → IsClosed (bytes ++ more) rest ⊎ (StartsWith IsNumeric t × All IsNumeral t)
         → Within text t rest
     by (inl c) (inl d) =
         let same = closed_one (bytes ++ more) rest (left ++ more) d
@@ -131,8 +131,8 @@ no_longer text rest front utf8 ends e =
       length-append (encode_utf8_all front) rest,
     )
 
-pub none_ends : {A : Type 0} (level : ℕ) (bytes : List ℕ) → NoneStands MayEnd bytes
-    → NoneStands (IsValueIn {A = A} level) bytes
+pub none_ends : {A : Type 0} (level : ℕ) (bytes : List ℕ) → NoMatch MayEnd bytes
+    → NoMatch (IsValueIn {A = A} level) bytes
 unfolding IsValueIn
 none_ends level bytes none v rest (t, written, e, ended) =
     none t rest (value_may_end rest level v bytes t written e)
@@ -170,21 +170,21 @@ module _ {A : Type 0} (level : ℕ) (cut : Bool) (bytes text left : List ℕ)
       )
 
   pub none_in_bytes : (IsUtf8 text → ⊥) → (more : List ℕ) → Allows cut more
-      → NoneStands (IsValueIn {A = A} level) (bytes ++ more)
+      → NoMatch (IsValueIn {A = A} level) (bytes ++ more)
   none_in_bytes broken more allowed v rest x = broken (stands_there more allowed v rest x).0
 
   -- by what is read of the text
   module _ (seen : List ℕ) (same : seen ≡ text) where
-    pub none_in_text : NoneStands g (chars seen) → (more : List ℕ) → Allows cut more
-        → NoneStands (IsValueIn {A = A} level) (bytes ++ more)
+    pub none_in_text : NoMatch g (chars seen) → (more : List ℕ) → Allows cut more
+        → NoMatch (IsValueIn {A = A} level) (bytes ++ more)
     none_in_text none more allowed v rest x =
         let (utf8, behind, stands, not) = stands_there more allowed v rest x in
         let P : List ℕ → Type 0 = λ l. g (chars l) v behind in
         none v behind (subst P (sym same) stands)
 
     pub none_on : (v : Value A) (rest : List ℕ) → g (chars seen) v rest
-        → Begins ContinuesNumber rest
-        → (more : List ℕ) → Allows cut more → NoneStands (IsValueIn {A = A} level) (bytes ++ more)
+        → StartsWith ContinuesNumber rest
+        → (more : List ℕ) → Allows cut more → NoMatch (IsValueIn {A = A} level) (bytes ++ more)
     none_on v rest it goes more allowed w other x =
         let (utf8, behind, stands, not) = stands_there more allowed w other x in
         let P : List ℕ → Type 0 = λ l. g (chars l) v rest in
@@ -254,8 +254,8 @@ module _ {A : Type 0} (level : ℕ) (cut : Bool) (bytes gap start : List ℕ)
   )
 
   next_none : 0 < length start → (more : List ℕ)
-      → NoneStands (IsValueIn {A = A} level) (start ++ more)
-      → NoneStands (IsNext {A = A} level) (bytes ++ more)
+      → NoMatch (IsValueIn {A = A} level) (start ++ more)
+      → NoMatch (IsNext {A = A} level) (bytes ++ more)
   unfolding IsNext
   next_none some more none None rest (all, is) =
       by start some passed.2 (all_behind IsMultispace gap (start ++ more) (subst P whole all))

@@ -11,8 +11,8 @@ use Rattle.winnow.specs.Input.{Input, is_end_of_refl}
 use Rattle.winnow.specs.Kind.{Kind, backtrack, memory}
 use Rattle.winnow.specs.Partial.{with_flag}
 use Rattle.winnow.specs.Cut.{Asks, ReadsOrAsks}
-use Rattle.winnow.specs.Exact.Whole.{IsRefused, IsWant}
-use Rattle.winnow.specs.Grammar.{Grammar, NoneStands}
+use Rattle.winnow.specs.Exact.Whole.{IsNotIncomplete, IsWant}
+use Rattle.winnow.specs.Grammar.{Grammar, NoMatch}
 use Rattle.winnow.specs.Texts.{Text}
 use Rattle.winnow.specs.Told.{IsTextOf}
 
@@ -32,7 +32,7 @@ module _ {O : Type 0} (grammar : Grammar ℕ O) (cut : Bool) (bytes : List ℕ) 
   abbrev pub Fails : Kind → Type 0
   Fails kind =
       (kind ≡ memory) ⊎ ((Asks kind × (cut ≡ true)) ⊎ ((kind ≡ backtrack)
-      × ((more : List ℕ) → Allows cut more → NoneStands grammar (bytes ++ more))))
+      × ((more : List ℕ) → Allows cut more → NoMatch grammar (bytes ++ more))))
 
 of_cut : (cut : Bool) (more : List ℕ) → cut ≡ true → Allows cut more
 of_cut cut more is whole = true_is_false (sym is ∙ whole)
@@ -79,7 +79,7 @@ module _ {E O : Type 0} {kind : E → Kind} (grammar : Grammar ℕ O) (cut : Boo
       λ x. ReadsOrAsks bytes_reading bytes_follow kind grammar x (Err e) x in
       let Q : Input ℕ → Type 0 = λ y.
       ReadsOrAsks bytes_reading bytes_follow kind grammar i (Err e) y in
-      let N : List ℕ → Type 0 = λ l. NoneStands grammar l in
+      let N : List ℕ → Type 0 = λ l. NoMatch grammar l in
       subst Q (sym to) (subst P (sym from) (record {
         whole = record {
           ends = is_end_of_refl bytes_reading _;
@@ -109,7 +109,7 @@ module _ {E O : Type 0} {kind : E → Kind} (grammar : Grammar ℕ O) (cut : Boo
 -- ---- what a whole text is in bytes
 
 module _ {I O X : Type 0} {inner_kind : X → Kind} (text : Text ℕ O) (bytes : List ℕ) where
-  pub broken_told : (fault : ParseFault I X Needed) → IsRefused fault → (IsUtf8 bytes → ⊥)
+  pub broken_told : (fault : ParseFault I X Needed) → IsNotIncomplete fault → (IsUtf8 bytes → ⊥)
       → IsTextOf inner_kind (InUtf8 text) bytes (Err fault)
   unfolding InUtf8
   broken_told fault refused broken =
@@ -125,7 +125,8 @@ module _ {I O X : Type 0} {inner_kind : X → Kind} (text : Text ℕ O) (bytes :
 
     pub fault_told : {kind : X → Kind} (fault : ParseFault J X Needed)
         (other : ParseFault I X Needed) → IsTextOf kind text (chars seen) (Err fault)
-        → (IsWant kind fault → IsWant inner_kind other) → (IsRefused fault → IsRefused other)
+        → (IsWant kind fault → IsWant inner_kind other) → (IsNotIncomplete fault
+        → IsNotIncomplete other)
         → IsTextOf inner_kind (InUtf8 text) bytes (Err other)
     unfolding InUtf8
     fault_told fault other told wants refuses = record {

@@ -7,7 +7,7 @@ use Rattle.std.proofs.Common.{arith, inl, inr, refl, subst, sym}
 use Rattle.std.proofs.lemmas.Bool.Decides.{nat_tests}
 use Rattle.winnow.specs.AsChar.{IsMultispace}
 use Rattle.winnow.specs.Equal.{true_is_false}
-use Rattle.winnow.specs.Texts.{Begins, InFront, NotFirst}
+use Rattle.winnow.specs.Texts.{StartsWith, InFront, NotFirst}
 use Rattle.winnow.specs.Texts.Fronts.{either_front}
 use Rattle.format_json_texts.specs.Number.{ContinuesNumber, IsLeading, NumberText, number_begins}
 use Rattle.format_json_texts.specs.Values.{GapText}
@@ -57,7 +57,7 @@ final_stops figures.Exponent b e not = absurd (true_is_false (sym e))
 final_stops figures.Sign b e not = absurd (true_is_false (sym e))
 final_stops figures.Power b e not = grind (arith, nat_tests, not)
 
-after_refuses : (k : Bracket) (b : ℕ) → goes_on b ≡ true → after_step k b ≡ steps.Refused
+after_refuses : (k : Bracket) (b : ℕ) → goes_on b ≡ true → after_step k b ≡ steps.Invalid
 after_refuses Array b goes = grind (arith, nat_tests, goes)
 after_refuses Object b goes = grind (arith, nat_tests, goes)
 after_refuses Whole b goes = grind (arith, nat_tests, goes)
@@ -84,7 +84,7 @@ module _ (level : ℕ) where
     behind_front (k ∷ held) y = fewer modes.After (k ∷ held) y
 
     next_front : (held : List Bracket) (s : Step) → Next held l s → Next held bytes s
-    next_front held steps.Refused y = y
+    next_front held steps.Invalid y = y
     next_front held steps.Ended y = tt
     next_front held (steps.Goes m) y = fewer m held y
     next_front held (steps.Opens k) y = (y.0, fewer modes.First (k ∷ held) y.1)
@@ -194,7 +194,7 @@ module _ (level : ℕ) where
           λ o. Next held l (number_step o (is_final f) (last_open held) b) in
           subst P (sym (final_stops f b fin stops))
           (let Q : Bool → Bool → Type 0 = λ u v.
-          Next held l (if not u || v then steps.Refused else behind_number (last_open held) b) in
+          Next held l (if not u || v then steps.Invalid else behind_number (last_open held) b) in
           subst (λ u. Q u (goes_on b)) (sym fin) (subst (λ v. Q true v) (sym stops) x))
 
     inner_ends : (k : Bracket) (held : List Bracket) (f : Figure) (l : List ℕ)
@@ -246,7 +246,7 @@ module _ (level : ℕ) where
 
     -- outside brackets: the rest must not continue a number
     abbrev pub Stops : List ℕ → Type 0
-    Stops cs = Begins IsNumeric cs → NotFirst ContinuesNumber rest
+    Stops cs = StartsWith IsNumeric cs → NotFirst ContinuesNumber rest
 
     abbrev pub Last : List ℕ → Type 0
     Last cs = encode_utf8_all cs ++ rest ≡ rest

@@ -6,14 +6,14 @@ use Rattle.std.proofs.Common.{refl, sym, ap, ◌∙◌, append_assoc}
 use Rattle.std.proofs.lemmas.List.{append-nil}
 use Rattle.winnow.specs.Fault.{refused_inner, refused_offset}
 use Rattle.winnow.specs.{Needed, ParseFault}
-use Rattle.winnow.specs.ParseFaultCases.{Incomplete, Refused}
+use Rattle.winnow.specs.ParseFaultCases.{Incomplete, Invalid}
 use Rattle.winnow.specs.AsChar.{IsDecDigit, IsMultispace}
 use Rattle.format_json_texts.specs.Number.{ContinuesNumber}
 use Rattle.format_json_texts.specs.Values.{ValueText}
 use Rattle.format_json_texts.specs.declared.value.Value.{Value}
 use Rattle.winnow.specs.Grammar.{Grammar}
 use Rattle.winnow.specs.Accumulator.Holds.{HasCharacters}
-use Rattle.winnow.specs.Texts.{Begins, IsGrammarOf, NotFirst, Text}
+use Rattle.winnow.specs.Texts.{StartsWith, IsGrammarOf, NotFirst, Text}
 
 -- `InUtf8 text o bytes`: `bytes` is UTF-8, and its characters encode `o` by `text`.
 unfoldable pub InUtf8 : {O : Type 0} → Text ℕ O → Text ℕ O
@@ -26,7 +26,7 @@ IsNumeric b = (b ≡ 45) ⊎ IsDecDigit b
 -- `IsEnded text rest`: if `text` starts as a number does, `rest` does not start with a byte that
 -- can continue a number: a digit, a point or an E.
 abbrev pub IsEnded : List ℕ → List ℕ → Type 0
-IsEnded text rest = Begins IsNumeric text → NotFirst ContinuesNumber rest
+IsEnded text rest = StartsWith IsNumeric text → NotFirst ContinuesNumber rest
 
 -- a byte of numbers: a digit, a sign, a point or an E
 abbrev pub IsNumeral : ℕ → Type 0
@@ -56,12 +56,12 @@ module _ {A : Type 0} (level : ℕ) where
 
 -- `IsRefusedAt n fault`: the error is at offset `n`.
 abbrev pub IsRefusedAt : {I X : Type 0} → ℕ → ParseFault I X Needed → Type 0
-IsRefusedAt n (Refused e) = refused_offset e ≡ n
+IsRefusedAt n (Invalid e) = refused_offset e ≡ n
 IsRefusedAt n (Incomplete needed) = ⊥
 
 -- `HasInner inner fault`: the inner error is `inner`.
 abbrev pub HasInner : {I X : Type 0} → X → ParseFault I X Needed → Type 0
-HasInner inner (Refused e) = refused_inner e ≡ inner
+HasInner inner (Invalid e) = refused_inner e ≡ inner
 HasInner inner (Incomplete needed) = ⊥
 
 -- ---- matches are encodings

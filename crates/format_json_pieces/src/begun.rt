@@ -55,7 +55,7 @@ pub enum Mode {
 #[derive(Clone, Copy, Drop)]
 pub enum Step {
     /// The byte cannot continue the text of a value.
-    Refused,
+    Invalid,
     /// The value ended before it.
     Ended,
     /// The current value continues.
@@ -100,7 +100,7 @@ fn value_step(mode: Mode, byte: u8) -> Step
     } else if b'1' <= byte && byte <= b'9' {
         Step::Goes(Mode::Number(Figure::Whole))
     } else {
-        Step::Refused
+        Step::Invalid
     }
 }
 
@@ -113,7 +113,7 @@ fn name_step(mode: Mode, byte: u8) -> Step
     } else if byte == b'"' {
         Step::Goes(Mode::Name(Part::Plain))
     } else {
-        Step::Refused
+        Step::Invalid
     }
 }
 
@@ -135,11 +135,11 @@ fn after_step(held: Bracket, byte: u8) -> Step
         return Step::Goes(Mode::After);
     }
     match held {
-        Bracket::Whole => Step::Refused,
+        Bracket::Whole => Step::Invalid,
         _ if byte == b',' => Step::Goes(Mode::Item),
         Bracket::Array if byte == b']' => Step::Closes,
         Bracket::Object if byte == b'}' => Step::Closes,
-        _ => Step::Refused,
+        _ => Step::Invalid,
     }
 }
 
@@ -148,7 +148,7 @@ fn text_step(part: Part, byte: u8) -> Step
     ensures { result ≡ text_step part byte }
 {
     match part_behind(part, byte) {
-        Inner::Broken => Step::Refused,
+        Inner::Broken => Step::Invalid,
         Inner::Quote => Step::Ends,
         Inner::Part(next) => Step::Goes(Mode::Text(next)),
     }
@@ -159,7 +159,7 @@ fn name_part_step(part: Part, byte: u8) -> Step
     ensures { result ≡ name_part_step part byte }
 {
     match part_behind(part, byte) {
-        Inner::Broken => Step::Refused,
+        Inner::Broken => Step::Invalid,
         Inner::Quote => Step::Goes(Mode::Colon),
         Inner::Part(next) => Step::Goes(Mode::Name(next)),
     }
@@ -173,7 +173,7 @@ fn figure_step(figure: Figure, held: Option<Bracket>, byte: u8) -> Step
         return Step::Goes(Mode::Number(next));
     }
     if !is_final(figure) || goes_on(byte) {
-        return Step::Refused;
+        return Step::Invalid;
     }
     match held {
         Some(bracket) => after_step(bracket, byte),
@@ -186,7 +186,7 @@ fn letters_step(letters: Letters, byte: u8) -> Step
     ensures { result ≡ letters_step letters byte }
 {
     if byte != expected(letters) {
-        return Step::Refused;
+        return Step::Invalid;
     }
     match letters_behind(letters) {
         Some(next) => Step::Goes(Mode::Word(next)),
@@ -209,7 +209,7 @@ pub fn next_step(mode: Mode, held: Option<Bracket>, byte: u8) -> Step
         Mode::Value => value_step(Mode::Value, byte),
         Mode::Colon if is_gap(byte) => Step::Goes(Mode::Colon),
         Mode::Colon if byte == b':' => Step::Goes(Mode::Value),
-        Mode::Colon => Step::Refused,
+        Mode::Colon => Step::Invalid,
         Mode::After => match held {
             Some(bracket) => after_step(bracket, byte),
             None => Step::Ended,
@@ -231,7 +231,7 @@ pub fn is_begun<A: Allocator>(alloc: A, level: usize, bytes: &[u8]) -> Result<bo
     let mut left = bytes;
     'bytes: while let Some((first, more)) = left.split_first() {
         match next_step(mode, brackets.last().copied(), *first) {
-            Step::Refused => return Ok(false),
+            Step::Invalid => return Ok(false),
             Step::Ended => return Ok(true),
             Step::Goes(next) => mode = next,
             Step::Opens(bracket) => {

@@ -57,7 +57,7 @@ pub fn first_place<A: Allocator>(alloc: A, level: usize, bytes: &[u8]) -> Result
     'bytes: while let Some((first, more)) = left.split_first() {
         let held = brackets.last().copied();
         match next_step(mode, held, *first) {
-            Step::Refused => {
+            Step::Invalid => {
                 let offset = bytes.len() - left.len();
                 let expected = wanted(mode, held);
                 return Ok(Place { offset, expected });

@@ -14,10 +14,10 @@ ghost use Rattle.std.specs.Str.Lossy.{utf8_valid_len};
 ghost use Rattle.winnow.specs.AsChar.{IsMultispace};
 ghost use Rattle.winnow.specs.Bytes.{bytes_follow, bytes_reading};
 ghost use Rattle.winnow.specs.Cut.{Asks, ReadsOrAsks};
-ghost use Rattle.winnow.specs.Exact.Whole.{IsRefused, IsWant};
+ghost use Rattle.winnow.specs.Exact.Whole.{IsNotIncomplete, IsWant};
 ghost use Rattle.winnow.specs.Grammar.{IsUnique};
 ghost use Rattle.winnow.specs.Accumulator.Holds.{HasCharacters};
-ghost use Rattle.winnow.specs.Texts.{Begins, IsGrammarOf, NotFirst};
+ghost use Rattle.winnow.specs.Texts.{StartsWith, IsGrammarOf, NotFirst};
 ghost use Rattle.winnow.specs.Told.{IsTextOf};
 
 use crate::begun::lacking;
@@ -31,7 +31,7 @@ use winnow::stream::{Partial, Stream, StreamIsPartial};
 
 /// Returns whether the text starts with a character that can continue a number.
 fn goes_on(text: &str) -> bool
-    ensures yes { IsTrue result → Begins ContinuesNumber (chars text.now) }
+    ensures yes { IsTrue result → StartsWith ContinuesNumber (chars text.now) }
     ensures no { result ≡ false → NotFirst ContinuesNumber (chars text.now) }
 {
     match text.chars().next() {
@@ -146,7 +146,7 @@ fn next_in<'i, A: Allocator + Copy>(
 ///
 /// Backtracks if no value of the level is at the start, regardless of what follows the bytes. Fails
 /// with out of memory if an allocation fails. All errors leave the input unchanged. Each level uses
-/// some of the stack: up to [`SAFE_LEVEL`](format_json_values::value::SAFE_LEVEL) two megabytes
+/// some of the stack: up to [`SAFE_DEPTH`](format_json_values::value::SAFE_DEPTH) two megabytes
 /// suffice.
 ///
 /// ```
@@ -256,10 +256,10 @@ fn refused<'i>(
 ) -> ParseFault<&'i [u8], EmptyError>
     ensures inner { HasInner inner result }
     ensures place { offset ≤ length bytes.now → IsRefusedAt offset result }
-    ensures whole { IsRefused result }
+    ensures whole { IsNotIncomplete result }
 {
     let (_, left) = bytes.split_at(offset.min(bytes.len()));
-    ParseFault::Refused(ParseError::new(left, bytes.checkpoint(), inner))
+    ParseFault::Invalid(ParseError::new(left, bytes.checkpoint(), inner))
 }
 
 /// Converts an error of a text to one of its bytes.
@@ -269,10 +269,10 @@ fn in_bytes<'i>(
 ) -> ParseFault<&'i [u8], EmptyError>
     ensures wants { IsWant ⟦<ErrMode<EmptyError> as ParserError<&'i str>>⟧.inner_kind fault.entry
         → IsWant ⟦<ErrMode<EmptyError> as ParserError<&'i [u8]>>⟧.inner_kind result }
-    ensures whole { IsRefused fault.entry → IsRefused result }
+    ensures whole { IsNotIncomplete fault.entry → IsNotIncomplete result }
 {
     match fault {
-        ParseFault::Refused(error) => {
+        ParseFault::Invalid(error) => {
             let offset = error.offset();
             refused(bytes, offset, error.into_inner())
         }
@@ -295,7 +295,7 @@ fn in_bytes<'i>(
 /// let value = parse_value_of_bytes(alloc, 1, b" [1, null] ".as_slice());
 /// assert!(rt; matches!(value, Ok(Value::Array(items)) if items.len() == 2));
 /// match parse_value_of_bytes(alloc, 1, b"\"ab\xff\"".as_slice()) {
-///     Err(ParseFault::Refused(error)) => assert_eq!(rt; error.offset(), 3),
+///     Err(ParseFault::Invalid(error)) => assert_eq!(rt; error.offset(), 3),
 ///     _ => assert!(rt; false),
 /// }
 /// ```

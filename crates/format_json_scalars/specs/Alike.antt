@@ -13,7 +13,7 @@ use Rattle.winnow.specs.Reading.{Reading}
 use Rattle.winnow.specs.Text.{text_reading}
 use Rattle.winnow.specs.Growth.{grown}
 use Rattle.winnow.specs.AsChar.{IsDecDigit}
-use Rattle.winnow.specs.Sets.{EitherTells}
+use Rattle.winnow.specs.Sets.{InEither}
 use Rattle.format_parts.specs.Words.{OneIn, Slice, Word}
 use Rattle.format_json_texts.specs.Values.{HasText}
 use Rattle.winnow.specs.Exact.{Reads}
@@ -48,7 +48,7 @@ module _ (set : RangeInclusive ℕ) (low high : ℕ) (start : range_inclusive_st
 
 -- what three of them tell
 abbrev pub RangesTell : RangeInclusive ℕ × RangeInclusive ℕ × RangeInclusive ℕ → ℕ → Bool → Type 0
-RangesTell s = EitherTells (RangeTells s.0) (EitherTells (RangeTells s.1) (RangeTells s.2))
+RangesTell s = InEither (RangeTells s.0) (InEither (RangeTells s.1) (RangeTells s.2))
 
 pub taken_same : {O : Type 0} {g h : Grammar ℕ O} → Same g h
     → Same (Taken text_reading g) (Taken text_reading h)

@@ -17,10 +17,10 @@ use Rattle.format_parts.specs.Words.{Word}
 use Rattle.format_json_texts.specs.declared.value.Value.{Value}
 use Rattle.winnow.specs.Exact.{Reads}
 use Rattle.winnow.specs.Read.{neither_stands, reads_former, reads_other}
-use Rattle.winnow.specs.Grammar.{NoneStands}
+use Rattle.winnow.specs.Grammar.{NoMatch}
 use Rattle.winnow.specs.Grammar.Meaning.{Meaning, none_means}
 use Rattle.winnow.specs.Accumulator.Holds.{HasCharacters}
-use Rattle.winnow.specs.Texts.{Begins, IsGrammarOf, NotFirst}
+use Rattle.winnow.specs.Texts.{StartsWith, IsGrammarOf, NotFirst}
 use Rattle.winnow.specs.Texts.Fronts.{may_begin, none_begins}
 
 -- what a number begins with
@@ -30,19 +30,19 @@ IsNumeric c = (c ≡ 45) ⊎ IsDecDigit c
 -- ---- words
 
 no_word : {O : Type 0} (c : ℕ) (more : List ℕ) (output : O) (tokens : List ℕ)
-    → NotFirst (λ x. x ≡ c) tokens → NoneStands (Word (c ∷ more) output) tokens
+    → NotFirst (λ x. x ≡ c) tokens → NoMatch (Word (c ∷ more) output) tokens
 unfolding Word
 no_word c more output tokens not o rest (is, e) =
     let P : List ℕ → Type 0 = λ l. NotFirst (λ x. x ≡ c) l in subst P e not refl
 
 -- what begins with one character begins with no other
-not_another : (a b : ℕ) → (a ≡ b → ⊥) → (tokens : List ℕ) → Begins (λ x. x ≡ a) tokens
+not_another : (a b : ℕ) → (a ≡ b → ⊥) → (tokens : List ℕ) → StartsWith (λ x. x ≡ a) tokens
     → NotFirst (λ x. x ≡ b) tokens
 not_another a b apart =
     may_begin (λ x. x ≡ a) (λ x. x ≡ b → ⊥) (λ c e f. apart (omega (arith, e, f)))
 
 module _ {E : Type 0} {kind : E → Kind} {i j : Input ℕ} {result : Result (Option Bool) E} where
-  pub word_null : Begins (λ x. x ≡ 110) i.left.tokens
+  pub word_null : StartsWith (λ x. x ≡ 110) i.left.tokens
       → Reads text_reading kind (Word (chars (110 ∷ 117 ∷ 108 ∷ 108 ∷ [])) None) i result j
       → Reads text_reading kind AnyWord i result j
   unfolding chars
@@ -53,7 +53,7 @@ module _ {E : Type 0} {kind : E → Kind} {i j : Input ℕ} {result : Result (Op
       (no_word 116 _ (Some true) i.left.tokens (other 116 (λ e. omega (arith, e))))
       (no_word 102 _ (Some false) i.left.tokens (other 102 (λ e. omega (arith, e))))) r
 
-  pub word_true : Begins (λ x. x ≡ 116) i.left.tokens
+  pub word_true : StartsWith (λ x. x ≡ 116) i.left.tokens
       → Reads text_reading kind (Word (chars (116 ∷ 114 ∷ 117 ∷ 101 ∷ [])) (Some true)) i result j
       → Reads text_reading kind AnyWord i result j
   unfolding chars
@@ -76,7 +76,7 @@ module _ {E : Type 0} {kind : E → Kind} {i j : Input ℕ} {result : Result (Op
 -- ---- values that have no others in them
 
 no_words : (tokens : List ℕ) → NotFirst (λ x. x ≡ 110) tokens → NotFirst (λ x. x ≡ 116) tokens
-    → NotFirst (λ x. x ≡ 102) tokens → NoneStands AnyWord tokens
+    → NotFirst (λ x. x ≡ 102) tokens → NoMatch AnyWord tokens
 no_words tokens n t f =
     neither_stands _ _ _ (no_word 110 _ None tokens n)
     (neither_stands _ _ _ (no_word 116 _ (Some true) tokens t)
@@ -84,7 +84,7 @@ no_words tokens n t f =
 
 module _ {A : Type 0} where
   no_word_value : (these : ℕ → Type 0) → ((c : ℕ) → these c → c < 91) → (tokens : List ℕ)
-      → Begins these tokens → NoneStands (Meaning (IsWord {A = A}) AnyWord) tokens
+      → StartsWith these tokens → NoMatch (Meaning (IsWord {A = A}) AnyWord) tokens
   no_word_value these below tokens first =
       let other : (b : ℕ) → 90 < b → NotFirst (λ x. x ≡ b) tokens = λ b more.
       may_begin these (λ x. x ≡ b → ⊥) (λ c is e. omega (arith, more, below c is, e)) tokens first
@@ -92,13 +92,13 @@ module _ {A : Type 0} where
       (other 116 (omega arith)) (other 102 (omega arith)))
 
   no_number_value : (tokens : List ℕ) → NotFirst IsNumeric tokens
-      → NoneStands (Meaning (IsNumber {A = A}) (Meaning HasText Number)) tokens
+      → NoMatch (Meaning (IsNumber {A = A}) (Meaning HasText Number)) tokens
   no_number_value tokens not =
       none_means (IsNumber {A = A}) _ _ (none_means HasText _ _
       (none_begins number_of number_begins tokens not))
 
   no_string_value : (tokens : List ℕ) → NotFirst (λ c. c ≡ 34) tokens
-      → NoneStands (Meaning (IsString {A = A}) (Quoted HasCharacters)) tokens
+      → NoMatch (Meaning (IsString {A = A}) (Quoted HasCharacters)) tokens
   no_string_value tokens not =
       none_means (IsString {A = A}) _ _
       (none_begins (string_of HasCharacters) (string_begins HasCharacters) tokens not)
@@ -115,7 +115,7 @@ numeric_quote : (c : ℕ) → IsNumeric c → c ≡ 34 → ⊥
 numeric_quote c is x = quote_numeric c x is
 
 module _ {A E : Type 0} {kind : E → Kind} {i j : Input ℕ} {result : Result (Value A) E} where
-  pub scalar_string : Begins (λ c. c ≡ 34) i.left.tokens
+  pub scalar_string : StartsWith (λ c. c ≡ 34) i.left.tokens
       → Reads text_reading kind (Meaning IsString (Quoted HasCharacters)) i result j
       → Reads text_reading kind (Scalar HasCharacters) i result j
   scalar_string first r =
@@ -123,7 +123,7 @@ module _ {A E : Type 0} {kind : E → Kind} {i j : Input ℕ} {result : Result (
       (reads_other _ _ (no_number_value i.left.tokens
       (may_begin (λ c. c ≡ 34) (λ c. IsNumeric c → ⊥) quote_numeric i.left.tokens first)) r)
 
-  pub scalar_number : Begins IsNumeric i.left.tokens
+  pub scalar_number : StartsWith IsNumeric i.left.tokens
       → Reads text_reading kind (Meaning IsNumber (Meaning HasText Number)) i result j
       → Reads text_reading kind (Scalar HasCharacters) i result j
   scalar_number first r =

@@ -16,7 +16,7 @@ use Rattle.winnow.specs.Input.{IsEndOf}
 use Rattle.winnow.specs.Kind.{Kind, memory}
 use Rattle.winnow.specs.Text.{text_input, text_reading}
 use Rattle.winnow.specs.Range.{from_to}
-use Rattle.winnow.specs.Sets.{EitherTells}
+use Rattle.winnow.specs.Sets.{InEither}
 use Rattle.format_json_scalars.specs.Alike.{RangeTells, RangesTell, range_told}
 use Rattle.format_json_scalars.specs.Escapes.{escape_takes}
 use Rattle.format_json_texts.specs.Strings.{Character, Escape, IsUnescaped}
@@ -25,7 +25,7 @@ use Rattle.winnow.specs.Exact.{Reads}
 use Rattle.winnow.specs.Read.{neither_stands}
 use Rattle.winnow.specs.Grammar.Same.{Same}
 use Rattle.winnow.specs.Grammar.{Each, Either, Gathered, Grammar, Longest, Many}
-use Rattle.winnow.specs.Grammar.{NoneStands, TokenOf}
+use Rattle.winnow.specs.Grammar.{NoMatch, TokenOf}
 use Rattle.winnow.specs.RunByRun as runs
 use Rattle.winnow.specs.RunByRun.{RunOf, each_behind, each_one, run_takes}
 use Rattle.winnow.specs.Accumulator.Holds.{HasCharacters}
@@ -75,7 +75,7 @@ plain_or_not c = either_or_not (within_or_not 32 33 c)
 divides_or : {first others : ℕ → Bool → Type 0} {these those : ℕ → Type 0}
     → ((c : ℕ) → these c ⊎ (these c → ⊥)) → Divides first these (λ c. these c → ⊥)
     → Divides others those (λ c. those c → ⊥)
-    → Divides (EitherTells first others) (λ c. these c ⊎ those c) (λ c. these c ⊎ those c → ⊥)
+    → Divides (InEither first others) (λ c. these c ⊎ those c) (λ c. these c ⊎ those c → ⊥)
 divides_or {first} {others} {these} {those} or_not d more =
     divides_as (λ c. (one c, apart c (or_not c))) (λ c. (
       λ (out, not). neither out not,
@@ -128,7 +128,7 @@ plain_one : (c : ℕ) (rest : List ℕ) → IsUnescaped c → Character (c ∷ r
 unfolding Either TokenOf
 plain_one c rest is = inl ((λ t. is, λ x. refl), refl)
 
-no_plain : (tokens : List ℕ) → NotFirst IsUnescaped tokens → NoneStands (OneIn IsUnescaped) tokens
+no_plain : (tokens : List ℕ) → NotFirst IsUnescaped tokens → NoMatch (OneIn IsUnescaped) tokens
 unfolding TokenOf
 no_plain tokens ends c rest (told, e) =
     let P : List ℕ → Type 0 = λ l. NotFirst IsUnescaped l in subst P e ends (told.0 refl)

@@ -4,7 +4,7 @@ ghost use Rattle.format_json_texts.specs.Number.{ContinuesNumber, IsLeading, Num
 ghost use Rattle.std.specs.Prelude.{◌≡◌};
 ghost use Rattle.winnow.specs.Exact.{IsSpared, Reads};
 ghost use Rattle.winnow.specs.Grammar.{InClass, Literally};
-ghost use Rattle.winnow.specs.Once.{SeesApart, holds_once};
+ghost use Rattle.winnow.specs.Once.{TokenEqInjective, holds_once};
 ghost use Rattle.winnow.specs.Text.{text_input, text_reading};
 ghost use Rattle.winnow.specs.Texts.{NotFirst};
 ghost use Rattle.winnow.specs.Told.{ReadsText};
@@ -46,7 +46,7 @@ where
     I: StreamIsPartial + Compare<char>,
     I::Token: AsChar + Copy,
     E: ParserError<I>,
-    requires seen { SeesApart I.seen_as }
+    requires seen { TokenEqInjective I.seen_as }
     ensures reads { Reads I.reading E.kind (NumberOf I.reading I.seen_as I.Token.code
         (Literally I.reading I.spells (λ s _. s))) (I.view input.old) result (I.view input.new) }
     ensures spared { IsSpared E.kind (I.view input.old) result }

@@ -12,7 +12,7 @@ ghost use Rattle.winnow.specs.Text.{text_input, text_reading};
 ghost use Rattle.winnow.specs.Exact.{Reads};
 ghost use Rattle.winnow.specs.Grammar.Meaning.{Meaning};
 ghost use Rattle.winnow.specs.Accumulator.Holds.{HasCharacters};
-ghost use Rattle.winnow.specs.Texts.{Begins, NotFirst};
+ghost use Rattle.winnow.specs.Texts.{StartsWith, NotFirst};
 ghost use Rattle.winnow.specs.Told.{ReadsText};
 
 use crate::number::read_number;
@@ -25,7 +25,7 @@ use winnow::token::literal;
 
 /// Whether this character is first.
 fn begins_with(input: &str, first: char) -> bool
-    ensures yes { IsTrue result → Begins (λ c. c ≡ first) (chars input.now) }
+    ensures yes { IsTrue result → StartsWith (λ c. c ≡ first) (chars input.now) }
     ensures no { result ≡ false → NotFirst (λ c. c ≡ first) (chars input.now) }
 {
     match input.chars().next() {
@@ -36,7 +36,7 @@ fn begins_with(input: &str, first: char) -> bool
 
 /// Whether a minus or a digit is first.
 fn begins_number(input: &str) -> bool
-    ensures yes { IsTrue result → Begins IsNumeric (chars input.now) }
+    ensures yes { IsTrue result → StartsWith IsNumeric (chars input.now) }
     ensures no { result ≡ false → NotFirst IsNumeric (chars input.now) }
 {
     match input.chars().next() {

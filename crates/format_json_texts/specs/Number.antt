@@ -5,7 +5,7 @@ use Rattle.winnow.specs.Text.{text_reading}
 use Rattle.winnow.specs.AsChar.{IsDecDigit}
 use Rattle.winnow.specs.Grammar.{Both, Either, Grammar, Optional, Taken}
 use Rattle.winnow.specs.Grammar.Tuples.{Four}
-use Rattle.winnow.specs.Texts.{Anything, Begins, BeginsIn, BothText, EitherText, InFront}
+use Rattle.winnow.specs.Texts.{Anything, StartsWith, TextsStartWith, BothText, EitherText, InFront}
 use Rattle.winnow.specs.Texts.{IsGrammarOf, NotFirst, OptionalText, TakenText, Text}
 use Rattle.winnow.specs.Texts.Fronts.{begins_more, begins_wider, both_front, either_front}
 use Rattle.winnow.specs.Texts.Fronts.{front_any, front_begins, front_behind, front_whole}
@@ -89,7 +89,7 @@ integer_of =
     (taken_front text_reading (both_front pair
     (front_begins (λ c is zero. absurd (omega (arith, is, zero))) (in_begins IsLeading)) front_any))
 
-integer_begins : BeginsIn IsDecDigit IntegerText
+integer_begins : TextsStartWith IsDecDigit IntegerText
 integer_begins =
     either_front (taken_front text_reading
     (front_whole (begins_more _ _ (λ c is. omega (arith, is)))
@@ -101,7 +101,7 @@ integer_begins =
 fraction_of : IsGrammarOf Fraction FractionText (NotFirst IsDecDigit)
 fraction_of = both_of latter (char_of 46) (run_of IsDecDigit 1) front_any
 
-fraction_begins : BeginsIn (λ c. c ≡ 46) FractionText
+fraction_begins : TextsStartWith (λ c. c ≡ 46) FractionText
 fraction_begins = both_front latter (spelled_begins 46 [] 46) front_any
 
 -- one of two characters
@@ -111,7 +111,8 @@ one_or_other c d apart =
     either_apart (char_of c) (char_of d) (spelled_begins c [] c)
     (front_begins (λ x e f. apart (sym f ∙ e)) (spelled_begins d [] d))
 
-one_or_other_begins : (c d : ℕ) → BeginsIn (λ x. (x ≡ c) ⊎ (x ≡ d)) (EitherText (One c) (One d))
+one_or_other_begins : (c d : ℕ) → TextsStartWith (λ x. (x ≡ c) ⊎ (x ≡ d))
+    (EitherText (One c) (One d))
 one_or_other_begins c d =
     either_front (begins_wider (λ x e. inl e) (spelled_begins c [] c))
     (begins_wider (λ x e. inr e) (spelled_begins d [] d))
@@ -131,7 +132,7 @@ exponent_of =
     no_sign c is (inl e) = absurd (omega (arith, is, e))
     no_sign c is (inr e) = absurd (omega (arith, is, e))
 
-exponent_begins : BeginsIn IsE ExponentText
+exponent_begins : TextsStartWith IsE ExponentText
 exponent_begins = both_front latter (both_front pair (one_or_other_begins 101 69) front_any)
     front_any
 
@@ -189,16 +190,17 @@ number_of =
         (front_begins (λ c is e. absurd (omega (arith, is, e))) integer_begins) front_any
 
 -- what begins in a set, where a text may be left out, begins in a larger one
-pub number_begins : BeginsIn (λ c. (c ≡ 45) ⊎ IsDecDigit c) NumberText
+pub number_begins : TextsStartWith (λ c. (c ≡ 45) ⊎ IsDecDigit c) NumberText
 unfolding OptionalText
 number_begins =
     taken_front text_reading (both_front to_four (record { makes = minus })
     (both_front pair integer_begins front_any))
   where
-    minus : (o : Option ℕ) (xs rest : List ℕ) → OptionalText (One 45) o xs → Begins IsDecDigit rest
-        → Begins (λ c. (c ≡ 45) ⊎ IsDecDigit c) (xs ++ rest)
+    minus : (o : Option ℕ) (xs rest : List ℕ) → OptionalText (One 45) o xs
+        → StartsWith IsDecDigit rest
+        → StartsWith (λ c. (c ≡ 45) ⊎ IsDecDigit c) (xs ++ rest)
     minus None xs rest e b =
-        let P : List ℕ → Type 0 = λ l. Begins (λ c. (c ≡ 45) ⊎ IsDecDigit c) (l ++ rest) in
+        let P : List ℕ → Type 0 = λ l. StartsWith (λ c. (c ≡ 45) ⊎ IsDecDigit c) (l ++ rest) in
         subst P (sym e)
         (begins_more IsDecDigit (λ c. (c ≡ 45) ⊎ IsDecDigit c) (λ c is. inr is) rest b)
     minus (Some o) xs rest x b =

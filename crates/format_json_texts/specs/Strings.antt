@@ -3,10 +3,10 @@ use Rattle.std.specs.Prelude.{◌≡◌, ◌⊎◌, ◌≤◌, ◌<◌, ◌+◌,
 use Rattle.std.specs.declared.string.String.{String}
 use Rattle.std.proofs.Common.{refl, sym, ap, subst, inl, inr, ◌∙◌, arith, append_assoc}
 use Rattle.winnow.specs.Range.{from_to}
-use Rattle.winnow.specs.Grammar.{Both, Either, Gathered, Grammar, Made, Many, NoneStands}
+use Rattle.winnow.specs.Grammar.{Both, Either, Gathered, Grammar, Made, Many, NoMatch}
 use Rattle.winnow.specs.Grammar.{Three, Token}
 use Rattle.winnow.specs.Grammar.Meaning.{Meaning}
-use Rattle.winnow.specs.Texts.{Anything, Begins, BeginsIn, BothText, EachText, EitherText}
+use Rattle.winnow.specs.Texts.{Anything, StartsWith, TextsStartWith, BothText, EachText, EitherText}
 use Rattle.winnow.specs.Texts.{GatheredText, IsGrammarOf, MadeText, Text}
 use Rattle.winnow.specs.Texts.Fronts.{begins_wider, both_front, either_front, front_any}
 use Rattle.winnow.specs.Texts.Fronts.{front_begins, front_whole, may_begin, none_begins}
@@ -105,7 +105,7 @@ unicode_of =
         (BothText pair UnitText
         (BothText latter (BothText pair (One 92) (One 117)) UnitText))
         c xs
-        → Anything rest → NoneStands (Meaning IsAlone CodeUnit) (xs ++ rest)
+        → Anything rest → NoMatch (Meaning IsAlone CodeUnit) (xs ++ rest)
     alone c xs rest (p, (o1, o2, ys, zs, a, b, e, out), are) any d more (u, stands, is) =
         let there = unit_of.back o1 ys (zs ++ rest) a tt in
         let P : List ℕ → Type 0 = λ l. CodeUnit l u more in
@@ -123,11 +123,11 @@ not_u c k (inr (inr (inr (inr (inr (inl x)))))) e = absurd (omega (arith, x, e))
 not_u c k (inr (inr (inr (inr (inr (inr (inl x))))))) e = absurd (omega (arith, x, e))
 not_u c k (inr (inr (inr (inr (inr (inr (inr x))))))) e = absurd (omega (arith, x, e))
 
-short_begins : BeginsIn (λ c. c ≡ 117 → ⊥) (For StandsFor Whichever)
+short_begins : TextsStartWith (λ c. c ≡ 117 → ⊥) (For StandsFor Whichever)
 unfolding MadeText Whichever
 short_begins = record {
   makes = λ k xs rest (c, e, is) any.
-      let P : List ℕ → Type 0 = λ l. Begins (λ x. x ≡ 117 → ⊥) (l ++ rest) in
+      let P : List ℕ → Type 0 = λ l. StartsWith (λ x. x ≡ 117 → ⊥) (l ++ rest) in
       subst P (sym e) (not_u c k is);
 }
 
@@ -155,13 +155,13 @@ character_of =
     (both_front latter (front_begins no_unescaped (spelled_begins 92 [] 92)) front_any)
 
 -- no character begins with a quote
-character_begins : BeginsIn (λ c. c ≡ 34 → ⊥) CharacterText
+character_begins : TextsStartWith (λ c. c ≡ 34 → ⊥) CharacterText
 character_begins =
     either_front (begins_wider no_quote (in_begins IsUnescaped))
     (both_front latter (begins_wider (λ c e q. absurd (omega (arith, e, q)))
     (spelled_begins 92 [] 92)) front_any)
 
-none_quoted : (tokens : List ℕ) → Begins (λ c. c ≡ 34) tokens → NoneStands Character tokens
+none_quoted : (tokens : List ℕ) → StartsWith (λ c. c ≡ 34) tokens → NoMatch Character tokens
 none_quoted tokens b =
     none_begins character_of character_begins tokens
     (may_begin (λ c. c ≡ 34) (λ c. (c ≡ 34 → ⊥) → ⊥) (λ c e not. not e) tokens b)
@@ -175,5 +175,5 @@ string_of holds =
     (front_whole (λ tokens b. b) (spelled_begins 34 [] 34))
 
 pub string_begins : {A : Type 0} (holds : String A → List ℕ → Type 0)
-    → BeginsIn (λ c. c ≡ 34) (StringText holds)
+    → TextsStartWith (λ c. c ≡ 34) (StringText holds)
 string_begins holds = both_front latter (spelled_begins 34 [] 34) front_any

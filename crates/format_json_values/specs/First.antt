@@ -23,10 +23,10 @@ use Rattle.format_json_texts.specs.declared.value.Value.{Value}
 use Rattle.format_json_values.specs.General.{none_both, none_three}
 use Rattle.winnow.specs.Exact.{Reads}
 use Rattle.winnow.specs.Read.{neither_stands, reads_former, reads_other}
-use Rattle.winnow.specs.Grammar.{Grammar, NoneStands, Three}
+use Rattle.winnow.specs.Grammar.{Grammar, NoMatch, Three}
 use Rattle.winnow.specs.Grammar.Meaning.{Meaning, none_means}
 use Rattle.winnow.specs.Accumulator.Holds.{HasCharacters}
-use Rattle.winnow.specs.Texts.{Begins, BeginsIn, NotFirst}
+use Rattle.winnow.specs.Texts.{StartsWith, TextsStartWith, NotFirst}
 use Rattle.winnow.specs.Texts.Fronts.{begins_more, begins_wider, either_front, may_begin}
 use Rattle.winnow.specs.Texts.Fronts.{none_begins, not_first, spelled_begins}
 
@@ -50,7 +50,7 @@ numeric_apart : (c : ℕ) → IsNumeric c → IsOpening c → ⊥
 numeric_apart c (inl e) = apart c 45 e (inl (omega arith))
 numeric_apart c (inr d) = apart c c refl (inl (omega (arith, d)))
 
-words_apart : BeginsIn (λ c. IsOpening c → ⊥) WordText
+words_apart : TextsStartWith (λ c. IsOpening c → ⊥) WordText
 words_apart =
     either_front (begins_wider (λ c e. apart c 110 e (inr (omega arith)))
     (spelled_begins 110 (117 ∷ 108 ∷ 108 ∷ []) None))
@@ -60,7 +60,7 @@ words_apart =
     (spelled_begins 102 (97 ∷ 108 ∷ 115 ∷ 101 ∷ []) (Some false))))
 
 module _ {A : Type 0} where
-  scalar_apart : BeginsIn (λ c. IsOpening c → ⊥) (ScalarText {A = A} HasCharacters)
+  scalar_apart : TextsStartWith (λ c. IsOpening c → ⊥) (ScalarText {A = A} HasCharacters)
   scalar_apart =
       either_front (for_front IsWord words_apart)
       (either_front (for_front IsNumber
@@ -68,8 +68,8 @@ module _ {A : Type 0} where
       (for_front IsString (begins_wider (λ c e. apart c 34 e (inl (omega arith)))
       (string_begins HasCharacters))))
 
-  no_scalar : (tokens : List ℕ) → Begins IsOpening tokens
-      → NoneStands (Scalar {A = A} HasCharacters) tokens
+  no_scalar : (tokens : List ℕ) → StartsWith IsOpening tokens
+      → NoMatch (Scalar {A = A} HasCharacters) tokens
   no_scalar tokens first =
       none_begins scalar_of scalar_apart tokens
       (may_begin IsOpening (λ c. (IsOpening c → ⊥) → ⊥) (λ c is not. not is) tokens first)
@@ -78,7 +78,7 @@ module _ {A : Type 0} where
 
 none_marked : {O : Type 0} (opening closing : ℕ) (g : Grammar ℕ O) (tokens : List ℕ)
     → NotFirst (λ c. c ≡ opening) tokens
-    → NoneStands (Three (λ o1 o2 o3. o2) (Punctuation opening) g (Char closing)) tokens
+    → NoMatch (Three (λ o1 o2 o3. o2) (Punctuation opening) g (Char closing)) tokens
 none_marked opening closing g tokens not =
     none_three (λ o1 o2 o3. o2) (Punctuation opening) g (Char closing) tokens
     (none_both pair (Char opening) Gap tokens
@@ -86,11 +86,11 @@ none_marked opening closing g tokens not =
 
 module _ {A : Type 0} (g : Grammar ℕ (Value A)) (tokens : List ℕ) where
   no_array : NotFirst (λ c. c ≡ 91) tokens
-      → NoneStands (Meaning IsArray (Array HasCharacters g)) tokens
+      → NoMatch (Meaning IsArray (Array HasCharacters g)) tokens
   no_array not = none_means IsArray _ tokens (none_marked 91 93 _ tokens not)
 
   no_object : NotFirst (λ c. c ≡ 123) tokens
-      → NoneStands (Meaning IsObject (Object HasCharacters g)) tokens
+      → NoMatch (Meaning IsObject (Object HasCharacters g)) tokens
   no_object not = none_means IsObject _ tokens (none_marked 123 125 _ tokens not)
 
 -- ---- so a value is read by its first character
@@ -109,7 +109,7 @@ module _ {A E : Type 0} {kind : E → Kind} {i j : Input ℕ} {result : Result (
       (no_object _ i.left.tokens
       (not_first (λ c. c ≡ 123) IsOpening (λ c e. inr e) i.left.tokens not))) r
 
-  array_read : (below : ℕ) → Begins (λ c. c ≡ 91) i.left.tokens
+  array_read : (below : ℕ) → StartsWith (λ c. c ≡ 91) i.left.tokens
       → Reads text_reading kind
       (Meaning IsArray (Array HasCharacters (AnyValue HasCharacters below))) i result j
       → Reads text_reading kind (AnyValue HasCharacters (suc below)) i result j
@@ -122,7 +122,7 @@ module _ {A E : Type 0} {kind : E → Kind} {i j : Input ℕ} {result : Result (
       i.left.tokens first)) r)
 
   -- and where no bracket does, but something, an object
-  object_read : (below : ℕ) → Begins IsOpening i.left.tokens
+  object_read : (below : ℕ) → StartsWith IsOpening i.left.tokens
       → NotFirst (λ c. c ≡ 91) i.left.tokens → Reads text_reading kind
       (Meaning IsObject (Object HasCharacters (AnyValue HasCharacters below))) i result j
       → Reads text_reading kind (AnyValue HasCharacters (suc below)) i result j
@@ -131,7 +131,7 @@ module _ {A E : Type 0} {kind : E → Kind} {i j : Input ℕ} {result : Result (
       reads_other _ _ (no_scalar i.left.tokens first)
       (reads_other _ _ (no_array _ i.left.tokens not) r)
 
-  pub value_array : {level below : ℕ} → level ≡ suc below → Begins (λ c. c ≡ 91) i.left.tokens
+  pub value_array : {level below : ℕ} → level ≡ suc below → StartsWith (λ c. c ≡ 91) i.left.tokens
       → Reads text_reading kind
       (Meaning IsArray (Array HasCharacters (AnyValue HasCharacters below))) i result j
       → Reads text_reading kind (AnyValue HasCharacters level) i result j
@@ -139,7 +139,7 @@ module _ {A E : Type 0} {kind : E → Kind} {i j : Input ℕ} {result : Result (
       let P : ℕ → Type 0 = λ l. Reads text_reading kind (AnyValue HasCharacters l) i result j in
       subst P (sym is) (array_read below first r)
 
-  pub value_object : {level below : ℕ} → level ≡ suc below → Begins IsOpening i.left.tokens
+  pub value_object : {level below : ℕ} → level ≡ suc below → StartsWith IsOpening i.left.tokens
       → NotFirst (λ c. c ≡ 91) i.left.tokens → Reads text_reading kind
       (Meaning IsObject (Object HasCharacters (AnyValue HasCharacters below))) i result j
       → Reads text_reading kind (AnyValue HasCharacters level) i result j

@@ -11,7 +11,7 @@ ghost use Rattle.winnow.specs.Text.{text_input, text_reading};
 ghost use Rattle.winnow.specs.Exact.{Reads};
 ghost use Rattle.winnow.specs.Exact.Whole.{ReadsAll};
 ghost use Rattle.winnow.specs.Accumulator.Holds.{HasCharacters};
-ghost use Rattle.winnow.specs.Texts.{Begins, NotFirst};
+ghost use Rattle.winnow.specs.Texts.{StartsWith, NotFirst};
 ghost use Rattle.winnow.specs.Told.{IsTextOf, ReadsText};
 
 use crate::parts::{parse_spaced, read_object_of};
@@ -29,15 +29,15 @@ use winnow::exact::Rule;
 /// Otherwise a deeply nested text can overflow the stack, which stops the program.
 ///
 /// ```
-/// use format_json_values::value::{SAFE_LEVEL, parse_value};
+/// use format_json_values::value::{SAFE_DEPTH, parse_value};
 ///
-/// assert!(rt; parse_value(alloc, SAFE_LEVEL, "[[1], {\"a\": [2]}]").is_ok());
+/// assert!(rt; parse_value(alloc, SAFE_DEPTH, "[[1], {\"a\": [2]}]").is_ok());
 /// ```
-pub const SAFE_LEVEL: usize = 128;
+pub const SAFE_DEPTH: usize = 128;
 
 /// Whether a bracket is first.
 fn begins_array(input: &str) -> bool
-    ensures yes { IsTrue result → Begins (λ c. c ≡ 91) (chars input.now) }
+    ensures yes { IsTrue result → StartsWith (λ c. c ≡ 91) (chars input.now) }
     ensures no { result ≡ false → NotFirst (λ c. c ≡ 91) (chars input.now) }
 {
     match input.chars().next() {
@@ -48,7 +48,7 @@ fn begins_array(input: &str) -> bool
 
 /// Whether arrays and objects are read at the level, and a bracket or a brace is first.
 fn opens(level: usize, input: &str) -> bool
-    ensures yes { IsTrue result → (0 < level) × Begins IsOpening (chars input.now) }
+    ensures yes { IsTrue result → (0 < level) × StartsWith IsOpening (chars input.now) }
     ensures no { result ≡ false → (level ≡ 0) ⊎ NotFirst IsOpening (chars input.now) }
 {
     match input.chars().next() {
@@ -92,7 +92,7 @@ impl<'i, A: Allocator> Rule<&'i str, Value<A>> for Nested<A> {
 /// Parses a value whose arrays and objects are nested at most `level` deep.
 ///
 /// Whitespace inside arrays and objects is consumed, but none before or after the value. Each level
-/// uses some of the stack: up to [`SAFE_LEVEL`] two megabytes suffice. On success the input is left
+/// uses some of the stack: up to [`SAFE_DEPTH`] two megabytes suffice. On success the input is left
 /// after the value. Backtracks if the input does not start with a value of the level, and fails
 /// with out of memory if an allocation fails; then the input is a suffix of the original input.
 ///
@@ -165,11 +165,11 @@ pub fn read_value<'i, A: Allocator + Copy>(
 ///
 /// ```
 /// use format_json_texts::value::Value;
-/// use format_json_values::value::{SAFE_LEVEL, parse_value};
+/// use format_json_values::value::{SAFE_DEPTH, parse_value};
 ///
 /// let value = parse_value(alloc, 1, " {\"a\": 1, \"a\": [2]} ");
 /// assert!(rt; value.is_err());
-/// let value = parse_value(alloc, SAFE_LEVEL, " {\"a\": 1, \"a\": [2]} ");
+/// let value = parse_value(alloc, SAFE_DEPTH, " {\"a\": 1, \"a\": [2]} ");
 /// assert!(rt; matches!(value, Ok(Value::Object(members)) if members.len() == 2));
 /// assert!(rt; parse_value(alloc, 2, "[1, 2,]").is_err());
 /// ```

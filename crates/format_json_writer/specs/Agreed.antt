@@ -6,7 +6,7 @@ use Rattle.std.proofs.lemmas.List.{append_cancel_right}
 use Rattle.winnow.specs.Range.{from_to}
 use Rattle.format_parts.specs.Words.{former, latter}
 use Rattle.winnow.specs.Grammar.{Both, Each, Either, Gathered, Grammar, IsUnique, Made}
-use Rattle.winnow.specs.Grammar.{Many, NoneStands, Parted, Stops, Three}
+use Rattle.winnow.specs.Grammar.{Many, NoMatch, Parted, Stops, Three}
 use Rattle.winnow.specs.Grammar.Meaning.{Meaning}
 use Rattle.winnow.specs.Grammar.Unique.{both_unique}
 
@@ -29,7 +29,7 @@ one_beginning {tokens} f g rest more a b e =
     append_cancel_right f g rest (sym a ∙ subst P (sym e) b)
 
 none_more : {O : Type 0} (g : Grammar ℕ O) (n : ℕ) (rest : List ℕ) → Stops g None n rest
-    → NoneStands g rest
+    → NoMatch g rest
 none_more g n rest (inl full) = absurd (cc)
 none_more g n rest (inr (below, none)) = none
 
@@ -99,7 +99,7 @@ module _ {O : Type 0} {alike : O → O → Type 0} where
 
   pub each_agrees : {g : Grammar ℕ O} → IsUnique g → Agrees alike g → (os ps : List O)
       (tokens rest other : List ℕ) → Each g tokens os rest → Each g tokens ps other
-      → NoneStands g rest → NoneStands g other → ArePairwise alike os ps
+      → NoMatch g rest → NoMatch g other → ArePairwise alike os ps
   each_agrees unique agree [] [] tokens rest other e f none n = tt
   each_agrees {g} unique agree [] (p ∷ ps) tokens rest other e (mid, x, more) none n =
       let P : List ℕ → Type 0 = λ l. g l p mid in absurd (none p mid (subst P (sym e) x))

@@ -100,7 +100,7 @@ fn wants_memory<'i>(fault: &ParseFault<&'i str, EmptyError>) -> bool
         → IsTrue result }
 {
     match fault {
-        ParseFault::Refused(error) => ParserError::<&str>::is_memory(error.inner()),
+        ParseFault::Invalid(error) => ParserError::<&str>::is_memory(error.inner()),
         ParseFault::Incomplete(_) => false,
     }
 }

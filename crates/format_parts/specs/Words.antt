@@ -14,7 +14,8 @@ use Rattle.winnow.specs.Grammar.{Both, Class, Grammar, InClass, Literally, Longe
 use Rattle.winnow.specs.Grammar.{Three, Token, TokenOf}
 use Rattle.winnow.specs.Grammar.Meaning.{Meaning}
 use Rattle.winnow.specs.Grammar.Tuples.{Four}
-use Rattle.winnow.specs.Texts.{Anything, Begins, BeginsIn, BothText, InFront, IsGrammarOf, MadeText}
+use Rattle.winnow.specs.Texts.{Anything, StartsWith, TextsStartWith, BothText, InFront, IsGrammarOf}
+use Rattle.winnow.specs.Texts.{MadeText}
 use Rattle.winnow.specs.Texts.{NotFirst, Spelled, Text}
 use Rattle.winnow.specs.Texts.Fronts.{both_front, of_front}
 use Rattle.winnow.specs.Texts.Parts.{both_of, made_of, same_of}
@@ -139,18 +140,18 @@ run_of class least = record {
 
 -- ---- what they begin with
 
-pub in_begins : (class : ℕ → Type 0) → BeginsIn class (In class)
+pub in_begins : (class : ℕ → Type 0) → TextsStartWith class (In class)
 unfolding In
 in_begins class = record {
   makes = λ c xs rest (is, e) any.
-      let P : List ℕ → Type 0 = λ l. Begins class (l ++ rest) in subst P (sym e) is;
+      let P : List ℕ → Type 0 = λ l. StartsWith class (l ++ rest) in subst P (sym e) is;
 }
 
-pub run_begins : (class : ℕ → Type 0) → BeginsIn class (Run class 1)
+pub run_begins : (class : ℕ → Type 0) → TextsStartWith class (Run class 1)
 unfolding Run
 run_begins class = record { makes = λ slice xs rest x any. first xs rest x.0 x.1 }
   where
-    first : (xs rest : List ℕ) → All class xs → 1 ≤ length xs → Begins class (xs ++ rest)
+    first : (xs rest : List ℕ) → All class xs → 1 ≤ length xs → StartsWith class (xs ++ rest)
     first [] rest all some = absurd (omega arith)
     first (x ∷ xs) rest all some = all 0 x (omega arith)
 

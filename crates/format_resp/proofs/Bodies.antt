@@ -7,7 +7,8 @@ use Rattle.std.proofs.Common.{refl, sym, ap, subst, inr, ◌∙◌, arith}
 use Rattle.winnow.specs.Bytes.{bytes_follow, bytes_reading}
 use Rattle.winnow.specs.Grammar.{IsUnique}
 use Rattle.winnow.specs.Grammar.Unique.{unique_by}
-use Rattle.winnow.specs.InTurn.{Failed, First, Led, Stood, failed_as, led_unique, refused}
+use Rattle.winnow.specs.InTurn.{Failed, First, Led, MatchesEachCompletion, failed_as, led_unique}
+use Rattle.winnow.specs.InTurn.{refused}
 use Rattle.winnow.specs.InTurn.{stood_as}
 use Rattle.winnow.specs.InTurn.Rows.{RowOf, row_unique}
 use Rattle.winnow.specs.Input.{Input}
@@ -115,8 +116,9 @@ module _ {A : Type 0} where
 
 module _ {A : Type 0} {i j : Input ℕ} (mark : DataMark) (n : ℕ) where
   pub data_stood : (bytes : Bor (List ℕ)) (reply : Replies A) → DataSays mark reply bytes.now
-      → Stood bytes_reading bytes_follow (First (DataText n)) i bytes j
-      → Stood bytes_reading bytes_follow (First (DataBehind mark (Some n))) i reply j
+      → MatchesEachCompletion bytes_reading bytes_follow (First (DataText n)) i bytes j
+      → MatchesEachCompletion bytes_reading bytes_follow (First (DataBehind mark (Some n))) i reply
+      j
   unfolding First
   data_stood bytes reply says =
       stood_as (λ tokens rest (front, a, e). (front, (bytes, says, a), e))
@@ -130,7 +132,7 @@ module _ {A : Type 0} {i j : Input ℕ} (mark : DataMark) (n : ℕ) where
   -- bytes that are no such reply
   pub data_failed : {k : Kind} (bytes : Bor (List ℕ)) → k ≡ backtrack
       → ((reply : Replies A) → DataSays mark reply bytes.now → ⊥)
-      → Stood bytes_reading bytes_follow (First (DataText n)) i bytes j
+      → MatchesEachCompletion bytes_reading bytes_follow (First (DataText n)) i bytes j
       → Failed bytes_reading bytes_follow (First (DataBehind {A = A} mark (Some n))) i k j
   unfolding First
   data_failed bytes b never s = record {
@@ -174,9 +176,10 @@ module _ {A : Type 0} {i : Input ℕ} (protocol : Protocol) (level : ℕ) (mark 
     (n : ℕ) where
   pub aggregate_stood : {j : Input ℕ} (inner count : ℕ) → level ≡ suc inner → count ≡ many mark n
       → (list : Vec (Replies A) A) (reply : Replies A) → reply ≡ gathered mark list
-      → Stood bytes_reading bytes_follow (First (RowOf (ReplyText protocol inner) count)) i
+      → MatchesEachCompletion bytes_reading bytes_follow
+      (First (RowOf (ReplyText protocol inner) count)) i
       list.items j
-      → Stood bytes_reading bytes_follow
+      → MatchesEachCompletion bytes_reading bytes_follow
       (First (AggregateBehind (Elements protocol level) mark (Some n))) i
       reply j
   unfolding First Elements
@@ -205,7 +208,7 @@ module _ {A : Type 0} {i : Input ℕ} (protocol : Protocol) (level : ℕ) (mark 
 -- a size that gives an aggregate too many replies is not valid
 pub too_many : {A : Type 0} {i j : Input ℕ} {k : Kind} (elements : Text ℕ (List (Replies A)))
     (mark : AggregateMark) (n : ℕ) → 2 ^ 64 ≤ many mark n → k ≡ backtrack
-    → Stood bytes_reading bytes_follow (First SizeText) i (Some n) j
+    → MatchesEachCompletion bytes_reading bytes_follow (First SizeText) i (Some n) j
     → Failed bytes_reading bytes_follow (First (Led SizeText (AggregateBehind elements mark))) i k j
 unfolding First
 too_many elements mark n much b s = record {

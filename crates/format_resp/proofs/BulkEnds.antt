@@ -5,7 +5,7 @@ use Rattle.std.specs.Borrow.{Bor}
 use Rattle.std.proofs.Common.{refl, sym, ap, inl, inr, ◌∙◌, arith, append_assoc, length-append}
 use Rattle.std.proofs.lemmas.List.{append-nil, length-take-le, nil_from_length}
 use Rattle.std.proofs.lemmas.List.{take-append-drop}
-use Rattle.winnow.specs.Grammar.Known.{slice_for}
+use Rattle.winnow.specs.Grammar.Inversion.{slice_for}
 use Rattle.winnow.specs.Grammar.Lengths.{same_beginnings}
 use Rattle.winnow.specs.InTurn.{First}
 use Rattle.winnow.specs.Texts.{CountedText}

@@ -14,7 +14,7 @@ use Rattle.std.proofs.lemmas.Int.Digits.{digits_value_more}
 use Rattle.std.proofs.lemmas.Str.Parse.{digits_value-take-le}
 use Rattle.winnow.specs.AsChar.{IsDecDigit}
 use Rattle.winnow.specs.Digits.{value_in}
-use Rattle.winnow.specs.Digits.Known.{value_is}
+use Rattle.winnow.specs.Digits.Inversion.{value_is}
 use Rattle.winnow.specs.Equal.{same_first, same_others}
 use Rattle.format_resp.specs.Numbers.{AreDigits, DigitsText, SignedText, UnsignedText}
 

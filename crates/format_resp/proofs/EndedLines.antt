@@ -6,8 +6,8 @@ use Rattle.std.proofs.Common.{sym, subst, inr, ◌∙◌, arith}
 use Rattle.std.proofs.lemmas.List.Elements.{All-from_recursion, recursion_from_All}
 use Rattle.winnow.specs.Bytes.{bytes_follow, bytes_reading}
 use Rattle.winnow.specs.Grammar.{IsUnique}
-use Rattle.winnow.specs.Grammar.Known.{slice_for}
-use Rattle.winnow.specs.InTurn.{Failed, First, Splits, Stood, failed_as, stood_as}
+use Rattle.winnow.specs.Grammar.Inversion.{slice_for}
+use Rattle.winnow.specs.InTurn.{Failed, First, Splits, MatchesEachCompletion, failed_as, stood_as}
 use Rattle.winnow.specs.Input.{Input}
 use Rattle.winnow.specs.Kind.{Kind, backtrack}
 use Rattle.winnow.specs.Texts.{Members, Text}
@@ -55,8 +55,8 @@ module _ {O : Type 0} (text : Text ℕ O) (p : IsPlain text) where
     -- all of a line
     pub ended_stood : (line : Bor (List ℕ)) (o : O)
         → (AllByRecursion InLine line.now → text o line.now)
-        → Stood bytes_reading bytes_follow (First LineText) i line j
-        → Stood bytes_reading bytes_follow (First (Ended text)) i o j
+        → MatchesEachCompletion bytes_reading bytes_follow (First LineText) i line j
+        → MatchesEachCompletion bytes_reading bytes_follow (First (Ended text)) i o j
     unfolding First LineText Ended Members
     ended_stood line o is = stood_as (λ tokens rest (front, (xs, (all, enough, shown), e), d).
         let P : List ℕ → Type 0 = λ l. AllByRecursion InLine l in
@@ -69,7 +69,7 @@ module _ {O : Type 0} (text : Text ℕ O) (p : IsPlain text) where
     -- a line that is none
     pub ended_failed : (line : Bor (List ℕ)) {k : Kind} → k ≡ backtrack
         → ((o : O) → text o line.now → ⊥)
-        → Stood bytes_reading bytes_follow (First LineText) i line j
+        → MatchesEachCompletion bytes_reading bytes_follow (First LineText) i line j
         → Failed bytes_reading bytes_follow (First (Ended text)) i k j
     unfolding First LineText Ended Members
     ended_failed line b never s = record {

@@ -5,7 +5,7 @@ use Rattle.std.proofs.Common.{refl, sym, ap, inr, ◌∙◌}
 use Rattle.winnow.specs.Bytes.{bytes_follow, bytes_reading}
 use Rattle.winnow.specs.Equal.{same_first, same_others, same_some}
 use Rattle.winnow.specs.Grammar.{Token}
-use Rattle.winnow.specs.InTurn.{Failed, First, Splits, Stood, failed_as, stood_as}
+use Rattle.winnow.specs.InTurn.{Failed, First, Splits, MatchesEachCompletion, failed_as, stood_as}
 use Rattle.winnow.specs.Input.{Input}
 use Rattle.winnow.specs.Kind.{Kind, backtrack}
 use Rattle.format_resp.specs.Resp.{IsIn, MarkText, byte_of}
@@ -92,8 +92,8 @@ module _ (protocol : Protocol) where
 
   module _ {i j : Input ℕ} where
     pub mark_stood : (byte : ℕ) (mark : Mark) → IsIn protocol mark → byte ≡ byte_of mark
-        → Stood bytes_reading bytes_follow (Token (λ b. b)) i byte j
-        → Stood bytes_reading bytes_follow (First (MarkText protocol)) i mark j
+        → MatchesEachCompletion bytes_reading bytes_follow (Token (λ b. b)) i byte j
+        → MatchesEachCompletion bytes_reading bytes_follow (First (MarkText protocol)) i mark j
     unfolding Token First MarkText
     mark_stood byte mark within is = stood_as (λ tokens rest e.
         (byte_of mark ∷ [], (within, refl), e ∙ ap (λ b. b ∷ rest) is))
@@ -107,7 +107,7 @@ module _ (protocol : Protocol) where
     -- a byte that no reply begins with
     pub no_mark : {k : Kind} (byte : ℕ) → k ≡ backtrack
         → ((mark : Mark) → IsIn protocol mark → byte ≡ byte_of mark → ⊥)
-        → Stood bytes_reading bytes_follow (Token (λ b. b)) i byte j
+        → MatchesEachCompletion bytes_reading bytes_follow (Token (λ b. b)) i byte j
         → Failed bytes_reading bytes_follow (First (MarkText protocol)) i k j
     unfolding Token First MarkText
     no_mark byte b other s = record {

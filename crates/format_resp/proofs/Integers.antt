@@ -7,7 +7,7 @@ use Rattle.std.specs.Int.{w64}
 use Rattle.std.specs.List.{AllByRecursion}
 use Rattle.std.proofs.Common.{refl, sym, ap, subst, inl, inr, ◌∙◌, arith}
 use Rattle.winnow.specs.AsChar.{IsDecDigit}
-use Rattle.winnow.specs.Decimal.Known.{decimal_digits}
+use Rattle.winnow.specs.Decimal.Inversion.{decimal_digits}
 use Rattle.winnow.specs.Digits.{value_in}
 use Rattle.winnow.specs.Equal.{same_first, same_others}
 use Rattle.winnow.specs.InTurn.{Splits}

@@ -10,11 +10,11 @@ use Rattle.winnow.specs.Bytes.{bytes_reading}
 use Rattle.winnow.specs.Equal.{true_is_false}
 use Rattle.winnow.specs.Kind.{Kind, backtrack, memory}
 use Rattle.winnow.specs.Range.{from_to}
-use Rattle.winnow.specs.Sets.{EitherTells}
+use Rattle.winnow.specs.Sets.{InEither}
 use Rattle.winnow.specs.Grammar.Same.{Same}
 use Rattle.winnow.specs.Grammar.{Both, Counted, Grammar, Literally, Longest}
 use Rattle.winnow.specs.Once.{Others}
-use Rattle.winnow.specs.Grammar.Known.{slice_for}
+use Rattle.winnow.specs.Grammar.Inversion.{slice_for}
 use Rattle.winnow.specs.Grammar.Searches as searches
 use Rattle.winnow.specs.Texts.{IsGrammarOf, Text}
 use Rattle.winnow.specs.Texts.Tokens.{counted_of, divides_either, divides_others}
@@ -59,7 +59,7 @@ ended_of {O} {g} text is may = record {
 -- what the set of two bytes tells
 abbrev pub EndTells : ℕ × ℕ → ℕ → Bool → Type 0
 EndTells set t b =
-    EitherTells (λ t b. IsTrue b ↔ (t ≡ set.0)) (λ t b. IsTrue b ↔ (t ≡ set.1)) t b
+    InEither (λ t b. IsTrue b ↔ (t ≡ set.0)) (λ t b. IsTrue b ↔ (t ≡ set.1)) t b
 
 pub same_line : Same (Both (λ o1 o2. o1) (Longest bytes_reading (λ b. b) (Others EndTells) (13, 10)
     (from_to 0 None)) EndRead) (First LineText)

@@ -12,7 +12,7 @@ use Rattle.winnow.specs.Bytes.{bytes_reading}
 use Rattle.winnow.specs.Equal.{none_is_some, same_first, same_others}
 use Rattle.winnow.specs.Grammar.{Class, Grammar, InClass, Longest}
 use Rattle.winnow.specs.Grammar as grammars
-use Rattle.winnow.specs.Grammar.Known.{slice_for}
+use Rattle.winnow.specs.Grammar.Inversion.{slice_for}
 use Rattle.winnow.specs.Stream.{AnswersSeen}
 use Rattle.winnow.specs.Texts.{Members, NotFirst}
 use Rattle.winnow.specs.Texts.Tokens.{class_of, divides_seen, divides_where}

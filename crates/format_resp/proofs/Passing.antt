@@ -17,11 +17,11 @@ use Rattle.format_resp.specs.Extents.{MatchesAtStart, count_after, data_after}
 use Rattle.format_resp.specs.Heads.{HeadText}
 use Rattle.format_resp.specs.Resp.{DataText, Ended, InLine, MarkText}
 use Rattle.format_resp.specs.declared.extent.Extent.{Extent}
-use Rattle.format_resp.specs.declared.extent.Refused.{Refused}
+use Rattle.format_resp.specs.declared.extent.Invalid.{Invalid}
 use Rattle.format_resp.specs.declared.heads.Head.{Head}
 
 -- an error that is passed on
-pub err_part : (f : Extent) (tokens rest : List ℕ) (r : PartFound) {e : Refused}
+pub err_part : (f : Extent) (tokens rest : List ℕ) (r : PartFound) {e : Invalid}
     → IsErrAnd r (λ y. y ≡ e)
     → ((more left : List ℕ) → MatchesAtStart IsReply (tokens ++ more) left → ⊥)
     → IsPart f tokens rest r
@@ -311,7 +311,7 @@ none_passed e tokens passed sought none one = (
     )
 
 -- what is kept of bytes is kept of more
-pub kept_more : (r : Result (Option ℕ) Refused) (e f : Extent) (tokens left : List ℕ)
+pub kept_more : (r : Result (Option ℕ) Invalid) (e f : Extent) (tokens left : List ℕ)
     → left ≡ take (length tokens - e.passed) (drop e.passed tokens)
     → OnOk r (Passed e tokens left → (rest : List ℕ) × Passed f tokens rest)
     → OnOk r (IsOf e tokens → (more : List ℕ) → IsOf f (tokens ++ more))

@@ -12,13 +12,14 @@ use Rattle.winnow.specs.Reading.{Reading}
 use Rattle.winnow.specs.Growth.{grown}
 use Rattle.winnow.specs.Grammar.{IsUnique}
 use Rattle.winnow.specs.Grammar.Lengths.{same_beginnings}
-use Rattle.winnow.specs.InTurn.{First, Stood}
+use Rattle.winnow.specs.InTurn.{First, MatchesEachCompletion}
 use Rattle.winnow.specs.Texts.{CountedText}
 use Rattle.format_resp.specs.Resp.{DataText, Ended, InLine, line_end}
 
 -- where a value is made of nothing
 pub alone_stood : {T L R : Type 0} {reading : Reading T L} {following : Following T} {i : Input T}
-    (value : R) → Stood reading following (First (λ r xs. (r ≡ value) × (xs ≡ []))) i value i
+    (value : R) → MatchesEachCompletion reading following (First (λ r xs. (r ≡ value) × (xs ≡ [])))
+    i value i
 unfolding First
 alone_stood {reading = reading} {i = i} value = record {
   ends = is_end_of_refl reading i;

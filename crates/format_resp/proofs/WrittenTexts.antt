@@ -4,7 +4,7 @@ use Rattle.std.specs.Prelude.{length, Some, None}
 use Rattle.std.specs.Fmt.{decimal}
 use Rattle.std.specs.declared.vec.Vec.{Vec}
 use Rattle.std.proofs.Common.{refl, sym, subst, inl, inr, arith}
-use Rattle.winnow.specs.Grammar.Known.{slice_for}
+use Rattle.winnow.specs.Grammar.Inversion.{slice_for}
 use Rattle.winnow.specs.InTurn.{Led}
 use Rattle.winnow.specs.Texts.{CountedText, Text}
 use Rattle.format_resp.proofs.Deeper.{row_as}

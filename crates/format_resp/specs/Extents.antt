@@ -8,7 +8,7 @@ use Rattle.winnow.specs.InTurn.{First}
 use Rattle.format_resp.specs.Heads.{IsLinePrefix}
 use Rattle.format_resp.specs.Resp.{DataText, InLine, Replies, ReplyText, line_end}
 use Rattle.format_resp.specs.declared.extent.Extent.{Extent}
-use Rattle.format_resp.specs.declared.extent.Refused.{Refused}
+use Rattle.format_resp.specs.declared.extent.Invalid.{Invalid}
 use Rattle.format_resp.specs.declared.heads.Head.{Head}
 use Rattle.format_resp.specs.declared.heads.Head.TheVariants as heads
 use Rattle.format_resp.specs.declared.reply.Protocol.TheVariants.{Resp2}
@@ -58,7 +58,7 @@ IsOf extent tokens = (rest : List ℕ) × Passed extent tokens rest
 -- The contract of a scan: the length of a reply at the start, whose rest is the only one for any
 -- continuation; or `None`, if the bytes do not start with a reply; or an error, if no continuation
 -- does.
-abbrev pub ReplyResult : List ℕ → Result (Option ℕ) Refused → Type 0
+abbrev pub ReplyResult : List ℕ → Result (Option ℕ) Invalid → Type 0
 ReplyResult tokens (Ok (Some n)) =
     (front : List ℕ) × (rest : List ℕ) × (tokens ≡ front ++ rest) × (length front ≡ n)
     × IsReply front × ((more left : List ℕ) → MatchesAtStart IsReply (tokens ++ more) left
@@ -101,7 +101,7 @@ count_after (heads.Replies k) n = n + k
 
 -- the rest after the next part, `None` if it is incomplete, or an error
 abbrev pub PartFound : Type 0
-PartFound = Result (Option (Bor (List ℕ))) Refused
+PartFound = Result (Option (Bor (List ℕ))) Invalid
 
 -- The bytes start with a line ending, or are a proper prefix of one, or no continuation starts with
 -- one.

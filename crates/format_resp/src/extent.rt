@@ -19,12 +19,12 @@ use std::alloc::Allocator;
 /// No continuation of the bytes starts with a reply.
 ///
 /// ```
-/// use format_resp::extent::{Extent, Refused};
+/// use format_resp::extent::{Extent, Invalid};
 ///
-/// assert!(rt; matches!(Extent::new().advance(b"OK"), Err(Refused)));
+/// assert!(rt; matches!(Extent::new().advance(b"OK"), Err(Invalid)));
 /// ```
 #[derive(Clone, Copy, Debug, PartialEq, Eq)]
-pub struct Refused;
+pub struct Invalid;
 
 /// The state of the search for the end of a reply. Its fields can be stored anywhere, and an extent
 /// can be made of them again.
@@ -49,7 +49,7 @@ pub struct Extent {
 }
 
 /// Skips a line ending and returns the rest.
-fn skip_line_ending<'i>(bytes: &'i [u8]) -> Result<Option<&'i [u8]>, Refused>
+fn skip_line_ending<'i>(bytes: &'i [u8]) -> Result<Option<&'i [u8]>, Invalid>
     ensures told { IsLineEnd bytes.now result }
     ensures less { IsLessPart (length bytes.now) result }
 {
@@ -57,7 +57,7 @@ fn skip_line_ending<'i>(bytes: &'i [u8]) -> Result<Option<&'i [u8]>, Refused>
         None => Ok(None),
         Some((first, more)) => {
             if *first != b'\r' {
-                return Err(Refused);
+                return Err(Invalid);
             }
             match more.split_first() {
                 None => Ok(None),
@@ -65,7 +65,7 @@ fn skip_line_ending<'i>(bytes: &'i [u8]) -> Result<Option<&'i [u8]>, Refused>
                     if *second == b'\n' {
                         Ok(Some(left))
                     } else {
-                        Err(Refused)
+                        Err(Invalid)
                     }
                 }
             }
@@ -74,7 +74,7 @@ fn skip_line_ending<'i>(bytes: &'i [u8]) -> Result<Option<&'i [u8]>, Refused>
 }
 
 /// Skips the data of a bulk string of `size` bytes and its line ending, and returns the rest.
-fn skip_data<'i>(size: usize, bytes: &'i [u8]) -> Result<Option<&'i [u8]>, Refused>
+fn skip_data<'i>(size: usize, bytes: &'i [u8]) -> Result<Option<&'i [u8]>, Invalid>
     ensures told { IsDataEnd size bytes.now result }
     ensures less { IsLessPart (length bytes.now) result }
 {
@@ -118,7 +118,7 @@ impl Extent {
         size: usize,
         bytes: &[u8],
         rest: &'i [u8],
-    ) -> Result<Option<&'i [u8]>, Refused>
+    ) -> Result<Option<&'i [u8]>, Invalid>
         requires within { length rest.now ≤ length bytes.now }
         requires due { self.old.bulk ≡ Some size }
         ensures told { Passed self.old bytes.now rest.now
@@ -145,7 +145,7 @@ impl Extent {
         others: u128,
         bytes: &[u8],
         rest: &'i [u8],
-    ) -> Result<Option<&'i [u8]>, Refused>
+    ) -> Result<Option<&'i [u8]>, Invalid>
         requires within { length rest.now ≤ length bytes.now }
         requires due { self.old.bulk ≡ None }
         requires one { self.old.replies ≡ suc others }
@@ -154,13 +154,13 @@ impl Extent {
         ensures less { IsLessPart (length rest.now) result }
     {
         match start_of(rest, self.sought) {
-            Start::Never => Err(Refused),
+            Start::Never => Err(Invalid),
             Start::Open(sought) => {
                 self.sought = sought;
                 Ok(None)
             }
             Start::Whole(head, left) => match due_behind(head, others) {
-                None => Err(Refused),
+                None => Err(Invalid),
                 Some((bulk, replies)) => {
                     *self = Extent {
                         passed: bytes.len() - left.len(),
@@ -175,7 +175,7 @@ impl Extent {
     }
 
     /// Continues with `from`, the rest after the bytes passed.
-    fn walk(&mut self, bytes: &[u8], from: &[u8]) -> Result<Option<usize>, Refused>
+    fn walk(&mut self, bytes: &[u8], from: &[u8]) -> Result<Option<usize>, Invalid>
         requires within { length from.now ≤ length bytes.now }
         ensures told { Passed self.old bytes.now from.now → ReplyResult bytes.now result }
         ensures kept { OnOk result (Passed self.old bytes.now from.now
@@ -207,7 +207,7 @@ impl Extent {
     /// bytes.
     ///
     /// It returns `None` if the reply is incomplete: a line has no end, or bytes of a bulk string
-    /// are missing. It returns [`Refused`] if no continuation starts with a reply: an invalid line
+    /// are missing. It returns [`Invalid`] if no continuation starts with a reply: an invalid line
     /// is rejected at its end, and an invalid first byte at once. The nesting depth of arrays is
     /// not checked; [`read_reply`](crate::read::read_reply) checks it once the reply is complete.
     /// The result is specified only if the extent is of these bytes: if it was used for others, the
@@ -215,7 +215,7 @@ impl Extent {
     ///
     /// ```
     /// use format_resp::extent::Extent;
-    /// use format_resp::read::{SAFE_LEVEL, read_reply};
+    /// use format_resp::read::{SAFE_DEPTH, read_reply};
     /// use format_resp::reply::Protocol;
     /// use winnow::stream::Partial;
     ///
@@ -224,9 +224,9 @@ impl Extent {
     /// assert!(rt; matches!(extent.advance(&bytes[..7]), Ok(None)));
     /// assert!(rt; matches!(extent.advance(bytes), Ok(Some(12))));
     /// let mut whole = Partial::new(&bytes[..12]);
-    /// assert!(rt; read_reply(alloc, Protocol::Resp2, SAFE_LEVEL, &mut whole).is_ok());
+    /// assert!(rt; read_reply(alloc, Protocol::Resp2, SAFE_DEPTH, &mut whole).is_ok());
     /// ```
-    pub fn advance(&mut self, bytes: &[u8]) -> Result<Option<usize>, Refused>
+    pub fn advance(&mut self, bytes: &[u8]) -> Result<Option<usize>, Invalid>
         ensures told { IsOf self.old bytes.now → ReplyResult bytes.now result }
         ensures kept { OnOk result (IsOf self.old bytes.now
             → (more : List ℕ) → IsOf self.new (bytes.now ++ more)) }
@@ -248,7 +248,7 @@ impl Extent {
 /// assert!(rt; matches!(reply_length(b"*1\r\n+OK"), Ok(None)));
 /// assert!(rt; reply_length(b":x\r\n").is_err());
 /// ```
-pub fn reply_length(bytes: &[u8]) -> Result<Option<usize>, Refused>
+pub fn reply_length(bytes: &[u8]) -> Result<Option<usize>, Invalid>
     ensures { ReplyResult bytes.now result }
 {
     Extent::new().advance(bytes)

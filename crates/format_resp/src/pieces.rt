@@ -4,7 +4,7 @@ ghost use Rattle.winnow.specs.Form.{modal};
 ghost use Rattle.winnow.specs.Range.{from_to};
 ghost use Rattle.winnow.specs.Cut.{ReadsOrAsks};
 ghost use Rattle.winnow.specs.Literal.Laws.{SpellsByText};
-ghost use Rattle.winnow.specs.Once.{SeesApart};
+ghost use Rattle.winnow.specs.Once.{TokenEqInjective};
 ghost use Rattle.winnow.specs.Grammar.{Both, Counted, Longest, Token};
 ghost use Rattle.winnow.specs.Once.{Others};
 ghost use Rattle.winnow.specs.Grammar.Searches.{LiterallyBytes};
@@ -33,7 +33,7 @@ pub(crate) fn line<I: StreamIsPartial + Compare<&'static str>, E: ParserError<I>
 where
     I::Token: AsChar + Copy,
     requires modal { E.form ≡ modal }
-    requires seen { SeesApart I.seen_as }
+    requires seen { TokenEqInjective I.seen_as }
     requires spells { SpellsByText I.spells }
     ensures { ReadsOrAsks I.reading I.following E.kind (Both (λ o1 o2. o1)
         (Longest I.reading I.seen_as (Others ⟦<(u8, u8) as ContainsToken<I::Token>>⟧.tells)

@@ -64,14 +64,14 @@ fn read_bytes<'i, A: Allocator>(
 /// overflow the stack, which aborts the program, so the stack must be larger too.
 ///
 /// ```
-/// use format_resp::read::{SAFE_LEVEL, read_reply};
+/// use format_resp::read::{SAFE_DEPTH, read_reply};
 /// use format_resp::reply::Protocol;
 /// use winnow::stream::Partial;
 ///
 /// let mut input = Partial::new(b"~1\r\n*1\r\n#t\r\n".as_slice());
-/// assert!(rt; read_reply(alloc, Protocol::Resp3, SAFE_LEVEL, &mut input).is_ok());
+/// assert!(rt; read_reply(alloc, Protocol::Resp3, SAFE_DEPTH, &mut input).is_ok());
 /// ```
-pub const SAFE_LEVEL: usize = 128;
+pub const SAFE_DEPTH: usize = 128;
 
 /// For how many elements an aggregate has room before one is read, at most: its size is what the
 /// bytes say, and they may state one that they do not have.
@@ -115,7 +115,7 @@ fn read_aggregate<'i, A: Allocator + Copy>(
 
 /// Parses a reply of this version of the protocol, whose aggregates (in RESP2 these are arrays) are
 /// nested at most `level` deep. Attributes and the reply that they belong to count as one
-/// aggregate. Each level takes some of the stack: up to [`SAFE_LEVEL`] two megabytes suffice.
+/// aggregate. Each level takes some of the stack: up to [`SAFE_DEPTH`] two megabytes suffice.
 ///
 /// On complete input (a stream that is marked complete) it succeeds if and only if the input starts
 /// with such a reply, unless an allocation fails: the only errors are a backtrack and out of
@@ -125,16 +125,16 @@ fn read_aggregate<'i, A: Allocator + Copy>(
 /// a reply is tested.
 ///
 /// ```
-/// use format_resp::read::{SAFE_LEVEL, read_reply};
+/// use format_resp::read::{SAFE_DEPTH, read_reply};
 /// use format_resp::reply::{Protocol, Reply};
 /// use winnow::stream::Partial;
 ///
 /// let mut input = Partial::new(b"%1\r\n+key\r\n,1.5\r\n_".as_slice());
-/// let reply = read_reply(alloc, Protocol::Resp3, SAFE_LEVEL, &mut input);
+/// let reply = read_reply(alloc, Protocol::Resp3, SAFE_DEPTH, &mut input);
 /// assert!(rt; matches!(reply, Ok(Reply::Map(both)) if both.len() == 2));
 /// assert_eq!(rt; *input.as_inner(), b"_".as_slice());
 /// let mut map = Partial::new(b"%1\r\n".as_slice());
-/// assert!(rt; read_reply(alloc, Protocol::Resp2, SAFE_LEVEL, &mut map).is_err());
+/// assert!(rt; read_reply(alloc, Protocol::Resp2, SAFE_DEPTH, &mut map).is_err());
 /// ```
 #[cycle(read)]
 pub fn read_reply<'i, A: Allocator + Copy>(

@@ -259,7 +259,7 @@ fn write_nested<A: Allocator, B: Allocator>(
 /// written unchanged, so the encoding of each reply is unique. It reads back as this reply, for any
 /// continuation: see [`reads_back`](crate::back::reads_back). Writing calls itself once for each
 /// nested aggregate, as [`read_reply`](crate::read::read_reply) does; up to
-/// [`SAFE_LEVEL`](crate::read::SAFE_LEVEL) two megabytes of stack suffice.
+/// [`SAFE_DEPTH`](crate::read::SAFE_DEPTH) two megabytes of stack suffice.
 ///
 /// # Errors
 ///

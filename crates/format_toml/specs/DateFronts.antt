@@ -15,7 +15,7 @@ use Rattle.format_toml_tree.specs.declared.value.DateTime.{DateTime}
 use Rattle.format_toml_tree.specs.declared.value.DateTime.TheVariants as dates
 use Rattle.format_toml_tree.specs.declared.value.Offset.{Offset}
 use Rattle.format_toml_tree.specs.declared.value.Offset.TheVariants.{Minutes, Zulu}
-use Rattle.winnow.specs.Texts.{Begins}
+use Rattle.winnow.specs.Texts.{StartsWith}
 
 -- ---- characters
 
@@ -111,13 +111,13 @@ timed_all clock digits offset tokens x =
     timed_more (λ l. All IsUnquoted l) all_more clock digits offset tokens x (All-nil IsUnquoted)
 
 two_begin : (tokens : List ℕ) (n : ℕ) (rest : List ℕ) → TwoDigits tokens n rest
-    → Begins IsDigit tokens
+    → StartsWith IsDigit tokens
 unfolding TwoDigits
 two_begin tokens n rest (t, o, c, d, tens, ones, e, is) =
-    let P : List ℕ → Type 0 = λ l. Begins IsDigit l in subst P (sym e) (digit_is t c tens)
+    let P : List ℕ → Type 0 = λ l. StartsWith IsDigit l in subst P (sym e) (digit_is t c tens)
 
 timed_begin : (clock : ℕ × ℕ × ℕ) (digits : List ℕ) (offset : Option Offset) (tokens : List ℕ)
-    → IsTimed clock digits offset tokens → Begins IsDigit tokens
+    → IsTimed clock digits offset tokens → StartsWith IsDigit tokens
 unfolding IsTimed Clock InTurn
 timed_begin clock digits offset tokens (a, b, ((c, d, h, m, s), hours, minutes, seconds), f, o) =
     two_begin tokens clock.0 c h
@@ -205,7 +205,8 @@ module _ {A : Type 0} where
   date_parts d tokens (inr (time, e, (clock, digits, t, x))) =
       all_parts tokens (timed_all clock digits None tokens x)
 
-  pub date_begins : (d : DateTime A) (tokens : List ℕ) → IsDateTime d tokens → Begins IsDigit tokens
+  pub date_begins : (d : DateTime A) (tokens : List ℕ) → IsDateTime d tokens
+      → StartsWith IsDigit tokens
   unfolding IsDateTime IsAlone TimeText FullDate InTurn FourDigits
   date_begins d tokens
       (inl (date, rest, ((a, b, (h, l, mid, first, last, is), m, n), least, most), behind)) =
@@ -221,10 +222,10 @@ module _ {A : Type 0} where
       unquoted_made xs ys tokens all (some xs ys e end (date_begins d tokens x)) end e
     where
       some : (xs ys : List ℕ) → tokens ≡ xs ++ ys → (ys ≡ []) ⊎ IsSpacedTime ys
-          → Begins IsDigit tokens → 1 ≤ length xs
+          → StartsWith IsDigit tokens → 1 ≤ length xs
       some [] ys e (inl none) b =
-          let P : List ℕ → Type 0 = λ l. Begins IsDigit l in absurd (subst P (e ∙ none) b)
+          let P : List ℕ → Type 0 = λ l. StartsWith IsDigit l in absurd (subst P (e ∙ none) b)
       some [] ys e (inr (a, c, more, one, other, all, f)) b =
           let P : List ℕ → Type 0 =
-          λ l. Begins IsDigit l in absurd (omega (arith, (subst P (e ∙ f) b).0))
+          λ l. StartsWith IsDigit l in absurd (omega (arith, (subst P (e ∙ f) b).0))
       some (x ∷ xs) ys e end b = omega arith

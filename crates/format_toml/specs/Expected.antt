@@ -17,9 +17,9 @@ use Rattle.format_toml.specs.declared.expected.Lack.{Lack}
 use Rattle.format_toml.specs.declared.expected.Outcome as ways
 use Rattle.format_toml.specs.declared.expected.Outcome.TheVariants.{Before, Last}
 use Rattle.format_toml.specs.declared.expected.Outcome.TheVariants as lines
-use Rattle.winnow.specs.Grammar.{Both, Grammar, NoneStands, TakesTokens}
+use Rattle.winnow.specs.Grammar.{Both, Grammar, NoMatch, TakesTokens}
 use Rattle.winnow.specs.Grammar.Unique.{both_take, either_takes}
-use Rattle.winnow.specs.Texts.{Begins, NotFirst}
+use Rattle.winnow.specs.Texts.{StartsWith, NotFirst}
 
 -- `tokens` starts with a match of `grammar`, followed by `rest`
 abbrev pub MatchesAtStart : {O : Type 0} → Grammar ℕ O → List ℕ → List ℕ → Type 0
@@ -33,7 +33,7 @@ HasMatch grammar tokens = (rest : List ℕ) × MatchesAtStart grammar tokens res
 abbrev pub IsPast : {O : Type 0} → Grammar ℕ O → List ℕ → Option (Bor (List ℕ)) → Type 0
 IsPast grammar tokens (Some rest) =
     MatchesAtStart grammar tokens (chars rest.now)
-IsPast grammar tokens None = NoneStands grammar tokens
+IsPast grammar tokens None = NoMatch grammar tokens
 
 -- the missing part, or `None` if the whole matches
 abbrev pub IsLack : (Expected → List ℕ → Type 0) → Type 0 → Option Lack → Type 0
@@ -44,10 +44,10 @@ module _ (A : Type 0) where
   -- After the bracket that opens the name of a table: the parts that match before the missing one,
   -- in sequence, and the one that does not match.
   abbrev pub HeaderLacks : List ℕ → Expected → List ℕ → Type 0
-  HeaderLacks text TableName rest = MatchesAtStart Ws text rest × NoneStands (AnyKey {A = A}) rest
+  HeaderLacks text TableName rest = MatchesAtStart Ws text rest × NoMatch (AnyKey {A = A}) rest
   HeaderLacks text ClosingBracket rest =
       (name : List ℕ) × MatchesAtStart Ws text name × MatchesAtStart (AnyKey {A = A}) name rest
-      × NoneStands (Char 93) rest
+      × NoMatch (Char 93) rest
   HeaderLacks text expected rest = ⊥
 
   -- The same after two brackets: the name lacks something, or the second bracket after it.
@@ -56,13 +56,13 @@ module _ (A : Type 0) where
       (name : List ℕ) × MatchesAtStart (Char 91) text name
       × (HeaderLacks name what rest
       ⊎ ((what ≡ ClosingBracket) × MatchesAtStart (Header {A = A}) name rest
-      × NoneStands (Char 93) rest))
+      × NoMatch (Char 93) rest))
 
   -- Likewise for a table with its first bracket.
   abbrev pub TableLacks : List ℕ → Expected → List ℕ → Type 0
   TableLacks text what rest =
       (name : List ℕ) × MatchesAtStart (Char 91) text name
-      × ((Begins (λ c. c ≡ 91) name × DoubleLacks name what rest)
+      × ((StartsWith (λ c. c ≡ 91) name × DoubleLacks name what rest)
       ⊎ (NotFirst (λ c. c ≡ 91) name × HeaderLacks name what rest))
 
   module _ (level : ℕ) where
@@ -70,13 +70,13 @@ module _ (A : Type 0) where
     abbrev pub EntryLacks : List ℕ → Expected → List ℕ → Type 0
     EntryLacks text Key rest =
         (rest ≡ text) × NotFirst (λ c. c ≡ 91) text × NotFirst (λ c. c ≡ 35) text
-        × NoneStands (AnyKey {A = A}) text
+        × NoMatch (AnyKey {A = A}) text
     EntryLacks text EqualsSign rest =
-        MatchesAtStart (AnyKey {A = A}) text rest × NoneStands (Mark 61) rest
+        MatchesAtStart (AnyKey {A = A}) text rest × NoMatch (Mark 61) rest
     EntryLacks text expected.Value rest =
         (behind : List ℕ) × MatchesAtStart (AnyKey {A = A}) text behind
         × MatchesAtStart (Mark 61) behind rest
-        × NoneStands (AnyValue {A = A} level) rest
+        × NoMatch (AnyValue {A = A} level) rest
     EntryLacks text expected rest = ⊥
 
     -- The missing part of a table or an entry after whitespace.
@@ -89,7 +89,7 @@ module _ (A : Type 0) where
     abbrev pub ItemWhole : List ℕ → Type 0
     ItemWhole line =
         (text : List ℕ) × MatchesAtStart Ws line text
-        × (HasMatch (AnyItem {A = A} level) text ⊎ Begins (λ c. c ≡ 35) text)
+        × (HasMatch (AnyItem {A = A} level) text ⊎ StartsWith (λ c. c ≡ 35) text)
 
     -- The missing part of a line that is not TOML. The part of the line that matches is followed
     -- neither by the end of the text nor by a line ending. Either its table or its entry lacks the
@@ -98,7 +98,7 @@ module _ (A : Type 0) where
     abbrev pub Lacks : List ℕ → Expected → List ℕ → Type 0
     Lacks line what rest =
         (end : List ℕ) × MatchesAtStart (Line {A = A} level) line end × (end ≡ [] → ⊥)
-        × NoneStands Newline end
+        × NoMatch Newline end
         × (ItemLacks line what rest ⊎ ((what ≡ LineEnd) × (rest ≡ end) × ItemWhole line))
 
     -- `LineStands line behind`: a line with its line ending, followed by `behind`.

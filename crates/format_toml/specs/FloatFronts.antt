@@ -8,7 +8,7 @@ use Rattle.format_toml.specs.Floats.{AreDigits, IsExponent, IsFloat, IsFraction,
 use Rattle.format_toml.specs.Floats.{IsSign}
 use Rattle.format_toml.specs.Floats.{IsTail, IsWhole, Signed, Unsigned}
 use Rattle.format_toml.specs.Toml.{IsUnquoted}
-use Rattle.winnow.specs.Texts.{Begins}
+use Rattle.winnow.specs.Texts.{StartsWith}
 
 -- ---- characters
 
@@ -102,30 +102,32 @@ numeric_is c (inl e) = omega (arith, e)
 numeric_is c (inr (inl e)) = omega (arith, e)
 numeric_is c (inr (inr e)) = omega (arith, e)
 
-magnitude_begins : (tokens rest : List ℕ) → Unsigned tokens → Begins IsNumeric (tokens ++ rest)
+magnitude_begins : (tokens rest : List ℕ) → Unsigned tokens → StartsWith IsNumeric (tokens ++ rest)
 unfolding IsMagnitude IsWhole
 magnitude_begins tokens rest (inl e) =
-    let P : List ℕ → Type 0 = λ l. Begins IsNumeric (l ++ rest) in subst P (sym e) (inr (inl refl))
+    let P : List ℕ → Type 0 = λ l. StartsWith IsNumeric (l ++ rest) in subst P (sym e)
+    (inr (inl refl))
 magnitude_begins tokens rest (inr (inl e)) =
-    let P : List ℕ → Type 0 = λ l. Begins IsNumeric (l ++ rest) in subst P (sym e) (inr (inr refl))
+    let P : List ℕ → Type 0 = λ l. StartsWith IsNumeric (l ++ rest) in subst P (sym e)
+    (inr (inr refl))
 magnitude_begins tokens rest (inr (inr (xs, ys, (w, lone), t, e))) =
     let (d, zs, range, f, all) = digits_are xs w in
-    let P : List ℕ → Type 0 = λ l. Begins IsNumeric (l ++ rest) in
+    let P : List ℕ → Type 0 = λ l. StartsWith IsNumeric (l ++ rest) in
     subst P (sym (e ∙ ap (λ l. l ++ ys) f)) (inl (omega (arith, range)))
 
-pub float_begins : (tokens rest : List ℕ) → IsFloat tokens → Begins IsNumeric (tokens ++ rest)
+pub float_begins : (tokens rest : List ℕ) → IsFloat tokens → StartsWith IsNumeric (tokens ++ rest)
 unfolding Signed
 float_begins tokens rest (inl x) = magnitude_begins tokens rest x
 float_begins tokens rest (inr (c, others, inl s, e, x)) =
-    let P : List ℕ → Type 0 = λ l. Begins IsNumeric (l ++ rest) in
+    let P : List ℕ → Type 0 = λ l. StartsWith IsNumeric (l ++ rest) in
     subst P (sym e) (inl (omega (arith, s)))
 float_begins tokens rest (inr (c, others, inr s, e, x)) =
-    let P : List ℕ → Type 0 = λ l. Begins IsNumeric (l ++ rest) in
+    let P : List ℕ → Type 0 = λ l. StartsWith IsNumeric (l ++ rest) in
     subst P (sym e) (inl (omega (arith, s)))
 
 pub float_are : (tokens : List ℕ) → IsFloat tokens → Are tokens
 float_are tokens x = (float_all tokens x, some tokens (float_begins tokens [] x))
   where
-    some : (l : List ℕ) → Begins IsNumeric (l ++ []) → 1 ≤ length l
+    some : (l : List ℕ) → StartsWith IsNumeric (l ++ []) → 1 ≤ length l
     some [] never = absurd never
     some (c ∷ cs) is = omega arith

@@ -19,7 +19,8 @@ use Rattle.format_toml.specs.Toml.{TableText, WsText}
 use Rattle.format_toml.specs.declared.characters.Characters.TheVariants.{Bare}
 use Rattle.format_toml_tree.specs.declared.value.Value.{Value}
 use Rattle.winnow.specs.Grammar.{Grammar}
-use Rattle.winnow.specs.Texts.{Anything, AtLeast, Begins, BeginsIn, EitherText, InFront, InList}
+use Rattle.winnow.specs.Texts.{Anything, AtLeast, StartsWith, TextsStartWith, EitherText, InFront}
+use Rattle.winnow.specs.Texts.{InList}
 use Rattle.winnow.specs.Texts.{IsGrammarOf, NotFirst, PartedText, Text}
 use Rattle.winnow.specs.Texts.Fronts.{begins_wider, both_front, either_front, front_any}
 use Rattle.winnow.specs.Texts.Fronts.{front_begins, in_list_front, may_begin, none_begins}
@@ -86,7 +87,7 @@ module _ {A : Type 0} where
       (front_begins (λ c bare e. absurd (omega (arith, (bare_is c bare).0, e)))
       (characters_begin Bare))
 
-  after_basic_begins : BeginsIn (λ c. (c ≡ 39) ⊎ IsBare c)
+  after_basic_begins : TextsStartWith (λ c. (c ≡ 39) ⊎ IsBare c)
       (EitherText (LiteralText {A = A}) (CharactersText Bare 1))
   after_basic_begins =
       either_front (begins_wider (λ c e. inl e) literal_string_begins)
@@ -101,7 +102,7 @@ module _ {A : Type 0} where
       not_basic c (inl e) f = absurd (omega (arith, e, f))
       not_basic c (inr bare) f = absurd (omega (arith, (bare_is c bare).0, f))
 
-  name_begins : BeginsIn OpensKey (NameText {A = A})
+  name_begins : TextsStartWith OpensKey (NameText {A = A})
   name_begins =
       either_front (begins_wider (λ c e. inl e) basic_string_begins)
       (begins_wider (λ c o. inr o) after_basic_begins)
@@ -109,7 +110,7 @@ module _ {A : Type 0} where
   -- ---- keys
 
   names_of : IsGrammarOf (Names {A = A}) (InList (AtLeast 1 (PartedText (MarkText 46)
-      (Spaced NameText)))) (Begins EndsKey)
+      (Spaced NameText)))) (StartsWith EndsKey)
   names_of =
       list_of (parted_of (spaced_of before_space name_of) (mark_of 46)
       (both_front pair (front_begins
@@ -122,10 +123,10 @@ module _ {A : Type 0} where
       (may_begin EndsKey (λ c. c ≡ 46 → ⊥) ends_point rest b))
       (λ rest never b. absurd (omega (arith, never))))
 
-  pub key_of : IsGrammarOf (AnyKey {A = A}) KeyText (Begins EndsKey)
+  pub key_of : IsGrammarOf (AnyKey {A = A}) KeyText (StartsWith EndsKey)
   key_of = for_of IsKey names_of
 
-  pub key_begins : BeginsIn OpensKey (KeyText {A = A})
+  pub key_begins : TextsStartWith OpensKey (KeyText {A = A})
   key_begins = for_front IsKey
       (in_list_front (joined_begins (MarkText 46) (spaced_begins name_begins)))
 
@@ -138,7 +139,7 @@ module _ {A : Type 0} where
       three_of pair latter key_of (mark_of 61) is
       (both_front pair (begins_wider (λ c e. inl e) (spelled_begins 61 [] 61)) front_any) front
 
-  pub pair_begins : (value : Text ℕ (Value A)) → BeginsIn OpensKey (PairText value)
+  pub pair_begins : (value : Text ℕ (Value A)) → TextsStartWith OpensKey (PairText value)
   pair_begins value = both_front pair key_begins front_any
 
   -- ---- headers

@@ -10,7 +10,7 @@ use Rattle.format_toml.specs.Led.{Led}
 use Rattle.format_toml.specs.declared.expected.Lack.{Lack}
 use Rattle.format_toml_tree.specs.declared.value.Item.TheVariants as items
 use Rattle.winnow.specs.Grammar.{Both, Made, Three}
-use Rattle.winnow.specs.Texts.{Begins, NotFirst}
+use Rattle.winnow.specs.Texts.{StartsWith, NotFirst}
 
 module _ (A : Type 0) where
   pub header_stands : (text name end rest : List ℕ) → MatchesAtStart Ws text name
@@ -29,7 +29,7 @@ module _ (A : Type 0) where
 
   module _ {E : Type 0} (text name : List ℕ) (bracket : MatchesAtStart (Char 91) text name) where
     -- a table of an array of tables
-    pub table_by_double : (result : Result (Option Lack) E) → Begins (λ c. c ≡ 91) name
+    pub table_by_double : (result : Result (Option Lack) E) → StartsWith (λ c. c ≡ 91) name
         → IfOk result (λ o. IsLack (DoubleLacks A name) (HasMatch (DoubleHeader {A = A}) name) o)
         → IfOk result (λ o. IsLack (TableLacks A text)
         (HasMatch (Both latter (Char 91) (Table {A = A})) text) o)
@@ -71,7 +71,7 @@ module _ (A : Type 0) where
 
     module _ {E : Type 0} (line text : List ℕ) (white : MatchesAtStart Ws line text) where
       -- a bracket is first: what its table lacks
-      pub lack_by_table : (result : Result (Option Lack) E) → Begins (λ c. c ≡ 91) text
+      pub lack_by_table : (result : Result (Option Lack) E) → StartsWith (λ c. c ≡ 91) text
           → IfOk result (λ o. IsLack (TableLacks A text)
           (HasMatch (Both latter (Char 91) (Table {A = A})) text) o)
           → IfOk result (λ o. IsLack (ItemLacks A level line) (ItemWhole A level line) o)

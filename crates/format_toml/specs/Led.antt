@@ -2,7 +2,7 @@
 use Rattle.std.specs.Prelude.{◌≡◌, ◌⊎◌, ℕ, List, Result, Ok, Err}
 use Rattle.std.proofs.Common.{inl, inr}
 use Rattle.winnow.specs.Exact.{Reads}
-use Rattle.winnow.specs.Grammar.{Grammar, IsUnique, NoneStands}
+use Rattle.winnow.specs.Grammar.{Grammar, IsUnique, NoMatch}
 use Rattle.winnow.specs.{EmptyError}
 use Rattle.winnow.specs.{ErrMode}
 use Rattle.winnow.specs.{Needed}
@@ -11,17 +11,18 @@ use Rattle.winnow.specs.Mode.{mode_kind}
 use Rattle.winnow.specs.Input.{Input}
 use Rattle.winnow.specs.Kind.{Kind}
 use Rattle.winnow.specs.Text.{text_reading}
-use Rattle.winnow.specs.Texts.{Begins, BeginsIn, EitherText, InFront, IsGrammarOf, NotFirst, Text}
+use Rattle.winnow.specs.Texts.{StartsWith, TextsStartWith, EitherText, InFront, IsGrammarOf}
+use Rattle.winnow.specs.Texts.{NotFirst, Text}
 use Rattle.winnow.specs.Texts.Fronts.{begins_never}
 
 -- `Led these g h`: `g` if the tokens start with a character of `these`, otherwise `h`.
 unfoldable pub Led : {O : Type 0} → (ℕ → Type 0) → Grammar ℕ O → Grammar ℕ O → Grammar ℕ O
 Led these g h tokens o rest =
-    (Begins these tokens × g tokens o rest) ⊎ (NotFirst these tokens × h tokens o rest)
+    (StartsWith these tokens × g tokens o rest) ⊎ (NotFirst these tokens × h tokens o rest)
 
 module _ {O : Type 0} {g h : Grammar ℕ O} {these : ℕ → Type 0} where
   pub led_of : {first second : Text ℕ O} {follow : List ℕ → Type 0} → IsGrammarOf g first follow
-      → IsGrammarOf h second follow → BeginsIn these first
+      → IsGrammarOf h second follow → TextsStartWith these first
       → InFront second follow (NotFirst these)
       → IsGrammarOf (Led these g h) (EitherText first second) follow
   unfolding Led EitherText
@@ -57,20 +58,20 @@ module _ {O : Type 0} {g h : Grammar ℕ O} (these : ℕ → Type 0) (first : Is
   }
 
 module _ {O : Type 0} (these : ℕ → Type 0) (g h : Grammar ℕ O) where
-  none_led : (tokens : List ℕ) → Begins these tokens → NoneStands g tokens
-      → NoneStands (Led these g h) tokens
+  none_led : (tokens : List ℕ) → StartsWith these tokens → NoMatch g tokens
+      → NoMatch (Led these g h) tokens
   unfolding Led
   none_led tokens begins none o rest (inl (b, x)) = none o rest x
   none_led tokens begins none o rest (inr (n, x)) = begins_never these tokens begins n
 
-  none_other : (tokens : List ℕ) → NotFirst these tokens → NoneStands h tokens
-      → NoneStands (Led these g h) tokens
+  none_other : (tokens : List ℕ) → NotFirst these tokens → NoMatch h tokens
+      → NoMatch (Led these g h) tokens
   unfolding Led
   none_other tokens not none o rest (inl (b, x)) = begins_never these tokens b not
   none_other tokens not none o rest (inr (n, x)) = none o rest x
 
   module _ {E : Type 0} {kind : E → Kind} {i j : Input ℕ} where
-    pub reads_led : {result : Result O E} → Begins these i.left.tokens
+    pub reads_led : {result : Result O E} → StartsWith these i.left.tokens
         → Reads text_reading kind g i result j → Reads text_reading kind (Led these g h) i result j
     unfolding Led
     reads_led {result = Ok o} first r = record {

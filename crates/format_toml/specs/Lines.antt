@@ -13,7 +13,7 @@ use Rattle.format_toml.specs.Spaces.{newline_begins, newline_of, no_space, space
 use Rattle.format_toml.specs.Spaces.{spaced_of, tail_is, ws_of}
 use Rattle.format_toml.specs.Toml.{DocumentText, IsEntry, ItemText, LineText, Spaced, ValueText}
 use Rattle.format_toml.specs.Values.{entry_of}
-use Rattle.winnow.specs.Texts.{AtEnd, BeginsIn, IsGrammarOf, MayBegin}
+use Rattle.winnow.specs.Texts.{AtEnd, TextsStartWith, IsGrammarOf, MayStartWith}
 use Rattle.winnow.specs.Texts.Fronts.{begins_wider, both_front, either_front, front_any}
 use Rattle.winnow.specs.Texts.Fronts.{front_begins, front_behind, may_begin_more, may_begin_none}
 use Rattle.winnow.specs.Texts.Fronts.{none_begins, optional_front, spelled_begins}
@@ -45,13 +45,13 @@ module _ {A : Type 0} (level : ℕ) where
       (front_begins (λ c o. (opens_key_is c o).4)
       (for_front IsEntry (pair_begins (ValueText level))))
 
-  item_begins : BeginsIn OpensItem (Spaced (ItemText {A = A} level))
+  item_begins : TextsStartWith OpensItem (Spaced (ItemText {A = A} level))
   item_begins =
       spaced_begins (either_front
       (begins_wider (λ c e. inl e) (both_front latter (spelled_begins 91 [] 91) front_any))
       (begins_wider (λ c o. inr o) (for_front IsEntry (pair_begins (ValueText level)))))
 
-  line_of : IsGrammarOf (Line {A = A} level) (LineText level) (MayBegin IsBreak)
+  line_of : IsGrammarOf (Line {A = A} level) (LineText level) (MayStartWith IsBreak)
   line_of =
       between_of ws_of
       (optional_of (behind_less

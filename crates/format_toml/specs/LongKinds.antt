@@ -14,7 +14,7 @@ use Rattle.format_toml.specs.Toml.{AnyBasicText, AnyLiteralText, CharacterText, 
 use Rattle.format_toml.specs.declared.characters.Characters.TheVariants.{Basic, Literal}
 use Rattle.winnow.specs.Grammar.{Nothing}
 use Rattle.winnow.specs.Grammar.Unique.{unique_nothing}
-use Rattle.winnow.specs.Texts.{Anything, BeginsIn, EitherText, IsGrammarOf, NotFirst, Text}
+use Rattle.winnow.specs.Texts.{Anything, TextsStartWith, EitherText, IsGrammarOf, NotFirst, Text}
 use Rattle.winnow.specs.Texts.{TokenOfText}
 use Rattle.winnow.specs.Texts.Fronts.{begins_wider, both_front, either_front, front_any}
 use Rattle.winnow.specs.Texts.Fronts.{front_begins, spelled_begins}
@@ -42,7 +42,7 @@ literal_content_of =
     either_apart (one_of_set Literal) newline_of (set_begins Literal)
     (front_begins break_literal newline_begins)
 
-literal_content_begins : BeginsIn (λ c. c ≡ 39 → ⊥) LiteralContentText
+literal_content_begins : TextsStartWith (λ c. c ≡ 39 → ⊥) LiteralContentText
 literal_content_begins =
     either_front (begins_wider (λ c is. is.1) (set_begins Literal))
     (begins_wider (λ c b. (break_quote c b).0) newline_begins)
@@ -68,7 +68,7 @@ module _ {A : Type 0} where
       (newline_free 39 (λ e. omega (arith, e)) (λ e. omega (arith, e))) literal_string_of
       (short_apart 39 (begins_wider (λ c is. is.1) (set_begins Literal)))
 
-  pub any_literal_begins : BeginsIn (λ c. c ≡ 39) (AnyLiteralText {A = A})
+  pub any_literal_begins : TextsStartWith (λ c. c ≡ 39) (AnyLiteralText {A = A})
   any_literal_begins = either_front (long_begins 39 _ _ _) literal_string_begins
 
 -- ---- basic ones
@@ -86,7 +86,7 @@ break_basic c (inr e) (inl (inr (inr f), not)) = absurd (omega (arith, e, f))
 break_basic c (inl e) (inr f) = absurd (omega (arith, e, f))
 break_basic c (inr e) (inr f) = absurd (omega (arith, e, f))
 
-character_opens : BeginsIn (λ c. IsOf Basic c ⊎ (c ≡ 92)) CharacterText
+character_opens : TextsStartWith (λ c. IsOf Basic c ⊎ (c ≡ 92)) CharacterText
 character_opens =
     either_front (begins_wider (λ c is. inl is) (set_begins Basic))
     (both_front latter (begins_wider (λ c e. inr e) (spelled_begins 92 [] 92)) front_any)
@@ -96,7 +96,7 @@ basic_content_of =
     either_apart character_of newline_of character_opens
     (front_begins break_basic newline_begins)
 
-basic_content_begins : BeginsIn (λ c. c ≡ 34 → ⊥) BasicContentText
+basic_content_begins : TextsStartWith (λ c. c ≡ 34 → ⊥) BasicContentText
 basic_content_begins =
     either_front character_begins (begins_wider (λ c b. (break_quote c b).1) newline_begins)
 
@@ -107,5 +107,5 @@ module _ {A : Type 0} where
       (newline_free 34 (λ e. omega (arith, e)) (λ e. omega (arith, e))) basic_string_of
       (short_apart 34 character_begins)
 
-  pub any_basic_begins : BeginsIn (λ c. c ≡ 34) (AnyBasicText {A = A})
+  pub any_basic_begins : TextsStartWith (λ c. c ≡ 34) (AnyBasicText {A = A})
   any_basic_begins = either_front (long_begins 34 _ _ _) basic_string_begins

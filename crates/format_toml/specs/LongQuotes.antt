@@ -5,7 +5,7 @@ use Rattle.format_parts.specs.Words.{Char, One, char_of, pair}
 use Rattle.format_toml.specs.LongGrammars.{Delimiter, Quote, TwoOf}
 use Rattle.format_toml.specs.LongTexts.{DelimiterText, one_and_two}
 use Rattle.winnow.specs.Equal.{same_others}
-use Rattle.winnow.specs.Grammar.{Ahead, Both, NoneStands, NotAhead, Optional}
+use Rattle.winnow.specs.Grammar.{Ahead, Both, NoMatch, NotAhead, Optional}
 use Rattle.winnow.specs.Texts.{Anything, BothText, IsGrammarOf, Spelled, Text}
 use Rattle.winnow.specs.Texts.Fronts.{front_any}
 use Rattle.winnow.specs.Texts.Parts.{both_of, three_of}
@@ -55,18 +55,18 @@ module _ (quote : ℕ) where
   three_text =
       (quote, (quote, quote), quote ∷ [], quote ∷ quote ∷ [], (refl, refl), two_text, refl, refl)
 
-  none_two : (tokens : List ℕ) → NotTwo tokens → NoneStands (TwoOf (Char quote)) tokens
+  none_two : (tokens : List ℕ) → NotTwo tokens → NoMatch (TwoOf (Char quote)) tokens
   none_two tokens not o rest x =
       let (front, e, t) = two_of.there tokens o rest x in
       not rest (e ∙ ap (λ l. l ++ rest) (two_is o front t))
 
-  not_two : (tokens : List ℕ) → NoneStands (TwoOf (Char quote)) tokens → NotTwo tokens
+  not_two : (tokens : List ℕ) → NoMatch (TwoOf (Char quote)) tokens → NotTwo tokens
   not_two tokens none x e =
-      let P : List ℕ → Type 0 = λ l. NoneStands (TwoOf (Char quote)) l in
+      let P : List ℕ → Type 0 = λ l. NoMatch (TwoOf (Char quote)) l in
       subst P e none (quote, quote) x
       (two_of.back (quote, quote) (quote ∷ quote ∷ []) x two_text tt)
 
-  none_three : (tokens : List ℕ) → NotTwo tokens → NoneStands (Delimiter quote) tokens
+  none_three : (tokens : List ℕ) → NotTwo tokens → NoMatch (Delimiter quote) tokens
   none_three tokens not o rest x =
       let (front, e, t) = delimiter_of.there tokens o rest x in
       not (quote ∷ rest) (e ∙ ap (λ l. l ++ rest) (three_is o front t))

@@ -15,9 +15,9 @@ use Rattle.format_toml.specs.Toml.{NewlineText, WsText}
 use Rattle.format_toml.specs.UniqueLong.{skips_unique}
 use Rattle.format_toml.specs.declared.characters.Characters.TheVariants.{White}
 use Rattle.winnow.specs.Equal.{same_others}
-use Rattle.winnow.specs.Grammar.{Both, Each, Gathered, Many, NoneStands}
+use Rattle.winnow.specs.Grammar.{Both, Each, Gathered, Many, NoMatch}
 use Rattle.winnow.specs.Range.{from_to}
-use Rattle.winnow.specs.Texts.{Anything, Begins, BeginsIn, BothText, EachText, EitherText}
+use Rattle.winnow.specs.Texts.{Anything, StartsWith, TextsStartWith, BothText, EachText, EitherText}
 use Rattle.winnow.specs.Texts.{GatheredText, InFront, IsGrammarOf, NotFirst, Spelled, TokenOfText}
 use Rattle.winnow.specs.Texts.Fronts.{begins_wider, both_front, either_front, front_any}
 use Rattle.winnow.specs.Texts.Fronts.{front_begins, front_whole, may_begin, none_begins}
@@ -41,14 +41,14 @@ blank_below c (inl s) = space_below c s
 blank_below c (inr (inl e)) = omega (arith, e)
 blank_below c (inr (inr e)) = omega (arith, e)
 
-blank_begins : BeginsIn IsBlank BlankText
+blank_begins : TextsStartWith IsBlank BlankText
 blank_begins =
     either_front (begins_wider (λ c s. inl s) (set_begins White))
     (begins_wider (λ c b. inr b) newline_begins)
 
 -- ---- one escaped line ending
 
-line_of : IsGrammarOf EscapedLine EscapedLineText (NoneStands Blank)
+line_of : IsGrammarOf EscapedLine EscapedLineText (NoMatch Blank)
 line_of =
     both_of latter (char_of 92) (both_of latter ws_of (both_of latter newline_of
     (gathered_of (λ (all : ⊤) parts. ⊤) (many_of blank_of (from_to 0 None) 0 refl front_any
@@ -56,25 +56,25 @@ line_of =
     (both_front latter (front_begins (λ c b s. (tail_is c (inr b)).1 s) newline_begins) front_any))
     front_any
 
-line_begins : BeginsIn (λ c. c ≡ 92) EscapedLineText
+line_begins : TextsStartWith (λ c. c ≡ 92) EscapedLineText
 line_begins = both_front latter (spelled_begins 92 [] 92) front_any
 
 -- after a backslash something blank is
 abbrev Second : (ℕ → Type 0) → List ℕ → Type 0
-Second these tokens = (rest : List ℕ) × (tokens ≡ 92 ∷ rest) × Begins these rest
+Second these tokens = (rest : List ℕ) × (tokens ≡ 92 ∷ rest) × StartsWith these rest
 
-backslash_front : (these : ℕ → Type 0) → InFront (One 92) (Begins these) (Second these)
+backslash_front : (these : ℕ → Type 0) → InFront (One 92) (StartsWith these) (Second these)
 unfolding Spelled
 backslash_front these = record {
   makes = λ o xs rest (is, e) b. (rest, ap (λ l. l ++ rest) e, b);
 }
 
-ws_blank : InFront WsText (Begins IsBlank) (Begins IsBlank)
+ws_blank : InFront WsText (StartsWith IsBlank) (StartsWith IsBlank)
 unfolding Run
 ws_blank = record { makes = λ slice xs rest x b. first xs rest x.0 b }
   where
-    first : (xs rest : List ℕ) → All IsSpace xs → Begins IsBlank rest
-        → Begins IsBlank (xs ++ rest)
+    first : (xs rest : List ℕ) → All IsSpace xs → StartsWith IsBlank rest
+        → StartsWith IsBlank (xs ++ rest)
     first [] rest all b = b
     first (x ∷ xs) rest all b = inl (all 0 x (omega arith))
 
@@ -83,23 +83,23 @@ line_second =
     both_front latter (backslash_front IsBlank) (both_front latter ws_blank
     (both_front latter (begins_wider (λ c b. inr b) newline_begins) front_any))
 
-no_line : (tokens : List ℕ) → Second (λ c. 33 < c) tokens → NoneStands EscapedLine tokens
+no_line : (tokens : List ℕ) → Second (λ c. 33 < c) tokens → NoMatch EscapedLine tokens
 no_line tokens (rest, e, above) o behind x =
     let (front, f, t) = line_of.there tokens o behind x in
     let (other, g, blank) = line_second.makes o front behind t tt in
-    let P : List ℕ → Type 0 = λ l. Begins (λ c. 33 < c) l in
+    let P : List ℕ → Type 0 = λ l. StartsWith (λ c. 33 < c) l in
     never other blank (subst P (same_others (sym e ∙ f ∙ g)) above)
   where
-    never : (l : List ℕ) → Begins IsBlank l → Begins (λ c. 33 < c) l → ⊥
+    never : (l : List ℕ) → StartsWith IsBlank l → StartsWith (λ c. 33 < c) l → ⊥
     never [] b a = absurd b
     never (c ∷ cs) b a = absurd (omega (arith, a, blank_below c b))
 
-no_line_first : (tokens : List ℕ) → NotFirst (λ c. c ≡ 92) tokens → NoneStands EscapedLine tokens
+no_line_first : (tokens : List ℕ) → NotFirst (λ c. c ≡ 92) tokens → NoMatch EscapedLine tokens
 no_line_first tokens not = none_begins line_of line_begins tokens not
 
 -- ---- several
 
-line_stops : (tokens rest : List ℕ) (o : ⊤) → EscapedLine tokens o rest → NoneStands Blank rest
+line_stops : (tokens rest : List ℕ) (o : ⊤) → EscapedLine tokens o rest → NoMatch Blank rest
 unfolding Both Gathered Many
 line_stops tokens rest o (a, b, mid, x, (c, d, at, y, (n, e, far, z, w, p), q), r) =
     let (os, held, (each, enough, stops)) = w in
@@ -112,13 +112,13 @@ line_stops tokens rest o (a, b, mid, x, (c, d, at, y, (n, e, far, z, w, p), q), 
     no_number e = cc
 
 lines_stop : (os : List ⊤) (o : ⊤) (tokens rest : List ℕ) → Each EscapedLine tokens (o ∷ os) rest
-    → NoneStands Blank rest
+    → NoMatch Blank rest
 lines_stop [] o tokens rest (mid, x, e) =
-    subst (λ l. NoneStands Blank l) (sym e) (line_stops tokens mid o x)
+    subst (λ l. NoMatch Blank l) (sym e) (line_stops tokens mid o x)
 lines_stop (p ∷ os) o tokens rest (mid, x, more) = lines_stop os p mid rest more
 
 -- after each there may be another
-again : InFront EscapedLineText (NoneStands Blank) (NoneStands Blank)
+again : InFront EscapedLineText (NoMatch Blank) (NoMatch Blank)
 again = record {
   makes = λ o xs rest t none. none_begins blank_of blank_begins (xs ++ rest)
       (may_begin (λ c. c ≡ 92) (λ c. IsBlank c → ⊥)
@@ -135,7 +135,7 @@ skips_there tokens o rest (p ∷ os, held, (each, enough, stops)) =
     let none = none_written blank_of (lines_stop os p tokens rest each) in
     (xs, e, inr ((p ∷ os, tt, row), none))
 
-skips_back : (xs rest : List ℕ) → EscapedLines xs rest → NoneStands EscapedLine rest
+skips_back : (xs rest : List ℕ) → EscapedLines xs rest → NoMatch EscapedLine rest
     → Skips (xs ++ rest) tt rest
 unfolding Gathered Many GatheredText
 skips_back xs rest (inl e) stop =
@@ -150,7 +150,7 @@ unfolding GatheredText EachText
 skips_first x xs rest (inl e) is = omega (arith, ap (λ l. length l) e)
 skips_first x xs rest (inr (([], held, e), none)) is = omega (arith, ap (λ l. length l) e)
 skips_first x xs rest (inr ((o ∷ os, held, (us, vs, t, row, e)), none)) is =
-    let P : List ℕ → Type 0 = λ l. Begins (λ c. c ≡ 92) l in
+    let P : List ℕ → Type 0 = λ l. StartsWith (λ c. c ≡ 92) l in
     let first : x ≡ 92 = subst P (sym e) (line_begins.makes o us vs t tt) in
     omega (arith, is, first)
 
@@ -180,23 +180,23 @@ nearer : (xs zs rest : List ℕ) → EscapedLines xs (zs ++ rest) → EscapedLin
 nearer xs zs rest (inl e) = inl e
 nearer xs zs rest (inr (row, none)) = inr (row, none_shorter zs rest none)
 
-wider : (xs zs rest : List ℕ) → EscapedLines xs zs → Begins (λ c. c ≡ 34) rest
+wider : (xs zs rest : List ℕ) → EscapedLines xs zs → StartsWith (λ c. c ≡ 34) rest
     → EscapedLines xs (zs ++ rest)
 wider xs zs rest (inl e) begins = inl e
 wider xs zs rest (inr (row, none)) begins =
     inr (row, none_longer 34 blank_free zs rest begins none)
 
-content_apart : InFront (EitherText CharacterText NewlineText) Anything (NoneStands EscapedLine)
+content_apart : InFront (EitherText CharacterText NewlineText) Anything (NoMatch EscapedLine)
 content_apart =
     either_front (front_whole apart character_apart) (front_whole no_line_first
     (front_begins (λ c b e. absurd (omega (arith, e, blank_below c (inr b)))) newline_begins))
   where
-    apart : (tokens : List ℕ) → Apart tokens → NoneStands EscapedLine tokens
+    apart : (tokens : List ℕ) → Apart tokens → NoMatch EscapedLine tokens
     apart tokens (inl not) = no_line_first tokens not
     apart tokens (inr second) = no_line tokens second
 
 pub skipping_lines : Skipping 34 (EitherText CharacterText NewlineText) Skips EscapedLines
-    (NoneStands EscapedLine)
+    (NoMatch EscapedLine)
 skipping_lines = record {
   there = skips_there;
   back = skips_back;

@@ -6,8 +6,8 @@ use Rattle.format_toml.specs.LongGrammars.{Part}
 use Rattle.format_toml.specs.LongQuotes.{Clear, quote_back, quote_there, twice}
 use Rattle.format_toml.specs.LongTexts.{BodyText, room_behind}
 use Rattle.winnow.specs.Equal.{same_others}
-use Rattle.winnow.specs.Grammar.{Both, Each, Either, Grammar, IsUnique, NoneStands}
-use Rattle.winnow.specs.Texts.{Anything, Begins, BeginsIn, IsGrammarOf, NotFirst, Text}
+use Rattle.winnow.specs.Grammar.{Both, Each, Either, Grammar, IsUnique, NoMatch}
+use Rattle.winnow.specs.Texts.{Anything, StartsWith, TextsStartWith, IsGrammarOf, NotFirst, Text}
 use Rattle.winnow.specs.Texts.Fronts.{none_begins}
 
 -- The input that may be skipped, by its grammar: `stop` holds where nothing more is skipped.
@@ -18,11 +18,11 @@ pub record Skipping (quote : ℕ) (text : Text ℕ ℕ) (skips : Grammar ℕ ⊤
   pub back : (xs rest : List ℕ) → skipped xs rest → stop rest → skips (xs ++ rest) tt rest
   pub unique : IsUnique skips
   pub nearer : (xs zs rest : List ℕ) → skipped xs (zs ++ rest) → skipped xs zs
-  pub wider : (xs zs rest : List ℕ) → skipped xs zs → Begins (λ c. c ≡ quote) rest
+  pub wider : (xs zs rest : List ℕ) → skipped xs zs → StartsWith (λ c. c ≡ quote) rest
       → skipped xs (zs ++ rest)
   pub first : (x : ℕ) (xs rest : List ℕ) → skipped (x ∷ xs) rest → x ≡ quote → ⊥
   pub content : (o : ℕ) (ys rest : List ℕ) → text o ys → stop (ys ++ rest)
-  pub mark : (tokens : List ℕ) → Begins (λ c. c ≡ quote) tokens → stop tokens
+  pub mark : (tokens : List ℕ) → StartsWith (λ c. c ≡ quote) tokens → stop tokens
 
 -- three quotation marks, and none after them
 abbrev pub Closes : ℕ → List ℕ → Type 0
@@ -30,12 +30,12 @@ Closes quote tokens =
     (x : List ℕ) × (tokens ≡ quote ∷ quote ∷ quote ∷ x) × NotFirst (λ c. c ≡ quote) x
 
 pub closes_begins : (quote : ℕ) (rest : List ℕ) → Closes quote rest
-    → Begins (λ c. c ≡ quote) rest
-closes_begins quote rest (x, e, not) = subst (λ l. Begins (λ c. c ≡ quote) l) (sym e) refl
+    → StartsWith (λ c. c ≡ quote) rest
+closes_begins quote rest (x, e, not) = subst (λ l. StartsWith (λ c. c ≡ quote) l) (sym e) refl
 
 module _ (quote : ℕ) {content : Grammar ℕ ℕ} {text : Text ℕ ℕ} {skips : Grammar ℕ ⊤}
     {skipped : List ℕ → List ℕ → Type 0} {stop : List ℕ → Type 0}
-    (of : IsGrammarOf content text Anything) (other : BeginsIn (λ c. c ≡ quote → ⊥) text)
+    (of : IsGrammarOf content text Anything) (other : TextsStartWith (λ c. c ≡ quote → ⊥) text)
     (skipping : Skipping quote text skips skipped stop) where
   -- ---- what is read is written
 
@@ -143,7 +143,7 @@ module _ (quote : ℕ) {content : Grammar ℕ ℕ} {text : Text ℕ ℕ} {skips 
       inr (quote ∷ x, e ∙ ap (λ l. quote ∷ l) f, λ y g. no_first not (same_others g))
   near_clear (suc (suc k)) tokens few near = absurd (omega (arith, few))
 
-  not_quote : (tokens : List ℕ) → Begins (λ c. c ≡ quote → ⊥) tokens
+  not_quote : (tokens : List ℕ) → StartsWith (λ c. c ≡ quote → ⊥) tokens
       → NotFirst (λ c. c ≡ quote) tokens
   not_quote [] b = tt
   not_quote (x ∷ xs) b = b
@@ -154,11 +154,11 @@ module _ (quote : ℕ) {content : Grammar ℕ ℕ} {text : Text ℕ ℕ} {skips 
   near_skipped room x xs behind rest s =
       near_last room ((x ∷ xs) ++ rest) (inl (skipping.first x xs behind s))
 
-  no_content : (rest : List ℕ) → NoneStands content (quote ∷ rest)
+  no_content : (rest : List ℕ) → NoMatch content (quote ∷ rest)
   no_content rest = none_begins of other (quote ∷ rest) (λ not. not refl)
 
   no_part : (tokens : List ℕ) (closes : List ℕ) → Closes quote closes → skips tokens tt closes
-      → NoneStands (Part quote content skips) tokens
+      → NoMatch (Part quote content skips) tokens
   unfolding Both Either
   no_part tokens closes (x, e, not) s o rest (v, p, at, t, inl y, out) =
       let same : at ≡ quote ∷ quote ∷ quote ∷ x =
@@ -177,7 +177,7 @@ module _ (quote : ℕ) {content : Grammar ℕ ℕ} {text : Text ℕ ℕ} {skips 
   abbrev Read : List ℕ → List ℕ → List ℕ → Type 0
   Read tokens os rest =
       (mid : List ℕ) × Each (Part quote content skips) tokens os mid × skips mid tt rest
-      × NoneStands (Part quote content skips) mid
+      × NoMatch (Part quote content skips) mid
 
   near_end : (room : ℕ) (front rest : List ℕ) → skipped front [] → Closes quote rest
       → Near room (front ++ rest)

@@ -12,9 +12,9 @@ use Rattle.format_toml.specs.LongTexts.{BodyText, DelimiterText, LongText, NoneW
 use Rattle.format_toml.specs.LongTexts.{Trimmed, one_and_two}
 use Rattle.winnow.specs.Accumulator.Holds.{HasCharacters}
 use Rattle.winnow.specs.Equal.{same_first, same_others}
-use Rattle.winnow.specs.Grammar.{Both, Either, Gathered, Grammar, Many, NoneStands, Optional}
+use Rattle.winnow.specs.Grammar.{Both, Either, Gathered, Grammar, Many, NoMatch, Optional}
 use Rattle.winnow.specs.Range.{from_to}
-use Rattle.winnow.specs.Texts.{Anything, Begins, BeginsIn, BothText, EachText, EitherText}
+use Rattle.winnow.specs.Texts.{Anything, StartsWith, TextsStartWith, BothText, EachText, EitherText}
 use Rattle.winnow.specs.Texts.{GatheredText, InFront, IsGrammarOf, NotFirst, Spelled, Text}
 use Rattle.winnow.specs.Texts.Fronts.{both_front, each_front, front_any, front_whole}
 use Rattle.winnow.specs.Texts.Fronts.{gathered_front, spelled_begins}
@@ -28,22 +28,22 @@ Free quote [] = ⊤
 Free quote (x ∷ xs) = (x ≡ quote → ⊥) × Free quote xs
 
 within : (quote : ℕ) (xs front rest ys : List ℕ) → Free quote xs
-    → Begins (λ c. c ≡ quote) rest → front ++ rest ≡ xs ++ ys
+    → StartsWith (λ c. c ≡ quote) rest → front ++ rest ≡ xs ++ ys
     → (zs : List ℕ) × (front ≡ xs ++ zs)
 within quote [] front rest ys free begins e = (front, refl)
 within quote (x ∷ xs) [] rest ys free begins e =
-    absurd (free.0 (subst (λ l. Begins (λ c. c ≡ quote) l) e begins))
+    absurd (free.0 (subst (λ l. StartsWith (λ c. c ≡ quote) l) e begins))
 within quote (x ∷ xs) (y ∷ front) rest ys free begins e =
     let (zs, f) = within quote xs front rest ys free.1 begins (same_others e) in
     (zs, ap (λ c. c ∷ front) (same_first e) ∙ ap (λ l. x ∷ l) f)
 
 module _ {O : Type 0} {g : Grammar ℕ O} {text : Text ℕ O} where
   pub none_stands : IsGrammarOf g text Anything → {tokens : List ℕ} → NoneWritten text tokens
-      → NoneStands g tokens
+      → NoMatch g tokens
   none_stands of {tokens} none o rest x =
       let (front, e, t) = of.there tokens o rest x in none o front rest t e
 
-  pub none_written : IsGrammarOf g text Anything → {tokens : List ℕ} → NoneStands g tokens
+  pub none_written : IsGrammarOf g text Anything → {tokens : List ℕ} → NoMatch g tokens
       → NoneWritten text tokens
   none_written of none o xs ys t e =
       let P : List ℕ → Type 0 = λ l. g l o ys in
@@ -56,7 +56,7 @@ module _ {O : Type 0} {text : Text ℕ O} where
       none o xs (ys ++ rest) t (ap (λ l. l ++ rest) e ∙ append_assoc xs ys rest)
 
   pub none_longer : (quote : ℕ) → ((o : O) (xs : List ℕ) → text o xs → Free quote xs)
-      → (front rest : List ℕ) → Begins (λ c. c ≡ quote) rest → NoneWritten text front
+      → (front rest : List ℕ) → StartsWith (λ c. c ≡ quote) rest → NoneWritten text front
       → NoneWritten text (front ++ rest)
   none_longer quote free front rest begins none o xs ys t e =
       let (zs, f) = within quote xs front rest ys (free o xs t) begins e in none o xs zs t f
@@ -75,7 +75,7 @@ module _ (quote : ℕ) where
 
 module _ (quote : ℕ) {content newline : Grammar ℕ ℕ} {text break : Text ℕ ℕ}
     {skips : Grammar ℕ ⊤} {skipped : List ℕ → List ℕ → Type 0} {stop : List ℕ → Type 0}
-    (of : IsGrammarOf content text Anything) (other : BeginsIn (λ c. c ≡ quote → ⊥) text)
+    (of : IsGrammarOf content text Anything) (other : TextsStartWith (λ c. c ≡ quote → ⊥) text)
     (skipping : Skipping quote text skips skipped stop)
     (newline_of : IsGrammarOf newline break Anything)
     (free : (n : ℕ) (xs : List ℕ) → break n xs → Free quote xs)
@@ -161,7 +161,7 @@ module _ (quote : ℕ) {content newline : Grammar ℕ ℕ} {text break : Text �
       front_any (closing quote)
 
   none_long : (tokens : List ℕ) → NotThree quote tokens
-      → NoneStands (Long {A = A} quote content skips newline) tokens
+      → NoMatch (Long {A = A} quote content skips newline) tokens
   unfolding BothText
   none_long tokens not o rest x =
       let (front, e, (d, p, xs, ys, t, u, f, out)) = long_of.there tokens o rest x in
@@ -179,13 +179,13 @@ module _ (quote : ℕ) {content newline : Grammar ℕ ℕ} {text break : Text �
 -- what they begin with
 pub long_begins : {A : Type 0} (quote : ℕ) (text break : Text ℕ ℕ)
     (skipped : List ℕ → List ℕ → Type 0)
-    → BeginsIn (λ c. c ≡ quote) (LongText quote text skipped {A = A} break)
+    → TextsStartWith (λ c. c ≡ quote) (LongText quote text skipped {A = A} break)
 long_begins quote text break skipped =
     both_front latter (both_front one_and_two (spelled_begins quote [] quote) front_any) front_any
 
 -- A string on one line begins with no three quotation marks.
-module _ (quote : ℕ) {text : Text ℕ ℕ} (other : BeginsIn (λ c. c ≡ quote → ⊥) text) where
-  not_quote_two : (tokens : List ℕ) → Begins (λ c. c ≡ quote → ⊥) tokens → NotTwo quote tokens
+module _ (quote : ℕ) {text : Text ℕ ℕ} (other : TextsStartWith (λ c. c ≡ quote → ⊥) text) where
+  not_quote_two : (tokens : List ℕ) → StartsWith (λ c. c ≡ quote → ⊥) tokens → NotTwo quote tokens
   not_quote_two [] b x e = absurd b
   not_quote_two (c ∷ cs) b x e = absurd (b (first e))
     where

@@ -10,7 +10,7 @@ use Rattle.winnow.specs.Grammar.Meaning.{Meaning}
 use Rattle.winnow.specs.Input.{Input}
 use Rattle.winnow.specs.Kind.{Kind}
 use Rattle.winnow.specs.Text.{text_reading}
-use Rattle.winnow.specs.Texts.{Begins, NotFirst}
+use Rattle.winnow.specs.Texts.{StartsWith, NotFirst}
 
 module _ {A E : Type 0} {kind : E → Kind} {i j : Input ℕ} {result : Result (Value A) E} where
   -- where no level is left it is one that has no others in it
@@ -29,20 +29,20 @@ module _ {A E : Type 0} {kind : E → Kind} {i j : Input ℕ} {result : Result (
   value_scalar (suc level) some array inline r =
       reads_other _ _ _ array (reads_other _ _ _ inline r)
 
-  array_read : (below : ℕ) → Begins (λ c. c ≡ 91) i.left.tokens
+  array_read : (below : ℕ) → StartsWith (λ c. c ≡ 91) i.left.tokens
       → Reads text_reading kind (Meaning IsArray (Array (AnyValue below))) i result j
       → Reads text_reading kind (AnyValue (suc below)) i result j
   unfolding AnyValue
   array_read below first r = reads_led _ _ _ first r
 
   inline_read : (below : ℕ) → NotFirst (λ c. c ≡ 91) i.left.tokens
-      → Begins (λ c. c ≡ 123) i.left.tokens
+      → StartsWith (λ c. c ≡ 123) i.left.tokens
       → Reads text_reading kind (Meaning IsInline (Inline (AnyValue below))) i result j
       → Reads text_reading kind (AnyValue (suc below)) i result j
   unfolding AnyValue
   inline_read below array first r = reads_other _ _ _ array (reads_led _ _ _ first r)
 
-  pub value_array : {level below : ℕ} → level ≡ suc below → Begins (λ c. c ≡ 91) i.left.tokens
+  pub value_array : {level below : ℕ} → level ≡ suc below → StartsWith (λ c. c ≡ 91) i.left.tokens
       → Reads text_reading kind (Meaning IsArray (Array (AnyValue below))) i result j
       → Reads text_reading kind (AnyValue level) i result j
   value_array {level} {below} is first r =
@@ -50,7 +50,7 @@ module _ {A E : Type 0} {kind : E → Kind} {i j : Input ℕ} {result : Result (
       subst P (sym is) (array_read below first r)
 
   pub value_inline : {level below : ℕ} → level ≡ suc below
-      → NotFirst (λ c. c ≡ 91) i.left.tokens → Begins (λ c. c ≡ 123) i.left.tokens
+      → NotFirst (λ c. c ≡ 91) i.left.tokens → StartsWith (λ c. c ≡ 123) i.left.tokens
       → Reads text_reading kind (Meaning IsInline (Inline (AnyValue below))) i result j
       → Reads text_reading kind (AnyValue level) i result j
   value_inline {level} {below} is array first r =

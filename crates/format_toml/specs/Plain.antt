@@ -24,7 +24,8 @@ use Rattle.format_toml_tree.specs.Dates.{IsDateTime, IsDigit}
 use Rattle.format_toml_tree.specs.declared.value.Value.{Value}
 use Rattle.winnow.specs.Equal.{same_others}
 use Rattle.winnow.specs.Text.{text_reading}
-use Rattle.winnow.specs.Texts.{Begins, BeginsIn, EachText, EitherText, IsGrammarOf, MadeText}
+use Rattle.winnow.specs.Texts.{StartsWith, TextsStartWith, EachText, EitherText, IsGrammarOf}
+use Rattle.winnow.specs.Texts.{MadeText}
 use Rattle.winnow.specs.Texts.{TakenText}
 use Rattle.winnow.specs.Texts.Fronts.{either_front}
 use Rattle.winnow.specs.Texts.Parts.{text_of}
@@ -124,18 +125,18 @@ integer_are n tokens (x, fits) = elim (sort n tokens x) [
 -- ---- what is first
 
 unsigned_begins : (n : ℕ) (tokens rest : List ℕ) → UnsignedText n tokens
-    → Begins IsNumeric (tokens ++ rest)
+    → StartsWith IsNumeric (tokens ++ rest)
 unfolding UnsignedText NumberText
 unsigned_begins n tokens rest ((ds, text, v), lone) =
     let (d, es, ys, less, row, e, f) = first 10 (omega arith) ds tokens text in
-    let P : List ℕ → Type 0 = λ l. Begins IsNumeric (l ++ rest) in
+    let P : List ℕ → Type 0 = λ l. StartsWith IsNumeric (l ++ rest) in
     subst P (sym e) (inl (omega (arith, digit_from_value d less)))
 
-integer_begins : BeginsIn IsNumeric IntegerText
+integer_begins : TextsStartWith IsNumeric IntegerText
 unfolding IntegerText
 integer_begins = record {
   makes = λ n tokens rest (x, fits) any.
-      let P : List ℕ → Type 0 = λ l. Begins IsNumeric (l ++ rest) in elim (sort n tokens x) [
+      let P : List ℕ → Type 0 = λ l. StartsWith IsNumeric (l ++ rest) in elim (sort n tokens x) [
         | inl (m, u, e) ↦ unsigned_begins m tokens rest u
         | inr (inl (m, ys, u, e, g)) ↦ subst P (sym e) (inl (omega arith))
         | inr (inr (inl (m, ys, u, e, g))) ↦ subst P (sym e) (inl (omega arith))
@@ -152,17 +153,18 @@ alone tokens (all, some) =
 -- ---- what is read is what is written
 
 module _ {A : Type 0} where
-  float_begins_so : BeginsIn IsNumeric (FloatText {A = A})
+  float_begins_so : TextsStartWith IsNumeric (FloatText {A = A})
   unfolding FloatText
   float_begins_so = record { makes = λ f tokens rest (x, b) any. float_begins tokens rest x }
 
-  date_begins_so : BeginsIn IsNumeric (IsDateTime {A = A})
+  date_begins_so : TextsStartWith IsNumeric (IsDateTime {A = A})
   date_begins_so = record {
     makes = λ d tokens rest x any. begun tokens rest
         (date_begins d tokens x);
   }
     where
-      begun : (tokens rest : List ℕ) → Begins IsDigit tokens → Begins IsNumeric (tokens ++ rest)
+      begun : (tokens rest : List ℕ) → StartsWith IsDigit tokens
+          → StartsWith IsNumeric (tokens ++ rest)
       begun [] rest never = absurd never
       begun (c ∷ cs) rest is = inl (omega (arith, is))
 
@@ -174,7 +176,7 @@ module _ {A : Type 0} where
   plain_unquoted v tokens (inr (inl (f, (x, b), e))) = alone tokens (float_are tokens x)
   plain_unquoted v tokens (inr (inr (d, x, e))) = date_unquoted d tokens x
 
-  pub plain_begins : BeginsIn IsNumeric (PlainText {A = A})
+  pub plain_begins : TextsStartWith IsNumeric (PlainText {A = A})
   plain_begins =
       either_front (for_front IsInteger integer_begins)
       (either_front (for_front MeansFloat float_begins_so) (for_front MeansDateTime date_begins_so))

@@ -1,24 +1,25 @@
 -- Sequences of at least one encoding: the first characters of these, and the input that may follow.
 use Rattle.std.specs.Prelude.{◌≡◌, ◌≤◌, ℕ, List, [], ◌∷◌, ◌++◌, length, None}
 use Rattle.std.proofs.Common.{refl, sym, ap, subst, inr, ◌∙◌, arith, append_assoc}
-use Rattle.winnow.specs.Grammar.{Both, Each, Grammar, NoneStands, Parted}
+use Rattle.winnow.specs.Grammar.{Both, Each, Grammar, NoMatch, Parted}
 use Rattle.winnow.specs.Range.{from_to}
-use Rattle.winnow.specs.Texts.{AtLeast, Begins, BeginsIn, InFront, IsGrammarOf, PartedText, Text}
+use Rattle.winnow.specs.Texts.{AtLeast, StartsWith, TextsStartWith, InFront, IsGrammarOf}
+use Rattle.winnow.specs.Texts.{PartedText, Text}
 use Rattle.winnow.specs.Texts.Fronts.{both_front}
 use Rattle.winnow.specs.Texts.Rows.{each_back, each_there, links}
 
 -- they begin as the first of them does
 pub joined_begins : {O D : Type 0} {text : Text ℕ O} {these : ℕ → Type 0} (separator : Text ℕ D)
-    → BeginsIn these text → BeginsIn these (AtLeast 1 (PartedText separator text))
+    → TextsStartWith these text → TextsStartWith these (AtLeast 1 (PartedText separator text))
 unfolding PartedText
 joined_begins {O} {D} {text} {these} separator begins =
     record { makes = λ os xs rest (joined, some) any. first os xs rest joined some }
   where
     first : (os : List O) (tokens rest : List ℕ) → PartedText separator text os tokens
-        → 1 ≤ length os → Begins these (tokens ++ rest)
+        → 1 ≤ length os → StartsWith these (tokens ++ rest)
     first [] tokens rest joined some = absurd (omega (arith, some))
     first (o ∷ os) tokens rest (xs, ys, a, more, e) some =
-        let P : List ℕ → Type 0 = λ l. Begins these l in
+        let P : List ℕ → Type 0 = λ l. StartsWith these l in
         subst P (sym (append_assoc xs ys rest) ∙ ap (λ l. l ++ rest) (sym e))
         (begins.makes o xs (ys ++ rest) a tt)
 
@@ -28,7 +29,7 @@ module _ {O D : Type 0} {g : Grammar ℕ O} {h : Grammar ℕ D} {text : Text ℕ
     (is : IsGrammarOf g text follow) (by : IsGrammarOf h separator between)
     (divides : InFront separator between follow) (goes_on : InFront text follow between)
     (last : (rest : List ℕ) → ends rest → follow rest)
-    (never : (rest : List ℕ) → ends rest → NoneStands (Both (λ d o. o) h g) rest) where
+    (never : (rest : List ℕ) → ends rest → NoMatch (Both (λ d o. o) h g) rest) where
   pub parted_ends_of : IsGrammarOf (Parted g h (from_to 1 None))
       (AtLeast 1 (PartedText separator text)) ends
   unfolding Parted PartedText

@@ -19,7 +19,8 @@ use Rattle.format_toml.specs.Toml.{IsBoolean, IsText, IsUnquoted}
 use Rattle.format_toml.specs.Toml.{PlainText, ScalarText, WsText, false_word, true_word}
 use Rattle.winnow.specs.Equal.{same_others}
 use Rattle.winnow.specs.Grammar.Meaning.{Meaning}
-use Rattle.winnow.specs.Texts.{Begins, BeginsIn, EitherText, InFront, IsGrammarOf, NotFirst}
+use Rattle.winnow.specs.Texts.{StartsWith, TextsStartWith, EitherText, InFront, IsGrammarOf}
+use Rattle.winnow.specs.Texts.{NotFirst}
 use Rattle.winnow.specs.Texts.{Spelled}
 use Rattle.winnow.specs.Texts.{TokenOfText}
 use Rattle.winnow.specs.Texts.Fronts.{begins_wider, either_front, front_begins, front_behind}
@@ -96,7 +97,7 @@ wide_goes rest past = (
       rest past),
 )
 
-tail_more : (tokens : List ℕ) → Begins IsTail tokens → Goes tokens
+tail_more : (tokens : List ℕ) → StartsWith IsTail tokens → Goes tokens
 tail_more tokens begins = (
   may_begin IsTail (λ c. ContinuesScalar c → ⊥) tail_goes tokens begins,
   no_time tokens (may_begin IsTail (λ c. IsSpace c → ⊥) (λ c is. (tail_is c is).1) tokens begins),
@@ -151,10 +152,10 @@ module _ {A : Type 0} where
   literal_of : IsGrammarOf (Meaning IsText (AnyLiteral {A = A})) (For IsText AnyLiteralText) Goes
   literal_of = behind_less goes_literal (for_of IsText any_literal_of)
 
-  basic_begins : BeginsIn (λ c. c ≡ 34) (For IsText (AnyBasicText {A = A}))
+  basic_begins : TextsStartWith (λ c. c ≡ 34) (For IsText (AnyBasicText {A = A}))
   basic_begins = for_front IsText any_basic_begins
 
-  literal_begins : BeginsIn (λ c. c ≡ 39) (For IsText (AnyLiteralText {A = A}))
+  literal_begins : TextsStartWith (λ c. c ≡ 39) (For IsText (AnyLiteralText {A = A}))
   literal_begins = for_front IsText any_literal_begins
 
   boolean_of : (word : List ℕ) (is : Bool)
@@ -162,7 +163,7 @@ module _ {A : Type 0} where
   boolean_of word is = for_of IsBoolean (word_of word is)
 
   boolean_begins : (first : ℕ) (word : List ℕ) (is : Bool)
-      → BeginsIn (λ c. c ≡ first) (BooleanText {A = A} (first ∷ word) is)
+      → TextsStartWith (λ c. c ≡ first) (BooleanText {A = A} (first ∷ word) is)
   boolean_begins first word is = for_front IsBoolean (spelled_begins first word is)
 
   -- ---- alternatives, by their first characters
@@ -173,7 +174,7 @@ module _ {A : Type 0} where
       led_of (boolean_of false_word false) (behind_less goes_plain plain_of)
       (boolean_begins 102 _ false) (front_begins (λ c n e. (numeric_is c n).4 e) plain_begins)
 
-  after_true_begins : BeginsIn (λ c. (42 < c) × (c < 112) × (c ≡ 91 → ⊥) × (c ≡ 93 → ⊥))
+  after_true_begins : TextsStartWith (λ c. (42 < c) × (c < 112) × (c ≡ 91 → ⊥) × (c ≡ 93 → ⊥))
       (EitherText (BooleanText {A = A} false_word false) PlainText)
   after_true_begins =
       either_front (begins_wider (λ c e. omega (arith, e)) (boolean_begins 102 _ false))
@@ -187,7 +188,7 @@ module _ {A : Type 0} where
       led_of (boolean_of true_word true) after_true_of (boolean_begins 116 _ true)
       (front_begins (λ c a e. absurd (omega (arith, a.1, e))) after_true_begins)
 
-  after_literal_begins : BeginsIn (Above 42) (EitherText (BooleanText {A = A} true_word true)
+  after_literal_begins : TextsStartWith (Above 42) (EitherText (BooleanText {A = A} true_word true)
       (EitherText (BooleanText false_word false) PlainText))
   after_literal_begins =
       either_front (begins_wider (λ c e. omega (arith, e)) (boolean_begins 116 _ true))
@@ -209,7 +210,7 @@ module _ {A : Type 0} where
       led_of literal_of after_literal_of literal_begins
       (front_begins (λ c a e. absurd (omega (arith, a.0, e))) after_literal_begins)
 
-  after_basic_begins : BeginsIn (Above 38) (EitherText (For IsText (AnyLiteralText {A = A}))
+  after_basic_begins : TextsStartWith (Above 38) (EitherText (For IsText (AnyLiteralText {A = A}))
       (EitherText (BooleanText true_word true)
       (EitherText (BooleanText false_word false) PlainText)))
   after_basic_begins =
@@ -221,7 +222,7 @@ module _ {A : Type 0} where
       led_of basic_of after_basic_of basic_begins
       (front_begins (λ c a e. absurd (omega (arith, a.0, e))) after_basic_begins)
 
-  pub scalar_begins : BeginsIn (Above 33) (ScalarText {A = A})
+  pub scalar_begins : TextsStartWith (Above 33) (ScalarText {A = A})
   scalar_begins =
       either_front (begins_wider (λ c e. omega (arith, e)) basic_begins)
       (begins_wider (λ c a. (omega (arith, a.0), a.1, a.2, a.3, a.4)) after_basic_begins)

@@ -13,7 +13,8 @@ use Rattle.format_toml.specs.Toml.{CommentText, GapPartText, GapText, Gapped, Is
 use Rattle.format_toml.specs.Toml.{NewlineText, SetResult, Spaced, WideMarkText, WsText}
 use Rattle.format_toml.specs.declared.characters.Characters.TheVariants.{Comment, White}
 use Rattle.winnow.specs.Grammar.{Both, Grammar, Optional}
-use Rattle.winnow.specs.Texts.{Anything, BeginsIn, BothText, InFront, IsGrammarOf, MayBegin}
+use Rattle.winnow.specs.Texts.{Anything, TextsStartWith, BothText, InFront, IsGrammarOf}
+use Rattle.winnow.specs.Texts.{MayStartWith}
 use Rattle.winnow.specs.Texts.{NotFirst, OptionalText, Text}
 use Rattle.winnow.specs.Texts.Fronts.{begins_wider, both_front, each_front, either_front, front_any}
 use Rattle.winnow.specs.Texts.Fronts.{front_begins, front_behind, gathered_front, may_begin_more}
@@ -48,7 +49,7 @@ ws_front {these} {behind} apart not = record { makes = λ slice xs rest x b. fir
 pub mark_of : (c : ℕ) → IsGrammarOf (Mark c) (MarkText c) (NotFirst IsSpace)
 mark_of c = both_of pair (char_of c) ws_of front_any
 
-pub mark_begins : (c : ℕ) → BeginsIn (λ x. x ≡ c) (MarkText c)
+pub mark_begins : (c : ℕ) → TextsStartWith (λ x. x ≡ c) (MarkText c)
 mark_begins c = both_front pair (spelled_begins c [] c) front_any
 
 -- neither white space nor one of these
@@ -62,8 +63,8 @@ spaced_of {these = these} front is =
     both_of former is (behind_less
     (not_first IsSpace (λ c. IsSpace c ⊎ these c) (λ c s. inl s)) ws_of) front
 
-pub spaced_begins : {O : Type 0} {text : Text ℕ O} {these : ℕ → Type 0} → BeginsIn these text
-    → BeginsIn these (Spaced text)
+pub spaced_begins : {O : Type 0} {text : Text ℕ O} {these : ℕ → Type 0} → TextsStartWith these text
+    → TextsStartWith these (Spaced text)
 spaced_begins begins = both_front former begins front_any
 
 -- a character that is this one is none of those
@@ -117,11 +118,11 @@ comment_of =
     (longest_of text_reading (λ c. c) SetResult Comment (from_to 0 None) 0
     refl (divides_seen (SetResult Comment) (divides_where (IsOf Comment)))) front_any
 
-pub comment_begins : BeginsIn (λ c. c ≡ 35) CommentText
+pub comment_begins : TextsStartWith (λ c. c ≡ 35) CommentText
 comment_begins = both_front latter (spelled_begins 35 [] 35) front_any
 
 pub maybe_comment_of : IsGrammarOf (Optional AnyComment) (OptionalText CommentText)
-    (MayBegin IsBreak)
+    (MayStartWith IsBreak)
 maybe_comment_of =
     optional_of (behind_less (may_begin_more IsBreak (λ c. IsOf Comment c → ⊥) break_shown)
     comment_of)
@@ -134,7 +135,7 @@ newline_of =
     (spelled_begins 10 [] 10) (both_front latter
     (front_begins (λ c e f. absurd (omega (arith, e, f))) (spelled_begins 13 [] 13)) front_any)
 
-pub newline_begins : BeginsIn IsBreak NewlineText
+pub newline_begins : TextsStartWith IsBreak NewlineText
 newline_begins =
     either_front (begins_wider (λ c e. inl e) (spelled_begins 10 [] 10))
     (both_front latter (begins_wider (λ c e. inr e) (spelled_begins 13 [] 13)) front_any)
@@ -146,7 +147,7 @@ ended_of : IsGrammarOf (Both latter (Optional AnyComment) Newline)
     (BothText latter (OptionalText CommentText) NewlineText) Anything
 ended_of = both_of latter maybe_comment_of newline_of (front_begins (λ c is. is) newline_begins)
 
-pub ended_begins : BeginsIn IsTail (BothText latter (OptionalText CommentText) NewlineText)
+pub ended_begins : TextsStartWith IsTail (BothText latter (OptionalText CommentText) NewlineText)
 ended_begins =
     both_front latter (optional_front (front_behind (λ rest b. tt)
     (begins_wider (λ c e. inl e) comment_begins))) (begins_wider (λ c is. inr is) newline_begins)
@@ -164,7 +165,7 @@ gap_part_of =
     either_apart (one_of_set White) ended_of (set_begins White)
     (front_begins (λ c t s. (tail_is c t).1 s) ended_begins)
 
-gap_part_begins : BeginsIn OpensGap GapPartText
+gap_part_begins : TextsStartWith OpensGap GapPartText
 gap_part_begins =
     either_front (begins_wider (λ c s. inl s) (set_begins White))
     (begins_wider (λ c t. inr t) ended_begins)
@@ -181,7 +182,7 @@ gap_front front = gathered_front (λ (all : ⊤) parts. ⊤) (each_front front)
 pub wide_mark_of : (c : ℕ) → IsGrammarOf (WideMark c) (WideMarkText c) (NotFirst OpensGap)
 wide_mark_of c = both_of pair (char_of c) gap_of front_any
 
-pub wide_mark_begins : (c : ℕ) → BeginsIn (λ x. x ≡ c) (WideMarkText c)
+pub wide_mark_begins : (c : ℕ) → TextsStartWith (λ x. x ≡ c) (WideMarkText c)
 wide_mark_begins c = both_front pair (spelled_begins c [] c) front_any
 
 -- neither white space over lines nor one of these
@@ -195,8 +196,8 @@ gapped_of {these = these} front is =
     both_of former is (behind_less
     (not_first OpensGap (λ c. OpensGap c ⊎ these c) (λ c s. inl s)) gap_of) front
 
-pub gapped_begins : {O : Type 0} {text : Text ℕ O} {these : ℕ → Type 0} → BeginsIn these text
-    → BeginsIn these (Gapped text)
+pub gapped_begins : {O : Type 0} {text : Text ℕ O} {these : ℕ → Type 0} → TextsStartWith these text
+    → TextsStartWith these (Gapped text)
 gapped_begins begins = both_front former begins front_any
 
 -- a character that is this one is none of those

@@ -8,7 +8,7 @@ use Rattle.format_toml.specs.Expected.{LineStands, LinesBefore, MatchesAtStart}
 use Rattle.format_toml.specs.Grammars.{Line, Newline}
 use Rattle.format_toml.specs.Unique.{line_unique}
 use Rattle.format_toml.specs.UniqueSpaces.{newline_unique}
-use Rattle.winnow.specs.Grammar.{NoneStands}
+use Rattle.winnow.specs.Grammar.{NoMatch}
 
 module _ (A : Type 0) (level : ℕ) where
   -- `IsStart text number line`: `line` is the rest of `text` after `number` lines; or it is `None`,
@@ -46,7 +46,7 @@ module _ (A : Type 0) (level : ℕ) where
       ]
 
   pub none_starts : (n m : ℕ) (text left end : List ℕ) → LinesBefore A level n text left → n < m
-      → MatchesAtStart (Line {A = A} level) left end → NoneStands Newline end → (line : List ℕ)
+      → MatchesAtStart (Line {A = A} level) left end → NoMatch Newline end → (line : List ℕ)
       → LinesBefore A level m text line → ⊥
   none_starts n m text left end here few (o, x) none line there =
       let (behind, (other, (p, z), (d, w))) = start_goes_on n m text left line here few there in

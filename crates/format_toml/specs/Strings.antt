@@ -12,10 +12,11 @@ use Rattle.format_toml.specs.Toml.{BasicText, CharacterText, CharactersText, IsO
 use Rattle.format_toml.specs.Toml.{EscapeText, IsWide, SetResult, StandsFor}
 use Rattle.format_toml.specs.declared.characters.Characters.{Characters}
 use Rattle.format_toml.specs.declared.characters.Characters.TheVariants.{Basic, Literal}
-use Rattle.winnow.specs.Grammar.{Both, NoneStands, TokenOf}
+use Rattle.winnow.specs.Grammar.{Both, NoMatch, TokenOf}
 use Rattle.winnow.specs.Grammar.Meaning.{Meaning}
 use Rattle.winnow.specs.Accumulator.Holds.{HasCharacters}
-use Rattle.winnow.specs.Texts.{Anything, AtLeast, Begins, BeginsIn, BothText, EachText, InFront}
+use Rattle.winnow.specs.Texts.{Anything, AtLeast, StartsWith, TextsStartWith, BothText, EachText}
+use Rattle.winnow.specs.Texts.{InFront}
 use Rattle.winnow.specs.Texts.{IsGrammarOf, MadeText, NotFirst, Spelled, TokenOfText}
 use Rattle.winnow.specs.Texts.Fronts.{begins_wider, both_front, either_front, front_any}
 use Rattle.winnow.specs.Texts.Fronts.{front_begins, gathered_front, may_begin, none_begins}
@@ -31,23 +32,23 @@ module _ (set : Characters) where
       Anything
   one_of_set = token_of (λ c. c) SetResult set (divides_where (IsOf set))
 
-  pub set_begins : BeginsIn (IsOf set) (TokenOfText (λ c. c) (IsOf set))
+  pub set_begins : TextsStartWith (IsOf set) (TokenOfText (λ c. c) (IsOf set))
   set_begins =
       begins_wider (λ c (k, e, is). subst (IsOf set) e is) (token_of_begins (λ c. c) (IsOf set))
 
   none_first : (rest : List ℕ) → NotFirst (IsOf set) rest
-      → NoneStands (TokenOf (λ c. c) SetResult set) rest
+      → NoMatch (TokenOf (λ c. c) SetResult set) rest
   none_first rest not = none_begins one_of_set set_begins rest not
 
-  row_begins : BeginsIn (IsOf set) (AtLeast 1 (EachText (TokenOfText (λ c. c) (IsOf set))))
+  row_begins : TextsStartWith (IsOf set) (AtLeast 1 (EachText (TokenOfText (λ c. c) (IsOf set))))
   unfolding EachText TokenOfText
   row_begins = record { makes = λ os xs rest (row, some) any. first os xs rest row some }
     where
       first : (os tokens rest : List ℕ) → EachText (TokenOfText (λ c. c) (IsOf set)) os tokens
-          → 1 ≤ length os → Begins (IsOf set) (tokens ++ rest)
+          → 1 ≤ length os → StartsWith (IsOf set) (tokens ++ rest)
       first [] tokens rest row some = absurd (omega (arith, some))
       first (o ∷ os) tokens rest (xs, ys, (is, e), more, d) some =
-          let P : List ℕ → Type 0 = λ l. Begins (IsOf set) (l ++ rest) in
+          let P : List ℕ → Type 0 = λ l. StartsWith (IsOf set) (l ++ rest) in
           subst P (sym (d ∙ ap (λ l. l ++ ys) e)) is
 
   module _ {A : Type 0} where
@@ -57,7 +58,7 @@ module _ (set : Characters) where
         gathered_of HasCharacters (many_of one_of_set (from_to least None) least refl front_any
         (λ rest b. tt) none_first)
 
-    pub characters_begin : BeginsIn (IsOf set) (CharactersText {A = A} set 1)
+    pub characters_begin : TextsStartWith (IsOf set) (CharactersText {A = A} set 1)
     characters_begin = gathered_front HasCharacters row_begins
 
 -- ---- strings
@@ -73,11 +74,11 @@ unit_of =
     (both_of pair digit_of (both_of pair digit_of digit_of front_any)
     front_any) front_any))
 
-short_begins : BeginsIn (λ c. (c ≡ 117 → ⊥) × (c ≡ 85 → ⊥)) (For StandsFor Whichever)
+short_begins : TextsStartWith (λ c. (c ≡ 117 → ⊥) × (c ≡ 85 → ⊥)) (For StandsFor Whichever)
 unfolding MadeText Whichever
 short_begins = record {
   makes = λ k xs rest (c, e, stands) any.
-      let P : List ℕ → Type 0 = λ l. Begins (λ c. (c ≡ 117 → ⊥) × (c ≡ 85 → ⊥)) (l ++ rest) in
+      let P : List ℕ → Type 0 = λ l. StartsWith (λ c. (c ≡ 117 → ⊥) × (c ≡ 85 → ⊥)) (l ++ rest) in
       subst P (sym e) (no_u c k stands);
 }
   where
@@ -95,7 +96,7 @@ long_of : IsGrammarOf (Both latter (Char 85) (Meaning IsWide WideUnits))
 long_of =
     both_of latter (char_of 85) (for_of IsWide (both_of pair unit_of unit_of front_any)) front_any
 
-long_begins : BeginsIn (λ c. c ≡ 85)
+long_begins : TextsStartWith (λ c. c ≡ 85)
     (BothText latter (One 85) (For IsWide (BothText pair UnitText UnitText)))
 long_begins = both_front latter (spelled_begins 85 [] 85) front_any
 
@@ -117,18 +118,18 @@ character_of =
     (both_front latter (front_begins (λ c e is. is.1.1 e) (spelled_begins 92 [] 92)) front_any)
 
 -- no character begins with a quotation mark
-pub character_begins : BeginsIn (λ c. c ≡ 34 → ⊥) CharacterText
+pub character_begins : TextsStartWith (λ c. c ≡ 34 → ⊥) CharacterText
 character_begins =
     either_front (begins_wider (λ c is. is.1.0) (set_begins Basic))
     (both_front latter (begins_wider (λ c e q. absurd (omega (arith, e, q)))
     (spelled_begins 92 [] 92)) front_any)
 
 -- what a backslash escapes is above a space
-short_above : BeginsIn (λ c. 33 < c) (For StandsFor Whichever)
+short_above : TextsStartWith (λ c. 33 < c) (For StandsFor Whichever)
 unfolding MadeText Whichever
 short_above = record {
   makes = λ k xs rest (c, e, stands) any.
-      let P : List ℕ → Type 0 = λ l. Begins (λ c. 33 < c) (l ++ rest) in
+      let P : List ℕ → Type 0 = λ l. StartsWith (λ c. 33 < c) (l ++ rest) in
       subst P (sym e) (above c k stands);
 }
   where
@@ -141,7 +142,7 @@ short_above = record {
     above c k (inr (inr (inr (inr (inr (inl x)))))) = omega (arith, x.0)
     above c k (inr (inr (inr (inr (inr (inr x)))))) = omega (arith, x.0)
 
-escape_above : BeginsIn (λ c. 33 < c) EscapeText
+escape_above : TextsStartWith (λ c. 33 < c) EscapeText
 escape_above =
     either_front (begins_wider (λ c e. omega (arith, e))
     (both_front latter (spelled_begins 117 [] 117) front_any))
@@ -151,7 +152,7 @@ escape_above =
 abbrev pub Apart : List ℕ → Type 0
 Apart tokens =
     NotFirst (λ c. c ≡ 92) tokens
-    ⊎ ((rest : List ℕ) × (tokens ≡ 92 ∷ rest) × Begins (λ c. 33 < c) rest)
+    ⊎ ((rest : List ℕ) × (tokens ≡ 92 ∷ rest) × StartsWith (λ c. 33 < c) rest)
 
 plain_apart : InFront (TokenOfText (λ c. c) (IsOf Basic)) Anything Apart
 plain_apart = record {
@@ -159,7 +160,7 @@ plain_apart = record {
       (xs ++ rest) ((set_begins Basic).makes o xs rest t any));
 }
 
-backslash_apart : InFront (One 92) (Begins (λ c. 33 < c)) Apart
+backslash_apart : InFront (One 92) (StartsWith (λ c. 33 < c)) Apart
 unfolding Spelled
 backslash_apart = record {
   makes = λ o xs rest (is, e) b. inr (rest, ap (λ l. l ++ rest) e, b);
@@ -168,7 +169,7 @@ backslash_apart = record {
 pub character_apart : InFront CharacterText Anything Apart
 character_apart = either_front plain_apart (both_front latter backslash_apart escape_above)
 
-none_quoted : (tokens : List ℕ) → Begins (λ c. c ≡ 34) tokens → NoneStands Character tokens
+none_quoted : (tokens : List ℕ) → StartsWith (λ c. c ≡ 34) tokens → NoMatch Character tokens
 none_quoted tokens b =
     none_begins character_of character_begins tokens
     (may_begin (λ c. c ≡ 34) (λ c. (c ≡ 34 → ⊥) → ⊥) (λ c e not. not e) tokens b)
@@ -185,8 +186,8 @@ module _ {A : Type 0} where
       between_of (char_of 39) (characters_of Literal 0) (char_of 39) front_any
       (front_begins (λ c e is. is.1 e) (spelled_begins 39 [] 39))
 
-  pub basic_string_begins : BeginsIn (λ c. c ≡ 34) (BasicText {A = A})
+  pub basic_string_begins : TextsStartWith (λ c. c ≡ 34) (BasicText {A = A})
   basic_string_begins = both_front latter (spelled_begins 34 [] 34) front_any
 
-  pub literal_string_begins : BeginsIn (λ c. c ≡ 39) (LiteralText {A = A})
+  pub literal_string_begins : TextsStartWith (λ c. c ≡ 39) (LiteralText {A = A})
   literal_string_begins = both_front latter (spelled_begins 39 [] 39) front_any

@@ -17,12 +17,12 @@ use Rattle.format_toml.specs.Toml.{IsOf, IsUnquoted, SetResult}
 use Rattle.format_toml.specs.UniqueSpaces.{members_unique}
 use Rattle.format_toml.specs.declared.characters.Characters.TheVariants.{Digit, Unquoted}
 use Rattle.format_toml_tree.specs.Dates.{IsDigit}
-use Rattle.winnow.specs.Grammar.{IsUnique, Longest, NoneStands}
+use Rattle.winnow.specs.Grammar.{IsUnique, Longest, NoMatch}
 use Rattle.winnow.specs.Grammar.Sequences.{four_unique}
 use Rattle.winnow.specs.Grammar.Unique.{both_unique, optional_unique, taken_unique}
 use Rattle.winnow.specs.Range.{from_to}
 use Rattle.winnow.specs.Text.{text_reading}
-use Rattle.winnow.specs.Texts.{Anything, BeginsIn, BothText, InFront, IsGrammarOf, Members}
+use Rattle.winnow.specs.Texts.{Anything, TextsStartWith, BothText, InFront, IsGrammarOf, Members}
 use Rattle.winnow.specs.Texts.{NotFirst}
 use Rattle.winnow.specs.Texts.{OptionalText, SoManyOf, Spelled, TakenText, Text}
 use Rattle.winnow.specs.Texts.Fronts.{both_front, front_any, front_begins, front_behind}
@@ -87,7 +87,7 @@ time_of =
     (both_of to_four (char_of 32)
     (both_of pair hour_of (both_of pair (char_of 58) (run_of 0) front_any) front_any) front_any)
 
-time_begins : BeginsIn (λ c. c ≡ 32) SpacedTimeText
+time_begins : TextsStartWith (λ c. c ≡ 32) SpacedTimeText
 time_begins = both_front to_four (spelled_begins 32 [] 32) front_any
 
 -- a space, two digits, a colon, and some of these characters
@@ -170,7 +170,7 @@ time_made tokens (a, b, more, one, other, all, e) =
       ),
     )
 
-none_time : (rest : List ℕ) → NoTime rest → NoneStands SpacedTime rest
+none_time : (rest : List ℕ) → NoTime rest → NoMatch SpacedTime rest
 none_time rest never o left x =
     let (front, e, t) = time_of.there rest o left x in
     let (a, b, more, one, other, all, f) = time_is o front t in

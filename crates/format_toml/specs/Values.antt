@@ -20,8 +20,8 @@ use Rattle.format_toml.specs.Toml.{ArrayText, ArrayValuesText, Gapped, InlineTex
 use Rattle.format_toml.specs.Toml.{IsInline, MarkText, PairText, Spaced, ValueText, WideMarkText}
 use Rattle.format_toml.specs.UniqueSpaces.{wide_mark_unique}
 use Rattle.format_toml_tree.specs.declared.value.Value.{Value}
-use Rattle.winnow.specs.Grammar.{Both, Grammar, NoneStands}
-use Rattle.winnow.specs.Texts.{Anything, Begins, BeginsIn, InFront, InList, IsGrammarOf}
+use Rattle.winnow.specs.Grammar.{Both, Grammar, NoMatch}
+use Rattle.winnow.specs.Texts.{Anything, StartsWith, TextsStartWith, InFront, InList, IsGrammarOf}
 use Rattle.winnow.specs.Texts.{NotFirst, OptionalText, PartedText, Text}
 use Rattle.winnow.specs.Texts.Fronts.{begins_wider, both_front, either_front, front_any}
 use Rattle.winnow.specs.Texts.Fronts.{front_begins, front_behind, in_list_front, may_begin}
@@ -45,45 +45,45 @@ opens_gap c o g = absurd (no_gap c o g)
 -- ---- arrays
 
 module _ {A : Type 0} {g : Grammar ℕ (Value A)} {value : Text ℕ (Value A)}
-    (of : IsGrammarOf g value Goes) (opens : BeginsIn Opens value) where
+    (of : IsGrammarOf g value Goes) (opens : TextsStartWith Opens value) where
   element_of : IsGrammarOf (GappedOut g) (Gapped value) (WidePast ContinuesScalar)
   element_of = gapped_of wide_front of
 
-  element_begins : BeginsIn Opens (Gapped value)
+  element_begins : TextsStartWith Opens (Gapped value)
   element_begins = gapped_begins opens
 
   -- the rest after the values does not start with a comma and a value
   EndsValues : List ℕ → Type 0
   EndsValues rest =
-      WidePast ContinuesScalar rest × NoneStands (Both (λ d o. o) (WideMark 44) (GappedOut g)) rest
+      WidePast ContinuesScalar rest × NoMatch (Both (λ d o. o) (WideMark 44) (GappedOut g)) rest
 
-  closing_past : (rest : List ℕ) → Begins (λ c. c ≡ 93) rest → WidePast ContinuesScalar rest
+  closing_past : (rest : List ℕ) → StartsWith (λ c. c ≡ 93) rest → WidePast ContinuesScalar rest
   closing_past =
       may_begin (λ c. c ≡ 93) (λ c. OpensGap c ⊎ ContinuesScalar c → ⊥)
       (wide_past ContinuesScalar 93 (omega arith) (λ goes. (goes_is 93 goes).3 refl))
 
-  closing_gap : (rest : List ℕ) → Begins (λ c. c ≡ 93) rest → NotFirst OpensGap rest
+  closing_gap : (rest : List ℕ) → StartsWith (λ c. c ≡ 93) rest → NotFirst OpensGap rest
   closing_gap =
       may_begin (λ c. c ≡ 93) (λ c. OpensGap c → ⊥)
       (λ c e gap. absurd (omega (arith, e, gap_is c gap)))
 
-  closing_comma : (rest : List ℕ) → Begins (λ c. c ≡ 93) rest → NoneStands (WideMark 44) rest
+  closing_comma : (rest : List ℕ) → StartsWith (λ c. c ≡ 93) rest → NoMatch (WideMark 44) rest
   closing_comma rest b =
       none_begins (wide_mark_of 44) (wide_mark_begins 44) rest
       (may_begin (λ c. c ≡ 93) (λ c. c ≡ 44 → ⊥) (λ c e f. absurd (omega (arith, e, f))) rest b)
 
-  closing_value : (rest : List ℕ) → Begins (λ c. c ≡ 93) rest → NoneStands (GappedOut g) rest
+  closing_value : (rest : List ℕ) → StartsWith (λ c. c ≡ 93) rest → NoMatch (GappedOut g) rest
   closing_value rest b =
       none_begins element_of element_begins rest
       (may_begin (λ c. c ≡ 93) (λ c. Opens c → ⊥) (λ c e o. o.2 e) rest b)
 
   -- a comma that is the last, or none
-  last_front : InFront (OptionalText (WideMarkText 44)) (Begins (λ c. c ≡ 93)) EndsValues
+  last_front : InFront (OptionalText (WideMarkText 44)) (StartsWith (λ c. c ≡ 93)) EndsValues
   unfolding EndsValues OptionalText Both
   last_front = record { makes = makes }
     where
       makes : (o : Option _) (xs rest : List ℕ) → OptionalText (WideMarkText 44) o xs
-          → Begins (λ c. c ≡ 93) rest → EndsValues (xs ++ rest)
+          → StartsWith (λ c. c ≡ 93) rest → EndsValues (xs ++ rest)
       makes None xs rest e b =
           let P : List ℕ → Type 0 = λ l. EndsValues (l ++ rest) in
           subst P (sym e) (
@@ -102,7 +102,7 @@ module _ {A : Type 0} {g : Grammar ℕ (Value A)} {value : Text ℕ (Value A)}
             closing_value rest b element other (subst P same y),
       )
 
-  values_of : IsGrammarOf (ArrayValues g) (ArrayValuesText value) (Begins (λ c. c ≡ 93))
+  values_of : IsGrammarOf (ArrayValues g) (ArrayValuesText value) (StartsWith (λ c. c ≡ 93))
   unfolding EndsValues
   values_of =
       both_of former (list_of (parted_ends_of element_of (wide_mark_of 44)
@@ -112,7 +112,7 @@ module _ {A : Type 0} {g : Grammar ℕ (Value A)} {value : Text ℕ (Value A)}
       (λ rest ends. ends.0) (λ rest ends. ends.1)))
       (optional_of (behind_less closing_gap (wide_mark_of 44)) closing_comma) last_front
 
-  values_begins : BeginsIn Opens (ArrayValuesText value)
+  values_begins : TextsStartWith Opens (ArrayValuesText value)
   values_begins = both_front former
       (in_list_front (joined_begins (WideMarkText 44) element_begins)) front_any
 
@@ -129,15 +129,15 @@ module _ {A : Type 0} {g : Grammar ℕ (Value A)} {value : Text ℕ (Value A)}
 
 -- elements, and what closes, are in front of no white space
 commas_front : {O A : Type 0} {element : Text ℕ O} (closing : ℕ) → 32 < closing
-    → BeginsIn (λ c. 32 < c) element
-    → InFront (InList {A = A} (PartedText (MarkText 44) element)) (Begins (λ c. c ≡ closing))
+    → TextsStartWith (λ c. 32 < c) element
+    → InFront (InList {A = A} (PartedText (MarkText 44) element)) (StartsWith (λ c. c ≡ closing))
     (NotFirst IsSpace)
 unfolding InList PartedText
 commas_front {O} {A} {element} closing above begins =
     record { makes = λ list xs rest x b. first list.items xs rest x b }
   where
     first : (os : List O) (tokens rest : List ℕ) → PartedText (MarkText 44) element os tokens
-        → Begins (λ c. c ≡ closing) rest → NotFirst IsSpace (tokens ++ rest)
+        → StartsWith (λ c. c ≡ closing) rest → NotFirst IsSpace (tokens ++ rest)
     first [] tokens rest e b =
         let P : List ℕ → Type 0 = λ l. NotFirst IsSpace (l ++ rest) in
         subst P (sym e) (may_begin (λ c. c ≡ closing) (λ c. IsSpace c → ⊥)
@@ -149,7 +149,7 @@ commas_front {O} {A} {element} closing above begins =
         (begins.makes o xs (ys ++ rest) a tt))
 
 module _ {A : Type 0} {g : Grammar ℕ (Value A)} {value : Text ℕ (Value A)}
-    (of : IsGrammarOf g value Goes) (opens : BeginsIn Opens value) where
+    (of : IsGrammarOf g value Goes) (opens : TextsStartWith Opens value) where
   spaced_pair_of : IsGrammarOf (SpacedOut (Pair g)) (Spaced (PairText value)) (Past ContinuesScalar)
   spaced_pair_of =
       spaced_of white_front
@@ -180,14 +180,14 @@ module _ {A : Type 0} {g : Grammar ℕ (Value A)} {value : Text ℕ (Value A)}
 
 module _ {A : Type 0} where
   array_begins : (value : Text ℕ (Value A))
-      → BeginsIn (λ c. c ≡ 91) (For IsArray (ArrayText value))
+      → TextsStartWith (λ c. c ≡ 91) (For IsArray (ArrayText value))
   array_begins value = for_front IsArray (both_front latter (wide_mark_begins 91) front_any)
 
   inline_begins : (value : Text ℕ (Value A))
-      → BeginsIn (λ c. c ≡ 123) (For IsInline (InlineText value))
+      → TextsStartWith (λ c. c ≡ 123) (For IsInline (InlineText value))
   inline_begins value = for_front IsInline (both_front latter (mark_begins 123) front_any)
 
-  pub value_begins : (level : ℕ) → BeginsIn Opens (ValueText {A = A} level)
+  pub value_begins : (level : ℕ) → TextsStartWith Opens (ValueText {A = A} level)
   unfolding ValueText
   value_begins zero = begins_wider (λ c a. (a.0, a.4, a.3)) scalar_begins
   value_begins (suc level) =

@@ -6,7 +6,7 @@ ghost use Rattle.format_toml.specs.Expected.{DoubleLacks, EntryLacks, HasMatch, 
 ghost use Rattle.format_toml.specs.Expected.{IsFirstLack, IsLack, IsLine, ItemLacks, ItemWhole};
 ghost use Rattle.format_toml.specs.Expected.{Lacks, MatchesAtStart, TableLacks};
 ghost use Rattle.format_toml.specs.Grammars.{DoubleHeader, Entry, Header, Line, Newline, Table};
-ghost use Rattle.winnow.specs.Grammar.{Both, NoneStands};
+ghost use Rattle.winnow.specs.Grammar.{Both, NoMatch};
 ghost use Rattle.winnow.specs.Texts.{NotFirst};
 
 use crate::passed::{
@@ -216,7 +216,7 @@ fn lack_of_line<'i, A: Allocator + Copy>(
 ) -> Result<Lack<'i>, ErrMode<EmptyError>>
     requires stands { MatchesAtStart (Line {A = A} level) (chars line.now) (chars end.now) }
     requires some { chars end.now ≡ [] → ⊥ }
-    requires none { NoneStands Newline (chars end.now) }
+    requires none { NoMatch Newline (chars end.now) }
     ensures { IfOk result (λ l. Lacks A level (chars line.now) l.expected (chars l.rest.now)) }
 {
     match lack_of_item(alloc, level, line)? {

@@ -7,11 +7,11 @@
 //!
 //! ```
 //! use format_toml::lines::parse_lines;
-//! use format_toml::values::SAFE_LEVEL;
+//! use format_toml::values::SAFE_DEPTH;
 //! use format_toml_tree::build::build;
 //!
 //! let text = "[server]\nhost = \"a\"\nports = [80, 443]\n";
-//! let Ok(lines) = parse_lines(alloc, SAFE_LEVEL, text) else {
+//! let Ok(lines) = parse_lines(alloc, SAFE_DEPTH, text) else {
 //!     return;
 //! };
 //! let Ok(tree) = build(alloc, lines.as_slice()) else {

@@ -4,7 +4,7 @@ ghost use Rattle.std.specs.Str.{chars};
 ghost use Rattle.format_parts.specs.Words.{Char};
 ghost use Rattle.format_toml.specs.Expected.{IsPast, MatchesAtStart};
 ghost use Rattle.format_toml.specs.Grammars.{AnyKey, AnyValue, Header, Line, Mark, Newline, Ws};
-ghost use Rattle.winnow.specs.Grammar.{NoneStands};
+ghost use Rattle.winnow.specs.Grammar.{NoMatch};
 
 use crate::keys::{Headers, Keys, read_header, read_key};
 use crate::lines::{AnyLine, read_line};
@@ -124,7 +124,7 @@ pub fn lacks_value<'i, A: Allocator + Copy>(
     text: &'i str,
 ) -> Result<bool, ErrMode<EmptyError>>
     ensures none { IfOk result (λ o. IsTrue o
-        → NoneStands (AnyValue {A = A} level) (chars text.now)) }
+        → NoMatch (AnyValue {A = A} level) (chars text.now)) }
     ensures some { IfOk result (λ o. o ≡ false
         → (rest : List ℕ) × MatchesAtStart (AnyValue {A = A} level) (chars text.now) rest) }
 {

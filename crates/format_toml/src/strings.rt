@@ -4,7 +4,7 @@ ghost use Rattle.std.specs.Str.{chars};
 ghost use Rattle.winnow.specs.Text.{text_input, text_reading};
 ghost use Rattle.format_toml.specs.Grammars.{BasicString, LiteralString};
 ghost use Rattle.winnow.specs.Exact.{Reads};
-ghost use Rattle.winnow.specs.Texts.{Begins, NotFirst};
+ghost use Rattle.winnow.specs.Texts.{StartsWith, NotFirst};
 
 use crate::characters::Characters;
 use crate::escapes::{AnyCharacter, read_character};
@@ -18,7 +18,7 @@ use winnow::token::one_of;
 
 /// Whether this character is first.
 pub fn begins_with(input: &str, first: char) -> bool
-    ensures yes { IsTrue result → Begins (λ c. c ≡ first) (chars input.now) }
+    ensures yes { IsTrue result → StartsWith (λ c. c ≡ first) (chars input.now) }
     ensures no { result ≡ false → NotFirst (λ c. c ≡ first) (chars input.now) }
 {
     match input.chars().next() {

@@ -28,11 +28,11 @@ use winnow::exact::Rule;
 /// Otherwise a deeply nested text can overflow the stack, which stops the program.
 ///
 /// ```
-/// use format_toml::values::{SAFE_LEVEL, read_value};
+/// use format_toml::values::{SAFE_DEPTH, read_value};
 ///
-/// assert!(rt; read_value(alloc, SAFE_LEVEL, &mut "[[1], {a = 2}]").is_ok());
+/// assert!(rt; read_value(alloc, SAFE_DEPTH, &mut "[[1], {a = 2}]").is_ok());
 /// ```
-pub const SAFE_LEVEL: usize = 128;
+pub const SAFE_DEPTH: usize = 128;
 
 /// The name of what [`read_value`] reads.
 #[derive(Clone, Copy, Drop)]
@@ -67,7 +67,7 @@ impl<'i, A: Allocator> Rule<&'i str, (Key<A>, Value<A>)> for Entries<A> {
 }
 
 /// Parses a value whose arrays and inline tables are nested at most `level` deep. Each level uses
-/// some of the stack: up to [`SAFE_LEVEL`] two megabytes suffice.
+/// some of the stack: up to [`SAFE_DEPTH`] two megabytes suffice.
 ///
 /// On success the input is left after the value. Backtracks if the input does not start with a
 /// value of the level, and fails with out of memory if an allocation fails; then the input is a

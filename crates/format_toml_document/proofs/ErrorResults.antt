@@ -1,4 +1,4 @@
--- Lemmas about the position and the contents of a `Fault`.
+-- Lemmas about the position and the contents of a `TomlError`.
 use Rattle.std.specs.Prelude.{◌≡◌, ◌⊎◌, ◌-◌, ℕ, List, [], ◌++◌, Option, Some, length, take}
 use Rattle.std.specs.Prelude.{Err, IfOk, Ok, Result}
 use Rattle.std.specs.Borrow.{Bor}
@@ -16,13 +16,13 @@ use Rattle.format_toml.specs.declared.expected.Lack.{Lack}
 use Rattle.format_toml_document.specs.Fault.{IsAfter, IsDocument, IsLack}
 use Rattle.format_toml_document.specs.Fault.{IsLocation}
 use Rattle.format_toml_document.specs.Fault.{IsErrorOf, IsRefusal}
-use Rattle.format_toml_document.specs.declared.fault.Fault.{Fault}
-use Rattle.format_toml_document.specs.declared.fault.Fault.TheVariants as faults
+use Rattle.format_toml_document.specs.declared.fault.TomlError.{TomlError}
+use Rattle.format_toml_document.specs.declared.fault.TomlError.TheVariants as faults
 use Rattle.format_toml_document.specs.declared.fault.Location.{Location}
 use Rattle.format_toml_tree.specs.Runs.{Gives, empty}
-use Rattle.format_toml_tree.specs.declared.build.Fault.{Fault as BuildFault}
-use Rattle.format_toml_tree.specs.declared.build.Fault.TheVariants as built
-use Rattle.format_toml_tree.specs.declared.roles.Refusal.{Refusal}
+use Rattle.format_toml_tree.specs.declared.build.TreeError.{TreeError}
+use Rattle.format_toml_tree.specs.declared.build.TreeError.TheVariants as built
+use Rattle.format_toml_tree.specs.declared.roles.Reason.{Reason}
 use Rattle.format_toml_tree.specs.declared.tree.Tree.{Tree}
 use Rattle.format_toml_tree.specs.declared.value.Item.{Item}
 use Rattle.winnow.specs.Grammar.Unique.{end_of_end}
@@ -64,39 +64,39 @@ module _ (A : Type 0) (level : ℕ) (text : List ℕ) where
       (lack_end A level line lack.expected rest lacks) in
       (n, line, lack.rest.now, before, lacks, after front e)
 
-  pub refusal_told : (n : ℕ) (why : Refusal) (rest : Bor (List ℕ)) (at : Location)
+  pub refusal_told : (n : ℕ) (why : Reason) (rest : Bor (List ℕ)) (at : Location)
       → IsStart A level (chars text) n (Some rest)
       → ((front : List ℕ) → chars text ≡ front ++ chars rest.now → IsAfter text rest.now at)
-      → IsRefusal A level text (built.Refused n why) (faults.Refused at why)
+      → IsRefusal A level text (built.Invalid n why) (faults.Invalid at why)
   refusal_told n why rest at start after =
       let (front, e) = line_end A level n (chars text) (chars rest.now) start in
       (n, refl, rest.now, start, after front e)
 
-  pub lines_told : (lines : Vec (Option (Item A)) A) (fault : BuildFault) (told : Fault)
+  pub lines_told : (lines : Vec (Option (Item A)) A) (fault : TreeError) (told : TomlError)
       → DocumentText level lines (chars text)
-      → ((n : ℕ) (why : Refusal) → fault ≡ built.Refused n why
+      → ((n : ℕ) (why : Reason) → fault ≡ built.Invalid n why
       → Gives (empty, []) 0 lines.items (Err (n, why)))
       → IsRefusal A level text fault told → IsErrorOf A level text told
-  lines_told lines fault (faults.Refused at why) stands refused (n, is, rest, before, after) =
+  lines_told lines fault (faults.Invalid at why) stands refused (n, is, rest, before, after) =
       (lines, stands, (n, refused n why is, (rest, before, after)))
   lines_told lines fault (faults.Unexpected at expected) stands refused never = absurd never
   lines_told lines fault (faults.NotUtf8 at) stands refused never = absurd never
   lines_told lines fault faults.OutOfMemory stands refused told = tt
 
   -- a text is its bytes
-  pub document_told : (bytes : List ℕ) (result : Result (Tree A) Fault) → IsUtf8 bytes
+  pub document_told : (bytes : List ℕ) (result : Result (Tree A) TomlError) → IsUtf8 bytes
       → text ≡ bytes → IfOk result (λ tree. IsDocument A level text tree)
       → IfOk result (λ tree. IsUtf8 bytes × IsDocument A level bytes tree)
   document_told bytes (Ok tree) utf8 e stands =
       let P : List ℕ → Type 0 = λ l. IsDocument A level l tree in (utf8, subst P e stands)
   document_told bytes (Err fault) utf8 e stands = tt
 
-  pub document_faults : (tree : Tree A) (fault : Fault) → IsUtf8 text
+  pub document_faults : (tree : Tree A) (fault : TomlError) → IsUtf8 text
       → IsDocument A level text tree → IsErrorOf A level text fault
       → (fault ≡ faults.OutOfMemory)
-      ⊎ ((at : Location) × (why : Refusal) × (fault ≡ faults.Refused at why))
+      ⊎ ((at : Location) × (why : Reason) × (fault ≡ faults.Invalid at why))
   document_faults tree (faults.Unexpected at expected) utf8 (lines, stands, given) told =
       absurd (told.0 lines stands)
-  document_faults tree (faults.Refused at why) utf8 is told = inr (at, why, refl)
+  document_faults tree (faults.Invalid at why) utf8 is told = inr (at, why, refl)
   document_faults tree (faults.NotUtf8 at) utf8 is told = absurd (told.0 utf8)
   document_faults tree faults.OutOfMemory utf8 is told = inl refl

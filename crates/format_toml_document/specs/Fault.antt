@@ -1,17 +1,17 @@
--- The definition of a document, and of the `Fault` of a text.
+-- The definition of a document, and of the `TomlError` of a text.
 use Rattle.std.specs.Prelude.{◌≡◌, ◌++◌, ℕ, List, [], Option, Some, None, Ok, Err, length, take, ⊤}
 use Rattle.std.specs.Str.{IsCharBoundary, IsUtf8, chars}
 use Rattle.std.specs.Str.Lossy.{utf8_valid_len}
 use Rattle.std.specs.declared.vec.Vec.{Vec}
 use Rattle.format_toml.specs.Expected.{Lacks, LinesBefore}
 use Rattle.format_toml.specs.Toml.{DocumentText}
-use Rattle.format_toml_document.specs.declared.fault.Fault.{Fault}
-use Rattle.format_toml_document.specs.declared.fault.Fault.TheVariants as faults
+use Rattle.format_toml_document.specs.declared.fault.TomlError.{TomlError}
+use Rattle.format_toml_document.specs.declared.fault.TomlError.TheVariants as faults
 use Rattle.format_toml_document.specs.declared.fault.Location.{Location}
 use Rattle.format_toml_tree.specs.Holds.{HoldsTree}
 use Rattle.format_toml_tree.specs.Runs.{Gives, Tree as Given, empty}
-use Rattle.format_toml_tree.specs.declared.build.Fault.{Fault as BuildFault}
-use Rattle.format_toml_tree.specs.declared.build.Fault.TheVariants as built
+use Rattle.format_toml_tree.specs.declared.build.TreeError.{TreeError}
+use Rattle.format_toml_tree.specs.declared.build.TreeError.TheVariants as built
 use Rattle.format_toml_tree.specs.declared.tree.Tree.{Tree}
 use Rattle.format_toml_tree.specs.declared.value.Item.{Item}
 use Rattle.winnow.specs.Position.{IsPosition}
@@ -29,14 +29,14 @@ IsAfter text rest at =
     (before : List ℕ) × (text ≡ before ++ rest) × IsUtf8 before × (at.offset ≡ length before)
     × IsPosition (chars before) at.line at.column
 
-abbrev pub location_of : Fault → Option Location
+abbrev pub location_of : TomlError → Option Location
 location_of (faults.Unexpected at expected) = Some at
-location_of (faults.Refused at why) = Some at
+location_of (faults.Invalid at why) = Some at
 location_of (faults.NotUtf8 at) = Some at
 location_of faults.OutOfMemory = None
 
 -- The bytes are no UTF-8, and the place is the end of the longest front that is.
-abbrev pub IsBroken : List ℕ → Fault → Type 0
+abbrev pub IsBroken : List ℕ → TomlError → Type 0
 IsBroken bytes (faults.NotUtf8 at) =
     (IsUtf8 bytes → ⊥) × (at.offset ≡ utf8_valid_len bytes)
     × IsPosition (chars (take (utf8_valid_len bytes) bytes)) at.line at.column
@@ -51,7 +51,7 @@ module _ (A : Type 0) (level : ℕ) (text : List ℕ) where
       × HoldsTree tree.slots.items given)
 
   -- The missing part of the first line that is not TOML, at this position.
-  abbrev pub IsLack : Fault → Type 0
+  abbrev pub IsLack : TomlError → Type 0
   IsLack (faults.Unexpected at expected) =
       (n : ℕ) × (line : List ℕ) × (rest : List ℕ) × LinesBefore A level n (chars text) line
       × Lacks A level line expected (chars rest) × IsAfter text rest at
@@ -59,9 +59,9 @@ module _ (A : Type 0) (level : ℕ) (text : List ℕ) where
   IsLack other = ⊥
 
   -- The rejection of a line, at the position where it starts.
-  abbrev pub IsRefusal : BuildFault → Fault → Type 0
-  IsRefusal fault (faults.Refused at why) =
-      (n : ℕ) × (fault ≡ built.Refused n why) × (rest : List ℕ)
+  abbrev pub IsRefusal : TreeError → TomlError → Type 0
+  IsRefusal fault (faults.Invalid at why) =
+      (n : ℕ) × (fault ≡ built.Invalid n why) × (rest : List ℕ)
       × LinesBefore A level n (chars text) (chars rest) × IsAfter text rest at
   IsRefusal fault faults.OutOfMemory = ⊤
   IsRefusal fault other = ⊥
@@ -69,11 +69,11 @@ module _ (A : Type 0) (level : ℕ) (text : List ℕ) where
   -- Why a text is not a document. It is not lines: the missing part of the first that is not TOML.
   -- Or it is lines: the first that the standard rejects, and why. Or it is not UTF-8: its longest
   -- prefix that is.
-  abbrev pub IsErrorOf : Fault → Type 0
+  abbrev pub IsErrorOf : TomlError → Type 0
   IsErrorOf (faults.Unexpected at expected) =
       ((lines : Vec (Option (Item A)) A) → DocumentText level lines (chars text) → ⊥)
       × IsLack (faults.Unexpected at expected)
-  IsErrorOf (faults.Refused at why) =
+  IsErrorOf (faults.Invalid at why) =
       (lines : Vec (Option (Item A)) A) × DocumentText level lines (chars text)
       × ((n : ℕ) × Gives (empty, []) 0 lines.items (Err (n, why))
       × ((rest : List ℕ) × LinesBefore A level n (chars text) (chars rest)

@@ -7,7 +7,7 @@ ghost use Rattle.format_toml_document.specs.Fault.{IsRefusal, location_of};
 use format_toml::expected::{Expected, first_lack};
 use format_toml::starts::line_start;
 use format_toml_tree::build;
-use format_toml_tree::roles::Refusal;
+use format_toml_tree::roles::Reason;
 use std::alloc::Allocator;
 use std::error::Error;
 use std::fmt;
@@ -17,11 +17,11 @@ use winnow::stream::{Excerpt, position_in};
 /// A place in a text.
 ///
 /// ```
-/// use format_toml_document::{Document, Fault, from_text};
+/// use format_toml_document::{Document, TomlError, from_text};
 ///
 /// let mut document = Document::new(alloc);
-/// if let Err(Fault::Unexpected { at, .. }) = from_text(alloc, 1, "a = 1\nb 2", &mut document) {
-///     assert_eq!(rt; (at.offset, at.line, at.column), (8, 2, 3));
+/// if let Err(TomlError::Unexpected { at, .. }) = from_text(alloc, 1, "a = 1\nb 2", &mut document)
+/// {     assert_eq!(rt; (at.offset, at.line, at.column), (8, 2, 3));
 /// }
 /// ```
 #[derive(Clone, Copy, Debug, PartialEq, Eq, Drop)]
@@ -53,7 +53,7 @@ impl Display for Location {
 /// assert!(rt; matches!(said, Ok(said) if said.as_str() == "line 2, column 6: expected `=`"));
 /// ```
 #[derive(Clone, Copy, Debug, PartialEq, Eq, Drop)]
-pub enum Fault {
+pub enum TomlError {
     /// The text is not lines of TOML. The input at the position is not the expected one.
     Unexpected {
         /// The place, in the first line that is none.
@@ -63,11 +63,11 @@ pub enum Fault {
         expected: Expected,
     },
     /// The text is lines of TOML, and the standard rejects the statement of one of them.
-    Refused {
+    Invalid {
         /// Where the first such line begins.
         at: Location,
         /// The reason for the rejection.
-        why: Refusal,
+        why: Reason,
     },
     /// The bytes are no UTF-8.
     NotUtf8 {
@@ -78,7 +78,7 @@ pub enum Fault {
     OutOfMemory,
 }
 
-impl Fault {
+impl TomlError {
     /// Returns the position at which the text is not a document, or `None` if memory allocation
     /// failed.
     ///
@@ -94,10 +94,10 @@ impl Fault {
         ensures { result ≡ location_of self.now }
     {
         match *self {
-            Fault::Unexpected { at, .. } | Fault::Refused { at, .. } | Fault::NotUtf8 { at } => {
-                Some(at)
-            }
-            Fault::OutOfMemory => None,
+            TomlError::Unexpected { at, .. }
+            | TomlError::Invalid { at, .. }
+            | TomlError::NotUtf8 { at } => { Some(at) }
+            TomlError::OutOfMemory => None,
         }
     }
 
@@ -127,15 +127,15 @@ impl Fault {
     /// Writes the reason, without the position.
     fn write_why<W: fmt::Write>(&self, f: &mut Formatter<W>) -> fmt::Result {
         match *self {
-            Fault::Unexpected { expected, .. } => write!(f, "expected {expected}"),
-            Fault::Refused { why, .. } => write!(f, "{why}"),
-            Fault::NotUtf8 { .. } => f.write_str("invalid UTF-8"),
-            Fault::OutOfMemory => f.write_str("out of memory"),
+            TomlError::Unexpected { expected, .. } => write!(f, "expected {expected}"),
+            TomlError::Invalid { why, .. } => write!(f, "{why}"),
+            TomlError::NotUtf8 { .. } => f.write_str("invalid UTF-8"),
+            TomlError::OutOfMemory => f.write_str("out of memory"),
         }
     }
 }
 
-impl Display for Fault {
+impl Display for TomlError {
     fn fmt<W: fmt::Write>(&self, f: &mut Formatter<W>) -> fmt::Result {
         if let Some(at) = self.location() {
             write!(f, "{at}: ")?;
@@ -144,16 +144,16 @@ impl Display for Fault {
     }
 }
 
-impl Error for Fault {}
+impl Error for TomlError {}
 
 /// An error together with its text.
 ///
 /// It is displayed as the line of the text, a caret under the position, and the reason. If the text
-/// has a line feed, the line and the column precede these. [`Fault::OutOfMemory`] is displayed as
-/// only the reason.
+/// has a line feed, the line and the column precede these. [`TomlError::OutOfMemory`] is displayed
+/// as only the reason.
 #[derive(Clone, Copy, Debug, Drop)]
 pub struct Shown<'t> {
-    fault: Fault,
+    fault: TomlError,
     text: &'t [u8],
 }
 
@@ -187,48 +187,48 @@ fn located_at(bytes: &[u8], offset: usize) -> Location
     }
 }
 
-/// Returns the [`Fault`] of a text that is not lines of TOML.
-pub(crate) fn fault_of_text<A: Allocator + Copy>(alloc: A, level: usize, text: &str) -> Fault
+/// Returns the [`TomlError`] of a text that is not lines of TOML.
+pub(crate) fn fault_of_text<A: Allocator + Copy>(alloc: A, level: usize, text: &str) -> TomlError
     ensures { IsLack A level text.now result }
 {
     match first_lack(alloc, level, text) {
-        Ok(Some(lack)) => Fault::Unexpected {
+        Ok(Some(lack)) => TomlError::Unexpected {
             at: located(text, lack.rest),
             expected: lack.expected,
         },
-        Ok(None) | Err(_) => Fault::OutOfMemory,
+        Ok(None) | Err(_) => TomlError::OutOfMemory,
     }
 }
 
-/// Returns the [`Fault`] of a text whose lines have no tree.
+/// Returns the [`TomlError`] of a text whose lines have no tree.
 pub(crate) fn fault_of_build<A: Allocator + Copy>(
     alloc: A,
     level: usize,
     text: &str,
-    fault: build::Fault,
-) -> Fault
+    fault: build::TomlError,
+) -> TomlError
     ensures { IsRefusal A level text.now fault result }
 {
-    let build::Fault::Refused { line, why } = fault else {
-        return Fault::OutOfMemory;
+    let build::TomlError::Invalid { line, why } = fault else {
+        return TomlError::OutOfMemory;
     };
     match line_start(alloc, level, text, line) {
-        Ok(Some(rest)) => Fault::Refused {
+        Ok(Some(rest)) => TomlError::Invalid {
             at: located(text, rest),
             why,
         },
-        Ok(None) | Err(_) => Fault::OutOfMemory,
+        Ok(None) | Err(_) => TomlError::OutOfMemory,
     }
 }
 
-/// Returns the [`Fault`] of bytes that are not UTF-8 after the first `valid`.
-pub(crate) fn fault_of_bytes(bytes: &[u8], valid: usize) -> Fault
+/// Returns the [`TomlError`] of bytes that are not UTF-8 after the first `valid`.
+pub(crate) fn fault_of_bytes(bytes: &[u8], valid: usize) -> TomlError
     requires broken { IsUtf8 bytes.now → ⊥ }
     requires place { IsValidUpTo bytes.now valid }
     ensures { IsBroken bytes.now result }
 {
     let position = position_in(&bytes[..valid], valid);
-    Fault::NotUtf8 {
+    TomlError::NotUtf8 {
         at: Location {
             offset: valid,
             line: position.line,

@@ -1,10 +1,10 @@
 //! Laws that follow from the contracts.
 ghost use Rattle.format_toml_document.specs.Fault.{IsDocument, IsErrorOf};
-ghost use Rattle.format_toml_document.specs.declared.fault.Fault.{Fault};
-ghost use Rattle.format_toml_document.specs.declared.fault.Fault.TheVariants as faults;
+ghost use Rattle.format_toml_document.specs.declared.fault.TomlError.{TomlError};
+ghost use Rattle.format_toml_document.specs.declared.fault.TomlError.TheVariants as faults;
 ghost use Rattle.format_toml_document.specs.declared.fault.Location.{Location};
 ghost use Rattle.format_toml_tree.specs.Runs.{Gives, Tree as Given, empty};
-ghost use Rattle.format_toml_tree.specs.declared.roles.Refusal.{Refusal};
+ghost use Rattle.format_toml_tree.specs.declared.roles.Reason.{Reason};
 ghost use Rattle.format_toml_tree.specs.declared.tree.Tree.{Tree};
 ghost use Rattle.format_toml_tree.specs.declared.value.Item.{Item};
 ghost use Rattle.std.specs.Prelude.{◌≡◌, ◌⊎◌, [], ℕ, List, Option, Result};
@@ -12,7 +12,7 @@ ghost use Rattle.std.specs.Str.{IsUtf8};
 
 use std::alloc::Allocator;
 
-/// If bytes have a tree, no [`Fault`] for them is that they are not lines, or not UTF-8. It can
+/// If bytes have a tree, no [`TomlError`] for them is that they are not lines, or not UTF-8. It can
 /// only be that a line is rejected, or that memory allocation failed.
 ///
 /// ```
@@ -24,10 +24,10 @@ use std::alloc::Allocator;
 /// }
 /// ```
 pub fn a_document_is_lines_of_text<A: Allocator>()
-    ensures { (level : ℕ) (bytes : List ℕ) (tree : Tree A) (fault : Fault)
+    ensures { (level : ℕ) (bytes : List ℕ) (tree : Tree A) (fault : TomlError)
         → IsUtf8 bytes → IsDocument A level bytes tree → IsErrorOf A level bytes fault
         → (fault ≡ faults.OutOfMemory)
-        ⊎ ((at : Location) × (why : Refusal) × (fault ≡ faults.Refused at why)) }
+        ⊎ ((at : Location) × (why : Reason) × (fault ≡ faults.Invalid at why)) }
 {}
 
 /// Lines give one tree, or one of them is rejected first, for one reason, and not both.
@@ -41,6 +41,6 @@ pub fn a_document_is_lines_of_text<A: Allocator>()
 /// }
 /// ```
 pub fn lines_give_one_tree_or_one_refusal<A: Allocator>()
-    ensures { (lines : List (Option (Item A))) (one other : Result (Given A) (ℕ × Refusal))
+    ensures { (lines : List (Option (Item A))) (one other : Result (Given A) (ℕ × Reason))
         → Gives (empty, []) 0 lines one → Gives (empty, []) 0 lines other → one ≡ other }
 {}

@@ -4,15 +4,15 @@
 //! [`from_text`] and [`from_bytes`] return a [`Tree`]. [`root`](Tree::root), [`get`](Node::get),
 //! [`get_path`](Node::get_path), [`at`](Node::at), [`as_str`](Node::as_str) and similar functions
 //! access its contents. The tree borrows from a [`Document`], which the caller provides. If a text
-//! is not a TOML document, a [`Fault`] gives the position and the reason, and
-//! [`shown`](Fault::shown) displays it as compilers do.
+//! is not a TOML document, a [`TomlError`] gives the position and the reason, and
+//! [`shown`](TomlError::shown) displays it as compilers do.
 //!
 //! ```
-//! use format_toml_document::{Document, SAFE_LEVEL, from_text};
+//! use format_toml_document::{Document, SAFE_DEPTH, from_text};
 //!
 //! let mut document = Document::new(alloc);
 //! let text = "[server]\nhost = \"a\"\nports = [80, 443]\n";
-//! let Ok(tree) = from_text(alloc, SAFE_LEVEL, text, &mut document) else {
+//! let Ok(tree) = from_text(alloc, SAFE_DEPTH, text, &mut document) else {
 //!     return;
 //! };
 //! let ports = tree.root().get_path(&["server", "ports"]);
@@ -27,11 +27,11 @@ pub mod fault;
 pub mod laws;
 pub mod read;
 
-pub use fault::{Fault, Location, Shown};
+pub use fault::{Location, Shown, TomlError};
 pub use format_toml::expected::Expected;
-pub use format_toml::values::SAFE_LEVEL;
+pub use format_toml::values::SAFE_DEPTH;
 pub use format_toml_tree::node::Node;
-pub use format_toml_tree::roles::Refusal;
+pub use format_toml_tree::roles::Reason;
 pub use format_toml_tree::tree::Tree;
 pub use format_toml_tree::value::{Date, DateTime, Float, Offset, Time, Value};
 pub use read::{Document, from_bytes, from_text};

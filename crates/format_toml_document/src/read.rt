@@ -4,7 +4,7 @@ ghost use Rattle.std.specs.Str.{IsUtf8};
 ghost use Rattle.format_toml_document.specs.Fault.{IsBroken, IsDocument, IsErrorOf};
 ghost use Rattle.winnow.specs.Exact.Whole.{IsWant};
 
-use crate::fault::{Fault, fault_of_build, fault_of_bytes, fault_of_text};
+use crate::fault::{TomlError, fault_of_build, fault_of_bytes, fault_of_text};
 use format_toml::lines::parse_lines;
 use format_toml_tree::build::build;
 use format_toml_tree::tree::Tree;
@@ -44,29 +44,29 @@ fn wants_memory<'i>(fault: &ParseFault<&'i str, EmptyError>) -> bool
         → IsTrue result }
 {
     match fault {
-        ParseFault::Refused(error) => ParserError::<&str>::is_memory(error.inner()),
+        ParseFault::Invalid(error) => ParserError::<&str>::is_memory(error.inner()),
         ParseFault::Incomplete(_) => false,
     }
 }
 
 /// Parses a TOML document and returns its tree, which borrows from the lines that are put into
 /// `document`. The arrays and inline tables of values are nested at most `level` deep. Each level
-/// uses some of the stack: up to [`SAFE_LEVEL`](crate::SAFE_LEVEL) two megabytes suffice.
+/// uses some of the stack: up to [`SAFE_DEPTH`](crate::SAFE_DEPTH) two megabytes suffice.
 ///
-/// If a line is not TOML, the [`Fault`] gives the position of the first such line's missing part,
-/// and the input that is expected there. Otherwise it gives the line that the standard rejects
-/// because of those before it, and why; or memory allocation failed. A second pass over the text
-/// finds the position.
+/// If a line is not TOML, the [`TomlError`] gives the position of the first such line's missing
+/// part, and the input that is expected there. Otherwise it gives the line that the standard
+/// rejects because of those before it, and why; or memory allocation failed. A second pass over the
+/// text finds the position.
 ///
 /// ```
-/// use format_toml_document::{Document, Expected, Fault, from_text};
+/// use format_toml_document::{Document, Expected, TomlError, from_text};
 ///
 /// let mut document = Document::new(alloc);
 /// assert!(rt; matches!(
 ///     from_text(alloc, 1, "[a]\nb = 2\n", &mut document),
 ///     Ok(tree) if tree.root().len() == 1));
 /// let fault = from_text(alloc, 1, "[a]\nb 2\n", &mut document);
-/// assert!(rt; matches!(fault, Err(Fault::Unexpected { at, expected: Expected::EqualsSign })
+/// assert!(rt; matches!(fault, Err(TomlError::Unexpected { at, expected: Expected::EqualsSign })
 ///     if at.line == 2 && at.column == 3));
 /// ```
 pub fn from_text<'l, A: Allocator + Copy>(
@@ -74,7 +74,7 @@ pub fn from_text<'l, A: Allocator + Copy>(
     level: usize,
     text: &str,
     document: &'l mut Document<A>,
-) -> Result<Tree<'l, A>, Fault>
+) -> Result<Tree<'l, A>, TomlError>
     ensures tree { IfOk result (λ tree. IsDocument A level text.now tree) }
     ensures fault { IfErr result (λ fault. IsErrorOf A level text.now fault) }
 {
@@ -82,7 +82,7 @@ pub fn from_text<'l, A: Allocator + Copy>(
         Ok(lines) => document.lines = lines,
         Err(fault) => {
             if wants_memory(&fault) {
-                return Err(Fault::OutOfMemory);
+                return Err(TomlError::OutOfMemory);
             }
             return Err(fault_of_text(alloc, level, text));
         }
@@ -93,23 +93,23 @@ pub fn from_text<'l, A: Allocator + Copy>(
     }
 }
 
-/// Like [`from_text`], for bytes, which must be UTF-8. If they are not UTF-8, the [`Fault`] gives
-/// the end of the longest prefix that is.
+/// Like [`from_text`], for bytes, which must be UTF-8. If they are not UTF-8, the [`TomlError`]
+/// gives the end of the longest prefix that is.
 ///
 /// ```
-/// use format_toml_document::{Document, Fault, from_bytes};
+/// use format_toml_document::{Document, TomlError, from_bytes};
 ///
 /// let mut document = Document::new(alloc);
 /// assert!(rt; from_bytes(alloc, 1, b"a = '\xc3\xa9'\n", &mut document).is_ok());
 /// let fault = from_bytes(alloc, 1, b"\na = '\xe9'\n", &mut document);
-/// assert!(rt; matches!(fault, Err(Fault::NotUtf8 { at }) if at.line == 2 && at.column == 6));
+/// assert!(rt; matches!(fault, Err(TomlError::NotUtf8 { at }) if at.line == 2 && at.column == 6));
 /// ```
 pub fn from_bytes<'l, A: Allocator + Copy>(
     alloc: A,
     level: usize,
     bytes: &[u8],
     document: &'l mut Document<A>,
-) -> Result<Tree<'l, A>, Fault>
+) -> Result<Tree<'l, A>, TomlError>
     ensures tree { IfOk result (λ tree. IsUtf8 bytes.now × IsDocument A level bytes.now tree) }
     ensures fault { IfErr result (λ fault. IsErrorOf A level bytes.now fault) }
     ensures broken { (IsUtf8 bytes.now → ⊥) → IfErr result (λ fault. IsBroken bytes.now fault) }

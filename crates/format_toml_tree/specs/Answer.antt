@@ -6,26 +6,26 @@ use Rattle.format_toml_tree.specs.Runs.{Gives, empty}
 use Rattle.format_toml_tree.specs.Runs.{Tree as Given}
 use Rattle.format_toml_tree.specs.Holds.{HoldsTree}
 use Rattle.format_toml_tree.specs.Once.{gives_once}
-use Rattle.format_toml_tree.specs.declared.build.Fault.{Fault}
-use Rattle.format_toml_tree.specs.declared.build.Fault.TheVariants.{OutOfMemory, Refused}
-use Rattle.format_toml_tree.specs.declared.roles.Refusal.{Refusal}
+use Rattle.format_toml_tree.specs.declared.build.TreeError.{TreeError}
+use Rattle.format_toml_tree.specs.declared.build.TreeError.TheVariants.{OutOfMemory, Invalid}
+use Rattle.format_toml_tree.specs.declared.roles.Reason.{Reason}
 use Rattle.format_toml_tree.specs.declared.tree.Tree.{Tree}
 use Rattle.format_toml_tree.specs.declared.value.Item.{Item}
 
 module _ {A : Type 0} where
   -- Unless an allocation fails: a tree that holds the given one, or the first line that is
   -- rejected, and why.
-  abbrev pub IsAnswer : Result (Tree A) Fault → Result (Given A) (ℕ × Refusal) → Type 0
+  abbrev pub IsAnswer : Result (Tree A) TreeError → Result (Given A) (ℕ × Reason) → Type 0
   IsAnswer (Ok tree) (Ok given) = HoldsTree tree.slots.items given
   IsAnswer (Ok tree) (Err e) = ⊥
   IsAnswer (Err OutOfMemory) (Ok given) = Unit {0}
   IsAnswer (Err OutOfMemory) (Err e) = Unit {0}
-  IsAnswer (Err (Refused line why)) (Ok given) = ⊥
-  IsAnswer (Err (Refused line why)) (Err e) = e ≡ (line, why)
+  IsAnswer (Err (Invalid line why)) (Ok given) = ⊥
+  IsAnswer (Err (Invalid line why)) (Err e) = e ≡ (line, why)
 
   -- for every outcome of the lines
-  abbrev pub Answers : List (Option (Item A)) → Result (Tree A) Fault → Type 0
-  Answers lines result = (outcome : Result (Given A) (ℕ × Refusal))
+  abbrev pub Answers : List (Option (Item A)) → Result (Tree A) TreeError → Type 0
+  Answers lines result = (outcome : Result (Given A) (ℕ × Reason))
       → Gives (empty, []) 0 lines outcome → IsAnswer result outcome
 
   pub answers_tree : (lines : List (Option (Item A))) (tree : Tree A) (given : Given A)
@@ -34,18 +34,18 @@ module _ {A : Type 0} where
   answers_tree lines tree given gives holds outcome other =
       subst (λ o. IsAnswer (Ok tree) o) (gives_once gives other) holds
 
-  no_memory : (outcome : Result (Given A) (ℕ × Refusal)) → IsAnswer (Err OutOfMemory) outcome
+  no_memory : (outcome : Result (Given A) (ℕ × Reason)) → IsAnswer (Err OutOfMemory) outcome
   no_memory (Ok given) = tt
   no_memory (Err e) = tt
 
-  pub answers_fault : (lines : List (Option (Item A))) (fault : Fault)
-      → ((line : ℕ) (why : Refusal) → fault ≡ Refused line why
+  pub answers_fault : (lines : List (Option (Item A))) (fault : TreeError)
+      → ((line : ℕ) (why : Reason) → fault ≡ Invalid line why
       → Gives (empty, []) 0 lines (Err (line, why))) → Answers lines (Err fault)
   answers_fault lines OutOfMemory gives outcome other = no_memory outcome
-  answers_fault lines (Refused line why) gives outcome other =
-      subst (λ o. IsAnswer (Err (Refused line why)) o) (gives_once (gives line why refl) other) refl
+  answers_fault lines (Invalid line why) gives outcome other =
+      subst (λ o. IsAnswer (Err (Invalid line why)) o) (gives_once (gives line why refl) other) refl
 
-  pub answers_memory : (lines : List (Option (Item A))) (result : Result (Tree A) Fault)
+  pub answers_memory : (lines : List (Option (Item A))) (result : Result (Tree A) TreeError)
       → IsErr result × IsErrAnd result (λ e. e ≡ OutOfMemory) → Answers lines result
   answers_memory lines (Ok tree) is outcome other = absurd (never is.0)
     where

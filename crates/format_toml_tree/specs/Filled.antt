@@ -11,11 +11,11 @@ use Rattle.format_toml_tree.specs.Runs.{State, Tree}
 use Rattle.format_toml_tree.specs.Runs.{opened, say}
 use Rattle.format_toml_tree.specs.Runs.{say_key, then}
 use Rattle.format_toml_tree.specs.Holds.{Keeps}
-use Rattle.format_toml_tree.specs.declared.roles.Refusal.{Refusal}
+use Rattle.format_toml_tree.specs.declared.roles.Reason.{Reason}
 use Rattle.format_toml_tree.specs.declared.value.Value.{Value}
 
 module _ {A : Type 0} where
-  abbrev OkState : State A → Result (State A) Refusal
+  abbrev OkState : State A → Result (State A) Reason
   OkState s = Ok s
 
   -- ---- values stay
@@ -37,24 +37,24 @@ module _ {A : Type 0} where
       → (v : Value A) → node ≡ valued v → next ≡ valued v
   rule_keeps passes node next e v f = absurd (refuses (sym (ap (λ n. ruled passes n) f) ∙ e))
     where
-      refuses : {why : Refusal} → Err why ≡ Ok next → ⊥
+      refuses : {why : Reason} → Err why ≡ Ok next → ⊥
       refuses e = cc
   rule_keeps defines node next e v f = absurd (refuses (sym (ap (λ n. ruled defines n) f) ∙ e))
     where
-      refuses : {why : Refusal} → Err why ≡ Ok next → ⊥
+      refuses : {why : Reason} → Err why ≡ Ok next → ⊥
       refuses e = cc
   rule_keeps adds node next e v f = absurd (refuses (sym (ap (λ n. ruled adds n) f) ∙ e))
     where
-      refuses : {why : Refusal} → Err why ≡ Ok next → ⊥
+      refuses : {why : Reason} → Err why ≡ Ok next → ⊥
       refuses e = cc
   rule_keeps dots node next e v f = absurd (refuses (sym (ap (λ n. ruled dots n) f) ∙ e))
     where
-      refuses : {why : Refusal} → Err why ≡ Ok next → ⊥
+      refuses : {why : Reason} → Err why ≡ Ok next → ⊥
       refuses e = cc
   rule_keeps (gives w) node next e v f =
       absurd (refuses (sym (ap (λ n. ruled (gives w) n) f) ∙ e))
     where
-      refuses : {why : Refusal} → Err why ≡ Ok next → ⊥
+      refuses : {why : Reason} → Err why ≡ Ok next → ⊥
       refuses e = cc
 
   -- such a name has its tree where it is put
@@ -95,7 +95,7 @@ module _ {A : Type 0} where
   say_keeps says apart s t text e =
       by (ruled says (s.0 (named text ∷ s.1))) refl
     where
-      by : (r : Result (Node A) Refusal) → ruled says (s.0 (named text ∷ s.1)) ≡ r → Keeps s.0 t.0
+      by : (r : Result (Node A) Reason) → ruled says (s.0 (named text ∷ s.1)) ≡ r → Keeps s.0 t.0
       by (Err why) f = absurd (no (sym (ap (λ r. then r (λ node. Ok (opened says node
           (put s.0 (named text ∷ s.1) node) (named text ∷ s.1)))) f) ∙ e))
         where
@@ -130,7 +130,7 @@ module _ {A : Type 0} where
       no : (d : Says A) → d ≡ dots → d ≡ adds → ⊥
       no d e f = cc
 
-      by : (r : Result (State A) Refusal) → say dots s (string_bytes text) ≡ r
+      by : (r : Result (State A) Reason) → say dots s (string_bytes text) ≡ r
           → ((u : State A) → say_key dots (gives v) u (next ∷ names) ≡ Ok t → Keeps u.0 t.0)
           → Keeps s.0 t.0
       by (Err why) f others = absurd (refuses (sym (ap (λ r. then r

@@ -11,7 +11,7 @@ use Rattle.format_toml_tree.specs.Paths.{Path, Step, named, placed, put}
 use Rattle.format_toml_tree.specs.Rules.{Node, Says, dotted, header, nothing, super, tables, valued}
 use Rattle.format_toml_tree.specs.Rules.{adds, defines, dots, gives, passes, ruled}
 use Rattle.format_toml_tree.specs.Runs.{Runs, State, Tree, empty, opened, say, say_key}
-use Rattle.format_toml_tree.specs.declared.roles.Refusal.{Refusal}
+use Rattle.format_toml_tree.specs.declared.roles.Reason.{Reason}
 use Rattle.format_toml_tree.specs.declared.roles.Role.{Role}
 use Rattle.format_toml_tree.specs.declared.roles.Role.TheVariants as roles
 use Rattle.format_toml_tree.specs.declared.value.Item.{Item}
@@ -20,7 +20,7 @@ use Rattle.format_toml_tree.specs.declared.tree.Kind.{Kind}
 use Rattle.format_toml_tree.specs.declared.tree.Kind.TheVariants as kinds
 use Rattle.format_toml_tree.specs.declared.tree.Slot.{Slot}
 use Rattle.format_toml_tree.specs.declared.tree.Stop.{Stop}
-use Rattle.format_toml_tree.specs.declared.tree.Stop.TheVariants.{OutOfMemory, Refused}
+use Rattle.format_toml_tree.specs.declared.tree.Stop.TheVariants.{OutOfMemory, Invalid}
 
 -- what a map has at a name
 abbrev pub find : {X : Type 0} → BTreeMap (Bor (List ℕ)) X → List ℕ → Option X
@@ -43,7 +43,7 @@ module _ {A : Type 0} where
   node_of kinds.Dotted n = dotted
   node_of kinds.Tables n = tables n
 
-  abbrev pub nodes_of : Result (Kind A) Refusal → ℕ → Result (Node A) Refusal
+  abbrev pub nodes_of : Result (Kind A) Reason → ℕ → Result (Node A) Reason
   nodes_of (Ok k) n = Ok (node_of k n)
   nodes_of (Err why) n = Err why
 
@@ -82,11 +82,11 @@ module _ {A : Type 0} where
     pub grown : length old ≤ length new
 
   -- The result of a call is the slot of a state, or why a statement is rejected.
-  abbrev pub SlotResult : List (Slot A) → (ℕ → Path) → Result (State A) Refusal → Result ℕ Stop
+  abbrev pub SlotResult : List (Slot A) → (ℕ → Path) → Result (State A) Reason → Result ℕ Stop
       → List (Slot A) → Type 0
   SlotResult old path r (Ok j) new = (s : State A) × (r ≡ Ok s) × Goes old path s j new
   SlotResult old path r (Err OutOfMemory) new = Unit {0}
-  SlotResult old path r (Err (Refused why)) new = r ≡ Err why
+  SlotResult old path r (Err (Invalid why)) new = r ≡ Err why
 
   -- ---- what calls do
 
@@ -131,7 +131,7 @@ module _ {A : Type 0} where
       (tree : Tree A) (path : ℕ → Path) → Holds old tree path → MatchResult result
       (λ j. (node : Node A) × (ruled says (tree (named name ∷ path table)) ≡ Ok node)
       × Goes old path (put tree (named name ∷ path table) node, named name ∷ path table) j new)
-      (λ stop. (why : Refusal) → stop ≡ Refused why
+      (λ stop. (why : Reason) → stop ≡ Invalid why
       → ruled says (tree (named name ∷ path table)) ≡ Err why)
 
   -- the next name is in the table that is opened
@@ -157,14 +157,14 @@ module _ {A : Type 0} where
 
   -- The tree is filled below a slot by a rule, which gives a tree, or the reason why a statement is
   -- rejected.
-  abbrev pub FillsBy : (Tree A → Path → Result (Tree A) Refusal → Type 0) → List (Slot A) → ℕ
+  abbrev pub FillsBy : (Tree A → Path → Result (Tree A) Reason → Type 0) → List (Slot A) → ℕ
       → Result (Unit {0}) Stop → List (Slot A) → Type 0
   FillsBy By old place (Ok done) new =
       (tree : Tree A) (path : ℕ → Path) → Holds old tree path
       → (next : Tree A) × By tree (path place) (Ok next) × Keeps tree next
       × Goes old path (next, path place) place new
   FillsBy By old place (Err OutOfMemory) new = Unit {0}
-  FillsBy By old place (Err (Refused why)) new =
+  FillsBy By old place (Err (Invalid why)) new =
       (tree : Tree A) (path : ℕ → Path) → Holds old tree path
       → By tree (path place) (Err why)
 
@@ -183,7 +183,7 @@ module _ {A : Type 0} where
       (tree : Tree A) (path : ℕ → Path) → Holds old tree path
       → (s : State A) × Runs (tree, path table) item (Ok s) × Goes old path s j new
   AddsItem old table item (Err OutOfMemory) new = Unit {0}
-  AddsItem old table item (Err (Refused why)) new =
+  AddsItem old table item (Err (Invalid why)) new =
       (tree : Tree A) (path : ℕ → Path) → Holds old tree path
       → Runs (tree, path table) item (Err why)
 

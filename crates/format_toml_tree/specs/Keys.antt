@@ -9,10 +9,10 @@ use Rattle.format_toml_tree.specs.Rules.{Says}
 use Rattle.format_toml_tree.specs.Runs.{State, Tree, say, say_key, then}
 use Rattle.format_toml_tree.specs.Holds.{Goes, Holds, SlotResult}
 use Rattle.format_toml_tree.specs.Calls.{goes_on}
-use Rattle.format_toml_tree.specs.declared.roles.Refusal.{Refusal}
+use Rattle.format_toml_tree.specs.declared.roles.Reason.{Reason}
 use Rattle.format_toml_tree.specs.declared.tree.Slot.{Slot}
 use Rattle.format_toml_tree.specs.declared.tree.Stop.{Stop}
-use Rattle.format_toml_tree.specs.declared.tree.Stop.TheVariants.{OutOfMemory, Refused}
+use Rattle.format_toml_tree.specs.declared.tree.Stop.TheVariants.{OutOfMemory, Invalid}
 
 -- the rest of a list begins with its element there
 pub drop_here : {X : Type 0} (xs : List X) (i : ℕ) (x : X) → i < length xs → x ≡ get_or xs i x
@@ -66,7 +66,7 @@ module _ {A : Type 0} (before last : Says A) where
             λ e. which.1 (omega (arith, count, e)),
           )
 
-      abbrev rest : State A → Result (State A) Refusal
+      abbrev rest : State A → Result (State A) Reason
       rest t = say_key before last t (drop (i + 1) names)
 
       next_name : (s : State A) → say_key before last s (drop i names)
@@ -94,7 +94,7 @@ module _ {A : Type 0} (before last : Says A) where
           → (tree : Tree A) (path : ℕ → Path) → Holds old tree path
           → SlotResult old path (say_key before last (tree, path table) names) (Err stop) new
       said_refused OutOfMemory new said tree path holds = tt
-      said_refused (Refused why) new said tree path holds =
+      said_refused (Invalid why) new said tree path holds =
           let (s, e, goes) = left tree path holds in
           e ∙ next_name s
           ∙ ap (λ p. then (say here (s.0, p) (string_bytes name)) rest) (sym goes.at)

@@ -11,11 +11,11 @@ use Rattle.format_toml_tree.specs.Holds.{AddsItem, FillsBy, Holds, IsTreeAt, Pus
 use Rattle.format_toml_tree.specs.Holds.{StartsEmpty, find, node_at}
 use Rattle.format_toml_tree.specs.Calls.{fresh_node, fresh_none}
 use Rattle.format_toml_tree.specs.Keys.{drop_here, drop_past}
-use Rattle.format_toml_tree.specs.declared.roles.Refusal.{Refusal}
+use Rattle.format_toml_tree.specs.declared.roles.Reason.{Reason}
 use Rattle.format_toml_tree.specs.declared.tree.Kind.TheVariants as kinds
 use Rattle.format_toml_tree.specs.declared.tree.Slot.{Slot}
 use Rattle.format_toml_tree.specs.declared.tree.Stop.{Stop}
-use Rattle.format_toml_tree.specs.declared.tree.Stop.TheVariants.{OutOfMemory, Refused}
+use Rattle.format_toml_tree.specs.declared.tree.Stop.TheVariants.{OutOfMemory, Invalid}
 use Rattle.format_toml_tree.specs.declared.value.Item.{Item}
 use Rattle.format_toml_tree.specs.declared.value.Item.TheVariants as items
 use Rattle.format_toml_tree.specs.declared.value.Key.{Key}
@@ -79,7 +79,7 @@ module _ {A : Type 0} where
           goes,
         )
     adds_table e (Err OutOfMemory) new said = tt
-    adds_table e (Err (Refused why)) new said = λ tree path holds.
+    adds_table e (Err (Invalid why)) new said = λ tree path holds.
         subst (λ i. Runs (tree, path table) i (Err why)) (sym e)
         (sym (ap (λ p. say_key passes defines (tree, p) key.names.items) (sym holds.top)
         ∙ said tree path holds))
@@ -96,7 +96,7 @@ module _ {A : Type 0} where
           goes,
         )
     adds_tables e (Err OutOfMemory) new said = tt
-    adds_tables e (Err (Refused why)) new said = λ tree path holds.
+    adds_tables e (Err (Invalid why)) new said = λ tree path holds.
         subst (λ i. Runs (tree, path table) i (Err why)) (sym e)
         (sym (ap (λ p. say_key passes adds (tree, p) key.names.items) (sym holds.top)
         ∙ said tree path holds))
@@ -117,7 +117,7 @@ module _ {A : Type 0} where
           → FillsBy (λ t p r. FillsEntry t p key value r) old table (Err stop) new
           → AddsItem old table item (Err stop) new
       adds_refused OutOfMemory new filled = tt
-      adds_refused (Refused why) new filled = λ tree path holds.
+      adds_refused (Invalid why) new filled = λ tree path holds.
           subst (λ i. Runs (tree, path table) i (Err why)) (sym e)
           (Err why, filled tree path holds, refl)
 
@@ -142,7 +142,7 @@ module _ {A : Type 0} where
       pub path : ℕ → Path
       pub holds : Holds slots tree path
       pub within : table < length slots
-      pub left : (r : Result (Tree A) (ℕ × Refusal))
+      pub left : (r : Result (Tree A) (ℕ × Reason))
           → Gives (tree, path table) k (drop k lines) r → Gives (empty, []) 0 lines r
 
   pub left_first : (lines : List (Option (Item A))) (slots : List (Slot A)) → StartsEmpty slots
@@ -193,8 +193,8 @@ module _ {A : Type 0} where
                     goes.at by)));
               }
 
-          pub line_refused : (why : Refusal) (new : List (Slot A))
-              → AddsItem slots table item (Err (Refused why)) new
+          pub line_refused : (why : Reason) (new : List (Slot A))
+              → AddsItem slots table item (Err (Invalid why)) new
               → Gives (empty, []) 0 lines (Err (k, why))
           line_refused why new added =
               left.left (Err (k, why)) (subst (λ l. Gives (left.tree, left.path table) k l

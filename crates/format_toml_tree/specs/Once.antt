@@ -9,7 +9,7 @@ use Rattle.format_toml_tree.specs.Rules.{valued}
 use Rattle.format_toml_tree.specs.Runs.{Fills, FillsEntry, FillsNames, FillsPlaces, Gives, IsNext}
 use Rattle.format_toml_tree.specs.Runs.{Runs, State, Tree, say_key, then}
 use Rattle.format_toml_tree.specs.Runs as runs
-use Rattle.format_toml_tree.specs.declared.roles.Refusal.{Refusal}
+use Rattle.format_toml_tree.specs.declared.roles.Reason.{Reason}
 use Rattle.format_toml_tree.specs.declared.value.Item.{Item}
 use Rattle.format_toml_tree.specs.declared.value.Item.TheVariants as items
 use Rattle.format_toml_tree.specs.declared.value.Key.{Key}
@@ -64,7 +64,7 @@ module _ {A : Type 0} where
   ]
 
   mutual
-    pub fills_once : {tree : Tree A} {q : Path} {v : Value A} {r s : Result (Tree A) Refusal}
+    pub fills_once : {tree : Tree A} {q : Path} {v : Value A} {r s : Result (Tree A) Reason}
         → Fills tree q v r → Fills tree q v s → r ≡ s
     fills_once {tree = tree} {q = q} {v = v} {s = s} (runs.array vs h e f) (runs.array ws i g o) =
         places_once f (subst (λ l. FillsPlaces tree q l.items s) (sym (array_once v vs ws e g)) o)
@@ -86,7 +86,7 @@ module _ {A : Type 0} where
     fills_once (runs.nowhere n) (runs.nowhere m) = refl
 
     places_once : {tree : Tree A} {q : Path} {vs : List (Value A)}
-        {r s : Result (Tree A) Refusal}
+        {r s : Result (Tree A) Reason}
         → FillsPlaces tree q vs r → FillsPlaces tree q vs s → r ≡ s
     places_once runs.no_more runs.no_more = refl
     places_once {tree = tree} {q = q} {vs = v ∷ vs} {s = s} (runs.place j is f more)
@@ -112,7 +112,7 @@ module _ {A : Type 0} where
         (next_once tree q j k is at) g)
 
     names_once : {tree : Tree A} {q : Path} {es : List (Key A × Value A)}
-        {r s : Result (Tree A) Refusal}
+        {r s : Result (Tree A) Reason}
         → FillsNames tree q es r → FillsNames tree q es s → r ≡ s
     names_once runs.no_more_names runs.no_more_names = refl
     names_once {q = q} {es = e ∷ es} {s = s} (runs.name f more) (runs.name g others) =
@@ -123,7 +123,7 @@ module _ {A : Type 0} where
     names_once (runs.name_refused f) (runs.name_refused g) = entry_once f g
 
     pub entry_once : {tree : Tree A} {q : Path} {key : Key A} {v : Value A}
-        {r s : Result (Tree A) Refusal}
+        {r s : Result (Tree A) Reason}
         → FillsEntry tree q key v r → FillsEntry tree q key v s → r ≡ s
     entry_once (runs.entry_refused e) (runs.entry_refused f) = ap (λ w. Err w) (err_once _ e f)
     entry_once (runs.entry_refused e) (runs.entry s f g) = ok_or_err _ f e
@@ -131,7 +131,7 @@ module _ {A : Type 0} where
     entry_once {v = v} {s = r} (runs.entry s e f) (runs.entry t g h) =
         fills_once f (subst (λ u. Fills u.0 u.1 v r) (sym (ok_once _ e g)) h)
 
-  runs_once : (s : State A) (item : Item A) {r t : Result (State A) Refusal} → Runs s item r
+  runs_once : (s : State A) (item : Item A) {r t : Result (State A) Reason} → Runs s item r
       → Runs s item t → r ≡ t
   runs_once s (items.Table key) e f = e ∙ sym f
   runs_once s (items.Tables key) e f = e ∙ sym f
@@ -139,7 +139,7 @@ module _ {A : Type 0} where
       e ∙ ap (λ x. then x (λ tree. Ok (tree, s.1))) (entry_once f g) ∙ sym h
 
   pub gives_once : {s : State A} {k : ℕ} {lines : List (Option (Item A))}
-      {r t : Result (Tree A) (ℕ × Refusal)} → Gives s k lines r → Gives s k lines t → r ≡ t
+      {r t : Result (Tree A) (ℕ × Reason)} → Gives s k lines r → Gives s k lines t → r ≡ t
   gives_once runs.ended runs.ended = refl
   gives_once (runs.blank f) (runs.blank g) = gives_once f g
   gives_once {s = s} {k = k} {lines = Some item ∷ lines} {t = t} (runs.accepted f more)

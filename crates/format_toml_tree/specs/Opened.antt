@@ -11,14 +11,14 @@ use Rattle.format_toml_tree.specs.Holds.{Goes, Holds, IsInside, SlotResult, find
 use Rattle.format_toml_tree.specs.Holds.{says_of}
 use Rattle.format_toml_tree.specs.Places.{altered}
 use Rattle.format_toml_tree.specs.Calls.{goes_on, stays}
-use Rattle.format_toml_tree.specs.declared.roles.Refusal.{Refusal}
+use Rattle.format_toml_tree.specs.declared.roles.Reason.{Reason}
 use Rattle.format_toml_tree.specs.declared.roles.Role.{Role}
 use Rattle.format_toml_tree.specs.declared.roles.Role.TheVariants as roles
 use Rattle.format_toml_tree.specs.declared.tree.Kind.{Kind}
 use Rattle.format_toml_tree.specs.declared.tree.Kind.TheVariants as kinds
 use Rattle.format_toml_tree.specs.declared.tree.Slot.{Slot}
 use Rattle.format_toml_tree.specs.declared.tree.Stop.{Stop}
-use Rattle.format_toml_tree.specs.declared.tree.Stop.TheVariants.{OutOfMemory, Refused}
+use Rattle.format_toml_tree.specs.declared.tree.Stop.TheVariants.{OutOfMemory, Invalid}
 
 pub if_ok_more : {X E : Type 0} (r : Result X E) {P Q : X → Type 0} → IfOk r P
     → ((x : X) → P x → Q x) → IfOk r Q
@@ -158,7 +158,7 @@ module _ {A : Type 0} where
                 }),
           )
 
-      pub set_refused : (why : Refusal)
+      pub set_refused : (why : Reason)
           → ((n : ℕ) → ruled says (node_of was.kind n) ≡ Err why)
           → ruled says (tree q) ≡ Err why
       set_refused why rule =
@@ -174,14 +174,14 @@ module _ {A : Type 0} where
 
   -- ---- a name
 
-  pub told_stop : (old new : List (Slot A)) (path : ℕ → Path) (r : Result (State A) Refusal)
-      (stop : Stop) → ((why : Refusal) → stop ≡ Refused why → r ≡ Err why)
+  pub told_stop : (old new : List (Slot A)) (path : ℕ → Path) (r : Result (State A) Reason)
+      (stop : Stop) → ((why : Reason) → stop ≡ Invalid why → r ≡ Err why)
       → SlotResult old path r (Err stop) new
   told_stop old new path r OutOfMemory is = tt
-  told_stop old new path r (Refused why) is = is why refl
+  told_stop old new path r (Invalid why) is = is why refl
 
   -- what fails with a stop tells it
-  pub told_err : (old new : List (Slot A)) (path : ℕ → Path) (r : Result (State A) Refusal)
+  pub told_err : (old new : List (Slot A)) (path : ℕ → Path) (r : Result (State A) Reason)
       (answer : Result ℕ Stop) (stop : Stop)
       → IsErr answer × IsErrAnd answer (λ e. e ≡ stop) → SlotResult old path r (Err stop) new
       → SlotResult old path r answer new
@@ -192,7 +192,7 @@ module _ {A : Type 0} where
   told_err old new path r (Err e) stop is told =
       subst (λ s. SlotResult old path r (Err s) new) (sym is.1) told
 
-  pub say_refused : (says : Says A) (s : State A) (name : List ℕ) (why : Refusal)
+  pub say_refused : (says : Says A) (s : State A) (name : List ℕ) (why : Reason)
       → ruled says (s.0 (named name ∷ s.1)) ≡ Err why → say says s name ≡ Err why
   say_refused says s name why e = ap (λ r. then r (λ node. Ok
       (opened says node (put s.0 (named name ∷ s.1) node) (named name ∷ s.1)))) e

@@ -20,12 +20,12 @@ use Rattle.format_toml_tree.specs.Calls.{goes_on, stays}
 use Rattle.format_toml_tree.specs.Filled.{keeps_put, keeps_then, key_keeps, no_value}
 use Rattle.format_toml_tree.specs.Keys.{drop_here, drop_past}
 use Rattle.format_toml_tree.specs.Places.{some_node}
-use Rattle.format_toml_tree.specs.declared.roles.Refusal.{Refusal}
+use Rattle.format_toml_tree.specs.declared.roles.Reason.{Reason}
 use Rattle.format_toml_tree.specs.declared.tree.Kind.{Kind}
 use Rattle.format_toml_tree.specs.declared.tree.Kind.TheVariants as kinds
 use Rattle.format_toml_tree.specs.declared.tree.Slot.{Slot}
 use Rattle.format_toml_tree.specs.declared.tree.Stop.{Stop}
-use Rattle.format_toml_tree.specs.declared.tree.Stop.TheVariants.{OutOfMemory, Refused}
+use Rattle.format_toml_tree.specs.declared.tree.Stop.TheVariants.{OutOfMemory, Invalid}
 use Rattle.format_toml_tree.specs.declared.value.Key.{Key}
 use Rattle.format_toml_tree.specs.declared.value.Value.{Value}
 use Rattle.format_toml_tree.specs.declared.value.Value.TheVariants as values
@@ -56,16 +56,16 @@ module _ {A : Type 0} where
       no e = cc
 
   -- The parts from the `k`-th on remain to fill the tree, by a rule on the remaining parts.
-  abbrev pub LeftToFill : {X : Type 0} → (Tree A → Path → List X → Result (Tree A) Refusal → Type 0)
+  abbrev pub LeftToFill : {X : Type 0} → (Tree A → Path → List X → Result (Tree A) Reason → Type 0)
       → List (Slot A) → ℕ → List X → ℕ → List (Slot A) → Type 0
   LeftToFill By old place parts k new =
       (tree : Tree A) (path : ℕ → Path) → Holds old tree path → (next : Tree A)
-      × ((r : Result (Tree A) Refusal) → By next (path place) (drop k parts) r
+      × ((r : Result (Tree A) Reason) → By next (path place) (drop k parts) r
       → By tree (path place) parts r)
       × Keeps tree next × Goes old path (next, path place) place new
 
   -- what fails with a stop tells it
-  pub fills_err : (By : Tree A → Path → Result (Tree A) Refusal → Type 0) (old new : List (Slot A))
+  pub fills_err : (By : Tree A → Path → Result (Tree A) Reason → Type 0) (old new : List (Slot A))
       (place : ℕ) (answer : Result (Unit {0}) Stop) (stop : Stop)
       → IsErr answer × IsErrAnd answer (λ e. e ≡ stop) → FillsBy By old place (Err stop) new
       → FillsBy By old place answer new
@@ -77,20 +77,20 @@ module _ {A : Type 0} where
       subst (λ s. FillsBy By old place (Err s) new) (sym is.1) told
 
   -- one rule follows from another
-  pub fills_more : (By To : Tree A → Path → Result (Tree A) Refusal → Type 0)
+  pub fills_more : (By To : Tree A → Path → Result (Tree A) Reason → Type 0)
       (old new : List (Slot A)) (place : ℕ) (answer : Result (Unit {0}) Stop)
-      → ((tree : Tree A) (path : ℕ → Path) → Holds old tree path → (r : Result (Tree A) Refusal)
+      → ((tree : Tree A) (path : ℕ → Path) → Holds old tree path → (r : Result (Tree A) Reason)
       → By tree (path place) r → To tree (path place) r)
       → FillsBy By old place answer new → FillsBy To old place answer new
   fills_more By To old new place (Ok done) more told = λ tree path holds.
       let (next, by, keeps, goes) = told tree path holds in
       (next, more tree path holds (Ok next) by, keeps, goes)
   fills_more By To old new place (Err OutOfMemory) more told = tt
-  fills_more By To old new place (Err (Refused why)) more told =
+  fills_more By To old new place (Err (Invalid why)) more told =
       λ tree path holds. more tree path holds (Err why) (told tree path holds)
 
   -- nothing is filled
-  pub fills_none : (By : Tree A → Path → Result (Tree A) Refusal → Type 0) (slots : List (Slot A))
+  pub fills_none : (By : Tree A → Path → Result (Tree A) Reason → Type 0) (slots : List (Slot A))
       (place : ℕ) → place < length slots
       → ((tree : Tree A) (path : ℕ → Path) → Holds slots tree path → By tree (path place) (Ok tree))
       → (done : Unit {0}) → FillsBy By slots place (Ok done) slots
@@ -182,7 +182,7 @@ module _ {A : Type 0} where
         (more : List (Slot A)) (adds : AddsElement mid place (kinds.Value part) below more) where
       -- the element is put at the next place
       element_put : (tree : Tree A) (path : ℕ → Path) → Holds old tree path → (next : Tree A)
-          × ((r : Result (Tree A) Refusal) → FillsPlaces next (path place) (drop k vs) r
+          × ((r : Result (Tree A) Reason) → FillsPlaces next (path place) (drop k vs) r
           → FillsPlaces tree (path place) vs r)
           × (n : ℕ) × IsNext next (path place) n
           × Keeps tree (put next (placed n ∷ path place) (valued part.now))
@@ -260,7 +260,7 @@ module _ {A : Type 0} where
           → FillsBy (λ t p r. Fills t p part.now r) more below (Err stop) new
           → FillsBy (λ t p r. FillsPlaces t p vs r) old place (Err stop) new
       element_refused OutOfMemory new filled = tt
-      element_refused (Refused why) new filled = λ tree path holds.
+      element_refused (Invalid why) new filled = λ tree path holds.
           let (next, f, n, is_next, keeps, goes) = element_put tree path holds in
           let q = path place in
           let put_tree = put next (placed n ∷ q) (valued part.now) in
@@ -307,7 +307,7 @@ module _ {A : Type 0} where
           → FillsBy (λ t p r. FillsEntry t p e.0 e.1 r) mid place (Err stop) new
           → FillsBy (λ t p r. FillsNames t p es r) old place (Err stop) new
       entry_refused OutOfMemory new filled = tt
-      entry_refused (Refused why) new filled = λ tree path holds.
+      entry_refused (Invalid why) new filled = λ tree path holds.
           let (next, f, keeps, goes) = left tree path holds in
           f (Err why) (subst (λ l. FillsNames next (path place) l (Err why)) (sym there_is)
           (runs.name_refused (subst (λ p. FillsEntry next p e.0 e.1 (Err why)) goes.at
@@ -343,7 +343,7 @@ module _ {A : Type 0} where
           goes_back (goes_on goes goes_then) place inside,
         )
     value_filled below mid said (Err OutOfMemory) new filled = tt
-    value_filled below mid said (Err (Refused why)) new filled = λ tree path holds.
+    value_filled below mid said (Err (Invalid why)) new filled = λ tree path holds.
         let (s, told, goes) = said tree path holds in
         runs.entry s told (subst (λ p. Fills s.0 p v (Err why)) goes.at
         (filled s.0 goes.paths goes.holds))
@@ -352,5 +352,5 @@ module _ {A : Type 0} where
         → SaysKey old place key.names.items dots (gives v) (Err stop) new
         → FillsBy (λ t p r. FillsEntry t p key v r) old place (Err stop) new
     key_refused OutOfMemory new said = tt
-    key_refused (Refused why) new said = λ tree path holds.
+    key_refused (Invalid why) new said = λ tree path holds.
         runs.entry_refused (said tree path holds)

@@ -1,9 +1,9 @@
 -- Statements about a name, and their effects (TOML 1.0: Keys, Table, Inline Table, Array of
 -- Tables).
 use Rattle.std.specs.Prelude.{ℕ, Result, Ok, Err}
-use Rattle.format_toml_tree.specs.declared.roles.Refusal.{Refusal}
-use Rattle.format_toml_tree.specs.declared.roles.Refusal.TheVariants.{Defined, NoTable, Closed}
-use Rattle.format_toml_tree.specs.declared.roles.Refusal.TheVariants.{NoTables}
+use Rattle.format_toml_tree.specs.declared.roles.Reason.{Reason}
+use Rattle.format_toml_tree.specs.declared.roles.Reason.TheVariants.{Defined, NoTable, Closed}
+use Rattle.format_toml_tree.specs.declared.roles.Reason.TheVariants.{NoTables}
 use Rattle.format_toml_tree.specs.declared.value.Value.{Value, out-Value}
 use Rattle.format_toml_tree.specs.declared.value.Value.TheOpen as forms
 
@@ -38,14 +38,14 @@ module _ (A : Type 0) where
 module _ {A : Type 0} where
   -- An inline table is closed: "keys and sub-tables cannot be added outside the braces". Any other
   -- value is not a table.
-  abbrev pub no_table : Value A → Refusal
+  abbrev pub no_table : Value A → Reason
   no_table v = elim (out-Value A v) [
     | forms.Table entries ↦ Closed
     | _ ↦ NoTable
   ]
 
   -- The contents after the statement, or why it is rejected.
-  abbrev pub ruled : Says A → Node A → Result (Node A) Refusal
+  abbrev pub ruled : Says A → Node A → Result (Node A) Reason
   -- "You don't need to specify all the super-tables if you don't want to."
   ruled passes nothing = Ok super
   ruled passes super = Ok super

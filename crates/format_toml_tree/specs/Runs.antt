@@ -8,7 +8,7 @@ use Rattle.format_toml_tree.specs.Paths.{Path, named, placed, put}
 use Rattle.format_toml_tree.specs.Rules.{Node, Says, ruled}
 use Rattle.format_toml_tree.specs.Rules.{nothing, valued, header, tables}
 use Rattle.format_toml_tree.specs.Rules.{passes, defines, adds, dots, gives}
-use Rattle.format_toml_tree.specs.declared.roles.Refusal.{Refusal}
+use Rattle.format_toml_tree.specs.declared.roles.Reason.{Reason}
 use Rattle.format_toml_tree.specs.declared.value.Key.{Key}
 use Rattle.format_toml_tree.specs.declared.value.Item.{Item}
 use Rattle.format_toml_tree.specs.declared.value.Item.TheVariants as items
@@ -52,13 +52,13 @@ module _ {A : Type 0} where
   opened says node tree q = entered node tree q
 
   -- A statement says something of a name in the table of a path.
-  abbrev pub say : Says A → State A → List ℕ → Result (State A) Refusal
+  abbrev pub say : Says A → State A → List ℕ → Result (State A) Reason
   say says s name =
       then (ruled says (s.0 (named name ∷ s.1)))
       (λ node. Ok (opened says node (put s.0 (named name ∷ s.1) node) (named name ∷ s.1)))
 
   -- It says one thing of the last name of a key, and another of each before it.
-  abbrev pub say_key : Says A → Says A → State A → List (String A) → Result (State A) Refusal
+  abbrev pub say_key : Says A → Says A → State A → List (String A) → Result (State A) Reason
   say_key before last s [] = Ok s
   say_key before last s (name ∷ []) = say last s (string_bytes name)
   say_key before last s (name ∷ next ∷ names) =
@@ -76,11 +76,11 @@ module _ {A : Type 0} where
   mutual
     -- A value fills the tree below its path: an array by its elements, an inline table by its
     -- entries, as those of a document.
-    pub data Fills : Tree A → Path → Value A → Result (Tree A) Refusal → Type 0 where
-      array : {tree : Tree A} {q : Path} {v : Value A} {r : Result (Tree A) Refusal}
+    pub data Fills : Tree A → Path → Value A → Result (Tree A) Reason → Type 0 where
+      array : {tree : Tree A} {q : Path} {v : Value A} {r : Result (Tree A) Reason}
           (vs : Vec (Value A) A) → HasValue tree q → v ≡ values.Array vs
           → FillsPlaces tree q vs.items r → Fills tree q v r
-      inline : {tree : Tree A} {q : Path} {v : Value A} {r : Result (Tree A) Refusal}
+      inline : {tree : Tree A} {q : Path} {v : Value A} {r : Result (Tree A) Reason}
           (es : Vec (Key A × Value A) A) → HasValue tree q → v ≡ values.Table es
           → FillsNames tree q es.items r → Fills tree q v r
       -- any other value has no parts
@@ -93,55 +93,55 @@ module _ {A : Type 0} where
           → Fills tree q v (Ok tree)
 
     -- Values are added to the end of an array, in sequence.
-    pub data FillsPlaces : Tree A → Path → List (Value A) → Result (Tree A) Refusal → Type 0 where
+    pub data FillsPlaces : Tree A → Path → List (Value A) → Result (Tree A) Reason → Type 0 where
       no_more : {tree : Tree A} {q : Path} → FillsPlaces tree q [] (Ok tree)
       place : {tree next : Tree A} {q : Path} {v : Value A} {vs : List (Value A)}
-          {r : Result (Tree A) Refusal} (k : ℕ) → IsNext tree q k
+          {r : Result (Tree A) Reason} (k : ℕ) → IsNext tree q k
           → Fills (put tree (placed k ∷ q) (valued v)) (placed k ∷ q) v (Ok next)
           → FillsPlaces next q vs r → FillsPlaces tree q (v ∷ vs) r
       place_refused : {tree : Tree A} {q : Path} {v : Value A} {vs : List (Value A)}
-          {why : Refusal} (k : ℕ) → IsNext tree q k
+          {why : Reason} (k : ℕ) → IsNext tree q k
           → Fills (put tree (placed k ∷ q) (valued v)) (placed k ∷ q) v (Err why)
           → FillsPlaces tree q (v ∷ vs) (Err why)
 
     -- Keys get their values in the table of a path, in sequence.
-    pub data FillsNames : Tree A → Path → List (Key A × Value A) → Result (Tree A) Refusal → Type 0
+    pub data FillsNames : Tree A → Path → List (Key A × Value A) → Result (Tree A) Reason → Type 0
       where
         no_more_names : {tree : Tree A} {q : Path} → FillsNames tree q [] (Ok tree)
         name : {tree next : Tree A} {q : Path} {e : Key A × Value A}
-            {es : List (Key A × Value A)} {r : Result (Tree A) Refusal}
+            {es : List (Key A × Value A)} {r : Result (Tree A) Reason}
             → FillsEntry tree q e.0 e.1 (Ok next)
             → FillsNames next q es r → FillsNames tree q (e ∷ es) r
         name_refused : {tree : Tree A} {q : Path} {e : Key A × Value A}
-            {es : List (Key A × Value A)} {why : Refusal}
+            {es : List (Key A × Value A)} {why : Reason}
             → FillsEntry tree q e.0 e.1 (Err why)
             → FillsNames tree q (e ∷ es) (Err why)
 
     -- A key is given its value in the table of a path.
-    pub data FillsEntry : Tree A → Path → Key A → Value A → Result (Tree A) Refusal → Type 0 where
-      entry_refused : {tree : Tree A} {q : Path} {key : Key A} {v : Value A} {why : Refusal}
+    pub data FillsEntry : Tree A → Path → Key A → Value A → Result (Tree A) Reason → Type 0 where
+      entry_refused : {tree : Tree A} {q : Path} {key : Key A} {v : Value A} {why : Reason}
           → say_key dots (gives v) (tree, q) key.names.items ≡ Err why
           → FillsEntry tree q key v (Err why)
-      entry : {tree : Tree A} {q : Path} {key : Key A} {v : Value A} {r : Result (Tree A) Refusal}
+      entry : {tree : Tree A} {q : Path} {key : Key A} {v : Value A} {r : Result (Tree A) Reason}
           (s : State A) → say_key dots (gives v) (tree, q) key.names.items ≡ Ok s
           → Fills s.0 s.1 v r → FillsEntry tree q key v r
 
   -- A statement, from the tree and the current table to those after it, or why it is rejected.
-  abbrev pub Runs : State A → Item A → Result (State A) Refusal → Type 0
+  abbrev pub Runs : State A → Item A → Result (State A) Reason → Type 0
   Runs s (items.Table key) r = r ≡ say_key passes defines (s.0, []) key.names.items
   Runs s (items.Tables key) r = r ≡ say_key passes adds (s.0, []) key.names.items
-  Runs s (items.Entry key value) r = (t : Result (Tree A) Refusal)
+  Runs s (items.Entry key value) r = (t : Result (Tree A) Reason)
       × FillsEntry s.0 s.1 key value t × (r ≡ then t (λ tree. Ok (tree, s.1)))
 
   -- The lines of a document, from the `k`-th on, give a tree, or one of them is rejected first.
-  pub data Gives : State A → ℕ → List (Option (Item A)) → Result (Tree A) (ℕ × Refusal) → Type 0
+  pub data Gives : State A → ℕ → List (Option (Item A)) → Result (Tree A) (ℕ × Reason) → Type 0
     where
       ended : {s : State A} {k : ℕ} → Gives s k [] (Ok s.0)
       blank : {s : State A} {k : ℕ} {lines : List (Option (Item A))}
-          {r : Result (Tree A) (ℕ × Refusal)}
+          {r : Result (Tree A) (ℕ × Reason)}
           → Gives s (k + 1) lines r → Gives s k (None ∷ lines) r
       accepted : {s t : State A} {k : ℕ} {item : Item A} {lines : List (Option (Item A))}
-          {r : Result (Tree A) (ℕ × Refusal)} → Runs s item (Ok t)
+          {r : Result (Tree A) (ℕ × Reason)} → Runs s item (Ok t)
           → Gives t (k + 1) lines r → Gives s k (Some item ∷ lines) r
       refused : {s : State A} {k : ℕ} {item : Item A} {lines : List (Option (Item A))}
-          {why : Refusal} → Runs s item (Err why) → Gives s k (Some item ∷ lines) (Err (k, why))
+          {why : Reason} → Runs s item (Err why) → Gives s k (Some item ∷ lines) (Err (k, why))

@@ -3,11 +3,11 @@ ghost use Rattle.std.specs.Prelude.{◌≡◌, ℕ, [], IfOk, Ok, Err};
 ghost use Rattle.format_toml_tree.specs.Runs.{Gives, Tree as Given, empty};
 ghost use Rattle.format_toml_tree.specs.Answer.{Answers};
 ghost use Rattle.format_toml_tree.specs.Holds.{HoldsTree};
-ghost use Rattle.format_toml_tree.specs.declared.build.Fault.TheVariants.{Refused};
-ghost use Rattle.format_toml_tree.specs.declared.roles.Refusal.{Refusal};
-ghost use Rattle.format_toml_tree.specs.declared.tree.Stop.TheVariants.{Refused as StoppedBy};
+ghost use Rattle.format_toml_tree.specs.declared.build.TreeError.TheVariants.{Invalid};
+ghost use Rattle.format_toml_tree.specs.declared.roles.Reason.{Reason};
+ghost use Rattle.format_toml_tree.specs.declared.tree.Stop.TheVariants.{Invalid as StoppedBy};
 
-use crate::roles::Refusal;
+use crate::roles::Reason;
 use crate::tree::{Stop, Tree};
 use crate::value::Item;
 use std::alloc::{AllocError, Allocator};
@@ -18,56 +18,56 @@ use std::fmt::{Display, Formatter};
 /// Why some lines have no tree. As text the number of a line is counted from 1.
 ///
 /// ```
-/// use format_toml_tree::build::Fault;
-/// use format_toml_tree::roles::Refusal;
+/// use format_toml_tree::build::TreeError;
+/// use format_toml_tree::roles::Reason;
 ///
-/// let fault = Fault::Refused { line: 2, why: Refusal::NoTable };
+/// let fault = TreeError::Invalid { line: 2, why: Reason::NoTable };
 /// let said = format!(in alloc; "{fault}");
 /// let wanted = "line 3: key is not a table";
 /// assert!(rt; matches!(said, Ok(said) if said.as_str() == wanted));
 /// ```
 #[derive(Debug, Clone, Copy, PartialEq, Eq, Drop)]
-pub enum Fault {
+pub enum TreeError {
     /// Memory allocation failed.
     OutOfMemory,
     /// A line is rejected.
-    Refused {
+    Invalid {
         /// Its number, counted from 0.
         line: usize,
         /// The reason for the rejection.
-        why: Refusal,
+        why: Reason,
     },
 }
 
-impl From<AllocError> for Fault {
-    ghost use Rattle.format_toml_tree.specs.declared.build.Fault.TheVariants.{OutOfMemory};
+impl From<AllocError> for TreeError {
+    ghost use Rattle.format_toml_tree.specs.declared.build.TreeError.TheVariants.{OutOfMemory};
 
     ghost from_gives = { λ _ r. r ≡ OutOfMemory };
 
-    fn from(_e: AllocError) -> Fault {
-        Fault::OutOfMemory
+    fn from(_e: AllocError) -> TreeError {
+        TreeError::OutOfMemory
     }
 }
 
-impl Display for Fault {
+impl Display for TreeError {
     fn fmt<W: fmt::Write>(&self, f: &mut Formatter<W>) -> fmt::Result {
         match *self {
-            Fault::OutOfMemory => f.write_str("out of memory"),
-            Fault::Refused { line, why } => write!(f, "line {}: {why}", line.saturating_add(1)),
+            TreeError::OutOfMemory => f.write_str("out of memory"),
+            TreeError::Invalid { line, why } => write!(f, "line {}: {why}", line.saturating_add(1)),
         }
     }
 }
 
-impl Error for Fault {}
+impl Error for TreeError {}
 
 /// Why some lines have no tree, where one of them stops.
-fn fault_at(line: usize, stop: Stop) -> Fault
-    ensures { (at : ℕ) (why : Refusal) → result ≡ Refused at why
+fn fault_at(line: usize, stop: Stop) -> TreeError
+    ensures { (at : ℕ) (why : Reason) → result ≡ Invalid at why
         → (at ≡ line) × (stop ≡ StoppedBy why) }
 {
     match stop {
-        Stop::OutOfMemory => Fault::OutOfMemory,
-        Stop::Refused(why) => Fault::Refused { line, why },
+        Stop::OutOfMemory => TreeError::OutOfMemory,
+        Stop::Invalid(why) => TreeError::Invalid { line, why },
     }
 }
 
@@ -98,12 +98,12 @@ fn fault_at(line: usize, stop: Stop) -> Fault
 pub fn build<'t, A: Allocator + Copy>(
     alloc: A,
     lines: &'t [Option<Item<A>>],
-) -> Result<Tree<'t, A>, Fault>
+) -> Result<Tree<'t, A>, TreeError>
     ensures answers { Answers lines.now result }
     ensures accepted { IfOk result
         (λ tree. (given : Given A) × Gives (empty, []) 0 lines.now (Ok given)
         × HoldsTree tree.slots.items given) }
-    ensures refused { (line : ℕ) (why : Refusal) → result ≡ Err (Refused line why)
+    ensures refused { (line : ℕ) (why : Reason) → result ≡ Err (Invalid line why)
         → Gives (empty, []) 0 lines.now (Err (line, why)) }
 {
     let mut tree = Tree::new(alloc)?;

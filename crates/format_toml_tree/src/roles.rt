@@ -13,13 +13,13 @@ use std::fmt::{Display, Formatter};
 /// The reason why a line is rejected.
 ///
 /// ```
-/// use format_toml_tree::roles::Refusal;
+/// use format_toml_tree::roles::Reason;
 ///
-/// let said = format!(in alloc; "{}", Refusal::Defined);
+/// let said = format!(in alloc; "{}", Reason::Defined);
 /// assert!(rt; matches!(said, Ok(said) if said.as_str() == "key is already defined"));
 /// ```
 #[derive(Debug, Clone, Copy, PartialEq, Eq, Drop)]
-pub enum Refusal {
+pub enum Reason {
     /// It defines a key that is defined already.
     Defined,
     /// It takes a value for a table.
@@ -30,18 +30,18 @@ pub enum Refusal {
     NoTables,
 }
 
-impl Display for Refusal {
+impl Display for Reason {
     fn fmt<W: fmt::Write>(&self, f: &mut Formatter<W>) -> fmt::Result {
         f.write_str(match *self {
-            Refusal::Defined => "key is already defined",
-            Refusal::NoTable => "key is not a table",
-            Refusal::Closed => "table cannot be extended",
-            Refusal::NoTables => "key is not an array of tables",
+            Reason::Defined => "key is already defined",
+            Reason::NoTable => "key is not a table",
+            Reason::Closed => "table cannot be extended",
+            Reason::NoTables => "key is not an array of tables",
         })
     }
 }
 
-impl Error for Refusal {}
+impl Error for Reason {}
 
 /// The statement of a line about a name.
 #[derive(Clone, Copy)]
@@ -59,12 +59,12 @@ pub enum Role<'t, A: Allocator> {
 }
 
 /// Returns why a value is not a table that a line can add to.
-fn closed<A: Allocator>(value: &Value<A>) -> Refusal
+fn closed<A: Allocator>(value: &Value<A>) -> Reason
     ensures { result ≡ no_table value.now }
 {
     match value {
-        Value::Table(_) => Refusal::Closed,
-        _ => Refusal::NoTable,
+        Value::Table(_) => Reason::Closed,
+        _ => Reason::NoTable,
     }
 }
 
@@ -83,7 +83,7 @@ pub fn first<'t, A: Allocator>(role: Role<'t, A>) -> Kind<'t, A>
 
 /// Returns the kind that an existing slot has after this statement of a line, or why the line is
 /// rejected.
-pub fn next<'t, A: Allocator>(kind: &Kind<'t, A>, role: Role<'t, A>) -> Result<Kind<'t, A>, Refusal>
+pub fn next<'t, A: Allocator>(kind: &Kind<'t, A>, role: Role<'t, A>) -> Result<Kind<'t, A>, Reason>
     ensures { (n : ℕ) → ruled (says_of role.entry) (node_of kind.now n) ≡ nodes_of result n }
 {
     match (role, kind) {
@@ -93,12 +93,12 @@ pub fn next<'t, A: Allocator>(kind: &Kind<'t, A>, role: Role<'t, A>) -> Result<K
         (Role::Through, Kind::Tables) => Ok(Kind::Tables),
         (Role::Through, Kind::Value(value)) => Err(closed(*value)),
         (Role::Header, Kind::Super) => Ok(Kind::Header),
-        (Role::Header, _) => Err(Refusal::Defined),
+        (Role::Header, _) => Err(Reason::Defined),
         (Role::Tables, Kind::Tables) => Ok(Kind::Tables),
-        (Role::Tables, _) => Err(Refusal::NoTables),
+        (Role::Tables, _) => Err(Reason::NoTables),
         (Role::Dotted, Kind::Super | Kind::Dotted) => Ok(Kind::Dotted),
         (Role::Dotted, Kind::Value(value)) => Err(closed(*value)),
-        (Role::Dotted, _) => Err(Refusal::Closed),
-        (Role::Value(_), _) => Err(Refusal::Defined),
+        (Role::Dotted, _) => Err(Reason::Closed),
+        (Role::Value(_), _) => Err(Reason::Defined),
     }
 }

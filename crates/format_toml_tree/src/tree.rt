@@ -7,7 +7,7 @@ ghost use Rattle.format_toml_tree.specs.Holds.{IsTreeAt, Pushes, SaysKey, SaysNa
 ghost use Rattle.format_toml_tree.specs.Holds.{StartsEmpty, node_at};
 ghost use Rattle.format_toml_tree.specs.Holds.{says_of};
 
-use crate::roles::{Refusal, Role, first, next};
+use crate::roles::{Reason, Role, first, next};
 use crate::value::{Item, Key, Value};
 use std::alloc::{AllocError, AllocFailed, Allocator};
 use std::collections::BTreeMap;
@@ -55,7 +55,7 @@ pub enum Stop {
     /// Memory allocation failed.
     OutOfMemory,
     /// The line is rejected.
-    Refused(Refusal),
+    Invalid(Reason),
 }
 
 impl From<AllocError> for Stop {
@@ -167,7 +167,7 @@ impl<'t, A: Allocator + Copy> Tree<'t, A> {
                         slot.kind = kind;
                         Ok(place)
                     }
-                    Err(why) => Err(Stop::Refused(why)),
+                    Err(why) => Err(Stop::Invalid(why)),
                 }
             }
             None => Ok(self.add_entry(alloc, table, name, first(role))?),

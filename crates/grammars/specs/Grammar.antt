@@ -11,7 +11,7 @@ pub mod Alike
 pub mod Decided
 pub mod FirstOf
 pub mod Folded
-pub mod Known
+pub mod Inversion
 pub mod Lengths
 pub mod Meaning
 pub mod Outputs
@@ -28,8 +28,8 @@ abbrev pub Grammar : Type 0 → Type 0 → Type 1
 Grammar T O = List T → O → List T → Type 0
 
 -- `tokens` does not start with a match.
-abbrev pub NoneStands : {T O : Type 0} → Grammar T O → List T → Type 0
-NoneStands {T} {O} grammar tokens = (o : O) (rest : List T) → grammar tokens o rest → ⊥
+abbrev pub NoMatch : {T O : Type 0} → Grammar T O → List T → Type 0
+NoMatch {T} {O} grammar tokens = (o : O) (rest : List T) → grammar tokens o rest → ⊥
 
 -- The rest after a match is a suffix of the tokens, and the tokens determine it.
 pub record IsUnique {T O : Type 0} (grammar : Grammar T O) : Type 0 where
@@ -142,13 +142,13 @@ AndTaken {T} {L} {O} reading grammar tokens both rest =
 -- A match of `first`; or, if `tokens` does not start with one, a match of `second`.
 unfoldable pub Either : {T O : Type 0} → Grammar T O → Grammar T O → Grammar T O
 Either first second tokens o rest =
-    first tokens o rest ⊎ (NoneStands first tokens × second tokens o rest)
+    first tokens o rest ⊎ (NoMatch first tokens × second tokens o rest)
 
 -- A match of `grammar`; or, if `tokens` does not start with one, `None` without consuming tokens.
 unfoldable pub Optional : {T O : Type 0} → Grammar T O → Grammar T (Option O)
 Optional {T} {O} grammar tokens o rest =
     ((x : O) × (o ≡ Some x) × grammar tokens x rest)
-    ⊎ ((o ≡ None) × NoneStands grammar tokens × (rest ≡ tokens))
+    ⊎ ((o ≡ None) × NoMatch grammar tokens × (rest ≡ tokens))
 
 -- A match of `grammar` if `condition` is true; otherwise `None` without consuming tokens.
 unfoldable pub When : {T O : Type 0} → Bool → Grammar T O → Grammar T (Option O)
@@ -162,7 +162,7 @@ Ahead {T} grammar tokens o rest = (end : List T) × grammar tokens o end × (res
 
 -- `tokens` does not start with a match, and no tokens are consumed.
 unfoldable pub NotAhead : {T O : Type 0} → Grammar T O → Grammar T (Unit {0})
-NotAhead grammar tokens o rest = NoneStands grammar tokens × (rest ≡ tokens)
+NotAhead grammar tokens o rest = NoMatch grammar tokens × (rest ≡ tokens)
 
 -- Consecutive matches with these outputs.
 abbrev pub Each : {T O : Type 0} → Grammar T O → Grammar T (List O)
@@ -174,7 +174,7 @@ Each {T} grammar tokens (o ∷ os) rest =
 -- match.
 abbrev pub Stops : {T O : Type 0} → Grammar T O → Option ℕ → ℕ → List T → Type 0
 Stops grammar greatest n rest =
-    (greatest ≡ Some n) ⊎ (IsBelow greatest n × NoneStands grammar rest)
+    (greatest ≡ Some n) ⊎ (IsBelow greatest n × NoMatch grammar rest)
 
 -- As many consecutive matches as there are, within the bounds.
 unfoldable pub Many : {T O : Type 0} → Grammar T O → Bounds → Grammar T (List O)

@@ -119,30 +119,30 @@ abbrev pub AtEnd : {T : Type 0} → List T → Type 0
 AtEnd tokens = tokens ≡ []
 
 -- There is a first token, and it is one of these.
-abbrev pub Begins : {T : Type 0} → (T → Type 0) → List T → Type 0
-Begins these [] = ⊥
-Begins these (t ∷ ts) = these t
+abbrev pub StartsWith : {T : Type 0} → (T → Type 0) → List T → Type 0
+StartsWith these [] = ⊥
+StartsWith these (t ∷ ts) = these t
 
 -- There is no token, or the first is one of these.
-abbrev pub MayBegin : {T : Type 0} → (T → Type 0) → List T → Type 0
-MayBegin these [] = ⊤
-MayBegin these (t ∷ ts) = these t
+abbrev pub MayStartWith : {T : Type 0} → (T → Type 0) → List T → Type 0
+MayStartWith these [] = ⊤
+MayStartWith these (t ∷ ts) = these t
 
 -- There is no token, or the first is none of these.
 abbrev pub NotFirst : {T : Type 0} → (T → Type 0) → List T → Type 0
-NotFirst these tokens = MayBegin (λ t. these t → ⊥) tokens
+NotFirst these tokens = MayStartWith (λ t. these t → ⊥) tokens
 
 -- A text in front of such tokens makes such tokens.
 pub record InFront {T O : Type 0} (text : Text T O) (behind whole : List T → Type 0) : Type 0 where
   pub makes : (o : O) (xs rest : List T) → text o xs → behind rest → whole (xs ++ rest)
 
 -- Each text begins with one of these tokens.
-abbrev pub BeginsIn : {T O : Type 0} → (T → Type 0) → Text T O → Type 0
-BeginsIn these text = InFront text Anything (Begins these)
+abbrev pub TextsStartWith : {T O : Type 0} → (T → Type 0) → Text T O → Type 0
+TextsStartWith these text = InFront text Anything (StartsWith these)
 
 -- Each text is empty, or begins with one of these tokens.
-abbrev pub MayBeginIn : {T O : Type 0} → (T → Type 0) → Text T O → Type 0
-MayBeginIn these text = InFront text (MayBegin these) (MayBegin these)
+abbrev pub TextsMayStartWith : {T O : Type 0} → (T → Type 0) → Text T O → Type 0
+TextsMayStartWith these text = InFront text (MayStartWith these) (MayStartWith these)
 
 -- `member` decides a set of tokens: its members are `inside`, and all other tokens are `outside`.
 pub record Divides {T : Type 0} (member : T → Bool → Type 0) (inside outside : T → Type 0)

@@ -9,11 +9,11 @@ use Rattle.std.proofs.lemmas.List.Elements.{All-tail}
 use Rattle.winnow.specs.Equal.{true_is_false}
 use Rattle.winnow.specs.Input.{Input}
 use Rattle.winnow.specs.Kind.{Kind}
-use Rattle.winnow.specs.Literal.Known.{TokenTaken}
+use Rattle.winnow.specs.Literal.Inversion.{TokenTaken}
 use Rattle.winnow.specs.Stream.{AnswersSeen}
 use Rattle.winnow.specs.Longest.{IsLongest}
 use Rattle.winnow.specs.TakeWhile.{IsEnded}
-use Rattle.winnow.specs.TakeWhile.Known.{TooFew, Took}
+use Rattle.winnow.specs.TakeWhile.Inversion.{TooFew, Took}
 use Rattle.readers.specs.DocumentRuns.{IsFront}
 use Rattle.readers.specs.Tables.{HasExactly, TellsByte}
 use Rattle.readers.proofs.PartRuns.{took_front}

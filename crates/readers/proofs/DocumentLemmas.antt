@@ -7,7 +7,8 @@ use Rattle.winnow.specs.Equal.{same_first, same_others}
 use Rattle.readers.specs.Pair.{IsKeyByte}
 use Rattle.readers.specs.Document.{IsBlank, IsWhite, IsTrailing, IsCommentByte, IsNameByte}
 use Rattle.readers.specs.Document.{IsValueByte, NotFirst, NotLast, EndsLine, PairBytes, Part, white}
-use Rattle.readers.specs.Document.{comment, section, pair, bytes_of, IsRemark, Begins, BeginsWith}
+use Rattle.readers.specs.Document.{comment, section, pair, bytes_of, IsRemark, StartsWithPart}
+use Rattle.readers.specs.Document.{BeginsWith}
 use Rattle.readers.specs.Document.{IsDocument}
 use Rattle.readers.proofs.PairLemmas.{All-middle, not_none, mark_is_no_key}
 
@@ -78,7 +79,7 @@ key_high b (inr (inr h)) =
     (omega (arith, h.0), (λ e. omega (arith, e, h.0), λ e. omega (arith, e, h.0)))
 
 -- the first byte of a part
-first_of : (p : Part) (input behind : List ℕ) → Begins p input behind
+first_of : (p : Part) (input behind : List ℕ) → StartsWithPart p input behind
     → (b : ℕ) × (more : List ℕ) × (input ≡ b ∷ more) × FirstOf p b
 first_of (white []) input behind (e, (some, all, stops)) = absurd (omega (arith, some))
 first_of (white (x ∷ xs)) input behind (e, (some, all, stops)) =
@@ -131,7 +132,8 @@ by_first (pair x) (comment y) b h k = h.1.0 k
 by_first (pair x) (section y) b h k = h.1.1 k
 by_first (pair x) (pair y) b h k = tt
 
-pub one_kind : (p q : Part) (input bp bq : List ℕ) → Begins p input bp → Begins q input bq
+pub one_kind : (p q : Part) (input bp bq : List ℕ) → StartsWithPart p input bp
+    → StartsWithPart q input bq
     → OfOneKind p q
 one_kind p q input bp bq hp hq =
     let (b, more, e, first) = first_of p input bp hp in
@@ -260,7 +262,7 @@ pub record IsLaid (input key before lead body rest : List ℕ) : Type 0 where
   pub body_ends : NotFirst IsValueByte rest
 
 -- the bytes of a pair are laid out so
-pub laid_of_pair : (p : PairBytes) (input behind : List ℕ) → Begins (pair p) input behind
+pub laid_of_pair : (p : PairBytes) (input behind : List ℕ) → StartsWithPart (pair p) input behind
     → IsLaid input p.key p.before p.lead (p.value ++ p.trail) (p.remark ++ behind)
 laid_of_pair p input behind (e, h) = record {
   splits = e ∙ pair_flat p behind;
@@ -305,8 +307,8 @@ one_layout input key before lead body rest key' before' lead' body' rest' h k =
     after_lead in
     (keys, (befores, (leads, (bodies, rests))))
 
-same_pair : (p q : PairBytes) (input bp bq : List ℕ) → Begins (pair p) input bp
-    → Begins (pair q) input bq → (p ≡ q) × (bp ≡ bq)
+same_pair : (p q : PairBytes) (input bp bq : List ℕ) → StartsWithPart (pair p) input bp
+    → StartsWithPart (pair q) input bq → (p ≡ q) × (bp ≡ bq)
 same_pair p q input bp bq hp hq =
     let (key, (before, (lead, (body, rest)))) =
     one_layout input _ _ _ _ _ _ _ _ _ _ (laid_of_pair p input bp hp)
@@ -319,8 +321,8 @@ same_pair p q input bp bq hp hq =
     (same_fields p q key before lead value trail remark, behind)
 
 -- an input begins with at most one part
-pub same_part : (p q : Part) (input bp bq : List ℕ) → OfOneKind p q → Begins p input bp
-    → Begins q input bq → (p ≡ q) × (bp ≡ bq)
+pub same_part : (p q : Part) (input bp bq : List ℕ) → OfOneKind p q → StartsWithPart p input bp
+    → StartsWithPart q input bq → (p ≡ q) × (bp ≡ bq)
 same_part (white x) (white y) input bp bq kind (e, (some, all, stops)) (f, (some', all', stops')) =
     let (same, rest) = same_front IsWhite x y bp bq all all' stops stops' (sym e ∙ f) in
     (ap white same, rest)
@@ -352,12 +354,13 @@ same_part (pair a) (white b) input bp bq kind hp hq = absurd kind
 same_part (pair a) (comment b) input bp bq kind hp hq = absurd kind
 same_part (pair a) (section b) input bp bq kind hp hq = absurd kind
 
-pub only_part : (p q : Part) (input bp bq : List ℕ) → Begins p input bp → Begins q input bq
+pub only_part : (p q : Part) (input bp bq : List ℕ) → StartsWithPart p input bp
+    → StartsWithPart q input bq
     → (p ≡ q) × (bp ≡ bq)
 only_part p q input bp bq hp hq = same_part p q input bp bq (one_kind p q input bp bq hp hq) hp hq
 
 -- there is no part of nothing
-pub no_part_of_none : (p : Part) (behind : List ℕ) → Begins p [] behind → ⊥
+pub no_part_of_none : (p : Part) (behind : List ℕ) → StartsWithPart p [] behind → ⊥
 no_part_of_none p behind h = let (b, more, e, first) = first_of p [] behind h in not_none (sym e)
 
 -- A document is one list of parts.
@@ -365,9 +368,11 @@ pub only_parts : (ps qs : List Part) (input : List ℕ) → BeginsWith ps input 
     → BeginsWith qs input [] → ps ≡ qs
 only_parts [] [] input e f = refl
 only_parts [] (q ∷ qs) input e (bq, hq, rest) =
-    absurd (no_part_of_none q bq (let P : List ℕ → Type 0 = λ l. Begins q l bq in subst P e hq))
+    absurd (no_part_of_none q bq (let P : List ℕ
+    → Type 0 = λ l. StartsWithPart q l bq in subst P e hq))
 only_parts (p ∷ ps) [] input (bp, hp, rest) f =
-    absurd (no_part_of_none p bp (let P : List ℕ → Type 0 = λ l. Begins p l bp in subst P f hp))
+    absurd (no_part_of_none p bp (let P : List ℕ
+    → Type 0 = λ l. StartsWithPart p l bp in subst P f hp))
 only_parts (p ∷ ps) (q ∷ qs) input (bp, hp, rest) (bq, hq, rest') =
     let (same, behind) = only_part p q input bp bq hp hq in
     let P : List ℕ → Type 0 = λ l. BeginsWith ps l [] in

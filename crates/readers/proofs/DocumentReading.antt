@@ -11,22 +11,22 @@ use Rattle.winnow.specs.Equal.{same_some}
 use Rattle.winnow.specs.Input.{Input, IsEndOf}
 use Rattle.winnow.specs.Kind.{Kind, backtrack, memory}
 use Rattle.winnow.specs.Form.{Answer, inner_kind_of, marked_kind}
-use Rattle.winnow.specs.Form.Known.{at_output, ok_is_err, same_kind}
+use Rattle.winnow.specs.Form.Inversion.{at_output, ok_is_err, same_kind}
 use Rattle.winnow.specs.Mode.{as_inner}
 use Rattle.winnow.specs.Accumulator.{list_kept}
 use Rattle.winnow.specs.Range.{bounds_of}
 use Rattle.winnow.specs.{Range}
 use Rattle.winnow.specs.Reading.{Reading}
 use Rattle.winnow.specs.Runs.{Runs}
-use Rattle.winnow.specs.InOrder.Known.{both_err}
+use Rattle.winnow.specs.InOrder.Inversion.{both_err}
 use Rattle.winnow.specs.Preceded.{PrecededRuns}
-use Rattle.winnow.specs.Preceded.Known.{preceded_ok}
+use Rattle.winnow.specs.Preceded.Inversion.{preceded_ok}
 use Rattle.winnow.specs.Repeat.{RepeatRuns}
-use Rattle.winnow.specs.Repeat.Known.{Items, repeat_any_err, repeat_any_ok, repeated_by}
-use Rattle.winnow.specs.Repeat.Known.{repeated_list}
+use Rattle.winnow.specs.Repeat.Inversion.{Items, repeat_any_err, repeat_any_ok, repeated_by}
+use Rattle.winnow.specs.Repeat.Inversion.{repeated_list}
 use Rattle.winnow.specs.Func.{CalledWithMut, FuncWithRuns}
 use Rattle.readers.specs.Document.{SectionText, PairBytes, Part, white, comment, section, pair}
-use Rattle.readers.specs.Document.{Begins, BeginsWith, BeginsDocument, IsRefusedDocument}
+use Rattle.readers.specs.Document.{StartsWithPart, BeginsWith, BeginsDocument, IsRefusedDocument}
 use Rattle.readers.specs.Document.{NoPairBegins, NoSectionBegins, SectionBegins, ReachesSection}
 use Rattle.readers.specs.Document.{pairs_of, sections_of, NoPairBeforeSections}
 use Rattle.readers.specs.DocumentRuns.{IsGapPart, NoGapBegins, HasNoSection, BeginsAtSection}
@@ -220,7 +220,7 @@ gap_then_pair (pair q ∷ gap) p all h = all.0
 -- after a gap and sections no part follows
 no_part_behind : (gap parts : List Part) (rest : List ℕ) → AllByRecursion IsGapPart gap
     → NoGapBegins rest → NoSectionBegins rest → ((parts ≡ [] → ⊥) → NoPairBegins rest)
-    → (part : Part) (behind : List ℕ) → Begins part rest behind
+    → (part : Part) (behind : List ℕ) → StartsWithPart part rest behind
     → NoPairBeforeSections ((gap ++ parts) ++ (part ∷ [])) → ⊥
 no_part_behind gap parts rest all no_gap no_section no_pair (white bytes) behind begins h =
     no_gap (white bytes) behind tt begins
@@ -289,13 +289,14 @@ document_read told i (Err k) j ends ran by_gap = elim (both_err k ran) [
 
 -- No parts reach further than those after which no part follows.
 longest_of_all : (ps qs : List Part) (input rest left : List ℕ) → BeginsWith ps input rest
-    → BeginsWith qs input left → ((part : Part) (behind : List ℕ) → Begins part rest behind → ⊥)
+    → BeginsWith qs input left → ((part : Part) (behind : List ℕ) → StartsWithPart part rest behind
+    → ⊥)
     → length rest ≤ length left
 longest_of_all [] [] input rest left e f none =
     omega (arith, ap (λ l. length l) e, ap (λ l. length l) f)
 longest_of_all [] (q ∷ qs) input rest left e (behind, begins, more) none =
     absurd (none q behind
-    (let P : List ℕ → Type 0 = λ l. Begins q l behind in subst P e begins))
+    (let P : List ℕ → Type 0 = λ l. StartsWithPart q l behind in subst P e begins))
 longest_of_all (p ∷ ps) [] input rest left with f none =
     omega (arith, begins_length (p ∷ ps) input rest with, ap (λ l. length l) f)
 longest_of_all (p ∷ ps) (q ∷ qs) input rest left (bp, hp, more) (bq, hq, more') none =
@@ -305,13 +306,13 @@ longest_of_all (p ∷ ps) (q ∷ qs) input rest left (bp, hp, more) (bq, hq, mor
 
 pub longest_document : (ps qs : List Part) (input rest left : List ℕ) → BeginsWith ps input rest
     → BeginsWith qs input left → NoPairBeforeSections qs
-    → ((part : Part) (behind : List ℕ) → Begins part rest behind
+    → ((part : Part) (behind : List ℕ) → StartsWithPart part rest behind
     → NoPairBeforeSections (ps ++ (part ∷ [])) → ⊥) → length rest ≤ length left
 longest_document [] [] input rest left e f before none =
     omega (arith, ap (λ l. length l) e, ap (λ l. length l) f)
 longest_document [] (q ∷ qs) input rest left e (behind, begins, more) before none =
     absurd (none q behind
-    (let P : List ℕ → Type 0 = λ l. Begins q l behind in subst P e begins)
+    (let P : List ℕ → Type 0 = λ l. StartsWithPart q l behind in subst P e begins)
     (first_alone q qs before))
   where
     first_alone : (q : Part) (qs : List Part) → NoPairBeforeSections (q ∷ qs)
@@ -332,10 +333,10 @@ longest_document (p ∷ ps) (q ∷ qs) input rest left (bp, hp, more) (bq, hq, m
   where
     go : (p : Part) (ps qs : List Part) (input rest left : List ℕ) → BeginsWith ps input rest
         → BeginsWith qs input left → NoPairBeforeSections (p ∷ qs)
-        → ((part : Part) (behind : List ℕ) → Begins part rest behind
+        → ((part : Part) (behind : List ℕ) → StartsWithPart part rest behind
         → NoPairBeforeSections (p ∷ (ps ++ (part ∷ []))) → ⊥)
         → (NoPairBeforeSections qs
-        → ((part : Part) (behind : List ℕ) → Begins part rest behind
+        → ((part : Part) (behind : List ℕ) → StartsWithPart part rest behind
         → NoPairBeforeSections (ps ++ (part ∷ [])) → ⊥) → length rest ≤ length left)
         → length rest ≤ length left
     go (white bytes) ps qs input rest left more more' before none shorter = shorter before none
@@ -347,7 +348,7 @@ longest_document (p ∷ ps) (q ∷ qs) input rest left (bp, hp, more) (bq, hq, m
 
 pub refused_there : (input rest : List ℕ) (parts : List Part) (n : ℕ)
     → BeginsDocument parts input rest
-    → ((part : Part) (behind : List ℕ) → Begins part rest behind
+    → ((part : Part) (behind : List ℕ) → StartsWithPart part rest behind
     → NoPairBeforeSections (parts ++ (part ∷ [])) → ⊥) → (rest ≡ [] → ⊥)
     → n + length rest ≡ length input → IsRefusedDocument input n
 refused_there input rest parts n begins none some at = record {

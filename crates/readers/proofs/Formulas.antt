@@ -3,11 +3,11 @@ use Rattle.std.proofs.Common.{◌≡◌, ℕ, List, inr, subst, sym}
 use Rattle.std.specs.Prelude.{ℤ, Result, Ok, Err, IfOk}
 use Rattle.std.specs.Str.{IsUtf8}
 use Rattle.readers.specs.declared.program.Verdict.{Verdict}
-use Rattle.readers.specs.declared.program.Verdict.TheVariants.{Accepted, Refused}
+use Rattle.readers.specs.declared.program.Verdict.TheVariants.{Accepted, Invalid}
 use Rattle.readers.specs.declared.program.Format.TheVariants.{Calc}
 use Rattle.readers.specs.Program.{IsAnswerText, IsRefusedFormula, number_line, refused_line}
 use Rattle.format_calculator.specs.Calculator.{IsFormulaFault, IsValue}
-use Rattle.format_calculator.specs.declared.fault.Fault.TheVariants.{Refused as refused_at}
+use Rattle.format_calculator.specs.declared.fault.ReadError.TheVariants.{Invalid as refused_at}
 
 pub formula_value : (bytes text : List ℕ) (v : ℤ) (line : List ℕ) → text ≡ bytes → IsUtf8 bytes
     → IsValue text v → line ≡ number_line v → IsAnswerText Calc bytes Accepted line
@@ -22,7 +22,7 @@ formula_fault bytes text n same utf8 is =
 
 pub formula_refused : {X E : Type 0} (verdict : X → Verdict) (line : X → List ℕ) (r : Result X E)
     (bytes : List ℕ) (n : ℕ)
-    → IfOk r (λ a. (verdict a ≡ Refused) × (line a ≡ refused_line n)) → IsRefusedFormula bytes n
+    → IfOk r (λ a. (verdict a ≡ Invalid) × (line a ≡ refused_line n)) → IsRefusedFormula bytes n
     → IfOk r (λ a. IsAnswerText Calc bytes (verdict a) (line a))
 unfolding IsAnswerText
 formula_refused verdict line (Ok a) bytes n (is, e) refused =

@@ -10,8 +10,8 @@ use Rattle.winnow.specs.Range.{bounds_of}
 use Rattle.winnow.specs.{Range}
 use Rattle.winnow.specs.Runs.{Runs}
 use Rattle.winnow.specs.Repeat.{RepeatRuns}
-use Rattle.winnow.specs.Repeat.Known.{Items, repeat_any_err, repeat_any_ok, repeated_by}
-use Rattle.readers.specs.Document.{Part, Begins, BeginsWith}
+use Rattle.winnow.specs.Repeat.Inversion.{Items, repeat_any_err, repeat_any_ok, repeated_by}
+use Rattle.readers.specs.Document.{Part, StartsWithPart, BeginsWith}
 use Rattle.readers.specs.DocumentRuns.{IsGapPart, NoGapBegins}
 use Rattle.readers.proofs.PartRuns.{part_shortens}
 
@@ -19,7 +19,7 @@ use Rattle.readers.proofs.PartRuns.{part_shortens}
 pub record ReadsGapPart {S O : Type 0} (run : Runs S ℕ O) : Type 0 where
   pub takes : (s : S) (i : Input ℕ) (o : O) (t : S) (j : Input ℕ) → i.status.cut ≡ false
       → run s i (Ok o) t j
-      → (part : Part) × IsGapPart part × Begins part i.left.tokens j.left.tokens
+      → (part : Part) × IsGapPart part × StartsWithPart part i.left.tokens j.left.tokens
       × (j.status.cut ≡ false)
   pub fails : (s : S) (i : Input ℕ) (k : Kind) (t : S) (j : Input ℕ) → i.status.cut ≡ false
       → run s i (Err k) t j → (k ≡ backtrack) × NoGapBegins i.left.tokens

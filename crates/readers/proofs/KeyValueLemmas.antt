@@ -11,17 +11,17 @@ use Rattle.std.proofs.lemmas.List.Elements.{All-cons, All-head, All-nil, All-tai
 use Rattle.winnow.specs.Input.{Input, back_at}
 use Rattle.winnow.specs.Kind.{Kind, backtrack}
 use Rattle.winnow.specs.Form.{Answer}
-use Rattle.winnow.specs.Form.Known.{at_output, ok_is_err, same_kind}
-use Rattle.winnow.specs.InOrder.Known.{three_err}
+use Rattle.winnow.specs.Form.Inversion.{at_output, ok_is_err, same_kind}
+use Rattle.winnow.specs.InOrder.Inversion.{three_err}
 use Rattle.winnow.specs.Opt.{OptRuns}
-use Rattle.winnow.specs.Opt.Known.{opt_err, opt_ok}
+use Rattle.winnow.specs.Opt.Inversion.{opt_err, opt_ok}
 use Rattle.winnow.specs.Func.{FuncRuns}
 use Rattle.winnow.specs.Reading.{Reading}
 use Rattle.winnow.specs.SeparatedPair.{SeparatedPairRuns}
-use Rattle.winnow.specs.SeparatedPair.Known.{separated_pair_ok}
+use Rattle.winnow.specs.SeparatedPair.Inversion.{separated_pair_ok}
 use Rattle.readers.specs.Pair.{IsKeyByte}
 use Rattle.readers.specs.Document.{IsBlank, IsValueByte, NotFirst, EndsLine, PairBytes, pair}
-use Rattle.readers.specs.Document.{IsRemark, Begins, NoPairBegins}
+use Rattle.readers.specs.Document.{IsRemark, StartsWithPart, NoPairBegins}
 use Rattle.readers.specs.DocumentRuns.{IsFront, IsWithoutTrailing, KeyRuns, MarkRuns, ValueRuns}
 use Rattle.readers.specs.DocumentRuns.{CommentRuns}
 use Rattle.readers.proofs.DocumentLemmas.{IsLaid, laid_of_pair, one_layout, pair_flat, after_key}
@@ -246,7 +246,7 @@ remark_never_fails i k j ran by_comment =
 pub pair_read : (tokens key before lead body a value remark behind : List ℕ)
     → IsLaid tokens key before lead body a → 0 < length key → IsWithoutTrailing body value
     → IsUtf8 value → IsRemark remark → a ≡ remark ++ behind → EndsLine behind
-    → (p : PairBytes) × Begins (pair p) tokens behind × (key ≡ p.key) × (value ≡ p.value)
+    → (p : PairBytes) × StartsWithPart (pair p) tokens behind × (key ≡ p.key) × (value ≡ p.value)
 pair_read tokens key before lead body a value remark behind laid some
     (trail, split, trails, last) text is_remark rest ends =
     let p : PairBytes =

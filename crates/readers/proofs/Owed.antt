@@ -9,11 +9,11 @@ use Rattle.readers.specs.declared.program.Stop.{Stop}
 use Rattle.readers.specs.declared.program.Stop.TheVariants.{Usage, Unreadable, Unwritable, TooLong}
 use Rattle.readers.specs.declared.program.Stop.TheVariants.{NoMemory}
 use Rattle.readers.specs.declared.program.Verdict.{Verdict}
-use Rattle.readers.specs.declared.program.Verdict.TheVariants.{Accepted, Refused}
+use Rattle.readers.specs.declared.program.Verdict.TheVariants.{Accepted, Invalid}
 use Rattle.readers.specs.declared.program.Format.{Format}
 use Rattle.readers.specs.declared.program.Format.TheVariants.{Pair, Ini, Calc}
 use Rattle.readers.specs.Program.{IsAnswerText, WritesAnswer, RunOwes, IsWord, format_word}
-use Rattle.readers.specs.Program.{ConsumesAtMost, StopsAnswer, Tells, most_of, stop_text}
+use Rattle.readers.specs.Program.{ConsumesAtMost, StopsAnswer, Appended, most_of, stop_text}
 
 pub written_is_owed : (format : Format) (known : Option (List ℕ)) (verdict : Verdict)
     (text : List ℕ) (status : ℕ) (told : Bool)
@@ -30,7 +30,7 @@ written_is_owed format (Some bytes) Accepted text status told out_old out_new er
 written_is_owed format (Some bytes) Accepted text status told out_old out_new err_old err_new
     (le, is_text) (inr (two, some, why)) =
     inr (inr (two, (Unwritable, (le, (text, is_text, some)), why)))
-written_is_owed format (Some bytes) Refused text status told out_old out_new err_old err_new
+written_is_owed format (Some bytes) Invalid text status told out_old out_new err_old err_new
     (le, is_text) (one, kept, line) = inr (inl (one, le, kept, (text, is_text, line)))
 
 pub owed_by_word : (format other : Format) (known : Option (List ℕ)) (verdict : Verdict)
@@ -52,7 +52,7 @@ owed_by_word format other known verdict text status told out_old out_new err_old
 stopped_is_owed : (format : Format) (known : Option (List ℕ)) (stop : Stop) (status : ℕ)
     (told : Bool) (out err_old err_new : Option (List ℕ))
     → IfSome known (λ bytes. StopsAnswer format bytes stop) → status ≡ 2
-    → Tells told err_old err_new (stop_text stop)
+    → Appended told err_old err_new (stop_text stop)
     → IfSome known (λ bytes. RunOwes format bytes status told out out err_old err_new)
 stopped_is_owed format None stop status told out err_old err_new is two why = tt
 stopped_is_owed format (Some bytes) Usage status told out err_old err_new is two why = absurd is
@@ -68,7 +68,7 @@ stopped_is_owed format (Some bytes) NoMemory status told out err_old err_new is 
 pub stopped_by_word : (format other : Format) (known : Option (List ℕ)) (stop : Stop) (status : ℕ)
     (told : Bool) (out err_old err_new : Option (List ℕ)) → other ≡ format
     → IfSome known (λ bytes. StopsAnswer format bytes stop) → status ≡ 2
-    → Tells told err_old err_new (stop_text stop)
+    → Appended told err_old err_new (stop_text stop)
     → IfSome known (λ bytes. RunOwes other bytes status told out out err_old err_new)
 stopped_by_word format other known stop status told out err_old err_new same is two why =
     let P : Format → Type 0 =

@@ -8,9 +8,9 @@ use Rattle.winnow.specs.Input.{Input}
 use Rattle.winnow.specs.Bytes.{bytes_input}
 use Rattle.winnow.specs.Equal.{same_some}
 use Rattle.winnow.specs.Kind.{Kind}
-use Rattle.winnow.specs.Literal.Known.{TokenMissing, TokenTaken}
+use Rattle.winnow.specs.Literal.Inversion.{TokenMissing, TokenTaken}
 use Rattle.winnow.specs.Longest.{IsLongest}
-use Rattle.winnow.specs.TakeWhile.Known.{TooFew, Took, none_first, took_all, took_stops}
+use Rattle.winnow.specs.TakeWhile.Inversion.{TooFew, Took, none_first, took_all, took_stops}
 use Rattle.readers.specs.Pair.{IsKeyByte, IsPairLine, IsRefusedPair}
 use Rattle.readers.proofs.PairLemmas.{refused_after_key, refused_after_line}
 

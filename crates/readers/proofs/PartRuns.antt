@@ -15,13 +15,14 @@ use Rattle.winnow.specs.Bytes.{bytes_reading}
 use Rattle.winnow.specs.Input.{Input, Takes}
 use Rattle.winnow.specs.Kind.{Kind}
 use Rattle.winnow.specs.AsChar.{IsAlphanum}
-use Rattle.winnow.specs.TakeWhile.Known.{TooFew, Took, none_first, took_all, took_stops}
-use Rattle.winnow.specs.TakeUntil.Known.{NothingBefore, TookBefore, before_all, nothing_stands}
-use Rattle.winnow.specs.TakeUntil.Known.{there_all}
+use Rattle.winnow.specs.TakeWhile.Inversion.{TooFew, Took, none_first, took_all, took_stops}
+use Rattle.winnow.specs.TakeUntil.Inversion.{NothingBefore, TookBefore, before_all, nothing_stands}
+use Rattle.winnow.specs.TakeUntil.Inversion.{there_all}
 use Rattle.readers.specs.Pair.{IsKeyByte}
 use Rattle.readers.specs.Document.{IsWhite, IsCommentByte, IsNameByte, IsValueByte, NotFirst}
 use Rattle.readers.specs.Document.{EndsLine, Part}
-use Rattle.readers.specs.Document.{white, comment, section, pair, bytes_of, FitsBefore, Begins}
+use Rattle.readers.specs.Document.{white, comment, section, pair, bytes_of, FitsBefore}
+use Rattle.readers.specs.Document.{StartsWithPart}
 use Rattle.readers.specs.Document.{NoSectionBegins}
 use Rattle.readers.specs.DocumentRuns.{NoGapBegins, IsFront}
 use Rattle.readers.proofs.DocumentLemmas.{same_front, no_part_of_none}
@@ -109,13 +110,13 @@ ends_line (b ∷ more) h = elim (cases_eq b 10) [ inl e ↦ e | inr n ↦ absurd
 
 -- a comment was read
 pub comment_read : (tokens rest text left : List ℕ) → tokens ≡ 59 ∷ rest
-    → IsFront IsCommentByte rest text left → Begins (comment text) tokens left
+    → IsFront IsCommentByte rest text left → StartsWithPart (comment text) tokens left
 comment_read tokens rest text left mark (splits, all, stops) =
     (mark ∙ ap (λ l. 59 ∷ l) splits, (all, ends_line left stops))
 
 -- a name was read
 pub category_read : (tokens a name b rest : List ℕ) → tokens ≡ 91 ∷ a → a ≡ name ++ b
-    → All IsNameByte name → b ≡ 93 ∷ rest → IsUtf8 name → Begins (section name) tokens rest
+    → All IsNameByte name → b ≡ 93 ∷ rest → IsUtf8 name → StartsWithPart (section name) tokens rest
 category_read tokens a name b rest front_mark splits all end_mark utf8 = (
   front_mark ∙ ap (λ l. 91 ∷ l)
       (splits ∙ ap (λ l. name ++ l) end_mark ∙ sym (append_assoc name (93 ∷ []) rest)),
@@ -128,7 +129,7 @@ no_open tokens other name behind (e, fits) = other _ e
 
 -- after a `[` a section has the longest name
 one_name : (tokens a name b other behind : List ℕ) → tokens ≡ 91 ∷ a
-    → IsFront IsNameByte a name b → Begins (section other) tokens behind
+    → IsFront IsNameByte a name b → StartsWithPart (section other) tokens behind
     → (name ≡ other) × (b ≡ 93 ∷ behind)
 one_name tokens a name b other behind front_mark (splits, all, stops) (e, fits) =
     same_front IsNameByte name other b (93 ∷ behind) all fits.0 stops (λ h. h.0 refl)
@@ -168,7 +169,7 @@ has_bytes (pair p) behind fits =
       length-append p.key (p.before ++ (61 ∷ (p.lead ++ (p.value ++ (p.trail ++ p.remark))))),
     )
 
-pub part_shortens : (part : Part) (input behind : List ℕ) → Begins part input behind
+pub part_shortens : (part : Part) (input behind : List ℕ) → StartsWithPart part input behind
     → length behind < length input
 part_shortens part input behind begins =
     omega (

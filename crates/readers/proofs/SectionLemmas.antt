@@ -10,22 +10,22 @@ use Rattle.winnow.specs.Bytes.{bytes_reading}
 use Rattle.winnow.specs.Input.{Input, IsEndOf}
 use Rattle.winnow.specs.Kind.{Kind, backtrack, memory}
 use Rattle.winnow.specs.Form.{Answer}
-use Rattle.winnow.specs.Form.Known.{at_output, ok_is_err, same_kind}
+use Rattle.winnow.specs.Form.Inversion.{at_output, ok_is_err, same_kind}
 use Rattle.winnow.specs.Accumulator.{list_kept}
 use Rattle.winnow.specs.Range.{bounds_of}
 use Rattle.winnow.specs.{Range}
 use Rattle.winnow.specs.Runs.{Runs}
-use Rattle.winnow.specs.InOrder.Known.{both_err}
+use Rattle.winnow.specs.InOrder.Inversion.{both_err}
 use Rattle.winnow.specs.Repeat.{RepeatRuns}
-use Rattle.winnow.specs.Repeat.Known.{Items, repeat_any_err, repeat_any_ok, repeated_by}
-use Rattle.winnow.specs.Repeat.Known.{repeated_list}
+use Rattle.winnow.specs.Repeat.Inversion.{Items, repeat_any_err, repeat_any_ok, repeated_by}
+use Rattle.winnow.specs.Repeat.Inversion.{repeated_list}
 use Rattle.winnow.specs.Sequence.{SequenceRuns2}
 use Rattle.winnow.specs.Terminated.{TerminatedRuns}
-use Rattle.winnow.specs.Terminated.Known.{terminated_ok}
+use Rattle.winnow.specs.Terminated.Inversion.{terminated_ok}
 use Rattle.winnow.specs.Reading.{Reading}
 use Rattle.winnow.specs.Func.{CalledWithMut, FuncRuns, FuncWithRuns}
 use Rattle.readers.specs.Document.{SectionText, PairBytes, Part, white, comment, section, pair}
-use Rattle.readers.specs.Document.{Begins, BeginsWith, NoPairBegins, NoSectionBegins}
+use Rattle.readers.specs.Document.{StartsWithPart, BeginsWith, NoPairBegins, NoSectionBegins}
 use Rattle.readers.specs.Document.{pairs_of, sections_of, NoPairBeforeSections}
 use Rattle.readers.specs.Document.{SectionBegins}
 use Rattle.readers.specs.DocumentRuns.{IsGapPart, NoGapBegins, HasNoSection, CategoryRuns, GapRuns}
@@ -99,7 +99,7 @@ same_both e f = cc
 -- a pair that was read
 key_value_ok : (i : Input ℕ) (o : Bor (List ℕ) × Bor (List ℕ)) (j : Input ℕ)
     → KeyValueRuns i (Ok o) j
-    → (p : PairBytes) × Begins (pair p) i.left.tokens j.left.tokens
+    → (p : PairBytes) × StartsWithPart (pair p) i.left.tokens j.left.tokens
     × (pair_text o ≡ (p.key, p.value))
 key_value_ok i o j (ends, inl (p, key, value, begins, keys, values, is)) =
     (p, begins, at_output (λ x. pair_text x ≡ (p.key, p.value)) is (same_both keys values))
@@ -218,9 +218,9 @@ name_gap_ok i name j ran by_name by_gap =
     (gap, (a.left.tokens, category_ok a (run_with_by CategoryRuns r1 by_name), with), all, none)
   where
     category_ok : (a : Input ℕ) → CategoryRuns i (Ok name) a
-        → Begins (section name.now) i.left.tokens a.left.tokens
+        → StartsWithPart (section name.now) i.left.tokens a.left.tokens
     category_ok a (ends, inl (o, begins, is)) =
-        at_output (λ n. Begins (section n.now) i.left.tokens a.left.tokens) is begins
+        at_output (λ n. StartsWithPart (section n.now) i.left.tokens a.left.tokens) is begins
     category_ok a (ends, inr (none, back, is)) = ok_is_err refl is
 
 -- where they fail, there is no section

@@ -2,8 +2,8 @@
 use Rattle.std.specs.Prelude.{◌≡◌, ◌≢◌, ℕ, ◌<◌, ◌≤◌, ◌+◌, List, [], ◌∷◌, ◌++◌, length, All, ◌⊎◌, ⊤}
 use Rattle.std.specs.Str.{IsUtf8}
 use Rattle.readers.specs.Pair.{IsKeyByte}
-use Rattle.format_calculator.specs.declared.fault.Fault.{Fault}
-use Rattle.format_calculator.specs.declared.fault.Fault.TheVariants.{Refused, NoMemory}
+use Rattle.format_calculator.specs.declared.fault.ReadError.{ReadError}
+use Rattle.format_calculator.specs.declared.fault.ReadError.TheVariants.{Invalid, NoMemory}
 
 -- a space or a tab
 abbrev pub IsBlank : ℕ → Type 0
@@ -109,15 +109,15 @@ FitsBefore (section name) behind = All IsNameByte name × IsUtf8 name
 FitsBefore (pair p) behind = IsPairBefore p behind
 
 -- The input begins with a part, and these bytes follow it.
-abbrev pub Begins : Part → List ℕ → List ℕ → Type 0
-Begins part input behind = (input ≡ bytes_of part ++ behind) × FitsBefore part behind
+abbrev pub StartsWithPart : Part → List ℕ → List ℕ → Type 0
+StartsWithPart part input behind = (input ≡ bytes_of part ++ behind) × FitsBefore part behind
 
 -- The input begins with these parts, in order, and the rest follows them. What follows a part is
 -- judged in the whole input.
 abbrev pub BeginsWith : List Part → List ℕ → List ℕ → Type 0
 BeginsWith [] input rest = input ≡ rest
 BeginsWith (part ∷ parts) input rest =
-    (behind : List ℕ) × Begins part input behind × BeginsWith parts behind rest
+    (behind : List ℕ) × StartsWithPart part input behind × BeginsWith parts behind rest
 
 -- No pair precedes the first section.
 abbrev pub NoPairBeforeSections : List Part → Type 0
@@ -176,7 +176,8 @@ pub record IsRefusedDocument (input : List ℕ) (n : ℕ) : Type 0 where
 
 -- The input begins with a section.
 abbrev pub SectionBegins : List ℕ → Type 0
-SectionBegins input = (name : List ℕ) × (behind : List ℕ) × Begins (section name) input behind
+SectionBegins input = (name : List ℕ) × (behind : List ℕ) × StartsWithPart (section name) input
+    behind
 
 -- `ReachesSection input`: `input` starts with parts of a document, and one of these is a section,
 -- so the list of sections has an entry.
@@ -187,14 +188,14 @@ ReachesSection input =
 
 -- The errors of the reader of documents: the input is rejected at an offset, or memory allocation
 -- failed. Without a section no list has to grow.
-abbrev pub IsDocumentFault : List ℕ → Fault → Type 0
-IsDocumentFault input (Refused n) = IsRefusedDocument input n
+abbrev pub IsDocumentFault : List ℕ → ReadError → Type 0
+IsDocumentFault input (Invalid n) = IsRefusedDocument input n
 IsDocumentFault input NoMemory = ReachesSection input
 
 -- The input begins with no section.
 abbrev pub NoSectionBegins : List ℕ → Type 0
-NoSectionBegins input = (name behind : List ℕ) → Begins (section name) input behind → ⊥
+NoSectionBegins input = (name behind : List ℕ) → StartsWithPart (section name) input behind → ⊥
 
 -- The input begins with no pair.
 abbrev pub NoPairBegins : List ℕ → Type 0
-NoPairBegins input = (p : PairBytes) (behind : List ℕ) → Begins (pair p) input behind → ⊥
+NoPairBegins input = (p : PairBytes) (behind : List ℕ) → StartsWithPart (pair p) input behind → ⊥

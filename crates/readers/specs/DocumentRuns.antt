@@ -10,7 +10,8 @@ use Rattle.std.specs.Str.{IsUtf8}
 use Rattle.readers.specs.Pair.{IsKeyByte}
 use Rattle.readers.specs.Document.{IsBlank, IsNameByte, IsValueByte, IsTrailing, NotFirst, NotLast}
 use Rattle.readers.specs.Document.{Part}
-use Rattle.readers.specs.Document.{PairBytes, white, comment, section, pair, Begins, BeginsWith}
+use Rattle.readers.specs.Document.{PairBytes, white, comment, section, pair, StartsWithPart}
+use Rattle.readers.specs.Document.{BeginsWith}
 use Rattle.readers.specs.Document.{BeginsDocument, NoPairBeforeSections, SectionText, pairs_of}
 use Rattle.readers.specs.Document.{sections_of, NoSectionBegins, NoPairBegins, SectionBegins}
 use Rattle.readers.specs.Document.{ReachesSection}
@@ -61,7 +62,7 @@ ValueRuns i answer j =
 abbrev pub CommentRuns : Input ℕ → Answer ⊤ → Input ℕ → Type 0
 CommentRuns i answer j = IsEndOf bytes_reading j i × (
     -- a comment begins the input, and is taken
-    ((text : List ℕ) × Begins (comment text) i.left.tokens j.left.tokens × (answer ≡ Ok tt))
+    ((text : List ℕ) × StartsWithPart (comment text) i.left.tokens j.left.tokens × (answer ≡ Ok tt))
     -- no `;` does
     ⊎ (NotFirst (λ b. b ≡ 59) i.left.tokens × (answer ≡ Err backtrack)))
 
@@ -82,7 +83,7 @@ BracketsRuns i answer j = IsEndOf bytes_reading j i × (
 abbrev pub CategoryRuns : Input ℕ → Answer (Bor (List ℕ)) → Input ℕ → Type 0
 CategoryRuns i answer j = IsEndOf bytes_reading j i × (
     -- a section begins the input, and is taken
-    ((name : Bor (List ℕ)) × Begins (section name.now) i.left.tokens j.left.tokens
+    ((name : Bor (List ℕ)) × StartsWithPart (section name.now) i.left.tokens j.left.tokens
     × (answer ≡ Ok name))
     -- none does, and the input is as it was
     ⊎ (NoSectionBegins i.left.tokens × (j ≡ i) × (answer ≡ Err backtrack)))
@@ -92,7 +93,7 @@ abbrev pub KeyValueRuns : Input ℕ → Answer (Bor (List ℕ) × Bor (List ℕ)
 KeyValueRuns i answer j = IsEndOf bytes_reading j i × (
     -- a pair begins the input, and is taken
     ((p : PairBytes) × (key : Bor (List ℕ)) × (value : Bor (List ℕ))
-    × Begins (pair p) i.left.tokens j.left.tokens × (key.now ≡ p.key)
+    × StartsWithPart (pair p) i.left.tokens j.left.tokens × (key.now ≡ p.key)
     × (value.now ≡ p.value) × (answer ≡ Ok (key, value)))
     -- none does, and the input is as it was
     ⊎ (NoPairBegins i.left.tokens × (j ≡ i) × (answer ≡ Err backtrack)))
@@ -106,7 +107,8 @@ IsGapPart (pair p) = ⊥
 
 -- The input begins with neither white space nor a comment.
 abbrev pub NoGapBegins : List ℕ → Type 0
-NoGapBegins input = (part : Part) (behind : List ℕ) → IsGapPart part → Begins part input behind → ⊥
+NoGapBegins input = (part : Part) (behind : List ℕ) → IsGapPart part
+    → StartsWithPart part input behind → ⊥
 
 -- A run of the reader of a gap: it takes all the white space and the comments that the input begins
 -- with.
@@ -179,7 +181,7 @@ DocumentRuns {C} told i answer j = IsEndOf bytes_reading j i × (
     -- one that is allowed there
     ((all : C) × (parts : List Part) × BeginsDocument parts i.left.tokens j.left.tokens
     × (told all ≡ sections_of parts)
-    × ((part : Part) (behind : List ℕ) → Begins part j.left.tokens behind
+    × ((part : Part) (behind : List ℕ) → StartsWithPart part j.left.tokens behind
     → NoPairBeforeSections (parts ++ (part ∷ [])) → ⊥) × (answer ≡ Ok all))
     -- there are sections, and no memory for them
     ⊎ (ReachesSection i.left.tokens × (answer ≡ Err memory)))

@@ -1,7 +1,7 @@
 -- The line of one pair.
 use Rattle.std.specs.Prelude.{◌≡◌, ◌≢◌, ℕ, ◌<◌, ◌≤◌, List, [], ◌∷◌, ◌++◌, length, All, ◌⊎◌}
-use Rattle.format_calculator.specs.declared.fault.Fault.{Fault}
-use Rattle.format_calculator.specs.declared.fault.Fault.TheVariants.{Refused, NoMemory}
+use Rattle.format_calculator.specs.declared.fault.ReadError.{ReadError}
+use Rattle.format_calculator.specs.declared.fault.ReadError.TheVariants.{Invalid, NoMemory}
 
 -- an ASCII letter or digit
 abbrev pub IsKeyByte : ℕ → Type 0
@@ -37,6 +37,6 @@ pub record IsRefusedPair (input : List ℕ) (n : ℕ) : Type 0 where
       → length other ≤ n
 
 -- The errors of the reader of a pair, which does not allocate.
-abbrev pub IsPairFault : List ℕ → Fault → Type 0
-IsPairFault input (Refused n) = IsRefusedPair input n
+abbrev pub IsPairFault : List ℕ → ReadError → Type 0
+IsPairFault input (Invalid n) = IsRefusedPair input n
 IsPairFault input NoMemory = ⊥

@@ -9,13 +9,13 @@ use Rattle.readers.specs.declared.program.Stop.{Stop}
 use Rattle.readers.specs.declared.program.Stop.TheVariants.{Usage, Unreadable, Unwritable, TooLong}
 use Rattle.readers.specs.declared.program.Stop.TheVariants.{NoMemory}
 use Rattle.readers.specs.declared.program.Verdict.{Verdict}
-use Rattle.readers.specs.declared.program.Verdict.TheVariants.{Accepted, Refused}
+use Rattle.readers.specs.declared.program.Verdict.TheVariants.{Accepted, Invalid}
 use Rattle.readers.specs.declared.program.Format.{Format}
 use Rattle.readers.specs.declared.program.Format.TheVariants.{Pair, Ini, Calc}
 use Rattle.readers.specs.Pair.{IsPairLine, IsRefusedPair}
 use Rattle.readers.specs.Document.{SectionText, HasSections, IsRefusedDocument}
 use Rattle.format_calculator.specs.Calculator.{IsFormulaFault, IsValue}
-use Rattle.format_calculator.specs.declared.fault.Fault.TheVariants.{Refused as refused_at}
+use Rattle.format_calculator.specs.declared.fault.ReadError.TheVariants.{Invalid as refused_at}
 
 -- at most n of the known bytes were taken
 abbrev pub ConsumesAtMost : Option (List ℕ) → Option (List ℕ) → ℕ → Type 0
@@ -26,10 +26,10 @@ abbrev pub AppendsSome : Option (List ℕ) → Option (List ℕ) → List ℕ �
 AppendsSome old new bytes =
     (front : List ℕ) × (rest : List ℕ) × (bytes ≡ front ++ rest) × Appends old new front
 
--- `Tells told old new text`: all of `text` was appended if `told` is true, and some prefix of it
+-- `Appended told old new text`: all of `text` was appended if `told` is true, and some prefix of it
 -- otherwise.
-abbrev pub Tells : Bool → Option (List ℕ) → Option (List ℕ) → List ℕ → Type 0
-Tells told old new text = (IsTrue told → Appends old new text) × AppendsSome old new text
+abbrev pub Appended : Bool → Option (List ℕ) → Option (List ℕ) → List ℕ → Type 0
+Appended told old new text = (IsTrue told → Appends old new text) × AppendsSome old new text
 
 -- the line of a pair
 abbrev pub pair_line : List ℕ → List ℕ → List ℕ
@@ -120,7 +120,7 @@ IsRefusedText format bytes text = (n : ℕ) × IsRefusedAt format bytes n × (te
 -- the text that is written for a verdict
 unfoldable pub IsAnswerText : Format → List ℕ → Verdict → List ℕ → Type 0
 IsAnswerText format bytes Accepted text = IsLinesText format bytes text
-IsAnswerText format bytes Refused text = IsRefusedText format bytes text
+IsAnswerText format bytes Invalid text = IsRefusedText format bytes text
 
 -- the text on standard error
 abbrev pub stop_text : Stop → List ℕ
@@ -161,10 +161,10 @@ RunOwes format bytes status told out_old out_new err_old err_new =
     -- the bytes are rejected
     ⊎ (((status ≡ 1) × (length bytes ≤ most_of format) × Keeps out_old out_new
     × ((text : List ℕ) × IsRefusedText format bytes text
-    × Tells told err_old err_new text))
+    × Appended told err_old err_new text))
     -- the reason why there is no output
     ⊎ ((status ≡ 2) × ((stop : Stop) × StopLeaves format bytes stop out_old out_new
-    × Tells told err_old err_new (stop_text stop))))
+    × Appended told err_old err_new (stop_text stop))))
 
 -- The effect of writing the text of a verdict, with the exit status, and with whether the message
 -- is complete on standard error.
@@ -173,6 +173,6 @@ abbrev pub WritesAnswer : Verdict → List ℕ → ℕ → Bool → Option (List
 WritesAnswer Accepted text status told out_old out_new err_old err_new =
     ((status ≡ 0) × (told ≡ true) × Appends out_old out_new text × Keeps err_old err_new)
     ⊎ ((status ≡ 2) × AppendsSome out_old out_new text
-    × Tells told err_old err_new (stop_text Unwritable))
-WritesAnswer Refused text status told out_old out_new err_old err_new =
-    (status ≡ 1) × Keeps out_old out_new × Tells told err_old err_new text
+    × Appended told err_old err_new (stop_text Unwritable))
+WritesAnswer Invalid text status told out_old out_new err_old err_new =
+    (status ≡ 1) × Keeps out_old out_new × Appended told err_old err_new text

@@ -1,9 +1,9 @@
 //! The errors of readers.
 //!
 //! ```
-//! use readers::fault::Fault;
+//! use readers::fault::ReadError;
 //! use readers::ini;
 //!
-//! assert_eq!(rt; ini::pair(b"key"), Err(Fault::Refused(3)));
+//! assert_eq!(rt; ini::pair(b"key"), Err(ReadError::Invalid(3)));
 //! ```
-pub use format_calculator::fault::Fault;
+pub use format_calculator::fault::ReadError;

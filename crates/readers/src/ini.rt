@@ -6,7 +6,7 @@ mod parts;
 mod sections;
 mod tables;
 
-use crate::fault::Fault;
+use crate::fault::ReadError;
 pub use crate::ini::parts::{category, key_value};
 pub use crate::ini::sections::{Section, document};
 use crate::ini::tables::{bytes_of_line, key_bytes, line_feed};
@@ -23,13 +23,13 @@ use winnow::token::take_while;
 /// start with.
 ///
 /// ```
-/// use readers::fault::Fault;
+/// use readers::fault::ReadError;
 /// use readers::ini;
 ///
 /// assert_eq!(rt; ini::pair(b"key=value\n"), Ok((b"key".as_slice(), b"value".as_slice())));
-/// assert_eq!(rt; ini::pair(b"a=b\nc"), Err(Fault::Refused(4)));
+/// assert_eq!(rt; ini::pair(b"a=b\nc"), Err(ReadError::Invalid(4)));
 /// ```
-pub fn pair(input: &[u8]) -> Result<(&[u8], &[u8]), Fault>
+pub fn pair(input: &[u8]) -> Result<(&[u8], &[u8]), ReadError>
     ensures parts { IfOk result (λ p. IsPairLine input.now p.0.now p.1.now) }
     ensures refused { IfErr result (λ f. IsPairFault input.now f) }
 {
@@ -43,7 +43,7 @@ pub fn pair(input: &[u8]) -> Result<(&[u8], &[u8]), Fault>
     );
     match line.parse(input) {
         Ok((key, _, value, _)) => Ok((key, value)),
-        Err(ParseFault::Refused(error)) => Err(Fault::Refused(error.offset())),
+        Err(ParseFault::Invalid(error)) => Err(ReadError::Invalid(error.offset())),
         Err(ParseFault::Incomplete(_)) => unreachable!(),
     }
 }

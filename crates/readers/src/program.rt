@@ -4,7 +4,7 @@
 ghost use Rattle.std.specs.Prelude.{◌≡◌, Bool, ◌≤◌, ◌↔◌, IsTrue, List, ℕ, length, IfOk, IfSome};
 ghost use Rattle.std.specs.Prelude.{MatchOption, MatchResult, ◌+◌};
 ghost use Rattle.std.specs.Io.KnownBytes.{Keeps, Appends};
-ghost use Rattle.readers.specs.Program.{ConsumesAtMost, AppendsSome, Tells, IsAnswerText};
+ghost use Rattle.readers.specs.Program.{ConsumesAtMost, AppendsSome, Appended, IsAnswerText};
 ghost use Rattle.readers.specs.Program.{StopsAnswer, WritesAnswer, RunOwes, stop_text};
 ghost use Rattle.readers.specs.Program.{refused_line, format_word, IsWord, most_bytes, most_of};
 
@@ -12,7 +12,7 @@ mod arguments;
 mod bytes_io;
 mod lines;
 
-use crate::fault::Fault;
+use crate::fault::ReadError;
 pub use crate::program::arguments::serve;
 use crate::program::bytes_io::{ReadFault, put, read_up_to};
 use crate::program::lines::{line_of_number, line_of_pair, line_of_refusal, lines_of_sections};
@@ -109,7 +109,7 @@ pub enum Format {
 #[derive(Clone, Copy, Debug, PartialEq)]
 enum Verdict {
     Accepted,
-    Refused,
+    Invalid,
 }
 
 /// The whole answer to an input: the text, and whether it goes to standard output or to standard
@@ -196,7 +196,7 @@ pub fn run_and_tell<A: Allocator + Copy, R: Read, W: Write, E: Write>(
         → (result.status ≡ 2)
         × Keeps (R.remaining input.old) (R.remaining input.new)
         × Keeps (W.contents output.old) (W.contents output.new)
-        × Tells result.is_told (E.contents errors.old) (E.contents errors.new)
+        × Appended result.is_told (E.contents errors.old) (E.contents errors.new)
         (stop_text Stop.Usage) }
     ensures answered { (format : Format) → IsWord words.now (format_word format)
         → IfSome (R.remaining input.old) (λ bytes. RunOwes format bytes result.status result.is_told
@@ -215,7 +215,7 @@ pub fn run_and_tell<A: Allocator + Copy, R: Read, W: Write, E: Write>(
 /// Writes the reason why there is no output.
 fn stopped<E: Write>(stop: Stop, errors: &mut E) -> Outcome
     ensures status { result.status ≡ 2 }
-    ensures told { Tells result.is_told (E.contents errors.old) (E.contents errors.new)
+    ensures told { Appended result.is_told (E.contents errors.old) (E.contents errors.new)
         (stop_text stop) }
 {
     let is_told = put(errors, stop.text());
@@ -315,8 +315,8 @@ fn answer_pair<A: Allocator + Copy>(alloc: A, bytes: &[u8]) -> Result<Answer<A>,
                 text,
             })
         }
-        Err(Fault::Refused(at)) => refusal(alloc, at),
-        Err(Fault::NoMemory) => Err(AllocError),
+        Err(ReadError::Invalid(at)) => refusal(alloc, at),
+        Err(ReadError::NoMemory) => Err(AllocError),
     }
 }
 
@@ -333,8 +333,8 @@ fn answer_document<A: Allocator + Copy>(alloc: A, bytes: &[u8]) -> Result<Answer
                 text,
             })
         }
-        Err(Fault::Refused(at)) => refusal(alloc, at),
-        Err(Fault::NoMemory) => Err(AllocError),
+        Err(ReadError::Invalid(at)) => refusal(alloc, at),
+        Err(ReadError::NoMemory) => Err(AllocError),
     }
 }
 
@@ -352,8 +352,8 @@ fn answer_formula<A: Allocator + Copy>(alloc: A, bytes: &[u8]) -> Result<Answer<
                     text,
                 })
             }
-            Err(Fault::Refused(at)) => refusal(alloc, at),
-            Err(Fault::NoMemory) => Err(AllocError),
+            Err(ReadError::Invalid(at)) => refusal(alloc, at),
+            Err(ReadError::NoMemory) => Err(AllocError),
         },
         Err(error) => refusal(alloc, error.valid_up_to()),
     }
@@ -361,11 +361,11 @@ fn answer_formula<A: Allocator + Copy>(alloc: A, bytes: &[u8]) -> Result<Answer<
 
 /// Returns the verdict and the line for rejected bytes.
 fn refusal<A: Allocator>(alloc: A, at: usize) -> Result<Answer<A>, AllocError>
-    ensures { IfOk result (λ a. (a.verdict ≡ Verdict.Refused) × (a.text.items ≡ refused_line at)) }
+    ensures { IfOk result (λ a. (a.verdict ≡ Verdict.Invalid) × (a.text.items ≡ refused_line at)) }
 {
     let text = line_of_refusal(alloc, at)?;
     Ok(Answer {
-        verdict: Verdict::Refused,
+        verdict: Verdict::Invalid,
         text,
     })
 }
@@ -390,7 +390,7 @@ fn write_answer<A: Allocator, W: Write, E: Write>(
             }
             stopped(Stop::Unwritable, errors)
         }
-        Verdict::Refused => {
+        Verdict::Invalid => {
             let is_told = put(errors, answer.text.as_slice());
             Outcome { status: 1, is_told }
         }

@@ -6,7 +6,7 @@ use Rattle.std.proofs.Common.{ap, ◌∙◌, arith, inl, inr, length-append, len
 use Rattle.std.proofs.lemmas.Bool.{and_parts, and_from, ltb-true, lt-ltb, leb-true, le-leb}
 use Rattle.std.proofs.lemmas.Bool.{eqb-true}
 use Rattle.std.proofs.lemmas.Bool.{eq-eqb, or_cases, cases_Bool, cases_eq, ne_eqb}
-use Rattle.streams.specs.Following.{FitsBehind, Following, fits_behind, most_bytes}
+use Rattle.streams.specs.Following.{FitsAfter, Following, fits_behind, most_bytes}
 use Rattle.streams.specs.Input.{Input, Remaining}
 use Rattle.streams.specs.Reading.{Reading}
 use Rattle.stream_bits.specs.BitList.{bits_of, length_bits}
@@ -105,7 +105,7 @@ WholeBytes bits = (bytes : List ℕ) × All (λ b. b < 256) bytes × (bits ≡ b
 -- After bits come whole bytes of bits, as long as a number of 64 bits counts all bits.
 abbrev pub bits_follow : {S : Type 0} → Reading ℕ S → Following Bool
 bits_follow reading = record {
-  can_follow = FitsBehind WholeBytes length (8 * most_bytes);
+  can_follow = FitsAfter WholeBytes length (8 * most_bytes);
   kept = λ dropped later more f. fits_behind (bits_reading reading) WholeBytes (8 * most_bytes)
       dropped later more f;
 }

@@ -44,7 +44,7 @@ pub record ShowsBits {S : Type 0} (reading : Reading ℕ S) (slice : BitSlice S)
 -- many of the byte after its bytes are read after it. Its bytes are those that are passed
 -- completely. There are none at a position after more than seven bits of a byte, which is
 -- unchanged.
-pub record StandsBetween {S : Type 0} (reading : Reading ℕ S) (bytes : List ℕ) (before units : ℕ)
+pub record IsBitPosition {S : Type 0} (reading : Reading ℕ S) (bytes : List ℕ) (before units : ℕ)
     (slice : BitSlice S) (behind : ℕ) : Type 0 where
   pub begins : slice.1 ≡ before
   pub ends : slice.2 ≡ behind

@@ -92,9 +92,10 @@ first_begun bytes rest offset b read inside first =
     (drop_at (low_bits read (b / 2 ^ (8 - read))) (low_bits (8 - read) b) read
     (length_low read (b / 2 ^ (8 - read)))))
 
--- `StandsAt all before start offset t`: in `all`, `t` follows the tokens of `before`. Its offset is
+-- `IsTokenAt all before start offset t`: in `all`, `t` follows the tokens of `before`. Its offset
+-- is
 -- `offset`, counted from `start`.
-pub record StandsAt {T : Type 0} (all : List T) (before : List (ℕ × T)) (start offset : ℕ) (t : T)
+pub record IsTokenAt {T : Type 0} (all : List T) (before : List (ℕ × T)) (start offset : ℕ) (t : T)
     : Type 0 where
   pub rest : List T
   pub splits : all ≡ map (λ x. x.1) before ++ t ∷ rest
@@ -103,7 +104,7 @@ pub record StandsAt {T : Type 0} (all : List T) (before : List (ℕ × T)) (star
 pub stands_at : {T : Type 0} (start : ℕ) (all : List T) (before : List (ℕ × T)) (offset : ℕ)
     (t : T) (behind : List (ℕ × T))
     → with_offsets length start all ≡ before ++ (offset, t) ∷ behind
-    → StandsAt all before start offset t
+    → IsTokenAt all before start offset t
 stands_at start [] [] offset t behind e = absurd (cc)
 stands_at start [] (b ∷ before) offset t behind e = absurd (cc)
 stands_at start (x ∷ xs) [] offset t behind e =

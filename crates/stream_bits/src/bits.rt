@@ -6,7 +6,7 @@ ghost use Rattle.std.specs.Prelude.{length, [], ℕ, MatchOption};
 ghost use Rattle.streams.specs.Input.{Input, IsEndOf, Remaining, Takes};
 ghost use Rattle.stream_bits.specs.BitInput.{bits_follow, bits_from, bits_input, bits_left};
 ghost use Rattle.stream_bits.specs.BitInput.{can_be_read};
-ghost use Rattle.stream_bits.specs.BitReading.{StandsBetween, bits_reading};
+ghost use Rattle.stream_bits.specs.BitReading.{IsBitPosition, bits_reading};
 ghost use Rattle.stream_bits.specs.Offsets.{bits_to_come};
 ghost use Rattle.streams.specs.Stream.{Cuts, IsBoundary, with_offsets};
 ghost use Rattle.stream_bits.specs.Within.{ReadsNumber};
@@ -174,7 +174,7 @@ impl<I: ByteStream> Stream for Bits<I> {
         ensures cuts { Cuts (bits_reading I.reading) offset
             (bits_input (I.view self.old.0) self.old.1) result
             (bits_input (I.view self.new.0) self.new.1) }
-        ensures stands { StandsBetween I.reading (I.view self.old.0).left.tokens self.old.1
+        ensures stands { IsBitPosition I.reading (I.view self.old.0).left.tokens self.old.1
             offset result self.new.1 }
     {
         let start = self.1;
@@ -195,7 +195,7 @@ impl<I: ByteStream> Stream for Bits<I> {
             (bits_input (I.view self.old.0) self.old.1) result
             (bits_input (I.view self.new.0) self.new.1) }
         ensures nothing { bits_from (I.view self.new.0).left.tokens self.new.1 ≡ [] }
-        ensures stands { StandsBetween I.reading (I.view self.old.0).left.tokens self.old.1
+        ensures stands { IsBitPosition I.reading (I.view self.old.0).left.tokens self.old.1
             (length (bits_from (I.view self.old.0).left.tokens self.old.1)) result self.new.1 }
     {
         let left = self.eof_offset();

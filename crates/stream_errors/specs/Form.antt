@@ -3,7 +3,7 @@ use Rattle.std.specs.Prelude.{◌≡◌, ℕ, Bool, true, false, Option, Some, N
 use Rattle.std.proofs.Common.{refl, ◌⊎◌, inl, inr}
 use Rattle.streams.specs.Kind.{Kind, backtrack, cut, incomplete, memory}
 pub use Rattle.streams.specs.Kind.{ErrorForm, plain, modal}
-pub mod Known
+pub mod Inversion
 
 -- the kind of an assert error: a parser that was made or called wrongly
 abbrev pub assert_kind : ErrorForm → Kind

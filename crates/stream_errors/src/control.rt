@@ -17,13 +17,13 @@ use streams::stream::Stream;
 /// control character of an escape does.
 ///
 /// ```
-/// assert!(rt; ParserError::<&[u8]>::is_backtrack(&ControlError::Refused));
+/// assert!(rt; ParserError::<&[u8]>::is_backtrack(&ControlError::Invalid));
 /// assert!(rt; ParserError::<&[u8]>::is_memory(&ControlError::NoMemory));
 /// ```
 #[derive(Clone, Copy, Debug, PartialEq, Eq)]
 pub enum ControlError {
     /// The input does not start with it: the error backtracks.
-    Refused,
+    Invalid,
     /// Memory allocation failed.
     NoMemory,
 }
@@ -45,17 +45,17 @@ impl<I: Stream> ParserError<I> for ControlError {
 
     #[inline(always)]
     fn from_input(_input: &I) -> ControlError {
-        ControlError::Refused
+        ControlError::Invalid
     }
 
     #[inline(always)]
     fn assert(_input: &I, _message: &'static str) -> ControlError {
-        ControlError::Refused
+        ControlError::Invalid
     }
 
     #[inline(always)]
     fn incomplete(_input: &I, _needed: Needed) -> ControlError {
-        ControlError::Refused
+        ControlError::Invalid
     }
 
     #[inline(always)]
@@ -66,7 +66,7 @@ impl<I: Stream> ParserError<I> for ControlError {
     #[inline(always)]
     fn or(self, other: ControlError) -> ControlError {
         match self {
-            ControlError::Refused => other,
+            ControlError::Invalid => other,
             ControlError::NoMemory => ControlError::NoMemory,
         }
     }
@@ -81,7 +81,7 @@ impl<I: Stream> ParserError<I> for ControlError {
     #[inline(always)]
     fn is_backtrack(&self) -> bool {
         match self {
-            ControlError::Refused => true,
+            ControlError::Invalid => true,
             ControlError::NoMemory => false,
         }
     }
@@ -89,7 +89,7 @@ impl<I: Stream> ParserError<I> for ControlError {
     #[inline(always)]
     fn is_incomplete(&self) -> bool {
         match self {
-            ControlError::Refused => false,
+            ControlError::Invalid => false,
             ControlError::NoMemory => false,
         }
     }
@@ -97,7 +97,7 @@ impl<I: Stream> ParserError<I> for ControlError {
     #[inline(always)]
     fn is_memory(&self) -> bool {
         match self {
-            ControlError::Refused => false,
+            ControlError::Invalid => false,
             ControlError::NoMemory => true,
         }
     }
@@ -105,7 +105,7 @@ impl<I: Stream> ParserError<I> for ControlError {
     #[inline(always)]
     fn needed(&self) -> Option<Needed> {
         match self {
-            ControlError::Refused => None,
+            ControlError::Invalid => None,
             ControlError::NoMemory => None,
         }
     }
@@ -135,7 +135,7 @@ impl<I: Stream, C: Drop, A: Allocator> AddContext<I, C, A> for ControlError {
         _context: C,
     ) -> ControlError {
         match self {
-            ControlError::Refused => ControlError::Refused,
+            ControlError::Invalid => ControlError::Invalid,
             ControlError::NoMemory => ControlError::NoMemory,
         }
     }
@@ -150,6 +150,6 @@ impl<I: Stream, E: Drop> FromExternalError<I, E> for ControlError {
 
     #[inline(always)]
     fn from_external_error(_input: &I, _error: E) -> ControlError {
-        ControlError::Refused
+        ControlError::Invalid
     }
 }

@@ -9,7 +9,7 @@ use streams::stream::Stream;
 ///
 /// ```
 /// match Parser::<_, &str, EmptyError>::parse(&mut Digit1, "12a") {
-///     Err(ParseFault::Refused(error)) => {
+///     Err(ParseFault::Invalid(error)) => {
 ///         assert_eq!(rt; error.offset(), 2);
 ///         assert_eq!(rt; *error.input(), "12a");
 ///     }
@@ -91,7 +91,7 @@ impl<I, E> ParseError<I, E> {
 #[derive(Debug, PartialEq, Drop)]
 pub enum ParseFault<I, E, N = Needed> {
     /// The input is invalid at an offset.
-    Refused(ParseError<I, E>),
+    Invalid(ParseError<I, E>),
     /// A parser needed more input, although the input is complete.
     Incomplete(N),
 }

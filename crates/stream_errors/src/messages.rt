@@ -63,7 +63,7 @@ impl<I: ShownBytes, E: Display> Display for ParseError<I, E> {
 impl<I: ShownBytes, E: Display> Display for ParseFault<I, E> {
     fn fmt<W: fmt::Write>(&self, f: &mut fmt::Formatter<W>) -> fmt::Result {
         match self {
-            ParseFault::Refused(error) => Display::fmt(error, f),
+            ParseFault::Invalid(error) => Display::fmt(error, f),
             ParseFault::Incomplete(needed) => write_need(f, needed),
         }
     }
@@ -99,7 +99,7 @@ impl Display for EmptyError {
 impl Display for ControlError {
     fn fmt<W: fmt::Write>(&self, f: &mut fmt::Formatter<W>) -> fmt::Result {
         f.write_str(match self {
-            ControlError::Refused => "failed to parse",
+            ControlError::Invalid => "failed to parse",
             ControlError::NoMemory => "out of memory",
         })
     }

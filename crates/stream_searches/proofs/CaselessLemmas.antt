@@ -5,11 +5,11 @@ use Rattle.std.proofs.lemmas.List.{length-append, length-take-le, take-append-dr
 use Rattle.stream_searches.specs.Caseless.{IsCaseless, lower_case, lower_case-append}
 use Rattle.stream_searches.specs.Caseless.{first_lower_case}
 use Rattle.stream_searches.specs.Caseless.{same_lengths}
-use Rattle.stream_searches.specs.Compare.{ComparesAs, StandsFirst, IsShort}
+use Rattle.stream_searches.specs.Compare.{ComparesAs, StartsWithSpelling, IsShort}
 use Rattle.stream_searches.specs.declared.compare.CompareResult.TheVariants.{Ok, Incomplete, Error}
 
 module _ (all lit : List ℕ) where
-  first_length : StandsFirst (IsCaseless lit) all → length lit ≤ length all
+  first_length : StartsWithSpelling (IsCaseless lit) all → length lit ≤ length all
   first_length (front, rest, same, split) =
       omega (
         arith,

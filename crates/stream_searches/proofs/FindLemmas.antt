@@ -14,7 +14,7 @@ use Rattle.std.specs.declared.ops.Range.{Range}
 use Rattle.memchr.specs.Find.{OccursAt, Passes, FindsNeedle, IsFirstByte, is_byte, is_byte2}
 use Rattle.memchr.specs.Find.{is_byte3}
 use Rattle.memchr.proofs.lemmas.MatchLemmas.{OccursAt-from_part, OccursAt-split}
-use Rattle.stream_searches.specs.FindSlice.{Stands, IsFirstMatch, FindsSlice}
+use Rattle.stream_searches.specs.FindSlice.{Occurs, IsFirstMatch, FindsSlice}
 use Rattle.stream_searches.specs.Three.{IsOneOfThree}
 
 occurs : (hay needle front rest : List ℕ) → hay ≡ front ++ (needle ++ rest)
@@ -32,7 +32,7 @@ occurs hay needle front rest e =
     (drop_at front (needle ++ rest) (length front) refl) ∙ take-append_seam needle rest)
 
 pub needle_stands : (hay needle : List ℕ) (r : Option ℕ) → FindsNeedle hay needle 0 r
-    → MatchOption r ((front hit rest : List ℕ) → Stands (λ xs. xs ≡ needle) hay front hit rest
+    → MatchOption r ((front hit rest : List ℕ) → Occurs (λ xs. xs ≡ needle) hay front hit rest
     → ⊥) (λ k. IsFirstMatch length (λ xs. xs ≡ needle) hay k (k + length needle))
 needle_stands hay needle None nowhere = λ front hit rest s.
     nowhere (length front) (omega arith)
@@ -70,7 +70,7 @@ pub byte_stands : (test : ℕ → Bool) (sought : List ℕ → Type 0)
     → ((b : ℕ) → test b ≡ true → sought (b ∷ []))
     → ((xs : List ℕ) → sought xs → (b : ℕ) × (xs ≡ b ∷ []) × (test b ≡ true))
     → (hay : List ℕ) (r : Option ℕ) → IsFirstByte test hay r
-    → MatchOption r ((front hit rest : List ℕ) → Stands sought hay front hit rest → ⊥)
+    → MatchOption r ((front hit rest : List ℕ) → Occurs sought hay front hit rest → ⊥)
     (λ k. IsFirstMatch length sought hay k (k + 1))
 byte_stands test sought is_sought are_bytes hay None nowhere = λ front hit rest s.
     let byte = are_bytes hit s.is in
@@ -107,7 +107,7 @@ byte_stands test sought is_sought are_bytes hay (Some k) (before, here) =
 
 -- the single byte a
 pub one_stands : (a : ℕ) (hay : List ℕ) (r : Option ℕ) → IsFirstByte (is_byte a) hay r
-    → MatchOption r ((front hit rest : List ℕ) → Stands (λ xs. xs ≡ a ∷ []) hay front hit rest
+    → MatchOption r ((front hit rest : List ℕ) → Occurs (λ xs. xs ≡ a ∷ []) hay front hit rest
     → ⊥) (λ k. IsFirstMatch length (λ xs. xs ≡ a ∷ []) hay k (k + 1))
 one_stands a hay r first =
     byte_stands (is_byte a) (λ xs. xs ≡ a ∷ []) (λ x e. ap (λ y. y ∷ []) (eqb-true x a e))
@@ -116,7 +116,7 @@ one_stands a hay r first =
 -- one of two bytes
 pub two_stand : (a b : ℕ) (hay : List ℕ) (r : Option ℕ) → IsFirstByte (is_byte2 a b) hay r
     → MatchOption r ((front hit rest : List ℕ)
-    → Stands (λ xs. (xs ≡ a ∷ []) ⊎ (xs ≡ b ∷ [])) hay front hit rest → ⊥)
+    → Occurs (λ xs. (xs ≡ a ∷ []) ⊎ (xs ≡ b ∷ [])) hay front hit rest → ⊥)
     (λ k. IsFirstMatch length (λ xs. (xs ≡ a ∷ []) ⊎ (xs ≡ b ∷ [])) hay k (k + 1))
 two_stand a b hay r first =
     byte_stands (is_byte2 a b) (λ xs. (xs ≡ a ∷ []) ⊎ (xs ≡ b ∷ [])) is_sought are_bytes hay r
@@ -136,7 +136,7 @@ two_stand a b hay r first =
 -- one of three bytes
 pub three_stand : (a b c : ℕ) (hay : List ℕ) (r : Option ℕ) → IsFirstByte (is_byte3 a b c) hay r
     → MatchOption r ((front hit rest : List ℕ)
-    → Stands (λ xs. (xs ≡ a ∷ []) ⊎ ((xs ≡ b ∷ []) ⊎ (xs ≡ c ∷ []))) hay front hit rest
+    → Occurs (λ xs. (xs ≡ a ∷ []) ⊎ ((xs ≡ b ∷ []) ⊎ (xs ≡ c ∷ []))) hay front hit rest
     → ⊥) (λ k. IsFirstMatch length (λ xs. (xs ≡ a ∷ []) ⊎ ((xs ≡ b ∷ []) ⊎ (xs ≡ c ∷ [])))
     hay k (k + 1))
 three_stand a b c hay r first =

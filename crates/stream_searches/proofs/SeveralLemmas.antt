@@ -7,20 +7,20 @@ use Rattle.std.proofs.lemmas.Bool.{cases_lt, eq-eqb, or_left, or_right}
 use Rattle.std.proofs.Math.Dec.{eqb}
 use Rattle.std.proofs.lemmas.List.{take-append-drop, length-take-le, drop_at}
 use Rattle.memchr.specs.Find.{NoneBefore, Nowhere, Passes, is_byte3}
-use Rattle.stream_searches.specs.Compare.{StandsFirst}
-use Rattle.stream_searches.specs.FindSlice.{Stands, IsFirstMatch}
+use Rattle.stream_searches.specs.Compare.{StartsWithSpelling}
+use Rattle.stream_searches.specs.FindSlice.{Occurs, IsFirstMatch}
 use Rattle.stream_searches.specs.Three.{IsOneOfThree}
 
 -- `NoneFirst all P n`: no needle occurs at an offset below `n`
 abbrev pub NoneFirst : List ℕ → (List ℕ → Type 0) → ℕ → Type 0
-NoneFirst all P n = (k : ℕ) → k < n → StandsFirst P (drop k all) → ⊥
+NoneFirst all P n = (k : ℕ) → k < n → StartsWithSpelling P (drop k all) → ⊥
 
 -- `Begin test P`: every needle begins with a byte that passes the test
 abbrev pub Begin : (ℕ → Bool) → (List ℕ → Type 0) → Type 0
 Begin test P = (xs : List ℕ) → P xs → (b : ℕ) × (bs : List ℕ) × (xs ≡ b ∷ bs) × (test b ≡ true)
 
 first_passes : (test : ℕ → Bool) (P : List ℕ → Type 0) → Begin test P → (all : List ℕ) (k : ℕ)
-    → StandsFirst P (drop k all) → test (get_or all k 0) ≡ true
+    → StartsWithSpelling P (drop k all) → test (get_or all k 0) ≡ true
 first_passes test P begin all k (front, rest, p, split) =
     let begins = begin front p in
     let here : k + 0 ≡ k = omega arith in
@@ -41,8 +41,8 @@ skipped test P begin all start at before nowhere k h s = elim (cases_lt k start)
       ∙ first_passes test P begin all k s)
 ]
 
-stands_first : (P : List ℕ → Type 0) (all front hit rest : List ℕ) → Stands P all front hit rest
-    → StandsFirst P (drop (length front) all)
+stands_first : (P : List ℕ → Type 0) (all front hit rest : List ℕ) → Occurs P all front hit rest
+    → StartsWithSpelling P (drop (length front) all)
 stands_first P all front hit rest s = (
   hit,
   rest,
@@ -54,7 +54,7 @@ stands_first P all front hit rest s = (
 pub none_left : (test : ℕ → Bool) (P : List ℕ → Type 0) → Begin test P
     → (all : List ℕ) (start : ℕ) → NoneFirst all P start
     → Nowhere (Passes test (drop start all)) 0 (length (drop start all))
-    → (front hit rest : List ℕ) → Stands P all front hit rest → ⊥
+    → (front hit rest : List ℕ) → Occurs P all front hit rest → ⊥
 none_left test P begin all start before nowhere front hit rest s =
     let begins = begin hit s.is in
     skipped test P begin all start (length (drop start all)) before nowhere (length front)
@@ -92,7 +92,7 @@ found_first P all at n before within front rest p split is_length =
     }
 
 pub one_more : (P : List ℕ → Type 0) (all : List ℕ) (at : ℕ) → NoneFirst all P at
-    → (StandsFirst P (drop at all) → ⊥) → NoneFirst all P (at + 1)
+    → (StartsWithSpelling P (drop at all) → ⊥) → NoneFirst all P (at + 1)
 one_more P all at before here k h s = elim (cases_lt k at) [
   | inl l ↦ before k l s
   | inr g ↦ here (let same : k

@@ -11,7 +11,7 @@ use Rattle.std.proofs.Math.Seq.{take-append_seam}
 use Rattle.std.specs.Char.{encode_utf8}
 use Rattle.streams.specs.Utf8.{chars-encode}
 use Rattle.streams.specs.Text.{width, width_chars, length_encodes}
-use Rattle.stream_searches.specs.FindSlice.{Stands, FindsSlice}
+use Rattle.stream_searches.specs.FindSlice.{Occurs, FindsSlice}
 use Rattle.stream_searches.specs.Three.{IsOneOfThree}
 
 front_is_text : (all front lit rest : List ℕ) → IsUtf8 all → IsUtf8 lit
@@ -34,8 +34,8 @@ front_is_text all front (b ∷ bs) rest all_utf8 lit_utf8 split none =
 
 bytes_stand : (all : List ℕ) (P Q : List ℕ → Type 0)
     → ((cs : List ℕ) → Q cs → P (encode_utf8_all cs)) → IsUtf8 all → (front hit rest : List ℕ)
-    → Stands Q (chars all) front hit rest
-    → Stands P all (encode_utf8_all front) (encode_utf8_all hit) (encode_utf8_all rest)
+    → Occurs Q (chars all) front hit rest
+    → Occurs P all (encode_utf8_all front) (encode_utf8_all hit) (encode_utf8_all rest)
 bytes_stand all P Q to_bytes utf8 front hit rest s = record {
   splits =
       sym (encodes-chars all utf8) ∙ ap encode_utf8_all s.splits

@@ -10,7 +10,7 @@ use Rattle.std.proofs.lemmas.List.{append-nil, length-append, take-append-drop}
 use Rattle.streams.specs.Equal.{same_first, same_others}
 use Rattle.streams.specs.Text.{length_encodes, width, width_chars, width_positive}
 use Rattle.streams.specs.Utf8.{chars_spelled, two_bytes, three_bytes, four_bytes}
-use Rattle.stream_searches.specs.Compare.{ComparesAs, StandsFirst, IsShort}
+use Rattle.stream_searches.specs.Compare.{ComparesAs, StartsWithSpelling, IsShort}
 use Rattle.stream_searches.specs.declared.compare.CompareResult.{CompareResult}
 use Rattle.stream_searches.specs.declared.compare.CompareResult.TheVariants.{Ok, Incomplete, Error}
 
@@ -151,7 +151,8 @@ module _ (all lit : List ℕ) (all_utf8 : IsUtf8 all) (lit_utf8 : IsUtf8 lit) wh
       lower_case_encodes cs ∙ ap encode_utf8_all e ∙ sym (lower_case_encodes (chars lit))
       ∙ ap lower_case (encodes-chars lit lit_utf8)
 
-  bytes_first : StandsFirst (IsCaseless (chars lit)) (chars all) → StandsFirst (IsCaseless lit) all
+  bytes_first : StartsWithSpelling (IsCaseless (chars lit)) (chars all)
+      → StartsWithSpelling (IsCaseless lit) all
   bytes_first (front, rest, same, split) = (
     encode_utf8_all front,
     encode_utf8_all rest,

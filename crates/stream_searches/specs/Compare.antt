@@ -4,9 +4,9 @@ use Rattle.std.proofs.Common.{sym, ap, ◌∙◌}
 use Rattle.stream_searches.specs.declared.compare.CompareResult.{CompareResult}
 use Rattle.stream_searches.specs.declared.compare.CompareResult.TheVariants.{Ok, Incomplete, Error}
 
--- `StandsFirst spelled tokens`: `tokens` starts with a list that the literal spells.
-abbrev pub StandsFirst : {T : Type 0} → (List T → Type 0) → List T → Type 0
-StandsFirst {T} spelled tokens =
+-- `StartsWithSpelling spelled tokens`: `tokens` starts with a list that the literal spells.
+abbrev pub StartsWithSpelling : {T : Type 0} → (List T → Type 0) → List T → Type 0
+StartsWithSpelling {T} spelled tokens =
     (front : List T) × (rest : List T) × spelled front × (tokens ≡ front ++ rest)
 
 -- `IsShort spelled tokens`: `tokens` is a proper prefix of a list that the literal spells.
@@ -21,9 +21,9 @@ ComparesAs {T} units spelled tokens (Ok n) =
     (front : List T) × (rest : List T) × spelled front × (tokens ≡ front ++ rest)
     × (n ≡ units front)
 ComparesAs units spelled tokens Incomplete =
-    IsShort spelled tokens × (StandsFirst spelled tokens → ⊥)
+    IsShort spelled tokens × (StartsWithSpelling spelled tokens → ⊥)
 ComparesAs units spelled tokens Error =
-    (IsShort spelled tokens → ⊥) × (StandsFirst spelled tokens → ⊥)
+    (IsShort spelled tokens → ⊥) × (StartsWithSpelling spelled tokens → ⊥)
 
 -- two lists that are the same third list are of one length
 pub same-length : {T : Type 0} {xs ys zs : List T} → xs ≡ zs → ys ≡ zs → length xs ≡ length ys

@@ -8,7 +8,7 @@ use Rattle.std.proofs.lemmas.Str.{encode_ascii}
 use Rattle.streams.specs.Equal.{same_first, same_others}
 use Rattle.streams.specs.Reading.{Reading, units-nil}
 use Rattle.streams.specs.Utf8.{two_bytes, three_bytes, four_bytes}
-use Rattle.stream_searches.specs.FindSlice.{Stands, IsFirstMatch}
+use Rattle.stream_searches.specs.FindSlice.{Occurs, IsFirstMatch}
 use Rattle.stream_searches.specs.Three.{IsOneOfThree}
 
 -- `NoneInside sought`: no needle occurs in another one after its first token.
@@ -43,7 +43,7 @@ module _ {T S : Type 0} (reading : Reading T S) (sought : List T → Type 0)
     (none_inside : NoneInside sought) where
   least_of_more : (tokens more : List T) (start end : ℕ)
       (m : IsFirstMatch reading.units sought tokens start end) (other hit behind : List T)
-      → Stands sought (tokens ++ more) other hit behind → reading.units other < start → ⊥
+      → Occurs sought (tokens ++ more) other hit behind → reading.units other < start → ⊥
   least_of_more tokens more start end m other hit behind s earlier =
       let all : List T = m.found ++ m.rest in
       let split : other ++ (hit ++ behind) ≡ m.front ++ (all ++ more) =

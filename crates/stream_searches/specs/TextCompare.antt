@@ -8,7 +8,7 @@ use Rattle.std.proofs.lemmas.List.Sums.{sum_by-append, sum_by-cons}
 use Rattle.std.proofs.lemmas.Str.{chars-append, encodes-append, encodes-chars}
 use Rattle.streams.specs.Text.{width, width_chars, width_positive, length_encodes}
 use Rattle.streams.specs.Equal.{same_first}
-use Rattle.stream_searches.specs.Compare.{ComparesAs, StandsFirst, IsShort}
+use Rattle.stream_searches.specs.Compare.{ComparesAs, StartsWithSpelling, IsShort}
 use Rattle.stream_searches.specs.declared.compare.CompareResult.{CompareResult}
 use Rattle.stream_searches.specs.declared.compare.CompareResult.TheVariants.{Ok, Incomplete, Error}
 
@@ -17,7 +17,7 @@ abbrev pub IsList : {T : Type 0} → List T → List T → Type 0
 IsList t xs = xs ≡ t
 
 bytes_first : (all lit : List ℕ) → IsUtf8 all → IsUtf8 lit
-    → StandsFirst (IsList (chars lit)) (chars all) → StandsFirst (IsList lit) all
+    → StartsWithSpelling (IsList (chars lit)) (chars all) → StartsWithSpelling (IsList lit) all
 bytes_first all lit all_utf8 lit_utf8 (front, rest, e, split) = (
   lit,
   encode_utf8_all rest,

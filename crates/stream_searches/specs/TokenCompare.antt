@@ -10,7 +10,7 @@ use Rattle.std.proofs.lemmas.Cmp.{lists_equiv}
 use Rattle.std.proofs.lemmas.List.{take-append-drop, length-take-le, length-append}
 use Rattle.std.proofs.Math.Seq.{take-append_seam}
 use Rattle.streams.specs.Equal.{same_first}
-use Rattle.stream_searches.specs.Compare.{ComparesAs, StandsFirst, IsShort}
+use Rattle.stream_searches.specs.Compare.{ComparesAs, StartsWithSpelling, IsShort}
 use Rattle.stream_searches.specs.declared.compare.CompareResult.TheVariants.{Ok, Incomplete, Error}
 
 -- a list of as many tokens, each equal to that of the literal
@@ -45,7 +45,7 @@ module _ {T : Type 0} (eq : T → T → Bool) where
       in and_from (eq x y) (pointwise eq (take (length ys) xs) ys) p.0
       (equal_front xs ys zs p.1)
 
-  first_length : (tokens literal : List T) → StandsFirst (EqualsList eq literal) tokens
+  first_length : (tokens literal : List T) → StartsWithSpelling (EqualsList eq literal) tokens
       → length literal ≤ length tokens
   first_length tokens literal (front, rest, e, split) =
       omega (

@@ -4,7 +4,8 @@
 ghost use Rattle.std.specs.Prelude.{◌≡◌, ℕ, List, [], ◌∷◌, length};
 ghost use Rattle.std.proofs.Common.{ap, sym, ◌∙◌};
 ghost use Rattle.std.specs.Char.{encode_utf8};
-ghost use Rattle.stream_searches.specs.Compare.{ComparesAs, StandsFirst, IsShort, same-length};
+ghost use Rattle.stream_searches.specs.Compare.{ComparesAs, StartsWithSpelling, IsShort};
+ghost use Rattle.stream_searches.specs.Compare.{same-length};
 
 mod caseless;
 mod text;

@@ -12,7 +12,7 @@ use Rattle.std.specs.declared.string.String.{String}
 use Rattle.std.specs.declared.vec.Vec.{Vec}
 pub mod Entries
 pub mod Holds
-pub mod Known
+pub mod Inversion
 
 -- An accumulator, as a repetition uses it.
 pub record Accumulator (C O : Type 0) : Type 1 where

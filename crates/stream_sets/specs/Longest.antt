@@ -5,7 +5,7 @@ use Rattle.std.specs.List.{All}
 use Rattle.std.proofs.Common.{sym, subst, inl, inr, ◌∙◌, arith}
 use Rattle.std.proofs.lemmas.List.Elements.{All-head, All-tail}
 use Rattle.streams.specs.Equal.{same_others}
-use Rattle.stream_sets.specs.Once.{TellsOnce}
+use Rattle.stream_sets.specs.Once.{SetIsFunction}
 use Rattle.stream_sets.specs.Range.{IsWithin}
 
 -- what is within a greatest number is no more than it
@@ -35,7 +35,7 @@ pub record IsLongest {T : Type 0} (member : T → Bool → Type 0) (greatest : O
       → member x false ⊎ (greatest ≡ Some (length front))
 
 module _ {T : Type 0} (member : T → Bool → Type 0) (greatest : Option ℕ)
-    (once : TellsOnce member) where
+    (once : SetIsFunction member) where
   -- one that stops is not shorter than one that goes on
   goes_on : (n : ℕ) (y : T) (g more rest : List T) → Stopped member greatest n [] rest
       → Stopped member greatest n (y ∷ g) more → rest ≡ y ∷ (g ++ more) → ⊥

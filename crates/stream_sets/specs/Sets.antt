@@ -7,6 +7,6 @@ abbrev pub HasCode : {C : Type 0} → (C → ℕ) → List C → ℕ → Type 0
 HasCode {C} code members n = (c : C) × Contains members c × (code c ≡ n)
 
 -- The first set has the token; or it does not, and the others decide.
-abbrev pub EitherTells : {T : Type 0} → (T → Bool → Type 0) → (T → Bool → Type 0) → T → Bool
+abbrev pub InEither : {T : Type 0} → (T → Bool → Type 0) → (T → Bool → Type 0) → T → Bool
     → Type 0
-EitherTells first others t b = (first t true × (b ≡ true)) ⊎ (first t false × others t b)
+InEither first others t b = (first t true × (b ≡ true)) ⊎ (first t false × others t b)

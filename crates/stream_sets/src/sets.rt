@@ -1,7 +1,7 @@
 //! Sets of tokens.
 ghost use Rattle.std.specs.Prelude.{◌≡◌, ◌↔◌, ◌≤◌, ◌<◌, IsTrue, Bool, true, ⊤};
 ghost use Rattle.std.specs.Range.{range_inclusive_start, range_inclusive_end};
-ghost use Rattle.stream_sets.specs.Once.{TellsOnce, holds_once, value_once};
+ghost use Rattle.stream_sets.specs.Once.{SetIsFunction, holds_once, value_once};
 ghost use Rattle.stream_sets.specs.Sets.{HasCode};
 
 mod tuples;
@@ -37,7 +37,7 @@ pub trait ContainsToken<T> {
         ensures { tells self.now token result };
 
     // Under this condition membership is a function of the token.
-    ghost once: { (s : Self) → decides s → TellsOnce (tells s) };
+    ghost once: { (s : Self) → decides s → SetIsFunction (tells s) };
 }
 
 /// The byte, or the character of its number.
@@ -198,7 +198,7 @@ impl<T, F: Fn(T) -> bool> ContainsToken<T> for Pred<F> {
 
     ghost tells = { λ s t b. F.post s.0 t b };
 
-    ghost decides = { λ s. TellsOnce (F.post s.0) };
+    ghost decides = { λ s. SetIsFunction (F.post s.0) };
 
     ghost once = { λ s is. is };
 

@@ -1,7 +1,7 @@
 -- How a stream of bytes counts them, and what may come after them.
 use Rattle.std.specs.Prelude.{◌≡◌, ◌<◌, ℕ, List, length}
 use Rattle.std.specs.List.{All}
-use Rattle.streams.specs.Following.{FitsBehind, Following, most_bytes}
+use Rattle.streams.specs.Following.{FitsAfter, Following, most_bytes}
 use Rattle.streams.specs.Located.{located_reading}
 use Rattle.streams.specs.Place.{Place}
 use Rattle.streams.specs.Reading.{Reading}
@@ -19,7 +19,7 @@ located_counts counts = record { units = counts.units; between = counts.between 
 -- After bytes come bytes: any numbers from 0 to 255, as long as a number of 64 bits counts the
 -- bits of all, and nothing else.
 pub record FollowedByBytes (following : Following ℕ) : Type 0 where
-  pub may : (left more : List ℕ) → FitsBehind (All (λ b. b < 256)) length most_bytes left more
+  pub may : (left more : List ℕ) → FitsAfter (All (λ b. b < 256)) length most_bytes left more
       → following.can_follow left more
   pub only : (left more : List ℕ) → following.can_follow left more
-      → FitsBehind (All (λ b. b < 256)) length most_bytes left more
+      → FitsAfter (All (λ b. b < 256)) length most_bytes left more

@@ -5,7 +5,7 @@ use Rattle.std.specs.List.{All}
 use Rattle.std.proofs.Common.{refl, sym, ap, ◌∙◌}
 use Rattle.std.proofs.lemmas.List.{take_rest, take-append-drop}
 use Rattle.streams.specs.Counted.{counted_input, counted_reading}
-use Rattle.streams.specs.Following.{Following, FitsBehind, fits_behind, most_bytes}
+use Rattle.streams.specs.Following.{Following, FitsAfter, fits_behind, most_bytes}
 use Rattle.streams.specs.Input.{Input, IsEndOf}
 use Rattle.streams.specs.Reading.{Reading}
 
@@ -20,7 +20,7 @@ bytes_reading = counted_reading
 -- any bytes may come after bytes, as long as a number of 64 bits counts their bits
 abbrev pub bytes_follow : Following ℕ
 bytes_follow = record {
-  can_follow = FitsBehind (All (λ b. b < 256)) length most_bytes;
+  can_follow = FitsAfter (All (λ b. b < 256)) length most_bytes;
   kept = λ dropped later more f. fits_behind bytes_reading (All (λ b. b < 256)) most_bytes
       dropped later more f;
 }

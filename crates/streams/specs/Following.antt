@@ -28,14 +28,14 @@ abbrev pub most_bytes : ℕ
 most_bytes = (2 ^ 64 - 1) / 8
 
 -- The tokens are of a kind, and with those left they take at most that many units.
-pub record FitsBehind {T : Type 0} (kind : List T → Type 0) (units : List T → ℕ) (most : ℕ)
+pub record FitsAfter {T : Type 0} (kind : List T → Type 0) (units : List T → ℕ) (most : ℕ)
     (left more : List T) : Type 0 where
   pub known : kind more
   pub fits : units left + units more ≤ most
 
 pub fits_behind : {T S : Type 0} (reading : Reading T S) (kind : List T → Type 0) (most : ℕ)
-    (dropped later more : List T) → FitsBehind kind reading.units most (dropped ++ later) more
-    → FitsBehind kind reading.units most later more
+    (dropped later more : List T) → FitsAfter kind reading.units most (dropped ++ later) more
+    → FitsAfter kind reading.units most later more
 fits_behind reading kind most dropped later more f =
     record { known = f.known; fits = omega (arith, f.fits, reading.units_add dropped later) }
 

@@ -4,7 +4,7 @@ use Rattle.streams.specs.Input.{Input}
 use Rattle.streams.specs.Kind.{Kind, backtrack}
 use Rattle.streams.specs.Reading.{Reading}
 use Rattle.stream_errors.specs.Form.{Answer, ErrorForm}
-use Rattle.stream_searches.specs.Compare.{ComparesAs, StandsFirst}
+use Rattle.stream_searches.specs.Compare.{ComparesAs, StartsWithSpelling}
 use Rattle.stream_searches.specs.declared.compare.CompareResult.{CompareResult}
 use Rattle.stream_searches.specs.declared.compare.CompareResult.TheVariants.{Ok, Incomplete, Error}
 use Rattle.winnow_core.specs.Literal.{LiteralRuns}
@@ -36,7 +36,7 @@ second_line_end spells reading form i answer j m k text is kind first second =
 
 pub not_first : {T : Type 0} (units : List T → ℕ) (spelled : List T → Type 0) (tokens : List T)
     (result : CompareResult) → ComparesAs units spelled tokens result
-    → (result ≡ Incomplete) ⊎ (result ≡ Error) → StandsFirst spelled tokens → ⊥
+    → (result ≡ Incomplete) ⊎ (result ≡ Error) → StartsWithSpelling spelled tokens → ⊥
 not_first units spelled tokens (Ok n) told (inl e) = absurd cc
 not_first units spelled tokens (Ok n) told (inr e) = absurd cc
 not_first units spelled tokens Incomplete told is = told.1

@@ -5,7 +5,7 @@ use Rattle.streams.specs.Input.{Input}
 use Rattle.streams.specs.Reading.{Reading}
 use Rattle.stream_errors.specs.Form.{ErrorForm, Answer}
 use Rattle.winnow_core.specs.Literal.{LiteralRuns}
-pub mod Known
+pub mod Inversion
 pub mod Laws
 pub mod Says
 

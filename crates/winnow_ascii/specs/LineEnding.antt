@@ -8,7 +8,7 @@ use Rattle.stream_errors.specs.Form.{ErrorForm, Answer}
 use Rattle.winnow_core.specs.Literal.{LiteralRuns}
 use Rattle.winnow_ascii.specs.Crlf.{CrlfRuns}
 pub mod Grammar
-pub mod Known
+pub mod Inversion
 pub mod Laws
 pub mod Says
 

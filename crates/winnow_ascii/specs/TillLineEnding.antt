@@ -5,12 +5,12 @@ use Rattle.streams.specs.Input.{Input, Takes}
 use Rattle.streams.specs.Kind.{Kind, backtrack}
 use Rattle.streams.specs.Reading.{Reading}
 use Rattle.grammars.specs.Grammar.Searches.{HasNoLineEnd}
-use Rattle.stream_searches.specs.Compare.{IsShort, StandsFirst}
+use Rattle.stream_searches.specs.Compare.{IsShort, StartsWithSpelling}
 use Rattle.stream_searches.specs.FindSlice.{IsFirstMatch}
 use Rattle.stream_errors.specs.Form.{ErrorForm, Answer}
 use Rattle.winnow_core.specs.Short.{ShortKind}
 pub mod Exact
-pub mod Known
+pub mod Inversion
 pub mod Laws
 pub mod Says
 
@@ -40,25 +40,25 @@ TillLineEndingRuns {T} {S} spells sought reading form i answer j =
     -- a line is taken, and no "\r" follows
     ((slice : S) × (return : Bor (List ℕ)) × (return.now ≡ 13 ∷ [])
     × LineRuns sought reading form i slice j
-    × (StandsFirst (spells return) j.left.tokens → ⊥) × (answer ≡ Ok slice))
+    × (StartsWithSpelling (spells return) j.left.tokens → ⊥) × (answer ≡ Ok slice))
     -- a line is taken, and "\r\n" follows
     ⊎ (((slice : S) × (both : Bor (List ℕ)) × (both.now ≡ 13 ∷ 10 ∷ [])
     × LineRuns sought reading form i slice j
-    × StandsFirst (spells both) j.left.tokens × (answer ≡ Ok slice))
+    × StartsWithSpelling (spells both) j.left.tokens × (answer ≡ Ok slice))
     -- "\r" follows, and the input ends before a possible line feed
     ⊎ (((slice : S) × (return : Bor (List ℕ)) × (both : Bor (List ℕ)) × (k : Kind)
     × (return.now ≡ 13 ∷ []) × (both.now ≡ 13 ∷ 10 ∷ [])
     × LineRuns sought reading form i slice j
-    × StandsFirst (spells return) j.left.tokens × IsShort (spells both) j.left.tokens
-    × (StandsFirst (spells both) j.left.tokens → ⊥) × ShortKind form None j k
+    × StartsWithSpelling (spells return) j.left.tokens × IsShort (spells both) j.left.tokens
+    × (StartsWithSpelling (spells both) j.left.tokens → ⊥) × ShortKind form None j k
     × (answer ≡ Err k))
     -- "\r" follows, and no line feed after it
     ⊎ (((slice : S) × (return : Bor (List ℕ)) × (both : Bor (List ℕ))
     × (return.now ≡ 13 ∷ []) × (both.now ≡ 13 ∷ 10 ∷ [])
     × LineRuns sought reading form i slice j
-    × StandsFirst (spells return) j.left.tokens
+    × StartsWithSpelling (spells return) j.left.tokens
     × (IsShort (spells both) j.left.tokens → ⊥)
-    × (StandsFirst (spells both) j.left.tokens → ⊥) × (answer ≡ Err backtrack))
+    × (StartsWithSpelling (spells both) j.left.tokens → ⊥) × (answer ≡ Err backtrack))
     -- no line is taken
     ⊎ ((k : Kind) × LacksLineEnd sought form i k j × (answer ≡ Err k)))))
 

@@ -1,7 +1,7 @@
 //! Streams of characters over which lines are stable.
-ghost use Rattle.winnow_ascii.specs.Crlf.Known.{bytes_spell, text_spells};
+ghost use Rattle.winnow_ascii.specs.Crlf.Inversion.{bytes_spell, text_spells};
 ghost use Rattle.winnow_ascii.specs.TillLineEnding.{SeeksSome, SpellsOne};
-ghost use Rattle.winnow_ascii.specs.TillLineEnding.Known.{bytes_seek, text_seeks};
+ghost use Rattle.winnow_ascii.specs.TillLineEnding.Inversion.{bytes_seek, text_seeks};
 ghost use Rattle.winnow_ascii.specs.TillLineEnding.Laws.{seeks_some, spells_one};
 
 use stream_searches::compare::Compare;

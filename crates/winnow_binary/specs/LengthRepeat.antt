@@ -19,12 +19,12 @@ abbrev pub length_repeat_parser : {P G I N O C E A : Type 0} → LengthRepeat P 
 length_repeat_parser s = s.parser
 
 -- `n` items: a repetition of exactly `n` times.
-abbrev pub ItemsBehind : {S T O C : Type 0} → Runs S T O → Accumulator C O → Kind → ℕ
+abbrev pub CountedItems : {S T O C : Type 0} → Runs S T O → Accumulator C O → Kind → ℕ
     → Runs S T C
-ItemsBehind run into assert_kind n = RepeatManyRuns run into assert_kind (from_to n (Some n))
+CountedItems run into assert_kind n = RepeatManyRuns run into assert_kind (from_to n (Some n))
 
 -- A call of the parser of the length, and a repetition of the other parser by its number.
 abbrev pub LengthRepeatRuns : {S V T N O C : Type 0} → (N → ℕ) → Accumulator C O → Kind
     → Runs S T N → Runs V T O → Runs (S × V) T C
 LengthRepeatRuns number into assert_kind count run =
-    LengthRuns number count (ItemsBehind run into assert_kind)
+    LengthRuns number count (CountedItems run into assert_kind)

@@ -4,12 +4,12 @@ use Rattle.streams.specs.Input.{Input}
 use Rattle.streams.specs.Kind.{Kind}
 use Rattle.streams.specs.Reading.{Reading}
 use Rattle.stream_errors.specs.Form.{ErrorForm}
-use Rattle.stream_errors.specs.Form.Known.{ok_is_err}
+use Rattle.stream_errors.specs.Form.Inversion.{ok_is_err}
 use Rattle.std.proofs.Common.{refl, inl, inr}
 use Rattle.stream_bits.specs.Within.{ReadsNumber}
 use Rattle.winnow_core.specs.Runs.{Keeps, Runs}
 use Rattle.winnow_bits.specs.BitTake.{BitTakeRuns}
-use Rattle.winnow_bits.specs.BitTake.Known.{bit_take_ok}
+use Rattle.winnow_bits.specs.BitTake.Inversion.{bit_take_ok}
 use Rattle.winnow_bits.specs.BitsOfBytes.{BitsOfBytesRuns}
 use Rattle.winnow_bits.specs.BytesOfBits.{BytesOfBitsRuns}
 

@@ -7,7 +7,7 @@ use Rattle.stream_errors.specs.Form.{Answer, ErrorForm, assert_kind}
 use Rattle.stream_bits.specs.Within.{ReadsNumber}
 use Rattle.winnow_core.specs.Short.{ShortKind}
 use Rattle.winnow_bits.specs.declared.bits.impls.take.Take.{Take}
-pub mod Known
+pub mod Inversion
 pub mod Laws
 
 -- how many bits are taken

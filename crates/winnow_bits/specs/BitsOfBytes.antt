@@ -10,7 +10,7 @@ use Rattle.stream_bits.specs.BitInput.{bits_input}
 use Rattle.winnow_core.specs.Runs.{Runs}
 use Rattle.winnow_bits.specs.Needs.{need_in_bytes, with_need}
 use Rattle.winnow_bits.specs.declared.bits.impls.bits.BitsParser.{BitsParser}
-pub mod Known
+pub mod Inversion
 pub mod Laws
 
 -- the parser that is run

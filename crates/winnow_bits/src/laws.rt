@@ -14,7 +14,7 @@ use streams::stream::StreamIsPartial;
 use winnow_core::parser::Parser;
 
 /// After an error of [`bits`](crate::bits::bits) the input is unchanged.
-pub fn bits_stays_on_an_error<
+pub fn bits_resets_the_input_on_errors<
     I: ByteStream + Copy,
     P: Parser<Bits<I>, O, E>,
     O: Drop,
@@ -25,7 +25,7 @@ pub fn bits_stays_on_an_error<
 {}
 
 /// After an error of [`bytes`](crate::bits::bytes) the input is unchanged.
-pub fn bytes_stays_on_an_error<
+pub fn bytes_resets_the_input_on_errors<
     I: ByteStream + Copy,
     P: Parser<I, O, E>,
     O,

@@ -6,7 +6,7 @@ use Rattle.winnow_core.specs.Runs.{Runs}
 use Rattle.winnow_comb.specs.declared.combinator.impls.alt.AltParser.{AltParser}
 pub mod Claim
 pub mod FirstOf
-pub mod Known
+pub mod Inversion
 pub mod Laws
 pub mod Says
 pub mod Slice

@@ -6,8 +6,8 @@ use Rattle.stream_errors.specs.Form.{Answer}
 use Rattle.winnow_core.specs.Runs.{Runs}
 
 -- Every call resets the input, whatever its result.
-abbrev pub GoesBack : {S T O : Type 0} → Runs S T O → Type 0
-GoesBack {S} {T} {O} run =
+abbrev pub ResetsInput : {S T O : Type 0} → Runs S T O → Type 0
+ResetsInput {S} {T} {O} run =
     (s : S) (i : Input T) (answer : Answer O) (t : S) (j : Input T) → run s i answer t j
     → j.left ≡ i.left
 

@@ -2,7 +2,7 @@
 use Rattle.winnow_core.specs.Runs.{Runs}
 use Rattle.winnow_core.specs.InOrder.{ThreeRuns}
 use Rattle.winnow_comb.specs.declared.combinator.impls.separated_pair.SeparatedPair.{SeparatedPair}
-pub mod Known
+pub mod Inversion
 
 -- the first parser
 abbrev pub separated_pair_first : {P1 P2 P3 I O1 O2 O3 E : Type 0}

@@ -2,7 +2,7 @@
 use Rattle.winnow_core.specs.Runs.{Runs}
 use Rattle.winnow_core.specs.InOrder.{BothRuns}
 use Rattle.winnow_comb.specs.declared.combinator.impls.terminated.Terminated.{Terminated}
-pub mod Known
+pub mod Inversion
 
 -- the parser whose output is kept
 abbrev pub terminated_parser : {P1 P2 I O1 O2 E : Type 0} → Terminated P1 P2 I O1 O2 E → P1

@@ -1,5 +1,5 @@
 //! Laws of the combinators, each proved by a function that does nothing.
-ghost use Rattle.winnow_comb.specs.Laws.{GoesBack, GoesBackOnNone};
+ghost use Rattle.winnow_comb.specs.Laws.{ResetsInput, GoesBackOnNone};
 
 pub mod choices;
 pub mod complete;
@@ -11,16 +11,16 @@ use streams::stream::Stream;
 use winnow_core::parser::Parser;
 
 /// [`peek`](crate::combinator::peek) resets the input, whatever it returns.
-pub fn peek_goes_back<P: Parser<I, O, E>, I: Stream, O, E: ParserError<I>>()
-    ensures { GoesBack (⟦<Peek<P, I, O, E> as Parser<I, O, E>>⟧.meaning E.form) }
+pub fn peek_resets_the_input<P: Parser<I, O, E>, I: Stream, O, E: ParserError<I>>()
+    ensures { ResetsInput (⟦<Peek<P, I, O, E> as Parser<I, O, E>>⟧.meaning E.form) }
 {}
 
 /// [`not`](crate::combinator::not) resets the input, whatever it returns.
-pub fn not_goes_back<P: Parser<I, O, E>, I: Stream, O: Drop, E: ParserError<I>>()
-    ensures { GoesBack (⟦<Not<P, I, O, E> as Parser<I, (), E>>⟧.meaning E.form) }
+pub fn not_resets_the_input<P: Parser<I, O, E>, I: Stream, O: Drop, E: ParserError<I>>()
+    ensures { ResetsInput (⟦<Not<P, I, O, E> as Parser<I, (), E>>⟧.meaning E.form) }
 {}
 
 /// [`opt`](crate::combinator::opt) resets the input if it returns `None`.
-pub fn opt_goes_back_on_none<P: Parser<I, O, E>, I: Stream, O, E: ParserError<I>>()
+pub fn opt_resets_the_input_on_none<P: Parser<I, O, E>, I: Stream, O, E: ParserError<I>>()
     ensures { GoesBackOnNone (⟦<Opt<P, I, O, E> as Parser<I, Option<O>, E>>⟧.meaning E.form) }
 {}

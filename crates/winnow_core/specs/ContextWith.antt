@@ -4,7 +4,7 @@ use Rattle.std.specs.List.{FoldsTo}
 use Rattle.std.specs.Prelude.{◌≡◌, List, Option}
 use Rattle.streams.specs.Kind.{Kind}
 use Rattle.stream_errors.specs.Given.{Keeping}
-use Rattle.winnow_core.specs.Context.Laws.{Told}
+use Rattle.winnow_core.specs.Context.Laws.{WithContext}
 use Rattle.winnow_core.specs.MakesError.{MakesError}
 use Rattle.winnow_core.specs.Runs.{Runs}
 use Rattle.winnow_core.specs.declared.combinator.impls.context_with.ContextWith.{ContextWith}
@@ -25,7 +25,7 @@ abbrev pub ContextWithBecomes : {F C J : Type 0} → (F → J → Type 0)
     → (J → Option C → J → Type 0) → F × (C → Keeping) → Kind → Kind → F × (C → Keeping) → Type 0
 ContextWithBecomes {F} {C} {J} makes steps f k l g = (g ≡ f) × (
     (items : J) × (contexts : List C) × makes f.0 items × Drains steps items contexts
-    × FoldsTo (λ old context new. Told (f.1 context) old new) k contexts l)
+    × FoldsTo (λ old context new. WithContext (f.1 context) old new) k contexts l)
 
 -- The error of the child keeps the contexts that the closure gives, and its kind; or memory was
 -- refused to one.

@@ -12,11 +12,11 @@ abbrev pub NotMemory : {O : Type 0} → Answer O → Type 0
 NotMemory answer = answer ≡ Err memory → ⊥
 
 -- Both are equal outputs, or errors of the same kind.
-abbrev pub AlikeAnswers : {O : Type 0} → (O → O → Type 0) → Answer O → Answer O → Type 0
-AlikeAnswers alike (Ok o) (Ok p) = alike o p
-AlikeAnswers alike (Ok o) (Err l) = ⊥
-AlikeAnswers alike (Err k) (Ok p) = ⊥
-AlikeAnswers alike (Err k) (Err l) = k ≡ l
+abbrev pub EqualResults : {O : Type 0} → (O → O → Type 0) → Answer O → Answer O → Type 0
+EqualResults alike (Ok o) (Ok p) = alike o p
+EqualResults alike (Ok o) (Err l) = ⊥
+EqualResults alike (Err k) (Ok p) = ⊥
+EqualResults alike (Err k) (Err l) = k ≡ l
 
 -- A call from this state keeps the state, and changes nothing of the input except the remaining
 -- tokens. Two calls on the same input have equal results and the same rest. If one of them is out
@@ -26,4 +26,4 @@ pub record IsDecided {S T O : Type 0} (s : S) (run : Runs S T O) (alike : O → 
   pub kept : (i : Input T) (answer : Answer O) (t : S) (j : Input T) → NotMemory answer
       → run s i answer t j → (t ≡ s) × (j.status ≡ i.status)
   pub decided : (i : Input T) (a b : Answer O) (t u : S) (j k : Input T) → NotMemory a
-      → NotMemory b → run s i a t j → run s i b u k → AlikeAnswers alike a b × (j ≡ k)
+      → NotMemory b → run s i a t j → run s i b u k → EqualResults alike a b × (j ≡ k)

@@ -4,7 +4,7 @@ use Rattle.std.proofs.Common.{inl, inr}
 use Rattle.streams.specs.Input.{Input, IsEndOf}
 use Rattle.streams.specs.Kind.{Kind, backtrack, memory}
 use Rattle.streams.specs.Reading.{Reading}
-use Rattle.grammars.specs.Grammar.{Grammar, IsUnique, NoneStands}
+use Rattle.grammars.specs.Grammar.{Grammar, IsUnique, NoMatch}
 use Rattle.stream_errors.specs.Form.{Answer, answer_by}
 use Rattle.winnow_core.specs.Runs.{Runs}
 pub mod Adapters
@@ -27,7 +27,7 @@ pub record IsExact {S T O : Type 0} (s : S) (run : Runs S T O)
   pub stands : (i : Input T) (o : O) (t : S) (j : Input T) → i.status.cut ≡ false
       → run s i (Ok o) t j → grammar i.left.tokens o j.left.tokens
   pub none : (i : Input T) (k : Kind) (t : S) (j : Input T) → i.status.cut ≡ false
-      → run s i (Err k) t j → (k ≡ memory) ⊎ NoneStands grammar i.left.tokens
+      → run s i (Err k) t j → (k ≡ memory) ⊎ NoMatch grammar i.left.tokens
   pub unique : IsUnique grammar
 
 -- On complete input all its errors have an allowed kind.
@@ -57,7 +57,7 @@ pub record Reads {T L O E : Type 0} (reading : Reading T L) (kind : E → Kind)
   pub ends : IsEndOf reading j i
   pub stands : i.status.cut ≡ false → IfOk result (λ o. grammar i.left.tokens o j.left.tokens)
   pub none : i.status.cut ≡ false → IfErr result (λ e. (kind e ≡ memory)
-      ⊎ ((kind e ≡ backtrack) × NoneStands grammar i.left.tokens))
+      ⊎ ((kind e ≡ backtrack) × NoMatch grammar i.left.tokens))
 
 -- On complete input every error is a backtrack, never out of memory.
 abbrev pub IsSpared : {T O E : Type 0} → (E → Kind) → Input T → Result O E → Type 0

@@ -5,7 +5,7 @@ use Rattle.streams.specs.Kind.{Kind}
 use Rattle.winnow_core.specs.Runs.{Runs}
 pub mod Decided
 pub mod Exact
-pub mod Known
+pub mod Inversion
 pub mod Laws
 pub mod Says
 pub mod Three

@@ -17,7 +17,7 @@ GoesBackOnFailure {S} {W} {T} {O} {U} part child run =
     ⊎ ((o : O) × (a : Input T) × child (part s) i (Ok o) (part t) a × (j.left ≡ i.left))
 
 -- On each input the one parser has the runs that the other has, along a map of their states.
-pub record AnswersAlike {S U T O : Type 0} (along : S → U) (run : Runs S T O)
+pub record SameRunsAlong {S U T O : Type 0} (along : S → U) (run : Runs S T O)
     (other_run : Runs U T O) : Type 0 where
   pub there : (s : S) (i : Input T) (answer : Answer O) (t : S) (j : Input T)
       → run s i answer t j → other_run (along s) i answer (along t) j
@@ -27,7 +27,7 @@ pub record AnswersAlike {S U T O : Type 0} (along : S → U) (run : Runs S T O)
 -- parsers with the same semantics have equal results, for errors of the same form
 pub answers_alike : {S U T O : Type 0} {along : S → U} {m : Meaning S T O} {n : Meaning U T O}
     (form other_form : ErrorForm) → SameMeaning along m n → form ≡ other_form
-    → AnswersAlike along (m form) (n other_form)
+    → SameRunsAlong along (m form) (n other_form)
 answers_alike {along = along} {m = m} {n} form other_form one forms = record {
   there = λ s i answer t j r.
       let F : ErrorForm → Type 0 = λ f. n f (along s) i answer (along t) j in

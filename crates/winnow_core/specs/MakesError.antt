@@ -4,7 +4,7 @@ use Rattle.streams.specs.Input.{Input}
 use Rattle.streams.specs.Kind.{Kind}
 use Rattle.stream_errors.specs.Form.{Answer}
 use Rattle.winnow_core.specs.Runs.{Runs}
-pub mod Known
+pub mod Inversion
 pub mod Laws
 pub mod Says
 

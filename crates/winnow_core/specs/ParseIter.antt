@@ -7,22 +7,22 @@ use Rattle.winnow_core.specs.Chain.{IsItem}
 use Rattle.winnow_core.specs.Runs.{Runs}
 use Rattle.winnow_core.specs.declared.combinator.impls.parse_iter.ParseIter.{ParseIter}
 use Rattle.winnow_core.specs.declared.combinator.impls.parse_iter.Unread.{Unread}
-pub mod Known
+pub mod Inversion
 pub mod Laws
 
 -- The position of an iterator: the start of its input and the unread input, or ended.
-pub data Standing (T : Type 0) : Type 0 where
-  reads : Remaining T → Input T → Standing T
-  ended : Standing T
+pub data IterPosition (T : Type 0) : Type 0 where
+  reads : Remaining T → Input T → IterPosition T
+  ended : IterPosition T
 
 -- The state of an iterator: the state of its parser, and its position.
 pub record ParseIterState (S T : Type 0) : Type 0 where
   pub parser : S
-  pub standing : Standing T
+  pub standing : IterPosition T
 
 -- the position of an iterator, by its unread input
 abbrev pub standing_by : {I C T : Type 0} → (I → Input T) → (C → Remaining T)
-    → Option (Unread I C) → Standing T
+    → Option (Unread I C) → IterPosition T
 standing_by view seen (Some unread) = reads (seen unread.start) (view unread.input)
 standing_by view seen None = ended
 
@@ -39,7 +39,7 @@ parse_iter_state state view seen s = record {
 
 -- its position
 abbrev pub parse_iter_standing : {P I O E K T L N C : Type 0} → (I → Input T)
-    → (C → Remaining T) → ParseIter P I O E K T L N C → Standing T
+    → (C → Remaining T) → ParseIter P I O E K T L N C → IterPosition T
 parse_iter_standing view seen s = standing_by view seen s.unread
 
 -- the parser that is run
@@ -51,17 +51,17 @@ abbrev pub parse_iter_name : {P I O E K T L N C : Type 0} → ParseIter P I O E 
 parse_iter_name s = s.parser.ghost_name
 
 -- The unread input is a suffix of the input at the start.
-abbrev pub IsReached : {T L : Type 0} → Reading T L → Standing T → Type 0
+abbrev pub IsReached : {T L : Type 0} → Reading T L → IterPosition T → Type 0
 IsReached reading (reads start i) = Ends reading i.left start
 IsReached reading ended = ⊤
 
 -- how many tokens are left to be read
-abbrev pub tokens_to_read : {T : Type 0} → Standing T → ℕ
+abbrev pub tokens_to_read : {T : Type 0} → IterPosition T → ℕ
 tokens_to_read (reads start i) = length i.left.tokens
 tokens_to_read ended = 0
 
 -- Nothing is left to be read.
-abbrev pub NothingToRead : {T : Type 0} → Standing T → Type 0
+abbrev pub NothingToRead : {T : Type 0} → IterPosition T → Type 0
 NothingToRead (reads start i) = i.left.tokens ≡ []
 NothingToRead ended = ⊤
 

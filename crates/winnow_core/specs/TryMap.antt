@@ -6,7 +6,7 @@ use Rattle.stream_errors.specs.Given.{Keeping, KindGiven}
 use Rattle.winnow_core.specs.Settles.{Settles}
 use Rattle.winnow_core.specs.Runs.{Runs}
 use Rattle.winnow_core.specs.declared.combinator.impls.try_map.TryMap.{TryMap}
-pub mod Known
+pub mod Inversion
 pub mod Says
 
 -- the parser whose output is mapped

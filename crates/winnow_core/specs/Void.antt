@@ -5,7 +5,7 @@ use Rattle.streams.specs.Kind.{Kind}
 use Rattle.stream_errors.specs.Form.{Answer}
 use Rattle.winnow_core.specs.Runs.{Runs}
 use Rattle.winnow_core.specs.declared.combinator.impls.void.Void.{Void}
-pub mod Known
+pub mod Inversion
 pub mod Laws
 pub mod Says
 

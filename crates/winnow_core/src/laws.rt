@@ -2,7 +2,7 @@
 ghost use Rattle.std.specs.Prelude.{◌≡◌, List, [], ◌∷◌};
 ghost use Rattle.std.specs.Str.{chars};
 ghost use Rattle.stream_errors.specs.Form.{modal};
-ghost use Rattle.winnow_core.specs.Laws.{AnswersAlike, GoesBackOnFailure, ShowsOne};
+ghost use Rattle.winnow_core.specs.Laws.{SameRunsAlong, GoesBackOnFailure, ShowsOne};
 ghost use Rattle.winnow_core.specs.Laws.{TakesFromTheFront};
 ghost use Rattle.winnow_core.specs.Runs.{LeaveEnds};
 ghost use Rattle.winnow_core.specs.SameMeaning.{SameMeaning};
@@ -25,24 +25,19 @@ use streams::token_slice::TokenSlice as Tokens;
 /// A final result of a stable parser with specified outcomes on partial input is also the result on
 /// every longer input, partial or complete: the same kind of error or an equal output, the same
 /// state, and the rest followed by the added tokens. Out of memory is not a final result.
-pub fn a_longer_input_gets_the_answer_of_a_cut_one<
-    P: Parser<I, O, E>,
-    I: Stream,
-    O,
-    E: ParserError<I>,
->()
+pub fn partial_results_are_final<P: Parser<I, O, E>, I: Stream, O, E: ParserError<I>>()
     ensures { (s : P.State) → (P.says s).premise → (P.says s).stable
         → EachLongerGets s P.meaning (P.says s).alike }
 {}
 
 /// `parse_next` leaves a suffix of the input, whatever it returns.
-pub fn leaves_an_end<P: Parser<I, O, E>, I: Stream, O, E: ParserError<I>>()
+pub fn the_rest_is_a_suffix<P: Parser<I, O, E>, I: Stream, O, E: ParserError<I>>()
     ensures { LeaveEnds I.reading (P.meaning E.form) }
 {}
 
 /// If [`verify_map`](crate::parser::Parser::verify_map) fails although its parser succeeded, the
 /// input is reset.
-pub fn verify_map_goes_back<
+pub fn verify_map_resets_the_input<
     P: Parser<I, O, E>,
     G: FnMut(O) -> Option<O2>,
     I: Stream,
@@ -56,7 +51,7 @@ pub fn verify_map_goes_back<
 
 /// If [`verify`](crate::parser::Parser::verify) fails although its parser succeeded, the input is
 /// reset.
-pub fn verify_goes_back<
+pub fn verify_resets_the_input<
     P: Parser<I, O, E>,
     G: FnMut(&O) -> bool,
     I: Stream,
@@ -69,7 +64,7 @@ pub fn verify_goes_back<
 
 /// If [`try_map`](crate::parser::Parser::try_map) fails although its parser succeeded, the input is
 /// reset.
-pub fn try_map_goes_back<
+pub fn try_map_resets_the_input<
     P: Parser<I, O, E>,
     G: FnMut(O) -> Result<O2, E2>,
     I: Stream,
@@ -84,7 +79,7 @@ pub fn try_map_goes_back<
 
 /// If [`parse_to`](crate::parser::Parser::parse_to) fails although its parser succeeded, the input
 /// is reset.
-pub fn parse_to_goes_back<
+pub fn parse_to_resets_the_input<
     P: Parser<I, O, E>,
     I: Stream,
     O: ParseSlice<O2> + Drop,
@@ -97,7 +92,7 @@ pub fn parse_to_goes_back<
 
 /// If [`and_then`](crate::parser::Parser::and_then) fails although its outer parser succeeded, the
 /// input is reset.
-pub fn and_then_goes_back<
+pub fn and_then_resets_the_input<
     P: Parser<I, O, E>,
     G: Parser<O, O2, E>,
     I: Stream,
@@ -113,7 +108,7 @@ pub fn and_then_goes_back<
 /// the same results, for instance on a partial stream that is marked complete. The laws of
 /// [`complete`](crate::laws::complete) and similar modules prove the premise for every parser of
 /// the library.
-pub fn a_complete_stream_is_answered_as_the_plain_one<
+pub fn complete_streams_give_plain_results<
     P: Parser<I, O, E>,
     Q: Parser<Partial<I>, O, F>,
     I: Stream,
@@ -122,7 +117,7 @@ pub fn a_complete_stream_is_answered_as_the_plain_one<
     F: ParserError<Partial<I>>,
 >()
     ensures { (along : P.State → Q.State) → SameMeaning along P.meaning Q.meaning → E.form ≡ F.form
-        → AnswersAlike along (P.meaning E.form) (Q.meaning F.form) }
+        → SameRunsAlong along (P.meaning E.form) (Q.meaning F.form) }
 {}
 
 /// Over bytes, the slice that [`take`](crate::parser::Parser::take) returns, followed by the rest,
@@ -230,12 +225,7 @@ pub fn the_slice_with_the_output_and_the_rest_are_the_input<
 
 /// On partial input a stable parser returns `Incomplete`, is out of memory, or returns the result
 /// of every longer input, partial or complete.
-pub fn a_cut_input_is_answered_as_each_longer_one<
-    P: Stable<I, O, E>,
-    I: Stream,
-    O,
-    E: ParserError<I>,
->()
+pub fn longer_inputs_have_partial_results<P: Stable<I, O, E>, I: Stream, O, E: ParserError<I>>()
     ensures { E.form ≡ modal → EachSettlesOnCut I.following (P.meaning E.form) }
 {}
 

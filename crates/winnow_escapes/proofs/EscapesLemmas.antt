@@ -6,7 +6,7 @@ use Rattle.streams.specs.Input.{Input, Remaining, back_at}
 use Rattle.streams.specs.Kind.{Kind, backtrack}
 use Rattle.streams.specs.Reading.{Reading, units-nil, units-zero}
 use Rattle.stream_errors.specs.Form.{Answer}
-use Rattle.stream_errors.specs.Form.Known.{at_kind, ok_is_err, same_ok}
+use Rattle.stream_errors.specs.Form.Inversion.{at_kind, ok_is_err, same_ok}
 use Rattle.streams.specs.Equal.{none_is_some, same_some}
 use Rattle.winnow_core.specs.Runs.{Runs}
 use Rattle.stream_sets.specs.Accumulator.Holds.{Accumulates}

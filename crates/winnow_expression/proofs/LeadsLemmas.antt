@@ -13,7 +13,7 @@ use Rattle.winnow_expression.specs.Expression.{CallRuns, call_ends, call_operand
 use Rattle.winnow_expression.specs.Expression.{turn_ends, turn_postfix, turn_infix, resume_ends}
 use Rattle.winnow_expression.specs.Expression.{resume_goes}
 use Rattle.winnow_expression.specs.Machine.{AllEnd}
-use Rattle.winnow_expression.specs.Loop.{Leads, Resumed}
+use Rattle.winnow_expression.specs.Loop.{Continues, Resumed}
 use Rattle.winnow_expression.specs.declared.combinator.places.First.TheVariants.{Operand}
 
 resumed_failure : {S W T V F G H : Type 0} (g : Grammar S W T V F G H) (xs : List (Open V F H))
@@ -56,8 +56,8 @@ resumed_all g (x ∷ xs) v s i j answer (inr (w, m, closes, ended)) = (
 
 pub leads_operand : {S W T V F G H : Type 0} (g : Grammar S W T V F G H) (whole call : Call)
     (z : S × W) (o : Input T) (xs : List (Open V F H)) (v : V) (s : S × W) (t : S) (i j : Input T)
-    → Leads g whole z o call None xs s i → g.first s.0 i (Ok (Operand v)) t j
-    → Leads g whole z o call (Some v) xs (t, s.1) j
+    → Continues g whole z o call None xs s i → g.first s.0 i (Ok (Operand v)) t j
+    → Continues g whole z o call (Some v) xs (t, s.1) j
 leads_operand g whole call z o xs v s t i j known read = record {
   leads = λ b a u w m n runs resumed. known.leads b a u w m n
       (call_operand call s u (t, s.1) i m j v b read refl runs) resumed;
@@ -65,9 +65,9 @@ leads_operand g whole call z o xs v s t i j known read = record {
 
 pub leads_prefix : {S W T V F G H : Type 0} (g : Grammar S W T V F G H) (whole call : Call)
     (z : S × W) (o : Input T) (xs : List (Open V F H)) (x : Open V F H) (power : ℤ) (s : S × W)
-    (t : S) (i j : Input T) → Leads g whole z o call None xs s i
+    (t : S) (i j : Input T) → Continues g whole z o call None xs s i
     → Prefixes g.folding.units g.first call s.0 i x power t j
-    → Leads g whole z o (call_at power (units_left g.folding.units j)) None (x ∷ xs) (t, s.1) j
+    → Continues g whole z o (call_at power (units_left g.folding.units j)) None (x ∷ xs) (t, s.1) j
 leads_prefix g whole call z o xs x power s t i j known read = record {
   leads = λ b a u w m n runs (c, v, l, resumes, resumed). known.leads c a v w l n
       (call_prefix call s v (t, s.1) u i l j m x power b c read refl runs resumes) resumed;
@@ -75,9 +75,9 @@ leads_prefix g whole call z o xs x power s t i j known read = record {
 
 pub leads_infix : {S W T V F G H : Type 0} (g : Grammar S W T V F G H) (whole call : Call)
     (z : S × W) (o : Input T) (left : V) (xs : List (Open V F H)) (x : Open V F H) (power : ℤ)
-    (s : S × W) (t : W) (i j : Input T) → Leads g whole z o call (Some left) xs s i
+    (s : S × W) (t : W) (i j : Input T) → Continues g whole z o call (Some left) xs s i
     → Infixes g.folding.units g.next call left s.1 i x power t j
-    → Leads g whole z o (call_at power (units_left g.folding.units j)) None (x ∷ xs) (s.0, t) j
+    → Continues g whole z o (call_at power (units_left g.folding.units j)) None (x ∷ xs) (s.0, t) j
 leads_infix g whole call z o left xs x power s t i j known read = record {
   leads = λ b a u w m n runs (c, v, l, resumes, resumed). known.leads c a v w l n
       (turn_infix call left s v (s.0, t) u i l j m x power b c read refl runs resumes) resumed;
@@ -85,9 +85,9 @@ leads_infix g whole call z o left xs x power s t i j known read = record {
 
 pub leads_postfix : {S W T V F G H : Type 0} (g : Grammar S W T V F G H) (whole call : Call)
     (z : S × W) (o : Input T) (left v : V) (xs : List (Open V F H)) (s : S × W) (t : W)
-    (i j : Input T) → Leads g whole z o call (Some left) xs s i
+    (i j : Input T) → Continues g whole z o call (Some left) xs s i
     → Postfixes g.folding.units g.next g.behind call left s.1 i v t j
-    → Leads g whole z o call (Some v) xs (s.0, t) j
+    → Continues g whole z o call (Some v) xs (s.0, t) j
 leads_postfix g whole call z o left v xs s t i j known read = record {
   leads = λ b a u w m n runs resumed. known.leads b a u w m n
       (turn_postfix call left v s u (s.0, t) i m j b read refl runs) resumed;
@@ -95,11 +95,11 @@ leads_postfix g whole call z o left v xs s t i j known read = record {
 
 pub leads_close : {S W T V F G H : Type 0} (g : Grammar S W T V F G H) (whole call : Call)
     (z : S × W) (o : Input T) (left v w : V) (x : Open V F H) (xs : List (Open V F H))
-    (s : S × W) (t : W) (i m j : Input T) → Leads g whole z o call (Some left) (x ∷ xs) s i
+    (s : S × W) (t : W) (i m j : Input T) → Continues g whole z o call (Some left) (x ∷ xs) s i
     → TurnEnds F g.folding.units g.next g.behind g.folding.refusal call left s.1 i
     (Ok (v, false)) t m
     → Closes g.folding x.operator x.call.turn m v (Ok w) j
-    → Leads g whole z o x.call (Some w) xs (s.0, t) j
+    → Continues g whole z o x.call (Some w) xs (s.0, t) j
 leads_close g whole call z o left v w x xs s t i m j known ends closes = record {
   leads = λ b a u y k n runs resumed. known.leads (Ok (v, false)) a (s.0, t) y m n
       (turn_ends call left s (s.0, t) i m (Ok (v, false)) ends refl)
@@ -108,7 +108,7 @@ leads_close g whole call z o left v w x xs s t i m j known ends closes = record 
 
 pub call_fails : {S W T V F G H : Type 0} (g : Grammar S W T V F G H) (whole call : Call)
     (z : S × W) (o : Input T) (xs : List (Open V F H)) (kind : Kind) (s : S × W) (t : S)
-    (i j : Input T) → Leads g whole z o call None xs s i
+    (i j : Input T) → Continues g whole z o call None xs s i
     → CallEnds H g.folding.units g.first g.folding.refusal call s.0 i kind t j
     → CallRuns g whole z o (Err kind) (t, s.1) j
 call_fails g whole call z o xs kind s t i j known ends =
@@ -119,7 +119,7 @@ call_fails g whole call z o xs kind s t i j known ends =
 -- ... or at that of an operator
 pub turn_fails : {S W T V F G H : Type 0} (g : Grammar S W T V F G H) (whole call : Call)
     (z : S × W) (o : Input T) (left : V) (xs : List (Open V F H)) (kind : Kind) (s : S × W)
-    (t : W) (i j : Input T) → Leads g whole z o call (Some left) xs s i
+    (t : W) (i j : Input T) → Continues g whole z o call (Some left) xs s i
     → TurnEnds F g.folding.units g.next g.behind g.folding.refusal call left s.1 i (Err kind) t j
     → CallRuns g whole z o (Err kind) (s.0, t) j
 turn_fails g whole call z o left xs kind s t i j known ends =
@@ -130,7 +130,7 @@ turn_fails g whole call z o left xs kind s t i j known ends =
 pub close_fails : {S W T V F G H : Type 0} (g : Grammar S W T V F G H) (whole call : Call)
     (z : S × W) (o : Input T) (left v : V) (x : Open V F H) (xs : List (Open V F H))
     (kind : Kind) (s : S × W) (t : W) (i m j : Input T)
-    → Leads g whole z o call (Some left) (x ∷ xs) s i
+    → Continues g whole z o call (Some left) (x ∷ xs) s i
     → TurnEnds F g.folding.units g.next g.behind g.folding.refusal call left s.1 i
     (Ok (v, false)) t m
     → Closes g.folding x.operator x.call.turn m v (Err kind) j
@@ -149,7 +149,7 @@ close_fails g whole call z o left v x xs kind s t i m j known ends closes =
 -- the outermost call ends
 pub call_done : {S W T V F G H : Type 0} (g : Grammar S W T V F G H) (whole call : Call)
     (z : S × W) (o : Input T) (left v : V) (s : S × W) (t : W) (i j : Input T)
-    → Leads g whole z o call (Some left) [] s i
+    → Continues g whole z o call (Some left) [] s i
     → TurnEnds F g.folding.units g.next g.behind g.folding.refusal call left s.1 i
     (Ok (v, false)) t j
     → CallRuns g whole z o (Ok (v, false)) (s.0, t) j
@@ -160,7 +160,7 @@ call_done g whole call z o left v s t i j known ends =
 -- every call ends
 pub all_done : {S W T V F G H : Type 0} (g : Grammar S W T V F G H) (whole call : Call)
     (z : S × W) (o : Input T) (left v : V) (xs : List (Open V F H)) (s : S × W) (t : W)
-    (i m j : Input T) (answer : Answer V) → Leads g whole z o call (Some left) xs s i
+    (i m j : Input T) (answer : Answer V) → Continues g whole z o call (Some left) xs s i
     → TurnEnds F g.folding.units g.next g.behind g.folding.refusal call left s.1 i
     (Ok (v, true)) t m
     → AllEnd g.folding xs v m answer j

@@ -1,7 +1,7 @@
 -- Each turn of the loop is a step towards its end.
 use Rattle.std.proofs.Common.{◌≡◌, ◌≤◌, ◌<◌, ◌+◌, ◌⊎◌, ℕ, Option, Some, None, List, [], ◌∷◌, length}
 use Rattle.std.proofs.Common.{arith, inl, inr, refl, suc, subst, sym}
-use Rattle.winnow_expression.specs.Loop.{Falls, Nested, above, live, operand_due, rank}
+use Rattle.winnow_expression.specs.Loop.{RightOperandStarts, Nested, above, live, operand_due, rank}
 use Rattle.winnow_expression.specs.Calls.{Call, Open}
 use Rattle.winnow_expression.specs.declared.combinator.calls.Operator.{Operator}
 use Rattle.winnow_expression.specs.declared.combinator.calls.Operator.TheVariants.{Prefix, Infix}
@@ -42,7 +42,7 @@ all_live units began (x ∷ xs) nested fewer =
     one_live units began x.operator x.call.turn (length xs) nested.0 fewer
   where
     one_live : {V F H : Type 0} (units began : ℕ) (o : Operator V F H) (turn n : ℕ)
-        → Falls o began turn → units < began → n + above turn units ≡ suc n
+        → RightOperandStarts o began turn → units < began → n + above turn units ≡ suc n
     one_live units began (Prefix fold) turn n falls fewer = omega (arith, falls, fewer)
     one_live units began (Infix left fold) turn n falls fewer = omega (arith, falls, fewer)
 

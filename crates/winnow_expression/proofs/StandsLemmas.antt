@@ -13,7 +13,7 @@ use Rattle.winnow_expression.specs.Expression.{CallRuns, ExpressionRuns}
 use Rattle.winnow_expression.specs.Grammar.{Folding, Grammar, CallEnds, Closes, Infixes, Postfixes}
 use Rattle.winnow_expression.specs.Grammar.{TurnEnds}
 use Rattle.winnow_expression.specs.Machine.{AllEnd, OperandStep, TurnStep}
-use Rattle.winnow_expression.specs.Loop.{Leads, Nested, Falls, Stands, rank}
+use Rattle.winnow_expression.specs.Loop.{Continues, Nested, RightOperandStarts, Invariant, rank}
 use Rattle.winnow_expression.proofs.EndLemmas.{popped}
 use Rattle.winnow_expression.proofs.LeadsLemmas.{leads_operand, leads_prefix, leads_infix}
 use Rattle.winnow_expression.proofs.LeadsLemmas.{leads_postfix, leads_close, call_fails, turn_fails}
@@ -44,12 +44,12 @@ fewer_or_same m n le = elim (cases_lt m n) [
 pushed : {S W T V F G H : Type 0} (g : Grammar S W T V F G H) (whole : Call) (z : S × W)
     (o : Input T) (calls after : Calls V F H) (x : Open V F H) (power : ℤ) (t : S × W)
     (j : Input T) → Interrupts calls x power (units_left g.folding.units j) after
-    → Leads g whole z o (call_at power (units_left g.folding.units j)) None
+    → Continues g whole z o (call_at power (units_left g.folding.units j)) None
     (x ∷ reverse calls.opened) t j
     → Nested (x ∷ reverse calls.opened) (units_left g.folding.units j)
-    → Stands g whole z o after None t j
+    → Invariant g whole z o after None t j
 pushed g whole z o calls after x power t j opened known nested =
-    let P : List (Open _ _ _) → Call → Type 0 = λ xs call. Leads g whole z o call None xs t j
+    let P : List (Open _ _ _) → Call → Type 0 = λ xs call. Continues g whole z o call None xs t j
     × Nested xs call.began × (units_left g.folding.units j ≤ call.began)
     × (call.turn ≡ call.began) in
     subst (λ xs. P xs after.present) (sym (popped after.opened calls.opened x opened.0))
@@ -58,14 +58,14 @@ pushed g whole z o calls after x power t j opened known nested =
 
 pub operand_kept : {S W T V F G H : Type 0} (g : Grammar S W T V F G H) (whole : Call)
     (z : S × W) (o : Input T) (calls after : Calls V F H) (given left : Option V) (s : S × W)
-    (t : S) (i j : Input T) → Stands g whole z o calls given s i → given ≡ None
+    (t : S) (i j : Input T) → Invariant g whole z o calls given s i → given ≡ None
     → OperandStep g.folding.units g.first g.folding.refusal calls s.0 i (Ok left) after t j
     → units_left g.folding.units j ≤ units_left g.folding.units i
-    → Stands g whole z o after left (t, s.1) j
+    → Invariant g whole z o after left (t, s.1) j
     × (rank (units_left g.folding.units j) after.present (reverse after.opened) left
     < rank (units_left g.folding.units i) calls.present (reverse calls.opened) given)
 operand_kept {V = V} g whole z o calls after given left s t i j stands none step ends =
-    let P : Option V → Type 0 = λ l. Stands g whole z o calls l s i in
+    let P : Option V → Type 0 = λ l. Invariant g whole z o calls l s i in
     let Q : Option V → Type 0 =
     λ l. rank (units_left g.folding.units j) after.present (reverse after.opened) left
     < rank (units_left g.folding.units i) calls.present (reverse calls.opened) l in
@@ -74,15 +74,15 @@ operand_kept {V = V} g whole z o calls after given left s t i j stands none step
   where
     kept : {S W T V F G H : Type 0} (g : Grammar S W T V F G H) (whole : Call)
         (z : S × W) (o : Input T) (calls after : Calls V F H) (left : Option V) (s : S × W)
-        (t : S) (i j : Input T) → Stands g whole z o calls None s i
+        (t : S) (i j : Input T) → Invariant g whole z o calls None s i
         → OperandStep g.folding.units g.first g.folding.refusal calls s.0 i (Ok left) after t j
         → units_left g.folding.units j ≤ units_left g.folding.units i
-        → Stands g whole z o after left (t, s.1) j
+        → Invariant g whole z o after left (t, s.1) j
         × (rank (units_left g.folding.units j) after.present (reverse after.opened) left
         < rank (units_left g.folding.units i) calls.present (reverse calls.opened) None)
     kept g whole z o calls after left s t i j stands (inl (kind, failed, e)) ends = absurd (cc)
     kept {V = V} g whole z o calls after left s t i j stands (inr (inl (v, read, e, same))) ends =
-        let R : Calls _ _ _ → Option V → Type 0 = λ c l. Stands g whole z o c l (t, s.1) j
+        let R : Calls _ _ _ → Option V → Type 0 = λ c l. Invariant g whole z o c l (t, s.1) j
         × (rank (units_left g.folding.units j) c.present (reverse c.opened) l
         < rank (units_left g.folding.units i) calls.present (reverse calls.opened) None) in
         let is : left ≡ Some v = cc in
@@ -101,7 +101,7 @@ operand_kept {V = V} g whole z o calls after given left s t i j stands none step
         ))
     kept {V = V} g whole z o calls after left s t i j stands
         (inr (inr (x, power, read, e, opened))) ends =
-        let R : Option V → Type 0 = λ l. Stands g whole z o after l (t, s.1) j
+        let R : Option V → Type 0 = λ l. Invariant g whole z o after l (t, s.1) j
         × (rank (units_left g.folding.units j) after.present (reverse after.opened) l
         < rank (units_left g.folding.units i) calls.present (reverse calls.opened) None) in
         let is : left ≡ None = cc in
@@ -124,11 +124,11 @@ operand_kept {V = V} g whole z o calls after given left s t i j stands none step
 
 pub infix_kept : {S W T V F G H : Type 0} (g : Grammar S W T V F G H) (whole : Call)
     (z : S × W) (o : Input T) (calls after : Calls V F H) (left : V) (s : S × W)
-    (t : W) (i j : Input T) → Stands g whole z o calls (Some left) s i
+    (t : W) (i j : Input T) → Invariant g whole z o calls (Some left) s i
     → TurnStep g.folding.units g.next g.behind g.folding.refusal calls left s.1 i
     (Ok Interrupted) after t j
     → units_left g.folding.units j ≤ units_left g.folding.units i
-    → Stands g whole z o after None (s.0, t) j
+    → Invariant g whole z o after None (s.0, t) j
     × (rank {V = V} (units_left g.folding.units j) after.present (reverse after.opened) None
     < rank (units_left g.folding.units i) calls.present (reverse calls.opened) (Some left))
 infix_kept {V = V} g whole z o calls after left s t i j stands step ends =
@@ -155,11 +155,11 @@ infix_kept {V = V} g whole z o calls after left s t i j stands step ends =
 
 pub postfix_kept : {S W T V F G H : Type 0} (g : Grammar S W T V F G H) (whole : Call)
     (z : S × W) (o : Input T) (calls after : Calls V F H) (left v : V) (s : S × W)
-    (t : W) (i j : Input T) → Stands g whole z o calls (Some left) s i
+    (t : W) (i j : Input T) → Invariant g whole z o calls (Some left) s i
     → TurnStep g.folding.units g.next g.behind g.folding.refusal calls left s.1 i (Ok (Goes v))
     after t j
     → units_left g.folding.units j ≤ units_left g.folding.units i
-    → Stands g whole z o after (Some v) (s.0, t) j
+    → Invariant g whole z o after (Some v) (s.0, t) j
     × (rank (units_left g.folding.units j) after.present (reverse after.opened) (Some v)
     < rank (units_left g.folding.units i) calls.present (reverse calls.opened) (Some left))
 postfix_kept g whole z o calls after left v s t i j stands step ends =
@@ -167,7 +167,7 @@ postfix_kept g whole z o calls after left v s t i j stands step ends =
     goes_of g.folding.units g.next g.behind g.folding.refusal calls after left v s.1 t i j
     step in
     let (power, fold, m, ran, reaches, folded, moved) = read in
-    let R : Calls _ _ _ → Type 0 = λ c. Stands g whole z o c (Some v) (s.0, t) j
+    let R : Calls _ _ _ → Type 0 = λ c. Invariant g whole z o c (Some v) (s.0, t) j
     × (rank (units_left g.folding.units j) c.present (reverse c.opened) (Some v)
     < rank (units_left g.folding.units i) calls.present (reverse calls.opened) (Some left)) in
     subst R (sym same) (
@@ -185,7 +185,8 @@ postfix_kept g whole z o calls after left v s t i j stands step ends =
     )
 
 behind_turn : {T V F H : Type 0} (g : Folding T V F H) (x : Operator V F H) (turn began u : ℕ)
-    (v w : V) (m j : Input T) → Falls x began turn → u ≤ began → units_left g.units j ≤ u
+    (v w : V) (m j : Input T) → RightOperandStarts x began turn → u ≤ began
+    → units_left g.units j ≤ u
     → Closes g x turn m v (Ok w) j → (u < turn) ⊎ (units_left g.units j < u)
 behind_turn g (prefix_open fold) turn began u v w m j falls below less closes =
     inl (omega (arith, falls, below))
@@ -213,7 +214,7 @@ above_last calls after rest x same last =
 pub close_kept : {S W T V F G H : Type 0} (g : Grammar S W T V F G H) (whole : Call)
     (z : S × W) (o : Input T) (calls after final : Calls V F H) (left v w : V)
     (x : Open V F H) (rest : List (Open V F H)) (s : S × W) (t : W) (i m j : Input T)
-    → Stands g whole z o calls (Some left) s i
+    → Invariant g whole z o calls (Some left) s i
     → TurnStep g.folding.units g.next g.behind g.folding.refusal calls left s.1 i (Ok (Ends v))
     after t m
     → units_left g.folding.units m ≤ units_left g.folding.units i
@@ -221,7 +222,7 @@ pub close_kept : {S W T V F G H : Type 0} (g : Grammar S W T V F G H) (whole : C
     → Closes g.folding x.operator x.call.turn m v (Ok w) j
     → units_left g.folding.units j ≤ units_left g.folding.units m
     → final.present ≡ x.call → final.opened ≡ rest
-    → Stands g whole z o final (Some w) (s.0, t) j
+    → Invariant g whole z o final (Some w) (s.0, t) j
     × (rank (units_left g.folding.units j) final.present (reverse final.opened) (Some w)
     < rank (units_left g.folding.units i) calls.present (reverse calls.opened) (Some left))
 close_kept {V = V} {F = F} {H = H} g whole z o calls after final left v w x rest s t i m j
@@ -231,12 +232,13 @@ close_kept {V = V} {F = F} {H = H} g whole z o calls after final left v w x rest
     ends_of g.folding.units g.next g.behind g.folding.refusal calls after left v s.1 t i m
     step in
     let open_ = above_last calls after rest x same last in
-    let P : List (Open V F H) → Type 0 = λ xs. Leads g whole z o calls.present (Some left) xs s i in
+    let P : List (Open V F H) → Type 0 = λ xs. Continues g whole z o calls.present
+    (Some left) xs s i in
     let N : List (Open V F H) → Type 0 = λ xs. Nested xs calls.present.began in
     let known = subst P open_ stands.0 in
     let nested = subst N open_ stands.1 in
     let R : Call → List (Open V F H) → List (Open V F H) → Type 0 = λ call ys xs.
-    (Leads g whole z o call (Some w) (reverse ys) (s.0, t) j
+    (Continues g whole z o call (Some w) (reverse ys) (s.0, t) j
     × Nested (reverse ys) call.began × (units_left g.folding.units j ≤ call.began) × Unit {0})
     × (rank (units_left g.folding.units j) call (reverse ys) (Some w)
     < rank (units_left g.folding.units i) calls.present xs (Some left)) in
@@ -266,7 +268,8 @@ close_kept {V = V} {F = F} {H = H} g whole z o calls after final left v w x rest
           nested.0 stands.2 (omega (arith, closed, ends)) closes),
     )))
   where
-    falls_least : {V F H : Type 0} (x : Operator V F H) (began turn : ℕ) → Falls x began turn
+    falls_least : {V F H : Type 0} (x : Operator V F H) (began turn : ℕ)
+        → RightOperandStarts x began turn
         → began ≤ turn
     falls_least (prefix_open fold) began turn falls = omega (arith, falls)
     falls_least (infix_open left fold) began turn falls = falls

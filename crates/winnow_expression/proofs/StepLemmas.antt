@@ -13,7 +13,7 @@ use Rattle.winnow_expression.specs.Expression.{CallRuns, ExpressionRuns}
 use Rattle.winnow_expression.specs.Grammar.{Folding, Grammar, CallEnds, Closes, Infixes, Postfixes}
 use Rattle.winnow_expression.specs.Grammar.{TurnEnds}
 use Rattle.winnow_expression.specs.Machine.{AllEnd, OperandStep, TurnStep}
-use Rattle.winnow_expression.specs.Loop.{Leads, Nested, Falls, Stands, rank}
+use Rattle.winnow_expression.specs.Loop.{Continues, Nested, RightOperandStarts, Invariant, rank}
 use Rattle.winnow_expression.proofs.EndLemmas.{popped}
 use Rattle.winnow_expression.proofs.LeadsLemmas.{leads_operand, leads_prefix, leads_infix}
 use Rattle.winnow_expression.proofs.LeadsLemmas.{leads_postfix, leads_close, call_fails, turn_fails}

@@ -13,7 +13,7 @@ use Rattle.winnow_expression.specs.Expression.{CallRuns, ExpressionRuns}
 use Rattle.winnow_expression.specs.Grammar.{Folding, Grammar, CallEnds, Closes, Infixes, Postfixes}
 use Rattle.winnow_expression.specs.Grammar.{TurnEnds}
 use Rattle.winnow_expression.specs.Machine.{AllEnd, OperandStep, TurnStep}
-use Rattle.winnow_expression.specs.Loop.{Leads, Nested, Falls, Stands, rank}
+use Rattle.winnow_expression.specs.Loop.{Continues, Nested, RightOperandStarts, Invariant, rank}
 use Rattle.winnow_expression.proofs.EndLemmas.{popped}
 use Rattle.winnow_expression.proofs.LeadsLemmas.{leads_operand, leads_prefix, leads_infix}
 use Rattle.winnow_expression.proofs.LeadsLemmas.{leads_postfix, leads_close, call_fails, turn_fails}
@@ -45,14 +45,15 @@ at_level g level given z o a t j is runs =
 pub operand_ends : {S W T V F G H : Type 0} (g : Grammar S W T V F G H) (level given : ℤ)
     (z : S × W) (o : Input T) (calls after : Calls V F H) (before : Option V) (answer : Answer V)
     (kind : Kind) (s : S × W) (t : S) (i j : Input T) → given ≡ level
-    → Stands g (call_at given (units_left g.folding.units o)) z o calls before s i → before ≡ None
+    → Invariant g (call_at given (units_left g.folding.units o)) z o calls before s i
+    → before ≡ None
     → OperandStep g.folding.units g.first g.folding.refusal calls s.0 i (Err kind) after t j
     → answer ≡ Err kind
     → ExpressionRuns g level z o answer (t, s.1) j
 operand_ends {H = H} g level given z o calls after before answer kind s t i j is stands none
     (inl (other, failed, e)) f =
     let P : Option _ → Type 0 =
-    λ l. Leads g (call_at given (units_left g.folding.units o)) z o calls.present l
+    λ l. Continues g (call_at given (units_left g.folding.units o)) z o calls.present l
     (reverse calls.opened) s i in
     let same : other ≡ kind = cc in
     let Q : Kind → Type 0 =
@@ -70,7 +71,7 @@ operand_ends g level given z o calls after before answer kind s t i j is stands 
 pub turn_ends_whole : {S W T V F G H : Type 0} (g : Grammar S W T V F G H) (level given : ℤ)
     (z : S × W) (o : Input T) (calls after : Calls V F H) (left : V) (answer : Answer V)
     (kind : Kind) (s : S × W) (t : W) (i j : Input T) → given ≡ level
-    → Stands g (call_at given (units_left g.folding.units o)) z o calls (Some left) s i
+    → Invariant g (call_at given (units_left g.folding.units o)) z o calls (Some left) s i
     → TurnStep g.folding.units g.next g.behind g.folding.refusal calls left s.1 i (Err kind)
     after t j
     → answer ≡ Err kind → ExpressionRuns g level z o answer (s.0, t) j
@@ -87,7 +88,7 @@ pub close_ends : {S W T V F G H : Type 0} (g : Grammar S W T V F G H) (level giv
     (z : S × W) (o : Input T) (calls after : Calls V F H) (left v : V) (answer : Answer V)
     (kind : Kind) (x : Open V F H) (rest : List (Open V F H)) (s : S × W) (t : W)
     (i m j : Input T) → given ≡ level
-    → Stands g (call_at given (units_left g.folding.units o)) z o calls (Some left) s i
+    → Invariant g (call_at given (units_left g.folding.units o)) z o calls (Some left) s i
     → TurnStep g.folding.units g.next g.behind g.folding.refusal calls left s.1 i (Ok (Ends v))
     after t m
     → after.opened ≡ rest ++ (x ∷ [])
@@ -99,7 +100,7 @@ close_ends g level given z o calls after left v answer kind x rest s t i m j is 
     ends_of g.folding.units g.next g.behind g.folding.refusal calls after left v s.1 t i m
     step in
     let P : List (Open _ _ _) → Type 0 =
-    λ xs. Leads g (call_at given (units_left g.folding.units o)) z o calls.present (Some left)
+    λ xs. Continues g (call_at given (units_left g.folding.units o)) z o calls.present (Some left)
     xs s i in
     expression_fails g level z o answer kind (s.0, t) j f
     (at_level g level given z o (Err kind) (s.0, t) j is
@@ -110,7 +111,7 @@ close_ends g level given z o calls after left v answer kind x rest s t i m j is 
 pub call_ends_whole : {S W T V F G H : Type 0} (g : Grammar S W T V F G H) (level given : ℤ)
     (z : S × W) (o : Input T) (calls after : Calls V F H) (left v : V) (s : S × W) (t : W)
     (i j : Input T) → given ≡ level
-    → Stands g (call_at given (units_left g.folding.units o)) z o calls (Some left) s i
+    → Invariant g (call_at given (units_left g.folding.units o)) z o calls (Some left) s i
     → TurnStep g.folding.units g.next g.behind g.folding.refusal calls left s.1 i (Ok (Ends v))
     after t j
     → after.opened ≡ [] → ExpressionRuns g level z o (Ok v) (s.0, t) j
@@ -119,7 +120,7 @@ call_ends_whole g level given z o calls after left v s t i j is stands step none
     ends_of g.folding.units g.next g.behind g.folding.refusal calls after left v s.1 t i j
     step in
     let P : List (Open _ _ _) → Type 0 =
-    λ xs. Leads g (call_at given (units_left g.folding.units o)) z o calls.present (Some left)
+    λ xs. Continues g (call_at given (units_left g.folding.units o)) z o calls.present (Some left)
     xs s i in (
       false,
       at_level g level given z o (Ok (v, false)) (s.0, t) j is
@@ -131,7 +132,7 @@ call_ends_whole g level given z o calls after left v s t i j is stands step none
 pub all_ends_whole : {S W T V F G H : Type 0} (g : Grammar S W T V F G H) (level given : ℤ)
     (z : S × W) (o : Input T) (calls after : Calls V F H) (left v : V) (answer : Answer V)
     (s : S × W) (t : W) (i m j : Input T) → given ≡ level
-    → Stands g (call_at given (units_left g.folding.units o)) z o calls (Some left) s i
+    → Invariant g (call_at given (units_left g.folding.units o)) z o calls (Some left) s i
     → TurnStep g.folding.units g.next g.behind g.folding.refusal calls left s.1 i
     (Ok (EndsAll v)) after t m
     → AllEnd g.folding (reverse after.opened) v m answer j
@@ -149,10 +150,10 @@ all_ends_whole g level given z o calls after left v answer s t i m j is stands s
 
 pub stands_at : {S W T V F G H : Type 0} (g : Grammar S W T V F G H) (whole : Call)
     (z : S × W) (o : Input T) (calls : Calls V F H) (left : Option V) (v : V) (s : S × W)
-    (i : Input T) → Stands g whole z o calls left s i → left ≡ Some v
-    → Stands g whole z o calls (Some v) s i
+    (i : Input T) → Invariant g whole z o calls left s i → left ≡ Some v
+    → Invariant g whole z o calls (Some v) s i
 stands_at g whole z o calls left v s i stands is =
-    let P : Option _ → Type 0 = λ l. Stands g whole z o calls l s i in subst P is stands
+    let P : Option _ → Type 0 = λ l. Invariant g whole z o calls l s i in subst P is stands
 
 pub falls_at : {V F H : Type 0} (u n : ℕ) (call later : Call) (xs ys : List (Open V F H))
     (left after : Option V) (v : V) → left ≡ Some v
@@ -175,10 +176,10 @@ pub stands_start : {S W T V F G H : Type 0} (g : Grammar S W T V F G H) (level g
     (here : ℕ) (z : S × W) (o : Input T) (calls : Calls V F H) → given ≡ level
     → here ≡ units_left g.folding.units o → calls.present ≡ call_at given here
     → calls.opened ≡ []
-    → Stands {V = V} g (call_at level (units_left g.folding.units o)) z o calls None z o
+    → Invariant {V = V} g (call_at level (units_left g.folding.units o)) z o calls None z o
 stands_start {V = V} {F = F} {H = H} g level given here z o calls same is present none =
     let P : Call → List (Open V F H) → Type 0 = λ call xs.
-    Leads g (call_at level (units_left g.folding.units o)) z o call None (reverse xs) z o
+    Continues g (call_at level (units_left g.folding.units o)) z o call None (reverse xs) z o
     × Nested (reverse xs) call.began × (units_left g.folding.units o ≤ call.began)
     × (call.turn ≡ call.began) in
     let at : calls.present ≡ call_at level (units_left g.folding.units o) =

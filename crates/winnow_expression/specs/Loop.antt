@@ -26,35 +26,36 @@ PresentRuns g call None s i a t j = CallRuns g call s i a t j
 PresentRuns g call (Some v) s i a t j = TurnRuns g call v s i a t j
 
 -- Whatever the present call and the calls above it do from here on is what the whole does.
-pub record Leads {S W T V F G H : Type 0} (g : Grammar S W T V F G H) (whole : Call) (s : S × W)
+pub record Continues {S W T V F G H : Type 0} (g : Grammar S W T V F G H) (whole : Call) (s : S × W)
     (i : Input T) (call : Call) (left : Option V) (open_ : List (Open V F H)) (t : S × W)
     (j : Input T) : Type 0 where
   pub leads : (b a : Answer (V × Bool)) (u w : S × W) (m n : Input T)
       → PresentRuns g call left t j b u m → Resumed g open_ b u m a w n → CallRuns g whole s i a w n
 
 -- A right operand begins after its operator: that of a prefix after the turn's beginning.
-abbrev pub Falls : {V F H : Type 0} → Operator V F H → ℕ → ℕ → Type 0
-Falls (Prefix fold) began turn = began < turn
-Falls (Infix left fold) began turn = began ≤ turn
+abbrev pub RightOperandStarts : {V F H : Type 0} → Operator V F H → ℕ → ℕ → Type 0
+RightOperandStarts (Prefix fold) began turn = began < turn
+RightOperandStarts (Infix left fold) began turn = began ≤ turn
 
 -- Calls begin and take their turns in sequence. The list has the last operator first.
 abbrev pub Nested : {V F H : Type 0} → List (Open V F H) → ℕ → Type 0
 Nested [] began = Unit {0}
 Nested (x ∷ xs) began =
-    Falls x.operator began x.call.turn × (x.call.turn ≤ x.call.began) × Nested xs x.call.began
+    RightOperandStarts x.operator began x.call.turn × (x.call.turn ≤ x.call.began) × Nested xs
+    x.call.began
 
 -- Where a call begins, its turn begins.
-abbrev pub Begun : {V : Type 0} → Option V → Call → Type 0
-Begun None call = call.turn ≡ call.began
-Begun (Some v) call = Unit {0}
+abbrev pub StartsCall : {V : Type 0} → Option V → Call → Type 0
+StartsCall None call = call.turn ≡ call.began
+StartsCall (Some v) call = Unit {0}
 
 -- The invariant of the loop.
-abbrev pub Stands : {S W T V F G H : Type 0} → Grammar S W T V F G H → Call → S × W → Input T
+abbrev pub Invariant : {S W T V F G H : Type 0} → Grammar S W T V F G H → Call → S × W → Input T
     → Calls V F H → Option V → S × W → Input T → Type 0
-Stands g whole s i calls left t j =
-    Leads g whole s i calls.present left (reverse calls.opened) t j
+Invariant g whole s i calls left t j =
+    Continues g whole s i calls.present left (reverse calls.opened) t j
     × Nested (reverse calls.opened) calls.present.began
-    × (units_left g.folding.units j ≤ calls.present.began) × Begun left calls.present
+    × (units_left g.folding.units j ≤ calls.present.began) × StartsCall left calls.present
 
 -- whether one number is above another, as a number
 abbrev pub above : ℕ → ℕ → ℕ

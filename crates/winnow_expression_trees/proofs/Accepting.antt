@@ -17,9 +17,9 @@ use Rattle.winnow_expression.specs.declared.combinator.places.Next.TheVariants.{
 use Rattle.winnow_expression.specs.declared.combinator.places.Next.TheVariants.{Infix as infix_read}
 use Rattle.winnow_expression_trees.specs.Accepting.{accepting}
 use Rattle.winnow_expression_trees.specs.Alike.{AlikeFirst, AlikeNext}
-use Rattle.winnow_expression_trees.specs.Failure.{EndedBy, RefusedBy, Unmoved}
+use Rattle.winnow_expression_trees.specs.Failure.{EndedBy, RejectedBy, Unmoved}
 use Rattle.winnow_expression_trees.specs.OneTree.{KeepsOver}
-use Rattle.winnow_expression_trees.specs.Premises.{AnswersAlike, FoldAlike, FoldsAlike}
+use Rattle.winnow_expression_trees.specs.Premises.{EquivalentResults, FoldAlike, FoldsAlike}
 use Rattle.winnow_expression_trees.specs.Tree.{Tree}
 use Rattle.winnow_expression_trees.proofs.Plain.{Plain}
 use Rattle.winnow_expression_trees.proofs.Total.{run_fails, tree_refuses}
@@ -78,16 +78,17 @@ module _ {S W T V F G H : Type 0} (g : Grammar S W T V F G H) (alike : V → V �
       (e.0, e.1, e.2, folds_give alike g.folding.between (fold_of o) (fold_of q) e.3)
 
   firsts_give : (a b : Answer (First V F))
-      → AnswersAlike (AlikeFirst alike (FoldAlike alike g.folding.before)) a b
-      → AnswersAlike (AlikeFirst alike (FoldAlike alike (Gives g.folding.before))) a b
+      → EquivalentResults (AlikeFirst alike (FoldAlike alike g.folding.before)) a b
+      → EquivalentResults (AlikeFirst alike (FoldAlike alike (Gives g.folding.before))) a b
   firsts_give (Ok x) (Ok y) e = first_gives x y e
   firsts_give (Ok x) (Err l) e = absurd e
   firsts_give (Err k) (Ok y) e = absurd e
   firsts_give (Err k) (Err l) e = e
 
   nexts_give : (a b : Answer (Next G H))
-      → AnswersAlike (AlikeNext (FoldAlike alike g.behind) (FoldsAlike alike g.folding.between)) a b
-      → AnswersAlike (AlikeNext (FoldAlike alike (Gives g.behind))
+      → EquivalentResults (AlikeNext (FoldAlike alike g.behind)
+      (FoldsAlike alike g.folding.between)) a b
+      → EquivalentResults (AlikeNext (FoldAlike alike (Gives g.behind))
       (FoldsAlike alike (GivesBoth g.folding.between))) a b
   nexts_give (Ok x) (Ok y) e = next_gives x y e
   nexts_give (Ok x) (Err l) e = absurd e
@@ -114,7 +115,7 @@ module _ {S W T V F G H : Type 0} (g : Grammar S W T V F G H) (alike : V → V �
   }
 
   no_refusal : (level : ℤ) (i : Input T) (k : Kind) (j : Input T)
-      → RefusedBy (accepting g) s0 level i k j → ⊥
+      → RejectedBy (accepting g) s0 level i k j → ⊥
   no_refusal level i k j
       (inl (m, z, x, n, p, f, r, all, v, begins, read, over, keeps, value, folds)) =
       no_error V k folds.1

@@ -14,7 +14,7 @@ use Rattle.winnow_expression.specs.declared.combinator.places.Next.{Next}
 use Rattle.winnow_expression.specs.declared.combinator.places.Next.TheVariants.{Nothing, Postfix}
 use Rattle.winnow_expression.specs.declared.combinator.places.Next.TheVariants.{Infix as infix_read}
 use Rattle.winnow_expression_trees.specs.Alike.{AlikeFirst, AlikeNext}
-use Rattle.winnow_expression_trees.specs.Premises.{AnswersAlike, FoldAlike, FoldsAlike}
+use Rattle.winnow_expression_trees.specs.Premises.{EquivalentResults, FoldAlike, FoldsAlike}
 use Rattle.winnow_expression_trees.specs.Tree.{Tree, leaf, before, behind, between}
 use Rattle.winnow_expression_trees.specs.Value.{Value}
 use Rattle.winnow_expression_trees.proofs.Plain.{Plain}
@@ -36,10 +36,10 @@ abbrev pub any_alike : {V : Type 0} → V → V → Type 0
 any_alike v w = Unit {0}
 
 both_given : {V : Type 0} (a b : Answer V) (v w : V) → a ≡ Ok v → b ≡ Ok w
-    → AnswersAlike any_alike a b
+    → EquivalentResults any_alike a b
 both_given a b v w e f =
-    subst (λ z. AnswersAlike any_alike z b) (sym e)
-    (subst (λ z. AnswersAlike any_alike (Ok v) z) (sym f) tt)
+    subst (λ z. EquivalentResults any_alike z b) (sym e)
+    (subst (λ z. EquivalentResults any_alike (Ok v) z) (sym f) tt)
 
 fold_any : {T V F : Type 0} (f h : F) → FoldAlike {T = T} {V = V} any_alike any_value f h
 fold_any f h = record {
@@ -79,16 +79,17 @@ module _ {S W T V F G H : Type 0} (g : Grammar S W T V F G H) (alike : V → V �
       (e.0, e.1, e.2, folds_any (fold_of o) (fold_of q))
 
   firsts_any : (a b : Answer (First V F))
-      → AnswersAlike (AlikeFirst alike (FoldAlike alike g.folding.before)) a b
-      → AnswersAlike (AlikeFirst any_alike (FoldAlike {T = T} {V = V} any_alike any_value)) a b
+      → EquivalentResults (AlikeFirst alike (FoldAlike alike g.folding.before)) a b
+      → EquivalentResults (AlikeFirst any_alike (FoldAlike {T = T} {V = V} any_alike any_value)) a b
   firsts_any (Ok x) (Ok y) e = first_any x y e
   firsts_any (Ok x) (Err l) e = absurd e
   firsts_any (Err k) (Ok y) e = absurd e
   firsts_any (Err k) (Err l) e = e
 
   nexts_any : (a b : Answer (Next G H))
-      → AnswersAlike (AlikeNext (FoldAlike alike g.behind) (FoldsAlike alike g.folding.between)) a b
-      → AnswersAlike (AlikeNext (FoldAlike {T = T} {V = V} any_alike any_value)
+      → EquivalentResults (AlikeNext (FoldAlike alike g.behind)
+      (FoldsAlike alike g.folding.between)) a b
+      → EquivalentResults (AlikeNext (FoldAlike {T = T} {V = V} any_alike any_value)
       (FoldsAlike {T = T} {V = V} any_alike any_value_of_both)) a b
   nexts_any (Ok x) (Ok y) e = next_any x y e
   nexts_any (Ok x) (Err l) e = absurd e

@@ -20,7 +20,8 @@ use Rattle.winnow_expression.specs.declared.combinator.calls.Operator.TheVariant
 use Rattle.winnow_expression.specs.declared.combinator.calls.Operator.TheVariants.{
   Infix as infix_open,
 }
-use Rattle.winnow_expression_trees.specs.Premises.{AnswersAlike, FoldAlike, FoldsAlike, NotMemory}
+use Rattle.winnow_expression_trees.specs.Premises.{EquivalentResults, FoldAlike, FoldsAlike}
+use Rattle.winnow_expression_trees.specs.Premises.{NotMemory}
 use Rattle.winnow_expression_trees.specs.Value.{Value}
 
 pub clash : {O P : Type 0} {a : Answer O} {v : O} {k : Kind} → a ≡ Err k → a ≡ Ok v → P
@@ -68,7 +69,7 @@ module _ {S W T V F G H : Type 0} (g : Grammar S W T V F G H) (alike : V → V �
       → NotMemory c
       → (v : V) × (c ≡ Ok v) × (m ≡ i) × ((y : V) → Value g l y → alike v y)
 
-  fold_case : (a : Answer V) (y : V) → AnswersAlike alike a (Ok y) → (v : V) × (a ≡ Ok v)
+  fold_case : (a : Answer V) (y : V) → EquivalentResults alike a (Ok y) → (v : V) × (a ≡ Ok v)
   fold_case (Ok v) y same = (v, refl)
   fold_case (Err k) y same = absurd same
 

@@ -13,7 +13,7 @@ use Rattle.winnow_expression.specs.declared.combinator.places.First.TheVariants.
 use Rattle.winnow_expression.specs.declared.combinator.places.Next.{Next}
 use Rattle.winnow_expression.specs.declared.combinator.places.Next.TheVariants.{Postfix}
 use Rattle.winnow_expression.specs.declared.combinator.places.Next.TheVariants.{Infix as infix_read}
-use Rattle.winnow_expression_trees.specs.Failure.{Comes, EndedBy, comes_infix, comes_operand}
+use Rattle.winnow_expression_trees.specs.Failure.{ReadsTo, EndedBy, comes_infix, comes_operand}
 use Rattle.winnow_expression_trees.specs.Failure.{comes_postfix, comes_prefix, comes_start}
 use Rattle.winnow_expression_trees.specs.Premises.{FoldAlike, FoldsAlike}
 use Rattle.winnow_expression_trees.specs.Reading.{FirstStep, NextStep}
@@ -47,7 +47,7 @@ module _ {V F G H P : Type 0} (av : V → V → Type 0) (af : F → F → Type 0
   goes_then _ _ x _ _ y (goes_on b c d j k m step more) last =
       goes_on b c x j k y step (goes_then c d x k m y more last)
 
-  from_start : (start : P) (b : Bool) (k : P) → Comes first next start b k → Goes true start b k
+  from_start : (start : P) (b : Bool) (k : P) → ReadsTo first next start b k → Goes true start b k
   from_start start _ _ comes_start = goes_none true true start start refl refl
   from_start start _ _ (comes_operand j k v before read) =
       goes_then true true false start j k (from_start start true j before) (v, read)
@@ -116,8 +116,8 @@ module _ {S W T V F G H : Type 0} (g : Grammar S W T V F G H) (alike : V → V �
       no_next g alike s0 pr s0.1 t i j m k (Postfix p f) refl run other read
 
   -- both places are one
-  meet : (b c : Bool) (i k m : Input T) → Comes (FirstStep g s0) (NextStep g s0) i b k
-      → Comes (FirstStep g s0) (NextStep g s0) i c m
+  meet : (b c : Bool) (i k m : Input T) → ReadsTo (FirstStep g s0) (NextStep g s0) i b k
+      → ReadsTo (FirstStep g s0) (NextStep g s0) i c m
       → ((d : Bool) (n : Input T) → Reads b k d n → ⊥)
       → ((d : Bool) (n : Input T) → Reads c m d n → ⊥) → (b ≡ c) × (k ≡ m)
   meet b c i k m p q ends stops =

@@ -34,30 +34,30 @@ use Rattle.winnow_expression_trees.proofs.Plain.{Plain, decided, moves, own_firs
 use Rattle.winnow_expression_trees.specs.Premises.{NotMemory, FoldAlike, FoldsAlike}
 use Rattle.winnow_expression_trees.specs.Reading.{FirstStep, NextStep}
 use Rattle.winnow_expression_trees.proofs.Finds.{between_closes, call_tree}
-use Rattle.winnow_expression_trees.specs.Failure.{Comes, EndedBy, Unmoved}
+use Rattle.winnow_expression_trees.specs.Failure.{ReadsTo, EndedBy, Unmoved}
 use Rattle.winnow_expression_trees.specs.Failure.{comes_infix, comes_operand, comes_postfix}
 use Rattle.winnow_expression_trees.specs.Failure.{comes_prefix}
 
 -- The fold of an operator that is read fails, for some values.
-abbrev pub Refuses : {S W T V F G H : Type 0} → Grammar S W T V F G H → S × W → Input T → Kind
+abbrev pub SomeFoldFails : {S W T V F G H : Type 0} → Grammar S W T V F G H → S × W → Input T → Kind
     → Input T
     → Type 0
-Refuses {S} {W} {T} {V} {F} {G} {H} g s0 start kind j =
+SomeFoldFails {S} {W} {T} {V} {F} {G} {H} g s0 start kind j =
     ((k : Input T) × (n : Input T) × (p : ℤ) × (f : F) × (m : Input T) × (v : V)
-    × Comes (FirstStep g s0) (NextStep g s0) start true k × FirstStep g s0 k (prefix_read p f) n
+    × ReadsTo (FirstStep g s0) (NextStep g s0) start true k × FirstStep g s0 k (prefix_read p f) n
     × g.folding.before f m v (Err kind) j)
     ⊎ (((k : Input T) × (n : Input T) × (p : ℤ) × (f : G) × (m : Input T) × (v : V)
-    × Comes (FirstStep g s0) (NextStep g s0) start false k × NextStep g s0 k (Postfix p f) n
+    × ReadsTo (FirstStep g s0) (NextStep g s0) start false k × NextStep g s0 k (Postfix p f) n
     × g.behind f m v (Err kind) j)
     ⊎ ((k : Input T) × (n : Input T) × (o : Infix H) × (m : Input T) × (v : V) × (w : V)
-    × Comes (FirstStep g s0) (NextStep g s0) start false k × NextStep g s0 k (infix_read o) n
+    × ReadsTo (FirstStep g s0) (NextStep g s0) start false k × NextStep g s0 k (infix_read o) n
     × g.folding.between (fold_of o) m v w (Err kind) j))
 
 abbrev pub FailsSo : {S W T V F G H : Type 0} → Grammar S W T V F G H → S × W → Input T → Kind
     → Input T
     → Type 0
 FailsSo g s0 start kind j =
-    EndedBy g s0 start kind j ⊎ (Refuses g s0 start kind j ⊎ Unmoved g s0 start)
+    EndedBy g s0 start kind j ⊎ (SomeFoldFails g s0 start kind j ⊎ Unmoved g s0 start)
 
 pub err_same : {O : Type 0} {a : Answer O} {k l : Kind} → a ≡ Err k → a ≡ Err l → k ≡ l
 err_same e f = cc
@@ -70,8 +70,9 @@ err_ok e = cc
 
 pub comes_over : {V F G H P : Type 0} (first : P → First V F → P → Type 0)
     (next : P → Next G H → P → Type 0)
-    (start : P) (t : Tree V F G H) (i j : P) → Comes first next start true i → Over first next t i j
-    → Comes first next start false j
+    (start : P) (t : Tree V F G H) (i j : P) → ReadsTo first next start true i
+    → Over first next t i j
+    → ReadsTo first next start false j
 comes_over first next start (leaf v) i j c o = comes_operand i j v c o
 comes_over first next start (before p f r) i j c o =
     comes_over first next start r o.0 j (comes_prefix i o.0 p f c o.1) o.2
@@ -89,7 +90,7 @@ module _ {S W T V F G H : Type 0} (g : Grammar S W T V F G H) (alike : V → V �
   turn_ends_fail : (call : Call) (left : V) (s t : W) (i j : Input T) (a : Answer (V × Bool))
       → TurnEnds F g.folding.units g.next g.behind g.folding.refusal call left s i a t j
       → s ≡ s0.1 → NotMemory a
-      → Comes (FirstStep g s0) (NextStep g s0) start false i
+      → ReadsTo (FirstStep g s0) (NextStep g s0) start false i
       → units_left g.folding.units i ≤ call.began → (kind : Kind) → a ≡ Err kind
       → FailsSo g s0 start kind j
   turn_ends_fail call left s t i j a (inl (r, e)) es other comes high kind f = clash f e
@@ -162,7 +163,7 @@ module _ {S W T V F G H : Type 0} (g : Grammar S W T V F G H) (alike : V → V �
   infix_refuses : (i m : Input T) (o : Infix H) (left right : V) (n z : Input T) (k : Kind)
       (turn : ℕ)
       → turn ≡ units_left g.folding.units i
-      → Comes (FirstStep g s0) (NextStep g s0) start false i
+      → ReadsTo (FirstStep g s0) (NextStep g s0) start false i
       → NextStep g s0 i (infix_read o) m
       → FoldsAlike alike g.folding.between (fold_of o) (fold_of o)
       → units_left g.folding.units m ≤ units_left g.folding.units i
@@ -211,7 +212,7 @@ module _ {S W T V F G H : Type 0} (g : Grammar S W T V F G H) (alike : V → V �
     pub call_fails : (call : Call) (s : S × W) (i : Input T) (a : Answer (V × Bool)) (t : S × W)
         (j : Input T)
         → CallRuns g call s i a t j → Kept s → NotMemory a
-        → Comes (FirstStep g s0) (NextStep g s0) start true i
+        → ReadsTo (FirstStep g s0) (NextStep g s0) start true i
         → units_left g.folding.units i ≤ call.began → (kind : Kind) → a ≡ Err kind
         → FailsSo g s0 start kind j
     call_fails _ _ _ _ _ _ (call_ends call s t i j k a (inl run) kept e) es other comes high
@@ -283,7 +284,7 @@ module _ {S W T V F G H : Type 0} (g : Grammar S W T V F G H) (alike : V → V �
     pub turn_fails : (call : Call) (left : V) (s : S × W) (i : Input T) (a : Answer (V × Bool))
         (t : S × W) (j : Input T)
         → TurnRuns g call left s i a t j → Kept s → NotMemory a
-        → Comes (FirstStep g s0) (NextStep g s0) start false i
+        → ReadsTo (FirstStep g s0) (NextStep g s0) start false i
         → units_left g.folding.units i ≤ call.began → (kind : Kind) → a ≡ Err kind
         → FailsSo g s0 start kind j
     turn_fails _ _ _ _ _ _ _ (turn_ends call left s t i j a ended kept) es other comes high kind f =
@@ -298,7 +299,7 @@ module _ {S W T V F G H : Type 0} (g : Grammar S W T V F G H) (alike : V → V �
         let falls = pr.next_falls i k (Postfix power fold) own.1 in
         let same = ap (units_left g.folding.units) place in
         turn_fails call v u m a t j turn (kept ∙ es.0, own.0) other
-        (subst (λ z. Comes (FirstStep g s0) (NextStep g s0) start false z) (sym place)
+        (subst (λ z. ReadsTo (FirstStep g s0) (NextStep g s0) start false z) (sym place)
         (comes_postfix i k power fold comes own.1))
         (omega (arith, falls, same, high)) kind f
     turn_fails _ _ _ _ _ _ _
@@ -358,7 +359,7 @@ module _ {S W T V F G H : Type 0} (g : Grammar S W T V F G H) (alike : V → V �
         (j : Input T) → ResumeRuns g x b s i a t j → NotMemory a
         → ((k : Kind) → b ≡ Err k → FailsSo g s0 start k i)
         → ((v : V) (all : Bool) → b ≡ Ok (v, all)
-        → Kept s × Comes (FirstStep g s0) (NextStep g s0) start false i
+        → Kept s × ReadsTo (FirstStep g s0) (NextStep g s0) start false i
         × (units_left g.folding.units i ≤ x.call.began))
         → ((right : V) (all : Bool) (k : Kind) (m : Input T) → b ≡ Ok (right, all)
         → Closes g.folding x.operator x.call.turn i right (Err k) m → FailsSo g s0 start k m)
@@ -382,5 +383,5 @@ module _ {S W T V F G H : Type 0} (g : Grammar S W T V F G H) (alike : V → V �
         let place = leaves right w m folds in
         let same = ap (units_left g.folding.units) place in
         turn_fails x.call w s m a t j turn es other
-        (subst (λ z. Comes (FirstStep g s0) (NextStep g s0) start false z) (sym place) c)
+        (subst (λ z. ReadsTo (FirstStep g s0) (NextStep g s0) start false z) (sym place) c)
         (omega (arith, high, same)) kind f

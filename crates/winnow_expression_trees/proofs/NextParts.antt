@@ -16,7 +16,7 @@ use Rattle.winnow_expression.specs.declared.combinator.places.Next.TheVariants.{
 }
 use Rattle.winnow_expression.specs.declared.combinator.places.Next.TheVariants.{Infix as infix_read}
 use Rattle.winnow_expression_trees.specs.Alike.{AlikeInfix, AlikeNext}
-use Rattle.winnow_expression_trees.specs.Premises.{AnswersAlike, NotMemory}
+use Rattle.winnow_expression_trees.specs.Premises.{EquivalentResults, NotMemory}
 use Rattle.winnow_expression_trees.proofs.Parts.{back_is, not_back}
 use Rattle.winnow_expression_trees.specs.Premises.{IsStateless}
 use Rattle.winnow_expression_trees.specs.Premises.{AlikePostfix}
@@ -107,15 +107,17 @@ infix_not i n j (Err k) a (inl (unlike, e, place)) other = subst (λ z. NotMemor
 infix_not i n j (Err k) a (inr (is, e, place)) other = λ z. not_back (sym is ∙ z)
 
 both : {G H : Type 0} (ag : G → G → Type 0) (ah : H → H → Type 0) (a b x y : Answer (Next G H))
-    → a ≡ x → b ≡ y → AnswersAlike (AlikeNext ag ah) x y → AnswersAlike (AlikeNext ag ah) a b
+    → a ≡ x → b ≡ y → EquivalentResults (AlikeNext ag ah) x y
+    → EquivalentResults (AlikeNext ag ah) a b
 both ag ah a b x y e f s =
-    subst (λ z. AnswersAlike (AlikeNext ag ah) z b) (sym e)
-    (subst (λ z. AnswersAlike (AlikeNext ag ah) x z) (sym f) s)
+    subst (λ z. EquivalentResults (AlikeNext ag ah) z b) (sym e)
+    (subst (λ z. EquivalentResults (AlikeNext ag ah) x z) (sym f) s)
 
 infix_same : {T G H : Type 0} (ag : G → G → Type 0) (ah : H → H → Type 0) (i n n' j k : Input T)
     (c c' : Answer (Infix H)) (a b : Answer (Next G H)) → InfixSeen i c n a j
     → InfixSeen i c' n' b k
-    → AnswersAlike (AlikeInfix ah) c c' → n ≡ n' → AnswersAlike (AlikeNext ag ah) a b × (j ≡ k)
+    → EquivalentResults (AlikeInfix ah) c c' → n ≡ n' → EquivalentResults (AlikeNext ag ah) a b ×
+    (j ≡ k)
 infix_same ag ah i n n' j k (Ok o) (Ok q) a b (e, place) (e', place') same is =
     (both ag ah a b (Ok (infix_read o)) (Ok (infix_read q)) e e' same, place ∙ is ∙ sym place')
 infix_same ag ah i n n' j k (Ok o) (Err l) a b seen seen' same is = absurd same
@@ -139,7 +141,7 @@ module _ {S W T G H : Type 0} (ag : G → G → Type 0) (ah : H → H → Type 0
     (pi : IsStateless (AlikeInfix ah) infix_ w) where
   later_decided : (i j k : Input T) (a b : Answer (Next G H)) (t t' : S) (u u' : W)
       → SeenLater postfix infix_ s w i a t u j → SeenLater postfix infix_ s w i b t' u' k
-      → NotMemory a → NotMemory b → AnswersAlike (AlikeNext ag ah) a b × (j ≡ k)
+      → NotMemory a → NotMemory b → EquivalentResults (AlikeNext ag ah) a b × (j ≡ k)
   later_decided i j k a b t t' u u' (inl (v, r, e)) (inl (v', r', e')) n n' =
       let d = pq.decided i j k (Ok v) (Ok v') t t' r r' tt tt in
       (both ag ah a b (Ok (postfix_read v.0 v.1)) (Ok (postfix_read v'.0 v'.1)) e e' d.0, d.1)
@@ -174,7 +176,7 @@ module _ {S W T G H : Type 0} (ag : G → G → Type 0) (ah : H → H → Type 0
   -- postfixes and infixes that are stateless make such a place
   pub next_decided : (units : List T → ℕ) (i j k : Input T) (a b : Answer (Next G H)) (t u : S × W)
       → NextRuns units postfix infix_ (s, w) i a t j → NextRuns units postfix infix_ (s, w) i b u k
-      → NotMemory a → NotMemory b → AnswersAlike (AlikeNext ag ah) a b × (j ≡ k)
+      → NotMemory a → NotMemory b → EquivalentResults (AlikeNext ag ah) a b × (j ≡ k)
   next_decided units i j k a b t u r q n n' =
       let seen = next_seen postfix infix_ units (AlikePostfix ag) (AlikeInfix ah) (s, w) t pq pi
       i j a r in

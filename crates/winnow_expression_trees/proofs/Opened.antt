@@ -24,7 +24,7 @@ use Rattle.winnow_expression.specs.declared.combinator.calls.Operator.TheVariant
 use Rattle.winnow_expression.specs.declared.combinator.calls.Operator.TheVariants.{
   Infix as infix_open,
 }
-use Rattle.winnow_expression_trees.specs.Failure.{Begins, InfixTakes, RefusedBy, TakesLeft}
+use Rattle.winnow_expression_trees.specs.Failure.{StartsOperand, InfixTakes, RejectedBy, TakesLeft}
 use Rattle.winnow_expression_trees.specs.Keeps.{Above, Binds, EdgeAbove, Keeps, Outcome, Reaches}
 use Rattle.winnow_expression_trees.specs.Premises.{FoldAlike, FoldsAlike}
 use Rattle.winnow_expression_trees.specs.Reading.{FirstStep, NextStep, Over, power_of}
@@ -38,9 +38,9 @@ use Rattle.winnow_expression_trees.proofs.Plain.{Plain, decided, own_next}
 use Rattle.winnow_expression_trees.proofs.AnyFolds.{any_value, unrefusing}
 
 -- The fold of an operator fails, and this is the result.
-abbrev pub Refused : {S W T V F G H O : Type 0} → Grammar S W T V F G H → S × W → ℤ → Input T
+abbrev pub FoldFails : {S W T V F G H O : Type 0} → Grammar S W T V F G H → S × W → ℤ → Input T
     → Answer O → Input T → Type 0
-Refused g s0 level start a j = (k : Kind) × (a ≡ Err k) × RefusedBy g s0 level start k j
+FoldFails g s0 level start a j = (k : Kind) × (a ≡ Err k) × RejectedBy g s0 level start k j
 
 -- A left operand that a call has read. It respects precedence so far, no operator that may be read
 -- next binds within its right edge, and it has a value.
@@ -48,7 +48,7 @@ pub record IsLeft {S W T V F G H : Type 0} (g : Grammar S W T V F G H) (s0 : S �
     (start : Input T) (call : Call) (left : V) (i : Input T) : Type 0 where
   pub at : Input T
   pub tree : Tree V F G H
-  pub begins : Begins g s0 level start call.least at
+  pub begins : StartsOperand g s0 level start call.least at
   pub over : Over (FirstStep g s0) (NextStep g s0) tree at i
   pub binds : Binds tree
   pub reaches : Reaches call.least tree
@@ -71,12 +71,12 @@ pub record Opened {S W T V F G H : Type 0} (g : Grammar S W T V F G H) (s0 : S �
   pub refuses : (k : Kind) (m : Input T)
       → Closes g.folding x.operator x.call.turn i right (Err k) m
       → Closes (unrefusing g).folding x.operator x.call.turn i right (Err k) m
-      ⊎ RefusedBy g s0 level start k m
+      ⊎ RejectedBy g s0 level start k m
 
 module _ {S W T V F G H : Type 0} (g : Grammar S W T V F G H) (alike : V → V → Type 0) (s0 : S × W)
     (pr : Plain g alike s0) (level : ℤ) (start : Input T) where
   abbrev BeginsAt : ℤ → Input T → Type 0
-  BeginsAt m k = Begins g s0 level start m k
+  BeginsAt m k = StartsOperand g s0 level start m k
 
   abbrev LeftOf : Call → V → Input T → Type 0
   LeftOf call left i = IsLeft g s0 level start call left i
@@ -172,10 +172,10 @@ module _ {S W T V F G H : Type 0} (g : Grammar S W T V F G H) (alike : V → V �
 
   infix_refuses : (fold : H) (left right : V) (turn : ℕ) (k : Kind) (n z : Input T)
       → FoldsAlike alike g.folding.between fold fold
-      → (g.folding.between fold n left right (Err k) z → RefusedBy g s0 level start k z)
+      → (g.folding.between fold n left right (Err k) z → RejectedBy g s0 level start k z)
       → Closes g.folding (infix_open left fold) turn n right (Err k) z
       → Closes (unrefusing g).folding (infix_open left fold) turn n right (Err k) z
-      ⊎ RefusedBy g s0 level start k z
+      ⊎ RejectedBy g s0 level start k z
   infix_refuses fold left right turn k n z still says (inl (l, folded, e)) =
       inr (says (subst (λ y. g.folding.between fold n left right (Err y) z)
       (sym (err_same refl e)) folded))
@@ -268,7 +268,7 @@ module _ {S W T V F G H : Type 0} (g : Grammar S W T V F G H) (alike : V → V �
       → TurnEnds F g.folding.units g.next g.behind g.folding.refusal call left s i a t j
       → s ≡ s0.1 → LeftOf call left i
       → TurnEnds F g.folding.units g.next any_value g.folding.refusal call left s i a t j
-      ⊎ Refused g s0 level start a j
+      ⊎ FoldFails g s0 level start a j
   turn_ends_total call left s t i j a (inl ended) es known = inl (inl ended)
   turn_ends_total call left s t i j a (inr (inl ended)) es known = inl (inr (inl ended))
   turn_ends_total call left s t i j a (inr (inr (inl ended))) es known =
@@ -318,12 +318,12 @@ module _ {S W T V F G H : Type 0} (g : Grammar S W T V F G H) (alike : V → V �
   -- where the right operand fails, so does the call that waits for it
   pub resume_refused : (x : Open V F H) (b : Answer (V × Bool)) (s : S × W) (i : Input T)
       (a : Answer (V × Bool)) (t : S × W) (j : Input T) → ResumeRuns g x b s i a t j
-      → Refused g s0 level start b i → Refused g s0 level start a j
+      → FoldFails g s0 level start b i → FoldFails g s0 level start a j
   resume_refused _ _ _ _ _ _ _ (resume_ends x b a s t i j (inl (kind, e, failed, same)) kept)
       (k, is, refused) = (
         k,
         failed ∙ sym e ∙ is,
-        subst (λ z. RefusedBy g s0 level start k z) (sym same) refused,
+        subst (λ z. RejectedBy g s0 level start k z) (sym same) refused,
       )
   resume_refused _ _ _ _ _ _ _
       (resume_ends x b a s t i j (inr (inl (right, every, kind, e, folds, failed))) kept)

@@ -13,7 +13,7 @@ use Rattle.winnow_expression.specs.declared.combinator.places.First.TheVariants.
   Prefix as prefix_read,
 }
 use Rattle.winnow_expression_trees.specs.Alike.{AlikeFirst}
-use Rattle.winnow_expression_trees.specs.Premises.{AlikePrefix, AnswersAlike, IsStateless}
+use Rattle.winnow_expression_trees.specs.Premises.{AlikePrefix, EquivalentResults, IsStateless}
 use Rattle.winnow_expression_trees.specs.Premises.{NotMemory}
 
 pub not_back : backtrack ≡ memory → ⊥
@@ -68,7 +68,7 @@ see_not V (Ok p) n = tt
 see_not V (Err k) n = n
 
 see_same : {V F : Type 0} (av : V → V → Type 0) (af : F → F → Type 0) (a b : Answer (Prefix F))
-    → AnswersAlike (AlikePrefix af) a b → AnswersAlike (AlikeFirst av af) (see a) (see b)
+    → EquivalentResults (AlikePrefix af) a b → EquivalentResults (AlikeFirst av af) (see a) (see b)
 see_same av af (Ok p) (Ok q) e = e
 see_same av af (Ok p) (Err k) e = e
 see_same av af (Err k) (Ok q) e = e
@@ -79,11 +79,11 @@ module _ {S W T V F : Type 0} (av : V → V → Type 0) (af : F → F → Type 0
     (pp : IsStateless (AlikePrefix af) prefix w) where
   seen_decided : (i j k : Input T) (a b : Answer (First V F)) (t t' : S) (u u' : W)
       → SeenFirst operand prefix s w i a t u j → SeenFirst operand prefix s w i b t' u' k
-      → NotMemory a → NotMemory b → AnswersAlike (AlikeFirst av af) a b × (j ≡ k)
+      → NotMemory a → NotMemory b → EquivalentResults (AlikeFirst av af) a b × (j ≡ k)
   seen_decided i j k a b t t' u u' (inl (v, r, kept, e)) (inl (v', r', kept', e')) n n' =
       let d = po.decided i j k (Ok v) (Ok v') t t' r r' tt tt in (
-        subst (λ z. AnswersAlike (AlikeFirst av af) z b) (sym e)
-            (subst (λ z. AnswersAlike (AlikeFirst av af) (Ok (Operand v)) z) (sym e') d.0),
+        subst (λ z. EquivalentResults (AlikeFirst av af) z b) (sym e)
+            (subst (λ z. EquivalentResults (AlikeFirst av af) (Ok (Operand v)) z) (sym e') d.0),
         d.1,
       )
   seen_decided i j k a b t t' u u' (inl (v, r, kept, e)) (inr (inl (l', r', other', kept', e')))
@@ -98,8 +98,8 @@ module _ {S W T V F : Type 0} (av : V → V → Type 0) (af : F → F → Type 0
       (inr (inl (l', r', other', kept', e'))) n n' =
       let d = po.decided i j k (Err l) (Err l') t t' r r' (subst (λ z. NotMemory z) e n)
       (subst (λ z. NotMemory z) e' n') in (
-        subst (λ z. AnswersAlike (AlikeFirst av af) z b) (sym e)
-            (subst (λ z. AnswersAlike (AlikeFirst av af) (Err l) z) (sym e') d.0),
+        subst (λ z. EquivalentResults (AlikeFirst av af) z b) (sym e)
+            (subst (λ z. EquivalentResults (AlikeFirst av af) (Err l) z) (sym e') d.0),
         d.1,
       )
   seen_decided i j k a b t t' u u' (inr (inl (l, r, other, kept, e)))
@@ -117,8 +117,8 @@ module _ {S W T V F : Type 0} (av : V → V → Type 0) (af : F → F → Type 0
       n n' =
       let d = pp.decided i j k c c' u u' q q' (see_not V c (subst (λ z. NotMemory z) e n))
       (see_not V c' (subst (λ z. NotMemory z) e' n')) in (
-        subst (λ z. AnswersAlike (AlikeFirst av af) z b) (sym e)
-            (subst (λ z. AnswersAlike (AlikeFirst av af) (see c) z) (sym e')
+        subst (λ z. EquivalentResults (AlikeFirst av af) z b) (sym e)
+            (subst (λ z. EquivalentResults (AlikeFirst av af) (see c) z) (sym e')
             (see_same av af c c' d.0)),
         d.1,
       )
@@ -126,7 +126,7 @@ module _ {S W T V F : Type 0} (av : V → V → Type 0) (af : F → F → Type 0
   -- operands and prefixes that are stateless make such a place
   pub first_decided : (i j k : Input T) (a b : Answer (First V F)) (t u : S × W)
       → FirstRuns operand prefix (s, w) i a t j → FirstRuns operand prefix (s, w) i b u k
-      → NotMemory a → NotMemory b → AnswersAlike (AlikeFirst av af) a b × (j ≡ k)
+      → NotMemory a → NotMemory b → EquivalentResults (AlikeFirst av af) a b × (j ≡ k)
   first_decided i j k a b t u r q n n' =
       seen_decided i j k a b t.0 u.0 t.1 u.1 (first_seen operand prefix av (s, w) t po i j a r)
       (first_seen operand prefix av (s, w) u po i k b q) n n'

@@ -19,7 +19,8 @@ use Rattle.winnow_expression.specs.declared.combinator.operators.Infix.{Infix}
 use Rattle.winnow_expression_trees.specs.OneTree.Alike.{Decided}
 use Rattle.winnow_expression_trees.specs.Alike.{AlikeFirst, AlikeNext}
 use Rattle.winnow_expression_trees.proofs.Over.{Moves}
-use Rattle.winnow_expression_trees.specs.Premises.{AnswersAlike, FoldAlike, FoldsAlike, NotMemory}
+use Rattle.winnow_expression_trees.specs.Premises.{EquivalentResults, FoldAlike, FoldsAlike}
+use Rattle.winnow_expression_trees.specs.Premises.{NotMemory}
 use Rattle.winnow_expression_trees.specs.Reading.{FirstStep, NextStep}
 
 -- Unless memory runs out, parts in the states `s` keep them and change only the position. The input
@@ -31,13 +32,14 @@ pub record Plain {S W T V F G H : Type 0} (g : Grammar S W T V F G H) (alike : V
       → t ≡ s.0
   pub first_decided : (i j k : Input T) (a b : Answer (First V F)) (t u : S) → g.first s.0 i a t j
       → g.first s.0 i b u k → NotMemory a → NotMemory b
-      → AnswersAlike (AlikeFirst alike (FoldAlike alike g.folding.before)) a b × (j ≡ k)
+      → EquivalentResults (AlikeFirst alike (FoldAlike alike g.folding.before)) a b × (j ≡ k)
   pub next_keeps : (i j : Input T) (a : Answer (Next G H)) (t : W) → g.next s.1 i a t j
       → NotMemory a
       → t ≡ s.1
   pub next_decided : (i j k : Input T) (a b : Answer (Next G H)) (t u : W) → g.next s.1 i a t j
       → g.next s.1 i b u k → NotMemory a → NotMemory b
-      → AnswersAlike (AlikeNext (FoldAlike alike g.behind) (FoldsAlike alike g.folding.between)) a b
+      → EquivalentResults (AlikeNext (FoldAlike alike g.behind)
+      (FoldsAlike alike g.folding.between)) a b
       × (j ≡ k)
   pub nothing : (i j : Input T) → NextStep g s i Nothing j → j ≡ i
   pub back : (i j : Input T) (x : Next G H) → NextStep g s i x j → back_at i.left j ≡ i

@@ -19,7 +19,7 @@ use Rattle.winnow_expression.specs.declared.combinator.places.First.TheVariants.
 }
 use Rattle.winnow_expression.specs.declared.combinator.places.Next.TheVariants.{Postfix}
 use Rattle.winnow_expression.specs.declared.combinator.places.Next.TheVariants.{Infix as infix_read}
-use Rattle.winnow_expression_trees.specs.Failure.{Begins, FailsBy, RefusedBy, begins_infix}
+use Rattle.winnow_expression_trees.specs.Failure.{StartsOperand, FailsBy, RejectedBy, begins_infix}
 use Rattle.winnow_expression_trees.specs.Failure.{begins_prefix, begins_whole, comes_start}
 use Rattle.winnow_expression_trees.specs.Keeps.{Keeps}
 use Rattle.winnow_expression_trees.specs.OneTree.{KeepsOver}
@@ -33,7 +33,8 @@ use Rattle.winnow_expression_trees.proofs.Finds.{call_tree}
 use Rattle.winnow_expression_trees.proofs.Plain.{Plain, decided, own_first, own_next}
 use Rattle.winnow_expression_trees.proofs.AnyFolds.{any_alike, plain_any, unrefusing}
 use Rattle.winnow_expression_trees.proofs.AnyFolds.{value_any}
-use Rattle.winnow_expression_trees.proofs.Opened.{IsLeft, Opened, Refused, infix_takes, left_takes}
+use Rattle.winnow_expression_trees.proofs.Opened.{IsLeft, Opened, FoldFails, infix_takes}
+use Rattle.winnow_expression_trees.proofs.Opened.{left_takes}
 use Rattle.winnow_expression_trees.proofs.Opened.{opened_infix, opened_prefix, resume_refused}
 use Rattle.winnow_expression_trees.proofs.Opened.{turn_ends_total}
 
@@ -44,7 +45,7 @@ module _ {S W T V F G H : Type 0} (g : Grammar S W T V F G H) (alike : V → V �
     Kept s = (s.0 ≡ s0.0) × (s.1 ≡ s0.1)
 
     abbrev BeginsAt : ℤ → Input T → Type 0
-    BeginsAt m k = Begins g s0 level start m k
+    BeginsAt m k = StartsOperand g s0 level start m k
 
     abbrev LeftOf : Call → V → Input T → Type 0
     LeftOf call left i = IsLeft g s0 level start call left i
@@ -53,7 +54,7 @@ module _ {S W T V F G H : Type 0} (g : Grammar S W T V F G H) (alike : V → V �
       call_total : (call : Call) (s : S × W) (i : Input T) (a : Answer (V × Bool)) (t : S × W)
           (j : Input T) → CallRuns g call s i a t j → Kept s → call.neither ≡ None
           → BeginsAt call.least i
-          → CallRuns (unrefusing g) call s i a t j ⊎ Refused g s0 level start a j
+          → CallRuns (unrefusing g) call s i a t j ⊎ FoldFails g s0 level start a j
       call_total _ _ _ _ _ _ (call_ends call s t i j k a run kept e) es none begins =
           inl (call_ends call s t i j k a run kept e)
       call_total _ _ _ _ _ _ (call_operand call s t u i j m v a run kept turn) es none begins =
@@ -108,7 +109,7 @@ module _ {S W T V F G H : Type 0} (g : Grammar S W T V F G H) (alike : V → V �
       turn_total : (call : Call) (left : V) (s : S × W) (i : Input T) (a : Answer (V × Bool))
           (t : S × W) (j : Input T) → TurnRuns g call left s i a t j → Kept s
           → LeftOf call left i
-          → TurnRuns (unrefusing g) call left s i a t j ⊎ Refused g s0 level start a j
+          → TurnRuns (unrefusing g) call left s i a t j ⊎ FoldFails g s0 level start a j
       turn_total _ _ _ _ _ _ _ (turn_ends call left s t i j a ended kept) es known =
           elim (turn_ends_total g alike s0 pr level start call left s.1 t.1 i j a ended es.1
           known) [
@@ -185,7 +186,7 @@ module _ {S W T V F G H : Type 0} (g : Grammar S W T V F G H) (alike : V → V �
           (a : Answer (V × Bool)) (t : S × W) (j : Input T) → ResumeRuns g x b s i a t j
           → ((right : V) (all : Bool) → b ≡ Ok (right, all)
           → Kept s × Opened g s0 level start x i right all)
-          → ResumeRuns (unrefusing g) x b s i a t j ⊎ Refused g s0 level start a j
+          → ResumeRuns (unrefusing g) x b s i a t j ⊎ FoldFails g s0 level start a j
       resume_total _ _ _ _ _ _ _ (resume_ends x b a s t i j (inl failed) kept) opened =
           inl (resume_ends x b a s t i j (inl failed) kept)
       resume_total _ _ _ _ _ _ _
@@ -219,7 +220,7 @@ module _ {S W T V F G H : Type 0} (g : Grammar S W T V F G H) (alike : V → V �
 
   pub tree_refuses : (level : ℤ) (i : Input T) (k : Kind) (t : S × W) (j : Input T)
       → ExpressionRuns g level s0 i (Err k) t j → (k ≡ memory → ⊥) → (r : Tree V F G H)
-      (n : Input T) (all : Bool) → KeepsOver g s0 level i r n all → RefusedBy g s0 level i k j
+      (n : Input T) (all : Bool) → KeepsOver g s0 level i r n all → RejectedBy g s0 level i k j
   tree_refuses level i k t j runs other r n all keeps =
       let call = call_at level (units_left g.folding.units i) in
       elim (call_total level i call s0 i (Err k) t j runs (refl, refl) refl begins_whole) [
@@ -232,7 +233,7 @@ module _ {S W T V F G H : Type 0} (g : Grammar S W T V F G H) (alike : V → V �
             (complete (FirstStep g s0) (NextStep g s0) level r i n all keeps.0 keeps.1) x known
             in
             absurd (err_ok_pair e)
-        | inr (l, e, refused) ↦ subst (λ z. RefusedBy g s0 level i z j) (sym (err_equal e)) refused
+        | inr (l, e, refused) ↦ subst (λ z. RejectedBy g s0 level i z j) (sym (err_equal e)) refused
       ]
 
   -- where failures come from
@@ -255,5 +256,5 @@ module _ {S W T V F G H : Type 0} (g : Grammar S W T V F G H) (alike : V → V �
               | inr (inr unmoved) ↦ inr (inr unmoved)
             ]
         | inr (l, e, refused) ↦
-            inr (inl (subst (λ z. RefusedBy g s0 level i z j) (sym (err_equal e)) refused))
+            inr (inl (subst (λ z. RejectedBy g s0 level i z j) (sym (err_equal e)) refused))
       ]

@@ -17,7 +17,7 @@ use Rattle.winnow_expression_trees.specs.Reading.{FirstStep, NextStep}
 use Rattle.winnow_expression_trees.specs.Value.{Value}
 use Rattle.winnow_expression_trees.proofs.Agree.{call_agrees}
 use Rattle.winnow_expression_trees.proofs.Closing.{same_value}
-use Rattle.winnow_expression_trees.specs.Failure.{EndedBy, FailsBy, RefusedBy, Unmoved}
+use Rattle.winnow_expression_trees.specs.Failure.{EndedBy, FailsBy, RejectedBy, Unmoved}
 use Rattle.winnow_expression_trees.proofs.Finds.{call_tree}
 use Rattle.winnow_expression_trees.proofs.Total.{run_fails, tree_refuses}
 use Rattle.winnow_expression_trees.specs.OneTree.{Alike, IsTheOneTree, KeepsOver}
@@ -92,7 +92,7 @@ module _ {S W T V F G H : Type 0} (g : Grammar S W T V F G H) (alike : V → V �
         (run_fails g alike s0 pr level i k t j runs
         other);
     refuses = λ l e other u n b keeps.
-        subst (λ z. RefusedBy g s0 level i z j) (same_kind e)
+        subst (λ z. RejectedBy g s0 level i z j) (same_kind e)
         (tree_refuses g alike s0 pr level i k t j runs other u n b keeps);
   }
 
@@ -101,7 +101,7 @@ module _ {S W T V F G H : Type 0} (g : Grammar S W T V F G H) (alike : V → V �
 pub expression_fails : {S W T V F G H : Type 0} (g : Grammar S W T V F G H) (alike : V → V → Type 0)
     (s : S × W) (level : ℤ) (i : Input T) (k : Kind) (t : S × W) (j : Input T)
     → IsTheOneTree g alike s level i (Err k) t j → (k ≡ memory → ⊥)
-    → (RefusedBy g s level i k j → ⊥)
+    → (RejectedBy g s level i k j → ⊥)
     → (Unmoved g s i → ⊥) → EndedBy g s i k j
 expression_fails g alike s level i k t j exact other accepts moves =
     elim (exact.fails k refl other) [

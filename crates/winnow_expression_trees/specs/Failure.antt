@@ -21,28 +21,28 @@ use Rattle.winnow_expression.specs.declared.combinator.places.Next.TheVariants.{
 
 -- The reading that starts at an operand's place comes to a place: an operand's (true), or an
 -- operator's (false).
-pub data Comes {V F G H P : Type 0} (first : P → First V F → P → Type 0)
+pub data ReadsTo {V F G H P : Type 0} (first : P → First V F → P → Type 0)
     (next : P → Next G H → P → Type 0) (start : P) : Bool → P → Type 0 where
-  comes_start : Comes first next start true start
-  comes_operand : (j k : P) (v : V) → Comes first next start true j → first j (Operand v) k
-      → Comes first next start false k
-  comes_prefix : (j k : P) (p : ℤ) (f : F) → Comes first next start true j
+  comes_start : ReadsTo first next start true start
+  comes_operand : (j k : P) (v : V) → ReadsTo first next start true j → first j (Operand v) k
+      → ReadsTo first next start false k
+  comes_prefix : (j k : P) (p : ℤ) (f : F) → ReadsTo first next start true j
       → first j (prefix_read p f) k
-      → Comes first next start true k
-  comes_postfix : (j k : P) (p : ℤ) (f : G) → Comes first next start false j
+      → ReadsTo first next start true k
+  comes_postfix : (j k : P) (p : ℤ) (f : G) → ReadsTo first next start false j
       → next j (Postfix p f) k
-      → Comes first next start false k
-  comes_infix : (j k : P) (o : Infix H) → Comes first next start false j → next j (infix_read o) k
-      → Comes first next start true k
+      → ReadsTo first next start false k
+  comes_infix : (j k : P) (o : Infix H) → ReadsTo first next start false j → next j (infix_read o) k
+      → ReadsTo first next start true k
 
 -- An answer ends the reading, and leaves j.
 abbrev pub EndedBy : {S W T V F G H : Type 0} → Grammar S W T V F G H → S × W → Input T → Kind
     → Input T
     → Type 0
 EndedBy {S} {W} {T} {V} {F} {G} {H} g s0 start kind j =
-    ((k : Input T) × (t : S) × Comes (FirstStep g s0) (NextStep g s0) start true k
+    ((k : Input T) × (t : S) × ReadsTo (FirstStep g s0) (NextStep g s0) start true k
     × g.first s0.0 k (Err kind) t j)
-    ⊎ ((k : Input T) × (t : W) × Comes (FirstStep g s0) (NextStep g s0) start false k
+    ⊎ ((k : Input T) × (t : W) × ReadsTo (FirstStep g s0) (NextStep g s0) start false k
     × g.next s0.1 k (Err kind) t j)
 
 -- `TakesLeft m l p`: in an operand of the least power `m`, an operator of the left power `p` takes
@@ -59,36 +59,37 @@ InfixTakes m l o =
 -- An operand of a least power begins at an offset. It is all of the expression, whose least power
 -- is its level; or the right operand of a prefix that begins an operand; or that of an infix, after
 -- a left operand that it takes and that has a value.
-pub data Begins {S W T V F G H : Type 0} (g : Grammar S W T V F G H) (s : S × W) (level : ℤ)
+pub data StartsOperand {S W T V F G H : Type 0} (g : Grammar S W T V F G H) (s : S × W) (level : ℤ)
     (start : Input T) : ℤ → Input T → Type 0 where
-  begins_whole : Begins g s level start level start
-  begins_prefix : (m p : ℤ) (i j : Input T) (f : F) → Begins g s level start m i
-      → FirstStep g s i (prefix_read p f) j → Begins g s level start p j
+  begins_whole : StartsOperand g s level start level start
+  begins_prefix : (m p : ℤ) (i j : Input T) (f : F) → StartsOperand g s level start m i
+      → FirstStep g s i (prefix_read p f) j → StartsOperand g s level start p j
   begins_infix : (m p : ℤ) (i j k : Input T) (o : Infix H) (l : Tree V F G H) (v : V)
-      → Begins g s level start m i → Over (FirstStep g s) (NextStep g s) l i j → Value g l v
+      → StartsOperand g s level start m i → Over (FirstStep g s) (NextStep g s) l i j → Value g l v
       → InfixTakes m l o → NextStep g s j (infix_read o) k → p ≡ right_power o
-      → Begins g s level start p k
+      → StartsOperand g s level start p k
 
 -- The fold of an operator fails, for the values of its operands. The operator is one of the tree
 -- that respects precedence, as far as that is read. It is in an operand that begins there, it takes
 -- its left operand, and its right operand respects precedence at its right power.
-abbrev pub RefusedBy : {S W T V F G H : Type 0} → Grammar S W T V F G H → S × W → ℤ → Input T → Kind
+abbrev pub RejectedBy : {S W T V F G H : Type 0} → Grammar S W T V F G H → S × W → ℤ → Input T
+    → Kind
     → Input T → Type 0
-RefusedBy {S} {W} {T} {V} {F} {G} {H} g s0 level start kind j =
+RejectedBy {S} {W} {T} {V} {F} {G} {H} g s0 level start kind j =
     -- that of a prefix
     ((m : ℤ) × (i : Input T) × (k : Input T) × (n : Input T) × (p : ℤ) × (f : F)
-    × (r : Tree V F G H) × (all : Bool) × (v : V) × Begins g s0 level start m i
+    × (r : Tree V F G H) × (all : Bool) × (v : V) × StartsOperand g s0 level start m i
     × FirstStep g s0 i (prefix_read p f) k × Over (FirstStep g s0) (NextStep g s0) r k n
     × Keeps (NextStep g s0) p r n all × Value g r v × g.folding.before f n v (Err kind) j)
     -- that of a postfix
     ⊎ (((m : ℤ) × (i : Input T) × (k : Input T) × (n : Input T) × (p : ℤ) × (f : G)
-    × (l : Tree V F G H) × (v : V) × Begins g s0 level start m i
+    × (l : Tree V F G H) × (v : V) × StartsOperand g s0 level start m i
     × Over (FirstStep g s0) (NextStep g s0) l i k × TakesLeft m l p
     × NextStep g s0 k (Postfix p f) n × Value g l v × g.behind f n v (Err kind) j)
     -- that of an infix
     ⊎ ((m : ℤ) × (i : Input T) × (k : Input T) × (n : Input T) × (z : Input T) × (o : Infix H)
     × (l : Tree V F G H) × (r : Tree V F G H) × (all : Bool) × (v : V) × (w : V)
-    × Begins g s0 level start m i × Over (FirstStep g s0) (NextStep g s0) l i k
+    × StartsOperand g s0 level start m i × Over (FirstStep g s0) (NextStep g s0) l i k
     × InfixTakes m l o × NextStep g s0 k (infix_read o) n
     × Over (FirstStep g s0) (NextStep g s0) r n z × Keeps (NextStep g s0) (right_power o) r z all
     × Value g l v × Value g r w × g.folding.between (fold_of o) z v w (Err kind) j))
@@ -97,11 +98,11 @@ RefusedBy {S} {W} {T} {V} {F} {G} {H} g s0 level start kind j =
 abbrev pub Unmoved : {S W T V F G H : Type 0} → Grammar S W T V F G H → S × W → Input T → Type 0
 Unmoved {S} {W} {T} {V} {F} {G} {H} g s0 start =
     ((k : Input T) × (n : Input T) × (p : ℤ) × (f : F)
-    × Comes (FirstStep g s0) (NextStep g s0) start true k
+    × ReadsTo (FirstStep g s0) (NextStep g s0) start true k
     × g.first s0.0 k (Ok (prefix_read p f)) s0.0 n
     × (units_left g.folding.units n ≡ units_left g.folding.units k))
     ⊎ ((k : Input T) × (n : Input T) × (x : Next G H) × (p : ℤ)
-    × Comes (FirstStep g s0) (NextStep g s0) start false k × NextStep g s0 k x n
+    × ReadsTo (FirstStep g s0) (NextStep g s0) start false k × NextStep g s0 k x n
     × (power_of x ≡ Some p)
     × (units_left g.folding.units n ≡ units_left g.folding.units k))
 
@@ -109,4 +110,4 @@ Unmoved {S} {W} {T} {V} {F} {G} {H} g s0 start =
 abbrev pub FailsBy : {S W T V F G H : Type 0} → Grammar S W T V F G H → S × W → ℤ → Input T → Kind
     → Input T → Type 0
 FailsBy g s0 level start kind j =
-    EndedBy g s0 start kind j ⊎ (RefusedBy g s0 level start kind j ⊎ Unmoved g s0 start)
+    EndedBy g s0 start kind j ⊎ (RejectedBy g s0 level start kind j ⊎ Unmoved g s0 start)

@@ -5,7 +5,7 @@ use Rattle.streams.specs.Kind.{Kind}
 use Rattle.stream_errors.specs.Form.{Answer}
 use Rattle.winnow_expression.specs.Grammar.{Grammar}
 use Rattle.winnow_expression_trees.specs.Alike.{AlikeTree}
-use Rattle.winnow_expression_trees.specs.Failure.{FailsBy, RefusedBy}
+use Rattle.winnow_expression_trees.specs.Failure.{FailsBy, RejectedBy}
 use Rattle.winnow_expression_trees.specs.Keeps.{Keeps}
 use Rattle.winnow_expression_trees.specs.Premises.{FoldAlike, FoldsAlike, NotMemory}
 use Rattle.winnow_expression_trees.specs.Reading.{FirstStep, NextStep, Over}
@@ -46,4 +46,4 @@ pub record IsTheOneTree {S W T V F G H : Type 0} (g : Grammar S W T V F G H)
   pub keeps : (v : V) → answer ≡ Ok v → (t.0 ≡ s.0) × (t.1 ≡ s.1)
   pub fails : (k : Kind) → answer ≡ Err k → NotMemory answer → FailsBy g s level i k j
   pub refuses : (k : Kind) → answer ≡ Err k → NotMemory answer → (r : Tree V F G H) (n : Input T)
-      (all : Bool) → KeepsOver g s level i r n all → RefusedBy g s level i k j
+      (all : Bool) → KeepsOver g s level i r n all → RejectedBy g s level i k j

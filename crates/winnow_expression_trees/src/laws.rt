@@ -8,7 +8,7 @@ ghost use Rattle.winnow_expression.specs.Grammar.{folding};
 ghost use Rattle.winnow_expression.specs.Parts.{parts_grammar};
 ghost use Rattle.winnow_expression_trees.specs.Accepting.{FoldAnswers, accepting, asserting};
 ghost use Rattle.winnow_expression_trees.specs.Alike.{AlikeInfix, AlikeTree};
-ghost use Rattle.winnow_expression_trees.specs.Failure.{EndedBy, RefusedBy, Unmoved};
+ghost use Rattle.winnow_expression_trees.specs.Failure.{EndedBy, RejectedBy, Unmoved};
 ghost use Rattle.winnow_expression_trees.specs.OneTree.{IsTheOneTree, KeepsOver};
 ghost use Rattle.winnow_expression_trees.specs.Premises.{AlikePostfix, AlikePrefix, Decides};
 ghost use Rattle.winnow_expression_trees.specs.Premises.{Premises};
@@ -55,7 +55,7 @@ pub trait Likeness<O> {
 /// result is unique. Out of memory is excepted.
 ///
 /// ```
-/// use winnow_expression_trees::laws::{Likeness, expression_reads_the_one_tree};
+/// use winnow_expression_trees::laws::{Likeness, expression_is_unambiguous};
 ///
 /// struct Equal;
 ///
@@ -64,7 +64,7 @@ pub trait Likeness<O> {
 /// }
 ///
 /// // Of the expression over a byte that has no operators.
-/// expression_reads_the_one_tree::<
+/// expression_is_unambiguous::<
 ///     &[u8],
 ///     u8,
 ///     u8,
@@ -78,7 +78,7 @@ pub trait Likeness<O> {
 ///     Equal,
 /// >();
 /// ```
-pub fn expression_reads_the_one_tree<
+pub fn expression_is_unambiguous<
     I: Stream,
     O: Drop,
     P: Parser<I, O, E>,
@@ -114,7 +114,7 @@ pub fn expression_reads_the_one_tree<
         → LeveledRuns (parts_grammar I.reading.units (assert_kind E.form) (P.meaning E.form)
         (Pre.meaning E.form) (Post.meaning E.form) (Pix.meaning E.form) (F.folds E.form)
         (G.folds E.form) (H.folds E.form)) s i (Err k) t j → (k ≡ memory → ⊥)
-        → (RefusedBy (parts_grammar I.reading.units (assert_kind E.form) (P.meaning E.form)
+        → (RejectedBy (parts_grammar I.reading.units (assert_kind E.form) (P.meaning E.form)
         (Pre.meaning E.form) (Post.meaning E.form) (Pix.meaning E.form) (F.folds E.form)
         (G.folds E.form) (H.folds E.form)) (s.0, s.1) s.2 i k j → ⊥)
         → (Unmoved (parts_grammar I.reading.units (assert_kind E.form) (P.meaning E.form)
@@ -144,7 +144,7 @@ pub fn expression_reads_the_one_tree<
 /// need be run. Two such trees have the same shape, powers and end, and end in the same way.
 ///
 /// ```
-/// use winnow_expression_trees::laws::{Likeness, at_most_one_tree_keeps_the_powers};
+/// use winnow_expression_trees::laws::{Likeness, tree_is_unique};
 ///
 /// struct Equal;
 ///
@@ -153,7 +153,7 @@ pub fn expression_reads_the_one_tree<
 /// }
 ///
 /// // Of the expression over a byte that has no operators.
-/// at_most_one_tree_keeps_the_powers::<
+/// tree_is_unique::<
 ///     &[u8],
 ///     u8,
 ///     u8,
@@ -170,7 +170,7 @@ pub fn expression_reads_the_one_tree<
 ///     Equal,
 /// >();
 /// ```
-pub fn at_most_one_tree_keeps_the_powers<
+pub fn tree_is_unique<
     I: Stream,
     O: Drop,
     P: Parser<I, O, E>,
@@ -215,7 +215,7 @@ pub fn at_most_one_tree_keeps_the_powers<
 /// that fails.
 ///
 /// ```
-/// use winnow_expression_trees::laws::{Likeness, no_tree_where_an_assert_rule_refuses};
+/// use winnow_expression_trees::laws::{Likeness, assert_rules_leave_no_tree};
 ///
 /// struct Equal;
 ///
@@ -224,7 +224,7 @@ pub fn at_most_one_tree_keeps_the_powers<
 /// }
 ///
 /// // Of the expression over a byte that has no operators.
-/// no_tree_where_an_assert_rule_refuses::<
+/// assert_rules_leave_no_tree::<
 ///     &[u8],
 ///     u8,
 ///     u8,
@@ -238,7 +238,7 @@ pub fn at_most_one_tree_keeps_the_powers<
 ///     Equal,
 /// >();
 /// ```
-pub fn no_tree_where_an_assert_rule_refuses<
+pub fn assert_rules_leave_no_tree<
     I: Stream,
     O: Drop,
     P: Parser<I, O, E>,

@@ -7,7 +7,8 @@ use Rattle.streams.specs.Kind.{Kind}
 use Rattle.streams.specs.declared.needed.Needed.{Needed}
 use Rattle.grammars.specs.Grammar.{Both, Grammar, IsUnique}
 use Rattle.grammars.specs.Grammar.Unique.{both_unique}
-use Rattle.grammars.specs.Texts.{AtEnd, AtLeast, Begins, BeginsIn, BothText, EachText, EitherText}
+use Rattle.grammars.specs.Texts.{AtEnd, AtLeast, StartsWith, TextsStartWith, BothText, EachText}
+use Rattle.grammars.specs.Texts.{EitherText}
 use Rattle.grammars.specs.Texts.{GatheredText, InFront, InList, IsGrammarOf, MadeText, NotFirst}
 use Rattle.grammars.specs.Texts.{PartedText, Spelled, Text}
 use Rattle.grammars.specs.Texts.Fronts.{begins_never, both_front, front_any}
@@ -66,7 +67,8 @@ among_one {T} {O} {first} {second} {alike} one two never = record { one = both }
 
 -- this holds if one starts with a token of a set and the other does not
 pub never_both : {T O : Type 0} {first second : Text T O} {these : T → Type 0}
-    → BeginsIn these first → InFront second AtEnd (NotFirst these) → (o p : O) (tokens : List T)
+    → TextsStartWith these first → InFront second AtEnd (NotFirst these)
+    → (o p : O) (tokens : List T)
     → first o tokens → second p tokens → ⊥
 never_both {these = these} begins outside o p tokens a b =
     begins_never these (tokens ++ []) (begins.makes o tokens [] a tt)
@@ -136,7 +138,7 @@ module _ {T O : Type 0} {g : Grammar T O} {text : Text T O} {follow : List T →
   }
 
   -- a row of texts that are not empty
-  module _ (some : BeginsIn (λ t. ⊤) text) (again : InFront text follow follow)
+  module _ (some : TextsStartWith (λ t. ⊤) text) (again : InFront text follow follow)
       (last : follow []) where
     row_follows : (os : List O) (tokens : List T) → EachText text os tokens → follow tokens
     unfolding EachText
@@ -147,7 +149,7 @@ module _ {T O : Type 0} {g : Grammar T O} {text : Text T O} {follow : List T →
 
     never : {P : Type 0} (o : O) (xs ys : List T) → text o xs → xs ++ ys ≡ [] → P
     never o xs ys a e =
-        let Q : List T → Type 0 = λ l. Begins (λ t. ⊤) l in
+        let Q : List T → Type 0 = λ l. StartsWith (λ t. ⊤) l in
         absurd (subst Q e (some.makes o xs ys a tt))
 
     both_rows : (os ps : List O) (tokens : List T) → EachText text os tokens
@@ -172,7 +174,7 @@ module _ {T O D : Type 0} {g : Grammar T O} {h : Grammar T D} {text : Text T O}
     {same : D → D → Type 0} (is : IsGrammarOf g text follow) (unique : IsUnique g)
     (one : IsUnambiguous text alike) (by : IsGrammarOf h separator between)
     (by_unique : IsUnique h) (by_one : IsUnambiguous separator same) where
-  pub joined_one : BeginsIn (λ t. ⊤) separator → InFront separator between follow
+  pub joined_one : TextsStartWith (λ t. ⊤) separator → InFront separator between follow
       → InFront text follow between → ((o : O) (tokens : List T) → text o tokens → between tokens)
       → follow [] → IsUnambiguous (AtLeast 1 (PartedText separator text)) (AllZip alike)
   unfolding PartedText
@@ -190,7 +192,7 @@ module _ {T O D : Type 0} {g : Grammar T O} {h : Grammar T D} {text : Text T O}
       link_one : IsUnambiguous link alike
       link_one = then_one by by_unique by_one (λ d o. o) (λ d c o p e a. a) behind one
 
-      begins : BeginsIn (λ t. ⊤) link
+      begins : TextsStartWith (λ t. ⊤) link
       begins = both_front (λ d o. o) some front_any
 
       again : InFront link follow follow

@@ -6,7 +6,7 @@ use Rattle.streams.specs.Following.{Following, Follows}
 use Rattle.streams.specs.Input.{Input, IsEndOf, with_more}
 use Rattle.streams.specs.Kind.{Kind, backtrack, cut, incomplete, memory}
 use Rattle.streams.specs.Reading.{Reading}
-use Rattle.grammars.specs.Grammar.{Grammar, NoneStands}
+use Rattle.grammars.specs.Grammar.{Grammar, NoMatch}
 use Rattle.grammars.specs.Grammar.Same.{Same, none_as}
 use Rattle.stream_errors.specs.Form.{ErrorForm, answer_by, modal}
 use Rattle.winnow_core.specs.Exact.{IsExact, IsSoft, Reads, exact_told}
@@ -29,7 +29,7 @@ pub record ReadsCut {T O E : Type 0} (following : Following T) (kind : E → Kin
       → grammar (i.left.tokens ++ more) o (j.left.tokens ++ more))
   pub none : IfErr result (λ e. (kind e ≡ memory) ⊎ (Asks (kind e)
       ⊎ ((more : List T) → Follows following i.left more
-      → (kind e ≡ backtrack) × NoneStands grammar (i.left.tokens ++ more))))
+      → (kind e ≡ backtrack) × NoMatch grammar (i.left.tokens ++ more))))
 
 -- The result of a call if more input may follow: on complete input, and on every continuation of
 -- partial input.
@@ -51,7 +51,7 @@ module _ {S T O : Type 0} {following : Following T} {s : S} {run : Runs S T O}
   cut_fails : (i : Input T) (k : Kind) (t : S) (j : Input T) → i.status.cut ≡ true
       → run s i (Err k) t j → (k ≡ memory) ⊎ (Asks k ⊎ ((more : List T)
       → Follows following i.left more
-      → (k ≡ backtrack) × NoneStands grammar (i.left.tokens ++ more)))
+      → (k ≡ backtrack) × NoMatch grammar (i.left.tokens ++ more)))
   cut_fails i memory t j is r = inl refl
   cut_fails i (incomplete need) t j is r = inr (inl (need, refl))
   cut_fails i backtrack t j is r = inr (inr (λ more follows. (

@@ -10,7 +10,7 @@ use Rattle.streams.specs.Input.{Input, IsEndOf, is_end_of_refl, is_end_of_trans}
 use Rattle.streams.specs.Kind.{Kind, backtrack, memory}
 use Rattle.streams.specs.Reading.{Reading}
 use Rattle.winnow_grammar.specs.Cut.{Asks, ReadsOrAsks}
-use Rattle.grammars.specs.Grammar.{Grammar, IsUnique, NoneStands}
+use Rattle.grammars.specs.Grammar.{Grammar, IsUnique, NoMatch}
 use Rattle.grammars.specs.Texts.{Text}
 pub mod Rows
 
@@ -30,7 +30,7 @@ Completes following i more =
     ⊎ ((i.status.cut ≡ true) × Follows following i.left more)
 
 -- For everything that completes the input, the output matches the whole.
-pub record Stood {T L O : Type 0} (reading : Reading T L) (following : Following T)
+pub record MatchesEachCompletion {T L O : Type 0} (reading : Reading T L) (following : Following T)
     (grammar : Grammar T O) (i : Input T) (o : O) (j : Input T) : Type 0 where
   pub ends : IsEndOf reading j i
   pub stands : (more : List T) → Completes following i more
@@ -42,14 +42,14 @@ pub record Failed {T L O : Type 0} (reading : Reading T L) (following : Followin
   pub ends : IsEndOf reading j i
   pub none : (k ≡ memory) ⊎ (((i.status.cut ≡ true) × Asks k)
       ⊎ ((more : List T) → Completes following i more
-      → (k ≡ backtrack) × NoneStands grammar (i.left.tokens ++ more)))
+      → (k ≡ backtrack) × NoMatch grammar (i.left.tokens ++ more)))
 
 module _ {T L O E : Type 0} {reading : Reading T L} {following : Following T} {kind : E → Kind}
     {grammar : Grammar T O} {i j : Input T} where
   -- ---- what a call tells, so
 
   pub stood : {o : O} → ReadsOrAsks reading following kind grammar i (Ok o) j
-      → Stood reading following grammar i o j
+      → MatchesEachCompletion reading following grammar i o j
   stood {o} r = record { ends = r.whole.ends; stands = stands }
     where
       stands : (more : List T) → Completes following i more
@@ -66,11 +66,11 @@ module _ {T L O E : Type 0} {reading : Reading T L} {following : Following T} {k
       → Failed reading following grammar i (kind e) j
   failed {e} r = record { ends = r.whole.ends; none = by i.status.cut refl }
     where
-      whole_none : i.status.cut ≡ false → (kind e ≡ backtrack) × NoneStands grammar i.left.tokens
+      whole_none : i.status.cut ≡ false → (kind e ≡ backtrack) × NoMatch grammar i.left.tokens
           → (more : List T) → Completes following i more
-          → (kind e ≡ backtrack) × NoneStands grammar (i.left.tokens ++ more)
+          → (kind e ≡ backtrack) × NoMatch grammar (i.left.tokens ++ more)
       whole_none is (b, none) more (inl (_, end)) =
-          let P : List T → Type 0 = λ l. NoneStands grammar l in (
+          let P : List T → Type 0 = λ l. NoMatch grammar l in (
             b,
             subst P (sym (append-nil i.left.tokens) ∙ ap (λ l. i.left.tokens ++ l) (sym end))
                 none,
@@ -78,16 +78,16 @@ module _ {T L O E : Type 0} {reading : Reading T L} {following : Following T} {k
       whole_none is b more (inr (cut, follows)) = true_is_false (sym cut ∙ is)
 
       cut_none : i.status.cut ≡ true → ((more : List T) → Follows following i.left more
-          → (kind e ≡ backtrack) × NoneStands grammar (i.left.tokens ++ more))
+          → (kind e ≡ backtrack) × NoMatch grammar (i.left.tokens ++ more))
           → (more : List T) → Completes following i more
-          → (kind e ≡ backtrack) × NoneStands grammar (i.left.tokens ++ more)
+          → (kind e ≡ backtrack) × NoMatch grammar (i.left.tokens ++ more)
       cut_none is none more (inl (whole, _)) = true_is_false (sym is ∙ whole)
       cut_none is none more (inr (cut, follows)) = none more follows
 
       by : (b : Bool) → i.status.cut ≡ b → (kind e ≡ memory)
           ⊎ (((i.status.cut ≡ true) × Asks (kind e)) ⊎ ((more : List T)
           → Completes following i more
-          → (kind e ≡ backtrack) × NoneStands grammar (i.left.tokens ++ more)))
+          → (kind e ≡ backtrack) × NoMatch grammar (i.left.tokens ++ more)))
       by false is = elim (r.whole.none is) [
         | inl m ↦ inl m
         | inr b ↦ inr (inr (whole_none is b))
@@ -100,7 +100,7 @@ module _ {T L O E : Type 0} {reading : Reading T L} {following : Following T} {k
 
   -- ---- and back
 
-  pub told_ok : {o : O} → Stood reading following grammar i o j
+  pub told_ok : {o : O} → MatchesEachCompletion reading following grammar i o j
       → ReadsOrAsks reading following kind grammar i (Ok o) j
   told_ok {o} s = record {
     whole = record {
@@ -126,7 +126,7 @@ module _ {T L O E : Type 0} {reading : Reading T L} {following : Following T} {k
         | inr (inl (cut, asks)) ↦ true_is_false (sym cut ∙ whole)
         | inr (inr none) ↦
             let (b, nothing) = none [] (inl (whole, refl)) in
-            let P : List T → Type 0 = λ l. NoneStands grammar l in
+            let P : List T → Type 0 = λ l. NoMatch grammar l in
             inr (b, subst P (append-nil i.left.tokens) nothing)
       ];
     };
@@ -169,14 +169,15 @@ module _ {T L : Type 0} {reading : Reading T L} {following : Following T} where
   module _ {O U : Type 0} {g : Grammar T O} {h : Grammar T U} {i j : Input T} where
     -- what stands by one may stand by another
     pub stood_as : {o : O} {u : U} → ((tokens rest : List T) → g tokens o rest → h tokens u rest)
-        → Stood reading following g i o j → Stood reading following h i u j
+        → MatchesEachCompletion reading following g i o j
+        → MatchesEachCompletion reading following h i u j
     stood_as there s = record {
       ends = s.ends;
       stands = λ more c. there (i.left.tokens ++ more) (j.left.tokens ++ more) (s.stands more c);
     }
 
     -- where nothing stands by one, nothing may by another
-    pub failed_as : {k : Kind} → ((tokens : List T) → NoneStands g tokens → NoneStands h tokens)
+    pub failed_as : {k : Kind} → ((tokens : List T) → NoMatch g tokens → NoMatch h tokens)
         → Failed reading following g i k j → Failed reading following h i k j
     failed_as none f = record {
       ends = f.ends;
@@ -194,7 +195,7 @@ module _ {T L : Type 0} {reading : Reading T L} {following : Following T} where
 
   -- a grammar that matches no input
   pub refused : {O : Type 0} {g : Grammar T O} {i : Input T} {k : Kind} → k ≡ backtrack
-      → ((tokens : List T) → NoneStands g tokens) → Failed reading following g i k i
+      → ((tokens : List T) → NoMatch g tokens) → Failed reading following g i k i
   refused {i = i} b none = record {
     ends = is_end_of_refl reading i;
     none = inr (inr (λ more c. (b, none (i.left.tokens ++ more))));
@@ -243,9 +244,10 @@ module _ {T X O : Type 0} (first : Text T X) (behind : X → Text T O) where
   }
 
   module _ {L : Type 0} {reading : Reading T L} {following : Following T} {i m : Input T} where
-    pub led_stood : {x : X} {o : O} {j : Input T} → Stood reading following (First first) i x m
-        → Stood reading following (First (behind x)) m o j
-        → Stood reading following (First (Led first behind)) i o j
+    pub led_stood : {x : X} {o : O} {j : Input T} → MatchesEachCompletion reading following
+        (First first) i x m
+        → MatchesEachCompletion reading following (First (behind x)) m o j
+        → MatchesEachCompletion reading following (First (Led first behind)) i o j
     led_stood {x} {o} {j} a b = record {
       ends = is_end_of_trans b.ends a.ends;
       stands = λ more c. first_led (i.left.tokens ++ more) o (j.left.tokens ++ more) x
@@ -258,7 +260,7 @@ module _ {T X O : Type 0} (first : Text T X) (behind : X → Text T O) where
         let (x, mid, t, s) = led_first tokens o rest a in none x mid t)
 
     pub led_failed : {x : X} {k : Kind} {j : Input T} → Splits first
-        → Stood reading following (First first) i x m
+        → MatchesEachCompletion reading following (First first) i x m
         → Failed reading following (First (behind x)) m k j
         → Failed reading following (First (Led first behind)) i k j
     led_failed {x} {k} {j} splits a f = record {
@@ -282,7 +284,7 @@ module _ {T X O : Type 0} (first : Text T X) (behind : X → Text T O) where
 
     -- a call after an encoding gives the result for both
     pub led_told : {E : Type 0} {kind : E → Kind} {x : X} {result : Result O E} {j : Input T}
-        → Splits first → Stood reading following (First first) i x m
+        → Splits first → MatchesEachCompletion reading following (First first) i x m
         → ReadsOrAsks reading following kind (First (behind x)) m result j
         → ReadsOrAsks reading following kind (First (Led first behind)) i result j
     led_told {result = Ok o} splits a r = told_ok (led_stood a (stood r))

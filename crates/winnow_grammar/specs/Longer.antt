@@ -4,7 +4,7 @@ use Rattle.std.proofs.Common.{sym, subst}
 use Rattle.streams.specs.Following.{Following, Follows}
 use Rattle.streams.specs.Input.{Input, with_more}
 use Rattle.stream_errors.specs.Form.{Answer, ErrorForm, modal}
-use Rattle.winnow_core.specs.Decided.{AlikeAnswers, IsDecided, NotMemory}
+use Rattle.winnow_core.specs.Decided.{EqualResults, IsDecided, NotMemory}
 use Rattle.winnow_core.specs.Runs.{Meaning, Runs}
 use Rattle.winnow_core.specs.Stable.{IsFinal, IsStable}
 
@@ -16,7 +16,7 @@ pub record NoOtherOnLonger {S T O : Type 0} (following : Following T) (s : S) (r
   pub same : (more : List T) (flag : Bool) (i : Input T) (answer other : Answer O) (t u : S)
       (j k : Input T) → i.status.cut ≡ true → Follows following i.left more → IsFinal answer
       → NotMemory other → run s i answer t j → run s (with_more i more flag) other u k
-      → AlikeAnswers alike answer other × (t ≡ s) × (u ≡ s) × (with_more j more flag ≡ k)
+      → EqualResults alike answer other × (t ≡ s) × (u ≡ s) × (with_more j more flag ≡ k)
 
 -- a final result is not out of memory
 final_is_kept : {O : Type 0} (answer : Answer O) → IsFinal answer → NotMemory answer

@@ -5,7 +5,7 @@ use Rattle.std.proofs.Common.{inl, inr}
 use Rattle.streams.specs.Input.{Input, IsEndOf}
 use Rattle.streams.specs.Kind.{Kind, memory}
 use Rattle.streams.specs.Reading.{Reading}
-use Rattle.grammars.specs.Grammar.{Either, Grammar, Made, NoneStands}
+use Rattle.grammars.specs.Grammar.{Either, Grammar, Made, NoMatch}
 use Rattle.grammars.specs.Grammar.Meaning.{Meaning}
 use Rattle.winnow_core.specs.Exact.{Reads}
 
@@ -25,7 +25,7 @@ reads_wanting m ends = record { ends = ends; stands = λ whole. tt; none = λ wh
 
 none_as : {T O U : Type 0} (g : Grammar T O) (h : Grammar T U) (tokens : List T)
     → ((u : U) (rest : List T) → h tokens u rest → (o : O) × g tokens o rest)
-    → NoneStands g tokens → NoneStands h tokens
+    → NoMatch g tokens → NoMatch h tokens
 none_as g h tokens back none u rest y = let (o, x) = back u rest y in none o rest x
 
 module _ {T L O U E : Type 0} {reading : Reading T L} {kind : E → Kind} {g : Grammar T O}
@@ -69,15 +69,15 @@ module _ {T L O U E : Type 0} {reading : Reading T L} (means : O → U → Type 
 
 -- ---- if one of two does not match, the result is that of the other
 
-pub neither_stands : {T O : Type 0} (g h : Grammar T O) (tokens : List T) → NoneStands g tokens
-    → NoneStands h tokens → NoneStands (Either g h) tokens
+pub neither_stands : {T O : Type 0} (g h : Grammar T O) (tokens : List T) → NoMatch g tokens
+    → NoMatch h tokens → NoMatch (Either g h) tokens
 unfolding Either
 neither_stands g h tokens first second o rest (inl x) = first o rest x
 neither_stands g h tokens first second o rest (inr (other, x)) = second o rest x
 
 module _ {T L O E : Type 0} {reading : Reading T L} {kind : E → Kind} (g h : Grammar T O)
     {i j : Input T} where
-  pub reads_former : {result : Result O E} → NoneStands h i.left.tokens
+  pub reads_former : {result : Result O E} → NoMatch h i.left.tokens
       → Reads reading kind g i result j → Reads reading kind (Either g h) i result j
   unfolding Either
   reads_former {result = Ok o} none r =
@@ -91,7 +91,7 @@ module _ {T L O E : Type 0} {reading : Reading T L} {kind : E → Kind} (g h : G
     ];
   }
 
-  pub reads_other : {result : Result O E} → NoneStands g i.left.tokens
+  pub reads_other : {result : Result O E} → NoMatch g i.left.tokens
       → Reads reading kind h i result j → Reads reading kind (Either g h) i result j
   unfolding Either
   reads_other {result = Ok o} none r =

@@ -5,13 +5,13 @@ use Rattle.streams.specs.Input.{Input}
 use Rattle.streams.specs.Kind.{Kind, backtrack, memory}
 use Rattle.streams.specs.Reading.{Reading}
 use Rattle.stream_errors.specs.Form.{Answer, answer_by}
-use Rattle.stream_errors.specs.Form.Known.{ok_is_err, same_kind, same_output}
+use Rattle.stream_errors.specs.Form.Inversion.{ok_is_err, same_kind, same_output}
 use Rattle.winnow_core.specs.Func.{FuncRuns}
 use Rattle.winnow_core.specs.Exact.{FailsBy, IsExact, IsSpared, Reads}
 use Rattle.winnow_core.specs.Exact.Allowed.{Allowed, back_allowed, memory_allowed}
 use Rattle.winnow_core.specs.Exact.Failed.{not_memory}
 use Rattle.winnow_core.specs.States.{pair_is}
-use Rattle.grammars.specs.Grammar.{Grammar, IsUnique, NoneStands}
+use Rattle.grammars.specs.Grammar.{Grammar, IsUnique, NoMatch}
 use Rattle.winnow_grammar.specs.declared.rule.By.{By}
 
 -- the name of what is read
@@ -65,10 +65,10 @@ call_stands i j o (Err e) is reads told = ok_is_err told refl
 call_fails : {T L O E : Type 0} {reading : Reading T L} {kind : E → Kind} {g : Grammar T O}
     (i j : Input T) (k : Kind) (r : Result O E) → i.status.cut ≡ false
     → Reads reading kind g i r j → answer_by kind r ≡ Err k
-    → (k ≡ memory) ⊎ ((k ≡ backtrack) × NoneStands g i.left.tokens)
+    → (k ≡ memory) ⊎ ((k ≡ backtrack) × NoMatch g i.left.tokens)
 call_fails i j k (Ok p) is reads told = ok_is_err refl told
 call_fails {g = g} i j k (Err e) is reads told =
-    let P : Kind → Type 0 = λ l. (l ≡ memory) ⊎ ((l ≡ backtrack) × NoneStands g i.left.tokens) in
+    let P : Kind → Type 0 = λ l. (l ≡ memory) ⊎ ((l ≡ backtrack) × NoMatch g i.left.tokens) in
     subst P (same_kind told) (reads.none is)
 
 -- a call of a function that does not allocate is not out of memory

@@ -17,7 +17,7 @@ use Rattle.stream_errors.specs.Form.{Answer, answer_by}
 use Rattle.winnow_core.specs.Exact.{FailsBy, IsExact}
 use Rattle.winnow_core.specs.Exact.Allowed.{Allowed, back_allowed, memory_allowed}
 use Rattle.winnow_core.specs.Stable.{IsFinal, IsStable}
-use Rattle.grammars.specs.Grammar.{Grammar, IsUnique, NoneStands}
+use Rattle.grammars.specs.Grammar.{Grammar, IsUnique, NoMatch}
 use Rattle.winnow_grammar.specs.Cut.{ReadsCut, ReadsOrAsks}
 use Rattle.winnow_grammar.specs.declared.by_pieces.ByPieces.{ByPieces}
 
@@ -101,15 +101,15 @@ all_follow {following = following} joins left more (next ∷ others) first (seco
 
 -- A final result in terms of the grammar: the output matches and leaves this rest; or the error is
 -- a backtrack, and the tokens do not start with a match.
-abbrev pub Tells : {T O : Type 0} → Grammar T O → List T → Answer O → List T → Type 0
-Tells grammar tokens (Ok o) rest = grammar tokens o rest
-Tells grammar tokens (Err k) rest = (k ≡ backtrack) × NoneStands grammar tokens
+abbrev pub PartialResult : {T O : Type 0} → Grammar T O → List T → Answer O → List T → Type 0
+PartialResult grammar tokens (Ok o) rest = grammar tokens o rest
+PartialResult grammar tokens (Err k) rest = (k ≡ backtrack) × NoMatch grammar tokens
 
 -- A result on complete input: such a result, or out of memory.
-abbrev pub TellsWhole : {T O : Type 0} → Grammar T O → List T → Answer O → List T → Type 0
-TellsWhole grammar tokens (Ok o) rest = grammar tokens o rest
-TellsWhole grammar tokens (Err k) rest =
-    (k ≡ memory) ⊎ ((k ≡ backtrack) × NoneStands grammar tokens)
+abbrev pub CompleteResult : {T O : Type 0} → Grammar T O → List T → Answer O → List T → Type 0
+CompleteResult grammar tokens (Ok o) rest = grammar tokens o rest
+CompleteResult grammar tokens (Err k) rest =
+    (k ≡ memory) ⊎ ((k ≡ backtrack) × NoMatch grammar tokens)
 
 -- A call that the grammar allows. It leaves a suffix of its input. On complete input its result
 -- agrees with the grammar. On partial input it is incomplete, out of memory, or agrees with the
@@ -117,10 +117,10 @@ TellsWhole grammar tokens (Err k) rest =
 pub record RunsInPieces {T L O : Type 0} (reading : Reading T L) (following : Following T)
     (grammar : Grammar T O) (i : Input T) (answer : Answer O) (j : Input T) : Type 0 where
   pub ends : IsEndOf reading j i
-  pub whole : i.status.cut ≡ false → TellsWhole grammar i.left.tokens answer j.left.tokens
+  pub whole : i.status.cut ≡ false → CompleteResult grammar i.left.tokens answer j.left.tokens
   pub cut : i.status.cut ≡ true → IsFinal answer → (more : List T) (others : List (List T))
       → Follows following i.left more → AllFollow following (i.left.tokens ++ more) others
-      → Tells grammar (i.left.tokens ++ (more ++ joined others)) answer
+      → PartialResult grammar (i.left.tokens ++ (more ++ joined others)) answer
       (j.left.tokens ++ (more ++ joined others))
 
 -- those of a rule, which stays as it is
@@ -135,7 +135,7 @@ PiecesRuns reading following grammar s i answer t j =
 whole_told : {T L O E : Type 0} {reading : Reading T L} {following : Following T}
     {kind : E → Kind} {grammar : Grammar T O} (i : Input T) (r : Result O E) (j : Input T)
     → ReadsOrAsks reading following kind grammar i r j → i.status.cut ≡ false
-    → TellsWhole grammar i.left.tokens (answer_by kind r) j.left.tokens
+    → CompleteResult grammar i.left.tokens (answer_by kind r) j.left.tokens
 whole_told i (Ok o) j told is = told.whole.stands is
 whole_told i (Err e) j told is = told.whole.none is
 
@@ -151,7 +151,7 @@ final_none P k final (inr (inr q)) = q
 cut_told : {T O E : Type 0} {following : Following T} {kind : E → Kind} {grammar : Grammar T O}
     (i : Input T) (r : Result O E) (j : Input T) → ReadsCut following kind grammar i r j
     → IsFinal (answer_by kind r) → (more : List T) → Follows following i.left more
-    → Tells grammar (i.left.tokens ++ more) (answer_by kind r) (j.left.tokens ++ more)
+    → PartialResult grammar (i.left.tokens ++ more) (answer_by kind r) (j.left.tokens ++ more)
 cut_told i (Ok o) j told final more follows = told.stands more follows
 cut_told {O = O} {kind = kind} i (Err e) j told final more follows =
     final_none O (kind e) final told.none more follows
@@ -176,16 +176,16 @@ module _ {N T L O : Type 0} (reading : Reading T L) (following : Following T)
     (grammar : N → Grammar T O) where
   -- a result for equal lists of tokens
   moved : (s : N) (answer : Answer O) {tokens these rest others : List T} → tokens ≡ these
-      → rest ≡ others → Tells (grammar s) tokens answer rest
-      → Tells (grammar s) these answer others
+      → rest ≡ others → PartialResult (grammar s) tokens answer rest
+      → PartialResult (grammar s) these answer others
   moved s answer {tokens} {these} {rest} {others} e d told =
-      let P : List T → Type 0 = λ l. Tells (grammar s) l answer rest in
-      let Q : List T → Type 0 = λ l. Tells (grammar s) these answer l in
+      let P : List T → Type 0 = λ l. PartialResult (grammar s) l answer rest in
+      let Q : List T → Type 0 = λ l. PartialResult (grammar s) these answer l in
       subst Q d (subst P e told)
 
   -- a final result is also a result on complete input
   wholly : (s : N) (answer : Answer O) (tokens rest : List T)
-      → Tells (grammar s) tokens answer rest → TellsWhole (grammar s) tokens answer rest
+      → PartialResult (grammar s) tokens answer rest → CompleteResult (grammar s) tokens answer rest
   wholly s (Ok o) tokens rest told = told
   wholly s (Err k) tokens rest told = inr told
 

@@ -10,9 +10,9 @@ use Rattle.streams.specs.Kind.{Kind, memory}
 use Rattle.streams.specs.Reading.{Reading}
 use Rattle.streams.specs.Stream.{AnswersSeen}
 use Rattle.stream_sets.specs.Range.{from_to}
-use Rattle.grammars.specs.Grammar.{Each, Gathered, Grammar, Longest, Many, NoneStands}
+use Rattle.grammars.specs.Grammar.{Each, Gathered, Grammar, Longest, Many, NoMatch}
 use Rattle.grammars.specs.Grammar.Same.{Same}
-use Rattle.grammars.specs.Texts.{Divides, MayBegin, Members}
+use Rattle.grammars.specs.Texts.{Divides, MayStartWith, Members}
 use Rattle.grammars.specs.Texts.Tokens.{longest_of}
 use Rattle.winnow_core.specs.Exact.{Reads}
 
@@ -21,7 +21,7 @@ use Rattle.winnow_core.specs.Exact.{Reads}
 abbrev pub RunOf : {T L : Type 0} → Reading T L → (these those : T → Type 0) → Grammar T L
 RunOf {T} reading these those tokens slice rest =
     (front : List T) × All these front × (tokens ≡ front ++ rest) × reading.shows slice front
-    × MayBegin those rest
+    × MayStartWith those rest
 
 -- ---- what parsers of members read
 
@@ -29,7 +29,7 @@ module _ {X K T L : Type 0} (reading : Reading T L) (seen : K → T)
     (tells : X → K → Bool → Type 0) (set : X) (these those : T → Type 0)
     (divides : Divides (AnswersSeen seen (tells set)) these those) where
   ended : (n : ℕ) (rest : List T) → ((t : T) (more : List T) → rest ≡ t ∷ more
-      → AnswersSeen seen (tells set) t false ⊎ (None ≡ Some n)) → MayBegin those rest
+      → AnswersSeen seen (tells set) t false ⊎ (None ≡ Some n)) → MayStartWith those rest
   ended n [] stops = tt
   ended n (t ∷ more) stops = elim (stops t more refl) [
     | inl it ↦ (divides.lacks t).0 it
@@ -71,7 +71,7 @@ module _ {T L : Type 0} (reading : Reading T L) (these those : T → Type 0)
     where
       Splits : List T → Type 0
       Splits tokens = (front : List T) × (rest : List T) × All these front
-          × (tokens ≡ front ++ rest) × MayBegin those rest
+          × (tokens ≡ front ++ rest) × MayStartWith those rest
 
       more : (t : T) (tokens : List T) → Splits tokens → these t ⊎ those t → Splits (t ∷ tokens)
       more t tokens (front, rest, all, split, ends) (inl is) =
@@ -139,7 +139,7 @@ pub all_read : {T L O U C E : Type 0} {reading : Reading T L} {kind : E → Kind
     (holds : C → List O → Type 0) (g : Grammar T O) (h : Grammar T U) (i j now : Input T)
     (all : C) (os : List O) → IsEndOf reading j i → j.status.cut ≡ false
     → Each g i.left.tokens os j.left.tokens → holds all os
-    → (NoneStands h j.left.tokens → NoneStands g j.left.tokens) → (kind e ≡ memory → ⊥)
+    → (NoMatch h j.left.tokens → NoMatch g j.left.tokens) → (kind e ≡ memory → ⊥)
     → Reads reading kind h j (Err e) now
     → Reads reading kind (Gathered holds (Many g (from_to 0 None))) i (Ok all) j
 unfolding Gathered Many

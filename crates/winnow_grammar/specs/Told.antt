@@ -10,7 +10,7 @@ use Rattle.grammars.specs.Grammar.{Grammar}
 use Rattle.grammars.specs.Texts.{IsGrammarOf, Text}
 use Rattle.stream_errors.specs.declared.fault.ParseFault.{ParseFault}
 use Rattle.winnow_core.specs.Exact.{Reads}
-use Rattle.winnow_core.specs.Exact.Whole.{IsRefused, IsWant, ReadsAll}
+use Rattle.winnow_core.specs.Exact.Whole.{IsNotIncomplete, IsWant, ReadsAll}
 
 -- The result of parsing all tokens: an output whose encoding they are. An error is out of memory,
 -- or the tokens are not an encoding; it is never `Incomplete`.
@@ -18,7 +18,7 @@ pub record IsTextOf {I T O X : Type 0} (inner_kind : X → Kind) (text : Text T 
     (result : Result O (ParseFault I X Needed)) : Type 0 where
   pub stands : IfOk result (λ o. text o tokens)
   pub none : IfErr result (λ fault. IsWant inner_kind fault ⊎ ((o : O) → text o tokens → ⊥))
-  pub whole : IfErr result (λ fault. IsRefused fault)
+  pub whole : IfErr result (λ fault. IsNotIncomplete fault)
 
 -- this holds if the parser's grammar is that of the encoding
 pub texts_told : {I T O X : Type 0} {inner_kind : X → Kind} {g : Grammar T O} {text : Text T O}

@@ -1,9 +1,9 @@
 //! Parsers of incremental input whose results on a chunk are final.
 ghost use Rattle.std.specs.Prelude.{◌≡◌, true};
 ghost use Rattle.stream_errors.specs.Form.{answer_by, modal};
-ghost use Rattle.winnow_grammar.specs.ForGood.{IsForGood};
+ghost use Rattle.winnow_grammar.specs.ForGood.{HasFinalResults};
 
-use crate::laws::a_decided_answer_stays_on_longer_inputs;
+use crate::laws::deterministic_results_are_final;
 use stream_errors::parser_error::ParserError;
 use streams::stream::Stream;
 use winnow_core::parser::Parser;
@@ -27,10 +27,10 @@ pub fn parse_for_good<P: Stable<I, O, E>, I: Stream, O, E: ParserError<I>>(
     ensures again { P.can_parse parser.new }
     ensures ran { P.meaning E.form (P.state parser.old) (I.view input.old)
         (answer_by E.kind result) (P.state parser.new) (I.view input.new) }
-    ensures for_good { IsForGood I.following (P.state parser.old) (P.meaning E.form)
+    ensures for_good { HasFinalResults I.following (P.state parser.old) (P.meaning E.form)
         (P.claim (P.state parser.old)).alike (I.view input.old) (answer_by E.kind result)
         (I.view input.new) }
 {
-    a_decided_answer_stays_on_longer_inputs::<P, I, O, E>();
+    deterministic_results_are_final::<P, I, O, E>();
     parser.parse_next(input)
 }

@@ -11,12 +11,7 @@ use winnow_core::stable::Stable;
 /// result than partial input, unless out of memory: an equal output or an error of the same kind,
 /// the same state, and the rest followed by the added tokens. So the result does not depend on how
 /// the input is divided into chunks.
-pub fn a_decided_answer_stays_on_longer_inputs<
-    P: Stable<I, O, E>,
-    I: Stream,
-    O,
-    E: ParserError<I>,
->()
+pub fn deterministic_results_are_final<P: Stable<I, O, E>, I: Stream, O, E: ParserError<I>>()
     ensures { E.form ≡ modal → (s : P.State) → (P.claim s).decides
         → NoOtherOnLonger I.following s (P.meaning E.form) (P.claim s).alike }
 {}

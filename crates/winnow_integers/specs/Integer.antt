@@ -11,7 +11,7 @@ use Rattle.winnow_integers.specs.declared.binary.endianness.Endianness.TheVarian
 use Rattle.winnow_integers.specs.declared.binary.endianness.Endianness.TheVariants.{Native}
 use Rattle.winnow_core.specs.Short.{ShortKind}
 pub mod Grammar
-pub mod Known
+pub mod Inversion
 pub mod Laws
 pub mod Reads
 pub mod Says

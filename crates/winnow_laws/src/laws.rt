@@ -16,7 +16,7 @@ use winnow_core::parser::Parser;
 /// its children, as the laws of [`compositions`] show: it is the derivation by ordered choice.
 /// Whatever the result, the call leaves a suffix of the input.
 #[inline]
-pub fn each_call_ends_as_its_derivation<P: Parser<I, O, E>, I: Stream, O, E: ParserError<I>>(
+pub fn calls_match_their_derivations<P: Parser<I, O, E>, I: Stream, O, E: ParserError<I>>(
     parser: &mut P,
     input: &mut I,
 ) -> Result<O, E>

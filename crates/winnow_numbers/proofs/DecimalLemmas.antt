@@ -16,7 +16,7 @@ use Rattle.stream_sets.specs.AsChar.{IsDecDigit}
 use Rattle.winnow_numbers.specs.DecimalText.{AreDigits, IsSignedText, IsUnsignedText, ReadsSigned}
 use Rattle.winnow_numbers.specs.DecimalText.{ReadsUnsigned, signed_value}
 use Rattle.winnow_numbers.specs.Digits.{value_in}
-use Rattle.winnow_numbers.specs.Digits.Known.{value_is}
+use Rattle.winnow_numbers.specs.Digits.Inversion.{value_is}
 use Rattle.winnow_numbers.specs.Numeral.{IsSign}
 
 digit_low : (c : ℕ) → IsDecDigit c → digit_value c < 10

@@ -19,7 +19,7 @@ use Rattle.winnow_numbers.specs.DecimalText.{ReadsUnsigned, signed_value}
 use Rattle.winnow_numbers.specs.Digits.{AreCharacters, value_in}
 use Rattle.winnow_numbers.specs.Numeral.{DigitsRuns, IsSign, NumeralRuns, SignRuns, SignedBy}
 use Rattle.winnow_numbers.specs.Numeral.{sign_of}
-use Rattle.winnow_numbers.specs.Numeral.Known.{digits_are, unsigned}
+use Rattle.winnow_numbers.specs.Numeral.Inversion.{digits_are, unsigned}
 use Rattle.winnow_numbers.proofs.NumeralLemmas.{TakesNumeral}
 
 -- a list that is itself twice has nothing

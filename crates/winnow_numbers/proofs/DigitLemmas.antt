@@ -10,9 +10,9 @@ use Rattle.streams.specs.Input.{Input, Passes, Remaining, back_at}
 use Rattle.streams.specs.Reading.{Reading}
 use Rattle.winnow_numbers.proofs.NumeralLemmas.{back_same}
 use Rattle.winnow_numbers.specs.Digits.{AreCharacters, NoneFirst, value_in}
-use Rattle.winnow_numbers.specs.Digits.Known.{characters_two, value_is}
+use Rattle.winnow_numbers.specs.Digits.Inversion.{characters_two, value_is}
 use Rattle.winnow_numbers.specs.Numeral.{DigitsRuns, IsLeadingDigit}
-use Rattle.winnow_numbers.specs.Numeral.Known.{passes_two}
+use Rattle.winnow_numbers.specs.Numeral.Inversion.{passes_two}
 
 after_more : (n : ℕ) (ds : List ℕ) (d : ℕ) → digits_value_after 10 n (ds ++ d ∷ [])
     ≡ digits_value_after 10 n ds * 10 + digit_value d
@@ -28,7 +28,7 @@ digit_is : (d : ℕ) → IsDecDigit d → digit_value d ≡ d - 48
 digit_is d is = grind (arith, nat_tests)
 
 -- From i to j the first digits of a numeral were passed, and n is their number.
-pub record Begun {K T S : Type 0} (seen : K → T) (code : K → ℕ) (reading : Reading T S)
+pub record DigitsPassed {K T S : Type 0} (seen : K → T) (code : K → ℕ) (reading : Reading T S)
     (i j : Input T) (n : ℕ) : Type 0 where
   pub front : List T
   pub first : ℕ
@@ -41,7 +41,7 @@ pub record Begun {K T S : Type 0} (seen : K → T) (code : K → ℕ) (reading :
 
 module _ {K T S : Type 0} (seen : K → T) (code : K → ℕ) (reading : Reading T S) where
   pub begun_one : (i j : Input T) (x : K) (c : ℕ) → c ≡ code x → IsLeadingDigit (code x)
-      → Passes reading (seen x ∷ []) i j → Begun seen code reading i j (c - 48)
+      → Passes reading (seen x ∷ []) i j → DigitsPassed seen code reading i j (c - 48)
   begun_one i j x c e leads p =
       let is : IsDecDigit (code x) = (omega (arith, leads.0), leads.1) in
       record {
@@ -56,8 +56,8 @@ module _ {K T S : Type 0} (seen : K → T) (code : K → ℕ) (reading : Reading
       }
 
   pub begun_more : (i j k : Input T) (n : ℕ) (x : K) (c d : ℕ)
-      → Begun seen code reading i j n → c ≡ code x → IsDecDigit c → d ≡ c - 48
-      → Passes reading (seen x ∷ []) j k → Begun seen code reading i k (n * 10 + d)
+      → DigitsPassed seen code reading i j n → c ≡ code x → IsDecDigit c → d ≡ c - 48
+      → Passes reading (seen x ∷ []) j k → DigitsPassed seen code reading i k (n * 10 + d)
   begun_more i j k n x c d begun e is value p =
       let all = begun.first ∷ begun.others in
       let member : IsDecDigit (code x) = subst IsDecDigit e is in
@@ -83,7 +83,7 @@ module _ {K T S : Type 0} (seen : K → T) (code : K → ℕ) (reading : Reading
       × (n ≡ value_in 10 digits)
 
   -- no more of them follow
-  pub begun_all : (i j : Input T) (n : ℕ) → Begun seen code reading i j n
+  pub begun_all : (i j : Input T) (n : ℕ) → DigitsPassed seen code reading i j n
       → NoneFirst seen code IsDecDigit j.left.tokens
       → (j.left.tokens ≡ [] → j.status.cut ≡ false) → Passed i j n
   begun_all i j n begun none whole =
@@ -104,7 +104,7 @@ module _ {K T S : Type 0} (seen : K → T) (code : K → ℕ) (reading : Reading
         begun.value ∙ value_is 10 all,
       )
 
-  pub begun_ended : (i j k : Input T) (n : ℕ) (cut : Bool) → Begun seen code reading i j n
+  pub begun_ended : (i j k : Input T) (n : ℕ) (cut : Bool) → DigitsPassed seen code reading i j n
       → j.left.tokens ≡ [] → k ≡ j → cut ≡ k.status.cut → cut ≡ false → Passed i k n
   begun_ended i j k n cut begun none same status whole =
       let P : Input T → Type 0 = λ x. Passed i x n in
@@ -112,7 +112,7 @@ module _ {K T S : Type 0} (seen : K → T) (code : K → ℕ) (reading : Reading
       (λ e. ap (λ x. x.status.cut) (sym same) ∙ sym status ∙ whole))
 
   pub begun_stopped : (i j k m : Input T) (n : ℕ) (x : K) (c : ℕ) (p : Remaining T)
-      → Begun seen code reading i j n → Passes reading (seen x ∷ []) j k → c ≡ code x
+      → DigitsPassed seen code reading i j n → Passes reading (seen x ∷ []) j k → c ≡ code x
       → (IsDecDigit c → ⊥) → p ≡ j.left → m ≡ back_at p k → Passed i m n
   begun_stopped i j k m n x c p begun passes e other at back =
       let same : m ≡ j = back ∙ ap (λ y. back_at y k) at ∙ back_same j k passes.status in

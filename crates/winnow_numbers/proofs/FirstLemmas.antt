@@ -13,8 +13,8 @@ use Rattle.std.specs.Char.{digit_value}
 use Rattle.streams.specs.Equal.{same_first, same_others}
 use Rattle.stream_sets.specs.AsChar.{IsDecDigit}
 use Rattle.winnow_numbers.specs.Digits.{value_in}
-use Rattle.winnow_numbers.specs.Digits.Known.{value_is}
-use Rattle.winnow_numbers.specs.Lanes.{AreAtMost, BeginsNumeral, EndsDigits, in_base}
+use Rattle.winnow_numbers.specs.Digits.Inversion.{value_is}
+use Rattle.winnow_numbers.specs.Lanes.{AreAtMost, StartsWithNumeral, EndsDigits, in_base}
 use Rattle.winnow_numbers.specs.Numeral.{IsLeadingDigit}
 use lib.Count.{count_trailing_zeros}
 use lib.Lanes.{Each1, chunk, mask_l, top, zip2}
@@ -142,7 +142,7 @@ number_of n (d ∷ digits) all =
 begins : (bytes digits : List ℕ) (last : ℕ) (more : List ℕ)
     → take 16 bytes ≡ digits ++ last ∷ more → AllByRecursion IsDecDigit digits
     → (IsDecDigit last → ⊥) → (slice_index_or bytes 0 0 ≡ 48 → ⊥) → (length digits ≡ 0 → ⊥)
-    → (behind : List ℕ) × BeginsNumeral bytes digits behind
+    → (behind : List ℕ) × StartsWithNumeral bytes digits behind
 begins bytes [] last more are members ends other some = absurd (some refl)
 begins bytes (d ∷ digits) last more are members ends other some =
     let whole : bytes ≡ (d ∷ digits) ++ ((last ∷ more) ++ drop 16 bytes) =
@@ -158,7 +158,7 @@ begins bytes (d ∷ digits) last more are members ends other some =
 -- what is found of a numeral
 abbrev pub Found : List ℕ → ℕ → ℕ → Type 0
 Found bytes count number =
-    (digits rest : List ℕ) × BeginsNumeral bytes digits rest × (count ≡ length digits)
+    (digits rest : List ℕ) × StartsWithNumeral bytes digits rest × (count ≡ length digits)
     × (number ≡ value_in 10 digits)
 
 -- a lone '0'

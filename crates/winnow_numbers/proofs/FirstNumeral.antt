@@ -10,11 +10,11 @@ use Rattle.streams.specs.Input.{Input, Passes}
 use Rattle.streams.specs.Reading.{Reading}
 use Rattle.streams.specs.Stream.{Cuts, IsBoundary}
 use Rattle.winnow_numbers.specs.Digits.{AreCharacters, NoneFirst, value_in}
-use Rattle.winnow_numbers.specs.Lanes.{BeginsNumeral}
+use Rattle.winnow_numbers.specs.Lanes.{StartsWithNumeral}
 use Rattle.winnow_numbers.specs.Numeral.{DigitsRuns}
 
 -- the digits of a numeral are digits
-digits_are : (bytes digits rest : List ℕ) → BeginsNumeral bytes digits rest
+digits_are : (bytes digits rest : List ℕ) → StartsWithNumeral bytes digits rest
     → AllByRecursion IsDecDigit digits
 digits_are bytes digits rest (e, inl zero) =
     subst (AllByRecursion IsDecDigit) (sym zero) ((omega arith, omega arith), tt)
@@ -104,7 +104,7 @@ module _ {K T S : Type 0} (seen : K → T) (code : K → ℕ) (reading : Reading
       )
 
   numeral_spelled : (tokens : List T) (digits rest : List ℕ)
-      → BeginsNumeral (bytes_of tokens) digits rest → Spelled tokens digits rest
+      → StartsWithNumeral (bytes_of tokens) digits rest → Spelled tokens digits rest
   numeral_spelled tokens digits rest begins =
       spelled digits rest tokens (digits_are (bytes_of tokens) digits rest begins) begins.0
 
@@ -123,7 +123,7 @@ module _ {K T S : Type 0} (seen : K → T) (code : K → ℕ) (reading : Reading
   -- what is found at the beginning of the bytes of the tokens left
   abbrev pub FoundIn : Input T → ℕ → ℕ → Type 0
   FoundIn i count number =
-      (digits rest : List ℕ) × BeginsNumeral (bytes_of i.left.tokens) digits rest
+      (digits rest : List ℕ) × StartsWithNumeral (bytes_of i.left.tokens) digits rest
       × (count ≡ length digits) × (number ≡ value_in 10 digits)
 
   -- the tokens can be cut after it
@@ -155,7 +155,7 @@ module _ {K T S : Type 0} (seen : K → T) (code : K → ℕ) (reading : Reading
       let s = numeral_spelled i.left.tokens digits rest begins in
       (passed i a j slice count digits rest same s long cuts).status
 
-  ran : (i j : Input T) (bytes digits rest : List ℕ) → BeginsNumeral bytes digits rest
+  ran : (i j : Input T) (bytes digits rest : List ℕ) → StartsWithNumeral bytes digits rest
       → (s : Spelled i.left.tokens digits rest) → Passes reading s.front i j
       → DigitsRuns seen code reading true i digits j
   ran i j bytes digits rest (e, inl zero) s passes =

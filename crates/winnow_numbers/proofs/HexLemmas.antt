@@ -27,7 +27,7 @@ use Rattle.winnow_token.specs.TakeWhile.{IsEnded, TakeWhileRuns}
 use Rattle.stream_sets.specs.Longest.{IsLongest}
 use Rattle.winnow_numbers.specs.Digits.{AreCharacters, IsIn, NoneFirst, SomeFirst, value_in}
 use Rattle.winnow_numbers.specs.HexUint.{HexUintRuns}
-use Rattle.winnow_numbers.specs.Digits.Known.{value_is}
+use Rattle.winnow_numbers.specs.Digits.Inversion.{value_is}
 use Rattle.winnow_numbers.proofs.DecimalRuns.{spelled}
 use Rattle.winnow_numbers.proofs.NumeralLemmas.{numbers_of}
 

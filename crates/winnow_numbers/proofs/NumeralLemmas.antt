@@ -18,8 +18,9 @@ use Rattle.winnow_ascii.specs.Class.{ClassRuns}
 use Rattle.winnow_numbers.specs.Digits.{AreCharacters, IsIn, NoneFirst}
 use Rattle.winnow_numbers.specs.Numeral.{DigitsRuns, IsLeadingDigit, IsSign, LacksDigits, NoDigits}
 use Rattle.winnow_numbers.specs.Numeral.{NoNumeral, NumeralRuns, SignRuns, is_none, left_by}
-use Rattle.winnow_numbers.specs.Numeral.Known.{digits_front, numeral_front, passes_two, sign_front}
-use Rattle.winnow_numbers.specs.Numeral.Known.{sign_status}
+use Rattle.winnow_numbers.specs.Numeral.Inversion.{digits_front, numeral_front, passes_two}
+use Rattle.winnow_numbers.specs.Numeral.Inversion.{sign_front}
+use Rattle.winnow_numbers.specs.Numeral.Inversion.{sign_status}
 
 -- the status is that of the start
 pub back_same : {T : Type 0} (i b : Input T) → b.status ≡ i.status → back_at i.left b ≡ i

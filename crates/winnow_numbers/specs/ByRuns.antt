@@ -6,7 +6,7 @@ use Rattle.streams.specs.Kind.{Kind, backtrack, cut, incomplete, memory}
 use Rattle.streams.specs.Place.{no_place}
 use Rattle.streams.specs.Reading.{Reading}
 use Rattle.stream_errors.specs.Form.{Answer, ErrorForm, modal}
-use Rattle.winnow_core.specs.Decided.{AlikeAnswers}
+use Rattle.winnow_core.specs.Decided.{EqualResults}
 use Rattle.winnow_core.specs.Outcome
 use Rattle.winnow_core.specs.Outcome.{Alike, Outcome, Setting, asks, both, grown, longer}
 use Rattle.winnow_core.specs.Outcome.{on_cut, outcome_of}
@@ -78,7 +78,7 @@ same_kind alike (incomplete need) rest = (refl, refl)
 same_kind alike memory rest = tt
 
 like_answers : {T O : Type 0} (alike : O → O → Type 0) (a b : Answer O) (rest end : List T)
-    → AlikeAnswers alike a b → rest ≡ end → Alike alike (outcome_of a rest) (outcome_of b end)
+    → EqualResults alike a b → rest ≡ end → Alike alike (outcome_of a rest) (outcome_of b end)
 like_answers alike (Ok o) (Ok p) rest end like e = (like, e)
 like_answers alike (Ok o) (Err l) rest end like e = absurd like
 like_answers alike (Err k) (Ok p) rest end like e = absurd like
@@ -100,7 +100,7 @@ pub record ByRuns {T L O : Type 0} (reading : Reading T L) (says : Says T O)
   pub ends : (r : Reading T L) (form : ErrorForm) (i : Input T) (answer : Answer O) (j : Input T)
       → runs form r i answer j → IsEndOf r j i × (j.status ≡ i.status)
   pub meet : (r : Reading T L) (form : ErrorForm) (i : Input T) (a b : Answer O) (j k : Input T)
-      → runs form r i a j → runs form r i b k → AlikeAnswers says.alike a b × (j ≡ k)
+      → runs form r i a j → runs form r i b k → EqualResults says.alike a b × (j ≡ k)
   pub grows : (r : Reading T L) → Stays (runs modal r)
   pub fails : (r : Reading T L) (form : ErrorForm) (i : Input T) (k : Kind) (j : Input T)
       → i.status.cut ≡ false → runs form r i (Err k) j → k ≡ backtrack

@@ -6,7 +6,7 @@ use Rattle.streams.specs.Reading.{Reading}
 use Rattle.stream_errors.specs.Form.{ErrorForm, Answer}
 use Rattle.winnow_numbers.specs.Digits.{value_in}
 use Rattle.winnow_numbers.specs.Numeral.{NumeralRuns, NoNumeral}
-pub mod Known
+pub mod Inversion
 pub mod Laws
 pub mod Says
 

@@ -2,7 +2,7 @@
 use Rattle.std.specs.Prelude.{◌≡◌, ◌<◌, ℕ, ℤ, pos, neg_ℤ, List, [], ◌∷◌, ◌⊎◌}
 use Rattle.winnow_numbers.specs.DecimalText.{AreDigits}
 use Rattle.winnow_numbers.specs.Digits.{value_in}
-pub mod Known
+pub mod Inversion
 
 -- The digits stand for the number, and a '0' that is the first of them is the only one.
 pub record IsDecimalOf (digits : List ℕ) (n : ℕ) : Type 0 where

@@ -1,11 +1,11 @@
 -- Characters of digits, and the number that they stand for.
 use Rattle.std.specs.Prelude.{◌≡◌, ◌+◌, ◌*◌, ◌^◌, ⊤, ℕ, List, [], ◌∷◌, length, ◌⊎◌}
 use Rattle.std.specs.Char.{digit_value}
-pub mod Known
+pub mod Inversion
 
 -- Tokens with the same view are one character.
-abbrev pub SeenOnce : {K T : Type 0} → (K → T) → (K → ℕ) → Type 0
-SeenOnce {K} seen code = (x y : K) → seen x ≡ seen y → code x ≡ code y
+abbrev pub CharIsFunction : {K T : Type 0} → (K → T) → (K → ℕ) → Type 0
+CharIsFunction {K} seen code = (x y : K) → seen x ≡ seen y → code x ≡ code y
 
 -- The token is a character whose number is in the class. Tokens are seen by `seen`, and have the
 -- numbers `code`.

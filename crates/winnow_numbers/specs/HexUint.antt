@@ -8,7 +8,7 @@ use Rattle.streams.specs.Reading.{Reading}
 use Rattle.stream_errors.specs.Form.{ErrorForm, Answer, incomplete_kind}
 use Rattle.stream_sets.specs.AsChar.{IsHexDigit}
 use Rattle.winnow_numbers.specs.Digits.{AreCharacters, IsIn, NoneFirst, value_in}
-pub mod Known
+pub mod Inversion
 pub mod Laws
 pub mod Says
 

@@ -4,11 +4,11 @@ use Rattle.std.specs.List.{AllByRecursion}
 use Rattle.stream_sets.specs.AsChar.{IsDecDigit}
 use Rattle.winnow_numbers.specs.Numeral.{IsLeadingDigit}
 
--- `BeginsNumeral bytes digits rest`: `bytes` starts with the digits of a numeral, followed by
+-- `StartsWithNumeral bytes digits rest`: `bytes` starts with the digits of a numeral, followed by
 -- `rest`. They are a single '0', or a digit from 1 to 9 and all digits after it, and then another
 -- byte comes.
-abbrev pub BeginsNumeral : List ℕ → List ℕ → List ℕ → Type 0
-BeginsNumeral bytes digits rest =
+abbrev pub StartsWithNumeral : List ℕ → List ℕ → List ℕ → Type 0
+StartsWithNumeral bytes digits rest =
     (bytes ≡ digits ++ rest)
     -- a lone '0'
     × ((digits ≡ 48 ∷ [])

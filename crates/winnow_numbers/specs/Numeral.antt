@@ -10,7 +10,7 @@ use Rattle.stream_sets.specs.AsChar.{IsDecDigit}
 use Rattle.winnow_numbers.specs.Digits.{AreCharacters, IsIn, NoneFirst}
 pub mod Exact
 pub mod Grammar
-pub mod Known
+pub mod Inversion
 pub mod Laws
 pub mod Once
 pub mod Says

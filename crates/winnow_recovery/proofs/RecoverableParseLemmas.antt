@@ -9,7 +9,7 @@ use Rattle.streams.specs.Reading.{Reading, units-nil, units-zero}
 use Rattle.stream_errors.specs.Form.{Answer, need_of_kind}
 use Rattle.winnow_core.specs.CompleteErr.{complete_kind}
 use Rattle.winnow_core.specs.Runs.{Runs}
-use Rattle.winnow_recovery.specs.RecoverableParse.{ComesBack, ComesBackWith, IsBack}
+use Rattle.winnow_recovery.specs.RecoverableParse.{ResetsWithErrors, ComesBackWith, IsBack}
 use Rattle.winnow_recovery.specs.RecoverableParse.{RecoverableParses, no_memory_input}
 use Rattle.winnow_recovery.specs.declared.parser.NoMemory.{NoMemory}
 
@@ -52,7 +52,7 @@ module _ {S I T O R A L : Type 0} (reading : Reading T L) (run : Runs S T O) (vi
   -- all was read
   pub all_read : (o : O) (back : I) (errors : Vec R A) → run s begin (Ok o) t j
       → reading.units j.left.tokens ≡ 0
-      → ComesBack view kind (back_at seen j) j back errors.items
+      → ResetsWithErrors view kind (back_at seen j) j back errors.items
       → RecoverableParses view kind start (λ answer k. run s start answer t k)
       (Ok (back, Some o, errors))
   all_read o back errors ran none (is, recorded) = inl (

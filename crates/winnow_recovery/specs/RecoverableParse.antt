@@ -7,7 +7,7 @@ use Rattle.streams.specs.Kind.{Kind, backtrack, memory}
 use Rattle.stream_errors.specs.Form.{Answer}
 use Rattle.winnow_core.specs.CompleteErr.{complete_kind}
 use Rattle.winnow_recovery.specs.declared.parser.NoMemory.{NoMemory}
-pub mod Known
+pub mod Inversion
 
 -- the stream that is returned if memory allocation failed
 abbrev pub no_memory_input : {I : Type 0} → NoMemory I → I
@@ -19,9 +19,9 @@ IsBack view start back =
     ((view back).left ≡ start.left) × ((view back).status.cut ≡ start.status.cut)
 
 -- A stream is back at its start, and the errors are those that were recorded at `j`, in order.
-abbrev pub ComesBack : {I T R : Type 0} → (I → Input T) → (R → Kind) → Input T → Input T → I
+abbrev pub ResetsWithErrors : {I T R : Type 0} → (I → Input T) → (R → Kind) → Input T → Input T → I
     → List R → Type 0
-ComesBack view kind start j back errors =
+ResetsWithErrors view kind start j back errors =
     IsBack view start back × ((view back).status.recorded ++ map kind errors ≡ j.status.recorded)
 
 -- Likewise, followed by the error of kind `k` that ended the parse.
@@ -29,7 +29,7 @@ abbrev pub ComesBackWith : {I T R : Type 0} → (I → Input T) → (R → Kind)
     → Kind → I → List R → Type 0
 ComesBackWith {R = R} view kind start j k back errors =
     (earlier : List R) × (last : R) × (errors ≡ earlier ++ last ∷ []) × (kind last ≡ k)
-    × ComesBack view kind start j back earlier
+    × ResetsWithErrors view kind start j back earlier
 
 -- The result, where `ran` gives the results and the inputs with which the parser's call on all of
 -- the input may end. It is the stream, the output, and the errors; or an allocation failure with
@@ -40,7 +40,7 @@ RecoverableParses {I} {T} {O} view kind start ran result = MatchResult result
     (λ all.
     -- the run succeeds and leaves nothing
     ((o : O) × (j : Input T) × ran (Ok o) j × (j.left.tokens ≡ []) × (all.1 ≡ Some o)
-    × ComesBack view kind start j all.0 all.2.items)
+    × ResetsWithErrors view kind start j all.0 all.2.items)
     -- it succeeds and leaves something: an error that backtracks is the last
     ⊎ (((o : O) × (j : Input T) × ran (Ok o) j × (j.left.tokens ≡ [] → ⊥) × (all.1 ≡ Some o)
     × ComesBackWith view kind start j backtrack all.0 all.2.items)

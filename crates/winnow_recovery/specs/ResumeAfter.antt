@@ -6,7 +6,7 @@ use Rattle.stream_errors.specs.Form.{Answer}
 use Rattle.winnow_core.specs.Runs.{Runs}
 use Rattle.winnow_recovery.specs.Recovery.{CanRecover, IsNotRecovered, IsRecovered, Recovery}
 use Rattle.winnow_recovery.specs.declared.combinator.impls.resume_after.ResumeAfter.{ResumeAfter}
-pub mod Known
+pub mod Inversion
 pub mod Laws
 
 -- the parser that is run

@@ -7,7 +7,7 @@ use Rattle.stream_errors.specs.Form.{Answer}
 use Rattle.winnow_core.specs.Runs.{Runs}
 use Rattle.winnow_recovery.specs.Recovery.{CanRecover, IsNotRecovered, IsRecovered, Recovery}
 use Rattle.winnow_recovery.specs.declared.combinator.impls.retry_after.RetryAfter.{RetryAfter}
-pub mod Known
+pub mod Inversion
 pub mod Laws
 
 -- the parser that is tried

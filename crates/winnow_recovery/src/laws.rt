@@ -15,7 +15,7 @@ use winnow_core::parser::Parser;
 
 /// States that if [`recoverable_parse`](crate::parser::RecoverableParser::recoverable_parse)
 /// returns no error, it returns an output, and all of the input was consumed.
-pub fn no_error_is_a_whole_parse<
+pub fn no_errors_mean_success<
     P: Parser<Recoverable<I, R, A>, O, E>,
     I: StreamIsPartial,
     O,
@@ -28,7 +28,7 @@ pub fn no_error_is_a_whole_parse<
 
 /// States that [`retry_after`](crate::parser::RecoveringParser::retry_after) leaves a suffix of the
 /// original input in every case.
-pub fn retry_after_leaves_an_end<
+pub fn retry_after_leaves_a_suffix<
     P: Parser<I, O, E>,
     R: Parser<I, (), E>,
     I: Recover<E>,
@@ -41,7 +41,7 @@ pub fn retry_after_leaves_an_end<
 
 /// States that [`resume_after`](crate::parser::RecoveringParser::resume_after) leaves a suffix of
 /// the original input in every case.
-pub fn resume_after_leaves_an_end<
+pub fn resume_after_leaves_a_suffix<
     P: Parser<I, O, E>,
     R: Parser<I, (), E>,
     I: Recover<E>,

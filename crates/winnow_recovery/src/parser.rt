@@ -4,7 +4,7 @@
 ghost use Rattle.std.specs.Prelude.{◌≡◌, MatchResult, false};
 ghost use Rattle.streams.specs.Input.{back_at};
 ghost use Rattle.streams.specs.Kind.{memory};
-ghost use Rattle.winnow_recovery.specs.RecoverableParse.{ComesBack, ComesBackWith, IsBack};
+ghost use Rattle.winnow_recovery.specs.RecoverableParse.{ResetsWithErrors, ComesBackWith, IsBack};
 ghost use Rattle.winnow_recovery.specs.RecoverableParse.{RecoverableParses, no_memory_input};
 ghost use Rattle.winnow_recovery.specs.ResumeAfter.{resume_after_parser, resume_after_recover};
 ghost use Rattle.winnow_recovery.specs.RetryAfter.{retry_after_parser, retry_after_recover};
@@ -164,7 +164,7 @@ fn parts_at_start<I: Stream, R: ParserError<Recoverable<I, R, A>>, A: Allocator>
     input: Recoverable<I, R, A>,
     start: &I::Checkpoint,
 ) -> (I, Vec<R, A>)
-    ensures { ComesBack I.view R.kind
+    ensures { ResetsWithErrors I.view R.kind
         (back_at (I.seen start.now) (⟦<Recoverable<I, R, A> as Stream>⟧.view input))
         (⟦<Recoverable<I, R, A> as Stream>⟧.view input) result.0 result.1.items }
 {

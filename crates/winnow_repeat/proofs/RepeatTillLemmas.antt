@@ -1,5 +1,5 @@
 -- Invariants of the loop that repeats items up to a terminator.
-use Rattle.winnow_repeat.specs.Room.{RoomBehind}
+use Rattle.winnow_repeat.specs.Room.{RoomAfter}
 use Rattle.std.proofs.Common.{◌≡◌, ◌-◌, ◌∙◌, ℕ, Option}
 use Rattle.std.proofs.Common.{Some, None, Ok, Err, ap, subst, inr}
 use Rattle.std.specs.Prelude.{MatchOption}
@@ -17,7 +17,7 @@ use Rattle.winnow_repeat.specs.RepeatTill.{TurnRuns, TurnsRun, room_behind}
 
 -- there are no more than the greatest number
 pub within_room : (least : ℕ) (greatest : Option ℕ) (missing : ℕ) (room : Option ℕ) (count : ℕ)
-    → RoomBehind least greatest missing room count → IsWithin greatest count
+    → RoomAfter least greatest missing room count → IsWithin greatest count
 within_room least None missing room count b = tt
 within_room least (Some most) missing room count b = b.room_left.1
 

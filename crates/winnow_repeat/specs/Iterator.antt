@@ -11,23 +11,23 @@ use Rattle.winnow_repeat.specs.declared.combinator.impls.iterator.Progress.TheVa
   Done,
   Stopped,
 }
-pub mod Known
+pub mod Inversion
 
 -- The status of an iterator: it is running, its parser backtracked, or an error of this kind
 -- stopped it.
-pub data Standing : Type 0 where
-  running : Standing
-  done : Standing
-  stopped : Kind → Standing
+pub data IteratorStatus : Type 0 where
+  running : IteratorStatus
+  done : IteratorStatus
+  stopped : Kind → IteratorStatus
 
 -- The state of an iterator: the state of its parser, its input, and its status.
 pub record IteratorState (S T : Type 0) : Type 0 where
   pub parser : S
   pub input : Input T
-  pub standing : Standing
+  pub standing : IteratorStatus
 
 -- the progress of an iterator, with its error seen by kind
-abbrev pub standing_by : {E : Type 0} → (E → Kind) → Progress E → Standing
+abbrev pub standing_by : {E : Type 0} → (E → Kind) → Progress E → IteratorStatus
 standing_by kind Running = running
 standing_by kind Done = done
 standing_by kind (Stopped e) = stopped (kind e)
@@ -42,7 +42,8 @@ iterator_state state view kind s = record {
 }
 
 -- whether it gives more items
-abbrev pub iterator_standing : {P I O E : Type 0} → (E → Kind) → ParserIterator P I O E → Standing
+abbrev pub iterator_standing : {P I O E : Type 0} → (E → Kind) → ParserIterator P I O E
+    → IteratorStatus
 iterator_standing kind s = standing_by kind s.progress
 
 -- the parser that is run
@@ -85,7 +86,7 @@ IteratorNext {S} {T} {O} run assert_kind s item t =
     ⊎ ((s.standing ≡ running → ⊥) × (item ≡ None) × (t ≡ s)))
 
 -- The result of `finish`: the error that stopped the iterator, if there is one.
-abbrev pub finish_answer : Standing → Answer ⊤
+abbrev pub finish_answer : IteratorStatus → Answer ⊤
 finish_answer running = Ok tt
 finish_answer done = Ok tt
 finish_answer (stopped k) = Err k

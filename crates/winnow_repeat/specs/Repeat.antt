@@ -11,7 +11,7 @@ use Rattle.stream_sets.specs.Accumulator.Holds.{Accumulates}
 use Rattle.stream_sets.specs.Accumulator.{Accumulator}
 use Rattle.winnow_repeat.specs.declared.combinator.impls.repeat.Repeat.{Repeat}
 pub mod Exact
-pub mod Known
+pub mod Inversion
 pub mod Laws
 pub mod Says
 

@@ -7,21 +7,21 @@ use Rattle.streams.specs.Equal.{same_some, none_is_some}
 
 -- After `count` items, `missing` is the number that is still missing, and `room` the number that is
 -- still allowed.
-pub record RoomBehind (least : ℕ) (greatest : Option ℕ) (missing : ℕ) (room : Option ℕ)
+pub record RoomAfter (least : ℕ) (greatest : Option ℕ) (missing : ℕ) (room : Option ℕ)
     (count : ℕ) : Type 0 where
   pub still_missing : missing ≡ least - count
   pub room_left : MatchOption greatest (room ≡ None)
       (λ most. (room ≡ Some (most - count)) × (count ≤ most))
 
 pub room_behind_none : (least : ℕ) (greatest : Option ℕ)
-    → RoomBehind least greatest least greatest 0
+    → RoomAfter least greatest least greatest 0
 room_behind_none least None = record { still_missing = omega arith; room_left = refl }
 room_behind_none least (Some most) =
     record { still_missing = omega arith; room_left = (ap Some (omega arith), omega arith) }
 
 -- no more items are allowed: the greatest number is reached
 pub no_room : (least : ℕ) (greatest : Option ℕ) (missing : ℕ) (room : Option ℕ) (count : ℕ)
-    → RoomBehind least greatest missing room count → room ≡ Some 0 → greatest ≡ Some count
+    → RoomAfter least greatest missing room count → room ≡ Some 0 → greatest ≡ Some count
 no_room least None missing room count b e = none_is_some (sym b.room_left ∙ e)
 no_room least (Some most) missing room count b e =
     let left = b.room_left in
@@ -30,7 +30,7 @@ no_room least (Some most) missing room count b e =
 
 -- more items are allowed: the greatest number is not reached
 pub some_room : (least : ℕ) (greatest : Option ℕ) (missing : ℕ) (room : Option ℕ) (count : ℕ)
-    → RoomBehind least greatest missing room count → (room ≡ Some 0 → ⊥) → IsBelow greatest count
+    → RoomAfter least greatest missing room count → (room ≡ Some 0 → ⊥) → IsBelow greatest count
 some_room least None missing room count b h = tt
 some_room least (Some most) missing room count b h =
     let left = b.room_left in
@@ -41,10 +41,10 @@ some_room least (Some most) missing room count b h =
 
 -- one item more
 pub room_behind_more : (least : ℕ) (greatest : Option ℕ) (missing : ℕ) (room : Option ℕ) (count : ℕ)
-    (missing' : ℕ) (room' : Option ℕ) (count' : ℕ) → RoomBehind least greatest missing room count
+    (missing' : ℕ) (room' : Option ℕ) (count' : ℕ) → RoomAfter least greatest missing room count
     → (room ≡ Some 0 → ⊥) → missing' ≡ missing - 1
     → MatchOption room (room' ≡ None) (λ n. room' ≡ Some (n - 1)) → count' ≡ count + 1
-    → RoomBehind least greatest missing' room' count'
+    → RoomAfter least greatest missing' room' count'
 room_behind_more least None missing room count missing' room' count' b h m r n =
     let P : Option ℕ → Type 0 = λ x. MatchOption x (room' ≡ None) (λ y. room' ≡ Some (y - 1)) in
     record {

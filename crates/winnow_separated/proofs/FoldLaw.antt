@@ -4,13 +4,13 @@ use Rattle.std.specs.declared.vec.Vec.{Vec}
 use Rattle.std.proofs.Common.{refl, sym, ap, ◌∙◌, subst, inl, inr, arith}
 use Rattle.streams.specs.Input.{Input, back_at}
 use Rattle.streams.specs.Kind.{Kind, backtrack}
-use Rattle.stream_errors.specs.Form.Known.{at_kind, at_output, ok_is_err}
+use Rattle.stream_errors.specs.Form.Inversion.{at_kind, at_output, ok_is_err}
 use Rattle.stream_sets.specs.Accumulator.{list_kept}
 use Rattle.stream_sets.specs.Range.{from_to}
 use Rattle.winnow_core.specs.Runs.{Runs}
 use Rattle.winnow_core.specs.Sequence.{SequenceRuns2}
 use Rattle.winnow_repeat.specs.Repeat.{RepeatManyRuns}
-use Rattle.winnow_repeat.specs.Repeat.Known.{Items, RepeatedAll, repeat_any_ok, repeated_list}
+use Rattle.winnow_repeat.specs.Repeat.Inversion.{Items, RepeatedAll, repeat_any_ok, repeated_list}
 use Rattle.winnow_core.specs.Decides.{Decides, DecidesOutputs}
 use Rattle.winnow_separated.specs.FoldLaws.{Consumes, FoldTheSame, Turns}
 use Rattle.winnow_separated.specs.Link.{LinkFails, PairLinkRuns}

@@ -15,7 +15,7 @@ use Rattle.winnow_separated.specs.Link.{SeparatesNothing}
 use Rattle.winnow_separated.specs.declared.combinator.impls.separated.Separated.{Separated}
 pub mod Does
 pub mod Exact
-pub mod Known
+pub mod Inversion
 pub mod Laws
 pub mod Says
 

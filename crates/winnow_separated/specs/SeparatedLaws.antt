@@ -4,7 +4,7 @@ use Rattle.streams.specs.Input.{Input}
 use Rattle.stream_sets.specs.Accumulator.{Accumulator}
 use Rattle.stream_sets.specs.declared.range.Range.{Range}
 use Rattle.winnow_core.specs.Runs.{Runs}
-use Rattle.winnow_separated.specs.Separated.Known.{NoElement, SomeElements}
+use Rattle.winnow_separated.specs.Separated.Inversion.{NoElement, SomeElements}
 
 -- The elements that are returned for the ranges `0..` and `1..`. Either there are no elements and
 -- none is required: the first backtracked, and the input is reset to its start. Or they are the

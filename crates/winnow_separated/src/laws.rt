@@ -35,7 +35,7 @@ pub fn separated_leaves_a_separator_without_an_element<
 /// [`separated_foldr1`](crate::combinator::separated_foldr1) fold the same elements. From one state
 /// and input, if both succeed, these are the outputs of one list of calls, and both leave the same
 /// rest.
-pub fn separated_folds_fold_the_same<
+pub fn separated_folds_agree<
     P: Parser<I, O, E>,
     S: Parser<I, D, E>,
     H: FnMut(O, D, O) -> O,

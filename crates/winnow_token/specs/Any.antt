@@ -5,7 +5,7 @@ use Rattle.streams.specs.Kind.{Kind}
 use Rattle.streams.specs.Reading.{Reading}
 use Rattle.stream_errors.specs.Form.{ErrorForm, Answer}
 use Rattle.winnow_core.specs.Short.{ShortKind}
-pub mod Known
+pub mod Inversion
 pub mod Laws
 pub mod Says
 

@@ -7,7 +7,7 @@ use Rattle.streams.specs.Reading.{Reading}
 use Rattle.stream_errors.specs.Form.{ErrorForm, Answer}
 use Rattle.winnow_core.specs.Short.{ShortKind}
 use Rattle.winnow_token.specs.declared.token.impls.take.Take.{Take}
-pub mod Known
+pub mod Inversion
 pub mod Laws
 pub mod Says
 

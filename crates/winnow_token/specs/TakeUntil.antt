@@ -3,13 +3,13 @@ use Rattle.std.specs.Prelude.{◌≡◌, ◌<◌, ◌≤◌, ℕ, List, length, 
 use Rattle.streams.specs.Input.{Input, Takes}
 use Rattle.streams.specs.Kind.{Kind, backtrack}
 use Rattle.streams.specs.Reading.{Reading}
-use Rattle.stream_searches.specs.FindSlice.{Stands, IsFirstMatch}
+use Rattle.stream_searches.specs.FindSlice.{Occurs, IsFirstMatch}
 use Rattle.stream_sets.specs.Range.{Bounds, IsWithin}
 use Rattle.stream_errors.specs.Form.{ErrorForm, Answer, assert_kind}
 use Rattle.winnow_core.specs.Short.{ShortKind}
 use Rattle.stream_sets.specs.declared.range.Range.{Range}
 use Rattle.winnow_token.specs.declared.token.impls.take_until.TakeUntil.{TakeUntil}
-pub mod Known
+pub mod Inversion
 pub mod Laws
 pub mod Says
 
@@ -32,7 +32,7 @@ TakeUntilRuns {T} {S} reading form sought bounds i answer j =
     × (j ≡ i))
     -- no match occurs
     ⊎ (((k : Kind) × IsWithin bounds.greatest bounds.least
-    × ((front hit rest : List T) → Stands sought i.left.tokens front hit rest → ⊥)
+    × ((front hit rest : List T) → Occurs sought i.left.tokens front hit rest → ⊥)
     × ShortKind form None i k × (answer ≡ Err k) × (j ≡ i))
     -- takes the tokens up to the first match
     ⊎ (((start : ℕ) × (end : ℕ)

@@ -11,7 +11,7 @@ use Rattle.stream_sets.specs.declared.range.Range.{Range}
 use Rattle.stream_errors.specs.Form.{ErrorForm, Answer, incomplete_kind, assert_kind}
 use Rattle.winnow_token.specs.declared.token.impls.take_while.TakeWhile.{TakeWhile}
 pub mod Exact
-pub mod Known
+pub mod Inversion
 pub mod Laws
 pub mod Says
 

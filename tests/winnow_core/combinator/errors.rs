@@ -116,30 +116,30 @@ fn context_with(rt: HostRuntime) {
 /// The list of contexts cannot grow, and then it can. A run that succeeds keeps nothing.
 #[test]
 fn context_without_memory(rt: HostRuntime) {
-    type Refused<'h> = ErrMode<ContextError<&'static str, &'h Refusing<Global>>>;
+    type Invalid<'h> = ErrMode<ContextError<&'static str, &'h Refusing<Global>>>;
     let heap = Refusing::once(rt.alloc(), 0);
     let mut digits = Digit1.context(&heap, "n");
-    let got = outcome_of::<&str, &str, Refused<'_>, _>(&mut digits, "1");
+    let got = outcome_of::<&str, &str, Invalid<'_>, _>(&mut digits, "1");
     same(&rt, "context", "1", got, (Ok("1"), ""));
     assert!(rt; !heap.met(), "a run that succeeds asks for no memory");
-    let (answer, _) = outcome_of::<&str, &str, Refused<'_>, _>(&mut digits, "a");
+    let (answer, _) = outcome_of::<&str, &str, Invalid<'_>, _>(&mut digits, "a");
     same(&rt, "context, refused memory", "a", answer, Err(Memory));
     assert!(rt; heap.met(), "a context asks for memory");
-    let got = outcome_of::<&str, &str, Refused<'_>, _>(&mut digits, "a");
+    let got = outcome_of::<&str, &str, Invalid<'_>, _>(&mut digits, "a");
     same(&rt, "context, with memory", "a", got, (Err(Backtrack), "a"));
 }
 
 /// Likewise for the contexts of a closure.
 #[test]
 fn context_with_without_memory(rt: HostRuntime) {
-    type Refused<'h> = ErrMode<ContextError<&'static str, &'h Refusing<Global>>>;
+    type Invalid<'h> = ErrMode<ContextError<&'static str, &'h Refusing<Global>>>;
     let name = "context_with";
     let heap = Refusing::once(rt.alloc(), 0);
     let mut digits = Digit1.context_with(&heap, || ["n", "m"].into_iter());
-    let got = outcome_of::<&str, &str, Refused<'_>, _>(&mut digits, "1");
+    let got = outcome_of::<&str, &str, Invalid<'_>, _>(&mut digits, "1");
     same(&rt, name, "1", got, (Ok("1"), ""));
     assert!(rt; !heap.met(), "a run that succeeds asks for no memory");
-    let (answer, _) = outcome_of::<&str, &str, Refused<'_>, _>(&mut digits, "a");
+    let (answer, _) = outcome_of::<&str, &str, Invalid<'_>, _>(&mut digits, "a");
     same(
         &rt,
         "context_with, refused memory",
@@ -148,7 +148,7 @@ fn context_with_without_memory(rt: HostRuntime) {
         Err(Memory),
     );
     assert!(rt; heap.met(), "contexts ask for memory");
-    let got = outcome_of::<&str, &str, Refused<'_>, _>(&mut digits, "a");
+    let got = outcome_of::<&str, &str, Invalid<'_>, _>(&mut digits, "a");
     same(
         &rt,
         "context_with, with memory",

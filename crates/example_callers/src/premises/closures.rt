@@ -1,6 +1,6 @@
 //! `map`, `verify`, `try_map`: the closure is unchanged by calls, and rejects either all outputs of
 //! the same tokens or none of them.
-ghost use Rattle.example_callers.specs.Premises.{Dark, Digit, IsValue, One};
+ghost use Rattle.example_callers.specs.Premises.{TokenAfterSpace, Digit, IsValue, One};
 ghost use Rattle.std.specs.Prelude.{◌≡◌, ◌<◌, ◌↔◌, ℕ, IsTrue, MatchResult};
 ghost use Rattle.winnow.specs.Bytes.{bytes_input, bytes_reading};
 ghost use Rattle.winnow.specs.Exact.{Reads};
@@ -75,7 +75,8 @@ fn is_dark(byte: &u8) -> bool
 /// assert_eq!(rt; verified_byte(&mut b"a".as_slice()), Ok(b'a'));
 /// ```
 pub fn verified_byte<'i>(input: &mut &'i [u8]) -> Result<u8, EmptyError>
-    ensures { Reads bytes_reading ⟦<EmptyError as HasKind>⟧.kind Dark (bytes_input input.old.now)
+    ensures { Reads bytes_reading ⟦<EmptyError as HasKind>⟧.kind TokenAfterSpace
+        (bytes_input input.old.now)
         result (bytes_input input.new.now) }
 {
     Any.verify(is_dark).read(input)
@@ -99,7 +100,8 @@ fn is_behind_space(character: &char) -> bool
 /// assert_eq!(rt; verified_character(&mut "é"), Ok('é'));
 /// ```
 pub fn verified_character<'i>(input: &mut &'i str) -> Result<char, EmptyError>
-    ensures { Reads text_reading ⟦<EmptyError as HasKind>⟧.kind Dark (text_input input.old.now)
+    ensures { Reads text_reading ⟦<EmptyError as HasKind>⟧.kind TokenAfterSpace
+        (text_input input.old.now)
         result (text_input input.new.now) }
 {
     Any.verify(is_behind_space).read(input)

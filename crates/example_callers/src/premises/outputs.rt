@@ -5,7 +5,7 @@ ghost use Rattle.winnow.specs.Bytes.{bytes_input, bytes_reading};
 ghost use Rattle.winnow.specs.Counted.{counted_reading};
 ghost use Rattle.winnow.specs.Exact.{Reads};
 ghost use Rattle.winnow.specs.Grammar.{Counted};
-ghost use Rattle.winnow.specs.Grammar.Known.{Byte};
+ghost use Rattle.winnow.specs.Grammar.Inversion.{Byte};
 ghost use Rattle.winnow.specs.Grammar.Meaning.{Meaning};
 ghost use Rattle.winnow.specs.Text.{text_input, text_reading};
 

@@ -3,7 +3,7 @@ ghost use Rattle.example_callers.specs.Premises.{Character, Greatest, UpToMark};
 ghost use Rattle.std.specs.Prelude.{◌≡◌, max};
 ghost use Rattle.winnow.specs.Bytes.{bytes_input, bytes_reading};
 ghost use Rattle.winnow.specs.Exact.{Reads};
-ghost use Rattle.winnow.specs.Grammar.Known.{Byte};
+ghost use Rattle.winnow.specs.Grammar.Inversion.{Byte};
 ghost use Rattle.winnow.specs.Text.{text_input, text_reading};
 
 use std::alloc::Allocator;

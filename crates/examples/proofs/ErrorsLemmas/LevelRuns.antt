@@ -8,10 +8,10 @@ use Rattle.winnow.specs.Kind.{Kind, backtrack, memory, modal}
 use Rattle.winnow.specs.Form.{need_of_kind}
 use Rattle.winnow.specs.Given.{Keeping, KindGiven, always_kept}
 use Rattle.winnow.specs.Literal.{LiteralRuns}
-use Rattle.winnow.specs.Literal.Known.{literal_taken, token_missing, token_taken}
+use Rattle.winnow.specs.Literal.Inversion.{literal_taken, token_missing, token_taken}
 use Rattle.winnow.specs.Any.{AnyRuns}
-use Rattle.winnow.specs.Any.Known.{any_err, any_ok}
-use Rattle.examples.specs.Errors.Lines.{NoColonStands, NoLevelStands, StartsLevel, level_at}
+use Rattle.winnow.specs.Any.Inversion.{any_err, any_ok}
+use Rattle.examples.specs.Errors.Lines.{StartsWithNoColon, StartsWithNoLevel, StartsLevel, level_at}
 use Rattle.examples.specs.declared.errors.Level.{Level}
 
 -- what is always kept leaves the kind that is promised
@@ -40,7 +40,7 @@ letter_read i j b level any is =
     (b, (any_ok (λ x. x) bytes_reading modal i b j any).tokens, is)
 
 pub letter_refused : (i a : Input ℕ) (b : ℕ) → AnyRuns (λ x. x) bytes_reading modal i (Ok b) a
-    → level_at b ≡ None → NoLevelStands i.left.tokens
+    → level_at b ≡ None → StartsWithNoLevel i.left.tokens
 letter_refused i a b any none level rest (c, splits, is) =
     let first : b ≡ c = same_first
     (sym (any_ok (λ x. x) bytes_reading modal i b a any).tokens ∙ splits) in
@@ -50,7 +50,7 @@ letter_refused i a b any none level rest (c, splits, is) =
 -- none was there
 pub letter_missing : (i : Input ℕ) (k : Kind) (j : Input ℕ) → i.status.cut ≡ false
     → AnyRuns (λ x. x) bytes_reading modal i (Err k) j
-    → (k ≡ backtrack) × NoLevelStands i.left.tokens × (j.left.tokens ≡ i.left.tokens)
+    → (k ≡ backtrack) × StartsWithNoLevel i.left.tokens × (j.left.tokens ≡ i.left.tokens)
 letter_missing i k j whole any =
     let none = any_err (λ x. x) bytes_reading modal i k j whole any in (
       none.kind,
@@ -74,7 +74,7 @@ colon_read x i j b ran is = (
 -- none was there
 pub colon_missing : (x : ℕ) (i : Input ℕ) (k : Kind) (j : Input ℕ) → i.status.cut ≡ false
     → LiteralRuns bytes_reading modal (λ xs. xs ≡ x ∷ []) (λ _. x) i (Err k) j → x ≡ 58
-    → (k ≡ backtrack) × NoColonStands i.left.tokens × (j.left.tokens ≡ i.left.tokens)
+    → (k ≡ backtrack) × StartsWithNoColon i.left.tokens × (j.left.tokens ≡ i.left.tokens)
 colon_missing x i k j whole ran is =
     let none = token_missing bytes_reading modal x (λ _. x) i k j whole ran in (
       none.kind,

@@ -8,10 +8,10 @@ use Rattle.std.specs.Int.{bytes_high_first}
 use Rattle.winnow.specs.Counted.{counted_reading}
 use Rattle.winnow.specs.Equal.{true_is_false}
 use Rattle.winnow.specs.Form.{modal}
-use Rattle.winnow.specs.Form.Known.{ok_is_err, same_kind}
+use Rattle.winnow.specs.Form.Inversion.{ok_is_err, same_kind}
 use Rattle.winnow.specs.Input.{Input}
 use Rattle.winnow.specs.Integer.{IntegerRuns, value_of}
-use Rattle.winnow.specs.Integer.Known.{integer_ok}
+use Rattle.winnow.specs.Integer.Inversion.{integer_ok}
 use Rattle.winnow.specs.Integer.Reads.{IntegerOf, IsValueOf, integer_reads, same_fronts}
 use Rattle.winnow.specs.Integer.Values.{value_of_fits}
 use Rattle.winnow.specs.Integer.Written.{be_written, length_written, written_value}
@@ -21,7 +21,7 @@ use Rattle.winnow.specs.Reads.{ReadsShown}
 use Rattle.winnow.specs.Runs.{Runs}
 use Rattle.winnow.specs.Short.{ShortKind}
 use Rattle.winnow.specs.Take.{TakeRuns}
-use Rattle.examples.specs.Frames.Frame.{BeginsFrameOf, IsPayload, Lacks, frame}
+use Rattle.examples.specs.Frames.Frame.{StartsFrameOf, IsPayload, Lacks, frame}
 
 -- what the parsers of the length and of a frame mean
 abbrev Length : Runs ⊤ ℕ ℕ
@@ -105,7 +105,7 @@ frame_missing s i k t j cut (inr (l, r, same, e)) =
 
 -- each frame that begins so has the bytes that are missing
 pub lacks_begins : (bytes : List ℕ) (missing : ℕ) → Lacks bytes missing
-    → (0 < missing) × BeginsFrameOf bytes (length bytes + missing)
+    → (0 < missing) × StartsFrameOf bytes (length bytes + missing)
 lacks_begins bytes missing (inl (few, as_many)) = (
   omega (arith, few, as_many),
   λ more payload rest fits begins. omega (

@@ -13,7 +13,7 @@ use Rattle.winnow.specs.Integer.Written.{length_written}
 use Rattle.std.specs.Int.{bytes_high_first}
 use Rattle.examples.specs.Frames.Held.{IsReady, capacity, held}
 use Rattle.examples.specs.declared.frames.frames.FrameBuffer.{FrameBuffer}
-use Rattle.examples.specs.Frames.Frame.{BeginsFrameOf, IsOneAtMost, IsPayload, ReadsFrames, frame}
+use Rattle.examples.specs.Frames.Frame.{StartsFrameOf, IsOneAtMost, IsPayload, ReadsFrames, frame}
 
 -- a write after the first bytes, seen as far as it goes
 pub behind_front : (a n : ℕ) (xs ys zs : List ℕ) → a ≤ length xs → n ≤ length ys
@@ -29,7 +29,7 @@ behind_front a n xs ys zs within fits =
 
 -- no more than is missing of a frame brings no second one
 pub one_more : (before read : List ℕ) (missing : ℕ) → length read ≤ missing
-    → BeginsFrameOf before (length before + missing) → IsOneAtMost (before ++ read)
+    → StartsFrameOf before (length before + missing) → IsOneAtMost (before ++ read)
 one_more before read missing few begun payload rest fits same =
     let least = begun read payload rest fits same in
     nil_from_length rest (omega (
@@ -60,7 +60,7 @@ frame_long payload =
 
 -- where nothing is held the bytes of a length are missing, for which there is room where a frame
 -- was
-pub nothing_held : (held : List ℕ) → held ≡ [] → BeginsFrameOf held 2
+pub nothing_held : (held : List ℕ) → held ≡ [] → StartsFrameOf held 2
 nothing_held held empty more payload rest fits begins = omega (arith, frame_long payload)
 
 pub room_of_frame : (b : FrameBuffer) (payload : List ℕ) → IsReady b → held b ≡ frame payload

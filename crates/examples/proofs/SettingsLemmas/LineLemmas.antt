@@ -9,18 +9,18 @@ use Rattle.winnow.specs.{Range}
 use Rattle.winnow.specs.Accumulator.{list_kept}
 use Rattle.winnow.specs.Equal.{none_is_some, same_some}
 use Rattle.winnow.specs.Form.{Answer}
-use Rattle.winnow.specs.Form.Known.{ok_is_err}
+use Rattle.winnow.specs.Form.Inversion.{ok_is_err}
 use Rattle.winnow.specs.Input.{Input}
 use Rattle.winnow.specs.Kind.{Kind, backtrack, memory}
 use Rattle.winnow.specs.RecoverableParse.{RecoverableParses}
-use Rattle.winnow.specs.RecoverableParse.Known.{no_error}
+use Rattle.winnow.specs.RecoverableParse.Inversion.{no_error}
 use Rattle.winnow.specs.Recovery.{CanRecover, IsNotRecovered, IsRecovered, Recovery}
 use Rattle.winnow.specs.Repeat.{RangedRuns}
-use Rattle.winnow.specs.Repeat.Known.{Items, repeat_any_ok, repeated_by, repeated_list}
+use Rattle.winnow.specs.Repeat.Inversion.{Items, repeat_any_ok, repeated_by, repeated_list}
 use Rattle.winnow.specs.ResumeAfter.{ResumeAfterRuns}
-use Rattle.winnow.specs.ResumeAfter.Known.{resume_after_none, resume_after_some}
+use Rattle.winnow.specs.ResumeAfter.Inversion.{resume_after_none, resume_after_some}
 use Rattle.winnow.specs.RetryAfter.{RetryAfterRuns}
-use Rattle.winnow.specs.RetryAfter.Known.{RecordNothing}
+use Rattle.winnow.specs.RetryAfter.Inversion.{RecordNothing}
 use Rattle.winnow.specs.Runs.{Runs}
 use Rattle.examples.specs.Settings.Lines.{LinesAnswer, LinesRead, any_number, faults}
 

@@ -4,7 +4,7 @@ use Rattle.std.specs.Borrow.{Bor}
 use Rattle.winnow.specs.AsChar.{IsAlpha, IsDecDigit}
 use Rattle.winnow.specs.Counted.{counted_reading}
 use Rattle.winnow.specs.Says.Whole.{IsFaultBefore}
-use Rattle.winnow.specs.Grammar.{Class, Each, Grammar, NoneStands}
+use Rattle.winnow.specs.Grammar.{Class, Each, Grammar, NoMatch}
 use Rattle.winnow.specs.Kind.{Kind}
 use Rattle.winnow.specs.{Needed, ParseFault}
 
@@ -36,7 +36,7 @@ AreLines tokens rest = (us : List (Unit {0})) × Each Line tokens us rest
 
 -- after a name and an equals sign no digit is
 abbrev pub NoValue : List ℕ → List ℕ → Type 0
-NoValue tokens rest = (name : Bor (List ℕ)) × Name tokens name (61 ∷ rest) × NoneStands Digits rest
+NoValue tokens rest = (name : Bor (List ℕ)) × Name tokens name (61 ∷ rest) × NoMatch Digits rest
 
 -- After lines a value lacks, at the rest.
 abbrev pub LacksValue : List ℕ → List ℕ → Type 0
@@ -46,13 +46,13 @@ LacksValue tokens rest = (mid : List ℕ) × AreLines tokens mid × NoValue mid 
 -- a line nor with a name whose value is missing.
 abbrev pub NoLine : List ℕ → List ℕ → Type 0
 NoLine tokens rest =
-    AreLines tokens rest × NoneStands Line rest × ((end : List ℕ) → NoValue rest end → ⊥)
+    AreLines tokens rest × NoMatch Line rest × ((end : List ℕ) → NoValue rest end → ⊥)
     × (rest ≡ [] → ⊥)
 
--- `IsTold inner_kind text result`: `result` is that of checking `text`. It is `Ok` only for lines.
--- An error is at the byte where a value is missing, or where the first invalid line begins. Lines
--- have no error, and a missing value has that error.
-pub record IsTold {I X : Type 0} (inner_kind : X → Kind) (text : List ℕ)
+-- `IsErrorOfLines inner_kind text result`: `result` is that of checking `text`. It is `Ok` only for
+-- lines. An error is at the byte where a value is missing, or where the first invalid line begins.
+-- Lines have no error, and a missing value has that error.
+pub record IsErrorOfLines {I X : Type 0} (inner_kind : X → Kind) (text : List ℕ)
     (result : Result (Unit {0}) (ParseFault I X Needed)) : Type 0 where
   pub lines : IfOk result (λ o. AreLines text [])
   pub all : AreLines text [] → IfErr result (λ fault. ⊥)

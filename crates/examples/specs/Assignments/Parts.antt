@@ -4,13 +4,13 @@ use Rattle.std.specs.Prelude.{None, IsTrue, ◌↔◌}
 use Rattle.std.specs.Borrow.{Bor}
 use Rattle.std.proofs.Common.{refl, sym, ap, subst, inl, inr, ◌∙◌, arith}
 use Rattle.std.proofs.lemmas.List.Elements.{All-cons, All-nil}
-use Rattle.winnow.specs.Compare.{StandsFirst}
+use Rattle.winnow.specs.Compare.{StartsWithSpelling}
 use Rattle.winnow.specs.Class.Laws.{class_takes, one_is_some}
 use Rattle.winnow.specs.Class.Says.{class_said, class_says}
 use Rattle.winnow.specs.Counted.{counted_reading}
 use Rattle.winnow.specs.Equal.{none_is_some, same_first, true_is_false}
-use Rattle.winnow.specs.Grammar.{Class, Grammar, Literally, Longest, NoneStands, TakesTokens}
-use Rattle.winnow.specs.Grammar.Known.{Byte, byte_stands, stands_byte}
+use Rattle.winnow.specs.Grammar.{Class, Grammar, Literally, Longest, NoMatch, TakesTokens}
+use Rattle.winnow.specs.Grammar.Inversion.{Byte, byte_stands, stands_byte}
 use Rattle.winnow.specs.Literal.Says.{literal_says}
 use Rattle.winnow.specs.Longest.{IsLongest}
 use Rattle.winnow.specs.Outcome.{Does, Outcome, Setting, took, backs, cuts, asks, wants}
@@ -100,7 +100,7 @@ empty class tokens none = record {
 }
 
 longer : (class : ℕ → Type 0) (x : ℕ) → class x → (more front rest : List ℕ)
-    → IsLongest (Member class) None more front rest → NoneStands (Class1 class) (x ∷ more) → ⊥
+    → IsLongest (Member class) None more front rest → NoMatch (Class1 class) (x ∷ more) → ⊥
 unfolding Longest
 longer class x is more front rest l none =
     let some : IsLongest (Member class) None (x ∷ more) (x ∷ front) rest = record {
@@ -115,7 +115,7 @@ longer class x is more front rest l none =
     } in
     none (record { ref_ptr = (0, 0); now = x ∷ front }) rest (x ∷ front, some, omega arith, refl)
 
-not_first : (class : ℕ → Type 0) (tokens : List ℕ) → NoneStands (Class1 class) tokens
+not_first : (class : ℕ → Type 0) (tokens : List ℕ) → NoMatch (Class1 class) tokens
     → (x : ℕ) (more : List ℕ) → tokens ≡ x ∷ more → class x → ⊥
 unfolding Longest
 not_first class [] none x more e is = absurd (cc)
@@ -131,7 +131,7 @@ module _ (at : Setting) (whole : at.more ≡ false) where
   class_there class tokens o rest (f, longest, enough, shown) =
       inr (tt, inr (inl (o, rest, (f, longest, inr whole, enough, shown), refl)))
 
-  pub class_fails : (class : ℕ → Type 0) (tokens : List ℕ) → NoneStands (Class1 class) tokens
+  pub class_fails : (class : ℕ → Type 0) (tokens : List ℕ) → NoMatch (Class1 class) tokens
       → (class1 class).does at tokens (backs tokens)
   class_fails class tokens none =
       let longest = empty class tokens (not_first class tokens none) in
@@ -139,13 +139,13 @@ module _ (at : Setting) (whole : at.more ≡ false) where
 
   pub class_back : (class : ℕ → Type 0) {cut : List ℕ → Type 0} (tokens : List ℕ)
       → Gives (class1 class).does at tokens (Class1 class tokens)
-      (λ place. (tokens ≡ place) × NoneStands (Class1 class) place) cut
+      (λ place. (tokens ≡ place) × NoMatch (Class1 class) place) cut
   unfolding Longest
   class_back class {cut} tokens = record { gives = by }
     where
       Is : Outcome ℕ (Bor (List ℕ)) → Type 0
       Is = Known (Class1 class tokens)
-          (λ place. (tokens ≡ place) × NoneStands (Class1 class) place) cut
+          (λ place. (tokens ≡ place) × NoMatch (Class1 class) place) cut
 
       by : (y : Outcome ℕ (Bor (List ℕ))) → (class1 class).does at tokens y → Is y
       by y (inl ((most, is, below), e)) = none_is_some is
@@ -156,7 +156,7 @@ module _ (at : Setting) (whole : at.more ≡ false) where
           let law = (class_said class 1 (λ b. b) (λ b. b) counted_reading).law (λ k l e. e) in
           let here : (class1 class).does at tokens (backs tokens) =
           inr (within, inr (inr (lacks, refl))) in
-          let none : NoneStands (Class1 class) tokens = λ o rest x.
+          let none : NoMatch (Class1 class) tokens = λ o rest x.
           law.one at tokens (backs tokens) (took o rest) here
           (class_there class tokens o rest x) in
           subst Is (sym e) (refl, none)
@@ -165,10 +165,10 @@ module _ (at : Setting) (whole : at.more ≡ false) where
   unfolding Literally
   byte_there b rest = inl (b, rest, stands_byte b (b ∷ rest) rest refl, refl)
 
-  pub byte_fails : (b : ℕ) (tokens : List ℕ) → NoneStands (Byte b) tokens
+  pub byte_fails : (b : ℕ) (tokens : List ℕ) → NoMatch (Byte b) tokens
       → (byte1 b).does at tokens (backs tokens)
   byte_fails b tokens none =
-      let other : StandsFirst (λ xs. xs ≡ b ∷ []) tokens → ⊥ = λ (front, rest, is, e).
+      let other : StartsWithSpelling (λ xs. xs ≡ b ∷ []) tokens → ⊥ = λ (front, rest, is, e).
       none b rest (stands_byte b tokens rest (e ∙ ap (λ l. l ++ rest) is)) in
       inr (inr ((other, λ short. whole), refl))
 

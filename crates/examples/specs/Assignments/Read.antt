@@ -4,7 +4,8 @@ use Rattle.std.specs.Prelude.{◌≡◌, ◌<◌, ⊤, ℕ, false, List, [], ◌
 use Rattle.std.specs.Prelude.{Result, Ok, Err}
 use Rattle.std.specs.List.{FoldsTo}
 use Rattle.std.proofs.Common.{refl, sym, ap, subst, inl, inr, ◌∙◌, arith}
-use Rattle.examples.specs.Assignments.Assignments.{AreLines, Digits, IsFlag, IsSetting, IsTold}
+use Rattle.examples.specs.Assignments.Assignments.{AreLines, Digits, IsFlag, IsSetting}
+use Rattle.examples.specs.Assignments.Assignments.{IsErrorOfLines}
 use Rattle.examples.specs.Assignments.Assignments.{LacksValue, Line, Name, NoValue}
 use Rattle.examples.specs.Assignments.Parts.{byte1, class1, Gives, Known, after, byte_back}
 use Rattle.examples.specs.Assignments.Parts.{byte_fails, byte_there, class_back, class_fails}
@@ -20,8 +21,8 @@ use Rattle.winnow.specs.Counted.{counted_reading}
 use Rattle.winnow.specs.CutErr.Says.{cut_err_said}
 use Rattle.winnow.specs.Equal.{none_is_some, same_first}
 use Rattle.winnow.specs.Form.{ErrorForm}
-use Rattle.winnow.specs.Grammar.{Each, NoneStands}
-use Rattle.winnow.specs.Grammar.Known.{byte_stands}
+use Rattle.winnow.specs.Grammar.{Each, NoMatch}
+use Rattle.winnow.specs.Grammar.Inversion.{byte_stands}
 use Rattle.winnow.specs.Input.{Input}
 use Rattle.winnow.specs.Kind.{Kind}
 use Rattle.winnow.specs.Literal.Says.{literal_said}
@@ -59,7 +60,7 @@ fewer tokens u rest (inr (name, x)) =
 -- Lines, and then the rest, which starts neither with a line nor with a missing value.
 abbrev EndsLines : List ℕ → List ℕ → Type 0
 EndsLines tokens rest =
-    AreLines tokens rest × NoneStands Line rest × ((end : List ℕ) → NoValue rest end → ⊥)
+    AreLines tokens rest × NoMatch Line rest × ((end : List ℕ) → NoValue rest end → ⊥)
 
 module _ (at : Setting) (whole : at.more ≡ false) where
   -- ---- one line
@@ -155,7 +156,7 @@ module _ (at : Setting) (whole : at.more ≡ false) where
           absurd (none (fewer mid u rest ((line_back mid).gives (took u rest) d)))
       ends us mid each (took u rest) y d (inr (less, (some, gathered, grows), e)) = absurd grows
       ends us mid each (backs place) y d (inl (enough, (all, gathered, e))) =
-          let none : NoneStands Line mid = λ u rest x.
+          let none : NoMatch Line mid = λ u rest x.
           line_law.one at mid (backs place) (took u rest) d (line_there mid u rest x) in
           let valued : (end : List ℕ) → NoValue mid end → ⊥ = λ end x.
           line_law.one at mid (backs place) (cuts end) d (lacks_there mid end x) in
@@ -182,7 +183,7 @@ module _ (at : Setting) (whole : at.more ≡ false) where
       → Known (λ _ rest. EndsLines text rest) (λ _. ⊥) (LacksValue text) x
       → (AreLines text [] → Alike (LinesSay line1).alike x (took tt []))
       → ((end : List ℕ) → LacksValue text end → Alike (LinesSay line1).alike x (cuts end))
-      → IsParseOf length inner_kind text x result → IsTold inner_kind text result
+      → IsParseOf length inner_kind text x result → IsErrorOfLines inner_kind text result
   parsed_by inner_kind text (Ok p) (took o rest) is all lacks (same, end) = record {
     lines = subst (AreLines text) end is.0;
     all = λ lines. tt;
@@ -214,7 +215,7 @@ taken (u ∷ us) = (tt, tt, taken us)
 pub lines_told : {I X : Type 0} (inner_kind : X → Kind) (form : ErrorForm) (i : Input ℕ)
     → i.status.cut ≡ false → (result : Result (Unit {0}) (ParseFault I X Needed))
     → TellsAll length inner_kind (LinesSay line1) form i result
-    → IsTold inner_kind i.left.tokens result
+    → IsErrorOfLines inner_kind i.left.tokens result
 lines_told inner_kind form i whole result all =
     let at = setting_of form i in
     let text = i.left.tokens in

@@ -4,7 +4,7 @@ use Rattle.std.specs.Borrow.{Bor}
 use Rattle.std.specs.declared.vec.Vec.{Vec}
 use Rattle.std.proofs.Common.{inl}
 use Rattle.winnow.specs.Grammar.{Gathered, Grammar, IsUnique, Many, Never, TakesTokens, Three}
-use Rattle.winnow.specs.Grammar.Known.{Byte, byte_takes, byte_unique}
+use Rattle.winnow.specs.Grammar.Inversion.{Byte, byte_takes, byte_unique}
 use Rattle.winnow.specs.Grammar.Meaning.{Meaning, meaning_takes, meaning_unique}
 use Rattle.winnow.specs.Grammar.Sequences.{three_take, three_unique}
 use Rattle.winnow.specs.Grammar.Unique.{gathered_unique, many_unique}

@@ -5,7 +5,7 @@ use Rattle.examples.specs.Color.Color.{Color, Pair, Slice}
 use Rattle.winnow.specs.AsChar.{IsHexDigit}
 use Rattle.winnow.specs.Counted.{counted_reading}
 use Rattle.winnow.specs.Grammar.{Both, Grammar, InClass, Longest, Three}
-use Rattle.winnow.specs.Grammar.Known.{Byte}
+use Rattle.winnow.specs.Grammar.Inversion.{Byte}
 use Rattle.winnow.specs.Range.{from_to}
 use Rattle.winnow.specs.Reading.{Reading}
 use Rattle.winnow.specs.Texts.{Anything, IsGrammarOf}

@@ -21,13 +21,13 @@ abbrev pub StartsLevel : List ℕ → Level → List ℕ → Type 0
 StartsLevel bytes level rest =
     (letter : ℕ) × (bytes ≡ letter ∷ rest) × (level_at letter ≡ Some level)
 
--- `NoLevelStands bytes`: `bytes` does not start with the letter of a level.
-abbrev pub NoLevelStands : List ℕ → Type 0
-NoLevelStands bytes = (level : Level) (rest : List ℕ) → StartsLevel bytes level rest → ⊥
+-- `StartsWithNoLevel bytes`: `bytes` does not start with the letter of a level.
+abbrev pub StartsWithNoLevel : List ℕ → Type 0
+StartsWithNoLevel bytes = (level : Level) (rest : List ℕ) → StartsLevel bytes level rest → ⊥
 
--- `NoColonStands bytes`: `bytes` does not start with a colon.
-abbrev pub NoColonStands : List ℕ → Type 0
-NoColonStands bytes = (rest : List ℕ) → bytes ≡ 58 ∷ rest → ⊥
+-- `StartsWithNoColon bytes`: `bytes` does not start with a colon.
+abbrev pub StartsWithNoColon : List ℕ → Type 0
+StartsWithNoColon bytes = (rest : List ℕ) → bytes ≡ 58 ∷ rest → ⊥
 
 -- The kind of an error: out of memory, or a backtrack for all others.
 abbrev pub line_kind : LineError → Kind

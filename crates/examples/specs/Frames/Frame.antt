@@ -16,10 +16,10 @@ frame payload = bytes_high_first 2 (length payload) ++ payload
 abbrev pub IsFrame : List ℕ → Type 0
 IsFrame bytes = (payload : List ℕ) × IsPayload payload × (bytes ≡ frame payload)
 
--- `BeginsFrameOf bytes least`: every frame at the start of an extension of `bytes` has at least
+-- `StartsFrameOf bytes least`: every frame at the start of an extension of `bytes` has at least
 -- `least` bytes.
-abbrev pub BeginsFrameOf : List ℕ → ℕ → Type 0
-BeginsFrameOf bytes least = (more payload rest : List ℕ) → IsPayload payload
+abbrev pub StartsFrameOf : List ℕ → ℕ → Type 0
+StartsFrameOf bytes least = (more payload rest : List ℕ) → IsPayload payload
     → bytes ++ more ≡ frame payload ++ rest → least ≤ length (frame payload)
 
 -- Of the frame that the bytes begin that many are missing: those of its length, as long as it is

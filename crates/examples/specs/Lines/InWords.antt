@@ -5,8 +5,8 @@ use Rattle.std.proofs.Common.{sym, inl, inr, arith}
 use Rattle.std.proofs.lemmas.List.Elements.{same_from_all_zip}
 use Rattle.examples.specs.Lines.Lines.{AreLines, IsLine, letter_unique, same_line, unique_line}
 use Rattle.winnow.specs.Grammar.{Either}
-use Rattle.winnow.specs.Grammar.Known.{Byte}
-use Rattle.winnow.specs.Texts.{Anything, BeginsIn, BothText, EachText, EitherText, InList}
+use Rattle.winnow.specs.Grammar.Inversion.{Byte}
+use Rattle.winnow.specs.Texts.{Anything, TextsStartWith, BothText, EachText, EitherText, InList}
 use Rattle.winnow.specs.Texts.{IsGrammarOf, Itself, NotFirst, Text}
 use Rattle.winnow.specs.Back.{IsUnambiguous, among_one, in_list_one, never_both}
 use Rattle.winnow.specs.Back.{one_weaker, row_one, spelled_one, then_one}
@@ -45,7 +45,7 @@ letter_of = either_apart (byte_of 121) (byte_of 110) (spelled_begins 121 [] 121)
 line_of : IsGrammarOf IsLine LetterLine Anything
 line_of = same_of same_line (both_of (λ o1 o2. o1) letter_of (byte_of 10) front_any)
 
-line_begins : BeginsIn IsLetter LetterLine
+line_begins : TextsStartWith IsLetter LetterLine
 line_begins = both_front (λ o1 o2. o1)
     (either_front (begins_wider (λ t e. inl e) (spelled_begins 121 [] 121))
     (begins_wider (λ t e. inr e) (spelled_begins 110 [] 110))) front_any

@@ -12,8 +12,8 @@ use Rattle.winnow.specs.Exact.{Reads}
 use Rattle.winnow.specs.Grammar.Same.{Same, takes_as, unique_as}
 use Rattle.winnow.specs.Exact.Same.{reads_as}
 use Rattle.winnow.specs.Grammar.{Both, Either, Grammar, IsUnique, Repeated, TakesTokens}
-use Rattle.winnow.specs.Grammar.Known.{Byte, Listed, byte_stands, byte_takes, byte_unique}
-use Rattle.winnow.specs.Grammar.Known.{repeated_list, stands_byte}
+use Rattle.winnow.specs.Grammar.Inversion.{Byte, Listed, byte_stands, byte_takes, byte_unique}
+use Rattle.winnow.specs.Grammar.Inversion.{repeated_list, stands_byte}
 use Rattle.winnow.specs.Grammar.Unique.{both_take, both_unique, either_unique}
 
 -- a line: a `y` or an `n`, and a line feed

@@ -16,9 +16,9 @@ use Rattle.winnow.specs.Range.{from_to}
 use Rattle.winnow.specs.Exact.{Reads}
 use Rattle.winnow.specs.Numeral.Exact.{decimal_takes, decimal_unique}
 use Rattle.winnow.specs.Read.{reads_former, reads_other}
-use Rattle.winnow.specs.Grammar.{Either, Gathered, Grammar, IsUnique, Made, NoneStands, Parted}
+use Rattle.winnow.specs.Grammar.{Either, Gathered, Grammar, IsUnique, Made, NoMatch, Parted}
 use Rattle.winnow.specs.Grammar.{TakesTokens, Three}
-use Rattle.winnow.specs.Grammar.Known.{Byte, byte_stands, byte_takes, byte_unique}
+use Rattle.winnow.specs.Grammar.Inversion.{Byte, byte_stands, byte_takes, byte_unique}
 use Rattle.winnow.specs.Grammar.Meaning.{Meaning, meaning_takes, meaning_unique}
 use Rattle.winnow.specs.Numeral.Grammar.{Decimal}
 use Rattle.winnow.specs.Grammar.Sequences.{three_take, three_unique}
@@ -26,7 +26,7 @@ use Rattle.winnow.specs.Grammar.Unique.{either_takes, either_unique, gathered_un
 use Rattle.winnow.specs.Grammar.Unique.{parted_unique}
 use Rattle.winnow.specs.Texts.{NotFirst}
 use Rattle.winnow.specs.Decimal.{IsDecimalOf}
-use Rattle.winnow.specs.Digits.Known.{same_characters}
+use Rattle.winnow.specs.Digits.Inversion.{same_characters}
 use Rattle.examples.specs.declared.nested.Tree.{Tree}
 use Rattle.examples.specs.declared.nested.Tree as trees
 
@@ -108,7 +108,7 @@ module _ {A : Type 0} where
 
 module _ {A : Type 0} where
   -- no number begins with a bracket
-  no_leaf : (bytes : List ℕ) → Opens bytes → NoneStands (IsLeaf {A = A}) bytes
+  no_leaf : (bytes : List ℕ) → Opens bytes → NoMatch (IsLeaf {A = A}) bytes
   unfolding Made Decimal
   no_leaf bytes (more, first) tree rest (n, (front, digits, e, chars, is, stops, fits), same) =
       let P : List ℕ → Type 0 = λ l. bytes ≡ l ++ rest in
@@ -120,7 +120,7 @@ module _ {A : Type 0} where
 
   -- no brackets begin with another byte
   no_branch : (element : Grammar ℕ (Tree A)) (bytes : List ℕ) → NotFirst (λ b. b ≡ 91) bytes
-      → NoneStands (Meaning IsBranchOf (AreElements element (Byte 91) (Byte 44) (Byte 93))) bytes
+      → NoMatch (Meaning IsBranchOf (AreElements element (Byte 91) (Byte 44) (Byte 93))) bytes
   unfolding Made Three
   no_branch element bytes other tree rest (list, (o1, o2, o3, a, b, x, y, z, e), is) =
       let P : List ℕ → Type 0 = λ l. NotFirst (λ c. c ≡ 91) l in

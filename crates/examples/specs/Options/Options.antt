@@ -16,7 +16,7 @@ use Rattle.winnow.specs.Sequence.Says.{sequence2_says}
 use Rattle.winnow.specs.AsChar.{IsAlpha, IsAlphanum}
 use Rattle.winnow.specs.Range.{Bounds, from_to}
 use Rattle.winnow.specs.Grammar.{Both, Class, Gathered, Grammar, Optional, Parted, Three}
-use Rattle.winnow.specs.Grammar.Known.{Byte}
+use Rattle.winnow.specs.Grammar.Inversion.{Byte}
 
 module _ {T O : Type 0} (literal : ℕ → Grammar T ℕ) (option : Grammar T O) where
   -- Options with commas between them, in brackets, as many as match.

@@ -5,8 +5,8 @@ use Rattle.winnow.specs.{Range}
 use Rattle.winnow.specs.Input.{Input}
 use Rattle.winnow.specs.Kind.{Kind, backtrack}
 use Rattle.winnow.specs.Runs.{Runs}
-use Rattle.winnow.specs.Repeat.Known.{Items}
-use Rattle.winnow.specs.RecoverableParse.{ComesBack, ComesBackWith}
+use Rattle.winnow.specs.Repeat.Inversion.{Items}
+use Rattle.winnow.specs.RecoverableParse.{ResetsWithErrors, ComesBackWith}
 
 -- none or more
 abbrev pub any_number : Range
@@ -40,5 +40,5 @@ abbrev pub LinesAnswer : {Q I T O R : Type 0} → (I → Input T) → (R → Kin
     → Q → Input T → I → List (Option O) → List R → Type 0
 LinesAnswer {Q} {I} {T} view kind line s start back outputs errors =
     (kinds : List Kind) × (j : Input T) × LinesRead line s start outputs kinds j
-    × (((j.left.tokens ≡ []) × ComesBack view kind start j back errors)
+    × (((j.left.tokens ≡ []) × ResetsWithErrors view kind start j back errors)
     ⊎ ((j.left.tokens ≡ [] → ⊥) × ComesBackWith view kind start j backtrack back errors))

@@ -5,10 +5,10 @@ use Rattle.std.proofs.Common.{refl, arith}
 use Rattle.examples.specs.SettingsFile.Settings.{InKey, InValue, Line, Setting, Settings}
 use Rattle.winnow.specs.Counted.{counted_reading}
 use Rattle.winnow.specs.Grammar.{Both, Class, Gathered, Grammar, Many, Three}
-use Rattle.winnow.specs.Grammar.Known.{Byte}
+use Rattle.winnow.specs.Grammar.Inversion.{Byte}
 use Rattle.winnow.specs.Range.{from_to}
 use Rattle.winnow.specs.Reading.{Reading}
-use Rattle.winnow.specs.Texts.{Anything, BeginsIn, IsGrammarOf, Members, NotFirst}
+use Rattle.winnow.specs.Texts.{Anything, TextsStartWith, IsGrammarOf, Members, NotFirst}
 use Rattle.winnow.specs.Texts.Fronts.{both_front, front_any, front_begins, members_begin}
 use Rattle.winnow.specs.Texts.Fronts.{none_begins, spelled_begins}
 use Rattle.winnow.specs.Texts.Parts.{both_of, three_of}
@@ -58,7 +58,7 @@ line_of : IsGrammarOf (LineRead counted_reading (λ b. b) Byte) Line Anything
 line_of = both_of (λ setting feed. setting) setting_of (byte_of 10)
     (front_begins (λ b is value. value is) (spelled_begins 10 [] 10))
 
-line_begins : BeginsIn InKey Line
+line_begins : TextsStartWith InKey Line
 line_begins = both_front (λ setting feed. setting) (both_front (λ key value. (key, value))
     (members_begin counted_reading InKey 1 (omega arith)) front_any) front_any
 

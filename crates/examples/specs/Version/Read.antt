@@ -7,13 +7,14 @@ use Rattle.examples.specs.Version.Version.{InWord, Number, Numbers, Slice, Versi
 use Rattle.winnow.specs.AsChar.{IsAlphanum, IsDecDigit}
 use Rattle.winnow.specs.Counted.{counted_reading}
 use Rattle.winnow.specs.Grammar.{Both, Class, Gathered, Grammar, Optional, Parted, Three}
-use Rattle.winnow.specs.Grammar.Known.{Byte}
+use Rattle.winnow.specs.Grammar.Inversion.{Byte}
 use Rattle.winnow.specs.Grammar.Same.{same_sym}
 use Rattle.winnow.specs.Numeral.Grammar.{Decimal}
-use Rattle.winnow.specs.Numeral.Grammar.Known.{NoDigitFirst, Written, same_written}
+use Rattle.winnow.specs.Numeral.Grammar.Inversion.{NoDigitFirst, Written, same_written}
 use Rattle.winnow.specs.Range.{from_to}
 use Rattle.winnow.specs.Reading.{Reading}
-use Rattle.winnow.specs.Texts.{Anything, AtEnd, BeginsIn, BothText, InFront, IsGrammarOf, Itself}
+use Rattle.winnow.specs.Texts.{Anything, AtEnd, TextsStartWith, BothText, InFront, IsGrammarOf}
+use Rattle.winnow.specs.Texts.{Itself}
 use Rattle.winnow.specs.Texts.{Members, NotFirst, OptionalText}
 use Rattle.winnow.specs.Texts.Fronts.{both_front, front_any, front_begins, front_may}
 use Rattle.winnow.specs.Texts.Fronts.{may_begin_none, none_begins, optional_front, spelled_begins}
@@ -99,7 +100,7 @@ abbrev Rest : {A : Type 0} → Option (Vec Slice A) → List ℕ → Type 0
 Rest {A} = OptionalText (BothText (λ hyphen words. words) (Itself 45) (Words {A = A}))
 
 hyphen_begins : {A : Type 0}
-    → BeginsIn (λ b. b ≡ 45) (BothText (λ hyphen words. words) (Itself 45) (Words {A = A}))
+    → TextsStartWith (λ b. b ≡ 45) (BothText (λ hyphen words. words) (Itself 45) (Words {A = A}))
 hyphen_begins = both_front (λ hyphen words. words) (spelled_begins 45 [] 45) front_any
 
 rest_of : {A : Type 0} → IsGrammarOf (Optional (Both (λ hyphen words. words) (Byte 45)

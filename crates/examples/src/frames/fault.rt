@@ -3,12 +3,12 @@
 /// Why there is no frame.
 ///
 /// ```
-/// use examples::frames::fault::FrameFault;
+/// use examples::frames::fault::FrameError;
 ///
-/// assert!(rt; FrameFault::TooLong != FrameFault::EndsWithin);
+/// assert!(rt; FrameError::TooLong != FrameError::EndsWithin);
 /// ```
 #[derive(Clone, Copy, Debug, PartialEq, Eq)]
-pub enum FrameFault {
+pub enum FrameError {
     /// The frame is longer than the buffer.
     TooLong,
     /// The source ended within a frame.

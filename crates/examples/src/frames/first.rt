@@ -3,7 +3,7 @@
 
 ghost use Rattle.std.specs.Prelude.{◌≡◌, ◌<◌, ◌+◌, ◌++◌, List, ℕ, length, IfOk, IfErr, Some};
 ghost use Rattle.winnow.specs.Kind.{incomplete};
-ghost use Rattle.examples.specs.Frames.Frame.{BeginsFrameOf, IsPayload, Lacks, frame};
+ghost use Rattle.examples.specs.Frames.Frame.{StartsFrameOf, IsPayload, Lacks, frame};
 
 use winnow::binary::impls::{BeU16, LengthTake};
 use winnow::binary::length_take;
@@ -48,7 +48,7 @@ pub fn first_frame(bytes: &[u8]) -> Result<usize, usize>
         × IsPayload payload × (n ≡ length payload) × (bytes.now ≡ frame payload ++ rest)) }
     ensures missing { IfErr result (λ n. Lacks bytes.now n) }
     ensures some { IfErr result (λ n. 0 < n) }
-    ensures begun { IfErr result (λ n. BeginsFrameOf bytes.now (length bytes.now + n)) }
+    ensures begun { IfErr result (λ n. StartsFrameOf bytes.now (length bytes.now + n)) }
 {
     let mut input = Partial::new(bytes);
     let answer: Result<&[u8], ErrMode<EmptyError>> = parser().parse_next(&mut input);

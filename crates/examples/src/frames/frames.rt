@@ -26,7 +26,7 @@ ghost use Rattle.examples.specs.Frames.Fault.{Explains, Stops};
 ghost use Rattle.examples.specs.Frames.Frame.{IsFrame, IsPayload, ReadsFrames, frame};
 ghost use Rattle.examples.specs.Frames.Held.{IsReady, capacity, held};
 
-use crate::frames::fault::FrameFault;
+use crate::frames::fault::FrameError;
 use crate::frames::refill;
 use std::alloc::Allocator;
 use std::io::Read;
@@ -68,11 +68,11 @@ impl<'b> FrameBuffer<'b> {
     ///
     /// The bytes that were read stay in the buffer, also after an error:
     ///
-    /// - [`TooLong`](FrameFault::TooLong) if a payload does not fit, before any byte of it is read;
-    /// - [`EndsWithin`](FrameFault::EndsWithin) if the source ended within a frame;
-    /// - [`Unreadable`](FrameFault::Unreadable) if the source could not be read, although the
+    /// - [`TooLong`](FrameError::TooLong) if a payload does not fit, before any byte of it is read;
+    /// - [`EndsWithin`](FrameError::EndsWithin) if the source ended within a frame;
+    /// - [`Unreadable`](FrameError::Unreadable) if the source could not be read, although the
     ///   missing bytes have room. Another call then resumes.
-    pub fn fill<R: Read>(&mut self, source: &mut R) -> Result<bool, FrameFault>
+    pub fn fill<R: Read>(&mut self, source: &mut R) -> Result<bool, FrameError>
         requires { IsReady self.old }
         ensures ready { IsReady self.new }
         ensures capacity { capacity self.new ≡ capacity self.old }
@@ -125,29 +125,29 @@ fn keep<A: Allocator + Copy>(
     alloc: A,
     payload: &[u8],
     payloads: &mut Vec<Vec<u8, A>, A>,
-) -> Result<(), FrameFault>
+) -> Result<(), FrameError>
     ensures kept { OnOk result (map (λ p. p.items) payloads.new.items
         ≡ map (λ p. p.items) payloads.old.items ++ payload.now ∷ []) }
     ensures refused { OnErr result (payloads.new.items ≡ payloads.old.items) }
-    ensures fault { IfErr result (λ fault. fault ≡ FrameFault.NoMemory) }
+    ensures fault { IfErr result (λ fault. fault ≡ FrameError.NoMemory) }
     ensures wants { OnErr result ((0 < length payload.now)
         ⊎ (vec_capacity payloads.old ≤ vec_len payloads.new)) }
     ensures room { vec_capacity payloads.old ≤ vec_capacity payloads.new }
 {
     let mut copy = Vec::new(alloc);
     if copy.extend_from_slice(payload).is_err() {
-        return Err(FrameFault::NoMemory);
+        return Err(FrameError::NoMemory);
     }
     match payloads.push(copy) {
         Ok(()) => Ok(()),
-        Err(_) => Err(FrameFault::NoMemory),
+        Err(_) => Err(FrameError::NoMemory),
     }
 }
 
 /// Reads frames to the end of a source, and appends their payloads.
 ///
 /// After an error, the list has the payloads before it, and the buffer has the bytes that were read
-/// after them. For [`NoMemory`](FrameFault::NoMemory) that is the frame whose payload could not be
+/// after them. For [`NoMemory`](FrameError::NoMemory) that is the frame whose payload could not be
 /// stored. An empty payload allocates only if the original room of the list is used up. The other
 /// errors are those of [`FrameBuffer::fill`].
 ///
@@ -166,7 +166,7 @@ pub fn read_frames<R: Read, A: Allocator + Copy>(
     source: &mut R,
     buffer: &mut FrameBuffer<'_>,
     payloads: &mut Vec<Vec<u8, A>, A>,
-) -> Result<(), FrameFault>
+) -> Result<(), FrameError>
     requires { IsReady buffer.old }
     ensures ready { IsReady buffer.new }
     ensures frames { ReadsFrames (map (λ p. p.items) payloads.old.items)
@@ -184,5 +184,5 @@ pub fn read_frames<R: Read, A: Allocator + Copy>(
         keep(alloc, buffer.payload(), payloads)?;
         buffer.consume();
     }
-    Err(FrameFault::Unreadable)
+    Err(FrameError::Unreadable)
 }

@@ -7,7 +7,7 @@ ghost use Rattle.std.specs.Io.KnownBytes.{Consumes, IsAtEnd};
 ghost use Rattle.examples.specs.Frames.Fault.{Stops};
 ghost use Rattle.examples.specs.Frames.Frame.{IsFrame, IsOneAtMost};
 
-use crate::frames::fault::FrameFault;
+use crate::frames::fault::FrameError;
 use crate::frames::first::first_frame;
 use std::io::{ErrorKind, Read};
 
@@ -18,7 +18,7 @@ fn read_missing<R: Read>(
     bytes: &mut [u8],
     filled: usize,
     missing: usize,
-) -> Result<usize, FrameFault>
+) -> Result<usize, FrameError>
     requires room { filled + missing ≤ length bytes.old }
     requires some { 0 < missing }
     ensures bytes { (read : List ℕ)
@@ -26,19 +26,19 @@ fn read_missing<R: Read>(
         × Consumes (R.remaining source.old) (R.remaining source.new) read
         × MatchResult result (λ n. (n ≡ length read) × (n ≤ missing)) (λ _. read ≡ []) }
     ensures end { IfOk result (λ n. n ≡ 0 → IsAtEnd (R.remaining source.new)) }
-    ensures fault { IfErr result (λ fault. fault ≡ FrameFault.Unreadable) }
+    ensures fault { IfErr result (λ fault. fault ≡ FrameError.Unreadable) }
 {
     for _ in 0..u64::MAX {
         match source.read(&mut bytes[filled..filled + missing]) {
             Ok(n) => return Ok(n),
             Err(e) => {
                 if e.kind() != ErrorKind::Interrupted {
-                    return Err(FrameFault::Unreadable);
+                    return Err(FrameError::Unreadable);
                 }
             }
         }
     }
-    Err(FrameFault::Unreadable)
+    Err(FrameError::Unreadable)
 }
 
 /// Reads until the first `filled` bytes are a frame, and answers whether they are, or the source
@@ -47,7 +47,7 @@ pub fn fill<R: Read>(
     source: &mut R,
     bytes: &mut [u8],
     filled: &mut usize,
-) -> Result<bool, FrameFault>
+) -> Result<bool, FrameError>
     requires in_range { filled.old ≤ length bytes.old }
     requires one { IsOneAtMost (take filled.old bytes.old) }
     ensures in_range { filled.new ≤ length bytes.new }
@@ -67,14 +67,14 @@ pub fn fill<R: Read>(
             Err(missing) => missing,
         };
         if bytes.len() - *filled < missing {
-            return Err(FrameFault::TooLong);
+            return Err(FrameError::TooLong);
         }
         let n = read_missing(source, bytes, *filled, missing)?;
         if n == 0 {
             return if *filled == 0 {
                 Ok(false)
             } else {
-                Err(FrameFault::EndsWithin)
+                Err(FrameError::EndsWithin)
             };
         }
         *filled += n;

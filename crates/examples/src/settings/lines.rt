@@ -11,7 +11,7 @@ ghost use Rattle.winnow.specs.Recovery.{Recovery, recovery_of};
 ghost use Rattle.winnow.specs.Repeat.{RangedRuns};
 ghost use Rattle.winnow.specs.ResumeAfter.{ResumeAfterRuns};
 ghost use Rattle.winnow.specs.RetryAfter.{RetryAfterRuns};
-ghost use Rattle.winnow.specs.RetryAfter.Known.{RecordNothing};
+ghost use Rattle.winnow.specs.RetryAfter.Inversion.{RecordNothing};
 ghost use Rattle.winnow.specs.{Range};
 ghost use Rattle.examples.specs.Settings.Lines.{LinesAnswer, any_number};
 

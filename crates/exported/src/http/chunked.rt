@@ -12,7 +12,7 @@ ghost use Rattle.format_http_chunked.specs.declared.state.ChunkedState.{ChunkedS
 
 use crate::code::{DONE, END, INCOMPLETE, INVALID};
 use crate::span::{NOWHERE, Span};
-use format_http_chunked::decoder::{Decoder, Fault, Step};
+use format_http_chunked::decoder::{ChunkError, Decoder, Step};
 pub use format_http_chunked::state::ChunkedState;
 
 /// Data of a chunk, one byte or more.
@@ -59,17 +59,17 @@ pub struct ChunkedStep {
 }
 
 /// Returns the number of an error.
-fn number_of(fault: Fault) -> usize
+fn number_of(fault: ChunkError) -> usize
     ensures { result ≡ fault_number fault }
 {
     match fault {
-        Fault::Size => CHUNKED_ERROR_SIZE,
-        Fault::SizeLine => CHUNKED_ERROR_SIZE_LINE,
-        Fault::SizeTooLarge => CHUNKED_ERROR_SIZE_TOO_LARGE,
-        Fault::SizeLineTooLong => CHUNKED_ERROR_SIZE_LINE_TOO_LONG,
-        Fault::DataEnd => CHUNKED_ERROR_DATA_END,
-        Fault::Trailers => CHUNKED_ERROR_TRAILERS,
-        Fault::TrailersTooLong => CHUNKED_ERROR_TRAILERS_TOO_LONG,
+        ChunkError::Size => CHUNKED_ERROR_SIZE,
+        ChunkError::SizeLine => CHUNKED_ERROR_SIZE_LINE,
+        ChunkError::SizeTooLarge => CHUNKED_ERROR_SIZE_TOO_LARGE,
+        ChunkError::SizeLineTooLong => CHUNKED_ERROR_SIZE_LINE_TOO_LONG,
+        ChunkError::DataEnd => CHUNKED_ERROR_DATA_END,
+        ChunkError::Trailers => CHUNKED_ERROR_TRAILERS,
+        ChunkError::TrailersTooLong => CHUNKED_ERROR_TRAILERS_TOO_LONG,
     }
 }
 
@@ -94,7 +94,7 @@ fn place_of(bytes: &[u8], text: &[u8], rest: &[u8]) -> Span
 }
 
 /// Returns the code and the output for the decoder's result `said`, after which `rest` remains.
-fn step_of(bytes: &[u8], rest: &[u8], said: Result<Step<'_>, Fault>) -> (u32, ChunkedStep)
+fn step_of(bytes: &[u8], rest: &[u8], said: Result<Step<'_>, ChunkError>) -> (u32, ChunkedStep)
     requires { OutputBeforeRest bytes.now rest.now said }
     ensures writes { Writes bytes.now rest.now said.entry result.0 result.1 }
     ensures taken { length bytes.now ≡ result.1.taken + length rest.now }

@@ -126,7 +126,7 @@ pub extern "C" fn exported_http_response_head(
             *out = none(0, bytes.len());
             INVALID
         }
-        Err(HeadError::Refused(place)) => {
+        Err(HeadError::Invalid(place)) => {
             *out = none(0, place);
             INVALID
         }
@@ -188,7 +188,7 @@ pub extern "C" fn exported_http_response_head_partial(
             *out = none(0, 0);
             INCOMPLETE
         }
-        Err(HeadError::Refused(place)) => {
+        Err(HeadError::Invalid(place)) => {
             *out = none(0, place);
             INVALID
         }

@@ -4,7 +4,7 @@ ghost use Rattle.std.specs.Prelude.{◌≡◌, ◌⊎◌, ◌<◌, List, length,
 ghost use Rattle.std.specs.Str.{IsUtf8};
 ghost use Rattle.format_ini.specs.Documents.{IsDocument, IsRefused};
 ghost use Rattle.format_ini.specs.Lines.{Said};
-ghost use Rattle.format_ini.specs.declared.lines.Refusal.{Refusal};
+ghost use Rattle.format_ini.specs.declared.lines.Reason.{Reason};
 ghost use Rattle.exported.specs.Code.{done, end, invalid, invalid_utf8};
 ghost use Rattle.exported.specs.Dialects.{EntriesInTurn, IsFrom, ShowsEntry, TellsEntry, Writes};
 ghost use Rattle.exported.specs.Dialects.{continued_of, delimiters_of, dialect_of, fault_number};
@@ -15,7 +15,7 @@ ghost use Rattle.exported.specs.declared.ini.dialects.IniState.{IniState};
 use crate::code::{DONE, END, INVALID, INVALID_UTF8};
 use crate::span::{NOWHERE, Span};
 use format_ini::dialect::{Continued, Delimiters, Dialect, Marks};
-use format_ini::lines::{Entry, Places, Refusal, State};
+use format_ini::lines::{Entry, Places, Reason, State};
 use format_ini::places::{Placed, Reading, Stop, next_placed};
 
 /// The name of a section, which begins there.
@@ -239,16 +239,16 @@ fn state_of(reading: Reading) -> IniState
     }
 }
 
-fn fault_number(why: Refusal) -> usize
+fn fault_number(why: Reason) -> usize
     ensures { result ≡ fault_number why }
 {
     match why {
-        Refusal::OpenSection => INI_ERROR_UNCLOSED_SECTION,
-        Refusal::EmptySection => INI_ERROR_EMPTY_SECTION,
-        Refusal::TextBehindSection => INI_ERROR_TRAILING_TEXT,
-        Refusal::NoSection => INI_ERROR_MISSING_SECTION,
-        Refusal::NoKey => INI_ERROR_MISSING_KEY,
-        Refusal::NoDelimiter => INI_ERROR_MISSING_DELIMITER,
+        Reason::OpenSection => INI_ERROR_UNCLOSED_SECTION,
+        Reason::EmptySection => INI_ERROR_EMPTY_SECTION,
+        Reason::TextBehindSection => INI_ERROR_TRAILING_TEXT,
+        Reason::NoSection => INI_ERROR_MISSING_SECTION,
+        Reason::NoKey => INI_ERROR_MISSING_KEY,
+        Reason::NoDelimiter => INI_ERROR_MISSING_DELIMITER,
     }
 }
 
@@ -309,7 +309,7 @@ fn told_of(found: Result<Option<Placed<'_>>, Stop>, offset: usize) -> (u32, IniE
                 ..NO_ENTRY
             },
         ),
-        Err(Stop::Refused(why)) => (
+        Err(Stop::Invalid(why)) => (
             INVALID,
             IniEntry {
                 error_offset: offset,
@@ -391,7 +391,7 @@ pub fn entries_in_turn_are_of_the_document()
         (state next : IniState) (out : IniEntry)
         → EntriesInTurn dialect bytes zeros outs said state
         → TellsEntry dialect state next bytes invalid out
-        → (why : Refusal) × (out.error ≡ fault_number why)
+        → (why : Reason) × (out.error ≡ fault_number why)
         × IsRefused (dialect_of dialect) bytes (record { offset = out.error_offset; why = why }) }
     ensures text { (dialect : ℕ) (bytes : List ℕ) (outs : List IniEntry) (said : List Said)
         (state next : IniState) (out : IniEntry)

@@ -7,7 +7,7 @@ use Rattle.std.proofs.Math.Seq.{take-length}
 use Rattle.std.proofs.lemmas.Int.Digits.{digits_value_more}
 use Rattle.std.proofs.lemmas.Str.Parse.{digits_value-take-le}
 use Rattle.winnow.specs.Digits.{value_in}
-use Rattle.winnow.specs.Digits.Known.{value_is}
+use Rattle.winnow.specs.Digits.Inversion.{value_is}
 
 -- the number of all digits
 pub all_digits : (digits : List ℕ) (n : ℕ)

@@ -26,7 +26,7 @@ use Rattle.format_http_chunked.specs.Bodies as body
 use Rattle.format_http_chunked.specs.Words.{Byte, Many, Times}
 use Rattle.winnow.specs.AsChar.{IsHexDigit, IsSpace}
 use Rattle.winnow.specs.Digits.{value_in}
-use Rattle.winnow.specs.Digits.Known.{value_is}
+use Rattle.winnow.specs.Digits.Inversion.{value_is}
 use Rattle.winnow.specs.InTurn.{First}
 use Rattle.winnow.specs.Texts.{BothText, EachText, InList, Itself, MadeText, Members}
 

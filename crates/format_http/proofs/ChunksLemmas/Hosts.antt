@@ -4,13 +4,13 @@ use Rattle.std.proofs.Common.{map, refl, subst, suc, sym}
 use Rattle.std.proofs.lemmas.List.{drop_all, drop_more}
 use Rattle.std.specs.Prelude.{Option, Some, None}
 use Rattle.format_http.specs.Chunks.Refusals.{AreHosts, IsFault, IsHost, IsRefusal, MayHave}
-use Rattle.format_http.specs.declared.chunks.refusals.Refusal.{Refusal}
-use Rattle.format_http.specs.declared.chunks.refusals.Refusal.TheVariants.{ChunkedNotLast}
-use Rattle.format_http.specs.declared.chunks.refusals.Refusal.TheVariants.{LengthBesideCoding}
-use Rattle.format_http.specs.declared.chunks.refusals.Refusal.TheVariants.{LengthIsNoNumber}
-use Rattle.format_http.specs.declared.chunks.refusals.Refusal.TheVariants.{LengthsDiffer}
-use Rattle.format_http.specs.declared.chunks.refusals.Refusal.TheVariants.{ManyHosts, NoHost}
-use Rattle.format_http.specs.declared.chunks.refusals.Refusal.TheVariants.{NotChunked}
+use Rattle.format_http.specs.declared.chunks.refusals.Reason.{Reason}
+use Rattle.format_http.specs.declared.chunks.refusals.Reason.TheVariants.{ChunkedNotLast}
+use Rattle.format_http.specs.declared.chunks.refusals.Reason.TheVariants.{LengthBesideCoding}
+use Rattle.format_http.specs.declared.chunks.refusals.Reason.TheVariants.{LengthIsNoNumber}
+use Rattle.format_http.specs.declared.chunks.refusals.Reason.TheVariants.{LengthsDiffer}
+use Rattle.format_http.specs.declared.chunks.refusals.Reason.TheVariants.{ManyHosts, NoHost}
+use Rattle.format_http.specs.declared.chunks.refusals.Reason.TheVariants.{NotChunked}
 use Rattle.format_http.specs.Heads.Head.{Pair, pair}
 use Rattle.format_http.specs.declared.heads.request_line.RequestLine.{RequestLine}
 use Rattle.format_http.specs.declared.heads.field_line.Field.{Field}
@@ -40,7 +40,7 @@ module _ (fields : List Field) (i : ℕ) where
 
 -- where the Host fields are no reason, what else is wrong is the reason
 pub fault_refused : (line : RequestLine) (hosts : ℕ) (fields : List Pair)
-    (refusal : Option Refusal) → MayHave line hosts → IsFault fields refusal
+    (refusal : Option Reason) → MayHave line hosts → IsFault fields refusal
     → IsRefusal line hosts fields refusal
 fault_refused line hosts fields None may fault = (may, fault)
 fault_refused line hosts fields (Some NoHost) may fault = absurd fault

@@ -10,20 +10,20 @@ use Rattle.format_http.specs.declared.bodies.framing.BodyLength.{BodyLength}
 use Rattle.format_http.specs.declared.bodies.framing.BodyLength.TheVariants.{Chunked, Length}
 use Rattle.format_http.specs.declared.bodies.framing.BodyLength.TheVariants.{NoBody, Tunnel}
 use Rattle.format_http.specs.declared.bodies.framing.BodyLength.TheVariants.{UntilClose}
-use Rattle.format_http.specs.declared.bodies.framing.FramingFault.{FramingFault}
-use Rattle.format_http.specs.declared.bodies.framing.FramingFault.TheVariants.{ChunkedNotLast}
-use Rattle.format_http.specs.declared.bodies.framing.FramingFault.TheVariants.{CodingBeforeVersion}
-use Rattle.format_http.specs.declared.bodies.framing.FramingFault.TheVariants.{LengthBesideCoding}
-use Rattle.format_http.specs.declared.bodies.framing.FramingFault.TheVariants.{LengthIsNoNumber}
-use Rattle.format_http.specs.declared.bodies.framing.FramingFault.TheVariants.{LengthTooLarge}
-use Rattle.format_http.specs.declared.bodies.framing.FramingFault.TheVariants.{LengthsDiffer}
-use Rattle.format_http.specs.declared.bodies.framing.FramingFault.TheVariants.{NotChunked}
+use Rattle.format_http.specs.declared.bodies.framing.FramingError.{FramingError}
+use Rattle.format_http.specs.declared.bodies.framing.FramingError.TheVariants.{ChunkedNotLast}
+use Rattle.format_http.specs.declared.bodies.framing.FramingError.TheVariants.{CodingBeforeVersion}
+use Rattle.format_http.specs.declared.bodies.framing.FramingError.TheVariants.{LengthBesideCoding}
+use Rattle.format_http.specs.declared.bodies.framing.FramingError.TheVariants.{LengthIsNoNumber}
+use Rattle.format_http.specs.declared.bodies.framing.FramingError.TheVariants.{LengthTooLarge}
+use Rattle.format_http.specs.declared.bodies.framing.FramingError.TheVariants.{LengthsDiffer}
+use Rattle.format_http.specs.declared.bodies.framing.FramingError.TheVariants.{NotChunked}
 use Rattle.format_http.specs.declared.bodies.framing.Message.{Message}
 use Rattle.format_http.specs.declared.bodies.framing.Message.TheVariants.{Request, Response}
 
 -- The result for a message: the length of its body, or the reason for its rejection.
 abbrev pub Answer : Type 0
-Answer = Result BodyLength FramingFault
+Answer = Result BodyLength FramingError
 
 -- `Rule is says others`: `says` if `is` holds, `others` otherwise.
 abbrev pub Rule : Type 0 → Type 0 → Type 0 → Type 0

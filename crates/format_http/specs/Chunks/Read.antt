@@ -12,7 +12,7 @@ use Rattle.winnow.specs.Range.{from_to}
 use Rattle.winnow.specs.Reading.{Reading}
 use Rattle.winnow.specs.Grammar.{Longest, TokenOf}
 use Rattle.winnow.specs.Digits.{value_in}
-use Rattle.winnow.specs.Digits.Known.{value_is}
+use Rattle.winnow.specs.Digits.Inversion.{value_is}
 
 -- ---- sets: what one tells does not depend on its value
 

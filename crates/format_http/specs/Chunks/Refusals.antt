@@ -7,13 +7,13 @@ use Rattle.format_http.specs.Chunks.Codings.{ChunkedIsFollowed}
 use Rattle.format_http.specs.Chunks.Framing.{EndChunked, HasNone, HasOne, HasValue, HaveValue}
 use Rattle.format_http.specs.Chunks.Framing.{IsNumber}
 use Rattle.format_http.specs.Chunks.Framing.{content_length, transfer_encoding}
-use Rattle.format_http.specs.declared.chunks.refusals.Refusal.{Refusal}
-use Rattle.format_http.specs.declared.chunks.refusals.Refusal.TheVariants.{ChunkedNotLast}
-use Rattle.format_http.specs.declared.chunks.refusals.Refusal.TheVariants.{LengthBesideCoding}
-use Rattle.format_http.specs.declared.chunks.refusals.Refusal.TheVariants.{LengthIsNoNumber}
-use Rattle.format_http.specs.declared.chunks.refusals.Refusal.TheVariants.{LengthsDiffer}
-use Rattle.format_http.specs.declared.chunks.refusals.Refusal.TheVariants.{ManyHosts, NoHost}
-use Rattle.format_http.specs.declared.chunks.refusals.Refusal.TheVariants.{NotChunked}
+use Rattle.format_http.specs.declared.chunks.refusals.Reason.{Reason}
+use Rattle.format_http.specs.declared.chunks.refusals.Reason.TheVariants.{ChunkedNotLast}
+use Rattle.format_http.specs.declared.chunks.refusals.Reason.TheVariants.{LengthBesideCoding}
+use Rattle.format_http.specs.declared.chunks.refusals.Reason.TheVariants.{LengthIsNoNumber}
+use Rattle.format_http.specs.declared.chunks.refusals.Reason.TheVariants.{LengthsDiffer}
+use Rattle.format_http.specs.declared.chunks.refusals.Reason.TheVariants.{ManyHosts, NoHost}
+use Rattle.format_http.specs.declared.chunks.refusals.Reason.TheVariants.{NotChunked}
 use Rattle.format_http.specs.Heads.Head.{Pair}
 use Rattle.format_http.specs.declared.heads.request_line.RequestLine.{RequestLine}
 
@@ -37,7 +37,7 @@ abbrev pub MayHave : RequestLine → ℕ → Type 0
 MayHave line hosts = (hosts ≡ 1) ⊎ ((hosts ≡ 0) × (NeedsHost line → ⊥))
 
 -- The reason to reject a request of this line with this number of Host fields, or none.
-abbrev pub IsHostRefusal : RequestLine → ℕ → Option Refusal → Type 0
+abbrev pub IsHostRefusal : RequestLine → ℕ → Option Reason → Type 0
 IsHostRefusal line hosts (Some NoHost) = NeedsHost line × (hosts ≡ 0)
 IsHostRefusal line hosts (Some ManyHosts) = 1 < hosts
 IsHostRefusal line hosts (Some LengthBesideCoding) = ⊥
@@ -58,7 +58,7 @@ IsFramed fields =
     × IsNumber length))
 
 -- The reason to reject a request of these fields, or none, if its Host fields are valid.
-abbrev pub IsFault : List Pair → Option Refusal → Type 0
+abbrev pub IsFault : List Pair → Option Reason → Type 0
 IsFault fields (Some NoHost) = ⊥
 IsFault fields (Some ManyHosts) = ⊥
 IsFault fields (Some LengthBesideCoding) =
@@ -77,7 +77,7 @@ IsFault fields None = IsFramed fields
 
 -- The reason to reject a request of this line with these fields and this number of Host fields, or
 -- none. The Host fields come first.
-abbrev pub IsRefusal : RequestLine → ℕ → List Pair → Option Refusal → Type 0
+abbrev pub IsRefusal : RequestLine → ℕ → List Pair → Option Reason → Type 0
 IsRefusal line hosts fields (Some NoHost) = NeedsHost line × (hosts ≡ 0)
 IsRefusal line hosts fields (Some ManyHosts) = 1 < hosts
 IsRefusal line hosts fields (Some LengthBesideCoding) =

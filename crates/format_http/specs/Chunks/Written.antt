@@ -21,15 +21,15 @@ use Rattle.winnow.specs.Range.{from_to}
 use Rattle.winnow.specs.Counted.{counted_reading}
 use Rattle.winnow.specs.Equal.{same_first, same_others}
 use Rattle.winnow.specs.Exact.{Reads}
-use Rattle.winnow.specs.Grammar.{Both, Grammar, InClass, NoneStands}
-use Rattle.winnow.specs.Grammar.Known.{Byte}
+use Rattle.winnow.specs.Grammar.{Both, Grammar, InClass, NoMatch}
+use Rattle.winnow.specs.Grammar.Inversion.{Byte}
 use Rattle.winnow.specs.Input.{Input}
 use Rattle.winnow.specs.InTurn.{First}
 use Rattle.winnow.specs.Kind.{Kind}
 use Rattle.winnow.specs.Read.{err_as}
 use Rattle.winnow.specs.Reading.{Reading}
-use Rattle.winnow.specs.Texts.{Anything, AtLeast, Begins, BeginsIn, BothText, EachText}
-use Rattle.winnow.specs.Texts.{GatheredText, InFront, IsGrammarOf, Itself, MadeText, MayBegin}
+use Rattle.winnow.specs.Texts.{Anything, AtLeast, StartsWith, TextsStartWith, BothText, EachText}
+use Rattle.winnow.specs.Texts.{GatheredText, InFront, IsGrammarOf, Itself, MadeText, MayStartWith}
 use Rattle.winnow.specs.Texts.{Members, NotFirst, OptionalText, Spelled, Text}
 use Rattle.winnow.specs.Texts.Fronts.{begins_wider, both_front, each_front, either_front, front_any}
 use Rattle.winnow.specs.Texts.Fronts.{front_begins, front_whole, in_list_front, may_begin}
@@ -76,18 +76,18 @@ abbrev Marked : ℕ → List ℕ → Type 0
 Marked mark tokens = (white : List ℕ) × (more : List ℕ) × AllByRecursion IsSpace white
     × (tokens ≡ white ++ mark ∷ more)
 
-begins_marked : (mark : ℕ) (tokens : List ℕ) → Begins (λ b. b ≡ mark) tokens
+begins_marked : (mark : ℕ) (tokens : List ℕ) → StartsWith (λ b. b ≡ mark) tokens
     → Marked mark tokens
 begins_marked mark [] e = absurd e
 begins_marked mark (b ∷ bs) e = ([], bs, tt, ap (λ c. c ∷ bs) e)
 
 -- then that byte is first, or white space
 marked_begins : (these : ℕ → Type 0) (mark : ℕ) → ((b : ℕ) → IsSpace b → these b) → these mark
-    → (tokens : List ℕ) → Marked mark tokens → MayBegin these tokens
+    → (tokens : List ℕ) → Marked mark tokens → MayStartWith these tokens
 marked_begins these mark space is tokens ([], more, all, e) =
-    let P : List ℕ → Type 0 = λ l. MayBegin these l in subst P (sym e) is
+    let P : List ℕ → Type 0 = λ l. MayStartWith these l in subst P (sym e) is
 marked_begins these mark space is tokens (w ∷ ws, more, all, e) =
-    let P : List ℕ → Type 0 = λ l. MayBegin these l in subst P (sym e) (space w all.0)
+    let P : List ℕ → Type 0 = λ l. MayStartWith these l in subst P (sym e) (space w all.0)
 
 -- and it is one
 one_mark : (a b : ℕ) → (IsSpace a → ⊥) → (IsSpace b → ⊥) → (white others more rest : List ℕ)
@@ -117,7 +117,7 @@ spaced_marks mark = record {
 -- tokens that start with another mark do not match
 none_marked : {O : Type 0} {g : Grammar ℕ O} {text : Text ℕ O} {follow : List ℕ → Type 0}
     (a b : ℕ) → (IsSpace a → ⊥) → (IsSpace b → ⊥) → (a ≡ b → ⊥) → IsGrammarOf g text follow
-    → InFront text Anything (Marked a) → (tokens : List ℕ) → Marked b tokens → NoneStands g tokens
+    → InFront text Anything (Marked a) → (tokens : List ℕ) → Marked b tokens → NoMatch g tokens
 none_marked a b bare other differ is front tokens (others, more, each, f) o rest x =
     let (xs, e, t) = is.there tokens o rest x in
     let (white, behind, all, d) = front.makes o xs rest t tt in
@@ -137,7 +137,7 @@ token_text : IsGrammarOf (RunOf counted_reading (λ b. b) IsTokenByte 1) TokenTe
     (NotFirst IsTokenByte)
 token_text = class_of counted_reading IsTokenByte (λ b. b) 1
 
-token_begins : BeginsIn IsTokenByte TokenText
+token_begins : TextsStartWith IsTokenByte TokenText
 token_begins = members_begin counted_reading IsTokenByte 1 (omega arith)
 
 quoted_byte_of : IsGrammarOf (QuotedByte counted_reading (λ b. b) Byte) QuotedByteText Anything
@@ -151,8 +151,8 @@ quoted_byte_of = either_apart
     (front_begins (λ b e is. (quoted_plain b is).1 e) (spelled_begins 92 [] 92)) front_any)
 
 -- no quote begins one
-none_quoted : (rest : List ℕ) → Begins (λ b. b ≡ 34) rest
-    → NoneStands (QuotedByte counted_reading (λ b. b) Byte) rest
+none_quoted : (rest : List ℕ) → StartsWith (λ b. b ≡ 34) rest
+    → NoMatch (QuotedByte counted_reading (λ b. b) Byte) rest
 none_quoted rest b = none_begins {these = λ b. IsQuotedByte b ⊎ (b ≡ 92)} quoted_byte_of
     (either_front
     (begins_wider (λ b (k, e, is). inl (subst IsQuotedByte e is))
@@ -166,13 +166,13 @@ none_quoted rest b = none_begins {these = λ b. IsQuotedByte b ⊎ (b ≡ 92)} q
 
 quoted_text_of : IsGrammarOf (QuotedText counted_reading (λ b. b) Byte)
     (GatheredText (λ (u : Unit {0}) (bytes : List ℕ). ⊤) (AtLeast 0 (EachText QuotedByteText)))
-    (Begins (λ b. b ≡ 34))
+    (StartsWith (λ b. b ≡ 34))
 quoted_text_of = gathered_of (λ (u : Unit {0}) (bytes : List ℕ). ⊤)
     (many_of quoted_byte_of (from_to 0 None) 0 refl front_any (λ rest b. tt) none_quoted)
 
 -- a quoted string begins outside of a set in which no quote is
 string_front : {behind : List ℕ → Type 0} (these : ℕ → Type 0) → these 34
-    → InFront StringText behind (MayBegin these)
+    → InFront StringText behind (MayStartWith these)
 string_front these is = taken_front counted_reading (both_front (λ _ u. u)
     (front_begins (λ b e. subst these (sym e) is) (spelled_begins 34 [] 34)) front_any)
 
@@ -205,7 +205,7 @@ abbrev Clear : List ℕ → Type 0
 Clear rest = Marked 59 rest ⊎ Marked 13 rest
 
 clear_begins : (these : ℕ → Type 0) → ((b : ℕ) → IsSpace b → these b) → these 59 → these 13
-    → (rest : List ℕ) → Clear rest → MayBegin these rest
+    → (rest : List ℕ) → Clear rest → MayStartWith these rest
 clear_begins these space semicolon return rest (inl m) =
     marked_begins these 59 space semicolon rest m
 clear_begins these space semicolon return rest (inr m) =
@@ -222,7 +222,7 @@ clear_no_digit = clear_begins (λ b. IsHexDigit b → ⊥)
     (λ is. (hex_least 59 is).1 refl) (λ is. omega (arith, (hex_least 13 is).0))
 
 none_given : (rest : List ℕ) → Clear rest
-    → NoneStands (Both (λ _ v. v) (Spaced counted_reading (λ b. b) Byte 61) Value) rest
+    → NoMatch (Both (λ _ v. v) (Spaced counted_reading (λ b. b) Byte 61) Value) rest
 none_given rest (inl m) =
     none_marked 61 59 bare_61 bare_59 (λ e. omega (arith, e)) given_of given_marks rest m
 none_given rest (inr m) =
@@ -255,13 +255,13 @@ extension_marks = both_front {O = Slice × Option Slice} (λ name v. (name, v))
 again : InFront ExtensionText Clear Clear
 again = front_whole (λ rest m. inl m) extension_marks
 
-end_begins : BeginsIn (λ b. b ≡ 13)
+end_begins : TextsStartWith (λ b. b ≡ 13)
     (BothText {O = ℕ × ℕ} (λ r f. (r, f)) (Itself 13) (Itself 10))
 end_begins = both_front {O = ℕ × ℕ} (λ r f. (r, f)) (spelled_begins 13 [] 13) front_any
 
 module _ {A : Type 0} where
   extensions_of : IsGrammarOf (Extensions counted_reading (λ b. b) Byte {A = A} Value)
-      ExtensionsText (Begins (λ b. b ≡ 13))
+      ExtensionsText (StartsWith (λ b. b ≡ 13))
   extensions_of = list_of (many_of extension_of (from_to 0 None) 0 refl again
       (λ rest b. inr (begins_marked 13 rest b))
       (λ rest b. none_marked 59 13 bare_59 bare_13 (λ e. omega (arith, e)) extension_of

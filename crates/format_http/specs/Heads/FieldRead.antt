@@ -13,7 +13,7 @@ use Rattle.format_http.specs.Heads.Parts.{EndStands, Run, run_back, run_there, r
 use Rattle.format_http.specs.declared.heads.field_line.Field.{Field}
 use Rattle.winnow.specs.Steps.{Steps}
 use Rattle.winnow.specs.Grammar.{Both, Grammar, IsUnique}
-use Rattle.winnow.specs.Grammar.Known.{Byte, byte_stands, byte_unique, stands_byte}
+use Rattle.winnow.specs.Grammar.Inversion.{Byte, byte_stands, byte_unique, stands_byte}
 use Rattle.winnow.specs.Grammar.Unique.{both_unique, unique_by}
 use Rattle.winnow.specs.Texts.{NotFirst}
 

@@ -14,7 +14,7 @@ use Rattle.format_http.specs.Heads.Bytes.{line_end}
 use Rattle.winnow.specs.Exact.{Reads}
 use Rattle.winnow.specs.Class.Laws.{class_unique}
 use Rattle.winnow.specs.Grammar.{Class, Grammar, InClass, IsUnique, Literally, Longest}
-use Rattle.winnow.specs.Grammar.Known.Sets.{longest_stands, stands_longest}
+use Rattle.winnow.specs.Grammar.Inversion.Sets.{longest_stands, stands_longest}
 use Rattle.winnow.specs.Grammar.Unique.{literally_unique}
 use Rattle.winnow.specs.Texts.{NotFirst}
 

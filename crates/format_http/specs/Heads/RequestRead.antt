@@ -11,8 +11,8 @@ use Rattle.format_http.specs.declared.heads.request_line.RequestLine.{RequestLin
 use Rattle.winnow.specs.Grammar.Same.{Same, unique_as}
 use Rattle.winnow.specs.Steps.{Steps}
 use Rattle.winnow.specs.Grammar.{Both, Grammar, IsUnique, Three, TokenOf}
-use Rattle.winnow.specs.Grammar.Known.{Byte, byte_stands, byte_unique, slice_for, stands_byte}
-use Rattle.winnow.specs.Grammar.Known.Sets.{stands_token_of, token_of_stands}
+use Rattle.winnow.specs.Grammar.Inversion.{Byte, byte_stands, byte_unique, slice_for, stands_byte}
+use Rattle.winnow.specs.Grammar.Inversion.Sets.{stands_token_of, token_of_stands}
 use Rattle.winnow.specs.Grammar.Sequences.{three_unique}
 use Rattle.winnow.specs.Grammar.Unique.{both_unique, unique_by}
 

@@ -17,7 +17,7 @@ use Rattle.format_http.specs.declared.responses.status_line.StatusLine.{StatusLi
 use Rattle.winnow.specs.Grammar.Same.{Same, unique_as}
 use Rattle.winnow.specs.Steps.{Steps}
 use Rattle.winnow.specs.Grammar.{Both, Grammar, IsUnique, Optional, Three}
-use Rattle.winnow.specs.Grammar.Known.{Byte, byte_stands, byte_unique, slice_for, stands_byte}
+use Rattle.winnow.specs.Grammar.Inversion.{Byte, byte_stands, byte_unique, slice_for, stands_byte}
 use Rattle.winnow.specs.Grammar.Sequences.{three_unique}
 use Rattle.winnow.specs.Grammar.Unique.{both_unique, optional_unique, unique_by}
 

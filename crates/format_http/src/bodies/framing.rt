@@ -65,12 +65,12 @@ pub enum BodyLength {
 /// discards the response; a proxy responds with status 502.
 ///
 /// ```
-/// use format_http::bodies::framing::FramingFault;
+/// use format_http::bodies::framing::FramingError;
 ///
-/// assert!(rt; FramingFault::NotChunked != FramingFault::LengthsDiffer);
+/// assert!(rt; FramingError::NotChunked != FramingError::LengthsDiffer);
 /// ```
 #[derive(Clone, Copy, Debug, PartialEq, Eq, Drop)]
-pub enum FramingFault {
+pub enum FramingError {
     /// A message of a version before 1.1 has a Transfer-Encoding field (section 6.1).
     CodingBeforeVersion,
     /// A message has both a Transfer-Encoding and a Content-Length field, by which two recipients
@@ -133,23 +133,23 @@ fn has(fields: &[Field<'_>], name: &[u8]) -> bool
 }
 
 /// The length of a body with a transfer coding.
-fn coded_length(message: Message<'_>, fields: &[Field<'_>]) -> Result<BodyLength, FramingFault>
+fn coded_length(message: Message<'_>, fields: &[Field<'_>]) -> Result<BodyLength, FramingError>
     ensures { IsCodedLength message.entry (map pair fields.now) result }
 {
     if chunked_is_followed(fields) {
-        return Err(FramingFault::ChunkedNotLast);
+        return Err(FramingError::ChunkedNotLast);
     }
     if end_chunked(fields) {
         return Ok(BodyLength::Chunked);
     }
     match message {
-        Message::Request => Err(FramingFault::NotChunked),
+        Message::Request => Err(FramingError::NotChunked),
         Message::Response { .. } => Ok(BodyLength::UntilClose),
     }
 }
 
 /// Returns the length of a body whose length is not given by a field.
-fn undeclared_length(message: Message<'_>) -> Result<BodyLength, FramingFault>
+fn undeclared_length(message: Message<'_>) -> Result<BodyLength, FramingError>
     ensures { IsUndeclared message.entry result }
 {
     match message {
@@ -180,7 +180,7 @@ fn undeclared_length(message: Message<'_>) -> Result<BodyLength, FramingFault>
 /// the lengths of the fields.
 ///
 /// ```
-/// use format_http::bodies::framing::{BodyLength, FramingFault, Message, body_length};
+/// use format_http::bodies::framing::{BodyLength, FramingError, Message, body_length};
 /// use format_http::heads::field_line::Field;
 ///
 /// let length = Field { name: b"content-length", value: b"42, 42" };
@@ -191,16 +191,16 @@ fn undeclared_length(message: Message<'_>) -> Result<BodyLength, FramingFault>
 /// assert!(rt; body_length(head, 1, 1, fields.as_slice()) == Ok(BodyLength::NoBody));
 /// let coding = Field { name: b"Transfer-Encoding", value: b"chunked" };
 /// let both = body_length(Message::Request, 1, 1, [coding, length].as_slice());
-/// assert!(rt; both == Err(FramingFault::LengthBesideCoding));
+/// assert!(rt; both == Err(FramingError::LengthBesideCoding));
 /// let twice = body_length(Message::Request, 1, 1, [coding, coding].as_slice());
-/// assert!(rt; twice == Err(FramingFault::ChunkedNotLast));
+/// assert!(rt; twice == Err(FramingError::ChunkedNotLast));
 /// ```
 pub fn body_length(
     message: Message<'_>,
     major: u8,
     minor: u8,
     fields: &[Field<'_>],
-) -> Result<BodyLength, FramingFault>
+) -> Result<BodyLength, FramingError>
     ensures { IsBodyLength message.entry major minor (map pair fields.now) result }
 {
     if is_without_body(message) {
@@ -212,10 +212,10 @@ pub fn body_length(
     let declared = has(fields, b"content-length".as_slice());
     if has(fields, b"transfer-encoding".as_slice()) {
         if is_before(major, minor) {
-            return Err(FramingFault::CodingBeforeVersion);
+            return Err(FramingError::CodingBeforeVersion);
         }
         if declared {
-            return Err(FramingFault::LengthBesideCoding);
+            return Err(FramingError::LengthBesideCoding);
         }
         return coded_length(message, fields);
     }
@@ -237,7 +237,7 @@ pub fn body_length(
 /// assert!(rt; matches!(head, Ok(head)
 ///     if request_body_length(&head) == Ok(BodyLength::Chunked)));
 /// ```
-pub fn request_body_length<A: Allocator>(head: &Head<'_, A>) -> Result<BodyLength, FramingFault>
+pub fn request_body_length<A: Allocator>(head: &Head<'_, A>) -> Result<BodyLength, FramingError>
     ensures { IsBodyLength Request head.now.line.major head.now.line.minor
         (map pair head.now.fields.items) result }
 {

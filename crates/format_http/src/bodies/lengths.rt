@@ -5,12 +5,12 @@ ghost use Rattle.format_http.specs.Bodies.Framing.{IsDeclaredLength, IsTextLengt
 ghost use Rattle.format_http.specs.Bodies.Lengths.{HasLength};
 ghost use Rattle.format_http.specs.Bodies.Lists.{HasElement, IsThe, parts_of};
 ghost use Rattle.format_http.specs.Heads.Head.{pair};
-ghost use Rattle.format_http.specs.declared.bodies.framing.FramingFault.TheVariants.{LengthsDiffer};
+ghost use Rattle.format_http.specs.declared.bodies.framing.FramingError.TheVariants.{LengthsDiffer};
 ghost use Rattle.std.specs.Option.{SomeIff};
 ghost use Rattle.std.specs.Prelude.{◌≡◌, ◌↔◌, ◌⊎◌, ◌<◌, ◌^◌, IfErr, IfOk, List, ℕ, map};
 ghost use Rattle.winnow.specs.Digits.{value_in};
 
-use crate::bodies::framing::{BodyLength, FramingFault};
+use crate::bodies::framing::{BodyLength, FramingError};
 use crate::bodies::lists::{element_of, next_part};
 use crate::chunks::framing::{is_number, is_same};
 use crate::chunks::numbers::value_of;
@@ -28,7 +28,7 @@ fn decimal(digits: &[u8]) -> Option<u64>
 }
 
 /// Returns the second text if the first is the same or missing.
-fn one_of<'i>(found: Option<&'i [u8]>, other: &'i [u8]) -> Result<Option<&'i [u8]>, FramingFault>
+fn one_of<'i>(found: Option<&'i [u8]>, other: &'i [u8]) -> Result<Option<&'i [u8]>, FramingError>
     ensures one { IfOk result (λ one. (text : List ℕ)
         → (IsThe found.entry text ⊎ other.now ≡ text) ↔ IsThe one text) }
     ensures many { IfErr result (λ fault. (fault ≡ LengthsDiffer)
@@ -39,7 +39,7 @@ fn one_of<'i>(found: Option<&'i [u8]>, other: &'i [u8]) -> Result<Option<&'i [u8
             if is_same(text, other) {
                 Ok(found)
             } else {
-                Err(FramingFault::LengthsDiffer)
+                Err(FramingError::LengthsDiffer)
             }
         }
         None => Ok(Some(other)),
@@ -50,7 +50,7 @@ fn one_of<'i>(found: Option<&'i [u8]>, other: &'i [u8]) -> Result<Option<&'i [u8
 fn one_element<'i>(
     found: Option<&'i [u8]>,
     list: &'i [u8],
-) -> Result<Option<&'i [u8]>, FramingFault>
+) -> Result<Option<&'i [u8]>, FramingError>
     ensures one { IfOk result (λ one. (text : List ℕ)
         → (IsThe found.entry text ⊎ HasElement text (parts_of list.now)) ↔ IsThe one text) }
     ensures many { IfErr result (λ fault. (fault ≡ LengthsDiffer)
@@ -72,7 +72,7 @@ fn one_element<'i>(
 }
 
 /// The one element of all Content-Length fields, if they have one.
-fn one_length<'i>(fields: &[Field<'i>]) -> Result<Option<&'i [u8]>, FramingFault>
+fn one_length<'i>(fields: &[Field<'i>]) -> Result<Option<&'i [u8]>, FramingError>
     ensures one { IfOk result (λ one. (text : List ℕ)
         → HasLength text (map pair fields.now) ↔ IsThe one text) }
     ensures many { IfErr result (λ fault. (fault ≡ LengthsDiffer)
@@ -95,25 +95,25 @@ fn one_length<'i>(fields: &[Field<'i>]) -> Result<Option<&'i [u8]>, FramingFault
 }
 
 /// The length that this text says.
-fn length_of(text: &[u8]) -> Result<BodyLength, FramingFault>
+fn length_of(text: &[u8]) -> Result<BodyLength, FramingError>
     ensures { IsTextLength text.now result }
 {
     if !is_number(text) {
-        return Err(FramingFault::LengthIsNoNumber);
+        return Err(FramingError::LengthIsNoNumber);
     }
     match decimal(text) {
         Some(number) => Ok(BodyLength::Length(number)),
-        None => Err(FramingFault::LengthTooLarge),
+        None => Err(FramingError::LengthTooLarge),
     }
 }
 
 /// The length that the Content-Length fields say, where there are any and no coding.
-pub(crate) fn declared_length(fields: &[Field<'_>]) -> Result<BodyLength, FramingFault>
+pub(crate) fn declared_length(fields: &[Field<'_>]) -> Result<BodyLength, FramingError>
     ensures { IsDeclaredLength (map pair fields.now) result }
 {
     match one_length(fields) {
         Ok(Some(text)) => length_of(text),
-        Ok(None) => Err(FramingFault::LengthIsNoNumber),
+        Ok(None) => Err(FramingError::LengthIsNoNumber),
         Err(fault) => Err(fault),
     }
 }

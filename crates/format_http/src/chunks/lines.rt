@@ -4,7 +4,7 @@
 
 ghost use Rattle.format_http.specs.Chunks.Lines.{Ended, Extensions, Line, TextOrToken};
 ghost use Rattle.winnow.specs.Exact.{Reads};
-ghost use Rattle.winnow.specs.Once.{SeesApart};
+ghost use Rattle.winnow.specs.Once.{TokenEqInjective};
 ghost use Rattle.winnow.specs.Grammar.{Literally};
 
 use crate::chunks::sets::QuotedBytes;
@@ -25,7 +25,7 @@ where
     E: ParserError<I>,
     O: Drop,
     P: Parser<I, O, E> + Drop,
-    requires seen { SeesApart I.seen_as }
+    requires seen { TokenEqInjective I.seen_as }
     requires behind { P.can_parse behind × (P.claim (P.state behind)).premise
         × (P.claim (P.state behind)).backtracks }
     ensures { Reads I.reading E.kind
@@ -46,7 +46,7 @@ where
     E: ParserError<I>,
     A: Allocator + Copy,
     P: Parser<I, I::Slice, E> + Drop,
-    requires seen { SeesApart I.seen_as }
+    requires seen { TokenEqInjective I.seen_as }
     requires value { P.can_parse value × (P.claim (P.state value)).premise
         × (P.claim (P.state value)).backtracks }
     ensures { Reads I.reading E.kind
@@ -71,7 +71,7 @@ where
     E: ParserError<I>,
     A: Allocator + Copy,
     P: Parser<I, (), E> + Drop,
-    requires seen { SeesApart I.seen_as }
+    requires seen { TokenEqInjective I.seen_as }
     requires text { P.can_parse text × (P.claim (P.state text)).premise
         × (P.claim (P.state text)).backtracks }
     ensures { Reads I.reading E.kind
@@ -98,7 +98,7 @@ where
     I: StreamIsPartial<Token = u8> + Compare<u8>,
     E: ParserError<I>,
     A: Allocator + Copy,
-    requires seen { SeesApart I.seen_as }
+    requires seen { TokenEqInjective I.seen_as }
     ensures { Reads I.reading E.kind (Line I.reading I.seen_as
         (Literally I.reading I.spells (λ s _. s))) (I.view input.old) result (I.view input.new) }
 {

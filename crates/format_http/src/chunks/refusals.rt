@@ -28,12 +28,12 @@ use std::alloc::Allocator;
 /// closes the connection. Repeating the same numeral as the length is not a reason.
 ///
 /// ```
-/// use format_http::chunks::refusals::Refusal;
+/// use format_http::chunks::refusals::Reason;
 ///
-/// assert!(rt; Refusal::NoHost != Refusal::ManyHosts);
+/// assert!(rt; Reason::NoHost != Reason::ManyHosts);
 /// ```
 #[derive(Clone, Copy, Debug, PartialEq, Eq, Drop)]
-pub enum Refusal {
+pub enum Reason {
     /// A request of HTTP/1.1 has no Host field.
     NoHost,
     /// A request has more than one Host field.
@@ -69,51 +69,51 @@ fn hosts_in(fields: &[Field<'_>]) -> usize
 }
 
 /// Returns the reason to reject a request of this line because of its number of Host fields.
-fn host_refusal(line: &RequestLine<'_>, hosts: usize) -> Option<Refusal>
+fn host_refusal(line: &RequestLine<'_>, hosts: usize) -> Option<Reason>
     ensures { IsHostRefusal line.now hosts result }
 {
     if hosts > 1 {
-        return Some(Refusal::ManyHosts);
+        return Some(Reason::ManyHosts);
     }
     if hosts == 0 && line.major == 1 && line.minor >= 1 {
-        return Some(Refusal::NoHost);
+        return Some(Reason::NoHost);
     }
     None
 }
 
 /// Returns the reason to reject a request without a coding because of its lengths. `length` is the
 /// value of the first field that has one.
-fn length_refusal(fields: &[Field<'_>], length: &[u8]) -> Option<Refusal>
+fn length_refusal(fields: &[Field<'_>], length: &[u8]) -> Option<Reason>
     requires none { HasNone transfer_encoding (map pair fields.now) }
     requires first { HasValue content_length length.now (map pair fields.now) }
     ensures { IsFault (map pair fields.now) result }
 {
     if !have_value(fields, b"content-length".as_slice(), length) {
-        return Some(Refusal::LengthsDiffer);
+        return Some(Reason::LengthsDiffer);
     }
     if !is_number(length) {
-        return Some(Refusal::LengthIsNoNumber);
+        return Some(Reason::LengthIsNoNumber);
     }
     None
 }
 
 /// Returns the reason to reject a request without a length because of its codings.
-fn coding_refusal(fields: &[Field<'_>]) -> Option<Refusal>
+fn coding_refusal(fields: &[Field<'_>]) -> Option<Reason>
     requires none { HasNone content_length (map pair fields.now) }
     requires some { HasOne transfer_encoding (map pair fields.now) }
     ensures { IsFault (map pair fields.now) result }
 {
     if chunked_is_followed(fields) {
-        return Some(Refusal::ChunkedNotLast);
+        return Some(Reason::ChunkedNotLast);
     }
     if !end_chunked(fields) {
-        return Some(Refusal::NotChunked);
+        return Some(Reason::NotChunked);
     }
     None
 }
 
 /// Returns the reason to reject a request because of the fields that determine the end of its body.
-fn framing_refusal(fields: &[Field<'_>]) -> Option<Refusal>
+fn framing_refusal(fields: &[Field<'_>]) -> Option<Reason>
     ensures { IsFault (map pair fields.now) result }
 {
     let length = first_value(fields, b"content-length".as_slice());
@@ -121,13 +121,13 @@ fn framing_refusal(fields: &[Field<'_>]) -> Option<Refusal>
     match (length, coding) {
         (None, None) => None,
         (Some(length), None) => length_refusal(fields, length),
-        (Some(_), Some(_)) => Some(Refusal::LengthBesideCoding),
+        (Some(_), Some(_)) => Some(Reason::LengthBesideCoding),
         (None, Some(_)) => coding_refusal(fields),
     }
 }
 
 /// Returns the reason why a server must reject the request of this head, or `None`. It is the first
-/// of these that applies, in the order of [`Refusal`]:
+/// of these that applies, in the order of [`Reason`]:
 ///
 /// - The request has more than one Host field, or none although its version is 1.1 or a later 1.x
 ///   (RFC 9112, section 3.2).
@@ -143,18 +143,18 @@ fn framing_refusal(fields: &[Field<'_>]) -> Option<Refusal>
 /// with an unclosed quote, are not detected.
 ///
 /// ```
-/// use format_http::chunks::refusals::{Refusal, refusal_of};
+/// use format_http::chunks::refusals::{Reason, refusal_of};
 /// use format_http::heads::head::read_head;
 ///
 /// let head = read_head(alloc, &mut b"GET / HTTP/1.1\r\nHost: a\r\n\r\n".as_slice());
 /// assert!(rt; matches!(head, Ok(head) if refusal_of(&head) == None));
 /// let none = read_head(alloc, &mut b"GET / HTTP/1.1\r\n\r\n".as_slice());
-/// assert!(rt; matches!(none, Ok(head) if refusal_of(&head) == Some(Refusal::NoHost)));
+/// assert!(rt; matches!(none, Ok(head) if refusal_of(&head) == Some(Reason::NoHost)));
 /// let text = b"POST / HTTP/1.1\r\nHost: a\r\nContent-Length: 4\r\nContent-Length: 5\r\n\r\n";
 /// let two = read_head(alloc, &mut text.as_slice());
-/// assert!(rt; matches!(two, Ok(head) if refusal_of(&head) == Some(Refusal::LengthsDiffer)));
+/// assert!(rt; matches!(two, Ok(head) if refusal_of(&head) == Some(Reason::LengthsDiffer)));
 /// ```
-pub fn refusal_of<A: Allocator>(head: &Head<'_, A>) -> Option<Refusal>
+pub fn refusal_of<A: Allocator>(head: &Head<'_, A>) -> Option<Reason>
     ensures { (hosts : ℕ) × AreHosts (map pair head.now.fields.items) hosts
         × IsRefusal head.now.line hosts (map pair head.now.fields.items) result }
 {

@@ -9,7 +9,7 @@ ghost use Rattle.format_http.specs.Heads.Head.{pair};
 ghost use Rattle.format_http.specs.Responses.Head.{ResponseStands, response_to};
 ghost use Rattle.winnow.specs.Exact.{Reads};
 
-use crate::bodies::framing::{BodyLength, FramingFault, Message, body_length};
+use crate::bodies::framing::{BodyLength, FramingError, Message, body_length};
 use crate::heads::field_line::Field;
 use crate::heads::head::read_fields;
 use crate::responses::status_line::{StatusLine, read_status_line};
@@ -98,7 +98,7 @@ pub fn read_response_head<'i, A: Allocator + Copy>(
 pub fn response_body_length<A: Allocator>(
     method: &[u8],
     head: &ResponseHead<'_, A>,
-) -> Result<BodyLength, FramingFault>
+) -> Result<BodyLength, FramingError>
     ensures { IsBodyLength (response_to method.now head.now.line.status) head.now.line.major
         head.now.line.minor (map pair head.now.fields.items) result }
 {

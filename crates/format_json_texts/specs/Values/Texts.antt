@@ -9,7 +9,8 @@ use Rattle.winnow.specs.AsChar.{IsDecDigit, IsMultispace}
 use Rattle.winnow.specs.Range.{from_to}
 use Rattle.winnow.specs.Grammar.Same.{Same}
 use Rattle.winnow.specs.Grammar.{Both, Grammar, Three}
-use Rattle.winnow.specs.Texts.{Anything, Begins, BeginsIn, InFront, InList, IsGrammarOf, NotFirst}
+use Rattle.winnow.specs.Texts.{Anything, StartsWith, TextsStartWith, InFront, InList, IsGrammarOf}
+use Rattle.winnow.specs.Texts.{NotFirst}
 use Rattle.winnow.specs.Texts.{PartedText, Spelled, Text}
 use Rattle.winnow.specs.Texts.Fronts.{begins_wider, both_front, either_front, front_any}
 use Rattle.winnow.specs.Texts.Fronts.{front_begins, may_begin, none_begins, not_first}
@@ -61,7 +62,7 @@ gap_of = run_of IsMultispace 0
 mark_of : (c : ℕ) → IsGrammarOf (Punctuation c) (Mark c) NoGap
 mark_of c = both_of pair (char_of c) gap_of front_any
 
-mark_begins : (c : ℕ) → BeginsIn (λ x. x ≡ c) (Mark c)
+mark_begins : (c : ℕ) → TextsStartWith (λ x. x ≡ c) (Mark c)
 mark_begins c = both_front pair (spelled_begins c [] c) front_any
 
 -- ---- values that have no others in them
@@ -92,7 +93,7 @@ words_of =
     (front_begins (λ c e f. absurd (omega (arith, e, f)))
     (spelled_begins 102 (97 ∷ 108 ∷ 115 ∷ 101 ∷ []) (Some false))))
 
-words_begin : BeginsIn IsLetter WordText
+words_begin : TextsStartWith IsLetter WordText
 words_begin =
     either_front (begins_wider (λ c e. inl e) (spelled_begins 110 (117 ∷ 108 ∷ 108 ∷ []) None))
     (either_front (begins_wider (λ c e. inr (inl e))
@@ -157,7 +158,7 @@ module _ {A : Type 0} (holds : String A → List ℕ → Type 0) where
       (either_front (for_front IsNumber (for_front HasText (front_begins no_letter number_begins)))
       (for_front IsString (front_begins quote_letter (string_begins holds))))
 
-  scalar_begins : BeginsIn OpensScalar (ScalarText holds)
+  scalar_begins : TextsStartWith OpensScalar (ScalarText holds)
   scalar_begins =
       either_front (for_front IsWord (begins_wider (λ c is. inl is) words_begin))
       (either_front (for_front IsNumber
@@ -168,14 +169,14 @@ module _ {A : Type 0} (holds : String A → List ℕ → Type 0) where
 
 -- elements, and what closes, are in front of no white space
 commas_front : {O A : Type 0} {element : Text ℕ O} {these : ℕ → Type 0} (close : ℕ) → 33 < close
-    → ((c : ℕ) → these c → IsMultispace c → ⊥) → BeginsIn these element
-    → InFront (InList {A = A} (PartedText (Mark 44) element)) (Begins (λ c. c ≡ close)) NoGap
+    → ((c : ℕ) → these c → IsMultispace c → ⊥) → TextsStartWith these element
+    → InFront (InList {A = A} (PartedText (Mark 44) element)) (StartsWith (λ c. c ≡ close)) NoGap
 unfolding InList PartedText
 commas_front {O} {A} {element} {these} close most apart begins =
     record { makes = λ list xs rest x b. first list.items xs rest x b }
   where
     first : (os : List O) (tokens rest : List ℕ) → PartedText (Mark 44) element os tokens
-        → Begins (λ c. c ≡ close) rest → NoGap (tokens ++ rest)
+        → StartsWith (λ c. c ≡ close) rest → NoGap (tokens ++ rest)
     first [] tokens rest e b =
         let P : List ℕ → Type 0 = λ l. NoGap (l ++ rest) in
         subst P (sym e) (may_begin (λ c. c ≡ close) (λ c. IsMultispace c → ⊥)
@@ -213,7 +214,7 @@ close_goes_on close c (inr f) e (inr (inr (inr (inr d)))) = absurd (omega (arith
 -- nothing that closes
 bracketed_of : {O A : Type 0} {g : Grammar ℕ O} {element : Text ℕ O} {these : ℕ → Type 0}
     (opening close : ℕ) → (close ≡ 93) ⊎ (close ≡ 125)
-    → ((c : ℕ) → these c → (IsMultispace c → ⊥) × (c ≡ close → ⊥)) → BeginsIn these element
+    → ((c : ℕ) → these c → (IsMultispace c → ⊥) × (c ≡ close → ⊥)) → TextsStartWith these element
     → IsGrammarOf g element Ended
     → IsGrammarOf (Three (λ o1 o2 o3. o2) (Punctuation opening) (Commas {A = A} g) (Char close))
     (Between (Mark opening) (InList {A = A} (PartedText (Mark 44) element)) (One close)) Anything
@@ -237,7 +238,7 @@ bracketed_of {O} {A} {g} {element} {these} opening close is apart begins of =
       | inr d ↦ absurd (omega (arith, e, f, d))
     ]
 
-    ended : (rest : List ℕ) → Begins (λ c. c ≡ close) rest → Ended rest
+    ended : (rest : List ℕ) → StartsWith (λ c. c ≡ close) rest → Ended rest
     ended rest b = may_begin (λ c. c ≡ close) (λ c. IsMultispace c ⊎ ContinuesNumber c → ⊥)
         (λ c e. close_goes_on close c is e) rest b
 
@@ -257,8 +258,8 @@ spaced_of is =
     (gap_front goes_on_white
     (not_first ContinuesNumber (λ c. IsMultispace c ⊎ ContinuesNumber c) (λ c d. inr d)))
 
-spaced_begins : {O : Type 0} {text : Text ℕ O} {these : ℕ → Type 0} → BeginsIn these text
-    → BeginsIn these (Spaced text)
+spaced_begins : {O : Type 0} {text : Text ℕ O} {these : ℕ → Type 0} → TextsStartWith these text
+    → TextsStartWith these (Spaced text)
 spaced_begins begins = both_front former begins front_any
 
 member_same : {O1 O2 O3 : Type 0} (g1 : Grammar ℕ O1) (g2 : Grammar ℕ O2) (g3 : Grammar ℕ O3)
@@ -273,7 +274,7 @@ member_same {O1} g1 g2 g3 = record {
 
 module _ {A : Type 0} (holds : String A → List ℕ → Type 0) {g : Grammar ℕ (Value A)}
     {value : Text ℕ (Value A)} (of : IsGrammarOf g value (NotFirst ContinuesNumber))
-    (opens : BeginsIn Opens value) where
+    (opens : TextsStartWith Opens value) where
   array_of : IsGrammarOf (Array holds g) (ArrayText holds value) Anything
   array_of = bracketed_of 91 93 (inl refl) (λ c b. b) (spaced_begins opens) (spaced_of of)
 
@@ -293,7 +294,7 @@ module _ {A : Type 0} (holds : String A → List ℕ → Type 0) {g : Grammar �
       (both_front pair (spaced_begins (string_begins holds)) front_any) member_of
 
 module _ {A : Type 0} (holds : String A → List ℕ → Type 0) where
-  value_begins : (level : ℕ) → BeginsIn Opens (ValueText holds level)
+  value_begins : (level : ℕ) → TextsStartWith Opens (ValueText holds level)
   unfolding ValueText
   value_begins zero = begins_wider (λ c is.
       let x = scalar_opens c is in (above_white c x.0, x.1)) (scalar_begins holds)

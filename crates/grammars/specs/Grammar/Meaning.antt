@@ -1,6 +1,6 @@
 -- Grammars of what outputs denote: values of another type, computed without a part of a parser.
 use Rattle.std.specs.Prelude.{◌↔◌, List}
-use Rattle.grammars.specs.Grammar.{Grammar, IsUnique, Made, NoneStands, TakesTokens}
+use Rattle.grammars.specs.Grammar.{Grammar, IsUnique, Made, NoMatch, TakesTokens}
 use Rattle.grammars.specs.Grammar.Same.{Same}
 use Rattle.grammars.specs.Grammar.Unique.{made_of_takes, made_unique}
 
@@ -27,6 +27,6 @@ meaning_same makes f means g is = record {
 }
 
 pub none_means : {T O U : Type 0} (means : O → U → Type 0) (g : Grammar T O) (tokens : List T)
-    → NoneStands g tokens → NoneStands (Meaning means g) tokens
+    → NoMatch g tokens → NoMatch (Meaning means g) tokens
 unfolding Made
 none_means means g tokens none u rest (o, x, is) = none o rest x

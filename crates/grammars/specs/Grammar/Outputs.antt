@@ -6,7 +6,7 @@ use Rattle.streams.specs.Counted.{counted_reading}
 use Rattle.streams.specs.Equal.{same_first, same_others}
 use Rattle.streams.specs.Stream.{AnswersSeen}
 use Rattle.stream_sets.specs.Longest.{one_longest}
-use Rattle.stream_sets.specs.Once.{SeesApart, TellsOnce}
+use Rattle.stream_sets.specs.Once.{TokenEqInjective, SetIsFunction}
 use Rattle.stream_sets.specs.Range.{Bounds}
 use Rattle.grammars.specs.Grammar.{Both, Either, Grammar, IsUnique, Literally, Longest, Made}
 use Rattle.grammars.specs.Grammar.{Taken, Token, TokenOf}
@@ -54,14 +54,15 @@ front_of f g rest more a b e = same_front f g rest more (omega (
 
 -- ---- tokens
 
-pub token_alike : {K T : Type 0} (seen : K → T) → SeesApart seen → IsAlike (λ k. k) (Token seen)
+pub token_alike : {K T : Type 0} (seen : K → T) → TokenEqInjective seen
+    → IsAlike (λ k. k) (Token seen)
 unfolding Token
 token_alike seen apart = record {
   alike = λ tokens k l rest other e f. apart k l (same_first (sym e ∙ f));
 }
 
 pub token_of_alike : {X K T : Type 0} (seen : K → T) (tells : X → K → Bool → Type 0) (set : X)
-    → SeesApart seen → IsAlike (λ k. k) (TokenOf seen tells set)
+    → TokenEqInjective seen → IsAlike (λ k. k) (TokenOf seen tells set)
 unfolding TokenOf
 token_of_alike seen tells set apart = record {
   alike = λ tokens k l rest other (is, e) (was, f). apart k l (same_first (sym e ∙ f));
@@ -86,7 +87,7 @@ taken_alike unique = record {
 }
 
 pub longest_alike : {X K T : Type 0} (seen : K → T) (tells : X → K → Bool → Type 0) (set : X)
-    (bounds : Bounds) → TellsOnce (AnswersSeen seen (tells set))
+    (bounds : Bounds) → SetIsFunction (AnswersSeen seen (tells set))
     → IsAlike (λ (slice : Bor (List T)). slice.now)
     (Longest counted_reading seen tells set bounds)
 unfolding Longest

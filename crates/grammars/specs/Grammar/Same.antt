@@ -1,6 +1,6 @@
 -- Equivalent grammars.
 use Rattle.std.specs.Prelude.{List}
-use Rattle.grammars.specs.Grammar.{Grammar, IsUnique, NoneStands, TakesTokens}
+use Rattle.grammars.specs.Grammar.{Grammar, IsUnique, NoMatch, TakesTokens}
 
 -- `first` and `second` have the same matches.
 pub record Same {T O : Type 0} (first second : Grammar T O) : Type 0 where
@@ -22,7 +22,7 @@ same_trans first second = record {
 }
 
 pub none_as : {T O : Type 0} {g h : Grammar T O} → Same g h → (tokens : List T)
-    → NoneStands g tokens → NoneStands h tokens
+    → NoMatch g tokens → NoMatch h tokens
 none_as same tokens nothing o rest x = nothing o rest (same.back tokens o rest x)
 
 pub unique_as : {T O : Type 0} {g h : Grammar T O} → Same g h → IsUnique g → IsUnique h

@@ -4,8 +4,8 @@ use Rattle.std.specs.Borrow.{Bor}
 use Rattle.streams.specs.Reading.{Reading}
 use Rattle.stream_sets.specs.Range.{Bounds, IsWithin}
 use Rattle.grammars.specs.Grammar.{Either, Grammar, Literally, SpelledBy}
-use Rattle.stream_searches.specs.Compare.{StandsFirst}
-use Rattle.stream_searches.specs.FindSlice.{Stands}
+use Rattle.stream_searches.specs.Compare.{StartsWithSpelling}
+use Rattle.stream_searches.specs.FindSlice.{Occurs}
 pub mod Unique
 
 -- `front` is followed by a list that `sought` accepts, and no such list occurs at an earlier
@@ -13,8 +13,8 @@ pub mod Unique
 pub record IsBefore {T : Type 0} (sought : List T → Type 0) (tokens front rest : List T) : Type 0
   where
     pub splits : tokens ≡ front ++ rest
-    pub stands : StandsFirst sought rest
-    pub first : (other hit behind : List T) → Stands sought tokens other hit behind
+    pub stands : StartsWithSpelling sought rest
+    pub first : (other hit behind : List T) → Occurs sought tokens other hit behind
         → length front ≤ length other
 
 -- The tokens up to the first list that `sought` accepts, with a length within the bounds; `slice`
@@ -38,7 +38,7 @@ LineEnd reading spells =
 -- a pair of characters.
 abbrev pub HasNoLineEnd : {T : Type 0} → (ℕ × ℕ → List T → Type 0) → List T → Type 0
 HasNoLineEnd {T} sought tokens =
-    (front hit rest : List T) → Stands (sought (13, 10)) tokens front hit rest → ⊥
+    (front hit rest : List T) → Occurs (sought (13, 10)) tokens front hit rest → ⊥
 
 -- `front` is the tokens up to the first carriage return or line feed, or all tokens if neither
 -- occurs.
@@ -53,6 +53,6 @@ unfoldable pub Line : {T L : Type 0} → Reading T L → (Bor (List ℕ) → Lis
     → (ℕ × ℕ → List T → Type 0) → Grammar T L
 Line {T} reading spells sought tokens slice rest =
     (front : List T) × IsLineOf sought tokens front rest
-    × (StandsFirst (SpelledBy spells (13 ∷ [])) rest
-    → StandsFirst (SpelledBy spells (13 ∷ 10 ∷ [])) rest)
+    × (StartsWithSpelling (SpelledBy spells (13 ∷ [])) rest
+    → StartsWithSpelling (SpelledBy spells (13 ∷ 10 ∷ [])) rest)
     × reading.shows slice front

@@ -3,12 +3,12 @@ use Rattle.std.specs.Prelude.{◌≡◌, ◌<◌, ◌+◌, List, [], ◌∷◌, 
 use Rattle.std.proofs.Common.{sym, ap, subst, ◌∙◌, arith, length-append}
 use Rattle.stream_sets.specs.Range.{Bounds, IsWithin, bounds_of}
 use Rattle.stream_sets.specs.declared.range.Range.{Range}
-use Rattle.grammars.specs.Grammar.{Each, Grammar, IsUnique, NoneStands, TakesTokens}
+use Rattle.grammars.specs.Grammar.{Each, Grammar, IsUnique, NoMatch, TakesTokens}
 use Rattle.grammars.specs.Grammar.Unique.{each_ends, end_of_end}
 
 -- A match of `item`, if `tokens` does not start with a terminator.
 abbrev pub Turn : {T O D : Type 0} → Grammar T O → Grammar T D → Grammar T O
-Turn item till tokens o rest = NoneStands till tokens × item tokens o rest
+Turn item till tokens o rest = NoMatch till tokens × item tokens o rest
 
 -- The least number of items, then items up to the first terminator, and the terminator. The number
 -- of all items is at most the greatest number.
@@ -44,7 +44,7 @@ module _ {T O D : Type 0} (item : Grammar T O) (till : Grammar T D) (unique : Is
   -- if no terminator follows the turns `os`, the turns `ps` up to a terminator are more, and an
   -- item follows `os`
   pub more_turns : (os ps : List O) (tokens rest other end : List T) (d : D)
-      → Each (Turn item till) tokens os rest → NoneStands till rest
+      → Each (Turn item till) tokens os rest → NoMatch till rest
       → Each (Turn item till) tokens ps other → till other d end
       → (length os < length ps) × ((o : O) × (mid : List T) × item rest o mid)
   more_turns [] [] tokens rest other end d e none f x =

@@ -7,7 +7,7 @@ use Rattle.streams.specs.Reading.{Reading, units-nil}
 use Rattle.stream_sets.specs.Range.{Bounds, IsBelow, bounds_of}
 use Rattle.stream_sets.specs.declared.range.Range.{Range}
 use Rattle.grammars.specs.Grammar.{Ahead, Both, Each, Either, Gathered, Grammar, IsUnique}
-use Rattle.grammars.specs.Grammar.{Literally, Made, Many, NoneStands, Nothing, Optional, Parted}
+use Rattle.grammars.specs.Grammar.{Literally, Made, Many, NoMatch, Nothing, Optional, Parted}
 use Rattle.grammars.specs.Grammar.{Repeated, Stops, Taken, TakesTokens, Token, TokenOf}
 
 pub no_longer_than : {T O : Type 0} {g : Grammar T O} → IsUnique g → (tokens : List T) (o : O)
@@ -215,7 +215,7 @@ module _ {T O : Type 0} {g : Grammar T O} (unique : IsUnique g) where
       (inr (below, none)) = below_itself greatest n m full (omega arith) below
   each_one greatest k [] (p ∷ ps) n m tokens rest other a b e (inr (below, none))
       (mid, x, more) ends =
-      let P : List T → Type 0 = λ l. NoneStands g l in absurd (subst P e none p mid x)
+      let P : List T → Type 0 = λ l. NoMatch g l in absurd (subst P e none p mid x)
   each_one greatest k (o ∷ os) [] n m tokens rest other a b (mid, x, more) (inl full) f
       (inl all) =
       let same = same_some (sym full ∙ all) in absurd (omega arith)
@@ -223,7 +223,7 @@ module _ {T O : Type 0} {g : Grammar T O} (unique : IsUnique g) where
       (inr (below, none)) f (inl all) = below_itself greatest m n all (omega arith) below
   each_one greatest k (o ∷ os) [] n m tokens rest other a b (mid, x, more) stops f
       (inr (below, none)) =
-      let P : List T → Type 0 = λ l. NoneStands g l in absurd (subst P f none o mid x)
+      let P : List T → Type 0 = λ l. NoMatch g l in absurd (subst P f none o mid x)
   each_one greatest k (o ∷ os) (p ∷ ps) n m tokens rest other a b (mid, x, more) stops
       (mid2, y, more2) ends =
       let P : List T → Type 0 = λ l. Each g l os rest in
@@ -231,10 +231,10 @@ module _ {T O : Type 0} {g : Grammar T O} (unique : IsUnique g) where
       (subst P (unique.one tokens o p mid mid2 x y) more) stops more2 ends
 
   pub no_more : (os ps : List O) (tokens rest other : List T) → Each g tokens os rest
-      → NoneStands g rest → Each g tokens ps other → length ps ≤ length os
+      → NoMatch g rest → Each g tokens ps other → length ps ≤ length os
   no_more [] [] tokens rest other e none f = omega arith
   no_more [] (p ∷ ps) tokens rest other e none (mid, x, more) =
-      let P : List T → Type 0 = λ l. NoneStands g l in
+      let P : List T → Type 0 = λ l. NoMatch g l in
       absurd (subst P e none p mid x)
   no_more (o ∷ os) [] tokens rest other x none f = omega arith
   no_more (o ∷ os) (p ∷ ps) tokens rest other (mid, x, more) none (mid2, y, more2) =

@@ -3,27 +3,29 @@ use Rattle.std.specs.Prelude.{◌≡◌, ◌<◌, ℕ, List, [], ◌∷◌, ◌+
 use Rattle.std.specs.List.{All}
 use Rattle.std.proofs.Common.{refl, sym, ap, subst, inl, inr, ◌∙◌, arith, append_assoc}
 use Rattle.streams.specs.Reading.{Reading}
-use Rattle.grammars.specs.Grammar.{Grammar, NoneStands}
-use Rattle.grammars.specs.Texts.{Anything, AtEnd, Begins, BeginsIn, BothText, EachText, EitherText}
-use Rattle.grammars.specs.Texts.{GatheredText, InFront, InList, IsGrammarOf, MadeText, MayBegin}
-use Rattle.grammars.specs.Texts.{MayBeginIn, Members, NotFirst, OptionalText, Spelled, TakenText}
+use Rattle.grammars.specs.Grammar.{Grammar, NoMatch}
+use Rattle.grammars.specs.Texts.{Anything, AtEnd, StartsWith, TextsStartWith, BothText, EachText}
+use Rattle.grammars.specs.Texts.{EitherText}
+use Rattle.grammars.specs.Texts.{GatheredText, InFront, InList, IsGrammarOf, MadeText, MayStartWith}
+use Rattle.grammars.specs.Texts.{TextsMayStartWith, Members, NotFirst, OptionalText, Spelled}
+use Rattle.grammars.specs.Texts.{TakenText}
 use Rattle.grammars.specs.Texts.{Text, TokenOfText}
 
 -- ---- tokens
 
 pub may_begin : {T : Type 0} (these those : T → Type 0) → ((t : T) → these t → those t)
-    → (tokens : List T) → Begins these tokens → MayBegin those tokens
+    → (tokens : List T) → StartsWith these tokens → MayStartWith those tokens
 may_begin these those more [] b = absurd b
 may_begin these those more (t ∷ ts) b = more t b
 
 pub begins_more : {T : Type 0} (these those : T → Type 0) → ((t : T) → these t → those t)
-    → (tokens : List T) → Begins these tokens → Begins those tokens
+    → (tokens : List T) → StartsWith these tokens → StartsWith those tokens
 begins_more these those more [] b = absurd b
 begins_more these those more (t ∷ ts) b = more t b
 
 -- what may begin in a set may begin in a larger one
 pub may_begin_more : {T : Type 0} (these those : T → Type 0) → ((t : T) → these t → those t)
-    → (tokens : List T) → MayBegin these tokens → MayBegin those tokens
+    → (tokens : List T) → MayStartWith these tokens → MayStartWith those tokens
 may_begin_more these those more [] b = tt
 may_begin_more these those more (t ∷ ts) b = more t b
 
@@ -34,16 +36,16 @@ not_first these those more [] not = tt
 not_first these those more (t ∷ ts) not = λ is. not (more t is)
 
 -- nothing begins in a set and outside of it
-pub begins_never : {T P : Type 0} (these : T → Type 0) (tokens : List T) → Begins these tokens
+pub begins_never : {T P : Type 0} (these : T → Type 0) (tokens : List T) → StartsWith these tokens
     → NotFirst these tokens → P
 begins_never these [] b not = absurd b
 begins_never these (t ∷ ts) b not = absurd (not b)
 
 -- where there is none, none is first
 pub may_begin_none : {T : Type 0} (these : T → Type 0) (tokens : List T) → AtEnd tokens
-    → MayBegin these tokens
+    → MayStartWith these tokens
 may_begin_none {T} these tokens e =
-    let P : List T → Type 0 = λ l. MayBegin these l in subst P (sym e) tt
+    let P : List T → Type 0 = λ l. MayStartWith these l in subst P (sym e) tt
 
 -- ---- weaker and stronger conditions on the tokens after and before
 
@@ -66,14 +68,14 @@ front_any = record { makes = λ o xs rest x b. tt }
 
 -- what begins in a set begins in a larger one
 pub begins_wider : {T O : Type 0} {text : Text T O} {these those : T → Type 0}
-    → ((t : T) → these t → those t) → BeginsIn these text → BeginsIn those text
+    → ((t : T) → these t → those t) → TextsStartWith these text → TextsStartWith those text
 begins_wider {T} {these = these} {those} wider begins =
     front_whole (begins_more these those wider) begins
 
 -- the first token of an encoding is in the set, regardless of what follows
 pub front_begins : {T O : Type 0} {text : Text T O} {these those : T → Type 0}
-    {behind : List T → Type 0} → ((t : T) → these t → those t) → BeginsIn these text
-    → InFront text behind (MayBegin those)
+    {behind : List T → Type 0} → ((t : T) → these t → those t) → TextsStartWith these text
+    → InFront text behind (MayStartWith those)
 front_begins {these = these} {those} more begins = record {
   makes = λ o xs rest x b. may_begin these those more (xs ++ rest) (begins.makes o xs rest x tt);
 }
@@ -81,49 +83,51 @@ front_begins {these = these} {those} more begins = record {
 -- an encoding that may be empty: its first token, or the first one after it, is in the set
 pub front_may : {T O : Type 0} {text : Text T O} {these those : T → Type 0}
     {behind : List T → Type 0} → ((t : T) → these t → those t)
-    → ((rest : List T) → behind rest → MayBegin those rest) → MayBeginIn these text
-    → InFront text behind (MayBegin those)
+    → ((rest : List T) → behind rest → MayStartWith those rest) → TextsMayStartWith these text
+    → InFront text behind (MayStartWith those)
 front_may {T} {O} {text} {these} {those} {behind} more alone may = record { makes = makes }
   where
-    makes : (o : O) (xs rest : List T) → text o xs → behind rest → MayBegin those (xs ++ rest)
+    makes : (o : O) (xs rest : List T) → text o xs → behind rest → MayStartWith those (xs ++ rest)
     makes o [] rest a b = alone rest b
     makes o (x ∷ xs) rest a b = more x (may.makes o (x ∷ xs) [] a tt)
 
 -- ---- by the words of texts
 
 pub spelled_begins : {T O : Type 0} (t : T) (ts : List T) (o : O)
-    → BeginsIn (λ s. s ≡ t) (Spelled (t ∷ ts) o)
+    → TextsStartWith (λ s. s ≡ t) (Spelled (t ∷ ts) o)
 unfolding Spelled
 spelled_begins t ts o = record {
   makes = λ p xs rest (is, e) b.
-      let P : List _ → Type 0 = λ l. Begins (λ s. s ≡ t) (l ++ rest) in subst P (sym e) refl;
+      let P : List _ → Type 0 = λ l. StartsWith (λ s. s ≡ t) (l ++ rest) in subst P (sym e) refl;
 }
 
 pub token_of_begins : {K T : Type 0} (seen : K → T) (these : K → Type 0)
-    → BeginsIn (λ t. (k : K) × (seen k ≡ t) × these k) (TokenOfText seen these)
+    → TextsStartWith (λ t. (k : K) × (seen k ≡ t) × these k) (TokenOfText seen these)
 unfolding TokenOfText
 token_of_begins {K} {T} seen these = record {
   makes = λ k xs rest (is, e) b.
-      let P : List T → Type 0 = λ l. Begins (λ t. (k : K) × (seen k ≡ t) × these k) (l ++ rest) in
+      let P : List T → Type 0 = λ l. StartsWith (λ t. (k : K) × (seen k ≡ t) × these k)
+      (l ++ rest) in
       subst P (sym e) (k, refl, is);
 }
 
 module _ {T L : Type 0} (reading : Reading T L) (these : T → Type 0) where
-  pub members_begin : (least : ℕ) → 0 < least → BeginsIn these (Members reading these least)
+  pub members_begin : (least : ℕ) → 0 < least → TextsStartWith these (Members reading these least)
   unfolding Members
   members_begin least some = record {
     makes = λ slice xs rest (all, enough, shown) any. first xs rest all (omega arith);
   }
     where
-      first : (xs rest : List T) → All these xs → 0 < length xs → Begins these (xs ++ rest)
+      first : (xs rest : List T) → All these xs → 0 < length xs → StartsWith these (xs ++ rest)
       first [] rest all some = absurd (omega arith)
       first (x ∷ xs) rest all some = all 0 x (omega arith)
 
-  pub members_may : (least : ℕ) → MayBeginIn these (Members reading these least)
+  pub members_may : (least : ℕ) → TextsMayStartWith these (Members reading these least)
   unfolding Members
   members_may least = record { makes = λ slice xs rest (all, enough, shown) b. first xs rest all b }
     where
-      first : (xs rest : List T) → All these xs → MayBegin these rest → MayBegin these (xs ++ rest)
+      first : (xs rest : List T) → All these xs → MayStartWith these rest
+          → MayStartWith these (xs ++ rest)
       first [] rest all b = b
       first (x ∷ xs) rest all b = all 0 x (omega arith)
 
@@ -204,8 +208,8 @@ each_front {T} {O} {text} {behind} front = record { makes = makes }
 
 -- what begins outside of a set is nothing that begins in it
 pub none_begins : {T O : Type 0} {g : Grammar T O} {text : Text T O} {follow : List T → Type 0}
-    {these : T → Type 0} → IsGrammarOf g text follow → BeginsIn these text → (tokens : List T)
-    → NotFirst these tokens → NoneStands g tokens
+    {these : T → Type 0} → IsGrammarOf g text follow → TextsStartWith these text → (tokens : List T)
+    → NotFirst these tokens → NoMatch g tokens
 none_begins {these = these} is begins tokens not o rest x =
     let (front, e, it) = is.there tokens o rest x in
     let P : List _ → Type 0 = λ l. NotFirst these l in

@@ -3,10 +3,11 @@ use Rattle.std.specs.Prelude.{◌≡◌, List, [], ◌++◌, Option, Some, None}
 use Rattle.std.proofs.Common.{refl, sym, ap, subst, inl, inr, ◌∙◌, append_assoc}
 use Rattle.std.proofs.lemmas.List.{append_cancel_right}
 use Rattle.streams.specs.Reading.{Reading}
-use Rattle.grammars.specs.Grammar.{AndTaken, Both, Either, Grammar, Made, NoneStands, Optional}
+use Rattle.grammars.specs.Grammar.{AndTaken, Both, Either, Grammar, Made, NoMatch, Optional}
 use Rattle.grammars.specs.Grammar.{Taken, Three}
 use Rattle.grammars.specs.Grammar.Same.{Same}
-use Rattle.grammars.specs.Texts.{AndTakenText, BeginsIn, BothText, EitherText, InFront, IsGrammarOf}
+use Rattle.grammars.specs.Texts.{AndTakenText, TextsStartWith, BothText, EitherText, InFront}
+use Rattle.grammars.specs.Texts.{IsGrammarOf}
 use Rattle.grammars.specs.Texts.{MadeText, NotFirst, OptionalText, TakenText, Text}
 use Rattle.grammars.specs.Texts.Fronts.{both_front, front_whole, none_begins}
 
@@ -98,7 +99,7 @@ module _ {T O1 O2 O3 P O : Type 0} (outer : O1 → P → O) (inner : O2 → O3 �
 
 pub either_of : {T O : Type 0} {g1 g2 : Grammar T O} {first second : Text T O}
     {follow : List T → Type 0} → IsGrammarOf g1 first follow → IsGrammarOf g2 second follow
-    → InFront second follow (NoneStands g1)
+    → InFront second follow (NoMatch g1)
     → IsGrammarOf (Either g1 g2) (EitherText first second) follow
 unfolding Either EitherText
 either_of one two never = record {
@@ -116,14 +117,15 @@ either_of one two never = record {
 -- them, do not
 pub either_apart : {T O : Type 0} {g1 g2 : Grammar T O} {first second : Text T O}
     {follow : List T → Type 0} {these : T → Type 0} → IsGrammarOf g1 first follow
-    → IsGrammarOf g2 second follow → BeginsIn these first → InFront second follow (NotFirst these)
+    → IsGrammarOf g2 second follow → TextsStartWith these first
+    → InFront second follow (NotFirst these)
     → IsGrammarOf (Either g1 g2) (EitherText first second) follow
 either_apart one two begins outside =
     either_of one two (front_whole (none_begins one begins) outside)
 
 -- an option: what may follow an absent value is not a match
 pub optional_of : {T O : Type 0} {g : Grammar T O} {text : Text T O} {follow : List T → Type 0}
-    → IsGrammarOf g text follow → ((rest : List T) → follow rest → NoneStands g rest)
+    → IsGrammarOf g text follow → ((rest : List T) → follow rest → NoMatch g rest)
     → IsGrammarOf (Optional g) (OptionalText text) follow
 unfolding Optional OptionalText
 optional_of {T} {O} {g} {text} {follow} is never = record { there = there; back = back }

@@ -3,8 +3,8 @@ use Rattle.std.specs.Prelude.{◌≡◌, ◌≤◌, ℕ, zero, suc, List, [], �
 use Rattle.std.specs.declared.vec.Vec.{Vec}
 use Rattle.std.proofs.Common.{refl, sym, ap, subst, inr, ◌∙◌, arith, append_assoc}
 use Rattle.stream_sets.specs.Range.{Bounds, IsBelow, from_to}
-use Rattle.grammars.specs.Grammar.{Both, Each, Gathered, Grammar, Many, NoneStands, Parted}
-use Rattle.grammars.specs.Grammar.Known.{Listed}
+use Rattle.grammars.specs.Grammar.{Both, Each, Gathered, Grammar, Many, NoMatch, Parted}
+use Rattle.grammars.specs.Grammar.Inversion.{Listed}
 use Rattle.grammars.specs.Texts.{AtLeast, BothText, EachText, GatheredText, InFront, InList}
 use Rattle.grammars.specs.Texts.{IsGrammarOf, PartedText, Text}
 use Rattle.grammars.specs.Texts.Fronts.{both_front}
@@ -79,7 +79,7 @@ module _ {T O : Type 0} {g : Grammar T O} {text : Text T O} {follow : List T →
   pub many_of : {ends : List T → Type 0} (bounds : Bounds) (least : ℕ)
       → bounds ≡ from_to least None → InFront text follow follow
       → ((rest : List T) → ends rest → follow rest)
-      → ((rest : List T) → ends rest → NoneStands g rest)
+      → ((rest : List T) → ends rest → NoMatch g rest)
       → IsGrammarOf (Many g bounds) (AtLeast least (EachText text)) ends
   unfolding Many
   many_of {ends} bounds least any again last never = record {
@@ -102,7 +102,7 @@ module _ {T O : Type 0} {g : Grammar T O} {text : Text T O} {follow : List T →
   -- maximal repetitions, stored in a list
   pub listed_of : {A : Type 0} {ends : List T → Type 0} (least : ℕ) → InFront text follow follow
       → ((rest : List T) → ends rest → follow rest)
-      → ((rest : List T) → ends rest → NoneStands g rest)
+      → ((rest : List T) → ends rest → NoMatch g rest)
       → IsGrammarOf (Listed {A = A} g least) (InList (AtLeast least (EachText text))) ends
   unfolding Listed InList
   listed_of least again last never = record {
@@ -118,7 +118,7 @@ module _ {T O : Type 0} {g : Grammar T O} {text : Text T O} {follow : List T →
   }
 
 pub none_both : {T O1 O2 O : Type 0} (output : O1 → O2 → O) (g1 : Grammar T O1) (g2 : Grammar T O2)
-    (tokens : List T) → NoneStands g1 tokens → NoneStands (Both output g1 g2) tokens
+    (tokens : List T) → NoMatch g1 tokens → NoMatch (Both output g1 g2) tokens
 unfolding Both
 none_both output g1 g2 tokens none o rest (o1, o2, mid, x, y, out) = none o1 mid x
 
@@ -133,8 +133,8 @@ module _ {T O D : Type 0} {g : Grammar T O} {h : Grammar T D} {text : Text T O}
 
   pub parted_of : {ends : List T → Type 0} (bounds : Bounds) (least : ℕ)
       → bounds ≡ from_to least None → ((rest : List T) → ends rest → follow rest)
-      → ((rest : List T) → ends rest → NoneStands h rest)
-      → ((rest : List T) → least ≡ 0 → ends rest → NoneStands g rest)
+      → ((rest : List T) → ends rest → NoMatch h rest)
+      → ((rest : List T) → least ≡ 0 → ends rest → NoMatch g rest)
       → IsGrammarOf (Parted g h bounds) (AtLeast least (PartedText separator text)) ends
   unfolding Parted PartedText
   parted_of {ends} bounds least any last never none = record { there = there; back = back }

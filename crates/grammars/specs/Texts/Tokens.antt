@@ -9,12 +9,13 @@ use Rattle.streams.specs.Reading.{Reading}
 use Rattle.streams.specs.Stream.{AnswersSeen}
 use Rattle.stream_sets.specs.Once.{Others}
 use Rattle.stream_sets.specs.Range.{Bounds, IsWithin, from_to}
-use Rattle.stream_sets.specs.Sets.{EitherTells}
+use Rattle.stream_sets.specs.Sets.{InEither}
 use Rattle.grammars.specs.Grammar.{Class, Counted, InClass, Literally, Longest, NoTokens, Nothing}
 use Rattle.grammars.specs.Grammar.{TokenOf}
-use Rattle.grammars.specs.Grammar.Known.{Byte, slice_for}
+use Rattle.grammars.specs.Grammar.Inversion.{Byte, slice_for}
 use Rattle.grammars.specs.Texts.{Anything, AtEnd, CountedText, Divides, IsGrammarOf, Itself}
-use Rattle.grammars.specs.Texts.{LiterallyText, MayBegin, Members, NoTokensText, NotFirst, SoManyOf}
+use Rattle.grammars.specs.Texts.{LiterallyText, MayStartWith, Members, NoTokensText, NotFirst}
+use Rattle.grammars.specs.Texts.{SoManyOf}
 use Rattle.grammars.specs.Texts.{Spelled, TokenOfText}
 
 -- a token that stands for itself, where slices show all tokens
@@ -66,24 +67,24 @@ divides_others tells set d = record { has = d.lacks; lacks = d.has }
 pub divides_either : {T : Type 0} {first others : T → Bool → Type 0}
     {inside outside these those : T → Type 0} → Divides first inside outside
     → Divides others these those
-    → Divides (EitherTells first others) (λ t. inside t ⊎ (outside t × these t))
+    → Divides (InEither first others) (λ t. inside t ⊎ (outside t × these t))
     (λ t. outside t × those t)
 divides_either {T} {first} {others} {inside} {outside} {these} {those} d more =
     record { has = λ t. (has t, is t); lacks = λ t. (lacks t, not t) }
   where
-    has : (t : T) → EitherTells first others t true → inside t ⊎ (outside t × these t)
+    has : (t : T) → InEither first others t true → inside t ⊎ (outside t × these t)
     has t (inl (it, e)) = inl ((d.has t).0 it)
     has t (inr (out, it)) = inr ((d.lacks t).0 out, (more.has t).0 it)
 
-    is : (t : T) → inside t ⊎ (outside t × these t) → EitherTells first others t true
+    is : (t : T) → inside t ⊎ (outside t × these t) → InEither first others t true
     is t (inl it) = inl ((d.has t).1 it, refl)
     is t (inr (out, it)) = inr ((d.lacks t).1 out, (more.has t).1 it)
 
-    lacks : (t : T) → EitherTells first others t false → outside t × those t
+    lacks : (t : T) → InEither first others t false → outside t × those t
     lacks t (inl (it, e)) = true_is_false (sym e)
     lacks t (inr (out, it)) = ((d.lacks t).0 out, (more.lacks t).0 it)
 
-    not : (t : T) → outside t × those t → EitherTells first others t false
+    not : (t : T) → outside t × those t → InEither first others t false
     not t (out, it) = inr ((d.lacks t).1 out, (more.lacks t).1 it)
 
 -- tokens that are seen as themselves
@@ -122,7 +123,7 @@ module _ {X K T L : Type 0} (reading : Reading T L) (seen : K → T)
   pub longest_of : (bounds : Bounds) (least : ℕ) → bounds ≡ from_to least None
       → Divides (AnswersSeen seen (tells set)) these those
       → IsGrammarOf (Longest reading seen tells set bounds) (Members reading these least)
-      (MayBegin those)
+      (MayStartWith those)
   unfolding Longest Members
   longest_of bounds least any d = record {
     there = λ tokens slice rest (front, longest, enough, shown). (
@@ -144,7 +145,7 @@ module _ {X K T L : Type 0} (reading : Reading T L) (seen : K → T)
                 (λ t is. (d.has t).1 is) front all;
             within = subst P (sym (ap (λ b. b.greatest) any)) tt;
             stops = λ t more e.
-                let Q : List T → Type 0 = λ l. MayBegin those l in
+                let Q : List T → Type 0 = λ l. MayStartWith those l in
                 inl ((d.lacks t).1 (subst Q e ends));
           },
           omega (arith, ap (λ b. b.least) any, enough),

@@ -6,7 +6,7 @@ ghost use Rattle.readers.specs.DocumentRuns.{DocumentRuns, PairsRuns, SectionRun
 ghost use Rattle.readers.specs.Sections.{pair_text, section_text};
 ghost use Rattle.winnow.specs.Says.{nothing_done, nothing_said};
 
-use crate::fault::Fault;
+use crate::fault::ReadError;
 use crate::ini::parts::{gap, key_value, section_name};
 use crate::ini::tables::NameBytes;
 use std::alloc::Allocator;
@@ -198,23 +198,23 @@ impl<'i, A: Allocator + Copy> Parser<
 /// Returns the sections in order, each with its pairs in order, including repeated ones, as slices
 /// of the input. The input is read once, in time linear in its length.
 ///
-/// Other bytes are [`Fault::Refused`] with the offset, in bytes from the start, of the first part
-/// that is not a section, pair, whitespace or comment. Only the lists allocate, so an input without
-/// a section does not. The error is [`Fault::NoMemory`] if an allocation fails.
+/// Other bytes are [`ReadError::Invalid`] with the offset, in bytes from the start, of the first
+/// part that is not a section, pair, whitespace or comment. Only the lists allocate, so an input
+/// without a section does not. The error is [`ReadError::NoMemory`] if an allocation fails.
 ///
 /// ```
-/// use readers::fault::Fault;
+/// use readers::fault::ReadError;
 /// use readers::ini;
 ///
 /// let sections = ini::document(alloc, b"[a]\nx=1\n");
 /// assert!(rt; matches!(sections, Ok(sections) if sections[0].pairs[0] == ("x", "1")));
 /// let refused = ini::document(alloc, b"[a]\nx\n");
-/// assert!(rt; matches!(refused, Err(Fault::Refused(4))));
+/// assert!(rt; matches!(refused, Err(ReadError::Invalid(4))));
 /// ```
 pub fn document<'i, A: Allocator + Copy>(
     alloc: A,
     input: &'i [u8],
-) -> Result<Vec<Section<'i, A>, A>, Fault>
+) -> Result<Vec<Section<'i, A>, A>, ReadError>
     ensures { MatchResult result
         (λ sections. HasSections input.now (map section_text sections.items))
         (λ fault. IsDocumentFault input.now fault) }
@@ -222,11 +222,11 @@ pub fn document<'i, A: Allocator + Copy>(
     let names = NameBytes::new();
     match (DocumentReader { alloc, names }).parse(input) {
         Ok(sections) => Ok(sections),
-        Err(ParseFault::Refused(error)) => {
+        Err(ParseFault::Invalid(error)) => {
             if error.inner().is_memory() {
-                Err(Fault::NoMemory)
+                Err(ReadError::NoMemory)
             } else {
-                Err(Fault::Refused(error.offset()))
+                Err(ReadError::Invalid(error.offset()))
             }
         }
         Err(ParseFault::Incomplete(_)) => unreachable!(),

@@ -1,6 +1,6 @@
 //! Searches of bytes for one of three texts.
 ghost use Rattle.std.specs.Prelude.{◌≡◌, ◌<◌, ℕ, List, ◌++◌, MatchOption, length};
-ghost use Rattle.stream_searches.specs.Compare.{StandsFirst};
+ghost use Rattle.stream_searches.specs.Compare.{StartsWithSpelling};
 ghost use Rattle.stream_searches.specs.FindSlice.{FindsSlice};
 ghost use Rattle.stream_searches.specs.Three.{IsOneOfThree};
 
@@ -12,7 +12,7 @@ use std::ops;
 #[inline(always)]
 fn first_length(all: &[u8], first: &[u8], second: &[u8], third: &[u8]) -> Option<usize>
     ensures { MatchOption result
-        (StandsFirst (IsOneOfThree first.now second.now third.now) all.now → ⊥)
+        (StartsWithSpelling (IsOneOfThree first.now second.now third.now) all.now → ⊥)
         (λ n. (front : List ℕ) × (rest : List ℕ)
         × IsOneOfThree first.now second.now third.now front × (all.now ≡ front ++ rest)
         × (n ≡ length front)) }

@@ -14,8 +14,8 @@ use Rattle.std.proofs.lemmas.List.{append-nil}
 use Rattle.stream_sets.specs.Accumulator.{characters_kept, entries_kept, list_kept, nothing_kept}
 use Rattle.stream_sets.specs.Accumulator.{number_kept, texts_kept, Accumulator}
 use Rattle.stream_sets.specs.Accumulator.Entries.{key_of_outputs, value_of_outputs}
-use Rattle.stream_sets.specs.Accumulator.Known.{number_of_outputs, text_of_characters}
-use Rattle.stream_sets.specs.Accumulator.Known.{text_of_texts}
+use Rattle.stream_sets.specs.Accumulator.Inversion.{number_of_outputs, text_of_characters}
+use Rattle.stream_sets.specs.Accumulator.Inversion.{text_of_texts}
 
 -- what a list has taken
 listed : {O A : Type 0} (before after : Vec O A) (outputs : List O)

@@ -5,7 +5,7 @@ use Rattle.streams.specs.Equal.{true_is_false}
 use Rattle.streams.specs.Reading.{Reading}
 use Rattle.streams.specs.Stream.{AnswersSeen}
 use Rattle.stream_errors.specs.Form.{ErrorForm}
-use Rattle.stream_sets.specs.Once.{TellsOnce}
+use Rattle.stream_sets.specs.Once.{SetIsFunction}
 use Rattle.stream_sets.specs.Range.{from_to}
 use Rattle.winnow_core.specs.Decided.{IsDecided}
 use Rattle.winnow_core.specs.Literal.Laws.{ShowSame}
@@ -18,8 +18,8 @@ use Rattle.winnow_ascii.specs.Class.{ClassRuns}
 use Rattle.winnow_ascii.specs.Class.Laws.{class_ends}
 
 -- Tokens that are seen as the same are one character.
-abbrev pub SeenOnce : {K T : Type 0} → (K → T) → (K → ℕ) → Type 0
-SeenOnce {K} seen code = (k l : K) → seen k ≡ seen l → code k ≡ code l
+abbrev pub CharIsFunction : {K T : Type 0} → (K → T) → (K → ℕ) → Type 0
+CharIsFunction {K} seen code = (k l : K) → seen k ≡ seen l → code k ≡ code l
 
 -- Takes the longest prefix of characters of the class, of at least `least` characters.
 abbrev pub class_says : {K T L : Type 0} → (ℕ → Type 0) → ℕ → (K → ℕ) → (K → T) → Reading T L
@@ -27,13 +27,13 @@ abbrev pub class_says : {K T L : Type 0} → (ℕ → Type 0) → ℕ → (K →
 class_says class least code seen reading =
     record (take_while_says reading (AnswersSeen seen (λ k b. IsTrue b ↔ class (code k)))
     (from_to least None)) {
-      premise = SeenOnce seen code;
+      premise = CharIsFunction seen code;
     }
 
 module _ {K T L : Type 0} (class : ℕ → Type 0) (least : ℕ) (code : K → ℕ) (seen : K → T)
     (reading : Reading T L) where
-  class_once : SeenOnce seen code
-      → TellsOnce (AnswersSeen seen (λ k b. IsTrue b ↔ class (code k)))
+  class_once : CharIsFunction seen code
+      → SetIsFunction (AnswersSeen seen (λ k b. IsTrue b ↔ class (code k)))
   class_once once x (k, is, has) (l, was, lacks) =
       let P : ℕ → Type 0 = λ n. class n in
       true_is_false (sym (lacks.1 (subst P (once k l (is ∙ sym was)) (has.0 refl))))
@@ -45,7 +45,7 @@ module _ {K T L : Type 0} (class : ℕ → Type 0) (least : ℕ) (code : K → �
       (λ _. from_to least None) tt)
 
   -- one input decides their runs
-  pub class_decided : (form : ErrorForm) → SeenOnce seen code
+  pub class_decided : (form : ErrorForm) → CharIsFunction seen code
       → IsDecided tt (Keeps (λ (_ : ⊤). ClassRuns class least code seen reading form))
       (ShowSame reading)
   class_decided form once =

@@ -11,17 +11,17 @@ use Rattle.streams.specs.Reading.{Reading}
 use Rattle.grammars.specs.Grammar.{Either, Grammar, Literally, SpelledBy}
 use Rattle.grammars.specs.Grammar.Same.{Same}
 use Rattle.grammars.specs.Grammar.Searches.{IsBefore, Line, LineEnd}
-use Rattle.stream_searches.specs.Compare.{StandsFirst}
-use Rattle.stream_searches.specs.FindSlice.{Stands}
-use Rattle.winnow_ascii.specs.Crlf.Known.{SpellsAscii, crlf_ascii, feed_ascii, return_ascii}
-use Rattle.winnow_ascii.specs.LineEnding.Known.{IsLineEnd}
-use Rattle.winnow_ascii.specs.TillLineEnding.Known.{BehindLine, EndsLine, InLine, SeeksEnds}
+use Rattle.stream_searches.specs.Compare.{StartsWithSpelling}
+use Rattle.stream_searches.specs.FindSlice.{Occurs}
+use Rattle.winnow_ascii.specs.Crlf.Inversion.{SpellsAscii, crlf_ascii, feed_ascii, return_ascii}
+use Rattle.winnow_ascii.specs.LineEnding.Inversion.{IsLineEnd}
+use Rattle.winnow_ascii.specs.TillLineEnding.Inversion.{AfterLine, EndsLine, InLine, SeeksEnds}
 
 -- Tokens among which is neither a carriage return nor a line feed; and after them nothing, a line
 -- feed, or both characters.
 unfoldable pub LineText : {L : Type 0} → Reading ℕ L → Grammar ℕ L
 LineText reading tokens slice rest =
-    (line : List ℕ) × (tokens ≡ line ++ rest) × AllByRecursion InLine line × BehindLine rest
+    (line : List ℕ) × (tokens ≡ line ++ rest) × AllByRecursion InLine line × AfterLine rest
     × reading.shows slice line
 
 -- A line feed, or both characters.
@@ -56,12 +56,13 @@ module _ {L : Type 0} (reading : Reading ℕ L) (spells : Bor (List ℕ) → Lis
     (lists : SpellsAscii spells) where
   -- tokens that start with a spelling of ASCII characters start with these characters
   spelled_first : (bytes tokens : List ℕ) → IsAscii bytes
-      → StandsFirst (SpelledBy spells bytes) tokens → (rest : List ℕ) × (tokens ≡ bytes ++ rest)
+      → StartsWithSpelling (SpelledBy spells bytes) tokens
+      → (rest : List ℕ) × (tokens ≡ bytes ++ rest)
   spelled_first bytes tokens low (front, rest, (text, was, spelled), e) =
       (rest, e ∙ ap (λ l. l ++ rest) (lists.list text bytes front low was spelled))
 
   first_spelled : (bytes tokens rest : List ℕ) → IsAscii bytes → tokens ≡ bytes ++ rest
-      → StandsFirst (SpelledBy spells bytes) tokens
+      → StartsWithSpelling (SpelledBy spells bytes) tokens
   unfolding text_of
   first_spelled bytes tokens rest low e =
       (bytes, rest, (text_of bytes, refl, lists.back (text_of bytes) bytes low refl), e)
@@ -126,23 +127,23 @@ module _ {L : Type 0} (reading : Reading ℕ L) (spells : Bor (List ℕ) → Lis
   module _ (sought : ℕ × ℕ → List ℕ → Type 0) (seeks : SeeksEnds sought) where
     -- a search finds each of the two characters
     ends_stand : (tokens a : List ℕ) (c : ℕ) (b : List ℕ) → EndsLine c → tokens ≡ a ++ c ∷ b
-        → Stands (sought (13, 10)) tokens a (c ∷ []) b
+        → Occurs (sought (13, 10)) tokens a (c ∷ []) b
     ends_stand tokens a c b is e = record { splits = e; is = seeks.back c is }
 
-    stand_ends : (tokens a hit b : List ℕ) → Stands (sought (13, 10)) tokens a hit b
+    stand_ends : (tokens a hit b : List ℕ) → Occurs (sought (13, 10)) tokens a hit b
         → (c : ℕ) × EndsLine c × (tokens ≡ a ++ c ∷ b)
     stand_ends tokens a hit b there =
         let (c, is, e) = seeks.list hit there.is in
         (c, is, there.splits ∙ ap (λ l. a ++ (l ++ b)) e)
 
-    behind : (rest : List ℕ) → StandsFirst (sought (13, 10)) rest
-        → (StandsFirst (SpelledBy spells (13 ∷ [])) rest
-        → StandsFirst (SpelledBy spells (13 ∷ 10 ∷ [])) rest) → BehindLine rest
+    behind : (rest : List ℕ) → StartsWithSpelling (sought (13, 10)) rest
+        → (StartsWithSpelling (SpelledBy spells (13 ∷ [])) rest
+        → StartsWithSpelling (SpelledBy spells (13 ∷ 10 ∷ [])) rest) → AfterLine rest
     behind rest (hit, more, is, e) feed =
         let (c, end, same) = seeks.list hit is in
         by c end (e ∙ ap (λ l. l ++ more) same)
       where
-        by : (c : ℕ) → EndsLine c → rest ≡ c ∷ more → BehindLine rest
+        by : (c : ℕ) → EndsLine c → rest ≡ c ∷ more → AfterLine rest
         by c (inl carriage) here =
             let first : rest ≡ 13 ∷ more = here ∙ ap (λ x. x ∷ more) carriage in
             let (tail, both) = spelled_first (13 ∷ 10 ∷ []) rest crlf_ascii

@@ -11,7 +11,7 @@ use Rattle.winnow_core.specs.Runs.{Keeps}
 use Rattle.winnow_ascii.specs.Crlf.Laws.{crlf_ends, crlf_stays}
 use Rattle.winnow_ascii.specs.LineEnding.{LineEndingRuns}
 use Rattle.winnow_core.specs.Stable.Grows.{Stays}
-use Rattle.grammars.specs.Grammar.{Either, NoneStands}
+use Rattle.grammars.specs.Grammar.{Either, NoMatch}
 use Rattle.grammars.specs.Grammar.Searches.{LineEnd, LiterallyBytes}
 use Rattle.grammars.specs.Grammar.Unique.{either_unique}
 use Rattle.winnow_core.specs.Exact.{Backtracks, IsExact}
@@ -89,7 +89,7 @@ module _ {T L : Type 0} (reading : Reading T L) (form : ErrorForm)
 
       none : (i : Input T) (k : Kind) (j : Input T) → i.status.cut ≡ false
           → LineEndingRuns spells reading form i (Err k) j
-          → (k ≡ memory) ⊎ NoneStands (LineEnd reading spells) i.left.tokens
+          → (k ≡ memory) ⊎ NoMatch (LineEnd reading spells) i.left.tokens
       none i k j is (inl (text, here, r, other)) =
           let back = (text_fails reading form spells alike same_units (10 ∷ [])).fails i k tt j is
           ((text, here, r), refl) in

@@ -5,12 +5,12 @@ use Rattle.std.proofs.Common.{refl, sym, ap, subst, inl, inr, ◌∙◌}
 use Rattle.streams.specs.Input.{Input, Takes}
 use Rattle.streams.specs.Kind.{Kind, backtrack, memory}
 use Rattle.streams.specs.Reading.{Reading}
-use Rattle.grammars.specs.Grammar.{NoneStands, SpelledBy}
+use Rattle.grammars.specs.Grammar.{NoMatch, SpelledBy}
 use Rattle.grammars.specs.Grammar.Searches.{IsLineOf, Line}
 use Rattle.grammars.specs.Grammar.Searches.Unique.{line_unique, match_before, one_line}
-use Rattle.stream_searches.specs.Compare.{StandsFirst}
+use Rattle.stream_searches.specs.Compare.{StartsWithSpelling}
 use Rattle.stream_errors.specs.Form.{Answer, ErrorForm}
-use Rattle.stream_errors.specs.Form.Known.{ok_is_err, same_ok, same_kind}
+use Rattle.stream_errors.specs.Form.Inversion.{ok_is_err, same_ok, same_kind}
 use Rattle.winnow_core.specs.Exact.{Backtracks, IsExact}
 use Rattle.winnow_core.specs.Exact.Failed.{short_backtracks}
 use Rattle.winnow_core.specs.Literal.Laws.{SpellsByText}
@@ -22,12 +22,12 @@ module _ {T L : Type 0} (reading : Reading T L) (form : ErrorForm)
     (sought : ℕ × ℕ → List T → Type 0) where
   -- tokens that start with the spelling of some text with these bytes start with that of `text`
   this_text : (text : Bor (List ℕ)) (bytes : List ℕ) (tokens : List T) → text.now ≡ bytes
-      → StandsFirst (SpelledBy spells bytes) tokens → StandsFirst (spells text) tokens
+      → StartsWithSpelling (SpelledBy spells bytes) tokens → StartsWithSpelling (spells text) tokens
   this_text text bytes tokens here (front, rest, (other, was, spelled), e) =
       (front, rest, alike other text front (was ∙ sym here) spelled, e)
 
   some_text : (text : Bor (List ℕ)) (bytes : List ℕ) (tokens : List T) → text.now ≡ bytes
-      → StandsFirst (spells text) tokens → StandsFirst (SpelledBy spells bytes) tokens
+      → StartsWithSpelling (spells text) tokens → StartsWithSpelling (SpelledBy spells bytes) tokens
   some_text text bytes tokens here (front, rest, spelled, e) =
       (front, rest, (text, here, spelled), e)
 
@@ -103,21 +103,22 @@ module _ {T L : Type 0} (reading : Reading T L) (form : ErrorForm)
       -- the line is followed by a carriage return without a line feed
       lone : (i : Input T) (slice : L) (j : Input T) (return both : Bor (List ℕ))
           → return.now ≡ 13 ∷ [] → both.now ≡ 13 ∷ 10 ∷ []
-          → LineRuns sought reading form i slice j → StandsFirst (spells return) j.left.tokens
-          → (StandsFirst (spells both) j.left.tokens → ⊥)
-          → NoneStands (Line reading spells sought) i.left.tokens
+          → LineRuns sought reading form i slice j
+          → StartsWithSpelling (spells return) j.left.tokens
+          → (StartsWithSpelling (spells both) j.left.tokens → ⊥)
+          → NoMatch (Line reading spells sought) i.left.tokens
       lone i slice j return both here there ran first none o rest (front, line, feed, shown) =
           let (other, too, takes) = taken i slice j ran in
           let P : List T → Type 0 =
-          λ l. StandsFirst (SpelledBy spells (13 ∷ [])) l
-          → StandsFirst (SpelledBy spells (13 ∷ 10 ∷ [])) l in
+          λ l. StartsWithSpelling (SpelledBy spells (13 ∷ [])) l
+          → StartsWithSpelling (SpelledBy spells (13 ∷ 10 ∷ [])) l in
           let feeds = subst P (one_line reading spells sought line too) feed in
           none (this_text both (13 ∷ 10 ∷ []) j.left.tokens there
           (feeds (some_text return (13 ∷ []) j.left.tokens here first)))
 
       none : (i : Input T) (k : Kind) (j : Input T) → i.status.cut ≡ false
           → TillLineEndingRuns spells sought reading form i (Err k) j
-          → NoneStands (Line reading spells sought) i.left.tokens
+          → NoMatch (Line reading spells sought) i.left.tokens
       none i k j is (inl (slice, return, here, ran, never, a)) = ok_is_err a refl
       none i k j is (inr (inl (slice, both, here, ran, first, a))) = ok_is_err a refl
       none i k j is

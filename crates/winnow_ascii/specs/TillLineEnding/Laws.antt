@@ -6,7 +6,7 @@ use Rattle.std.proofs.Common.{length-append}
 use Rattle.streams.specs.Input.{Input, IsEndOf, takes_end, Takes, with_more}
 use Rattle.streams.specs.Reading.{Reading}
 use Rattle.stream_errors.specs.Form.{Answer, ErrorForm, modal}
-use Rattle.stream_searches.specs.Compare.{StandsFirst, IsShort}
+use Rattle.stream_searches.specs.Compare.{StartsWithSpelling, IsShort}
 use Rattle.stream_searches.specs.FirstMatch.{StaysFirst}
 use Rattle.streams.specs.Equal.{same_rest}
 use Rattle.winnow_core.specs.Ends.{same_ends}
@@ -15,8 +15,8 @@ use Rattle.winnow_core.specs.Stable.Longer.{passes_cut, short_final, takes_more}
 use Rattle.winnow_token.specs.TakeUntil.Laws.{match_more}
 use Rattle.winnow_core.specs.Literal.Laws.{still_not_first, still_not_short}
 use Rattle.winnow_core.specs.Stable.Grows.{Stays, final_by}
-use Rattle.winnow_ascii.specs.TillLineEnding.Known.{SeeksEnds}
-use Rattle.winnow_ascii.specs.Crlf.Known.{SpellsAscii, return_ascii}
+use Rattle.winnow_ascii.specs.TillLineEnding.Inversion.{SeeksEnds}
+use Rattle.winnow_ascii.specs.Crlf.Inversion.{SpellsAscii, return_ascii}
 
 line_ends : {T L : Type 0} (sought : ℕ × ℕ → List T → Type 0) (reading : Reading T L)
     (form : ErrorForm) (i : Input T) (slice : L) (j : Input T)
@@ -43,7 +43,7 @@ till_line_ending_ends spells sought reading form i answer j
     (inr (inr (inr (inr (k, lacks, e))))) = same_ends reading i j lacks.3
 
 pub stands_more : {T : Type 0} (spelled : List T → Type 0) (tokens more : List T)
-    → StandsFirst spelled tokens → StandsFirst spelled (tokens ++ more)
+    → StartsWithSpelling spelled tokens → StartsWithSpelling spelled (tokens ++ more)
 stands_more spelled tokens more (front, rest, is, splits) =
     (front, rest ++ more, is, ap (λ l. l ++ more) splits ∙ append_assoc front rest more)
 

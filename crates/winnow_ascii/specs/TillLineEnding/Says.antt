@@ -10,7 +10,7 @@ use Rattle.streams.specs.Reading.{Reading}
 use Rattle.grammars.specs.Grammar.{SpelledBy}
 use Rattle.grammars.specs.Grammar.Searches.{HasNoLineEnd, IsBefore, IsLineOf}
 use Rattle.grammars.specs.Grammar.Searches.Unique.{match_before, one_line, stands_behind}
-use Rattle.stream_searches.specs.Compare.{IsShort, StandsFirst}
+use Rattle.stream_searches.specs.Compare.{IsShort, StartsWithSpelling}
 use Rattle.stream_searches.specs.FirstMatch.{StaysFirst}
 use Rattle.stream_errors.specs.Form.{Answer, ErrorForm, incomplete_kind, modal, plain}
 use Rattle.stream_errors.specs.Form.{modal-not_plain}
@@ -34,23 +34,23 @@ use Rattle.winnow_ascii.specs.TillLineEnding.Laws.{till_line_ending_ends}
 use Rattle.winnow_token.specs.TakeUntil.Says.{before_more}
 
 -- `Incomplete` is not returned: the input is complete, or errors have no kind for it.
-abbrev pub IsForGood : Setting → Type 0
-IsForGood at = (at.more ≡ false) ⊎ (at.form ≡ plain)
+abbrev pub NeverIncomplete : Setting → Type 0
+NeverIncomplete at = (at.more ≡ false) ⊎ (at.form ≡ plain)
 
 -- `front` is a line: the tokens up to the first carriage return or line feed; or all tokens, if
 -- neither occurs and `Incomplete` is not returned.
 abbrev pub IsLine : {T : Type 0} → (ℕ × ℕ → List T → Type 0) → List T → Case T
 IsLine sought front at tokens rest =
     IsBefore (sought (13, 10)) tokens front rest
-    ⊎ (HasNoLineEnd sought tokens × IsForGood at × (front ≡ tokens) × (rest ≡ []))
+    ⊎ (HasNoLineEnd sought tokens × NeverIncomplete at × (front ≡ tokens) × (rest ≡ []))
 
 -- The tokens begin with a carriage return.
 abbrev pub HasReturn : {T : Type 0} → (Bor (List ℕ) → List T → Type 0) → List T → Type 0
-HasReturn spells = StandsFirst (SpelledBy spells (13 ∷ []))
+HasReturn spells = StartsWithSpelling (SpelledBy spells (13 ∷ []))
 
 -- The tokens start with a carriage return and a line feed.
 abbrev pub HasBoth : {T : Type 0} → (Bor (List ℕ) → List T → Type 0) → List T → Type 0
-HasBoth spells = StandsFirst (SpelledBy spells (13 ∷ 10 ∷ []))
+HasBoth spells = StartsWithSpelling (SpelledBy spells (13 ∷ 10 ∷ []))
 
 -- The tokens end before "\r\n" can be decided.
 abbrev pub EndsFirst : {T : Type 0} → (Bor (List ℕ) → List T → Type 0) → List T → Type 0
@@ -80,7 +80,7 @@ IsLone {T} spells sought at tokens rest =
 
 -- No line ending occurs, and `Incomplete` is returned.
 abbrev pub LacksEnd : {T : Type 0} → (ℕ × ℕ → List T → Type 0) → Setting → List T → Type 0
-LacksEnd sought at tokens = HasNoLineEnd sought tokens × (IsForGood at → ⊥)
+LacksEnd sought at tokens = HasNoLineEnd sought tokens × (NeverIncomplete at → ⊥)
 
 abbrev pub till_line_ending_says : {T L : Type 0} → (Bor (List ℕ) → List T → Type 0)
     → (ℕ × ℕ → List T → Type 0) → Reading T L → Says T L
@@ -223,7 +223,7 @@ module _ {T L : Type 0} (spells : Bor (List ℕ) → List T → Type 0)
   for_good modal e = absurd (cc)
 
   not_asked : {at : Setting} {i : Input T} {k : Kind} → IsAt at i → ShortKind at.form None i k
-      → IsForGood at → k ≡ backtrack
+      → NeverIncomplete at → k ≡ backtrack
   not_asked here (inl (cuts, kind)) (inl whole) =
       true_is_false (sym cuts ∙ here.more ∙ whole)
   not_asked {at} here (inl (cuts, kind)) (inr form) =
@@ -243,13 +243,13 @@ module _ {T L : Type 0} (spells : Bor (List ℕ) → List T → Type 0)
       (i.left.tokens, inr (none, inl (sym here.more ∙ whole), refl, nothing), takes)
 
   by_text : SpellsByText spells → (text : Bor (List ℕ)) (bytes : List ℕ)
-      (tokens : List T) → text.now ≡ bytes → StandsFirst (SpelledBy spells bytes) tokens
-      → StandsFirst (spells text) tokens
+      (tokens : List T) → text.now ≡ bytes → StartsWithSpelling (SpelledBy spells bytes) tokens
+      → StartsWithSpelling (spells text) tokens
   by_text alike text bytes tokens here (front, rest, (other, was, is), e) =
       (front, rest, alike other text front (was ∙ sym here) is, e)
 
   of_bytes : (text : Bor (List ℕ)) (bytes : List ℕ) (tokens : List T) → text.now ≡ bytes
-      → StandsFirst (spells text) tokens → StandsFirst (SpelledBy spells bytes) tokens
+      → StartsWithSpelling (spells text) tokens → StartsWithSpelling (SpelledBy spells bytes) tokens
   of_bytes text bytes tokens here (front, rest, is, e) = (front, rest, (text, here, is), e)
 
   after : {at : Setting} {i j : Input T} {front : List T} {slice : L} → IsAt at i

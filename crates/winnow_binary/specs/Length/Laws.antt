@@ -8,10 +8,10 @@ use Rattle.winnow_core.specs.Runs.{LeaveEnds, Runs}
 use Rattle.winnow_binary.specs.Length.{LengthRuns}
 use Rattle.winnow_core.specs.Stable.Grows.{Grows, final_by}
 use Rattle.streams.specs.Kind.{Kind, backtrack, memory}
-use Rattle.grammars.specs.Grammar.{Grammar, NoneStands}
+use Rattle.grammars.specs.Grammar.{Grammar, NoMatch}
 use Rattle.grammars.specs.Grammar.Lengths.{SaysOne, Sized, sized_unique}
 use Rattle.stream_errors.specs.Form.{Answer}
-use Rattle.stream_errors.specs.Form.Known.{at_kind, ok_is_err}
+use Rattle.stream_errors.specs.Form.Inversion.{at_kind, ok_is_err}
 use Rattle.winnow_core.specs.Exact.{FailsBy, IsExact}
 use Rattle.winnow_core.specs.States.{pair_is}
 
@@ -78,11 +78,11 @@ module _ {S V T N O : Type 0} (number : N → ℕ) {count : Runs S T N} {followi
       stands i o t j is (inr (k, r, same, e)) = ok_is_err refl e
 
       Goal : Input T → Kind → Type 0
-      Goal i k = (k ≡ memory) ⊎ NoneStands (Sized number behind g) i.left.tokens
+      Goal i k = (k ≡ memory) ⊎ NoMatch (Sized number behind g) i.left.tokens
 
       none_sized : (i a : Input T) (n : N) → g i.left.tokens n a.left.tokens
-          → NoneStands (behind (number n)) a.left.tokens
-          → NoneStands (Sized number behind g) i.left.tokens
+          → NoMatch (behind (number n)) a.left.tokens
+          → NoMatch (Sized number behind g) i.left.tokens
       none_sized i a n x nothing o rest (m, mid, y, z) =
           let P : List T → Type 0 = λ l. behind (number m) l o rest in
           let Q : ℕ → Type 0 = λ k. behind k a.left.tokens o rest in

@@ -15,9 +15,9 @@ use Rattle.winnow_binary.specs.LengthAndThen.{LengthAndThenRuns, TakenRuns, only
 use Rattle.winnow_core.specs.Stable.Grows.{Grows, final_by}
 use Rattle.winnow_core.specs.Stable.Longer.{passes_cut, passes_more, short_final}
 use Rattle.streams.specs.Kind.{Kind, backtrack, memory}
-use Rattle.grammars.specs.Grammar.{Grammar, NoneStands}
+use Rattle.grammars.specs.Grammar.{Grammar, NoMatch}
 use Rattle.grammars.specs.Grammar.Lengths.{Inside, SaysOne, Sized, inside_unique, same_beginnings}
-use Rattle.stream_errors.specs.Form.Known.{at_output, ok_is_err, same_kind}
+use Rattle.stream_errors.specs.Form.Inversion.{at_output, ok_is_err, same_kind}
 use Rattle.winnow_core.specs.CompleteErr.{CompleteErrRuns, complete_kind}
 use Rattle.winnow_core.specs.Exact.{FailsBy, IsExact}
 use Rattle.winnow_core.specs.Exact.Allowed.{Allowed, back_allowed}
@@ -107,7 +107,7 @@ module _ {S T L O : Type 0} (reading : Reading T L) (form : ErrorForm) (counts :
   inside_stands i o t j is (inr (k, l, r, became, e)) = ok_is_err refl e
 
   inside_fails : (i : Input T) (k : Kind) (t : S) (j : Input T) → i.status.cut ≡ false
-      → CompleteErrRuns run s i (Err k) t j → (k ≡ memory) ⊎ NoneStands g i.left.tokens
+      → CompleteErrRuns run s i (Err k) t j → (k ≡ memory) ⊎ NoMatch g i.left.tokens
   inside_fails i k t j is (inl (o, r, same, e)) = ok_is_err e refl
   inside_fails i k t j is (inr (l, m, r, became, e)) = elim (c.none i l t j is r) [
     | inl wanted ↦ inl (same_kind e ∙ became ∙ ap complete_kind wanted)
@@ -146,7 +146,7 @@ module _ {S T L O : Type 0} (reading : Reading T L) (form : ErrorForm) (counts :
       stands i o t j is (inr (k, few, short, e, same, back)) = ok_is_err refl e
 
       none_inside : (tokens taken left : List T) → tokens ≡ taken ++ left → length taken ≡ n
-          → NoneStands g taken → NoneStands (Inside g n) tokens
+          → NoMatch g taken → NoMatch (Inside g n) tokens
       none_inside tokens taken left e many nothing o rest (front, end, many2, e2, x) =
           let P : List T → Type 0 = λ l. g l o end in
           let same = (same_beginnings front taken rest left (many2 ∙ sym many) (sym e2 ∙ e)).0 in
@@ -154,7 +154,7 @@ module _ {S T L O : Type 0} (reading : Reading T L) (form : ErrorForm) (counts :
 
       none : (i : Input T) (k : Kind) (t : S) (j : Input T) → i.status.cut ≡ false
           → TakenRuns reading form counts run n s i (Err k) t j
-          → (k ≡ memory) ⊎ NoneStands (Inside g n) i.left.tokens
+          → (k ≡ memory) ⊎ NoMatch (Inside g n) i.left.tokens
       none i k t j is (inl (taken, rest, many, passes, r)) =
           elim (inside_fails (only_first taken i) k t rest refl r) [
             | inl m ↦ inl m

@@ -12,12 +12,12 @@ use Rattle.streams.specs.Following.{Following}
 use Rattle.winnow_core.specs.Runs.{LeaveEnds, Runs}
 use Rattle.winnow_repeat.specs.Repeat.Laws.{many_ends, many_grow}
 use Rattle.winnow_binary.specs.Length.Laws.{length_ends, length_grows}
-use Rattle.winnow_binary.specs.LengthRepeat.{ItemsBehind, LengthRepeatRuns}
+use Rattle.winnow_binary.specs.LengthRepeat.{CountedItems, LengthRepeatRuns}
 use Rattle.winnow_core.specs.Stable.Grows.{Grows}
 use Rattle.stream_sets.specs.Accumulator.Holds.{Holds}
-use Rattle.grammars.specs.Grammar.{Grammar, Many, NoneStands, TakesTokens}
+use Rattle.grammars.specs.Grammar.{Grammar, Many, NoMatch, TakesTokens}
 use Rattle.grammars.specs.Grammar.Lengths.{SaysOne, Sized, Times, times_unique}
-use Rattle.stream_errors.specs.Form.Known.{at_kind, ok_is_err, same_kind}
+use Rattle.stream_errors.specs.Form.Inversion.{at_kind, ok_is_err, same_kind}
 use Rattle.winnow_core.specs.Exact.{FailsBy, IsExact, IsSoft}
 use Rattle.winnow_repeat.specs.Repeat.Exact.{items_allowed, items_fail, items_keep}
 use Rattle.winnow_repeat.specs.Repeat.Exact.{items_stand}
@@ -29,7 +29,7 @@ pub length_repeat_ends : {S V T N L O C : Type 0} (reading : Reading T L) (numbe
     → LeaveEnds reading count → LeaveEnds reading run
     → LeaveEnds reading (LengthRepeatRuns number into assert_kind count run)
 length_repeat_ends reading number into assert_kind count run first second =
-    length_ends reading number count (ItemsBehind run into assert_kind) first
+    length_ends reading number count (CountedItems run into assert_kind) first
     (λ n. many_ends reading run into assert_kind (from_to n (Some n)) second)
 
 module _ {T : Type 0} {following : Following T} where
@@ -52,7 +52,7 @@ module _ {S T O C : Type 0} {run : Runs S T O} {g : Grammar T O} (into : Accumul
   exactly os tokens rest held (each, enough, inr (below, none)) =
       absurd (omega (arith, enough, below))
 
-  pub times_exact : IsExact s (ItemsBehind run into asserted n) (Times holds g n)
+  pub times_exact : IsExact s (CountedItems run into asserted n) (Times holds g n)
   unfolding Times
   times_exact = record {
     kept = kept;
@@ -62,7 +62,7 @@ module _ {S T O C : Type 0} {run : Runs S T O} {g : Grammar T O} (into : Accumul
   }
     where
       kept : (i : Input T) (answer : Answer C) (t : S) (j : Input T) → i.status.cut ≡ false
-          → ItemsBehind run into asserted n s i answer t j
+          → CountedItems run into asserted n s i answer t j
           → (t ≡ s) × (j.status.cut ≡ false)
       kept i answer t j is (inl (most, full, below, e, same, back)) =
           (same, ap (λ z. z.status.cut) back ∙ is)
@@ -72,7 +72,7 @@ module _ {S T O C : Type 0} {run : Runs S T O} {g : Grammar T O} (into : Accumul
           items_keep into asserted (from_to n (Some n)) c empty i answer t j is ran
 
       stands : (i : Input T) (all : C) (t : S) (j : Input T) → i.status.cut ≡ false
-          → ItemsBehind run into asserted n s i (Ok all) t j
+          → CountedItems run into asserted n s i (Ok all) t j
           → Times holds g n i.left.tokens all j.left.tokens
       stands i all t j is (inl (most, full, below, e, same, back)) = ok_is_err refl e
       stands i all t j is (inr (inl (within, grows, e, same, back))) = ok_is_err refl e
@@ -82,8 +82,8 @@ module _ {S T O C : Type 0} {run : Runs S T O} {g : Grammar T O} (into : Accumul
           exactly os i.left.tokens j.left.tokens (keeps.held _ empty all os starts taken) many
 
       none : (i : Input T) (k : Kind) (t : S) (j : Input T) → i.status.cut ≡ false
-          → ItemsBehind run into asserted n s i (Err k) t j
-          → (k ≡ memory) ⊎ NoneStands (Times holds g n) i.left.tokens
+          → CountedItems run into asserted n s i (Err k) t j
+          → (k ≡ memory) ⊎ NoMatch (Times holds g n) i.left.tokens
       none i k t j is (inl (most, full, below, e, same, back)) =
           absurd (omega (arith, same_some full, below))
       none i k t j is (inr (inl (within, grows, e, same, back))) = inl (same_kind e)
@@ -95,11 +95,11 @@ module _ {S T O C : Type 0} {run : Runs S T O} {g : Grammar T O} (into : Accumul
           ]
 
   pub times_fails : {allowed : Kind → Type 0} → FailsBy allowed s run
-      → (Wants into → allowed memory) → FailsBy allowed s (ItemsBehind run into asserted n)
+      → (Wants into → allowed memory) → FailsBy allowed s (CountedItems run into asserted n)
   times_fails {allowed} may wants = record { fails = fails }
     where
       fails : (i : Input T) (k : Kind) (t : S) (j : Input T) → i.status.cut ≡ false
-          → ItemsBehind run into asserted n s i (Err k) t j → allowed k
+          → CountedItems run into asserted n s i (Err k) t j → allowed k
       fails i k t j is (inl (most, full, below, e, same, back)) =
           absurd (omega (arith, same_some full, below))
       fails i k t j is (inr (inl (within, grows, e, same, back))) =

@@ -5,10 +5,10 @@ use Rattle.std.proofs.Common.{refl, sym, ap, subst, ◌∙◌, append_assoc, inl
 use Rattle.streams.specs.Counted.{counted_reading}
 use Rattle.streams.specs.Input.{Input}
 use Rattle.stream_errors.specs.Form.{Answer, ErrorForm}
-use Rattle.stream_errors.specs.Form.Known.{ok_is_err}
+use Rattle.stream_errors.specs.Form.Inversion.{ok_is_err}
 use Rattle.winnow_core.specs.Reads.{ReadsShown}
 use Rattle.winnow_core.specs.Runs.{Runs}
-use Rattle.winnow_token.specs.Take.Known.{take_count_ok}
+use Rattle.winnow_token.specs.Take.Inversion.{take_count_ok}
 use Rattle.winnow_binary.specs.LengthTake.{LengthTakeRuns}
 
 module _ {S T N : Type 0} (number : N → ℕ) (form : ErrorForm) (counts : Bool) (count : Runs S T N)

@@ -17,7 +17,7 @@ use Rattle.stream_bits.specs.BitList.{bits_append, bits_cons, bits_of, length_bi
 use Rattle.stream_bits.specs.BitList.{low_bits, same_byte}
 use Rattle.stream_bits.specs.BitReading.{advance_bits, bits_reading, byte_step}
 use Rattle.stream_bits.specs.Moves.{bytes_move}
-use Rattle.streams.specs.Following.{FitsBehind, most_bytes, Following, Follows}
+use Rattle.streams.specs.Following.{FitsAfter, most_bytes, Following, Follows}
 use Rattle.winnow_core.specs.Ends.{same_ends}
 use Rattle.winnow_core.specs.Runs.{LeaveEnds, Runs}
 use Rattle.winnow_bits.specs.BitsOfBytes.{BitsOfBytesRuns, LeavesWholeBytes}
@@ -157,7 +157,7 @@ module _ {L : Type 0} (reading : Reading ℕ L) (counts : CountsBytes reading) (
 
 -- bytes that may follow bytes have bits that may follow their bits
 bits_may : {L : Type 0} (reading : Reading ℕ L) (bytes more : List ℕ)
-    → FitsBehind (All (λ b. b < 256)) length most_bytes bytes more
+    → FitsAfter (All (λ b. b < 256)) length most_bytes bytes more
     → (bits_follow reading).can_follow (bits_from bytes 0) (bits_of more)
 bits_may reading bytes more f =
     let readable : can_be_read bytes 0 ≡ true = readable_is bytes 0 (record {
@@ -193,7 +193,7 @@ module _ {L S O : Type 0} (reading : Reading ℕ L) (following : Following ℕ)
       → IsStable following (BitsOfBytesRuns reading modal run)
   bits_of_bytes_stays run child more flag s i answer t j is_cut follows final r = by r
     where
-      behind : FitsBehind (All (λ b. b < 256)) length most_bytes i.left.tokens more
+      behind : FitsAfter (All (λ b. b < 256)) length most_bytes i.left.tokens more
       behind = followed.only i.left.tokens more follows.tokens
 
       counted : length (i.left.tokens ++ more) ≤ most_bytes

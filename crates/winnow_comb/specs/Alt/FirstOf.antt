@@ -9,7 +9,7 @@ use Rattle.streams.specs.Kind.{Kind, backtrack, cut}
 use Rattle.grammars.specs.Grammar.{Grammar, Never}
 use Rattle.grammars.specs.Grammar.FirstOf.{FirstFrom, FirstOf}
 use Rattle.stream_errors.specs.Form.{Answer, ErrorForm, assert_kind, modal, plain}
-use Rattle.stream_errors.specs.Form.Known.{ok_is_err, same_kind}
+use Rattle.stream_errors.specs.Form.Inversion.{ok_is_err, same_kind}
 use Rattle.winnow_core.specs.Exact.{FailsBy, IsExact}
 use Rattle.winnow_core.specs.Exact.Allowed.{Allowed, back_allowed, cut_allowed, fails_as, softly}
 use Rattle.winnow_core.specs.Runs.{Runs}

@@ -11,7 +11,7 @@ use Rattle.winnow_core.specs.Runs.{Runs, LeaveEnds}
 use Rattle.winnow_comb.specs.Alt.{OrElse}
 use Rattle.winnow_core.specs.Stable.Grows.{Grows}
 use Rattle.winnow_core.specs.States.{pair_is}
-use Rattle.grammars.specs.Grammar.{Either, Grammar, NoneStands}
+use Rattle.grammars.specs.Grammar.{Either, Grammar, NoMatch}
 use Rattle.grammars.specs.Grammar.Unique.{either_unique}
 use Rattle.winnow_core.specs.Exact.{FailsBy, IsExact, IsSoft}
 use Rattle.winnow_core.specs.Exact.Failed.{none_at_backtrack}
@@ -90,7 +90,7 @@ module _ {S1 S2 T O : Type 0} {run1 : Runs S1 T O} {run2 : Runs S2 T O}
 
       none : (i : Input T) (k : Kind) (t : S1 × S2) (j : Input T)
           → i.status.cut ≡ false → OrElse run1 run2 s i (Err k) t j
-          → (k ≡ memory) ⊎ NoneStands (Either g1 g2) i.left.tokens
+          → (k ≡ memory) ⊎ NoMatch (Either g1 g2) i.left.tokens
       none i k t j is (inl (r, other, kept)) = elim (f1.fails i k t.0 j is r) [
         | inl m ↦ inl m
         | inr b ↦ absurd (other (ap Err b))

@@ -11,9 +11,9 @@ use Rattle.winnow_core.specs.Stable.Grows.{Grows, final_by}
 use Rattle.streams.specs.Equal.{true_is_false}
 use Rattle.streams.specs.Input.{Input}
 use Rattle.streams.specs.Kind.{Kind, memory}
-use Rattle.grammars.specs.Grammar.{Grammar, IsUnique, NoneStands, When}
+use Rattle.grammars.specs.Grammar.{Grammar, IsUnique, NoMatch, When}
 use Rattle.stream_errors.specs.Form.{Answer}
-use Rattle.stream_errors.specs.Form.Known.{at_kind, ok_is_err, same_kind, same_ok}
+use Rattle.stream_errors.specs.Form.Inversion.{at_kind, ok_is_err, same_kind, same_ok}
 use Rattle.winnow_core.specs.Exact.{FailsBy, IsExact}
 use Rattle.winnow_core.specs.States.{pair_is}
 
@@ -103,7 +103,7 @@ module _ {S T O : Type 0} {run : Runs S T O} {s : S × Bool} where
           inr (fails, same_ok refl e, ap (λ x. x.left.tokens) back)
 
       none : (i : Input T) (k : Kind) (t : S) (j : Input T) → i.status.cut ≡ false
-          → CondWay run s i (Err k) t j → (k ≡ memory) ⊎ NoneStands (When s.1 g) i.left.tokens
+          → CondWay run s i (Err k) t j → (k ≡ memory) ⊎ NoMatch (When s.1 g) i.left.tokens
       none i k t j is (inl (o, holds, r, e)) = ok_is_err e refl
       none i k t j is (inr (inl (l, holds, r, e))) = elim (c.none i l t j is r) [
         | inl wanted ↦ inl (same_kind e ∙ wanted)

@@ -11,8 +11,8 @@ use Rattle.winnow_core.specs.Stable.{IsFinalKind}
 use Rattle.winnow_core.specs.Stable.Grows.{Grows, final_by}
 use Rattle.streams.specs.Input.{Input}
 use Rattle.stream_errors.specs.Form.{Answer}
-use Rattle.grammars.specs.Grammar.{Grammar, NoneStands}
-use Rattle.stream_errors.specs.Form.Known.{at_kind, at_output, ok_is_err, same_kind}
+use Rattle.grammars.specs.Grammar.{Grammar, NoMatch}
+use Rattle.stream_errors.specs.Form.Inversion.{at_kind, at_output, ok_is_err, same_kind}
 use Rattle.winnow_core.specs.Exact.{FailsBy, IsExact}
 use Rattle.winnow_core.specs.Exact.Allowed.{Allowed, cut_allowed, memory_allowed}
 
@@ -59,7 +59,7 @@ module _ {S T O : Type 0} {run : Runs S T O} {s : S} where
       stands i o t j is (inr (k, r, e)) = ok_is_err refl e
 
       none : (i : Input T) (k : Kind) (t : S) (j : Input T) → i.status.cut ≡ false
-          → CutErrRuns run s i (Err k) t j → (k ≡ memory) ⊎ NoneStands g i.left.tokens
+          → CutErrRuns run s i (Err k) t j → (k ≡ memory) ⊎ NoMatch g i.left.tokens
       none i k t j is (inl (p, r, e)) = ok_is_err e refl
       none i k t j is (inr (l, r, e)) = elim (c.none i l t j is r) [
         | inl wanted ↦ inl (same_kind e ∙ ap cut_of wanted)

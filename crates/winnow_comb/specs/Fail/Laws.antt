@@ -5,7 +5,7 @@ use Rattle.winnow_core.specs.Stable.Grows.{Stays}
 use Rattle.std.specs.Prelude.{⊤}
 use Rattle.std.proofs.Common.{refl, ap, inr, ◌∙◌}
 use Rattle.grammars.specs.Grammar.{Never, TakesTokens}
-use Rattle.stream_errors.specs.Form.Known.{ok_is_err, same_kind}
+use Rattle.stream_errors.specs.Form.Inversion.{ok_is_err, same_kind}
 use Rattle.winnow_core.specs.Exact.{Backtracks, IsExact}
 use Rattle.winnow_core.specs.Runs.{Keeps}
 

@@ -11,8 +11,8 @@ use Rattle.winnow_comb.specs.Not.{NotRuns}
 use Rattle.winnow_core.specs.Stable.Longer.{back_grows}
 use Rattle.winnow_core.specs.Stable.Grows.{Grows, final_by}
 use Rattle.stream_errors.specs.Form.{Answer}
-use Rattle.grammars.specs.Grammar.{Grammar, NoneStands, NotAhead}
-use Rattle.stream_errors.specs.Form.Known.{at_kind, ok_is_err, same_kind}
+use Rattle.grammars.specs.Grammar.{Grammar, NoMatch, NotAhead}
+use Rattle.stream_errors.specs.Form.Inversion.{at_kind, ok_is_err, same_kind}
 use Rattle.winnow_core.specs.Exact.{FailsBy, IsExact, IsSoft}
 use Rattle.winnow_core.specs.Exact.Allowed.{Allowed, back_allowed}
 use Rattle.winnow_core.specs.Exact.Failed.{none_at_backtrack}
@@ -80,7 +80,7 @@ module _ {S T O : Type 0} {run : Runs S T O} {s : S} where
       stands i o t j is (inr (inr (k, m, r, other, e, back))) = ok_is_err refl e
 
       none : (i : Input T) (k : Kind) (t : S) (j : Input T) → i.status.cut ≡ false
-          → NotRuns run s i (Err k) t j → (k ≡ memory) ⊎ NoneStands (NotAhead g) i.left.tokens
+          → NotRuns run s i (Err k) t j → (k ≡ memory) ⊎ NoMatch (NotAhead g) i.left.tokens
       none i k t j is (inl (p, m, r, e, back)) =
           inr (λ u rest (nothing, same). nothing p m.left.tokens (c.stands i p t m is r))
       none i k t j is (inr (inl (m, r, e, back))) = ok_is_err e refl

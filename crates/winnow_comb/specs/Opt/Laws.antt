@@ -11,9 +11,9 @@ use Rattle.winnow_comb.specs.Opt.{OptRuns}
 use Rattle.winnow_core.specs.Stable.Longer.{back_grows}
 use Rattle.winnow_core.specs.Stable.Grows.{Grows, final_by}
 use Rattle.stream_errors.specs.Form.{Answer}
-use Rattle.grammars.specs.Grammar.{Grammar, NoneStands, Optional}
+use Rattle.grammars.specs.Grammar.{Grammar, NoMatch, Optional}
 use Rattle.grammars.specs.Grammar.Unique.{optional_unique}
-use Rattle.stream_errors.specs.Form.Known.{at_kind, ok_is_err, same_ok, same_kind}
+use Rattle.stream_errors.specs.Form.Inversion.{at_kind, ok_is_err, same_ok, same_kind}
 use Rattle.winnow_core.specs.Exact.{FailsBy, IsExact, IsSoft}
 use Rattle.winnow_core.specs.Exact.Failed.{none_at_backtrack}
 
@@ -74,7 +74,7 @@ module _ {S T O : Type 0} {run : Runs S T O} {g : Grammar T O} {s : S} where
       stands i o t j is (inr (inr (k, r, other, e))) = ok_is_err refl e
 
       none : (i : Input T) (k : Kind) (t : S) (j : Input T) → i.status.cut ≡ false
-          → OptRuns run s i (Err k) t j → (k ≡ memory) ⊎ NoneStands (Optional g) i.left.tokens
+          → OptRuns run s i (Err k) t j → (k ≡ memory) ⊎ NoMatch (Optional g) i.left.tokens
       none i k t j is (inl (o, r, e)) = ok_is_err e refl
       none i k t j is (inr (inl (m, r, e, back))) = ok_is_err e refl
       none i k t j is (inr (inr (l, r, other, e))) = elim (f.fails i l t j is r) [

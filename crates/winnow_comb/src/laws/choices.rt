@@ -11,7 +11,7 @@ use winnow_core::parser::Parser;
 
 /// `alt` of two parsers returns the result of the first branch that does not backtrack, or of the
 /// last branch. Every branch runs at the same offset.
-pub fn alt_of_two_answers_as_the_first<
+pub fn alt_of_two_is_ordered_choice<
     P1: Parser<I, O, E>,
     P2: Parser<I, O, E>,
     I: Stream,
@@ -24,7 +24,7 @@ pub fn alt_of_two_answers_as_the_first<
 
 /// `alt` of three parsers returns the result of the first branch that does not backtrack, or of the
 /// last branch. Every branch runs at the same offset.
-pub fn alt_of_three_answers_as_the_first<
+pub fn alt_of_three_is_ordered_choice<
     P1: Parser<I, O, E>,
     P2: Parser<I, O, E>,
     P3: Parser<I, O, E>,
@@ -38,7 +38,7 @@ pub fn alt_of_three_answers_as_the_first<
 
 /// `alt` of four parsers returns the result of the first branch that does not backtrack, or of the
 /// last branch. Every branch runs at the same offset.
-pub fn alt_of_four_answers_as_the_first<
+pub fn alt_of_four_is_ordered_choice<
     P1: Parser<I, O, E>,
     P2: Parser<I, O, E>,
     P3: Parser<I, O, E>,
@@ -53,7 +53,7 @@ pub fn alt_of_four_answers_as_the_first<
 
 /// `alt` of five parsers returns the result of the first branch that does not backtrack, or of the
 /// last branch. Every branch runs at the same offset.
-pub fn alt_of_five_answers_as_the_first<
+pub fn alt_of_five_is_ordered_choice<
     P1: Parser<I, O, E>,
     P2: Parser<I, O, E>,
     P3: Parser<I, O, E>,
@@ -70,7 +70,7 @@ pub fn alt_of_five_answers_as_the_first<
 
 /// `alt` of six parsers returns the result of the first branch that does not backtrack, or of the
 /// last branch. Every branch runs at the same offset.
-pub fn alt_of_six_answers_as_the_first<
+pub fn alt_of_six_is_ordered_choice<
     P1: Parser<I, O, E>,
     P2: Parser<I, O, E>,
     P3: Parser<I, O, E>,

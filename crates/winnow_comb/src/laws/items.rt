@@ -9,7 +9,7 @@ use winnow_core::parser::Parser;
 
 /// [`alt`](crate::combinator::alt) over an array returns the result of the first item that does not
 /// backtrack, or of the last. Every item is run from the same position.
-pub fn alt_of_an_array_answers_as_the_first<
+pub fn alt_of_an_array_is_ordered_choice<
     const N: usize,
     P: Parser<I, O, E>,
     I: Stream,
@@ -22,7 +22,7 @@ pub fn alt_of_an_array_answers_as_the_first<
 
 /// [`alt`](crate::combinator::alt) over a slice returns the result of the first item that does not
 /// backtrack, or of the last. Every item is run from the same position.
-pub fn alt_of_a_slice_answers_as_the_first<
+pub fn alt_of_a_slice_is_ordered_choice<
     'a,
     P: Parser<I, O, E> + 'a,
     I: Stream,

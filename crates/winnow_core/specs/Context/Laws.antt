@@ -10,20 +10,20 @@ use Rattle.winnow_core.specs.MakesError.Laws.{KeepsFinal}
 
 -- `Incomplete` stores no context and is unchanged. Other kinds store it, or their allocation
 -- failed.
-abbrev pub Told : Keeping → Kind → Kind → Type 0
-Told keeping k l =
+abbrev pub WithContext : Keeping → Kind → Kind → Type 0
+WithContext keeping k l =
     (IsSome (need_of_kind k) × (l ≡ k)) ⊎ ((need_of_kind k ≡ None) × KindGiven keeping k l)
 
 -- so says the type of errors
 pub is_told : (form : ErrorForm) (keeping : Keeping) (k l : Kind) → KeepsContext form keeping k l
-    → Told keeping k l
+    → WithContext keeping k l
 is_told form keeping k l (inl (is, some, same)) = inl (some, same)
 is_told form keeping k l (inr given) = inr given
 
 -- an error to which a clone is added
 pub becomes_told : {C : Type 0} (IsClone : C → C → Type 0) (ClonesAlways : C → Type 0)
     (context : C) (gives : C → Keeping) (copy : C) (k l : Kind) → IsClone context copy
-    → Told (gives copy) k l
+    → WithContext (gives copy) k l
     → ContextBecomes IsClone ClonesAlways (context, gives) k l (context, gives)
 becomes_told IsClone ClonesAlways context gives copy k l is (inl (some, same)) =
     (refl, inl (some, same))

@@ -4,13 +4,13 @@ use Rattle.std.specs.List.{FoldsTo}
 use Rattle.std.proofs.Common.{sym, inl, inr, ◌∙◌}
 use Rattle.streams.specs.Kind.{Kind, memory}
 use Rattle.stream_errors.specs.Given.{Keeping}
-use Rattle.winnow_core.specs.Context.Laws.{Told}
+use Rattle.winnow_core.specs.Context.Laws.{WithContext}
 use Rattle.winnow_core.specs.ContextWith.{ContextWithBecomes}
 use Rattle.winnow_core.specs.Exact.Errors.{KeepsKinds}
 
 -- one context after the other
 told_kind : {C : Type 0} (gives : C → Keeping) (contexts : List C) (k l : Kind)
-    → FoldsTo (λ old context new. Told (gives context) old new) k contexts l
+    → FoldsTo (λ old context new. WithContext (gives context) old new) k contexts l
     → (l ≡ k) ⊎ (l ≡ memory)
 told_kind gives [] k l same = inl (sym same)
 told_kind gives (c ∷ cs) k l (m, told, rest) = elim (told_kind gives cs m l rest) [

@@ -5,7 +5,7 @@ use Rattle.std.proofs.Common.{refl, sym, ap, subst, inl, inr, ◌∙◌, arith}
 use Rattle.streams.specs.Equal.{same_first, same_others}
 use Rattle.streams.specs.Input.{Input}
 use Rattle.stream_errors.specs.Form.{Answer}
-use Rattle.winnow_core.specs.Decided.{AlikeAnswers, IsDecided, NotMemory}
+use Rattle.winnow_core.specs.Decided.{EqualResults, IsDecided, NotMemory}
 use Rattle.winnow_core.specs.Decided.Inputs.{both_err, both_ok, err_not_memory, ok_not_memory}
 use Rattle.winnow_core.specs.MakesOutput.{MakesOutput}
 use Rattle.winnow_core.specs.Runs.{Runs}
@@ -27,7 +27,7 @@ module _ {S T O U : Type 0} {run : Runs S T O} {s : S} {alike : O → O → Type
 
       decided : (i : Input T) (a b : Answer U) (t u : S) (j k : Input T) → NotMemory a
           → NotMemory b → MakesOutput makes run s i a t j → MakesOutput makes run s i b u k
-          → AlikeAnswers also a b × (j ≡ k)
+          → EqualResults also a b × (j ≡ k)
       decided i a b t u j k na nb (inl (o, v, r, x, e)) (inl (p, w, q, y, f)) =
           let (like, place) =
           c.decided i (Ok o) (Ok p) t u j k ok_not_memory ok_not_memory r q in (

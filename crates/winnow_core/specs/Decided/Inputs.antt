@@ -5,7 +5,7 @@ use Rattle.streams.specs.Equal.{same_first, same_others}
 use Rattle.streams.specs.Kind.{Kind, memory}
 use Rattle.streams.specs.Reading.{Reading, units-nil}
 use Rattle.stream_errors.specs.Form.{Answer}
-use Rattle.winnow_core.specs.Decided.{AlikeAnswers, NotMemory}
+use Rattle.winnow_core.specs.Decided.{EqualResults, NotMemory}
 
 pub same_front : {T L : Type 0} (reading : Reading T L) (front other rest more : List T)
     → front ++ rest ≡ other ++ more → reading.units front ≡ reading.units other → front ≡ other
@@ -23,17 +23,17 @@ same_front {T} reading (x ∷ xs) (y ∷ ys) rest more e u =
     ap (λ z. z ∷ xs) first ∙ ap (λ l. y ∷ l) others
 
 pub both_ok : {O : Type 0} (alike : O → O → Type 0) {a b : Answer O} {o p : O} → a ≡ Ok o
-    → b ≡ Ok p → alike o p → AlikeAnswers alike a b
+    → b ≡ Ok p → alike o p → EqualResults alike a b
 both_ok alike {b = b} {o = o} e f like =
-    subst (λ x. AlikeAnswers alike x b) (sym e)
-    (subst (λ x. AlikeAnswers alike (Ok o) x) (sym f) like)
+    subst (λ x. EqualResults alike x b) (sym e)
+    (subst (λ x. EqualResults alike (Ok o) x) (sym f) like)
 
 -- two errors of one kind
 pub both_err : {O : Type 0} (alike : O → O → Type 0) {a b : Answer O} {k l : Kind} → a ≡ Err k
-    → b ≡ Err l → k ≡ l → AlikeAnswers alike a b
+    → b ≡ Err l → k ≡ l → EqualResults alike a b
 both_err alike {b = b} {k = k} e f like =
-    subst (λ x. AlikeAnswers alike x b) (sym e)
-    (subst (λ x. AlikeAnswers alike (Err k) x) (sym f) like)
+    subst (λ x. EqualResults alike x b) (sym e)
+    (subst (λ x. EqualResults alike (Err k) x) (sym f) like)
 
 pub ok_not_memory : {O : Type 0} {o : O} → NotMemory {O = O} (Ok o)
 ok_not_memory e = cc
@@ -46,7 +46,7 @@ err_not_memory {answer = answer} {k = k} e other f =
 
 -- equality of results for a weaker equality of outputs
 pub widened : {O : Type 0} (alike also : O → O → Type 0) → ((o p : O) → alike o p → also o p)
-    → (a b : Answer O) → AlikeAnswers alike a b → AlikeAnswers also a b
+    → (a b : Answer O) → EqualResults alike a b → EqualResults also a b
 widened alike also more (Ok o) (Ok p) like = more o p like
 widened alike also more (Ok o) (Err l) like = like
 widened alike also more (Err k) (Ok p) like = like

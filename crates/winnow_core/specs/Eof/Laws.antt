@@ -8,8 +8,8 @@ use Rattle.winnow_core.specs.Ends.{same_ends}
 use Rattle.winnow_core.specs.Eof.{EofRuns}
 use Rattle.winnow_core.specs.Runs.{Keeps}
 use Rattle.streams.specs.Kind.{Kind, backtrack, memory}
-use Rattle.grammars.specs.Grammar.{NoTokens, NoneStands}
-use Rattle.stream_errors.specs.Form.Known.{ok_is_err, same_ok, same_kind}
+use Rattle.grammars.specs.Grammar.{NoTokens, NoMatch}
+use Rattle.stream_errors.specs.Form.Inversion.{ok_is_err, same_ok, same_kind}
 use Rattle.winnow_core.specs.Exact.{Backtracks, IsExact}
 
 pub eof_ends : {T L : Type 0} (reading : Reading T L) (i : Input T) (answer : Answer L)
@@ -48,7 +48,7 @@ module _ {T L : Type 0} (reading : Reading T L) where
       stands i o j (inr (some, e, same)) = ok_is_err refl e
 
       none : (i : Input T) (k : Kind) (j : Input T) → EofRuns reading i (Err k) j
-          → NoneStands (NoTokens reading) i.left.tokens
+          → NoMatch (NoTokens reading) i.left.tokens
       none i k j (inl (slice, nothing, takes, e)) = ok_is_err e refl
       none i k j (inr (some, e, same)) = λ o rest (nothing, f, shown). some nothing
 

@@ -3,9 +3,9 @@ use Rattle.std.specs.Prelude.{◌≡◌, ◌⊎◌, false, IsTrue, Ok, Err}
 use Rattle.std.proofs.Common.{refl, ap, subst, sym, inl, inr, ◌∙◌}
 use Rattle.streams.specs.Input.{Input}
 use Rattle.streams.specs.Kind.{Kind, backtrack, cut, incomplete, memory}
-use Rattle.grammars.specs.Grammar.{Grammar, NoneStands}
+use Rattle.grammars.specs.Grammar.{Grammar, NoMatch}
 use Rattle.stream_errors.specs.Form.{Answer}
-use Rattle.stream_errors.specs.Form.Known.{at_kind, at_output, ok_is_err, same_kind}
+use Rattle.stream_errors.specs.Form.Inversion.{at_kind, at_output, ok_is_err, same_kind}
 use Rattle.stream_errors.specs.Given.{Keeping}
 use Rattle.winnow_core.specs.CompleteErr.{CompleteErrBecomes, CompleteErrRuns, complete_kind}
 use Rattle.winnow_core.specs.Context.{ContextBecomes, ContextRuns}
@@ -25,9 +25,9 @@ pub record KeepsKinds {G : Type 0} (becomes : G → Kind → Kind → G → Type
   pub kind : (k l : Kind) (h : G) → becomes f k l h → (l ≡ k) ⊎ (l ≡ memory)
 
 -- A kind in `allowed` becomes a kind in `also`.
-abbrev pub Leads : {G : Type 0} → (Kind → Type 0) → (Kind → Type 0)
+abbrev pub KindsBecome : {G : Type 0} → (Kind → Type 0) → (Kind → Type 0)
     → (G → Kind → Kind → G → Type 0) → G → Type 0
-Leads {G} allowed also becomes f = (k l : Kind) (h : G) → becomes f k l h → allowed k → also l
+KindsBecome {G} allowed also becomes f = (k l : Kind) (h : G) → becomes f k l h → allowed k → also l
 
 module _ {S G T O : Type 0} {becomes : G → Kind → Kind → G → Type 0} {run : Runs S T O}
     {s : S × G} where
@@ -57,7 +57,7 @@ module _ {S G T O : Type 0} {becomes : G → Kind → Kind → G → Type 0} {ru
 
       none : (i : Input T) (k : Kind) (t : S × G) (j : Input T) → i.status.cut ≡ false
           → MakesError becomes run s i (Err k) t j
-          → (k ≡ memory) ⊎ NoneStands g i.left.tokens
+          → (k ≡ memory) ⊎ NoMatch g i.left.tokens
       none i k t j is (inl (p, r, same, e)) = ok_is_err e refl
       none i k t j is (inr (m, l, r, made, e)) = elim (keeps.kind m l t.1 made) [
         | inl same ↦ elim (c.none i m t.0 j is r) [
@@ -69,7 +69,7 @@ module _ {S G T O : Type 0} {becomes : G → Kind → Kind → G → Type 0} {ru
 
 -- failures that become others
 pub errors_fail : {S G T O : Type 0} {run : Runs S T O} {s : S × G} {allowed also : Kind → Type 0}
-    (becomes : G → Kind → Kind → G → Type 0) → Leads allowed also becomes s.1
+    (becomes : G → Kind → Kind → G → Type 0) → KindsBecome allowed also becomes s.1
     → FailsBy allowed s.0 run → FailsBy also s (MakesError becomes run)
 errors_fail {S} {G} {T} {O} {run} {s} {also = also} becomes leads f = record { fails = fails }
   where
@@ -144,7 +144,7 @@ ConvertsSparing {E} {D} kind new_kind converts =
 err_into_leads : {E D b m n : Type 0} (kind : E → Kind) (new_kind : D → Kind)
     (converts : E → D → Type 0) → SameKinds kind new_kind converts → (n → m)
     → (n → ConvertsSparing kind new_kind converts)
-    → Leads (Allowed b m) (Allowed b n) (ErrIntoBecomes kind new_kind converts) tt
+    → KindsBecome (Allowed b m) (Allowed b n) (ErrIntoBecomes kind new_kind converts) tt
 err_into_leads {b = b} {m} {n} kind new_kind converts same spares sparing k l h
     (old, new, was, made, is) may =
     let Q : Kind → Type 0 = λ x. Allowed b n x in elim (same old new made) [
@@ -244,7 +244,7 @@ module _ {S T O : Type 0} {run : Runs S T O} {s : S} where
       stands i o t j is (inr (k, l, r, made, e)) = ok_is_err refl e
 
       none : (i : Input T) (k : Kind) (t : S) (j : Input T) → i.status.cut ≡ false
-          → CompleteErrRuns run s i (Err k) t j → (k ≡ memory) ⊎ NoneStands g i.left.tokens
+          → CompleteErrRuns run s i (Err k) t j → (k ≡ memory) ⊎ NoMatch g i.left.tokens
       none i k t j is (inl (p, r, same, e)) = ok_is_err e refl
       none i k t j is (inr (m, l, r, made, e)) = elim (c.none i m t j is r) [
         | inl wanted ↦ inl (same_kind e ∙ made ∙ ap complete_kind wanted)

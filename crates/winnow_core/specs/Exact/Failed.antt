@@ -4,7 +4,7 @@ use Rattle.std.proofs.Common.{inl, inr, sym, ◌∙◌}
 use Rattle.streams.specs.Equal.{true_is_false}
 use Rattle.streams.specs.Input.{Input}
 use Rattle.streams.specs.Kind.{Kind, backtrack, memory}
-use Rattle.grammars.specs.Grammar.{Grammar, NoneStands}
+use Rattle.grammars.specs.Grammar.{Grammar, NoMatch}
 use Rattle.stream_errors.specs.Form.{ErrorForm}
 use Rattle.winnow_core.specs.Exact.{IsExact}
 use Rattle.winnow_core.specs.Runs.{Runs}
@@ -15,7 +15,7 @@ not_memory e = absurd (cc)
 
 pub none_at_backtrack : {S T O : Type 0} {run : Runs S T O} {g : Grammar T O}
     {s : S} → IsExact s run g → (i : Input T) (t : S) (j : Input T) → i.status.cut ≡ false
-    → run s i (Err backtrack) t j → NoneStands g i.left.tokens
+    → run s i (Err backtrack) t j → NoMatch g i.left.tokens
 none_at_backtrack c i t j is r = elim (c.none i backtrack t j is r) [
   | inl m ↦ not_memory m
   | inr nothing ↦ nothing

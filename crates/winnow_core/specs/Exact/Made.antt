@@ -3,10 +3,10 @@ use Rattle.std.specs.Prelude.{◌≡◌, ◌⊎◌, false, List, Ok, Err}
 use Rattle.std.proofs.Common.{refl, sym, subst, inl, inr, ◌∙◌}
 use Rattle.streams.specs.Input.{Input}
 use Rattle.streams.specs.Kind.{Kind, memory}
-use Rattle.grammars.specs.Grammar.{Grammar, NoneStands}
+use Rattle.grammars.specs.Grammar.{Grammar, NoMatch}
 use Rattle.grammars.specs.Grammar.Unique.{MadeBy}
 use Rattle.stream_errors.specs.Form.{Answer}
-use Rattle.stream_errors.specs.Form.Known.{at_kind, ok_is_err, same_ok}
+use Rattle.stream_errors.specs.Form.Inversion.{at_kind, ok_is_err, same_ok}
 use Rattle.winnow_core.specs.Exact.{FailsBy, IsExact}
 use Rattle.winnow_core.specs.Runs.{Runs}
 
@@ -31,15 +31,16 @@ pub record IsMade {S R T O U : Type 0} (makes : List T → O → List T → U �
 
 -- If an output is rejected, the error is out of memory, or the input does not start with a match of
 -- the adapter's grammar.
-abbrev pub Refuses : {T O U : Type 0} → (List T → O → List T → U → Type 0)
+abbrev pub RejectsOutput : {T O U : Type 0} → (List T → O → List T → U → Type 0)
     → (O → Kind → Type 0) → Grammar T O → Type 0
-Refuses {T} {O} makes refused grammar =
+RejectsOutput {T} {O} makes refused grammar =
     (tokens : List T) (o : O) (rest : List T) (k : Kind) → grammar tokens o rest → refused o k
-    → (k ≡ memory) ⊎ NoneStands (MadeBy makes grammar) tokens
+    → (k ≡ memory) ⊎ NoMatch (MadeBy makes grammar) tokens
 
 module _ {S R T O U : Type 0} {makes : List T → O → List T → U → Type 0}
     {refused : O → Kind → Type 0} {run : Runs S T O} {s : S} {made : Runs R T U} {r : R} where
-  pub made_exact : {g : Grammar T O} → IsMade makes refused run s made r → Refuses makes refused g
+  pub made_exact : {g : Grammar T O} → IsMade makes refused run s made r
+      → RejectsOutput makes refused g
       → IsExact s run g → IsExact r made (MadeBy makes g)
   made_exact {g} is refuses c = record {
     kept = kept;
@@ -78,10 +79,10 @@ module _ {S R T O U : Type 0} {makes : List T → O → List T → U → Type 0}
           ]
 
       Goal : Input T → Kind → Type 0
-      Goal i k = (k ≡ memory) ⊎ NoneStands (MadeBy makes g) i.left.tokens
+      Goal i k = (k ≡ memory) ⊎ NoMatch (MadeBy makes g) i.left.tokens
 
       none : (i : Input T) (k : Kind) (t : R) (j : Input T) → i.status.cut ≡ false
-          → made r i (Err k) t j → (k ≡ memory) ⊎ NoneStands (MadeBy makes g) i.left.tokens
+          → made r i (Err k) t j → (k ≡ memory) ⊎ NoMatch (MadeBy makes g) i.left.tokens
       none i k t j whole ran =
           let (m, same, way) = is.ran i (Err k) t j ran in elim way [
             | inl (o, v, x, made, e) ↦ ok_is_err e refl

@@ -2,7 +2,7 @@
 use Rattle.std.proofs.Common.{refl, ap, ◌∙◌}
 use Rattle.grammars.specs.Grammar.{Nothing}
 use Rattle.grammars.specs.Grammar.Unique.{unique_nothing}
-use Rattle.stream_errors.specs.Form.Known.{ok_is_err, same_ok}
+use Rattle.stream_errors.specs.Form.Inversion.{ok_is_err, same_ok}
 use Rattle.winnow_core.specs.Exact.{Backtracks, IsExact}
 use Rattle.winnow_core.specs.Sequence.{SequenceRuns0}
 

@@ -4,17 +4,17 @@ use Rattle.std.specs.Prelude.{Result, Ok, Err}
 use Rattle.std.proofs.Common.{refl, ap, subst, inl, inr, ◌∙◌}
 use Rattle.streams.specs.Input.{Input}
 use Rattle.streams.specs.Kind.{Kind, backtrack, memory}
-use Rattle.grammars.specs.Grammar.{Grammar, Made, NoneStands}
+use Rattle.grammars.specs.Grammar.{Grammar, Made, NoMatch}
 use Rattle.grammars.specs.Grammar.Outputs.{RejectsAll}
 use Rattle.stream_errors.specs.Form.{Answer}
-use Rattle.stream_errors.specs.Form.Known.{at_output, ok_is_err, same_kind, same_output}
+use Rattle.stream_errors.specs.Form.Inversion.{at_output, ok_is_err, same_kind, same_output}
 use Rattle.stream_errors.specs.Given.{Keeping}
 use Rattle.winnow_core.specs.AndThen.{AndThenRuns, AndThenSettles, completed}
 use Rattle.winnow_core.specs.Closures.{Finds, GivesSome}
 use Rattle.winnow_core.specs.Exact.{FailsBy, IsExact, IsSoft}
 use Rattle.winnow_core.specs.Exact.Allowed.{Allowed, back_allowed, memory_allowed}
 use Rattle.winnow_core.specs.Exact.Along.{exact_along, fails_along}
-use Rattle.winnow_core.specs.Exact.Made.{IsMade, Making, Refuses, made_exact, made_fails}
+use Rattle.winnow_core.specs.Exact.Made.{IsMade, Making, RejectsOutput, made_exact, made_fails}
 use Rattle.winnow_core.specs.ParseTo.{ParseToRuns, ParseToSettles}
 use Rattle.winnow_core.specs.Runs.{Runs}
 use Rattle.winnow_core.specs.Settles.{Settles}
@@ -35,7 +35,7 @@ pub record Settler {G O U : Type 0} (settle : G → O → Answer U → G → Typ
 settled_refuses : {G T O U : Type 0} {settle : G → O → Answer U → G → Type 0}
     {accepts : G → O → U → Type 0} {rejects : G → O → Type 0} {f : G} {g : Grammar T O}
     → Settler settle accepts rejects f → RejectsAll accepts rejects f g
-    → Refuses (λ tokens o rest u. accepts f o u) (λ o k. settle f o (Err k) f) g
+    → RejectsOutput (λ tokens o rest u. accepts f o u) (λ o k. settle f o (Err k) f) g
 settled_refuses settles all tokens o rest k x refusal = elim (settles.rejected o k refusal) [
   | inl m ↦ inl m
   | inr (b, out) ↦ inr (λ u other (p, y, is). all tokens o p rest other u x y out is)
@@ -271,7 +271,7 @@ ReadsWithin {V = V} view grammar _ o u = (rest : List V) × grammar (view o).lef
 
 -- none does
 abbrev pub NoneWithin : {V O U : Type 0} → (O → Input V) → Grammar V U → Unit {0} → O → Type 0
-NoneWithin view grammar _ o = NoneStands grammar (view o).left.tokens
+NoneWithin view grammar _ o = NoMatch grammar (view o).left.tokens
 
 and_then_settler : {W V O U : Type 0} {inner : Runs W V U} {h : Grammar V U} {f : W}
     (view : O → Input V) → IsExact f inner h → IsSoft f inner

@@ -11,7 +11,7 @@ use Rattle.grammars.specs.Grammar.{Grammar}
 use Rattle.grammars.specs.Grammar.Same.{Same}
 use Rattle.stream_errors.specs.Fault.{refused_inner}
 use Rattle.stream_errors.specs.declared.fault.ParseFault.{ParseFault}
-use Rattle.stream_errors.specs.declared.fault.ParseFault.TheVariants.{Refused, Incomplete}
+use Rattle.stream_errors.specs.declared.fault.ParseFault.TheVariants.{Invalid, Incomplete}
 use Rattle.winnow_core.specs.Exact.{FailsBy, IsExact}
 use Rattle.winnow_core.specs.Exact.Allowed.{Allowed, back_allowed}
 use Rattle.stream_errors.specs.Form.{inner_kind_of}
@@ -21,13 +21,13 @@ use Rattle.winnow_core.specs.Runs.{Runs}
 
 -- An error that is out of memory.
 abbrev pub IsWant : {I X : Type 0} → (X → Kind) → ParseFault I X Needed → Type 0
-IsWant inner_kind (Refused e) = inner_kind (refused_inner e) ≡ memory
+IsWant inner_kind (Invalid e) = inner_kind (refused_inner e) ≡ memory
 IsWant inner_kind (Incomplete needed) = ⊥
 
 -- An error other than `Incomplete`.
-abbrev pub IsRefused : {I X : Type 0} → ParseFault I X Needed → Type 0
-IsRefused (Refused e) = ⊤
-IsRefused (Incomplete needed) = ⊥
+abbrev pub IsNotIncomplete : {I X : Type 0} → ParseFault I X Needed → Type 0
+IsNotIncomplete (Invalid e) = ⊤
+IsNotIncomplete (Incomplete needed) = ⊥
 
 -- The result of parsing all tokens, in terms of a grammar. An output matches all tokens. An error
 -- is out of memory, or the tokens do not match; it is never `Incomplete`.
@@ -35,22 +35,22 @@ pub record ReadsAll {I T O X : Type 0} (inner_kind : X → Kind) (grammar : Gram
     (tokens : List T) (result : Result O (ParseFault I X Needed)) : Type 0 where
   pub stands : IfOk result (λ o. grammar tokens o [])
   pub none : IfErr result (λ fault. IsWant inner_kind fault ⊎ ((o : O) → grammar tokens o [] → ⊥))
-  pub whole : IfErr result (λ fault. IsRefused fault)
+  pub whole : IfErr result (λ fault. IsNotIncomplete fault)
 
 -- where a run is out of memory, the fault does
 fault_wants : {I T X : Type 0} (view : I → Input T) (units : List T → ℕ) (inner_kind : X → Kind)
     (i j : Input T) (k : Kind) (fault : ParseFault I X Needed) → k ≡ memory
     → IsFaultAt view units inner_kind i.left j k fault → IsWant inner_kind fault
-fault_wants view units inner_kind i j k (Refused e) m is =
-    let P : Kind → Type 0 = λ x. IsFaultAt view units inner_kind i.left j x (Refused e) in
+fault_wants view units inner_kind i j k (Invalid e) m is =
+    let P : Kind → Type 0 = λ x. IsFaultAt view units inner_kind i.left j x (Invalid e) in
     sym (same_some (subst P m is).1)
 fault_wants view units inner_kind i j k (Incomplete needed) m is = absurd (cc)
 
 -- an error of an allowed kind is not `Incomplete`
 fault_refuses : {I T X b m : Type 0} (view : I → Input T) (units : List T → ℕ)
     (inner_kind : X → Kind) (i j : Input T) (k : Kind) (fault : ParseFault I X Needed)
-    → Allowed b m k → IsFaultAt view units inner_kind i.left j k fault → IsRefused fault
-fault_refuses view units inner_kind i j k (Refused e) may is = tt
+    → Allowed b m k → IsFaultAt view units inner_kind i.left j k fault → IsNotIncomplete fault
+fault_refuses view units inner_kind i j k (Invalid e) may is = tt
 fault_refuses view units inner_kind i j k (Incomplete needed) may is =
     absurd (may.asks_no_more (need_of needed) is)
 
@@ -67,7 +67,7 @@ fault_spared : {I T X b m : Type 0} (view : I → Input T) (units : List T → �
     (inner_kind : X → Kind) (i j : Input T) (k : Kind) (fault : ParseFault I X Needed) → m
     → Allowed b m k → IsFaultAt view units inner_kind i.left j k fault
     → IsWant inner_kind fault → ⊥
-fault_spared view units inner_kind i j k (Refused e) spares may is wanted =
+fault_spared view units inner_kind i j k (Invalid e) spares may is wanted =
     spared_kind inner_kind (refused_inner e) k spares may is.1 wanted
 fault_spared view units inner_kind i j k (Incomplete needed) spares may is wanted = wanted
 

@@ -8,10 +8,10 @@ use Rattle.winnow_core.specs.FlatMap.{FlatMapRuns}
 use Rattle.winnow_core.specs.Runs.{Runs, LeaveEnds}
 use Rattle.winnow_core.specs.Stable.Grows.{Grows, final_by}
 use Rattle.streams.specs.Kind.{Kind, memory}
-use Rattle.grammars.specs.Grammar.{Grammar, NoneStands}
+use Rattle.grammars.specs.Grammar.{Grammar, NoMatch}
 use Rattle.grammars.specs.Grammar.Decided.{EachMade, FlatMapped, MadeAlike, flat_mapped_unique}
 use Rattle.stream_errors.specs.Form.{Answer}
-use Rattle.stream_errors.specs.Form.Known.{at_kind, ok_is_err}
+use Rattle.stream_errors.specs.Form.Inversion.{at_kind, ok_is_err}
 use Rattle.winnow_core.specs.Closures.{Gives, Stays}
 use Rattle.winnow_core.specs.Exact.{FailsBy, IsExact}
 use Rattle.winnow_core.specs.States.{pair_is}
@@ -94,11 +94,11 @@ module _ {S G H V T O U : Type 0} {run : Runs S T O} {second : Runs V T U} {g : 
       stands i u t j is (inr (k, r, same, e)) = ok_is_err refl e
 
       Goal : Input T → Kind → Type 0
-      Goal i k = (k ≡ memory) ⊎ NoneStands (FlatMapped (Gives step) s.1 reads g) i.left.tokens
+      Goal i k = (k ≡ memory) ⊎ NoMatch (FlatMapped (Gives step) s.1 reads g) i.left.tokens
 
       none_made : (i a : Input T) (o : O) (made : H) → g i.left.tokens o a.left.tokens
-          → Gives step s.1 o made → NoneStands (reads made) a.left.tokens
-          → NoneStands (FlatMapped (Gives step) s.1 reads g) i.left.tokens
+          → Gives step s.1 o made → NoMatch (reads made) a.left.tokens
+          → NoMatch (FlatMapped (Gives step) s.1 reads g) i.left.tokens
       none_made i a o made x m nothing u rest (p, mid, other, y, n, z) =
           let P : List T → Type 0 = λ l. reads made l u rest in
           let same = c.unique.one i.left.tokens p o mid a.left.tokens y x in

@@ -3,10 +3,10 @@ use Rattle.std.specs.Prelude.{◌≡◌, ◌⊎◌, false, List, Ok, Err}
 use Rattle.std.proofs.Common.{refl, ap, subst, inl, inr}
 use Rattle.streams.specs.Input.{Input}
 use Rattle.streams.specs.Kind.{Kind, memory}
-use Rattle.grammars.specs.Grammar.{Both, Grammar, Made, NoneStands, TakesTokens}
+use Rattle.grammars.specs.Grammar.{Both, Grammar, Made, NoMatch, TakesTokens}
 use Rattle.grammars.specs.Grammar.Unique.{both_take, both_unique}
 use Rattle.stream_errors.specs.Form.{Answer}
-use Rattle.stream_errors.specs.Form.Known.{at_kind, ok_is_err, same_ok}
+use Rattle.stream_errors.specs.Form.Inversion.{at_kind, ok_is_err, same_ok}
 use Rattle.winnow_core.specs.Exact.{FailsBy, IsExact}
 use Rattle.winnow_core.specs.Exact.Made.{IsMade, Making, made_exact, made_fails}
 use Rattle.winnow_core.specs.InOrder.{BothRuns}
@@ -17,8 +17,8 @@ use Rattle.winnow_core.specs.States.{pair_is}
 -- if the first matches and the rest does not match the second, the sequence does not match
 pub none_behind : {S1 T O1 O2 O : Type 0} (output : O1 → O2 → O) {run1 : Runs S1 T O1}
     {g1 : Grammar T O1} (g2 : Grammar T O2) {s : S1} → IsExact s run1 g1 → (i a : Input T) (o : O1)
-    → g1 i.left.tokens o a.left.tokens → NoneStands g2 a.left.tokens
-    → NoneStands (Both output g1 g2) i.left.tokens
+    → g1 i.left.tokens o a.left.tokens → NoMatch g2 a.left.tokens
+    → NoMatch (Both output g1 g2) i.left.tokens
 unfolding Both
 none_behind {T = T} output g2 c1 i a o there none p rest (p1, p2, mid, x, y, e) =
     let P : List T → Type 0 = λ l. g2 l p2 rest in
@@ -67,11 +67,11 @@ module _ {S1 S2 T O1 O2 O : Type 0} {output : O1 → O2 → O} {run1 : Runs S1 T
       stands i o t j is (inr (inr (o1, k, a, r1, r2, e))) = ok_is_err refl e
 
       Goal : Input T → Kind → Type 0
-      Goal i x = (x ≡ memory) ⊎ NoneStands (Both output g1 g2) i.left.tokens
+      Goal i x = (x ≡ memory) ⊎ NoMatch (Both output g1 g2) i.left.tokens
 
       none : (i : Input T) (k : Kind) (t : S1 × S2) (j : Input T) → i.status.cut ≡ false
           → BothRuns output run1 run2 s i (Err k) t j
-          → (k ≡ memory) ⊎ NoneStands (Both output g1 g2) i.left.tokens
+          → (k ≡ memory) ⊎ NoMatch (Both output g1 g2) i.left.tokens
       none i k t j is (inl (o1, o2, a, r1, r2, e)) = ok_is_err e refl
       none i k t j is (inr (inl (l, r1, same, e))) =
           at_kind (Goal i) e (elim (c1.none i l t.0 j is r1) [

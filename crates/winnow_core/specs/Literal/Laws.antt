@@ -5,7 +5,7 @@ use Rattle.std.proofs.Common.{◌∙◌}
 use Rattle.streams.specs.Input.{Input, IsEndOf, takes_end}
 use Rattle.streams.specs.Reading.{Reading}
 use Rattle.stream_errors.specs.Form.{Answer, ErrorForm, modal}
-use Rattle.stream_searches.specs.Compare.{StandsFirst, IsShort}
+use Rattle.stream_searches.specs.Compare.{StartsWithSpelling, IsShort}
 use Rattle.streams.specs.Kind.{incomplete, Kind, backtrack}
 use Rattle.winnow_core.specs.Ends.{same_ends}
 use Rattle.winnow_core.specs.Literal.{LiteralRuns, IsOneToken}
@@ -14,10 +14,10 @@ use Rattle.winnow_core.specs.Stable.Longer.{one_beginning, same_more, takes_more
 use Rattle.winnow_core.specs.Stable.Grows.{Stays, final_by, not_whole}
 use Rattle.streams.specs.Equal.{true_is_false}
 use Rattle.std.specs.Borrow.{Bor}
-use Rattle.grammars.specs.Grammar.{Literally, NoneStands}
+use Rattle.grammars.specs.Grammar.{Literally, NoMatch}
 use Rattle.grammars.specs.Grammar.Searches.{LiterallyBytes}
 use Rattle.grammars.specs.Grammar.Unique.{literally_unique, one_front}
-use Rattle.stream_errors.specs.Form.Known.{ok_is_err, same_ok, same_kind}
+use Rattle.stream_errors.specs.Form.Inversion.{ok_is_err, same_ok, same_kind}
 use Rattle.winnow_core.specs.Exact.{Backtracks, IsExact}
 
 pub literal_ends : {T L O : Type 0} (reading : Reading T L) (form : ErrorForm)
@@ -33,8 +33,8 @@ literal_ends reading form spelled output i answer j (inr (inr (other, whole, e, 
 -- if tokens do not start with a spelling and are not a proper prefix of one, neither does longer
 -- input, nor is it
 pub still_not_first : {T : Type 0} (spelled : List T → Type 0) (tokens more : List T)
-    → (StandsFirst spelled tokens → ⊥) → (IsShort spelled tokens → ⊥)
-    → StandsFirst spelled (tokens ++ more) → ⊥
+    → (StartsWithSpelling spelled tokens → ⊥) → (IsShort spelled tokens → ⊥)
+    → StartsWithSpelling spelled (tokens ++ more) → ⊥
 still_not_first spelled tokens more none short (front, rest, spells, split) =
     elim (one_beginning tokens more front rest split) [
       | inl (others, is) ↦ none (front, others, spells, is)
@@ -129,7 +129,7 @@ module _ {X S T L O : Type 0} (reading : Reading T L) (form : ErrorForm)
 
       none : (i : Input T) (k : Kind) (j : Input T) → i.status.cut ≡ false
           → LiteralRuns reading form (spelled (literal x)) (output (literal x)) i (Err k) j
-          → NoneStands (Literally reading spelled output (literal x)) i.left.tokens
+          → NoMatch (Literally reading spelled output (literal x)) i.left.tokens
       none i k j is (inl (front, slice, spells, takes, e)) = ok_is_err e refl
       none i k j is (inr (inl (short, cut, e, same))) = true_is_false (sym cut ∙ is)
       none i k j is (inr (inr (nothing, cuts, e, same))) =

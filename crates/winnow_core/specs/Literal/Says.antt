@@ -3,7 +3,7 @@ use Rattle.std.specs.Prelude.{◌≡◌, ⊤, true, false, List, ◌∷◌, ◌+
 use Rattle.std.proofs.Common.{refl, sym, ◌∙◌, inl, inr, append_assoc, subst, ap}
 use Rattle.grammars.specs.Grammar.Unique.{one_front}
 use Rattle.stream_errors.specs.Form.{Answer, incomplete_kind}
-use Rattle.stream_searches.specs.Compare.{IsShort, StandsFirst}
+use Rattle.stream_searches.specs.Compare.{IsShort, StartsWithSpelling}
 use Rattle.streams.specs.Equal.{true_is_false}
 use Rattle.streams.specs.Input.{Input}
 use Rattle.streams.specs.Reading.{Reading}
@@ -25,7 +25,7 @@ LiteralDoes {L = L} reading spelled output =
     OneCase (TakesWhere (λ o at tokens rest. (front : _) × (slice : L) × spelled front
     × reading.shows slice front × (tokens ≡ front ++ rest) × (o ≡ output slice)))
     (OneCase (LacksWhere (λ _. None) (λ at tokens. IsShort spelled tokens × (at.more ≡ true)))
-    (FailsWhere (λ at tokens. (StandsFirst spelled tokens → ⊥)
+    (FailsWhere (λ at tokens. (StartsWithSpelling spelled tokens → ⊥)
     × (IsShort spelled tokens → at.more ≡ false))))
 
 abbrev pub literal_says : {T L O : Type 0} → Reading T L → (List T → Type 0) → (L → O)
@@ -73,7 +73,7 @@ module _ {T L O : Type 0} (reading : Reading T L) (spelled : List T → Type 0) 
           → TakesWhere (λ o at tokens rest. Taken o tokens rest) at tokens x
           → OneCase
           (LacksWhere (λ _. None) (λ at tokens. IsShort spelled tokens × (at.more ≡ true)))
-          (FailsWhere (λ at tokens. (StandsFirst spelled tokens → ⊥)
+          (FailsWhere (λ at tokens. (StartsWithSpelling spelled tokens → ⊥)
           × (IsShort spelled tokens → at.more ≡ false))) at tokens y
           → ⊥
       apart at tokens x y (o, rest, (f, v, s, there, e, a), q) (inl (((z, more, other), cut), p)) =

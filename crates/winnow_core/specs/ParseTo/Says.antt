@@ -1,13 +1,13 @@
 -- The specification of `parse_to`.
 use Rattle.std.specs.Prelude.{Option, Some, None}
 use Rattle.std.proofs.Common.{refl, ap, inl, inr}
-use Rattle.stream_errors.specs.Form.Known.{at_output, ok_is_err, same_kind}
+use Rattle.stream_errors.specs.Form.Inversion.{at_output, ok_is_err, same_kind}
 use Rattle.winnow_core.specs.ParseTo.{ParseToRuns, ParseToSettles}
 use Rattle.winnow_core.specs.MakesOutput.Says.{OutputsMadeAlike}
 use Rattle.winnow_core.specs.Runs.{Meaning}
 use Rattle.winnow_core.specs.Says.{Said, Says}
 use Rattle.winnow_core.specs.Says.Along.{said_along}
-use Rattle.winnow_core.specs.Settles.Says.{Refuses, backtracks_one, settle_says, settles_said}
+use Rattle.winnow_core.specs.Settles.Says.{RejectedWith, backtracks_one, settle_says, settles_said}
 
 -- Of equal outputs both convert or neither does.
 pub record ReadsSame {O U : Type 0} (reads : O → Option U → Type 0) (alike : O → O → Type 0)
@@ -18,7 +18,7 @@ pub record ReadsSame {O U : Type 0} (reads : O → Option U → Type 0) (alike :
 -- The converted value is the output; an output that does not convert is rejected.
 abbrev pub parse_to_says : {T O U : Type 0} → (O → Option U → Type 0) → Says T O → Says T U
 parse_to_says reads p = settle_says (λ form o u. reads o (Some u))
-    (λ form. Refuses (λ o. reads o None))
+    (λ form. RejectedWith (λ o. reads o None))
     (p.premise × ReadsSame reads p.alike)
     (OutputsMadeAlike p.alike (λ o u. reads o (Some u))) p
 
@@ -28,7 +28,7 @@ pub parse_to_said : {S T O U : Type 0} {says : Says T O} {s : S} {meaning : Mean
 parse_to_said {s = s} reads p =
     said_along (λ t. (t, tt)) (λ t e. ap (λ x. x.0) e) (λ form i answer t j r. r)
     (settles_said {s = (s, tt)} (λ form o u. reads o (Some u))
-    (λ form. Refuses (λ o. reads o None)) (λ form. ParseToSettles reads) (λ is. is.0)
+    (λ form. RejectedWith (λ o. reads o None)) (λ form. ParseToSettles reads) (λ is. is.0)
     (λ is form o u h it. elim it [
       | inl (v, read, e) ↦ (refl, at_output (λ z. reads o (Some z)) e read)
       | inr (read, e) ↦ ok_is_err refl e

@@ -36,8 +36,8 @@ LacksAfter {T} need so at tokens y =
     (place : List T) × so at tokens place × (y ≡ lacks at need place)
 
 -- It was made or called wrongly.
-abbrev pub MisusedWhere : {T O : Type 0} → Type 0 → Does T O
-MisusedWhere so at tokens y = so × (y ≡ misused at tokens)
+abbrev pub MisusedIf : {T O : Type 0} → Type 0 → Does T O
+MisusedIf so at tokens y = so × (y ≡ misused at tokens)
 
 -- An outcome under a condition.
 abbrev pub Given : {T O : Type 0} → Type 0 → Does T O → Does T O
@@ -112,7 +112,7 @@ module _ {T O : Type 0} {stable : Type 0} {alike : O → O → Type 0} where
         absurd (final_by {y = asks need place} e final);
   }
 
-  pub misused_law : {so : Type 0} → Lawful {T = T} {O = O} stable alike (MisusedWhere so)
+  pub misused_law : {so : Type 0} → Lawful {T = T} {O = O} stable alike (MisusedIf so)
   misused_law = record {
     one = λ at tokens x y (a, e) (b, f). both alike e f (misused_alike alike at tokens);
     whole = λ at tokens need place is (a, e). misused_whole at tokens need place e;

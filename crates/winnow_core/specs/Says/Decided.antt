@@ -6,7 +6,7 @@ use Rattle.streams.specs.Input.{Input, IsEndOf, same_parts}
 use Rattle.streams.specs.Kind.{backtrack, cut, incomplete, memory}
 use Rattle.streams.specs.Reading.{Reading}
 use Rattle.stream_errors.specs.Form.{Answer, ErrorForm}
-use Rattle.winnow_core.specs.Decided.{AlikeAnswers, IsDecided, NotMemory}
+use Rattle.winnow_core.specs.Decided.{EqualResults, IsDecided, NotMemory}
 use Rattle.winnow_core.specs.Outcome.{Alike, outcome_of}
 use Rattle.winnow_core.specs.Runs.{LeaveEnds, Meaning}
 use Rattle.winnow_core.specs.Says.{Said, Says, here, setting_of}
@@ -14,7 +14,7 @@ use Rattle.winnow_core.specs.Says.{Said, Says, here, setting_of}
 -- the results of equal outcomes, neither of which is out of memory
 pub answers : {T O : Type 0} (alike : O → O → Type 0) (a b : Answer O) (rest end : List T)
     → NotMemory a → NotMemory b → Alike alike (outcome_of a rest) (outcome_of b end)
-    → AlikeAnswers alike a b × (rest ≡ end)
+    → EqualResults alike a b × (rest ≡ end)
 answers alike (Ok o) (Ok p) rest end na nb is = is
 answers alike (Ok o) (Err backtrack) rest end na nb is = absurd is
 answers alike (Ok o) (Err cut) rest end na nb is = absurd is

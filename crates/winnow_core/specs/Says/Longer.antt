@@ -5,7 +5,7 @@ use Rattle.streams.specs.Input.{Input, IsEndOf, Status, with_more}
 use Rattle.streams.specs.Kind.{backtrack, cut, incomplete, memory}
 use Rattle.streams.specs.Reading.{Reading}
 use Rattle.stream_errors.specs.Form.{Answer, ErrorForm, modal}
-use Rattle.winnow_core.specs.Decided.{AlikeAnswers, NotMemory}
+use Rattle.winnow_core.specs.Decided.{EqualResults, NotMemory}
 use Rattle.winnow_core.specs.Outcome
 use Rattle.winnow_core.specs.Outcome.{Alike, Outcome, grown, longer, on_cut, outcome_of}
 use Rattle.winnow_core.specs.Runs.{LeaveEnds, Meaning}
@@ -22,7 +22,7 @@ pub record EachLongerGets {S T O : Type 0} (s : S) (meaning : Meaning S T O)
       (j k : Input T) → i.status.cut ≡ true → i.left.possible ≡ true → IsFinal answer
       → NotMemory other → meaning modal s i answer t j
       → meaning modal s (with_more i more flag) other u k
-      → AlikeAnswers alike answer other × (u ≡ t) × (k ≡ with_more j more flag)
+      → EqualResults alike answer other × (u ≡ t) × (k ≡ with_more j more flag)
 
 -- an outcome where more tokens follow
 longer_of : {T O : Type 0} (more : List T) (answer : Answer O) (rest : List T)

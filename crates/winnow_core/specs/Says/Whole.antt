@@ -8,7 +8,7 @@ use Rattle.streams.specs.declared.needed.Needed.{Needed}
 use Rattle.stream_errors.specs.Fault.{refused_inner, refused_offset}
 use Rattle.stream_errors.specs.Form.{ErrorForm, inner_kind_of}
 use Rattle.stream_errors.specs.declared.fault.ParseFault.{ParseFault}
-use Rattle.stream_errors.specs.declared.fault.ParseFault.TheVariants.{Refused, Incomplete}
+use Rattle.stream_errors.specs.declared.fault.ParseFault.TheVariants.{Invalid, Incomplete}
 use Rattle.winnow_core.specs.Exact.Whole.{IsWant}
 use Rattle.winnow_core.specs.Outcome.{Outcome, took, backs, cuts, asks, wants, outcome_of}
 use Rattle.winnow_core.specs.Parse.{IsFaultAt, ParsesWhole}
@@ -19,7 +19,7 @@ use Rattle.winnow_core.specs.Says.{Said, Says, Tells, setting_of, told}
 -- backtrack.
 abbrev pub IsFaultBefore : {I T X : Type 0} → (List T → ℕ) → (X → Kind) → List T → List T
     → ParseFault I X Needed → Type 0
-IsFaultBefore units inner_kind tokens rest (Refused e) =
+IsFaultBefore units inner_kind tokens rest (Invalid e) =
     (refused_offset e + units rest ≡ units tokens) × (inner_kind (refused_inner e) ≡ backtrack)
 IsFaultBefore units inner_kind tokens rest (Incomplete needed) = ⊥
 
@@ -54,16 +54,16 @@ module _ {I T X : Type 0} (view : I → Input T) (units : List T → ℕ) (inner
   before : (k : Kind) (fault : ParseFault I X Needed) → (k ≡ backtrack) ⊎ (k ≡ cut)
       → IsFaultAt view units inner_kind i.left j k fault
       → IsFaultBefore units inner_kind i.left.tokens j.left.tokens fault
-  before k (Refused e) (inl is) (at, kinds, back) =
+  before k (Invalid e) (inl is) (at, kinds, back) =
       (at, sym (same_some (sym (ap inner_kind_of is) ∙ kinds)))
-  before k (Refused e) (inr is) (at, kinds, back) =
+  before k (Invalid e) (inr is) (at, kinds, back) =
       (at, sym (same_some (sym (ap inner_kind_of is) ∙ kinds)))
   before k (Incomplete needed) (inl is) at = absurd (cc)
   before k (Incomplete needed) (inr is) at = absurd (cc)
 
   out_of_memory : (fault : ParseFault I X Needed)
       → IsFaultAt view units inner_kind i.left j memory fault → IsWant inner_kind fault
-  out_of_memory (Refused e) (at, kinds, back) = sym (same_some kinds)
+  out_of_memory (Invalid e) (at, kinds, back) = sym (same_some kinds)
   out_of_memory (Incomplete needed) at = absurd (cc)
 
   failed : {S O : Type 0} {says : Says T O} {s t : S} {meaning : Meaning S T O}

@@ -120,8 +120,8 @@ settles_said {S} {G} {T} {O} {U} {says} {s} {meaning} {premise} accepts rejects 
 -- ---- rejection is a backtrack
 
 -- an output that is rejected
-abbrev pub Refuses : {O : Type 0} → (O → Type 0) → O → Kind → Type 0
-Refuses refuses o k = refuses o × (k ≡ backtrack)
+abbrev pub RejectedWith : {O : Type 0} → (O → Type 0) → O → Kind → Type 0
+RejectedWith refuses o k = refuses o × (k ≡ backtrack)
 
 -- equal outputs are not both accepted and rejected
 pub backtracks_one : {O U : Type 0} {alike : O → O → Type 0} {also : U → U → Type 0}
@@ -129,7 +129,7 @@ pub backtracks_one : {O U : Type 0} {alike : O → O → Type 0} {also : U → U
     → ((o p : O) (u v : U) → alike o p → accepts o u → accepts p v → also u v)
     → ((o p : O) (u : U) → alike o p → accepts o u → refuses p → ⊥)
     → ((o p : O) (u : U) → alike o p → refuses o → accepts p u → ⊥)
-    → SettlesOne (λ form. accepts) (λ form. Refuses refuses) alike also
+    → SettlesOne (λ form. accepts) (λ form. RejectedWith refuses) alike also
 backtracks_one accepts refuses both apart either = record {
   both = λ form. both;
   apart = λ form o p u k like x w. absurd (apart o p u like x w.0);

@@ -1,11 +1,11 @@
 -- The specification of `verify`.
 use Rattle.std.specs.Prelude.{◌≡◌, Bool, true, false}
 use Rattle.std.proofs.Common.{refl, sym, subst, inl, inr}
-use Rattle.stream_errors.specs.Form.Known.{ok_is_err, same_kind, same_output}
+use Rattle.stream_errors.specs.Form.Inversion.{ok_is_err, same_kind, same_output}
 use Rattle.winnow_core.specs.Closures.{Finds, Stays}
 use Rattle.winnow_core.specs.Runs.{Meaning}
 use Rattle.winnow_core.specs.Says.{Said, Says}
-use Rattle.winnow_core.specs.Settles.Says.{Refuses, backtracks_one, settle_says, settles_said}
+use Rattle.winnow_core.specs.Settles.Says.{RejectedWith, backtracks_one, settle_says, settles_said}
 use Rattle.winnow_core.specs.Verify.{VerifyRuns, VerifySettles}
 
 -- The test has the same result for equal outputs.
@@ -17,14 +17,14 @@ pub record FindsSame {G O : Type 0} (tests : G → O → Bool → G → Type 0) 
 -- If the test is true, the output is accepted; otherwise it is rejected.
 abbrev pub verify_says : {G T O : Type 0} → (G → O → Bool → G → Type 0) → G → Says T O → Says T O
 verify_says tests f p = settle_says (λ form. Finds tests f)
-    (λ form. Refuses (λ o. tests f o false f))
+    (λ form. RejectedWith (λ o. tests f o false f))
     (p.premise × Stays tests f × FindsSame tests f p.alike) p.alike p
 
 pub verify_said : {S G T O : Type 0} {says : Says T O} {s : S × G} {meaning : Meaning S T O}
     (tests : G → O → Bool → G → Type 0) → Said says s.0 meaning
     → Said (verify_says tests s.1 says) s (λ form. VerifyRuns tests (meaning form))
 verify_said {G = G} {O = O} {says = says} {s = s} tests p =
-    settles_said (λ form. Finds tests s.1) (λ form. Refuses (λ o. tests s.1 o false s.1))
+    settles_said (λ form. Finds tests s.1) (λ form. RejectedWith (λ o. tests s.1 o false s.1))
     (λ form. VerifySettles tests) (λ is. is.0)
     (λ is form o u h it. elim it [
       | inl (found, e) ↦ (

@@ -3,17 +3,17 @@ use Rattle.std.specs.Prelude.{◌≡◌, ◌⊎◌, Option, Some, None, Ok, Err}
 use Rattle.std.proofs.Common.{refl, subst, inl, inr}
 use Rattle.streams.specs.Kind.{backtrack}
 use Rattle.stream_errors.specs.Form.{Answer}
-use Rattle.stream_errors.specs.Form.Known.{at_output, ok_is_err, same_kind}
+use Rattle.stream_errors.specs.Form.Inversion.{at_output, ok_is_err, same_kind}
 use Rattle.winnow_core.specs.Closures.{GivesSome, Stays}
 use Rattle.winnow_core.specs.MakesOutput.Says.{OutputsMadeAlike}
 use Rattle.winnow_core.specs.Runs.{Meaning}
 use Rattle.winnow_core.specs.Says.{Said, Says}
 use Rattle.winnow_core.specs.Says.Along.{said_along}
-use Rattle.winnow_core.specs.Settles.Says.{Refuses, backtracks_one, settle_says, settles_said}
+use Rattle.winnow_core.specs.Settles.Says.{RejectedWith, backtracks_one, settle_says, settles_said}
 use Rattle.winnow_core.specs.VerifyMap.{VerifyMapRuns}
 
 -- For equal outputs the closure returns `None` for both or neither.
-pub record RefusesSame {G O U : Type 0} (step : G → O → Option U → G → Type 0) (f : G)
+pub record RejectsSame {G O U : Type 0} (step : G → O → Option U → G → Type 0) (f : G)
     (alike : O → O → Type 0) : Type 0 where
   pub apart : (o p : O) (u : U) → alike o p → step f o (Some u) f → step f p None f → ⊥
   pub either : (o p : O) (u : U) → alike o p → step f o None f → step f p (Some u) f → ⊥
@@ -22,8 +22,8 @@ pub record RefusesSame {G O U : Type 0} (step : G → O → Option U → G → T
 abbrev pub verify_map_says : {G T O U : Type 0} → (G → O → Option U → G → Type 0) → G → Says T O
     → Says T U
 verify_map_says step f p = settle_says (λ form. GivesSome step f)
-    (λ form. Refuses (λ o. step f o None f))
-    (p.premise × Stays step f × RefusesSame step f p.alike)
+    (λ form. RejectedWith (λ o. step f o None f))
+    (p.premise × Stays step f × RejectsSame step f p.alike)
     (OutputsMadeAlike p.alike (GivesSome step f)) p
 
 -- one call of the closure settles an output
@@ -41,7 +41,7 @@ verify_map_said {G = G} {O = O} {U = U} {s = s} step p =
           inr (inl (o, backtrack, a, r, inr (gives, refl), e, back))
       | inr (inr failed) ↦ inr (inr failed)
     ])
-    (settles_said (λ form. GivesSome step s.1) (λ form. Refuses (λ o. step s.1 o None s.1))
+    (settles_said (λ form. GivesSome step s.1) (λ form. RejectedWith (λ o. step s.1 o None s.1))
     (λ form. Settles step) (λ is. is.0)
     (λ is form o u h it. elim it [
       | inl (v, gives, e) ↦ (

@@ -18,7 +18,7 @@ pub(crate) fn fault_at<I: Stream, E: ParserError<I>>(
         (E.kind error) result }
 {
     match error.into_inner() {
-        Ok(inner) => ParseFault::Refused(ParseError::new(input, start, inner)),
+        Ok(inner) => ParseFault::Invalid(ParseError::new(input, start, inner)),
         Err(error) => ParseFault::Incomplete(error.needed().unwrap_or(Needed::Unknown)),
     }
 }

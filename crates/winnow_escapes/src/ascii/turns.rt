@@ -58,7 +58,7 @@ pub(crate) fn try_turn<
             let output = escape.parse_next(input)?;
             Ok(Some(Turn::Escape(output)))
         }
-        Err(ControlError::Refused) => Ok(None),
+        Err(ControlError::Invalid) => Ok(None),
         Err(ControlError::NoMemory) => Err(E::no_memory(input)),
     }
 }

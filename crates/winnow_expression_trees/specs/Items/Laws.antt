@@ -80,8 +80,8 @@ module _ {S1 S2 S3 S4 T V F G H L : Type 0} (reading : Reading T L) (refusal : K
   abbrev Before : F → Input T → V → Answer V → Input T → Type 0
   Before f i v a j = Gives (one f v) i a j
 
-  abbrev Behind : G → Input T → V → Answer V → Input T → Type 0
-  Behind g i v a j = Gives (other g v) i a j
+  abbrev AfterItems : G → Input T → V → Answer V → Input T → Type 0
+  AfterItems g i v a j = Gives (other g v) i a j
 
   abbrev Between : H → Input T → V → V → Answer V → Input T → Type 0
   Between h i v w a j = Gives (two h v w) i a j
@@ -89,20 +89,20 @@ module _ {S1 S2 S3 S4 T V F G H L : Type 0} (reading : Reading T L) (refusal : K
   abbrev whole : Grammar (S1 × S2) (S3 × S4) T V F G H
   whole = parts_grammar reading.units refusal (KeepsState (λ (_ : S1). ItemRuns operand))
       (KeepsState (λ (_ : S2). ItemRuns prefix)) (KeepsState (λ (_ : S3). ItemRuns postfix))
-      (KeepsState (λ (_ : S4). ItemRuns infix_)) Before Behind Between
+      (KeepsState (λ (_ : S4). ItemRuns infix_)) Before AfterItems Between
 
   abbrev states : (S1 × S2) × (S3 × S4)
   states = ((s1, s2), (s3, s4))
 
   pub items_premises : Premises (λ v w. v ≡ w) (KeepsState (λ (_ : S1). ItemRuns operand))
       (KeepsState (λ (_ : S2). ItemRuns prefix)) (KeepsState (λ (_ : S3). ItemRuns postfix))
-      (KeepsState (λ (_ : S4). ItemRuns infix_)) Behind
+      (KeepsState (λ (_ : S4). ItemRuns infix_)) AfterItems
       (folding Before Between reading.units refusal) s1 s2 s3 s4
   items_premises = record {
     operands = items_stateless reading.units (λ v w. v ≡ w) operand s1 operands (λ o. refl);
     prefixes = items_stateless reading.units (AlikePrefix (FoldAlike (λ v w. v ≡ w) Before)) prefix
         s2 prefixes (λ o. (refl, gives_alike one o.1 (ones o.1)));
-    postfixes = items_stateless reading.units (AlikePostfix (FoldAlike (λ v w. v ≡ w) Behind))
+    postfixes = items_stateless reading.units (AlikePostfix (FoldAlike (λ v w. v ≡ w) AfterItems))
         postfix s3 postfixes (λ o. (refl, gives_alike other o.1 (others o.1)));
     infixes = items_stateless reading.units (AlikeInfix (FoldsAlike (λ v w. v ≡ w) Between)) infix_
         s4 infixes (λ o. (refl, refl, refl, gives_both_alike two (fold_of o) (twos (fold_of o))));

@@ -11,7 +11,8 @@ use Rattle.winnow_core.specs.Runs.{Keeps as KeepsState}
 use Rattle.winnow_expression_trees.specs.Items.{AreItems, Gives, GivesOne, ItemRuns}
 use Rattle.winnow_expression_trees.specs.Items.{Items}
 use Rattle.winnow_expression_trees.specs.Items.{left_at}
-use Rattle.winnow_expression_trees.specs.Premises.{AnswersAlike, FoldAlike, FoldsAlike, IsStateless}
+use Rattle.winnow_expression_trees.specs.Premises.{EquivalentResults, FoldAlike, FoldsAlike}
+use Rattle.winnow_expression_trees.specs.Premises.{IsStateless}
 
 pub ok_is_not : {O X : Type 0} {a : Answer O} {v : O} {k : Kind} → a ≡ Ok v → a ≡ Err k → X
 ok_is_not e f = absurd (cc)
@@ -20,16 +21,16 @@ pub same_ok : {O : Type 0} {a : Answer O} {v w : O} → a ≡ Ok v → a ≡ Ok 
 same_ok e f = cc
 
 both : {O : Type 0} (alike : O → O → Type 0) (a b : Answer O) (v w : O) → a ≡ Ok v → b ≡ Ok w
-    → alike v w → AnswersAlike alike a b
+    → alike v w → EquivalentResults alike a b
 both alike a b v w e f like =
-    subst (λ x. AnswersAlike alike x b) (sym e)
-    (subst (λ x. AnswersAlike alike (Ok v) x) (sym f) like)
+    subst (λ x. EquivalentResults alike x b) (sym e)
+    (subst (λ x. EquivalentResults alike (Ok v) x) (sym f) like)
 
 neither : {O : Type 0} (alike : O → O → Type 0) (a b : Answer O) (k : Kind) → a ≡ Err k
-    → b ≡ Err k → AnswersAlike alike a b
+    → b ≡ Err k → EquivalentResults alike a b
 neither alike a b k e f =
-    subst (λ x. AnswersAlike alike x b) (sym e)
-    (subst (λ x. AnswersAlike alike (Err k) x) (sym f) refl)
+    subst (λ x. EquivalentResults alike x b) (sym e)
+    (subst (λ x. EquivalentResults alike (Err k) x) (sym f) refl)
 
 -- ---- the premises
 
@@ -47,7 +48,7 @@ items_stateless {S} {T} {O} units alike item s are self = record {
     status i j a (inr (none, e, place)) = ap (λ z. z.status) place
 
     decide : (i j k : Input T) (a b : Answer O) → ItemRuns item i a j → ItemRuns item i b k
-        → AnswersAlike alike a b × (j ≡ k)
+        → EquivalentResults alike a b × (j ≡ k)
     decide i j k a b (inl (o, rest, is, e, place)) (inl (p, more, was, f, other)) =
         let same = are.one i.left.tokens o p rest more is was in (
           both alike a b o p e f (subst (λ z. alike o z) same.0 (self o)),
@@ -60,7 +61,7 @@ items_stateless {S} {T} {O} units alike item s are self = record {
         (neither alike a b backtrack e f, place ∙ sym other)
 
 gives_same : {T V : Type 0} (given : V → Type 0) → GivesOne given → (i j k n : Input T)
-    (a b : Answer V) → Gives given i a j → Gives given k b n → AnswersAlike (λ v w. v ≡ w) a b
+    (a b : Answer V) → Gives given i a j → Gives given k b n → EquivalentResults (λ v w. v ≡ w) a b
 gives_same given single i j k n a b (inl (v, is, e, p)) (inl (w, was, f, q)) =
     both (λ v w. v ≡ w) a b v w e f (single v w is was)
 gives_same given single i j k n a b (inl (v, is, e, p)) (inr (none, f, q)) = absurd (none v is)

@@ -4,23 +4,23 @@ use Rattle.std.proofs.Common.{refl, ap, inl, inr, arith}
 use Rattle.streams.specs.Bytes.{bytes_reading}
 use Rattle.streams.specs.Input.{Input}
 use Rattle.stream_errors.specs.Form.{Answer, ErrorForm}
-use Rattle.stream_errors.specs.Form.Known.{ok_is_err, same_kind}
+use Rattle.stream_errors.specs.Form.Inversion.{ok_is_err, same_kind}
 use Rattle.winnow_comb.specs.Alt.{OrElse}
 use Rattle.winnow_core.specs.Literal.{LiteralRuns}
-use Rattle.winnow_core.specs.Literal.Known.{token_taken}
+use Rattle.winnow_core.specs.Literal.Inversion.{token_taken}
 use Rattle.winnow_core.specs.Runs.{Keeps, Runs}
 use Rattle.winnow_core.specs.Value.{ValueRuns}
-use Rattle.winnow_core.specs.Decided.{AlikeAnswers, IsDecided}
+use Rattle.winnow_core.specs.Decided.{EqualResults, IsDecided}
 use Rattle.winnow_core.specs.Decided.{NotMemory as NotWantOfMemory}
 use Rattle.winnow_expression.specs.Units.{units_left}
-use Rattle.winnow_expression_trees.specs.Premises.{AnswersAlike, IsStateless, NotMemory}
+use Rattle.winnow_expression_trees.specs.Premises.{EquivalentResults, IsStateless, NotMemory}
 
 no_memory : {O : Type 0} (a : Answer O) → NotMemory a → NotWantOfMemory a
 no_memory (Ok o) other e = ok_is_err refl e
 no_memory (Err k) other e = other (same_kind e)
 
-same_answers : {O : Type 0} (alike : O → O → Type 0) (a b : Answer O) → AlikeAnswers alike a b
-    → AnswersAlike alike a b
+same_answers : {O : Type 0} (alike : O → O → Type 0) (a b : Answer O) → EqualResults alike a b
+    → EquivalentResults alike a b
 same_answers alike (Ok o) (Ok p) like = like
 same_answers alike (Ok o) (Err l) like = like
 same_answers alike (Err k) (Ok p) like = like
@@ -37,7 +37,7 @@ decided_stateless {alike = alike} c = record {
 }
 
 wider_answers : {O : Type 0} (one other : O → O → Type 0) → ((o p : O) → one o p → other o p)
-    → (a b : Answer O) → AnswersAlike one a b → AnswersAlike other a b
+    → (a b : Answer O) → EquivalentResults one a b → EquivalentResults other a b
 wider_answers one other wider (Ok o) (Ok p) like = wider o p like
 wider_answers one other wider (Ok o) (Err l) like = like
 wider_answers one other wider (Err k) (Ok p) like = like

@@ -6,7 +6,7 @@ use Rattle.streams.specs.Kind.{Kind, backtrack}
 use Rattle.stream_errors.specs.Form.{Answer}
 use Rattle.winnow_comb.specs.Fail.{FailRuns}
 use Rattle.winnow_core.specs.Runs.{Keeps}
-use Rattle.winnow_expression_trees.specs.Premises.{AnswersAlike, IsStateless, NotMemory}
+use Rattle.winnow_expression_trees.specs.Premises.{EquivalentResults, IsStateless, NotMemory}
 
 -- A call of a parser whose state does not matter. Unless memory runs out, it changes only the
 -- position, and the input determines its result and the rest.
@@ -14,13 +14,13 @@ pub record IsPlain {T O : Type 0} (alike : O → O → Type 0)
     (run : Input T → Answer O → Input T → Type 0) : Type 0 where
   pub status : (i j : Input T) (a : Answer O) → run i a j → NotMemory a → j.status ≡ i.status
   pub decided : (i j k : Input T) (a b : Answer O) → run i a j → run i b k → NotMemory a
-      → NotMemory b → AnswersAlike alike a b × (j ≡ k)
+      → NotMemory b → EquivalentResults alike a b × (j ≡ k)
 
 pub both_err : {O : Type 0} (alike : O → O → Type 0) (a b : Answer O) (k l : Kind) → a ≡ Err k
-    → b ≡ Err l → k ≡ l → AnswersAlike alike a b
+    → b ≡ Err l → k ≡ l → EquivalentResults alike a b
 both_err alike a b k l e f same =
-    subst (λ x. AnswersAlike alike x b) (sym e)
-    (subst (λ x. AnswersAlike alike (Err k) x) (sym f) same)
+    subst (λ x. EquivalentResults alike x b) (sym e)
+    (subst (λ x. EquivalentResults alike (Err k) x) (sym f) same)
 
 -- a parser that keeps its value, as far as that decides its runs
 pub keeps_stateless : {S T O : Type 0} (alike : O → O → Type 0)

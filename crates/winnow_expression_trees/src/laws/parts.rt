@@ -18,12 +18,12 @@ type Bytes = &'static [u8];
 /// requirements of the laws of trees, up to equivalent outputs.
 ///
 /// ```
-/// use winnow_expression_trees::laws::parts::a_decided_part_is_stateless;
+/// use winnow_expression_trees::laws::parts::deterministic_parts_are_stateless;
 ///
 /// // Of `Digit1`.
-/// a_decided_part_is_stateless::<Digit1, &[u8], &[u8], EmptyError>();
+/// deterministic_parts_are_stateless::<Digit1, &[u8], &[u8], EmptyError>();
 /// ```
-pub fn a_decided_part_is_stateless<P: Parser<I, O, E>, I: Stream, O, E: ParserError<I>>()
+pub fn deterministic_parts_are_stateless<P: Parser<I, O, E>, I: Stream, O, E: ParserError<I>>()
     ensures { (s : P.State) → (P.claim s).decides
         → IsStateless (P.claim s).alike (P.meaning E.form) s }
 {}

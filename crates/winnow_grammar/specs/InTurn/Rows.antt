@@ -8,7 +8,7 @@ use Rattle.streams.specs.Kind.{Kind}
 use Rattle.streams.specs.Reading.{Reading}
 use Rattle.grammars.specs.Grammar.{IsUnique}
 use Rattle.grammars.specs.Texts.{EachText, Text}
-use Rattle.winnow_grammar.specs.InTurn.{Failed, First, Stood, completes_end}
+use Rattle.winnow_grammar.specs.InTurn.{Failed, First, MatchesEachCompletion, completes_end}
 
 -- `n` consecutive encodings.
 abbrev pub RowOf : {T O : Type 0} → Text T O → ℕ → Text T (List O)
@@ -79,7 +79,7 @@ module _ {T O : Type 0} (text : Text T O) (unique : IsUnique (First text)) where
 module _ {T L O : Type 0} {reading : Reading T L} {following : Following T} (text : Text T O)
     {i : Input T} where
   -- before the first
-  pub none_stood : Stood reading following (First (RowOf text 0)) i [] i
+  pub none_stood : MatchesEachCompletion reading following (First (RowOf text 0)) i [] i
   unfolding First EachText
   none_stood = record {
     ends = is_end_of_refl reading i;
@@ -88,9 +88,9 @@ module _ {T L O : Type 0} {reading : Reading T L} {following : Following T} (tex
 
   -- one more
   pub more_stood : (n : ℕ) {os : List O} {o : O} {m j : Input T}
-      → Stood reading following (First (RowOf text n)) i os m
-      → Stood reading following (First text) m o j
-      → Stood reading following (First (RowOf text (n + 1))) i (os ++ o ∷ []) j
+      → MatchesEachCompletion reading following (First (RowOf text n)) i os m
+      → MatchesEachCompletion reading following (First text) m o j
+      → MatchesEachCompletion reading following (First (RowOf text (n + 1))) i (os ++ o ∷ []) j
   unfolding First
   more_stood n {os} {o} {m} {j} a b = record {
     ends = is_end_of_trans b.ends a.ends;
@@ -105,7 +105,8 @@ module _ {T L O : Type 0} {reading : Reading T L} {following : Following T} (tex
 
   -- if a later element fails, `many` elements fail
   pub more_failed : (n many : ℕ) {os : List O} {k : Kind} {m j : Input T}
-      → IsUnique (First text) → Stood reading following (First (RowOf text n)) i os m
+      → IsUnique (First text) → MatchesEachCompletion reading following (First (RowOf text n)) i os
+      m
       → Failed reading following (First text) m k j → n < many
       → Failed reading following (First (RowOf text many)) i k j
   unfolding First

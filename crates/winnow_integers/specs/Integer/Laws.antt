@@ -5,13 +5,13 @@ use Rattle.streams.specs.Input.{Input, IsEndOf, passes_end}
 use Rattle.streams.specs.Kind.{Kind, backtrack}
 use Rattle.streams.specs.Reading.{Reading}
 use Rattle.stream_errors.specs.Form.{Answer, ErrorForm, modal}
-use Rattle.stream_errors.specs.Form.Known.{ok_is_err, same_kind, same_ok, same_output}
+use Rattle.stream_errors.specs.Form.Inversion.{ok_is_err, same_kind, same_ok, same_output}
 use Rattle.winnow_core.specs.Ends.{same_ends}
 use Rattle.winnow_core.specs.Runs.{Keeps, LeaveEnds}
 use Rattle.winnow_integers.specs.Integer.{IntegerRuns}
 use Rattle.winnow_core.specs.Stable.Grows.{Stays, final_by}
 use Rattle.winnow_core.specs.Stable.Longer.{passes_more, short_final}
-use Rattle.grammars.specs.Grammar.{NoneStands}
+use Rattle.grammars.specs.Grammar.{NoMatch}
 use Rattle.winnow_core.specs.Exact.{Backtracks, IsExact}
 use Rattle.winnow_core.specs.Exact.Failed.{short_backtracks}
 use Rattle.winnow_integers.specs.Integer.Grammar.{Integer, integer_unique}
@@ -93,7 +93,7 @@ module _ {X L O : Type 0} (width : ℕ) (value : X → List ℕ → O) (reading 
 
       none : (i : Input ℕ) (k : Kind) (j : Input ℕ)
           → IntegerRuns width (value x) reading form i (Err k) j
-          → NoneStands (Integer width (value x)) i.left.tokens
+          → NoMatch (Integer width (value x)) i.left.tokens
       none i k j (inl (bytes, many, are, passes, e)) = ok_is_err e refl
       none i k j (inr (l, few, short, e, same)) = λ o rest (bytes, many, are, split, is). absurd
           (omega (arith, ap (λ l. length l) split, length-append bytes rest, many, few))

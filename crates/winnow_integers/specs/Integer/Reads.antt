@@ -7,7 +7,7 @@ use Rattle.stream_errors.specs.Form.{ErrorForm}
 use Rattle.winnow_core.specs.Reads.{ReadsShown}
 use Rattle.winnow_core.specs.Runs.{Keeps, Runs}
 use Rattle.winnow_integers.specs.Integer.{AreBytes, IntegerRuns}
-use Rattle.winnow_integers.specs.Integer.Known.{integer_ok}
+use Rattle.winnow_integers.specs.Integer.Inversion.{integer_ok}
 
 -- fronts of one length, of one list, are the same, and so is what follows them
 pub same_fronts : {T : Type 0} (front taken rest left : List T) → front ++ rest ≡ taken ++ left

@@ -90,7 +90,7 @@ pub type InBytes<S, G, H, I, L, O, E> = Delimited<
 
 /// A sequence of an option and a choice of two sequences means a call of the option, and then one
 /// of the first sequence or, if that backtracks, of the second from the same position.
-pub fn a_sequence_of_an_option_and_a_choice_means_its_derivation<
+pub fn option_and_choice_match_their_derivation<
     I: StreamIsPartial + Compare<u8>,
     E: ParserError<I>,
 >()
@@ -104,7 +104,7 @@ where
 
 /// A repetition of these into a list means consecutive calls, whose outputs the list takes one by
 /// one, and the call that ended them.
-pub fn a_repetition_of_sequences_means_its_derivation<
+pub fn repeated_sequences_match_their_derivation<
     I: StreamIsPartial + Compare<u8>,
     E: ParserError<I>,
     A: Allocator + Copy,
@@ -119,7 +119,7 @@ where
 
 /// A list of these with a byte between them means a call of the first, and consecutive links, each
 /// the byte and such a call.
-pub fn a_list_of_separated_sequences_means_its_derivation<
+pub fn separated_sequences_match_their_derivation<
     I: StreamIsPartial + Compare<u8>,
     E: ParserError<I>,
     A: Allocator + Copy,
@@ -135,7 +135,7 @@ where
 
 /// Digits after a byte, up to another byte, mean turns: the terminating byte or, if that
 /// backtracks, the first byte and digits from the same position.
-pub fn items_up_to_a_byte_mean_their_derivation<
+pub fn items_up_to_a_byte_match_their_derivation<
     I: StreamIsPartial + Compare<u8>,
     E: ParserError<I>,
     A: Allocator + Copy,
@@ -152,7 +152,7 @@ where
 /// Tokens between two bytes, accepted by one closure and mapped by another, mean a call of the
 /// first byte, a slice of members, a call of each closure, and a call of the second byte, up to the
 /// first failure. A rejected slice is a backtrack.
-pub fn tokens_between_two_bytes_mean_their_derivation<
+pub fn delimited_tokens_match_their_derivation<
     I: StreamIsPartial + Compare<u8>,
     S: ContainsToken<I::Token>,
     G: FnMut(&I::Slice) -> bool,

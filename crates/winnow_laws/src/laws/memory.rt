@@ -26,7 +26,7 @@ use winnow_repeat::combinator::impls::{Repeat, RepeatTill};
 use winnow_separated::combinator::impls::Separated;
 
 /// No branch of a choice is run after one that is out of memory: the choice is out of memory too.
-pub fn a_choice_never_hides_want_of_memory<
+pub fn alt_keeps_out_of_memory<
     A: Parser<I, O, E>,
     B: Parser<I, O, E>,
     C: Parser<I, O, E>,
@@ -43,7 +43,7 @@ pub fn a_choice_never_hides_want_of_memory<
 {}
 
 /// Likewise for `alt` of an array.
-pub fn a_choice_of_an_array_never_hides_want_of_memory<
+pub fn alt_of_an_array_keeps_out_of_memory<
     const N: usize,
     P: Parser<I, O, E>,
     I: Stream,
@@ -55,13 +55,13 @@ pub fn a_choice_of_an_array_never_hides_want_of_memory<
 {}
 
 /// An optional parser that is out of memory is not skipped.
-pub fn an_option_never_hides_want_of_memory<P: Parser<I, O, E>, I: Stream, O, E: ParserError<I>>()
+pub fn opt_keeps_out_of_memory<P: Parser<I, O, E>, I: Stream, O, E: ParserError<I>>()
     ensures { NeverHides (⟦<Opt<P, I, O, E> as Parser<I, Option<O>, E>>⟧.meaning E.form)
         (OptRuns (GivenMemory (P.meaning E.form))) }
 {}
 
 /// No parser of a sequence is run after one that is out of memory, and that error is the result.
-pub fn a_sequence_never_hides_want_of_memory<
+pub fn sequences_keep_out_of_memory<
     A: Parser<I, O, E>,
     B: Parser<I, O2, E>,
     I: Stream,
@@ -80,7 +80,7 @@ pub fn a_sequence_never_hides_want_of_memory<
 {}
 
 /// A repetition does not end with success at an item that is out of memory.
-pub fn a_repetition_never_hides_want_of_memory<
+pub fn repeat_keeps_out_of_memory<
     P: Parser<I, O, E>,
     I: Stream,
     O: Drop,
@@ -93,7 +93,7 @@ pub fn a_repetition_never_hides_want_of_memory<
 {}
 
 /// No item is tried after a terminator that is out of memory, and no terminator after such an item.
-pub fn repeat_till_never_hides_want_of_memory<
+pub fn repeat_till_keeps_out_of_memory<
     P: Parser<I, O, E>,
     G: Parser<I, D, E>,
     I: Stream,
@@ -110,7 +110,7 @@ pub fn repeat_till_never_hides_want_of_memory<
 {}
 
 /// A separated list does not end with success at a separator or an element that is out of memory.
-pub fn a_separated_list_never_hides_want_of_memory<
+pub fn separated_keeps_out_of_memory<
     P: Parser<I, O, E>,
     S: Parser<I, D, E>,
     I: Stream,

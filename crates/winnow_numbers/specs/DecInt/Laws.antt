@@ -4,15 +4,15 @@ use Rattle.std.proofs.Common.{refl, sym, ap, subst, inl, inr, ◌∙◌}
 use Rattle.streams.specs.Input.{Input, IsEndOf, with_more}
 use Rattle.streams.specs.Reading.{Reading}
 use Rattle.stream_errors.specs.Form.{Answer, ErrorForm, modal}
-use Rattle.winnow_core.specs.Decided.{AlikeAnswers}
+use Rattle.winnow_core.specs.Decided.{EqualResults}
 use Rattle.winnow_core.specs.Decided.Inputs.{both_err, both_ok}
 use Rattle.winnow_core.specs.Ends.{same_ends}
 use Rattle.winnow_numbers.specs.DecInt.{DecIntRuns}
 use Rattle.winnow_numbers.specs.DecUint.Laws.{OneNumber}
 use Rattle.winnow_numbers.specs.DecimalText.{signed_value}
-use Rattle.winnow_numbers.specs.Digits.{SeenOnce}
+use Rattle.winnow_numbers.specs.Digits.{CharIsFunction}
 use Rattle.winnow_numbers.specs.Numeral.{NumeralRuns}
-use Rattle.winnow_numbers.specs.Numeral.Known.{none_status, numeral_status}
+use Rattle.winnow_numbers.specs.Numeral.Inversion.{none_status, numeral_status}
 use Rattle.winnow_numbers.specs.Numeral.Laws.{no_numeral_ends, numeral_ends, numeral_more}
 use Rattle.winnow_numbers.specs.Numeral.Laws.{no_numeral_more}
 use Rattle.winnow_numbers.specs.Numeral.Once.{numeral_or_none, one_miss, one_numeral}
@@ -74,7 +74,7 @@ module _ {N K T L : Type 0} (number : N → ℤ) (fits : ℤ → Type 0) (seen :
   dec_int_status i answer j (inr (inr (k, none, e))) =
       none_status seen code reading form true i k j none
 
-  module _ (once : SeenOnce seen code) where
+  module _ (once : CharIsFunction seen code) where
     one_value : (i : Input T) (sign other xs ys : List ℕ) (a b : Input T)
         → NumeralRuns seen code reading true i sign xs a
         → NumeralRuns seen code reading true i other ys b
@@ -94,7 +94,7 @@ module _ {N K T L : Type 0} (number : N → ℤ) (fits : ℤ → Type 0) (seen :
     pub meet : (i : Input T) (a b : Answer N) (j k : Input T)
         → DecIntRuns number fits seen code reading form i a j
         → DecIntRuns number fits seen code reading form i b k
-        → AlikeAnswers (OneNumber number) a b × (j ≡ k)
+        → EqualResults (OneNumber number) a b × (j ≡ k)
     meet i a b j k (inl (s, xs, m, p, fit, is, e)) (inl (t, ys, n, q, fits_too, was, f)) =
         let one = one_value i s t xs ys j k p q in
         (both_ok (OneNumber number) e f (is ∙ one.0 ∙ sym was), one.1)

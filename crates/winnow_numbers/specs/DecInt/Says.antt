@@ -16,7 +16,7 @@ use Rattle.winnow_numbers.specs.DecInt.{DecIntRuns}
 use Rattle.winnow_numbers.specs.DecInt.Laws.{dec_int_ends, dec_int_status, dec_int_stays, meet}
 use Rattle.winnow_numbers.specs.DecUint.Laws.{OneNumber}
 use Rattle.winnow_numbers.specs.DecimalText.{signed_value}
-use Rattle.winnow_numbers.specs.Digits.{SeenOnce}
+use Rattle.winnow_numbers.specs.Digits.{CharIsFunction}
 use Rattle.winnow_numbers.specs.Numeral.Exact.{dec_int_fails}
 use Rattle.winnow_numbers.specs.Numeral.Says.{HasNumeral, NoNumeralDoes, none_of, none_to}
 use Rattle.winnow_numbers.specs.Numeral.Says.{numeral_of, numeral_to}
@@ -28,8 +28,9 @@ IsNumber number fits seen code n at tokens rest =
     × fits (signed_value sign digits) × (number n ≡ signed_value sign digits)
 
 -- Its number does not fit.
-abbrev pub IsMisfit : {K T : Type 0} → (ℤ → Type 0) → (K → T) → (K → ℕ) → Setting → List T → Type 0
-IsMisfit {T = T} fits seen code at tokens =
+abbrev pub IsTooLargeOrSmall : {K T : Type 0} → (ℤ → Type 0) → (K → T) → (K → ℕ) → Setting → List T
+    → Type 0
+IsTooLargeOrSmall {T = T} fits seen code at tokens =
     (sign : List ℕ) × (digits : List ℕ) × (rest : List T)
     × HasNumeral seen code true at tokens sign digits rest
     × (fits (signed_value sign digits) → ⊥)
@@ -40,12 +41,12 @@ dec_int_says number fits seen code = record {
   premise = ⊤;
   stable = ⊤;
   does = OneCase (TakesWhere (IsNumber number fits seen code))
-      (OneCase (FailsWhere (IsMisfit fits seen code)) (NoNumeralDoes seen code true));
+      (OneCase (FailsWhere (IsTooLargeOrSmall fits seen code)) (NoNumeralDoes seen code true));
   alike = OneNumber number;
 }
 
 module _ {N K T L : Type 0} (number : N → ℤ) (fits : ℤ → Type 0) (seen : K → T) (code : K → ℕ)
-    (reading : Reading T L) (once : SeenOnce seen code) where
+    (reading : Reading T L) (once : CharIsFunction seen code) where
   to : (at : Setting) (tokens : List T) (y : Outcome T N)
       → (dec_int_says number fits seen code).does at tokens y
       → (answer : Answer N) × (rest : List T) × (y ≡ outcome_of answer rest)
@@ -123,7 +124,7 @@ module _ {N K T L : Type 0} (number : N → ℤ) (fits : ℤ → Type 0) (seen :
 
 -- one input decides their runs
 pub dec_int_decided : {N K T L : Type 0} (number : N → ℤ) (fits : ℤ → Type 0) (seen : K → T)
-    (code : K → ℕ) (reading : Reading T L) (form : ErrorForm) → SeenOnce seen code
+    (code : K → ℕ) (reading : Reading T L) (form : ErrorForm) → CharIsFunction seen code
     → IsDecided tt (Keeps (λ (_ : ⊤). DecIntRuns number fits seen code reading form))
     (OneNumber number)
 dec_int_decided number fits seen code reading form once =

@@ -10,9 +10,9 @@ use Rattle.winnow_numbers.specs.Numeral.Laws.{no_numeral_ends, numeral_ends, num
 use Rattle.winnow_numbers.specs.Numeral.Laws.{no_numeral_more}
 use Rattle.winnow_core.specs.Stable.Longer.{same_more}
 use Rattle.winnow_core.specs.Stable.Grows.{Stays, final_by}
-use Rattle.winnow_core.specs.Decided.{AlikeAnswers}
+use Rattle.winnow_core.specs.Decided.{EqualResults}
 use Rattle.winnow_numbers.specs.NumberLaws.{AnswersSame}
-use Rattle.winnow_numbers.specs.Numeral.Known.{none_status, numeral_status}
+use Rattle.winnow_numbers.specs.Numeral.Inversion.{none_status, numeral_status}
 
 -- every call leaves a suffix
 pub dec_uint_ends : {N K T S : Type 0} (number : N → ℕ) (bound : ℕ) (seen : K → T)
@@ -60,7 +60,7 @@ abbrev pub OneNumber : {N V : Type 0} → (N → V) → N → N → Type 0
 OneNumber number m n = number m ≡ number n
 
 pub same_alike : {N V : Type 0} (number : N → V) (a b : Answer N) → AnswersSame number a b
-    → AlikeAnswers (OneNumber number) a b
+    → EqualResults (OneNumber number) a b
 same_alike number (Ok m) (Ok n) same = same
 same_alike number (Ok m) (Err l) same = same
 same_alike number (Err k) (Ok n) same = same

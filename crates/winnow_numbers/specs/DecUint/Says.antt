@@ -13,10 +13,10 @@ use Rattle.winnow_core.specs.Says.Cases.{Case, FailsWhere, OneCase, TakesWhere}
 use Rattle.winnow_core.specs.Says.Decided.{decided_of}
 use Rattle.winnow_numbers.specs.ByRuns.{by_runs, no_places, plain_at}
 use Rattle.winnow_numbers.specs.DecUint.{DecUintRuns}
-use Rattle.winnow_numbers.specs.DecUint.Known.{dec_uint_once}
+use Rattle.winnow_numbers.specs.DecUint.Inversion.{dec_uint_once}
 use Rattle.winnow_numbers.specs.DecUint.Laws.{OneNumber, dec_uint_ends, dec_uint_stays, same_alike}
 use Rattle.winnow_numbers.specs.DecUint.Laws.{dec_uint_status}
-use Rattle.winnow_numbers.specs.Digits.{SeenOnce, value_in}
+use Rattle.winnow_numbers.specs.Digits.{CharIsFunction, value_in}
 use Rattle.winnow_numbers.specs.Numeral.Exact.{dec_uint_fails}
 use Rattle.winnow_numbers.specs.Numeral.Says.{HasNumeral, NoNumeralDoes, none_of, none_to}
 use Rattle.winnow_numbers.specs.Numeral.Says.{numeral_of, numeral_to}
@@ -44,7 +44,7 @@ dec_uint_says number bound seen code = record {
 }
 
 module _ {N K T L : Type 0} (number : N → ℕ) (bound : ℕ) (seen : K → T) (code : K → ℕ)
-    (reading : Reading T L) (once : SeenOnce seen code) where
+    (reading : Reading T L) (once : CharIsFunction seen code) where
   to : (at : Setting) (tokens : List T) (y : Outcome T N)
       → (dec_uint_says number bound seen code).does at tokens y
       → (answer : Answer N) × (rest : List T) × (y ≡ outcome_of answer rest)
@@ -117,7 +117,7 @@ module _ {N K T L : Type 0} (number : N → ℕ) (bound : ℕ) (seen : K → T) 
 
 -- one input decides their runs
 pub dec_uint_decided : {N K T L : Type 0} (number : N → ℕ) (bound : ℕ) (seen : K → T)
-    (code : K → ℕ) (reading : Reading T L) (form : ErrorForm) → SeenOnce seen code
+    (code : K → ℕ) (reading : Reading T L) (form : ErrorForm) → CharIsFunction seen code
     → IsDecided tt (Keeps (λ (_ : ⊤). DecUintRuns number bound seen code reading form))
     (OneNumber number)
 dec_uint_decided number bound seen code reading form once =

@@ -9,7 +9,7 @@ use Rattle.streams.specs.Reading.{Reading}
 use Rattle.stream_errors.specs.Form.{Answer, ErrorForm, modal}
 use Rattle.streams.specs.Kind.{incomplete, Kind, backtrack}
 use Rattle.stream_sets.specs.AsChar.{IsHexDigit}
-use Rattle.winnow_core.specs.Decided.{AlikeAnswers}
+use Rattle.winnow_core.specs.Decided.{EqualResults}
 use Rattle.winnow_core.specs.Decided.Inputs.{both_err, both_ok}
 use Rattle.winnow_core.specs.Ends.{same_ends}
 use Rattle.winnow_core.specs.Runs.{Keeps}
@@ -19,13 +19,13 @@ use Rattle.winnow_core.specs.Stable.Longer.{same_more, passes_more, passes_cut}
 use Rattle.winnow_core.specs.Stable.Grows.{Stays, final_by, not_whole}
 use Rattle.winnow_numbers.specs.Numeral.Laws.{none_first_more, more_is_some}
 use Rattle.streams.specs.Equal.{same_rest, true_is_false}
-use Rattle.stream_sets.specs.Once.{SeesApart}
+use Rattle.stream_sets.specs.Once.{TokenEqInjective}
 use Rattle.grammars.specs.Grammar.{IsUnique, TakesTokens}
-use Rattle.stream_errors.specs.Form.Known.{ok_is_err, same_kind, same_ok}
+use Rattle.stream_errors.specs.Form.Inversion.{ok_is_err, same_kind, same_ok}
 use Rattle.winnow_core.specs.Exact.{Backtracks, IsExact}
-use Rattle.winnow_numbers.specs.Digits.{IsIn, NoneFirst, SeenOnce}
-use Rattle.winnow_numbers.specs.Digits.Known.{characters_length, one_first, one_front}
-use Rattle.winnow_numbers.specs.HexUint.Known.{hex_uint_by, hex_uint_must, passed_by}
+use Rattle.winnow_numbers.specs.Digits.{IsIn, NoneFirst, CharIsFunction}
+use Rattle.winnow_numbers.specs.Digits.Inversion.{characters_length, one_first, one_front}
+use Rattle.winnow_numbers.specs.HexUint.Inversion.{hex_uint_by, hex_uint_must, passed_by}
 use Rattle.winnow_numbers.specs.Numeral.Exact.{seen_one}
 use Rattle.winnow_numbers.specs.Numeral.Grammar.{Hexadecimal}
 
@@ -94,7 +94,7 @@ module _ {K T L : Type 0} (seen : K → T) (code : K → ℕ) (reading : Reading
 
 module _ {K T L : Type 0} (seen : K → T) (code : K → ℕ) (reading : Reading T L) {N : Type 0}
     (number : N → ℕ) (most : ℕ) where
-  pub hexadecimal_unique : SeenOnce seen code
+  pub hexadecimal_unique : CharIsFunction seen code
       → IsUnique (Hexadecimal number most seen code)
   unfolding Hexadecimal
   hexadecimal_unique once = record {
@@ -119,7 +119,7 @@ module _ {K T L : Type 0} (seen : K → T) (code : K → ℕ) (reading : Reading
   }
 
   module _ (form : ErrorForm) where
-    pub hex_uint_exact : SeesApart seen
+    pub hex_uint_exact : TokenEqInjective seen
         → IsExact tt (Keeps (λ (_ : ⊤). HexUintRuns number most seen code reading form))
         (Hexadecimal number most seen code)
     unfolding Hexadecimal
@@ -200,7 +200,7 @@ module _ {N K T L : Type 0} (number : N → ℕ) (most : ℕ) (seen : K → T) (
   hex_uint_status i answer j (inr (inr (inr (front, t, rest, split, all, many, is, e, same)))) =
       ap (λ z. z.status) same
 
-  module _ (once : SeenOnce seen code) where
+  module _ (once : CharIsFunction seen code) where
     digits_or_none : (tokens : List T) (cut : Bool) → All (IsIn seen code IsHexDigit) tokens
         → cut ≡ true → NoneFirst seen code IsHexDigit tokens → (tokens ≡ [] → cut ≡ false) → ⊥
     digits_or_none [] cut all is none ended = true_is_false (sym is ∙ ended refl)
@@ -216,7 +216,7 @@ module _ {N K T L : Type 0} (number : N → ℕ) (most : ℕ) (seen : K → T) (
     pub meet : (i : Input T) (a b : Answer N) (j k : Input T)
         → HexUintRuns number most seen code reading form i a j
         → HexUintRuns number most seen code reading form i b k
-        → AlikeAnswers (OneNumber number) a b × (j ≡ k)
+        → EqualResults (OneNumber number) a b × (j ≡ k)
     meet i a b j k (inl (front, xs, n, p, chars, are, some, few, stops, ended, is, e)) q =
         let known = passed_by number most seen code reading form once i front xs j p chars are some
         few stops ended in

@@ -17,7 +17,7 @@ use Rattle.winnow_core.specs.Says.Decided.{decided_of}
 use Rattle.winnow_core.specs.Says.Lacks.{short_outcome}
 use Rattle.winnow_numbers.specs.ByRuns.{by_runs, no_places, plain_at, plain_passes}
 use Rattle.winnow_numbers.specs.DecUint.Laws.{OneNumber}
-use Rattle.winnow_numbers.specs.Digits.{AreCharacters, IsIn, NoneFirst, SeenOnce, value_in}
+use Rattle.winnow_numbers.specs.Digits.{AreCharacters, IsIn, NoneFirst, CharIsFunction, value_in}
 use Rattle.winnow_numbers.specs.HexUint.{HexUintRuns}
 use Rattle.winnow_numbers.specs.HexUint.Laws.{hex_uint_ends, hex_uint_fails, hex_uint_status}
 use Rattle.winnow_numbers.specs.HexUint.Laws.{hex_uint_stays, meet}
@@ -55,7 +55,7 @@ hex_uint_says number most seen code = record {
 }
 
 module _ {N K T L : Type 0} (number : N → ℕ) (most : ℕ) (seen : K → T) (code : K → ℕ)
-    (reading : Reading T L) (once : SeenOnce seen code) where
+    (reading : Reading T L) (once : CharIsFunction seen code) where
   to : (at : Setting) (tokens : List T) (y : Outcome T N)
       → (hex_uint_says number most seen code).does at tokens y
       → (answer : Answer N) × (rest : List T) × (y ≡ outcome_of answer rest)
@@ -152,7 +152,7 @@ module _ {N K T L : Type 0} (number : N → ℕ) (most : ℕ) (seen : K → T) (
 
 -- one input decides their runs
 pub hex_uint_decided : {N K T L : Type 0} (number : N → ℕ) (most : ℕ) (seen : K → T)
-    (code : K → ℕ) (reading : Reading T L) (form : ErrorForm) → SeenOnce seen code
+    (code : K → ℕ) (reading : Reading T L) (form : ErrorForm) → CharIsFunction seen code
     → IsDecided tt (Keeps (λ (_ : ⊤). HexUintRuns number most seen code reading form))
     (OneNumber number)
 hex_uint_decided number most seen code reading form once =

@@ -7,26 +7,27 @@ use Rattle.streams.specs.Input.{Input, Passes, at_start, no_status}
 use Rattle.streams.specs.Kind.{Kind, backtrack, memory}
 use Rattle.streams.specs.Reading.{Reading}
 use Rattle.stream_sets.specs.AsChar.{IsDecDigit}
-use Rattle.stream_sets.specs.Once.{SeesApart}
+use Rattle.stream_sets.specs.Once.{TokenEqInjective}
 use Rattle.grammars.specs.Grammar.{IsUnique, TakesTokens}
 use Rattle.stream_errors.specs.Form.{Answer, ErrorForm, plain}
-use Rattle.stream_errors.specs.Form.Known.{ok_is_err, same_kind}
+use Rattle.stream_errors.specs.Form.Inversion.{ok_is_err, same_kind}
 use Rattle.winnow_core.specs.Exact.{Backtracks, IsExact}
 use Rattle.winnow_core.specs.Runs.{Keeps}
 use Rattle.winnow_numbers.specs.DecInt.{DecIntRuns}
-use Rattle.winnow_numbers.specs.DecInt.Known.{dec_int_ok, numeral_run}
+use Rattle.winnow_numbers.specs.DecInt.Inversion.{dec_int_ok, numeral_run}
 use Rattle.winnow_numbers.specs.DecUint.{DecUintRuns}
-use Rattle.winnow_numbers.specs.DecUint.Known.{dec_uint_ok}
+use Rattle.winnow_numbers.specs.DecUint.Inversion.{dec_uint_ok}
 use Rattle.winnow_numbers.specs.Decimal.{IsDecimalOf, IsSignedDecimalOf}
 use Rattle.winnow_numbers.specs.DecimalText.{signed_value}
-use Rattle.winnow_numbers.specs.Digits.{AreCharacters, NoneFirst, SeenOnce, value_in}
-use Rattle.winnow_numbers.specs.Digits.Known.{characters_length}
+use Rattle.winnow_numbers.specs.Digits.{AreCharacters, NoneFirst, CharIsFunction, value_in}
+use Rattle.winnow_numbers.specs.Digits.Inversion.{characters_length}
 use Rattle.winnow_numbers.specs.Numeral.{DigitsRuns, IsSign, NumeralRuns}
 use Rattle.winnow_numbers.specs.Numeral.Grammar.{Decimal, SignedDecimal}
-use Rattle.winnow_numbers.specs.Numeral.Known.{behind, digits_run, leads_behind, numeral_front}
+use Rattle.winnow_numbers.specs.Numeral.Inversion.{behind, digits_run, leads_behind, numeral_front}
 use Rattle.winnow_numbers.specs.Numeral.Once.{numeral_or_none, one_numeral}
 
-pub seen_one : {K T : Type 0} (seen : K → T) (code : K → ℕ) → SeesApart seen → SeenOnce seen code
+pub seen_one : {K T : Type 0} (seen : K → T) (code : K → ℕ) → TokenEqInjective seen
+    → CharIsFunction seen code
 seen_one seen code apart x y e = ap code (apart x y e)
 
 -- complete input of these tokens
@@ -94,7 +95,7 @@ module _ {K T L : Type 0} (seen : K → T) (code : K → ℕ) (reading : Reading
       fits,
     )
 
-    pub decimal_unique : SeenOnce seen code → IsUnique (Decimal number bound seen code)
+    pub decimal_unique : CharIsFunction seen code → IsUnique (Decimal number bound seen code)
     unfolding Decimal
     decimal_unique once = record {
       ends = λ tokens n rest (front, digits, e, chars, decimal, stops, fits). (front, e);
@@ -119,7 +120,7 @@ module _ {K T L : Type 0} (seen : K → T) (code : K → ℕ) (reading : Reading
     }
 
     module _ (form : ErrorForm) where
-      pub dec_uint_exact : SeesApart seen
+      pub dec_uint_exact : TokenEqInjective seen
           → IsExact tt (Keeps (λ (_ : ⊤). DecUintRuns number bound seen code reading form))
           (Decimal number bound seen code)
       unfolding Decimal
@@ -264,7 +265,7 @@ module _ {K T L : Type 0} (seen : K → T) (code : K → ℕ) (reading : Reading
           fit,
         )
 
-    pub signed_unique : SeenOnce seen code → IsUnique (SignedDecimal number fits seen code)
+    pub signed_unique : CharIsFunction seen code → IsUnique (SignedDecimal number fits seen code)
     unfolding SignedDecimal
     signed_unique once = record {
       ends = λ tokens n rest (front, sign, digits, e, chars, decimal, stops, fit). (front, e);
@@ -291,7 +292,7 @@ module _ {K T L : Type 0} (seen : K → T) (code : K → ℕ) (reading : Reading
     }
 
     module _ (form : ErrorForm) where
-      pub dec_int_exact : SeesApart seen
+      pub dec_int_exact : TokenEqInjective seen
           → IsExact tt (Keeps (λ (_ : ⊤). DecIntRuns number fits seen code reading form))
           (SignedDecimal number fits seen code)
       unfolding SignedDecimal

@@ -5,7 +5,7 @@ use Rattle.stream_sets.specs.AsChar.{IsDecDigit, IsHexDigit}
 use Rattle.grammars.specs.Grammar.{Grammar}
 use Rattle.winnow_numbers.specs.Decimal.{IsDecimalOf, IsSignedDecimalOf}
 use Rattle.winnow_numbers.specs.Digits.{AreCharacters, NoneFirst, value_in}
-pub mod Known
+pub mod Inversion
 pub mod Signed
 
 -- The decimal digits of a number below the bound, where a '0' is the first only if it is the only

@@ -9,11 +9,11 @@ use Rattle.streams.specs.Kind.{Kind}
 use Rattle.streams.specs.Reading.{Reading}
 use Rattle.stream_errors.specs.Form.{ErrorForm}
 use Rattle.stream_sets.specs.AsChar.{IsDecDigit}
-use Rattle.winnow_numbers.specs.Digits.{AreCharacters, SeenOnce}
-use Rattle.winnow_numbers.specs.Digits.Known.{IsOf, none_behind, one_first, one_front}
+use Rattle.winnow_numbers.specs.Digits.{AreCharacters, CharIsFunction}
+use Rattle.winnow_numbers.specs.Digits.Inversion.{IsOf, none_behind, one_first, one_front}
 use Rattle.winnow_numbers.specs.Numeral.{DigitsRuns, IsLeadingDigit, IsSign, LacksDigits, NoDigits}
 use Rattle.winnow_numbers.specs.Numeral.{NoNumeral, NumeralRuns, SignRuns, is_none, left_by}
-use Rattle.winnow_numbers.specs.Numeral.Known.{sign_status}
+use Rattle.winnow_numbers.specs.Numeral.Inversion.{sign_status}
 
 -- from one input the same tokens lead to one input
 pub one_end : {T S : Type 0} {reading : Reading T S} {front : List T} {i a b : Input T}
@@ -39,7 +39,7 @@ nothing_first : {X P : Type 0} {x : X} {xs tokens : List X} → tokens ≡ [] �
 nothing_first e f = absurd cc
 
 module _ {K T S : Type 0} (seen : K → T) (code : K → ℕ) (reading : Reading T S)
-    (once : SeenOnce seen code) where
+    (once : CharIsFunction seen code) where
   -- from one input one token leads to one input
   one_token : (x y : K) (i a b : Input T) → Passes reading (seen x ∷ []) i a
       → Passes reading (seen y ∷ []) i b → (code x ≡ code y) × (a ≡ b)

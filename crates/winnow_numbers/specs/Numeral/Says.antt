@@ -15,7 +15,7 @@ use Rattle.winnow_numbers.specs.ByRuns.{no_places, plain_at, plain_passes}
 use Rattle.winnow_numbers.specs.Digits.{AreCharacters, IsIn, NoneFirst}
 use Rattle.winnow_numbers.specs.Numeral.{DigitsRuns, IsLeadingDigit, IsSign, LacksDigits}
 use Rattle.winnow_numbers.specs.Numeral.{NoNumeral, NumeralRuns, SignRuns, is_none, left_by}
-use Rattle.winnow_numbers.specs.Numeral.Known.{sign_status}
+use Rattle.winnow_numbers.specs.Numeral.Inversion.{sign_status}
 
 module _ {K T : Type 0} (seen : K → T) (code : K → ℕ) where
   -- If a sign is allowed, the one at the start. Otherwise no sign.
@@ -62,8 +62,8 @@ module _ {K T : Type 0} (seen : K → T) (code : K → ℕ) where
   left_for modal tokens passed = passed
 
   -- The numeral is incomplete, and more input may come.
-  abbrev pub IsBegun : Bool → Case T
-  IsBegun signed at tokens place =
+  abbrev pub IsIncompleteNumeral : Bool → Case T
+  IsIncompleteNumeral signed at tokens place =
       (sign : List ℕ) × (mid : List T) × (passed : List T) × HasSign signed tokens sign mid
       × LacksMore mid passed × (at.more ≡ true) × (place ≡ left_for at.form tokens passed)
 
@@ -76,7 +76,7 @@ module _ {K T : Type 0} (seen : K → T) (code : K → ℕ) where
   -- the outcome if the tokens do not start with a numeral
   abbrev pub NoNumeralDoes : {N : Type 0} → Bool → Does T N
   NoNumeralDoes signed =
-      OneCase (LacksAfter (Some 1) (IsBegun signed)) (FailsWhere (HasNone signed))
+      OneCase (LacksAfter (Some 1) (IsIncompleteNumeral signed)) (FailsWhere (HasNone signed))
 
   module _ {S : Type 0} (reading : Reading T S) where
     -- ---- as runs

@@ -3,7 +3,7 @@ ghost use Rattle.std.specs.Prelude.{◌≡◌, ◌≤◌, ◌-◌, IfSome, ℕ, 
 ghost use Rattle.stream_sets.specs.AsChar.{IsDecDigit};
 ghost use Rattle.streams.specs.Input.{IsEndOf};
 ghost use Rattle.winnow_numbers.specs.Digits.{value_in};
-ghost use Rattle.winnow_numbers.specs.Lanes.{BeginsNumeral};
+ghost use Rattle.winnow_numbers.specs.Lanes.{StartsWithNumeral};
 ghost use Rattle.winnow_numbers.specs.Numeral.{DigitsRuns};
 
 use crate::ascii::lanes::first_numeral;
@@ -45,7 +45,7 @@ where
     I::Token: AsChar,
     I::Slice: AsBStr,
     ensures begins { IfSome result (λ found. (digits rest : List ℕ)
-        × BeginsNumeral (I.bytes_of (I.view input.old).left.tokens) digits rest
+        × StartsWithNumeral (I.bytes_of (I.view input.old).left.tokens) digits rest
         × (found.0 ≡ length digits) × (found.1 ≡ value_in 10 digits)) }
     ensures same { I.view input.new ≡ I.view input.old }
 {

@@ -5,7 +5,7 @@
 ghost use Rattle.std.specs.Prelude.{◌≡◌, ◌≤◌, ◌<◌, ◌+◌, ◌-◌, ◌*◌, ◌++◌, ℕ, List, IfSome, length};
 ghost use Rattle.std.specs.Prelude.{replicate, take};
 ghost use Rattle.winnow_numbers.specs.Digits.{value_in};
-ghost use Rattle.winnow_numbers.specs.Lanes.{AreAtMost, BeginsNumeral, EndsDigits, as_words};
+ghost use Rattle.winnow_numbers.specs.Lanes.{AreAtMost, StartsWithNumeral, EndsDigits, as_words};
 ghost use Rattle.winnow_numbers.specs.Lanes.{in_base, joined};
 
 use std::simd::prelude::*;
@@ -22,7 +22,7 @@ const PLACES: [u8; LANES] = [0, 1, 2, 3, 4, 5, 6, 7, 8, 9, 10, 11, 12, 13, 14, 1
 #[inline(always)]
 pub(crate) fn first_numeral(bytes: &[u8]) -> Option<(usize, u64)>
     ensures { IfSome result (λ found. (digits rest : List ℕ)
-        × BeginsNumeral bytes.now digits rest × (found.0 ≡ length digits)
+        × StartsWithNumeral bytes.now digits rest × (found.0 ≡ length digits)
         × (found.1 ≡ value_in 10 digits)) }
 {
     if bytes.len() < LANES {

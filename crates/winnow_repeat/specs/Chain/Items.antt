@@ -32,8 +32,8 @@ Gives {C = C} into before outputs at tokens y =
     (all : C) × Accumulates into.takes before outputs all × (y ≡ took all tokens)
 
 -- With these outputs there is no memory for one more.
-abbrev pub IsRefused : {O C : Type 0} → Accumulator C O → C → List O → O → Type 0
-IsRefused {C = C} into before outputs o =
+abbrev pub CannotGrow : {O C : Type 0} → Accumulator C O → C → List O → O → Type 0
+CannotGrow {C = C} into before outputs o =
     (some : C) × Accumulates into.takes before outputs some × into.grows some o
 
 -- the outcome if the last item returned an output: it consumed no input, or it consumed some and
@@ -41,7 +41,7 @@ IsRefused {C = C} into before outputs o =
 abbrev pub last_taken : {T O C U : Type 0} → Accumulator C O → C → List O → O → Comes T U
 last_taken into before outputs o at tokens rest y =
     ((length rest < length tokens → ⊥) × (y ≡ misused at rest))
-    ⊎ ((length rest < length tokens) × IsRefused into before outputs o × (y ≡ wants))
+    ⊎ ((length rest < length tokens) × CannotGrow into before outputs o × (y ≡ wants))
 
 -- The outcome of the item after these outputs, if it is the last.
 abbrev pub last_item : {T O C : Type 0} → Accumulator C O → ℕ → C → List O → Next T O C

@@ -12,7 +12,7 @@ use Rattle.stream_sets.specs.declared.range.Range.{Range}
 use Rattle.grammars.specs.Grammar.{Grammar, TakesTokens}
 use Rattle.grammars.specs.Grammar.Folded.{FoldOf, Folded, StaysFolding, StaysMaking}
 use Rattle.stream_errors.specs.Form.{Answer}
-use Rattle.stream_errors.specs.Form.Known.{at_kind, at_output, ok_is_err, same_kind}
+use Rattle.stream_errors.specs.Form.Inversion.{at_kind, at_output, ok_is_err, same_kind}
 use Rattle.winnow_core.specs.Chain.{IsItem}
 use Rattle.winnow_core.specs.Exact.{FailsBy, IsExact, IsSoft}
 use Rattle.winnow_core.specs.Runs.{Runs}

@@ -10,10 +10,10 @@ use Rattle.stream_sets.specs.Accumulator.{Accumulator, Wants}
 use Rattle.stream_sets.specs.Accumulator.Holds.{Accumulates, Holds}
 use Rattle.stream_sets.specs.Range.{Bounds, IsBelow, IsWithin, bounds_of, from_to}
 use Rattle.stream_sets.specs.declared.range.Range.{Range}
-use Rattle.grammars.specs.Grammar.{Each, Gathered, Grammar, Many, NoneStands, Repeated, TakesTokens}
+use Rattle.grammars.specs.Grammar.{Each, Gathered, Grammar, Many, NoMatch, Repeated, TakesTokens}
 use Rattle.grammars.specs.Grammar.Unique.{no_more, repeated_take, repeated_unique}
 use Rattle.stream_errors.specs.Form.{Answer}
-use Rattle.stream_errors.specs.Form.Known.{at_kind, ok_is_err, same_ok, same_kind}
+use Rattle.stream_errors.specs.Form.Inversion.{at_kind, ok_is_err, same_ok, same_kind}
 use Rattle.winnow_core.specs.Chain.{IsItem}
 use Rattle.winnow_core.specs.Exact.{FailsBy, IsExact, IsSoft}
 use Rattle.winnow_core.specs.Exact.Failed.{none_at_backtrack}
@@ -194,9 +194,9 @@ wants_one into o (inl grows) = inl (None, grows)
 wants_one into o (inr (empty, starts, grows)) = inr (empty, o, grows)
 
 -- how a repetition begins: with no item taken yet, or, in the form of one or more, with one
-abbrev Begins : {S T O C : Type 0} → Runs S T O → Accumulator C O → Kind → Bounds → S → Input T
+abbrev RepeatStart : {S T O C : Type 0} → Runs S T O → Accumulator C O → Kind → Bounds → S → Input T
     → Answer C → S → Input T → Type 0
-Begins {S} {T} {O} {C} run into asserted bounds s i answer t j =
+RepeatStart {S} {T} {O} {C} run into asserted bounds s i answer t j =
     ((k : Kind) × (answer ≡ Err k) × run s i (Err k) t j × (bounds.least ≡ 1))
     ⊎ (((answer ≡ Err memory) × (t ≡ s) × (j.status.cut ≡ false) × Wants into)
     ⊎ ((empty : C) × into.starts (capacity_of bounds.least bounds.greatest) empty
@@ -207,7 +207,7 @@ module _ {S T O C : Type 0} {run : Runs S T O} {g : Grammar T O} {s : S} (into :
   one_begins : IsExact s run g → TakesTokens g → bounds.least ≡ 1 → bounds.greatest ≡ None
       → (i : Input T) (answer : Answer C) (t : S) (j : Input T) → i.status.cut ≡ false
       → RepeatOneRuns run into asserted s i answer t j
-      → Begins run into asserted bounds s i answer t j
+      → RepeatStart run into asserted bounds s i answer t j
   one_begins c takes least greatest i answer t j is (inl (k, r, e)) = inl (k, e, r, least)
   one_begins c takes least greatest i answer t j is (inr (inr (o, r, grows, e))) =
       let (same, still) = c.kept i (Ok o) t j is r in
@@ -259,7 +259,7 @@ module _ {S T O C : Type 0} {run : Runs S T O} {g : Grammar T O} {s : S} (into :
   begins : IsExact s run g → TakesTokens g → IsWithin bounds.greatest bounds.least → (i : Input T)
       (answer : Answer C) (t : S) (j : Input T) → i.status.cut ≡ false
       → RepeatRuns run into asserted bounds s i answer t j
-      → Begins run into asserted bounds s i answer t j
+      → RepeatStart run into asserted bounds s i answer t j
   begins c takes within i answer t j is (inl (least, greatest, ran)) =
       one_begins c takes least greatest i answer t j is ran
   begins c takes within i answer t j is (inr (other, inl (most, full, below, e, a, b))) =
@@ -291,11 +291,11 @@ module _ {S T O C : Type 0} {run : Runs S T O} {g : Grammar T O} (into : Accumul
 
       begun : (i : Input T) (answer : Answer C) (t : S) (j : Input T) → i.status.cut ≡ false
           → RepeatRuns run into asserted bounds s.0 i answer t j
-          → Begins run into asserted bounds s.0 i answer t j
+          → RepeatStart run into asserted bounds s.0 i answer t j
       begun = begins into asserted bounds c takes within
 
       kept : (i : Input T) (answer : Answer C) (t : S) (j : Input T) → i.status.cut ≡ false
-          → Begins run into asserted bounds s.0 i answer t j
+          → RepeatStart run into asserted bounds s.0 i answer t j
           → (t ≡ s.0) × (j.status.cut ≡ false)
       kept i answer t j is (inl (k, e, r, one)) = c.kept i (Err k) t j is r
       kept i answer t j is (inr (inl (e, same, still, wants))) = (same, still)
@@ -303,7 +303,7 @@ module _ {S T O C : Type 0} {run : Runs S T O} {g : Grammar T O} (into : Accumul
           items_keep into asserted bounds c empty i answer t j is ran
 
       stands : (i : Input T) (o : C) (t : S) (j : Input T) → i.status.cut ≡ false
-          → Begins run into asserted bounds s.0 i (Ok o) t j
+          → RepeatStart run into asserted bounds s.0 i (Ok o) t j
           → Repeated holds s.1 g i.left.tokens o j.left.tokens
       stands i o t j is (inl (k, e, r, one)) = ok_is_err refl e
       stands i o t j is (inr (inl (e, same, still, wants))) = ok_is_err refl e
@@ -313,16 +313,16 @@ module _ {S T O C : Type 0} {run : Runs S T O} {g : Grammar T O} (into : Accumul
           (os, keeps.held _ empty o os starts taken, many)
 
       none_of_one : (os : List O) {tokens : List T} (rest : List T) → bounds.least ≡ 1
-          → NoneStands g tokens → Each g tokens os rest → bounds.least ≤ length os → ⊥
+          → NoMatch g tokens → Each g tokens os rest → bounds.least ≤ length os → ⊥
       none_of_one [] rest one nothing each enough = omega (arith, one, enough)
       none_of_one (o ∷ os) rest one nothing (mid, x, more) enough = nothing o mid x
 
       none : (i : Input T) (k : Kind) (t : S) (j : Input T) → i.status.cut ≡ false
-          → Begins run into asserted bounds s.0 i (Err k) t j
-          → (k ≡ memory) ⊎ NoneStands (Repeated holds s.1 g) i.left.tokens
+          → RepeatStart run into asserted bounds s.0 i (Err k) t j
+          → (k ≡ memory) ⊎ NoMatch (Repeated holds s.1 g) i.left.tokens
       none i k t j is (inl (l, e, r, one)) =
           let Goal : Kind → Type 0 =
-          λ x. (x ≡ memory) ⊎ NoneStands (Repeated holds s.1 g) i.left.tokens in
+          λ x. (x ≡ memory) ⊎ NoMatch (Repeated holds s.1 g) i.left.tokens in
           at_kind Goal e (elim (c.none i l t j is r) [
             | inl m ↦ inl m
             | inr nothing ↦ inr (λ all rest (os, held, (each, enough, stops)).
@@ -353,7 +353,7 @@ module _ {S T O C : Type 0} {run : Runs S T O} {g : Grammar T O} (into : Accumul
   }
     where
       fails : (i : Input T) (k : Kind) (t : S) (j : Input T) → i.status.cut ≡ false
-          → Begins run into asserted (bounds_of s.1) s.0 i (Err k) t j → allowed k
+          → RepeatStart run into asserted (bounds_of s.1) s.0 i (Err k) t j → allowed k
       fails i k t j is (inl (l, e, r, one)) = at_kind allowed e (f.fails i l t j is r)
       fails i k t j is (inr (inl (e, same, still, wanted))) = at_kind allowed e (wants wanted)
       fails i k t j is (inr (inr (empty, starts, ran))) =

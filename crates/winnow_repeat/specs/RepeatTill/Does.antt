@@ -7,7 +7,7 @@ use Rattle.winnow_core.specs.Outcome.{Does, backs, took, wants}
 use Rattle.winnow_core.specs.Then.{Comes, Next, Then}
 use Rattle.winnow_core.specs.Then.Steps.{asks_on, cuts_on, where_took}
 use Rattle.winnow_repeat.specs.Chain.Bounded.{Bounded}
-use Rattle.winnow_repeat.specs.Chain.Items.{IsRefused, last_taken}
+use Rattle.winnow_repeat.specs.Chain.Items.{CannotGrow, last_taken}
 use Rattle.winnow_repeat.specs.Chain.Says.{Chained, ItemOf, Step}
 use Rattle.winnow_repeat.specs.RepeatTill.{room_behind}
 pub mod Laws
@@ -57,7 +57,7 @@ ItemsTillDo {C = C} item till into bounds empty =
     (λ os at tokens y. (first : C) × Accumulates into.takes empty os first
     × TurnsDo item till into (room_behind bounds.least bounds.greatest) first at tokens y)
     (λ os. Then item (where_took (λ o at tokens rest y.
-    IsRefused into empty os o × (y ≡ wants))))
+    CannotGrow into empty os o × (y ≡ wants))))
 
 -- the same within bounds
 abbrev pub RepeatTillDo : {T O D C : Type 0} → Does T O → Does T D → Accumulator C O → Bounds

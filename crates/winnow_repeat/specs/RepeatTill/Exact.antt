@@ -11,12 +11,12 @@ use Rattle.stream_sets.specs.Accumulator.Holds.{Holds}
 use Rattle.stream_sets.specs.Longest.{within_is}
 use Rattle.stream_sets.specs.Range.{Bounds, IsWithin, bounds_of}
 use Rattle.stream_sets.specs.declared.range.Range.{Range}
-use Rattle.grammars.specs.Grammar.{Each, Grammar, NoneStands, TakesTokens}
+use Rattle.grammars.specs.Grammar.{Each, Grammar, NoMatch, TakesTokens}
 use Rattle.grammars.specs.Grammar.Till.{Till, Turn, UpTo, each_same, more_turns, till_unique}
 use Rattle.grammars.specs.Grammar.Till.{turn_unique}
 use Rattle.grammars.specs.Grammar.Unique.{no_more}
 use Rattle.stream_errors.specs.Form.{Answer}
-use Rattle.stream_errors.specs.Form.Known.{at_kind, ok_is_err, same_ok, same_kind}
+use Rattle.stream_errors.specs.Form.Inversion.{at_kind, ok_is_err, same_ok, same_kind}
 use Rattle.winnow_core.specs.Exact.{FailsBy, IsExact, IsSoft}
 use Rattle.winnow_core.specs.Exact.Failed.{none_at_backtrack}
 use Rattle.winnow_core.specs.Runs.{Runs}
@@ -135,8 +135,8 @@ module _ {S W T O D C : Type 0} {run : Runs S T O} {till : Runs W T D} {g : Gram
   -- after the least number of items and some turns without a terminator, a terminator can only
   -- follow after more turns, and after an item
   none_stands : (os ps : List O) (tokens a b : List T) → length os ≡ bounds.least
-      → Each g tokens os a → Each (Turn g h) a ps b → NoneStands h b
-      → NoneStands g b ⊎ (room_behind bounds.least bounds.greatest ≡ Some (length ps))
+      → Each g tokens os a → Each (Turn g h) a ps b → NoMatch h b
+      → NoMatch g b ⊎ (room_behind bounds.least bounds.greatest ≡ Some (length ps))
       → (all : List O) (d : D) (rest : List T) → UpTo g h bounds tokens (all, d) rest → ⊥
   unfolding UpTo
   none_stands os ps tokens a b least first turns none why all d rest

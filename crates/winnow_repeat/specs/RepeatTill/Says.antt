@@ -5,7 +5,7 @@ use Rattle.std.proofs.Math.Nat.{eq-or-lt_of_le}
 use Rattle.streams.specs.Input.{Input, back_at}
 use Rattle.streams.specs.Kind.{Kind, backtrack, memory}
 use Rattle.stream_errors.specs.Form.{Answer, assert_kind}
-use Rattle.stream_errors.specs.Form.Known.{at_output, ok_is_err, same_kind}
+use Rattle.stream_errors.specs.Form.Inversion.{at_output, ok_is_err, same_kind}
 use Rattle.stream_sets.specs.Accumulator.{Accumulator}
 use Rattle.stream_sets.specs.Accumulator.Holds.{Accumulates, Holds}
 use Rattle.stream_sets.specs.Range.{Bounds, IsBelow, IsWithin, bounds_of}
@@ -20,7 +20,7 @@ use Rattle.winnow_core.specs.Then.{ComesOf, Then, did_in, hands_on}
 use Rattle.winnow_core.specs.Then.Steps.{fails_on, where_took}
 use Rattle.winnow_repeat.specs.Chain.{IsSuccess, Successes}
 use Rattle.winnow_repeat.specs.Chain.Bounded.{HeldAlike, bounded_did}
-use Rattle.winnow_repeat.specs.Chain.Items.{IsRefused}
+use Rattle.winnow_repeat.specs.Chain.Items.{CannotGrow}
 use Rattle.winnow_repeat.specs.Chain.Says.{ChainDid, Ends, chain_at, chained_did, did_beside}
 use Rattle.winnow_repeat.specs.Chain.Says.{did_wider, full_is_below, items_did, steps_did}
 use Rattle.winnow_repeat.specs.RepeatTill.{LeastItemsRun, RangedTillRuns, RepeatTillRuns, TurnRuns}
@@ -172,7 +172,7 @@ module _ {S W T O D : Type 0} {item : Does T O} {till : Does T D} {s : S × W}
           (λ os at tokens y. (first : C) × Accumulates into.takes empty os first
           × TurnsDo item till into (room_behind bounds.least bounds.greatest) first at tokens y)
           (λ os. Then item (where_took (λ o at tokens rest y.
-          IsRefused into empty os o × (y ≡ wants))))
+          CannotGrow into empty os o × (y ≡ wants))))
 
       some_did : (outputs : List O) (i : Input T) (u : S) (m : Input T) → IsAt at i
           → Successes (meaning at.form) s.0 i outputs u m
@@ -199,15 +199,15 @@ module _ {S W T O D : Type 0} {item : Does T O} {till : Does T D} {s : S × W}
           let did = part.did at m (Err l) t.0 j is r in
           did_wider (λ y d. inr (less, d))
           (did_in {next = where_took (λ o at tokens rest y.
-          IsRefused into empty outputs o × (y ≡ wants))} s t (pair_is did.kept same) did
-          (fails_on (λ o at tokens rest y. IsRefused into empty outputs o × (y ≡ wants))
+          CannotGrow into empty outputs o × (y ≡ wants))} s t (pair_is did.kept same) did
+          (fails_on (λ o at tokens rest y. CannotGrow into empty outputs o × (y ≡ wants))
           at m.left.tokens j.left.tokens l (e ∙ ap Err (same_kind f))))
       few_ended outputs some taken k m answer t j is same e
           (inr (inr (o, less, r, grows, f))) =
           let did = part.did at m (Ok o) t.0 j is r in
           did_wider (λ y d. inr (less, d))
           (did_in {next = where_took (λ o at tokens rest y.
-          IsRefused into empty outputs o × (y ≡ wants))} s t (pair_is did.kept same) did
+          CannotGrow into empty outputs o × (y ≡ wants))} s t (pair_is did.kept same) did
           ((some, taken, grows), gave j.left.tokens (e ∙ ap Err (same_kind f))))
 
       few_did : (k : Kind) (i : Input T) (answer : Answer (C × D)) (t : S × W) (j : Input T)

@@ -16,7 +16,7 @@ use winnow_core::parser::Parser;
 /// A fold of outputs into a value that may reject an output.
 pub trait Folding<I: Stream, O, R, E: ParserError<I>> {
     /// The reason for rejecting an output.
-    type Refusal;
+    type Reason;
 
     // Where an output may be folded in.
     ghost can_fold: { Self → Type 0 };
@@ -30,10 +30,10 @@ pub trait Folding<I: Stream, O, R, E: ParserError<I>> {
     ghost folds: { State → R → O → Answer R → State → Type 0 };
 
     // The kinds of errors for a reason.
-    ghost refuses: { Self.Refusal → Kind → Type 0 };
+    ghost refuses: { Self.Reason → Kind → Type 0 };
 
     /// Folds an output into a value, or returns the reason for rejecting it.
-    fn fold(&mut self, value: R, output: O) -> Result<R, Self::Refusal>
+    fn fold(&mut self, value: R, output: O) -> Result<R, Self::Reason>
         requires { can_fold self.old }
         ensures again { can_fold self.new }
         ensures folded { MatchResult result
@@ -42,7 +42,7 @@ pub trait Folding<I: Stream, O, R, E: ParserError<I>> {
             → folds (state self.old) value output (Err k) (state self.new)) };
 
     /// Returns the error for a reason, at the position of `input`.
-    fn error(refusal: Self::Refusal, input: &I) -> E
+    fn error(refusal: Self::Reason, input: &I) -> E
         ensures { refuses refusal (E.kind result) };
 }
 

@@ -10,7 +10,7 @@ use Rattle.winnow_separated.specs.Link.{LinkFails, LinkRuns, PairLinkRuns}
 use Rattle.winnow_core.specs.Stable.{IsFinalKind}
 use Rattle.winnow_core.specs.Stable.Grows.{Grows, MayGrow}
 use Rattle.winnow_core.specs.Stable.Longer.{still_fewer}
-use Rattle.grammars.specs.Grammar.{Both, Grammar, NoneStands}
+use Rattle.grammars.specs.Grammar.{Both, Grammar, NoMatch}
 use Rattle.grammars.specs.Grammar.Unique.{both_unique}
 use Rattle.stream_errors.specs.Form.{Answer}
 use Rattle.winnow_core.specs.Exact.{FailsBy, IsExact}
@@ -119,7 +119,7 @@ module _ {S W T O D : Type 0} {run : Runs S T O} {separator : Runs W T D} {g : G
 
       none : (i : Input T) (k : Kind) (t : S × W) (j : Input T) → i.status.cut ≡ false
           → LinkRuns run separator s i (Err k) t j
-          → (k ≡ memory) ⊎ NoneStands (Both (λ d o. o) h g) i.left.tokens
+          → (k ≡ memory) ⊎ NoMatch (Both (λ d o. o) h g) i.left.tokens
       none i k t j is (inl (r, same)) = elim (b.none i k t.1 j is r) [
         | inl m ↦ inl m
         | inr nothing ↦ inr (λ p rest (p1, p2, mid, x, y, f). nothing p1 mid x)

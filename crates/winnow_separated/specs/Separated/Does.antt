@@ -11,20 +11,20 @@ use Rattle.winnow_separated.specs.Separated.{links_within}
 pub mod Laws
 pub mod Runs
 
--- Behind a separator that takes something, the element does what it does.
-abbrev pub Behind : {T O : Type 0} → Does T O → List T → Does T O
-Behind element mid at tokens y = (length mid < length tokens) × element at mid y
+-- AfterSeparator a separator that takes something, the element does what it does.
+abbrev pub AfterSeparator : {T O : Type 0} → Does T O → List T → Does T O
+AfterSeparator element mid at tokens y = (length mid < length tokens) × element at mid y
 
 -- A link: a separator that takes something, and the element after it, whose output is the link's.
 abbrev pub LinkDoes : {T O D : Type 0} → Does T O → Does T D → Does T O
 LinkDoes element separator =
-    Then separator (where_took (λ d at tokens mid y. Behind element mid at tokens y))
+    Then separator (where_took (λ d at tokens mid y. AfterSeparator element mid at tokens y))
 
 -- The same, where the output is that of the separator and that of the element.
 abbrev pub PairLinkDoes : {T O D : Type 0} → Does T O → Does T D → Does T (D × O)
 PairLinkDoes element separator =
     Then separator (where_took (λ d at tokens mid y.
-    Behind (Then element (where_took (λ o. takes (d, o)))) mid at tokens y))
+    AfterSeparator (Then element (where_took (λ o. takes (d, o)))) mid at tokens y))
 
 -- A separator that consumes no input: there is no link, and the outcome is an assert error.
 abbrev pub NothingBetween : {T D U : Type 0} → Does T D → Does T U

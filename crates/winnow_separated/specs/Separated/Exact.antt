@@ -9,12 +9,12 @@ use Rattle.stream_sets.specs.Accumulator.{Accumulator, Wants}
 use Rattle.stream_sets.specs.Accumulator.Holds.{Accumulates, Holds}
 use Rattle.stream_sets.specs.Range.{Bounds, IsBelow, IsWithin, bounds_of}
 use Rattle.stream_sets.specs.declared.range.Range.{Range}
-use Rattle.grammars.specs.Grammar.{Both, Each, Gathered, Grammar, IsUnique, Many, NoneStands}
+use Rattle.grammars.specs.Grammar.{Both, Each, Gathered, Grammar, IsUnique, Many, NoMatch}
 use Rattle.grammars.specs.Grammar.{Parted, SeparatedBy, Stops, TakesTokens}
 use Rattle.grammars.specs.Grammar.Unique.{both_take, gathered_takes, gathered_unique, parted_takes}
 use Rattle.grammars.specs.Grammar.Unique.{parted_unique}
 use Rattle.stream_errors.specs.Form.{Answer}
-use Rattle.stream_errors.specs.Form.Known.{at_kind, ok_is_err, same_ok, same_kind}
+use Rattle.stream_errors.specs.Form.Inversion.{at_kind, ok_is_err, same_ok, same_kind}
 use Rattle.winnow_core.specs.Exact.{FailsBy, IsExact, IsSoft}
 use Rattle.winnow_core.specs.Exact.Failed.{none_at_backtrack}
 use Rattle.winnow_core.specs.Runs.{Runs}
@@ -148,8 +148,8 @@ module _ {S W T O D C : Type 0} {run : Runs S T O} {separator : Runs W T D} {g :
       )
 
   -- no list matches if a first element is required and does not match
-  none_of_first : (tokens : List T) → NoneStands g tokens → 0 < bounds.least
-      → NoneStands (Parted g h bounds) tokens
+  none_of_first : (tokens : List T) → NoMatch g tokens → 0 < bounds.least
+      → NoMatch (Parted g h bounds) tokens
   unfolding Parted
   none_of_first tokens none some [] rest (same, least, stops) = omega (arith, least, some)
   none_of_first tokens none some (o ∷ os) rest (mid, x, each, enough, stops) = none o mid x
@@ -157,7 +157,7 @@ module _ {S W T O D C : Type 0} {run : Runs S T O} {separator : Runs W T D} {g :
   -- nor if there are too few links after the first
   too_few : (tokens mid : List T) (o : O) → g tokens o mid → ((ps : List O) (rest : List T)
       → Each (Both (λ d o. o) h g) mid ps rest → length ps < bounds.least - 1)
-      → NoneStands (Parted g h bounds) tokens
+      → NoMatch (Parted g h bounds) tokens
   unfolding Parted
   too_few tokens mid o x few [] rest (same, least, stops) =
       let early = few [] mid refl in omega (arith, early, least)
@@ -169,13 +169,13 @@ module _ {S W T O D C : Type 0} {run : Runs S T O} {separator : Runs W T D} {g :
   elements_fail : IsSoft a run → IsSoft b separator → (empty : C) (i : Input T) (k : Kind)
       (t : S × W) (j : Input T) → i.status.cut ≡ false
       → ElementsRun run separator into asserted bounds empty (a, b) i (Err k) t j
-      → (k ≡ memory) ⊎ ((k ≡ backtrack) × NoneStands (Parted g h bounds) i.left.tokens)
+      → (k ≡ memory) ⊎ ((k ≡ backtrack) × NoMatch (Parted g h bounds) i.left.tokens)
   elements_fail f fb empty i k t j is (inl (full, e, same, back)) = ok_is_err e refl
   elements_fail f fb empty i k t j is (inr (inl (x, below, least, r, kept, e, back))) =
       ok_is_err e refl
   elements_fail f fb empty i k t j is (inr (inr (inl (l, below, r, kept, few, e)))) =
       let Goal : Kind → Type 0 =
-      λ x. (x ≡ memory) ⊎ ((x ≡ backtrack) × NoneStands (Parted g h bounds) i.left.tokens) in
+      λ x. (x ≡ memory) ⊎ ((x ≡ backtrack) × NoMatch (Parted g h bounds) i.left.tokens) in
       at_kind Goal e (elim (f.fails i l t.0 j is r) [
         | inl m ↦ inl m
         | inr back ↦
@@ -248,7 +248,7 @@ module _ {S W T O D C : Type 0} {run : Runs S T O} {separator : Runs W T D} {g :
       → IsWithin (bounds_of s.2).greatest (bounds_of s.2).least → (i : Input T) (k : Kind)
       (t : S × W × Range) (j : Input T) → i.status.cut ≡ false
       → RangedElements run separator into asserted s i (Err k) t j
-      → (k ≡ memory) ⊎ ((k ≡ backtrack) × NoneStands (Parted g h (bounds_of s.2)) i.left.tokens)
+      → (k ≡ memory) ⊎ ((k ≡ backtrack) × NoMatch (Parted g h (bounds_of s.2)) i.left.tokens)
   fail_all f fb within i k t j is (inl (most, full, below, e, same, all), range) =
       let P : Option ℕ → Type 0 = λ x. IsWithin x (bounds_of s.2).least in
       let enough : (bounds_of s.2).least ≤ most = subst P full within in

@@ -12,9 +12,9 @@ use Rattle.winnow_core.specs.Stable.Longer.{short_final, passes_more}
 use Rattle.winnow_core.specs.Stable.{IsFinal}
 use Rattle.winnow_core.specs.Stable.Grows.{final_by, Stays}
 use Rattle.streams.specs.Kind.{Kind, backtrack}
-use Rattle.grammars.specs.Grammar.{NoneStands, TakesTokens, Token}
+use Rattle.grammars.specs.Grammar.{NoMatch, TakesTokens, Token}
 use Rattle.grammars.specs.Grammar.Unique.{token_unique}
-use Rattle.stream_errors.specs.Form.Known.{ok_is_err, same_ok, same_kind}
+use Rattle.stream_errors.specs.Form.Inversion.{ok_is_err, same_ok, same_kind}
 use Rattle.winnow_core.specs.Exact.{Backtracks, IsExact}
 use Rattle.winnow_core.specs.Exact.Failed.{short_backtracks}
 
@@ -68,7 +68,7 @@ module _ {K T L : Type 0} (seen : K → T) (reading : Reading T L) (form : Error
       stands i k j (inr (l, nothing, short, e, same)) = ok_is_err refl e
 
       none : (i : Input T) (k : Kind) (j : Input T) → AnyRuns seen reading form i (Err k) j
-          → NoneStands (Token seen) i.left.tokens
+          → NoMatch (Token seen) i.left.tokens
       none i k j (inl (x, passes, e)) = ok_is_err e refl
       none i k j (inr (l, nothing, short, e, same)) = λ o rest f. first_of_none nothing f
 

@@ -12,12 +12,12 @@ use Rattle.winnow_core.specs.Stable.Grows.{Stays}
 use Rattle.winnow_token.specs.Any.Laws.{no_token_final}
 use Rattle.streams.specs.Equal.{same_first}
 use Rattle.streams.specs.Stream.{AnswersSeen}
-use Rattle.stream_sets.specs.Once.{TellsOnce}
+use Rattle.stream_sets.specs.Once.{SetIsFunction}
 use Rattle.winnow_token.specs.Any.Laws.{first_of_none}
 use Rattle.streams.specs.Kind.{Kind, backtrack}
-use Rattle.grammars.specs.Grammar.{NoneStands, TakesTokens, TokenOf}
+use Rattle.grammars.specs.Grammar.{NoMatch, TakesTokens, TokenOf}
 use Rattle.grammars.specs.Grammar.Unique.{token_of_unique}
-use Rattle.stream_errors.specs.Form.Known.{ok_is_err, same_ok, same_kind}
+use Rattle.stream_errors.specs.Form.Inversion.{ok_is_err, same_ok, same_kind}
 use Rattle.winnow_core.specs.Exact.{Backtracks, IsExact}
 use Rattle.winnow_core.specs.Exact.Failed.{short_backtracks}
 
@@ -45,7 +45,7 @@ one_of_stays seen reading member more flag i answer j is_cut final (inr (inr non
 
 module _ {X K T L : Type 0} (seen : K → T) (reading : Reading T L) (form : ErrorForm)
     (tells : X → K → Bool → Type 0) (set : X) where
-  pub one_of_exact : TellsOnce (AnswersSeen seen (tells set))
+  pub one_of_exact : SetIsFunction (AnswersSeen seen (tells set))
       → IsExact set (Keeps (λ x. OneOfRuns seen reading form (tells x))) (TokenOf seen tells set)
   unfolding TokenOf
   one_of_exact once = record {
@@ -73,7 +73,7 @@ module _ {X K T L : Type 0} (seen : K → T) (reading : Reading T L) (form : Err
 
       none : (i : Input T) (k : Kind) (j : Input T)
           → OneOfRuns seen reading form (tells set) i (Err k) j
-          → NoneStands (TokenOf seen tells set) i.left.tokens
+          → NoMatch (TokenOf seen tells set) i.left.tokens
       none i k j (inl (x, passes, has, e)) = ok_is_err e refl
       none i k j (inr (inl (x, rest, is, lacks, e, same))) =
           λ y more (has, f). once (seen x) (y, same_first (sym f ∙ is), has) (x, refl, lacks)

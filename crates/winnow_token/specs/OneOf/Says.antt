@@ -5,7 +5,7 @@ use Rattle.streams.specs.Equal.{same_first, same_others}
 use Rattle.streams.specs.Input.{Input}
 use Rattle.streams.specs.Reading.{Reading}
 use Rattle.streams.specs.Stream.{AnswersSeen}
-use Rattle.stream_sets.specs.Once.{TellsOnce}
+use Rattle.stream_sets.specs.Once.{SetIsFunction}
 use Rattle.stream_errors.specs.Form.{Answer, ErrorForm}
 use Rattle.winnow_core.specs.Decided.{IsDecided}
 use Rattle.winnow_core.specs.Outcome.{Outcome, Setting, gave}
@@ -26,22 +26,22 @@ abbrev pub IsMember : {K T : Type 0} → (K → T) → (K → Bool → Type 0) �
 IsMember seen tells k at tokens rest = (tokens ≡ seen k ∷ rest) × tells k true
 
 -- The first token is not a member.
-abbrev pub IsStranger : {K T : Type 0} → (K → T) → (K → Bool → Type 0) → Setting → List T → Type 0
-IsStranger {K} {T} seen tells at tokens =
+abbrev pub IsNonMember : {K T : Type 0} → (K → T) → (K → Bool → Type 0) → Setting → List T → Type 0
+IsNonMember {K} {T} seen tells at tokens =
     (k : K) × (rest : List T) × (tokens ≡ seen k ∷ rest) × tells k false
 
 -- The first token is a member, and is taken; or it is none; or there is none.
 abbrev pub one_of_says : {K T : Type 0} → (K → T) → (K → Bool → Type 0) → Says T K
 one_of_says seen tells = record {
-  premise = TellsOnce (AnswersSeen seen tells);
+  premise = SetIsFunction (AnswersSeen seen tells);
   stable = ⊤;
   does = OneCase (TakesWhere (IsMember seen tells))
-      (OneCase (FailsWhere (IsStranger seen tells)) LacksToken);
+      (OneCase (FailsWhere (IsNonMember seen tells)) LacksToken);
   alike = SeenSame seen;
 }
 
 module _ {K T : Type 0} (seen : K → T) (tells : K → Bool → Type 0) where
-  one_of_law : TellsOnce (AnswersSeen seen tells)
+  one_of_law : SetIsFunction (AnswersSeen seen tells)
       → Lawful ⊤ (SeenSame seen) (one_of_says seen tells).does
   one_of_law once = cases_law
       (takes_law (λ at tokens k l rest end (e, has) (f, too).
@@ -56,7 +56,7 @@ module _ {K T : Type 0} (seen : K → T) (tells : K → Bool → Type 0) where
     where
       apart : (at : Setting) (tokens : List T) (x y : Outcome T K)
           → TakesWhere (IsMember seen tells) at tokens x
-          → OneCase (FailsWhere (IsStranger seen tells)) LacksToken at tokens y → ⊥
+          → OneCase (FailsWhere (IsNonMember seen tells)) LacksToken at tokens y → ⊥
       apart at tokens x y (k, rest, (e, has), f) (inl ((l, end, g, lacks), h)) =
           once (seen k) (k, refl, has) (l, sym (same_first (sym e ∙ g)), lacks)
       apart at tokens x y (k, rest, (e, has), f) (inr (none, g)) = first_of_none none e
@@ -80,7 +80,7 @@ module _ {X K T L : Type 0} (seen : K → T) (reading : Reading T L) (tells : X 
 
 -- one state and one input decide its runs
 pub one_of_decided : {X K T L : Type 0} (seen : K → T) (reading : Reading T L) (form : ErrorForm)
-    (tells : X → K → Bool → Type 0) (set : X) → TellsOnce (AnswersSeen seen (tells set))
+    (tells : X → K → Bool → Type 0) (set : X) → SetIsFunction (AnswersSeen seen (tells set))
     → IsDecided set (Keeps (λ x. OneOfRuns seen reading form (tells x))) (SeenSame seen)
 one_of_decided seen reading form tells set once =
     decided_of reading (λ f x i answer t j r. one_of_ends seen reading f (tells x) i answer j r.0)

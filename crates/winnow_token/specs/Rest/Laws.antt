@@ -8,7 +8,7 @@ use Rattle.winnow_token.specs.Rest.{RestLenRuns, RestRuns}
 use Rattle.std.proofs.Common.{refl, sym, ap, subst, ◌∙◌}
 use Rattle.std.proofs.lemmas.List.{append-nil}
 use Rattle.grammars.specs.Grammar.{AllTokens, UnitsLeft}
-use Rattle.stream_errors.specs.Form.Known.{ok_is_err, same_ok}
+use Rattle.stream_errors.specs.Form.Inversion.{ok_is_err, same_ok}
 use Rattle.winnow_core.specs.Exact.{Backtracks, IsExact}
 
 pub rest_ends : {T L : Type 0} (reading : Reading T L) (i : Input T) (answer : Answer L)

@@ -11,8 +11,8 @@ use Rattle.winnow_core.specs.Stable.Longer.{takes_more, short_final}
 use Rattle.winnow_core.specs.Stable.Grows.{Stays, final_by}
 use Rattle.streams.specs.Equal.{same_others}
 use Rattle.streams.specs.Kind.{Kind, backtrack}
-use Rattle.grammars.specs.Grammar.{Counted, NoneStands, TakesTokens as TakesSome}
-use Rattle.stream_errors.specs.Form.Known.{ok_is_err, same_ok, same_kind}
+use Rattle.grammars.specs.Grammar.{Counted, NoMatch, TakesTokens as TakesSome}
+use Rattle.stream_errors.specs.Form.Inversion.{ok_is_err, same_ok, same_kind}
 use Rattle.winnow_core.specs.Exact.{Backtracks, IsExact}
 use Rattle.winnow_core.specs.Exact.Failed.{short_backtracks}
 
@@ -69,7 +69,7 @@ module _ {T L : Type 0} (reading : Reading T L) (form : ErrorForm) (counts : Boo
       stands i o j (inr (k, few, short, e, same)) = ok_is_err refl e
 
       none : (i : Input T) (k : Kind) (j : Input T) → TakeRuns reading form counts n i (Err k) j
-          → NoneStands (Counted reading n) i.left.tokens
+          → NoMatch (Counted reading n) i.left.tokens
       none i k j (inl (front, slice, many, takes, e)) = ok_is_err e refl
       none i k j (inr (l, few, short, e, same)) = λ o rest (front, many, shown, f). absurd
           (omega (arith, ap (λ l. length l) f, length-append front rest, many, few))

@@ -15,11 +15,11 @@ use Rattle.winnow_core.specs.Stable.Longer.{one_beginning, same_more, takes_more
 use Rattle.winnow_core.specs.Stable.Grows.{Stays, final_by}
 use Rattle.streams.specs.Kind.{Kind, backtrack}
 use Rattle.stream_sets.specs.Longest.{within_is}
-use Rattle.grammars.specs.Grammar.{NoneStands}
+use Rattle.grammars.specs.Grammar.{NoMatch}
 use Rattle.grammars.specs.Grammar.Searches.{Before, IsBefore}
 use Rattle.grammars.specs.Grammar.Searches.Unique.{as_long, before_unique, match_before}
 use Rattle.grammars.specs.Grammar.Searches.Unique.{stands_behind}
-use Rattle.stream_errors.specs.Form.Known.{ok_is_err, same_ok, same_kind}
+use Rattle.stream_errors.specs.Form.Inversion.{ok_is_err, same_ok, same_kind}
 use Rattle.winnow_core.specs.Exact.{Backtracks, IsExact}
 use Rattle.winnow_core.specs.Exact.Failed.{short_backtracks}
 
@@ -195,7 +195,7 @@ module _ {X T L : Type 0} (reading : Reading T L) (form : ErrorForm)
 
       none : (i : Input T) (k : Kind) (j : Input T) → i.status.cut ≡ false
           → TakeUntilRuns reading form (sought x) (bounds x) i (Err k) j
-          → NoneStands (Before reading (sought x) (bounds x)) i.left.tokens
+          → NoMatch (Before reading (sought x) (bounds x)) i.left.tokens
       none i k j is (inl (most, e, below, a, same)) = not_below most e below
       none i k j is (inr (inl (l, within, nowhere, short, a, same))) =
           λ o rest (front, before, enough, fits, shown).

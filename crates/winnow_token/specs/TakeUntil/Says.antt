@@ -27,26 +27,26 @@ use Rattle.winnow_core.specs.Says.Decided.{decided_of}
 use Rattle.winnow_core.specs.Says.Lacks.{misused_outcome, short_outcome}
 use Rattle.winnow_core.specs.Says.Leaf.{here_did, leaf_said, takes_did}
 use Rattle.winnow_token.specs.TakeUntil.{TakeUntilRuns}
-use Rattle.winnow_token.specs.TakeUntil.Known.{StandsNowhere}
+use Rattle.winnow_token.specs.TakeUntil.Inversion.{OccursNowhere}
 use Rattle.winnow_token.specs.TakeUntil.Laws.{match_more, take_until_ends}
 use Rattle.winnow_token.specs.TakeWhile.Says.{InBounds, bounds_law}
 
 -- The number of tokens up to the first match is within the bounds, and a slice shows them.
-abbrev pub StandsBefore : {T L : Type 0} → Reading T L → (List T → Type 0) → Bounds → L → Case T
-StandsBefore {T} reading sought bounds slice at tokens rest =
+abbrev pub PrecedesMatch : {T L : Type 0} → Reading T L → (List T → Type 0) → Bounds → L → Case T
+PrecedesMatch {T} reading sought bounds slice at tokens rest =
     (front : List T) × IsBefore sought tokens front rest × (bounds.least ≤ length front)
     × IsWithin bounds.greatest (length front) × reading.shows slice front
 
 -- No match occurs; or too few tokens precede the first match, and there is a greatest number.
 abbrev pub LacksMatch : {T : Type 0} → (List T → Type 0) → Bounds → Setting → List T → Type 0
 LacksMatch {T} sought bounds at tokens =
-    StandsNowhere sought tokens
+    OccursNowhere sought tokens
     ⊎ ((front : List T) × (rest : List T) × IsBefore sought tokens front rest
     × (length front < bounds.least) × (most : ℕ) × (bounds.greatest ≡ Some most))
 
 -- Too few tokens precede the first match, and there is no greatest number; or too many do.
-abbrev pub StandsWrongly : {T : Type 0} → (List T → Type 0) → Bounds → Setting → List T → Type 0
-StandsWrongly {T} sought bounds at tokens =
+abbrev pub IsOutOfBounds : {T : Type 0} → (List T → Type 0) → Bounds → Setting → List T → Type 0
+IsOutOfBounds {T} sought bounds at tokens =
     (front : List T) × (rest : List T) × IsBefore sought tokens front rest
     × (((length front < bounds.least) × (bounds.greatest ≡ None))
     ⊎ ((most : ℕ) × (bounds.greatest ≡ Some most) × (most < length front)))
@@ -56,8 +56,8 @@ take_until_says reading sought bounds = record {
   premise = ⊤;
   stable = ⊤;
   does = InBounds bounds (OneCase (LacksWhere (λ tokens. None) (LacksMatch sought bounds))
-      (OneCase (TakesWhere (StandsBefore reading sought bounds))
-      (FailsWhere (StandsWrongly sought bounds))));
+      (OneCase (TakesWhere (PrecedesMatch reading sought bounds))
+      (FailsWhere (IsOutOfBounds sought bounds))));
   alike = ShowSame reading;
 }
 
@@ -103,8 +103,8 @@ within_fewer (Some most) least n le within = omega (arith, le, within)
 module _ {T L : Type 0} (reading : Reading T L) (sought : List T → Type 0) (bounds : Bounds)
     (stays : StaysFirst reading.units sought) where
   one_before_first : (at : Setting) (tokens : List T) (v w : L) (rest end : List T)
-      → StandsBefore reading sought bounds v at tokens rest
-      → StandsBefore reading sought bounds w at tokens end → ShowSame reading v w × (rest ≡ end)
+      → PrecedesMatch reading sought bounds v at tokens rest
+      → PrecedesMatch reading sought bounds w at tokens end → ShowSame reading v w × (rest ≡ end)
   one_before_first at tokens v w rest end (f, before, enough, fits, shown)
       (g, also, much, within, shows) =
       let same = as_long_front g f end rest (as_long also before)
@@ -135,8 +135,8 @@ module _ {T L : Type 0} (reading : Reading T L) (sought : List T → Type 0) (bo
       apart : IsWithin bounds.greatest bounds.least → (at : Setting) (tokens : List T)
           (x y : Outcome T L)
           → LacksWhere (λ tokens. None) (LacksMatch sought bounds) at tokens x
-          → OneCase (TakesWhere (StandsBefore reading sought bounds))
-          (FailsWhere (StandsWrongly sought bounds)) at tokens y → ⊥
+          → OneCase (TakesWhere (PrecedesMatch reading sought bounds))
+          (FailsWhere (IsOutOfBounds sought bounds)) at tokens y → ⊥
       apart within at tokens x y (inl nowhere, e)
           (inl (v, rest, (f, before, enough, fits, shown), d)) =
           let (hit, behind, there) = stands_behind before in nowhere f hit behind there

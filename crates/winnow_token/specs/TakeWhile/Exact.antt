@@ -8,11 +8,11 @@ use Rattle.streams.specs.Kind.{Kind, backtrack, memory}
 use Rattle.streams.specs.Reading.{Reading}
 use Rattle.streams.specs.Stream.{AnswersSeen}
 use Rattle.stream_sets.specs.Longest.{IsLongest, within_is, one_longest}
-use Rattle.stream_sets.specs.Once.{TellsOnce}
+use Rattle.stream_sets.specs.Once.{SetIsFunction}
 use Rattle.stream_sets.specs.Range.{Bounds, IsWithin}
-use Rattle.grammars.specs.Grammar.{IsUnique, Longest, NoneStands, TakesTokens}
+use Rattle.grammars.specs.Grammar.{IsUnique, Longest, NoMatch, TakesTokens}
 use Rattle.stream_errors.specs.Form.{Answer, ErrorForm}
-use Rattle.stream_errors.specs.Form.Known.{ok_is_err, same_ok, same_kind}
+use Rattle.stream_errors.specs.Form.Inversion.{ok_is_err, same_ok, same_kind}
 use Rattle.winnow_core.specs.Exact.{Backtracks, IsExact}
 use Rattle.winnow_core.specs.Runs.{Keeps}
 use Rattle.winnow_token.specs.TakeWhile.{TakeWhileRuns}
@@ -29,7 +29,8 @@ as_many f g {rest} {more} a b e = omega (
 
 pub longest_unique : {S K T L : Type 0} (reading : Reading T L) (seen : K → T)
     (tells : S → K → Bool → Type 0) (set : S) (bounds : Bounds)
-    → TellsOnce (AnswersSeen seen (tells set)) → IsUnique (Longest reading seen tells set bounds)
+    → SetIsFunction (AnswersSeen seen (tells set))
+    → IsUnique (Longest reading seen tells set bounds)
 unfolding Longest
 longest_unique reading seen tells set bounds once = record {
   ends = λ tokens o rest (f, longest, enough, shown). (f, longest.splits);
@@ -46,7 +47,7 @@ module _ {X S K T L : Type 0} (reading : Reading T L) (form : ErrorForm) (seen :
       → P
   not_below most e below = absurd (omega (arith, within_is e possible, below))
 
-  pub take_while_exact : TellsOnce (AnswersSeen seen (tells (set x)))
+  pub take_while_exact : SetIsFunction (AnswersSeen seen (tells (set x)))
       → IsExact x (Keeps (λ y. TakeWhileRuns reading form (AnswersSeen seen (tells (set y)))
       (bounds y)))
       (Longest reading seen tells (set x) (bounds x))
@@ -87,7 +88,7 @@ module _ {X S K T L : Type 0} (reading : Reading T L) (form : ErrorForm) (seen :
 
       none : (i : Input T) (k : Kind) (j : Input T) → i.status.cut ≡ false
           → TakeWhileRuns reading form (AnswersSeen seen (tells (set x))) (bounds x) i (Err k) j
-          → NoneStands (Longest reading seen tells (set x) (bounds x)) i.left.tokens
+          → NoMatch (Longest reading seen tells (set x) (bounds x)) i.left.tokens
       none i k j is (inl (most, e, below, a, same)) = not_below most e below
       none i k j is (inr (inl (within, more, cut, a, same))) = true_is_false (sym cut ∙ is)
       none i k j is

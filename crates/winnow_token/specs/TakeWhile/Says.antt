@@ -9,7 +9,7 @@ use Rattle.streams.specs.Equal.{same_rest, true_is_false}
 use Rattle.streams.specs.Input.{Input}
 use Rattle.streams.specs.Reading.{Reading}
 use Rattle.stream_sets.specs.Longest.{IsLongest, one_longest, within_is}
-use Rattle.stream_sets.specs.Once.{TellsOnce}
+use Rattle.stream_sets.specs.Once.{SetIsFunction}
 use Rattle.stream_sets.specs.Range.{Bounds, IsBelow, IsWithin}
 use Rattle.stream_errors.specs.Form.{Answer, ErrorForm}
 use Rattle.winnow_core.specs.Literal.Laws.{ShowSame}
@@ -17,7 +17,7 @@ use Rattle.winnow_core.specs.Decided.{IsDecided}
 use Rattle.winnow_core.specs.Outcome.{Does, Outcome, Setting, gave, grown, on_cut, took}
 use Rattle.winnow_core.specs.Runs.{Keeps}
 use Rattle.winnow_core.specs.Says.{Did, IsAt, Lawful, Said, Says}
-use Rattle.winnow_core.specs.Says.Cases.{Case, FailsWhere, Given, LacksWhere, MisusedWhere, OneCase}
+use Rattle.winnow_core.specs.Says.Cases.{Case, FailsWhere, Given, LacksWhere, MisusedIf, OneCase}
 use Rattle.winnow_core.specs.Says.Cases.{TakesWhere, cases_law, fails_law, given_law}
 use Rattle.winnow_core.specs.Says.Cases.{lacks_law, misused_law, takes_law}
 use Rattle.winnow_core.specs.Says.Decided.{decided_of}
@@ -34,7 +34,7 @@ IsDescending bounds =
 -- Bounds that are descending are a misuse; within others this is done.
 abbrev pub InBounds : {T O : Type 0} → Bounds → Does T O → Does T O
 InBounds bounds does =
-    OneCase (MisusedWhere (IsDescending bounds))
+    OneCase (MisusedIf (IsDescending bounds))
     (Given (IsWithin bounds.greatest bounds.least) does)
 
 pub bounds_law : {T O : Type 0} {stable : Type 0} {alike : O → O → Type 0} {does : Does T O}
@@ -51,8 +51,8 @@ abbrev pub IsOver : {T : Type 0} → (T → Bool → Type 0) → Option ℕ → 
 IsOver member greatest at front rest = IsEnded member greatest front rest ⊎ (at.more ≡ false)
 
 -- More may come, all tokens are members, and fewer than the greatest number.
-abbrev pub MayGoOn : {T : Type 0} → (T → Bool → Type 0) → Bounds → Setting → List T → Type 0
-MayGoOn member bounds at tokens = IsOpen member bounds.greatest tokens × (at.more ≡ true)
+abbrev pub MayContinue : {T : Type 0} → (T → Bool → Type 0) → Bounds → Setting → List T → Type 0
+MayContinue member bounds at tokens = IsOpen member bounds.greatest tokens × (at.more ≡ true)
 
 -- The longest prefix of members has enough of them, and a slice shows it.
 abbrev pub HasEnough : {T L : Type 0} → Reading T L → (T → Bool → Type 0) → Bounds → L → Case T
@@ -72,12 +72,12 @@ abbrev pub TakeWhileDoes : {T L : Type 0} → Reading T L → (T → Bool → Ty
 TakeWhileDoes reading member bounds =
     OneCase
     (LacksWhere (λ tokens. Some (missing_of bounds.least (reading.units tokens)))
-    (MayGoOn member bounds))
+    (MayContinue member bounds))
     (OneCase (TakesWhere (HasEnough reading member bounds)) (FailsWhere (HasTooFew member bounds)))
 
 abbrev pub take_while_says : {T L : Type 0} → Reading T L → (T → Bool → Type 0) → Bounds → Says T L
 take_while_says reading member bounds = record {
-  premise = TellsOnce member;
+  premise = SetIsFunction member;
   stable = ⊤;
   does = InBounds bounds (TakeWhileDoes reading member bounds);
   alike = ShowSame reading;
@@ -89,7 +89,7 @@ below_is {n = n} e within =
     let P : Option ℕ → Type 0 = λ g. IsBelow g n in subst P e within
 
 module _ {T : Type 0} (member : T → Bool → Type 0) (greatest : Option ℕ)
-    (once : TellsOnce member) where
+    (once : SetIsFunction member) where
   one_beginning : {tokens : List T} (f g : List T) {rest more : List T}
       → IsLongest member greatest tokens f rest → IsLongest member greatest tokens g more → f ≡ g
   one_beginning f g {rest} {more} a b =
@@ -117,9 +117,9 @@ module _ {T : Type 0} (member : T → Bool → Type 0) (greatest : Option ℕ)
           refl x more is lacks
 
 module _ {T L : Type 0} (reading : Reading T L) (member : T → Bool → Type 0) (bounds : Bounds)
-    (once : TellsOnce member) where
+    (once : SetIsFunction member) where
   -- a prefix that can be extended is not over
-  open_over : (at : Setting) (tokens front rest : List T) → MayGoOn member bounds at tokens
+  open_over : (at : Setting) (tokens front rest : List T) → MayContinue member bounds at tokens
       → IsLongest member bounds.greatest tokens front rest
       → IsOver member bounds.greatest at front rest → ⊥
   open_over at tokens front rest (all, more) longest (inl ended) =
@@ -179,7 +179,7 @@ module _ {T L : Type 0} (reading : Reading T L) (member : T → Bool → Type 0)
 
       apart : (at : Setting) (tokens : List T) (x y : Outcome T L)
           → LacksWhere (λ tokens. Some (missing_of bounds.least (reading.units tokens)))
-          (MayGoOn member bounds) at tokens x
+          (MayContinue member bounds) at tokens x
           → OneCase (TakesWhere (HasEnough reading member bounds))
           (FailsWhere (HasTooFew member bounds)) at tokens y → ⊥
       apart at tokens x y (more, e) (inl (v, rest, (f, longest, over, enough, shown), d)) =
@@ -238,7 +238,7 @@ module _ {X T L : Type 0} (reading : Reading T L) (member : X → T → Bool →
 
 -- one state and one input decide their runs
 pub take_while_decided : {X T L : Type 0} (reading : Reading T L) (form : ErrorForm)
-    (member : X → T → Bool → Type 0) (bounds : X → Bounds) (x : X) → TellsOnce (member x)
+    (member : X → T → Bool → Type 0) (bounds : X → Bounds) (x : X) → SetIsFunction (member x)
     → IsDecided x (Keeps (λ y. TakeWhileRuns reading form (member y) (bounds y)))
     (ShowSame reading)
 take_while_decided reading form member bounds x once =

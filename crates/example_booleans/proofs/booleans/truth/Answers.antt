@@ -29,7 +29,7 @@ returns-clause-reads g c =
     (ByteItem postfix_at) (ByteItem infix_at) not_value not_value logic_value tt tt tt tt
     (byte_items operand_at) (byte_items prefix_at) (byte_items postfix_at) (byte_items infix_at)
     one_not one_not one_logic level (bytes_input c.args.input.now.now) _ _ states
-    (c.expression_reads_the_one_tree.ensures.exact state
+    (c.expression_is_unambiguous.ensures.exact state
     (items_premises bytes_reading backtrack (ByteItem operand_at) (ByteItem prefix_at)
     (ByteItem postfix_at) (ByteItem infix_at) not_value not_value logic_value tt tt tt tt
     (byte_items operand_at) (byte_items prefix_at) (byte_items postfix_at) (byte_items infix_at)
@@ -50,7 +50,7 @@ returns-clause-fails g c =
     (ByteItem postfix_at) (ByteItem infix_at) not_value not_value logic_value
     (byte_items prefix_at) (byte_items postfix_at) (byte_items infix_at) some_not some_not
     some_logic level (bytes_input c.args.input.now.now) _ states _
-    (c.expression_reads_the_one_tree.ensures.exact state
+    (c.expression_is_unambiguous.ensures.exact state
     (items_premises bytes_reading backtrack (ByteItem operand_at) (ByteItem prefix_at)
     (ByteItem postfix_at) (ByteItem infix_at) not_value not_value logic_value tt tt tt tt
     (byte_items operand_at) (byte_items prefix_at) (byte_items postfix_at) (byte_items infix_at)

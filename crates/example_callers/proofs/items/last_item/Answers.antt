@@ -2,7 +2,7 @@ use Rattle.std.proofs.Common.{rules, ◌∙◌, [], ◌∷◌, ◌++◌, ap, ref
 use Rattle.winnow.specs.Input.{is_end_of_refl, is_end_of_trans}
 use Rattle.winnow.specs.Form.{answer_by, assert_kind}
 use Rattle.winnow.specs.Iterator.{iterator_state}
-use Rattle.winnow.specs.Iterator.Known.{iterator_item, iterator_more, iterator_stopped}
+use Rattle.winnow.specs.Iterator.Inversion.{iterator_item, iterator_more, iterator_stopped}
 use Rattle.example_callers.proofs.ItemLemmas.{ends_told, fails_told}
 use Rattle.example_callers.proofs.items.last_item.Goals as goal
 

@@ -2,7 +2,7 @@ use Rattle.std.proofs.Common.{◌≡◌, List, [], ◌∷◌, ◌++◌, MatchOpt
 use Rattle.winnow.specs.Input.{IsEndOf}
 use Rattle.winnow.specs.Iterator.{iterator_input, iterator_input_name, iterator_parser}
 use Rattle.winnow.specs.Iterator.{iterator_standing, running}
-use Rattle.winnow.specs.Repeat.Known.{Items}
+use Rattle.winnow.specs.Repeat.Inversion.{Items}
 use Rattle.example_callers.proofs.items.last_item.Given as goal
 
 abbrev pub invariant-loop-item : goal.invariant-loop-item

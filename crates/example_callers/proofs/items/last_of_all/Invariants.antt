@@ -1,7 +1,7 @@
 use Rattle.std.proofs.Common.{◌≡◌, List, [], ◌∷◌, ◌++◌, MatchOption}
 use Rattle.winnow.specs.ParseIter.{IsReached, parse_iter_parser, parse_iter_standing}
 use Rattle.winnow.specs.ParseIter.{parse_iter_state}
-use Rattle.winnow.specs.ParseIter.Known.{HasRead}
+use Rattle.winnow.specs.ParseIter.Inversion.{HasRead}
 use Rattle.example_callers.proofs.items.last_of_all.Given as goal
 
 abbrev pub invariant-loop-item : goal.invariant-loop-item

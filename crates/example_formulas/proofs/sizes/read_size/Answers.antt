@@ -18,19 +18,19 @@ returns-clause-reads g c =
     let zero : parser.level ≡ pos 0 = c.infix-parser.ensures.level ∙ c.postfix.ensures.level
     ∙ c.expression.ensures.level in
     exact_at
-    (c.expression_reads_the_one_tree.ensures.exact (states.0, states.1, parser.level)
+    (c.expression_is_unambiguous.ensures.exact (states.0, states.1, parser.level)
     (record {
       operands = stateless_wider (λ o p like. like)
-          (c.a_decided_part_is_stateless.ensures _ tt);
+          (c.deterministic_parts_are_stateless.ensures _ tt);
       prefixes = keeps_stateless _ _ tt (fail_plain _);
       postfixes = stateless_wider (λ o p like. same_units o p (elim like [
         | inl (a, b) ↦ search rules
         | inr (a, b) ↦ search rules
-      ])) (c.a_decided_part_is_stateless-2.ensures _ (tt, tt));
+      ])) (c.deterministic_parts_are_stateless-2.ensures _ (tt, tt));
       infixes = stateless_wider (λ o p like. same_signs o p (elim like [
         | inl (a, b) ↦ search rules
         | inr (a, b) ↦ search rules
-      ])) (c.a_decided_part_is_stateless-3.ensures _ (tt, tt));
+      ])) (c.deterministic_parts_are_stateless-3.ensures _ (tt, tt));
       neither_moves = λ i j o p t r e. c.a_choice_consumes.ensures _ _
           (c.a_value_consumes.ensures _ _ (c.a_byte_consumes.ensures _))
           (c.a_value_consumes.ensures _ _ (c.a_byte_consumes.ensures _)) i j o t r;

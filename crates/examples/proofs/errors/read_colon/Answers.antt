@@ -1,5 +1,5 @@
 use Rattle.std.proofs.Common.{refl, rules}
-use Rattle.winnow.specs.MakesError.Known.{makes_error_err, makes_error_ok}
+use Rattle.winnow.specs.MakesError.Inversion.{makes_error_err, makes_error_ok}
 use Rattle.examples.proofs.ErrorsLemmas.LevelRuns.{colon_missing, colon_read, context_backtracks}
 use Rattle.examples.proofs.errors.read_colon.Goals as goal
 

@@ -1,7 +1,7 @@
 use Rattle.std.proofs.Common.{◌≡◌, None, Some, ap, inl, inr, of_calls, refl, rules}
-use Rattle.winnow.specs.MakesError.Known.{makes_error_err, makes_error_ok}
-use Rattle.winnow.specs.Settles.Known.{settles_err, settles_ok}
-use Rattle.winnow.specs.TryMap.Known.{try_map_failed, try_map_made}
+use Rattle.winnow.specs.MakesError.Inversion.{makes_error_err, makes_error_ok}
+use Rattle.winnow.specs.Settles.Inversion.{settles_err, settles_ok}
+use Rattle.winnow.specs.TryMap.Inversion.{try_map_failed, try_map_made}
 use Rattle.examples.proofs.ErrorsLemmas.LevelRuns.{context_backtracks, given_backtracks}
 use Rattle.examples.proofs.ErrorsLemmas.LevelRuns.{letter_missing}
 use Rattle.examples.proofs.ErrorsLemmas.LevelRuns.{letter_read, letter_refused}

@@ -1,6 +1,6 @@
 use Rattle.std.proofs.Common.{◌∙◌, ◌∷◌, ap, inl, inr, subst, sym}
 use Rattle.std.proofs.lemmas.Result.{err_from_is_err_and}
-use Rattle.examples.specs.Errors.Lines.{NoColonStands, StartsLevel}
+use Rattle.examples.specs.Errors.Lines.{StartsWithNoColon, StartsLevel}
 use Rattle.examples.proofs.errors.read_level.Goals as goal
 
 pub returns-in_err-level-clause-none : goal.returns-in_err-level-clause-none
@@ -18,7 +18,7 @@ returns-in_err-_colon-clause-none g c =
       c.in_ok-level.level,
       subst (StartsLevel c.args.input.now.now c.in_ok-level.level) (sym stays)
           c.in_ok-level.ensures.level,
-      subst NoColonStands (sym stays) none,
+      subst StartsWithNoColon (sym stays) none,
     ))
 
 pub returns-clause-level : goal.returns-clause-level

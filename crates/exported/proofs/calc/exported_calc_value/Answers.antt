@@ -1,6 +1,6 @@
 use Rattle.std.proofs.Common.{List, subst, ℕ}
 use Rattle.format_calculator.specs.Calculator.{IsFormulaFault, IsValue}
-use Rattle.format_calculator.specs.declared.fault.Fault.TheVariants.{Refused}
+use Rattle.format_calculator.specs.declared.fault.ReadError.TheVariants.{Invalid}
 use Rattle.exported.proofs.calc.exported_calc_value.Goals as goal
 
 pub returns-in-Ok-clause-value : goal.returns-in-Ok-clause-value
@@ -10,5 +10,5 @@ returns-in-Ok-clause-value c e =
 
 pub returns-in-Ok-clause-refused : goal.returns-in-Ok-clause-refused
 returns-in-Ok-clause-refused c e =
-    let P : List ℕ → Type 0 = λ text. IsFormulaFault text (Refused c.read.new.out.error_offset) in
+    let P : List ℕ → Type 0 = λ text. IsFormulaFault text (Invalid c.read.new.out.error_offset) in
     (c.in-Ok.ensures.cases.1, subst P c.in-Ok.ensures.cases.0 (c.read.ensures.refused e))

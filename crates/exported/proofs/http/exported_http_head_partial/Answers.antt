@@ -3,5 +3,5 @@ use Rattle.exported.proofs.http.exported_http_head_partial.Goals as goal
 
 pub returns-in-Err-Refused-clause-refused : goal.returns-in-Err-Refused-clause-refused
 returns-in-Err-Refused-clause-refused c _ =
-    refused_never c.args.bytes.now c.in-Err-Refused.place
-    (rw c.in-Err-Refused.field-0-is at c.in-Err-Refused.ensures)
+    refused_never c.args.bytes.now c.in-Err-Invalid.place
+    (rw c.in-Err-Invalid.field-0-is at c.in-Err-Invalid.ensures)

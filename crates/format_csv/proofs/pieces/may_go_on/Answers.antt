@@ -5,7 +5,7 @@ pub returns-in-Ok : goal.returns-in-Ok
 returns-in-Ok g c = read_goes_on c.dialect_of.result c.args.end c.dialect_of.ensures
     c.args.bytes.now c.in-Ok.field-0 _ _ (rw c.in-Ok.is at c.read_record_into.ensures)
 
-pub returns-in-Err-Refused : goal.returns-in-Err-Refused
-returns-in-Err-Refused g c = refused_told c.dialect_of.result c.args.end c.dialect_of.ensures
-    c.args.bytes.now c.in-Err-Refused.fault
-    (rw c.in-Err-Refused.field-0-is at c.in-Err-Refused.ensures.0)
+pub returns-in-Err-Invalid : goal.returns-in-Err-Invalid
+returns-in-Err-Invalid g c = refused_told c.dialect_of.result c.args.end c.dialect_of.ensures
+    c.args.bytes.now c.in-Err-Invalid.fault
+    (rw c.in-Err-Invalid.field-0-is at c.in-Err-Invalid.ensures.0)

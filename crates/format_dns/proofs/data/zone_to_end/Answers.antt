@@ -3,7 +3,7 @@ use Rattle.format_dns.specs.Data.{HasZone, NoZone}
 use Rattle.format_dns.specs.DataLaws.{no_zone}
 use Rattle.format_dns.specs.FieldLaws.{zone_length}
 use Rattle.format_dns.specs.PartLaws.{at_length, part_err}
-use Rattle.format_dns.specs.declared.fault.Fault.TheVariants.{Trailing}
+use Rattle.format_dns.specs.declared.fault.PartError.TheVariants.{Trailing}
 use Rattle.format_dns.proofs.data.zone_to_end.Goals as goal
 
 pub returns-in_err-mailbox : goal.returns-in_err-mailbox

@@ -5,7 +5,7 @@ use Rattle.format_dns.specs.PartLaws.{part_err}
 use Rattle.format_dns.specs.RecordLaws.{no_record, whole_is}
 use Rattle.format_dns.specs.Records.{HasNoRecord, IsRecord}
 use Rattle.format_dns.specs.declared.data.Form.{Form}
-use Rattle.format_dns.specs.declared.fault.Fault.TheVariants.{Ends}
+use Rattle.format_dns.specs.declared.fault.PartError.TheVariants.{Ends}
 use Rattle.format_dns.proofs.record.read_record.Goals as goal
 
 pub returns-in_err-fields : goal.returns-in_err-fields

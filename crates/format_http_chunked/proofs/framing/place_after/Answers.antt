@@ -3,7 +3,7 @@ use Rattle.std.specs.Prelude.{IfErr, ℕ}
 use Rattle.format_http_chunked.proofs.Calls.{fault_at, framing_at}
 use Rattle.format_http_chunked.proofs.Digits.{size_begins, size_never}
 use Rattle.format_http_chunked.specs.Steps.{IsFault}
-use Rattle.format_http_chunked.specs.declared.decoder.Fault.TheVariants as fault
+use Rattle.format_http_chunked.specs.declared.decoder.ChunkError.TheVariants as fault
 use Rattle.format_http_chunked.specs.declared.places.Framing.{Framing}
 use Rattle.format_http_chunked.specs.declared.places.Framing.TheVariants as framing
 use Rattle.format_http_chunked.specs.declared.places.Place.TheVariants as place

@@ -9,17 +9,17 @@ use Rattle.format_json_pieces.specs.Place.{wanted}
 use Rattle.format_json_pieces.specs.declared.begun.Step.TheVariants as steps
 use Rattle.format_json_pieces.proofs.place.first_place.Goals as goal
 
-pub returns-in-Refused : goal.returns-in-Refused
-returns-in-Refused g c =
+pub returns-in-Invalid : goal.returns-in-Invalid
+returns-in-Invalid g c =
     let w = c.bytes.invariant in
     let top = top_open w.held c.bytes.brackets.items c.copied-held.result w.same
     (c.copied-held.ensures ∙ c.last.ensures.value
     ∙ ap (λ l. slice_get l (length l - 1)) c.deref.ensures.value) in
     at_refused w c.in-Some.ensures.cases.0 c.wanted-expected.result _ refl
     (step_open w.held c.bytes.brackets.items c.copied-held.result c.bytes.mode
-    c.in-Some.first.now steps.Refused w.same
+    c.in-Some.first.now steps.Invalid w.same
     (c.copied-held.ensures ∙ c.last.ensures.value
-    ∙ ap (λ l. slice_get l (length l - 1)) c.deref.ensures.value) c.in-Refused.ensures)
+    ∙ ap (λ l. slice_get l (length l - 1)) c.deref.ensures.value) c.in-Invalid.ensures)
     (c.wanted-expected.ensures ∙ ap (λ x. wanted c.bytes.mode x) top)
 
 pub returns-then-len-level : goal.returns-then-len-level

@@ -4,7 +4,7 @@ use Rattle.format_toml_tree.specs.Holds.{AddsItem}
 use Rattle.format_toml_tree.specs.Lines.{LeftToAdd, all_added, left_added, left_blank, left_first}
 use Rattle.format_toml_tree.specs.Lines.{line_refused, none_of, some_place, stands}
 use Rattle.format_toml_tree.specs.Runs.{Gives, empty}
-use Rattle.format_toml_tree.specs.declared.build.Fault.{Fault}
+use Rattle.format_toml_tree.specs.declared.build.TreeError.{TreeError}
 use Rattle.format_toml_tree.proofs.build.build.Goals as goal
 use Rattle.format_toml_tree.proofs.build.build.Goals.{in-Some+in-Ok, in_default}
 
@@ -14,7 +14,7 @@ loop-line-init g c = left_first c.args.lines.now _ c.in_ok-tree.ensures
 pub add-requires : goal.add-requires
 add-requires g c = stands _ _ _ _ c.loop-line.invariant
 
-err_same : {X : Type 0} {a b : Fault} (r : Result X Fault) → r ≡ Err a → r ≡ Err b → a ≡ b
+err_same : {X : Type 0} {a b : TreeError} (r : Result X TreeError) → r ≡ Err a → r ≡ Err b → a ≡ b
 err_same r e f = cc
 
 pub returns-in-Err-clause-refused : goal.returns-in-Err-clause-refused

@@ -9,7 +9,7 @@ use Rattle.streams.specs.Reading.{Reading, units-nil}
 use Rattle.stream_sets.specs.Range.{Bounds}
 use Rattle.grammars.specs.Grammar.{IsUnique, TakesTokens}
 use Rattle.grammars.specs.Grammar.Searches.{Before, IsBefore, IsLineOf, Line}
-use Rattle.stream_searches.specs.FindSlice.{IsFirstMatch, Stands}
+use Rattle.stream_searches.specs.FindSlice.{IsFirstMatch, Occurs}
 
 -- a longer beginning takes more units
 pub longer : {T L : Type 0} (reading : Reading T L) (f g rest more : List T)
@@ -39,7 +39,7 @@ same_behind (x ∷ f) (y ∷ g) rest more n e =
 
 pub stands_behind : {T : Type 0} {sought : List T → Type 0} {tokens front rest : List T}
     → IsBefore sought tokens front rest
-    → (hit : List T) × (more : List T) × Stands sought tokens front hit more
+    → (hit : List T) × (more : List T) × Occurs sought tokens front hit more
 stands_behind {front = front} before =
     let (hit, more, is, e) = before.stands in
     (hit, more, record { splits = before.splits ∙ ap (λ l. front ++ l) e; is = is })
@@ -71,7 +71,7 @@ match_before {T} reading {sought} {tokens} m rest e = record {
     left : rest ≡ m.found ++ m.rest
     left = same_behind m.front m.front rest (m.found ++ m.rest) refl (sym e ∙ m.stands.splits)
 
-    by : (other hit behind : List T) → Stands sought tokens other hit behind
+    by : (other hit behind : List T) → Occurs sought tokens other hit behind
         → (length m.front ≡ length other)
         ⊎ ((length m.front < length other) ⊎ (length other < length m.front))
         → length m.front ≤ length other

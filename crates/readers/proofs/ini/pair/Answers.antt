@@ -2,9 +2,9 @@ use Rattle.std.proofs.Common.{ap, ◌≡◌, ◌≢◌, ◌+◌, ◌∙◌, ℕ,
 use Rattle.winnow.specs.ByteSet.{has_byte}
 use Rattle.winnow.specs.Bytes.{bytes_reading}
 use Rattle.winnow.specs.Form.{plain}
-use Rattle.winnow.specs.Literal.Known.{token_missing, token_taken, token_whole}
-use Rattle.winnow.specs.Sequence.Known.{sequence4_err, sequence4_ok}
-use Rattle.winnow.specs.TakeWhile.Known.{never_too_few, too_few_by, took_by}
+use Rattle.winnow.specs.Literal.Inversion.{token_missing, token_taken, token_whole}
+use Rattle.winnow.specs.Sequence.Inversion.{sequence4_err, sequence4_ok}
+use Rattle.winnow.specs.TakeWhile.Inversion.{never_too_few, too_few_by, took_by}
 use Rattle.readers.specs.Pair.{IsKeyByte}
 use Rattle.readers.proofs.ByteTables.{behind_take, behind_token, few_bytes, told_no, told_same}
 use Rattle.readers.proofs.ByteTables.{told_yes, took_bytes}
@@ -44,8 +44,8 @@ returns-in-Err-Refused-clause-refused c =
     let r3_range = c.take_while-2.ensures.occurrences ∙ c.from-2.ensures in
     let r4_range = c.take_while-3.ensures.occurrences ∙ c.from-3.ensures in
     let key_set = c.take_while.ensures.set in
-    let refused = c.in-Err-Refused.field-0-is in
-    elim c.in-Err-Refused.ensures.ran [
+    let refused = c.in-Err-Invalid.field-0-is in
+    elim c.in-Err-Invalid.ensures.ran [
       | inl (k, j, seq, fault) ↦
           let at = ap (λ m. m + length j.left.tokens) c.offset.ensures ∙ (rw refused at fault).0 in
           elim (sequence4_err _ seq) [

@@ -9,7 +9,7 @@ ghost use Rattle.winnow_core.specs.Exact.Settled.{GivesNone, verify_map_exact, v
 ghost use Rattle.winnow_core.specs.Stable.Grows.{grows, stays};
 ghost use Rattle.winnow_core.specs.VerifyMap.{VerifyMapRuns, verify_map_parser, verify_map_closure};
 ghost use Rattle.winnow_core.specs.VerifyMap.Laws.{verify_map_ends, verify_map_grows};
-ghost use Rattle.winnow_core.specs.VerifyMap.Says.{RefusesSame, verify_map_said, verify_map_says};
+ghost use Rattle.winnow_core.specs.VerifyMap.Says.{RejectsSame, verify_map_said, verify_map_says};
 ghost use Rattle.winnow_core.specs.Says.Decided.{decided_of};
 ghost use Rattle.winnow_core.specs.MakesOutput.Says.{OutputsMadeAlike};
 
@@ -69,7 +69,7 @@ impl<F: Parser<I, O, E>, G: FnMut(O) -> Option<O2>, I: Stream, O, O2, E: ParserE
       consumes = (F.claim s.0).consumes;
       grammar = Made (GivesSome G.step) s.1 (F.claim s.0).grammar;
       decides = (F.says s.0).premise × Stays G.step s.1
-          × RefusesSame G.step s.1 (F.says s.0).alike;
+          × RejectsSame G.step s.1 (F.says s.0).alike;
       alike = OutputsMadeAlike (F.says s.0).alike (GivesSome G.step s.1);
     } };
 

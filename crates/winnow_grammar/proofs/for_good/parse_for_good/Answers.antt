@@ -3,5 +3,5 @@ use Rattle.winnow_grammar.proofs.for_good.parse_for_good.Goals as goal
 
 pub returns-clause-for_good : goal.returns-clause-for_good
 returns-clause-for_good g c = for_good _
-    (c.a_decided_answer_stays_on_longer_inputs.ensures c.requires.modal _ c.requires.premise)
+    (c.deterministic_results_are_final.ensures c.requires.modal _ c.requires.premise)
     c.requires.is_cut c.parse_next.ensures.ran

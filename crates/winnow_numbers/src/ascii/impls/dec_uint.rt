@@ -1,6 +1,6 @@
 //! Decimal unsigned numbers.
 ghost use Rattle.std.specs.Prelude.{⊤};
-ghost use Rattle.stream_sets.specs.Once.{SeesApart};
+ghost use Rattle.stream_sets.specs.Once.{TokenEqInjective};
 ghost use Rattle.winnow_core.specs.Exact.Allowed.{backs};
 ghost use Rattle.winnow_core.specs.Runs.{Keeps};
 ghost use Rattle.winnow_core.specs.Stable.Grows.{leaf_stays};
@@ -42,7 +42,7 @@ where
     ghost says = { λ _. dec_uint_says O.number O.bound I.seen_as I.Token.code };
 
     ghost claim = { λ s. record {
-      premise = SeesApart I.seen_as;
+      premise = TokenEqInjective I.seen_as;
       backtracks = ⊤;
       spares_memory = ⊤;
       consumes = ⊤;

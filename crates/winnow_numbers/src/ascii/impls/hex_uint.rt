@@ -1,7 +1,7 @@
 //! Hexadecimal numbers.
 ghost use Rattle.std.specs.Prelude.{◌≡◌, ◌+◌, ◌*◌, ◌^◌, ◌<◌, ℕ, ⊤};
 ghost use Rattle.std.proofs.Common.{arith};
-ghost use Rattle.stream_sets.specs.Once.{SeesApart};
+ghost use Rattle.stream_sets.specs.Once.{TokenEqInjective};
 ghost use Rattle.winnow_core.specs.Exact.Allowed.{backs};
 ghost use Rattle.winnow_core.specs.Runs.{Keeps};
 ghost use Rattle.winnow_core.specs.Stable.Grows.{leaf_stays};
@@ -203,7 +203,7 @@ where
     ghost says = { λ _. hex_uint_says O.number O.nibbles I.seen_as I.Token.code };
 
     ghost claim = { λ s. record {
-      premise = SeesApart I.seen_as;
+      premise = TokenEqInjective I.seen_as;
       backtracks = ⊤;
       spares_memory = ⊤;
       consumes = ⊤;

@@ -12,7 +12,7 @@ use Rattle.winnow_core.specs.Then.{ComesOf, Holds, Meets, NextHolds, NextMeets, 
 use Rattle.winnow_core.specs.Then.Steps.{asks_later, asks_meet, backs_hold, cuts_hold, cuts_meet}
 use Rattle.winnow_core.specs.Then.Steps.{holds_where, meets_where, where_took}
 use Rattle.winnow_repeat.specs.Chain.Bounded.{HeldAlike, bounded_law, held_alike}
-use Rattle.winnow_repeat.specs.Chain.Items.{Gathers, IsRefused, last_taken_holds, last_taken_meets}
+use Rattle.winnow_repeat.specs.Chain.Items.{Gathers, CannotGrow, last_taken_holds, last_taken_meets}
 use Rattle.winnow_repeat.specs.Chain.Items.{then_meet, then_stay, then_whole}
 use Rattle.winnow_repeat.specs.Chain.Says.{AlikeLists, ItemOf, Meet, Stay, StepLaw, Stops, Whole}
 use Rattle.winnow_repeat.specs.Chain.Says.{chained_meet, chained_stay, chained_whole, item_law}
@@ -171,14 +171,14 @@ module _ {T O D C : Type 0} {first other : Type 0} {alike : O → O → Type 0}
 
     abbrev Last_some : C → List O → Does T (C × D)
     Last_some empty os = Then item (where_took (λ o at tokens rest y.
-        IsRefused into empty os o × (y ≡ wants)))
+        CannotGrow into empty os o × (y ≡ wants)))
 
     some_stop : (empty : C) → Stops (SomeItem item) (Last_some empty)
     some_stop empty os at tokens y o rest (x, e, c) d =
         by x (p.one at tokens x (took o rest) e d) c
       where
         by : (x : Outcome T O) → Alike alike x (took o rest)
-            → ComesOf (where_took (λ o at tokens rest y. IsRefused into empty os o × (y ≡ wants)))
+            → ComesOf (where_took (λ o at tokens rest y. CannotGrow into empty os o × (y ≡ wants)))
             at tokens x y → y ≡ wants
         by (took v end) like (r, f) = f
         by (backs place) like c = absurd like
@@ -187,7 +187,7 @@ module _ {T O D C : Type 0} {first other : Type 0} {alike : O → O → Type 0}
         by wants like c = c
 
     some_hold : (empty : C) (os : List O) → NextHolds {T = T} {U = C × D} (first × other)
-        (where_took (λ o at tokens rest y. IsRefused into empty os o × (y ≡ wants)))
+        (where_took (λ o at tokens rest y. CannotGrow into empty os o × (y ≡ wants)))
     some_hold empty os = record {
       took = λ o. record {
         whole = λ at tokens rest need end is (r, e). absurd (cc);

@@ -32,7 +32,7 @@ pub(crate) struct Always<H> {
 }
 
 impl<H: FnMut(R, O) -> R, I: Stream, O, R, E: ParserError<I>> Folding<I, O, R, E> for Always<H> {
-    type Refusal = ();
+    type Reason = ();
 
     ghost can_fold = { λ s. H.IsAlwaysCallable s.closure };
 

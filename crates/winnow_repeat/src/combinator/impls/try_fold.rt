@@ -35,7 +35,7 @@ impl<
     E: ParserError<I> + FromExternalError<I, X>,
     X,
 > Folding<I, O, R, E> for Tried<H, X> {
-    type Refusal = X;
+    type Reason = X;
 
     ghost can_fold = { λ s. H.IsAlwaysCallable s.closure };
 

@@ -27,7 +27,7 @@ pub(crate) struct Verified<H> {
 
 impl<H: FnMut(R, O) -> Option<R>, I: Stream, O, R, E: ParserError<I>> Folding<I, O, R, E>
     for Verified<H> {
-    type Refusal = ();
+    type Reason = ();
 
     ghost can_fold = { λ s. H.IsAlwaysCallable s.closure };
 

@@ -21,7 +21,8 @@ use Rattle.winnow_repeat.specs.Chain.Says.{chained_meet, chained_stay, chained_w
 use Rattle.winnow_repeat.specs.Chain.Says.{item_law, nor_less, still_less}
 use Rattle.winnow_repeat.specs.Repeat.{capacity_of}
 use Rattle.winnow_separated.specs.Separated.{links_within}
-use Rattle.winnow_separated.specs.Separated.Does.{Behind, LinksAfter, LinkDoes, NothingBetween}
+use Rattle.winnow_separated.specs.Separated.Does.{AfterSeparator, LinksAfter, LinkDoes}
+use Rattle.winnow_separated.specs.Separated.Does.{NothingBetween}
 use Rattle.winnow_separated.specs.Separated.Does.{LastLink, PairLinkDoes, LinksDo, first_element}
 use Rattle.winnow_separated.specs.Separated.Does.{ElementsDo}
 use Rattle.winnow_core.specs.InOrder.Decided.{AlikePairs}
@@ -66,13 +67,15 @@ NoLink {T} {U} {D} link separator =
 
 pub no_link : {T U D : Type 0} {other : Type 0} {between : D → D → Type 0} {separator : Does T D}
     (after : D → Does T U) → Lawful other between separator
-    → NoLink (Then separator (where_took (λ d at tokens mid y. Behind (after d) mid at tokens y)))
+    → NoLink (Then separator (where_took (λ d at tokens mid y. AfterSeparator
+    (after d) mid at tokens y)))
     separator
 no_link {T} {D = D} {between = between} after q at tokens d mid x r none (w, s, c) =
     by w (q.one at tokens w (took d mid) s r) c
   where
     by : (w : Outcome T D) → Alike between w (took d mid)
-        → ComesOf (where_took (λ d at tokens mid y. Behind (after d) mid at tokens y)) at tokens w x
+        → ComesOf (where_took (λ d at tokens mid y. AfterSeparator (after d) mid at tokens y)) at
+        tokens w x
         → x ≡ wants
     by (took e end) (like, same) (less, z) =
         absurd (none (subst (λ l. length l < length tokens) same less))

@@ -12,7 +12,8 @@ use Rattle.winnow_core.specs.States.{pair_is}
 use Rattle.winnow_core.specs.Then.{Then, did_in}
 use Rattle.winnow_core.specs.Then.Steps.{fails_on, takes, where_took}
 use Rattle.winnow_separated.specs.Link.{LinkRuns, PairLinkRuns, SeparatesNothing}
-use Rattle.winnow_separated.specs.Separated.Does.{Behind, LinkDoes, NothingBetween, PairLinkDoes}
+use Rattle.winnow_separated.specs.Separated.Does.{AfterSeparator, LinkDoes, NothingBetween}
+use Rattle.winnow_separated.specs.Separated.Does.{PairLinkDoes}
 
 module _ {S W T O D : Type 0} {element : Does T O} {separator : Does T D} {s : S × W}
     {meaning : Meaning S T O} {between : Meaning W T D} (part : EachDoes element s.0 meaning)
@@ -21,12 +22,13 @@ module _ {S W T O D : Type 0} {element : Does T O} {separator : Does T D} {s : S
   module _ {U : Type 0} (after : D → Does T U) (at : Setting) where
     separator_failed : (i : Input T) (k : Kind) (t : S × W) (j : Input T) → IsAt at i
         → between at.form s.1 i (Err k) t.1 j → t.0 ≡ s.0
-        → Did (Then separator (where_took (λ d at tokens mid y. Behind (after d) mid at tokens y)))
+        → Did (Then separator (where_took (λ d at tokens mid y. AfterSeparator
+        (after d) mid at tokens y)))
         at s i (Err k) t j
     separator_failed i k t j is r same =
         let did = mid.did at i (Err k) t.1 j is r in
         did_in s t (pair_is same did.kept) did
-        (fails_on (λ d at tokens mid y. Behind (after d) mid at tokens y) at i.left.tokens
+        (fails_on (λ d at tokens mid y. AfterSeparator (after d) mid at tokens y) at i.left.tokens
         j.left.tokens k refl)
 
     behind_did : (i : Input T) (a : Answer O) (answer : Answer U) (t : S × W) (m j : Input T)
@@ -34,7 +36,8 @@ module _ {S W T O D : Type 0} {element : Does T O} {separator : Does T D} {s : S
         → length m.left.tokens < length i.left.tokens → meaning at.form s.0 m a t.0 j
         → ((tokens : _) → element at m.left.tokens (outcome_of a tokens)
         → after d at m.left.tokens (outcome_of answer tokens))
-        → Did (Then separator (where_took (λ d at tokens mid y. Behind (after d) mid at tokens y)))
+        → Did (Then separator (where_took (λ d at tokens mid y. AfterSeparator
+        (after d) mid at tokens y)))
         at s i answer t j
     behind_did i a answer t m j d is r less x came =
         let did = mid.did at i (Ok d) t.1 m is r in

@@ -1,7 +1,8 @@
 //! One token outside a set.
 ghost use Rattle.std.specs.Prelude.{not, ⊤};
 ghost use Rattle.streams.specs.Stream.{AnswersSeen};
-ghost use Rattle.stream_sets.specs.Once.{SeesApart, others_once, seen_once, Others, TellsOnce};
+ghost use Rattle.stream_sets.specs.Once.{TokenEqInjective, others_once, seen_once, Others};
+ghost use Rattle.stream_sets.specs.Once.{SetIsFunction};
 ghost use Rattle.grammars.specs.Grammar.{Token, TokenOf};
 ghost use Rattle.winnow_core.specs.Exact.Allowed.{backs};
 ghost use Rattle.winnow_core.specs.Runs.{Keeps};
@@ -52,12 +53,12 @@ where
     ghost says = { λ s. one_of_says I.seen_as (Others S.tells s) };
 
     ghost claim = { λ s. record {
-      premise = S.decides s × SeesApart I.seen_as;
+      premise = S.decides s × TokenEqInjective I.seen_as;
       backtracks = ⊤;
       spares_memory = ⊤;
       consumes = ⊤;
       grammar = TokenOf I.seen_as (Others S.tells) s;
-      decides = TellsOnce (AnswersSeen I.seen_as (Others S.tells s));
+      decides = SetIsFunction (AnswersSeen I.seen_as (Others S.tells s));
       alike = SeenSame I.seen_as;
     } };
 

@@ -1,7 +1,7 @@
 //! Takes of the members of a set.
 ghost use Rattle.std.specs.Prelude.{◌<◌, ⊤};
 ghost use Rattle.streams.specs.Stream.{AnswersSeen};
-ghost use Rattle.stream_sets.specs.Once.{SeesApart, seen_once, TellsOnce};
+ghost use Rattle.stream_sets.specs.Once.{TokenEqInjective, seen_once, SetIsFunction};
 ghost use Rattle.stream_sets.specs.Range.{bounds_of, IsWithin};
 ghost use Rattle.stream_sets.specs.declared.range.Range.{Range};
 ghost use Rattle.grammars.specs.Grammar.{Longest};
@@ -56,13 +56,13 @@ impl<S: ContainsToken<I::Token>, I: StreamIsPartial, E: ParserError<I>> Parser<I
         (bounds_of s.0) };
 
     ghost claim = { λ s. record {
-      premise = S.decides s.1 × SeesApart I.seen_as
+      premise = S.decides s.1 × TokenEqInjective I.seen_as
           × IsWithin (bounds_of s.0).greatest (bounds_of s.0).least;
       backtracks = ⊤;
       spares_memory = ⊤;
       consumes = 0 < (bounds_of s.0).least;
       grammar = Longest I.reading I.seen_as S.tells s.1 (bounds_of s.0);
-      decides = TellsOnce (AnswersSeen I.seen_as (S.tells s.1));
+      decides = SetIsFunction (AnswersSeen I.seen_as (S.tells s.1));
       alike = ShowSame I.reading;
     } };
 

@@ -2,7 +2,7 @@ use Rattle.std.specs.Prelude.{◌≡◌}
 use Rattle.std.proofs.Common.{◌∙◌, rules, subst, sym}
 use Rattle.example_callers.proofs.PremiseLemmas.{decided_by, one_alike}
 use Rattle.winnow.specs.Exact.Same.{reads_as}
-use Rattle.winnow.specs.Grammar.Known.{Byte}
+use Rattle.winnow.specs.Grammar.Inversion.{Byte}
 use Rattle.winnow.specs.Grammar.Same.{Same, same_refl}
 use Rattle.example_callers.proofs.premises.outputs.byte_twice.Goals as goal
 

@@ -4,7 +4,7 @@ use Rattle.std.proofs.KnownBytes.{Consumes-trans}
 use Rattle.examples.proofs.FramesLemmas.Held.{none_more, one_more}
 use Rattle.examples.proofs.FramesLemmas.Faults.{unreadable_stops}
 use Rattle.std.proofs.lemmas.Result.{err_from_is_err_and}
-use Rattle.examples.specs.Frames.Frame.{BeginsFrameOf, IsOneAtMost}
+use Rattle.examples.specs.Frames.Frame.{StartsFrameOf, IsOneAtMost}
 use Rattle.examples.proofs.frames.refill.fill.Goals as goal
 
 pub returns-else-filled-eq0-clause-fault : goal.returns-else-filled-eq0-clause-fault
@@ -46,7 +46,7 @@ returns-in_err-n-clause-fault g c =
     let (read, grows, consumes, none) = c.in_err-n.ensures.bytes in
     let same = none_more c.loop-missing.filled 0 c.read_missing.new.bytes
     (take c.loop-missing.filled c.loop-missing.bytes) read grows (sym (ap length none)) refl in
-    let begun = subst (λ l. BeginsFrameOf l (length l + c.in-Err.missing)) (sym same)
+    let begun = subst (λ l. StartsFrameOf l (length l + c.in-Err.missing)) (sym same)
     c.in-Err.ensures.begun in
     let (fault, at, is) = err_from_is_err_and c.from_residual.result c.from_residual.ensures.1 in
     rw (at, is) (unreadable_stops _ _ _ _ _ c.in_err-n.ensures.fault

@@ -3,9 +3,9 @@ use Rattle.std.proofs.Common.{Err, subst}
 use Rattle.winnow.specs.ByteSet.{has_byte}
 use Rattle.winnow.specs.Bytes.{bytes_reading}
 use Rattle.winnow.specs.Form.{modal}
-use Rattle.winnow.specs.Literal.Known.{token_missing, token_taken, token_whole}
-use Rattle.winnow.specs.InOrder.Known.{three_err, three_ok}
-use Rattle.winnow.specs.TakeWhile.Known.{never_too_few, too_few_by, took_by}
+use Rattle.winnow.specs.Literal.Inversion.{token_missing, token_taken, token_whole}
+use Rattle.winnow.specs.InOrder.Inversion.{three_err, three_ok}
+use Rattle.winnow.specs.TakeWhile.Inversion.{never_too_few, too_few_by, took_by}
 use Rattle.readers.specs.Document.{IsNameByte}
 use Rattle.readers.specs.DocumentRuns.{IsFront}
 use Rattle.readers.proofs.ByteTables.{behind_token, table_front}

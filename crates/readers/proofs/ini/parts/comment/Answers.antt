@@ -2,7 +2,7 @@ use Rattle.std.proofs.Common.{inl, refl}
 use Rattle.winnow.specs.Bytes.{bytes_reading}
 use Rattle.winnow.specs.Form.{modal}
 use Rattle.winnow.specs.Input.{is_end_of_trans}
-use Rattle.winnow.specs.Literal.Known.{token_taken}
+use Rattle.winnow.specs.Literal.Inversion.{token_taken}
 use Rattle.readers.proofs.PartRuns.{comment_read}
 use Rattle.readers.proofs.ini.parts.comment.Goals as goal
 

@@ -1,10 +1,10 @@
 use Rattle.std.proofs.Common.{ap, ◌∙◌, refl, inl, inr, None}
 use Rattle.winnow.specs.Bytes.{bytes_reading}
 use Rattle.winnow.specs.Form.{modal}
-use Rattle.winnow.specs.Form.Known.{ok_is_err, same_err}
-use Rattle.winnow.specs.Alt.Known.{or_else_err, or_else_ok}
-use Rattle.winnow.specs.Void.Known.{void_err, void_ok}
-use Rattle.winnow.specs.TakeWhile.Known.{too_few, took_counted}
+use Rattle.winnow.specs.Form.Inversion.{ok_is_err, same_err}
+use Rattle.winnow.specs.Alt.Inversion.{or_else_err, or_else_ok}
+use Rattle.winnow.specs.Void.Inversion.{void_err, void_ok}
+use Rattle.winnow.specs.TakeWhile.Inversion.{too_few, took_counted}
 use Rattle.readers.specs.Document.{white, comment, IsWhite}
 use Rattle.readers.proofs.PartRuns.{class_denies, class_says, no_front, no_gap, took_front}
 use Rattle.readers.specs.DocumentRuns.{CommentRuns}

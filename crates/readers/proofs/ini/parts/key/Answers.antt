@@ -2,7 +2,7 @@ use Rattle.std.proofs.Common.{ap, subst, inl, inr, Err, None, refl, List, ℕ, r
 use Rattle.winnow.specs.Bytes.{bytes_reading}
 use Rattle.winnow.specs.Form.{modal}
 use Rattle.winnow.specs.AsChar.{IsAlphanum}
-use Rattle.winnow.specs.TakeWhile.Known.{too_few, took_counted}
+use Rattle.winnow.specs.TakeWhile.Inversion.{too_few, took_counted}
 use Rattle.readers.specs.DocumentRuns.{IsFront}
 use Rattle.readers.specs.Pair.{IsKeyByte}
 use Rattle.readers.proofs.PartRuns.{class_denies, class_of_key, class_says, key_is_text}

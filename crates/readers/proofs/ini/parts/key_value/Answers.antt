@@ -2,7 +2,7 @@ use denote.Param.Always.{mut_total}
 use Rattle.std.proofs.Common.{◌∙◌, refl, inl, inr}
 use Rattle.winnow.specs.Bytes.{bytes_reading}
 use Rattle.winnow.specs.Input.{is_end_of_refl}
-use Rattle.winnow.specs.Form.Known.{ok_is_err}
+use Rattle.winnow.specs.Form.Inversion.{ok_is_err}
 use Rattle.winnow.specs.FuncCalls.{calls_leave}
 use Rattle.readers.proofs.KeyValueLemmas.{front_read, remark_read, remark_never_fails, pair_read}
 use Rattle.readers.proofs.ini.parts.key_value.Goals as goal

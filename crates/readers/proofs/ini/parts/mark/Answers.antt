@@ -1,9 +1,9 @@
 use Rattle.std.proofs.Common.{ap, ◌∙◌, ◌∷◌, sym, refl, inl, inr, List, ℕ, subst, None, Err}
 use Rattle.winnow.specs.Bytes.{bytes_reading}
 use Rattle.winnow.specs.Form.{modal}
-use Rattle.winnow.specs.Literal.Known.{token_missing, token_taken, token_whole}
-use Rattle.winnow.specs.Sequence.Known.{sequence3_err, sequence3_ok}
-use Rattle.winnow.specs.TakeWhile.Known.{never_too_few, too_few, took_counted}
+use Rattle.winnow.specs.Literal.Inversion.{token_missing, token_taken, token_whole}
+use Rattle.winnow.specs.Sequence.Inversion.{sequence3_err, sequence3_ok}
+use Rattle.winnow.specs.TakeWhile.Inversion.{never_too_few, too_few, took_counted}
 use Rattle.readers.specs.Document.{IsBlank}
 use Rattle.readers.specs.DocumentRuns.{IsFront}
 use Rattle.readers.proofs.PartRuns.{class_denies, class_says, other_first, took_front}

@@ -2,8 +2,8 @@ use Rattle.std.proofs.Common.{ap, ◌∙◌, ◌≡◌, sym, refl, inl, inr, Lis
 use Rattle.std.specs.Str.{IsUtf8}
 use Rattle.winnow.specs.Bytes.{bytes_reading}
 use Rattle.winnow.specs.Input.{is_end_of_refl}
-use Rattle.winnow.specs.Form.Known.{ok_is_err, same_ok}
-use Rattle.readers.specs.Document.{Begins, section}
+use Rattle.winnow.specs.Form.Inversion.{ok_is_err, same_ok}
+use Rattle.readers.specs.Document.{StartsWithPart, section}
 use Rattle.readers.specs.DocumentRuns.{BracketsRuns}
 use Rattle.winnow.specs.FuncCalls.{run_with_by}
 use Rattle.readers.proofs.PartRuns.{category_read, no_open, no_close, no_text}
@@ -19,7 +19,7 @@ returns-in-Ok c =
                 let same = ap (λ x. x.now) (same_ok refl is) in
                 let P : List ℕ → Type 0 = λ l. IsUtf8 l in
                 let Q : List ℕ → Type 0 =
-                λ l. Begins (section l) c.args.input.now.now c.parse_next.new.input.now in (
+                λ l. StartsWithPart (section l) c.args.input.now.now c.parse_next.new.input.now in (
                   c.in-Ok.ensures.ends,
                   inl (
                     u,

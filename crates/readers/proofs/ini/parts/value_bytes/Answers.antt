@@ -1,7 +1,7 @@
 use Rattle.std.proofs.Common.{◌∙◌, None, arith, refl}
 use Rattle.winnow.specs.Bytes.{bytes_reading}
 use Rattle.winnow.specs.Form.{plain}
-use Rattle.winnow.specs.TakeUntil.Known.{nothing_before_by, took_before_by}
+use Rattle.winnow.specs.TakeUntil.Inversion.{nothing_before_by, took_before_by}
 use Rattle.readers.specs.Document.{IsValueByte}
 use Rattle.readers.proofs.PartRuns.{ends_value, front_before, front_of_all, is_value}
 use Rattle.readers.proofs.ini.parts.value_bytes.Goals as goal

@@ -9,8 +9,8 @@ use Rattle.readers.proofs.ini.sections.document.Goals as goal
 
 pub returns-then-is_memory : goal.returns-then-is_memory
 returns-then-is_memory g c =
-    let refused = c.in-Err-Refused.field-0-is in
-    elim c.in-Err-Refused.ensures.ran [
+    let refused = c.in-Err-Invalid.field-0-is in
+    elim c.in-Err-Invalid.ensures.ran [
       | inl (k, j, ran, fault) ↦ (document_fails (λ all. map section_text all.items) _ _ _ ran).0
       | inr (o, j, ran, something, fault) ↦
           let told = (rw refused at fault).1 in
@@ -21,8 +21,8 @@ returns-then-is_memory g c =
 
 pub returns-else-is_memory : goal.returns-else-is_memory
 returns-else-is_memory g c =
-    let refused = c.in-Err-Refused.field-0-is in
-    elim c.in-Err-Refused.ensures.ran [
+    let refused = c.in-Err-Invalid.field-0-is in
+    elim c.in-Err-Invalid.ensures.ran [
       | inl (k, j, ran, fault) ↦
           let told = (rw refused at fault).1 in
           let is = inner_memory k _

@@ -1,7 +1,7 @@
 use Rattle.std.proofs.lemmas.List.{append-nil}
 use Rattle.stream_bits.specs.BitInput.{bits_from}
 use Rattle.std.proofs.Common.{subst, sym, [], ℕ}
-use Rattle.stream_bits.specs.BitReading.{StandsBetween}
+use Rattle.stream_bits.specs.BitReading.{IsBitPosition}
 use Rattle.stream_bits.specs.Within.{nothing_behind}
 use Rattle.stream_bits.proofs.bits.BitsStream.finish.Goals as goal
 
@@ -19,6 +19,6 @@ pub returns-clause-stands : goal.returns-clause-stands
 returns-clause-stands g c =
     let i = g.I.Stream.view c.args.self.now.0 in
     let offset = c.args.self.now.1 in
-    let P : ℕ → Type 0 = λ n. StandsBetween g.I.Stream.reading i.left.tokens offset n
+    let P : ℕ → Type 0 = λ n. IsBitPosition g.I.Stream.reading i.left.tokens offset n
     c.next_slice.result c.next_slice.new.self.1 in
     subst P c.eof_offset-left.ensures c.next_slice.ensures.stands

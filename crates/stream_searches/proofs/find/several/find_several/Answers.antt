@@ -2,7 +2,7 @@ use Rattle.std.proofs.Common.{◌+◌, ◌-◌, ℕ, List, length, take, drop, s
 use Rattle.std.proofs.Common.{arith, ◌∙◌}
 use Rattle.std.proofs.lemmas.List.{take_rest}
 use Rattle.memchr.specs.Find.{Nowhere, Passes, is_byte3}
-use Rattle.stream_searches.specs.Compare.{StandsFirst}
+use Rattle.stream_searches.specs.Compare.{StartsWithSpelling}
 use Rattle.stream_searches.specs.Three.{IsOneOfThree}
 use Rattle.stream_searches.proofs.SeveralLemmas.{begin_three, candidate, none_left, found_first}
 use Rattle.stream_searches.proofs.SeveralLemmas.{one_more, none_at_start}
@@ -52,7 +52,7 @@ loop-at-preserved c =
     (take (length all - start) (drop start all)) (take_rest all start) c.in-Some.ensures.0
     in
     let within = here.within in
-    let P : List ℕ → Type 0 = λ l. StandsFirst sought l → ⊥ in (
+    let P : List ℕ → Type 0 = λ l. StartsWithSpelling sought l → ⊥ in (
       omega (arith, within),
       one_more sought all (start + at) here.before
           (subst P (take_rest all (start + at)) c.in_default-first_length.ensures),

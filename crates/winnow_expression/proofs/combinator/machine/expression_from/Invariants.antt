@@ -4,12 +4,12 @@ use Rattle.streams.specs.Input.{IsEndOf}
 use Rattle.stream_errors.specs.Form.{assert_kind}
 use Rattle.winnow_expression.specs.Units.{units_left}
 use Rattle.winnow_expression.specs.Calls.{call_at, call_of, calls_of, opens_of}
-use Rattle.winnow_expression.specs.Loop.{Stands, rank}
+use Rattle.winnow_expression.specs.Loop.{Invariant, rank}
 use Rattle.winnow_expression.proofs.combinator.machine.expression_from.Given as goal
 
 abbrev pub invariant-places : goal.invariant-places
 invariant-places g l =
-    Stands (grammar (g.P.Parser.meaning g.E.HasKind.form) (g.Q.Parser.meaning g.E.HasKind.form)
+    Invariant (grammar (g.P.Parser.meaning g.E.HasKind.form) (g.Q.Parser.meaning g.E.HasKind.form)
     (g.G.FoldUnary.folds g.E.HasKind.form)
     (folding (g.F.FoldUnary.folds g.E.HasKind.form)
     (g.H.FoldBinary.folds g.E.HasKind.form) g.I.Stream.reading.units

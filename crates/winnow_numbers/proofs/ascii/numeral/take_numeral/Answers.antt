@@ -2,7 +2,7 @@ use Rattle.std.proofs.Common.{ap, ◌∙◌}
 use Rattle.streams.specs.Input.{back_at, is_end_of_trans, remains_of_start}
 use Rattle.winnow_numbers.proofs.NumeralLemmas.{back_same, bounded, numeral_missing, numeral_taken}
 use Rattle.winnow_numbers.proofs.NumeralLemmas.{runs_front}
-use Rattle.winnow_numbers.specs.Numeral.Known.{sign_status}
+use Rattle.winnow_numbers.specs.Numeral.Inversion.{sign_status}
 use Rattle.winnow_numbers.proofs.ascii.numeral.take_numeral.Goals as goal
 
 pub offset_from-length-requires : goal.offset_from-length-requires

@@ -1,4 +1,4 @@
-use Rattle.winnow_repeat.specs.Room.{RoomBehind}
+use Rattle.winnow_repeat.specs.Room.{RoomAfter}
 use Rattle.std.proofs.Common.{List, length}
 use Rattle.streams.specs.Input.{IsEndOf}
 use Rattle.winnow_repeat.specs.Chain.{Chain}
@@ -13,7 +13,7 @@ invariant-items g l =
     (g.I.Stream.view l.fn.input) outputs
     (g.P.Parser.state l.parser, (g.F.Folding.state l.op, l.value))
     (g.I.Stream.view l.input)
-    × RoomBehind l.fn.missing l.fn.room l.missing l.room (length outputs)
+    × RoomAfter l.fn.missing l.fn.room l.missing l.room (length outputs)
     × IsEndOf g.I.Stream.reading (g.I.Stream.view l.input) (g.I.Stream.view l.fn.input)
     × g.P.Parser.can_parse l.parser
     × g.F.Folding.can_fold l.op

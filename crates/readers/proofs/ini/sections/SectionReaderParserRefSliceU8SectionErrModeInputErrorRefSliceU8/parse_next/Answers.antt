@@ -2,7 +2,7 @@ use denote.Param.Always.{mut_total}
 use Rattle.std.proofs.Common.{◌≡◌, ◌∙◌, ap, refl, inl, inr, rules}
 use Rattle.std.specs.Prelude.{map}
 use Rattle.winnow.specs.Bytes.{bytes_input}
-use Rattle.winnow.specs.Form.Known.{fails_as, ok_is_err, same_ok}
+use Rattle.winnow.specs.Form.Inversion.{fails_as, ok_is_err, same_ok}
 use Rattle.readers.specs.Sections.{pair_text}
 use Rattle.winnow.specs.FuncCalls.{calls_with_leave}
 use Rattle.readers.proofs.SectionLemmas.{parts_read, same_text}

@@ -1,4 +1,4 @@
-use Rattle.winnow_repeat.specs.Room.{RoomBehind}
+use Rattle.winnow_repeat.specs.Room.{RoomAfter}
 use Rattle.std.proofs.Common.{List, length}
 use Rattle.streams.specs.Input.{IsEndOf}
 use Rattle.stream_sets.specs.Accumulator.Holds.{Accumulates}
@@ -15,7 +15,7 @@ invariant-turns g l =
     (g.I.Stream.view l.fn.input) outputs
     (g.P.Parser.state l.parser, g.G.Parser.state l.terminator) (g.I.Stream.view l.input)
     × Accumulates g.C.Accumulate.accumulator.takes l.fn.before outputs l.all
-    × RoomBehind 0 l.fn.room 0 l.room (length outputs)
+    × RoomAfter 0 l.fn.room 0 l.room (length outputs)
     × IsEndOf g.I.Stream.reading (g.I.Stream.view l.input) (g.I.Stream.view l.fn.input)
     × g.P.Parser.can_parse l.parser × g.G.Parser.can_parse l.terminator
 

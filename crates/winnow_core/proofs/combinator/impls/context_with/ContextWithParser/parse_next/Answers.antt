@@ -1,6 +1,6 @@
 use Rattle.std.proofs.Common.{rules, inr, refl}
 use Rattle.std.proofs.lemmas.Fn.{FoldsTo-push}
-use Rattle.winnow_core.specs.Context.Laws.{Told, is_told}
+use Rattle.winnow_core.specs.Context.Laws.{WithContext, is_told}
 use Rattle.winnow_core.proofs.combinator.impls.context_with.ContextWithParser.parse_next.Goals as goal
 
 pub returns-clause-ends : goal.returns-clause-ends
@@ -10,7 +10,8 @@ pub loop-context-preserved : goal.loop-context-preserved
 loop-context-preserved g c = (
   search rules,
   search rules,
-  FoldsTo-push (λ old context new. Told (g.E.AddContext.context_gives context) old new) _ _ _ _ _
+  FoldsTo-push (λ old context new. WithContext (g.E.AddContext.context_gives context) old new) _ _ _
+      _ _
       c.loop-context.invariant.2
       (is_told _ _ _ _ c.add_context-error.ensures.kept),
 )

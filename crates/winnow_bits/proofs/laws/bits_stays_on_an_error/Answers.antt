@@ -1,5 +1,0 @@
-use Rattle.winnow_bits.specs.BitLaws.{bits_stay}
-use Rattle.winnow_bits.proofs.laws.bits_stays_on_an_error.Goals as goal
-
-pub returns : goal.returns
-returns g c = bits_stay g.I.Stream.reading g.F.HasKind.form (g.P.Parser.meaning g.F.HasKind.form)

@@ -1,8 +1,0 @@
-use Rattle.stream_bits.specs.BitReading.{bits_reading}
-use Rattle.winnow_bits.specs.BitLaws.{bytes_stay}
-use Rattle.winnow_bits.proofs.laws.bytes_stays_on_an_error.Goals as goal
-
-pub returns : goal.returns
-returns g c =
-    bytes_stay (bits_reading g.I.Stream.reading) g.F.HasKind.form
-    (g.P.Parser.meaning g.F.HasKind.form)

@@ -1,5 +1,0 @@
-use Rattle.winnow_expression_trees.specs.Premises.Decided.{decided_stateless}
-use Rattle.winnow_expression_trees.proofs.laws.parts.a_decided_part_is_stateless.Goals as goal
-
-pub returns : goal.returns
-returns g c s asked = decided_stateless ((g.met.P.Parser.claimed s).decided g.E.HasKind.form asked)

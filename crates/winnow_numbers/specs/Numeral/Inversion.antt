@@ -1,0 +1,184 @@
+-- Lemmas about a call of numerals: the tokens that it passes, which are decimal digits.
+use Rattle.std.specs.Prelude.{◌≡◌, ◌<◌, ℕ, Bool, true, false, List, [], ◌∷◌, ◌++◌, ◌⊎◌}
+use Rattle.std.proofs.Common.{refl, sym, ap, subst, ◌∙◌, inl, inr, arith, append_assoc}
+use Rattle.std.proofs.lemmas.Bool.{cases_order}
+use Rattle.streams.specs.Equal.{same_first, same_others}
+use Rattle.streams.specs.Input.{Input, Passes}
+use Rattle.streams.specs.Kind.{Kind}
+use Rattle.streams.specs.Reading.{Reading, units-nil}
+use Rattle.stream_errors.specs.Form.{ErrorForm, modal, plain}
+use Rattle.stream_sets.specs.AsChar.{IsDecDigit}
+use Rattle.winnow_numbers.specs.Decimal.{IsDecimalOf}
+use Rattle.winnow_numbers.specs.DecimalText.{AreDigits}
+use Rattle.winnow_numbers.specs.Digits.{AreCharacters, NoneFirst}
+use Rattle.winnow_numbers.specs.Digits.Inversion.{characters_two, one_character}
+use Rattle.winnow_numbers.specs.Numeral.{DigitsRuns, LacksDigits, NoNumeral, NumeralRuns, SignRuns}
+use Rattle.winnow_numbers.specs.Numeral.{left_by}
+
+-- what is passed in two steps
+pub passes_two : {T S : Type 0} {reading : Reading T S} {xs ys : List T} {i a j : Input T}
+    → Passes reading xs i a → Passes reading ys a j → Passes reading (xs ++ ys) i j
+passes_two {reading = reading} {xs = xs} {ys = ys} {i = i} {j = j} p q = record {
+  tokens = p.tokens ∙ ap (λ l. xs ++ l) q.tokens ∙ sym (append_assoc xs ys j.left.tokens);
+  place = q.place ∙ ap (λ x. reading.advance x (reading.units ys)) p.place
+      ∙ reading.advance_add i.left.place (reading.units xs) (reading.units ys)
+      ∙ ap (λ n. reading.advance i.left.place n) (sym (reading.units_add xs ys));
+  possible = q.possible ∙ p.possible;
+  status = q.status ∙ p.status;
+}
+
+-- nothing is passed
+passes_none : {T S : Type 0} (reading : Reading T S) (i j : Input T) → j ≡ i
+    → Passes reading [] i j
+passes_none reading i j same =
+    let P : Input _ → Type 0 = λ x. Passes reading [] i x in
+    subst P (sym same) (record {
+      tokens = refl;
+      place = sym (ap (λ n. reading.advance i.left.place n) (units-nil reading)
+          ∙ reading.advance_none i.left.place);
+      possible = refl;
+      status = refl;
+    })
+
+-- the input after the tokens `front`, with the remaining tokens `rest`
+abbrev pub behind : {T S : Type 0} → Reading T S → List T → List T → Input T → Input T
+behind reading front rest i =
+    record {
+      left = record {
+        tokens = rest;
+        place = reading.advance i.left.place (reading.units front);
+        possible = i.left.possible;
+      };
+      status = i.status;
+    }
+
+pub leads_behind : {T S : Type 0} (reading : Reading T S) (front rest : List T) (i : Input T)
+    → i.left.tokens ≡ front ++ rest → Passes reading front i (behind reading front rest i)
+leads_behind reading front rest i e =
+    record { tokens = e; place = refl; possible = refl; status = refl }
+
+module _ {K T S : Type 0} (seen : K → T) (code : K → ℕ) (reading : Reading T S) where
+  -- what a sign and digits are passed by
+  abbrev pub PassesAs : Input T → List ℕ → Input T → Type 0
+  PassesAs i numbers j =
+      (front : List T) × Passes reading front i j × AreCharacters seen code front numbers
+
+  pub sign_front : (signed : Bool) (i : Input T) (sign : List ℕ) (j : Input T)
+      → SignRuns seen code reading signed i sign j → PassesAs i sign j
+  sign_front signed i sign j (inl (x, may, is, passes, e)) =
+      (seen x ∷ [], passes, one_character seen code x sign e)
+  sign_front signed i sign j (inr (none, e, same)) =
+      let P : List ℕ → Type 0 = λ l. AreCharacters seen code [] l in
+      ([], passes_none reading i j same, subst P (sym e) tt)
+
+  pub digits_front : (zero : Bool) (i : Input T) (digits : List ℕ) (j : Input T)
+      → DigitsRuns seen code reading zero i digits j → PassesAs i digits j
+  digits_front zero i digits j (inl (x, may, is, passes, e)) =
+      (seen x ∷ [], passes, one_character seen code x digits (e ∙ ap (λ c. c ∷ []) (sym is)))
+  digits_front zero i digits j
+      (inr (front, first, others, e, leads, are, passes, chars, stops, whole)) =
+      (front, passes, chars)
+
+  pub numeral_front : (signed : Bool) (i : Input T) (sign digits : List ℕ) (j : Input T)
+      → NumeralRuns seen code reading signed i sign digits j → PassesAs i (sign ++ digits) j
+  numeral_front signed i sign digits j (a, first, r) =
+      let p = sign_front signed i sign a first in
+      let q = digits_front _ a digits j r in
+      (p.0 ++ q.0, passes_two p.1 q.1, characters_two seen code p.0 q.0 sign digits p.2 q.2)
+
+  pub sign_status : (signed : Bool) (i : Input T) (sign : List ℕ) (j : Input T)
+      → SignRuns seen code reading signed i sign j → j.status ≡ i.status
+  sign_status signed i sign j r = (sign_front signed i sign j r).1.status
+
+  pub numeral_status : (signed : Bool) (i : Input T) (sign digits : List ℕ) (j : Input T)
+      → NumeralRuns seen code reading signed i sign digits j → j.status ≡ i.status
+  numeral_status signed i sign digits j r = (numeral_front signed i sign digits j r).1.status
+
+  left_status : (form : ErrorForm) (i b : Input T) → b.status ≡ i.status
+      → (left_by form i b).status ≡ i.status
+  left_status plain i b same = refl
+  left_status modal i b same = same
+
+  lacks_status : (i b : Input T) → LacksDigits seen code reading i b → b.status ≡ i.status
+  lacks_status i b (inl (none, same)) = ap (λ z. z.status) same
+  lacks_status i b (inr (x, leads, p, all)) = p.status
+
+  pub none_status : (form : ErrorForm) (signed : Bool) (i : Input T) (k : Kind) (j : Input T)
+      → NoNumeral seen code reading form signed i k j → j.status ≡ i.status
+  none_status form signed i k j (sign, a, first, inl (b, lacks, cut, kind, at)) =
+      ap (λ z. z.status) at
+      ∙ left_status form i b (lacks_status a b lacks ∙ sign_status signed i sign a first)
+  none_status form signed i k j (sign, a, first, inr (none, kind, at)) = ap (λ z. z.status) at
+
+  -- A numeral has digits, and a '0' that is the first of them is the only one.
+  pub digits_are : (naught : Bool) (i : Input T) (digits : List ℕ) (j : Input T)
+      → DigitsRuns seen code reading naught i digits j
+      → AreDigits digits × ((others : List ℕ) → digits ≡ 48 ∷ others → others ≡ [])
+  digits_are naught i digits j (inl (x, may, is, passes, e)) =
+      let P : List ℕ → Type 0 = λ l. AreDigits l in (
+        subst P (sym e) (omega arith, ((omega arith, omega arith), tt)),
+        λ others f. sym (same_others (sym e ∙ f)),
+      )
+  digits_are naught i digits j
+      (inr (front, first, others, e, leads, are, passes, chars, stops, whole)) =
+      let P : List ℕ → Type 0 = λ l. AreDigits l in (
+        subst P (sym e) (omega arith, ((omega (arith, leads.0), leads.1), are)),
+        λ more f. absurd (omega (arith, leads.0, same_first (sym e ∙ f))),
+      )
+
+  pub digits_stop : (naught : Bool) (i : Input T) (digits : List ℕ) (j : Input T)
+      → DigitsRuns seen code reading naught i digits j
+      → (digits ≡ 48 ∷ []) ⊎ NoneFirst seen code IsDecDigit j.left.tokens
+  digits_stop naught i digits j (inl (x, may, is, passes, e)) = inl e
+  digits_stop naught i digits j
+      (inr (front, first, others, e, leads, are, passes, chars, stops, whole)) = inr stops
+
+  pub unsigned : (i : Input T) (sign : List ℕ) (a : Input T)
+      → SignRuns seen code reading false i sign a → (sign ≡ []) × (a ≡ i)
+  unsigned i sign a (inl (x, may, is, passes, e)) = absurd cc
+  unsigned i sign a (inr (none, e, same)) = (e, same)
+
+  -- The decimal digits of a number are passed, where they may be those of 0.
+  digits_by : (naught : Bool) (i : Input T) (front : List T) (d : ℕ) (ds : List ℕ) (j : Input T)
+      (v : ℕ) → IsDecimalOf (d ∷ ds) v → (d ∷ ds ≡ 48 ∷ [] → naught ≡ true)
+      → AreCharacters seen code front (d ∷ ds) → Passes reading front i j
+      → NoneFirst seen code IsDecDigit j.left.tokens
+      → (j.left.tokens ≡ [] → j.status.cut ≡ false) → (d ≡ 48) ⊎ ((d < 48) ⊎ (48 < d))
+      → DigitsRuns seen code reading naught i (d ∷ ds) j
+  digits_by naught i [] d ds j v is may chars passes stops whole order = absurd chars
+  digits_by naught i (t ∷ []) d ds j v is may ((x, seen_as, same), chars) passes stops whole
+      (inl first) =
+      let alone = is.lone_zero ds (ap (λ c. c ∷ ds) first) in
+      let digits : d ∷ ds ≡ 48 ∷ [] = ap (λ c. c ∷ ds) first ∙ ap (λ l. 48 ∷ l) alone in
+      let P : T → Type 0 = λ y. Passes reading (y ∷ []) i j in
+      inl (x, may digits, same ∙ first, subst P (sym seen_as) passes, digits)
+  digits_by naught i (t ∷ u ∷ ts) d ds j v is may (head, chars) passes stops whole (inl first) =
+      let alone = is.lone_zero ds (ap (λ c. c ∷ ds) first) in
+      let P : List ℕ → Type 0 = λ l. AreCharacters seen code (u ∷ ts) l in
+      absurd (subst P alone chars)
+  digits_by naught i front d ds j v is may chars passes stops whole (inr (inl low)) =
+      absurd (omega (arith, is.are.1.0, low))
+  digits_by naught i front d ds j v is may chars passes stops whole (inr (inr high)) =
+      inr (
+        front,
+        d,
+        ds,
+        refl,
+        (omega (arith, high), is.are.1.0.1),
+        is.are.1.1,
+        passes,
+        chars,
+        stops,
+        whole,
+      )
+
+  pub digits_run : (naught : Bool) (i : Input T) (front : List T) (digits : List ℕ)
+      (j : Input T) (v : ℕ) → IsDecimalOf digits v → (digits ≡ 48 ∷ [] → naught ≡ true)
+      → AreCharacters seen code front digits → Passes reading front i j
+      → NoneFirst seen code IsDecDigit j.left.tokens
+      → (j.left.tokens ≡ [] → j.status.cut ≡ false)
+      → DigitsRuns seen code reading naught i digits j
+  digits_run naught i front [] j v is may chars passes stops whole =
+      absurd (omega (arith, is.are.0))
+  digits_run naught i front (d ∷ ds) j v is may chars passes stops whole =
+      digits_by naught i front d ds j v is may chars passes stops whole (cases_order d 48)

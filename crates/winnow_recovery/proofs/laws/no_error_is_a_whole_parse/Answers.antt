@@ -1,8 +1,0 @@
-use Rattle.winnow_recovery.specs.RecoverableParse.Known.{no_error}
-use Rattle.winnow_recovery.proofs.laws.no_error_is_a_whole_parse.Goals as goal
-
-pub returns : goal.returns
-returns g c s t input back output errors parses none =
-    no_error g.I.Stream.view g.R.HasKind.kind (g.I.Stream.view input)
-    (λ answer j. g.P.Parser.meaning g.E.HasKind.form s (g.I.Stream.view input) answer t j)
-    back output errors parses none
