@@ -13,6 +13,7 @@ use Rattle.winnow_repeat.specs.Chain.{Chain, Successes}
 use Rattle.winnow_repeat.specs.Repeat.{capacity_of}
 use Rattle.winnow_repeat.specs.declared.combinator.impls.repeat_till.RepeatTill.{RepeatTill}
 pub mod Does
+pub mod Errors
 pub mod Exact
 pub mod Laws
 pub mod Says
