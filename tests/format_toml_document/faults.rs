@@ -70,12 +70,18 @@ fn shown_has_the_line_and_a_caret(rt: HostRuntime) {
             b"[server]\nport 80\n".as_slice(),
             "parse error at line 2, column 6\n  |\n2 | port 80\n  |      ^\nexpected `=`",
         ),
-        (b"a 1".as_slice(), "a 1\n  ^\nexpected `=`"),
+        (
+            b"a 1".as_slice(),
+            "parse error at line 1, column 3\n  |\n1 | a 1\n  |   ^\nexpected `=`",
+        ),
         (
             b"a = [\n1]\na = 2".as_slice(),
             "parse error at line 3, column 1\n  |\n3 | a = 2\n  | ^\nkey is already defined",
         ),
-        (b"a = '\xff'".as_slice(), "a = '\u{FFFD}'\n     ^\ninvalid UTF-8"),
+        (
+            b"a = '\xff'".as_slice(),
+            "parse error at line 1, column 6\n  |\n1 | a = '\u{FFFD}'\n  |      ^\ninvalid UTF-8",
+        ),
     ];
     for (bytes, wanted) in rows {
         let mut document = Document::new(rt.alloc());

@@ -56,9 +56,44 @@ fn a_line_with_a_caret(rt: HostRuntime) {
 
 #[test]
 fn a_line_of_its_own(rt: HostRuntime) {
-    refused(&rt, rt.alloc(), "größe=1", "größe=1\n^\n");
-    refused(&rt, rt.alloc(), "size=1;", "size=1;\n      ^\nexpected a setting");
-    refused(&rt, rt.alloc(), "size=", "size=\n     ^\nexpected a number in a setting");
+    refused(
+        &rt,
+        rt.alloc(),
+        "größe=1",
+        "parse error at line 1, column 1\n  |\n1 | größe=1\n  | ^\nfailed to parse",
+    );
+    refused(
+        &rt,
+        rt.alloc(),
+        "size=1;",
+        "parse error at line 1, column 7\n  |\n1 | size=1;\n  |       ^\nexpected a setting",
+    );
+    refused(
+        &rt,
+        rt.alloc(),
+        "size=",
+        "parse error at line 1, column 6\n  |\n1 | size=\n  |      ^\n\
+         expected a number in a setting",
+    );
+}
+
+/// A path before a message does not move the caret.
+#[test]
+fn behind_a_path(rt: HostRuntime) {
+    let alloc = rt.alloc();
+    match settings(alloc, "size=x") {
+        Ok(_) => assert!(rt; false),
+        Err(fault) => match format!(in alloc; "a/b.ini: {fault}") {
+            Ok(text) => same(
+                &rt,
+                alloc,
+                text.as_str(),
+                "a/b.ini: parse error at line 1, column 6\n  |\n1 | size=x\n  |      ^\n\
+                 expected a number in a setting",
+            ),
+            Err(_) => assert!(rt; false, "no memory"),
+        },
+    }
 }
 
 /// A caret stands under a character, whatever bytes it has; bytes that are no text count as one.
@@ -74,9 +109,24 @@ fn excerpts(rt: HostRuntime) {
         shown,
         "parse error at line 2, column 7\n  |\n2 | größe=x\n  |       ^",
     );
-    same(&rt, rt.alloc(), Excerpt::new(b"a\xFFb", 2), "a\u{FFFD}b\n  ^");
-    same(&rt, rt.alloc(), Excerpt::new(b"", 0), "\n^");
-    same(&rt, rt.alloc(), Excerpt::new(b"ab", 9), "ab\n  ^");
+    same(
+        &rt,
+        rt.alloc(),
+        Excerpt::new(b"a\xFFb", 2),
+        "parse error at line 1, column 3\n  |\n1 | a\u{FFFD}b\n  |   ^",
+    );
+    same(
+        &rt,
+        rt.alloc(),
+        Excerpt::new(b"", 0),
+        "parse error at line 1, column 1\n  |\n1 | \n  | ^",
+    );
+    same(
+        &rt,
+        rt.alloc(),
+        Excerpt::new(b"ab", 9),
+        "parse error at line 1, column 3\n  |\n1 | ab\n  |   ^",
+    );
     same(
         &rt,
         rt.alloc(),
@@ -129,7 +179,12 @@ fn lines_of_places(rt: HostRuntime) {
     }
     let text = "ab\r";
     assert_eq!(rt; Excerpt::new(text.as_bytes(), 3).position(), Position { line: 1, column: 4 });
-    same(&rt, rt.alloc(), Excerpt::new(text.as_bytes(), 3), "ab\r\n   ^");
+    same(
+        &rt,
+        rt.alloc(),
+        Excerpt::new(text.as_bytes(), 3),
+        "parse error at line 1, column 4\n  |\n1 | ab\r\n  |    ^",
+    );
     same(
         &rt,
         rt.alloc(),
@@ -140,15 +195,16 @@ fn lines_of_places(rt: HostRuntime) {
 
 #[test]
 fn other_inputs(rt: HostRuntime) {
+    let wanted = "parse error at line 1, column 3\n  |\n1 | 12a\n  |   ^\nfailed to parse";
     let bytes = Parser::<&[u8], _, EmptyError>::parse(&mut Digit1, b"12a".as_slice());
     match bytes {
         Ok(_) => assert!(rt; false),
-        Err(fault) => same(&rt, rt.alloc(), fault, "12a\n  ^\nfailed to parse"),
+        Err(fault) => same(&rt, rt.alloc(), fault, wanted),
     }
     let located = LocatingSlice::new("12a");
     match Parser::<_, _, EmptyError>::parse(&mut Digit1, located) {
         Ok(_) => assert!(rt; false),
-        Err(fault) => same(&rt, rt.alloc(), fault, "12a\n  ^\nfailed to parse"),
+        Err(fault) => same(&rt, rt.alloc(), fault, wanted),
     }
     let mut part = Partial::new("12");
     match Parser::<_, &str, ErrMode<EmptyError>>::parse_next(&mut Digit1, &mut part) {
@@ -206,7 +262,7 @@ fn what_each_branch_expected(rt: HostRuntime) {
     }
     same(&rt, rt.alloc(), three, "expected on, off or auto");
     let none: ExpectedError<&str> = ExpectedError::new();
-    same(&rt, rt.alloc(), none, "");
+    same(&rt, rt.alloc(), none, "failed to parse");
 }
 
 #[test]

@@ -4,7 +4,7 @@
 ghost use Rattle.std.specs.Prelude.{◌≡◌, false, List, [], IfErr, IfOk};
 ghost use Rattle.winnow.specs.Form.{assert_kind};
 ghost use Rattle.winnow.specs.Input.{Input, IsEndOf};
-ghost use Rattle.winnow.specs.Parse.{IsFaultAt};
+ghost use Rattle.winnow.specs.Fault.{IsFaultAt};
 ghost use Rattle.winnow.specs.ParseIter.Inversion.{IsErrorAfterItems};
 ghost use Rattle.winnow.specs.Repeat.Inversion.{Items};
 ghost use Rattle.example_callers.specs.Items.{EndsAfterChain, FailsAfterChain, IsLastOf};

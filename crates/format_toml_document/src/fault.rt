@@ -148,9 +148,8 @@ impl Error for TomlError {}
 
 /// An error together with its text.
 ///
-/// It is displayed as the line of the text, a caret under the position, and the reason. If the text
-/// has a line feed, the line and the column precede these. [`TomlError::OutOfMemory`] is displayed
-/// as only the reason.
+/// It is displayed as the line and the column, the line of the text, a caret under the position,
+/// and the reason. [`TomlError::OutOfMemory`] is displayed as only the reason.
 #[derive(Clone, Copy, Debug, Drop)]
 pub struct Shown<'t> {
     fault: TomlError,

@@ -2,6 +2,7 @@
 ghost use Rattle.std.specs.Prelude.{◌≡◌, ◌+◌};
 ghost use Rattle.streams.specs.Input.{Remains, back_at};
 
+use crate::parser_error::ParserError;
 use streams::needed::Needed;
 use streams::stream::Stream;
 
@@ -94,4 +95,37 @@ pub enum ParseFault<I, E, N = Needed> {
     Invalid(ParseError<I, E>),
     /// A parser needed more input, although the input is complete.
     Incomplete(N),
+}
+
+impl<I, E> ParseFault<I, E> {
+    ghost use Rattle.stream_errors.specs.Fault.{IsFaultAt};
+
+    /// Returns the error of a whole parse for `error`, with or without a mode, at the current
+    /// offset of `input`, and resets the input to `start`. `start` must be an earlier position of
+    /// this input.
+    ///
+    /// ```
+    /// let mut input = "12a";
+    /// let start = input.checkpoint();
+    /// let mut number = terminated(Digit1, ';');
+    /// let read: Result<&str, ErrMode<EmptyError>> = number.parse_next(&mut input);
+    /// let fault = read.map_err(|error| ParseFault::at(input, start, error));
+    /// assert!(rt; matches!(fault, Err(ParseFault::Invalid(error)) if error.offset() == 2));
+    /// ```
+    pub fn at<F: ParserError<I, Inner = E>>(
+        input: I,
+        start: I::Checkpoint,
+        error: F,
+    ) -> ParseFault<I, E>
+    where
+        I: Stream,
+        requires { Remains (I.view input).left (I.seen start) }
+        ensures { IsFaultAt I.view I.reading.units F.inner_kind (I.seen start) (I.view input)
+            (F.kind error) result }
+    {
+        match error.into_inner() {
+            Ok(inner) => ParseFault::Invalid(ParseError::new(input, start, inner)),
+            Err(error) => ParseFault::Incomplete(error.needed().unwrap_or(Needed::Unknown)),
+        }
+    }
 }

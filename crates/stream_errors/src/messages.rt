@@ -70,11 +70,14 @@ impl<I: ShownBytes, E: Display> Display for ParseFault<I, E> {
 }
 
 /// The innermost context as the expected item, and then the outer ones, as `expected a number in a
-/// setting`. Nothing is written if there is no context.
+/// setting`. Without a context it prints what [`EmptyError`] does.
 impl<C: Display, A: Allocator> Display for ContextError<C, A> {
     fn fmt<W: fmt::Write>(&self, f: &mut fmt::Formatter<W>) -> fmt::Result {
         if self.wants_memory() {
             return f.write_str("out of memory");
+        }
+        if self.context().is_empty() {
+            return f.write_str("failed to parse");
         }
         let mut word = "expected ";
         for context in self.context() {

@@ -295,13 +295,17 @@ impl<I: Stream, C, A: Allocator> FromRecoverableError<I, ExpectedError<C, A>>
 }
 
 /// The expected items, and then the outer contexts, as `expected a switch, a number or a text in a
-/// value`.
+/// value`. Without an expected item it prints what [`EmptyError`](stream_errors::empty::EmptyError)
+/// does.
 impl<C: Display, A: Allocator> Display for ExpectedError<C, A> {
     fn fmt<W: fmt::Write>(&self, f: &mut fmt::Formatter<W>) -> fmt::Result {
         if self.is_memory {
             return f.write_str("out of memory");
         }
         let mut left = self.expected().len();
+        if left == 0 {
+            return f.write_str("failed to parse");
+        }
         let mut word = "expected ";
         for context in self.expected() {
             f.write_str(word)?;

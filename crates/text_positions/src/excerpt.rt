@@ -9,8 +9,8 @@ use crate::{Position, position_of};
 use std::fmt;
 
 /// A position in a text or in bytes, shown as compilers do: its line and column, the line itself,
-/// and a caret under the position. For a text without line feeds it shows only the text and the
-/// caret.
+/// and a caret under the position. What is printed before it, as a path, does not move the caret,
+/// since the line begins after a line feed.
 ///
 /// Lines end as [`position_of`] counts them, with their line feeds. A carriage return is a
 /// character of its line, and the caret can be under it; before a line feed it is not shown.
@@ -73,12 +73,6 @@ impl fmt::Display for Excerpt<'_> {
     fn fmt<W: fmt::Write>(&self, f: &mut fmt::Formatter<W>) -> fmt::Result {
         let place = self.position();
         let indent = place.column.saturating_sub(1);
-        if !self.text.contains(&b'\n') {
-            write_text(f, self.line())?;
-            f.write_str("\n")?;
-            f.write_repeated(" ", indent)?;
-            return f.write_str("^");
-        }
         let gutter = digits(place.line);
         writeln!(
             f,

@@ -37,7 +37,6 @@ ghost use Rattle.winnow_core.specs.Void.{void_parser};
 ghost use Rattle.winnow_core.specs.WithSpan.{with_span_parser};
 ghost use Rattle.winnow_core.specs.WithTaken.{with_taken_parser};
 
-pub(crate) mod fault;
 mod func;
 mod literals;
 mod modal;
@@ -48,7 +47,6 @@ use crate::combinator::impls::{
     OutputInto, ParseIter, ParseTo, Span, Take, TryMap, Value, Verify, VerifyMap, Void, WithSpan,
     WithTaken,
 };
-use crate::parser::fault::fault_at;
 pub use crate::parser::func::{Func, FuncWith};
 pub use crate::parser::modal::ModalParser;
 use std::alloc::Allocator;
@@ -130,10 +128,10 @@ pub trait Parser<I: Stream, O, E: ParserError<I>>: Sized {
                     Ok(output)
                 } else {
                     let error = E::from_input(&input);
-                    Err(fault_at(input, start, error))
+                    Err(ParseFault::at(input, start, error))
                 }
             }
-            Err(error) => Err(fault_at(input, start, error)),
+            Err(error) => Err(ParseFault::at(input, start, error)),
         }
     }
 

@@ -14,6 +14,7 @@ pub mod Inversion
 pub mod Laws
 pub mod Once
 pub mod Says
+pub mod Texts
 
 -- a sign: '+' or '-'
 abbrev pub IsSign : ℕ → Type 0

@@ -1,16 +1,14 @@
 -- The grammar of the parser of versions, and a proof that it is that of versions.
-use Rattle.std.specs.Prelude.{◌≡◌, ◌⊎◌, ◌↔◌, ◌^◌, ◌++◌, ℕ, List, [], ◌∷◌, None, Bool, Option, Some}
-use Rattle.std.specs.Fmt.{decimal}
+use Rattle.std.specs.Prelude.{◌≡◌, ◌^◌, ℕ, List, [], None, Option}
 use Rattle.std.specs.declared.vec.Vec.{Vec}
-use Rattle.std.proofs.Common.{refl, sym, ap, inl, inr, arith, subst}
+use Rattle.std.proofs.Common.{refl, inl, inr, arith}
 use Rattle.examples.specs.Version.Version.{InWord, Number, Numbers, Slice, Version, Words}
 use Rattle.winnow.specs.AsChar.{IsAlphanum, IsDecDigit}
 use Rattle.winnow.specs.Counted.{counted_reading}
 use Rattle.winnow.specs.Grammar.{Both, Class, Gathered, Grammar, Optional, Parted, Three}
 use Rattle.winnow.specs.Grammar.Inversion.{Byte}
-use Rattle.winnow.specs.Grammar.Same.{same_sym}
 use Rattle.winnow.specs.Numeral.Grammar.{Decimal}
-use Rattle.winnow.specs.Numeral.Grammar.Inversion.{NoDigitFirst, Written, same_written}
+use Rattle.winnow.specs.Numeral.Texts.{number_of}
 use Rattle.winnow.specs.Range.{from_to}
 use Rattle.winnow.specs.Reading.{Reading}
 use Rattle.winnow.specs.Texts.{Anything, AtEnd, TextsStartWith, BothText, InFront, IsGrammarOf}
@@ -18,7 +16,7 @@ use Rattle.winnow.specs.Texts.{Itself}
 use Rattle.winnow.specs.Texts.{Members, NotFirst, OptionalText}
 use Rattle.winnow.specs.Texts.Fronts.{both_front, front_any, front_begins, front_may}
 use Rattle.winnow.specs.Texts.Fronts.{may_begin_none, none_begins, optional_front, spelled_begins}
-use Rattle.winnow.specs.Texts.Parts.{both_of, optional_of, same_of, three_of}
+use Rattle.winnow.specs.Texts.Parts.{both_of, optional_of, three_of}
 use Rattle.winnow.specs.Texts.Rows.{list_of, parted_of}
 use Rattle.winnow.specs.Texts.Tokens.{byte_of, class_of}
 
@@ -51,31 +49,18 @@ module _ {T L : Type 0} (reading : Reading T L) (seen : ℕ → T) (literal : �
 
 -- ---- over bytes these are the texts
 
-no_digit : (rest : List ℕ) → NotFirst IsDecDigit rest → NoDigitFirst rest
-no_digit rest not d more e is =
-    let P : List ℕ → Type 0 = λ l. NotFirst IsDecDigit l in absurd (subst P e not is)
-
--- what `{}` writes is a decimal number, where no digit is after it
-written_of : IsGrammarOf (Written (λ n. n) (2 ^ 64)) Number (NotFirst IsDecDigit)
-unfolding Written Number
-written_of = record {
-  there = λ tokens n rest (e, stops, fits). (decimal n, e, (refl, fits));
-  back = λ n front rest (e, fits) behind.
-      (ap (λ l. l ++ rest) e, inr (no_digit rest behind), fits);
-}
-
-number_of : IsGrammarOf (NumberRead counted_reading (λ b. b) Byte) Number (NotFirst IsDecDigit)
-number_of = same_of (same_sym (same_written (λ n. n) (2 ^ 64) (omega arith))) written_of
+number : IsGrammarOf (NumberRead counted_reading (λ b. b) Byte) Number (NotFirst IsDecDigit)
+number = number_of (2 ^ 64) (omega arith)
 
 dotted_of : IsGrammarOf (DottedRead counted_reading (λ b. b) Byte)
     (BothText (λ n dot. n) Number (Itself 46)) Anything
-dotted_of = both_of (λ n dot. n) number_of (byte_of 46)
+dotted_of = both_of (λ n dot. n) number (byte_of 46)
     (front_begins (λ t e is. omega (arith, e, is.0)) (spelled_begins 46 [] 46))
 
 numbers_of : IsGrammarOf (NumbersRead counted_reading (λ b. b) Byte) Numbers
     (NotFirst IsDecDigit)
 numbers_of = three_of (λ major (others : ℕ × ℕ). (major, others.0, others.1))
-    (λ minor patch. (minor, patch)) dotted_of dotted_of number_of front_any front_any
+    (λ minor patch. (minor, patch)) dotted_of dotted_of number front_any front_any
 
 word_of : IsGrammarOf (WordRead counted_reading (λ b. b) Byte) (Members counted_reading InWord 1)
     (NotFirst InWord)

@@ -1,10 +1,10 @@
 -- A version.
-use Rattle.std.specs.Prelude.{◌≡◌, ◌⊎◌, ◌<◌, ◌^◌, ℕ, List, Option}
+use Rattle.std.specs.Prelude.{◌≡◌, ◌⊎◌, ◌^◌, ℕ, List, Option}
 use Rattle.std.specs.Borrow.{Bor}
-use Rattle.std.specs.Fmt.{decimal}
 use Rattle.std.specs.declared.vec.Vec.{Vec}
 use Rattle.winnow.specs.AsChar.{IsAlphanum}
 use Rattle.winnow.specs.Counted.{counted_reading}
+use Rattle.winnow.specs.Numeral.Texts.{NumberText}
 use Rattle.winnow.specs.Texts.{AtLeast, BothText, InList, Itself, Members, OptionalText, PartedText}
 use Rattle.winnow.specs.Texts.{Text}
 
@@ -13,8 +13,8 @@ abbrev pub Slice : Type 0
 Slice = Bor (List ℕ)
 
 -- number = what `{}` writes of a number below 2 ^ 64
-unfoldable pub Number : Text ℕ ℕ
-Number n bytes = (bytes ≡ decimal n) × (n < 2 ^ 64)
+abbrev pub Number : Text ℕ ℕ
+Number = NumberText (2 ^ 64)
 
 -- numbers = number "." number "." number
 abbrev pub Numbers : Text ℕ (ℕ × ℕ × ℕ)

@@ -9,14 +9,14 @@ use Rattle.streams.specs.Needed.{need_of}
 use Rattle.streams.specs.declared.needed.Needed.{Needed}
 use Rattle.grammars.specs.Grammar.{Grammar}
 use Rattle.grammars.specs.Grammar.Same.{Same}
-use Rattle.stream_errors.specs.Fault.{refused_inner}
+use Rattle.stream_errors.specs.Fault.{IsFaultAt, refused_inner}
 use Rattle.stream_errors.specs.declared.fault.ParseFault.{ParseFault}
 use Rattle.stream_errors.specs.declared.fault.ParseFault.TheVariants.{Invalid, Incomplete}
 use Rattle.winnow_core.specs.Exact.{FailsBy, IsExact}
 use Rattle.winnow_core.specs.Exact.Allowed.{Allowed, back_allowed}
 use Rattle.stream_errors.specs.Form.{inner_kind_of}
 use Rattle.winnow_core.specs.Exact.Failed.{not_memory}
-use Rattle.winnow_core.specs.Parse.{IsFaultAt, ParsesWhole}
+use Rattle.winnow_core.specs.Parse.{ParsesWhole}
 use Rattle.winnow_core.specs.Runs.{Runs}
 
 -- An error that is out of memory.

@@ -5,13 +5,13 @@ use Rattle.streams.specs.Equal.{same_some}
 use Rattle.streams.specs.Input.{Input}
 use Rattle.streams.specs.Kind.{Kind, backtrack, cut, incomplete, memory}
 use Rattle.streams.specs.declared.needed.Needed.{Needed}
-use Rattle.stream_errors.specs.Fault.{refused_inner, refused_offset}
+use Rattle.stream_errors.specs.Fault.{IsFaultAt, refused_inner, refused_offset}
 use Rattle.stream_errors.specs.Form.{ErrorForm, inner_kind_of}
 use Rattle.stream_errors.specs.declared.fault.ParseFault.{ParseFault}
 use Rattle.stream_errors.specs.declared.fault.ParseFault.TheVariants.{Invalid, Incomplete}
 use Rattle.winnow_core.specs.Exact.Whole.{IsWant}
 use Rattle.winnow_core.specs.Outcome.{Outcome, took, backs, cuts, asks, wants, outcome_of}
-use Rattle.winnow_core.specs.Parse.{IsFaultAt, ParsesWhole}
+use Rattle.winnow_core.specs.Parse.{ParsesWhole}
 use Rattle.winnow_core.specs.Runs.{Meaning}
 use Rattle.winnow_core.specs.Says.{Said, Says, Tells, setting_of, told}
 

@@ -1,6 +1,6 @@
 use Rattle.std.proofs.Common.{rules, [], ◌∷◌, ◌++◌, refl}
 use Rattle.winnow.specs.Form.{assert_kind}
-use Rattle.winnow.specs.Parse.{IsFaultAt}
+use Rattle.winnow.specs.Fault.{IsFaultAt}
 use Rattle.winnow.specs.ParseIter.{parse_iter_state}
 use Rattle.winnow.specs.ParseIter.Inversion.{parse_iter_all, parse_iter_more, parse_iter_refused}
 use Rattle.example_callers.proofs.items.last_of_all.Goals as goal

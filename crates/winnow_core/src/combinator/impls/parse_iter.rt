@@ -1,14 +1,13 @@
 //! The runs of a parser over all of an input, one by one, as an iterator.
 ghost use Rattle.std.specs.Iterator.{at_most};
 ghost use Rattle.std.specs.Prelude.{◌≡◌};
+ghost use Rattle.stream_errors.specs.Fault.{IsFaultAt};
 ghost use Rattle.stream_errors.specs.Form.{assert_kind};
-ghost use Rattle.winnow_core.specs.Parse.{IsFaultAt};
 ghost use Rattle.winnow_core.specs.ParseIter.{ParseIterNext, parse_iter_name, parse_iter_parser};
 ghost use Rattle.winnow_core.specs.ParseIter.{parse_iter_state, parse_iter_standing, IsReached};
 ghost use Rattle.winnow_core.specs.ParseIter.{reads, tokens_to_read};
 
 use crate::parser::Parser;
-use crate::parser::fault::fault_at;
 use std::marker::PhantomData;
 use stream_errors::fault::ParseFault;
 use stream_errors::parser_error::ParserError;
@@ -78,12 +77,12 @@ impl<'p, P: Parser<I, O, E>, I: Stream, O: Drop, E: ParserError<I>> ParseIter<'p
             Ok(output) => {
                 if input.eof_offset() == left {
                     let error = E::assert(&input, "each item must consume");
-                    return Some(Err(fault_at(input, start, error)));
+                    return Some(Err(ParseFault::at(input, start, error)));
                 }
                 self.unread = Some(Unread { input, start });
                 Some(Ok(output))
             }
-            Err(error) => Some(Err(fault_at(input, start, error))),
+            Err(error) => Some(Err(ParseFault::at(input, start, error))),
         }
     }
 }
