@@ -47,6 +47,7 @@ pub trait Folding<I: Stream, O, R, E: ParserError<I>> {
 }
 
 /// Creates a value and folds as many items into it as a range allows.
+#[inline(always)]
 pub(crate) fn fold_range<
     P: Parser<I, O, E>,
     G: FnMut() -> R,
@@ -73,6 +74,7 @@ pub(crate) fn fold_range<
 
 /// Creates a value and folds items into it: at least `least`, and at most `greatest` if there is a
 /// bound.
+#[inline(always)]
 fn fold_many<
     P: Parser<I, O, E>,
     G: FnMut() -> R,
@@ -107,6 +109,7 @@ fn fold_many<
 }
 
 /// Folds items into a value, at least `missing` and at most `room`.
+#[inline(always)]
 pub fn fold_items<
     P: Parser<I, O, E>,
     F: Folding<I, O, R, E>,

@@ -76,7 +76,7 @@ impl<F: Parser<I, O, E>, I: Location, O: Drop, E: ParserError<I>> Parser<I, Rang
       decided = λ form is. span_decided ((F.claimed s).decided form is);
     } };
 
-    #[inline]
+    #[inline(always)]
     fn parse_next(&mut self, input: &mut I) -> Result<Range<usize>, E> {
         let start = input.current_token_start();
         let _output = self.parser.parse_next(input)?;

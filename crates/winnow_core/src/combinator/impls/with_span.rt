@@ -78,7 +78,7 @@ impl<F: Parser<I, O, E>, I: Location, O, E: ParserError<I>> Parser<I, (O, Range<
       decided = λ form is. with_span_decided ((F.claimed s).decided form is);
     } };
 
-    #[inline]
+    #[inline(always)]
     fn parse_next(&mut self, input: &mut I) -> Result<(O, Range<usize>), E> {
         let start = input.current_token_start();
         let output = self.parser.parse_next(input)?;

@@ -146,6 +146,7 @@ impl<
           (P.leaves_ends form)) (fold_said G.step H.step s (P.said s.0)) form is;
     } };
 
+    #[inline(always)]
     fn parse_next(&mut self, input: &mut I) -> Result<R, E> {
         if self.occurrences.start_inclusive == 1 && self.occurrences.greatest().is_none() {
             fold_one(&mut self.parser, &mut self.init, &mut self.op, input)
@@ -178,6 +179,7 @@ impl<
 }
 
 /// Folds one or more items: the value is created after the first.
+#[inline(always)]
 fn fold_one<
     P: Parser<I, O, E>,
     G: FnMut() -> R,
