@@ -1,4 +1,4 @@
-//! Laws of parsers that one state and one input decide.
+//! Laws of stable parsers with specified outcomes.
 ghost use Rattle.std.specs.Prelude.{◌≡◌};
 ghost use Rattle.stream_errors.specs.Form.{modal};
 ghost use Rattle.winnow_grammar.specs.Longer.{NoOtherOnLonger};
@@ -7,11 +7,11 @@ use stream_errors::parser_error::ParserError;
 use streams::stream::Stream;
 use winnow_core::stable::Stable;
 
-/// If the result of a stable parser is a function of state and input, longer input gives no other
-/// result than partial input, unless out of memory: an equal output or an error of the same kind,
-/// the same state, and the rest followed by the added tokens. So the result does not depend on how
-/// the input is divided into chunks.
-pub fn deterministic_results_are_final<P: Stable<I, O, E>, I: Stream, O, E: ParserError<I>>()
-    ensures { E.form ≡ modal → (s : P.State) → (P.claim s).decides
-        → NoOtherOnLonger I.following s (P.meaning E.form) (P.claim s).alike }
+/// A final result of a stable parser with specified outcomes on partial input is also the result on
+/// every longer input, partial or complete, unless out of memory: an equal output or an error of
+/// the same kind, the same state, and the rest followed by the added tokens. So the result does not
+/// depend on how the input is divided into chunks.
+pub fn every_longer_input_gets_the_answer<P: Stable<I, O, E>, I: Stream, O, E: ParserError<I>>()
+    ensures { E.form ≡ modal → (s : P.State) → (P.says s).premise
+        → NoOtherOnLonger I.following s (P.meaning E.form) (P.says s).alike }
 {}

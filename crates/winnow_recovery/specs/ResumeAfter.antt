@@ -8,6 +8,7 @@ use Rattle.winnow_recovery.specs.Recovery.{CanRecover, IsNotRecovered, IsRecover
 use Rattle.winnow_recovery.specs.declared.combinator.impls.resume_after.ResumeAfter.{ResumeAfter}
 pub mod Inversion
 pub mod Laws
+pub mod Says
 
 -- the parser that is run
 abbrev pub resume_after_parser : {P R I O E : Type 0} → ResumeAfter P R I O E → P

@@ -9,6 +9,7 @@ use Rattle.winnow_recovery.specs.Recovery.{CanRecover, IsNotRecovered, IsRecover
 use Rattle.winnow_recovery.specs.declared.combinator.impls.retry_after.RetryAfter.{RetryAfter}
 pub mod Inversion
 pub mod Laws
+pub mod Says
 
 -- the parser that is tried
 abbrev pub retry_after_parser : {P R I O E : Type 0} → RetryAfter P R I O E → P

@@ -13,6 +13,7 @@ use Rattle.winnow_repeat.specs.declared.combinator.impls.fold.RepeatFold.{Repeat
 pub mod Exact
 pub mod Laws
 pub mod Says
+pub mod Tries
 
 -- how often the parser is run
 abbrev pub fold_occurrences : {P G H I O R E : Type 0} → RepeatFold P G H I O R E → Range

@@ -8,6 +8,7 @@ use Rattle.winnow_core.specs.Runs.{Runs}
 use Rattle.winnow_core.specs.TryMap.{TryMapSettles}
 use Rattle.winnow_repeat.specs.Fold.{RangedFoldMany}
 use Rattle.winnow_repeat.specs.declared.combinator.impls.try_fold.RepeatTryFold.{RepeatTryFold}
+pub mod Says
 
 -- how often the parser is run
 abbrev pub try_fold_occurrences : {P G H I O R E X : Type 0} → RepeatTryFold P G H I O R E X

@@ -8,6 +8,7 @@ use Rattle.winnow_repeat.specs.Fold.{RangedFoldMany}
 use Rattle.winnow_repeat.specs.declared.combinator.impls.verify_fold.RepeatVerifyFold.{
   RepeatVerifyFold,
 }
+pub mod Says
 
 -- how often the parser is run
 abbrev pub verify_fold_occurrences : {P G H I O R E : Type 0} → RepeatVerifyFold P G H I O R E

@@ -59,7 +59,7 @@ full_is_below greatest n e below =
     let less : n < n = subst P e below in absurd (omega (arith, less))
 
 -- what is no more than the greatest number is above each smaller one
-below_more : (greatest : Option ℕ) (n m : ℕ) → n < m → (greatest ≡ Some m) ⊎ IsBelow greatest m
+pub below_more : (greatest : Option ℕ) (n m : ℕ) → n < m → (greatest ≡ Some m) ⊎ IsBelow greatest m
     → IsBelow greatest n
 below_more greatest n m less (inl full) =
     let P : Option ℕ → Type 0 = λ g. IsBelow g n in subst P (sym full) less
@@ -124,7 +124,7 @@ Stay {T} {U} stable does =
 -- ---- laws of chains
 
 -- steps stay where more tokens follow
-steps_stay : {T O : Type 0} {stable : Type 0} {alike : O → O → Type 0} {step : Step T O}
+pub steps_stay : {T O : Type 0} {stable : Type 0} {alike : O → O → Type 0} {step : Step T O}
     → StepLaw stable alike step → stable
     → (more : List T) (flag : Bool) (outputs : List O) (tokens mid : List T)
     → FoldsTo (λ a o b. step on_cut a o b) tokens outputs mid

@@ -66,7 +66,7 @@ module _ {S H T O R : Type 0} (run : Runs S T O) (step : H → R → O → R →
       at_output P e (x, called, same)
 
   -- a chain of them is one of the parser, and the value is folded along it
-  chain_folds : (outputs : List O) (s : S) (r : R) (i : Input T) (u : S × (H × R)) (m : Input T)
+  pub chain_folds : (outputs : List O) (s : S) (r : R) (i : Input T) (u : S × (H × R)) (m : Input T)
       → FoldsTo (λ p o q. IsItem (FoldedRuns (FoldTakes step) run) p o q) ((s, (op, r)), i)
       outputs (u, m)
       → FoldsTo (λ p o q. IsItem run p o q) (s, i) outputs (u.0, m) × (u.1.0 ≡ op)
@@ -85,7 +85,7 @@ module _ {S H T O R : Type 0} (run : Runs S T O) (step : H → R → O → R →
       (((p.0.0, p.1), (x, item.1), runs), kept, (p.0.1.1, called, folds))
 
   -- a run that fails fails in the parser, and nothing is folded in
-  item_fails : (u : S × (H × R)) (m : Input T) (k : Kind) (t : S × (H × R)) (x : Input T)
+  pub item_fails : (u : S × (H × R)) (m : Input T) (k : Kind) (t : S × (H × R)) (x : Input T)
       → FoldedRuns (FoldTakes step) run u m (Err k) t x
       → run u.0 m (Err k) t.0 x × (t.1 ≡ u.1)
   item_fails u m k t x (inl (l, r, same, e)) =
@@ -94,7 +94,7 @@ module _ {S H T O R : Type 0} (run : Runs S T O) (step : H → R → O → R →
   item_fails u m k t x (inr (inr (p, r, less, folds, e))) = ok_is_err e refl
 
   -- one that consumes nothing consumes nothing in the parser
-  item_stays : (u : S × (H × R)) (m : Input T) (o : O) (t : S × (H × R)) (x : Input T)
+  pub item_stays : (u : S × (H × R)) (m : Input T) (o : O) (t : S × (H × R)) (x : Input T)
       → FoldedRuns (FoldTakes step) run u m (Ok o) t x → x.left.tokens ≡ m.left.tokens
       → run u.0 m (Ok o) t.0 x × (t.1 ≡ u.1)
   item_stays u m o t x (inl (k, r, same, e)) as_many = ok_is_err refl e
@@ -204,7 +204,7 @@ module _ {S G H T O R : Type 0} (run : Runs S T O) (starts : G → R → G → T
     (making : StaysMaking starts init) (step : H → R → O → R → H → Type 0) (op : H)
     (again : StaysFolding step op) (asserted : Kind) where
   -- a value to begin with is made by what makes it again
-  begun : (value : R) (h : G) → starts init value h → starts init value init × (h ≡ init)
+  pub begun : (value : R) (h : G) → starts init value h → starts init value init × (h ≡ init)
   begun value h made =
       let P : G → Type 0 = λ x. starts init value x in
       let same = making value h made in

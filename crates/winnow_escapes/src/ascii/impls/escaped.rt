@@ -7,7 +7,7 @@ ghost use Rattle.winnow_escapes.specs.Escaped.{EscapedRuns, escaped_control, esc
 ghost use Rattle.winnow_escapes.specs.Escaped.{escaped_normal, turns_kept};
 ghost use Rattle.winnow_escapes.specs.Escaped.Laws.{escaped_ends, escaped_grows};
 ghost use Rattle.winnow_core.specs.Claim.{no_claim, nothing_claimed};
-ghost use Rattle.winnow_core.specs.Says.{nothing_done, nothing_said};
+ghost use Rattle.winnow_escapes.specs.Escaped.Says.{escaped_said, escaped_says};
 
 use crate::ascii::turns::read_turns;
 use crate::stable::SettledControl;
@@ -79,7 +79,9 @@ impl<
         (turns_kept ⟦<C as Accumulate<O, A>>⟧.accumulator ⟦<C as Accumulate<P, A>>⟧.accumulator)
         (assert_kind form) (incomplete_kind form None) };
 
-    ghost says = { λ _. nothing_said };
+    ghost says = { λ s. escaped_says
+        (turns_kept ⟦<C as Accumulate<O, A>>⟧.accumulator ⟦<C as Accumulate<P, A>>⟧.accumulator)
+        (N.says s.0) (K.says s.1) (X.says s.2) };
 
     ghost claim = { λ _. no_claim };
 
@@ -89,7 +91,9 @@ impl<
         (assert_kind form) (incomplete_kind form None) (N.leaves_ends form)
         (K.leaves_ends plain) (X.leaves_ends form) };
 
-    ghost said = { λ _. nothing_done };
+    ghost said = { λ s. escaped_said
+        (turns_kept ⟦<C as Accumulate<O, A>>⟧.accumulator ⟦<C as Accumulate<P, A>>⟧.accumulator)
+        s (N.said s.0) (K.said s.1) (X.said s.2) };
 
     ghost claimed = { λ _. nothing_claimed };
 

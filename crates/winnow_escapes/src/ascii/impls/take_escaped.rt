@@ -10,7 +10,8 @@ ghost use Rattle.winnow_escapes.specs.TakeEscaped.{take_escaped_control, take_es
 ghost use Rattle.winnow_escapes.specs.TakeEscaped.{take_escaped_normal};
 ghost use Rattle.winnow_escapes.specs.TakeEscaped.Laws.{take_escaped_ends};
 ghost use Rattle.winnow_core.specs.Claim.{no_claim, nothing_claimed};
-ghost use Rattle.winnow_core.specs.Says.{nothing_done, nothing_said};
+ghost use Rattle.winnow_core.specs.Take.Says.{take_said, take_says};
+ghost use Rattle.winnow_escapes.specs.Escaped.Says.{escaped_said, escaped_says};
 
 use crate::ascii::impls::Escaped;
 use crate::stable::SettledControl;
@@ -85,7 +86,8 @@ impl<
     ghost meaning = { λ form. TakeEscapedRuns I.reading (N.meaning form) (K.meaning plain)
         (X.meaning form) (assert_kind form) (incomplete_kind form None) };
 
-    ghost says = { λ _. nothing_said };
+    ghost says = { λ s. take_says I.reading
+        (escaped_says no_turns_kept (N.says s.0) (K.says s.1) (X.says s.2)) };
 
     ghost claim = { λ _. no_claim };
 
@@ -93,7 +95,8 @@ impl<
         (X.meaning form) (assert_kind form) (incomplete_kind form None) (N.leaves_ends form)
         (K.leaves_ends plain) (X.leaves_ends form) };
 
-    ghost said = { λ _. nothing_done };
+    ghost said = { λ s. take_said I.reading
+        (escaped_said no_turns_kept s (N.said s.0) (K.said s.1) (X.said s.2)) };
 
     ghost claimed = { λ _. nothing_claimed };
 

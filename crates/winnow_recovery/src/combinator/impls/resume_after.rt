@@ -9,7 +9,7 @@ ghost use Rattle.winnow_recovery.specs.ResumeAfter.Laws.{resume_after_ends};
 ghost use Rattle.winnow_recovery.specs.ResumeAfter.{ResumeAfterRuns, ResumeRuns};
 ghost use Rattle.winnow_recovery.specs.ResumeAfter.{resume_after_parser, resume_after_recover};
 ghost use Rattle.winnow_core.specs.Claim.{no_claim, nothing_claimed};
-ghost use Rattle.winnow_core.specs.Says.{nothing_done, nothing_said};
+ghost use Rattle.winnow_recovery.specs.ResumeAfter.Says.{resume_after_said, resume_after_says};
 
 use crate::combinator::{can_recover, recover_from};
 use std::marker::PhantomData;
@@ -80,14 +80,14 @@ impl<
 
     ghost meaning = { λ form. ResumeAfterRuns (P.meaning form) (R.meaning form) };
 
-    ghost says = { λ _. nothing_said };
+    ghost says = { λ s. resume_after_says s.2 (P.says s.0) };
 
     ghost claim = { λ _. no_claim };
 
     ghost leaves_ends = { λ form. resume_after_ends I.reading (P.meaning form) (R.meaning form)
         (P.leaves_ends form) (R.leaves_ends form) };
 
-    ghost said = { λ _. nothing_done };
+    ghost said = { λ s. resume_after_said R.meaning s (P.said s.0) };
 
     ghost claimed = { λ _. nothing_claimed };
 

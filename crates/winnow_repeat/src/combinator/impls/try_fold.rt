@@ -9,7 +9,7 @@ ghost use Rattle.winnow_repeat.specs.Fold.Laws.{ranged_fold_many_ends, fold_any_
 ghost use Rattle.winnow_repeat.specs.TryFold.{TryFoldRuns, TryFoldTakes, try_fold_closure};
 ghost use Rattle.winnow_repeat.specs.TryFold.{try_fold_init, try_fold_occurrences, try_fold_parser};
 ghost use Rattle.winnow_core.specs.Claim.{no_claim, nothing_claimed};
-ghost use Rattle.winnow_core.specs.Says.{nothing_done, nothing_said};
+ghost use Rattle.winnow_repeat.specs.TryFold.Says.{try_fold_said, try_fold_says};
 
 use crate::combinator::folding::{Folding, fold_range};
 use std::marker::PhantomData;
@@ -123,14 +123,14 @@ impl<
 
     ghost meaning = { λ form. TryFoldRuns G.step H.step (P.meaning form) (assert_kind form) };
 
-    ghost says = { λ _. nothing_said };
+    ghost says = { λ s. try_fold_says G.step H.step s.1 (P.says s.0) };
 
     ghost claim = { λ _. no_claim };
 
     ghost leaves_ends = { λ form. ranged_fold_many_ends I.reading G.step
         (TryFoldTakes H.step) (P.meaning form) (assert_kind form) (P.leaves_ends form) };
 
-    ghost said = { λ _. nothing_done };
+    ghost said = { λ s. try_fold_said G.step H.step s (P.said s.0) };
 
     ghost claimed = { λ _. nothing_claimed };
 

@@ -9,7 +9,7 @@ ghost use Rattle.winnow_repeat.specs.VerifyFold.{VerifyFoldRuns, VerifyFoldTakes
 ghost use Rattle.winnow_repeat.specs.VerifyFold.{verify_fold_closure, verify_fold_init};
 ghost use Rattle.winnow_repeat.specs.VerifyFold.{verify_fold_occurrences, verify_fold_parser};
 ghost use Rattle.winnow_core.specs.Claim.{no_claim, nothing_claimed};
-ghost use Rattle.winnow_core.specs.Says.{nothing_done, nothing_said};
+ghost use Rattle.winnow_repeat.specs.VerifyFold.Says.{verify_fold_said, verify_fold_says};
 
 use crate::combinator::folding::{Folding, fold_range};
 use std::marker::PhantomData;
@@ -110,14 +110,14 @@ impl<
 
     ghost meaning = { λ form. VerifyFoldRuns G.step H.step (P.meaning form) (assert_kind form) };
 
-    ghost says = { λ _. nothing_said };
+    ghost says = { λ s. verify_fold_says G.step H.step s.1 (P.says s.0) };
 
     ghost claim = { λ _. no_claim };
 
     ghost leaves_ends = { λ form. ranged_fold_many_ends I.reading G.step
         (VerifyFoldTakes H.step) (P.meaning form) (assert_kind form) (P.leaves_ends form) };
 
-    ghost said = { λ _. nothing_done };
+    ghost said = { λ s. verify_fold_said G.step H.step s (P.said s.0) };
 
     ghost claimed = { λ _. nothing_claimed };
 
