@@ -3,7 +3,7 @@ ghost use Rattle.std.specs.Prelude.{◌≡◌, true};
 ghost use Rattle.stream_errors.specs.Form.{answer_by, modal};
 ghost use Rattle.winnow_grammar.specs.ForGood.{HasFinalResults};
 
-use crate::laws::every_longer_input_gets_the_answer;
+use crate::laws::longer_inputs_get_partial_results;
 use stream_errors::parser_error::ParserError;
 use streams::stream::Stream;
 use winnow_core::parser::Parser;
@@ -30,6 +30,6 @@ pub fn parse_for_good<P: Stable<I, O, E>, I: Stream, O, E: ParserError<I>>(
         (P.says (P.state parser.old)).alike (I.view input.old) (answer_by E.kind result)
         (I.view input.new) }
 {
-    every_longer_input_gets_the_answer::<P, I, O, E>();
+    longer_inputs_get_partial_results::<P, I, O, E>();
     parser.parse_next(input)
 }

@@ -11,7 +11,7 @@ use winnow_core::stable::Stable;
 /// every longer input, partial or complete, unless out of memory: an equal output or an error of
 /// the same kind, the same state, and the rest followed by the added tokens. So the result does not
 /// depend on how the input is divided into chunks.
-pub fn every_longer_input_gets_the_answer<P: Stable<I, O, E>, I: Stream, O, E: ParserError<I>>()
+pub fn longer_inputs_get_partial_results<P: Stable<I, O, E>, I: Stream, O, E: ParserError<I>>()
     ensures { E.form ≡ modal → (s : P.State) → (P.says s).premise
         → NoOtherOnLonger I.following s (P.meaning E.form) (P.says s).alike }
 {}

@@ -3,5 +3,5 @@ use Rattle.winnow_grammar.proofs.for_good.parse_for_good.Goals as goal
 
 pub returns-clause-for_good : goal.returns-clause-for_good
 returns-clause-for_good g c = for_good _
-    (c.every_longer_input_gets_the_answer.ensures c.requires.modal _ c.requires.premise)
+    (c.longer_inputs_get_partial_results.ensures c.requires.modal _ c.requires.premise)
     c.requires.is_cut c.parse_next.ensures.ran
