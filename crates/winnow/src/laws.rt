@@ -36,7 +36,9 @@ pub use winnow_expression_trees::laws::parts::{
 pub use winnow_expression_trees::laws::{
     Likeness, assert_rules_leave_no_tree, expression_is_unambiguous, tree_is_unique,
 };
-pub use winnow_grammar::laws::deterministic_results_are_final;
+pub use winnow_grammar::laws::{
+    a_specified_answer_stays_on_longer_inputs, deterministic_results_are_final,
+};
 pub use winnow_integers::laws::little_endian_is_big_endian_of_the_reversed_bytes;
 pub use winnow_laws::laws::calls_match_their_derivations;
 pub use winnow_laws::laws::compositions::{

@@ -15,3 +15,18 @@ pub fn deterministic_results_are_final<P: Stable<I, O, E>, I: Stream, O, E: Pars
     ensures { E.form ≡ modal → (s : P.State) → (P.claim s).decides
         → NoOtherOnLonger I.following s (P.meaning E.form) (P.claim s).alike }
 {}
+
+/// The same for a stable parser with specified outcomes, also if its specification does not say by
+/// itself that they are stable.
+///
+/// So it covers `bits` and `bytes`: `bits` is stable only as long as all bits can be counted, and
+/// `bytes` only if whole bytes follow.
+pub fn a_specified_answer_stays_on_longer_inputs<
+    P: Stable<I, O, E>,
+    I: Stream,
+    O,
+    E: ParserError<I>,
+>()
+    ensures { E.form ≡ modal → (s : P.State) → (P.says s).premise
+        → NoOtherOnLonger I.following s (P.meaning E.form) (P.says s).alike }
+{}
