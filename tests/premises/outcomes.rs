@@ -1,8 +1,10 @@
-//! Times and their errors, on complete and partial input.
+//! Times, headers of bits, and their errors, on complete and partial input.
+use example_callers::outcomes::{flag_and_byte, header_in_pieces, header_of_bytes};
 use example_callers::outcomes::{time_in_pieces, time_of_bytes};
 use std::process::Abort;
 use winnow::Parser;
 use winnow::ascii::impls::Digit1;
+use winnow::binary::bits::impls::Bits;
 use winnow::error::{EmptyError, ErrMode, Needed, ParseFault};
 use winnow::stream::Partial;
 
@@ -61,4 +63,41 @@ fn digits_of_all_bytes_by_outcome(rt: HostRuntime) {
             Parser::<_, _, ErrMode<EmptyError>>::parse_outcome(&mut Digit1, text);
         assert!(rt; matches!(fault, Err(ParseFault::Invalid(it)) if it.offset() == offset));
     }
+}
+
+#[test]
+fn header_of_whole_bytes(rt: HostRuntime) {
+    let mut input = b"\xAB\xCD\x01".as_slice();
+    assert_eq!(rt; header_of_bytes(&mut input), Ok((2, true, 0xBCD)));
+    assert_eq!(rt; input, b"\x01".as_slice());
+    for text in [b"\x2B\xCD".as_slice(), b"\xAB", b""] {
+        let mut input = text;
+        assert!(rt; matches!(header_of_bytes(&mut input), Err(ErrMode::Backtrack(_))));
+        assert_eq!(rt; input, text);
+    }
+}
+
+#[test]
+fn header_of_pieces(rt: HostRuntime) {
+    for (text, need) in [(b"\xAB".as_slice(), 2), (b"", 1)] {
+        let mut input = Partial::new(text);
+        let answer = header_in_pieces(&mut input);
+        assert_eq!(rt; answer, Err(ErrMode::Incomplete(Needed::new(need))));
+        assert_eq!(rt; *input.as_inner(), text);
+    }
+    let mut input = Partial::new(b"\x2B".as_slice());
+    assert!(rt; matches!(header_in_pieces(&mut input), Err(ErrMode::Backtrack(_))));
+    let mut input = Partial::new(b"\xAB\xCD".as_slice());
+    assert_eq!(rt; header_in_pieces(&mut input), Ok((2, true, 0xBCD)));
+}
+
+#[test]
+fn flag_and_byte_of_bits(rt: HostRuntime) {
+    let mut input = Bits(b"\xAB\xCD\x01".as_slice(), 2);
+    let answer = flag_and_byte::<_, ErrMode<EmptyError>, ErrMode<EmptyError>>(&mut input);
+    assert_eq!(rt; answer, Ok((true, 0xCD)));
+    assert_eq!(rt; input, Bits(b"\x01".as_slice(), 0));
+    let mut input = Bits(Partial::new(b"\xAB".as_slice()), 0);
+    let answer = flag_and_byte::<_, ErrMode<EmptyError>, ErrMode<EmptyError>>(&mut input);
+    assert_eq!(rt; answer, Err(ErrMode::Incomplete(Needed::new(8))));
 }

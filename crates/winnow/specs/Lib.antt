@@ -235,6 +235,7 @@ pub use Rattle.winnow_bits.specs.BitsOfBytes
 pub use Rattle.winnow_bits.specs.BytesOfBits
 pub use Rattle.winnow_bits.specs.InParts
 pub use Rattle.winnow_bits.specs.Needs
+pub use Rattle.winnow_bits.specs.Unreadable
 -- Operator expressions: operands with prefix, postfix and infix operators between them, joined by
 -- the powers of the operators.
 pub use Rattle.winnow_expression.specs.Calls

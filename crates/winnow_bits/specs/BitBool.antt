@@ -6,13 +6,14 @@ use Rattle.streams.specs.Reading.{Reading}
 use Rattle.stream_errors.specs.Form.{Answer, ErrorForm, assert_kind}
 use Rattle.winnow_core.specs.Short.{ShortKind}
 pub mod Laws
+pub mod Says
 
 -- A run of the parser of one bit.
 abbrev pub BitBoolRuns : {S : Type 0} → Reading Bool S → ErrorForm → Input Bool → Answer Bool
     → Input Bool → Type 0
 BitBoolRuns reading form i answer j =
     -- the first bit is taken
-    ((b : Bool) × Passes reading (b ∷ []) i j × (answer ≡ Ok b))
+    ((b : Bool) × (i.left.possible ≡ true) × Passes reading (b ∷ []) i j × (answer ≡ Ok b))
     -- the place cannot be read
     ⊎ (((i.left.possible ≡ false) × (answer ≡ Err (assert_kind form)) × (j ≡ i))
     -- no bit remains: an error, or `Incomplete` on partial input

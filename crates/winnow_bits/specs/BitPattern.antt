@@ -7,6 +7,7 @@ use Rattle.stream_errors.specs.Form.{Answer, ErrorForm}
 use Rattle.winnow_bits.specs.BitTake.{BitTakeRuns}
 use Rattle.winnow_bits.specs.declared.bits.impls.pattern.Pattern.{Pattern}
 pub mod Laws
+pub mod Says
 
 -- what the bits must be
 abbrev pub bit_pattern_value : {I O E : Type 0} → Pattern I O E → O

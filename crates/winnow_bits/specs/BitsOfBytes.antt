@@ -12,6 +12,7 @@ use Rattle.winnow_bits.specs.Needs.{need_in_bytes, with_need}
 use Rattle.winnow_bits.specs.declared.bits.impls.bits.BitsParser.{BitsParser}
 pub mod Inversion
 pub mod Laws
+pub mod Says
 
 -- the parser that is run
 abbrev pub bits_parser : {P I O E F : Type 0} → BitsParser P I O E F → P

@@ -13,6 +13,7 @@ use Rattle.winnow_core.specs.Runs.{Runs}
 use Rattle.winnow_bits.specs.Needs.{need_in_bits, with_need}
 use Rattle.winnow_bits.specs.declared.bits.impls.bytes.Bytes.{Bytes}
 pub mod Laws
+pub mod Says
 
 -- the parser that is run
 abbrev pub bytes_parser : {P I O E F : Type 0} → Bytes P I O E F → P

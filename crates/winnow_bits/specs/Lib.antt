@@ -8,3 +8,4 @@ pub mod BytesOfBits
 pub mod InParts
 pub mod LongerBits
 pub mod Needs
+pub mod Unreadable

@@ -19,6 +19,7 @@ use Rattle.winnow_expression.specs.declared.combinator.places.Next.TheVariants.{
 }
 use Rattle.winnow_expression.specs.declared.combinator.places.Next.TheVariants.{Infix as infix_read}
 pub mod Laws
+pub mod Says
 
 -- An operand, and where that backtracks, back at its beginning, a prefix.
 abbrev pub FirstRuns : {S W T V F : Type 0} → Runs S T V → Runs W T (Prefix F)
@@ -32,13 +33,11 @@ FirstRuns {S} {W} {T} {V} {F} operand prefix s i answer t j =
     ⊎ ((m : Input T) × (kind : Kind) × operand s.0 i (Err backtrack) t.0 m
     × prefix s.1 (back_at i.left m) (Err kind) t.1 j × (answer ≡ Err kind))))
 
--- No operator if no unit remains. Otherwise a postfix, or, if that backtracks, an infix from the
--- same offset. No operator if both backtrack.
-abbrev pub NextRuns : {S W T G H : Type 0} → (List T → ℕ) → Runs S T (Postfix G)
-    → Runs W T (Infix H) → Runs (S × W) T (Next G H)
-NextRuns {S} {W} {T} {G} {H} units postfix infix_ s i answer t j =
-    ((units_left units i ≡ 0) × (answer ≡ Ok Nothing) × (t ≡ s) × (j ≡ i))
-    ⊎ ((0 < units_left units i) × (((p : Postfix G) × postfix s.0 i (Ok p) t.0 j × (t.1 ≡ s.1)
+-- A postfix, or, if that backtracks, an infix from the same offset. No operator if both backtrack.
+abbrev pub SomeRuns : {S W T G H : Type 0} → Runs S T (Postfix G) → Runs W T (Infix H)
+    → Runs (S × W) T (Next G H)
+SomeRuns {S} {W} {T} {G} {H} postfix infix_ s i answer t j =
+    ((p : Postfix G) × postfix s.0 i (Ok p) t.0 j × (t.1 ≡ s.1)
     × (answer ≡ Ok (postfix_read p.0 p.1)))
     ⊎ (((kind : Kind) × postfix s.0 i (Err kind) t.0 j × (kind ≡ backtrack → ⊥) × (t.1 ≡ s.1)
     × (answer ≡ Err kind))
@@ -47,4 +46,11 @@ NextRuns {S} {W} {T} {G} {H} units postfix infix_ s i answer t j =
     ⊎ (((kind : Kind) × infix_ s.1 (back_at i.left m) (Err kind) t.1 j × (kind ≡ backtrack → ⊥)
     × (answer ≡ Err kind))
     ⊎ ((n : Input T) × infix_ s.1 (back_at i.left m) (Err backtrack) t.1 n
-    × (j ≡ back_at i.left n) × (answer ≡ Ok Nothing))))))))
+    × (j ≡ back_at i.left n) × (answer ≡ Ok Nothing))))))
+
+-- No operator if no unit remains.
+abbrev pub NextRuns : {S W T G H : Type 0} → (List T → ℕ) → Runs S T (Postfix G)
+    → Runs W T (Infix H) → Runs (S × W) T (Next G H)
+NextRuns units postfix infix_ s i answer t j =
+    ((units_left units i ≡ 0) × (answer ≡ Ok Nothing) × (t ≡ s) × (j ≡ i))
+    ⊎ ((0 < units_left units i) × SomeRuns postfix infix_ s i answer t j)

@@ -13,7 +13,8 @@ use Rattle.winnow_core.specs.Stable.Longer.{passes_more, same_more, short_final}
 pub bit_bool_ends : {L : Type 0} (reading : Reading Bool L) (form : ErrorForm) (i : Input Bool)
     (answer : Answer Bool) (j : Input Bool) → BitBoolRuns reading form i answer j
     → IsEndOf reading j i
-bit_bool_ends reading form i answer j (inl (b, passes, e)) = passes_end passes
+bit_bool_ends reading form i answer j (inl (b, can, passes, e)) =
+    passes_end passes
 bit_bool_ends reading form i answer j (inr (inl (cannot, e, same))) = same_ends reading i j same
 bit_bool_ends reading form i answer j (inr (inr (k, possible, none, kind, e, same))) =
     same_ends reading i j same
@@ -21,8 +22,8 @@ bit_bool_ends reading form i answer j (inr (inr (k, possible, none, kind, e, sam
 module _ {L : Type 0} (reading : Reading Bool L) where
   -- one bit
   pub bit_bool_stays : Stays (BitBoolRuns reading modal)
-  bit_bool_stays more flag i answer j is_cut final (inl (b, passes, e)) =
-      inl (b, passes_more more flag passes, e)
+  bit_bool_stays more flag i answer j is_cut final (inl (b, can, passes, e)) =
+      inl (b, can, passes_more more flag passes, e)
   bit_bool_stays more flag i answer j is_cut final (inr (inl (cannot, e, same))) =
       inr (inl (cannot, e, same_more more flag same))
   bit_bool_stays more flag i answer j is_cut final

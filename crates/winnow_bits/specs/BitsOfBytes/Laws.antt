@@ -52,7 +52,7 @@ bits_of_bytes_ends reading form run ends s i answer t j (inr (inr (inr (many, ke
     same_ends reading i j same
 
 -- bytes are known by their bits
-same_bytes : (xs ys : List ℕ) → All (λ b. b < 256) xs → All (λ b. b < 256) ys
+pub same_bytes : (xs ys : List ℕ) → All (λ b. b < 256) xs → All (λ b. b < 256) ys
     → bits_of xs ≡ bits_of ys → xs ≡ ys
 same_bytes [] [] known others e = refl
 same_bytes [] (y ∷ ys) known others e =

@@ -7,8 +7,8 @@ ghost use Rattle.winnow_expression.specs.Operators.{IsInfixClone, IsPostfixClone
 ghost use Rattle.winnow_expression.specs.Operators.{OperatorRuns, fold_of, left_power};
 ghost use Rattle.winnow_expression.specs.Operators.{neither_power, right_power};
 ghost use Rattle.winnow_expression.specs.Operators.Laws.{operator_ends, operator_stays};
+ghost use Rattle.winnow_expression.specs.Operators.Says.{operator_said, operator_says};
 ghost use Rattle.winnow_core.specs.Claim.{no_claim, nothing_claimed};
-ghost use Rattle.winnow_core.specs.Says.{nothing_done, nothing_said};
 
 use stream_errors::parser_error::ParserError;
 use streams::stream::Stream;
@@ -125,7 +125,7 @@ impl<I: Stream, F: Clone, E: ParserError<I>> Parser<I, Prefix<F>, E> for Prefix<
     ghost meaning = { λ _. Keeps
         (OperatorRuns (IsPrefixClone F.is_clone) (λ s. F.is_infallible s.1)) };
 
-    ghost says = { λ _. nothing_said };
+    ghost says = { operator_says (IsPrefixClone F.is_clone) (λ s. F.is_infallible s.1) };
 
     ghost claim = { λ _. no_claim };
 
@@ -133,7 +133,7 @@ impl<I: Stream, F: Clone, E: ParserError<I>> Parser<I, Prefix<F>, E> for Prefix<
         (IsPrefixClone F.is_clone)
         (λ s. F.is_infallible s.1) s i answer j r.0 };
 
-    ghost said = { λ _. nothing_done };
+    ghost said = { operator_said (IsPrefixClone F.is_clone) (λ s. F.is_infallible s.1) };
 
     ghost claimed = { λ _. nothing_claimed };
 
@@ -154,7 +154,7 @@ impl<I: Stream, F: Clone, E: ParserError<I>> Parser<I, Postfix<F>, E> for Postfi
     ghost meaning = { λ _. Keeps
         (OperatorRuns (IsPostfixClone F.is_clone) (λ s. F.is_infallible s.1)) };
 
-    ghost says = { λ _. nothing_said };
+    ghost says = { operator_says (IsPostfixClone F.is_clone) (λ s. F.is_infallible s.1) };
 
     ghost claim = { λ _. no_claim };
 
@@ -162,7 +162,7 @@ impl<I: Stream, F: Clone, E: ParserError<I>> Parser<I, Postfix<F>, E> for Postfi
         (IsPostfixClone F.is_clone)
         (λ s. F.is_infallible s.1) s i answer j r.0 };
 
-    ghost said = { λ _. nothing_done };
+    ghost said = { operator_said (IsPostfixClone F.is_clone) (λ s. F.is_infallible s.1) };
 
     ghost claimed = { λ _. nothing_claimed };
 
@@ -183,14 +183,14 @@ impl<I: Stream, F: Clone, E: ParserError<I>> Parser<I, Infix<F>, E> for Infix<F>
     ghost meaning = { λ _. Keeps
         (OperatorRuns (IsInfixClone F.is_clone) (λ s. F.is_infallible (fold_of s))) };
 
-    ghost says = { λ _. nothing_said };
+    ghost says = { operator_says (IsInfixClone F.is_clone) (λ s. F.is_infallible (fold_of s)) };
 
     ghost claim = { λ _. no_claim };
 
     ghost leaves_ends = { λ form s i answer t j r. operator_ends I.reading (IsInfixClone F.is_clone)
         (λ s. F.is_infallible (fold_of s)) s i answer j r.0 };
 
-    ghost said = { λ _. nothing_done };
+    ghost said = { operator_said (IsInfixClone F.is_clone) (λ s. F.is_infallible (fold_of s)) };
 
     ghost claimed = { λ _. nothing_claimed };
 
@@ -224,7 +224,7 @@ impl<I: Stream, F: Clone, E: ParserError<I>> Stable<I, Infix<F>, E> for Infix<F>
     fn stay() {}
 }
 
-/// A clone of an operator; none where a request for memory was refused to the clone of its fold.
+/// Clones an operator. Returns `None` if cloning its fold fails to allocate.
 fn infix_clone<F: Clone>(operator: &Infix<F>) -> Option<Infix<F>>
     ensures { MatchOption result (¬ (F.is_infallible (fold_of operator.now)))
         (λ o. IsInfixClone F.is_clone operator.now o) }

@@ -1,8 +1,8 @@
 //! The places of operands and of operators.
 ghost use Rattle.winnow_expression.specs.Places.{FirstRuns, NextRuns};
 ghost use Rattle.winnow_expression.specs.Places.Laws.{first_ends, next_ends};
+ghost use Rattle.winnow_expression.specs.Places.Says.{first_said, first_says, next_said, next_says};
 ghost use Rattle.winnow_core.specs.Claim.{no_claim, nothing_claimed};
-ghost use Rattle.winnow_core.specs.Says.{nothing_done, nothing_said};
 
 use crate::combinator::operators::{Infix, Postfix, Prefix};
 use stream_errors::parser_error::ParserError;
@@ -51,14 +51,14 @@ impl<I: Stream, O, E: ParserError<I>, F, P: Parser<I, O, E>, R: Parser<I, Prefix
 
     ghost meaning = { λ form. FirstRuns (P.meaning form) (R.meaning form) };
 
-    ghost says = { λ _. nothing_said };
+    ghost says = { λ s. first_says (P.says s.0) (R.says s.1) };
 
     ghost claim = { λ _. no_claim };
 
     ghost leaves_ends = { λ form. first_ends I.reading (P.meaning form) (R.meaning form)
         (P.leaves_ends form) (R.leaves_ends form) };
 
-    ghost said = { λ _. nothing_done };
+    ghost said = { λ s. first_said (P.said s.0) (R.said s.1) };
 
     ghost claimed = { λ _. nothing_claimed };
 
@@ -95,14 +95,14 @@ impl<
 
     ghost meaning = { λ form. NextRuns I.reading.units (P.meaning form) (R.meaning form) };
 
-    ghost says = { λ _. nothing_said };
+    ghost says = { λ s. next_says I.reading.units (P.says s.0) (R.says s.1) };
 
     ghost claim = { λ _. no_claim };
 
     ghost leaves_ends = { λ form. next_ends I.reading (P.meaning form) (R.meaning form)
         (P.leaves_ends form) (R.leaves_ends form) };
 
-    ghost said = { λ _. nothing_done };
+    ghost said = { λ s. next_said I.reading.units (P.said s.0) (R.said s.1) };
 
     ghost claimed = { λ _. nothing_claimed };
 

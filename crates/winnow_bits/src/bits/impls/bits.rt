@@ -2,8 +2,8 @@
 ghost use Rattle.stream_errors.specs.Form.{modal};
 ghost use Rattle.winnow_bits.specs.BitsOfBytes.{BitsOfBytesRuns};
 ghost use Rattle.winnow_bits.specs.BitsOfBytes.Laws.{bits_of_bytes_ends, bits_of_bytes_stays};
+ghost use Rattle.winnow_bits.specs.BitsOfBytes.Says.{bits_said, bits_says};
 ghost use Rattle.winnow_core.specs.Claim.{no_claim, nothing_claimed};
-ghost use Rattle.winnow_core.specs.Says.{nothing_done, nothing_said};
 
 use crate::bits::whole::{in_bytes, whole_bytes};
 use std::marker::PhantomData;
@@ -46,14 +46,14 @@ impl<
 
     ghost meaning = { λ form. BitsOfBytesRuns I.reading form (P.meaning form) };
 
-    ghost says = { λ _. nothing_said };
+    ghost says = { λ s. bits_says (P.says s) };
 
     ghost claim = { λ _. no_claim };
 
     ghost leaves_ends = { λ form. bits_of_bytes_ends I.reading form (P.meaning form)
         (P.leaves_ends form) };
 
-    ghost said = { λ _. nothing_done };
+    ghost said = { λ s. bits_said I.reading (P.said s) };
 
     ghost claimed = { λ _. nothing_claimed };
 

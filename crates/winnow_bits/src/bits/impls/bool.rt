@@ -4,10 +4,10 @@ ghost use Rattle.stream_bits.specs.BitInput.{bits_follow};
 ghost use Rattle.stream_bits.specs.BitReading.{bits_reading};
 ghost use Rattle.winnow_bits.specs.BitBool.{BitBoolRuns};
 ghost use Rattle.winnow_bits.specs.BitBool.Laws.{bit_bool_ends, bit_bool_stays};
+ghost use Rattle.winnow_bits.specs.BitBool.Says.{bit_bool_said, bit_bool_says};
 ghost use Rattle.winnow_core.specs.Runs.{Keeps};
 ghost use Rattle.winnow_core.specs.Stable.Grows.{leaf_stays};
 ghost use Rattle.winnow_core.specs.Claim.{no_claim, nothing_claimed};
-ghost use Rattle.winnow_core.specs.Says.{nothing_done, nothing_said};
 
 use crate::bits;
 use stream_bits::bits::Bits;
@@ -35,14 +35,14 @@ impl<I: ByteStream + StreamIsPartial, E: ParserError<Bits<I>>> Parser<Bits<I>, b
 
     ghost meaning = { λ form. Keeps (λ _. BitBoolRuns (bits_reading I.reading) form) };
 
-    ghost says = { λ _. nothing_said };
+    ghost says = { λ _. bit_bool_says };
 
     ghost claim = { λ _. no_claim };
 
     ghost leaves_ends = { λ form x i answer y j r.
         bit_bool_ends (bits_reading I.reading) form i answer j r.0 };
 
-    ghost said = { λ _. nothing_done };
+    ghost said = { λ _. bit_bool_said (bits_reading I.reading) };
 
     ghost claimed = { λ _. nothing_claimed };
 

@@ -3,8 +3,8 @@ ghost use Rattle.stream_bits.specs.BitReading.{bits_reading};
 ghost use Rattle.stream_errors.specs.Form.{modal};
 ghost use Rattle.winnow_bits.specs.BytesOfBits.{BytesOfBitsRuns};
 ghost use Rattle.winnow_bits.specs.BytesOfBits.Laws.{bytes_of_bits_ends, bytes_of_bits_stays};
+ghost use Rattle.winnow_bits.specs.BytesOfBits.Says.{bytes_said, bytes_says};
 ghost use Rattle.winnow_core.specs.Claim.{no_claim, nothing_claimed};
-ghost use Rattle.winnow_core.specs.Says.{nothing_done, nothing_said};
 
 use crate::bits::whole::{in_bits, whole_bytes};
 use std::marker::PhantomData;
@@ -46,14 +46,15 @@ impl<
 
     ghost meaning = { λ form. BytesOfBitsRuns (bits_reading I.reading) form (P.meaning form) };
 
-    ghost says = { λ _. nothing_said };
+    ghost says = { λ s. bytes_says (P.says s) };
 
     ghost claim = { λ _. no_claim };
 
     ghost leaves_ends = { λ form. bytes_of_bits_ends I.reading I.counts_bytes form
         (P.meaning form) (P.leaves_ends form) };
 
-    ghost said = { λ _. nothing_done };
+    ghost said = { λ s.
+        bytes_said I.reading I.counts_bytes P.leaves_ends (P.said s) };
 
     ghost claimed = { λ _. nothing_claimed };
 

@@ -5,10 +5,10 @@ ghost use Rattle.stream_bits.specs.BitReading.{bits_reading};
 ghost use Rattle.winnow_bits.specs.BitPattern.{BitPatternRuns};
 ghost use Rattle.winnow_bits.specs.BitPattern.Laws.{bit_pattern_ends};
 ghost use Rattle.winnow_bits.specs.BitPattern.Laws.{bit_pattern_stays};
+ghost use Rattle.winnow_bits.specs.BitPattern.Says.{bit_pattern_said, bit_pattern_says};
 ghost use Rattle.winnow_core.specs.Runs.{Keeps};
 ghost use Rattle.winnow_core.specs.Stable.Grows.{leaf_stays};
 ghost use Rattle.winnow_core.specs.Claim.{no_claim, nothing_claimed};
-ghost use Rattle.winnow_core.specs.Says.{nothing_done, nothing_said};
 
 use crate::bits::fields::take_counted;
 use crate::bits::output::BitOutput;
@@ -47,14 +47,15 @@ impl<I: ByteStream + StreamIsPartial, O: BitOutput, E: ParserError<Bits<I>>> Par
     ghost meaning = { λ form. Keeps
         (λ s. BitPatternRuns O.number O.WIDTH (bits_reading I.reading) form s.0 s.1) };
 
-    ghost says = { λ _. nothing_said };
+    ghost says = { λ s. bit_pattern_says O.number O.WIDTH s.0 s.1 };
 
     ghost claim = { λ _. no_claim };
 
     ghost leaves_ends = { λ form s i answer m j r.
         bit_pattern_ends O.number O.WIDTH (bits_reading I.reading) form s.0 s.1 i answer j r.0 };
 
-    ghost said = { λ _. nothing_done };
+    ghost said = { λ s.
+        bit_pattern_said O.number O.WIDTH (bits_reading I.reading) s.0 s.1 };
 
     ghost claimed = { λ _. nothing_claimed };
 

@@ -4,10 +4,10 @@ ghost use Rattle.stream_bits.specs.BitInput.{bits_follow};
 ghost use Rattle.stream_bits.specs.BitReading.{bits_reading};
 ghost use Rattle.winnow_bits.specs.BitTake.{BitTakeRuns};
 ghost use Rattle.winnow_bits.specs.BitTake.Laws.{bit_take_ends, bit_take_stays};
+ghost use Rattle.winnow_bits.specs.BitTake.Says.{bit_take_said, bit_take_says};
 ghost use Rattle.winnow_core.specs.Runs.{Keeps};
 ghost use Rattle.winnow_core.specs.Stable.Grows.{leaf_stays};
 ghost use Rattle.winnow_core.specs.Claim.{no_claim, nothing_claimed};
-ghost use Rattle.winnow_core.specs.Says.{nothing_done, nothing_said};
 
 use crate::bits::fields::take_counted;
 use crate::bits::output::BitOutput;
@@ -46,14 +46,14 @@ impl<I: ByteStream + StreamIsPartial, O: BitOutput, E: ParserError<Bits<I>>> Par
     ghost meaning = { λ form. Keeps
         (λ n. BitTakeRuns O.number O.WIDTH (bits_reading I.reading) form n) };
 
-    ghost says = { λ _. nothing_said };
+    ghost says = { λ n. bit_take_says O.number O.WIDTH n };
 
     ghost claim = { λ _. no_claim };
 
     ghost leaves_ends = { λ form n i answer m j r.
         bit_take_ends O.number O.WIDTH (bits_reading I.reading) form n i answer j r.0 };
 
-    ghost said = { λ _. nothing_done };
+    ghost said = { λ n. bit_take_said O.number O.WIDTH (bits_reading I.reading) n };
 
     ghost claimed = { λ _. nothing_claimed };
 
