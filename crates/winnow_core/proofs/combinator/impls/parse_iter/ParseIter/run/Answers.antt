@@ -14,8 +14,8 @@ returns-then-left-eq0-clause-ran g c =
     in
     inr (inr (nothing_to_read on nothing, refl, refl, search rules depth 1))
 
-pub fault_at-requires : goal.fault_at-requires
-fault_at-requires g c =
+pub at-requires : goal.at-requires
+at-requires g c =
     let on = reads_unread g.I.Stream.view g.I.Stream.seen {unread = c.args.self.now.unread}
     {u = c.in-Some.field-0} (search rules depth 1) in
     reached_remains on c.requires.reached c.parse_next.ensures.ends
@@ -30,17 +30,17 @@ returns-then-eof_offset-left-clause-ran g c =
       g.I.Stream.view c.in-Some.field-0.input,
       g.I.Stream.view c.parse_next.new.input,
       _,
-      c.fault_at.result,
+      c.at.result,
       on,
       some_to_read g.I.Stream.reading _ (λ e. c.if-left-eq0.false (c.eof_offset-left.ensures ∙ e)),
       inr (c.in-Ok.output, c.in-Ok.ensures.ran, same, c.assert-error.ensures),
-      c.fault_at.ensures,
+      c.at.ensures,
       refl,
       search rules depth 1,
     ))
 
-pub fault_at-requires-in-Err : goal.fault_at-requires-in-Err
-fault_at-requires-in-Err g c =
+pub at-requires-in-Err : goal.at-requires-in-Err
+at-requires-in-Err g c =
     let on = reads_unread g.I.Stream.view g.I.Stream.seen {unread = c.args.self.now.unread}
     {u = c.in-Some.field-0} (search rules depth 1) in
     reached_remains on c.requires.reached c.parse_next.ensures.ends
@@ -54,11 +54,11 @@ returns-in-Err-clause-ran g c =
       g.I.Stream.view c.in-Some.field-0.input,
       g.I.Stream.view c.parse_next.new.input,
       _,
-      c.fault_at-in-Err.result,
+      c.at-in-Err.result,
       on,
       some_to_read g.I.Stream.reading _ (λ e. c.if-left-eq0.false (c.eof_offset-left.ensures ∙ e)),
       inl c.in-Err.ensures.ran,
-      c.fault_at-in-Err.ensures,
+      c.at-in-Err.ensures,
       refl,
       search rules depth 1,
     ))
