@@ -10,7 +10,7 @@ use winnow::stream::{Excerpt, LocatingSlice, Partial, Position, position_in};
 
 type Said = ContextError<&'static str>;
 
-/// What is printed of a value.
+/// Checks the printed form of a value.
 fn same(rt: &impl Abort, alloc: Global, shown: impl Display + Drop, wanted: &str) {
     match format!(in alloc; "{shown}") {
         Ok(text) => assert_eq!(rt; text.as_str(), wanted),
@@ -29,7 +29,7 @@ fn settings<'i>(
     Parser::<_, _, ErrMode<_>>::parse(&mut lines, text)
 }
 
-/// The fault of a text that is no settings.
+/// Checks the error of a text that is not a list of settings.
 fn refused(rt: &impl Abort, alloc: Global, text: &'static str, wanted: &str) {
     match settings(alloc, text) {
         Ok(_) => assert!(rt; false, "{text} is read"),
@@ -96,7 +96,7 @@ fn behind_a_path(rt: HostRuntime) {
     }
 }
 
-/// A caret stands under a character, whatever bytes it has; bytes that are no text count as one.
+/// The caret is under a character, of one byte or several; invalid bytes count as one.
 #[test]
 fn excerpts(rt: HostRuntime) {
     let text = "höhe=1\ngröße=x\n";
@@ -221,7 +221,7 @@ fn other_inputs(rt: HostRuntime) {
     same(&rt, rt.alloc(), none, "out of memory");
 }
 
-/// A switch, or a number: the error says what both branches expected.
+/// A switch, or a number: the error has the expected items of both branches.
 fn value(alloc: Global, input: &mut &str) -> Result<(), ExpectedError<&'static str>> {
     let start = *input;
     let switch: Result<(), ExpectedError<_>> =

@@ -15,5 +15,4 @@ pub mod percentages;
 pub mod pieces;
 pub mod places;
 pub mod premises;
-pub mod rules;
 pub mod words;

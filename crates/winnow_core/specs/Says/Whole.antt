@@ -1,4 +1,4 @@
--- What a parse of all of an input reports of a parser's outcome.
+-- The result of a parse of all of an input, by the outcome of its parser.
 use Rattle.std.specs.Prelude.{◌≡◌, ◌⊎◌, ◌+◌, ℕ, false, List, [], Result, Ok, Err}
 use Rattle.std.proofs.Common.{refl, sym, ap, inl, inr, ◌∙◌}
 use Rattle.streams.specs.Equal.{same_some}
@@ -24,7 +24,7 @@ IsFaultBefore units inner_kind tokens rest (Invalid e) =
 IsFaultBefore units inner_kind tokens rest (Incomplete needed) = ⊥
 
 -- A parse of all of `tokens` returns `result` by this outcome of its parser: an output that leaves
--- nothing, or a fault where the parser failed, or where the output left something.
+-- nothing, or an error where the parser failed, or where the output left something.
 abbrev pub IsParseOf : {I T O X : Type 0} → (List T → ℕ) → (X → Kind) → List T → Outcome T O
     → Result O (ParseFault I X Needed) → Type 0
 IsParseOf units inner_kind tokens (took o rest) (Ok p) = (o ≡ p) × (rest ≡ [])
@@ -50,7 +50,7 @@ pub record TellsAll {I T O X : Type 0} (units : List T → ℕ) (inner_kind : X 
 
 module _ {I T X : Type 0} (view : I → Input T) (units : List T → ℕ) (inner_kind : X → Kind)
     (i j : Input T) where
-  -- the fault of a kind that neither needs memory nor more input
+  -- the error of a kind that neither needs memory nor more input
   before : (k : Kind) (fault : ParseFault I X Needed) → (k ≡ backtrack) ⊎ (k ≡ cut)
       → IsFaultAt view units inner_kind i.left j k fault
       → IsFaultBefore units inner_kind i.left.tokens j.left.tokens fault
