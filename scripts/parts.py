@@ -15,7 +15,7 @@ PARTS = {
     "recovery": ["stream_recovery", "winnow_recovery"],
     "laws": ["winnow_laws", "winnow_expression_trees"],
 }
-USE = re.compile(r"^pub use ([\w:]+)::(\w+|\{[^}]*\});\n", re.MULTILINE)
+USE = re.compile(r"^pub use ([\w:]+)::(\w+(?: as \w+)?|\{[^}]*\});\n", re.MULTILINE)
 
 
 def taken(parts):
@@ -37,7 +37,7 @@ def cut_module(path, gone, lost=()):
     went = []
 
     def kept(found):
-        names = re.findall(r"\w+", found[2])
+        names = re.findall(r"\w+(?: as \w+)?", found[2])
         root = found[1].partition("::")[0]
         off = [it for it in names if root in gone or root == "crate" and it in lost]
         went.extend(off)

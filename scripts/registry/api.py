@@ -23,6 +23,9 @@ def facade():
     """The items of each module of the crate `winnow`, from the crates that define them."""
     found = {}
     for path in sorted((FACADE / "src").rglob("*.rt")):
+        if path.stem == "parsers":
+            # The structs of `impls` under other names.
+            continue
         name = "::".join(path.relative_to(FACADE / "src").with_suffix("").parts)
         uses = module("winnow", path)[2]
         places = [(uses[it], it) for it in sorted(uses, key=in_order)]
@@ -302,7 +305,7 @@ ABOUT_INDEX = f"""<!-- {HEAD} -->
 The public items of the crate `winnow`, by module. Each is linked to its file, which has its
 signature, documentation and contract. [PARSERS.md](PARSERS.md) lists parsers by purpose. The
 modules `impls`, at the end, have the structs of the parsers: pass the struct `Alpha1` where a parser
-is expected.
+is expected. `winnow::parsers` has those without arguments under winnow's names, as `alpha1`.
 
 `python3 scripts/api.py` generates reference pages with signatures, documentation and clauses in
 `docs/api/`.

@@ -3,11 +3,13 @@ import re
 import textwrap
 
 from registry.common import CRATES, WIDTH, below_winnow, by_hand, has_mark, imports
-from registry.common import items_of, read, write
+from registry.common import in_order, items_of, read, write
 
 FACADE = CRATES / "winnow"
 # The laws of one parser each, which a caller proves of its own composition in a line.
 OF_A_PARSER = "_over_a_complete_stream"
+# The names of parsers that are also those of types.
+TYPES = {"bool", "i8", "u8"}
 # The modules whose items are in other modules, with their paths.
 PLACES = {"error": ("stream_errors", "*"), "laws": ("", "laws/**/*")}
 
@@ -38,6 +40,20 @@ def write_module(path):
     write(path, text + "".join(sorted(lines)))
 
 
+def write_parsers():
+    """Writes the module of the parsers without arguments: each unit struct in `impls`, under the
+    name of its function. A name that is also a type's, as `u8`, is left out."""
+    path, found = FACADE / "src/parsers.rt", {}
+    for crate in sorted(below_winnow()):
+        for file in sorted((CRATES / crate / "src").glob("*/impls/*.rt"), key=lambda it: in_order(it.stem)):
+            struct = re.search(r"^pub struct (\w+);", read(file), re.MULTILINE)
+            if struct and file.stem not in TYPES:
+                module = f"{crate}::{file.parent.parent.name}::impls"
+                found.setdefault(module, []).append(f"{struct[1]} as {file.stem}")
+    lines = [imports(module, names) for module, names in found.items()]
+    write(path, by_hand(path, "//") + "".join(lines))
+
+
 def title(crate):
     """The first sentence of a crate's documentation."""
     about = " ".join(re.findall(r"^//! (.*)$", read(CRATES / crate / "src/lib.rt"), re.MULTILINE))
@@ -61,6 +77,7 @@ def write_specs():
 
 def write_facade():
     for path in sorted((FACADE / "src").rglob("*.rt")):
-        if has_mark(path):
+        if has_mark(path) and path.stem != "parsers":
             write_module(path)
+    write_parsers()
     write_specs()

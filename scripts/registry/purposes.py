@@ -146,7 +146,8 @@ complete: `.complete_err`
 consumed: `.with_taken`
 count: `repeat` with `Range::from(n)`
 cut: `cut_err`
-double, float, be_f32, be_f64, le_f32, le_f64: left out
+be_f32, be_f64, le_f32, le_f64: left out
+double, float: three [recipes](RECIPES.md)
 escaped: `take_escaped`
 escaped_transform: `escaped`
 fold_many0, fold_many1, fold_many_m_n: `.fold` of a `repeat`

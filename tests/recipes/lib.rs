@@ -2,6 +2,8 @@
 #![tactic(auto)]
 
 #[cfg(test)]
+mod floats;
+#[cfg(test)]
 mod lines;
 #[cfg(test)]
 mod numbers;
@@ -9,6 +11,8 @@ mod numbers;
 mod rows;
 #[cfg(test)]
 mod strings;
+#[cfg(test)]
+mod symbols;
 #[cfg(test)]
 mod tokens;
 #[cfg(test)]

@@ -14,6 +14,7 @@
 //!   `read_date`; a slice that another parser reads: `read_color`.
 //! - Sequences that are discarded, and those with a part that is kept: `read_assignment`,
 //!   `read_value`, `read_chunk_length`; length-prefixed bytes: `read_frame`.
+//! - Parsers without arguments, as values under winnow's names.
 //! - Lists over any stream: `read_numbers`, `read_array`, `read_settings`; and a list of slices
 //!   with a lifetime after other parts: `read_named_words`.
 //!
@@ -30,6 +31,8 @@ mod forms;
 mod functions;
 #[cfg(test)]
 mod lists;
+#[cfg(test)]
+mod names;
 #[cfg(test)]
 mod pieces;
 #[cfg(test)]

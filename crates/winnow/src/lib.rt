@@ -22,6 +22,7 @@ pub mod decided;
 pub mod error;
 pub mod exact;
 pub mod laws;
+pub mod parsers;
 pub mod prelude;
 pub mod stable;
 pub mod stream;

@@ -19,12 +19,14 @@ use winnow_comb::combinator::impls::Fail;
 /// `Neither` that was joined before it, with nothing but postfixes between them, ends all open
 /// operators: the folds are applied from the innermost out, and the infix is left unread.
 ///
-/// If the operand backtracks, a prefix is run, whose error is returned unchanged. Other errors of
-/// the parts, and those of folds, are returned unchanged, with the input where the part or the fold
-/// left it. It is an assert error if a prefix consumes nothing, if an infix comes and nothing was
-/// consumed since the current operand began, including the infix, or if an operator with its
-/// operand consumed nothing. An open operator is stored in a list of `alloc`. If that cannot grow,
-/// the error is out of memory, and the input is left after the operator.
+/// If the operand backtracks, a prefix is run, whose error is returned unchanged. So a context of
+/// the operand is lost, as in winnow: give it to the prefix, `minus.context(alloc, "a number")`, or
+/// without a prefix to the whole expression. Other errors of the parts, and those of folds, are
+/// returned unchanged, with the input where the part or the fold left it. It is an assert error if
+/// a prefix consumes nothing, if an infix comes and nothing was consumed since the current operand
+/// began, including the infix, or if an operator with its operand consumed nothing. An open
+/// operator is stored in a list of `alloc`. If that cannot grow, the error is out of memory, and
+/// the input is left after the operator.
 ///
 /// Known as Pratt's method, or precedence climbing.
 ///
