@@ -81,8 +81,11 @@ def call(export, where, structs):
     for name, written in export.parts:
         kind, inside = kind_of(written)
         local = f"{export.name}_{name}"
-        if kind == "read":
+        if kind == "read" and inside == "u8":
             given.append("&bytes")
+        elif kind == "read":
+            lines.append(f"    let {local} = [{nothing(inside, structs, where, module)}; 2];")
+            given.append(f"&{local}")
         elif kind == "pass":
             given.append("1")
         elif kind == "write":

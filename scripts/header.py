@@ -14,9 +14,10 @@ generates
 
 The documentation has the requirements for callers, and so has each of these files.
 
-The version is that of `VERSION`. It is in the name of a symbol, with a checksum of the
-declarations. The header and the Rust crate refer to this symbol, so they link only with a library
-of this version and with these declarations.
+The name of a symbol has a checksum of the declarations. The header and the Rust crate refer to this
+symbol, so they link only with a library that has these declarations, of any version. A library that
+only adds to the declarations of an earlier release also defines the symbol of that release, which
+`COMPATIBLE` lists.
 """
 import dataclasses
 import hashlib
@@ -38,19 +39,25 @@ COST = [
     "grows. At a depth of 512 a call used up to 107 KiB of stack, for TOML 508 KiB, and a call without",
     "nesting 5 KiB; the required sizes include a margin. With less stack, a guard page ends the program.",
 ]
+# The checksums of the declarations of earlier releases to which this version only adds. A release of
+# the first number 0 that adds to the last one appends its checksum here.
+COMPATIBLE = []
 # The constants that are cases of an enum in C: the prefix of their names, the enum's name and
-# description.
+# description, and the field that has its values.
 KINDS = {
-    "JSON_": ("json_kind", "The kinds of JSON values: the values of `kind` of a JSON item."),
-    "RESP_": ("resp_kind", "The kinds of Redis replies: the values of `kind` of a reply."),
-    "TOML_ERROR_": ("toml_error", "The errors of TOML documents: the values of `error` of a document."),
-    "TOML_": ("toml_kind", "The kinds of TOML nodes: the values of `kind` of a value."),
-    "CHUNKED_ERROR_": ("chunked_error", "The errors of chunked bodies: the values of `error` of a step."),
-    "CHUNKED_": ("chunked_kind", "The parts of chunked bodies: the values of `kind` of a step."),
-    "INI_ERROR_": ("ini_error", "The errors of INI lines: the values of `error` of an INI entry."),
-    "INI_DIALECT_": ("ini_dialect", "The dialects of INI: flags, whose sum is a dialect, and three dialects."),
-    "INI_": ("ini_kind", "The kinds of INI lines: the values of `kind` of an INI entry."),
+    "JSON_": ("json_kind", "The kinds of JSON items.", ("JsonItem", "kind")),
+    "RESP_": ("resp_kind", "The kinds of Redis replies.", ("Reply", "kind")),
+    "TOML_ERROR_": ("toml_error", "The errors of TOML documents.", ("TomlResult", "error")),
+    "TOML_": ("toml_kind", "The kinds of TOML nodes.", ("TomlValue", "kind")),
+    "CHUNKED_ERROR_": ("chunked_error", "The errors of chunked bodies.", ("ChunkedStep", "error")),
+    "CHUNKED_": ("chunked_kind", "The parts of chunked bodies.", ("ChunkedStep", "kind")),
+    "HTTP_BODY_": ("http_body_kind", "How the length of a body is determined.", ("HttpBody", "kind")),
+    "HTTP_ERROR_": ("http_error", "Why an HTTP message must be rejected.", ("HttpBody", "error")),
+    "INI_ERROR_": ("ini_error", "The errors of INI lines.", ("IniEntry", "error")),
+    "INI_DIALECT_": ("ini_dialect", "The dialects of INI: flags, whose sum is a dialect, and three dialects.", None),
+    "INI_": ("ini_kind", "The kinds of INI entries.", ("IniEntry", "kind")),
 }
+ENUMS = {field: name for name, _, field in KINDS.values() if field}
 # The types of single values in Rust and in C.
 PLAIN = {"u8": "uint8_t", "u16": "uint16_t", "u32": "uint32_t", "u64": "uint64_t", "i16": "int16_t",
          "i64": "int64_t", "usize": "size_t", "bool": "bool"}
@@ -132,8 +139,8 @@ def items():
     for name in ["code", "span", *(it for it in names if it not in ("code", "span"))]:
         for kind, found, words in documented((SOURCE / f"{name}.rt").read_text(encoding="utf-8")):
             if kind == "code":
-                put = codes if found[2] == "u32" else constants
-                put.append(Item(found[1], words, [found[3]]))
+                put = codes if name == "code" else constants
+                put.append(Item(found[1], words, [found[3], found[2]]))
             elif kind == "struct":
                 made = Item(found[1], words, list(fields(found[2])))
                 of_name = [it for it in structs if it.name == made.name]
@@ -156,11 +163,11 @@ def version():
 
 
 def linked(codes, constants, structs, exports):
-    """Returns the symbol that identifies the version of the library and of its declarations."""
+    """Returns the symbol that identifies the declarations of the library."""
     found = [[it.name, it.parts] for it in (*codes, *constants, *exports)]
     found += [[it.name, [(part.name, part.parts) for part in it.parts]] for it in structs]
     made = hashlib.sha256(repr(found).encode()).hexdigest()[:8]
-    return f"pergidau_{'_'.join(version())}_declared_{made}"
+    return f"pergidau_declared_{made}"
 
 
 def kind(name):
@@ -169,10 +176,9 @@ def kind(name):
 
 
 def message(code):
-    """Returns the message for a code."""
-    text = " ".join(code.words).partition(". ")[0].rstrip(".")
-    text = text.replace("`PTRDIFF_MAX`", "PTRDIFF_MAX").replace("`", "PERGIDAU_", 1).replace("`", "")
-    return text[0].lower() + text[1:]
+    """Returns the message for a code or an error: its first sentence."""
+    text = " ".join(code.words).partition(". ")[0].rstrip(".").replace("`", "")
+    return text if "-" in text.split()[0] else text[0].lower() + text[1:]
 
 
 def snake(name):
@@ -182,6 +188,12 @@ def snake(name):
 
 def type_in_c(name):
     return PLAIN.get(name) or f"struct {snake(name)}"
+
+
+def of_field(struct, field):
+    """Returns the type of a field in C, which is an enum if the field has only its values."""
+    enum = ENUMS.get((struct.name, field.name))
+    return f"enum pergidau_{enum}" if enum else type_in_c(field.parts[0])
 
 
 def comment(words, codes, indent=""):
@@ -244,9 +256,9 @@ def calls_of_version(symbol):
     when linking."""
     return (
         comment([
-            "Only a library of this version and with these declarations defines this symbol. Each file",
-            "that includes this header refers to it, so that it links with no other library. For a file",
-            "that is not linked with the library, define PERGIDAU_NO_LINK_CHECK before the header.",
+            "Only a library with these declarations defines this symbol. Each file that includes this",
+            "header refers to it, so that it links with no other library. For a file that is not linked",
+            "with the library, define PERGIDAU_NO_LINK_CHECK before the header.",
         ], [])
         + f"extern const char {symbol};\n"
         + "#if defined(__GNUC__) && !defined(PERGIDAU_NO_LINK_CHECK)\n"
@@ -263,11 +275,16 @@ def calls_of_version(symbol):
 
 
 def cases(items_of, names):
-    """Returns the cases of an enum, and its end."""
-    text = ""
-    for item in items_of:
-        text += comment(item.words, names, "    ") + f"    PERGIDAU_{item.name} = {item.parts[0]},\n"
-    return text + "};\n\n"
+    """Returns the cases of an enum, and its end. The last one has no comma, as in C++98."""
+    made = [comment(it.words, names, "    ") + f"    PERGIDAU_{it.name} = {it.parts[0]}" for it in items_of]
+    return ",\n".join(made) + "\n};\n\n"
+
+
+def errors(constants):
+    """Returns the enums of errors, each with its name and its cases."""
+    for begin, (name, _, _) in KINDS.items():
+        if name.endswith("_error"):
+            yield name, [it for it in constants if kind(it.name) == begin]
 
 
 def header(codes, constants, structs, exports):
@@ -299,14 +316,17 @@ def header(codes, constants, structs, exports):
         if kind(constant.name) is None:
             text += comment(constant.words, names)
             text += f"#define PERGIDAU_{constant.name} {constant.parts[0]}\n\n"
-    for begin, (name, words) in KINDS.items():
+    for begin, (name, words, _) in KINDS.items():
         text += comment([words], names) + f"enum pergidau_{name} {{\n"
         text += cases([it for it in constants if kind(it.name) == begin], names)
+    for name, _ in errors(constants):
+        text += comment(["Returns the message for an error, as `exported_message` does for a code."], names)
+        text += f"const char *pergidau_{name}_message(enum pergidau_{name} error);\n\n"
     for struct in structs:
         text += comment(struct.words, names) + f"struct {snake(struct.name)} {{\n"
         for field in struct.parts:
             text += comment(field.words, names, "    ")
-            text += f"    {type_in_c(field.parts[0])} {field.name};\n"
+            text += f"    {of_field(struct, field)} {field.name};\n"
         text += "};\n\n"
     for export in exports:
         text += comment(export.words, names)
@@ -337,16 +357,27 @@ def body(export):
     return text, nothing, ", ".join(passed)
 
 
-def answers(codes, symbol):
+def messages(name, parameter, items_of):
+    """Returns the function that gives the messages of an enum."""
+    text = f"\nconst char *pergidau_{name}({parameter})\n{{\n    switch ({parameter.split()[-1]}) {{\n"
+    for item in items_of:
+        text += f'    case PERGIDAU_{item.name}:\n        return "{message(item)}";\n'
+    return text + f'    }}\n    return "unknown {parameter.split()[-1]}";\n}}\n'
+
+
+def answers(codes, constants, symbol):
     """Returns the functions of the library that are written only in C."""
-    text = f"\nconst char {symbol} = 0;\n"
+    text = "\n/* The exports write enums as 32 bits. */\n"
+    for name in sorted(ENUMS.values()):
+        text += f'_Static_assert(sizeof(enum pergidau_{name}) == sizeof(uint32_t), "the size of an enum");\n'
+    text += "\n" + "".join(f"const char {it} = 0;\n" for it in (symbol, *COMPATIBLE))
     text += "\nconst char *pergidau_version(void)\n{\n    return PERGIDAU_VERSION;\n}\n"
     text += "\nint pergidau_is_proved(void)\n{\n#ifdef PERGIDAU_UNPROVED\n    return 0;\n#else\n"
     text += "    return 1;\n#endif\n}\n"
-    text += "\nconst char *pergidau_message(enum pergidau_code code)\n{\n    switch (code) {\n"
-    for code in codes:
-        text += f'    case PERGIDAU_{code.name}:\n        return "{message(code)}";\n'
-    return text + '    }\n    return "unknown code";\n}\n'
+    text += messages("message", "enum pergidau_code code", codes)
+    for name, found in errors(constants):
+        text += messages(f"{name}_message", f"enum pergidau_{name} error", found)
+    return text
 
 
 def glue(codes, constants, structs, exports):
@@ -358,7 +389,7 @@ def glue(codes, constants, structs, exports):
     text += '#include "pergidau.h"\n\n'
     for export in exports:
         text += signature("exported", "uint32_t", export) + ";\n"
-    text += answers(codes, linked(codes, constants, structs, exports))
+    text += answers(codes, constants, linked(codes, constants, structs, exports))
     for export in exports:
         tests, nothing, passed = body(export)
         text += "\n" + signature("pergidau", "enum pergidau_code", export) + "\n{\n"
@@ -375,8 +406,8 @@ def rust_words(words, indent=""):
 def rust(codes, constants, structs, exports):
     text = f"//! The exports of the library.\n//!\n//! {WRITTEN}\n"
     text += "use core::ffi::{c_char, c_int};\n"
-    for item, form in [*((it, "u32") for it in codes if it.name not in OF_C), *((it, "usize") for it in constants)]:
-        text += f"\n{rust_words(item.words)}pub const {item.name}: {form} = {item.parts[0]};\n"
+    for item in [*(it for it in codes if it.name not in OF_C), *constants]:
+        text += f"\n{rust_words(item.words)}pub const {item.name}: {item.parts[1]} = {item.parts[0]};\n"
     for struct in structs:
         text += f"\n{rust_words(struct.words)}#[repr(C)]\n"
         text += f"#[derive(Clone, Copy, Debug, Default, PartialEq, Eq)]\npub struct {struct.name} {{\n"
@@ -385,7 +416,7 @@ def rust(codes, constants, structs, exports):
         text += "}\n"
     symbol = linked(codes, constants, structs, exports)
     text += '\nextern "C" {\n'
-    text += "    /// A symbol that only a library of this version and with these declarations has.\n"
+    text += "    /// A symbol that only a library with these declarations has.\n"
     text += f'    #[link_name = "{symbol}"]\n    static VERSION_LINKED: c_char;\n\n'
     text += "    /// Returns the version of the linked library.\n"
     text += "    pub fn pergidau_version() -> *const c_char;\n\n"
@@ -403,7 +434,7 @@ def rust(codes, constants, structs, exports):
     text += "}\n\n/// A pointer into the library that threads can share, since it is never dereferenced.\n"
     text += "#[repr(transparent)]\npub struct Linked(*const c_char);\n\n"
     text += "// SAFETY: the pointer is never dereferenced.\nunsafe impl Sync for Linked {}\n\n"
-    text += "/// Makes programs with this crate link only with a library of this version.\n#[used]\n"
+    text += "/// Makes programs with this crate link only with a library that has these declarations.\n#[used]\n"
     text += "// SAFETY: it is not dereferenced. Compilers before 1.82 require the block.\n"
     text += "#[allow(unused_unsafe)]\n"
     text += "pub static LINKED: Linked = Linked(unsafe { core::ptr::addr_of!(VERSION_LINKED) });\n"

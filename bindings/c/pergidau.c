@@ -45,6 +45,16 @@ uint32_t exported_http_head_partial(
     struct pergidau_field *fields,
     size_t fields_length,
     struct pergidau_head *out);
+uint32_t exported_http_request_body(
+    const uint8_t *bytes,
+    size_t bytes_length,
+    struct pergidau_http_body *out);
+uint32_t exported_http_response_body(
+    const uint8_t *method,
+    size_t method_length,
+    const uint8_t *bytes,
+    size_t bytes_length,
+    struct pergidau_http_body *out);
 uint32_t exported_http_chunked(
     struct pergidau_chunked_state *state,
     const uint8_t *bytes,
@@ -54,6 +64,14 @@ uint32_t exported_http_head_extent(
     struct pergidau_http_head_state *state,
     const uint8_t *bytes,
     size_t bytes_length,
+    size_t *out);
+uint32_t exported_http_field(
+    const uint8_t *bytes,
+    size_t bytes_length,
+    const struct pergidau_field *fields,
+    size_t fields_length,
+    const uint8_t *name,
+    size_t name_length,
     size_t *out);
 uint32_t exported_http_response_head(
     const uint8_t *bytes,
@@ -147,7 +165,19 @@ uint32_t exported_toml_document(
     size_t nodes_length,
     struct pergidau_toml_result *out);
 
-const char pergidau_0_0_0_declared_ab70bb49 = 0;
+/* The exports write enums as 32 bits. */
+_Static_assert(sizeof(enum pergidau_chunked_error) == sizeof(uint32_t), "the size of an enum");
+_Static_assert(sizeof(enum pergidau_chunked_kind) == sizeof(uint32_t), "the size of an enum");
+_Static_assert(sizeof(enum pergidau_http_body_kind) == sizeof(uint32_t), "the size of an enum");
+_Static_assert(sizeof(enum pergidau_http_error) == sizeof(uint32_t), "the size of an enum");
+_Static_assert(sizeof(enum pergidau_ini_error) == sizeof(uint32_t), "the size of an enum");
+_Static_assert(sizeof(enum pergidau_ini_kind) == sizeof(uint32_t), "the size of an enum");
+_Static_assert(sizeof(enum pergidau_json_kind) == sizeof(uint32_t), "the size of an enum");
+_Static_assert(sizeof(enum pergidau_resp_kind) == sizeof(uint32_t), "the size of an enum");
+_Static_assert(sizeof(enum pergidau_toml_error) == sizeof(uint32_t), "the size of an enum");
+_Static_assert(sizeof(enum pergidau_toml_kind) == sizeof(uint32_t), "the size of an enum");
+
+const char pergidau_declared_c209631e = 0;
 
 const char *pergidau_version(void)
 {
@@ -190,6 +220,108 @@ const char *pergidau_message(enum pergidau_code code)
         return "number is not an integer or out of range";
     }
     return "unknown code";
+}
+
+const char *pergidau_toml_error_message(enum pergidau_toml_error error)
+{
+    switch (error) {
+    case PERGIDAU_TOML_ERROR_NONE:
+        return "no error";
+    case PERGIDAU_TOML_ERROR_KEY:
+        return "expected a key or a table";
+    case PERGIDAU_TOML_ERROR_EQUALS_SIGN:
+        return "expected an equals sign after the key";
+    case PERGIDAU_TOML_ERROR_VALUE:
+        return "expected a value";
+    case PERGIDAU_TOML_ERROR_TABLE_NAME:
+        return "expected the name of a table";
+    case PERGIDAU_TOML_ERROR_CLOSING_BRACKET:
+        return "expected a bracket after the name of a table";
+    case PERGIDAU_TOML_ERROR_LINE_END:
+        return "expected the end of the line";
+    case PERGIDAU_TOML_ERROR_DEFINED:
+        return "key is already defined";
+    case PERGIDAU_TOML_ERROR_NOT_A_TABLE:
+        return "key is not a table";
+    case PERGIDAU_TOML_ERROR_CLOSED:
+        return "table cannot be extended";
+    case PERGIDAU_TOML_ERROR_NOT_AN_ARRAY_OF_TABLES:
+        return "key is not an array of tables";
+    }
+    return "unknown error";
+}
+
+const char *pergidau_chunked_error_message(enum pergidau_chunked_error error)
+{
+    switch (error) {
+    case PERGIDAU_CHUNKED_ERROR_NONE:
+        return "no error";
+    case PERGIDAU_CHUNKED_ERROR_SIZE:
+        return "expected a chunk size";
+    case PERGIDAU_CHUNKED_ERROR_SIZE_LINE:
+        return "invalid byte in a chunk size line";
+    case PERGIDAU_CHUNKED_ERROR_SIZE_TOO_LARGE:
+        return "chunk size too large";
+    case PERGIDAU_CHUNKED_ERROR_SIZE_LINE_TOO_LONG:
+        return "chunk size line too long";
+    case PERGIDAU_CHUNKED_ERROR_DATA_END:
+        return "expected CRLF after chunk data";
+    case PERGIDAU_CHUNKED_ERROR_TRAILERS:
+        return "invalid byte in the trailer section";
+    case PERGIDAU_CHUNKED_ERROR_TRAILERS_TOO_LONG:
+        return "trailer section too long";
+    }
+    return "unknown error";
+}
+
+const char *pergidau_http_error_message(enum pergidau_http_error error)
+{
+    switch (error) {
+    case PERGIDAU_HTTP_ERROR_NONE:
+        return "no error";
+    case PERGIDAU_HTTP_ERROR_HEAD:
+        return "invalid head";
+    case PERGIDAU_HTTP_ERROR_MISSING_HOST:
+        return "missing Host field";
+    case PERGIDAU_HTTP_ERROR_MANY_HOSTS:
+        return "more than one Host field";
+    case PERGIDAU_HTTP_ERROR_CODING_BEFORE_VERSION:
+        return "Transfer-Encoding in a version before HTTP/1.1";
+    case PERGIDAU_HTTP_ERROR_LENGTH_AND_CODING:
+        return "both Transfer-Encoding and Content-Length";
+    case PERGIDAU_HTTP_ERROR_CHUNKED_NOT_LAST:
+        return "transfer coding after chunked";
+    case PERGIDAU_HTTP_ERROR_NOT_CHUNKED:
+        return "last transfer coding of the request is not chunked";
+    case PERGIDAU_HTTP_ERROR_LENGTHS_DIFFER:
+        return "Content-Length values differ";
+    case PERGIDAU_HTTP_ERROR_LENGTH_NOT_A_NUMBER:
+        return "Content-Length is not a number";
+    case PERGIDAU_HTTP_ERROR_LENGTH_TOO_LARGE:
+        return "Content-Length too large";
+    }
+    return "unknown error";
+}
+
+const char *pergidau_ini_error_message(enum pergidau_ini_error error)
+{
+    switch (error) {
+    case PERGIDAU_INI_ERROR_NONE:
+        return "no error";
+    case PERGIDAU_INI_ERROR_UNCLOSED_SECTION:
+        return "unclosed section header";
+    case PERGIDAU_INI_ERROR_EMPTY_SECTION:
+        return "empty section name";
+    case PERGIDAU_INI_ERROR_TRAILING_TEXT:
+        return "unexpected text after a section header";
+    case PERGIDAU_INI_ERROR_MISSING_SECTION:
+        return "pair before the first section header";
+    case PERGIDAU_INI_ERROR_MISSING_KEY:
+        return "missing key before the delimiter";
+    case PERGIDAU_INI_ERROR_MISSING_DELIMITER:
+        return "missing delimiter after the key";
+    }
+    return "unknown error";
 }
 
 enum pergidau_code pergidau_calc_value(
@@ -397,6 +529,60 @@ enum pergidau_code pergidau_http_head_partial(
     return (enum pergidau_code)exported_http_head_partial(bytes, bytes_length, fields, fields_length, out);
 }
 
+enum pergidau_code pergidau_http_request_body(
+    const uint8_t *bytes,
+    size_t bytes_length,
+    struct pergidau_http_body *out)
+{
+    const uint8_t no_bytes = {0};
+    if (bytes_length > PTRDIFF_MAX / sizeof(uint8_t)) {
+        return PERGIDAU_TOO_LONG;
+    }
+    if (bytes == NULL && bytes_length > 0) {
+        return PERGIDAU_NULL;
+    }
+    if (out == NULL) {
+        return PERGIDAU_NULL;
+    }
+    if (bytes == NULL) {
+        bytes = &no_bytes;
+    }
+    return (enum pergidau_code)exported_http_request_body(bytes, bytes_length, out);
+}
+
+enum pergidau_code pergidau_http_response_body(
+    const uint8_t *method,
+    size_t method_length,
+    const uint8_t *bytes,
+    size_t bytes_length,
+    struct pergidau_http_body *out)
+{
+    const uint8_t no_method = {0};
+    const uint8_t no_bytes = {0};
+    if (method_length > PTRDIFF_MAX / sizeof(uint8_t)) {
+        return PERGIDAU_TOO_LONG;
+    }
+    if (method == NULL && method_length > 0) {
+        return PERGIDAU_NULL;
+    }
+    if (bytes_length > PTRDIFF_MAX / sizeof(uint8_t)) {
+        return PERGIDAU_TOO_LONG;
+    }
+    if (bytes == NULL && bytes_length > 0) {
+        return PERGIDAU_NULL;
+    }
+    if (out == NULL) {
+        return PERGIDAU_NULL;
+    }
+    if (method == NULL) {
+        method = &no_method;
+    }
+    if (bytes == NULL) {
+        bytes = &no_bytes;
+    }
+    return (enum pergidau_code)exported_http_response_body(method, method_length, bytes, bytes_length, out);
+}
+
 enum pergidau_code pergidau_http_chunked(
     struct pergidau_chunked_state *state,
     const uint8_t *bytes,
@@ -445,6 +631,51 @@ enum pergidau_code pergidau_http_head_extent(
         bytes = &no_bytes;
     }
     return (enum pergidau_code)exported_http_head_extent(state, bytes, bytes_length, out);
+}
+
+enum pergidau_code pergidau_http_field(
+    const uint8_t *bytes,
+    size_t bytes_length,
+    const struct pergidau_field *fields,
+    size_t fields_length,
+    const uint8_t *name,
+    size_t name_length,
+    size_t *out)
+{
+    const uint8_t no_bytes = {0};
+    const struct pergidau_field no_fields = {0};
+    const uint8_t no_name = {0};
+    if (bytes_length > PTRDIFF_MAX / sizeof(uint8_t)) {
+        return PERGIDAU_TOO_LONG;
+    }
+    if (bytes == NULL && bytes_length > 0) {
+        return PERGIDAU_NULL;
+    }
+    if (fields_length > PTRDIFF_MAX / sizeof(struct pergidau_field)) {
+        return PERGIDAU_TOO_LONG;
+    }
+    if (fields == NULL && fields_length > 0) {
+        return PERGIDAU_NULL;
+    }
+    if (name_length > PTRDIFF_MAX / sizeof(uint8_t)) {
+        return PERGIDAU_TOO_LONG;
+    }
+    if (name == NULL && name_length > 0) {
+        return PERGIDAU_NULL;
+    }
+    if (out == NULL) {
+        return PERGIDAU_NULL;
+    }
+    if (bytes == NULL) {
+        bytes = &no_bytes;
+    }
+    if (fields == NULL) {
+        fields = &no_fields;
+    }
+    if (name == NULL) {
+        name = &no_name;
+    }
+    return (enum pergidau_code)exported_http_field(bytes, bytes_length, fields, fields_length, name, name_length, out);
 }
 
 enum pergidau_code pergidau_http_response_head(

@@ -35,14 +35,14 @@ extern "C" {
 #endif
 
 /*
- * Only a library of this version and with these declarations defines this symbol. Each file
- * that includes this header refers to it, so that it links with no other library. For a file
- * that is not linked with the library, define PERGIDAU_NO_LINK_CHECK before the header.
+ * Only a library with these declarations defines this symbol. Each file that includes this
+ * header refers to it, so that it links with no other library. For a file that is not linked
+ * with the library, define PERGIDAU_NO_LINK_CHECK before the header.
  */
-extern const char pergidau_0_0_0_declared_ab70bb49;
+extern const char pergidau_declared_c209631e;
 #if defined(__GNUC__) && !defined(PERGIDAU_NO_LINK_CHECK)
 __attribute__((__used__, __unused__)) static const char *const pergidau_linked =
-    &pergidau_0_0_0_declared_ab70bb49;
+    &pergidau_declared_c209631e;
 #endif
 
 /* Returns the version of the linked library, in the form of PERGIDAU_VERSION. */
@@ -83,7 +83,7 @@ enum pergidau_code {
     /* No more items. Each function documents the end that it reports. */
     PERGIDAU_END = 9,
     /* Number is not an integer or out of range. The function determines the range. */
-    PERGIDAU_NOT_AN_INTEGER = 10,
+    PERGIDAU_NOT_AN_INTEGER = 10
 };
 
 /* Returns the message for a code, in English, without a full stop. Do not free it. */
@@ -95,7 +95,7 @@ const char *pergidau_message(enum pergidau_code code);
  */
 #define PERGIDAU_MAX_DEPTH 512
 
-/* The kinds of JSON values: the values of kind of a JSON item. */
+/* The kinds of JSON items. */
 enum pergidau_json_kind {
     /* The word null. */
     PERGIDAU_JSON_NULL = 0,
@@ -120,10 +120,10 @@ enum pergidau_json_kind {
     /* The opening bracket of an object. */
     PERGIDAU_JSON_BEGIN_OBJECT = 10,
     /* The bracket after it. */
-    PERGIDAU_JSON_END_OBJECT = 11,
+    PERGIDAU_JSON_END_OBJECT = 11
 };
 
-/* The kinds of Redis replies: the values of kind of a reply. */
+/* The kinds of Redis replies. */
 enum pergidau_resp_kind {
     /* A simple string: bytes among which is neither a carriage return nor a line feed. */
     PERGIDAU_RESP_SIMPLE = 0,
@@ -138,39 +138,39 @@ enum pergidau_resp_kind {
     /* An array. */
     PERGIDAU_RESP_ARRAY = 5,
     /* The null array. */
-    PERGIDAU_RESP_NULL_ARRAY = 6,
+    PERGIDAU_RESP_NULL_ARRAY = 6
 };
 
-/* The errors of TOML documents: the values of error of a document. */
+/* The errors of TOML documents. */
 enum pergidau_toml_error {
     /* No error. */
     PERGIDAU_TOML_ERROR_NONE = 0,
-    /* A key or a table is expected. */
+    /* Expected a key or a table. */
     PERGIDAU_TOML_ERROR_KEY = 1,
-    /* The equals sign after a key is expected. */
+    /* Expected an equals sign after the key. */
     PERGIDAU_TOML_ERROR_EQUALS_SIGN = 2,
-    /* A value is expected, nested no deeper than the depth limit. */
+    /* Expected a value. It may be nested no deeper than the depth limit. */
     PERGIDAU_TOML_ERROR_VALUE = 3,
-    /* The name of a table is expected. */
+    /* Expected the name of a table. */
     PERGIDAU_TOML_ERROR_TABLE_NAME = 4,
-    /* A bracket after the name of a table is expected. */
+    /* Expected a bracket after the name of a table. */
     PERGIDAU_TOML_ERROR_CLOSING_BRACKET = 5,
-    /* The end of the line is expected. */
+    /* Expected the end of the line. */
     PERGIDAU_TOML_ERROR_LINE_END = 6,
-    /* The line defines what is defined already. */
+    /* Key is already defined. */
     PERGIDAU_TOML_ERROR_DEFINED = 7,
-    /* The line takes a value for a table. */
+    /* Key is not a table. */
     PERGIDAU_TOML_ERROR_NOT_A_TABLE = 8,
     /*
-     * The line adds to a table that is closed: an inline table, or by dotted keys one of a
-     * header.
+     * Table cannot be extended. It is an inline table, or the line extends the table of a
+     * header by dotted keys.
      */
     PERGIDAU_TOML_ERROR_CLOSED = 9,
-    /* The line adds a table to a key that is not an array of tables. */
-    PERGIDAU_TOML_ERROR_NOT_AN_ARRAY_OF_TABLES = 10,
+    /* Key is not an array of tables. */
+    PERGIDAU_TOML_ERROR_NOT_AN_ARRAY_OF_TABLES = 10
 };
 
-/* The kinds of TOML nodes: the values of kind of a value. */
+/* The kinds of TOML nodes. */
 enum pergidau_toml_kind {
     /* A table, of headers, of dotted keys or inline. */
     PERGIDAU_TOML_TABLE = 0,
@@ -191,34 +191,39 @@ enum pergidau_toml_kind {
     /* A date without a time. */
     PERGIDAU_TOML_LOCAL_DATE = 8,
     /* A time without a date. */
-    PERGIDAU_TOML_LOCAL_TIME = 9,
+    PERGIDAU_TOML_LOCAL_TIME = 9
 };
 
-/* The errors of chunked bodies: the values of error of a step. */
+/* The errors of chunked bodies. */
 enum pergidau_chunked_error {
-    /* A size line does not start with a hexadecimal digit. */
-    PERGIDAU_CHUNKED_ERROR_SIZE = 0,
+    /* No error. */
+    PERGIDAU_CHUNKED_ERROR_NONE = 0,
+    /* Expected a chunk size. A size line does not start with a hexadecimal digit. */
+    PERGIDAU_CHUNKED_ERROR_SIZE = 1,
     /*
-     * The byte is invalid in a size line: it can continue neither an extension nor a line
+     * Invalid byte in a chunk size line. It can continue neither an extension nor a line
      * ending.
      */
-    PERGIDAU_CHUNKED_ERROR_SIZE_LINE = 1,
-    /* With this digit the size is 2^64 or more. */
-    PERGIDAU_CHUNKED_ERROR_SIZE_TOO_LARGE = 2,
-    /* There are more bytes than the limit allows before the next data, or before the end. */
-    PERGIDAU_CHUNKED_ERROR_SIZE_LINE_TOO_LONG = 3,
-    /* The data of a chunk is not followed by a carriage return and a line feed. */
-    PERGIDAU_CHUNKED_ERROR_DATA_END = 4,
+    PERGIDAU_CHUNKED_ERROR_SIZE_LINE = 2,
+    /* Chunk size too large. With this digit it is 2^64 or more. */
+    PERGIDAU_CHUNKED_ERROR_SIZE_TOO_LARGE = 3,
     /*
-     * The byte can continue neither a field line nor the line ending after the trailer
-     * section.
+     * Chunk size line too long. The limit counts the bytes before the next data, or before the
+     * end.
      */
-    PERGIDAU_CHUNKED_ERROR_TRAILERS = 5,
-    /* The trailer section would have more bytes than the limit lets. */
-    PERGIDAU_CHUNKED_ERROR_TRAILERS_TOO_LONG = 6,
+    PERGIDAU_CHUNKED_ERROR_SIZE_LINE_TOO_LONG = 4,
+    /* Expected CRLF after chunk data. */
+    PERGIDAU_CHUNKED_ERROR_DATA_END = 5,
+    /*
+     * Invalid byte in the trailer section. It can continue neither a field line nor the line
+     * ending after the section.
+     */
+    PERGIDAU_CHUNKED_ERROR_TRAILERS = 6,
+    /* Trailer section too long. */
+    PERGIDAU_CHUNKED_ERROR_TRAILERS_TOO_LONG = 7
 };
 
-/* The parts of chunked bodies: the values of kind of a step. */
+/* The parts of chunked bodies. */
 enum pergidau_chunked_kind {
     /* Data of a chunk, one byte or more. */
     PERGIDAU_CHUNKED_DATA = 0,
@@ -226,23 +231,71 @@ enum pergidau_chunked_kind {
      * Bytes of the trailer section, one or more. All of them together are complete field
      * lines, each with its line ending.
      */
-    PERGIDAU_CHUNKED_TRAILERS = 1,
+    PERGIDAU_CHUNKED_TRAILERS = 1
 };
 
-/* The errors of INI lines: the values of error of an INI entry. */
+/* How the length of a body is determined. */
+enum pergidau_http_body_kind {
+    /* The message has no body. The next message starts after its head. */
+    PERGIDAU_HTTP_BODY_NONE = 0,
+    /*
+     * The body is chunked. Decode it with pergidau_http_chunked. If other codings precede
+     * chunked, the content is encoded by these.
+     */
+    PERGIDAU_HTTP_BODY_CHUNKED = 1,
+    /* The body has a number of bytes. */
+    PERGIDAU_HTTP_BODY_LENGTH = 2,
+    /* The body ends with the connection. */
+    PERGIDAU_HTTP_BODY_UNTIL_CLOSE = 3,
+    /* The connection has become a tunnel. */
+    PERGIDAU_HTTP_BODY_TUNNEL = 4
+};
+
+/* Why an HTTP message must be rejected. */
+enum pergidau_http_error {
+    /* No error. */
+    PERGIDAU_HTTP_ERROR_NONE = 0,
+    /* Invalid head. The bytes do not start with one. */
+    PERGIDAU_HTTP_ERROR_HEAD = 1,
+    /* Missing Host field. A request of HTTP/1.1 must have one. */
+    PERGIDAU_HTTP_ERROR_MISSING_HOST = 2,
+    /* More than one Host field. */
+    PERGIDAU_HTTP_ERROR_MANY_HOSTS = 3,
+    /* Transfer-Encoding in a version before HTTP/1.1. */
+    PERGIDAU_HTTP_ERROR_CODING_BEFORE_VERSION = 4,
+    /* Both Transfer-Encoding and Content-Length. */
+    PERGIDAU_HTTP_ERROR_LENGTH_AND_CODING = 5,
+    /* Transfer coding after chunked. It may be chunked again. */
+    PERGIDAU_HTTP_ERROR_CHUNKED_NOT_LAST = 6,
+    /* Last transfer coding of the request is not chunked. */
+    PERGIDAU_HTTP_ERROR_NOT_CHUNKED = 7,
+    /*
+     * Content-Length values differ. An empty value and one with other leading zeros differ,
+     * too.
+     */
+    PERGIDAU_HTTP_ERROR_LENGTHS_DIFFER = 8,
+    /* Content-Length is not a number. */
+    PERGIDAU_HTTP_ERROR_LENGTH_NOT_A_NUMBER = 9,
+    /* Content-Length too large. It is 2^64 or more. */
+    PERGIDAU_HTTP_ERROR_LENGTH_TOO_LARGE = 10
+};
+
+/* The errors of INI lines. */
 enum pergidau_ini_error {
-    /* The line starts with [ and has no ]. */
-    PERGIDAU_INI_ERROR_UNCLOSED_SECTION = 0,
-    /* There is nothing between [ and ]. */
-    PERGIDAU_INI_ERROR_EMPTY_SECTION = 1,
-    /* There is text after the ]. */
-    PERGIDAU_INI_ERROR_TRAILING_TEXT = 2,
-    /* There is no section before the pair. */
-    PERGIDAU_INI_ERROR_MISSING_SECTION = 3,
-    /* There is no key before the delimiter. */
-    PERGIDAU_INI_ERROR_MISSING_KEY = 4,
-    /* There is no delimiter. */
-    PERGIDAU_INI_ERROR_MISSING_DELIMITER = 5,
+    /* No error. */
+    PERGIDAU_INI_ERROR_NONE = 0,
+    /* Unclosed section header. The line starts with [ and has no ]. */
+    PERGIDAU_INI_ERROR_UNCLOSED_SECTION = 1,
+    /* Empty section name. There is nothing between [ and ]. */
+    PERGIDAU_INI_ERROR_EMPTY_SECTION = 2,
+    /* Unexpected text after a section header. */
+    PERGIDAU_INI_ERROR_TRAILING_TEXT = 3,
+    /* Pair before the first section header. */
+    PERGIDAU_INI_ERROR_MISSING_SECTION = 4,
+    /* Missing key before the delimiter. */
+    PERGIDAU_INI_ERROR_MISSING_KEY = 5,
+    /* Missing delimiter after the key. */
+    PERGIDAU_INI_ERROR_MISSING_DELIMITER = 6
 };
 
 /* The dialects of INI: flags, whose sum is a dialect, and three dialects. */
@@ -251,11 +304,11 @@ enum pergidau_ini_dialect {
     PERGIDAU_INI_DIALECT_EQUALS = 1,
     /* : ends a key. */
     PERGIDAU_INI_DIALECT_COLON = 2,
-    /* # begins a comment where it is the first of a line, after white space. */
+    /* # begins a comment where it is the first of a line, after whitespace. */
     PERGIDAU_INI_DIALECT_NUMBER_SIGN = 4,
     /* ; does. */
     PERGIDAU_INI_DIALECT_SEMICOLON = 8,
-    /* # begins a comment at the start of a line, or after white space in it. */
+    /* # begins a comment at the start of a line, or after whitespace in it. */
     PERGIDAU_INI_DIALECT_INLINE_NUMBER_SIGN = 16,
     /* ; does. */
     PERGIDAU_INI_DIALECT_INLINE_SEMICOLON = 32,
@@ -281,13 +334,13 @@ enum pergidau_ini_dialect {
     /* The dialect of desktop entries: =, # at the start of lines, a line for each pair. */
     PERGIDAU_INI_DIALECT_DESKTOP = 5,
     /*
-     * The dialect that reads most: = and :, comments after white space too, keys without
+     * The dialect that reads most: = and :, comments after whitespace too, keys without
      * values, pairs before the first section, a line for each pair.
      */
-    PERGIDAU_INI_DIALECT_LENIENT = 831,
+    PERGIDAU_INI_DIALECT_LENIENT = 831
 };
 
-/* The kinds of INI lines: the values of kind of an INI entry. */
+/* The kinds of INI entries. */
 enum pergidau_ini_kind {
     /* The name of a section, which begins there. */
     PERGIDAU_INI_SECTION = 0,
@@ -299,8 +352,20 @@ enum pergidau_ini_kind {
      * One more line of the value of the pair before. It is empty for an empty line, also where
      * no other line of the value follows.
      */
-    PERGIDAU_INI_MORE = 3,
+    PERGIDAU_INI_MORE = 3
 };
+
+/* Returns the message for an error, as pergidau_message does for a code. */
+const char *pergidau_toml_error_message(enum pergidau_toml_error error);
+
+/* Returns the message for an error, as pergidau_message does for a code. */
+const char *pergidau_chunked_error_message(enum pergidau_chunked_error error);
+
+/* Returns the message for an error, as pergidau_message does for a code. */
+const char *pergidau_http_error_message(enum pergidau_http_error error);
+
+/* Returns the message for an error, as pergidau_message does for a code. */
+const char *pergidau_ini_error_message(enum pergidau_ini_error error);
 
 /* A span of the caller's bytes: an offset and a length. */
 struct pergidau_span {
@@ -372,6 +437,16 @@ struct pergidau_head {
     uint8_t minor;
 };
 
+/* The length of the body of a message, or why the message must be rejected. */
+struct pergidau_http_body {
+    /* How the length is determined; PERGIDAU_HTTP_BODY_NONE after an error. */
+    enum pergidau_http_body_kind kind;
+    /* The reason to reject the message; PERGIDAU_HTTP_ERROR_NONE otherwise. */
+    enum pergidau_http_error error;
+    /* The number of bytes of a body of the kind PERGIDAU_HTTP_BODY_LENGTH; 0 otherwise. */
+    uint64_t length;
+};
+
 /*
  * The state of decoding a chunked body as numbers, for callers that cannot keep a Rust type.
  * Only the calls interpret them. A place of 0 means that nothing was consumed, regardless of
@@ -401,17 +476,14 @@ struct pergidau_chunked_state {
 
 /* The result of a call for a chunked body. */
 struct pergidau_chunked_step {
-    /* The kind of the output: PERGIDAU_CHUNKED_DATA or PERGIDAU_CHUNKED_TRAILERS. */
-    size_t kind;
+    /* The kind of the output. */
+    enum pergidau_chunked_kind kind;
     /* The span of the output in the input; zeros if there is no output. */
     struct pergidau_span span;
     /* How many bytes were taken. Those after them are the first of the next call. */
     size_t taken;
-    /*
-     * The error of the byte after the consumed bytes: PERGIDAU_CHUNKED_ERROR_SIZE or one of
-     * the constants after it; 0 otherwise.
-     */
-    size_t error;
+    /* The error of the byte after the consumed bytes; PERGIDAU_CHUNKED_ERROR_NONE otherwise. */
+    enum pergidau_chunked_error error;
 };
 
 /*
@@ -486,22 +558,16 @@ struct pergidau_ini_state {
 
 /* The content of a line. */
 struct pergidau_ini_entry {
-    /*
-     * The kind of the entry: one of the constants from PERGIDAU_INI_SECTION to
-     * PERGIDAU_INI_MORE.
-     */
-    size_t kind;
+    /* The kind of the entry. */
+    enum pergidau_ini_kind kind;
     /* The name of a section, or the key of a pair; zeros otherwise. */
     struct pergidau_span key;
     /* The value of a pair, or a further line of it; zeros otherwise. */
     struct pergidau_span value;
     /* The offset of the line that is invalid or not UTF-8; 0 otherwise. */
     size_t error_offset;
-    /*
-     * The reason why the line is invalid: PERGIDAU_INI_ERROR_UNCLOSED_SECTION or one of the
-     * constants after it; 0 otherwise.
-     */
-    size_t error;
+    /* The reason why the line is invalid; PERGIDAU_INI_ERROR_NONE otherwise. */
+    enum pergidau_ini_error error;
 };
 
 /* A value, a name in an object, or a bracket. Only pergidau_json_step returns brackets. */
@@ -511,7 +577,7 @@ struct pergidau_json_item {
      * PERGIDAU_JSON_END_OBJECT. Only pergidau_json_step returns those after
      * PERGIDAU_JSON_OBJECT; pergidau_json_next returns a name as a string.
      */
-    size_t kind;
+    enum pergidau_json_kind kind;
     /* Its bytes. */
     struct pergidau_span span;
 };
@@ -530,7 +596,7 @@ struct pergidau_reply {
      * The kind of the reply: one of the constants from PERGIDAU_RESP_SIMPLE to
      * PERGIDAU_RESP_NULL_ARRAY.
      */
-    size_t kind;
+    enum pergidau_resp_kind kind;
     /* The number of an integer; 0 otherwise. */
     int64_t number;
     /* The number of elements of an array; 0 otherwise. */
@@ -578,7 +644,7 @@ struct pergidau_position {
 /* The value of a node. Fields that its kind does not use are 0. */
 struct pergidau_toml_value {
     /* The kind: one of the numbers PERGIDAU_TOML_TABLE to PERGIDAU_TOML_LOCAL_TIME. */
-    size_t kind;
+    enum pergidau_toml_kind kind;
     /* The year of a date, from 0 to 9999. */
     uint16_t year;
     /* The month of a date, from 1 to 12. */
@@ -638,11 +704,8 @@ struct pergidau_toml_result {
     size_t text;
     /* The offset of the error in bytes; 0 otherwise. */
     size_t error_offset;
-    /*
-     * The error: one of the constants from PERGIDAU_TOML_ERROR_NONE to
-     * PERGIDAU_TOML_ERROR_NOT_AN_ARRAY_OF_TABLES.
-     */
-    size_t error;
+    /* The error; PERGIDAU_TOML_ERROR_NONE if there is none. */
+    enum pergidau_toml_error error;
 };
 
 /*
@@ -869,6 +932,79 @@ enum pergidau_code pergidau_http_head_partial(
     struct pergidau_head *out);
 
 /*
+ * Determines the length of the body of the request whose head is at the start of bytes (RFC
+ * 9112, section 6.3), or why a server must respond with status 400 and close the connection.
+ *
+ * A request with both Transfer-Encoding and Content-Length, or with Transfer-Encoding in a
+ * version before 1.1, is rejected. Content-Length fields must have one numeral, possibly
+ * repeated, and no empty element. Names of fields and codings are compared ignoring ASCII
+ * case. Codings other than chunked are not distinguished, and the value of a Host field is not
+ * examined.
+ *
+ * PERGIDAU_DONE: the kind is written, and the length of a body of the kind
+ * PERGIDAU_HTTP_BODY_LENGTH. The kind is PERGIDAU_HTTP_BODY_NONE, PERGIDAU_HTTP_BODY_CHUNKED
+ * or PERGIDAU_HTTP_BODY_LENGTH.
+ *
+ * A call holds up to 32 bytes of memory for each byte of the head, and does not read after it.
+ *
+ * # Errors
+ *
+ * PERGIDAU_INVALID: the request must be rejected. The reason is written. If bytes does not
+ * start with a head, it is PERGIDAU_HTTP_ERROR_HEAD.
+ *
+ * PERGIDAU_NO_MEMORY.
+ *
+ * After an error all else is 0.
+ *
+ * # Safety
+ *
+ * bytes must be valid for reads of bytes_length bytes, which must not change during the call,
+ * and out must be valid for writes of one length. They must not overlap. The call needs 16 KiB
+ * of stack.
+ */
+enum pergidau_code pergidau_http_request_body(
+    const uint8_t *bytes,
+    size_t bytes_length,
+    struct pergidau_http_body *out);
+
+/*
+ * Determines the length of the body of the response whose head is at the start of bytes, to a
+ * request with this method (RFC 9112, section 6.3), or why a client must discard the response
+ * and close the connection.
+ *
+ * The rules are those of pergidau_http_request_body, with these for responses: a response to
+ * HEAD, or of status 1xx, 204 or 304, has no body. A response of status 2xx to CONNECT makes
+ * the connection a tunnel. Without a length, or if the last coding is not chunked, the body
+ * ends with the connection. Methods are compared in their letter case.
+ *
+ * PERGIDAU_DONE: the kind is written, and the length of a body of the kind
+ * PERGIDAU_HTTP_BODY_LENGTH.
+ *
+ * A call holds up to 32 bytes of memory for each byte of the head, and does not read after it.
+ *
+ * # Errors
+ *
+ * PERGIDAU_INVALID: the response must be rejected. The reason is written. If bytes does not
+ * start with a head, it is PERGIDAU_HTTP_ERROR_HEAD.
+ *
+ * PERGIDAU_NO_MEMORY.
+ *
+ * After an error all else is 0.
+ *
+ * # Safety
+ *
+ * method must be valid for reads of method_length bytes, bytes for reads of bytes_length
+ * bytes, which must not change during the call, and out for writes of one length. out must not
+ * overlap the others. The call needs 16 KiB of stack.
+ */
+enum pergidau_code pergidau_http_response_body(
+    const uint8_t *method,
+    size_t method_length,
+    const uint8_t *bytes,
+    size_t bytes_length,
+    struct pergidau_http_body *out);
+
+/*
  * Decodes the next part of a chunked body of HTTP/1.1 (RFC 9112, section 7.1) in input that
  * arrives in chunks of any size: data, bytes of trailers, or the end.
  *
@@ -945,6 +1081,33 @@ enum pergidau_code pergidau_http_head_extent(
     struct pergidau_http_head_state *state,
     const uint8_t *bytes,
     size_t bytes_length,
+    size_t *out);
+
+/*
+ * Finds the first field of a name among the fields that pergidau_http_head or
+ * pergidau_http_response_head wrote for these bytes. Names are compared ignoring ASCII case.
+ *
+ * PERGIDAU_DONE: the index of the field is written. To find further fields of the name, pass
+ * the fields after it.
+ *
+ * PERGIDAU_END: no field has the name. 0 is written.
+ *
+ * A field that is not within the bytes has no name.
+ *
+ * # Safety
+ *
+ * bytes must be valid for reads of bytes_length bytes, fields for reads of fields_length
+ * entries and name for reads of name_length bytes, which must not change during the call. out
+ * must be valid for writes of one index, and must not overlap the others. The call needs 16
+ * KiB of stack.
+ */
+enum pergidau_code pergidau_http_field(
+    const uint8_t *bytes,
+    size_t bytes_length,
+    const struct pergidau_field *fields,
+    size_t fields_length,
+    const uint8_t *name,
+    size_t name_length,
     size_t *out);
 
 /*
@@ -1441,7 +1604,8 @@ enum pergidau_code pergidau_resp_extent(
     size_t *out);
 
 /*
- * Computes the line and the column of the position after the first offset bytes.
+ * Computes the line and the column of the position after the first offset bytes. Bytes after
+ * it are not read.
  *
  * This is proved for UTF-8 and an offset on a character boundary, and otherwise only tested.
  * Bytes that are not UTF-8 count as the replacement characters that are printed for them, and

@@ -1,238 +1,150 @@
 /*
- * An HTTP/1.1 server, and a client that sends requests in chunks of seven bytes, over a pair of
- * sockets. The program prints the responses that the client receives.
- *
- * The server keeps its unread input in one buffer. It waits for more input if a head is incomplete,
- * rejects invalid heads, and limits the size of a request.
+ * An HTTP/1.1 server for one connection, over the standard input and output. `GET /hello` greets, and
+ * `POST /echo` returns its body, which may be chunked. Requests whose end is ambiguous are rejected, and
+ * then the connection ends. Its time is linear in the input, in chunks of any size.
  */
-#define _POSIX_C_SOURCE 200809L
 #include <stdbool.h>
 #include <stdio.h>
 #include <string.h>
 #include <strings.h>
-#include <sys/socket.h>
-#include <sys/wait.h>
 #include <unistd.h>
 
 #include "pergidau.h"
 
-enum { ROOM = 1024, MOST_FIELDS = 8 };
+enum { ROOM = 4096, MOST_FIELDS = 16 };
 
-struct connection {
-    int socket;
-    size_t length;
-    uint8_t bytes[ROOM];
-};
+static uint8_t input[ROOM], body[ROOM];
+static size_t input_length, body_length;
 
 /* Reads the next input. Returns false if the buffer is full, or at the end of the input. */
-static bool more(struct connection *from)
+static bool more(void)
 {
-    ssize_t came = read(from->socket, from->bytes + from->length, ROOM - from->length);
-    from->length += came > 0 ? (size_t)came : 0;
+    ssize_t came = read(STDIN_FILENO, input + input_length, ROOM - input_length);
+    input_length += came > 0 ? (size_t)came : 0;
     return came > 0;
 }
 
-static void drop(struct connection *from, size_t count)
+static void drop(size_t count)
 {
-    from->length -= count;
-    memmove(from->bytes, from->bytes + count, from->length);
+    input_length -= count;
+    memmove(input, input + count, input_length);
 }
 
-static bool send_all(int socket, const void *bytes, size_t length)
+/* Sends a response. Returns whether the connection stays open. */
+static bool answer(const char *status, const void *text, size_t length, bool keeps)
 {
-    for (size_t sent = 0; sent < length;) {
-        ssize_t now = write(socket, (const char *)bytes + sent, length - sent);
-        if (now <= 0) {
-            return false;
-        }
-        sent += (size_t)now;
-    }
-    return true;
+    const char *connection = keeps ? "" : "Connection: close\r\n";
+    printf("HTTP/1.1 %s\r\nContent-Length: %zu\r\n%s\r\n", status, length, connection);
+    fwrite(text, 1, length, stdout);
+    return fflush(stdout) == 0 && keeps;
 }
 
-static bool answer(int socket, const char *status, const void *body, size_t length, bool keeps)
+static bool reject(const char *status, const char *why)
 {
-    char head[160];
-    int count = snprintf(head, sizeof head, "HTTP/1.1 %s\r\nContent-Length: %zu\r\n%s\r\n", status,
-                         length, keeps ? "" : "Connection: close\r\n");
-    return send_all(socket, head, (size_t)count) && send_all(socket, body, length) && keeps;
+    return answer(status, why, strlen(why), false);
 }
 
-static bool refuse(int socket, const char *status)
+static bool is(struct pergidau_span at, const char *word)
 {
-    return answer(socket, status, "", 0, false);
+    return at.length == strlen(word) && !strncasecmp((const char *)input + at.offset, word, at.length);
 }
 
-static bool is(const uint8_t *bytes, struct pergidau_span at, const char *word)
+/* Whether the first field of this name, if there is one, has another value. */
+static bool differs(const struct pergidau_field *fields, size_t count, const char *name, const char *word)
 {
-    return at.length == strlen(word) && !memcmp(bytes + at.offset, word, at.length);
+    size_t at;
+    return pergidau_http_field(input, input_length, fields, count, (const uint8_t *)name, strlen(name), &at)
+        == PERGIDAU_DONE && !is(fields[at].value, word);
 }
 
-static bool is_name(const uint8_t *bytes, struct pergidau_span at, const char *name)
+static void append(size_t offset, size_t length)
 {
-    return at.length == strlen(name)
-        && !strncasecmp((const char *)bytes + at.offset, name, at.length);
+    memcpy(body + body_length, input + offset, length);
+    body_length += length;
 }
 
-/* Parses a decimal number. Returns false if it is not all digits, or far larger than `ROOM`. */
-static bool number(const uint8_t *bytes, struct pergidau_span at, size_t *out)
+static bool read_counted(uint64_t left)
 {
-    *out = 0;
-    for (size_t i = 0; i < at.length; i++) {
-        uint8_t digit = bytes[at.offset + i];
-        if (digit < '0' || digit > '9' || *out > ROOM) {
-            return false;
-        }
-        *out = 10 * *out + (size_t)(digit - '0');
+    if (left > ROOM) {
+        return reject("413 Content Too Large", "");
     }
-    return at.length > 0;
+    while (left > 0 && (input_length > 0 || more())) {
+        size_t now = left < input_length ? (size_t)left : input_length;
+        append(0, now);
+        drop(now);
+        left -= now;
+    }
+    return left == 0;
 }
 
-/* Responds to a request whose head is parsed. Returns whether the connection stays open. */
-static bool serve(struct connection *from, const struct pergidau_head *head,
-                  const struct pergidau_field *fields)
+static bool read_chunked(void)
 {
-    const uint8_t *bytes = from->bytes;
-    size_t body = 0, hosts = 0, lengths = 0;
-    bool keeps = head->major == 1 && head->minor >= 1;
-    for (size_t i = 0; i < head->fields; i++) {
-        struct pergidau_span name = fields[i].name, value = fields[i].value;
-        hosts += is_name(bytes, name, "Host");
-        if (is_name(bytes, name, "Content-Length")
-            && (lengths++ > 0 || !number(bytes, value, &body))) {
-            return refuse(from->socket, "400 Bad Request");
-        }
-        if (is_name(bytes, name, "Transfer-Encoding")) {
-            return refuse(from->socket, "501 Not Implemented");
-        }
-        keeps = keeps && !(is_name(bytes, name, "Connection") && is_name(bytes, value, "close"));
-    }
-    if (head->major != 1) {
-        return refuse(from->socket, "505 HTTP Version Not Supported");
-    }
-    if (head->minor >= 1 && hosts != 1) {
-        return refuse(from->socket, "400 Bad Request");
-    }
-    if (body > ROOM - head->length) {
-        return refuse(from->socket, "413 Content Too Large");
-    }
-    while (from->length < head->length + body) {
-        if (!more(from)) {
-            return false;
-        }
-    }
-    if (is(bytes, head->method, "GET") && is(bytes, head->target, "/hello")) {
-        keeps = answer(from->socket, "200 OK", "hello\n", 6, keeps);
-    } else if (is(bytes, head->method, "POST") && is(bytes, head->target, "/echo")) {
-        keeps = answer(from->socket, "200 OK", bytes + head->length, body, keeps);
-    } else {
-        keeps = answer(from->socket, "404 Not Found", "", 0, keeps);
-    }
-    drop(from, head->length + body);
-    return keeps;
-}
-
-/* Serves requests until the client or the server closes the connection. */
-static void serve_all(struct connection *from)
-{
+    struct pergidau_chunked_state state = {0};
     for (;;) {
-        struct pergidau_field fields[MOST_FIELDS];
-        struct pergidau_head head;
-        /* A client may send an empty line before a request (section 2.2 of RFC 9112). */
-        if (from->length >= 2 && !memcmp(from->bytes, "\r\n", 2)) {
-            drop(from, 2);
+        struct pergidau_chunked_step step;
+        enum pergidau_code code = pergidau_http_chunked(&state, input, input_length, &step);
+        if (code == PERGIDAU_INVALID) {
+            return reject("400 Bad Request", pergidau_chunked_error_message(step.error));
         }
-        /* One byte of such a line is not yet a request. */
-        bool is_cut = from->length == 1 && from->bytes[0] == '\r';
-        enum pergidau_code code = is_cut ? PERGIDAU_INCOMPLETE : pergidau_http_head_partial(
-            from->bytes, from->length, fields, MOST_FIELDS, &head);
-        bool keeps;
-        switch (code) {
-        case PERGIDAU_DONE:
-            keeps = serve(from, &head, fields);
-            break;
-        case PERGIDAU_INCOMPLETE:
-            keeps = from->length < ROOM
-                ? more(from)
-                : refuse(from->socket, "431 Request Header Fields Too Large");
-            break;
-        case PERGIDAU_BUFFER_TOO_SMALL:
-            keeps = refuse(from->socket, "431 Request Header Fields Too Large");
-            break;
-        case PERGIDAU_INVALID:
-            keeps = refuse(from->socket, "400 Bad Request");
-            break;
-        default:
-            fprintf(stderr, "%s\n", pergidau_message(code));
-            keeps = refuse(from->socket, "500 Internal Server Error");
+        if (step.kind == PERGIDAU_CHUNKED_DATA) {
+            if (step.span.length > ROOM - body_length) {
+                return reject("413 Content Too Large", "");
+            }
+            append(step.span.offset, step.span.length);
         }
-        if (!keeps) {
-            return;
+        drop(step.taken);
+        if (code == PERGIDAU_END || (code == PERGIDAU_INCOMPLETE && !more())) {
+            return code == PERGIDAU_END;
         }
     }
 }
 
-static const char *const scripts[] = {
-    /* Consecutive requests; the third closes the connection, so the fourth is ignored. */
-    "GET /hello HTTP/1.1\r\nHost: a\r\n\r\n"
-    "\r\nPOST /echo HTTP/1.1\r\nHost: a\r\ncontent-length: 14\r\n\r\nGET / HTTP/1.1"
-    "GET /none HTTP/1.1\r\nHost: a\r\nConnection: close\r\n\r\n"
-    "GET /hello HTTP/1.1\r\nHost: a\r\n\r\n",
-    "GET /hello HTTP/1.0\r\n\r\n",
-    "GET /hello HTTP/1.1\r\n\r\n",
-    "GET  /hello HTTP/1.1\r\nHost: a\r\n\r\n",
-    "GET /hello HTTP/1.1\r\nHost : a\r\n\r\n",
-    "GET /hello HTTP/2.0\r\nHost: a\r\n\r\n",
-    "POST /echo HTTP/1.1\r\nHost: a\r\nContent-Length: 5, 5\r\n\r\nhello",
-    "POST /echo HTTP/1.1\r\nHost: a\r\nTransfer-Encoding: chunked\r\n\r\n0\r\n\r\n",
-    "POST /echo HTTP/1.1\r\nHost: a\r\nContent-Length: 1000\r\n\r\n",
-    "GET /hello HTTP/1.1\r\na:\r\na:\r\na:\r\na:\r\na:\r\na:\r\na:\r\na:\r\nHost: a\r\n\r\n",
-    "GET /hello HTTP/1.1\r\nHo",
-};
-
-/* Sends a script in chunks, and prints the responses. */
-static void play(int socket, const char *script)
+/* Serves the request whose head has this length. Returns whether the connection stays open. */
+static bool serve(size_t length)
 {
-    size_t length = strlen(script), came = 0;
-    char got[2 * ROOM];
-    for (size_t sent = 0; sent < length; sent += 7) {
-        if (!send_all(socket, script + sent, length - sent < 7 ? length - sent : 7)) {
-            break;
-        }
+    struct pergidau_field fields[MOST_FIELDS];
+    struct pergidau_head head;
+    struct pergidau_http_body found;
+    if (pergidau_http_head(input, length, fields, MOST_FIELDS, &head) != PERGIDAU_DONE) {
+        return reject("431 Request Header Fields Too Large", "");
     }
-    shutdown(socket, SHUT_WR);
-    for (ssize_t now; (now = read(socket, got + came, sizeof got - came)) > 0;) {
-        came += (size_t)now;
+    if (pergidau_http_request_body(input, length, &found) != PERGIDAU_DONE) {
+        return reject("400 Bad Request", pergidau_http_error_message(found.error));
     }
-    printf("%.*s\n", (int)came, got);
+    if (head.major != 1) {
+        return reject("505 HTTP Version Not Supported", "");
+    }
+    if (differs(fields, head.fields, "Transfer-Encoding", "chunked")) {
+        return reject("501 Not Implemented", "");
+    }
+    body_length = 0;
+    bool keeps = head.minor > 0 && !differs(fields, head.fields, "Connection", "keep-alive");
+    bool hello = is(head.method, "GET") && is(head.target, "/hello");
+    bool echo = is(head.method, "POST") && is(head.target, "/echo");
+    drop(length);
+    if (!(found.kind == PERGIDAU_HTTP_BODY_CHUNKED ? read_chunked() : read_counted(found.length))) {
+        return false;
+    }
+    return hello ? answer("200 OK", "hello\n", 6, keeps)
+        : echo   ? answer("200 OK", body, body_length, keeps)
+                 : answer("404 Not Found", "", 0, keeps);
 }
 
 int main(void)
 {
-    for (size_t i = 0; i < sizeof scripts / sizeof *scripts; i++) {
-        int ends[2], status = 0;
-        if (socketpair(AF_UNIX, SOCK_STREAM, 0, ends)) {
-            return 2;
-        }
-        fflush(stdout);
-        pid_t server = fork();
-        if (server == 0) {
-            struct connection from = {ends[1], 0, {0}};
-            close(ends[0]);
-            serve_all(&from);
-            shutdown(ends[1], SHUT_WR);
-            /* Drains the remaining input, so that the client receives the last response. */
-            while (read(ends[1], from.bytes, ROOM) > 0) {
-            }
-            _exit(0);
-        }
-        close(ends[1]);
-        printf("---- connection %zu\n", i + 1);
-        play(ends[0], scripts[i]);
-        close(ends[0]);
-        if (server < 0 || waitpid(server, &status, 0) != server || status != 0) {
-            return 2;
-        }
+    for (bool keeps = true; keeps;) {
+        struct pergidau_http_head_state state = {0};
+        enum pergidau_code code = PERGIDAU_INCOMPLETE;
+        size_t length = 0;
+        /* An empty line may precede a request (section 2.2 of RFC 9112). */
+        while ((input_length == 0 || (input_length == 1 && input[0] == '\r')) && more()) {}
+        drop(input_length >= 2 && !memcmp(input, "\r\n", 2) ? 2 : 0);
+        do {
+            code = pergidau_http_head_extent(&state, input, input_length, &length);
+        } while (code == PERGIDAU_INCOMPLETE && more());
+        keeps = code == PERGIDAU_DONE ? serve(length)
+            : code == PERGIDAU_INVALID ? reject("400 Bad Request", "invalid head")
+            : input_length == ROOM && reject("431 Request Header Fields Too Large", "");
     }
     return 0;
 }

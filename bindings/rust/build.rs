@@ -29,10 +29,18 @@ fn links(folder: &Path, name: &str) -> bool {
     false
 }
 
-/// The folder that `pkg-config` names, if the version is that of this crate.
+/// Whether a library of the version `found` has what this crate needs: the first number is the same,
+/// and the others are not lower.
+fn fits(found: &str) -> bool {
+    let numbers = |text: &str| text.split('.').map_while(|it| it.parse().ok()).collect::<Vec<u64>>();
+    let (found, wanted) = (numbers(found), numbers(VERSION));
+    found.first() == wanted.first() && found >= wanted
+}
+
+/// The folder that `pkg-config` names, if the library there fits this crate.
 fn installed(name: &str) -> Result<PathBuf, String> {
     let found = asked(&["--modversion", name]).ok_or("pkg-config finds none")?;
-    if found != VERSION {
+    if !fits(&found) {
         return Err(format!("pkg-config finds version {found}"));
     }
     asked(&["--variable=libdir", name]).map(PathBuf::from).ok_or("pkg-config reports no folder".into())

@@ -373,6 +373,7 @@ static void read_chunked(const uint8_t *bytes, size_t length)
 }
 
 #include "heads_fuzz.h"
+#include "bodies_fuzz.h"
 #include "ini_fuzz.h"
 #include "json_fuzz.h"
 #include "toml_fuzz.h"
@@ -401,6 +402,7 @@ static void read_all(const uint8_t *bytes, size_t length)
     read_reply(bytes, length);
     read_extent(bytes, length);
     read_chunked(bytes, length);
+    read_body(bytes, length);
     read_toml(bytes, length);
     read_place(bytes, length);
 }
@@ -408,7 +410,7 @@ static void read_all(const uint8_t *bytes, size_t length)
 int main(int count, char **words)
 {
     unsigned long inputs = count > 1 ? strtoul(words[1], NULL, 10) : 1000;
-    state = count > 2 ? strtoull(words[2], NULL, 10) : 0x9E3779B97F4A7C15u;
+    generator = count > 2 ? strtoull(words[2], NULL, 10) : 0x9E3779B97F4A7C15u;
     page = (size_t)sysconf(_SC_PAGESIZE);
     input_room = room();
     buffer_room = room();

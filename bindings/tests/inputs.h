@@ -12,14 +12,14 @@ enum { PAGES = 2 };
 static size_t page;
 /* Two memory regions, each between two pages that cannot be read: for the input and for buffers. */
 static uint8_t *input_room, *buffer_room;
-static uint64_t state;
+static uint64_t generator;
 
 static uint64_t random_number(void)
 {
-    state ^= state << 13;
-    state ^= state >> 7;
-    state ^= state << 17;
-    return state * 0x2545F4914F6CDD1Du;
+    generator ^= generator << 13;
+    generator ^= generator >> 7;
+    generator ^= generator << 17;
+    return generator * 0x2545F4914F6CDD1Du;
 }
 
 static size_t below(size_t end)
@@ -58,6 +58,11 @@ static const char *const seeds[] = {
     "4\r\nWiki\r\n5;a=\"b\"\r\npedia\r\n0\r\nA: b\r\n\r\nrest",
     "1\r\na\r\n2 ; c = d\r\n\r\n\r\n00\r\n\r\n",
     "PUT /x HTTP/1.0\r\nX: 1\r\nX:\t2 \r\nY:\r\nZ: \t \r\n\r\nbody",
+    "POST / HTTP/1.1\r\nHost: a\r\nContent-Length: 5, 5\r\n\r\nhello",
+    "POST / HTTP/1.1\r\nHost: a\r\nContent-Length: 05\r\nContent-Length:\t05 \r\n\r\n",
+    "POST / HTTP/1.1\r\nHost: a\r\nTransfer-Encoding: gzip, Chunked\r\n\r\n0\r\n\r\n",
+    "POST / HTTP/1.1\r\nHost: a\r\nTransfer-Encoding: chunked ;a, chunked\r\n\r\n",
+    "POST / HTTP/1.0\r\nTransfer-Encoding: ,chunked,\r\nContent-Length: 5\r\n\r\n",
     "HTTP/1.1 404 Not Found, and no other page\r\nServer: a\r\nX: \t \r\n\r\nbody",
     "HTTP/1.0 200\r\nA:b\r\n\r\n",
     "a = 1\nb.c = [1, {d = 2.5}, [], \"x\\u00e9\"]\n",
@@ -66,7 +71,7 @@ static const char *const seeds[] = {
 };
 enum { SEEDS = sizeof seeds / sizeof *seeds };
 
-static const char wanted[] = "0123456789+-*/%^!= \t\r\n:;,\"\\[]{}$eEntfu.GETHTTP/1.\xff\xc3\x80";
+static const char inserted[] = "0123456789+-*/%^!= \t\r\n:;,\"\\[]{}$eEntfu.GETHTTP/1.\xff\xc3\x80";
 
 /* Fills the bytes at random, or from parts of seeds with some bytes changed. */
 static size_t fill(uint8_t *bytes, size_t most)
@@ -95,7 +100,7 @@ static size_t fill(uint8_t *bytes, size_t most)
         }
     }
     for (size_t turns = below(2) ? below(4) : 0; turns > 0 && length > 0; turns--) {
-        bytes[below(length)] = (uint8_t)wanted[below(sizeof wanted - 1)];
+        bytes[below(length)] = (uint8_t)inserted[below(sizeof inserted - 1)];
     }
     return length;
 }

@@ -787,7 +787,7 @@ struct decoded {
     char content[64], trailers[64];
     size_t data, fields, taken;
     enum pergidau_code code;
-    size_t error;
+    enum pergidau_chunked_error error;
 };
 
 static struct decoded decode(struct pergidau_chunked_state state, const char *row, size_t length,
@@ -1004,6 +1004,33 @@ static void test_wrong_use(void)
     test_wrong_records();
 }
 
+static void test_message(const char *message, const char *wanted)
+{
+    same("the message", wanted, strcmp(message, wanted), 0);
+}
+
+/* The messages of the first and the last error of each kind, and of a number after it. */
+static void test_messages_of_errors(void)
+{
+    test_message(pergidau_ini_error_message(PERGIDAU_INI_ERROR_NONE), "no error");
+    test_message(pergidau_ini_error_message(PERGIDAU_INI_ERROR_MISSING_DELIMITER),
+                 "missing delimiter after the key");
+    test_message(pergidau_ini_error_message((enum pergidau_ini_error)7), "unknown error");
+    test_message(pergidau_toml_error_message(PERGIDAU_TOML_ERROR_KEY), "expected a key or a table");
+    test_message(pergidau_toml_error_message(PERGIDAU_TOML_ERROR_NOT_AN_ARRAY_OF_TABLES),
+                 "key is not an array of tables");
+    test_message(pergidau_toml_error_message((enum pergidau_toml_error)11), "unknown error");
+    test_message(pergidau_chunked_error_message(PERGIDAU_CHUNKED_ERROR_SIZE),
+                 "expected a chunk size");
+    test_message(pergidau_chunked_error_message(PERGIDAU_CHUNKED_ERROR_TRAILERS_TOO_LONG),
+                 "trailer section too long");
+    test_message(pergidau_chunked_error_message((enum pergidau_chunked_error)8), "unknown error");
+    test_message(pergidau_http_error_message(PERGIDAU_HTTP_ERROR_HEAD), "invalid head");
+    test_message(pergidau_http_error_message(PERGIDAU_HTTP_ERROR_LENGTH_TOO_LARGE),
+                 "Content-Length too large");
+    test_message(pergidau_http_error_message((enum pergidau_http_error)11), "unknown error");
+}
+
 /* The version of the library, whether it is proved, and the message of each code. */
 static void test_library(void)
 {
@@ -1033,19 +1060,21 @@ static void test_library(void)
         const char *message = pergidau_message((enum pergidau_code)code);
         same("the message", messages[code], strcmp(message, messages[code]), 0);
     }
+    test_messages_of_errors();
     same("kinds", "JSON", PERGIDAU_JSON_NULL, 0);
     same("kinds", "JSON", PERGIDAU_JSON_OBJECT, 6);
     same("kinds", "RESP", PERGIDAU_RESP_NULL_ARRAY, 6);
     same("kinds", "a chunked body", PERGIDAU_CHUNKED_TRAILERS, 1);
-    same("errors", "a chunked body", PERGIDAU_CHUNKED_ERROR_TRAILERS_TOO_LONG, 6);
+    same("errors", "a chunked body", PERGIDAU_CHUNKED_ERROR_TRAILERS_TOO_LONG, 7);
     same("kinds", "INI", PERGIDAU_INI_MORE, 3);
-    same("errors", "INI", PERGIDAU_INI_ERROR_MISSING_DELIMITER, 5);
+    same("errors", "INI", PERGIDAU_INI_ERROR_MISSING_DELIMITER, 6);
     struct pergidau_json_item item;
     struct pergidau_reply reply;
-    same("the size of a kind", "JSON", sizeof item.kind, sizeof(size_t));
-    same("the size of a kind", "RESP", sizeof reply.kind, sizeof(size_t));
+    same("the size of a kind", "JSON", sizeof item.kind, sizeof(uint32_t));
+    same("the size of a kind", "RESP", sizeof reply.kind, sizeof(uint32_t));
 }
 
+#include "bodies_rows.h"
 #include "heads_rows.h"
 
 int main(void)
@@ -1069,6 +1098,8 @@ int main(void)
     test_replies();
     test_extents();
     test_bodies();
+    test_body_lengths();
+    test_fields();
     test_toml();
     test_positions();
     test_wrong_use();

@@ -6,7 +6,10 @@ fn main() -> Result<(), Error> {
     for formula in ["2 + 3 * 4", "1 / 0"] {
         match calc::value(formula) {
             Ok(value) => println!("{formula} is {value}"),
-            Err(error) => println!("{formula}: {error}"),
+            Err(error) => {
+                let position = error.position(formula).map(|it| it.to_string()).unwrap_or_default();
+                println!("{formula}: invalid input at {position}");
+            }
         }
     }
     let request = b"GET /hello.txt HTTP/1.1\r\nHost: www.example.com\r\nAccept: *\r\n\r\n";

@@ -4,9 +4,9 @@
 //! use pergidau::calc;
 //!
 //! assert_eq!(calc::value("2 + 3 * 4"), Ok(14));
-//! assert_eq!(calc::value("1 / 0").unwrap_err().to_string(), "invalid input at line 1, column 6");
+//! assert_eq!(calc::value("1 / 0").unwrap_err().to_string(), "invalid input at offset 5");
 //! ```
-use crate::{exports, Error, Position, NOTHING};
+use crate::{exports, Error, NOTHING};
 
 /// Evaluates a formula of integers.
 ///
@@ -15,7 +15,7 @@ use crate::{exports, Error, Position, NOTHING};
 ///
 /// # Errors
 ///
-/// [`Error::Invalid`] holds the position of the error: of a syntax error, or of an operation whose
+/// [`Error::Invalid`] holds the offset of the error: of a syntax error, or of an operation whose
 /// value is undefined or does not fit. `%` fails if the quotient does not fit, as in `-2 ^ 63 %
 /// -1`.
 ///
@@ -37,9 +37,6 @@ pub fn value(text: &str) -> Result<i64, Error> {
     let code = unsafe { exports::exported_calc_value(text.as_ptr(), text.len(), &mut out) };
     match code {
         exports::DONE => Ok(out.value),
-        code => {
-            let position = Some(Position::of(text.as_bytes(), out.error_offset));
-            Err(Error::of(code, position, NOTHING))
-        }
+        code => Err(Error::of(code, Some(out.error_offset), NOTHING)),
     }
 }

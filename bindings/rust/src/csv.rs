@@ -11,7 +11,9 @@ mod extent;
 
 pub use self::extent::{Extent, Size};
 
-use crate::{at, exports, Error, Position, RequiredSize, Span};
+use crate::{at, exports, Error, RequiredSize, Span};
+#[cfg(feature = "alloc")]
+use alloc::vec::Vec;
 
 /// A line ending.
 #[derive(Clone, Copy, Debug, Default, PartialEq, Eq)]
@@ -60,13 +62,14 @@ type Export = unsafe extern "C" fn(
     *mut exports::Record,
 ) -> u32;
 
-fn read<'i, 'b>(
+/// Returns the sizes of the record that was written.
+fn write(
     export: Export,
-    bytes: &'i [u8],
+    bytes: &[u8],
     end: LineEnd,
-    text: &'b mut [u8],
-    fields: &'b mut [Span],
-) -> Result<Record<'i, 'b>, Error> {
+    text: &mut [u8],
+    fields: &mut [Span],
+) -> Result<exports::Record, Error> {
     let mut out = exports::Record::default();
     let line_feeds = u32::from(end == LineEnd::Lf);
     let (room, most) = (text.as_mut_ptr(), text.len());
@@ -77,17 +80,34 @@ fn read<'i, 'b>(
         export(bytes.as_ptr(), bytes.len(), line_feeds, room, most, entries, count, &mut out)
     };
     match code {
-        exports::DONE => Ok(Record {
-            text: &text[..out.text],
-            places: &fields[..out.fields],
-            rest: &bytes[out.length..],
-        }),
+        exports::DONE => Ok(out),
         code => {
-            let position = || Position::of(bytes, out.error_offset);
             let required = RequiredSize { entries: out.fields, bytes: out.text };
-            Err(Error::of(code, (code == exports::INVALID).then(position), required))
+            Err(Error::of(code, Some(out.error_offset), required))
         }
     }
+}
+
+/// The record of these sizes at the start of `bytes`, in the buffers that it was written into.
+fn shown<'i, 'b>(
+    bytes: &'i [u8],
+    out: &exports::Record,
+    text: &'b [u8],
+    fields: &'b [Span],
+) -> Record<'i, 'b> {
+    let (text, places) = (&text[..out.text], &fields[..out.fields]);
+    Record { text, places, rest: &bytes[out.length..] }
+}
+
+fn read<'i, 'b>(
+    export: Export,
+    bytes: &'i [u8],
+    end: LineEnd,
+    text: &'b mut [u8],
+    fields: &'b mut [Span],
+) -> Result<Record<'i, 'b>, Error> {
+    let out = write(export, bytes, end, text, fields)?;
+    Ok(shown(bytes, &out, text, fields))
 }
 
 /// Parses one record of comma-separated values (RFC 4180), followed by a line ending or the end of
@@ -99,7 +119,7 @@ fn read<'i, 'b>(
 /// # Errors
 ///
 /// - [`Error::BufferTooSmall`] if a buffer is too small; it holds the required sizes.
-/// - [`Error::Invalid`] if `bytes` does not start with a record; it holds the position of the first
+/// - [`Error::Invalid`] if `bytes` does not start with a record; it holds the offset of the first
 ///   invalid byte.
 ///
 /// ```
@@ -111,7 +131,7 @@ fn read<'i, 'b>(
 /// assert_eq!(record.fields().collect::<Vec<_>>(), [&b"a"[..], b"b \"c\""]);
 /// assert_eq!(record.rest(), b"d");
 /// let error = csv::record(b"a,b\"c", LineEnd::Lf, &mut text, &mut fields).unwrap_err();
-/// assert_eq!(error.to_string(), "invalid input at line 1, column 4");
+/// assert_eq!(error.to_string(), "invalid input at offset 3");
 /// # Ok::<(), pergidau::Error>(())
 /// ```
 pub fn record<'i, 'b>(
@@ -143,7 +163,7 @@ pub fn record<'i, 'b>(
 /// let record = csv::record_partial(b"a,b", LineEnd::CrLf, &mut [], &mut []);
 /// assert_eq!(record.unwrap_err(), Error::Incomplete);
 /// let never = csv::record_partial(b"x\"y", LineEnd::CrLf, &mut [], &mut []);
-/// assert_eq!(never.unwrap_err().to_string(), "invalid input at line 1, column 2");
+/// assert_eq!(never.unwrap_err().to_string(), "invalid input at offset 1");
 /// ```
 pub fn record_partial<'i, 'b>(
     bytes: &'i [u8],
@@ -154,9 +174,10 @@ pub fn record_partial<'i, 'b>(
     read(exports::exported_csv_record_partial, bytes, end, text, fields)
 }
 
-/// An iterator over the records of a document. Each record owns its fields. After an error the
-/// iterator returns `None`.
-#[cfg(feature = "std")]
+/// The records of a document, in buffers that grow as needed. [`next_record`](Records::next_record)
+/// lends a record, and allocates only if a buffer is too small. As an iterator, it returns records
+/// that own their fields. After an error there are no more records.
+#[cfg(feature = "alloc")]
 #[derive(Clone, Debug)]
 pub struct Records<'i> {
     document: &'i [u8],
@@ -166,40 +187,67 @@ pub struct Records<'i> {
     fields: Vec<Span>,
 }
 
-#[cfg(feature = "std")]
+#[cfg(feature = "alloc")]
+impl<'i> Records<'i> {
+    /// Returns the next record, in the buffers of `self`.
+    ///
+    /// ```
+    /// use pergidau::csv::{self, LineEnd};
+    ///
+    /// let (mut records, mut sum) = (csv::records(b"a,b\nc\n", LineEnd::Lf), 0);
+    /// while let Some(record) = records.next_record() {
+    ///     sum += record?.fields().len();
+    /// }
+    /// assert_eq!(sum, 3);
+    /// # Ok::<(), pergidau::Error>(())
+    /// ```
+    pub fn next_record(&mut self) -> Option<Result<Record<'i, '_>, Error>> {
+        let left = self.left;
+        let found = loop {
+            if left.is_empty() {
+                return None;
+            }
+            let (text, fields) = (&mut self.text, &mut self.fields);
+            match write(exports::exported_csv_record, left, self.end, text, fields) {
+                Err(Error::BufferTooSmall(required)) => {
+                    text.resize(required.bytes.max(text.len()), 0);
+                    fields.resize(required.entries.max(fields.len()), Span::default());
+                }
+                found => break found,
+            }
+        };
+        match found {
+            Ok(out) => {
+                self.left = &left[out.length..];
+                Some(Ok(shown(left, &out, &self.text, &self.fields)))
+            }
+            Err(error) => {
+                let before = self.document.len() - left.len();
+                self.left = &[];
+                Some(Err(match error {
+                    Error::Invalid(Some(offset)) => Error::Invalid(Some(before + offset)),
+                    error => error,
+                }))
+            }
+        }
+    }
+}
+
+#[cfg(feature = "alloc")]
 impl Iterator for Records<'_> {
     type Item = Result<Vec<Vec<u8>>, Error>;
 
     fn next(&mut self) -> Option<Self::Item> {
-        while !self.left.is_empty() {
-            match record(self.left, self.end, &mut self.text, &mut self.fields) {
-                Ok(record) => {
-                    self.left = record.rest();
-                    return Some(Ok(record.fields().map(<[u8]>::to_vec).collect()));
-                }
-                Err(Error::BufferTooSmall(required)) => {
-                    self.text.resize(required.bytes.max(self.text.len()), 0);
-                    self.fields.resize(required.entries.max(self.fields.len()), Span::default());
-                }
-                Err(error) => {
-                    let before = self.document.len() - self.left.len();
-                    self.left = &[];
-                    return Some(Err(match error {
-                        Error::Invalid(Some(position)) => {
-                            let offset = before + position.offset;
-                            Error::Invalid(Some(Position::of(self.document, offset)))
-                        }
-                        error => error,
-                    }));
-                }
-            }
-        }
-        None
+        let record = self.next_record()?;
+        Some(record.map(|record| record.fields().map(<[u8]>::to_vec).collect()))
     }
 }
 
-/// Returns an iterator over the records of a document. If a record is invalid, the error holds the
-/// position of the first invalid byte.
+#[cfg(feature = "alloc")]
+impl core::iter::FusedIterator for Records<'_> {}
+
+/// Returns the records of a document. If a record is invalid, the error holds the offset of the
+/// first invalid byte in the document.
 ///
 /// ```
 /// use pergidau::csv::{self, LineEnd};
@@ -207,10 +255,10 @@ impl Iterator for Records<'_> {
 /// let records: Result<Vec<_>, _> = csv::records(b"a,b\n\"c\nd\",\n", LineEnd::Lf).collect();
 /// assert_eq!(records?, [[b"a".to_vec(), b"b".to_vec()], [b"c\nd".to_vec(), Vec::new()]]);
 /// let error = csv::records(b"a\nb\"\n", LineEnd::Lf).last();
-/// assert_eq!(error.unwrap().unwrap_err().to_string(), "invalid input at line 2, column 2");
+/// assert_eq!(error.unwrap().unwrap_err().to_string(), "invalid input at offset 3");
 /// # Ok::<(), pergidau::Error>(())
 /// ```
-#[cfg(feature = "std")]
+#[cfg(feature = "alloc")]
 pub fn records(document: &[u8], end: LineEnd) -> Records<'_> {
     Records { document, left: document, end, text: Vec::new(), fields: Vec::new() }
 }

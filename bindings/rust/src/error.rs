@@ -14,7 +14,14 @@ pub struct Position {
 }
 
 impl Position {
-    /// Returns the position after the first `offset` bytes.
+    /// Returns the position after the first `offset` bytes. Bytes after them are not read.
+    ///
+    /// ```
+    /// use pergidau::Position;
+    ///
+    /// let text = "a = 1\nb c\n";
+    /// assert_eq!(Position::of(text.as_bytes(), 8).to_string(), "line 2, column 3");
+    /// ```
     pub fn of(bytes: &[u8], offset: usize) -> Position {
         let mut found = exports::Position::default();
         // SAFETY: the pointers are those of live borrows, and the bytes are only read. The call uses up to
@@ -36,8 +43,8 @@ impl fmt::Display for Position {
 #[derive(Clone, Copy, Debug, PartialEq, Eq)]
 #[non_exhaustive]
 pub enum Error {
-    /// The input is invalid, at this position if the reader reports one.
-    Invalid(Option<Position>),
+    /// The input is invalid, at this offset in bytes if the reader reports one.
+    Invalid(Option<usize>),
     /// The input is incomplete. The function documents whether more bytes can complete it.
     Incomplete,
     /// Memory allocation failed.
@@ -62,10 +69,31 @@ pub struct RequiredSize {
 }
 
 impl Error {
+    /// Returns the offset of the error in bytes, if the reader reports one.
+    pub fn offset(&self) -> Option<usize> {
+        match self {
+            Error::Invalid(offset) => *offset,
+            _ => None,
+        }
+    }
+
+    /// Returns the line and the column of the error in the input of the call, if the reader reports
+    /// an offset.
+    ///
+    /// ```
+    /// let error = pergidau::calc::value("1 +\n 2 / 0").unwrap_err();
+    /// assert_eq!(error.to_string(), "invalid input at offset 10");
+    /// let position = error.position("1 +\n 2 / 0").unwrap();
+    /// assert_eq!(position.to_string(), "line 2, column 7");
+    /// ```
+    pub fn position(&self, input: impl AsRef<[u8]>) -> Option<Position> {
+        self.offset().map(|offset| Position::of(input.as_ref(), offset))
+    }
+
     /// Converts a code other than `DONE` to an error.
-    pub(crate) fn of(code: u32, position: Option<Position>, required: RequiredSize) -> Error {
+    pub(crate) fn of(code: u32, offset: Option<usize>, required: RequiredSize) -> Error {
         match code {
-            exports::INVALID => Error::Invalid(position),
+            exports::INVALID => Error::Invalid(offset),
             exports::INCOMPLETE => Error::Incomplete,
             exports::NO_MEMORY => Error::NoMemory,
             exports::INVALID_UTF8 => Error::InvalidUtf8,
@@ -79,7 +107,7 @@ impl Error {
 impl fmt::Display for Error {
     fn fmt(&self, f: &mut fmt::Formatter<'_>) -> fmt::Result {
         match self {
-            Error::Invalid(Some(position)) => write!(f, "invalid input at {position}"),
+            Error::Invalid(Some(offset)) => write!(f, "invalid input at offset {offset}"),
             Error::Invalid(None) => f.write_str("invalid input"),
             Error::Incomplete => f.write_str("incomplete input: more bytes are needed"),
             Error::NoMemory => f.write_str("memory allocation failed"),

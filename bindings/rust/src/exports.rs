@@ -31,64 +31,120 @@ pub const END: u32 = 9;
 /// Number is not an integer or out of range. The function determines the range.
 pub const NOT_AN_INTEGER: u32 = 10;
 
+/// The message has no body. The next message starts after its head.
+pub const HTTP_BODY_NONE: u32 = 0;
+
+/// The body is chunked. Decode it with `exported_http_chunked`. If other codings precede `chunked`,
+/// the content is encoded by these.
+pub const HTTP_BODY_CHUNKED: u32 = 1;
+
+/// The body has a number of bytes.
+pub const HTTP_BODY_LENGTH: u32 = 2;
+
+/// The body ends with the connection.
+pub const HTTP_BODY_UNTIL_CLOSE: u32 = 3;
+
+/// The connection has become a tunnel.
+pub const HTTP_BODY_TUNNEL: u32 = 4;
+
+/// No error.
+pub const HTTP_ERROR_NONE: u32 = 0;
+
+/// Invalid head. The bytes do not start with one.
+pub const HTTP_ERROR_HEAD: u32 = 1;
+
+/// Missing Host field. A request of HTTP/1.1 must have one.
+pub const HTTP_ERROR_MISSING_HOST: u32 = 2;
+
+/// More than one Host field.
+pub const HTTP_ERROR_MANY_HOSTS: u32 = 3;
+
+/// Transfer-Encoding in a version before HTTP/1.1.
+pub const HTTP_ERROR_CODING_BEFORE_VERSION: u32 = 4;
+
+/// Both Transfer-Encoding and Content-Length.
+pub const HTTP_ERROR_LENGTH_AND_CODING: u32 = 5;
+
+/// Transfer coding after chunked. It may be `chunked` again.
+pub const HTTP_ERROR_CHUNKED_NOT_LAST: u32 = 6;
+
+/// Last transfer coding of the request is not chunked.
+pub const HTTP_ERROR_NOT_CHUNKED: u32 = 7;
+
+/// Content-Length values differ. An empty value and one with other leading zeros differ, too.
+pub const HTTP_ERROR_LENGTHS_DIFFER: u32 = 8;
+
+/// Content-Length is not a number.
+pub const HTTP_ERROR_LENGTH_NOT_A_NUMBER: u32 = 9;
+
+/// Content-Length too large. It is 2^64 or more.
+pub const HTTP_ERROR_LENGTH_TOO_LARGE: u32 = 10;
+
 /// Data of a chunk, one byte or more.
-pub const CHUNKED_DATA: usize = 0;
+pub const CHUNKED_DATA: u32 = 0;
 
 /// Bytes of the trailer section, one or more. All of them together are complete field lines, each
 /// with its line ending.
-pub const CHUNKED_TRAILERS: usize = 1;
+pub const CHUNKED_TRAILERS: u32 = 1;
 
-/// A size line does not start with a hexadecimal digit.
-pub const CHUNKED_ERROR_SIZE: usize = 0;
+/// No error.
+pub const CHUNKED_ERROR_NONE: u32 = 0;
 
-/// The byte is invalid in a size line: it can continue neither an extension nor a line ending.
-pub const CHUNKED_ERROR_SIZE_LINE: usize = 1;
+/// Expected a chunk size. A size line does not start with a hexadecimal digit.
+pub const CHUNKED_ERROR_SIZE: u32 = 1;
 
-/// With this digit the size is 2^64 or more.
-pub const CHUNKED_ERROR_SIZE_TOO_LARGE: usize = 2;
+/// Invalid byte in a chunk size line. It can continue neither an extension nor a line ending.
+pub const CHUNKED_ERROR_SIZE_LINE: u32 = 2;
 
-/// There are more bytes than the limit allows before the next data, or before the end.
-pub const CHUNKED_ERROR_SIZE_LINE_TOO_LONG: usize = 3;
+/// Chunk size too large. With this digit it is 2^64 or more.
+pub const CHUNKED_ERROR_SIZE_TOO_LARGE: u32 = 3;
 
-/// The data of a chunk is not followed by a carriage return and a line feed.
-pub const CHUNKED_ERROR_DATA_END: usize = 4;
+/// Chunk size line too long. The limit counts the bytes before the next data, or before the end.
+pub const CHUNKED_ERROR_SIZE_LINE_TOO_LONG: u32 = 4;
 
-/// The byte can continue neither a field line nor the line ending after the trailer section.
-pub const CHUNKED_ERROR_TRAILERS: usize = 5;
+/// Expected CRLF after chunk data.
+pub const CHUNKED_ERROR_DATA_END: u32 = 5;
 
-/// The trailer section would have more bytes than the limit lets.
-pub const CHUNKED_ERROR_TRAILERS_TOO_LONG: usize = 6;
+/// Invalid byte in the trailer section. It can continue neither a field line nor the line ending
+/// after the section.
+pub const CHUNKED_ERROR_TRAILERS: u32 = 6;
+
+/// Trailer section too long.
+pub const CHUNKED_ERROR_TRAILERS_TOO_LONG: u32 = 7;
 
 /// The name of a section, which begins there.
-pub const INI_SECTION: usize = 0;
+pub const INI_SECTION: u32 = 0;
 
 /// A key with its value, or with the first line of that.
-pub const INI_PAIR: usize = 1;
+pub const INI_PAIR: u32 = 1;
 
 /// A key without a delimiter, and so without a value.
-pub const INI_KEY: usize = 2;
+pub const INI_KEY: u32 = 2;
 
 /// One more line of the value of the pair before. It is empty for an empty line, also where no
 /// other line of the value follows.
-pub const INI_MORE: usize = 3;
+pub const INI_MORE: u32 = 3;
 
-/// The line starts with `[` and has no `]`.
-pub const INI_ERROR_UNCLOSED_SECTION: usize = 0;
+/// No error.
+pub const INI_ERROR_NONE: u32 = 0;
 
-/// There is nothing between `[` and `]`.
-pub const INI_ERROR_EMPTY_SECTION: usize = 1;
+/// Unclosed section header. The line starts with `[` and has no `]`.
+pub const INI_ERROR_UNCLOSED_SECTION: u32 = 1;
 
-/// There is text after the `]`.
-pub const INI_ERROR_TRAILING_TEXT: usize = 2;
+/// Empty section name. There is nothing between `[` and `]`.
+pub const INI_ERROR_EMPTY_SECTION: u32 = 2;
 
-/// There is no section before the pair.
-pub const INI_ERROR_MISSING_SECTION: usize = 3;
+/// Unexpected text after a section header.
+pub const INI_ERROR_TRAILING_TEXT: u32 = 3;
 
-/// There is no key before the delimiter.
-pub const INI_ERROR_MISSING_KEY: usize = 4;
+/// Pair before the first section header.
+pub const INI_ERROR_MISSING_SECTION: u32 = 4;
 
-/// There is no delimiter.
-pub const INI_ERROR_MISSING_DELIMITER: usize = 5;
+/// Missing key before the delimiter.
+pub const INI_ERROR_MISSING_KEY: u32 = 5;
+
+/// Missing delimiter after the key.
+pub const INI_ERROR_MISSING_DELIMITER: u32 = 6;
 
 /// `=` ends a key. Where neither this is set nor the next, both end one.
 pub const INI_DIALECT_EQUALS: usize = 1;
@@ -96,13 +152,13 @@ pub const INI_DIALECT_EQUALS: usize = 1;
 /// `:` ends a key.
 pub const INI_DIALECT_COLON: usize = 2;
 
-/// `#` begins a comment where it is the first of a line, after white space.
+/// `#` begins a comment where it is the first of a line, after whitespace.
 pub const INI_DIALECT_NUMBER_SIGN: usize = 4;
 
 /// `;` does.
 pub const INI_DIALECT_SEMICOLON: usize = 8;
 
-/// `#` begins a comment at the start of a line, or after white space in it.
+/// `#` begins a comment at the start of a line, or after whitespace in it.
 pub const INI_DIALECT_INLINE_NUMBER_SIGN: usize = 16;
 
 /// `;` does.
@@ -129,7 +185,7 @@ pub const INI_DIALECT_PYTHON: usize = 143;
 /// The dialect of desktop entries: `=`, `#` at the start of lines, a line for each pair.
 pub const INI_DIALECT_DESKTOP: usize = 5;
 
-/// The dialect that reads most: `=` and `:`, comments after white space too, keys without values,
+/// The dialect that reads most: `=` and `:`, comments after whitespace too, keys without values,
 /// pairs before the first section, a line for each pair.
 pub const INI_DIALECT_LENIENT: usize = 831;
 
@@ -137,124 +193,125 @@ pub const INI_DIALECT_LENIENT: usize = 831;
 pub const MAX_DEPTH: usize = 512;
 
 /// The word null.
-pub const JSON_NULL: usize = 0;
+pub const JSON_NULL: u32 = 0;
 
 /// The word false.
-pub const JSON_FALSE: usize = 1;
+pub const JSON_FALSE: u32 = 1;
 
 /// The word true.
-pub const JSON_TRUE: usize = 2;
+pub const JSON_TRUE: u32 = 2;
 
 /// A number.
-pub const JSON_NUMBER: usize = 3;
+pub const JSON_NUMBER: u32 = 3;
 
 /// A string: its place has the quotes round it, and escapes as they are written.
-pub const JSON_STRING: usize = 4;
+pub const JSON_STRING: u32 = 4;
 
 /// An array: its place has the brackets round it.
-pub const JSON_ARRAY: usize = 5;
+pub const JSON_ARRAY: u32 = 5;
 
 /// An object: its place has the brackets round it.
-pub const JSON_OBJECT: usize = 6;
+pub const JSON_OBJECT: u32 = 6;
 
 /// The name of a member, which is a string: its place has the quotes round it.
-pub const JSON_NAME: usize = 7;
+pub const JSON_NAME: u32 = 7;
 
 /// The opening bracket of an array.
-pub const JSON_BEGIN_ARRAY: usize = 8;
+pub const JSON_BEGIN_ARRAY: u32 = 8;
 
 /// The bracket after it.
-pub const JSON_END_ARRAY: usize = 9;
+pub const JSON_END_ARRAY: u32 = 9;
 
 /// The opening bracket of an object.
-pub const JSON_BEGIN_OBJECT: usize = 10;
+pub const JSON_BEGIN_OBJECT: u32 = 10;
 
 /// The bracket after it.
-pub const JSON_END_OBJECT: usize = 11;
+pub const JSON_END_OBJECT: u32 = 11;
 
 /// A simple string: bytes among which is neither a carriage return nor a line feed.
-pub const RESP_SIMPLE: usize = 0;
+pub const RESP_SIMPLE: u32 = 0;
 
 /// An error: such bytes.
-pub const RESP_ERROR: usize = 1;
+pub const RESP_ERROR: u32 = 1;
 
 /// An integer.
-pub const RESP_INTEGER: usize = 2;
+pub const RESP_INTEGER: u32 = 2;
 
 /// A bulk string: any bytes.
-pub const RESP_BULK: usize = 3;
+pub const RESP_BULK: u32 = 3;
 
 /// The null bulk string.
-pub const RESP_NULL_BULK: usize = 4;
+pub const RESP_NULL_BULK: u32 = 4;
 
 /// An array.
-pub const RESP_ARRAY: usize = 5;
+pub const RESP_ARRAY: u32 = 5;
 
 /// The null array.
-pub const RESP_NULL_ARRAY: usize = 6;
+pub const RESP_NULL_ARRAY: u32 = 6;
 
 /// A table, of headers, of dotted keys or inline.
-pub const TOML_TABLE: usize = 0;
+pub const TOML_TABLE: u32 = 0;
 
 /// An array, of values or of tables.
-pub const TOML_ARRAY: usize = 1;
+pub const TOML_ARRAY: u32 = 1;
 
 /// A string.
-pub const TOML_STRING: usize = 2;
+pub const TOML_STRING: u32 = 2;
 
 /// An integer.
-pub const TOML_INTEGER: usize = 3;
+pub const TOML_INTEGER: u32 = 3;
 
 /// A float.
-pub const TOML_FLOAT: usize = 4;
+pub const TOML_FLOAT: u32 = 4;
 
 /// The word `true` or `false`.
-pub const TOML_BOOLEAN: usize = 5;
+pub const TOML_BOOLEAN: u32 = 5;
 
 /// A date and a time at an offset from UTC.
-pub const TOML_OFFSET_DATE_TIME: usize = 6;
+pub const TOML_OFFSET_DATE_TIME: u32 = 6;
 
 /// A date and a time with no offset.
-pub const TOML_LOCAL_DATE_TIME: usize = 7;
+pub const TOML_LOCAL_DATE_TIME: u32 = 7;
 
 /// A date without a time.
-pub const TOML_LOCAL_DATE: usize = 8;
+pub const TOML_LOCAL_DATE: u32 = 8;
 
 /// A time without a date.
-pub const TOML_LOCAL_TIME: usize = 9;
+pub const TOML_LOCAL_TIME: u32 = 9;
 
 /// No error.
-pub const TOML_ERROR_NONE: usize = 0;
+pub const TOML_ERROR_NONE: u32 = 0;
 
-/// A key or a table is expected.
-pub const TOML_ERROR_KEY: usize = 1;
+/// Expected a key or a table.
+pub const TOML_ERROR_KEY: u32 = 1;
 
-/// The equals sign after a key is expected.
-pub const TOML_ERROR_EQUALS_SIGN: usize = 2;
+/// Expected an equals sign after the key.
+pub const TOML_ERROR_EQUALS_SIGN: u32 = 2;
 
-/// A value is expected, nested no deeper than the depth limit.
-pub const TOML_ERROR_VALUE: usize = 3;
+/// Expected a value. It may be nested no deeper than the depth limit.
+pub const TOML_ERROR_VALUE: u32 = 3;
 
-/// The name of a table is expected.
-pub const TOML_ERROR_TABLE_NAME: usize = 4;
+/// Expected the name of a table.
+pub const TOML_ERROR_TABLE_NAME: u32 = 4;
 
-/// A bracket after the name of a table is expected.
-pub const TOML_ERROR_CLOSING_BRACKET: usize = 5;
+/// Expected a bracket after the name of a table.
+pub const TOML_ERROR_CLOSING_BRACKET: u32 = 5;
 
-/// The end of the line is expected.
-pub const TOML_ERROR_LINE_END: usize = 6;
+/// Expected the end of the line.
+pub const TOML_ERROR_LINE_END: u32 = 6;
 
-/// The line defines what is defined already.
-pub const TOML_ERROR_DEFINED: usize = 7;
+/// Key is already defined.
+pub const TOML_ERROR_DEFINED: u32 = 7;
 
-/// The line takes a value for a table.
-pub const TOML_ERROR_NOT_A_TABLE: usize = 8;
+/// Key is not a table.
+pub const TOML_ERROR_NOT_A_TABLE: u32 = 8;
 
-/// The line adds to a table that is closed: an inline table, or by dotted keys one of a header.
-pub const TOML_ERROR_CLOSED: usize = 9;
+/// Table cannot be extended. It is an inline table, or the line extends the table of a header by
+/// dotted keys.
+pub const TOML_ERROR_CLOSED: u32 = 9;
 
-/// The line adds a table to a key that is not an array of tables.
-pub const TOML_ERROR_NOT_AN_ARRAY_OF_TABLES: usize = 10;
+/// Key is not an array of tables.
+pub const TOML_ERROR_NOT_AN_ARRAY_OF_TABLES: u32 = 10;
 
 /// A span of the caller's bytes: an offset and a length.
 #[repr(C)]
@@ -336,6 +393,18 @@ pub struct Head {
     pub minor: u8,
 }
 
+/// The length of the body of a message, or why the message must be rejected.
+#[repr(C)]
+#[derive(Clone, Copy, Debug, Default, PartialEq, Eq)]
+pub struct HttpBody {
+    /// How the length is determined; `HTTP_BODY_NONE` after an error.
+    pub kind: u32,
+    /// The reason to reject the message; `HTTP_ERROR_NONE` otherwise.
+    pub error: u32,
+    /// The number of bytes of a body of the kind `HTTP_BODY_LENGTH`; 0 otherwise.
+    pub length: u64,
+}
+
 /// The state of decoding a chunked body as numbers, for callers that cannot keep a Rust type. Only
 /// the calls interpret them. A `place` of 0 means that nothing was consumed, regardless of the
 /// other numbers: use it at the start of each body. The limits are then those for a server, 4,096
@@ -365,15 +434,14 @@ pub struct ChunkedState {
 #[repr(C)]
 #[derive(Clone, Copy, Debug, Default, PartialEq, Eq)]
 pub struct ChunkedStep {
-    /// The kind of the output: `CHUNKED_DATA` or `CHUNKED_TRAILERS`.
-    pub kind: usize,
+    /// The kind of the output.
+    pub kind: u32,
     /// The span of the output in the input; zeros if there is no output.
     pub span: Span,
     /// How many bytes were taken. Those after them are the first of the next call.
     pub taken: usize,
-    /// The error of the byte after the consumed bytes: `CHUNKED_ERROR_SIZE` or one of the constants
-    /// after it; 0 otherwise.
-    pub error: usize,
+    /// The error of the byte after the consumed bytes; `CHUNKED_ERROR_NONE` otherwise.
+    pub error: u32,
 }
 
 /// The state of a search for the end of the head of a request. Only the functions of this library
@@ -459,17 +527,16 @@ pub struct IniState {
 #[repr(C)]
 #[derive(Clone, Copy, Debug, Default, PartialEq, Eq)]
 pub struct IniEntry {
-    /// The kind of the entry: one of the constants from `INI_SECTION` to `INI_MORE`.
-    pub kind: usize,
+    /// The kind of the entry.
+    pub kind: u32,
     /// The name of a section, or the key of a pair; zeros otherwise.
     pub key: Span,
     /// The value of a pair, or a further line of it; zeros otherwise.
     pub value: Span,
     /// The offset of the line that is invalid or not UTF-8; 0 otherwise.
     pub error_offset: usize,
-    /// The reason why the line is invalid: `INI_ERROR_UNCLOSED_SECTION` or one of the constants
-    /// after it; 0 otherwise.
-    pub error: usize,
+    /// The reason why the line is invalid; `INI_ERROR_NONE` otherwise.
+    pub error: u32,
 }
 
 /// A value, a name in an object, or a bracket. Only `exported_json_step` returns brackets.
@@ -479,7 +546,7 @@ pub struct JsonItem {
     /// The kind of the item: one of the constants from `JSON_NULL` to `JSON_END_OBJECT`. Only
     /// `exported_json_step` returns those after `JSON_OBJECT`; `exported_json_next` returns a name
     /// as a string.
-    pub kind: usize,
+    pub kind: u32,
     /// Its bytes.
     pub span: Span,
 }
@@ -499,7 +566,7 @@ pub struct JsonText {
 #[derive(Clone, Copy, Debug, Default, PartialEq, Eq)]
 pub struct Reply {
     /// The kind of the reply: one of the constants from `RESP_SIMPLE` to `RESP_NULL_ARRAY`.
-    pub kind: usize,
+    pub kind: u32,
     /// The number of an integer; 0 otherwise.
     pub number: i64,
     /// The number of elements of an array; 0 otherwise.
@@ -547,7 +614,7 @@ pub struct Position {
 #[derive(Clone, Copy, Debug, Default, PartialEq, Eq)]
 pub struct TomlValue {
     /// The kind: one of the numbers `TOML_TABLE` to `TOML_LOCAL_TIME`.
-    pub kind: usize,
+    pub kind: u32,
     /// The year of a date, from 0 to 9999.
     pub year: u16,
     /// The month of a date, from 1 to 12.
@@ -603,14 +670,13 @@ pub struct TomlResult {
     pub text: usize,
     /// The offset of the error in bytes; 0 otherwise.
     pub error_offset: usize,
-    /// The error: one of the constants from `TOML_ERROR_NONE` to
-    /// `TOML_ERROR_NOT_AN_ARRAY_OF_TABLES`.
-    pub error: usize,
+    /// The error; `TOML_ERROR_NONE` if there is none.
+    pub error: u32,
 }
 
 extern "C" {
-    /// A symbol that only a library of this version and with these declarations has.
-    #[link_name = "pergidau_0_0_0_declared_ab70bb49"]
+    /// A symbol that only a library with these declarations has.
+    #[link_name = "pergidau_declared_c209631e"]
     static VERSION_LINKED: c_char;
 
     /// Returns the version of the linked library.
@@ -832,6 +898,74 @@ extern "C" {
         out: *mut Head,
     ) -> u32;
 
+    /// Determines the length of the body of the request whose head is at the start of `bytes` (RFC
+    /// 9112, section 6.3), or why a server must respond with status 400 and close the connection.
+    ///
+    /// A request with both Transfer-Encoding and Content-Length, or with Transfer-Encoding in a version
+    /// before 1.1, is rejected. Content-Length fields must have one numeral, possibly repeated, and no
+    /// empty element. Names of fields and codings are compared ignoring ASCII case. Codings other than
+    /// `chunked` are not distinguished, and the value of a Host field is not examined.
+    ///
+    /// `DONE`: the kind is written, and the length of a body of the kind `HTTP_BODY_LENGTH`. The kind
+    /// is `HTTP_BODY_NONE`, `HTTP_BODY_CHUNKED` or `HTTP_BODY_LENGTH`.
+    ///
+    /// A call holds up to 32 bytes of memory for each byte of the head, and does not read after it.
+    ///
+    /// # Errors
+    ///
+    /// `INVALID`: the request must be rejected. The reason is written. If `bytes` does not start with a
+    /// head, it is `HTTP_ERROR_HEAD`.
+    ///
+    /// `NO_MEMORY`.
+    ///
+    /// After an error all else is 0.
+    ///
+    /// # Safety
+    ///
+    /// `bytes` must be valid for reads of `bytes_length` bytes, which must not change during the call,
+    /// and `out` must be valid for writes of one length. They must not overlap. The call needs 16 KiB
+    /// of stack.
+    pub fn exported_http_request_body(
+        bytes: *const u8,
+        bytes_length: usize,
+        out: *mut HttpBody,
+    ) -> u32;
+
+    /// Determines the length of the body of the response whose head is at the start of `bytes`, to a
+    /// request with this method (RFC 9112, section 6.3), or why a client must discard the response and
+    /// close the connection.
+    ///
+    /// The rules are those of `exported_http_request_body`, with these for responses: a response to
+    /// HEAD, or of status 1xx, 204 or 304, has no body. A response of status 2xx to CONNECT makes the
+    /// connection a tunnel. Without a length, or if the last coding is not `chunked`, the body ends
+    /// with the connection. Methods are compared in their letter case.
+    ///
+    /// `DONE`: the kind is written, and the length of a body of the kind `HTTP_BODY_LENGTH`.
+    ///
+    /// A call holds up to 32 bytes of memory for each byte of the head, and does not read after it.
+    ///
+    /// # Errors
+    ///
+    /// `INVALID`: the response must be rejected. The reason is written. If `bytes` does not start with
+    /// a head, it is `HTTP_ERROR_HEAD`.
+    ///
+    /// `NO_MEMORY`.
+    ///
+    /// After an error all else is 0.
+    ///
+    /// # Safety
+    ///
+    /// `method` must be valid for reads of `method_length` bytes, `bytes` for reads of `bytes_length`
+    /// bytes, which must not change during the call, and `out` for writes of one length. `out` must not
+    /// overlap the others. The call needs 16 KiB of stack.
+    pub fn exported_http_response_body(
+        method: *const u8,
+        method_length: usize,
+        bytes: *const u8,
+        bytes_length: usize,
+        out: *mut HttpBody,
+    ) -> u32;
+
     /// Decodes the next part of a chunked body of HTTP/1.1 (RFC 9112, section 7.1) in input that
     /// arrives in chunks of any size: data, bytes of trailers, or the end.
     ///
@@ -903,6 +1037,32 @@ extern "C" {
         state: *mut HttpHeadState,
         bytes: *const u8,
         bytes_length: usize,
+        out: *mut usize,
+    ) -> u32;
+
+    /// Finds the first field of a name among the fields that `exported_http_head` or
+    /// `exported_http_response_head` wrote for these bytes. Names are compared ignoring ASCII case.
+    ///
+    /// `DONE`: the index of the field is written. To find further fields of the name, pass the fields
+    /// after it.
+    ///
+    /// `END`: no field has the name. 0 is written.
+    ///
+    /// A field that is not within the bytes has no name.
+    ///
+    /// # Safety
+    ///
+    /// `bytes` must be valid for reads of `bytes_length` bytes, `fields` for reads of `fields_length`
+    /// entries and `name` for reads of `name_length` bytes, which must not change during the call.
+    /// `out` must be valid for writes of one index, and must not overlap the others. The call needs 16
+    /// KiB of stack.
+    pub fn exported_http_field(
+        bytes: *const u8,
+        bytes_length: usize,
+        fields: *const Field,
+        fields_length: usize,
+        name: *const u8,
+        name_length: usize,
         out: *mut usize,
     ) -> u32;
 
@@ -1374,7 +1534,8 @@ extern "C" {
         out: *mut usize,
     ) -> u32;
 
-    /// Computes the line and the column of the position after the first `offset` bytes.
+    /// Computes the line and the column of the position after the first `offset` bytes. Bytes after it
+    /// are not read.
     ///
     /// This is proved for UTF-8 and an offset on a character boundary, and otherwise only tested. Bytes
     /// that are not UTF-8 count as the replacement characters that are printed for them, and an offset
@@ -1449,7 +1610,7 @@ pub struct Linked(*const c_char);
 // SAFETY: the pointer is never dereferenced.
 unsafe impl Sync for Linked {}
 
-/// Makes programs with this crate link only with a library of this version.
+/// Makes programs with this crate link only with a library that has these declarations.
 #[used]
 // SAFETY: it is not dereferenced. Compilers before 1.82 require the block.
 #[allow(unused_unsafe)]

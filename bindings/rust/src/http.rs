@@ -12,16 +12,36 @@
 //! assert_eq!(head.rest(), b"body");
 //! # Ok::<(), pergidau::Error>(())
 //! ```
+mod body;
 mod extent;
 mod response;
 
+pub use self::body::{request_body, response_body, Body, BodyError};
 pub use self::extent::HeadExtent;
+#[cfg(feature = "alloc")]
+pub use self::response::response_head_grown;
 pub use self::response::{response_head, response_head_partial, ResponseHead};
 pub use crate::exports::Field;
 
 use crate::exports;
-use crate::{at, Error, Position, RequiredSize};
+use crate::{at, Error, RequiredSize};
+#[cfg(feature = "alloc")]
+use alloc::vec::Vec;
 use core::fmt;
+
+/// Returns the value of the first field of this name, ignoring ASCII case.
+fn find<'i>(bytes: &'i [u8], fields: &[Field], name: &str) -> Option<&'i [u8]> {
+    let mut index = 0;
+    let (entries, count) = (fields.as_ptr(), fields.len());
+    // SAFETY: the pointers are those of live borrows, and only the index is written. The call takes up
+    // to 1 KiB of stack (measured); where there is less, the thread's guard page ends the program.
+    let code = unsafe {
+        exports::exported_http_field(
+            bytes.as_ptr(), bytes.len(), entries, count, name.as_ptr(), name.len(), &mut index,
+        )
+    };
+    (code == exports::DONE).then(|| at(bytes, fields[index].value))
+}
 
 /// The head of a request: its parts, as slices of the bytes that were read.
 #[derive(Clone, Copy, Debug)]
@@ -57,6 +77,23 @@ impl<'i, 'f> Head<'i, 'f> {
         self.fields.iter().map(move |it| (at(bytes, it.name), at(bytes, it.value)))
     }
 
+    /// Returns the value of the first field of this name, ignoring ASCII case.
+    ///
+    /// ```
+    /// let mut fields = [pergidau::http::Field::default(); 4];
+    /// let head = pergidau::http::head(b"GET / HTTP/1.1\r\nHost: a\r\n\r\n", &mut fields)?;
+    /// assert_eq!((head.field("HOST"), head.field("hosts")), (Some(&b"a"[..]), None));
+    /// # Ok::<(), pergidau::Error>(())
+    /// ```
+    pub fn field(&self, name: &str) -> Option<&'i [u8]> {
+        find(self.bytes, self.fields, name)
+    }
+
+    /// Returns the length of the body, as [`request_body`].
+    pub fn body(&self) -> Result<Body, BodyError> {
+        request_body(&self.bytes[..self.places.length])
+    }
+
     /// Returns the input after the head.
     pub fn rest(&self) -> &'i [u8] {
         &self.bytes[self.places.length..]
@@ -65,23 +102,29 @@ impl<'i, 'f> Head<'i, 'f> {
 
 type Export = unsafe extern "C" fn(*const u8, usize, *mut Field, usize, *mut exports::Head) -> u32;
 
-fn read<'i, 'f>(
-    export: Export,
-    bytes: &'i [u8],
-    fields: &'f mut [Field],
-) -> Result<Head<'i, 'f>, Error> {
+/// Returns the parts of the head that was written.
+fn write(export: Export, bytes: &[u8], fields: &mut [Field]) -> Result<exports::Head, Error> {
     let mut places = exports::Head::default();
     let (entries, count) = (fields.as_mut_ptr(), fields.len());
     // SAFETY: the pointers are those of live borrows, and the bytes are only read. The call takes up to
     // 4 KiB of stack (measured); where there is less, the thread's guard page ends the program.
     let code = unsafe { export(bytes.as_ptr(), bytes.len(), entries, count, &mut places) };
     match code {
-        exports::DONE => Ok(Head { bytes, places, fields: &fields[..places.fields] }),
+        exports::DONE => Ok(places),
         code => {
             let required = RequiredSize { entries: places.fields, bytes: 0 };
-            Err(Error::of(code, Some(Position::of(bytes, places.error_offset)), required))
+            Err(Error::of(code, Some(places.error_offset), required))
         }
     }
+}
+
+fn read<'i, 'f>(
+    export: Export,
+    bytes: &'i [u8],
+    fields: &'f mut [Field],
+) -> Result<Head<'i, 'f>, Error> {
+    let places = write(export, bytes, fields)?;
+    Ok(Head { bytes, places, fields: &fields[..places.fields] })
 }
 
 /// Parses the head of an HTTP/1.1 request (RFC 9112) at the start of `bytes`. Does not allocate.
@@ -93,7 +136,7 @@ fn read<'i, 'f>(
 ///
 /// - [`Error::BufferTooSmall`] if the head has more fields than `fields` has entries; it holds the
 ///   number of fields.
-/// - [`Error::Invalid`] if `bytes` does not start with a head; it holds the position of the first
+/// - [`Error::Invalid`] if `bytes` does not start with a head; it holds the offset of the first
 ///   invalid byte, or the end of the input.
 ///
 /// After an error the contents of `fields` are unspecified.
@@ -109,6 +152,29 @@ pub fn head<'i, 'f>(bytes: &'i [u8], fields: &'f mut [Field]) -> Result<Head<'i,
     read(exports::exported_http_head, bytes, fields)
 }
 
+/// Like [`head`]. If `fields` is too small, it grows to the number of fields.
+///
+/// ```
+/// let mut fields = Vec::new();
+/// let head = pergidau::http::head_grown(b"GET / HTTP/1.1\r\nHost: a\r\n\r\n", &mut fields)?;
+/// assert_eq!(head.field("host"), Some(&b"a"[..]));
+/// # Ok::<(), pergidau::Error>(())
+/// ```
+#[cfg(feature = "alloc")]
+pub fn head_grown<'i, 'f>(
+    bytes: &'i [u8],
+    fields: &'f mut Vec<Field>,
+) -> Result<Head<'i, 'f>, Error> {
+    let places = match write(exports::exported_http_head, bytes, fields) {
+        Err(Error::BufferTooSmall(required)) => {
+            fields.resize(required.entries, Field::default());
+            write(exports::exported_http_head, bytes, fields)
+        }
+        found => found,
+    }?;
+    Ok(Head { bytes, places, fields: &fields[..places.fields] })
+}
+
 /// Like [`head`], for partial input.
 ///
 /// Each call parses from the first byte; for a head in many chunks, find its end with a
@@ -118,7 +184,7 @@ pub fn head<'i, 'f>(bytes: &'i [u8], fields: &'f mut [Field]) -> Result<Head<'i,
 ///
 /// - [`Error::Incomplete`] if `bytes` does not start with a head, but more bytes can complete one.
 /// - [`Error::Invalid`] if `bytes` does not start with a head, regardless of what follows; it holds
-///   the position of the first invalid byte.
+///   the offset of the first invalid byte.
 ///
 /// ```
 /// let head = pergidau::http::head_partial(b"GET / HTT", &mut []);
@@ -164,7 +230,7 @@ pub enum ChunkedError {
     /// The trailer section has more bytes than the limit allows.
     TrailersTooLong,
     /// A number that this crate does not know, from another version of the library.
-    Unknown(usize),
+    Unknown(u32),
 }
 
 impl fmt::Display for ChunkedError {
@@ -187,7 +253,7 @@ impl std::error::Error for ChunkedError {}
 
 impl ChunkedError {
     /// Converts a number of the library to an error.
-    fn of(number: usize) -> ChunkedError {
+    fn of(number: u32) -> ChunkedError {
         match number {
             exports::CHUNKED_ERROR_SIZE => ChunkedError::Size,
             exports::CHUNKED_ERROR_SIZE_LINE => ChunkedError::SizeLine,
@@ -303,7 +369,7 @@ impl Chunked {
             (exports::INCOMPLETE, _) => Ok(Step::More),
             (exports::INVALID, _) => Err(ChunkedError::of(step.error)),
             (exports::DONE, kind) => Err(ChunkedError::Unknown(kind)),
-            (code, _) => Err(ChunkedError::Unknown(code as usize)),
+            (code, _) => Err(ChunkedError::Unknown(code)),
         }
     }
 }

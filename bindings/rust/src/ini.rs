@@ -17,7 +17,9 @@ pub mod dialects;
 
 pub use crate::exports::Entry;
 
-use crate::{at, exports, Error, Position, RequiredSize, NOTHING};
+use crate::{at, exports, Error, RequiredSize, NOTHING};
+#[cfg(feature = "alloc")]
+use alloc::{vec, vec::Vec};
 
 /// Parses a line of the form `key=value`. The key consists of ASCII letters or digits, the value of
 /// any bytes except line feeds. The line may end with one line feed.
@@ -35,7 +37,7 @@ pub fn pair(line: &[u8]) -> Result<(&[u8], &[u8]), Error> {
     let code = unsafe { exports::exported_ini_pair(line.as_ptr(), line.len(), &mut out) };
     match code {
         exports::DONE => Ok((at(line, out.key), at(line, out.value))),
-        code => Err(Error::of(code, Some(Position::of(line, out.error_offset)), NOTHING)),
+        code => Err(Error::of(code, Some(out.error_offset), NOTHING)),
     }
 }
 
@@ -93,6 +95,51 @@ impl<'b> Section<'b> {
     }
 }
 
+/// A document in buffers of its own.
+#[cfg(feature = "alloc")]
+#[derive(Clone, Debug)]
+pub struct OwnedDocument {
+    text: Vec<u8>,
+    entries: Vec<Entry>,
+}
+
+#[cfg(feature = "alloc")]
+impl OwnedDocument {
+    /// Parses a document, as [`document`](self::document).
+    ///
+    /// ```
+    /// let document = pergidau::ini::OwnedDocument::parse(b"[a]\nx = 1\n")?;
+    /// let section = document.sections().next().unwrap();
+    /// assert_eq!(section.pairs().next(), Some((&b"x"[..], &b"1"[..])));
+    /// # Ok::<(), pergidau::Error>(())
+    /// ```
+    pub fn parse(bytes: &[u8]) -> Result<OwnedDocument, Error> {
+        let (mut text, mut entries) = (vec![0; bytes.len()], vec![Entry::default(); 32]);
+        let out = loop {
+            match write(bytes, &mut text, &mut entries) {
+                Err(Error::BufferTooSmall(required)) => {
+                    text.resize(required.bytes.max(text.len()), 0);
+                    entries.resize(required.entries.max(entries.len()), Entry::default());
+                }
+                found => break found?,
+            }
+        };
+        text.truncate(out.text);
+        entries.truncate(out.entries);
+        Ok(OwnedDocument { text, entries })
+    }
+
+    /// The document, as slices of its buffers.
+    pub fn document(&self) -> Document<'_> {
+        Document { text: &self.text, entries: &self.entries }
+    }
+
+    /// The sections, in order.
+    pub fn sections(&self) -> Sections<'_> {
+        self.document().sections()
+    }
+}
+
 /// Parses a document of sections: names in brackets, each followed by pairs, with whitespace and
 /// comments between them.
 ///
@@ -102,7 +149,7 @@ impl<'b> Section<'b> {
 /// # Errors
 ///
 /// - [`Error::BufferTooSmall`] if a buffer is too small; it holds the required sizes.
-/// - [`Error::Invalid`] holds the position of the first part that is not a section, pair,
+/// - [`Error::Invalid`] holds the offset of the first part that is not a section, pair,
 ///   whitespace or comment. A pair extends to the end of its line, so a pair with bytes that are
 ///   not UTF-8 is rejected at its key.
 ///
@@ -119,7 +166,7 @@ impl<'b> Section<'b> {
 /// assert_eq!(section.name(), b"a");
 /// assert_eq!(section.pairs().collect::<Vec<_>>(), [(&b"x"[..], &b"1"[..]), (b"y", b"2")]);
 /// let error = ini::document(b"[a]\nx\n", &mut text, &mut entries).unwrap_err();
-/// assert_eq!(error.to_string(), "invalid input at line 2, column 1");
+/// assert_eq!(error.to_string(), "invalid input at offset 4");
 /// # Ok::<(), pergidau::Error>(())
 /// ```
 pub fn document<'b>(
@@ -127,6 +174,16 @@ pub fn document<'b>(
     text: &'b mut [u8],
     entries: &'b mut [Entry],
 ) -> Result<Document<'b>, Error> {
+    let out = write(bytes, text, entries)?;
+    Ok(Document { text: &text[..out.text], entries: &entries[..out.entries] })
+}
+
+/// Returns the sizes of the document that was written.
+fn write(
+    bytes: &[u8],
+    text: &mut [u8],
+    entries: &mut [Entry],
+) -> Result<exports::Document, Error> {
     let mut out = exports::Document::default();
     let (room, most) = (text.as_mut_ptr(), text.len());
     let (places, count) = (entries.as_mut_ptr(), entries.len());
@@ -138,10 +195,10 @@ pub fn document<'b>(
         )
     };
     match code {
-        exports::DONE => Ok(Document { text: &text[..out.text], entries: &entries[..out.entries] }),
+        exports::DONE => Ok(out),
         code => {
             let required = RequiredSize { entries: out.entries, bytes: out.text };
-            Err(Error::of(code, Some(Position::of(bytes, out.error_offset)), required))
+            Err(Error::of(code, Some(out.error_offset), required))
         }
     }
 }

@@ -98,7 +98,7 @@ impl<'i> Value<'i> {
 /// Panics because of a number from another version of the library. Otherwise a valid text would seem to
 /// end here.
 #[cold]
-fn unknown(number: usize) -> ! {
+fn unknown(number: u32) -> ! {
     panic!("unknown number {number} from the library")
 }
 
@@ -128,7 +128,7 @@ impl<'i> Inside<'i> {
         match code {
             exports::DONE => {}
             exports::END => return None,
-            code => unknown(code as usize),
+            code => unknown(code),
         }
         let kind = match out.kind {
             exports::JSON_NULL => Kind::Null,
@@ -189,7 +189,7 @@ pub fn parse(text: &str, max_depth: usize) -> Result<Value<'_>, Error> {
 }
 
 /// Checks that `text` is a JSON text (RFC 8259) whose arrays and objects are nested at most
-/// `max_depth` deep. The error has no position.
+/// `max_depth` deep. The error has no offset.
 ///
 /// ```
 /// use pergidau::{json, Error};

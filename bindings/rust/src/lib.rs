@@ -2,10 +2,11 @@
 //!
 //! They are written in Rattle, which is Rust with contracts, and linked as a C library; the proved
 //! contracts are in the crate `exported` of Pergidau. This crate adds a Rust interface: slices as
-//! input, slices of them as output, and errors. It has no state, and of its own functions only
-//! `csv::records` allocates. The library may allocate during a call, and frees that memory before
-//! it returns. The documentation of a function gives the memory that a call needs; a comment at
-//! `unsafe` gives the stack. Both are measured, not proved.
+//! input, slices of them as output, and errors. It has no state. Of its own functions only those
+//! of the feature `alloc` allocate, which is a part of `std`: owned documents, and calls that grow
+//! a buffer until it is large enough. The library may allocate during a call, and frees that memory
+//! before it returns. The documentation of a function gives the memory that a call needs; a comment
+//! at `unsafe` gives the stack. Both are measured, not proved.
 //!
 //! | Module | Parses |
 //! |---|---|
@@ -23,7 +24,8 @@
 //! assert_eq!(calc::value("2 + 3 * 4"), Ok(14));
 //! assert_eq!(ini::pair(b"key=value\n"), Ok((&b"key"[..], &b"value"[..])));
 //! let error = calc::value("1 +\n 2 / 0").unwrap_err();
-//! assert_eq!(error.to_string(), "invalid input at line 2, column 7");
+//! assert_eq!(error.to_string(), "invalid input at offset 10");
+//! assert_eq!(error.position("1 +\n 2 / 0").unwrap().to_string(), "line 2, column 7");
 //! ```
 //!
 //! # The library
@@ -37,9 +39,14 @@
 #![cfg_attr(not(feature = "std"), no_std)]
 #![warn(missing_docs)]
 
+#[cfg(feature = "alloc")]
+extern crate alloc;
+
 pub mod calc;
 pub mod csv;
 mod error;
+// (some constants are only for C)
+#[allow(dead_code)]
 mod exports;
 pub mod http;
 pub mod ini;

@@ -15,21 +15,23 @@
 pub use crate::exports::TomlNode as Node;
 
 use crate::{exports, Position, RequiredSize, Span};
+#[cfg(feature = "alloc")]
+use alloc::{string::String, vec, vec::Vec};
 use core::{fmt, str};
 
-/// The reason why a text is not a document, and its position.
+/// The reason why a text is not a document, and its offset in bytes.
 #[derive(Clone, Copy, Debug, PartialEq, Eq)]
 #[non_exhaustive]
 pub enum Error {
-    /// A syntax error: the text at the position is not as expected.
-    Unexpected(Position, Expected),
-    /// The standard forbids the line that starts at the position, because of earlier lines.
-    Invalid(Position, Reason),
+    /// A syntax error: the text at the offset is not as expected.
+    Unexpected(usize, Expected),
+    /// The standard forbids the line that starts at the offset, because of earlier lines.
+    Invalid(usize, Reason),
     /// An error that is not specific to TOML.
     Other(crate::Error),
 }
 
-/// The expected element at a position.
+/// The expected element at an offset.
 #[derive(Clone, Copy, Debug, PartialEq, Eq)]
 pub enum Expected {
     /// A key, or a table.
@@ -62,8 +64,8 @@ pub enum Reason {
 impl fmt::Display for Error {
     fn fmt(&self, f: &mut fmt::Formatter<'_>) -> fmt::Result {
         match self {
-            Error::Unexpected(position, expected) => write!(f, "{position}: expected {expected}"),
-            Error::Invalid(position, reason) => write!(f, "{position}: {reason}"),
+            Error::Unexpected(offset, expected) => write!(f, "expected {expected} at offset {offset}"),
+            Error::Invalid(offset, reason) => write!(f, "{reason} at offset {offset}"),
             Error::Other(error) => error.fmt(f),
         }
     }
@@ -97,13 +99,26 @@ impl fmt::Display for Reason {
 impl std::error::Error for Error {}
 
 impl Error {
+    /// Returns the offset of the error in bytes, if there is one.
+    pub fn offset(&self) -> Option<usize> {
+        match self {
+            Error::Unexpected(offset, _) | Error::Invalid(offset, _) => Some(*offset),
+            Error::Other(error) => error.offset(),
+        }
+    }
+
+    /// Returns the line and the column of the error in `source`, the text that was parsed.
+    pub fn position(&self, source: &str) -> Option<Position> {
+        self.offset().map(|offset| Position::of(source.as_bytes(), offset))
+    }
+
     /// Converts a code other than `DONE`, with the fields that were written.
-    fn of(code: u32, text: &str, out: &exports::TomlResult) -> Error {
-        let position = Position::of(text.as_bytes(), out.error_offset);
+    fn of(code: u32, out: &exports::TomlResult) -> Error {
+        let offset = out.error_offset;
         let expected = match out.error {
             exports::TOML_ERROR_NONE => {
                 let required = RequiredSize { entries: out.nodes, bytes: out.text };
-                return Error::Other(crate::Error::of(code, Some(position), required));
+                return Error::Other(crate::Error::of(code, Some(offset), required));
             }
             exports::TOML_ERROR_KEY => Expected::Key,
             exports::TOML_ERROR_EQUALS_SIGN => Expected::EqualsSign,
@@ -111,15 +126,15 @@ impl Error {
             exports::TOML_ERROR_TABLE_NAME => Expected::TableName,
             exports::TOML_ERROR_CLOSING_BRACKET => Expected::ClosingBracket,
             exports::TOML_ERROR_LINE_END => Expected::LineEnd,
-            exports::TOML_ERROR_DEFINED => return Error::Invalid(position, Reason::Defined),
-            exports::TOML_ERROR_NOT_A_TABLE => return Error::Invalid(position, Reason::NotATable),
-            exports::TOML_ERROR_CLOSED => return Error::Invalid(position, Reason::Closed),
+            exports::TOML_ERROR_DEFINED => return Error::Invalid(offset, Reason::Defined),
+            exports::TOML_ERROR_NOT_A_TABLE => return Error::Invalid(offset, Reason::NotATable),
+            exports::TOML_ERROR_CLOSED => return Error::Invalid(offset, Reason::Closed),
             exports::TOML_ERROR_NOT_AN_ARRAY_OF_TABLES => {
-                return Error::Invalid(position, Reason::NotAnArrayOfTables);
+                return Error::Invalid(offset, Reason::NotAnArrayOfTables);
             }
             _ => return Error::Other(crate::Error::Unknown(code)),
         };
-        Error::Unexpected(position, expected)
+        Error::Unexpected(offset, expected)
     }
 }
 
@@ -139,6 +154,52 @@ impl<'b> Document<'b> {
     /// All nodes, in the order in which the document first speaks of them.
     pub fn nodes(&self) -> &'b [Node] {
         self.nodes
+    }
+}
+
+/// A document in buffers of its own.
+#[cfg(feature = "alloc")]
+#[derive(Clone, Debug)]
+pub struct OwnedDocument {
+    text: String,
+    nodes: Vec<Node>,
+}
+
+#[cfg(feature = "alloc")]
+impl OwnedDocument {
+    /// Parses a document, as [`parse`].
+    ///
+    /// ```
+    /// let document = pergidau::toml::OwnedDocument::parse("[a]\nb = 'c'\n", 8)?;
+    /// let b = document.root().get("a").and_then(|a| a.get("b")).unwrap();
+    /// assert_eq!(b.as_str(), Some("c"));
+    /// # Ok::<(), pergidau::toml::Error>(())
+    /// ```
+    pub fn parse(source: &str, max_depth: usize) -> Result<OwnedDocument, Error> {
+        let (mut text, mut nodes) = (vec![0; source.len()], vec![Node::default(); 32]);
+        let out = loop {
+            match write(source, max_depth, &mut text, &mut nodes) {
+                Err(Error::Other(crate::Error::BufferTooSmall(required))) => {
+                    text.resize(required.bytes.max(text.len()), 0);
+                    nodes.resize(required.entries.max(nodes.len()), Node::default());
+                }
+                found => break found?,
+            }
+        };
+        text.truncate(out.text);
+        nodes.truncate(out.nodes);
+        let text = String::from_utf8(text).map_err(|_| crate::Error::InvalidUtf8);
+        Ok(OwnedDocument { text: text.map_err(Error::Other)?, nodes })
+    }
+
+    /// The document, as slices of its buffers.
+    pub fn document(&self) -> Document<'_> {
+        Document { text: &self.text, nodes: &self.nodes }
+    }
+
+    /// The table that has all others.
+    pub fn root(&self) -> Item<'_> {
+        self.document().root()
     }
 }
 
@@ -366,9 +427,10 @@ impl<'b> Iterator for Children<'b> {
 ///
 /// let (mut text, mut nodes) = ([0; 64], [Node::default(); 8]);
 /// let error = toml::parse("[a]\nb 2\n", 0, &mut text, &mut nodes).unwrap_err();
-/// assert_eq!(error.to_string(), "line 2, column 3: expected `=`");
+/// assert_eq!(error.to_string(), "expected `=` at offset 6");
+/// assert_eq!(error.position("[a]\nb 2\n").unwrap().to_string(), "line 2, column 3");
 /// let error = toml::parse("a = 1\na = 2\n", 0, &mut text, &mut nodes).unwrap_err();
-/// assert_eq!(error.to_string(), "line 2, column 1: key is already defined");
+/// assert_eq!(error.to_string(), "key is already defined at offset 6");
 /// ```
 pub fn parse<'b>(
     source: &str,
@@ -376,6 +438,20 @@ pub fn parse<'b>(
     text: &'b mut [u8],
     nodes: &'b mut [Node],
 ) -> Result<Document<'b>, Error> {
+    let out = write(source, max_depth, text, nodes)?;
+    match str::from_utf8(&text[..out.text]) {
+        Ok(text) => Ok(Document { text, nodes: &nodes[..out.nodes] }),
+        Err(_) => Err(Error::Other(crate::Error::InvalidUtf8)),
+    }
+}
+
+/// Returns the sizes of the document that was written.
+fn write(
+    source: &str,
+    max_depth: usize,
+    text: &mut [u8],
+    nodes: &mut [Node],
+) -> Result<exports::TomlResult, Error> {
     let mut out = exports::TomlResult::default();
     let (bytes, room) = (text.as_mut_ptr(), text.len());
     let (places, count) = (nodes.as_mut_ptr(), nodes.len());
@@ -386,8 +462,8 @@ pub fn parse<'b>(
             source.as_ptr(), source.len(), max_depth, bytes, room, places, count, &mut out,
         )
     };
-    match (code, str::from_utf8(&text[..out.text.min(text.len())])) {
-        (exports::DONE, Ok(text)) => Ok(Document { text, nodes: &nodes[..out.nodes] }),
-        (code, _) => Err(Error::of(code, source, &out)),
+    match code {
+        exports::DONE => Ok(out),
+        code => Err(Error::of(code, &out)),
     }
 }

@@ -1,15 +1,7 @@
 //! Tables of response heads, and of request heads and records whose end is found incrementally.
 use pergidau::csv::{Extent, LineEnd, Size};
 use pergidau::http::{self, Field, HeadExtent};
-use pergidau::{Error, Position, RequiredSize};
-
-/// Returns the offset of an error in bytes.
-fn offset_of(error: Error) -> Option<usize> {
-    match error {
-        Error::Invalid(place) => place.map(|it| it.offset),
-        _ => None,
-    }
-}
+use pergidau::{Error, RequiredSize};
 
 /// The response of RFC 9110, section 3.9, with some of its fields and the start of its content.
 const HELLO: &[u8] = b"HTTP/1.1 200 OK\r\nDate: Mon, 27 Jul 2009 12:28:53 GMT\r\n\
@@ -32,15 +24,15 @@ fn http_response_head_of_responses() {
     for end in 0..whole {
         let piece = http::response_head_partial(&HELLO[..end], &mut fields);
         assert_eq!(piece.unwrap_err(), Error::Incomplete, "{end}");
-        let place = Position::of(&HELLO[..end], end);
         let short = http::response_head(&HELLO[..end], &mut fields).unwrap_err();
-        assert_eq!(short, Error::Invalid(Some(place)), "{end}");
+        assert_eq!(short, Error::Invalid(Some(end)), "{end}");
     }
     let head = http::response_head_partial(&HELLO[..whole], &mut fields).unwrap();
     assert_eq!((head.status(), head.fields().len()), (200, 3));
     let small = http::response_head(HELLO, &mut fields[..2]).unwrap_err();
     assert_eq!(small.to_string(), "buffer too small: 3 entries required");
-    let rows: [(&[u8], (u8, u8), u16, &[u8]); 4] = [
+    type Row = (&'static [u8], (u8, u8), u16, &'static [u8]);
+    let rows: [Row; 4] = [
         (b"HTTP/1.1 404 Not Found\r\n\r\n", (1, 1), 404, b"Not Found"),
         (b"HTTP/1.0 200 \r\n\r\n", (1, 0), 200, b""),
         (b"HTTP/2.9 999\r\n\r\n", (2, 9), 999, b""),
@@ -60,10 +52,10 @@ fn http_response_head_of_responses() {
     ] {
         for cut in 0..=bytes.len() {
             let error = http::response_head_partial(&bytes[..cut], &mut []).unwrap_err();
-            assert_eq!(offset_of(error), (cut > begins).then_some(begins), "{bytes:?} {cut}");
+            assert_eq!(error.offset(), (cut > begins).then_some(begins), "{bytes:?} {cut}");
         }
         let error = http::response_head(bytes, &mut []).unwrap_err();
-        assert_eq!(offset_of(error), Some(begins), "{bytes:?}");
+        assert_eq!(error.offset(), Some(begins), "{bytes:?}");
     }
 }
 
@@ -99,7 +91,7 @@ fn http_head_extent_of_pieces() {
         }
         for have in begins + 1..=bytes.len() {
             let refused = extent.advance(&bytes[..have]).unwrap_err();
-            assert_eq!(offset_of(refused), Some(begins), "{bytes:?}");
+            assert_eq!(refused.offset(), Some(begins), "{bytes:?}");
         }
     }
 }
@@ -138,6 +130,69 @@ fn csv_extent_of_pieces() {
         let mut extent = Extent::new(end);
         assert_eq!(extent.advance(&bytes[..begins]), Ok(None), "{bytes:?}");
         let refused = extent.advance(bytes).unwrap_err();
-        assert_eq!(offset_of(refused), Some(begins), "{bytes:?}");
+        assert_eq!(refused.offset(), Some(begins), "{bytes:?}");
     }
+}
+
+#[test]
+fn http_fields_of_a_name() {
+    let mut fields = Vec::new();
+    let text = b"GET / HTTP/1.1\r\nHost: a\r\nVia: b\r\nVIA: c\r\n\r\n";
+    let head = http::head_grown(text, &mut fields).unwrap();
+    assert_eq!((head.field("hOST"), head.field("via")), (Some(&b"a"[..]), Some(&b"b"[..])));
+    assert_eq!((head.field("Hos"), head.field("Hosts"), head.field("")), (None, None, None));
+    assert_eq!(head.fields().len(), 3);
+    assert_eq!(http::head_grown(b"GET /\r", &mut fields).unwrap_err(), Error::Invalid(Some(5)));
+    let head = http::response_head_grown(HELLO, &mut fields).unwrap();
+    assert_eq!((head.field("SERVER"), head.fields().len()), (Some(&b"Apache"[..]), 3));
+}
+
+/// The rules of RFC 9112, section 6.3, in order.
+#[test]
+fn http_bodies_of_messages() {
+    use http::{Body, BodyError};
+    let body = |fields: &str| {
+        let text = format!("POST / HTTP/1.1\r\nHost: a\r\n{fields}\r\n");
+        let mut places = Vec::new();
+        http::head_grown(text.as_bytes(), &mut places).unwrap().body()
+    };
+    let rows = [
+        ("", Ok(Body::None)),
+        ("Transfer-Encoding: gzip, Chunked\r\n", Ok(Body::Chunked)),
+        ("content-length: 42\r\n", Ok(Body::Length(42))),
+        ("Content-Length: 42, 42\r\n", Ok(Body::Length(42))),
+        ("Content-Length: 18446744073709551615\r\n", Ok(Body::Length(u64::MAX))),
+        ("Content-Length: 18446744073709551616\r\n", Err(BodyError::LengthTooLarge)),
+        ("Content-Length: 42\r\nContent-Length: 042\r\n", Err(BodyError::LengthsDiffer)),
+        ("Content-Length: +42\r\n", Err(BodyError::LengthNotANumber)),
+        ("Content-Length: 1\r\nTransfer-Encoding: chunked\r\n", Err(BodyError::LengthAndCoding)),
+        ("Transfer-Encoding: chunked, gzip\r\n", Err(BodyError::ChunkedNotLast)),
+        ("Transfer-Encoding: gzip\r\n", Err(BodyError::NotChunked)),
+        ("Host: a\r\n", Err(BodyError::ManyHosts)),
+    ];
+    for (fields, want) in rows {
+        assert_eq!(body(fields), want, "{fields}");
+    }
+    assert_eq!(http::request_body(b"GET / HTTP/1.1\r\n\r\n"), Err(BodyError::MissingHost));
+    assert_eq!(http::request_body(b"GET / HTTP/1.0\r\n\r\n"), Ok(Body::None));
+    let old = b"GET / HTTP/1.0\r\nTransfer-Encoding: chunked\r\n\r\n";
+    assert_eq!(http::request_body(old), Err(BodyError::CodingBeforeVersion));
+    assert_eq!(http::request_body(b"GET / HTTP/1.1\r\nHost : a\r\n\r\n"), Err(BodyError::Head));
+    let mut places = Vec::new();
+    let head = http::response_head_grown(HELLO, &mut places).unwrap();
+    assert_eq!(head.body(b"GET"), Ok(Body::Length(51)));
+    assert_eq!(head.body(b"HEAD"), Ok(Body::None));
+    assert_eq!(head.body(b"CONNECT"), Ok(Body::Tunnel));
+    let rows: [(&[u8], _); 5] = [
+        (b"HTTP/1.1 204 \r\nContent-Length: 1\r\n\r\n", Ok(Body::None)),
+        (b"HTTP/1.1 304 \r\n\r\n", Ok(Body::None)),
+        (b"HTTP/1.1 200 \r\n\r\n", Ok(Body::UntilClose)),
+        (b"HTTP/1.1 200 \r\nTransfer-Encoding: gzip\r\n\r\n", Ok(Body::UntilClose)),
+        (b"HTTP/1.1 200 \r\nTransfer-Encoding: chunked\r\n\r\n", Ok(Body::Chunked)),
+    ];
+    for (text, want) in rows {
+        assert_eq!(http::response_body(b"GET", text), want);
+    }
+    assert_eq!(http::response_body(b"GET", b"HTTP/1.1\r\n\r\n"), Err(BodyError::Head));
+    assert_eq!(BodyError::LengthsDiffer.to_string(), "Content-Length values differ");
 }

@@ -12,7 +12,7 @@ fn told(text: &str, dialect: Dialect) -> String {
             Ok(Entry::Pair { key, value: None }) => format!("{key}|"),
             Ok(Entry::More(line)) => format!("+{line}|"),
             Err(error) => {
-                let at = error.position;
+                let at = error.position(text);
                 format!("{:?} {} {}", error.reason, at.line, at.column)
             }
         };
@@ -88,7 +88,7 @@ fn refused_lines() {
     }
     let mut found = entries("[s]\na\nb=c\n", Dialect::PYTHON);
     let refused = found.nth(1).unwrap().unwrap_err();
-    assert_eq!((refused.position.offset, refused.reason), (4, Reason::MissingDelimiter));
-    assert_eq!(refused.to_string(), "missing delimiter after the key at line 2, column 1");
+    assert_eq!((refused.offset, refused.reason), (4, Reason::MissingDelimiter));
+    assert_eq!(refused.to_string(), "missing delimiter after the key at offset 4");
     assert_eq!(found.next(), None);
 }

@@ -81,22 +81,25 @@ fn elements_have_no_names() {
 #[test]
 fn errors_say_where_and_why() {
     let rows = [
-        ("a = \"é\"\nb 2\n", "line 2, column 3: expected `=`"),
-        ("= 2", "line 1, column 1: expected a key or a table"),
-        ("a = ", "line 1, column 5: expected a value"),
-        ("[]", "line 1, column 2: expected the name of a table"),
-        ("[a", "line 1, column 3: expected `]`"),
-        ("a = 1 b = 2", "line 1, column 7: expected the end of the line"),
-        ("a = 1\na = 2\n", "line 2, column 1: key is already defined"),
-        ("a = 1\na.b = 2\n", "line 2, column 1: key is not a table"),
-        ("a = {}\n[a.b]", "line 2, column 1: table cannot be extended"),
-        ("[a]\n[[a]]\n", "line 2, column 1: key is not an array of tables"),
+        ("a = \"é\"\nb 2\n", "expected `=`", "line 2, column 3"),
+        ("= 2", "expected a key or a table", "line 1, column 1"),
+        ("a = ", "expected a value", "line 1, column 5"),
+        ("[]", "expected the name of a table", "line 1, column 2"),
+        ("[a", "expected `]`", "line 1, column 3"),
+        ("a = 1 b = 2", "expected the end of the line", "line 1, column 7"),
+        ("a = 1\na = 2\n", "key is already defined", "line 2, column 1"),
+        ("a = 1\na.b = 2\n", "key is not a table", "line 2, column 1"),
+        ("a = {}\n[a.b]", "table cannot be extended", "line 2, column 1"),
+        ("[a]\n[[a]]\n", "key is not an array of tables", "line 2, column 1"),
     ];
-    for (text, wanted) in rows {
-        assert_eq!(read(text).unwrap_err().to_string(), wanted, "{text}");
+    for (text, wanted, place) in rows {
+        let error = read(text).unwrap_err();
+        let at = error.offset().unwrap();
+        assert_eq!(error.to_string(), format!("{wanted} at offset {at}"), "{text}");
+        assert_eq!(error.position(text).unwrap().to_string(), place, "{text}");
     }
-    assert!(matches!(read("a 1"), Err(Error::Unexpected(at, Expected::EqualsSign)) if at.offset == 2));
-    assert!(matches!(read("a=1\na=1"), Err(Error::Invalid(at, Reason::Defined)) if at.offset == 4));
+    assert!(matches!(read("a 1"), Err(Error::Unexpected(2, Expected::EqualsSign))));
+    assert!(matches!(read("a=1\na=1"), Err(Error::Invalid(4, Reason::Defined))));
 }
 
 #[test]
@@ -107,4 +110,17 @@ fn buffers_that_are_too_small_are_named() {
     assert!(toml::parse("ab = 'cde'", 0, &mut bytes, &mut nodes).is_ok());
     let deep = toml::parse("a = 1", pergidau::MAX_DEPTH + 1, &mut bytes, &mut nodes).unwrap_err();
     assert_eq!(deep, Error::Other(pergidau::Error::MaxDepthTooLarge));
+}
+
+/// The buffers of an owned document grow: the root and 99 entries need more than the first ones.
+#[test]
+fn owned_documents_grow() {
+    let text: String = (0..99).map(|number| format!("k{number} = {number}\n")).collect();
+    let document = toml::OwnedDocument::parse(&text, 0).unwrap();
+    assert_eq!(document.root().get("k98").and_then(|it| it.as_i64()), Some(98));
+    assert_eq!(document.document().nodes().len(), 100);
+    assert_eq!(toml::OwnedDocument::parse("a = 1 2", 0).unwrap_err().offset(), Some(6));
+    let text: String = (0..99).map(|number| format!("[s{number}]\nk = {number}\n")).collect();
+    let document = pergidau::ini::OwnedDocument::parse(text.as_bytes()).unwrap();
+    assert_eq!(document.sections().map(|it| it.pairs().len()).sum::<usize>(), 99);
 }

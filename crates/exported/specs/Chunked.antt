@@ -23,13 +23,13 @@ trailers_kind = 1
 
 -- the number of an error
 abbrev pub fault_number : ChunkError → ℕ
-fault_number fault.Size = 0
-fault_number fault.SizeLine = 1
-fault_number fault.SizeTooLarge = 2
-fault_number fault.SizeLineTooLong = 3
-fault_number fault.DataEnd = 4
-fault_number fault.Trailers = 5
-fault_number fault.TrailersTooLong = 6
+fault_number fault.Size = 1
+fault_number fault.SizeLine = 2
+fault_number fault.SizeTooLarge = 3
+fault_number fault.SizeLineTooLong = 4
+fault_number fault.DataEnd = 5
+fault_number fault.Trailers = 6
+fault_number fault.TrailersTooLong = 7
 
 -- Nothing is given out.
 abbrev pub GivesNone : ChunkedStep → Type 0

@@ -91,12 +91,12 @@ zeros = record { offset = 0; section = 0; pair = 0; indent = 0 }
 
 -- the number of the reason why a line is invalid
 abbrev pub fault_number : Reason → ℕ
-fault_number why.OpenSection = 0
-fault_number why.EmptySection = 1
-fault_number why.TextBehindSection = 2
-fault_number why.NoSection = 3
-fault_number why.NoKey = 4
-fault_number why.NoDelimiter = 5
+fault_number why.OpenSection = 1
+fault_number why.EmptySection = 2
+fault_number why.TextBehindSection = 3
+fault_number why.NoSection = 4
+fault_number why.NoKey = 5
+fault_number why.NoDelimiter = 6
 
 -- `IsOfKind out kind`: `out` has this kind, and no error.
 abbrev pub IsOfKind : IniEntry → ℕ → Type 0

@@ -6,7 +6,9 @@ pub mod CsvExtent
 pub mod Dialects
 pub mod Extent
 pub mod Http
+pub mod HttpBody
 pub mod HttpExtent
+pub mod HttpField
 pub mod Ini
 pub mod Json
 pub mod JsonInteger

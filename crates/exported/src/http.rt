@@ -1,5 +1,5 @@
 //! Heads of requests. Submodules have the heads of responses, the end of a head in partial input,
-//! and chunked bodies.
+//! the fields of a name, the lengths of bodies, and chunked bodies.
 
 ghost use Rattle.std.specs.Prelude.{◌≡◌, ◌⊎◌, ◌<◌, List, length, take, ℕ};
 ghost use Rattle.format_http.specs.Heads.Head.{IsHead, Pair, Request};
@@ -9,8 +9,10 @@ ghost use Rattle.format_http_places.specs.Refusals.{IsRefused};
 ghost use Rattle.exported.specs.Code.{buffer_too_small, done, incomplete, invalid};
 ghost use Rattle.exported.specs.Http.{HasNoParts, IsNoHead, places_of};
 
+pub mod body;
 pub mod chunked;
 pub mod extent;
+pub mod field;
 pub mod response;
 
 use crate::code::{BUFFER_TOO_SMALL, DONE, INCOMPLETE, INVALID};

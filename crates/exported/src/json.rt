@@ -24,25 +24,25 @@ use format_json_extents::{value, walk};
 pub const MAX_DEPTH: usize = 512;
 
 /// The word null.
-pub const JSON_NULL: usize = 0;
+pub const JSON_NULL: u32 = 0;
 
 /// The word false.
-pub const JSON_FALSE: usize = 1;
+pub const JSON_FALSE: u32 = 1;
 
 /// The word true.
-pub const JSON_TRUE: usize = 2;
+pub const JSON_TRUE: u32 = 2;
 
 /// A number.
-pub const JSON_NUMBER: usize = 3;
+pub const JSON_NUMBER: u32 = 3;
 
 /// A string: its place has the quotes round it, and escapes as they are written.
-pub const JSON_STRING: usize = 4;
+pub const JSON_STRING: u32 = 4;
 
 /// An array: its place has the brackets round it.
-pub const JSON_ARRAY: usize = 5;
+pub const JSON_ARRAY: u32 = 5;
 
 /// An object: its place has the brackets round it.
-pub const JSON_OBJECT: usize = 6;
+pub const JSON_OBJECT: u32 = 6;
 
 /// A value, a name in an object, or a bracket. Only `exported_json_step` returns brackets.
 #[repr(C)]
@@ -51,7 +51,7 @@ pub struct JsonItem {
     /// The kind of the item: one of the constants from `JSON_NULL` to `JSON_END_OBJECT`. Only
     /// `exported_json_step` returns those after `JSON_OBJECT`; `exported_json_next` returns a name
     /// as a string.
-    pub kind: usize,
+    pub kind: u32,
     /// Its bytes.
     pub span: Span,
 }
@@ -63,7 +63,7 @@ pub(crate) const NO_ITEM: JsonItem = JsonItem {
 };
 
 /// Returns the number of a type of values.
-fn number_of(kind: Kind) -> usize
+fn number_of(kind: Kind) -> u32
     ensures { result ≡ number_of kind }
 {
     match kind {

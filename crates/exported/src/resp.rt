@@ -26,32 +26,32 @@ use winnow::error::ParserError;
 use winnow::stream::{Partial, StreamIsPartial};
 
 /// A simple string: bytes among which is neither a carriage return nor a line feed.
-pub const RESP_SIMPLE: usize = 0;
+pub const RESP_SIMPLE: u32 = 0;
 
 /// An error: such bytes.
-pub const RESP_ERROR: usize = 1;
+pub const RESP_ERROR: u32 = 1;
 
 /// An integer.
-pub const RESP_INTEGER: usize = 2;
+pub const RESP_INTEGER: u32 = 2;
 
 /// A bulk string: any bytes.
-pub const RESP_BULK: usize = 3;
+pub const RESP_BULK: u32 = 3;
 
 /// The null bulk string.
-pub const RESP_NULL_BULK: usize = 4;
+pub const RESP_NULL_BULK: u32 = 4;
 
 /// An array.
-pub const RESP_ARRAY: usize = 5;
+pub const RESP_ARRAY: u32 = 5;
 
 /// The null array.
-pub const RESP_NULL_ARRAY: usize = 6;
+pub const RESP_NULL_ARRAY: u32 = 6;
 
 /// A reply.
 #[repr(C)]
 #[derive(Clone, Copy, Drop)]
 pub struct Reply {
     /// The kind of the reply: one of the constants from `RESP_SIMPLE` to `RESP_NULL_ARRAY`.
-    pub kind: usize,
+    pub kind: u32,
     /// The number of an integer; 0 otherwise.
     pub number: i64,
     /// The number of elements of an array; 0 otherwise.

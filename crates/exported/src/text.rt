@@ -18,7 +18,15 @@ pub struct Position {
     pub column: usize,
 }
 
-/// Computes the line and the column of the position after the first `offset` bytes.
+/// Returns the first `offset` bytes, or all.
+fn before(bytes: &[u8], offset: usize) -> &[u8]
+    ensures { result.now ≡ take offset bytes.now }
+{
+    bytes.get(..offset).unwrap_or(bytes)
+}
+
+/// Computes the line and the column of the position after the first `offset` bytes. Bytes after it
+/// are not read.
 ///
 /// This is proved for UTF-8 and an offset on a character boundary, and otherwise only tested. Bytes
 /// that are not UTF-8 count as the replacement characters that are printed for them, and an offset
@@ -35,7 +43,8 @@ pub extern "C" fn exported_text_position(bytes: &[u8], offset: usize, out: &mut 
         → IsPosition (chars (take offset bytes.now)) out.new.line out.new.column }
     ensures codes { result ≡ done }
 {
-    let found = position_in(bytes, offset);
+    let read = before(bytes, offset);
+    let found = position_in(read, read.len());
     *out = Position {
         line: found.line,
         column: found.column,

@@ -20,37 +20,38 @@ use format_toml_nodes::nodes::{size_of, write_nodes};
 use std::alloc::Global;
 
 /// No error.
-pub const TOML_ERROR_NONE: usize = 0;
+pub const TOML_ERROR_NONE: u32 = 0;
 
-/// A key or a table is expected.
-pub const TOML_ERROR_KEY: usize = 1;
+/// Expected a key or a table.
+pub const TOML_ERROR_KEY: u32 = 1;
 
-/// The equals sign after a key is expected.
-pub const TOML_ERROR_EQUALS_SIGN: usize = 2;
+/// Expected an equals sign after the key.
+pub const TOML_ERROR_EQUALS_SIGN: u32 = 2;
 
-/// A value is expected, nested no deeper than the depth limit.
-pub const TOML_ERROR_VALUE: usize = 3;
+/// Expected a value. It may be nested no deeper than the depth limit.
+pub const TOML_ERROR_VALUE: u32 = 3;
 
-/// The name of a table is expected.
-pub const TOML_ERROR_TABLE_NAME: usize = 4;
+/// Expected the name of a table.
+pub const TOML_ERROR_TABLE_NAME: u32 = 4;
 
-/// A bracket after the name of a table is expected.
-pub const TOML_ERROR_CLOSING_BRACKET: usize = 5;
+/// Expected a bracket after the name of a table.
+pub const TOML_ERROR_CLOSING_BRACKET: u32 = 5;
 
-/// The end of the line is expected.
-pub const TOML_ERROR_LINE_END: usize = 6;
+/// Expected the end of the line.
+pub const TOML_ERROR_LINE_END: u32 = 6;
 
-/// The line defines what is defined already.
-pub const TOML_ERROR_DEFINED: usize = 7;
+/// Key is already defined.
+pub const TOML_ERROR_DEFINED: u32 = 7;
 
-/// The line takes a value for a table.
-pub const TOML_ERROR_NOT_A_TABLE: usize = 8;
+/// Key is not a table.
+pub const TOML_ERROR_NOT_A_TABLE: u32 = 8;
 
-/// The line adds to a table that is closed: an inline table, or by dotted keys one of a header.
-pub const TOML_ERROR_CLOSED: usize = 9;
+/// Table cannot be extended. It is an inline table, or the line extends the table of a header by
+/// dotted keys.
+pub const TOML_ERROR_CLOSED: u32 = 9;
 
-/// The line adds a table to a key that is not an array of tables.
-pub const TOML_ERROR_NOT_AN_ARRAY_OF_TABLES: usize = 10;
+/// Key is not an array of tables.
+pub const TOML_ERROR_NOT_AN_ARRAY_OF_TABLES: u32 = 10;
 
 /// The sizes of a document, or an error.
 #[repr(C)]
@@ -62,9 +63,8 @@ pub struct TomlResult {
     pub text: usize,
     /// The offset of the error in bytes; 0 otherwise.
     pub error_offset: usize,
-    /// The error: one of the constants from `TOML_ERROR_NONE` to
-    /// `TOML_ERROR_NOT_AN_ARRAY_OF_TABLES`.
-    pub error: usize,
+    /// The error; `TOML_ERROR_NONE` if there is none.
+    pub error: u32,
 }
 
 /// The document of nothing.
@@ -76,7 +76,7 @@ const NONE: TomlResult = TomlResult {
 };
 
 /// Returns the number of an expected element.
-fn number_of_lack(expected: Expected) -> usize
+fn number_of_lack(expected: Expected) -> u32
     ensures { result ≡ lack_of expected }
 {
     match expected {
@@ -90,7 +90,7 @@ fn number_of_lack(expected: Expected) -> usize
 }
 
 /// Returns the number of an error.
-fn number_of_refusal(why: Reason) -> usize
+fn number_of_refusal(why: Reason) -> u32
     ensures { result ≡ refusal_of why }
 {
     match why {

@@ -18,34 +18,34 @@ pub struct Span {
 }
 
 /// A table, of headers, of dotted keys or inline.
-pub const TOML_TABLE: usize = 0;
+pub const TOML_TABLE: u32 = 0;
 
 /// An array, of values or of tables.
-pub const TOML_ARRAY: usize = 1;
+pub const TOML_ARRAY: u32 = 1;
 
 /// A string.
-pub const TOML_STRING: usize = 2;
+pub const TOML_STRING: u32 = 2;
 
 /// An integer.
-pub const TOML_INTEGER: usize = 3;
+pub const TOML_INTEGER: u32 = 3;
 
 /// A float.
-pub const TOML_FLOAT: usize = 4;
+pub const TOML_FLOAT: u32 = 4;
 
 /// The word `true` or `false`.
-pub const TOML_BOOLEAN: usize = 5;
+pub const TOML_BOOLEAN: u32 = 5;
 
 /// A date and a time at an offset from UTC.
-pub const TOML_OFFSET_DATE_TIME: usize = 6;
+pub const TOML_OFFSET_DATE_TIME: u32 = 6;
 
 /// A date and a time with no offset.
-pub const TOML_LOCAL_DATE_TIME: usize = 7;
+pub const TOML_LOCAL_DATE_TIME: u32 = 7;
 
 /// A date without a time.
-pub const TOML_LOCAL_DATE: usize = 8;
+pub const TOML_LOCAL_DATE: u32 = 8;
 
 /// A time without a date.
-pub const TOML_LOCAL_TIME: usize = 9;
+pub const TOML_LOCAL_TIME: u32 = 9;
 
 /// The value of a node. Fields that its kind does not use are 0.
 ///
@@ -58,7 +58,7 @@ pub const TOML_LOCAL_TIME: usize = 9;
 #[derive(Clone, Copy, Debug, PartialEq, Eq, Drop)]
 pub struct TomlValue {
     /// The kind: one of the numbers `TOML_TABLE` to `TOML_LOCAL_TIME`.
-    pub kind: usize,
+    pub kind: u32,
     /// The year of a date, from 0 to 9999.
     pub year: u16,
     /// The month of a date, from 1 to 12.

@@ -41,7 +41,7 @@ pub(crate) fn text<'t, A: Allocator>(kind: Kind<'t, A>) -> &'t str
 }
 
 /// A value of a kind, with its bytes.
-fn of_kind(kind: usize, text: Span) -> TomlValue
+fn of_kind(kind: u32, text: Span) -> TomlValue
     ensures kind { result.kind ≡ kind }
     ensures text { result.text ≡ text }
 {

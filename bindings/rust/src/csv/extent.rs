@@ -1,6 +1,6 @@
 //! Where records end.
 use super::LineEnd;
-use crate::{exports, Error, Position, RequiredSize, NOTHING};
+use crate::{exports, Error, RequiredSize, NOTHING};
 
 /// How much the record has that an [`Extent`] found.
 #[derive(Clone, Copy, Debug, PartialEq, Eq)]
@@ -60,7 +60,7 @@ impl Extent {
     /// # Errors
     ///
     /// [`Error::Invalid`] if `bytes` does not start with a record, regardless of what follows; it
-    /// holds the position of the first invalid byte.
+    /// holds the offset of the first invalid byte.
     pub fn advance(&mut self, bytes: &[u8]) -> Result<Option<Size>, Error> {
         let mut out = exports::Record::default();
         let line_feeds = u32::from(self.end == LineEnd::Lf);
@@ -82,7 +82,7 @@ impl Extent {
                 Ok(Some(Size { length: out.length, required }))
             }
             exports::INCOMPLETE => Ok(None),
-            code => Err(Error::of(code, Some(Position::of(bytes, out.error_offset)), NOTHING)),
+            code => Err(Error::of(code, Some(out.error_offset), NOTHING)),
         }
     }
 }

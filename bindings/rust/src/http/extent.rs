@@ -1,5 +1,5 @@
 //! Where heads of requests end.
-use crate::{exports, Error, Position, NOTHING};
+use crate::{exports, Error, NOTHING};
 
 /// The state of a search for the end of the head of a request in input that arrives in chunks.
 ///
@@ -42,7 +42,7 @@ impl HeadExtent {
     /// # Errors
     ///
     /// [`Error::Invalid`] if `bytes` does not start with a head, regardless of what follows; it
-    /// holds the position of the first invalid byte.
+    /// holds the offset of the first invalid byte.
     pub fn advance(&mut self, bytes: &[u8]) -> Result<Option<usize>, Error> {
         let mut out = 0;
         // SAFETY: the pointers are those of live borrows, and the bytes are only read. The call takes up
@@ -53,7 +53,7 @@ impl HeadExtent {
         match code {
             exports::DONE => Ok(Some(out)),
             exports::INCOMPLETE => Ok(None),
-            code => Err(Error::of(code, Some(Position::of(bytes, out)), NOTHING)),
+            code => Err(Error::of(code, Some(out), NOTHING)),
         }
     }
 }

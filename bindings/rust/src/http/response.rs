@@ -1,7 +1,9 @@
 //! Heads of responses.
-use super::Field;
+use super::{find, response_body, Body, BodyError, Field};
 use crate::exports;
-use crate::{at, Error, Position, RequiredSize};
+use crate::{at, Error, RequiredSize};
+#[cfg(feature = "alloc")]
+use alloc::vec::Vec;
 
 /// The head of a response: its numbers, and its parts as slices of the bytes that were read.
 #[derive(Clone, Copy, Debug)]
@@ -38,6 +40,17 @@ impl<'i, 'f> ResponseHead<'i, 'f> {
         self.fields.iter().map(move |it| (at(bytes, it.name), at(bytes, it.value)))
     }
 
+    /// Returns the value of the first field of this name, ignoring ASCII case.
+    pub fn field(&self, name: &str) -> Option<&'i [u8]> {
+        find(self.bytes, self.fields, name)
+    }
+
+    /// Returns the length of the body of this response to a request of this method, as
+    /// [`response_body`].
+    pub fn body(&self, method: &[u8]) -> Result<Body, BodyError> {
+        response_body(method, &self.bytes[..self.places.length])
+    }
+
     /// Returns the input after the head.
     pub fn rest(&self) -> &'i [u8] {
         &self.bytes[self.places.length..]
@@ -47,23 +60,57 @@ impl<'i, 'f> ResponseHead<'i, 'f> {
 type Export =
     unsafe extern "C" fn(*const u8, usize, *mut Field, usize, *mut exports::ResponseHead) -> u32;
 
-fn read<'i, 'f>(
+/// Returns the parts of the head that was written.
+fn write(
     export: Export,
-    bytes: &'i [u8],
-    fields: &'f mut [Field],
-) -> Result<ResponseHead<'i, 'f>, Error> {
+    bytes: &[u8],
+    fields: &mut [Field],
+) -> Result<exports::ResponseHead, Error> {
     let mut places = exports::ResponseHead::default();
     let (entries, count) = (fields.as_mut_ptr(), fields.len());
     // SAFETY: the pointers are those of live borrows, and the bytes are only read. The call takes up to
     // 4 KiB of stack (measured); where there is less, the thread's guard page ends the program.
     let code = unsafe { export(bytes.as_ptr(), bytes.len(), entries, count, &mut places) };
     match code {
-        exports::DONE => Ok(ResponseHead { bytes, places, fields: &fields[..places.fields] }),
+        exports::DONE => Ok(places),
         code => {
             let required = RequiredSize { entries: places.fields, bytes: 0 };
-            Err(Error::of(code, Some(Position::of(bytes, places.error_offset)), required))
+            Err(Error::of(code, Some(places.error_offset), required))
         }
     }
+}
+
+fn read<'i, 'f>(
+    export: Export,
+    bytes: &'i [u8],
+    fields: &'f mut [Field],
+) -> Result<ResponseHead<'i, 'f>, Error> {
+    let places = write(export, bytes, fields)?;
+    Ok(ResponseHead { bytes, places, fields: &fields[..places.fields] })
+}
+
+/// Like [`response_head`]. If `fields` is too small, it grows to the number of fields.
+///
+/// ```
+/// let mut fields = Vec::new();
+/// let text = b"HTTP/1.1 200 OK\r\nServer: a\r\n\r\n";
+/// let head = pergidau::http::response_head_grown(text, &mut fields)?;
+/// assert_eq!(head.field("server"), Some(&b"a"[..]));
+/// # Ok::<(), pergidau::Error>(())
+/// ```
+#[cfg(feature = "alloc")]
+pub fn response_head_grown<'i, 'f>(
+    bytes: &'i [u8],
+    fields: &'f mut Vec<Field>,
+) -> Result<ResponseHead<'i, 'f>, Error> {
+    let places = match write(exports::exported_http_response_head, bytes, fields) {
+        Err(Error::BufferTooSmall(required)) => {
+            fields.resize(required.entries, Field::default());
+            write(exports::exported_http_response_head, bytes, fields)
+        }
+        found => found,
+    }?;
+    Ok(ResponseHead { bytes, places, fields: &fields[..places.fields] })
 }
 
 /// Parses the head of an HTTP/1.1 response (RFC 9112) at the start of `bytes`. Does not allocate.
@@ -74,7 +121,7 @@ fn read<'i, 'f>(
 ///
 /// - [`Error::BufferTooSmall`] if the head has more fields than `fields` has entries; it holds the
 ///   number of fields.
-/// - [`Error::Invalid`] if `bytes` does not start with a head; it holds the position of the first
+/// - [`Error::Invalid`] if `bytes` does not start with a head; it holds the offset of the first
 ///   invalid byte, or the end of the input.
 ///
 /// After an error the contents of `fields` are unspecified.
@@ -101,7 +148,7 @@ pub fn response_head<'i, 'f>(
 ///
 /// - [`Error::Incomplete`] if `bytes` does not start with a head, but more bytes can complete one.
 /// - [`Error::Invalid`] if `bytes` does not start with a head, regardless of what follows; it holds
-///   the position of the first invalid byte.
+///   the offset of the first invalid byte.
 ///
 /// ```
 /// let head = pergidau::http::response_head_partial(b"HTTP/1.1 20", &mut []);

@@ -11,7 +11,7 @@
 //! assert_eq!(found.next(), Some(Ok(Entry::More("b"))));
 //! assert_eq!(found.next(), None);
 //! let error = entries("[server]\nport\n", Dialect::PYTHON).last().unwrap().unwrap_err();
-//! assert_eq!(error.to_string(), "missing delimiter after the key at line 2, column 1");
+//! assert_eq!(error.to_string(), "missing delimiter after the key at offset 9");
 //! ```
 use crate::exports::{self, IniEntry, IniState};
 use crate::{Position, Span};
@@ -100,7 +100,7 @@ impl Dialect {
         before_sections: false,
     };
 
-    /// The dialect that reads most: `=` and `:`, comments after white space too, keys without
+    /// The dialect that reads most: `=` and `:`, comments after whitespace too, keys without
     /// values, pairs before the first section, a line for each pair.
     pub const LENIENT: Dialect = Dialect {
         delimiters: Delimiters::Either,
@@ -161,12 +161,12 @@ pub enum Entry<'i> {
     Section(&'i str),
     /// A pair, with its value, or the part of the value on this line.
     Pair {
-        /// The key, without white space at either end.
+        /// The key, without whitespace at either end.
         key: &'i str,
         /// The value, without whitespace at either end; `None` if there is no delimiter.
         value: Option<&'i str>,
     },
-    /// One more line of the value of the pair before, without white space at either end. It is
+    /// One more line of the value of the pair before, without whitespace at either end. It is
     /// empty for an empty line, also where no other line of the value follows.
     More(&'i str),
 }
@@ -188,12 +188,12 @@ pub enum Reason {
     /// There is no delimiter.
     MissingDelimiter,
     /// The library said what this crate does not know: it is another one.
-    Unknown(usize),
+    Unknown(u32),
 }
 
 impl Reason {
     /// The reason of this number.
-    fn of(number: usize) -> Reason {
+    fn of(number: u32) -> Reason {
         match number {
             exports::INI_ERROR_UNCLOSED_SECTION => Reason::UnclosedSection,
             exports::INI_ERROR_EMPTY_SECTION => Reason::EmptySection,
@@ -223,15 +223,30 @@ impl fmt::Display for Reason {
 /// The line that is none of the dialect: where it begins, and why.
 #[derive(Clone, Copy, Debug, PartialEq, Eq)]
 pub struct LineError {
-    /// Where the line begins.
-    pub position: Position,
+    /// The offset in bytes at which the line begins.
+    pub offset: usize,
     /// Why it is none.
     pub reason: Reason,
 }
 
 impl fmt::Display for LineError {
     fn fmt(&self, f: &mut fmt::Formatter<'_>) -> fmt::Result {
-        write!(f, "{} at {}", self.reason, self.position)
+        write!(f, "{} at offset {}", self.reason, self.offset)
+    }
+}
+
+impl LineError {
+    /// Returns the line and the column at which the line begins in `text`, the text of the entries.
+    ///
+    /// ```
+    /// use pergidau::ini::dialects::{entries, Dialect};
+    ///
+    /// let text = "[server]\nport\n";
+    /// let error = entries(text, Dialect::PYTHON).last().unwrap().unwrap_err();
+    /// assert_eq!(error.position(text).to_string(), "line 2, column 1");
+    /// ```
+    pub fn position(&self, text: &str) -> Position {
+        Position::of(text.as_bytes(), self.offset)
     }
 }
 
@@ -249,8 +264,7 @@ pub struct Entries<'i> {
 
 /// Returns an iterator over the entries of a document. A byte order mark at the start is skipped.
 ///
-/// The first line that is invalid in the dialect gives an error with its line, its column and the
-/// reason. Nothing is allocated. All calls for a document take time linear in its length.
+/// The first line that is invalid in the dialect gives an error with its offset and the reason. Nothing is allocated. All calls for a document take time linear in its length.
 ///
 /// ```
 /// use pergidau::ini::dialects::{entries, Dialect, Entry, Reason};
@@ -260,7 +274,7 @@ pub struct Entries<'i> {
 /// assert_eq!(found.next(), Some(Ok(Entry::Section("Desktop Entry"))));
 /// assert_eq!(found.next(), Some(Ok(Entry::Pair { key: "Exec", value: Some("run --now") })));
 /// let error = found.next().unwrap().unwrap_err();
-/// assert_eq!((error.position.line, error.reason), (4, Reason::MissingKey));
+/// assert_eq!((error.offset, error.reason), (43, Reason::MissingKey));
 /// assert_eq!(found.next(), None);
 /// ```
 pub fn entries(text: &str, dialect: Dialect) -> Entries<'_> {
@@ -296,8 +310,8 @@ impl<'i> Iterator for Entries<'i> {
             (exports::DONE, exports::INI_MORE) => Some(Ok(Entry::More(at(out.value)))),
             (exports::INVALID, _) => {
                 self.is_over = true;
-                let position = Position::of(bytes, out.error_offset);
-                Some(Err(LineError { position, reason: Reason::of(out.error) }))
+                let offset = out.error_offset;
+                Some(Err(LineError { offset, reason: Reason::of(out.error) }))
             }
             (code, _) => {
                 debug_assert_eq!(code, exports::END);

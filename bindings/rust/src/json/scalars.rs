@@ -2,6 +2,8 @@
 use super::{unknown, Kind, Value};
 use crate::exports::{self, JsonText};
 use crate::{Error, RequiredSize};
+#[cfg(feature = "alloc")]
+use alloc::{borrow::Cow, string::String, vec};
 
 impl<'i> Value<'i> {
     /// Returns the integer that a number is written as; `-0` gives 0. Returns `None` if the number
@@ -43,7 +45,7 @@ impl<'i> Value<'i> {
     }
 
     fn number(&self) -> Option<&'i [u8]> {
-        (self.kind == Kind::Number).then(|| self.text.as_bytes())
+        (self.kind == Kind::Number).then_some(self.text.as_bytes())
     }
 
     /// Returns a string without its quotes and with its escapes decoded; `None` if the value is not
@@ -73,12 +75,37 @@ impl<'i> Value<'i> {
     }
 }
 
+#[cfg(feature = "alloc")]
+impl<'i> Value<'i> {
+    /// Returns a string without its quotes and with its escapes decoded; `None` if the value is not
+    /// a string. Only a string with escapes is copied.
+    ///
+    /// ```
+    /// let value = pergidau::json::parse("\"r\\u006fle\"", 0)?;
+    /// assert_eq!(value.to_str()?.as_deref(), Some("role"));
+    /// # Ok::<(), pergidau::Error>(())
+    /// ```
+    pub fn to_str(&self) -> Result<Option<Cow<'i, str>>, Error> {
+        if self.kind != Kind::String {
+            return Ok(None);
+        }
+        if !self.text.contains('\\') {
+            return Ok(self.text.get(1..self.text.len() - 1).map(Cow::Borrowed));
+        }
+        let mut buffer = vec![0; self.text.len()];
+        let length = unescape(self.text.as_bytes(), &mut buffer)?.0.len();
+        buffer.truncate(length);
+        let text = String::from_utf8(buffer).map_err(|_| Error::InvalidUtf8)?;
+        Ok(Some(Cow::Owned(text)))
+    }
+}
+
 /// Returns whether `code` reports that an integer was written; the input starts with a number.
 fn fits(code: u32) -> bool {
     match code {
         exports::DONE => true,
         exports::NOT_AN_INTEGER => false,
-        code => unknown(code as usize),
+        code => unknown(code),
     }
 }
 

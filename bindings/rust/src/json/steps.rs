@@ -46,7 +46,7 @@ impl<'i> Iterator for Steps<'i> {
         match code {
             exports::DONE => {}
             exports::END => return None,
-            code => unknown(code as usize),
+            code => unknown(code),
         }
         let (front, left) = self.left.split_at(out.span.offset + out.span.length);
         let text = &front[out.span.offset..];

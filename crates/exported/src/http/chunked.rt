@@ -16,50 +16,53 @@ use format_http_chunked::decoder::{ChunkError, Decoder, Step};
 pub use format_http_chunked::state::ChunkedState;
 
 /// Data of a chunk, one byte or more.
-pub const CHUNKED_DATA: usize = 0;
+pub const CHUNKED_DATA: u32 = 0;
 
 /// Bytes of the trailer section, one or more. All of them together are complete field lines, each
 /// with its line ending.
-pub const CHUNKED_TRAILERS: usize = 1;
+pub const CHUNKED_TRAILERS: u32 = 1;
 
-/// A size line does not start with a hexadecimal digit.
-pub const CHUNKED_ERROR_SIZE: usize = 0;
+/// No error.
+pub const CHUNKED_ERROR_NONE: u32 = 0;
 
-/// The byte is invalid in a size line: it can continue neither an extension nor a line ending.
-pub const CHUNKED_ERROR_SIZE_LINE: usize = 1;
+/// Expected a chunk size. A size line does not start with a hexadecimal digit.
+pub const CHUNKED_ERROR_SIZE: u32 = 1;
 
-/// With this digit the size is 2^64 or more.
-pub const CHUNKED_ERROR_SIZE_TOO_LARGE: usize = 2;
+/// Invalid byte in a chunk size line. It can continue neither an extension nor a line ending.
+pub const CHUNKED_ERROR_SIZE_LINE: u32 = 2;
 
-/// There are more bytes than the limit allows before the next data, or before the end.
-pub const CHUNKED_ERROR_SIZE_LINE_TOO_LONG: usize = 3;
+/// Chunk size too large. With this digit it is 2^64 or more.
+pub const CHUNKED_ERROR_SIZE_TOO_LARGE: u32 = 3;
 
-/// The data of a chunk is not followed by a carriage return and a line feed.
-pub const CHUNKED_ERROR_DATA_END: usize = 4;
+/// Chunk size line too long. The limit counts the bytes before the next data, or before the end.
+pub const CHUNKED_ERROR_SIZE_LINE_TOO_LONG: u32 = 4;
 
-/// The byte can continue neither a field line nor the line ending after the trailer section.
-pub const CHUNKED_ERROR_TRAILERS: usize = 5;
+/// Expected CRLF after chunk data.
+pub const CHUNKED_ERROR_DATA_END: u32 = 5;
 
-/// The trailer section would have more bytes than the limit lets.
-pub const CHUNKED_ERROR_TRAILERS_TOO_LONG: usize = 6;
+/// Invalid byte in the trailer section. It can continue neither a field line nor the line ending
+/// after the section.
+pub const CHUNKED_ERROR_TRAILERS: u32 = 6;
+
+/// Trailer section too long.
+pub const CHUNKED_ERROR_TRAILERS_TOO_LONG: u32 = 7;
 
 /// The result of a call for a chunked body.
 #[repr(C)]
 #[derive(Clone, Copy, Drop)]
 pub struct ChunkedStep {
-    /// The kind of the output: `CHUNKED_DATA` or `CHUNKED_TRAILERS`.
-    pub kind: usize,
+    /// The kind of the output.
+    pub kind: u32,
     /// The span of the output in the input; zeros if there is no output.
     pub span: Span,
     /// How many bytes were taken. Those after them are the first of the next call.
     pub taken: usize,
-    /// The error of the byte after the consumed bytes: `CHUNKED_ERROR_SIZE` or one of the constants
-    /// after it; 0 otherwise.
-    pub error: usize,
+    /// The error of the byte after the consumed bytes; `CHUNKED_ERROR_NONE` otherwise.
+    pub error: u32,
 }
 
 /// Returns the number of an error.
-fn number_of(fault: ChunkError) -> usize
+fn number_of(fault: ChunkError) -> u32
     ensures { result ≡ fault_number fault }
 {
     match fault {
@@ -103,7 +106,7 @@ fn step_of(bytes: &[u8], rest: &[u8], said: Result<Step<'_>, ChunkError>) -> (u3
         kind: 0,
         span: NOWHERE,
         taken: taken_of(bytes, rest),
-        error: 0,
+        error: CHUNKED_ERROR_NONE,
     };
     match said {
         Ok(Step::Data(data)) => {

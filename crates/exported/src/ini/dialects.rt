@@ -19,35 +19,38 @@ use format_ini::lines::{Entry, Places, Reason, State};
 use format_ini::places::{Placed, Reading, Stop, next_placed};
 
 /// The name of a section, which begins there.
-pub const INI_SECTION: usize = 0;
+pub const INI_SECTION: u32 = 0;
 
 /// A key with its value, or with the first line of that.
-pub const INI_PAIR: usize = 1;
+pub const INI_PAIR: u32 = 1;
 
 /// A key without a delimiter, and so without a value.
-pub const INI_KEY: usize = 2;
+pub const INI_KEY: u32 = 2;
 
 /// One more line of the value of the pair before. It is empty for an empty line, also where no
 /// other line of the value follows.
-pub const INI_MORE: usize = 3;
+pub const INI_MORE: u32 = 3;
 
-/// The line starts with `[` and has no `]`.
-pub const INI_ERROR_UNCLOSED_SECTION: usize = 0;
+/// No error.
+pub const INI_ERROR_NONE: u32 = 0;
 
-/// There is nothing between `[` and `]`.
-pub const INI_ERROR_EMPTY_SECTION: usize = 1;
+/// Unclosed section header. The line starts with `[` and has no `]`.
+pub const INI_ERROR_UNCLOSED_SECTION: u32 = 1;
 
-/// There is text after the `]`.
-pub const INI_ERROR_TRAILING_TEXT: usize = 2;
+/// Empty section name. There is nothing between `[` and `]`.
+pub const INI_ERROR_EMPTY_SECTION: u32 = 2;
 
-/// There is no section before the pair.
-pub const INI_ERROR_MISSING_SECTION: usize = 3;
+/// Unexpected text after a section header.
+pub const INI_ERROR_TRAILING_TEXT: u32 = 3;
 
-/// There is no key before the delimiter.
-pub const INI_ERROR_MISSING_KEY: usize = 4;
+/// Pair before the first section header.
+pub const INI_ERROR_MISSING_SECTION: u32 = 4;
 
-/// There is no delimiter.
-pub const INI_ERROR_MISSING_DELIMITER: usize = 5;
+/// Missing key before the delimiter.
+pub const INI_ERROR_MISSING_KEY: u32 = 5;
+
+/// Missing delimiter after the key.
+pub const INI_ERROR_MISSING_DELIMITER: u32 = 6;
 
 /// `=` ends a key. Where neither this is set nor the next, both end one.
 pub const INI_DIALECT_EQUALS: usize = 1;
@@ -55,13 +58,13 @@ pub const INI_DIALECT_EQUALS: usize = 1;
 /// `:` ends a key.
 pub const INI_DIALECT_COLON: usize = 2;
 
-/// `#` begins a comment where it is the first of a line, after white space.
+/// `#` begins a comment where it is the first of a line, after whitespace.
 pub const INI_DIALECT_NUMBER_SIGN: usize = 4;
 
 /// `;` does.
 pub const INI_DIALECT_SEMICOLON: usize = 8;
 
-/// `#` begins a comment at the start of a line, or after white space in it.
+/// `#` begins a comment at the start of a line, or after whitespace in it.
 pub const INI_DIALECT_INLINE_NUMBER_SIGN: usize = 16;
 
 /// `;` does.
@@ -88,7 +91,7 @@ pub const INI_DIALECT_PYTHON: usize = 143;
 /// The dialect of desktop entries: `=`, `#` at the start of lines, a line for each pair.
 pub const INI_DIALECT_DESKTOP: usize = 5;
 
-/// The dialect that reads most: `=` and `:`, comments after white space too, keys without values,
+/// The dialect that reads most: `=` and `:`, comments after whitespace too, keys without values,
 /// pairs before the first section, a line for each pair.
 pub const INI_DIALECT_LENIENT: usize = 831;
 
@@ -110,17 +113,16 @@ pub struct IniState {
 #[repr(C)]
 #[derive(Clone, Copy, Drop)]
 pub struct IniEntry {
-    /// The kind of the entry: one of the constants from `INI_SECTION` to `INI_MORE`.
-    pub kind: usize,
+    /// The kind of the entry.
+    pub kind: u32,
     /// The name of a section, or the key of a pair; zeros otherwise.
     pub key: Span,
     /// The value of a pair, or a further line of it; zeros otherwise.
     pub value: Span,
     /// The offset of the line that is invalid or not UTF-8; 0 otherwise.
     pub error_offset: usize,
-    /// The reason why the line is invalid: `INI_ERROR_UNCLOSED_SECTION` or one of the constants
-    /// after it; 0 otherwise.
-    pub error: usize,
+    /// The reason why the line is invalid; `INI_ERROR_NONE` otherwise.
+    pub error: u32,
 }
 
 const NO_ENTRY: IniEntry = IniEntry {
@@ -128,7 +130,7 @@ const NO_ENTRY: IniEntry = IniEntry {
     key: NOWHERE,
     value: NOWHERE,
     error_offset: 0,
-    error: 0,
+    error: INI_ERROR_NONE,
 };
 
 fn has(dialect: usize, flag: usize) -> bool
@@ -239,7 +241,7 @@ fn state_of(reading: Reading) -> IniState
     }
 }
 
-fn fault_number(why: Reason) -> usize
+fn fault_number(why: Reason) -> u32
     ensures { result ≡ fault_number why }
 {
     match why {

@@ -16,22 +16,22 @@ use format_json_extents::steps;
 use format_json_extents::steps::Step;
 
 /// The name of a member, which is a string: its place has the quotes round it.
-pub const JSON_NAME: usize = 7;
+pub const JSON_NAME: u32 = 7;
 
 /// The opening bracket of an array.
-pub const JSON_BEGIN_ARRAY: usize = 8;
+pub const JSON_BEGIN_ARRAY: u32 = 8;
 
 /// The bracket after it.
-pub const JSON_END_ARRAY: usize = 9;
+pub const JSON_END_ARRAY: u32 = 9;
 
 /// The opening bracket of an object.
-pub const JSON_BEGIN_OBJECT: usize = 10;
+pub const JSON_BEGIN_OBJECT: u32 = 10;
 
 /// The bracket after it.
-pub const JSON_END_OBJECT: usize = 11;
+pub const JSON_END_OBJECT: u32 = 11;
 
 /// Returns the number of a kind of steps.
-fn number_of_step(step: Step) -> usize
+fn number_of_step(step: Step) -> u32
     ensures { result ≡ number_of_step step }
 {
     match step {

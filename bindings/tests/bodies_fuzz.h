@@ -1,0 +1,152 @@
+/* The lengths of bodies and fields by name on random heads, compared with hand-written ones, for
+ * `fuzz.c`. */
+#ifndef BODIES_FUZZ_H
+#define BODIES_FUZZ_H
+
+#include <strings.h>
+
+static bool is_word(const uint8_t *bytes, struct pergidau_span at, const char *word)
+{
+    return at.length == strlen(word) && !strncasecmp((const char *)bytes + at.offset, word, at.length);
+}
+
+/* Takes the next element of a list, without the white space around it. Returns false at the end. */
+static bool next_element(const uint8_t *bytes, struct pergidau_span *list, struct pergidau_span *element)
+{
+    size_t end = list->offset + list->length, at = list->offset;
+    if (list->length == SIZE_MAX) {
+        return false;
+    }
+    while (at < end && bytes[at] != ',') {
+        at++;
+    }
+    *element = (struct pergidau_span){list->offset, at - list->offset};
+    list->offset = at + (at < end);
+    list->length = at < end ? end - at - 1 : SIZE_MAX;
+    while (element->length > 0 && memchr(" \t", bytes[element->offset], 2)) {
+        element->offset++;
+        element->length--;
+    }
+    while (element->length > 0 && memchr(" \t", bytes[element->offset + element->length - 1], 2)) {
+        element->length--;
+    }
+    return true;
+}
+
+/* The error of the Content-Length fields, or their number. */
+static enum pergidau_http_error length_by_hand(const uint8_t *bytes, const struct pergidau_field *fields,
+                                               size_t count, uint64_t *number)
+{
+    struct pergidau_span first = {0}, element;
+    bool found = false;
+    for (size_t i = 0; i < count; i++) {
+        struct pergidau_span list = fields[i].value;
+        while (is_word(bytes, fields[i].name, "content-length") && next_element(bytes, &list, &element)) {
+            if (found && (element.length != first.length
+                          || memcmp(bytes + element.offset, bytes + first.offset, first.length))) {
+                return PERGIDAU_HTTP_ERROR_LENGTHS_DIFFER;
+            }
+            first = element;
+            found = true;
+        }
+    }
+    bool fits = true;
+    for (size_t i = 0; i < first.length; i++) {
+        if (!is_digit(bytes[first.offset + i])) {
+            return PERGIDAU_HTTP_ERROR_LENGTH_NOT_A_NUMBER;
+        }
+        uint64_t digit = bytes[first.offset + i] - (unsigned)'0';
+        fits = fits && *number <= (UINT64_MAX - digit) / 10;
+        *number = fits ? *number * 10 + digit : 0;
+    }
+    return first.length == 0 ? PERGIDAU_HTTP_ERROR_LENGTH_NOT_A_NUMBER
+        : !fits              ? PERGIDAU_HTTP_ERROR_LENGTH_TOO_LARGE
+                             : PERGIDAU_HTTP_ERROR_NONE;
+}
+
+/* Whether the codings end with `chunked`, and whether one comes after a `chunked`, possibly with
+ * parameters. */
+static void codings_by_hand(const uint8_t *bytes, const struct pergidau_field *fields, size_t count,
+                            bool *last, bool *followed)
+{
+    bool seen = false;
+    *last = *followed = false;
+    for (size_t i = 0; i < count; i++) {
+        struct pergidau_span list = fields[i].value, element;
+        while (is_word(bytes, fields[i].name, "transfer-encoding") && next_element(bytes, &list, &element)) {
+            if (element.length == 0) {
+                continue;
+            }
+            *followed |= seen;
+            *last = is_word(bytes, element, "chunked");
+            struct pergidau_span name = element;
+            for (name.length = 0; name.length < element.length
+                 && !memchr("; \t", bytes[name.offset + name.length], 3); name.length++) {
+            }
+            seen |= is_word(bytes, name, "chunked");
+        }
+    }
+}
+
+/* The rules of RFC 9112, sections 3.2, 6.1 and 6.3, for a request with these fields. */
+static void body_by_hand(const uint8_t *bytes, const struct pergidau_head *head,
+                         const struct pergidau_field *fields, struct pergidau_http_body *want)
+{
+    size_t hosts = 0, lengths = 0, codings = 0;
+    bool last, followed;
+    for (size_t i = 0; i < head->fields; i++) {
+        hosts += is_word(bytes, fields[i].name, "host");
+        lengths += is_word(bytes, fields[i].name, "content-length");
+        codings += is_word(bytes, fields[i].name, "transfer-encoding");
+    }
+    codings_by_hand(bytes, fields, head->fields, &last, &followed);
+    *want = (struct pergidau_http_body){PERGIDAU_HTTP_BODY_NONE, PERGIDAU_HTTP_ERROR_NONE, 0};
+    if (hosts > 1) {
+        want->error = PERGIDAU_HTTP_ERROR_MANY_HOSTS;
+    } else if (hosts == 0 && head->major == 1 && head->minor >= 1) {
+        want->error = PERGIDAU_HTTP_ERROR_MISSING_HOST;
+    } else if (codings > 0) {
+        want->error = head->major == 0 || (head->major == 1 && head->minor == 0)
+            ? PERGIDAU_HTTP_ERROR_CODING_BEFORE_VERSION
+            : lengths > 0 ? PERGIDAU_HTTP_ERROR_LENGTH_AND_CODING
+            : followed    ? PERGIDAU_HTTP_ERROR_CHUNKED_NOT_LAST
+            : last        ? PERGIDAU_HTTP_ERROR_NONE
+                          : PERGIDAU_HTTP_ERROR_NOT_CHUNKED;
+        want->kind = want->error ? PERGIDAU_HTTP_BODY_NONE : PERGIDAU_HTTP_BODY_CHUNKED;
+    } else if (lengths > 0) {
+        want->error = length_by_hand(bytes, fields, head->fields, &want->length);
+        want->kind = want->error ? PERGIDAU_HTTP_BODY_NONE : PERGIDAU_HTTP_BODY_LENGTH;
+        want->length = want->error ? 0 : want->length;
+    }
+}
+
+static void read_body(const uint8_t *bytes, size_t length)
+{
+    struct pergidau_http_body out, want = {PERGIDAU_HTTP_BODY_NONE, PERGIDAU_HTTP_ERROR_HEAD, 0};
+    struct pergidau_field fields[MOST_FIELDS];
+    struct pergidau_head head;
+    enum pergidau_code found = pergidau_http_head(bytes, length, fields, MOST_FIELDS, &head);
+    enum pergidau_code code = pergidau_http_request_body(bytes, length, &out);
+    if (found == PERGIDAU_BUFFER_TOO_SMALL) {
+        return;
+    }
+    if (found == PERGIDAU_DONE) {
+        body_by_hand(bytes, &head, fields, &want);
+        for (size_t i = 0; i < head.fields; i++) {
+            size_t index = 0, first = 0;
+            struct pergidau_span name = fields[i].name;
+            HOLDS(pergidau_http_field(bytes, length, fields, head.fields, bytes + name.offset,
+                                      name.length, &index) == PERGIDAU_DONE);
+            while (fields[first].name.length != name.length
+                   || strncasecmp((const char *)bytes + fields[first].name.offset,
+                                  (const char *)bytes + name.offset, name.length)) {
+                first++;
+            }
+            HOLDS(index == first);
+        }
+    }
+    HOLDS(code == (want.error ? PERGIDAU_INVALID : PERGIDAU_DONE));
+    HOLDS(out.kind == want.kind && out.error == want.error && out.length == want.length);
+}
+
+#endif
