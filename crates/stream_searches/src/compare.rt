@@ -3,7 +3,6 @@
 //! Those of bytes are here, those of other streams in the files below.
 ghost use Rattle.std.specs.Prelude.{◌≡◌, ℕ, List, [], ◌∷◌, length};
 ghost use Rattle.std.proofs.Common.{ap, sym, ◌∙◌};
-ghost use Rattle.std.specs.Bool.{Decides};
 ghost use Rattle.std.specs.Char.{encode_utf8};
 ghost use Rattle.stream_searches.specs.Compare.{ComparesAs, StartsWithSpelling, IsShort};
 ghost use Rattle.stream_searches.specs.Compare.{same-length};
@@ -47,34 +46,13 @@ pub trait Compare<T>: Stream {
         → Self.reading.units xs ≡ Self.reading.units ys };
 }
 
-/// The longest literal that is compared in place.
-const IN_PLACE: usize = 8;
-
-/// Returns whether bytes start with the literal. For a short one, a call would cost more than the
-/// comparison.
-#[inline(always)]
-pub(crate) fn begins_with(all: &[u8], literal: &[u8]) -> bool
-    ensures { Decides result (StartsWithSpelling (λ xs. xs ≡ literal.now) all.now) }
-{
-    let count = literal.len();
-    if count > IN_PLACE || count > all.len() {
-        return all.starts_with(literal);
-    }
-    for at in 0..count {
-        if all[at] != literal[at] {
-            return false;
-        }
-    }
-    true
-}
-
 /// Compares bytes with bytes; each is looked at once.
 #[inline(always)]
 pub(crate) fn compare_bytes(all: &[u8], literal: &[u8]) -> CompareResult
     ensures { ComparesAs length (λ xs. xs ≡ literal.now) all.now result }
 {
     if literal.len() <= all.len() {
-        if begins_with(all, literal) {
+        if all.starts_with(literal) {
             CompareResult::Ok(literal.len())
         } else {
             CompareResult::Error
