@@ -10,7 +10,7 @@
 # `counts` prints only the second table, which other load on the machine does not affect. With
 # `--write` it writes the library's instructions in each workload to counts.txt instead. `check`
 # compares with counts.txt, and fails if a workload takes over 5 % more instructions; it prints the
-# name and both numbers. Without words, the first table is also drawn, as docs/benchmarks.svg.
+# name and both numbers.
 #
 # It installs the Debian packages of nom 7, memchr and valgrind if they are missing, and cargo if
 # there is none. It copies the library and the workloads (`timed/`) into a folder, reuses the proofs
@@ -21,8 +21,7 @@
 # the folder, which keeps the proofs for the next run. It is outside the repository, since the gate
 # rejects crates outside `crates/`.
 # BENCH_UNPROVED=1 builds the library without proofs (`unproved.py`), to try a change in a minute. Its
-# code is similar to that of a proved build, but may differ, so docs/BENCHMARKS.md has the times of
-# proved builds.
+# code is similar to that of a proved build, but may differ.
 set -eu -o pipefail
 cd "$(dirname "$0")"
 cpu=${BENCH_CPU:-x86-64-v2}
@@ -86,7 +85,5 @@ case "${1:-}" in
         ;;
 esac
 ./target/release/bench "$@" | tee target/table.md
-# A run of all workloads also draws the picture.
-[ $# -gt 1 ] || ./picture.py < target/table.md > ../docs/benchmarks.svg
 echo
 ./counts.py "${2:-}" | tee target/counts.md
