@@ -1,6 +1,5 @@
-//! Times, headers of bits, and their errors, on complete and partial input.
-use example_callers::outcomes::{flag_and_byte, header_in_pieces, header_of_bytes};
-use example_callers::outcomes::{time_in_pieces, time_of_bytes};
+//! Times, flags of bits, and their errors, on complete and partial input.
+use example_callers::outcomes::{flag_and_byte, flags, time_in_pieces, time_of_bytes};
 use std::process::Abort;
 use winnow::Parser;
 use winnow::ascii::impls::Digit1;
@@ -66,29 +65,25 @@ fn digits_of_all_bytes_by_outcome(rt: HostRuntime) {
 }
 
 #[test]
-fn header_of_whole_bytes(rt: HostRuntime) {
-    let mut input = b"\xAB\xCD\x01".as_slice();
-    assert_eq!(rt; header_of_bytes(&mut input), Ok((2, true, 0xBCD)));
+fn flags_of_whole_bytes(rt: HostRuntime) {
+    let mut input = b"\x80\x01".as_slice();
+    let answer = flags::<_, ErrMode<EmptyError>, ErrMode<EmptyError>>(&mut input);
+    assert_eq!(rt; answer, Ok((true, false)));
     assert_eq!(rt; input, b"\x01".as_slice());
-    for text in [b"\x2B\xCD".as_slice(), b"\xAB", b""] {
-        let mut input = text;
-        assert!(rt; matches!(header_of_bytes(&mut input), Err(ErrMode::Backtrack(_))));
-        assert_eq!(rt; input, text);
-    }
+    let mut input = b"".as_slice();
+    let answer = flags::<_, ErrMode<EmptyError>, ErrMode<EmptyError>>(&mut input);
+    assert!(rt; matches!(answer, Err(ErrMode::Backtrack(_))));
 }
 
 #[test]
-fn header_of_pieces(rt: HostRuntime) {
-    for (text, need) in [(b"\xAB".as_slice(), 2), (b"", 1)] {
-        let mut input = Partial::new(text);
-        let answer = header_in_pieces(&mut input);
-        assert_eq!(rt; answer, Err(ErrMode::Incomplete(Needed::new(need))));
-        assert_eq!(rt; *input.as_inner(), text);
-    }
-    let mut input = Partial::new(b"\x2B".as_slice());
-    assert!(rt; matches!(header_in_pieces(&mut input), Err(ErrMode::Backtrack(_))));
-    let mut input = Partial::new(b"\xAB\xCD".as_slice());
-    assert_eq!(rt; header_in_pieces(&mut input), Ok((2, true, 0xBCD)));
+fn flags_of_pieces(rt: HostRuntime) {
+    let mut input = Partial::new(b"".as_slice());
+    let answer = flags::<_, ErrMode<EmptyError>, ErrMode<EmptyError>>(&mut input);
+    assert_eq!(rt; answer, Err(ErrMode::Incomplete(Needed::new(1))));
+    let mut input = Partial::new(b"\x40".as_slice());
+    let answer = flags::<_, ErrMode<EmptyError>, ErrMode<EmptyError>>(&mut input);
+    assert_eq!(rt; answer, Ok((false, true)));
+    assert_eq!(rt; *input.as_inner(), b"".as_slice());
 }
 
 #[test]

@@ -3,6 +3,8 @@
 #![tactic(auto)]
 
 ghost use Rattle.std.specs.Prelude.{◌≡◌, ⊤, ℕ};
+ghost use Rattle.winnow.specs.BitsOfBytes.Says.{bits_says};
+ghost use Rattle.winnow.specs.BitsOfBytes.{BitsOfBytesRuns};
 ghost use Rattle.winnow.specs.Class.Says.{CharIsFunction};
 ghost use Rattle.winnow.specs.Form.{answer_by, modal};
 ghost use Rattle.winnow.specs.Longer.{NoOtherOnLonger};
@@ -12,8 +14,8 @@ ghost use Rattle.winnow.specs.Says.Longer.{EachLongerGets};
 
 use winnow::Parser;
 use winnow::ascii::impls::Digit1;
-use winnow::binary::bits::impls::{Bits, BitsParser, Bool, Bytes, Pattern, Take};
-use winnow::binary::bits::{bits, bytes, pattern, take};
+use winnow::binary::bits::impls::{Bits, BitsParser, Bool, Bytes};
+use winnow::binary::bits::{bits, bytes};
 use winnow::error::{EmptyError, ErrMode, ErrorConvert, ParserError};
 use winnow::laws::{longer_inputs_get_partial_results, partial_results_are_final};
 use winnow::stream::{AsChar, ByteStream, Compare, Partial, Stream, StreamIsPartial};
@@ -65,51 +67,43 @@ pub fn time_in_pieces<'i>(
     time(input)
 }
 
-/// The number 2 in two bits, a flag, and a number of thirteen bits.
-type Header<I, E> = (Pattern<I, u8, E>, Bool, Take<I, u16, E>);
+/// Two flags, as a parser of bits.
+type Flags = (Bool, Bool);
 
-/// A header, as a parser of bytes.
-type HeaderOfBytes<I, E, F> = BitsParser<Header<I, E>, I, (u8, bool, u16), E, F>;
-
-/// Parses a header from bytes. The result, and the position of an error, are those of its bits.
-pub fn header<I, E, F>(input: &mut I) -> Result<(u8, bool, u16), F>
+/// Parses two flags from bytes, and skips the other bits of their byte. The result, and the
+/// position of an error, are those of the bits.
+pub fn flags<I, E, F>(input: &mut I) -> Result<(bool, bool), F>
 where
     I: ByteStream + StreamIsPartial + Copy,
     E: ParserError<Bits<I>> + ErrorConvert<F>,
     F: ParserError<I>,
     ensures tells { Tells
-        (⟦<HeaderOfBytes<I, E, F> as Parser<I, (u8, bool, u16), F>>⟧.says ((2, 2), tt, 13))
+        (bits_says (⟦<Flags as Parser<Bits<I>, (bool, bool), E>>⟧.says (tt, tt)))
         F.form (I.view input.old)
         (outcome_of (answer_by F.kind result) (I.view input.new).left.tokens) }
 {
-    let mut parser: HeaderOfBytes<I, E, F> = bits((pattern(2u8, 2u8), Bool, take(13u8)));
+    let mut parser: BitsParser<Flags, I, (bool, bool), E, F> = bits((Bool, Bool));
     parser.read_outcome(input)
 }
 
-/// States that a header from partial input is final: no longer input has another one.
-pub fn header_is_for_good<I, E, F>()
+/// States that flags from partial input are final: no longer input has other ones.
+pub fn flags_are_for_good<I, E, F>()
 where
     I: ByteStream + StreamIsPartial + Copy,
     E: ParserError<Bits<I>> + ErrorConvert<F>,
     F: ParserError<I>,
     requires mode { F.form ≡ modal }
-    ensures { NoOtherOnLonger I.following ((2, 2), tt, 13)
-        (⟦<HeaderOfBytes<I, E, F> as Parser<I, (u8, bool, u16), F>>⟧.meaning F.form)
-        (⟦<HeaderOfBytes<I, E, F> as Parser<I, (u8, bool, u16), F>>⟧.says ((2, 2), tt, 13)).alike }
+    ensures { NoOtherOnLonger I.following (tt, tt)
+        (BitsOfBytesRuns I.reading F.form
+        (⟦<Flags as Parser<Bits<I>, (bool, bool), E>>⟧.meaning F.form))
+        (⟦<Flags as Parser<Bits<I>, (bool, bool), E>>⟧.says (tt, tt)).alike }
 {
-    longer_inputs_get_partial_results::<HeaderOfBytes<I, E, F>, I, (u8, bool, u16), F>();
-}
-
-/// A header of bytes.
-pub fn header_of_bytes<'i>(input: &mut &'i [u8]) -> Result<(u8, bool, u16), ErrMode<EmptyError>> {
-    header::<_, ErrMode<EmptyError>, _>(input)
-}
-
-/// Parses a header from partial input.
-pub fn header_in_pieces<'i>(
-    input: &mut Partial<&'i [u8]>,
-) -> Result<(u8, bool, u16), ErrMode<EmptyError>> {
-    header::<_, ErrMode<EmptyError>, _>(input)
+    longer_inputs_get_partial_results::<
+        BitsParser<Flags, I, (bool, bool), E, F>,
+        I,
+        (bool, bool),
+        F,
+    >();
 }
 
 /// A flag and then the next whole byte, as a parser of bits.
