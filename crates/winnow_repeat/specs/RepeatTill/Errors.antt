@@ -1,7 +1,7 @@
 -- The errors of repetitions up to a terminator.
 use Rattle.std.specs.Prelude.{◌≡◌, false, List, length}
 use Rattle.std.specs.Prelude.{Err}
-use Rattle.std.proofs.Common.{refl, ap, subst, inl, inr, ◌∙◌, arith}
+use Rattle.std.proofs.Common.{refl, sym, ap, subst, inl, inr, ◌∙◌, arith}
 use Rattle.streams.specs.Input.{Input, back_at}
 use Rattle.streams.specs.Kind.{Kind, backtrack, memory}
 use Rattle.stream_sets.specs.Accumulator.{Accumulator, Wants}
@@ -14,7 +14,7 @@ use Rattle.winnow_core.specs.Exact.{FailsBy, IsExact}
 use Rattle.winnow_core.specs.Runs.{Runs}
 use Rattle.winnow_repeat.specs.Repeat.Exact.{chain_stands}
 use Rattle.winnow_repeat.specs.RepeatTill.{LeastItemsRun, RangedTillRuns, RepeatTillRuns}
-use Rattle.winnow_repeat.specs.RepeatTill.{TurnsEnd, TurnsRun, room_behind}
+use Rattle.winnow_repeat.specs.RepeatTill.{TurnRuns, TurnsEnd, TurnsRun, room_behind}
 use Rattle.winnow_repeat.specs.RepeatTill.Exact.{successes_stand, turn_exact}
 
 turn_fails : {S W T O D : Type 0} {run : Runs S T O} {till : Runs W T D} {h : Grammar T D}
