@@ -168,6 +168,16 @@ def log(seed):
     return "".join(made)
 
 
+def chunks(size):
+    """Returns a generator of chunked bodies of 2,000,000 bytes of content, in chunks of this size."""
+
+    def body(seed):
+        data = (seed.words(1000) * 20)[:size]
+        return f"{size:x}\r\n{data}\r\n" * (2000000 // size) + "0\r\n\r\n"
+
+    return body
+
+
 def records(_):
     """CSV records; a quarter of the fields are quoted."""
     return "".join(
@@ -242,6 +252,8 @@ FILES = {
     "statuses.json": statuses,
     "heads.http": heads,
     "log.http": log,
+    "small.chunked": chunks(16),
+    "large.chunked": chunks(1000),
     "records.csv": records,
     "table.csv": table,
     "small.resp": small,

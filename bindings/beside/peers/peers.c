@@ -96,6 +96,27 @@ PEER(heads_in_pieces_by_http_parser)
     heads_by_pieces(text, length, 512, out);
 }
 
+static int on_data(http_parser *parser, const char *at, size_t length)
+{
+    ((struct outcome *)parser->data)->count++;
+    return on_part(parser, at, length);
+}
+
+/* Parses a chunked body, after a head of its own. */
+PEER(body_by_http_parser)
+{
+    static const char head[] = "POST / HTTP/1.1\r\nTransfer-Encoding: chunked\r\n\r\n";
+    http_parser_settings settings;
+    http_parser_settings_init(&settings);
+    settings.on_body = on_data;
+    settings.on_message_complete = on_head;
+    http_parser parser;
+    http_parser_init(&parser, HTTP_REQUEST);
+    parser.data = out;
+    http_parser_execute(&parser, &settings, head, sizeof head - 1);
+    http_parser_execute(&parser, &settings, text, length);
+}
+
 static void on_field(void *field, size_t length, void *out)
 {
     (void)field;

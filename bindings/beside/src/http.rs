@@ -1,7 +1,8 @@
-//! Readers of request heads. Each head is counted; the sum is of the lengths of the target and of the
-//! names and values of the fields.
+//! Readers of request heads and of chunked bodies. Each head is counted; the sum is of the lengths of
+//! the target and of the names and values of the fields. Each slice of data is counted, and the end of
+//! a body; the sum is of the lengths of the data.
 use crate::text::{Outcome, Text};
-use pergidau::http::{self, Field};
+use pergidau::http::{self, Chunked, Field, Step};
 use pergidau::Error;
 
 /// The size of the chunks in bytes, for incremental readers.
@@ -75,4 +76,19 @@ pub fn heads_in_pieces_by_httparse(text: &Text) -> Outcome {
         }
     }
     out
+}
+
+pub fn body(text: &Text) -> Outcome {
+    let (mut out, mut rest, mut body) = (Outcome::default(), text.bytes(), Chunked::new());
+    loop {
+        match body.advance(&mut rest) {
+            Ok(Step::Data(data)) => out.add(data.len()),
+            Ok(Step::Trailers(_)) => {}
+            Ok(Step::End) => {
+                out.add(0);
+                return out;
+            }
+            Ok(Step::More) | Err(_) => return out,
+        }
+    }
 }

@@ -24,6 +24,7 @@ macro_rules! peers {
 }
 
 peers!(
+    body_by_http_parser,
     check_by_rapidjson,
     check_by_simdjson,
     heads_by_http_parser,

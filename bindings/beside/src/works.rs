@@ -54,6 +54,8 @@ const HEADS_IN_PIECES: &[(&str, Reader)] = &[
     ("httparse", http::heads_in_pieces_by_httparse),
     ("http_parser", peers::heads_in_pieces_by_http_parser),
 ];
+const BODIES: &[(&str, Reader)] =
+    &[("this library", http::body), ("http_parser", peers::body_by_http_parser)];
 const RECORDS: &[(&str, Reader)] = &[
     ("this library", csv::records),
     ("csv, into one record", csv::records_by_csv),
@@ -80,6 +82,8 @@ pub const WORKS: &[Work] = &[
     work("one head of a request, 1000 times", "heads.http", HEADS),
     work("10,000 heads of a log", "log.http", HEADS),
     work("the same in pieces of 512 bytes", "log.http", HEADS_IN_PIECES),
+    work("a body in chunks of 16 bytes", "small.chunked", BODIES),
+    work("a body in chunks of 1,000 bytes", "large.chunked", BODIES),
     work("10,000 records", "records.csv", RECORDS),
     work("a table of 1,000,000 records", "table.csv", RECORDS),
     work("40,000 small replies of Redis", "small.resp", REPLIES),

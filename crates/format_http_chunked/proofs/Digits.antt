@@ -59,7 +59,7 @@ behind_size (suc n) content trailers size bytes (least, (piece, more, behind, l,
 
 -- ---- digits
 
-hex_plain : (b : ℕ) → IsHexDigit b → (b ≡ 13 → ⊥) × (b ≡ 59 → ⊥) × (IsWhite b → ⊥)
+pub hex_plain : (b : ℕ) → IsHexDigit b → (b ≡ 13 → ⊥) × (b ≡ 59 → ⊥) × (IsWhite b → ⊥)
 hex_plain b t = grind arith
 
 digits_grow : (number : ℕ) (digits : List ℕ) → number ≤ digits_value_after 16 number digits

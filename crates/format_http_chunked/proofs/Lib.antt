@@ -3,6 +3,7 @@ pub mod Calls
 pub mod Digits
 pub mod Lists
 pub mod Results
+pub mod SizeLines
 pub mod Splits
 pub mod Standing
 pub mod Taking

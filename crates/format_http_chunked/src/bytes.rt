@@ -44,7 +44,7 @@ pub(crate) fn is_quoted(byte: u8) -> bool
 }
 
 /// Returns the value of a hexadecimal digit.
-#[inline]
+#[inline(always)]
 pub(crate) fn digit_of(byte: u8) -> Option<u64>
     ensures some { IfSome result (λ value. IsHexDigit byte × (value ≡ digit_value byte)
         × (value < 16)) }

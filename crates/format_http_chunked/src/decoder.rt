@@ -15,17 +15,16 @@
 #![tactic(auto)]
 
 ghost use Rattle.format_http_chunked.specs.Decoded.{IsAnswer, IsAt};
-ghost use Rattle.format_http_chunked.specs.Room.{PartSpends, Spends};
+ghost use Rattle.format_http_chunked.specs.Room.{IsSpent, PartSpends, Spends};
 ghost use Rattle.format_http_chunked.specs.Outputs.{OutputBeforeRest, PartBeforeRest};
 ghost use Rattle.format_http_chunked.specs.State.{decoder_of};
-ghost use Rattle.format_http_chunked.specs.Steps.{IsPart, IsSaid};
+ghost use Rattle.format_http_chunked.specs.Steps.{IsPart, IsSaid, IsTaken};
 ghost use Rattle.format_http_chunked.specs.declared.places.Framing.TheVariants as framing;
-ghost use Rattle.format_http_chunked.specs.declared.places.InField.TheVariants as field;
 ghost use Rattle.format_http_chunked.specs.declared.places.Place.TheVariants as place;
-ghost use Rattle.std.specs.Prelude.{◌≡◌, ◌<◌, ◌≤◌, MatchBool, None, Ok, ℕ, List, [], length, take};
+ghost use Rattle.std.specs.Prelude.{◌≡◌, ◌<◌, Ok, ℕ, List, []};
 
-use crate::fields::{field_behind, pass_fields};
-use crate::framing::{place_after, taken_of};
+use crate::fields::{ends_there, field_behind, front, pass_fields};
+use crate::framing::{pass_line, place_after, taken_of};
 use crate::places::{Framing, InField, Place};
 use crate::state::{ChunkedState, numbers_of, place_of};
 
@@ -134,25 +133,6 @@ pub struct Decoder {
     limits: Limits,
 }
 
-/// The first bytes.
-fn front(bytes: &[u8], size: usize) -> &[u8]
-    requires { size ≤ length bytes.now }
-    ensures { result.now ≡ take size bytes.now }
-{
-    &bytes[..size]
-}
-
-/// Whether this byte is the carriage return after the trailer section.
-fn ends_there(at: InField, byte: u8) -> bool
-    ensures { MatchBool result ((at ≡ field.Start) × (byte ≡ 13))
-        (at ≡ field.Start → byte ≡ 13 → ⊥) }
-{
-    match at {
-        InField::Start => byte == b'\r',
-        _ => false,
-    }
-}
-
 impl Decoder {
     /// Nothing of the body is taken.
     ///
@@ -227,6 +207,7 @@ impl Decoder {
     }
 
     /// Consumes a byte that is not part of the output.
+    #[inline(always)]
     fn pass_byte<'i>(
         &mut self,
         at: Framing,
@@ -254,7 +235,27 @@ impl Decoder {
         }
     }
 
+    /// Consumes a size line without extensions, if the bytes start with one that the room allows.
+    #[inline(always)]
+    fn pass_size_line(&mut self, input: &mut &[u8])
+        ensures told { IsTaken self.old.place self.new.place input.old.now input.new.now [] [] }
+        ensures spent { IsSpent self.old self.new input.old.now input.new.now 0 }
+    {
+        match pass_line(self.place, input) {
+            None => {}
+            Some((next, rest)) => match self.room.checked_sub(input.len() - rest.len()) {
+                None => {}
+                Some(room) => {
+                    self.place = next;
+                    self.room = room;
+                    *input = rest;
+                }
+            },
+        }
+    }
+
     /// Consumes data of a chunk. `size` is the number of bytes of data that remain.
+    #[inline(always)]
     fn pass_data<'i>(&mut self, size: u64, input: &mut &'i [u8]) -> Step<'i>
         requires due { self.old.place ≡ place.Data size }
         requires some { 0 < size }
@@ -318,6 +319,7 @@ impl Decoder {
     }
 
     /// Takes some of the bytes that are there.
+    #[inline(always)]
     fn part<'i>(&mut self, input: &mut &'i [u8]) -> Result<Option<Step<'i>>, ChunkError>
         ensures told { IsPart self.old self.new input.old.now input.new.now result }
         ensures spent { PartSpends self.old self.new input.old.now input.new.now result }
@@ -338,11 +340,13 @@ impl Decoder {
     }
 
     /// Consumes bytes up to the next result.
+    #[inline(always)]
     fn run<'i>(&mut self, input: &mut &'i [u8]) -> Result<Step<'i>, ChunkError>
         ensures told { IsSaid self.old self.new input.old.now input.new.now result }
         ensures spent { Spends self.old self.new input.old.now input.new.now result }
         ensures stands { OutputBeforeRest input.old.now input.new.now result }
     {
+        self.pass_size_line(input);
         'bytes: loop {
             match self.part(input) {
                 Err(fault) => return Err(fault),
@@ -357,19 +361,17 @@ impl Decoder {
     /// Consumes the first bytes of the input and returns their kind: data, bytes of trailers, or
     /// the end. If more bytes are needed, it consumes all of them and returns [`Step::More`]. Each
     /// byte must be passed once: after [`Step::More`] the next input is the continuation of the
-    /// last one.
+    /// last one. For the bytes consumed in all calls, the data are the content of the chunked body,
+    /// in order, however the bytes are divided. It returns `End` when the body is complete, and
+    /// `More` while it is incomplete and can be completed. An error is for the first byte that
+    /// cannot continue a body. That byte is not consumed, so the input then starts with it, and the
+    /// next call rejects it again.
     ///
-    /// For the bytes consumed in all calls, the data are the content of the chunked body, in order,
-    /// however the bytes are divided. It returns `End` when the body is complete, and `More` while
-    /// it is incomplete and can be completed. An error is for the first byte that cannot continue a
-    /// body. That byte is not consumed, so the input then starts with it, and the next call rejects
-    /// it again.
-    ///
-    /// Bytes of size lines and trailers are examined once, and those of data not at all: the time
-    /// is linear in the bytes, however they are divided. Extensions are skipped, and field lines
-    /// are returned unchanged; `format_http::heads` reads them. Whitespace may surround the
-    /// delimiters of an extension (RFC 9112, section 7.1.1). A single line feed is not a line
-    /// ending.
+    /// Bytes of size lines are examined at most twice, those of trailers once, and those of data
+    /// not at all: the time is linear in the bytes, however they are divided. Extensions are
+    /// skipped, and field lines are returned unchanged; `format_http::heads` reads them. Whitespace
+    /// may surround the delimiters of an extension (RFC 9112, section 7.1.1). A single line feed is
+    /// not a line ending.
     ///
     /// # Errors
     ///

@@ -5,6 +5,7 @@ ghost use Rattle.format_http_chunked.specs.Dues.{DueFields};
 ghost use Rattle.format_http_chunked.specs.Steps.{ArePassed};
 ghost use Rattle.format_http_chunked.specs.declared.places.InField.TheVariants as field;
 ghost use Rattle.std.specs.Prelude.{◌≡◌, ◌↔◌, ◌++◌, ◌∷◌, ℕ, List, None, IfSome, ◌+◌, length};
+ghost use Rattle.std.specs.Prelude.{◌≤◌, MatchBool, take};
 
 use crate::bytes::{is_token, is_value};
 use crate::places::InField;
@@ -77,4 +78,23 @@ pub(crate) fn pass_fields<'i>(
         }
     }
     (next, left, rest)
+}
+
+/// The first bytes.
+pub(crate) fn front(bytes: &[u8], size: usize) -> &[u8]
+    requires { size ≤ length bytes.now }
+    ensures { result.now ≡ take size bytes.now }
+{
+    &bytes[..size]
+}
+
+/// Whether this byte is the carriage return after the trailer section.
+pub(crate) fn ends_there(at: InField, byte: u8) -> bool
+    ensures { MatchBool result ((at ≡ field.Start) × (byte ≡ 13))
+        (at ≡ field.Start → byte ≡ 13 → ⊥) }
+{
+    match at {
+        InField::Start => byte == b'\r',
+        _ => false,
+    }
 }

@@ -49,6 +49,7 @@ pub struct Extent {
 }
 
 /// Skips a line ending and returns the rest.
+#[inline(always)]
 fn skip_line_ending<'i>(bytes: &'i [u8]) -> Result<Option<&'i [u8]>, Invalid>
     ensures told { IsLineEnd bytes.now result }
     ensures less { IsLessPart (length bytes.now) result }
@@ -74,6 +75,7 @@ fn skip_line_ending<'i>(bytes: &'i [u8]) -> Result<Option<&'i [u8]>, Invalid>
 }
 
 /// Skips the data of a bulk string of `size` bytes and its line ending, and returns the rest.
+#[inline(always)]
 fn skip_data<'i>(size: usize, bytes: &'i [u8]) -> Result<Option<&'i [u8]>, Invalid>
     ensures told { IsDataEnd size bytes.now result }
     ensures less { IsLessPart (length bytes.now) result }
@@ -85,6 +87,7 @@ fn skip_data<'i>(size: usize, bytes: &'i [u8]) -> Result<Option<&'i [u8]>, Inval
 }
 
 /// Returns the state after a line that is followed by `others` replies, or `None` on overflow.
+#[inline(always)]
 fn due_behind(head: Head, others: u128) -> Option<(Option<usize>, u128)>
     ensures some { IfSome result (λ due. due ≡ (data_after head, count_after head others)) }
     ensures none { result ≡ None → 2 ^ 128 ≤ count_after head others }
@@ -113,6 +116,7 @@ impl Extent {
     }
 
     /// Passes the data of a bulk string.
+    #[inline(always)]
     fn pass_data<'i>(
         &mut self,
         size: usize,
@@ -140,6 +144,7 @@ impl Extent {
     }
 
     /// Passes the first line of a reply that is followed by `others` replies.
+    #[inline(always)]
     fn pass_line<'i>(
         &mut self,
         others: u128,
@@ -175,6 +180,7 @@ impl Extent {
     }
 
     /// Continues with `from`, the rest after the bytes passed.
+    #[inline(always)]
     fn walk(&mut self, bytes: &[u8], from: &[u8]) -> Result<Option<usize>, Invalid>
         requires within { length from.now ≤ length bytes.now }
         ensures told { Passed self.old bytes.now from.now → ReplyResult bytes.now result }
@@ -226,6 +232,7 @@ impl Extent {
     /// let mut whole = Partial::new(&bytes[..12]);
     /// assert!(rt; read_reply(alloc, Protocol::Resp2, SAFE_DEPTH, &mut whole).is_ok());
     /// ```
+    #[inline(always)]
     pub fn advance(&mut self, bytes: &[u8]) -> Result<Option<usize>, Invalid>
         ensures told { IsOf self.old bytes.now → ReplyResult bytes.now result }
         ensures kept { OnOk result (IsOf self.old bytes.now

@@ -32,6 +32,7 @@ pub(crate) enum Start<'i> {
 }
 
 /// Returns the meaning of a line after the mark of a reply that consists of one line.
+#[inline(always)]
 fn line_head(mark: LineMark, line: &[u8]) -> Option<Head>
     ensures some { IfSome result (λ head. AllByRecursion InLine line.now
         → Says (marks.Line mark) head line.now) }
@@ -52,6 +53,7 @@ fn line_head(mark: LineMark, line: &[u8]) -> Option<Head>
 }
 
 /// Returns the meaning of a line after the mark of a reply with a number of bytes.
+#[inline(always)]
 fn data_head(mark: DataMark, line: &[u8]) -> Option<Head>
     ensures some { IfSome result (λ head. Says (marks.Data mark) head line.now) }
     ensures none { result ≡ None → (head : Head) → Says (marks.Data mark) head line.now → ⊥ }
@@ -68,6 +70,7 @@ fn data_head(mark: DataMark, line: &[u8]) -> Option<Head>
 }
 
 /// Returns the meaning of a line after the mark of an aggregate.
+#[inline(always)]
 fn aggregate_head(mark: AggregateMark, line: &[u8]) -> Option<Head>
     ensures some { IfSome result (λ head. Says (marks.Aggregate mark) head line.now) }
     ensures none { result ≡ None → (head : Head) → Says (marks.Aggregate mark) head line.now → ⊥ }
@@ -86,6 +89,7 @@ fn aggregate_head(mark: AggregateMark, line: &[u8]) -> Option<Head>
 }
 
 /// Returns the meaning of a line after a mark of RESP2.
+#[inline(always)]
 fn head_of(mark: Mark, line: &[u8]) -> Option<Head>
     ensures some { IfSome result (λ head. AllByRecursion InLine line.now
         → Says mark head line.now) }
@@ -100,6 +104,7 @@ fn head_of(mark: Mark, line: &[u8]) -> Option<Head>
 
 /// Searches for the first line of a reply at the start of the bytes. The first `sought` bytes after
 /// the mark must have no part of a line ending.
+#[inline(always)]
 pub(crate) fn start_of<'i>(bytes: &'i [u8], sought: usize) -> Start<'i>
     ensures told { AllByRecursion InLine (take sought (drop 1 bytes.now))
         → IsStart bytes.now result }

@@ -69,6 +69,7 @@ pub(crate) fn line_reply<'i, A: Allocator>(
 }
 
 /// Returns the reply of a mark and its bytes.
+#[inline(always)]
 pub(crate) fn data_reply<'i, A: Allocator>(
     mark: DataMark,
     bytes: &'i [u8],
@@ -91,6 +92,7 @@ pub(crate) fn data_reply<'i, A: Allocator>(
 
 /// How many replies are in an aggregate, by its size, where that is a number of 64 bits: keys and
 /// values are counted in twos, and after attributes the reply is that they are of.
+#[inline(always)]
 pub(crate) fn count_of(mark: AggregateMark, size: usize) -> Option<usize>
     ensures some { IfSome result (λ count. count ≡ many mark size) }
     ensures none { result ≡ None → 2 ^ 64 ≤ many mark size }
@@ -143,6 +145,7 @@ pub(crate) fn size_of(mark: AggregateMark, count: usize) -> Option<usize>
 }
 
 /// Returns the aggregate of a mark and its replies.
+#[inline(always)]
 pub(crate) fn aggregate_reply<'i, A: Allocator>(
     mark: AggregateMark,
     replies: Vec<Reply<&'i [u8], A>, A>,

@@ -25,6 +25,7 @@ type Error = ErrMode<EmptyError>;
 /// assert!(rt; matches!(read_line(&mut input), Ok(line) if line == b"OK".as_slice()));
 /// assert_eq!(rt; *input.as_inner(), b"+".as_slice());
 /// ```
+#[inline(always)]
 pub fn read_line<'i>(input: &mut Partial<&'i [u8]>) -> Result<&'i [u8], ErrMode<EmptyError>>
     ensures { ReadsOrAsks bytes_reading bytes_follow ⟦<Error as HasKind>⟧.kind (First LineText)
         (⟦<Bytes as Stream>⟧.view input.old) result (⟦<Bytes as Stream>⟧.view input.new) }
@@ -43,6 +44,7 @@ pub fn read_line<'i>(input: &mut Partial<&'i [u8]>) -> Result<&'i [u8], ErrMode<
 /// assert!(rt; matches!(read_size(&mut Partial::new(b"-1\r\n".as_slice())), Ok(None)));
 /// assert!(rt; read_size(&mut Partial::new(b"+6\r\n".as_slice())).is_err());
 /// ```
+#[inline(always)]
 pub fn read_size<'i>(input: &mut Partial<&'i [u8]>) -> Result<Option<usize>, ErrMode<EmptyError>>
     ensures { ReadsOrAsks bytes_reading bytes_follow ⟦<Error as HasKind>⟧.kind (First SizeText)
         (⟦<Bytes as Stream>⟧.view input.old) result (⟦<Bytes as Stream>⟧.view input.new) }
@@ -65,6 +67,7 @@ pub fn read_size<'i>(input: &mut Partial<&'i [u8]>) -> Result<Option<usize>, Err
 /// assert!(rt; matches!(read_data(3, &mut input), Ok(data) if data == b"\r\n+".as_slice()));
 /// assert_eq!(rt; *input.as_inner(), b":".as_slice());
 /// ```
+#[inline(always)]
 pub fn read_data<'i>(
     size: usize,
     input: &mut Partial<&'i [u8]>,

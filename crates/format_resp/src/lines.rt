@@ -18,6 +18,7 @@ pub(crate) enum Line<'i> {
 }
 
 /// Returns the result for `line` followed by `behind`, whose first byte is of a line ending.
+#[inline(always)]
 fn ended<'i>(line: &'i [u8], behind: &'i [u8]) -> Line<'i>
     ensures told { AllByRecursion InLine line.now
         → is_byte2 13 10 (slice_index behind.now 0) ≡ true
@@ -44,6 +45,7 @@ fn ended<'i>(line: &'i [u8], behind: &'i [u8]) -> Line<'i>
 
 /// Searches for the line at the start of the bytes. The first `sought` bytes must have no part of a
 /// line ending.
+#[inline(always)]
 pub(crate) fn line_of<'i>(bytes: &'i [u8], sought: usize) -> Line<'i>
     ensures told { AllByRecursion InLine (take sought bytes.now) → IsLine bytes.now result }
     ensures less { IsLessLine (length bytes.now) result }

@@ -90,6 +90,7 @@ pub(crate) enum Mark {
 }
 
 /// Returns the mark of a byte, if it starts a reply.
+#[inline(always)]
 fn any_mark(byte: u8) -> Option<Mark>
     ensures some { IfSome result (λ mark. byte ≡ byte_of mark) }
     ensures none { result ≡ None → (mark : Mark) → byte ≡ byte_of mark → ⊥ }
@@ -115,6 +116,7 @@ fn any_mark(byte: u8) -> Option<Mark>
 }
 
 /// Whether replies of RESP2 begin so.
+#[inline(always)]
 fn is_in_resp2(mark: Mark) -> bool
     ensures { MatchBool result (IsIn Resp2 mark) (IsIn Resp2 mark → ⊥) }
 {
@@ -144,6 +146,7 @@ fn is_in_resp2(mark: Mark) -> bool
 }
 
 /// Whether replies of that version of the protocol begin so.
+#[inline(always)]
 pub(crate) fn is_in(protocol: Protocol, mark: Mark) -> bool
     ensures { MatchBool result (IsIn protocol mark) (IsIn protocol mark → ⊥) }
 {
@@ -154,6 +157,7 @@ pub(crate) fn is_in(protocol: Protocol, mark: Mark) -> bool
 }
 
 /// Returns the mark of a byte, if it starts a reply of this version of the protocol.
+#[inline(always)]
 pub(crate) fn mark_of(protocol: Protocol, byte: u8) -> Option<Mark>
     ensures some { IfSome result (λ mark. IsIn protocol mark × (byte ≡ byte_of mark)) }
     ensures none { result ≡ None → (mark : Mark) → IsIn protocol mark → byte ≡ byte_of mark → ⊥ }
@@ -167,6 +171,7 @@ pub(crate) fn mark_of(protocol: Protocol, byte: u8) -> Option<Mark>
 }
 
 /// The first byte of a reply.
+#[inline(always)]
 pub(crate) fn read_mark<'i>(
     protocol: Protocol,
     input: &mut Partial<&'i [u8]>,

@@ -21,6 +21,7 @@ use winnow::error::{EmptyError, ErrMode, HasKind};
 type Error = ErrMode<EmptyError>;
 
 /// The digits that bytes begin with.
+#[inline(always)]
 fn read_digits<'i>(bytes: &mut &'i [u8]) -> Result<&'i [u8], ErrMode<EmptyError>>
     ensures reads { Reads bytes_reading ⟦<Error as HasKind>⟧.kind
         (Class IsDecDigit 1 (λ b. b) (λ b. b) bytes_reading) (bytes_input bytes.old.now) result
@@ -31,6 +32,7 @@ fn read_digits<'i>(bytes: &mut &'i [u8]) -> Result<&'i [u8], ErrMode<EmptyError>
 }
 
 /// Skips one or more digits and returns the rest.
+#[inline(always)]
 fn skip_digits<'i>(bytes: &'i [u8]) -> Option<&'i [u8]>
     ensures { MatchOption result (NoneStands AreDigits bytes.now)
         (λ rest. RestAfter AreDigits bytes.now rest.now) }
@@ -43,6 +45,7 @@ fn skip_digits<'i>(bytes: &'i [u8]) -> Option<&'i [u8]>
 }
 
 /// Whether the bytes, all of them, are digits.
+#[inline(always)]
 fn are_digits(bytes: &[u8]) -> bool
     ensures { MatchBool result (AreDigits bytes.now) (AreDigits bytes.now → ⊥) }
 {
@@ -54,9 +57,13 @@ fn are_digits(bytes: &[u8]) -> bool
 
 /// Returns the value of a digit or a letter, from 0 for '0' to 35 for 'Z' and 'z'; 36 for any other
 /// byte.
+#[inline(always)]
 fn value_of(byte: u8) -> u64
     ensures { result ≡ digit_value byte }
 {
+    if byte.is_ascii_digit() {
+        return u64::from(byte - b'0');
+    }
     match char::from(byte).to_digit(36) {
         Some(value) => u64::from(value),
         None => 36,
@@ -64,6 +71,7 @@ fn value_of(byte: u8) -> u64
 }
 
 /// The number that digits stand for; none where it is past 64 bits.
+#[inline(always)]
 fn decimal(digits: &[u8]) -> Option<u64>
     ensures { SomeIff result (value_in 10 digits.now < 2 ^ 64) (value_in 10 digits.now) }
 {
@@ -75,6 +83,7 @@ fn decimal(digits: &[u8]) -> Option<u64>
 }
 
 /// The number of 64 bits that bytes are the digits of.
+#[inline(always)]
 fn digits_of(bytes: &[u8]) -> Option<u64>
     ensures some { IfSome result (λ n. DigitsText n bytes.now) }
     ensures none { result ≡ None → (n : ℕ) → DigitsText n bytes.now → 2 ^ 64 ≤ n }
@@ -87,6 +96,7 @@ fn digits_of(bytes: &[u8]) -> Option<u64>
 }
 
 /// Returns `number`, or its negation if `negative`.
+#[inline(always)]
 fn with_sign(negative: bool, number: u64) -> i128
     ensures { result ≡ signed negative number }
 {
@@ -98,6 +108,7 @@ fn with_sign(negative: bool, number: u64) -> i128
 }
 
 /// The integer of 64 bits that bytes are the digits of, with a minus sign before them or not.
+#[inline(always)]
 fn signed_of(negative: bool, bytes: &[u8]) -> Option<i64>
     ensures some { IfSome result (λ n. UnsignedText negative n bytes.now) }
     ensures none { result ≡ None → (n : ℤ) → UnsignedText negative n bytes.now → ⊥ }
@@ -141,6 +152,7 @@ pub fn number_of(line: &[u8]) -> Option<i64>
 const MOST: u64 = 9223372036854775807;
 
 /// The size that a line is, without its end: digits; none for `-1`, which stands for null.
+#[inline(always)]
 pub(crate) fn size_line(line: &[u8]) -> Option<Option<usize>>
     ensures some { IfSome result (λ size. SizeLine size line.now) }
     ensures none { result ≡ None → (size : Option ℕ) → SizeLine size line.now → ⊥ }

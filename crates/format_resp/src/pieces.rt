@@ -18,6 +18,7 @@ use winnow::token::impls::Any;
 use winnow::token::{take, take_till};
 
 /// A token.
+#[inline(always)]
 pub(crate) fn token<I: StreamIsPartial, E: ParserError<I>>(input: &mut I) -> Result<I::Token, E>
     requires modal { E.form ≡ modal }
     ensures { ReadsOrAsks I.reading I.following E.kind (Token I.seen_as) (I.view input.old) result
@@ -27,6 +28,7 @@ pub(crate) fn token<I: StreamIsPartial, E: ParserError<I>>(input: &mut I) -> Res
 }
 
 /// Parses the bytes up to a carriage return and a line feed. Neither of these occurs in them.
+#[inline(always)]
 pub(crate) fn line<I: StreamIsPartial + Compare<&'static str>, E: ParserError<I>>(
     input: &mut I,
 ) -> Result<I::Slice, E>
@@ -45,6 +47,7 @@ where
 }
 
 /// That many tokens, and a carriage return and a line feed after them.
+#[inline(always)]
 pub(crate) fn tokens<I: StreamIsPartial + Compare<&'static str>, E: ParserError<I>>(
     count: usize,
     input: &mut I,

@@ -20,6 +20,7 @@ type Bytes = Partial<&'static [u8]>;
 type Error = ErrMode<EmptyError>;
 
 /// Parses the rest of a reply that consists of one line, after its first byte.
+#[inline(always)]
 fn read_on_line<'i, A: Allocator>(
     mark: LineMark,
     input: &mut Partial<&'i [u8]>,
@@ -36,6 +37,7 @@ fn read_on_line<'i, A: Allocator>(
 }
 
 /// Parses the rest of a reply whose line gives a number of bytes, after its first byte.
+#[inline(always)]
 fn read_bytes<'i, A: Allocator>(
     mark: DataMark,
     input: &mut Partial<&'i [u8]>,
