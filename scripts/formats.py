@@ -14,7 +14,10 @@ FORMATS = {
     "json": ["format_json"],
     "json_extents": ["format_json_extents"],
     "resp": ["format_resp"],
-    "toml": ["format_toml_document", "format_toml", "format_toml_tree", "format_toml_nodes"],
+    "toml": [
+        "format_toml_document", "format_toml_errors", "format_toml", "format_toml_tree",
+        "format_toml_nodes",
+    ],
 }
 
 

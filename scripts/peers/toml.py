@@ -11,6 +11,7 @@ import pathlib
 import re
 import tomllib
 
+from peers import toml_errors
 from peers.harness import Comparison, each
 from peers.toml_texts import texts
 
@@ -186,4 +187,9 @@ WITH = {
 COMPARISONS = [
     Comparison("toml/texts", rows=texts, **WITH),
     Comparison("toml/files", rows=files, **WITH),
+    Comparison(
+        "toml/errors", "Python's tomllib, by completions", "format_toml_errors", "toml_errors",
+        toml_errors.rows, WITH["given"], each(lambda row: toml_errors.is_read(row[1])),
+        toml_errors.judge, toml_errors.kind, 1979,
+    ),
 ]

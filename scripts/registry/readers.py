@@ -38,6 +38,7 @@ READERS = [
     ("TOML: trees", "format_toml_tree", "no", "the tree, or the first rejected line"),
     ("TOML: by one entry", "format_toml_document", "no",
         "the tree, or an error's position and reason"),
+    ("TOML: errors", "format_toml_errors", "no", "where a walk over the characters stops"),
     ("TOML: nodes", "format_toml_nodes", "no", "one node for each path"),
     ("HTTP/1.1 heads (RFC 9112)", "format_http/heads", "yes",
         "the first request line, field line or head"),

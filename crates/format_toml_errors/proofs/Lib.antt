@@ -1,0 +1,2 @@
+mod Opened
+mod Walked

@@ -1,0 +1,209 @@
+-- The walk over the characters of a text: what it has come to, and the place where it stops.
+use Rattle.std.specs.Prelude.{◌≡◌, ◌↔◌, ◌<◌, ◌≤◌, ◌-◌, ◌++◌, ℕ, List, [], ◌∷◌, Option}
+use Rattle.std.specs.Prelude.{MatchOption, None, Some, length, slice_get, true, false}
+use Rattle.std.specs.Str.{chars}
+use Rattle.std.proofs.Common.{ap, append_assoc, arith, inl, inr, refl, subst, sym}
+use Rattle.std.proofs.Common.{◌∙◌}
+use Rattle.std.proofs.lemmas.List.{append-nil}
+use Rattle.format_toml_errors.proofs.Opened.{kept, kept_last, kept_length}
+use Rattle.format_toml_errors.specs.Expected.{wanted, wanted_at}
+use Rattle.format_toml_errors.specs.Steps.{next_step}
+use Rattle.format_toml_errors.specs.Stop.{IsAccepted, IsNextStep, IsViablePrefix, IsWanted, LeadsTo}
+use Rattle.format_toml_errors.specs.Stop.{IsStopIn, MayBegin, StopsAt, ends_line, last_open}
+use Rattle.format_toml_errors.specs.Stop.{opened, others_open}
+use Rattle.format_toml_errors.specs.declared.expected.Expected.{Expected}
+use Rattle.format_toml_errors.specs.declared.expected.Expected.TheVariants as what
+use Rattle.format_toml_errors.specs.declared.modes.Bracket.{Bracket}
+use Rattle.format_toml_errors.specs.declared.modes.Mode.{Mode}
+use Rattle.format_toml_errors.specs.declared.modes.Mode.TheVariants as modes
+use Rattle.format_toml_errors.specs.declared.modes.Step.{Step}
+use Rattle.format_toml_errors.specs.declared.modes.Step.TheVariants as steps
+use Rattle.format_toml_errors.specs.declared.walk.Stop.{Stop}
+
+-- the bracket that was opened last, as it is kept
+pub top_open : (held items : List Bracket) (last : Option Bracket) → items ≡ kept held
+    → last ≡ slice_get items (length items - 1) → last ≡ last_open held
+top_open held items last same is =
+    is ∙ ap (λ l. slice_get l (length l - 1)) same ∙ kept_last held
+
+-- The state of a walk: the characters before it, and the open brackets.
+pub record Walked (level : ℕ) (tokens left : List ℕ) (mode : Mode) (items : List Bracket) : Type 0
+  where
+    pub held : List Bracket
+    pub front : List ℕ
+    pub same : items ≡ kept held
+    pub splits : tokens ≡ front ++ left
+    pub leads : LeadsTo level front mode held
+
+pub begun : (level : ℕ) (tokens : List ℕ) (items : List Bracket) → items ≡ []
+    → Walked level tokens tokens modes.Line items
+begun level tokens items none = record {
+  held = [];
+  front = [];
+  same = none;
+  splits = refl;
+  leads = λ l. ((λ x. x), (λ x. x));
+}
+
+module _ {level : ℕ} {tokens left : List ℕ} {mode : Mode} {items : List Bracket}
+    (w : Walked level tokens left mode items) where
+  -- the characters that are passed may begin a document
+  begins : MayBegin level w.front
+  begins = subst (λ l. MayBegin level l) (append-nil w.front) ((w.leads []).0 tt)
+
+  -- at the end of the text
+  module _ (none : left ≡ []) (last : Option Bracket)
+      (is : last ≡ slice_get items (length items - 1)) where
+    whole : tokens ≡ w.front
+    whole = w.splits ∙ ap (λ l. w.front ++ l) none ∙ append-nil w.front
+
+    pub at_end : (expected : Expected) → expected ≡ wanted mode last
+        → ends_line mode last ≡ false → StopsAt level tokens left expected
+    at_end expected wants not_end =
+        let top = top_open w.held items last w.same is in
+        let P : List ℕ → Type 0 = λ l. StopsAt level tokens l expected in
+        subst P (sym none) (
+          w.front,
+          w.splits ∙ ap (λ l. w.front ++ l) none,
+          begins,
+          tt,
+          (
+            mode,
+            w.held,
+            w.leads,
+            (
+              wants ∙ ap (λ o. wanted mode o) top,
+              ap (λ o. ends_line mode o) (sym top) ∙ not_end,
+            ),
+          ),
+        )
+
+    pub at_accepted : ends_line mode last ≡ true → IsAccepted level tokens
+    at_accepted ends =
+        let top = top_open w.held items last w.same is in
+        let P : List ℕ → Type 0 = λ l. IsAccepted level l in
+        subst P (sym whole) (
+          mode,
+          w.held,
+          w.leads,
+          begins,
+          ap (λ o. ends_line mode o) (sym top) ∙ ends,
+        )
+
+  module _ {c : ℕ} {more : List ℕ} (first : left ≡ c ∷ more) (last : Option Bracket)
+      (is : last ≡ slice_get items (length items - 1)) where
+    top : last ≡ last_open w.held
+    top = top_open w.held items last w.same is
+
+    stepped : (s : Step) → s ≡ next_step mode last c → s ≡ next_step mode (last_open w.held) c
+    stepped s e = e ∙ ap (λ o. next_step mode o c) top
+
+    -- what comes of the next character
+    led : (s : Step) → s ≡ next_step mode last c → (l : List ℕ)
+        → IsNextStep (λ m o. IsViablePrefix level m o l) level w.held s
+        ↔ MayBegin level ((w.front ++ c ∷ []) ++ l)
+    led s e l =
+        let P : Step → List ℕ → Type 0 = λ t x.
+        IsNextStep (λ m o. IsViablePrefix level m o l) level w.held t ↔ MayBegin level x in
+        subst (λ t. P t ((w.front ++ c ∷ []) ++ l)) (sym (stepped s e))
+        (subst (λ x. P (next_step mode (last_open w.held) c) x)
+        (sym (append_assoc w.front (c ∷ []) l)) (w.leads (c ∷ l)))
+
+    passed : tokens ≡ (w.front ++ c ∷ []) ++ more
+    passed =
+        w.splits ∙ ap (λ l. w.front ++ l) first ∙ sym (append_assoc w.front (c ∷ []) more)
+
+    placed : (expected : Expected) → (MayBegin level (w.front ++ c ∷ []) → ⊥)
+        → IsWanted level w.front (c ∷ more) expected → StopsAt level tokens left expected
+    placed expected never asks =
+        let P : List ℕ → Type 0 = λ l. StopsAt level tokens l expected in
+        subst P (sym first)
+        (w.front, w.splits ∙ ap (λ l. w.front ++ l) first, begins, never, asks)
+
+    pub at_refused : (expected : Expected) → steps.Invalid ≡ next_step mode last c
+        → expected ≡ wanted_at mode last c → StopsAt level tokens left expected
+    at_refused expected refused wants =
+        placed expected
+        (λ x. (led steps.Invalid refused []).1
+        (subst (λ l. MayBegin level l) (sym (append-nil (w.front ++ c ∷ []))) x)) (
+          mode,
+          w.held,
+          w.leads,
+          inl (
+            sym (stepped steps.Invalid refused),
+            wants ∙ ap (λ o. wanted_at mode o c) top,
+          ),
+        )
+
+    -- it opens a bracket too many
+    pub at_deep : (k : Bracket) → steps.Opens k ≡ next_step mode last c → level ≤ length items
+        → StopsAt level tokens left what.NoDeeper
+    at_deep k opens deep =
+        let full : length w.held < level → ⊥ =
+        λ few. omega (arith, deep, few, ap (λ l. length l) w.same, kept_length w.held) in
+        placed what.NoDeeper
+        (λ x. full ((led (steps.Opens k) opens []).1
+        (subst (λ l. MayBegin level l) (sym (append-nil (w.front ++ c ∷ []))) x)).0)
+        (mode, w.held, w.leads, inr (k, sym (stepped (steps.Opens k) opens), (full, refl)))
+
+    pub on_goes : (m : Mode) → steps.Goes m ≡ next_step mode last c
+        → Walked level tokens more m items
+    on_goes m e = record {
+      held = w.held;
+      front = w.front ++ c ∷ [];
+      same = w.same;
+      splits = passed;
+      leads = λ l. led (steps.Goes m) e l;
+    }
+
+    pub on_ends : steps.Ends ≡ next_step mode last c
+        → Walked level tokens more modes.Line items
+    on_ends e = record {
+      held = w.held;
+      front = w.front ++ c ∷ [];
+      same = w.same;
+      splits = passed;
+      leads = λ l. led steps.Ends e l;
+    }
+
+    pub on_closes : (new : List Bracket) → steps.Closes ≡ next_step mode last c
+        → new ≡ kept (others_open w.held) → Walked level tokens more modes.After new
+    on_closes new e same = record {
+      held = others_open w.held;
+      front = w.front ++ c ∷ [];
+      same = same;
+      splits = passed;
+      leads = λ l. led steps.Closes e l;
+    }
+
+    pub on_opens : (k : Bracket) (m : Mode) (new : List Bracket)
+        → steps.Opens k ≡ next_step mode last c → (level ≤ length items → ⊥) → m ≡ opened k
+        → new ≡ items ++ k ∷ [] → Walked level tokens more m new
+    on_opens k m new e few goes pushed =
+        let here : length w.held < level =
+        omega (arith, few, ap (λ l. length l) w.same, kept_length w.held) in
+        let P : Mode → Type 0 = λ n. Walked level tokens more n new in
+        subst P (sym goes) (record {
+          held = k ∷ w.held;
+          front = w.front ++ c ∷ [];
+          same = pushed ∙ ap (λ l. l ++ k ∷ []) w.same;
+          splits = passed;
+          leads = λ l. (
+            (λ x. (led (steps.Opens k) e l).0 (here, x)),
+            (λ x. ((led (steps.Opens k) e l).1 x).1),
+          );
+        })
+
+-- at the end of the text: it may end there or not
+module _ {level : ℕ} {tokens : List ℕ} (bytes : List ℕ) {mode : Mode} {items : List Bracket}
+    (w : Walked level tokens (chars bytes) mode items) (none : chars bytes ≡ [])
+    (last : Option Bracket) (is : last ≡ slice_get items (length items - 1)) where
+  pub at_last : (o : Option Stop)
+      → MatchOption o (ends_line mode last ≡ true)
+      (λ stop. (ends_line mode last ≡ false) × (stop.rest.now ≡ bytes)
+      × (stop.expected ≡ wanted mode last))
+      → IsStopIn level tokens o
+  at_last None ends = at_accepted w none last is ends
+  at_last (Some stop) (not_end, same, wants) =
+      let P : List ℕ → Type 0 = λ l. StopsAt level tokens (chars l) stop.expected in
+      subst P (sym same) (at_end w none last is stop.expected wants not_end)

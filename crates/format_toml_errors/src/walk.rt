@@ -1,0 +1,181 @@
+//! The walk over the characters of a text.
+ghost use Rattle.format_toml_errors.specs.Stop.{IsStopIn, ends_line, opened};
+ghost use Rattle.format_toml_errors.specs.Expected.{wanted};
+ghost use Rattle.std.specs.Prelude.{◌≡◌, ◌∷◌, [], IfOk, MatchOption, true, false};
+ghost use Rattle.std.specs.Str.{chars};
+
+use crate::expected::{Expected, wanted, wanted_at};
+use crate::modes::{Bracket, Mode, Step};
+use crate::steps::next_step;
+use std::alloc::{AllocError, Allocator};
+
+/// Where a text is no longer a prefix of a document, and what is expected there.
+///
+/// ```
+/// use format_toml_errors::expected::Expected;
+/// use format_toml_errors::walk::{Stop, first_stop};
+///
+/// let stop = first_stop(alloc, 1, "a = [1 2]");
+/// let wanted = Stop { rest: "2]", expected: Expected::CommaOrBracket, begun: Some(4) };
+/// assert!(rt; matches!(stop, Ok(Some(stop)) if stop == wanted));
+/// ```
+#[derive(Clone, Copy, Debug, PartialEq, Eq, Drop)]
+pub struct Stop<'i> {
+    /// The text from that offset to the end.
+    pub rest: &'i str,
+    /// The input that is expected there.
+    pub expected: Expected,
+    /// The offset of the innermost string, array or inline table that is not closed before it.
+    pub begun: Option<usize>,
+}
+
+/// Returns the first character and the text after it.
+fn split_first<'i>(text: &'i str) -> Option<(char, &'i str)>
+    ensures { MatchOption result (chars text.now ≡ [])
+        (λ r. chars text.now ≡ r.0 ∷ chars r.1.now) }
+{
+    let mut characters = text.chars();
+    let first = characters.next()?;
+    Some((first, characters.as_str()))
+}
+
+/// Returns whether a line may end in this mode, in the bracket `held`.
+fn ends_line(mode: Mode, held: Option<Bracket>) -> bool
+    ensures { result ≡ ends_line mode held }
+{
+    matches!(next_step(mode, held, '\n'), Step::Ends)
+}
+
+/// Returns whether this mode is in a string.
+fn is_in_string(mode: Mode) -> bool {
+    match mode {
+        Mode::Basic(_)
+        | Mode::Escaped(_, _)
+        | Mode::Literal(_)
+        | Mode::Quote(_)
+        | Mode::LongReturn(_)
+        | Mode::LongEscape(_)
+        | Mode::LongBlank => true,
+        Mode::Long(_, quotes) => quotes < 3,
+        _ => false,
+    }
+}
+
+/// Returns whether the next character does not begin a string in this mode.
+fn continues(mode: Mode) -> bool {
+    match mode {
+        Mode::Quotes(_) => true,
+        other => is_in_string(other),
+    }
+}
+
+/// Returns the offset of the innermost string, array or inline table that is not closed.
+fn begun_in(mode: Mode, start: usize, outer: Option<usize>) -> Option<usize> {
+    if is_in_string(mode) {
+        Some(start)
+    } else {
+        outer
+    }
+}
+
+/// Returns what is expected first in a bracket.
+fn opened(bracket: Bracket) -> Mode
+    ensures { result ≡ opened bracket }
+{
+    match bracket {
+        Bracket::Array => Mode::Item,
+        Bracket::Table => Mode::FirstName,
+    }
+}
+
+/// Returns the stop at the end of a text, or `None` if the text may end there.
+fn at_end<'i>(
+    mode: Mode,
+    held: Option<Bracket>,
+    rest: &'i str,
+    begun: Option<usize>,
+) -> Option<Stop<'i>>
+    ensures { MatchOption result (ends_line mode held ≡ true)
+        (λ stop. (ends_line mode held ≡ false) × (stop.rest.now ≡ rest.now)
+        × (stop.expected ≡ wanted mode held)) }
+{
+    if ends_line(mode, held) {
+        return None;
+    }
+    Some(Stop {
+        rest,
+        expected: wanted(mode, held),
+        begun,
+    })
+}
+
+/// Returns where a text is no longer a prefix of a TOML document whose arrays and inline tables are
+/// nested at most `level` deep: no document continues with the next character, by the steps of this
+/// crate. If each character may occur where it does, this is the end of the text. Returns `None` if
+/// the text may also end there.
+///
+/// Keys are not compared: a document may define one twice.
+///
+/// Fails if memory allocation fails: a byte and an offset are held for each open bracket.
+///
+/// ```
+/// use format_toml_errors::expected::Expected;
+/// use format_toml_errors::walk::first_stop;
+///
+/// let stop = first_stop(alloc, 1, "a = \"b");
+/// assert!(rt; matches!(stop, Ok(Some(stop))
+///     if stop.rest.is_empty() && stop.begun == Some(4)));
+/// assert!(rt; matches!(first_stop(alloc, 1, "a = \"b\""), Ok(None)));
+/// ```
+pub fn first_stop<'i, A: Allocator + Copy>(
+    alloc: A,
+    level: usize,
+    text: &'i str,
+) -> Result<Option<Stop<'i>>, AllocError>
+    ensures { IfOk result (λ stop. IsStopIn level (chars text.now) stop) }
+{
+    let mut brackets: Vec<Bracket, A> = Vec::new(alloc);
+    let mut starts: Vec<usize, A> = Vec::new(alloc);
+    let mut start = 0;
+    let mut mode = Mode::Line;
+    let mut left = text;
+    'characters: while let Some((first, more)) = split_first(left) {
+        let held = brackets.last().copied();
+        let here = text.len().saturating_sub(left.len());
+        start = if continues(mode) { start } else { here };
+        let begun = begun_in(mode, start, starts.last().copied());
+        match next_step(mode, held, first) {
+            Step::Invalid => {
+                let expected = wanted_at(mode, held, first);
+                return Ok(Some(Stop {
+                    rest: left,
+                    expected,
+                    begun,
+                }));
+            }
+            Step::Goes(next) => mode = next,
+            Step::Opens(bracket) => {
+                if brackets.len() >= level {
+                    let expected = Expected::NoDeeper;
+                    return Ok(Some(Stop {
+                        rest: left,
+                        expected,
+                        begun,
+                    }));
+                }
+                brackets.push(bracket)?;
+                starts.push(here)?;
+                mode = opened(bracket);
+            }
+            Step::Closes => {
+                let _ = brackets.pop();
+                let _ = starts.pop();
+                mode = Mode::After;
+            }
+            Step::Ends => mode = Mode::Line,
+        }
+        left = more;
+    }
+    let begun = begun_in(mode, start, starts.last().copied());
+    Ok(at_end(mode, brackets.last().copied(), left, begun))
+}

@@ -1,0 +1,5 @@
+//! The tests of the offsets of errors in TOML.
+#![tactic(auto)]
+
+#[cfg(test)]
+mod stops;
