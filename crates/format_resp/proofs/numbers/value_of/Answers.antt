@@ -8,5 +8,5 @@ returns-in-None c = omega (
   arith,
   most_value c.args.byte,
   c.in-None.ensures.value,
-  ap digit_value c.from.ensures,
+  ap digit_value c.from-2.ensures,
 )
