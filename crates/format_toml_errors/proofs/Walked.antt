@@ -35,6 +35,16 @@ pub record Walked (level : ℕ) (tokens left : List ℕ) (mode : Mode) (items : 
     pub splits : tokens ≡ front ++ left
     pub leads : LeadsTo level front mode held
 
+pub begun : (level : ℕ) (tokens : List ℕ) (items : List Bracket) → items ≡ []
+    → Walked level tokens tokens modes.Line items
+begun level tokens items none = record {
+  held = [];
+  front = [];
+  same = none;
+  splits = refl;
+  leads = λ l. ((λ x. x), (λ x. x));
+}
+
 module _ {level : ℕ} {tokens left : List ℕ} {mode : Mode} {items : List Bracket}
     (w : Walked level tokens left mode items) where
   -- the characters that are passed may begin a document
