@@ -6,7 +6,7 @@ use Rattle.format_http.specs.Chunks.Refusals.{AreHosts, MayHave, NeedsHost}
 use Rattle.format_http.specs.Heads.Head.{HeadStands, Pair, pair}
 use Rattle.format_http.specs.Responses.Head.{ResponseStands, response_to}
 use Rattle.format_http.specs.declared.bodies.framing.BodyLength.{BodyLength}
-use Rattle.format_http.specs.declared.bodies.framing.BodyLength.TheVariants as length
+use Rattle.format_http.specs.declared.bodies.framing.BodyLength.TheVariants as lengths
 use Rattle.format_http.specs.declared.bodies.framing.FramingError.{FramingError}
 use Rattle.format_http.specs.declared.bodies.framing.FramingError.TheVariants as fault
 use Rattle.format_http.specs.declared.bodies.framing.Message.TheVariants.{Request}
@@ -54,11 +54,11 @@ HasError out error = (out.kind ≡ 0) × (out.error ≡ error) × (out.length �
 
 -- `Writes answer code out`: `code` and `out` report the length of a body, or the error.
 abbrev pub Writes : Answer → ℕ → HttpBody → Type 0
-Writes (Ok length.NoBody) code out = (code ≡ done) × HasLength out 0 0
-Writes (Ok length.Chunked) code out = (code ≡ done) × HasLength out 1 0
-Writes (Ok (length.Length n)) code out = (code ≡ done) × HasLength out 2 n
-Writes (Ok length.UntilClose) code out = (code ≡ done) × HasLength out 3 0
-Writes (Ok length.Tunnel) code out = (code ≡ done) × HasLength out 4 0
+Writes (Ok lengths.NoBody) code out = (code ≡ done) × HasLength out 0 0
+Writes (Ok lengths.Chunked) code out = (code ≡ done) × HasLength out 1 0
+Writes (Ok (lengths.Length n)) code out = (code ≡ done) × HasLength out 2 n
+Writes (Ok lengths.UntilClose) code out = (code ≡ done) × HasLength out 3 0
+Writes (Ok lengths.Tunnel) code out = (code ≡ done) × HasLength out 4 0
 Writes (Err why) code out = (code ≡ invalid) × HasError out (fault_number why)
 
 -- ---- requests
