@@ -1,7 +1,7 @@
 use Rattle.exported.proofs.Refusals.{no_response_ever}
 use Rattle.exported.proofs.http.response.exported_http_response_head_partial.Goals as goal
 
-pub returns-in-Err-Refused-clause-refused : goal.returns-in-Err-Refused-clause-refused
-returns-in-Err-Refused-clause-refused c _ =
+pub returns-in-Err-Invalid-clause-refused : goal.returns-in-Err-Invalid-clause-refused
+returns-in-Err-Invalid-clause-refused c _ =
     no_response_ever c.args.bytes.now c.in-Err-Invalid.place
     (rw c.in-Err-Invalid.field-0-is at c.in-Err-Invalid.ensures)
