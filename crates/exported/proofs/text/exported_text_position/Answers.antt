@@ -1,4 +1,4 @@
-use Rattle.std.proofs.Common.{◌≤◌, arith, length, List, ℕ, subst}
+use Rattle.std.proofs.Common.{arith, List, ℕ, subst}
 use Rattle.std.proofs.lemmas.Str.{IsUtf8-take}
 use Rattle.std.specs.Str.{IsUtf8, chars}
 use Rattle.winnow.specs.Position.{IsPosition}
