@@ -72,7 +72,7 @@ spanned (x ∷ xs) = by (spanned xs) (cases_lt x 48) (cases_lt 57 x)
     by (front, rest, all, not, e) (inr least) (inr most) =
         (x ∷ front, rest, ((least, most), all), not, ap (λ l. x ∷ l) e)
 
-pub digits_none : (tokens : List ℕ) → grammars.NoneStands DigitsRead tokens
+pub digits_none : (tokens : List ℕ) → grammars.NoMatch DigitsRead tokens
     → NoneStands AreDigits tokens
 unfolding Members
 digits_none tokens none [] others (a, some) e = absurd (omega (arith, some))
