@@ -37,8 +37,8 @@ returns-in-Ok-clause-parts c =
     line_read _ _ _ _ _ (line_taken _ _ _ _ _ _ _ _ _ _ _ keys mark values feeds
     (told_yes IsKeyByte) (told_yes InLine) (told_yes IsFeed)) ran.2
 
-pub returns-in-Err-Refused-clause-refused : goal.returns-in-Err-Refused-clause-refused
-returns-in-Err-Refused-clause-refused c =
+pub returns-in-Err-Invalid-clause-refused : goal.returns-in-Err-Invalid-clause-refused
+returns-in-Err-Invalid-clause-refused c =
     let bytes = c.shows_bytes.ensures in
     let r1_range = c.take_while.ensures.occurrences ∙ c.from.ensures in
     let r3_range = c.take_while-2.ensures.occurrences ∙ c.from-2.ensures in
