@@ -5,6 +5,7 @@ pub mod Entries
 pub mod ErrorKinds
 pub mod Extent
 pub mod HeadExtent
+pub mod HttpBodies
 pub mod Items
 pub mod JsonIntegers
 pub mod JsonTexts

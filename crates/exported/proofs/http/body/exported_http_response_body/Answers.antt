@@ -1,0 +1,22 @@
+use Rattle.std.proofs.Common.{inr, refl}
+use Rattle.exported.proofs.http.body.exported_http_response_body.Goals as goal
+
+pub returns-in-Ok-clause-body : goal.returns-in-Ok-clause-body
+returns-in-Ok-clause-body c _ = record {
+  head = c.in-Ok.head;
+  rest = c.read_response_head.new.input.now;
+  stands = c.in-Ok.ensures.head.stands refl;
+  answer = c.response_body_length.result;
+  is_answer = c.response_body_length.ensures;
+  writes = c.body_of-code.ensures;
+}
+
+pub returns-in-Ok-clause-refused : goal.returns-in-Ok-clause-refused
+returns-in-Ok-clause-refused c _ = inr (record {
+  head = c.in-Ok.head;
+  rest = c.read_response_head.new.input.now;
+  stands = c.in-Ok.ensures.head.stands refl;
+  answer = c.response_body_length.result;
+  is_answer = c.response_body_length.ensures;
+  writes = c.body_of-code.ensures;
+})
