@@ -26,9 +26,9 @@
 
 /* The version of this header: the last release, possibly with later changes. */
 #define PERGIDAU_VERSION_MAJOR 0
-#define PERGIDAU_VERSION_MINOR 0
+#define PERGIDAU_VERSION_MINOR 1
 #define PERGIDAU_VERSION_PATCH 0
-#define PERGIDAU_VERSION "0.0.0"
+#define PERGIDAU_VERSION "0.1.0"
 
 #ifdef __cplusplus
 extern "C" {
