@@ -204,11 +204,11 @@ pub(crate) fn fault_of_build<A: Allocator + Copy>(
     alloc: A,
     level: usize,
     text: &str,
-    fault: build::TomlError,
+    fault: build::TreeError,
 ) -> TomlError
     ensures { IsRefusal A level text.now fault result }
 {
-    let build::TomlError::Invalid { line, why } = fault else {
+    let build::TreeError::Invalid { line, why } = fault else {
         return TomlError::OutOfMemory;
     };
     match line_start(alloc, level, text, line) {
