@@ -73,7 +73,7 @@ TakeMeans reading form = Keeps (λ n. BitTakeRuns (λ x. x) 8 reading form n)
 bool_run : {L : Type 0} (reading : Reading Bool L) (form : ErrorForm) (i : Input Bool) (o : Bool)
     (j : Input Bool) → BitBoolRuns reading form i (Ok o) j
     → ReadsNumber reading 1 i (bit_number o) j
-bool_run reading form i o j (inl (b, passes, e)) = record {
+bool_run reading form i o j (inl (b, possible, passes, e)) = record {
   bits = b ∷ [];
   as_many = refl;
   number = ap bit_number (same_ok refl e) ∙ sym (one_bit b);
@@ -84,7 +84,7 @@ bool_run reading form i o j (inr (inr (k, possible, none, kind, e, same))) = ok_
 
 bool_must : {L : Type 0} (reading : Reading Bool L) (form : ErrorForm) (i : Input Bool) (k : Kind)
     (j : Input Bool) → CanRead 1 i → BitBoolRuns reading form i (Err k) j → ⊥
-bool_must reading form i k j can (inl (b, passes, e)) = ok_is_err e refl
+bool_must reading form i k j can (inl (b, possible, passes, e)) = ok_is_err e refl
 bool_must reading form i k j can (inr (inl (cannot, e, same))) =
     true_is_false (sym can.possible ∙ cannot)
 bool_must reading form i k j can (inr (inr (l, possible, none, kind, e, same))) =
@@ -100,7 +100,7 @@ short_of need i e short =
 bool_lacks : {L : Type 0} (reading : Reading Bool L) (i : Input Bool) (k : Kind) (j : Input Bool)
     → i.left.possible ≡ true → BitBoolRuns reading modal i (Err k) j
     → ShortKind modal (Some 1) i k
-bool_lacks reading i k j can (inl (b, passes, e)) = ok_is_err e refl
+bool_lacks reading i k j can (inl (b, possible, passes, e)) = ok_is_err e refl
 bool_lacks reading i k j can (inr (inl (cannot, e, same))) = true_is_false (sym can ∙ cannot)
 bool_lacks reading i k j can (inr (inr (l, possible, none, kind, e, same))) =
     short_of 1 i e kind
