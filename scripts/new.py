@@ -63,7 +63,7 @@ def renamed(text, of, to):
     text = text.replace(f"Rattle.{of.crate.name}.specs.declared", f"Rattle.{to.crate.name}.specs.declared")
     text = re.sub(rf"\bcrate::{of.module}::", f"crate::{to.module}::", text)
     # The model's inversion lemmas are not copied.
-    text = text.replace("pub mod Known\n", "")
+    text = text.replace("pub mod Inversion\n", "")
     lines, is_code = [], False
     for line in text.split("\n"):
         is_comment = line.lstrip().startswith(("//", "--"))
@@ -124,7 +124,7 @@ def copies(of, to):
     yield of.spec, to.spec
     folder = of.spec.with_suffix("")
     for file in sorted(folder.rglob("*.antt")):
-        if file.stem != "Known":
+        if file.stem != "Inversion":
             yield file, to.spec.with_suffix("") / file.relative_to(folder)
     for file in sorted((of.crate / "proofs").joinpath(*of.path, of.name).glob("*.antt")):
         yield file, (to.crate / "proofs").joinpath(*to.path, to.name) / file.name
