@@ -142,17 +142,22 @@ fn values(rt: HostRuntime) {
 fn messages(rt: HostRuntime) {
     let record = Record { a: 1, b: 2 };
     for (text, message) in [
-        ("", "\n^\nexpected a comparison, `not` or `(`"),
+        ("", "parse error at line 1, column 1\n  |\n1 | \n  | ^\n\
+             expected a comparison, `not` or `(`"),
         (
             "a = 1 and",
-            "a = 1 and\n         ^\nexpected a comparison, `not` or `(`",
+            "parse error at line 1, column 10\n  |\n1 | a = 1 and\n  |          ^\n\
+             expected a comparison, `not` or `(`",
         ),
         (
             "a = 1 or c = 2",
-            "a = 1 or c = 2\n         ^\nexpected a comparison, `not` or `(`",
+            "parse error at line 1, column 10\n  |\n1 | a = 1 or c = 2\n  |          ^\n\
+             expected a comparison, `not` or `(`",
         ),
-        ("a = x", "a = x\n    ^\nexpected a number"),
-        ("(a = 1", "(a = 1\n      ^\nexpected `)`"),
+        ("a = x", "parse error at line 1, column 5\n  |\n1 | a = x\n  |     ^\n\
+             expected a number"),
+        ("(a = 1", "parse error at line 1, column 7\n  |\n1 | (a = 1\n  |       ^\n\
+             expected `)`"),
     ] {
         match accepts(rt.alloc(), record, text) {
             Ok(_) => assert!(rt; false),

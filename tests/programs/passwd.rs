@@ -116,7 +116,8 @@ fn messages(rt: HostRuntime) {
         ),
         (
             "a:x:1:1:::/bin/sh",
-            "a:x:1:1:::/bin/sh\n                 ^\nexpected a line ending",
+            "parse error at line 1, column 18\n  |\n1 | a:x:1:1:::/bin/sh\n  |                  ^\n\
+             expected a line ending",
         ),
         (
             "\n",
