@@ -119,18 +119,14 @@ impl<I: Stream, O1: Drop, O2, E: ParserError<I>, P1: Parser<I, O1, E>, P2: Parse
 
     ghost says = { λ s. sequence2_says (P1.says s.0) (P2.says s.1) };
 
-    ghost claim = { λ s. sequence2_claim (P1.claim s.0) (P2.claim s.1)
-        (sequence2_says (P1.says s.0) (P2.says s.1)) };
+    ghost claim = { λ s. sequence2_claim (P1.claim s.0) (P2.claim s.1) };
 
     ghost leaves_ends = { λ form. sequence2_ends I.reading (P1.meaning form) (P2.meaning form)
         (P1.leaves_ends form) (P2.leaves_ends form) };
 
     ghost said = { λ s. sequence2_said (P1.said s.0) (P2.said s.1) };
 
-    ghost claimed = { λ s. sequence2_claimed I.reading
-        (λ form. sequence2_ends I.reading (P1.meaning form) (P2.meaning form)
-        (P1.leaves_ends form) (P2.leaves_ends form)) (P1.claimed s.0) (P2.claimed s.1)
-        (sequence2_said (P1.said s.0) (P2.said s.1)) };
+    ghost claimed = { λ s. sequence2_claimed (P1.claimed s.0) (P2.claimed s.1) };
 
     #[inline(always)]
     fn parse_next(&mut self, input: &mut I) -> Result<(O1, O2), E> {
@@ -160,19 +156,14 @@ impl<
 
     ghost says = { λ s. sequence3_says (P1.says s.0) (P2.says s.1) (P3.says s.2) };
 
-    ghost claim = { λ s. sequence3_claim (P1.claim s.0) (P2.claim s.1) (P3.claim s.2)
-        (sequence3_says (P1.says s.0) (P2.says s.1) (P3.says s.2)) };
+    ghost claim = { λ s. sequence3_claim (P1.claim s.0) (P2.claim s.1) (P3.claim s.2) };
 
     ghost leaves_ends = { λ form. sequence3_ends I.reading (P1.meaning form) (P2.meaning form)
         (P3.meaning form) (P1.leaves_ends form) (P2.leaves_ends form) (P3.leaves_ends form) };
 
     ghost said = { λ s. sequence3_said (P1.said s.0) (P2.said s.1) (P3.said s.2) };
 
-    ghost claimed = { λ s. sequence3_claimed I.reading
-        (λ form. sequence3_ends I.reading (P1.meaning form) (P2.meaning form)
-        (P3.meaning form) (P1.leaves_ends form) (P2.leaves_ends form) (P3.leaves_ends form))
-        (P1.claimed s.0) (P2.claimed s.1) (P3.claimed s.2)
-        (sequence3_said (P1.said s.0) (P2.said s.1) (P3.said s.2)) };
+    ghost claimed = { λ s. sequence3_claimed (P1.claimed s.0) (P2.claimed s.1) (P3.claimed s.2) };
 
     #[inline(always)]
     fn parse_next(&mut self, input: &mut I) -> Result<(O1, O2, O3), E> {
@@ -208,8 +199,7 @@ impl<
     ghost says = { λ s. sequence4_says (P1.says s.0) (P2.says s.1) (P3.says s.2) (P4.says s.3) };
 
     ghost claim = { λ s. sequence4_claim (P1.claim s.0) (P2.claim s.1) (P3.claim s.2)
-        (P4.claim s.3) (sequence4_says (P1.says s.0) (P2.says s.1) (P3.says s.2)
-        (P4.says s.3)) };
+        (P4.claim s.3) };
 
     ghost leaves_ends = { λ form. sequence4_ends I.reading (P1.meaning form) (P2.meaning form)
         (P3.meaning form) (P4.meaning form) (P1.leaves_ends form) (P2.leaves_ends form)
@@ -217,12 +207,8 @@ impl<
 
     ghost said = { λ s. sequence4_said (P1.said s.0) (P2.said s.1) (P3.said s.2) (P4.said s.3) };
 
-    ghost claimed = { λ s. sequence4_claimed I.reading
-        (λ form. sequence4_ends I.reading (P1.meaning form) (P2.meaning form)
-        (P3.meaning form) (P4.meaning form) (P1.leaves_ends form) (P2.leaves_ends form)
-        (P3.leaves_ends form) (P4.leaves_ends form)) (P1.claimed s.0) (P2.claimed s.1)
-        (P3.claimed s.2) (P4.claimed s.3)
-        (sequence4_said (P1.said s.0) (P2.said s.1) (P3.said s.2) (P4.said s.3)) };
+    ghost claimed = { λ s. sequence4_claimed (P1.claimed s.0) (P2.claimed s.1) (P3.claimed s.2)
+        (P4.claimed s.3) };
 
     #[inline(always)]
     fn parse_next(&mut self, input: &mut I) -> Result<(O1, O2, O3, O4), E> {
@@ -262,9 +248,7 @@ impl<
         (P5.says s.4) };
 
     ghost claim = { λ s. sequence5_claim (P1.claim s.0) (P2.claim s.1) (P3.claim s.2)
-        (P4.claim s.3) (P5.claim s.4)
-        (sequence5_says (P1.says s.0) (P2.says s.1) (P3.says s.2) (P4.says s.3)
-        (P5.says s.4)) };
+        (P4.claim s.3) (P5.claim s.4) };
 
     ghost leaves_ends = { λ form. sequence5_ends I.reading (P1.meaning form) (P2.meaning form)
         (P3.meaning form) (P4.meaning form) (P5.meaning form) (P1.leaves_ends form)
@@ -274,14 +258,8 @@ impl<
     ghost said = { λ s. sequence5_said (P1.said s.0) (P2.said s.1) (P3.said s.2) (P4.said s.3)
         (P5.said s.4) };
 
-    ghost claimed = { λ s. sequence5_claimed I.reading
-        (λ form. sequence5_ends I.reading (P1.meaning form) (P2.meaning form)
-        (P3.meaning form) (P4.meaning form) (P5.meaning form) (P1.leaves_ends form)
-        (P2.leaves_ends form) (P3.leaves_ends form) (P4.leaves_ends form)
-        (P5.leaves_ends form)) (P1.claimed s.0) (P2.claimed s.1) (P3.claimed s.2)
-        (P4.claimed s.3) (P5.claimed s.4)
-        (sequence5_said (P1.said s.0) (P2.said s.1) (P3.said s.2) (P4.said s.3)
-        (P5.said s.4)) };
+    ghost claimed = { λ s. sequence5_claimed (P1.claimed s.0) (P2.claimed s.1) (P3.claimed s.2)
+        (P4.claimed s.3) (P5.claimed s.4) };
 
     #[inline(always)]
     fn parse_next(&mut self, input: &mut I) -> Result<(O1, O2, O3, O4, O5), E> {
@@ -331,9 +309,7 @@ impl<
         (P5.says s.4) (P6.says s.5) };
 
     ghost claim = { λ s. sequence6_claim (P1.claim s.0) (P2.claim s.1) (P3.claim s.2)
-        (P4.claim s.3) (P5.claim s.4) (P6.claim s.5)
-        (sequence6_says (P1.says s.0) (P2.says s.1) (P3.says s.2) (P4.says s.3) (P5.says s.4)
-        (P6.says s.5)) };
+        (P4.claim s.3) (P5.claim s.4) (P6.claim s.5) };
 
     ghost leaves_ends = { λ form. sequence6_ends I.reading (P1.meaning form) (P2.meaning form)
         (P3.meaning form) (P4.meaning form) (P5.meaning form) (P6.meaning form)
@@ -343,14 +319,8 @@ impl<
     ghost said = { λ s. sequence6_said (P1.said s.0) (P2.said s.1) (P3.said s.2) (P4.said s.3)
         (P5.said s.4) (P6.said s.5) };
 
-    ghost claimed = { λ s. sequence6_claimed I.reading
-        (λ form. sequence6_ends I.reading (P1.meaning form) (P2.meaning form)
-        (P3.meaning form) (P4.meaning form) (P5.meaning form) (P6.meaning form)
-        (P1.leaves_ends form) (P2.leaves_ends form) (P3.leaves_ends form)
-        (P4.leaves_ends form) (P5.leaves_ends form) (P6.leaves_ends form)) (P1.claimed s.0)
-        (P2.claimed s.1) (P3.claimed s.2) (P4.claimed s.3) (P5.claimed s.4) (P6.claimed s.5)
-        (sequence6_said (P1.said s.0) (P2.said s.1) (P3.said s.2) (P4.said s.3) (P5.said s.4)
-        (P6.said s.5)) };
+    ghost claimed = { λ s. sequence6_claimed (P1.claimed s.0) (P2.claimed s.1) (P3.claimed s.2)
+        (P4.claimed s.3) (P5.claimed s.4) (P6.claimed s.5) };
 
     #[inline(always)]
     fn parse_next(&mut self, input: &mut I) -> Result<(O1, O2, O3, O4, O5, O6), E> {

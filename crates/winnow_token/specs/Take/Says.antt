@@ -6,7 +6,7 @@ use Rattle.streams.specs.Equal.{same_rest}
 use Rattle.streams.specs.Input.{Input}
 use Rattle.streams.specs.Reading.{Reading}
 use Rattle.stream_errors.specs.Form.{Answer}
-use Rattle.winnow_core.specs.Decided.Adapters.{as_long_front}
+use Rattle.winnow_core.specs.Decided.Inputs.{as_long_front}
 use Rattle.winnow_core.specs.Literal.Laws.{ShowSame}
 use Rattle.winnow_core.specs.Outcome.{Setting, gave}
 use Rattle.winnow_core.specs.Runs.{Keeps}

@@ -14,7 +14,7 @@ use Rattle.stream_searches.specs.FirstMatch.{StaysFirst}
 use Rattle.stream_sets.specs.Longest.{within_is}
 use Rattle.stream_sets.specs.Range.{Bounds, IsWithin}
 use Rattle.stream_errors.specs.Form.{Answer}
-use Rattle.winnow_core.specs.Decided.Adapters.{as_long_front}
+use Rattle.winnow_core.specs.Decided.Inputs.{as_long_front}
 use Rattle.winnow_core.specs.Literal.Laws.{ShowSame}
 use Rattle.winnow_core.specs.Outcome.{Outcome, Setting, gave}
 use Rattle.winnow_core.specs.Runs.{Keeps}
