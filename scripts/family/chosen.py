@@ -63,7 +63,7 @@ CHOSEN_STRUCT = (
     """//! {about}
 //!
 //! {head}
-ghost use Rattle.std.specs.Prelude.{{◌≡◌, ⊤}};
+ghost use Rattle.std.specs.Prelude.{{⊤}};
 ghost use Rattle.winnow_binary.specs.Chosen.{{ChosenRuns}};
 ghost use Rattle.winnow_integers.specs.Integer.{{{value}}};
 ghost use Rattle.winnow_integers.specs.Integer.Grammar.{{Integer, integer_takes}};
@@ -73,7 +73,6 @@ ghost use Rattle.winnow_integers.specs.Integer.Laws.{{some_bytes}};
 ghost use Rattle.winnow_integers.specs.Integer.Says.{{integer_said, integer_says}};
 ghost use Rattle.winnow_integers.specs.declared.binary.endianness.Endianness.{{Endianness}};
 ghost use Rattle.winnow_core.specs.Exact.Allowed.{{backs}};
-ghost use Rattle.winnow_core.specs.Says.Decided.{{decided_of}};
 ghost use Rattle.winnow_core.specs.Stable.Grows.{{leaf_stays}};
 
 use std::marker::PhantomData;

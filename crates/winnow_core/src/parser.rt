@@ -84,8 +84,7 @@ pub trait Parser<I: Stream, O, E: ParserError<I>>: Sized {
     // The parser's specified outcomes, for a state. `nothing_said` specifies nothing.
     ghost says: { State → Says I.Seen O };
 
-    // The parser's specification, for a state: its grammar, and whether its result is a function of
-    // the input. `no_claim` specifies nothing.
+    // The parser's specification by a grammar, for a state. `no_claim` specifies nothing.
     ghost claim: { State → Claim I.Seen O };
 
     /// Runs the parser at the start of `input` and returns its output.

@@ -11,8 +11,7 @@ ghost use Rattle.winnow_core.specs.Exact.Settled.{NoneWithin, ReadsWithin, and_t
 ghost use Rattle.winnow_core.specs.Exact.Settled.{and_then_fails};
 ghost use Rattle.winnow_core.specs.Settles.Laws.{settles_ends, settles_grows};
 ghost use Rattle.winnow_core.specs.Stable.Grows.{grows, stays};
-ghost use Rattle.winnow_core.specs.AndThen.Says.{OneInput, and_then_said, and_then_says};
-ghost use Rattle.winnow_core.specs.Says.Decided.{decided_of};
+ghost use Rattle.winnow_core.specs.AndThen.Says.{and_then_said, and_then_says};
 
 use crate::parser::Parser;
 use crate::stable::Stable;
@@ -73,9 +72,6 @@ impl<
       spares_memory = (F.claim s.0).spares_memory × (G.claim s.1).spares_memory;
       consumes = (F.claim s.0).consumes;
       grammar = Made (ReadsWithin O.view (G.claim s.1).grammar) tt (F.claim s.0).grammar;
-      decides = (F.says s.0).premise × OneInput O.view (F.says s.0).alike
-          × (G.says s.1).premise;
-      alike = (G.says s.1).alike;
     } };
 
     ghost leaves_ends = { λ form. settles_ends I.reading
@@ -93,10 +89,6 @@ impl<
           (fails_as (λ b. is.2) (λ m. m.1) ((G.claimed s.1).fails form is.1));
       takes = λ is some. made_of_takes (ReadsWithin O.view (G.claim s.1).grammar) tt
           ((F.claimed s.0).takes is.0 some);
-      decided = λ form is. decided_of I.reading
-          (λ form. settles_ends I.reading (AndThenSettles O.view (G.meaning form))
-          (F.meaning form) (F.leaves_ends form))
-          (and_then_said O.view (F.said s.0) (G.said s.1)) form is;
     } };
 
     #[inline]

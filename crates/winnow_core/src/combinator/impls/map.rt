@@ -9,8 +9,6 @@ ghost use Rattle.winnow_core.specs.Map.{MapRuns, map_parser, map_closure};
 ghost use Rattle.winnow_core.specs.Map.Laws.{map_ends, map_grows};
 ghost use Rattle.winnow_core.specs.Stable.Grows.{grows, stays};
 ghost use Rattle.winnow_core.specs.Map.Says.{map_said, map_says};
-ghost use Rattle.winnow_core.specs.Says.Decided.{decided_of};
-ghost use Rattle.winnow_core.specs.MakesOutput.Says.{OutputsMadeAlike};
 
 use crate::parser::Parser;
 use crate::stable::Stable;
@@ -63,8 +61,6 @@ impl<F: Parser<I, O, E>, G: FnMut(O) -> O2, I: Stream, O, O2, E: ParserError<I>>
       spares_memory = (F.claim s.0).spares_memory;
       consumes = (F.claim s.0).consumes;
       grammar = Made (Gives G.step) s.1 (F.claim s.0).grammar;
-      decides = (F.says s.0).premise × Stays G.step s.1;
-      alike = OutputsMadeAlike (F.says s.0).alike (Gives G.step s.1);
     } };
 
     ghost leaves_ends = { λ form. map_ends I.reading (F.meaning form) G.step (F.leaves_ends form) };
@@ -75,9 +71,6 @@ impl<F: Parser<I, O, E>, G: FnMut(O) -> O2, I: Stream, O, O2, E: ParserError<I>>
       exact = λ form is. map_exact G.step is.1 ((F.claimed s.0).exact form is.0);
       fails = λ form is. map_fails G.step is.1 ((F.claimed s.0).fails form is.0);
       takes = λ is some. made_of_takes (Gives G.step) s.1 ((F.claimed s.0).takes is.0 some);
-      decided = λ form is. decided_of I.reading
-          (λ form. map_ends I.reading (F.meaning form) G.step (F.leaves_ends form))
-          (map_said G.step (F.said s.0)) form is;
     } };
 
     #[inline(always)]

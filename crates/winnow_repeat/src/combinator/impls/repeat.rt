@@ -16,9 +16,7 @@ ghost use Rattle.winnow_repeat.specs.TryFold.{try_fold_closure, try_fold_init};
 ghost use Rattle.winnow_repeat.specs.TryFold.{try_fold_occurrences, try_fold_parser};
 ghost use Rattle.winnow_repeat.specs.VerifyFold.{verify_fold_closure, verify_fold_init};
 ghost use Rattle.winnow_repeat.specs.VerifyFold.{verify_fold_occurrences, verify_fold_parser};
-ghost use Rattle.winnow_repeat.specs.Chain.Bounded.{HeldAlike};
 ghost use Rattle.winnow_repeat.specs.Repeat.Says.{repeat_said, repeat_says};
-ghost use Rattle.winnow_core.specs.Says.Decided.{decided_of};
 
 use crate::combinator::impls::{RepeatFold, RepeatTryFold, RepeatVerifyFold};
 use crate::combinator::items::{repeat_items, repeat_many};
@@ -154,8 +152,6 @@ impl<
       spares_memory = (P.claim s.0).spares_memory × C.spares_memory;
       consumes = 0 < (bounds_of s.1).least;
       grammar = Repeated C.holds s.1 (P.claim s.0).grammar;
-      decides = (P.says s.0).premise;
-      alike = HeldAlike C.holds (P.says s.0).alike;
     } };
 
     ghost leaves_ends = { λ form. ranged_ends I.reading (P.meaning form) C.accumulator
@@ -174,10 +170,6 @@ impl<
           (λ w. wanted (λ m. C.never_wants m.1 w));
       takes = λ is some. repeat_takes C.accumulator (assert_kind modal) s C.holds
           ((P.claimed s.0).exact modal is.0) ((P.claimed s.0).takes is.0 is.2) some;
-      decided = λ form is. decided_of I.reading
-          (λ form. ranged_ends I.reading (P.meaning form) C.accumulator (assert_kind form)
-          (P.leaves_ends form)) (repeat_said C.accumulator C.holds C.gathers s (P.said s.0)) form
-          is;
     } };
 
     fn parse_next(&mut self, input: &mut I) -> Result<C, E> {

@@ -1,17 +1,15 @@
 //! One token of a set.
 ghost use Rattle.std.specs.Prelude.{⊤};
-ghost use Rattle.streams.specs.Stream.{AnswersSeen};
-ghost use Rattle.stream_sets.specs.Once.{TokenEqInjective, seen_once, SetIsFunction};
+ghost use Rattle.stream_sets.specs.Once.{TokenEqInjective, seen_once};
 ghost use Rattle.grammars.specs.Grammar.{Token, TokenOf};
 ghost use Rattle.winnow_core.specs.Exact.Allowed.{backs};
 ghost use Rattle.winnow_core.specs.Runs.{Keeps};
 ghost use Rattle.winnow_core.specs.Stable.Grows.{leaf_stays};
 ghost use Rattle.winnow_token.specs.OneOf.{OneOfRuns};
-ghost use Rattle.winnow_token.specs.Any.Laws.{SeenSame};
 ghost use Rattle.winnow_token.specs.OneOf.Laws.{one_of_exact, one_of_fails};
 ghost use Rattle.winnow_token.specs.OneOf.Laws.{token_of_takes, one_of_ends};
 ghost use Rattle.winnow_token.specs.OneOf.Laws.{one_of_stays};
-ghost use Rattle.winnow_token.specs.OneOf.Says.{one_of_decided, one_of_said, one_of_says};
+ghost use Rattle.winnow_token.specs.OneOf.Says.{one_of_said, one_of_says};
 
 use crate::token::one::take_member;
 use std::marker::PhantomData;
@@ -55,8 +53,6 @@ where
       spares_memory = ⊤;
       consumes = ⊤;
       grammar = TokenOf I.seen_as S.tells s;
-      decides = SetIsFunction (AnswersSeen I.seen_as (S.tells s));
-      alike = SeenSame I.seen_as;
     } };
 
     ghost leaves_ends = { λ form x i answer y j r. one_of_ends I.seen_as I.reading form
@@ -69,7 +65,6 @@ where
           (seen_once I.seen_as (S.tells s) is.1 (S.once s is.0));
       fails = λ form is. backs (one_of_fails I.seen_as I.reading form S.tells s);
       takes = λ is some. token_of_takes I.seen_as S.tells s;
-      decided = λ form is. one_of_decided I.seen_as I.reading form S.tells s is;
     } };
 
     #[inline(always)]
