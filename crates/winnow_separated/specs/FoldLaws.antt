@@ -1,8 +1,7 @@
 -- Laws of elements that are folded.
 use Rattle.std.specs.Prelude.{◌≡◌, ◌<◌, List, [], ◌∷◌, length, Ok, Err, ⊤}
-use Rattle.std.proofs.Common.{refl, sym, ap, ◌∙◌, subst}
+use Rattle.std.proofs.Common.{sym, subst, ◌∙◌}
 use Rattle.streams.specs.Input.{Input}
-use Rattle.streams.specs.Kind.{memory}
 use Rattle.stream_errors.specs.Form.{Answer}
 use Rattle.winnow_core.specs.Decided.{EqualResults, IsDecided, NotMemory}
 use Rattle.winnow_core.specs.Runs.{Runs}
@@ -19,11 +18,15 @@ Leads {S} run s (call ∷ calls) t =
 abbrev pub Reaches : {S T O : Type 0} → Runs S T O → S → S → Type 0
 Reaches {S} {T} {O} run s t = (calls : List (Input T × O × Input T)) × Leads run s calls t
 
--- From each state that `s` reaches, a successful call consumes input.
+-- A successful call from `s` consumes input.
+abbrev pub ConsumesFrom : {S T O : Type 0} → Runs S T O → S → Type 0
+ConsumesFrom {S} {T} {O} run s =
+    (i : Input T) (o : O) (t : S) (j : Input T) → run s i (Ok o) t j
+    → length j.left.tokens < length i.left.tokens
+
+-- So does one from each state that `s` reaches.
 abbrev pub Consumes : {S T O : Type 0} → Runs S T O → S → Type 0
-Consumes {S} {T} {O} run s =
-    (t : S) → Reaches run s t → (i : Input T) (o : O) (u : S) (j : Input T)
-    → run t i (Ok o) u j → length j.left.tokens < length i.left.tokens
+Consumes {S} run s = (t : S) → Reaches run s t → ConsumesFrom run t
 
 -- Unless a call is out of memory, each state that `s` reaches and the input determine whether it
 -- succeeds, the kind of its error, its new state and the rest. Its outputs may differ.
@@ -54,13 +57,11 @@ Turns {T = T} run separator s i (link ∷ links) (place ∷ places) =
 -- Two runs of elements that are folded, from one state and input, where both succeed: the elements
 -- and separators of both are the outputs of one list of runs, the first folded to the left and the
 -- second to the right, and both leave the same. Where outputs are decided too, these are the same
--- elements and separators. It requires that separators consume, and that state and input determine
--- the runs of elements and separators, from the states that those of this call reach.
-abbrev pub FoldTheSame : {S W Q T O D : Type 0} → (Q → O → D → O → O → Q → Type 0) → Runs S T O
-    → Runs W T D → Runs (S × W × Q) T O → Runs (S × W × Q) T O → Type 0
-FoldTheSame {S} {W} {Q} {T} {O} {D} step run separator to_left to_right =
-    (s : S × W × Q) → Decides run s.0 → Decides separator s.1 → Consumes separator s.1
-    → (i : Input T) (left right : O) (t u : S × W × Q) (j k : Input T)
+-- elements and separators.
+abbrev pub SameFolds : {S W Q T O D : Type 0} → (Q → O → D → O → O → Q → Type 0) → Runs S T O
+    → Runs W T D → Runs (S × W × Q) T O → Runs (S × W × Q) T O → S × W × Q → Type 0
+SameFolds {S} {W} {Q} {T} {O} {D} step run separator to_left to_right s =
+    (i : Input T) (left right : O) (t u : S × W × Q) (j k : Input T)
     → to_left s i (Ok left) t j → to_right s i (Ok right) u k
     → (v : S) × (n : Input T) × (places : List ((S × W) × Input T))
     × (first : O) × (links : List (D × O)) × (one : O) × (others : List (D × O))
@@ -72,7 +73,23 @@ FoldTheSame {S} {W} {Q} {T} {O} {D} step run separator to_left to_right =
     × (DecidesOutputs run s.0 → DecidesOutputs separator s.1
     → (first ≡ one) × (links ≡ others))
 
--- ---- for callers: parsers whose result is a function of state and input keep their state
+-- From a state whose separators consume, and from which state and input determine the runs of
+-- elements and separators.
+abbrev pub FoldTheSame : {S W Q T O D : Type 0} → (Q → O → D → O → O → Q → Type 0) → Runs S T O
+    → Runs W T D → Runs (S × W × Q) T O → Runs (S × W × Q) T O → Type 0
+FoldTheSame {S} {W} {Q} step run separator to_left to_right =
+    (s : S × W × Q) → Decides run s.0 → Decides separator s.1 → Consumes separator s.1
+    → SameFolds step run separator to_left to_right s
+
+-- From a state with these premises of its element and its separator, if that consumes.
+abbrev pub FoldTheSameIf : {S W Q T O D : Type 0} → (S → Type 0) → (W → Type 0)
+    → (Q → O → D → O → O → Q → Type 0) → Runs S T O → Runs W T D → Runs (S × W × Q) T O
+    → Runs (S × W × Q) T O → Type 0
+FoldTheSameIf {S} {W} {Q} premise between step run separator to_left to_right =
+    (s : S × W × Q) → premise s.0 → between s.1 → ConsumesFrom separator s.1
+    → SameFolds step run separator to_left to_right s
+
+-- ---- parsers whose result is a function of state and input keep their state
 
 module _ {S T O : Type 0} {run : Runs S T O} {s : S} {alike : O → O → Type 0}
     (decided : IsDecided s run alike) where
@@ -102,8 +119,7 @@ module _ {S T O : Type 0} {run : Runs S T O} {s : S} {alike : O → O → Type 0
       equal_ends (Err k) (Ok p) is = is
       equal_ends (Err k) (Err l) is = is
 
-  pub decided_consumes : ((i : Input T) (o : O) (u : S) (j : Input T) → run s i (Ok o) u j
-      → length j.left.tokens < length i.left.tokens) → Consumes run s
+  pub decided_consumes : ConsumesFrom run s → Consumes run s
   decided_consumes consumes t (calls, leads) i o u j ran =
       let P : S → Type 0 = λ x. run x i (Ok o) u j in
       consumes i o u j (subst P (reaches_itself t calls leads) ran)
