@@ -140,9 +140,9 @@ module _ {S W T O D : Type 0} (run : Runs S T O) (separator : Runs W T D) where
         (same, states, rest)
 
     same_places : (links others : List (D × O)) (places more : List ((S × W) × Input T))
-        (s t u : S × W) → At run separator start begin s → (i j k : Input T) → Turns run separator s i links places
-        → Turns run separator s i others more → FailsAt run separator (final s i places) t j
-        → FailsAt run separator (final s i more) u k → places ≡ more
+        (s t u : S × W) → At run separator start begin s → (i j k : Input T)
+        → Turns run separator s i links places → Turns run separator s i others more
+        → FailsAt run separator (final s i places) t j → FailsAt run separator (final s i more) u k → places ≡ more
     same_places [] [] [] [] s t u is i j k turns again ends stops = refl
     same_places [] [] [] (p ∷ ps) s t u is i j k turns again ends stops = absurd again
     same_places [] [] (p ∷ ps) more s t u is i j k turns again ends stops = absurd turns
@@ -153,10 +153,11 @@ module _ {S W T O D : Type 0} (run : Runs S T O) (separator : Runs W T D) where
     same_places (l ∷ ls) others [] more s t u is i j k turns again ends stops = absurd turns
     same_places (l ∷ ls) [] (p ∷ ps) [] s t u is i j k (m, r, q, rest) again ends stops =
         absurd (no_turn s p.0 u is i m k p.1 l r q stops)
-    same_places (l ∷ ls) [] (p ∷ ps) (a ∷ ahead) s t u is i j k turns again ends stops = absurd again
+    same_places (l ∷ ls) [] (p ∷ ps) (a ∷ ahead) s t u is i j k turns again ends stops =
+        absurd again
     same_places (l ∷ ls) (x ∷ xs) (p ∷ ps) [] s t u is i j k turns again ends stops = absurd again
-    same_places (l ∷ ls) (x ∷ xs) (p ∷ ps) (a ∷ ahead) s t u is i j k (m, r, q, rest) (n, f, g, after)
-        ends stops =
+    same_places (l ∷ ls) (x ∷ xs) (p ∷ ps) (a ∷ ahead) s t u is i j k (m, r, q, rest)
+        (n, f, g, after) ends stops =
         let (none, states, left) =
         decides_between s.1 is.1 i (Ok l.0) (Ok x.0) p.0.1 a.0.1 m n (λ e. cc) (λ e. cc) r f in
         let P : Input T → Type 0 = λ y. run s.0 y (Ok x.1) a.0.0 a.1 in
@@ -174,8 +175,9 @@ module _ {S W T O D : Type 0} (run : Runs S T O) (separator : Runs W T D) where
         ap (λ y. y ∷ ps) one ∙ ap (λ ys. a ∷ ys) others
 
     -- where outputs are decided too, they are the same
-    same_links : DecidesOutputs run start → DecidesOutputs separator begin → (links others : List (D × O))
-        (places : List ((S × W) × Input T)) (s : S × W) → At run separator start begin s → (i : Input T)
+    same_links : DecidesOutputs run start → DecidesOutputs separator begin
+        → (links others : List (D × O)) (places : List ((S × W) × Input T)) (s : S × W)
+        → At run separator start begin s → (i : Input T)
         → Turns run separator s i links places → Turns run separator s i others places
         → links ≡ others
     same_links same between [] [] places s is i turns again = refl
@@ -200,9 +202,9 @@ module _ {S W T O D : Type 0} (run : Runs S T O) (separator : Runs W T D) where
 -- what both do after one element
 same_turns : {S W T O D A : Type 0} (run : Runs S T O) (separator : Runs W T D) (start : S)
     (begin : W) → Decides run start → Decides separator begin → Consumes separator begin
-    → (s : S × W) → At run separator start begin s → (n : Input T) (links : List (D × O)) (v : S × W) (m x : Input T) (t : S × W) (all : Vec (D × O) A)
-    (u : S × W) (k : Input T) → Items (PairLinkRuns run separator) s n links v m
-    → LinkFails run separator v m backtrack t x
+    → (s : S × W) → At run separator start begin s → (n : Input T) (links : List (D × O))
+    (v : S × W) (m x : Input T) (t : S × W) (all : Vec (D × O) A) (u : S × W) (k : Input T)
+    → Items (PairLinkRuns run separator) s n links v m → LinkFails run separator v m backtrack t x
     → (known : RepeatedAll (SequenceRuns2 separator run) list_kept (s.1, s.0) n all (u.1, u.0) k)
     → (places : List ((S × W) × Input T)) × Turns run separator s n links places
     × Turns run separator s n known.outputs places × (t.0 ≡ u.0) × (t.1 ≡ u.1)
