@@ -142,7 +142,8 @@ module _ {S W T O D : Type 0} (run : Runs S T O) (separator : Runs W T D) where
     same_places : (links others : List (D × O)) (places more : List ((S × W) × Input T))
         (s t u : S × W) → At run separator start begin s → (i j k : Input T)
         → Turns run separator s i links places → Turns run separator s i others more
-        → FailsAt run separator (final s i places) t j → FailsAt run separator (final s i more) u k → places ≡ more
+        → FailsAt run separator (final s i places) t j
+        → FailsAt run separator (final s i more) u k → places ≡ more
     same_places [] [] [] [] s t u is i j k turns again ends stops = refl
     same_places [] [] [] (p ∷ ps) s t u is i j k turns again ends stops = absurd again
     same_places [] [] (p ∷ ps) more s t u is i j k turns again ends stops = absurd turns
