@@ -31,12 +31,9 @@ FailsAt run separator from t j = LinkFails run separator from.0 from.1 backtrack
 
 -- ---- states that others reach
 
-itself : {S T O : Type 0} {run : Runs S T O} {s : S} → Reaches run s s
-itself = ([], refl)
-
-onward : {S T O : Type 0} {run : Runs S T O} {s t u : S} {i j : Input T} {o : O}
+onward : {S T O : Type 0} (run : Runs S T O) (s t u : S) (i j : Input T) (o : O)
     → Reaches run s t → run t i (Ok o) u j → Reaches run s u
-onward {t = t} {i = i} {j} {o} (calls, leads) ran = ((i, o, j) ∷ calls, t, leads, ran)
+onward run s t u i j o (calls, leads) ran = ((i, o, j) ∷ calls, t, leads, ran)
 
 -- An element's and a separator's state that those reach.
 abbrev At : {S W T O D : Type 0} → Runs S T O → Runs W T D → S → W → S × W → Type 0
@@ -90,6 +87,14 @@ module _ {S W T O D : Type 0} (run : Runs S T O) (separator : Runs W T D) where
 
   -- ---- turns from one place
 
+  turn_at : (start : S) (begin : W) (s u : S × W) (i m j : Input T) (link : D × O)
+      → At run separator start begin s → separator s.1 i (Ok link.0) u.1 m
+      → run s.0 m (Ok link.1) u.0 j → At run separator start begin u
+  turn_at start begin s u i m j link is r q = (
+    onward run start s.0 u.0 m j link.1 is.0 q,
+    onward separator begin s.1 u.1 i m link.0 is.1 r,
+  )
+
   final_at : (start : S) (begin : W) (links : List (D × O)) (places : List ((S × W) × Input T))
       (s : S × W) (i : Input T) → At run separator start begin s
       → Turns run separator s i links places → At run separator start begin (final s i places).0
@@ -97,7 +102,7 @@ module _ {S W T O D : Type 0} (run : Runs S T O) (separator : Runs W T D) where
   final_at start begin [] (p ∷ ps) s i is turns = absurd turns
   final_at start begin (l ∷ ls) [] s i is turns = absurd turns
   final_at start begin (l ∷ ls) (p ∷ ps) s i is (m, r, q, rest) =
-      final_at start begin ls ps p.0 p.1 (onward is.0 q, onward is.1 r) rest
+      final_at start begin ls ps p.0 p.1 (turn_at start begin s p.0 i m p.1 l is r q) rest
 
   module _ (start : S) (begin : W) (decides : Decides run start)
       (decides_between : Decides separator begin) where
@@ -171,8 +176,8 @@ module _ {S W T O D : Type 0} (run : Runs S T O) (separator : Runs W T D) where
         let Q : (S × W) × Input T → Type 0 = λ y. Turns run separator y.0 y.1 xs ahead in
         let R : (S × W) × Input T → Type 0 =
         λ y. FailsAt run separator (final y.0 y.1 ahead) u k in
-        let others = same_places ls xs ps ahead p.0 t u (onward is.0 q, onward is.1 r) p.1 j k rest
-        (subst Q (sym one) after) ends (subst R (sym one) stops) in
+        let others = same_places ls xs ps ahead p.0 t u (turn_at start begin s p.0 i m p.1 l is r q)
+        p.1 j k rest (subst Q (sym one) after) ends (subst R (sym one) stops) in
         ap (λ y. y ∷ ps) one ∙ ap (λ ys. a ∷ ys) others
 
     -- where outputs are decided too, they are the same
@@ -193,8 +198,8 @@ module _ {S W T O D : Type 0} (run : Runs S T O) (separator : Runs W T D) where
         let P : Input T → Type 0 = λ y. run s.0 y (Ok x.1) p.0.0 p.1 in
         let separators = between s.1 is.1 i l.0 x.0 p.0.1 p.0.1 m n r f in
         let elements = same s.0 is.0 m l.1 x.1 p.0.0 p.0.0 p.1 p.1 q (subst P (sym left) g) in
-        let others = same_links same between ls xs ps p.0 (onward is.0 q, onward is.1 r) p.1 rest
-        after in
+        let others = same_links same between ls xs ps p.0
+        (turn_at start begin s p.0 i m p.1 l is r q) p.1 rest after in
         ap (λ y. (y, l.1) ∷ ls) separators ∙ ap (λ y. (x.0, y) ∷ ls) elements
         ∙ ap (λ ys. x ∷ ys) others
 
@@ -261,9 +266,11 @@ both_fold : {S W Q T O D A : Type 0} (step : Q → O → D → O → O → Q →
     → (first ≡ one) × (links ≡ others))
 both_fold {O = O} {D = D} step run separator s decides between consumes i first one v n left links
     w m x t u j all right k r q chain folded ends back known joined =
+    let is : At run separator s.0 s.1 (v, s.1) =
+    (onward run s.0 s.0 v i n first ([], refl) r, ([], refl)) in
     let (places, turns, again, states, others, rest) =
-    same_turns run separator s.0 s.1 decides between consumes (v, s.1) (onward itself r, itself) n
-    links w m x (t.0, t.1) all (u.0, u.1) k chain ends known in
+    same_turns run separator s.0 s.1 decides between consumes (v, s.1) is n links w m x (t.0, t.1)
+    all (u.0, u.1) k chain ends known in
     let Right : List (D × O) → Type 0 = λ y. FoldsRight step s.2 one y right u.2 in (
       v,
       n,
@@ -283,9 +290,9 @@ both_fold {O = O} {D = D} step run separator s decides between consumes i first 
       others,
       back ∙ rest,
       λ same same_between. (
-        same s.0 itself i first one v v n n r q,
+        same s.0 ([], refl) i first one v v n n r q,
         same_links run separator s.0 s.1 decides between same same_between links known.outputs
-            places (v, s.1) (onward itself r, itself) n turns again,
+            places (v, s.1) is n turns again,
       ),
     )
 
@@ -311,7 +318,7 @@ fold_the_same {S} {W} {Q} {T} {O} {D} A step run separator assert_kind s decides
     (inr (first, v, n, r, (links, p, l, so_far, chain, joined, inl (x, fails, e, back))))
     (inr (inr (one, w, m, all, value, q, pairs, folded, f))) =
     let (none, same, rest) =
-    decides s.0 itself i (Ok first) (Ok one) v w n m (λ h. cc) (λ h. cc) r q in
+    decides s.0 ([], refl) i (Ok first) (Ok one) v w n m (λ h. cc) (λ h. cc) r q in
     let both : (v, n) ≡ (w, m) = ap (λ y. (y, n)) same ∙ ap (λ y. (w, y)) rest in
     let Pairs : S × Input T → Type 0 =
     λ y. RepeatManyRuns (SequenceRuns2 separator run) (list_kept {A = A}) assert_kind
