@@ -1,6 +1,7 @@
 //! One token outside a set.
 ghost use Rattle.std.specs.Prelude.{not, ⊤};
-ghost use Rattle.stream_sets.specs.Once.{TokenEqInjective, others_once, seen_once, Others};
+ghost use Rattle.streams.specs.Stream.{AnswersSeen};
+ghost use Rattle.stream_sets.specs.Once.{Others, SetIsFunction};
 ghost use Rattle.grammars.specs.Grammar.{Token, TokenOf};
 ghost use Rattle.winnow_core.specs.Exact.Allowed.{backs};
 ghost use Rattle.winnow_core.specs.Runs.{Keeps};
@@ -50,7 +51,7 @@ where
     ghost says = { λ s. one_of_says I.seen_as (Others S.tells s) };
 
     ghost claim = { λ s. record {
-      premise = S.decides s × TokenEqInjective I.seen_as;
+      premise = SetIsFunction (AnswersSeen I.seen_as (Others S.tells s));
       backtracks = ⊤;
       spares_memory = ⊤;
       consumes = ⊤;
@@ -63,9 +64,7 @@ where
     ghost said = { λ s. one_of_said I.seen_as I.reading (Others S.tells) s };
 
     ghost claimed = { λ s. record {
-      exact = λ form is. one_of_exact I.seen_as I.reading form (Others S.tells) s
-          (seen_once I.seen_as (Others S.tells s) is.1
-          (others_once S.tells s (S.once s is.0)));
+      exact = λ form is. one_of_exact I.seen_as I.reading form (Others S.tells) s is;
       fails = λ form is. backs (one_of_fails I.seen_as I.reading form (Others S.tells) s);
       takes = λ is some. token_of_takes I.seen_as (Others S.tells) s;
     } };

@@ -1,6 +1,7 @@
 //! One token of a set.
 ghost use Rattle.std.specs.Prelude.{⊤};
-ghost use Rattle.stream_sets.specs.Once.{TokenEqInjective, seen_once};
+ghost use Rattle.streams.specs.Stream.{AnswersSeen};
+ghost use Rattle.stream_sets.specs.Once.{SetIsFunction};
 ghost use Rattle.grammars.specs.Grammar.{Token, TokenOf};
 ghost use Rattle.winnow_core.specs.Exact.Allowed.{backs};
 ghost use Rattle.winnow_core.specs.Runs.{Keeps};
@@ -48,7 +49,7 @@ where
     ghost says = { λ s. one_of_says I.seen_as (S.tells s) };
 
     ghost claim = { λ s. record {
-      premise = S.decides s × TokenEqInjective I.seen_as;
+      premise = SetIsFunction (AnswersSeen I.seen_as (S.tells s));
       backtracks = ⊤;
       spares_memory = ⊤;
       consumes = ⊤;
@@ -61,8 +62,7 @@ where
     ghost said = { λ s. one_of_said I.seen_as I.reading S.tells s };
 
     ghost claimed = { λ s. record {
-      exact = λ form is. one_of_exact I.seen_as I.reading form S.tells s
-          (seen_once I.seen_as (S.tells s) is.1 (S.once s is.0));
+      exact = λ form is. one_of_exact I.seen_as I.reading form S.tells s is;
       fails = λ form is. backs (one_of_fails I.seen_as I.reading form S.tells s);
       takes = λ is some. token_of_takes I.seen_as S.tells s;
     } };

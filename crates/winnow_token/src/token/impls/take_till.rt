@@ -1,7 +1,7 @@
 //! Takes of the tokens outside a set.
 ghost use Rattle.std.specs.Prelude.{not, ◌<◌, ⊤};
 ghost use Rattle.streams.specs.Stream.{AnswersSeen};
-ghost use Rattle.stream_sets.specs.Once.{TokenEqInjective, others_once, seen_once, Others};
+ghost use Rattle.stream_sets.specs.Once.{Others, SetIsFunction};
 ghost use Rattle.stream_sets.specs.Range.{bounds_of, IsWithin};
 ghost use Rattle.stream_sets.specs.declared.range.Range.{Range};
 ghost use Rattle.grammars.specs.Grammar.{Longest};
@@ -55,7 +55,7 @@ impl<S: ContainsToken<I::Token>, I: StreamIsPartial, E: ParserError<I>> Parser<I
         (AnswersSeen I.seen_as (Others S.tells s.1)) (bounds_of s.0) };
 
     ghost claim = { λ s. record {
-      premise = S.decides s.1 × TokenEqInjective I.seen_as
+      premise = SetIsFunction (AnswersSeen I.seen_as (Others S.tells s.1))
           × IsWithin (bounds_of s.0).greatest (bounds_of s.0).least;
       backtracks = ⊤;
       spares_memory = ⊤;
@@ -71,11 +71,9 @@ impl<S: ContainsToken<I::Token>, I: StreamIsPartial, E: ParserError<I>> Parser<I
 
     ghost claimed = { λ s. record {
       exact = λ form is. take_while_exact I.reading form I.seen_as (Others S.tells) (λ x. x.1)
-          (λ x. bounds_of x.0) s is.2
-          (seen_once I.seen_as (Others S.tells s.1) is.1
-          (others_once S.tells s.1 (S.once s.1 is.0)));
+          (λ x. bounds_of x.0) s is.1 is.0;
       fails = λ form is. backs (take_while_fails I.reading form I.seen_as (Others S.tells)
-          (λ x. x.1) (λ x. bounds_of x.0) s is.2);
+          (λ x. x.1) (λ x. bounds_of x.0) s is.1);
       takes = λ is some. longest_takes I.reading I.seen_as (Others S.tells) s.1
           (bounds_of s.0) some;
     } };
