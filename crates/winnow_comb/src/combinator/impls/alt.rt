@@ -9,6 +9,7 @@ ghost use Rattle.winnow_core.specs.Says.{Said, Says};
 ghost use Rattle.winnow_core.specs.Says.Decided.{decided_of};
 
 mod slices;
+mod stable;
 mod tuples;
 
 use std::marker::PhantomData;
