@@ -8,6 +8,7 @@ ghost use Rattle.winnow_core.specs.Runs.{LeaveEnds, Meaning};
 ghost use Rattle.winnow_core.specs.Says.{Said, Says};
 
 mod slices;
+mod stable;
 mod tuples;
 
 use std::marker::PhantomData;

@@ -4,8 +4,7 @@ ghost use Rattle.grammars.specs.Grammar.{Made};
 ghost use Rattle.grammars.specs.Grammar.Outputs.{RejectsAll};
 ghost use Rattle.grammars.specs.Grammar.Unique.{made_of_takes};
 ghost use Rattle.stream_errors.specs.Form.{modal};
-ghost use Rattle.winnow_core.specs.AndThen.{AndThenSettles, AndThenRuns, and_then_inner};
-ghost use Rattle.winnow_core.specs.AndThen.{and_then_outer};
+ghost use Rattle.winnow_core.specs.AndThen.{AndThenSettles, AndThenRuns};
 ghost use Rattle.winnow_core.specs.Exact.Allowed.{fails_as, softly};
 ghost use Rattle.winnow_core.specs.Exact.Settled.{NoneWithin, ReadsWithin, and_then_exact};
 ghost use Rattle.winnow_core.specs.Exact.Settled.{and_then_fails};
@@ -35,8 +34,8 @@ pub struct AndThen<F, G, I, O, O2, E> {
 impl<F, G, I, O, O2, E> AndThen<F, G, I, O, O2, E> {
     #[inline(always)]
     pub(crate) fn new(outer: F, inner: G) -> AndThen<F, G, I, O, O2, E>
-        ensures outer { and_then_outer result ≡ outer }
-        ensures inner { and_then_inner result ≡ inner }
+        ensures outer { result.outer ≡ outer }
+        ensures inner { result.inner ≡ inner }
     {
         AndThen {
             outer,

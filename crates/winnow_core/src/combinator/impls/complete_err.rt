@@ -1,7 +1,6 @@
 //! Errors that do not ask for more input.
 ghost use Rattle.std.specs.Prelude.{◌≡◌};
 ghost use Rattle.winnow_core.specs.CompleteErr.{CompleteErrBecomes, CompleteErrRuns};
-ghost use Rattle.winnow_core.specs.CompleteErr.{complete_err_parser};
 ghost use Rattle.winnow_core.specs.Exact.Errors.{complete_err_exact, complete_err_fails};
 ghost use Rattle.winnow_core.specs.MakesError.Laws.{makes_error_ends};
 ghost use Rattle.winnow_core.specs.CompleteErr.Says.{complete_err_said, complete_err_says};
@@ -27,7 +26,7 @@ pub struct CompleteErr<F, I, O, E> {
 impl<F, I, O, E> CompleteErr<F, I, O, E> {
     #[inline(always)]
     pub(crate) fn new(parser: F) -> CompleteErr<F, I, O, E>
-        ensures { complete_err_parser result ≡ parser }
+        ensures { result.parser ≡ parser }
     {
         CompleteErr {
             parser,

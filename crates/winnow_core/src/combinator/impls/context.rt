@@ -2,8 +2,7 @@
 ghost use Rattle.std.specs.Prelude.{◌≡◌};
 ghost use Rattle.stream_errors.specs.Form.{modal};
 ghost use Rattle.stream_errors.specs.Given.{Keeping};
-ghost use Rattle.winnow_core.specs.Context.{ContextBecomes, ContextRuns, context_parser};
-ghost use Rattle.winnow_core.specs.Context.{context_told};
+ghost use Rattle.winnow_core.specs.Context.{ContextBecomes, ContextRuns};
 ghost use Rattle.winnow_core.specs.Context.Laws.{context_keeps};
 ghost use Rattle.winnow_core.specs.Exact.Allowed.{fails_as, wanted};
 ghost use Rattle.winnow_core.specs.Exact.Errors.{NeverRefused, context_fails};
@@ -41,8 +40,8 @@ pub struct Context<F, I, O, E, C, A> {
 impl<F, I, O, E, C, A> Context<F, I, O, E, C, A> {
     #[inline(always)]
     pub(crate) fn new(parser: F, context: C, alloc: A) -> Context<F, I, O, E, C, A>
-        ensures parser { context_parser result ≡ parser }
-        ensures context { context_told result ≡ context }
+        ensures parser { result.parser ≡ parser }
+        ensures context { result.context ≡ context }
     {
         Context {
             parser,

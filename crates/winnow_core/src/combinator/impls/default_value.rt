@@ -3,7 +3,7 @@ ghost use Rattle.std.specs.Prelude.{◌≡◌};
 ghost use Rattle.grammars.specs.Grammar.{Made};
 ghost use Rattle.grammars.specs.Grammar.Unique.{made_of_takes};
 ghost use Rattle.stream_errors.specs.Form.{modal};
-ghost use Rattle.winnow_core.specs.DefaultValue.{DefaultValueRuns, default_value_parser};
+ghost use Rattle.winnow_core.specs.DefaultValue.{DefaultValueRuns};
 ghost use Rattle.winnow_core.specs.Exact.Adapters.{output_exact, output_fails};
 ghost use Rattle.winnow_core.specs.MakesOutput.Laws.{makes_output_ends, made_of_output};
 ghost use Rattle.winnow_core.specs.MakesOutput.Laws.{makes_output_grows};
@@ -31,7 +31,7 @@ pub struct DefaultValue<F, I, O, O2, E> {
 impl<F, I, O, O2, E> DefaultValue<F, I, O, O2, E> {
     #[inline(always)]
     pub(crate) fn new(parser: F) -> DefaultValue<F, I, O, O2, E>
-        ensures { default_value_parser result ≡ parser }
+        ensures { result.parser ≡ parser }
     {
         DefaultValue {
             parser,

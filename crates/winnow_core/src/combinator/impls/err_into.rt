@@ -1,6 +1,6 @@
 //! Errors that are converted.
 ghost use Rattle.std.specs.Prelude.{◌≡◌};
-ghost use Rattle.winnow_core.specs.ErrInto.{ErrIntoBecomes, ErrIntoRuns, err_into_parser};
+ghost use Rattle.winnow_core.specs.ErrInto.{ErrIntoBecomes, ErrIntoRuns};
 ghost use Rattle.winnow_core.specs.ErrInto.Laws.{err_into_keeps};
 ghost use Rattle.winnow_core.specs.Exact.Errors.{ConvertsSparing, SameKinds, err_into_exact};
 ghost use Rattle.winnow_core.specs.Exact.Errors.{err_into_fails};
@@ -29,7 +29,7 @@ pub struct ErrInto<F, I, O, E, E2> {
 impl<F, I, O, E, E2> ErrInto<F, I, O, E, E2> {
     #[inline(always)]
     pub(crate) fn new(parser: F) -> ErrInto<F, I, O, E, E2>
-        ensures { err_into_parser result ≡ parser }
+        ensures { result.parser ≡ parser }
     {
         ErrInto {
             parser,

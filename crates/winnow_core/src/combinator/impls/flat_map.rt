@@ -6,8 +6,7 @@ ghost use Rattle.stream_errors.specs.Form.{modal};
 ghost use Rattle.winnow_core.specs.Closures.{Gives, Stays};
 ghost use Rattle.winnow_core.specs.Exact.Allowed.{fails_as};
 ghost use Rattle.winnow_core.specs.Exact.Along.{either_way};
-ghost use Rattle.winnow_core.specs.FlatMap.{FlatMapRuns, MakesParsers, flat_map_closure};
-ghost use Rattle.winnow_core.specs.FlatMap.{flat_map_parser};
+ghost use Rattle.winnow_core.specs.FlatMap.{FlatMapRuns, MakesParsers};
 ghost use Rattle.winnow_core.specs.FlatMap.Laws.{flat_map_exact, flat_map_fails, flat_map_ends};
 ghost use Rattle.winnow_core.specs.FlatMap.Laws.{flat_map_grows};
 ghost use Rattle.winnow_core.specs.Stable.Grows.{grows, stays};
@@ -37,8 +36,8 @@ pub struct FlatMap<F, G, H, I, O, O2, E> {
 impl<F, G, H, I, O, O2, E> FlatMap<F, G, H, I, O, O2, E> {
     #[inline(always)]
     pub(crate) fn new(parser: F, map: G) -> FlatMap<F, G, H, I, O, O2, E>
-        ensures parser { flat_map_parser result ≡ parser }
-        ensures map { flat_map_closure result ≡ map }
+        ensures parser { result.parser ≡ parser }
+        ensures map { result.map ≡ map }
     {
         FlatMap {
             parser,

@@ -5,7 +5,7 @@ ghost use Rattle.grammars.specs.Grammar.Unique.{made_of_takes};
 ghost use Rattle.stream_errors.specs.Form.{modal};
 ghost use Rattle.winnow_core.specs.Closures.{Gives, Stays};
 ghost use Rattle.winnow_core.specs.Exact.Adapters.{map_exact, map_fails};
-ghost use Rattle.winnow_core.specs.Map.{MapRuns, map_parser, map_closure};
+ghost use Rattle.winnow_core.specs.Map.{MapRuns};
 ghost use Rattle.winnow_core.specs.Map.Laws.{map_ends, map_grows};
 ghost use Rattle.winnow_core.specs.Stable.Grows.{grows, stays};
 ghost use Rattle.winnow_core.specs.Map.Says.{map_said, map_says};
@@ -32,8 +32,8 @@ pub struct Map<F, G, I, O, O2, E> {
 impl<F, G, I, O, O2, E> Map<F, G, I, O, O2, E> {
     #[inline(always)]
     pub(crate) fn new(parser: F, map: G) -> Map<F, G, I, O, O2, E>
-        ensures parser { map_parser result ≡ parser }
-        ensures map { map_closure result ≡ map }
+        ensures parser { result.parser ≡ parser }
+        ensures map { result.map ≡ map }
     {
         Map {
             parser,

@@ -3,8 +3,7 @@ ghost use Rattle.std.specs.Prelude.{◌≡◌};
 ghost use Rattle.winnow_core.specs.Closures.{Stays};
 ghost use Rattle.winnow_core.specs.Exact.Errors.{map_err_exact, map_err_fails};
 ghost use Rattle.winnow_core.specs.MakesError.Laws.{makes_error_ends};
-ghost use Rattle.winnow_core.specs.MapErr.{MapErrBecomes, MapErrRuns, map_err_closure};
-ghost use Rattle.winnow_core.specs.MapErr.{map_err_parser};
+ghost use Rattle.winnow_core.specs.MapErr.{MapErrBecomes, MapErrRuns};
 ghost use Rattle.winnow_core.specs.MapErrKept.{KeepsEachKind};
 ghost use Rattle.winnow_core.specs.MakesError.Says.{turned_said, turned_says};
 ghost use Rattle.winnow_core.specs.Exact.Errors.{map_err_keeps};
@@ -32,8 +31,8 @@ pub struct MapErr<F, G, I, O, E, E2> {
 impl<F, G, I, O, E, E2> MapErr<F, G, I, O, E, E2> {
     #[inline(always)]
     pub(crate) fn new(parser: F, map: G) -> MapErr<F, G, I, O, E, E2>
-        ensures parser { map_err_parser result ≡ parser }
-        ensures map { map_err_closure result ≡ map }
+        ensures parser { result.parser ≡ parser }
+        ensures map { result.map ≡ map }
     {
         MapErr {
             parser,

@@ -5,8 +5,7 @@ ghost use Rattle.winnow_core.specs.Closures.{Stays};
 ghost use Rattle.winnow_core.specs.Exact.Errors.{map_err_kept_exact, map_err_kept_fails};
 ghost use Rattle.winnow_core.specs.MakesError.Laws.{makes_error_ends, makes_error_grows};
 ghost use Rattle.winnow_core.specs.MapErrKept.{KeepsEachKind, MapErrKeptBecomes, MapErrKeptRuns};
-ghost use Rattle.winnow_core.specs.MapErrKept.{map_err_kept_closure, map_err_kept_keeps};
-ghost use Rattle.winnow_core.specs.MapErrKept.{map_err_kept_parser};
+ghost use Rattle.winnow_core.specs.MapErrKept.{map_err_kept_keeps};
 ghost use Rattle.winnow_core.specs.Stable.Grows.{grows, stays};
 ghost use Rattle.winnow_core.specs.MakesError.Says.{turned_said, turned_says};
 ghost use Rattle.winnow_core.specs.Exact.Errors.{map_err_kept_keeps as kinds_stay};
@@ -37,8 +36,8 @@ pub struct MapErrKept<F, G, I, O, E, E2> {
 impl<F, G, I, O, E, E2> MapErrKept<F, G, I, O, E, E2> {
     #[inline(always)]
     pub(crate) fn new(parser: F, map: G) -> MapErrKept<F, G, I, O, E, E2>
-        ensures parser { map_err_kept_parser result ≡ parser }
-        ensures map { map_err_kept_closure result ≡ map }
+        ensures parser { result.parser ≡ parser }
+        ensures map { result.map ≡ map }
     {
         MapErrKept {
             parser,

@@ -6,7 +6,7 @@ ghost use Rattle.stream_errors.specs.Form.{modal};
 ghost use Rattle.winnow_core.specs.Exact.Adapters.{output_exact, output_fails};
 ghost use Rattle.winnow_core.specs.MakesOutput.Laws.{makes_output_ends, made_of_output};
 ghost use Rattle.winnow_core.specs.MakesOutput.Laws.{makes_output_grows};
-ghost use Rattle.winnow_core.specs.OutputInto.{OutputIntoRuns, output_into_parser};
+ghost use Rattle.winnow_core.specs.OutputInto.{OutputIntoRuns};
 ghost use Rattle.winnow_core.specs.Stable.Grows.{grows, stays};
 ghost use Rattle.winnow_core.specs.MakesOutput.Says.{OutputsMadeAlike, of_output_said};
 ghost use Rattle.winnow_core.specs.MakesOutput.Says.{of_output_says};
@@ -32,7 +32,7 @@ pub struct OutputInto<F, I, O, O2, E> {
 impl<F, I, O, O2, E> OutputInto<F, I, O, O2, E> {
     #[inline(always)]
     pub(crate) fn new(parser: F) -> OutputInto<F, I, O, O2, E>
-        ensures { output_into_parser result ≡ parser }
+        ensures { result.parser ≡ parser }
     {
         OutputInto {
             parser,

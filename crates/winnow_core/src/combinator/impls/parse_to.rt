@@ -6,7 +6,7 @@ ghost use Rattle.grammars.specs.Grammar.Unique.{made_of_takes};
 ghost use Rattle.stream_errors.specs.Form.{modal};
 ghost use Rattle.winnow_core.specs.Exact.Settled.{ReadsNone, ReadsSome, parse_to_exact};
 ghost use Rattle.winnow_core.specs.Exact.Settled.{parse_to_fails};
-ghost use Rattle.winnow_core.specs.ParseTo.{ParseToSettles, ParseToRuns, parse_to_parser};
+ghost use Rattle.winnow_core.specs.ParseTo.{ParseToSettles, ParseToRuns};
 ghost use Rattle.winnow_core.specs.Settles.Laws.{settles_ends, settles_grows};
 ghost use Rattle.winnow_core.specs.Stable.Grows.{grows, stays_beside};
 ghost use Rattle.winnow_core.specs.ParseTo.Says.{parse_to_said, parse_to_says};
@@ -33,7 +33,7 @@ pub struct ParseTo<F, I, O, O2, E> {
 impl<F, I, O, O2, E> ParseTo<F, I, O, O2, E> {
     #[inline(always)]
     pub(crate) fn new(parser: F) -> ParseTo<F, I, O, O2, E>
-        ensures { parse_to_parser result ≡ parser }
+        ensures { result.parser ≡ parser }
     {
         ParseTo {
             parser,

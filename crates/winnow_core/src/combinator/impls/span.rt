@@ -5,7 +5,7 @@ ghost use Rattle.grammars.specs.Grammar.Unique.{made_of_takes};
 ghost use Rattle.stream_errors.specs.Form.{modal};
 ghost use Rattle.winnow_core.specs.Exact.Adapters.{AnyPlaces, span_exact, span_fails};
 ghost use Rattle.winnow_core.specs.MakesOutput.Laws.{makes_output_ends, makes_output_grows};
-ghost use Rattle.winnow_core.specs.Span.{SpanRuns, span_parser, places};
+ghost use Rattle.winnow_core.specs.Span.{SpanRuns, places};
 ghost use Rattle.winnow_core.specs.Stable.Grows.{grows, stays};
 ghost use Rattle.winnow_core.specs.WithSpan.Says.{span_said, span_says};
 
@@ -32,7 +32,7 @@ pub struct Span<F, I, O, E> {
 impl<F, I, O, E> Span<F, I, O, E> {
     #[inline(always)]
     pub(crate) fn new(parser: F) -> Span<F, I, O, E>
-        ensures { span_parser result ≡ parser }
+        ensures { result.parser ≡ parser }
     {
         Span {
             parser,

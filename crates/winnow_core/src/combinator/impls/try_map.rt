@@ -11,8 +11,7 @@ ghost use Rattle.winnow_core.specs.Exact.Settled.{ErrorsKept, GivesErr, GivesOk,
 ghost use Rattle.winnow_core.specs.Exact.Settled.{try_map_fails};
 ghost use Rattle.winnow_core.specs.Settles.Laws.{settles_ends, settles_grows};
 ghost use Rattle.winnow_core.specs.Stable.Grows.{grows, stays};
-ghost use Rattle.winnow_core.specs.TryMap.{TryMapSettles, TryMapRuns, try_map_closure};
-ghost use Rattle.winnow_core.specs.TryMap.{try_map_parser};
+ghost use Rattle.winnow_core.specs.TryMap.{TryMapSettles, TryMapRuns};
 ghost use Rattle.winnow_core.specs.TryMap.Says.{try_map_said, try_map_says};
 
 use crate::parser::Parser;
@@ -38,8 +37,8 @@ pub struct TryMap<F, G, I, O, O2, E, E2> {
 impl<F, G, I, O, O2, E, E2> TryMap<F, G, I, O, O2, E, E2> {
     #[inline(always)]
     pub(crate) fn new(parser: F, map: G) -> TryMap<F, G, I, O, O2, E, E2>
-        ensures parser { try_map_parser result ≡ parser }
-        ensures map { try_map_closure result ≡ map }
+        ensures parser { result.parser ≡ parser }
+        ensures map { result.map ≡ map }
     {
         TryMap {
             parser,

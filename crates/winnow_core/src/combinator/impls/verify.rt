@@ -10,8 +10,7 @@ ghost use Rattle.winnow_core.specs.Exact.Settled.{Misses, settled_exact, verify_
 ghost use Rattle.winnow_core.specs.Exact.Settled.{verify_settler};
 ghost use Rattle.winnow_core.specs.Settles.Laws.{settles_ends, settles_grows};
 ghost use Rattle.winnow_core.specs.Stable.Grows.{grows, stays};
-ghost use Rattle.winnow_core.specs.Verify.{VerifySettles, VerifyRuns, verify_closure};
-ghost use Rattle.winnow_core.specs.Verify.{verify_parser};
+ghost use Rattle.winnow_core.specs.Verify.{VerifySettles, VerifyRuns};
 ghost use Rattle.winnow_core.specs.Verify.Says.{verify_said, verify_says};
 
 use crate::parser::Parser;
@@ -36,8 +35,8 @@ pub struct Verify<F, G, I, O, E> {
 impl<F, G, I, O, E> Verify<F, G, I, O, E> {
     #[inline(always)]
     pub(crate) fn new(parser: F, filter: G) -> Verify<F, G, I, O, E>
-        ensures parser { verify_parser result ≡ parser }
-        ensures filter { verify_closure result ≡ filter }
+        ensures parser { result.parser ≡ parser }
+        ensures filter { result.filter ≡ filter }
     {
         Verify {
             parser,

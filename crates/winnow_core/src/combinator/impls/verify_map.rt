@@ -7,7 +7,7 @@ ghost use Rattle.stream_errors.specs.Form.{modal};
 ghost use Rattle.winnow_core.specs.Closures.{Stays, GivesSome};
 ghost use Rattle.winnow_core.specs.Exact.Settled.{GivesNone, verify_map_exact, verify_map_fails};
 ghost use Rattle.winnow_core.specs.Stable.Grows.{grows, stays};
-ghost use Rattle.winnow_core.specs.VerifyMap.{VerifyMapRuns, verify_map_parser, verify_map_closure};
+ghost use Rattle.winnow_core.specs.VerifyMap.{VerifyMapRuns};
 ghost use Rattle.winnow_core.specs.VerifyMap.Laws.{verify_map_ends, verify_map_grows};
 ghost use Rattle.winnow_core.specs.VerifyMap.Says.{verify_map_said, verify_map_says};
 
@@ -33,8 +33,8 @@ pub struct VerifyMap<F, G, I, O, O2, E> {
 impl<F, G, I, O, O2, E> VerifyMap<F, G, I, O, O2, E> {
     #[inline(always)]
     pub(crate) fn new(parser: F, filter: G) -> VerifyMap<F, G, I, O, O2, E>
-        ensures parser { verify_map_parser result ≡ parser }
-        ensures filter { verify_map_closure result ≡ filter }
+        ensures parser { result.parser ≡ parser }
+        ensures filter { result.filter ≡ filter }
     {
         VerifyMap {
             parser,

@@ -5,7 +5,7 @@ ghost use Rattle.grammars.specs.Grammar.Unique.{made_of_takes};
 ghost use Rattle.stream_errors.specs.Form.{modal};
 ghost use Rattle.winnow_core.specs.Exact.Adapters.{void_exact, void_fails};
 ghost use Rattle.winnow_core.specs.Stable.Grows.{grows, stays};
-ghost use Rattle.winnow_core.specs.Void.{VoidRuns, void_parser};
+ghost use Rattle.winnow_core.specs.Void.{VoidRuns};
 ghost use Rattle.winnow_core.specs.Void.Laws.{void_ends, void_grows};
 ghost use Rattle.winnow_core.specs.Void.Says.{void_said, void_says};
 
@@ -29,7 +29,7 @@ pub struct Void<F, I, O, E> {
 impl<F, I, O, E> Void<F, I, O, E> {
     #[inline(always)]
     pub(crate) fn new(parser: F) -> Void<F, I, O, E>
-        ensures { void_parser result ≡ parser }
+        ensures { result.parser ≡ parser }
     {
         Void {
             parser,

@@ -7,7 +7,7 @@ ghost use Rattle.winnow_core.specs.Exact.Adapters.{WithPlaces, with_span_exact, 
 ghost use Rattle.winnow_core.specs.MakesOutput.Laws.{makes_output_ends, makes_output_grows};
 ghost use Rattle.winnow_core.specs.Span.{places};
 ghost use Rattle.winnow_core.specs.Stable.Grows.{grows, stays};
-ghost use Rattle.winnow_core.specs.WithSpan.{WithSpanRuns, with_span_parser};
+ghost use Rattle.winnow_core.specs.WithSpan.{WithSpanRuns};
 ghost use Rattle.winnow_core.specs.WithSpan.Says.{with_span_said, with_span_says};
 
 use crate::parser::Parser;
@@ -33,7 +33,7 @@ pub struct WithSpan<F, I, O, E> {
 impl<F, I, O, E> WithSpan<F, I, O, E> {
     #[inline(always)]
     pub(crate) fn new(parser: F) -> WithSpan<F, I, O, E>
-        ensures { with_span_parser result ≡ parser }
+        ensures { result.parser ≡ parser }
     {
         WithSpan {
             parser,

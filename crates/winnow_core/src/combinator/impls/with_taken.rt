@@ -6,7 +6,7 @@ ghost use Rattle.winnow_core.specs.Exact.Adapters.{and_taken_takes, with_taken_e
 ghost use Rattle.winnow_core.specs.Exact.Adapters.{with_taken_fails};
 ghost use Rattle.winnow_core.specs.MakesOutput.Laws.{makes_output_ends, makes_output_grows};
 ghost use Rattle.winnow_core.specs.Stable.Grows.{grows, stays};
-ghost use Rattle.winnow_core.specs.WithTaken.{WithTakenRuns, with_taken_parser};
+ghost use Rattle.winnow_core.specs.WithTaken.{WithTakenRuns};
 ghost use Rattle.winnow_core.specs.WithTaken.Laws.{made_with_taken};
 ghost use Rattle.winnow_core.specs.WithTaken.Says.{with_taken_said, with_taken_says};
 
@@ -32,7 +32,7 @@ pub struct WithTaken<F, I, O, E> {
 impl<F, I, O, E> WithTaken<F, I, O, E> {
     #[inline(always)]
     pub(crate) fn new(parser: F) -> WithTaken<F, I, O, E>
-        ensures { with_taken_parser result ≡ parser }
+        ensures { result.parser ≡ parser }
     {
         WithTaken {
             parser,

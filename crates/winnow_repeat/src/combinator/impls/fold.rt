@@ -10,7 +10,6 @@ ghost use Rattle.stream_errors.specs.Form.{answer_by, assert_kind, modal};
 ghost use Rattle.winnow_core.specs.Exact.Allowed.{fails_as, softly};
 ghost use Rattle.winnow_core.specs.Stable.Grows.{grows, stays};
 ghost use Rattle.winnow_repeat.specs.Fold.{FoldOneRuns, FoldTakes, RangedFolds, fold_closure};
-ghost use Rattle.winnow_repeat.specs.Fold.{fold_init, fold_occurrences, fold_parser};
 ghost use Rattle.winnow_repeat.specs.Fold.Exact.{fold_exact, fold_fails};
 ghost use Rattle.winnow_repeat.specs.Fold.Laws.{ranged_folds_end, fold_grows};
 ghost use Rattle.winnow_repeat.specs.Fold.Says.{fold_said, fold_says};
@@ -77,9 +76,9 @@ impl<P, G, H, I, O, R, E> RepeatFold<P, G, H, I, O, R, E> {
         init: G,
         op: H,
     ) -> RepeatFold<P, G, H, I, O, R, E>
-        ensures occurrences { fold_occurrences result ≡ occurrences }
-        ensures parser { fold_parser result ≡ parser }
-        ensures init { fold_init result ≡ init }
+        ensures occurrences { result.occurrences ≡ occurrences }
+        ensures parser { result.parser ≡ parser }
+        ensures init { result.init ≡ init }
         ensures op { fold_closure result ≡ op }
     {
         RepeatFold {

@@ -7,15 +7,13 @@ ghost use Rattle.grammars.specs.Grammar.{Repeated};
 ghost use Rattle.stream_errors.specs.Form.{answer_by, assert_kind, modal};
 ghost use Rattle.winnow_core.specs.Exact.Allowed.{fails_as, wanted, softly};
 ghost use Rattle.winnow_core.specs.Stable.Grows.{grows, stays};
-ghost use Rattle.winnow_repeat.specs.Fold.{fold_closure, fold_init, fold_occurrences, fold_parser};
+ghost use Rattle.winnow_repeat.specs.Fold.{fold_closure};
 ghost use Rattle.winnow_repeat.specs.Repeat.{RangedRuns, RepeatOneRuns, repeat_occurrences};
 ghost use Rattle.winnow_repeat.specs.Repeat.{repeat_parser};
 ghost use Rattle.winnow_repeat.specs.Repeat.Exact.{repeat_exact, repeat_fails, repeat_takes};
 ghost use Rattle.winnow_repeat.specs.Repeat.Laws.{ranged_ends, repeat_grows};
-ghost use Rattle.winnow_repeat.specs.TryFold.{try_fold_closure, try_fold_init};
-ghost use Rattle.winnow_repeat.specs.TryFold.{try_fold_occurrences, try_fold_parser};
-ghost use Rattle.winnow_repeat.specs.VerifyFold.{verify_fold_closure, verify_fold_init};
-ghost use Rattle.winnow_repeat.specs.VerifyFold.{verify_fold_occurrences, verify_fold_parser};
+ghost use Rattle.winnow_repeat.specs.TryFold.{try_fold_closure};
+ghost use Rattle.winnow_repeat.specs.VerifyFold.{verify_fold_closure};
 ghost use Rattle.winnow_repeat.specs.Repeat.Says.{repeat_said, repeat_says};
 
 use crate::combinator::impls::{RepeatFold, RepeatTryFold, RepeatVerifyFold};
@@ -65,9 +63,9 @@ impl<P: Parser<I, O, E>, I: Stream, O, E: ParserError<I>, A: Drop> Repeat<P, I, 
     where
         G: FnMut() -> R,
         H: FnMut(R, O) -> R,
-        ensures occurrences { fold_occurrences result ≡ repeat_occurrences self }
-        ensures parser { fold_parser result ≡ repeat_parser self }
-        ensures init { fold_init result ≡ init }
+        ensures occurrences { result.occurrences ≡ repeat_occurrences self }
+        ensures parser { result.parser ≡ repeat_parser self }
+        ensures init { result.init ≡ init }
         ensures op { fold_closure result ≡ op }
     {
         RepeatFold::new(self.occurrences, self.parser, init, op)
@@ -90,9 +88,9 @@ impl<P: Parser<I, O, E>, I: Stream, O, E: ParserError<I>, A: Drop> Repeat<P, I, 
     where
         G: FnMut() -> R,
         H: FnMut(R, O) -> Option<R>,
-        ensures occurrences { verify_fold_occurrences result ≡ repeat_occurrences self }
-        ensures parser { verify_fold_parser result ≡ repeat_parser self }
-        ensures init { verify_fold_init result ≡ init }
+        ensures occurrences { result.occurrences ≡ repeat_occurrences self }
+        ensures parser { result.parser ≡ repeat_parser self }
+        ensures init { result.init ≡ init }
         ensures op { verify_fold_closure result ≡ op }
     {
         RepeatVerifyFold::new(self.occurrences, self.parser, init, op)
@@ -118,9 +116,9 @@ impl<P: Parser<I, O, E>, I: Stream, O, E: ParserError<I>, A: Drop> Repeat<P, I, 
         G: FnMut() -> R,
         H: FnMut(R, O) -> Result<R, X>,
         E: FromExternalError<I, X>,
-        ensures occurrences { try_fold_occurrences result ≡ repeat_occurrences self }
-        ensures parser { try_fold_parser result ≡ repeat_parser self }
-        ensures init { try_fold_init result ≡ init }
+        ensures occurrences { result.occurrences ≡ repeat_occurrences self }
+        ensures parser { result.parser ≡ repeat_parser self }
+        ensures init { result.init ≡ init }
         ensures op { try_fold_closure result ≡ op }
     {
         RepeatTryFold::new(self.occurrences, self.parser, init, op)
