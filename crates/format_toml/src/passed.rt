@@ -4,6 +4,7 @@ ghost use Rattle.std.specs.Str.{chars};
 ghost use Rattle.format_parts.specs.Words.{Char};
 ghost use Rattle.format_toml.specs.Expected.{IsPast, MatchesAtStart};
 ghost use Rattle.format_toml.specs.Grammars.{AnyKey, AnyValue, Header, Line, Mark, Newline, Ws};
+ghost use Rattle.winnow.specs.Claim.{CanRead};
 ghost use Rattle.winnow.specs.Grammar.{NoMatch};
 
 use crate::keys::{Headers, Keys, read_header, read_key};
@@ -22,8 +23,7 @@ fn past<'i, O: Drop, P: Parser<&'i str, O, ErrMode<EmptyError>> + Drop>(
     parser: P,
     text: &'i str,
 ) -> Result<Option<&'i str>, ErrMode<EmptyError>>
-    requires { P.can_parse parser × (P.claim (P.state parser)).premise
-        × (P.claim (P.state parser)).backtracks }
+    requires { CanRead (P.can_parse parser) (P.claim (P.state parser)) }
     ensures { IfOk result (λ o. IsPast (P.claim (P.state parser)).grammar (chars text.now) o) }
 {
     let mut parser = parser;
@@ -46,8 +46,7 @@ fn skip<'i, O: Drop, P: Parser<&'i str, O, ErrMode<EmptyError>> + Drop>(
     parser: P,
     text: &'i str,
 ) -> Result<&'i str, ErrMode<EmptyError>>
-    requires { P.can_parse parser × (P.claim (P.state parser)).premise
-        × (P.claim (P.state parser)).backtracks }
+    requires { CanRead (P.can_parse parser) (P.claim (P.state parser)) }
     ensures { IfOk result
         (λ rest. MatchesAtStart (P.claim (P.state parser)).grammar (chars text.now)
         (chars rest.now)) }

@@ -18,6 +18,11 @@ pub record Claim (T O : Type 0) : Type 1 where
   -- which outputs match a prefix of the tokens, and the rest after each
   pub grammar : Grammar T O
 
+-- The precondition of `read`: the parser may be called, its grammar is specified, and its failures
+-- let others be tried.
+abbrev pub CanRead : {T O : Type 0} → Type 0 → Claim T O → Type 0
+CanRead callable claim = callable × claim.premise × claim.backtracks
+
 -- Runs from the state keep what is claimed.
 pub record Claimed {S T O : Type 0} (claim : Claim T O) (s : S) (meaning : Meaning S T O)
     : Type 0 where
