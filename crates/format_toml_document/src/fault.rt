@@ -206,8 +206,8 @@ fn located_at(bytes: &[u8], offset: usize) -> Location
 
 /// Returns where the innermost string, array or inline table begins that is not closed.
 fn opening(text: &str, stop: Stop<'_>) -> Option<Location>
-    ensures { IsUnclosed (chars text.now) (chars stop.rest.now) (text_of stop.unclosed)
-        → IsOpening text.now stop.rest.now result }
+    ensures { IsUnclosed (chars text.now) (chars stop.entry.rest.now)
+        (text_of stop.entry.unclosed) → IsOpening text.now stop.entry.rest.now result }
 {
     match stop.unclosed {
         Some(start) => Some(located(text, start)),

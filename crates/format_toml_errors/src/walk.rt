@@ -91,7 +91,7 @@ fn start_after<'i>(mode: Mode, start: &'i str, here: &'i str) -> &'i str
 /// Returns the text from the start of the innermost string, array or inline table that is not
 /// closed.
 fn unclosed_in<'i>(mode: Mode, start: &'i str, outer: Option<&'i str>) -> Option<&'i str>
-    ensures { text_of result ≡ unclosed_in mode (chars start.now) (text_of outer) }
+    ensures { text_of result ≡ unclosed_in mode (chars start.now) (text_of outer.entry) }
 {
     if is_in_string(mode) {
         Some(start)
@@ -119,7 +119,7 @@ fn at_end<'i>(
 ) -> Option<Stop<'i>>
     ensures { MatchOption result (ends_line mode held ≡ true)
         (λ stop. (ends_line mode held ≡ false) × (stop.rest.now ≡ rest.now)
-        × (stop.expected ≡ wanted mode held) × (stop.unclosed ≡ unclosed)) }
+        × (stop.expected ≡ wanted mode held) × (stop.unclosed ≡ unclosed.entry)) }
 {
     if ends_line(mode, held) {
         return None;
