@@ -54,8 +54,8 @@ code_of faults.OutOfMemory = no_memory
 abbrev pub HasNoError : TomlResult → Type 0
 HasNoError out = (out.error_offset ≡ 0) × (out.unclosed_offset ≡ 0) × (out.error ≡ 0)
 
--- `IsFaultOf code level bytes out`: `out` has the offsets and the number of an error of `bytes`, and
--- `code` reports it.
+-- `IsFaultOf code level bytes out`: `out` has the offsets and the number of an error of `bytes`,
+-- and `code` reports it.
 pub record IsFaultOf (code level : ℕ) (bytes : List ℕ) (out : TomlResult) : Type 0 where
   pub fault : TomlError
   pub is_code : code_of fault ≡ code

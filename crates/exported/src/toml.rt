@@ -62,7 +62,12 @@ fn write_fault(fault: TomlError, out: &mut TomlResult) -> u32
             at,
             expected,
             unclosed: Some(start),
-        } => (at.offset, start.offset, number_of_expected(expected), INVALID),
+        } => (
+            at.offset,
+            start.offset,
+            number_of_expected(expected),
+            INVALID,
+        ),
         TomlError::Unexpected { at, expected, .. } => {
             (at.offset, at.offset, number_of_expected(expected), INVALID)
         }

@@ -89,7 +89,7 @@ module _ (A : Type 0) (level : ℕ) (text : List ℕ) where
       → IsRefusal A level text fault told → IsErrorOf A level text told
   lines_told lines fault (faults.Invalid at why) stands refused (n, is, rest, before, after) =
       (lines, stands, (n, refused n why is, (rest, before, after)))
-  lines_told lines fault (faults.Unexpected at expected unclosed) stands refused never = absurd never
+  lines_told lines fault (faults.Unexpected at what start) stands refused never = absurd never
   lines_told lines fault (faults.NotUtf8 at) stands refused never = absurd never
   lines_told lines fault faults.OutOfMemory stands refused told = tt
 
@@ -105,7 +105,7 @@ module _ (A : Type 0) (level : ℕ) (text : List ℕ) where
       → IsDocument A level text tree → IsErrorOf A level text fault
       → (fault ≡ faults.OutOfMemory)
       ⊎ ((at : Location) × (why : Reason) × (fault ≡ faults.Invalid at why))
-  document_faults tree (faults.Unexpected at expected unclosed) utf8 (lines, stands, given) told =
+  document_faults tree (faults.Unexpected at what start) utf8 (lines, stands, given) told =
       absurd (told.0 lines stands)
   document_faults tree (faults.Invalid at why) utf8 is told = inr (at, why, refl)
   document_faults tree (faults.NotUtf8 at) utf8 is told = absurd (told.0 utf8)

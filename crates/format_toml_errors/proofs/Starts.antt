@@ -159,7 +159,8 @@ module _ {tokens left : List ℕ} {mode : Mode} {items : List Bracket}
 
 -- at the end of the text: it may end there or not
 module _ {level : ℕ} {tokens : List ℕ} (bytes : List ℕ) {mode : Mode} {items : List Bracket}
-    {places : List (Bor (List ℕ))} {start : List ℕ} (w : Walked level tokens (chars bytes) mode items)
+    {places : List (Bor (List ℕ))} {start : List ℕ}
+    (w : Walked level tokens (chars bytes) mode items)
     (u : Start tokens (chars bytes) mode items places start) (none : chars bytes ≡ [])
     (last : Option Bracket) (is : last ≡ slice_get items (length items - 1))
     (outer found : Option (Bor (List ℕ))) (outer_is : outer ≡ slice_get places (length places - 1))

@@ -81,11 +81,7 @@ fn continues(mode: Mode) -> bool
 fn start_after<'i>(mode: Mode, start: &'i str, here: &'i str) -> &'i str
     ensures { chars result.now ≡ start_after mode (chars start.now) (chars here.now) }
 {
-    if continues(mode) {
-        start
-    } else {
-        here
-    }
+    if continues(mode) { start } else { here }
 }
 
 /// Returns the text from the start of the innermost string, array or inline table that is not

@@ -9,20 +9,26 @@ use Rattle.format_toml_errors.proofs.walk.first_stop.Goals as goal
 pub returns-in-Invalid : goal.returns-in-Invalid
 returns-in-Invalid g c = (
   at_refused c.characters.invariant.1.1.0 c.in-Some.ensures c.copied-held.result
-    (c.copied-held.ensures ∙ c.last.ensures.value
-    ∙ ap (λ l. slice_get l (length l - 1)) c.deref.ensures.value) c.wanted_at-expected.result c.in-Invalid.ensures c.wanted_at-expected.ensures,
-  at_stop c.characters.invariant.1.1.1 c.copied.result _ (c.copied.ensures ∙ c.last-2.ensures.value
-    ∙ ap (λ l. slice_get l (length l - 1)) c.deref-2.ensures.value) c.unclosed_in.ensures,
+      (c.copied-held.ensures ∙ c.last.ensures.value
+      ∙ ap (λ l. slice_get l (length l - 1)) c.deref.ensures.value)
+      c.wanted_at-expected.result c.in-Invalid.ensures c.wanted_at-expected.ensures,
+  at_stop c.characters.invariant.1.1.1 c.copied.result _
+      (c.copied.ensures ∙ c.last-2.ensures.value
+      ∙ ap (λ l. slice_get l (length l - 1)) c.deref-2.ensures.value)
+      c.unclosed_in.ensures,
 )
 
 pub returns-then-len-level : goal.returns-then-len-level
 returns-then-len-level g c = (
   at_deep c.characters.invariant.1.1.0 c.in-Some.ensures c.copied-held.result
-    (c.copied-held.ensures ∙ c.last.ensures.value
-    ∙ ap (λ l. slice_get l (length l - 1)) c.deref.ensures.value) c.in-Opens.bracket c.in-Opens.ensures
+      (c.copied-held.ensures ∙ c.last.ensures.value
+      ∙ ap (λ l. slice_get l (length l - 1)) c.deref.ensures.value)
+      c.in-Opens.bracket c.in-Opens.ensures
       (omega (arith, c.if-len-level.true, c.len.ensures, c.characters.brackets.ok)),
-  at_stop c.characters.invariant.1.1.1 c.copied.result _ (c.copied.ensures ∙ c.last-2.ensures.value
-    ∙ ap (λ l. slice_get l (length l - 1)) c.deref-2.ensures.value) c.unclosed_in.ensures,
+  at_stop c.characters.invariant.1.1.1 c.copied.result _
+      (c.copied.ensures ∙ c.last-2.ensures.value
+      ∙ ap (λ l. slice_get l (length l - 1)) c.deref-2.ensures.value)
+      c.unclosed_in.ensures,
 )
 
 pub characters-preserved-in-Goes : goal.characters-preserved-in-Goes
@@ -30,11 +36,13 @@ characters-preserved-in-Goes g c = (
   search rules,
   search rules,
   on_goes c.characters.invariant.1.1.0 c.in-Some.ensures c.copied-held.result
-    (c.copied-held.ensures ∙ c.last.ensures.value
-    ∙ ap (λ l. slice_get l (length l - 1)) c.deref.ensures.value) c.in-Goes.next c.in-Goes.ensures,
+      (c.copied-held.ensures ∙ c.last.ensures.value
+      ∙ ap (λ l. slice_get l (length l - 1)) c.deref.ensures.value)
+      c.in-Goes.next c.in-Goes.ensures,
   goes c.characters.invariant.1.1.1 c.in-Some.ensures c.copied-held.result
-    (c.copied-held.ensures ∙ c.last.ensures.value
-    ∙ ap (λ l. slice_get l (length l - 1)) c.deref.ensures.value) _ c.start_after.ensures c.in-Goes.next c.in-Goes.ensures,
+      (c.copied-held.ensures ∙ c.last.ensures.value
+      ∙ ap (λ l. slice_get l (length l - 1)) c.deref.ensures.value)
+      _ c.start_after.ensures c.in-Goes.next c.in-Goes.ensures,
 )
 
 pub characters-preserved-in_ok-push-in-Opens-2 : goal.characters-preserved-in_ok-push-in-Opens-2
@@ -42,8 +50,9 @@ characters-preserved-in_ok-push-in-Opens-2 g c = (
   search rules,
   search rules,
   on_opens c.characters.invariant.1.1.0 c.in-Some.ensures c.copied-held.result
-    (c.copied-held.ensures ∙ c.last.ensures.value
-    ∙ ap (λ l. slice_get l (length l - 1)) c.deref.ensures.value) c.in-Opens.bracket _ _ c.in-Opens.ensures
+      (c.copied-held.ensures ∙ c.last.ensures.value
+      ∙ ap (λ l. slice_get l (length l - 1)) c.deref.ensures.value)
+      c.in-Opens.bracket _ _ c.in-Opens.ensures
       (λ most. omega (
         arith,
         most,
@@ -53,8 +62,9 @@ characters-preserved-in_ok-push-in-Opens-2 g c = (
       ))
       (search rules) c.in_ok-push-in-Opens.ensures.items,
   opens c.characters.invariant.1.1.1 c.in-Some.ensures c.copied-held.result
-    (c.copied-held.ensures ∙ c.last.ensures.value
-    ∙ ap (λ l. slice_get l (length l - 1)) c.deref.ensures.value) _ c.start_after.ensures c.in-Opens.bracket _ _ c.characters.left _ c.in-Opens.ensures
+      (c.copied-held.ensures ∙ c.last.ensures.value
+      ∙ ap (λ l. slice_get l (length l - 1)) c.deref.ensures.value)
+      _ c.start_after.ensures c.in-Opens.bracket _ _ c.characters.left _ c.in-Opens.ensures
       (search rules) c.in_ok-push-in-Opens.ensures.items refl
       c.in_ok-push-in-Opens-2.ensures.items,
 )
@@ -75,12 +85,14 @@ characters-preserved-in-Closes g c =
       search rules,
       search rules,
       on_closes w c.in-Some.ensures c.copied-held.result
-    (c.copied-held.ensures ∙ c.last.ensures.value
-    ∙ ap (λ l. slice_get l (length l - 1)) c.deref.ensures.value) c.pop.new.self.items c.in-Closes.ensures others,
+          (c.copied-held.ensures ∙ c.last.ensures.value
+          ∙ ap (λ l. slice_get l (length l - 1)) c.deref.ensures.value)
+          c.pop.new.self.items c.in-Closes.ensures others,
       closes u c.in-Some.ensures c.copied-held.result
-    (c.copied-held.ensures ∙ c.last.ensures.value
-    ∙ ap (λ l. slice_get l (length l - 1)) c.deref.ensures.value) _ c.start_after.ensures c.pop.new.self.items c.pop-2.new.self.items c.in-Closes.ensures same
-          placed,
+          (c.copied-held.ensures ∙ c.last.ensures.value
+          ∙ ap (λ l. slice_get l (length l - 1)) c.deref.ensures.value)
+          _ c.start_after.ensures c.pop.new.self.items c.pop-2.new.self.items c.in-Closes.ensures
+          same placed,
     )
 
 pub characters-preserved : goal.characters-preserved
@@ -88,16 +100,19 @@ characters-preserved g c = (
   search rules,
   search rules,
   on_ends c.characters.invariant.1.1.0 c.in-Some.ensures c.copied-held.result
-    (c.copied-held.ensures ∙ c.last.ensures.value
-    ∙ ap (λ l. slice_get l (length l - 1)) c.deref.ensures.value) c.in-Ends.ensures,
+      (c.copied-held.ensures ∙ c.last.ensures.value
+      ∙ ap (λ l. slice_get l (length l - 1)) c.deref.ensures.value)
+      c.in-Ends.ensures,
   ends c.characters.invariant.1.1.1 c.in-Some.ensures c.copied-held.result
-    (c.copied-held.ensures ∙ c.last.ensures.value
-    ∙ ap (λ l. slice_get l (length l - 1)) c.deref.ensures.value) _ c.start_after.ensures c.in-Ends.ensures,
+      (c.copied-held.ensures ∙ c.last.ensures.value
+      ∙ ap (λ l. slice_get l (length l - 1)) c.deref.ensures.value)
+      _ c.start_after.ensures c.in-Ends.ensures,
 )
 
 pub returns : goal.returns
 returns g c =
-    at_last c.characters.left.now c.characters.invariant.1.1.0 c.characters.invariant.1.1.1 c.in_default.ensures c.copied-3.result
+    at_last c.characters.left.now c.characters.invariant.1.1.0 c.characters.invariant.1.1.1
+    c.in_default.ensures c.copied-3.result
     (c.copied-3.ensures ∙ c.last-3.ensures.value
     ∙ ap (λ l. slice_get l (length l - 1)) c.deref-3.ensures.value)
     c.copied-2.result c.unclosed_in-2.result
