@@ -95,7 +95,7 @@ FAULTS = [
         ("first and next of a node are swapped", "struct pergidau_toml_node {", "size_t first;\n    /* The number of the next node in the same table or array, or 0 where there is none. */\n    size_t next;", "size_t next;\n    size_t first;"),
         ("month and day are swapped", "struct pergidau_toml_value {", "uint8_t month;\n    /* The day of a date, from 1 to the last of its month. */\n    uint8_t day;", "uint8_t day;\n    uint8_t month;"),
         ("tables and arrays are swapped", "enum pergidau_toml_kind", "PERGIDAU_TOML_TABLE = 0,\n    /* An array, of values or of tables. */\n    PERGIDAU_TOML_ARRAY = 1,", "PERGIDAU_TOML_TABLE = 1,\n    PERGIDAU_TOML_ARRAY = 0,"),
-        ("a TOML error has a wrong number", "enum pergidau_toml_error", "PERGIDAU_TOML_ERROR_CLOSED = 9,", "PERGIDAU_TOML_ERROR_CLOSED = 11,"),
+        ("a TOML error has a wrong number", "enum pergidau_toml_error", "PERGIDAU_TOML_ERROR_CLOSED = 43,", "PERGIDAU_TOML_ERROR_CLOSED = 45,"),
         ("the maximum depth is too small", "PERGIDAU_MAX_DEPTH 512", "512", "511"),
         ("a status code is truncated", "struct pergidau_response_head {", "uint16_t status;", "uint8_t status;"),
         ("fields and length of a response are swapped", "struct pergidau_response_head {", "size_t fields;\n    /* The length of the head in bytes, including the empty line after the fields. */\n    size_t length;", "size_t length;\n    size_t fields;"),
@@ -184,7 +184,7 @@ FAULTS = [
     ),
     *of(
         RUST + "toml.rs",
-        ("a TOML error is wrong (Rust)", "match out.error", "exports::TOML_ERROR_KEY => Expected::Key", "exports::TOML_ERROR_KEY => Expected::Value"),
+        ("a TOML error is wrong (Rust)", "match out.error", "exports::TOML_ERROR_EQUALS_SIGN => Expected::EqualsSign", "exports::TOML_ERROR_EQUALS_SIGN => Expected::Value"),
         ("a reason of a TOML error is wrong", "match out.error", "Reason::NotAnArrayOfTables)", "Reason::NotATable)"),
         ("required nodes and bytes are swapped", "let required", "entries: out.nodes, bytes: out.text", "entries: out.text, bytes: out.nodes"),
         ("an element has a name", "pub fn name", "&& !node.is_element", ""),

@@ -18,4 +18,5 @@ pub mod Pieces
 pub mod Resp
 pub mod Span
 pub mod Toml
+pub mod TomlErrors
 pub mod Turns

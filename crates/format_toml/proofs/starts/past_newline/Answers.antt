@@ -1,4 +1,4 @@
-use Rattle.format_toml.proofs.passed.past_newline.Goals as goal
+use Rattle.format_toml.proofs.starts.past_newline.Goals as goal
 
 pub returns : goal.returns
 returns c =
