@@ -10,7 +10,7 @@ ghost use Rattle.format_http_places.specs.Extents.{HeadResult, IsLed, IsOf, Says
 ghost use Rattle.format_http_places.specs.States.{IsIn, TextOf};
 
 use crate::parts::{HeadKind, HeadPart, Invalid};
-use crate::state::{HeadPlace, place_after, run_len, start};
+use crate::state::{HeadPlace, place_after, run_len};
 use crate::stop::behind;
 
 /// The state of the search for the end of a head. Its fields can be stored anywhere, and an extent
@@ -62,7 +62,7 @@ pub(crate) fn part_after(kind: HeadKind, before: &[u8]) -> HeadPart
     requires { (more : List ℕ) × TextOf kind (before.now ++ more) [] }
     ensures { IsIn kind before.now result }
 {
-    let (place, _) = walk(start(kind), before);
+    let (place, _) = walk(HeadPlace::start(kind), before);
     place.part()
 }
 
@@ -80,7 +80,7 @@ impl HeadExtent {
     {
         HeadExtent {
             passed: 0,
-            place: start(kind),
+            place: HeadPlace::start(kind),
         }
     }
 

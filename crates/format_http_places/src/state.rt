@@ -72,6 +72,23 @@ pub enum HeadPlace {
 }
 
 impl HeadPlace {
+    /// Returns the state at the start of a head.
+    ///
+    /// ```
+    /// use format_http_places::parts::HeadKind;
+    /// use format_http_places::state::HeadPlace;
+    ///
+    /// assert!(rt; HeadPlace::start(HeadKind::Request) == HeadPlace::Start);
+    /// ```
+    pub fn start(kind: HeadKind) -> HeadPlace
+        ensures { result ≡ start_of kind }
+    {
+        match kind {
+            HeadKind::Request => HeadPlace::Start,
+            HeadKind::Response => HeadPlace::Version(HeadKind::Response),
+        }
+    }
+
     /// Returns the part of the head that the next byte is in. After a head it is
     /// [`HeadPart::LineEnding`].
     ///
@@ -106,17 +123,6 @@ impl HeadPlace {
             HeadPlace::Return | HeadPlace::LineFeed | HeadPlace::LastLineFeed | HeadPlace::Done =>
                 HeadPart::LineEnding,
         }
-    }
-}
-
-/// Returns the state at the start of a head.
-#[inline(always)]
-pub(crate) fn start(kind: HeadKind) -> HeadPlace
-    ensures { result ≡ start_of kind }
-{
-    match kind {
-        HeadKind::Request => HeadPlace::Start,
-        HeadKind::Response => HeadPlace::Version(HeadKind::Response),
     }
 }
 
