@@ -1,6 +1,7 @@
 //! Where heads end, at every cut and in many pieces.
 use crate::heads::{HEADS, NO_HEADS, next, same};
 use crate::responses;
+use std::alloc::Global;
 use std::process::Abort;
 use format_http_places::extent::HeadExtent;
 use format_http_places::parts::{HeadKind, HeadPart, Invalid};
@@ -91,10 +92,10 @@ fn wanted(read: Result<usize, HeadError>) -> Result<Option<usize>, Invalid> {
 }
 
 /// A text with some bytes replaced at random, and a place in it.
-fn changed(rt: &HostRuntime, row: &[u8], state: &mut u32) -> (Vec<u8>, usize) {
+fn changed(rt: &impl Abort, alloc: Global, row: &[u8], state: &mut u32) -> (Vec<u8>, usize) {
     let bytes = b"\r\n \t:aG/1.\x7f\x00\xff,H".as_slice();
-    let mut text = Vec::new(rt.alloc());
-    assert!(*rt; text.extend_from_slice(row).is_ok());
+    let mut text = Vec::new(alloc);
+    assert!(rt; text.extend_from_slice(row).is_ok());
     for _ in 0..*state % 3 {
         *state = next(*state);
         let place = (*state >> 8) as usize % text.len();
@@ -112,14 +113,14 @@ fn advance_as_heads_are_read(rt: HostRuntime) {
     let mut state = 7u32;
     for row in HEADS {
         for _ in 0..400u32 {
-            let (text, cut) = changed(&rt, row.0, &mut state);
+            let (text, cut) = changed(&rt, rt.alloc(), row.0, &mut state);
             let read = read_head_into(&text, &mut [NO_FIELD; 8]).map(|head| head.length);
             same(&rt, row.0, in_two(HeadKind::Request, &text, cut), wanted(read));
         }
     }
     for row in responses::HEADS {
         for _ in 0..400u32 {
-            let (text, cut) = changed(&rt, row.0, &mut state);
+            let (text, cut) = changed(&rt, rt.alloc(), row.0, &mut state);
             let read = read_response_head_into(&text, &mut [NO_FIELD; 8]).map(|head| head.length);
             same(&rt, row.0, in_two(HeadKind::Response, &text, cut), wanted(read));
         }

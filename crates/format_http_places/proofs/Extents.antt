@@ -169,8 +169,8 @@ tells k new bytes left it (Ok None) stopped (not, none) =
     wanting_of k bytes (stops_at (TextOf k) (Due new.place) bytes it.front left 0 it.behind
     (live_at new.place) (subst P (sym none) (none_at_end new.place not)) it.splits
     (sym (ap (λ l. length l) none)))
-tells k new bytes [] it (Err refused) stopped (not, some, at) = absurd (omega (arith, some))
-tells k new bytes (b ∷ more) it (Err refused) (inl done) (not, some, at) = absurd (not done)
+tells k new bytes [] it (Err refused) stopped (not, some, at, is) = absurd (omega (arith, some))
+tells k new bytes (b ∷ more) it (Err refused) (inl done) (not, some, at, is) = absurd (not done)
 tells k new bytes (b ∷ more) it (Err refused) (inr never) (not, some, at, is) =
     let left = b ∷ more in
     let passed : length it.front ≡ refused.place = it.size ∙ sym at in

@@ -99,7 +99,7 @@ impl HeadPlace {
     /// assert!(rt; HeadPlace::Tens.part() == HeadPart::StatusCode);
     /// ```
     pub fn part(self) -> HeadPart
-        ensures { result ≡ part_of self.old }
+        ensures { result ≡ part_of self }
     {
         match self {
             HeadPlace::Start | HeadPlace::Method => HeadPart::Method,
