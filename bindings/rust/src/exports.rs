@@ -476,8 +476,9 @@ pub struct ChunkedStep {
     pub error: u32,
 }
 
-/// The state of a search for the end of the head of a request or a response. Only the functions of this library
-/// may interpret its fields. All zeros is the initial state; start from it for each head.
+/// The state of a search for the end of the head of a request or a response. Only the functions of
+/// this library may interpret its fields. All zeros is the initial state; start from it for each
+/// head.
 #[repr(C)]
 #[derive(Clone, Copy, Debug, Default, PartialEq, Eq)]
 pub struct HttpHeadState {
@@ -915,8 +916,8 @@ extern "C" {
     /// # Errors
     ///
     /// `INVALID`: `bytes` does not start with a head, regardless of what follows. The offset of the
-    /// first invalid byte is written, and why it is invalid: the bytes before it are a prefix of a head,
-    /// and together with the byte there they are not.
+    /// first invalid byte is written, and why it is invalid: the bytes before it are a prefix of a
+    /// head, and together with the byte there they are not.
     ///
     /// `BUFFER_TOO_SMALL`: as for complete input.
     ///
@@ -1045,8 +1046,8 @@ extern "C" {
     /// Finds the end of the head of an HTTP/1.1 request (RFC 9112) in input that arrives in chunks.
     ///
     /// No call looks again at bytes that an earlier call scanned, so all calls for a head take time
-    /// linear in its length. To obtain the parts of the head, pass its bytes to `exported_http_head`; to
-    /// obtain the reason of an error, pass all bytes to `exported_http_head_partial`.
+    /// linear in its length. To obtain the parts of the head, pass its bytes to `exported_http_head`;
+    /// to obtain the reason of an error, pass all bytes to `exported_http_head_partial`.
     ///
     /// For the first call, `state` must be all zeros. Each further call for the same head must have the
     /// state that the previous call left, and the bytes of the previous call followed by more bytes.
@@ -1078,8 +1079,8 @@ extern "C" {
 
     /// Finds the end of the head of an HTTP/1.1 response (RFC 9112) in input that arrives in chunks, as
     /// `exported_http_head_extent` does for requests, with a state of its own. To obtain the parts of
-    /// the head, pass its bytes to `exported_http_response_head`; to obtain the reason of an error, pass
-    /// all bytes to `exported_http_response_head_partial`.
+    /// the head, pass its bytes to `exported_http_response_head`; to obtain the reason of an error,
+    /// pass all bytes to `exported_http_response_head_partial`.
     ///
     /// For the first call, `state` must be all zeros. Each further call for the same head must have the
     /// state that the previous call left, and the bytes of the previous call followed by more bytes.
@@ -1181,8 +1182,8 @@ extern "C" {
     /// # Errors
     ///
     /// `INVALID`: `bytes` does not start with a head, regardless of what follows. The offset of the
-    /// first invalid byte is written, and why it is invalid: the bytes before it are a prefix of a head,
-    /// and together with the byte there they are not.
+    /// first invalid byte is written, and why it is invalid: the bytes before it are a prefix of a
+    /// head, and together with the byte there they are not.
     ///
     /// `BUFFER_TOO_SMALL`: as for complete input.
     ///

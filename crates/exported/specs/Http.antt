@@ -48,8 +48,8 @@ HasNoParts head = (head.method ≡ record { offset = 0; length = 0 })
     × (head.target ≡ record { offset = 0; length = 0 }) × (head.length ≡ 0)
     × (head.major ≡ 0) × (head.minor ≡ 0)
 
--- `bytes` does not start with a head: `place` is the first offset at which no head can continue, and
--- `error` its part of the head; or `bytes` ends at `place` within a head, and `error` says so.
+-- `bytes` does not start with a head: `place` is the first offset at which no head can continue,
+-- and `error` its part of the head; or `bytes` ends at `place` within a head, and `error` is 9.
 abbrev pub IsNoHead : List ℕ → ℕ → ℕ → Type 0
 IsNoHead bytes place error = (IsRefused bytes place × HasPart kind.Request bytes place error)
     ⊎ ((place ≡ length bytes) × BeginsHead bytes × NoneRead bytes × (error ≡ 9))

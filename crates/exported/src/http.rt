@@ -155,8 +155,8 @@ pub extern "C" fn exported_http_head(bytes: &[u8], fields: &mut [Field], out: &m
 /// # Errors
 ///
 /// `INVALID`: `bytes` does not start with a head, regardless of what follows. The offset of the
-/// first invalid byte is written, and why it is invalid: the bytes before it are a prefix of a head,
-/// and together with the byte there they are not.
+/// first invalid byte is written, and why it is invalid: the bytes before it are a prefix of a
+/// head, and together with the byte there they are not.
 ///
 /// `BUFFER_TOO_SMALL`: as for complete input.
 ///

@@ -21,9 +21,9 @@ use Rattle.format_http_places.specs.declared.state.HeadPlace.TheVariants as plac
 abbrev pub IsNever : HeadPlace → ℕ → Type 0
 IsNever at b = (more rest : List ℕ) → Due at (b ∷ more) rest → ⊥
 
--- `IsOf kind extent bytes`: the extent is of `bytes`, or of a prefix of them. It has passed `front`,
--- and for any continuation of `front` the whole starts with a head of this kind if and only if the
--- continuation is accepted in its state.
+-- `IsOf kind extent bytes`: the extent is of `bytes`, or of a prefix of them. It has passed
+-- `front`, and for any continuation of `front` the whole starts with a head of this kind if and
+-- only if the continuation is accepted in its state.
 pub record IsOf (k : HeadKind) (extent : HeadExtent) (bytes : List ℕ) : Type 0 where
   pub front : List ℕ
   pub left : List ℕ

@@ -13,8 +13,9 @@ use format_http_places::extent::HeadExtent;
 use format_http_places::parts::HeadKind;
 use format_http_places::state::HeadPlace;
 
-/// The state of a search for the end of the head of a request or a response. Only the functions of this library
-/// may interpret its fields. All zeros is the initial state; start from it for each head.
+/// The state of a search for the end of the head of a request or a response. Only the functions of
+/// this library may interpret its fields. All zeros is the initial state; start from it for each
+/// head.
 #[repr(C)]
 #[derive(Clone, Copy, Drop)]
 pub struct HttpHeadState {
@@ -154,8 +155,8 @@ fn find_end(kind: HeadKind, state: &mut HttpHeadState, bytes: &[u8], out: &mut u
 /// Finds the end of the head of an HTTP/1.1 request (RFC 9112) in input that arrives in chunks.
 ///
 /// No call looks again at bytes that an earlier call scanned, so all calls for a head take time
-/// linear in its length. To obtain the parts of the head, pass its bytes to `exported_http_head`; to
-/// obtain the reason of an error, pass all bytes to `exported_http_head_partial`.
+/// linear in its length. To obtain the parts of the head, pass its bytes to `exported_http_head`;
+/// to obtain the reason of an error, pass all bytes to `exported_http_head_partial`.
 ///
 /// For the first call, `state` must be all zeros. Each further call for the same head must have the
 /// state that the previous call left, and the bytes of the previous call followed by more bytes.
@@ -194,8 +195,8 @@ pub extern "C" fn exported_http_head_extent(
 
 /// Finds the end of the head of an HTTP/1.1 response (RFC 9112) in input that arrives in chunks, as
 /// `exported_http_head_extent` does for requests, with a state of its own. To obtain the parts of
-/// the head, pass its bytes to `exported_http_response_head`; to obtain the reason of an error, pass
-/// all bytes to `exported_http_response_head_partial`.
+/// the head, pass its bytes to `exported_http_response_head`; to obtain the reason of an error,
+/// pass all bytes to `exported_http_response_head_partial`.
 ///
 /// For the first call, `state` must be all zeros. Each further call for the same head must have the
 /// state that the previous call left, and the bytes of the previous call followed by more bytes.

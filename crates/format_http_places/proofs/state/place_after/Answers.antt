@@ -31,46 +31,53 @@ returns-in-Target c = step_at c.args.place place.Target c.args.byte c.or_run-in-
     c.or_run-in-Target.result c.or_run-in-Target.ensures)
 
 pub returns-in-Version : goal.returns-in-Version
-returns-in-Version c = step_at c.args.place (place.Version c.in-Version.kind) c.args.byte c.only.result
-    c.in-Version.is (step_only (place.Version c.in-Version.kind) (place.AfterH c.in-Version.kind) c.args.byte 72
-    (behind_byte 72 (Due (place.AfterH c.in-Version.kind))) (none_byte 72 (Due (place.AfterH c.in-Version.kind)) (c.args.byte ∷ []))
+returns-in-Version c =
+    let at = place.Version c.in-Version.kind in let next = place.AfterH c.in-Version.kind in
+    step_at c.args.place at c.args.byte c.only.result c.in-Version.is (step_only at next
+    c.args.byte 72 (behind_byte 72 (Due next)) (none_byte 72 (Due next) (c.args.byte ∷ []))
     c.only.result c.only.ensures)
 
 pub returns-in-AfterH : goal.returns-in-AfterH
-returns-in-AfterH c = step_at c.args.place (place.AfterH c.in-AfterH.kind) c.args.byte c.only-in-AfterH.result
-    c.in-AfterH.is (step_only (place.AfterH c.in-AfterH.kind) (place.AfterT c.in-AfterH.kind) c.args.byte 84
-    (behind_byte 84 (Due (place.AfterT c.in-AfterH.kind))) (none_byte 84 (Due (place.AfterT c.in-AfterH.kind)) (c.args.byte ∷ []))
+returns-in-AfterH c =
+    let at = place.AfterH c.in-AfterH.kind in let next = place.AfterT c.in-AfterH.kind in
+    step_at c.args.place at c.args.byte c.only-in-AfterH.result c.in-AfterH.is (step_only at next
+    c.args.byte 84 (behind_byte 84 (Due next)) (none_byte 84 (Due next) (c.args.byte ∷ []))
     c.only-in-AfterH.result c.only-in-AfterH.ensures)
 
 pub returns-in-AfterT : goal.returns-in-AfterT
-returns-in-AfterT c = step_at c.args.place (place.AfterT c.in-AfterT.kind) c.args.byte c.only-in-AfterT.result
-    c.in-AfterT.is (step_only (place.AfterT c.in-AfterT.kind) (place.AfterTT c.in-AfterT.kind) c.args.byte 84
-    (behind_byte 84 (Due (place.AfterTT c.in-AfterT.kind))) (none_byte 84 (Due (place.AfterTT c.in-AfterT.kind)) (c.args.byte ∷ []))
+returns-in-AfterT c =
+    let at = place.AfterT c.in-AfterT.kind in let next = place.AfterTT c.in-AfterT.kind in
+    step_at c.args.place at c.args.byte c.only-in-AfterT.result c.in-AfterT.is (step_only at next
+    c.args.byte 84 (behind_byte 84 (Due next)) (none_byte 84 (Due next) (c.args.byte ∷ []))
     c.only-in-AfterT.result c.only-in-AfterT.ensures)
 
 pub returns-in-AfterTT : goal.returns-in-AfterTT
-returns-in-AfterTT c = step_at c.args.place (place.AfterTT c.in-AfterTT.kind) c.args.byte c.only-in-AfterTT.result
-    c.in-AfterTT.is (step_only (place.AfterTT c.in-AfterTT.kind) (place.AfterP c.in-AfterTT.kind) c.args.byte 80
-    (behind_byte 80 (Due (place.AfterP c.in-AfterTT.kind))) (none_byte 80 (Due (place.AfterP c.in-AfterTT.kind)) (c.args.byte ∷ []))
-    c.only-in-AfterTT.result c.only-in-AfterTT.ensures)
+returns-in-AfterTT c =
+    let at = place.AfterTT c.in-AfterTT.kind in let next = place.AfterP c.in-AfterTT.kind in
+    step_at c.args.place at c.args.byte c.only-in-AfterTT.result c.in-AfterTT.is (step_only at
+    next c.args.byte 80 (behind_byte 80 (Due next)) (none_byte 80 (Due next) (c.args.byte ∷
+    [])) c.only-in-AfterTT.result c.only-in-AfterTT.ensures)
 
 pub returns-in-AfterP : goal.returns-in-AfterP
-returns-in-AfterP c = step_at c.args.place (place.AfterP c.in-AfterP.kind) c.args.byte c.only-in-AfterP.result
-    c.in-AfterP.is (step_only (place.AfterP c.in-AfterP.kind) (place.Major c.in-AfterP.kind) c.args.byte 47
-    (behind_byte 47 (Due (place.Major c.in-AfterP.kind))) (none_byte 47 (Due (place.Major c.in-AfterP.kind)) (c.args.byte ∷ []))
+returns-in-AfterP c =
+    let at = place.AfterP c.in-AfterP.kind in let next = place.Major c.in-AfterP.kind in
+    step_at c.args.place at c.args.byte c.only-in-AfterP.result c.in-AfterP.is (step_only at next
+    c.args.byte 47 (behind_byte 47 (Due next)) (none_byte 47 (Due next) (c.args.byte ∷ []))
     c.only-in-AfterP.result c.only-in-AfterP.ensures)
 
 pub returns-in-Major : goal.returns-in-Major
-returns-in-Major c = step_at c.args.place (place.Major c.in-Major.kind) c.args.byte c.then_some-in-Major.result
-    c.in-Major.is (digit_step (place.Major c.in-Major.kind) (place.Point c.in-Major.kind) c.args.byte
-    (behind_one IsDigit c.args.byte (Due (place.Point c.in-Major.kind)))
-    (none_one IsDigit (Due (place.Point c.in-Major.kind)) (c.args.byte ∷ []))
-    c.is_digit.result c.is_digit.ensures c.then_some-in-Major.result c.then_some-in-Major.ensures)
+returns-in-Major c =
+    let at = place.Major c.in-Major.kind in let next = place.Point c.in-Major.kind in
+    step_at c.args.place at c.args.byte c.then_some-in-Major.result c.in-Major.is (digit_step at
+    next c.args.byte (behind_one IsDigit c.args.byte (Due next)) (none_one IsDigit (Due next)
+    (c.args.byte ∷ [])) c.is_digit.result c.is_digit.ensures c.then_some-in-Major.result
+    c.then_some-in-Major.ensures)
 
 pub returns-in-Point : goal.returns-in-Point
-returns-in-Point c = step_at c.args.place (place.Point c.in-Point.kind) c.args.byte c.only-in-Point.result
-    c.in-Point.is (step_only (place.Point c.in-Point.kind) (place.Minor c.in-Point.kind) c.args.byte 46
-    (behind_byte 46 (Due (place.Minor c.in-Point.kind))) (none_byte 46 (Due (place.Minor c.in-Point.kind)) (c.args.byte ∷ []))
+returns-in-Point c =
+    let at = place.Point c.in-Point.kind in let next = place.Minor c.in-Point.kind in
+    step_at c.args.place at c.args.byte c.only-in-Point.result c.in-Point.is (step_only at next
+    c.args.byte 46 (behind_byte 46 (Due next)) (none_byte 46 (Due next) (c.args.byte ∷ []))
     c.only-in-Point.result c.only-in-Point.ensures)
 
 pub returns-in-Minor : goal.returns-in-Minor
@@ -93,25 +100,28 @@ returns-in-Space c = step_at c.args.place place.Space c.args.byte c.only-in-Spac
     c.only-in-Space.result c.only-in-Space.ensures)
 
 pub returns-in-Hundreds : goal.returns-in-Hundreds
-returns-in-Hundreds c = step_at c.args.place place.Hundreds c.args.byte c.then_some-in-Hundreds.result
-    c.in-Hundreds.is (digit_step place.Hundreds place.Tens c.args.byte
-    (behind_one IsDigit c.args.byte (Due place.Tens))
-    (none_one IsDigit (Due place.Tens) (c.args.byte ∷ []))
-    c.is_digit-in-Hundreds.result c.is_digit-in-Hundreds.ensures c.then_some-in-Hundreds.result c.then_some-in-Hundreds.ensures)
+returns-in-Hundreds c =
+    step_at c.args.place place.Hundreds c.args.byte c.then_some-in-Hundreds.result
+    c.in-Hundreds.is (digit_step place.Hundreds place.Tens c.args.byte (behind_one IsDigit
+    c.args.byte (Due place.Tens)) (none_one IsDigit (Due place.Tens) (c.args.byte ∷ []))
+    c.is_digit-in-Hundreds.result c.is_digit-in-Hundreds.ensures c.then_some-in-Hundreds.result
+    c.then_some-in-Hundreds.ensures)
 
 pub returns-in-Tens : goal.returns-in-Tens
-returns-in-Tens c = step_at c.args.place place.Tens c.args.byte c.then_some-in-Tens.result
-    c.in-Tens.is (digit_step place.Tens place.Ones c.args.byte
-    (behind_one IsDigit c.args.byte (Due place.Ones))
-    (none_one IsDigit (Due place.Ones) (c.args.byte ∷ []))
-    c.is_digit-in-Tens.result c.is_digit-in-Tens.ensures c.then_some-in-Tens.result c.then_some-in-Tens.ensures)
+returns-in-Tens c =
+    step_at c.args.place place.Tens c.args.byte c.then_some-in-Tens.result c.in-Tens.is
+    (digit_step place.Tens place.Ones c.args.byte (behind_one IsDigit c.args.byte (Due
+    place.Ones)) (none_one IsDigit (Due place.Ones) (c.args.byte ∷ []))
+    c.is_digit-in-Tens.result c.is_digit-in-Tens.ensures c.then_some-in-Tens.result
+    c.then_some-in-Tens.ensures)
 
 pub returns-in-Ones : goal.returns-in-Ones
-returns-in-Ones c = step_at c.args.place place.Ones c.args.byte c.then_some-in-Ones.result
-    c.in-Ones.is (digit_step place.Ones place.AfterCode c.args.byte
-    (behind_one IsDigit c.args.byte (Due place.AfterCode))
-    (none_one IsDigit (Due place.AfterCode) (c.args.byte ∷ []))
-    c.is_digit-in-Ones.result c.is_digit-in-Ones.ensures c.then_some-in-Ones.result c.then_some-in-Ones.ensures)
+returns-in-Ones c =
+    step_at c.args.place place.Ones c.args.byte c.then_some-in-Ones.result c.in-Ones.is
+    (digit_step place.Ones place.AfterCode c.args.byte (behind_one IsDigit c.args.byte (Due
+    place.AfterCode)) (none_one IsDigit (Due place.AfterCode) (c.args.byte ∷ []))
+    c.is_digit-in-Ones.result c.is_digit-in-Ones.ensures c.then_some-in-Ones.result
+    c.then_some-in-Ones.ensures)
 
 pub returns-in-AfterCode : goal.returns-in-AfterCode
 returns-in-AfterCode c = step_at c.args.place place.AfterCode c.args.byte

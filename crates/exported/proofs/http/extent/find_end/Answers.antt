@@ -17,7 +17,8 @@ returns-in-Ok-None-clause-told c =
     tells_head c.args.kind _ _ c.args.bytes.now c.advance-answer.result c.args.state.now
     c.state_at.result 2 0 (c.advance-answer.ensures.told c.args.kind)
     (c.advance-answer.ensures.kept c.args.kind)
-    c.extent_at-extent.ensures (c.state_at.ensures c.args.kind) (λ other. absurd (omega (arith, other)))
+    c.extent_at-extent.ensures (c.state_at.ensures c.args.kind)
+    (λ other. absurd (omega (arith, other)))
     (λ _. c.in-Ok-None.is ∙ ap Ok (rw c.in-Ok-None.is at c.in-Ok-None.field-0-is))
     (λ other it. absurd (omega (arith, other)))
 
@@ -26,7 +27,8 @@ returns-in-Err-clause-told c =
     tells_head c.args.kind _ _ c.args.bytes.now c.advance-answer.result c.args.state.now
     c.state_at.result 1 c.in-Err.refused.place (c.advance-answer.ensures.told c.args.kind)
     (c.advance-answer.ensures.kept c.args.kind)
-    c.extent_at-extent.ensures (c.state_at.ensures c.args.kind) (λ other. absurd (omega (arith, other)))
+    c.extent_at-extent.ensures (c.state_at.ensures c.args.kind)
+    (λ other. absurd (omega (arith, other)))
     (λ other. absurd (omega (arith, other)))
     (λ _ it. never_at c.args.kind c.args.bytes.now c.advance-answer.result c.in-Err.refused
     c.in-Err.is it)
