@@ -169,7 +169,7 @@ static enum pergidau_code head_in_turn(head_end *find, const char *row, size_t l
     return code;
 }
 
-/* A head of `whole` bytes is found in pieces of each size. */
+/* A head of `whole` bytes is found in chunks of each size. */
 static void test_end(head_end *find, const char *row, size_t whole)
 {
     size_t out = 1, length = strlen(row);
@@ -181,7 +181,7 @@ static void test_end(head_end *find, const char *row, size_t whole)
     same("no end", row, (long long)out, 0);
 }
 
-/* An invalid byte is found in pieces of each size. */
+/* An invalid byte is found in chunks of each size. */
 static void test_no_end(head_end *find, const struct no_head *it)
 {
     char row[64];

@@ -22,7 +22,6 @@ use Rattle.format_http_places.specs.declared.read.HeadError.{HeadError}
 use Rattle.format_http_places.specs.declared.read.HeadError.TheVariants as error
 use Rattle.format_http_places.specs.declared.read.HeadError.TheVariants.{Incomplete, TooManyFields}
 use Rattle.format_http_places.specs.declared.state.HeadPlace.{HeadPlace}
-use Rattle.format_http_places.specs.declared.state.HeadPlace.TheVariants as place
 use Rattle.format_http_places.proofs.EquivalentAfter.{EquivalentAfter, NoneFirst, behind_both}
 use Rattle.format_http_places.proofs.EquivalentAfter.{behind_none, not_empty, stops_at}
 use Rattle.format_http_places.proofs.Heads.{refused_at, text_head, wanting}

@@ -15,7 +15,7 @@ use Rattle.format_http_places.specs.declared.parts.HeadKind.{HeadKind}
 use Rattle.format_http_places.specs.declared.parts.HeadKind.TheVariants as kind
 use Rattle.format_http_places.specs.declared.state.HeadPlace.{HeadPlace}
 use Rattle.format_http_places.specs.declared.state.HeadPlace.TheVariants as place
-use Rattle.format_http_places.proofs.EquivalentAfter.{EquivalentAfter, behind_both, behind_byte}
+use Rattle.format_http_places.proofs.EquivalentAfter.{EquivalentAfter, behind_both}
 use Rattle.format_http_places.proofs.EquivalentAfter.{behind_none}
 use Rattle.format_http_places.proofs.EquivalentAfter.{behind_one, behind_run, behind_run_end}
 use Rattle.format_http_places.proofs.EquivalentAfter.{none_one, none_run}

@@ -18,7 +18,7 @@ use Rattle.format_http_places.specs.Runs.{NotFirst, SoMany}
 use Rattle.format_http_places.specs.declared.status.Reason.{Reason}
 use Rattle.format_http_places.proofs.EquivalentAfter.{EquivalentAfter, Live, behind_both}
 use Rattle.format_http_places.proofs.EquivalentAfter.{behind_byte, behind_one}
-use Rattle.format_http_places.proofs.EquivalentAfter.{behind_run_end, behind_text, live_byte}
+use Rattle.format_http_places.proofs.EquivalentAfter.{behind_run_end, live_byte}
 use Rattle.format_http_places.proofs.EquivalentAfter.{live_one}
 use Rattle.format_http_places.proofs.EquivalentAfter.{live_text, none_byte, none_one, not_empty}
 use Rattle.format_http_places.proofs.EquivalentAfter.{part_stops}

@@ -100,12 +100,12 @@ IsLed old fresh new result = (taken : List ℕ) × (left : List ℕ) × (fresh �
 
 -- ---- one byte
 
--- the next place, exactly if this is so
+-- the next place, if and only if this is so
 abbrev pub IsIf : Bool → HeadPlace → Option HeadPlace → Type 0
 IsIf is next (Some told) = (is ≡ true) × (told ≡ next)
 IsIf is next None = is ≡ false
 
--- the next place, exactly if the byte is this one
+-- the next place, if and only if the byte is this one
 abbrev pub IsOnly : ℕ → ℕ → HeadPlace → Option HeadPlace → Type 0
 IsOnly byte wanted next (Some told) = (byte ≡ wanted) × (told ≡ next)
 IsOnly byte wanted next None = byte ≡ wanted → ⊥
