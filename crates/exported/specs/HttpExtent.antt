@@ -13,18 +13,22 @@ use Rattle.exported.specs.Code.{done, incomplete, invalid}
 use Rattle.exported.specs.Turns.{CallsFrom}
 use Rattle.exported.specs.declared.http.extent.HttpHeadState.{HttpHeadState}
 
+-- the states of a head of a kind in the order of their numbers, without the one after a head
+abbrev pub numbered : HeadKind → List HeadPlace
+numbered k =
+    start_of k ∷ place.Start ∷ place.Method ∷ place.TargetStart ∷ place.Target ∷
+    place.Version kind.Request ∷ place.AfterH kind.Request ∷ place.AfterT kind.Request ∷
+    place.AfterTT kind.Request ∷ place.AfterP kind.Request ∷ place.Major kind.Request ∷
+    place.Point kind.Request ∷ place.Minor kind.Request ∷ place.Version kind.Response ∷
+    place.AfterH kind.Response ∷ place.AfterT kind.Response ∷ place.AfterTT kind.Response ∷
+    place.AfterP kind.Response ∷ place.Major kind.Response ∷ place.Point kind.Response ∷
+    place.Minor kind.Response ∷ place.Return ∷ place.Space ∷ place.Hundreds ∷ place.Tens ∷
+    place.Ones ∷ place.AfterCode ∷ place.LineFeed ∷ place.Fields ∷ place.Name ∷ place.Value
+    ∷ place.LastLineFeed ∷ []
+
 -- the state of a head of a kind that a number represents
 abbrev pub place_at : HeadKind → ℕ → HeadPlace
-place_at k n = get_or
-    ((start_of k) ∷ place.Start ∷ place.Method ∷ place.TargetStart ∷ place.Target ∷
-    (place.Version kind.Request) ∷ (place.AfterH kind.Request) ∷ (place.AfterT kind.Request) ∷
-    (place.AfterTT kind.Request) ∷ (place.AfterP kind.Request) ∷ (place.Major kind.Request) ∷
-    (place.Point kind.Request) ∷ (place.Minor kind.Request) ∷ (place.Version kind.Response) ∷
-    (place.AfterH kind.Response) ∷ (place.AfterT kind.Response) ∷ (place.AfterTT kind.Response)
-    ∷ (place.AfterP kind.Response) ∷ (place.Major kind.Response) ∷ (place.Point kind.Response) ∷
-    (place.Minor kind.Response) ∷ place.Return ∷ place.Space ∷ place.Hundreds ∷ place.Tens ∷
-    place.Ones ∷ place.AfterCode ∷ place.LineFeed ∷ place.Fields ∷ place.Name ∷ place.Value ∷
-    place.LastLineFeed ∷ []) n place.Done
+place_at k n = get_or (numbered k) n place.Done
 
 -- The extent that a state represents.
 abbrev pub head_extent_of : HeadKind → HttpHeadState → HeadExtent
