@@ -65,6 +65,11 @@ uint32_t exported_http_head_extent(
     const uint8_t *bytes,
     size_t bytes_length,
     size_t *out);
+uint32_t exported_http_response_head_extent(
+    struct pergidau_http_head_state *state,
+    const uint8_t *bytes,
+    size_t bytes_length,
+    size_t *out);
 uint32_t exported_http_field(
     const uint8_t *bytes,
     size_t bytes_length,
@@ -170,6 +175,7 @@ _Static_assert(sizeof(enum pergidau_chunked_error) == sizeof(uint32_t), "the siz
 _Static_assert(sizeof(enum pergidau_chunked_kind) == sizeof(uint32_t), "the size of an enum");
 _Static_assert(sizeof(enum pergidau_http_body_kind) == sizeof(uint32_t), "the size of an enum");
 _Static_assert(sizeof(enum pergidau_http_error) == sizeof(uint32_t), "the size of an enum");
+_Static_assert(sizeof(enum pergidau_http_head_error) == sizeof(uint32_t), "the size of an enum");
 _Static_assert(sizeof(enum pergidau_ini_error) == sizeof(uint32_t), "the size of an enum");
 _Static_assert(sizeof(enum pergidau_ini_kind) == sizeof(uint32_t), "the size of an enum");
 _Static_assert(sizeof(enum pergidau_json_kind) == sizeof(uint32_t), "the size of an enum");
@@ -177,7 +183,7 @@ _Static_assert(sizeof(enum pergidau_resp_kind) == sizeof(uint32_t), "the size of
 _Static_assert(sizeof(enum pergidau_toml_error) == sizeof(uint32_t), "the size of an enum");
 _Static_assert(sizeof(enum pergidau_toml_kind) == sizeof(uint32_t), "the size of an enum");
 
-const char pergidau_declared_68102108 = 0;
+const char pergidau_declared_055d6804 = 0;
 
 const char *pergidau_version(void)
 {
@@ -338,6 +344,33 @@ const char *pergidau_chunked_error_message(enum pergidau_chunked_error error)
         return "invalid byte in the trailer section";
     case PERGIDAU_CHUNKED_ERROR_TRAILERS_TOO_LONG:
         return "trailer section too long";
+    }
+    return "unknown error";
+}
+
+const char *pergidau_http_head_error_message(enum pergidau_http_head_error error)
+{
+    switch (error) {
+    case PERGIDAU_HTTP_HEAD_ERROR_NONE:
+        return "no error";
+    case PERGIDAU_HTTP_HEAD_ERROR_METHOD:
+        return "expected a method and a space";
+    case PERGIDAU_HTTP_HEAD_ERROR_TARGET:
+        return "expected a request target and a space";
+    case PERGIDAU_HTTP_HEAD_ERROR_VERSION:
+        return "expected an HTTP version";
+    case PERGIDAU_HTTP_HEAD_ERROR_STATUS_CODE:
+        return "expected a status code of three digits";
+    case PERGIDAU_HTTP_HEAD_ERROR_FIELD_NAME:
+        return "expected a field name or an empty line";
+    case PERGIDAU_HTTP_HEAD_ERROR_COLON:
+        return "expected a colon after the field name";
+    case PERGIDAU_HTTP_HEAD_ERROR_VALUE:
+        return "invalid byte in a field value or reason phrase";
+    case PERGIDAU_HTTP_HEAD_ERROR_LINE_ENDING:
+        return "expected CRLF";
+    case PERGIDAU_HTTP_HEAD_ERROR_INCOMPLETE:
+        return "incomplete head";
     }
     return "unknown error";
 }
@@ -699,6 +732,31 @@ enum pergidau_code pergidau_http_head_extent(
         bytes = &no_bytes;
     }
     return (enum pergidau_code)exported_http_head_extent(state, bytes, bytes_length, out);
+}
+
+enum pergidau_code pergidau_http_response_head_extent(
+    struct pergidau_http_head_state *state,
+    const uint8_t *bytes,
+    size_t bytes_length,
+    size_t *out)
+{
+    const uint8_t no_bytes = {0};
+    if (state == NULL) {
+        return PERGIDAU_NULL;
+    }
+    if (bytes_length > PTRDIFF_MAX / sizeof(uint8_t)) {
+        return PERGIDAU_TOO_LONG;
+    }
+    if (bytes == NULL && bytes_length > 0) {
+        return PERGIDAU_NULL;
+    }
+    if (out == NULL) {
+        return PERGIDAU_NULL;
+    }
+    if (bytes == NULL) {
+        bytes = &no_bytes;
+    }
+    return (enum pergidau_code)exported_http_response_head_extent(state, bytes, bytes_length, out);
 }
 
 enum pergidau_code pergidau_http_field(

@@ -39,10 +39,10 @@ extern "C" {
  * header refers to it, so that it links with no other library. For a file that is not linked
  * with the library, define PERGIDAU_NO_LINK_CHECK before the header.
  */
-extern const char pergidau_declared_68102108;
+extern const char pergidau_declared_055d6804;
 #if defined(__GNUC__) && !defined(PERGIDAU_NO_LINK_CHECK)
 __attribute__((__used__, __unused__)) static const char *const pergidau_linked =
-    &pergidau_declared_68102108;
+    &pergidau_declared_055d6804;
 #endif
 
 /* Returns the version of the linked library, in the form of PERGIDAU_VERSION. */
@@ -319,6 +319,33 @@ enum pergidau_http_body_kind {
     PERGIDAU_HTTP_BODY_TUNNEL = 4
 };
 
+/* Why a byte of a head is invalid. */
+enum pergidau_http_head_error {
+    /* No error. */
+    PERGIDAU_HTTP_HEAD_ERROR_NONE = 0,
+    /* Expected a method and a space. */
+    PERGIDAU_HTTP_HEAD_ERROR_METHOD = 1,
+    /* Expected a request target and a space. */
+    PERGIDAU_HTTP_HEAD_ERROR_TARGET = 2,
+    /* Expected an HTTP version. It is HTTP/, a digit, a point and a digit. */
+    PERGIDAU_HTTP_HEAD_ERROR_VERSION = 3,
+    /* Expected a status code of three digits. A space or the line ending follows it. */
+    PERGIDAU_HTTP_HEAD_ERROR_STATUS_CODE = 4,
+    /* Expected a field name or an empty line. A field line may not start with whitespace. */
+    PERGIDAU_HTTP_HEAD_ERROR_FIELD_NAME = 5,
+    /* Expected a colon after the field name. No whitespace precedes it. */
+    PERGIDAU_HTTP_HEAD_ERROR_COLON = 6,
+    /*
+     * Invalid byte in a field value or reason phrase. Of the control characters only a tab is
+     * valid.
+     */
+    PERGIDAU_HTTP_HEAD_ERROR_VALUE = 7,
+    /* Expected CRLF. A line feed without a carriage return is invalid. */
+    PERGIDAU_HTTP_HEAD_ERROR_LINE_ENDING = 8,
+    /* Incomplete head. The bytes end within it. */
+    PERGIDAU_HTTP_HEAD_ERROR_INCOMPLETE = 9
+};
+
 /* Why an HTTP message must be rejected. */
 enum pergidau_http_error {
     /* No error. */
@@ -430,6 +457,9 @@ const char *pergidau_toml_error_message(enum pergidau_toml_error error);
 const char *pergidau_chunked_error_message(enum pergidau_chunked_error error);
 
 /* Returns the message for an error, as pergidau_message does for a code. */
+const char *pergidau_http_head_error_message(enum pergidau_http_head_error error);
+
+/* Returns the message for an error, as pergidau_message does for a code. */
 const char *pergidau_http_error_message(enum pergidau_http_error error);
 
 /* Returns the message for an error, as pergidau_message does for a code. */
@@ -499,6 +529,8 @@ struct pergidau_head {
     size_t length;
     /* The offset of the error in bytes; 0 otherwise. */
     size_t error_offset;
+    /* Why the byte at this offset is invalid; PERGIDAU_HTTP_HEAD_ERROR_NONE otherwise. */
+    enum pergidau_http_head_error error;
     /* The number before the point of the version, below 10. */
     uint8_t major;
     /* The number after the point of the version, below 10. */
@@ -555,9 +587,9 @@ struct pergidau_chunked_step {
 };
 
 /*
- * The state of a search for the end of the head of a request. Only the functions of this
- * library may interpret its fields. All zeros is the initial state; start from it for each
- * head.
+ * The state of a search for the end of the head of a request or a response. Only the functions
+ * of this library may interpret its fields. All zeros is the initial state; start from it for
+ * each head.
  */
 struct pergidau_http_head_state {
     /* How many bytes were passed. */
@@ -576,6 +608,8 @@ struct pergidau_response_head {
     size_t length;
     /* The offset of the error in bytes; 0 otherwise. */
     size_t error_offset;
+    /* Why the byte at this offset is invalid; PERGIDAU_HTTP_HEAD_ERROR_NONE otherwise. */
+    enum pergidau_http_head_error error;
     /* The status code, below 1000. */
     uint16_t status;
     /* The number before the point of the version, below 10. */
@@ -953,7 +987,8 @@ enum pergidau_code pergidau_csv_record_extent(
  * # Errors
  *
  * PERGIDAU_INVALID: bytes does not start with a head. The first offset at which no head can
- * continue is written; it is the end of bytes if they end within a head.
+ * continue is written, and why the byte there is invalid. If bytes ends within a head, it is
+ * the end of bytes, with PERGIDAU_HTTP_HEAD_ERROR_INCOMPLETE.
  *
  * PERGIDAU_BUFFER_TOO_SMALL: the head has more fields than the buffer has entries. The number
  * of fields is written.
@@ -986,8 +1021,8 @@ enum pergidau_code pergidau_http_head(
  * # Errors
  *
  * PERGIDAU_INVALID: bytes does not start with a head, regardless of what follows. The offset
- * of the first invalid byte is written: the bytes before it are a prefix of a head, and
- * together with the byte there they are not.
+ * of the first invalid byte is written, and why it is invalid: the bytes before it are a
+ * prefix of a head, and together with the byte there they are not.
  *
  * PERGIDAU_BUFFER_TOO_SMALL: as for complete input.
  *
@@ -1124,7 +1159,8 @@ enum pergidau_code pergidau_http_chunked(
  * Finds the end of the head of an HTTP/1.1 request (RFC 9112) in input that arrives in chunks.
  *
  * No call looks again at bytes that an earlier call scanned, so all calls for a head take time
- * linear in its length. To obtain the parts of the head, pass its bytes to pergidau_http_head.
+ * linear in its length. To obtain the parts of the head, pass its bytes to pergidau_http_head;
+ * to obtain the reason of an error, pass all bytes to pergidau_http_head_partial.
  *
  * For the first call, state must be all zeros. Each further call for the same head must have
  * the state that the previous call left, and the bytes of the previous call followed by more
@@ -1151,6 +1187,42 @@ enum pergidau_code pergidau_http_chunked(
  * None of these may overlap. The call needs 16 KiB of stack.
  */
 enum pergidau_code pergidau_http_head_extent(
+    struct pergidau_http_head_state *state,
+    const uint8_t *bytes,
+    size_t bytes_length,
+    size_t *out);
+
+/*
+ * Finds the end of the head of an HTTP/1.1 response (RFC 9112) in input that arrives in
+ * chunks, as pergidau_http_head_extent does for requests, with a state of its own. To obtain
+ * the parts of the head, pass its bytes to pergidau_http_response_head; to obtain the reason
+ * of an error, pass all bytes to pergidau_http_response_head_partial.
+ *
+ * For the first call, state must be all zeros. Each further call for the same head must have
+ * the state that the previous call left, and the bytes of the previous call followed by more
+ * bytes.
+ *
+ * PERGIDAU_DONE: bytes starts with a head, whose length is written. Reset the state to zeros
+ * for the next head.
+ *
+ * PERGIDAU_INCOMPLETE: bytes does not start with a head, but more bytes can complete one. 0 is
+ * written.
+ *
+ * If state belongs to other bytes or was modified, the result may be wrong, but nothing
+ * outside bytes is read.
+ *
+ * # Errors
+ *
+ * PERGIDAU_INVALID: bytes does not start with a head, regardless of what follows. The first
+ * offset at which no head can continue is written.
+ *
+ * # Safety
+ *
+ * state must be valid for reads and writes of one state, and out for writes of one length.
+ * bytes must be valid for reads of bytes_length bytes, which must not change during the call.
+ * None of these may overlap. The call needs 16 KiB of stack.
+ */
+enum pergidau_code pergidau_http_response_head_extent(
     struct pergidau_http_head_state *state,
     const uint8_t *bytes,
     size_t bytes_length,
@@ -1198,7 +1270,8 @@ enum pergidau_code pergidau_http_field(
  * # Errors
  *
  * PERGIDAU_INVALID: bytes does not start with a head. The first offset at which no head can
- * continue is written; it is the end of bytes if they end within a head.
+ * continue is written, and why the byte there is invalid. If bytes ends within a head, it is
+ * the end of bytes, with PERGIDAU_HTTP_HEAD_ERROR_INCOMPLETE.
  *
  * PERGIDAU_BUFFER_TOO_SMALL: the head has more fields than the buffer has entries. The number
  * of fields is written.
@@ -1231,8 +1304,8 @@ enum pergidau_code pergidau_http_response_head(
  * # Errors
  *
  * PERGIDAU_INVALID: bytes does not start with a head, regardless of what follows. The offset
- * of the first invalid byte is written: the bytes before it are a prefix of a head, and
- * together with the byte there they are not.
+ * of the first invalid byte is written, and why it is invalid: the bytes before it are a
+ * prefix of a head, and together with the byte there they are not.
  *
  * PERGIDAU_BUFFER_TOO_SMALL: as for complete input.
  *

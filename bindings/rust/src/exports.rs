@@ -112,6 +112,36 @@ pub const CHUNKED_ERROR_TRAILERS: u32 = 6;
 /// Trailer section too long.
 pub const CHUNKED_ERROR_TRAILERS_TOO_LONG: u32 = 7;
 
+/// No error.
+pub const HTTP_HEAD_ERROR_NONE: u32 = 0;
+
+/// Expected a method and a space.
+pub const HTTP_HEAD_ERROR_METHOD: u32 = 1;
+
+/// Expected a request target and a space.
+pub const HTTP_HEAD_ERROR_TARGET: u32 = 2;
+
+/// Expected an HTTP version. It is `HTTP/`, a digit, a point and a digit.
+pub const HTTP_HEAD_ERROR_VERSION: u32 = 3;
+
+/// Expected a status code of three digits. A space or the line ending follows it.
+pub const HTTP_HEAD_ERROR_STATUS_CODE: u32 = 4;
+
+/// Expected a field name or an empty line. A field line may not start with whitespace.
+pub const HTTP_HEAD_ERROR_FIELD_NAME: u32 = 5;
+
+/// Expected a colon after the field name. No whitespace precedes it.
+pub const HTTP_HEAD_ERROR_COLON: u32 = 6;
+
+/// Invalid byte in a field value or reason phrase. Of the control characters only a tab is valid.
+pub const HTTP_HEAD_ERROR_VALUE: u32 = 7;
+
+/// Expected CRLF. A line feed without a carriage return is invalid.
+pub const HTTP_HEAD_ERROR_LINE_ENDING: u32 = 8;
+
+/// Incomplete head. The bytes end within it.
+pub const HTTP_HEAD_ERROR_INCOMPLETE: u32 = 9;
+
 /// The name of a section, which begins there.
 pub const INI_SECTION: u32 = 0;
 
@@ -489,6 +519,8 @@ pub struct Head {
     pub length: usize,
     /// The offset of the error in bytes; 0 otherwise.
     pub error_offset: usize,
+    /// Why the byte at this offset is invalid; `HTTP_HEAD_ERROR_NONE` otherwise.
+    pub error: u32,
     /// The number before the point of the version, below 10.
     pub major: u8,
     /// The number after the point of the version, below 10.
@@ -546,8 +578,9 @@ pub struct ChunkedStep {
     pub error: u32,
 }
 
-/// The state of a search for the end of the head of a request. Only the functions of this library
-/// may interpret its fields. All zeros is the initial state; start from it for each head.
+/// The state of a search for the end of the head of a request or a response. Only the functions of
+/// this library may interpret its fields. All zeros is the initial state; start from it for each
+/// head.
 #[repr(C)]
 #[derive(Clone, Copy, Debug, Default, PartialEq, Eq)]
 pub struct HttpHeadState {
@@ -569,6 +602,8 @@ pub struct ResponseHead {
     pub length: usize,
     /// The offset of the error in bytes; 0 otherwise.
     pub error_offset: usize,
+    /// Why the byte at this offset is invalid; `HTTP_HEAD_ERROR_NONE` otherwise.
+    pub error: u32,
     /// The status code, below 1000.
     pub status: u16,
     /// The number before the point of the version, below 10.
@@ -781,7 +816,7 @@ pub struct TomlResult {
 
 extern "C" {
     /// A symbol that only a library with these declarations has.
-    #[link_name = "pergidau_declared_68102108"]
+    #[link_name = "pergidau_declared_055d6804"]
     static VERSION_LINKED: c_char;
 
     /// Returns the version of the linked library.
@@ -953,7 +988,8 @@ extern "C" {
     /// # Errors
     ///
     /// `INVALID`: `bytes` does not start with a head. The first offset at which no head can continue is
-    /// written; it is the end of `bytes` if they end within a head.
+    /// written, and why the byte there is invalid. If `bytes` ends within a head, it is the end of
+    /// `bytes`, with `HTTP_HEAD_ERROR_INCOMPLETE`.
     ///
     /// `BUFFER_TOO_SMALL`: the head has more fields than the buffer has entries. The number of fields
     /// is written.
@@ -985,8 +1021,8 @@ extern "C" {
     /// # Errors
     ///
     /// `INVALID`: `bytes` does not start with a head, regardless of what follows. The offset of the
-    /// first invalid byte is written: the bytes before it are a prefix of a head, and together with the
-    /// byte there they are not.
+    /// first invalid byte is written, and why it is invalid: the bytes before it are a prefix of a
+    /// head, and together with the byte there they are not.
     ///
     /// `BUFFER_TOO_SMALL`: as for complete input.
     ///
@@ -1115,7 +1151,8 @@ extern "C" {
     /// Finds the end of the head of an HTTP/1.1 request (RFC 9112) in input that arrives in chunks.
     ///
     /// No call looks again at bytes that an earlier call scanned, so all calls for a head take time
-    /// linear in its length. To obtain the parts of the head, pass its bytes to `exported_http_head`.
+    /// linear in its length. To obtain the parts of the head, pass its bytes to `exported_http_head`;
+    /// to obtain the reason of an error, pass all bytes to `exported_http_head_partial`.
     ///
     /// For the first call, `state` must be all zeros. Each further call for the same head must have the
     /// state that the previous call left, and the bytes of the previous call followed by more bytes.
@@ -1139,6 +1176,39 @@ extern "C" {
     /// `bytes` must be valid for reads of `bytes_length` bytes, which must not change during the call.
     /// None of these may overlap. The call needs 16 KiB of stack.
     pub fn exported_http_head_extent(
+        state: *mut HttpHeadState,
+        bytes: *const u8,
+        bytes_length: usize,
+        out: *mut usize,
+    ) -> u32;
+
+    /// Finds the end of the head of an HTTP/1.1 response (RFC 9112) in input that arrives in chunks, as
+    /// `exported_http_head_extent` does for requests, with a state of its own. To obtain the parts of
+    /// the head, pass its bytes to `exported_http_response_head`; to obtain the reason of an error,
+    /// pass all bytes to `exported_http_response_head_partial`.
+    ///
+    /// For the first call, `state` must be all zeros. Each further call for the same head must have the
+    /// state that the previous call left, and the bytes of the previous call followed by more bytes.
+    ///
+    /// `DONE`: `bytes` starts with a head, whose length is written. Reset the state to zeros for the
+    /// next head.
+    ///
+    /// `INCOMPLETE`: `bytes` does not start with a head, but more bytes can complete one. 0 is written.
+    ///
+    /// If `state` belongs to other bytes or was modified, the result may be wrong, but nothing outside
+    /// `bytes` is read.
+    ///
+    /// # Errors
+    ///
+    /// `INVALID`: `bytes` does not start with a head, regardless of what follows. The first offset at
+    /// which no head can continue is written.
+    ///
+    /// # Safety
+    ///
+    /// `state` must be valid for reads and writes of one state, and `out` for writes of one length.
+    /// `bytes` must be valid for reads of `bytes_length` bytes, which must not change during the call.
+    /// None of these may overlap. The call needs 16 KiB of stack.
+    pub fn exported_http_response_head_extent(
         state: *mut HttpHeadState,
         bytes: *const u8,
         bytes_length: usize,
@@ -1184,7 +1254,8 @@ extern "C" {
     /// # Errors
     ///
     /// `INVALID`: `bytes` does not start with a head. The first offset at which no head can continue is
-    /// written; it is the end of `bytes` if they end within a head.
+    /// written, and why the byte there is invalid. If `bytes` ends within a head, it is the end of
+    /// `bytes`, with `HTTP_HEAD_ERROR_INCOMPLETE`.
     ///
     /// `BUFFER_TOO_SMALL`: the head has more fields than the buffer has entries. The number of fields
     /// is written.
@@ -1216,8 +1287,8 @@ extern "C" {
     /// # Errors
     ///
     /// `INVALID`: `bytes` does not start with a head, regardless of what follows. The offset of the
-    /// first invalid byte is written: the bytes before it are a prefix of a head, and together with the
-    /// byte there they are not.
+    /// first invalid byte is written, and why it is invalid: the bytes before it are a prefix of a
+    /// head, and together with the byte there they are not.
     ///
     /// `BUFFER_TOO_SMALL`: as for complete input.
     ///
