@@ -28,6 +28,7 @@ static uint8_t *copied(const char *text, size_t length)
 }
 
 #include "ini_rows.h"
+#include "json_lookup_rows.h"
 #include "json_rows.h"
 #include "toml_rows.h"
 
@@ -1086,6 +1087,10 @@ int main(void)
     test_steps();
     test_strings();
     test_integers();
+    test_diagnoses();
+    test_decimals();
+    test_members();
+    test_pointers();
     test_walks();
     test_documents();
     test_lines_of_ini();

@@ -11,7 +11,10 @@ ghost use Rattle.exported.specs.Code.{done, end, invalid, invalid_utf8, max_dept
 ghost use Rattle.exported.specs.Code.{supported_depth};
 ghost use Rattle.exported.specs.Json.{ShowsItem, no_item, number_of};
 
+pub mod decimal;
+pub mod diagnostic;
 pub mod integer;
+pub mod member;
 pub mod step;
 pub mod string;
 
