@@ -93,12 +93,11 @@ brace_none bytes start lead not =
 
 pub in_object : (bytes start inside : List ℕ) → RestAfter IsLead IsLeadByte bytes start
     → start ≡ 123 ∷ inside → InObject bytes inside
-in_object bytes start inside lead e =
-    (
-      lead.stands.text,
-      lead.stands.is,
-      lead.stands.splits ∙ ap (λ l. lead.stands.text ++ l) e,
-    )
+in_object bytes start inside lead e = (
+  lead.stands.text,
+  lead.stands.is,
+  lead.stands.splits ∙ ap (λ l. lead.stands.text ++ l) e,
+)
 
 pub object_less : (bytes start inside : List ℕ) → RestAfter IsLead IsLeadByte bytes start
     → start ≡ 123 ∷ inside → length inside ≤ length bytes

@@ -17,24 +17,24 @@ pub record HasName (same : Bool) (name bytes rest : List ℕ) : Type 0 where
   pub splits : bytes ≡ lead ++ start
   pub is_compared : IsCompared same name start rest
 
--- `PassesMembers level name bytes rest`: `bytes` starts with members of other names, each a name and
--- a value, followed by `rest`.
+-- `PassesMembers level name bytes rest`: `bytes` starts with members of other names, each a name
+-- and a value, followed by `rest`.
 pub data PassesMembers (level : ℕ) (name : List ℕ) : List ℕ → List ℕ → Type 0 where
   passes_none : (bytes rest : List ℕ) → bytes ≡ rest → PassesMembers level name bytes rest
   passes_one : (bytes after value next rest : List ℕ) → HasName false name bytes after
       → IsNext level value after next → PassesMembers level name next rest
       → PassesMembers level name bytes rest
 
--- `NoMember level name bytes`: after an optional separator, `bytes` does not start with a string; or
--- the string is another name, and no value follows it.
+-- `NoMember level name bytes`: after an optional separator, `bytes` does not start with a string;
+-- or the string is another name, and no value follows it.
 abbrev pub NoMember : ℕ → List ℕ → List ℕ → Type 0
 NoMember level name bytes =
     NoneStands (Then IsLead IsString) bytes
     ⊎ ((after : List ℕ) × HasName false name bytes after
     × NoneStands (Then IsLead (IsValue level)) after)
 
--- `IsSearched search level name inside rest`: the result of a search in the members `inside`. `rest`
--- follows the name that was found, or it follows the last member, or no member starts there.
+-- `IsSearched search level name inside rest`: the result of a search in the members `inside`.
+-- `rest` follows the name that was found, or it follows the last member, or no member starts there.
 abbrev pub IsSearched : Search → ℕ → List ℕ → List ℕ → List ℕ → Type 0
 IsSearched searches.Found level name inside rest =
     (mid : List ℕ) × PassesMembers level name inside mid × HasName true name mid rest

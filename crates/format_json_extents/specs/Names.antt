@@ -15,8 +15,8 @@ abbrev pub said : Bool → List ℕ → List ℕ
 said true name = token_text false name
 said false name = name
 
--- `Remains token whole meant same left`: if `same` holds, `whole` is `meant` followed by the text of
--- `left`. Otherwise `whole` does not start with `meant`.
+-- `Remains token whole meant same left`: if `same` holds, `whole` is `meant` followed by the text
+-- of `left`. Otherwise `whole` does not start with `meant`.
 pub record Remains (token : Bool) (whole meant : List ℕ) (same : Bool) (left : List ℕ)
     : Type 0 where
   pub yes : same ≡ true → whole ≡ meant ++ said token left
@@ -35,8 +35,8 @@ pub record IsTailCompared (same : Bool) (name bytes rest : List ℕ) : Type 0 wh
   pub splits : bytes ≡ text ++ 34 ∷ rest
   pub is_whole : IsWhole same name meant
 
--- `IsCompared same name bytes rest`: `bytes` starts with a string, followed by `rest`, and `same` is
--- whether the text of the string is `name`.
+-- `IsCompared same name bytes rest`: `bytes` starts with a string, followed by `rest`, and `same`
+-- is whether the text of the string is `name`.
 abbrev pub IsCompared : Bool → List ℕ → List ℕ → List ℕ → Type 0
 IsCompared same name bytes rest =
     (inside : List ℕ) × (bytes ≡ 34 ∷ inside) × IsTailCompared same name inside rest

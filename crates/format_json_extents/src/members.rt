@@ -47,8 +47,8 @@ fn find_inside<'i>(level: usize, token: bool, inside: &'i [u8], name: &[u8]) -> 
 
 /// Finds the first member of a name in the object that the bytes start with, after whitespace and
 /// at most one comma or colon. Names are compared with their escapes decoded: `{"\u0061":1}` has a
-/// member `a`. If `token` is true, `name` is a reference token of a JSON pointer (RFC 6901): `~0` is
-/// a tilde and `~1` a slash.
+/// member `a`. If `token` is true, `name` is a reference token of a JSON pointer (RFC 6901): `~0`
+/// is a tilde and `~1` a slash.
 ///
 /// Returns the bytes after the name, from which [`read_next`] reads the value. Values before it are
 /// skipped, so that each byte up to there is read once; they may be nested at most `level` deep.
@@ -65,8 +65,12 @@ fn find_inside<'i>(level: usize, token: bool, inside: &'i [u8], name: &[u8]) -> 
 /// assert!(rt; matches!(find_member(1, false, object, b"c").0, Search::Missing));
 /// assert!(rt; matches!(find_member(1, false, b"[1]", b"c").0, Search::Invalid));
 /// ```
-pub fn find_member<'i>(level: usize, token: bool, bytes: &'i [u8], name: &[u8])
--> (Search, &'i [u8])
+pub fn find_member<'i>(
+    level: usize,
+    token: bool,
+    bytes: &'i [u8],
+    name: &[u8],
+) -> (Search, &'i [u8])
     ensures search { IsSearchOf result.0 level (said token name.now) bytes.now result.1.now }
     ensures within { length result.1.now ≤ length bytes.now }
 {

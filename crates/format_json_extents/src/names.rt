@@ -2,7 +2,8 @@
 
 ghost use Rattle.std.specs.Prelude.{◌≡◌, ◌∷◌, ◌++◌, [], List, ℕ, MatchOption};
 ghost use Rattle.std.specs.Char.{encode_utf8};
-ghost use Rattle.format_json_extents.specs.Names.{IsCompared, IsTailCompared, IsWhole, Remains, said};
+ghost use Rattle.format_json_extents.specs.Names.{IsCompared, IsTailCompared, IsWhole, Remains};
+ghost use Rattle.format_json_extents.specs.Names.{said};
 ghost use Rattle.format_json_extents.specs.Strings.{IsEscape, IsString, IsStringTail};
 ghost use Rattle.format_json_extents.specs.Texts.{NoneStands};
 ghost use Rattle.format_json_texts.specs.Strings.{EscapeText};

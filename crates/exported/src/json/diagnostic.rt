@@ -7,8 +7,9 @@ ghost use Rattle.exported.specs.Code.{max_depth_too_large, no_memory, supported_
 ghost use Rattle.exported.specs.JsonDiagnostic.{ShowsError, code_of, letter_of, no_error};
 ghost use Rattle.exported.specs.JsonDiagnostic.{number_of_expected, shown};
 
-use crate::code::{DONE, INCOMPLETE, INVALID, INVALID_UTF8, MAX_DEPTH_TOO_LARGE, NO_MEMORY};
-use crate::code::TOO_DEEP;
+use crate::code::{
+    DONE, INCOMPLETE, INVALID, INVALID_UTF8, MAX_DEPTH_TOO_LARGE, NO_MEMORY, TOO_DEEP,
+};
 use crate::json::MAX_DEPTH;
 use format_json::fault::error_of;
 use format_json::{Expected, JsonError};
