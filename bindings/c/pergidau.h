@@ -1389,6 +1389,9 @@ enum pergidau_code pergidau_ini_next(
  * A text with an unpaired surrogate escape such as \ud800 is rejected, because it denotes no
  * character, although the grammar of the standard allows it.
  *
+ * pergidau_json_diagnose also reports where and why a text is rejected. pergidau_json_step
+ * walks through a text that was checked, in time linear in the text.
+ *
  * PERGIDAU_DONE: the text is a JSON text.
  *
  * # Errors

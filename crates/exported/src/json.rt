@@ -86,6 +86,9 @@ fn number_of(kind: Kind) -> u32
 /// A text with an unpaired surrogate escape such as `\ud800` is rejected, because it denotes no
 /// character, although the grammar of the standard allows it.
 ///
+/// `exported_json_diagnose` also reports where and why a text is rejected. `exported_json_step`
+/// walks through a text that was checked, in time linear in the text.
+///
 /// `DONE`: the text is a JSON text.
 ///
 /// # Errors

@@ -1,6 +1,7 @@
 -- How the text of a string is compared with a name, piece by piece.
 use Rattle.std.proofs.Common.{◌≡◌, ◌∙◌, ◌++◌, ◌-◌, ◌≤◌, ℕ, Bool, true, false, [], ◌∷◌, List, ap}
-use Rattle.std.proofs.Common.{append_assoc, arith, inr, refl, subst, sym, length, take}
+use Rattle.std.proofs.Common.{append_assoc, arith, inr, length, length-append, refl, subst, sym}
+use Rattle.std.proofs.Common.{take}
 use Rattle.std.proofs.lemmas.List.{append-nil}
 use Rattle.std.proofs.lemmas.Bool.{true≢false}
 use Rattle.std.specs.Char.{encode_utf8}
@@ -87,6 +88,35 @@ pub strip_ends : (token same : Bool) (name text left wanted whole meant others :
 strip_ends token same name text left wanted whole meant others b it is from e f rest =
     strip_none token same name text left wanted whole meant it is from
     (λ tail g. nil_no_byte b (others ++ tail) (sym f ∙ g ∙ ap (λ l. l ++ tail) e)) rest
+
+-- ---- at the end of the text
+
+module _ (token same : Bool) (left whole meant : List ℕ) where
+  pub is_over : said token left ≡ [] → Remains token whole meant same left → same ≡ true
+      → meant ≡ whole
+  is_over e from is = sym (from.yes is ∙ ap (λ l. meant ++ l) e ∙ append-nil meant)
+
+  pub not_same : Remains token whole meant same left → same ≡ false → meant ≡ whole → ⊥
+  not_same from other is = from.no other [] (sym is ∙ sym (append-nil meant))
+
+more_over : (token : Bool) (left whole meant rest : List ℕ) (b : ℕ) → said token left ≡ b ∷ rest
+    → whole ≡ meant ++ said token left → meant ≡ whole → ⊥
+more_over token left whole meant rest b e from is =
+    omega (
+      arith,
+      ap (λ l. length l) is,
+      ap (λ l. length l) from,
+      length-append meant (said token left),
+      ap (λ l. length l) e,
+    )
+
+-- more of the name follows
+pub not_over : (token same : Bool) (left whole meant rest : List ℕ) (b : ℕ)
+    → said token left ≡ b ∷ rest → Remains token whole meant same left → meant ≡ whole → ⊥
+not_over token true left whole meant rest b e from is =
+    more_over token left whole meant rest b e (from.yes refl) is
+not_over token false left whole meant rest b e from is =
+    not_same token false left whole meant from refl is
 
 -- ---- in a string
 
