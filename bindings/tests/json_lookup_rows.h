@@ -112,7 +112,7 @@ static const struct {
     size_t out;
 } members[] = {
     {"{\"\\u0061\":1}", "a", false, PERGIDAU_DONE, 9},
-    {" , {\"b\":{\"a\":0},\"a\" :1,\"a\":2}", "a", false, PERGIDAU_DONE, 20},
+    {" , {\"b\":{\"a\":0},\"a\" :1,\"a\":2}", "a", false, PERGIDAU_DONE, 19},
     {"{\"a\":1}", "b", false, PERGIDAU_END, 0},
     {"{\"a\":1}", "", false, PERGIDAU_END, 0},
     {"{\"a\":1}", "aa", false, PERGIDAU_END, 0},

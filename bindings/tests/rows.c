@@ -1055,6 +1055,8 @@ static void test_library(void)
         "length too large: at most PTRDIFF_MAX bytes are supported",
         "no more items",
         "number is not an integer or out of range",
+        "nested too deep: deeper than the depth limit",
+        "number out of range",
         "unknown code",
     };
     for (int code = 0; code <= PERGIDAU_NOT_AN_INTEGER + 1; code++) {

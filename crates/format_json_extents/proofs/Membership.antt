@@ -1,6 +1,6 @@
 -- How members of other names are passed.
 use Rattle.std.proofs.Common.{◌≡◌, ◌∙◌, ◌≤◌, ◌<◌, ◌++◌, ◌∷◌, ℕ, Bool, true, false, List, ap, arith}
-use Rattle.std.proofs.Common.{inl, inr, length, length-append, refl}
+use Rattle.std.proofs.Common.{inl, inr, length, length-append, refl, subst}
 use Rattle.format_json_extents.proofs.Beginnings.{byte_starts, starts_bars, this_none}
 use Rattle.format_json_extents.proofs.Firsts.{space_low}
 use Rattle.format_json_extents.proofs.Standing.{Apart, then_none}
@@ -28,15 +28,15 @@ passes_end level name _ _ after value next (passes_one bytes first one then rest
     passes_one bytes first one then next h i
     (passes_end level name then rest after value next more has is)
 
-pub name_here : (same : Bool) (name bytes start rest : List ℕ)
-    → RestAfter IsLead IsLeadByte bytes start → IsCompared same name start rest
+pub name_here : (same is : Bool) (name bytes start rest : List ℕ)
+    → RestAfter IsLead IsLeadByte bytes start → IsCompared is name start rest → is ≡ same
     → HasName same name bytes rest
-name_here same name bytes start rest lead is = record {
+name_here same is name bytes start rest lead it e = record {
   lead = lead.stands.text;
   start = start;
   is_lead = lead.stands.is;
   splits = lead.stands.splits;
-  is_compared = is;
+  is_compared = subst (λ s. IsCompared s name start rest) e it;
 }
 
 pub name_less : (same : Bool) (name bytes rest : List ℕ) → HasName same name bytes rest
