@@ -5,7 +5,7 @@ use Rattle.format_json_extents.proofs.Beginnings.{byte_starts, starts_bars, this
 use Rattle.format_json_extents.proofs.Firsts.{space_low}
 use Rattle.format_json_extents.proofs.Standing.{Apart, then_none}
 use Rattle.format_json_extents.proofs.Texts.{string_starts}
-use Rattle.format_json_extents.specs.Members.{HasName, InObject, IsBrace, PassesMembers}
+use Rattle.format_json_extents.specs.Members.{HasName, IsBrace, PassesMembers}
 use Rattle.format_json_extents.specs.Members.{passes_none, passes_one}
 use Rattle.format_json_extents.specs.Names.{IsCompared}
 use Rattle.format_json_extents.specs.Strings.{IsQuote, IsString}
@@ -90,21 +90,3 @@ brace_none bytes start lead not =
     then_none IsLead (IsByte IsBrace) IsLeadByte bytes start
     (starts_bars (IsByte IsBrace) IsBrace IsLeadByte (byte_starts IsBrace) lead_no_brace) lead
     (this_none 123 start not)
-
-pub in_object : (bytes start inside : List ℕ) → RestAfter IsLead IsLeadByte bytes start
-    → start ≡ 123 ∷ inside → InObject bytes inside
-in_object bytes start inside lead e = (
-  lead.stands.text,
-  lead.stands.is,
-  lead.stands.splits ∙ ap (λ l. lead.stands.text ++ l) e,
-)
-
-pub object_less : (bytes start inside : List ℕ) → RestAfter IsLead IsLeadByte bytes start
-    → start ≡ 123 ∷ inside → length inside ≤ length bytes
-object_less bytes start inside lead e =
-    omega (
-      arith,
-      ap (λ l. length l) lead.stands.splits,
-      length-append lead.stands.text start,
-      ap (λ l. length l) e,
-    )
