@@ -45,6 +45,7 @@ COMPATIBLE = []
 # The constants that are cases of an enum in C: the prefix of their names, the enum's name and
 # description, and the structs with a field of its values, followed by the field's name.
 KINDS = {
+    "JSON_ERROR_": ("json_error", "The errors of JSON texts.", ("JsonDiagnostic", "error")),
     "JSON_": ("json_kind", "The kinds of JSON items.", ("JsonItem", "kind")),
     "RESP_": ("resp_kind", "The kinds of Redis replies.", ("Reply", "kind")),
     "TOML_ERROR_": ("toml_error", "The errors of TOML documents.", ("TomlResult", "error")),
@@ -62,7 +63,7 @@ ENUMS = {(struct, fields[-1]): name
          for name, _, fields in KINDS.values() if fields for struct in fields[:-1]}
 # The types of single values in Rust and in C.
 PLAIN = {"u8": "uint8_t", "u16": "uint16_t", "u32": "uint32_t", "u64": "uint64_t", "i16": "int16_t",
-         "i64": "int64_t", "usize": "size_t", "bool": "bool"}
+         "i32": "int32_t", "i64": "int64_t", "usize": "size_t", "bool": "bool"}
 EXPORT = re.compile(r'pub extern "C" fn exported_(\w+)\(\s*(.*?)\s*\)\s*->\s*u32\b', re.DOTALL)
 CONSTANT = re.compile(r"pub const (\w+): (u32|usize) = (\d+);")
 TAKEN = re.compile(r"pub use (\w+)::(\w+)::\{?([\w,\s]+)\}?;")

@@ -28,6 +28,7 @@ static uint8_t *copied(const char *text, size_t length)
 }
 
 #include "ini_rows.h"
+#include "json_lookup_rows.h"
 #include "json_rows.h"
 #include "toml_rows.h"
 
@@ -1095,6 +1096,8 @@ static void test_library(void)
         "length too large: at most PTRDIFF_MAX bytes are supported",
         "no more items",
         "number is not an integer or out of range",
+        "nested too deep: deeper than the depth limit",
+        "number out of range",
         "unknown code",
     };
     for (int code = 0; code <= PERGIDAU_NOT_AN_INTEGER + 1; code++) {
@@ -1127,6 +1130,10 @@ int main(void)
     test_steps();
     test_strings();
     test_integers();
+    test_diagnoses();
+    test_decimals();
+    test_members();
+    test_pointers();
     test_walks();
     test_documents();
     test_lines_of_ini();

@@ -63,6 +63,8 @@ pub enum Error {
     BufferTooSmall(RequiredSize),
     /// The requested depth limit is above [`MAX_DEPTH`](crate::MAX_DEPTH).
     MaxDepthTooLarge,
+    /// The input is nested deeper than the depth limit, at this offset in bytes.
+    TooDeep(usize),
     /// A code that this crate does not know, from another version of the library.
     Unknown(u32),
 }
@@ -82,6 +84,7 @@ impl Error {
         match self {
             Error::Invalid(offset) => *offset,
             Error::InvalidHead { offset, .. } => Some(*offset),
+            Error::TooDeep(offset) => Some(*offset),
             _ => None,
         }
     }
@@ -134,6 +137,7 @@ impl fmt::Display for Error {
             Error::MaxDepthTooLarge => {
                 write!(f, "depth limit too large: at most {MAX_DEPTH} levels are supported")
             }
+            Error::TooDeep(offset) => write!(f, "nested too deep at offset {offset}"),
             Error::Unknown(code) => write!(f, "unknown code {code} from the library"),
         }
     }
