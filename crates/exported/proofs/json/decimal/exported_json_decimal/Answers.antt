@@ -6,8 +6,7 @@ use Rattle.exported.proofs.json.decimal.exported_json_decimal.Goals as goal
 pub returns-in-Ok-clause-decimal : goal.returns-in-Ok-clause-decimal
 returns-in-Ok-clause-decimal c _ =
     let (n, is) = (c.numbers_are_written_in_parts.ensures _).0 c.in-Some.ensures.found.is in
-    let fits : FitsSigned w32 c.in-Ok.found.exponent = search rules in
-    (
+    let fits : FitsSigned w32 c.in-Ok.found.exponent = search rules in (
       _,
       _,
       c.in-Some.ensures.found,
@@ -17,8 +16,7 @@ returns-in-Ok-clause-decimal c _ =
 pub returns-in-Err-clause-range : goal.returns-in-Err-clause-range
 returns-in-Err-clause-range c _ =
     let (n, is) = (c.numbers_are_written_in_parts.ensures _).0 c.in-Some.ensures.found.is in
-    let (negative, digits, exponent, decimal, exceeds) = c.in-Err.ensures n is in
-    (
+    let (negative, digits, exponent, decimal, exceeds) = c.in-Err.ensures n is in (
       _,
       _,
       c.in-Some.ensures.found,
