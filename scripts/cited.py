@@ -7,11 +7,14 @@ It follows citations from the roots, and prints FILE:LINE and the name of each d
 `specs/` and `proofs/` that it does not reach, and of each such law. The roots are the sources, with
 their clauses and the names in `using(..)`; the answers and invariants of their functions; and the
 names in `scripts/cited.allow`, each with a reason. A law, a function of a file of laws, is a root
-if code calls it. Imports and the re-exports of the crate `winnow` are not citations. A lemma of a
-ruleset is cited if the ruleset is. It fails if a declaration is not cited, or if `cited.allow` has
-a name that is cited or does not exist.
+if code calls it, or if README.md, `docs/GUARANTEES.md` or the page of its crate names it (`*` in a
+name there is for any letters); it counts both. Imports and the re-exports of the crate `winnow` are
+not citations. A lemma of a ruleset is cited if the ruleset is. It fails if a declaration is not
+cited, or if `cited.allow` has a name that is cited or does not exist.
 """
 import collections
+import fnmatch
+import re
 import sys
 
 from citing.logic import Module, resolve
@@ -71,6 +74,13 @@ def reached(cites, roots):
     return found
 
 
+def is_promised(law):
+    """Returns whether a page names the law: README.md, `docs/GUARANTEES.md`, or that of its crate."""
+    pages = TOP / "README.md", TOP / "docs/GUARANTEES.md", CRATES / law.path.split("::")[0] / "README.md"
+    names = re.findall(r"`([\w:*]*\w[\w:*]*)`", " ".join(read(it) for it in pages))
+    return any(fnmatch.fnmatchcase(law.path, f"*::{name}") for name in names)
+
+
 def allowed():
     """Returns the allowed names with their reasons."""
     for line in read(ALLOWED).splitlines():
@@ -88,7 +98,9 @@ def main():
     known, code = modules(), sources()
     cites, roots = graph(known, code)
     items = [it for file in [*known.values(), *code] for it in file.items]
-    cited = reached(cites, roots)
+    laws = [it for it in items if it.is_law]
+    called = reached(cites, roots)
+    cited = reached(cites, [*roots, *filter(is_promised, laws)])
     wrong, kept = [], []
     for name, _ in allowed():
         found = [it for it in items if it not in cited and it.is_declared and fits(name, it.path)]
@@ -99,6 +111,7 @@ def main():
         if item not in cited and item.is_declared:
             wrong.append(f"{item.file.relative_to(TOP)}:{item.line} {item.name}")
     print("\n".join([*wrong, f"{len(wrong)} of {len(items)} are not cited"]))
+    print(f"{len(called & set(laws))} of {len(laws)} laws are called")
     return 1 if wrong else 0
 
 

@@ -1,6 +1,6 @@
 """Breaks the long lines of specs, proofs and clauses, which `rt fmt` does not break.
 
-python3 scripts/wrap.py            lists the lines longer than 100 columns
+python3 scripts/wrap.py            lists the lines longer than 100 columns or 130 bytes
 python3 scripts/wrap.py FILE ..    breaks the long lines of these files
 
 A line is broken where it is nested least, before an operator if possible.
@@ -12,6 +12,8 @@ import sys
 from registry.common import split
 
 WIDTH = 100
+# A line of symbols has two or three times as many bytes.
+BYTES = 130
 # The width for broken lines, since `rt fmt` indents some parts further.
 FIT = 96
 OPEN, CLOSE = "([{⟨", ")]}⟩"
@@ -20,6 +22,10 @@ GHOST = ("ghost ", "ensures ", "requires ", "pub ghost ", "invariant ")
 # The words before which a line is broken, the loosest first.
 ARGUMENT = 14
 OPERATORS = ["→", "↔", "⊎", "×", "≡", "∙", "$", "↦", "in", "++"]
+
+
+def is_long(line):
+    return len(line) > WIDTH or len(line.encode()) > BYTES
 
 
 def breaks_of(text):
@@ -100,13 +106,13 @@ def imports(line):
     head, names, end = re.fullmatch(r"(.*\{)(.*)(\};?)", line).groups()
     groups = [[]]
     for name in names.split(", "):
-        if groups[-1] and len(head + ", ".join([*groups[-1], name]) + end) > WIDTH:
+        if groups[-1] and is_long(head + ", ".join([*groups[-1], name]) + end):
             groups.append([])
         groups[-1].append(name)
     lines = []
     for group in groups:
         one = head + ", ".join(group) + end
-        lines += [one] if len(one) <= WIDTH else [head, f"  {group[0]},", end]
+        lines += [one] if not is_long(one) else [head, f"  {group[0]},", end]
     return lines
 
 
@@ -133,7 +139,7 @@ def wrapped_line(line, is_antt, is_fenced, is_inside):
     """Returns a line as several lines, inside or outside of an example or a ghost item."""
     stripped = line.lstrip()
     indent = len(line) - len(stripped)
-    if len(line) <= WIDTH or is_fixed(stripped):
+    if not is_long(line) or is_fixed(stripped):
         return [line]
     if re.fullmatch(r"(pub |ghost )*use [^{}]*\{[^{}]*\};?", stripped):
         return imports(line)
@@ -182,9 +188,9 @@ def main(names):
                 it.write(text)
         for number, line in enumerate(text.split("\n"), 1):
             # The formatter keeps the closing brace of a clause on its line.
-            if len(line.removesuffix(" }")) > WIDTH and not is_fixed(line):
+            if is_long(line.removesuffix(" }")) and not is_fixed(line):
                 long += 1
-                print(f"{name}:{number}: {len(line)} columns")
+                print(f"{name}:{number}: {len(line)} columns, {len(line.encode())} bytes")
     return 1 if long else 0
 
 

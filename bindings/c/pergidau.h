@@ -39,10 +39,10 @@ extern "C" {
  * header refers to it, so that it links with no other library. For a file that is not linked
  * with the library, define PERGIDAU_NO_LINK_CHECK before the header.
  */
-extern const char pergidau_declared_bc12a594;
+extern const char pergidau_declared_8550428e;
 #if defined(__GNUC__) && !defined(PERGIDAU_NO_LINK_CHECK)
 __attribute__((__used__, __unused__)) static const char *const pergidau_linked =
-    &pergidau_declared_bc12a594;
+    &pergidau_declared_8550428e;
 #endif
 
 /* Returns the version of the linked library, in the form of PERGIDAU_VERSION. */
@@ -201,28 +201,96 @@ enum pergidau_toml_error {
     /* No error. */
     PERGIDAU_TOML_ERROR_NONE = 0,
     /* Expected a key or a table. */
-    PERGIDAU_TOML_ERROR_KEY = 1,
-    /* Expected an equals sign after the key. */
-    PERGIDAU_TOML_ERROR_EQUALS_SIGN = 2,
-    /* Expected a value. It may be nested no deeper than the depth limit. */
-    PERGIDAU_TOML_ERROR_VALUE = 3,
+    PERGIDAU_TOML_ERROR_KEY_OR_TABLE = 1,
+    /* Expected a key. */
+    PERGIDAU_TOML_ERROR_KEY = 2,
+    /* Expected a key, or the brace that closes an inline table. */
+    PERGIDAU_TOML_ERROR_KEY_OR_BRACE = 3,
     /* Expected the name of a table. */
     PERGIDAU_TOML_ERROR_TABLE_NAME = 4,
-    /* Expected a bracket after the name of a table. */
-    PERGIDAU_TOML_ERROR_CLOSING_BRACKET = 5,
+    /* Expected an equals sign, or a point in the key. */
+    PERGIDAU_TOML_ERROR_EQUALS_SIGN = 5,
+    /* Expected a closing bracket, or a point in the name of the table. */
+    PERGIDAU_TOML_ERROR_CLOSING_BRACKET = 6,
+    /* Expected a second closing bracket. */
+    PERGIDAU_TOML_ERROR_SECOND_BRACKET = 7,
+    /* Expected a value. */
+    PERGIDAU_TOML_ERROR_VALUE = 8,
+    /* Expected a value, or the bracket that closes an array. */
+    PERGIDAU_TOML_ERROR_VALUE_OR_BRACKET = 9,
+    /* Expected a comma, or the bracket that closes an array. */
+    PERGIDAU_TOML_ERROR_COMMA_OR_BRACKET = 10,
+    /* Expected a comma, or the brace that closes an inline table. */
+    PERGIDAU_TOML_ERROR_COMMA_OR_BRACE = 11,
     /* Expected the end of the line. */
-    PERGIDAU_TOML_ERROR_LINE_END = 6,
+    PERGIDAU_TOML_ERROR_LINE_END = 12,
+    /* Expected a line feed. */
+    PERGIDAU_TOML_ERROR_LINE_FEED = 13,
+    /* Expected a character of a comment, or the end of the line. */
+    PERGIDAU_TOML_ERROR_COMMENT = 14,
+    /* Expected a character of a string, or a double quotation mark. */
+    PERGIDAU_TOML_ERROR_BASIC_STRING = 15,
+    /* Expected a character of a string, or a single quotation mark. */
+    PERGIDAU_TOML_ERROR_LITERAL_STRING = 16,
+    /* Expected a character of a string, or three double quotation marks. */
+    PERGIDAU_TOML_ERROR_LONG_BASIC_STRING = 17,
+    /* Expected a character of a string, or three single quotation marks. */
+    PERGIDAU_TOML_ERROR_LONG_LITERAL_STRING = 18,
+    /* Expected the character of an escape. */
+    PERGIDAU_TOML_ERROR_ESCAPE = 19,
+    /* Expected the character of an escape, or the end of the line. */
+    PERGIDAU_TOML_ERROR_LONG_ESCAPE = 20,
+    /* Expected the end of the line after the backslash. */
+    PERGIDAU_TOML_ERROR_ESCAPED_LINE_END = 21,
+    /* Expected a hexadecimal digit. */
+    PERGIDAU_TOML_ERROR_HEX_DIGIT = 22,
+    /* Expected a hexadecimal digit of a Unicode scalar value. */
+    PERGIDAU_TOML_ERROR_SCALAR_DIGIT = 23,
+    /* Expected the next letter of true, false, inf or nan. */
+    PERGIDAU_TOML_ERROR_WORD = 24,
+    /* Expected a digit, inf or nan. */
+    PERGIDAU_TOML_ERROR_DIGIT_OR_WORD = 25,
+    /* Expected a digit. */
+    PERGIDAU_TOML_ERROR_DIGIT = 26,
+    /* Expected a digit or a sign. */
+    PERGIDAU_TOML_ERROR_DIGIT_OR_SIGN = 27,
+    /* Expected a digit from 0 to 7. */
+    PERGIDAU_TOML_ERROR_OCTAL_DIGIT = 28,
+    /* Expected a digit from 0 to 1. */
+    PERGIDAU_TOML_ERROR_BINARY_DIGIT = 29,
+    /* Integer does not have 64 bits. */
+    PERGIDAU_TOML_ERROR_INTEGER_TOO_LARGE = 30,
+    /* Expected a year or an hour, or a number without leading zeros. */
+    PERGIDAU_TOML_ERROR_YEAR_OR_HOUR = 31,
+    /* Expected a month from 01 to 12. */
+    PERGIDAU_TOML_ERROR_MONTH = 32,
+    /* Expected a day of the month. */
+    PERGIDAU_TOML_ERROR_DAY = 33,
+    /* Expected an hour from 00 to 23. */
+    PERGIDAU_TOML_ERROR_HOUR = 34,
+    /* Expected a minute from 00 to 59. */
+    PERGIDAU_TOML_ERROR_MINUTE = 35,
+    /* Expected a second from 00 to 60. */
+    PERGIDAU_TOML_ERROR_SECOND = 36,
+    /* Expected a hyphen in the date. */
+    PERGIDAU_TOML_ERROR_HYPHEN = 37,
+    /* Expected a colon in the time. */
+    PERGIDAU_TOML_ERROR_COLON = 38,
+    /* Array or inline table nested deeper than the depth limit. */
+    PERGIDAU_TOML_ERROR_TOO_DEEP = 39,
+    /* Byte order mark is not allowed. */
+    PERGIDAU_TOML_ERROR_BYTE_ORDER_MARK = 40,
     /* Key is already defined. */
-    PERGIDAU_TOML_ERROR_DEFINED = 7,
+    PERGIDAU_TOML_ERROR_DEFINED = 41,
     /* Key is not a table. */
-    PERGIDAU_TOML_ERROR_NOT_A_TABLE = 8,
+    PERGIDAU_TOML_ERROR_NOT_A_TABLE = 42,
     /*
      * Table cannot be extended. It is an inline table, or the line extends the table of a
      * header by dotted keys.
      */
-    PERGIDAU_TOML_ERROR_CLOSED = 9,
+    PERGIDAU_TOML_ERROR_CLOSED = 43,
     /* Key is not an array of tables. */
-    PERGIDAU_TOML_ERROR_NOT_AN_ARRAY_OF_TABLES = 10
+    PERGIDAU_TOML_ERROR_NOT_AN_ARRAY_OF_TABLES = 44
 };
 
 /* The kinds of TOML nodes. */
@@ -304,6 +372,33 @@ enum pergidau_http_body_kind {
     PERGIDAU_HTTP_BODY_UNTIL_CLOSE = 3,
     /* The connection has become a tunnel. */
     PERGIDAU_HTTP_BODY_TUNNEL = 4
+};
+
+/* Why a byte of a head is invalid. */
+enum pergidau_http_head_error {
+    /* No error. */
+    PERGIDAU_HTTP_HEAD_ERROR_NONE = 0,
+    /* Expected a method and a space. */
+    PERGIDAU_HTTP_HEAD_ERROR_METHOD = 1,
+    /* Expected a request target and a space. */
+    PERGIDAU_HTTP_HEAD_ERROR_TARGET = 2,
+    /* Expected an HTTP version. It is HTTP/, a digit, a point and a digit. */
+    PERGIDAU_HTTP_HEAD_ERROR_VERSION = 3,
+    /* Expected a status code of three digits. A space or the line ending follows it. */
+    PERGIDAU_HTTP_HEAD_ERROR_STATUS_CODE = 4,
+    /* Expected a field name or an empty line. A field line may not start with whitespace. */
+    PERGIDAU_HTTP_HEAD_ERROR_FIELD_NAME = 5,
+    /* Expected a colon after the field name. No whitespace precedes it. */
+    PERGIDAU_HTTP_HEAD_ERROR_COLON = 6,
+    /*
+     * Invalid byte in a field value or reason phrase. Of the control characters only a tab is
+     * valid.
+     */
+    PERGIDAU_HTTP_HEAD_ERROR_VALUE = 7,
+    /* Expected CRLF. A line feed without a carriage return is invalid. */
+    PERGIDAU_HTTP_HEAD_ERROR_LINE_ENDING = 8,
+    /* Incomplete head. The bytes end within it. */
+    PERGIDAU_HTTP_HEAD_ERROR_INCOMPLETE = 9
 };
 
 /* Why an HTTP message must be rejected. */
@@ -420,6 +515,9 @@ const char *pergidau_toml_error_message(enum pergidau_toml_error error);
 const char *pergidau_chunked_error_message(enum pergidau_chunked_error error);
 
 /* Returns the message for an error, as pergidau_message does for a code. */
+const char *pergidau_http_head_error_message(enum pergidau_http_head_error error);
+
+/* Returns the message for an error, as pergidau_message does for a code. */
 const char *pergidau_http_error_message(enum pergidau_http_error error);
 
 /* Returns the message for an error, as pergidau_message does for a code. */
@@ -489,6 +587,8 @@ struct pergidau_head {
     size_t length;
     /* The offset of the error in bytes; 0 otherwise. */
     size_t error_offset;
+    /* Why the byte at this offset is invalid; PERGIDAU_HTTP_HEAD_ERROR_NONE otherwise. */
+    enum pergidau_http_head_error error;
     /* The number before the point of the version, below 10. */
     uint8_t major;
     /* The number after the point of the version, below 10. */
@@ -545,9 +645,9 @@ struct pergidau_chunked_step {
 };
 
 /*
- * The state of a search for the end of the head of a request. Only the functions of this
- * library may interpret its fields. All zeros is the initial state; start from it for each
- * head.
+ * The state of a search for the end of the head of a request or a response. Only the functions
+ * of this library may interpret its fields. All zeros is the initial state; start from it for
+ * each head.
  */
 struct pergidau_http_head_state {
     /* How many bytes were passed. */
@@ -566,6 +666,8 @@ struct pergidau_response_head {
     size_t length;
     /* The offset of the error in bytes; 0 otherwise. */
     size_t error_offset;
+    /* Why the byte at this offset is invalid; PERGIDAU_HTTP_HEAD_ERROR_NONE otherwise. */
+    enum pergidau_http_head_error error;
     /* The status code, below 1000. */
     uint16_t status;
     /* The number before the point of the version, below 10. */
@@ -793,6 +895,11 @@ struct pergidau_toml_result {
     size_t text;
     /* The offset of the error in bytes; 0 otherwise. */
     size_t error_offset;
+    /*
+     * The offset of the innermost string, array or inline table that is not closed before the
+     * error. It is error_offset if there is none.
+     */
+    size_t unclosed_offset;
     /* The error; PERGIDAU_TOML_ERROR_NONE if there is none. */
     enum pergidau_toml_error error;
 };
@@ -969,7 +1076,8 @@ enum pergidau_code pergidau_csv_record_extent(
  * # Errors
  *
  * PERGIDAU_INVALID: bytes does not start with a head. The first offset at which no head can
- * continue is written; it is the end of bytes if they end within a head.
+ * continue is written, and why the byte there is invalid. If bytes ends within a head, it is
+ * the end of bytes, with PERGIDAU_HTTP_HEAD_ERROR_INCOMPLETE.
  *
  * PERGIDAU_BUFFER_TOO_SMALL: the head has more fields than the buffer has entries. The number
  * of fields is written.
@@ -1002,8 +1110,8 @@ enum pergidau_code pergidau_http_head(
  * # Errors
  *
  * PERGIDAU_INVALID: bytes does not start with a head, regardless of what follows. The offset
- * of the first invalid byte is written: the bytes before it are a prefix of a head, and
- * together with the byte there they are not.
+ * of the first invalid byte is written, and why it is invalid: the bytes before it are a
+ * prefix of a head, and together with the byte there they are not.
  *
  * PERGIDAU_BUFFER_TOO_SMALL: as for complete input.
  *
@@ -1140,7 +1248,8 @@ enum pergidau_code pergidau_http_chunked(
  * Finds the end of the head of an HTTP/1.1 request (RFC 9112) in input that arrives in chunks.
  *
  * No call looks again at bytes that an earlier call scanned, so all calls for a head take time
- * linear in its length. To obtain the parts of the head, pass its bytes to pergidau_http_head.
+ * linear in its length. To obtain the parts of the head, pass its bytes to pergidau_http_head;
+ * to obtain the reason of an error, pass all bytes to pergidau_http_head_partial.
  *
  * For the first call, state must be all zeros. Each further call for the same head must have
  * the state that the previous call left, and the bytes of the previous call followed by more
@@ -1167,6 +1276,42 @@ enum pergidau_code pergidau_http_chunked(
  * None of these may overlap. The call needs 16 KiB of stack.
  */
 enum pergidau_code pergidau_http_head_extent(
+    struct pergidau_http_head_state *state,
+    const uint8_t *bytes,
+    size_t bytes_length,
+    size_t *out);
+
+/*
+ * Finds the end of the head of an HTTP/1.1 response (RFC 9112) in input that arrives in
+ * chunks, as pergidau_http_head_extent does for requests, with a state of its own. To obtain
+ * the parts of the head, pass its bytes to pergidau_http_response_head; to obtain the reason
+ * of an error, pass all bytes to pergidau_http_response_head_partial.
+ *
+ * For the first call, state must be all zeros. Each further call for the same head must have
+ * the state that the previous call left, and the bytes of the previous call followed by more
+ * bytes.
+ *
+ * PERGIDAU_DONE: bytes starts with a head, whose length is written. Reset the state to zeros
+ * for the next head.
+ *
+ * PERGIDAU_INCOMPLETE: bytes does not start with a head, but more bytes can complete one. 0 is
+ * written.
+ *
+ * If state belongs to other bytes or was modified, the result may be wrong, but nothing
+ * outside bytes is read.
+ *
+ * # Errors
+ *
+ * PERGIDAU_INVALID: bytes does not start with a head, regardless of what follows. The first
+ * offset at which no head can continue is written.
+ *
+ * # Safety
+ *
+ * state must be valid for reads and writes of one state, and out for writes of one length.
+ * bytes must be valid for reads of bytes_length bytes, which must not change during the call.
+ * None of these may overlap. The call needs 16 KiB of stack.
+ */
+enum pergidau_code pergidau_http_response_head_extent(
     struct pergidau_http_head_state *state,
     const uint8_t *bytes,
     size_t bytes_length,
@@ -1214,7 +1359,8 @@ enum pergidau_code pergidau_http_field(
  * # Errors
  *
  * PERGIDAU_INVALID: bytes does not start with a head. The first offset at which no head can
- * continue is written; it is the end of bytes if they end within a head.
+ * continue is written, and why the byte there is invalid. If bytes ends within a head, it is
+ * the end of bytes, with PERGIDAU_HTTP_HEAD_ERROR_INCOMPLETE.
  *
  * PERGIDAU_BUFFER_TOO_SMALL: the head has more fields than the buffer has entries. The number
  * of fields is written.
@@ -1247,8 +1393,8 @@ enum pergidau_code pergidau_http_response_head(
  * # Errors
  *
  * PERGIDAU_INVALID: bytes does not start with a head, regardless of what follows. The offset
- * of the first invalid byte is written: the bytes before it are a prefix of a head, and
- * together with the byte there they are not.
+ * of the first invalid byte is written, and why it is invalid: the bytes before it are a
+ * prefix of a head, and together with the byte there they are not.
  *
  * PERGIDAU_BUFFER_TOO_SMALL: as for complete input.
  *
@@ -1837,11 +1983,11 @@ enum pergidau_code pergidau_text_position(
  *
  * # Errors
  *
- * PERGIDAU_INVALID: bytes is not a document. The reason and the offset are written. For the
- * first line that is not valid TOML, this is the offset of the part that is missing or
- * invalid; for an error inside an array or an inline table, it is the start of the whole
- * value. For a line that the standard forbids because of earlier lines, it is the start of
- * that line.
+ * PERGIDAU_INVALID: bytes is not a document. The reason and the offset are written. For a
+ * syntax error, this is the first offset at which no document continues, or the end of the
+ * input, and the start of the innermost string, array or inline table that is not closed is
+ * written. Syntax errors come first. For a line that the standard forbids because of earlier
+ * lines, it is the start of that line. A byte order mark is an error.
  *
  * PERGIDAU_INVALID_UTF8: bytes is not UTF-8. The length of the longest prefix that is UTF-8 is
  * written.

@@ -92,21 +92,34 @@ def choice_impl(n):
 CHOICE_IMPLS = """//! Tuples as the branches of `alt`.
 //!
 //! {head}
-ghost use Rattle.stream_errors.specs.Form.{{modal}};
 ghost use Rattle.winnow_comb.specs.Alt.{{OrElse}};
 ghost use Rattle.winnow_comb.specs.Alt.Claim.{{or_else_claim, or_else_claimed}};
-ghost use Rattle.winnow_comb.specs.Alt.Laws.{{or_else_ends, or_else_grows}};
+ghost use Rattle.winnow_comb.specs.Alt.Laws.{{or_else_ends}};
 ghost use Rattle.winnow_comb.specs.Alt.Says.{{or_else_said, or_else_says}};
-ghost use Rattle.winnow_core.specs.Stable.Grows.{{grows, stays}};
 
-use crate::combinator::impls::alt::{{Alt, AltParser, attempt}};
+use crate::combinator::impls::alt::{{Alt, attempt}};
 use stream_errors::parser_error::ParserError;
 use streams::stream::Stream;
 use winnow_core::parser::Parser;
+
+{family}
+"""
+
+CHOICE_BLOCKS = """//! Stability of `alt` over tuples.
+//!
+//! {head}
+ghost use Rattle.stream_errors.specs.Form.{{modal}};
+ghost use Rattle.winnow_comb.specs.Alt.Laws.{{or_else_grows}};
+ghost use Rattle.winnow_core.specs.Stable.Grows.{{grows, stays}};
+
+use crate::combinator::impls::alt::AltParser;
+use stream_errors::parser_error::ParserError;
+use streams::stream::Stream;
 use winnow_core::stable::Stable;
 
 {family}
 """
+
 
 def law_run(n, k):
     """Returns the runs of branch k of n, between its states in the nested pairs."""
@@ -245,8 +258,8 @@ def write_choices():
     comb = "crates/winnow_comb/"
     sizes = range(2, MOST + 1)
     impls = comb + "src/combinator/impls/alt/"
-    family = "\n\n".join("%s\n\n%s" % (choice_impl(n), choice_block(n)) for n in upto(MOST))
-    write(impls + "tuples.rt", CHOICE_IMPLS, family=family)
+    write(impls + "tuples.rt", CHOICE_IMPLS, family="\n\n".join(choice_impl(n) for n in upto(MOST)))
+    write(impls + "stable.rt", CHOICE_BLOCKS, family="\n\n".join(choice_block(n) for n in upto(MOST)))
     # Proofs that the prover does not find: results after three branches that backtracked.
     for n in range(4, MOST + 1):
         answers = "\n\n".join(choice_answer(n, k) for k in range(4, n + 1))

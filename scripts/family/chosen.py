@@ -31,7 +31,7 @@ def chosen_function(name, one):
             "where",
             "    Input: StreamIsPartial + ByteStream,",
             "    Error: ParserError<Input>,",
-            "    ensures { %s_endian result ≡ endian }" % name,
+            "    ensures { result.endian ≡ endian }",
             "{",
             "    %s {" % own,
             "        endian,",
@@ -47,7 +47,6 @@ CHOSEN_FUNCTIONS = """//! Parsers of integers whose byte order is an argument.
 //!
 //! {head}
 ghost use Rattle.std.specs.Prelude.{{◌≡◌}};
-ghost use Rattle.winnow_binary.specs.Chosen.{{{projections}}};
 
 use crate::binary::impls::{{{structs}}};
 use std::marker::PhantomData;
@@ -63,7 +62,7 @@ CHOSEN_STRUCT = (
     """//! {about}
 //!
 //! {head}
-ghost use Rattle.std.specs.Prelude.{{◌≡◌, ⊤}};
+ghost use Rattle.std.specs.Prelude.{{⊤}};
 ghost use Rattle.winnow_binary.specs.Chosen.{{ChosenRuns}};
 ghost use Rattle.winnow_integers.specs.Integer.{{{value}}};
 ghost use Rattle.winnow_integers.specs.Integer.Grammar.{{Integer, integer_takes}};
@@ -73,7 +72,6 @@ ghost use Rattle.winnow_integers.specs.Integer.Laws.{{some_bytes}};
 ghost use Rattle.winnow_integers.specs.Integer.Says.{{integer_said, integer_says}};
 ghost use Rattle.winnow_integers.specs.declared.binary.endianness.Endianness.{{Endianness}};
 ghost use Rattle.winnow_core.specs.Exact.Allowed.{{backs}};
-ghost use Rattle.winnow_core.specs.Says.Decided.{{decided_of}};
 ghost use Rattle.winnow_core.specs.Stable.Grows.{{leaf_stays}};
 
 use std::marker::PhantomData;
@@ -133,16 +131,12 @@ use Rattle.stream_errors.specs.Form.{{ErrorForm}}
 use Rattle.winnow_core.specs.Runs.{{Keeps, Runs}}
 use Rattle.winnow_integers.specs.Integer.{{IntegerRuns}}
 use Rattle.winnow_integers.specs.declared.binary.endianness.Endianness.{{Endianness}}
-{uses}
 
 -- The calls of a parser of a `width`-byte integer with the value `value order bytes`; the order stays.
 abbrev pub ChosenRuns : {{S O : Type 0}} → ℕ → (Endianness → List ℕ → O) → Reading ℕ S → ErrorForm
     → Runs Endianness ℕ O
 ChosenRuns width value reading form =
     Keeps (λ order. IntegerRuns width (value order) reading form)
-
--- The byte orders of the parsers.
-{projections}
 """
 
 
@@ -150,10 +144,8 @@ def write_chosen():
     rows = chosen()
     functions = "\n\n".join(chosen_function(name, one) for name, one in rows.items())
     kinds = [camel(name) for name in rows]
-    write(CHOSEN + "src/binary/chosen.rt", CHOSEN_FUNCTIONS, family=functions, projections=", ".join("%s_endian" % name for name in rows), structs=", ".join(kinds))
-    uses = "\n".join("use Rattle.winnow_binary.specs.declared.binary.impls.%s.%s.{%s}" % (name, camel(name), camel(name)) for name in rows)
-    projections = "\n\n".join("abbrev pub {0}_endian : {{I E : Type 0}} → {1} I E → Endianness\n{0}_endian s = s.endian".format(name, camel(name)) for name in rows)
-    write(CHOSEN + "specs/Chosen.antt", CHOSEN_SPECS, uses=uses, projections=projections)
+    write(CHOSEN + "src/binary/chosen.rt", CHOSEN_FUNCTIONS, family=functions, structs=", ".join(kinds))
+    write(CHOSEN + "specs/Chosen.antt", CHOSEN_SPECS)
     for name, one in rows.items():
         row, number = one.sample()
         kind = camel(name)

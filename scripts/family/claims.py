@@ -14,15 +14,13 @@ def claim(n):
         "spares_memory": conjunction(numbered("c#.spares_memory", n)),
         "consumes": sums("c#.consumes", n),
         "grammar": "%s %s" % (word(n), spaced("c#.grammar", n)),
-        "decides": "says.premise",
-        "alike": "says.alike",
     }
     members = " → ".join(numbered("Claim T O#", n))
     outputs = tuple_type(numbered("O#", n))
-    kind = "{T %s : Type 0} → %s → Says T (%s) → " % (spaced("O#", n), members, outputs)
+    kind = "{T %s : Type 0} → %s → " % (spaced("O#", n), members)
     lines = [
         "abbrev pub sequence%d_claim : %sClaim T (%s)" % (n, kind, outputs),
-        "sequence%d_claim %s says = record {" % (n, spaced("c#", n)),
+        "sequence%d_claim %s = record {" % (n, spaced("c#", n)),
     ]
     return "\n".join([*lines, *("  %s = %s;" % field for field in fields.items()), "}"])
 
@@ -38,18 +36,16 @@ def either_way(n):
 def claimed_kind(n):
     """Returns the statement that a tuple of n satisfies its claim if its members satisfy theirs."""
     parameters = [
-        "{%s T L %s : Type 0}" % (spaced("S#", n), spaced("O#", n)),
+        "{%s T %s : Type 0}" % (spaced("S#", n), spaced("O#", n)),
         spaced("{c# : Claim T O#}", n),
         spaced("{m# : Meaning S# T O#}", n),
-        "{s : %s} {says : Says T (%s)} (reading : Reading T L)" % (tuple_type(numbered("S#", n)), tuple_type(numbered("O#", n))),
+        "{s : %s}" % tuple_type(numbered("S#", n)),
     ]
     members = " → ".join(numbered("Claimed c# s.@ m#", n))
     runs = "SequenceRuns%d %s" % (n, spaced("(m# form)", n))
-    ends = "((form : ErrorForm) → LeaveEnds reading (%s))" % runs
-    said = "Said says s (λ form. %s)" % runs
-    tuple_claim = "sequence%d_claim %s says" % (n, spaced("c#", n))
+    tuple_claim = "sequence%d_claim %s" % (n, spaced("c#", n))
     whole = "Claimed (%s) s (λ form. %s)" % (tuple_claim, runs)
-    return "%s → %s → %s → %s → %s" % (" ".join(parameters), ends, members, said, whole)
+    return "%s → %s → %s" % (" ".join(parameters), members, whole)
 
 
 def claimed(n):
@@ -63,22 +59,12 @@ def claimed(n):
         "exact": "λ form is. %s_exact %s" % (name, exact),
         "fails": "λ form is. %s_fails %s" % (name, " ".join(fails)),
         "takes": "λ is some. %s_takes %s" % (name, takes),
-        "decided": "decided_of reading ends said",
     }
     lines = [
         "pub sequence%d_claimed : %s" % (n, claimed_kind(n)),
-        "sequence%d_claimed reading ends %s said = record {" % (n, spaced("h#", n)),
+        "sequence%d_claimed %s = record {" % (n, spaced("h#", n)),
     ]
     return "\n".join([*lines, *("  %s = %s;" % field for field in fields.items()), "}"])
-
-
-# Determinism follows from the relation that the parser says.
-DECIDED = "λ form is. decided_of I.reading (%s) (%s) form is"
-
-
-def ends(n):
-    """Returns the proof that a tuple of n leaves a suffix of its input if its members do."""
-    return "λ form. sequence%d_ends I.reading %s" % (n, spaced("(P#.meaning form)", n)) + " " + spaced("(P#.leaves_ends form)", n)
 
 
 # The claims of tuples of no members and of one.
@@ -91,8 +77,6 @@ NOTHING_CLAIMS = {
             "spares_memory": "⊤",
             "consumes": "⊥",
             "grammar": "Nothing tt",
-            "decides": "⊤",
-            "alike": "λ (_ _ : ⊤). ⊤",
         },
     ),
     "claimed": record(
@@ -101,7 +85,6 @@ NOTHING_CLAIMS = {
             "exact": "λ form is. unit_exact",
             "fails": "λ form is. backs unit_fails",
             "takes": NEVER_TAKES,
-            "decided": DECIDED % ("λ form s i answer t j r. same_ends I.reading i j r.1", "unit_said"),
         },
     ),
 }
@@ -110,8 +93,7 @@ ONE_CLAIMS = {
     "claim": record(
         "claim",
         {it: "(P1.claim s.0).%s" % it for it in ("premise", "backtracks", "spares_memory", "consumes")}
-        | {"grammar": "Made OneTuple tt (P1.claim s.0).grammar"}
-        | {"decides": "(P1.says s.0).premise", "alike": "AlikeOne (P1.says s.0).alike"},
+        | {"grammar": "Made OneTuple tt (P1.claim s.0).grammar"},
     ),
     "claimed": record(
         "claimed",
@@ -119,7 +101,6 @@ ONE_CLAIMS = {
             "exact": "λ form is. tuple1_exact %s ((P1.claimed s.0).exact form is)" % CHILD,
             "fails": "λ form is. tuple1_fails %s ((P1.claimed s.0).fails form is)" % CHILD,
             "takes": "λ is some. made_of_takes OneTuple tt ((P1.claimed s.0).takes is some)",
-            "decided": DECIDED % (ends(1), "one_said (P1.said s.0)"),
         },
     ),
 }
@@ -133,8 +114,8 @@ def member_claims(n):
     members = {"says": member % ("says", says), "said": member % ("said", said)}
     if n == 1:
         return members | ONE_CLAIMS
-    claim = "%s_claim %s (%s)" % (word, spaced("(P#.claim s.@)", n), says)
-    claimed = "%s_claimed I.reading (%s) %s (%s)" % (word, ends(n), spaced("(P#.claimed s.@)", n), said)
+    claim = "%s_claim %s" % (word, spaced("(P#.claim s.@)", n))
+    claimed = "%s_claimed %s" % (word, spaced("(P#.claimed s.@)", n))
     return members | {"claim": member % ("claim", claim), "claimed": member % ("claimed", claimed)}
 
 
@@ -143,16 +124,13 @@ CLAIMS = """-- The claims of tuples of two to six parsers: those of their member
 use Rattle.std.specs.Prelude.{{◌⊎◌}}
 use Rattle.grammars.specs.Grammar.{{Both, Three}}
 use Rattle.grammars.specs.Grammar.Tuples.{{{words}}}
-use Rattle.stream_errors.specs.Form.{{ErrorForm, modal}}
-use Rattle.streams.specs.Reading.{{Reading}}
+use Rattle.stream_errors.specs.Form.{{modal}}
 use Rattle.winnow_core.specs.Claim.{{Claim, Claimed}}
 use Rattle.winnow_core.specs.Exact.Allowed.{{fails_as}}
 use Rattle.winnow_core.specs.Exact.Along.{{either_way}}
 use Rattle.winnow_core.specs.InOrder.Exact.{{both_exact, both_fails, both_takes}}
 use Rattle.winnow_core.specs.InOrder.Three.{{three_exact, three_fails, three_takes}}
-use Rattle.winnow_core.specs.Runs.{{LeaveEnds, Meaning}}
-use Rattle.winnow_core.specs.Says.{{Said, Says}}
-use Rattle.winnow_core.specs.Says.Decided.{{decided_of}}
+use Rattle.winnow_core.specs.Runs.{{Meaning}}
 use Rattle.winnow_core.specs.Sequence.{{{runs}}}
 {exact}
 

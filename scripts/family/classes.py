@@ -91,14 +91,11 @@ def class_claims(is_member, least):
         "spares_memory": "⊤",
         "consumes": "⊤" if least else "⊥",
         "grammar": "Class %s" % parts,
-        "decides": "CharIsFunction I.seen_as I.Token.code",
-        "alike": "ShowSame I.reading",
     }
     claimed = {
         "exact": "λ form is. class_exact %s form is" % parts,
         "fails": "λ form is. backs (class_fails %s form)" % parts,
         "takes": "λ is some. class_takes %s one_is_some" % parts if least else NEVER_TAKES,
-        "decided": "λ form is. class_decided %s form is" % parts,
     }
     return {"claim": record("claim", claim), "claimed": record("claimed", claimed)}
 
@@ -113,9 +110,8 @@ ghost use Rattle.stream_sets.specs.Range.{{from_to}};
 ghost use Rattle.grammars.specs.Grammar.{{Class}};
 ghost use Rattle.winnow_ascii.specs.Class.{{ClassRuns}};
 ghost use Rattle.winnow_ascii.specs.Class.Laws.{{class_exact, class_fails, {laws}}};
-ghost use Rattle.winnow_ascii.specs.Class.Says.{{CharIsFunction, class_decided, class_said, class_says}};
+ghost use Rattle.winnow_ascii.specs.Class.Says.{{class_said, class_says}};
 ghost use Rattle.winnow_core.specs.Exact.Allowed.{{backs}};
-ghost use Rattle.winnow_core.specs.Literal.Laws.{{ShowSame}};
 ghost use Rattle.winnow_core.specs.Runs.{{Keeps}};
 ghost use Rattle.winnow_core.specs.Stable.Grows.{{leaf_stays}};
 ghost use Rattle.winnow_token.specs.TakeWhile.Laws.{{take_while_stays}};

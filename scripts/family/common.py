@@ -9,9 +9,6 @@ MOST = 6
 NUMBER = ["no", "one", "two", "three", "four", "five", "six"]
 ORDINAL = ["", "first", "second", "third", "fourth", "fifth", "sixth"]
 BETWEEN = "abcde"
-# The claim of a parser that is not known to be deterministic.
-UNDECIDED = {"decides": "⊥", "alike": "λ o p. o ≡ p"}
-NOT_DECIDED = {"decided": "λ form never. absurd never"}
 NEVER_TAKES = "λ is never. absurd never"
 
 

@@ -7,7 +7,7 @@ def integer_claims(one, order, by, state):
     computes its value from a state, and `state` is the state."""
     value = "(%s %s)" % (one.value, order)
     laws = "%d %s I.reading form %s" % (one.width, by, state)
-    ends = "(integer_leaves %d %s I.reading)" % (one.width, by)
+    ends = "integer_leaves %d %s I.reading" % (one.width, by)
     made = "integer_said %d %s I.reading" % (one.width, by)
     some = "(some_bytes %d)" % (one.width - 1)
     claim = {
@@ -16,19 +16,16 @@ def integer_claims(one, order, by, state):
         "spares_memory": "⊤",
         "consumes": "⊤",
         "grammar": "Integer %d %s" % (one.width, value),
-        "decides": "⊤",
-        "alike": "λ o p. o ≡ p",
     }
     claimed = {
         "exact": "λ form is. integer_exact %s" % laws,
         "fails": "λ form is. backs (integer_fails %s)" % laws,
         "takes": "λ is some. integer_takes %d %s %s" % (one.width, value, some),
-        "decided": "λ form is. decided_of I.reading %s (%s s) form is" % (ends, made),
     }
     return {
         "says": "    ghost says = { λ s. integer_says %d %s };" % (one.width, value),
         "claim": record("claim", claim),
-        "ends": "    ghost leaves_ends = { %s };" % ends[1:-1],
+        "ends": "    ghost leaves_ends = { %s };" % ends,
         "said": "    ghost said = { %s };" % made,
         "claimed": record("claimed", claimed),
     }

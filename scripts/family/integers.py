@@ -135,7 +135,7 @@ STRUCT = (
     """//! {about}
 //!
 //! {head}
-ghost use Rattle.std.specs.Prelude.{{◌≡◌, ⊤}};
+ghost use Rattle.std.specs.Prelude.{{⊤}};
 ghost use Rattle.winnow_integers.specs.Integer.{{IntegerRuns, {value}}};
 ghost use Rattle.winnow_integers.specs.Integer.Grammar.{{Integer, integer_takes}};
 ghost use Rattle.winnow_integers.specs.Integer.Laws.{{integer_exact, integer_fails}};
@@ -144,7 +144,6 @@ ghost use Rattle.winnow_integers.specs.Integer.Laws.{{some_bytes}};
 ghost use Rattle.winnow_integers.specs.Integer.Says.{{integer_said, integer_says}};
 ghost use Rattle.winnow_integers.specs.declared.binary.endianness.Endianness.TheVariants.{{{constructor}}};
 ghost use Rattle.winnow_core.specs.Exact.Allowed.{{backs}};
-ghost use Rattle.winnow_core.specs.Says.Decided.{{decided_of}};
 ghost use Rattle.winnow_core.specs.Runs.{{Keeps}};
 ghost use Rattle.winnow_core.specs.Stable.Grows.{{leaf_stays}};
 

@@ -176,15 +176,13 @@ def sequence_impl(n):
 SEQUENCE_IMPLS = """//! Tuples as parsers: their members run in order, and the first error is returned unchanged.
 //!
 //! {head}
-ghost use Rattle.std.specs.Prelude.{{◌≡◌, ⊤}};
+ghost use Rattle.std.specs.Prelude.{{⊤}};
 ghost use Rattle.grammars.specs.Grammar.{{Made, Nothing}};
 ghost use Rattle.grammars.specs.Grammar.Unique.{{made_of_takes}};
 ghost use Rattle.winnow_core.specs.Ends.{{same_ends}};
 ghost use Rattle.winnow_core.specs.Exact.Allowed.{{backs}};
 ghost use Rattle.winnow_core.specs.Exact.Nothing.{{unit_exact, unit_fails}};
-ghost use Rattle.winnow_core.specs.InOrder.Decided.{{AlikeOne}};
 ghost use Rattle.winnow_core.specs.InOrder.Exact.{{OneTuple, tuple1_exact, tuple1_fails}};
-ghost use Rattle.winnow_core.specs.Says.Decided.{{decided_of}};
 ghost use Rattle.winnow_core.specs.Sequence.{{{names}}};
 {claims}
 ghost use Rattle.winnow_core.specs.Sequence.Laws.{{{laws}}};

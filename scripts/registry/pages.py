@@ -119,7 +119,8 @@ PAGES = [
         "laws_parts",
         "Laws of the parts of expressions",
         "laws",
-        "a_byte_consumes a_choice_consumes deterministic_parts_are_stateless a_value_consumes",
+        "a_byte_consumes a_choice_consumes deterministic_parts_are_stateless a_value_consumes "
+        "spans_are_stateless",
     ),
     ("laws_expressions", "Laws of expressions", "laws", "@winnow_expression_trees"),
     ("laws_combinators", "Laws of combinators", "laws", "*"),

@@ -5,4 +5,7 @@
 mod callers;
 
 #[cfg(test)]
+mod lexed;
+
+#[cfg(test)]
 mod outcomes;

@@ -2,7 +2,7 @@
 // (rows of tables are tuples)
 #![allow(clippy::type_complexity)]
 use pergidau::csv::{self, LineEnd};
-use pergidau::http::{self, Chunked, ChunkedError, Field, Step};
+use pergidau::http::{self, Chunked, ChunkedError, Field, HeadError, Step};
 use pergidau::ini::{self, Entry};
 use pergidau::json::{self, Kind, Value};
 use pergidau::resp::{self, Extent, Reply};
@@ -185,7 +185,8 @@ fn http_head_of_requests() {
         let piece = http::head_partial(&HELLO[..end], &mut fields);
         assert_eq!(piece.unwrap_err(), Error::Incomplete, "{end}");
         let short = http::head(&HELLO[..end], &mut fields).unwrap_err();
-        assert_eq!(short, invalid(end), "{end}");
+        let reason = HeadError::Incomplete;
+        assert_eq!(short, Error::InvalidHead { offset: end, reason }, "{end}");
     }
     assert!(http::head_partial(&HELLO[..whole], &mut fields).is_ok());
     let small = http::head(HELLO, &mut fields[..2]).unwrap_err();
@@ -195,7 +196,9 @@ fn http_head_of_requests() {
         assert_eq!(http::head_partial(request, &mut []).unwrap().version(), version);
     }
     let never = http::head_partial(b"GET  / HTTP/1.1\r\n", &mut fields);
-    assert_eq!(never.unwrap_err(), invalid(4));
+    let never = never.unwrap_err();
+    assert_eq!(never, Error::InvalidHead { offset: 4, reason: HeadError::Target });
+    assert_eq!(never.to_string(), "expected a request target and a space at offset 4");
 }
 
 #[test]

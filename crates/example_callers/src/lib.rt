@@ -7,6 +7,7 @@ pub mod first_line;
 pub mod functions;
 pub mod identifiers;
 pub mod items;
+pub mod lexed;
 pub mod looks;
 pub mod numbers;
 pub mod numerals;

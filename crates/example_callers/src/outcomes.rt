@@ -2,7 +2,7 @@
 //! complete and of partial input.
 #![tactic(auto)]
 
-ghost use Rattle.std.specs.Prelude.{◌≡◌, ⊤, ℕ};
+ghost use Rattle.std.specs.Prelude.{◌≡◌};
 ghost use Rattle.winnow.specs.BitsOfBytes.Says.{bits_says};
 ghost use Rattle.winnow.specs.BitsOfBytes.{BitsOfBytesRuns};
 ghost use Rattle.winnow.specs.Class.Says.{CharIsFunction};
@@ -10,14 +10,13 @@ ghost use Rattle.winnow.specs.Form.{answer_by, modal};
 ghost use Rattle.winnow.specs.Longer.{NoOtherOnLonger};
 ghost use Rattle.winnow.specs.Outcome.{outcome_of};
 ghost use Rattle.winnow.specs.Says.{Tells};
-ghost use Rattle.winnow.specs.Says.Longer.{EachLongerGets};
 
 use winnow::Parser;
 use winnow::ascii::impls::Digit1;
 use winnow::binary::bits::impls::{Bits, BitsParser, Bool, Bytes};
 use winnow::binary::bits::{bits, bytes};
 use winnow::error::{EmptyError, ErrMode, ErrorConvert, ParserError};
-use winnow::laws::{longer_inputs_get_partial_results, partial_results_are_final};
+use winnow::laws::longer_inputs_get_partial_results;
 use winnow::stream::{AsChar, ByteStream, Compare, Partial, Stream, StreamIsPartial};
 use winnow::token::impls::Any;
 
@@ -45,12 +44,13 @@ where
     I::Token: AsChar,
     E: ParserError<I>,
     requires seen { CharIsFunction I.seen_as I.Token.code }
-    ensures { EachLongerGets (tt, 58, tt)
-        ⟦<(Digit1, u8, Digit1) as Parser<I, (I::Slice, u8, I::Slice), E>>⟧.meaning
+    requires mode { E.form ≡ modal }
+    ensures { NoOtherOnLonger I.following (tt, 58, tt)
+        (⟦<(Digit1, u8, Digit1) as Parser<I, (I::Slice, u8, I::Slice), E>>⟧.meaning E.form)
         (⟦<(Digit1, u8, Digit1) as Parser<I, (I::Slice, u8, I::Slice), E>>⟧.says
         (tt, 58, tt)).alike }
 {
-    partial_results_are_final::<(Digit1, u8, Digit1), I, (I::Slice, u8, I::Slice), E>();
+    longer_inputs_get_partial_results::<(Digit1, u8, Digit1), I, (I::Slice, u8, I::Slice), E>();
 }
 
 /// A time of bytes.

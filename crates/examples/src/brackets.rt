@@ -6,6 +6,7 @@
 ghost use Rattle.std.specs.Prelude.{◌≡◌, ⊤, None, Vec};
 ghost use Rattle.std.specs.Fn.{CalledAtMut};
 ghost use Rattle.winnow.specs.Bytes.{bytes_follow, bytes_reading};
+ghost use Rattle.winnow.specs.Claim.{CanRead};
 ghost use Rattle.winnow.specs.Cut.{ReadsOrAsks};
 ghost use Rattle.winnow.specs.Form.{modal};
 ghost use Rattle.winnow.specs.Grammar.{Gathered, Many, Three};
@@ -57,10 +58,8 @@ where
     requires reads { CallsReadOrAsk I.reading I.following I.view E.kind (CalledAtMut F.FnMut)
         (R.grammar rule) item }
     requires takes { R.consumes rule }
-    requires opening { B.can_parse opening × (B.claim (B.state opening)).premise
-        × (B.claim (B.state opening)).backtracks }
-    requires closing { B.can_parse closing × (B.claim (B.state closing)).premise
-        × (B.claim (B.state closing)).backtracks }
+    requires opening { CanRead (B.can_parse opening) (B.claim (B.state opening)) }
+    requires closing { CanRead (B.can_parse closing) (B.claim (B.state closing)) }
     ensures { ReadsOrAsks I.reading I.following E.kind
         (Three (λ _ o _. o) (B.claim (B.state opening)).grammar
         (Gathered (λ (list : Vec O A) os. list.items ≡ os)

@@ -1,6 +1,7 @@
 //! Options in brackets, as `[mode=fast,debug]`: a composition of eleven parsers that is specified
 //! by its grammar, on complete and on partial input.
 ghost use Rattle.std.specs.Prelude.{◌≡◌, []};
+ghost use Rattle.winnow.specs.Claim.{CanRead};
 ghost use Rattle.winnow.specs.Class.Says.{CharIsFunction};
 ghost use Rattle.winnow.specs.Form.{answer_by, modal};
 ghost use Rattle.winnow.specs.Bytes.{bytes_follow, bytes_input, bytes_reading};
@@ -33,8 +34,7 @@ where
     P: Stable<I, O, E> + Drop,
     requires modal { E.form ≡ modal }
     requires comma { I.spells 44 [] → ⊥ }
-    requires option { P.can_parse option × (P.claim (P.state option)).premise
-        × (P.claim (P.state option)).backtracks }
+    requires option { CanRead (P.can_parse option) (P.claim (P.state option)) }
     ensures reads { ReadsOrAsks I.reading I.following E.kind
         (InBrackets (Literally I.reading I.spells (λ s _. s)) (P.claim (P.state option)).grammar)
         (I.view input.old) result (I.view input.new) }

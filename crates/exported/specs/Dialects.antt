@@ -1,5 +1,6 @@
 -- Documents of any dialect of INI as callers see them, from call to call.
-use Rattle.std.specs.Prelude.{◌≡◌, ◌⊎◌, ◌<◌, ◌/◌, ◌%◌, ◌++◌, ℕ, zero, suc, List, [], ◌∷◌, length}
+use Rattle.std.specs.Prelude.{◌≡◌, ◌⊎◌, ◌<◌, ◌/◌, ◌%◌, ◌++◌, ℕ, zero, suc, List, [], ◌∷◌}
+use Rattle.std.specs.Prelude.{length}
 use Rattle.std.specs.Prelude.{Bool, Err, None, Ok, Option, Result, Some, false, nat_eq, true}
 use Rattle.format_ini.specs.Lines.{Said, said_in}
 use Rattle.format_ini.specs.Places.{IsAtStart, NextPlaced}

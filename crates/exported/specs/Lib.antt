@@ -21,4 +21,5 @@ pub mod Pieces
 pub mod Resp
 pub mod Span
 pub mod Toml
+pub mod TomlErrors
 pub mod Turns

@@ -4,7 +4,8 @@
 //! [`record_size`] returns the size of the record at the start of the bytes, and [`write_fields`]
 //! writes its fields, if the buffers have room for them.
 
-ghost use Rattle.std.specs.Prelude.{◌≡◌, ◌⊎◌, ◌+◌, ◌<◌, ◌≤◌, ◌^◌, ◌∷◌, [], List, ℕ, length, take};
+ghost use Rattle.std.specs.Prelude.{◌≡◌, ◌⊎◌, ◌+◌, ◌<◌, ◌≤◌, ◌^◌, ◌∷◌, [], List, ℕ, length};
+ghost use Rattle.std.specs.Prelude.{take};
 ghost use Rattle.std.specs.Prelude.{MatchBool, MatchOption, MatchResult};
 ghost use Rattle.format_csv_records.specs.Buffers.{FieldPut, IsSized, Placed, Puts, PutsFields};
 ghost use Rattle.format_csv_records.specs.Buffers.{ShowsFields, SizesRecord};

@@ -3,7 +3,8 @@
 //! These are loops over bytes instead of parsers of the library: each byte of a field is examined
 //! once and copied once, and memory is allocated only if one of the record's two lists grows.
 
-ghost use Rattle.std.specs.Prelude.{◌≡◌, ◌⊎◌, ◌+◌, ◌<◌, ◌++◌, ◌∷◌, [], drop, length, IfOk, ◌≤◌};
+ghost use Rattle.std.specs.Prelude.{◌≡◌, ◌⊎◌, ◌+◌, ◌<◌, ◌++◌, ◌∷◌, [], drop, length, IfOk};
+ghost use Rattle.std.specs.Prelude.{◌≤◌};
 ghost use Rattle.std.specs.Prelude.{◌^◌, MatchBool, MatchOption, MatchResult};
 ghost use Rattle.std.specs.Prelude.{List, ℕ, OnErr, IsTrue, ◌↔◌, take, IfErr};
 ghost use Rattle.std.specs.List.{All};

@@ -1,6 +1,7 @@
 //! Records whose fields share one buffer, which is reused for the next record.
 
-ghost use Rattle.std.specs.Prelude.{◌≡◌, ◌++◌, ◌∷◌, [], ◌<◌, ◌≤◌, ◌^◌, ◌+◌, ◌-◌, ◌↔◌, length};
+ghost use Rattle.std.specs.Prelude.{◌≡◌, ◌++◌, ◌∷◌, [], ◌<◌, ◌≤◌, ◌^◌, ◌+◌, ◌-◌, ◌↔◌};
+ghost use Rattle.std.specs.Prelude.{length};
 ghost use Rattle.std.specs.Prelude.{IfSome, IsTrue, OnErr, OnOk, option_map, slice_index};
 ghost use Rattle.std.specs.Iterator.{at_most};
 ghost use Rattle.format_csv_records.specs.Records.{begun_of, field_at, fields_of, start_of};

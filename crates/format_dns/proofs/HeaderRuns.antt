@@ -1,5 +1,6 @@
 -- The runs of the parsers of a header, in any input of bytes.
-use Rattle.std.proofs.Common.{◌≡◌, ◌<◌, ◌≤◌, ◌+◌, ◌-◌, ◌*◌, ◌^◌, ◌∙◌, ◌∷◌, ◌++◌, ℕ, Bool}
+use Rattle.std.proofs.Common.{◌≡◌, ◌<◌, ◌≤◌, ◌+◌, ◌-◌, ◌*◌, ◌^◌, ◌∙◌, ◌∷◌, ◌++◌}
+use Rattle.std.proofs.Common.{ℕ, Bool}
 use Rattle.std.proofs.Common.{List, Ok, Err, ap, arith, inl, inr, length, length-append}
 use Rattle.std.proofs.Common.{refl}
 use Rattle.std.proofs.Common.{subst, sym}

@@ -1,5 +1,6 @@
 -- The header of a message of the Domain Name System (RFC 1035, section 4.1.1).
-use Rattle.std.specs.Prelude.{◌≡◌, ◌⊎◌, ◌<◌, ◌+◌, ◌-◌, ◌*◌, ◌++◌, ℕ, Bool, List, ◌∷◌, length, Some}
+use Rattle.std.specs.Prelude.{◌≡◌, ◌⊎◌, ◌<◌, ◌+◌, ◌-◌, ◌*◌, ◌++◌, ℕ, Bool, List, ◌∷◌}
+use Rattle.std.specs.Prelude.{length, Some}
 use Rattle.std.specs.Int.{bytes_high_first}
 use Rattle.winnow.specs.BitList.{bit_number}
 use Rattle.winnow.specs.Following.{most_bytes}

@@ -1,5 +1,6 @@
 -- Questions in a message (RFC 1035, section 4.1.2), and lists of consecutive parts.
-use Rattle.std.specs.Prelude.{◌≡◌, ◌⊎◌, ◌≤◌, ◌<◌, ◌+◌, ℕ, List, [], ◌∷◌, length, Result, Ok, Err}
+use Rattle.std.specs.Prelude.{◌≡◌, ◌⊎◌, ◌≤◌, ◌<◌, ◌+◌, ℕ, List, [], ◌∷◌, length, Result, Ok}
+use Rattle.std.specs.Prelude.{Err}
 use Rattle.format_dns.specs.Fields.{AreAsked}
 use Rattle.format_dns.specs.Names.{At, HasNoName, IsName, Label, octets}
 use Rattle.format_dns.specs.declared.fault.PartError.{PartError}

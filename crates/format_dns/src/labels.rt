@@ -1,6 +1,7 @@
 //! Sequences of labels.
 ghost use Rattle.format_dns.specs.Names.{IsLabel, IsString};
 ghost use Rattle.std.specs.Prelude.{◌≡◌, Some};
+ghost use Rattle.winnow.specs.Claim.{CanRead};
 ghost use Rattle.winnow.specs.Range.{from_to};
 ghost use Rattle.winnow.specs.Bytes.{bytes_input, bytes_reading};
 ghost use Rattle.winnow.specs.Exact.{Reads};
@@ -28,8 +29,8 @@ where
     N: ToUsize + Drop,
     P: Parser<I, N, E> + Drop,
     A: Allocator + Copy,
-    requires count { P.can_parse count × (P.claim (P.state count)).premise
-        × (P.claim (P.state count)).backtracks × (P.claim (P.state count)).consumes }
+    requires count { CanRead (P.can_parse count) (P.claim (P.state count))
+        × (P.claim (P.state count)).consumes }
     requires says { SaysOne N.number (P.claim (P.state count)).grammar }
     ensures { Reads I.reading E.kind
         (Gathered (λ list parts. list.items ≡ parts)

@@ -1,5 +1,6 @@
 -- Lemmas about sizes, and about the bytes after size lines.
-use Rattle.std.specs.Prelude.{◌≡◌, ◌⊎◌, ◌↔◌, ◌<◌, ◌≤◌, ◌+◌, ◌*◌, ◌^◌, ◌++◌, ℕ, zero, suc, List, []}
+use Rattle.std.specs.Prelude.{◌≡◌, ◌⊎◌, ◌↔◌, ◌<◌, ◌≤◌, ◌+◌, ◌*◌, ◌^◌, ◌++◌, ℕ, zero}
+use Rattle.std.specs.Prelude.{suc, List, []}
 use Rattle.std.specs.Prelude.{◌∷◌, length}
 use Rattle.std.proofs.Common.{inl, inr, arith, refl, sym, subst, ap, ◌∙◌, length-append}
 use Rattle.format_http_chunked.proofs.Lists.{same_first, same_others}

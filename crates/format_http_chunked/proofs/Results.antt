@@ -1,5 +1,6 @@
 -- The results of a decoder for all bytes so far, from its results for the bytes of one call.
-use Rattle.std.specs.Prelude.{◌≡◌, ◌≤◌, ◌↔◌, ◌^◌, ◌+◌, ◌++◌, ℕ, List, [], ◌∷◌, length, Result}
+use Rattle.std.specs.Prelude.{◌≡◌, ◌≤◌, ◌↔◌, ◌^◌, ◌+◌, ◌++◌, ℕ, List, [], ◌∷◌, length}
+use Rattle.std.specs.Prelude.{Result}
 use Rattle.std.specs.Prelude.{Err, Ok}
 use Rattle.std.proofs.Common.{refl, sym, subst, ap, ◌∙◌, append_assoc, arith}
 use Rattle.std.proofs.Common.{length-append}

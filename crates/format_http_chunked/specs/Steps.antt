@@ -1,5 +1,6 @@
 -- The effect of a byte on a decoder, and the results for bytes.
-use Rattle.std.specs.Prelude.{◌≡◌, ◌⊎◌, ◌≤◌, ◌<◌, ◌^◌, ◌↔◌, ◌++◌, ⊤, ℕ, List, [], ◌∷◌, length}
+use Rattle.std.specs.Prelude.{◌≡◌, ◌⊎◌, ◌≤◌, ◌<◌, ◌^◌, ◌↔◌, ◌++◌, ⊤, ℕ, List, []}
+use Rattle.std.specs.Prelude.{◌∷◌, length}
 use Rattle.std.specs.Prelude.{Err, None, Ok, Option, Result, Some}
 use Rattle.format_http_chunked.specs.Bodies.{ChunksAfterSize, IsHexDigit}
 use Rattle.format_http_chunked.specs.Dues.{DueFields, IsDue, IsFramingDue}

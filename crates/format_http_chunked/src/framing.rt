@@ -6,7 +6,8 @@ ghost use Rattle.format_http_chunked.specs.Dues.{IsDue, IsFramingDue};
 ghost use Rattle.format_http_chunked.specs.Steps.{IsFault, IsTaken};
 ghost use Rattle.format_http_chunked.specs.declared.places.Framing.TheVariants as framing;
 ghost use Rattle.format_http_chunked.specs.declared.places.Place.TheVariants as place;
-ghost use Rattle.std.specs.Prelude.{◌≡◌, ◌↔◌, ◌≤◌, ◌+◌, ◌*◌, ◌<◌, ◌∷◌, ◌^◌, ℕ, List, IfErr};
+ghost use Rattle.std.specs.Prelude.{◌≡◌, ◌↔◌, ◌≤◌, ◌+◌, ◌*◌, ◌<◌, ◌∷◌, ◌^◌, ℕ, List};
+ghost use Rattle.std.specs.Prelude.{IfErr};
 ghost use Rattle.std.specs.Prelude.{IfOk, IfSome, None, [], length};
 
 use crate::bytes::digit_of;

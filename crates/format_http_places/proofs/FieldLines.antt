@@ -1,5 +1,6 @@
 -- The fields of a head: that their language is theirs, and what is read of them.
-use Rattle.std.proofs.Common.{◌≡◌, ◌∙◌, ◌<◌, ◌≤◌, ◌+◌, ◌++◌, ◌∷◌, [], ap, ℕ, zero, suc, List}
+use Rattle.std.proofs.Common.{◌≡◌, ◌∙◌, ◌<◌, ◌≤◌, ◌+◌, ◌++◌, ◌∷◌, [], ap, ℕ, zero, suc}
+use Rattle.std.proofs.Common.{List}
 use Rattle.std.proofs.Common.{append_assoc, arith, length, refl, slice_set, subst, sym, take}
 use Rattle.std.proofs.Common.{length-append}
 use Rattle.std.proofs.lemmas.List.{take_more_set}

@@ -1,5 +1,6 @@
 -- A text without the white space at both ends.
-use Rattle.std.proofs.Common.{◌≡◌, ◌∙◌, ◌⊎◌, ◌≤◌, ◌<◌, ◌+◌, ◌-◌, ◌++◌, ◌∷◌, [], ap, ℕ, List}
+use Rattle.std.proofs.Common.{◌≡◌, ◌∙◌, ◌⊎◌, ◌≤◌, ◌<◌, ◌+◌, ◌-◌, ◌++◌, ◌∷◌, [], ap}
+use Rattle.std.proofs.Common.{ℕ, List}
 use Rattle.std.proofs.Common.{length, take, drop, sym, subst, arith, inl, inr, get_or}
 use Rattle.std.proofs.Common.{length-append, length-drop}
 use Rattle.std.proofs.Math.Seq.{get_or-append_seam}

@@ -1,5 +1,6 @@
 -- Numbers that are equal have one decimal.
-use Rattle.std.proofs.Common.{◌≡◌, ◌∙◌, ◌<◌, ◌⊎◌, ◌+◌, ◌*◌, ◌^◌, ◌%◌, ◌/◌, ◌+ℤ◌, ◌*ℤ◌, ◌++◌}
+use Rattle.std.proofs.Common.{◌≡◌, ◌∙◌, ◌<◌, ◌⊎◌, ◌+◌, ◌*◌, ◌^◌, ◌%◌, ◌/◌, ◌+ℤ◌}
+use Rattle.std.proofs.Common.{◌*ℤ◌, ◌++◌}
 use Rattle.std.proofs.Common.{Bool, false, true, ℕ, zero, suc, ℤ, pos, negsuc, ap, arith, inl}
 use Rattle.std.proofs.Common.{inr, refl, subst, sym}
 use Rattle.std.proofs.Math.Nat.{mul_assoc, mul-div_cancel}

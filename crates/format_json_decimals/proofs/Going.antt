@@ -1,5 +1,6 @@
 -- Digits go on to where they end.
-use Rattle.std.proofs.Common.{◌≡◌, ◌∙◌, ◌<◌, ◌≤◌, ◌+◌, ◌-◌, ◌*◌, ◌^◌, ℕ, zero, suc, List, []}
+use Rattle.std.proofs.Common.{◌≡◌, ◌∙◌, ◌<◌, ◌≤◌, ◌+◌, ◌-◌, ◌*◌, ◌^◌, ℕ, zero, suc, List}
+use Rattle.std.proofs.Common.{[]}
 use Rattle.std.proofs.Common.{◌∷◌, ◌++◌, ap, arith, subst, sym}
 use Rattle.std.proofs.Math.Nat.{le-mul_of_pos_right, pow-le-pow_right}
 use Rattle.std.proofs.lemmas.Str.{digit_value_digit}

@@ -1,5 +1,6 @@
 -- Integers times powers of ten.
-use Rattle.std.specs.Prelude.{◌≡◌, ◌≢◌, ◌<◌, ◌≤◌, ◌⊎◌, ◌^◌, ◌%◌, ◌+ℤ◌, ◌*ℤ◌, ℕ, ℤ, pos}
+use Rattle.std.specs.Prelude.{◌≡◌, ◌≢◌, ◌<◌, ◌≤◌, ◌⊎◌, ◌^◌, ◌%◌, ◌+ℤ◌, ◌*ℤ◌, ℕ}
+use Rattle.std.specs.Prelude.{ℤ, pos}
 use Rattle.std.specs.Prelude.{Bool, false, FitsSigned, MatchResult}
 use Rattle.std.specs.Int.{w32}
 use Rattle.std.specs.declared.result.Result.{Result}

@@ -1,5 +1,6 @@
 -- Escapes by their bytes, as they are counted.
-use Rattle.std.proofs.Common.{◌≡◌, ◌<◌, ◌≤◌, ◌+◌, ◌*◌, ◌-◌, ℕ, [], ◌∷◌, List, ap, arith, length}
+use Rattle.std.proofs.Common.{◌≡◌, ◌<◌, ◌≤◌, ◌+◌, ◌*◌, ◌-◌, ℕ, [], ◌∷◌, List, ap, arith}
+use Rattle.std.proofs.Common.{length}
 use Rattle.std.proofs.Common.{refl, slice_index_or, subst, sym}
 use Rattle.std.specs.Char.{IsScalar}
 use Rattle.format_json_extents.proofs.Escaped.{letter_text, only_scalar, only_text, pair_high}

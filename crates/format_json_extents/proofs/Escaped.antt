@@ -1,5 +1,6 @@
 -- Which character an escape is the text of.
-use Rattle.std.proofs.Common.{◌≡◌, ◌∙◌, ◌⊎◌, ◌++◌, ◌<◌, ◌≤◌, ◌+◌, ◌*◌, ◌-◌, ℕ, [], ◌∷◌, List, ap}
+use Rattle.std.proofs.Common.{◌≡◌, ◌∙◌, ◌⊎◌, ◌++◌, ◌<◌, ◌≤◌, ◌+◌, ◌*◌, ◌-◌, ℕ, []}
+use Rattle.std.proofs.Common.{◌∷◌, List, ap}
 use Rattle.std.proofs.Common.{arith, inl, inr, length, length-append, refl, subst, sym}
 use Rattle.std.proofs.Math.Utf8.{low_scalar}
 use Rattle.std.specs.Char.{IsScalar, encode_utf8}

@@ -1,5 +1,6 @@
 -- How members of other names are passed.
-use Rattle.std.proofs.Common.{◌≡◌, ◌∙◌, ◌≤◌, ◌<◌, ◌++◌, ◌∷◌, ℕ, Bool, true, false, List, ap, arith}
+use Rattle.std.proofs.Common.{◌≡◌, ◌∙◌, ◌≤◌, ◌<◌, ◌++◌, ◌∷◌}
+use Rattle.std.proofs.Common.{ℕ, Bool, true, false, List, ap, arith}
 use Rattle.std.proofs.Common.{inl, inr, length, length-append, refl, subst}
 use Rattle.format_json_extents.proofs.Beginnings.{byte_starts, starts_bars, this_none}
 use Rattle.format_json_extents.proofs.Firsts.{space_low}

@@ -1,5 +1,6 @@
 -- Runs of bytes of a set, from one place to a later one, and in the lanes of one load.
-use Rattle.std.proofs.Common.{◌≡◌, ◌∙◌, ◌+◌, ◌%◌, ◌<◌, ◌≤◌, ◌++◌, ◌∷◌, ℕ, Bool, List, []}
+use Rattle.std.proofs.Common.{◌≡◌, ◌∙◌, ◌+◌, ◌%◌, ◌<◌, ◌≤◌, ◌++◌, ◌∷◌, ℕ, Bool, List}
+use Rattle.std.proofs.Common.{[]}
 use Rattle.std.proofs.Common.{ap, append_assoc, arith, cond, drop, eqb, false, length, ltb}
 use Rattle.std.proofs.Common.{inl, inr, map, not, refl, replicate, subst, suc, sym, true, w8, zero}
 use Rattle.std.proofs.lemmas.List.{length-append, length-map}

@@ -1,5 +1,6 @@
 -- Lemmas about strings at the start of bytes.
-use Rattle.std.proofs.Common.{◌≡◌, ◌∙◌, ◌⊎◌, ◌++◌, ◌<◌, ◌-◌, ℕ, [], ◌∷◌, List, ap, append_assoc}
+use Rattle.std.proofs.Common.{◌≡◌, ◌∙◌, ◌⊎◌, ◌++◌, ◌<◌, ◌-◌, ℕ, [], ◌∷◌, List, ap}
+use Rattle.std.proofs.Common.{append_assoc}
 use Rattle.std.proofs.Common.{arith, inl, inr, length, length-append, refl, subst, sym, take}
 use Rattle.std.proofs.Common.{take_at}
 use Rattle.std.specs.List.{All}

@@ -1,5 +1,6 @@
 -- Lemmas about values at the start of bytes, and about the contents of arrays and objects.
-use Rattle.std.proofs.Common.{◌≡◌, ◌∙◌, ◌↔◌, ◌++◌, ℕ, [], ◌∷◌, ◌<◌, ◌==◌, Bool, IsTrue, List, ap}
+use Rattle.std.proofs.Common.{◌≡◌, ◌∙◌, ◌↔◌, ◌++◌, ℕ, [], ◌∷◌, ◌<◌, ◌==◌, Bool, IsTrue}
+use Rattle.std.proofs.Common.{List, ap}
 use Rattle.std.proofs.Common.{arith, false, inl, inr, length, refl, subst, suc, sym, true, zero}
 use Rattle.std.proofs.lemmas.Bool.{eq-eqb, eqb-true}
 use Rattle.std.proofs.lemmas.List.{append-nil, nil_from_length}

@@ -1,5 +1,6 @@
 -- Lemmas about words and scalars at the start of bytes.
-use Rattle.std.proofs.Common.{◌≡◌, ◌∙◌, ◌++◌, ℕ, [], ◌∷◌, ◌<◌, ◌≤◌, List, ap, arith, inl, inr, refl}
+use Rattle.std.proofs.Common.{◌≡◌, ◌∙◌, ◌++◌, ℕ, [], ◌∷◌, ◌<◌, ◌≤◌, List, ap, arith, inl, inr}
+use Rattle.std.proofs.Common.{refl}
 use Rattle.std.proofs.Common.{sym}
 use Rattle.std.proofs.lemmas.List.{append_cancel_left}
 use Rattle.format_json_extents.proofs.Beginnings.{Starts, either_starts, none_empty, none_first}

@@ -1,5 +1,6 @@
 -- A set of texts is that of the texts of some value.
-use Rattle.std.proofs.Common.{◌≡◌, ◌∙◌, ◌⊎◌, ◌++◌, ◌&&◌, ◌<◌, ◌≤◌, ◌^◌, ℕ, [], ◌∷◌, List, ap, arith}
+use Rattle.std.proofs.Common.{◌≡◌, ◌∙◌, ◌⊎◌, ◌++◌, ◌&&◌, ◌<◌, ◌≤◌, ◌^◌, ℕ, []}
+use Rattle.std.proofs.Common.{◌∷◌, List, ap, arith}
 use Rattle.std.proofs.Common.{Bool, None, Option, Some, inl, inr, length, length-append, refl}
 use Rattle.std.proofs.Common.{◌+◌, subst, sym, true, false}
 use Rattle.std.specs.Borrow.{Bor}

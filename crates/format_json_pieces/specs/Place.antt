@@ -1,6 +1,7 @@
 -- The offset at which bytes are no longer a possible prefix of a JSON text, and the input that is
 -- expected there.
-use Rattle.std.specs.Prelude.{◌≡◌, ◌⊎◌, ◌↔◌, ◌<◌, ℕ, suc, List, [], ◌∷◌, ◌++◌, Option, Some, None}
+use Rattle.std.specs.Prelude.{◌≡◌, ◌⊎◌, ◌↔◌, ◌<◌, ℕ, suc, List, [], ◌∷◌, ◌++◌, Option, Some}
+use Rattle.std.specs.Prelude.{None}
 use Rattle.std.specs.Prelude.{length, ⊤}
 use Rattle.format_json_pieces.specs.Begun.{IsViablePrefix, MayBegin, last_open, next_step}
 use Rattle.format_json_pieces.specs.Inside.{expected}

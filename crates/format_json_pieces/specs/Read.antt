@@ -1,5 +1,6 @@
 -- The result for bytes, in terms of the text of the value that they start with.
-use Rattle.std.specs.Prelude.{◌≡◌, ◌⊎◌, ◌<◌, ◌≤◌, ◌-◌, ◌&&◌, ℕ, false, true, Bool, List, [], ◌∷◌}
+use Rattle.std.specs.Prelude.{◌≡◌, ◌⊎◌, ◌<◌, ◌≤◌, ◌-◌, ◌&&◌, ℕ, false, true, Bool, List, []}
+use Rattle.std.specs.Prelude.{◌∷◌}
 use Rattle.std.specs.Prelude.{◌++◌, Some, None, drop, length}
 use Rattle.std.specs.List.{All}
 use Rattle.std.specs.Str.{IsUtf8, all_scalars, chars, encode_utf8_all}

@@ -1,5 +1,6 @@
 //! Rules made of parts: they are specified by the grammars of the parts, for any parsers.
 ghost use Rattle.format_parts.specs.Words.{latter, pair};
+ghost use Rattle.winnow.specs.Claim.{CanRead};
 ghost use Rattle.winnow.specs.Exact.{Reads};
 ghost use Rattle.winnow.specs.Grammar.{Both, Either};
 
@@ -15,12 +16,8 @@ where
     E: ParserError<I>,
     P: Parser<I, O, E> + Drop,
     Q: Parser<I, O, E> + Drop,
-    requires first_callable { P.can_parse first }
-    requires first_premise { (P.claim (P.state first)).premise }
-    requires first_backtracks { (P.claim (P.state first)).backtracks }
-    requires second_callable { Q.can_parse second }
-    requires second_premise { (Q.claim (Q.state second)).premise }
-    requires second_backtracks { (Q.claim (Q.state second)).backtracks }
+    requires first { CanRead (P.can_parse first) (P.claim (P.state first)) }
+    requires second { CanRead (Q.can_parse second) (Q.claim (Q.state second)) }
     ensures { Reads I.reading E.kind
         (Either (P.claim (P.state first)).grammar (Q.claim (Q.state second)).grammar)
         (I.view input.old) result (I.view input.new) }
@@ -45,18 +42,10 @@ where
     Q: Parser<I, O2, E> + Drop,
     R: Parser<I, O3, E> + Drop,
     S: Parser<I, O2, E> + Drop,
-    requires backslash_callable { P.can_parse backslash }
-    requires backslash_premise { (P.claim (P.state backslash)).premise }
-    requires backslash_backtracks { (P.claim (P.state backslash)).backtracks }
-    requires short_callable { Q.can_parse short }
-    requires short_premise { (Q.claim (Q.state short)).premise }
-    requires short_backtracks { (Q.claim (Q.state short)).backtracks }
-    requires letter_callable { R.can_parse letter }
-    requires letter_premise { (R.claim (R.state letter)).premise }
-    requires letter_backtracks { (R.claim (R.state letter)).backtracks }
-    requires unicode_callable { S.can_parse unicode }
-    requires unicode_premise { (S.claim (S.state unicode)).premise }
-    requires unicode_backtracks { (S.claim (S.state unicode)).backtracks }
+    requires backslash { CanRead (P.can_parse backslash) (P.claim (P.state backslash)) }
+    requires short { CanRead (Q.can_parse short) (Q.claim (Q.state short)) }
+    requires letter { CanRead (R.can_parse letter) (R.claim (R.state letter)) }
+    requires unicode { CanRead (S.can_parse unicode) (S.claim (S.state unicode)) }
     ensures { Reads I.reading E.kind
         (Both latter (P.claim (P.state backslash)).grammar
         (Either (Q.claim (Q.state short)).grammar
@@ -85,18 +74,10 @@ where
     Q: Parser<I, O2, E> + Drop,
     R: Parser<I, O3, E> + Drop,
     S: Parser<I, O4, E> + Drop,
-    requires first_callable { P.can_parse first }
-    requires first_premise { (P.claim (P.state first)).premise }
-    requires first_backtracks { (P.claim (P.state first)).backtracks }
-    requires backslash_callable { Q.can_parse backslash }
-    requires backslash_premise { (Q.claim (Q.state backslash)).premise }
-    requires backslash_backtracks { (Q.claim (Q.state backslash)).backtracks }
-    requires letter_callable { R.can_parse letter }
-    requires letter_premise { (R.claim (R.state letter)).premise }
-    requires letter_backtracks { (R.claim (R.state letter)).backtracks }
-    requires second_callable { S.can_parse second }
-    requires second_premise { (S.claim (S.state second)).premise }
-    requires second_backtracks { (S.claim (S.state second)).backtracks }
+    requires first { CanRead (P.can_parse first) (P.claim (P.state first)) }
+    requires backslash { CanRead (Q.can_parse backslash) (Q.claim (Q.state backslash)) }
+    requires letter { CanRead (R.can_parse letter) (R.claim (R.state letter)) }
+    requires second { CanRead (S.can_parse second) (S.claim (S.state second)) }
     ensures { Reads I.reading E.kind
         (Both pair (P.claim (P.state first)).grammar
         (Both latter (Both pair (Q.claim (Q.state backslash)).grammar

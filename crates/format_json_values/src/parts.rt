@@ -5,6 +5,7 @@ ghost use Rattle.format_parts.specs.Words.{former, latter};
 ghost use Rattle.format_json_values.specs.Pairs.{Pair};
 ghost use Rattle.std.specs.Fn.{CalledAtMut};
 ghost use Rattle.std.specs.Prelude.{◌≡◌, false};
+ghost use Rattle.winnow.specs.Claim.{CanRead};
 ghost use Rattle.winnow.specs.Exact.{Reads};
 ghost use Rattle.winnow.specs.Exact.Whole.{ReadsAll};
 ghost use Rattle.winnow.specs.Grammar.{Both};
@@ -50,17 +51,12 @@ where
     requires callable { F.IsAlwaysCallable value }
     requires reads { CallsRead I.reading I.view E.kind (CalledAtMut F.FnMut) (R.grammar rule)
         value }
-    requires colon { B.can_parse colon × (B.claim (B.state colon)).premise
-        × (B.claim (B.state colon)).backtracks }
-    requires opening { B.can_parse marks.opening × (B.claim (B.state marks.opening)).premise
-        × (B.claim (B.state marks.opening)).backtracks }
-    requires comma { B.can_parse marks.comma × (B.claim (B.state marks.comma)).premise
-        × (B.claim (B.state marks.comma)).backtracks
+    requires colon { CanRead (B.can_parse colon) (B.claim (B.state colon)) }
+    requires opening { CanRead (B.can_parse marks.opening) (B.claim (B.state marks.opening)) }
+    requires comma { CanRead (B.can_parse marks.comma) (B.claim (B.state marks.comma))
         × (B.claim (B.state marks.comma)).consumes }
-    requires closing { B.can_parse marks.closing × (B.claim (B.state marks.closing)).premise
-        × (B.claim (B.state marks.closing)).backtracks }
-    requires gap { G.can_parse marks.gap × (G.claim (G.state marks.gap)).premise
-        × (G.claim (G.state marks.gap)).backtracks }
+    requires closing { CanRead (B.can_parse marks.closing) (B.claim (B.state marks.closing)) }
+    requires gap { CanRead (G.can_parse marks.gap) (G.claim (G.state marks.gap)) }
     ensures { Reads I.reading E.kind
         (Items (Pair (S.grammar names) (B.claim (B.state colon)).grammar (R.grammar rule)
         (G.claim (G.state marks.gap)).grammar) (B.claim (B.state marks.opening)).grammar

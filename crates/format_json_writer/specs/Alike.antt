@@ -1,5 +1,6 @@
 -- Proofs that values with a common encoding are equivalent.
-use Rattle.std.specs.Prelude.{◌≡◌, ◌⊎◌, ◌+◌, ◌*◌, ◌-◌, ◌==◌, if◌then◌else◌, ℕ, zero, suc, Bool}
+use Rattle.std.specs.Prelude.{◌≡◌, ◌⊎◌, ◌+◌, ◌*◌, ◌-◌, ◌==◌, if◌then◌else◌, ℕ, zero, suc}
+use Rattle.std.specs.Prelude.{Bool}
 use Rattle.std.specs.Prelude.{List, [], ◌∷◌, ◌++◌, Option, Some, None}
 use Rattle.std.specs.Prelude.{encode_utf8_all, string_bytes}
 use Rattle.std.specs.declared.string.String.{String}

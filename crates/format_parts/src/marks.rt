@@ -3,6 +3,7 @@
 ghost use Rattle.format_parts.specs.Marks.{Items};
 ghost use Rattle.format_parts.specs.Words.{former};
 ghost use Rattle.std.specs.Fn.{CalledAtMut};
+ghost use Rattle.winnow.specs.Claim.{CanRead};
 ghost use Rattle.winnow.specs.Exact.{Reads};
 ghost use Rattle.winnow.specs.Grammar.{Both, Three};
 ghost use Rattle.winnow.specs.Rule.{CallsRead};
@@ -31,15 +32,9 @@ where
     P: Parser<I, O1, E> + Drop,
     Q: Parser<I, O2, E> + Drop,
     R: Parser<I, O3, E> + Drop,
-    requires first_callable { P.can_parse first }
-    requires first_premise { (P.claim (P.state first)).premise }
-    requires first_backtracks { (P.claim (P.state first)).backtracks }
-    requires second_callable { Q.can_parse second }
-    requires second_premise { (Q.claim (Q.state second)).premise }
-    requires second_backtracks { (Q.claim (Q.state second)).backtracks }
-    requires third_callable { R.can_parse third }
-    requires third_premise { (R.claim (R.state third)).premise }
-    requires third_backtracks { (R.claim (R.state third)).backtracks }
+    requires first { CanRead (P.can_parse first) (P.claim (P.state first)) }
+    requires second { CanRead (Q.can_parse second) (Q.claim (Q.state second)) }
+    requires third { CanRead (R.can_parse third) (R.claim (R.state third)) }
     ensures { Reads I.reading E.kind
         (Three (λ _ o _. o) (P.claim (P.state first)).grammar
         (Q.claim (Q.state second)).grammar (R.claim (R.state third)).grammar)
@@ -79,17 +74,12 @@ where
     P: Parser<I, O, E> + Drop,
     B: Parser<I, M, E> + Copy + Drop,
     G: Parser<I, W, E> + Copy + Drop,
-    requires item { P.can_parse item × (P.claim (P.state item)).premise
-        × (P.claim (P.state item)).backtracks }
-    requires opening { B.can_parse marks.opening × (B.claim (B.state marks.opening)).premise
-        × (B.claim (B.state marks.opening)).backtracks }
-    requires comma { B.can_parse marks.comma × (B.claim (B.state marks.comma)).premise
-        × (B.claim (B.state marks.comma)).backtracks
+    requires item { CanRead (P.can_parse item) (P.claim (P.state item)) }
+    requires opening { CanRead (B.can_parse marks.opening) (B.claim (B.state marks.opening)) }
+    requires comma { CanRead (B.can_parse marks.comma) (B.claim (B.state marks.comma))
         × (B.claim (B.state marks.comma)).consumes }
-    requires closing { B.can_parse marks.closing × (B.claim (B.state marks.closing)).premise
-        × (B.claim (B.state marks.closing)).backtracks }
-    requires gap { G.can_parse marks.gap × (G.claim (G.state marks.gap)).premise
-        × (G.claim (G.state marks.gap)).backtracks }
+    requires closing { CanRead (B.can_parse marks.closing) (B.claim (B.state marks.closing)) }
+    requires gap { CanRead (G.can_parse marks.gap) (G.claim (G.state marks.gap)) }
     ensures { Reads I.reading E.kind
         (Items (P.claim (P.state item)).grammar (B.claim (B.state marks.opening)).grammar
         (B.claim (B.state marks.comma)).grammar (B.claim (B.state marks.closing)).grammar
@@ -127,15 +117,11 @@ where
     requires callable { F.IsAlwaysCallable value }
     requires reads { CallsRead I.reading I.view E.kind (CalledAtMut F.FnMut) (R.grammar rule)
         value }
-    requires opening { B.can_parse marks.opening × (B.claim (B.state marks.opening)).premise
-        × (B.claim (B.state marks.opening)).backtracks }
-    requires comma { B.can_parse marks.comma × (B.claim (B.state marks.comma)).premise
-        × (B.claim (B.state marks.comma)).backtracks
+    requires opening { CanRead (B.can_parse marks.opening) (B.claim (B.state marks.opening)) }
+    requires comma { CanRead (B.can_parse marks.comma) (B.claim (B.state marks.comma))
         × (B.claim (B.state marks.comma)).consumes }
-    requires closing { B.can_parse marks.closing × (B.claim (B.state marks.closing)).premise
-        × (B.claim (B.state marks.closing)).backtracks }
-    requires gap { G.can_parse marks.gap × (G.claim (G.state marks.gap)).premise
-        × (G.claim (G.state marks.gap)).backtracks }
+    requires closing { CanRead (B.can_parse marks.closing) (B.claim (B.state marks.closing)) }
+    requires gap { CanRead (G.can_parse marks.gap) (G.claim (G.state marks.gap)) }
     ensures { Reads I.reading E.kind
         (Items (Both former (R.grammar rule) (G.claim (G.state marks.gap)).grammar)
         (B.claim (B.state marks.opening)).grammar (B.claim (B.state marks.comma)).grammar

@@ -1,6 +1,7 @@
 //! Parsers in sequence. The contracts are in terms of the grammars of the parts, for any parsers
 //! and over any stream.
 ghost use Rattle.format_parts.specs.Words.{pair};
+ghost use Rattle.winnow.specs.Claim.{CanRead};
 ghost use Rattle.winnow.specs.Exact.{Reads};
 ghost use Rattle.winnow.specs.Grammar.{Both};
 ghost use Rattle.winnow.specs.Grammar.Tuples.{Four};
@@ -17,10 +18,8 @@ where
     E: ParserError<I>,
     P: Parser<I, O1, E> + Drop,
     Q: Parser<I, O2, E> + Drop,
-    requires first { P.can_parse first × (P.claim (P.state first)).premise
-        × (P.claim (P.state first)).backtracks }
-    requires second { Q.can_parse second × (Q.claim (Q.state second)).premise
-        × (Q.claim (Q.state second)).backtracks }
+    requires first { CanRead (P.can_parse first) (P.claim (P.state first)) }
+    requires second { CanRead (Q.can_parse second) (Q.claim (Q.state second)) }
     ensures { Reads I.reading E.kind
         (Both pair (P.claim (P.state first)).grammar (Q.claim (Q.state second)).grammar)
         (I.view input.old) result (I.view input.new) }
@@ -46,18 +45,10 @@ where
     Q: Parser<I, O2, E> + Drop,
     R: Parser<I, O3, E> + Drop,
     S: Parser<I, O4, E> + Drop,
-    requires first_callable { P.can_parse first }
-    requires first_premise { (P.claim (P.state first)).premise }
-    requires first_backtracks { (P.claim (P.state first)).backtracks }
-    requires second_callable { Q.can_parse second }
-    requires second_premise { (Q.claim (Q.state second)).premise }
-    requires second_backtracks { (Q.claim (Q.state second)).backtracks }
-    requires third_callable { R.can_parse third }
-    requires third_premise { (R.claim (R.state third)).premise }
-    requires third_backtracks { (R.claim (R.state third)).backtracks }
-    requires fourth_callable { S.can_parse fourth }
-    requires fourth_premise { (S.claim (S.state fourth)).premise }
-    requires fourth_backtracks { (S.claim (S.state fourth)).backtracks }
+    requires first { CanRead (P.can_parse first) (P.claim (P.state first)) }
+    requires second { CanRead (Q.can_parse second) (Q.claim (Q.state second)) }
+    requires third { CanRead (R.can_parse third) (R.claim (R.state third)) }
+    requires fourth { CanRead (S.can_parse fourth) (S.claim (S.state fourth)) }
     ensures { Reads I.reading E.kind
         (Four (P.claim (P.state first)).grammar (Q.claim (Q.state second)).grammar
         (R.claim (R.state third)).grammar (S.claim (S.state fourth)).grammar)

@@ -1,7 +1,8 @@
 -- Integers, by their first character.
 use Rattle.std.specs.Char.{digit_value}
 use Rattle.std.specs.Str.Parse.{digits_value}
-use Rattle.std.specs.Prelude.{◌≡◌, ◌⊎◌, ◌<◌, ◌≤◌, ◌↔◌, ◌^◌, ℕ, ℤ, zero, suc, pos, neg_ℤ, FitsSigned}
+use Rattle.std.specs.Prelude.{◌≡◌, ◌⊎◌, ◌<◌, ◌≤◌, ◌↔◌, ◌^◌, ℕ, ℤ, zero, suc, pos, neg_ℤ}
+use Rattle.std.specs.Prelude.{FitsSigned}
 use Rattle.std.specs.Prelude.{List, [], ◌∷◌, ◌++◌, Option, Some, None, length}
 use Rattle.std.specs.Int.{w64}
 use Rattle.std.specs.Int.{w128}

@@ -1,6 +1,7 @@
 -- The grammar of values without quotes is that of what is written.
 use Rattle.std.specs.Char.{digit_value}
-use Rattle.std.specs.Prelude.{◌≡◌, ◌⊎◌, ◌≤◌, ◌<◌, ℕ, ℤ, zero, suc, List, [], ◌∷◌, ◌++◌, Option}
+use Rattle.std.specs.Prelude.{◌≡◌, ◌⊎◌, ◌≤◌, ◌<◌, ℕ, ℤ, zero, suc, List, [], ◌∷◌, ◌++◌}
+use Rattle.std.specs.Prelude.{Option}
 use Rattle.std.specs.Prelude.{encode_utf8_all}
 use Rattle.std.specs.List.{All}
 use Rattle.std.proofs.Common.{refl, sym, subst, inl, inr, ◌∙◌, arith, append-nil}

@@ -3,6 +3,7 @@
 ghost use Rattle.format_parts.specs.Words.{latter};
 ghost use Rattle.format_toml.specs.LongGrammars.{LongOf, QuoteOf};
 ghost use Rattle.std.specs.Prelude.{◌≡◌, ⊤, None};
+ghost use Rattle.winnow.specs.Claim.{CanRead};
 ghost use Rattle.winnow.specs.Exact.{Reads};
 ghost use Rattle.winnow.specs.Grammar.{Both, Either, Gathered, Many};
 ghost use Rattle.winnow.specs.Range.{from_to};
@@ -22,8 +23,7 @@ where
     O: Drop,
     E: ParserError<I>,
     P: Parser<I, O, E> + Copy + Drop,
-    requires quote { P.can_parse quote × (P.claim (P.state quote)).premise
-        × (P.claim (P.state quote)).backtracks }
+    requires quote { CanRead (P.can_parse quote) (P.claim (P.state quote)) }
     ensures { Reads I.reading E.kind (QuoteOf (P.claim (P.state quote)).grammar)
         (I.view input.old) result (I.view input.new) }
 {
@@ -47,12 +47,9 @@ where
     S: Parser<I, W, E> + Drop,
     P: Parser<I, O, E> + Drop,
     Q: Parser<I, O, E> + Drop,
-    requires skips { S.can_parse skips × (S.claim (S.state skips)).premise
-        × (S.claim (S.state skips)).backtracks }
-    requires content { P.can_parse content × (P.claim (P.state content)).premise
-        × (P.claim (P.state content)).backtracks }
-    requires quote { Q.can_parse quote × (Q.claim (Q.state quote)).premise
-        × (Q.claim (Q.state quote)).backtracks }
+    requires skips { CanRead (S.can_parse skips) (S.claim (S.state skips)) }
+    requires content { CanRead (P.can_parse content) (P.claim (P.state content)) }
+    requires quote { CanRead (Q.can_parse quote) (Q.claim (Q.state quote)) }
     ensures { Reads I.reading E.kind
         (Both latter (S.claim (S.state skips)).grammar
         (Either (P.claim (P.state content)).grammar (Q.claim (Q.state quote)).grammar))
@@ -69,10 +66,8 @@ where
     E: ParserError<I>,
     P: Parser<I, O, E> + Drop,
     Q: Parser<I, O, E> + Drop,
-    requires first { P.can_parse first × (P.claim (P.state first)).premise
-        × (P.claim (P.state first)).backtracks }
-    requires second { Q.can_parse second × (Q.claim (Q.state second)).premise
-        × (Q.claim (Q.state second)).backtracks }
+    requires first { CanRead (P.can_parse first) (P.claim (P.state first)) }
+    requires second { CanRead (Q.can_parse second) (Q.claim (Q.state second)) }
     ensures { Reads I.reading E.kind
         (Either (P.claim (P.state first)).grammar (Q.claim (Q.state second)).grammar)
         (I.view input.old) result (I.view input.new) }
@@ -99,14 +94,11 @@ where
     G: Parser<I, W, E> + Drop,
     N: Parser<I, M, E> + Drop,
     P: Parser<I, M, E> + Drop,
-    requires backslash { B.can_parse backslash × (B.claim (B.state backslash)).premise
-        × (B.claim (B.state backslash)).backtracks }
-    requires white { G.can_parse white × (G.claim (G.state white)).premise
-        × (G.claim (G.state white)).backtracks }
-    requires newline { N.can_parse newline × (N.claim (N.state newline)).premise
-        × (N.claim (N.state newline)).backtracks }
-    requires blank { P.can_parse blank × (P.claim (P.state blank)).premise
-        × (P.claim (P.state blank)).backtracks × (P.claim (P.state blank)).consumes }
+    requires backslash { CanRead (B.can_parse backslash) (B.claim (B.state backslash)) }
+    requires white { CanRead (G.can_parse white) (G.claim (G.state white)) }
+    requires newline { CanRead (N.can_parse newline) (N.claim (N.state newline)) }
+    requires blank { CanRead (P.can_parse blank) (P.claim (P.state blank))
+        × (P.claim (P.state blank)).consumes }
     ensures { Reads I.reading E.kind
         (Both latter (B.claim (B.state backslash)).grammar
         (Both latter (G.claim (G.state white)).grammar
@@ -138,14 +130,11 @@ where
     P: Parser<I, char, E> + Drop,
     S: Parser<I, (), E> + Drop,
     N: Parser<I, M, E> + Drop,
-    requires quote { Q.can_parse quote × (Q.claim (Q.state quote)).premise
-        × (Q.claim (Q.state quote)).backtracks }
-    requires part { P.can_parse part × (P.claim (P.state part)).premise
-        × (P.claim (P.state part)).backtracks × (P.claim (P.state part)).consumes }
-    requires skips { S.can_parse skips × (S.claim (S.state skips)).premise
-        × (S.claim (S.state skips)).backtracks }
-    requires newline { N.can_parse newline × (N.claim (N.state newline)).premise
-        × (N.claim (N.state newline)).backtracks }
+    requires quote { CanRead (Q.can_parse quote) (Q.claim (Q.state quote)) }
+    requires part { CanRead (P.can_parse part) (P.claim (P.state part))
+        × (P.claim (P.state part)).consumes }
+    requires skips { CanRead (S.can_parse skips) (S.claim (S.state skips)) }
+    requires newline { CanRead (N.can_parse newline) (N.claim (N.state newline)) }
     ensures { Reads I.reading E.kind
         (LongOf (Q.claim (Q.state quote)).grammar (P.claim (P.state part)).grammar
         (S.claim (S.state skips)).grammar (N.claim (N.state newline)).grammar)

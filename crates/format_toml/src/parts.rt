@@ -4,6 +4,7 @@ ghost use Rattle.format_toml.specs.Grammars.{Listing};
 ghost use Rattle.format_parts.specs.Words.{former, latter, pair};
 ghost use Rattle.std.specs.Fn.{CalledAtMut};
 ghost use Rattle.std.specs.Prelude.{◌≡◌, ⊤, false, None};
+ghost use Rattle.winnow.specs.Claim.{CanRead};
 ghost use Rattle.winnow.specs.Range.{from_to};
 ghost use Rattle.winnow.specs.Exact.{Reads};
 ghost use Rattle.winnow.specs.Exact.Whole.{ReadsAll};
@@ -41,12 +42,10 @@ where
     P: Parser<I, O, E> + Drop,
     B: Parser<I, M, E> + Drop,
     G: Parser<I, W, E> + Copy + Drop,
-    requires element { P.can_parse element × (P.claim (P.state element)).premise
-        × (P.claim (P.state element)).backtracks }
-    requires mark { B.can_parse mark × (B.claim (B.state mark)).premise
-        × (B.claim (B.state mark)).backtracks × (B.claim (B.state mark)).consumes }
-    requires gap { G.can_parse gap × (G.claim (G.state gap)).premise
-        × (G.claim (G.state gap)).backtracks }
+    requires element { CanRead (P.can_parse element) (P.claim (P.state element)) }
+    requires mark { CanRead (B.can_parse mark) (B.claim (B.state mark))
+        × (B.claim (B.state mark)).consumes }
+    requires gap { CanRead (G.can_parse gap) (G.claim (G.state gap)) }
     ensures { Reads I.reading E.kind
         (Gathered (λ list os. list.items ≡ os)
         (Parted (Both former (P.claim (P.state element)).grammar (G.claim (G.state gap)).grammar)
@@ -78,12 +77,9 @@ where
     P: Parser<I, O1, E> + Drop,
     Q: Parser<I, O2, E> + Drop,
     R: Parser<I, O3, E> + Drop,
-    requires first { P.can_parse first × (P.claim (P.state first)).premise
-        × (P.claim (P.state first)).backtracks }
-    requires second { Q.can_parse second × (Q.claim (Q.state second)).premise
-        × (Q.claim (Q.state second)).backtracks }
-    requires third { R.can_parse third × (R.claim (R.state third)).premise
-        × (R.claim (R.state third)).backtracks }
+    requires first { CanRead (P.can_parse first) (P.claim (P.state first)) }
+    requires second { CanRead (Q.can_parse second) (Q.claim (Q.state second)) }
+    requires third { CanRead (R.can_parse third) (R.claim (R.state third)) }
     ensures { Reads I.reading E.kind
         (Three (λ o1 o2 o3. o2) (P.claim (P.state first)).grammar
         (Optional (Q.claim (Q.state second)).grammar) (R.claim (R.state third)).grammar)
@@ -111,17 +107,12 @@ where
     P: Parser<I, O, E> + Drop,
     B: Parser<I, M, E> + Copy + Drop,
     G: Parser<I, W, E> + Copy + Drop,
-    requires element { P.can_parse element × (P.claim (P.state element)).premise
-        × (P.claim (P.state element)).backtracks }
-    requires opening { B.can_parse marks.opening × (B.claim (B.state marks.opening)).premise
-        × (B.claim (B.state marks.opening)).backtracks }
-    requires comma { B.can_parse marks.comma × (B.claim (B.state marks.comma)).premise
-        × (B.claim (B.state marks.comma)).backtracks
+    requires element { CanRead (P.can_parse element) (P.claim (P.state element)) }
+    requires opening { CanRead (B.can_parse marks.opening) (B.claim (B.state marks.opening)) }
+    requires comma { CanRead (B.can_parse marks.comma) (B.claim (B.state marks.comma))
         × (B.claim (B.state marks.comma)).consumes }
-    requires closing { B.can_parse marks.closing × (B.claim (B.state marks.closing)).premise
-        × (B.claim (B.state marks.closing)).backtracks }
-    requires gap { G.can_parse marks.gap × (G.claim (G.state marks.gap)).premise
-        × (G.claim (G.state marks.gap)).backtracks }
+    requires closing { CanRead (B.can_parse marks.closing) (B.claim (B.state marks.closing)) }
+    requires gap { CanRead (G.can_parse marks.gap) (G.claim (G.state marks.gap)) }
     ensures { Reads I.reading E.kind
         (Listing (P.claim (P.state element)).grammar (B.claim (B.state marks.opening)).grammar
         (B.claim (B.state marks.comma)).grammar (B.claim (B.state marks.closing)).grammar
@@ -161,15 +152,11 @@ where
     requires callable { F.IsAlwaysCallable value }
     requires reads { CallsRead I.reading I.view E.kind (CalledAtMut F.FnMut) (R.grammar rule)
         value }
-    requires opening { B.can_parse marks.opening × (B.claim (B.state marks.opening)).premise
-        × (B.claim (B.state marks.opening)).backtracks }
-    requires comma { B.can_parse marks.comma × (B.claim (B.state marks.comma)).premise
-        × (B.claim (B.state marks.comma)).backtracks
+    requires opening { CanRead (B.can_parse marks.opening) (B.claim (B.state marks.opening)) }
+    requires comma { CanRead (B.can_parse marks.comma) (B.claim (B.state marks.comma))
         × (B.claim (B.state marks.comma)).consumes }
-    requires closing { B.can_parse marks.closing × (B.claim (B.state marks.closing)).premise
-        × (B.claim (B.state marks.closing)).backtracks }
-    requires gap { G.can_parse marks.gap × (G.claim (G.state marks.gap)).premise
-        × (G.claim (G.state marks.gap)).backtracks }
+    requires closing { CanRead (B.can_parse marks.closing) (B.claim (B.state marks.closing)) }
+    requires gap { CanRead (G.can_parse marks.gap) (G.claim (G.state marks.gap)) }
     ensures { Reads I.reading E.kind
         (Listing (Both former (R.grammar rule) (G.claim (G.state marks.gap)).grammar)
         (B.claim (B.state marks.opening)).grammar (B.claim (B.state marks.comma)).grammar
@@ -201,10 +188,8 @@ where
     requires callable { F.IsAlwaysCallable value }
     requires reads { CallsRead I.reading I.view E.kind (CalledAtMut F.FnMut) (R.grammar rule)
         value }
-    requires key { P.can_parse key × (P.claim (P.state key)).premise
-        × (P.claim (P.state key)).backtracks }
-    requires mark { Q.can_parse mark × (Q.claim (Q.state mark)).premise
-        × (Q.claim (Q.state mark)).backtracks }
+    requires key { CanRead (P.can_parse key) (P.claim (P.state key)) }
+    requires mark { CanRead (Q.can_parse mark) (Q.claim (Q.state mark)) }
     ensures { Reads I.reading E.kind
         (Three (λ k s v. (k, v)) (P.claim (P.state key)).grammar
         (Q.claim (Q.state mark)).grammar (R.grammar rule))
@@ -231,12 +216,11 @@ where
     P: Parser<I, O, E> + Drop,
     Q: Parser<I, C, E> + Drop,
     N: Parser<I, O, E> + Drop,
-    requires white { P.can_parse white × (P.claim (P.state white)).premise
-        × (P.claim (P.state white)).backtracks × (P.claim (P.state white)).consumes }
-    requires comment { Q.can_parse comment × (Q.claim (Q.state comment)).premise
-        × (Q.claim (Q.state comment)).backtracks }
-    requires newline { N.can_parse newline × (N.claim (N.state newline)).premise
-        × (N.claim (N.state newline)).backtracks × (N.claim (N.state newline)).consumes }
+    requires white { CanRead (P.can_parse white) (P.claim (P.state white))
+        × (P.claim (P.state white)).consumes }
+    requires comment { CanRead (Q.can_parse comment) (Q.claim (Q.state comment)) }
+    requires newline { CanRead (N.can_parse newline) (N.claim (N.state newline))
+        × (N.claim (N.state newline)).consumes }
     ensures { Reads I.reading E.kind
         (Gathered (λ all parts. ⊤) (Many (Either (P.claim (P.state white)).grammar
         (Both latter (Optional (Q.claim (Q.state comment)).grammar)
@@ -263,12 +247,9 @@ where
     P: Parser<I, O1, E> + Drop,
     Q: Parser<I, O2, E> + Drop,
     R: Parser<I, O3, E> + Drop,
-    requires first { P.can_parse first × (P.claim (P.state first)).premise
-        × (P.claim (P.state first)).backtracks }
-    requires second { Q.can_parse second × (Q.claim (Q.state second)).premise
-        × (Q.claim (Q.state second)).backtracks }
-    requires third { R.can_parse third × (R.claim (R.state third)).premise
-        × (R.claim (R.state third)).backtracks }
+    requires first { CanRead (P.can_parse first) (P.claim (P.state first)) }
+    requires second { CanRead (Q.can_parse second) (Q.claim (Q.state second)) }
+    requires third { CanRead (R.can_parse third) (R.claim (R.state third)) }
     ensures { Reads I.reading E.kind
         (Three (λ k s v. (k, v)) (P.claim (P.state first)).grammar
         (Q.claim (Q.state second)).grammar (R.claim (R.state third)).grammar)
@@ -293,12 +274,9 @@ where
     P: Parser<I, O, E> + Drop,
     Q: Parser<I, C, E> + Drop,
     G: Parser<I, W, E> + Copy + Drop,
-    requires item { P.can_parse item × (P.claim (P.state item)).premise
-        × (P.claim (P.state item)).backtracks }
-    requires comment { Q.can_parse comment × (Q.claim (Q.state comment)).premise
-        × (Q.claim (Q.state comment)).backtracks }
-    requires gap { G.can_parse gap × (G.claim (G.state gap)).premise
-        × (G.claim (G.state gap)).backtracks }
+    requires item { CanRead (P.can_parse item) (P.claim (P.state item)) }
+    requires comment { CanRead (Q.can_parse comment) (Q.claim (Q.state comment)) }
+    requires gap { CanRead (G.can_parse gap) (G.claim (G.state gap)) }
     ensures { Reads I.reading E.kind
         (Three (λ o1 o2 o3. o2) (G.claim (G.state gap)).grammar
         (Optional (Both former (P.claim (P.state item)).grammar
@@ -323,10 +301,8 @@ where
     A: Allocator + Copy,
     P: Parser<I, O, E> + Drop,
     R: Parser<I, N, E> + Drop,
-    requires line { P.can_parse line × (P.claim (P.state line)).premise
-        × (P.claim (P.state line)).backtracks }
-    requires newline { R.can_parse newline × (R.claim (R.state newline)).premise
-        × (R.claim (R.state newline)).backtracks
+    requires line { CanRead (P.can_parse line) (P.claim (P.state line)) }
+    requires newline { CanRead (R.can_parse newline) (R.claim (R.state newline))
         × (R.claim (R.state newline)).consumes }
     requires whole { I.supports_partial ≡ false }
     ensures { ReadsAll E.inner_kind
@@ -350,10 +326,8 @@ where
     O2: Drop,
     P: Parser<I, O1, E> + Drop,
     Q: Parser<I, O2, E> + Drop,
-    requires first { P.can_parse first × (P.claim (P.state first)).premise
-        × (P.claim (P.state first)).backtracks }
-    requires second { Q.can_parse second × (Q.claim (Q.state second)).premise
-        × (Q.claim (Q.state second)).backtracks }
+    requires first { CanRead (P.can_parse first) (P.claim (P.state first)) }
+    requires second { CanRead (Q.can_parse second) (Q.claim (Q.state second)) }
     ensures { Reads I.reading E.kind
         (Taken I.reading (Both pair (P.claim (P.state first)).grammar
         (Optional (Q.claim (Q.state second)).grammar)))

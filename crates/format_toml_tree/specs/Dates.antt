@@ -1,7 +1,8 @@
 -- TOML 1.0 (Offset Date-Time, Local Date-Time, Local Date, Local Time): the written form by its
 -- ABNF, which is that of RFC 3339. Relations are between bytes, an output for a prefix of them, and
 -- the rest.
-use Rattle.std.specs.Prelude.{◌≡◌, ◌⊎◌, ◌≤◌, ◌<◌, ◌+◌, ◌*◌, ◌%◌, ◌==◌, ◌&&◌, ◌||◌, not, ℕ}
+use Rattle.std.specs.Prelude.{◌≡◌, ◌⊎◌, ◌≤◌, ◌<◌, ◌+◌, ◌*◌, ◌%◌, ◌==◌, ◌&&◌, ◌||◌}
+use Rattle.std.specs.Prelude.{not, ℕ}
 use Rattle.std.specs.Prelude.{if◌then◌else◌, Bool, pos, neg_ℤ}
 use Rattle.std.specs.Prelude.{string_bytes}
 use Rattle.std.specs.Prelude.{List, [], ◌∷◌, ◌++◌, length, take, Option, Some, None}

@@ -1,5 +1,6 @@
 -- The bits that an iterator has still to give, each with its offset.
-use Rattle.std.specs.Prelude.{◌≡◌, ℕ, suc, ◌+◌, ◌*◌, ◌-◌, ◌/◌, ◌%◌, ◌<◌, ◌≤◌, ◌^◌, ◌==◌, Bool, true}
+use Rattle.std.specs.Prelude.{◌≡◌, ℕ, suc, ◌+◌, ◌*◌, ◌-◌, ◌/◌, ◌%◌, ◌<◌, ◌≤◌, ◌^◌}
+use Rattle.std.specs.Prelude.{◌==◌, Bool, true}
 use Rattle.std.specs.Prelude.{false}
 use Rattle.std.specs.Prelude.{List, [], ◌∷◌, ◌++◌, length, map, drop}
 use Rattle.std.proofs.Common.{refl, sym, ap, ◌∙◌, arith, length-append, append_assoc}

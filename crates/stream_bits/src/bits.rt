@@ -1,7 +1,8 @@
 //! The bits of bytes as a stream.
 #![tactic(auto, using(streams::specs::Ends::ends_follow))]
 
-ghost use Rattle.std.specs.Prelude.{◌≡◌, ◌<◌, ◌≤◌, ◌+◌, ◌*◌, ◌/◌, ◌%◌, ◌^◌, ◌==◌, List, Bool, true};
+ghost use Rattle.std.specs.Prelude.{◌≡◌, ◌<◌, ◌≤◌, ◌+◌, ◌*◌, ◌/◌, ◌%◌, ◌^◌, ◌==◌, List};
+ghost use Rattle.std.specs.Prelude.{Bool, true};
 ghost use Rattle.std.specs.Prelude.{length, [], ℕ, MatchOption};
 ghost use Rattle.streams.specs.Input.{Input, IsEndOf, Remaining, Takes};
 ghost use Rattle.stream_bits.specs.BitInput.{bits_follow, bits_from, bits_input, bits_left};

@@ -1,7 +1,7 @@
 //! Comparisons of the input with a literal.
 //!
 //! Those of bytes are here, those of other streams in the files below.
-ghost use Rattle.std.specs.Prelude.{◌≡◌, ℕ, List, [], ◌∷◌, length};
+ghost use Rattle.std.specs.Prelude.{◌≡◌, ◌≤◌, ℕ, List, [], ◌∷◌, length};
 ghost use Rattle.std.proofs.Common.{ap, sym, ◌∙◌};
 ghost use Rattle.std.specs.Bool.{Decides};
 ghost use Rattle.std.specs.Char.{encode_utf8};
@@ -47,17 +47,25 @@ pub trait Compare<T>: Stream {
         → Self.reading.units xs ≡ Self.reading.units ys };
 }
 
-/// The longest literal that is compared in place.
-const IN_PLACE: usize = 8;
+/// The longest literal that is compared in place if its type has its length: the loop is unrolled
+/// then, where a call would cost more than the comparison.
+const KNOWN: usize = 8;
 
-/// Returns whether bytes start with the literal. For a short one, a call would cost more than the
-/// comparison.
+/// The same if the length is known only at run time.
+pub(crate) const UNKNOWN: usize = 0;
+
+/// Returns whether bytes start with the literal, which is compared in place up to a length.
 #[inline(always)]
-pub(crate) fn begins_with(all: &[u8], literal: &[u8]) -> bool
+pub(crate) fn begins_with(all: &[u8], literal: &[u8], in_place: usize) -> bool
+    requires { length literal.now ≤ length all.now }
     ensures { Decides result (StartsWithSpelling (λ xs. xs ≡ literal.now) all.now) }
 {
     let count = literal.len();
-    if count > IN_PLACE || count > all.len() {
+    if count > in_place {
+        // Most literals that do not match differ in the first byte, which needs no call.
+        if all[0] != literal[0] {
+            return false;
+        }
         return all.starts_with(literal);
     }
     for at in 0..count {
@@ -68,13 +76,13 @@ pub(crate) fn begins_with(all: &[u8], literal: &[u8]) -> bool
     true
 }
 
-/// Compares bytes with bytes; each is looked at once.
+/// Compares bytes with bytes, in place up to a length; each is looked at once.
 #[inline(always)]
-pub(crate) fn compare_bytes(all: &[u8], literal: &[u8]) -> CompareResult
+pub(crate) fn compare_bytes(all: &[u8], literal: &[u8], in_place: usize) -> CompareResult
     ensures { ComparesAs length (λ xs. xs ≡ literal.now) all.now result }
 {
     if literal.len() <= all.len() {
-        if begins_with(all, literal) {
+        if begins_with(all, literal, in_place) {
             CompareResult::Ok(literal.len())
         } else {
             CompareResult::Error
@@ -112,7 +120,7 @@ impl<'a, 'b> Compare<&'b [u8]> for &'a [u8] {
 
     #[inline(always)]
     fn compare(&self, literal: &'b [u8]) -> CompareResult {
-        compare_bytes(*self, literal)
+        compare_bytes(*self, literal, UNKNOWN)
     }
 
     ghost same_units = { λ t xs ys p q. same-length p q };
@@ -123,7 +131,7 @@ impl<'a, const N: usize> Compare<[u8; N]> for &'a [u8] {
 
     #[inline(always)]
     fn compare(&self, literal: [u8; N]) -> CompareResult {
-        compare_bytes(*self, literal.as_slice())
+        compare_bytes(*self, literal.as_slice(), KNOWN)
     }
 
     ghost same_units = { λ t xs ys p q. same-length p q };
@@ -134,7 +142,7 @@ impl<'a, 'b, const N: usize> Compare<&'b [u8; N]> for &'a [u8] {
 
     #[inline(always)]
     fn compare(&self, literal: &'b [u8; N]) -> CompareResult {
-        compare_bytes(*self, literal.as_slice())
+        compare_bytes(*self, literal.as_slice(), KNOWN)
     }
 
     ghost same_units = { λ t xs ys p q. same-length p q };
@@ -147,7 +155,7 @@ impl<'a> Compare<char> for &'a [u8] {
     #[inline(always)]
     fn compare(&self, literal: char) -> CompareResult {
         let mut buffer = [0; 4];
-        compare_bytes(*self, literal.encode_utf8(&mut buffer).as_bytes())
+        compare_bytes(*self, literal.encode_utf8(&mut buffer).as_bytes(), KNOWN)
     }
 
     ghost same_units = { λ t xs ys p q. same-length p q };
@@ -159,7 +167,7 @@ impl<'a, 'b> Compare<&'b str> for &'a [u8] {
 
     #[inline(always)]
     fn compare(&self, literal: &'b str) -> CompareResult {
-        compare_bytes(*self, literal.as_bytes())
+        compare_bytes(*self, literal.as_bytes(), UNKNOWN)
     }
 
     ghost same_units = { λ t xs ys p q. same-length p q };

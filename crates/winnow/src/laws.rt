@@ -18,7 +18,7 @@ pub use winnow_comb::laws::{
 pub use winnow_core::laws::{
     and_then_resets_the_input, bytes_with_the_output_and_the_rest_are_the_input,
     complete_streams_give_plain_results, eof_is_not_stable, longer_inputs_have_partial_results,
-    parse_to_resets_the_input, partial_results_are_final, taken_bytes_and_the_rest_are_the_input,
+    parse_to_resets_the_input, taken_bytes_and_the_rest_are_the_input,
     taken_text_and_the_rest_are_the_input, taken_tokens_and_the_rest_are_the_input,
     text_with_the_output_and_the_rest_are_the_input, the_rest_is_a_suffix,
     the_slice_taken_and_the_rest_are_the_input,
@@ -32,6 +32,7 @@ pub use winnow_escapes::laws::{
 };
 pub use winnow_expression_trees::laws::parts::{
     a_byte_consumes, a_choice_consumes, a_value_consumes, deterministic_parts_are_stateless,
+    spans_are_stateless,
 };
 pub use winnow_expression_trees::laws::{
     Likeness, assert_rules_leave_no_tree, expression_is_unambiguous, tree_is_unique,

@@ -1,25 +1,15 @@
 -- The semantics of `length_and_then`.
 use Rattle.std.specs.Prelude.{◌≡◌, ◌<◌, ◌-◌, ℕ, Bool, false, List, length, Some, None, Err, ◌⊎◌}
-use Rattle.std.specs.Prelude.{if◌then◌else◌}
 use Rattle.streams.specs.Input.{Input, Passes}
 use Rattle.streams.specs.Kind.{Kind}
 use Rattle.streams.specs.Reading.{Reading}
-use Rattle.stream_errors.specs.Form.{Answer, ErrorForm}
+use Rattle.stream_errors.specs.Form.{ErrorForm}
 use Rattle.winnow_binary.specs.Length.{LengthRuns}
-use Rattle.winnow_binary.specs.declared.binary.impls.length_and_then.LengthAndThen.{LengthAndThen}
 use Rattle.winnow_core.specs.CompleteErr.{CompleteErrRuns}
 use Rattle.winnow_core.specs.Runs.{Runs}
 use Rattle.winnow_core.specs.Short.{ShortKind}
 pub mod Says
 pub mod Laws
-
--- the parser of the length
-abbrev pub length_and_then_count : {P G I N O E : Type 0} → LengthAndThen P G I N O E → P
-length_and_then_count s = s.count
-
--- the parser of the tokens after the length
-abbrev pub length_and_then_parser : {P G I N O E : Type 0} → LengthAndThen P G I N O E → G
-length_and_then_parser s = s.parser
 
 -- the tokens `taken` as a complete input at the same position
 abbrev pub only_first : {T : Type 0} → List T → Input T → Input T

@@ -4,19 +4,10 @@ use Rattle.streams.specs.Kind.{Kind}
 use Rattle.stream_sets.specs.Accumulator.{Accumulator}
 use Rattle.stream_sets.specs.Range.{from_to}
 use Rattle.winnow_binary.specs.Length.{LengthRuns}
-use Rattle.winnow_binary.specs.declared.binary.impls.length_repeat.LengthRepeat.{LengthRepeat}
 use Rattle.winnow_core.specs.Runs.{Runs}
 use Rattle.winnow_repeat.specs.Repeat.{RepeatManyRuns}
 pub mod Says
 pub mod Laws
-
--- the parser of the length
-abbrev pub length_repeat_count : {P G I N O C E A : Type 0} → LengthRepeat P G I N O C E A → P
-length_repeat_count s = s.count
-
--- the parser of the items after it
-abbrev pub length_repeat_parser : {P G I N O C E A : Type 0} → LengthRepeat P G I N O C E A → G
-length_repeat_parser s = s.parser
 
 -- `n` items: a repetition of exactly `n` times.
 abbrev pub CountedItems : {S T O C : Type 0} → Runs S T O → Accumulator C O → Kind → ℕ

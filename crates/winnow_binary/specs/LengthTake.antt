@@ -3,16 +3,11 @@ use Rattle.std.specs.Prelude.{ℕ, Bool, ⊤}
 use Rattle.streams.specs.Reading.{Reading}
 use Rattle.stream_errors.specs.Form.{ErrorForm}
 use Rattle.winnow_binary.specs.Length.{LengthRuns}
-use Rattle.winnow_binary.specs.declared.binary.impls.length_take.LengthTake.{LengthTake}
 use Rattle.winnow_core.specs.Runs.{Keeps, Runs}
 use Rattle.winnow_token.specs.Take.{TakeRuns}
 pub mod Says
 pub mod Laws
 pub mod Reads
-
--- the parser of the length
-abbrev pub length_take_count : {P I N E : Type 0} → LengthTake P I N E → P
-length_take_count s = s.count
 
 -- A call of the parser of the length, and a `take` of `n` tokens.
 abbrev pub LengthTakeRuns : {S T N L : Type 0} → (N → ℕ) → Reading T L → ErrorForm → Bool

@@ -5,17 +5,8 @@ use Rattle.streams.specs.Kind.{Kind, backtrack}
 use Rattle.streams.specs.Reading.{Reading}
 use Rattle.stream_errors.specs.Form.{Answer, ErrorForm}
 use Rattle.winnow_bits.specs.BitTake.{BitTakeRuns}
-use Rattle.winnow_bits.specs.declared.bits.impls.pattern.Pattern.{Pattern}
 pub mod Laws
 pub mod Says
-
--- what the bits must be
-abbrev pub bit_pattern_value : {I O E : Type 0} → Pattern I O E → O
-bit_pattern_value s = s.value
-
--- how many bits are taken
-abbrev pub bit_pattern_count : {I O E : Type 0} → Pattern I O E → ℕ
-bit_pattern_count s = s.count
 
 -- A run of a take of n bits, as an output of `width` bits whose number is `number`, that must be
 -- the number `wanted`.

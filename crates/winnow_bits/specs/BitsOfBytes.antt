@@ -5,18 +5,13 @@ use Rattle.streams.specs.Following.{most_bytes}
 use Rattle.streams.specs.Input.{Input, Passes}
 use Rattle.streams.specs.Kind.{Kind}
 use Rattle.streams.specs.Reading.{Reading}
-use Rattle.stream_errors.specs.Form.{Answer, ErrorForm, assert_kind}
+use Rattle.stream_errors.specs.Form.{ErrorForm, assert_kind}
 use Rattle.stream_bits.specs.BitInput.{bits_input}
 use Rattle.winnow_core.specs.Runs.{Runs}
 use Rattle.winnow_bits.specs.Needs.{need_in_bytes, with_need}
-use Rattle.winnow_bits.specs.declared.bits.impls.bits.BitsParser.{BitsParser}
 pub mod Inversion
 pub mod Laws
 pub mod Says
-
--- the parser that is run
-abbrev pub bits_parser : {P I O E F : Type 0} → BitsParser P I O E F → P
-bits_parser s = s.parser
 
 -- an input with the status of another
 abbrev pub with_status : {T V : Type 0} → Input T → Input V → Input T

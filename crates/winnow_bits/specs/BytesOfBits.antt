@@ -6,18 +6,13 @@ use Rattle.streams.specs.Following.{most_bytes}
 use Rattle.streams.specs.Input.{Input}
 use Rattle.streams.specs.Kind.{Kind}
 use Rattle.streams.specs.Reading.{Reading}
-use Rattle.stream_errors.specs.Form.{Answer, ErrorForm, assert_kind}
+use Rattle.stream_errors.specs.Form.{ErrorForm, assert_kind}
 use Rattle.stream_bits.specs.BitInput.{bits_input}
 use Rattle.stream_bits.specs.BitList.{bits_of}
 use Rattle.winnow_core.specs.Runs.{Runs}
 use Rattle.winnow_bits.specs.Needs.{need_in_bits, with_need}
-use Rattle.winnow_bits.specs.declared.bits.impls.bytes.Bytes.{Bytes}
 pub mod Laws
 pub mod Says
-
--- the parser that is run
-abbrev pub bytes_parser : {P I O E F : Type 0} → Bytes P I O E F → P
-bytes_parser s = s.parser
 
 -- `k` is the input of the remaining whole bytes: the remaining bits of a partly consumed byte are
 -- skipped.

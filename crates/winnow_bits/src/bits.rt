@@ -6,10 +6,7 @@ ghost use Rattle.stream_bits.specs.BitReading.{bits_reading};
 ghost use Rattle.stream_errors.specs.Form.{answer_by};
 ghost use Rattle.streams.specs.Input.{IsEndOf};
 ghost use Rattle.winnow_bits.specs.BitBool.{BitBoolRuns};
-ghost use Rattle.winnow_bits.specs.BitPattern.{bit_pattern_count, bit_pattern_value};
 ghost use Rattle.winnow_bits.specs.BitTake.{bit_take_count};
-ghost use Rattle.winnow_bits.specs.BitsOfBytes.{bits_parser};
-ghost use Rattle.winnow_bits.specs.BytesOfBits.{bytes_parser};
 
 mod fields;
 pub mod impls;
@@ -84,8 +81,8 @@ where
     Output: BitOutput,
     Count: ToUsize + Drop,
     Error: ParserError<Bits<Input>>,
-    ensures value { bit_pattern_value result ≡ pattern }
-    ensures count { bit_pattern_count result ≡ Count.number count }
+    ensures value { result.value ≡ pattern }
+    ensures count { result.count ≡ Count.number count }
 {
     Pattern {
         value: pattern,
@@ -148,7 +145,7 @@ pub fn bool<Input: ByteStream + StreamIsPartial, Error: ParserError<Bits<Input>>
 pub fn bits<Input, Output, BitError, ByteError, ParseNext>(
     parser: ParseNext,
 ) -> BitsParser<ParseNext, Input, Output, BitError, ByteError>
-    ensures { bits_parser result ≡ parser }
+    ensures { result.parser ≡ parser }
 {
     BitsParser {
         parser,
@@ -177,7 +174,7 @@ pub fn bits<Input, Output, BitError, ByteError, ParseNext>(
 pub fn bytes<Input, Output, ByteError, BitError, ParseNext>(
     parser: ParseNext,
 ) -> Bytes<ParseNext, Input, Output, ByteError, BitError>
-    ensures { bytes_parser result ≡ parser }
+    ensures { result.parser ≡ parser }
 {
     Bytes {
         parser,

@@ -3,13 +3,8 @@ use Rattle.std.specs.Prelude.{◌≡◌, Ok, Err, ◌⊎◌}
 use Rattle.streams.specs.Kind.{Kind}
 use Rattle.stream_errors.specs.Mode.{backtrack_of}
 use Rattle.winnow_core.specs.Runs.{Runs}
-use Rattle.winnow_comb.specs.declared.combinator.impls.backtrack_err.BacktrackErr.{BacktrackErr}
 pub mod Laws
 pub mod Says
-
--- the parser that is run
-abbrev pub backtrack_err_parser : {P I O E : Type 0} → BacktrackErr P I O E → P
-backtrack_err_parser s = s.parser
 
 -- A run of a child whose errors backtrack where they cut.
 abbrev pub BacktrackErrRuns : {S T O : Type 0} → Runs S T O → Runs S T O

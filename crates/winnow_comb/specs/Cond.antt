@@ -2,17 +2,8 @@
 use Rattle.std.specs.Prelude.{◌≡◌, Bool, true, false, Option, Some, None, Ok, Err, ◌⊎◌}
 use Rattle.streams.specs.Kind.{Kind}
 use Rattle.winnow_core.specs.Runs.{Runs}
-use Rattle.winnow_comb.specs.declared.combinator.impls.cond.Cond.{Cond}
 pub mod Laws
 pub mod Says
-
--- whether it is run
-abbrev pub cond_condition : {P I O E : Type 0} → Cond P I O E → Bool
-cond_condition s = s.condition
-
--- the parser that is run
-abbrev pub cond_parser : {P I O E : Type 0} → Cond P I O E → P
-cond_parser s = s.parser
 
 -- A run of a child on a condition, which stays as it is.
 abbrev pub CondRuns : {S T O : Type 0} → Runs S T O → Runs (S × Bool) T (Option O)

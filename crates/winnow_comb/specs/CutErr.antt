@@ -3,13 +3,8 @@ use Rattle.std.specs.Prelude.{◌≡◌, Ok, Err, ◌⊎◌}
 use Rattle.streams.specs.Kind.{Kind}
 use Rattle.stream_errors.specs.Mode.{cut_of}
 use Rattle.winnow_core.specs.Runs.{Runs}
-use Rattle.winnow_comb.specs.declared.combinator.impls.cut_err.CutErr.{CutErr}
 pub mod Laws
 pub mod Says
-
--- the parser that is run
-abbrev pub cut_err_parser : {P I O E : Type 0} → CutErr P I O E → P
-cut_err_parser s = s.parser
 
 -- A run of a child whose errors cut where they backtracked.
 abbrev pub CutErrRuns : {S T O : Type 0} → Runs S T O → Runs S T O

@@ -8,10 +8,6 @@ pub mod Inversion
 abbrev pub terminated_parser : {P1 P2 I O1 O2 E : Type 0} → Terminated P1 P2 I O1 O2 E → P1
 terminated_parser s = s.parser
 
--- the parser whose output is let go
-abbrev pub terminated_ignored : {P1 P2 I O1 O2 E : Type 0} → Terminated P1 P2 I O1 O2 E → P2
-terminated_ignored s = s.ignored
-
 -- A run of two children, with the output of the first.
 abbrev pub TerminatedRuns : {S1 S2 T O1 O2 : Type 0} → Runs S1 T O1 → Runs S2 T O2
     → Runs (S1 × S2) T O1

@@ -4,16 +4,7 @@ use Rattle.streams.specs.Input.{Input}
 use Rattle.stream_errors.specs.Form.{Answer}
 use Rattle.winnow_core.specs.Settles.{Settles}
 use Rattle.winnow_core.specs.Runs.{Runs}
-use Rattle.winnow_core.specs.declared.combinator.impls.and_then.AndThen.{AndThen}
 pub mod Says
-
--- the parser whose output is read
-abbrev pub and_then_outer : {F G I O U E : Type 0} → AndThen F G I O U E → F
-and_then_outer s = s.outer
-
--- the parser that reads it
-abbrev pub and_then_inner : {F G I O U E : Type 0} → AndThen F G I O U E → G
-and_then_inner s = s.inner
 
 -- an input to which no more comes
 abbrev pub completed : {T : Type 0} → Input T → Input T

@@ -1,8 +1,6 @@
--- The specification of a parser from a state: its grammar, and how its result depends on the input.
-use Rattle.std.specs.Prelude.{◌≡◌}
+-- The specification of a parser by a grammar, from a state.
 use Rattle.grammars.specs.Grammar.{Grammar, Never, TakesTokens}
 use Rattle.stream_errors.specs.Form.{ErrorForm}
-use Rattle.winnow_core.specs.Decided.{IsDecided}
 use Rattle.winnow_core.specs.Exact.{FailsBy, IsExact}
 use Rattle.winnow_core.specs.Exact.Allowed.{Allowed}
 use Rattle.winnow_core.specs.Runs.{Meaning}
@@ -19,10 +17,11 @@ pub record Claim (T O : Type 0) : Type 1 where
   pub consumes : Type 0
   -- which outputs match a prefix of the tokens, and the rest after each
   pub grammar : Grammar T O
-  -- the precondition for a result that is a function of state and input
-  pub decides : Type 0
-  -- which of its outputs are equal
-  pub alike : O → O → Type 0
+
+-- The precondition of `read`: the parser may be called, its grammar is specified, and its failures
+-- let others be tried.
+abbrev pub CanRead : {T O : Type 0} → Type 0 → Claim T O → Type 0
+CanRead callable claim = callable × claim.premise × claim.backtracks
 
 -- Runs from the state keep what is claimed.
 pub record Claimed {S T O : Type 0} (claim : Claim T O) (s : S) (meaning : Meaning S T O)
@@ -35,8 +34,6 @@ pub record Claimed {S T O : Type 0} (claim : Claim T O) (s : S) (meaning : Meani
       → FailsBy (Allowed claim.backtracks claim.spares_memory) s (meaning form)
   -- what is read takes tokens
   pub takes : claim.premise → claim.consumes → TakesTokens claim.grammar
-  -- one state and one input decide the runs
-  pub decided : (form : ErrorForm) → claim.decides → IsDecided s (meaning form) claim.alike
 
 -- No specification: its preconditions are false.
 abbrev pub no_claim : {T O : Type 0} → Claim T O
@@ -46,8 +43,6 @@ no_claim = record {
   spares_memory = ⊥;
   consumes = ⊥;
   grammar = Never;
-  decides = ⊥;
-  alike = λ o p. o ≡ p;
 }
 
 -- that is kept
@@ -57,5 +52,4 @@ nothing_claimed = record {
   exact = λ form never. absurd never;
   fails = λ form never. absurd never;
   takes = λ never consumes. absurd never;
-  decided = λ form never. absurd never;
 }

@@ -3,12 +3,7 @@ use Rattle.std.specs.Prelude.{◌≡◌}
 use Rattle.streams.specs.Kind.{Kind, backtrack, cut, incomplete, memory}
 use Rattle.winnow_core.specs.MakesError.{MakesError}
 use Rattle.winnow_core.specs.Runs.{Runs}
-use Rattle.winnow_core.specs.declared.combinator.impls.complete_err.CompleteErr.{CompleteErr}
 pub mod Says
-
--- the parser whose errors do not ask for more
-abbrev pub complete_err_parser : {F I O E : Type 0} → CompleteErr F I O E → F
-complete_err_parser s = s.parser
 
 -- an incomplete error backtracks, and others stay
 abbrev pub complete_kind : Kind → Kind

@@ -5,16 +5,7 @@ use Rattle.stream_errors.specs.Form.{need_of_kind}
 use Rattle.stream_errors.specs.Given.{Keeping, KindGiven}
 use Rattle.winnow_core.specs.MakesError.{MakesError}
 use Rattle.winnow_core.specs.Runs.{Runs}
-use Rattle.winnow_core.specs.declared.combinator.impls.context.Context.{Context}
 pub mod Laws
-
--- the parser to whose errors the context is added
-abbrev pub context_parser : {F I O E C A : Type 0} → Context F I O E C A → F
-context_parser s = s.parser
-
--- the context
-abbrev pub context_told : {F I O E C A : Type 0} → Context F I O E C A → C
-context_told s = s.context
 
 -- The kind `l` of an error of kind `k` after a context is added, by `Keeping` of the error type.
 -- The context itself is unchanged.

@@ -7,17 +7,8 @@ use Rattle.stream_errors.specs.Given.{Keeping}
 use Rattle.winnow_core.specs.Context.Laws.{WithContext}
 use Rattle.winnow_core.specs.MakesError.{MakesError}
 use Rattle.winnow_core.specs.Runs.{Runs}
-use Rattle.winnow_core.specs.declared.combinator.impls.context_with.ContextWith.{ContextWith}
 pub mod Laws
 pub mod Says
-
--- the parser to whose errors the context is added
-abbrev pub context_with_parser : {P I O E F C FI A : Type 0} → ContextWith P I O E F C FI A → P
-context_with_parser s = s.parser
-
--- the closure that returns the contexts
-abbrev pub context_with_closure : {P I O E F C FI A : Type 0} → ContextWith P I O E F C FI A → F
-context_with_closure s = s.context
 
 -- The kind `l` of an error of kind `k` after contexts are added. One call of the closure returns an
 -- iterator, whose items are added in order. The closure is unchanged.

@@ -4,7 +4,6 @@ use Rattle.streams.specs.Input.{Input}
 use Rattle.streams.specs.Kind.{memory}
 use Rattle.stream_errors.specs.Form.{Answer}
 use Rattle.winnow_core.specs.Runs.{Runs}
-pub mod Adapters
 pub mod Inputs
 
 -- The result is not out of memory.

@@ -3,13 +3,8 @@ use Rattle.std.specs.Prelude.{◌≡◌}
 use Rattle.streams.specs.Kind.{Kind}
 use Rattle.winnow_core.specs.MakesError.{MakesError}
 use Rattle.winnow_core.specs.Runs.{Runs}
-use Rattle.winnow_core.specs.declared.combinator.impls.err_into.ErrInto.{ErrInto}
 pub mod Laws
 pub mod Says
-
--- the parser whose errors are converted
-abbrev pub err_into_parser : {F I O E D : Type 0} → ErrInto F I O E D → F
-err_into_parser s = s.parser
 
 -- what a kind becomes
 abbrev pub ErrIntoBecomes : {E D : Type 0} → (E → Kind) → (D → Kind) → (E → D → Type 0) → Unit {0}

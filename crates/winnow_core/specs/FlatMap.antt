@@ -2,19 +2,9 @@
 use Rattle.std.specs.Prelude.{◌≡◌, Ok, Err, ◌⊎◌}
 use Rattle.streams.specs.Input.{Input}
 use Rattle.streams.specs.Kind.{Kind}
-use Rattle.stream_errors.specs.Form.{Answer}
 use Rattle.winnow_core.specs.Runs.{Runs}
-use Rattle.winnow_core.specs.declared.combinator.impls.flat_map.FlatMap.{FlatMap}
 pub mod Laws
 pub mod Says
-
--- the parser whose output decides
-abbrev pub flat_map_parser : {F G H I O U E : Type 0} → FlatMap F G H I O U E → F
-flat_map_parser s = s.parser
-
--- the closure that makes the parser
-abbrev pub flat_map_closure : {F G H I O U E : Type 0} → FlatMap F G H I O U E → G
-flat_map_closure s = s.map
 
 -- each parser that the closure makes, in whatever state, may be run
 abbrev pub MakesParsers : {G O H : Type 0} → (G → O → H → G → Type 0) → (H → Type 0) → Type 0

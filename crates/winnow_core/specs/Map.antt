@@ -1,20 +1,9 @@
 -- An output made of another by a closure.
 use Rattle.std.specs.Prelude.{◌≡◌, Ok, Err, ◌⊎◌}
-use Rattle.streams.specs.Input.{Input}
 use Rattle.streams.specs.Kind.{Kind}
-use Rattle.stream_errors.specs.Form.{Answer}
 use Rattle.winnow_core.specs.Runs.{Runs}
-use Rattle.winnow_core.specs.declared.combinator.impls.map.Map.{Map}
 pub mod Laws
 pub mod Says
-
--- the parser whose output is mapped
-abbrev pub map_parser : {F G I O U E : Type 0} → Map F G I O U E → F
-map_parser s = s.parser
-
--- the closure that maps
-abbrev pub map_closure : {F G I O U E : Type 0} → Map F G I O U E → G
-map_closure s = s.map
 
 -- A run of the child, and one of the closure on its output.
 abbrev pub MapRuns : {S G T O U : Type 0} → Runs S T O → (G → O → U → G → Type 0) → Runs (S × G) T U

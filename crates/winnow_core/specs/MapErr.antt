@@ -3,15 +3,6 @@ use Rattle.std.specs.Prelude.{◌≡◌}
 use Rattle.streams.specs.Kind.{Kind}
 use Rattle.winnow_core.specs.MakesError.{MakesError}
 use Rattle.winnow_core.specs.Runs.{Runs}
-use Rattle.winnow_core.specs.declared.combinator.impls.map_err.MapErr.{MapErr}
-
--- the parser whose errors are mapped
-abbrev pub map_err_parser : {F G I O E D : Type 0} → MapErr F G I O E D → F
-map_err_parser s = s.parser
-
--- the closure that maps them
-abbrev pub map_err_closure : {F G I O E D : Type 0} → MapErr F G I O E D → G
-map_err_closure s = s.map
 
 -- what a kind becomes by one call of the closure
 abbrev pub MapErrBecomes : {G E D : Type 0} → (E → Kind) → (D → Kind) → (G → E → D → G → Type 0)

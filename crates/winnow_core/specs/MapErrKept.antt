@@ -7,15 +7,6 @@ use Rattle.winnow_core.specs.MakesError.Laws.{KeepsFinal}
 use Rattle.winnow_core.specs.MapErr.{MapErrBecomes}
 use Rattle.winnow_core.specs.Runs.{Runs}
 use Rattle.winnow_core.specs.Stable.{IsFinalKind}
-use Rattle.winnow_core.specs.declared.combinator.impls.map_err_kept.MapErrKept.{MapErrKept}
-
--- the parser whose errors are mapped
-abbrev pub map_err_kept_parser : {F G I O E D : Type 0} → MapErrKept F G I O E D → F
-map_err_kept_parser s = s.parser
-
--- the closure that maps them
-abbrev pub map_err_kept_closure : {F G I O E D : Type 0} → MapErrKept F G I O E D → G
-map_err_kept_closure s = s.map
 
 -- Each call of the closure makes of an error one of its kind.
 abbrev pub KeepsEachKind : {G E D : Type 0} → (E → Kind) → (D → Kind) → (G → E → D → G → Type 0)

@@ -1,11 +1,6 @@
 -- An output that is converted.
 use Rattle.winnow_core.specs.MakesOutput.{MakesOutput}
 use Rattle.winnow_core.specs.Runs.{Runs}
-use Rattle.winnow_core.specs.declared.combinator.impls.output_into.OutputInto.{OutputInto}
-
--- the parser whose output is converted
-abbrev pub output_into_parser : {F I O U E : Type 0} → OutputInto F I O U E → F
-output_into_parser s = s.parser
 
 -- The output is one that the child's is converted to.
 abbrev pub OutputIntoRuns : {S T O U : Type 0} → (O → U → Type 0) → Runs S T O → Runs S T U

@@ -1,16 +1,10 @@
 -- An output that is read as text.
 use Rattle.std.specs.Prelude.{◌≡◌, Option, Some, None, Ok, Err, ◌⊎◌}
-use Rattle.streams.specs.Input.{Input}
 use Rattle.streams.specs.Kind.{backtrack}
 use Rattle.stream_errors.specs.Form.{Answer}
 use Rattle.winnow_core.specs.Settles.{Settles}
 use Rattle.winnow_core.specs.Runs.{Runs}
-use Rattle.winnow_core.specs.declared.combinator.impls.parse_to.ParseTo.{ParseTo}
 pub mod Says
-
--- the parser whose output is read
-abbrev pub parse_to_parser : {F I O U E : Type 0} → ParseTo F I O U E → F
-parse_to_parser s = s.parser
 
 -- Converts the output by `reads`, and backtracks if that is `None`.
 abbrev pub ParseToSettles : {O U : Type 0} → (O → Option U → Type 0) → Unit {0} → O → Answer U

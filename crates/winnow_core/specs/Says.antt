@@ -12,7 +12,6 @@ pub mod Cases
 pub mod Decided
 pub mod Lacks
 pub mod Leaf
-pub mod Longer
 pub mod Whole
 
 -- The specified outcomes of the calls from a state.

@@ -4,11 +4,6 @@ use Rattle.std.specs.declared.ops.Range.{Range}
 use Rattle.streams.specs.Input.{Input}
 use Rattle.winnow_core.specs.MakesOutput.{MakesOutput}
 use Rattle.winnow_core.specs.Runs.{Runs}
-use Rattle.winnow_core.specs.declared.combinator.impls.span.Span.{Span}
-
--- the parser whose span is returned
-abbrev pub span_parser : {F I O E : Type 0} → Span F I O E → F
-span_parser s = s.parser
 
 -- the places from one input to another, in units from the start
 abbrev pub places : {T : Type 0} → Input T → Input T → Range ℕ

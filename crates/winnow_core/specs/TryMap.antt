@@ -5,17 +5,8 @@ use Rattle.stream_errors.specs.Form.{Answer}
 use Rattle.stream_errors.specs.Given.{Keeping, KindGiven}
 use Rattle.winnow_core.specs.Settles.{Settles}
 use Rattle.winnow_core.specs.Runs.{Runs}
-use Rattle.winnow_core.specs.declared.combinator.impls.try_map.TryMap.{TryMap}
 pub mod Inversion
 pub mod Says
-
--- the parser whose output is mapped
-abbrev pub try_map_parser : {F G I O U E R : Type 0} → TryMap F G I O U E R → F
-try_map_parser s = s.parser
-
--- the closure that maps it or fails
-abbrev pub try_map_closure : {F G I O U E R : Type 0} → TryMap F G I O U E R → G
-try_map_closure s = s.map
 
 -- One call of the closure settles an output; where it fails, the error is the one that is made of
 -- the closure's: it backtracks, or is out of memory, each where the type of errors says that it

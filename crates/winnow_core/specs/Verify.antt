@@ -4,16 +4,7 @@ use Rattle.streams.specs.Kind.{backtrack}
 use Rattle.stream_errors.specs.Form.{Answer}
 use Rattle.winnow_core.specs.Settles.{Settles}
 use Rattle.winnow_core.specs.Runs.{Runs}
-use Rattle.winnow_core.specs.declared.combinator.impls.verify.Verify.{Verify}
 pub mod Says
-
--- the parser whose output is tested
-abbrev pub verify_parser : {F G I O E : Type 0} → Verify F G I O E → F
-verify_parser s = s.parser
-
--- the closure that tests it
-abbrev pub verify_closure : {F G I O E : Type 0} → Verify F G I O E → G
-verify_closure s = s.filter
 
 -- One call of the closure settles an output: found true it stays, and found false it backtracks.
 abbrev pub VerifySettles : {G O : Type 0} → (G → O → Bool → G → Type 0) → G → O → Answer O → G

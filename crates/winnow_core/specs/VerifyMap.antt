@@ -2,19 +2,9 @@
 use Rattle.std.specs.Prelude.{◌≡◌, Option, Some, None, Ok, Err, ◌⊎◌}
 use Rattle.streams.specs.Input.{Input, back_at}
 use Rattle.streams.specs.Kind.{Kind, backtrack}
-use Rattle.stream_errors.specs.Form.{Answer}
 use Rattle.winnow_core.specs.Runs.{Runs}
-use Rattle.winnow_core.specs.declared.combinator.impls.verify_map.VerifyMap.{VerifyMap}
 pub mod Laws
 pub mod Says
-
--- the parser whose output is mapped or rejected
-abbrev pub verify_map_parser : {F G I O U E : Type 0} → VerifyMap F G I O U E → F
-verify_map_parser s = s.parser
-
--- the closure that maps or rejects
-abbrev pub verify_map_closure : {F G I O U E : Type 0} → VerifyMap F G I O U E → G
-verify_map_closure s = s.filter
 
 -- A run of the child, and one of the closure on its output.
 abbrev pub VerifyMapRuns : {S G T O U : Type 0} → Runs S T O → (G → O → Option U → G → Type 0)

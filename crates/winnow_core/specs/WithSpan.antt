@@ -4,12 +4,7 @@ use Rattle.std.specs.declared.ops.Range.{Range}
 use Rattle.winnow_core.specs.MakesOutput.{MakesOutput}
 use Rattle.winnow_core.specs.Runs.{Runs}
 use Rattle.winnow_core.specs.Span.{places}
-use Rattle.winnow_core.specs.declared.combinator.impls.with_span.WithSpan.{WithSpan}
 pub mod Says
-
--- the parser whose span is returned too
-abbrev pub with_span_parser : {F I O E : Type 0} → WithSpan F I O E → F
-with_span_parser s = s.parser
 
 -- The output is the child's, and where it began and ended.
 abbrev pub WithSpanRuns : {S T O : Type 0} → Runs S T O → Runs S T (O × Range ℕ)

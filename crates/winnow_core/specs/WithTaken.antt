@@ -3,13 +3,8 @@ use Rattle.std.specs.Prelude.{◌≡◌, List, ◌++◌}
 use Rattle.streams.specs.Reading.{Reading}
 use Rattle.winnow_core.specs.MakesOutput.{MakesOutput}
 use Rattle.winnow_core.specs.Runs.{Runs}
-use Rattle.winnow_core.specs.declared.combinator.impls.with_taken.WithTaken.{WithTaken}
 pub mod Laws
 pub mod Says
-
--- the parser whose slice is returned too
-abbrev pub with_taken_parser : {F I O E : Type 0} → WithTaken F I O E → F
-with_taken_parser s = s.parser
 
 -- The output is the child's, and a slice of the tokens between its start and its end.
 abbrev pub WithTakenRuns : {S T L O : Type 0} → Reading T L → Runs S T O → Runs S T (O × L)

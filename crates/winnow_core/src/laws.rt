@@ -6,7 +6,6 @@ ghost use Rattle.winnow_core.specs.Laws.{SameRunsAlong, GoesBackOnFailure, Shows
 ghost use Rattle.winnow_core.specs.Laws.{TakesFromTheFront};
 ghost use Rattle.winnow_core.specs.Runs.{LeaveEnds};
 ghost use Rattle.winnow_core.specs.SameMeaning.{SameMeaning};
-ghost use Rattle.winnow_core.specs.Says.Longer.{EachLongerGets};
 ghost use Rattle.winnow_core.specs.Stable.{EachSettlesOnCut, IsStable};
 
 pub mod complete;
@@ -21,14 +20,6 @@ use stream_sets::parse_slice::ParseSlice;
 use streams::partial::Partial;
 use streams::stream::{Stream, StreamIsPartial};
 use streams::token_slice::TokenSlice as Tokens;
-
-/// A final result of a stable parser with specified outcomes on partial input is also the result on
-/// every longer input, partial or complete: the same kind of error or an equal output, the same
-/// state, and the rest followed by the added tokens. Out of memory is not a final result.
-pub fn partial_results_are_final<P: Parser<I, O, E>, I: Stream, O, E: ParserError<I>>()
-    ensures { (s : P.State) → (P.says s).premise → (P.says s).stable
-        → EachLongerGets s P.meaning (P.says s).alike }
-{}
 
 /// `parse_next` leaves a suffix of the input, whatever it returns.
 pub fn the_rest_is_a_suffix<P: Parser<I, O, E>, I: Stream, O, E: ParserError<I>>()

@@ -4,38 +4,20 @@
 ghost use Rattle.std.specs.Prelude.{⊤, ◌≡◌, false, IfErr};
 ghost use Rattle.stream_errors.specs.Form.{ErrorForm, answer_by};
 ghost use Rattle.streams.specs.Input.{IsEndOf};
-ghost use Rattle.winnow_core.specs.AndThen.{and_then_inner, and_then_outer};
 ghost use Rattle.winnow_core.specs.ByRef.{by_ref_name, by_ref_parser};
 ghost use Rattle.winnow_core.specs.Claim.{Claim, Claimed};
-ghost use Rattle.winnow_core.specs.CompleteErr.{complete_err_parser};
-ghost use Rattle.winnow_core.specs.Context.{context_parser, context_told};
-ghost use Rattle.winnow_core.specs.ContextWith.{context_with_closure, context_with_parser};
-ghost use Rattle.winnow_core.specs.DefaultValue.{default_value_parser};
-ghost use Rattle.winnow_core.specs.ErrInto.{err_into_parser};
 ghost use Rattle.winnow_core.specs.Exact.{IsSpared, Reads};
 ghost use Rattle.winnow_core.specs.Exact.Whole.{IsWant, ReadsAll};
-ghost use Rattle.winnow_core.specs.FlatMap.{flat_map_closure, flat_map_parser};
-ghost use Rattle.winnow_core.specs.Map.{map_closure, map_parser};
-ghost use Rattle.winnow_core.specs.MapErr.{map_err_closure, map_err_parser};
 ghost use Rattle.winnow_core.specs.Outcome.{outcome_of};
-ghost use Rattle.winnow_core.specs.OutputInto.{output_into_parser};
 ghost use Rattle.winnow_core.specs.Parse.{ParsesWhole};
 ghost use Rattle.winnow_core.specs.ParseIter.{IsReached, parse_iter_name, parse_iter_parser};
 ghost use Rattle.winnow_core.specs.ParseIter.{parse_iter_standing, reads};
 ghost use Rattle.winnow_core.specs.ParsePeek.{PeekAnswers};
-ghost use Rattle.winnow_core.specs.ParseTo.{parse_to_parser};
 ghost use Rattle.winnow_core.specs.Runs.{LeaveEnds, Meaning};
 ghost use Rattle.winnow_core.specs.Says.{Said, Says, Tells};
 ghost use Rattle.winnow_core.specs.Says.Whole.{TellsAll};
-ghost use Rattle.winnow_core.specs.Span.{span_parser};
 ghost use Rattle.winnow_core.specs.Take.{take_parser};
-ghost use Rattle.winnow_core.specs.TryMap.{try_map_closure, try_map_parser};
 ghost use Rattle.winnow_core.specs.Value.{value_kept, value_parser};
-ghost use Rattle.winnow_core.specs.Verify.{verify_closure, verify_parser};
-ghost use Rattle.winnow_core.specs.VerifyMap.{verify_map_closure, verify_map_parser};
-ghost use Rattle.winnow_core.specs.Void.{void_parser};
-ghost use Rattle.winnow_core.specs.WithSpan.{with_span_parser};
-ghost use Rattle.winnow_core.specs.WithTaken.{with_taken_parser};
 
 mod func;
 mod literals;
@@ -84,8 +66,7 @@ pub trait Parser<I: Stream, O, E: ParserError<I>>: Sized {
     // The parser's specified outcomes, for a state. `nothing_said` specifies nothing.
     ghost says: { State → Says I.Seen O };
 
-    // The parser's specification, for a state: its grammar, and whether its result is a function of
-    // the input. `no_claim` specifies nothing.
+    // The parser's specification by a grammar, for a state. `no_claim` specifies nothing.
     ghost claim: { State → Claim I.Seen O };
 
     /// Runs the parser at the start of `input` and returns its output.
@@ -304,7 +285,7 @@ pub trait Parser<I: Stream, O, E: ParserError<I>>: Sized {
     /// Replaces the output with `O2::default()`.
     #[inline(always)]
     final fn default_value<O2: Default>(self) -> DefaultValue<Self, I, O, O2, E>
-        ensures { default_value_parser result ≡ self }
+        ensures { result.parser ≡ self }
     {
         DefaultValue::new(self)
     }
@@ -312,7 +293,7 @@ pub trait Parser<I: Stream, O, E: ParserError<I>>: Sized {
     /// Discards the output. Known as `ignore` elsewhere.
     #[inline(always)]
     final fn void(self) -> Void<Self, I, O, E>
-        ensures { void_parser result ≡ self }
+        ensures { result.parser ≡ self }
     {
         Void::new(self)
     }
@@ -320,7 +301,7 @@ pub trait Parser<I: Stream, O, E: ParserError<I>>: Sized {
     /// Converts the output with `From`.
     #[inline(always)]
     final fn output_into<O2: From<O>>(self) -> OutputInto<Self, I, O, O2, E>
-        ensures { output_into_parser result ≡ self }
+        ensures { result.parser ≡ self }
     {
         OutputInto::new(self)
     }
@@ -336,7 +317,7 @@ pub trait Parser<I: Stream, O, E: ParserError<I>>: Sized {
     /// Returns the output and the consumed slice. Known as `consumed` elsewhere.
     #[inline(always)]
     final fn with_taken(self) -> WithTaken<Self, I, O, E>
-        ensures { with_taken_parser result ≡ self }
+        ensures { result.parser ≡ self }
     {
         WithTaken::new(self)
     }
@@ -347,7 +328,7 @@ pub trait Parser<I: Stream, O, E: ParserError<I>>: Sized {
     final fn span(self) -> Span<Self, I, O, E>
     where
         I: Location,
-        ensures { span_parser result ≡ self }
+        ensures { result.parser ≡ self }
     {
         Span::new(self)
     }
@@ -358,7 +339,7 @@ pub trait Parser<I: Stream, O, E: ParserError<I>>: Sized {
     final fn with_span(self) -> WithSpan<Self, I, O, E>
     where
         I: Location,
-        ensures { with_span_parser result ≡ self }
+        ensures { result.parser ≡ self }
     {
         WithSpan::new(self)
     }
@@ -368,8 +349,8 @@ pub trait Parser<I: Stream, O, E: ParserError<I>>: Sized {
     final fn map<G, O2>(self, map: G) -> Map<Self, G, I, O, O2, E>
     where
         G: FnMut(O) -> O2,
-        ensures parser { map_parser result ≡ self }
-        ensures map { map_closure result ≡ map }
+        ensures parser { result.parser ≡ self }
+        ensures map { result.map ≡ map }
     {
         Map::new(self, map)
     }
@@ -383,8 +364,8 @@ pub trait Parser<I: Stream, O, E: ParserError<I>>: Sized {
     where
         G: FnMut(O) -> Result<O2, E2>,
         E: FromExternalError<I, E2>,
-        ensures parser { try_map_parser result ≡ self }
-        ensures map { try_map_closure result ≡ map }
+        ensures parser { result.parser ≡ self }
+        ensures map { result.map ≡ map }
     {
         TryMap::new(self, map)
     }
@@ -395,8 +376,8 @@ pub trait Parser<I: Stream, O, E: ParserError<I>>: Sized {
     final fn verify_map<G, O2>(self, filter: G) -> VerifyMap<Self, G, I, O, O2, E>
     where
         G: FnMut(O) -> Option<O2>,
-        ensures parser { verify_map_parser result ≡ self }
-        ensures filter { verify_map_closure result ≡ filter }
+        ensures parser { result.parser ≡ self }
+        ensures filter { result.filter ≡ filter }
     {
         VerifyMap::new(self, filter)
     }
@@ -409,8 +390,8 @@ pub trait Parser<I: Stream, O, E: ParserError<I>>: Sized {
     where
         G: FnMut(O) -> H,
         H: Parser<I, O2, E>,
-        ensures parser { flat_map_parser result ≡ self }
-        ensures map { flat_map_closure result ≡ map }
+        ensures parser { result.parser ≡ self }
+        ensures map { result.map ≡ map }
     {
         FlatMap::new(self, map)
     }
@@ -425,8 +406,8 @@ pub trait Parser<I: Stream, O, E: ParserError<I>>: Sized {
         G: Parser<O, O2, E>,
         O: StreamIsPartial,
         E: ParserError<O>,
-        ensures outer { and_then_outer result ≡ self }
-        ensures inner { and_then_inner result ≡ inner }
+        ensures outer { result.outer ≡ self }
+        ensures inner { result.inner ≡ inner }
     {
         AndThen::new(self, inner)
     }
@@ -437,7 +418,7 @@ pub trait Parser<I: Stream, O, E: ParserError<I>>: Sized {
     final fn parse_to<O2>(self) -> ParseTo<Self, I, O, O2, E>
     where
         O: ParseSlice<O2>,
-        ensures { parse_to_parser result ≡ self }
+        ensures { result.parser ≡ self }
     {
         ParseTo::new(self)
     }
@@ -448,8 +429,8 @@ pub trait Parser<I: Stream, O, E: ParserError<I>>: Sized {
     final fn verify<G>(self, filter: G) -> Verify<Self, G, I, O, E>
     where
         G: FnMut(&O) -> bool,
-        ensures parser { verify_parser result ≡ self }
-        ensures filter { verify_closure result ≡ filter }
+        ensures parser { result.parser ≡ self }
+        ensures filter { result.filter ≡ filter }
     {
         Verify::new(self, filter)
     }
@@ -464,8 +445,8 @@ pub trait Parser<I: Stream, O, E: ParserError<I>>: Sized {
         C: Clone,
         A: Allocator,
         E: AddContext<I, C, A>,
-        ensures parser { context_parser result ≡ self }
-        ensures context { context_told result ≡ context }
+        ensures parser { result.parser ≡ self }
+        ensures context { result.context ≡ context }
     {
         Context::new(self, context, alloc)
     }
@@ -484,8 +465,8 @@ pub trait Parser<I: Stream, O, E: ParserError<I>>: Sized {
         FI: Iterator<Item = C>,
         A: Allocator,
         E: AddContext<I, C, A>,
-        ensures parser { context_with_parser result ≡ self }
-        ensures context { context_with_closure result ≡ context }
+        ensures parser { result.parser ≡ self }
+        ensures context { result.context ≡ context }
     {
         ContextWith::new(self, context, alloc)
     }
@@ -495,8 +476,8 @@ pub trait Parser<I: Stream, O, E: ParserError<I>>: Sized {
     final fn map_err<G, E2>(self, map: G) -> MapErr<Self, G, I, O, E, E2>
     where
         G: FnMut(E) -> E2,
-        ensures parser { map_err_parser result ≡ self }
-        ensures map { map_err_closure result ≡ map }
+        ensures parser { result.parser ≡ self }
+        ensures map { result.map ≡ map }
     {
         MapErr::new(self, map)
     }
@@ -504,7 +485,7 @@ pub trait Parser<I: Stream, O, E: ParserError<I>>: Sized {
     /// Turns `Incomplete` into a backtrack.
     #[inline(always)]
     final fn complete_err(self) -> CompleteErr<Self, I, O, E>
-        ensures { complete_err_parser result ≡ self }
+        ensures { result.parser ≡ self }
     {
         CompleteErr::new(self)
     }
@@ -512,7 +493,7 @@ pub trait Parser<I: Stream, O, E: ParserError<I>>: Sized {
     /// Converts errors with `From`.
     #[inline(always)]
     final fn err_into<E2: From<E>>(self) -> ErrInto<Self, I, O, E, E2>
-        ensures { err_into_parser result ≡ self }
+        ensures { result.parser ≡ self }
     {
         ErrInto::new(self)
     }

@@ -1,7 +1,6 @@
 //! The trait of stable parsers.
 ghost use Rattle.std.specs.Prelude.{◌≡◌, true};
 ghost use Rattle.stream_errors.specs.Form.{answer_by, modal};
-ghost use Rattle.winnow_core.specs.MapErrKept.{map_err_kept_closure, map_err_kept_parser};
 ghost use Rattle.winnow_core.specs.Stable.{IsStable, SettlesOnCut};
 
 mod keeps_kinds;
@@ -77,8 +76,8 @@ pub trait Stable<I: Stream, O, E: ParserError<I>>: Parser<I, O, E> {
     final fn map_err_kept<G, E2>(self, map: G) -> MapErrKept<Self, G, I, O, E, E2>
     where
         G: FnMut(E) -> E2,
-        ensures parser { map_err_kept_parser result ≡ self }
-        ensures map { map_err_kept_closure result ≡ map }
+        ensures parser { result.parser ≡ self }
+        ensures map { result.map ≡ map }
     {
         MapErrKept::new(self, map)
     }

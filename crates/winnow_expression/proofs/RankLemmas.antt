@@ -1,5 +1,6 @@
 -- Each turn of the loop is a step towards its end.
-use Rattle.std.proofs.Common.{◌≡◌, ◌≤◌, ◌<◌, ◌+◌, ◌⊎◌, ℕ, Option, Some, None, List, [], ◌∷◌, length}
+use Rattle.std.proofs.Common.{◌≡◌, ◌≤◌, ◌<◌, ◌+◌, ◌⊎◌, ℕ, Option, Some, None, List, [], ◌∷◌}
+use Rattle.std.proofs.Common.{length}
 use Rattle.std.proofs.Common.{arith, inl, inr, refl, suc, subst, sym}
 use Rattle.winnow_expression.specs.Loop.{RightOperandStarts, Nested, above, live, operand_due, rank}
 use Rattle.winnow_expression.specs.Calls.{Call, Open}

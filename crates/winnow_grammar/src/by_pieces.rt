@@ -52,8 +52,6 @@ impl<N: Rule<I, O>, F: FnMut(&mut I) -> Result<O, E>, I: Stream, O, E: ParserErr
       spares_memory = ⊥;
       consumes = N.consumes s;
       grammar = N.grammar s;
-      decides = ⊥;
-      alike = λ o p. o ≡ p;
     } };
 
     ghost leaves_ends = { λ form s i answer t j r. r.0.ends };
@@ -64,7 +62,6 @@ impl<N: Rule<I, O>, F: FnMut(&mut I) -> Result<O, E>, I: Stream, O, E: ParserErr
       exact = λ form is. pieces_exact I.reading I.following N.grammar s (N.unique s);
       fails = λ form is. pieces_fail I.reading I.following N.grammar s;
       takes = λ is some. N.takes s some;
-      decided = λ form never. absurd never;
     } };
 
     #[inline(always)]

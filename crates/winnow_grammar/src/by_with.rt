@@ -57,8 +57,6 @@ impl<
       spares_memory = CallsSpared I.view E.kind (CalledAtPair F.FnMut) s.1;
       consumes = N.consumes s.0;
       grammar = N.grammar s.0;
-      decides = ⊥;
-      alike = λ o p. o ≡ p;
     } };
 
     ghost leaves_ends = { λ form s i answer t j r. r.0.1 };
@@ -69,7 +67,6 @@ impl<
       exact = λ form is. by_exact s is (N.unique s.0);
       fails = λ form is. by_fails s is;
       takes = λ is some. N.takes s.0 some;
-      decided = λ form never. absurd never;
     } };
 
     #[inline(always)]

@@ -97,8 +97,6 @@ impl<N: Rule<I, O>, F: FnMut(&mut I) -> Result<O, E>, I: Stream, O, E: ParserErr
       spares_memory = CallsSpared I.view E.kind (CalledAtMut F.FnMut) s.1;
       consumes = N.consumes s.0;
       grammar = N.grammar s.0;
-      decides = ⊥;
-      alike = λ o p. o ≡ p;
     } };
 
     ghost leaves_ends = { λ form s i answer t j r. r.0.1 };
@@ -109,7 +107,6 @@ impl<N: Rule<I, O>, F: FnMut(&mut I) -> Result<O, E>, I: Stream, O, E: ParserErr
       exact = λ form is. by_exact s is (N.unique s.0);
       fails = λ form is. by_fails s is;
       takes = λ is some. N.takes s.0 some;
-      decided = λ form never. absurd never;
     } };
 
     #[inline(always)]

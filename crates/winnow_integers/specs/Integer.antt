@@ -1,5 +1,6 @@
 -- Integers as bytes.
-use Rattle.std.specs.Prelude.{◌≡◌, ◌<◌, ◌+◌, ◌-◌, ◌*◌, ◌^◌, ℕ, suc, List, [], ◌∷◌, length, reverse}
+use Rattle.std.specs.Prelude.{◌≡◌, ◌<◌, ◌+◌, ◌-◌, ◌*◌, ◌^◌, ℕ, suc, List, [], ◌∷◌, length}
+use Rattle.std.specs.Prelude.{reverse}
 use Rattle.std.specs.Prelude.{ℤ, pos, ◌-ℤ◌, nat_lt, if◌then◌else◌, Some, Ok, Err, ◌⊎◌}
 use Rattle.std.specs.List.{All}
 use Rattle.streams.specs.Input.{Input, Passes}

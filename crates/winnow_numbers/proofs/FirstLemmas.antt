@@ -1,5 +1,6 @@
 -- The numeral at the start of the bytes of one load.
-use Rattle.std.proofs.Common.{◌≡◌, ◌∙◌, ◌+◌, ◌*◌, ◌-◌, ◌%◌, ◌<◌, ◌≤◌, ◌++◌, ◌∷◌, ◌⊎◌, ℕ, List, []}
+use Rattle.std.proofs.Common.{◌≡◌, ◌∙◌, ◌+◌, ◌*◌, ◌-◌, ◌%◌, ◌<◌, ◌≤◌, ◌++◌, ◌∷◌}
+use Rattle.std.proofs.Common.{◌⊎◌, ℕ, List, []}
 use Rattle.std.proofs.Common.{Fits, ap, ap₂, arith, cond, drop, inl, inr, length, ltb, map, not}
 use Rattle.std.proofs.Common.{append_assoc, refl, replicate, slice_index_or, subst, sym, take, w8}
 use Rattle.std.proofs.lemmas.Bool.{cases_lt, le-ltb, lt-ltb}

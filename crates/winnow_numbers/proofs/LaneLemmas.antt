@@ -1,5 +1,6 @@
 -- Digits in the lanes of vectors: what joins neighbours, and what moves lanes.
-use Rattle.std.proofs.Common.{◌≡◌, ◌∙◌, ◌+◌, ◌*◌, ◌-◌, ◌/◌, ◌%◌, ◌^◌, ◌<◌, ◌≤◌, ◌++◌, ◌∷◌, ℕ, List}
+use Rattle.std.proofs.Common.{◌≡◌, ◌∙◌, ◌+◌, ◌*◌, ◌-◌, ◌/◌, ◌%◌, ◌^◌, ◌<◌, ◌≤◌}
+use Rattle.std.proofs.Common.{◌++◌, ◌∷◌, ℕ, List}
 use Rattle.std.proofs.Common.{[]}
 use Rattle.std.proofs.Common.{ap, ap₂, arith, length, map, refl, replicate, subst, suc, sym, zero}
 use Rattle.std.proofs.Common.{◌⊎◌, cond, get_or, inl, inr, leb, slice_index_or, take, w8}

@@ -1,5 +1,6 @@
 -- Texts of decimal numbers, and the numbers of a type that they are read as.
-use Rattle.std.specs.Prelude.{◌≡◌, ◌<◌, ◌≤◌, ℕ, ℤ, pos, neg_ℤ, List, [], ◌∷◌, ◌++◌, length, Option}
+use Rattle.std.specs.Prelude.{◌≡◌, ◌<◌, ◌≤◌, ℕ, ℤ, pos, neg_ℤ, List, [], ◌∷◌, ◌++◌, length}
+use Rattle.std.specs.Prelude.{Option}
 use Rattle.std.specs.Prelude.{IsSome, MatchOption, if◌then◌else◌, ◌==◌, ◌⊎◌}
 use Rattle.std.specs.List.{AllByRecursion}
 use Rattle.stream_sets.specs.AsChar.{IsDecDigit}

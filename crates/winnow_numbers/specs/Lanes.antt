@@ -1,5 +1,6 @@
 -- Numerals among the bytes of one load, and numbers in the lanes of vectors.
-use Rattle.std.specs.Prelude.{◌≡◌, ◌+◌, ◌*◌, ◌<◌, ◌≤◌, ⊤, ℕ, List, [], ◌∷◌, ◌++◌, length, ◌⊎◌}
+use Rattle.std.specs.Prelude.{◌≡◌, ◌+◌, ◌*◌, ◌<◌, ◌≤◌, ⊤, ℕ, List, [], ◌∷◌, ◌++◌, length}
+use Rattle.std.specs.Prelude.{◌⊎◌}
 use Rattle.std.specs.List.{AllByRecursion}
 use Rattle.stream_sets.specs.AsChar.{IsDecDigit}
 use Rattle.winnow_numbers.specs.Numeral.{IsLeadingDigit}

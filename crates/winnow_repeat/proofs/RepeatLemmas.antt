@@ -1,5 +1,6 @@
 -- Invariants of the loop that repeats items.
-use Rattle.std.proofs.Common.{◌≡◌, ◌≤◌, ◌<◌, ◌+◌, ◌-◌, ◌∙◌, ℕ, List, [], ◌∷◌, ◌++◌, length, Option}
+use Rattle.std.proofs.Common.{◌≡◌, ◌≤◌, ◌<◌, ◌+◌, ◌-◌, ◌∙◌, ℕ, List, [], ◌∷◌, ◌++◌}
+use Rattle.std.proofs.Common.{length, Option}
 use Rattle.std.proofs.Common.{Some, None, Ok, refl, sym, ap, subst, inr, arith, length-append}
 use Rattle.std.specs.Prelude.{MatchOption}
 use Rattle.std.specs.List.{FoldsTo}

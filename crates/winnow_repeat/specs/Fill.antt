@@ -8,10 +8,6 @@ use Rattle.winnow_repeat.specs.Chain.{Successes}
 use Rattle.winnow_repeat.specs.declared.combinator.impls.fill.Fill.{Fill}
 pub mod Laws
 
--- the parser that is run
-abbrev pub fill_parser : {P I O E : Type 0} → Fill P I O E → P
-fill_parser s = s.parser
-
 -- A buffer after a reference: its elements, and which reference it is.
 pub record Buffer (O : Type 0) : Type 0 where
   pub elements : List O

@@ -15,18 +15,6 @@ pub mod Laws
 pub mod Says
 pub mod Tries
 
--- how often the parser is run
-abbrev pub fold_occurrences : {P G H I O R E : Type 0} → RepeatFold P G H I O R E → Range
-fold_occurrences s = s.occurrences
-
--- the parser that is repeated
-abbrev pub fold_parser : {P G H I O R E : Type 0} → RepeatFold P G H I O R E → P
-fold_parser s = s.parser
-
--- the closure that makes the value to begin with
-abbrev pub fold_init : {P G H I O R E : Type 0} → RepeatFold P G H I O R E → G
-fold_init s = s.init
-
 -- the closure that folds an output into the value
 abbrev pub fold_closure : {P G H I O R E : Type 0} → RepeatFold P G H I O R E → H
 fold_closure s = s.op.closure

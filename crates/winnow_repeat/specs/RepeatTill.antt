@@ -11,25 +11,11 @@ use Rattle.winnow_core.specs.Runs.{Runs}
 use Rattle.stream_sets.specs.Accumulator.Holds.{Accumulates}
 use Rattle.winnow_repeat.specs.Chain.{Chain, Successes}
 use Rattle.winnow_repeat.specs.Repeat.{capacity_of}
-use Rattle.winnow_repeat.specs.declared.combinator.impls.repeat_till.RepeatTill.{RepeatTill}
 pub mod Does
 pub mod Errors
 pub mod Exact
 pub mod Laws
 pub mod Says
-
--- how many items are read before the terminator
-abbrev pub repeat_till_occurrences : {P G I O D C E A : Type 0} → RepeatTill P G I O D C E A
-    → Range
-repeat_till_occurrences s = s.occurrences
-
--- the parser of the items
-abbrev pub repeat_till_parser : {P G I O D C E A : Type 0} → RepeatTill P G I O D C E A → P
-repeat_till_parser s = s.parser
-
--- the parser that ends them
-abbrev pub repeat_till_terminator : {P G I O D C E A : Type 0} → RepeatTill P G I O D C E A → G
-repeat_till_terminator s = s.terminator
 
 -- how many items there is room for after the least, if there is a greatest number
 abbrev pub room_behind : ℕ → Option ℕ → Option ℕ

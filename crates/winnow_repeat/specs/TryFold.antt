@@ -10,19 +10,6 @@ use Rattle.winnow_repeat.specs.Fold.{RangedFoldMany}
 use Rattle.winnow_repeat.specs.declared.combinator.impls.try_fold.RepeatTryFold.{RepeatTryFold}
 pub mod Says
 
--- how often the parser is run
-abbrev pub try_fold_occurrences : {P G H I O R E X : Type 0} → RepeatTryFold P G H I O R E X
-    → Range
-try_fold_occurrences s = s.occurrences
-
--- the parser that is repeated
-abbrev pub try_fold_parser : {P G H I O R E X : Type 0} → RepeatTryFold P G H I O R E X → P
-try_fold_parser s = s.parser
-
--- the closure that makes the value to begin with
-abbrev pub try_fold_init : {P G H I O R E X : Type 0} → RepeatTryFold P G H I O R E X → G
-try_fold_init s = s.init
-
 -- the closure that folds an output into the value, or fails
 abbrev pub try_fold_closure : {P G H I O R E X : Type 0} → RepeatTryFold P G H I O R E X → H
 try_fold_closure s = s.op.closure

@@ -10,19 +10,6 @@ use Rattle.winnow_repeat.specs.declared.combinator.impls.verify_fold.RepeatVerif
 }
 pub mod Says
 
--- how often the parser is run
-abbrev pub verify_fold_occurrences : {P G H I O R E : Type 0} → RepeatVerifyFold P G H I O R E
-    → Range
-verify_fold_occurrences s = s.occurrences
-
--- the parser that is repeated
-abbrev pub verify_fold_parser : {P G H I O R E : Type 0} → RepeatVerifyFold P G H I O R E → P
-verify_fold_parser s = s.parser
-
--- the closure that makes the value to begin with
-abbrev pub verify_fold_init : {P G H I O R E : Type 0} → RepeatVerifyFold P G H I O R E → G
-verify_fold_init s = s.init
-
 -- the closure that folds an output into the value, or rejects it
 abbrev pub verify_fold_closure : {P G H I O R E : Type 0} → RepeatVerifyFold P G H I O R E → H
 verify_fold_closure s = s.op.closure

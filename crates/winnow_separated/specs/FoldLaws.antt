@@ -1,16 +1,46 @@
 -- Laws of elements that are folded.
-use Rattle.std.specs.Prelude.{◌≡◌, ◌<◌, List, [], ◌∷◌, length, Ok, ⊤}
+use Rattle.std.specs.Prelude.{◌≡◌, ◌<◌, List, [], ◌∷◌, length, Ok, Err, ⊤}
+use Rattle.std.proofs.Common.{sym, subst, ◌∙◌}
 use Rattle.streams.specs.Input.{Input}
-use Rattle.winnow_core.specs.Decides.{DecidesOutputs}
+use Rattle.stream_errors.specs.Form.{Answer}
+use Rattle.winnow_core.specs.Decided.{EqualResults, IsDecided, NotMemory}
 use Rattle.winnow_core.specs.Runs.{Runs}
 use Rattle.winnow_separated.specs.SeparatedFoldl1.{FoldsLeft}
 use Rattle.winnow_separated.specs.SeparatedFoldr1.{FoldsRight}
 
--- each run that succeeds consumes
-abbrev pub Consumes : {S T O : Type 0} → Runs S T O → Type 0
-Consumes {S} {T} {O} run =
-    (s : S) (i : Input T) (o : O) (t : S) (j : Input T) → run s i (Ok o) t j
+-- Successful calls, the last first, lead from a state to another.
+abbrev pub Leads : {S T O : Type 0} → Runs S T O → S → List (Input T × O × Input T) → S → Type 0
+Leads run s [] t = t ≡ s
+Leads {S} run s (call ∷ calls) t =
+    (u : S) × Leads run s calls u × run u call.0 (Ok call.1) t call.2
+
+-- `Reaches run s t`: zero or more successful calls lead from the state `s` to `t`.
+abbrev pub Reaches : {S T O : Type 0} → Runs S T O → S → S → Type 0
+Reaches {S} {T} {O} run s t = (calls : List (Input T × O × Input T)) × Leads run s calls t
+
+-- A successful call from `s` consumes input.
+abbrev pub ConsumesFrom : {S T O : Type 0} → Runs S T O → S → Type 0
+ConsumesFrom {S} {T} {O} run s =
+    (i : Input T) (o : O) (t : S) (j : Input T) → run s i (Ok o) t j
     → length j.left.tokens < length i.left.tokens
+
+-- So does one from each state that `s` reaches.
+abbrev pub Consumes : {S T O : Type 0} → Runs S T O → S → Type 0
+Consumes {S} run s = (t : S) → Reaches run s t → ConsumesFrom run t
+
+-- Unless a call is out of memory, each state that `s` reaches and the input determine whether it
+-- succeeds, the kind of its error, its new state and the rest. Its outputs may differ.
+abbrev pub Decides : {S T O : Type 0} → Runs S T O → S → Type 0
+Decides {S} {T} {O} run s =
+    (t : S) → Reaches run s t → (i : Input T) (answer other : Answer O) (u v : S) (j k : Input T)
+    → NotMemory answer → NotMemory other → run t i answer u j → run t i other v k
+    → EqualResults (λ o p. ⊤) answer other × (u ≡ v) × (j ≡ k)
+
+-- Each state that `s` reaches and the input determine the output of a call that succeeds.
+abbrev pub DecidesOutputs : {S T O : Type 0} → Runs S T O → S → Type 0
+DecidesOutputs {S} {T} {O} run s =
+    (t : S) → Reaches run s t → (i : Input T) (o p : O) (u v : S) (j k : Input T)
+    → run t i (Ok o) u j → run t i (Ok p) v k → o ≡ p
 
 -- Separators and the elements after them, each where the one before it ended, with their outputs:
 -- from a state and an input through states and inputs.
@@ -28,10 +58,10 @@ Turns {T = T} run separator s i (link ∷ links) (place ∷ places) =
 -- and separators of both are the outputs of one list of runs, the first folded to the left and the
 -- second to the right, and both leave the same. Where outputs are decided too, these are the same
 -- elements and separators.
-abbrev pub FoldTheSame : {S W Q T O D : Type 0} → (Q → O → D → O → O → Q → Type 0) → Runs S T O
-    → Runs W T D → Runs (S × W × Q) T O → Runs (S × W × Q) T O → Type 0
-FoldTheSame {S} {W} {Q} {T} {O} {D} step run separator to_left to_right =
-    (s : S × W × Q) (i : Input T) (left right : O) (t u : S × W × Q) (j k : Input T)
+abbrev pub SameFolds : {S W Q T O D : Type 0} → (Q → O → D → O → O → Q → Type 0) → Runs S T O
+    → Runs W T D → Runs (S × W × Q) T O → Runs (S × W × Q) T O → S × W × Q → Type 0
+SameFolds {S} {W} {Q} {T} {O} {D} step run separator to_left to_right s =
+    (i : Input T) (left right : O) (t u : S × W × Q) (j k : Input T)
     → to_left s i (Ok left) t j → to_right s i (Ok right) u k
     → (v : S) × (n : Input T) × (places : List ((S × W) × Input T))
     × (first : O) × (links : List (D × O)) × (one : O) × (others : List (D × O))
@@ -40,4 +70,56 @@ FoldTheSame {S} {W} {Q} {T} {O} {D} step run separator to_left to_right =
     × run s.0 i (Ok one) v n × Turns run separator (v, s.1) n others places
     × FoldsRight step s.2 one others right u.2
     × (t.0 ≡ u.0) × (t.1 ≡ u.1) × (j ≡ k)
-    × (DecidesOutputs run → DecidesOutputs separator → (first ≡ one) × (links ≡ others))
+    × (DecidesOutputs run s.0 → DecidesOutputs separator s.1
+    → (first ≡ one) × (links ≡ others))
+
+-- From a state whose separators consume, and from which state and input determine the runs of
+-- elements and separators.
+abbrev pub FoldTheSame : {S W Q T O D : Type 0} → (Q → O → D → O → O → Q → Type 0) → Runs S T O
+    → Runs W T D → Runs (S × W × Q) T O → Runs (S × W × Q) T O → Type 0
+FoldTheSame {S} {W} {Q} step run separator to_left to_right =
+    (s : S × W × Q) → Decides run s.0 → Decides separator s.1 → Consumes separator s.1
+    → SameFolds step run separator to_left to_right s
+
+-- From a state with these premises of its element and its separator, if that consumes.
+abbrev pub FoldTheSameIf : {S W Q T O D : Type 0} → (S → Type 0) → (W → Type 0)
+    → (Q → O → D → O → O → Q → Type 0) → Runs S T O → Runs W T D → Runs (S × W × Q) T O
+    → Runs (S × W × Q) T O → Type 0
+FoldTheSameIf {S} {W} {Q} premise between step run separator to_left to_right =
+    (s : S × W × Q) → premise s.0 → between s.1 → ConsumesFrom separator s.1
+    → SameFolds step run separator to_left to_right s
+
+-- ---- parsers whose result is a function of state and input keep their state
+
+module _ {S T O : Type 0} {run : Runs S T O} {s : S} {alike : O → O → Type 0}
+    (decided : IsDecided s run alike) where
+  reaches_itself : (t : S) (calls : List (Input T × O × Input T)) → Leads run s calls t → t ≡ s
+  reaches_itself t [] e = e
+  reaches_itself t ((i, o, j) ∷ calls) (u, leads, ran) =
+      let P : S → Type 0 = λ x. run x i (Ok o) t j in
+      (decided.kept i (Ok o) t j (λ e. cc) (subst P (reaches_itself u calls leads) ran)).0
+
+  pub decided_decides : Decides run s
+  decided_decides t (calls, leads) i answer other u v j k free too ran also =
+      let P : S → Type 0 = λ x. run x i answer u j in
+      let Q : S → Type 0 = λ x. run x i other v k in
+      let same = reaches_itself t calls leads in
+      let one = subst P same ran in
+      let two = subst Q same also in
+      let both = decided.decided i answer other u v j k free too one two in (
+        equal_ends answer other both.0,
+        (decided.kept i answer u j free one).0 ∙ sym (decided.kept i other v k too two).0,
+        both.1,
+      )
+    where
+      equal_ends : (answer other : Answer O) → EqualResults alike answer other
+          → EqualResults (λ o p. ⊤) answer other
+      equal_ends (Ok o) (Ok p) is = tt
+      equal_ends (Ok o) (Err l) is = is
+      equal_ends (Err k) (Ok p) is = is
+      equal_ends (Err k) (Err l) is = is
+
+  pub decided_consumes : ConsumesFrom run s → Consumes run s
+  decided_consumes consumes t (calls, leads) i o u j ran =
+      let P : S → Type 0 = λ x. run x i (Ok o) u j in
+      consumes i o u j (subst P (reaches_itself t calls leads) ran)

@@ -20,10 +20,6 @@ foldl1_parser s = s.link.parser
 abbrev pub foldl1_separator : {P S H I O D E : Type 0} → SeparatedFoldl1 P S H I O D E → S
 foldl1_separator s = s.link.separator
 
--- the closure that joins a value, a separator and an element
-abbrev pub foldl1_closure : {P S H I O D E : Type 0} → SeparatedFoldl1 P S H I O D E → H
-foldl1_closure s = s.op
-
 -- The value of a first element and the links after it, from the left: the closure joins the value
 -- so far, a separator and the element after it.
 abbrev pub FoldsLeft : {Q O D : Type 0} → (Q → O → D → O → O → Q → Type 0) → Q → O → List (D × O)

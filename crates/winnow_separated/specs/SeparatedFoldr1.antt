@@ -3,7 +3,6 @@ use Rattle.std.specs.Prelude.{◌≡◌, List, [], ◌∷◌, None, Ok, Err, ◌
 use Rattle.std.specs.declared.vec.Vec.{Vec}
 use Rattle.streams.specs.Input.{Input}
 use Rattle.streams.specs.Kind.{Kind}
-use Rattle.stream_errors.specs.Form.{Answer}
 use Rattle.stream_sets.specs.Accumulator.{list_kept}
 use Rattle.stream_sets.specs.Range.{from_to}
 use Rattle.winnow_core.specs.Runs.{Runs}
@@ -22,10 +21,6 @@ foldr1_parser s = s.pair.1
 -- the parser of the separators
 abbrev pub foldr1_separator : {P S H I O D E A : Type 0} → SeparatedFoldr1 P S H I O D E A → S
 foldr1_separator s = s.pair.0
-
--- the closure that joins an element, a separator and the value of the elements after it
-abbrev pub foldr1_closure : {P S H I O D E A : Type 0} → SeparatedFoldr1 P S H I O D E A → H
-foldr1_closure s = s.op
 
 -- The value of a first element and the links after it, from the right: the closure joins the
 -- element, the first separator and the value of the elements after it. It is called for the last

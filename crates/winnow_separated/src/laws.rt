@@ -1,6 +1,5 @@
 //! Laws of elements with separators, each proved by a function that does nothing.
-ghost use Rattle.winnow_core.specs.Decides.{Decides};
-ghost use Rattle.winnow_separated.specs.FoldLaws.{Consumes, FoldTheSame};
+ghost use Rattle.winnow_separated.specs.FoldLaws.{FoldTheSame, FoldTheSameIf};
 ghost use Rattle.winnow_separated.specs.SeparatedLaws.{LeavesTheSeparator};
 
 pub mod complete;
@@ -34,7 +33,8 @@ pub fn separated_leaves_a_separator_without_an_element<
 /// then [`separated_foldl1`](crate::combinator::separated_foldl1) and
 /// [`separated_foldr1`](crate::combinator::separated_foldr1) fold the same elements. From one state
 /// and input, if both succeed, these are the outputs of one list of calls, and both leave the same
-/// rest.
+/// rest. Both conditions are only on the states that this element and this separator reach
+/// (`of_runs`). Parsers whose outcomes are specified meet the second one (`of_outcomes`).
 pub fn separated_folds_agree<
     P: Parser<I, O, E>,
     S: Parser<I, D, E>,
@@ -45,9 +45,11 @@ pub fn separated_folds_agree<
     E: ParserError<I>,
     A: Allocator + Copy,
 >()
-    ensures { Decides (P.meaning E.form) → Decides (S.meaning E.form)
-        → Consumes (S.meaning E.form)
-        → FoldTheSame H.step (P.meaning E.form) (S.meaning E.form)
+    ensures of_runs { FoldTheSame H.step (P.meaning E.form) (S.meaning E.form)
+        (⟦<SeparatedFoldl1<P, S, H, I, O, D, E> as Parser<I, O, E>>⟧.meaning E.form)
+        (⟦<SeparatedFoldr1<P, S, H, I, O, D, E, A> as Parser<I, O, E>>⟧.meaning E.form) }
+    ensures of_outcomes { FoldTheSameIf (λ s. (P.says s).premise) (λ s. (S.says s).premise)
+        H.step (P.meaning E.form) (S.meaning E.form)
         (⟦<SeparatedFoldl1<P, S, H, I, O, D, E> as Parser<I, O, E>>⟧.meaning E.form)
         (⟦<SeparatedFoldr1<P, S, H, I, O, D, E, A> as Parser<I, O, E>>⟧.meaning E.form) }
 {}

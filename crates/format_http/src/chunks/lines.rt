@@ -3,6 +3,7 @@
 #![tactic(auto)]
 
 ghost use Rattle.format_http.specs.Chunks.Lines.{Ended, Extensions, Line, TextOrToken};
+ghost use Rattle.winnow.specs.Claim.{CanRead};
 ghost use Rattle.winnow.specs.Exact.{Reads};
 ghost use Rattle.winnow.specs.Once.{TokenEqInjective};
 ghost use Rattle.winnow.specs.Grammar.{Literally};
@@ -26,8 +27,7 @@ where
     O: Drop,
     P: Parser<I, O, E> + Drop,
     requires seen { TokenEqInjective I.seen_as }
-    requires behind { P.can_parse behind × (P.claim (P.state behind)).premise
-        × (P.claim (P.state behind)).backtracks }
+    requires behind { CanRead (P.can_parse behind) (P.claim (P.state behind)) }
     ensures { Reads I.reading E.kind
         (Ended I.reading I.seen_as (Literally I.reading I.spells (λ s _. s))
         (P.claim (P.state behind)).grammar) (I.view input.old) result (I.view input.new) }
@@ -47,8 +47,7 @@ where
     A: Allocator + Copy,
     P: Parser<I, I::Slice, E> + Drop,
     requires seen { TokenEqInjective I.seen_as }
-    requires value { P.can_parse value × (P.claim (P.state value)).premise
-        × (P.claim (P.state value)).backtracks }
+    requires value { CanRead (P.can_parse value) (P.claim (P.state value)) }
     ensures { Reads I.reading E.kind
         (Ended I.reading I.seen_as (Literally I.reading I.spells (λ s _. s))
         (Extensions I.reading I.seen_as (Literally I.reading I.spells (λ s _. s))
@@ -72,8 +71,7 @@ where
     A: Allocator + Copy,
     P: Parser<I, (), E> + Drop,
     requires seen { TokenEqInjective I.seen_as }
-    requires text { P.can_parse text × (P.claim (P.state text)).premise
-        × (P.claim (P.state text)).backtracks }
+    requires text { CanRead (P.can_parse text) (P.claim (P.state text)) }
     ensures { Reads I.reading E.kind
         (Ended I.reading I.seen_as (Literally I.reading I.spells (λ s _. s))
         (Extensions I.reading I.seen_as (Literally I.reading I.spells (λ s _. s))

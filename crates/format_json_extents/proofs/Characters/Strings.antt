@@ -1,5 +1,6 @@
 -- A string by its bytes is one by its characters.
-use Rattle.std.proofs.Common.{◌≡◌, ◌∙◌, ◌⊎◌, ◌++◌, ◌<◌, ◌≤◌, ℕ, zero, suc, [], ◌∷◌, List, ap}
+use Rattle.std.proofs.Common.{◌≡◌, ◌∙◌, ◌⊎◌, ◌++◌, ◌<◌, ◌≤◌, ℕ, zero, suc, [], ◌∷◌, List}
+use Rattle.std.proofs.Common.{ap}
 use Rattle.std.proofs.Common.{append_assoc, arith, inl, inr, length, length-append, refl, subst}
 use Rattle.std.proofs.Common.{sym}
 use Rattle.std.specs.Char.{encode_utf8}

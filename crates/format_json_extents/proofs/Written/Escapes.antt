@@ -1,5 +1,6 @@
 -- Proofs that an escape sequence encodes a character.
-use Rattle.std.proofs.Common.{◌≡◌, ◌∙◌, ◌++◌, ◌<◌, ◌≤◌, ◌+◌, ◌*◌, ◌-◌, ℕ, [], ◌∷◌, List}
+use Rattle.std.proofs.Common.{◌≡◌, ◌∙◌, ◌++◌, ◌<◌, ◌≤◌, ◌+◌, ◌*◌, ◌-◌, ℕ, [], ◌∷◌}
+use Rattle.std.proofs.Common.{List}
 use Rattle.std.proofs.Common.{ap, append_assoc, arith, inl, inr, length, length-append, refl}
 use Rattle.std.proofs.Common.{sym}
 use Rattle.std.proofs.Math.Utf8.{low_scalar}

@@ -1,5 +1,6 @@
 -- Of grammars that leave one rest, such grammars are made; and what of them takes tokens.
-use Rattle.std.specs.Prelude.{◌≡◌, ◌⊎◌, ◌≤◌, ◌<◌, ◌+◌, ℕ, List, [], ◌∷◌, ◌++◌, length, Option}
+use Rattle.std.specs.Prelude.{◌≡◌, ◌⊎◌, ◌≤◌, ◌<◌, ◌+◌, ℕ, List, [], ◌∷◌, ◌++◌, length}
+use Rattle.std.specs.Prelude.{Option}
 use Rattle.std.specs.Prelude.{Some, Bool}
 use Rattle.std.proofs.Common.{sym, ap, subst, inl, inr, ◌∙◌, arith, append_assoc, length-append}
 use Rattle.streams.specs.Equal.{same_first, same_others, same_some}

@@ -3,7 +3,7 @@ ghost use Rattle.std.specs.Prelude.{◌≡◌, [], ◌∷◌};
 ghost use Rattle.std.specs.Str.{chars};
 ghost use Rattle.stream_searches.specs.TextCompare.{same_width};
 
-use crate::compare::{Compare, CompareResult, compare_bytes};
+use crate::compare::{Compare, CompareResult, UNKNOWN, compare_bytes};
 use streams::stream::Stream;
 
 impl<'a> Compare<char> for &'a str {
@@ -32,7 +32,7 @@ impl<'a, 'b> Compare<&'b str> for &'a str {
 
     #[inline(always)]
     fn compare(&self, literal: &'b str) -> CompareResult {
-        compare_bytes(self.as_bytes(), literal.as_bytes())
+        compare_bytes(self.as_bytes(), literal.as_bytes(), UNKNOWN)
     }
 
     ghost same_units = { λ t xs ys p q. same_width p q };

@@ -4,7 +4,7 @@ ghost use Rattle.stream_searches.specs.Compare.{StartsWithSpelling};
 ghost use Rattle.stream_searches.specs.FindSlice.{FindsSlice};
 ghost use Rattle.stream_searches.specs.Three.{IsOneOfThree};
 
-use crate::compare::{CompareResult, compare_bytes};
+use crate::compare::{CompareResult, UNKNOWN, compare_bytes};
 use memchr::memchr3;
 use std::ops;
 
@@ -17,13 +17,13 @@ fn first_length(all: &[u8], first: &[u8], second: &[u8], third: &[u8]) -> Option
         × IsOneOfThree first.now second.now third.now front × (all.now ≡ front ++ rest)
         × (n ≡ length front)) }
 {
-    if let CompareResult::Ok(length) = compare_bytes(all, first) {
+    if let CompareResult::Ok(length) = compare_bytes(all, first, UNKNOWN) {
         return Some(length);
     }
-    if let CompareResult::Ok(length) = compare_bytes(all, second) {
+    if let CompareResult::Ok(length) = compare_bytes(all, second, UNKNOWN) {
         return Some(length);
     }
-    if let CompareResult::Ok(length) = compare_bytes(all, third) {
+    if let CompareResult::Ok(length) = compare_bytes(all, third, UNKNOWN) {
         return Some(length);
     }
     None

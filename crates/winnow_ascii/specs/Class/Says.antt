@@ -4,18 +4,13 @@ use Rattle.std.proofs.Common.{refl, sym, subst, ◌∙◌}
 use Rattle.streams.specs.Equal.{true_is_false}
 use Rattle.streams.specs.Reading.{Reading}
 use Rattle.streams.specs.Stream.{AnswersSeen}
-use Rattle.stream_errors.specs.Form.{ErrorForm}
 use Rattle.stream_sets.specs.Once.{SetIsFunction}
 use Rattle.stream_sets.specs.Range.{from_to}
-use Rattle.winnow_core.specs.Decided.{IsDecided}
-use Rattle.winnow_core.specs.Literal.Laws.{ShowSame}
 use Rattle.winnow_core.specs.Runs.{Keeps}
 use Rattle.winnow_core.specs.Says.{Said, Says}
 use Rattle.winnow_core.specs.Says.Cases.{under}
-use Rattle.winnow_core.specs.Says.Decided.{decided_of}
 use Rattle.winnow_token.specs.TakeWhile.Says.{take_while_said, take_while_says}
 use Rattle.winnow_ascii.specs.Class.{ClassRuns}
-use Rattle.winnow_ascii.specs.Class.Laws.{class_ends}
 
 -- Tokens that are seen as the same are one character.
 abbrev pub CharIsFunction : {K T : Type 0} → (K → T) → (K → ℕ) → Type 0
@@ -43,12 +38,3 @@ module _ {K T L : Type 0} (class : ℕ → Type 0) (least : ℕ) (code : K → �
   class_said = under class_once
       (take_while_said reading (λ (_ : ⊤). AnswersSeen seen (λ k b. IsTrue b ↔ class (code k)))
       (λ _. from_to least None) tt)
-
-  -- one input decides their runs
-  pub class_decided : (form : ErrorForm) → CharIsFunction seen code
-      → IsDecided tt (Keeps (λ (_ : ⊤). ClassRuns class least code seen reading form))
-      (ShowSame reading)
-  class_decided form once =
-      decided_of reading (λ f s i answer t j r.
-      class_ends class least code seen reading f i answer j r.0)
-      class_said form once

@@ -5,13 +5,11 @@ use Rattle.std.proofs.Common.{refl, inl, inr}
 use Rattle.streams.specs.Input.{Input}
 use Rattle.streams.specs.Kind.{backtrack, cut, incomplete, memory}
 use Rattle.streams.specs.Reading.{Reading}
-use Rattle.stream_errors.specs.Form.{Answer, ErrorForm}
-use Rattle.winnow_core.specs.Decided.{IsDecided}
+use Rattle.stream_errors.specs.Form.{Answer}
 use Rattle.winnow_core.specs.Literal.Laws.{ShowSame, SpellsByText}
 use Rattle.winnow_core.specs.Outcome.{Does, Setting, backs, outcome_of}
 use Rattle.winnow_core.specs.Runs.{Keeps}
 use Rattle.winnow_core.specs.Says.{Did, IsAt, Lawful, Said, Says}
-use Rattle.winnow_core.specs.Says.Decided.{decided_of}
 use Rattle.winnow_core.specs.Says.Leaf.{leaf_said}
 use Rattle.winnow_core.specs.Then.{ComesOf, Next, Then, did_then, then_law}
 use Rattle.winnow_core.specs.Then.Steps.{asks_later, asks_meet, asks_on, cuts_hold, cuts_meet}
@@ -19,7 +17,6 @@ use Rattle.winnow_core.specs.Then.Steps.{cuts_on, else_holds, or_else, takes}
 use Rattle.winnow_core.specs.Then.Steps.{takes_hold, takes_meet}
 use Rattle.winnow_ascii.specs.Crlf.Says.{text_said, text_says}
 use Rattle.winnow_ascii.specs.LineEnding.{LineEndingRuns}
-use Rattle.winnow_ascii.specs.LineEnding.Laws.{line_ending_ends}
 
 -- The other is done where the first backs.
 abbrev pub or_other : {T O : Type 0} → Does T O → Next T O O
@@ -90,11 +87,3 @@ module _ {T L : Type 0} (spells : Bor (List ℕ) → List T → Type 0) (reading
             possible = two.possible;
             done = (backs i.left.tokens, one.done, two.done);
           }
-
-  -- one input decides its runs
-  pub line_ending_decided : (form : ErrorForm) → SpellsByText spells
-      → IsDecided tt (Keeps (λ (_ : ⊤). LineEndingRuns spells reading form)) (ShowSame reading)
-  line_ending_decided form is =
-      decided_of reading (λ f s i answer t j r.
-      line_ending_ends spells reading f i answer j r.0)
-      line_ending_said form is

@@ -14,7 +14,6 @@ use Rattle.stream_searches.specs.Compare.{IsShort, StartsWithSpelling}
 use Rattle.stream_searches.specs.FirstMatch.{StaysFirst}
 use Rattle.stream_errors.specs.Form.{Answer, ErrorForm, incomplete_kind, modal, plain}
 use Rattle.stream_errors.specs.Form.{modal-not_plain}
-use Rattle.winnow_core.specs.Decided.{IsDecided}
 use Rattle.winnow_core.specs.Literal.Laws.{ShowSame, SpellsByText, still_not_first}
 use Rattle.winnow_core.specs.Literal.Laws.{still_not_short}
 use Rattle.winnow_core.specs.Outcome.{Outcome, Setting, gave, grown, on_cut}
@@ -23,14 +22,12 @@ use Rattle.winnow_core.specs.Says.{Did, IsAt, Lawful, Said, Says}
 use Rattle.winnow_core.specs.Says.Cases.{BacksWhere, Case, LacksAfter, LacksWhere, OneCase}
 use Rattle.winnow_core.specs.Says.Cases.{TakesWhere, after_law, backs_law, cases_law, lacks_law}
 use Rattle.winnow_core.specs.Says.Cases.{takes_law}
-use Rattle.winnow_core.specs.Says.Decided.{decided_of}
 use Rattle.winnow_core.specs.Says.Lacks.{short_outcome}
 use Rattle.winnow_core.specs.Says.Leaf.{here_did, leaf_said, takes_did}
 use Rattle.winnow_core.specs.Short.{ShortKind}
 use Rattle.winnow_core.specs.Stable.Longer.{one_beginning}
 use Rattle.winnow_ascii.specs.TillLineEnding.{LineRuns, SeeksSome, SpellsOne, TillLineEndingRuns}
 use Rattle.winnow_ascii.specs.TillLineEnding.Laws.{nothing_first, stands_more}
-use Rattle.winnow_ascii.specs.TillLineEnding.Laws.{till_line_ending_ends}
 use Rattle.winnow_token.specs.TakeUntil.Says.{before_more}
 
 -- `Incomplete` is not returned: the input is complete, or errors have no kind for it.
@@ -332,12 +329,3 @@ module _ {T L : Type 0} (spells : Bor (List ℕ) → List T → Type 0)
             (none, λ ends. other (not_asked here short ends)),
             short_outcome at i None k i.left.tokens here short e,
           ))
-
-  -- one input decides their runs
-  pub till_line_ending_decided : (form : ErrorForm) → SpellsByText spells
-      → IsDecided tt (Keeps (λ (_ : ⊤). TillLineEndingRuns spells sought reading form))
-      (ShowSame reading)
-  till_line_ending_decided form is =
-      decided_of reading (λ f s i answer t j r.
-      till_line_ending_ends spells sought reading f i answer j r.0)
-      till_line_ending_said form is

@@ -9,7 +9,7 @@ use Rattle.streams.specs.Kind.{backtrack, cut, incomplete, memory}
 use Rattle.streams.specs.Reading.{Reading}
 use Rattle.stream_errors.specs.Form.{Answer}
 use Rattle.winnow_core.specs.CompleteErr.Says.{complete_err_said, complete_err_says}
-use Rattle.winnow_core.specs.Decided.Adapters.{as_long_front}
+use Rattle.winnow_core.specs.Decided.Inputs.{as_long_front}
 use Rattle.winnow_core.specs.Outcome.{Alike, Does, IsFinal, Outcome, Setting, alike_wants}
 use Rattle.winnow_core.specs.Outcome.{as_longer}
 use Rattle.winnow_core.specs.Outcome.{asks, backs, both, by_alike, cuts, gave, grown, longer}

@@ -1,8 +1,5 @@
 //! Parsers of data after its length.
 ghost use Rattle.std.specs.Prelude.{◌≡◌};
-ghost use Rattle.winnow_binary.specs.LengthAndThen.{length_and_then_count, length_and_then_parser};
-ghost use Rattle.winnow_binary.specs.LengthRepeat.{length_repeat_count, length_repeat_parser};
-ghost use Rattle.winnow_binary.specs.LengthTake.{length_take_count};
 
 use crate::binary::impls::{LengthAndThen, LengthRepeat, LengthTake};
 use std::marker::PhantomData;
@@ -24,7 +21,7 @@ use std::marker::PhantomData;
 pub fn length_take<Input, Count, Error, CountParser>(
     count: CountParser,
 ) -> LengthTake<CountParser, Input, Count, Error>
-    ensures { length_take_count result ≡ count }
+    ensures { result.count ≡ count }
 {
     LengthTake {
         count,
@@ -54,8 +51,8 @@ pub fn length_and_then<Input, Output, Count, Error, CountParser, ParseNext>(
     count: CountParser,
     parser: ParseNext,
 ) -> LengthAndThen<CountParser, ParseNext, Input, Count, Output, Error>
-    ensures count { length_and_then_count result ≡ count }
-    ensures parser { length_and_then_parser result ≡ parser }
+    ensures count { result.count ≡ count }
+    ensures parser { result.parser ≡ parser }
 {
     LengthAndThen {
         count,
@@ -88,8 +85,8 @@ pub fn length_repeat<Input, Output, Accumulator, Count, Error, CountParser, Pars
     count: CountParser,
     parser: ParseNext,
 ) -> LengthRepeat<CountParser, ParseNext, Input, Count, Output, Accumulator, Error, A>
-    ensures count { length_repeat_count result ≡ count }
-    ensures parser { length_repeat_parser result ≡ parser }
+    ensures count { result.count ≡ count }
+    ensures parser { result.parser ≡ parser }
 {
     LengthRepeat {
         alloc,

@@ -7,7 +7,7 @@ use Rattle.streams.specs.Reading.{Reading}
 use Rattle.stream_errors.specs.Form.{Answer}
 use Rattle.stream_bits.specs.BitList.{number_of}
 use Rattle.stream_bits.specs.Within.{ReadsNumber}
-use Rattle.winnow_core.specs.Decided.Adapters.{as_long_front}
+use Rattle.winnow_core.specs.Decided.Inputs.{as_long_front}
 use Rattle.winnow_core.specs.Outcome.{Does, Outcome, Setting, gave, grown, on_cut}
 use Rattle.winnow_core.specs.Runs.{Keeps}
 use Rattle.winnow_core.specs.Says.{Did, IsAt, Lawful, Said, Says}

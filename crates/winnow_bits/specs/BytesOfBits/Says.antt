@@ -12,7 +12,7 @@ use Rattle.stream_errors.specs.Form.{Answer, ErrorForm}
 use Rattle.stream_bits.specs.BitInput.{bits_from, bits_readable}
 use Rattle.stream_bits.specs.BitList.{bits_of, length_bits}
 use Rattle.stream_bits.specs.BitReading.{bits_reading}
-use Rattle.winnow_core.specs.Decided.Adapters.{as_long_front}
+use Rattle.winnow_core.specs.Decided.Inputs.{as_long_front}
 use Rattle.winnow_core.specs.Outcome.{Alike, Does, Outcome, Setting, alike_wants, both, by_alike}
 use Rattle.winnow_core.specs.Outcome.{asks, backs, cuts, gave, outcome_of, took, wants}
 use Rattle.winnow_core.specs.Runs.{LeaveEnds, Meaning}

@@ -1,6 +1,5 @@
 -- The specification of `alt` by grammars: that of the first branch, and that of the others if it
--- backtracks. `or_else_says` specifies how its result depends on the input.
-use Rattle.std.specs.Prelude.{◌≡◌}
+-- backtracks.
 use Rattle.grammars.specs.Grammar.{Either}
 use Rattle.grammars.specs.Grammar.Unique.{either_takes}
 use Rattle.winnow_core.specs.Claim.{Claim, Claimed}
@@ -17,8 +16,6 @@ or_else_claim first others = record {
   spares_memory = first.spares_memory × others.spares_memory;
   consumes = first.consumes × others.consumes;
   grammar = Either first.grammar others.grammar;
-  decides = ⊥;
-  alike = λ o p. o ≡ p;
 }
 
 -- that is kept
@@ -32,5 +29,4 @@ or_else_claimed first others = record {
       (fails_as (λ b. is.1) (λ m. m.0) (first.fails form is.0))
       (fails_as (λ b. b) (λ m. m.1) (others.fails form is.2));
   takes = λ is some. either_takes (first.takes is.0 some.0) (others.takes is.2 some.1);
-  decided = λ form never. absurd never;
 }

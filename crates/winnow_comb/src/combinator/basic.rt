@@ -2,14 +2,8 @@
 ghost use Rattle.std.specs.Prelude.{◌≡◌};
 ghost use Rattle.stream_errors.specs.Form.{answer_by};
 ghost use Rattle.streams.specs.Input.{IsEndOf};
-ghost use Rattle.winnow_comb.specs.BacktrackErr.{backtrack_err_parser};
-ghost use Rattle.winnow_comb.specs.Cond.{cond_condition, cond_parser};
-ghost use Rattle.winnow_comb.specs.CutErr.{cut_err_parser};
 ghost use Rattle.winnow_comb.specs.Empty.{EmptyRuns};
 ghost use Rattle.winnow_comb.specs.Fail.{FailRuns};
-ghost use Rattle.winnow_comb.specs.Not.{not_parser};
-ghost use Rattle.winnow_comb.specs.Opt.{opt_parser};
-ghost use Rattle.winnow_comb.specs.Peek.{peek_parser};
 
 use crate::combinator::impls::{BacktrackErr, Cond, CutErr, Not, Opt, Peek};
 use std::marker::PhantomData;
@@ -29,7 +23,7 @@ use streams::stream::Stream;
 pub fn opt<Input, Output, Error, ParseNext>(
     parser: ParseNext,
 ) -> Opt<ParseNext, Input, Output, Error>
-    ensures { opt_parser result ≡ parser }
+    ensures { result.parser ≡ parser }
 {
     Opt {
         parser,
@@ -54,8 +48,8 @@ pub fn cond<Input, Output, Error, ParseNext>(
     condition: bool,
     parser: ParseNext,
 ) -> Cond<ParseNext, Input, Output, Error>
-    ensures condition { cond_condition result ≡ condition }
-    ensures parser { cond_parser result ≡ parser }
+    ensures condition { result.condition ≡ condition }
+    ensures parser { result.parser ≡ parser }
 {
     Cond {
         condition,
@@ -77,7 +71,7 @@ pub fn cond<Input, Output, Error, ParseNext>(
 pub fn peek<Input, Output, Error, ParseNext>(
     parser: ParseNext,
 ) -> Peek<ParseNext, Input, Output, Error>
-    ensures { peek_parser result ≡ parser }
+    ensures { result.parser ≡ parser }
 {
     Peek {
         parser,
@@ -104,7 +98,7 @@ pub fn peek<Input, Output, Error, ParseNext>(
 pub fn not<Input, Output, Error, ParseNext>(
     parser: ParseNext,
 ) -> Not<ParseNext, Input, Output, Error>
-    ensures { not_parser result ≡ parser }
+    ensures { result.parser ≡ parser }
 {
     Not {
         parser,
@@ -131,7 +125,7 @@ pub fn not<Input, Output, Error, ParseNext>(
 pub fn cut_err<Input, Output, Error, ParseNext>(
     parser: ParseNext,
 ) -> CutErr<ParseNext, Input, Output, Error>
-    ensures { cut_err_parser result ≡ parser }
+    ensures { result.parser ≡ parser }
 {
     CutErr {
         parser,
@@ -156,7 +150,7 @@ pub fn cut_err<Input, Output, Error, ParseNext>(
 pub fn backtrack_err<Input, Output, Error, ParseNext>(
     parser: ParseNext,
 ) -> BacktrackErr<ParseNext, Input, Output, Error>
-    ensures { backtrack_err_parser result ≡ parser }
+    ensures { result.parser ≡ parser }
 {
     BacktrackErr {
         parser,

@@ -1,11 +1,6 @@
 //! Combinators of children in order.
 ghost use Rattle.std.specs.Prelude.{◌≡◌};
-ghost use Rattle.winnow_comb.specs.Delimited.{delimited_ignored1, delimited_ignored2};
-ghost use Rattle.winnow_comb.specs.Delimited.{delimited_parser};
-ghost use Rattle.winnow_comb.specs.Preceded.{preceded_ignored, preceded_parser};
-ghost use Rattle.winnow_comb.specs.SeparatedPair.{separated_pair_first, separated_pair_second};
-ghost use Rattle.winnow_comb.specs.SeparatedPair.{separated_pair_separator};
-ghost use Rattle.winnow_comb.specs.Terminated.{terminated_ignored, terminated_parser};
+ghost use Rattle.winnow_comb.specs.Terminated.{terminated_parser};
 
 use crate::combinator::impls::{Delimited, Preceded, SeparatedPair, Terminated};
 use std::marker::PhantomData;
@@ -26,8 +21,8 @@ pub fn preceded<Input, Ignored, Output, Error, IgnoredParser, ParseNext>(
     ignored: IgnoredParser,
     parser: ParseNext,
 ) -> Preceded<IgnoredParser, ParseNext, Input, Ignored, Output, Error>
-    ensures ignored { preceded_ignored result ≡ ignored }
-    ensures parser { preceded_parser result ≡ parser }
+    ensures ignored { result.ignored ≡ ignored }
+    ensures parser { result.parser ≡ parser }
 {
     Preceded {
         ignored,
@@ -56,7 +51,7 @@ pub fn terminated<Input, Output, Ignored, Error, ParseNext, IgnoredParser>(
     ignored: IgnoredParser,
 ) -> Terminated<ParseNext, IgnoredParser, Input, Output, Ignored, Error>
     ensures parser { terminated_parser result ≡ parser }
-    ensures ignored { terminated_ignored result ≡ ignored }
+    ensures ignored { result.ignored ≡ ignored }
 {
     Terminated {
         parser,
@@ -84,9 +79,9 @@ pub fn separated_pair<Input, Output1, Sep, Output2, Error, Parser1, SepParser, P
     separator: SepParser,
     second: Parser2,
 ) -> SeparatedPair<Parser1, SepParser, Parser2, Input, Output1, Sep, Output2, Error>
-    ensures first { separated_pair_first result ≡ first }
-    ensures separator { separated_pair_separator result ≡ separator }
-    ensures second { separated_pair_second result ≡ second }
+    ensures first { result.first ≡ first }
+    ensures separator { result.separator ≡ separator }
+    ensures second { result.second ≡ second }
 {
     SeparatedPair {
         first,
@@ -128,9 +123,9 @@ pub fn delimited<
     parser: ParseNext,
     ignored2: IgnoredParser2,
 ) -> Delimited<IgnoredParser1, ParseNext, IgnoredParser2, Input, Ignored1, Output, Ignored2, Error>
-    ensures ignored1 { delimited_ignored1 result ≡ ignored1 }
-    ensures parser { delimited_parser result ≡ parser }
-    ensures ignored2 { delimited_ignored2 result ≡ ignored2 }
+    ensures ignored1 { result.ignored1 ≡ ignored1 }
+    ensures parser { result.parser ≡ parser }
+    ensures ignored2 { result.ignored2 ≡ ignored2 }
 {
     Delimited {
         ignored1,

@@ -1,11 +1,11 @@
 -- Lemmas: when inputs and results are the same.
-use Rattle.std.specs.Prelude.{◌≡◌, List, [], ◌∷◌, ◌++◌, Ok, Err}
+use Rattle.std.specs.Prelude.{◌≡◌, List, [], ◌∷◌, ◌++◌, length, Ok, Err}
 use Rattle.std.proofs.Common.{refl, sym, ap, subst, ◌∙◌, arith}
 use Rattle.streams.specs.Equal.{same_first, same_others}
-use Rattle.streams.specs.Kind.{Kind, memory}
+use Rattle.streams.specs.Kind.{Kind}
 use Rattle.streams.specs.Reading.{Reading, units-nil}
 use Rattle.stream_errors.specs.Form.{Answer}
-use Rattle.winnow_core.specs.Decided.{EqualResults, NotMemory}
+use Rattle.winnow_core.specs.Decided.{EqualResults}
 
 pub same_front : {T L : Type 0} (reading : Reading T L) (front other rest more : List T)
     → front ++ rest ≡ other ++ more → reading.units front ≡ reading.units other → front ≡ other
@@ -22,6 +22,16 @@ same_front {T} reading (x ∷ xs) (y ∷ ys) rest more e u =
     (omega (arith, same, reading.units_add (y ∷ []) xs, reading.units_add (y ∷ []) ys)) in
     ap (λ z. z ∷ xs) first ∙ ap (λ l. y ∷ l) others
 
+-- beginnings of as many tokens are the same
+pub as_long_front : {T : Type 0} (f g rest more : List T) → length f ≡ length g
+    → f ++ rest ≡ g ++ more → f ≡ g
+as_long_front [] [] rest more n e = refl
+as_long_front [] (y ∷ g) rest more n e = absurd (omega (arith, n))
+as_long_front (x ∷ f) [] rest more n e = absurd (omega (arith, n))
+as_long_front (x ∷ f) (y ∷ g) rest more n e =
+    ap (λ z. z ∷ f) (same_first e)
+    ∙ ap (λ l. y ∷ l) (as_long_front f g rest more (omega (arith, n)) (same_others e))
+
 pub both_ok : {O : Type 0} (alike : O → O → Type 0) {a b : Answer O} {o p : O} → a ≡ Ok o
     → b ≡ Ok p → alike o p → EqualResults alike a b
 both_ok alike {b = b} {o = o} e f like =
@@ -34,15 +44,6 @@ pub both_err : {O : Type 0} (alike : O → O → Type 0) {a b : Answer O} {k l :
 both_err alike {b = b} {k = k} e f like =
     subst (λ x. EqualResults alike x b) (sym e)
     (subst (λ x. EqualResults alike (Err k) x) (sym f) like)
-
-pub ok_not_memory : {O : Type 0} {o : O} → NotMemory {O = O} (Ok o)
-ok_not_memory e = cc
-
--- if the results of a child are not out of memory, neither is its error
-pub err_not_memory : {O U : Type 0} {answer : Answer U} {k : Kind} → answer ≡ Err k
-    → NotMemory answer → NotMemory {O = O} (Err k)
-err_not_memory {answer = answer} {k = k} e other f =
-    let same : k ≡ memory = cc in other (e ∙ ap Err same)
 
 -- equality of results for a weaker equality of outputs
 pub widened : {O : Type 0} (alike also : O → O → Type 0) → ((o p : O) → alike o p → also o p)

@@ -30,7 +30,7 @@ impl<I: StreamIsPartial + Compare<u8>, E: ParserError<I>> Parser<I, u8, E> for u
 
     ghost says = { λ s. literal_says I.reading (I.spells s) (λ _. s) (λ o q. o ≡ q) };
 
-    ghost claim = { literal_claim I.reading I.spells (λ s _. s) (λ o q. o ≡ q) };
+    ghost claim = { literal_claim I.reading I.spells (λ s _. s) };
 
     ghost leaves_ends = { λ form s i answer t j r. literal_ends I.reading form (I.spells s)
         (λ _. s) i answer j r.0 };
@@ -38,8 +38,7 @@ impl<I: StreamIsPartial + Compare<u8>, E: ParserError<I>> Parser<I, u8, E> for u
     ghost said = { λ s. literal_said I.reading I.spells (λ s _. s) (λ o q. o ≡ q) s
         (I.same_units s) (λ slice other shown. refl) };
 
-    ghost claimed = { λ s. literal_claimed I.reading I.spells (λ s _. s) (λ o q. o ≡ q) s
-        (I.same_units s) (λ slice other shown. refl) };
+    ghost claimed = { λ s. literal_claimed I.reading I.spells (λ s _. s) s (I.same_units s) };
 
     #[inline(always)]
     fn parse_next(&mut self, input: &mut I) -> Result<u8, E> {
@@ -68,7 +67,7 @@ impl<'t, I: StreamIsPartial + Compare<&'t [u8]>, E: ParserError<I>> Parser<I, I:
     ghost says = { λ s. literal_says I.reading (I.spells s) (λ slice. slice)
         (ShowSame I.reading) };
 
-    ghost claim = { literal_claim I.reading I.spells (λ _ slice. slice) (ShowSame I.reading) };
+    ghost claim = { literal_claim I.reading I.spells (λ _ slice. slice) };
 
     ghost leaves_ends = { λ form s i answer t j r. literal_ends I.reading form (I.spells s)
         (λ slice. slice) i answer j r.0 };
@@ -76,8 +75,8 @@ impl<'t, I: StreamIsPartial + Compare<&'t [u8]>, E: ParserError<I>> Parser<I, I:
     ghost said = { λ s. literal_said I.reading I.spells (λ _ slice. slice)
         (ShowSame I.reading) s (I.same_units s) (λ slice other shown. shown) };
 
-    ghost claimed = { λ s. literal_claimed I.reading I.spells (λ _ slice. slice)
-        (ShowSame I.reading) s (I.same_units s) (λ slice other shown. shown) };
+    ghost claimed = { λ s. literal_claimed I.reading I.spells (λ _ slice. slice) s
+        (I.same_units s) };
 
     #[inline(always)]
     fn parse_next(&mut self, input: &mut I) -> Result<I::Slice, E> {
@@ -109,7 +108,7 @@ impl<'t, const N: usize, I: StreamIsPartial + Compare<&'t [u8; N]>, E: ParserErr
     ghost says = { λ s. literal_says I.reading (I.spells s) (λ slice. slice)
         (ShowSame I.reading) };
 
-    ghost claim = { literal_claim I.reading I.spells (λ _ slice. slice) (ShowSame I.reading) };
+    ghost claim = { literal_claim I.reading I.spells (λ _ slice. slice) };
 
     ghost leaves_ends = { λ form s i answer t j r. literal_ends I.reading form (I.spells s)
         (λ slice. slice) i answer j r.0 };
@@ -117,8 +116,8 @@ impl<'t, const N: usize, I: StreamIsPartial + Compare<&'t [u8; N]>, E: ParserErr
     ghost said = { λ s. literal_said I.reading I.spells (λ _ slice. slice)
         (ShowSame I.reading) s (I.same_units s) (λ slice other shown. shown) };
 
-    ghost claimed = { λ s. literal_claimed I.reading I.spells (λ _ slice. slice)
-        (ShowSame I.reading) s (I.same_units s) (λ slice other shown. shown) };
+    ghost claimed = { λ s. literal_claimed I.reading I.spells (λ _ slice. slice) s
+        (I.same_units s) };
 
     #[inline(always)]
     fn parse_next(&mut self, input: &mut I) -> Result<I::Slice, E> {
@@ -150,7 +149,7 @@ impl<I: StreamIsPartial + Compare<char>, E: ParserError<I>> Parser<I, char, E> f
 
     ghost says = { λ s. literal_says I.reading (I.spells s) (λ _. s) (λ o q. o ≡ q) };
 
-    ghost claim = { literal_claim I.reading I.spells (λ s _. s) (λ o q. o ≡ q) };
+    ghost claim = { literal_claim I.reading I.spells (λ s _. s) };
 
     ghost leaves_ends = { λ form s i answer t j r. literal_ends I.reading form (I.spells s)
         (λ _. s) i answer j r.0 };
@@ -158,8 +157,7 @@ impl<I: StreamIsPartial + Compare<char>, E: ParserError<I>> Parser<I, char, E> f
     ghost said = { λ s. literal_said I.reading I.spells (λ s _. s) (λ o q. o ≡ q) s
         (I.same_units s) (λ slice other shown. refl) };
 
-    ghost claimed = { λ s. literal_claimed I.reading I.spells (λ s _. s) (λ o q. o ≡ q) s
-        (I.same_units s) (λ slice other shown. refl) };
+    ghost claimed = { λ s. literal_claimed I.reading I.spells (λ s _. s) s (I.same_units s) };
 
     #[inline(always)]
     fn parse_next(&mut self, input: &mut I) -> Result<char, E> {
@@ -188,7 +186,7 @@ impl<'t, I: StreamIsPartial + Compare<&'t str>, E: ParserError<I>> Parser<I, I::
     ghost says = { λ s. literal_says I.reading (I.spells s) (λ slice. slice)
         (ShowSame I.reading) };
 
-    ghost claim = { literal_claim I.reading I.spells (λ _ slice. slice) (ShowSame I.reading) };
+    ghost claim = { literal_claim I.reading I.spells (λ _ slice. slice) };
 
     ghost leaves_ends = { λ form s i answer t j r. literal_ends I.reading form (I.spells s)
         (λ slice. slice) i answer j r.0 };
@@ -196,8 +194,8 @@ impl<'t, I: StreamIsPartial + Compare<&'t str>, E: ParserError<I>> Parser<I, I::
     ghost said = { λ s. literal_said I.reading I.spells (λ _ slice. slice)
         (ShowSame I.reading) s (I.same_units s) (λ slice other shown. shown) };
 
-    ghost claimed = { λ s. literal_claimed I.reading I.spells (λ _ slice. slice)
-        (ShowSame I.reading) s (I.same_units s) (λ slice other shown. shown) };
+    ghost claimed = { λ s. literal_claimed I.reading I.spells (λ _ slice. slice) s
+        (I.same_units s) };
 
     #[inline(always)]
     fn parse_next(&mut self, input: &mut I) -> Result<I::Slice, E> {
@@ -226,7 +224,7 @@ impl<'t, I: StreamIsPartial + Compare<Caseless<&'t [u8]>>, E: ParserError<I>> Pa
     ghost says = { λ s. literal_says I.reading (I.spells s) (λ slice. slice)
         (ShowSame I.reading) };
 
-    ghost claim = { literal_claim I.reading I.spells (λ _ slice. slice) (ShowSame I.reading) };
+    ghost claim = { literal_claim I.reading I.spells (λ _ slice. slice) };
 
     ghost leaves_ends = { λ form s i answer t j r. literal_ends I.reading form (I.spells s)
         (λ slice. slice) i answer j r.0 };
@@ -234,8 +232,8 @@ impl<'t, I: StreamIsPartial + Compare<Caseless<&'t [u8]>>, E: ParserError<I>> Pa
     ghost said = { λ s. literal_said I.reading I.spells (λ _ slice. slice)
         (ShowSame I.reading) s (I.same_units s) (λ slice other shown. shown) };
 
-    ghost claimed = { λ s. literal_claimed I.reading I.spells (λ _ slice. slice)
-        (ShowSame I.reading) s (I.same_units s) (λ slice other shown. shown) };
+    ghost claimed = { λ s. literal_claimed I.reading I.spells (λ _ slice. slice) s
+        (I.same_units s) };
 
     #[inline(always)]
     fn parse_next(&mut self, input: &mut I) -> Result<I::Slice, E> {
@@ -268,7 +266,7 @@ impl<
     ghost says = { λ s. literal_says I.reading (I.spells s) (λ slice. slice)
         (ShowSame I.reading) };
 
-    ghost claim = { literal_claim I.reading I.spells (λ _ slice. slice) (ShowSame I.reading) };
+    ghost claim = { literal_claim I.reading I.spells (λ _ slice. slice) };
 
     ghost leaves_ends = { λ form s i answer t j r. literal_ends I.reading form (I.spells s)
         (λ slice. slice) i answer j r.0 };
@@ -276,8 +274,8 @@ impl<
     ghost said = { λ s. literal_said I.reading I.spells (λ _ slice. slice)
         (ShowSame I.reading) s (I.same_units s) (λ slice other shown. shown) };
 
-    ghost claimed = { λ s. literal_claimed I.reading I.spells (λ _ slice. slice)
-        (ShowSame I.reading) s (I.same_units s) (λ slice other shown. shown) };
+    ghost claimed = { λ s. literal_claimed I.reading I.spells (λ _ slice. slice) s
+        (I.same_units s) };
 
     #[inline(always)]
     fn parse_next(&mut self, input: &mut I) -> Result<I::Slice, E> {
@@ -310,7 +308,7 @@ impl<'t, I: StreamIsPartial + Compare<Caseless<&'t str>>, E: ParserError<I>> Par
     ghost says = { λ s. literal_says I.reading (I.spells s) (λ slice. slice)
         (ShowSame I.reading) };
 
-    ghost claim = { literal_claim I.reading I.spells (λ _ slice. slice) (ShowSame I.reading) };
+    ghost claim = { literal_claim I.reading I.spells (λ _ slice. slice) };
 
     ghost leaves_ends = { λ form s i answer t j r. literal_ends I.reading form (I.spells s)
         (λ slice. slice) i answer j r.0 };
@@ -318,8 +316,8 @@ impl<'t, I: StreamIsPartial + Compare<Caseless<&'t str>>, E: ParserError<I>> Par
     ghost said = { λ s. literal_said I.reading I.spells (λ _ slice. slice)
         (ShowSame I.reading) s (I.same_units s) (λ slice other shown. shown) };
 
-    ghost claimed = { λ s. literal_claimed I.reading I.spells (λ _ slice. slice)
-        (ShowSame I.reading) s (I.same_units s) (λ slice other shown. shown) };
+    ghost claimed = { λ s. literal_claimed I.reading I.spells (λ _ slice. slice) s
+        (I.same_units s) };
 
     #[inline(always)]
     fn parse_next(&mut self, input: &mut I) -> Result<I::Slice, E> {

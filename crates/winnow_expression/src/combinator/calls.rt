@@ -1,5 +1,6 @@
 //! Calls of an expression, and the operators that interrupt them.
-ghost use Rattle.std.specs.Prelude.{◌≡◌, ◌≤◌, ◌≤ℤ◌, ◌<ℤ◌, ◌↔◌, IsTrue, IsFalse, OnErr, OnOk, Some};
+ghost use Rattle.std.specs.Prelude.{◌≡◌, ◌≤◌, ◌≤ℤ◌, ◌<ℤ◌, ◌↔◌, IsTrue, IsFalse, OnErr, OnOk};
+ghost use Rattle.std.specs.Prelude.{Some};
 ghost use Rattle.std.specs.Prelude.{vec_capacity, vec_len};
 ghost use Rattle.winnow_expression.specs.Calls.{Interrupts, call_at, call_of, calls_of, open_of};
 ghost use Rattle.winnow_expression.specs.Calls.{asked, greatest, with_infix};

@@ -13,18 +13,13 @@ use Rattle.winnow_expression_trees.specs.Items.{Items}
 use Rattle.winnow_expression_trees.specs.Items.{left_at}
 use Rattle.winnow_expression_trees.specs.Premises.{EquivalentResults, FoldAlike, FoldsAlike}
 use Rattle.winnow_expression_trees.specs.Premises.{IsStateless}
+use Rattle.winnow_expression_trees.specs.Premises.Laws.{both_ok}
 
 pub ok_is_not : {O X : Type 0} {a : Answer O} {v : O} {k : Kind} → a ≡ Ok v → a ≡ Err k → X
 ok_is_not e f = absurd (cc)
 
 pub same_ok : {O : Type 0} {a : Answer O} {v w : O} → a ≡ Ok v → a ≡ Ok w → v ≡ w
 same_ok e f = cc
-
-both : {O : Type 0} (alike : O → O → Type 0) (a b : Answer O) (v w : O) → a ≡ Ok v → b ≡ Ok w
-    → alike v w → EquivalentResults alike a b
-both alike a b v w e f like =
-    subst (λ x. EquivalentResults alike x b) (sym e)
-    (subst (λ x. EquivalentResults alike (Ok v) x) (sym f) like)
 
 neither : {O : Type 0} (alike : O → O → Type 0) (a b : Answer O) (k : Kind) → a ≡ Err k
     → b ≡ Err k → EquivalentResults alike a b
@@ -51,7 +46,7 @@ items_stateless {S} {T} {O} units alike item s are self = record {
         → EquivalentResults alike a b × (j ≡ k)
     decide i j k a b (inl (o, rest, is, e, place)) (inl (p, more, was, f, other)) =
         let same = are.one i.left.tokens o p rest more is was in (
-          both alike a b o p e f (subst (λ z. alike o z) same.0 (self o)),
+          both_ok alike a b o p e f (subst (λ z. alike o z) same.0 (self o)),
           place ∙ ap (λ z. left_at i z) same.1 ∙ sym other,
         )
     decide i j k a b (inl (o, rest, is, e, place)) (inr (none, f, other)) = absurd (none o rest is)
@@ -63,7 +58,7 @@ items_stateless {S} {T} {O} units alike item s are self = record {
 gives_same : {T V : Type 0} (given : V → Type 0) → GivesOne given → (i j k n : Input T)
     (a b : Answer V) → Gives given i a j → Gives given k b n → EquivalentResults (λ v w. v ≡ w) a b
 gives_same given single i j k n a b (inl (v, is, e, p)) (inl (w, was, f, q)) =
-    both (λ v w. v ≡ w) a b v w e f (single v w is was)
+    both_ok (λ v w. v ≡ w) a b v w e f (single v w is was)
 gives_same given single i j k n a b (inl (v, is, e, p)) (inr (none, f, q)) = absurd (none v is)
 gives_same given single i j k n a b (inr (none, e, p)) (inl (w, was, f, q)) = absurd (none w was)
 gives_same given single i j k n a b (inr (none, e, p)) (inr (none2, f, q)) =

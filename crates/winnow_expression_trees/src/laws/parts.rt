@@ -1,21 +1,23 @@
-//! Parsers as parts of an expression: what one state and one input decide is as the laws of trees
-//! ask, and an operator consumes where what is read for it does.
-ghost use Rattle.std.specs.Prelude.{ℕ};
+//! Parsers as parts of an expression: which of them meet the requirements of the laws of trees.
+ghost use Rattle.std.specs.Prelude.{◌≡◌, ℕ};
 ghost use Rattle.streams.specs.Bytes.{bytes_reading};
 ghost use Rattle.winnow_expression_trees.specs.Premises.{IsStateless};
 ghost use Rattle.winnow_expression_trees.specs.Premises.Decided.{Moves};
+ghost use Rattle.winnow_expression_trees.specs.Premises.Laws.{AlikeWithSpan};
 
+use crate::laws::Likeness;
+use std::ops::Range;
 use stream_errors::parser_error::ParserError;
-use streams::stream::Stream;
+use streams::stream::{Location, Stream};
 use winnow_comb::combinator::impls::AltParser;
-use winnow_core::combinator::impls::Value;
+use winnow_core::combinator::impls::{Span, Value, WithSpan};
 use winnow_core::parser::Parser;
 
 /// The stream of bytes.
 type Bytes = &'static [u8];
 
-/// States that a parser whose result is determined by one state and one input meets the
-/// requirements of the laws of trees, up to equivalent outputs.
+/// States that a parser with specified outcomes meets the requirements of the laws of trees, up to
+/// equivalent outputs.
 ///
 /// ```
 /// use winnow_expression_trees::laws::parts::deterministic_parts_are_stateless;
@@ -24,8 +26,39 @@ type Bytes = &'static [u8];
 /// deterministic_parts_are_stateless::<Digit1, &[u8], &[u8], EmptyError>();
 /// ```
 pub fn deterministic_parts_are_stateless<P: Parser<I, O, E>, I: Stream, O, E: ParserError<I>>()
-    ensures { (s : P.State) → (P.claim s).decides
-        → IsStateless (P.claim s).alike (P.meaning E.form) s }
+    ensures { (s : P.State) → (P.says s).premise
+        → IsStateless (P.says s).alike (P.meaning E.form) s }
+{}
+
+/// States that the span of a stateless part is stateless, alone and with the output: calls on one
+/// input have equal spans.
+///
+/// ```
+/// use winnow_expression_trees::laws::Likeness;
+/// use winnow_expression_trees::laws::parts::spans_are_stateless;
+///
+/// struct Equal;
+///
+/// impl Likeness<u8> for Equal {
+///     ghost alike = { λ v w. v ≡ w };
+/// }
+///
+/// // Of `b'x'.span()` and `b'x'.with_span()`.
+/// spans_are_stateless::<u8, LocatingSlice<&[u8]>, u8, EmptyError, Equal>();
+/// ```
+pub fn spans_are_stateless<
+    P: Parser<I, O, E>,
+    I: Location,
+    O: Drop,
+    E: ParserError<I>,
+    A: Likeness<O>,
+>()
+    ensures span { (s : P.State) → IsStateless A.alike (P.meaning E.form) s
+        → IsStateless (λ u v. u ≡ v)
+        (⟦<Span<P, I, O, E> as Parser<I, Range<usize>, E>>⟧.meaning E.form) s }
+    ensures with_span { (s : P.State) → IsStateless A.alike (P.meaning E.form) s
+        → IsStateless (AlikeWithSpan A.alike)
+        (⟦<WithSpan<P, I, O, E> as Parser<I, (O, Range<usize>), E>>⟧.meaning E.form) s }
 {}
 
 /// States that a byte consumes input if it is returned.

@@ -1,5 +1,6 @@
 -- The relation of std's definitions for the bytes of integers to the values of bytes.
-use Rattle.std.specs.Prelude.{◌≡◌, ◌<◌, ◌≤◌, ◌+◌, ◌-◌, ◌*◌, ◌^◌, ℕ, zero, suc, List, [], ◌∷◌}
+use Rattle.std.specs.Prelude.{◌≡◌, ◌<◌, ◌≤◌, ◌+◌, ◌-◌, ◌*◌, ◌^◌, ℕ, zero, suc, List, []}
+use Rattle.std.specs.Prelude.{◌∷◌}
 use Rattle.std.specs.Prelude.{length, reverse, slice_index, ℤ, Bool, true, false, nat_lt}
 use Rattle.std.specs.Int.{Width, w8, w16, w32, w64, w128, byte_len, byte_worth, sum_through}
 use Rattle.std.specs.Int.{from_be_bytes, from_le_bytes, cast_signed, cast_unsigned}

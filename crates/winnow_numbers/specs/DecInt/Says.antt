@@ -4,13 +4,11 @@ use Rattle.std.proofs.Common.{refl, ap, inl, inr, ◌∙◌}
 use Rattle.streams.specs.Input.{Input}
 use Rattle.streams.specs.Kind.{backtrack}
 use Rattle.streams.specs.Reading.{Reading}
-use Rattle.stream_errors.specs.Form.{Answer, ErrorForm}
-use Rattle.winnow_core.specs.Decided.{IsDecided}
+use Rattle.stream_errors.specs.Form.{Answer}
 use Rattle.winnow_core.specs.Outcome.{Outcome, Setting, backs, gave, outcome_of}
 use Rattle.winnow_core.specs.Runs.{Keeps}
 use Rattle.winnow_core.specs.Says.{IsAt, Said, Says}
 use Rattle.winnow_core.specs.Says.Cases.{Case, FailsWhere, OneCase, TakesWhere}
-use Rattle.winnow_core.specs.Says.Decided.{decided_of}
 use Rattle.winnow_numbers.specs.ByRuns.{by_runs, no_places, plain_at}
 use Rattle.winnow_numbers.specs.DecInt.{DecIntRuns}
 use Rattle.winnow_numbers.specs.DecInt.Laws.{dec_int_ends, dec_int_status, dec_int_stays, meet}
@@ -121,13 +119,3 @@ module _ {N K T L : Type 0} (number : N → ℤ) (fits : ℤ → Type 0) (seen :
     fails = λ r form i k j is ran.
         (dec_int_fails seen code r number fits form).fails i k tt j is (ran, refl);
   }) tt
-
--- one input decides their runs
-pub dec_int_decided : {N K T L : Type 0} (number : N → ℤ) (fits : ℤ → Type 0) (seen : K → T)
-    (code : K → ℕ) (reading : Reading T L) (form : ErrorForm) → CharIsFunction seen code
-    → IsDecided tt (Keeps (λ (_ : ⊤). DecIntRuns number fits seen code reading form))
-    (OneNumber number)
-dec_int_decided number fits seen code reading form once =
-    decided_of reading
-    (λ f s i answer t j r. dec_int_ends number fits seen code reading f i answer j r.0)
-    (dec_int_said number fits seen code reading once) form tt

@@ -1,19 +1,18 @@
 -- The outcomes of parsers of hexadecimal numbers.
-use Rattle.std.specs.Prelude.{◌≡◌, ◌⊎◌, ◌<◌, ◌≤◌, ⊤, ℕ, true, false, List, [], ◌∷◌, ◌++◌, length}
+use Rattle.std.specs.Prelude.{◌≡◌, ◌⊎◌, ◌<◌, ◌≤◌, ⊤, ℕ, true, false, List, [], ◌∷◌, ◌++◌}
+use Rattle.std.specs.Prelude.{length}
 use Rattle.std.specs.Prelude.{Some, Ok, Err}
 use Rattle.std.specs.List.{All, AllByRecursion}
 use Rattle.std.proofs.Common.{refl, sym, ap, inl, inr, ◌∙◌}
 use Rattle.streams.specs.Input.{Input}
 use Rattle.streams.specs.Kind.{backtrack}
 use Rattle.streams.specs.Reading.{Reading}
-use Rattle.stream_errors.specs.Form.{Answer, ErrorForm, incomplete_kind}
+use Rattle.stream_errors.specs.Form.{Answer, incomplete_kind}
 use Rattle.stream_sets.specs.AsChar.{IsHexDigit}
-use Rattle.winnow_core.specs.Decided.{IsDecided}
 use Rattle.winnow_core.specs.Outcome.{Outcome, Setting, backs, gave, outcome_of}
 use Rattle.winnow_core.specs.Runs.{Keeps}
 use Rattle.winnow_core.specs.Says.{IsAt, Said, Says}
 use Rattle.winnow_core.specs.Says.Cases.{Case, FailsWhere, LacksWhere, OneCase, TakesWhere}
-use Rattle.winnow_core.specs.Says.Decided.{decided_of}
 use Rattle.winnow_core.specs.Says.Lacks.{short_outcome}
 use Rattle.winnow_numbers.specs.ByRuns.{by_runs, no_places, plain_at, plain_passes}
 use Rattle.winnow_numbers.specs.DecUint.Laws.{OneNumber}
@@ -149,13 +148,3 @@ module _ {N K T L : Type 0} (number : N → ℕ) (most : ℕ) (seen : K → T) (
     fails = λ r form i k j is ran.
         (hex_uint_fails seen code r number most form).fails i k tt j is (ran, refl);
   }) tt
-
--- one input decides their runs
-pub hex_uint_decided : {N K T L : Type 0} (number : N → ℕ) (most : ℕ) (seen : K → T)
-    (code : K → ℕ) (reading : Reading T L) (form : ErrorForm) → CharIsFunction seen code
-    → IsDecided tt (Keeps (λ (_ : ⊤). HexUintRuns number most seen code reading form))
-    (OneNumber number)
-hex_uint_decided number most seen code reading form once =
-    decided_of reading
-    (λ f s i answer t j r. hex_uint_ends number most seen code reading f i answer j r.0)
-    (hex_uint_said number most seen code reading once) form tt

@@ -2,7 +2,8 @@
 //!
 //! Digits are moved after zeros into the last lanes, and neighbours are joined, to numbers below
 //! 100, then below 10 000, and so on.
-ghost use Rattle.std.specs.Prelude.{◌≡◌, ◌≤◌, ◌<◌, ◌+◌, ◌-◌, ◌*◌, ◌++◌, ℕ, List, IfSome, length};
+ghost use Rattle.std.specs.Prelude.{◌≡◌, ◌≤◌, ◌<◌, ◌+◌, ◌-◌, ◌*◌, ◌++◌, ℕ, List, IfSome};
+ghost use Rattle.std.specs.Prelude.{length};
 ghost use Rattle.std.specs.Prelude.{replicate, take};
 ghost use Rattle.winnow_numbers.specs.Digits.{value_in};
 ghost use Rattle.winnow_numbers.specs.Lanes.{AreAtMost, StartsWithNumeral, EndsDigits, as_words};

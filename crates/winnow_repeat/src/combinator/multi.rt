@@ -1,11 +1,9 @@
 //! Parsers run again and again.
 ghost use Rattle.std.specs.Prelude.{◌≡◌};
-ghost use Rattle.winnow_repeat.specs.Fill.{fill_buffer, fill_parser};
+ghost use Rattle.winnow_repeat.specs.Fill.{fill_buffer};
 ghost use Rattle.winnow_repeat.specs.Iterator.{iterator_input, iterator_input_name};
 ghost use Rattle.winnow_repeat.specs.Iterator.{iterator_parser, iterator_standing, running};
 ghost use Rattle.winnow_repeat.specs.Repeat.{repeat_occurrences, repeat_parser};
-ghost use Rattle.winnow_repeat.specs.RepeatTill.{repeat_till_occurrences, repeat_till_parser};
-ghost use Rattle.winnow_repeat.specs.RepeatTill.{repeat_till_terminator};
 
 use crate::combinator::impls::iterator::Progress;
 use crate::combinator::impls::{Fill, ParserIterator, Repeat, RepeatTill};
@@ -123,9 +121,9 @@ pub fn repeat_till<P, G, I, O, D, C, E, A>(
     parser: P,
     terminator: G,
 ) -> RepeatTill<P, G, I, O, D, C, E, A>
-    ensures occurrences { repeat_till_occurrences result ≡ occurrences }
-    ensures parser { repeat_till_parser result ≡ parser }
-    ensures terminator { repeat_till_terminator result ≡ terminator }
+    ensures occurrences { result.occurrences ≡ occurrences }
+    ensures parser { result.parser ≡ parser }
+    ensures terminator { result.terminator ≡ terminator }
 {
     RepeatTill {
         alloc,
@@ -153,7 +151,7 @@ pub fn repeat_till<P, G, I, O, D, C, E, A>(
 /// ```
 #[inline(always)]
 pub fn fill<P, I, O, E>(parser: P, buffer: &mut [O]) -> Fill<'_, P, I, O, E>
-    ensures parser { fill_parser result ≡ parser }
+    ensures parser { result.parser ≡ parser }
     ensures buffer { (fill_buffer result).elements ≡ buffer.old }
     ensures same_buffer { (fill_buffer result).name ≡ buffer.entry.ghost_name }
 {

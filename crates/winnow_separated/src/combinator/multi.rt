@@ -2,9 +2,9 @@
 ghost use Rattle.std.specs.Prelude.{◌≡◌};
 ghost use Rattle.winnow_separated.specs.Separated.{separated_occurrences, separated_parser};
 ghost use Rattle.winnow_separated.specs.Separated.{separated_separator};
-ghost use Rattle.winnow_separated.specs.SeparatedFoldl1.{foldl1_closure, foldl1_parser};
+ghost use Rattle.winnow_separated.specs.SeparatedFoldl1.{foldl1_parser};
 ghost use Rattle.winnow_separated.specs.SeparatedFoldl1.{foldl1_separator};
-ghost use Rattle.winnow_separated.specs.SeparatedFoldr1.{foldr1_closure, foldr1_parser};
+ghost use Rattle.winnow_separated.specs.SeparatedFoldr1.{foldr1_parser};
 ghost use Rattle.winnow_separated.specs.SeparatedFoldr1.{foldr1_separator};
 
 use crate::combinator::impls::link::Link;
@@ -78,7 +78,7 @@ where
     H: FnMut(O, D, O) -> O,
     ensures parser { foldl1_parser result ≡ parser }
     ensures separator { foldl1_separator result ≡ separator }
-    ensures op { foldl1_closure result ≡ op }
+    ensures op { result.op ≡ op }
 {
     SeparatedFoldl1::new(parser, separator, op)
 }
@@ -110,7 +110,7 @@ where
     H: FnMut(O, D, O) -> O,
     ensures parser { foldr1_parser result ≡ parser }
     ensures separator { foldr1_separator result ≡ separator }
-    ensures op { foldr1_closure result ≡ op }
+    ensures op { result.op ≡ op }
 {
     SeparatedFoldr1::new(alloc, parser, separator, op)
 }

@@ -4,18 +4,16 @@ use Rattle.std.proofs.Common.{sym, ap, inl, inr, ◌∙◌}
 use Rattle.streams.specs.Equal.{same_first, same_others}
 use Rattle.streams.specs.Input.{Input}
 use Rattle.streams.specs.Reading.{Reading}
-use Rattle.stream_errors.specs.Form.{Answer, ErrorForm}
-use Rattle.winnow_core.specs.Decided.{IsDecided}
+use Rattle.stream_errors.specs.Form.{Answer}
 use Rattle.winnow_core.specs.Outcome.{Does, Setting, gave}
 use Rattle.winnow_core.specs.Runs.{Keeps}
 use Rattle.winnow_core.specs.Says.{Did, IsAt, Lawful, Said, Says}
 use Rattle.winnow_core.specs.Says.Cases.{Case, LacksWhere, OneCase, TakesWhere}
 use Rattle.winnow_core.specs.Says.Cases.{cases_law, lacks_law, takes_law}
-use Rattle.winnow_core.specs.Says.Decided.{decided_of}
 use Rattle.winnow_core.specs.Says.Lacks.{short_outcome}
 use Rattle.winnow_core.specs.Says.Leaf.{here_did, leaf_said, passes_did}
 use Rattle.winnow_token.specs.Any.{AnyRuns}
-use Rattle.winnow_token.specs.Any.Laws.{any_ends, first_of_none, SeenSame}
+use Rattle.winnow_token.specs.Any.Laws.{first_of_none, SeenSame}
 
 -- The token is first.
 abbrev pub IsFirst : {K T : Type 0} → (K → T) → K → Case T
@@ -53,10 +51,3 @@ any_said {K} {T} seen reading =
         (λ is more flag tokens k rest e. ap (λ l. l ++ more) e))
         lacks_law
         (λ at tokens x y (k, rest, e, f) (none, g). first_of_none none e)
-
--- one state and one input decide its runs
-pub any_decided : {K T L : Type 0} (seen : K → T) (reading : Reading T L) (form : ErrorForm)
-    → IsDecided tt (Keeps (λ (_ : ⊤). AnyRuns seen reading form)) (SeenSame seen)
-any_decided seen reading form =
-    decided_of reading (λ f s i answer t j r. any_ends seen reading f i answer j r.0)
-    (any_said seen reading) form tt

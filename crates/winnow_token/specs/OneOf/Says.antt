@@ -6,20 +6,17 @@ use Rattle.streams.specs.Input.{Input}
 use Rattle.streams.specs.Reading.{Reading}
 use Rattle.streams.specs.Stream.{AnswersSeen}
 use Rattle.stream_sets.specs.Once.{SetIsFunction}
-use Rattle.stream_errors.specs.Form.{Answer, ErrorForm}
-use Rattle.winnow_core.specs.Decided.{IsDecided}
+use Rattle.stream_errors.specs.Form.{Answer}
 use Rattle.winnow_core.specs.Outcome.{Outcome, Setting, gave}
 use Rattle.winnow_core.specs.Runs.{Keeps}
 use Rattle.winnow_core.specs.Says.{Did, IsAt, Lawful, Said, Says}
 use Rattle.winnow_core.specs.Says.Cases.{Case, FailsWhere, OneCase, TakesWhere}
 use Rattle.winnow_core.specs.Says.Cases.{cases_law, fails_law, lacks_law, takes_law}
-use Rattle.winnow_core.specs.Says.Decided.{decided_of}
 use Rattle.winnow_core.specs.Says.Lacks.{short_outcome}
 use Rattle.winnow_core.specs.Says.Leaf.{here_did, leaf_said, passes_did}
 use Rattle.winnow_token.specs.Any.Laws.{first_of_none, SeenSame}
 use Rattle.winnow_token.specs.Any.Says.{LacksToken}
 use Rattle.winnow_token.specs.OneOf.{OneOfRuns}
-use Rattle.winnow_token.specs.OneOf.Laws.{one_of_ends}
 
 -- The first token is a member.
 abbrev pub IsMember : {K T : Type 0} → (K → T) → (K → Bool → Type 0) → K → Case T
@@ -77,11 +74,3 @@ module _ {X K T L : Type 0} (seen : K → T) (reading : Reading T L) (tells : X 
           here_did same (inr (inl ((k, rest, is, lacks), gave i.left.tokens e)))
       did at i answer j here (inr (inr (k, none, short, e, same))) =
           here_did same (inr (inr (none, short_outcome at i (Some 1) k i.left.tokens here short e)))
-
--- one state and one input decide its runs
-pub one_of_decided : {X K T L : Type 0} (seen : K → T) (reading : Reading T L) (form : ErrorForm)
-    (tells : X → K → Bool → Type 0) (set : X) → SetIsFunction (AnswersSeen seen (tells set))
-    → IsDecided set (Keeps (λ x. OneOfRuns seen reading form (tells x))) (SeenSame seen)
-one_of_decided seen reading form tells set once =
-    decided_of reading (λ f x i answer t j r. one_of_ends seen reading f (tells x) i answer j r.0)
-    (one_of_said seen reading tells set) form once

@@ -2,18 +2,13 @@
 use Rattle.std.specs.Prelude.{◌≡◌, ⊤, ℕ, []}
 use Rattle.std.proofs.Common.{refl, sym, ◌∙◌}
 use Rattle.streams.specs.Reading.{Reading}
-use Rattle.stream_errors.specs.Form.{plain}
-use Rattle.winnow_core.specs.Ends.{same_ends}
 use Rattle.winnow_core.specs.Literal.Laws.{ShowSame}
-use Rattle.winnow_core.specs.Decided.{IsDecided}
 use Rattle.winnow_core.specs.Outcome.{gave}
 use Rattle.winnow_core.specs.Runs.{Keeps}
 use Rattle.winnow_core.specs.Says.{Said, Says}
 use Rattle.winnow_core.specs.Says.Cases.{TakesWhere, takes_law}
-use Rattle.winnow_core.specs.Says.Decided.{decided_of}
 use Rattle.winnow_core.specs.Says.Leaf.{here_did, leaf_said, takes_did}
 use Rattle.winnow_token.specs.Rest.{RestLenRuns, RestRuns}
-use Rattle.winnow_token.specs.Rest.Laws.{rest_ends}
 
 -- All tokens are taken.
 abbrev pub rest_says : {T L : Type 0} → Reading T L → Says T L
@@ -49,13 +44,3 @@ module _ {T L : Type 0} (reading : Reading T L) where
       (reading.units i.left.tokens, i.left.tokens, (refl, refl), gave i.left.tokens e))
       (λ is. takes_law (λ at tokens m n rest end (e, f) (g, h). (e ∙ sym g, f ∙ sym h))
       (λ never. absurd never))
-
-  -- one state and one input decide their runs
-  pub rest_decided : IsDecided tt (Keeps (λ (_ : ⊤). RestRuns reading)) (ShowSame reading)
-  rest_decided =
-      decided_of reading (λ f s i answer t j r. rest_ends reading i answer j r.0) rest_said plain tt
-
-  pub rest_len_decided : IsDecided tt (Keeps (λ (_ : ⊤). RestLenRuns reading))
-      (λ (m n : ℕ). m ≡ n)
-  rest_len_decided =
-      decided_of reading (λ f s i answer t j r. same_ends reading i j r.0.1) rest_len_said plain tt

@@ -5,20 +5,17 @@ use Rattle.std.proofs.Common.{sym, ap, subst, inl, inr, ◌∙◌, arith, append
 use Rattle.streams.specs.Equal.{same_rest}
 use Rattle.streams.specs.Input.{Input}
 use Rattle.streams.specs.Reading.{Reading}
-use Rattle.stream_errors.specs.Form.{Answer, ErrorForm}
-use Rattle.winnow_core.specs.Decided.Adapters.{as_long_front}
+use Rattle.stream_errors.specs.Form.{Answer}
+use Rattle.winnow_core.specs.Decided.Inputs.{as_long_front}
 use Rattle.winnow_core.specs.Literal.Laws.{ShowSame}
-use Rattle.winnow_core.specs.Decided.{IsDecided}
 use Rattle.winnow_core.specs.Outcome.{Setting, gave}
 use Rattle.winnow_core.specs.Runs.{Keeps}
 use Rattle.winnow_core.specs.Says.{Did, IsAt, Lawful, Said, Says}
 use Rattle.winnow_core.specs.Says.Cases.{Case, LacksWhere, OneCase, TakesWhere}
 use Rattle.winnow_core.specs.Says.Cases.{cases_law, lacks_law, takes_law}
-use Rattle.winnow_core.specs.Says.Decided.{decided_of}
 use Rattle.winnow_core.specs.Says.Lacks.{short_outcome}
 use Rattle.winnow_core.specs.Says.Leaf.{here_did, leaf_said, takes_did}
 use Rattle.winnow_token.specs.Take.{TakeRuns}
-use Rattle.winnow_token.specs.Take.Laws.{take_ends}
 
 -- There are as many tokens, which a slice shows.
 abbrev pub AreCounted : {T L : Type 0} → Reading T L → ℕ → L → Case T
@@ -76,10 +73,3 @@ module _ {T L : Type 0} (reading : Reading T L) (counts : Bool) (n : ℕ) where
           ))
       did at i answer j here (inr (k, few, short, e, same)) =
           here_did same (inr (few, short_outcome at i _ k i.left.tokens here short e))
-
--- one state and one input decide its runs
-pub take_count_decided : {T L : Type 0} (reading : Reading T L) (form : ErrorForm) (counts : Bool)
-    (n : ℕ) → IsDecided n (Keeps (λ m. TakeRuns reading form counts m)) (ShowSame reading)
-take_count_decided reading form counts n =
-    decided_of reading (λ f m i answer t j r. take_ends reading f counts m i answer j r.0)
-    (take_said reading counts n) form tt

@@ -13,22 +13,20 @@ use Rattle.stream_searches.specs.FindSlice.{IsFirstMatch}
 use Rattle.stream_searches.specs.FirstMatch.{StaysFirst}
 use Rattle.stream_sets.specs.Longest.{within_is}
 use Rattle.stream_sets.specs.Range.{Bounds, IsWithin}
-use Rattle.stream_errors.specs.Form.{Answer, ErrorForm}
-use Rattle.winnow_core.specs.Decided.Adapters.{as_long_front}
+use Rattle.stream_errors.specs.Form.{Answer}
+use Rattle.winnow_core.specs.Decided.Inputs.{as_long_front}
 use Rattle.winnow_core.specs.Literal.Laws.{ShowSame}
-use Rattle.winnow_core.specs.Decided.{IsDecided}
 use Rattle.winnow_core.specs.Outcome.{Outcome, Setting, gave}
 use Rattle.winnow_core.specs.Runs.{Keeps}
 use Rattle.winnow_core.specs.Says.{Did, IsAt, Lawful, Said, Says}
 use Rattle.winnow_core.specs.Says.Cases.{Case, FailsWhere, LacksWhere, OneCase, TakesWhere}
 use Rattle.winnow_core.specs.Says.Cases.{cases_law, fails_law, lacks_law}
 use Rattle.winnow_core.specs.Says.Cases.{takes_law}
-use Rattle.winnow_core.specs.Says.Decided.{decided_of}
 use Rattle.winnow_core.specs.Says.Lacks.{misused_outcome, short_outcome}
 use Rattle.winnow_core.specs.Says.Leaf.{here_did, leaf_said, takes_did}
 use Rattle.winnow_token.specs.TakeUntil.{TakeUntilRuns}
 use Rattle.winnow_token.specs.TakeUntil.Inversion.{OccursNowhere}
-use Rattle.winnow_token.specs.TakeUntil.Laws.{match_more, take_until_ends}
+use Rattle.winnow_token.specs.TakeUntil.Laws.{match_more}
 use Rattle.winnow_token.specs.TakeWhile.Says.{InBounds, bounds_law}
 
 -- The number of tokens up to the first match is within the bounds, and a slice shows them.
@@ -213,14 +211,3 @@ module _ {X T L : Type 0} (reading : Reading T L) (sought : X → List T → Typ
               gave i.left.tokens e,
             )),
           ))
-
--- one state and one input decide their runs
-pub take_until_decided : {X T L : Type 0} (reading : Reading T L) (form : ErrorForm)
-    (sought : X → List T → Type 0) (bounds : X → Bounds) (x : X)
-    → StaysFirst reading.units (sought x)
-    → IsDecided x (Keeps (λ y. TakeUntilRuns reading form (sought y) (bounds y)))
-    (ShowSame reading)
-take_until_decided reading form sought bounds x stays =
-    decided_of reading (λ f y i answer t j r.
-    take_until_ends reading f (sought y) (bounds y) i answer j r.0)
-    (take_until_said reading sought bounds x stays) form tt

@@ -11,20 +11,18 @@ use Rattle.streams.specs.Reading.{Reading}
 use Rattle.stream_sets.specs.Longest.{IsLongest, one_longest, within_is}
 use Rattle.stream_sets.specs.Once.{SetIsFunction}
 use Rattle.stream_sets.specs.Range.{Bounds, IsBelow, IsWithin}
-use Rattle.stream_errors.specs.Form.{Answer, ErrorForm}
+use Rattle.stream_errors.specs.Form.{Answer}
 use Rattle.winnow_core.specs.Literal.Laws.{ShowSame}
-use Rattle.winnow_core.specs.Decided.{IsDecided}
 use Rattle.winnow_core.specs.Outcome.{Does, Outcome, Setting, gave, grown, on_cut, took}
 use Rattle.winnow_core.specs.Runs.{Keeps}
 use Rattle.winnow_core.specs.Says.{Did, IsAt, Lawful, Said, Says}
 use Rattle.winnow_core.specs.Says.Cases.{Case, FailsWhere, Given, LacksWhere, MisusedIf, OneCase}
 use Rattle.winnow_core.specs.Says.Cases.{TakesWhere, cases_law, fails_law, given_law}
 use Rattle.winnow_core.specs.Says.Cases.{lacks_law, misused_law, takes_law}
-use Rattle.winnow_core.specs.Says.Decided.{decided_of}
 use Rattle.winnow_core.specs.Says.Lacks.{misused_outcome, short_outcome}
 use Rattle.winnow_core.specs.Says.Leaf.{here_did, leaf_said, takes_did}
 use Rattle.winnow_token.specs.TakeWhile.{IsEnded, IsOpen, TakeWhileRuns, missing_of}
-use Rattle.winnow_token.specs.TakeWhile.Laws.{ended_more, ended_of, longest_more, take_while_ends}
+use Rattle.winnow_token.specs.TakeWhile.Laws.{ended_more, ended_of, longest_more}
 
 -- The greatest number is below the least.
 abbrev pub IsDescending : Bounds → Type 0
@@ -235,13 +233,3 @@ module _ {X T L : Type 0} (reading : Reading T L) (member : X → T → Bool →
               gave i.left.tokens e,
             )),
           ))
-
--- one state and one input decide their runs
-pub take_while_decided : {X T L : Type 0} (reading : Reading T L) (form : ErrorForm)
-    (member : X → T → Bool → Type 0) (bounds : X → Bounds) (x : X) → SetIsFunction (member x)
-    → IsDecided x (Keeps (λ y. TakeWhileRuns reading form (member y) (bounds y)))
-    (ShowSame reading)
-take_while_decided reading form member bounds x once =
-    decided_of reading (λ f y i answer t j r.
-    take_while_ends reading f (member y) (bounds y) i answer j r.0)
-    (take_while_said reading member bounds x) form once

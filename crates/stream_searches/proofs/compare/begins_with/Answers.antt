@@ -4,8 +4,8 @@ use Rattle.std.proofs.lemmas.Slice.Eq.{starts_is}
 use Rattle.stream_searches.proofs.CompareLemmas.{eqb-Decides, StartsWithSpelling-begins}
 use Rattle.stream_searches.proofs.compare.begins_with.Goals as goal
 
-pub returns-then-count-gt-IN_PLACE : goal.returns-then-count-gt-IN_PLACE
-returns-then-count-gt-IN_PLACE c =
+pub returns-then-count-in_place : goal.returns-then-count-in_place
+returns-then-count-in_place c =
     let all = c.args.all.now in
     let t = c.args.literal.now in
     let told = starts_is eqb-Decides all t c.starts_with.result c.starts_with.ensures.value in (

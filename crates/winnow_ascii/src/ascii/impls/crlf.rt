@@ -4,14 +4,12 @@ ghost use Rattle.grammars.specs.Grammar.{SpelledBy};
 ghost use Rattle.grammars.specs.Grammar.Searches.{LiterallyBytes};
 ghost use Rattle.grammars.specs.Grammar.Unique.{literally_takes};
 ghost use Rattle.winnow_core.specs.Exact.Allowed.{backs};
-ghost use Rattle.winnow_core.specs.Literal.Laws.{ShowSame};
 ghost use Rattle.winnow_core.specs.Literal.Laws.{SpellsByText, text_exact, text_fails};
 ghost use Rattle.winnow_core.specs.Runs.{Keeps};
 ghost use Rattle.winnow_core.specs.Stable.Grows.{leaf_stays};
 ghost use Rattle.winnow_ascii.specs.Crlf.{CrlfRuns};
 ghost use Rattle.winnow_ascii.specs.Crlf.Laws.{crlf_ends, crlf_stays};
 ghost use Rattle.winnow_ascii.specs.Crlf.Says.{text_said, text_says};
-ghost use Rattle.winnow_core.specs.Says.Decided.{decided_of};
 
 use crate::ascii::crlf;
 use stream_errors::parser_error::ParserError;
@@ -44,8 +42,6 @@ impl<I: StreamIsPartial + Compare<&'static str>, E: ParserError<I>> Parser<I, I:
       spares_memory = ⊤;
       consumes = SpelledBy I.spells (13 ∷ 10 ∷ []) [] → ⊥;
       grammar = LiterallyBytes I.reading I.spells (13 ∷ 10 ∷ []);
-      decides = SpellsByText I.spells;
-      alike = ShowSame I.reading;
     } };
 
     ghost leaves_ends = { λ form x i answer y j r. crlf_ends I.spells I.reading form i answer j
@@ -58,9 +54,6 @@ impl<I: StreamIsPartial + Compare<&'static str>, E: ParserError<I>> Parser<I, I:
       fails = λ form is. backs (text_fails I.reading form I.spells is I.same_units (13 ∷ 10 ∷ []));
       takes = λ is some. literally_takes I.reading (SpelledBy I.spells) (λ _ slice. slice)
           (13 ∷ 10 ∷ []) some;
-      decided = λ form is. decided_of I.reading
-          (λ f x i answer y j r. crlf_ends I.spells I.reading f i answer j r.0)
-          (text_said I.reading I.spells I.same_units (13 ∷ 10 ∷ [])) form is;
     } };
 
     #[inline(always)]

@@ -8,10 +8,8 @@ ghost use Rattle.stream_sets.specs.Range.{from_to};
 ghost use Rattle.grammars.specs.Grammar.{Class};
 ghost use Rattle.winnow_ascii.specs.Class.{ClassRuns};
 ghost use Rattle.winnow_ascii.specs.Class.Laws.{class_exact, class_fails, class_ends};
-ghost use Rattle.winnow_ascii.specs.Class.Says.{CharIsFunction, class_decided, class_said};
-ghost use Rattle.winnow_ascii.specs.Class.Says.{class_says};
+ghost use Rattle.winnow_ascii.specs.Class.Says.{class_said, class_says};
 ghost use Rattle.winnow_core.specs.Exact.Allowed.{backs};
-ghost use Rattle.winnow_core.specs.Literal.Laws.{ShowSame};
 ghost use Rattle.winnow_core.specs.Runs.{Keeps};
 ghost use Rattle.winnow_core.specs.Stable.Grows.{leaf_stays};
 ghost use Rattle.winnow_token.specs.TakeWhile.Laws.{take_while_stays};
@@ -50,8 +48,6 @@ where
       spares_memory = ⊤;
       consumes = ⊥;
       grammar = Class IsHexDigit 0 I.Token.code I.seen_as I.reading;
-      decides = CharIsFunction I.seen_as I.Token.code;
-      alike = ShowSame I.reading;
     } };
 
     ghost leaves_ends = { λ form x i answer y j r. class_ends IsHexDigit 0 I.Token.code
@@ -63,7 +59,6 @@ where
       exact = λ form is. class_exact IsHexDigit 0 I.Token.code I.seen_as I.reading form is;
       fails = λ form is. backs (class_fails IsHexDigit 0 I.Token.code I.seen_as I.reading form);
       takes = λ is never. absurd never;
-      decided = λ form is. class_decided IsHexDigit 0 I.Token.code I.seen_as I.reading form is;
     } };
 
     #[inline(always)]

@@ -4,7 +4,6 @@ ghost use Rattle.grammars.specs.Grammar.{SpelledBy};
 ghost use Rattle.grammars.specs.Grammar.Searches.{LineEnd};
 ghost use Rattle.grammars.specs.Grammar.Unique.{either_takes, literally_takes};
 ghost use Rattle.winnow_core.specs.Exact.Allowed.{backs};
-ghost use Rattle.winnow_core.specs.Literal.Laws.{ShowSame};
 ghost use Rattle.winnow_core.specs.Literal.Laws.{SpellsByText};
 ghost use Rattle.winnow_core.specs.Runs.{Keeps};
 ghost use Rattle.winnow_core.specs.Stable.Grows.{leaf_stays};
@@ -12,7 +11,7 @@ ghost use Rattle.winnow_ascii.specs.LineEnding.{LineEndingRuns};
 ghost use Rattle.winnow_ascii.specs.LineEnding.Laws.{line_ending_exact, line_ending_fails};
 ghost use Rattle.winnow_ascii.specs.LineEnding.Laws.{line_ending_ends};
 ghost use Rattle.winnow_ascii.specs.LineEnding.Laws.{line_ending_stays};
-ghost use Rattle.winnow_ascii.specs.LineEnding.Says.{line_ending_decided, line_ending_said};
+ghost use Rattle.winnow_ascii.specs.LineEnding.Says.{line_ending_said};
 ghost use Rattle.winnow_ascii.specs.LineEnding.Says.{line_ending_says};
 
 use crate::ascii::line_ending;
@@ -47,8 +46,6 @@ impl<I: StreamIsPartial + Compare<&'static str>, E: ParserError<I>> Parser<I, I:
       consumes = (SpelledBy I.spells (10 ∷ []) [] → ⊥)
           × (SpelledBy I.spells (13 ∷ 10 ∷ []) [] → ⊥);
       grammar = LineEnd I.reading I.spells;
-      decides = SpellsByText I.spells;
-      alike = ShowSame I.reading;
     } };
 
     ghost leaves_ends = { λ form x i answer y j r. line_ending_ends I.spells I.reading form i
@@ -63,7 +60,6 @@ impl<I: StreamIsPartial + Compare<&'static str>, E: ParserError<I>> Parser<I, I:
           (literally_takes I.reading (SpelledBy I.spells) (λ _ slice. slice) (10 ∷ [])
           some.0) (literally_takes I.reading (SpelledBy I.spells) (λ _ slice. slice)
           (13 ∷ 10 ∷ []) some.1);
-      decided = λ form is. line_ending_decided I.spells I.reading I.same_units form is;
     } };
 
     #[inline(always)]

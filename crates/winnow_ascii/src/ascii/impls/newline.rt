@@ -11,7 +11,6 @@ ghost use Rattle.winnow_core.specs.Stable.Grows.{leaf_stays};
 ghost use Rattle.winnow_ascii.specs.Newline.{NewlineRuns};
 ghost use Rattle.winnow_ascii.specs.Newline.Laws.{newline_ends};
 ghost use Rattle.winnow_core.specs.Literal.Says.{literal_said, literal_says};
-ghost use Rattle.winnow_core.specs.Says.Decided.{decided_of};
 
 use crate::ascii::newline;
 use stream_errors::parser_error::ParserError;
@@ -43,8 +42,6 @@ impl<I: StreamIsPartial + Compare<char>, E: ParserError<I>> Parser<I, char, E> f
       spares_memory = ⊤;
       consumes = I.spells 10 [] → ⊥;
       grammar = Literally I.reading I.spells (λ s _. s) 10;
-      decides = ⊤;
-      alike = λ o p. o ≡ p;
     } };
 
     ghost leaves_ends = { λ form x i answer y j r. newline_ends I.spells I.reading form i answer
@@ -58,10 +55,6 @@ impl<I: StreamIsPartial + Compare<char>, E: ParserError<I>> Parser<I, char, E> f
           (I.same_units 10);
       fails = λ form is. backs (literal_fails I.reading form I.spells (λ s _. s) (λ _. 10) tt);
       takes = λ is some. literally_takes I.reading I.spells (λ s _. s) 10 some;
-      decided = λ form is. decided_of I.reading
-          (λ f x i answer y j r. newline_ends I.spells I.reading f i answer j r.0)
-          (literal_said I.reading (λ (_ : ⊤). I.spells 10) (λ _ _. 10) (λ o p. o ≡ p) s
-          (I.same_units 10) (λ slice other shown. refl)) form is;
     } };
 
     #[inline(always)]

@@ -9,10 +9,8 @@ ghost use Rattle.grammars.specs.Grammar.{Class};
 ghost use Rattle.winnow_ascii.specs.Class.{ClassRuns};
 ghost use Rattle.winnow_ascii.specs.Class.Laws.{class_exact, class_fails, class_takes, one_is_some};
 ghost use Rattle.winnow_ascii.specs.Class.Laws.{class_ends};
-ghost use Rattle.winnow_ascii.specs.Class.Says.{CharIsFunction, class_decided, class_said};
-ghost use Rattle.winnow_ascii.specs.Class.Says.{class_says};
+ghost use Rattle.winnow_ascii.specs.Class.Says.{class_said, class_says};
 ghost use Rattle.winnow_core.specs.Exact.Allowed.{backs};
-ghost use Rattle.winnow_core.specs.Literal.Laws.{ShowSame};
 ghost use Rattle.winnow_core.specs.Runs.{Keeps};
 ghost use Rattle.winnow_core.specs.Stable.Grows.{leaf_stays};
 ghost use Rattle.winnow_token.specs.TakeWhile.Laws.{take_while_stays};
@@ -51,8 +49,6 @@ where
       spares_memory = ⊤;
       consumes = ⊤;
       grammar = Class IsOctDigit 1 I.Token.code I.seen_as I.reading;
-      decides = CharIsFunction I.seen_as I.Token.code;
-      alike = ShowSame I.reading;
     } };
 
     ghost leaves_ends = { λ form x i answer y j r. class_ends IsOctDigit 1 I.Token.code
@@ -64,7 +60,6 @@ where
       exact = λ form is. class_exact IsOctDigit 1 I.Token.code I.seen_as I.reading form is;
       fails = λ form is. backs (class_fails IsOctDigit 1 I.Token.code I.seen_as I.reading form);
       takes = λ is some. class_takes IsOctDigit 1 I.Token.code I.seen_as I.reading one_is_some;
-      decided = λ form is. class_decided IsOctDigit 1 I.Token.code I.seen_as I.reading form is;
     } };
 
     #[inline(always)]

@@ -2,7 +2,7 @@
 ghost use Rattle.std.specs.Prelude.{⊤};
 ghost use Rattle.grammars.specs.Grammar.Searches.{Line};
 ghost use Rattle.winnow_core.specs.Exact.Allowed.{backs};
-ghost use Rattle.winnow_core.specs.Literal.Laws.{ShowSame, SpellsByText};
+ghost use Rattle.winnow_core.specs.Literal.Laws.{SpellsByText};
 ghost use Rattle.winnow_core.specs.Runs.{Keeps};
 ghost use Rattle.winnow_core.specs.Stable.Grows.{leaf_stays};
 ghost use Rattle.winnow_ascii.specs.TillLineEnding.{TillLineEndingRuns};
@@ -10,7 +10,6 @@ ghost use Rattle.winnow_ascii.specs.TillLineEnding.Exact.{till_line_ending_exact
 ghost use Rattle.winnow_ascii.specs.TillLineEnding.Exact.{till_line_ending_fails};
 ghost use Rattle.winnow_ascii.specs.TillLineEnding.Laws.{till_line_ending_ends};
 ghost use Rattle.winnow_ascii.specs.TillLineEnding.Laws.{till_line_ending_stays};
-ghost use Rattle.winnow_ascii.specs.TillLineEnding.Says.{till_line_ending_decided};
 ghost use Rattle.winnow_ascii.specs.TillLineEnding.Says.{till_line_ending_said};
 ghost use Rattle.winnow_ascii.specs.TillLineEnding.Says.{till_line_ending_says};
 
@@ -49,8 +48,6 @@ impl<
       spares_memory = ⊤;
       consumes = ⊥;
       grammar = Line I.reading I.spells I.sought;
-      decides = SpellsByText I.spells;
-      alike = ShowSame I.reading;
     } };
 
     ghost leaves_ends = { λ form x i answer y j r. till_line_ending_ends I.spells I.sought
@@ -63,8 +60,6 @@ impl<
       exact = λ form is. till_line_ending_exact I.reading form I.spells is I.sought;
       fails = λ form is. backs (till_line_ending_fails I.reading form I.spells is I.sought);
       takes = λ is never. absurd never;
-      decided = λ form is. till_line_ending_decided I.spells I.sought I.reading
-          (I.stays_first (13, 10)) form is;
     } };
 
     #[inline(always)]

@@ -10,8 +10,6 @@ ghost use Rattle.winnow_binary.specs.LengthAndThen.Laws.{length_and_then_exact};
 ghost use Rattle.winnow_binary.specs.LengthAndThen.Laws.{length_and_then_fails};
 ghost use Rattle.winnow_binary.specs.LengthAndThen.Laws.{length_and_then_ends};
 ghost use Rattle.winnow_binary.specs.LengthAndThen.Laws.{length_and_then_grows};
-ghost use Rattle.winnow_core.specs.Says.Decided.{decided_of};
-ghost use Rattle.winnow_binary.specs.Length.Says.{OneLength};
 ghost use Rattle.winnow_binary.specs.LengthAndThen.Says.{length_and_then_said};
 ghost use Rattle.winnow_binary.specs.LengthAndThen.Says.{length_and_then_says};
 
@@ -63,9 +61,6 @@ impl<
       spares_memory = (P.claim s.0).spares_memory × (G.claim s.1).spares_memory;
       consumes = (P.claim s.0).consumes;
       grammar = Sized N.number (Inside (G.claim s.1).grammar) (P.claim s.0).grammar;
-      decides = (P.says s.0).premise × OneLength N.number (P.says s.0).alike
-          × (G.says s.1).premise;
-      alike = (G.says s.1).alike;
     } };
 
     ghost leaves_ends = { λ form. length_and_then_ends N.number I.reading form I.counts_missing
@@ -83,11 +78,6 @@ impl<
           (fails_as (λ b. b.1) (λ m. m.1) ((G.claimed s.1).fails form is.2));
       takes = λ is some. sized_inside_takes N.number (G.claim s.1).grammar
           ((P.claimed s.0).exact modal is.0).unique ((P.claimed s.0).takes is.0 some);
-      decided = λ form is. decided_of I.reading
-          (λ form. length_and_then_ends N.number I.reading form I.counts_missing
-          (P.meaning form) (G.meaning form) (P.leaves_ends form))
-          (length_and_then_said N.number I.reading I.counts_missing (P.said s.0) (G.said s.1))
-          form is;
     } };
 
     #[inline]

@@ -6,9 +6,6 @@ ghost use Rattle.winnow_core.specs.Stable.Grows.{grows, stays};
 ghost use Rattle.winnow_binary.specs.LengthRepeat.{LengthRepeatRuns};
 ghost use Rattle.winnow_binary.specs.LengthRepeat.Laws.{length_repeat_exact, length_repeat_fails};
 ghost use Rattle.winnow_binary.specs.LengthRepeat.Laws.{length_repeat_ends, length_repeat_grows};
-ghost use Rattle.winnow_repeat.specs.Chain.Bounded.{HeldAlike};
-ghost use Rattle.winnow_core.specs.Says.Decided.{decided_of};
-ghost use Rattle.winnow_binary.specs.Length.Says.{OneLength};
 ghost use Rattle.winnow_binary.specs.LengthRepeat.Says.{length_repeat_said};
 ghost use Rattle.winnow_binary.specs.LengthRepeat.Says.{length_repeat_says};
 
@@ -67,9 +64,6 @@ impl<
           (P.claim s.0).spares_memory × (G.claim s.1).spares_memory × C.spares_memory;
       consumes = (P.claim s.0).consumes;
       grammar = Sized N.number (Times C.holds (G.claim s.1).grammar) (P.claim s.0).grammar;
-      decides = (P.says s.0).premise × OneLength N.number (P.says s.0).alike
-          × (G.says s.1).premise;
-      alike = HeldAlike C.holds (G.says s.1).alike;
     } };
 
     ghost leaves_ends = { λ form. length_repeat_ends I.reading N.number C.accumulator
@@ -93,11 +87,6 @@ impl<
       takes = λ is some. sized_times_takes N.number C.holds
           ((G.claimed s.1).exact modal is.2).unique
           ((P.claimed s.0).exact modal is.0).unique ((P.claimed s.0).takes is.0 some);
-      decided = λ form is. decided_of I.reading
-          (λ form. length_repeat_ends I.reading N.number C.accumulator (assert_kind form)
-          (P.meaning form) (G.meaning form) (P.leaves_ends form) (G.leaves_ends form))
-          (length_repeat_said N.number C.accumulator C.holds C.gathers (P.said s.0)
-          (G.said s.1)) form is;
     } };
 
     fn parse_next(&mut self, input: &mut I) -> Result<C, E> {

@@ -7,9 +7,6 @@ ghost use Rattle.winnow_binary.specs.LengthTake.{LengthTakeRuns};
 ghost use Rattle.winnow_binary.specs.LengthTake.Laws.{length_take_exact, length_take_fails};
 ghost use Rattle.winnow_binary.specs.LengthTake.Laws.{length_take_takes};
 ghost use Rattle.winnow_binary.specs.LengthTake.Laws.{length_take_ends, length_take_stays};
-ghost use Rattle.winnow_core.specs.Literal.Laws.{ShowSame};
-ghost use Rattle.winnow_core.specs.Says.Decided.{decided_of};
-ghost use Rattle.winnow_binary.specs.Length.Says.{OneLength};
 ghost use Rattle.winnow_binary.specs.LengthTake.Says.{length_take_said, length_take_says};
 
 use std::marker::PhantomData;
@@ -55,8 +52,6 @@ impl<P: Parser<I, N, E>, I: StreamIsPartial, N: ToUsize + Drop, E: ParserError<I
       spares_memory = (P.claim s).spares_memory;
       consumes = (P.claim s).consumes;
       grammar = Sized N.number (Counted I.reading) (P.claim s).grammar;
-      decides = (P.says s).premise × OneLength N.number (P.says s).alike;
-      alike = ShowSame I.reading;
     } };
 
     ghost leaves_ends = { λ form. length_take_ends N.number I.reading form I.counts_missing
@@ -71,10 +66,6 @@ impl<P: Parser<I, N, E>, I: StreamIsPartial, N: ToUsize + Drop, E: ParserError<I
           ((P.claimed s).exact form is.0) ((P.claimed s).fails form is.0);
       takes = λ is some. length_take_takes N.number I.reading ((P.claimed s).exact modal is.0)
           ((P.claimed s).takes is.0 some);
-      decided = λ form is. decided_of I.reading
-          (λ form. length_take_ends N.number I.reading form I.counts_missing (P.meaning form)
-          (P.leaves_ends form))
-          (length_take_said N.number I.reading I.counts_missing (P.said s)) form is;
     } };
 
     #[inline]

@@ -6,9 +6,9 @@ ghost use Rattle.winnow_comb.specs.Attempt.{AttemptRuns};
 ghost use Rattle.winnow_core.specs.Claim.{Claim, Claimed};
 ghost use Rattle.winnow_core.specs.Runs.{LeaveEnds, Meaning};
 ghost use Rattle.winnow_core.specs.Says.{Said, Says};
-ghost use Rattle.winnow_core.specs.Says.Decided.{decided_of};
 
 mod slices;
+mod stable;
 mod tuples;
 
 use std::marker::PhantomData;
@@ -87,21 +87,13 @@ impl<A: Alt<I, O, E>, I: Stream, O, E: ParserError<I>> Parser<I, O, E> for AltPa
 
     ghost says = { A.says };
 
-    ghost claim = { λ s. record (A.claim s) {
-      decides = (A.says s).premise;
-      alike = (A.says s).alike;
-    } };
+    ghost claim = { A.claim };
 
     ghost leaves_ends = { A.leaves_ends };
 
     ghost said = { A.said };
 
-    ghost claimed = { λ s. record {
-      exact = λ form is. (A.claimed s).exact form is;
-      fails = λ form is. (A.claimed s).fails form is;
-      takes = λ is some. (A.claimed s).takes is some;
-      decided = λ form is. decided_of I.reading A.leaves_ends (A.said s) form is;
-    } };
+    ghost claimed = { A.claimed };
 
     #[inline(always)]
     fn parse_next(&mut self, input: &mut I) -> Result<O, E> {

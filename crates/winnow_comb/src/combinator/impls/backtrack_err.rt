@@ -3,9 +3,8 @@ ghost use Rattle.stream_errors.specs.Form.{modal};
 ghost use Rattle.winnow_comb.specs.BacktrackErr.{BacktrackErrRuns};
 ghost use Rattle.winnow_comb.specs.BacktrackErr.Laws.{backtrack_err_ends, backtrack_err_grows};
 ghost use Rattle.winnow_core.specs.Stable.Grows.{grows, stays};
-ghost use Rattle.winnow_core.specs.Claim.{no_claim};
+ghost use Rattle.winnow_core.specs.Claim.{no_claim, nothing_claimed};
 ghost use Rattle.winnow_comb.specs.BacktrackErr.Says.{backtrack_err_said, backtrack_err_says};
-ghost use Rattle.winnow_core.specs.Says.Decided.{decided_of};
 
 use std::marker::PhantomData;
 use stream_errors::modal::ModalError;
@@ -40,24 +39,14 @@ impl<P: Parser<I, O, E>, I: Stream, O, E: ParserError<I> + ModalError> Parser<I,
 
     ghost says = { λ s. backtrack_err_says (P.says s) };
 
-    ghost claim = { λ s. record no_claim {
-      decides = (P.says s).premise;
-      alike = (P.says s).alike;
-    } };
+    ghost claim = { λ _. no_claim };
 
     ghost leaves_ends = { λ form. backtrack_err_ends I.reading (P.meaning form)
         (P.leaves_ends form) };
 
     ghost said = { λ s. backtrack_err_said (P.said s) };
 
-    ghost claimed = { λ s. record {
-      exact = λ form never. absurd never;
-      fails = λ form never. absurd never;
-      takes = λ never consumes. absurd never;
-      decided = λ form is. decided_of I.reading
-          (λ form. backtrack_err_ends I.reading (P.meaning form) (P.leaves_ends form))
-          (backtrack_err_said (P.said s)) form is;
-    } };
+    ghost claimed = { λ _. nothing_claimed };
 
     #[inline(always)]
     fn parse_next(&mut self, input: &mut I) -> Result<O, E> {

@@ -2,12 +2,10 @@
 ghost use Rattle.std.specs.Prelude.{Bool};
 ghost use Rattle.grammars.specs.Grammar.{When};
 ghost use Rattle.stream_errors.specs.Form.{modal};
-ghost use Rattle.winnow_comb.specs.Opt.Laws.{AlikeOptions};
 ghost use Rattle.winnow_core.specs.Stable.Grows.{grows, stays};
 ghost use Rattle.winnow_comb.specs.Cond.{CondRuns};
 ghost use Rattle.winnow_comb.specs.Cond.Laws.{cond_exact, cond_fails, cond_ends, cond_grows};
 ghost use Rattle.winnow_comb.specs.Cond.Says.{cond_said, cond_says};
-ghost use Rattle.winnow_core.specs.Says.Decided.{decided_of};
 
 use std::marker::PhantomData;
 use stream_errors::parser_error::ParserError;
@@ -48,8 +46,6 @@ impl<P: Parser<I, O, E>, I: Stream, O, E: ParserError<I>> Parser<I, Option<O>, E
       spares_memory = (P.claim s.0).spares_memory;
       consumes = ⊥;
       grammar = When s.1 (P.claim s.0).grammar;
-      decides = (P.says s.0).premise;
-      alike = AlikeOptions (P.says s.0).alike;
     } };
 
     ghost leaves_ends = { λ form. cond_ends I.reading (P.meaning form) (P.leaves_ends form) };
@@ -60,9 +56,6 @@ impl<P: Parser<I, O, E>, I: Stream, O, E: ParserError<I>> Parser<I, Option<O>, E
       exact = λ form is. cond_exact ((P.claimed s.0).exact form is);
       fails = λ form is. cond_fails ((P.claimed s.0).fails form is);
       takes = λ is never. absurd never;
-      decided = λ form is. decided_of I.reading
-          (λ form. cond_ends I.reading (P.meaning form) (P.leaves_ends form))
-          (cond_said (P.said s.0)) form is;
     } };
 
     #[inline(always)]

@@ -6,7 +6,6 @@ ghost use Rattle.winnow_comb.specs.CutErr.Laws.{cut_err_exact, cut_err_fails};
 ghost use Rattle.winnow_comb.specs.CutErr.Laws.{cut_err_ends};
 ghost use Rattle.winnow_comb.specs.CutErr.Laws.{cut_err_grows};
 ghost use Rattle.winnow_comb.specs.CutErr.Says.{cut_err_said, cut_err_says};
-ghost use Rattle.winnow_core.specs.Says.Decided.{decided_of};
 
 use std::marker::PhantomData;
 use stream_errors::modal::ModalError;
@@ -47,8 +46,6 @@ impl<P: Parser<I, O, E>, I: Stream, O, E: ParserError<I> + ModalError> Parser<I,
       spares_memory = (P.claim s).spares_memory;
       consumes = (P.claim s).consumes;
       grammar = (P.claim s).grammar;
-      decides = (P.says s).premise;
-      alike = (P.says s).alike;
     } };
 
     ghost leaves_ends = { λ form. cut_err_ends I.reading (P.meaning form) (P.leaves_ends form) };
@@ -59,9 +56,6 @@ impl<P: Parser<I, O, E>, I: Stream, O, E: ParserError<I> + ModalError> Parser<I,
       exact = λ form is. cut_err_exact ((P.claimed s).exact form is);
       fails = λ form is. cut_err_fails ((P.claimed s).fails form is);
       takes = λ is some. (P.claimed s).takes is some;
-      decided = λ form is. decided_of I.reading
-          (λ form. cut_err_ends I.reading (P.meaning form) (P.leaves_ends form))
-          (cut_err_said (P.said s)) form is;
     } };
 
     #[inline(always)]

@@ -9,7 +9,6 @@ ghost use Rattle.winnow_core.specs.InOrder.Three.{three_exact, three_fails, thre
 ghost use Rattle.winnow_core.specs.InOrder.Says.{three_said, three_says};
 ghost use Rattle.winnow_core.specs.Stable.Grows.{grows, stays};
 ghost use Rattle.winnow_comb.specs.Delimited.{DelimitedRuns};
-ghost use Rattle.winnow_core.specs.Says.Decided.{decided_of};
 
 use std::marker::PhantomData;
 use stream_errors::parser_error::ParserError;
@@ -67,8 +66,6 @@ impl<
       consumes = ((P1.claim s.0).consumes ⊎ (P2.claim s.1).consumes) ⊎ (P3.claim s.2).consumes;
       grammar = Three (λ o1 o2 o3. o2) (P1.claim s.0).grammar (P2.claim s.1).grammar
           (P3.claim s.2).grammar;
-      decides = (P1.says s.0).premise × (P2.says s.1).premise × (P3.says s.2).premise;
-      alike = (P2.says s.1).alike;
     } };
 
     ghost leaves_ends = { λ form. three_ends I.reading (λ o1 o2 o3. o2) (P1.meaning form)
@@ -90,12 +87,6 @@ impl<
           ((P2.claimed s.1).exact modal is.1) ((P3.claimed s.2).exact modal is.2)
           (either_way (either_way ((P1.claimed s.0).takes is.0)
           ((P2.claimed s.1).takes is.1)) ((P3.claimed s.2).takes is.2) some);
-      decided = λ form is. decided_of I.reading
-          (λ form. three_ends I.reading (λ o1 o2 o3. o2) (P1.meaning form) (P2.meaning form)
-          (P3.meaning form) (P1.leaves_ends form) (P2.leaves_ends form)
-          (P3.leaves_ends form))
-          (three_said (λ o p q r x y first second third. second) (P1.said s.0) (P2.said s.1)
-          (P3.said s.2)) form is;
     } };
 
     #[inline(always)]

@@ -8,7 +8,6 @@ ghost use Rattle.winnow_core.specs.Stable.Grows.{leaf_stays};
 ghost use Rattle.winnow_comb.specs.Empty.{EmptyRuns};
 ghost use Rattle.winnow_comb.specs.Empty.Laws.{empty_exact, empty_fails, empty_stays};
 ghost use Rattle.winnow_comb.specs.Empty.Says.{empty_said, empty_says};
-ghost use Rattle.winnow_core.specs.Says.Decided.{decided_of};
 
 use crate::combinator::basic::empty;
 use stream_errors::parser_error::ParserError;
@@ -40,8 +39,6 @@ impl<I: Stream, E: ParserError<I>> Parser<I, (), E> for Empty {
       spares_memory = ⊤;
       consumes = ⊥;
       grammar = Nothing tt;
-      decides = ⊤;
-      alike = λ (_ _ : ⊤). ⊤;
     } };
 
     ghost leaves_ends = { λ form x i answer y j r. same_ends I.reading i j r.0.1 };
@@ -52,9 +49,6 @@ impl<I: Stream, E: ParserError<I>> Parser<I, (), E> for Empty {
       exact = λ form is. empty_exact;
       fails = λ form is. backs (empty_fails);
       takes = λ is never. absurd never;
-      decided = λ form is. decided_of I.reading
-          (λ form x i answer y j r. same_ends I.reading i j r.0.1)
-          empty_said form is;
     } };
 
     #[inline(always)]

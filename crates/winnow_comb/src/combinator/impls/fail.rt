@@ -1,5 +1,5 @@
 //! The parser that fails.
-ghost use Rattle.std.specs.Prelude.{⊤, ◌<◌, ◌≡◌};
+ghost use Rattle.std.specs.Prelude.{⊤, ◌<◌};
 ghost use Rattle.grammars.specs.Grammar.{Never};
 ghost use Rattle.winnow_core.specs.Ends.{same_ends};
 ghost use Rattle.winnow_core.specs.Exact.Allowed.{backs};
@@ -8,7 +8,6 @@ ghost use Rattle.winnow_core.specs.Stable.Grows.{leaf_stays};
 ghost use Rattle.winnow_comb.specs.Fail.{FailRuns};
 ghost use Rattle.winnow_comb.specs.Fail.Laws.{fail_exact, fail_backs, never_takes, fail_stays};
 ghost use Rattle.winnow_comb.specs.Fail.Says.{fail_said, fail_says};
-ghost use Rattle.winnow_core.specs.Says.Decided.{decided_of};
 
 use crate::combinator::basic::fail;
 use stream_errors::parser_error::ParserError;
@@ -40,8 +39,6 @@ impl<I: Stream, O, E: ParserError<I>> Parser<I, O, E> for Fail {
       spares_memory = ⊤;
       consumes = ⊤;
       grammar = Never;
-      decides = ⊤;
-      alike = λ o p. o ≡ p;
     } };
 
     ghost leaves_ends = { λ form x i answer y j r. same_ends I.reading i j r.0.1 };
@@ -52,9 +49,6 @@ impl<I: Stream, O, E: ParserError<I>> Parser<I, O, E> for Fail {
       exact = λ form is. fail_exact;
       fails = λ form is. backs (fail_backs);
       takes = λ is some. never_takes;
-      decided = λ form is. decided_of I.reading
-          (λ form x i answer y j r. same_ends I.reading i j r.0.1)
-          fail_said form is;
     } };
 
     #[inline(always)]

@@ -8,7 +8,6 @@ ghost use Rattle.winnow_comb.specs.Not.{NotRuns};
 ghost use Rattle.winnow_comb.specs.Not.Laws.{not_exact, not_fails, not_ends};
 ghost use Rattle.winnow_comb.specs.Not.Laws.{not_grows};
 ghost use Rattle.winnow_comb.specs.Not.Says.{not_said, not_says};
-ghost use Rattle.winnow_core.specs.Says.Decided.{decided_of};
 
 use std::marker::PhantomData;
 use stream_errors::parser_error::ParserError;
@@ -48,8 +47,6 @@ impl<P: Parser<I, O, E>, I: Stream, O: Drop, E: ParserError<I>> Parser<I, (), E>
       spares_memory = (P.claim s).spares_memory;
       consumes = ⊥;
       grammar = NotAhead (P.claim s).grammar;
-      decides = (P.says s).premise;
-      alike = λ o q. ⊤;
     } };
 
     ghost leaves_ends = { λ form. not_ends I.reading (P.meaning form) (P.leaves_ends form) };
@@ -61,9 +58,6 @@ impl<P: Parser<I, O, E>, I: Stream, O: Drop, E: ParserError<I>> Parser<I, (), E>
           (softly is.1 ((P.claimed s).fails form is.0));
       fails = λ form is. not_fails (fails_as (λ b. is.1) (λ m. m) ((P.claimed s).fails form is.0));
       takes = λ is never. absurd never;
-      decided = λ form is. decided_of I.reading
-          (λ form. not_ends I.reading (P.meaning form) (P.leaves_ends form))
-          (not_said (P.said s)) form is;
     } };
 
     #[inline(always)]

@@ -4,11 +4,10 @@ ghost use Rattle.stream_errors.specs.Form.{modal};
 ghost use Rattle.winnow_core.specs.Exact.Allowed.{fails_as, softly};
 ghost use Rattle.winnow_core.specs.Stable.Grows.{grows, stays};
 ghost use Rattle.winnow_comb.specs.Opt.{OptRuns};
-ghost use Rattle.winnow_comb.specs.Opt.Laws.{AlikeOptions, opt_exact, opt_fails};
+ghost use Rattle.winnow_comb.specs.Opt.Laws.{opt_exact, opt_fails};
 ghost use Rattle.winnow_comb.specs.Opt.Laws.{opt_ends, opt_grows};
 ghost use Rattle.std.specs.Prelude.{⊤};
 ghost use Rattle.winnow_comb.specs.Opt.Says.{opt_said, opt_says};
-ghost use Rattle.winnow_core.specs.Says.Decided.{decided_of};
 
 use std::marker::PhantomData;
 use stream_errors::parser_error::ParserError;
@@ -48,8 +47,6 @@ impl<P: Parser<I, O, E>, I: Stream, O, E: ParserError<I>> Parser<I, Option<O>, E
       spares_memory = (P.claim s).spares_memory;
       consumes = ⊥;
       grammar = Optional (P.claim s).grammar;
-      decides = (P.says s).premise;
-      alike = AlikeOptions (P.says s).alike;
     } };
 
     ghost leaves_ends = { λ form. opt_ends I.reading (P.meaning form) (P.leaves_ends form) };
@@ -61,9 +58,6 @@ impl<P: Parser<I, O, E>, I: Stream, O, E: ParserError<I>> Parser<I, Option<O>, E
           (softly is.1 ((P.claimed s).fails form is.0));
       fails = λ form is. opt_fails (fails_as (λ b. is.1) (λ m. m) ((P.claimed s).fails form is.0));
       takes = λ is never. absurd never;
-      decided = λ form is. decided_of I.reading
-          (λ form. opt_ends I.reading (P.meaning form) (P.leaves_ends form))
-          (opt_said (P.said s)) form is;
     } };
 
     #[inline(always)]

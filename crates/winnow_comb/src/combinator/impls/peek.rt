@@ -6,7 +6,6 @@ ghost use Rattle.winnow_comb.specs.Peek.{PeekRuns};
 ghost use Rattle.winnow_comb.specs.Peek.Laws.{peek_exact, peek_fails, peek_ends};
 ghost use Rattle.winnow_comb.specs.Peek.Laws.{peek_grows};
 ghost use Rattle.winnow_comb.specs.Peek.Says.{peek_said, peek_says};
-ghost use Rattle.winnow_core.specs.Says.Decided.{decided_of};
 
 use std::marker::PhantomData;
 use stream_errors::parser_error::ParserError;
@@ -45,8 +44,6 @@ impl<P: Parser<I, O, E>, I: Stream, O, E: ParserError<I>> Parser<I, O, E> for Pe
       spares_memory = (P.claim s).spares_memory;
       consumes = ⊥;
       grammar = Ahead (P.claim s).grammar;
-      decides = (P.says s).premise;
-      alike = (P.says s).alike;
     } };
 
     ghost leaves_ends = { λ form. peek_ends I.reading (P.meaning form) (P.leaves_ends form) };
@@ -57,9 +54,6 @@ impl<P: Parser<I, O, E>, I: Stream, O, E: ParserError<I>> Parser<I, O, E> for Pe
       exact = λ form is. peek_exact ((P.claimed s).exact form is);
       fails = λ form is. peek_fails ((P.claimed s).fails form is);
       takes = λ is never. absurd never;
-      decided = λ form is. decided_of I.reading
-          (λ form. peek_ends I.reading (P.meaning form) (P.leaves_ends form))
-          (peek_said (P.said s)) form is;
     } };
 
     #[inline(always)]

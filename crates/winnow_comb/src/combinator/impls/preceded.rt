@@ -9,7 +9,6 @@ ghost use Rattle.winnow_core.specs.InOrder.Laws.{both_ends, both_grows};
 ghost use Rattle.winnow_core.specs.InOrder.Says.{both_said, both_says};
 ghost use Rattle.winnow_core.specs.Stable.Grows.{grows, stays};
 ghost use Rattle.winnow_comb.specs.Preceded.{PrecededRuns};
-ghost use Rattle.winnow_core.specs.Says.Decided.{decided_of};
 
 use std::marker::PhantomData;
 use stream_errors::parser_error::ParserError;
@@ -55,8 +54,6 @@ impl<P1: Parser<I, O1, E>, P2: Parser<I, O2, E>, I: Stream, O1: Drop, O2, E: Par
       spares_memory = (P1.claim s.0).spares_memory × (P2.claim s.1).spares_memory;
       consumes = (P1.claim s.0).consumes ⊎ (P2.claim s.1).consumes;
       grammar = Both (λ o1 o2. o2) (P1.claim s.0).grammar (P2.claim s.1).grammar;
-      decides = (P1.says s.0).premise × (P2.says s.1).premise;
-      alike = (P2.says s.1).alike;
     } };
 
     ghost leaves_ends = { λ form. both_ends I.reading (λ o1 o2. o2) (P1.meaning form)
@@ -74,10 +71,6 @@ impl<P1: Parser<I, O1, E>, P2: Parser<I, O2, E>, I: Stream, O1: Drop, O2, E: Par
       takes = λ is some. both_takes (λ o1 o2. o2) ((P1.claimed s.0).exact modal is.0)
           ((P2.claimed s.1).exact modal is.1)
           (either_way ((P1.claimed s.0).takes is.0) ((P2.claimed s.1).takes is.1) some);
-      decided = λ form is. decided_of I.reading
-          (λ form. both_ends I.reading (λ o1 o2. o2) (P1.meaning form) (P2.meaning form)
-          (P1.leaves_ends form) (P2.leaves_ends form))
-          (both_said (λ o p q r first second. second) (P1.said s.0) (P2.said s.1)) form is;
     } };
 
     #[inline(always)]

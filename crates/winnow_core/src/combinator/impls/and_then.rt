@@ -4,15 +4,13 @@ ghost use Rattle.grammars.specs.Grammar.{Made};
 ghost use Rattle.grammars.specs.Grammar.Outputs.{RejectsAll};
 ghost use Rattle.grammars.specs.Grammar.Unique.{made_of_takes};
 ghost use Rattle.stream_errors.specs.Form.{modal};
-ghost use Rattle.winnow_core.specs.AndThen.{AndThenSettles, AndThenRuns, and_then_inner};
-ghost use Rattle.winnow_core.specs.AndThen.{and_then_outer};
+ghost use Rattle.winnow_core.specs.AndThen.{AndThenSettles, AndThenRuns};
 ghost use Rattle.winnow_core.specs.Exact.Allowed.{fails_as, softly};
 ghost use Rattle.winnow_core.specs.Exact.Settled.{NoneWithin, ReadsWithin, and_then_exact};
 ghost use Rattle.winnow_core.specs.Exact.Settled.{and_then_fails};
 ghost use Rattle.winnow_core.specs.Settles.Laws.{settles_ends, settles_grows};
 ghost use Rattle.winnow_core.specs.Stable.Grows.{grows, stays};
-ghost use Rattle.winnow_core.specs.AndThen.Says.{OneInput, and_then_said, and_then_says};
-ghost use Rattle.winnow_core.specs.Says.Decided.{decided_of};
+ghost use Rattle.winnow_core.specs.AndThen.Says.{and_then_said, and_then_says};
 
 use crate::parser::Parser;
 use crate::stable::Stable;
@@ -36,8 +34,8 @@ pub struct AndThen<F, G, I, O, O2, E> {
 impl<F, G, I, O, O2, E> AndThen<F, G, I, O, O2, E> {
     #[inline(always)]
     pub(crate) fn new(outer: F, inner: G) -> AndThen<F, G, I, O, O2, E>
-        ensures outer { and_then_outer result ≡ outer }
-        ensures inner { and_then_inner result ≡ inner }
+        ensures outer { result.outer ≡ outer }
+        ensures inner { result.inner ≡ inner }
     {
         AndThen {
             outer,
@@ -73,9 +71,6 @@ impl<
       spares_memory = (F.claim s.0).spares_memory × (G.claim s.1).spares_memory;
       consumes = (F.claim s.0).consumes;
       grammar = Made (ReadsWithin O.view (G.claim s.1).grammar) tt (F.claim s.0).grammar;
-      decides = (F.says s.0).premise × OneInput O.view (F.says s.0).alike
-          × (G.says s.1).premise;
-      alike = (G.says s.1).alike;
     } };
 
     ghost leaves_ends = { λ form. settles_ends I.reading
@@ -93,10 +88,6 @@ impl<
           (fails_as (λ b. is.2) (λ m. m.1) ((G.claimed s.1).fails form is.1));
       takes = λ is some. made_of_takes (ReadsWithin O.view (G.claim s.1).grammar) tt
           ((F.claimed s.0).takes is.0 some);
-      decided = λ form is. decided_of I.reading
-          (λ form. settles_ends I.reading (AndThenSettles O.view (G.meaning form))
-          (F.meaning form) (F.leaves_ends form))
-          (and_then_said O.view (F.said s.0) (G.said s.1)) form is;
     } };
 
     #[inline]

@@ -4,7 +4,6 @@ ghost use Rattle.stream_errors.specs.Form.{modal};
 ghost use Rattle.winnow_core.specs.ByRef.{ByRefRuns};
 ghost use Rattle.winnow_core.specs.ByRef.Laws.{by_ref_exact, by_ref_fails, by_ref_grows};
 ghost use Rattle.winnow_core.specs.ByRef.Laws.{by_ref_said};
-ghost use Rattle.winnow_core.specs.Says.Decided.{decided_of};
 ghost use Rattle.winnow_core.specs.Stable.Grows.{grows, stays};
 
 use crate::parser::Parser;
@@ -44,8 +43,6 @@ impl<'p, P: Parser<I, O, E>, I: Stream, O, E: ParserError<I>> Parser<I, O, E>
       spares_memory = (P.claim s.0).spares_memory;
       consumes = (P.claim s.0).consumes;
       grammar = (P.claim s.0).grammar;
-      decides = (P.says s.0).premise;
-      alike = (P.says s.0).alike;
     } };
 
     ghost leaves_ends = { λ form s i answer t j r. P.leaves_ends form s.0 i answer t.0 j r.0 };
@@ -56,9 +53,6 @@ impl<'p, P: Parser<I, O, E>, I: Stream, O, E: ParserError<I>> Parser<I, O, E>
       exact = λ form is. by_ref_exact ((P.claimed s.0).exact form is);
       fails = λ form is. by_ref_fails ((P.claimed s.0).fails form is);
       takes = λ is some. (P.claimed s.0).takes is some;
-      decided = λ form is. decided_of I.reading
-          (λ form s i answer t j r. P.leaves_ends form s.0 i answer t.0 j r.0)
-          (by_ref_said (P.said s.0)) form is;
     } };
 
     #[inline(always)]

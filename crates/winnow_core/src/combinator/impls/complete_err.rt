@@ -1,11 +1,9 @@
 //! Errors that do not ask for more input.
 ghost use Rattle.std.specs.Prelude.{◌≡◌};
 ghost use Rattle.winnow_core.specs.CompleteErr.{CompleteErrBecomes, CompleteErrRuns};
-ghost use Rattle.winnow_core.specs.CompleteErr.{complete_err_parser};
 ghost use Rattle.winnow_core.specs.Exact.Errors.{complete_err_exact, complete_err_fails};
 ghost use Rattle.winnow_core.specs.MakesError.Laws.{makes_error_ends};
 ghost use Rattle.winnow_core.specs.CompleteErr.Says.{complete_err_said, complete_err_says};
-ghost use Rattle.winnow_core.specs.Says.Decided.{decided_of};
 
 use crate::parser::Parser;
 use std::marker::PhantomData;
@@ -28,7 +26,7 @@ pub struct CompleteErr<F, I, O, E> {
 impl<F, I, O, E> CompleteErr<F, I, O, E> {
     #[inline(always)]
     pub(crate) fn new(parser: F) -> CompleteErr<F, I, O, E>
-        ensures { complete_err_parser result ≡ parser }
+        ensures { result.parser ≡ parser }
     {
         CompleteErr {
             parser,
@@ -55,8 +53,6 @@ impl<F: Parser<I, O, E>, I: Stream, O, E: ParserError<I>> Parser<I, O, E>
       spares_memory = (F.claim s).spares_memory;
       consumes = (F.claim s).consumes;
       grammar = (F.claim s).grammar;
-      decides = (F.says s).premise;
-      alike = (F.says s).alike;
     } };
 
     ghost leaves_ends = { λ form s i answer t j ran. makes_error_ends I.reading
@@ -69,10 +65,6 @@ impl<F: Parser<I, O, E>, I: Stream, O, E: ParserError<I>> Parser<I, O, E>
       exact = λ form is. complete_err_exact ((F.claimed s).exact form is);
       fails = λ form is. complete_err_fails ((F.claimed s).fails form is);
       takes = λ is some. (F.claimed s).takes is some;
-      decided = λ form is. decided_of I.reading
-          (λ form s i answer t j ran. makes_error_ends I.reading CompleteErrBecomes
-          (F.meaning form) (F.leaves_ends form) _ i answer _ j ran)
-          (complete_err_said (F.said s)) form is;
     } };
 
     #[inline]

@@ -2,8 +2,7 @@
 ghost use Rattle.std.specs.Prelude.{◌≡◌};
 ghost use Rattle.stream_errors.specs.Form.{modal};
 ghost use Rattle.stream_errors.specs.Given.{Keeping};
-ghost use Rattle.winnow_core.specs.Context.{ContextBecomes, ContextRuns, context_parser};
-ghost use Rattle.winnow_core.specs.Context.{context_told};
+ghost use Rattle.winnow_core.specs.Context.{ContextBecomes, ContextRuns};
 ghost use Rattle.winnow_core.specs.Context.Laws.{context_keeps};
 ghost use Rattle.winnow_core.specs.Exact.Allowed.{fails_as, wanted};
 ghost use Rattle.winnow_core.specs.Exact.Errors.{NeverRefused, context_fails};
@@ -11,7 +10,6 @@ ghost use Rattle.winnow_core.specs.Exact.Errors.{context_keeps_kinds, errors_exa
 ghost use Rattle.winnow_core.specs.MakesError.Laws.{makes_error_ends, makes_error_grows};
 ghost use Rattle.winnow_core.specs.Stable.Grows.{grows, stays};
 ghost use Rattle.winnow_core.specs.MakesError.Says.{turned_said, turned_says};
-ghost use Rattle.winnow_core.specs.Says.Decided.{decided_of};
 
 use crate::parser::Parser;
 use crate::stable::Stable;
@@ -42,8 +40,8 @@ pub struct Context<F, I, O, E, C, A> {
 impl<F, I, O, E, C, A> Context<F, I, O, E, C, A> {
     #[inline(always)]
     pub(crate) fn new(parser: F, context: C, alloc: A) -> Context<F, I, O, E, C, A>
-        ensures parser { context_parser result ≡ parser }
-        ensures context { context_told result ≡ context }
+        ensures parser { result.parser ≡ parser }
+        ensures context { result.context ≡ context }
     {
         Context {
             parser,
@@ -80,8 +78,6 @@ impl<
           (F.claim s.0).spares_memory × C.is_infallible s.1.0 × NeverRefused C.is_clone s.1;
       consumes = (F.claim s.0).consumes;
       grammar = (F.claim s.0).grammar;
-      decides = (F.says s.0).premise;
-      alike = (F.says s.0).alike;
     } };
 
     ghost leaves_ends = { λ form. makes_error_ends I.reading
@@ -99,11 +95,6 @@ impl<
           (λ copy cloned refused. wanted (λ m. m.2 copy cloned refused))
           (fails_as (λ b. b) (λ m. m.0) ((F.claimed s.0).fails form is));
       takes = λ is some. (F.claimed s.0).takes is some;
-      decided = λ form is. decided_of I.reading
-          (λ form. makes_error_ends I.reading (ContextBecomes C.is_clone C.is_infallible)
-          (F.meaning form) (F.leaves_ends form))
-          (turned_said (ContextBecomes C.is_clone C.is_infallible) (λ is. is)
-          (λ is. context_keeps_kinds C.is_clone C.is_infallible) (F.said s.0)) form is;
     } };
 
     #[inline]

@@ -4,7 +4,6 @@ ghost use Rattle.std.specs.Prelude.{◌≡◌};
 ghost use Rattle.stream_errors.specs.Form.{modal};
 ghost use Rattle.stream_errors.specs.Given.{Keeping};
 ghost use Rattle.winnow_core.specs.ContextWith.{ContextWithBecomes, ContextWithRuns};
-ghost use Rattle.winnow_core.specs.ContextWith.{context_with_closure, context_with_parser};
 ghost use Rattle.winnow_core.specs.ContextWith.Laws.{context_with_keeps};
 ghost use Rattle.winnow_core.specs.MakesError.Laws.{makes_error_ends, makes_error_grows};
 ghost use Rattle.winnow_core.specs.Stable.Grows.{grows, stays};
@@ -41,8 +40,8 @@ pub struct ContextWith<P, I, O, E, F, C, FI, A> {
 impl<P, I, O, E, F, C, FI, A> ContextWith<P, I, O, E, F, C, FI, A> {
     #[inline(always)]
     pub(crate) fn new(parser: P, context: F, alloc: A) -> ContextWith<P, I, O, E, F, C, FI, A>
-        ensures parser { context_with_parser result ≡ parser }
-        ensures context { context_with_closure result ≡ context }
+        ensures parser { result.parser ≡ parser }
+        ensures context { result.context ≡ context }
     {
         ContextWith {
             parser,

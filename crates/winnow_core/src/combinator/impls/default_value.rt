@@ -3,13 +3,12 @@ ghost use Rattle.std.specs.Prelude.{◌≡◌};
 ghost use Rattle.grammars.specs.Grammar.{Made};
 ghost use Rattle.grammars.specs.Grammar.Unique.{made_of_takes};
 ghost use Rattle.stream_errors.specs.Form.{modal};
-ghost use Rattle.winnow_core.specs.DefaultValue.{DefaultValueRuns, default_value_parser};
+ghost use Rattle.winnow_core.specs.DefaultValue.{DefaultValueRuns};
 ghost use Rattle.winnow_core.specs.Exact.Adapters.{output_exact, output_fails};
 ghost use Rattle.winnow_core.specs.MakesOutput.Laws.{makes_output_ends, made_of_output};
 ghost use Rattle.winnow_core.specs.MakesOutput.Laws.{makes_output_grows};
 ghost use Rattle.winnow_core.specs.Stable.Grows.{grows, stays};
 ghost use Rattle.winnow_core.specs.MakesOutput.Says.{of_output_said, of_output_says};
-ghost use Rattle.winnow_core.specs.Says.Decided.{decided_of};
 
 use crate::parser::Parser;
 use crate::stable::Stable;
@@ -32,7 +31,7 @@ pub struct DefaultValue<F, I, O, O2, E> {
 impl<F, I, O, O2, E> DefaultValue<F, I, O, O2, E> {
     #[inline(always)]
     pub(crate) fn new(parser: F) -> DefaultValue<F, I, O, O2, E>
-        ensures { default_value_parser result ≡ parser }
+        ensures { result.parser ≡ parser }
     {
         DefaultValue {
             parser,
@@ -60,8 +59,6 @@ impl<F: Parser<I, O, E>, I: Stream, O: Drop, O2: Default, E: ParserError<I>> Par
       spares_memory = (F.claim s).spares_memory;
       consumes = (F.claim s).consumes;
       grammar = Made (λ (_ : Unit {0}) o u. O2.is_default u) tt (F.claim s).grammar;
-      decides = (F.says s).premise;
-      alike = λ u v. O2.is_default u × O2.is_default v;
     } };
 
     ghost leaves_ends = { λ form. makes_output_ends I.reading _ (F.meaning form)
@@ -77,10 +74,6 @@ impl<F: Parser<I, O, E>, I: Stream, O: Drop, O2: Default, E: ParserError<I>> Par
           ((F.claimed s).fails form is);
       takes = λ is some. made_of_takes (λ (_ : Unit {0}) o u. O2.is_default u) tt
           ((F.claimed s).takes is some);
-      decided = λ form is. decided_of I.reading
-          (λ form. makes_output_ends I.reading _ (F.meaning form) (F.leaves_ends form))
-          (of_output_said (λ o u. O2.is_default u) (λ o p u v like x y. (x, y)) (F.said s))
-          form is;
     } };
 
     #[inline]

@@ -5,9 +5,7 @@ ghost use Rattle.winnow_core.specs.Eof.{EofRuns};
 ghost use Rattle.winnow_core.specs.Eof.Laws.{eof_ends, eof_exact, eof_fails};
 ghost use Rattle.winnow_core.specs.Eof.Says.{eof_said, eof_says};
 ghost use Rattle.winnow_core.specs.Exact.Allowed.{backs};
-ghost use Rattle.winnow_core.specs.Literal.Laws.{ShowSame};
 ghost use Rattle.winnow_core.specs.Runs.{Keeps};
-ghost use Rattle.winnow_core.specs.Says.Decided.{decided_of};
 
 use crate::combinator::eof;
 use crate::parser::Parser;
@@ -38,8 +36,6 @@ impl<I: Stream, E: ParserError<I>> Parser<I, I::Slice, E> for Eof {
       spares_memory = ⊤;
       consumes = ⊥;
       grammar = NoTokens I.reading;
-      decides = ⊤;
-      alike = ShowSame I.reading;
     } };
 
     ghost leaves_ends = { λ form x i answer y j r. eof_ends I.reading i answer j r.0 };
@@ -50,9 +46,6 @@ impl<I: Stream, E: ParserError<I>> Parser<I, I::Slice, E> for Eof {
       exact = λ form is. eof_exact I.reading;
       fails = λ form is. backs (eof_fails I.reading);
       takes = λ is never. absurd never;
-      decided = λ form is. decided_of I.reading
-          (λ form x i answer y j r. eof_ends I.reading i answer j r.0) (eof_said I.reading)
-          form is;
     } };
 
     #[inline(always)]

@@ -1,13 +1,12 @@
 //! Errors that are converted.
 ghost use Rattle.std.specs.Prelude.{◌≡◌};
-ghost use Rattle.winnow_core.specs.ErrInto.{ErrIntoBecomes, ErrIntoRuns, err_into_parser};
+ghost use Rattle.winnow_core.specs.ErrInto.{ErrIntoBecomes, ErrIntoRuns};
 ghost use Rattle.winnow_core.specs.ErrInto.Laws.{err_into_keeps};
 ghost use Rattle.winnow_core.specs.Exact.Errors.{ConvertsSparing, SameKinds, err_into_exact};
 ghost use Rattle.winnow_core.specs.Exact.Errors.{err_into_fails};
 ghost use Rattle.winnow_core.specs.MakesError.Laws.{makes_error_ends, makes_error_grows};
 ghost use Rattle.winnow_core.specs.Stable.Grows.{grows_at, stays_beside};
 ghost use Rattle.winnow_core.specs.ErrInto.Says.{err_into_said, err_into_says};
-ghost use Rattle.winnow_core.specs.Says.Decided.{decided_of};
 
 use crate::parser::Parser;
 use crate::stable::{KeepsKinds, Stable};
@@ -30,7 +29,7 @@ pub struct ErrInto<F, I, O, E, E2> {
 impl<F, I, O, E, E2> ErrInto<F, I, O, E, E2> {
     #[inline(always)]
     pub(crate) fn new(parser: F) -> ErrInto<F, I, O, E, E2>
-        ensures { err_into_parser result ≡ parser }
+        ensures { result.parser ≡ parser }
     {
         ErrInto {
             parser,
@@ -61,8 +60,6 @@ impl<F: Parser<I, O, E>, I: Stream, O, E: ParserError<I>, E2: ParserError<I> + F
           (F.claim s).spares_memory × ConvertsSparing E.kind E2.kind E2.from_gives;
       consumes = (F.claim s).consumes;
       grammar = (F.claim s).grammar;
-      decides = (F.says s).premise × SameKinds E.kind E2.kind E2.from_gives;
-      alike = (F.says s).alike;
     } };
 
     ghost leaves_ends = { λ _ s i answer t j ran. makes_error_ends I.reading
@@ -77,11 +74,6 @@ impl<F: Parser<I, O, E>, I: Stream, O, E: ParserError<I>, E2: ParserError<I> + F
       fails = λ form is. err_into_fails E.kind E2.kind E2.from_gives is.1 (λ m. m.0)
           (λ m. m.1) ((F.claimed s).fails E.form is.0);
       takes = λ is some. (F.claimed s).takes is.0 some;
-      decided = λ form is. decided_of I.reading
-          (λ _ s i answer t j ran. makes_error_ends I.reading
-          (ErrIntoBecomes E.kind E2.kind E2.from_gives) (F.meaning E.form)
-          (F.leaves_ends E.form) _ i answer _ j ran)
-          (err_into_said E.form E.kind E2.kind E2.from_gives (F.said s)) form is;
     } };
 
     #[inline]

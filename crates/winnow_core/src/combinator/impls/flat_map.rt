@@ -6,14 +6,12 @@ ghost use Rattle.stream_errors.specs.Form.{modal};
 ghost use Rattle.winnow_core.specs.Closures.{Gives, Stays};
 ghost use Rattle.winnow_core.specs.Exact.Allowed.{fails_as};
 ghost use Rattle.winnow_core.specs.Exact.Along.{either_way};
-ghost use Rattle.winnow_core.specs.FlatMap.{FlatMapRuns, MakesParsers, flat_map_closure};
-ghost use Rattle.winnow_core.specs.FlatMap.{flat_map_parser};
+ghost use Rattle.winnow_core.specs.FlatMap.{FlatMapRuns, MakesParsers};
 ghost use Rattle.winnow_core.specs.FlatMap.Laws.{flat_map_exact, flat_map_fails, flat_map_ends};
 ghost use Rattle.winnow_core.specs.FlatMap.Laws.{flat_map_grows};
 ghost use Rattle.winnow_core.specs.Stable.Grows.{grows, stays};
-ghost use Rattle.winnow_core.specs.FlatMap.Says.{AlikeByMade, MakesOne, flat_map_said};
+ghost use Rattle.winnow_core.specs.FlatMap.Says.{flat_map_said};
 ghost use Rattle.winnow_core.specs.FlatMap.Says.{flat_map_says};
-ghost use Rattle.winnow_core.specs.Says.Decided.{decided_of};
 
 use crate::parser::Parser;
 use crate::stable::Stable;
@@ -38,8 +36,8 @@ pub struct FlatMap<F, G, H, I, O, O2, E> {
 impl<F, G, H, I, O, O2, E> FlatMap<F, G, H, I, O, O2, E> {
     #[inline(always)]
     pub(crate) fn new(parser: F, map: G) -> FlatMap<F, G, H, I, O, O2, E>
-        ensures parser { flat_map_parser result ≡ parser }
-        ensures map { flat_map_closure result ≡ map }
+        ensures parser { result.parser ≡ parser }
+        ensures map { result.map ≡ map }
     {
         FlatMap {
             parser,
@@ -84,10 +82,6 @@ impl<
           ⊎ EachMade (Gives G.step) s.1 (λ m. (H.claim (H.state m)).consumes);
       grammar = FlatMapped (Gives G.step) s.1 (λ m. (H.claim (H.state m)).grammar)
           (F.claim s.0).grammar;
-      decides = (F.says s.0).premise × Stays G.step s.1
-          × MakesOne G.step s.1 H.state (F.says s.0).alike
-          × EachMade (Gives G.step) s.1 (λ m. (H.says (H.state m)).premise);
-      alike = AlikeByMade G.step s.1 (λ m. (H.says (H.state m)).alike);
     } };
 
     ghost leaves_ends = { λ form. flat_map_ends I.reading G.step H.state (F.meaning form)
@@ -110,10 +104,6 @@ impl<
           (either_way ((F.claimed s.0).takes is.0)
           (λ each o made m. (H.claimed (H.state made)).takes (is.2 o made m)
           (each o made m)) some);
-      decided = λ form is. decided_of I.reading
-          (λ form. flat_map_ends I.reading G.step H.state (F.meaning form) (H.meaning form)
-          (F.leaves_ends form) (H.leaves_ends form))
-          (flat_map_said G.step H.state H.says (F.said s.0) H.said) form is;
     } };
 
     #[inline]

@@ -5,12 +5,10 @@ ghost use Rattle.grammars.specs.Grammar.Unique.{made_of_takes};
 ghost use Rattle.stream_errors.specs.Form.{modal};
 ghost use Rattle.winnow_core.specs.Closures.{Gives, Stays};
 ghost use Rattle.winnow_core.specs.Exact.Adapters.{map_exact, map_fails};
-ghost use Rattle.winnow_core.specs.Map.{MapRuns, map_parser, map_closure};
+ghost use Rattle.winnow_core.specs.Map.{MapRuns};
 ghost use Rattle.winnow_core.specs.Map.Laws.{map_ends, map_grows};
 ghost use Rattle.winnow_core.specs.Stable.Grows.{grows, stays};
 ghost use Rattle.winnow_core.specs.Map.Says.{map_said, map_says};
-ghost use Rattle.winnow_core.specs.Says.Decided.{decided_of};
-ghost use Rattle.winnow_core.specs.MakesOutput.Says.{OutputsMadeAlike};
 
 use crate::parser::Parser;
 use crate::stable::Stable;
@@ -34,8 +32,8 @@ pub struct Map<F, G, I, O, O2, E> {
 impl<F, G, I, O, O2, E> Map<F, G, I, O, O2, E> {
     #[inline(always)]
     pub(crate) fn new(parser: F, map: G) -> Map<F, G, I, O, O2, E>
-        ensures parser { map_parser result ≡ parser }
-        ensures map { map_closure result ≡ map }
+        ensures parser { result.parser ≡ parser }
+        ensures map { result.map ≡ map }
     {
         Map {
             parser,
@@ -63,8 +61,6 @@ impl<F: Parser<I, O, E>, G: FnMut(O) -> O2, I: Stream, O, O2, E: ParserError<I>>
       spares_memory = (F.claim s.0).spares_memory;
       consumes = (F.claim s.0).consumes;
       grammar = Made (Gives G.step) s.1 (F.claim s.0).grammar;
-      decides = (F.says s.0).premise × Stays G.step s.1;
-      alike = OutputsMadeAlike (F.says s.0).alike (Gives G.step s.1);
     } };
 
     ghost leaves_ends = { λ form. map_ends I.reading (F.meaning form) G.step (F.leaves_ends form) };
@@ -75,9 +71,6 @@ impl<F: Parser<I, O, E>, G: FnMut(O) -> O2, I: Stream, O, O2, E: ParserError<I>>
       exact = λ form is. map_exact G.step is.1 ((F.claimed s.0).exact form is.0);
       fails = λ form is. map_fails G.step is.1 ((F.claimed s.0).fails form is.0);
       takes = λ is some. made_of_takes (Gives G.step) s.1 ((F.claimed s.0).takes is.0 some);
-      decided = λ form is. decided_of I.reading
-          (λ form. map_ends I.reading (F.meaning form) G.step (F.leaves_ends form))
-          (map_said G.step (F.said s.0)) form is;
     } };
 
     #[inline(always)]

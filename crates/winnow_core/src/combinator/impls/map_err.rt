@@ -3,13 +3,11 @@ ghost use Rattle.std.specs.Prelude.{◌≡◌};
 ghost use Rattle.winnow_core.specs.Closures.{Stays};
 ghost use Rattle.winnow_core.specs.Exact.Errors.{map_err_exact, map_err_fails};
 ghost use Rattle.winnow_core.specs.MakesError.Laws.{makes_error_ends};
-ghost use Rattle.winnow_core.specs.MapErr.{MapErrBecomes, MapErrRuns, map_err_closure};
-ghost use Rattle.winnow_core.specs.MapErr.{map_err_parser};
+ghost use Rattle.winnow_core.specs.MapErr.{MapErrBecomes, MapErrRuns};
 ghost use Rattle.winnow_core.specs.MapErrKept.{KeepsEachKind};
 ghost use Rattle.winnow_core.specs.MakesError.Says.{turned_said, turned_says};
 ghost use Rattle.winnow_core.specs.Exact.Errors.{map_err_keeps};
 ghost use Rattle.winnow_core.specs.Says.Along.{in_form, in_form_said};
-ghost use Rattle.winnow_core.specs.Says.Decided.{decided_of};
 
 use crate::parser::Parser;
 use std::marker::PhantomData;
@@ -33,8 +31,8 @@ pub struct MapErr<F, G, I, O, E, E2> {
 impl<F, G, I, O, E, E2> MapErr<F, G, I, O, E, E2> {
     #[inline(always)]
     pub(crate) fn new(parser: F, map: G) -> MapErr<F, G, I, O, E, E2>
-        ensures parser { map_err_parser result ≡ parser }
-        ensures map { map_err_closure result ≡ map }
+        ensures parser { result.parser ≡ parser }
+        ensures map { result.map ≡ map }
     {
         MapErr {
             parser,
@@ -70,8 +68,6 @@ impl<
       spares_memory = (F.claim s.0).spares_memory;
       consumes = (F.claim s.0).consumes;
       grammar = (F.claim s.0).grammar;
-      decides = (F.says s.0).premise × Stays G.step s.1 × KeepsEachKind E.kind E2.kind G.step;
-      alike = (F.says s.0).alike;
     } };
 
     ghost leaves_ends = { λ _. makes_error_ends I.reading (MapErrBecomes E.kind E2.kind G.step)
@@ -88,12 +84,6 @@ impl<
       fails = λ form is. map_err_fails E.kind E2.kind G.step is.2
           ((F.claimed s.0).fails E.form is.0);
       takes = λ is some. (F.claimed s.0).takes is.0 some;
-      decided = λ form is. decided_of I.reading
-          (λ _. makes_error_ends I.reading (MapErrBecomes E.kind E2.kind G.step)
-          (F.meaning E.form) (F.leaves_ends E.form))
-          (turned_said (MapErrBecomes E.kind E2.kind G.step) (λ is. is.0)
-          (λ is. map_err_keeps E.kind E2.kind G.step is.2 is.1)
-          (in_form_said E.form (F.said s.0))) form is;
     } };
 
     #[inline]

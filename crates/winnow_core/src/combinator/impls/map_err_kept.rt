@@ -5,12 +5,10 @@ ghost use Rattle.winnow_core.specs.Closures.{Stays};
 ghost use Rattle.winnow_core.specs.Exact.Errors.{map_err_kept_exact, map_err_kept_fails};
 ghost use Rattle.winnow_core.specs.MakesError.Laws.{makes_error_ends, makes_error_grows};
 ghost use Rattle.winnow_core.specs.MapErrKept.{KeepsEachKind, MapErrKeptBecomes, MapErrKeptRuns};
-ghost use Rattle.winnow_core.specs.MapErrKept.{map_err_kept_closure, map_err_kept_keeps};
-ghost use Rattle.winnow_core.specs.MapErrKept.{map_err_kept_parser};
+ghost use Rattle.winnow_core.specs.MapErrKept.{map_err_kept_keeps};
 ghost use Rattle.winnow_core.specs.Stable.Grows.{grows, stays};
 ghost use Rattle.winnow_core.specs.MakesError.Says.{turned_said, turned_says};
 ghost use Rattle.winnow_core.specs.Exact.Errors.{map_err_kept_keeps as kinds_stay};
-ghost use Rattle.winnow_core.specs.Says.Decided.{decided_of};
 
 use crate::parser::Parser;
 use crate::stable::Stable;
@@ -38,8 +36,8 @@ pub struct MapErrKept<F, G, I, O, E, E2> {
 impl<F, G, I, O, E, E2> MapErrKept<F, G, I, O, E, E2> {
     #[inline(always)]
     pub(crate) fn new(parser: F, map: G) -> MapErrKept<F, G, I, O, E, E2>
-        ensures parser { map_err_kept_parser result ≡ parser }
-        ensures map { map_err_kept_closure result ≡ map }
+        ensures parser { result.parser ≡ parser }
+        ensures map { result.map ≡ map }
     {
         MapErrKept {
             parser,
@@ -75,8 +73,6 @@ impl<
       spares_memory = (F.claim s.0).spares_memory;
       consumes = (F.claim s.0).consumes;
       grammar = (F.claim s.0).grammar;
-      decides = (F.says s.0).premise × Stays G.step s.1;
-      alike = (F.says s.0).alike;
     } };
 
     ghost leaves_ends = { λ form. makes_error_ends I.reading
@@ -91,11 +87,6 @@ impl<
       fails = λ form is. map_err_kept_fails E.kind E2.kind G.step
           ((F.claimed s.0).fails form is.0);
       takes = λ is some. (F.claimed s.0).takes is.0 some;
-      decided = λ form is. decided_of I.reading
-          (λ form. makes_error_ends I.reading (MapErrKeptBecomes E.kind E2.kind G.step)
-          (F.meaning form) (F.leaves_ends form))
-          (turned_said (MapErrKeptBecomes E.kind E2.kind G.step) (λ is. is.0)
-          (λ is. kinds_stay E.kind E2.kind G.step is.1) (F.said s.0)) form is;
     } };
 
     #[inline]

@@ -6,11 +6,10 @@ ghost use Rattle.stream_errors.specs.Form.{modal};
 ghost use Rattle.winnow_core.specs.Exact.Adapters.{output_exact, output_fails};
 ghost use Rattle.winnow_core.specs.MakesOutput.Laws.{makes_output_ends, made_of_output};
 ghost use Rattle.winnow_core.specs.MakesOutput.Laws.{makes_output_grows};
-ghost use Rattle.winnow_core.specs.OutputInto.{OutputIntoRuns, output_into_parser};
+ghost use Rattle.winnow_core.specs.OutputInto.{OutputIntoRuns};
 ghost use Rattle.winnow_core.specs.Stable.Grows.{grows, stays};
 ghost use Rattle.winnow_core.specs.MakesOutput.Says.{OutputsMadeAlike, of_output_said};
 ghost use Rattle.winnow_core.specs.MakesOutput.Says.{of_output_says};
-ghost use Rattle.winnow_core.specs.Says.Decided.{decided_of};
 
 use crate::parser::Parser;
 use crate::stable::Stable;
@@ -33,7 +32,7 @@ pub struct OutputInto<F, I, O, O2, E> {
 impl<F, I, O, O2, E> OutputInto<F, I, O, O2, E> {
     #[inline(always)]
     pub(crate) fn new(parser: F) -> OutputInto<F, I, O, O2, E>
-        ensures { output_into_parser result ≡ parser }
+        ensures { result.parser ≡ parser }
     {
         OutputInto {
             parser,
@@ -61,8 +60,6 @@ impl<F: Parser<I, O, E>, I: Stream, O, O2: From<O>, E: ParserError<I>> Parser<I,
       spares_memory = (F.claim s).spares_memory;
       consumes = (F.claim s).consumes;
       grammar = Made (λ (_ : Unit {0}) o u. O2.from_gives o u) tt (F.claim s).grammar;
-      decides = (F.says s).premise;
-      alike = OutputsMadeAlike (F.says s).alike (λ o u. O2.from_gives o u);
     } };
 
     ghost leaves_ends = { λ form. makes_output_ends I.reading _ (F.meaning form)
@@ -78,10 +75,6 @@ impl<F: Parser<I, O, E>, I: Stream, O, O2: From<O>, E: ParserError<I>> Parser<I,
           ((F.claimed s).fails form is);
       takes = λ is some. made_of_takes (λ (_ : Unit {0}) o u. O2.from_gives o u) tt
           ((F.claimed s).takes is some);
-      decided = λ form is. decided_of I.reading
-          (λ form. makes_output_ends I.reading _ (F.meaning form) (F.leaves_ends form))
-          (of_output_said (λ o u. O2.from_gives o u) (λ o p u v like x y. (o, p, like, x, y))
-          (F.said s)) form is;
     } };
 
     #[inline]

@@ -6,12 +6,10 @@ ghost use Rattle.grammars.specs.Grammar.Unique.{made_of_takes};
 ghost use Rattle.stream_errors.specs.Form.{modal};
 ghost use Rattle.winnow_core.specs.Exact.Settled.{ReadsNone, ReadsSome, parse_to_exact};
 ghost use Rattle.winnow_core.specs.Exact.Settled.{parse_to_fails};
-ghost use Rattle.winnow_core.specs.ParseTo.{ParseToSettles, ParseToRuns, parse_to_parser};
+ghost use Rattle.winnow_core.specs.ParseTo.{ParseToSettles, ParseToRuns};
 ghost use Rattle.winnow_core.specs.Settles.Laws.{settles_ends, settles_grows};
 ghost use Rattle.winnow_core.specs.Stable.Grows.{grows, stays_beside};
-ghost use Rattle.winnow_core.specs.ParseTo.Says.{ReadsSame, parse_to_said, parse_to_says};
-ghost use Rattle.winnow_core.specs.Says.Decided.{decided_of};
-ghost use Rattle.winnow_core.specs.MakesOutput.Says.{OutputsMadeAlike};
+ghost use Rattle.winnow_core.specs.ParseTo.Says.{parse_to_said, parse_to_says};
 
 use crate::parser::Parser;
 use crate::stable::Stable;
@@ -35,7 +33,7 @@ pub struct ParseTo<F, I, O, O2, E> {
 impl<F, I, O, O2, E> ParseTo<F, I, O, O2, E> {
     #[inline(always)]
     pub(crate) fn new(parser: F) -> ParseTo<F, I, O, O2, E>
-        ensures { parse_to_parser result ≡ parser }
+        ensures { result.parser ≡ parser }
     {
         ParseTo {
             parser,
@@ -66,8 +64,6 @@ impl<F: Parser<I, O, E>, I: Stream, O: ParseSlice<O2> + Drop, O2, E: ParserError
       spares_memory = (F.claim s).spares_memory;
       consumes = (F.claim s).consumes;
       grammar = Made (ReadsSome O.reads) tt (F.claim s).grammar;
-      decides = (F.says s).premise × ReadsSame O.reads (F.says s).alike;
-      alike = OutputsMadeAlike (F.says s).alike (λ o u. O.reads o (Some u));
     } };
 
     ghost leaves_ends = { λ form s i answer t j ran. settles_ends I.reading
@@ -80,10 +76,6 @@ impl<F: Parser<I, O, E>, I: Stream, O: ParseSlice<O2> + Drop, O2, E: ParserError
       exact = λ form is. parse_to_exact O.reads is.1 ((F.claimed s).exact form is.0);
       fails = λ form is. parse_to_fails O.reads ((F.claimed s).fails form is.0);
       takes = λ is some. made_of_takes (ReadsSome O.reads) tt ((F.claimed s).takes is.0 some);
-      decided = λ form is. decided_of I.reading
-          (λ form s i answer t j ran. settles_ends I.reading (ParseToSettles O.reads)
-          (F.meaning form) (F.leaves_ends form) _ i answer _ j ran)
-          (parse_to_said O.reads (F.said s)) form is;
     } };
 
     #[inline]

@@ -3,10 +3,9 @@ ghost use Rattle.std.specs.Prelude.{◌≡◌};
 ghost use Rattle.grammars.specs.Grammar.{Made};
 ghost use Rattle.grammars.specs.Grammar.Unique.{made_of_takes};
 ghost use Rattle.stream_errors.specs.Form.{modal};
-ghost use Rattle.winnow_core.specs.Decided.Adapters.{span_decided};
 ghost use Rattle.winnow_core.specs.Exact.Adapters.{AnyPlaces, span_exact, span_fails};
 ghost use Rattle.winnow_core.specs.MakesOutput.Laws.{makes_output_ends, makes_output_grows};
-ghost use Rattle.winnow_core.specs.Span.{SpanRuns, span_parser, places};
+ghost use Rattle.winnow_core.specs.Span.{SpanRuns, places};
 ghost use Rattle.winnow_core.specs.Stable.Grows.{grows, stays};
 ghost use Rattle.winnow_core.specs.WithSpan.Says.{span_said, span_says};
 
@@ -33,7 +32,7 @@ pub struct Span<F, I, O, E> {
 impl<F, I, O, E> Span<F, I, O, E> {
     #[inline(always)]
     pub(crate) fn new(parser: F) -> Span<F, I, O, E>
-        ensures { span_parser result ≡ parser }
+        ensures { result.parser ≡ parser }
     {
         Span {
             parser,
@@ -60,8 +59,6 @@ impl<F: Parser<I, O, E>, I: Location, O: Drop, E: ParserError<I>> Parser<I, Rang
       spares_memory = (F.claim s).spares_memory;
       consumes = (F.claim s).consumes;
       grammar = Made AnyPlaces tt (F.claim s).grammar;
-      decides = (F.claim s).decides;
-      alike = λ u v. u ≡ v;
     } };
 
     ghost leaves_ends = { λ form. makes_output_ends I.reading _ (F.meaning form)
@@ -73,7 +70,6 @@ impl<F: Parser<I, O, E>, I: Location, O: Drop, E: ParserError<I>> Parser<I, Rang
       exact = λ form is. span_exact (F.meaning form) (s) ((F.claimed s).exact form is);
       fails = λ form is. span_fails (F.meaning form) (s) ((F.claimed s).fails form is);
       takes = λ is some. made_of_takes AnyPlaces tt ((F.claimed s).takes is some);
-      decided = λ form is. span_decided ((F.claimed s).decided form is);
     } };
 
     #[inline(always)]

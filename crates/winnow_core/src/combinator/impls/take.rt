@@ -8,8 +8,6 @@ ghost use Rattle.winnow_core.specs.Stable.Grows.{grows, stays};
 ghost use Rattle.winnow_core.specs.Take.{TakeRuns, take_parser};
 ghost use Rattle.winnow_core.specs.Take.Laws.{take_ends, take_adapter_grows};
 ghost use Rattle.winnow_core.specs.Take.Says.{take_said, take_says};
-ghost use Rattle.winnow_core.specs.Says.Decided.{decided_of};
-ghost use Rattle.winnow_core.specs.Literal.Laws.{ShowSame};
 
 use crate::parser::Parser;
 use crate::stable::Stable;
@@ -59,8 +57,6 @@ impl<F: Parser<I, O, E>, I: Stream, O: Drop, E: ParserError<I>> Parser<I, I::Sli
       spares_memory = (F.claim s).spares_memory;
       consumes = (F.claim s).consumes;
       grammar = Taken I.reading (F.claim s).grammar;
-      decides = (F.says s).premise;
-      alike = ShowSame I.reading;
     } };
 
     ghost leaves_ends = { λ form. take_ends I.reading (F.meaning form) (F.leaves_ends form) };
@@ -71,9 +67,6 @@ impl<F: Parser<I, O, E>, I: Stream, O: Drop, E: ParserError<I>> Parser<I, I::Sli
       exact = λ form is. take_exact I.reading ((F.claimed s).exact form is);
       fails = λ form is. take_fails I.reading ((F.claimed s).fails form is);
       takes = λ is some. taken_takes I.reading ((F.claimed s).takes is some);
-      decided = λ form is. decided_of I.reading
-          (λ form. take_ends I.reading (F.meaning form) (F.leaves_ends form))
-          (take_said I.reading (F.said s)) form is;
     } };
 
     #[inline]

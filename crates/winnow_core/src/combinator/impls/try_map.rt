@@ -11,11 +11,8 @@ ghost use Rattle.winnow_core.specs.Exact.Settled.{ErrorsKept, GivesErr, GivesOk,
 ghost use Rattle.winnow_core.specs.Exact.Settled.{try_map_fails};
 ghost use Rattle.winnow_core.specs.Settles.Laws.{settles_ends, settles_grows};
 ghost use Rattle.winnow_core.specs.Stable.Grows.{grows, stays};
-ghost use Rattle.winnow_core.specs.TryMap.{TryMapSettles, TryMapRuns, try_map_closure};
-ghost use Rattle.winnow_core.specs.TryMap.{try_map_parser};
-ghost use Rattle.winnow_core.specs.TryMap.Says.{TriesSame, try_map_said, try_map_says};
-ghost use Rattle.winnow_core.specs.Says.Decided.{decided_of};
-ghost use Rattle.winnow_core.specs.MakesOutput.Says.{OutputsMadeAlike};
+ghost use Rattle.winnow_core.specs.TryMap.{TryMapSettles, TryMapRuns};
+ghost use Rattle.winnow_core.specs.TryMap.Says.{try_map_said, try_map_says};
 
 use crate::parser::Parser;
 use crate::stable::Stable;
@@ -40,8 +37,8 @@ pub struct TryMap<F, G, I, O, O2, E, E2> {
 impl<F, G, I, O, O2, E, E2> TryMap<F, G, I, O, O2, E, E2> {
     #[inline(always)]
     pub(crate) fn new(parser: F, map: G) -> TryMap<F, G, I, O, O2, E, E2>
-        ensures parser { try_map_parser result ≡ parser }
-        ensures map { try_map_closure result ≡ map }
+        ensures parser { result.parser ≡ parser }
+        ensures map { result.map ≡ map }
     {
         TryMap {
             parser,
@@ -77,9 +74,6 @@ impl<
       spares_memory = (F.claim s.0).spares_memory × ErrorsKept s.1.1;
       consumes = (F.claim s.0).consumes;
       grammar = Made (GivesOk G.step) s.1.0 (F.claim s.0).grammar;
-      decides = (F.says s.0).premise × Stays G.step s.1.0
-          × TriesSame G.step s.1.0 (F.says s.0).alike;
-      alike = OutputsMadeAlike (F.says s.0).alike (GivesOk G.step s.1.0);
     } };
 
     ghost leaves_ends = { λ form. settles_ends I.reading
@@ -93,9 +87,6 @@ impl<
       fails = λ form is. try_map_fails G.step is.1 (λ m. m.1)
           (fails_as (λ b. b) (λ m. m.0) ((F.claimed s.0).fails form is.0));
       takes = λ is some. made_of_takes (GivesOk G.step) s.1.0 ((F.claimed s.0).takes is.0 some);
-      decided = λ form is. decided_of I.reading
-          (λ form. settles_ends I.reading (TryMapSettles G.step) (F.meaning form)
-          (F.leaves_ends form)) (try_map_said G.step (F.said s.0)) form is;
     } };
 
     #[inline]

@@ -8,8 +8,7 @@ ghost use Rattle.winnow_core.specs.Exact.Allowed.{fails_as, wanted};
 ghost use Rattle.winnow_core.specs.Stable.Grows.{grows, stays};
 ghost use Rattle.winnow_core.specs.Value.{ValueRuns, value_kept, value_parser};
 ghost use Rattle.winnow_core.specs.Value.Laws.{value_ends, value_grows};
-ghost use Rattle.winnow_core.specs.Value.Says.{BothClones, value_said, value_says};
-ghost use Rattle.winnow_core.specs.Says.Decided.{decided_of};
+ghost use Rattle.winnow_core.specs.Value.Says.{value_said, value_says};
 
 use crate::parser::Parser;
 use crate::stable::Stable;
@@ -61,8 +60,6 @@ impl<F: Parser<I, O, E>, I: Stream, O: Drop, O2: Clone, E: ParserError<I>> Parse
       spares_memory = (F.claim s.0).spares_memory × O2.is_infallible s.1;
       consumes = (F.claim s.0).consumes;
       grammar = Made (λ v o u. O2.is_clone v u) s.1 (F.claim s.0).grammar;
-      decides = (F.says s.0).premise;
-      alike = BothClones O2.is_clone s.1;
     } };
 
     ghost leaves_ends = { λ form. value_ends I.reading O2.is_clone O2.is_infallible
@@ -77,10 +74,6 @@ impl<F: Parser<I, O, E>, I: Stream, O: Drop, O2: Clone, E: ParserError<I>> Parse
           (fails_as (λ b. b) (λ m. m.0) ((F.claimed s.0).fails form is));
       takes = λ is some. made_of_takes (λ v o u. O2.is_clone v u) s.1
           ((F.claimed s.0).takes is some);
-      decided = λ form is. decided_of I.reading
-          (λ form. value_ends I.reading O2.is_clone O2.is_infallible (F.meaning form)
-          (F.leaves_ends form)) (value_said O2.is_clone O2.is_infallible (F.said s.0)) form
-          is;
     } };
 
     #[inline]

@@ -10,10 +10,8 @@ ghost use Rattle.winnow_core.specs.Exact.Settled.{Misses, settled_exact, verify_
 ghost use Rattle.winnow_core.specs.Exact.Settled.{verify_settler};
 ghost use Rattle.winnow_core.specs.Settles.Laws.{settles_ends, settles_grows};
 ghost use Rattle.winnow_core.specs.Stable.Grows.{grows, stays};
-ghost use Rattle.winnow_core.specs.Verify.{VerifySettles, VerifyRuns, verify_closure};
-ghost use Rattle.winnow_core.specs.Verify.{verify_parser};
-ghost use Rattle.winnow_core.specs.Verify.Says.{FindsSame, verify_said, verify_says};
-ghost use Rattle.winnow_core.specs.Says.Decided.{decided_of};
+ghost use Rattle.winnow_core.specs.Verify.{VerifySettles, VerifyRuns};
+ghost use Rattle.winnow_core.specs.Verify.Says.{verify_said, verify_says};
 
 use crate::parser::Parser;
 use crate::stable::Stable;
@@ -37,8 +35,8 @@ pub struct Verify<F, G, I, O, E> {
 impl<F, G, I, O, E> Verify<F, G, I, O, E> {
     #[inline(always)]
     pub(crate) fn new(parser: F, filter: G) -> Verify<F, G, I, O, E>
-        ensures parser { verify_parser result ≡ parser }
-        ensures filter { verify_closure result ≡ filter }
+        ensures parser { result.parser ≡ parser }
+        ensures filter { result.filter ≡ filter }
     {
         Verify {
             parser,
@@ -71,9 +69,6 @@ impl<F: Parser<I, O, E>, G: FnMut(&O) -> bool, I: Stream, O: Drop, E: ParserErro
       spares_memory = (F.claim s.0).spares_memory;
       consumes = (F.claim s.0).consumes;
       grammar = Made (Finds (CalledAt G.FnMut)) s.1 (F.claim s.0).grammar;
-      decides = (F.says s.0).premise × Stays (CalledAt G.FnMut) s.1
-          × FindsSame (CalledAt G.FnMut) s.1 (F.says s.0).alike;
-      alike = (F.says s.0).alike;
     } };
 
     ghost leaves_ends = { λ form. settles_ends I.reading (VerifySettles (CalledAt G.FnMut))
@@ -89,9 +84,6 @@ impl<F: Parser<I, O, E>, G: FnMut(&O) -> bool, I: Stream, O: Drop, E: ParserErro
           ((F.claimed s.0).fails form is.0);
       takes = λ is some. made_of_takes (Finds (CalledAt G.FnMut)) s.1
           ((F.claimed s.0).takes is.0 some);
-      decided = λ form is. decided_of I.reading
-          (λ form. settles_ends I.reading (VerifySettles (CalledAt G.FnMut)) (F.meaning form)
-          (F.leaves_ends form)) (verify_said (CalledAt G.FnMut) (F.said s.0)) form is;
     } };
 
     #[inline]

@@ -7,11 +7,9 @@ ghost use Rattle.stream_errors.specs.Form.{modal};
 ghost use Rattle.winnow_core.specs.Closures.{Stays, GivesSome};
 ghost use Rattle.winnow_core.specs.Exact.Settled.{GivesNone, verify_map_exact, verify_map_fails};
 ghost use Rattle.winnow_core.specs.Stable.Grows.{grows, stays};
-ghost use Rattle.winnow_core.specs.VerifyMap.{VerifyMapRuns, verify_map_parser, verify_map_closure};
+ghost use Rattle.winnow_core.specs.VerifyMap.{VerifyMapRuns};
 ghost use Rattle.winnow_core.specs.VerifyMap.Laws.{verify_map_ends, verify_map_grows};
-ghost use Rattle.winnow_core.specs.VerifyMap.Says.{RejectsSame, verify_map_said, verify_map_says};
-ghost use Rattle.winnow_core.specs.Says.Decided.{decided_of};
-ghost use Rattle.winnow_core.specs.MakesOutput.Says.{OutputsMadeAlike};
+ghost use Rattle.winnow_core.specs.VerifyMap.Says.{verify_map_said, verify_map_says};
 
 use crate::parser::Parser;
 use crate::stable::Stable;
@@ -35,8 +33,8 @@ pub struct VerifyMap<F, G, I, O, O2, E> {
 impl<F, G, I, O, O2, E> VerifyMap<F, G, I, O, O2, E> {
     #[inline(always)]
     pub(crate) fn new(parser: F, filter: G) -> VerifyMap<F, G, I, O, O2, E>
-        ensures parser { verify_map_parser result ≡ parser }
-        ensures filter { verify_map_closure result ≡ filter }
+        ensures parser { result.parser ≡ parser }
+        ensures filter { result.filter ≡ filter }
     {
         VerifyMap {
             parser,
@@ -68,9 +66,6 @@ impl<F: Parser<I, O, E>, G: FnMut(O) -> Option<O2>, I: Stream, O, O2, E: ParserE
       spares_memory = (F.claim s.0).spares_memory;
       consumes = (F.claim s.0).consumes;
       grammar = Made (GivesSome G.step) s.1 (F.claim s.0).grammar;
-      decides = (F.says s.0).premise × Stays G.step s.1
-          × RejectsSame G.step s.1 (F.says s.0).alike;
-      alike = OutputsMadeAlike (F.says s.0).alike (GivesSome G.step s.1);
     } };
 
     ghost leaves_ends = { λ form. verify_map_ends I.reading (F.meaning form) G.step
@@ -82,9 +77,6 @@ impl<F: Parser<I, O, E>, G: FnMut(O) -> Option<O2>, I: Stream, O, O2, E: ParserE
       exact = λ form is. verify_map_exact G.step is.1 is.2 ((F.claimed s.0).exact form is.0);
       fails = λ form is. verify_map_fails G.step is.1 ((F.claimed s.0).fails form is.0);
       takes = λ is some. made_of_takes (GivesSome G.step) s.1 ((F.claimed s.0).takes is.0 some);
-      decided = λ form is. decided_of I.reading
-          (λ form. verify_map_ends I.reading (F.meaning form) G.step (F.leaves_ends form))
-          (verify_map_said G.step (F.said s.0)) form is;
     } };
 
     #[inline]

@@ -5,10 +5,9 @@ ghost use Rattle.grammars.specs.Grammar.Unique.{made_of_takes};
 ghost use Rattle.stream_errors.specs.Form.{modal};
 ghost use Rattle.winnow_core.specs.Exact.Adapters.{void_exact, void_fails};
 ghost use Rattle.winnow_core.specs.Stable.Grows.{grows, stays};
-ghost use Rattle.winnow_core.specs.Void.{VoidRuns, void_parser};
+ghost use Rattle.winnow_core.specs.Void.{VoidRuns};
 ghost use Rattle.winnow_core.specs.Void.Laws.{void_ends, void_grows};
 ghost use Rattle.winnow_core.specs.Void.Says.{void_said, void_says};
-ghost use Rattle.winnow_core.specs.Says.Decided.{decided_of};
 
 use crate::parser::Parser;
 use crate::stable::Stable;
@@ -30,7 +29,7 @@ pub struct Void<F, I, O, E> {
 impl<F, I, O, E> Void<F, I, O, E> {
     #[inline(always)]
     pub(crate) fn new(parser: F) -> Void<F, I, O, E>
-        ensures { void_parser result ≡ parser }
+        ensures { result.parser ≡ parser }
     {
         Void {
             parser,
@@ -57,8 +56,6 @@ impl<F: Parser<I, O, E>, I: Stream, O: Drop, E: ParserError<I>> Parser<I, (), E>
       spares_memory = (F.claim s).spares_memory;
       consumes = (F.claim s).consumes;
       grammar = Made (λ (_ : Unit {0}) o (u : Unit {0}). ⊤) tt (F.claim s).grammar;
-      decides = (F.says s).premise;
-      alike = λ o q. ⊤;
     } };
 
     ghost leaves_ends = { λ form. void_ends I.reading (F.meaning form) (F.leaves_ends form) };
@@ -70,9 +67,6 @@ impl<F: Parser<I, O, E>, I: Stream, O: Drop, E: ParserError<I>> Parser<I, (), E>
       fails = λ form is. void_fails ((F.claimed s).fails form is);
       takes = λ is some. made_of_takes (λ (_ : Unit {0}) o (u : Unit {0}). ⊤) tt
           ((F.claimed s).takes is some);
-      decided = λ form is. decided_of I.reading
-          (λ form. void_ends I.reading (F.meaning form) (F.leaves_ends form))
-          (void_said (F.said s)) form is;
     } };
 
     #[inline(always)]

@@ -3,12 +3,11 @@ ghost use Rattle.std.specs.Prelude.{◌≡◌};
 ghost use Rattle.grammars.specs.Grammar.{Made};
 ghost use Rattle.grammars.specs.Grammar.Unique.{made_of_takes};
 ghost use Rattle.stream_errors.specs.Form.{modal};
-ghost use Rattle.winnow_core.specs.Decided.Adapters.{AlikeBetween, with_span_decided};
 ghost use Rattle.winnow_core.specs.Exact.Adapters.{WithPlaces, with_span_exact, with_span_fails};
 ghost use Rattle.winnow_core.specs.MakesOutput.Laws.{makes_output_ends, makes_output_grows};
 ghost use Rattle.winnow_core.specs.Span.{places};
 ghost use Rattle.winnow_core.specs.Stable.Grows.{grows, stays};
-ghost use Rattle.winnow_core.specs.WithSpan.{WithSpanRuns, with_span_parser};
+ghost use Rattle.winnow_core.specs.WithSpan.{WithSpanRuns};
 ghost use Rattle.winnow_core.specs.WithSpan.Says.{with_span_said, with_span_says};
 
 use crate::parser::Parser;
@@ -34,7 +33,7 @@ pub struct WithSpan<F, I, O, E> {
 impl<F, I, O, E> WithSpan<F, I, O, E> {
     #[inline(always)]
     pub(crate) fn new(parser: F) -> WithSpan<F, I, O, E>
-        ensures { with_span_parser result ≡ parser }
+        ensures { result.parser ≡ parser }
     {
         WithSpan {
             parser,
@@ -61,8 +60,6 @@ impl<F: Parser<I, O, E>, I: Location, O, E: ParserError<I>> Parser<I, (O, Range<
       spares_memory = (F.claim s).spares_memory;
       consumes = (F.claim s).consumes;
       grammar = Made WithPlaces tt (F.claim s).grammar;
-      decides = (F.claim s).decides;
-      alike = AlikeBetween (F.claim s).alike;
     } };
 
     ghost leaves_ends = { λ form. makes_output_ends I.reading _ (F.meaning form)
@@ -75,7 +72,6 @@ impl<F: Parser<I, O, E>, I: Location, O, E: ParserError<I>> Parser<I, (O, Range<
       fails = λ form is. with_span_fails (F.meaning form) (s)
           ((F.claimed s).fails form is);
       takes = λ is some. made_of_takes WithPlaces tt ((F.claimed s).takes is some);
-      decided = λ form is. with_span_decided ((F.claimed s).decided form is);
     } };
 
     #[inline(always)]

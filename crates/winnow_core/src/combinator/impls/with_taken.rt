@@ -6,12 +6,9 @@ ghost use Rattle.winnow_core.specs.Exact.Adapters.{and_taken_takes, with_taken_e
 ghost use Rattle.winnow_core.specs.Exact.Adapters.{with_taken_fails};
 ghost use Rattle.winnow_core.specs.MakesOutput.Laws.{makes_output_ends, makes_output_grows};
 ghost use Rattle.winnow_core.specs.Stable.Grows.{grows, stays};
-ghost use Rattle.winnow_core.specs.WithTaken.{WithTakenRuns, with_taken_parser};
+ghost use Rattle.winnow_core.specs.WithTaken.{WithTakenRuns};
 ghost use Rattle.winnow_core.specs.WithTaken.Laws.{made_with_taken};
 ghost use Rattle.winnow_core.specs.WithTaken.Says.{with_taken_said, with_taken_says};
-ghost use Rattle.winnow_core.specs.Says.Decided.{decided_of};
-ghost use Rattle.winnow_core.specs.InOrder.Decided.{AlikePairs};
-ghost use Rattle.winnow_core.specs.Literal.Laws.{ShowSame};
 
 use crate::combinator::impls::take::slice_from;
 use crate::parser::Parser;
@@ -35,7 +32,7 @@ pub struct WithTaken<F, I, O, E> {
 impl<F, I, O, E> WithTaken<F, I, O, E> {
     #[inline(always)]
     pub(crate) fn new(parser: F) -> WithTaken<F, I, O, E>
-        ensures { with_taken_parser result ≡ parser }
+        ensures { result.parser ≡ parser }
     {
         WithTaken {
             parser,
@@ -62,8 +59,6 @@ impl<F: Parser<I, O, E>, I: Stream, O, E: ParserError<I>> Parser<I, (O, I::Slice
       spares_memory = (F.claim s).spares_memory;
       consumes = (F.claim s).consumes;
       grammar = AndTaken I.reading (F.claim s).grammar;
-      decides = (F.says s).premise;
-      alike = AlikePairs (F.says s).alike (ShowSame I.reading);
     } };
 
     ghost leaves_ends = { λ form. makes_output_ends I.reading _ (F.meaning form)
@@ -75,9 +70,6 @@ impl<F: Parser<I, O, E>, I: Stream, O, E: ParserError<I>> Parser<I, (O, I::Slice
       exact = λ form is. with_taken_exact I.reading ((F.claimed s).exact form is);
       fails = λ form is. with_taken_fails I.reading ((F.claimed s).fails form is);
       takes = λ is some. and_taken_takes I.reading ((F.claimed s).takes is some);
-      decided = λ form is. decided_of I.reading
-          (λ form. makes_output_ends I.reading _ (F.meaning form) (F.leaves_ends form))
-          (with_taken_said I.reading (F.said s)) form is;
     } };
 
     #[inline]

@@ -6,10 +6,9 @@ ghost use Rattle.winnow_core.specs.Runs.{Keeps};
 ghost use Rattle.winnow_core.specs.Stable.Grows.{leaf_stays};
 ghost use Rattle.winnow_numbers.specs.DecInt.{DecIntRuns};
 ghost use Rattle.winnow_numbers.specs.DecInt.Laws.{dec_int_ends, dec_int_stays};
-ghost use Rattle.winnow_numbers.specs.DecUint.Laws.{OneNumber};
 ghost use Rattle.winnow_numbers.specs.Numeral.Exact.{dec_int_exact, dec_int_fails, signed_takes};
 ghost use Rattle.winnow_numbers.specs.Numeral.Grammar.{SignedDecimal};
-ghost use Rattle.winnow_numbers.specs.DecInt.Says.{dec_int_decided, dec_int_said, dec_int_says};
+ghost use Rattle.winnow_numbers.specs.DecInt.Says.{dec_int_said, dec_int_says};
 
 use crate::ascii::{Int, dec_int};
 use stream_errors::parser_error::ParserError;
@@ -47,8 +46,6 @@ where
       spares_memory = ⊤;
       consumes = ⊤;
       grammar = SignedDecimal O.number O.fits I.seen_as I.Token.code;
-      decides = ⊤;
-      alike = OneNumber O.number;
     } };
 
     ghost leaves_ends = { λ form x i answer y j r. dec_int_ends O.number O.fits I.seen_as
@@ -62,8 +59,6 @@ where
       fails = λ form is. backs
           (dec_int_fails I.seen_as I.Token.code I.reading O.number O.fits form);
       takes = λ is some. signed_takes I.seen_as I.Token.code I.reading O.number O.fits;
-      decided = λ form is. dec_int_decided O.number O.fits I.seen_as I.Token.code I.reading form
-          I.one_code;
     } };
 
     #[inline(always)]

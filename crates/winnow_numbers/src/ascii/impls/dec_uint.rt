@@ -5,11 +5,10 @@ ghost use Rattle.winnow_core.specs.Exact.Allowed.{backs};
 ghost use Rattle.winnow_core.specs.Runs.{Keeps};
 ghost use Rattle.winnow_core.specs.Stable.Grows.{leaf_stays};
 ghost use Rattle.winnow_numbers.specs.DecUint.{DecUintRuns};
-ghost use Rattle.winnow_numbers.specs.DecUint.Laws.{OneNumber};
 ghost use Rattle.winnow_numbers.specs.DecUint.Laws.{dec_uint_ends, dec_uint_stays};
 ghost use Rattle.winnow_numbers.specs.Numeral.Exact.{dec_uint_exact, dec_uint_fails, decimal_takes};
 ghost use Rattle.winnow_numbers.specs.Numeral.Grammar.{Decimal};
-ghost use Rattle.winnow_numbers.specs.DecUint.Says.{dec_uint_decided, dec_uint_said, dec_uint_says};
+ghost use Rattle.winnow_numbers.specs.DecUint.Says.{dec_uint_said, dec_uint_says};
 
 use crate::ascii::{Uint, dec_uint};
 use stream_errors::parser_error::ParserError;
@@ -47,8 +46,6 @@ where
       spares_memory = ⊤;
       consumes = ⊤;
       grammar = Decimal O.number O.bound I.seen_as I.Token.code;
-      decides = ⊤;
-      alike = OneNumber O.number;
     } };
 
     ghost leaves_ends = { λ form x i answer y j r. dec_uint_ends O.number O.bound I.seen_as
@@ -62,8 +59,6 @@ where
       fails = λ form is. backs
           (dec_uint_fails I.seen_as I.Token.code I.reading O.number O.bound form);
       takes = λ is some. decimal_takes I.seen_as I.Token.code I.reading O.number O.bound;
-      decided = λ form is. dec_uint_decided O.number O.bound I.seen_as I.Token.code I.reading
-          form I.one_code;
     } };
 
     #[inline(always)]

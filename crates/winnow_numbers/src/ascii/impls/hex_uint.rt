@@ -5,13 +5,12 @@ ghost use Rattle.stream_sets.specs.Once.{TokenEqInjective};
 ghost use Rattle.winnow_core.specs.Exact.Allowed.{backs};
 ghost use Rattle.winnow_core.specs.Runs.{Keeps};
 ghost use Rattle.winnow_core.specs.Stable.Grows.{leaf_stays};
-ghost use Rattle.winnow_numbers.specs.DecUint.Laws.{OneNumber};
 ghost use Rattle.winnow_numbers.specs.HexUint.{HexUintRuns};
 ghost use Rattle.winnow_numbers.specs.HexUint.Laws.{hex_uint_exact, hex_uint_fails};
 ghost use Rattle.winnow_numbers.specs.HexUint.Laws.{hexadecimal_takes};
 ghost use Rattle.winnow_numbers.specs.HexUint.Laws.{hex_uint_ends, hex_uint_stays};
 ghost use Rattle.winnow_numbers.specs.Numeral.Grammar.{Hexadecimal};
-ghost use Rattle.winnow_numbers.specs.HexUint.Says.{hex_uint_decided, hex_uint_said, hex_uint_says};
+ghost use Rattle.winnow_numbers.specs.HexUint.Says.{hex_uint_said, hex_uint_says};
 
 use crate::ascii::hex_uint;
 use crate::ascii::impls::hex_uint::sealed::SealedMarker;
@@ -208,8 +207,6 @@ where
       spares_memory = ⊤;
       consumes = ⊤;
       grammar = Hexadecimal O.number O.nibbles I.seen_as I.Token.code;
-      decides = ⊤;
-      alike = OneNumber O.number;
     } };
 
     ghost leaves_ends = { λ form x i answer y j r. hex_uint_ends O.number O.nibbles I.seen_as
@@ -224,8 +221,6 @@ where
       fails = λ form is. backs (hex_uint_fails I.seen_as I.Token.code I.reading O.number O.nibbles
           form);
       takes = λ is some. hexadecimal_takes I.seen_as I.Token.code I.reading O.number O.nibbles;
-      decided = λ form is. hex_uint_decided O.number O.nibbles I.seen_as I.Token.code I.reading
-          form I.one_code;
     } };
 
     #[inline(always)]

@@ -10,12 +10,9 @@ ghost use Rattle.stream_errors.specs.Form.{answer_by, assert_kind, modal};
 ghost use Rattle.winnow_core.specs.Exact.Allowed.{fails_as, softly};
 ghost use Rattle.winnow_core.specs.Stable.Grows.{grows, stays};
 ghost use Rattle.winnow_repeat.specs.Fold.{FoldOneRuns, FoldTakes, RangedFolds, fold_closure};
-ghost use Rattle.winnow_repeat.specs.Fold.{fold_init, fold_occurrences, fold_parser};
 ghost use Rattle.winnow_repeat.specs.Fold.Exact.{fold_exact, fold_fails};
 ghost use Rattle.winnow_repeat.specs.Fold.Laws.{ranged_folds_end, fold_grows};
-ghost use Rattle.winnow_repeat.specs.Chain.Bounded.{HeldAlike};
 ghost use Rattle.winnow_repeat.specs.Fold.Says.{fold_said, fold_says};
-ghost use Rattle.winnow_core.specs.Says.Decided.{decided_of};
 
 use crate::combinator::folding::{Folding, fold_items, fold_range};
 use std::marker::PhantomData;
@@ -79,9 +76,9 @@ impl<P, G, H, I, O, R, E> RepeatFold<P, G, H, I, O, R, E> {
         init: G,
         op: H,
     ) -> RepeatFold<P, G, H, I, O, R, E>
-        ensures occurrences { fold_occurrences result ≡ occurrences }
-        ensures parser { fold_parser result ≡ parser }
-        ensures init { fold_init result ≡ init }
+        ensures occurrences { result.occurrences ≡ occurrences }
+        ensures parser { result.parser ≡ parser }
+        ensures init { result.init ≡ init }
         ensures op { fold_closure result ≡ op }
     {
         RepeatFold {
@@ -122,8 +119,6 @@ impl<
       spares_memory = (P.claim s.0).spares_memory;
       consumes = 0 < (bounds_of s.1.0).least;
       grammar = Folded G.step s.1.1.0 H.step s.1.1.1 s.1.0 (P.claim s.0).grammar;
-      decides = (P.says s.0).premise × StaysMaking G.step s.1.1.0 × StaysFolding H.step s.1.1.1;
-      alike = HeldAlike (FoldOf G.step s.1.1.0 H.step s.1.1.1) (P.says s.0).alike;
     } };
 
     ghost leaves_ends = { λ form. ranged_folds_end I.reading G.step H.step (P.meaning form)
@@ -141,9 +136,6 @@ impl<
           (fails_as (λ b. is.1) (λ m. m) ((P.claimed s.0).fails form is.0));
       takes = λ is some. repeated_take (FoldOf G.step s.1.1.0 H.step s.1.1.1) s.1.0
           ((P.claimed s.0).exact modal is.0).unique ((P.claimed s.0).takes is.0 is.2) some;
-      decided = λ form is. decided_of I.reading
-          (λ form. ranged_folds_end I.reading G.step H.step (P.meaning form) (assert_kind form)
-          (P.leaves_ends form)) (fold_said G.step H.step s (P.said s.0)) form is;
     } };
 
     #[inline(always)]

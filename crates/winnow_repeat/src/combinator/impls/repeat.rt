@@ -7,18 +7,14 @@ ghost use Rattle.grammars.specs.Grammar.{Repeated};
 ghost use Rattle.stream_errors.specs.Form.{answer_by, assert_kind, modal};
 ghost use Rattle.winnow_core.specs.Exact.Allowed.{fails_as, wanted, softly};
 ghost use Rattle.winnow_core.specs.Stable.Grows.{grows, stays};
-ghost use Rattle.winnow_repeat.specs.Fold.{fold_closure, fold_init, fold_occurrences, fold_parser};
+ghost use Rattle.winnow_repeat.specs.Fold.{fold_closure};
 ghost use Rattle.winnow_repeat.specs.Repeat.{RangedRuns, RepeatOneRuns, repeat_occurrences};
 ghost use Rattle.winnow_repeat.specs.Repeat.{repeat_parser};
 ghost use Rattle.winnow_repeat.specs.Repeat.Exact.{repeat_exact, repeat_fails, repeat_takes};
 ghost use Rattle.winnow_repeat.specs.Repeat.Laws.{ranged_ends, repeat_grows};
-ghost use Rattle.winnow_repeat.specs.TryFold.{try_fold_closure, try_fold_init};
-ghost use Rattle.winnow_repeat.specs.TryFold.{try_fold_occurrences, try_fold_parser};
-ghost use Rattle.winnow_repeat.specs.VerifyFold.{verify_fold_closure, verify_fold_init};
-ghost use Rattle.winnow_repeat.specs.VerifyFold.{verify_fold_occurrences, verify_fold_parser};
-ghost use Rattle.winnow_repeat.specs.Chain.Bounded.{HeldAlike};
+ghost use Rattle.winnow_repeat.specs.TryFold.{try_fold_closure};
+ghost use Rattle.winnow_repeat.specs.VerifyFold.{verify_fold_closure};
 ghost use Rattle.winnow_repeat.specs.Repeat.Says.{repeat_said, repeat_says};
-ghost use Rattle.winnow_core.specs.Says.Decided.{decided_of};
 
 use crate::combinator::impls::{RepeatFold, RepeatTryFold, RepeatVerifyFold};
 use crate::combinator::items::{repeat_items, repeat_many};
@@ -67,9 +63,9 @@ impl<P: Parser<I, O, E>, I: Stream, O, E: ParserError<I>, A: Drop> Repeat<P, I, 
     where
         G: FnMut() -> R,
         H: FnMut(R, O) -> R,
-        ensures occurrences { fold_occurrences result ≡ repeat_occurrences self }
-        ensures parser { fold_parser result ≡ repeat_parser self }
-        ensures init { fold_init result ≡ init }
+        ensures occurrences { result.occurrences ≡ repeat_occurrences self }
+        ensures parser { result.parser ≡ repeat_parser self }
+        ensures init { result.init ≡ init }
         ensures op { fold_closure result ≡ op }
     {
         RepeatFold::new(self.occurrences, self.parser, init, op)
@@ -92,9 +88,9 @@ impl<P: Parser<I, O, E>, I: Stream, O, E: ParserError<I>, A: Drop> Repeat<P, I, 
     where
         G: FnMut() -> R,
         H: FnMut(R, O) -> Option<R>,
-        ensures occurrences { verify_fold_occurrences result ≡ repeat_occurrences self }
-        ensures parser { verify_fold_parser result ≡ repeat_parser self }
-        ensures init { verify_fold_init result ≡ init }
+        ensures occurrences { result.occurrences ≡ repeat_occurrences self }
+        ensures parser { result.parser ≡ repeat_parser self }
+        ensures init { result.init ≡ init }
         ensures op { verify_fold_closure result ≡ op }
     {
         RepeatVerifyFold::new(self.occurrences, self.parser, init, op)
@@ -120,9 +116,9 @@ impl<P: Parser<I, O, E>, I: Stream, O, E: ParserError<I>, A: Drop> Repeat<P, I, 
         G: FnMut() -> R,
         H: FnMut(R, O) -> Result<R, X>,
         E: FromExternalError<I, X>,
-        ensures occurrences { try_fold_occurrences result ≡ repeat_occurrences self }
-        ensures parser { try_fold_parser result ≡ repeat_parser self }
-        ensures init { try_fold_init result ≡ init }
+        ensures occurrences { result.occurrences ≡ repeat_occurrences self }
+        ensures parser { result.parser ≡ repeat_parser self }
+        ensures init { result.init ≡ init }
         ensures op { try_fold_closure result ≡ op }
     {
         RepeatTryFold::new(self.occurrences, self.parser, init, op)
@@ -154,8 +150,6 @@ impl<
       spares_memory = (P.claim s.0).spares_memory × C.spares_memory;
       consumes = 0 < (bounds_of s.1).least;
       grammar = Repeated C.holds s.1 (P.claim s.0).grammar;
-      decides = (P.says s.0).premise;
-      alike = HeldAlike C.holds (P.says s.0).alike;
     } };
 
     ghost leaves_ends = { λ form. ranged_ends I.reading (P.meaning form) C.accumulator
@@ -174,10 +168,6 @@ impl<
           (λ w. wanted (λ m. C.never_wants m.1 w));
       takes = λ is some. repeat_takes C.accumulator (assert_kind modal) s C.holds
           ((P.claimed s.0).exact modal is.0) ((P.claimed s.0).takes is.0 is.2) some;
-      decided = λ form is. decided_of I.reading
-          (λ form. ranged_ends I.reading (P.meaning form) C.accumulator (assert_kind form)
-          (P.leaves_ends form)) (repeat_said C.accumulator C.holds C.gathers s (P.said s.0)) form
-          is;
     } };
 
     fn parse_next(&mut self, input: &mut I) -> Result<C, E> {

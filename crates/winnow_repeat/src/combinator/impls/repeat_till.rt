@@ -6,15 +6,12 @@ ghost use Rattle.stream_sets.specs.declared.range.Range.{Range};
 ghost use Rattle.grammars.specs.Grammar.Till.{Till, till_takes};
 ghost use Rattle.stream_errors.specs.Form.{answer_by, assert_kind, modal};
 ghost use Rattle.winnow_core.specs.Exact.Allowed.{fails_as, wanted, softly};
-ghost use Rattle.winnow_core.specs.InOrder.Decided.{AlikePairs};
 ghost use Rattle.winnow_core.specs.Stable.Grows.{grows, stays};
-ghost use Rattle.winnow_repeat.specs.Chain.Bounded.{HeldAlike};
 ghost use Rattle.winnow_repeat.specs.RepeatTill.{LeastItemsRun, RangedTillRuns, TurnsRun};
 ghost use Rattle.winnow_repeat.specs.RepeatTill.Errors.{repeat_till_fails};
 ghost use Rattle.winnow_repeat.specs.RepeatTill.Exact.{repeat_till_exact};
 ghost use Rattle.winnow_repeat.specs.RepeatTill.Laws.{repeat_till_ends, repeat_till_grows};
 ghost use Rattle.winnow_repeat.specs.RepeatTill.Says.{repeat_till_said, repeat_till_says};
-ghost use Rattle.winnow_core.specs.Says.Decided.{decided_of};
 
 use crate::combinator::items::is_descending;
 use std::alloc::Allocator;
@@ -72,8 +69,6 @@ impl<
           (P.claim s.0).spares_memory × (G.claim s.1).spares_memory × C.spares_memory;
       consumes = (G.claim s.1).consumes;
       grammar = Till C.holds s.2 (P.claim s.0).grammar (G.claim s.1).grammar;
-      decides = (P.says s.0).premise × (G.says s.1).premise;
-      alike = AlikePairs (HeldAlike C.holds (P.says s.0).alike) (G.says s.1).alike;
     } };
 
     ghost leaves_ends = { λ form. repeat_till_ends I.reading (P.meaning form) (G.meaning form)
@@ -96,10 +91,6 @@ impl<
       takes = λ is some. till_takes (P.claim s.0).grammar (G.claim s.1).grammar
           ((P.claimed s.0).exact modal is.0).unique C.holds s.2
           ((G.claimed s.1).takes is.3 some);
-      decided = λ form is. decided_of I.reading
-          (λ form. repeat_till_ends I.reading (P.meaning form) (G.meaning form) C.accumulator
-          (assert_kind form) (P.leaves_ends form) (G.leaves_ends form))
-          (repeat_till_said C.accumulator C.holds C.gathers s (P.said s.0) (G.said s.1)) form is;
     } };
 
     fn parse_next(&mut self, input: &mut I) -> Result<(C, D), E> {

@@ -7,7 +7,6 @@ ghost use Rattle.streams.specs.Kind.{backtrack};
 ghost use Rattle.winnow_core.specs.Stable.Grows.{grows, stays};
 ghost use Rattle.winnow_repeat.specs.Fold.Laws.{ranged_fold_many_ends, fold_any_grows};
 ghost use Rattle.winnow_repeat.specs.TryFold.{TryFoldRuns, TryFoldTakes, try_fold_closure};
-ghost use Rattle.winnow_repeat.specs.TryFold.{try_fold_init, try_fold_occurrences, try_fold_parser};
 ghost use Rattle.winnow_core.specs.Claim.{no_claim, nothing_claimed};
 ghost use Rattle.winnow_repeat.specs.TryFold.Says.{try_fold_said, try_fold_says};
 
@@ -85,9 +84,9 @@ impl<P, G, H, I, O, R, E, X> RepeatTryFold<P, G, H, I, O, R, E, X> {
         init: G,
         op: H,
     ) -> RepeatTryFold<P, G, H, I, O, R, E, X>
-        ensures occurrences { try_fold_occurrences result ≡ occurrences }
-        ensures parser { try_fold_parser result ≡ parser }
-        ensures init { try_fold_init result ≡ init }
+        ensures occurrences { result.occurrences ≡ occurrences }
+        ensures parser { result.parser ≡ parser }
+        ensures init { result.init ≡ init }
         ensures op { try_fold_closure result ≡ op }
     {
         RepeatTryFold {

@@ -6,8 +6,7 @@ ghost use Rattle.streams.specs.Kind.{backtrack};
 ghost use Rattle.winnow_core.specs.Stable.Grows.{grows, stays};
 ghost use Rattle.winnow_repeat.specs.Fold.Laws.{ranged_fold_many_ends, fold_any_grows};
 ghost use Rattle.winnow_repeat.specs.VerifyFold.{VerifyFoldRuns, VerifyFoldTakes};
-ghost use Rattle.winnow_repeat.specs.VerifyFold.{verify_fold_closure, verify_fold_init};
-ghost use Rattle.winnow_repeat.specs.VerifyFold.{verify_fold_occurrences, verify_fold_parser};
+ghost use Rattle.winnow_repeat.specs.VerifyFold.{verify_fold_closure};
 ghost use Rattle.winnow_core.specs.Claim.{no_claim, nothing_claimed};
 ghost use Rattle.winnow_repeat.specs.VerifyFold.Says.{verify_fold_said, verify_fold_says};
 
@@ -77,9 +76,9 @@ impl<P, G, H, I, O, R, E> RepeatVerifyFold<P, G, H, I, O, R, E> {
         init: G,
         op: H,
     ) -> RepeatVerifyFold<P, G, H, I, O, R, E>
-        ensures occurrences { verify_fold_occurrences result ≡ occurrences }
-        ensures parser { verify_fold_parser result ≡ parser }
-        ensures init { verify_fold_init result ≡ init }
+        ensures occurrences { result.occurrences ≡ occurrences }
+        ensures parser { result.parser ≡ parser }
+        ensures init { result.init ≡ init }
         ensures op { verify_fold_closure result ≡ op }
     {
         RepeatVerifyFold {

@@ -7,14 +7,12 @@ ghost use Rattle.grammars.specs.Grammar.{SeparatedBy};
 ghost use Rattle.stream_errors.specs.Form.{answer_by, assert_kind, modal};
 ghost use Rattle.winnow_core.specs.Exact.Allowed.{fails_as, wanted, softly};
 ghost use Rattle.winnow_core.specs.Stable.Grows.{grows, stays};
-ghost use Rattle.winnow_repeat.specs.Chain.Bounded.{HeldAlike};
 ghost use Rattle.winnow_separated.specs.Separated.{ElementsRun, LinksRun, RangedElements};
 ghost use Rattle.winnow_separated.specs.Separated.{SeparatedRuns};
 ghost use Rattle.winnow_separated.specs.Separated.Exact.{separated_exact, separated_fails};
 ghost use Rattle.winnow_separated.specs.Separated.Exact.{separated_takes};
 ghost use Rattle.winnow_separated.specs.Separated.Laws.{separated_ends, separated_grows};
 ghost use Rattle.winnow_separated.specs.Separated.Says.{separated_said, separated_says};
-ghost use Rattle.winnow_core.specs.Says.Decided.{decided_of};
 
 use crate::combinator::impls::link::Link;
 use std::alloc::Allocator;
@@ -72,8 +70,6 @@ impl<
           (P.claim s.0).spares_memory × (S.claim s.1).spares_memory × C.spares_memory;
       consumes = (P.claim s.0).consumes × (0 < (bounds_of s.2).least);
       grammar = SeparatedBy C.holds s.2 (P.claim s.0).grammar (S.claim s.1).grammar;
-      decides = (P.says s.0).premise × (S.says s.1).premise;
-      alike = HeldAlike C.holds (P.says s.0).alike;
     } };
 
     ghost leaves_ends = { λ form. separated_ends I.reading (P.meaning form) (S.meaning form)
@@ -97,10 +93,6 @@ impl<
       takes = λ is some. separated_takes C.holds s.2 ((P.claimed s.0).exact modal is.0).unique
           ((S.claimed s.1).exact modal is.2).unique ((P.claimed s.0).takes is.0 some.0)
           some.1;
-      decided = λ form is. decided_of I.reading
-          (λ form. separated_ends I.reading (P.meaning form) (S.meaning form) C.accumulator
-          (assert_kind form) (P.leaves_ends form) (S.leaves_ends form))
-          (separated_said C.accumulator C.holds C.gathers s (P.said s.0) (S.said s.1)) form is;
     } };
 
     fn parse_next(&mut self, input: &mut I) -> Result<C, E> {

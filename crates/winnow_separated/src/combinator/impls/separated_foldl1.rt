@@ -4,7 +4,7 @@ ghost use Rattle.stream_errors.specs.Form.{answer_by, assert_kind, modal};
 ghost use Rattle.streams.specs.Input.{IsEndOf};
 ghost use Rattle.winnow_core.specs.Stable.Grows.{grows, stays};
 ghost use Rattle.winnow_separated.specs.SeparatedFoldl1.{JoinedLinksRun, SeparatedFoldl1Runs};
-ghost use Rattle.winnow_separated.specs.SeparatedFoldl1.{foldl1_closure, foldl1_parser};
+ghost use Rattle.winnow_separated.specs.SeparatedFoldl1.{foldl1_parser};
 ghost use Rattle.winnow_separated.specs.SeparatedFoldl1.{foldl1_separator};
 ghost use Rattle.winnow_separated.specs.SeparatedFoldl1.Laws.{foldl1_ends, foldl1_grows};
 ghost use Rattle.winnow_core.specs.Claim.{no_claim, nothing_claimed};
@@ -36,7 +36,7 @@ impl<P, S, H, I, O, D, E> SeparatedFoldl1<P, S, H, I, O, D, E> {
     pub(crate) fn new(parser: P, separator: S, op: H) -> SeparatedFoldl1<P, S, H, I, O, D, E>
         ensures parser { foldl1_parser result ≡ parser }
         ensures separator { foldl1_separator result ≡ separator }
-        ensures op { foldl1_closure result ≡ op }
+        ensures op { result.op ≡ op }
     {
         SeparatedFoldl1 {
             link: Link { parser, separator },

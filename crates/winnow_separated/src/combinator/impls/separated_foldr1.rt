@@ -3,7 +3,7 @@ ghost use Rattle.std.specs.Prelude.{◌≡◌};
 ghost use Rattle.stream_errors.specs.Form.{assert_kind, modal};
 ghost use Rattle.winnow_core.specs.Stable.Grows.{grows, stays};
 ghost use Rattle.winnow_separated.specs.SeparatedFoldr1.{FoldsRight, SeparatedFoldr1Runs};
-ghost use Rattle.winnow_separated.specs.SeparatedFoldr1.{foldr1_closure, foldr1_parser};
+ghost use Rattle.winnow_separated.specs.SeparatedFoldr1.{foldr1_parser};
 ghost use Rattle.winnow_separated.specs.SeparatedFoldr1.{foldr1_separator};
 ghost use Rattle.winnow_separated.specs.SeparatedFoldr1.Laws.{foldr1_ends, foldr1_grows};
 ghost use Rattle.winnow_core.specs.Claim.{no_claim, nothing_claimed};
@@ -43,7 +43,7 @@ impl<P, S, H, I, O, D, E, A> SeparatedFoldr1<P, S, H, I, O, D, E, A> {
     ) -> SeparatedFoldr1<P, S, H, I, O, D, E, A>
         ensures parser { foldr1_parser result ≡ parser }
         ensures separator { foldr1_separator result ≡ separator }
-        ensures op { foldr1_closure result ≡ op }
+        ensures op { result.op ≡ op }
     {
         SeparatedFoldr1 {
             alloc,

@@ -6,8 +6,8 @@ ghost use Rattle.winnow_core.specs.Runs.{Keeps};
 ghost use Rattle.winnow_core.specs.Stable.Grows.{leaf_stays};
 ghost use Rattle.winnow_token.specs.Any.{AnyRuns};
 ghost use Rattle.winnow_token.specs.Any.Laws.{any_exact, any_fails, token_takes};
-ghost use Rattle.winnow_token.specs.Any.Laws.{any_ends, any_stays, SeenSame};
-ghost use Rattle.winnow_token.specs.Any.Says.{any_decided, any_said, any_says};
+ghost use Rattle.winnow_token.specs.Any.Laws.{any_ends, any_stays};
+ghost use Rattle.winnow_token.specs.Any.Says.{any_said, any_says};
 
 use crate::token::any;
 use stream_errors::parser_error::ParserError;
@@ -39,8 +39,6 @@ impl<I: StreamIsPartial, E: ParserError<I>> Parser<I, I::Token, E> for Any {
       spares_memory = ⊤;
       consumes = ⊤;
       grammar = Token I.seen_as;
-      decides = ⊤;
-      alike = SeenSame I.seen_as;
     } };
 
     ghost leaves_ends = { λ form x i answer y j r. any_ends I.seen_as I.reading form i answer j
@@ -52,7 +50,6 @@ impl<I: StreamIsPartial, E: ParserError<I>> Parser<I, I::Token, E> for Any {
       exact = λ form is. any_exact I.seen_as I.reading form;
       fails = λ form is. backs (any_fails I.seen_as I.reading form);
       takes = λ is some. token_takes I.seen_as;
-      decided = λ form is. any_decided I.seen_as I.reading form;
     } };
 
     #[inline(always)]

@@ -10,7 +10,6 @@ ghost use Rattle.winnow_core.specs.Literal.Laws.{literal_stays};
 ghost use Rattle.winnow_core.specs.Runs.{Keeps};
 ghost use Rattle.winnow_core.specs.Stable.Grows.{leaf_stays};
 ghost use Rattle.winnow_core.specs.Literal.Says.{literal_said, literal_says};
-ghost use Rattle.winnow_core.specs.Says.Decided.{decided_of};
 
 use std::marker::PhantomData;
 use stream_errors::parser_error::ParserError;
@@ -50,8 +49,6 @@ impl<T: Copy, I: StreamIsPartial + Compare<T>, E: ParserError<I>> Parser<I, I::S
       spares_memory = ⊤;
       consumes = I.spells s [] → ⊥;
       grammar = Literally I.reading I.spells (λ _ slice. slice) s;
-      decides = ⊤;
-      alike = ShowSame I.reading;
     } };
 
     ghost leaves_ends = { λ form x i answer y j r. literal_ends I.reading form (I.spells x)
@@ -66,11 +63,6 @@ impl<T: Copy, I: StreamIsPartial + Compare<T>, E: ParserError<I>> Parser<I, I::S
       fails = λ form is. backs
           (literal_fails I.reading form I.spells (λ _ slice. slice) (λ s. s) s);
       takes = λ is some. literally_takes I.reading I.spells (λ _ slice. slice) s some;
-      decided = λ form is. decided_of I.reading
-          (λ f x i answer y j r. literal_ends I.reading f (I.spells x) (λ slice. slice) i answer
-          j r.0)
-          (literal_said I.reading I.spells (λ _ slice. slice) (ShowSame I.reading) s
-          (I.same_units s) (λ slice other shown. shown)) form is;
     } };
 
     #[inline(always)]

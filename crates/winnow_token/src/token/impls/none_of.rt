@@ -1,18 +1,16 @@
 //! One token outside a set.
 ghost use Rattle.std.specs.Prelude.{not, ⊤};
 ghost use Rattle.streams.specs.Stream.{AnswersSeen};
-ghost use Rattle.stream_sets.specs.Once.{TokenEqInjective, others_once, seen_once, Others};
-ghost use Rattle.stream_sets.specs.Once.{SetIsFunction};
+ghost use Rattle.stream_sets.specs.Once.{Others, SetIsFunction};
 ghost use Rattle.grammars.specs.Grammar.{Token, TokenOf};
 ghost use Rattle.winnow_core.specs.Exact.Allowed.{backs};
 ghost use Rattle.winnow_core.specs.Runs.{Keeps};
 ghost use Rattle.winnow_core.specs.Stable.Grows.{leaf_stays};
 ghost use Rattle.winnow_token.specs.OneOf.{OneOfRuns};
-ghost use Rattle.winnow_token.specs.Any.Laws.{SeenSame};
 ghost use Rattle.winnow_token.specs.OneOf.Laws.{one_of_exact, one_of_fails};
 ghost use Rattle.winnow_token.specs.OneOf.Laws.{token_of_takes, one_of_ends};
 ghost use Rattle.winnow_token.specs.OneOf.Laws.{one_of_stays};
-ghost use Rattle.winnow_token.specs.OneOf.Says.{one_of_decided, one_of_said, one_of_says};
+ghost use Rattle.winnow_token.specs.OneOf.Says.{one_of_said, one_of_says};
 
 use crate::token::members::Others;
 use crate::token::one::take_member;
@@ -53,13 +51,11 @@ where
     ghost says = { λ s. one_of_says I.seen_as (Others S.tells s) };
 
     ghost claim = { λ s. record {
-      premise = S.decides s × TokenEqInjective I.seen_as;
+      premise = SetIsFunction (AnswersSeen I.seen_as (Others S.tells s));
       backtracks = ⊤;
       spares_memory = ⊤;
       consumes = ⊤;
       grammar = TokenOf I.seen_as (Others S.tells) s;
-      decides = SetIsFunction (AnswersSeen I.seen_as (Others S.tells s));
-      alike = SeenSame I.seen_as;
     } };
 
     ghost leaves_ends = { λ form x i answer y j r. one_of_ends I.seen_as I.reading form
@@ -68,12 +64,9 @@ where
     ghost said = { λ s. one_of_said I.seen_as I.reading (Others S.tells) s };
 
     ghost claimed = { λ s. record {
-      exact = λ form is. one_of_exact I.seen_as I.reading form (Others S.tells) s
-          (seen_once I.seen_as (Others S.tells s) is.1
-          (others_once S.tells s (S.once s is.0)));
+      exact = λ form is. one_of_exact I.seen_as I.reading form (Others S.tells) s is;
       fails = λ form is. backs (one_of_fails I.seen_as I.reading form (Others S.tells) s);
       takes = λ is some. token_of_takes I.seen_as (Others S.tells) s;
-      decided = λ form is. one_of_decided I.seen_as I.reading form (Others S.tells) s is;
     } };
 
     #[inline(always)]

@@ -1,17 +1,16 @@
 //! One token of a set.
 ghost use Rattle.std.specs.Prelude.{⊤};
 ghost use Rattle.streams.specs.Stream.{AnswersSeen};
-ghost use Rattle.stream_sets.specs.Once.{TokenEqInjective, seen_once, SetIsFunction};
+ghost use Rattle.stream_sets.specs.Once.{SetIsFunction};
 ghost use Rattle.grammars.specs.Grammar.{Token, TokenOf};
 ghost use Rattle.winnow_core.specs.Exact.Allowed.{backs};
 ghost use Rattle.winnow_core.specs.Runs.{Keeps};
 ghost use Rattle.winnow_core.specs.Stable.Grows.{leaf_stays};
 ghost use Rattle.winnow_token.specs.OneOf.{OneOfRuns};
-ghost use Rattle.winnow_token.specs.Any.Laws.{SeenSame};
 ghost use Rattle.winnow_token.specs.OneOf.Laws.{one_of_exact, one_of_fails};
 ghost use Rattle.winnow_token.specs.OneOf.Laws.{token_of_takes, one_of_ends};
 ghost use Rattle.winnow_token.specs.OneOf.Laws.{one_of_stays};
-ghost use Rattle.winnow_token.specs.OneOf.Says.{one_of_decided, one_of_said, one_of_says};
+ghost use Rattle.winnow_token.specs.OneOf.Says.{one_of_said, one_of_says};
 
 use crate::token::one::take_member;
 use std::marker::PhantomData;
@@ -50,13 +49,11 @@ where
     ghost says = { λ s. one_of_says I.seen_as (S.tells s) };
 
     ghost claim = { λ s. record {
-      premise = S.decides s × TokenEqInjective I.seen_as;
+      premise = SetIsFunction (AnswersSeen I.seen_as (S.tells s));
       backtracks = ⊤;
       spares_memory = ⊤;
       consumes = ⊤;
       grammar = TokenOf I.seen_as S.tells s;
-      decides = SetIsFunction (AnswersSeen I.seen_as (S.tells s));
-      alike = SeenSame I.seen_as;
     } };
 
     ghost leaves_ends = { λ form x i answer y j r. one_of_ends I.seen_as I.reading form
@@ -65,11 +62,9 @@ where
     ghost said = { λ s. one_of_said I.seen_as I.reading S.tells s };
 
     ghost claimed = { λ s. record {
-      exact = λ form is. one_of_exact I.seen_as I.reading form S.tells s
-          (seen_once I.seen_as (S.tells s) is.1 (S.once s is.0));
+      exact = λ form is. one_of_exact I.seen_as I.reading form S.tells s is;
       fails = λ form is. backs (one_of_fails I.seen_as I.reading form S.tells s);
       takes = λ is some. token_of_takes I.seen_as S.tells s;
-      decided = λ form is. one_of_decided I.seen_as I.reading form S.tells s is;
     } };
 
     #[inline(always)]

@@ -2,12 +2,11 @@
 ghost use Rattle.std.specs.Prelude.{⊤};
 ghost use Rattle.grammars.specs.Grammar.{AllTokens};
 ghost use Rattle.winnow_core.specs.Exact.Allowed.{backs};
-ghost use Rattle.winnow_core.specs.Literal.Laws.{ShowSame};
 ghost use Rattle.winnow_core.specs.Runs.{Keeps};
 ghost use Rattle.winnow_token.specs.Rest.{RestRuns};
 ghost use Rattle.winnow_token.specs.Rest.Laws.{rest_ends};
 ghost use Rattle.winnow_token.specs.Rest.Laws.{rest_exact, rest_fails};
-ghost use Rattle.winnow_token.specs.Rest.Says.{rest_decided, rest_said, rest_says};
+ghost use Rattle.winnow_token.specs.Rest.Says.{rest_said, rest_says};
 
 use crate::token::rest;
 use stream_errors::parser_error::ParserError;
@@ -38,8 +37,6 @@ impl<I: Stream, E: ParserError<I>> Parser<I, I::Slice, E> for Rest {
       spares_memory = ⊤;
       consumes = ⊥;
       grammar = AllTokens I.reading;
-      decides = ⊤;
-      alike = ShowSame I.reading;
     } };
 
     ghost leaves_ends = { λ form x i answer y j r. rest_ends I.reading i answer j r.0 };
@@ -50,7 +47,6 @@ impl<I: Stream, E: ParserError<I>> Parser<I, I::Slice, E> for Rest {
       exact = λ form is. rest_exact I.reading;
       fails = λ form is. backs (rest_fails I.reading);
       takes = λ is never. absurd never;
-      decided = λ form is. rest_decided I.reading;
     } };
 
     #[inline(always)]

@@ -1,12 +1,12 @@
 //! The implementation of `rest_len`.
-ghost use Rattle.std.specs.Prelude.{⊤, ◌<◌, ◌≡◌};
+ghost use Rattle.std.specs.Prelude.{⊤, ◌<◌};
 ghost use Rattle.grammars.specs.Grammar.{UnitsLeft};
 ghost use Rattle.winnow_core.specs.Ends.{same_ends};
 ghost use Rattle.winnow_core.specs.Exact.Allowed.{backs};
 ghost use Rattle.winnow_core.specs.Runs.{Keeps};
 ghost use Rattle.winnow_token.specs.Rest.{RestLenRuns};
 ghost use Rattle.winnow_token.specs.Rest.Laws.{rest_len_exact, rest_len_fails};
-ghost use Rattle.winnow_token.specs.Rest.Says.{rest_len_decided, rest_len_said, rest_len_says};
+ghost use Rattle.winnow_token.specs.Rest.Says.{rest_len_said, rest_len_says};
 
 use crate::token::rest_len;
 use stream_errors::parser_error::ParserError;
@@ -37,8 +37,6 @@ impl<I: Stream, E: ParserError<I>> Parser<I, usize, E> for RestLen {
       spares_memory = ⊤;
       consumes = ⊥;
       grammar = UnitsLeft I.reading;
-      decides = ⊤;
-      alike = λ o p. o ≡ p;
     } };
 
     ghost leaves_ends = { λ form x i answer y j r. same_ends I.reading i j r.0.1 };
@@ -49,7 +47,6 @@ impl<I: Stream, E: ParserError<I>> Parser<I, usize, E> for RestLen {
       exact = λ form is. rest_len_exact I.reading;
       fails = λ form is. backs (rest_len_fails I.reading);
       takes = λ is never. absurd never;
-      decided = λ form is. rest_len_decided I.reading;
     } };
 
     #[inline(always)]

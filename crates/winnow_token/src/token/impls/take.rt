@@ -2,13 +2,12 @@
 ghost use Rattle.std.specs.Prelude.{ℕ, ◌<◌, ⊤};
 ghost use Rattle.grammars.specs.Grammar.{Counted};
 ghost use Rattle.winnow_core.specs.Exact.Allowed.{backs};
-ghost use Rattle.winnow_core.specs.Literal.Laws.{ShowSame};
 ghost use Rattle.winnow_core.specs.Runs.{Keeps};
 ghost use Rattle.winnow_core.specs.Stable.Grows.{leaf_stays};
 ghost use Rattle.winnow_token.specs.Take.{TakeRuns};
 ghost use Rattle.winnow_token.specs.Take.Laws.{counted_takes, take_exact};
 ghost use Rattle.winnow_token.specs.Take.Laws.{take_fails, take_ends, take_stays};
-ghost use Rattle.winnow_token.specs.Take.Says.{take_count_decided, take_said, take_says};
+ghost use Rattle.winnow_token.specs.Take.Says.{take_said, take_says};
 
 use std::marker::PhantomData;
 use stream_errors::parser_error::ParserError;
@@ -45,8 +44,6 @@ impl<I: StreamIsPartial, E: ParserError<I>> Parser<I, I::Slice, E> for Take<I, E
       spares_memory = ⊤;
       consumes = 0 < s;
       grammar = Counted I.reading s;
-      decides = ⊤;
-      alike = ShowSame I.reading;
     } };
 
     ghost leaves_ends = { λ form x i answer y j r. take_ends I.reading form I.counts_missing x i
@@ -58,7 +55,6 @@ impl<I: StreamIsPartial, E: ParserError<I>> Parser<I, I::Slice, E> for Take<I, E
       exact = λ form is. take_exact I.reading form I.counts_missing s;
       fails = λ form is. backs (take_fails I.reading form I.counts_missing s);
       takes = λ is some. counted_takes I.reading s some;
-      decided = λ form is. take_count_decided I.reading form I.counts_missing s;
     } };
 
     #[inline(always)]

@@ -5,14 +5,13 @@ ghost use Rattle.stream_sets.specs.declared.range.Range.{Range};
 ghost use Rattle.grammars.specs.Grammar.Searches.{Before};
 ghost use Rattle.grammars.specs.Grammar.Searches.Unique.{before_takes};
 ghost use Rattle.winnow_core.specs.Exact.Allowed.{backs};
-ghost use Rattle.winnow_core.specs.Literal.Laws.{ShowSame};
 ghost use Rattle.winnow_core.specs.Runs.{Keeps};
 ghost use Rattle.winnow_core.specs.Stable.Grows.{leaf_stays};
 ghost use Rattle.winnow_token.specs.TakeUntil.{TakeUntilRuns};
 ghost use Rattle.winnow_token.specs.TakeUntil.Laws.{take_until_exact, take_until_fails};
 ghost use Rattle.winnow_token.specs.TakeUntil.Laws.{take_until_ends};
 ghost use Rattle.winnow_token.specs.TakeUntil.Laws.{take_until_stays};
-ghost use Rattle.winnow_token.specs.TakeUntil.Says.{take_until_decided, take_until_said};
+ghost use Rattle.winnow_token.specs.TakeUntil.Says.{take_until_said};
 ghost use Rattle.winnow_token.specs.TakeUntil.Says.{take_until_says};
 
 use crate::token::until::take_before;
@@ -55,8 +54,6 @@ impl<T: Copy, I: StreamIsPartial + FindSlice<T>, E: ParserError<I>> Parser<I, I:
       spares_memory = ⊤;
       consumes = 0 < (bounds_of s.0).least;
       grammar = Before I.reading (I.sought s.1) (bounds_of s.0);
-      decides = ⊤;
-      alike = ShowSame I.reading;
     } };
 
     ghost leaves_ends = { λ form x i answer y j r. take_until_ends I.reading form (I.sought x.1)
@@ -72,8 +69,6 @@ impl<T: Copy, I: StreamIsPartial + FindSlice<T>, E: ParserError<I>> Parser<I, I:
       fails = λ form is. backs (take_until_fails I.reading form (λ x. I.sought x.1)
           (λ x. bounds_of x.0) s is);
       takes = λ is some. before_takes I.reading (I.sought s.1) (bounds_of s.0) some;
-      decided = λ form is. take_until_decided I.reading form (λ x. I.sought x.1)
-          (λ x. bounds_of x.0) s (I.stays_first s.1);
     } };
 
     #[inline(always)]

@@ -1,12 +1,11 @@
 //! Takes of the members of a set.
 ghost use Rattle.std.specs.Prelude.{◌<◌, ⊤};
 ghost use Rattle.streams.specs.Stream.{AnswersSeen};
-ghost use Rattle.stream_sets.specs.Once.{TokenEqInjective, seen_once, SetIsFunction};
+ghost use Rattle.stream_sets.specs.Once.{SetIsFunction};
 ghost use Rattle.stream_sets.specs.Range.{bounds_of, IsWithin};
 ghost use Rattle.stream_sets.specs.declared.range.Range.{Range};
 ghost use Rattle.grammars.specs.Grammar.{Longest};
 ghost use Rattle.winnow_core.specs.Exact.Allowed.{backs};
-ghost use Rattle.winnow_core.specs.Literal.Laws.{ShowSame};
 ghost use Rattle.winnow_core.specs.Runs.{Keeps};
 ghost use Rattle.winnow_core.specs.Stable.Grows.{leaf_stays};
 ghost use Rattle.winnow_token.specs.TakeWhile.{TakeWhileRuns};
@@ -14,7 +13,7 @@ ghost use Rattle.winnow_token.specs.TakeWhile.Exact.{longest_takes, take_while_e
 ghost use Rattle.winnow_token.specs.TakeWhile.Exact.{take_while_fails};
 ghost use Rattle.winnow_token.specs.TakeWhile.Laws.{take_while_ends};
 ghost use Rattle.winnow_token.specs.TakeWhile.Laws.{take_while_stays};
-ghost use Rattle.winnow_token.specs.TakeWhile.Says.{take_while_decided, take_while_said};
+ghost use Rattle.winnow_token.specs.TakeWhile.Says.{take_while_said};
 ghost use Rattle.winnow_token.specs.TakeWhile.Says.{take_while_says};
 
 use crate::token::members::take_members;
@@ -56,14 +55,12 @@ impl<S: ContainsToken<I::Token>, I: StreamIsPartial, E: ParserError<I>> Parser<I
         (bounds_of s.0) };
 
     ghost claim = { λ s. record {
-      premise = S.decides s.1 × TokenEqInjective I.seen_as
+      premise = SetIsFunction (AnswersSeen I.seen_as (S.tells s.1))
           × IsWithin (bounds_of s.0).greatest (bounds_of s.0).least;
       backtracks = ⊤;
       spares_memory = ⊤;
       consumes = 0 < (bounds_of s.0).least;
       grammar = Longest I.reading I.seen_as S.tells s.1 (bounds_of s.0);
-      decides = SetIsFunction (AnswersSeen I.seen_as (S.tells s.1));
-      alike = ShowSame I.reading;
     } };
 
     ghost leaves_ends = { λ form x i answer y j r. take_while_ends I.reading form
@@ -74,13 +71,10 @@ impl<S: ContainsToken<I::Token>, I: StreamIsPartial, E: ParserError<I>> Parser<I
 
     ghost claimed = { λ s. record {
       exact = λ form is. take_while_exact I.reading form I.seen_as S.tells (λ x. x.1)
-          (λ x. bounds_of x.0) s is.2
-          (seen_once I.seen_as (S.tells s.1) is.1 (S.once s.1 is.0));
+          (λ x. bounds_of x.0) s is.1 is.0;
       fails = λ form is. backs (take_while_fails I.reading form I.seen_as S.tells (λ x. x.1)
-          (λ x. bounds_of x.0) s is.2);
+          (λ x. bounds_of x.0) s is.1);
       takes = λ is some. longest_takes I.reading I.seen_as S.tells s.1 (bounds_of s.0) some;
-      decided = λ form is. take_while_decided I.reading form
-          (λ x. AnswersSeen I.seen_as (S.tells x.1)) (λ x. bounds_of x.0) s is;
     } };
 
     #[inline(always)]

@@ -1,4 +1,5 @@
-use Rattle.std.proofs.Common.{arith, ◌≡◌, ◌∙◌, sym, ap, ℕ, ◌+◌, ◌<◌, List, ◌∷◌, ◌++◌, length, false}
+use Rattle.std.proofs.Common.{arith, ◌≡◌, ◌∙◌, sym, ap, ℕ, ◌+◌, ◌<◌, List, ◌∷◌, ◌++◌, length}
+use Rattle.std.proofs.Common.{false}
 use Rattle.std.proofs.Common.{take, drop, get_or}
 use Rattle.std.proofs.lemmas.List.{take-append-drop, drop_more, length-take-le, take_all}
 use Rattle.std.proofs.lemmas.List.Elements.{All-more}

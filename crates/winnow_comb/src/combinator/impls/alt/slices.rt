@@ -37,8 +37,6 @@ impl<const N: usize, I: Stream, O, E: ParserError<I>, P: Parser<I, O, E>> Alt<I,
       spares_memory = All (λ x. (P.claim x).spares_memory) s;
       consumes = All (λ x. (P.claim x).consumes) s;
       grammar = FirstOf (λ x. (P.claim x).grammar) s;
-      decides = ⊥;
-      alike = λ o p. o ≡ p;
     } };
 
     ghost leaves_ends = { λ form. alt_slice_ends I.reading (P.meaning form) (assert_kind form)
@@ -60,7 +58,6 @@ impl<const N: usize, I: Stream, O, E: ParserError<I>, P: Parser<I, O, E>> Alt<I,
       takes = λ is some. first_of_takes (λ x. (P.claim x).grammar)
           (λ x. (P.claim x).premise) (λ x. (P.claim x).backtracks)
           (λ x. (P.claim x).consumes) (λ x. (P.claimed x).takes) s is some;
-      decided = λ form never. absurd never;
     } };
 
     #[inline(always)]
@@ -104,8 +101,6 @@ impl<'a, I: Stream, O, E: ParserError<I>, P: Parser<I, O, E>> Alt<I, O, E> for &
       spares_memory = All (λ x. (P.claim x).spares_memory) s.0;
       consumes = All (λ x. (P.claim x).consumes) s.0;
       grammar = FirstOf (λ x. (P.claim x).grammar) s.0;
-      decides = ⊥;
-      alike = λ o p. o ≡ p;
     } };
 
     ghost leaves_ends = { λ form. by_ref_ends I.reading
@@ -129,7 +124,6 @@ impl<'a, I: Stream, O, E: ParserError<I>, P: Parser<I, O, E>> Alt<I, O, E> for &
       takes = λ is some. first_of_takes (λ x. (P.claim x).grammar)
           (λ x. (P.claim x).premise) (λ x. (P.claim x).backtracks)
           (λ x. (P.claim x).consumes) (λ x. (P.claimed x).takes) s.0 is some;
-      decided = λ form never. absurd never;
     } };
 
     #[inline(always)]

@@ -1,0 +1,8 @@
+use Rattle.winnow_expression_trees.specs.Premises.Laws.{span_stateless, with_span_stateless}
+use Rattle.winnow_expression_trees.proofs.laws.parts.spans_are_stateless.Goals as goal
+
+pub returns : goal.returns
+returns g c = record {
+  span = λ s c. span_stateless c;
+  with_span = λ s c. with_span_stateless c;
+}
