@@ -65,6 +65,11 @@ uint32_t exported_http_head_extent(
     const uint8_t *bytes,
     size_t bytes_length,
     size_t *out);
+uint32_t exported_http_response_head_extent(
+    struct pergidau_http_head_state *state,
+    const uint8_t *bytes,
+    size_t bytes_length,
+    size_t *out);
 uint32_t exported_http_field(
     const uint8_t *bytes,
     size_t bytes_length,
@@ -117,6 +122,15 @@ uint32_t exported_json_next(
     size_t bytes_length,
     size_t max_depth,
     struct pergidau_json_item *out);
+uint32_t exported_json_decimal(
+    const uint8_t *bytes,
+    size_t bytes_length,
+    struct pergidau_decimal *out);
+uint32_t exported_json_diagnose(
+    const uint8_t *text,
+    size_t text_length,
+    size_t max_depth,
+    struct pergidau_json_diagnostic *out);
 uint32_t exported_json_integer(
     const uint8_t *bytes,
     size_t bytes_length,
@@ -125,6 +139,14 @@ uint32_t exported_json_natural(
     const uint8_t *bytes,
     size_t bytes_length,
     uint64_t *out);
+uint32_t exported_json_member(
+    const uint8_t *bytes,
+    size_t bytes_length,
+    size_t max_depth,
+    const uint8_t *name,
+    size_t name_length,
+    uint32_t is_token,
+    size_t *out);
 uint32_t exported_json_step(
     const uint8_t *bytes,
     size_t bytes_length,
@@ -170,14 +192,16 @@ _Static_assert(sizeof(enum pergidau_chunked_error) == sizeof(uint32_t), "the siz
 _Static_assert(sizeof(enum pergidau_chunked_kind) == sizeof(uint32_t), "the size of an enum");
 _Static_assert(sizeof(enum pergidau_http_body_kind) == sizeof(uint32_t), "the size of an enum");
 _Static_assert(sizeof(enum pergidau_http_error) == sizeof(uint32_t), "the size of an enum");
+_Static_assert(sizeof(enum pergidau_http_head_error) == sizeof(uint32_t), "the size of an enum");
 _Static_assert(sizeof(enum pergidau_ini_error) == sizeof(uint32_t), "the size of an enum");
 _Static_assert(sizeof(enum pergidau_ini_kind) == sizeof(uint32_t), "the size of an enum");
+_Static_assert(sizeof(enum pergidau_json_error) == sizeof(uint32_t), "the size of an enum");
 _Static_assert(sizeof(enum pergidau_json_kind) == sizeof(uint32_t), "the size of an enum");
 _Static_assert(sizeof(enum pergidau_resp_kind) == sizeof(uint32_t), "the size of an enum");
 _Static_assert(sizeof(enum pergidau_toml_error) == sizeof(uint32_t), "the size of an enum");
 _Static_assert(sizeof(enum pergidau_toml_kind) == sizeof(uint32_t), "the size of an enum");
 
-const char pergidau_declared_c209631e = 0;
+const char pergidau_declared_8550428e = 0;
 
 const char *pergidau_version(void)
 {
@@ -218,8 +242,57 @@ const char *pergidau_message(enum pergidau_code code)
         return "no more items";
     case PERGIDAU_NOT_AN_INTEGER:
         return "number is not an integer or out of range";
+    case PERGIDAU_TOO_DEEP:
+        return "nested too deep: deeper than the depth limit";
+    case PERGIDAU_OUT_OF_RANGE:
+        return "number out of range";
     }
     return "unknown code";
+}
+
+const char *pergidau_json_error_message(enum pergidau_json_error error)
+{
+    switch (error) {
+    case PERGIDAU_JSON_ERROR_NONE:
+        return "no error";
+    case PERGIDAU_JSON_ERROR_VALUE:
+        return "expected a value";
+    case PERGIDAU_JSON_ERROR_VALUE_OR_BRACKET:
+        return "expected a value or a closing bracket";
+    case PERGIDAU_JSON_ERROR_NAME:
+        return "expected a string as the name of a member";
+    case PERGIDAU_JSON_ERROR_NAME_OR_BRACE:
+        return "expected a string as the name of a member, or a closing brace";
+    case PERGIDAU_JSON_ERROR_COLON:
+        return "expected a colon";
+    case PERGIDAU_JSON_ERROR_COMMA_OR_BRACKET:
+        return "expected a comma or a closing bracket";
+    case PERGIDAU_JSON_ERROR_COMMA_OR_BRACE:
+        return "expected a comma or a closing brace";
+    case PERGIDAU_JSON_ERROR_END:
+        return "expected the end of the text";
+    case PERGIDAU_JSON_ERROR_CHARACTER:
+        return "expected a character of a string or its closing quote";
+    case PERGIDAU_JSON_ERROR_ESCAPE:
+        return "expected an escape";
+    case PERGIDAU_JSON_ERROR_HEX_DIGIT:
+        return "expected a hexadecimal digit";
+    case PERGIDAU_JSON_ERROR_FIRST_HALF:
+        return "expected the first half of a surrogate pair";
+    case PERGIDAU_JSON_ERROR_SECOND_HALF:
+        return "expected the second half of a surrogate pair";
+    case PERGIDAU_JSON_ERROR_UTF8:
+        return "expected a byte that continues a character in UTF-8";
+    case PERGIDAU_JSON_ERROR_DIGIT:
+        return "expected a digit";
+    case PERGIDAU_JSON_ERROR_DIGIT_OR_SIGN:
+        return "expected a digit or a sign";
+    case PERGIDAU_JSON_ERROR_LETTER:
+        return "expected a letter of null, true or false";
+    case PERGIDAU_JSON_ERROR_DEPTH:
+        return "expected no deeper array or object";
+    }
+    return "unknown error";
 }
 
 const char *pergidau_toml_error_message(enum pergidau_toml_error error)
@@ -227,18 +300,86 @@ const char *pergidau_toml_error_message(enum pergidau_toml_error error)
     switch (error) {
     case PERGIDAU_TOML_ERROR_NONE:
         return "no error";
-    case PERGIDAU_TOML_ERROR_KEY:
+    case PERGIDAU_TOML_ERROR_KEY_OR_TABLE:
         return "expected a key or a table";
-    case PERGIDAU_TOML_ERROR_EQUALS_SIGN:
-        return "expected an equals sign after the key";
-    case PERGIDAU_TOML_ERROR_VALUE:
-        return "expected a value";
+    case PERGIDAU_TOML_ERROR_KEY:
+        return "expected a key";
+    case PERGIDAU_TOML_ERROR_KEY_OR_BRACE:
+        return "expected a key, or the brace that closes an inline table";
     case PERGIDAU_TOML_ERROR_TABLE_NAME:
         return "expected the name of a table";
+    case PERGIDAU_TOML_ERROR_EQUALS_SIGN:
+        return "expected an equals sign, or a point in the key";
     case PERGIDAU_TOML_ERROR_CLOSING_BRACKET:
-        return "expected a bracket after the name of a table";
+        return "expected a closing bracket, or a point in the name of the table";
+    case PERGIDAU_TOML_ERROR_SECOND_BRACKET:
+        return "expected a second closing bracket";
+    case PERGIDAU_TOML_ERROR_VALUE:
+        return "expected a value";
+    case PERGIDAU_TOML_ERROR_VALUE_OR_BRACKET:
+        return "expected a value, or the bracket that closes an array";
+    case PERGIDAU_TOML_ERROR_COMMA_OR_BRACKET:
+        return "expected a comma, or the bracket that closes an array";
+    case PERGIDAU_TOML_ERROR_COMMA_OR_BRACE:
+        return "expected a comma, or the brace that closes an inline table";
     case PERGIDAU_TOML_ERROR_LINE_END:
         return "expected the end of the line";
+    case PERGIDAU_TOML_ERROR_LINE_FEED:
+        return "expected a line feed";
+    case PERGIDAU_TOML_ERROR_COMMENT:
+        return "expected a character of a comment, or the end of the line";
+    case PERGIDAU_TOML_ERROR_BASIC_STRING:
+        return "expected a character of a string, or a double quotation mark";
+    case PERGIDAU_TOML_ERROR_LITERAL_STRING:
+        return "expected a character of a string, or a single quotation mark";
+    case PERGIDAU_TOML_ERROR_LONG_BASIC_STRING:
+        return "expected a character of a string, or three double quotation marks";
+    case PERGIDAU_TOML_ERROR_LONG_LITERAL_STRING:
+        return "expected a character of a string, or three single quotation marks";
+    case PERGIDAU_TOML_ERROR_ESCAPE:
+        return "expected the character of an escape";
+    case PERGIDAU_TOML_ERROR_LONG_ESCAPE:
+        return "expected the character of an escape, or the end of the line";
+    case PERGIDAU_TOML_ERROR_ESCAPED_LINE_END:
+        return "expected the end of the line after the backslash";
+    case PERGIDAU_TOML_ERROR_HEX_DIGIT:
+        return "expected a hexadecimal digit";
+    case PERGIDAU_TOML_ERROR_SCALAR_DIGIT:
+        return "expected a hexadecimal digit of a Unicode scalar value";
+    case PERGIDAU_TOML_ERROR_WORD:
+        return "expected the next letter of true, false, inf or nan";
+    case PERGIDAU_TOML_ERROR_DIGIT_OR_WORD:
+        return "expected a digit, inf or nan";
+    case PERGIDAU_TOML_ERROR_DIGIT:
+        return "expected a digit";
+    case PERGIDAU_TOML_ERROR_DIGIT_OR_SIGN:
+        return "expected a digit or a sign";
+    case PERGIDAU_TOML_ERROR_OCTAL_DIGIT:
+        return "expected a digit from 0 to 7";
+    case PERGIDAU_TOML_ERROR_BINARY_DIGIT:
+        return "expected a digit from 0 to 1";
+    case PERGIDAU_TOML_ERROR_INTEGER_TOO_LARGE:
+        return "integer does not have 64 bits";
+    case PERGIDAU_TOML_ERROR_YEAR_OR_HOUR:
+        return "expected a year or an hour, or a number without leading zeros";
+    case PERGIDAU_TOML_ERROR_MONTH:
+        return "expected a month from 01 to 12";
+    case PERGIDAU_TOML_ERROR_DAY:
+        return "expected a day of the month";
+    case PERGIDAU_TOML_ERROR_HOUR:
+        return "expected an hour from 00 to 23";
+    case PERGIDAU_TOML_ERROR_MINUTE:
+        return "expected a minute from 00 to 59";
+    case PERGIDAU_TOML_ERROR_SECOND:
+        return "expected a second from 00 to 60";
+    case PERGIDAU_TOML_ERROR_HYPHEN:
+        return "expected a hyphen in the date";
+    case PERGIDAU_TOML_ERROR_COLON:
+        return "expected a colon in the time";
+    case PERGIDAU_TOML_ERROR_TOO_DEEP:
+        return "array or inline table nested deeper than the depth limit";
+    case PERGIDAU_TOML_ERROR_BYTE_ORDER_MARK:
+        return "byte order mark is not allowed";
     case PERGIDAU_TOML_ERROR_DEFINED:
         return "key is already defined";
     case PERGIDAU_TOML_ERROR_NOT_A_TABLE:
@@ -270,6 +411,33 @@ const char *pergidau_chunked_error_message(enum pergidau_chunked_error error)
         return "invalid byte in the trailer section";
     case PERGIDAU_CHUNKED_ERROR_TRAILERS_TOO_LONG:
         return "trailer section too long";
+    }
+    return "unknown error";
+}
+
+const char *pergidau_http_head_error_message(enum pergidau_http_head_error error)
+{
+    switch (error) {
+    case PERGIDAU_HTTP_HEAD_ERROR_NONE:
+        return "no error";
+    case PERGIDAU_HTTP_HEAD_ERROR_METHOD:
+        return "expected a method and a space";
+    case PERGIDAU_HTTP_HEAD_ERROR_TARGET:
+        return "expected a request target and a space";
+    case PERGIDAU_HTTP_HEAD_ERROR_VERSION:
+        return "expected an HTTP version";
+    case PERGIDAU_HTTP_HEAD_ERROR_STATUS_CODE:
+        return "expected a status code of three digits";
+    case PERGIDAU_HTTP_HEAD_ERROR_FIELD_NAME:
+        return "expected a field name or an empty line";
+    case PERGIDAU_HTTP_HEAD_ERROR_COLON:
+        return "expected a colon after the field name";
+    case PERGIDAU_HTTP_HEAD_ERROR_VALUE:
+        return "invalid byte in a field value or reason phrase";
+    case PERGIDAU_HTTP_HEAD_ERROR_LINE_ENDING:
+        return "expected CRLF";
+    case PERGIDAU_HTTP_HEAD_ERROR_INCOMPLETE:
+        return "incomplete head";
     }
     return "unknown error";
 }
@@ -633,6 +801,31 @@ enum pergidau_code pergidau_http_head_extent(
     return (enum pergidau_code)exported_http_head_extent(state, bytes, bytes_length, out);
 }
 
+enum pergidau_code pergidau_http_response_head_extent(
+    struct pergidau_http_head_state *state,
+    const uint8_t *bytes,
+    size_t bytes_length,
+    size_t *out)
+{
+    const uint8_t no_bytes = {0};
+    if (state == NULL) {
+        return PERGIDAU_NULL;
+    }
+    if (bytes_length > PTRDIFF_MAX / sizeof(uint8_t)) {
+        return PERGIDAU_TOO_LONG;
+    }
+    if (bytes == NULL && bytes_length > 0) {
+        return PERGIDAU_NULL;
+    }
+    if (out == NULL) {
+        return PERGIDAU_NULL;
+    }
+    if (bytes == NULL) {
+        bytes = &no_bytes;
+    }
+    return (enum pergidau_code)exported_http_response_head_extent(state, bytes, bytes_length, out);
+}
+
 enum pergidau_code pergidau_http_field(
     const uint8_t *bytes,
     size_t bytes_length,
@@ -898,6 +1091,49 @@ enum pergidau_code pergidau_json_next(
     return (enum pergidau_code)exported_json_next(bytes, bytes_length, max_depth, out);
 }
 
+enum pergidau_code pergidau_json_decimal(
+    const uint8_t *bytes,
+    size_t bytes_length,
+    struct pergidau_decimal *out)
+{
+    const uint8_t no_bytes = {0};
+    if (bytes_length > PTRDIFF_MAX / sizeof(uint8_t)) {
+        return PERGIDAU_TOO_LONG;
+    }
+    if (bytes == NULL && bytes_length > 0) {
+        return PERGIDAU_NULL;
+    }
+    if (out == NULL) {
+        return PERGIDAU_NULL;
+    }
+    if (bytes == NULL) {
+        bytes = &no_bytes;
+    }
+    return (enum pergidau_code)exported_json_decimal(bytes, bytes_length, out);
+}
+
+enum pergidau_code pergidau_json_diagnose(
+    const uint8_t *text,
+    size_t text_length,
+    size_t max_depth,
+    struct pergidau_json_diagnostic *out)
+{
+    const uint8_t no_text = {0};
+    if (text_length > PTRDIFF_MAX / sizeof(uint8_t)) {
+        return PERGIDAU_TOO_LONG;
+    }
+    if (text == NULL && text_length > 0) {
+        return PERGIDAU_NULL;
+    }
+    if (out == NULL) {
+        return PERGIDAU_NULL;
+    }
+    if (text == NULL) {
+        text = &no_text;
+    }
+    return (enum pergidau_code)exported_json_diagnose(text, text_length, max_depth, out);
+}
+
 enum pergidau_code pergidau_json_integer(
     const uint8_t *bytes,
     size_t bytes_length,
@@ -938,6 +1174,41 @@ enum pergidau_code pergidau_json_natural(
         bytes = &no_bytes;
     }
     return (enum pergidau_code)exported_json_natural(bytes, bytes_length, out);
+}
+
+enum pergidau_code pergidau_json_member(
+    const uint8_t *bytes,
+    size_t bytes_length,
+    size_t max_depth,
+    const uint8_t *name,
+    size_t name_length,
+    uint32_t is_token,
+    size_t *out)
+{
+    const uint8_t no_bytes = {0};
+    const uint8_t no_name = {0};
+    if (bytes_length > PTRDIFF_MAX / sizeof(uint8_t)) {
+        return PERGIDAU_TOO_LONG;
+    }
+    if (bytes == NULL && bytes_length > 0) {
+        return PERGIDAU_NULL;
+    }
+    if (name_length > PTRDIFF_MAX / sizeof(uint8_t)) {
+        return PERGIDAU_TOO_LONG;
+    }
+    if (name == NULL && name_length > 0) {
+        return PERGIDAU_NULL;
+    }
+    if (out == NULL) {
+        return PERGIDAU_NULL;
+    }
+    if (bytes == NULL) {
+        bytes = &no_bytes;
+    }
+    if (name == NULL) {
+        name = &no_name;
+    }
+    return (enum pergidau_code)exported_json_member(bytes, bytes_length, max_depth, name, name_length, is_token, out);
 }
 
 enum pergidau_code pergidau_json_step(

@@ -39,10 +39,10 @@ extern "C" {
  * header refers to it, so that it links with no other library. For a file that is not linked
  * with the library, define PERGIDAU_NO_LINK_CHECK before the header.
  */
-extern const char pergidau_declared_c209631e;
+extern const char pergidau_declared_8550428e;
 #if defined(__GNUC__) && !defined(PERGIDAU_NO_LINK_CHECK)
 __attribute__((__used__, __unused__)) static const char *const pergidau_linked =
-    &pergidau_declared_c209631e;
+    &pergidau_declared_8550428e;
 #endif
 
 /* Returns the version of the linked library, in the form of PERGIDAU_VERSION. */
@@ -83,7 +83,11 @@ enum pergidau_code {
     /* No more items. Each function documents the end that it reports. */
     PERGIDAU_END = 9,
     /* Number is not an integer or out of range. The function determines the range. */
-    PERGIDAU_NOT_AN_INTEGER = 10
+    PERGIDAU_NOT_AN_INTEGER = 10,
+    /* Nested too deep: deeper than the depth limit. */
+    PERGIDAU_TOO_DEEP = 11,
+    /* Number out of range. The function determines the range. */
+    PERGIDAU_OUT_OF_RANGE = 12
 };
 
 /* Returns the message for a code, in English, without a full stop. Do not free it. */
@@ -94,6 +98,57 @@ const char *pergidau_message(enum pergidau_code code);
  * stack.
  */
 #define PERGIDAU_MAX_DEPTH 512
+
+/* The errors of JSON texts. */
+enum pergidau_json_error {
+    /* No error. */
+    PERGIDAU_JSON_ERROR_NONE = 0,
+    /* Expected a value. */
+    PERGIDAU_JSON_ERROR_VALUE = 1,
+    /* Expected a value or a closing bracket. */
+    PERGIDAU_JSON_ERROR_VALUE_OR_BRACKET = 2,
+    /* Expected a string as the name of a member. */
+    PERGIDAU_JSON_ERROR_NAME = 3,
+    /* Expected a string as the name of a member, or a closing brace. */
+    PERGIDAU_JSON_ERROR_NAME_OR_BRACE = 4,
+    /* Expected a colon. */
+    PERGIDAU_JSON_ERROR_COLON = 5,
+    /* Expected a comma or a closing bracket. After a number, the number may also continue. */
+    PERGIDAU_JSON_ERROR_COMMA_OR_BRACKET = 6,
+    /* Expected a comma or a closing brace. After a number, the number may also continue. */
+    PERGIDAU_JSON_ERROR_COMMA_OR_BRACE = 7,
+    /* Expected the end of the text. After a number, the number may also continue. */
+    PERGIDAU_JSON_ERROR_END = 8,
+    /*
+     * Expected a character of a string or its closing quote. A control character must be
+     * escaped.
+     */
+    PERGIDAU_JSON_ERROR_CHARACTER = 9,
+    /*
+     * Expected an escape. After a backslash, it is a quote, a backslash, a slash, b, f, n, r,
+     * t, or u and four hexadecimal digits.
+     */
+    PERGIDAU_JSON_ERROR_ESCAPE = 10,
+    /* Expected a hexadecimal digit. */
+    PERGIDAU_JSON_ERROR_HEX_DIGIT = 11,
+    /*
+     * Expected the first half of a surrogate pair. The digit makes a second half without a
+     * first.
+     */
+    PERGIDAU_JSON_ERROR_FIRST_HALF = 12,
+    /* Expected the second half of a surrogate pair. It is an escape from DC00 to DFFF. */
+    PERGIDAU_JSON_ERROR_SECOND_HALF = 13,
+    /* Expected a byte that continues a character in UTF-8. */
+    PERGIDAU_JSON_ERROR_UTF8 = 14,
+    /* Expected a digit. */
+    PERGIDAU_JSON_ERROR_DIGIT = 15,
+    /* Expected a digit or a sign. */
+    PERGIDAU_JSON_ERROR_DIGIT_OR_SIGN = 16,
+    /* Expected a letter of null, true or false. The letter is written too. */
+    PERGIDAU_JSON_ERROR_LETTER = 17,
+    /* Expected no deeper array or object. As many as the depth limit allows are open. */
+    PERGIDAU_JSON_ERROR_DEPTH = 18
+};
 
 /* The kinds of JSON items. */
 enum pergidau_json_kind {
@@ -146,28 +201,96 @@ enum pergidau_toml_error {
     /* No error. */
     PERGIDAU_TOML_ERROR_NONE = 0,
     /* Expected a key or a table. */
-    PERGIDAU_TOML_ERROR_KEY = 1,
-    /* Expected an equals sign after the key. */
-    PERGIDAU_TOML_ERROR_EQUALS_SIGN = 2,
-    /* Expected a value. It may be nested no deeper than the depth limit. */
-    PERGIDAU_TOML_ERROR_VALUE = 3,
+    PERGIDAU_TOML_ERROR_KEY_OR_TABLE = 1,
+    /* Expected a key. */
+    PERGIDAU_TOML_ERROR_KEY = 2,
+    /* Expected a key, or the brace that closes an inline table. */
+    PERGIDAU_TOML_ERROR_KEY_OR_BRACE = 3,
     /* Expected the name of a table. */
     PERGIDAU_TOML_ERROR_TABLE_NAME = 4,
-    /* Expected a bracket after the name of a table. */
-    PERGIDAU_TOML_ERROR_CLOSING_BRACKET = 5,
+    /* Expected an equals sign, or a point in the key. */
+    PERGIDAU_TOML_ERROR_EQUALS_SIGN = 5,
+    /* Expected a closing bracket, or a point in the name of the table. */
+    PERGIDAU_TOML_ERROR_CLOSING_BRACKET = 6,
+    /* Expected a second closing bracket. */
+    PERGIDAU_TOML_ERROR_SECOND_BRACKET = 7,
+    /* Expected a value. */
+    PERGIDAU_TOML_ERROR_VALUE = 8,
+    /* Expected a value, or the bracket that closes an array. */
+    PERGIDAU_TOML_ERROR_VALUE_OR_BRACKET = 9,
+    /* Expected a comma, or the bracket that closes an array. */
+    PERGIDAU_TOML_ERROR_COMMA_OR_BRACKET = 10,
+    /* Expected a comma, or the brace that closes an inline table. */
+    PERGIDAU_TOML_ERROR_COMMA_OR_BRACE = 11,
     /* Expected the end of the line. */
-    PERGIDAU_TOML_ERROR_LINE_END = 6,
+    PERGIDAU_TOML_ERROR_LINE_END = 12,
+    /* Expected a line feed. */
+    PERGIDAU_TOML_ERROR_LINE_FEED = 13,
+    /* Expected a character of a comment, or the end of the line. */
+    PERGIDAU_TOML_ERROR_COMMENT = 14,
+    /* Expected a character of a string, or a double quotation mark. */
+    PERGIDAU_TOML_ERROR_BASIC_STRING = 15,
+    /* Expected a character of a string, or a single quotation mark. */
+    PERGIDAU_TOML_ERROR_LITERAL_STRING = 16,
+    /* Expected a character of a string, or three double quotation marks. */
+    PERGIDAU_TOML_ERROR_LONG_BASIC_STRING = 17,
+    /* Expected a character of a string, or three single quotation marks. */
+    PERGIDAU_TOML_ERROR_LONG_LITERAL_STRING = 18,
+    /* Expected the character of an escape. */
+    PERGIDAU_TOML_ERROR_ESCAPE = 19,
+    /* Expected the character of an escape, or the end of the line. */
+    PERGIDAU_TOML_ERROR_LONG_ESCAPE = 20,
+    /* Expected the end of the line after the backslash. */
+    PERGIDAU_TOML_ERROR_ESCAPED_LINE_END = 21,
+    /* Expected a hexadecimal digit. */
+    PERGIDAU_TOML_ERROR_HEX_DIGIT = 22,
+    /* Expected a hexadecimal digit of a Unicode scalar value. */
+    PERGIDAU_TOML_ERROR_SCALAR_DIGIT = 23,
+    /* Expected the next letter of true, false, inf or nan. */
+    PERGIDAU_TOML_ERROR_WORD = 24,
+    /* Expected a digit, inf or nan. */
+    PERGIDAU_TOML_ERROR_DIGIT_OR_WORD = 25,
+    /* Expected a digit. */
+    PERGIDAU_TOML_ERROR_DIGIT = 26,
+    /* Expected a digit or a sign. */
+    PERGIDAU_TOML_ERROR_DIGIT_OR_SIGN = 27,
+    /* Expected a digit from 0 to 7. */
+    PERGIDAU_TOML_ERROR_OCTAL_DIGIT = 28,
+    /* Expected a digit from 0 to 1. */
+    PERGIDAU_TOML_ERROR_BINARY_DIGIT = 29,
+    /* Integer does not have 64 bits. */
+    PERGIDAU_TOML_ERROR_INTEGER_TOO_LARGE = 30,
+    /* Expected a year or an hour, or a number without leading zeros. */
+    PERGIDAU_TOML_ERROR_YEAR_OR_HOUR = 31,
+    /* Expected a month from 01 to 12. */
+    PERGIDAU_TOML_ERROR_MONTH = 32,
+    /* Expected a day of the month. */
+    PERGIDAU_TOML_ERROR_DAY = 33,
+    /* Expected an hour from 00 to 23. */
+    PERGIDAU_TOML_ERROR_HOUR = 34,
+    /* Expected a minute from 00 to 59. */
+    PERGIDAU_TOML_ERROR_MINUTE = 35,
+    /* Expected a second from 00 to 60. */
+    PERGIDAU_TOML_ERROR_SECOND = 36,
+    /* Expected a hyphen in the date. */
+    PERGIDAU_TOML_ERROR_HYPHEN = 37,
+    /* Expected a colon in the time. */
+    PERGIDAU_TOML_ERROR_COLON = 38,
+    /* Array or inline table nested deeper than the depth limit. */
+    PERGIDAU_TOML_ERROR_TOO_DEEP = 39,
+    /* Byte order mark is not allowed. */
+    PERGIDAU_TOML_ERROR_BYTE_ORDER_MARK = 40,
     /* Key is already defined. */
-    PERGIDAU_TOML_ERROR_DEFINED = 7,
+    PERGIDAU_TOML_ERROR_DEFINED = 41,
     /* Key is not a table. */
-    PERGIDAU_TOML_ERROR_NOT_A_TABLE = 8,
+    PERGIDAU_TOML_ERROR_NOT_A_TABLE = 42,
     /*
      * Table cannot be extended. It is an inline table, or the line extends the table of a
      * header by dotted keys.
      */
-    PERGIDAU_TOML_ERROR_CLOSED = 9,
+    PERGIDAU_TOML_ERROR_CLOSED = 43,
     /* Key is not an array of tables. */
-    PERGIDAU_TOML_ERROR_NOT_AN_ARRAY_OF_TABLES = 10
+    PERGIDAU_TOML_ERROR_NOT_AN_ARRAY_OF_TABLES = 44
 };
 
 /* The kinds of TOML nodes. */
@@ -249,6 +372,33 @@ enum pergidau_http_body_kind {
     PERGIDAU_HTTP_BODY_UNTIL_CLOSE = 3,
     /* The connection has become a tunnel. */
     PERGIDAU_HTTP_BODY_TUNNEL = 4
+};
+
+/* Why a byte of a head is invalid. */
+enum pergidau_http_head_error {
+    /* No error. */
+    PERGIDAU_HTTP_HEAD_ERROR_NONE = 0,
+    /* Expected a method and a space. */
+    PERGIDAU_HTTP_HEAD_ERROR_METHOD = 1,
+    /* Expected a request target and a space. */
+    PERGIDAU_HTTP_HEAD_ERROR_TARGET = 2,
+    /* Expected an HTTP version. It is HTTP/, a digit, a point and a digit. */
+    PERGIDAU_HTTP_HEAD_ERROR_VERSION = 3,
+    /* Expected a status code of three digits. A space or the line ending follows it. */
+    PERGIDAU_HTTP_HEAD_ERROR_STATUS_CODE = 4,
+    /* Expected a field name or an empty line. A field line may not start with whitespace. */
+    PERGIDAU_HTTP_HEAD_ERROR_FIELD_NAME = 5,
+    /* Expected a colon after the field name. No whitespace precedes it. */
+    PERGIDAU_HTTP_HEAD_ERROR_COLON = 6,
+    /*
+     * Invalid byte in a field value or reason phrase. Of the control characters only a tab is
+     * valid.
+     */
+    PERGIDAU_HTTP_HEAD_ERROR_VALUE = 7,
+    /* Expected CRLF. A line feed without a carriage return is invalid. */
+    PERGIDAU_HTTP_HEAD_ERROR_LINE_ENDING = 8,
+    /* Incomplete head. The bytes end within it. */
+    PERGIDAU_HTTP_HEAD_ERROR_INCOMPLETE = 9
 };
 
 /* Why an HTTP message must be rejected. */
@@ -356,10 +506,16 @@ enum pergidau_ini_kind {
 };
 
 /* Returns the message for an error, as pergidau_message does for a code. */
+const char *pergidau_json_error_message(enum pergidau_json_error error);
+
+/* Returns the message for an error, as pergidau_message does for a code. */
 const char *pergidau_toml_error_message(enum pergidau_toml_error error);
 
 /* Returns the message for an error, as pergidau_message does for a code. */
 const char *pergidau_chunked_error_message(enum pergidau_chunked_error error);
+
+/* Returns the message for an error, as pergidau_message does for a code. */
+const char *pergidau_http_head_error_message(enum pergidau_http_head_error error);
 
 /* Returns the message for an error, as pergidau_message does for a code. */
 const char *pergidau_http_error_message(enum pergidau_http_error error);
@@ -431,6 +587,8 @@ struct pergidau_head {
     size_t length;
     /* The offset of the error in bytes; 0 otherwise. */
     size_t error_offset;
+    /* Why the byte at this offset is invalid; PERGIDAU_HTTP_HEAD_ERROR_NONE otherwise. */
+    enum pergidau_http_head_error error;
     /* The number before the point of the version, below 10. */
     uint8_t major;
     /* The number after the point of the version, below 10. */
@@ -487,9 +645,9 @@ struct pergidau_chunked_step {
 };
 
 /*
- * The state of a search for the end of the head of a request. Only the functions of this
- * library may interpret its fields. All zeros is the initial state; start from it for each
- * head.
+ * The state of a search for the end of the head of a request or a response. Only the functions
+ * of this library may interpret its fields. All zeros is the initial state; start from it for
+ * each head.
  */
 struct pergidau_http_head_state {
     /* How many bytes were passed. */
@@ -508,6 +666,8 @@ struct pergidau_response_head {
     size_t length;
     /* The offset of the error in bytes; 0 otherwise. */
     size_t error_offset;
+    /* Why the byte at this offset is invalid; PERGIDAU_HTTP_HEAD_ERROR_NONE otherwise. */
+    enum pergidau_http_head_error error;
     /* The status code, below 1000. */
     uint16_t status;
     /* The number before the point of the version, below 10. */
@@ -580,6 +740,37 @@ struct pergidau_json_item {
     enum pergidau_json_kind kind;
     /* Its bytes. */
     struct pergidau_span span;
+};
+
+/*
+ * The exact value of a number: digits times a power of ten. The digits do not end in zero, so
+ * two numbers are equal if and only if their decimals are. Zero has digits 0, exponent 0, and
+ * no sign.
+ */
+struct pergidau_decimal {
+    /* The factor of the power of ten. */
+    uint64_t digits;
+    /* The power of ten. */
+    int32_t exponent;
+    /* Whether the number is below zero. -0 is not. */
+    bool negative;
+};
+
+/* The first error of a text, and where it is. */
+struct pergidau_json_diagnostic {
+    /* The offset of the error in bytes. */
+    size_t offset;
+    /* The number of its line, from 1 on; 0 if there is no error. A line ends with a line feed. */
+    size_t line;
+    /* The number of its column, from 1 on; 0 if there is no error. A column is a character. */
+    size_t column;
+    /*
+     * The input that is expected there: one of the constants from PERGIDAU_JSON_ERROR_NONE to
+     * PERGIDAU_JSON_ERROR_DEPTH.
+     */
+    enum pergidau_json_error error;
+    /* The expected letter if error is PERGIDAU_JSON_ERROR_LETTER; 0 otherwise. */
+    uint8_t letter;
 };
 
 /* The text of a string of JSON. */
@@ -704,6 +895,11 @@ struct pergidau_toml_result {
     size_t text;
     /* The offset of the error in bytes; 0 otherwise. */
     size_t error_offset;
+    /*
+     * The offset of the innermost string, array or inline table that is not closed before the
+     * error. It is error_offset if there is none.
+     */
+    size_t unclosed_offset;
     /* The error; PERGIDAU_TOML_ERROR_NONE if there is none. */
     enum pergidau_toml_error error;
 };
@@ -880,7 +1076,8 @@ enum pergidau_code pergidau_csv_record_extent(
  * # Errors
  *
  * PERGIDAU_INVALID: bytes does not start with a head. The first offset at which no head can
- * continue is written; it is the end of bytes if they end within a head.
+ * continue is written, and why the byte there is invalid. If bytes ends within a head, it is
+ * the end of bytes, with PERGIDAU_HTTP_HEAD_ERROR_INCOMPLETE.
  *
  * PERGIDAU_BUFFER_TOO_SMALL: the head has more fields than the buffer has entries. The number
  * of fields is written.
@@ -913,8 +1110,8 @@ enum pergidau_code pergidau_http_head(
  * # Errors
  *
  * PERGIDAU_INVALID: bytes does not start with a head, regardless of what follows. The offset
- * of the first invalid byte is written: the bytes before it are a prefix of a head, and
- * together with the byte there they are not.
+ * of the first invalid byte is written, and why it is invalid: the bytes before it are a
+ * prefix of a head, and together with the byte there they are not.
  *
  * PERGIDAU_BUFFER_TOO_SMALL: as for complete input.
  *
@@ -1051,7 +1248,8 @@ enum pergidau_code pergidau_http_chunked(
  * Finds the end of the head of an HTTP/1.1 request (RFC 9112) in input that arrives in chunks.
  *
  * No call looks again at bytes that an earlier call scanned, so all calls for a head take time
- * linear in its length. To obtain the parts of the head, pass its bytes to pergidau_http_head.
+ * linear in its length. To obtain the parts of the head, pass its bytes to pergidau_http_head;
+ * to obtain the reason of an error, pass all bytes to pergidau_http_head_partial.
  *
  * For the first call, state must be all zeros. Each further call for the same head must have
  * the state that the previous call left, and the bytes of the previous call followed by more
@@ -1078,6 +1276,42 @@ enum pergidau_code pergidau_http_chunked(
  * None of these may overlap. The call needs 16 KiB of stack.
  */
 enum pergidau_code pergidau_http_head_extent(
+    struct pergidau_http_head_state *state,
+    const uint8_t *bytes,
+    size_t bytes_length,
+    size_t *out);
+
+/*
+ * Finds the end of the head of an HTTP/1.1 response (RFC 9112) in input that arrives in
+ * chunks, as pergidau_http_head_extent does for requests, with a state of its own. To obtain
+ * the parts of the head, pass its bytes to pergidau_http_response_head; to obtain the reason
+ * of an error, pass all bytes to pergidau_http_response_head_partial.
+ *
+ * For the first call, state must be all zeros. Each further call for the same head must have
+ * the state that the previous call left, and the bytes of the previous call followed by more
+ * bytes.
+ *
+ * PERGIDAU_DONE: bytes starts with a head, whose length is written. Reset the state to zeros
+ * for the next head.
+ *
+ * PERGIDAU_INCOMPLETE: bytes does not start with a head, but more bytes can complete one. 0 is
+ * written.
+ *
+ * If state belongs to other bytes or was modified, the result may be wrong, but nothing
+ * outside bytes is read.
+ *
+ * # Errors
+ *
+ * PERGIDAU_INVALID: bytes does not start with a head, regardless of what follows. The first
+ * offset at which no head can continue is written.
+ *
+ * # Safety
+ *
+ * state must be valid for reads and writes of one state, and out for writes of one length.
+ * bytes must be valid for reads of bytes_length bytes, which must not change during the call.
+ * None of these may overlap. The call needs 16 KiB of stack.
+ */
+enum pergidau_code pergidau_http_response_head_extent(
     struct pergidau_http_head_state *state,
     const uint8_t *bytes,
     size_t bytes_length,
@@ -1125,7 +1359,8 @@ enum pergidau_code pergidau_http_field(
  * # Errors
  *
  * PERGIDAU_INVALID: bytes does not start with a head. The first offset at which no head can
- * continue is written; it is the end of bytes if they end within a head.
+ * continue is written, and why the byte there is invalid. If bytes ends within a head, it is
+ * the end of bytes, with PERGIDAU_HTTP_HEAD_ERROR_INCOMPLETE.
  *
  * PERGIDAU_BUFFER_TOO_SMALL: the head has more fields than the buffer has entries. The number
  * of fields is written.
@@ -1158,8 +1393,8 @@ enum pergidau_code pergidau_http_response_head(
  * # Errors
  *
  * PERGIDAU_INVALID: bytes does not start with a head, regardless of what follows. The offset
- * of the first invalid byte is written: the bytes before it are a prefix of a head, and
- * together with the byte there they are not.
+ * of the first invalid byte is written, and why it is invalid: the bytes before it are a
+ * prefix of a head, and together with the byte there they are not.
  *
  * PERGIDAU_BUFFER_TOO_SMALL: as for complete input.
  *
@@ -1298,6 +1533,9 @@ enum pergidau_code pergidau_ini_next(
  * A text with an unpaired surrogate escape such as \ud800 is rejected, because it denotes no
  * character, although the grammar of the standard allows it.
  *
+ * pergidau_json_diagnose also reports where and why a text is rejected. pergidau_json_step
+ * walks through a text that was checked, in time linear in the text.
+ *
  * PERGIDAU_DONE: the text is a JSON text.
  *
  * # Errors
@@ -1384,6 +1622,71 @@ enum pergidau_code pergidau_json_next(
     struct pergidau_json_item *out);
 
 /*
+ * Converts the longest JSON number (RFC 8259) at the start of bytes to a decimal: a sign,
+ * digits and a power of ten whose value equals the number. Nothing is rounded: 1500, 1.50e3
+ * and 15E+2 have the digits 15 and the exponent 2. Whitespace before the number is not
+ * skipped.
+ *
+ * PERGIDAU_DONE: the decimal is written.
+ *
+ * # Errors
+ *
+ * PERGIDAU_OUT_OF_RANGE: the digits without zeros at their end do not fit 64 bits, or the
+ * power of ten does not fit 32 bits with a sign. Zeros are written.
+ *
+ * PERGIDAU_INVALID: bytes does not start with a number. Zeros are written.
+ *
+ * # Safety
+ *
+ * bytes must be valid for reads of bytes_length bytes, which must not change during the call,
+ * and out must be valid for writes of one decimal. They must not overlap. The call needs 16
+ * KiB of stack.
+ */
+enum pergidau_code pergidau_json_decimal(
+    const uint8_t *bytes,
+    size_t bytes_length,
+    struct pergidau_decimal *out);
+
+/*
+ * Checks a text as pergidau_json_check does, and reports the first error: its offset, line and
+ * column, and the input that is expected there.
+ *
+ * The bytes before the offset can continue to a text. With the byte at the offset they cannot,
+ * whatever follows. Nothing is allocated for a text that is JSON; for others, one byte for
+ * each open bracket.
+ *
+ * PERGIDAU_DONE: the text is a JSON text. Zeros are written.
+ *
+ * # Errors
+ *
+ * PERGIDAU_INVALID: the byte at the offset is invalid.
+ *
+ * PERGIDAU_INCOMPLETE: the text ends too early. The offset is its end.
+ *
+ * PERGIDAU_TOO_DEEP: the bracket at the offset is nested deeper than max_depth. The error is
+ * PERGIDAU_JSON_ERROR_DEPTH.
+ *
+ * PERGIDAU_INVALID_UTF8: the text is not UTF-8 from the offset on, and is valid before. The
+ * error is PERGIDAU_JSON_ERROR_UTF8. For a text that is not UTF-8, another error with a
+ * smaller offset is reported instead.
+ *
+ * PERGIDAU_MAX_DEPTH_TOO_LARGE: max_depth is above 512. Zeros are written.
+ *
+ * PERGIDAU_NO_MEMORY: zeros are written.
+ *
+ * # Safety
+ *
+ * text must be valid for reads of text_length bytes, which must not change during the call,
+ * and out must be valid for writes of one diagnostic. They must not overlap. The call needs
+ * 512 KiB of stack.
+ */
+enum pergidau_code pergidau_json_diagnose(
+    const uint8_t *text,
+    size_t text_length,
+    size_t max_depth,
+    struct pergidau_json_diagnostic *out);
+
+/*
  * Converts the longest JSON number (RFC 8259) at the start of bytes to a signed 64-bit
  * integer. -0 gives 0. Whitespace before the number is not skipped.
  *
@@ -1429,6 +1732,46 @@ enum pergidau_code pergidau_json_natural(
     const uint8_t *bytes,
     size_t bytes_length,
     uint64_t *out);
+
+/*
+ * Finds the first member of a name in the object (RFC 8259) that bytes starts with, after
+ * whitespace, at most one comma or colon, and whitespace. Names are compared with their
+ * escapes decoded: {"\u0061": 1} has a member a.
+ *
+ * If is_token is not 0, name is a reference token of a JSON pointer (RFC 6901), without its
+ * slash: ~0 is a tilde and ~1 a slash. A tilde before anything else is not valid there, and is
+ * not checked.
+ *
+ * The offset that is written is that of the bytes after the name. Call pergidau_json_next
+ * there for the value, or this function again for a member of the value. Each byte before the
+ * offset is scanned once, so a walk along names to a value at any depth takes time linear in
+ * the text.
+ *
+ * PERGIDAU_DONE: the offset is written.
+ *
+ * PERGIDAU_END: no member has the name. 0 is written.
+ *
+ * # Errors
+ *
+ * PERGIDAU_INVALID: there is no object, or its members are not valid up to the first of the
+ * name. 0 is written.
+ *
+ * PERGIDAU_MAX_DEPTH_TOO_LARGE: max_depth is above 512. 0 is written.
+ *
+ * # Safety
+ *
+ * bytes must be valid for reads of bytes_length bytes and name for reads of name_length bytes,
+ * which must not change during the call. out must be valid for writes of one length, and must
+ * not overlap the others. The call needs 512 KiB of stack.
+ */
+enum pergidau_code pergidau_json_member(
+    const uint8_t *bytes,
+    size_t bytes_length,
+    size_t max_depth,
+    const uint8_t *name,
+    size_t name_length,
+    uint32_t is_token,
+    size_t *out);
 
 /*
  * Finds the next step of a walk through a JSON text (RFC 8259) that was checked, from its
@@ -1638,11 +1981,11 @@ enum pergidau_code pergidau_text_position(
  *
  * # Errors
  *
- * PERGIDAU_INVALID: bytes is not a document. The reason and the offset are written. For the
- * first line that is not valid TOML, this is the offset of the part that is missing or
- * invalid; for an error inside an array or an inline table, it is the start of the whole
- * value. For a line that the standard forbids because of earlier lines, it is the start of
- * that line.
+ * PERGIDAU_INVALID: bytes is not a document. The reason and the offset are written. For a
+ * syntax error, this is the first offset at which no document continues, or the end of the
+ * input, and the start of the innermost string, array or inline table that is not closed is
+ * written. Syntax errors come first. For a line that the standard forbids because of earlier
+ * lines, it is the start of that line. A byte order mark is an error.
  *
  * PERGIDAU_INVALID_UTF8: bytes is not UTF-8. The length of the longest prefix that is UTF-8 is
  * written.

@@ -46,10 +46,11 @@ static void read_toml(const uint8_t *bytes, size_t length)
     if (code != PERGIDAU_BUFFER_TOO_SMALL) {
         HOLDS(code == PERGIDAU_INVALID || code == PERGIDAU_INVALID_UTF8);
         HOLDS(out.error_offset <= length && out.nodes == 0 && out.text == 0);
+        HOLDS(out.unclosed_offset <= out.error_offset);
         HOLDS((out.error > 0) == (code == PERGIDAU_INVALID));
         return;
     }
-    HOLDS(out.nodes > 0 && out.error_offset == 0 && out.error == 0);
+    HOLDS(out.nodes > 0 && out.error_offset == 0 && out.unclosed_offset == 0 && out.error == 0);
     size_t count = out.nodes, size = out.text;
     uint8_t *text = buffer(size);
     struct pergidau_toml_node *nodes = malloc(count * sizeof *nodes);

@@ -26,20 +26,57 @@ static const struct {
     {"a.b.c = 1\na.d = 2\n", "{a:{b:{c:1} d:2}}"},
 };
 
+/* The offset of the error, where the innermost string or bracket starts that is not closed, or the same
+ * offset, and the error. The offsets are by hand, and those of scripts/beside toml/errors. */
 static const struct {
     const char *text;
-    size_t place, error;
+    size_t place, start, error;
 } refused_of_toml[] = {
-    {"a = 1\nb 2", 8, PERGIDAU_TOML_ERROR_EQUALS_SIGN},
-    {"= 1", 0, PERGIDAU_TOML_ERROR_KEY},
-    {"a = ", 4, PERGIDAU_TOML_ERROR_VALUE},
-    {"[]", 1, PERGIDAU_TOML_ERROR_TABLE_NAME},
-    {"[a", 2, PERGIDAU_TOML_ERROR_CLOSING_BRACKET},
-    {"a = 1 b = 2", 6, PERGIDAU_TOML_ERROR_LINE_END},
-    {"a = 1\na = 2\n", 6, PERGIDAU_TOML_ERROR_DEFINED},
-    {"a = 1\na.b = 2\n", 6, PERGIDAU_TOML_ERROR_NOT_A_TABLE},
-    {"a = {}\n[a.b]\n", 7, PERGIDAU_TOML_ERROR_CLOSED},
-    {"[a]\n[[a]]\n", 4, PERGIDAU_TOML_ERROR_NOT_AN_ARRAY_OF_TABLES},
+    {"a = 1\nb 2", 8, 8, PERGIDAU_TOML_ERROR_EQUALS_SIGN},
+    {"= 1", 0, 0, PERGIDAU_TOML_ERROR_KEY_OR_TABLE},
+    {"a.= 1", 2, 2, PERGIDAU_TOML_ERROR_KEY},
+    {"a = {1.5, 2}", 8, 4, PERGIDAU_TOML_ERROR_EQUALS_SIGN},
+    {"a = {,}", 5, 4, PERGIDAU_TOML_ERROR_KEY_OR_BRACE},
+    {"a = ", 4, 4, PERGIDAU_TOML_ERROR_VALUE},
+    {"[]", 1, 1, PERGIDAU_TOML_ERROR_TABLE_NAME},
+    {"[a", 2, 2, PERGIDAU_TOML_ERROR_CLOSING_BRACKET},
+    {"[[a]", 4, 4, PERGIDAU_TOML_ERROR_SECOND_BRACKET},
+    {"a = [1,,", 7, 4, PERGIDAU_TOML_ERROR_VALUE_OR_BRACKET},
+    {"a = [1\n2", 7, 4, PERGIDAU_TOML_ERROR_COMMA_OR_BRACKET},
+    {"a = {b = 1\n", 10, 4, PERGIDAU_TOML_ERROR_COMMA_OR_BRACE},
+    {"a = 1 b = 2", 6, 6, PERGIDAU_TOML_ERROR_LINE_END},
+    {"a = 1\rb", 6, 6, PERGIDAU_TOML_ERROR_LINE_FEED},
+    {"# \001", 2, 2, PERGIDAU_TOML_ERROR_COMMENT},
+    {"\"a\n", 2, 0, PERGIDAU_TOML_ERROR_BASIC_STRING},
+    {"a = ['b", 7, 5, PERGIDAU_TOML_ERROR_LITERAL_STRING},
+    {"a = \"\"\"\n", 8, 4, PERGIDAU_TOML_ERROR_LONG_BASIC_STRING},
+    {"a = '''''", 9, 4, PERGIDAU_TOML_ERROR_LONG_LITERAL_STRING},
+    {"a = \"\\q", 6, 4, PERGIDAU_TOML_ERROR_ESCAPE},
+    {"a = \"\"\"\\q", 8, 4, PERGIDAU_TOML_ERROR_LONG_ESCAPE},
+    {"a = \"\"\"\\ q", 9, 4, PERGIDAU_TOML_ERROR_ESCAPED_LINE_END},
+    {"a = \"\\u00g", 9, 4, PERGIDAU_TOML_ERROR_HEX_DIGIT},
+    {"a = \"\\ud8", 8, 4, PERGIDAU_TOML_ERROR_SCALAR_DIGIT},
+    {"a = tru", 7, 7, PERGIDAU_TOML_ERROR_WORD},
+    {"a = +", 5, 5, PERGIDAU_TOML_ERROR_DIGIT_OR_WORD},
+    {"a = 1.", 6, 6, PERGIDAU_TOML_ERROR_DIGIT},
+    {"a = 1e", 6, 6, PERGIDAU_TOML_ERROR_DIGIT_OR_SIGN},
+    {"a = 0o8", 6, 6, PERGIDAU_TOML_ERROR_OCTAL_DIGIT},
+    {"a = 0b2", 6, 6, PERGIDAU_TOML_ERROR_BINARY_DIGIT},
+    {"a = 9223372036854775808", 23, 23, PERGIDAU_TOML_ERROR_INTEGER_TOO_LARGE},
+    {"a = 012", 7, 7, PERGIDAU_TOML_ERROR_YEAR_OR_HOUR},
+    {"a = 1979-13-01", 10, 10, PERGIDAU_TOML_ERROR_MONTH},
+    {"a = 1979-02-30", 12, 12, PERGIDAU_TOML_ERROR_DAY},
+    {"a = 1979-02-01T24", 16, 16, PERGIDAU_TOML_ERROR_HOUR},
+    {"a = 07:60", 7, 7, PERGIDAU_TOML_ERROR_MINUTE},
+    {"a = 07:00:61", 11, 11, PERGIDAU_TOML_ERROR_SECOND},
+    {"a = 1979-02/", 11, 11, PERGIDAU_TOML_ERROR_HYPHEN},
+    {"a = 1979-02-01T07.", 17, 17, PERGIDAU_TOML_ERROR_COLON},
+    {"\xef\xbb\xbfa = 1", 0, 0, PERGIDAU_TOML_ERROR_BYTE_ORDER_MARK},
+    {"a = 1\na = 2\nb 3", 14, 14, PERGIDAU_TOML_ERROR_EQUALS_SIGN},
+    {"a = 1\na = 2\n", 6, 6, PERGIDAU_TOML_ERROR_DEFINED},
+    {"a = 1\na.b = 2\n", 6, 6, PERGIDAU_TOML_ERROR_NOT_A_TABLE},
+    {"a = {}\n[a.b]\n", 7, 7, PERGIDAU_TOML_ERROR_CLOSED},
+    {"[a]\n[[a]]\n", 4, 4, PERGIDAU_TOML_ERROR_NOT_AN_ARRAY_OF_TABLES},
 };
 
 enum { MOST_NODES_OF_TOML = 32, MOST_TEXT_OF_TOML = 64 };
@@ -182,12 +219,16 @@ static void test_toml(void)
         same("invalid document", text, read_toml(text, 8, 0, 0, &it), PERGIDAU_INVALID);
         same("the error offset", text, (long long)it.found.error_offset,
              (long long)refused_of_toml[i].place);
+        same("the start", text, (long long)it.found.unclosed_offset,
+             (long long)refused_of_toml[i].start);
         same("the error", text, (long long)it.found.error, (long long)refused_of_toml[i].error);
         same("the nodes", text, it.found.nodes == 0 && it.found.text == 0, 1);
     }
     same("invalid UTF-8", "a = '\\xe9'", read_toml("a = '\xe9'", 8, 0, 0, &it), PERGIDAU_INVALID_UTF8);
     same("the error offset", "a = '\\xe9'", (long long)it.found.error_offset, 5);
     same("the depth limit", "[[]]", read_toml("a = [[]]", 1, 64, 8, &it), PERGIDAU_INVALID);
+    same("the error", "[[]]", it.found.error, PERGIDAU_TOML_ERROR_TOO_DEEP);
+    same("the error offset", "[[]]", (long long)it.found.error_offset, 5);
     same("the depth limit", "[[]]", read_toml("a = [[]]", 2, 64, 8, &it), PERGIDAU_DONE);
     same("the depth limit", "512", read_toml("a = 1", 512, 64, 8, &it), PERGIDAU_DONE);
     same("the depth limit", "513", read_toml("a = 1", 513, 64, 8, &it), PERGIDAU_MAX_DEPTH_TOO_LARGE);

@@ -188,7 +188,7 @@ COMPARISONS = [
     Comparison("toml/texts", rows=texts, **WITH),
     Comparison("toml/files", rows=files, **WITH),
     Comparison(
-        "toml/errors", "Python's tomllib, by completions", "format_toml_errors", "toml_errors",
+        "toml/errors", "Python's tomllib, by completions", "format_toml_document", "toml_errors",
         toml_errors.rows, WITH["given"], each(lambda row: toml_errors.is_read(row[1])),
         toml_errors.judge, toml_errors.kind, 1979,
     ),

@@ -12,8 +12,6 @@ mod integers;
 #[cfg(test)]
 mod level;
 #[cfg(test)]
-mod messages;
-#[cfg(test)]
 mod refused;
 #[cfg(test)]
 mod shown;

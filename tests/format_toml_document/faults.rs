@@ -19,8 +19,21 @@ fn from_text_says_where_and_why(rt: HostRuntime) {
     let rows = [
         ("a = 1\n", ""),
         ("a = 1\n= 2\n", "line 2, column 1: expected a key or a table"),
-        ("a = \"é\"\nb 2\n", "line 2, column 3: expected `=`"),
-        ("a = [[1]]", "line 1, column 5: expected a value"),
+        ("a = \"é\"\nb 2\n", "line 2, column 3: expected `.` or `=`"),
+        ("a = [[1]]", "line 1, column 6: expected no deeper array or inline table"),
+        ("\u{feff}a = 1", "line 1, column 1: expected no byte order mark"),
+        ("a = 'é\nb = 1", "line 1, column 7: expected a character of a string or `'`"),
+        (
+            "a = [\n 1,\n x,\n]",
+            "line 3, column 2: expected a value or `]`; unclosed from line 1, column 5",
+        ),
+        (
+            "a = \"\"\"\nb\n",
+            "line 3, column 1: expected a character of a string or `\"\"\"`; \
+             unclosed from line 1, column 5",
+        ),
+        // A syntax error comes first.
+        ("a = 1\na = 2\nb 3", "line 3, column 3: expected `.` or `=`"),
         ("a = 1\na = 2\n", "line 2, column 1: key is already defined"),
         ("a = [\n1,\n2]\n\n# b\n[a]\n", "line 6, column 1: key is already defined"),
         ("a = \"\"\"\n\n\"\"\"\r\n\na.b = 2", "line 5, column 1: key is not a table"),
@@ -68,11 +81,11 @@ fn shown_has_the_line_and_a_caret(rt: HostRuntime) {
     let rows = [
         (
             b"[server]\nport 80\n".as_slice(),
-            "parse error at line 2, column 6\n  |\n2 | port 80\n  |      ^\nexpected `=`",
+            "parse error at line 2, column 6\n  |\n2 | port 80\n  |      ^\nexpected `.` or `=`",
         ),
         (
             b"a 1".as_slice(),
-            "parse error at line 1, column 3\n  |\n1 | a 1\n  |   ^\nexpected `=`",
+            "parse error at line 1, column 3\n  |\n1 | a 1\n  |   ^\nexpected `.` or `=`",
         ),
         (
             b"a = [\n1]\na = 2".as_slice(),

@@ -29,11 +29,11 @@ fn first_stop_is_the_first_character_that_no_document_has(rt: HostRuntime) {
         ("\u{feff}a = 1", 0, None, "no byte order mark"),
         ("a = 1\r", 6, None, "a line feed"),
     ];
-    for (text, offset, begun, wanted) in rows {
+    for (text, offset, start, wanted) in rows {
         match first_stop(rt.alloc(), 1, text) {
             Ok(Some(stop)) => {
                 assert_eq!(rt; text.len() - stop.rest.len(), offset);
-                assert_eq!(rt; stop.begun, begun);
+                assert_eq!(rt; stop.unclosed.map(|rest| text.len() - rest.len()), start);
                 let said = format!(in rt.alloc(); "{}", stop.expected);
                 assert!(rt; matches!(said, Ok(said) if said.as_str() == wanted));
             }

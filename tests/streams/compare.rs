@@ -52,6 +52,9 @@ fn compare_of_bytes(rt: HostRuntime) {
         ("b", "ab", CompareResult::Error),
         ("ac", "ab", CompareResult::Error),
         ("acd", "ab", CompareResult::Error),
+        ("cb", "ab", CompareResult::Error),
+        ("0123456789", "012345678", CompareResult::Ok(9)),
+        ("01234567x9", "012345678", CompareResult::Error),
         ("x", "", CompareResult::Ok(0)),
         ("", "", CompareResult::Ok(0)),
     ] {
@@ -73,6 +76,12 @@ fn compare_of_bytes(rt: HostRuntime) {
     }
     let got = b"ab".as_slice().compare(*b"ab");
     same(&rt, "an array", "ab", got, CompareResult::Ok(2));
+    let got = b"ac".as_slice().compare(*b"ab");
+    same(&rt, "an array", "ac", got, CompareResult::Error);
+    let got = b"0123456789".as_slice().compare(*b"012345678");
+    same(&rt, "a long array", "all", got, CompareResult::Ok(9));
+    let got = b"01234567x9".as_slice().compare(*b"012345678");
+    same(&rt, "a long array", "another", got, CompareResult::Error);
     let got = b"a".as_slice().compare(b"ab");
     same(
         &rt,

@@ -23,8 +23,16 @@ use core::{fmt, str};
 #[derive(Clone, Copy, Debug, PartialEq, Eq)]
 #[non_exhaustive]
 pub enum Error {
-    /// A syntax error: the text at the offset is not as expected.
-    Unexpected(usize, Expected),
+    /// A syntax error: no document continues with the character at the offset, or the text ends there
+    /// and is incomplete. It comes before the other errors.
+    Unexpected {
+        /// The offset of that character, or the length of the text.
+        offset: usize,
+        /// The element that is expected there.
+        expected: Expected,
+        /// The offset of the innermost string, array or inline table that is not closed.
+        unclosed: Option<usize>,
+    },
     /// The standard forbids the line that starts at the offset, because of earlier lines.
     Invalid(usize, Reason),
     /// An error that is not specific to TOML.
@@ -33,19 +41,88 @@ pub enum Error {
 
 /// The expected element at an offset.
 #[derive(Clone, Copy, Debug, PartialEq, Eq)]
+#[non_exhaustive]
 pub enum Expected {
-    /// A key, or a table.
+    /// A key or a table.
+    KeyOrTable,
+    /// A key.
     Key,
-    /// The equals sign after a key.
-    EqualsSign,
-    /// A value after an equals sign, nested at most to the depth limit.
-    Value,
+    /// A key, or the brace that closes an inline table.
+    KeyOrBrace,
     /// The name of a table.
     TableName,
-    /// A bracket after the name of a table.
+    /// The equals sign after a key, or a point in the key.
+    EqualsSign,
+    /// The bracket after the name of a table, or a point in the name.
     ClosingBracket,
-    /// The end of the line.
+    /// The second bracket after the name of an array of tables.
+    SecondBracket,
+    /// A value.
+    Value,
+    /// A value, or the bracket that closes an array.
+    ValueOrBracket,
+    /// A comma, or the bracket that closes an array.
+    CommaOrBracket,
+    /// A comma, or the brace that closes an inline table.
+    CommaOrBrace,
+    /// The end of the line, or a comment.
     LineEnd,
+    /// The line feed after a carriage return.
+    LineFeed,
+    /// A character of a comment that is not a control character, or the end of the line.
+    Comment,
+    /// A character of a string, or its closing quotation mark.
+    BasicString,
+    /// A character of a literal string, or its closing quotation mark.
+    LiteralString,
+    /// A character of a multi-line string, or its three quotation marks.
+    LongBasicString,
+    /// A character of a multi-line literal string, or its three quotation marks.
+    LongLiteralString,
+    /// The character after a backslash.
+    Escape,
+    /// The character after a backslash, or the end of the line.
+    LongEscape,
+    /// The end of the line after a backslash and whitespace.
+    EscapedLineEnd,
+    /// A hexadecimal digit.
+    HexDigit,
+    /// A hexadecimal digit with which the number of a character can begin.
+    ScalarDigit,
+    /// The next letter of `true`, `false`, `inf` or `nan`.
+    Word,
+    /// A digit, `inf` or `nan`.
+    DigitOrWord,
+    /// A digit.
+    Digit,
+    /// A digit, or the sign of an exponent.
+    DigitOrSign,
+    /// A digit of an octal integer.
+    OctalDigit,
+    /// A digit of a binary integer.
+    BinaryDigit,
+    /// An integer of 64 bits: this one is too large.
+    SmallerInteger,
+    /// A year or an hour, as a number has no leading zeros.
+    YearOrHour,
+    /// A month.
+    Month,
+    /// A day of the month.
+    Day,
+    /// An hour.
+    Hour,
+    /// A minute.
+    Minute,
+    /// A second.
+    Second,
+    /// A hyphen in a date.
+    Hyphen,
+    /// A colon in a time.
+    Colon,
+    /// No opening bracket or brace: the maximum number is open.
+    NoDeeper,
+    /// No byte order mark.
+    NoByteOrderMark,
 }
 
 /// The reason why the standard forbids a line.
@@ -64,7 +141,10 @@ pub enum Reason {
 impl fmt::Display for Error {
     fn fmt(&self, f: &mut fmt::Formatter<'_>) -> fmt::Result {
         match self {
-            Error::Unexpected(offset, expected) => write!(f, "expected {expected} at offset {offset}"),
+            Error::Unexpected { offset, expected, unclosed } => {
+                write!(f, "expected {expected} at offset {offset}")?;
+                unclosed.map_or(Ok(()), |start| write!(f, ", unclosed from offset {start}"))
+            }
             Error::Invalid(offset, reason) => write!(f, "{reason} at offset {offset}"),
             Error::Other(error) => error.fmt(f),
         }
@@ -74,12 +154,46 @@ impl fmt::Display for Error {
 impl fmt::Display for Expected {
     fn fmt(&self, f: &mut fmt::Formatter<'_>) -> fmt::Result {
         f.write_str(match self {
-            Expected::Key => "a key or a table",
-            Expected::EqualsSign => "`=`",
-            Expected::Value => "a value",
+            Expected::KeyOrTable => "a key or a table",
+            Expected::Key => "a key",
+            Expected::KeyOrBrace => "a key or `}`",
             Expected::TableName => "the name of a table",
-            Expected::ClosingBracket => "`]`",
+            Expected::EqualsSign => "`.` or `=`",
+            Expected::ClosingBracket => "`.` or `]`",
+            Expected::SecondBracket => "`]`",
+            Expected::Value => "a value",
+            Expected::ValueOrBracket => "a value or `]`",
+            Expected::CommaOrBracket => "a comma or `]`",
+            Expected::CommaOrBrace => "a comma or `}`",
             Expected::LineEnd => "the end of the line",
+            Expected::LineFeed => "a line feed",
+            Expected::Comment => "a character of a comment or the end of the line",
+            Expected::BasicString => "a character of a string or `\"`",
+            Expected::LiteralString => "a character of a string or `'`",
+            Expected::LongBasicString => "a character of a string or `\"\"\"`",
+            Expected::LongLiteralString => "a character of a string or `'''`",
+            Expected::Escape => "the character of an escape",
+            Expected::LongEscape => "the character of an escape or the end of the line",
+            Expected::EscapedLineEnd => "the end of the line after `\\`",
+            Expected::HexDigit => "a hexadecimal digit",
+            Expected::ScalarDigit => "a hexadecimal digit of a Unicode scalar value",
+            Expected::Word => "the next letter of `true`, `false`, `inf` or `nan`",
+            Expected::DigitOrWord => "a digit, `inf` or `nan`",
+            Expected::Digit => "a digit",
+            Expected::DigitOrSign => "a digit or a sign",
+            Expected::OctalDigit => "a digit from 0 to 7",
+            Expected::BinaryDigit => "a digit from 0 to 1",
+            Expected::SmallerInteger => "an integer of 64 bits",
+            Expected::YearOrHour => "a year or an hour, or a number without leading zeros",
+            Expected::Month => "a month from 01 to 12",
+            Expected::Day => "a day of the month",
+            Expected::Hour => "an hour from 00 to 23",
+            Expected::Minute => "a minute from 00 to 59",
+            Expected::Second => "a second from 00 to 60",
+            Expected::Hyphen => "`-`",
+            Expected::Colon => "`:`",
+            Expected::NoDeeper => "no deeper array or inline table",
+            Expected::NoByteOrderMark => "no byte order mark",
         })
     }
 }
@@ -102,7 +216,7 @@ impl Error {
     /// Returns the offset of the error in bytes, if there is one.
     pub fn offset(&self) -> Option<usize> {
         match self {
-            Error::Unexpected(offset, _) | Error::Invalid(offset, _) => Some(*offset),
+            Error::Unexpected { offset, .. } | Error::Invalid(offset, _) => Some(*offset),
             Error::Other(error) => error.offset(),
         }
     }
@@ -120,12 +234,46 @@ impl Error {
                 let required = RequiredSize { entries: out.nodes, bytes: out.text };
                 return Error::Other(crate::Error::of(code, Some(offset), required));
             }
+            exports::TOML_ERROR_KEY_OR_TABLE => Expected::KeyOrTable,
             exports::TOML_ERROR_KEY => Expected::Key,
-            exports::TOML_ERROR_EQUALS_SIGN => Expected::EqualsSign,
-            exports::TOML_ERROR_VALUE => Expected::Value,
+            exports::TOML_ERROR_KEY_OR_BRACE => Expected::KeyOrBrace,
             exports::TOML_ERROR_TABLE_NAME => Expected::TableName,
+            exports::TOML_ERROR_EQUALS_SIGN => Expected::EqualsSign,
             exports::TOML_ERROR_CLOSING_BRACKET => Expected::ClosingBracket,
+            exports::TOML_ERROR_SECOND_BRACKET => Expected::SecondBracket,
+            exports::TOML_ERROR_VALUE => Expected::Value,
+            exports::TOML_ERROR_VALUE_OR_BRACKET => Expected::ValueOrBracket,
+            exports::TOML_ERROR_COMMA_OR_BRACKET => Expected::CommaOrBracket,
+            exports::TOML_ERROR_COMMA_OR_BRACE => Expected::CommaOrBrace,
             exports::TOML_ERROR_LINE_END => Expected::LineEnd,
+            exports::TOML_ERROR_LINE_FEED => Expected::LineFeed,
+            exports::TOML_ERROR_COMMENT => Expected::Comment,
+            exports::TOML_ERROR_BASIC_STRING => Expected::BasicString,
+            exports::TOML_ERROR_LITERAL_STRING => Expected::LiteralString,
+            exports::TOML_ERROR_LONG_BASIC_STRING => Expected::LongBasicString,
+            exports::TOML_ERROR_LONG_LITERAL_STRING => Expected::LongLiteralString,
+            exports::TOML_ERROR_ESCAPE => Expected::Escape,
+            exports::TOML_ERROR_LONG_ESCAPE => Expected::LongEscape,
+            exports::TOML_ERROR_ESCAPED_LINE_END => Expected::EscapedLineEnd,
+            exports::TOML_ERROR_HEX_DIGIT => Expected::HexDigit,
+            exports::TOML_ERROR_SCALAR_DIGIT => Expected::ScalarDigit,
+            exports::TOML_ERROR_WORD => Expected::Word,
+            exports::TOML_ERROR_DIGIT_OR_WORD => Expected::DigitOrWord,
+            exports::TOML_ERROR_DIGIT => Expected::Digit,
+            exports::TOML_ERROR_DIGIT_OR_SIGN => Expected::DigitOrSign,
+            exports::TOML_ERROR_OCTAL_DIGIT => Expected::OctalDigit,
+            exports::TOML_ERROR_BINARY_DIGIT => Expected::BinaryDigit,
+            exports::TOML_ERROR_INTEGER_TOO_LARGE => Expected::SmallerInteger,
+            exports::TOML_ERROR_YEAR_OR_HOUR => Expected::YearOrHour,
+            exports::TOML_ERROR_MONTH => Expected::Month,
+            exports::TOML_ERROR_DAY => Expected::Day,
+            exports::TOML_ERROR_HOUR => Expected::Hour,
+            exports::TOML_ERROR_MINUTE => Expected::Minute,
+            exports::TOML_ERROR_SECOND => Expected::Second,
+            exports::TOML_ERROR_HYPHEN => Expected::Hyphen,
+            exports::TOML_ERROR_COLON => Expected::Colon,
+            exports::TOML_ERROR_TOO_DEEP => Expected::NoDeeper,
+            exports::TOML_ERROR_BYTE_ORDER_MARK => Expected::NoByteOrderMark,
             exports::TOML_ERROR_DEFINED => return Error::Invalid(offset, Reason::Defined),
             exports::TOML_ERROR_NOT_A_TABLE => return Error::Invalid(offset, Reason::NotATable),
             exports::TOML_ERROR_CLOSED => return Error::Invalid(offset, Reason::Closed),
@@ -134,7 +282,8 @@ impl Error {
             }
             _ => return Error::Other(crate::Error::Unknown(code)),
         };
-        Error::Unexpected(offset, expected)
+        let start = out.unclosed_offset;
+        Error::Unexpected { offset, expected, unclosed: (start < offset).then_some(start) }
     }
 }
 

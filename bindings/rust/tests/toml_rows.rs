@@ -81,11 +81,13 @@ fn elements_have_no_names() {
 #[test]
 fn errors_say_where_and_why() {
     let rows = [
-        ("a = \"é\"\nb 2\n", "expected `=`", "line 2, column 3"),
+        ("a = \"é\"\nb 2\n", "expected `.` or `=`", "line 2, column 3"),
         ("= 2", "expected a key or a table", "line 1, column 1"),
         ("a = ", "expected a value", "line 1, column 5"),
         ("[]", "expected the name of a table", "line 1, column 2"),
-        ("[a", "expected `]`", "line 1, column 3"),
+        ("[a", "expected `.` or `]`", "line 1, column 3"),
+        ("\u{feff}", "expected no byte order mark", "line 1, column 1"),
+        ("a = 1\na = 2\nb 3", "expected `.` or `=`", "line 3, column 3"),
         ("a = 1 b = 2", "expected the end of the line", "line 1, column 7"),
         ("a = 1\na = 2\n", "key is already defined", "line 2, column 1"),
         ("a = 1\na.b = 2\n", "key is not a table", "line 2, column 1"),
@@ -98,7 +100,12 @@ fn errors_say_where_and_why() {
         assert_eq!(error.to_string(), format!("{wanted} at offset {at}"), "{text}");
         assert_eq!(error.position(text).unwrap().to_string(), place, "{text}");
     }
-    assert!(matches!(read("a 1"), Err(Error::Unexpected(2, Expected::EqualsSign))));
+    let expected = Expected::EqualsSign;
+    assert_eq!(read("a 1"), Err(Error::Unexpected { offset: 2, expected, unclosed: None }));
+    let error = read("a = [\n 1,\n x]").unwrap_err();
+    assert_eq!(error.to_string(), "expected a value or `]` at offset 11, unclosed from offset 4");
+    let (expected, unclosed) = (Expected::BasicString, Some(0));
+    assert_eq!(read("\"a"), Err(Error::Unexpected { offset: 2, expected, unclosed }));
     assert!(matches!(read("a=1\na=1"), Err(Error::Invalid(4, Reason::Defined))));
 }
 

@@ -11,11 +11,15 @@ pub mod HttpExtent
 pub mod HttpField
 pub mod Ini
 pub mod Json
+pub mod JsonDecimal
+pub mod JsonDiagnostic
 pub mod JsonInteger
+pub mod JsonMember
 pub mod JsonStep
 pub mod JsonString
 pub mod Pieces
 pub mod Resp
 pub mod Span
 pub mod Toml
+pub mod TomlErrors
 pub mod Turns

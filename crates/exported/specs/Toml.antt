@@ -1,14 +1,14 @@
 -- Documents of TOML, and where their nodes are written.
-use Rattle.std.specs.Prelude.{◌≡◌, ℕ, List, [], Option, Ok}
+use Rattle.std.specs.Prelude.{◌≡◌, ℕ, List, [], Option, Some, None, Ok}
 use Rattle.std.specs.Str.{IsUtf8, chars}
 use Rattle.std.specs.declared.alloc.Global.{Global}
 use Rattle.std.specs.declared.vec.Vec.{Vec}
 use Rattle.exported.specs.Code.{invalid, invalid_utf8, no_memory}
+use Rattle.exported.specs.TomlErrors.{expected_of, reason_of}
 use Rattle.exported.specs.declared.toml.TomlResult.{TomlResult}
 use Rattle.format_toml.specs.Toml.{DocumentText}
-use Rattle.format_toml.specs.declared.expected.Expected.{Expected}
-use Rattle.format_toml.specs.declared.expected.Expected.TheVariants as lacks
 use Rattle.format_toml_document.specs.Fault.{IsDocument, IsErrorOf}
+use Rattle.format_toml_document.specs.declared.fault.Location.{Location}
 use Rattle.format_toml_document.specs.declared.fault.TomlError.{TomlError}
 use Rattle.format_toml_document.specs.declared.fault.TomlError.TheVariants as faults
 use Rattle.format_toml_nodes.specs.Laying.{IsSizeOf}
@@ -16,55 +16,52 @@ use Rattle.format_toml_nodes.specs.Nodes.{AreNodesOf}
 use Rattle.format_toml_nodes.specs.declared.node.TomlNode.{TomlNode}
 use Rattle.format_toml_tree.specs.Holds.{HoldsTree}
 use Rattle.format_toml_tree.specs.Runs.{Gives, Tree as Given, empty}
-use Rattle.format_toml_tree.specs.declared.roles.Reason.{Reason}
-use Rattle.format_toml_tree.specs.declared.roles.Reason.TheVariants as refusals
 use Rattle.format_toml_tree.specs.declared.tree.Tree.{Tree}
 use Rattle.format_toml_tree.specs.declared.value.Item.{Item}
 
 -- ---- errors
 
--- the number of an expected element
-abbrev pub lack_of : Expected → ℕ
-lack_of lacks.Key = 1
-lack_of lacks.EqualsSign = 2
-lack_of lacks.Value = 3
-lack_of lacks.TableName = 4
-lack_of lacks.ClosingBracket = 5
-lack_of lacks.LineEnd = 6
-
--- the number of the reason why a line is invalid
-abbrev pub refusal_of : Reason → ℕ
-refusal_of refusals.Defined = 7
-refusal_of refusals.NoTable = 8
-refusal_of refusals.Closed = 9
-refusal_of refusals.NoTables = 10
-
 abbrev pub fault_of : TomlError → ℕ
-fault_of (faults.Unexpected at expected) = lack_of expected
-fault_of (faults.Invalid at why) = refusal_of why
+fault_of (faults.Unexpected at expected unclosed) = expected_of expected
+fault_of (faults.Invalid at why) = reason_of why
 fault_of (faults.NotUtf8 at) = 0
 fault_of faults.OutOfMemory = 0
 
 abbrev pub place_of : TomlError → ℕ
-place_of (faults.Unexpected at expected) = at.offset
+place_of (faults.Unexpected at expected unclosed) = at.offset
 place_of (faults.Invalid at why) = at.offset
 place_of (faults.NotUtf8 at) = at.offset
 place_of faults.OutOfMemory = 0
 
+abbrev pub start_or : Location → Option Location → ℕ
+start_or at None = at.offset
+start_or at (Some start) = start.offset
+
+-- where the innermost string or bracket starts that is not closed; or the offset of the error
+abbrev pub unclosed_of : TomlError → ℕ
+unclosed_of (faults.Unexpected at expected unclosed) = start_or at unclosed
+unclosed_of (faults.Invalid at why) = at.offset
+unclosed_of (faults.NotUtf8 at) = at.offset
+unclosed_of faults.OutOfMemory = 0
+
 -- the code that reports an error
 abbrev pub code_of : TomlError → ℕ
-code_of (faults.Unexpected at expected) = invalid
+code_of (faults.Unexpected at expected unclosed) = invalid
 code_of (faults.Invalid at why) = invalid
 code_of (faults.NotUtf8 at) = invalid_utf8
 code_of faults.OutOfMemory = no_memory
 
--- `IsFaultOf code level bytes out`: `out` has the offset and the number of an error of `bytes`, and
--- `code` reports it.
+abbrev pub HasNoError : TomlResult → Type 0
+HasNoError out = (out.error_offset ≡ 0) × (out.unclosed_offset ≡ 0) × (out.error ≡ 0)
+
+-- `IsFaultOf code level bytes out`: `out` has the offsets and the number of an error of `bytes`,
+-- and `code` reports it.
 pub record IsFaultOf (code level : ℕ) (bytes : List ℕ) (out : TomlResult) : Type 0 where
   pub fault : TomlError
   pub is_code : code_of fault ≡ code
   pub tells : IsErrorOf Global level bytes fault
   pub place : out.error_offset ≡ place_of fault
+  pub unclosed : out.unclosed_offset ≡ unclosed_of fault
   pub number : out.error ≡ fault_of fault
 
 abbrev pub IsRefusedDocument : ℕ → List ℕ → TomlResult → Type 0

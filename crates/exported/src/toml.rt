@@ -4,13 +4,16 @@ ghost use Rattle.std.specs.Prelude.{◌≡◌, ◌<◌, ◌⊎◌, ◌↔◌, le
 ghost use Rattle.exported.specs.Code.{done, invalid, invalid_utf8, max_depth_too_large, no_memory};
 ghost use Rattle.exported.specs.Code.{supported_depth};
 ghost use Rattle.exported.specs.Code.{buffer_too_small};
-ghost use Rattle.exported.specs.Toml.{IsNoText, IsRefusedDocument, ShowsDocument, ShowsTree};
-ghost use Rattle.exported.specs.Toml.{WantsDocument, WantsTree, code_of, fault_of, lack_of};
-ghost use Rattle.exported.specs.Toml.{place_of, refusal_of};
+ghost use Rattle.exported.specs.Toml.{HasNoError, IsNoText, IsRefusedDocument, ShowsDocument};
+ghost use Rattle.exported.specs.Toml.{ShowsTree, WantsDocument, WantsTree, code_of, fault_of};
+ghost use Rattle.exported.specs.Toml.{place_of, unclosed_of};
+
+pub mod errors;
 
 use crate::code::{BUFFER_TOO_SMALL, DONE, INVALID, INVALID_UTF8, MAX_DEPTH_TOO_LARGE, NO_MEMORY};
 use crate::json::MAX_DEPTH;
-use format_toml_document::{Document, Expected, Reason, TomlError, Tree, from_bytes};
+use errors::{TOML_ERROR_NONE, number_of_expected, number_of_reason};
+use format_toml_document::{Document, TomlError, Tree, from_bytes};
 pub use format_toml_nodes::node::{
     Span, TOML_ARRAY, TOML_BOOLEAN, TOML_FLOAT, TOML_INTEGER, TOML_LOCAL_DATE,
     TOML_LOCAL_DATE_TIME, TOML_LOCAL_TIME, TOML_OFFSET_DATE_TIME, TOML_STRING, TOML_TABLE,
@@ -18,40 +21,6 @@ pub use format_toml_nodes::node::{
 };
 use format_toml_nodes::nodes::{size_of, write_nodes};
 use std::alloc::Global;
-
-/// No error.
-pub const TOML_ERROR_NONE: u32 = 0;
-
-/// Expected a key or a table.
-pub const TOML_ERROR_KEY: u32 = 1;
-
-/// Expected an equals sign after the key.
-pub const TOML_ERROR_EQUALS_SIGN: u32 = 2;
-
-/// Expected a value. It may be nested no deeper than the depth limit.
-pub const TOML_ERROR_VALUE: u32 = 3;
-
-/// Expected the name of a table.
-pub const TOML_ERROR_TABLE_NAME: u32 = 4;
-
-/// Expected a bracket after the name of a table.
-pub const TOML_ERROR_CLOSING_BRACKET: u32 = 5;
-
-/// Expected the end of the line.
-pub const TOML_ERROR_LINE_END: u32 = 6;
-
-/// Key is already defined.
-pub const TOML_ERROR_DEFINED: u32 = 7;
-
-/// Key is not a table.
-pub const TOML_ERROR_NOT_A_TABLE: u32 = 8;
-
-/// Table cannot be extended. It is an inline table, or the line extends the table of a header by
-/// dotted keys.
-pub const TOML_ERROR_CLOSED: u32 = 9;
-
-/// Key is not an array of tables.
-pub const TOML_ERROR_NOT_AN_ARRAY_OF_TABLES: u32 = 10;
 
 /// The sizes of a document, or an error.
 #[repr(C)]
@@ -63,6 +32,9 @@ pub struct TomlResult {
     pub text: usize,
     /// The offset of the error in bytes; 0 otherwise.
     pub error_offset: usize,
+    /// The offset of the innermost string, array or inline table that is not closed before the
+    /// error. It is `error_offset` if there is none.
+    pub unclosed_offset: usize,
     /// The error; `TOML_ERROR_NONE` if there is none.
     pub error: u32,
 }
@@ -72,52 +44,40 @@ const NONE: TomlResult = TomlResult {
     nodes: 0,
     text: 0,
     error_offset: 0,
+    unclosed_offset: 0,
     error: TOML_ERROR_NONE,
 };
 
-/// Returns the number of an expected element.
-fn number_of_lack(expected: Expected) -> u32
-    ensures { result ≡ lack_of expected }
-{
-    match expected {
-        Expected::Key => TOML_ERROR_KEY,
-        Expected::EqualsSign => TOML_ERROR_EQUALS_SIGN,
-        Expected::Value => TOML_ERROR_VALUE,
-        Expected::TableName => TOML_ERROR_TABLE_NAME,
-        Expected::ClosingBracket => TOML_ERROR_CLOSING_BRACKET,
-        Expected::LineEnd => TOML_ERROR_LINE_END,
-    }
-}
-
-/// Returns the number of an error.
-fn number_of_refusal(why: Reason) -> u32
-    ensures { result ≡ refusal_of why }
-{
-    match why {
-        Reason::Defined => TOML_ERROR_DEFINED,
-        Reason::NoTable => TOML_ERROR_NOT_A_TABLE,
-        Reason::Closed => TOML_ERROR_CLOSED,
-        Reason::NoTables => TOML_ERROR_NOT_AN_ARRAY_OF_TABLES,
-    }
-}
-
-/// Writes an error and its offset.
+/// Writes an error and its offsets.
 fn write_fault(fault: TomlError, out: &mut TomlResult) -> u32
     ensures code { result ≡ code_of fault }
     ensures place { out.new.error_offset ≡ place_of fault }
+    ensures unclosed { out.new.unclosed_offset ≡ unclosed_of fault }
     ensures fault { out.new.error ≡ fault_of fault }
-    ensures nowhere { result ≡ no_memory
-        → (out.new.error_offset ≡ 0) × (out.new.error ≡ 0) }
+    ensures nowhere { result ≡ no_memory → HasNoError out.new }
     ensures sizes { (out.new.nodes ≡ 0) × (out.new.text ≡ 0) }
 {
-    let (place, number, code) = match fault {
-        TomlError::Unexpected { at, expected } => (at.offset, number_of_lack(expected), INVALID),
-        TomlError::Invalid { at, why } => (at.offset, number_of_refusal(why), INVALID),
-        TomlError::NotUtf8 { at } => (at.offset, TOML_ERROR_NONE, INVALID_UTF8),
-        TomlError::OutOfMemory => (0, TOML_ERROR_NONE, NO_MEMORY),
+    let (place, start, number, code) = match fault {
+        TomlError::Unexpected {
+            at,
+            expected,
+            unclosed: Some(start),
+        } => (
+            at.offset,
+            start.offset,
+            number_of_expected(expected),
+            INVALID,
+        ),
+        TomlError::Unexpected { at, expected, .. } => {
+            (at.offset, at.offset, number_of_expected(expected), INVALID)
+        }
+        TomlError::Invalid { at, why } => (at.offset, at.offset, number_of_reason(why), INVALID),
+        TomlError::NotUtf8 { at } => (at.offset, at.offset, TOML_ERROR_NONE, INVALID_UTF8),
+        TomlError::OutOfMemory => (0, 0, TOML_ERROR_NONE, NO_MEMORY),
     };
     *out = TomlResult {
         error_offset: place,
+        unclosed_offset: start,
         error: number,
         ..NONE
     };
@@ -131,7 +91,7 @@ fn write_tree<'t>(
     nodes: &mut [TomlNode],
     out: &mut TomlResult,
 ) -> u32
-    ensures nowhere { (out.new.error_offset ≡ 0) × (out.new.error ≡ 0) }
+    ensures nowhere { HasNoError out.new }
     ensures sized { WantsTree tree.now out.new }
     ensures tree { result ≡ done → ShowsTree tree.now (take out.new.text text.new)
         (take out.new.nodes nodes.new) }
@@ -169,10 +129,11 @@ fn write_tree<'t>(
 ///
 /// # Errors
 ///
-/// `INVALID`: `bytes` is not a document. The reason and the offset are written. For the first line
-/// that is not valid TOML, this is the offset of the part that is missing or invalid; for an error
-/// inside an array or an inline table, it is the start of the whole value. For a line that the
-/// standard forbids because of earlier lines, it is the start of that line.
+/// `INVALID`: `bytes` is not a document. The reason and the offset are written. For a syntax error,
+/// this is the first offset at which no document continues, or the end of the input, and the start
+/// of the innermost string, array or inline table that is not closed is written. Syntax errors come
+/// first. For a line that the standard forbids because of earlier lines, it is the start of that
+/// line. A byte order mark is an error.
 ///
 /// `INVALID_UTF8`: `bytes` is not UTF-8. The length of the longest prefix that is UTF-8 is written.
 ///
@@ -207,7 +168,7 @@ pub extern "C" fn exported_toml_document(
     ensures sized { result ≡ done → WantsDocument max_depth bytes.now out.new }
     ensures kept { (result ≡ done → ⊥) → (nodes.new ≡ nodes.old) × (text.new ≡ text.old) }
     ensures nowhere { (result ≡ invalid → ⊥) → (result ≡ invalid_utf8 → ⊥)
-        → (out.new.error_offset ≡ 0) × (out.new.error ≡ 0) }
+        → HasNoError out.new }
     ensures sizes { (result ≡ invalid → (out.new.nodes ≡ 0) × (out.new.text ≡ 0))
         × (result ≡ invalid_utf8 → (out.new.nodes ≡ 0) × (out.new.text ≡ 0)) }
     ensures refused { result ≡ invalid → IsRefusedDocument max_depth bytes.now out.new }

@@ -2,7 +2,6 @@
 pub mod DateFronts
 pub mod Digits
 pub mod Escapes
-pub mod Expected
 pub mod FloatCuts
 pub mod FloatFronts
 pub mod FloatParts
@@ -10,7 +9,6 @@ pub mod Floats
 pub mod Grammars
 pub mod Integers
 pub mod Keys
-pub mod Lacking
 pub mod Led
 pub mod Lines
 pub mod LongGrammars
@@ -20,10 +18,8 @@ pub mod LongSkips
 pub mod LongStrings
 pub mod LongTexts
 pub mod LongWhole
-pub mod Messages
 pub mod Nested
 pub mod Numbers
-pub mod Places
 pub mod Plain
 pub mod PlainAnswers
 pub mod Rows

@@ -35,7 +35,6 @@
 
 pub mod characters;
 mod escapes;
-pub mod expected;
 mod floats;
 mod gaps;
 mod integers;
@@ -43,9 +42,7 @@ mod keys;
 pub mod lines;
 mod long_parts;
 mod long_strings;
-pub mod messages;
 mod parts;
-mod passed;
 mod plain;
 mod scalars;
 pub mod starts;

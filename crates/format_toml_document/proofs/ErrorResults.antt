@@ -8,24 +8,22 @@ use Rattle.std.proofs.Common.{inl, inr, refl, sym, ap, subst, ◌∙◌, arith, 
 use Rattle.std.proofs.Math.Seq.{take-append_seam}
 use Rattle.std.proofs.lemmas.Str.{IsCharBoundary-at_seam, IsUtf8-take, encodes-append}
 use Rattle.std.proofs.lemmas.Str.{encodes-chars}
-use Rattle.format_toml.specs.Expected.{IsFirstLack}
-use Rattle.format_toml.specs.Places.{lack_end, line_end}
-use Rattle.format_toml.specs.Starts.{IsStart}
+use Rattle.format_toml.specs.Starts.{IsStart, line_end}
 use Rattle.format_toml.specs.Toml.{DocumentText}
-use Rattle.format_toml.specs.declared.expected.Lack.{Lack}
-use Rattle.format_toml_document.specs.Fault.{IsAfter, IsDocument, IsLack}
-use Rattle.format_toml_document.specs.Fault.{IsLocation}
-use Rattle.format_toml_document.specs.Fault.{IsErrorOf, IsRefusal}
+use Rattle.format_toml_document.specs.Fault.{IsAfter, IsDocument, IsErrorOf, IsLocation}
+use Rattle.format_toml_document.specs.Fault.{IsOpening, IsRefusal, IsUnexpected}
 use Rattle.format_toml_document.specs.declared.fault.TomlError.{TomlError}
 use Rattle.format_toml_document.specs.declared.fault.TomlError.TheVariants as faults
 use Rattle.format_toml_document.specs.declared.fault.Location.{Location}
+use Rattle.format_toml_errors.specs.Stop.{IsStopIn}
+use Rattle.format_toml_errors.specs.Unclosed.{IsUnclosed, text_of, unclosed_is_end}
+use Rattle.format_toml_errors.specs.declared.walk.Stop.{Stop}
 use Rattle.format_toml_tree.specs.Runs.{Gives, empty}
 use Rattle.format_toml_tree.specs.declared.build.TreeError.{TreeError}
 use Rattle.format_toml_tree.specs.declared.build.TreeError.TheVariants as built
 use Rattle.format_toml_tree.specs.declared.roles.Reason.{Reason}
 use Rattle.format_toml_tree.specs.declared.tree.Tree.{Tree}
 use Rattle.format_toml_tree.specs.declared.value.Item.{Item}
-use Rattle.winnow.specs.Grammar.Unique.{end_of_end}
 use Rattle.winnow.specs.Position.{IsPosition}
 
 pub after_of : (text rest front : List ℕ) (offset : ℕ) (at : Location) → IsUtf8 text
@@ -52,18 +50,30 @@ after_of text rest front offset at utf8 too e size location =
       subst P is (location.1 utf8 boundary),
     )
 
-module _ (A : Type 0) (level : ℕ) (text : List ℕ) where
-  pub lack_told : (lack : Lack) (at : Location) → IsFirstLack A level (chars text) (Some lack)
-      → ((front : List ℕ) → chars text ≡ front ++ chars lack.rest.now
-      → IsAfter text lack.rest.now at)
-      → IsLack A level text (faults.Unexpected at lack.expected)
-  lack_told lack at (n, line, before, lacks) after =
-      let rest = chars lack.rest.now in
-      let (front, e) =
-      end_of_end (line_end A level n (chars text) line before)
-      (lack_end A level line lack.expected rest lacks) in
-      (n, line, lack.rest.now, before, lacks, after front e)
+pub opening_told : (text : List ℕ) (stop : Stop) (start : Bor (List ℕ)) (at : Location)
+    → stop.unclosed ≡ Some start
+    → ((front : List ℕ) → chars text ≡ front ++ chars start.now → IsAfter text start.now at)
+    → IsUnclosed (chars text) (chars stop.rest.now) (text_of stop.unclosed)
+    → IsOpening text stop.rest.now (Some at)
+opening_told text stop start at is after unclosed =
+    let P : Option (Bor (List ℕ)) → Type 0 =
+    λ o. IsUnclosed (chars text) (chars stop.rest.now) (text_of o) in
+    let found : P (Some start) = subst P is unclosed in
+    let (front, e) =
+    unclosed_is_end (chars text) (chars stop.rest.now) (Some (chars start.now)) found in
+    (start.now, found, after front e)
 
+pub unexpected_told : (level : ℕ) (text : List ℕ) (stop : Stop) (at : Location)
+    (unclosed : Option Location) → IsStopIn level (chars text) (Some stop)
+    → ((front : List ℕ) → chars text ≡ front ++ chars stop.rest.now
+    → IsAfter text stop.rest.now at)
+    → (IsUnclosed (chars text) (chars stop.rest.now) (text_of stop.unclosed)
+    → IsOpening text stop.rest.now unclosed)
+    → IsUnexpected level text (faults.Unexpected at stop.expected unclosed)
+unexpected_told level text stop at unclosed (stops, starts) after opens =
+    (stop.rest.now, stops, after stops.0 stops.1.0, opens starts)
+
+module _ (A : Type 0) (level : ℕ) (text : List ℕ) where
   pub refusal_told : (n : ℕ) (why : Reason) (rest : Bor (List ℕ)) (at : Location)
       → IsStart A level (chars text) n (Some rest)
       → ((front : List ℕ) → chars text ≡ front ++ chars rest.now → IsAfter text rest.now at)
@@ -79,7 +89,7 @@ module _ (A : Type 0) (level : ℕ) (text : List ℕ) where
       → IsRefusal A level text fault told → IsErrorOf A level text told
   lines_told lines fault (faults.Invalid at why) stands refused (n, is, rest, before, after) =
       (lines, stands, (n, refused n why is, (rest, before, after)))
-  lines_told lines fault (faults.Unexpected at expected) stands refused never = absurd never
+  lines_told lines fault (faults.Unexpected at what start) stands refused never = absurd never
   lines_told lines fault (faults.NotUtf8 at) stands refused never = absurd never
   lines_told lines fault faults.OutOfMemory stands refused told = tt
 
@@ -95,7 +105,7 @@ module _ (A : Type 0) (level : ℕ) (text : List ℕ) where
       → IsDocument A level text tree → IsErrorOf A level text fault
       → (fault ≡ faults.OutOfMemory)
       ⊎ ((at : Location) × (why : Reason) × (fault ≡ faults.Invalid at why))
-  document_faults tree (faults.Unexpected at expected) utf8 (lines, stands, given) told =
+  document_faults tree (faults.Unexpected at what start) utf8 (lines, stands, given) told =
       absurd (told.0 lines stands)
   document_faults tree (faults.Invalid at why) utf8 is told = inr (at, why, refl)
   document_faults tree (faults.NotUtf8 at) utf8 is told = absurd (told.0 utf8)

@@ -3,11 +3,13 @@ use Rattle.std.specs.Prelude.{◌≡◌, ◌++◌, ℕ, List, [], Option, Some, 
 use Rattle.std.specs.Str.{IsCharBoundary, IsUtf8, chars}
 use Rattle.std.specs.Str.Lossy.{utf8_valid_len}
 use Rattle.std.specs.declared.vec.Vec.{Vec}
-use Rattle.format_toml.specs.Expected.{Lacks, LinesBefore}
+use Rattle.format_toml.specs.Starts.{LinesBefore}
 use Rattle.format_toml.specs.Toml.{DocumentText}
 use Rattle.format_toml_document.specs.declared.fault.TomlError.{TomlError}
 use Rattle.format_toml_document.specs.declared.fault.TomlError.TheVariants as faults
 use Rattle.format_toml_document.specs.declared.fault.Location.{Location}
+use Rattle.format_toml_errors.specs.Stop.{StopsAt}
+use Rattle.format_toml_errors.specs.Unclosed.{IsUnclosed}
 use Rattle.format_toml_tree.specs.Holds.{HoldsTree}
 use Rattle.format_toml_tree.specs.Runs.{Gives, Tree as Given, empty}
 use Rattle.format_toml_tree.specs.declared.build.TreeError.{TreeError}
@@ -30,7 +32,7 @@ IsAfter text rest at =
     × IsPosition (chars before) at.line at.column
 
 abbrev pub location_of : TomlError → Option Location
-location_of (faults.Unexpected at expected) = Some at
+location_of (faults.Unexpected at expected unclosed) = Some at
 location_of (faults.Invalid at why) = Some at
 location_of (faults.NotUtf8 at) = Some at
 location_of faults.OutOfMemory = None
@@ -42,6 +44,23 @@ IsBroken bytes (faults.NotUtf8 at) =
     × IsPosition (chars (take (utf8_valid_len bytes) bytes)) at.line at.column
 IsBroken bytes other = ⊥
 
+-- `IsOpening text rest unclosed`: the innermost string, array or inline table that is not closed
+-- before `rest` starts there; or all are closed.
+abbrev pub IsOpening : List ℕ → List ℕ → Option Location → Type 0
+IsOpening text rest (Some at) =
+    (start : List ℕ) × IsUnclosed (chars text) (chars rest) (Some (chars start))
+    × IsAfter text start at
+IsOpening text rest None = IsUnclosed (chars text) (chars rest) None
+
+-- The first character with which no document of the level continues, or the end of the text if all
+-- are a prefix of one; what is expected there, and what is not closed.
+abbrev pub IsUnexpected : ℕ → List ℕ → TomlError → Type 0
+IsUnexpected level text (faults.Unexpected at expected unclosed) =
+    (rest : List ℕ) × StopsAt level (chars text) (chars rest) expected × IsAfter text rest at
+    × IsOpening text rest unclosed
+IsUnexpected level text faults.OutOfMemory = ⊤
+IsUnexpected level text other = ⊥
+
 module _ (A : Type 0) (level : ℕ) (text : List ℕ) where
   -- The text is these lines, which give a tree, and places hold it.
   abbrev pub IsDocument : Tree A → Type 0
@@ -49,14 +68,6 @@ module _ (A : Type 0) (level : ℕ) (text : List ℕ) where
       (lines : Vec (Option (Item A)) A) × DocumentText level lines (chars text)
       × ((given : Given A) × Gives (empty, []) 0 lines.items (Ok given)
       × HoldsTree tree.slots.items given)
-
-  -- The missing part of the first line that is not TOML, at this position.
-  abbrev pub IsLack : TomlError → Type 0
-  IsLack (faults.Unexpected at expected) =
-      (n : ℕ) × (line : List ℕ) × (rest : List ℕ) × LinesBefore A level n (chars text) line
-      × Lacks A level line expected (chars rest) × IsAfter text rest at
-  IsLack faults.OutOfMemory = ⊤
-  IsLack other = ⊥
 
   -- The rejection of a line, at the position where it starts.
   abbrev pub IsRefusal : TreeError → TomlError → Type 0
@@ -66,13 +77,13 @@ module _ (A : Type 0) (level : ℕ) (text : List ℕ) where
   IsRefusal fault faults.OutOfMemory = ⊤
   IsRefusal fault other = ⊥
 
-  -- Why a text is not a document. It is not lines: the missing part of the first that is not TOML.
-  -- Or it is lines: the first that the standard rejects, and why. Or it is not UTF-8: its longest
-  -- prefix that is.
+  -- Why a text is not a document. It is not lines: the first character with which no document
+  -- continues, also after a line that the standard rejects. Or it is lines: the first that the
+  -- standard rejects, and why. Or it is not UTF-8: its longest prefix that is.
   abbrev pub IsErrorOf : TomlError → Type 0
-  IsErrorOf (faults.Unexpected at expected) =
+  IsErrorOf (faults.Unexpected at expected unclosed) =
       ((lines : Vec (Option (Item A)) A) → DocumentText level lines (chars text) → ⊥)
-      × IsLack (faults.Unexpected at expected)
+      × IsUnexpected level text (faults.Unexpected at expected unclosed)
   IsErrorOf (faults.Invalid at why) =
       (lines : Vec (Option (Item A)) A) × DocumentText level lines (chars text)
       × ((n : ℕ) × Gives (empty, []) 0 lines.items (Err (n, why))

@@ -1,11 +1,13 @@
 //! Errors: why a text is not a TOML document, and where.
 ghost use Rattle.std.specs.Prelude.{◌≡◌, ◌++◌, ℕ, List};
 ghost use Rattle.std.specs.Str.{IsUtf8, IsValidUpTo, chars};
-ghost use Rattle.format_toml_document.specs.Fault.{IsAfter, IsBroken, IsLack, IsLocation};
-ghost use Rattle.format_toml_document.specs.Fault.{IsRefusal, location_of};
+ghost use Rattle.format_toml_document.specs.Fault.{IsAfter, IsBroken, IsLocation, IsOpening};
+ghost use Rattle.format_toml_document.specs.Fault.{IsRefusal, IsUnexpected, location_of};
+ghost use Rattle.format_toml_errors.specs.Unclosed.{IsUnclosed, text_of};
 
-use format_toml::expected::{Expected, first_lack};
 use format_toml::starts::line_start;
+use format_toml_errors::expected::Expected;
+use format_toml_errors::walk::{Stop, first_stop};
 use format_toml_tree::build;
 use format_toml_tree::roles::Reason;
 use std::alloc::Allocator;
@@ -50,19 +52,25 @@ impl Display for Location {
 ///     return;
 /// };
 /// let said = format!(in alloc; "{fault}");
-/// assert!(rt; matches!(said, Ok(said) if said.as_str() == "line 2, column 6: expected `=`"));
+/// assert!(rt; matches!(said, Ok(said)
+///     if said.as_str() == "line 2, column 6: expected `.` or `=`"));
 /// ```
 #[derive(Clone, Copy, Debug, PartialEq, Eq, Drop)]
 pub enum TomlError {
-    /// The text is not lines of TOML. The input at the position is not the expected one.
+    /// A syntax error: no document of the level starts with the text up to the position and the
+    /// character there, or the text ends there and is incomplete. This error comes first, also if
+    /// an earlier line defines a key twice.
     Unexpected {
-        /// The place, in the first line that is none.
+        /// The position of that character, or the end of the text.
         at: Location,
-        /// The missing part of the line. For an array or an inline table the position inside it is
-        /// not reported, nor whether it is nested deeper than the level allows.
+        /// The input that is expected there instead.
         expected: Expected,
+        /// Where the innermost string, array or inline table begins that is not closed before the
+        /// position, or `None` if all are closed.
+        unclosed: Option<Location>,
     },
-    /// The text is lines of TOML, and the standard rejects the statement of one of them.
+    /// The syntax of the whole text is valid, and the standard rejects the statement of a line
+    /// because of earlier ones.
     Invalid {
         /// Where the first such line begins.
         at: Location,
@@ -114,7 +122,7 @@ impl TomlError {
     /// let shown = fault.shown(text.as_bytes());
     /// let said = format!(in alloc; "{shown}");
     /// let wanted =
-    ///     "parse error at line 2, column 6\n  |\n2 | port 80\n  |      ^\nexpected `=`";
+    ///     "parse error at line 2, column 6\n  |\n2 | port 80\n  |      ^\nexpected `.` or `=`";
     /// assert!(rt; matches!(said, Ok(said) if said.as_str() == wanted));
     /// ```
     pub fn shown<'t>(&self, text: &'t [u8]) -> Shown<'t>
@@ -127,7 +135,17 @@ impl TomlError {
     /// Writes the reason, without the position.
     fn write_why<W: fmt::Write>(&self, f: &mut Formatter<W>) -> fmt::Result {
         match *self {
-            TomlError::Unexpected { expected, .. } => write!(f, "expected {expected}"),
+            TomlError::Unexpected {
+                at,
+                expected,
+                unclosed,
+            } => {
+                write!(f, "expected {expected}")?;
+                match unclosed {
+                    Some(start) if start.line < at.line => write!(f, "; unclosed from {start}"),
+                    _ => Ok(()),
+                }
+            }
             TomlError::Invalid { why, .. } => write!(f, "{why}"),
             TomlError::NotUtf8 { .. } => f.write_str("invalid UTF-8"),
             TomlError::OutOfMemory => f.write_str("out of memory"),
@@ -186,16 +204,28 @@ fn located_at(bytes: &[u8], offset: usize) -> Location
     }
 }
 
+/// Returns where the innermost string, array or inline table begins that is not closed.
+fn opening(text: &str, stop: Stop<'_>) -> Option<Location>
+    ensures { IsUnclosed (chars text.now) (chars stop.entry.rest.now)
+        (text_of stop.entry.unclosed) → IsOpening text.now stop.entry.rest.now result }
+{
+    match stop.unclosed {
+        Some(start) => Some(located(text, start)),
+        None => None,
+    }
+}
+
 /// Returns the [`TomlError`] of a text that is not lines of TOML.
 pub(crate) fn fault_of_text<A: Allocator + Copy>(alloc: A, level: usize, text: &str) -> TomlError
-    ensures { IsLack A level text.now result }
+    ensures { IsUnexpected level text.now result }
 {
-    match first_lack(alloc, level, text) {
-        Ok(Some(lack)) => TomlError::Unexpected {
-            at: located(text, lack.rest),
-            expected: lack.expected,
-        },
-        Ok(None) | Err(_) => TomlError::OutOfMemory,
+    let Ok(Some(stop)) = first_stop(alloc, level, text) else {
+        return TomlError::OutOfMemory;
+    };
+    TomlError::Unexpected {
+        at: located(text, stop.rest),
+        expected: stop.expected,
+        unclosed: opening(text, stop),
     }
 }
 

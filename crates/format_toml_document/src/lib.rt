@@ -28,8 +28,10 @@ pub mod laws;
 pub mod read;
 
 pub use fault::{Location, Shown, TomlError};
-pub use format_toml::expected::Expected;
 pub use format_toml::values::SAFE_DEPTH;
+pub use format_toml_errors::expected::Expected;
+pub use format_toml_errors::figures::Base;
+pub use format_toml_errors::modes::Mark;
 pub use format_toml_tree::node::Node;
 pub use format_toml_tree::roles::Reason;
 pub use format_toml_tree::tree::Tree;

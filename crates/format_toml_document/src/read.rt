@@ -53,10 +53,11 @@ fn wants_memory<'i>(fault: &ParseFault<&'i str, EmptyError>) -> bool
 /// `document`. The arrays and inline tables of values are nested at most `level` deep. Each level
 /// uses some of the stack: up to [`SAFE_DEPTH`](crate::SAFE_DEPTH) two megabytes suffice.
 ///
-/// If a line is not TOML, the [`TomlError`] gives the position of the first such line's missing
-/// part, and the input that is expected there. Otherwise it gives the line that the standard
-/// rejects because of those before it, and why; or memory allocation failed. A second pass over the
-/// text finds the position.
+/// If the syntax is invalid, the [`TomlError`] gives the first position at which no document
+/// continues, the input that is expected there, and what is not closed. This error comes first:
+/// only if the syntax of the whole text is valid, the [`TomlError`] gives the first line that the
+/// standard rejects because of those before it, and why. Or memory allocation failed. A second pass
+/// over the text finds the position. A byte order mark is an error, at the start too.
 ///
 /// ```
 /// use format_toml_document::{Document, Expected, TomlError, from_text};
@@ -66,8 +67,8 @@ fn wants_memory<'i>(fault: &ParseFault<&'i str, EmptyError>) -> bool
 ///     from_text(alloc, 1, "[a]\nb = 2\n", &mut document),
 ///     Ok(tree) if tree.root().len() == 1));
 /// let fault = from_text(alloc, 1, "[a]\nb 2\n", &mut document);
-/// assert!(rt; matches!(fault, Err(TomlError::Unexpected { at, expected: Expected::EqualsSign })
-///     if at.line == 2 && at.column == 3));
+/// assert!(rt; matches!(fault, Err(TomlError::Unexpected { at, expected, .. })
+///     if at.line == 2 && at.column == 3 && expected == Expected::EqualsSign));
 /// ```
 pub fn from_text<'l, A: Allocator + Copy>(
     alloc: A,

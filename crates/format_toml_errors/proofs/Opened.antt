@@ -1,4 +1,4 @@
--- The open brackets as they are kept: that which was opened last is last.
+-- The open brackets and their starts as they are kept: that which was opened last is last.
 use Rattle.std.specs.Prelude.{◌≡◌, ◌++◌, ◌+◌, ◌-◌, ℕ, List, [], ◌∷◌}
 use Rattle.std.specs.Prelude.{MatchOption, None, Option, Some, length, slice_get}
 use Rattle.std.specs.Option.{option_to_list}
@@ -6,20 +6,19 @@ use Rattle.std.proofs.Common.{refl, sym, ap, ◌∙◌, arith, length-append}
 use Rattle.std.proofs.lemmas.List.{nil_from_length, same_from_push}
 use Rattle.std.proofs.Math.Seq.{get_or-append_seam}
 use Rattle.std.proofs.lemmas.Option.{slice_get-get_or}
-use Rattle.format_toml_errors.specs.Stop.{last_open, others_open}
-use Rattle.format_toml_errors.specs.declared.modes.Bracket.{Bracket}
+use Rattle.format_toml_errors.specs.Unclosed.{last_open, others_open}
 
 -- the other way round
-abbrev pub kept : List Bracket → List Bracket
+abbrev pub kept : {T : Type 0} → List T → List T
 kept [] = []
 kept (bracket ∷ held) = kept held ++ bracket ∷ []
 
-pub kept_length : (held : List Bracket) → length (kept held) ≡ length held
+pub kept_length : {T : Type 0} (held : List T) → length (kept held) ≡ length held
 kept_length [] = refl
 kept_length (bracket ∷ held) =
     omega (arith, length-append (kept held) (bracket ∷ []), kept_length held)
 
-pub kept_last : (held : List Bracket)
+pub kept_last : {T : Type 0} (held : List T)
     → slice_get (kept held) (length (kept held) - 1) ≡ last_open held
 kept_last [] = refl
 kept_last (bracket ∷ held) =
@@ -31,7 +30,7 @@ kept_last (bracket ∷ held) =
     ∙ ap (λ x. Some x) (get_or-append_seam (kept held) bracket [] bracket)
 
 -- what is left where the last one is taken away
-pub kept_others : (held new : List Bracket) (o : Option Bracket) (n m : ℕ)
+pub kept_others : {T : Type 0} (held new : List T) (o : Option T) (n m : ℕ)
     → kept held ≡ new ++ option_to_list o → n ≡ length (kept held)
     → MatchOption o ((n ≡ 0) × (m ≡ 0)) (λ _. m + 1 ≡ n) → new ≡ kept (others_open held)
 kept_others [] new None n m e size none =

@@ -1,7 +1,6 @@
 -- The walk over the characters of a text: what it has come to, and the place where it stops.
 use Rattle.std.specs.Prelude.{◌≡◌, ◌↔◌, ◌<◌, ◌≤◌, ◌-◌, ◌++◌, ℕ, List, [], ◌∷◌, Option}
-use Rattle.std.specs.Prelude.{MatchOption, None, Some, length, slice_get, true, false}
-use Rattle.std.specs.Str.{chars}
+use Rattle.std.specs.Prelude.{None, Some, length, slice_get, true, false}
 use Rattle.std.proofs.Common.{ap, append_assoc, arith, inl, inr, refl, subst, sym}
 use Rattle.std.proofs.Common.{◌∙◌}
 use Rattle.std.proofs.lemmas.List.{append-nil}
@@ -9,8 +8,8 @@ use Rattle.format_toml_errors.proofs.Opened.{kept, kept_last, kept_length}
 use Rattle.format_toml_errors.specs.Expected.{wanted, wanted_at}
 use Rattle.format_toml_errors.specs.Steps.{next_step}
 use Rattle.format_toml_errors.specs.Stop.{IsAccepted, IsNextStep, IsViablePrefix, IsWanted, LeadsTo}
-use Rattle.format_toml_errors.specs.Stop.{IsStopIn, MayBegin, StopsAt, ends_line, last_open}
-use Rattle.format_toml_errors.specs.Stop.{opened, others_open}
+use Rattle.format_toml_errors.specs.Stop.{MayBegin, StopsAt, ends_line}
+use Rattle.format_toml_errors.specs.Unclosed.{last_open, opened, others_open}
 use Rattle.format_toml_errors.specs.declared.expected.Expected.{Expected}
 use Rattle.format_toml_errors.specs.declared.expected.Expected.TheVariants as what
 use Rattle.format_toml_errors.specs.declared.modes.Bracket.{Bracket}
@@ -18,10 +17,9 @@ use Rattle.format_toml_errors.specs.declared.modes.Mode.{Mode}
 use Rattle.format_toml_errors.specs.declared.modes.Mode.TheVariants as modes
 use Rattle.format_toml_errors.specs.declared.modes.Step.{Step}
 use Rattle.format_toml_errors.specs.declared.modes.Step.TheVariants as steps
-use Rattle.format_toml_errors.specs.declared.walk.Stop.{Stop}
 
 -- the bracket that was opened last, as it is kept
-pub top_open : (held items : List Bracket) (last : Option Bracket) → items ≡ kept held
+pub top_open : {T : Type 0} (held items : List T) (last : Option T) → items ≡ kept held
     → last ≡ slice_get items (length items - 1) → last ≡ last_open held
 top_open held items last same is =
     is ∙ ap (λ l. slice_get l (length l - 1)) same ∙ kept_last held
@@ -193,17 +191,3 @@ module _ {level : ℕ} {tokens left : List ℕ} {mode : Mode} {items : List Brac
             (λ x. ((led (steps.Opens k) e l).1 x).1),
           );
         })
-
--- at the end of the text: it may end there or not
-module _ {level : ℕ} {tokens : List ℕ} (bytes : List ℕ) {mode : Mode} {items : List Bracket}
-    (w : Walked level tokens (chars bytes) mode items) (none : chars bytes ≡ [])
-    (last : Option Bracket) (is : last ≡ slice_get items (length items - 1)) where
-  pub at_last : (o : Option Stop)
-      → MatchOption o (ends_line mode last ≡ true)
-      (λ stop. (ends_line mode last ≡ false) × (stop.rest.now ≡ bytes)
-      × (stop.expected ≡ wanted mode last))
-      → IsStopIn level tokens o
-  at_last None ends = at_accepted w none last is ends
-  at_last (Some stop) (not_end, same, wants) =
-      let P : List ℕ → Type 0 = λ l. StopsAt level tokens (chars l) stop.expected in
-      subst P (sym same) (at_end w none last is stop.expected wants not_end)

@@ -5,3 +5,4 @@ pub mod Figures
 pub mod Moments
 pub mod Steps
 pub mod Stop
+pub mod Unclosed

@@ -4,10 +4,10 @@ use Rattle.std.specs.Prelude.{length, ⊤, Bool, true, false}
 use Rattle.std.specs.Str.{chars}
 use Rattle.format_toml_errors.specs.Expected.{wanted, wanted_at}
 use Rattle.format_toml_errors.specs.Steps.{next_step}
+use Rattle.format_toml_errors.specs.Unclosed.{IsUnclosed, last_open, opened, others_open, text_of}
 use Rattle.format_toml_errors.specs.declared.expected.Expected.{Expected}
 use Rattle.format_toml_errors.specs.declared.expected.Expected.TheVariants as what
 use Rattle.format_toml_errors.specs.declared.modes.Bracket.{Bracket}
-use Rattle.format_toml_errors.specs.declared.modes.Bracket.TheVariants as brackets
 use Rattle.format_toml_errors.specs.declared.modes.Mode.{Mode}
 use Rattle.format_toml_errors.specs.declared.modes.Mode.TheVariants as modes
 use Rattle.format_toml_errors.specs.declared.modes.Step.{Step}
@@ -16,19 +16,6 @@ use Rattle.format_toml_errors.specs.declared.modes.Step.TheVariants.{Invalid}
 use Rattle.format_toml_errors.specs.declared.walk.Stop.{Stop}
 
 -- ---- the walk
-
--- the bracket that was opened last
-abbrev pub last_open : List Bracket → Option Bracket
-last_open [] = None
-last_open (bracket ∷ held) = Some bracket
-
-abbrev pub others_open : List Bracket → List Bracket
-others_open [] = []
-others_open (bracket ∷ held) = held
-
-abbrev pub opened : Bracket → Mode
-opened brackets.Array = modes.Item
-opened brackets.Table = modes.FirstName
 
 abbrev pub IsNextStep : (Mode → List Bracket → Type 0) → ℕ → List Bracket → Step → Type 0
 IsNextStep on level held Invalid = ⊥
@@ -104,4 +91,6 @@ IsAccepted level tokens =
 
 abbrev pub IsStopIn : ℕ → List ℕ → Option Stop → Type 0
 IsStopIn level tokens None = IsAccepted level tokens
-IsStopIn level tokens (Some stop) = StopsAt level tokens (chars stop.rest.now) stop.expected
+IsStopIn level tokens (Some stop) =
+    StopsAt level tokens (chars stop.rest.now) stop.expected
+    × IsUnclosed tokens (chars stop.rest.now) (text_of stop.unclosed)

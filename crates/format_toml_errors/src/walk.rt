@@ -1,6 +1,8 @@
 //! The walk over the characters of a text.
-ghost use Rattle.format_toml_errors.specs.Stop.{IsStopIn, ends_line, opened};
 ghost use Rattle.format_toml_errors.specs.Expected.{wanted};
+ghost use Rattle.format_toml_errors.specs.Stop.{IsStopIn, ends_line};
+ghost use Rattle.format_toml_errors.specs.Unclosed.{continues, is_in_string, opened, start_after};
+ghost use Rattle.format_toml_errors.specs.Unclosed.{text_of, unclosed_in};
 ghost use Rattle.std.specs.Prelude.{◌≡◌, ◌∷◌, [], IfOk, MatchOption, true, false};
 ghost use Rattle.std.specs.Str.{chars};
 
@@ -16,7 +18,8 @@ use std::alloc::{AllocError, Allocator};
 /// use format_toml_errors::walk::{Stop, first_stop};
 ///
 /// let stop = first_stop(alloc, 1, "a = [1 2]");
-/// let wanted = Stop { rest: "2]", expected: Expected::CommaOrBracket, begun: Some(4) };
+/// let unclosed = Some("[1 2]");
+/// let wanted = Stop { rest: "2]", expected: Expected::CommaOrBracket, unclosed };
 /// assert!(rt; matches!(stop, Ok(Some(stop)) if stop == wanted));
 /// ```
 #[derive(Clone, Copy, Debug, PartialEq, Eq, Drop)]
@@ -25,8 +28,9 @@ pub struct Stop<'i> {
     pub rest: &'i str,
     /// The input that is expected there.
     pub expected: Expected,
-    /// The offset of the innermost string, array or inline table that is not closed before it.
-    pub begun: Option<usize>,
+    /// The text from the start of the innermost string, array or inline table that is not closed
+    /// before that offset, or `None` if all are closed.
+    pub unclosed: Option<&'i str>,
 }
 
 /// Returns the first character and the text after it.
@@ -47,7 +51,9 @@ fn ends_line(mode: Mode, held: Option<Bracket>) -> bool
 }
 
 /// Returns whether this mode is in a string.
-fn is_in_string(mode: Mode) -> bool {
+fn is_in_string(mode: Mode) -> bool
+    ensures { result ≡ is_in_string mode }
+{
     match mode {
         Mode::Basic(_)
         | Mode::Escaped(_, _)
@@ -62,15 +68,27 @@ fn is_in_string(mode: Mode) -> bool {
 }
 
 /// Returns whether the next character does not begin a string in this mode.
-fn continues(mode: Mode) -> bool {
+fn continues(mode: Mode) -> bool
+    ensures { result ≡ continues mode }
+{
     match mode {
         Mode::Quotes(_) => true,
         other => is_in_string(other),
     }
 }
 
-/// Returns the offset of the innermost string, array or inline table that is not closed.
-fn begun_in(mode: Mode, start: usize, outer: Option<usize>) -> Option<usize> {
+/// Returns the text from the start of the last string on, if the next character is that of `here`.
+fn start_after<'i>(mode: Mode, start: &'i str, here: &'i str) -> &'i str
+    ensures { chars result.now ≡ start_after mode (chars start.now) (chars here.now) }
+{
+    if continues(mode) { start } else { here }
+}
+
+/// Returns the text from the start of the innermost string, array or inline table that is not
+/// closed.
+fn unclosed_in<'i>(mode: Mode, start: &'i str, outer: Option<&'i str>) -> Option<&'i str>
+    ensures { text_of result ≡ unclosed_in mode (chars start.now) (text_of outer.entry) }
+{
     if is_in_string(mode) {
         Some(start)
     } else {
@@ -93,11 +111,11 @@ fn at_end<'i>(
     mode: Mode,
     held: Option<Bracket>,
     rest: &'i str,
-    begun: Option<usize>,
+    unclosed: Option<&'i str>,
 ) -> Option<Stop<'i>>
     ensures { MatchOption result (ends_line mode held ≡ true)
         (λ stop. (ends_line mode held ≡ false) × (stop.rest.now ≡ rest.now)
-        × (stop.expected ≡ wanted mode held)) }
+        × (stop.expected ≡ wanted mode held) × (stop.unclosed ≡ unclosed.entry)) }
 {
     if ends_line(mode, held) {
         return None;
@@ -105,7 +123,7 @@ fn at_end<'i>(
     Some(Stop {
         rest,
         expected: wanted(mode, held),
-        begun,
+        unclosed,
     })
 }
 
@@ -116,7 +134,7 @@ fn at_end<'i>(
 ///
 /// Keys are not compared: a document may define one twice.
 ///
-/// Fails if memory allocation fails: a byte and an offset are held for each open bracket.
+/// Fails if memory allocation fails: a byte and a reference are held for each open bracket.
 ///
 /// ```
 /// use format_toml_errors::expected::Expected;
@@ -124,7 +142,7 @@ fn at_end<'i>(
 ///
 /// let stop = first_stop(alloc, 1, "a = \"b");
 /// assert!(rt; matches!(stop, Ok(Some(stop))
-///     if stop.rest.is_empty() && stop.begun == Some(4)));
+///     if stop.rest.is_empty() && stop.unclosed == Some("\"b")));
 /// assert!(rt; matches!(first_stop(alloc, 1, "a = \"b\""), Ok(None)));
 /// ```
 pub fn first_stop<'i, A: Allocator + Copy>(
@@ -135,22 +153,21 @@ pub fn first_stop<'i, A: Allocator + Copy>(
     ensures { IfOk result (λ stop. IsStopIn level (chars text.now) stop) }
 {
     let mut brackets: Vec<Bracket, A> = Vec::new(alloc);
-    let mut starts: Vec<usize, A> = Vec::new(alloc);
-    let mut start = 0;
+    let mut starts: Vec<&'i str, A> = Vec::new(alloc);
+    let mut start = text;
     let mut mode = Mode::Line;
     let mut left = text;
     'characters: while let Some((first, more)) = split_first(left) {
         let held = brackets.last().copied();
-        let here = text.len().saturating_sub(left.len());
-        start = if continues(mode) { start } else { here };
-        let begun = begun_in(mode, start, starts.last().copied());
+        start = start_after(mode, start, left);
+        let unclosed = unclosed_in(mode, start, starts.last().copied());
         match next_step(mode, held, first) {
             Step::Invalid => {
                 let expected = wanted_at(mode, held, first);
                 return Ok(Some(Stop {
                     rest: left,
                     expected,
-                    begun,
+                    unclosed,
                 }));
             }
             Step::Goes(next) => mode = next,
@@ -160,11 +177,11 @@ pub fn first_stop<'i, A: Allocator + Copy>(
                     return Ok(Some(Stop {
                         rest: left,
                         expected,
-                        begun,
+                        unclosed,
                     }));
                 }
                 brackets.push(bracket)?;
-                starts.push(here)?;
+                starts.push(left)?;
                 mode = opened(bracket);
             }
             Step::Closes => {
@@ -176,6 +193,6 @@ pub fn first_stop<'i, A: Allocator + Copy>(
         }
         left = more;
     }
-    let begun = begun_in(mode, start, starts.last().copied());
-    Ok(at_end(mode, brackets.last().copied(), left, begun))
+    let unclosed = unclosed_in(mode, start, starts.last().copied());
+    Ok(at_end(mode, brackets.last().copied(), left, unclosed))
 }

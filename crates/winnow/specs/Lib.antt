@@ -115,7 +115,6 @@ pub use Rattle.winnow_core.specs.CompleteErr
 pub use Rattle.winnow_core.specs.Context
 pub use Rattle.winnow_core.specs.ContextWith
 pub use Rattle.winnow_core.specs.Decided
-pub use Rattle.winnow_core.specs.Decides
 pub use Rattle.winnow_core.specs.DefaultValue
 pub use Rattle.winnow_core.specs.Eof
 pub use Rattle.winnow_core.specs.ErrInto

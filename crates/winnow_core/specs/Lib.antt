@@ -8,7 +8,6 @@ pub mod CompleteErr
 pub mod Context
 pub mod ContextWith
 pub mod Decided
-pub mod Decides
 pub mod DefaultValue
 pub mod Elements
 pub mod Ends

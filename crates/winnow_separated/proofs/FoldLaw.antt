@@ -33,7 +33,7 @@ FailsAt run separator from t j = LinkFails run separator from.0 from.1 backtrack
 
 onward : {S T O : Type 0} (run : Runs S T O) (s t u : S) (i j : Input T) (o : O)
     → Reaches run s t → run t i (Ok o) u j → Reaches run s u
-onward run s t u i j o (calls, leads) ran = ((i, o, j) ∷ calls, t, leads, ran)
+onward run s t u i j o (calls, leads) ran = ((i, o, j) ∷ calls, (t, leads, ran))
 
 -- An element's and a separator's state that those reach.
 abbrev At : {S W T O D : Type 0} → Runs S T O → Runs W T D → S → W → S × W → Type 0

@@ -12,7 +12,7 @@ use Rattle.winnow_separated.specs.SeparatedFoldr1.{FoldsRight}
 abbrev pub Leads : {S T O : Type 0} → Runs S T O → S → List (Input T × O × Input T) → S → Type 0
 Leads run s [] t = t ≡ s
 Leads {S} run s (call ∷ calls) t =
-    (u : S) × Leads run s calls u × run u call.0 (Ok call.1.0) t call.1.1
+    (u : S) × Leads run s calls u × run u call.0 (Ok call.1) t call.2
 
 -- `Reaches run s t`: zero or more successful calls lead from the state `s` to `t`.
 abbrev pub Reaches : {S T O : Type 0} → Runs S T O → S → S → Type 0

@@ -1,7 +1,7 @@
 use denote.Text.{Utf8}
 use denote.Shadow.{shadow}
 use Rattle.std.specs.Str.{chars}
-use Rattle.format_toml.specs.Expected.{LinesBefore}
+use Rattle.format_toml.specs.Starts.{LinesBefore}
 use Rattle.format_toml.specs.contracts.starts.line_start.{A-type}
 use Rattle.format_toml.proofs.starts.line_start.Given as goal
 

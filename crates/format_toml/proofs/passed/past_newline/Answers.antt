@@ -1,5 +1,0 @@
-use Rattle.format_toml.proofs.passed.past_newline.Goals as goal
-
-pub returns : goal.returns
-returns c =
-    rw (c.alt.ensures, c.preceded.ensures.ignored, c.preceded.ensures.parser) at c.past.ensures
