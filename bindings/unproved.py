@@ -12,7 +12,8 @@ import tempfile
 
 TOP = pathlib.Path(__file__).resolve().parent.parent
 sys.path[:0] = [str(TOP / "scripts"), str(TOP / "bench")]
-from header import SOURCE, items, kind_of  # noqa: E402
+from exports import SOURCE, items  # noqa: E402
+from header import kind_of  # noqa: E402
 from laid import copy_crate  # noqa: E402
 from llvm import compiled  # noqa: E402
 from registry import common  # noqa: E402

@@ -1501,12 +1501,10 @@ enum pergidau_code pergidau_ini_document(
  * UTF-8. A value of several lines is returned as a pair, and one PERGIDAU_INI_MORE for each
  * further line.
  *
- * PERGIDAU_END: there are no more entries.
- *
- * Only PERGIDAU_DONE writes a kind and spans. After another code, a further call returns the
- * same. Lines are checked one at a time, so entries before a line that is not UTF-8 are
- * returned. If state belongs to other bytes or was modified, the result may be wrong, but
- * nothing outside bytes is read.
+ * PERGIDAU_END: there are no more entries. Only PERGIDAU_DONE writes a kind and spans. After
+ * another code, a further call returns the same. Lines are checked one at a time, so entries
+ * before a line that is not UTF-8 are returned. If state belongs to other bytes or was
+ * modified, the result may be wrong, but nothing outside bytes is read.
  *
  * # Errors
  *

@@ -4,6 +4,8 @@
 #[cfg(test)]
 mod faults;
 #[cfg(test)]
+mod rejected;
+#[cfg(test)]
 mod suite;
 #[cfg(test)]
 mod values;

@@ -5,6 +5,9 @@
 mod callers;
 
 #[cfg(test)]
+mod functions;
+
+#[cfg(test)]
 mod lexed;
 
 #[cfg(test)]

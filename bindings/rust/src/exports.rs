@@ -1483,12 +1483,10 @@ extern "C" {
     /// `DONE`: the kind of the entry and the spans of its texts are written. Its line is UTF-8. A value
     /// of several lines is returned as a pair, and one `INI_MORE` for each further line.
     ///
-    /// `END`: there are no more entries.
-    ///
-    /// Only `DONE` writes a kind and spans. After another code, a further call returns the same. Lines
-    /// are checked one at a time, so entries before a line that is not UTF-8 are returned. If `state`
-    /// belongs to other bytes or was modified, the result may be wrong, but nothing outside `bytes` is
-    /// read.
+    /// `END`: there are no more entries. Only `DONE` writes a kind and spans. After another code, a
+    /// further call returns the same. Lines are checked one at a time, so entries before a line that is
+    /// not UTF-8 are returned. If `state` belongs to other bytes or was modified, the result may be
+    /// wrong, but nothing outside `bytes` is read.
     ///
     /// # Errors
     ///

@@ -1,0 +1,106 @@
+"""Reads the exports of the crate `exported`, for scripts/header.py."""
+import dataclasses
+import pathlib
+import re
+
+TOP = pathlib.Path(__file__).resolve().parent.parent
+SOURCE = TOP / "crates/exported/src"
+EXPORT = re.compile(r'pub extern "C" fn exported_(\w+)\(\s*(.*?)\s*\)\s*->\s*u32\b', re.DOTALL)
+CONSTANT = re.compile(r"pub const (\w+): (u32|usize) = (\d+);")
+TAKEN = re.compile(r"pub use (\w+)::(\w+)::\{?([\w,\s]+)\}?;")
+STRUCT = re.compile(r"pub struct (\w+) \{\n(.*?)\n\}", re.DOTALL)
+
+
+@dataclasses.dataclass
+class Item:
+    """A constant, a struct or a function: its name, its documentation, and its value, fields or
+    parameters. Types of fields and parameters are Rust's."""
+
+    name: str
+    words: list
+    parts: list
+
+
+def pairs(text):
+    """Returns the names and types of a list of parameters."""
+    return [tuple(part.strip().split(": ", 1)) for part in text.split(",\n" if "\n" in text else ",")
+            if part.strip()]
+
+
+def fields(text):
+    """Returns the fields of a struct with their documentation."""
+    words = []
+    for line in text.splitlines():
+        line = line.strip()
+        if line.startswith("///"):
+            words.append(line[3:].strip())
+        elif found := re.match(r"pub (\w+): (\w+),", line):
+            yield Item(found[1], words, [found[2]])
+            words = []
+
+
+def documented(text):
+    """Returns the items of a file: the kind, the match, and the documentation."""
+    words = []
+    lines = text.splitlines(keepends=True)
+    for number, line in enumerate(lines):
+        rest = "".join(lines[number:])
+        if line.startswith("///"):
+            words.append(line[3:].strip())
+        elif line.startswith("#"):
+            continue
+        else:
+            for kind, form in (("code", CONSTANT), ("struct", STRUCT), ("export", EXPORT)):
+                if found := form.match(rest):
+                    yield kind, found, words
+            if found := TAKEN.match(rest):
+                yield from taken(*found.groups())
+            words = []
+
+
+def taken(crate, module, names):
+    """Returns the named structs and constants of a module of a crate below `exported`, in the order
+    of the module."""
+    text = (TOP / f"crates/{crate}/src/{module}.rt").read_text(encoding="utf-8")
+    for kind, found, words in documented(text):
+        if kind in ("code", "struct") and found[1] in re.findall(r"\w+", names):
+            yield kind, found, words[:words.index("```") - 1] if "```" in words else words
+
+
+def modules(path):
+    """Returns the modules that a file declares, and their submodules, as paths."""
+    inside = path.parent if path.name == "lib.rt" else path.with_suffix("")
+    for name in re.findall(r"pub mod (\w+);", path.read_text(encoding="utf-8")):
+        yield str((inside / name).relative_to(SOURCE))
+        yield from modules(inside / f"{name}.rt")
+
+
+def snake(name):
+    """Returns the name of a struct in C."""
+    return "pergidau_" + re.sub(r"(?<!^)([A-Z])", r"_\1", name).lower()
+
+
+def items():
+    """Returns the codes, the other constants, the structs and the exports, in the order of their
+    files."""
+    codes, constants, structs, exports = [], [], [], []
+    names = list(modules(SOURCE / "lib.rt"))
+    for name in ["code", "span", *(it for it in names if it not in ("code", "span"))]:
+        for kind, found, words in documented((SOURCE / f"{name}.rt").read_text(encoding="utf-8")):
+            if kind == "code":
+                put = codes if name == "code" else constants
+                put.append(Item(found[1], words, [found[3], found[2]]))
+            elif kind == "struct":
+                made = Item(found[1], words, list(fields(found[2])))
+                of_name = [it for it in structs if it.name == made.name]
+                if any([part.parts for part in it.parts] != [part.parts for part in made.parts]
+                       for it in of_name):
+                    raise SystemExit(f"two structs {made.name} differ")
+                structs += [] if of_name else [made]
+            else:
+                made = [it for it in pairs(found[2]) if it[1].rstrip(",") != "Global"]
+                exports.append(Item(found[1], words, [(n, t.rstrip(",")) for n, t in made]))
+    # In C++ a struct that has the name of a function is named with `struct` alone.
+    for name in {snake(it.name) for it in structs} & {f"pergidau_{it.name}" for it in exports}:
+        raise SystemExit(f"a struct and a function have the name {name}")
+    return codes, constants, structs, exports
