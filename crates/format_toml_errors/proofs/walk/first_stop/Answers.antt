@@ -88,7 +88,8 @@ characters-preserved-in-Closes g c =
     c.characters.brackets.len c.pop.new.self.len (sym u.same ∙ c.pop.ensures.items)
     (c.characters.brackets.ok.0 ∙ ap (λ l. length l) u.same) c.pop.ensures.cases in
     let placed = kept_others u.starts c.pop-in-Closes.new.self.items c.pop-in-Closes.result
-    c.characters.starts.len c.pop-in-Closes.new.self.len (sym u.placed ∙ c.pop-in-Closes.ensures.items)
+    c.characters.starts.len c.pop-in-Closes.new.self.len
+    (sym u.placed ∙ c.pop-in-Closes.ensures.items)
     (c.characters.starts.ok.0 ∙ ap (λ l. length l) u.placed) c.pop-in-Closes.ensures.cases in (
       search rules,
       search rules,
@@ -99,8 +100,8 @@ characters-preserved-in-Closes g c =
       closes u c.in-Some.ensures c.copied-held.result
           (c.copied-held.ensures ∙ c.last.ensures.value
           ∙ ap (λ l. slice_get l (length l - 1)) c.deref.ensures.value)
-          _ c.start_after-start.ensures c.pop.new.self.items c.pop-in-Closes.new.self.items c.in-Closes.ensures
-          same placed,
+          _ c.start_after-start.ensures c.pop.new.self.items c.pop-in-Closes.new.self.items
+          c.in-Closes.ensures same placed,
     )
 
 pub characters-preserved : goal.characters-preserved
