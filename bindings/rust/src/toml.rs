@@ -576,7 +576,7 @@ impl<'b> Iterator for Children<'b> {
 ///
 /// let (mut text, mut nodes) = ([0; 64], [Node::default(); 8]);
 /// let error = toml::parse("[a]\nb 2\n", 0, &mut text, &mut nodes).unwrap_err();
-/// assert_eq!(error.to_string(), "expected `=` at offset 6");
+/// assert_eq!(error.to_string(), "expected `.` or `=` at offset 6");
 /// assert_eq!(error.position("[a]\nb 2\n").unwrap().to_string(), "line 2, column 3");
 /// let error = toml::parse("a = 1\na = 2\n", 0, &mut text, &mut nodes).unwrap_err();
 /// assert_eq!(error.to_string(), "key is already defined at offset 6");

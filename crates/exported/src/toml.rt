@@ -6,14 +6,14 @@ ghost use Rattle.exported.specs.Code.{supported_depth};
 ghost use Rattle.exported.specs.Code.{buffer_too_small};
 ghost use Rattle.exported.specs.Toml.{HasNoError, IsNoText, IsRefusedDocument, ShowsDocument};
 ghost use Rattle.exported.specs.Toml.{ShowsTree, WantsDocument, WantsTree, code_of, fault_of};
-ghost use Rattle.exported.specs.Toml.{place_of, unclosed_of};
+ghost use Rattle.exported.specs.Toml.{place_of, start_or, unclosed_of};
 
 pub mod errors;
 
 use crate::code::{BUFFER_TOO_SMALL, DONE, INVALID, INVALID_UTF8, MAX_DEPTH_TOO_LARGE, NO_MEMORY};
 use crate::json::MAX_DEPTH;
 use errors::{TOML_ERROR_NONE, number_of_expected, number_of_reason};
-use format_toml_document::{Document, TomlError, Tree, from_bytes};
+use format_toml_document::{Document, Location, TomlError, Tree, from_bytes};
 pub use format_toml_nodes::node::{
     Span, TOML_ARRAY, TOML_BOOLEAN, TOML_FLOAT, TOML_INTEGER, TOML_LOCAL_DATE,
     TOML_LOCAL_DATE_TIME, TOML_LOCAL_TIME, TOML_OFFSET_DATE_TIME, TOML_STRING, TOML_TABLE,
@@ -48,6 +48,16 @@ const NONE: TomlResult = TomlResult {
     error: TOML_ERROR_NONE,
 };
 
+/// Returns the offset of what is not closed, or that of the error.
+fn start_or(at: Location, unclosed: Option<Location>) -> usize
+    ensures { result ≡ start_or at unclosed }
+{
+    match unclosed {
+        Some(start) => start.offset,
+        None => at.offset,
+    }
+}
+
 /// Writes an error and its offsets.
 fn write_fault(fault: TomlError, out: &mut TomlResult) -> u32
     ensures code { result ≡ code_of fault }
@@ -61,16 +71,13 @@ fn write_fault(fault: TomlError, out: &mut TomlResult) -> u32
         TomlError::Unexpected {
             at,
             expected,
-            unclosed: Some(start),
+            unclosed,
         } => (
             at.offset,
-            start.offset,
+            start_or(at, unclosed),
             number_of_expected(expected),
             INVALID,
         ),
-        TomlError::Unexpected { at, expected, .. } => {
-            (at.offset, at.offset, number_of_expected(expected), INVALID)
-        }
         TomlError::Invalid { at, why } => (at.offset, at.offset, number_of_reason(why), INVALID),
         TomlError::NotUtf8 { at } => (at.offset, at.offset, TOML_ERROR_NONE, INVALID_UTF8),
         TomlError::OutOfMemory => (0, 0, TOML_ERROR_NONE, NO_MEMORY),

@@ -71,7 +71,7 @@ pub unexpected_told : (level : ℕ) (text : List ℕ) (stop : Stop) (at : Locati
     → IsOpening text stop.rest.now unclosed)
     → IsUnexpected level text (faults.Unexpected at stop.expected unclosed)
 unexpected_told level text stop at unclosed (stops, starts) after opens =
-    (stop.rest.now, stops, after stops.0 stops.1.0, opens starts)
+    (stop.rest.now, stops, after stops.0 stops.1, opens starts)
 
 module _ (A : Type 0) (level : ℕ) (text : List ℕ) where
   pub refusal_told : (n : ℕ) (why : Reason) (rest : Bor (List ℕ)) (at : Location)

@@ -159,8 +159,8 @@ pub fn first_stop<'i, A: Allocator + Copy>(
     let mut left = text;
     'characters: while let Some((first, more)) = split_first(left) {
         let held = brackets.last().copied();
-        start = start_after(mode, start, left);
         let unclosed = unclosed_in(mode, start, starts.last().copied());
+        start = start_after(mode, start, left);
         match next_step(mode, held, first) {
             Step::Invalid => {
                 let expected = wanted_at(mode, held, first);
