@@ -15,11 +15,10 @@ use Rattle.format_csv_records.specs.Extents.{IsFieldPrefix, Passed}
 use Rattle.format_csv_records.specs.Refused.{IsRefused}
 use Rattle.format_csv_records.specs.declared.buffers.RecordSize.{RecordSize}
 use Rattle.format_csv_records.specs.declared.dialect.Dialect.{Dialect}
-use Rattle.format_csv_records.specs.declared.dialect.LineEnds.{LineEnds}
-use Rattle.format_csv_records.specs.declared.dialect.LineEnds.TheVariants.{CrLf, Either, Lf}
 use Rattle.format_csv_records.specs.declared.extent.RecordPlace.{RecordPlace}
 use Rattle.format_csv_records.specs.declared.extent.RecordPlace.TheVariants as place
 use Rattle.format_csv_records.specs.declared.read.Reason.TheVariants.{OpenQuote, WrongLineEnd}
+use Rattle.format_csv_records.proofs.Ending.{end_some}
 use Rattle.format_csv_records.proofs.Early.{feed, line_end_of}
 use Rattle.format_csv_records.proofs.One.{fields_one}
 use Rattle.format_csv_records.proofs.Placing.{text_more}
@@ -157,12 +156,6 @@ none_for_good d apart at not text fields front it =
     open_for_good d at not text fields front it apart
 
 -- ---- one that is
-
-end_some : (ends : LineEnds) (end : List ℕ) → IsLineEnd ends end → 0 < length end
-end_some CrLf end is = omega (arith, ap (λ l. length l) is)
-end_some Lf end is = omega (arith, ap (λ l. length l) is)
-end_some Either end (inl is) = omega (arith, ap (λ l. length l) is)
-end_some Either end (inr is) = omega (arith, ap (λ l. length l) is)
 
 text_size : (d : Dialect) (so : List ℕ → List ℕ → Type 0) (text fields : ℕ) (front : List ℕ)
     (it : Passed d so text fields front) → text ≡ length (text_of (row_of it))

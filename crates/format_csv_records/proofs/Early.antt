@@ -3,7 +3,7 @@ use Rattle.std.specs.Prelude.{◌≡◌, ◌<◌, ◌≤◌, ℕ, List, [], ◌�
 use Rattle.std.specs.List.{All}
 use Rattle.std.proofs.Common.{refl, subst, sym, ap, inl, inr, ◌∙◌, arith, append_assoc}
 use Rattle.std.proofs.Common.{length-append}
-use Rattle.std.proofs.lemmas.List.{append-nil}
+use Rattle.std.proofs.lemmas.List.{append-nil, nil_from_length}
 use Rattle.std.proofs.lemmas.List.Elements.{All-append, All-cons, All-nil}
 use Rattle.format_csv_records.specs.Dialects.{AreFields, IsLineEnd, IsRecord}
 use Rattle.format_csv_records.specs.Early.{IsPrefixOfNone, IsViablePrefix}
@@ -173,15 +173,11 @@ lacks_one d small WrongLineEnd before more (inr (is, behind)) =
     let P : List ℕ → Type 0 = λ l. (length l ≤ 1) × All (λ b. b < 256) l in
     subst P (sym is) (omega arith, feed)
 
-no_bytes : (bytes : List ℕ) → length bytes ≡ 0 → bytes ≡ []
-no_bytes [] e = refl
-no_bytes (b ∷ bytes) e = absurd (omega (arith, e))
-
 -- an error at the end of the bytes
 pub open_goes_on : (d : Dialect) → d.quote < 256 → (bytes : List ℕ) (fault : InvalidRecord)
     → IsRefused d bytes fault → length bytes ≤ fault.offset → IsViablePrefix d bytes
 open_goes_on d small bytes fault (before, back, more, fields, e, size, on, lacks, none) far =
-    let nothing : back ≡ [] = no_bytes back (omega (
+    let nothing : back ≡ [] = nil_from_length back (omega (
       arith,
       far,
       size,

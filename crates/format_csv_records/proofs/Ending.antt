@@ -56,12 +56,6 @@ lone_return Either tail rest not (inl (end, inl is, e)) =
 lone_return Either tail rest not (inl (end, inr is, e)) =
     let h : 13 ≡ 10 = same_first (e ∙ ap (λ l. l ++ rest) is) in omega (arith, h)
 
--- each dialect has a non-empty line ending
-pub some_end : (ends : LineEnds) → (end : List ℕ) × IsLineEnd ends end × (0 < length end)
-some_end CrLf = (13 ∷ 10 ∷ [], refl, omega arith)
-some_end Lf = (10 ∷ [], refl, omega arith)
-some_end Either = (10 ∷ [], inr refl, omega arith)
-
 pub end_some : (ends : LineEnds) (end : List ℕ) → IsLineEnd ends end → 0 < length end
 end_some CrLf end is = omega (arith, ap (λ l. length l) is)
 end_some Lf end is = omega (arith, ap (λ l. length l) is)

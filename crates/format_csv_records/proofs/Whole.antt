@@ -18,7 +18,8 @@ use Rattle.format_csv_records.specs.declared.read.Reason.TheVariants.{OpenQuote,
 use Rattle.format_csv_records.proofs.Alone.{field_apart}
 use Rattle.format_csv_records.proofs.Alone.{open_apart, quoted_behind, same_others}
 use Rattle.format_csv_records.proofs.Alone.{text_first}
-use Rattle.format_csv_records.proofs.Ending.{end_some, ends_apart, ends_stop, lone_return, some_end}
+use Rattle.format_csv_records.proofs.Early.{line_end_of}
+use Rattle.format_csv_records.proofs.Ending.{end_some, ends_apart, ends_stop, lone_return}
 use Rattle.format_csv_records.proofs.Runs.{doubled_behind}
 
 -- ---- the text of the first field
@@ -331,18 +332,18 @@ module _ (d : Dialect) (apart : IsApart d.delimiter d.quote) (bytes rest : List 
         let N : List ℕ → Type 0 = λ l. NotFirst (λ b. b ≡ d.delimiter) l in
         elim s.ends_not [
           | inl (none, ends) ↦
-              let (end, is, some) = some_end d.ends in
+              let z = line_end_of d.ends in
               let B : List ℕ → Type 0 = λ l. NoneWith d before l in (
                 before,
                 left,
-                end,
+                z.end,
                 fields ++ field ∷ [],
                 split,
                 omega (arith, at, none, sizes),
-                closes before end refl (inl (end, is, sym (append-nil end))) some,
-                lacks d why before end left whynot not ends_a_field is,
+                closes before z.end refl (inl (z.end, z.is, sym (append-nil z.end))) z.some,
+                lacks d why before z.end left whynot not ends_a_field z.is,
                 subst B (sym s.is) (λ after all o them. goes_not s.b s.bs after s.is
-                    (subst N s.is not) (λ z. ends after z) before refl all o them),
+                    (subst N s.is not) (λ l. ends after l) before refl all o them),
               )
           | inr (one, cr, is, lone) ↦
               let W : List ℕ → Type 0 = λ l. WhyNot d.quote l why in

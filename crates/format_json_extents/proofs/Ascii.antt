@@ -10,9 +10,7 @@ use Rattle.format_json_extents.proofs.Characters.{first_byte}
 use Rattle.format_json_extents.proofs.Written.{and_true}
 use Rattle.format_json_extents.specs.Number.{IsDigit, IsE, IsLeading, IsMinus, IsNumber, IsPoint}
 use Rattle.format_json_extents.specs.Number.{IsSign, IsZero}
-use Rattle.format_json_extents.specs.Strings.{BeginHigh, BeginLow, BeginOnly, IsBackslash}
-use Rattle.format_json_extents.specs.Strings.{IsEscape, IsEscaped, IsHexDigit, IsU, IsUnit}
-use Rattle.format_json_extents.specs.Texts.{AreTwo, Either, IsByte, Maybe, Then}
+use Rattle.format_json_extents.specs.Texts.{Either, IsByte, Maybe, Then}
 
 -- `IsLow P`: each text in `P` consists of ASCII bytes.
 abbrev pub IsLow : (List ℕ → Type 0) → Type 0
@@ -24,12 +22,6 @@ one_low b low = All-cons (λ b. b < 128) b [] low (All-nil (λ b. b < 128))
 byte_low : (P : ℕ → Type 0) → ((b : ℕ) → P b → b < 128) → IsLow (IsByte P)
 byte_low P low text is =
     subst (All (λ b. b < 128)) (sym is.alone) (one_low is.byte (low is.byte is.is_byte))
-
-two_low : (P : ℕ → ℕ → Type 0) → ((a b : ℕ) → P a b → (a < 128) × (b < 128)) → IsLow (AreTwo P)
-two_low P low text is =
-    let (a, b) = low is.one is.two is.are_bytes in
-    subst (All (λ b. b < 128)) (sym is.alone)
-    (All-cons (λ b. b < 128) is.one (is.two ∷ []) a (one_low is.two b))
 
 then_low : {P Q : List ℕ → Type 0} → IsLow P → IsLow Q → IsLow (Then P Q)
 then_low p q text is =
@@ -66,24 +58,6 @@ number_low =
     (then_low (maybe_low (byte_low IsSign (λ b is. grind (arith, is)))) digits_low)))))
 
 -- ---- escapes
-
-hex_low : (b : ℕ) → IsHexDigit b → b < 128
-hex_low b is = grind (arith, is)
-
-unit_low : (P : ℕ → ℕ → Type 0) → ((a b : ℕ) → P a b → (a < 128) × (b < 128)) → IsLow (IsUnit P)
-unit_low P low =
-    then_low (two_low P low)
-    (then_low (byte_low IsHexDigit hex_low) (byte_low IsHexDigit hex_low))
-
-pub escape_low : IsLow IsEscape
-escape_low =
-    either_low (byte_low IsEscaped (λ b is. grind (arith, is)))
-    (then_low (byte_low IsU (λ b e. omega (arith, e)))
-    (either_low (unit_low BeginOnly (λ a b is. (hex_low a is.0, hex_low b is.1)))
-    (then_low (unit_low BeginHigh (λ a b is. (grind (arith, is), grind (arith, is))))
-    (then_low (byte_low IsBackslash (λ b e. omega (arith, e)))
-    (then_low (byte_low IsU (λ b e. omega (arith, e)))
-    (unit_low BeginLow (λ a b is. (grind (arith, is), grind (arith, is)))))))))
 
 -- ---- what is ASCII is UTF-8
 

@@ -76,11 +76,6 @@ this_none c bytes not rest it =
 pub no_bytes : (b : ℕ) (more : List ℕ) → [] ≡ b ∷ more → ⊥
 no_bytes b more e = cc
 
-pub none_empty : (P : List ℕ → Type 0) (F : ℕ → Type 0) (bytes : List ℕ) → Starts P F → bytes ≡ []
-    → NoneStands P bytes
-none_empty P F bytes starts e rest it =
-    let (b, more, begins, f) = starts bytes rest it in no_bytes b more (sym e ∙ begins)
-
 pub start_less : (P : List ℕ → Type 0) (F : ℕ → Type 0) (bytes rest : List ℕ) → Starts P F
     → MatchesAtStart P bytes rest → length rest < length bytes
 start_less P F bytes rest starts it = less it.text it.is it.splits

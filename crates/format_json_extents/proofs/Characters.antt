@@ -1,7 +1,6 @@
 -- Lemmas that a set of texts is the same by its bytes as by its characters.
-use Rattle.std.proofs.Common.{◌≡◌, ◌∙◌, ◌++◌, ◌<◌, ℕ, [], ◌∷◌, List, ap}
-use Rattle.std.proofs.Common.{append_assoc, arith, inl, inr, refl, subst}
-use Rattle.std.proofs.Common.{sym}
+use Rattle.std.proofs.Common.{◌≡◌, ◌∙◌, ◌++◌, ◌<◌, ℕ, [], ◌∷◌, List, ap, append_assoc, arith, inl}
+use Rattle.std.proofs.Common.{inr, refl, subst, sym}
 use Rattle.std.specs.List.{All, AllByRecursion}
 use Rattle.std.specs.Str.{encode_utf8_all}
 use Rattle.std.proofs.lemmas.List.Elements.{All-cons, All-head, All-nil, All-tail}

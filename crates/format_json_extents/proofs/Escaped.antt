@@ -1,17 +1,17 @@
 -- Which character an escape is the text of.
-use Rattle.std.proofs.Common.{◌≡◌, ◌∙◌, ◌⊎◌, ◌++◌, ◌<◌, ◌≤◌, ◌+◌, ◌*◌, ◌-◌, ℕ, []}
-use Rattle.std.proofs.Common.{◌∷◌, List, ap}
+use Rattle.std.proofs.Common.{◌≡◌, ◌∙◌, ◌⊎◌, ◌++◌, ◌≤◌, ◌+◌, ◌*◌, ◌-◌, ℕ, [], ◌∷◌}
+use Rattle.std.proofs.Common.{List, ap}
 use Rattle.std.proofs.Common.{arith, inl, inr, length, length-append, refl, subst, sym}
 use Rattle.std.proofs.Math.Utf8.{low_scalar}
 use Rattle.std.specs.Char.{IsScalar, encode_utf8}
-use Rattle.std.proofs.lemmas.Str.{length-encode, len_utf8_ascii, len_utf8_bounds}
+use Rattle.std.proofs.lemmas.Str.{length-encode, len_utf8_bounds}
 use Rattle.format_json_extents.proofs.Standing.{same_byte}
 use Rattle.format_json_extents.proofs.Written.Escapes.{EscapedText, high_scalar}
 use Rattle.format_json_extents.proofs.Written.Units.{NoSurrogate, IsHigh, IsLow, digit_then}
 use Rattle.format_json_extents.proofs.Written.Units.{high_of, low_of, no_surrogate, one_digit}
 use Rattle.format_json_extents.proofs.Written.Units.{unit_digits}
 use Rattle.format_json_extents.specs.Strings.{BeginHigh, BeginLow, BeginOnly, IsD, IsEscape}
-use Rattle.format_json_extents.specs.Strings.{IsEscaped, IsHexDigit, IsPair, IsUnit}
+use Rattle.format_json_extents.specs.Strings.{IsHexDigit, IsPair, IsUnit}
 use Rattle.format_json_texts.specs.Strings.{EscapeText, StandsFor, UnicodeText}
 use Rattle.format_parts.specs.Hexadecimal.{IsHex, UnitText, one_unit, unit_of}
 use Rattle.format_parts.specs.Words.{Whichever}
@@ -29,10 +29,6 @@ front_same (x ∷ xs) (z ∷ zs) ys ws n e =
     let (p, q) = front_same xs zs ys ws (omega (arith, n)) more in
     (ap (λ b. b ∷ xs) a ∙ ap (λ l. z ∷ l) p, q)
 
-four_same : (a b c d w x y z : ℕ) → a ∷ b ∷ c ∷ d ∷ [] ≡ w ∷ x ∷ y ∷ z ∷ []
-    → (a ≡ w) × (b ≡ x) × (c ≡ y) × (d ≡ z)
-four_same a b c d w x y z e = (cc, cc, cc, cc)
-
 -- ---- units
 
 module _ (P : ℕ → ℕ → Type 0) where
@@ -48,18 +44,6 @@ module _ (P : ℕ → ℕ → Type 0) where
 
   unit_size : (cs : List ℕ) → IsUnit P cs → length cs ≡ 4
   unit_size cs is = ap (λ l. length l) (unit_list cs is)
-
-  pub unit_hex : ((a b : ℕ) → P a b → IsHexDigit a × IsHexDigit b) → (a b c d : ℕ)
-      → IsUnit P (a ∷ b ∷ c ∷ d ∷ [])
-      → IsHexDigit a × IsHexDigit b × IsHexDigit c × IsHexDigit d
-  unit_hex hex a b c d is =
-      let (ea, eb, ec, ed) = four_same a b c d _ _ _ _ (unit_list (a ∷ b ∷ c ∷ d ∷ []) is) in
-      let (ha, hb) = hex is.is_first.one is.is_first.two is.is_first.are_bytes in (
-        subst IsHexDigit (sym ea) ha,
-        subst IsHexDigit (sym eb) hb,
-        subst IsHexDigit (sym ec) is.is_second.is_first.is_byte,
-        subst IsHexDigit (sym ed) is.is_second.is_second.is_byte,
-      )
 
 pub only_hex : (a b : ℕ) → BeginOnly a b → IsHexDigit a × IsHexDigit b
 only_hex a b is = (is.0, is.1)
@@ -132,17 +116,6 @@ pair_size cs is =
       unit_size BeginLow letter.second letter.is_second,
     )
 
-pub one_escape : (b : ℕ) → IsEscape (b ∷ []) → IsEscaped b
-one_escape b (inl is) = subst IsEscaped (sym (same_byte _ _ _ _ is.alone).0) is.is_byte
-one_escape b (inr is) =
-    let (same, left) = same_byte _ _ _ _ (is.joins ∙ ap (λ l. l ++ is.second) is.is_first.alone) in
-    absurd (some is.second is.is_second (sym left))
-  where
-    some : (cs : List ℕ) → (IsUnit BeginOnly cs) ⊎ (IsPair cs) → cs ≡ [] → ⊥
-    some cs (inl unit) e =
-        omega (arith, unit_size BeginOnly cs unit, ap (λ l. length l) e)
-    some cs (inr pair) e = omega (arith, pair_size cs pair, ap (λ l. length l) e)
-
 pub only_escape : (t a b c d : ℕ) → IsEscape (t ∷ a ∷ b ∷ c ∷ d ∷ [])
     → (t ≡ 117) × IsUnit BeginOnly (a ∷ b ∷ c ∷ d ∷ [])
 only_escape t a b c d (inl is) = absurd (omega (arith, ap (λ l. length l) is.alone))
@@ -210,13 +183,6 @@ unicode c t digits e x =
 pub letter_text : (b k : ℕ) → StandsFor b k → EscapeText k (92 ∷ b ∷ [])
 unfolding EitherText MadeText Whichever
 letter_text b k is = slashed k (b ∷ []) (inl (b, refl, is))
-
-letter_low : (b k : ℕ) → StandsFor b k → k < 128
-letter_low b k is = grind (arith, is)
-
-pub letter_short : (b k : ℕ) → StandsFor b k → length (encode_utf8 k) ≤ 1
-letter_short b k is =
-    omega (arith, length-encode k, len_utf8_ascii k (letter_low b k is))
 
 pub short : (c n : ℕ) → 4 ≤ n → length (encode_utf8 c) ≤ n
 short c n more = omega (arith, more, length-encode c, (len_utf8_bounds c).1)

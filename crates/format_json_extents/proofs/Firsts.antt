@@ -7,8 +7,7 @@ use Rattle.format_json_extents.proofs.Words.{IsFirstOfScalar, scalar_starts}
 use Rattle.format_json_extents.specs.Number.{IsNumberByte}
 use Rattle.format_json_extents.specs.Texts.{IsByte, Or, Then}
 use Rattle.format_json_extents.specs.Value.{IsNested, IsNestedTail, IsScalar, IsSpace, IsValue}
-use Rattle.format_json_extents.specs.Value.{closing}
-use Rattle.format_json_extents.specs.Value.{opening}
+use Rattle.format_json_extents.specs.Value.{closing, opening}
 
 -- ---- what values begin with
 

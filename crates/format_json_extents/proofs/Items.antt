@@ -3,12 +3,9 @@ use Rattle.std.proofs.Common.{◌≡◌, ◌∙◌, ◌⊎◌, ◌++◌, ℕ, �
 use Rattle.std.proofs.Common.{subst, sym}
 use Rattle.format_json_extents.proofs.Leading.{SameMatches}
 use Rattle.format_json_extents.proofs.Standing.{byte_first, byte_stands, ended, same_byte}
-use Rattle.format_json_extents.proofs.Standing.{then_split}
-use Rattle.format_json_extents.proofs.Standing.{then_stands}
+use Rattle.format_json_extents.proofs.Standing.{then_split, then_stands}
 use Rattle.format_json_extents.specs.Texts.{IsByte, List_of, MatchesAtStart, Never, NoneStands}
-use Rattle.format_json_extents.specs.Texts.{RestAfter}
-use Rattle.format_json_extents.specs.Texts.{Then, before}
-use Rattle.format_json_extents.specs.Texts.{last}
+use Rattle.format_json_extents.specs.Texts.{RestAfter, Then, before, last}
 
 -- ---- the list
 

@@ -1,20 +1,16 @@
 -- Lemmas about numbers at the start of bytes.
-use Rattle.std.proofs.Common.{◌≡◌, ◌∙◌, ℕ, [], ◌∷◌, List, ap, arith, inl, inr, length, refl}
+use Rattle.std.proofs.Common.{◌≡◌, ℕ, ◌∷◌, List, ap, arith, inl, inr, length, refl}
 use Rattle.std.specs.List.{All}
 use Rattle.format_json_extents.proofs.Beginnings.{Starts, byte_starts, either_starts, maybe_starts}
-use Rattle.format_json_extents.proofs.Beginnings.{start_less, starts_bars, then_starts, this_none}
-use Rattle.format_json_extents.proofs.Standing.{Apart, Bars, Stays, byte_empty, byte_leaves}
-use Rattle.format_json_extents.proofs.Standing.{byte_none}
-use Rattle.format_json_extents.proofs.Standing.{either_left, either_none, either_right, first_none}
-use Rattle.format_json_extents.proofs.Standing.{maybe_none, maybe_some, maybe_stays, never_bars}
-use Rattle.format_json_extents.proofs.Standing.{then_bars}
+use Rattle.format_json_extents.proofs.Beginnings.{start_less, starts_bars, then_starts}
+use Rattle.format_json_extents.proofs.Standing.{Apart, Bars, Stays, byte_leaves, byte_none}
+use Rattle.format_json_extents.proofs.Standing.{either_left, either_right, first_none, maybe_none}
+use Rattle.format_json_extents.proofs.Standing.{maybe_some, maybe_stays, never_bars, then_bars}
 use Rattle.format_json_extents.proofs.Standing.{then_exact, then_leaves, then_none, then_stays}
 use Rattle.format_json_extents.proofs.Standing.{widen}
 use Rattle.format_json_extents.specs.Number.{IsDigit, IsDigits, IsE, IsExponent, IsFraction}
-use Rattle.format_json_extents.specs.Number.{IsLeading}
-use Rattle.format_json_extents.specs.Number.{IsMinus, IsNumber, IsNumberByte, IsPoint, IsSign}
-use Rattle.format_json_extents.specs.Number.{IsWhole}
-use Rattle.format_json_extents.specs.Number.{IsZero}
+use Rattle.format_json_extents.specs.Number.{IsLeading, IsMinus, IsNumber, IsNumberByte, IsPoint}
+use Rattle.format_json_extents.specs.Number.{IsSign, IsWhole, IsZero}
 use Rattle.format_json_extents.specs.Texts.{IsByte, Maybe, Never, NoneStands, Or, RestAfter, Then}
 
 -- ---- digits
@@ -24,15 +20,6 @@ pub digits_are : (bytes : List ℕ) (b : ℕ) (more rest : List ℕ) → bytes �
 digits_are bytes b more rest e is all =
     then_exact (IsByte IsDigit) (All IsDigit) Never IsDigit bytes more rest
     (never_bars (All IsDigit)) (byte_leaves IsDigit bytes b more e is) all
-
-pub digits_none : (bytes : List ℕ) (b : ℕ) (more : List ℕ) → bytes ≡ b ∷ more → (IsDigit b → ⊥)
-    → NoneStands IsDigits bytes
-digits_none bytes b more e not =
-    first_none (IsByte IsDigit) (All IsDigit) bytes (byte_none IsDigit bytes b more e not)
-
-pub digits_empty : (bytes : List ℕ) → bytes ≡ [] → NoneStands IsDigits bytes
-digits_empty bytes e =
-    first_none (IsByte IsDigit) (All IsDigit) bytes (byte_empty IsDigit bytes e)
 
 pub digits_start : Starts IsDigits IsDigit
 digits_start = then_starts (IsByte IsDigit) (All IsDigit) IsDigit (byte_starts IsDigit)
@@ -44,20 +31,6 @@ pub mark_there : (P : ℕ → Type 0) (bytes : List ℕ) (b : ℕ) (rest : List 
 mark_there P bytes b rest e is =
     maybe_some (IsByte P) Never P bytes rest b rest e is
     (omega (arith, ap (λ l. length l) e)) (byte_leaves P bytes b rest e is)
-
-pub mark_missing : (P : ℕ → Type 0) (bytes : List ℕ) (b : ℕ) (more : List ℕ) → bytes ≡ b ∷ more
-    → (P b → ⊥) → RestAfter (Maybe (IsByte P)) (Or Never P) bytes bytes
-mark_missing P bytes b more e not =
-    maybe_none (IsByte P) (Or Never P) bytes (byte_none P bytes b more e not)
-
-pub mark_empty : (P : ℕ → Type 0) (bytes : List ℕ) → bytes ≡ []
-    → RestAfter (Maybe (IsByte P)) (Or Never P) bytes bytes
-mark_empty P bytes e = maybe_none (IsByte P) (Or Never P) bytes (byte_empty P bytes e)
-
-pub minus_missing : (bytes : List ℕ) → ((more : List ℕ) → bytes ≡ 45 ∷ more → ⊥)
-    → RestAfter (Maybe (IsByte IsMinus)) (Or Never IsMinus) bytes bytes
-minus_missing bytes not =
-    maybe_none (IsByte IsMinus) (Or Never IsMinus) bytes (this_none 45 bytes not)
 
 -- ---- the whole part
 
@@ -76,19 +49,6 @@ whole_digits bytes b more rest e is all =
     (byte_none IsZero bytes b more e (λ zero. omega (arith, is, zero)))
     (then_exact (IsByte IsLeading) (All IsDigit) Never IsDigit bytes more rest
     (never_bars (All IsDigit)) (byte_leaves IsLeading bytes b more e is) all)
-
-pub whole_none : (bytes : List ℕ) (b : ℕ) (more : List ℕ) → bytes ≡ b ∷ more → (IsZero b → ⊥)
-    → (IsLeading b → ⊥) → NoneStands IsWhole bytes
-whole_none bytes b more e zero leading =
-    either_none (IsByte IsZero) (Then (IsByte IsLeading) (All IsDigit)) bytes
-    (byte_none IsZero bytes b more e zero)
-    (first_none (IsByte IsLeading) (All IsDigit) bytes (byte_none IsLeading bytes b more e leading))
-
-pub whole_empty : (bytes : List ℕ) → bytes ≡ [] → NoneStands IsWhole bytes
-whole_empty bytes e =
-    either_none (IsByte IsZero) (Then (IsByte IsLeading) (All IsDigit)) bytes
-    (byte_empty IsZero bytes e)
-    (first_none (IsByte IsLeading) (All IsDigit) bytes (byte_empty IsLeading bytes e))
 
 whole_start : Starts IsWhole (Or IsZero IsLeading)
 whole_start =
@@ -110,14 +70,6 @@ pub fraction_none : (bytes digits : List ℕ) → bytes ≡ 46 ∷ digits → No
 fraction_none bytes digits e none =
     then_none (IsByte IsPoint) IsDigits Never bytes digits (never_bars IsDigits)
     (byte_leaves IsPoint bytes 46 digits e refl) none
-
-pub no_point : (bytes : List ℕ) → ((more : List ℕ) → bytes ≡ 46 ∷ more → ⊥)
-    → NoneStands IsFraction bytes
-no_point bytes not rest it =
-    let (b, more, e, is) = fraction_start bytes rest it in not more (e ∙ ap (λ x. x ∷ more) is)
-  where
-    fraction_start : Starts IsFraction IsPoint
-    fraction_start = then_starts (IsByte IsPoint) IsDigits IsPoint (byte_starts IsPoint)
 
 fraction_starts : Starts IsFraction IsPoint
 fraction_starts = then_starts (IsByte IsPoint) IsDigits IsPoint (byte_starts IsPoint)
@@ -148,17 +100,6 @@ exponent_none bytes b more digits e is sign none =
     then_none (IsByte IsE) (Then (Maybe (IsByte IsSign)) IsDigits) Never bytes more
     (never_bars (Then (Maybe (IsByte IsSign)) IsDigits)) (byte_leaves IsE bytes b more e is)
     (then_none (Maybe (IsByte IsSign)) IsDigits (Or Never IsSign) more digits sign_bars sign none)
-
-pub no_e : (bytes : List ℕ) (b : ℕ) (more : List ℕ) → bytes ≡ b ∷ more → (IsE b → ⊥)
-    → NoneStands IsExponent bytes
-no_e bytes b more e not =
-    first_none (IsByte IsE) (Then (Maybe (IsByte IsSign)) IsDigits) bytes
-    (byte_none IsE bytes b more e not)
-
-pub exponent_empty : (bytes : List ℕ) → bytes ≡ [] → NoneStands IsExponent bytes
-exponent_empty bytes e =
-    first_none (IsByte IsE) (Then (Maybe (IsByte IsSign)) IsDigits) bytes
-    (byte_empty IsE bytes e)
 
 exponent_starts : Starts IsExponent IsE
 exponent_starts =

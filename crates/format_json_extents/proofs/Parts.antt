@@ -1,14 +1,13 @@
 -- Numbers are what numbers in their parts are written as.
 use Rattle.std.proofs.Common.{◌≡◌, ◌∙◌, ◌⊎◌, ◌<◌, ◌≤◌, ◌++◌, ℕ, zero, suc, ℤ, Bool, true}
 use Rattle.std.proofs.Common.{false}
-use Rattle.std.proofs.Common.{List, [], ◌∷◌}
-use Rattle.std.proofs.Common.{ap, arith, inl, inr, pos, refl, subst, sym}
+use Rattle.std.proofs.Common.{List, [], ◌∷◌, ap, arith, inl, inr, pos, refl, subst, sym}
 use Rattle.std.specs.List.{All, AllByRecursion}
 use Rattle.std.specs.Str.Parse.{signed_digits_value}
 use Rattle.std.proofs.lemmas.List.Elements.{All-from_recursion, recursion_from_All}
 use Rattle.format_json_decimals.specs.Numbers as parts
 use Rattle.format_json_decimals.specs.Numbers.{IsWritten, Number, sign_text}
-use Rattle.format_json_extents.specs.Number.{IsDigit, IsDigits, IsE, IsExponent, IsFraction}
+use Rattle.format_json_extents.specs.Number.{IsDigit, IsDigits, IsExponent, IsFraction}
 use Rattle.format_json_extents.specs.Number.{IsLeading, IsMinus, IsNumber, IsSign, IsWhole}
 use Rattle.format_json_extents.specs.Texts.{IsByte, Maybe, Then}
 

@@ -5,8 +5,7 @@ use Rattle.std.proofs.Common.{arith, inl, inr, length, length-append, refl, subs
 use Rattle.std.specs.List.{All}
 use Rattle.std.proofs.lemmas.List.Elements.{All-head, All-tail}
 use Rattle.format_json_extents.specs.Texts.{Either, IsByte, IsLongerRest, Maybe, Never, RestAfter}
-use Rattle.format_json_extents.specs.Texts.{NoneStands, Or}
-use Rattle.format_json_extents.specs.Texts.{MatchesAtStart, Then}
+use Rattle.format_json_extents.specs.Texts.{NoneStands, Or, MatchesAtStart, Then}
 
 -- `Bars Q S`: no text in `Q` starts with a byte of `S`.
 abbrev pub Bars : (Q : List ℕ → Type 0) (S : ℕ → Type 0) → Type 0
@@ -21,9 +20,6 @@ Stays Q S = (bytes rest : List ℕ) (b : ℕ) (more : List ℕ) → bytes ≡ b 
 -- No byte is in both.
 abbrev pub Apart : (S T : ℕ → Type 0) → Type 0
 Apart S T = (b : ℕ) → S b → T b → ⊥
-
-pub bars_stays : (Q : List ℕ → Type 0) (S : ℕ → Type 0) → Bars Q S → Stays Q S
-bars_stays Q S bars bytes rest b more e s it = absurd (bars bytes rest b more e s it)
 
 -- what is left is no longer
 pub shorter : (P : List ℕ → Type 0) (bytes rest : List ℕ) → MatchesAtStart P bytes rest
@@ -158,13 +154,6 @@ then_stays P Q S one two bytes rest b more e s it =
     let same = one bytes at b more e s first in
     two at rest b more (same ∙ e) s second ∙ same
 
--- a first text that may be empty bars nothing, and the second bars what it does
-pub stays_bars : (P Q : List ℕ → Type 0) (S : ℕ → Type 0) → Stays P S → Bars Q S
-    → Bars (Then P Q) S
-stays_bars P Q S one two bytes rest b more e s it =
-    let (at, first, second) = then_split P Q bytes rest it in
-    two at rest b more (one bytes at b more e s first ∙ e) s second
-
 -- ---- one or the other
 
 pub either_left : (P Q : List ℕ → Type 0) (S : ℕ → Type 0) (bytes rest : List ℕ)
@@ -200,12 +189,6 @@ either_none P Q bytes one two rest it = none it.text it.is it.splits
     none : (text : List ℕ) → Either P Q text → bytes ≡ text ++ rest → ⊥
     none text (inl is) e = one rest (record { text = text; is = is; splits = e })
     none text (inr is) e = two rest (record { text = text; is = is; splits = e })
-
-pub either_bars : (P Q : List ℕ → Type 0) (S : ℕ → Type 0) → Bars P S → Bars Q S
-    → Bars (Either P Q) S
-either_bars P Q S one two bytes rest b more e s it =
-    either_none P Q bytes (λ other is. one bytes other b more e s is)
-    (λ other is. two bytes other b more e s is) rest it
 
 -- ---- one or nothing
 

@@ -4,12 +4,9 @@ use Rattle.std.proofs.Common.{ap, append_assoc, inl, inr, refl}
 use Rattle.format_json_extents.proofs.Walked.{text_told}
 use Rattle.format_json_extents.specs.Texts.{IsByte, List_of, Then, before, last}
 use Rattle.format_json_extents.specs.StepLists.{InTurn, StepsOfElement, StepsOfItem, StepsOfList}
-use Rattle.format_json_extents.specs.StepLists.{StepsResult}
-use Rattle.format_json_extents.specs.StepLists.{StepsOfMember, StepsOfNested, StepsOfScalar}
-use Rattle.format_json_extents.specs.StepLists.{StepsOfText}
-use Rattle.format_json_extents.specs.StepLists.{StepList, StepsOfValue, begin_of, end_of}
-use Rattle.format_json_extents.specs.StepLists.{tells_before}
-use Rattle.format_json_extents.specs.StepLists.{tells_last}
+use Rattle.format_json_extents.specs.StepLists.{StepsResult, StepsOfMember, StepsOfNested}
+use Rattle.format_json_extents.specs.StepLists.{StepsOfScalar, StepsOfText, StepList, StepsOfValue}
+use Rattle.format_json_extents.specs.StepLists.{begin_of, end_of, tells_before, tells_last}
 use Rattle.format_json_extents.specs.Value.{IsElement, IsItem, IsMember, IsNestedTail, IsScalar}
 use Rattle.format_json_extents.specs.Value.{IsText, IsValue, closing, opening}
 use Rattle.format_json_extents.specs.declared.steps.Step.TheVariants as steps

@@ -8,20 +8,16 @@ use Rattle.std.proofs.lemmas.List.Elements.{All-head, All-push, All-tail}
 use Rattle.format_json_extents.proofs.Beginnings.{Starts, byte_starts, either_starts, then_starts}
 use Rattle.format_json_extents.proofs.Beginnings.{this_none}
 use Rattle.format_json_extents.proofs.Leading.{SameMatches, leads_here, leads_on}
-use Rattle.format_json_extents.proofs.Standing.{alone, byte_empty, byte_first, byte_leaves}
-use Rattle.format_json_extents.proofs.Standing.{byte_none}
-use Rattle.format_json_extents.proofs.Standing.{byte_stands, either_left, either_none, either_right}
-use Rattle.format_json_extents.proofs.Standing.{first_none, never_bars, same_byte, shorter}
-use Rattle.format_json_extents.proofs.Standing.{then_exact}
-use Rattle.format_json_extents.proofs.Standing.{then_none, then_split, then_stands}
+use Rattle.format_json_extents.proofs.Standing.{alone, byte_first, byte_leaves, byte_none}
+use Rattle.format_json_extents.proofs.Standing.{byte_stands, either_left, either_none}
+use Rattle.format_json_extents.proofs.Standing.{either_right, first_none, never_bars, same_byte}
+use Rattle.format_json_extents.proofs.Standing.{shorter, then_exact, then_none, then_split}
+use Rattle.format_json_extents.proofs.Standing.{then_stands}
 use Rattle.format_json_extents.specs.Strings.{IsBackslash, IsCharacter, IsEscape, IsEscaped}
 use Rattle.format_json_extents.specs.Strings.{IsInQuotes, IsPiece, IsQuote, IsString, IsStringTail}
-use Rattle.format_json_extents.specs.Strings.{IsU}
-use Rattle.format_json_extents.specs.Strings.{IsUnescaped}
+use Rattle.format_json_extents.specs.Strings.{IsU, IsUnescaped}
 use Rattle.format_json_extents.specs.Texts.{IsByte, Many, MatchesAtStart, Never, NoneStands, Or}
-use Rattle.format_json_extents.specs.Texts.{RestAfter}
-use Rattle.format_json_extents.specs.Texts.{Then}
-use Rattle.format_json_extents.specs.Texts.{nothing, one_more}
+use Rattle.format_json_extents.specs.Texts.{RestAfter, Then, nothing, one_more}
 
 -- ---- bytes of a set
 
@@ -106,19 +102,6 @@ escape_one bytes b more e is not =
     either_left (IsByte IsEscaped) (Then (IsByte IsU) IsCharacter) Never bytes more
     (byte_leaves IsEscaped bytes b more e is)
     (first_none (IsByte IsU) IsCharacter bytes (byte_none IsU bytes b more e not))
-
-pub escape_none : (bytes : List ℕ) (b : ℕ) (more : List ℕ) → bytes ≡ b ∷ more → (IsEscaped b → ⊥)
-    → (b ≡ 117 → ⊥) → NoneStands IsEscape bytes
-escape_none bytes b more e one not =
-    either_none (IsByte IsEscaped) (Then (IsByte IsU) IsCharacter) bytes
-    (byte_none IsEscaped bytes b more e one)
-    (first_none (IsByte IsU) IsCharacter bytes (byte_none IsU bytes b more e not))
-
-pub escape_empty : (bytes : List ℕ) → bytes ≡ [] → NoneStands IsEscape bytes
-escape_empty bytes e =
-    either_none (IsByte IsEscaped) (Then (IsByte IsU) IsCharacter) bytes
-    (byte_empty IsEscaped bytes e)
-    (first_none (IsByte IsU) IsCharacter bytes (byte_empty IsU bytes e))
 
 -- ---- pieces
 

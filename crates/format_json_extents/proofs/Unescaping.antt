@@ -66,18 +66,6 @@ wrote_nothing bytes old = record {
   written = λ room. refl;
 }
 
--- a place in the bytes is within them
-pub wrote_within : (bytes rest old now : List ℕ) (count : ℕ) → Wrote bytes rest old now count
-    → count + length rest ≤ length bytes
-wrote_within bytes rest old now count it =
-    omega (
-      arith,
-      it.counts,
-      it.short,
-      ap (λ l. length l) it.splits,
-      length-append it.text rest,
-    )
-
 put_more : (meant one old now new : List ℕ) (count : ℕ) → count ≡ length meant
     → now ≡ meant ++ drop count old
     → new ≡ take count now ++ (one ++ drop (count + length one) now)
@@ -145,12 +133,6 @@ wrote_escape bytes ahead escape next old now new between count end it e leaves i
     (omega (arith, put.short)) put.is_put
     (means_end it.text it.meant (92 ∷ between) (encode_utf8 put.char) it.means
     (inr (put.char, put.text, refl))))
-
-pub escape_is : (escape next between : List ℕ) → RestAfter IsEscape Never escape next
-    → between ≡ take (length escape - length next) escape → IsEscape between
-escape_is escape next between leaves is =
-    subst IsEscape (sym (is ∙ from_left escape leaves.stands.text next leaves.stands.splits))
-    leaves.stands.is
 
 -- ---- at the last quote
 

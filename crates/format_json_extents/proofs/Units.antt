@@ -9,8 +9,7 @@ use Rattle.format_json_extents.specs.Strings.{BeginHigh, BeginLow, BeginOnly, Is
 use Rattle.format_json_extents.specs.Strings.{IsCharacter, IsHexDigit, IsPair, IsTwoDigits, IsU}
 use Rattle.format_json_extents.specs.Strings.{IsUnit}
 use Rattle.format_json_extents.specs.Texts.{AreTwo, IsByte, MatchesAtStart, Never, NoneStands}
-use Rattle.format_json_extents.specs.Texts.{RestAfter}
-use Rattle.format_json_extents.specs.Texts.{Then}
+use Rattle.format_json_extents.specs.Texts.{RestAfter, Then}
 
 -- ---- two bytes
 

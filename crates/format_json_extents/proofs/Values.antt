@@ -14,12 +14,10 @@ use Rattle.format_json_extents.proofs.Firsts.{space_no_first, value_starts}
 use Rattle.format_json_extents.proofs.Items.{ends, goes, never_begins, stops}
 use Rattle.format_json_extents.proofs.Leading.{SameMatches}
 use Rattle.format_json_extents.proofs.Standing.{Apart, Bars, all_leaves, all_stays, byte_bars}
-use Rattle.format_json_extents.proofs.Standing.{byte_first}
-use Rattle.format_json_extents.proofs.Standing.{byte_leaves, byte_none, either_left, either_none}
-use Rattle.format_json_extents.proofs.Standing.{either_right, first_none, never_bars, same_byte}
-use Rattle.format_json_extents.proofs.Standing.{shorter}
-use Rattle.format_json_extents.proofs.Standing.{then_bars, then_exact, then_leaves, then_none}
-use Rattle.format_json_extents.proofs.Standing.{then_split, widen}
+use Rattle.format_json_extents.proofs.Standing.{byte_first, byte_leaves, byte_none, either_left}
+use Rattle.format_json_extents.proofs.Standing.{either_none, either_right, first_none, never_bars}
+use Rattle.format_json_extents.proofs.Standing.{same_byte, shorter, then_bars, then_exact}
+use Rattle.format_json_extents.proofs.Standing.{then_leaves, then_none, then_split, widen}
 use Rattle.format_json_extents.proofs.Texts.{string_starts}
 use Rattle.format_json_extents.proofs.Words.{IsFirstOfScalar, scalar_starts}
 use Rattle.format_json_extents.specs.Number.{IsNumberByte}
@@ -27,10 +25,9 @@ use Rattle.format_json_extents.specs.Strings.{IsQuote, IsString}
 use Rattle.format_json_extents.specs.Texts.{IsByte, MatchesAtStart, Never, NoneStands, RestAfter}
 use Rattle.format_json_extents.specs.Texts.{Then}
 use Rattle.format_json_extents.specs.Value.{IsClosing, IsColon, IsElement, IsEmptyTail, IsGap}
-use Rattle.format_json_extents.specs.Value.{IsItem}
-use Rattle.format_json_extents.specs.Value.{IsItemsTail, IsKey, IsName, IsNested, IsNestedTail}
-use Rattle.format_json_extents.specs.Value.{IsScalar}
-use Rattle.format_json_extents.specs.Value.{IsSpace, IsText, IsValue, Only, closing, opening}
+use Rattle.format_json_extents.specs.Value.{IsItem, IsItemsTail, IsKey, IsName, IsNested}
+use Rattle.format_json_extents.specs.Value.{IsNestedTail, IsScalar, IsSpace, IsText, IsValue, Only}
+use Rattle.format_json_extents.specs.Value.{closing, opening}
 
 -- ---- elements
 

@@ -13,11 +13,9 @@ use Rattle.format_json_extents.specs.Number.{IsNumberByte}
 use Rattle.format_json_extents.specs.Steps.{IsBeforeColon, IsBracket, IsNextStep, IsOfStep}
 use Rattle.format_json_extents.specs.Texts.{IsByte}
 use Rattle.format_json_extents.specs.StepLists.{InTurn, IsScalarOf, StepsOfElement, StepsOfItem}
-use Rattle.format_json_extents.specs.StepLists.{StepsResult}
-use Rattle.format_json_extents.specs.StepLists.{StepsOfList, StepsOfMember, StepsOfNested}
-use Rattle.format_json_extents.specs.StepLists.{StepsOfScalar}
-use Rattle.format_json_extents.specs.StepLists.{StepList, StepsOfText, StepsOfValue, begin_of}
-use Rattle.format_json_extents.specs.StepLists.{end_of}
+use Rattle.format_json_extents.specs.StepLists.{StepsResult, StepsOfList, StepsOfMember}
+use Rattle.format_json_extents.specs.StepLists.{StepsOfNested, StepsOfScalar, StepList}
+use Rattle.format_json_extents.specs.StepLists.{StepsOfText, StepsOfValue, begin_of, end_of}
 use Rattle.format_json_extents.specs.StepLists.{tells_before, tells_last}
 use Rattle.format_json_extents.specs.Value.{IsColon, IsGap, IsSpace, closing, opening}
 use Rattle.format_json_extents.specs.Walk.{IsClosingByte, IsLead, IsMark}

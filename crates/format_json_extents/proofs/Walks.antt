@@ -5,16 +5,13 @@ use Rattle.std.proofs.lemmas.List.{nil_from_length}
 use Rattle.format_json_extents.proofs.Beginnings.{starts_bars}
 use Rattle.format_json_extents.proofs.Firsts.{IsFirst, space_low, space_no_first, value_starts}
 use Rattle.format_json_extents.proofs.Standing.{Apart, Bars, byte_bars, byte_empty, byte_leaves}
-use Rattle.format_json_extents.proofs.Standing.{byte_none}
-use Rattle.format_json_extents.proofs.Standing.{first_none, maybe_none, maybe_some, maybe_stays}
-use Rattle.format_json_extents.proofs.Standing.{never_bars}
-use Rattle.format_json_extents.proofs.Standing.{shorter, then_bars, then_exact, then_leaves}
-use Rattle.format_json_extents.proofs.Standing.{then_none}
+use Rattle.format_json_extents.proofs.Standing.{byte_none, first_none, maybe_none, maybe_some}
+use Rattle.format_json_extents.proofs.Standing.{maybe_stays, never_bars, shorter, then_bars}
+use Rattle.format_json_extents.proofs.Standing.{then_exact, then_leaves, then_none}
 use Rattle.format_json_extents.specs.Texts.{IsByte, Maybe, Never, NoneStands, Or, RestAfter, Then}
 use Rattle.format_json_extents.specs.Value.{IsGap, IsSpace, IsValue}
 use Rattle.format_json_extents.specs.Walk.{EndsItems, IsClosingByte, IsLead, IsLeadByte}
-use Rattle.format_json_extents.specs.Walk.{StartsWithEnd}
-use Rattle.format_json_extents.specs.Walk.{IsMark}
+use Rattle.format_json_extents.specs.Walk.{StartsWithEnd, IsMark}
 
 -- a mark, and white space after it
 abbrev Marked : List ℕ → Type 0
@@ -67,11 +64,6 @@ pub ends_closing : (bytes ahead more : List ℕ) (b : ℕ) → RestAfter IsGap I
     → ahead ≡ b ∷ more → IsClosingByte b → EndsItems bytes
 ends_closing bytes ahead more b before e is =
     (ahead, before.stands, subst StartsWithEnd (sym e) is)
-
-pub ends_nothing : (bytes ahead : List ℕ) → RestAfter IsGap IsSpace bytes ahead → length ahead ≡ 0
-    → EndsItems bytes
-ends_nothing bytes ahead before e =
-    (ahead, before.stands, subst StartsWithEnd (sym (nil_from_length ahead e)) tt)
 
 -- with white space first there is no end
 space_no_end : (rest : List ℕ) (b : ℕ) (more : List ℕ) → rest ≡ b ∷ more → IsSpace b

@@ -3,7 +3,7 @@ use Rattle.std.proofs.Common.{◌≡◌, ◌∙◌, ◌++◌, ℕ, [], ◌∷◌
 use Rattle.std.proofs.Common.{refl}
 use Rattle.std.proofs.Common.{sym}
 use Rattle.std.proofs.lemmas.List.{append_cancel_left}
-use Rattle.format_json_extents.proofs.Beginnings.{Starts, either_starts, none_empty, none_first}
+use Rattle.format_json_extents.proofs.Beginnings.{Starts, either_starts, none_first}
 use Rattle.format_json_extents.proofs.Beginnings.{starts_bars, starts_none}
 use Rattle.format_json_extents.proofs.Numbers.{number_starts}
 use Rattle.format_json_extents.proofs.Standing.{Apart, either_left, either_none, either_right}
@@ -165,9 +165,6 @@ scalar_none bytes one two three =
     (either_none IsNumber IsWord bytes two three)
 
 -- ---- scalars by their first byte
-
-pub empty_no_scalar : (bytes : List ℕ) → bytes ≡ [] → NoneStands IsScalar bytes
-empty_no_scalar bytes e = none_empty IsScalar IsFirstOfScalar bytes scalar_starts e
 
 -- below the letters begins no word
 low_no_word : (bytes : List ℕ) (b : ℕ) (more : List ℕ) → bytes ≡ b ∷ more → b ≤ 57

@@ -3,8 +3,7 @@ use Rattle.std.specs.Prelude.{⊤, ◌≡◌, ◌⊎◌, ℕ, suc, Bool, true, f
 use Rattle.format_json_extents.specs.Number.{IsNumber}
 use Rattle.format_json_extents.specs.Strings.{IsString}
 use Rattle.format_json_extents.specs.Texts.{IsByte, IsLongest, MatchesAtStart, Maybe, Or, Then}
-use Rattle.format_json_extents.specs.Value.{IsGap, IsNestedTail, IsSpace, IsValue, Only}
-use Rattle.format_json_extents.specs.Value.{opening}
+use Rattle.format_json_extents.specs.Value.{IsGap, IsNestedTail, IsSpace, IsValue, Only, opening}
 use Rattle.format_json_extents.specs.declared.walk.Kind.{Kind}
 use Rattle.format_json_extents.specs.declared.walk.Kind.TheVariants as kinds
 

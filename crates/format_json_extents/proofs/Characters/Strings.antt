@@ -13,14 +13,12 @@ use Rattle.std.proofs.lemmas.List.Elements.{All-tail, All-weaker}
 use Rattle.std.proofs.lemmas.Str.{encode_ascii, encodes-append}
 use Rattle.format_json_extents.proofs.Beginnings.{no_bytes}
 use Rattle.format_json_extents.proofs.Characters.{Alike, Front, byte_alike, either_alike}
-use Rattle.format_json_extents.proofs.Characters.{first_byte}
-use Rattle.format_json_extents.proofs.Characters.{first_char, then_alike, two_alike}
+use Rattle.format_json_extents.proofs.Characters.{first_byte, first_char, then_alike, two_alike}
 use Rattle.format_json_extents.proofs.Standing.{byte_first, same_byte, then_split, then_stands}
 use Rattle.format_json_extents.proofs.Texts.{many_split, piece_starts, tail_run}
 use Rattle.format_json_extents.specs.Strings.{BeginHigh, BeginLow, BeginOnly, IsBackslash}
-use Rattle.format_json_extents.specs.Strings.{IsEscape, IsEscaped, IsHexDigit}
-use Rattle.format_json_extents.specs.Strings.{IsPiece, IsQuote, IsString, IsStringTail}
-use Rattle.format_json_extents.specs.Strings.{IsU, IsUnescaped, IsUnit}
+use Rattle.format_json_extents.specs.Strings.{IsEscape, IsEscaped, IsHexDigit, IsPiece, IsQuote}
+use Rattle.format_json_extents.specs.Strings.{IsString, IsStringTail, IsU, IsUnescaped, IsUnit}
 use Rattle.format_json_extents.specs.Texts.{IsByte, Many, MatchesAtStart, Then, nothing, one_more}
 use Rattle.winnow.specs.Utf8.{four_bytes, three_bytes, two_bytes}
 

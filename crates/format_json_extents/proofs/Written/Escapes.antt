@@ -1,22 +1,18 @@
 -- Proofs that an escape sequence encodes a character.
 use Rattle.std.proofs.Common.{◌≡◌, ◌∙◌, ◌++◌, ◌<◌, ◌≤◌, ◌+◌, ◌*◌, ◌-◌, ℕ, [], ◌∷◌}
-use Rattle.std.proofs.Common.{List}
-use Rattle.std.proofs.Common.{ap, append_assoc, arith, inl, inr, length, length-append, refl}
-use Rattle.std.proofs.Common.{sym}
+use Rattle.std.proofs.Common.{List, ap}
+use Rattle.std.proofs.Common.{append_assoc, arith, inl, inr, length, length-append, refl, sym}
 use Rattle.std.proofs.Math.Utf8.{low_scalar}
 use Rattle.std.specs.Char.{IsScalar, encode_utf8}
 use Rattle.std.proofs.lemmas.Bool.Decides.{nat_tests}
 use Rattle.std.proofs.lemmas.Str.{length-encode, len_utf8_ascii, len_utf8_bounds}
-use Rattle.format_json_extents.proofs.Written.Units.{digits_unit, high_of, is_high_of}
-use Rattle.format_json_extents.proofs.Written.Units.{is_low_of, is_only, low_of, no_surrogate}
-use Rattle.format_json_extents.proofs.Written.Units.{unit_digits}
+use Rattle.format_json_extents.proofs.Written.Units.{digits_unit, high_of, is_high_of, is_low_of}
+use Rattle.format_json_extents.proofs.Written.Units.{is_only, low_of, no_surrogate, unit_digits}
 use Rattle.format_json_extents.specs.Strings.{BeginHigh, BeginLow, BeginOnly, IsCharacter, IsD}
-use Rattle.format_json_extents.specs.Strings.{IsEscape, IsEscaped, IsHexDigit, IsPair}
-use Rattle.format_json_extents.specs.Strings.{IsUnit}
-use Rattle.format_json_texts.specs.Strings.{ArePair}
+use Rattle.format_json_extents.specs.Strings.{IsEscape, IsEscaped, IsHexDigit, IsPair, IsUnit}
+use Rattle.format_json_texts.specs.Strings.{ArePair, StandsFor, UnicodeText}
 use Rattle.format_parts.specs.Hexadecimal.{IsAlone, UnitText}
 use Rattle.format_parts.specs.Words.{For, One, Whichever, latter, pair}
-use Rattle.format_json_texts.specs.Strings.{StandsFor, UnicodeText}
 use Rattle.winnow.specs.Texts.{BothText as Both, EitherText, MadeText, Spelled, Text}
 
 -- ---- escapes

@@ -1,11 +1,9 @@
 -- Numbers are the texts of some slice.
-use Rattle.std.proofs.Common.{◌≡◌, ◌∙◌, ◌⊎◌, ◌++◌, ℕ, [], ◌∷◌, List, ap}
-use Rattle.std.proofs.Common.{append_assoc, inl, inr, refl}
-use Rattle.std.proofs.Common.{sym}
-use Rattle.format_json_extents.proofs.Written.{Written, either_written}
-use Rattle.format_json_extents.proofs.Written.{in_written, maybe_written, one_written}
-use Rattle.format_json_extents.proofs.Written.{run_one_written, run_written, shown_written}
-use Rattle.format_json_extents.proofs.Written.{then_written}
+use Rattle.std.proofs.Common.{◌≡◌, ◌∙◌, ◌⊎◌, ◌++◌, ℕ, [], ◌∷◌, List, ap, append_assoc, inl, inr}
+use Rattle.std.proofs.Common.{refl, sym}
+use Rattle.format_json_extents.proofs.Written.{Written, either_written, in_written, maybe_written}
+use Rattle.format_json_extents.proofs.Written.{one_written, run_one_written, run_written}
+use Rattle.format_json_extents.proofs.Written.{shown_written, then_written}
 use Rattle.format_json_extents.specs.Number.{IsDigit, IsDigits, IsE, IsExponent, IsLeading}
 use Rattle.format_json_extents.specs.Number.{IsNumber, IsSign}
 use Rattle.format_json_extents.specs.Texts.{Either, IsByte, Maybe, Then}

@@ -1,23 +1,18 @@
 -- Strings are the texts of those that hold some characters.
-use Rattle.std.proofs.Common.{◌≡◌, ◌∙◌, ◌⊎◌, ◌<◌, ◌≤◌, ◌^◌, ℕ, [], ◌∷◌, List}
-use Rattle.std.proofs.Common.{ap, arith, inl, inr, length, length-append, refl, subst}
-use Rattle.std.proofs.Common.{true}
+use Rattle.std.proofs.Common.{◌≡◌, ◌∙◌, ◌⊎◌, ◌<◌, ◌≤◌, ◌^◌, ℕ, [], ◌∷◌, List, ap, arith, inl, inr}
+use Rattle.std.proofs.Common.{length, length-append, refl, subst, true}
 use Rattle.std.proofs.Math.Utf8.{scalar_cases}
 use Rattle.std.proofs.StringFromBytes.{spelled}
 use Rattle.std.specs.Char.{IsScalar, encode_utf8}
 use Rattle.std.specs.Str.{all_scalars, encode_utf8_all}
 use Rattle.std.proofs.lemmas.Bool.{cases_lt}
-use Rattle.std.proofs.lemmas.Str.{encodes-append}
-use Rattle.std.proofs.lemmas.Str.{length-le-encodes}
+use Rattle.std.proofs.lemmas.Str.{encodes-append, length-le-encodes}
 use Rattle.format_json_extents.proofs.Written.{Fits, Written, and_true, both_true}
 use Rattle.format_json_extents.proofs.Written.{fit_parts, one_written, then_written}
 use Rattle.format_json_extents.proofs.Written.Escapes.{escape_set, escape_value}
-use Rattle.format_json_extents.specs.Strings.{IsPiece}
-use Rattle.format_json_extents.specs.Strings.{IsString, IsUnescaped}
+use Rattle.format_json_extents.specs.Strings.{IsPiece, IsString, IsUnescaped}
 use Rattle.format_json_extents.specs.Texts.{Many, nothing, one_more}
-use Rattle.format_json_texts.specs.Strings.{CharacterText}
-use Rattle.format_json_texts.specs.Strings.{StringText}
-use Rattle.format_json_texts.specs.Strings.{IsUnescaped as IsPlain}
+use Rattle.format_json_texts.specs.Strings.{CharacterText, StringText, IsUnescaped as IsPlain}
 use Rattle.format_parts.specs.Words.{In, former, latter}
 use Rattle.winnow.specs.Accumulator.Holds.{HasCharacters}
 use Rattle.winnow.specs.Texts.{BothText as Both, EachText, EitherText, GatheredText, Spelled}

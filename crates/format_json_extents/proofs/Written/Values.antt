@@ -1,6 +1,5 @@
 -- Proofs that the values of this crate encode values of RFC 8259, and likewise its JSON texts.
-use Rattle.std.proofs.Common.{◌≡◌, ◌∙◌, ◌++◌, ◌↔◌, ◌<◌, ◌^◌, ℕ, zero, suc, Bool, true, false}
-use Rattle.std.proofs.Common.{[]}
+use Rattle.std.proofs.Common.{◌≡◌, ◌∙◌, ◌++◌, ◌↔◌, ◌<◌, ◌^◌, ℕ, zero, suc, Bool, true, false, []}
 use Rattle.std.proofs.Common.{◌∷◌, List, None, Option, Some, ap, append_assoc, arith, inl, inr}
 use Rattle.std.proofs.Common.{length, refl, sym}
 use Rattle.std.proofs.StringFromBytes.{spelled}
@@ -22,8 +21,7 @@ use Rattle.format_json_extents.specs.Value.{IsText, IsValue, IsWord, Only, openi
 use Rattle.format_json_texts.specs.Number.{NumberText}
 use Rattle.format_parts.specs.Words.{Slice, former, latter, pair}
 use Rattle.format_json_texts.specs.Values.{ArrayText, HasText, IsArray, IsObject, JsonText}
-use Rattle.format_json_texts.specs.Values.{ObjectText, ScalarText, Spaced, ValueText}
-use Rattle.format_json_texts.specs.Values.{WordText}
+use Rattle.format_json_texts.specs.Values.{ObjectText, ScalarText, Spaced, ValueText, WordText}
 use Rattle.format_json_texts.specs.Values.{IsNumber as IsNumberOf, IsString as IsStringOf}
 use Rattle.format_json_texts.specs.Values.{IsWord as IsWordOf}
 use Rattle.format_json_texts.specs.declared.value.Value.{Value}
@@ -146,9 +144,6 @@ member_back V cs is =
     }
 
 module _ {A : Type 0} (alloc : A) where
-  holds : String A → List ℕ → Type 0
-  holds = HasCharacters
-
   word_means : (o : Option Bool) → (v : Value A) × IsWordOf o v
   word_means None = (values.Null, refl)
   word_means (Some b) = (values.Boolean b, refl)

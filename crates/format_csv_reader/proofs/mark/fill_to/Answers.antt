@@ -24,8 +24,7 @@ loop-count-smaller g c =
     omega (arith, c.in-Ok.ensures.told.0, c.in-Ok.ensures.few, c.if-more-eq0.false)
 
 pub loop-count-preserved : goal.loop-count-preserved
-loop-count-preserved g c =
-    grew_more _ _ _ _ _ _ c.loop-count.invariant c.in-Ok.ensures.grew
+loop-count-preserved g c = grew_more _ _ _ _ _ _ c.loop-count.invariant c.in-Ok.ensures.grew
 
 pub returns-in-Err-clause-grew : goal.returns-in-Err-clause-grew
 returns-in-Err-clause-grew g c =

@@ -14,10 +14,9 @@ returns-in-Ok-clause-read g c =
     let as_many = length-take-le c.in-Ok.count read fits in
     let whole = put_mid from room c.loop-count.bytes read in (
       take c.in-Ok.count read,
-      ap (λ m. take (from + m) whole) as_many
-          ∙ behind_front from c.in-Ok.count c.loop-count.bytes read
-          (post_of from room c.loop-count.bytes) (omega arith) fits
-          ∙ ap (λ l. l ++ take c.in-Ok.count read) c.loop-count.invariant.kept,
+      ap (λ m. take (from + m) whole) as_many ∙ behind_front _ _ _ _ (post_of from room
+          c.loop-count.bytes) (omega arith) fits ∙ ap (λ l. l ++ take c.in-Ok.count read)
+          c.loop-count.invariant.kept,
       Consumes-trans _ _ _ [] (take c.in-Ok.count read) c.loop-count.invariant.none
           c.in-Ok.ensures.bytes.0,
       sym as_many,

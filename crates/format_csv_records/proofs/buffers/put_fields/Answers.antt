@@ -4,32 +4,29 @@ use Rattle.format_csv_records.proofs.Whole.{so_far_bad, so_far_open}
 use Rattle.format_csv_records.proofs.buffers.put_fields.Goals as goal
 
 pub fields-init : goal.fields-init
-fields-init g c = nothing_put g.P.FieldPlace.made c.args.dialect c.args.bytes.now _ _
+fields-init g c = nothing_put _ _ _ _ _
 
 pub put_field-requires : goal.put_field-requires
 put_field-requires g c = omega (arith, c.fields.invariant.less)
 
 pub returns-in-None : goal.returns-in-None
-returns-in-None g c = so_far_open c.args.dialect c.args.dialect.apart c.args.bytes.now
-    c.fields.rest.now _ c.fields.invariant.read c.in-None.ensures
+returns-in-None g c = so_far_open _ c.args.dialect.apart _ _ _ c.fields.invariant.read
+    c.in-None.ensures
 
 pub returns-in-Ok : goal.returns-in-Ok
 returns-in-Ok g c =
     let (field, first, puts) = c.in-Some.ensures in
-    fields_end g.P.FieldPlace.made c.args.dialect c.args.dialect.apart _ _ _ _ _ _ _ _
-    c.fields.invariant field _ first _ _ puts _ _ c.of.ensures c.put_place.ensures _
-    c.is_some.result c.in-Ok.ensures c.is_some.ensures _ refl
+    fields_end _ _ c.args.dialect.apart _ _ _ _ _ _ _ _ c.fields.invariant _ _ first _ _ puts _ _
+    c.of.ensures c.put_place.ensures _ _ c.in-Ok.ensures c.is_some.ensures _ refl
 
 pub returns-in-Err : goal.returns-in-Err
 returns-in-Err g c =
     let (field, first, puts) = c.in-Some.ensures in
-    so_far_bad c.args.dialect c.args.dialect.apart c.args.bytes.now c.fields.rest.now _
-    c.fields.invariant.read field c.in-Some.field.rest.now first c.in-Err.begun _
-    c.why_not-why.result c.if-not-first_is.ensures c.in-Err.ensures c.why_not-why.ensures refl
+    so_far_bad _ c.args.dialect.apart _ _ _ c.fields.invariant.read _ _ first _ _ _
+    c.if-not-first_is.ensures c.in-Err.ensures c.why_not-why.ensures refl
 
 pub fields-preserved : goal.fields-preserved
 fields-preserved g c =
     let (field, first, puts) = c.in-Some.ensures in
-    fields_more g.P.FieldPlace.made c.args.dialect c.args.dialect.apart _ _ _ _ _ _ _ _
-    c.fields.invariant field _ first _ _ puts _ _ c.of.ensures c.put_place.ensures _
-    c.if-not-first_is.ensures c.behind-rest.ensures
+    fields_more _ _ c.args.dialect.apart _ _ _ _ _ _ _ _ c.fields.invariant _ _ first _ _ puts _ _
+    c.of.ensures c.put_place.ensures _ c.if-not-first_is.ensures c.behind-rest.ensures

@@ -4,6 +4,5 @@ use Rattle.format_csv_records.proofs.Placing.{run_full}
 use Rattle.format_csv_records.proofs.buffers.put_unquoted.Goals as goal
 
 pub returns-clause-run : goal.returns-clause-run
-returns-clause-run c = run_full (IsOther c.args.quote) c.args.bytes.now c.args.at _ _
-    c.loop-place.place c.loop-place.invariant c.room_for-room.result (omega arith)
-    c.room_for-room.ensures.few _ c.behind.ensures c.unquoted_len.result c.unquoted_len.ensures.run
+returns-clause-run c = run_full _ _ _ _ _ _ c.loop-place.invariant _ (omega arith)
+    c.room_for-room.ensures.few _ c.behind.ensures _ c.unquoted_len.ensures.run

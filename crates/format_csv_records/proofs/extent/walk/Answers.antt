@@ -5,27 +5,21 @@ use Rattle.format_csv_records.proofs.Walking.{walking_byte, walking_none, walkin
 use Rattle.format_csv_records.proofs.extent.walk.Goals as goal
 
 pub runs-init : goal.runs-init
-runs-init c = walking_none c.args.dialect c.args.from c.args.fresh.now
+runs-init c = walking_none _ _ _
 
 pub returns-in-None : goal.returns-in-None
-returns-in-None c = walks c.args.dialect c.args.from _ c.args.fresh.now c.behind-left.result None
-    (walking_run c.args.dialect c.args.from c.runs.at c.args.fresh.now c.runs.rest.now
-    c.behind-left.result.now c.run_len-run.result c.runs.invariant c.behind-left.ensures
-    c.run_len-run.ensures.kept)
-    (inr (nil_from_length c.behind-left.result.now c.in-None.ensures.cases))
+returns-in-None c = walks _ _ _ _ c.behind-left.result None (walking_run _ _ _ _ _ _ _
+    c.runs.invariant c.behind-left.ensures c.run_len-run.ensures.kept) (inr (nil_from_length
+    c.behind-left.result.now c.in-None.ensures.cases))
 
 pub runs-preserved : goal.runs-preserved
-runs-preserved c = walking_byte c.args.dialect c.args.from _ c.after-at.result c.args.fresh.now
-    c.behind-left.result.now c.in-Some.more.now c.in-Some.byte.now c.in-Goes.step
-    (walking_run c.args.dialect c.args.from c.runs.at c.args.fresh.now c.runs.rest.now
-    c.behind-left.result.now c.run_len-run.result c.runs.invariant c.behind-left.ensures
-    c.run_len-run.ensures.kept) c.in-Some.ensures.cases.0 c.in-Goes.ensures c.after-at.ensures
+runs-preserved c = walking_byte _ _ _ _ _ _ _ _ _ (walking_run _ _ _ _ _ _ _ c.runs.invariant
+    c.behind-left.ensures c.run_len-run.ensures.kept) c.in-Some.ensures.cases.0 c.in-Goes.ensures
+    c.after-at.ensures
 
 pub returns-in-Ends : goal.returns-in-Ends
-returns-in-Ends c = walks c.args.dialect c.args.from _ c.args.fresh.now c.behind-left.result None
-    (walking_run c.args.dialect c.args.from c.runs.at c.args.fresh.now c.runs.rest.now
-    c.behind-left.result.now c.run_len-run.result c.runs.invariant c.behind-left.ensures
-    c.run_len-run.ensures.kept) (inl c.in-Ends.ensures)
+returns-in-Ends c = walks _ _ _ _ c.behind-left.result None (walking_run _ _ _ _ _ _ _
+    c.runs.invariant c.behind-left.ensures c.run_len-run.ensures.kept) (inl c.in-Ends.ensures)
 
 pub returns-in-Never : goal.returns-in-Never
 returns-in-Never c = walks c.args.dialect c.args.from _ c.args.fresh.now c.behind-left.result

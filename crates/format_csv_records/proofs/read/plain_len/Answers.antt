@@ -4,6 +4,4 @@ use Rattle.format_csv_records.proofs.Runs.{all_first}
 use Rattle.format_csv_records.proofs.read.plain_len.Goals as goal
 
 pub returns : goal.returns
-returns c = all_first (IsPlain c.args.dialect) c.args.bytes.now c.loop-place.place
-    (length c.args.bytes.now)
-    (omega arith) (omega arith) c.loop-place.invariant
+returns c = all_first _ _ _ _ (omega arith) (omega arith) c.loop-place.invariant

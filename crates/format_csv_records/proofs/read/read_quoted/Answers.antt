@@ -8,7 +8,7 @@ pub runs-init : goal.runs-init
 runs-init g c = record {
   read = record {
     done = [];
-    whole = ap (λ l. l ++ c.args.input.now.now) (sym (doubled_none c.args.quote));
+    whole = ap (λ l. l ++ c.args.input.now.now) (sym (doubled_none _));
     all = sym (append-nil _);
   };
   same = refl;
@@ -20,24 +20,22 @@ returns-then-run-rest g c = unclosed_here _ _ _ _ _ _ c.runs.invariant.read
 
 pub overflow_add-run : goal.overflow_add-run
 overflow_add-run g c =
-    let h = (run_quote c.args.quote c.runs.rest.now c.unquoted_len-run.result
+    let h = (run_quote _ _ _
     c.unquoted_len-run.ensures.run c.if-run-rest.false).1 in
     omega (arith, h, c.unquoted_len-run.ensures.size)
 
 pub returns-then-not-first_is : goal.returns-then-not-first_is
 returns-then-not-first_is g c =
-    let it = closed_here c.args.quote c.args.input.now.now c.runs.rest.now _ _ _
-    c.runs.invariant.read c.unquoted_len-run.ensures.run c.if-run-rest.false
-    c.behind-left.result.now c.front.result.now _ c.behind-left.ensures c.if-not-first_is.ensures
-    c.front.ensures c.in_ok-add.ensures.begun in
+    let it = closed_here _ _ _ _ _ _
+    c.runs.invariant.read c.unquoted_len-run.ensures.run c.if-run-rest.false _ _ _
+    c.behind-left.ensures c.if-not-first_is.ensures c.front.ensures c.in_ok-add.ensures.begun in
     (it.0, it.1, c.in_ok-add.ensures.fields ∙ c.runs.invariant.same, it.2)
 
 pub runs-preserved : goal.runs-preserved
 runs-preserved g c = record {
   read = more_here _ _ _ _ _ _ c.runs.invariant.read c.unquoted_len-run.ensures.run
-      c.if-run-rest.false
-      c.behind-left.result.now c.behind-rest.result.now c.front-in-runs.result.now _
-      c.behind-left.ensures c.if-not-first_is.ensures c.behind-rest.ensures c.front-in-runs.ensures
+      c.if-run-rest.false _ _ _ _ c.behind-left.ensures c.if-not-first_is.ensures
+      c.behind-rest.ensures c.front-in-runs.ensures
       c.in_ok-add-2.ensures.begun;
   same = c.in_ok-add-2.ensures.fields ∙ c.runs.invariant.same;
 }

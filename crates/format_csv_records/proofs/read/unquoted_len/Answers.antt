@@ -4,7 +4,4 @@ use Rattle.format_csv_records.proofs.Runs.{all_first}
 use Rattle.format_csv_records.proofs.read.unquoted_len.Goals as goal
 
 pub returns-clause-run : goal.returns-clause-run
-returns-clause-run c =
-    all_first (IsOther c.args.quote) c.args.bytes.now c.loop-place.place
-    (length c.args.bytes.now)
-    (omega arith) (omega arith) c.loop-place.invariant
+returns-clause-run c = all_first _ _ _ _ (omega arith) (omega arith) c.loop-place.invariant

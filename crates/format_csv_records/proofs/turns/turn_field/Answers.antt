@@ -8,20 +8,16 @@ use Rattle.format_csv_records.specs.declared.extent.RecordPlace.TheVariants as p
 use Rattle.format_csv_records.proofs.turns.turn_field.Goals as goal
 
 pub returns-then-byte-dialect : goal.returns-then-byte-dialect
-returns-then-byte-dialect c = goes_step c.args.dialect place.Field place.Quoted c.args.byte _ 0
-    c.if-byte-dialect.true (omega arith) (grows_open c.args.dialect) c.step_to.result
-    c.step_to.ensures
+returns-then-byte-dialect c = goes_step _ place.Field _ _ _ _ c.if-byte-dialect.true (omega arith)
+    (grows_open c.args.dialect) _ c.step_to.ensures
 
 pub returns-in-Some : goal.returns-in-Some
-returns-in-Some c = turn_text c.args.dialect place.Field c.args.byte (field_text c.args.dialect)
-    c.in-Some.step c.in-Some.ensures
+returns-in-Some c = turn_text _ place.Field _ (field_text c.args.dialect) _ c.in-Some.ensures
 
 pub returns-in-None : goal.returns-in-None
 returns-in-None c = (
   λ e. cc,
-  stuck c.args.dialect c.args.dialect.apart c.args.byte c.why_byte.result
-      (IsFieldPrefix c.args.dialect place.Field)
-      (first_field c.args.dialect c.args.dialect.apart c.args.byte c.if-byte-dialect.false
-      (λ t. false≢true (c.if-is_plain.ensures.1 t)))
-      c.in-None.ensures.0 c.in-None.ensures.1 c.why_byte.ensures,
+  stuck _ c.args.dialect.apart _ _ _ (first_field c.args.dialect c.args.dialect.apart _
+      c.if-byte-dialect.false (λ t. false≢true (c.if-is_plain.ensures.1 t))) c.in-None.ensures.0
+      c.in-None.ensures.1 c.why_byte.ensures,
 )

@@ -7,19 +7,15 @@ use Rattle.format_csv_records.specs.declared.extent.RecordPlace.TheVariants as p
 use Rattle.format_csv_records.proofs.turns.turn_quote.Goals as goal
 
 pub returns-then-byte-dialect : goal.returns-then-byte-dialect
-returns-then-byte-dialect c = goes_step c.args.dialect place.Quote place.Quoted c.args.byte _ 1
-    c.if-byte-dialect.true (omega arith) (grows_two c.args.dialect) c.step_to.result
-    c.step_to.ensures
+returns-then-byte-dialect c = goes_step _ place.Quote _ _ _ _ c.if-byte-dialect.true (omega arith)
+    (grows_two c.args.dialect) _ c.step_to.ensures
 
 pub returns-in-Some : goal.returns-in-Some
-returns-in-Some c = turn_text c.args.dialect place.Quote c.args.byte (quote_text c.args.dialect)
-    c.in-Some.step c.in-Some.ensures
+returns-in-Some c = turn_text _ place.Quote _ (quote_text c.args.dialect) _ c.in-Some.ensures
 
 pub returns-in-None : goal.returns-in-None
 returns-in-None c = (
   λ e. cc,
-  stuck c.args.dialect c.args.dialect.apart c.args.byte c.why_byte.result
-      (IsFieldPrefix c.args.dialect place.Quote)
-      (first_quote c.args.dialect c.args.dialect.apart c.args.byte c.if-byte-dialect.false)
-      c.in-None.ensures.0 c.in-None.ensures.1 c.why_byte.ensures,
+  stuck _ c.args.dialect.apart _ _ _ (first_quote c.args.dialect c.args.dialect.apart _
+      c.if-byte-dialect.false) c.in-None.ensures.0 c.in-None.ensures.1 c.why_byte.ensures,
 )

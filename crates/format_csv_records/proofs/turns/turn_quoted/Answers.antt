@@ -6,12 +6,10 @@ use Rattle.format_csv_records.specs.declared.extent.RecordPlace.TheVariants as p
 use Rattle.format_csv_records.proofs.turns.turn_quoted.Goals as goal
 
 pub returns-then-byte-dialect : goal.returns-then-byte-dialect
-returns-then-byte-dialect c = goes_step c.args.dialect place.Quoted place.Quote c.args.byte _ 0
-    c.if-byte-dialect.true (omega arith) (grows_quote c.args.dialect) c.step_to.result
-    c.step_to.ensures
+returns-then-byte-dialect c = goes_step _ place.Quoted _ _ _ _ c.if-byte-dialect.true (omega
+    arith) (grows_quote c.args.dialect) _ c.step_to.ensures
 
 pub returns : goal.returns
-returns c = goes_step c.args.dialect place.Quoted place.Quoted c.args.byte _ 1 refl (omega arith)
-    (grows_quoted c.args.dialect (c.args.byte ∷ []) (All-cons (IsOther c.args.dialect.quote)
-    c.args.byte [] c.if-byte-dialect.false (All-nil (IsOther c.args.dialect.quote))))
-    c.step_to-2.result c.step_to-2.ensures
+returns c = goes_step _ place.Quoted _ _ _ _ refl (omega arith) (grows_quoted c.args.dialect _
+    (All-cons (IsOther c.args.dialect.quote) c.args.byte [] c.if-byte-dialect.false (All-nil
+    (IsOther c.args.dialect.quote)))) _ c.step_to-2.ensures

@@ -5,14 +5,12 @@ use Rattle.format_csv_records.specs.declared.extent.RecordPlace.TheVariants as p
 use Rattle.format_csv_records.proofs.turns.turn_return.Goals as goal
 
 pub returns-then-byte-eq10 : goal.returns-then-byte-eq10
-returns-then-byte-eq10 c = goes_step c.args.dialect place.Return place.Done c.args.byte _ 0
-    c.if-byte-eq10.true (omega arith) (grows_both c.args.dialect) c.step_to.result
-    c.step_to.ensures
+returns-then-byte-eq10 c = goes_step _ place.Return _ _ _ _ c.if-byte-eq10.true (omega arith)
+    (grows_both c.args.dialect) _ c.step_to.ensures
 
 pub returns : goal.returns
 returns c = (
   λ e. cc,
   λ text fields front bs it.
-      never_return c.args.dialect c.args.dialect.apart (c.args.byte ∷ bs) c.if-byte-eq10.false text
-      fields front it,
+      never_return _ c.args.dialect.apart _ c.if-byte-eq10.false _ _ _ it,
 )

@@ -12,8 +12,7 @@ returns g c =
       q ∷ text,
       inr (
         refl,
-        not_all (IsPlain c.args.dialect)
-            c.args.field.now c.plain_len.result c.plain_len.ensures c.if-plain_len-field.false,
+        not_all _ _ _ c.plain_len.ensures c.if-plain_len-field.false,
       ),
       e ∙ ap (λ l. l ++ text) c.in_ok-put.ensures ∙ append_assoc c.args.out.now.items (q ∷ []) text,
     ))

@@ -17,8 +17,7 @@ loop-field-preserved g c =
     let tidy : ((c.args.out.now.items ++ i.0) ++ h.0) ++ (c.args.dialect.delimiter ∷ [])
     ≡ c.args.out.now.items ++ (i.0 ++ end) = simp append_assoc in (
       i.0 ++ end,
-      subst P (sym (bytes_more c.args.fields.now c.loop-field.field-index _ c.loop-field-test.true))
-          (wrote_more c.args.dialect _ i.0 _ h.0 i.1 h.1),
-      c.in_ok-put.ensures ∙ ap (λ l. l ++ (c.args.dialect.delimiter ∷ []))
-          (h.2 ∙ ap (λ l. l ++ h.0) i.2) ∙ tidy,
+      subst P (sym (bytes_more _ _ _ c.loop-field-test.true)) (wrote_more _ _ _ _ _ i.1 h.1),
+      c.in_ok-put.ensures ∙ ap (λ l. l ++ (c.args.dialect.delimiter ∷ [])) (h.2 ∙ ap (λ l. l ++
+          h.0) i.2) ∙ tidy,
     )

@@ -11,7 +11,6 @@ bytes-preserved c =
         ap (λ (l : List ℕ). length l) c.in-Some.ensures.cases.0,
         c.in-Some-Some.ensures',
       ),
-      field_more c.args.at c.bytes.next c.in-Some-Some.behind c.in-Some.byte.now
-          c.args.bytes.now fields c.bytes.rest.now c.in-Some.others.now e passed
-          c.in-Some.ensures.cases.0 c.in-Some-Some.ensures.some c.in-Some-Some.ensures.begins,
+      field_more _ _ _ _ _ _ _ _ e passed c.in-Some.ensures.cases.0 c.in-Some-Some.ensures.some
+          c.in-Some-Some.ensures.begins,
     )

@@ -7,16 +7,12 @@ use Rattle.format_http_chunked.specs.declared.places.Place.TheVariants as place
 use Rattle.format_http_chunked.proofs.framing.pass_digits.Goals as goal
 
 pub digits-init : goal.digits-init
-digits-init c = taken_none (place.Framing (framing.Digits c.args.number)) c.args.bytes.now
+digits-init c = taken_none (place.Framing (framing.Digits c.args.number)) _
 
 pub digits-preserved : goal.digits-preserved
-digits-preserved c = taken_then (place.Framing (framing.Digits c.args.number))
-    (place.Framing (framing.Digits c.digits.size))
-    (place.Framing (framing.Digits c.in-Some-number_after.sum)) c.args.bytes.now
-    c.digits.rest.now c.in-Some.others.now [] [] c.digits.invariant
-    (byte_taken (place.Framing (framing.Digits c.digits.size)) (framing.Digits c.digits.size)
-    (place.Framing (framing.Digits c.in-Some-number_after.sum)) c.in-Some.byte.now
-    c.digits.rest.now c.in-Some.others.now refl c.in-Some.ensures.cases.0
-    (digit_goes c.digits.size c.in-Some-number_after.sum c.in-Some-digit_of.digit
-    c.in-Some.byte.now c.in-Some-digit_of.ensures.some.1 c.in-Some-digit_of.ensures.some.0
+digits-preserved c = taken_then (place.Framing (framing.Digits c.args.number)) (place.Framing
+    (framing.Digits c.digits.size)) (place.Framing (framing.Digits c.in-Some-number_after.sum)) _
+    _ _ [] [] c.digits.invariant (byte_taken _ (framing.Digits c.digits.size) (place.Framing
+    (framing.Digits c.in-Some-number_after.sum)) _ _ _ refl c.in-Some.ensures.cases.0 (digit_goes
+    _ _ _ _ c.in-Some-digit_of.ensures.some.1 c.in-Some-digit_of.ensures.some.0
     c.in-Some-number_after.ensures.some))

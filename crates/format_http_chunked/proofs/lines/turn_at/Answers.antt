@@ -2,43 +2,31 @@ use Rattle.format_http_chunked.proofs.Turns.{turn_in}
 use Rattle.format_http_chunked.proofs.lines.turn_at.Goals as goal
 
 pub returns-in-AfterSize : goal.returns-in-AfterSize
-returns-in-AfterSize c size =
-    turn_in c.in-AfterSize.is size c.args.byte c.turn_behind.result (c.turn_behind.ensures size)
+returns-in-AfterSize c size = turn_in c.in-AfterSize.is _ _ _ (c.turn_behind.ensures size)
 
 pub returns-in-White : goal.returns-in-White
-returns-in-White c size =
-    turn_in c.in-White.is size c.args.byte c.turn_white.result (c.turn_white.ensures size)
+returns-in-White c size = turn_in c.in-White.is _ _ _ (c.turn_white.ensures size)
 
 pub returns-in-Semicolon : goal.returns-in-Semicolon
-returns-in-Semicolon c size =
-    turn_in c.in-Semicolon.is size c.args.byte c.turn_semicolon.result
-    (c.turn_semicolon.ensures size)
+returns-in-Semicolon c size = turn_in c.in-Semicolon.is _ _ _ (c.turn_semicolon.ensures size)
 
 pub returns-in-Name : goal.returns-in-Name
-returns-in-Name c size =
-    turn_in c.in-Name.is size c.args.byte c.turn_name.result (c.turn_name.ensures size)
+returns-in-Name c size = turn_in c.in-Name.is _ _ _ (c.turn_name.ensures size)
 
 pub returns-in-NameWhite : goal.returns-in-NameWhite
-returns-in-NameWhite c size =
-    turn_in c.in-NameWhite.is size c.args.byte c.turn_name_white.result
-    (c.turn_name_white.ensures size)
+returns-in-NameWhite c size = turn_in c.in-NameWhite.is _ _ _ (c.turn_name_white.ensures size)
 
 pub returns-in-Equals : goal.returns-in-Equals
-returns-in-Equals c size =
-    turn_in c.in-Equals.is size c.args.byte c.turn_equals.result (c.turn_equals.ensures size)
+returns-in-Equals c size = turn_in c.in-Equals.is _ _ _ (c.turn_equals.ensures size)
 
 pub returns-in-Token : goal.returns-in-Token
-returns-in-Token c size =
-    turn_in c.in-Token.is size c.args.byte c.turn_token.result (c.turn_token.ensures size)
+returns-in-Token c size = turn_in c.in-Token.is _ _ _ (c.turn_token.ensures size)
 
 pub returns-in-Quotes : goal.returns-in-Quotes
-returns-in-Quotes c size =
-    turn_in c.in-Quotes.is size c.args.byte c.turn_quotes.result (c.turn_quotes.ensures size)
+returns-in-Quotes c size = turn_in c.in-Quotes.is _ _ _ (c.turn_quotes.ensures size)
 
 pub returns-in-Escape : goal.returns-in-Escape
-returns-in-Escape c size =
-    turn_in c.in-Escape.is size c.args.byte c.turn_escape.result (c.turn_escape.ensures size)
+returns-in-Escape c size = turn_in c.in-Escape.is _ _ _ (c.turn_escape.ensures size)
 
 pub returns-in-Return : goal.returns-in-Return
-returns-in-Return c size =
-    turn_in c.in-Return.is size c.args.byte c.turn_return.result (c.turn_return.ensures size)
+returns-in-Return c size = turn_in c.in-Return.is _ _ _ (c.turn_return.ensures size)

@@ -8,17 +8,15 @@ use Rattle.format_http_chunked.proofs.lines.turn_name.Goals as goal
 
 pub returns-then-is_token : goal.returns-then-is_token
 returns-then-is_token c size content trailers bytes =
-    counted (λ n. name_token _ c.args.byte bytes (c.if-is_token.ensures.0 refl))
+    counted (λ n. name_token _ _ bytes (c.if-is_token.ensures.0 refl))
 
 pub returns-then-byte-eq13 : goal.returns-then-byte-eq13
 returns-then-byte-eq13 c size content trailers bytes =
-    counted (λ n. name_return _ c.args.byte bytes (λ t. false≢true (c.if-is_token.ensures.1 t))
+    counted (λ n. name_return _ _ bytes (λ t. false≢true (c.if-is_token.ensures.1 t))
     c.if-byte-eq13.true)
 
 pub returns : goal.returns
 returns c size = turn_by (framing.Line line.Name size) (framing.Line line.NameWhite size) size
-    c.args.byte c.turn_name_white.result
-    (λ content trailers bytes. counted (λ n. name_other
-    (ChunksAfterSize n content trailers size) c.args.byte bytes
-    (λ t. false≢true (c.if-is_token.ensures.1 t))
-    c.if-byte-eq13.false)) (c.turn_name_white.ensures size)
+    c.args.byte _ (λ content trailers bytes. counted (λ n. name_other (ChunksAfterSize n content
+    trailers size) _ bytes (λ t. false≢true (c.if-is_token.ensures.1 t)) c.if-byte-eq13.false))
+    (c.turn_name_white.ensures size)

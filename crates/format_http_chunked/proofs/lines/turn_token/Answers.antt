@@ -8,12 +8,10 @@ use Rattle.format_http_chunked.proofs.lines.turn_token.Goals as goal
 
 pub returns-then-is_token : goal.returns-then-is_token
 returns-then-is_token c size content trailers bytes =
-    counted (λ n. token_token _ c.args.byte bytes (c.if-is_token.ensures.0 refl))
+    counted (λ n. token_token _ _ bytes (c.if-is_token.ensures.0 refl))
 
 pub returns : goal.returns
 returns c size = turn_by (framing.Line line.Token size) (framing.Line line.AfterSize size) size
-    c.args.byte c.turn_behind.result
-    (λ content trailers bytes. counted (λ n. goes_out IsTokenByte
-    (Extended (ChunksAfterSize n content trailers size)) c.args.byte bytes
-    (λ t. false≢true (c.if-is_token.ensures.1 t))))
-    (c.turn_behind.ensures size)
+    c.args.byte _ (λ content trailers bytes. counted (λ n. goes_out IsTokenByte (Extended
+    (ChunksAfterSize n content trailers size)) c.args.byte bytes (λ t. false≢true
+    (c.if-is_token.ensures.1 t)))) (c.turn_behind.ensures size)

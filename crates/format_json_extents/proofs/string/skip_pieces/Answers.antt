@@ -1,8 +1,7 @@
 use Rattle.std.proofs.Common.{rules}
 use Rattle.format_json_extents.proofs.Leading.{leads_here, leads_leaves, leads_none}
 use Rattle.format_json_extents.proofs.Texts.{escape_leads, escape_less, piece_none, piece_other}
-use Rattle.format_json_extents.proofs.Texts.{tail_ahead}
-use Rattle.format_json_extents.proofs.Texts.{tail_ends, tail_none}
+use Rattle.format_json_extents.proofs.Texts.{tail_ahead, tail_ends, tail_none}
 use Rattle.format_json_extents.specs.Strings.{IsStringTail}
 use Rattle.format_json_extents.specs.Texts.{Never}
 use Rattle.format_json_extents.proofs.string.skip_pieces.Goals as goal

@@ -3,12 +3,11 @@ use Rattle.format_json_extents.proofs.Answered.{match_on}
 use Rattle.format_json_extents.proofs.Firsts.{value_starts}
 use Rattle.format_json_extents.proofs.Leading.{leads_leaves, leads_none, leads_on}
 use Rattle.format_json_extents.proofs.Values.{item_no_name, item_no_value, item_parts, items_end}
-use Rattle.format_json_extents.proofs.Values.{items_less}
-use Rattle.format_json_extents.proofs.Values.{items_more, items_none, items_stop, nested_is}
-use Rattle.format_json_extents.proofs.Values.{nested_none}
-use Rattle.format_json_extents.proofs.Values.{opening_no_scalar, tail_empty, tail_items, tail_none}
-use Rattle.format_json_extents.proofs.Values.{value_lowest, value_nested, value_no_other}
-use Rattle.format_json_extents.proofs.Values.{value_none, value_scalar}
+use Rattle.format_json_extents.proofs.Values.{items_less, items_more, items_none, items_stop}
+use Rattle.format_json_extents.proofs.Values.{nested_is, nested_none, opening_no_scalar}
+use Rattle.format_json_extents.proofs.Values.{tail_empty, tail_items, tail_none, value_lowest}
+use Rattle.format_json_extents.proofs.Values.{value_nested, value_no_other, value_none}
+use Rattle.format_json_extents.proofs.Values.{value_scalar}
 use Rattle.format_json_extents.specs.Texts.{Never}
 use Rattle.format_json_extents.specs.Value.{IsItemsTail, IsValue}
 use Rattle.format_json_extents.proofs.value.+nesting.Goals as goal

@@ -9,7 +9,7 @@ use Rattle.format_toml_tree.proofs.build.build.Goals as goal
 use Rattle.format_toml_tree.proofs.build.build.Goals.{in-Some+in-Ok, in_default}
 
 pub loop-line-init : goal.loop-line-init
-loop-line-init g c = left_first c.args.lines.now _ c.in_ok-tree.ensures
+loop-line-init g c = left_first _ _ c.in_ok-tree.ensures
 
 pub add-requires : goal.add-requires
 add-requires g c = stands _ _ _ _ c.loop-line.invariant
@@ -19,15 +19,14 @@ err_same r e f = cc
 
 pub returns-in-Err-clause-refused : goal.returns-in-Err-clause-refused
 returns-in-Err-clause-refused g c line why e =
-    let (at, stop) = c.fault_at.ensures line why (err_same (Err c.fault_at.result) refl e) in
+    let (at, stop) = c.fault_at.ensures line why (err_same _ refl e) in
     let lines = c.args.lines.now in
     let old = c.loop-line.tree.slots.items in
     let new = c.add.new.self.slots.items in
-    subst (λ l. Gives (empty, []) 0 lines (Err (l, why))) (sym at)
-    (line_refused lines c.loop-line.line c.loop-line.table old c.loop-line.invariant
-    c.index-lines-line.result c.loop-line-test.true c.index-lines-line.is c.in-Some.item
-    c.in-Some.is why new
-    (subst (λ s. AddsItem old c.loop-line.table c.in-Some.item (Err s) new) stop c.in-Err.ensures))
+    subst (λ l. Gives (empty, []) 0 lines (Err (l, why))) (sym at) (line_refused _ _ _ _
+    c.loop-line.invariant _ c.loop-line-test.true c.index-lines-line.is _ c.in-Some.is _ new
+    (subst (λ s. AddsItem old c.loop-line.table c.in-Some.item (Err s) new) stop
+    c.in-Err.ensures))
 
 pub loop-line-preserved : goal.loop-line-preserved
 loop-line-preserved g c =
@@ -36,19 +35,15 @@ loop-line-preserved g c =
     let old = c.loop-line.tree.slots.items in
     elim c.match-lines-line.branch [
       | in-Some+in-Ok w ↦
-          subst (λ t. LeftToAdd lines (k + 1) t c.match-lines-line.tree.slots.items)
-          (sym w.table-is)
-          (subst (λ t. LeftToAdd lines (k + 1) w.in-Ok.next t.slots.items) (sym w.tree-is)
-          (left_added lines k c.loop-line.table old c.loop-line.invariant
-          c.index-lines-line.result c.loop-line-test.true c.index-lines-line.is w.in-Some.item
-          w.in-Some.is w.in-Ok.next w.add.new.self.slots.items w.in-Ok.ensures))
+          subst (λ t. LeftToAdd lines (k + 1) t c.match-lines-line.tree.slots.items) (sym
+          w.table-is) (subst (λ t. LeftToAdd lines (k + 1) w.in-Ok.next t.slots.items) (sym
+          w.tree-is) (left_added _ _ _ _ c.loop-line.invariant _ c.loop-line-test.true
+          c.index-lines-line.is _ w.in-Some.is _ _ w.in-Ok.ensures))
       | in_default w ↦
-          subst (λ t. LeftToAdd lines (k + 1) t c.match-lines-line.tree.slots.items)
-          (sym w.table-is)
-          (subst (λ t. LeftToAdd lines (k + 1) c.loop-line.table t.slots.items) (sym w.tree-is)
-          (left_blank lines k c.loop-line.table old c.loop-line.invariant
-          c.index-lines-line.result c.loop-line-test.true c.index-lines-line.is
-          (none_of c.index-lines-line.result w.in_default.not-Some)))
+          subst (λ t. LeftToAdd lines (k + 1) t c.match-lines-line.tree.slots.items) (sym
+          w.table-is) (subst (λ t. LeftToAdd lines (k + 1) c.loop-line.table t.slots.items) (sym
+          w.tree-is) (left_blank _ _ _ _ c.loop-line.invariant _ c.loop-line-test.true
+          c.index-lines-line.is (none_of _ w.in_default.not-Some)))
     ]
 
 pub returns-clause-accepted : goal.returns-clause-accepted
@@ -63,15 +58,14 @@ returns-clause-accepted g c = (
 )
 
 pub returns-in_err-tree-clause-answers : goal.returns-in_err-tree-clause-answers
-returns-in_err-tree-clause-answers g c =
-    answers_memory c.args.lines.now c.from_residual.result c.from_residual.ensures
+returns-in_err-tree-clause-answers g c = answers_memory _ _ c.from_residual.ensures
 
 pub returns-in-Err-clause-answers : goal.returns-in-Err-clause-answers
 returns-in-Err-clause-answers g c =
-    answers_fault c.args.lines.now c.fault_at.result (λ line why e.
+    answers_fault _ _ (λ line why e.
     returns-in-Err-clause-refused g c line why (ap (λ f. Err f) e))
 
 pub returns-clause-answers : goal.returns-clause-answers
 returns-clause-answers g c =
     let told = returns-clause-accepted g c in
-    answers_tree c.args.lines.now c.loop-line.tree told.0 told.1 told.2
+    answers_tree _ c.loop-line.tree _ told.1 told.2

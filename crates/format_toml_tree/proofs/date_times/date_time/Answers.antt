@@ -4,9 +4,7 @@ use Rattle.format_toml_tree.proofs.date_times.date_time.Goals as goal
 
 pub returns-in-Some : goal.returns-in-Some
 unfolding Finds
-returns-in-Some g c =
-    if_ok _ _ c.after_date.result (λ o. dated _ _ _ _ o c.in-Some.ensures) c.after_date.ensures
+returns-in-Some g c = if_ok _ _ _ (λ o. dated _ _ _ _ _ c.in-Some.ensures) c.after_date.ensures
 
 pub returns-in-None : goal.returns-in-None
-returns-in-None g c =
-    if_ok _ _ c.time_alone.result (λ o. undated _ _ o c.in-None.ensures) c.time_alone.ensures
+returns-in-None g c = if_ok _ _ _ (λ o. undated _ _ _ c.in-None.ensures) c.time_alone.ensures

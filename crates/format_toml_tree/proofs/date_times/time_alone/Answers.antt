@@ -12,8 +12,7 @@ time_of-requires g c = timed_digits _ _ _ _ c.in-Some.ensures
 
 pub returns-in-Some-offset : goal.returns-in-Some-offset
 unfolding FindsTime
-returns-in-Some-offset g c =
-    alone_offset _ _ _ _ _ (rw c.in-Some-offset.is at c.in-Some.ensures)
+returns-in-Some-offset g c = alone_offset _ _ _ _ _ (rw c.in-Some-offset.is at c.in-Some.ensures)
 
 pub returns-in_ok-time-in-None : goal.returns-in_ok-time-in-None
 unfolding FindsTime

@@ -15,21 +15,19 @@ returns-in_err-year c = rw c.from_residual.ensures
 
 pub returns-in_err-month : goal.returns-in_err-month
 unfolding Finds
-returns-in_err-month c = rw c.from_residual-in_err-month.ensures
-    (no_date _ (turn_second 45 four_one _ _ _ c.in_ok-year.ensures c.in_err-month.ensures))
+returns-in_err-month c = rw c.from_residual-in_err-month.ensures (no_date _ (turn_second _
+    four_one _ _ _ c.in_ok-year.ensures c.in_err-month.ensures))
 
 pub returns-in_err-day : goal.returns-in_err-day
 unfolding Finds
-returns-in_err-day c = rw c.from_residual-in_err-day.ensures
-    (no_date _ (turn_third 45 four_one _ _ _ c.in_ok-year.ensures _ _ c.in_ok-month.ensures
-    c.in_err-day.ensures))
+returns-in_err-day c = rw c.from_residual-in_err-day.ensures (no_date _ (turn_third _ four_one _ _
+    _ c.in_ok-year.ensures _ _ c.in_ok-month.ensures c.in_err-day.ensures))
 
 pub returns-then-day-eq0 : goal.returns-then-day-eq0
 unfolding Finds
 returns-then-day-eq0 c =
-    wrong_day _ _ _ _ _ (turn_some 45 four_one _ _ _ c.in_ok-year.ensures _ _
-    c.in_ok-month.ensures _ _ c.in_ok-day.ensures)
-    (λ within. elim c.then-day-eq0.branch [
+    wrong_day _ _ _ _ _ (turn_some _ four_one _ _ _ c.in_ok-year.ensures _ _ c.in_ok-month.ensures
+    _ _ c.in_ok-day.ensures) (λ within. elim c.then-day-eq0.branch [
       | then-day-eq0-via-then-day-eq0 w ↦ omega (arith, within.0, w.if-day-eq0.true)
       | then-day-eq0-via-else-day-eq0+then-day-days_in w ↦
           let P : ℕ → Type 0 = λ n. c.in_ok-day.day ≤ n in
@@ -39,7 +37,7 @@ returns-then-day-eq0 c =
 pub returns : goal.returns
 unfolding Finds FullDate
 returns c = (
-  turn_some 45 four_one _ _ _ c.in_ok-year.ensures _ _ c.in_ok-month.ensures _ _
+  turn_some _ four_one _ _ _ c.in_ok-year.ensures _ _ c.in_ok-month.ensures _ _
       c.in_ok-day.ensures,
   omega (arith, c.if-day-eq0.false),
   let P : ℕ → Type 0 = λ n. c.in_ok-day.day ≤ n in

@@ -9,5 +9,4 @@ returns-then-first-mark c = marked_other _ _ _ c.in_ok-first.ensures.cases.0 _ c
 
 pub returns : goal.returns
 returns c =
-    marked_by _ _ _ c.in_ok-first.ensures.cases.0 _ c.if-first-mark.false c.two_digits.result
-    c.two_digits.ensures
+    marked_by _ _ _ c.in_ok-first.ensures.cases.0 _ c.if-first-mark.false _ c.two_digits.ensures

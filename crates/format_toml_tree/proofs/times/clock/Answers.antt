@@ -15,21 +15,19 @@ returns-in_err-hour c = rw c.from_residual.ensures
 
 pub returns-in_err-minute : goal.returns-in_err-minute
 unfolding Finds
-returns-in_err-minute c = rw c.from_residual-in_err-minute.ensures
-    (no_clock _ (turn_second 58 two_one _ _ _ c.in_ok-hour.ensures c.in_err-minute.ensures))
+returns-in_err-minute c = rw c.from_residual-in_err-minute.ensures (no_clock _ (turn_second _
+    two_one _ _ _ c.in_ok-hour.ensures c.in_err-minute.ensures))
 
 pub returns-in_err-second : goal.returns-in_err-second
 unfolding Finds
-returns-in_err-second c = rw c.from_residual-in_err-second.ensures
-    (no_clock _ (turn_third 58 two_one _ _ _ c.in_ok-hour.ensures _ _ c.in_ok-minute.ensures
-    c.in_err-second.ensures))
+returns-in_err-second c = rw c.from_residual-in_err-second.ensures (no_clock _ (turn_third _
+    two_one _ _ _ c.in_ok-hour.ensures _ _ c.in_ok-minute.ensures c.in_err-second.ensures))
 
 pub returns-then-hour-gt23 : goal.returns-then-hour-gt23
 unfolding Finds
 returns-then-hour-gt23 c =
-    wrong_clock _ _ _ _ _ (turn_some 58 two_one _ _ _ c.in_ok-hour.ensures _ _
-    c.in_ok-minute.ensures _ _ c.in_ok-second.ensures)
-    (λ within. elim c.then-hour-gt23.branch [
+    wrong_clock _ _ _ _ _ (turn_some _ two_one _ _ _ c.in_ok-hour.ensures _ _
+    c.in_ok-minute.ensures _ _ c.in_ok-second.ensures) (λ within. elim c.then-hour-gt23.branch [
       | then-hour-gt23-via-then-hour-gt23 w ↦ omega (arith, within.0, w.if-hour-gt23.true)
       | then-hour-gt23-via-else-hour-gt23+then-minute-gt59 w ↦
           omega (arith, within.1, w.if-minute-gt59.true)
@@ -40,7 +38,7 @@ returns-then-hour-gt23 c =
 pub returns : goal.returns
 unfolding Finds Clock
 returns c = (
-  turn_some 58 two_one _ _ _ c.in_ok-hour.ensures _ _ c.in_ok-minute.ensures _ _
+  turn_some _ two_one _ _ _ c.in_ok-hour.ensures _ _ c.in_ok-minute.ensures _ _
       c.in_ok-second.ensures,
   omega (arith, c.if-hour-gt23.false),
   omega (arith, c.if-minute-gt59.false),

@@ -9,8 +9,7 @@ pub returns-in-None-clause-told : goal.returns-in-None-clause-told
 returns-in-None-clause-told c here =
     let P : Option RecordSize → Type 0 = λ o. IsLed c.args.dialect c.args.self.now
     (drop c.args.self.now.passed c.args.bytes.now) c.advance.new.self (Ok o) in
-    let (room, text, fields) = within c.args.dialect c.args.self.now c.args.bytes.now here in
-    let (it, all, not) = open_after c.args.dialect c.args.dialect.apart c.args.self.now
-    c.advance.new.self c.args.bytes.now here
-    (subst P c.in-None.is (c.in_ok-size.ensures.fresh room (text, fields))) in
+    let (room, text, fields) = within _ _ _ here in
+    let (it, all, not) = open_after _ c.args.dialect.apart _
+    _ _ here (subst P c.in-None.is (c.in_ok-size.ensures.fresh room (text, fields))) in
     c.end.ensures c.args.dialect not it all

@@ -14,8 +14,7 @@ returns-clause-fields g c = elim c.match-push.branch [
       let e : c.push.new.self.items
       ≡ c.self.inside.ends.items ++ (length c.self.inside.bytes.items ∷ []) =
       rw size at w.in-Ok.ensures.items in
-      rw (w.result-is, ← c.self.view_is, e)
-      (cut_end 0 c.self.inside.ends.items c.self.inside.bytes.items c.self.invariant)
+      rw (w.result-is, ← c.self.view_is, e) (cut_end _ _ _ c.self.invariant)
   | in-Err w ↦ rw w.result-is tt
 ]
 
@@ -27,8 +26,7 @@ returns-clause-begun g c = elim c.match-push.branch [
       let e : c.push.new.self.items
       ≡ c.self.inside.ends.items ++ (length c.self.inside.bytes.items ∷ []) =
       rw size at w.in-Ok.ensures.items in
-      rw (w.result-is, e, last_append 0 c.self.inside.ends.items _)
-      (drop_all _ c.self.inside.bytes.items (omega arith))
+      rw (w.result-is, e, last_append _ _ _) (drop_all _ c.self.inside.bytes.items (omega arith))
   | in-Err w ↦ rw w.result-is tt
 ]
 
@@ -40,6 +38,6 @@ invariant_of-self g c = elim (cases_Bool (is_ok c.push.result)) [
       let e : c.push.new.self.items
       ≡ c.self.inside.ends.items ++ (length c.self.inside.bytes.items ∷ []) =
       rw (good, size) at c.push.ensures.items in
-      rw e (rises_end 0 c.self.inside.ends.items _ c.self.invariant)
+      rw e (rises_end _ _ _ c.self.invariant)
   | inr bad ↦ rw (rw bad at c.push.ensures.items) c.self.invariant
 ]

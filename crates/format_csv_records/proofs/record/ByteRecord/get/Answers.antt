@@ -14,15 +14,14 @@ returns-clause-value g c =
     let size = c.len.ensures ∙ c.self.inside.ends.ok.0 in
     let lt : c.args.place < length c.self.inside.ends.items = omega (arith, c.if-place-len.false) in
     let b = c.bounds-start.ensures in
-    rw (← c.self.view_is, c.as_slice.ensures.value, b.start, b.end)
-    (field_cut 0 c.self.inside.ends.items c.self.inside.bytes.items c.args.place lt)
+    rw (← c.self.view_is, c.as_slice.ensures.value, b.start, b.end) (field_cut _ _ _ _ lt)
 
 pub slice_bounds-result-count : goal.slice_bounds-result-count
 slice_bounds-result-count g c =
     let size = c.len.ensures ∙ c.self.inside.ends.ok.0 in
     let lt : c.args.place < length c.self.inside.ends.items = omega (arith, c.if-place-len.false) in
     let b = c.bounds-start.ensures in
-    let f = field_within 0 c.self.inside.ends.items (length c.self.inside.bytes.items) c.args.place
+    let f = field_within _ _ _ _
     c.self.invariant lt in
     rw (b.start, b.end) f.0
 
@@ -31,7 +30,7 @@ slice_bounds-result-start g c =
     let size = c.len.ensures ∙ c.self.inside.ends.ok.0 in
     let lt : c.args.place < length c.self.inside.ends.items = omega (arith, c.if-place-len.false) in
     let b = c.bounds-start.ensures in
-    let f = field_within 0 c.self.inside.ends.items (length c.self.inside.bytes.items) c.args.place
+    let f = field_within _ _ _ _
     c.self.invariant lt in
     omega (arith, b.start, b.end, f.0, f.1, ap length c.as_slice.ensures.value)
 
@@ -40,7 +39,7 @@ slice_bounds-result-end g c =
     let size = c.len.ensures ∙ c.self.inside.ends.ok.0 in
     let lt : c.args.place < length c.self.inside.ends.items = omega (arith, c.if-place-len.false) in
     let b = c.bounds-start.ensures in
-    let f = field_within 0 c.self.inside.ends.items (length c.self.inside.bytes.items) c.args.place
+    let f = field_within _ _ _ _
     c.self.invariant lt in
     omega (arith, b.start, b.end, f.0, f.1, ap length c.as_slice.ensures.value)
 

@@ -2,5 +2,4 @@ use Rattle.format_http_chunked.proofs.Results.{told}
 use Rattle.format_http_chunked.proofs.decoder.Decoder.advance.Goals as goal
 
 pub returns-clause-told : goal.returns-clause-told
-returns-clause-told c = told c.args.self.now c.run.new.self c.args.input.now.now c.run.new.input.now
-    c.run.result c.run.ensures.told
+returns-clause-told c = told c.args.self.now c.run.new.self _ _ _ c.run.ensures.told

@@ -10,11 +10,10 @@ returns-then-size-eq0-clause-told c = part_alike c.args.self.now (record {
   room = c.args.self.now.room;
   trailer_room = c.args.self.now.trailer_room;
   limits = c.args.self.now.limits;
-}) c.pass_byte.new.self c.args.input.now.now c.pass_byte.new.input.now c.pass_byte.result
-    (zero_alike c.args.self.now.place
-    (c.in-Data.is ∙ ap (λ n. place.Data n) c.if-size-eq0.true)) c.pass_byte.ensures.told
+}) c.pass_byte.new.self _ _ _
+    (zero_alike _ (c.in-Data.is ∙ ap (λ n. place.Data n) c.if-size-eq0.true))
+    c.pass_byte.ensures.told
 
 pub returns-then-size-eq0-clause-spent : goal.returns-then-size-eq0-clause-spent
-returns-then-size-eq0-clause-spent c = spends_alike c.args.self.now
-    (place.Framing framing.DataEnd) c.pass_byte.new.self c.args.input.now.now
-    c.pass_byte.new.input.now c.pass_byte.result c.pass_byte.ensures.spent
+returns-then-size-eq0-clause-spent c = spends_alike c.args.self.now (place.Framing
+    framing.DataEnd) c.pass_byte.new.self _ _ _ c.pass_byte.ensures.spent

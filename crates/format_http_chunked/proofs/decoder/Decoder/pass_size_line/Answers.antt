@@ -2,11 +2,10 @@ use Rattle.format_http_chunked.proofs.Taking.{taken_none}
 use Rattle.format_http_chunked.proofs.decoder.Decoder.pass_size_line.Goals as goal
 
 pub returns-in-None-clause-told : goal.returns-in-None-clause-told
-returns-in-None-clause-told c = taken_none c.args.self.now.place c.args.input.now.now
+returns-in-None-clause-told c = taken_none _ _
 
 pub returns-in-None-checked_sub-clause-told : goal.returns-in-None-checked_sub-clause-told
-returns-in-None-checked_sub-clause-told c =
-    taken_none c.args.self.now.place c.args.input.now.now
+returns-in-None-checked_sub-clause-told c = taken_none _ _
 
 pub returns-in-Some-checked_sub-clause-told : goal.returns-in-Some-checked_sub-clause-told
 returns-in-Some-checked_sub-clause-told c = c.in-Some.ensures.1

@@ -9,15 +9,14 @@ use Rattle.format_http_chunked.proofs.decoder.Decoder.pass_trailers.Goals as goa
 
 pub returns-then-not-ends_there-clause-told : goal.returns-then-not-ends_there-clause-told
 returns-then-not-ends_there-clause-told c = (
-  taken_none c.args.self.now.place c.args.input.now.now,
+  taken_none _ _,
   (
     c.in-Some.byte.now,
     c.in-Some.behind.now,
     c.in-Some.ensures.cases.0,
     (
       inl (c.args.at, c.requires),
-      never_at c.args.self.now.place (place.Trailers c.args.at) c.in-Some.byte.now c.requires
-          (fields_never c.args.at c.in-Some.byte.now (c.in-None-field_behind.ensures.none refl)
+      never_at _ _ _ c.requires (fields_never _ _ (c.in-None-field_behind.ensures.none refl)
           c.if-not-ends_there.ensures),
     ),
   ),
@@ -26,22 +25,17 @@ returns-then-not-ends_there-clause-told c = (
 pub returns-in-Some-checked_sub-clause-told : goal.returns-in-Some-checked_sub-clause-told
 returns-in-Some-checked_sub-clause-told c =
     let (fields, e, passed) = c.pass_fields-last.ensures.passed in
-    let (taken, some) = passed_front c.args.at c.in-Some-field_behind.next
-    c.pass_fields-last.result.0 c.in-Some.byte.now c.args.input.now.now c.in-Some.behind.now
-    c.pass_fields-last.result.2.now c.front.result.now c.in-Some-field_behind.ensures.some
-    c.in-Some-field_behind.ensures.begins c.in-Some.ensures.cases.0 (fields, e, passed)
-    c.front.ensures in (
-      taken_from c.args.self.now.place (place.Trailers c.args.at)
-          (place.Trailers c.pass_fields-last.result.0) c.args.input.now.now
-          c.pass_fields-last.result.2.now [] c.front.result.now c.requires taken,
+    let (taken, some) = passed_front _ _
+    _ _ _ _ _ _ c.in-Some-field_behind.ensures.some c.in-Some-field_behind.ensures.begins
+    c.in-Some.ensures.cases.0 (fields, e, passed) c.front.ensures in (
+      taken_from _ _ (place.Trailers c.pass_fields-last.result.0) _ _ [] c.front.result.now
+          c.requires taken,
       some,
     )
 
 pub returns-in-Some-checked_sub-2-clause-told : goal.returns-in-Some-checked_sub-2-clause-told
 returns-in-Some-checked_sub-2-clause-told c = (
-  taken_from c.args.self.now.place (place.Trailers c.args.at) (place.Framing framing.LastReturn)
-      c.args.input.now.now c.in-Some.behind.now [] [] c.requires
-      (last_taken c.args.at c.in-Some.byte.now c.args.input.now.now c.in-Some.behind.now
+  taken_from _ _ (place.Framing framing.LastReturn) _ _ [] [] c.requires (last_taken _ _ _ _
       c.if-not-ends_there.ensures c.in-Some.ensures.cases.0),
   omega (arith, ap (λ (l : List ℕ). length l) c.in-Some.ensures.cases.0),
 )
@@ -50,9 +44,7 @@ pub returns-in-Some-checked_sub-clause-stands : goal.returns-in-Some-checked_sub
 returns-in-Some-checked_sub-clause-stands c =
     let (fields, e, passed) = c.pass_fields-last.ensures.passed in (
       [],
-      front_before c.in-Some.byte.now c.args.input.now.now c.in-Some.behind.now
-          c.pass_fields-last.result.2.now fields c.front.result.now c.in-Some.ensures.cases.0 e
-          c.front.ensures,
+      front_before _ _ _ _ _ _ c.in-Some.ensures.cases.0 e c.front.ensures,
     )
 
 pub returns-in-Some-checked_sub-2-clause-stands : goal.returns-in-Some-checked_sub-2-clause-stands
@@ -61,15 +53,14 @@ returns-in-Some-checked_sub-2-clause-stands c =
 
 pub returns-in-None-checked_sub-clause-told : goal.returns-in-None-checked_sub-clause-told
 returns-in-None-checked_sub-clause-told c = (
-  taken_none c.args.self.now.place c.args.input.now.now,
+  taken_none _ _,
   (
     c.in-Some.byte.now,
     c.in-Some.behind.now,
     c.in-Some.ensures.cases.0,
     (
       (c.args.at, c.requires, c.in-Some-field_behind.ensures.begins),
-      fields_go_on c.args.self.now.place c.args.at c.in-Some-field_behind.next
-          c.in-Some.byte.now c.requires c.in-Some-field_behind.ensures.some,
+      fields_go_on _ _ _ _ c.requires c.in-Some-field_behind.ensures.some,
       omega (arith, c.in-None-checked_sub.ensures),
     ),
   ),
@@ -78,14 +69,14 @@ returns-in-None-checked_sub-clause-told c = (
 pub returns-in-None-checked_sub-2-clause-told : goal.returns-in-None-checked_sub-2-clause-told
 returns-in-None-checked_sub-2-clause-told c =
     let (first, last) = c.if-not-ends_there.ensures in (
-      taken_none c.args.self.now.place c.args.input.now.now,
+      taken_none _ _,
       (
         c.in-Some.byte.now,
         c.in-Some.behind.now,
         c.in-Some.ensures.cases.0,
         (
           inr (c.requires ∙ ap (λ it. place.Trailers it) first, last),
-          last_goes_on c.args.self.now.place c.args.at c.in-Some.byte.now c.requires first last,
+          last_goes_on _ _ _ c.requires first last,
           omega (arith, c.in-None-checked_sub-2.ensures),
         ),
       ),

@@ -6,14 +6,13 @@ use Rattle.format_toml_tree.proofs.node.Node.as_bool.Goals as goal
 pub returns-in_err-value : goal.returns-in_err-value
 returns-in_err-value g c =
     subst (λ r. AnswersAs (λ b. values.Boolean b) c.args.self.now r) (sym c.from_residual.ensures)
-    (as_none (λ b. values.Boolean b) c.args.self.now c.in_err-value.ensures)
+    (as_none _ _ c.in_err-value.ensures)
 
 pub returns-in-Boolean : goal.returns-in-Boolean
 returns-in-Boolean g c =
-    as_some (λ b. values.Boolean b) c.args.self.now c.in_ok-value.value c.in_ok-value.ensures
-    c.in-Boolean.word c.in-Boolean.is
+    as_some (λ b. values.Boolean b) _ c.in_ok-value.value c.in_ok-value.ensures c.in-Boolean.word
+    c.in-Boolean.is
 
 pub returns-in_default : goal.returns-in_default
 returns-in_default g c =
-    as_other (λ b. values.Boolean b) c.args.self.now c.in_ok-value.value c.in_ok-value.ensures
-    c.in_default.not-Boolean
+    as_other _ _ c.in_ok-value.value c.in_ok-value.ensures c.in_default.not-Boolean

@@ -7,18 +7,15 @@ use Rattle.format_toml_tree.proofs.node.Node.as_float.Goals as goal
 
 pub returns-in_err-value : goal.returns-in_err-value
 returns-in_err-value g c =
-    subst (λ r. AnswersAs (λ (f : Bor (FloatOf _)). values.Float f.now) c.args.self.now r)
-    (sym c.from_residual.ensures)
-    (as_none (λ (f : Bor (FloatOf _)). values.Float f.now) c.args.self.now c.in_err-value.ensures)
+    subst (λ r. AnswersAs (λ (f : Bor (FloatOf _)). values.Float f.now) c.args.self.now r) (sym
+    c.from_residual.ensures) (as_none _ _ c.in_err-value.ensures)
 
 pub returns-in-Float : goal.returns-in-Float
 returns-in-Float g c =
-    as_some (λ (f : Bor (FloatOf _)). values.Float f.now) c.args.self.now c.in_ok-value.value
+    as_some (λ (f : Bor (FloatOf _)). values.Float f.now) _ c.in_ok-value.value
     c.in_ok-value.ensures
     (record { ref_ptr = (0, 0); now = c.in-Float.float }) c.in-Float.is
 
 pub returns-in_default : goal.returns-in_default
 returns-in_default g c =
-    as_other (λ (f : Bor (FloatOf _)). values.Float f.now) c.args.self.now c.in_ok-value.value
-    c.in_ok-value.ensures
-    (λ f. c.in_default.not-Float f.now)
+    as_other _ _ c.in_ok-value.value c.in_ok-value.ensures (λ f. c.in_default.not-Float f.now)

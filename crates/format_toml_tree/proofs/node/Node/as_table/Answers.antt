@@ -2,9 +2,7 @@ use Rattle.format_toml_tree.specs.Kinds.{IsTable, itself_none, itself_some}
 use Rattle.format_toml_tree.proofs.node.Node.as_table.Goals as goal
 
 pub returns-then-is_table : goal.returns-then-is_table
-returns-then-is_table g c =
-    itself_some IsTable c.args.self.now c.is_table.result c.if-is_table.true c.is_table.ensures
+returns-then-is_table g c = itself_some IsTable _ _ c.if-is_table.true c.is_table.ensures
 
 pub returns-else-is_table : goal.returns-else-is_table
-returns-else-is_table g c =
-    itself_none IsTable c.args.self.now c.is_table.result c.if-is_table.false c.is_table.ensures
+returns-else-is_table g c = itself_none IsTable _ _ c.if-is_table.false c.is_table.ensures

@@ -34,13 +34,13 @@ abbrev size_of : (A : Type 0) → Key A × Value A → ℕ
 size_of A e = max 0 (max (size-Value A e.1) 0)
 
 table_less : {A : Type 0} (t : ℕ) (v : Value A) (es : Vec (Key A × Value A) A)
-    → v ≡ values.Table es → (xs : List (Key A × Value A)) → xs ≡ es.items
-    → 3 * size-Value A v ≡ t → 3 * most (size_of A) xs + 2 < t
+    → v ≡ values.Table es → (xs : List (Key A × Value A)) → xs ≡ es.items → 3 * size-Value A v ≡ t
+    → 3 * most (size_of _) xs + 2 < t
 table_less {A = A} t v es e xs f d =
-    let deep : size-Value A (values.Table es) ≡ most (size_of A) es.items + 1 =
+    let deep : size-Value A (values.Table es) ≡ most (size_of _) es.items + 1 =
     search (rules, the_lemmas) in
-    let size : size-Value A v ≡ most (size_of A) es.items + 1 = ap (size-Value A) e ∙ deep in
-    let same : most (size_of A) xs ≡ most (size_of A) es.items = ap (most (size_of A)) f in
+    let size : size-Value A v ≡ most (size_of _) es.items + 1 = ap (size-Value A) e ∙ deep in
+    let same : most (size_of _) xs ≡ most (size_of _) es.items = ap (most (size_of _)) f in
     omega (arith, d, size, same)
 
 element_less : {A : Type 0} (t : ℕ) (vs : List (Value A)) (k : ℕ) (v : Value A) → k < length vs
@@ -52,11 +52,11 @@ element_less {A = A} t vs k v w is d =
     omega (arith, d, same, less)
 
 entry_less : {A : Type 0} (t : ℕ) (es : List (Key A × Value A)) (k : ℕ) (e : Key A × Value A)
-    → k < length es → e ≡ get_or es k e → 3 * most (size_of A) es + 2 ≡ t
-    → 3 * size_of A e + 1 < t
+    → k < length es → e ≡ get_or es k e → 3 * most (size_of _) es + 2 ≡ t → 3 * size_of _ e + 1 <
+    t
 entry_less {A = A} t es k e w is d =
-    let same : size_of A e ≡ size_of A (get_or es k e) = ap (size_of A) is in
-    let less : size_of A (get_or es k e) ≤ most (size_of A) es = the_most (size_of A) es k e w in
+    let same : size_of _ e ≡ size_of _ (get_or es k e) = ap (size_of _) is in
+    let less : size_of _ (get_or es k e) ≤ most (size_of _) es = the_most (size_of _) es k e w in
     omega (arith, d, same, less)
 
 -- ---- a value
@@ -66,24 +66,21 @@ fill-returns-in_default g t c =
     let items = c.args.self.now.slots.items in
     let at = slice_get_read items _ c.args.place c.index.result.now refl c.requires.3
     c.index.ensures in
-    fills_nowhere items c.args.place c.index.result.now at c.args.value.now
-    c.in_default.not-Value tt
+    fills_nowhere _ _ _ at c.args.value.now c.in_default.not-Value tt
 
 pub fill-fill_elements-requires : goal.fill-fill_elements-requires
 fill-fill_elements-requires g t c κs l =
     let items = c.args.self.now.slots.items in
     let at = slice_get_read items _ c.args.place c.index.result.now refl c.requires.3
     c.index.ensures in
-    let value = value_at items c.args.place c.index.result.now _ at c.in-Value.is in (
-      array_less t c.args.value.now c.in-Array.parts c.in-Array.is c.as_slice.result.now
-          c.as_slice.ensures.value c.decreases,
+    let value = value_at items c.args.place _ _ at c.in-Value.is in (
+      array_less _ _ _ c.in-Array.is _ c.as_slice.ensures.value c.decreases,
       (search rules, record { 0 = c.requires; 1 = value }),
     )
 
 pub fill-fill_entries-requires : goal.fill-fill_entries-requires
 fill-fill_entries-requires g t c κs l = (
-  table_less t c.args.value.now c.in-Table.parts c.in-Table.is c.as_slice-in-Table.result.now
-      c.as_slice-in-Table.ensures.value c.decreases,
+  table_less _ _ _ c.in-Table.is _ c.as_slice-in-Table.ensures.value c.decreases,
   (search rules, c.requires),
 )
 
@@ -92,33 +89,32 @@ fill-returns-in-Array g t c =
     let items = c.args.self.now.slots.items in
     let at = slice_get_read items _ c.args.place c.index.result.now refl c.requires.3
     c.index.ensures in
-    fills_array items c.args.place c.index.result.now at _ c.in-Value.is c.args.value.now
-    c.in-Array.parts c.in-Array.is c.as_slice.result.now c.as_slice.ensures.value
-    c.fill_elements.result c.fill_elements.new.self.slots.items c.fill_elements.ensures
+    fills_array _ _ _ at _ c.in-Value.is c.args.value.now c.in-Array.parts c.in-Array.is
+    c.as_slice.result.now c.as_slice.ensures.value c.fill_elements.result
+    c.fill_elements.new.self.slots.items c.fill_elements.ensures
 
 pub fill-returns-in-Table : goal.fill-returns-in-Table
 fill-returns-in-Table g t c =
     let items = c.args.self.now.slots.items in
     let at = slice_get_read items _ c.args.place c.index.result.now refl c.requires.3
     c.index.ensures in
-    fills_inline items c.args.place c.index.result.now at _ c.in-Value.is c.args.value.now
-    c.in-Table.parts c.in-Table.is c.as_slice-in-Table.result.now
-    c.as_slice-in-Table.ensures.value
-    c.fill_entries.result c.fill_entries.new.self.slots.items c.fill_entries.ensures
+    fills_inline _ _ _ at _ c.in-Value.is c.args.value.now c.in-Table.parts c.in-Table.is
+    c.as_slice-in-Table.result.now c.as_slice-in-Table.ensures.value c.fill_entries.result
+    c.fill_entries.new.self.slots.items c.fill_entries.ensures
 
 pub fill-returns-in_default-value : goal.fill-returns-in_default-value
 fill-returns-in_default-value g t c =
     let items = c.args.self.now.slots.items in
     let at = slice_get_read items _ c.args.place c.index.result.now refl c.requires.3
     c.index.ensures in
-    fills_single items c.args.place c.index.result.now at c.args.value.now
-    c.in_default-value.not-Array c.in_default-value.not-Table tt
+    fills_single _ _ _ at c.args.value.now c.in_default-value.not-Array
+    c.in_default-value.not-Table tt
 
 -- ---- elements
 
 pub fill_elements-loop-part-init : goal.fill_elements-loop-part-init
 fill_elements-loop-part-init g t c tree path holds =
-    (tree, λ r by. by, λ p v e. e, stays c.args.place holds c.requires.stands.3)
+    (tree, λ r by. by, λ p v e. e, stays _ holds c.requires.stands.3)
 
 pub fill_elements-add_element-requires : goal.fill_elements-add_element-requires
 fill_elements-add_element-requires g t c =
@@ -130,10 +126,9 @@ pub fill_elements-fill-requires : goal.fill_elements-fill-requires
 fill_elements-fill-requires g t c κs l =
     let (tree, path, holds, within) = c.requires.stands in
     let (next, f, keeps, goes) = c.loop-part.invariant tree path holds in
-    let (was, at) = some_there c.loop-part.self.slots.items c.args.place goes.within in
+    let (was, at) = some_there _ _ goes.within in
     let added = c.in_ok-below.ensures next goes.paths was goes.holds at in (
-      element_less t c.args.parts.now c.loop-part.part-index c.part-item.result
-          c.loop-part-test.true c.part-item.is c.decreases,
+      element_less _ _ _ _ c.loop-part-test.true c.part-item.is c.decreases,
       (search rules, (_, added.paths, added.holds, added.within)),
     )
 
@@ -141,41 +136,34 @@ pub fill_elements-returns-in_err-fill : goal.fill_elements-returns-in_err-fill
 fill_elements-returns-in_err-fill g t c =
     let old = c.args.self.now.slots.items in
     let new = c.fill.new.self.slots.items in
-    fills_err (λ t p r. FillsPlaces t p c.args.parts.now r) old new c.args.place
-    c.from_residual-in_err-fill.result c.in_err-fill.field-0.0 c.from_residual-in_err-fill.ensures
-    (element_refused old c.loop-part.self.slots.items c.args.place c.requires.stands.3
-    c.args.parts.now c.loop-part.part-index c.loop-part.invariant c.requires.valued
+    fills_err (λ t p r. FillsPlaces t p c.args.parts.now r) _ new c.args.place _ _
+    c.from_residual-in_err-fill.ensures (element_refused _ _ _ c.requires.stands.3 _ _
+    c.loop-part.invariant c.requires.valued
     (record { ref_ptr = (0, 0); now = c.part-item.result }) c.loop-part-test.true c.part-item.is
-    _ _ c.in_ok-below.ensures
-    c.in_err-fill.field-0.0 new c.in_err-fill.ensures)
+    _ _ c.in_ok-below.ensures _ _ c.in_err-fill.ensures)
 
 pub fill_elements-loop-part-preserved : goal.fill_elements-loop-part-preserved
 fill_elements-loop-part-preserved g t c =
     let old = c.args.self.now.slots.items in
-    element_filled old c.loop-part.self.slots.items c.args.place c.requires.stands.3
-    c.args.parts.now c.loop-part.part-index c.loop-part.invariant c.requires.valued
+    element_filled _ _ _ c.requires.stands.3 _ _ c.loop-part.invariant c.requires.valued
     (record { ref_ptr = (0, 0); now = c.part-item.result }) c.loop-part-test.true c.part-item.is
-    _ _ c.in_ok-below.ensures
-    tt _ c.in_ok-fill.ensures
+    _ _ c.in_ok-below.ensures _ _ c.in_ok-fill.ensures
 
 pub fill_elements-returns : goal.fill_elements-returns
 fill_elements-returns g t c =
-    elements_filled c.args.self.now.slots.items c.loop-part.self.slots.items c.args.place
-    c.requires.stands.3 c.args.parts.now c.loop-part.part-index c.loop-part.invariant
-    c.loop-part-test.false tt
+    elements_filled _ _ _ c.requires.stands.3 _ _ c.loop-part.invariant c.loop-part-test.false _
 
 -- ---- entries
 
 pub fill_entries-loop-part-init : goal.fill_entries-loop-part-init
 fill_entries-loop-part-init g t c tree path holds =
-    (tree, λ r by. by, λ p v e. e, stays c.args.place holds c.requires.3)
+    (tree, λ r by. by, λ p v e. e, stays _ holds c.requires.3)
 
 pub fill_entries-fill_entry-requires : goal.fill_entries-fill_entry-requires
 fill_entries-fill_entry-requires g t c κs l =
     let (tree, path, holds, within) = c.requires in
     let (next, f, keeps, goes) = c.loop-part.invariant tree path holds in (
-      entry_less t c.args.parts.now c.loop-part.part-index c.part-item.result
-          c.loop-part-test.true c.part-item.is c.decreases,
+      entry_less _ _ _ _ c.loop-part-test.true c.part-item.is c.decreases,
       (search rules, (next, goes.paths, goes.holds, goes.within)),
     )
 
@@ -183,24 +171,18 @@ pub fill_entries-returns-in_err-fill_entry : goal.fill_entries-returns-in_err-fi
 fill_entries-returns-in_err-fill_entry g t c =
     let old = c.args.self.now.slots.items in
     let new = c.fill_entry.new.self.slots.items in
-    fills_err (λ t p r. FillsNames t p c.args.parts.now r) old new c.args.place
-    c.from_residual.result c.in_err-fill_entry.field-0.0 c.from_residual.ensures
-    (entry_refused old c.loop-part.self.slots.items c.args.place c.requires.3
-    c.args.parts.now c.loop-part.part-index c.loop-part.invariant
-    c.part-item.result c.loop-part-test.true c.part-item.is
-    c.in_err-fill_entry.field-0.0 new c.in_err-fill_entry.ensures)
+    fills_err (λ t p r. FillsNames t p c.args.parts.now r) _ new c.args.place _ _
+    c.from_residual.ensures (entry_refused _ _ _ c.requires.3 _ _ c.loop-part.invariant _
+    c.loop-part-test.true c.part-item.is _ _ c.in_err-fill_entry.ensures)
 
 pub fill_entries-loop-part-preserved : goal.fill_entries-loop-part-preserved
 fill_entries-loop-part-preserved g t c =
-    entry_filled c.args.self.now.slots.items c.loop-part.self.slots.items c.args.place
-    c.requires.3 c.args.parts.now c.loop-part.part-index c.loop-part.invariant
-    c.part-item.result c.loop-part-test.true c.part-item.is tt _ c.in_ok-fill_entry.ensures
+    entry_filled _ _ _ c.requires.3 _ _ c.loop-part.invariant _ c.loop-part-test.true
+    c.part-item.is _ _ c.in_ok-fill_entry.ensures
 
 pub fill_entries-returns : goal.fill_entries-returns
 fill_entries-returns g t c =
-    entries_filled c.args.self.now.slots.items c.loop-part.self.slots.items c.args.place
-    c.requires.3 c.args.parts.now c.loop-part.part-index c.loop-part.invariant
-    c.loop-part-test.false tt
+    entries_filled _ _ _ c.requires.3 _ _ c.loop-part.invariant c.loop-part-test.false _
 
 -- ---- an entry
 
@@ -210,10 +192,8 @@ fill_entry-returns-in_err-below g t c =
     let new = c.say_key.new.self.slots.items in
     let key = c.args.part.now.0 in
     let value = c.args.part.now.1 in
-    fills_err (λ t p r. FillsEntry t p key value r) old new c.args.place c.from_residual.result
-    c.in_err-below.field-0.0 c.from_residual.ensures
-    (key_refused old c.args.place c.requires.3 key value c.in_err-below.field-0.0 new
-    c.in_err-below.ensures)
+    fills_err (λ t p r. FillsEntry t p key value r) _ new c.args.place _ _ c.from_residual.ensures
+    (key_refused _ _ c.requires.3 key _ _ _ c.in_err-below.ensures)
 
 pub fill_entry-fill-requires : goal.fill_entry-fill-requires
 fill_entry-fill-requires g t c κs l =
@@ -223,6 +203,4 @@ fill_entry-fill-requires g t c κs l =
 
 pub fill_entry-returns : goal.fill_entry-returns
 fill_entry-returns g t c =
-    value_filled c.args.self.now.slots.items c.args.place c.requires.3 c.args.part.now.0
-    c.args.part.now.1 _ _ c.in_ok-below.ensures c.fill.result c.fill.new.self.slots.items
-    c.fill.ensures
+    value_filled _ _ c.requires.3 _ _ _ _ c.in_ok-below.ensures _ _ c.fill.ensures

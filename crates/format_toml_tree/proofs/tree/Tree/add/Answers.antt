@@ -5,15 +5,10 @@ use Rattle.format_toml_tree.specs.Parts.{key_refused, value_filled}
 use Rattle.format_toml_tree.proofs.tree.Tree.add.Goals as goal
 
 pub returns-in-Table : goal.returns-in-Table
-returns-in-Table g c =
-    adds_table c.args.self.now.slots.items c.args.table c.in-Table.key c.args.item.now
-    c.in-Table.is c.say_key.result c.say_key.new.self.slots.items c.say_key.ensures
+returns-in-Table g c = adds_table _ _ _ _ c.in-Table.is _ _ c.say_key.ensures
 
 pub returns-in-Tables : goal.returns-in-Tables
-returns-in-Tables g c =
-    adds_tables c.args.self.now.slots.items c.args.table c.in-Tables.key c.args.item.now
-    c.in-Tables.is c.say_key-in-Tables.result c.say_key-in-Tables.new.self.slots.items
-    c.say_key-in-Tables.ensures
+returns-in-Tables g c = adds_tables _ _ _ _ c.in-Tables.is _ _ c.say_key-in-Tables.ensures
 
 pub returns-in_err-place-in-Entry : goal.returns-in_err-place-in-Entry
 returns-in_err-place-in-Entry g c =
@@ -21,11 +16,8 @@ returns-in_err-place-in-Entry g c =
     let new = c.say_key-in-Entry.new.self.slots.items in
     let stop = c.in_err-place-in-Entry.field-0.0 in
     let entry = c.in-Entry in
-    adds_err old new c.args.table c.args.item.now c.from_residual.result stop
-    c.from_residual.ensures
-    (adds_refused old c.args.table entry.key c.args.item.now entry.value entry.is stop new
-    (key_refused old c.args.table c.requires.3 entry.key entry.value stop new
-    c.in_err-place-in-Entry.ensures))
+    adds_err _ _ _ _ _ _ c.from_residual.ensures (adds_refused _ _ _ _ _ entry.is _ _ (key_refused
+    _ _ c.requires.3 _ _ _ _ c.in_err-place-in-Entry.ensures))
 
 pub fill-requires : goal.fill-requires
 fill-requires g c =
@@ -37,16 +29,12 @@ pub returns-in-Ok : goal.returns-in-Ok
 returns-in-Ok g c =
     let entry = c.in-Entry in
     let new = c.fill.new.self.slots.items in
-    adds_value c.args.self.now.slots.items c.args.table entry.key c.args.item.now entry.value
-    entry.is tt new
-    (value_filled c.args.self.now.slots.items c.args.table c.requires.3 entry.key entry.value _ _
+    adds_value _ _ _ _ _ entry.is _ _ (value_filled _ _ c.requires.3 entry.key _ _ _
     c.in_ok-place-in-Entry.ensures (Ok tt) new c.in-Ok.ensures)
 
 pub returns-in-Err : goal.returns-in-Err
 returns-in-Err g c =
     let entry = c.in-Entry in
     let new = c.fill.new.self.slots.items in
-    adds_refused c.args.self.now.slots.items c.args.table entry.key c.args.item.now entry.value
-    entry.is c.in-Err.stop new
-    (value_filled c.args.self.now.slots.items c.args.table c.requires.3 entry.key entry.value _ _
+    adds_refused _ _ _ _ _ entry.is _ _ (value_filled _ _ c.requires.3 entry.key _ _ _
     c.in_ok-place-in-Entry.ensures (Err c.in-Err.stop) new c.in-Err.ensures)

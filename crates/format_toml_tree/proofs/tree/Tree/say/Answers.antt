@@ -6,10 +6,8 @@ pub returns-in_err-place : goal.returns-in_err-place
 returns-in_err-place g c tree path holds =
     let old = c.args.self.now.slots.items in
     let new = c.set.new.self.slots.items in
-    told_err old new path _ c.from_residual.result c.in_err-place.field-0.0
-    c.from_residual.ensures
-    (told_stop old new path _ c.in_err-place.field-0.0 (λ why e.
-    say_refused (says_of c.args.role) (tree, path c.args.table) c.args.name.now why
+    told_err _ _ _ _ _ _ c.from_residual.ensures (told_stop old _ path _ _ (λ why e.
+    say_refused (says_of c.args.role) (tree, path c.args.table) c.args.name.now _
     (c.in_err-place.ensures tree path holds why e)))
 
 pub open-requires : goal.open-requires
@@ -21,5 +19,4 @@ open-requires g c =
 pub returns : goal.returns
 returns g c tree path holds =
     let (node, rule, goes) = c.in_ok-place.ensures tree path holds in
-    say_done c.args.table c.args.name.now (says_of c.args.role) _ _ _ node rule goes
-    (c.in_ok-open.ensures _ goes.paths goes.holds)
+    say_done _ _ _ _ _ _ _ rule goes (c.in_ok-open.ensures _ goes.paths goes.holds)

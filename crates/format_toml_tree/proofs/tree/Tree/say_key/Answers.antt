@@ -8,8 +8,7 @@ use Rattle.format_toml_tree.proofs.tree.Tree.say_key.Goals as goal
 use Rattle.format_toml_tree.proofs.tree.Tree.say_key.Goals.{else-i-names, then-i-names}
 
 pub loop-i-init : goal.loop-i-init
-loop-i-init g c tree path holds =
-    ((tree, path c.args.table), refl, stays c.args.table holds c.requires.3)
+loop-i-init g c tree path holds = ((tree, path c.args.table), refl, stays _ holds c.requires.3)
 
 pub say-requires : goal.say-requires
 say-requires g c =
@@ -38,15 +37,11 @@ returns-in_err-table g c tree path holds =
         λ l. ap (λ r. says_of r) w.here-is,
       )
     ] in
-    told_err old new path _ c.from_residual.result stop c.from_residual.ensures
-    (subst (λ l. SlotResult old path (say_key before last (tree, path c.args.table) l)
-    (Err stop) new)
-    c.as_slice-names.ensures.value
-    (said_refused before last old c.args.table names c.loop-i.i c.loop-i.table mid
-    c.loop-i.invariant c.index-names-i.result c.loop-i-test.true c.index-names-i.is here which
-    stop new (λ t p h. subst
-    (λ n. SlotResult mid p (say here (t, p c.loop-i.table) n) (Err stop) new)
-    c.as_str.ensures.value (c.in_err-table.ensures t p h)) tree path holds))
+    told_err _ _ _ _ _ _ c.from_residual.ensures (subst (λ l. SlotResult old path (say_key before
+    last (tree, path c.args.table) l) (Err stop) new) c.as_slice-names.ensures.value (said_refused
+    _ _ _ _ _ _ _ _ c.loop-i.invariant _ c.loop-i-test.true c.index-names-i.is _ which _ _ (λ t p
+    h. subst (λ n. SlotResult mid p (say here (t, p c.loop-i.table) n) (Err stop) new)
+    c.as_str.ensures.value (c.in_err-table.ensures t p h)) _ _ holds))
 
 pub loop-i-preserved : goal.loop-i-preserved
 loop-i-preserved g c =
@@ -67,13 +62,9 @@ loop-i-preserved g c =
         λ l. ap (λ r. says_of r) w.here-is,
       )
     ] in
-    said_more before last c.args.self.now.slots.items c.args.table names c.loop-i.i c.loop-i.table
-    mid c.loop-i.invariant c.index-names-i.result c.loop-i-test.true c.index-names-i.is here which
-    c.in_ok-table.table new
-    (λ t p h. subst (λ n. SlotResult mid p (say here (t, p c.loop-i.table) n)
-    (Ok c.in_ok-table.table)
-    new)
-    c.as_str.ensures.value (c.in_ok-table.ensures t p h))
+    said_more _ _ _ _ _ _ _ _ c.loop-i.invariant _ c.loop-i-test.true c.index-names-i.is _ which _
+    _ (λ t p h. subst (λ n. SlotResult mid p (say here (t, p c.loop-i.table) n) (Ok
+    c.in_ok-table.table) new) c.as_str.ensures.value (c.in_ok-table.ensures t p h))
 
 pub returns : goal.returns
 returns g c tree path holds =
@@ -82,7 +73,6 @@ returns g c tree path holds =
     let new = c.loop-i.self.slots.items in
     let before = says_of c.args.passes in
     let last = says_of c.args.role in
-    subst (λ l. SlotResult old path (say_key before last (tree, path c.args.table) l)
-    (Ok c.loop-i.table) new) c.as_slice-names.ensures.value
-    (all_said before last old c.args.table names c.loop-i.i c.loop-i.table new c.loop-i.invariant
-    c.loop-i-test.false tree path holds)
+    subst (λ l. SlotResult old path (say_key before last (tree, path c.args.table) l) (Ok
+    c.loop-i.table) new) c.as_slice-names.ensures.value (all_said _ _ _ _ _ _ _ _
+    c.loop-i.invariant c.loop-i-test.false _ _ holds)
