@@ -1,5 +1,6 @@
 -- Strings are the texts of those that hold some characters.
-use Rattle.std.proofs.Common.{◌≡◌, ◌∙◌, ◌⊎◌, ◌<◌, ◌≤◌, ◌^◌, ℕ, [], ◌∷◌, List, ap, arith, inl, inr}
+use Rattle.std.proofs.Common.{◌≡◌, ◌∙◌, ◌⊎◌, ◌<◌, ◌≤◌, ◌^◌, ℕ, [], ◌∷◌, List, ap, arith}
+use Rattle.std.proofs.Common.{inl, inr}
 use Rattle.std.proofs.Common.{length, length-append, refl, subst, true}
 use Rattle.std.proofs.Math.Utf8.{scalar_cases}
 use Rattle.std.proofs.StringFromBytes.{spelled}
