@@ -1,6 +1,6 @@
 -- The walk over the characters of a text: what it has come to, and the place where it stops.
 use Rattle.std.specs.Prelude.{◌≡◌, ◌↔◌, ◌<◌, ◌≤◌, ◌-◌, ◌++◌, ℕ, List, [], ◌∷◌, Option}
-use Rattle.std.specs.Prelude.{None, Some, length, slice_get, true, false}
+use Rattle.std.specs.Prelude.{length, slice_get, true, false}
 use Rattle.std.proofs.Common.{ap, append_assoc, arith, inl, inr, refl, subst, sym}
 use Rattle.std.proofs.Common.{◌∙◌}
 use Rattle.std.proofs.lemmas.List.{append-nil}
