@@ -7,5 +7,4 @@ pub returns-then-size-line : goal.returns-then-size-line
 returns-then-size-line c =
     let P : List ℕ → Type 0 = λ l. IsKept c.args.marks c.args.line.now l in
     let h = rw c.as_bytes.ensures.value at c.kept_len-size.ensures in
-    subst P (sym c.around.ensures.before)
-    (kept_part c.args.marks c.args.line.now c.kept_len-size.result h (omega arith))
+    subst P (sym c.around.ensures.before) (kept_part _ _ _ h (omega arith))

@@ -10,8 +10,7 @@ overflow_add-place c =
       arith,
       c.requires,
       c.trim-indent.ensures.indent,
-      text_within c.args.dialect.inline_comments c.args.line.now c.without_comment-kept.result.now
-          c.without_comment-kept.ensures,
+      text_within _ _ _ c.without_comment-kept.ensures,
     )
 
 pub overflow_add-place-2 : goal.overflow_add-place-2
@@ -20,8 +19,7 @@ overflow_add-place-2 c =
       arith,
       c.requires,
       c.trim-indent.ensures.indent,
-      text_within c.args.dialect.inline_comments c.args.line.now c.without_comment-kept.result.now
-          c.without_comment-kept.ensures,
+      text_within _ _ _ c.without_comment-kept.ensures,
     )
 
 pub read_own-requires-clause-within : goal.read_own-requires-clause-within
@@ -31,8 +29,7 @@ read_own-requires-clause-within c =
       c.requires,
       c.trim-indent.ensures.indent,
       ap (λ l. length l) c.trim-indent.ensures.text,
-      text_within c.args.dialect.inline_comments c.args.line.now c.without_comment-kept.result.now
-          c.without_comment-kept.ensures,
+      text_within _ _ _ c.without_comment-kept.ensures,
     )
 
 pub returns-then-goes_on-clause-said : goal.returns-then-goes_on-clause-said
@@ -44,17 +41,13 @@ returns-then-goes_on-clause-said c =
     let t = c.trim-indent.ensures.text in
     let some : 0 < length text = first_of (search rules, omega arith) in
     let inside : 0 < length (trimmed kept) = omega (arith, some, ap (λ l. length l) t) in
-    more_line c.args.dialect c.args.state line kept text c.trim-indent.result.0 c.goes_on.result is
-    t (c.trim-indent.ensures.indent
-    ∙ line_indent c.args.dialect.inline_comments line kept is inside)
+    more_line _ _ _ _ _ _ _ is t (c.trim-indent.ensures.indent ∙ line_indent _ _ _ is inside)
     c.goes_on.ensures c.if-goes_on.true some c.if-is_comment.ensures
 
 pub returns-then-goes_on-clause-at : goal.returns-then-goes_on-clause-at
 returns-then-goes_on-clause-at c = (
-  more_at c.args.dialect c.args.place c.args.dialect.inline_comments c.args.line.now
-      c.without_comment-kept.result.now c.trim-indent.result.1.now c.trim-indent.result.0
-      c.without_comment-kept.ensures c.trim-indent.ensures.text c.trim-indent.ensures.indent
-      c.trim-indent.result.1.now c.both_at.result refl c.both_at.ensures.0,
+  more_at c.args.dialect _ _ _ _ _ _ c.without_comment-kept.ensures c.trim-indent.ensures.text
+      c.trim-indent.ensures.indent _ c.both_at.result refl c.both_at.ensures.0,
   c.both_at.ensures.1 ∙ sym c.both_at.ensures.0,
 )
 
@@ -67,15 +60,10 @@ returns-clause-said c =
     let t = c.trim-indent.ensures.text in
     let some : 0 < length text = first_of (search rules, omega arith) in
     let inside : 0 < length (trimmed kept) = omega (arith, some, ap (λ l. length l) t) in
-    own_line c.args.dialect c.args.state line kept text c.trim-indent.result.0 c.goes_on.result is
-    t (c.trim-indent.ensures.indent
-    ∙ line_indent c.args.dialect.inline_comments line kept is inside)
-    c.goes_on.ensures c.if-goes_on.false some c.if-is_comment.ensures c.read_own.result
-    c.read_own.ensures.said
+    own_line _ _ _ _ _ _ _ is t (c.trim-indent.ensures.indent ∙ line_indent _ _ _ is inside)
+    c.goes_on.ensures c.if-goes_on.false some c.if-is_comment.ensures _ c.read_own.ensures.said
 
 pub returns-clause-at : goal.returns-clause-at
 returns-clause-at c =
-    line_ok_at c.args.dialect c.args.place c.args.dialect.inline_comments c.args.line.now
-    c.without_comment-kept.result.now c.trim-indent.result.1.now c.trim-indent.result.0
-    c.without_comment-kept.ensures c.trim-indent.ensures.text c.trim-indent.ensures.indent
-    c.read_own.result c.read_own.ensures.at
+    line_ok_at c.args.dialect _ _ _ _ _ _ c.without_comment-kept.ensures
+    c.trim-indent.ensures.text c.trim-indent.ensures.indent _ c.read_own.ensures.at

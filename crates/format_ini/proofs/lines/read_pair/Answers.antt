@@ -30,19 +30,18 @@ overflow_add-at-in-Some-2-3 c =
     )
 
 pub returns-in-None-clause-key : goal.returns-in-None-clause-key
-returns-in-None-clause-key c =
-    at_front c.args.place c.args.text.now c.both_at.result.head c.both_at.ensures.0
+returns-in-None-clause-key c = at_front _ _ _ c.both_at.ensures.0
 
 pub returns-in-Some-2-clause-key : goal.returns-in-Some-2-clause-key
 returns-in-Some-2-clause-key c =
     let (mark, e, is, none) = c.in-Some.ensures in
-    pair_key c.args.place c.args.text.now c.in-Some.before.now c.in-Some.field-0-1.now mark
-    c.trim-lead.result.1.now _ e c.trim-lead.ensures.text
-    (ap (λ n. c.args.place + n) c.trim-lead.ensures.indent)
+    pair_key _ _ _ _ _ _ _ e c.trim-lead.ensures.text (ap (λ n. c.args.place + n)
+    c.trim-lead.ensures.indent)
 
 pub returns-in-Some-2-clause-value : goal.returns-in-Some-2-clause-value
 returns-in-Some-2-clause-value c =
     let (mark, e, is, none) = c.in-Some.ensures in
-    pair_value c.args.dialect c.args.place c.args.text.now c.in-Some.before.now
-    c.in-Some.field-0-1.now mark c.trim-gap.result.1.now _ e none is c.trim-gap.ensures.text
-    (omega (arith, c.trim-gap.ensures.indent))
+    pair_value c.args.dialect _ _ _ _ _ _ _ e none is c.trim-gap.ensures.text (omega (
+      arith,
+      c.trim-gap.ensures.indent,
+    ))

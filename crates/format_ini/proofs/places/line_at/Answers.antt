@@ -9,9 +9,7 @@ returns-then-size-left c =
     let offset = c.args.offset in
     let n = length bytes - offset in
     let here = take_all n (drop offset bytes) (omega (arith, length-drop offset bytes)) in
-    line_fed bytes (take n (drop offset bytes)) (take c.line_len-size.result
-    (take n (drop offset bytes))) offset c.line_len-size.result _ (omega arith) here
-    c.line_len-size.ensures refl c.if-size-left.true refl
+    line_fed _ _ _ _ _ _ (omega arith) here c.line_len-size.ensures refl c.if-size-left.true refl
 
 pub returns-else-size-left : goal.returns-else-size-left
 returns-else-size-left c =
@@ -19,6 +17,8 @@ returns-else-size-left c =
     let offset = c.args.offset in
     let n = length bytes - offset in
     let here = take_all n (drop offset bytes) (omega (arith, length-drop offset bytes)) in
-    line_last bytes (take n (drop offset bytes)) (take c.line_len-size.result
-    (take n (drop offset bytes))) offset c.line_len-size.result _ (omega arith) here
-    c.line_len-size.ensures refl (λ more. omega (arith, more, c.if-size-left.false)) refl
+    line_last _ _ _ _ _ _ (omega arith) here c.line_len-size.ensures refl (λ more. omega (
+      arith,
+      more,
+      c.if-size-left.false,
+    )) refl

@@ -7,15 +7,13 @@ use Rattle.format_ini.proofs.Reading.{nothing_in}
 use Rattle.format_ini.proofs.places.next_placed.Goals as goal
 
 pub lines-init : goal.lines-init
-lines-init c = passes_none c.args.dialect c.args.bytes.now c.args.reading.now
+lines-init c = passes_none _ _ _
 
 pub lines-preserved : goal.lines-preserved
 lines-preserved c =
     let line = c.in-Ok-Some.line in
-    passes_line c.args.dialect c.args.bytes.now c.args.reading.now c.lines.reading
-    c.in-Ok-Some.next c.lines.invariant line.entry line.at
-    (rw c.in-Ok-Some.field-0-is at c.in-Ok-Some.ensures)
-    (nothing_in line.entry c.in_default.not-Some)
+    passes_line _ _ _ _ _ c.lines.invariant _ _ (rw c.in-Ok-Some.field-0-is at
+    c.in-Ok-Some.ensures) (nothing_in _ c.in_default.not-Some)
 
 pub returns-in-Ok-None : goal.returns-in-Ok-None
 returns-in-Ok-None c = (c.lines.invariant, rw c.in-Ok-None.field-0-is at c.in-Ok-None.ensures)
@@ -28,6 +26,5 @@ returns-in-Some c =
     let line = c.in-Ok-Some.line in
     let P : Option Entry → Type 0 = λ e.
     LineAt c.args.dialect c.args.bytes.now c.lines.reading e line.at c.in-Ok-Some.next in
-    placed_some c.args.dialect c.args.bytes.now c.args.reading.now c.lines.reading
-    c.in-Ok-Some.next c.lines.invariant c.in-Some.entry line.at
-    (subst P c.in-Some.is (rw c.in-Ok-Some.field-0-is at c.in-Ok-Some.ensures))
+    placed_some _ _ _ _ _ c.lines.invariant _ _ (subst P c.in-Some.is (rw c.in-Ok-Some.field-0-is
+    at c.in-Ok-Some.ensures))
