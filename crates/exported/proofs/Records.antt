@@ -15,10 +15,10 @@ use Rattle.format_csv_records.specs.declared.read.InvalidRecord.{InvalidRecord}
 use Rattle.format_csv_records.proofs.Early.{none_goes_on, open_goes_on}
 use Rattle.format_csv_records.proofs.Early.{record_goes_on}
 use Rattle.format_csv_records.proofs.One.{refused_none}
-use Rattle.exported.specs.Csv.{CountsRecord, ShowsRecord, WantsRecord}
-use Rattle.exported.specs.Csv.{dialect_of}
+use Rattle.exported.specs.Csv.{CountsRecord, IsDialect, ShowsRecord, WantsRecord}
 use Rattle.exported.specs.Span.{span_of}
 use Rattle.exported.specs.declared.csv.Record.{Record}
+use Rattle.exported.specs.declared.csv.dialect.CsvDialect.{CsvDialect}
 use Rattle.exported.specs.declared.span.Span.{Span}
 
 -- `HasCounts found size`: `found` has the counts of `size`.
@@ -55,60 +55,49 @@ wanted d input size found tells is (fields, it) = (
       (ended _ _ size.ended it.ended is),
 )
 
-module _ (d : Dialect) (line_feeds : ℕ) (same : d ≡ dialect_of line_feeds) (input : List ℕ) where
+module _ (d : Dialect) (input : List ℕ) where
   module _ (size : RecordSize) (found : Record) (tells : HasCounts found size) where
     pub shown_for_good : size.ended ≡ true → (text : List ℕ) (places : List Span)
         → ShowsFields span_of d input size text places
-        → ShowsRecord (IsForGood (dialect_of line_feeds)) input found text places
-    shown_for_good is text places (fields, it, bytes, at) =
-        let P : Dialect → Type 0 = λ x. ShowsRecord (IsForGood x) input found text places in
-        subst P same (
-          fields,
-          counts (IsForGood d) d input fields size found it tells
-              (ended _ _ size.ended it.ended is),
-          bytes,
-          at,
-        )
-
-    pub wanted_for_good : size.ended ≡ true → IsSized d input size
-        → WantsRecord (IsForGood (dialect_of line_feeds)) input found
-    wanted_for_good is it =
-        let P : Dialect → Type 0 = λ x. WantsRecord (IsForGood x) input found in
-        subst P same (wanted d input size found tells is it)
+        → ShowsRecord (IsForGood d) input found text places
+    shown_for_good is text places (fields, it, bytes, at) = (
+      fields,
+      counts (IsForGood d) d input fields size found it tells
+          (ended _ _ size.ended it.ended is),
+      bytes,
+      at,
+    )
 
   none_yet : ((fields : List (List ℕ)) (rest : List ℕ) → IsRecord d input fields rest → ⊥)
-      → NoneForGood (dialect_of line_feeds) input
-  none_yet none =
-      let P : Dialect → Type 0 = λ x. NoneForGood x input in
-      subst P same (λ fields rest all.
+      → NoneForGood d input
+  none_yet none = λ fields rest all.
       let R : List ℕ → Type 0 = λ l. IsRecord d l fields (rest ++ []) in
-      none fields (rest ++ []) (subst R (append-nil input) (all [])))
-
-  goes_on : IsViablePrefix d input → IsViablePrefix (dialect_of line_feeds) input
-  goes_on it = let P : Dialect → Type 0 = λ x. IsViablePrefix x input in subst P same it
+      none fields (rest ++ []) (subst R (append-nil input) (all []))
 
   pub some_may : (size : RecordSize) → IsSized d input size → size.ended ≡ false
-      → NoneForGood (dialect_of line_feeds) input × IsViablePrefix (dialect_of line_feeds) input
+      → NoneForGood d input × IsViablePrefix d input
   some_may size (fields, it) is =
-      let P : Dialect → Type 0 = λ x. NoneForGood x input in
       let R : List ℕ → Type 0 = λ l. IsRecord d l fields (drop size.length input) in (
-        subst P same (open_still _ _ size.ended it.ended is),
-        goes_on (record_goes_on d input [] fields (drop size.length input) (omega arith)
-            (All-nil (λ b. b < 256)) (subst R (sym (append-nil input)) it.is_record)),
+        open_still _ _ size.ended it.ended is,
+        record_goes_on d input [] fields (drop size.length input) (omega arith)
+            (All-nil (λ b. b < 256)) (subst R (sym (append-nil input)) it.is_record),
       )
 
-  pub nothing_may : input ≡ []
-      → NoneForGood (dialect_of line_feeds) input × IsViablePrefix (dialect_of line_feeds) input
+  pub nothing_may : input ≡ [] → NoneForGood d input × IsViablePrefix d input
   nothing_may none =
       let P : List ℕ → Type 0 = λ l. IsViablePrefix d l in (
         none_yet (λ fields rest is. omega (arith, is.0, ap (λ l. length l) none)),
-        goes_on (subst P (sym none) (none_goes_on d)),
+        subst P (sym none) (none_goes_on d),
       )
 
-  pub refused_may : (fault : InvalidRecord) → IsRefused d input fault → length input ≤ fault.offset
-      → NoneForGood (dialect_of line_feeds) input × IsViablePrefix (dialect_of line_feeds) input
-  refused_may fault it far =
-      let quote : d.quote ≡ 34 = ap (λ (x : Dialect). x.quote) same in (
-        none_yet (λ fields rest is. refused_none d input fault fields rest it is),
-        goes_on (open_goes_on d (omega (arith, quote)) input fault it far),
-      )
+  pub refused_may : d.quote < 256 → (fault : InvalidRecord) → IsRefused d input fault
+      → length input ≤ fault.offset → NoneForGood d input × IsViablePrefix d input
+  refused_may byte fault it far = (
+    none_yet (λ fields rest is. refused_none d input fault fields rest it is),
+    open_goes_on d byte input fault it far,
+  )
+
+-- two dialects with the same bytes and line endings
+module _ (given : CsvDialect) (d : Dialect) (is : IsDialect given d) where
+  pub only : (other : Dialect) → IsDialect given other → d ≡ other
+  only other it = cc (is.1, is.2.0, is.2.1, it.1, it.2.0, it.2.1)

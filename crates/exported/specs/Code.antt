@@ -28,6 +28,9 @@ end = 9
 abbrev pub not_an_integer : ℕ
 not_an_integer = 10
 
+abbrev pub invalid_dialect : ℕ
+invalid_dialect = 13
+
 -- the largest depth limit for JSON
 abbrev pub supported_depth : ℕ
 supported_depth = 512
