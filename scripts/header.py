@@ -43,8 +43,9 @@ COST = [
 # the first number 0 that adds to the last one appends its checksum here.
 COMPATIBLE = []
 # The constants that are cases of an enum in C: the prefix of their names, the enum's name and
-# description, and the field that has its values.
+# description, and the structs with a field of its values, followed by the field's name.
 KINDS = {
+    "JSON_ERROR_": ("json_error", "The errors of JSON texts.", ("JsonDiagnostic", "error")),
     "JSON_": ("json_kind", "The kinds of JSON items.", ("JsonItem", "kind")),
     "RESP_": ("resp_kind", "The kinds of Redis replies.", ("Reply", "kind")),
     "TOML_ERROR_": ("toml_error", "The errors of TOML documents.", ("TomlResult", "error")),
@@ -52,16 +53,18 @@ KINDS = {
     "CHUNKED_ERROR_": ("chunked_error", "The errors of chunked bodies.", ("ChunkedStep", "error")),
     "CHUNKED_": ("chunked_kind", "The parts of chunked bodies.", ("ChunkedStep", "kind")),
     "HTTP_BODY_": ("http_body_kind", "How the length of a body is determined.", ("HttpBody", "kind")),
+    "HTTP_HEAD_ERROR_": ("http_head_error", "Why a byte of a head is invalid.", ("Head", "ResponseHead", "error")),
     "HTTP_ERROR_": ("http_error", "Why an HTTP message must be rejected.", ("HttpBody", "error")),
     "CSV_": ("csv_line_end", "What ends a record of comma-separated values.", ("CsvDialect", "line_ends")),
     "INI_ERROR_": ("ini_error", "The errors of INI lines.", ("IniEntry", "error")),
     "INI_DIALECT_": ("ini_dialect", "The dialects of INI: flags, whose sum is a dialect, and three dialects.", None),
     "INI_": ("ini_kind", "The kinds of INI entries.", ("IniEntry", "kind")),
 }
-ENUMS = {field: name for name, _, field in KINDS.values() if field}
+ENUMS = {(struct, fields[-1]): name
+         for name, _, fields in KINDS.values() if fields for struct in fields[:-1]}
 # The types of single values in Rust and in C.
 PLAIN = {"u8": "uint8_t", "u16": "uint16_t", "u32": "uint32_t", "u64": "uint64_t", "i16": "int16_t",
-         "i64": "int64_t", "usize": "size_t", "bool": "bool"}
+         "i32": "int32_t", "i64": "int64_t", "usize": "size_t", "bool": "bool"}
 EXPORT = re.compile(r'pub extern "C" fn exported_(\w+)\(\s*(.*?)\s*\)\s*->\s*u32\b', re.DOTALL)
 CONSTANT = re.compile(r"pub const (\w+): (u32|usize) = (\d+);")
 TAKEN = re.compile(r"pub use (\w+)::(\w+)::\{?([\w,\s]+)\}?;")
@@ -370,7 +373,7 @@ def messages(name, parameter, items_of):
 def answers(codes, constants, symbol):
     """Returns the functions of the library that are written only in C."""
     text = "\n/* The exports write enums as 32 bits. */\n"
-    for name in sorted(ENUMS.values()):
+    for name in sorted({*ENUMS.values()}):
         text += f'_Static_assert(sizeof(enum pergidau_{name}) == sizeof(uint32_t), "the size of an enum");\n'
     text += "\n" + "".join(f"const char {it} = 0;\n" for it in (symbol, *COMPATIBLE))
     text += "\nconst char *pergidau_version(void)\n{\n    return PERGIDAU_VERSION;\n}\n"

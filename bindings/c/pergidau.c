@@ -65,6 +65,11 @@ uint32_t exported_http_head_extent(
     const uint8_t *bytes,
     size_t bytes_length,
     size_t *out);
+uint32_t exported_http_response_head_extent(
+    struct pergidau_http_head_state *state,
+    const uint8_t *bytes,
+    size_t bytes_length,
+    size_t *out);
 uint32_t exported_http_field(
     const uint8_t *bytes,
     size_t bytes_length,
@@ -117,6 +122,15 @@ uint32_t exported_json_next(
     size_t bytes_length,
     size_t max_depth,
     struct pergidau_json_item *out);
+uint32_t exported_json_decimal(
+    const uint8_t *bytes,
+    size_t bytes_length,
+    struct pergidau_decimal *out);
+uint32_t exported_json_diagnose(
+    const uint8_t *text,
+    size_t text_length,
+    size_t max_depth,
+    struct pergidau_json_diagnostic *out);
 uint32_t exported_json_integer(
     const uint8_t *bytes,
     size_t bytes_length,
@@ -125,6 +139,14 @@ uint32_t exported_json_natural(
     const uint8_t *bytes,
     size_t bytes_length,
     uint64_t *out);
+uint32_t exported_json_member(
+    const uint8_t *bytes,
+    size_t bytes_length,
+    size_t max_depth,
+    const uint8_t *name,
+    size_t name_length,
+    uint32_t is_token,
+    size_t *out);
 uint32_t exported_json_step(
     const uint8_t *bytes,
     size_t bytes_length,
@@ -171,14 +193,16 @@ _Static_assert(sizeof(enum pergidau_chunked_kind) == sizeof(uint32_t), "the size
 _Static_assert(sizeof(enum pergidau_csv_line_end) == sizeof(uint32_t), "the size of an enum");
 _Static_assert(sizeof(enum pergidau_http_body_kind) == sizeof(uint32_t), "the size of an enum");
 _Static_assert(sizeof(enum pergidau_http_error) == sizeof(uint32_t), "the size of an enum");
+_Static_assert(sizeof(enum pergidau_http_head_error) == sizeof(uint32_t), "the size of an enum");
 _Static_assert(sizeof(enum pergidau_ini_error) == sizeof(uint32_t), "the size of an enum");
 _Static_assert(sizeof(enum pergidau_ini_kind) == sizeof(uint32_t), "the size of an enum");
+_Static_assert(sizeof(enum pergidau_json_error) == sizeof(uint32_t), "the size of an enum");
 _Static_assert(sizeof(enum pergidau_json_kind) == sizeof(uint32_t), "the size of an enum");
 _Static_assert(sizeof(enum pergidau_resp_kind) == sizeof(uint32_t), "the size of an enum");
 _Static_assert(sizeof(enum pergidau_toml_error) == sizeof(uint32_t), "the size of an enum");
 _Static_assert(sizeof(enum pergidau_toml_kind) == sizeof(uint32_t), "the size of an enum");
 
-const char pergidau_declared_f4afdeb4 = 0;
+const char pergidau_declared_4632b30c = 0;
 
 const char *pergidau_version(void)
 {
@@ -219,10 +243,59 @@ const char *pergidau_message(enum pergidau_code code)
         return "no more items";
     case PERGIDAU_NOT_AN_INTEGER:
         return "number is not an integer or out of range";
+    case PERGIDAU_TOO_DEEP:
+        return "nested too deep: deeper than the depth limit";
+    case PERGIDAU_OUT_OF_RANGE:
+        return "number out of range";
     case PERGIDAU_INVALID_DIALECT:
         return "impossible dialect: delimiter, quote, carriage return and line feed must be four different bytes, and the line ending one of the constants";
     }
     return "unknown code";
+}
+
+const char *pergidau_json_error_message(enum pergidau_json_error error)
+{
+    switch (error) {
+    case PERGIDAU_JSON_ERROR_NONE:
+        return "no error";
+    case PERGIDAU_JSON_ERROR_VALUE:
+        return "expected a value";
+    case PERGIDAU_JSON_ERROR_VALUE_OR_BRACKET:
+        return "expected a value or a closing bracket";
+    case PERGIDAU_JSON_ERROR_NAME:
+        return "expected a string as the name of a member";
+    case PERGIDAU_JSON_ERROR_NAME_OR_BRACE:
+        return "expected a string as the name of a member, or a closing brace";
+    case PERGIDAU_JSON_ERROR_COLON:
+        return "expected a colon";
+    case PERGIDAU_JSON_ERROR_COMMA_OR_BRACKET:
+        return "expected a comma or a closing bracket";
+    case PERGIDAU_JSON_ERROR_COMMA_OR_BRACE:
+        return "expected a comma or a closing brace";
+    case PERGIDAU_JSON_ERROR_END:
+        return "expected the end of the text";
+    case PERGIDAU_JSON_ERROR_CHARACTER:
+        return "expected a character of a string or its closing quote";
+    case PERGIDAU_JSON_ERROR_ESCAPE:
+        return "expected an escape";
+    case PERGIDAU_JSON_ERROR_HEX_DIGIT:
+        return "expected a hexadecimal digit";
+    case PERGIDAU_JSON_ERROR_FIRST_HALF:
+        return "expected the first half of a surrogate pair";
+    case PERGIDAU_JSON_ERROR_SECOND_HALF:
+        return "expected the second half of a surrogate pair";
+    case PERGIDAU_JSON_ERROR_UTF8:
+        return "expected a byte that continues a character in UTF-8";
+    case PERGIDAU_JSON_ERROR_DIGIT:
+        return "expected a digit";
+    case PERGIDAU_JSON_ERROR_DIGIT_OR_SIGN:
+        return "expected a digit or a sign";
+    case PERGIDAU_JSON_ERROR_LETTER:
+        return "expected a letter of null, true or false";
+    case PERGIDAU_JSON_ERROR_DEPTH:
+        return "expected no deeper array or object";
+    }
+    return "unknown error";
 }
 
 const char *pergidau_toml_error_message(enum pergidau_toml_error error)
@@ -341,6 +414,33 @@ const char *pergidau_chunked_error_message(enum pergidau_chunked_error error)
         return "invalid byte in the trailer section";
     case PERGIDAU_CHUNKED_ERROR_TRAILERS_TOO_LONG:
         return "trailer section too long";
+    }
+    return "unknown error";
+}
+
+const char *pergidau_http_head_error_message(enum pergidau_http_head_error error)
+{
+    switch (error) {
+    case PERGIDAU_HTTP_HEAD_ERROR_NONE:
+        return "no error";
+    case PERGIDAU_HTTP_HEAD_ERROR_METHOD:
+        return "expected a method and a space";
+    case PERGIDAU_HTTP_HEAD_ERROR_TARGET:
+        return "expected a request target and a space";
+    case PERGIDAU_HTTP_HEAD_ERROR_VERSION:
+        return "expected an HTTP version";
+    case PERGIDAU_HTTP_HEAD_ERROR_STATUS_CODE:
+        return "expected a status code of three digits";
+    case PERGIDAU_HTTP_HEAD_ERROR_FIELD_NAME:
+        return "expected a field name or an empty line";
+    case PERGIDAU_HTTP_HEAD_ERROR_COLON:
+        return "expected a colon after the field name";
+    case PERGIDAU_HTTP_HEAD_ERROR_VALUE:
+        return "invalid byte in a field value or reason phrase";
+    case PERGIDAU_HTTP_HEAD_ERROR_LINE_ENDING:
+        return "expected CRLF";
+    case PERGIDAU_HTTP_HEAD_ERROR_INCOMPLETE:
+        return "incomplete head";
     }
     return "unknown error";
 }
@@ -713,6 +813,31 @@ enum pergidau_code pergidau_http_head_extent(
     return (enum pergidau_code)exported_http_head_extent(state, bytes, bytes_length, out);
 }
 
+enum pergidau_code pergidau_http_response_head_extent(
+    struct pergidau_http_head_state *state,
+    const uint8_t *bytes,
+    size_t bytes_length,
+    size_t *out)
+{
+    const uint8_t no_bytes = {0};
+    if (state == NULL) {
+        return PERGIDAU_NULL;
+    }
+    if (bytes_length > PTRDIFF_MAX / sizeof(uint8_t)) {
+        return PERGIDAU_TOO_LONG;
+    }
+    if (bytes == NULL && bytes_length > 0) {
+        return PERGIDAU_NULL;
+    }
+    if (out == NULL) {
+        return PERGIDAU_NULL;
+    }
+    if (bytes == NULL) {
+        bytes = &no_bytes;
+    }
+    return (enum pergidau_code)exported_http_response_head_extent(state, bytes, bytes_length, out);
+}
+
 enum pergidau_code pergidau_http_field(
     const uint8_t *bytes,
     size_t bytes_length,
@@ -978,6 +1103,49 @@ enum pergidau_code pergidau_json_next(
     return (enum pergidau_code)exported_json_next(bytes, bytes_length, max_depth, out);
 }
 
+enum pergidau_code pergidau_json_decimal(
+    const uint8_t *bytes,
+    size_t bytes_length,
+    struct pergidau_decimal *out)
+{
+    const uint8_t no_bytes = {0};
+    if (bytes_length > PTRDIFF_MAX / sizeof(uint8_t)) {
+        return PERGIDAU_TOO_LONG;
+    }
+    if (bytes == NULL && bytes_length > 0) {
+        return PERGIDAU_NULL;
+    }
+    if (out == NULL) {
+        return PERGIDAU_NULL;
+    }
+    if (bytes == NULL) {
+        bytes = &no_bytes;
+    }
+    return (enum pergidau_code)exported_json_decimal(bytes, bytes_length, out);
+}
+
+enum pergidau_code pergidau_json_diagnose(
+    const uint8_t *text,
+    size_t text_length,
+    size_t max_depth,
+    struct pergidau_json_diagnostic *out)
+{
+    const uint8_t no_text = {0};
+    if (text_length > PTRDIFF_MAX / sizeof(uint8_t)) {
+        return PERGIDAU_TOO_LONG;
+    }
+    if (text == NULL && text_length > 0) {
+        return PERGIDAU_NULL;
+    }
+    if (out == NULL) {
+        return PERGIDAU_NULL;
+    }
+    if (text == NULL) {
+        text = &no_text;
+    }
+    return (enum pergidau_code)exported_json_diagnose(text, text_length, max_depth, out);
+}
+
 enum pergidau_code pergidau_json_integer(
     const uint8_t *bytes,
     size_t bytes_length,
@@ -1018,6 +1186,41 @@ enum pergidau_code pergidau_json_natural(
         bytes = &no_bytes;
     }
     return (enum pergidau_code)exported_json_natural(bytes, bytes_length, out);
+}
+
+enum pergidau_code pergidau_json_member(
+    const uint8_t *bytes,
+    size_t bytes_length,
+    size_t max_depth,
+    const uint8_t *name,
+    size_t name_length,
+    uint32_t is_token,
+    size_t *out)
+{
+    const uint8_t no_bytes = {0};
+    const uint8_t no_name = {0};
+    if (bytes_length > PTRDIFF_MAX / sizeof(uint8_t)) {
+        return PERGIDAU_TOO_LONG;
+    }
+    if (bytes == NULL && bytes_length > 0) {
+        return PERGIDAU_NULL;
+    }
+    if (name_length > PTRDIFF_MAX / sizeof(uint8_t)) {
+        return PERGIDAU_TOO_LONG;
+    }
+    if (name == NULL && name_length > 0) {
+        return PERGIDAU_NULL;
+    }
+    if (out == NULL) {
+        return PERGIDAU_NULL;
+    }
+    if (bytes == NULL) {
+        bytes = &no_bytes;
+    }
+    if (name == NULL) {
+        name = &no_name;
+    }
+    return (enum pergidau_code)exported_json_member(bytes, bytes_length, max_depth, name, name_length, is_token, out);
 }
 
 enum pergidau_code pergidau_json_step(

@@ -39,10 +39,10 @@ extern "C" {
  * header refers to it, so that it links with no other library. For a file that is not linked
  * with the library, define PERGIDAU_NO_LINK_CHECK before the header.
  */
-extern const char pergidau_declared_f4afdeb4;
+extern const char pergidau_declared_4632b30c;
 #if defined(__GNUC__) && !defined(PERGIDAU_NO_LINK_CHECK)
 __attribute__((__used__, __unused__)) static const char *const pergidau_linked =
-    &pergidau_declared_f4afdeb4;
+    &pergidau_declared_4632b30c;
 #endif
 
 /* Returns the version of the linked library, in the form of PERGIDAU_VERSION. */
@@ -84,6 +84,10 @@ enum pergidau_code {
     PERGIDAU_END = 9,
     /* Number is not an integer or out of range. The function determines the range. */
     PERGIDAU_NOT_AN_INTEGER = 10,
+    /* Nested too deep: deeper than the depth limit. */
+    PERGIDAU_TOO_DEEP = 11,
+    /* Number out of range. The function determines the range. */
+    PERGIDAU_OUT_OF_RANGE = 12,
     /*
      * Impossible dialect: delimiter, quote, carriage return and line feed must be four
      * different bytes, and the line ending one of the constants.
@@ -99,6 +103,57 @@ const char *pergidau_message(enum pergidau_code code);
  * stack.
  */
 #define PERGIDAU_MAX_DEPTH 512
+
+/* The errors of JSON texts. */
+enum pergidau_json_error {
+    /* No error. */
+    PERGIDAU_JSON_ERROR_NONE = 0,
+    /* Expected a value. */
+    PERGIDAU_JSON_ERROR_VALUE = 1,
+    /* Expected a value or a closing bracket. */
+    PERGIDAU_JSON_ERROR_VALUE_OR_BRACKET = 2,
+    /* Expected a string as the name of a member. */
+    PERGIDAU_JSON_ERROR_NAME = 3,
+    /* Expected a string as the name of a member, or a closing brace. */
+    PERGIDAU_JSON_ERROR_NAME_OR_BRACE = 4,
+    /* Expected a colon. */
+    PERGIDAU_JSON_ERROR_COLON = 5,
+    /* Expected a comma or a closing bracket. After a number, the number may also continue. */
+    PERGIDAU_JSON_ERROR_COMMA_OR_BRACKET = 6,
+    /* Expected a comma or a closing brace. After a number, the number may also continue. */
+    PERGIDAU_JSON_ERROR_COMMA_OR_BRACE = 7,
+    /* Expected the end of the text. After a number, the number may also continue. */
+    PERGIDAU_JSON_ERROR_END = 8,
+    /*
+     * Expected a character of a string or its closing quote. A control character must be
+     * escaped.
+     */
+    PERGIDAU_JSON_ERROR_CHARACTER = 9,
+    /*
+     * Expected an escape. After a backslash, it is a quote, a backslash, a slash, b, f, n, r,
+     * t, or u and four hexadecimal digits.
+     */
+    PERGIDAU_JSON_ERROR_ESCAPE = 10,
+    /* Expected a hexadecimal digit. */
+    PERGIDAU_JSON_ERROR_HEX_DIGIT = 11,
+    /*
+     * Expected the first half of a surrogate pair. The digit makes a second half without a
+     * first.
+     */
+    PERGIDAU_JSON_ERROR_FIRST_HALF = 12,
+    /* Expected the second half of a surrogate pair. It is an escape from DC00 to DFFF. */
+    PERGIDAU_JSON_ERROR_SECOND_HALF = 13,
+    /* Expected a byte that continues a character in UTF-8. */
+    PERGIDAU_JSON_ERROR_UTF8 = 14,
+    /* Expected a digit. */
+    PERGIDAU_JSON_ERROR_DIGIT = 15,
+    /* Expected a digit or a sign. */
+    PERGIDAU_JSON_ERROR_DIGIT_OR_SIGN = 16,
+    /* Expected a letter of null, true or false. The letter is written too. */
+    PERGIDAU_JSON_ERROR_LETTER = 17,
+    /* Expected no deeper array or object. As many as the depth limit allows are open. */
+    PERGIDAU_JSON_ERROR_DEPTH = 18
+};
 
 /* The kinds of JSON items. */
 enum pergidau_json_kind {
@@ -324,6 +379,33 @@ enum pergidau_http_body_kind {
     PERGIDAU_HTTP_BODY_TUNNEL = 4
 };
 
+/* Why a byte of a head is invalid. */
+enum pergidau_http_head_error {
+    /* No error. */
+    PERGIDAU_HTTP_HEAD_ERROR_NONE = 0,
+    /* Expected a method and a space. */
+    PERGIDAU_HTTP_HEAD_ERROR_METHOD = 1,
+    /* Expected a request target and a space. */
+    PERGIDAU_HTTP_HEAD_ERROR_TARGET = 2,
+    /* Expected an HTTP version. It is HTTP/, a digit, a point and a digit. */
+    PERGIDAU_HTTP_HEAD_ERROR_VERSION = 3,
+    /* Expected a status code of three digits. A space or the line ending follows it. */
+    PERGIDAU_HTTP_HEAD_ERROR_STATUS_CODE = 4,
+    /* Expected a field name or an empty line. A field line may not start with whitespace. */
+    PERGIDAU_HTTP_HEAD_ERROR_FIELD_NAME = 5,
+    /* Expected a colon after the field name. No whitespace precedes it. */
+    PERGIDAU_HTTP_HEAD_ERROR_COLON = 6,
+    /*
+     * Invalid byte in a field value or reason phrase. Of the control characters only a tab is
+     * valid.
+     */
+    PERGIDAU_HTTP_HEAD_ERROR_VALUE = 7,
+    /* Expected CRLF. A line feed without a carriage return is invalid. */
+    PERGIDAU_HTTP_HEAD_ERROR_LINE_ENDING = 8,
+    /* Incomplete head. The bytes end within it. */
+    PERGIDAU_HTTP_HEAD_ERROR_INCOMPLETE = 9
+};
+
 /* Why an HTTP message must be rejected. */
 enum pergidau_http_error {
     /* No error. */
@@ -439,10 +521,16 @@ enum pergidau_ini_kind {
 };
 
 /* Returns the message for an error, as pergidau_message does for a code. */
+const char *pergidau_json_error_message(enum pergidau_json_error error);
+
+/* Returns the message for an error, as pergidau_message does for a code. */
 const char *pergidau_toml_error_message(enum pergidau_toml_error error);
 
 /* Returns the message for an error, as pergidau_message does for a code. */
 const char *pergidau_chunked_error_message(enum pergidau_chunked_error error);
+
+/* Returns the message for an error, as pergidau_message does for a code. */
+const char *pergidau_http_head_error_message(enum pergidau_http_head_error error);
 
 /* Returns the message for an error, as pergidau_message does for a code. */
 const char *pergidau_http_error_message(enum pergidau_http_error error);
@@ -528,6 +616,8 @@ struct pergidau_head {
     size_t length;
     /* The offset of the error in bytes; 0 otherwise. */
     size_t error_offset;
+    /* Why the byte at this offset is invalid; PERGIDAU_HTTP_HEAD_ERROR_NONE otherwise. */
+    enum pergidau_http_head_error error;
     /* The number before the point of the version, below 10. */
     uint8_t major;
     /* The number after the point of the version, below 10. */
@@ -584,9 +674,9 @@ struct pergidau_chunked_step {
 };
 
 /*
- * The state of a search for the end of the head of a request. Only the functions of this
- * library may interpret its fields. All zeros is the initial state; start from it for each
- * head.
+ * The state of a search for the end of the head of a request or a response. Only the functions
+ * of this library may interpret its fields. All zeros is the initial state; start from it for
+ * each head.
  */
 struct pergidau_http_head_state {
     /* How many bytes were passed. */
@@ -605,6 +695,8 @@ struct pergidau_response_head {
     size_t length;
     /* The offset of the error in bytes; 0 otherwise. */
     size_t error_offset;
+    /* Why the byte at this offset is invalid; PERGIDAU_HTTP_HEAD_ERROR_NONE otherwise. */
+    enum pergidau_http_head_error error;
     /* The status code, below 1000. */
     uint16_t status;
     /* The number before the point of the version, below 10. */
@@ -677,6 +769,37 @@ struct pergidau_json_item {
     enum pergidau_json_kind kind;
     /* Its bytes. */
     struct pergidau_span span;
+};
+
+/*
+ * The exact value of a number: digits times a power of ten. The digits do not end in zero, so
+ * two numbers are equal if and only if their decimals are. Zero has digits 0, exponent 0, and
+ * no sign.
+ */
+struct pergidau_decimal {
+    /* The factor of the power of ten. */
+    uint64_t digits;
+    /* The power of ten. */
+    int32_t exponent;
+    /* Whether the number is below zero. -0 is not. */
+    bool negative;
+};
+
+/* The first error of a text, and where it is. */
+struct pergidau_json_diagnostic {
+    /* The offset of the error in bytes. */
+    size_t offset;
+    /* The number of its line, from 1 on; 0 if there is no error. A line ends with a line feed. */
+    size_t line;
+    /* The number of its column, from 1 on; 0 if there is no error. A column is a character. */
+    size_t column;
+    /*
+     * The input that is expected there: one of the constants from PERGIDAU_JSON_ERROR_NONE to
+     * PERGIDAU_JSON_ERROR_DEPTH.
+     */
+    enum pergidau_json_error error;
+    /* The expected letter if error is PERGIDAU_JSON_ERROR_LETTER; 0 otherwise. */
+    uint8_t letter;
 };
 
 /* The text of a string of JSON. */
@@ -988,7 +1111,8 @@ enum pergidau_code pergidau_csv_record_extent(
  * # Errors
  *
  * PERGIDAU_INVALID: bytes does not start with a head. The first offset at which no head can
- * continue is written; it is the end of bytes if they end within a head.
+ * continue is written, and why the byte there is invalid. If bytes ends within a head, it is
+ * the end of bytes, with PERGIDAU_HTTP_HEAD_ERROR_INCOMPLETE.
  *
  * PERGIDAU_BUFFER_TOO_SMALL: the head has more fields than the buffer has entries. The number
  * of fields is written.
@@ -1021,8 +1145,8 @@ enum pergidau_code pergidau_http_head(
  * # Errors
  *
  * PERGIDAU_INVALID: bytes does not start with a head, regardless of what follows. The offset
- * of the first invalid byte is written: the bytes before it are a prefix of a head, and
- * together with the byte there they are not.
+ * of the first invalid byte is written, and why it is invalid: the bytes before it are a
+ * prefix of a head, and together with the byte there they are not.
  *
  * PERGIDAU_BUFFER_TOO_SMALL: as for complete input.
  *
@@ -1159,7 +1283,8 @@ enum pergidau_code pergidau_http_chunked(
  * Finds the end of the head of an HTTP/1.1 request (RFC 9112) in input that arrives in chunks.
  *
  * No call looks again at bytes that an earlier call scanned, so all calls for a head take time
- * linear in its length. To obtain the parts of the head, pass its bytes to pergidau_http_head.
+ * linear in its length. To obtain the parts of the head, pass its bytes to pergidau_http_head;
+ * to obtain the reason of an error, pass all bytes to pergidau_http_head_partial.
  *
  * For the first call, state must be all zeros. Each further call for the same head must have
  * the state that the previous call left, and the bytes of the previous call followed by more
@@ -1186,6 +1311,42 @@ enum pergidau_code pergidau_http_chunked(
  * None of these may overlap. The call needs 16 KiB of stack.
  */
 enum pergidau_code pergidau_http_head_extent(
+    struct pergidau_http_head_state *state,
+    const uint8_t *bytes,
+    size_t bytes_length,
+    size_t *out);
+
+/*
+ * Finds the end of the head of an HTTP/1.1 response (RFC 9112) in input that arrives in
+ * chunks, as pergidau_http_head_extent does for requests, with a state of its own. To obtain
+ * the parts of the head, pass its bytes to pergidau_http_response_head; to obtain the reason
+ * of an error, pass all bytes to pergidau_http_response_head_partial.
+ *
+ * For the first call, state must be all zeros. Each further call for the same head must have
+ * the state that the previous call left, and the bytes of the previous call followed by more
+ * bytes.
+ *
+ * PERGIDAU_DONE: bytes starts with a head, whose length is written. Reset the state to zeros
+ * for the next head.
+ *
+ * PERGIDAU_INCOMPLETE: bytes does not start with a head, but more bytes can complete one. 0 is
+ * written.
+ *
+ * If state belongs to other bytes or was modified, the result may be wrong, but nothing
+ * outside bytes is read.
+ *
+ * # Errors
+ *
+ * PERGIDAU_INVALID: bytes does not start with a head, regardless of what follows. The first
+ * offset at which no head can continue is written.
+ *
+ * # Safety
+ *
+ * state must be valid for reads and writes of one state, and out for writes of one length.
+ * bytes must be valid for reads of bytes_length bytes, which must not change during the call.
+ * None of these may overlap. The call needs 16 KiB of stack.
+ */
+enum pergidau_code pergidau_http_response_head_extent(
     struct pergidau_http_head_state *state,
     const uint8_t *bytes,
     size_t bytes_length,
@@ -1233,7 +1394,8 @@ enum pergidau_code pergidau_http_field(
  * # Errors
  *
  * PERGIDAU_INVALID: bytes does not start with a head. The first offset at which no head can
- * continue is written; it is the end of bytes if they end within a head.
+ * continue is written, and why the byte there is invalid. If bytes ends within a head, it is
+ * the end of bytes, with PERGIDAU_HTTP_HEAD_ERROR_INCOMPLETE.
  *
  * PERGIDAU_BUFFER_TOO_SMALL: the head has more fields than the buffer has entries. The number
  * of fields is written.
@@ -1266,8 +1428,8 @@ enum pergidau_code pergidau_http_response_head(
  * # Errors
  *
  * PERGIDAU_INVALID: bytes does not start with a head, regardless of what follows. The offset
- * of the first invalid byte is written: the bytes before it are a prefix of a head, and
- * together with the byte there they are not.
+ * of the first invalid byte is written, and why it is invalid: the bytes before it are a
+ * prefix of a head, and together with the byte there they are not.
  *
  * PERGIDAU_BUFFER_TOO_SMALL: as for complete input.
  *
@@ -1408,6 +1570,9 @@ enum pergidau_code pergidau_ini_next(
  * A text with an unpaired surrogate escape such as \ud800 is rejected, because it denotes no
  * character, although the grammar of the standard allows it.
  *
+ * pergidau_json_diagnose also reports where and why a text is rejected. pergidau_json_step
+ * walks through a text that was checked, in time linear in the text.
+ *
  * PERGIDAU_DONE: the text is a JSON text.
  *
  * # Errors
@@ -1494,6 +1659,71 @@ enum pergidau_code pergidau_json_next(
     struct pergidau_json_item *out);
 
 /*
+ * Converts the longest JSON number (RFC 8259) at the start of bytes to a decimal: a sign,
+ * digits and a power of ten whose value equals the number. Nothing is rounded: 1500, 1.50e3
+ * and 15E+2 have the digits 15 and the exponent 2. Whitespace before the number is not
+ * skipped.
+ *
+ * PERGIDAU_DONE: the decimal is written.
+ *
+ * # Errors
+ *
+ * PERGIDAU_OUT_OF_RANGE: the digits without zeros at their end do not fit 64 bits, or the
+ * power of ten does not fit 32 bits with a sign. Zeros are written.
+ *
+ * PERGIDAU_INVALID: bytes does not start with a number. Zeros are written.
+ *
+ * # Safety
+ *
+ * bytes must be valid for reads of bytes_length bytes, which must not change during the call,
+ * and out must be valid for writes of one decimal. They must not overlap. The call needs 16
+ * KiB of stack.
+ */
+enum pergidau_code pergidau_json_decimal(
+    const uint8_t *bytes,
+    size_t bytes_length,
+    struct pergidau_decimal *out);
+
+/*
+ * Checks a text as pergidau_json_check does, and reports the first error: its offset, line and
+ * column, and the input that is expected there.
+ *
+ * The bytes before the offset can continue to a text. With the byte at the offset they cannot,
+ * whatever follows. Nothing is allocated for a text that is JSON; for others, one byte for
+ * each open bracket.
+ *
+ * PERGIDAU_DONE: the text is a JSON text. Zeros are written.
+ *
+ * # Errors
+ *
+ * PERGIDAU_INVALID: the byte at the offset is invalid.
+ *
+ * PERGIDAU_INCOMPLETE: the text ends too early. The offset is its end.
+ *
+ * PERGIDAU_TOO_DEEP: the bracket at the offset is nested deeper than max_depth. The error is
+ * PERGIDAU_JSON_ERROR_DEPTH.
+ *
+ * PERGIDAU_INVALID_UTF8: the text is not UTF-8 from the offset on, and is valid before. The
+ * error is PERGIDAU_JSON_ERROR_UTF8. For a text that is not UTF-8, another error with a
+ * smaller offset is reported instead.
+ *
+ * PERGIDAU_MAX_DEPTH_TOO_LARGE: max_depth is above 512. Zeros are written.
+ *
+ * PERGIDAU_NO_MEMORY: zeros are written.
+ *
+ * # Safety
+ *
+ * text must be valid for reads of text_length bytes, which must not change during the call,
+ * and out must be valid for writes of one diagnostic. They must not overlap. The call needs
+ * 512 KiB of stack.
+ */
+enum pergidau_code pergidau_json_diagnose(
+    const uint8_t *text,
+    size_t text_length,
+    size_t max_depth,
+    struct pergidau_json_diagnostic *out);
+
+/*
  * Converts the longest JSON number (RFC 8259) at the start of bytes to a signed 64-bit
  * integer. -0 gives 0. Whitespace before the number is not skipped.
  *
@@ -1539,6 +1769,46 @@ enum pergidau_code pergidau_json_natural(
     const uint8_t *bytes,
     size_t bytes_length,
     uint64_t *out);
+
+/*
+ * Finds the first member of a name in the object (RFC 8259) that bytes starts with, after
+ * whitespace, at most one comma or colon, and whitespace. Names are compared with their
+ * escapes decoded: {"\u0061": 1} has a member a.
+ *
+ * If is_token is not 0, name is a reference token of a JSON pointer (RFC 6901), without its
+ * slash: ~0 is a tilde and ~1 a slash. A tilde before anything else is not valid there, and is
+ * not checked.
+ *
+ * The offset that is written is that of the bytes after the name. Call pergidau_json_next
+ * there for the value, or this function again for a member of the value. Each byte before the
+ * offset is scanned once, so a walk along names to a value at any depth takes time linear in
+ * the text.
+ *
+ * PERGIDAU_DONE: the offset is written.
+ *
+ * PERGIDAU_END: no member has the name. 0 is written.
+ *
+ * # Errors
+ *
+ * PERGIDAU_INVALID: there is no object, or its members are not valid up to the first of the
+ * name. 0 is written.
+ *
+ * PERGIDAU_MAX_DEPTH_TOO_LARGE: max_depth is above 512. 0 is written.
+ *
+ * # Safety
+ *
+ * bytes must be valid for reads of bytes_length bytes and name for reads of name_length bytes,
+ * which must not change during the call. out must be valid for writes of one length, and must
+ * not overlap the others. The call needs 512 KiB of stack.
+ */
+enum pergidau_code pergidau_json_member(
+    const uint8_t *bytes,
+    size_t bytes_length,
+    size_t max_depth,
+    const uint8_t *name,
+    size_t name_length,
+    uint32_t is_token,
+    size_t *out);
 
 /*
  * Finds the next step of a walk through a JSON text (RFC 8259) that was checked, from its

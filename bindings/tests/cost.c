@@ -58,14 +58,16 @@ void *__wrap_realloc(void *block, size_t size)
     return grown;
 }
 
-enum call { CALC, PAIR, DOCUMENT, ENTRY, CHECK, VALUE, NEXT, STEP, STRING, INTEGER, NATURAL, HEAD,
-            HEAD_IN_PIECES, HEAD_EXTENT, REQUEST_BODY, FIELD, RESPONSE, RESPONSE_IN_PIECES, RECORD, RECORD_IN_PIECES,
+enum call { CALC, PAIR, DOCUMENT, ENTRY, CHECK, VALUE, NEXT, STEP, STRING, INTEGER, NATURAL, DECIMAL, DIAGNOSE, MEMBER, HEAD,
+            HEAD_IN_PIECES, HEAD_EXTENT, REQUEST_BODY, FIELD, RESPONSE, RESPONSE_IN_PIECES, RESPONSE_EXTENT, RECORD, RECORD_IN_PIECES,
             RECORD_EXTENT, REPLY, REPLY_IN_PIECES, EXTENT, CHUNKED, POSITION,
             TOML };
 static const char *const names[] = {
     "calc_value", "ini_pair", "ini_document", "ini_next", "json_check", "json_value", "json_next",
-    "json_step", "json_string", "json_integer", "json_natural", "http_head", "http_head_partial",
-    "http_head_extent", "http_request_body", "http_field", "http_response_head", "http_response_head_partial", "csv_record",
+    "json_step", "json_string", "json_integer", "json_natural", "json_decimal", "json_diagnose",
+    "json_member", "http_head", "http_head_partial",
+    "http_head_extent", "http_request_body", "http_field", "http_response_head", "http_response_head_partial",
+    "http_response_head_extent", "csv_record",
     "csv_record_partial", "csv_record_extent", "resp_reply", "resp_reply_partial",
     "resp_extent", "http_chunked", "text_position", "toml_document",
 };
@@ -109,6 +111,14 @@ static const struct {
     {STRING, "\"", "a", "\"", LENGTH, 0, 16},
     {INTEGER, "", "1", "", LENGTH, 0, 16},
     {NATURAL, "", "1", "", LENGTH, 0, 16},
+    {DECIMAL, "", "1", "", LENGTH, 0, 16},
+    {DECIMAL, "1", "0", "", LENGTH, 0, 16},
+    {DIAGNOSE, "", "[", "", LENGTH, 1, 512},
+    {DIAGNOSE, "", "{\"a\":", "", LENGTH / 5, 1, 512},
+    {DIAGNOSE, "[", "[{}],", "1x", LENGTH / 5, 1, 512},
+    {MEMBER, "{\"b\":", "[", "", LENGTH, 0, 512},
+    {MEMBER, "{", "\"a\":1,", "", LENGTH / 6, 0, 512},
+    {MEMBER, "{\"", "\\u0061", "\":1}", LENGTH / 6, 0, 512},
     {HEAD, "GET / HTTP/1.1\r\n", "a:\r\n", "\r\n", LENGTH / 4, 0, 16},
     {HEAD, "GET / HTTP/1.1\r\na: ", "b", "\r\n\r\n", LENGTH, 0, 16},
     {HEAD, "GET / HTTP/1.1\r\n", "a:\r\n", "", POWER + 1, 0, 16},
@@ -116,6 +126,7 @@ static const struct {
     {HEAD_IN_PIECES, "GET / HTTP/1.1\r\n", "a:\r\n", "", POWER + 1, 0, 16},
     {HEAD_EXTENT, "GET / HTTP/1.1\r\n", "a:\r\n", "\r\n", LENGTH / 4, 0, 16},
     {HEAD_EXTENT, "GET / HTTP/1.1\r\na: ", "b", "", LENGTH, 0, 16},
+    {RESPONSE_EXTENT, "HTTP/1.1 200 OK\r\n", "a:\r\n", "\r\n", LENGTH / 4, 0, 16},
     {RESPONSE, "HTTP/1.1 200 OK\r\n", "a:\r\n", "\r\n", LENGTH / 4, 0, 16},
     {REQUEST_BODY, "A b HTTP/1.1\r\nhost:\r\n", "a:\r\n", "\r\n", POWER + 1, 32, 16},
     {REQUEST_BODY, "A b HTTP/1.1\r\nhost:\r\ncontent-length:", "5,", "5\r\n\r\n", LENGTH / 2, 32, 16},
@@ -178,6 +189,8 @@ static enum pergidau_code call(enum call which, size_t max_depth)
     struct pergidau_json_text text;
     int64_t integer;
     uint64_t natural;
+    struct pergidau_decimal decimal;
+    struct pergidau_json_diagnostic diagnostic;
     struct pergidau_head head;
     struct pergidau_http_head_state passed = {0};
     struct pergidau_http_body body;
@@ -217,6 +230,12 @@ static enum pergidau_code call(enum call which, size_t max_depth)
         return pergidau_json_integer(bytes, length, &integer);
     case NATURAL:
         return pergidau_json_natural(bytes, length, &natural);
+    case DECIMAL:
+        return pergidau_json_decimal(bytes, length, &decimal);
+    case DIAGNOSE:
+        return pergidau_json_diagnose(bytes, length, max_depth, &diagnostic);
+    case MEMBER:
+        return pergidau_json_member(bytes, length, max_depth, bytes, length, 0, &found);
     case HEAD:
         return pergidau_http_head(bytes, length, NULL, 0, &head);
     case HEAD_IN_PIECES:
@@ -231,6 +250,8 @@ static enum pergidau_code call(enum call which, size_t max_depth)
         return pergidau_http_response_head(bytes, length, NULL, 0, &response);
     case RESPONSE_IN_PIECES:
         return pergidau_http_response_head_partial(bytes, length, NULL, 0, &response);
+    case RESPONSE_EXTENT:
+        return pergidau_http_response_head_extent(&passed, bytes, length, &found);
     case RECORD:
         return pergidau_csv_record(bytes, length, &lines, NULL, 0, NULL, 0, &record);
     case RECORD_IN_PIECES:

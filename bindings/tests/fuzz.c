@@ -390,6 +390,7 @@ static void read_chunked(const uint8_t *bytes, size_t length)
 #include "bodies_fuzz.h"
 #include "ini_fuzz.h"
 #include "json_fuzz.h"
+#include "json_lookup_fuzz.h"
 #include "toml_fuzz.h"
 
 static void read_place(const uint8_t *bytes, size_t length)
@@ -406,6 +407,8 @@ static void read_all(const uint8_t *bytes, size_t length)
     read_json(bytes, length);
     read_values(bytes, length);
     read_tokens(bytes, length);
+    read_diagnosis(bytes, length);
+    read_members(bytes, length);
     read_document(bytes, length);
     read_ini(bytes, length);
     read_head(bytes, length);

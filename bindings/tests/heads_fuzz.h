@@ -1,5 +1,5 @@
-/* Random inputs of response heads, and of request heads and records whose end is found
- * incrementally, for `fuzz.c`. */
+/* Random inputs of response heads, and of heads and records whose end is found incrementally, for
+ * `fuzz.c`. */
 #ifndef HEADS_FUZZ_H
 #define HEADS_FUZZ_H
 
@@ -27,6 +27,7 @@ static bool is_value(uint8_t byte)
  * incomplete head. */
 struct by_hand {
     enum pergidau_code code;
+    enum pergidau_http_head_error error;
     size_t at, fields, reason, reason_length;
     unsigned status;
 };
@@ -37,10 +38,21 @@ static struct by_hand response_by_hand(const uint8_t *bytes, size_t length)
 {
     static const char form[] = "HTTP/d.d ddd";
     struct by_hand made = {.code = PERGIDAU_INCOMPLETE};
-    enum { LINE, REASON, FEED, START, NAME, VALUE, LAST } due = LINE;
+    enum { LINE, REASON, FEED, START, NAME, VALUE, LAST, VERSION } due = LINE;
+    static const enum pergidau_http_head_error error_of[] = {
+        [LINE] = PERGIDAU_HTTP_HEAD_ERROR_STATUS_CODE,
+        [REASON] = PERGIDAU_HTTP_HEAD_ERROR_VALUE,
+        [FEED] = PERGIDAU_HTTP_HEAD_ERROR_LINE_ENDING,
+        [START] = PERGIDAU_HTTP_HEAD_ERROR_FIELD_NAME,
+        [NAME] = PERGIDAU_HTTP_HEAD_ERROR_COLON,
+        [VALUE] = PERGIDAU_HTTP_HEAD_ERROR_VALUE,
+        [LAST] = PERGIDAU_HTTP_HEAD_ERROR_LINE_ENDING,
+        [VERSION] = PERGIDAU_HTTP_HEAD_ERROR_VERSION,
+    };
     for (size_t i = 0; i < length; i++) {
         uint8_t byte = bytes[i];
         bool goes = false;
+        int part = due == LINE && i < 8 ? VERSION : (int)due;
         made.at = i;
         switch (due) {
         case LINE:
@@ -75,6 +87,7 @@ static struct by_hand response_by_hand(const uint8_t *bytes, size_t length)
             due = byte == ':' ? VALUE : NAME;
             break;
         case LAST:
+        case VERSION:
             goes = byte == '\n';
             made.at = i + 1;
             made.code = PERGIDAU_DONE;
@@ -83,6 +96,7 @@ static struct by_hand response_by_hand(const uint8_t *bytes, size_t length)
         if (!goes) {
             made.code = PERGIDAU_INVALID;
             made.at = i;
+            made.error = error_of[part];
         }
         if (made.code != PERGIDAU_INCOMPLETE) {
             return made;
@@ -105,7 +119,8 @@ static void read_response(const uint8_t *bytes, size_t length)
         pergidau_http_response_head_partial(bytes, length, fields, count, &cut);
     if (want.code != PERGIDAU_DONE) {
         HOLDS(code == PERGIDAU_INVALID && out.error_offset == want.at);
-        HOLDS(piece == want.code);
+        HOLDS(piece == want.code && cut.error == want.error);
+        HOLDS(out.error == (want.error ? want.error : PERGIDAU_HTTP_HEAD_ERROR_INCOMPLETE));
         HOLDS(cut.error_offset == (piece == PERGIDAU_INVALID ? want.at : 0));
         return;
     }
@@ -130,24 +145,34 @@ static void read_response(const uint8_t *bytes, size_t length)
     }
 }
 
-/* ---- the ends of request heads and of records, by successive calls and by one call */
+/* ---- the ends of heads and of records, by successive calls and by one call */
 
 static void read_head_extent(const uint8_t *bytes, size_t length)
 {
+    bool is_response = below(2) == 0;
     struct pergidau_http_head_state state = {0};
     struct pergidau_head head;
+    struct pergidau_response_head response;
     struct pergidau_field fields[MOST_FIELDS];
     size_t out = 0, have = 0;
-    enum pergidau_code code = pergidau_http_head_extent(&state, bytes, 0, &out);
-    while (code == PERGIDAU_INCOMPLETE && have < length) {
-        HOLDS(out == 0 && state.passed == have);
-        have += 1 + below(length - have);
-        code = pergidau_http_head_extent(&state, bytes, have, &out);
+    enum pergidau_code code = PERGIDAU_INCOMPLETE;
+    while (code == PERGIDAU_INCOMPLETE) {
+        code = (is_response ? pergidau_http_response_head_extent : pergidau_http_head_extent)(
+            &state, bytes, have, &out);
+        HOLDS(code != PERGIDAU_INCOMPLETE || (out == 0 && state.passed == have));
+        if (have == length) {
+            break;
+        }
+        have += code == PERGIDAU_INCOMPLETE ? 1 + below(length - have) : 0;
     }
-    enum pergidau_code whole =
-        pergidau_http_head_partial(bytes, length, fields, MOST_FIELDS, &head);
-    HOLDS(code == whole && state.passed <= have);
-    HOLDS(out == (code == PERGIDAU_DONE ? head.length : head.error_offset));
+    HOLDS(state.passed <= have);
+    if (is_response) {
+        HOLDS(code == pergidau_http_response_head_partial(bytes, length, fields, MOST_FIELDS, &response));
+        HOLDS(out == (code == PERGIDAU_DONE ? response.length : response.error_offset));
+    } else {
+        HOLDS(code == pergidau_http_head_partial(bytes, length, fields, MOST_FIELDS, &head));
+        HOLDS(out == (code == PERGIDAU_DONE ? head.length : head.error_offset));
+    }
 }
 
 static void read_record_extent(const uint8_t *bytes, size_t length)

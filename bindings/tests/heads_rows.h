@@ -1,4 +1,4 @@
-/* Tables of response heads, and tests that find the end of request heads and records incrementally.
+/* Tables of response heads, and tests that find the end of heads and records incrementally.
  * Included by `rows.c`, which has the tables of request heads and of records. */
 #ifndef HEADS_ROWS_H
 #define HEADS_ROWS_H
@@ -31,20 +31,30 @@ static const struct {
     {"HTTP/0.1 000 \xe9\xff\r\n\r\n", "\xe9\xff", {{0}}, 0, 0, 0, 1, 0, 13},
 };
 
-/* Invalid heads: an incomplete head, and bytes that cannot continue it. */
-static const char *no_responses[][2] = {
-    {"", "\r\nHTTP/1.1 200 OK\r\n\r\n"},   {"", "GET / HTTP/1.1\r\n\r\n"},
-    {"HTTP/", "x.1 200 OK\r\n\r\n"},       {"HTTP/1", "1 200 OK\r\n\r\n"},
-    {"HTTP/1.", "x 200 OK\r\n\r\n"},       {"HTTP/1.1", "1 200 OK\r\n\r\n"},
-    {"HTTP/1.1", "\r\n\r\n"},              {"HTTP/1.1 ", " 200 OK\r\n\r\n"},
-    {"HTTP/1.1 ", "x00 OK\r\n\r\n"},       {"HTTP/1.1 2", "x0 OK\r\n\r\n"},
-    {"HTTP/1.1 20", " OK\r\n\r\n"},        {"HTTP/1.1 200", "0 OK\r\n\r\n"},
-    {"HTTP/1.1 200", "OK\r\n\r\n"},        {"HTTP/1.1 200", "\tOK\r\n\r\n"},
-    {"HTTP/1.1 200", "\n\r\n"},            {"HTTP/1.1 200\r", "\r\n"},
-    {"HTTP/1.1 200 ", "\n\r\n"},           {"HTTP/1.1 200 O", "\x7fK\r\n"},
-    {"HTTP/1.1 200 OK", "\n\r\n"},         {"HTTP/1.1 200 OK\r", "X\r\n"},
-    {"HTTP/1.1 200 OK\r\n", "\n"},         {"HTTP/1.1 200 OK\r\n\r", "\r\n"},
-    {"HTTP/1.1 200 OK\r\nX: 1\r\n", " 2\r\n\r\n"},
+static const struct no_head no_responses[] = {
+    {"", "\r\nHTTP/1.1 200 OK\r\n\r\n", HEAD_ERROR(VERSION)},
+    {"", "GET / HTTP/1.1\r\n\r\n", HEAD_ERROR(VERSION)},
+    {"HTTP/", "x.1 200 OK\r\n\r\n", HEAD_ERROR(VERSION)},
+    {"HTTP/1", "1 200 OK\r\n\r\n", HEAD_ERROR(VERSION)},
+    {"HTTP/1.", "x 200 OK\r\n\r\n", HEAD_ERROR(VERSION)},
+    {"HTTP/1.1", "1 200 OK\r\n\r\n", HEAD_ERROR(STATUS_CODE)},
+    {"HTTP/1.1", "\r\n\r\n", HEAD_ERROR(STATUS_CODE)},
+    {"HTTP/1.1 ", " 200 OK\r\n\r\n", HEAD_ERROR(STATUS_CODE)},
+    {"HTTP/1.1 ", "x00 OK\r\n\r\n", HEAD_ERROR(STATUS_CODE)},
+    {"HTTP/1.1 2", "x0 OK\r\n\r\n", HEAD_ERROR(STATUS_CODE)},
+    {"HTTP/1.1 20", " OK\r\n\r\n", HEAD_ERROR(STATUS_CODE)},
+    {"HTTP/1.1 200", "0 OK\r\n\r\n", HEAD_ERROR(STATUS_CODE)},
+    {"HTTP/1.1 200", "OK\r\n\r\n", HEAD_ERROR(STATUS_CODE)},
+    {"HTTP/1.1 200", "\tOK\r\n\r\n", HEAD_ERROR(STATUS_CODE)},
+    {"HTTP/1.1 200", "\n\r\n", HEAD_ERROR(STATUS_CODE)},
+    {"HTTP/1.1 200\r", "\r\n", HEAD_ERROR(LINE_ENDING)},
+    {"HTTP/1.1 200 ", "\n\r\n", HEAD_ERROR(VALUE)},
+    {"HTTP/1.1 200 O", "\x7fK\r\n", HEAD_ERROR(VALUE)},
+    {"HTTP/1.1 200 OK", "\n\r\n", HEAD_ERROR(VALUE)},
+    {"HTTP/1.1 200 OK\r", "X\r\n", HEAD_ERROR(LINE_ENDING)},
+    {"HTTP/1.1 200 OK\r\n", "\n", HEAD_ERROR(FIELD_NAME)},
+    {"HTTP/1.1 200 OK\r\n\r", "\r\n", HEAD_ERROR(LINE_ENDING)},
+    {"HTTP/1.1 200 OK\r\nX: 1\r\n", " 2\r\n\r\n", HEAD_ERROR(FIELD_NAME)},
 };
 
 static void test_response(size_t i)
@@ -86,6 +96,7 @@ static void test_response(size_t i)
         same("a prefix", row, pergidau_http_response_head(front, end, fields, count, &out),
              PERGIDAU_INVALID);
         same("its end", row, (long long)out.error_offset, (long long)end);
+        same("its error", row, out.error, PERGIDAU_HTTP_HEAD_ERROR_INCOMPLETE);
         same("partial input", row,
              pergidau_http_response_head_partial(front, end, fields, count, &out),
              PERGIDAU_INCOMPLETE);
@@ -104,17 +115,18 @@ static void test_responses(void)
     }
     for (size_t i = 0; i < sizeof no_responses / sizeof *no_responses; i++) {
         char row[64];
-        size_t place = strlen(no_responses[i][0]);
-        size_t length =
-            (size_t)snprintf(row, sizeof row, "%s%s", no_responses[i][0], no_responses[i][1]);
+        size_t place = strlen(no_responses[i].front);
+        size_t length = joined(row, sizeof row, &no_responses[i]);
         uint8_t *text = copied(row, length);
         same("invalid response", row, pergidau_http_response_head(text, length, fields, 4, &out),
              PERGIDAU_INVALID);
         same("the error offset", row, (long long)out.error_offset, (long long)place);
+        same("the error", row, out.error, no_responses[i].error);
         same("invalid response", row,
              pergidau_http_response_head_partial(text, length, fields, 4, &out),
              PERGIDAU_INVALID);
         same("the error offset", row, (long long)out.error_offset, (long long)place);
+        same("the error", row, out.error, no_responses[i].error);
         free(text);
     }
     const uint8_t *bytes = (const uint8_t *)"H";
@@ -135,17 +147,21 @@ static void test_responses(void)
          PERGIDAU_INCOMPLETE);
 }
 
-/* ---- the ends of request heads */
+/* ---- the ends of heads */
+
+typedef enum pergidau_code head_end(struct pergidau_http_head_state *, const uint8_t *, size_t,
+                                    size_t *);
 
 /* Makes successive calls, each with `step` more bytes, and returns the last result. */
-static enum pergidau_code head_in_turn(const char *row, size_t length, size_t step, size_t *out)
+static enum pergidau_code head_in_turn(head_end *find, const char *row, size_t length, size_t step,
+                                       size_t *out)
 {
     struct pergidau_http_head_state state = {0};
     enum pergidau_code code = PERGIDAU_INCOMPLETE;
     for (size_t have = 0; code == PERGIDAU_INCOMPLETE && have <= length;
          have += length - have < step && have < length ? length - have : step) {
         uint8_t *bytes = copied(row, have);
-        code = pergidau_http_head_extent(&state, bytes, have, out);
+        code = find(&state, bytes, have, out);
         same("the scanned bytes", row, (long long)state.passed,
              code == PERGIDAU_INCOMPLETE ? (long long)have : (long long)*out);
         free(bytes);
@@ -153,29 +169,46 @@ static enum pergidau_code head_in_turn(const char *row, size_t length, size_t st
     return code;
 }
 
+/* A head of `whole` bytes is found in chunks of each size. */
+static void test_end(head_end *find, const char *row, size_t whole)
+{
+    size_t out = 1, length = strlen(row);
+    for (size_t step = 1; step <= length; step++) {
+        same("a head", row, head_in_turn(find, row, length, step, &out), PERGIDAU_DONE);
+        same("its end", row, (long long)out, (long long)whole);
+    }
+    same("partial input", row, head_in_turn(find, row, whole - 1, 1, &out), PERGIDAU_INCOMPLETE);
+    same("no end", row, (long long)out, 0);
+}
+
+/* An invalid byte is found in chunks of each size. */
+static void test_no_end(head_end *find, const struct no_head *it)
+{
+    char row[64];
+    size_t out = 1, place = strlen(it->front), length = joined(row, sizeof row, it);
+    for (size_t step = 1; step <= length; step++) {
+        same("invalid head", row, head_in_turn(find, row, length, step, &out), PERGIDAU_INVALID);
+        same("its error offset", row, (long long)out, (long long)place);
+    }
+    same("a prefix", row, head_in_turn(find, row, place, 1, &out), PERGIDAU_INCOMPLETE);
+}
+
 static void test_head_extents(void)
 {
-    size_t out = 1;
     for (size_t i = 0; i < sizeof heads / sizeof *heads; i++) {
-        const char *row = heads[i].text;
-        size_t length = strlen(row), whole = length - heads[i].rest;
-        for (size_t step = 1; step <= length; step++) {
-            same("a head", row, head_in_turn(row, length, step, &out), PERGIDAU_DONE);
-            same("its end", row, (long long)out, (long long)whole);
-        }
-        same("partial input", row, head_in_turn(row, whole - 1, 1, &out), PERGIDAU_INCOMPLETE);
-        same("no end", row, (long long)out, 0);
+        test_end(pergidau_http_head_extent, heads[i].text, strlen(heads[i].text) - heads[i].rest);
+    }
+    for (size_t i = 0; i < sizeof responses / sizeof *responses; i++) {
+        test_end(pergidau_http_response_head_extent, responses[i].text,
+                 strlen(responses[i].text) - responses[i].rest);
     }
     for (size_t i = 0; i < sizeof no_heads / sizeof *no_heads; i++) {
-        char row[64];
-        size_t place = strlen(no_heads[i][0]);
-        size_t length = (size_t)snprintf(row, sizeof row, "%s%s", no_heads[i][0], no_heads[i][1]);
-        for (size_t step = 1; step <= length; step++) {
-            same("invalid head", row, head_in_turn(row, length, step, &out), PERGIDAU_INVALID);
-            same("its error offset", row, (long long)out, (long long)place);
-        }
-        same("a prefix", row, head_in_turn(row, place, 1, &out), PERGIDAU_INCOMPLETE);
+        test_no_end(pergidau_http_head_extent, &no_heads[i]);
     }
+    for (size_t i = 0; i < sizeof no_responses / sizeof *no_responses; i++) {
+        test_no_end(pergidau_http_response_head_extent, &no_responses[i]);
+    }
+    size_t out = 1;
     struct pergidau_http_head_state state = {0};
     const uint8_t *bytes = (const uint8_t *)"A b HTTP/1.1\r\n\r\n";
     same("null", "state", pergidau_http_head_extent(NULL, bytes, 16, &out), PERGIDAU_NULL);
@@ -191,12 +224,21 @@ static void test_head_extents(void)
     same("it is done again", "head", pergidau_http_head_extent(&state, bytes, 16, &out),
          PERGIDAU_DONE);
     same("its end", "head", (long long)out, 16);
+    same("null", "state", pergidau_http_response_head_extent(NULL, bytes, 16, &out), PERGIDAU_NULL);
+    same("null", "head", pergidau_http_response_head_extent(&state, NULL, 1, &out), PERGIDAU_NULL);
+    same("null", "head", pergidau_http_response_head_extent(&state, bytes, 16, NULL),
+         PERGIDAU_NULL);
+    same("too long", "head",
+         pergidau_http_response_head_extent(&state, bytes, (size_t)PTRDIFF_MAX + 1, &out),
+         PERGIDAU_TOO_LONG);
     /* For an invalid state the result is unspecified, but only the input is read. */
-    for (size_t place = 0; place < 20; place++) {
+    for (size_t place = 0; place < 36; place++) {
         state = (struct pergidau_http_head_state){SIZE_MAX, place};
         (void)pergidau_http_head_extent(&state, bytes, 16, &out);
         state = (struct pergidau_http_head_state){place, SIZE_MAX - place};
-        (void)pergidau_http_head_extent(&state, bytes, 16, &out);
+        (void)pergidau_http_response_head_extent(&state, bytes, 16, &out);
+        state = (struct pergidau_http_head_state){0, place};
+        (void)pergidau_http_response_head_extent(&state, bytes, 16, &out);
     }
 }
 

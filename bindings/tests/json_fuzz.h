@@ -188,6 +188,8 @@ static void read_steps(const uint8_t *bytes, size_t length)
     HOLDS(!is_text || (code == PERGIDAU_END && open == 0 && count == items(bytes, length, max_depth)));
 }
 
+static void read_decimal(const uint8_t *bytes, size_t length);
+
 /* Reads a string or a number at each byte where one may begin. */
 static void read_tokens(const uint8_t *bytes, size_t length)
 {
@@ -197,8 +199,10 @@ static void read_tokens(const uint8_t *bytes, size_t length)
             read_string(bytes + at, length - at);
         } else if (bytes[at] == '-' || (bytes[at] >= '0' && bytes[at] <= '9')) {
             read_integer(bytes + at, length - at);
+            read_decimal(bytes + at, length - at);
         }
     }
     read_string(bytes, length);
     read_integer(bytes, length);
+    read_decimal(bytes, length);
 }

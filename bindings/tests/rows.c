@@ -28,6 +28,7 @@ static uint8_t *copied(const char *text, size_t length)
 }
 
 #include "ini_rows.h"
+#include "json_lookup_rows.h"
 #include "json_rows.h"
 #include "toml_rows.h"
 
@@ -414,18 +415,38 @@ static const struct {
      1},
 };
 
-/* Invalid heads: an incomplete head, and bytes that cannot continue it. */
-static const char *no_heads[][2] = {
-    {"", "\r\nA b HTTP/1.1\r\n\r\n"},     {"A ", " b HTTP/1.1\r\n\r\n"},
-    {"A b HTTP/1.1", "\n\n"},             {"A b HTTP/1.1\r\n", "\n"},
-    {"A b HTTP/1.1\r\n\r", "\r\n"},      {"A b HTTP/1.1\r\nX: 1\r\n", "\n"},
-    {"A b HTTP/1.1\r\nX: 1", "\n\r\n"},  {"A b HTTP/1.1\r\n", " X: 1\r\n\r\n"},
-    {"A b HTTP/1.1\r\nX: 1\r\n", " 2\r\n\r\n"},
-    {"A b HTTP/1.1\r\nX", " : 1\r\n\r\n"}, {"A b HTTP/1.1\r\nX", "\r\n\r\n"},
-    {"A b HTTP/1.1\r\nX: 1\r\n", ": 2\r\n\r\n"},
-    {"A b HTTP", " 1.1\r\n\r\n"},         {"A b HTTP/1.", "x\r\n\r\n"},
-    {"A b HTTP/1", "-1\r\n\r\n"},         {"A b HTTP/1.1\r\nX: a", "\1b\r\n\r\n"},
+/* Invalid heads: an incomplete head, bytes that cannot continue it, and why. */
+struct no_head {
+    const char *front, *rest;
+    enum pergidau_http_head_error error;
 };
+
+#define HEAD_ERROR(NAME) PERGIDAU_HTTP_HEAD_ERROR_##NAME
+
+static const struct no_head no_heads[] = {
+    {"", "\r\nA b HTTP/1.1\r\n\r\n", HEAD_ERROR(METHOD)},
+    {"A ", " b HTTP/1.1\r\n\r\n", HEAD_ERROR(TARGET)},
+    {"A b HTTP/1.1", "\n\n", HEAD_ERROR(LINE_ENDING)},
+    {"A b HTTP/1.1\r\n", "\n", HEAD_ERROR(FIELD_NAME)},
+    {"A b HTTP/1.1\r\n\r", "\r\n", HEAD_ERROR(LINE_ENDING)},
+    {"A b HTTP/1.1\r\nX: 1\r\n", "\n", HEAD_ERROR(FIELD_NAME)},
+    {"A b HTTP/1.1\r\nX: 1", "\n\r\n", HEAD_ERROR(VALUE)},
+    {"A b HTTP/1.1\r\n", " X: 1\r\n\r\n", HEAD_ERROR(FIELD_NAME)},
+    {"A b HTTP/1.1\r\nX: 1\r\n", " 2\r\n\r\n", HEAD_ERROR(FIELD_NAME)},
+    {"A b HTTP/1.1\r\nX", " : 1\r\n\r\n", HEAD_ERROR(COLON)},
+    {"A b HTTP/1.1\r\nX", "\r\n\r\n", HEAD_ERROR(COLON)},
+    {"A b HTTP/1.1\r\nX: 1\r\n", ": 2\r\n\r\n", HEAD_ERROR(FIELD_NAME)},
+    {"A b HTTP", " 1.1\r\n\r\n", HEAD_ERROR(VERSION)},
+    {"A b HTTP/1.", "x\r\n\r\n", HEAD_ERROR(VERSION)},
+    {"A b HTTP/1", "-1\r\n\r\n", HEAD_ERROR(VERSION)},
+    {"A b HTTP/1.1\r\nX: a", "\1b\r\n\r\n", HEAD_ERROR(VALUE)},
+};
+
+/* Writes an invalid head, and returns its length. */
+static size_t joined(char *row, size_t size, const struct no_head *it)
+{
+    return (size_t)snprintf(row, size, "%s%s", it->front, it->rest);
+}
 
 static void test_heads(void)
 {
@@ -449,6 +470,7 @@ static void test_heads(void)
             same("the minor version", row, out.minor, heads[i].minor);
             same("the length", row, (long long)out.length, (long long)(length - heads[i].rest));
             same("the fields", row, (long long)out.fields, (long long)count);
+            same("no error", row, out.error, PERGIDAU_HTTP_HEAD_ERROR_NONE);
             for (size_t k = 0; k < count; k++) {
                 shown(row, text, fields[k].name, heads[i].fields[k][0]);
                 shown(row, text, fields[k].value, heads[i].fields[k][1]);
@@ -465,8 +487,10 @@ static void test_heads(void)
             same("a prefix", row, pergidau_http_head(front, end, fields, count, &out),
                  PERGIDAU_INVALID);
             same("its end", row, (long long)out.error_offset, (long long)end);
+            same("its error", row, out.error, PERGIDAU_HTTP_HEAD_ERROR_INCOMPLETE);
             same("partial input", row, pergidau_http_head_partial(front, end, fields, count, &out),
                  PERGIDAU_INCOMPLETE);
+            same("no error", row, out.error, PERGIDAU_HTTP_HEAD_ERROR_NONE);
             free(front);
         }
         free(fields);
@@ -475,14 +499,15 @@ static void test_heads(void)
     for (size_t i = 0; i < sizeof no_heads / sizeof *no_heads; i++) {
         struct pergidau_field fields[4];
         char row[64];
-        size_t place = strlen(no_heads[i][0]);
-        size_t length = (size_t)snprintf(row, sizeof row, "%s%s", no_heads[i][0], no_heads[i][1]);
+        size_t place = strlen(no_heads[i].front), length = joined(row, sizeof row, &no_heads[i]);
         uint8_t *text = copied(row, length);
         same("invalid head", row, pergidau_http_head(text, length, fields, 4, &out), PERGIDAU_INVALID);
         same("the error offset", row, (long long)out.error_offset, (long long)place);
+        same("the error", row, out.error, no_heads[i].error);
         same("invalid head", row, pergidau_http_head_partial(text, length, fields, 4, &out),
              PERGIDAU_INVALID);
         same("the error offset", row, (long long)out.error_offset, (long long)place);
+        same("the error", row, out.error, no_heads[i].error);
         free(text);
     }
 }
@@ -1071,6 +1096,23 @@ static void test_messages_of_errors(void)
     test_message(pergidau_chunked_error_message(PERGIDAU_CHUNKED_ERROR_TRAILERS_TOO_LONG),
                  "trailer section too long");
     test_message(pergidau_chunked_error_message((enum pergidau_chunked_error)8), "unknown error");
+    static const char *const parts[] = {
+        "no error",
+        "expected a method and a space",
+        "expected a request target and a space",
+        "expected an HTTP version",
+        "expected a status code of three digits",
+        "expected a field name or an empty line",
+        "expected a colon after the field name",
+        "invalid byte in a field value or reason phrase",
+        "expected CRLF",
+        "incomplete head",
+        "unknown error",
+    };
+    for (int part = 0; part <= PERGIDAU_HTTP_HEAD_ERROR_INCOMPLETE + 1; part++) {
+        test_message(pergidau_http_head_error_message((enum pergidau_http_head_error)part),
+                     parts[part]);
+    }
     test_message(pergidau_http_error_message(PERGIDAU_HTTP_ERROR_HEAD), "invalid head");
     test_message(pergidau_http_error_message(PERGIDAU_HTTP_ERROR_LENGTH_TOO_LARGE),
                  "Content-Length too large");
@@ -1100,6 +1142,8 @@ static void test_library(void)
         "length too large: at most PTRDIFF_MAX bytes are supported",
         "no more items",
         "number is not an integer or out of range",
+        "nested too deep: deeper than the depth limit",
+        "number out of range",
         "unknown code",
     };
     for (int code = 0; code <= PERGIDAU_NOT_AN_INTEGER + 1; code++) {
@@ -1132,6 +1176,10 @@ int main(void)
     test_steps();
     test_strings();
     test_integers();
+    test_diagnoses();
+    test_decimals();
+    test_members();
+    test_pointers();
     test_walks();
     test_documents();
     test_lines_of_ini();

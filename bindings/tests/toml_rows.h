@@ -71,7 +71,7 @@ static const struct {
     {"a = 07:00:61", 11, 11, PERGIDAU_TOML_ERROR_SECOND},
     {"a = 1979-02/", 11, 11, PERGIDAU_TOML_ERROR_HYPHEN},
     {"a = 1979-02-01T07.", 17, 17, PERGIDAU_TOML_ERROR_COLON},
-    {"\xef\xbb\xbfa = 1", 0, 0, PERGIDAU_TOML_ERROR_BYTE_ORDER_MARK},
+    {"\xef\xbb\xbf" "a = 1", 0, 0, PERGIDAU_TOML_ERROR_BYTE_ORDER_MARK},
     {"a = 1\na = 2\nb 3", 14, 14, PERGIDAU_TOML_ERROR_EQUALS_SIGN},
     {"a = 1\na = 2\n", 6, 6, PERGIDAU_TOML_ERROR_DEFINED},
     {"a = 1\na.b = 2\n", 6, 6, PERGIDAU_TOML_ERROR_NOT_A_TABLE},

@@ -23,6 +23,9 @@ ROWS = {
     "a reason with bytes from 128 up": (RESPONSE, "HTTP/1.1 200 \xe9\r\n\r\n", "yyy"),
     "a reason with a byte of 127": (RESPONSE, "HTTP/1.1 200 \x7f\r\n\r\n", "nny"),
     "a reason with a byte of 0": (RESPONSE, "HTTP/1.1 200 \0\r\n\r\n", "nny"),
+    "a reason with a byte of 1": (RESPONSE, "HTTP/1.1 200 \1\r\n\r\n", "nny"),
+    "a reason with a byte of 11": (RESPONSE, "HTTP/1.1 200 \v\r\n\r\n", "nny"),
+    "a carriage return before a request line": (REQUEST, "\rGET / HTTP/1.1\r\n\r\n", "nny"),
     "a carriage return before a status line": (RESPONSE, "\rHTTP/1.1 200 \r\n\r\n", "nny"),
     "a status line that ends in two": (RESPONSE, "HTTP/1.1 200 \r\rA: b\r\n\r\n", "nny"),
     "lengths of a response without a body": (

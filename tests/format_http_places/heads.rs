@@ -2,6 +2,7 @@
 use std::fmt::Debug;
 use std::process::Abort;
 use format_http::heads::head::read_head;
+use format_http_places::parts::{HeadPart, Invalid};
 use format_http_places::places::{Field, Head, Span};
 use format_http_places::read::{HeadError, read_head_into};
 
@@ -54,30 +55,30 @@ pub const HEADS: &[Row] = &[
 ];
 
 /// Texts that do not start with a head, and the length of the longest prefix of each that can start
-/// one. The next byte is the first that the grammar of RFC 9112, sections 2.1 to 5.1, does not
-/// allow there.
-pub const NO_HEADS: &[(&[u8], usize)] = &[
-    (b"\r\nA b HTTP/1.1\r\n\r\n", 0),
-    (b"A  b HTTP/1.1\r\n\r\n", 2),
-    (b"A b HTTP/1.1\n\n", 12),
-    (b"A b HTTP/1.1\r\n\n", 14),
-    (b"A b HTTP/1.1\r\n\r\r\n", 15),
-    (b"A b HTTP/1.1\r\nX: 1\r\n\n", 20),
-    (b"A b HTTP/1.1\r\nX: 1\n\r\n", 18),
-    (b"A b HTTP/1.1\r\n X: 1\r\n\r\n", 14),
-    (b"A b HTTP/1.1\r\nX: 1\r\n 2\r\n\r\n", 20),
-    (b"A b HTTP/1.1\r\nX : 1\r\n\r\n", 15),
-    (b"A b HTTP/1.1\r\nX\r\n\r\n", 15),
-    (b"A b HTTP/1.1\r\nX: 1\r\n: 2\r\n\r\n", 20),
-    (b"A b http/1.1\r\n\r\n", 4),
-    (b"A b HTTP/1-1\r\n\r\n", 10),
-    (b"A b HTTP/1.x\r\n\r\n", 11),
-    (b"A b HTTP/x.1\r\n\r\n", 9),
-    (b"A b HTTP/1.11\r\n\r\n", 12),
-    (b"A /\x7f HTTP/1.1\r\n\r\n", 3),
-    (b"(A b HTTP/1.1\r\n\r\n", 0),
-    (b"A b HTTP/1.1\r\nX: abcdefghijklmnopqrstuvwxyz\x01\r\n\r\n", 43),
-    (b"A b HTTP/1.1\r\nX: abcdefghijklmnopqrstuvwxyz\rb\r\n", 44),
+/// one, and the part of a head in which the next byte is. That is the first byte that the grammar of
+/// RFC 9112, sections 2.1 to 5.1, does not allow there.
+pub const NO_HEADS: &[(&[u8], usize, HeadPart)] = &[
+    (b"\r\nA b HTTP/1.1\r\n\r\n", 0, HeadPart::Method),
+    (b"A  b HTTP/1.1\r\n\r\n", 2, HeadPart::Target),
+    (b"A b HTTP/1.1\n\n", 12, HeadPart::LineEnding),
+    (b"A b HTTP/1.1\r\n\n", 14, HeadPart::FieldName),
+    (b"A b HTTP/1.1\r\n\r\r\n", 15, HeadPart::LineEnding),
+    (b"A b HTTP/1.1\r\nX: 1\r\n\n", 20, HeadPart::FieldName),
+    (b"A b HTTP/1.1\r\nX: 1\n\r\n", 18, HeadPart::Value),
+    (b"A b HTTP/1.1\r\n X: 1\r\n\r\n", 14, HeadPart::FieldName),
+    (b"A b HTTP/1.1\r\nX: 1\r\n 2\r\n\r\n", 20, HeadPart::FieldName),
+    (b"A b HTTP/1.1\r\nX : 1\r\n\r\n", 15, HeadPart::Colon),
+    (b"A b HTTP/1.1\r\nX\r\n\r\n", 15, HeadPart::Colon),
+    (b"A b HTTP/1.1\r\nX: 1\r\n: 2\r\n\r\n", 20, HeadPart::FieldName),
+    (b"A b http/1.1\r\n\r\n", 4, HeadPart::Version),
+    (b"A b HTTP/1-1\r\n\r\n", 10, HeadPart::Version),
+    (b"A b HTTP/1.x\r\n\r\n", 11, HeadPart::Version),
+    (b"A b HTTP/x.1\r\n\r\n", 9, HeadPart::Version),
+    (b"A b HTTP/1.11\r\n\r\n", 12, HeadPart::LineEnding),
+    (b"A /\x7f HTTP/1.1\r\n\r\n", 3, HeadPart::Target),
+    (b"(A b HTTP/1.1\r\n\r\n", 0, HeadPart::Method),
+    (b"A b HTTP/1.1\r\nX: abcdefghijklmnopqrstuvwxyz\x01\r\n\r\n", 43, HeadPart::Value),
+    (b"A b HTTP/1.1\r\nX: abcdefghijklmnopqrstuvwxyz\rb\r\n", 44, HeadPart::LineEnding),
 ];
 
 const NOWHERE: Span = Span {
@@ -139,14 +140,15 @@ fn read_head_into_of_heads(rt: HostRuntime) {
 
 #[test]
 fn read_head_into_of_none(rt: HostRuntime) {
-    for (text, place) in NO_HEADS {
+    for (text, place, part) in NO_HEADS {
+        let never = Err(HeadError::Invalid(Invalid { place: *place, part: *part }));
         let mut entries = [NO_FIELD; 4];
         let answer = read_head_into(text, &mut entries);
-        same(&rt, text, answer, Err(HeadError::Invalid(*place)));
+        same(&rt, text, answer, never);
         // The text up to and including that byte gives the same error; without that byte the reader
         // needs more input.
         let answer = read_head_into(&text[..*place + 1], &mut entries);
-        same(&rt, text, answer, Err(HeadError::Invalid(*place)));
+        same(&rt, text, answer, never);
         let answer = read_head_into(&text[..*place], &mut entries);
         same(&rt, text, answer, Err(HeadError::Incomplete));
     }
@@ -207,11 +209,12 @@ fn agree(rt: &impl Abort, alloc: std::alloc::Global, text: &[u8]) {
             }
         }
         (Err(HeadError::Incomplete), Err(_)) => (),
-        (Err(HeadError::Invalid(place)), Err(_)) => {
+        (Err(HeadError::Invalid(invalid)), Err(_)) => {
+            let place = invalid.place;
             let more = read_head_into(&text[..place], &mut entries);
             same(rt, text, matches!(more, Err(HeadError::Incomplete)), true);
             let never = read_head_into(&text[..place + 1], &mut entries);
-            same(rt, text, matches!(never, Err(HeadError::Invalid(it)) if it == place), true);
+            same(rt, text, matches!(never, Err(HeadError::Invalid(it)) if it == invalid), true);
         }
         (answer, _) => same(rt, text, answer.is_ok(), false),
     }

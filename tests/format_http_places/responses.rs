@@ -2,6 +2,7 @@
 use crate::heads::{next, same};
 use std::process::Abort;
 use format_http::responses::head::read_response_head;
+use format_http_places::parts::{HeadPart, Invalid};
 use format_http_places::places::{Field, ResponseHead, Span};
 use format_http_places::read::HeadError;
 use format_http_places::response::read_response_head_into;
@@ -25,7 +26,7 @@ Vary: Accept-Encoding\r\nContent-Type: text/plain\r\n\r\n\
 Hello World! My content includes a trailing CRLF.\r\n";
 
 /// This one, and some at the edges of the grammar of RFC 9112, section 4.
-const HEADS: &[Row] = &[
+pub const HEADS: &[Row] = &[
     (
         HELLO,
         (1, 1),
@@ -60,37 +61,37 @@ const HEADS: &[Row] = &[
 ];
 
 /// Texts that do not start with a head, and the length of the longest prefix of each that can start
-/// one. The next byte is the first that the grammar of RFC 9112, sections 2.1 to 5.1, does not
-/// allow there.
-const NO_HEADS: &[(&[u8], usize)] = &[
-    (b"\r\nHTTP/1.1 200 OK\r\n\r\n", 0),
-    (b"GET / HTTP/1.1\r\n\r\n", 0),
-    (b"http/1.1 200 OK\r\n\r\n", 0),
-    (b"HTTP/x.1 200 OK\r\n\r\n", 5),
-    (b"HTTP/11 200 OK\r\n\r\n", 6),
-    (b"HTTP/1.x 200 OK\r\n\r\n", 7),
-    (b"HTTP/1.10 200 OK\r\n\r\n", 8),
-    (b"HTTP/1.1\r\n\r\n", 8),
-    (b"HTTP/1.1\t200 OK\r\n\r\n", 8),
-    (b"HTTP/1.1  200 OK\r\n\r\n", 9),
-    (b"HTTP/1.1 x00 OK\r\n\r\n", 9),
-    (b"HTTP/1.1 2x0 OK\r\n\r\n", 10),
-    (b"HTTP/1.1 20 OK\r\n\r\n", 11),
-    (b"HTTP/1.1 2000 OK\r\n\r\n", 12),
-    (b"HTTP/1.1 200OK\r\n\r\n", 12),
-    (b"HTTP/1.1 200\tOK\r\n\r\n", 12),
-    (b"HTTP/1.1 200\n\r\n", 12),
-    (b"HTTP/1.1 200\r\r\n", 13),
-    (b"HTTP/1.1 200 \n\r\n", 13),
-    (b"HTTP/1.1 200 O\0K\r\n\r\n", 14),
-    (b"HTTP/1.1 200 OK and so on, for long\x7f\r\n\r\n", 35),
-    (b"HTTP/1.1 200 OK\n\r\n", 15),
-    (b"HTTP/1.1 200 OK\rX\r\n", 16),
-    (b"HTTP/1.1 200 OK\r\n\n", 17),
-    (b"HTTP/1.1 200 OK\r\n\r\r\n", 18),
-    (b"HTTP/1.1 200 OK\r\n X: 1\r\n\r\n", 17),
-    (b"HTTP/1.1 200 OK\r\nX : 1\r\n\r\n", 18),
-    (b"HTTP/1.1 200 OK\r\nX: 1\r\n 2\r\n\r\n", 23),
+/// one, and the part of a head in which the next byte is. That is the first byte that the grammar of
+/// RFC 9112, sections 2.1 to 5.1, does not allow there.
+pub const NO_HEADS: &[(&[u8], usize, HeadPart)] = &[
+    (b"\r\nHTTP/1.1 200 OK\r\n\r\n", 0, HeadPart::Version),
+    (b"GET / HTTP/1.1\r\n\r\n", 0, HeadPart::Version),
+    (b"http/1.1 200 OK\r\n\r\n", 0, HeadPart::Version),
+    (b"HTTP/x.1 200 OK\r\n\r\n", 5, HeadPart::Version),
+    (b"HTTP/11 200 OK\r\n\r\n", 6, HeadPart::Version),
+    (b"HTTP/1.x 200 OK\r\n\r\n", 7, HeadPart::Version),
+    (b"HTTP/1.10 200 OK\r\n\r\n", 8, HeadPart::StatusCode),
+    (b"HTTP/1.1\r\n\r\n", 8, HeadPart::StatusCode),
+    (b"HTTP/1.1\t200 OK\r\n\r\n", 8, HeadPart::StatusCode),
+    (b"HTTP/1.1  200 OK\r\n\r\n", 9, HeadPart::StatusCode),
+    (b"HTTP/1.1 x00 OK\r\n\r\n", 9, HeadPart::StatusCode),
+    (b"HTTP/1.1 2x0 OK\r\n\r\n", 10, HeadPart::StatusCode),
+    (b"HTTP/1.1 20 OK\r\n\r\n", 11, HeadPart::StatusCode),
+    (b"HTTP/1.1 2000 OK\r\n\r\n", 12, HeadPart::StatusCode),
+    (b"HTTP/1.1 200OK\r\n\r\n", 12, HeadPart::StatusCode),
+    (b"HTTP/1.1 200\tOK\r\n\r\n", 12, HeadPart::StatusCode),
+    (b"HTTP/1.1 200\n\r\n", 12, HeadPart::StatusCode),
+    (b"HTTP/1.1 200\r\r\n", 13, HeadPart::LineEnding),
+    (b"HTTP/1.1 200 \n\r\n", 13, HeadPart::Value),
+    (b"HTTP/1.1 200 O\0K\r\n\r\n", 14, HeadPart::Value),
+    (b"HTTP/1.1 200 OK and so on, for long\x7f\r\n\r\n", 35, HeadPart::Value),
+    (b"HTTP/1.1 200 OK\n\r\n", 15, HeadPart::Value),
+    (b"HTTP/1.1 200 OK\rX\r\n", 16, HeadPart::LineEnding),
+    (b"HTTP/1.1 200 OK\r\n\n", 17, HeadPart::FieldName),
+    (b"HTTP/1.1 200 OK\r\n\r\r\n", 18, HeadPart::LineEnding),
+    (b"HTTP/1.1 200 OK\r\n X: 1\r\n\r\n", 17, HeadPart::FieldName),
+    (b"HTTP/1.1 200 OK\r\nX : 1\r\n\r\n", 18, HeadPart::Colon),
+    (b"HTTP/1.1 200 OK\r\nX: 1\r\n 2\r\n\r\n", 23, HeadPart::FieldName),
 ];
 
 const NOWHERE: Span = Span {
@@ -145,14 +146,15 @@ fn read_response_head_into_of_heads(rt: HostRuntime) {
 
 #[test]
 fn read_response_head_into_of_none(rt: HostRuntime) {
-    for (text, place) in NO_HEADS {
+    for (text, place, part) in NO_HEADS {
+        let never = Err(HeadError::Invalid(Invalid { place: *place, part: *part }));
         let mut entries = [NO_FIELD; 4];
         let answer = read_response_head_into(text, &mut entries);
-        same(&rt, text, answer, Err(HeadError::Invalid(*place)));
+        same(&rt, text, answer, never);
         // The text up to and including that byte gives the same error; without that byte the reader
         // needs more input.
         let answer = read_response_head_into(&text[..*place + 1], &mut entries);
-        same(&rt, text, answer, Err(HeadError::Invalid(*place)));
+        same(&rt, text, answer, never);
         let answer = read_response_head_into(&text[..*place], &mut entries);
         same(&rt, text, answer, Err(HeadError::Incomplete));
     }
@@ -179,11 +181,12 @@ fn agree(rt: &impl Abort, alloc: std::alloc::Global, text: &[u8]) {
             }
         }
         (Err(HeadError::Incomplete), Err(_)) => (),
-        (Err(HeadError::Invalid(place)), Err(_)) => {
+        (Err(HeadError::Invalid(invalid)), Err(_)) => {
+            let place = invalid.place;
             let more = read_response_head_into(&text[..place], &mut entries);
             same(rt, text, matches!(more, Err(HeadError::Incomplete)), true);
             let never = read_response_head_into(&text[..place + 1], &mut entries);
-            same(rt, text, matches!(never, Err(HeadError::Invalid(it)) if it == place), true);
+            same(rt, text, matches!(never, Err(HeadError::Invalid(it)) if it == invalid), true);
         }
         (answer, _) => same(rt, text, answer.is_ok(), false),
     }

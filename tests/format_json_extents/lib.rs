@@ -4,6 +4,8 @@
 #[cfg(test)]
 mod integers;
 #[cfg(test)]
+mod members;
+#[cfg(test)]
 mod steps;
 #[cfg(test)]
 mod tokens;

@@ -1,5 +1,6 @@
 //! The errors of readers.
 use crate::exports::{self, MAX_DEPTH};
+use crate::http::HeadError;
 use core::fmt;
 
 /// A position in the input.
@@ -45,6 +46,13 @@ impl fmt::Display for Position {
 pub enum Error {
     /// The input is invalid, at this offset in bytes if the reader reports one.
     Invalid(Option<usize>),
+    /// A byte of an HTTP head is invalid, or the input ends within the head.
+    InvalidHead {
+        /// The offset of the byte, or the length of the input.
+        offset: usize,
+        /// Why it is invalid.
+        reason: HeadError,
+    },
     /// The input is incomplete. The function documents whether more bytes can complete it.
     Incomplete,
     /// Memory allocation failed.
@@ -55,6 +63,8 @@ pub enum Error {
     BufferTooSmall(RequiredSize),
     /// The requested depth limit is above [`MAX_DEPTH`](crate::MAX_DEPTH).
     MaxDepthTooLarge,
+    /// The input is nested deeper than the depth limit, at this offset in bytes.
+    TooDeep(usize),
     /// A code that this crate does not know, from another version of the library.
     Unknown(u32),
 }
@@ -73,6 +83,8 @@ impl Error {
     pub fn offset(&self) -> Option<usize> {
         match self {
             Error::Invalid(offset) => *offset,
+            Error::InvalidHead { offset, .. } => Some(*offset),
+            Error::TooDeep(offset) => Some(*offset),
             _ => None,
         }
     }
@@ -109,6 +121,7 @@ impl fmt::Display for Error {
         match self {
             Error::Invalid(Some(offset)) => write!(f, "invalid input at offset {offset}"),
             Error::Invalid(None) => f.write_str("invalid input"),
+            Error::InvalidHead { offset, reason } => write!(f, "{reason} at offset {offset}"),
             Error::Incomplete => f.write_str("incomplete input: more bytes are needed"),
             Error::NoMemory => f.write_str("memory allocation failed"),
             Error::InvalidUtf8 => f.write_str("input is not valid UTF-8"),
@@ -124,6 +137,7 @@ impl fmt::Display for Error {
             Error::MaxDepthTooLarge => {
                 write!(f, "depth limit too large: at most {MAX_DEPTH} levels are supported")
             }
+            Error::TooDeep(offset) => write!(f, "nested too deep at offset {offset}"),
             Error::Unknown(code) => write!(f, "unknown code {code} from the library"),
         }
     }

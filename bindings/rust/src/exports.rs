@@ -31,6 +31,12 @@ pub const END: u32 = 9;
 /// Number is not an integer or out of range. The function determines the range.
 pub const NOT_AN_INTEGER: u32 = 10;
 
+/// Nested too deep: deeper than the depth limit.
+pub const TOO_DEEP: u32 = 11;
+
+/// Number out of range. The function determines the range.
+pub const OUT_OF_RANGE: u32 = 12;
+
 /// Impossible dialect: delimiter, quote, carriage return and line feed must be four different
 /// bytes, and the line ending one of the constants.
 pub const INVALID_DIALECT: u32 = 13;
@@ -124,6 +130,36 @@ pub const CHUNKED_ERROR_TRAILERS: u32 = 6;
 
 /// Trailer section too long.
 pub const CHUNKED_ERROR_TRAILERS_TOO_LONG: u32 = 7;
+
+/// No error.
+pub const HTTP_HEAD_ERROR_NONE: u32 = 0;
+
+/// Expected a method and a space.
+pub const HTTP_HEAD_ERROR_METHOD: u32 = 1;
+
+/// Expected a request target and a space.
+pub const HTTP_HEAD_ERROR_TARGET: u32 = 2;
+
+/// Expected an HTTP version. It is `HTTP/`, a digit, a point and a digit.
+pub const HTTP_HEAD_ERROR_VERSION: u32 = 3;
+
+/// Expected a status code of three digits. A space or the line ending follows it.
+pub const HTTP_HEAD_ERROR_STATUS_CODE: u32 = 4;
+
+/// Expected a field name or an empty line. A field line may not start with whitespace.
+pub const HTTP_HEAD_ERROR_FIELD_NAME: u32 = 5;
+
+/// Expected a colon after the field name. No whitespace precedes it.
+pub const HTTP_HEAD_ERROR_COLON: u32 = 6;
+
+/// Invalid byte in a field value or reason phrase. Of the control characters only a tab is valid.
+pub const HTTP_HEAD_ERROR_VALUE: u32 = 7;
+
+/// Expected CRLF. A line feed without a carriage return is invalid.
+pub const HTTP_HEAD_ERROR_LINE_ENDING: u32 = 8;
+
+/// Incomplete head. The bytes end within it.
+pub const HTTP_HEAD_ERROR_INCOMPLETE: u32 = 9;
 
 /// The name of a section, which begins there.
 pub const INI_SECTION: u32 = 0;
@@ -225,6 +261,64 @@ pub const JSON_ARRAY: u32 = 5;
 
 /// An object: its place has the brackets round it.
 pub const JSON_OBJECT: u32 = 6;
+
+/// No error.
+pub const JSON_ERROR_NONE: u32 = 0;
+
+/// Expected a value.
+pub const JSON_ERROR_VALUE: u32 = 1;
+
+/// Expected a value or a closing bracket.
+pub const JSON_ERROR_VALUE_OR_BRACKET: u32 = 2;
+
+/// Expected a string as the name of a member.
+pub const JSON_ERROR_NAME: u32 = 3;
+
+/// Expected a string as the name of a member, or a closing brace.
+pub const JSON_ERROR_NAME_OR_BRACE: u32 = 4;
+
+/// Expected a colon.
+pub const JSON_ERROR_COLON: u32 = 5;
+
+/// Expected a comma or a closing bracket. After a number, the number may also continue.
+pub const JSON_ERROR_COMMA_OR_BRACKET: u32 = 6;
+
+/// Expected a comma or a closing brace. After a number, the number may also continue.
+pub const JSON_ERROR_COMMA_OR_BRACE: u32 = 7;
+
+/// Expected the end of the text. After a number, the number may also continue.
+pub const JSON_ERROR_END: u32 = 8;
+
+/// Expected a character of a string or its closing quote. A control character must be escaped.
+pub const JSON_ERROR_CHARACTER: u32 = 9;
+
+/// Expected an escape. After a backslash, it is a quote, a backslash, a slash, b, f, n, r, t, or u
+/// and four hexadecimal digits.
+pub const JSON_ERROR_ESCAPE: u32 = 10;
+
+/// Expected a hexadecimal digit.
+pub const JSON_ERROR_HEX_DIGIT: u32 = 11;
+
+/// Expected the first half of a surrogate pair. The digit makes a second half without a first.
+pub const JSON_ERROR_FIRST_HALF: u32 = 12;
+
+/// Expected the second half of a surrogate pair. It is an escape from DC00 to DFFF.
+pub const JSON_ERROR_SECOND_HALF: u32 = 13;
+
+/// Expected a byte that continues a character in UTF-8.
+pub const JSON_ERROR_UTF8: u32 = 14;
+
+/// Expected a digit.
+pub const JSON_ERROR_DIGIT: u32 = 15;
+
+/// Expected a digit or a sign.
+pub const JSON_ERROR_DIGIT_OR_SIGN: u32 = 16;
+
+/// Expected a letter of null, true or false. The letter is written too.
+pub const JSON_ERROR_LETTER: u32 = 17;
+
+/// Expected no deeper array or object. As many as the depth limit allows are open.
+pub const JSON_ERROR_DEPTH: u32 = 18;
 
 /// The name of a member, which is a string: its place has the quotes round it.
 pub const JSON_NAME: u32 = 7;
@@ -515,6 +609,8 @@ pub struct Head {
     pub length: usize,
     /// The offset of the error in bytes; 0 otherwise.
     pub error_offset: usize,
+    /// Why the byte at this offset is invalid; `HTTP_HEAD_ERROR_NONE` otherwise.
+    pub error: u32,
     /// The number before the point of the version, below 10.
     pub major: u8,
     /// The number after the point of the version, below 10.
@@ -572,8 +668,9 @@ pub struct ChunkedStep {
     pub error: u32,
 }
 
-/// The state of a search for the end of the head of a request. Only the functions of this library
-/// may interpret its fields. All zeros is the initial state; start from it for each head.
+/// The state of a search for the end of the head of a request or a response. Only the functions of
+/// this library may interpret its fields. All zeros is the initial state; start from it for each
+/// head.
 #[repr(C)]
 #[derive(Clone, Copy, Debug, Default, PartialEq, Eq)]
 pub struct HttpHeadState {
@@ -595,6 +692,8 @@ pub struct ResponseHead {
     pub length: usize,
     /// The offset of the error in bytes; 0 otherwise.
     pub error_offset: usize,
+    /// Why the byte at this offset is invalid; `HTTP_HEAD_ERROR_NONE` otherwise.
+    pub error: u32,
     /// The status code, below 1000.
     pub status: u16,
     /// The number before the point of the version, below 10.
@@ -677,6 +776,36 @@ pub struct JsonItem {
     pub kind: u32,
     /// Its bytes.
     pub span: Span,
+}
+
+/// The exact value of a number: digits times a power of ten. The digits do not end in zero, so two
+/// numbers are equal if and only if their decimals are. Zero has digits 0, exponent 0, and no sign.
+#[repr(C)]
+#[derive(Clone, Copy, Debug, Default, PartialEq, Eq)]
+pub struct Decimal {
+    /// The factor of the power of ten.
+    pub digits: u64,
+    /// The power of ten.
+    pub exponent: i32,
+    /// Whether the number is below zero. `-0` is not.
+    pub negative: bool,
+}
+
+/// The first error of a text, and where it is.
+#[repr(C)]
+#[derive(Clone, Copy, Debug, Default, PartialEq, Eq)]
+pub struct JsonDiagnostic {
+    /// The offset of the error in bytes.
+    pub offset: usize,
+    /// The number of its line, from 1 on; 0 if there is no error. A line ends with a line feed.
+    pub line: usize,
+    /// The number of its column, from 1 on; 0 if there is no error. A column is a character.
+    pub column: usize,
+    /// The input that is expected there: one of the constants from `JSON_ERROR_NONE` to
+    /// `JSON_ERROR_DEPTH`.
+    pub error: u32,
+    /// The expected letter if `error` is `JSON_ERROR_LETTER`; 0 otherwise.
+    pub letter: u8,
 }
 
 /// The text of a string of JSON.
@@ -807,7 +936,7 @@ pub struct TomlResult {
 
 extern "C" {
     /// A symbol that only a library with these declarations has.
-    #[link_name = "pergidau_declared_f4afdeb4"]
+    #[link_name = "pergidau_declared_4632b30c"]
     static VERSION_LINKED: c_char;
 
     /// Returns the version of the linked library.
@@ -983,7 +1112,8 @@ extern "C" {
     /// # Errors
     ///
     /// `INVALID`: `bytes` does not start with a head. The first offset at which no head can continue is
-    /// written; it is the end of `bytes` if they end within a head.
+    /// written, and why the byte there is invalid. If `bytes` ends within a head, it is the end of
+    /// `bytes`, with `HTTP_HEAD_ERROR_INCOMPLETE`.
     ///
     /// `BUFFER_TOO_SMALL`: the head has more fields than the buffer has entries. The number of fields
     /// is written.
@@ -1015,8 +1145,8 @@ extern "C" {
     /// # Errors
     ///
     /// `INVALID`: `bytes` does not start with a head, regardless of what follows. The offset of the
-    /// first invalid byte is written: the bytes before it are a prefix of a head, and together with the
-    /// byte there they are not.
+    /// first invalid byte is written, and why it is invalid: the bytes before it are a prefix of a
+    /// head, and together with the byte there they are not.
     ///
     /// `BUFFER_TOO_SMALL`: as for complete input.
     ///
@@ -1145,7 +1275,8 @@ extern "C" {
     /// Finds the end of the head of an HTTP/1.1 request (RFC 9112) in input that arrives in chunks.
     ///
     /// No call looks again at bytes that an earlier call scanned, so all calls for a head take time
-    /// linear in its length. To obtain the parts of the head, pass its bytes to `exported_http_head`.
+    /// linear in its length. To obtain the parts of the head, pass its bytes to `exported_http_head`;
+    /// to obtain the reason of an error, pass all bytes to `exported_http_head_partial`.
     ///
     /// For the first call, `state` must be all zeros. Each further call for the same head must have the
     /// state that the previous call left, and the bytes of the previous call followed by more bytes.
@@ -1169,6 +1300,39 @@ extern "C" {
     /// `bytes` must be valid for reads of `bytes_length` bytes, which must not change during the call.
     /// None of these may overlap. The call needs 16 KiB of stack.
     pub fn exported_http_head_extent(
+        state: *mut HttpHeadState,
+        bytes: *const u8,
+        bytes_length: usize,
+        out: *mut usize,
+    ) -> u32;
+
+    /// Finds the end of the head of an HTTP/1.1 response (RFC 9112) in input that arrives in chunks, as
+    /// `exported_http_head_extent` does for requests, with a state of its own. To obtain the parts of
+    /// the head, pass its bytes to `exported_http_response_head`; to obtain the reason of an error,
+    /// pass all bytes to `exported_http_response_head_partial`.
+    ///
+    /// For the first call, `state` must be all zeros. Each further call for the same head must have the
+    /// state that the previous call left, and the bytes of the previous call followed by more bytes.
+    ///
+    /// `DONE`: `bytes` starts with a head, whose length is written. Reset the state to zeros for the
+    /// next head.
+    ///
+    /// `INCOMPLETE`: `bytes` does not start with a head, but more bytes can complete one. 0 is written.
+    ///
+    /// If `state` belongs to other bytes or was modified, the result may be wrong, but nothing outside
+    /// `bytes` is read.
+    ///
+    /// # Errors
+    ///
+    /// `INVALID`: `bytes` does not start with a head, regardless of what follows. The first offset at
+    /// which no head can continue is written.
+    ///
+    /// # Safety
+    ///
+    /// `state` must be valid for reads and writes of one state, and `out` for writes of one length.
+    /// `bytes` must be valid for reads of `bytes_length` bytes, which must not change during the call.
+    /// None of these may overlap. The call needs 16 KiB of stack.
+    pub fn exported_http_response_head_extent(
         state: *mut HttpHeadState,
         bytes: *const u8,
         bytes_length: usize,
@@ -1214,7 +1378,8 @@ extern "C" {
     /// # Errors
     ///
     /// `INVALID`: `bytes` does not start with a head. The first offset at which no head can continue is
-    /// written; it is the end of `bytes` if they end within a head.
+    /// written, and why the byte there is invalid. If `bytes` ends within a head, it is the end of
+    /// `bytes`, with `HTTP_HEAD_ERROR_INCOMPLETE`.
     ///
     /// `BUFFER_TOO_SMALL`: the head has more fields than the buffer has entries. The number of fields
     /// is written.
@@ -1246,8 +1411,8 @@ extern "C" {
     /// # Errors
     ///
     /// `INVALID`: `bytes` does not start with a head, regardless of what follows. The offset of the
-    /// first invalid byte is written: the bytes before it are a prefix of a head, and together with the
-    /// byte there they are not.
+    /// first invalid byte is written, and why it is invalid: the bytes before it are a prefix of a
+    /// head, and together with the byte there they are not.
     ///
     /// `BUFFER_TOO_SMALL`: as for complete input.
     ///
@@ -1380,6 +1545,9 @@ extern "C" {
     /// A text with an unpaired surrogate escape such as `\ud800` is rejected, because it denotes no
     /// character, although the grammar of the standard allows it.
     ///
+    /// `exported_json_diagnose` also reports where and why a text is rejected. `exported_json_step`
+    /// walks through a text that was checked, in time linear in the text.
+    ///
     /// `DONE`: the text is a JSON text.
     ///
     /// # Errors
@@ -1462,6 +1630,68 @@ extern "C" {
         out: *mut JsonItem,
     ) -> u32;
 
+    /// Converts the longest JSON number (RFC 8259) at the start of `bytes` to a decimal: a sign, digits
+    /// and a power of ten whose value equals the number. Nothing is rounded: `1500`, `1.50e3` and
+    /// `15E+2` have the digits 15 and the exponent 2. Whitespace before the number is not skipped.
+    ///
+    /// `DONE`: the decimal is written.
+    ///
+    /// # Errors
+    ///
+    /// `OUT_OF_RANGE`: the digits without zeros at their end do not fit 64 bits, or the power of ten
+    /// does not fit 32 bits with a sign. Zeros are written.
+    ///
+    /// `INVALID`: `bytes` does not start with a number. Zeros are written.
+    ///
+    /// # Safety
+    ///
+    /// `bytes` must be valid for reads of `bytes_length` bytes, which must not change during the call,
+    /// and `out` must be valid for writes of one decimal. They must not overlap. The call needs 16 KiB
+    /// of stack.
+    pub fn exported_json_decimal(
+        bytes: *const u8,
+        bytes_length: usize,
+        out: *mut Decimal,
+    ) -> u32;
+
+    /// Checks a text as `exported_json_check` does, and reports the first error: its offset, line and
+    /// column, and the input that is expected there.
+    ///
+    /// The bytes before the offset can continue to a text. With the byte at the offset they cannot,
+    /// whatever follows. Nothing is allocated for a text that is JSON; for others, one byte for each
+    /// open bracket.
+    ///
+    /// `DONE`: the text is a JSON text. Zeros are written.
+    ///
+    /// # Errors
+    ///
+    /// `INVALID`: the byte at the offset is invalid.
+    ///
+    /// `INCOMPLETE`: the text ends too early. The offset is its end.
+    ///
+    /// `TOO_DEEP`: the bracket at the offset is nested deeper than `max_depth`. The error is
+    /// `JSON_ERROR_DEPTH`.
+    ///
+    /// `INVALID_UTF8`: the text is not UTF-8 from the offset on, and is valid before. The error is
+    /// `JSON_ERROR_UTF8`. For a text that is not UTF-8, another error with a smaller offset is reported
+    /// instead.
+    ///
+    /// `MAX_DEPTH_TOO_LARGE`: `max_depth` is above 512. Zeros are written.
+    ///
+    /// `NO_MEMORY`: zeros are written.
+    ///
+    /// # Safety
+    ///
+    /// `text` must be valid for reads of `text_length` bytes, which must not change during the call,
+    /// and `out` must be valid for writes of one diagnostic. They must not overlap. The call needs 512
+    /// KiB of stack.
+    pub fn exported_json_diagnose(
+        text: *const u8,
+        text_length: usize,
+        max_depth: usize,
+        out: *mut JsonDiagnostic,
+    ) -> u32;
+
     /// Converts the longest JSON number (RFC 8259) at the start of `bytes` to a signed 64-bit integer.
     /// `-0` gives 0. Whitespace before the number is not skipped.
     ///
@@ -1505,6 +1735,44 @@ extern "C" {
         bytes: *const u8,
         bytes_length: usize,
         out: *mut u64,
+    ) -> u32;
+
+    /// Finds the first member of a name in the object (RFC 8259) that `bytes` starts with, after
+    /// whitespace, at most one comma or colon, and whitespace. Names are compared with their escapes
+    /// decoded: `{"\u0061": 1}` has a member `a`.
+    ///
+    /// If `is_token` is not 0, `name` is a reference token of a JSON pointer (RFC 6901), without its
+    /// slash: `~0` is a tilde and `~1` a slash. A tilde before anything else is not valid there, and is
+    /// not checked.
+    ///
+    /// The offset that is written is that of the bytes after the name. Call `exported_json_next` there
+    /// for the value, or this function again for a member of the value. Each byte before the offset is
+    /// scanned once, so a walk along names to a value at any depth takes time linear in the text.
+    ///
+    /// `DONE`: the offset is written.
+    ///
+    /// `END`: no member has the name. 0 is written.
+    ///
+    /// # Errors
+    ///
+    /// `INVALID`: there is no object, or its members are not valid up to the first of the name. 0 is
+    /// written.
+    ///
+    /// `MAX_DEPTH_TOO_LARGE`: `max_depth` is above 512. 0 is written.
+    ///
+    /// # Safety
+    ///
+    /// `bytes` must be valid for reads of `bytes_length` bytes and `name` for reads of `name_length`
+    /// bytes, which must not change during the call. `out` must be valid for writes of one length, and
+    /// must not overlap the others. The call needs 512 KiB of stack.
+    pub fn exported_json_member(
+        bytes: *const u8,
+        bytes_length: usize,
+        max_depth: usize,
+        name: *const u8,
+        name_length: usize,
+        is_token: u32,
+        out: *mut usize,
     ) -> u32;
 
     /// Finds the next step of a walk through a JSON text (RFC 8259) that was checked, from its start to

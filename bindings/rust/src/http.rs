@@ -13,18 +13,21 @@
 //! # Ok::<(), pergidau::Error>(())
 //! ```
 mod body;
+mod error;
 mod extent;
 mod response;
 
 pub use self::body::{request_body, response_body, Body, BodyError};
+pub use self::error::HeadError;
 pub use self::extent::HeadExtent;
 #[cfg(feature = "alloc")]
 pub use self::response::response_head_grown;
 pub use self::response::{response_head, response_head_partial, ResponseHead};
 pub use crate::exports::Field;
 
+use self::error::error_of;
 use crate::exports;
-use crate::{at, Error, RequiredSize};
+use crate::{at, Error};
 #[cfg(feature = "alloc")]
 use alloc::vec::Vec;
 use core::fmt;
@@ -111,10 +114,7 @@ fn write(export: Export, bytes: &[u8], fields: &mut [Field]) -> Result<exports::
     let code = unsafe { export(bytes.as_ptr(), bytes.len(), entries, count, &mut places) };
     match code {
         exports::DONE => Ok(places),
-        code => {
-            let required = RequiredSize { entries: places.fields, bytes: 0 };
-            Err(Error::of(code, Some(places.error_offset), required))
-        }
+        code => Err(error_of(code, places.error_offset, places.error, places.fields)),
     }
 }
 
@@ -136,8 +136,8 @@ fn read<'i, 'f>(
 ///
 /// - [`Error::BufferTooSmall`] if the head has more fields than `fields` has entries; it holds the
 ///   number of fields.
-/// - [`Error::Invalid`] if `bytes` does not start with a head; it holds the offset of the first
-///   invalid byte, or the end of the input.
+/// - [`Error::InvalidHead`] if `bytes` does not start with a head; it holds the offset of the first
+///   invalid byte and the reason, or the end of the input.
 ///
 /// After an error the contents of `fields` are unspecified.
 ///
@@ -183,8 +183,8 @@ pub fn head_grown<'i, 'f>(
 /// # Errors
 ///
 /// - [`Error::Incomplete`] if `bytes` does not start with a head, but more bytes can complete one.
-/// - [`Error::Invalid`] if `bytes` does not start with a head, regardless of what follows; it holds
-///   the offset of the first invalid byte.
+/// - [`Error::InvalidHead`] if `bytes` does not start with a head, regardless of what follows; it
+///   holds the offset of the first invalid byte and the reason.
 ///
 /// ```
 /// let head = pergidau::http::head_partial(b"GET / HTT", &mut []);

@@ -1,20 +1,39 @@
 //! Texts of JSON (RFC 8259), and the values in them one by one.
 //!
-//! ```
-//! use pergidau::json;
+//! [`steps`] walks a whole text in one pass, at any depth:
 //!
-//! for (name, value) in json::parse("{\"a\": [1, 2]}", 2)?.members() {
-//!     assert_eq!((name, value.elements().count()), ("a", 2));
+//! ```
+//! use pergidau::json::{self, Step};
+//!
+//! let mut total = 0;
+//! for step in json::steps("{\"a\": [1, 2], \"b\": {\"c\": 3}}", 2)? {
+//!     if let Step::Value(value) = step {
+//!         total += value.as_i64().unwrap_or(0);
+//!     }
 //! }
+//! assert_eq!(total, 6);
+//! # Ok::<(), pergidau::Error>(())
+//! ```
+//!
+//! [`Value::get`] and [`Value::pointer`] find single values:
+//!
+//! ```
+//! let text = "{\"\\u0061\": [1, {\"b/c\": 2}]}";
+//! let value = pergidau::json::parse(text, 3)?;
+//! assert_eq!(value.get("a").unwrap().at(0).unwrap().as_i64(), Some(1));
+//! assert_eq!(value.pointer("/a/1/b~1c").unwrap().as_u64(), Some(2));
 //! # Ok::<(), pergidau::Error>(())
 //! ```
 use crate::exports::{self, JsonItem};
 use crate::{Error, NOTHING};
 
+mod diagnostic;
+mod lookup;
 mod scalars;
 mod steps;
 
-pub use scalars::unescape;
+pub use diagnostic::{diagnose, Diagnostic, Expected};
+pub use scalars::{unescape, Decimal};
 pub use steps::{steps, Step, Steps};
 
 /// The type of a value.
@@ -84,6 +103,7 @@ impl<'i> Value<'i> {
 
     /// Returns the members of an object, in order, including repeated ones: the name as written
     /// between its quotes, and the value. The iterator is empty if the value is not an object.
+    /// [`get`](Value::get) compares names with their escapes decoded.
     pub fn members(&self) -> Members<'i> {
         Members(Inside::of(self, Kind::Object))
     }
@@ -189,13 +209,15 @@ pub fn parse(text: &str, max_depth: usize) -> Result<Value<'_>, Error> {
 }
 
 /// Checks that `text` is a JSON text (RFC 8259) whose arrays and objects are nested at most
-/// `max_depth` deep. The error has no offset.
+/// `max_depth` deep. If it is not, a second pass finds the offset of the error. [`diagnose`] also
+/// returns the input that is expected there.
 ///
 /// ```
 /// use pergidau::{json, Error};
 ///
 /// assert_eq!(json::check(b" {\"a\": [1, 2.5e3, true]}\n", 2), Ok(()));
-/// assert_eq!(json::check(b"[1, 2,]", 2), Err(Error::Invalid(None)));
+/// assert_eq!(json::check(b"[1, 2,]", 2), Err(Error::Invalid(Some(6))));
+/// assert_eq!(json::check(b"[[1]]", 1), Err(Error::TooDeep(1)));
 /// ```
 pub fn check(text: &[u8], max_depth: usize) -> Result<(), Error> {
     // SAFETY: the pointer is that of a live borrow, and the bytes are only read. The call takes up to
@@ -203,6 +225,12 @@ pub fn check(text: &[u8], max_depth: usize) -> Result<(), Error> {
     // the program.
     match unsafe { exports::exported_json_check(text.as_ptr(), text.len(), max_depth) } {
         exports::DONE => Ok(()),
+        exports::INVALID | exports::INVALID_UTF8 => {
+            diagnose(text, max_depth).map_err(|diagnostic| match diagnostic.error {
+                Error::Incomplete => Error::Invalid(Some(text.len())),
+                error => error,
+            })
+        }
         code => Err(Error::of(code, None, NOTHING)),
     }
 }

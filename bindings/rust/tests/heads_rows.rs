@@ -1,6 +1,6 @@
-//! Tables of response heads, and of request heads and records whose end is found incrementally.
+//! Tables of response heads, and of heads and records whose end is found incrementally.
 use pergidau::csv::{Extent, LineEnd, Size};
-use pergidau::http::{self, Field, HeadExtent};
+use pergidau::http::{self, Field, HeadError, HeadExtent};
 use pergidau::{Error, RequiredSize};
 
 /// The response of RFC 9110, section 3.9, with some of its fields and the start of its content.
@@ -25,7 +25,8 @@ fn http_response_head_of_responses() {
         let piece = http::response_head_partial(&HELLO[..end], &mut fields);
         assert_eq!(piece.unwrap_err(), Error::Incomplete, "{end}");
         let short = http::response_head(&HELLO[..end], &mut fields).unwrap_err();
-        assert_eq!(short, Error::Invalid(Some(end)), "{end}");
+        let reason = HeadError::Incomplete;
+        assert_eq!(short, Error::InvalidHead { offset: end, reason }, "{end}");
     }
     let head = http::response_head_partial(&HELLO[..whole], &mut fields).unwrap();
     assert_eq!((head.status(), head.fields().len()), (200, 3));
@@ -43,32 +44,43 @@ fn http_response_head_of_responses() {
         assert_eq!((head.version(), head.status(), head.reason()), (version, status, reason));
         assert_eq!(head.fields().count(), 0);
     }
-    for (bytes, begins) in [
-        (&b"GET / HTTP/1.1\r\n\r\n"[..], 0),
-        (b"HTTP/1.1\r\n\r\n", 8),
-        (b"HTTP/1.1 20 OK\r\n\r\n", 11),
-        (b"HTTP/1.1 200OK\r\n\r\n", 12),
-        (b"HTTP/1.1 200 O\0K\r\n\r\n", 14),
+    for (bytes, offset, reason) in [
+        (&b"GET / HTTP/1.1\r\n\r\n"[..], 0, HeadError::Version),
+        (b"HTTP/1.1\r\n\r\n", 8, HeadError::StatusCode),
+        (b"HTTP/1.1 20 OK\r\n\r\n", 11, HeadError::StatusCode),
+        (b"HTTP/1.1 200OK\r\n\r\n", 12, HeadError::StatusCode),
+        (b"HTTP/1.1 200 O\0K\r\n\r\n", 14, HeadError::Value),
+        (b"HTTP/1.1 200 OK\r\nX : 1\r\n\r\n", 18, HeadError::Colon),
     ] {
+        let never = Error::InvalidHead { offset, reason };
+        let mut extent = HeadExtent::of_response();
         for cut in 0..=bytes.len() {
+            let want = if cut > offset { never } else { Error::Incomplete };
             let error = http::response_head_partial(&bytes[..cut], &mut []).unwrap_err();
-            assert_eq!(error.offset(), (cut > begins).then_some(begins), "{bytes:?} {cut}");
+            assert_eq!(error, want, "{bytes:?} {cut}");
+            let end = extent.advance(&bytes[..cut]);
+            assert_eq!(end, if cut > offset { Err(never) } else { Ok(None) }, "{bytes:?} {cut}");
         }
-        let error = http::response_head(bytes, &mut []).unwrap_err();
-        assert_eq!(error.offset(), Some(begins), "{bytes:?}");
+        assert_eq!(http::response_head(bytes, &mut []).unwrap_err(), never, "{bytes:?}");
     }
 }
 
 #[test]
 fn http_head_extent_of_pieces() {
-    let rows: [(&[u8], usize); 3] = [
-        (b"A b HTTP/1.1\r\n\r\n\r\n", 16),
-        (b"GET /hello.txt HTTP/1.1\r\nHost: www.example.com\r\n\r\nbody", 50),
-        (b"PUT /x HTTP/1.1\r\nX: 1\r\nX:\t2 \r\nY:\r\n\r\nX: 3\r\n\r\n", 36),
+    let rows: [(HeadExtent, &[u8], usize); 5] = [
+        (HeadExtent::new(), b"A b HTTP/1.1\r\n\r\n\r\n", 16),
+        (
+            HeadExtent::new(),
+            b"GET /hello.txt HTTP/1.1\r\nHost: www.example.com\r\n\r\nbody",
+            50,
+        ),
+        (HeadExtent::new(), b"PUT /x HTTP/1.1\r\nX: 1\r\nX:\t2 \r\nY:\r\n\r\nX: 3\r\n\r\n", 36),
+        (HeadExtent::of_response(), HELLO, HELLO.len() - 5),
+        (HeadExtent::of_response(), b"HTTP/2.9 999\r\n\r\n\r\n", 16),
     ];
-    for (bytes, whole) in rows {
+    for (start, bytes, whole) in rows {
         for step in 1..=bytes.len() {
-            let (mut extent, mut have) = (HeadExtent::new(), 0);
+            let (mut extent, mut have) = (start.clone(), 0);
             let end = loop {
                 have = bytes.len().min(have + step);
                 match extent.advance(&bytes[..have]).unwrap() {
@@ -84,13 +96,19 @@ fn http_head_extent_of_pieces() {
     let mut extent = HeadExtent::new();
     assert_eq!(extent.advance(b"GET /"), Ok(None));
     assert_ne!(extent, HeadExtent::new());
-    for (bytes, begins) in [(&b"GET  / HTTP/1.1\r\n"[..], 4), (b"A b HTTP/1.1\n", 12), (b"(", 0)] {
+    assert_ne!(HeadExtent::of_response(), HeadExtent::new());
+    for (bytes, begins, reason) in [
+        (&b"GET  / HTTP/1.1\r\n"[..], 4, HeadError::Target),
+        (b"A b HTTP/1.1\n", 12, HeadError::LineEnding),
+        (b"(", 0, HeadError::Method),
+    ] {
         let mut extent = HeadExtent::new();
         for have in 0..=begins {
             assert_eq!(extent.advance(&bytes[..have]), Ok(None), "{bytes:?} {have}");
         }
         for have in begins + 1..=bytes.len() {
             let refused = extent.advance(&bytes[..have]).unwrap_err();
+            assert_eq!(refused, Error::InvalidHead { offset: begins, reason }, "{bytes:?}");
             assert_eq!(refused.offset(), Some(begins), "{bytes:?}");
         }
     }
@@ -142,7 +160,8 @@ fn http_fields_of_a_name() {
     assert_eq!((head.field("hOST"), head.field("via")), (Some(&b"a"[..]), Some(&b"b"[..])));
     assert_eq!((head.field("Hos"), head.field("Hosts"), head.field("")), (None, None, None));
     assert_eq!(head.fields().len(), 3);
-    assert_eq!(http::head_grown(b"GET /\r", &mut fields).unwrap_err(), Error::Invalid(Some(5)));
+    let error = http::head_grown(b"GET /\r", &mut fields).unwrap_err();
+    assert_eq!(error, Error::InvalidHead { offset: 5, reason: HeadError::Target });
     let head = http::response_head_grown(HELLO, &mut fields).unwrap();
     assert_eq!((head.field("SERVER"), head.fields().len()), (Some(&b"Apache"[..]), 3));
 }

@@ -32,8 +32,8 @@ fn steps_of_texts() {
     for (text, want) in rows {
         assert_eq!(told(json::steps(text, 3).unwrap()), want, "{text}");
     }
-    assert_eq!(json::steps("[1,]", 3).err(), Some(Error::Invalid(None)));
-    assert_eq!(json::steps("[[]]", 1).err(), Some(Error::Invalid(None)));
+    assert_eq!(json::steps("[1,]", 3).err(), Some(Error::Invalid(Some(3))));
+    assert_eq!(json::steps("[[]]", 1).err(), Some(Error::TooDeep(1)));
 }
 
 #[test]
@@ -116,4 +116,89 @@ fn bytes_that_begin_with_strings() {
     }
     let small = json::unescape(b"\"abc\"", &mut [0; 2]).unwrap_err();
     assert_eq!(small.to_string(), "buffer too small: 3 bytes required");
+}
+
+#[test]
+fn decimals_of_values() {
+    let decimal = |negative, digits, exponent| Some(json::Decimal { negative, digits, exponent });
+    let rows = [
+        ("0", decimal(false, 0, 0)),
+        ("-0.00e7", decimal(false, 0, 0)),
+        ("1500", decimal(false, 15, 2)),
+        ("-0.005", decimal(true, 5, -3)),
+        ("18446744073709551615", decimal(false, u64::MAX, 0)),
+        ("18446744073709551617", None),
+        ("1e2147483648", None),
+        ("\"1\"", None),
+    ];
+    for (text, want) in rows {
+        assert_eq!(json::parse(text, 0).unwrap().as_decimal(), want, "{text}");
+    }
+}
+
+/// The text and most of the rows are those of RFC 6901, section 5.
+#[test]
+fn pointers() {
+    let text = r#"{"foo": ["bar", "baz"], "": 0, "a/b": 1, "c%d": 2, "e^f": 3, "g|h": 4,
+        "i\\j": 5, "k\"l": 6, " ": 7, "m~n": 8, "\u006fpq": {"foo": [[9]]}, "foo": null}"#;
+    let rows = [
+        ("", Some(text)),
+        ("/foo", Some("[\"bar\", \"baz\"]")),
+        ("/foo/0", Some("\"bar\"")),
+        ("/foo/1", Some("\"baz\"")),
+        ("/", Some("0")),
+        ("/a~1b", Some("1")),
+        ("/c%d", Some("2")),
+        ("/e^f", Some("3")),
+        ("/g|h", Some("4")),
+        ("/i\\j", Some("5")),
+        ("/k\"l", Some("6")),
+        ("/ ", Some("7")),
+        ("/m~0n", Some("8")),
+        ("/opq/foo/0/0", Some("9")),
+        ("/opq/foo/0/1", None),
+        ("/opq/foo/0/0/0", None),
+        ("/foo/2", None),
+        ("/foo/-", None),
+        ("/foo/00", None),
+        ("/foo/+1", None),
+        ("/foo/", None),
+        ("/foo/18446744073709551616", None),
+        ("/m~n", None),
+        ("/m~", None),
+        ("/m~2n", None),
+        ("/fo", None),
+        ("foo", None),
+    ];
+    let value = json::parse(text, 4).unwrap();
+    for (pointer, want) in rows {
+        assert_eq!(value.pointer(pointer).map(|it| it.text()), want, "{pointer}");
+    }
+    assert_eq!(value.get("opq").unwrap().get("foo").unwrap().at(0).unwrap().text(), "[9]");
+    assert_eq!(value.get("i\\j").unwrap().as_i64(), Some(5));
+    assert_eq!((value.get("m~0n"), value.at(0)), (None, None));
+    assert_eq!(value.get("foo").unwrap().get("0"), None);
+    assert_eq!(json::parse("[1]", 1).unwrap().pointer("/0").unwrap().text(), "1");
+    assert_eq!(json::parse("[]", 1).unwrap().pointer("/0"), None);
+}
+
+#[test]
+fn diagnoses() {
+    let rows = [
+        (&b""[..], "line 1, column 1: unexpected end of input, expected a value"),
+        (b"[1,\n 2 3]", "line 2, column 4: expected a comma or `]`"),
+        (b"{\"a\" 1}", "line 1, column 6: expected a colon"),
+        (b"nulx", "line 1, column 4: expected the letter `l`"),
+        (b"[\n[[]]]", "line 2, column 2: nested too deep"),
+        (b"\"a\xff\"", "line 1, column 3: input is not valid UTF-8"),
+        (b"\"\\udc00\"", "line 1, column 5: expected the first half of a surrogate pair"),
+    ];
+    for (text, want) in rows {
+        assert_eq!(json::diagnose(text, 2).unwrap_err().to_string(), want, "{text:?}");
+    }
+    assert_eq!(json::diagnose(b"[[]]", 2), Ok(()));
+    let large = json::diagnose(b"1", 513).unwrap_err();
+    assert_eq!((large.error, large.position), (Error::MaxDepthTooLarge, None));
+    let deep = json::diagnose(b"[[1]]", 1).unwrap_err();
+    assert_eq!((deep.error, deep.expected), (Error::TooDeep(1), None));
 }

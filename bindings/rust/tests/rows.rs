@@ -2,7 +2,7 @@
 // (rows of tables are tuples)
 #![allow(clippy::type_complexity)]
 use pergidau::csv::{self, LineEnd};
-use pergidau::http::{self, Chunked, ChunkedError, Field, Step};
+use pergidau::http::{self, Chunked, ChunkedError, Field, HeadError, Step};
 use pergidau::ini::{self, Entry};
 use pergidau::json::{self, Kind, Value};
 use pergidau::resp::{self, Extent, Reply};
@@ -61,10 +61,15 @@ fn json_of_texts() {
     for text in ["null", " [1, -2.5e3, {\"a\": \"\\u00e9\"}] ", "\"\u{e9}\"", "\"\\ud83d\\ude00\""] {
         assert_eq!(json::check(text.as_bytes(), 2), Ok(()), "{text}");
     }
-    let alone = ["\"\\ud800\"", "\"\\udead\"", "[\"\\ud83d\\u0041\"]", "{\"\\ude00\\ud83d\": 1}"];
-    for text in alone.into_iter().chain(["", "nul", "[1,]", "01", "[[[]]]", "{\"a\" 1}", "1 2"]) {
-        assert_eq!(json::check(text.as_bytes(), 2), Err(Error::Invalid(None)), "{text}");
+    let rows = [
+        ("\"\\ud800\"", 7), ("\"\\udead\"", 4), ("[\"\\ud83d\\u0041\"]", 10),
+        ("{\"\\ude00\\ud83d\": 1}", 5), ("", 0), ("nul", 3), ("[1,]", 3), ("01", 1), ("{\"a\" 1}", 5),
+        ("1 2", 2),
+    ];
+    for (text, offset) in rows {
+        assert_eq!(json::check(text.as_bytes(), 2), Err(Error::Invalid(Some(offset))), "{text}");
     }
+    assert_eq!(json::check(b"[[[]]]", 2), Err(Error::TooDeep(2)));
     assert_eq!(json::check(b"\"\xff\"", 0), Err(Error::InvalidUtf8));
     assert_eq!(json::check(b"1", MAX_DEPTH + 1), Err(Error::MaxDepthTooLarge));
     assert_eq!(json::longest(b"-1.5e3 ", 0), Ok((&b"-1.5e3"[..], &b" "[..])));
@@ -73,7 +78,7 @@ fn json_of_texts() {
     assert_eq!(json::longest(b"\"\\ud800\"", 1), Err(Error::Invalid(None)));
     let deep = "[".repeat(MAX_DEPTH) + &"]".repeat(MAX_DEPTH);
     assert_eq!(json::check(deep.as_bytes(), MAX_DEPTH), Ok(()));
-    assert_eq!(json::check(deep.as_bytes(), MAX_DEPTH - 1), Err(Error::Invalid(None)));
+    assert_eq!(json::check(deep.as_bytes(), MAX_DEPTH - 1), Err(Error::TooDeep(MAX_DEPTH - 1)));
 }
 
 /// Collects the texts of all values other than arrays and objects, in order, and the names, each
@@ -118,8 +123,8 @@ fn json_walks() {
     assert_eq!(object.members().count(), 2);
     assert_eq!(json::parse("\"[1]\"", 0).unwrap().elements().count(), 0);
     assert_eq!(json::parse("1", 0).unwrap().elements().count(), 0);
-    assert_eq!(json::parse("[1,]", 9), Err(Error::Invalid(None)));
-    assert_eq!(json::parse("", 9), Err(Error::Invalid(None)));
+    assert_eq!(json::parse("[1,]", 9), Err(Error::Invalid(Some(3))));
+    assert_eq!(json::parse("", 9), Err(Error::Invalid(Some(0))));
     assert_eq!(json::parse("1", MAX_DEPTH + 1), Err(Error::MaxDepthTooLarge));
     let deep = "[".repeat(MAX_DEPTH) + &"]".repeat(MAX_DEPTH);
     let (mut value, mut levels) = (json::parse(&deep, MAX_DEPTH).unwrap(), 1);
@@ -180,7 +185,8 @@ fn http_head_of_requests() {
         let piece = http::head_partial(&HELLO[..end], &mut fields);
         assert_eq!(piece.unwrap_err(), Error::Incomplete, "{end}");
         let short = http::head(&HELLO[..end], &mut fields).unwrap_err();
-        assert_eq!(short, invalid(end), "{end}");
+        let reason = HeadError::Incomplete;
+        assert_eq!(short, Error::InvalidHead { offset: end, reason }, "{end}");
     }
     assert!(http::head_partial(&HELLO[..whole], &mut fields).is_ok());
     let small = http::head(HELLO, &mut fields[..2]).unwrap_err();
@@ -190,7 +196,9 @@ fn http_head_of_requests() {
         assert_eq!(http::head_partial(request, &mut []).unwrap().version(), version);
     }
     let never = http::head_partial(b"GET  / HTTP/1.1\r\n", &mut fields);
-    assert_eq!(never.unwrap_err(), invalid(4));
+    let never = never.unwrap_err();
+    assert_eq!(never, Error::InvalidHead { offset: 4, reason: HeadError::Target });
+    assert_eq!(never.to_string(), "expected a request target and a space at offset 4");
 }
 
 #[test]
@@ -448,6 +456,7 @@ fn errors_are_shown() {
         (Error::InvalidUtf8, "input is not valid UTF-8"),
         (Error::BufferTooSmall(wanted), "buffer too small: 2 entries and 4 bytes required"),
         (Error::MaxDepthTooLarge, "depth limit too large: at most 512 levels are supported"),
+        (Error::TooDeep(4), "nested too deep at offset 4"),
         (Error::Unknown(7), "unknown code 7 from the library"),
     ];
     for (error, want) in rows {

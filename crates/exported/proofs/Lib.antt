@@ -7,6 +7,7 @@ pub mod Extent
 pub mod HeadExtent
 pub mod HttpBodies
 pub mod Items
+pub mod JsonDiagnostics
 pub mod JsonIntegers
 pub mod JsonTexts
 pub mod Nodes

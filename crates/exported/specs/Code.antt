@@ -28,6 +28,12 @@ end = 9
 abbrev pub not_an_integer : ℕ
 not_an_integer = 10
 
+abbrev pub too_deep : ℕ
+too_deep = 11
+
+abbrev pub out_of_range : ℕ
+out_of_range = 12
+
 abbrev pub invalid_dialect : ℕ
 invalid_dialect = 13
 

@@ -1,13 +1,35 @@
 -- Heads of requests and of responses as callers see them.
-use Rattle.std.specs.Prelude.{◌≡◌, ◌⊎◌, ℕ, List, length}
+use Rattle.std.specs.Prelude.{◌≡◌, ◌⊎◌, ℕ, List, length, take}
 use Rattle.format_http.specs.Heads.Head.{BeginsHead}
 use Rattle.format_http.specs.Responses.Head.{BeginsResponseHead}
 use Rattle.format_http_places.specs.Refusals.{IsRefused, NoneRead}
 use Rattle.format_http_places.specs.Responses.{IsResponseRefused, NoResponseRead}
+use Rattle.format_http_places.specs.States.{IsIn}
+use Rattle.format_http_places.specs.declared.parts.HeadKind.{HeadKind}
+use Rattle.format_http_places.specs.declared.parts.HeadKind.TheVariants as kind
+use Rattle.format_http_places.specs.declared.parts.HeadPart.{HeadPart}
+use Rattle.format_http_places.specs.declared.parts.HeadPart.TheVariants as part
 use Rattle.format_http_places.specs.declared.places.Head.{Head as Places}
 use Rattle.format_http_places.specs.declared.places.ResponseHead.{ResponseHead as ResponsePlaces}
 use Rattle.exported.specs.declared.http.Head.{Head}
 use Rattle.exported.specs.declared.http.response.ResponseHead.{ResponseHead}
+
+-- the number of a part of a head
+abbrev pub part_number : HeadPart → ℕ
+part_number part.Method = 1
+part_number part.Target = 2
+part_number part.Version = 3
+part_number part.StatusCode = 4
+part_number part.FieldName = 5
+part_number part.Colon = 6
+part_number part.Value = 7
+part_number part.LineEnding = 8
+
+-- `error` is the number of the part of a head of this kind that the byte at this offset is in.
+pub record HasPart (k : HeadKind) (bytes : List ℕ) (place error : ℕ) : Type 0 where
+  pub part : HeadPart
+  pub is_in : IsIn k (take place bytes) part
+  pub is_number : error ≡ part_number part
 
 -- the places of a head
 abbrev pub places_of : Head → Places
@@ -26,11 +48,11 @@ HasNoParts head = (head.method ≡ record { offset = 0; length = 0 })
     × (head.target ≡ record { offset = 0; length = 0 }) × (head.length ≡ 0)
     × (head.major ≡ 0) × (head.minor ≡ 0)
 
--- `bytes` does not start with a head: `place` is the first offset at which no head can continue, or
--- `bytes` ends at `place` within a head.
-abbrev pub IsNoHead : List ℕ → ℕ → Type 0
-IsNoHead bytes place = IsRefused bytes place
-    ⊎ ((place ≡ length bytes) × BeginsHead bytes × NoneRead bytes)
+-- `bytes` does not start with a head: `place` is the first offset at which no head can continue,
+-- and `error` its part of the head; or `bytes` ends at `place` within a head, and `error` is 9.
+abbrev pub IsNoHead : List ℕ → ℕ → ℕ → Type 0
+IsNoHead bytes place error = (IsRefused bytes place × HasPart kind.Request bytes place error)
+    ⊎ ((place ≡ length bytes) × BeginsHead bytes × NoneRead bytes × (error ≡ 9))
 
 -- ---- responses
 
@@ -50,8 +72,8 @@ abbrev pub HasNoResponseParts : ResponseHead → Type 0
 HasNoResponseParts head = (head.reason ≡ record { offset = 0; length = 0 }) × (head.length ≡ 0)
     × (head.status ≡ 0) × (head.major ≡ 0) × (head.minor ≡ 0)
 
--- `bytes` does not start with a head: `place` is the first offset at which no head can continue, or
--- `bytes` ends at `place` within a head.
-abbrev pub IsNoResponse : List ℕ → ℕ → Type 0
-IsNoResponse bytes place = IsResponseRefused bytes place
-    ⊎ ((place ≡ length bytes) × BeginsResponseHead bytes × NoResponseRead bytes)
+-- Likewise of a response.
+abbrev pub IsNoResponse : List ℕ → ℕ → ℕ → Type 0
+IsNoResponse bytes place error =
+    (IsResponseRefused bytes place × HasPart kind.Response bytes place error)
+    ⊎ ((place ≡ length bytes) × BeginsResponseHead bytes × NoResponseRead bytes × (error ≡ 9))

@@ -11,7 +11,10 @@ pub mod HttpExtent
 pub mod HttpField
 pub mod Ini
 pub mod Json
+pub mod JsonDecimal
+pub mod JsonDiagnostic
 pub mod JsonInteger
+pub mod JsonMember
 pub mod JsonStep
 pub mod JsonString
 pub mod Pieces

@@ -34,6 +34,12 @@ pub const END: u32 = 9;
 /// Number is not an integer or out of range. The function determines the range.
 pub const NOT_AN_INTEGER: u32 = 10;
 
+/// Nested too deep: deeper than the depth limit.
+pub const TOO_DEEP: u32 = 11;
+
+/// Number out of range. The function determines the range.
+pub const OUT_OF_RANGE: u32 = 12;
+
 /// Impossible dialect: delimiter, quote, carriage return and line feed must be four different
 /// bytes, and the line ending one of the constants.
 pub const INVALID_DIALECT: u32 = 13;

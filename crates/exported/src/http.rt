@@ -1,5 +1,5 @@
-//! Heads of requests. Submodules have the heads of responses, the end of a head in partial input,
-//! the fields of a name, the lengths of bodies, and chunked bodies.
+//! Heads of requests. Submodules have the heads of responses, the errors of both, the end of a head
+//! in partial input, the fields of a name, the lengths of bodies, and chunked bodies.
 
 ghost use Rattle.std.specs.Prelude.{◌≡◌, ◌⊎◌, ◌<◌, List, length, take, ℕ};
 ghost use Rattle.format_http.specs.Heads.Head.{IsHead, Pair, Request};
@@ -7,15 +7,18 @@ ghost use Rattle.format_http.specs.Heads.Head.{BeginsHead, NoHead};
 ghost use Rattle.format_http_places.specs.Places.{IsWanted, ShowsHead};
 ghost use Rattle.format_http_places.specs.Refusals.{IsRefused};
 ghost use Rattle.exported.specs.Code.{buffer_too_small, done, incomplete, invalid};
-ghost use Rattle.exported.specs.Http.{HasNoParts, IsNoHead, places_of};
+ghost use Rattle.exported.specs.Http.{HasNoParts, HasPart, IsNoHead, places_of};
 
 pub mod body;
 pub mod chunked;
+pub mod error;
 pub mod extent;
 pub mod field;
 pub mod response;
 
 use crate::code::{BUFFER_TOO_SMALL, DONE, INCOMPLETE, INVALID};
+use crate::http::error::{HTTP_HEAD_ERROR_INCOMPLETE, HTTP_HEAD_ERROR_NONE, number_of};
+use format_http_places::parts::HeadKind;
 use format_http_places::places;
 pub use format_http_places::places::{Field, Span};
 use format_http_places::read::{HeadError, read_head_into};
@@ -34,16 +37,18 @@ pub struct Head {
     pub length: usize,
     /// The offset of the error in bytes; 0 otherwise.
     pub error_offset: usize,
+    /// Why the byte at this offset is invalid; `HTTP_HEAD_ERROR_NONE` otherwise.
+    pub error: u32,
     /// The number before the point of the version, below 10.
     pub major: u8,
     /// The number after the point of the version, below 10.
     pub minor: u8,
 }
 
-/// Returns an empty head with a number of fields and the offset of an error.
-fn none(fields: usize, place: usize) -> Head
+/// Returns an empty head with a number of fields, and the offset and the number of an error.
+fn none(fields: usize, place: usize, error: u32) -> Head
     ensures fields { result.fields ≡ fields }
-    ensures place { result.error_offset ≡ place }
+    ensures place { (result.error_offset ≡ place) × (result.error ≡ error) }
     ensures parts { HasNoParts result }
 {
     let nowhere = Span {
@@ -56,6 +61,7 @@ fn none(fields: usize, place: usize) -> Head
         fields,
         length: 0,
         error_offset: place,
+        error,
         major: 0,
         minor: 0,
     }
@@ -64,7 +70,7 @@ fn none(fields: usize, place: usize) -> Head
 /// A head that was found.
 fn head_of(found: places::Head) -> Head
     ensures places { places_of result ≡ found }
-    ensures place { result.error_offset ≡ 0 }
+    ensures place { (result.error_offset ≡ 0) × (result.error ≡ 0) }
 {
     Head {
         method: found.method,
@@ -72,6 +78,7 @@ fn head_of(found: places::Head) -> Head
         fields: found.fields,
         length: found.length,
         error_offset: 0,
+        error: HTTP_HEAD_ERROR_NONE,
         major: found.major,
         minor: found.minor,
     }
@@ -88,7 +95,8 @@ fn head_of(found: places::Head) -> Head
 /// # Errors
 ///
 /// `INVALID`: `bytes` does not start with a head. The first offset at which no head can continue is
-/// written; it is the end of `bytes` if they end within a head.
+/// written, and why the byte there is invalid. If `bytes` ends within a head, it is the end of
+/// `bytes`, with `HTTP_HEAD_ERROR_INCOMPLETE`.
 ///
 /// `BUFFER_TOO_SMALL`: the head has more fields than the buffer has entries. The number of fields
 /// is written.
@@ -109,8 +117,9 @@ pub extern "C" fn exported_http_head(bytes: &[u8], fields: &mut [Field], out: &m
         × (length fields.old < out.new.fields) }
     ensures refused { result ≡ invalid → (line : Request) (pairs : List Pair) (rest : List ℕ)
         → IsHead line pairs bytes.now rest → ⊥ }
-    ensures place { result ≡ invalid → IsNoHead bytes.now out.new.error_offset }
-    ensures nowhere { (result ≡ invalid → ⊥) → out.new.error_offset ≡ 0 }
+    ensures place { result ≡ invalid → IsNoHead bytes.now out.new.error_offset out.new.error }
+    ensures nowhere { (result ≡ invalid → ⊥)
+        → (out.new.error_offset ≡ 0) × (out.new.error ≡ 0) }
     ensures parts { (result ≡ done → ⊥) → HasNoParts out.new }
     ensures count { result ≡ invalid → out.new.fields ≡ 0 }
     ensures codes { (result ≡ done) ⊎ ((result ≡ buffer_too_small) ⊎ (result ≡ invalid)) }
@@ -121,15 +130,15 @@ pub extern "C" fn exported_http_head(bytes: &[u8], fields: &mut [Field], out: &m
             DONE
         }
         Err(HeadError::TooManyFields(count)) => {
-            *out = none(count, 0);
+            *out = none(count, 0, HTTP_HEAD_ERROR_NONE);
             BUFFER_TOO_SMALL
         }
         Err(HeadError::Incomplete) => {
-            *out = none(0, bytes.len());
+            *out = none(0, bytes.len(), HTTP_HEAD_ERROR_INCOMPLETE);
             INVALID
         }
-        Err(HeadError::Invalid(place)) => {
-            *out = none(0, place);
+        Err(HeadError::Invalid(invalid)) => {
+            *out = none(0, invalid.place, number_of(invalid.part));
             INVALID
         }
     }
@@ -146,8 +155,8 @@ pub extern "C" fn exported_http_head(bytes: &[u8], fields: &mut [Field], out: &m
 /// # Errors
 ///
 /// `INVALID`: `bytes` does not start with a head, regardless of what follows. The offset of the
-/// first invalid byte is written: the bytes before it are a prefix of a head, and together with the
-/// byte there they are not.
+/// first invalid byte is written, and why it is invalid: the bytes before it are a prefix of a
+/// head, and together with the byte there they are not.
 ///
 /// `BUFFER_TOO_SMALL`: as for complete input.
 ///
@@ -167,8 +176,10 @@ pub extern "C" fn exported_http_head_partial(
     ensures small { result ≡ buffer_too_small → IsWanted bytes.now out.new.fields
         × (length fields.old < out.new.fields) }
     ensures refused { result ≡ invalid → NoHead bytes.now }
-    ensures place { result ≡ invalid → IsRefused bytes.now out.new.error_offset }
-    ensures nowhere { (result ≡ invalid → ⊥) → out.new.error_offset ≡ 0 }
+    ensures place { result ≡ invalid → IsRefused bytes.now out.new.error_offset
+        × HasPart HeadKind.Request bytes.now out.new.error_offset out.new.error }
+    ensures nowhere { (result ≡ invalid → ⊥)
+        → (out.new.error_offset ≡ 0) × (out.new.error ≡ 0) }
     ensures parts { (result ≡ done → ⊥) → HasNoParts out.new }
     ensures count { (result ≡ invalid → out.new.fields ≡ 0)
         × (result ≡ incomplete → out.new.fields ≡ 0) }
@@ -184,15 +195,15 @@ pub extern "C" fn exported_http_head_partial(
             DONE
         }
         Err(HeadError::TooManyFields(count)) => {
-            *out = none(count, 0);
+            *out = none(count, 0, HTTP_HEAD_ERROR_NONE);
             BUFFER_TOO_SMALL
         }
         Err(HeadError::Incomplete) => {
-            *out = none(0, 0);
+            *out = none(0, 0, HTTP_HEAD_ERROR_NONE);
             INCOMPLETE
         }
-        Err(HeadError::Invalid(place)) => {
-            *out = none(0, place);
+        Err(HeadError::Invalid(invalid)) => {
+            *out = none(0, invalid.place, number_of(invalid.part));
             INVALID
         }
     }

@@ -11,7 +11,10 @@ ghost use Rattle.exported.specs.Code.{done, end, invalid, invalid_utf8, max_dept
 ghost use Rattle.exported.specs.Code.{supported_depth};
 ghost use Rattle.exported.specs.Json.{ShowsItem, no_item, number_of};
 
+pub mod decimal;
+pub mod diagnostic;
 pub mod integer;
+pub mod member;
 pub mod step;
 pub mod string;
 
@@ -82,6 +85,9 @@ fn number_of(kind: Kind) -> u32
 ///
 /// A text with an unpaired surrogate escape such as `\ud800` is rejected, because it denotes no
 /// character, although the grammar of the standard allows it.
+///
+/// `exported_json_diagnose` also reports where and why a text is rejected. `exported_json_step`
+/// walks through a text that was checked, in time linear in the text.
 ///
 /// `DONE`: the text is a JSON text.
 ///

@@ -1,123 +1,144 @@
 -- Lemmas about passing a head byte by byte, and about the results for the bytes passed.
-use Rattle.std.proofs.Common.{◌≡◌, ◌∙◌, ◌≤◌, ◌+◌, ◌-◌, ◌++◌, ◌∷◌, [], ap, ℕ, List, length}
+use Rattle.std.proofs.Common.{◌≡◌, ◌∙◌, ◌<◌, ◌≤◌, ◌+◌, ◌-◌}
+use Rattle.std.proofs.Common.{◌++◌, ◌∷◌, [], ap, ℕ, List, length}
 use Rattle.std.proofs.Common.{append_assoc, arith, drop, inl, inr, refl, subst, sym, take}
 use Rattle.std.proofs.Common.{length-append}
-use Rattle.std.proofs.lemmas.List.{drop_at, length-drop, take-append-drop, take_all}
+use Rattle.std.proofs.lemmas.List.{append-nil, drop_at, length-drop, take-append-drop, take_all}
+use Rattle.std.proofs.lemmas.List.{take_at}
 use Rattle.std.specs.Prelude.{Err, None, Ok, Option, Result, Some}
-use Rattle.format_http.specs.Heads.Bytes.{IsDigit, IsTokenByte, IsValueByte, IsVisible, line_end}
-use Rattle.format_http_places.specs.Extents.{Due, HeadResult, IsLed, IsOf, IsStep, IsStopped}
-use Rattle.format_http_places.specs.Extents.{StateAfter}
-use Rattle.format_http_places.specs.Extents.{NumbersText, Says, Walks}
-use Rattle.format_http_places.specs.Grammar.{Byte, FieldsText, HeadText, Language, Nothing, OneOf}
-use Rattle.format_http_places.specs.Grammar.{Run, SomeOf, Text, VersionText}
+use Rattle.format_http_places.specs.Extents.{Begins, HasNone, HeadResult, IsErrorOf, IsInvalid}
+use Rattle.format_http_places.specs.Extents.{IsLed, IsLong, IsOf, IsStep, IsStopped, Never, Says}
+use Rattle.format_http_places.specs.Extents.{Walks}
+use Rattle.format_http_places.specs.Grammar.{HeadText, ResponseText, Stops}
+use Rattle.format_http_places.specs.Refusals.{IsRefusedBy, ReadsHead}
+use Rattle.format_http_places.specs.Responses.{ReadsResponse}
+use Rattle.format_http_places.specs.States.{Due, IsIn, StateAfter, TextOf, part_of, start_of}
 use Rattle.format_http_places.specs.declared.extent.HeadExtent.{HeadExtent}
-use Rattle.format_http_places.specs.declared.extent.HeadPlace.{HeadPlace}
-use Rattle.format_http_places.specs.declared.extent.HeadPlace.TheVariants as place
-use Rattle.format_http_places.specs.declared.extent.Invalid.{Invalid}
-use Rattle.format_http_places.proofs.EquivalentAfter.{EquivalentAfter, Live, NoneFirst, behind_both}
-use Rattle.format_http_places.proofs.EquivalentAfter.{behind_none}
-use Rattle.format_http_places.proofs.EquivalentAfter.{live_byte, live_one, live_run, live_text}
-use Rattle.format_http_places.proofs.EquivalentAfter.{none_byte, none_one, none_run, stops_at}
+use Rattle.format_http_places.specs.declared.parts.HeadKind.{HeadKind}
+use Rattle.format_http_places.specs.declared.parts.HeadKind.TheVariants as kind
+use Rattle.format_http_places.specs.declared.parts.HeadPart.{HeadPart}
+use Rattle.format_http_places.specs.declared.parts.Invalid.{Invalid}
+use Rattle.format_http_places.specs.declared.places.Field.{Field}
+use Rattle.format_http_places.specs.declared.read.HeadError.{HeadError}
+use Rattle.format_http_places.specs.declared.read.HeadError.TheVariants as error
+use Rattle.format_http_places.specs.declared.read.HeadError.TheVariants.{Incomplete, TooManyFields}
+use Rattle.format_http_places.specs.declared.state.HeadPlace.{HeadPlace}
+use Rattle.format_http_places.proofs.EquivalentAfter.{EquivalentAfter, NoneFirst, behind_both}
+use Rattle.format_http_places.proofs.EquivalentAfter.{behind_none, not_empty, stops_at}
 use Rattle.format_http_places.proofs.Heads.{refused_at, text_head, wanting}
-use Rattle.format_http_places.proofs.Lines.{a_token, fields_line, live_target, live_value}
-use Rattle.format_http_places.proofs.Versions.{live_fields, live_version}
-use Rattle.format_http_places.proofs.PlaceSteps.{InName, behind_of, leads_both, leads_none}
+use Rattle.format_http_places.proofs.PlaceSteps.{behind_of, leads_both, leads_none}
+use Rattle.format_http_places.proofs.Responses.{response_refused, response_wanting, text_response}
+use Rattle.format_http_places.proofs.States.{live_at, none_at_end}
 
--- ---- some bytes are accepted in each state
+-- ---- heads of a kind
 
-live_numbers : Live NumbersText
-live_numbers =
-    let a_digit : IsDigit 48 = (omega arith, omega arith) in
-    live_one IsDigit 48 (Byte 46 (OneOf IsDigit (Text line_end FieldsText))) a_digit
-    (live_byte 46 (OneOf IsDigit (Text line_end FieldsText))
-    (live_one IsDigit 48 (Text line_end FieldsText) a_digit
-    (live_text line_end FieldsText live_fields)))
+pub wanting_of : (k : HeadKind) (bytes : List ℕ) → Stops (TextOf k) bytes 0
+    → Begins k bytes × HasNone k bytes
+wanting_of kind.Request bytes it = wanting bytes it
+wanting_of kind.Response bytes it = response_wanting bytes it
 
-live_at : (at : HeadPlace) → Live (Due at)
-unfolding HeadText
-live_at place.Start = live_one IsTokenByte 65 (Run IsTokenByte 32 (SomeOf IsVisible 32 VersionText))
-    a_token (live_run IsTokenByte 32 (SomeOf IsVisible 32 VersionText) live_target)
-live_at place.Method = live_run IsTokenByte 32 (SomeOf IsVisible 32 VersionText) live_target
-live_at place.TargetStart = live_target
-live_at place.Target = live_run IsVisible 32 VersionText live_version
-live_at place.Version = live_version
-live_at place.AfterH = live_text (84 ∷ 84 ∷ 80 ∷ 47 ∷ []) NumbersText live_numbers
-live_at place.AfterT = live_text (84 ∷ 80 ∷ 47 ∷ []) NumbersText live_numbers
-live_at place.AfterTT = live_text (80 ∷ 47 ∷ []) NumbersText live_numbers
-live_at place.AfterP = live_byte 47 NumbersText live_numbers
-live_at place.Major = live_numbers
-live_at place.Point =
-    let a_digit : IsDigit 48 = (omega arith, omega arith) in
-    live_byte 46 (OneOf IsDigit (Text line_end FieldsText))
-    (live_one IsDigit 48 (Text line_end FieldsText) a_digit
-    (live_text line_end FieldsText live_fields))
-live_at place.Minor =
-    let a_digit : IsDigit 48 = (omega arith, omega arith) in
-    live_one IsDigit 48 (Text line_end FieldsText) a_digit
-    (live_text line_end FieldsText live_fields)
-live_at place.Return = live_text line_end FieldsText live_fields
-live_at place.LineFeed = live_byte 10 FieldsText live_fields
-live_at place.Fields = live_fields
-live_at place.Name = live_run IsTokenByte 58 (Run IsValueByte 13 (Byte 10 FieldsText)) live_value
-live_at place.Value = live_value
-live_at place.LastLineFeed = live_byte 10 Nothing (record { bytes = []; is = refl })
-live_at place.Done = record { bytes = []; is = refl }
+pub refused_of : (k : HeadKind) (bytes : List ℕ) (left place : ℕ) → Stops (TextOf k) bytes left
+    → 0 < left → place ≡ length bytes - left → IsRefusedBy (Begins k) (Never k) bytes place
+refused_of kind.Request bytes left place it some at = refused_at bytes left place it some at
+refused_of kind.Response bytes left place it some at = response_refused bytes left place it some at
 
--- ---- where no byte is, nothing is whole but a head
+long_of : (k : HeadKind) (bytes rest : List ℕ) (n : ℕ) → TextOf k bytes rest
+    → n + length rest ≡ length bytes → IsLong k bytes n
+long_of kind.Request bytes rest n it size =
+    let (line, fields, head) = text_head bytes rest it in (line, fields, rest, head, size)
+long_of kind.Response bytes rest n it size =
+    let (line, fields, head) = text_response bytes rest it in (line, fields, rest, head, size)
 
-none_in : (these : ℕ → Type 0) (K : Language) (rest : List ℕ) → OneOf these K [] rest → ⊥
-none_in these K rest it = none_one these K [] tt rest it
+behind_start : (k : HeadKind) → EquivalentAfter (TextOf k) [] (Due (start_of k))
+unfolding ResponseText
+behind_start kind.Request = behind_none HeadText
+behind_start kind.Response = behind_none ResponseText
 
-no_run : (these : ℕ → Type 0) (c : ℕ) (K : Language) (rest : List ℕ) → Run these c K [] rest → ⊥
-no_run these c K rest it = none_run these c K [] tt tt rest it
+-- after `front` a head continues as in a state, which has this part
+in_part : (k : HeadKind) (front : List ℕ) (at : HeadPlace) (p : HeadPart)
+    → EquivalentAfter (TextOf k) front (Due at) → p ≡ part_of at → IsIn k front p
+in_part k front at p it is =
+    record { at = at; there = it.there; back = it.back; is_part = is }
 
-no_byte : (b : ℕ) (K : Language) (rest : List ℕ) → Byte b K [] rest → ⊥
-no_byte b K rest it = none_byte b K [] tt rest it
+-- the part of a head after bytes with which one starts
+pub is_in : (k : HeadKind) (before left : List ℕ) (from at : HeadPlace) (p : HeadPart)
+    → from ≡ start_of k → Walks from before at left
+    → (more : List ℕ) × TextOf k (before ++ more) [] → p ≡ part_of at → IsIn k before p
+is_in k before left from at p start (taken, split, goes, stopped) (more, live) is =
+    by left split stopped
+  where
+    behind : EquivalentAfter (TextOf k) taken (Due at)
+    behind =
+        let P : HeadPlace → Type 0 = λ f. EquivalentAfter (Due f) taken (Due at) in
+        behind_both (TextOf k) (Due (start_of k)) (Due at) [] taken (behind_start k)
+        (subst P start (behind_of from at taken goes))
 
-none_at_end : (at : HeadPlace) → (at ≡ place.Done → ⊥) → (rest : List ℕ) → Due at [] rest → ⊥
-unfolding HeadText VersionText
-none_at_end place.Start not rest it =
-    none_in IsTokenByte (Run IsTokenByte 32 (SomeOf IsVisible 32 VersionText)) rest it
-none_at_end place.Method not rest it =
-    no_run IsTokenByte 32 (SomeOf IsVisible 32 VersionText) rest it
-none_at_end place.TargetStart not rest it =
-    none_in IsVisible (Run IsVisible 32 VersionText) rest it
-none_at_end place.Target not rest it = no_run IsVisible 32 VersionText rest it
-none_at_end place.Version not rest it =
-    no_byte 72 (Text (84 ∷ 84 ∷ 80 ∷ 47 ∷ []) NumbersText) rest it
-none_at_end place.AfterH not rest it =
-    no_byte 84 (Text (84 ∷ 80 ∷ 47 ∷ []) NumbersText) rest it
-none_at_end place.AfterT not rest it = no_byte 84 (Text (80 ∷ 47 ∷ []) NumbersText) rest it
-none_at_end place.AfterTT not rest it = no_byte 80 (Text (47 ∷ []) NumbersText) rest it
-none_at_end place.AfterP not rest it = no_byte 47 NumbersText rest it
-none_at_end place.Major not rest it =
-    none_in IsDigit (Byte 46 (OneOf IsDigit (Text line_end FieldsText))) rest it
-none_at_end place.Point not rest it =
-    no_byte 46 (OneOf IsDigit (Text line_end FieldsText)) rest it
-none_at_end place.Minor not rest it = none_in IsDigit (Text line_end FieldsText) rest it
-none_at_end place.Return not rest it = no_byte 13 (Byte 10 FieldsText) rest it
-none_at_end place.LineFeed not rest it = no_byte 10 FieldsText rest it
-none_at_end place.Fields not rest it =
-    none_in IsTokenByte InName rest (fields_line [] rest tt it)
-none_at_end place.Name not rest it =
-    no_run IsTokenByte 58 (Run IsValueByte 13 (Byte 10 FieldsText)) rest it
-none_at_end place.Value not rest it = no_run IsValueByte 13 (Byte 10 FieldsText) rest it
-none_at_end place.LastLineFeed not rest it = no_byte 10 Nothing rest it
-none_at_end place.Done not rest it = absurd (not refl)
+    ends : (b : ℕ) (bs : List ℕ) → before ≡ taken ++ b ∷ bs → Due at (b ∷ (bs ++ more)) []
+    ends b bs e =
+        let P : List ℕ → Type 0 = λ l. TextOf k l [] in
+        behind.back (b ∷ (bs ++ more)) []
+        (subst P (ap (λ l. l ++ more) e ∙ append_assoc taken (b ∷ bs) more) live)
+
+    by : (left : List ℕ) → before ≡ taken ++ left → IsStopped at left → IsIn k before p
+    by [] e stopped =
+        let P : List ℕ → Type 0 = λ l. IsIn k l p in
+        subst P (sym (e ∙ append-nil taken)) (in_part k taken at p behind is)
+    by (b ∷ bs) e (inl done) =
+        let P : HeadPlace → Type 0 = λ a. Due a (b ∷ (bs ++ more)) [] in
+        absurd (not_empty b (bs ++ more) (sym (subst P done (ends b bs e))))
+    by (b ∷ bs) e (inr never) = absurd (never (bs ++ more) [] (ends b bs e))
+
+-- the error at the byte where a head stops
+pub invalid_at : (k : HeadKind) (bytes front : List ℕ) (left place : ℕ) (p : HeadPart)
+    → Stops (TextOf k) bytes left → 0 < left → place ≡ length bytes - left
+    → front ≡ take place bytes → IsIn k front p
+    → IsInvalid k bytes (record { place = place; part = p })
+invalid_at k bytes front left place p it some at is part =
+    let P : List ℕ → Type 0 = λ l. IsIn k l p in
+    (refused_of k bytes left place it some at, subst P is part)
+
+-- a head starts with the bytes before the byte where it stops
+pub begins_at : (k : HeadKind) (bytes front : List ℕ) (left place : ℕ)
+    → Stops (TextOf k) bytes left → place ≡ length bytes - left → front ≡ take place bytes
+    → (more : List ℕ) × TextOf k (front ++ more) []
+begins_at k bytes front left place it at is =
+    let P : List ℕ → Type 0 = λ l. TextOf k (l ++ it.more) [] in
+    let same : front ≡ it.before = is ∙ ap (λ l. take place l) it.splits
+    ∙ take_at it.before it.back place (omega (
+      arith,
+      at,
+      it.size,
+      ap length it.splits,
+      length-append it.before it.back,
+    )) in
+    (it.more, subst P (sym same) it.live)
+
+-- the contracts of reading, from that of the error
+pub head_told : (bytes : List ℕ) (fields : List Field) (e : HeadError)
+    → IsErrorOf kind.Request bytes e → ReadsHead bytes (Err e) fields
+head_told bytes fields (TooManyFields count) never = absurd never
+head_told bytes fields (error.Invalid invalid) it = it
+head_told bytes fields Incomplete it = it
+
+pub response_told : (bytes : List ℕ) (fields : List Field) (e : HeadError)
+    → IsErrorOf kind.Response bytes e → ReadsResponse bytes (Err e) fields
+response_told bytes fields (TooManyFields count) never = absurd never
+response_told bytes fields (error.Invalid invalid) it = it
+response_told bytes fields Incomplete it = it
 
 -- ---- results
 
 -- what is passed after a call
-record After (new : HeadExtent) (bytes left : List ℕ) : Type 0 where
+record After (k : HeadKind) (new : HeadExtent) (bytes left : List ℕ) : Type 0 where
   pub front : List ℕ
   pub splits : bytes ≡ front ++ left
   pub size : length front ≡ new.passed
-  pub behind : EquivalentAfter HeadText front (Due new.place)
+  pub behind : EquivalentAfter (TextOf k) front (Due new.place)
 
-after : (old new : HeadExtent) (bytes : List ℕ) (result : Result (Option ℕ) Invalid)
-    (is : IsOf old bytes) (led : IsLed old (drop old.passed bytes) new result)
-    → After new bytes led.1
-after old new bytes result is (taken, left, e, sum, goes, stopped, said) =
+after : (k : HeadKind) (old new : HeadExtent) (bytes : List ℕ)
+    (result : Result (Option ℕ) Invalid) (is : IsOf k old bytes)
+    (led : IsLed old (drop old.passed bytes) new result) → After k new bytes led.1
+after k old new bytes result is (taken, left, e, sum, goes, stopped, said) =
     let fresh : drop old.passed bytes ≡ is.left =
     ap (λ l. drop old.passed l) is.splits ∙ drop_at is.front is.left old.passed is.count in
     record {
@@ -125,56 +146,55 @@ after old new bytes result is (taken, left, e, sum, goes, stopped, said) =
       splits = is.splits ∙ ap (λ l. is.front ++ l) (sym fresh ∙ e)
           ∙ sym (append_assoc is.front taken left);
       size = omega (arith, sum, is.count, length-append is.front taken);
-      behind = behind_both HeadText (Due old.place) (Due new.place) is.front taken
+      behind = behind_both (TextOf k) (Due old.place) (Due new.place) is.front taken
           (record { there = is.there; back = is.back }) (behind_of old.place new.place taken goes);
     }
 
-tells : (new : HeadExtent) (bytes left : List ℕ) → After new bytes left
+tells : (k : HeadKind) (new : HeadExtent) (bytes left : List ℕ) → After k new bytes left
     → (result : Result (Option ℕ) Invalid) → IsStopped new.place left → Says new left result
-    → HeadResult bytes result
-tells new bytes left it (Ok (Some n)) stopped (done, count) =
-    let P : HeadPlace → Type 0 = λ p. EquivalentAfter HeadText it.front (Due p) in
-    let Q : List ℕ → Type 0 = λ l. HeadText l left in
-    let (line, fields, head) = text_head bytes left
-    (subst Q (sym it.splits) ((subst P done it.behind).there left left refl)) in (
-      line,
-      fields,
-      left,
-      head,
-      omega (
-        arith,
-        count,
-        it.size,
-        ap (λ l. length l) it.splits,
-        length-append it.front left,
-      ),
-    )
-tells new bytes left it (Ok None) stopped (not, none) =
+    → HeadResult k bytes result
+tells k new bytes left it (Ok (Some n)) stopped (done, count) =
+    let P : HeadPlace → Type 0 = λ p. EquivalentAfter (TextOf k) it.front (Due p) in
+    let Q : List ℕ → Type 0 = λ l. TextOf k l left in
+    long_of k bytes left n (subst Q (sym it.splits) ((subst P done it.behind).there left left refl))
+    (omega (
+      arith,
+      count,
+      it.size,
+      ap (λ l. length l) it.splits,
+      length-append it.front left,
+    ))
+tells k new bytes left it (Ok None) stopped (not, none) =
     let P : List ℕ → Type 0 = λ l. NoneFirst (Due new.place) l in
-    wanting bytes (stops_at HeadText (Due new.place) bytes it.front left 0 it.behind
+    wanting_of k bytes (stops_at (TextOf k) (Due new.place) bytes it.front left 0 it.behind
     (live_at new.place) (subst P (sym none) (none_at_end new.place not)) it.splits
     (sym (ap (λ l. length l) none)))
-tells new bytes [] it (Err refused) stopped (not, some, at) = absurd (omega (arith, some))
-tells new bytes (b ∷ more) it (Err refused) (inl done) (not, some, at) = absurd (not done)
-tells new bytes (b ∷ more) it (Err refused) (inr never) (not, some, at) =
+tells k new bytes [] it (Err refused) stopped (not, some, at, is) = absurd (omega (arith, some))
+tells k new bytes (b ∷ more) it (Err refused) (inl done) (not, some, at, is) = absurd (not done)
+tells k new bytes (b ∷ more) it (Err refused) (inr never) (not, some, at, is) =
     let left = b ∷ more in
-    refused_at bytes (length left) refused.place
-    (stops_at HeadText (Due new.place) bytes it.front left (length left) it.behind
+    let passed : length it.front ≡ refused.place = it.size ∙ sym at in
+    invalid_at k bytes it.front (length left) refused.place refused.part
+    (stops_at (TextOf k) (Due new.place) bytes it.front left (length left) it.behind
     (live_at new.place) never it.splits refl) some
-    (omega (arith, at, it.size, ap (λ l. length l) it.splits, length-append it.front left))
+    (omega (arith, passed, ap (λ l. length l) it.splits, length-append it.front left))
+    (sym (ap (λ l. take refused.place l) it.splits ∙ take_at it.front left refused.place passed))
+    (in_part k it.front new.place refused.part it.behind is)
 
 -- the result, by the state and the rest
-pub told : (old new : HeadExtent) (bytes : List ℕ) (result : Result (Option ℕ) Invalid)
-    → IsOf old bytes → IsLed old (drop old.passed bytes) new result → HeadResult bytes result
-told old new bytes result is led =
-    tells new bytes led.1 (after old new bytes result is led) result led.5 led.6
+pub told : (k : HeadKind) (old new : HeadExtent) (bytes : List ℕ)
+    (result : Result (Option ℕ) Invalid)
+    → IsOf k old bytes → IsLed old (drop old.passed bytes) new result → HeadResult k bytes result
+told k old new bytes result is led =
+    tells k new bytes led.1 (after k old new bytes result is led) result led.5 led.6
 
 -- and the next extent is of the same bytes, and of more
-pub kept : (old new : HeadExtent) (bytes : List ℕ) (result : Result (Option ℕ) Invalid)
-    → IsOf old bytes → IsLed old (drop old.passed bytes) new result
-    → (more : List ℕ) → IsOf new (bytes ++ more)
-kept old new bytes result is led more =
-    let it = after old new bytes result is led in
+pub kept : (k : HeadKind) (old new : HeadExtent) (bytes : List ℕ)
+    (result : Result (Option ℕ) Invalid)
+    → IsOf k old bytes → IsLed old (drop old.passed bytes) new result
+    → (more : List ℕ) → IsOf k new (bytes ++ more)
+kept k old new bytes result is led more =
+    let it = after k old new bytes result is led in
     let left = led.1 in record {
       front = it.front;
       left = left ++ more;
@@ -184,11 +204,11 @@ kept old new bytes result is led more =
       back = it.behind.back;
     }
 
-pub of_none : (extent : HeadExtent) (bytes : List ℕ) → extent.passed ≡ 0
-    → extent.place ≡ place.Start → IsOf extent bytes
-of_none extent bytes none start =
-    let P : HeadPlace → Type 0 = λ p. EquivalentAfter HeadText [] (Due p) in
-    let behind = subst P (sym start) (behind_none HeadText) in record {
+pub of_none : (k : HeadKind) (extent : HeadExtent) (bytes : List ℕ) → extent.passed ≡ 0
+    → extent.place ≡ start_of k → IsOf k extent bytes
+of_none k extent bytes none start =
+    let P : HeadPlace → Type 0 = λ p. EquivalentAfter (TextOf k) [] (Due p) in
+    let behind = subst P (sym start) (behind_start k) in record {
       front = [];
       left = bytes;
       splits = refl;

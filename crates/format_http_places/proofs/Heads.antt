@@ -3,7 +3,6 @@ use Rattle.std.proofs.Common.{◌≡◌, ◌∙◌, ◌<◌, ◌≤◌, ◌-◌,
 use Rattle.std.proofs.Common.{arith, length, length-append, refl, subst, sym}
 use Rattle.std.proofs.lemmas.List.Elements.{All-cons}
 use Rattle.std.specs.List.{All}
-use Rattle.std.specs.Prelude.{Err}
 use Rattle.format_http.specs.Heads.Bytes.{IsTokenByte, IsVisible, line_end}
 use Rattle.format_http.specs.Heads.Head.{IsHead, Pair, Request}
 use Rattle.format_http.specs.Heads.RequestLine.{digits}
@@ -12,12 +11,9 @@ use Rattle.format_http_places.specs.Grammar.{Byte, FieldsText, HeadText, Languag
 use Rattle.format_http_places.specs.Grammar.{OneOf, Run, Stops, Text}
 use Rattle.format_http_places.specs.Grammar.{SomeOf, VersionText, protocol}
 use Rattle.format_http_places.specs.Places.{ShowsFields, ShowsLine}
-use Rattle.format_http_places.specs.Refusals.{IsErrorAt, IsRefused, NoneRead, ReadsHead, ReadsParts}
+use Rattle.format_http_places.specs.Refusals.{IsRefused, NoneRead, ReadsParts}
 use Rattle.format_http_places.specs.declared.line.RequestLine.{RequestLine}
 use Rattle.format_http_places.specs.declared.places.Field.{Field}
-use Rattle.format_http_places.specs.declared.read.HeadError.{HeadError}
-use Rattle.format_http_places.specs.declared.read.HeadError.TheVariants.{Incomplete, Invalid}
-use Rattle.format_http_places.specs.declared.read.HeadError.TheVariants.{TooManyFields}
 use Rattle.format_http_places.proofs.EquivalentAfter.{stops_behind}
 use Rattle.format_http_places.proofs.FieldLines.{fields_small, lines_text, text_lines}
 use Rattle.format_http_places.proofs.Lines.{behind_request}
@@ -102,15 +98,6 @@ pub wanting : (bytes : List ℕ) → Stops HeadText bytes 0 → BeginsHead bytes
 wanting bytes it =
     wanting_by HeadText BeginsHead NoneRead head_begins
     (λ front not line pairs rest head. not rest (head_text line pairs front rest head)) bytes it
-
--- the contract of the result if the head of a request stops
-pub head_told : (bytes : List ℕ) (fields : List Field) (left : ℕ) (e : HeadError)
-    → Stops HeadText bytes left → IsErrorAt (length bytes) left e → ReadsHead bytes (Err e) fields
-head_told bytes fields left (TooManyFields count) it never = absurd never
-head_told bytes fields left (Invalid place) it (some, at) =
-    refused_at bytes left place it some at
-head_told bytes fields left Incomplete it none =
-    wanting bytes (subst (λ n. Stops HeadText bytes n) none it)
 
 -- ---- what is read of a request
 

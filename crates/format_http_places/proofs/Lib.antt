@@ -9,6 +9,7 @@ pub mod PlaceSteps
 pub mod Responses
 pub mod Shown
 pub mod Sixteen
+pub mod States
 pub mod StatusLines
 pub mod Stops
 pub mod Tests

@@ -1,5 +1,5 @@
 -- The lines of heads as languages.
-use Rattle.std.proofs.Common.{◌≡◌, ◌∙◌, ◌<◌, ◌-◌, ◌++◌, ◌∷◌, [], ap, ℕ, zero, suc, List}
+use Rattle.std.proofs.Common.{◌≡◌, ◌∙◌, ◌<◌, ◌++◌, ◌∷◌, [], ap, ℕ, zero, suc, List}
 use Rattle.std.proofs.Common.{append_assoc, arith, inl, inr, length, refl, subst, sym}
 use Rattle.std.specs.Prelude.{⊤}
 use Rattle.std.proofs.lemmas.List.Elements.{All-append, All-weaker}

@@ -6,21 +6,23 @@ use Rattle.std.proofs.Common.{Bool, true, false, IsTrue, ◌↔◌}
 use Rattle.std.proofs.lemmas.List.Elements.{All-cons, All-nil}
 use Rattle.std.specs.Prelude.{None, Option, Some}
 use Rattle.format_http.specs.Heads.Bytes.{IsDigit, IsTokenByte, IsValueByte, IsVisible}
-use Rattle.format_http_places.specs.Extents.{Due, IsIf, IsNever, IsOnly, IsRunOr, IsStep}
-use Rattle.format_http_places.specs.Extents.{StateAfter}
+use Rattle.format_http_places.specs.Extents.{IsIf, IsNever, IsOnly, IsRunOr, IsStep}
 use Rattle.format_http_places.specs.Grammar.{Byte, FieldsText, HeadText, Language, OneOf, Run}
 use Rattle.format_http_places.specs.Grammar.{SomeOf, VersionText}
 use Rattle.format_http_places.specs.Runs.{SoMany}
-use Rattle.format_http_places.specs.declared.extent.HeadPlace.{HeadPlace}
-use Rattle.format_http_places.specs.declared.extent.HeadPlace.TheVariants as place
-use Rattle.format_http_places.proofs.EquivalentAfter.{EquivalentAfter, behind_both, behind_byte}
+use Rattle.format_http_places.specs.States.{Due, StateAfter, after_version}
+use Rattle.format_http_places.specs.declared.parts.HeadKind.{HeadKind}
+use Rattle.format_http_places.specs.declared.parts.HeadKind.TheVariants as kind
+use Rattle.format_http_places.specs.declared.state.HeadPlace.{HeadPlace}
+use Rattle.format_http_places.specs.declared.state.HeadPlace.TheVariants as place
+use Rattle.format_http_places.proofs.EquivalentAfter.{EquivalentAfter, behind_both}
 use Rattle.format_http_places.proofs.EquivalentAfter.{behind_none}
 use Rattle.format_http_places.proofs.EquivalentAfter.{behind_one, behind_run, behind_run_end}
-use Rattle.format_http_places.proofs.EquivalentAfter.{none_byte}
 use Rattle.format_http_places.proofs.EquivalentAfter.{none_one, none_run}
 use Rattle.format_http_places.proofs.Lines.{behind_return, fields_line, line_fields}
 use Rattle.format_http_places.proofs.Lines.{token_no_colon, token_no_space, value_no_return}
 use Rattle.format_http_places.proofs.Lines.{visible_no_space}
+use Rattle.format_http_places.proofs.StatusLines.{behind_no_reason, behind_space, reason_never}
 
 -- ---- from place to place
 
@@ -193,31 +195,45 @@ target_start_step b is both = step_if place.TargetStart place.Target b IsVisible
     (λ not. none_one IsVisible (Due place.Target) (b ∷ []) not)
 
 pub target_step : (b : ℕ) (is : Bool) → IsTrue is ↔ IsVisible b → (step : Option HeadPlace)
-    → IsRunOr is place.Target b 32 place.Version step → IsStep place.Target b step
+    → IsRunOr is place.Target b 32 (place.Version kind.Request) step → IsStep place.Target b step
+unfolding VersionText
 target_step b is both =
-    let K = Due place.Version in
-    step_run place.Target place.Version b 32 IsVisible K is both
+    let next : HeadPlace = place.Version kind.Request in
+    let K = Due next in
+    step_run place.Target next b 32 IsVisible K is both
     (λ t. run_byte IsVisible 32 K b visible_no_space t)
     (run_ends IsVisible 32 K visible_no_space)
     (λ not other. run_never IsVisible 32 K b not other)
 
-pub version_step : (b : ℕ) (step : Option HeadPlace) → IsOnly b 72 place.AfterH step
-    → IsStep place.Version b step
-unfolding VersionText
-version_step b = step_only place.Version place.AfterH b 72 (behind_byte 72 (Due place.AfterH))
-    (λ not. none_byte 72 (Due place.AfterH) (b ∷ []) not)
+-- a digit
+pub digit_step : (at next : HeadPlace) (b : ℕ)
+    → (IsDigit b → EquivalentAfter (Due at) (b ∷ []) (Due next))
+    → ((IsDigit b → ⊥) → IsNever at b) → (is : Bool) → IsTrue is ↔ IsDigit b
+    → (step : Option HeadPlace) → IsIf is next step → IsStep at b step
+digit_step at next b goes never is both =
+    step_if at next b IsDigit is both (λ t. leads at next (b ∷ []) (goes t)) never
 
-pub major_step : (b : ℕ) (is : Bool) → IsTrue is ↔ IsDigit b → (step : Option HeadPlace)
-    → IsIf is place.Point step → IsStep place.Major b step
-major_step b is both = step_if place.Major place.Point b IsDigit is both
-    (λ t. leads place.Major place.Point (b ∷ []) (behind_one IsDigit b (Due place.Point) t))
-    (λ not. none_one IsDigit (Due place.Point) (b ∷ []) not)
+pub minor_step : (k : HeadKind) (next : HeadPlace) (b : ℕ) → next ≡ after_version k → (is : Bool)
+    → IsTrue is ↔ IsDigit b → (step : Option HeadPlace) → IsIf is next step
+    → IsStep (place.Minor k) b step
+minor_step kind.Request next b e is both step it =
+    let P : HeadPlace → Type 0 = λ p. IsIf is p step in
+    digit_step (place.Minor kind.Request) place.Return b (behind_one IsDigit b (Due place.Return))
+    (none_one IsDigit (Due place.Return) (b ∷ [])) is both step (subst P e it)
+minor_step kind.Response next b e is both step it =
+    let P : HeadPlace → Type 0 = λ p. IsIf is p step in
+    digit_step (place.Minor kind.Response) place.Space b (behind_one IsDigit b (Due place.Space))
+    (none_one IsDigit (Due place.Space) (b ∷ [])) is both step (subst P e it)
 
-pub minor_step : (b : ℕ) (is : Bool) → IsTrue is ↔ IsDigit b → (step : Option HeadPlace)
-    → IsIf is place.Return step → IsStep place.Minor b step
-minor_step b is both = step_if place.Minor place.Return b IsDigit is both
-    (λ t. leads place.Minor place.Return (b ∷ []) (behind_one IsDigit b (Due place.Return) t))
-    (λ not. none_one IsDigit (Due place.Return) (b ∷ []) not)
+pub code_space : (b : ℕ) → b ≡ 32 → IsStep place.AfterCode b (Some place.Value)
+code_space b e =
+    let P : ℕ → Type 0 = λ x. StateAfter place.AfterCode (x ∷ []) place.Value in
+    subst P (sym e) (leads place.AfterCode place.Value (32 ∷ []) behind_space)
+
+pub code_step : (b : ℕ) → (b ≡ 32 → ⊥) → (step : Option HeadPlace)
+    → IsOnly b 13 place.LineFeed step → IsStep place.AfterCode b step
+code_step b not = step_only place.AfterCode place.LineFeed b 13 behind_no_reason
+    (λ other. reason_never b not other)
 
 pub name_step : (b : ℕ) (is : Bool) → IsTrue is ↔ IsTokenByte b → (step : Option HeadPlace)
     → IsRunOr is place.Name b 58 place.Value step → IsStep place.Name b step

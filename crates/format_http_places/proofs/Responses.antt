@@ -1,7 +1,7 @@
 -- Heads of responses: that their language is theirs, and what is read of one.
-use Rattle.std.proofs.Common.{◌≡◌, ◌∙◌, ◌≤◌, ◌+◌, ◌*◌, ◌-◌, ◌++◌, ◌∷◌, [], ap, ℕ, List}
-use Rattle.std.proofs.Common.{arith, inl, inr, length, length-append, refl, subst, sym}
-use Rattle.std.specs.Prelude.{Err}
+use Rattle.std.proofs.Common.{◌≡◌, ◌∙◌, ◌<◌, ◌≤◌, ◌+◌, ◌*◌}
+use Rattle.std.proofs.Common.{◌-◌, ◌++◌, ◌∷◌, [], ap, ℕ}
+use Rattle.std.proofs.Common.{List, arith, inl, inr, length, length-append, refl, subst, sym}
 use Rattle.std.proofs.lemmas.List.Elements.{All-nil}
 use Rattle.format_http.specs.Heads.Bytes.{IsValueByte}
 use Rattle.format_http.specs.Heads.Head.{Pair}
@@ -13,13 +13,9 @@ use Rattle.format_http.specs.Responses.StatusLine.{three}
 use Rattle.format_http_places.specs.Grammar.{Byte, CodeText, FieldsText, OneOf, ReasonText}
 use Rattle.format_http_places.specs.Grammar.{ResponseText, Run, Stops, protocol}
 use Rattle.format_http_places.specs.Places.{ShowsFields}
-use Rattle.format_http_places.specs.Refusals.{IsErrorAt}
-use Rattle.format_http_places.specs.Responses.{IsCodeFirst, NoResponseRead, ReadsResponse}
+use Rattle.format_http_places.specs.Responses.{IsCodeFirst, IsResponseRefused, NoResponseRead}
 use Rattle.format_http_places.specs.Responses.{ReadsResponseParts, ShowsStatus}
 use Rattle.format_http_places.specs.declared.places.Field.{Field}
-use Rattle.format_http_places.specs.declared.read.HeadError.{HeadError}
-use Rattle.format_http_places.specs.declared.read.HeadError.TheVariants.{Incomplete, Invalid}
-use Rattle.format_http_places.specs.declared.read.HeadError.TheVariants.{TooManyFields}
 use Rattle.format_http_places.specs.declared.status.StatusLine.{StatusLine}
 use Rattle.format_http_places.proofs.EquivalentAfter.{stops_behind}
 use Rattle.format_http_places.proofs.FieldLines.{fields_small, lines_text, text_lines}
@@ -97,7 +93,7 @@ text_reason bytes rest (inr (feed, e, (behind, f, it))) = (
   it,
 )
 
-text_response : (bytes rest : List ℕ) → ResponseText bytes rest
+pub text_response : (bytes rest : List ℕ) → ResponseText bytes rest
     → (line : Status) × (fields : List Pair) × IsResponseHead line fields bytes rest
 unfolding ResponseText Byte FieldsText
 text_response bytes rest it =
@@ -135,19 +131,18 @@ response_begins : (front more : List ℕ) → ResponseText (front ++ more) []
 response_begins front more it =
     let (line, fields, head) = text_response (front ++ more) [] it in (line, fields, more, head)
 
--- the contract of the result if the head of a response stops
-pub response_told : (bytes : List ℕ) (fields : List Field) (left : ℕ) (e : HeadError)
-    → Stops ResponseText bytes left → IsErrorAt (length bytes) left e
-    → ReadsResponse bytes (Err e) fields
-response_told bytes fields left (TooManyFields count) it never = absurd never
-response_told bytes fields left (Invalid place) it (some, at) =
+pub response_refused : (bytes : List ℕ) (left place : ℕ) → Stops ResponseText bytes left → 0 < left
+    → place ≡ length bytes - left → IsResponseRefused bytes place
+response_refused bytes left place it some at =
     refused_by ResponseText BeginsResponseHead NoResponseHead response_begins
     (λ front none line pairs more rest head.
     none more rest (response_text line pairs (front ++ more) rest head)) bytes left place it some at
-response_told bytes fields left Incomplete it none =
+
+pub response_wanting : (bytes : List ℕ) → Stops ResponseText bytes 0
+    → BeginsResponseHead bytes × NoResponseRead bytes
+response_wanting bytes it =
     wanting_by ResponseText BeginsResponseHead NoResponseRead response_begins
-    (λ front not line pairs rest head. not rest (response_text line pairs front rest head)) bytes
-    (subst (λ n. Stops ResponseText bytes n) none it)
+    (λ front not line pairs rest head. not rest (response_text line pairs front rest head)) bytes it
 
 -- ---- what is read of a response
 

@@ -18,7 +18,7 @@ use Rattle.format_http_places.specs.Runs.{NotFirst, SoMany}
 use Rattle.format_http_places.specs.declared.status.Reason.{Reason}
 use Rattle.format_http_places.proofs.EquivalentAfter.{EquivalentAfter, Live, behind_both}
 use Rattle.format_http_places.proofs.EquivalentAfter.{behind_byte, behind_one}
-use Rattle.format_http_places.proofs.EquivalentAfter.{behind_run_end, behind_text, live_byte}
+use Rattle.format_http_places.proofs.EquivalentAfter.{behind_run_end, live_byte}
 use Rattle.format_http_places.proofs.EquivalentAfter.{live_one}
 use Rattle.format_http_places.proofs.EquivalentAfter.{live_text, none_byte, none_one, not_empty}
 use Rattle.format_http_places.proofs.EquivalentAfter.{part_stops}
@@ -33,13 +33,13 @@ use Rattle.format_http_places.proofs.Versions.{numbers_stop}
 abbrev Value : Language
 Value = Run IsValueByte 13 (Byte 10 FieldsText)
 
-live_reason : Live ReasonText
+pub live_reason : Live ReasonText
 unfolding ReasonText
 live_reason =
     let end = live_text line_end FieldsText live_fields in
     record { bytes = end.bytes; is = inr end.is }
 
-behind_space : EquivalentAfter ReasonText (32 ∷ []) Value
+pub behind_space : EquivalentAfter ReasonText (32 ∷ []) Value
 unfolding ReasonText
 behind_space = record {
   there = λ more rest it. inl ((behind_byte 32 Value).there more rest it);
@@ -50,16 +50,33 @@ behind_space = record {
   ];
 }
 
-behind_end : EquivalentAfter ReasonText line_end FieldsText
+-- after the carriage return of a line without a reason
+pub behind_no_reason : EquivalentAfter ReasonText (13 ∷ []) (Byte 10 FieldsText)
 unfolding ReasonText
-behind_end = record {
-  there = λ more rest it. inr ((behind_text line_end [] FieldsText).there more rest it);
+behind_no_reason = record {
+  there = λ more rest it. inr ((behind_byte 13 (Byte 10 FieldsText)).there more rest it);
   back = λ more rest it. elim it [
-    | inl space ↦ absurd
-        (none_byte 32 Value (13 ∷ []) (λ e. omega (arith, e)) (10 ∷ more) rest space)
-    | inr end ↦ (behind_text line_end [] FieldsText).back more rest end
+    | inl space ↦ absurd (none_byte 32 Value (13 ∷ []) (λ e. omega (arith, e)) more rest space)
+    | inr end ↦ (behind_byte 13 (Byte 10 FieldsText)).back more rest end
   ];
 }
+
+behind_end : EquivalentAfter ReasonText line_end FieldsText
+behind_end = behind_both ReasonText (Byte 10 FieldsText) FieldsText (13 ∷ []) (10 ∷ [])
+    behind_no_reason (behind_byte 10 FieldsText)
+
+pub reason_never : (b : ℕ) → (b ≡ 32 → ⊥) → (b ≡ 13 → ⊥) → (more rest : List ℕ)
+    → ReasonText (b ∷ more) rest → ⊥
+unfolding ReasonText
+reason_never b not other more rest (inl space) =
+    none_byte 32 Value (b ∷ []) not more rest space
+reason_never b not other more rest (inr end) =
+    none_byte 13 (Byte 10 FieldsText) (b ∷ []) other more rest end
+
+pub no_reason_at_end : (rest : List ℕ) → ReasonText [] rest → ⊥
+unfolding ReasonText
+no_reason_at_end rest (inl space) = none_byte 32 Value [] tt rest space
+no_reason_at_end rest (inr end) = none_byte 13 (Byte 10 FieldsText) [] tt rest end
 
 -- a reason and a line ending are followed by fields
 behind_reason : (text reason : List ℕ) → IsBehind text reason → All IsValueByte reason
@@ -173,13 +190,13 @@ Two = OneOf IsDigit (OneOf IsDigit ReasonText)
 abbrev One : Language
 One = OneOf IsDigit ReasonText
 
-live_one_more : Live One
+pub live_one_more : Live One
 live_one_more = live_one IsDigit 48 ReasonText a_digit live_reason
 
-live_two : Live Two
+pub live_two : Live Two
 live_two = live_one IsDigit 48 One a_digit live_one_more
 
-live_code : Live Code
+pub live_code : Live Code
 live_code = live_one IsDigit 48 Two a_digit live_two
 
 module _ (bytes : List ℕ) (left : ℕ) where
@@ -222,7 +239,7 @@ behind_code h t o some more few =
 abbrev Behinds : Language
 Behinds = Byte 32 Code
 
-live_behinds : Live Behinds
+pub live_behinds : Live Behinds
 live_behinds = live_byte 32 Code live_code
 
 pub status_numbers : (bytes : List ℕ) (left : ℕ)

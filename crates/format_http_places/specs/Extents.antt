@@ -1,77 +1,76 @@
 -- The scanner for the end of a head: the bytes passed, and the continuation expected after them.
 use Rattle.std.specs.Prelude.{◌≡◌, ◌⊎◌, ◌<◌, ◌+◌, ⊤, ℕ, List, [], ◌∷◌, ◌++◌, length, Bool, true}
-use Rattle.std.specs.Prelude.{false}
-use Rattle.std.specs.Prelude.{Err, None, Ok, Option, Result, Some}
-use Rattle.format_http.specs.Heads.Bytes.{IsDigit, IsTokenByte, IsValueByte, IsVisible, line_end}
-use Rattle.format_http.specs.Heads.Head.{IsHead, Pair, Request}
-use Rattle.format_http.specs.Heads.Head.{BeginsHead}
-use Rattle.format_http_places.specs.Grammar.{Byte, FieldsText, HeadText, Language, Nothing, OneOf}
-use Rattle.format_http_places.specs.Grammar.{Run, SomeOf, Text, VersionText}
-use Rattle.format_http_places.specs.Refusals.{IsRefused, NoneRead}
+use Rattle.std.specs.Prelude.{Err, None, Ok, Option, Result, Some, false, take}
+use Rattle.format_http.specs.Heads.Head.{BeginsHead, IsHead, NoHead, Pair, Request}
+use Rattle.format_http.specs.Responses.Head.{BeginsResponseHead, IsResponseHead, NoResponseHead}
+use Rattle.format_http.specs.Responses.Head.{Status}
+use Rattle.format_http_places.specs.Refusals.{IsRefusedBy, NoneRead}
+use Rattle.format_http_places.specs.Responses.{NoResponseRead}
+use Rattle.format_http_places.specs.States.{Due, IsIn, StateAfter, TextOf, part_of}
 use Rattle.format_http_places.specs.declared.extent.HeadExtent.{HeadExtent}
-use Rattle.format_http_places.specs.declared.extent.HeadPlace.{HeadPlace}
-use Rattle.format_http_places.specs.declared.extent.HeadPlace.TheVariants as place
-use Rattle.format_http_places.specs.declared.extent.Invalid.{Invalid}
-
--- the numbers of a version and a line ending, followed by fields
-abbrev pub NumbersText : Language
-NumbersText = OneOf IsDigit (Byte 46 (OneOf IsDigit (Text line_end FieldsText)))
-
--- `Due at`: the language of the rest of a head in state `at`.
-abbrev pub Due : HeadPlace → Language
-Due place.Start = HeadText
-Due place.Method = Run IsTokenByte 32 (SomeOf IsVisible 32 VersionText)
-Due place.TargetStart = SomeOf IsVisible 32 VersionText
-Due place.Target = Run IsVisible 32 VersionText
-Due place.Version = VersionText
-Due place.AfterH = Text (84 ∷ 84 ∷ 80 ∷ 47 ∷ []) NumbersText
-Due place.AfterT = Text (84 ∷ 80 ∷ 47 ∷ []) NumbersText
-Due place.AfterTT = Text (80 ∷ 47 ∷ []) NumbersText
-Due place.AfterP = Byte 47 NumbersText
-Due place.Major = NumbersText
-Due place.Point = Byte 46 (OneOf IsDigit (Text line_end FieldsText))
-Due place.Minor = OneOf IsDigit (Text line_end FieldsText)
-Due place.Return = Text line_end FieldsText
-Due place.LineFeed = Byte 10 FieldsText
-Due place.Fields = FieldsText
-Due place.Name = Run IsTokenByte 58 (Run IsValueByte 13 (Byte 10 FieldsText))
-Due place.Value = Run IsValueByte 13 (Byte 10 FieldsText)
-Due place.LastLineFeed = Byte 10 Nothing
-Due place.Done = Nothing
-
--- `StateAfter old bytes new`: `bytes` lead from state `old` to state `new`. For any continuation,
--- it is
--- accepted in `new` if and only if `bytes` followed by it are accepted in `old`.
-pub record StateAfter (old : HeadPlace) (bytes : List ℕ) (new : HeadPlace) : Type 0 where
-  pub there : (more rest : List ℕ) → Due new more rest → Due old (bytes ++ more) rest
-  pub back : (more rest : List ℕ) → Due old (bytes ++ more) rest → Due new more rest
+use Rattle.format_http_places.specs.declared.parts.HeadKind.{HeadKind}
+use Rattle.format_http_places.specs.declared.parts.HeadKind.TheVariants as kind
+use Rattle.format_http_places.specs.declared.parts.Invalid.{Invalid}
+use Rattle.format_http_places.specs.declared.read.HeadError.{HeadError}
+use Rattle.format_http_places.specs.declared.read.HeadError.TheVariants as error
+use Rattle.format_http_places.specs.declared.read.HeadError.TheVariants.{Incomplete, TooManyFields}
+use Rattle.format_http_places.specs.declared.state.HeadPlace.{HeadPlace}
+use Rattle.format_http_places.specs.declared.state.HeadPlace.TheVariants as place
 
 -- No continuation in this state starts with the byte.
 abbrev pub IsNever : HeadPlace → ℕ → Type 0
 IsNever at b = (more rest : List ℕ) → Due at (b ∷ more) rest → ⊥
 
--- `IsOf extent bytes`: the extent is of `bytes`, or of a prefix of them. It has passed `front`, and
--- for any continuation of `front` the whole starts with a head if and only if the continuation is
--- accepted in its state.
-pub record IsOf (extent : HeadExtent) (bytes : List ℕ) : Type 0 where
+-- `IsOf kind extent bytes`: the extent is of `bytes`, or of a prefix of them. It has passed
+-- `front`, and for any continuation of `front` the whole starts with a head of this kind if and
+-- only if the continuation is accepted in its state.
+pub record IsOf (k : HeadKind) (extent : HeadExtent) (bytes : List ℕ) : Type 0 where
   pub front : List ℕ
   pub left : List ℕ
   pub splits : bytes ≡ front ++ left
   pub count : length front ≡ extent.passed
-  pub there : (more rest : List ℕ) → Due extent.place more rest → HeadText (front ++ more) rest
-  pub back : (more rest : List ℕ) → HeadText (front ++ more) rest → Due extent.place more rest
+  pub there : (more rest : List ℕ) → Due extent.place more rest → TextOf k (front ++ more) rest
+  pub back : (more rest : List ℕ) → TextOf k (front ++ more) rest → Due extent.place more rest
+
+-- Some head starts with these bytes.
+abbrev pub Begins : HeadKind → List ℕ → Type 0
+Begins kind.Request = BeginsHead
+Begins kind.Response = BeginsResponseHead
+
+-- No head starts with these bytes.
+abbrev pub Never : HeadKind → List ℕ → Type 0
+Never kind.Request = NoHead
+Never kind.Response = NoResponseHead
+
+-- The bytes begin with no head.
+abbrev pub HasNone : HeadKind → List ℕ → Type 0
+HasNone kind.Request = NoneRead
+HasNone kind.Response = NoResponseRead
 
 -- That many of the first bytes are a head.
-abbrev pub IsLong : List ℕ → ℕ → Type 0
-IsLong bytes n = (line : Request) × (fields : List Pair) × (rest : List ℕ)
+abbrev pub IsLong : HeadKind → List ℕ → ℕ → Type 0
+IsLong kind.Request bytes n = (line : Request) × (fields : List Pair) × (rest : List ℕ)
     × IsHead line fields bytes rest × (n + length rest ≡ length bytes)
+IsLong kind.Response bytes n = (line : Status) × (fields : List Pair) × (rest : List ℕ)
+    × IsResponseHead line fields bytes rest × (n + length rest ≡ length bytes)
+
+-- the first offset at which no head can continue, and the part of the head there
+abbrev pub IsInvalid : HeadKind → List ℕ → Invalid → Type 0
+IsInvalid k bytes it = IsRefusedBy (Begins k) (Never k) bytes it.place
+    × IsIn k (take it.place bytes) it.part
+
+-- the error if the bytes do not start with a head
+abbrev pub IsErrorOf : HeadKind → List ℕ → HeadError → Type 0
+IsErrorOf k bytes (TooManyFields count) = ⊥
+IsErrorOf k bytes (error.Invalid it) = IsInvalid k bytes it
+IsErrorOf k bytes Incomplete = Begins k bytes × HasNone k bytes
 
 -- The contract of a scan: the length of the head at the start; or `None`, if the bytes do not start
 -- with a head and some continuation does; or the first offset at which no head can continue.
-abbrev pub HeadResult : List ℕ → Result (Option ℕ) Invalid → Type 0
-HeadResult bytes (Ok (Some n)) = IsLong bytes n
-HeadResult bytes (Ok None) = BeginsHead bytes × NoneRead bytes
-HeadResult bytes (Err refused) = IsRefused bytes refused.place
+abbrev pub HeadResult : HeadKind → List ℕ → Result (Option ℕ) Invalid → Type 0
+HeadResult k bytes (Ok (Some n)) = IsLong k bytes n
+HeadResult k bytes (Ok None) = Begins k bytes × HasNone k bytes
+HeadResult k bytes (Err it) = IsInvalid k bytes it
 
 -- ---- what a call does with the bytes that are new, whatever those are that were passed
 
@@ -90,7 +89,7 @@ abbrev pub Says : HeadExtent → List ℕ → Result (Option ℕ) Invalid → Ty
 Says new left (Ok (Some n)) = (new.place ≡ place.Done) × (n ≡ new.passed)
 Says new left (Ok None) = (new.place ≡ place.Done → ⊥) × (left ≡ [])
 Says new left (Err refused) = (new.place ≡ place.Done → ⊥) × (0 < length left)
-    × (refused.place ≡ new.passed)
+    × (refused.place ≡ new.passed) × (refused.part ≡ part_of new.place)
 
 -- From one extent to the next: the longest possible prefix of the new bytes is passed, and the
 -- result depends on the new state. The bytes that were passed before do not matter.
@@ -101,12 +100,12 @@ IsLed old fresh new result = (taken : List ℕ) × (left : List ℕ) × (fresh �
 
 -- ---- one byte
 
--- the next place, exactly if this is so
+-- the next place, if and only if this is so
 abbrev pub IsIf : Bool → HeadPlace → Option HeadPlace → Type 0
 IsIf is next (Some told) = (is ≡ true) × (told ≡ next)
 IsIf is next None = is ≡ false
 
--- the next place, exactly if the byte is this one
+-- the next place, if and only if the byte is this one
 abbrev pub IsOnly : ℕ → ℕ → HeadPlace → Option HeadPlace → Type 0
 IsOnly byte wanted next (Some told) = (byte ≡ wanted) × (told ≡ next)
 IsOnly byte wanted next None = byte ≡ wanted → ⊥

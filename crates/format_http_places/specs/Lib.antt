@@ -5,3 +5,4 @@ pub mod Places
 pub mod Refusals
 pub mod Responses
 pub mod Runs
+pub mod States

@@ -1,9 +1,11 @@
 -- The contracts of reading bytes: a head, or the offset at which no head continues.
-use Rattle.std.specs.Prelude.{◌≡◌, ◌<◌, ◌≤◌, ◌-◌, ℕ, List, [], ◌∷◌, ◌++◌, length, take}
+use Rattle.std.specs.Prelude.{◌≡◌, ◌<◌, ◌≤◌, ℕ, List, [], ◌∷◌, ◌++◌, length, take}
 use Rattle.std.specs.Prelude.{Result, Ok, Err}
 use Rattle.format_http.specs.Heads.Head.{IsHead, Pair, Request}
 use Rattle.format_http.specs.Heads.Head.{BeginsHead, NoHead}
 use Rattle.format_http_places.specs.Places.{IsWanted, ShowsHead}
+use Rattle.format_http_places.specs.States.{IsIn}
+use Rattle.format_http_places.specs.declared.parts.HeadKind.TheVariants as kind
 use Rattle.format_http_places.specs.declared.places.Field.{Field}
 use Rattle.format_http_places.specs.declared.places.Head.{Head}
 use Rattle.format_http_places.specs.declared.read.HeadError.{HeadError}
@@ -38,7 +40,8 @@ abbrev pub ReadsHead : List ℕ → Result Head HeadError → List Field → Typ
 ReadsHead bytes (Ok head) fields = ShowsHead bytes head (take head.fields fields)
 ReadsHead bytes (Err (TooManyFields count)) fields =
     IsWanted bytes count × (length fields < count)
-ReadsHead bytes (Err (Invalid place)) fields = IsRefused bytes place
+ReadsHead bytes (Err (Invalid it)) fields =
+    IsRefused bytes it.place × IsIn kind.Request (take it.place bytes) it.part
 ReadsHead bytes (Err Incomplete) fields = BeginsHead bytes × NoneRead bytes
 
 -- The bytes start with a head, and the entries hold as many of its fields as there is room for.
@@ -46,10 +49,3 @@ abbrev pub ReadsParts : List ℕ → Head → List Field → Type 0
 ReadsParts bytes head fields =
     (head.fields ≤ length fields → ShowsHead bytes head (take head.fields fields))
     × IsWanted bytes head.fields
-
--- the error at `left` bytes before the end of an input of length `whole`, or incomplete if `left`
--- is 0
-abbrev pub IsErrorAt : ℕ → ℕ → HeadError → Type 0
-IsErrorAt whole left (TooManyFields count) = ⊥
-IsErrorAt whole left (Invalid place) = (0 < left) × (place ≡ whole - left)
-IsErrorAt whole left Incomplete = left ≡ 0

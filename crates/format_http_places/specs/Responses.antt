@@ -9,6 +9,8 @@ use Rattle.format_http.specs.Responses.Head.{IsResponseHead, Status}
 use Rattle.format_http.specs.Responses.StatusLine.{IsCode, IsStatusLine, three}
 use Rattle.format_http_places.specs.Places.{AreShown, StandsAt}
 use Rattle.format_http_places.specs.Refusals.{IsRefusedBy}
+use Rattle.format_http_places.specs.States.{IsIn}
+use Rattle.format_http_places.specs.declared.parts.HeadKind.TheVariants as kind
 use Rattle.format_http_places.specs.declared.places.Field.{Field}
 use Rattle.format_http_places.specs.declared.places.ResponseHead.{ResponseHead}
 use Rattle.format_http_places.specs.declared.read.HeadError.{HeadError}
@@ -58,7 +60,8 @@ abbrev pub ReadsResponse : List ℕ → Result ResponseHead HeadError → List F
 ReadsResponse bytes (Ok head) fields = ShowsResponse bytes head (take head.fields fields)
 ReadsResponse bytes (Err (TooManyFields count)) fields =
     IsResponseWanted bytes count × (length fields < count)
-ReadsResponse bytes (Err (Invalid place)) fields = IsResponseRefused bytes place
+ReadsResponse bytes (Err (Invalid it)) fields =
+    IsResponseRefused bytes it.place × IsIn kind.Response (take it.place bytes) it.part
 ReadsResponse bytes (Err Incomplete) fields = BeginsResponseHead bytes × NoResponseRead bytes
 
 -- The bytes start with a head, and the entries hold as many of its fields as there is room for.

@@ -4,14 +4,18 @@
 //! values are examined sixteen bytes at a time. These are loops over bytes instead of parsers of
 //! the library.
 
-ghost use Rattle.std.specs.Prelude.{◌≤◌, MatchResult};
+ghost use Rattle.std.specs.Prelude.{MatchResult};
+ghost use Rattle.format_http_places.specs.Extents.{IsErrorOf};
 ghost use Rattle.format_http_places.specs.Grammar.{HeadText, Stops};
-ghost use Rattle.format_http_places.specs.Refusals.{IsErrorAt, ReadsHead, ReadsParts};
+ghost use Rattle.format_http_places.specs.Refusals.{ReadsHead, ReadsParts};
+ghost use Rattle.format_http_places.specs.States.{TextOf};
 
+use crate::extent::part_after;
 use crate::fields::read_fields;
 use crate::line::read_request_line;
+use crate::parts::{HeadKind, Invalid};
 use crate::places::{Field, Head};
-use crate::stop::Stop;
+use crate::stop::{Stop, front};
 use std::error::Error;
 use std::fmt;
 use std::fmt::{Display, Formatter};
@@ -21,13 +25,13 @@ use std::fmt::{Display, Formatter};
 /// ```
 /// use format_http_places::read::HeadError;
 ///
-/// assert!(rt; HeadError::Invalid(3) != HeadError::Incomplete);
+/// assert!(rt; HeadError::TooManyFields(3) != HeadError::Incomplete);
 /// ```
 #[derive(Clone, Copy, Debug, PartialEq, Eq)]
 pub enum HeadError {
-    /// No head can continue at this offset: some head starts with the bytes before it, and no
-    /// continuation of these and the next byte does.
-    Invalid(usize),
+    /// No head can continue at this offset, for this reason: some head starts with the bytes before
+    /// it, and no continuation of these and the next byte does.
+    Invalid(Invalid),
     /// The bytes begin with no head, and with more after them they can.
     Incomplete,
     /// The bytes start with a head of this number of fields, which exceeds the number of entries.
@@ -37,7 +41,7 @@ pub enum HeadError {
 impl Display for HeadError {
     fn fmt<W: fmt::Write>(&self, f: &mut Formatter<W>) -> fmt::Result {
         match *self {
-            HeadError::Invalid(place) => write!(f, "invalid byte at offset {place}"),
+            HeadError::Invalid(invalid) => write!(f, "{invalid}"),
             HeadError::Incomplete => f.write_str("incomplete input: more bytes are needed"),
             HeadError::TooManyFields(count) => write!(f, "too many fields: {count}"),
         }
@@ -46,17 +50,17 @@ impl Display for HeadError {
 
 impl Error for HeadError {}
 
-/// Why no head was read of bytes of such a length, where they stop there.
-#[inline(always)]
-pub(crate) fn error_at(whole: usize, stop: Stop) -> HeadError
-    requires { stop.left ≤ whole }
-    ensures { IsErrorAt whole stop.left result }
+/// Returns the error of a head of this kind, if its language stops there.
+pub(crate) fn error_at(kind: HeadKind, bytes: &[u8], stop: Stop) -> HeadError
+    requires { Stops (TextOf kind) bytes.now stop.left }
+    ensures { IsErrorOf kind bytes.now result }
 {
     if stop.left == 0 {
-        HeadError::Incomplete
-    } else {
-        HeadError::Invalid(whole - stop.left)
+        return HeadError::Incomplete;
     }
+    let place = bytes.len() - stop.left;
+    let part = part_after(kind, front(bytes, place));
+    HeadError::Invalid(Invalid { place, part })
 }
 
 /// The head with which the bytes begin. Its fields are written as far as there is room.
@@ -83,7 +87,9 @@ fn read_parts(bytes: &[u8], fields: &mut [Field]) -> Result<Head, Stop>
 ///
 /// # Errors
 ///
-/// - [`Invalid`](HeadError::Invalid) holds the first offset at which no head can continue.
+/// - [`Invalid`](HeadError::Invalid) holds the first offset at which no head can continue, and the
+///   part of the head that the byte there is in. To determine the part, the bytes before it are
+///   examined a second time.
 /// - [`Incomplete`](HeadError::Incomplete): the bytes end within a head. If more bytes arrive, read
 ///   again from the start. Complete input starts with no head in this case either.
 /// - [`TooManyFields`](HeadError::TooManyFields) holds the required number of entries.
@@ -95,6 +101,7 @@ fn read_parts(bytes: &[u8], fields: &mut [Field]) -> Result<Head, Stop>
 /// must skip one itself.
 ///
 /// ```
+/// use format_http_places::parts::{HeadPart, Invalid};
 /// use format_http_places::places::{Field, Span};
 /// use format_http_places::read::{HeadError, read_head_into};
 ///
@@ -107,7 +114,7 @@ fn read_parts(bytes: &[u8], fields: &mut [Field]) -> Result<Head, Stop>
 /// let head = read_head_into(&text[..20], &mut fields);
 /// assert!(rt; head == Err(HeadError::Incomplete));
 /// let head = read_head_into(b"GET /\r\n".as_slice(), &mut fields);
-/// assert!(rt; head == Err(HeadError::Invalid(5)));
+/// assert!(rt; head == Err(HeadError::Invalid(Invalid { place: 5, part: HeadPart::Target })));
 /// ```
 pub fn read_head_into(bytes: &[u8], fields: &mut [Field]) -> Result<Head, HeadError>
     ensures { ReadsHead bytes.now result fields.new }
@@ -120,6 +127,6 @@ pub fn read_head_into(bytes: &[u8], fields: &mut [Field]) -> Result<Head, HeadEr
                 Err(HeadError::TooManyFields(head.fields))
             }
         }
-        Err(stop) => Err(error_at(bytes.len(), stop)),
+        Err(stop) => Err(error_at(HeadKind::Request, bytes, stop)),
     }
 }

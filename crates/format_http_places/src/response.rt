@@ -6,6 +6,7 @@ ghost use Rattle.format_http_places.specs.Grammar.{ResponseText, Stops};
 ghost use Rattle.format_http_places.specs.Responses.{ReadsResponse, ReadsResponseParts};
 
 use crate::fields::read_fields;
+use crate::parts::HeadKind;
 use crate::places::{Field, ResponseHead};
 use crate::read::{HeadError, error_at};
 use crate::status::read_status_line;
@@ -39,12 +40,13 @@ fn read_response_parts(bytes: &[u8], fields: &mut [Field]) -> Result<ResponseHea
 /// # Errors
 ///
 /// Those of [`read_head_into`](crate::read::read_head_into), for heads of responses:
-/// [`Invalid`](HeadError::Invalid) holds the first offset at which no head can continue,
-/// [`Incomplete`](HeadError::Incomplete) means that the bytes end within one, and
-/// [`TooManyFields`](HeadError::TooManyFields) holds the required number of entries. After an error
-/// any entry may have been overwritten.
+/// [`Invalid`](HeadError::Invalid) holds the first offset at which no head can continue, and the
+/// part of the head there, [`Incomplete`](HeadError::Incomplete) means that the bytes end within
+/// one, and [`TooManyFields`](HeadError::TooManyFields) holds the required number of entries. After
+/// an error any entry may have been overwritten.
 ///
 /// ```
+/// use format_http_places::parts::{HeadPart, Invalid};
 /// use format_http_places::places::{Field, Span};
 /// use format_http_places::read::HeadError;
 /// use format_http_places::response::read_response_head_into;
@@ -59,7 +61,8 @@ fn read_response_parts(bytes: &[u8], fields: &mut [Field]) -> Result<ResponseHea
 /// let head = read_response_head_into(&text[..11], &mut fields);
 /// assert!(rt; head == Err(HeadError::Incomplete));
 /// let head = read_response_head_into(b"HTTP/1.1 20 OK\r\n".as_slice(), &mut fields);
-/// assert!(rt; head == Err(HeadError::Invalid(11)));
+/// let invalid = Invalid { place: 11, part: HeadPart::StatusCode };
+/// assert!(rt; head == Err(HeadError::Invalid(invalid)));
 /// ```
 pub fn read_response_head_into(
     bytes: &[u8],
@@ -75,6 +78,6 @@ pub fn read_response_head_into(
                 Err(HeadError::TooManyFields(head.fields))
             }
         }
-        Err(stop) => Err(error_at(bytes.len(), stop)),
+        Err(stop) => Err(error_at(HeadKind::Response, bytes, stop)),
     }
 }

@@ -205,9 +205,19 @@ pub(crate) fn fault_of_text<A: Allocator>(alloc: A, level: usize, text: &[u8]) -
     }
 }
 
-/// Returns the [`JsonError`] of bytes that are not JSON. It is that they are not UTF-8, unless
-/// another error has a smaller offset.
-pub(crate) fn fault_of_bytes<A: Allocator>(alloc: A, level: usize, bytes: &[u8]) -> JsonError
+/// Returns the [`JsonError`] of bytes that are not JSON, as [`from_bytes`](crate::from_bytes) does,
+/// without a value. It is that they are not UTF-8, unless another error has a smaller offset.
+/// Allocates one byte for each open bracket. For bytes that are JSON, the error is unspecified.
+///
+/// ```
+/// use format_json::{Expected, JsonError};
+/// use format_json::fault::error_of;
+///
+/// let error = error_of(alloc, 1, b"[1, 2,]");
+/// assert!(rt; matches!(error, JsonError::Unexpected { at, expected: Expected::Value }
+///     if at.offset == 6));
+/// ```
+pub fn error_of<A: Allocator>(alloc: A, level: usize, bytes: &[u8]) -> JsonError
     ensures { IsErrorOf level bytes.now result }
 {
     let valid = match str::from_utf8(bytes) {

@@ -8,7 +8,7 @@ ghost use Rattle.std.specs.Str.{chars};
 ghost use Rattle.winnow.specs.Accumulator.Holds.{HasCharacters};
 ghost use Rattle.winnow.specs.Exact.Whole.{IsWant};
 
-use crate::fault::{JsonError, fault_of_bytes, fault_of_text};
+use crate::fault::{JsonError, error_of, fault_of_text};
 use format_json_pieces::value::parse_value_of_bytes;
 use format_json_texts::value::Value;
 use format_json_values::value::parse_value;
@@ -103,7 +103,7 @@ pub fn from_bytes<A: Allocator + Copy>(
             if bytes_want_memory(&fault) {
                 Err(JsonError::NoMemory)
             } else {
-                Err(fault_of_bytes(alloc, level, bytes))
+                Err(error_of(alloc, level, bytes))
             }
         }
     }

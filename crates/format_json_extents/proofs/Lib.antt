@@ -7,6 +7,8 @@ pub mod Escaped
 pub mod Firsts
 pub mod Items
 pub mod Leading
+pub mod Membership
+pub mod Naming
 pub mod Numbers
 pub mod Parts
 pub mod Runs

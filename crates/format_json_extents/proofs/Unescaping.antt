@@ -14,7 +14,7 @@ use Rattle.format_json_extents.specs.Unescaped.{PieceMeans, means_more, means_no
 
 -- ---- one more piece
 
-means_end : (text bytes piece one : List ℕ) → Means text bytes → PieceMeans piece one
+pub means_end : (text bytes piece one : List ℕ) → Means text bytes → PieceMeans piece one
     → Means (text ++ piece) (bytes ++ one)
 means_end _ _ piece one (means_nothing text bytes e f) p =
     means_more piece [] one [] (text ++ piece) (bytes ++ one) p (means_nothing [] [] refl refl)
@@ -26,7 +26,7 @@ means_end _ _ piece one (means_more first others head more text bytes q rest e f
     (ap (λ l. l ++ piece) e ∙ append_assoc first others piece)
     (ap (λ l. l ++ one) f ∙ append_assoc head more one)
 
-means_run : (run text bytes : List ℕ) → All IsUnescaped run → Means text bytes
+pub means_run : (run text bytes : List ℕ) → All IsUnescaped run → Means text bytes
     → Means (text ++ run) (bytes ++ run)
 means_run [] text bytes all it =
     let P : List ℕ → Type 0 = λ l. Means l (bytes ++ []) in

@@ -16,6 +16,8 @@
 pub mod decimal;
 pub mod integer;
 pub mod laws;
+pub mod members;
+pub mod names;
 pub mod number;
 mod scalar;
 pub mod steps;

@@ -70,7 +70,7 @@ fn scalar(number: u32) -> char
 }
 
 /// The character that a backslash and these bytes are the text of.
-fn character(escape: &[u8]) -> char
+pub(crate) fn character(escape: &[u8]) -> char
     requires { IsEscape escape.now }
     ensures text { EscapeText result (92 ∷ escape.now) }
     ensures short { length (encode_utf8 result) ≤ length escape.now }

@@ -1,7 +1,9 @@
-//! Where heads of requests end.
+//! Where heads end.
+use super::{head_partial, response_head_partial};
 use crate::{exports, Error, NOTHING};
 
-/// The state of a search for the end of the head of a request in input that arrives in chunks.
+/// The state of a search for the end of the head of a request or response in input that arrives in
+/// chunks.
 ///
 /// No call looks again at bytes that an earlier call scanned. So all calls for a head take time
 /// linear in its length, for any number of chunks, whereas
@@ -26,12 +28,27 @@ use crate::{exports, Error, NOTHING};
 #[derive(Clone, Debug, Default, PartialEq, Eq)]
 pub struct HeadExtent {
     state: exports::HttpHeadState,
+    is_of_response: bool,
 }
 
 impl HeadExtent {
-    /// Returns the initial state.
+    /// Returns the initial state for the head of a request.
     pub fn new() -> HeadExtent {
         HeadExtent::default()
+    }
+
+    /// Returns the initial state for the head of a response.
+    ///
+    /// ```
+    /// use pergidau::http::HeadExtent;
+    ///
+    /// let mut extent = HeadExtent::of_response();
+    /// assert_eq!(extent.advance(b"HTTP/1.1 200 OK\r")?, None);
+    /// assert_eq!(extent.advance(b"HTTP/1.1 200 OK\r\n\r\nbody")?, Some(19));
+    /// # Ok::<(), pergidau::Error>(())
+    /// ```
+    pub fn of_response() -> HeadExtent {
+        HeadExtent { is_of_response: true, ..HeadExtent::default() }
     }
 
     /// Returns the length in bytes of the head at the start of `bytes`, if it is complete.
@@ -41,19 +58,32 @@ impl HeadExtent {
     ///
     /// # Errors
     ///
-    /// [`Error::Invalid`] if `bytes` does not start with a head, regardless of what follows; it
-    /// holds the offset of the first invalid byte.
+    /// [`Error::InvalidHead`] if `bytes` does not start with a head, regardless of what follows; it
+    /// holds the offset of the first invalid byte and the reason.
     pub fn advance(&mut self, bytes: &[u8]) -> Result<Option<usize>, Error> {
+        let export = if self.is_of_response {
+            exports::exported_http_response_head_extent
+        } else {
+            exports::exported_http_head_extent
+        };
         let mut out = 0;
         // SAFETY: the pointers are those of live borrows, and the bytes are only read. The call takes up
         // to 4 KiB of stack (measured); where there is less, the thread's guard page ends the program.
-        let code = unsafe {
-            exports::exported_http_head_extent(&mut self.state, bytes.as_ptr(), bytes.len(), &mut out)
-        };
+        let code = unsafe { export(&mut self.state, bytes.as_ptr(), bytes.len(), &mut out) };
         match code {
             exports::DONE => Ok(Some(out)),
             exports::INCOMPLETE => Ok(None),
-            code => Err(Error::of(code, Some(out), NOTHING)),
+            code => Err(self.reason(bytes).unwrap_or(Error::of(code, Some(out), NOTHING))),
         }
+    }
+
+    /// Returns the error of the invalid head at the start of `bytes`, with its reason.
+    fn reason(&self, bytes: &[u8]) -> Option<Error> {
+        let error = if self.is_of_response {
+            response_head_partial(bytes, &mut []).err()
+        } else {
+            head_partial(bytes, &mut []).err()
+        };
+        error.filter(|it| matches!(it, Error::InvalidHead { .. }))
     }
 }

@@ -1,7 +1,8 @@
 //! Heads of responses.
+use super::error::error_of;
 use super::{find, response_body, Body, BodyError, Field};
 use crate::exports;
-use crate::{at, Error, RequiredSize};
+use crate::{at, Error};
 #[cfg(feature = "alloc")]
 use alloc::vec::Vec;
 
@@ -73,10 +74,7 @@ fn write(
     let code = unsafe { export(bytes.as_ptr(), bytes.len(), entries, count, &mut places) };
     match code {
         exports::DONE => Ok(places),
-        code => {
-            let required = RequiredSize { entries: places.fields, bytes: 0 };
-            Err(Error::of(code, Some(places.error_offset), required))
-        }
+        code => Err(error_of(code, places.error_offset, places.error, places.fields)),
     }
 }
 
@@ -121,8 +119,8 @@ pub fn response_head_grown<'i, 'f>(
 ///
 /// - [`Error::BufferTooSmall`] if the head has more fields than `fields` has entries; it holds the
 ///   number of fields.
-/// - [`Error::Invalid`] if `bytes` does not start with a head; it holds the offset of the first
-///   invalid byte, or the end of the input.
+/// - [`Error::InvalidHead`] if `bytes` does not start with a head; it holds the offset of the first
+///   invalid byte and the reason, or the end of the input.
 ///
 /// After an error the contents of `fields` are unspecified.
 ///
@@ -147,8 +145,8 @@ pub fn response_head<'i, 'f>(
 /// # Errors
 ///
 /// - [`Error::Incomplete`] if `bytes` does not start with a head, but more bytes can complete one.
-/// - [`Error::Invalid`] if `bytes` does not start with a head, regardless of what follows; it holds
-///   the offset of the first invalid byte.
+/// - [`Error::InvalidHead`] if `bytes` does not start with a head, regardless of what follows; it
+///   holds the offset of the first invalid byte and the reason.
 ///
 /// ```
 /// let head = pergidau::http::response_head_partial(b"HTTP/1.1 20", &mut []);

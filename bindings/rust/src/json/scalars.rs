@@ -1,4 +1,6 @@
 //! Conversions of JSON numbers and strings.
+pub use crate::exports::Decimal;
+
 use super::{unknown, Kind, Value};
 use crate::exports::{self, JsonText};
 use crate::{Error, RequiredSize};
@@ -41,6 +43,23 @@ impl<'i> Value<'i> {
         // SAFETY: the pointers are those of live borrows, and the bytes are only read. The call takes up to
         // 1 KiB of stack (measured); where there is less, the thread's guard page ends the program.
         let code = unsafe { exports::exported_json_natural(bytes.as_ptr(), bytes.len(), &mut out) };
+        fits(code).then_some(out)
+    }
+
+    /// Returns the exact value of a number, without rounding. Returns `None` if its digits do not
+    /// fit 64 bits, if the power of ten does not fit 32, or if the value is not a number.
+    ///
+    /// ```
+    /// let value = pergidau::json::parse("-1.50e3", 0)?.as_decimal().unwrap();
+    /// assert_eq!((value.negative, value.digits, value.exponent), (true, 15, 2));
+    /// # Ok::<(), pergidau::Error>(())
+    /// ```
+    pub fn as_decimal(&self) -> Option<Decimal> {
+        let mut out = exports::Decimal::default();
+        let bytes = self.number()?;
+        // SAFETY: the pointers are those of live borrows, and the bytes are only read. The call takes up to
+        // 1 KiB of stack (measured); where there is less, the thread's guard page ends the program.
+        let code = unsafe { exports::exported_json_decimal(bytes.as_ptr(), bytes.len(), &mut out) };
         fits(code).then_some(out)
     }
 
@@ -100,11 +119,11 @@ impl<'i> Value<'i> {
     }
 }
 
-/// Returns whether `code` reports that an integer was written; the input starts with a number.
+/// Returns whether `code` reports that a value was written; the input starts with a number.
 fn fits(code: u32) -> bool {
     match code {
         exports::DONE => true,
-        exports::NOT_AN_INTEGER => false,
+        exports::NOT_AN_INTEGER | exports::OUT_OF_RANGE => false,
         code => unknown(code),
     }
 }

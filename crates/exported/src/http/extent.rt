@@ -1,4 +1,4 @@
-//! The end of the head of a request in partial input.
+//! The ends of heads in partial input.
 
 ghost use Rattle.std.specs.Prelude.{◌≡◌, ◌⊎◌, ◌++◌, [], List, ℕ};
 ghost use Rattle.format_http_places.specs.Extents.{IsOf};
@@ -9,10 +9,13 @@ ghost use Rattle.exported.specs.Turns.{all_of};
 ghost use Rattle.exported.specs.declared.http.extent.HttpHeadState.{HttpHeadState};
 
 use crate::code::{DONE, INCOMPLETE, INVALID};
-use format_http_places::extent::{HeadExtent, HeadPlace};
+use format_http_places::extent::HeadExtent;
+use format_http_places::parts::HeadKind;
+use format_http_places::state::HeadPlace;
 
-/// The state of a search for the end of the head of a request. Only the functions of this library
-/// may interpret its fields. All zeros is the initial state; start from it for each head.
+/// The state of a search for the end of the head of a request or a response. Only the functions of
+/// this library may interpret its fields. All zeros is the initial state; start from it for each
+/// head.
 #[repr(C)]
 #[derive(Clone, Copy, Drop)]
 pub struct HttpHeadState {
@@ -22,73 +25,100 @@ pub struct HttpHeadState {
     pub place: usize,
 }
 
-/// Where in a head, by its number.
-fn place_of(number: usize) -> HeadPlace
-    ensures { result ≡ place_at number }
+/// Returns the state of a head of this kind that a number represents.
+fn place_of(kind: HeadKind, number: usize) -> HeadPlace
+    ensures { result ≡ place_at kind number }
 {
     match number {
-        0 => HeadPlace::Start,
-        1 => HeadPlace::Method,
-        2 => HeadPlace::TargetStart,
-        3 => HeadPlace::Target,
-        4 => HeadPlace::Version,
-        5 => HeadPlace::AfterH,
-        6 => HeadPlace::AfterT,
-        7 => HeadPlace::AfterTT,
-        8 => HeadPlace::AfterP,
-        9 => HeadPlace::Major,
-        10 => HeadPlace::Point,
-        11 => HeadPlace::Minor,
-        12 => HeadPlace::Return,
-        13 => HeadPlace::LineFeed,
-        14 => HeadPlace::Fields,
-        15 => HeadPlace::Name,
-        16 => HeadPlace::Value,
-        17 => HeadPlace::LastLineFeed,
+        0 => HeadPlace::start(kind),
+        1 => HeadPlace::Start,
+        2 => HeadPlace::Method,
+        3 => HeadPlace::TargetStart,
+        4 => HeadPlace::Target,
+        5 => HeadPlace::Version(HeadKind::Request),
+        6 => HeadPlace::AfterH(HeadKind::Request),
+        7 => HeadPlace::AfterT(HeadKind::Request),
+        8 => HeadPlace::AfterTT(HeadKind::Request),
+        9 => HeadPlace::AfterP(HeadKind::Request),
+        10 => HeadPlace::Major(HeadKind::Request),
+        11 => HeadPlace::Point(HeadKind::Request),
+        12 => HeadPlace::Minor(HeadKind::Request),
+        13 => HeadPlace::Version(HeadKind::Response),
+        14 => HeadPlace::AfterH(HeadKind::Response),
+        15 => HeadPlace::AfterT(HeadKind::Response),
+        16 => HeadPlace::AfterTT(HeadKind::Response),
+        17 => HeadPlace::AfterP(HeadKind::Response),
+        18 => HeadPlace::Major(HeadKind::Response),
+        19 => HeadPlace::Point(HeadKind::Response),
+        20 => HeadPlace::Minor(HeadKind::Response),
+        21 => HeadPlace::Return,
+        22 => HeadPlace::Space,
+        23 => HeadPlace::Hundreds,
+        24 => HeadPlace::Tens,
+        25 => HeadPlace::Ones,
+        26 => HeadPlace::AfterCode,
+        27 => HeadPlace::LineFeed,
+        28 => HeadPlace::Fields,
+        29 => HeadPlace::Name,
+        30 => HeadPlace::Value,
+        31 => HeadPlace::LastLineFeed,
         _ => HeadPlace::Done,
     }
 }
 
-/// Returns the number of a part of a head.
+/// Returns the number of a state.
 fn number_of(place: HeadPlace) -> usize
-    ensures { place_at result ≡ place }
+    ensures { (kind : HeadKind) → place_at kind result ≡ place }
 {
     match place {
-        HeadPlace::Start => 0,
-        HeadPlace::Method => 1,
-        HeadPlace::TargetStart => 2,
-        HeadPlace::Target => 3,
-        HeadPlace::Version => 4,
-        HeadPlace::AfterH => 5,
-        HeadPlace::AfterT => 6,
-        HeadPlace::AfterTT => 7,
-        HeadPlace::AfterP => 8,
-        HeadPlace::Major => 9,
-        HeadPlace::Point => 10,
-        HeadPlace::Minor => 11,
-        HeadPlace::Return => 12,
-        HeadPlace::LineFeed => 13,
-        HeadPlace::Fields => 14,
-        HeadPlace::Name => 15,
-        HeadPlace::Value => 16,
-        HeadPlace::LastLineFeed => 17,
-        HeadPlace::Done => 18,
+        HeadPlace::Start => 1,
+        HeadPlace::Method => 2,
+        HeadPlace::TargetStart => 3,
+        HeadPlace::Target => 4,
+        HeadPlace::Version(HeadKind::Request) => 5,
+        HeadPlace::AfterH(HeadKind::Request) => 6,
+        HeadPlace::AfterT(HeadKind::Request) => 7,
+        HeadPlace::AfterTT(HeadKind::Request) => 8,
+        HeadPlace::AfterP(HeadKind::Request) => 9,
+        HeadPlace::Major(HeadKind::Request) => 10,
+        HeadPlace::Point(HeadKind::Request) => 11,
+        HeadPlace::Minor(HeadKind::Request) => 12,
+        HeadPlace::Version(HeadKind::Response) => 13,
+        HeadPlace::AfterH(HeadKind::Response) => 14,
+        HeadPlace::AfterT(HeadKind::Response) => 15,
+        HeadPlace::AfterTT(HeadKind::Response) => 16,
+        HeadPlace::AfterP(HeadKind::Response) => 17,
+        HeadPlace::Major(HeadKind::Response) => 18,
+        HeadPlace::Point(HeadKind::Response) => 19,
+        HeadPlace::Minor(HeadKind::Response) => 20,
+        HeadPlace::Return => 21,
+        HeadPlace::Space => 22,
+        HeadPlace::Hundreds => 23,
+        HeadPlace::Tens => 24,
+        HeadPlace::Ones => 25,
+        HeadPlace::AfterCode => 26,
+        HeadPlace::LineFeed => 27,
+        HeadPlace::Fields => 28,
+        HeadPlace::Name => 29,
+        HeadPlace::Value => 30,
+        HeadPlace::LastLineFeed => 31,
+        HeadPlace::Done => 32,
     }
 }
 
 /// Returns the extent that `state` represents.
-fn extent_at(state: HttpHeadState) -> HeadExtent
-    ensures { result ≡ head_extent_of state }
+fn extent_at(kind: HeadKind, state: HttpHeadState) -> HeadExtent
+    ensures { result ≡ head_extent_of kind state }
 {
     HeadExtent {
         passed: state.passed,
-        place: place_of(state.place),
+        place: place_of(kind, state.place),
     }
 }
 
 /// Returns the corresponding state.
 fn state_at(extent: HeadExtent) -> HttpHeadState
-    ensures { head_extent_of result ≡ extent }
+    ensures { (kind : HeadKind) → head_extent_of kind result ≡ extent }
 {
     HttpHeadState {
         passed: extent.passed,
@@ -96,10 +126,37 @@ fn state_at(extent: HeadExtent) -> HttpHeadState
     }
 }
 
+/// Finds the end of a head of this kind.
+fn find_end(kind: HeadKind, state: &mut HttpHeadState, bytes: &[u8], out: &mut usize) -> u32
+    ensures told { IsOf kind (head_extent_of kind state.old) bytes.now
+        → TellsHead kind bytes.now result out.new state.new }
+    ensures none { result ≡ incomplete → out.new ≡ 0 }
+    ensures codes { (result ≡ done) ⊎ ((result ≡ incomplete) ⊎ (result ≡ invalid)) }
+{
+    let mut extent = extent_at(kind, *state);
+    let answer = extent.advance(bytes);
+    *state = state_at(extent);
+    match answer {
+        Ok(Some(length)) => {
+            *out = length;
+            DONE
+        }
+        Ok(None) => {
+            *out = 0;
+            INCOMPLETE
+        }
+        Err(refused) => {
+            *out = refused.place;
+            INVALID
+        }
+    }
+}
+
 /// Finds the end of the head of an HTTP/1.1 request (RFC 9112) in input that arrives in chunks.
 ///
 /// No call looks again at bytes that an earlier call scanned, so all calls for a head take time
-/// linear in its length. To obtain the parts of the head, pass its bytes to `exported_http_head`.
+/// linear in its length. To obtain the parts of the head, pass its bytes to `exported_http_head`;
+/// to obtain the reason of an error, pass all bytes to `exported_http_head_partial`.
 ///
 /// For the first call, `state` must be all zeros. Each further call for the same head must have the
 /// state that the previous call left, and the bytes of the previous call followed by more bytes.
@@ -128,37 +185,62 @@ pub extern "C" fn exported_http_head_extent(
     bytes: &[u8],
     out: &mut usize,
 ) -> u32
-    ensures told { IsOf (head_extent_of state.old) bytes.now
-        → TellsHead bytes.now result out.new state.new }
+    ensures told { IsOf HeadKind.Request (head_extent_of HeadKind.Request state.old) bytes.now
+        → TellsHead HeadKind.Request bytes.now result out.new state.new }
     ensures none { result ≡ incomplete → out.new ≡ 0 }
     ensures codes { (result ≡ done) ⊎ ((result ≡ incomplete) ⊎ (result ≡ invalid)) }
 {
-    let mut extent = extent_at(*state);
-    let answer = extent.advance(bytes);
-    *state = state_at(extent);
-    match answer {
-        Ok(Some(length)) => {
-            *out = length;
-            DONE
-        }
-        Ok(None) => {
-            *out = 0;
-            INCOMPLETE
-        }
-        Err(refused) => {
-            *out = refused.place;
-            INVALID
-        }
-    }
+    find_end(HeadKind::Request, state, bytes, out)
 }
 
-/// States that successive calls of `exported_http_head_extent` give the result of one call. The
-/// first call starts with zeros, and each further call has the state that the previous one left,
+/// Finds the end of the head of an HTTP/1.1 response (RFC 9112) in input that arrives in chunks, as
+/// `exported_http_head_extent` does for requests, with a state of its own. To obtain the parts of
+/// the head, pass its bytes to `exported_http_response_head`; to obtain the reason of an error,
+/// pass all bytes to `exported_http_response_head_partial`.
+///
+/// For the first call, `state` must be all zeros. Each further call for the same head must have the
+/// state that the previous call left, and the bytes of the previous call followed by more bytes.
+///
+/// `DONE`: `bytes` starts with a head, whose length is written. Reset the state to zeros for the
+/// next head.
+///
+/// `INCOMPLETE`: `bytes` does not start with a head, but more bytes can complete one. 0 is written.
+///
+/// If `state` belongs to other bytes or was modified, the result may be wrong, but nothing outside
+/// `bytes` is read.
+///
+/// # Errors
+///
+/// `INVALID`: `bytes` does not start with a head, regardless of what follows. The first offset at
+/// which no head can continue is written.
+///
+/// # Safety
+///
+/// `state` must be valid for reads and writes of one state, and `out` for writes of one length.
+/// `bytes` must be valid for reads of `bytes_length` bytes, which must not change during the call.
+/// None of these may overlap. The call needs 16 KiB of stack.
+#[unsafe(no_mangle)]
+pub extern "C" fn exported_http_response_head_extent(
+    state: &mut HttpHeadState,
+    bytes: &[u8],
+    out: &mut usize,
+) -> u32
+    ensures told { IsOf HeadKind.Response (head_extent_of HeadKind.Response state.old) bytes.now
+        → TellsHead HeadKind.Response bytes.now result out.new state.new }
+    ensures none { result ≡ incomplete → out.new ≡ 0 }
+    ensures codes { (result ≡ done) ⊎ ((result ≡ incomplete) ⊎ (result ≡ invalid)) }
+{
+    find_end(HeadKind::Response, state, bytes, out)
+}
+
+/// States that successive calls of `exported_http_head_extent`, or of
+/// `exported_http_response_head_extent`, give the result of one call. The first call starts with
+/// zeros, and each further call has the state that the previous one left,
 /// and its bytes followed by another chunk. If all calls return `INCOMPLETE`, the last state is a
 /// state of these bytes, regardless of what follows. So the next call returns the result that a
 /// call with zeros returns for all of its bytes.
 pub fn calls_in_turn_are_of_their_bytes()
-    ensures { (pieces : List (List ℕ)) (state : HttpHeadState)
-        → HeadCalls nothing [] pieces state
-        → (more : List ℕ) → IsOf (head_extent_of state) (all_of pieces ++ more) }
+    ensures { (kind : HeadKind) (pieces : List (List ℕ)) (state : HttpHeadState)
+        → HeadCalls kind nothing [] pieces state
+        → (more : List ℕ) → IsOf kind (head_extent_of kind state) (all_of pieces ++ more) }
 {}

@@ -5,9 +5,11 @@ ghost use Rattle.format_http.specs.Responses.Head.{BeginsResponseHead, NoRespons
 ghost use Rattle.format_http_places.specs.Responses.{IsResponseRefused, IsResponseWanted};
 ghost use Rattle.format_http_places.specs.Responses.{NoResponseRead, ShowsResponse};
 ghost use Rattle.exported.specs.Code.{buffer_too_small, done, incomplete, invalid};
-ghost use Rattle.exported.specs.Http.{HasNoResponseParts, IsNoResponse, response_of};
+ghost use Rattle.exported.specs.Http.{HasNoResponseParts, HasPart, IsNoResponse, response_of};
 
 use crate::code::{BUFFER_TOO_SMALL, DONE, INCOMPLETE, INVALID};
+use crate::http::error::{HTTP_HEAD_ERROR_INCOMPLETE, HTTP_HEAD_ERROR_NONE, number_of};
+use format_http_places::parts::HeadKind;
 use format_http_places::places;
 pub use format_http_places::places::{Field, Span};
 use format_http_places::read::HeadError;
@@ -25,6 +27,8 @@ pub struct ResponseHead {
     pub length: usize,
     /// The offset of the error in bytes; 0 otherwise.
     pub error_offset: usize,
+    /// Why the byte at this offset is invalid; `HTTP_HEAD_ERROR_NONE` otherwise.
+    pub error: u32,
     /// The status code, below 1000.
     pub status: u16,
     /// The number before the point of the version, below 10.
@@ -33,10 +37,10 @@ pub struct ResponseHead {
     pub minor: u8,
 }
 
-/// Returns an empty head with a number of fields and the offset of an error.
-fn none(fields: usize, place: usize) -> ResponseHead
+/// Returns an empty head with a number of fields, and the offset and the number of an error.
+fn none(fields: usize, place: usize, error: u32) -> ResponseHead
     ensures fields { result.fields ≡ fields }
-    ensures place { result.error_offset ≡ place }
+    ensures place { (result.error_offset ≡ place) × (result.error ≡ error) }
     ensures parts { HasNoResponseParts result }
 {
     let nowhere = Span {
@@ -48,6 +52,7 @@ fn none(fields: usize, place: usize) -> ResponseHead
         fields,
         length: 0,
         error_offset: place,
+        error,
         status: 0,
         major: 0,
         minor: 0,
@@ -57,13 +62,14 @@ fn none(fields: usize, place: usize) -> ResponseHead
 /// A head that was found.
 fn head_of(found: places::ResponseHead) -> ResponseHead
     ensures places { response_of result ≡ found }
-    ensures place { result.error_offset ≡ 0 }
+    ensures place { (result.error_offset ≡ 0) × (result.error ≡ 0) }
 {
     ResponseHead {
         reason: found.reason,
         fields: found.fields,
         length: found.length,
         error_offset: 0,
+        error: HTTP_HEAD_ERROR_NONE,
         status: found.status,
         major: found.major,
         minor: found.minor,
@@ -83,7 +89,8 @@ fn head_of(found: places::ResponseHead) -> ResponseHead
 /// # Errors
 ///
 /// `INVALID`: `bytes` does not start with a head. The first offset at which no head can continue is
-/// written; it is the end of `bytes` if they end within a head.
+/// written, and why the byte there is invalid. If `bytes` ends within a head, it is the end of
+/// `bytes`, with `HTTP_HEAD_ERROR_INCOMPLETE`.
 ///
 /// `BUFFER_TOO_SMALL`: the head has more fields than the buffer has entries. The number of fields
 /// is written.
@@ -107,8 +114,9 @@ pub extern "C" fn exported_http_response_head(
     ensures small { result ≡ buffer_too_small → IsResponseWanted bytes.now out.new.fields
         × (length fields.old < out.new.fields) }
     ensures refused { result ≡ invalid → NoResponseRead bytes.now }
-    ensures place { result ≡ invalid → IsNoResponse bytes.now out.new.error_offset }
-    ensures nowhere { (result ≡ invalid → ⊥) → out.new.error_offset ≡ 0 }
+    ensures place { result ≡ invalid → IsNoResponse bytes.now out.new.error_offset out.new.error }
+    ensures nowhere { (result ≡ invalid → ⊥)
+        → (out.new.error_offset ≡ 0) × (out.new.error ≡ 0) }
     ensures parts { (result ≡ done → ⊥) → HasNoResponseParts out.new }
     ensures count { result ≡ invalid → out.new.fields ≡ 0 }
     ensures codes { (result ≡ done) ⊎ ((result ≡ buffer_too_small) ⊎ (result ≡ invalid)) }
@@ -119,15 +127,15 @@ pub extern "C" fn exported_http_response_head(
             DONE
         }
         Err(HeadError::TooManyFields(count)) => {
-            *out = none(count, 0);
+            *out = none(count, 0, HTTP_HEAD_ERROR_NONE);
             BUFFER_TOO_SMALL
         }
         Err(HeadError::Incomplete) => {
-            *out = none(0, bytes.len());
+            *out = none(0, bytes.len(), HTTP_HEAD_ERROR_INCOMPLETE);
             INVALID
         }
-        Err(HeadError::Invalid(place)) => {
-            *out = none(0, place);
+        Err(HeadError::Invalid(invalid)) => {
+            *out = none(0, invalid.place, number_of(invalid.part));
             INVALID
         }
     }
@@ -144,8 +152,8 @@ pub extern "C" fn exported_http_response_head(
 /// # Errors
 ///
 /// `INVALID`: `bytes` does not start with a head, regardless of what follows. The offset of the
-/// first invalid byte is written: the bytes before it are a prefix of a head, and together with the
-/// byte there they are not.
+/// first invalid byte is written, and why it is invalid: the bytes before it are a prefix of a
+/// head, and together with the byte there they are not.
 ///
 /// `BUFFER_TOO_SMALL`: as for complete input.
 ///
@@ -165,8 +173,10 @@ pub extern "C" fn exported_http_response_head_partial(
     ensures small { result ≡ buffer_too_small → IsResponseWanted bytes.now out.new.fields
         × (length fields.old < out.new.fields) }
     ensures refused { result ≡ invalid → NoResponseHead bytes.now }
-    ensures place { result ≡ invalid → IsResponseRefused bytes.now out.new.error_offset }
-    ensures nowhere { (result ≡ invalid → ⊥) → out.new.error_offset ≡ 0 }
+    ensures place { result ≡ invalid → IsResponseRefused bytes.now out.new.error_offset
+        × HasPart HeadKind.Response bytes.now out.new.error_offset out.new.error }
+    ensures nowhere { (result ≡ invalid → ⊥)
+        → (out.new.error_offset ≡ 0) × (out.new.error ≡ 0) }
     ensures parts { (result ≡ done → ⊥) → HasNoResponseParts out.new }
     ensures count { (result ≡ invalid → out.new.fields ≡ 0)
         × (result ≡ incomplete → out.new.fields ≡ 0) }
@@ -181,15 +191,15 @@ pub extern "C" fn exported_http_response_head_partial(
             DONE
         }
         Err(HeadError::TooManyFields(count)) => {
-            *out = none(count, 0);
+            *out = none(count, 0, HTTP_HEAD_ERROR_NONE);
             BUFFER_TOO_SMALL
         }
         Err(HeadError::Incomplete) => {
-            *out = none(0, 0);
+            *out = none(0, 0, HTTP_HEAD_ERROR_NONE);
             INCOMPLETE
         }
-        Err(HeadError::Invalid(place)) => {
-            *out = none(0, place);
+        Err(HeadError::Invalid(invalid)) => {
+            *out = none(0, invalid.place, number_of(invalid.part));
             INVALID
         }
     }

@@ -3,4 +3,4 @@ use Rattle.format_http_places.proofs.Extents.{of_none}
 use Rattle.format_http_places.proofs.extent.HeadExtent.new.Goals as goal
 
 pub returns : goal.returns
-returns c bytes = of_none _ bytes refl refl
+returns c bytes = of_none c.args.kind _ bytes refl c.start.ensures

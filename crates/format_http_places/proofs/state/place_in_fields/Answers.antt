@@ -1,5 +1,5 @@
 use Rattle.format_http_places.proofs.PlaceSteps.{fields_end, fields_step}
-use Rattle.format_http_places.proofs.extent.place_in_fields.Goals as goal
+use Rattle.format_http_places.proofs.state.place_in_fields.Goals as goal
 
 pub returns-then-byte-eq13 : goal.returns-then-byte-eq13
 returns-then-byte-eq13 c = fields_end c.args.byte c.if-byte-eq13.true

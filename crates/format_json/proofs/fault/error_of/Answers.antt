@@ -1,6 +1,6 @@
 use Rattle.std.proofs.Common.{arith, inr, rules}
 use Rattle.format_json.proofs.ErrorResults.{told_utf8}
-use Rattle.format_json.proofs.fault.fault_of_bytes.Goals as goal
+use Rattle.format_json.proofs.fault.error_of.Goals as goal
 
 pub returns-in-Ok-first_place : goal.returns-in-Ok-first_place
 returns-in-Ok-first_place g c =

@@ -1,5 +1,5 @@
 use Rattle.format_http_places.proofs.PlaceSteps.{target_run, token_run, value_run}
-use Rattle.format_http_places.proofs.extent.run_len.Goals as goal
+use Rattle.format_http_places.proofs.state.run_len.Goals as goal
 
 pub returns-in-Target-clause-same : goal.returns-in-Target-clause-same
 returns-in-Target-clause-same c = target_run c.args.place c.args.bytes.now c.target_len.result
