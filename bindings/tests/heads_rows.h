@@ -153,7 +153,7 @@ typedef enum pergidau_code head_end(struct pergidau_http_head_state *, const uin
                                     size_t *);
 
 /* Makes successive calls, each with `step` more bytes, and returns the last result. */
-static enum pergidau_code head_in_turn(head_end *find, const char *row, size_t length, size_t step,
+static enum pergidau_code head_in_turn(head_end *end_of, const char *row, size_t length, size_t step,
                                        size_t *out)
 {
     struct pergidau_http_head_state state = {0};
@@ -161,7 +161,7 @@ static enum pergidau_code head_in_turn(head_end *find, const char *row, size_t l
     for (size_t have = 0; code == PERGIDAU_INCOMPLETE && have <= length;
          have += length - have < step && have < length ? length - have : step) {
         uint8_t *bytes = copied(row, have);
-        code = find(&state, bytes, have, out);
+        code = end_of(&state, bytes, have, out);
         same("the scanned bytes", row, (long long)state.passed,
              code == PERGIDAU_INCOMPLETE ? (long long)have : (long long)*out);
         free(bytes);
@@ -170,27 +170,27 @@ static enum pergidau_code head_in_turn(head_end *find, const char *row, size_t l
 }
 
 /* A head of `whole` bytes is found in chunks of each size. */
-static void test_end(head_end *find, const char *row, size_t whole)
+static void test_end(head_end *end_of, const char *row, size_t whole)
 {
     size_t out = 1, length = strlen(row);
     for (size_t step = 1; step <= length; step++) {
-        same("a head", row, head_in_turn(find, row, length, step, &out), PERGIDAU_DONE);
+        same("a head", row, head_in_turn(end_of, row, length, step, &out), PERGIDAU_DONE);
         same("its end", row, (long long)out, (long long)whole);
     }
-    same("partial input", row, head_in_turn(find, row, whole - 1, 1, &out), PERGIDAU_INCOMPLETE);
+    same("partial input", row, head_in_turn(end_of, row, whole - 1, 1, &out), PERGIDAU_INCOMPLETE);
     same("no end", row, (long long)out, 0);
 }
 
 /* An invalid byte is found in chunks of each size. */
-static void test_no_end(head_end *find, const struct no_head *it)
+static void test_no_end(head_end *end_of, const struct no_head *it)
 {
     char row[64];
     size_t out = 1, place = strlen(it->front), length = joined(row, sizeof row, it);
     for (size_t step = 1; step <= length; step++) {
-        same("invalid head", row, head_in_turn(find, row, length, step, &out), PERGIDAU_INVALID);
+        same("invalid head", row, head_in_turn(end_of, row, length, step, &out), PERGIDAU_INVALID);
         same("its error offset", row, (long long)out, (long long)place);
     }
-    same("a prefix", row, head_in_turn(find, row, place, 1, &out), PERGIDAU_INCOMPLETE);
+    same("a prefix", row, head_in_turn(end_of, row, place, 1, &out), PERGIDAU_INCOMPLETE);
 }
 
 static void test_head_extents(void)

@@ -1009,8 +1009,8 @@ extern "C" {
     ///
     /// `bytes` must be valid for reads of `bytes_length` bytes and `dialect` for reads of one dialect,
     /// which must not change during the call. `text` must be valid for writes of `text_length` bytes,
-    /// `fields` for writes of `fields_length` entries, and `out` for writes of one record. None of these
-    /// may overlap. The call needs 16 KiB of stack.
+    /// `fields` for writes of `fields_length` entries, and `out` for writes of one record. None of
+    /// these may overlap. The call needs 16 KiB of stack.
     pub fn exported_csv_record(
         bytes: *const u8,
         bytes_length: usize,
@@ -1045,8 +1045,8 @@ extern "C" {
     ///
     /// `bytes` must be valid for reads of `bytes_length` bytes and `dialect` for reads of one dialect,
     /// which must not change during the call. `text` must be valid for writes of `text_length` bytes,
-    /// `fields` for writes of `fields_length` entries, and `out` for writes of one record. None of these
-    /// may overlap. The call needs 16 KiB of stack.
+    /// `fields` for writes of `fields_length` entries, and `out` for writes of one record. None of
+    /// these may overlap. The call needs 16 KiB of stack.
     pub fn exported_csv_record_partial(
         bytes: *const u8,
         bytes_length: usize,
@@ -1092,7 +1092,8 @@ extern "C" {
     ///
     /// `state` must be valid for reads and writes of one state, and `out` for writes of one record.
     /// `bytes` must be valid for reads of `bytes_length` bytes and `dialect` for reads of one dialect,
-    /// which must not change during the call. None of these may overlap. The call needs 16 KiB of stack.
+    /// which must not change during the call. None of these may overlap. The call needs 16 KiB of
+    /// stack.
     pub fn exported_csv_record_extent(
         state: *mut CsvRecordState,
         bytes: *const u8,

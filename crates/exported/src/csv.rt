@@ -146,8 +146,8 @@ fn read_record(
 ///
 /// `bytes` must be valid for reads of `bytes_length` bytes and `dialect` for reads of one dialect,
 /// which must not change during the call. `text` must be valid for writes of `text_length` bytes,
-/// `fields` for writes of `fields_length` entries, and `out` for writes of one record. None of these
-/// may overlap. The call needs 16 KiB of stack.
+/// `fields` for writes of `fields_length` entries, and `out` for writes of one record. None of
+/// these may overlap. The call needs 16 KiB of stack.
 #[unsafe(no_mangle)]
 pub extern "C" fn exported_csv_record(
     bytes: &[u8],
@@ -252,8 +252,8 @@ fn read_partial(
 ///
 /// `bytes` must be valid for reads of `bytes_length` bytes and `dialect` for reads of one dialect,
 /// which must not change during the call. `text` must be valid for writes of `text_length` bytes,
-/// `fields` for writes of `fields_length` entries, and `out` for writes of one record. None of these
-/// may overlap. The call needs 16 KiB of stack.
+/// `fields` for writes of `fields_length` entries, and `out` for writes of one record. None of
+/// these may overlap. The call needs 16 KiB of stack.
 #[unsafe(no_mangle)]
 pub extern "C" fn exported_csv_record_partial(
     bytes: &[u8],

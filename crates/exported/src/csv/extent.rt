@@ -154,7 +154,8 @@ fn find_end(
 ///
 /// `state` must be valid for reads and writes of one state, and `out` for writes of one record.
 /// `bytes` must be valid for reads of `bytes_length` bytes and `dialect` for reads of one dialect,
-/// which must not change during the call. None of these may overlap. The call needs 16 KiB of stack.
+/// which must not change during the call. None of these may overlap. The call needs 16 KiB of
+/// stack.
 #[unsafe(no_mangle)]
 pub extern "C" fn exported_csv_record_extent(
     state: &mut CsvRecordState,
