@@ -1,8 +1,9 @@
 -- Lemmas about results for records of comma-separated values.
 use Rattle.std.proofs.Common.{◌≡◌, ◌∙◌, ◌<◌, ◌≤◌, ◌++◌, [], ℕ, List, ap, arith, drop, false}
-use Rattle.std.proofs.Common.{length, subst, sym, true}
+use Rattle.std.proofs.Common.{inl, inr, length, subst, sym, true}
 use Rattle.std.specs.Prelude.{Bool, MatchBool}
 use Rattle.std.proofs.lemmas.List.{append-nil, length-drop}
+use Rattle.format_csv_records.specs.Apart.{WhyNone}
 use Rattle.format_csv_records.specs.Buffers.{IsForGood, IsSized, NoneForGood, ShowsFields}
 use Rattle.format_csv_records.specs.Buffers.{SizedAs}
 use Rattle.std.proofs.lemmas.List.Elements.{All-nil}
@@ -11,6 +12,10 @@ use Rattle.format_csv_records.specs.Early.{IsViablePrefix}
 use Rattle.format_csv_records.specs.Refused.{IsRefused}
 use Rattle.format_csv_records.specs.declared.buffers.RecordSize.{RecordSize}
 use Rattle.format_csv_records.specs.declared.dialect.Dialect.{Dialect}
+use Rattle.format_csv_records.specs.declared.dialect.DialectError.{DialectError}
+use Rattle.format_csv_records.specs.declared.dialect.DialectError.TheVariants.{DelimiterEndsLines}
+use Rattle.format_csv_records.specs.declared.dialect.DialectError.TheVariants.{DelimiterIsQuote}
+use Rattle.format_csv_records.specs.declared.dialect.DialectError.TheVariants.{QuoteEndsLines}
 use Rattle.format_csv_records.specs.declared.read.InvalidRecord.{InvalidRecord}
 use Rattle.format_csv_records.proofs.Early.{none_goes_on, open_goes_on}
 use Rattle.format_csv_records.proofs.Early.{record_goes_on}
@@ -97,7 +102,14 @@ module _ (d : Dialect) (input : List ℕ) where
     open_goes_on d byte input fault it far,
   )
 
--- two dialects with the same bytes and line endings
-module _ (given : CsvDialect) (d : Dialect) (is : IsDialect given d) where
-  pub only : (other : Dialect) → IsDialect given other → d ≡ other
-  only other it = cc (is.1, is.2.0, is.2.1, it.1, it.2.0, it.2.1)
+pub only : (given : CsvDialect) (d other : Dialect) → IsDialect given d → IsDialect given other
+    → d ≡ other
+only given d other is it = cc (is.1, is.2, is.3, it.1, it.2, it.3)
+
+pub no_dialect : (given : CsvDialect) (d : Dialect) → IsDialect given d → (why : DialectError)
+    → WhyNone given.delimiter given.quote why → ⊥
+no_dialect given d is DelimiterIsQuote same = d.apart.others (is.1 ∙ same ∙ sym is.2)
+no_dialect given d is DelimiterEndsLines (_, inl e) = d.apart.delimiter_stays.0 (is.1 ∙ e)
+no_dialect given d is DelimiterEndsLines (_, inr e) = d.apart.delimiter_stays.1 (is.1 ∙ e)
+no_dialect given d is QuoteEndsLines (_, _, inl e) = d.apart.quote_stays.0 (is.2 ∙ e)
+no_dialect given d is QuoteEndsLines (_, _, inr e) = d.apart.quote_stays.1 (is.2 ∙ e)

@@ -1,7 +1,7 @@
 //! Dialects of comma-separated values as callers give them.
 
-ghost use Rattle.std.specs.Prelude.{◌≡◌, ◌⊎◌, MatchOption};
-ghost use Rattle.exported.specs.Csv.{HasDialect, IsDialect};
+ghost use Rattle.std.specs.Prelude.{◌≡◌, ◌<◌, IfSome, MatchOption};
+ghost use Rattle.exported.specs.Csv.{HasDialect, IsDialect, ends_of};
 ghost use Rattle.format_csv_records.specs.declared.dialect.Dialect.{Dialect};
 
 use format_csv_records::dialect::{Dialect, LineEnds};
@@ -28,19 +28,36 @@ pub struct CsvDialect {
     pub line_ends: u32,
 }
 
+/// Returns the line endings of a number, if it has any.
+fn ends_of(number: u32) -> Option<LineEnds>
+    ensures { MatchOption result (number < 3 → ⊥) (λ it. (number < 3) × (it ≡ ends_of number)) }
+{
+    match number {
+        0 => Some(LineEnds::CrLf),
+        1 => Some(LineEnds::Lf),
+        2 => Some(LineEnds::Either),
+        _ => None,
+    }
+}
+
+/// Proves that a byte is below 256.
+#[inline(always)]
+fn is_byte(byte: u8)
+    ensures { byte < 256 }
+{}
+
 /// Returns the dialect that `given` describes, if there is one.
 pub(crate) fn dialect_of(given: CsvDialect) -> Option<Dialect>
-    ensures { MatchOption result (HasDialect given → ⊥)
+    ensures only { MatchOption result (HasDialect given → ⊥)
         (λ it. IsDialect given it × ((d : Dialect) → IsDialect given d → it ≡ d)) }
+    ensures byte { IfSome result (λ it. it.quote < 256) }
 {
-    let ends = match given.line_ends {
-        0 => LineEnds::CrLf,
-        1 => LineEnds::Lf,
-        2 => LineEnds::Either,
-        _ => return None,
-    };
-    match Dialect::new(given.delimiter, given.quote, ends) {
-        Ok(dialect) => Some(dialect),
-        Err(_) => None,
+    is_byte(given.quote);
+    match ends_of(given.line_ends) {
+        Some(ends) => match Dialect::new(given.delimiter, given.quote, ends) {
+            Ok(dialect) => Some(dialect),
+            Err(_) => None,
+        },
+        None => None,
     }
 }
