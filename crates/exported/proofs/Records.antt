@@ -2,8 +2,9 @@
 use Rattle.std.proofs.Common.{◌≡◌, ◌∙◌, ◌<◌, ◌≤◌, ◌++◌, [], ℕ, List, ap, arith, drop, false}
 use Rattle.std.proofs.Common.{inl, inr, length, subst, sym, true}
 use Rattle.std.specs.Prelude.{Bool, MatchBool}
+use Rattle.std.proofs.Props.{props}
 use Rattle.std.proofs.lemmas.List.{append-nil, length-drop}
-use Rattle.format_csv_records.specs.Apart.{WhyNone}
+use Rattle.format_csv_records.specs.Apart.{IsApart, WhyNone}
 use Rattle.format_csv_records.specs.Buffers.{IsForGood, IsSized, NoneForGood, ShowsFields}
 use Rattle.format_csv_records.specs.Buffers.{SizedAs}
 use Rattle.std.proofs.lemmas.List.Elements.{All-nil}
@@ -16,6 +17,7 @@ use Rattle.format_csv_records.specs.declared.dialect.DialectError.{DialectError}
 use Rattle.format_csv_records.specs.declared.dialect.DialectError.TheVariants.{DelimiterEndsLines}
 use Rattle.format_csv_records.specs.declared.dialect.DialectError.TheVariants.{DelimiterIsQuote}
 use Rattle.format_csv_records.specs.declared.dialect.DialectError.TheVariants.{QuoteEndsLines}
+use Rattle.format_csv_records.specs.declared.dialect.LineEnds.{LineEnds}
 use Rattle.format_csv_records.specs.declared.read.InvalidRecord.{InvalidRecord}
 use Rattle.format_csv_records.proofs.Early.{none_goes_on, open_goes_on}
 use Rattle.format_csv_records.proofs.Early.{record_goes_on}
@@ -102,9 +104,26 @@ module _ (d : Dialect) (input : List ℕ) where
     open_goes_on d byte input fault it far,
   )
 
+apart_once : (a b : ℕ) → IsProp (IsApart a b)
+apart_once a b = Prim.hlevel props
+
+abbrev made : (a b : ℕ) → LineEnds → IsApart a b → Dialect
+made a b ends apart = record { delimiter = a; quote = b; ends = ends; apart = apart }
+
+-- two dialects of one caller are equal: that their bytes are apart has one proof
 pub only : (given : CsvDialect) (d other : Dialect) → IsDialect given d → IsDialect given other
     → d ≡ other
-only given d other is it = cc (is.1, is.2, is.3, it.1, it.2, it.3)
+only given d other is it =
+    let P : ℕ → Type 0 =
+        λ b. (p : IsApart d.delimiter b) → d ≡ made d.delimiter b other.ends p in
+    let Q : ℕ → Type 0 =
+        λ a. (p : IsApart a other.quote) → d ≡ made a other.quote other.ends p in
+    let ended : d ≡ made d.delimiter d.quote other.ends d.apart =
+        ap (λ e. made d.delimiter d.quote e d.apart) (is.3 ∙ sym it.3) in
+    let quoted : P other.quote = subst P (is.2 ∙ sym it.2) (λ p.
+        ended ∙ ap (made d.delimiter d.quote other.ends)
+            (apart_once d.delimiter d.quote d.apart p)) in
+    subst Q (is.1 ∙ sym it.1) quoted other.apart
 
 pub no_dialect : (given : CsvDialect) (d : Dialect) → IsDialect given d → (why : DialectError)
     → WhyNone given.delimiter given.quote why → ⊥
