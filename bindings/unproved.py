@@ -89,6 +89,9 @@ def call(export, where, structs):
             given.append(f"&{local}")
         elif kind == "pass":
             given.append("1")
+        elif kind == "in":
+            lines.append(f"    let {local} = {nothing(inside, structs, where, module)};")
+            given.append(f"&{local}")
         elif kind == "write":
             lines.append(f"    let mut {local} = [{nothing(inside, structs, where, module)}; 2];")
             given.append(f"&mut {local}")
@@ -104,7 +107,8 @@ def wrapper(export, where):
     kinds = []
     for _, written in export.parts:
         kind, inside = kind_of(written)
-        kinds += {"read": ["ptr", "i64"], "write": ["ptr", "i64"], "out": ["ptr"]}.get(kind) or [LLVM[inside]]
+        kinds += {"read": ["ptr", "i64"], "write": ["ptr", "i64"], "in": ["ptr"], "out": ["ptr"]}.get(
+            kind) or [LLVM[inside]]
     given = ", ".join(f"{kind} %a{at}" for at, kind in enumerate(kinds))
     name = f"exported_{export.name}"
     called = f'@"exported::{where}::{name}"({given})'

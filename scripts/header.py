@@ -53,6 +53,7 @@ KINDS = {
     "HTTP_BODY_": ("http_body_kind", "How the length of a body is determined.", ("HttpBody", "kind")),
     "HTTP_HEAD_ERROR_": ("http_head_error", "Why a byte of a head is invalid.", ("Head", "ResponseHead", "error")),
     "HTTP_ERROR_": ("http_error", "Why an HTTP message must be rejected.", ("HttpBody", "error")),
+    "CSV_": ("csv_line_end", "What ends a record of comma-separated values.", ("CsvDialect", "line_ends")),
     "INI_ERROR_": ("ini_error", "The errors of INI lines.", ("IniEntry", "error")),
     "INI_DIALECT_": ("ini_dialect", "The dialects of INI: flags, whose sum is a dialect, and three dialects.", None),
     "INI_": ("ini_kind", "The kinds of INI entries.", ("IniEntry", "kind")),
@@ -115,9 +116,9 @@ def comment(words, codes, indent=""):
 
 def kind_of(written):
     """Returns the kind of a parameter and the type of its element or value. A parameter is a slice
-    that is read or written, a value that is written, or a value that is passed."""
+    that is read or written, a value that is written or read, or a value that is passed."""
     for kind, form in (("read", r"&\[(\w+)\]"), ("write", r"&mut \[(\w+)\]"), ("out", r"&mut (\w+)"),
-                       ("pass", r"(\w+)")):
+                       ("in", r"&(\w+)"), ("pass", r"(\w+)")):
         if found := re.fullmatch(form, written):
             return kind, found[1]
     raise SystemExit(f"scripts/header.py: unknown parameter type {written}")
@@ -131,6 +132,7 @@ def in_c(name, written):
         "read": [f"const {spelled} *{name}", f"size_t {name}_length"],
         "write": [f"{spelled} *{name}", f"size_t {name}_length"],
         "out": [f"{spelled} *{name}"],
+        "in": [f"const {spelled} *{name}"],
         "pass": [f"{spelled} {name}"],
     }[kind]
 
@@ -251,7 +253,7 @@ def body(export):
             constant = "const " if kind == "read" else ""
             nothing.append(f"    {constant}{type_in_c(inside)} no_{name} = {{0}};\n")
             nothing.append(f"    if ({name} == NULL) {{\n        {name} = &no_{name};\n    }}\n")
-        elif kind == "out":
+        elif kind in ("in", "out"):
             refused.append((f"{name} == NULL", "PERGIDAU_NULL"))
     text = ""
     for test, code in refused:
@@ -329,7 +331,7 @@ def rust(codes, constants, structs, exports):
         for name, written in export.parts:
             kind, inside = kind_of(written)
             length = [f"{name}_length: usize"] if kind in ("read", "write") else []
-            star = {"read": "*const ", "write": "*mut ", "out": "*mut ", "pass": ""}[kind]
+            star = {"read": "*const ", "write": "*mut ", "out": "*mut ", "in": "*const ", "pass": ""}[kind]
             made += [f"{name}: {star}{inside}", *length]
         text += "\n" * (number > 0) + rust_words(export.words, "    ")
         text += f"    pub fn exported_{export.name}(\n        " + ",\n        ".join(made) + ",\n    ) -> u32;\n"

@@ -12,7 +12,7 @@ uint32_t exported_calc_value(
 uint32_t exported_csv_record(
     const uint8_t *bytes,
     size_t bytes_length,
-    uint32_t line_feeds,
+    const struct pergidau_csv_dialect *dialect,
     uint8_t *text,
     size_t text_length,
     struct pergidau_span *fields,
@@ -21,7 +21,7 @@ uint32_t exported_csv_record(
 uint32_t exported_csv_record_partial(
     const uint8_t *bytes,
     size_t bytes_length,
-    uint32_t line_feeds,
+    const struct pergidau_csv_dialect *dialect,
     uint8_t *text,
     size_t text_length,
     struct pergidau_span *fields,
@@ -31,7 +31,7 @@ uint32_t exported_csv_record_extent(
     struct pergidau_csv_record_state *state,
     const uint8_t *bytes,
     size_t bytes_length,
-    uint32_t line_feeds,
+    const struct pergidau_csv_dialect *dialect,
     struct pergidau_record *out);
 uint32_t exported_http_head(
     const uint8_t *bytes,
@@ -190,6 +190,7 @@ uint32_t exported_toml_document(
 /* The exports write enums as 32 bits. */
 _Static_assert(sizeof(enum pergidau_chunked_error) == sizeof(uint32_t), "the size of an enum");
 _Static_assert(sizeof(enum pergidau_chunked_kind) == sizeof(uint32_t), "the size of an enum");
+_Static_assert(sizeof(enum pergidau_csv_line_end) == sizeof(uint32_t), "the size of an enum");
 _Static_assert(sizeof(enum pergidau_http_body_kind) == sizeof(uint32_t), "the size of an enum");
 _Static_assert(sizeof(enum pergidau_http_error) == sizeof(uint32_t), "the size of an enum");
 _Static_assert(sizeof(enum pergidau_http_head_error) == sizeof(uint32_t), "the size of an enum");
@@ -201,7 +202,7 @@ _Static_assert(sizeof(enum pergidau_resp_kind) == sizeof(uint32_t), "the size of
 _Static_assert(sizeof(enum pergidau_toml_error) == sizeof(uint32_t), "the size of an enum");
 _Static_assert(sizeof(enum pergidau_toml_kind) == sizeof(uint32_t), "the size of an enum");
 
-const char pergidau_declared_8550428e = 0;
+const char pergidau_declared_4632b30c = 0;
 
 const char *pergidau_version(void)
 {
@@ -246,6 +247,8 @@ const char *pergidau_message(enum pergidau_code code)
         return "nested too deep: deeper than the depth limit";
     case PERGIDAU_OUT_OF_RANGE:
         return "number out of range";
+    case PERGIDAU_INVALID_DIALECT:
+        return "impossible dialect: delimiter, quote, carriage return and line feed must be four different bytes, and the line ending one of the constants";
     }
     return "unknown code";
 }
@@ -516,7 +519,7 @@ enum pergidau_code pergidau_calc_value(
 enum pergidau_code pergidau_csv_record(
     const uint8_t *bytes,
     size_t bytes_length,
-    uint32_t line_feeds,
+    const struct pergidau_csv_dialect *dialect,
     uint8_t *text,
     size_t text_length,
     struct pergidau_span *fields,
@@ -530,6 +533,9 @@ enum pergidau_code pergidau_csv_record(
         return PERGIDAU_TOO_LONG;
     }
     if (bytes == NULL && bytes_length > 0) {
+        return PERGIDAU_NULL;
+    }
+    if (dialect == NULL) {
         return PERGIDAU_NULL;
     }
     if (text_length > PTRDIFF_MAX / sizeof(uint8_t)) {
@@ -556,13 +562,13 @@ enum pergidau_code pergidau_csv_record(
     if (fields == NULL) {
         fields = &no_fields;
     }
-    return (enum pergidau_code)exported_csv_record(bytes, bytes_length, line_feeds, text, text_length, fields, fields_length, out);
+    return (enum pergidau_code)exported_csv_record(bytes, bytes_length, dialect, text, text_length, fields, fields_length, out);
 }
 
 enum pergidau_code pergidau_csv_record_partial(
     const uint8_t *bytes,
     size_t bytes_length,
-    uint32_t line_feeds,
+    const struct pergidau_csv_dialect *dialect,
     uint8_t *text,
     size_t text_length,
     struct pergidau_span *fields,
@@ -576,6 +582,9 @@ enum pergidau_code pergidau_csv_record_partial(
         return PERGIDAU_TOO_LONG;
     }
     if (bytes == NULL && bytes_length > 0) {
+        return PERGIDAU_NULL;
+    }
+    if (dialect == NULL) {
         return PERGIDAU_NULL;
     }
     if (text_length > PTRDIFF_MAX / sizeof(uint8_t)) {
@@ -602,14 +611,14 @@ enum pergidau_code pergidau_csv_record_partial(
     if (fields == NULL) {
         fields = &no_fields;
     }
-    return (enum pergidau_code)exported_csv_record_partial(bytes, bytes_length, line_feeds, text, text_length, fields, fields_length, out);
+    return (enum pergidau_code)exported_csv_record_partial(bytes, bytes_length, dialect, text, text_length, fields, fields_length, out);
 }
 
 enum pergidau_code pergidau_csv_record_extent(
     struct pergidau_csv_record_state *state,
     const uint8_t *bytes,
     size_t bytes_length,
-    uint32_t line_feeds,
+    const struct pergidau_csv_dialect *dialect,
     struct pergidau_record *out)
 {
     const uint8_t no_bytes = {0};
@@ -622,13 +631,16 @@ enum pergidau_code pergidau_csv_record_extent(
     if (bytes == NULL && bytes_length > 0) {
         return PERGIDAU_NULL;
     }
+    if (dialect == NULL) {
+        return PERGIDAU_NULL;
+    }
     if (out == NULL) {
         return PERGIDAU_NULL;
     }
     if (bytes == NULL) {
         bytes = &no_bytes;
     }
-    return (enum pergidau_code)exported_csv_record_extent(state, bytes, bytes_length, line_feeds, out);
+    return (enum pergidau_code)exported_csv_record_extent(state, bytes, bytes_length, dialect, out);
 }
 
 enum pergidau_code pergidau_http_head(

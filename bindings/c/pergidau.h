@@ -39,10 +39,10 @@ extern "C" {
  * header refers to it, so that it links with no other library. For a file that is not linked
  * with the library, define PERGIDAU_NO_LINK_CHECK before the header.
  */
-extern const char pergidau_declared_8550428e;
+extern const char pergidau_declared_4632b30c;
 #if defined(__GNUC__) && !defined(PERGIDAU_NO_LINK_CHECK)
 __attribute__((__used__, __unused__)) static const char *const pergidau_linked =
-    &pergidau_declared_8550428e;
+    &pergidau_declared_4632b30c;
 #endif
 
 /* Returns the version of the linked library, in the form of PERGIDAU_VERSION. */
@@ -87,7 +87,12 @@ enum pergidau_code {
     /* Nested too deep: deeper than the depth limit. */
     PERGIDAU_TOO_DEEP = 11,
     /* Number out of range. The function determines the range. */
-    PERGIDAU_OUT_OF_RANGE = 12
+    PERGIDAU_OUT_OF_RANGE = 12,
+    /*
+     * Impossible dialect: delimiter, quote, carriage return and line feed must be four
+     * different bytes, and the line ending one of the constants.
+     */
+    PERGIDAU_INVALID_DIALECT = 13
 };
 
 /* Returns the message for a code, in English, without a full stop. Do not free it. */
@@ -430,6 +435,16 @@ enum pergidau_http_error {
     PERGIDAU_HTTP_ERROR_LENGTH_TOO_LARGE = 10
 };
 
+/* What ends a record of comma-separated values. */
+enum pergidau_csv_line_end {
+    /* A carriage return and a line feed end a record, as in RFC 4180. */
+    PERGIDAU_CSV_CRLF = 0,
+    /* Only a line feed ends a record. */
+    PERGIDAU_CSV_LF = 1,
+    /* Either of them ends a record, for each record anew. */
+    PERGIDAU_CSV_EITHER = 2
+};
+
 /* The errors of INI lines. */
 enum pergidau_ini_error {
     /* No error. */
@@ -552,6 +567,20 @@ struct pergidau_record {
 };
 
 /*
+ * A dialect of comma-separated values. The delimiter, the quote, a carriage return and a line
+ * feed must be four different bytes. RFC 4180 has a comma, a double quote, and
+ * PERGIDAU_CSV_CRLF.
+ */
+struct pergidau_csv_dialect {
+    /* The byte between two fields. */
+    uint8_t delimiter;
+    /* The byte around a quoted field. It is doubled within the quotes. */
+    uint8_t quote;
+    /* What ends a record: one of the constants from PERGIDAU_CSV_CRLF to PERGIDAU_CSV_EITHER. */
+    enum pergidau_csv_line_end line_ends;
+};
+
+/*
  * The state of a search for the end of a record of comma-separated values. Only the functions
  * of this library may interpret its fields. All zeros is the initial state; start from it for
  * each record.
@@ -561,7 +590,7 @@ struct pergidau_csv_record_state {
     size_t passed;
     /* How many bytes the fields have that were passed, as they are meant. */
     size_t text;
-    /* How many fields were passed with the comma after them. */
+    /* How many fields were passed with the delimiter after them. */
     size_t fields;
     /* The part of the record that is expected next; 0 at the start of a field. */
     size_t place;
@@ -939,13 +968,13 @@ enum pergidau_code pergidau_calc_value(
     struct pergidau_number *out);
 
 /*
- * Parses a record of comma-separated values (RFC 4180) at the start of bytes.
+ * Parses a record of comma-separated values (RFC 4180), in any dialect, at the start of bytes.
  *
- * The record is followed by a line ending or the end of the input. A line ending is a carriage
- * return and a line feed if line_feeds is 0, and a line feed otherwise. A quoted field may
- * have any bytes, and quotes in it are doubled. An unquoted field has no quote, comma,
- * carriage return or line feed. Empty input does not start with a record. A line ending on its
- * own is a record of one empty field.
+ * The dialect determines the delimiter, the quote and the line endings. The record is followed
+ * by a line ending or the end of the input. A quoted field may have any bytes, and quotes in
+ * it are doubled. An unquoted field has no quote, delimiter, carriage return or line feed.
+ * Empty input does not start with a record. A line ending on its own is a record of one empty
+ * field.
  *
  * PERGIDAU_DONE: the contents of the fields are written into text, one field after another,
  * without the quotes around them and with doubled quotes replaced by single ones. The span of
@@ -963,19 +992,21 @@ enum pergidau_code pergidau_calc_value(
  * PERGIDAU_BUFFER_TOO_SMALL: the record has more fields or more bytes than the buffers. The
  * required numbers of both are written.
  *
+ * PERGIDAU_INVALID_DIALECT: there is no such dialect. Zeros are written.
+ *
  * After an error the buffers are unchanged.
  *
  * # Safety
  *
- * bytes must be valid for reads of bytes_length bytes, which must not change during the call.
- * text must be valid for writes of text_length bytes, fields for writes of fields_length
- * entries, and out for writes of one record. None of these may overlap. The call needs 16 KiB
- * of stack.
+ * bytes must be valid for reads of bytes_length bytes and dialect for reads of one dialect,
+ * which must not change during the call. text must be valid for writes of text_length bytes,
+ * fields for writes of fields_length entries, and out for writes of one record. None of these
+ * may overlap. The call needs 16 KiB of stack.
  */
 enum pergidau_code pergidau_csv_record(
     const uint8_t *bytes,
     size_t bytes_length,
-    uint32_t line_feeds,
+    const struct pergidau_csv_dialect *dialect,
     uint8_t *text,
     size_t text_length,
     struct pergidau_span *fields,
@@ -1001,19 +1032,19 @@ enum pergidau_code pergidau_csv_record(
  * PERGIDAU_INVALID: bytes does not start with a record, regardless of what follows. This is
  * returned as soon as the first invalid byte is there, and its offset is written: 1 for x".
  *
- * PERGIDAU_BUFFER_TOO_SMALL: as for complete input.
+ * PERGIDAU_BUFFER_TOO_SMALL, PERGIDAU_INVALID_DIALECT: as for complete input.
  *
  * # Safety
  *
- * bytes must be valid for reads of bytes_length bytes, which must not change during the call.
- * text must be valid for writes of text_length bytes, fields for writes of fields_length
- * entries, and out for writes of one record. None of these may overlap. The call needs 16 KiB
- * of stack.
+ * bytes must be valid for reads of bytes_length bytes and dialect for reads of one dialect,
+ * which must not change during the call. text must be valid for writes of text_length bytes,
+ * fields for writes of fields_length entries, and out for writes of one record. None of these
+ * may overlap. The call needs 16 KiB of stack.
  */
 enum pergidau_code pergidau_csv_record_partial(
     const uint8_t *bytes,
     size_t bytes_length,
-    uint32_t line_feeds,
+    const struct pergidau_csv_dialect *dialect,
     uint8_t *text,
     size_t text_length,
     struct pergidau_span *fields,
@@ -1021,16 +1052,16 @@ enum pergidau_code pergidau_csv_record_partial(
     struct pergidau_record *out);
 
 /*
- * Finds the end of a record of comma-separated values (RFC 4180) in input that arrives in
- * chunks.
+ * Finds the end of a record of comma-separated values (RFC 4180), in any dialect, in input
+ * that arrives in chunks.
  *
  * No call looks again at bytes that an earlier call scanned, so all calls for a record take
  * time linear in its length. To obtain the fields, pass the bytes of the record and the same
- * line_feeds to pergidau_csv_record.
+ * dialect to pergidau_csv_record.
  *
  * For the first call, state must be all zeros. Each further call for the same record must have
  * the state that the previous call left, the bytes of the previous call followed by more
- * bytes, and the same line_feeds.
+ * bytes, and the same dialect.
  *
  * PERGIDAU_DONE: bytes starts with a record and its line ending, regardless of what follows.
  * The number of its fields, their total length, and the length of the record are written.
@@ -1049,17 +1080,21 @@ enum pergidau_code pergidau_csv_record_partial(
  * PERGIDAU_INVALID: bytes does not start with a record, regardless of what follows. This is
  * returned as soon as the first invalid byte is there, and its offset is written.
  *
+ * PERGIDAU_INVALID_DIALECT: there is no such dialect. The state is unchanged, and zeros are
+ * written.
+ *
  * # Safety
  *
  * state must be valid for reads and writes of one state, and out for writes of one record.
- * bytes must be valid for reads of bytes_length bytes, which must not change during the call.
- * None of these may overlap. The call needs 16 KiB of stack.
+ * bytes must be valid for reads of bytes_length bytes and dialect for reads of one dialect,
+ * which must not change during the call. None of these may overlap. The call needs 16 KiB of
+ * stack.
  */
 enum pergidau_code pergidau_csv_record_extent(
     struct pergidau_csv_record_state *state,
     const uint8_t *bytes,
     size_t bytes_length,
-    uint32_t line_feeds,
+    const struct pergidau_csv_dialect *dialect,
     struct pergidau_record *out);
 
 /*

@@ -198,6 +198,7 @@ static enum pergidau_code call(enum call which, size_t max_depth)
     struct pergidau_response_head response;
     struct pergidau_record record;
     struct pergidau_csv_record_state fields = {0};
+    const struct pergidau_csv_dialect lines = {',', '"', PERGIDAU_CSV_LF};
     struct pergidau_reply reply;
     struct pergidau_resp_reply_state state = {0};
     /* Without limits, so that all bytes are consumed. */
@@ -252,11 +253,11 @@ static enum pergidau_code call(enum call which, size_t max_depth)
     case RESPONSE_EXTENT:
         return pergidau_http_response_head_extent(&passed, bytes, length, &found);
     case RECORD:
-        return pergidau_csv_record(bytes, length, 1, NULL, 0, NULL, 0, &record);
+        return pergidau_csv_record(bytes, length, &lines, NULL, 0, NULL, 0, &record);
     case RECORD_IN_PIECES:
-        return pergidau_csv_record_partial(bytes, length, 1, NULL, 0, NULL, 0, &record);
+        return pergidau_csv_record_partial(bytes, length, &lines, NULL, 0, NULL, 0, &record);
     case RECORD_EXTENT:
-        return pergidau_csv_record_extent(&fields, bytes, length, 1, &record);
+        return pergidau_csv_record_extent(&fields, bytes, length, &lines, &record);
     case REPLY:
         return pergidau_resp_reply(bytes, length, max_depth, &reply);
     case REPLY_IN_PIECES:

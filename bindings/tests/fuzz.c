@@ -215,11 +215,24 @@ static void read_head(const uint8_t *bytes, size_t length)
     }
 }
 
+/* A dialect of bytes that inputs have, most often the standard one. */
+static struct pergidau_csv_dialect csv_dialect(void)
+{
+    static const char delimiters[] = ",,,;\ta\0", quotes[] = "\"\"\"'b";
+    return (struct pergidau_csv_dialect){
+        (uint8_t)delimiters[below(7)],
+        (uint8_t)quotes[below(5)],
+        (enum pergidau_csv_line_end)below(3),
+    };
+}
+
 /* Whether the bytes start with a record after a line ending is appended, or a quote and a line
  * ending. */
-static bool may_go_on(const uint8_t *bytes, size_t length, uint32_t line_feeds)
+static bool may_go_on(const uint8_t *bytes, size_t length,
+                      const struct pergidau_csv_dialect *dialect)
 {
-    static const char *ends[] = {"\n", "\r\n", "\"\n", "\"\r\n"};
+    const char quote = (char)dialect->quote;
+    const char ends[][4] = {"\n", "\r\n", {quote, '\n'}, {quote, '\r', '\n'}};
     struct pergidau_record out;
     bool goes_on = false;
     uint8_t *more = malloc(length + 3);
@@ -229,7 +242,7 @@ static bool may_go_on(const uint8_t *bytes, size_t length, uint32_t line_feeds)
         size_t size = strlen(ends[i]);
         memcpy(more + length, ends[i], size);
         goes_on = goes_on
-            || pergidau_csv_record(more, length + size, line_feeds, NULL, 0, NULL, 0, &out)
+            || pergidau_csv_record(more, length + size, dialect, NULL, 0, NULL, 0, &out)
                 != PERGIDAU_INVALID;
     }
     free(more);
@@ -239,14 +252,15 @@ static bool may_go_on(const uint8_t *bytes, size_t length, uint32_t line_feeds)
 static void read_record(const uint8_t *bytes, size_t length)
 {
     struct pergidau_record out, cut;
-    uint32_t line_feeds = (uint32_t)below(3);
+    struct pergidau_csv_dialect chosen = csv_dialect();
+    const struct pergidau_csv_dialect *dialect = &chosen;
     size_t most = below(24), count = below(4);
     size_t size = count * sizeof(struct pergidau_span);
     /* The entries follow the text, so that a write past the text is detected. */
     struct pergidau_span *places = buffer(size);
     uint8_t *text = (uint8_t *)memset((uint8_t *)places - most, 0xab, most);
     enum pergidau_code code =
-        pergidau_csv_record(bytes, length, line_feeds, text, most, places, count, &out);
+        pergidau_csv_record(bytes, length, dialect, text, most, places, count, &out);
     if (code == PERGIDAU_BUFFER_TOO_SMALL) {
         HOLDS(out.fields > count || out.text > most);
         for (size_t i = 0; i < most + size; i++) {
@@ -258,7 +272,7 @@ static void read_record(const uint8_t *bytes, size_t length)
         places = malloc(count * sizeof *places);
         text = (uint8_t *)buffer(most);
         HOLDS(places != NULL);
-        code = pergidau_csv_record(bytes, length, line_feeds, text, most, places, count, &out);
+        code = pergidau_csv_record(bytes, length, dialect, text, most, places, count, &out);
         HOLDS(code == PERGIDAU_DONE && out.fields == count && out.text == most);
         free(places);
     } else if (code == PERGIDAU_DONE) {
@@ -270,20 +284,20 @@ static void read_record(const uint8_t *bytes, size_t length)
         }
         HOLDS(sum == out.text);
         /* The record by itself gives the same result, and so does the partial function. */
-        HOLDS(pergidau_csv_record(bytes, out.length, line_feeds, text, most, places, count, &cut)
+        HOLDS(pergidau_csv_record(bytes, out.length, dialect, text, most, places, count, &cut)
               == PERGIDAU_DONE);
         HOLDS(cut.length == out.length && cut.fields == out.fields && cut.text == out.text);
-        code = pergidau_csv_record_partial(bytes, length, line_feeds, text, most, places, count,
+        code = pergidau_csv_record_partial(bytes, length, dialect, text, most, places, count,
                                              &cut);
         HOLDS(code == PERGIDAU_DONE || (code == PERGIDAU_INCOMPLETE && out.length == length));
         HOLDS(code == PERGIDAU_INCOMPLETE || cut.length == out.length);
     } else {
         HOLDS(code == PERGIDAU_INVALID && out.error_offset <= length);
-        HOLDS(may_go_on(bytes, out.error_offset, line_feeds));
-        HOLDS(out.error_offset == length || !may_go_on(bytes, out.error_offset + 1, line_feeds));
-        code = pergidau_csv_record_partial(bytes, length, line_feeds, text, most, places, count,
+        HOLDS(may_go_on(bytes, out.error_offset, dialect));
+        HOLDS(out.error_offset == length || !may_go_on(bytes, out.error_offset + 1, dialect));
+        code = pergidau_csv_record_partial(bytes, length, dialect, text, most, places, count,
                                              &cut);
-        HOLDS(code == (may_go_on(bytes, length, line_feeds) ? PERGIDAU_INCOMPLETE
+        HOLDS(code == (may_go_on(bytes, length, dialect) ? PERGIDAU_INCOMPLETE
                                                             : PERGIDAU_INVALID));
         HOLDS(cut.error_offset == (code == PERGIDAU_INVALID ? out.error_offset : 0));
     }

@@ -179,16 +179,17 @@ static void read_record_extent(const uint8_t *bytes, size_t length)
 {
     struct pergidau_csv_record_state state = {0};
     struct pergidau_record out, record;
-    uint32_t line_feeds = (uint32_t)below(2);
+    struct pergidau_csv_dialect chosen = csv_dialect();
+    const struct pergidau_csv_dialect *dialect = &chosen;
     size_t have = 0;
-    enum pergidau_code code = pergidau_csv_record_extent(&state, bytes, 0, line_feeds, &out);
+    enum pergidau_code code = pergidau_csv_record_extent(&state, bytes, 0, dialect, &out);
     while (code == PERGIDAU_INCOMPLETE && have < length) {
         HOLDS(out.length == 0 && state.passed == have);
         have += 1 + below(length - have);
-        code = pergidau_csv_record_extent(&state, bytes, have, line_feeds, &out);
+        code = pergidau_csv_record_extent(&state, bytes, have, dialect, &out);
     }
     enum pergidau_code whole =
-        pergidau_csv_record_partial(bytes, length, line_feeds, NULL, 0, NULL, 0, &record);
+        pergidau_csv_record_partial(bytes, length, dialect, NULL, 0, NULL, 0, &record);
     HOLDS(code == (whole == PERGIDAU_BUFFER_TOO_SMALL ? PERGIDAU_DONE : whole));
     HOLDS(out.fields == record.fields && out.text == record.text);
     HOLDS(out.length == record.length && out.error_offset == record.error_offset);

@@ -153,7 +153,7 @@ typedef enum pergidau_code head_end(struct pergidau_http_head_state *, const uin
                                     size_t *);
 
 /* Makes successive calls, each with `step` more bytes, and returns the last result. */
-static enum pergidau_code head_in_turn(head_end *find, const char *row, size_t length, size_t step,
+static enum pergidau_code head_in_turn(head_end *end_of, const char *row, size_t length, size_t step,
                                        size_t *out)
 {
     struct pergidau_http_head_state state = {0};
@@ -161,7 +161,7 @@ static enum pergidau_code head_in_turn(head_end *find, const char *row, size_t l
     for (size_t have = 0; code == PERGIDAU_INCOMPLETE && have <= length;
          have += length - have < step && have < length ? length - have : step) {
         uint8_t *bytes = copied(row, have);
-        code = find(&state, bytes, have, out);
+        code = end_of(&state, bytes, have, out);
         same("the scanned bytes", row, (long long)state.passed,
              code == PERGIDAU_INCOMPLETE ? (long long)have : (long long)*out);
         free(bytes);
@@ -170,27 +170,27 @@ static enum pergidau_code head_in_turn(head_end *find, const char *row, size_t l
 }
 
 /* A head of `whole` bytes is found in chunks of each size. */
-static void test_end(head_end *find, const char *row, size_t whole)
+static void test_end(head_end *end_of, const char *row, size_t whole)
 {
     size_t out = 1, length = strlen(row);
     for (size_t step = 1; step <= length; step++) {
-        same("a head", row, head_in_turn(find, row, length, step, &out), PERGIDAU_DONE);
+        same("a head", row, head_in_turn(end_of, row, length, step, &out), PERGIDAU_DONE);
         same("its end", row, (long long)out, (long long)whole);
     }
-    same("partial input", row, head_in_turn(find, row, whole - 1, 1, &out), PERGIDAU_INCOMPLETE);
+    same("partial input", row, head_in_turn(end_of, row, whole - 1, 1, &out), PERGIDAU_INCOMPLETE);
     same("no end", row, (long long)out, 0);
 }
 
 /* An invalid byte is found in chunks of each size. */
-static void test_no_end(head_end *find, const struct no_head *it)
+static void test_no_end(head_end *end_of, const struct no_head *it)
 {
     char row[64];
     size_t out = 1, place = strlen(it->front), length = joined(row, sizeof row, it);
     for (size_t step = 1; step <= length; step++) {
-        same("invalid head", row, head_in_turn(find, row, length, step, &out), PERGIDAU_INVALID);
+        same("invalid head", row, head_in_turn(end_of, row, length, step, &out), PERGIDAU_INVALID);
         same("its error offset", row, (long long)out, (long long)place);
     }
-    same("a prefix", row, head_in_turn(find, row, place, 1, &out), PERGIDAU_INCOMPLETE);
+    same("a prefix", row, head_in_turn(end_of, row, place, 1, &out), PERGIDAU_INCOMPLETE);
 }
 
 static void test_head_extents(void)
@@ -245,15 +245,16 @@ static void test_head_extents(void)
 /* ---- the ends of records */
 
 /* Makes successive calls, each with `step` more bytes, and returns the last result. */
-static enum pergidau_code record_in_turn(const char *row, size_t length, uint32_t line_feeds,
-                                         size_t step, struct pergidau_record *out)
+static enum pergidau_code record_in_turn(const char *row, size_t length,
+                                         const struct pergidau_csv_dialect *dialect, size_t step,
+                                         struct pergidau_record *out)
 {
     struct pergidau_csv_record_state state = {0};
     enum pergidau_code code = PERGIDAU_INCOMPLETE;
     for (size_t have = 0; code == PERGIDAU_INCOMPLETE && have <= length;
          have += length - have < step && have < length ? length - have : step) {
         uint8_t *bytes = copied(row, have);
-        code = pergidau_csv_record_extent(&state, bytes, have, line_feeds, out);
+        code = pergidau_csv_record_extent(&state, bytes, have, dialect, out);
         same("no error offset", row, (long long)out->error_offset,
              code == PERGIDAU_INVALID ? (long long)state.passed : 0);
         free(bytes);
@@ -266,7 +267,7 @@ static void test_record_extents(void)
     struct pergidau_record out;
     for (size_t i = 0; i < sizeof records / sizeof *records; i++) {
         const char *row = records[i].text;
-        uint32_t line_feeds = records[i].line_feeds;
+        const struct pergidau_csv_dialect *dialect = &csv_dialects[records[i].dialect];
         size_t length = strlen(row), whole = length - records[i].rest, text = 0;
         /* A record without its line ending is incomplete. */
         bool ended = whole > 0 && row[whole - 1] == '\n';
@@ -274,48 +275,51 @@ static void test_record_extents(void)
             text += strlen(records[i].fields[k]);
         }
         for (size_t step = 1; step <= length; step++) {
-            enum pergidau_code code = record_in_turn(row, length, line_feeds, step, &out);
+            enum pergidau_code code = record_in_turn(row, length, dialect, step, &out);
             same("a record", row, code, ended ? PERGIDAU_DONE : PERGIDAU_INCOMPLETE);
             same("its fields", row, (long long)out.fields,
                  ended ? (long long)records[i].count : 0);
             same("its text", row, (long long)out.text, ended ? (long long)text : 0);
             same("its length", row, (long long)out.length, ended ? (long long)whole : 0);
         }
-        same("partial input", row, record_in_turn(row, whole - 1, line_feeds, 1, &out),
+        same("partial input", row, record_in_turn(row, whole - 1, dialect, 1, &out),
              PERGIDAU_INCOMPLETE);
     }
     for (size_t i = 0; i < sizeof no_records / sizeof *no_records; i++) {
         const char *row = no_records[i].text;
-        uint32_t line_feeds = no_records[i].line_feeds;
+        const struct pergidau_csv_dialect *dialect = &csv_dialects[no_records[i].dialect];
         size_t length = strlen(row), begins = no_records[i].begins;
         for (size_t step = 1; step <= length; step++) {
-            same("invalid record", row, record_in_turn(row, length, line_feeds, step, &out),
+            same("invalid record", row, record_in_turn(row, length, dialect, step, &out),
                  begins < length ? PERGIDAU_INVALID : PERGIDAU_INCOMPLETE);
             same("its error offset", row, (long long)out.error_offset,
                  begins < length ? (long long)begins : 0);
         }
-        same("a prefix", row, record_in_turn(row, begins, line_feeds, 1, &out),
+        same("a prefix", row, record_in_turn(row, begins, dialect, 1, &out),
              PERGIDAU_INCOMPLETE);
     }
     struct pergidau_csv_record_state state = {0};
     const uint8_t *bytes = (const uint8_t *)"a,\"\"\r\n";
-    same("null", "state", pergidau_csv_record_extent(NULL, bytes, 6, 0, &out), PERGIDAU_NULL);
-    same("null", "record", pergidau_csv_record_extent(&state, NULL, 1, 0, &out), PERGIDAU_NULL);
-    same("null", "record", pergidau_csv_record_extent(&state, bytes, 6, 0, NULL), PERGIDAU_NULL);
+    const struct pergidau_csv_dialect *standard = csv_dialects;
+    same("null", "state", pergidau_csv_record_extent(NULL, bytes, 6, standard, &out), PERGIDAU_NULL);
+    same("null", "record", pergidau_csv_record_extent(&state, NULL, 1, standard, &out), PERGIDAU_NULL);
+    same("null", "record", pergidau_csv_record_extent(&state, bytes, 6, standard, NULL), PERGIDAU_NULL);
+    same("null", "dialect", pergidau_csv_record_extent(&state, bytes, 6, NULL, &out),
+         PERGIDAU_NULL);
     same("too long", "record",
-         pergidau_csv_record_extent(&state, bytes, (size_t)PTRDIFF_MAX + 1, 0, &out),
+         pergidau_csv_record_extent(&state, bytes, (size_t)PTRDIFF_MAX + 1, standard, &out),
          PERGIDAU_TOO_LONG);
-    same("nothing", "record", pergidau_csv_record_extent(&state, NULL, 0, 0, &out),
+    same("nothing", "record", pergidau_csv_record_extent(&state, NULL, 0, standard, &out),
          PERGIDAU_INCOMPLETE);
-    same("a state that continues", "record", pergidau_csv_record_extent(&state, bytes, 6, 0, &out),
+    same("a state that continues", "record", pergidau_csv_record_extent(&state, bytes, 6, standard, &out),
          PERGIDAU_DONE);
     same("its fields", "record", (long long)out.fields, 2);
     /* For an invalid state the result is unspecified, but only the input is read. */
     for (size_t place = 0; place < 8; place++) {
         state = (struct pergidau_csv_record_state){0, SIZE_MAX, SIZE_MAX, place};
-        (void)pergidau_csv_record_extent(&state, bytes, 6, 0, &out);
+        (void)pergidau_csv_record_extent(&state, bytes, 6, standard, &out);
         state = (struct pergidau_csv_record_state){SIZE_MAX, place, SIZE_MAX, place};
-        (void)pergidau_csv_record_extent(&state, bytes, 6, 1, &out);
+        (void)pergidau_csv_record_extent(&state, bytes, 6, &csv_dialects[LF], &out);
     }
 }
 

@@ -514,10 +514,17 @@ static void test_heads(void)
 
 enum { MOST_CSV = 4 };
 
-/* Records that end with a line feed, and records that end with CRLF. */
+/* Dialects: a comma and double quotes, for each line ending, and three others. */
+enum { CRLF, LF, EITHER, TABS, SEMICOLONS, BYTES };
+static const struct pergidau_csv_dialect csv_dialects[] = {
+    {',', '"', PERGIDAU_CSV_CRLF},  {',', '"', PERGIDAU_CSV_LF},     {',', '"', PERGIDAU_CSV_EITHER},
+    {'\t', '"', PERGIDAU_CSV_LF},   {';', '\'', PERGIDAU_CSV_EITHER}, {0xff, 1, PERGIDAU_CSV_CRLF},
+};
+
+/* Records in these dialects. */
 static const struct {
     const char *text;
-    uint32_t line_feeds;
+    size_t dialect;
     const char *fields[MOST_CSV];
     size_t count, rest;
 } records[] = {
@@ -527,25 +534,31 @@ static const struct {
     {"\"aaa\",\"b\"\"bb\",\"ccc\"", 0, {"aaa", "b\"bb", "ccc"}, 3, 0},
     {"a,\n\n", 1, {"a", ""}, 2, 1},
     {"\n", 1, {""}, 1, 0},
-    {"\"\"\"\"\n,", 7, {"\""}, 1, 1},
+    {"\"\"\"\"\n,", 1, {"\""}, 1, 1},
     {",,\"\",", 1, {"", "", "", ""}, 4, 0},
+    {"a,b\nc", EITHER, {"a", "b"}, 2, 1},
+    {"a,b\r\nc", EITHER, {"a", "b"}, 2, 1},
+    {"a,b\t\"c\t\"\n", TABS, {"a,b", "c\t"}, 2, 0},
+    {"\"a\";'b''\n;';\r\n\n", SEMICOLONS, {"\"a\"", "b'\n;", ""}, 3, 1},
+    {",\xff\1\xff\1\1\1\xff\"\r\n", BYTES, {",", "\xff\1", "\""}, 3, 0},
 };
 
 /* Texts that are not records, even with a line ending after them. Their first `begins` bytes can begin
  * a record; the next byte is the error, also for the partial function. */
 static const struct {
     const char *text;
-    uint32_t line_feeds;
+    size_t dialect;
     size_t begins;
 } no_records[] = {
     {"a\"", 1, 1},   {"\"a\"b", 1, 3}, {"a\r\n", 1, 1}, {"\"a\" ", 1, 3}, {"a\rb", 1, 1},
-    {"x\"y,z", 0, 1}, {"a\n\r\n", 0, 1}, {"a\rb", 0, 2},  {"b,\"\"\"", 7, 5},
+    {"x\"y,z", 0, 1}, {"a\n\r\n", 0, 1}, {"a\rb", 0, 2},  {"b,\"\"\"", 1, 5},
+    {"a\tb\"", TABS, 3}, {"a;'b'\"", SEMICOLONS, 5}, {"a\rb", EITHER, 2}, {"a\1", BYTES, 1},
 };
 
 static void test_record(size_t i)
 {
     const char *row = records[i].text;
-    uint32_t line_feeds = records[i].line_feeds;
+    const struct pergidau_csv_dialect *dialect = &csv_dialects[records[i].dialect];
     size_t length = strlen(row), count = records[i].count, bytes = 0, sum = 0;
     uint8_t *input = copied(row, length);
     struct pergidau_record out;
@@ -558,7 +571,7 @@ static void test_record(size_t i)
         exit(2);
     }
     same("csv_record", row,
-         pergidau_csv_record(input, length, line_feeds, text, bytes, places, count, &out),
+         pergidau_csv_record(input, length, dialect, text, bytes, places, count, &out),
          PERGIDAU_DONE);
     same("the length", row, (long long)out.length, (long long)(length - records[i].rest));
     same("the fields", row, (long long)out.fields, (long long)count);
@@ -570,12 +583,12 @@ static void test_record(size_t i)
         sum += places[k].length;
     }
     same("no entry", row,
-         pergidau_csv_record(input, length, line_feeds, text, bytes, places, count - 1, &out),
+         pergidau_csv_record(input, length, dialect, text, bytes, places, count - 1, &out),
          PERGIDAU_BUFFER_TOO_SMALL);
     same("required entries", row, (long long)out.fields, (long long)count);
     if (bytes > 0) {
         same("no byte", row,
-             pergidau_csv_record(input, length, line_feeds, text, bytes - 1, places, count, &out),
+             pergidau_csv_record(input, length, dialect, text, bytes - 1, places, count, &out),
              PERGIDAU_BUFFER_TOO_SMALL);
         same("required bytes", row, (long long)out.text, (long long)bytes);
     }
@@ -585,7 +598,7 @@ static void test_record(size_t i)
     for (size_t room = 0; room <= end; room++) {
         uint8_t *piece = copied(row, room);
         same("partial input", row,
-             pergidau_csv_record_partial(piece, room, line_feeds, text, bytes, places, count,
+             pergidau_csv_record_partial(piece, room, dialect, text, bytes, places, count,
                                            &out),
              ended && room == end ? PERGIDAU_DONE : PERGIDAU_INCOMPLETE);
         free(piece);
@@ -605,11 +618,11 @@ static void test_records(void)
         uint8_t text[8];
         struct pergidau_span places[MOST_CSV];
         const char *row = no_records[i].text;
-        uint32_t line_feeds = no_records[i].line_feeds;
+        const struct pergidau_csv_dialect *dialect = &csv_dialects[no_records[i].dialect];
         size_t length = strlen(row);
         uint8_t *input = copied(row, length);
         same("invalid record", row,
-             pergidau_csv_record(input, length, line_feeds, text, sizeof text, places, MOST_CSV,
+             pergidau_csv_record(input, length, dialect, text, sizeof text, places, MOST_CSV,
                                  &out),
              PERGIDAU_INVALID);
         same("the error offset", row, (long long)out.error_offset, (long long)no_records[i].begins);
@@ -617,7 +630,7 @@ static void test_records(void)
         for (size_t room = 0; room <= length; room++) {
             uint8_t *piece = copied(row, room);
             same("invalid partial record", row,
-                 pergidau_csv_record_partial(piece, room, line_feeds, text, sizeof text, places,
+                 pergidau_csv_record_partial(piece, room, dialect, text, sizeof text, places,
                                                MOST_CSV, &out),
                  room > no_records[i].begins ? PERGIDAU_INVALID : PERGIDAU_INCOMPLETE);
             same("the error offset on partial input", row, (long long)out.error_offset,
@@ -964,28 +977,61 @@ static void test_wrong_records(void)
     uint8_t text[1];
     struct pergidau_span places[1];
     struct pergidau_record out;
-    same("null", "record", pergidau_csv_record(NULL, 1, 0, text, 1, places, 1, &out),
+    const struct pergidau_csv_dialect *standard = csv_dialects;
+    same("null", "record", pergidau_csv_record(NULL, 1, standard, text, 1, places, 1, &out),
          PERGIDAU_NULL);
-    same("null", "record", pergidau_csv_record(bytes, 1, 0, NULL, 1, places, 1, &out),
+    same("null", "record", pergidau_csv_record(bytes, 1, standard, NULL, 1, places, 1, &out),
          PERGIDAU_NULL);
-    same("null", "record", pergidau_csv_record(bytes, 1, 0, text, 1, NULL, 1, &out),
+    same("null", "record", pergidau_csv_record(bytes, 1, standard, text, 1, NULL, 1, &out),
          PERGIDAU_NULL);
-    same("null", "record", pergidau_csv_record(bytes, 1, 0, text, 1, places, 1, NULL),
+    same("null", "record", pergidau_csv_record(bytes, 1, standard, text, 1, places, 1, NULL),
          PERGIDAU_NULL);
-    same("too long", "record", pergidau_csv_record(bytes, far, 0, text, 1, places, 1, &out),
+    same("too long", "record", pergidau_csv_record(bytes, far, standard, text, 1, places, 1, &out),
          PERGIDAU_TOO_LONG);
-    same("too long", "record", pergidau_csv_record(bytes, 1, 0, text, far, places, 1, &out),
+    same("too long", "record", pergidau_csv_record(bytes, 1, standard, text, far, places, 1, &out),
          PERGIDAU_TOO_LONG);
     same("too long", "record",
-         pergidau_csv_record(bytes, 1, 0, text, 1, places, (size_t)PTRDIFF_MAX / sizeof *places + 1,
+         pergidau_csv_record(bytes, 1, standard, text, 1, places, (size_t)PTRDIFF_MAX / sizeof *places + 1,
                              &out),
          PERGIDAU_TOO_LONG);
-    same("nothing", "record", pergidau_csv_record(NULL, 0, 0, NULL, 0, NULL, 0, &out),
+    same("nothing", "record", pergidau_csv_record(NULL, 0, standard, NULL, 0, NULL, 0, &out),
          PERGIDAU_INVALID);
-    same("no room", "record", pergidau_csv_record(bytes, 1, 0, NULL, 0, NULL, 0, &out),
+    same("no room", "record", pergidau_csv_record(bytes, 1, standard, NULL, 0, NULL, 0, &out),
          PERGIDAU_BUFFER_TOO_SMALL);
-    same("nothing", "record", pergidau_csv_record_partial(NULL, 0, 0, NULL, 0, NULL, 0, &out),
+    same("nothing", "record", pergidau_csv_record_partial(NULL, 0, standard, NULL, 0, NULL, 0, &out),
          PERGIDAU_INCOMPLETE);
+    same("null", "dialect", pergidau_csv_record(bytes, 1, NULL, text, 1, places, 1, &out),
+         PERGIDAU_NULL);
+    same("null", "dialect", pergidau_csv_record_partial(bytes, 1, NULL, text, 1, places, 1, &out),
+         PERGIDAU_NULL);
+    /* Two of the four bytes are equal, or there is no such line ending. */
+    static const struct pergidau_csv_dialect none[] = {
+        {'"', '"', PERGIDAU_CSV_LF}, {'\r', '"', PERGIDAU_CSV_LF}, {'\n', '"', PERGIDAU_CSV_CRLF},
+        {',', '\r', PERGIDAU_CSV_LF}, {',', '\n', PERGIDAU_CSV_EITHER},
+        {',', '"', (enum pergidau_csv_line_end)3}, {',', '"', (enum pergidau_csv_line_end)-1},
+    };
+    for (size_t i = 0; i < sizeof none / sizeof *none; i++) {
+        struct pergidau_csv_record_state state = {1, 2, 3, 4};
+        memset(&out, 0xab, sizeof out);
+        text[0] = 0xab;
+        same("an impossible dialect", "a",
+             pergidau_csv_record(bytes, 1, &none[i], text, 1, places, 1, &out),
+             PERGIDAU_INVALID_DIALECT);
+        same("no record", "a",
+             (long long)(out.fields | out.text | out.length | out.error_offset), 0);
+        same("an impossible dialect", "a",
+             pergidau_csv_record_partial(bytes, 1, &none[i], text, 1, places, 1, &out),
+             PERGIDAU_INVALID_DIALECT);
+        same("no byte", "a", text[0], 0xab);
+        memset(&out, 0xab, sizeof out);
+        same("an impossible dialect", "a",
+             pergidau_csv_record_extent(&state, bytes, 1, &none[i], &out),
+             PERGIDAU_INVALID_DIALECT);
+        same("no record", "a",
+             (long long)(out.fields | out.text | out.length | out.error_offset), 0);
+        same("the state", "a", state.passed == 1 && state.text == 2 && state.fields == 3
+                                   && state.place == 4, 1);
+    }
 }
 
 /* Invalid arguments: an error is returned, and nothing is read or written. */

@@ -1,10 +1,13 @@
-//! Records of comma-separated values (RFC 4180), from complete or partial input.
+//! Records of comma-separated values (RFC 4180) in any [`Dialect`], from complete or partial input.
 //!
 //! ```
-//! use pergidau::csv::{self, LineEnd};
+//! use pergidau::csv::{self, Dialect, LineEnd};
 //!
 //! let records: Result<Vec<_>, _> = csv::records(b"a,\"b, c\"\r\n1,2\r\n", LineEnd::CrLf).collect();
 //! assert_eq!(records?, [[b"a".to_vec(), b"b, c".to_vec()], [b"1".to_vec(), b"2".to_vec()]]);
+//! let spreadsheet = Dialect::standard().delimiter(b';').line_end(LineEnd::Either);
+//! let records: Result<Vec<_>, _> = csv::records(b"a;b,c\n1;2\r\n", spreadsheet).collect();
+//! assert_eq!(records?, [[b"a".to_vec(), b"b,c".to_vec()], [b"1".to_vec(), b"2".to_vec()]]);
 //! # Ok::<(), pergidau::Error>(())
 //! ```
 mod extent;
@@ -23,6 +26,77 @@ pub enum LineEnd {
     CrLf,
     /// Only a line feed.
     Lf,
+    /// Either of them, for each record anew.
+    Either,
+}
+
+/// A dialect: the byte between two fields, the byte around a quoted field, and what ends a record.
+///
+/// The delimiter, the quote, a carriage return and a line feed must be four different bytes;
+/// otherwise each function returns [`Error::InvalidDialect`]. The functions also take a
+/// [`LineEnd`], for the standard dialect with that line ending.
+///
+/// ```
+/// use pergidau::csv::{self, Dialect, LineEnd};
+/// use pergidau::{Error, Span};
+///
+/// let tabs = Dialect::standard().delimiter(b'\t').line_end(LineEnd::Lf);
+/// let (mut text, mut fields) = ([0; 64], [Span::default(); 8]);
+/// let record = csv::record(b"a,b\tc\n", tabs, &mut text, &mut fields)?;
+/// assert_eq!(record.fields().collect::<Vec<_>>(), [&b"a,b"[..], b"c"]);
+/// let none = csv::record(b"a", tabs.quote(b'\t'), &mut text, &mut fields);
+/// assert_eq!(none.unwrap_err(), Error::InvalidDialect);
+/// # Ok::<(), pergidau::Error>(())
+/// ```
+#[derive(Clone, Copy, Debug, PartialEq, Eq)]
+pub struct Dialect {
+    delimiter: u8,
+    quote: u8,
+    end: LineEnd,
+}
+
+impl Dialect {
+    /// Returns the dialect of RFC 4180: commas, double quotes, and carriage returns with line feeds.
+    pub const fn standard() -> Dialect {
+        Dialect { delimiter: b',', quote: b'"', end: LineEnd::CrLf }
+    }
+
+    /// Returns this dialect with another delimiter.
+    pub const fn delimiter(self, delimiter: u8) -> Dialect {
+        Dialect { delimiter, ..self }
+    }
+
+    /// Returns this dialect with another quote.
+    pub const fn quote(self, quote: u8) -> Dialect {
+        Dialect { quote, ..self }
+    }
+
+    /// Returns this dialect with another line ending.
+    pub const fn line_end(self, end: LineEnd) -> Dialect {
+        Dialect { end, ..self }
+    }
+
+    /// Returns the dialect as the exports take it.
+    fn given(self) -> exports::CsvDialect {
+        let line_ends = match self.end {
+            LineEnd::CrLf => exports::CSV_CRLF,
+            LineEnd::Lf => exports::CSV_LF,
+            LineEnd::Either => exports::CSV_EITHER,
+        };
+        exports::CsvDialect { delimiter: self.delimiter, quote: self.quote, line_ends }
+    }
+}
+
+impl Default for Dialect {
+    fn default() -> Dialect {
+        Dialect::standard()
+    }
+}
+
+impl From<LineEnd> for Dialect {
+    fn from(end: LineEnd) -> Dialect {
+        Dialect::standard().line_end(end)
+    }
 }
 
 /// A record: its fields, as slices of the buffer that they were written into.
@@ -54,7 +128,7 @@ impl<'i, 'b> Record<'i, 'b> {
 type Export = unsafe extern "C" fn(
     *const u8,
     usize,
-    u32,
+    *const exports::CsvDialect,
     *mut u8,
     usize,
     *mut Span,
@@ -66,18 +140,18 @@ type Export = unsafe extern "C" fn(
 fn write(
     export: Export,
     bytes: &[u8],
-    end: LineEnd,
+    dialect: Dialect,
     text: &mut [u8],
     fields: &mut [Span],
 ) -> Result<exports::Record, Error> {
     let mut out = exports::Record::default();
-    let line_feeds = u32::from(end == LineEnd::Lf);
+    let given = dialect.given();
     let (room, most) = (text.as_mut_ptr(), text.len());
     let (entries, count) = (fields.as_mut_ptr(), fields.len());
     // SAFETY: the pointers are those of live borrows, and the bytes are only read. The call takes up to
     // 4 KiB of stack (measured); where there is less, the thread's guard page ends the program.
     let code = unsafe {
-        export(bytes.as_ptr(), bytes.len(), line_feeds, room, most, entries, count, &mut out)
+        export(bytes.as_ptr(), bytes.len(), &given, room, most, entries, count, &mut out)
     };
     match code {
         exports::DONE => Ok(out),
@@ -102,15 +176,15 @@ fn shown<'i, 'b>(
 fn read<'i, 'b>(
     export: Export,
     bytes: &'i [u8],
-    end: LineEnd,
+    dialect: Dialect,
     text: &'b mut [u8],
     fields: &'b mut [Span],
 ) -> Result<Record<'i, 'b>, Error> {
-    let out = write(export, bytes, end, text, fields)?;
+    let out = write(export, bytes, dialect, text, fields)?;
     Ok(shown(bytes, &out, text, fields))
 }
 
-/// Parses one record of comma-separated values (RFC 4180), followed by a line ending or the end of
+/// Parses one record of comma-separated values (RFC 4180) in a dialect, followed by a line ending or the end of
 /// the input. Does not allocate.
 ///
 /// The contents of the fields are written into `text`, and their positions into `fields`. Empty
@@ -121,6 +195,7 @@ fn read<'i, 'b>(
 /// - [`Error::BufferTooSmall`] if a buffer is too small; it holds the required sizes.
 /// - [`Error::Invalid`] if `bytes` does not start with a record; it holds the offset of the first
 ///   invalid byte.
+/// - [`Error::InvalidDialect`] if there is no such dialect.
 ///
 /// ```
 /// use pergidau::csv::{self, LineEnd};
@@ -136,11 +211,11 @@ fn read<'i, 'b>(
 /// ```
 pub fn record<'i, 'b>(
     bytes: &'i [u8],
-    end: LineEnd,
+    dialect: impl Into<Dialect>,
     text: &'b mut [u8],
     fields: &'b mut [Span],
 ) -> Result<Record<'i, 'b>, Error> {
-    read(exports::exported_csv_record, bytes, end, text, fields)
+    read(exports::exported_csv_record, bytes, dialect.into(), text, fields)
 }
 
 /// Like [`record`], for partial input.
@@ -167,11 +242,11 @@ pub fn record<'i, 'b>(
 /// ```
 pub fn record_partial<'i, 'b>(
     bytes: &'i [u8],
-    end: LineEnd,
+    dialect: impl Into<Dialect>,
     text: &'b mut [u8],
     fields: &'b mut [Span],
 ) -> Result<Record<'i, 'b>, Error> {
-    read(exports::exported_csv_record_partial, bytes, end, text, fields)
+    read(exports::exported_csv_record_partial, bytes, dialect.into(), text, fields)
 }
 
 /// The records of a document, in buffers that grow as needed. [`next_record`](Records::next_record)
@@ -182,7 +257,7 @@ pub fn record_partial<'i, 'b>(
 pub struct Records<'i> {
     document: &'i [u8],
     left: &'i [u8],
-    end: LineEnd,
+    dialect: Dialect,
     text: Vec<u8>,
     fields: Vec<Span>,
 }
@@ -208,7 +283,7 @@ impl<'i> Records<'i> {
                 return None;
             }
             let (text, fields) = (&mut self.text, &mut self.fields);
-            match write(exports::exported_csv_record, left, self.end, text, fields) {
+            match write(exports::exported_csv_record, left, self.dialect, text, fields) {
                 Err(Error::BufferTooSmall(required)) => {
                     text.resize(required.bytes.max(text.len()), 0);
                     fields.resize(required.entries.max(fields.len()), Span::default());
@@ -259,6 +334,7 @@ impl core::iter::FusedIterator for Records<'_> {}
 /// # Ok::<(), pergidau::Error>(())
 /// ```
 #[cfg(feature = "alloc")]
-pub fn records(document: &[u8], end: LineEnd) -> Records<'_> {
-    Records { document, left: document, end, text: Vec::new(), fields: Vec::new() }
+pub fn records(document: &[u8], dialect: impl Into<Dialect>) -> Records<'_> {
+    let dialect = dialect.into();
+    Records { document, left: document, dialect, text: Vec::new(), fields: Vec::new() }
 }

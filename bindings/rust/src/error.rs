@@ -65,6 +65,9 @@ pub enum Error {
     MaxDepthTooLarge,
     /// The input is nested deeper than the depth limit, at this offset in bytes.
     TooDeep(usize),
+    /// The delimiter, the quote, a carriage return and a line feed of a dialect are not four
+    /// different bytes.
+    InvalidDialect,
     /// A code that this crate does not know, from another version of the library.
     Unknown(u32),
 }
@@ -111,6 +114,7 @@ impl Error {
             exports::INVALID_UTF8 => Error::InvalidUtf8,
             exports::BUFFER_TOO_SMALL => Error::BufferTooSmall(required),
             exports::MAX_DEPTH_TOO_LARGE => Error::MaxDepthTooLarge,
+            exports::INVALID_DIALECT => Error::InvalidDialect,
             code => Error::Unknown(code),
         }
     }
@@ -138,6 +142,9 @@ impl fmt::Display for Error {
                 write!(f, "depth limit too large: at most {MAX_DEPTH} levels are supported")
             }
             Error::TooDeep(offset) => write!(f, "nested too deep at offset {offset}"),
+            Error::InvalidDialect => f.write_str(
+                "impossible dialect: delimiter, quote, carriage return and line feed must differ",
+            ),
             Error::Unknown(code) => write!(f, "unknown code {code} from the library"),
         }
     }

@@ -37,6 +37,19 @@ pub const TOO_DEEP: u32 = 11;
 /// Number out of range. The function determines the range.
 pub const OUT_OF_RANGE: u32 = 12;
 
+/// Impossible dialect: delimiter, quote, carriage return and line feed must be four different
+/// bytes, and the line ending one of the constants.
+pub const INVALID_DIALECT: u32 = 13;
+
+/// A carriage return and a line feed end a record, as in RFC 4180.
+pub const CSV_CRLF: u32 = 0;
+
+/// Only a line feed ends a record.
+pub const CSV_LF: u32 = 1;
+
+/// Either of them ends a record, for each record anew.
+pub const CSV_EITHER: u32 = 2;
+
 /// The message has no body. The next message starts after its head.
 pub const HTTP_BODY_NONE: u32 = 0;
 
@@ -543,6 +556,19 @@ pub struct Record {
     pub error_offset: usize,
 }
 
+/// A dialect of comma-separated values. The delimiter, the quote, a carriage return and a line feed
+/// must be four different bytes. RFC 4180 has a comma, a double quote, and `CSV_CRLF`.
+#[repr(C)]
+#[derive(Clone, Copy, Debug, Default, PartialEq, Eq)]
+pub struct CsvDialect {
+    /// The byte between two fields.
+    pub delimiter: u8,
+    /// The byte around a quoted field. It is doubled within the quotes.
+    pub quote: u8,
+    /// What ends a record: one of the constants from `CSV_CRLF` to `CSV_EITHER`.
+    pub line_ends: u32,
+}
+
 /// The state of a search for the end of a record of comma-separated values. Only the functions of
 /// this library may interpret its fields. All zeros is the initial state; start from it for each
 /// record.
@@ -553,7 +579,7 @@ pub struct CsvRecordState {
     pub passed: usize,
     /// How many bytes the fields have that were passed, as they are meant.
     pub text: usize,
-    /// How many fields were passed with the comma after them.
+    /// How many fields were passed with the delimiter after them.
     pub fields: usize,
     /// The part of the record that is expected next; 0 at the start of a field.
     pub place: usize,
@@ -910,7 +936,7 @@ pub struct TomlResult {
 
 extern "C" {
     /// A symbol that only a library with these declarations has.
-    #[link_name = "pergidau_declared_8550428e"]
+    #[link_name = "pergidau_declared_4632b30c"]
     static VERSION_LINKED: c_char;
 
     /// Returns the version of the linked library.
@@ -952,13 +978,12 @@ extern "C" {
         out: *mut Number,
     ) -> u32;
 
-    /// Parses a record of comma-separated values (RFC 4180) at the start of `bytes`.
+    /// Parses a record of comma-separated values (RFC 4180), in any dialect, at the start of `bytes`.
     ///
-    /// The record is followed by a line ending or the end of the input. A line ending is a carriage
-    /// return and a line feed if `line_feeds` is 0, and a line feed otherwise. A quoted field may have
-    /// any bytes, and quotes in it are doubled. An unquoted field has no quote, comma, carriage return
-    /// or line feed. Empty input does not start with a record. A line ending on its own is a record of
-    /// one empty field.
+    /// The dialect determines the delimiter, the quote and the line endings. The record is followed by
+    /// a line ending or the end of the input. A quoted field may have any bytes, and quotes in it are
+    /// doubled. An unquoted field has no quote, delimiter, carriage return or line feed. Empty input
+    /// does not start with a record. A line ending on its own is a record of one empty field.
     ///
     /// `DONE`: the contents of the fields are written into `text`, one field after another, without the
     /// quotes around them and with doubled quotes replaced by single ones. The span of each field in
@@ -976,18 +1001,20 @@ extern "C" {
     /// `BUFFER_TOO_SMALL`: the record has more fields or more bytes than the buffers. The required
     /// numbers of both are written.
     ///
+    /// `INVALID_DIALECT`: there is no such dialect. Zeros are written.
+    ///
     /// After an error the buffers are unchanged.
     ///
     /// # Safety
     ///
-    /// `bytes` must be valid for reads of `bytes_length` bytes, which must not change during the call.
-    /// `text` must be valid for writes of `text_length` bytes, `fields` for writes of `fields_length`
-    /// entries, and `out` for writes of one record. None of these may overlap. The call needs 16 KiB of
-    /// stack.
+    /// `bytes` must be valid for reads of `bytes_length` bytes and `dialect` for reads of one dialect,
+    /// which must not change during the call. `text` must be valid for writes of `text_length` bytes,
+    /// `fields` for writes of `fields_length` entries, and `out` for writes of one record. None of
+    /// these may overlap. The call needs 16 KiB of stack.
     pub fn exported_csv_record(
         bytes: *const u8,
         bytes_length: usize,
-        line_feeds: u32,
+        dialect: *const CsvDialect,
         text: *mut u8,
         text_length: usize,
         fields: *mut Span,
@@ -1012,18 +1039,18 @@ extern "C" {
     /// `INVALID`: `bytes` does not start with a record, regardless of what follows. This is returned as
     /// soon as the first invalid byte is there, and its offset is written: 1 for `x"`.
     ///
-    /// `BUFFER_TOO_SMALL`: as for complete input.
+    /// `BUFFER_TOO_SMALL`, `INVALID_DIALECT`: as for complete input.
     ///
     /// # Safety
     ///
-    /// `bytes` must be valid for reads of `bytes_length` bytes, which must not change during the call.
-    /// `text` must be valid for writes of `text_length` bytes, `fields` for writes of `fields_length`
-    /// entries, and `out` for writes of one record. None of these may overlap. The call needs 16 KiB of
-    /// stack.
+    /// `bytes` must be valid for reads of `bytes_length` bytes and `dialect` for reads of one dialect,
+    /// which must not change during the call. `text` must be valid for writes of `text_length` bytes,
+    /// `fields` for writes of `fields_length` entries, and `out` for writes of one record. None of
+    /// these may overlap. The call needs 16 KiB of stack.
     pub fn exported_csv_record_partial(
         bytes: *const u8,
         bytes_length: usize,
-        line_feeds: u32,
+        dialect: *const CsvDialect,
         text: *mut u8,
         text_length: usize,
         fields: *mut Span,
@@ -1031,15 +1058,16 @@ extern "C" {
         out: *mut Record,
     ) -> u32;
 
-    /// Finds the end of a record of comma-separated values (RFC 4180) in input that arrives in chunks.
+    /// Finds the end of a record of comma-separated values (RFC 4180), in any dialect, in input that
+    /// arrives in chunks.
     ///
     /// No call looks again at bytes that an earlier call scanned, so all calls for a record take time
-    /// linear in its length. To obtain the fields, pass the bytes of the record and the same
-    /// `line_feeds` to `exported_csv_record`.
+    /// linear in its length. To obtain the fields, pass the bytes of the record and the same dialect to
+    /// `exported_csv_record`.
     ///
     /// For the first call, `state` must be all zeros. Each further call for the same record must have
     /// the state that the previous call left, the bytes of the previous call followed by more bytes,
-    /// and the same `line_feeds`.
+    /// and the same dialect.
     ///
     /// `DONE`: `bytes` starts with a record and its line ending, regardless of what follows. The number
     /// of its fields, their total length, and the length of the record are written. Reset the state to
@@ -1058,16 +1086,19 @@ extern "C" {
     /// `INVALID`: `bytes` does not start with a record, regardless of what follows. This is returned as
     /// soon as the first invalid byte is there, and its offset is written.
     ///
+    /// `INVALID_DIALECT`: there is no such dialect. The state is unchanged, and zeros are written.
+    ///
     /// # Safety
     ///
     /// `state` must be valid for reads and writes of one state, and `out` for writes of one record.
-    /// `bytes` must be valid for reads of `bytes_length` bytes, which must not change during the call.
-    /// None of these may overlap. The call needs 16 KiB of stack.
+    /// `bytes` must be valid for reads of `bytes_length` bytes and `dialect` for reads of one dialect,
+    /// which must not change during the call. None of these may overlap. The call needs 16 KiB of
+    /// stack.
     pub fn exported_csv_record_extent(
         state: *mut CsvRecordState,
         bytes: *const u8,
         bytes_length: usize,
-        line_feeds: u32,
+        dialect: *const CsvDialect,
         out: *mut Record,
     ) -> u32;
 

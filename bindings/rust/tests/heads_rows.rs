@@ -116,7 +116,9 @@ fn http_head_extent_of_pieces() {
 
 #[test]
 fn csv_extent_of_pieces() {
-    let rows: [(&[u8], LineEnd, usize, usize, usize); 4] = [
+    let rows: [(&[u8], LineEnd, usize, usize, usize); 6] = [
+        (b"a,b\r\nc", LineEnd::Either, 5, 2, 2),
+        (b"a,b\nc", LineEnd::Either, 4, 2, 2),
         (b"aaa,bbb,ccc\r\nzzz", LineEnd::CrLf, 13, 3, 9),
         (b"\"aaa\",\"b\r\nbb\",\"\"\r\n", LineEnd::CrLf, 18, 3, 8),
         (b"\"b\"\"bb\"\n,", LineEnd::Lf, 8, 1, 4),

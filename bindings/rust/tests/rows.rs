@@ -1,7 +1,7 @@
 //! Tables of the readers' tests, from Rust.
 // (rows of tables are tuples)
 #![allow(clippy::type_complexity)]
-use pergidau::csv::{self, LineEnd};
+use pergidau::csv::{self, Dialect, LineEnd};
 use pergidau::http::{self, Chunked, ChunkedError, Field, HeadError, Step};
 use pergidau::ini::{self, Entry};
 use pergidau::json::{self, Kind, Value};
@@ -228,6 +228,45 @@ fn csv_record_of_lines() {
     let (mut text, mut fields) = ([0; 3], [Span::default(); 2]);
     let small = csv::record(b"ab,cd", LineEnd::Lf, &mut text, &mut fields).unwrap_err();
     assert_eq!(small.to_string(), "buffer too small: 2 entries and 4 bytes required");
+}
+
+/// The standard dialect and the default are RFC 4180's; other bytes and line endings are chosen.
+#[test]
+fn csv_record_of_dialects() {
+    let standard = Dialect::standard();
+    assert_eq!(standard, Dialect::default());
+    assert_eq!(standard.line_end(LineEnd::Lf), LineEnd::Lf.into());
+    let quotes = standard.quote(b'\'').delimiter(b';').line_end(LineEnd::Either);
+    let rows: [(&[u8], Dialect, &[&[u8]], &[u8]); 6] = [
+        (b"a,\"b\"\r\nc", standard, &[b"a", b"b"], b"c"),
+        (b"a,b\tc\n", standard.delimiter(b'\t').line_end(LineEnd::Lf), &[b"a,b", b"c"], b""),
+        (b"a;'b''\n;';\r\n\n", quotes, &[b"a", b"b'\n;", b""], b"\n"),
+        (b"a;\"\n\r\n", quotes, &[b"a", b"\""], b"\r\n"),
+        (b"a,b\nc", LineEnd::Either.into(), &[b"a", b"b"], b"c"),
+        (b"\0\xff,\xff", standard.delimiter(0).quote(b'a'), &[b"", b"\xff,\xff"], b""),
+    ];
+    for (bytes, dialect, want, rest) in rows {
+        let (mut text, mut fields) = ([0; 16], [Span::default(); 4]);
+        let record = csv::record(bytes, dialect, &mut text, &mut fields).unwrap();
+        assert_eq!(record.fields().collect::<Vec<_>>(), want, "{bytes:?}");
+        assert_eq!(record.rest(), rest, "{bytes:?}");
+    }
+    for (bytes, offset) in [(&b"a;b'"[..], 3), (b"a;'b'c", 5), (b"a\rb", 2)] {
+        let refused = csv::record_partial(bytes, quotes, &mut [], &mut []).unwrap_err();
+        assert_eq!(refused, invalid(offset), "{bytes:?}");
+    }
+    for none in [standard.quote(b','), standard.delimiter(b'\r'), standard.quote(b'\n')] {
+        let (mut text, mut fields) = ([0; 16], [Span::default(); 4]);
+        let refused = csv::record(b"a", none, &mut text, &mut fields).unwrap_err();
+        assert_eq!(refused, Error::InvalidDialect);
+        assert!(refused.to_string().starts_with("impossible dialect"));
+        let refused = csv::record_partial(b"a", none, &mut text, &mut fields).unwrap_err();
+        assert_eq!(refused, Error::InvalidDialect);
+        assert_eq!(csv::Extent::new(none).advance(b"a"), Err(Error::InvalidDialect));
+        let all: Vec<_> = csv::records(b"a\nb\n", none).collect();
+        assert_eq!(all, [Err(Error::InvalidDialect)]);
+    }
+    assert_eq!(csv::records(b"a;b\r\n\nc\n", quotes).count(), 3);
 }
 
 #[test]

@@ -44,13 +44,10 @@ module _ (d : Dialect) (old new : RecordExtent) (bytes : List ℕ)
             subst R (sym is) (kept it more);
       }
 
-  pub tells_record : (other : Dialect) → d ≡ other → IsOf other (record_extent_of before) bytes
-      → TellsRecord other bytes code out after
-  tells_record other same here =
-      let P : Dialect → Type 0 = λ x. IsOf x (record_extent_of before) bytes in
+  pub tells_record : IsOf d (record_extent_of before) bytes → TellsRecord d bytes code out after
+  tells_record here =
       let R : RecordExtent → Type 0 = λ e. IsOf d e bytes in
-      let T : Dialect → Type 0 = λ x. TellsRecord x bytes code out after in
-      subst T same (tells_of (subst R (sym was) (subst P (sym same) here)))
+      tells_of (subst R (sym was) here)
 
 pub record_calls : (d : Dialect) (pieces : List (List ℕ)) (state : CsvRecordState)
     → RecordCalls d nothing [] pieces state

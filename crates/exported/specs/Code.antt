@@ -34,6 +34,9 @@ too_deep = 11
 abbrev pub out_of_range : ℕ
 out_of_range = 12
 
+abbrev pub invalid_dialect : ℕ
+invalid_dialect = 13
+
 -- the largest depth limit for JSON
 abbrev pub supported_depth : ℕ
 supported_depth = 512

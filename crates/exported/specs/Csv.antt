@@ -1,26 +1,32 @@
 -- Records of comma separated values, and where their fields are written.
-use Rattle.std.specs.Prelude.{◌≡◌, ◌⊎◌, ◌+◌, ℕ, List, [], length, zero, suc}
+use Rattle.std.specs.Prelude.{◌≡◌, ◌⊎◌, ◌+◌, ◌<◌, ℕ, List, [], length, zero, suc}
 use Rattle.format_csv_records.specs.Buffers.{places_of, text_of}
-use Rattle.format_csv_records.specs.Commas.{commas_by}
 use Rattle.format_csv_records.specs.Dialects.{IsRecord}
 use Rattle.format_csv_records.specs.Refused.{IsRefused}
 use Rattle.format_csv_records.specs.declared.dialect.Dialect.{Dialect}
 use Rattle.format_csv_records.specs.declared.dialect.LineEnds.{LineEnds}
-use Rattle.format_csv_records.specs.declared.dialect.LineEnds.TheVariants.{CrLf, Lf}
+use Rattle.format_csv_records.specs.declared.dialect.LineEnds.TheVariants.{CrLf, Either, Lf}
 use Rattle.format_csv_records.specs.declared.read.Reason.{Reason}
 use Rattle.exported.specs.Span.{span_of}
 use Rattle.exported.specs.declared.csv.Record.{Record}
+use Rattle.exported.specs.declared.csv.dialect.CsvDialect.{CsvDialect}
 use Rattle.exported.specs.declared.span.Span.{Span}
 
--- how lines end, for 0 and for other numbers
+-- the line endings of a number
 abbrev pub ends_of : ℕ → LineEnds
 ends_of zero = CrLf
-ends_of (suc n) = Lf
+ends_of (suc zero) = Lf
+ends_of (suc (suc n)) = Either
 
--- The dialect with commas, double quotes and these line endings. By the law
--- `a_record_is_one_of_commas` of `format_csv`, its records are those that `format_csv` parses.
-abbrev pub dialect_of : ℕ → Dialect
-dialect_of line_feeds = commas_by (ends_of line_feeds)
+-- `IsDialect given d`: `d` is the dialect that `given` describes.
+abbrev pub IsDialect : CsvDialect → Dialect → Type 0
+IsDialect given d = (given.line_ends < 3) × (d.delimiter ≡ given.delimiter)
+    × (d.quote ≡ given.quote) × (d.ends ≡ ends_of given.line_ends)
+
+-- There is such a dialect: the delimiter, the quote, the carriage return and the line feed are four
+-- bytes, and the line ending is known.
+abbrev pub HasDialect : CsvDialect → Type 0
+HasDialect given = (d : Dialect) × IsDialect given d
 
 -- No fields, no bytes of theirs, and no length.
 abbrev pub HasNoSizes : Record → Type 0

@@ -39,3 +39,7 @@ pub const TOO_DEEP: u32 = 11;
 
 /// Number out of range. The function determines the range.
 pub const OUT_OF_RANGE: u32 = 12;
+
+/// Impossible dialect: delimiter, quote, carriage return and line feed must be four different
+/// bytes, and the line ending one of the constants.
+pub const INVALID_DIALECT: u32 = 13;

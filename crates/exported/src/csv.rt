@@ -1,21 +1,25 @@
 //! Records of comma separated values.
 
-ghost use Rattle.std.specs.Prelude.{◌≡◌, ◌≤◌, ◌<◌, ◌⊎◌, length, take};
+ghost use Rattle.std.specs.Prelude.{◌≡◌, ◌≤◌, ◌<◌, ◌⊎◌, ◌↔◌, length, take};
 ghost use Rattle.format_csv_records.specs.Buffers.{IsForGood, IsSized, NoneForGood};
 ghost use Rattle.format_csv_records.specs.Buffers.{ShowsFields};
 ghost use Rattle.format_csv_records.specs.Dialects.{IsRecord};
 ghost use Rattle.format_csv_records.specs.Early.{IsPrefixOfNone, IsViablePrefix};
+ghost use Rattle.format_csv_records.specs.declared.dialect.Dialect.{Dialect};
 ghost use Rattle.exported.specs.Code.{buffer_too_small, done, incomplete, invalid};
-ghost use Rattle.exported.specs.Csv.{HasNoSizes, IsRefusedAt, NoRecord, ShowsRecord, WantsRecord};
-ghost use Rattle.exported.specs.Csv.{dialect_of};
+ghost use Rattle.exported.specs.Code.{invalid_dialect};
+ghost use Rattle.exported.specs.Csv.{HasDialect, HasNoSizes, IsDialect, IsRefusedAt, NoRecord};
+ghost use Rattle.exported.specs.Csv.{ShowsRecord, WantsRecord};
 ghost use Rattle.exported.specs.Span.{span_of};
 
+pub mod dialect;
 pub mod extent;
 
-use crate::code::{BUFFER_TOO_SMALL, DONE, INCOMPLETE, INVALID};
+use crate::code::{BUFFER_TOO_SMALL, DONE, INCOMPLETE, INVALID, INVALID_DIALECT};
+use crate::csv::dialect::{CsvDialect, dialect_of};
 use crate::span::Span;
 use format_csv_records::buffers::{RecordSize, record_size, write_fields};
-use format_csv_records::dialect::{Dialect, LineEnds};
+use format_csv_records::dialect::Dialect;
 
 /// The sizes of a record, or the offset of an error.
 #[repr(C)]
@@ -42,17 +46,6 @@ pub(crate) fn none_at(place: usize) -> Record
         length: 0,
         error_offset: place,
     }
-}
-
-/// Commas, double quotes, and what ends a line.
-pub(crate) fn dialect(line_feeds: u32) -> Dialect
-    ensures { result ≡ dialect_of line_feeds }
-{
-    let mut dialect = Dialect::standard();
-    if line_feeds != 0 {
-        dialect.ends = LineEnds::Lf;
-    }
-    dialect
 }
 
 /// Writes the fields of a record of this size, where there is room.
@@ -90,13 +83,44 @@ fn write_record(
     }
 }
 
-/// Parses a record of comma-separated values (RFC 4180) at the start of `bytes`.
+/// Parses a record of this dialect, as `exported_csv_record` does.
+#[inline(always)]
+fn read_record(
+    dialect: Dialect,
+    bytes: &[u8],
+    text: &mut [u8],
+    fields: &mut [Span],
+    out: &mut Record,
+) -> u32
+    ensures record { result ≡ done → ShowsRecord (IsRecord dialect) bytes.now out.new
+        (take out.new.text text.new) (take out.new.fields fields.new) }
+    ensures small { result ≡ buffer_too_small → WantsRecord (IsRecord dialect) bytes.now out.new }
+    ensures room { result ≡ buffer_too_small
+        → (length fields.old < out.new.fields) ⊎ (length text.old < out.new.text) }
+    ensures kept { (result ≡ done → ⊥) → (fields.new ≡ fields.old) × (text.new ≡ text.old) }
+    ensures refused { result ≡ invalid → NoRecord dialect bytes.now
+        × IsRefusedAt dialect bytes.now out.new.error_offset }
+    ensures nowhere { (result ≡ invalid → ⊥) → out.new.error_offset ≡ 0 }
+    ensures sizes { result ≡ invalid → HasNoSizes out.new }
+    ensures codes { (result ≡ done) ⊎ ((result ≡ buffer_too_small) ⊎ (result ≡ invalid)) }
+{
+    *out = none_at(0);
+    match record_size(dialect, bytes) {
+        Ok(Some(size)) => write_record(dialect, bytes, size, text, fields, out),
+        Ok(None) => INVALID,
+        Err(fault) => {
+            *out = none_at(fault.offset);
+            INVALID
+        }
+    }
+}
+
+/// Parses a record of comma-separated values (RFC 4180), in any dialect, at the start of `bytes`.
 ///
-/// The record is followed by a line ending or the end of the input. A line ending is a carriage
-/// return and a line feed if `line_feeds` is 0, and a line feed otherwise. A quoted field may have
-/// any bytes, and quotes in it are doubled. An unquoted field has no quote, comma, carriage return
-/// or line feed. Empty input does not start with a record. A line ending on its own is a record of
-/// one empty field.
+/// The dialect determines the delimiter, the quote and the line endings. The record is followed by
+/// a line ending or the end of the input. A quoted field may have any bytes, and quotes in it are
+/// doubled. An unquoted field has no quote, delimiter, carriage return or line feed. Empty input
+/// does not start with a record. A line ending on its own is a record of one empty field.
 ///
 /// `DONE`: the contents of the fields are written into `text`, one field after another, without the
 /// quotes around them and with doubled quotes replaced by single ones. The span of each field in
@@ -114,41 +138,91 @@ fn write_record(
 /// `BUFFER_TOO_SMALL`: the record has more fields or more bytes than the buffers. The required
 /// numbers of both are written.
 ///
+/// `INVALID_DIALECT`: there is no such dialect. Zeros are written.
+///
 /// After an error the buffers are unchanged.
 ///
 /// # Safety
 ///
-/// `bytes` must be valid for reads of `bytes_length` bytes, which must not change during the call.
-/// `text` must be valid for writes of `text_length` bytes, `fields` for writes of `fields_length`
-/// entries, and `out` for writes of one record. None of these may overlap. The call needs 16 KiB of
-/// stack.
+/// `bytes` must be valid for reads of `bytes_length` bytes and `dialect` for reads of one dialect,
+/// which must not change during the call. `text` must be valid for writes of `text_length` bytes,
+/// `fields` for writes of `fields_length` entries, and `out` for writes of one record. None of
+/// these may overlap. The call needs 16 KiB of stack.
 #[unsafe(no_mangle)]
 pub extern "C" fn exported_csv_record(
     bytes: &[u8],
-    line_feeds: u32,
+    dialect: &CsvDialect,
     text: &mut [u8],
     fields: &mut [Span],
     out: &mut Record,
 ) -> u32
-    ensures record { result ≡ done
-        → ShowsRecord (IsRecord (dialect_of line_feeds)) bytes.now out.new
+    ensures record { result ≡ done → (d : Dialect) → IsDialect dialect.now d
+        → ShowsRecord (IsRecord d) bytes.now out.new
         (take out.new.text text.new) (take out.new.fields fields.new) }
-    ensures small { result ≡ buffer_too_small
-        → WantsRecord (IsRecord (dialect_of line_feeds)) bytes.now out.new
-        × ((length fields.old < out.new.fields) ⊎ (length text.old < out.new.text)) }
+    ensures small { result ≡ buffer_too_small → (d : Dialect) → IsDialect dialect.now d
+        → WantsRecord (IsRecord d) bytes.now out.new }
+    ensures room { result ≡ buffer_too_small
+        → (length fields.old < out.new.fields) ⊎ (length text.old < out.new.text) }
     ensures kept { (result ≡ done → ⊥) → (fields.new ≡ fields.old) × (text.new ≡ text.old) }
-    ensures refused { result ≡ invalid → NoRecord (dialect_of line_feeds) bytes.now
-        × IsRefusedAt (dialect_of line_feeds) bytes.now out.new.error_offset }
+    ensures refused { result ≡ invalid → (d : Dialect) → IsDialect dialect.now d
+        → NoRecord d bytes.now × IsRefusedAt d bytes.now out.new.error_offset }
+    ensures impossible { (result ≡ invalid_dialect) ↔ (HasDialect dialect.now → ⊥) }
     ensures nowhere { (result ≡ invalid → ⊥) → out.new.error_offset ≡ 0 }
-    ensures sizes { result ≡ invalid → HasNoSizes out.new }
-    ensures codes { (result ≡ done) ⊎ ((result ≡ buffer_too_small) ⊎ (result ≡ invalid)) }
+    ensures sizes { (result ≡ invalid → HasNoSizes out.new)
+        × (result ≡ invalid_dialect → HasNoSizes out.new) }
+    ensures codes { (result ≡ done) ⊎ ((result ≡ buffer_too_small) ⊎ ((result ≡ invalid)
+        ⊎ (result ≡ invalid_dialect))) }
+{
+    match dialect_of(*dialect) {
+        Some(dialect) => read_record(dialect, bytes, text, fields, out),
+        None => {
+            *out = none_at(0);
+            INVALID_DIALECT
+        }
+    }
+}
+
+/// Parses a record of this dialect from partial input, as `exported_csv_record_partial` does.
+#[inline(always)]
+fn read_partial(
+    dialect: Dialect,
+    bytes: &[u8],
+    text: &mut [u8],
+    fields: &mut [Span],
+    out: &mut Record,
+) -> u32
+    requires { dialect.quote < 256 }
+    ensures record { result ≡ done → ShowsRecord (IsForGood dialect) bytes.now out.new
+        (take out.new.text text.new) (take out.new.fields fields.new) }
+    ensures small { result ≡ buffer_too_small → WantsRecord (IsForGood dialect) bytes.now out.new }
+    ensures room { result ≡ buffer_too_small
+        → (length fields.old < out.new.fields) ⊎ (length text.old < out.new.text) }
+    ensures kept { (result ≡ done → ⊥) → (fields.new ≡ fields.old) × (text.new ≡ text.old) }
+    ensures refused { result ≡ invalid → IsPrefixOfNone dialect bytes.now
+        × IsRefusedAt dialect bytes.now out.new.error_offset
+        × (out.new.error_offset < length bytes.now) }
+    ensures nowhere { (result ≡ invalid → ⊥) → out.new.error_offset ≡ 0 }
+    ensures sizes { (result ≡ invalid → HasNoSizes out.new)
+        × (result ≡ incomplete → HasNoSizes out.new) }
+    ensures incomplete { result ≡ incomplete → NoneForGood dialect bytes.now
+        × IsViablePrefix dialect bytes.now }
+    ensures codes { (result ≡ done) ⊎ ((result ≡ buffer_too_small) ⊎ ((result ≡ invalid)
+        ⊎ (result ≡ incomplete))) }
 {
     *out = none_at(0);
-    let dialect = dialect(line_feeds);
     match record_size(dialect, bytes) {
-        Ok(Some(size)) => write_record(dialect, bytes, size, text, fields, out),
-        Ok(None) => INVALID,
+        Ok(Some(size)) => {
+            if size.ended {
+                write_record(dialect, bytes, size, text, fields, out)
+            } else {
+                INCOMPLETE
+            }
+        }
+        Ok(None) => INCOMPLETE,
         Err(fault) => {
+            if fault.offset >= bytes.len() {
+                return INCOMPLETE;
+            }
             *out = none_at(fault.offset);
             INVALID
         }
@@ -172,57 +246,48 @@ pub extern "C" fn exported_csv_record(
 /// `INVALID`: `bytes` does not start with a record, regardless of what follows. This is returned as
 /// soon as the first invalid byte is there, and its offset is written: 1 for `x"`.
 ///
-/// `BUFFER_TOO_SMALL`: as for complete input.
+/// `BUFFER_TOO_SMALL`, `INVALID_DIALECT`: as for complete input.
 ///
 /// # Safety
 ///
-/// `bytes` must be valid for reads of `bytes_length` bytes, which must not change during the call.
-/// `text` must be valid for writes of `text_length` bytes, `fields` for writes of `fields_length`
-/// entries, and `out` for writes of one record. None of these may overlap. The call needs 16 KiB of
-/// stack.
+/// `bytes` must be valid for reads of `bytes_length` bytes and `dialect` for reads of one dialect,
+/// which must not change during the call. `text` must be valid for writes of `text_length` bytes,
+/// `fields` for writes of `fields_length` entries, and `out` for writes of one record. None of
+/// these may overlap. The call needs 16 KiB of stack.
 #[unsafe(no_mangle)]
 pub extern "C" fn exported_csv_record_partial(
     bytes: &[u8],
-    line_feeds: u32,
+    dialect: &CsvDialect,
     text: &mut [u8],
     fields: &mut [Span],
     out: &mut Record,
 ) -> u32
-    ensures record { result ≡ done
-        → ShowsRecord (IsForGood (dialect_of line_feeds)) bytes.now out.new
+    ensures record { result ≡ done → (d : Dialect) → IsDialect dialect.now d
+        → ShowsRecord (IsForGood d) bytes.now out.new
         (take out.new.text text.new) (take out.new.fields fields.new) }
-    ensures small { result ≡ buffer_too_small
-        → WantsRecord (IsForGood (dialect_of line_feeds)) bytes.now out.new
-        × ((length fields.old < out.new.fields) ⊎ (length text.old < out.new.text)) }
+    ensures small { result ≡ buffer_too_small → (d : Dialect) → IsDialect dialect.now d
+        → WantsRecord (IsForGood d) bytes.now out.new }
+    ensures room { result ≡ buffer_too_small
+        → (length fields.old < out.new.fields) ⊎ (length text.old < out.new.text) }
     ensures kept { (result ≡ done → ⊥) → (fields.new ≡ fields.old) × (text.new ≡ text.old) }
-    ensures refused { result ≡ invalid → IsPrefixOfNone (dialect_of line_feeds) bytes.now
-        × IsRefusedAt (dialect_of line_feeds) bytes.now out.new.error_offset
-        × (out.new.error_offset < length bytes.now) }
+    ensures refused { result ≡ invalid → (d : Dialect) → IsDialect dialect.now d
+        → IsPrefixOfNone d bytes.now × IsRefusedAt d bytes.now out.new.error_offset }
+    ensures within { result ≡ invalid → out.new.error_offset < length bytes.now }
+    ensures impossible { (result ≡ invalid_dialect) ↔ (HasDialect dialect.now → ⊥) }
     ensures nowhere { (result ≡ invalid → ⊥) → out.new.error_offset ≡ 0 }
     ensures sizes { (result ≡ invalid → HasNoSizes out.new)
-        × (result ≡ incomplete → HasNoSizes out.new) }
-    ensures incomplete { result ≡ incomplete → NoneForGood (dialect_of line_feeds) bytes.now
-        × IsViablePrefix (dialect_of line_feeds) bytes.now }
+        × ((result ≡ incomplete → HasNoSizes out.new)
+        × (result ≡ invalid_dialect → HasNoSizes out.new)) }
+    ensures incomplete { result ≡ incomplete → (d : Dialect) → IsDialect dialect.now d
+        → NoneForGood d bytes.now × IsViablePrefix d bytes.now }
     ensures codes { (result ≡ done) ⊎ ((result ≡ buffer_too_small) ⊎ ((result ≡ invalid)
-        ⊎ (result ≡ incomplete))) }
+        ⊎ ((result ≡ incomplete) ⊎ (result ≡ invalid_dialect)))) }
 {
-    *out = none_at(0);
-    let dialect = dialect(line_feeds);
-    match record_size(dialect, bytes) {
-        Ok(Some(size)) => {
-            if size.ended {
-                write_record(dialect, bytes, size, text, fields, out)
-            } else {
-                INCOMPLETE
-            }
-        }
-        Ok(None) => INCOMPLETE,
-        Err(fault) => {
-            if fault.offset >= bytes.len() {
-                return INCOMPLETE;
-            }
-            *out = none_at(fault.offset);
-            INVALID
+    match dialect_of(*dialect) {
+        Some(dialect) => read_partial(dialect, bytes, text, fields, out),
+        None => {
+            *out = none_at(0);
+            INVALID_DIALECT
         }
     }
 }

@@ -1,5 +1,5 @@
 //! Where records end.
-use super::LineEnd;
+use super::Dialect;
 use crate::{exports, Error, RequiredSize, NOTHING};
 
 /// How much the record has that an [`Extent`] found.
@@ -39,13 +39,13 @@ pub struct Size {
 #[derive(Clone, Debug, Default, PartialEq, Eq)]
 pub struct Extent {
     state: exports::CsvRecordState,
-    end: LineEnd,
+    dialect: Dialect,
 }
 
 impl Extent {
-    /// Returns the initial state for a record with line endings `end`.
-    pub fn new(end: LineEnd) -> Extent {
-        Extent { state: exports::CsvRecordState::default(), end }
+    /// Returns the initial state for a record of this dialect.
+    pub fn new(dialect: impl Into<Dialect>) -> Extent {
+        Extent { state: exports::CsvRecordState::default(), dialect: dialect.into() }
     }
 
     /// Returns the size of the record at the start of `bytes`, if its line ending is there. The
@@ -60,10 +60,11 @@ impl Extent {
     /// # Errors
     ///
     /// [`Error::Invalid`] if `bytes` does not start with a record, regardless of what follows; it
-    /// holds the offset of the first invalid byte.
+    /// holds the offset of the first invalid byte. [`Error::InvalidDialect`] if there is no such
+    /// dialect.
     pub fn advance(&mut self, bytes: &[u8]) -> Result<Option<Size>, Error> {
         let mut out = exports::Record::default();
-        let line_feeds = u32::from(self.end == LineEnd::Lf);
+        let given = self.dialect.given();
         let state = &mut self.state;
         // SAFETY: the pointers are those of live borrows, and the bytes are only read. The call takes up
         // to 4 KiB of stack (measured); where there is less, the thread's guard page ends the program.
@@ -72,7 +73,7 @@ impl Extent {
                 state,
                 bytes.as_ptr(),
                 bytes.len(),
-                line_feeds,
+                &given,
                 &mut out,
             )
         };

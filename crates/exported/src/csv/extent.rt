@@ -1,16 +1,19 @@
 //! The end of a record of comma-separated values in partial input.
 
-ghost use Rattle.std.specs.Prelude.{◌≡◌, ◌⊎◌, ◌++◌, [], List, ℕ};
+ghost use Rattle.std.specs.Prelude.{◌≡◌, ◌⊎◌, ◌↔◌, ◌++◌, [], List, ℕ};
 ghost use Rattle.format_csv_records.specs.Extents.{IsOf};
-ghost use Rattle.exported.specs.Code.{done, incomplete, invalid};
-ghost use Rattle.exported.specs.Csv.{dialect_of};
+ghost use Rattle.format_csv_records.specs.declared.dialect.Dialect.{Dialect};
+ghost use Rattle.exported.specs.Code.{done, incomplete, invalid, invalid_dialect};
+ghost use Rattle.exported.specs.Csv.{HasDialect, HasNoSizes, IsDialect};
 ghost use Rattle.exported.specs.CsvExtent.{RecordCalls, TellsRecord, nothing, place_at};
 ghost use Rattle.exported.specs.CsvExtent.{record_extent_of};
 ghost use Rattle.exported.specs.Turns.{all_of};
 ghost use Rattle.exported.specs.declared.csv.extent.CsvRecordState.{CsvRecordState};
 
-use crate::code::{DONE, INCOMPLETE, INVALID};
-use crate::csv::{Record, dialect, none_at};
+use crate::code::{DONE, INCOMPLETE, INVALID, INVALID_DIALECT};
+use crate::csv::dialect::{CsvDialect, dialect_of};
+use crate::csv::{Record, none_at};
+use format_csv_records::dialect::Dialect;
 use format_csv_records::extent::{RecordExtent, RecordPlace};
 
 /// The state of a search for the end of a record of comma-separated values. Only the functions of
@@ -23,7 +26,7 @@ pub struct CsvRecordState {
     pub passed: usize,
     /// How many bytes the fields have that were passed, as they are meant.
     pub text: usize,
-    /// How many fields were passed with the comma after them.
+    /// How many fields were passed with the delimiter after them.
     pub fields: usize,
     /// The part of the record that is expected next; 0 at the start of a field.
     pub place: usize,
@@ -81,51 +84,13 @@ fn state_at(extent: RecordExtent) -> CsvRecordState
     }
 }
 
-/// Finds the end of a record of comma-separated values (RFC 4180) in input that arrives in chunks.
-///
-/// No call looks again at bytes that an earlier call scanned, so all calls for a record take time
-/// linear in its length. To obtain the fields, pass the bytes of the record and the same
-/// `line_feeds` to `exported_csv_record`.
-///
-/// For the first call, `state` must be all zeros. Each further call for the same record must have
-/// the state that the previous call left, the bytes of the previous call followed by more bytes,
-/// and the same `line_feeds`.
-///
-/// `DONE`: `bytes` starts with a record and its line ending, regardless of what follows. The number
-/// of its fields, their total length, and the length of the record are written. Reset the state to
-/// zeros for the next record.
-///
-/// `INCOMPLETE`: `bytes` contains no record with its line ending, and at most three more bytes can
-/// complete one. A quoted field without a closing quote never ends, so the caller must limit how
-/// many bytes are buffered. The last record may have no line ending: at the end of the input, parse
-/// it with `exported_csv_record`.
-///
-/// If `state` belongs to other bytes or was modified, the result may be wrong, but nothing outside
-/// `bytes` is read.
-///
-/// # Errors
-///
-/// `INVALID`: `bytes` does not start with a record, regardless of what follows. This is returned as
-/// soon as the first invalid byte is there, and its offset is written.
-///
-/// # Safety
-///
-/// `state` must be valid for reads and writes of one state, and `out` for writes of one record.
-/// `bytes` must be valid for reads of `bytes_length` bytes, which must not change during the call.
-/// None of these may overlap. The call needs 16 KiB of stack.
-#[unsafe(no_mangle)]
-pub extern "C" fn exported_csv_record_extent(
-    state: &mut CsvRecordState,
-    bytes: &[u8],
-    line_feeds: u32,
-    out: &mut Record,
-) -> u32
-    ensures told { IsOf (dialect_of line_feeds) (record_extent_of state.old) bytes.now
-        → TellsRecord (dialect_of line_feeds) bytes.now result out.new state.new }
+/// Finds the end of a record of this dialect, as `exported_csv_record_extent` does.
+fn find_end(dialect: Dialect, state: &mut CsvRecordState, bytes: &[u8], out: &mut Record) -> u32
+    ensures told { IsOf dialect (record_extent_of state.old) bytes.now
+        → TellsRecord dialect bytes.now result out.new state.new }
     ensures nowhere { (result ≡ invalid → ⊥) → out.new.error_offset ≡ 0 }
     ensures codes { (result ≡ done) ⊎ ((result ≡ incomplete) ⊎ (result ≡ invalid)) }
 {
-    let dialect = dialect(line_feeds);
     let mut extent = extent_at(*state);
     let answer = extent.advance(dialect, bytes);
     *state = state_at(extent);
@@ -150,14 +115,75 @@ pub extern "C" fn exported_csv_record_extent(
     }
 }
 
+/// Finds the end of a record of comma-separated values (RFC 4180), in any dialect, in input that
+/// arrives in chunks.
+///
+/// No call looks again at bytes that an earlier call scanned, so all calls for a record take time
+/// linear in its length. To obtain the fields, pass the bytes of the record and the same dialect to
+/// `exported_csv_record`.
+///
+/// For the first call, `state` must be all zeros. Each further call for the same record must have
+/// the state that the previous call left, the bytes of the previous call followed by more bytes,
+/// and the same dialect.
+///
+/// `DONE`: `bytes` starts with a record and its line ending, regardless of what follows. The number
+/// of its fields, their total length, and the length of the record are written. Reset the state to
+/// zeros for the next record.
+///
+/// `INCOMPLETE`: `bytes` contains no record with its line ending, and at most three more bytes can
+/// complete one. A quoted field without a closing quote never ends, so the caller must limit how
+/// many bytes are buffered. The last record may have no line ending: at the end of the input, parse
+/// it with `exported_csv_record`.
+///
+/// If `state` belongs to other bytes or was modified, the result may be wrong, but nothing outside
+/// `bytes` is read.
+///
+/// # Errors
+///
+/// `INVALID`: `bytes` does not start with a record, regardless of what follows. This is returned as
+/// soon as the first invalid byte is there, and its offset is written.
+///
+/// `INVALID_DIALECT`: there is no such dialect. The state is unchanged, and zeros are written.
+///
+/// # Safety
+///
+/// `state` must be valid for reads and writes of one state, and `out` for writes of one record.
+/// `bytes` must be valid for reads of `bytes_length` bytes and `dialect` for reads of one dialect,
+/// which must not change during the call. None of these may overlap. The call needs 16 KiB of
+/// stack.
+#[unsafe(no_mangle)]
+pub extern "C" fn exported_csv_record_extent(
+    state: &mut CsvRecordState,
+    bytes: &[u8],
+    dialect: &CsvDialect,
+    out: &mut Record,
+) -> u32
+    ensures told { (d : Dialect) → IsDialect dialect.now d
+        → IsOf d (record_extent_of state.old) bytes.now
+        → TellsRecord d bytes.now result out.new state.new }
+    ensures impossible { (result ≡ invalid_dialect) ↔ (HasDialect dialect.now → ⊥) }
+    ensures kept { result ≡ invalid_dialect → (state.new ≡ state.old) × HasNoSizes out.new }
+    ensures nowhere { (result ≡ invalid → ⊥) → out.new.error_offset ≡ 0 }
+    ensures codes { (result ≡ done) ⊎ ((result ≡ incomplete) ⊎ ((result ≡ invalid)
+        ⊎ (result ≡ invalid_dialect))) }
+{
+    match dialect_of(*dialect) {
+        Some(dialect) => find_end(dialect, state, bytes, out),
+        None => {
+            *out = none_at(0);
+            INVALID_DIALECT
+        }
+    }
+}
+
 /// States that successive calls of `exported_csv_record_extent` give the result of one call. The
 /// first call starts with zeros, and each further call has the state that the previous one left,
-/// its bytes followed by another chunk, and the same line endings. If all calls return
+/// its bytes followed by another chunk, and the same dialect. If all calls return
 /// `INCOMPLETE`, the last state is a state of these bytes, regardless of what follows. So the next
 /// call returns the result that a call with zeros returns for all of its bytes.
 pub fn calls_in_turn_are_of_their_bytes()
-    ensures { (line_feeds : ℕ) (pieces : List (List ℕ)) (state : CsvRecordState)
-        → RecordCalls (dialect_of line_feeds) nothing [] pieces state
+    ensures { (d : Dialect) (pieces : List (List ℕ)) (state : CsvRecordState)
+        → RecordCalls d nothing [] pieces state
         → (more : List ℕ)
-        → IsOf (dialect_of line_feeds) (record_extent_of state) (all_of pieces ++ more) }
+        → IsOf d (record_extent_of state) (all_of pieces ++ more) }
 {}

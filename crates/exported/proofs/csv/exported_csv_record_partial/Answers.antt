@@ -1,32 +1,28 @@
-use Rattle.std.proofs.Common.{arith}
-use Rattle.exported.proofs.Records.{nothing_may, refused_may, shown_for_good, some_may}
-use Rattle.exported.proofs.Records.{wanted_for_good}
+use Rattle.std.proofs.Common.{arith, refl}
 use Rattle.exported.proofs.csv.exported_csv_record_partial.Goals as goal
 
-pub returns-then-size-clause-record : goal.returns-then-size-clause-record
-returns-then-size-clause-record c is = shown_for_good c.dialect-dialect.result c.args.line_feeds
-    c.dialect-dialect.ensures c.args.bytes.now c.in-Ok-Some.size c.write_record.new.out
-    c.write_record.ensures.sized c.if-size.true _ _ (c.write_record.ensures.record is)
+pub returns-in-Some-clause-record : goal.returns-in-Some-clause-record
+returns-in-Some-clause-record c is d this =
+    rw (c.in-Some.ensures.only.1 d this) at (c.read_partial.ensures.record is)
 
-pub returns-then-size-clause-small : goal.returns-then-size-clause-small
-returns-then-size-clause-small c is = (
-  wanted_for_good c.dialect-dialect.result c.args.line_feeds c.dialect-dialect.ensures
-      c.args.bytes.now c.in-Ok-Some.size c.write_record.new.out c.write_record.ensures.sized
-      c.if-size.true (rw c.in-Ok-Some.field-0-is at c.in-Ok-Some.ensures),
-  c.write_record.ensures.small is,
+pub returns-in-Some-clause-small : goal.returns-in-Some-clause-small
+returns-in-Some-clause-small c is d this =
+    rw (c.in-Some.ensures.only.1 d this) at (c.read_partial.ensures.small is)
+
+pub returns-in-Some-clause-incomplete : goal.returns-in-Some-clause-incomplete
+returns-in-Some-clause-incomplete c is d this =
+    rw (c.in-Some.ensures.only.1 d this) at (c.read_partial.ensures.incomplete is)
+
+pub returns-in-Some-clause-impossible : goal.returns-in-Some-clause-impossible
+returns-in-Some-clause-impossible c = (
+  λ is. absurd (omega (arith, is, c.read_partial.ensures.codes)),
+  λ none. absurd (none (c.in-Some.dialect, c.in-Some.ensures.only.0)),
 )
 
-pub returns-else-size-clause-incomplete : goal.returns-else-size-clause-incomplete
-returns-else-size-clause-incomplete c _ = some_may c.dialect-dialect.result c.args.line_feeds
-    c.dialect-dialect.ensures c.args.bytes.now c.in-Ok-Some.size
-    (rw c.in-Ok-Some.field-0-is at c.in-Ok-Some.ensures) c.if-size.false
+pub returns-in-None-clause-impossible : goal.returns-in-None-clause-impossible
+returns-in-None-clause-impossible c = (λ _. c.in-None.ensures.only, λ _. refl)
 
-pub returns-in-Ok-None-clause-incomplete : goal.returns-in-Ok-None-clause-incomplete
-returns-in-Ok-None-clause-incomplete c _ = nothing_may c.dialect-dialect.result c.args.line_feeds
-    c.dialect-dialect.ensures c.args.bytes.now
-    (rw c.in-Ok-None.field-0-is at c.in-Ok-None.ensures)
-
-pub returns-then-fault-bytes-clause-incomplete : goal.returns-then-fault-bytes-clause-incomplete
-returns-then-fault-bytes-clause-incomplete c _ = refused_may c.dialect-dialect.result
-    c.args.line_feeds c.dialect-dialect.ensures c.args.bytes.now c.in-Err.fault c.in-Err.ensures
-    (omega (arith, c.if-fault-bytes.true))
+pub returns-in-Some-clause-refused : goal.returns-in-Some-clause-refused
+returns-in-Some-clause-refused c is d this =
+    let (never, first, _) = c.read_partial.ensures.refused is in
+    (rw (c.in-Some.ensures.only.1 d this) at never, rw (c.in-Some.ensures.only.1 d this) at first)

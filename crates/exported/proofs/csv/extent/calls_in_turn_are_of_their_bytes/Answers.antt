@@ -1,7 +1,5 @@
-use Rattle.exported.specs.Csv.{dialect_of}
 use Rattle.exported.proofs.RecordExtent.{record_calls}
 use Rattle.exported.proofs.csv.extent.calls_in_turn_are_of_their_bytes.Goals as goal
 
 pub returns : goal.returns
-returns c line_feeds pieces state calls more =
-    record_calls (dialect_of line_feeds) pieces state calls more
+returns c d pieces state calls more = record_calls d pieces state calls more

@@ -1,34 +1,21 @@
-use Rattle.std.proofs.Common.{◌∙◌, ap, arith, refl}
-use Rattle.std.specs.Prelude.{Ok}
-use Rattle.exported.proofs.RecordExtent.{tells_record}
+use Rattle.std.proofs.Common.{arith, refl}
 use Rattle.exported.proofs.csv.extent.exported_csv_record_extent.Goals as goal
 
-pub returns-in-Ok-Some-clause-told : goal.returns-in-Ok-Some-clause-told
-returns-in-Ok-Some-clause-told c =
-    tells_record c.dialect-dialect.result _ _ c.args.bytes.now c.advance-answer.result
-    c.args.state.now c.state_at.result 0 _ c.advance-answer.ensures.told
-    c.advance-answer.ensures.kept c.extent_at-extent.ensures c.state_at.ensures
-    (λ _. (
-      c.in-Ok-Some.size,
-      c.in-Ok-Some.is ∙ ap Ok (rw c.in-Ok-Some.is at c.in-Ok-Some.field-0-is),
-      (refl, refl, refl),
-    ))
-    (λ other. absurd (omega (arith, other))) (λ other. absurd (omega (arith, other))) _
-    c.dialect-dialect.ensures
+pub returns-in-Some-clause-impossible : goal.returns-in-Some-clause-impossible
+returns-in-Some-clause-impossible c = (
+  λ is. absurd (omega (arith, is, c.find_end.ensures.codes)),
+  λ none. absurd (none (c.in-Some.dialect, c.in-Some.ensures.only.0)),
+)
 
-pub returns-in-Ok-None-clause-told : goal.returns-in-Ok-None-clause-told
-returns-in-Ok-None-clause-told c =
-    tells_record c.dialect-dialect.result _ _ c.args.bytes.now c.advance-answer.result
-    c.args.state.now c.state_at.result 2 _ c.advance-answer.ensures.told
-    c.advance-answer.ensures.kept c.extent_at-extent.ensures c.state_at.ensures
-    (λ other. absurd (omega (arith, other)))
-    (λ _. c.in-Ok-None.is ∙ ap Ok (rw c.in-Ok-None.is at c.in-Ok-None.field-0-is))
-    (λ other. absurd (omega (arith, other))) _ c.dialect-dialect.ensures
+pub returns-in-None-clause-impossible : goal.returns-in-None-clause-impossible
+returns-in-None-clause-impossible c = (λ _. c.in-None.ensures.only, λ _. refl)
 
-pub returns-in-Err-clause-told : goal.returns-in-Err-clause-told
-returns-in-Err-clause-told c =
-    tells_record c.dialect-dialect.result _ _ c.args.bytes.now c.advance-answer.result
-    c.args.state.now c.state_at.result 1 _ c.advance-answer.ensures.told
-    c.advance-answer.ensures.kept c.extent_at-extent.ensures c.state_at.ensures
-    (λ other. absurd (omega (arith, other))) (λ other. absurd (omega (arith, other)))
-    (λ _. (c.in-Err.fault, c.in-Err.is, c.none_at-in-Err.ensures.place)) _ c.dialect-dialect.ensures
+pub returns-in-Some-clause-told : goal.returns-in-Some-clause-told
+returns-in-Some-clause-told c d this =
+    rw (c.in-Some.ensures.only.1 d this) at c.find_end.ensures.told
+
+pub returns-in-Some-clause-kept : goal.returns-in-Some-clause-kept
+returns-in-Some-clause-kept c is = absurd (omega (arith, is, c.find_end.ensures.codes))
+
+pub returns-in-None-clause-told : goal.returns-in-None-clause-told
+returns-in-None-clause-told c d this _ = absurd (c.in-None.ensures.only (d, this))
