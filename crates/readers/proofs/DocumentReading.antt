@@ -29,7 +29,7 @@ use Rattle.winnow.specs.Func.{CalledWithMut, FuncWithRuns}
 use Rattle.readers.specs.Document.{SectionText, PairBytes, Part, white, comment, section, pair}
 use Rattle.readers.specs.Document.{StartsWithPart, BeginsWith, BeginsDocument, IsRefusedDocument}
 use Rattle.readers.specs.Document.{NoPairBegins, NoSectionBegins, SectionBegins, ReachesSection}
-use Rattle.readers.specs.Document.{pairs_of, sections_of, NoPairBeforeSections}
+use Rattle.readers.specs.Document.{pairs_of, sections_of, HasSections, NoPairBeforeSections}
 use Rattle.readers.specs.DocumentRuns.{IsGapPart, NoGapBegins, HasNoSection, BeginsAtSection}
 use Rattle.readers.specs.DocumentRuns.{GapRuns, SectionRuns, SectionsRuns, DocumentRuns}
 use Rattle.winnow.specs.FuncCalls.{CallsWithBy, run_with_by}
@@ -386,6 +386,15 @@ pub document_fails : {C : Type 0} (told : C → List SectionText) (i : Input ℕ
     (j : Input ℕ) → DocumentRuns told i (Err k) j → ReachesSection i.left.tokens × (k ≡ memory)
 document_fails told i k j (ends, inl (all, parts, begins, texts, none, is)) = ok_is_err is refl
 document_fails told i k j (ends, inr (reaches, is)) = (reaches, same_kind is)
+
+-- a document that was read to its end
+pub whole_document : {C : Type 0} (told : C → List SectionText) (input : List ℕ) (o : C)
+    (j : Input ℕ) → DocumentRuns told (bytes_input input) (Ok o) j → j.left.tokens ≡ []
+    → HasSections input (told o)
+whole_document told input o j (ends, inl (all, parts, begins, texts, none, is)) nothing =
+    let P : List ℕ → Type 0 = λ l. BeginsDocument parts input l in
+    (parts, subst P nothing begins, at_output (λ c. told c ≡ sections_of parts) is texts)
+whole_document told input o j (ends, inr (reaches, is)) nothing = ok_is_err refl is
 
 pub inner_memory : (k inner : Kind) → k ≡ memory → inner_kind_of k ≡ Some inner → inner ≡ memory
 inner_memory k inner is e =

@@ -5,8 +5,8 @@ use Rattle.winnow.specs.Equal.{true_is_false}
 use Rattle.winnow.specs.FuncCalls.{calls_with_leave, run_with_by}
 use Rattle.readers.specs.DocumentRuns.{DocumentRuns}
 use Rattle.readers.specs.Sections.{section_text}
-use Rattle.readers.proofs.DocumentReading.{refused_document, document_fails, inner_memory}
-use Rattle.readers.proofs.DocumentReading.{marked_memory, inner_backtracks}
+use Rattle.readers.proofs.DocumentReading.{whole_document, refused_document, document_fails}
+use Rattle.readers.proofs.DocumentReading.{inner_memory, marked_memory, inner_backtracks}
 use Rattle.winnow.specs.Form.{marked_kind}
 use Rattle.readers.proofs.ini.sections.document.Goals as goal
 
@@ -14,14 +14,33 @@ pub parse-requires-clause-callable : goal.parse-requires-clause-callable
 parse-requires-clause-callable g c =
     (mut_total _ _ (λ s a. tt), calls_with_leave _ _ (λ s x r y t met. met.0))
 
+pub returns-in-Ok : goal.returns-in-Ok
+returns-in-Ok g c =
+    let (j, ran, nothing) = c.in-Ok.ensures.ran in
+    let run = run_with_by (DocumentRuns (λ all. map section_text all.items)) ran
+    (λ s x r y t met. met) in
+    whole_document (λ all. map section_text all.items) _ _ j run nothing
+
+pub unreachable-requires : goal.unreachable-requires
+unreachable-requires g c =
+    let wants = c.in-Err-Incomplete.field-0-is in
+    elim c.in-Err-Incomplete.ensures.ran [
+      | inl (k, j, ran, fault) ↦
+          let run = run_with_by (DocumentRuns (λ all. map section_text all.items)) ran
+          (λ s x r y t met. met) in
+          let is = (document_fails (λ all. map section_text all.items) _ _ _ run).1 in
+          absurd (cc (sym is ∙ (rw wants at fault)))
+      | inr (o, j, ran, something, fault) ↦ absurd (cc (rw wants at fault))
+    ]
+
 pub returns-then-is_memory : goal.returns-then-is_memory
 returns-then-is_memory g c =
     let refused = c.in-Err-Invalid.field-0-is in
     elim c.in-Err-Invalid.ensures.ran [
       | inl (k, j, ran, fault) ↦
-          let told = run_with_by (DocumentRuns (λ all. map section_text all.items)) ran
+          let run = run_with_by (DocumentRuns (λ all. map section_text all.items)) ran
           (λ s x r y t met. met) in
-          (document_fails (λ all. map section_text all.items) _ _ _ told).0
+          (document_fails (λ all. map section_text all.items) _ _ _ run).0
       | inr (o, j, ran, something, fault) ↦
           let told = (rw refused at fault).1 in
           absurd (inner_backtracks _ told
