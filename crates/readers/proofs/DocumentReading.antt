@@ -29,7 +29,7 @@ use Rattle.winnow.specs.Func.{CalledWithMut, FuncWithRuns}
 use Rattle.readers.specs.Document.{SectionText, PairBytes, Part, white, comment, section, pair}
 use Rattle.readers.specs.Document.{StartsWithPart, BeginsWith, BeginsDocument, IsRefusedDocument}
 use Rattle.readers.specs.Document.{NoPairBegins, NoSectionBegins, SectionBegins, ReachesSection}
-use Rattle.readers.specs.Document.{pairs_of, sections_of, NoPairBeforeSections}
+use Rattle.readers.specs.Document.{pairs_of, sections_of, HasSections, NoPairBeforeSections}
 use Rattle.readers.specs.DocumentRuns.{IsGapPart, NoGapBegins, HasNoSection, BeginsAtSection}
 use Rattle.readers.specs.DocumentRuns.{GapRuns, SectionRuns, SectionsRuns, DocumentRuns}
 use Rattle.winnow.specs.FuncCalls.{CallsWithBy, run_with_by}
@@ -248,18 +248,20 @@ reaches_behind gap input rest all with (name, behind, begins) =
       omega (arith, ap (λ l. length l) (gap_no_sections gap one all)),
     )
 
-pub document_read : {A F I E S U C : Type 0} {reading : Reading ℕ S} {view : I → Input ℕ}
+pub document_read : {A B F1 F2 I E S C : Type 0} {reading : Reading ℕ S} {view : I → Input ℕ}
     {kind : E → Kind}
-    {g : Mut F (A × (MutBor I × Unit {0})) (Result (Unit {0}) E × (MutBor I × Unit {0}))}
-    {s t : A × F} {u u' : U} (told : C → List SectionText) (i : Input ℕ)
+    {g1 : Mut F1 (A × (MutBor I × Unit {0})) (Result (Unit {0}) E × (MutBor I × Unit {0}))}
+    {g2 : Mut F2 (B × (MutBor I × Unit {0})) (Result C E × (MutBor I × Unit {0}))}
+    {s1 t1 : A × F1} {s2 t2 : B × F2} (told : C → List SectionText) (i : Input ℕ)
     (answer : Answer C) (j : Input ℕ) → IsEndOf bytes_reading j i
-    → PrecededRuns (FuncWithRuns reading view kind (CalledWithMut g))
-    (λ s i answer t j. SectionsRuns told i answer j) (s, u) i answer (t, u') j
-    → CallsWithBy view kind g GapRuns → DocumentRuns told i answer j
-document_read told i (Ok o) j ends ran by_gap =
+    → PrecededRuns (FuncWithRuns reading view kind (CalledWithMut g1))
+    (FuncWithRuns reading view kind (CalledWithMut g2)) (s1, s2) i answer (t1, t2) j
+    → CallsWithBy view kind g1 GapRuns → CallsWithBy view kind g2 (SectionsRuns told)
+    → DocumentRuns told i answer j
+document_read told i (Ok o) j ends ran by_gap by_sections =
     let (u, a, r1, r2) = preceded_ok o ran in
     let (gap, all_gap, with_gap, no_gap, gis) = (run_with_by GapRuns r1 by_gap).1 in
-    elim r2.1 [
+    elim (run_with_by (SectionsRuns told) r2 by_sections).1 [
       | inl (all, parts, with, at, texts, no_section, last, last_pair, is) ↦ (
         ends,
         inl (
@@ -277,11 +279,11 @@ document_read told i (Ok o) j ends ran by_gap =
       )
       | inr (some, is) ↦ ok_is_err refl is
     ]
-document_read told i (Err k) j ends ran by_gap = elim (both_err k ran) [
+document_read told i (Err k) j ends ran by_gap by_sections = elim (both_err k ran) [
   | inl (r1, same) ↦ ok_is_err (run_with_by GapRuns r1 by_gap).1.4 refl
   | inr (u, a, r1, r2) ↦
       let (gap, all_gap, with_gap, no_gap, gis) = (run_with_by GapRuns r1 by_gap).1 in
-      elim r2.1 [
+      elim (run_with_by (SectionsRuns told) r2 by_sections).1 [
         | inl (all, parts, with, at, texts, no_section, last, last_pair, is) ↦ ok_is_err is refl
         | inr (some, is) ↦
             (ends, inr (reaches_behind gap i.left.tokens a.left.tokens all_gap with_gap some, is))
@@ -384,6 +386,15 @@ pub document_fails : {C : Type 0} (told : C → List SectionText) (i : Input ℕ
     (j : Input ℕ) → DocumentRuns told i (Err k) j → ReachesSection i.left.tokens × (k ≡ memory)
 document_fails told i k j (ends, inl (all, parts, begins, texts, none, is)) = ok_is_err is refl
 document_fails told i k j (ends, inr (reaches, is)) = (reaches, same_kind is)
+
+-- a document that was read to its end
+pub whole_document : {C : Type 0} (told : C → List SectionText) (input : List ℕ) (o : C)
+    (j : Input ℕ) → DocumentRuns told (bytes_input input) (Ok o) j → j.left.tokens ≡ []
+    → HasSections input (told o)
+whole_document told input o j (ends, inl (all, parts, begins, texts, none, is)) nothing =
+    let P : List ℕ → Type 0 = λ l. BeginsDocument parts input l in
+    (parts, subst P nothing begins, at_output (λ c. told c ≡ sections_of parts) is texts)
+whole_document told input o j (ends, inr (reaches, is)) nothing = ok_is_err refl is
 
 pub inner_memory : (k inner : Kind) → k ≡ memory → inner_kind_of k ≡ Some inner → inner ≡ memory
 inner_memory k inner is e =

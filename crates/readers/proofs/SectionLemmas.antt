@@ -290,24 +290,26 @@ PartsRead {C} told i answer j =
     -- one, and no memory for its pairs
     ⊎ (SectionBegins i.left.tokens × (answer ≡ Err memory)))
 
-pub parts_read : {A B F1 F2 I E S U C : Type 0} {reading : Reading ℕ S} {view : I → Input ℕ}
+pub parts_read : {A B D F1 F2 F3 I E S C : Type 0} {reading : Reading ℕ S} {view : I → Input ℕ}
     {kind : E → Kind}
     {g1 : Mut F1 (B × (MutBor I × Unit {0})) (Result (Bor (List ℕ)) E × (MutBor I × Unit {0}))}
     {g2 : Mut F2 (A × (MutBor I × Unit {0})) (Result (Unit {0}) E × (MutBor I × Unit {0}))}
-    {s1 t1 : B × F1} {s2 t2 : A × F2} {u u' : U}
+    {g3 : Mut F3 (D × (MutBor I × Unit {0})) (Result C E × (MutBor I × Unit {0}))}
+    {s1 t1 : B × F1} {s2 t2 : A × F2} {s3 t3 : D × F3}
     (told : C → List (List ℕ × List ℕ)) (i : Input ℕ) (answer : Answer (Bor (List ℕ) × C))
     (j : Input ℕ)
     → SequenceRuns2 (TerminatedRuns (FuncWithRuns reading view kind (CalledWithMut g1))
     (FuncWithRuns reading view kind (CalledWithMut g2)))
-    (λ s i answer t j. PairsRuns told i answer j) ((s1, s2), u) i answer
-    ((t1, t2), u') j
+    (FuncWithRuns reading view kind (CalledWithMut g3)) ((s1, s2), s3) i answer
+    ((t1, t2), t3) j
     → CallsWithBy view kind g1 CategoryRuns → CallsWithBy view kind g2 GapRuns
-    → PartsRead told i answer j
-parts_read told i answer j ran by_name by_gap = elim ran [
+    → CallsWithBy view kind g3 (PairsRuns told) → PartsRead told i answer j
+parts_read told i answer j ran by_name by_gap by_pairs = elim ran [
   | inl (name, all, m, r1, r2, is) ↦
       let (gap, begins, all_gap, none) = name_gap_ok i name m r1 by_name by_gap in
       let (parts, with, no_section, no_gap, no_pair, texts) =
-      section_ok told i name.now gap m all j begins all_gap none r2 in
+      section_ok told i name.now gap m all j begins all_gap none
+      (run_with_by (PairsRuns told) r2 by_pairs) in
       inl (name, all, parts, with, no_section, no_gap, no_pair, texts, is)
   | inr (inl (k, r1, same, is)) ↦
       let (none, kind) = name_gap_err i k j r1 by_name by_gap in
@@ -315,5 +317,6 @@ parts_read told i answer j ran by_name by_gap = elim ran [
   | inr (inr (name, k, m, r1, r2, is)) ↦
       let (gap, (behind, begins, more), all_gap, none) =
       name_gap_ok i name m r1 by_name by_gap in
-      inr (inr ((name.now, behind, begins), is ∙ ap Err (pairs_fail told m k j r2)))
+      let none_left = pairs_fail told m k j (run_with_by (PairsRuns told) r2 by_pairs) in
+      inr (inr ((name.now, behind, begins), is ∙ ap Err none_left))
 ]

@@ -1,17 +1,17 @@
 //! Documents, section by section.
-ghost use Rattle.winnow.specs.Claim.{no_claim, nothing_claimed};
 ghost use Rattle.std.specs.Prelude.{⊤, ◌≡◌, map, MatchResult};
 ghost use Rattle.readers.specs.Document.{HasSections, IsDocumentFault};
 ghost use Rattle.readers.specs.DocumentRuns.{DocumentRuns, PairsRuns, SectionRuns, SectionsRuns};
 ghost use Rattle.readers.specs.Sections.{pair_text, section_text};
-ghost use Rattle.winnow.specs.Says.{nothing_done, nothing_said};
+ghost use Rattle.winnow.specs.Bytes.{bytes_input};
+ghost use Rattle.winnow.specs.Form.{answer_by};
 
 use crate::fault::ReadError;
 use crate::ini::parts::{gap, key_value, section_name};
 use crate::ini::tables::NameBytes;
 use std::alloc::Allocator;
 use winnow::combinator::{preceded, repeat, terminated};
-use winnow::error::{ErrMode, InputError, ParseFault, ParserError};
+use winnow::error::{ErrMode, HasKind, InputError, ParseFault, ParserError};
 use winnow::stream::Range;
 use winnow::{Func, FuncWith, Parser};
 
@@ -32,162 +32,64 @@ pub struct Section<'i, A: Allocator> {
     pub pairs: Vec<(&'i str, &'i str), A>,
 }
 
-/// The parser of the pairs after a section's name, each with the gap after it.
-///
-/// A struct of its own: the prover does not cover a repetition into a list as a member of a tuple
-/// at a reference with a named lifetime.
-#[derive(Clone, Copy, Drop)]
-struct Pairs<A> {
+/// The pairs after a section's name, each with the gap after it.
+fn pairs<'i, A: Allocator + Copy>(
     alloc: A,
+    input: &mut &'i [u8],
+) -> Result<Vec<(&'i str, &'i str), A>, ErrMode<InputError<&'i [u8]>>>
+    ensures { PairsRuns (λ all. map pair_text all.items) (bytes_input input.old.now)
+        (answer_by ⟦<ErrMode<InputError<&'i [u8]>> as HasKind>⟧.kind result)
+        (bytes_input input.new.now) }
+{
+    repeat(
+        alloc,
+        Range::from(0..),
+        terminated(Func(key_value), FuncWith(alloc, gap)),
+    )
+    .parse_next(input)
 }
 
-impl<'i, A: Allocator + Copy> Parser<
-    &'i [u8],
-    Vec<(&'i str, &'i str), A>,
-    ErrMode<InputError<&'i [u8]>>,
-> for Pairs<A> {
-    ghost State = { ⊤ };
-
-    ghost state = { λ _. tt };
-
-    ghost meaning = { λ _ _ i answer _ j. PairsRuns (λ all. map pair_text all.items) i answer j };
-
-    ghost says = { λ _. nothing_said };
-
-    ghost claim = { λ _. no_claim };
-
-    ghost leaves_ends = { λ form s i answer t j r. r.0 };
-
-    ghost said = { λ _. nothing_done };
-
-    ghost claimed = { λ _. nothing_claimed };
-
-    fn parse_next(
-        &mut self,
-        input: &mut &'i [u8],
-    ) -> Result<Vec<(&'i str, &'i str), A>, ErrMode<InputError<&'i [u8]>>> {
-        let alloc = self.alloc;
-        repeat(
-            alloc,
-            Range::from(0..),
-            terminated(Func(key_value), FuncWith(alloc, gap)),
-        )
+/// One section: its name, a gap, and its pairs.
+fn one_section<'i, A: Allocator + Copy>(
+    with: (A, NameBytes),
+    input: &mut &'i [u8],
+) -> Result<Section<'i, A>, ErrMode<InputError<&'i [u8]>>>
+    ensures { SectionRuns section_text (bytes_input input.old.now)
+        (answer_by ⟦<ErrMode<InputError<&'i [u8]>> as HasKind>⟧.kind result)
+        (bytes_input input.new.now) }
+{
+    let (alloc, names) = with;
+    let name = FuncWith(names, section_name);
+    (
+        terminated(name, FuncWith(alloc, gap)),
+        FuncWith(alloc, pairs),
+    )
+        .map(|(name, pairs)| Section { name, pairs })
         .parse_next(input)
-    }
 }
 
-/// The parser of a section: its name, a gap, and its pairs.
-#[derive(Clone, Copy, Drop)]
-struct SectionReader<A> {
-    alloc: A,
-    names: NameBytes,
+/// All sections.
+fn sections<'i, A: Allocator + Copy>(
+    with: (A, NameBytes),
+    input: &mut &'i [u8],
+) -> Result<Vec<Section<'i, A>, A>, ErrMode<InputError<&'i [u8]>>>
+    ensures { SectionsRuns (λ all. map section_text all.items) (bytes_input input.old.now)
+        (answer_by ⟦<ErrMode<InputError<&'i [u8]>> as HasKind>⟧.kind result)
+        (bytes_input input.new.now) }
+{
+    repeat(with.0, Range::from(0..), FuncWith(with, one_section)).parse_next(input)
 }
 
-impl<'i, A: Allocator + Copy> Parser<&'i [u8], Section<'i, A>, ErrMode<InputError<&'i [u8]>>>
-    for SectionReader<A> {
-    ghost State = { ⊤ };
-
-    ghost state = { λ _. tt };
-
-    ghost meaning = { λ _ _ i answer _ j. SectionRuns section_text i answer j };
-
-    ghost says = { λ _. nothing_said };
-
-    ghost claim = { λ _. no_claim };
-
-    ghost leaves_ends = { λ form s i answer t j r. r.0 };
-
-    ghost said = { λ _. nothing_done };
-
-    ghost claimed = { λ _. nothing_claimed };
-
-    fn parse_next(
-        &mut self,
-        input: &mut &'i [u8],
-    ) -> Result<Section<'i, A>, ErrMode<InputError<&'i [u8]>>> {
-        let alloc = self.alloc;
-        let name = FuncWith(self.names, section_name);
-        (terminated(name, FuncWith(alloc, gap)), Pairs { alloc })
-            .map(|(name, pairs)| Section { name, pairs })
-            .parse_next(input)
-    }
-}
-
-/// The parser of all sections.
-#[derive(Clone, Copy, Drop)]
-struct Sections<A> {
-    alloc: A,
-    names: NameBytes,
-}
-
-impl<'i, A: Allocator + Copy> Parser<
-    &'i [u8],
-    Vec<Section<'i, A>, A>,
-    ErrMode<InputError<&'i [u8]>>,
-> for Sections<A> {
-    ghost State = { ⊤ };
-
-    ghost state = { λ _. tt };
-
-    ghost meaning = { λ _ _ i answer _ j. SectionsRuns (λ all. map section_text all.items) i
-        answer j };
-
-    ghost says = { λ _. nothing_said };
-
-    ghost claim = { λ _. no_claim };
-
-    ghost leaves_ends = { λ form s i answer t j r. r.0 };
-
-    ghost said = { λ _. nothing_done };
-
-    ghost claimed = { λ _. nothing_claimed };
-
-    fn parse_next(
-        &mut self,
-        input: &mut &'i [u8],
-    ) -> Result<Vec<Section<'i, A>, A>, ErrMode<InputError<&'i [u8]>>> {
-        let (alloc, names) = (self.alloc, self.names);
-        repeat(alloc, Range::from(0..), SectionReader { alloc, names }).parse_next(input)
-    }
-}
-
-/// The parser of a document: a gap, and all sections. It is a struct of its own for the same
-/// reason.
-#[derive(Clone, Copy, Drop)]
-struct DocumentReader<A> {
-    alloc: A,
-    names: NameBytes,
-}
-
-impl<'i, A: Allocator + Copy> Parser<
-    &'i [u8],
-    Vec<Section<'i, A>, A>,
-    ErrMode<InputError<&'i [u8]>>,
-> for DocumentReader<A> {
-    ghost State = { ⊤ };
-
-    ghost state = { λ _. tt };
-
-    ghost meaning = { λ _ _ i answer _ j. DocumentRuns (λ all. map section_text all.items) i
-        answer j };
-
-    ghost says = { λ _. nothing_said };
-
-    ghost claim = { λ _. no_claim };
-
-    ghost leaves_ends = { λ form s i answer t j r. r.0 };
-
-    ghost said = { λ _. nothing_done };
-
-    ghost claimed = { λ _. nothing_claimed };
-
-    fn parse_next(
-        &mut self,
-        input: &mut &'i [u8],
-    ) -> Result<Vec<Section<'i, A>, A>, ErrMode<InputError<&'i [u8]>>> {
-        let (alloc, names) = (self.alloc, self.names);
-        preceded(FuncWith(alloc, gap), Sections { alloc, names }).parse_next(input)
-    }
+/// A gap, and all sections.
+fn gap_and_sections<'i, A: Allocator + Copy>(
+    with: (A, NameBytes),
+    input: &mut &'i [u8],
+) -> Result<Vec<Section<'i, A>, A>, ErrMode<InputError<&'i [u8]>>>
+    ensures { DocumentRuns (λ all. map section_text all.items) (bytes_input input.old.now)
+        (answer_by ⟦<ErrMode<InputError<&'i [u8]>> as HasKind>⟧.kind result)
+        (bytes_input input.new.now) }
+{
+    preceded(FuncWith(with.0, gap), FuncWith(with, sections)).parse_next(input)
 }
 
 /// Parses a document: any number of sections, each a name in brackets, as
@@ -219,8 +121,7 @@ pub fn document<'i, A: Allocator + Copy>(
         (λ sections. HasSections input.now (map section_text sections.items))
         (λ fault. IsDocumentFault input.now fault) }
 {
-    let names = NameBytes::new();
-    match (DocumentReader { alloc, names }).parse(input) {
+    match FuncWith((alloc, NameBytes::new()), gap_and_sections).parse(input) {
         Ok(sections) => Ok(sections),
         Err(ParseFault::Invalid(error)) => {
             if error.inner().is_memory() {

@@ -1,17 +1,46 @@
+use denote.Param.Always.{mut_total}
 use Rattle.std.proofs.Common.{◌+◌, ◌∙◌, ap, sym, length, inl, inr}
 use Rattle.std.specs.Prelude.{map}
 use Rattle.winnow.specs.Equal.{true_is_false}
+use Rattle.winnow.specs.FuncCalls.{calls_with_leave, run_with_by}
+use Rattle.readers.specs.DocumentRuns.{DocumentRuns}
 use Rattle.readers.specs.Sections.{section_text}
-use Rattle.readers.proofs.DocumentReading.{refused_document, document_fails, inner_memory}
-use Rattle.readers.proofs.DocumentReading.{marked_memory, inner_backtracks}
+use Rattle.readers.proofs.DocumentReading.{whole_document, refused_document, document_fails}
+use Rattle.readers.proofs.DocumentReading.{inner_memory, marked_memory, inner_backtracks}
 use Rattle.winnow.specs.Form.{marked_kind}
 use Rattle.readers.proofs.ini.sections.document.Goals as goal
+
+pub parse-requires-clause-callable : goal.parse-requires-clause-callable
+parse-requires-clause-callable g c =
+    (mut_total _ _ (λ s a. tt), calls_with_leave _ _ (λ s x r y t met. met.0))
+
+pub returns-in-Ok : goal.returns-in-Ok
+returns-in-Ok g c =
+    let (j, ran, nothing) = c.in-Ok.ensures.ran in
+    let run = run_with_by (DocumentRuns (λ all. map section_text all.items)) ran
+    (λ s x r y t met. met) in
+    whole_document (λ all. map section_text all.items) _ _ j run nothing
+
+pub unreachable-requires : goal.unreachable-requires
+unreachable-requires g c =
+    let wants = c.in-Err-Incomplete.field-0-is in
+    elim c.in-Err-Incomplete.ensures.ran [
+      | inl (k, j, ran, fault) ↦
+          let run = run_with_by (DocumentRuns (λ all. map section_text all.items)) ran
+          (λ s x r y t met. met) in
+          let is = (document_fails (λ all. map section_text all.items) _ _ _ run).1 in
+          absurd (cc (sym is ∙ (rw wants at fault)))
+      | inr (o, j, ran, something, fault) ↦ absurd (cc (rw wants at fault))
+    ]
 
 pub returns-then-is_memory : goal.returns-then-is_memory
 returns-then-is_memory g c =
     let refused = c.in-Err-Invalid.field-0-is in
     elim c.in-Err-Invalid.ensures.ran [
-      | inl (k, j, ran, fault) ↦ (document_fails (λ all. map section_text all.items) _ _ _ ran).0
+      | inl (k, j, ran, fault) ↦
+          let run = run_with_by (DocumentRuns (λ all. map section_text all.items)) ran
+          (λ s x r y t met. met) in
+          (document_fails (λ all. map section_text all.items) _ _ _ run).0
       | inr (o, j, ran, something, fault) ↦
           let told = (rw refused at fault).1 in
           absurd (inner_backtracks _ told
@@ -25,13 +54,17 @@ returns-else-is_memory g c =
     elim c.in-Err-Invalid.ensures.ran [
       | inl (k, j, ran, fault) ↦
           let told = (rw refused at fault).1 in
+          let run = run_with_by (DocumentRuns (λ all. map section_text all.items)) ran
+          (λ s x r y t met. met) in
           let is = inner_memory k _
-          (document_fails (λ all. map section_text all.items) _ _ _ ran).1 told in
+          (document_fails (λ all. map section_text all.items) _ _ _ run).1 told in
           absurd (true_is_false
           (sym (c.is_memory.ensures.1
           (ap (λ e. marked_kind e.is_memory) c.inner.ensures ∙ marked_memory _ is))
           ∙ c.if-is_memory.false))
       | inr (o, j, ran, something, fault) ↦
           let at = ap (λ m. m + length j.left.tokens) c.offset.ensures ∙ (rw refused at fault).0 in
-          refused_document (λ all. map section_text all.items) _ o j _ ran something at
+          let run = run_with_by (DocumentRuns (λ all. map section_text all.items)) ran
+          (λ s x r y t met. met) in
+          refused_document (λ all. map section_text all.items) _ o j _ run something at
     ]

@@ -6,7 +6,7 @@ use Rattle.winnow.specs.Form.Inversion.{fails_as, ok_is_err, same_ok}
 use Rattle.readers.specs.Sections.{pair_text}
 use Rattle.winnow.specs.FuncCalls.{calls_with_leave}
 use Rattle.readers.proofs.SectionLemmas.{parts_read, same_text}
-use Rattle.readers.proofs.ini.sections.SectionReaderParserRefSliceU8SectionErrModeInputErrorRefSliceU8.parse_next.Goals as goal
+use Rattle.readers.proofs.ini.sections.one_section.Goals as goal
 
 pub parse_next-requires : goal.parse_next-requires
 parse_next-requires g c = (
@@ -15,13 +15,13 @@ parse_next-requires g c = (
       (mut_total _ _ (λ s a. tt), calls_with_leave _ _ (λ s x r y t met. met.0)),
       (mut_total _ _ (λ s a. tt), calls_with_leave _ _ (λ s x r y t met. met.0)),
     ),
-    tt,
+    (mut_total _ _ (λ s a. tt), calls_with_leave _ _ (λ s x r y t met. met.0)),
   ),
   mut_total _ _ (λ s a. tt),
 )
 
-pub returns-clause-ran : goal.returns-clause-ran
-returns-clause-ran g c =
+pub returns : goal.returns-clause-ran
+returns g c =
     let input = bytes_input c.args.input.now.now in
     let rest = bytes_input c.parse_next.new.input.now in
     elim c.parse_next.ensures.ran [
@@ -29,7 +29,7 @@ returns-clause-ran g c =
           let named : u.name ≡ o.0 = search rules in
           let paired : u.pairs ≡ o.1 = search rules in
           elim (parts_read (λ all. map pair_text all.items) input _ rest seq
-          (λ s x r y t met. met) (λ s x r y t met. met)) [
+          (λ s x r y t met. met) (λ s x r y t met. met) (λ s x r y t met. met)) [
             | inl (name, all, parts, begins, no_section, no_gap, no_pair, texts, f) ↦
                 let is = same_ok refl f in (
                   c.parse_next.ensures.ends,
@@ -51,7 +51,7 @@ returns-clause-ran g c =
           ]
       | inr (k, seq, same, e) ↦
           elim (parts_read (λ all. map pair_text all.items) input _ rest seq
-          (λ s x r y t met. met) (λ s x r y t met. met)) [
+          (λ s x r y t met. met) (λ s x r y t met. met) (λ s x r y t met. met)) [
             | inl (name, all, parts, begins, no_section, no_gap, no_pair, texts, f) ↦
                 ok_is_err f refl
             | inr (inl (none, f)) ↦
