@@ -20,7 +20,7 @@ parse_next-requires g c = (
   mut_total _ _ (λ s a. tt),
 )
 
-pub returns : goal.returns-clause-ran
+pub returns : goal.returns
 returns g c =
     let input = bytes_input c.args.input.now.now in
     let rest = bytes_input c.parse_next.new.input.now in

@@ -4,7 +4,7 @@ use Rattle.winnow.specs.FuncCalls.{calls_leave, calls_with_leave}
 use Rattle.readers.proofs.SectionLemmas.{pairs_repeated, reads_pair}
 use Rattle.readers.proofs.ini.sections.pairs.Goals as goal
 
-pub returns : goal.returns-clause-ran
+pub returns : goal.returns
 returns g c =
     pairs_repeated _ _ _ _ _ _ _ _ (c.repeat.ensures.occurrences ∙ c.from.ensures)
     c.parse_next.ensures.ends c.parse_next.ensures.ran.0
