@@ -15,4 +15,5 @@ returns-in-Invalid-clause-refused c same =
     λ flag. IsSearchOf c.find_member-found.result.0 level (said flag c.args.name.now) bytes rest in
     let Is : Search → Type 0 =
     λ found. IsSearchOf found level (said (is_set c.args.is_token) c.args.name.now) bytes rest in
-    (rest, subst Is c.in-Invalid.is (subst Flag c.is_set.ensures c.find_member-found.ensures.search))
+    let told = subst Flag c.is_set.ensures c.find_member-found.ensures.search in
+    (rest, subst Is c.in-Invalid.is told)
