@@ -8,7 +8,7 @@ Run it at the top of the repository, and then `rt fmt` in the crates that it nam
 It generates:
 
 - in `stream_sets`, the sets that are tuples;
-- in `winnow_core`, the meanings and impls of sequences (tuples of one to six);
+- in `winnow_core`, the impls of sequences (tuples of one to six);
 - in `winnow_comb`, those of choices between one to six branches, with their laws;
 - in `winnow_ascii`, the parsers of character classes;
 - in `winnow_integers` and `winnow_binary`, the parsers of integers;
@@ -19,13 +19,9 @@ It prints the crates whose files it writes.
 """
 from family.choices import write_choices
 from family.chosen import write_chosen
-from family.claims import write_claims
 from family.classes import write_classes
 from family.complete import CRATES_OF_PARSERS, write_complete
-from family.exact import write_exact
 from family.integers import write_integers
-from family.known import write_known
-from family.says import write_says
 from family.sequences import write_sequences
 from family.sets import write_sets
 from family.stable import write_stable
@@ -33,14 +29,10 @@ from family.stable import write_stable
 if __name__ == "__main__":
     write_sets()
     write_sequences()
-    write_known()
     write_choices()
     write_classes()
     write_stable()
     write_integers()
     write_chosen()
-    write_exact()
-    write_says()
-    write_claims()
     write_complete()
     print("stream_sets grammars", *CRATES_OF_PARSERS)

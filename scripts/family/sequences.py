@@ -1,136 +1,96 @@
 """Sequences: tuples of one to six parsers, in the crate `winnow_core`."""
-from family.common import (
-    BETWEEN,
-    MOST,
-    NUMBER,
-    ORDINAL,
-    conjunction,
-    disjunction,
-    rust_tuple,
-    tuple_type,
-    tuple_value,
-    upto,
-    write,
-)
-from family.claims import NOTHING_CLAIMS, member_claims
+from family.common import MOST, NEVER_TAKES, ORDINAL
+from family.common import conjunction, record, rust_tuple, tuple_type, tuple_value, upto, write
 
 
-def sequence_case(n, failing):
-    """Returns the case in which all of n children succeed, or all before the failing one."""
-    ran = failing or n
-    succeeding = ran - 1 if failing else n
-    parts = ["(o%d : O%d)" % (k, k) for k in upto(succeeding)]
-    if failing:
-        parts.append("(k : Kind)")
-    parts += ["(%s : Input T)" % BETWEEN[k - 1] for k in upto(ran - 1)]
-    for k in upto(ran):
-        before = "i" if k == 1 else BETWEEN[k - 2]
-        after = "j" if k == ran else BETWEEN[k - 1]
-        answer = "(Err k)" if k == failing else "(Ok o%d)" % k
-        parts.append("run%d s.%d %s %s t.%d %s" % (k, k - 1, before, answer, k - 1, after))
-    parts += ["(t.%d ≡ s.%d)" % (k - 1, k - 1) for k in range(ran + 1, n + 1)]
-    output = tuple_value(["o%d" % k for k in upto(n)])
-    parts.append("(answer ≡ Err k)" if failing else "(answer ≡ Ok %s)" % (output if n > 1 else "(%s)" % output))
-    return conjunction(parts)
+def numbered(form, n):
+    """Returns a text for each of n members, with its number and its index in the tuple."""
+    return [form.replace("#", str(k)).replace("@", str(k - 1)) for k in upto(n)]
 
 
-def sequence_spec(n):
-    states = ["S%d" % k for k in upto(n)]
-    outputs = ["O%d" % k for k in upto(n)]
-    names = states + ["T"] + outputs
-    runs = " → ".join("Runs S%d T O%d" % (k, k) for k in upto(n))
-    kinds = "Runs (%s) T (%s)" % (tuple_type(states), tuple_type(outputs))
-    success = {1: "it succeeds", 2: "both succeed"}.get(n, "all succeed")
-    cases = [(success, sequence_case(n, 0))]
-    cases += [("it fails" if n == 1 else "the %s fails" % ORDINAL[k], sequence_case(n, k)) for k in upto(n)]
-    return "\n".join(
-        [
-            "-- The runs of a sequence of %s." % NUMBER[n],
-            "abbrev pub SequenceRuns%d : {%s : Type 0} → %s → %s" % (n, " ".join(names), runs, kinds),
-            "SequenceRuns%d %s %s s i answer t j =" % (n, " ".join("{%s}" % x for x in names), " ".join("run%d" % k for k in upto(n))),
-            disjunction(cases),
-        ]
-    )
+def spaced(form, n):
+    return " ".join(numbered(form, n))
 
 
-SEQUENCE_SPECS = """-- Sequences: each child runs once, in order, on the rest of the one before, up to the first that fails.
--- {head}
-use Rattle.std.specs.Prelude.{{◌≡◌, ⊤, Ok, Err, ◌⊎◌}}
-use Rattle.streams.specs.Input.{{Input}}
-use Rattle.streams.specs.Kind.{{Kind}}
-use Rattle.winnow_core.specs.Runs.{{Runs}}
-
-pub mod Cases
-pub mod Claim
-pub mod Exact
-pub mod Grows
-pub mod Inversion
-pub mod LargeGrows
-pub mod Laws
-pub mod Says
-pub mod Small
-
--- The runs of an empty sequence, which consumes no input.
-abbrev pub SequenceRuns0 : {{T : Type 0}} → Runs ⊤ T ⊤
-SequenceRuns0 s i answer t j = (answer ≡ Ok tt) × (j ≡ i)
-
-{family}
-"""
+def whole(n):
+    """Returns the function from n outputs to their tuple."""
+    return "(λ %s. %s)" % (spaced("o#", n), tuple_value(numbered("o#", n)))
 
 
-def end_chain(steps):
-    """Returns the proof that these steps, the last one first, lead to a suffix of their start."""
-    if len(steps) == 1:
-        return steps[0]
-    return "is_end_of_trans%s %s" % ("" if len(steps) == 2 else len(steps), " ".join("(%s)" % step for step in steps))
+def law_of(n, two, three, last):
+    """Returns the law of n members: that of two, of three, or of all but the last and the last."""
+    if n < 4:
+        return {2: two, 3: three}[n]
+    return last.format(n=n, at=n - 1, front=law_of(n - 1, two, three, last))
 
 
-def sequence_end_case(n, failing):
-    """Returns the proof that a run of n children leaves a suffix; one of them may fail."""
-    ran = failing or n
-    succeeding = ran - 1 if failing else n
-    names = ["o%d" % k for k in upto(succeeding)] + (["k"] if failing else [])
-    names += [BETWEEN[k - 1] for k in upto(ran - 1)] + ["r%d" % k for k in upto(ran)]
-    names += ["same%d" % k for k in range(ran + 1, n + 1)] + ["is"]
-    steps = []
-    for k in range(ran, 0, -1):
-        before = "i" if k == 1 else BETWEEN[k - 2]
-        after = "j" if k == ran else BETWEEN[k - 1]
-        answer = "(Err k)" if k == failing else "(Ok o%d)" % k
-        steps.append("ends%d s.%d %s %s t.%d %s r%d" % (k, k - 1, before, answer, k - 1, after, k))
-    return injected(failing, n + 1, "(%s)" % ", ".join(names) if failing == n else ", ".join(names)), end_chain(steps)
+def claim(n):
+    """Returns the claim of a tuple of n, computed from those of its members."""
+    small = (name + " %s %s" % (whole(k), spaced("(P#.claim s.@)", k)) for k, name in ((2, "both_claim"), (3, "three_claim")))
+    return law_of(n, *small, "both_claim join{n} ({front}) (P{n}.claim s.{at})")
 
 
-def sequence_ends_law(n):
-    """Returns the law that a sequence of n children leaves a suffix of its input if they do."""
-    types = ["S%d" % k for k in upto(n)] + ["T", "L"] + ["O%d" % k for k in upto(n)]
-    runs = " ".join("(run%d : Runs S%d T O%d)" % (k, k, k) for k in upto(n))
-    laws = " → ".join("LeaveEnds reading run%d" % k for k in upto(n))
-    arguments = " ".join("run%d" % k for k in upto(n))
-    whole = "λ s i answer t j. SequenceRuns%d %s s i answer t j" % (n, arguments)
-    name = "sequence%d_ends" % n
-    lines = ["pub %s : {%s : Type 0} (reading : Reading T L) %s → %s → LeaveEnds reading (%s)" % (name, " ".join(types), runs, laws, whole)]
-    for failing in range(n + 1):
-        case, term = sequence_end_case(n, failing)
-        lines.append("%s reading %s %s s i answer t j (%s) = %s" % (name, arguments, " ".join("ends%d" % k for k in upto(n)), case, term))
-    return "\n".join(lines)
+def claimed(n):
+    """Returns the proof that a tuple of n satisfies its claim if its members satisfy theirs."""
+    small = (name + " %s %s" % (whole(k), spaced("(P#.claimed s.@)", k)) for k, name in ((2, "both_claimed"), (3, "three_claimed")))
+    return law_of(n, *small, "claimed_by split{n} same{n} (both_claimed join{n} ({front}) (P{n}.claimed s.{at}))")
 
 
-SEQUENCE_ENDS = """-- Properties of sequences: they leave a suffix of their input if their children do.
--- {head}
-use Rattle.std.specs.Prelude.{{Ok, Err}}
-use Rattle.std.proofs.Common.{{inl, inr}}
-use Rattle.streams.specs.Input.{{is_end_of_trans, is_end_of_trans3, is_end_of_trans4, is_end_of_trans5, is_end_of_trans6}}
-use Rattle.streams.specs.Reading.{{Reading}}
-use Rattle.winnow_core.specs.Runs.{{Runs, LeaveEnds}}
-use Rattle.winnow_core.specs.Sequence.{{{names}}}
-
-{family}
-"""
+def leaves_ends(n):
+    """Returns the law that a tuple of n leaves a suffix of its input if its members do."""
+    parts = [spaced("(P#.meaning form)", k) + " " + spaced("(P#.leaves_ends form)", k) for k in (2, 3)]
+    small = ("%s_ends I.reading %s %s" % (name, whole(k), parts[k - 2]) for k, name in ((2, "both"), (3, "three")))
+    return law_of(n, *small, "ends_by split{n} (both_ends I.reading join{n} _ _ ({front}) (P{n}.leaves_ends form))")
 
 
-def bounds(n, output):
-    return ", ".join("P%d: Parser<I, %s, E>" % (k, output(k)) for k in upto(n))
+# The claims of tuples of no members and of one.
+NOTHING_CLAIMS = {
+    "claim": record(
+        "claim",
+        {
+            "premise": "⊤",
+            "backtracks": "⊤",
+            "spares_memory": "⊤",
+            "consumes": "⊥",
+            "grammar": "Nothing tt",
+        },
+    ),
+    "claimed": record(
+        "claimed",
+        {
+            "exact": "λ form is. unit_exact",
+            "fails": "λ form is. backs unit_fails",
+            "takes": NEVER_TAKES,
+        },
+    ),
+}
+CHILD = "(P1.meaning form) (record { 0 = s.0 })"
+ONE_CLAIMS = {
+    "claim": record(
+        "claim",
+        {it: "(P1.claim s.0).%s" % it for it in ("premise", "backtracks", "spares_memory", "consumes")}
+        | {"grammar": "Made OneTuple tt (P1.claim s.0).grammar"},
+    ),
+    "claimed": record(
+        "claimed",
+        {
+            "exact": "λ form is. tuple1_exact %s ((P1.claimed s.0).exact form is)" % CHILD,
+            "fails": "λ form is. tuple1_fails %s ((P1.claimed s.0).fails form is)" % CHILD,
+            "takes": "λ is some. made_of_takes OneTuple tt ((P1.claimed s.0).takes is some)",
+        },
+    ),
+}
+
+
+def laws(n):
+    """Returns the ghost members of a tuple of n parsers that its meaning determines."""
+    name = "one" if n == 1 else "sequence%d" % n
+    says, said = ("%s_%s %s" % (name, it, spaced("(P#.%s s.@)" % it, n)) for it in ("says", "said"))
+    ends = "sequence1_ends (P1.leaves_ends form)" if n == 1 else leaves_ends(n)
+    members = {"says": says, "claim": claim(n) if n > 1 else "", "leaves_ends": ends, "said": said, "claimed": claimed(n) if n > 1 else ""}
+    variable = {"leaves_ends": "form"}
+    texts = {it: "    ghost %s = { λ %s. %s };" % (it, variable.get(it, "s"), text) for it, text in members.items()}
+    return texts | (ONE_CLAIMS if n == 1 else {})
 
 
 def output_name(n, k):
@@ -139,31 +99,21 @@ def output_name(n, k):
 
 
 def sequence_impl(n):
-    outputs = rust_tuple(["O%d" % k for k in upto(n)])
-    parsers = rust_tuple(["P%d" % k for k in upto(n)])
-    meanings = " ".join("(P%d.meaning form)" % k for k in upto(n))
+    outputs = rust_tuple(numbered("O#", n))
+    parsers = rust_tuple(numbered("P#", n))
     dropped = ", ".join("O%d: Drop" % k if k < n else "O%d" % k for k in upto(n))
-    claims = member_claims(n)
+    bounds = ", ".join(numbered("P#: Parser<I, O#, E>", n))
     lines = [
-        "impl<I: Stream, %s, E: ParserError<I>, %s> Parser<I, %s, E> for %s {" % (dropped, bounds(n, lambda k: "O%d" % k), outputs, parsers),
-        "    ghost can_parse = { λ s. %s };" % conjunction(["P%d.can_parse s.%d" % (k, k - 1) for k in upto(n)]),
+        "impl<I: Stream, %s, E: ParserError<I>, %s> Parser<I, %s, E> for %s {" % (dropped, bounds, outputs, parsers),
+        "    ghost can_parse = { λ s. %s };" % conjunction(numbered("P#.can_parse s.@", n)),
         "",
-        "    ghost State = { %s };" % tuple_type(["P%d.State" % k for k in upto(n)]),
+        "    ghost State = { %s };" % tuple_type(numbered("P#.State", n)),
         "",
-        "    ghost state = { λ s. %s };" % tuple_value(["P%d.state s.%d" % (k, k - 1) for k in upto(n)]),
+        "    ghost state = { λ s. %s };" % tuple_value(numbered("P#.state s.@", n)),
         "",
-        "    ghost meaning = { λ form. SequenceRuns%d %s };" % (n, meanings),
+        "    ghost meaning = { λ form. SequenceRuns%d %s };" % (n, spaced("(P#.meaning form)", n)),
         "",
-        claims["says"],
-        "",
-        claims["claim"],
-        "",
-        "    ghost leaves_ends = { λ form. sequence%d_ends I.reading %s %s };" % (n, meanings, " ".join("(P%d.leaves_ends form)" % k for k in upto(n))),
-        "",
-        claims["said"],
-        "",
-        claims["claimed"],
-        "",
+        *("%s\n" % member for member in laws(n).values()),
         "    #[inline(always)]",
         "    fn parse_next(&mut self, input: &mut I) -> Result<%s, E> {" % outputs,
     ]
@@ -178,16 +128,19 @@ SEQUENCE_IMPLS = """//! Tuples as parsers: their members run in order, and the f
 //! {head}
 ghost use Rattle.std.specs.Prelude.{{⊤}};
 ghost use Rattle.grammars.specs.Grammar.{{Made, Nothing}};
+ghost use Rattle.grammars.specs.Grammar.Tuples.{{join4, join5, join6}};
 ghost use Rattle.grammars.specs.Grammar.Unique.{{made_of_takes}};
 ghost use Rattle.winnow_core.specs.Ends.{{same_ends}};
 ghost use Rattle.winnow_core.specs.Exact.Allowed.{{backs}};
 ghost use Rattle.winnow_core.specs.Exact.Nothing.{{unit_exact, unit_fails}};
+ghost use Rattle.winnow_core.specs.InOrder.Claim.{{both_claim, both_claimed, claimed_by, three_claim, three_claimed}};
 ghost use Rattle.winnow_core.specs.InOrder.Exact.{{OneTuple, tuple1_exact, tuple1_fails}};
-ghost use Rattle.winnow_core.specs.Sequence.{{{names}}};
-{claims}
-ghost use Rattle.winnow_core.specs.Sequence.Laws.{{{laws}}};
-{says}
-ghost use Rattle.winnow_core.specs.Sequence.Small.{{one_said, one_says, unit_said, unit_says}};
+ghost use Rattle.winnow_core.specs.InOrder.Laws.{{both_ends, ends_by, three_ends}};
+ghost use Rattle.winnow_core.specs.Sequence.{{{runs}}};
+ghost use Rattle.winnow_core.specs.Sequence.{{same4, same5, same6, split4, split5, split6}};
+ghost use Rattle.winnow_core.specs.Sequence.Says.{{{said}}};
+ghost use Rattle.winnow_core.specs.Sequence.Says.{{{says}}};
+ghost use Rattle.winnow_core.specs.Sequence.Small.{{one_said, one_says, sequence1_ends, unit_said, unit_says}};
 
 mod stable;
 
@@ -231,21 +184,33 @@ def injected(case, cases, term):
     return term
 
 
+def called(n, k, way):
+    """Returns that the k-th of n members was called; `way` is `ok` or `err`."""
+    return "c.in_%s-%s.ensures.ran" % (way, output_name(n, k))
+
+
+def run_of(n, total, failing, answer):
+    """Returns the run of the first n of the members; one of them may fail. `answer` proves its answer."""
+    kind = "g.E.HasKind.kind c.in_err-%s.field-0.0" % output_name(total, failing) if n == total else "_"
+    if n < 4:
+        ran = failing or n
+        parts = ["_"] * (ran - 1) + [kind if failing else "_"] + ["_"] * (ran - 1)
+        parts += [called(total, k, "err" if k == failing else "ok") for k in upto(ran)]
+        return injected(failing, n + 1, ", ".join(parts + ["refl"] * (n - ran) + [answer]))
+    front = run_of(n - 1, total, failing % n, "refl")
+    if failing and failing < n:
+        return "inr (inl (%s, %s, refl, %s))" % (kind, front, answer)
+    last = called(total, n, "err" if failing else "ok")
+    if failing:
+        return "inr (inr (_, %s, _, %s, %s, %s))" % (kind, front, last, answer)
+    return "inl (_, _, _, %s, %s, %s)" % (front, last, answer)
+
+
 def sequence_ran(n, failing):
     """Returns the proof of the clause `ran` at a return of n children."""
-    ran = failing or n
-    succeeding = ran - 1 if failing else n
-    parts = ["_"] * succeeding
-    if failing:
-        parts.append("g.E.HasKind.kind c.in_err-%s.field-0.0" % output_name(n, failing))
-    parts += ["_"] * (ran - 1)
-    parts += ["c.in_ok-%s.ensures.ran" % output_name(n, k) for k in upto(succeeding)]
-    if failing:
-        parts.append("c.in_err-%s.ensures.ran" % output_name(n, failing))
-    parts += ["refl"] * (n - ran)
-    parts.append("search rules depth 1" if failing else "refl")
     goal = "returns-in_err-%s-clause-ran" % output_name(n, failing) if failing else "returns-clause-ran"
-    return "pub {0} : goal.{0}\n{0} g c = {1}".format(goal, injected(failing, n + 1, ", ".join(parts)))
+    answer = "search rules depth 1" if failing else "refl"
+    return "pub {0} : goal.{0}\n{0} g c = {1}".format(goal, run_of(n, n, failing, answer))
 
 
 def sequence_ends(n, failing):
@@ -277,24 +242,15 @@ use Rattle.std.proofs.Common.{{rules, refl, inl, inr}}
 """
 
 
-CLAIMS = "ghost use Rattle.winnow_core.specs.Sequence.Claim.{sequence%d_claim, sequence%d_claimed};"
-SAYS = "ghost use Rattle.winnow_core.specs.Sequence.Says.{sequence%d_said, sequence%d_says};"
-
-
 def write_sequences():
     core = "crates/winnow_core/"
     every = upto(MOST)
-    write(core + "specs/Sequence.antt", SEQUENCE_SPECS, family="\n\n".join(sequence_spec(n) for n in every))
-    names = ", ".join("SequenceRuns%d" % n for n in range(MOST + 1))
-    some = ", ".join("SequenceRuns%d" % n for n in every)
-    write(core + "specs/Sequence/Laws.antt", SEQUENCE_ENDS, names=some, family="\n\n".join(sequence_ends_law(n) for n in every))
     write(
         core + "src/parser/tuples.rt",
         SEQUENCE_IMPLS,
-        names=names,
-        laws=", ".join("sequence%d_ends" % n for n in every),
-        claims="\n".join(CLAIMS % (n, n) for n in every if n > 1),
-        says="\n".join(SAYS % (n, n) for n in every if n > 1),
+        runs=", ".join("SequenceRuns%d" % n for n in range(MOST + 1)),
+        said=", ".join("sequence%d_said" % n for n in every if n > 1),
+        says=", ".join("sequence%d_says" % n for n in every if n > 1),
         nothing_claim=NOTHING_CLAIMS["claim"],
         nothing_claimed=NOTHING_CLAIMS["claimed"],
         family="\n\n".join(sequence_impl(n) for n in every),

@@ -1,8 +1,7 @@
-"""Lemmas and impls of `Stable` for families of parsers whose children are stable."""
-from family.common import BETWEEN, MOST, block, rust_tuple, upto, write
+"""Impls of `Stable` for families of parsers whose children are stable."""
+from family.common import MOST, block, rust_tuple, upto, write
+from family.sequences import law_of, whole
 
-# The lemmas of larger tuples are in a file of their own.
-SMALL = 4
 # The argument of a combinator's lemma for the child P.
 CHILD = "(grows (P%d.leaves_ends modal) P%d.stable)"
 
@@ -11,86 +10,14 @@ def child(k):
     return CHILD % (k, k)
 
 
-def longer(x):
-    return "with_more %s more flag" % x
-
-
-def case_name(n, failing):
-    """Returns the pattern of a run of n children, of whom one may fail, and the parts of the same
-    run on longer input."""
-    ran = failing or n
-    outputs = ["o%d" % k for k in upto(ran - 1 if failing else n)] + (["k"] if failing else [])
-    between = list(BETWEEN[: ran - 1])
-    same = ["kept%d" % k for k in range(ran + 1, n + 1)]
-    was = outputs + between + ["r%d" % k for k in upto(ran)] + same + ["is"]
-    now = outputs + [longer(x) for x in between] + ["q%d" % k for k in upto(ran)] + same + ["is"]
-    return ", ".join(was), ", ".join(now)
-
-
-def injected(parts, place, last):
-    """Returns a case of a nested sum."""
-    term = "(%s)" % parts
-    if place < last:
-        term = "(inl %s)" % term
-    for _ in range(place):
-        term = "(inr %s)" % term
-    return term
-
-
-def case(n, failing):
-    """Returns the proof that a run of n children, of whom one may fail, grows."""
-    ran = failing or n
-    was, now = case_name(n, failing)
-    head = "sequence%d_grows %s more flag s i answer t j may final" % (n, " ".join("c%d" % k for k in upto(n)))
-    lines = ["  %s %s =" % (head, injected(was, failing, n))]
-    for k in upto(ran):
-        before = "i" if k == 1 else BETWEEN[k - 2]
-        after = "j" if k == ran else BETWEEN[k - 1]
-        may = "may" if k == 1 else "g%d" % (k - 1)
-        fails = k == failing
-        answer = "(Err k)" if fails else "(Ok o%d)" % k
-        final = "(final_by (Err k) is final)" if fails else "tt"
-        lines.append(
-            "      let (q%d, g%d) = c%d more flag s.%d %s %s t.%d %s %s %s r%d in"
-            % (k, k, k, k - 1, before, answer, k - 1, after, may, final, k)
-        )
-    lines.append("      (%s, g%d)" % (injected(now, failing, n)[1:-1], ran))
-    return "\n".join(lines)
-
-
-def sequence_lemma(n):
-    types = ["S%d" % k for k in upto(n)] + ["O%d" % k for k in upto(n)]
-    runs = " ".join("{run%d : Runs S%d T O%d}" % (k, k, k) for k in upto(n))
-    premises = " ".join("→ Grows following run%d" % k for k in upto(n))
-    whole = "SequenceRuns%d %s" % (n, " ".join("run%d" % k for k in upto(n)))
-    head = "  pub sequence%d_grows : {%s : Type 0} %s %s → Grows following (%s)" % (n, " ".join(types), runs, premises, whole)
-    return "\n".join([head, *(case(n, failing) for failing in range(n + 1))])
-
-
-SEQUENCES = """-- Sequences satisfy `Grows` if their children do.
--- {head}
-use Rattle.std.specs.Prelude.{{Ok, Err}}
-use Rattle.std.proofs.Common.{{inl, inr}}
-use Rattle.streams.specs.Following.{{Following}}
-use Rattle.streams.specs.Input.{{with_more}}
-use Rattle.winnow_core.specs.Runs.{{Runs}}
-use Rattle.winnow_core.specs.Sequence.{{{sequences}}}
-use Rattle.winnow_core.specs.Stable.Grows.{{Grows, final_by}}
-{imports}
-module _ {{T : Type 0}} {{following : Following T}} where
-{family}
-"""
-
-NONE = """  pub sequence0_grows : Grows following SequenceRuns0
-  sequence0_grows more flag s i answer t j may final (e, same) =
-      let (again, last) = same_grows flag may same in ((e, again), last)"""
-
 TUPLES = """//! Impls of `Stable` for tuples: they are stable if their members are.
 //!
 //! {head}
+ghost use Rattle.grammars.specs.Grammar.Tuples.{{join4, join5, join6}};
 ghost use Rattle.stream_errors.specs.Form.{{modal}};
-ghost use Rattle.winnow_core.specs.Sequence.Grows.{{{small}}};
-ghost use Rattle.winnow_core.specs.Sequence.LargeGrows.{{{large}}};
+ghost use Rattle.winnow_core.specs.InOrder.Laws.{{both_grows, grows_by, three_grow}};
+ghost use Rattle.winnow_core.specs.Sequence.{{split4, split5, split6}};
+ghost use Rattle.winnow_core.specs.Sequence.Small.{{sequence0_grows, sequence1_grows}};
 ghost use Rattle.winnow_core.specs.Stable.Grows.{{grows, stays}};
 
 use crate::stable::Stable;
@@ -117,9 +44,18 @@ def tuple_block(n):
     outputs = ["O%d" % k + (": Drop" if k < n else "") for k in upto(n)]
     parsers = ["P%d: Stable<I, O%d, E>" % (k, k) for k in upto(n)]
     trait = "Stable<I, %s, E>" % rust_tuple(["O%d" % k for k in upto(n)])
-    law = "stays (sequence%d_grows %s)" % (n, " ".join(child(k) for k in upto(n)))
     kind = rust_tuple(["P%d" % k for k in upto(n)])
+    law = "stays (%s)" % sequence_grows(n)
     return block(["I: Stream", *outputs, "E: ParserError<I>", *parsers], trait, kind, "", member(law))
+
+
+def sequence_grows(n):
+    """Returns the law that a tuple of n grows if its members do."""
+    if n == 1:
+        return "sequence1_grows %s" % child(1)
+    parts = [" ".join(child(k) for k in upto(size)) for size in (2, 3)]
+    small = ("%s %s %s" % (name, whole(k), parts[k - 2]) for k, name in ((2, "both_grows"), (3, "three_grow")))
+    return law_of(n, *small, "grows_by split{n} (both_grows join{n} ({front}) (grows (P{n}.leaves_ends modal) P{n}.stable))")
 
 
 def choice_block(n):
@@ -148,12 +84,5 @@ def integer_block(one, kind, order, value):
 
 def write_stable():
     core = "crates/winnow_core/"
-    same = "use Rattle.winnow_core.specs.Stable.Longer.{same_grows}\n"
-    for name, sizes, imports in [("Grows", range(SMALL + 1), same), ("LargeGrows", range(SMALL + 1, MOST + 1), "")]:
-        sequences = ", ".join("SequenceRuns%d" % n for n in sizes)
-        family = "\n\n".join(sequence_lemma(n) if n else NONE for n in sizes)
-        write(core + "specs/Sequence/%s.antt" % name, SEQUENCES, sequences=sequences, family=family, imports=imports)
-    small = ", ".join("sequence%d_grows" % n for n in range(SMALL + 1))
-    large = ", ".join("sequence%d_grows" % n for n in range(SMALL + 1, MOST + 1))
     family = "\n\n".join(tuple_block(n) for n in upto(MOST))
-    write(core + "src/parser/tuples/stable.rt", TUPLES, small=small, large=large, family=family)
+    write(core + "src/parser/tuples/stable.rt", TUPLES, family=family)

@@ -22,13 +22,14 @@ use Rattle.winnow.specs.Equal.{true_is_false}
 use Rattle.winnow.specs.Following.{most_bytes}
 use Rattle.winnow.specs.Form.{Answer, ErrorForm, modal}
 use Rattle.winnow.specs.Form.Inversion.{ok_is_err, same_kind, same_ok}
+use Rattle.winnow.specs.InOrder.Inversion.{three_err}
 use Rattle.winnow.specs.InParts.{reads_below, reads_both, reads_fewer}
 use Rattle.winnow.specs.Input.{Input}
 use Rattle.winnow.specs.Kind.{Kind}
 use Rattle.winnow.specs.Reading.{Reading}
 use Rattle.winnow.specs.Runs.{Keeps, Runs}
 use Rattle.winnow.specs.Sequence.{SequenceRuns3}
-use Rattle.winnow.specs.Sequence.Inversion.{sequence3_err, sequence3_ok}
+use Rattle.winnow.specs.Sequence.Inversion.{sequence3_ok}
 use Rattle.winnow.specs.Within.{ReadsNumber}
 use Rattle.winnow.specs.Needs.{need_in_bytes, with_need}
 use Rattle.winnow.specs.Short.{ShortKind}
@@ -163,7 +164,7 @@ module _ {S1 S2 S3 O1 O2 O3 L : Type 0} (reading : Reading Bool L)
     (p3 : ReadsBits reading need3 three run3 s.2 n3 Fits3) where
   three_must : (i : Input Bool) (k : Kind) (t : S1 × S2 × S3) (j : Input Bool) → CanRead all i
       → SequenceRuns3 run1 run2 run3 s i (Err k) t j → ⊥
-  three_must i k t j can ran = elim (sequence3_err k ran) [
+  three_must i k t j can ran = elim (three_err k ran) [
     | inl (r1, kept2, kept3) ↦ p1.answers i k t.0 j (record {
       possible = can.possible;
       enough = omega (arith, can.enough, first, total);
@@ -186,7 +187,7 @@ module _ {S1 S2 S3 O1 O2 O3 L : Type 0} (reading : Reading Bool L)
   three_lacks : (i : Input Bool) (k : Kind) (t : S1 × S2 × S3) (j : Input Bool)
       → i.left.possible ≡ true → i.left.tokens ≡ [] → SequenceRuns3 run1 run2 run3 s i (Err k) t j
       → ShortKind modal (Some need) i k
-  three_lacks i k t j can none ran = elim (sequence3_err k ran) [
+  three_lacks i k t j can none ran = elim (three_err k ran) [
     | inl (r1, kept2, kept3) ↦ p1.lacks i k t.0 j can none r1
     | inr (inl (o1, a, r1, r2, kept3)) ↦ absurd (began o1 a r1)
     | inr (inr (o1, o2, a, b, r1, r2, r3)) ↦ absurd (began o1 a r1)

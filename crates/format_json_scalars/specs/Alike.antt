@@ -62,12 +62,12 @@ taken_same same = record {
 pub four_second : {O1 O2 O3 O4 : Type 0} (g1 : Grammar ℕ O1) {g2 h2 : Grammar ℕ O2}
     (g3 : Grammar ℕ O3) (g4 : Grammar ℕ O4) → Same g2 h2
     → Same (Four g1 g2 g3 g4) (Four g1 h2 g3 g4)
-unfolding Four
+unfolding Both Three
 four_second g1 g3 g4 same = record {
-  there = λ tokens o rest (o1, o2, o3, o4, a, b, c, x1, x2, x3, x4, is).
-      (o1, o2, o3, o4, a, b, c, x1, same.there a o2 b x2, x3, x4, is);
-  back = λ tokens o rest (o1, o2, o3, o4, a, b, c, x1, x2, x3, x4, is).
-      (o1, o2, o3, o4, a, b, c, x1, same.back a o2 b x2, x3, x4, is);
+  there = λ tokens o rest (front, o4, c, (o1, o2, o3, a, b, x1, x2, x3, e), x4, is).
+      (front, o4, c, (o1, o2, o3, a, b, x1, same.there a o2 b x2, x3, e), x4, is);
+  back = λ tokens o rest (front, o4, c, (o1, o2, o3, a, b, x1, x2, x3, e), x4, is).
+      (front, o4, c, (o1, o2, o3, a, b, x1, same.back a o2 b x2, x3, e), x4, is);
 }
 
 -- a text that is read

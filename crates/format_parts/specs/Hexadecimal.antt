@@ -7,7 +7,7 @@ use Rattle.winnow.specs.Grammar.{Grammar, IsUnique, Made, TakesTokens, Token}
 use Rattle.winnow.specs.Grammar.Meaning.{Meaning, meaning_takes, meaning_unique}
 use Rattle.winnow.specs.Grammar.Outputs.{IsAlike}
 use Rattle.winnow.specs.Grammar.Sequences.{four_take, four_unique}
-use Rattle.winnow.specs.Grammar.Tuples.{Four}
+use Rattle.winnow.specs.Grammar.Tuples.{Four, join4}
 use Rattle.winnow.specs.Grammar.Unique.{token_unique}
 use Rattle.winnow.specs.Texts.{Anything, IsGrammarOf, Text}
 use Rattle.winnow.specs.Texts.Fronts.{front_any}
@@ -84,17 +84,18 @@ one_digit tokens d e rest other (c, x, is) (b, y, was) =
     (one_hex c d e is (subst P (same_first (sym y ∙ x)) was), same_others (sym x ∙ y))
 
 pub one_unit : SaysOne CodeUnit
-unfolding Made Four
+unfolding Both Made Three
 one_unit tokens u v rest other
-    (o, (a1, a2, a3, a4, m1, m2, m3, x1, x2, x3, x4, e), is)
-    (p, (b1, b2, b3, b4, n1, n2, n3, y1, y2, y3, y4, f), was) =
+    (o, (a, a4, m3, (a1, a2, a3, m1, m2, x1, x2, x3, d), x4, e), is)
+    (p, (b, b4, n3, (b1, b2, b3, n1, n2, y1, y2, y3, g), y4, f), was) =
     let (d1, r1) = one_digit tokens a1 b1 m1 n1 x1 y1 in
     let P : List ℕ → ℕ → List ℕ → Type 0 = λ l d r. Digit l d r in
     let (d2, r2) = one_digit n1 a2 b2 m2 n2 (subst (λ l. P l a2 m2) r1 x2) y2 in
     let (d3, r3) = one_digit n2 a3 b3 m3 n3 (subst (λ l. P l a3 m3) r2 x3) y3 in
     let (d4, r4) = one_digit n3 a4 b4 rest other (subst (λ l. P l a4 rest) r3 x4) y4 in
-    let first = is ∙ ap (λ (q : ℕ × ℕ × ℕ × ℕ). q.0 * 4096 + q.1 * 256 + q.2 * 16 + q.3) e in
-    let second = was ∙ ap (λ (q : ℕ × ℕ × ℕ × ℕ). q.0 * 4096 + q.1 * 256 + q.2 * 16 + q.3) f in
+    let number : ℕ × ℕ × ℕ × ℕ → ℕ = λ q. q.0 * 4096 + q.1 * 256 + q.2 * 16 + q.3 in
+    let first = is ∙ ap number (e ∙ ap (λ (q : ℕ × ℕ × ℕ). join4 q a4) d) in
+    let second = was ∙ ap number (f ∙ ap (λ (q : ℕ × ℕ × ℕ). join4 q b4) g) in
     (omega (arith, first, second, d1, d2, d3, d4), r4)
 
 -- ---- what is left is one rest, and digits are taken

@@ -179,18 +179,19 @@ abbrev pub FourTexts : {O1 O2 O3 O4 : Type 0} → Text ℕ O1 → Text ℕ O2 �
 FourTexts {O1} {O2} {O3} {O4} t1 t2 t3 t4 =
     BothText to_four t1 (BothText pair t2 (BothText pair t3 t4))
 
--- four are one and three, which are one and two
+-- four are one and three, which are one and two; they are also three and one
 pub four_same : {O1 O2 O3 O4 : Type 0} (g1 : Grammar ℕ O1) (g2 : Grammar ℕ O2) (g3 : Grammar ℕ O3)
     (g4 : Grammar ℕ O4)
     → Same (Both to_four g1 (Both pair g2 (Both pair g3 g4))) (Four g1 g2 g3 g4)
-unfolding Both Four
+unfolding Both Three
 four_same {O1} {O2} {O3} {O4} g1 g2 g3 g4 = record {
   there = λ tokens o rest (o1, q, a, x, (o2, p, b, y, (o3, o4, c, z, w, r), s), t).
       let e = s ∙ ap (λ (p : O3 × O4). (o2, p)) r in
       let f = t ∙ ap (λ (q : O2 × (O3 × O4)). (o1, q.0, q.1.0, q.1.1)) e in
-      (o1, o2, o3, o4, a, b, c, x, y, z, w, f);
-  back = λ tokens o rest (o1, o2, o3, o4, a, b, c, x, y, z, w, e).
-      (o1, (o2, (o3, o4)), a, x, (o2, (o3, o4), b, y, (o3, o4, c, z, w, refl), refl), e);
+      ((o1, o2, o3), o4, c, (o1, o2, o3, a, b, x, y, z, refl), w, f);
+  back = λ tokens o rest (front, o4, c, (o1, o2, o3, a, b, x, y, z, e), w, f).
+      let whole = f ∙ ap (λ (q : O1 × O2 × O3). (q.0, q.1, q.2, o4)) e in
+      (o1, (o2, (o3, o4)), a, x, (o2, (o3, o4), b, y, (o3, o4, c, z, w, refl), refl), whole);
 }
 
 -- a text between two others

@@ -3,6 +3,7 @@ use Rattle.std.specs.Prelude.{◌≡◌, Ok, Err, ◌⊎◌}
 use Rattle.streams.specs.Input.{Input}
 use Rattle.streams.specs.Kind.{Kind}
 use Rattle.winnow_core.specs.Runs.{Runs}
+pub mod Claim
 pub mod Decided
 pub mod Exact
 pub mod Inversion

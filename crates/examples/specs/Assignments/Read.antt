@@ -2,6 +2,7 @@
 -- missing, or where the input does not start with a line.
 use Rattle.std.specs.Prelude.{◌≡◌, ◌<◌, ⊤, ℕ, false, List, [], ◌∷◌, length}
 use Rattle.std.specs.Prelude.{Result, Ok, Err}
+use Rattle.std.specs.Borrow.{Bor}
 use Rattle.std.specs.List.{FoldsTo}
 use Rattle.std.proofs.Common.{refl, sym, ap, subst, inl, inr, ◌∙◌, arith}
 use Rattle.examples.specs.Assignments.Assignments.{AreLines, Digits, IsFlag, IsSetting}
@@ -45,7 +46,7 @@ line_law =
     let one = λ (k l : ℕ) (e : k ≡ l). e in
     (or_else_said (void_said (sequence4_said (some IsAlpha) (byte 61)
     (cut_err_said (some IsDecDigit)) (byte 10)))
-    (void_said (sequence2_said (some IsAlpha) (byte 10)))).law ((one, tt, one, tt), (one, tt))
+    (void_said (sequence2_said (some IsAlpha) (byte 10)))).law (((one, tt, one), tt), (one, tt))
 
 -- a line has tokens
 fewer : (tokens : List ℕ) (u : Unit {0}) (rest : List ℕ) → Line tokens u rest
@@ -56,6 +57,12 @@ fewer tokens u rest (inl (name, value, digits, x, z)) =
     omega (arith, less, more)
 fewer tokens u rest (inr (name, x)) =
     omega (arith, (some_takes IsAlpha).fewer tokens name (10 ∷ rest) x)
+
+-- a name, an equals sign and digits
+abbrev HasValue : List ℕ → List ℕ → Type 0
+HasValue tokens rest =
+    (name : Bor (List ℕ)) × (value : List ℕ) × (digits : Bor (List ℕ))
+    × Name tokens name (61 ∷ value) × Digits value digits rest
 
 -- Lines, and then the rest, which starts neither with a line nor with a missing value.
 abbrev EndsLines : List ℕ → List ℕ → Type 0
@@ -76,15 +83,16 @@ module _ (at : Setting) (whole : at.more ≡ false) where
       one (name, subst (λ l. Name tokens name l) is x)))) (λ o rest is.
       record { gives = λ y (u, made, e). subst Is (sym e) (inr is) }) in
       comes {reads = Line tokens} (after {reads = λ _ rest. IsSetting tokens rest}
+      (after {reads = λ _ rest. HasValue tokens rest}
       (after (class_back at whole IsAlpha tokens) (λ name a x.
       after (byte_back at whole 61 a) (λ e b is.
       let first = subst (λ l. Name tokens name l) is x in
       after {back = λ _. ⊤} (comes (class_back at whole IsDecDigit {cut = λ _. ⊥} b)
       (λ o rest is. one is) (λ place (same, none).
       one (name, subst (λ l. Name tokens name (61 ∷ l)) same first, none))
-      (λ place never. absurd never)) (λ digits c z.
-      after (byte_back at whole 10 c) (λ n rest was.
-      one (name, b, digits, first, subst (λ l. Digits b digits l) was z))))))
+      (λ place never. absurd never)) (λ digits c z. one (name, b, digits, first, z)))))
+      (λ o c front. after (byte_back at whole 10 c) (λ n rest was.
+      one (subst (λ l. HasValue tokens l) was front))))
       (λ o rest is. record { gives = λ y (u, made, e). subst Is (sym e) (inl is) }))
       (λ u rest is. one is) (λ place is. record { gives = flag.gives }) (λ place is. one is)
 
@@ -95,14 +103,18 @@ module _ (at : Setting) (whole : at.more ≡ false) where
       let second = class_there at whole IsDecDigit value digits (10 ∷ rest) z in
       let feed = byte_there at whole 10 rest in
       let sign = byte_there at whole 61 value in
-      (_, (_, (_, first, (_, sign, (_, (_, second, refl), (_, feed, refl)))), (u, tt, refl)), refl)
+      (
+        _,
+        (_, (_, (_, first, (_, sign, (_, (_, second, refl), refl))), (_, feed, refl)), (u, tt, refl)),
+        refl,
+      )
   line_there tokens u rest (inr (name, x)) =
       let first = class_there at whole IsAlpha tokens name (10 ∷ rest) x in
       let back = byte_fails at whole 61 (10 ∷ rest) (λ o end x.
       absurd (omega (arith, same_first (byte_stands 61 (10 ∷ rest) o end x).0))) in
       let feed = byte_there at whole 10 rest in (
         _,
-        (_, (_, first, (_, back, refl)), refl),
+        (_, (_, (_, first, (_, back, refl)), refl), refl),
         (_, (_, first, (_, feed, refl)), (u, tt, refl)),
       )
 
@@ -111,13 +123,13 @@ module _ (at : Setting) (whole : at.more ≡ false) where
       let first = class_there at whole IsAlpha tokens name (61 ∷ rest) x in
       let lacks = class_fails at whole IsDecDigit rest none in
       let equals = byte_there at whole 61 rest in
-      (_, (_, (_, first, (_, equals, (_, (_, lacks, refl), refl))), refl), refl)
+      (_, (_, (_, (_, first, (_, equals, (_, (_, lacks, refl), refl))), refl), refl), refl)
 
   none_there : line1.does at [] (backs [])
   none_there =
       let none = class_fails at whole IsAlpha [] (λ o rest x.
       absurd (omega (arith, (some_takes IsAlpha).fewer [] o rest x))) in
-      (_, (_, (_, none, refl), refl), (_, (_, none, refl), refl))
+      (_, (_, (_, (_, none, refl), refl), refl), (_, (_, none, refl), refl))
 
   -- ---- all lines
 

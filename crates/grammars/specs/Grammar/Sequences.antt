@@ -2,8 +2,8 @@
 use Rattle.std.specs.Prelude.{◌⊎◌, List}
 use Rattle.std.proofs.Common.{subst, inl, inr, arith}
 use Rattle.grammars.specs.Grammar.{Grammar, IsUnique, TakesTokens, Three}
-use Rattle.grammars.specs.Grammar.Tuples.{Four}
-use Rattle.grammars.specs.Grammar.Unique.{end_of_end, no_longer_than}
+use Rattle.grammars.specs.Grammar.Tuples.{Four, join4}
+use Rattle.grammars.specs.Grammar.Unique.{both_take, both_unique, end_of_end, no_longer_than}
 
 module _ {T O1 O2 O3 O : Type 0} (output : O1 → O2 → O3 → O) {g1 : Grammar T O1}
     {g2 : Grammar T O2} {g3 : Grammar T O3} where
@@ -41,37 +41,19 @@ module _ {T O1 O2 O3 O4 : Type 0} {g1 : Grammar T O1} {g2 : Grammar T O2} {g3 : 
     {g4 : Grammar T O4} (first : IsUnique g1) (second : IsUnique g2) (third : IsUnique g3)
     (fourth : IsUnique g4) where
   pub four_unique : IsUnique (Four g1 g2 g3 g4)
-  unfolding Four
-  four_unique = record {
-    ends = λ tokens o rest (o1, o2, o3, o4, a, b, c, x, y, z, w, e).
-        end_of_end (first.ends tokens o1 a x)
-        (end_of_end (second.ends a o2 b y)
-        (end_of_end (third.ends b o3 c z) (fourth.ends c o4 rest w)));
-    one = λ tokens o p rest other (o1, o2, o3, o4, a, b, c, x, y, z, w, e)
-        (p1, p2, p3, p4, d, f, g, t, u, v, s, h).
-        let P : List T → Type 0 = λ l. g2 l o2 b in
-        let Q : List T → Type 0 = λ l. g3 l o3 c in
-        let R : List T → Type 0 = λ l. g4 l o4 rest in
-        let one = first.one tokens o1 p1 a d x t in
-        let two = second.one d o2 p2 b f (subst P one y) u in
-        let three = third.one f o3 p3 c g (subst Q two z) v in
-        fourth.one g o4 p4 rest other (subst R three w) s;
-  }
+  four_unique = both_unique join4 (three_unique (λ o1 o2 o3. (o1, o2, o3)) first second third) fourth
 
   -- where one of them takes tokens, so do all
   pub four_take : TakesTokens g1 ⊎ (TakesTokens g2 ⊎ (TakesTokens g3 ⊎ TakesTokens g4))
       → TakesTokens (Four g1 g2 g3 g4)
-  unfolding Four
-  four_take some = record {
-    fewer = λ tokens o rest (o1, o2, o3, o4, a, b, c, x, y, z, w, e).
-        let one = no_longer_than first tokens o1 a x in
-        let two = no_longer_than second a o2 b y in
-        let three = no_longer_than third b o3 c z in
-        let four = no_longer_than fourth c o4 rest w in
-        elim some [
-          | inl takes ↦ omega (arith, takes.fewer tokens o1 a x, two, three, four)
-          | inr (inl takes) ↦ omega (arith, one, takes.fewer a o2 b y, three, four)
-          | inr (inr (inl takes)) ↦ omega (arith, one, two, takes.fewer b o3 c z, four)
-          | inr (inr (inr takes)) ↦ omega (arith, one, two, three, takes.fewer c o4 rest w)
-        ];
-  }
+  four_take some =
+      let three : TakesTokens g1 ⊎ (TakesTokens g2 ⊎ TakesTokens g3)
+      → TakesTokens (Three (λ o1 o2 o3. (o1, o2, o3)) g1 g2 g3) =
+      three_take (λ o1 o2 o3. (o1, o2, o3)) first second third in
+      both_take join4 (three_unique (λ o1 o2 o3. (o1, o2, o3)) first second third) fourth
+      (elim some [
+        | inl takes ↦ inl (three (inl takes))
+        | inr (inl takes) ↦ inl (three (inr (inl takes)))
+        | inr (inr (inl takes)) ↦ inl (three (inr (inr takes)))
+        | inr (inr (inr takes)) ↦ inr takes
+      ])

@@ -5,7 +5,7 @@ use Rattle.streams.specs.Following.{Following}
 use Rattle.streams.specs.Input.{is_end_of_trans, is_end_of_trans3, with_more}
 use Rattle.streams.specs.Reading.{Reading}
 use Rattle.winnow_core.specs.InOrder.{BothRuns, ThreeRuns}
-use Rattle.winnow_core.specs.Runs.{Runs, LeaveEnds}
+use Rattle.winnow_core.specs.Runs.{By, LeaveEnds, Runs}
 use Rattle.winnow_core.specs.Stable.Grows.{Grows, final_by}
 
 -- every call leaves a suffix, if the children do
@@ -81,3 +81,14 @@ module _ {T : Type 0} {following : Following T} where
       let (q2, g2) = c2 more flag s.1 a (Ok o2) t.1 b g1 tt r2 in
       let (q3, g3) = c3 more flag s.2 b (Err k) t.2 j g2 (final_by (Err k) e final) r3 in
       (inr (inr (inr (o1, o2, k, with_more a more flag, with_more b more flag, q1, q2, q3, e))), g3)
+
+-- ---- the same runs, whose state is in another form
+
+pub ends_by : {S R T L O : Type 0} {reading : Reading T L} {run : Runs S T O} (to : R → S)
+    → LeaveEnds reading run → LeaveEnds reading (By to run)
+ends_by to ends s i answer t j r = ends (to s) i answer (to t) j r
+
+pub grows_by : {S R T O : Type 0} {following : Following T} {run : Runs S T O} (to : R → S)
+    → Grows following run → Grows following (By to run)
+grows_by to child more flag s i answer t j may final r =
+    child more flag (to s) i answer (to t) j may final r

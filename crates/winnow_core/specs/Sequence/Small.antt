@@ -1,16 +1,38 @@
--- The specification of tuples of zero and one parsers.
-use Rattle.std.specs.Prelude.{◌≡◌, ⊤}
-use Rattle.std.proofs.Common.{refl, ap}
+-- Laws and specified outcomes of tuples of zero and one parsers.
+use Rattle.std.specs.Prelude.{◌≡◌, ⊤, Ok, Err}
+use Rattle.std.proofs.Common.{refl, ap, inl, inr}
+use Rattle.streams.specs.Following.{Following}
+use Rattle.streams.specs.Reading.{Reading}
 use Rattle.winnow_core.specs.InOrder.Decided.{AlikeOne}
 use Rattle.winnow_core.specs.InOrder.Says.{does_along, last_does}
 use Rattle.winnow_core.specs.Outcome.{as_longer, both, gave, took}
-use Rattle.winnow_core.specs.Runs.{Meaning}
+use Rattle.winnow_core.specs.Runs.{LeaveEnds, Meaning, Runs}
 use Rattle.winnow_core.specs.Says.{Said, Says}
 use Rattle.winnow_core.specs.Says.Leaf.{here_did}
 use Rattle.winnow_core.specs.Sequence.{SequenceRuns0, SequenceRuns1}
+use Rattle.winnow_core.specs.Stable.Grows.{Grows, final_by}
+use Rattle.winnow_core.specs.Stable.Longer.{same_grows}
 use Rattle.winnow_core.specs.Then.{Then, then_law}
 use Rattle.winnow_core.specs.Then.Steps.{holds_where, meets_where, takes, takes_hold, takes_meet}
 use Rattle.winnow_core.specs.Then.Steps.{where_took}
+
+pub sequence0_grows : {T : Type 0} {following : Following T} → Grows following SequenceRuns0
+sequence0_grows more flag s i answer t j may final (e, same) =
+    let (again, last) = same_grows flag may same in ((e, again), last)
+
+module _ {S T O : Type 0} {run : Runs S T O} where
+  pub sequence1_ends : {L : Type 0} {reading : Reading T L} → LeaveEnds reading run
+      → LeaveEnds reading (SequenceRuns1 run)
+  sequence1_ends ends s i answer t j (inl (o, r, e)) = ends s.0 i (Ok o) t.0 j r
+  sequence1_ends ends s i answer t j (inr (k, r, e)) = ends s.0 i (Err k) t.0 j r
+
+  pub sequence1_grows : {following : Following T} → Grows following run
+      → Grows following (SequenceRuns1 run)
+  sequence1_grows c more flag s i answer t j may final (inl (o, r, e)) =
+      let (q, g) = c more flag s.0 i (Ok o) t.0 j may tt r in (inl (o, q, e), g)
+  sequence1_grows c more flag s i answer t j may final (inr (k, r, e)) =
+      let (q, g) = c more flag s.0 i (Err k) t.0 j may (final_by (Err k) e final) r in
+      (inr (k, q, e), g)
 
 -- Nothing is taken.
 abbrev pub unit_says : {T : Type 0} → Says T ⊤

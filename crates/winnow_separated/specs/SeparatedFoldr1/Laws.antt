@@ -9,11 +9,10 @@ use Rattle.stream_sets.specs.Range.{from_to}
 use Rattle.streams.specs.Following.{Following}
 use Rattle.winnow_core.specs.Runs.{Runs, LeaveEnds}
 use Rattle.winnow_core.specs.Sequence.{SequenceRuns2}
-use Rattle.winnow_core.specs.Sequence.Laws.{sequence2_ends}
+use Rattle.winnow_core.specs.InOrder.Laws.{both_ends, both_grows}
 use Rattle.winnow_repeat.specs.Repeat.Laws.{many_ends, many_grow}
 use Rattle.winnow_separated.specs.SeparatedFoldr1.{SeparatedFoldr1Runs}
 use Rattle.winnow_core.specs.Stable.Grows.{Grows, final_by}
-use Rattle.winnow_core.specs.Sequence.Grows.{sequence2_grows}
 
 -- every call leaves a suffix, if elements and separators do
 pub foldr1_ends : {S W Q T L O D : Type 0} (A : Type 0) (reading : Reading T L)
@@ -25,12 +24,12 @@ foldr1_ends A reading step run separator assert_kind ends between s i answer t j
 foldr1_ends A reading step run separator assert_kind ends between s i answer t j
     (inr (inl (first, v, n, k, r, links, kept, e))) =
     is_end_of_trans (many_ends reading (SequenceRuns2 separator run) (list_kept {A = A})
-    assert_kind (from_to 0 None) (sequence2_ends reading separator run between ends) (s.1, v) n
+    assert_kind (from_to 0 None) (both_ends reading (λ d o. (d, o)) separator run between ends) (s.1, v) n
     (Err k) (t.1, t.0) j links) (ends s.0 i (Ok first) v n r)
 foldr1_ends A reading step run separator assert_kind ends between s i answer t j
     (inr (inr (first, v, n, all, value, r, links, folded, e))) =
     is_end_of_trans (many_ends reading (SequenceRuns2 separator run) (list_kept {A = A})
-    assert_kind (from_to 0 None) (sequence2_ends reading separator run between ends) (s.1, v) n
+    assert_kind (from_to 0 None) (both_ends reading (λ d o. (d, o)) separator run between ends) (s.1, v) n
     (Ok all) (t.1, t.0) j links) (ends s.0 i (Ok first) v n r)
 
 module _ {T : Type 0} {following : Following T} where
@@ -46,7 +45,7 @@ module _ {T : Type 0} {following : Following T} where
   foldr1_grows A step run separator asserted child between more flag s i answer t j may final
       (inr (inl (first, v, n, k, r, items, kept, e))) =
       let (q, still) = child more flag s.0 i (Ok first) v n may tt r in
-      let pairs = sequence2_grows between child in
+      let pairs = both_grows (λ d o. (d, o)) between child in
       let (p, last) =
       many_grow (SequenceRuns2 separator run) (list_kept {A = A}) asserted (from_to 0 None) pairs
       more flag (s.1, v) n (Err k) (t.1, t.0) j still (final_by (Err k) e final) items in
@@ -54,7 +53,7 @@ module _ {T : Type 0} {following : Following T} where
   foldr1_grows A step run separator asserted child between more flag s i answer t j may final
       (inr (inr (first, v, n, links, value, r, items, folds, e))) =
       let (q, still) = child more flag s.0 i (Ok first) v n may tt r in
-      let pairs = sequence2_grows between child in
+      let pairs = both_grows (λ d o. (d, o)) between child in
       let (p, last) =
       many_grow (SequenceRuns2 separator run) (list_kept {A = A}) asserted (from_to 0 None) pairs
       more flag (s.1, v) n (Ok links) (t.1, t.0) j still tt items in

@@ -1,12 +1,8 @@
 //! Two children with one between them whose output is let go.
-ghost use Rattle.std.specs.Prelude.{◌⊎◌};
-ghost use Rattle.grammars.specs.Grammar.{Three};
 ghost use Rattle.stream_errors.specs.Form.{modal};
-ghost use Rattle.winnow_core.specs.Exact.Allowed.{fails_as};
-ghost use Rattle.winnow_core.specs.Exact.Along.{either_way};
+ghost use Rattle.winnow_core.specs.InOrder.Claim.{three_claim, three_claimed};
 ghost use Rattle.winnow_core.specs.InOrder.Decided.{AlikePairs};
 ghost use Rattle.winnow_core.specs.InOrder.Laws.{three_ends, three_grow};
-ghost use Rattle.winnow_core.specs.InOrder.Three.{three_exact, three_fails, three_takes};
 ghost use Rattle.winnow_core.specs.InOrder.Says.{three_said, three_says};
 ghost use Rattle.winnow_core.specs.Stable.Grows.{grows, stays};
 ghost use Rattle.winnow_comb.specs.SeparatedPair.{SeparatedPairRuns};
@@ -59,17 +55,7 @@ impl<
         (AlikePairs (P1.says s.0).alike (P3.says s.2).alike)
         (P1.says s.0) (P2.says s.1) (P3.says s.2) };
 
-    ghost claim = { λ s. record {
-      premise = (P1.claim s.0).premise × (P2.claim s.1).premise × (P3.claim s.2).premise;
-      backtracks =
-          (P1.claim s.0).backtracks × (P2.claim s.1).backtracks × (P3.claim s.2).backtracks;
-      spares_memory =
-          (P1.claim s.0).spares_memory × (P2.claim s.1).spares_memory
-          × (P3.claim s.2).spares_memory;
-      consumes = ((P1.claim s.0).consumes ⊎ (P2.claim s.1).consumes) ⊎ (P3.claim s.2).consumes;
-      grammar = Three (λ o1 o2 o3. (o1, o3)) (P1.claim s.0).grammar (P2.claim s.1).grammar
-          (P3.claim s.2).grammar;
-    } };
+    ghost claim = { λ s. three_claim (λ o1 o2 o3. (o1, o3)) (P1.claim s.0) (P2.claim s.1) (P3.claim s.2) };
 
     ghost leaves_ends = { λ form. three_ends I.reading (λ o1 o2 o3. (o1, o3)) (P1.meaning form)
         (P2.meaning form) (P3.meaning form) (P1.leaves_ends form) (P2.leaves_ends form)
@@ -78,20 +64,7 @@ impl<
     ghost said = { λ s. three_said (λ o p q r x y first second third. (first, third))
         (P1.said s.0) (P2.said s.1) (P3.said s.2) };
 
-    ghost claimed = { λ s. record {
-      exact = λ form is. three_exact ((P1.claimed s.0).exact form is.0)
-          ((P2.claimed s.1).exact form is.1) ((P3.claimed s.2).exact form is.2);
-      fails = λ form is. three_fails ((P1.claimed s.0).exact form is.0)
-          ((P2.claimed s.1).exact form is.1)
-          (fails_as (λ b. b.0) (λ m. m.0) ((P1.claimed s.0).fails form is.0))
-          (fails_as (λ b. b.1) (λ m. m.1) ((P2.claimed s.1).fails form is.1))
-          (fails_as (λ b. b.2) (λ m. m.2) ((P3.claimed s.2).fails form is.2));
-      takes = λ is some. three_takes (λ o1 o2 o3. (o1, o3))
-          ((P1.claimed s.0).exact modal is.0) ((P2.claimed s.1).exact modal is.1)
-          ((P3.claimed s.2).exact modal is.2)
-          (either_way (either_way ((P1.claimed s.0).takes is.0)
-          ((P2.claimed s.1).takes is.1)) ((P3.claimed s.2).takes is.2) some);
-    } };
+    ghost claimed = { λ s. three_claimed (λ o1 o2 o3. (o1, o3)) (P1.claimed s.0) (P2.claimed s.1) (P3.claimed s.2) };
 
     #[inline(always)]
     fn parse_next(&mut self, input: &mut I) -> Result<(O1, O3), E> {

@@ -1,10 +1,6 @@
 //! A child before one whose output is let go.
-ghost use Rattle.std.specs.Prelude.{◌⊎◌};
-ghost use Rattle.grammars.specs.Grammar.{Both};
 ghost use Rattle.stream_errors.specs.Form.{modal};
-ghost use Rattle.winnow_core.specs.Exact.Allowed.{fails_as};
-ghost use Rattle.winnow_core.specs.Exact.Along.{either_way};
-ghost use Rattle.winnow_core.specs.InOrder.Exact.{both_exact, both_fails, both_takes};
+ghost use Rattle.winnow_core.specs.InOrder.Claim.{both_claim, both_claimed};
 ghost use Rattle.winnow_core.specs.InOrder.Laws.{both_ends, both_grows};
 ghost use Rattle.winnow_core.specs.InOrder.Says.{both_said, both_says};
 ghost use Rattle.winnow_core.specs.Stable.Grows.{grows, stays};
@@ -51,13 +47,7 @@ impl<
     ghost says = { λ s. both_says (λ o1 o2. o1) (P1.says s.0).alike
         (P1.says s.0) (P2.says s.1) };
 
-    ghost claim = { λ s. record {
-      premise = (P1.claim s.0).premise × (P2.claim s.1).premise;
-      backtracks = (P1.claim s.0).backtracks × (P2.claim s.1).backtracks;
-      spares_memory = (P1.claim s.0).spares_memory × (P2.claim s.1).spares_memory;
-      consumes = (P1.claim s.0).consumes ⊎ (P2.claim s.1).consumes;
-      grammar = Both (λ o1 o2. o1) (P1.claim s.0).grammar (P2.claim s.1).grammar;
-    } };
+    ghost claim = { λ s. both_claim (λ o1 o2. o1) (P1.claim s.0) (P2.claim s.1) };
 
     ghost leaves_ends = { λ form. both_ends I.reading (λ o1 o2. o1) (P1.meaning form)
         (P2.meaning form) (P1.leaves_ends form) (P2.leaves_ends form) };
@@ -65,16 +55,7 @@ impl<
     ghost said = { λ s. both_said (λ o p q r first second. first)
         (P1.said s.0) (P2.said s.1) };
 
-    ghost claimed = { λ s. record {
-      exact = λ form is. both_exact ((P1.claimed s.0).exact form is.0)
-          ((P2.claimed s.1).exact form is.1);
-      fails = λ form is. both_fails ((P1.claimed s.0).exact form is.0)
-          (fails_as (λ b. b.0) (λ m. m.0) ((P1.claimed s.0).fails form is.0))
-          (fails_as (λ b. b.1) (λ m. m.1) ((P2.claimed s.1).fails form is.1));
-      takes = λ is some. both_takes (λ o1 o2. o1) ((P1.claimed s.0).exact modal is.0)
-          ((P2.claimed s.1).exact modal is.1)
-          (either_way ((P1.claimed s.0).takes is.0) ((P2.claimed s.1).takes is.1) some);
-    } };
+    ghost claimed = { λ s. both_claimed (λ o1 o2. o1) (P1.claimed s.0) (P2.claimed s.1) };
 
     #[inline(always)]
     fn parse_next(&mut self, input: &mut I) -> Result<O1, E> {

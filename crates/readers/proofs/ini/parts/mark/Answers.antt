@@ -2,7 +2,8 @@ use Rattle.std.proofs.Common.{ap, ◌∙◌, ◌∷◌, sym, refl, inl, inr, Lis
 use Rattle.winnow.specs.Bytes.{bytes_reading}
 use Rattle.winnow.specs.Form.{modal}
 use Rattle.winnow.specs.Literal.Inversion.{token_missing, token_taken, token_whole}
-use Rattle.winnow.specs.Sequence.Inversion.{sequence3_err, sequence3_ok}
+use Rattle.winnow.specs.InOrder.Inversion.{three_err}
+use Rattle.winnow.specs.Sequence.Inversion.{sequence3_ok}
 use Rattle.winnow.specs.TakeWhile.Inversion.{never_too_few, too_few, took_counted}
 use Rattle.readers.specs.Document.{IsBlank}
 use Rattle.readers.specs.DocumentRuns.{IsFront}
@@ -34,7 +35,7 @@ returns c =
             ),
           )
       | inr (k, seq, e) ↦
-          elim (sequence3_err _ seq) [
+          elim (three_err _ seq) [
             | inl (r1, s2, s3) ↦ never_too_few _ _ _ _ _
                 (too_few bytes_reading modal _ 0 None _ _ _ refl tt r1.0)
             | inr (inl (o1, a, r1, r2, s3)) ↦

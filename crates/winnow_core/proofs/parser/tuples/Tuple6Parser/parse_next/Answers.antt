@@ -8,111 +8,164 @@ pub returns-in_err-first-clause-ran : goal.returns-in_err-first-clause-ran
 returns-in_err-first-clause-ran g c =
     inr (inl (
       g.E.HasKind.kind c.in_err-first.field-0.0,
-      c.in_err-first.ensures.ran,
-      refl,
-      refl,
-      refl,
-      refl,
+      inr (inl (
+        _,
+        inr (inl
+            (_, inr (inl (_, c.in_err-first.ensures.ran, refl, refl, refl)), refl, refl)),
+        refl,
+        refl,
+      )),
       refl,
       search rules depth 1,
     ))
 
 pub returns-in_err-second-clause-ran : goal.returns-in_err-second-clause-ran
 returns-in_err-second-clause-ran g c =
-    inr (inr (inl (
-      _,
+    inr (inl (
       g.E.HasKind.kind c.in_err-second.field-0.0,
-      _,
-      c.in_ok-first.ensures.ran,
-      c.in_err-second.ensures.ran,
-      refl,
-      refl,
-      refl,
+      inr (inl (
+        _,
+        inr (inl (
+          _,
+          inr (inr (inl
+              (_, _, _, c.in_ok-first.ensures.ran, c.in_err-second.ensures.ran, refl, refl))),
+          refl,
+          refl,
+        )),
+        refl,
+        refl,
+      )),
       refl,
       search rules depth 1,
-    )))
+    ))
 
 pub returns-in_err-third-clause-ran : goal.returns-in_err-third-clause-ran
 returns-in_err-third-clause-ran g c =
-    inr (inr (inr (inl (
-      _,
-      _,
+    inr (inl (
       g.E.HasKind.kind c.in_err-third.field-0.0,
-      _,
-      _,
-      c.in_ok-first.ensures.ran,
-      c.in_ok-second.ensures.ran,
-      c.in_err-third.ensures.ran,
-      refl,
-      refl,
+      inr (inl (
+        _,
+        inr (inl (
+          _,
+          inr (inr (inr (
+            _,
+            _,
+            _,
+            _,
+            _,
+            c.in_ok-first.ensures.ran,
+            c.in_ok-second.ensures.ran,
+            c.in_err-third.ensures.ran,
+            refl,
+          ))),
+          refl,
+          refl,
+        )),
+        refl,
+        refl,
+      )),
       refl,
       search rules depth 1,
-    ))))
+    ))
 
 pub returns-in_err-fourth-clause-ran : goal.returns-in_err-fourth-clause-ran
 returns-in_err-fourth-clause-ran g c =
-    inr (inr (inr (inr (inl (
-      _,
-      _,
-      _,
+    inr (inl (
       g.E.HasKind.kind c.in_err-fourth.field-0.0,
-      _,
-      _,
-      _,
-      c.in_ok-first.ensures.ran,
-      c.in_ok-second.ensures.ran,
-      c.in_ok-third.ensures.ran,
-      c.in_err-fourth.ensures.ran,
-      refl,
+      inr (inl (
+        _,
+        inr (inr (
+          _,
+          _,
+          _,
+          inl (
+            _,
+            _,
+            _,
+            _,
+            _,
+            c.in_ok-first.ensures.ran,
+            c.in_ok-second.ensures.ran,
+            c.in_ok-third.ensures.ran,
+            refl,
+          ),
+          c.in_err-fourth.ensures.ran,
+          refl,
+        )),
+        refl,
+        refl,
+      )),
       refl,
       search rules depth 1,
-    )))))
+    ))
 
 pub returns-in_err-fifth-clause-ran : goal.returns-in_err-fifth-clause-ran
 returns-in_err-fifth-clause-ran g c =
-    inr (inr (inr (inr (inr
-    (inl (
-      _,
-      _,
-      _,
-      _,
+    inr (inl (
       g.E.HasKind.kind c.in_err-fifth.field-0.0,
-      _,
-      _,
-      _,
-      _,
-      c.in_ok-first.ensures.ran,
-      c.in_ok-second.ensures.ran,
-      c.in_ok-third.ensures.ran,
-      c.in_ok-fourth.ensures.ran,
-      c.in_err-fifth.ensures.ran,
+      inr (inr (
+        _,
+        _,
+        _,
+        inl (
+          _,
+          _,
+          _,
+          inl (
+            _,
+            _,
+            _,
+            _,
+            _,
+            c.in_ok-first.ensures.ran,
+            c.in_ok-second.ensures.ran,
+            c.in_ok-third.ensures.ran,
+            refl,
+          ),
+          c.in_ok-fourth.ensures.ran,
+          refl,
+        ),
+        c.in_err-fifth.ensures.ran,
+        refl,
+      )),
       refl,
       search rules depth 1,
-    ))))))
+    ))
 
 pub returns-in_err-sixth-clause-ran : goal.returns-in_err-sixth-clause-ran
 returns-in_err-sixth-clause-ran g c =
-    inr (inr (inr (inr (inr
-    (inr (
-      _,
-      _,
-      _,
-      _,
+    inr (inr (
       _,
       g.E.HasKind.kind c.in_err-sixth.field-0.0,
       _,
-      _,
-      _,
-      _,
-      _,
-      c.in_ok-first.ensures.ran,
-      c.in_ok-second.ensures.ran,
-      c.in_ok-third.ensures.ran,
-      c.in_ok-fourth.ensures.ran,
-      c.in_ok-fifth.ensures.ran,
+      inl (
+        _,
+        _,
+        _,
+        inl (
+          _,
+          _,
+          _,
+          inl (
+            _,
+            _,
+            _,
+            _,
+            _,
+            c.in_ok-first.ensures.ran,
+            c.in_ok-second.ensures.ran,
+            c.in_ok-third.ensures.ran,
+            refl,
+          ),
+          c.in_ok-fourth.ensures.ran,
+          refl,
+        ),
+        c.in_ok-fifth.ensures.ran,
+        refl,
+      ),
       c.in_err-sixth.ensures.ran,
       search rules depth 1,
-    ))))))
+    ))
 
 pub returns-clause-ran : goal.returns-clause-ran
 returns-clause-ran g c =
@@ -120,19 +173,31 @@ returns-clause-ran g c =
       _,
       _,
       _,
-      _,
-      _,
-      _,
-      _,
-      _,
-      _,
-      _,
-      _,
-      c.in_ok-first.ensures.ran,
-      c.in_ok-second.ensures.ran,
-      c.in_ok-third.ensures.ran,
-      c.in_ok-fourth.ensures.ran,
-      c.in_ok-fifth.ensures.ran,
+      inl (
+        _,
+        _,
+        _,
+        inl (
+          _,
+          _,
+          _,
+          inl (
+            _,
+            _,
+            _,
+            _,
+            _,
+            c.in_ok-first.ensures.ran,
+            c.in_ok-second.ensures.ran,
+            c.in_ok-third.ensures.ran,
+            refl,
+          ),
+          c.in_ok-fourth.ensures.ran,
+          refl,
+        ),
+        c.in_ok-fifth.ensures.ran,
+        refl,
+      ),
       c.in_ok-sixth.ensures.ran,
       refl,
     )
