@@ -5,7 +5,7 @@ is not rejected if a function waits for another one, or if its proof uses a name
 removed.
 
 A stored answer proves its goal for one body, so it may reject a correct edit too: such a rejection
-only means that the answer is stale. A rejection means more if the prover leaves open a goal that it
+only means that it is stale. A rejection means more if the prover leaves open a goal that it
 proved by `search` before, or finds values for which a goal is false. `Refusal` distinguishes the
 two.
 """

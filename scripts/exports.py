@@ -100,7 +100,7 @@ def items():
             else:
                 made = [it for it in pairs(found[2]) if it[1].rstrip(",") != "Global"]
                 exports.append(Item(found[1], words, [(n, t.rstrip(",")) for n, t in made]))
-    # In C++ a struct that has the name of a function is named with `struct` alone.
+    # In C++ a struct with the name of a function needs the keyword `struct`.
     for name in {snake(it.name) for it in structs} & {f"pergidau_{it.name}" for it in exports}:
         raise SystemExit(f"a struct and a function have the name {name}")
     return codes, constants, structs, exports

@@ -53,7 +53,7 @@ KINDS = {
     "HTTP_BODY_": ("http_body_kind", "How the length of a body is determined.", ("HttpBody", "kind")),
     "HTTP_HEAD_ERROR_": ("http_head_error", "Why a byte of a head is invalid.", ("Head", "ResponseHead", "error")),
     "HTTP_ERROR_": ("http_error", "Why an HTTP message must be rejected.", ("HttpBody", "error")),
-    "CSV_": ("csv_line_end", "What ends a record of comma-separated values.", ("CsvDialect", "line_ends")),
+    "CSV_": ("csv_line_end", "The end of a record of comma-separated values.", ("CsvDialect", "line_ends")),
     "INI_ERROR_": ("ini_error", "The errors of INI lines.", ("IniEntry", "error")),
     "INI_DIALECT_": ("ini_dialect", "The dialects of INI: flags, whose sum is a dialect, and three dialects.", None),
     "INI_": ("ini_kind", "The kinds of INI entries.", ("IniEntry", "kind")),

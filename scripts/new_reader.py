@@ -1,6 +1,6 @@
 """Creates the crate `format_NAME` for `./x new reader NAME`: the parser of a format.
 
-The model is `examples::settings_file`, the parser of docs/FIRST_PROOF.md, with its specs, answers,
+The model is `examples::settings_file`, the parser of docs/FIRST_PROOF.md, with its specs, proofs,
 tests and edits under other names. So the new crate is proved unchanged. The script also adds its
 lines to `crates.txt`, ARCHITECTURE, CONTRIBUTING and the lists of `scripts/`, and writes a note.
 """

@@ -14,7 +14,7 @@ With more jobs, modules of different jobs are interleaved: a slow one appears fa
 the others slower. A check after an edit keeps the times of unchanged modules, so the pause between
 two checks is counted for the first module of the second.
 
-A function's row includes all modules that the kit generates for it, its answers and its contract,
+A function's row includes all modules that the kit generates for it, its proofs and its contract,
 and shows which of these took most. Other rows are files of `specs/` and `proofs/`, by module. At
 most thirty rows are printed; with `--all`, all.
 """

@@ -396,8 +396,8 @@ enum pergidau_http_head_error {
     /* Expected a colon after the field name. No whitespace precedes it. */
     PERGIDAU_HTTP_HEAD_ERROR_COLON = 6,
     /*
-     * Invalid byte in a field value or reason phrase. Of the control characters only a tab is
-     * valid.
+     * Invalid byte in a field value or reason phrase. A tab is the only valid control
+     * character.
      */
     PERGIDAU_HTTP_HEAD_ERROR_VALUE = 7,
     /* Expected CRLF. A line feed without a carriage return is invalid. */
@@ -435,7 +435,7 @@ enum pergidau_http_error {
     PERGIDAU_HTTP_ERROR_LENGTH_TOO_LARGE = 10
 };
 
-/* What ends a record of comma-separated values. */
+/* The end of a record of comma-separated values. */
 enum pergidau_csv_line_end {
     /* A carriage return and a line feed end a record, as in RFC 4180. */
     PERGIDAU_CSV_CRLF = 0,
@@ -576,7 +576,7 @@ struct pergidau_csv_dialect {
     uint8_t delimiter;
     /* The byte around a quoted field. It is doubled within the quotes. */
     uint8_t quote;
-    /* What ends a record: one of the constants from PERGIDAU_CSV_CRLF to PERGIDAU_CSV_EITHER. */
+    /* The end of a record: one of the constants from PERGIDAU_CSV_CRLF to PERGIDAU_CSV_EITHER. */
     enum pergidau_csv_line_end line_ends;
 };
 
@@ -1687,7 +1687,7 @@ enum pergidau_code pergidau_json_decimal(
  * column, and the input that is expected there.
  *
  * The bytes before the offset can continue to a text. With the byte at the offset they cannot,
- * whatever follows. Nothing is allocated for a text that is JSON; for others, one byte for
+ * for any continuation. Nothing is allocated for a text that is JSON; for others, one byte for
  * each open bracket.
  *
  * PERGIDAU_DONE: the text is a JSON text. Zeros are written.

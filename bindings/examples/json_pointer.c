@@ -2,7 +2,7 @@
  *
  *     json_pointer '{"a": [1, {"b/c": 2}]}' /a/1/b~1c
  *
- * Or, if the text is not JSON, where the error is and what is expected there. */
+ * Or, if the text is not JSON, the position of the error and the expected input. */
 #include <stdio.h>
 #include <string.h>
 

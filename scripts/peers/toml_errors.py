@@ -1,6 +1,6 @@
 """The offsets of errors in TOML, by Python's `tomllib`.
 
-`format_toml_document` gives the first offset at which a text is no prefix of a document. The text
+`format_toml_document` gives the first offset at which a text is not a prefix of a document. The text
 before it is completed in many ways until `tomllib` accepts it. With the character at the offset,
 none of these may be accepted. Texts that define a key twice are not compared, as `tomllib` stops at
 the key.

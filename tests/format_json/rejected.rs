@@ -1,4 +1,4 @@
-//! The invalid texts of JSONTestSuite, by their names.
+//! The invalid inputs of JSONTestSuite, by their names.
 use crate::suite::Answer;
 
 /// The invalid texts, with their errors.

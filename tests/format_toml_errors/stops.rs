@@ -1,7 +1,7 @@
-//! The offset of each stop, what is expected there, and what is not closed before it.
+//! The offset of each stop, the expected input, and the unclosed string or bracket before it.
 use format_toml_errors::walk::first_stop;
 
-/// Offsets by hand, for arrays and inline tables of one level. Python's `tomllib` rejects each of
+/// Offsets by hand, for arrays and inline tables that are not nested. Python's `tomllib` rejects each of
 /// these texts but those with an integer that is too large or too many brackets.
 #[test]
 fn first_stop_is_the_first_character_that_no_document_has(rt: HostRuntime) {

@@ -1,5 +1,5 @@
 //! Small programs as a user writes them, without contracts, and their tests: lines with carets in
-//! the messages, packets in pieces, a filter language, and lists with optional parts.
+//! the messages, packets that arrive in chunks, a filter language, and lists with optional parts.
 #![tactic(auto)]
 
 #[cfg(test)]

@@ -1,4 +1,4 @@
-//! MQTT packets that arrive in pieces. Sections are those of MQTT Version 3.1.1.
+//! MQTT packets that arrive in chunks. Sections are those of MQTT Version 3.1.1.
 
 use std::alloc::AllocError;
 use winnow::Func;

@@ -74,10 +74,10 @@ const REPLIES_IN_PIECES: &[(&str, Reader)] = &[
 const PAIRS: &[(&str, Reader)] = &[("this library", ini::pairs), ("inih", peers::pairs_by_inih)];
 
 pub const WORKS: &[Work] = &[
-    whole("check of a text of JSON", "items.json", CHECKS),
+    whole("check of a JSON text", "items.json", CHECKS),
     whole("check of one that is strings for the most part", "strings.json", CHECKS),
     whole("check of statuses", "statuses.json", CHECKS),
-    whole("all values of a text of JSON", "items.json", VALUES),
+    whole("all values of a JSON text", "items.json", VALUES),
     whole("all values of statuses", "statuses.json", VALUES),
     work("one head of a request, 1000 times", "heads.http", HEADS),
     work("10,000 heads of a log", "log.http", HEADS),

@@ -152,7 +152,7 @@ pub const HTTP_HEAD_ERROR_FIELD_NAME: u32 = 5;
 /// Expected a colon after the field name. No whitespace precedes it.
 pub const HTTP_HEAD_ERROR_COLON: u32 = 6;
 
-/// Invalid byte in a field value or reason phrase. Of the control characters only a tab is valid.
+/// Invalid byte in a field value or reason phrase. A tab is the only valid control character.
 pub const HTTP_HEAD_ERROR_VALUE: u32 = 7;
 
 /// Expected CRLF. A line feed without a carriage return is invalid.
@@ -565,7 +565,7 @@ pub struct CsvDialect {
     pub delimiter: u8,
     /// The byte around a quoted field. It is doubled within the quotes.
     pub quote: u8,
-    /// What ends a record: one of the constants from `CSV_CRLF` to `CSV_EITHER`.
+    /// The end of a record: one of the constants from `CSV_CRLF` to `CSV_EITHER`.
     pub line_ends: u32,
 }
 
@@ -1656,8 +1656,8 @@ extern "C" {
     /// Checks a text as `exported_json_check` does, and reports the first error: its offset, line and
     /// column, and the input that is expected there.
     ///
-    /// The bytes before the offset can continue to a text. With the byte at the offset they cannot,
-    /// whatever follows. Nothing is allocated for a text that is JSON; for others, one byte for each
+    /// The bytes before the offset can continue to a text. With the byte at the offset they cannot, for
+    /// any continuation. Nothing is allocated for a text that is JSON; for others, one byte for each
     /// open bracket.
     ///
     /// `DONE`: the text is a JSON text. Zeros are written.

@@ -48,7 +48,7 @@ const NONE: TomlResult = TomlResult {
     error: TOML_ERROR_NONE,
 };
 
-/// Returns the offset of what is not closed, or that of the error.
+/// Returns the offset of the unclosed string or bracket, or that of the error.
 fn start_or(at: Location, unclosed: Option<Location>) -> usize
     ensures { result ≡ start_or at unclosed }
 {

@@ -84,14 +84,20 @@ module _ (bytes left line : List ℕ) (offset size behind : ℕ) (less : offset 
 -- ---- from line to line
 
 pub passes_none : (d : Dialect) (bytes : List ℕ) (r : Reading) → PassesIdle d bytes r r
-passes_none d bytes r = (omega arith, reads_none d r.state (drop r.offset bytes))
+passes_none d bytes r = (inl refl, reads_none d r.state (drop r.offset bytes))
 
 module _ (d : Dialect) (bytes : List ℕ) (old mid new : Reading)
     (passes : PassesIdle d bytes old mid) where
+  later : mid.offset < new.offset → old.offset < new.offset
+  later less = elim passes.0 [
+    | inl same ↦ omega (arith, less, ap (λ (r : Reading). r.offset) same)
+    | inr it ↦ omega (arith, less, it.0)
+  ]
+
   pub passes_line : (entry : Option Entry) (at : Places) → LineAt d bytes mid entry at new
       → said_of entry ≡ [] → PassesIdle d bytes old new
   passes_line entry at (line, first, text, step, places, less, within) none = (
-    omega (arith, passes.0, less),
+    inr (later less, within),
     subst (λ s. ReadsLines d old.state (drop old.offset bytes) s new.state (drop new.offset bytes))
         none
         (reads_next d old.state mid.state new.state (drop old.offset bytes) (drop mid.offset bytes)

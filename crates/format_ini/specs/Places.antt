@@ -1,6 +1,6 @@
 -- The offsets of the texts of an entry, and consecutive entries as offsets of bytes.
-use Rattle.std.specs.Prelude.{◌≡◌, ◌≤◌, ◌<◌, ◌+◌, ℕ, List, [], ◌∷◌, ◌++◌, length, drop, ⊤}
-use Rattle.std.specs.Prelude.{Err, None, Ok, Option, Result, Some}
+use Rattle.std.specs.Prelude.{◌≡◌, ◌⊎◌, ◌≤◌, ◌<◌, ◌+◌, ℕ, List, [], ◌∷◌, ◌++◌, length, drop}
+use Rattle.std.specs.Prelude.{Err, None, Ok, Option, Result, Some, ⊤}
 use Rattle.std.specs.List.{All}
 use Rattle.std.specs.Str.{IsUtf8}
 use Rattle.format_ini.specs.Documents.{BehindMark, ReadsLines, start}
@@ -65,9 +65,11 @@ abbrev pub IsAtStart : List ℕ → Reading → Type 0
 IsAtStart bytes reading = BehindMark bytes (drop reading.offset bytes)
     × (reading.offset ≤ length bytes) × (reading.state ≡ start)
 
--- `PassesIdle d bytes old new`: the lines from `old` to `new` are empty or comments.
+-- `PassesIdle d bytes old new`: the lines from `old` to `new` are empty or comments, and end in the
+-- bytes. If there are none, `new` is `old`.
 abbrev pub PassesIdle : Dialect → List ℕ → Reading → Reading → Type 0
-PassesIdle d bytes old new = (old.offset ≤ new.offset)
+PassesIdle d bytes old new =
+    ((new ≡ old) ⊎ ((old.offset < new.offset) × (new.offset ≤ length bytes)))
     × ReadsLines d old.state (drop old.offset bytes) [] new.state (drop new.offset bytes)
 
 -- The result of a call for the bytes after those that have been read, and the state after it. The

@@ -24,7 +24,7 @@ pub struct CsvDialect {
     pub delimiter: u8,
     /// The byte around a quoted field. It is doubled within the quotes.
     pub quote: u8,
-    /// What ends a record: one of the constants from `CSV_CRLF` to `CSV_EITHER`.
+    /// The end of a record: one of the constants from `CSV_CRLF` to `CSV_EITHER`.
     pub line_ends: u32,
 }
 

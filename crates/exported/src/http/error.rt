@@ -26,7 +26,7 @@ pub const HTTP_HEAD_ERROR_FIELD_NAME: u32 = 5;
 /// Expected a colon after the field name. No whitespace precedes it.
 pub const HTTP_HEAD_ERROR_COLON: u32 = 6;
 
-/// Invalid byte in a field value or reason phrase. Of the control characters only a tab is valid.
+/// Invalid byte in a field value or reason phrase. A tab is the only valid control character.
 pub const HTTP_HEAD_ERROR_VALUE: u32 = 7;
 
 /// Expected CRLF. A line feed without a carriage return is invalid.
