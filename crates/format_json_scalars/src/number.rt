@@ -5,7 +5,6 @@ ghost use Rattle.std.specs.Prelude.{◌≡◌};
 ghost use Rattle.winnow.specs.Class.Says.{CharIsFunction};
 ghost use Rattle.winnow.specs.Exact.{IsSpared, Reads};
 ghost use Rattle.winnow.specs.Grammar.{InClass, Literally};
-ghost use Rattle.winnow.specs.Once.{holds_once};
 ghost use Rattle.winnow.specs.Text.{text_input, text_reading};
 ghost use Rattle.winnow.specs.Texts.{NotFirst};
 ghost use Rattle.winnow.specs.Told.{ReadsText};
@@ -23,8 +22,6 @@ pub struct LeadingDigits;
 
 impl<T: AsChar> ContainsToken<T> for LeadingDigits {
     ghost tells = { λ s. InClass IsLeading T.code tt };
-
-    ghost once = { λ s is. holds_once (λ t. IsLeading (T.code t)) };
 
     #[inline(always)]
     fn contains_token(&self, token: T) -> bool {
