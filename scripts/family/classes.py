@@ -86,7 +86,7 @@ def class_claims(is_member, least):
     """Returns the claim of a parser of a class, and its proof."""
     parts = "%s %d I.Token.code I.seen_as I.reading" % (is_member, least)
     claim = {
-        "premise": "TokenEqInjective I.seen_as",
+        "premise": "CharIsFunction I.seen_as I.Token.code",
         "backtracks": "⊤",
         "spares_memory": "⊤",
         "consumes": "⊤" if least else "⊥",
@@ -105,12 +105,11 @@ CLASS_STRUCT = """//! {about}
 //! {head}
 ghost use Rattle.std.specs.Prelude.{{None, ⊤}};
 ghost use Rattle.stream_sets.specs.AsChar.{{{member}}};
-ghost use Rattle.stream_sets.specs.Once.{{TokenEqInjective}};
 ghost use Rattle.stream_sets.specs.Range.{{from_to}};
 ghost use Rattle.grammars.specs.Grammar.{{Class}};
 ghost use Rattle.winnow_ascii.specs.Class.{{ClassRuns}};
 ghost use Rattle.winnow_ascii.specs.Class.Laws.{{class_exact, class_fails, {laws}}};
-ghost use Rattle.winnow_ascii.specs.Class.Says.{{class_said, class_says}};
+ghost use Rattle.winnow_ascii.specs.Class.Says.{{CharIsFunction, class_said, class_says}};
 ghost use Rattle.winnow_core.specs.Exact.Allowed.{{backs}};
 ghost use Rattle.winnow_core.specs.Runs.{{Keeps}};
 ghost use Rattle.winnow_core.specs.Stable.Grows.{{leaf_stays}};

@@ -11,27 +11,14 @@ def tells_from(k, n):
     return tells(n) if k == n else "(InEither %s %s)" % (tells(k), tells_from(k + 1, n))
 
 
-def once_from(k, n):
-    """Returns the proof that the sets from k to n are functions of the token if each one is."""
-    one = "(S%d.once s.%d is%s)" % (k, k - 1, ".%d" % (k - 1) if n > 1 else "")
-    if k == n:
-        return one
-    return "(either_once %s %s %s %s)" % (tells(k), tells_from(k + 1, n), one, once_from(k + 1, n))
-
-
 def set_impl(n):
     sets = rust_tuple(["S%d" % k for k in upto(n)])
-    decides = conjunction(["S%d.decides s.%d" % (k, k - 1) for k in upto(n)])
     bounds = ", ".join("S%d: ContainsToken<T>" % k for k in upto(n))
     lines = [
         "impl<T: Copy, %s> ContainsToken<T> for %s {" % (bounds, sets),
         "    ghost can_test = { λ s. %s };" % conjunction(["S%d.can_test s.%d" % (k, k - 1) for k in upto(n)]),
         "",
         "    ghost tells = { λ s t b. %s t b };" % tells_from(1, n)[1:-1],
-        "",
-        "    ghost decides = { λ s. %s };" % decides,
-        "",
-        "    ghost once = { λ s is. %s };" % once_from(1, n)[1:-1],
         "",
         "    #[inline(always)]",
         "    fn contains_token(&self, token: T) -> bool {",
@@ -45,7 +32,6 @@ def set_impl(n):
 SET_IMPLS = """//! Tuples of sets: their unions. The sets are tested in order.
 //!
 //! {head}
-ghost use Rattle.stream_sets.specs.Once.{{either_once}};
 ghost use Rattle.stream_sets.specs.Sets.{{InEither}};
 
 use crate::sets::ContainsToken;

@@ -2,7 +2,6 @@
 ghost use Rattle.std.specs.Prelude.{◌≡◌, ◌<◌, ◌≤◌, ◌+◌, ◌-◌, ◌==◌, ◌||◌, ℕ, not};
 ghost use Rattle.std.specs.Int.{bit_at};
 ghost use Rattle.byte_sets.specs.ByteSet.{has_byte, members_below};
-ghost use Rattle.stream_sets.specs.Once.{value_once};
 
 use stream_sets::sets::ContainsToken;
 
@@ -116,8 +115,6 @@ fn flipped(word: u64) -> u64
 /// The bytes of the table.
 impl ContainsToken<u8> for ByteSet {
     ghost tells = { λ s t b. b ≡ has_byte s t };
-
-    ghost once = { λ s is. value_once (has_byte s) };
 
     #[inline(always)]
     fn contains_token(&self, token: u8) -> bool {

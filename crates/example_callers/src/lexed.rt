@@ -5,7 +5,6 @@ ghost use Rattle.std.specs.Prelude.{◌↔◌, IsTrue};
 ghost use Rattle.example_callers.specs.Lexed.{IsNumber, IsSign, SignedNumbers};
 ghost use Rattle.winnow.specs.Counted.{counted_input, counted_reading};
 ghost use Rattle.winnow.specs.Exact.{IsSpared, Reads};
-ghost use Rattle.winnow.specs.Once.{holds_once};
 ghost use Rattle.winnow.specs.TokenSlice.{tokens_of};
 
 use winnow::Parser;
@@ -31,8 +30,6 @@ struct Signs;
 impl<'t> ContainsToken<&'t Token> for Signs {
     ghost tells = { λ s token b. IsTrue b ↔ IsSign token.now };
 
-    ghost once = { λ s is. holds_once (λ token. IsSign token.now) };
-
     fn contains_token(&self, token: &'t Token) -> bool {
         match token {
             Token::Plus => true,
@@ -48,8 +45,6 @@ struct Numbers;
 
 impl<'t> ContainsToken<&'t Token> for Numbers {
     ghost tells = { λ s token b. IsTrue b ↔ IsNumber token.now };
-
-    ghost once = { λ s is. holds_once (λ token. IsNumber token.now) };
 
     fn contains_token(&self, token: &'t Token) -> bool {
         match token {

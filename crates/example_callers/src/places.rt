@@ -3,10 +3,10 @@ ghost use Rattle.std.specs.Prelude.{false, ⊤, IfErr, IfOk};
 ghost use Rattle.std.specs.Prelude.{◌≡◌};
 ghost use Rattle.example_callers.specs.Places.{IsPlaced, KeyAndMark};
 ghost use Rattle.winnow.specs.AsChar.{IsAlpha};
+ghost use Rattle.winnow.specs.Class.Says.{CharIsFunction};
 ghost use Rattle.winnow.specs.Exact.{IsSpared, Reads};
 ghost use Rattle.winnow.specs.Kind.{backtrack};
 ghost use Rattle.winnow.specs.Grammar.{Class, Literally};
-ghost use Rattle.winnow.specs.Once.{TokenEqInjective};
 ghost use Rattle.winnow.specs.Spans.{IsBetween, output_alone};
 
 use std::ops::Range;
@@ -22,7 +22,7 @@ where
     I: StreamIsPartial + Compare<u8>,
     I::Token: AsChar,
     E: ParserError<I>,
-    requires seen { TokenEqInjective I.seen_as }
+    requires seen { CharIsFunction I.seen_as I.Token.code }
     ensures reads { Reads I.reading E.kind (KeyAndMark I.Token.code I.seen_as I.reading
         (Literally I.reading I.spells (λ s _. s) 61)) (I.view input.old) result
         (I.view input.new) }
@@ -37,7 +37,7 @@ where
     I: StreamIsPartial + Location,
     I::Token: AsChar,
     E: ParserError<I>,
-    requires seen { TokenEqInjective I.seen_as }
+    requires seen { CharIsFunction I.seen_as I.Token.code }
     ensures reads { Reads I.reading E.kind (Class IsAlpha 1 I.Token.code I.seen_as I.reading)
         (I.view input.old) (output_alone result) (I.view input.new) }
     ensures between { IsBetween (I.view input.old) result (I.view input.new) }
@@ -63,7 +63,7 @@ where
     I: StreamIsPartial + Compare<u8>,
     I::Token: AsChar,
     E: ParserError<LocatingSlice<I>>,
-    requires seen { TokenEqInjective I.seen_as }
+    requires seen { CharIsFunction I.seen_as I.Token.code }
     requires whole { (⟦<LocatingSlice<I> as Stream>⟧.view input.old).status.cut ≡ false }
     ensures found { IfOk result (IsPlaced I.reading
         (KeyAndMark I.Token.code I.seen_as I.reading (Literally I.reading I.spells (λ s _. s) 61))

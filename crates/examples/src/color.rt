@@ -5,7 +5,7 @@ ghost use Rattle.examples.specs.Color.Color.{Color};
 ghost use Rattle.winnow.specs.AsChar.{IsHexDigit};
 ghost use Rattle.winnow.specs.Exact.Whole.{ReadsAll};
 ghost use Rattle.winnow.specs.Grammar.{Literally};
-ghost use Rattle.winnow.specs.Once.{TokenEqInjective, holds_once};
+ghost use Rattle.winnow.specs.Once.{TokenEqInjective};
 ghost use Rattle.winnow.specs.Told.{IsTextOf};
 
 use winnow::Parser;
@@ -20,8 +20,6 @@ struct HexDigits;
 
 impl ContainsToken<u8> for HexDigits {
     ghost tells = { λ s b answer. IsTrue answer ↔ IsHexDigit b };
-
-    ghost once = { λ s is. holds_once IsHexDigit };
 
     fn contains_token(&self, b: u8) -> bool {
         b.is_hex_digit()

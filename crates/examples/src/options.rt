@@ -11,7 +11,6 @@ ghost use Rattle.examples.specs.Options.Options.{AreOptions, InBrackets, Options
 ghost use Rattle.examples.specs.Options.Options.{in_brackets_says, option_says, options_say};
 ghost use Rattle.winnow.specs.Exact.{Reads};
 ghost use Rattle.winnow.specs.Cut.{ReadsOrAsks};
-ghost use Rattle.winnow.specs.Once.{TokenEqInjective};
 ghost use Rattle.winnow.specs.Grammar.{Literally};
 
 use std::alloc::Allocator;
@@ -54,7 +53,6 @@ where
     E: ParserError<I>,
     A: Allocator + Copy,
     requires modal { E.form ≡ modal }
-    requires seen { TokenEqInjective I.seen_as }
     requires once { CharIsFunction I.seen_as I.Token.code }
     requires comma { I.spells 44 [] → ⊥ }
     ensures reads { ReadsOrAsks I.reading I.following E.kind (OptionsOf I.reading I.seen_as

@@ -4,7 +4,7 @@ ghost use Rattle.examples.specs.SettingsFile.Settings.{InKey, InValue, Settings}
 ghost use Rattle.examples.specs.SettingsFile.Read.{SettingsRead};
 ghost use Rattle.winnow.specs.Exact.Whole.{ReadsAll};
 ghost use Rattle.winnow.specs.Grammar.{Literally};
-ghost use Rattle.winnow.specs.Once.{TokenEqInjective, holds_once};
+ghost use Rattle.winnow.specs.Once.{TokenEqInjective};
 ghost use Rattle.winnow.specs.Told.{IsTextOf};
 
 use std::alloc::Allocator;
@@ -21,8 +21,6 @@ struct KeyBytes;
 impl ContainsToken<u8> for KeyBytes {
     ghost tells = { λ s b answer. IsTrue answer ↔ InKey b };
 
-    ghost once = { λ s is. holds_once InKey };
-
     fn contains_token(&self, b: u8) -> bool {
         b != b'=' && b != b'\n'
     }
@@ -34,8 +32,6 @@ struct ValueBytes;
 
 impl ContainsToken<u8> for ValueBytes {
     ghost tells = { λ s b answer. IsTrue answer ↔ InValue b };
-
-    ghost once = { λ s is. holds_once InValue };
 
     fn contains_token(&self, b: u8) -> bool {
         b != b'\n'

@@ -4,7 +4,7 @@ ghost use Rattle.examples.specs.Version.Read.{VersionRead};
 ghost use Rattle.examples.specs.Version.Version.{InWord, Version};
 ghost use Rattle.winnow.specs.Exact.Whole.{ReadsAll};
 ghost use Rattle.winnow.specs.Grammar.{Literally};
-ghost use Rattle.winnow.specs.Once.{TokenEqInjective, holds_once};
+ghost use Rattle.winnow.specs.Once.{TokenEqInjective};
 ghost use Rattle.winnow.specs.Told.{IsTextOf};
 
 use std::alloc::Allocator;
@@ -23,8 +23,6 @@ struct WordBytes;
 
 impl ContainsToken<u8> for WordBytes {
     ghost tells = { λ s b answer. IsTrue answer ↔ InWord b };
-
-    ghost once = { λ s is. holds_once InWord };
 
     fn contains_token(&self, b: u8) -> bool {
         b.is_alphanum() || b == b'-'

@@ -2,9 +2,9 @@
 ghost use Rattle.format_json_scalars.specs.Numbers.{NumberOf};
 ghost use Rattle.format_json_texts.specs.Number.{ContinuesNumber, IsLeading, Number, NumberText};
 ghost use Rattle.std.specs.Prelude.{◌≡◌};
+ghost use Rattle.winnow.specs.Class.Says.{CharIsFunction};
 ghost use Rattle.winnow.specs.Exact.{IsSpared, Reads};
 ghost use Rattle.winnow.specs.Grammar.{InClass, Literally};
-ghost use Rattle.winnow.specs.Once.{TokenEqInjective, holds_once};
 ghost use Rattle.winnow.specs.Text.{text_input, text_reading};
 ghost use Rattle.winnow.specs.Texts.{NotFirst};
 ghost use Rattle.winnow.specs.Told.{ReadsText};
@@ -22,8 +22,6 @@ pub struct LeadingDigits;
 
 impl<T: AsChar> ContainsToken<T> for LeadingDigits {
     ghost tells = { λ s. InClass IsLeading T.code tt };
-
-    ghost once = { λ s is. holds_once (λ t. IsLeading (T.code t)) };
 
     #[inline(always)]
     fn contains_token(&self, token: T) -> bool {
@@ -46,7 +44,7 @@ where
     I: StreamIsPartial + Compare<char>,
     I::Token: AsChar + Copy,
     E: ParserError<I>,
-    requires seen { TokenEqInjective I.seen_as }
+    requires seen { CharIsFunction I.seen_as I.Token.code }
     ensures reads { Reads I.reading E.kind (NumberOf I.reading I.seen_as I.Token.code
         (Literally I.reading I.spells (λ s _. s))) (I.view input.old) result (I.view input.new) }
     ensures spared { IsSpared E.kind (I.view input.old) result }

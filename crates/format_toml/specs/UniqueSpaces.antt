@@ -11,7 +11,7 @@ use Rattle.format_toml.specs.Toml.{IsOf, SetResult}
 use Rattle.format_toml.specs.declared.characters.Characters.{Characters}
 use Rattle.format_toml.specs.declared.characters.Characters.TheVariants.{Comment, White}
 use Rattle.winnow.specs.TakeWhile.Exact.{longest_unique}
-use Rattle.winnow.specs.Once.{holds_once, seen_once}
+use Rattle.winnow.specs.Class.Says.{class_once}
 use Rattle.winnow.specs.Grammar.{Grammar, IsUnique, Longest}
 use Rattle.winnow.specs.Grammar.Unique.{both_unique, either_unique, gathered_unique, many_unique}
 use Rattle.winnow.specs.Grammar.Unique.{optional_unique, token_of_unique}
@@ -34,7 +34,7 @@ pub members_unique : (set : Characters) (bounds : Bounds)
     → IsUnique (Longest text_reading (λ c. c) SetResult set bounds)
 members_unique set bounds =
     longest_unique text_reading (λ c. c) SetResult set bounds
-    (seen_once (λ c. c) (SetResult set) (λ c d e. e) (holds_once (IsOf set)))
+    (class_once (IsOf set) (λ c. c) (λ c. c) (λ c d e. e))
 
 pub comment_unique : IsUnique AnyComment
 comment_unique = both_unique latter (char_unique 35) (members_unique Comment (from_to 0 None))

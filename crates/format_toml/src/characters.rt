@@ -1,7 +1,6 @@
 //! Characters of keys, strings, comments, numbers and dates (TOML 1.0: Comment, Keys, String).
 ghost use Rattle.std.specs.Prelude.{◌↔◌, IsTrue};
 ghost use Rattle.format_toml.specs.Toml.{IsBare, IsOf, IsShown, IsUnquoted};
-ghost use Rattle.winnow.specs.Once.{holds_once};
 
 use winnow::stream::ContainsToken;
 
@@ -69,8 +68,6 @@ fn is_unquoted(c: char) -> bool
 
 impl ContainsToken<char> for Characters {
     ghost tells = { λ s c b. IsTrue b ↔ IsOf s c };
-
-    ghost once = { λ s is. holds_once (IsOf s) };
 
     fn contains_token(&self, token: char) -> bool {
         match *self {

@@ -2,7 +2,6 @@
 ghost use Rattle.std.specs.Prelude.{◌↔◌, IsTrue};
 ghost use Rattle.stream_sets.specs.AsChar.{IsAlpha, IsAlphanum, IsDecDigit, IsHexDigit, IsOctDigit};
 ghost use Rattle.stream_sets.specs.AsChar.{IsSpace, IsMultispace};
-ghost use Rattle.stream_sets.specs.Once.{holds_once};
 
 use crate::as_char::AsChar;
 use crate::sets::ContainsToken;
@@ -18,8 +17,6 @@ pub struct Letters;
 
 impl<T: AsChar> ContainsToken<T> for Letters {
     ghost tells = { λ s t b. IsTrue b ↔ IsAlpha (T.code t) };
-
-    ghost once = { λ s is. holds_once (λ t. IsAlpha (T.code t)) };
 
     #[inline(always)]
     fn contains_token(&self, token: T) -> bool {
@@ -39,8 +36,6 @@ pub struct Alphanumerics;
 impl<T: AsChar> ContainsToken<T> for Alphanumerics {
     ghost tells = { λ s t b. IsTrue b ↔ IsAlphanum (T.code t) };
 
-    ghost once = { λ s is. holds_once (λ t. IsAlphanum (T.code t)) };
-
     #[inline(always)]
     fn contains_token(&self, token: T) -> bool {
         token.is_alphanum()
@@ -58,8 +53,6 @@ pub struct DecimalDigits;
 
 impl<T: AsChar> ContainsToken<T> for DecimalDigits {
     ghost tells = { λ s t b. IsTrue b ↔ IsDecDigit (T.code t) };
-
-    ghost once = { λ s is. holds_once (λ t. IsDecDigit (T.code t)) };
 
     #[inline(always)]
     fn contains_token(&self, token: T) -> bool {
@@ -79,8 +72,6 @@ pub struct HexadecimalDigits;
 impl<T: AsChar> ContainsToken<T> for HexadecimalDigits {
     ghost tells = { λ s t b. IsTrue b ↔ IsHexDigit (T.code t) };
 
-    ghost once = { λ s is. holds_once (λ t. IsHexDigit (T.code t)) };
-
     #[inline(always)]
     fn contains_token(&self, token: T) -> bool {
         token.is_hex_digit()
@@ -98,8 +89,6 @@ pub struct OctalDigits;
 
 impl<T: AsChar> ContainsToken<T> for OctalDigits {
     ghost tells = { λ s t b. IsTrue b ↔ IsOctDigit (T.code t) };
-
-    ghost once = { λ s is. holds_once (λ t. IsOctDigit (T.code t)) };
 
     #[inline(always)]
     fn contains_token(&self, token: T) -> bool {
@@ -119,8 +108,6 @@ pub struct Spaces;
 impl<T: AsChar> ContainsToken<T> for Spaces {
     ghost tells = { λ s t b. IsTrue b ↔ IsSpace (T.code t) };
 
-    ghost once = { λ s is. holds_once (λ t. IsSpace (T.code t)) };
-
     #[inline(always)]
     fn contains_token(&self, token: T) -> bool {
         token.is_space()
@@ -138,8 +125,6 @@ pub struct Multispaces;
 
 impl<T: AsChar> ContainsToken<T> for Multispaces {
     ghost tells = { λ s t b. IsTrue b ↔ IsMultispace (T.code t) };
-
-    ghost once = { λ s is. holds_once (λ t. IsMultispace (T.code t)) };
 
     #[inline(always)]
     fn contains_token(&self, token: T) -> bool {

@@ -1,7 +1,6 @@
 //! Sets of tokens.
 ghost use Rattle.std.specs.Prelude.{◌≡◌, ◌↔◌, ◌≤◌, ◌<◌, IsTrue, Bool, true, ⊤};
 ghost use Rattle.std.specs.Range.{range_inclusive_start, range_inclusive_end};
-ghost use Rattle.stream_sets.specs.Once.{SetIsFunction, holds_once, value_once};
 ghost use Rattle.stream_sets.specs.Sets.{HasCode};
 
 mod tuples;
@@ -28,23 +27,15 @@ pub trait ContainsToken<T> {
     // Whether a token is a member.
     ghost tells: { Self → T → Bool → Type 0 };
 
-    // The condition under which no token is both a member and not a member.
-    ghost decides: { Self → Type 0 } = { λ _. ⊤ };
-
     /// Whether `token` is a member.
     fn contains_token(&self, token: T) -> bool
         requires { can_test self.now }
         ensures { tells self.now token result };
-
-    // Under this condition membership is a function of the token.
-    ghost once: { (s : Self) → decides s → SetIsFunction (tells s) };
 }
 
 /// The byte, or the character of its number.
 impl<T: AsChar> ContainsToken<T> for u8 {
     ghost tells = { λ s t b. IsTrue b ↔ (T.code t ≡ s) };
-
-    ghost once = { λ s is. holds_once (λ t. T.code t ≡ s) };
 
     #[inline(always)]
     fn contains_token(&self, token: T) -> bool {
@@ -56,8 +47,6 @@ impl<T: AsChar> ContainsToken<T> for u8 {
 impl<T: AsChar> ContainsToken<T> for char {
     ghost tells = { λ s t b. IsTrue b ↔ (T.code t ≡ s) };
 
-    ghost once = { λ s is. holds_once (λ t. T.code t ≡ s) };
-
     #[inline(always)]
     fn contains_token(&self, token: T) -> bool {
         token.as_char() == *self
@@ -67,9 +56,6 @@ impl<T: AsChar> ContainsToken<T> for char {
 /// The characters from one to another, without that.
 impl<T: AsChar, C: AsChar + Copy> ContainsToken<T> for ops::Range<C> {
     ghost tells = { λ s t b. IsTrue b ↔ ((C.code s.start ≤ T.code t) × (T.code t < C.code s.end)) };
-
-    ghost once = { λ s is. holds_once (λ t. (C.code s.start ≤ T.code t)
-        × (T.code t < C.code s.end)) };
 
     #[inline(always)]
     fn contains_token(&self, token: T) -> bool {
@@ -84,9 +70,6 @@ impl<T: AsChar, C: AsChar + Copy> ContainsToken<T> for ops::RangeInclusive<C> {
         ↔ ((C.code (range_inclusive_start s) ≤ T.code t)
         × (T.code t ≤ C.code (range_inclusive_end s))) };
 
-    ghost once = { λ s is. holds_once (λ t. (C.code (range_inclusive_start s) ≤ T.code t)
-        × (T.code t ≤ C.code (range_inclusive_end s))) };
-
     #[inline(always)]
     fn contains_token(&self, token: T) -> bool {
         let character = token.as_char();
@@ -98,8 +81,6 @@ impl<T: AsChar, C: AsChar + Copy> ContainsToken<T> for ops::RangeInclusive<C> {
 impl<T: AsChar, C: AsChar + Copy> ContainsToken<T> for ops::RangeFrom<C> {
     ghost tells = { λ s t b. IsTrue b ↔ (C.code s.start ≤ T.code t) };
 
-    ghost once = { λ s is. holds_once (λ t. C.code s.start ≤ T.code t) };
-
     #[inline(always)]
     fn contains_token(&self, token: T) -> bool {
         self.start.as_char() <= token.as_char()
@@ -109,8 +90,6 @@ impl<T: AsChar, C: AsChar + Copy> ContainsToken<T> for ops::RangeFrom<C> {
 /// The characters before one.
 impl<T: AsChar, C: AsChar + Copy> ContainsToken<T> for ops::RangeTo<C> {
     ghost tells = { λ s t b. IsTrue b ↔ (T.code t < C.code s.end) };
-
-    ghost once = { λ s is. holds_once (λ t. T.code t < C.code s.end) };
 
     #[inline(always)]
     fn contains_token(&self, token: T) -> bool {
@@ -122,8 +101,6 @@ impl<T: AsChar, C: AsChar + Copy> ContainsToken<T> for ops::RangeTo<C> {
 impl<T: AsChar, C: AsChar + Copy> ContainsToken<T> for ops::RangeToInclusive<C> {
     ghost tells = { λ s t b. IsTrue b ↔ (T.code t ≤ C.code s.end) };
 
-    ghost once = { λ s is. holds_once (λ t. T.code t ≤ C.code s.end) };
-
     #[inline(always)]
     fn contains_token(&self, token: T) -> bool {
         token.as_char() <= self.end.as_char()
@@ -133,8 +110,6 @@ impl<T: AsChar, C: AsChar + Copy> ContainsToken<T> for ops::RangeToInclusive<C> 
 /// All tokens.
 impl<T: Drop> ContainsToken<T> for ops::RangeFull {
     ghost tells = { λ s t b. b ≡ true };
-
-    ghost once = { λ s is. value_once (λ _. true) };
 
     #[inline(always)]
     fn contains_token(&self, _token: T) -> bool {
@@ -146,8 +121,6 @@ impl<T: Drop> ContainsToken<T> for ops::RangeFull {
 impl<'a, T: AsChar, C: AsChar + Copy> ContainsToken<T> for &'a [C] {
     ghost tells = { λ s t b. IsTrue b ↔ HasCode C.code s.now (T.code t) };
 
-    ghost once = { λ s is. holds_once (λ t. HasCode C.code s.now (T.code t)) };
-
     #[inline(always)]
     fn contains_token(&self, token: T) -> bool {
         is_among(*self, token.as_char())
@@ -158,8 +131,6 @@ impl<'a, T: AsChar, C: AsChar + Copy> ContainsToken<T> for &'a [C] {
 impl<T: AsChar, C: AsChar + Copy, const N: usize> ContainsToken<T> for [C; N] {
     ghost tells = { λ s t b. IsTrue b ↔ HasCode C.code s (T.code t) };
 
-    ghost once = { λ s is. holds_once (λ t. HasCode C.code s (T.code t)) };
-
     #[inline(always)]
     fn contains_token(&self, token: T) -> bool {
         is_among(self, token.as_char())
@@ -169,8 +140,6 @@ impl<T: AsChar, C: AsChar + Copy, const N: usize> ContainsToken<T> for [C; N] {
 /// The characters of a list.
 impl<'a, T: AsChar, C: AsChar + Copy, const N: usize> ContainsToken<T> for &'a [C; N] {
     ghost tells = { λ s t b. IsTrue b ↔ HasCode C.code s.now (T.code t) };
-
-    ghost once = { λ s is. holds_once (λ t. HasCode C.code s.now (T.code t)) };
 
     #[inline(always)]
     fn contains_token(&self, token: T) -> bool {
@@ -197,10 +166,6 @@ impl<T, F: Fn(T) -> bool> ContainsToken<T> for Pred<F> {
     ghost can_test = { λ s. F.IsAlwaysCallable s.0 };
 
     ghost tells = { λ s t b. F.post s.0 t b };
-
-    ghost decides = { λ s. SetIsFunction (F.post s.0) };
-
-    ghost once = { λ s is. is };
 
     #[inline(always)]
     fn contains_token(&self, token: T) -> bool {

@@ -3,10 +3,6 @@ use Rattle.std.specs.Prelude.{◌≡◌, ◌+◌, ◌*◌, ◌^◌, ⊤, ℕ, Li
 use Rattle.std.specs.Char.{digit_value}
 pub mod Inversion
 
--- Tokens with the same view are one character.
-abbrev pub CharIsFunction : {K T : Type 0} → (K → T) → (K → ℕ) → Type 0
-CharIsFunction {K} seen code = (x y : K) → seen x ≡ seen y → code x ≡ code y
-
 -- The token is a character whose number is in the class. Tokens are seen by `seen`, and have the
 -- numbers `code`.
 abbrev pub IsIn : {K T : Type 0} → (K → T) → (K → ℕ) → (ℕ → Type 0) → T → Type 0

@@ -3,7 +3,6 @@
 
 ghost use Rattle.format_http.specs.Chunks.Lines.{IsQuotedByte};
 ghost use Rattle.std.specs.Prelude.{◌↔◌, IsTrue};
-ghost use Rattle.winnow.specs.Once.{holds_once};
 
 use winnow::stream::ContainsToken;
 
@@ -13,8 +12,6 @@ pub(crate) struct QuotedBytes;
 
 impl ContainsToken<u8> for QuotedBytes {
     ghost tells = { λ s b answer. IsTrue answer ↔ IsQuotedByte b };
-
-    ghost once = { λ s is. holds_once IsQuotedByte };
 
     #[inline]
     fn contains_token(&self, b: u8) -> bool {

@@ -4,7 +4,6 @@
 ghost use Rattle.std.specs.Prelude.{◌↔◌, IsTrue};
 ghost use Rattle.format_http.specs.Heads.Bytes.{IsDigit, IsTokenByte, IsValueByte, IsVisible};
 ghost use Rattle.format_http.specs.Heads.Bytes.{IsWhite};
-ghost use Rattle.winnow.specs.Once.{holds_once};
 
 use winnow::stream::ContainsToken;
 
@@ -14,8 +13,6 @@ pub struct TokenBytes;
 
 impl ContainsToken<u8> for TokenBytes {
     ghost tells = { λ s b answer. IsTrue answer ↔ IsTokenByte b };
-
-    ghost once = { λ s is. holds_once IsTokenByte };
 
     #[inline]
     fn contains_token(&self, b: u8) -> bool {
@@ -38,8 +35,6 @@ pub struct White;
 impl ContainsToken<u8> for White {
     ghost tells = { λ s b answer. IsTrue answer ↔ IsWhite b };
 
-    ghost once = { λ s is. holds_once IsWhite };
-
     #[inline]
     fn contains_token(&self, b: u8) -> bool {
         b == b' ' || b == b'\t'
@@ -52,8 +47,6 @@ pub struct ValueBytes;
 
 impl ContainsToken<u8> for ValueBytes {
     ghost tells = { λ s b answer. IsTrue answer ↔ IsValueByte b };
-
-    ghost once = { λ s is. holds_once IsValueByte };
 
     #[inline]
     fn contains_token(&self, b: u8) -> bool {
@@ -68,8 +61,6 @@ pub struct Visible;
 impl ContainsToken<u8> for Visible {
     ghost tells = { λ s b answer. IsTrue answer ↔ IsVisible b };
 
-    ghost once = { λ s is. holds_once IsVisible };
-
     #[inline]
     fn contains_token(&self, b: u8) -> bool {
         b'!' <= b && b <= b'~'
@@ -82,8 +73,6 @@ pub struct Digits;
 
 impl ContainsToken<u8> for Digits {
     ghost tells = { λ s b answer. IsTrue answer ↔ IsDigit b };
-
-    ghost once = { λ s is. holds_once IsDigit };
 
     #[inline]
     fn contains_token(&self, b: u8) -> bool {

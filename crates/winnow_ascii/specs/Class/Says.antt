@@ -25,16 +25,17 @@ class_says class least code seen reading =
       premise = CharIsFunction seen code;
     }
 
+-- Tokens with the same view are both in a class, or neither is.
+pub class_once : {K T : Type 0} (class : ℕ → Type 0) (code : K → ℕ) (seen : K → T)
+    → CharIsFunction seen code → SetIsFunction (AnswersSeen seen (λ k b. IsTrue b ↔ class (code k)))
+class_once class code seen once x (k, is, has) (l, was, lacks) =
+    let P : ℕ → Type 0 = λ n. class n in
+    true_is_false (sym (lacks.1 (subst P (once k l (is ∙ sym was)) (has.0 refl))))
+
 module _ {K T L : Type 0} (class : ℕ → Type 0) (least : ℕ) (code : K → ℕ) (seen : K → T)
     (reading : Reading T L) where
-  class_once : CharIsFunction seen code
-      → SetIsFunction (AnswersSeen seen (λ k b. IsTrue b ↔ class (code k)))
-  class_once once x (k, is, has) (l, was, lacks) =
-      let P : ℕ → Type 0 = λ n. class n in
-      true_is_false (sym (lacks.1 (subst P (once k l (is ∙ sym was)) (has.0 refl))))
-
   pub class_said : Said (class_says class least code seen reading) tt
       (λ form. Keeps (λ (_ : ⊤). ClassRuns class least code seen reading form))
-  class_said = under class_once
+  class_said = under (class_once class code seen)
       (take_while_said reading (λ (_ : ⊤). AnswersSeen seen (λ k b. IsTrue b ↔ class (code k)))
       (λ _. from_to least None) tt)

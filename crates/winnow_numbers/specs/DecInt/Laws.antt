@@ -10,7 +10,7 @@ use Rattle.winnow_core.specs.Ends.{same_ends}
 use Rattle.winnow_numbers.specs.DecInt.{DecIntRuns}
 use Rattle.winnow_numbers.specs.DecUint.Laws.{OneNumber}
 use Rattle.winnow_numbers.specs.DecimalText.{signed_value}
-use Rattle.winnow_numbers.specs.Digits.{CharIsFunction}
+use Rattle.winnow_ascii.specs.Class.Says.{CharIsFunction}
 use Rattle.winnow_numbers.specs.Numeral.{NumeralRuns}
 use Rattle.winnow_numbers.specs.Numeral.Inversion.{none_status, numeral_status}
 use Rattle.winnow_numbers.specs.Numeral.Laws.{no_numeral_ends, numeral_ends, numeral_more}

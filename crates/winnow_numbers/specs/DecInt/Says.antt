@@ -14,7 +14,7 @@ use Rattle.winnow_numbers.specs.DecInt.{DecIntRuns}
 use Rattle.winnow_numbers.specs.DecInt.Laws.{dec_int_ends, dec_int_status, dec_int_stays, meet}
 use Rattle.winnow_numbers.specs.DecUint.Laws.{OneNumber}
 use Rattle.winnow_numbers.specs.DecimalText.{signed_value}
-use Rattle.winnow_numbers.specs.Digits.{CharIsFunction}
+use Rattle.winnow_ascii.specs.Class.Says.{CharIsFunction}
 use Rattle.winnow_numbers.specs.Numeral.Exact.{dec_int_fails}
 use Rattle.winnow_numbers.specs.Numeral.Says.{HasNumeral, NoNumeralDoes, none_of, none_to}
 use Rattle.winnow_numbers.specs.Numeral.Says.{numeral_of, numeral_to}

@@ -10,7 +10,8 @@ use Rattle.stream_errors.specs.Form.Inversion.{ok_is_err, same_ok}
 use Rattle.stream_sets.specs.AsChar.{IsDecDigit}
 use Rattle.winnow_numbers.specs.DecUint.{DecUintRuns}
 use Rattle.winnow_numbers.specs.Decimal.{IsDecimalOf}
-use Rattle.winnow_numbers.specs.Digits.{AreCharacters, NoneFirst, CharIsFunction, value_in}
+use Rattle.winnow_ascii.specs.Class.Says.{CharIsFunction}
+use Rattle.winnow_numbers.specs.Digits.{AreCharacters, NoneFirst, value_in}
 use Rattle.winnow_numbers.specs.NumberLaws.{AnswersSame, same_kinds, same_numbers}
 use Rattle.winnow_numbers.specs.Numeral.{NumeralRuns}
 use Rattle.winnow_numbers.specs.Numeral.Inversion.{digits_are, digits_front}

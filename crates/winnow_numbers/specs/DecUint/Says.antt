@@ -14,7 +14,8 @@ use Rattle.winnow_numbers.specs.DecUint.{DecUintRuns}
 use Rattle.winnow_numbers.specs.DecUint.Inversion.{dec_uint_once}
 use Rattle.winnow_numbers.specs.DecUint.Laws.{OneNumber, dec_uint_ends, dec_uint_stays, same_alike}
 use Rattle.winnow_numbers.specs.DecUint.Laws.{dec_uint_status}
-use Rattle.winnow_numbers.specs.Digits.{CharIsFunction, value_in}
+use Rattle.winnow_ascii.specs.Class.Says.{CharIsFunction}
+use Rattle.winnow_numbers.specs.Digits.{value_in}
 use Rattle.winnow_numbers.specs.Numeral.Exact.{dec_uint_fails}
 use Rattle.winnow_numbers.specs.Numeral.Says.{HasNumeral, NoNumeralDoes, none_of, none_to}
 use Rattle.winnow_numbers.specs.Numeral.Says.{numeral_of, numeral_to}

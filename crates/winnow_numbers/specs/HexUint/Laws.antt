@@ -19,14 +19,13 @@ use Rattle.winnow_core.specs.Stable.Longer.{same_more, passes_more, passes_cut}
 use Rattle.winnow_core.specs.Stable.Grows.{Stays, final_by, not_whole}
 use Rattle.winnow_numbers.specs.Numeral.Laws.{none_first_more, more_is_some}
 use Rattle.streams.specs.Equal.{same_rest, true_is_false}
-use Rattle.stream_sets.specs.Once.{TokenEqInjective}
 use Rattle.grammars.specs.Grammar.{IsUnique, TakesTokens}
 use Rattle.stream_errors.specs.Form.Inversion.{ok_is_err, same_kind, same_ok}
 use Rattle.winnow_core.specs.Exact.{Backtracks, IsExact}
-use Rattle.winnow_numbers.specs.Digits.{IsIn, NoneFirst, CharIsFunction}
+use Rattle.winnow_ascii.specs.Class.Says.{CharIsFunction}
+use Rattle.winnow_numbers.specs.Digits.{IsIn, NoneFirst}
 use Rattle.winnow_numbers.specs.Digits.Inversion.{characters_length, one_first, one_front}
 use Rattle.winnow_numbers.specs.HexUint.Inversion.{hex_uint_by, hex_uint_must, passed_by}
-use Rattle.winnow_numbers.specs.Numeral.Exact.{seen_one}
 use Rattle.winnow_numbers.specs.Numeral.Grammar.{Hexadecimal}
 
 -- every call leaves a suffix
@@ -119,20 +118,20 @@ module _ {K T L : Type 0} (seen : K → T) (code : K → ℕ) (reading : Reading
   }
 
   module _ (form : ErrorForm) where
-    pub hex_uint_exact : TokenEqInjective seen
+    pub hex_uint_exact : CharIsFunction seen code
         → IsExact tt (Keeps (λ (_ : ⊤). HexUintRuns number most seen code reading form))
         (Hexadecimal number most seen code)
     unfolding Hexadecimal
-    hex_uint_exact apart = record {
+    hex_uint_exact once = record {
       kept = λ i answer t j is (r, same). (same, still i answer j is r);
       stands = λ i n t j is (r, kept). stands i n j r;
       none = λ i k t j is (r, kept). inr
           (λ n rest (front, digits, e, chars, are, some, few, stops, value).
           let (m, answered, also, passes) = hex_uint_must number most seen code reading form
-          (seen_one seen code apart) front digits rest i (Err k) j are some few chars e stops
+          once front digits rest i (Err k) j are some few chars e stops
           (λ _. is) r in
           ok_is_err answered refl);
-      unique = hexadecimal_unique (seen_one seen code apart);
+      unique = hexadecimal_unique once;
     }
       where
         still : (i : Input T) (answer : Answer N) (j : Input T) → i.status.cut ≡ false

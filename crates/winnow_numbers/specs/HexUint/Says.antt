@@ -16,7 +16,8 @@ use Rattle.winnow_core.specs.Says.Cases.{Case, FailsWhere, LacksWhere, OneCase, 
 use Rattle.winnow_core.specs.Says.Lacks.{short_outcome}
 use Rattle.winnow_numbers.specs.ByRuns.{by_runs, no_places, plain_at, plain_passes}
 use Rattle.winnow_numbers.specs.DecUint.Laws.{OneNumber}
-use Rattle.winnow_numbers.specs.Digits.{AreCharacters, IsIn, NoneFirst, CharIsFunction, value_in}
+use Rattle.winnow_ascii.specs.Class.Says.{CharIsFunction}
+use Rattle.winnow_numbers.specs.Digits.{AreCharacters, IsIn, NoneFirst, value_in}
 use Rattle.winnow_numbers.specs.HexUint.{HexUintRuns}
 use Rattle.winnow_numbers.specs.HexUint.Laws.{hex_uint_ends, hex_uint_fails, hex_uint_status}
 use Rattle.winnow_numbers.specs.HexUint.Laws.{hex_uint_stays, meet}

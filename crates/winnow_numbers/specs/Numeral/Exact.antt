@@ -7,7 +7,6 @@ use Rattle.streams.specs.Input.{Input, Passes, at_start, no_status}
 use Rattle.streams.specs.Kind.{Kind, backtrack, memory}
 use Rattle.streams.specs.Reading.{Reading}
 use Rattle.stream_sets.specs.AsChar.{IsDecDigit}
-use Rattle.stream_sets.specs.Once.{TokenEqInjective}
 use Rattle.grammars.specs.Grammar.{IsUnique, TakesTokens}
 use Rattle.stream_errors.specs.Form.{Answer, ErrorForm, plain}
 use Rattle.stream_errors.specs.Form.Inversion.{ok_is_err, same_kind}
@@ -19,16 +18,13 @@ use Rattle.winnow_numbers.specs.DecUint.{DecUintRuns}
 use Rattle.winnow_numbers.specs.DecUint.Inversion.{dec_uint_ok}
 use Rattle.winnow_numbers.specs.Decimal.{IsDecimalOf, IsSignedDecimalOf}
 use Rattle.winnow_numbers.specs.DecimalText.{signed_value}
-use Rattle.winnow_numbers.specs.Digits.{AreCharacters, NoneFirst, CharIsFunction, value_in}
+use Rattle.winnow_ascii.specs.Class.Says.{CharIsFunction}
+use Rattle.winnow_numbers.specs.Digits.{AreCharacters, NoneFirst, value_in}
 use Rattle.winnow_numbers.specs.Digits.Inversion.{characters_length}
 use Rattle.winnow_numbers.specs.Numeral.{DigitsRuns, IsSign, NumeralRuns}
 use Rattle.winnow_numbers.specs.Numeral.Grammar.{Decimal, SignedDecimal}
 use Rattle.winnow_numbers.specs.Numeral.Inversion.{behind, digits_run, leads_behind, numeral_front}
 use Rattle.winnow_numbers.specs.Numeral.Once.{numeral_or_none, one_numeral}
-
-pub seen_one : {K T : Type 0} (seen : K → T) (code : K → ℕ) → TokenEqInjective seen
-    → CharIsFunction seen code
-seen_one seen code apart x y e = ap code (apart x y e)
 
 -- complete input of these tokens
 abbrev whole : {T : Type 0} → List T → Input T
@@ -120,11 +116,11 @@ module _ {K T L : Type 0} (seen : K → T) (code : K → ℕ) (reading : Reading
     }
 
     module _ (form : ErrorForm) where
-      pub dec_uint_exact : TokenEqInjective seen
+      pub dec_uint_exact : CharIsFunction seen code
           → IsExact tt (Keeps (λ (_ : ⊤). DecUintRuns number bound seen code reading form))
           (Decimal number bound seen code)
       unfolding Decimal
-      dec_uint_exact apart = record {
+      dec_uint_exact once = record {
         kept = λ i answer t j is (r, same). (same, still i answer j is r);
         stands = λ i n t j is (r, kept).
             let read = dec_uint_ok number bound seen code reading form i n j r in (
@@ -138,7 +134,7 @@ module _ {K T L : Type 0} (seen : K → T) (code : K → ℕ) (reading : Reading
             );
         none = λ i k t j is (r, kept). inr (λ n rest x.
             none i k j r n rest (numeral i n rest is x));
-        unique = decimal_unique (seen_one seen code apart);
+        unique = decimal_unique once;
       }
         where
           still : (i : Input T) (answer : Answer N) (j : Input T) → i.status.cut ≡ false
@@ -160,11 +156,11 @@ module _ {K T L : Type 0} (seen : K → T) (code : K → ℕ) (reading : Reading
           none i k j (inl (digits, m, runs, fit, value, e)) n rest x = ok_is_err e refl
           none i k j (inr (inl (digits, a, runs, misfit, e, same))) n rest
               (xs, b, p, left, value, fits) =
-              let one = one_numeral seen code reading (seen_one seen code apart) false i [] []
+              let one = one_numeral seen code reading once false i [] []
               digits xs a b runs p in
               omega (arith, ap (λ l. value_in 10 l) one.1.0, misfit, value, fits)
           none i k j (inr (inr (l, never, e))) n rest (xs, b, p, left, value, fits) =
-              numeral_or_none seen code reading (seen_one seen code apart) form false i [] xs b l j
+              numeral_or_none seen code reading once form false i [] xs b l j
               p never
 
       pub dec_uint_fails : Backtracks tt
@@ -292,11 +288,11 @@ module _ {K T L : Type 0} (seen : K → T) (code : K → ℕ) (reading : Reading
     }
 
     module _ (form : ErrorForm) where
-      pub dec_int_exact : TokenEqInjective seen
+      pub dec_int_exact : CharIsFunction seen code
           → IsExact tt (Keeps (λ (_ : ⊤). DecIntRuns number fits seen code reading form))
           (SignedDecimal number fits seen code)
       unfolding SignedDecimal
-      dec_int_exact apart = record {
+      dec_int_exact once = record {
         kept = λ i answer t j is (r, same). (same, still i answer j is r);
         stands = λ i n t j is (r, kept).
             let read = dec_int_ok number fits seen code reading form i n j r in (
@@ -311,7 +307,7 @@ module _ {K T L : Type 0} (seen : K → T) (code : K → ℕ) (reading : Reading
             );
         none = λ i k t j is (r, kept). inr (λ n rest x.
             none i k j r n rest (signed_numeral i n rest is x));
-        unique = signed_unique (seen_one seen code apart);
+        unique = signed_unique once;
       }
         where
           still : (i : Input T) (answer : Answer N) (j : Input T) → i.status.cut ≡ false
@@ -333,12 +329,12 @@ module _ {K T L : Type 0} (seen : K → T) (code : K → ℕ) (reading : Reading
           none i k j (inl (sign, digits, m, runs, fit, value, e)) n rest x = ok_is_err e refl
           none i k j (inr (inl (sign, digits, a, runs, misfit, e, same))) n rest
               (s, xs, b, p, left, value, fit) =
-              let one = one_numeral seen code reading (seen_one seen code apart) true i sign s
+              let one = one_numeral seen code reading once true i sign s
               digits xs a b runs p in
               misfit (subst fits (sym (ap (λ l. signed_value l digits) one.0
               ∙ ap (λ l. signed_value s l) one.1.0 ∙ value)) fit)
           none i k j (inr (inr (l, never, e))) n rest (s, xs, b, p, left, value, fit) =
-              numeral_or_none seen code reading (seen_one seen code apart) form true i s xs b l j
+              numeral_or_none seen code reading once form true i s xs b l j
               p never
 
       pub dec_int_fails : Backtracks tt

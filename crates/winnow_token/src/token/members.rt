@@ -1,7 +1,6 @@
 //! Takes of the members of a set.
 ghost use Rattle.std.specs.Prelude.{◌≤◌, IfSome, None, Some, not};
 ghost use Rattle.stream_errors.specs.Form.{answer_by};
-ghost use Rattle.stream_sets.specs.Once.{others_once};
 ghost use Rattle.stream_sets.specs.Range.{bounds_of, from_to};
 ghost use Rattle.streams.specs.Input.{IsEndOf};
 ghost use Rattle.streams.specs.Stream.{AnswersSeen, IsBoundary};
@@ -28,10 +27,6 @@ impl<T, S: ContainsToken<T>> ContainsToken<T> for Others<'_, S> {
     ghost can_test = { λ s. S.can_test s.0.now };
 
     ghost tells = { λ s t b. S.tells s.0.now t (not b) };
-
-    ghost decides = { λ s. S.decides s.0.now };
-
-    ghost once = { λ s is. others_once S.tells s.0.now (S.once s.0.now is) };
 
     #[inline(always)]
     fn contains_token(&self, token: T) -> bool {

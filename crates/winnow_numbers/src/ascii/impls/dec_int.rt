@@ -1,6 +1,5 @@
 //! Decimal signed numbers.
 ghost use Rattle.std.specs.Prelude.{⊤};
-ghost use Rattle.stream_sets.specs.Once.{TokenEqInjective};
 ghost use Rattle.winnow_core.specs.Exact.Allowed.{backs};
 ghost use Rattle.winnow_core.specs.Runs.{Keeps};
 ghost use Rattle.winnow_core.specs.Stable.Grows.{leaf_stays};
@@ -41,7 +40,7 @@ where
     ghost says = { λ _. dec_int_says O.number O.fits I.seen_as I.Token.code };
 
     ghost claim = { λ s. record {
-      premise = TokenEqInjective I.seen_as;
+      premise = ⊤;
       backtracks = ⊤;
       spares_memory = ⊤;
       consumes = ⊤;
@@ -55,7 +54,8 @@ where
         I.one_code };
 
     ghost claimed = { λ s. record {
-      exact = λ form is. dec_int_exact I.seen_as I.Token.code I.reading O.number O.fits form is;
+      exact = λ form is. dec_int_exact I.seen_as I.Token.code I.reading O.number O.fits form
+          I.one_code;
       fails = λ form is. backs
           (dec_int_fails I.seen_as I.Token.code I.reading O.number O.fits form);
       takes = λ is some. signed_takes I.seen_as I.Token.code I.reading O.number O.fits;

@@ -1,6 +1,5 @@
 //! Decimal unsigned numbers.
 ghost use Rattle.std.specs.Prelude.{⊤};
-ghost use Rattle.stream_sets.specs.Once.{TokenEqInjective};
 ghost use Rattle.winnow_core.specs.Exact.Allowed.{backs};
 ghost use Rattle.winnow_core.specs.Runs.{Keeps};
 ghost use Rattle.winnow_core.specs.Stable.Grows.{leaf_stays};
@@ -41,7 +40,7 @@ where
     ghost says = { λ _. dec_uint_says O.number O.bound I.seen_as I.Token.code };
 
     ghost claim = { λ s. record {
-      premise = TokenEqInjective I.seen_as;
+      premise = ⊤;
       backtracks = ⊤;
       spares_memory = ⊤;
       consumes = ⊤;
@@ -55,7 +54,8 @@ where
         I.one_code };
 
     ghost claimed = { λ s. record {
-      exact = λ form is. dec_uint_exact I.seen_as I.Token.code I.reading O.number O.bound form is;
+      exact = λ form is. dec_uint_exact I.seen_as I.Token.code I.reading O.number O.bound form
+          I.one_code;
       fails = λ form is. backs
           (dec_uint_fails I.seen_as I.Token.code I.reading O.number O.bound form);
       takes = λ is some. decimal_takes I.seen_as I.Token.code I.reading O.number O.bound;

@@ -1,7 +1,6 @@
 //! Hexadecimal numbers.
 ghost use Rattle.std.specs.Prelude.{◌≡◌, ◌+◌, ◌*◌, ◌^◌, ◌<◌, ℕ, ⊤};
 ghost use Rattle.std.proofs.Common.{arith};
-ghost use Rattle.stream_sets.specs.Once.{TokenEqInjective};
 ghost use Rattle.winnow_core.specs.Exact.Allowed.{backs};
 ghost use Rattle.winnow_core.specs.Runs.{Keeps};
 ghost use Rattle.winnow_core.specs.Stable.Grows.{leaf_stays};
@@ -202,7 +201,7 @@ where
     ghost says = { λ _. hex_uint_says O.number O.nibbles I.seen_as I.Token.code };
 
     ghost claim = { λ s. record {
-      premise = TokenEqInjective I.seen_as;
+      premise = ⊤;
       backtracks = ⊤;
       spares_memory = ⊤;
       consumes = ⊤;
@@ -217,7 +216,7 @@ where
 
     ghost claimed = { λ s. record {
       exact = λ form is. hex_uint_exact I.seen_as I.Token.code I.reading O.number O.nibbles
-          form is;
+          form I.one_code;
       fails = λ form is. backs (hex_uint_fails I.seen_as I.Token.code I.reading O.number O.nibbles
           form);
       takes = λ is some. hexadecimal_takes I.seen_as I.Token.code I.reading O.number O.nibbles;
