@@ -7,19 +7,17 @@ use Rattle.std.specs.Str.{chars, encode_utf8_all}
 use Rattle.std.specs.declared.ops.RangeInclusive.{RangeInclusive}
 use Rattle.std.proofs.Common.{refl, sym, ap, ◌∙◌, arith}
 use Rattle.winnow.specs.Equal.{none_is_some, same_some}
-use Rattle.winnow.specs.Input.{Input, IsEndOf}
+use Rattle.winnow.specs.Input.{Input}
 use Rattle.winnow.specs.Kind.{Kind, memory}
-use Rattle.winnow.specs.Reading.{Reading}
 use Rattle.winnow.specs.Text.{text_reading}
 use Rattle.winnow.specs.Growth.{grown}
-use Rattle.winnow.specs.AsChar.{IsDecDigit}
 use Rattle.winnow.specs.Sets.{InEither}
 use Rattle.format_parts.specs.Words.{OneIn, Slice, Word}
 use Rattle.format_json_texts.specs.Values.{HasText}
 use Rattle.winnow.specs.Exact.{Reads}
 use Rattle.winnow.specs.Read.{err_as, ok_as, reads_meaning, reads_wanting}
-use Rattle.winnow.specs.Grammar.Same.{Same, same_refl}
-use Rattle.winnow.specs.Grammar.{Both, Either, Grammar, Literally, Made, Taken, TokenOf}
+use Rattle.winnow.specs.Grammar.Same.{Same}
+use Rattle.winnow.specs.Grammar.{Both, Grammar, Literally, Made, Taken, TokenOf}
 use Rattle.winnow.specs.Grammar.Tuples.{Four}
 use Rattle.winnow.specs.Grammar.Meaning.{Meaning}
 

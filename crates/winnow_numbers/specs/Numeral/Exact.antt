@@ -4,7 +4,7 @@ use Rattle.std.specs.Prelude.{length, Err, ⊤}
 use Rattle.std.proofs.Common.{refl, sym, ap, subst, inl, inr, ◌∙◌, arith, length-append}
 use Rattle.streams.specs.Equal.{same_rest, true_is_false}
 use Rattle.streams.specs.Input.{Input, Passes, at_start, no_status}
-use Rattle.streams.specs.Kind.{Kind, backtrack, memory}
+use Rattle.streams.specs.Kind.{Kind, backtrack}
 use Rattle.streams.specs.Reading.{Reading}
 use Rattle.stream_sets.specs.AsChar.{IsDecDigit}
 use Rattle.grammars.specs.Grammar.{IsUnique, TakesTokens}
