@@ -12,7 +12,6 @@ use Rattle.winnow_comb.specs.Alt.Slice.{AltSliceRuns, Backtracked}
 use Rattle.winnow_core.specs.InOrder.{BothRuns}
 use Rattle.winnow_comb.specs.Opt.{OptRuns}
 use Rattle.winnow_core.specs.Runs.{Runs}
-use Rattle.winnow_core.specs.Sequence.{SequenceRuns2}
 use Rattle.winnow_laws.specs.Memory.{IsGivenMemory, GivenMemory, NeverHides}
 use Rattle.winnow_repeat.specs.Chain.{Chain, IsItem, IsSuccess}
 use Rattle.winnow_repeat.specs.Repeat.{ItemsRun, RangedRuns, RepeatEnds, RepeatManyRuns}
@@ -96,23 +95,6 @@ opt_hides first s i answer t j (inr (inr (k, r, not_back, e))) other =
     inr (inr (k, first s i (Err k) t j r (handed e other), not_back, e))
 
 -- ---- sequences
-
-pub sequence2_hides : {S1 S2 T O1 O2 : Type 0} {one1 two1 : Runs S1 T O1} {one2 two2 : Runs S2 T O2}
-    → NeverHides one1 two1 → NeverHides one2 two2
-    → NeverHides (SequenceRuns2 one1 one2) (SequenceRuns2 two1 two2)
-sequence2_hides first second s i answer t j (inl (o, p, a, r, q, e)) other =
-    inl (o, p, a, first s.0 i (Ok o) t.0 a r ok_given, second s.1 a (Ok p) t.1 j q ok_given, e)
-sequence2_hides first second s i answer t j (inr (inl (k, r, same, e))) other =
-    inr (inl (k, first s.0 i (Err k) t.0 j r (handed e other), same, e))
-sequence2_hides first second s i answer t j (inr (inr (o, k, a, r, q, e))) other =
-    inr (inr (
-      o,
-      k,
-      a,
-      first s.0 i (Ok o) t.0 a r ok_given,
-      second s.1 a (Err k) t.1 j q (handed e other),
-      e,
-    ))
 
 pub both_hides : {S1 S2 T O1 O2 O : Type 0} (output : O1 → O2 → O) {one1 two1 : Runs S1 T O1}
     {one2 two2 : Runs S2 T O2} → NeverHides one1 two1 → NeverHides one2 two2

@@ -16,11 +16,15 @@ Name = Class IsAlpha 1 (λ b. b) (λ b. b) counted_reading
 abbrev pub Digits : Grammar ℕ (Bor (List ℕ))
 Digits = Class IsDecDigit 1 (λ b. b) (λ b. b) counted_reading
 
--- a name, an equals sign, digits and a line feed
-abbrev pub IsSetting : List ℕ → List ℕ → Type 0
-IsSetting tokens rest =
+-- a name, an equals sign and digits
+abbrev pub HasValue : List ℕ → List ℕ → Type 0
+HasValue tokens rest =
     (name : Bor (List ℕ)) × (value : List ℕ) × (digits : Bor (List ℕ))
-    × Name tokens name (61 ∷ value) × Digits value digits (10 ∷ rest)
+    × Name tokens name (61 ∷ value) × Digits value digits rest
+
+-- and a line feed
+abbrev pub IsSetting : List ℕ → List ℕ → Type 0
+IsSetting tokens rest = HasValue tokens (10 ∷ rest)
 
 -- a name and a line feed
 abbrev pub IsFlag : List ℕ → List ℕ → Type 0

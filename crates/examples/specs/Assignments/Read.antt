@@ -2,10 +2,9 @@
 -- missing, or where the input does not start with a line.
 use Rattle.std.specs.Prelude.{◌≡◌, ◌<◌, ⊤, ℕ, false, List, [], ◌∷◌, length}
 use Rattle.std.specs.Prelude.{Result, Ok, Err}
-use Rattle.std.specs.Borrow.{Bor}
 use Rattle.std.specs.List.{FoldsTo}
 use Rattle.std.proofs.Common.{refl, sym, ap, subst, inl, inr, ◌∙◌, arith}
-use Rattle.examples.specs.Assignments.Assignments.{AreLines, Digits, IsFlag, IsSetting}
+use Rattle.examples.specs.Assignments.Assignments.{AreLines, HasValue, IsFlag, IsSetting}
 use Rattle.examples.specs.Assignments.Assignments.{IsErrorOfLines}
 use Rattle.examples.specs.Assignments.Assignments.{LacksValue, Line, Name, NoValue}
 use Rattle.examples.specs.Assignments.Parts.{byte1, class1, Gives, Known, after, byte_back}
@@ -58,12 +57,6 @@ fewer tokens u rest (inl (name, value, digits, x, z)) =
 fewer tokens u rest (inr (name, x)) =
     omega (arith, (some_takes IsAlpha).fewer tokens name (10 ∷ rest) x)
 
--- a name, an equals sign and digits
-abbrev HasValue : List ℕ → List ℕ → Type 0
-HasValue tokens rest =
-    (name : Bor (List ℕ)) × (value : List ℕ) × (digits : Bor (List ℕ))
-    × Name tokens name (61 ∷ value) × Digits value digits rest
-
 -- Lines, and then the rest, which starts neither with a line nor with a missing value.
 abbrev EndsLines : List ℕ → List ℕ → Type 0
 EndsLines tokens rest =
@@ -102,10 +95,13 @@ module _ (at : Setting) (whole : at.more ≡ false) where
       let first = class_there at whole IsAlpha tokens name (61 ∷ value) x in
       let second = class_there at whole IsDecDigit value digits (10 ∷ rest) z in
       let feed = byte_there at whole 10 rest in
-      let sign = byte_there at whole 61 value in
-      (
+      let sign = byte_there at whole 61 value in (
         _,
-        (_, (_, (_, first, (_, sign, (_, (_, second, refl), refl))), (_, feed, refl)), (u, tt, refl)),
+        (
+          _,
+          (_, (_, first, (_, sign, (_, (_, second, refl), refl))), (_, feed, refl)),
+          (u, tt, refl),
+        ),
         refl,
       )
   line_there tokens u rest (inr (name, x)) =

@@ -41,7 +41,8 @@ module _ {T O1 O2 O3 O4 : Type 0} {g1 : Grammar T O1} {g2 : Grammar T O2} {g3 : 
     {g4 : Grammar T O4} (first : IsUnique g1) (second : IsUnique g2) (third : IsUnique g3)
     (fourth : IsUnique g4) where
   pub four_unique : IsUnique (Four g1 g2 g3 g4)
-  four_unique = both_unique join4 (three_unique (λ o1 o2 o3. (o1, o2, o3)) first second third) fourth
+  four_unique =
+      both_unique join4 (three_unique (λ o1 o2 o3. (o1, o2, o3)) first second third) fourth
 
   -- where one of them takes tokens, so do all
   pub four_take : TakesTokens g1 ⊎ (TakesTokens g2 ⊎ (TakesTokens g3 ⊎ TakesTokens g4))

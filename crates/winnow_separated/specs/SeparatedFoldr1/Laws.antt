@@ -7,9 +7,9 @@ use Rattle.streams.specs.Reading.{Reading}
 use Rattle.stream_sets.specs.Accumulator.{list_kept}
 use Rattle.stream_sets.specs.Range.{from_to}
 use Rattle.streams.specs.Following.{Following}
+use Rattle.winnow_core.specs.InOrder.Laws.{both_ends, both_grows}
 use Rattle.winnow_core.specs.Runs.{Runs, LeaveEnds}
 use Rattle.winnow_core.specs.Sequence.{SequenceRuns2}
-use Rattle.winnow_core.specs.InOrder.Laws.{both_ends, both_grows}
 use Rattle.winnow_repeat.specs.Repeat.Laws.{many_ends, many_grow}
 use Rattle.winnow_separated.specs.SeparatedFoldr1.{SeparatedFoldr1Runs}
 use Rattle.winnow_core.specs.Stable.Grows.{Grows, final_by}
@@ -24,13 +24,13 @@ foldr1_ends A reading step run separator assert_kind ends between s i answer t j
 foldr1_ends A reading step run separator assert_kind ends between s i answer t j
     (inr (inl (first, v, n, k, r, links, kept, e))) =
     is_end_of_trans (many_ends reading (SequenceRuns2 separator run) (list_kept {A = A})
-    assert_kind (from_to 0 None) (both_ends reading (λ d o. (d, o)) separator run between ends) (s.1, v) n
-    (Err k) (t.1, t.0) j links) (ends s.0 i (Ok first) v n r)
+    assert_kind (from_to 0 None) (both_ends reading (λ d o. (d, o)) separator run between ends)
+    (s.1, v) n (Err k) (t.1, t.0) j links) (ends s.0 i (Ok first) v n r)
 foldr1_ends A reading step run separator assert_kind ends between s i answer t j
     (inr (inr (first, v, n, all, value, r, links, folded, e))) =
     is_end_of_trans (many_ends reading (SequenceRuns2 separator run) (list_kept {A = A})
-    assert_kind (from_to 0 None) (both_ends reading (λ d o. (d, o)) separator run between ends) (s.1, v) n
-    (Ok all) (t.1, t.0) j links) (ends s.0 i (Ok first) v n r)
+    assert_kind (from_to 0 None) (both_ends reading (λ d o. (d, o)) separator run between ends)
+    (s.1, v) n (Ok all) (t.1, t.0) j links) (ends s.0 i (Ok first) v n r)
 
 module _ {T : Type 0} {following : Following T} where
   -- stable under longer input, if the parsers of elements and separators are

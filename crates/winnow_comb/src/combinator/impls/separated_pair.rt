@@ -55,7 +55,8 @@ impl<
         (AlikePairs (P1.says s.0).alike (P3.says s.2).alike)
         (P1.says s.0) (P2.says s.1) (P3.says s.2) };
 
-    ghost claim = { λ s. three_claim (λ o1 o2 o3. (o1, o3)) (P1.claim s.0) (P2.claim s.1) (P3.claim s.2) };
+    ghost claim = { λ s. three_claim (λ o1 o2 o3. (o1, o3)) (P1.claim s.0) (P2.claim s.1)
+        (P3.claim s.2) };
 
     ghost leaves_ends = { λ form. three_ends I.reading (λ o1 o2 o3. (o1, o3)) (P1.meaning form)
         (P2.meaning form) (P3.meaning form) (P1.leaves_ends form) (P2.leaves_ends form)
@@ -64,7 +65,8 @@ impl<
     ghost said = { λ s. three_said (λ o p q r x y first second third. (first, third))
         (P1.said s.0) (P2.said s.1) (P3.said s.2) };
 
-    ghost claimed = { λ s. three_claimed (λ o1 o2 o3. (o1, o3)) (P1.claimed s.0) (P2.claimed s.1) (P3.claimed s.2) };
+    ghost claimed = { λ s. three_claimed (λ o1 o2 o3. (o1, o3)) (P1.claimed s.0) (P2.claimed s.1)
+        (P3.claimed s.2) };
 
     #[inline(always)]
     fn parse_next(&mut self, input: &mut I) -> Result<(O1, O3), E> {
