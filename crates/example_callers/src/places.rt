@@ -7,13 +7,16 @@ ghost use Rattle.winnow.specs.Class.Says.{CharIsFunction};
 ghost use Rattle.winnow.specs.Exact.{IsSpared, Reads};
 ghost use Rattle.winnow.specs.Kind.{backtrack};
 ghost use Rattle.winnow.specs.Grammar.{Class, Literally};
+ghost use Rattle.winnow.specs.Premises.{IsStateless};
 ghost use Rattle.winnow.specs.Spans.{IsBetween, output_alone};
 
 use std::ops::Range;
 use winnow::Parser;
 use winnow::ascii::impls::Alpha1;
+use winnow::combinator::impls::Span;
 use winnow::error::ParserError;
 use winnow::exact::ReadsSpanned;
+use winnow::laws::{Likeness, deterministic_parts_are_stateless, spans_are_stateless};
 use winnow::stream::{AsChar, Compare, LocatingSlice, Location, Stream, StreamIsPartial};
 
 /// A word and the mark `=`, of any stream of bytes.
@@ -75,4 +78,23 @@ where
         Ok(_) => word_between(input),
         Err(error) => Err(error),
     }
+}
+
+/// Equal bytes.
+struct Equal;
+
+impl Likeness<u8> for Equal {
+    ghost alike = { λ v w. v ≡ w };
+}
+
+/// States that the span of a plus sign is the same in all calls on one input.
+pub fn signs_have_one_span<I, E>()
+where
+    I: StreamIsPartial + Compare<u8> + Location,
+    E: ParserError<I>,
+    ensures { IsStateless (λ u v. u ≡ v)
+        (⟦<Span<u8, I, u8, E> as Parser<I, Range<usize>, E>>⟧.meaning E.form) 43 }
+{
+    deterministic_parts_are_stateless::<u8, I, u8, E>();
+    spans_are_stateless::<u8, I, u8, E, Equal>();
 }
