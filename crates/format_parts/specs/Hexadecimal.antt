@@ -3,7 +3,7 @@ use Rattle.std.specs.Prelude.{◌≡◌, ◌⊎◌, ◌≤◌, ◌<◌, ◌+◌,
 use Rattle.std.proofs.Common.{sym, ap, subst, inl, inr, ◌∙◌, arith}
 use Rattle.winnow.specs.Any.Laws.{token_takes}
 use Rattle.winnow.specs.Equal.{same_first, same_others}
-use Rattle.winnow.specs.Grammar.{Grammar, IsUnique, Made, TakesTokens, Token}
+use Rattle.winnow.specs.Grammar.{Both, Grammar, IsUnique, Made, TakesTokens, Three, Token}
 use Rattle.winnow.specs.Grammar.Meaning.{Meaning, meaning_takes, meaning_unique}
 use Rattle.winnow.specs.Grammar.Outputs.{IsAlike}
 use Rattle.winnow.specs.Grammar.Sequences.{four_take, four_unique}
