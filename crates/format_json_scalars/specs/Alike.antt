@@ -17,7 +17,7 @@ use Rattle.format_json_texts.specs.Values.{HasText}
 use Rattle.winnow.specs.Exact.{Reads}
 use Rattle.winnow.specs.Read.{err_as, ok_as, reads_meaning, reads_wanting}
 use Rattle.winnow.specs.Grammar.Same.{Same}
-use Rattle.winnow.specs.Grammar.{Both, Grammar, Literally, Made, Taken, TokenOf}
+use Rattle.winnow.specs.Grammar.{Both, Grammar, Literally, Made, Taken, Three, TokenOf}
 use Rattle.winnow.specs.Grammar.Tuples.{Four}
 use Rattle.winnow.specs.Grammar.Meaning.{Meaning}
 

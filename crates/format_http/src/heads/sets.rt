@@ -7,7 +7,7 @@ ghost use Rattle.format_http.specs.Heads.Bytes.{IsWhite};
 
 use winnow::stream::ContainsToken;
 
-/// The bytes of tokens, of which names and methods are made.
+/// The bytes of tokens. Names and methods are made of them.
 #[derive(Clone, Copy, Drop)]
 pub struct TokenBytes;
 
@@ -54,7 +54,7 @@ impl ContainsToken<u8> for ValueBytes {
     }
 }
 
-/// The visible bytes, of which targets are made.
+/// The visible bytes. Targets are made of them.
 #[derive(Clone, Copy, Drop)]
 pub struct Visible;
 

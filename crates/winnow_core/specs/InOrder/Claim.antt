@@ -60,7 +60,7 @@ three_claimed output h1 h2 h3 = record {
       (either_way (either_way (h1.takes is.0) (h2.takes is.1)) (h3.takes is.2) some);
 }
 
--- The same runs, whose state is in another form, satisfy the same claim.
+-- A claim holds of a state if it holds of another form of the state.
 pub claimed_by : {S R T O : Type 0} {claim : Claim T O} {m : Meaning S T O} {r : R} (to : R → S)
     → ((t : R) → to t ≡ to r → t ≡ r) → Claimed claim (to r) m
     → Claimed claim r (λ form. By to (m form))
