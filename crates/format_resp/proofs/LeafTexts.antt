@@ -1,13 +1,8 @@
 -- That lines and bytes are what their parsers read.
-use Rattle.std.specs.Prelude.{◌≡◌, ◌==◌, ℕ, Bool, true, false, IsTrue, ◌↔◌, None, List, [], ◌∷◌}
-use Rattle.std.specs.Prelude.{◌++◌}
-use Rattle.std.specs.Prelude.{length}
+use Rattle.std.specs.Prelude.{◌≡◌, ℕ, Bool, IsTrue, ◌↔◌, None, List, [], ◌∷◌, ◌++◌}
 use Rattle.std.specs.Borrow.{Bor}
 use Rattle.std.proofs.Common.{refl, sym, ap, subst, inl, ◌∙◌, append_assoc}
-use Rattle.std.proofs.lemmas.Bool.{eq-eqb, eqb-true}
-use Rattle.std.proofs.lemmas.List.{nil_from_length}
 use Rattle.winnow.specs.Bytes.{bytes_reading}
-use Rattle.winnow.specs.Equal.{true_is_false}
 use Rattle.winnow.specs.Kind.{Kind, backtrack, memory}
 use Rattle.winnow.specs.Range.{from_to}
 use Rattle.winnow.specs.Sets.{InEither}
@@ -76,14 +71,6 @@ pub same_data : (n : ℕ) → Same (Both (λ o1 o2. o1) (Counted bytes_reading n
     (First (DataText n))
 unfolding DataText
 same_data n = ended_of _ (counted_of bytes_reading n) (λ rest. tt)
-
--- nothing is left where the length is 0
-pub is_none : (rest : List ℕ) (b : Bool) → b ≡ (length rest == 0) → b ≡ true → rest ≡ []
-is_none rest b e is = nil_from_length rest (eqb-true (length rest) 0 (sym e ∙ is))
-
-pub is_some : (rest : List ℕ) (b : Bool) → b ≡ (length rest == 0) → b ≡ false → rest ≡ [] → ⊥
-is_some rest b e is none =
-    true_is_false (sym (eq-eqb (length rest) 0 (ap (λ l. length l) none)) ∙ sym e ∙ is)
 
 -- a call that fails with an error other than out of memory
 pub not_wanting : (k : Kind) → k ≡ memory → k ≡ backtrack → ⊥

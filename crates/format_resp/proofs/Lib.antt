@@ -20,7 +20,6 @@ pub mod Putting
 pub mod ReadBack
 pub mod ReadParts
 pub mod Refusals
-pub mod Results
 pub mod Rows
 pub mod Sayings
 pub mod Writing

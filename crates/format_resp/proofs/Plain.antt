@@ -1,89 +1,56 @@
 -- Lemmas that the contents of a reply's line have no byte of a line ending.
 use Rattle.std.specs.Prelude.{Bool, true, false, ℕ, List, [], ◌∷◌, ◌++◌}
 use Rattle.std.proofs.Common.{inl, inr, arith}
-use Rattle.format_resp.proofs.Integers.{Plainly, byte_plain, digits_plain, plain_as, signed_plain}
+use Rattle.format_resp.proofs.Integers.{Plainly, above, above_plain, digits_plain, plain_as}
+use Rattle.format_resp.proofs.Integers.{signed_plain, unsigned_plain}
 use Rattle.format_resp.proofs.LineEnds.{all_append}
 use Rattle.format_resp.proofs.EndedLines.{IsPlain}
-use Rattle.format_resp.specs.Numbers.{IsBigNumber, IsDecimal, IsDouble, IsExponent, IsFraction}
-use Rattle.format_resp.specs.Numbers.{IsSign, IsTail}
+use Rattle.format_resp.specs.Numbers.{IsBigNumber, IsDecimal, IsDouble, IsExponent, IsTail}
+use Rattle.format_resp.specs.Numbers.{inf_word, nan_word, unsigned}
 use Rattle.format_resp.specs.Resp.{BooleanText, LineSays, Replies, Shown}
 use Rattle.format_resp.specs.declared.marks.LineMark.{LineMark}
 use Rattle.format_resp.specs.declared.marks.LineMark.TheVariants.{Colon, Comma, Hash, Minus}
 use Rattle.format_resp.specs.declared.marks.LineMark.TheVariants.{Parenthesis, Plus, Underscore}
 
-sign_plain : (xs : List ℕ) → IsSign xs → Plainly xs
-sign_plain xs (inl e) = plain_as xs [] e tt
-sign_plain xs (inr (inl e)) = plain_as xs (43 ∷ []) e
-    (byte_plain 43 (λ d. omega (arith, d)) (λ d. omega (arith, d)))
-sign_plain xs (inr (inr e)) = plain_as xs (45 ∷ []) e
-    (byte_plain 45 (λ d. omega (arith, d)) (λ d. omega (arith, d)))
-
 number_plain : (xs : List ℕ) → IsBigNumber xs → Plainly xs
 unfolding IsBigNumber
-number_plain xs (sign, digits, s, a, e) =
-    plain_as xs (sign ++ digits) e
-    (all_append sign digits (sign_plain sign s) (digits_plain digits a.0))
-
-fraction_plain : (xs : List ℕ) → IsFraction xs → Plainly xs
-fraction_plain xs (inl e) = plain_as xs [] e tt
-fraction_plain xs (inr (digits, a, e)) =
-    plain_as xs (46 ∷ digits) e
-    (((λ d. omega (arith, d)), (λ d. omega (arith, d))), digits_plain digits a.0)
+number_plain xs a = unsigned_plain xs (digits_plain (unsigned xs) a.0)
 
 exponent_plain : (xs : List ℕ) → IsExponent xs → Plainly xs
 unfolding IsExponent
-exponent_plain xs (inl e) = plain_as xs [] e tt
-exponent_plain xs (inr (letter, power, inl is, a, e)) =
-    plain_as xs (letter ∷ power) e
-    (((λ d. omega (arith, d, is)), (λ d. omega (arith, d, is))), number_plain power a)
-exponent_plain xs (inr (letter, power, inr is, a, e)) =
-    plain_as xs (letter ∷ power) e
-    (((λ d. omega (arith, d, is)), (λ d. omega (arith, d, is))), number_plain power a)
+exponent_plain [] x = tt
+exponent_plain (letter ∷ power) (inl is, a) =
+    (above letter (omega (arith, is)), number_plain power a)
+exponent_plain (letter ∷ power) (inr is, a) =
+    (above letter (omega (arith, is)), number_plain power a)
 
 tail_plain : (xs : List ℕ) → IsTail xs → Plainly xs
 unfolding IsTail
-tail_plain xs (fraction, exponent, a, b, e) =
-    plain_as xs (fraction ++ exponent) e
-    (all_append fraction exponent (fraction_plain fraction a) (exponent_plain exponent b))
+tail_plain xs (inl x) = exponent_plain xs x
+tail_plain xs (inr (digits, exponent, a, x, e)) = plain_as xs (46 ∷ (digits ++ exponent)) e (
+  above 46 (omega arith),
+  all_append digits exponent (digits_plain digits a.0) (exponent_plain exponent x),
+)
 
 decimal_plain : (xs : List ℕ) → IsDecimal xs → Plainly xs
 unfolding IsDecimal
-decimal_plain xs (whole, tail, a, b, e) =
-    plain_as xs (whole ++ tail) e
-    (all_append whole tail (number_plain whole a) (tail_plain tail b))
-
-inf_plain : Plainly (105 ∷ 110 ∷ 102 ∷ [])
-inf_plain = (
-  ((λ d. omega (arith, d)), (λ d. omega (arith, d))),
-  (
-    ((λ d. omega (arith, d)), (λ d. omega (arith, d))),
-    (((λ d. omega (arith, d)), (λ d. omega (arith, d))), tt),
-  ),
-)
-
-nan_plain : Plainly (110 ∷ 97 ∷ 110 ∷ [])
-nan_plain = (
-  ((λ d. omega (arith, d)), (λ d. omega (arith, d))),
-  (
-    ((λ d. omega (arith, d)), (λ d. omega (arith, d))),
-    (((λ d. omega (arith, d)), (λ d. omega (arith, d))), tt),
-  ),
-)
+decimal_plain xs (whole, tail, a, b, e) = unsigned_plain xs (plain_as (unsigned xs) (whole ++ tail)
+    e (all_append whole tail (digits_plain whole a.0) (tail_plain tail b)))
 
 double_plain : (xs : List ℕ) → IsDouble xs → Plainly xs
-double_plain xs (inl e) = plain_as xs (105 ∷ 110 ∷ 102 ∷ []) e inf_plain
-double_plain xs (inr (inl e)) = plain_as xs (45 ∷ 105 ∷ 110 ∷ 102 ∷ []) e
-    (((λ d. omega (arith, d)), (λ d. omega (arith, d))), inf_plain)
-double_plain xs (inr (inr (inl e))) = plain_as xs (110 ∷ 97 ∷ 110 ∷ []) e nan_plain
-double_plain xs (inr (inr (inr (inl e)))) = plain_as xs (45 ∷ 110 ∷ 97 ∷ 110 ∷ []) e
-    (((λ d. omega (arith, d)), (λ d. omega (arith, d))), nan_plain)
+double_plain xs (inl e) =
+    plain_as xs inf_word e (above_plain inf_word (omega arith, omega arith, omega arith, tt))
+double_plain xs (inr (inl e)) = plain_as xs (45 ∷ inf_word) e
+    (above_plain (45 ∷ inf_word) (omega arith, omega arith, omega arith, omega arith, tt))
+double_plain xs (inr (inr (inl e))) =
+    plain_as xs nan_word e (above_plain nan_word (omega arith, omega arith, omega arith, tt))
+double_plain xs (inr (inr (inr (inl e)))) = plain_as xs (45 ∷ nan_word) e
+    (above_plain (45 ∷ nan_word) (omega arith, omega arith, omega arith, omega arith, tt))
 double_plain xs (inr (inr (inr (inr a)))) = decimal_plain xs a
 
 boolean_plain : (b : Bool) (xs : List ℕ) → BooleanText b xs → Plainly xs
-boolean_plain true xs e = plain_as xs (116 ∷ []) e
-    (byte_plain 116 (λ d. omega (arith, d)) (λ d. omega (arith, d)))
-boolean_plain false xs e = plain_as xs (102 ∷ []) e
-    (byte_plain 102 (λ d. omega (arith, d)) (λ d. omega (arith, d)))
+boolean_plain true xs e = plain_as xs (116 ∷ []) e (above 116 (omega arith), tt)
+boolean_plain false xs e = plain_as xs (102 ∷ []) e (above 102 (omega arith), tt)
 
 module _ {A : Type 0} where
   says_plain : (mark : LineMark) (reply : Replies A) (xs : List ℕ) → LineSays mark reply xs
