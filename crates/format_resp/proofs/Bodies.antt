@@ -8,8 +8,7 @@ use Rattle.winnow.specs.Bytes.{bytes_follow, bytes_reading}
 use Rattle.winnow.specs.Grammar.{IsUnique}
 use Rattle.winnow.specs.Grammar.Unique.{unique_by}
 use Rattle.winnow.specs.InTurn.{Failed, First, Led, MatchesEachCompletion, failed_as, led_unique}
-use Rattle.winnow.specs.InTurn.{refused}
-use Rattle.winnow.specs.InTurn.{stood_as}
+use Rattle.winnow.specs.InTurn.{refused, stood_as}
 use Rattle.winnow.specs.InTurn.Rows.{RowOf, row_unique}
 use Rattle.winnow.specs.Input.{Input}
 use Rattle.winnow.specs.Kind.{Kind, backtrack}
@@ -17,18 +16,16 @@ use Rattle.winnow.specs.Texts.{Text}
 use Rattle.format_resp.proofs.Rows.{same_bytes}
 use Rattle.format_resp.proofs.Integers.{size_small, size_splits}
 use Rattle.format_resp.proofs.ReadParts.{data_unique}
-use Rattle.format_resp.specs.Resp.{DataText, SizeText}
+use Rattle.format_resp.specs.Resp.{DataText, SizeText, AggregateBehind, Body, DataBehind, DataSays}
+use Rattle.format_resp.specs.Resp.{Elements, LineSays, ListText, MarkText, Replies, ReplyText}
+use Rattle.format_resp.specs.Resp.{gathered, many}
 use Rattle.format_resp.proofs.EndedLines.{ended_unique}
 use Rattle.format_resp.proofs.FirstBytes.{mark_splits}
 use Rattle.format_resp.proofs.Plain.{line_plain}
-use Rattle.format_resp.specs.Resp.{AggregateBehind, Body, DataBehind, DataSays, Elements}
-use Rattle.format_resp.specs.Resp.{LineSays, ListText, MarkText, Replies, ReplyText, gathered}
-use Rattle.format_resp.specs.Resp.{many}
 use Rattle.format_resp.specs.declared.marks.AggregateMark.{AggregateMark}
-use Rattle.format_resp.specs.declared.marks.AggregateMark.TheVariants.{Bar, Greater, Percent, Star}
-use Rattle.format_resp.specs.declared.marks.AggregateMark.TheVariants.{Tilde}
+use Rattle.format_resp.specs.declared.marks.AggregateMark.TheVariants.{Star}
 use Rattle.format_resp.specs.declared.marks.DataMark.{DataMark}
-use Rattle.format_resp.specs.declared.marks.DataMark.TheVariants.{Dollar, Equals, Exclamation}
+use Rattle.format_resp.specs.declared.marks.DataMark.TheVariants.{Dollar}
 use Rattle.format_resp.specs.declared.marks.Mark.{Mark}
 use Rattle.format_resp.specs.declared.marks.Mark.TheVariants.{Aggregate, Data, Line}
 use Rattle.format_resp.specs.declared.reply.Protocol.{Protocol}
@@ -67,8 +64,7 @@ module _ {A : Type 0} where
       unique_by (λ tokens reply rest (front, (bytes, says, a), e). (bytes, (front, a, e)))
       (data_unique n)
   data_behind_unique Dollar None = nothing_unique made.NullBulk
-  data_behind_unique Exclamation None = none_unique
-  data_behind_unique Equals None = none_unique
+  data_behind_unique mark None = none_unique
 
   module _ (elements : Text ℕ (List (Replies A)))
       (each : (n : ℕ) → IsUnique (First (λ os xs. (length os ≡ n) × elements os xs))) where
@@ -82,10 +78,7 @@ module _ {A : Type 0} where
         made_unique (ListText elements (many mark n)) (λ list. gathered mark list)
         (list_unique (many mark n))
     aggregate_unique Star None = nothing_unique made.NullArray
-    aggregate_unique Percent None = none_unique
-    aggregate_unique Tilde None = none_unique
-    aggregate_unique Greater None = none_unique
-    aggregate_unique Bar None = none_unique
+    aggregate_unique mark None = none_unique
 
     body_unique : (mark : Mark) → IsUnique (First (Body elements mark))
     body_unique (Line mark) = ended_unique (LineSays mark) (line_plain mark)
@@ -152,8 +145,7 @@ pub no_null_data : {A : Type 0} {i : Input ℕ} {k : Kind} (mark : DataMark)
     → Failed bytes_reading bytes_follow (First (DataBehind {A = A} mark None)) i k i
 unfolding First
 no_null_data Dollar other b = absurd (other refl)
-no_null_data Exclamation other b = refused b (λ tokens reply rest (front, never, e). never)
-no_null_data Equals other b = refused b (λ tokens reply rest (front, never, e). never)
+no_null_data mark other b = refused b (λ tokens reply rest (front, never, e). never)
 
 -- ---- aggregates
 
@@ -163,13 +155,7 @@ pub no_null_aggregate : {A : Type 0} {i : Input ℕ} {k : Kind}
     → Failed bytes_reading bytes_follow (First (AggregateBehind elements mark None)) i k i
 unfolding First
 no_null_aggregate elements Star other b = absurd (other refl)
-no_null_aggregate elements Percent other b =
-    refused b (λ tokens reply rest (front, never, e). never)
-no_null_aggregate elements Tilde other b =
-    refused b (λ tokens reply rest (front, never, e). never)
-no_null_aggregate elements Greater other b =
-    refused b (λ tokens reply rest (front, never, e). never)
-no_null_aggregate elements Bar other b =
+no_null_aggregate elements mark other b =
     refused b (λ tokens reply rest (front, never, e). never)
 
 module _ {A : Type 0} {i : Input ℕ} (protocol : Protocol) (level : ℕ) (mark : AggregateMark)
@@ -220,7 +206,4 @@ too_many elements mark n much b s = record {
   where
     no : (mark : AggregateMark) → n < 2 ^ 63 → 2 ^ 64 ≤ many mark n → ⊥
     no Star small large = omega (arith, small, large)
-    no Percent small large = omega (arith, small, large)
-    no Tilde small large = omega (arith, small, large)
-    no Greater small large = omega (arith, small, large)
-    no Bar small large = omega (arith, small, large)
+    no mark small large = omega (arith, small, large)

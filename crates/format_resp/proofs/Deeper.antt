@@ -1,6 +1,6 @@
 -- A reply of a level is one of each higher level.
-use Rattle.std.specs.Prelude.{◌≡◌, ◌+◌, ◌<◌, ◌^◌, ℕ, zero, suc, List, [], ◌∷◌, length}
-use Rattle.std.specs.Prelude.{Option, Some, None}
+use Rattle.std.specs.Prelude.{◌≡◌, ◌+◌, ◌<◌, ◌^◌, ℕ, zero, suc, List, [], ◌∷◌, length, Option, Some}
+use Rattle.std.specs.Prelude.{None}
 use Rattle.std.specs.declared.vec.Vec.{Vec}
 use denote.RawPtr.{null_ptr}
 use Rattle.std.proofs.Common.{refl, subst, arith}
@@ -8,8 +8,7 @@ use Rattle.winnow.specs.InTurn.{Led}
 use Rattle.winnow.specs.Texts.{EachText, Text}
 use Rattle.format_resp.specs.Resp.{AggregateBehind, Body, Elements, MarkText, Replies, ReplyText}
 use Rattle.format_resp.specs.declared.marks.AggregateMark.{AggregateMark}
-use Rattle.format_resp.specs.declared.marks.AggregateMark.TheVariants.{Bar, Greater, Percent, Star}
-use Rattle.format_resp.specs.declared.marks.AggregateMark.TheVariants.{Tilde}
+use Rattle.format_resp.specs.declared.marks.AggregateMark.TheVariants.{Star}
 use Rattle.format_resp.specs.declared.marks.Mark.{Mark}
 use Rattle.format_resp.specs.declared.marks.Mark.TheVariants.{Aggregate, Data, Line}
 use Rattle.format_resp.specs.declared.reply.Protocol.{Protocol}
@@ -30,10 +29,7 @@ module _ {A : Type 0} (protocol : Protocol) where
     behind_as mark (Some n) reply xs (list, is, (many, a)) =
         (list, is, (many, leads list.items xs a))
     behind_as Star None reply xs x = x
-    behind_as Percent None reply xs x = x
-    behind_as Tilde None reply xs x = x
-    behind_as Greater None reply xs x = x
-    behind_as Bar None reply xs x = x
+    behind_as mark None reply xs x = x
 
     body_as : (mark : Mark) (reply : Replies A) (xs : List ℕ) → Body these mark reply xs
         → Body those mark reply xs

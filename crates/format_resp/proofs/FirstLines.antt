@@ -13,11 +13,9 @@ use Rattle.format_resp.specs.Heads.{HeadText, IsLinePrefix, Says, array_head, bu
 use Rattle.format_resp.specs.Lines.{EndsLine, IsOpen}
 use Rattle.format_resp.specs.Resp.{Ended, InLine, IsIn, MarkText, byte_of, line_end}
 use Rattle.format_resp.specs.declared.heads.Head.{Head}
-use Rattle.format_resp.specs.declared.marks.AggregateMark.TheVariants.{Bar, Greater, Percent, Star}
-use Rattle.format_resp.specs.declared.marks.AggregateMark.TheVariants.{Tilde}
-use Rattle.format_resp.specs.declared.marks.DataMark.TheVariants.{Dollar, Equals, Exclamation}
-use Rattle.format_resp.specs.declared.marks.LineMark.TheVariants.{Colon, Comma, Hash, Minus}
-use Rattle.format_resp.specs.declared.marks.LineMark.TheVariants.{Parenthesis, Plus, Underscore}
+use Rattle.format_resp.specs.declared.marks.AggregateMark.TheVariants.{Star}
+use Rattle.format_resp.specs.declared.marks.DataMark.TheVariants.{Dollar}
+use Rattle.format_resp.specs.declared.marks.LineMark.TheVariants.{Colon, Minus, Plus}
 use Rattle.format_resp.specs.declared.marks.Mark.{Mark}
 use Rattle.format_resp.specs.declared.marks.Mark.TheVariants.{Aggregate, Data, Line}
 use Rattle.format_resp.specs.declared.reply.Protocol.TheVariants.{Resp2}
@@ -43,16 +41,7 @@ says_all (Line Minus) head line (is, all) = all
 says_all (Line Colon) head line (is, (n, a)) = signed_plain n line a
 says_all (Data Dollar) head line (size, is, a) = size_plain.plain size line a
 says_all (Aggregate Star) head line (size, is, a) = size_plain.plain size line a
-says_all (Line Underscore) head line never = absurd never
-says_all (Line Hash) head line never = absurd never
-says_all (Line Comma) head line never = absurd never
-says_all (Line Parenthesis) head line never = absurd never
-says_all (Data Exclamation) head line never = absurd never
-says_all (Data Equals) head line never = absurd never
-says_all (Aggregate Percent) head line never = absurd never
-says_all (Aggregate Tilde) head line never = absurd never
-says_all (Aggregate Greater) head line never = absurd never
-says_all (Aggregate Bar) head line never = absurd never
+says_all mark head line never = absurd never
 
 says_plain : (mark : Mark) → IsPlain (Says mark)
 says_plain mark = record { plain = says_all mark }
@@ -66,16 +55,7 @@ says_one (Data Dollar) head other line (m, is, a) (n, are, b) =
     is ∙ ap bulk_head (one_size m n line a b) ∙ sym are
 says_one (Aggregate Star) head other line (m, is, a) (n, are, b) =
     is ∙ ap array_head (one_size m n line a b) ∙ sym are
-says_one (Line Underscore) head other line never b = absurd never
-says_one (Line Hash) head other line never b = absurd never
-says_one (Line Comma) head other line never b = absurd never
-says_one (Line Parenthesis) head other line never b = absurd never
-says_one (Data Exclamation) head other line never b = absurd never
-says_one (Data Equals) head other line never b = absurd never
-says_one (Aggregate Percent) head other line never b = absurd never
-says_one (Aggregate Tilde) head other line never b = absurd never
-says_one (Aggregate Greater) head other line never b = absurd never
-says_one (Aggregate Bar) head other line never b = absurd never
+says_one mark head other line never b = absurd never
 
 pub head_splits : Splits HeadText
 head_splits = splits_led (MarkText Resp2) (λ mark. Ended (Says mark)) (mark_splits Resp2)

@@ -5,8 +5,8 @@ use Rattle.std.proofs.Common.{sym, ap, subst, ◌∙◌}
 use Rattle.winnow.specs.InTurn.{Led}
 use Rattle.winnow.specs.Texts.{Text}
 use Rattle.format_resp.proofs.Made.{array_is, attributed_is, big_number_is, boolean_is}
-use Rattle.format_resp.proofs.Made.{bulk_error_is, bulk_is, double_is, error_is, integer_is}
-use Rattle.format_resp.proofs.Made.{map_is, null_array_is, null_bulk_is, null_is, push_is, set_is}
+use Rattle.format_resp.proofs.Made.{bulk_error_is, bulk_is, double_is, error_is, integer_is, map_is}
+use Rattle.format_resp.proofs.Made.{null_array_is, null_bulk_is, null_is, push_is, set_is}
 use Rattle.format_resp.proofs.Made.{simple_is, verbatim_is}
 use Rattle.format_resp.specs.Resp.{AggregateBehind, Body, DataBehind, DataSays, Ended, IsIn}
 use Rattle.format_resp.specs.Resp.{LineSays, MarkText, Replies, gathered}
@@ -61,8 +61,7 @@ module _ {A : Type 0} where
       → DataBehind mark size reply tokens → first_mark reply ≡ Data mark
   marked_bytes mark (Some n) reply tokens (bytes, says, a) = marked_data mark reply bytes.now says
   marked_bytes Dollar None reply tokens (is, a) = marked_null_bulk reply is
-  marked_bytes Exclamation None reply tokens never = absurd never
-  marked_bytes Equals None reply tokens never = absurd never
+  marked_bytes mark None reply tokens never = absurd never
 
   module _ (elements : Text ℕ (List (Replies A))) where
     marked_list : (mark : AggregateMark) (size : Option ℕ) (reply : Replies A)
@@ -70,10 +69,7 @@ module _ {A : Type 0} where
         → first_mark reply ≡ Aggregate mark
     marked_list mark (Some n) reply tokens (list, is, a) = marked_aggregate mark reply list is
     marked_list Star None reply tokens (is, a) = marked_null_array reply is
-    marked_list Percent None reply tokens never = absurd never
-    marked_list Tilde None reply tokens never = absurd never
-    marked_list Greater None reply tokens never = absurd never
-    marked_list Bar None reply tokens never = absurd never
+    marked_list mark None reply tokens never = absurd never
 
     marked_body : (mark : Mark) (reply : Replies A) (tokens : List ℕ)
         → Body elements mark reply tokens → first_mark reply ≡ mark

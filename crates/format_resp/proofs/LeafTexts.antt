@@ -12,8 +12,7 @@ use Rattle.winnow.specs.Once.{Others}
 use Rattle.winnow.specs.Grammar.Inversion.{slice_for}
 use Rattle.winnow.specs.Grammar.Searches as searches
 use Rattle.winnow.specs.Texts.{IsGrammarOf, Text}
-use Rattle.winnow.specs.Texts.Tokens.{counted_of, divides_either, divides_others}
-use Rattle.winnow.specs.Texts.Tokens.{divides_seen}
+use Rattle.winnow.specs.Texts.Tokens.{counted_of, divides_either, divides_others, divides_seen}
 use Rattle.winnow.specs.Texts.Tokens.{divides_where, longest_of}
 use Rattle.winnow.specs.InTurn.{First}
 use Rattle.format_resp.specs.Resp.{DataText, Ended, LineText, line_end}

@@ -1,7 +1,6 @@
 -- Lemmas about the end of a line: it is at the first byte of a line ending.
 use Rattle.std.specs.Prelude.{◌≡◌, ◌≤◌, ◌<◌, ◌+◌, ℕ, zero, suc, List, [], ◌∷◌, ◌++◌, length, take}
-use Rattle.std.specs.Prelude.{drop}
-use Rattle.std.specs.Prelude.{◌-◌, ◌⊎◌, slice_index, true}
+use Rattle.std.specs.Prelude.{drop, ◌-◌, ◌⊎◌, slice_index, true}
 use Rattle.std.specs.List.{AllByRecursion}
 use Rattle.std.proofs.Common.{refl, sym, ap, subst, inl, inr, ◌∙◌, arith, append_assoc, get_or}
 use Rattle.std.proofs.Common.{length-append, length-drop}
@@ -9,6 +8,7 @@ use Rattle.std.proofs.Math.Seq.{take-add, take-append_seam}
 use Rattle.std.proofs.lemmas.Bool.Decides.{nat_tests}
 use Rattle.std.proofs.lemmas.List.{get_or-drop, take_all}
 use Rattle.memchr.specs.Find.{is_byte2}
+use Rattle.winnow.specs.Equal.{same_first, same_others}
 use Rattle.format_resp.specs.Lines.{EndsLine, IsLessLine, IsOpen}
 use Rattle.format_resp.specs.declared.lines.Line.{Line}
 use Rattle.format_resp.specs.declared.lines.Line.TheVariants.{Never, Open, Whole}
@@ -43,10 +43,8 @@ pub plain_before : (xs unseen : List ℕ) (n k : ℕ) → unseen ≡ drop n xs
     → ((j : ℕ) → j < k → is_byte2 13 10 (slice_index unseen j) ≡ true → ⊥)
     → AllByRecursion InLine (take (n + k) xs)
 plain_before xs unseen n k e all none =
-    let P : List ℕ → Type 0 = λ l. AllByRecursion InLine l in
-    let Q : List ℕ → Type 0 = λ l. AllByRecursion InLine (take k l) in
-    subst P (sym (take-add n k xs))
-    (all_append (take n xs) (take k (drop n xs)) all (subst Q e (none_plain unseen k none)))
+    subst (AllByRecursion InLine) (sym (take-add n k xs))
+    (all_append (take n xs) (take k (drop n xs)) all (rw e at (none_plain unseen k none)))
 
 -- no line ends in a line
 pub plain_none : (xs line rest : List ℕ) → AllByRecursion InLine xs
@@ -63,14 +61,10 @@ pub until_end : (c d : ℕ) (xs ys rest other : List ℕ) → AllByRecursion InL
     → xs ++ (c ∷ rest) ≡ ys ++ (d ∷ other) → (xs ≡ ys) × (c ≡ d) × (rest ≡ other)
 until_end c d [] [] rest other a b m n e = (refl, cc, cc)
 until_end c d [] (y ∷ ys) rest other a b m n e =
-    let P : ℕ → Type 0 = λ z. InLine z in
-    absurd (m (subst P (let f : y ≡ c = cc in f) b.0))
-until_end c d (x ∷ xs) [] rest other a b m n e =
-    let P : ℕ → Type 0 = λ z. InLine z in
-    absurd (n (subst P (let f : x ≡ d = cc in f) a.0))
+    absurd (m (subst InLine (sym (same_first e)) b.0))
+until_end c d (x ∷ xs) [] rest other a b m n e = absurd (n (subst InLine (same_first e) a.0))
 until_end c d (x ∷ xs) (y ∷ ys) rest other a b m n e =
-    let (same, first, left) = until_end c d xs ys rest other a.1 b.1 m n
-    (let f : xs ++ (c ∷ rest) ≡ ys ++ (d ∷ other) = cc in f) in
+    let (same, first, left) = until_end c d xs ys rest other a.1 b.1 m n (same_others e) in
     (let f : x ∷ xs ≡ y ∷ ys = cc in f, first, left)
 
 pub return_ends : InLine 13 → ⊥
@@ -119,10 +113,8 @@ module _ (line behind left : List ℕ) (first : ℕ) (all : AllByRecursion InLin
   pub ended_feed : (first ≡ 13 → ⊥) → is_byte2 13 10 (slice_index behind 0) ≡ true
       → (more other rest : List ℕ) → EndsLine ((line ++ behind) ++ more) other rest → ⊥
   ended_feed not test more other rest x =
-      let P : List ℕ → Type 0 = λ l. is_byte2 13 10 (slice_index l 0) ≡ true in
-      let Q : List ℕ → Type 0 = λ l. EndsLine ((line ++ l) ++ more) other rest in
-      feed_never first line left more other rest (feed first not (subst P split test)) all
-      (subst Q split x)
+      feed_never first line left more other rest (feed first not (rw split at test)) all
+      (rw split at x)
     where
       feed : (b : ℕ) → (b ≡ 13 → ⊥) → is_byte2 13 10 b ≡ true → b ≡ 10
       feed b not is = grind (arith, nat_tests)
@@ -130,10 +122,9 @@ module _ (line behind left : List ℕ) (first : ℕ) (all : AllByRecursion InLin
   pub ended_open : first ≡ 13 → left ≡ [] → (length line ≤ length (line ++ behind))
       × AllByRecursion InLine (take (length line) (line ++ behind)) × IsOpen (line ++ behind)
   ended_open is none =
-      let P : List ℕ → Type 0 = λ l. AllByRecursion InLine l in
       let e : behind ≡ 13 ∷ [] = cc in (
         omega (arith, length-append line behind),
-        subst P (sym (take-append_seam line behind)) all,
+        subst (AllByRecursion InLine) (sym (take-append_seam line behind)) all,
         (line, all, inr (ap (λ l. line ++ l) e)),
       )
 
@@ -142,27 +133,24 @@ module _ (line behind left : List ℕ) (first : ℕ) (all : AllByRecursion InLin
       → EndsLine ((line ++ behind) ++ more) other rest → ⊥
   ended_other second others is e not more other rest x =
       let d : behind ≡ 13 ∷ second ∷ others = cc in
-      let Q : List ℕ → Type 0 = λ l. EndsLine ((line ++ l) ++ more) other rest in
-      return_never second line others more other rest not all (subst Q d x)
+      return_never second line others more other rest not all (rw d at x)
 
 -- ---- bytes that were searched before
 
 -- all of it
 pub open_all : (xs : List ℕ) → AllByRecursion InLine xs → (length xs ≤ length xs)
     × AllByRecursion InLine (take (length xs) xs) × IsOpen xs
-open_all xs all =
-    let P : List ℕ → Type 0 = λ l. AllByRecursion InLine l in (
-      omega arith,
-      subst P (sym (take_all (length xs) xs (omega arith))) all,
-      (xs, all, inl refl),
-    )
+open_all xs all = (
+  omega arith,
+  subst (AllByRecursion InLine) (sym (take_all (length xs) xs (omega arith))) all,
+  (xs, all, inl refl),
+)
 
 -- more than there is
 pub open_past : (xs : List ℕ) (n : ℕ) → (length xs < n) ⊎ (length xs < length xs)
     → AllByRecursion InLine (take n xs) → AllByRecursion InLine xs
 open_past xs n (inl less) all =
-    let P : List ℕ → Type 0 = λ l. AllByRecursion InLine l in
-    subst P (take_all n xs (omega (arith, less))) all
+    subst (AllByRecursion InLine) (take_all n xs (omega (arith, less))) all
 open_past xs n (inr less) all = absurd (omega (arith, less))
 
 -- the bytes not searched yet are the rest
@@ -176,9 +164,8 @@ pub open_rest : (xs unseen : List ℕ) (n : ℕ) → unseen ≡ take (length xs 
     → ((k : ℕ) → 0 ≤ k → k < length unseen → is_byte2 13 10 (slice_index unseen k) ≡ true → ⊥)
     → AllByRecursion InLine xs
 open_rest xs unseen n e all none =
-    let P : List ℕ → Type 0 = λ l. AllByRecursion InLine l in
     let d = unseen_rest xs unseen n e in
-    subst P (take_all (n + length unseen) xs
+    subst (AllByRecursion InLine) (take_all (n + length unseen) xs
     (omega (arith, ap (λ l. length l) d, length-drop n xs)))
     (plain_before xs unseen n (length unseen) d all (λ j less. none j (omega arith) less))
 

@@ -1,6 +1,5 @@
 -- Proofs that the parts of a RESP2 reply are at the positions that its definition gives.
-use Rattle.std.specs.Prelude.{◌≡◌, ◌⊎◌, ℕ, ℤ, List, [], ◌∷◌, ◌++◌, Option, None, Some, zero}
-use Rattle.std.specs.Prelude.{suc}
+use Rattle.std.specs.Prelude.{◌≡◌, ◌⊎◌, ℕ, ℤ, List, [], ◌∷◌, ◌++◌, Option, None, Some, zero, suc}
 use Rattle.std.specs.Borrow.{Bor}
 use Rattle.std.specs.List.{AllByRecursion}
 use Rattle.std.specs.declared.vec.Vec.{Vec}
@@ -14,11 +13,9 @@ use Rattle.format_resp.proofs.Made.{null_bulk_is, simple_is}
 use Rattle.format_resp.specs.Parts.{IsBehindFeed, IsLine, IsReplyAt, NoFeed, StandsBy}
 use Rattle.format_resp.specs.Resp.{AggregateBehind, DataBehind, DataText, Elements, Ended, InLine}
 use Rattle.format_resp.specs.Resp.{MarkText, Opened, Replies, ReplyText, Shown, SizeText, line_end}
-use Rattle.format_resp.specs.declared.marks.AggregateMark.TheVariants.{Bar, Greater, Percent, Star}
-use Rattle.format_resp.specs.declared.marks.AggregateMark.TheVariants.{Tilde}
-use Rattle.format_resp.specs.declared.marks.DataMark.TheVariants.{Dollar, Equals, Exclamation}
-use Rattle.format_resp.specs.declared.marks.LineMark.TheVariants.{Colon, Comma, Hash, Minus}
-use Rattle.format_resp.specs.declared.marks.LineMark.TheVariants.{Parenthesis, Plus, Underscore}
+use Rattle.format_resp.specs.declared.marks.AggregateMark.TheVariants.{Star}
+use Rattle.format_resp.specs.declared.marks.DataMark.TheVariants.{Dollar}
+use Rattle.format_resp.specs.declared.marks.LineMark.TheVariants.{Colon, Minus, Plus}
 use Rattle.format_resp.specs.declared.marks.Mark.TheVariants.{Aggregate, Data, Line}
 use Rattle.format_resp.specs.declared.reply.Protocol.TheVariants.{Resp2}
 use Rattle.format_resp.specs.declared.reply.Reply as made
@@ -139,16 +136,7 @@ module _ {A : Type 0} (level : ℕ) (input rest : List ℕ) where
       bulk_stands reply size front us vs ss bs m s b e f g
   parts_stand reply (front, (Aggregate Star, us, vs, (in2, m), (size, ss, bs, s, b, e), f), g) =
       array_stands reply size front us vs ss bs m s b e f g
-  parts_stand reply (front, (Line Underscore, us, vs, (in2, m), x, f), g) = not_resp3 in2
-  parts_stand reply (front, (Line Hash, us, vs, (in2, m), x, f), g) = not_resp3 in2
-  parts_stand reply (front, (Line Comma, us, vs, (in2, m), x, f), g) = not_resp3 in2
-  parts_stand reply (front, (Line Parenthesis, us, vs, (in2, m), x, f), g) = not_resp3 in2
-  parts_stand reply (front, (Data Exclamation, us, vs, (in2, m), x, f), g) = not_resp3 in2
-  parts_stand reply (front, (Data Equals, us, vs, (in2, m), x, f), g) = not_resp3 in2
-  parts_stand reply (front, (Aggregate Percent, us, vs, (in2, m), x, f), g) = not_resp3 in2
-  parts_stand reply (front, (Aggregate Tilde, us, vs, (in2, m), x, f), g) = not_resp3 in2
-  parts_stand reply (front, (Aggregate Greater, us, vs, (in2, m), x, f), g) = not_resp3 in2
-  parts_stand reply (front, (Aggregate Bar, us, vs, (in2, m), x, f), g) = not_resp3 in2
+  parts_stand reply (front, (mark, us, vs, (in2, m), x, f), g) = not_resp3 in2
 
 -- the contents, if the kind of the reply is known
 pub stands_as : {A : Type 0} (level : ℕ) (input rest : List ℕ) (reply : Replies A)
@@ -195,23 +183,4 @@ module _ {A : Type 0} where
   made_of_resp2 level input rest reply
       (front, (Aggregate Star, us, vs, m, (size, ss, bs, s, b, e), f), g) =
       made_of_list (Elements Resp2 level) size reply bs b
-  made_of_resp2 level input rest reply (front, (Line Underscore, us, vs, (in2, m), x, f), g) =
-      not_resp3 in2
-  made_of_resp2 level input rest reply (front, (Line Hash, us, vs, (in2, m), x, f), g) =
-      not_resp3 in2
-  made_of_resp2 level input rest reply (front, (Line Comma, us, vs, (in2, m), x, f), g) =
-      not_resp3 in2
-  made_of_resp2 level input rest reply (front, (Line Parenthesis, us, vs, (in2, m), x, f), g) =
-      not_resp3 in2
-  made_of_resp2 level input rest reply (front, (Data Exclamation, us, vs, (in2, m), x, f), g) =
-      not_resp3 in2
-  made_of_resp2 level input rest reply (front, (Data Equals, us, vs, (in2, m), x, f), g) =
-      not_resp3 in2
-  made_of_resp2 level input rest reply (front, (Aggregate Percent, us, vs, (in2, m), x, f), g) =
-      not_resp3 in2
-  made_of_resp2 level input rest reply (front, (Aggregate Tilde, us, vs, (in2, m), x, f), g) =
-      not_resp3 in2
-  made_of_resp2 level input rest reply (front, (Aggregate Greater, us, vs, (in2, m), x, f), g) =
-      not_resp3 in2
-  made_of_resp2 level input rest reply (front, (Aggregate Bar, us, vs, (in2, m), x, f), g) =
-      not_resp3 in2
+  made_of_resp2 level input rest reply (front, (mark, us, vs, (in2, m), x, f), g) = not_resp3 in2

@@ -1,19 +1,17 @@
 -- Lemmas about passing one more part of some bytes.
-use Rattle.std.specs.Prelude.{◌≡◌, ◌↔◌, ◌<◌, ◌≤◌, ◌+◌, ◌-◌, ◌*◌, ◌^◌, ◌⊎◌, ℕ, suc}
-use Rattle.std.specs.Prelude.{List, [], ◌∷◌, ◌++◌, length, take, drop, Option, Some, None, Ok}
+use Rattle.std.specs.Prelude.{◌≡◌, ◌↔◌, ◌<◌, ◌≤◌, ◌+◌, ◌-◌, ◌*◌, ◌^◌, ◌⊎◌, ℕ, suc, List, [], ◌∷◌}
+use Rattle.std.specs.Prelude.{◌++◌, length, take, drop, Option, Some, None, Ok, Err, OnOk, Result}
 use Rattle.std.specs.Borrow.{Bor}
 use Rattle.std.specs.List.{AllByRecursion}
 use Rattle.std.proofs.Common.{refl, sym, ap, subst, inl, inr, ◌∙◌, arith, append_assoc}
 use Rattle.std.proofs.Common.{length-append}
 use Rattle.std.proofs.lemmas.List.{append-nil, drop_at, take-append-le}
-use Rattle.std.specs.Prelude.{Err, OnOk, Result}
 use Rattle.std.specs.Result.{IsErrAnd}
 use Rattle.winnow.specs.InTurn.{First, Led}
 use Rattle.format_resp.proofs.Dues.{data_passed, head_there, line_passed, small_head}
 use Rattle.format_resp.proofs.LineEnds.{unseen_rest}
-use Rattle.format_resp.specs.Extents.{AreDue, AreReplies, IsOf, IsPart}
-use Rattle.format_resp.specs.Extents.{IsReply, PartFound, Passed, ReplyResult}
-use Rattle.format_resp.specs.Extents.{MatchesAtStart, count_after, data_after}
+use Rattle.format_resp.specs.Extents.{AreDue, AreReplies, IsOf, IsPart, IsReply, PartFound, Passed}
+use Rattle.format_resp.specs.Extents.{ReplyResult, MatchesAtStart, count_after, data_after}
 use Rattle.format_resp.specs.Heads.{HeadText}
 use Rattle.format_resp.specs.Resp.{DataText, Ended, InLine, MarkText}
 use Rattle.format_resp.specs.declared.extent.Extent.{Extent}
@@ -71,9 +69,7 @@ module _ (e : Extent) (tokens rest : List ℕ) (p : Passed e tokens rest) where
   -- if the expected continuation does not match, there is no reply
   none_due : ((left : List ℕ) → MatchesAtStart (AreDue e.bulk e.replies) rest left → ⊥)
       → (left : List ℕ) → MatchesAtStart IsReply tokens left → ⊥
-  none_due none left x =
-      let P : List ℕ → Type 0 = λ l. MatchesAtStart IsReply l left in
-      none left ((p.leads rest left).0 (subst P p.split x))
+  none_due none left x = none left ((p.leads rest left).0 (rw p.split at x))
 
   never_due : ((more left : List ℕ)
       → MatchesAtStart (AreDue e.bulk e.replies) (rest ++ more) left → ⊥)
@@ -104,9 +100,7 @@ module _ (e : Extent) (tokens rest : List ℕ) (p : Passed e tokens rest) where
     );
     few = fewer;
     within = omega (arith, sought);
-    plain =
-        let Q : ℕ → Type 0 = λ n. AllByRecursion InLine (take n (drop 1 left)) in
-        subst Q (sym sought) (all_none (drop 1 left));
+    plain = rw sought (all_none (drop 1 left));
   }
     where
       all : tokens ≡ (p.front ++ part) ++ left
@@ -132,44 +126,23 @@ module _ (e : Extent) (tokens rest : List ℕ) (p : Passed e tokens rest) where
       → f.bulk ≡ data_after head → f.replies ≡ count_after head n → Passed f tokens left
   unfolding First
   line_part f n head left none one (part, text, split) count sought bulk replies =
-      let P : Option ℕ → Type 0 = λ d. (xs r : List ℕ)
-      → MatchesAtStart (AreDue d e.replies) (part ++ xs) r
-      ↔ MatchesAtStart (AreDue f.bulk f.replies) xs r in
-      let Q : ℕ → Type 0 = λ m. (xs r : List ℕ) → MatchesAtStart (AreDue None m) (part ++ xs) r
-      ↔ MatchesAtStart (AreDue f.bulk f.replies) xs r in
-      let R : Option ℕ → Type 0 = λ d. (xs r : List ℕ)
-      → MatchesAtStart (AreReplies (suc n)) (part ++ xs) r
-      ↔ MatchesAtStart (AreDue d f.replies) xs r in
-      let S : ℕ → Type 0 = λ m. (xs r : List ℕ) → MatchesAtStart (AreReplies (suc n)) (part ++ xs) r
-      ↔ MatchesAtStart (AreDue (data_after head) m) xs r in
       part_passed f part left split (head_some head part text) count sought
-      (subst P (sym none) (subst Q (sym one) (subst R (sym bulk) (subst S (sym replies)
-      (λ xs r. line_passed head n (part ++ xs) xs (part, text, refl) r)))))
+      (rw (none, one, bulk, replies)
+      (λ xs r. line_passed head n (part ++ xs) xs (part, text, refl) r))
       (omega (arith, replies, one, small_head head n part text))
 
   -- and is none as yet
   pub line_open : (n : ℕ) → e.bulk ≡ None → e.replies ≡ suc n
       → ((head : Head) (left : List ℕ) → First HeadText rest head left → ⊥) → (left : List ℕ)
       → MatchesAtStart IsReply tokens left → ⊥
-  line_open n none one never =
-      let P : Option ℕ → Type 0 =
-      λ d. (left : List ℕ) → MatchesAtStart (AreDue d e.replies) rest left
-      → ⊥ in
-      let Q : ℕ → Type 0 = λ m. (left : List ℕ) → MatchesAtStart (AreDue None m) rest left → ⊥ in
-      none_due (subst P (sym none) (subst Q (sym one) (no_line n rest never)))
+  line_open n none one never = none_due (rw (none, one) (no_line n rest never))
 
   -- and never will be
   pub line_never : (n : ℕ) → e.bulk ≡ None → e.replies ≡ suc n
       → ((more : List ℕ) (head : Head) (left : List ℕ) → First HeadText (rest ++ more) head left
       → ⊥) → (more left : List ℕ) → MatchesAtStart IsReply (tokens ++ more) left → ⊥
   line_never n none one never =
-      let P : Option ℕ → Type 0 = λ d. (more left : List ℕ)
-      → MatchesAtStart (AreDue d e.replies) (rest ++ more) left → ⊥ in
-      let Q : ℕ → Type 0 =
-      λ m. (more left : List ℕ) → MatchesAtStart (AreDue None m) (rest ++ more) left
-      → ⊥ in
-      never_due (subst P (sym none) (subst Q (sym one)
-      (λ more. no_line n (rest ++ more) (never more))))
+      never_due (rw (none, one) (λ more. no_line n (rest ++ more) (never more)))
 
   -- the bytes of a bulk string are
   pub data_part : (f : Extent) (size : ℕ) (bulk : Bor (List ℕ)) (left : List ℕ)
@@ -178,55 +151,35 @@ module _ (e : Extent) (tokens rest : List ℕ) (p : Passed e tokens rest) where
       → f.replies ≡ e.replies → Passed f tokens left
   unfolding First
   data_part f size bulk left some (part, text, split) count sought none replies =
-      let P : Option ℕ → Type 0 = λ d. (xs r : List ℕ)
-      → MatchesAtStart (AreDue d e.replies) (part ++ xs) r
-      ↔ MatchesAtStart (AreDue f.bulk f.replies) xs r in
-      let R : Option ℕ → Type 0 = λ d. (xs r : List ℕ)
-      → MatchesAtStart (AreDue (Some size) e.replies) (part ++ xs) r
-      ↔ MatchesAtStart (AreDue d f.replies) xs r in
-      let S : ℕ → Type 0 = λ m. (xs r : List ℕ)
-      → MatchesAtStart (AreDue (Some size) e.replies) (part ++ xs) r
-      ↔ MatchesAtStart (AreDue None m) xs r in
       part_passed f part left split (data_some size bulk part text) count sought
-      (subst P (sym some) (subst R (sym none) (subst S (sym replies)
-      (λ xs r. data_passed size e.replies bulk (part ++ xs) xs (part, text, refl) r))))
+      (rw (some, none, replies)
+      (λ xs r. data_passed size e.replies bulk (part ++ xs) xs (part, text, refl) r))
       (omega (arith, replies))
 
   pub data_open : (size : ℕ) → e.bulk ≡ Some size
       → ((bulk : Bor (List ℕ)) (left : List ℕ) → First (DataText size) rest bulk left → ⊥)
       → (left : List ℕ) → MatchesAtStart IsReply tokens left → ⊥
-  data_open size some never =
-      let P : Option ℕ → Type 0 =
-      λ d. (left : List ℕ) → MatchesAtStart (AreDue d e.replies) rest left
-      → ⊥ in
-      none_due (subst P (sym some) (no_data size e.replies rest never))
+  data_open size some never = none_due (rw some (no_data size e.replies rest never))
 
   pub data_never : (size : ℕ) → e.bulk ≡ Some size
       → ((more : List ℕ) (bulk : Bor (List ℕ)) (left : List ℕ)
       → First (DataText size) (rest ++ more) bulk left → ⊥) → (more left : List ℕ)
       → MatchesAtStart IsReply (tokens ++ more) left → ⊥
   data_never size some never =
-      let P : Option ℕ → Type 0 = λ d. (more left : List ℕ)
-      → MatchesAtStart (AreDue d e.replies) (rest ++ more) left → ⊥ in
-      never_due (subst P (sym some) (λ more. no_data size e.replies (rest ++ more) (never more)))
+      never_due (rw some (λ more. no_data size e.replies (rest ++ more) (never more)))
 
   -- if nothing more is expected, the reply is the passed bytes
   pub all_passed : e.bulk ≡ None → e.replies ≡ 0 → ReplyResult tokens (Ok (Some e.passed))
   all_passed none zeros =
-      let P : Option ℕ → Type 0 = λ d. (xs left : List ℕ)
-      → MatchesAtStart IsReply (p.front ++ xs) left ↔ MatchesAtStart (AreDue d e.replies) xs left in
-      let Q : ℕ → Type 0 = λ n. (xs left : List ℕ)
-      → MatchesAtStart IsReply (p.front ++ xs) left ↔ MatchesAtStart (AreDue None n) xs left in
       let leads : (xs left : List ℕ)
       → MatchesAtStart IsReply (p.front ++ xs) left ↔ MatchesAtStart (AreReplies 0) xs left =
-      subst Q zeros (subst P none p.leads) in
-      let (whole, reply, same) = (leads [] []).1 ([], refl, refl) in
-      let R : List ℕ → Type 0 = λ l. IsReply l in (
+      rw (none, zeros) at p.leads in
+      let (whole, reply, same) = (leads [] []).1 ([], refl, refl) in (
         p.front,
         rest,
         p.split,
         p.count,
-        subst R (sym (sym (append-nil p.front) ∙ same ∙ append-nil whole)) reply,
+        subst IsReply (sym (sym (append-nil p.front) ∙ same ∙ append-nil whole)) reply,
         λ more left x.
             let S : List ℕ → Type 0 = λ l. MatchesAtStart IsReply l left in
             let (xs, empty, d) = (leads (rest ++ more) left).0
@@ -255,21 +208,15 @@ module _ (e : Extent) (tokens rest : List ℕ) (p : Passed e tokens rest) where
           → AllByRecursion InLine (take e.sought (drop 1 xs))
           → AllByRecursion InLine (take e.sought (drop 1 (xs ++ more)))
       more_open [] w a =
-          let Q : ℕ → Type 0 = λ n. AllByRecursion InLine (take n (drop 1 more)) in
-          let zeros : e.sought ≡ 0 = omega (arith, w) in
-          subst Q (sym zeros) (all_none (drop 1 more))
-      more_open (x ∷ xs) w a =
-          let Q : List ℕ → Type 0 = λ l. AllByRecursion InLine l in
-          subst Q (sym (take-append-le e.sought xs more w)) a
+          let zeros : e.sought ≡ 0 = omega (arith, w) in rw zeros (all_none (drop 1 more))
+      more_open (x ∷ xs) w a = subst (AllByRecursion InLine)
+          (sym (take-append-le e.sought xs more w)) a
 
   pub left_is : (left : List ℕ) → left ≡ take (length tokens - e.passed) (drop e.passed tokens)
       → Passed e tokens left
   left_is left is =
-      let P : List ℕ → Type 0 = λ l. Passed e tokens l in
-      let same : left ≡ rest =
-      unseen_rest tokens left e.passed is ∙ ap (λ l. drop e.passed l) p.split
-      ∙ drop_at p.front rest e.passed p.count in
-      subst P (sym same) p
+      subst (Passed e tokens) (sym (unseen_rest tokens left e.passed is
+      ∙ ap (λ l. drop e.passed l) p.split ∙ drop_at p.front rest e.passed p.count)) p
 
   pub passed_within : (length tokens < e.passed) ⊎ (length tokens < length tokens) → ⊥
   passed_within (inl less) =
@@ -285,17 +232,10 @@ none_passed e tokens passed sought none one = (
     front = [];
     split = refl;
     count = sym passed;
-    leads =
-        let P : Option ℕ → Type 0 = λ d. (xs left : List ℕ)
-        → MatchesAtStart IsReply xs left ↔ MatchesAtStart (AreDue d e.replies) xs left in
-        let Q : ℕ → Type 0 = λ n. (xs left : List ℕ)
-        → MatchesAtStart IsReply xs left ↔ MatchesAtStart (AreReplies n) xs left in
-        subst P (sym none) (subst Q (sym one) one_due);
+    leads = rw (none, one) one_due;
     few = omega (arith, one);
     within = omega (arith, sought);
-    plain =
-        let Q : ℕ → Type 0 = λ n. AllByRecursion InLine (take n (drop 1 tokens)) in
-        subst Q (sym sought) (all_none (drop 1 tokens));
+    plain = rw sought (all_none (drop 1 tokens));
   },
 )
   where

@@ -1,7 +1,6 @@
 -- Lemmas about appended bytes, part by part.
-use Rattle.std.specs.Prelude.{◌≡◌, ◌≤◌, ◌<◌, ◌+◌, ◌/◌, ◌%◌, ◌^◌, ℕ, List, [], ◌∷◌}
-use Rattle.std.specs.Prelude.{◌++◌}
-use Rattle.std.specs.Prelude.{length, drop, take, slice_index_or, Contains, IfErr, Result}
+use Rattle.std.specs.Prelude.{◌≡◌, ◌≤◌, ◌<◌, ◌+◌, ◌/◌, ◌%◌, ◌^◌, ℕ, List, [], ◌∷◌, ◌++◌, length}
+use Rattle.std.specs.Prelude.{drop, take, slice_index_or, Contains, IfErr, Result}
 use Rattle.std.specs.Fmt.{decimal}
 use Rattle.std.specs.Result.{IsErrAnd}
 use Rattle.std.proofs.Common.{refl, sym, ap, subst, ◌∙◌, append_assoc}

@@ -189,23 +189,8 @@ command_first {A} alloc parts {before} {between} more none put small e same =
 module _ {A : Type 0} where
   bulk_kind : (alike : Replies A → Replies A → Type 0) (part : Bor (List ℕ)) (kind : Opened A)
       → AreAlikeAs alike (Reply-F.Bulk part) kind → IsBulkAs part kind
-  bulk_kind alike part (Reply-F.Simple x) never = never
-  bulk_kind alike part (Reply-F.Error x) never = never
-  bulk_kind alike part (Reply-F.Integer x) never = never
   bulk_kind alike part (Reply-F.Bulk x) e = e
-  bulk_kind alike part Reply-F.NullBulk never = never
-  bulk_kind alike part (Reply-F.Array x) never = never
-  bulk_kind alike part Reply-F.NullArray never = never
-  bulk_kind alike part Reply-F.Null never = never
-  bulk_kind alike part (Reply-F.Boolean x) never = never
-  bulk_kind alike part (Reply-F.Double x) never = never
-  bulk_kind alike part (Reply-F.BigNumber x) never = never
-  bulk_kind alike part (Reply-F.BulkError x) never = never
-  bulk_kind alike part (Reply-F.Verbatim x) never = never
-  bulk_kind alike part (Reply-F.Map x) never = never
-  bulk_kind alike part (Reply-F.Set x) never = never
-  bulk_kind alike part (Reply-F.Push x) never = never
-  bulk_kind alike part (Reply-F.Attributed x) never = never
+  bulk_kind alike part kind never = never
 
   bulk_back : (part : Bor (List ℕ)) (reply : Replies A) → AreAlike 0 (made.Bulk part) reply
       → IsBulkAs part (out-Reply (Bor (List ℕ)) A reply)
@@ -226,25 +211,10 @@ module _ {A : Type 0} where
   command_kind : (parts : List (Bor (List ℕ))) (list : Vec (Replies A) A)
       → list.items ≡ bulk_replies parts → (kind : Opened A)
       → AreAlikeAs (AreAlike 0) (Reply-F.Array list) kind → IsCommandAs parts kind
-  command_kind parts list are (Reply-F.Simple x) never = never
-  command_kind parts list are (Reply-F.Error x) never = never
-  command_kind parts list are (Reply-F.Integer x) never = never
-  command_kind parts list are (Reply-F.Bulk x) never = never
-  command_kind parts list are Reply-F.NullBulk never = never
   command_kind parts list are (Reply-F.Array x) pairs =
       let P : List (Replies A) → Type 0 = λ l. ArePairwise (AreAlike 0) l x.items in
       bulks_back parts x.items (subst P are pairs)
-  command_kind parts list are Reply-F.NullArray never = never
-  command_kind parts list are Reply-F.Null never = never
-  command_kind parts list are (Reply-F.Boolean x) never = never
-  command_kind parts list are (Reply-F.Double x) never = never
-  command_kind parts list are (Reply-F.BigNumber x) never = never
-  command_kind parts list are (Reply-F.BulkError x) never = never
-  command_kind parts list are (Reply-F.Verbatim x) never = never
-  command_kind parts list are (Reply-F.Map x) never = never
-  command_kind parts list are (Reply-F.Set x) never = never
-  command_kind parts list are (Reply-F.Push x) never = never
-  command_kind parts list are (Reply-F.Attributed x) never = never
+  command_kind parts list are kind never = never
 
   -- what is read of it is the command
   pub command_back : (parts : List (Bor (List ℕ))) (list : Vec (Replies A) A) (read : Replies A)

@@ -5,7 +5,7 @@ use Rattle.std.specs.Result.{is_ok}
 use Rattle.std.specs.List.{AllByRecursion}
 use Rattle.std.specs.declared.vec.Vec.{Vec}
 use Rattle.std.proofs.Common.{refl, sym, ap, subst, ◌∙◌, append_assoc}
-use Rattle.winnow.specs.Equal.{none_is_some, same_first, same_others, same_some}
+use Rattle.winnow.specs.Equal.{none_is_some, same_others, same_some}
 use Rattle.winnow.specs.Following.{Following}
 use Rattle.winnow.specs.Input.{Input, is_end_of_refl}
 use Rattle.winnow.specs.Reading.{Reading}
@@ -14,6 +14,7 @@ use Rattle.winnow.specs.Grammar.{IsUnique}
 use Rattle.winnow.specs.Grammar.Lengths.{same_beginnings}
 use Rattle.winnow.specs.InTurn.{First, MatchesEachCompletion}
 use Rattle.winnow.specs.Texts.{CountedText}
+use Rattle.format_resp.proofs.LineEnds.{return_ends, until_end}
 use Rattle.format_resp.specs.Resp.{DataText, Ended, InLine, line_end}
 
 -- where a value is made of nothing
@@ -28,16 +29,6 @@ alone_stood {reading = reading} {i = i} value = record {
 
 -- ---- lines and bytes
 
--- a line ends at the first carriage return
-until_return : (xs ys rest other : List ℕ) → AllByRecursion InLine xs → AllByRecursion InLine ys
-    → xs ++ (13 ∷ rest) ≡ ys ++ (13 ∷ other) → (xs ≡ ys) × (rest ≡ other)
-until_return [] [] rest other a b e = (refl, same_others e)
-until_return [] (y ∷ ys) rest other a b e = absurd (b.0.0 (sym (same_first e)))
-until_return (x ∷ xs) [] rest other a b e = absurd (a.0.0 (same_first e))
-until_return (x ∷ xs) (y ∷ ys) rest other a b e =
-    let (same, left) = until_return xs ys rest other a.1 b.1 (same_others e) in
-    (ap (λ z. z ∷ xs) (same_first e) ∙ ap (λ l. y ∷ l) same, left)
-
 -- lines at the start of the same tokens are equal
 pub one_line : (tokens front back xs ys rest other : List ℕ) → AllByRecursion InLine xs
     → AllByRecursion InLine ys → front ≡ xs ++ line_end → tokens ≡ front ++ rest
@@ -45,7 +36,8 @@ pub one_line : (tokens front back xs ys rest other : List ℕ) → AllByRecursio
 one_line tokens front back xs ys rest other a b e d f h =
     let split = sym (append_assoc xs line_end rest) ∙ ap (λ l. l ++ rest) (sym e) ∙ sym d ∙ h
     ∙ ap (λ l. l ++ other) f ∙ append_assoc ys line_end other in
-    let (same, left) = until_return xs ys (10 ∷ rest) (10 ∷ other) a b split in
+    let (same, first, left) =
+    until_end 13 13 xs ys (10 ∷ rest) (10 ∷ other) a b return_ends return_ends split in
     (same, same_others left)
 
 pub data_unique : (n : ℕ) → IsUnique (First (DataText n))

@@ -1,25 +1,29 @@
 -- Lemmas about two matches at the start of the same tokens, part by part.
 use Rattle.std.specs.Prelude.{◌≡◌, ℕ, List, [], ◌∷◌, ◌++◌, length}
 use Rattle.std.specs.Borrow.{Bor}
-use Rattle.std.proofs.Common.{refl, sym, ap, ◌∙◌, arith, append_assoc}
+use Rattle.std.proofs.Common.{refl, sym, ap, subst, ◌∙◌, arith, append_assoc}
 use Rattle.winnow.specs.Grammar.{IsUnique}
 use Rattle.winnow.specs.Grammar.Lengths.{same_beginnings}
-use Rattle.winnow.specs.InTurn.{First, Led}
+use Rattle.winnow.specs.InTurn.{First, Led, Splits}
 use Rattle.winnow.specs.Texts.{CountedText, EachText, Text}
 use Rattle.format_resp.specs.Alike.{ArePairwise}
 use Rattle.format_resp.specs.Resp.{DataText, Ended, line_end}
 
--- an encoding, and the one after it
-pub led_parts : {X O : Type 0} (first : Text ℕ X) (behind : X → Text ℕ O) (tokens : List ℕ) (o : O)
-    (rest : List ℕ) → First (Led first behind) tokens o rest
-    → (x : X) × (mid : List ℕ) × First first tokens x mid × First (behind x) mid o rest
+-- Two values whose encodings start the same tokens are so, if they are so after equal leads.
+pub led_alike : {X O : Type 0} (first : Text ℕ X) (behind : X → Text ℕ O)
+    (alike : O → O → Type 0) → Splits first
+    → ((x : X) (v w : O) (tokens rest other : List ℕ) → First (behind x) tokens v rest
+    → First (behind x) tokens w other → alike v w)
+    → (v w : O) (tokens rest other : List ℕ) → First (Led first behind) tokens v rest
+    → First (Led first behind) tokens w other → alike v w
 unfolding First Led
-led_parts first behind tokens o rest (front, (x, xs, ys, a, b, d), e) = (
-  x,
-  ys ++ rest,
-  (xs, a, e ∙ ap (λ l. l ++ rest) d ∙ append_assoc xs ys rest),
-  (ys, b, refl),
-)
+led_alike {X} first behind alike splits each v w tokens rest other
+    (front, (m, xs, ys, t, a, d), e) (back, (n, us, vs, u, b, f), h) =
+    let (same, left) = splits.one m n tokens (ys ++ rest) (vs ++ other)
+    (xs, t, e ∙ ap (λ l. l ++ rest) d ∙ append_assoc xs ys rest)
+    (us, u, h ∙ ap (λ l. l ++ other) f ∙ append_assoc us vs other) in
+    let P : X → Type 0 = λ z. behind z w vs in
+    each m v w (ys ++ rest) rest other (ys, a, refl) (vs, subst P (sym same) b, left)
 
 pub same_bytes : (n : ℕ) (x y : Bor (List ℕ)) (tokens rest other : List ℕ)
     → First (DataText n) tokens x rest → First (DataText n) tokens y other → x.now ≡ y.now

@@ -1,6 +1,6 @@
 -- Lemmas about the bytes appended for replies, and about the errors of writing.
-use Rattle.std.specs.Prelude.{◌≡◌, ◌+◌, ◌<◌, ◌^◌, ⊤, Bool, ℕ, ℤ, List, [], ◌∷◌, ◌++◌}
-use Rattle.std.specs.Prelude.{zero, suc, length, Contains, FitsSigned}
+use Rattle.std.specs.Prelude.{◌≡◌, ◌+◌, ◌<◌, ◌^◌, ⊤, Bool, ℕ, ℤ, List, [], ◌∷◌, ◌++◌, zero, suc}
+use Rattle.std.specs.Prelude.{length, Contains, FitsSigned}
 use Rattle.std.specs.Borrow.{Bor}
 use Rattle.std.specs.Fmt.{decimal, signed_decimal}
 use Rattle.std.specs.Int.{w64}
@@ -258,22 +258,12 @@ module _ {A : Type 0} (protocol : Protocol) where
   in_element below mark list e (inl memory) =
       let P : WriteError → Type 0 = λ x. IsRefused protocol (suc below) (gathered mark list) x in
       subst P (sym memory) tt
-  in_element below mark list LineBreak (inr (reply, among, is)) =
-      or_within IsBroken below mark list reply among is
-  in_element below mark list Double (inr (reply, among, is)) =
-      or_within IsNoDouble below mark list reply among is
-  in_element below mark list BigNumber (inr (reply, among, is)) =
-      or_within IsNoBigNumber below mark list reply among is
-  in_element below mark list Format (inr (reply, among, is)) =
-      or_within IsUnformatted below mark list reply among is
-  in_element below mark list Pairs (inr (reply, among, is)) =
-      or_within IsUnpaired below mark list reply among is
-  in_element below mark list Foreign (inr (reply, among, is)) =
-      or_within (IsForeign protocol) below mark list reply among is
   in_element below mark list NoParts (inr (reply, among, is)) = absurd is
   in_element below mark list Level (inr (reply, among, is)) =
       (mark, list, refl, reply, among, is)
   in_element below mark list OutOfMemory (inr (reply, among, is)) = tt
+  in_element below mark list e (inr (reply, among, is)) =
+      or_within _ below mark list reply among is
 
   -- an aggregate cannot be written if one of its elements cannot be written
   pub refused_within : (below : ℕ) {level : ℕ} (mark : AggregateMark) (list : Vec (Replies A) A)

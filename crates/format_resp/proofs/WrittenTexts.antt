@@ -1,6 +1,5 @@
 -- Proofs that the bytes written for a reply are an encoding of it.
-use Rattle.std.specs.Prelude.{◌≡◌, ◌<◌, ◌^◌, ℕ, zero, suc, List, [], ◌∷◌, ◌++◌}
-use Rattle.std.specs.Prelude.{length, Some, None}
+use Rattle.std.specs.Prelude.{◌≡◌, ◌<◌, ◌^◌, ℕ, zero, suc, List, [], ◌∷◌, ◌++◌, length, Some, None}
 use Rattle.std.specs.Fmt.{decimal}
 use Rattle.std.specs.declared.vec.Vec.{Vec}
 use Rattle.std.proofs.Common.{refl, sym, subst, inl, inr, arith}
@@ -10,8 +9,7 @@ use Rattle.winnow.specs.Texts.{CountedText, Text}
 use Rattle.format_resp.proofs.Deeper.{row_as}
 use Rattle.format_resp.proofs.Integers.{null_text, signed_text, size_text}
 use Rattle.format_resp.proofs.FirstMarks.{marked_aggregate, marked_data, marked_line}
-use Rattle.format_resp.proofs.FirstMarks.{marked_null_array}
-use Rattle.format_resp.proofs.FirstMarks.{marked_null_bulk}
+use Rattle.format_resp.proofs.FirstMarks.{marked_null_array, marked_null_bulk}
 use Rattle.format_resp.specs.Numbers.{SignedText}
 use Rattle.format_resp.specs.Resp.{Body, DataBehind, DataSays, DataText, Elements, Ended, IsIn}
 use Rattle.format_resp.specs.Resp.{LineSays, MarkText, Replies, ReplyText, byte_of, gathered}
@@ -19,13 +17,11 @@ use Rattle.format_resp.specs.Resp.{line_end, many}
 use Rattle.format_resp.specs.Written.{IsWritten, LineWritten, WrittenElements, WrittenText, data_of}
 use Rattle.format_resp.specs.Written.{first_mark, marked}
 use Rattle.format_resp.specs.declared.marks.AggregateMark.{AggregateMark}
-use Rattle.format_resp.specs.declared.marks.AggregateMark.TheVariants.{Bar, Greater, Percent, Star}
-use Rattle.format_resp.specs.declared.marks.AggregateMark.TheVariants.{Tilde}
+use Rattle.format_resp.specs.declared.marks.AggregateMark.TheVariants.{Star}
 use Rattle.format_resp.specs.declared.marks.DataMark.{DataMark}
 use Rattle.format_resp.specs.declared.marks.DataMark.TheVariants.{Dollar}
 use Rattle.format_resp.specs.declared.marks.LineMark.{LineMark}
-use Rattle.format_resp.specs.declared.marks.LineMark.TheVariants.{Colon, Comma, Hash, Minus}
-use Rattle.format_resp.specs.declared.marks.LineMark.TheVariants.{Parenthesis, Plus, Underscore}
+use Rattle.format_resp.specs.declared.marks.LineMark.TheVariants.{Colon}
 use Rattle.format_resp.specs.declared.marks.Mark.{Mark}
 use Rattle.format_resp.specs.declared.marks.Mark.TheVariants.{Aggregate, Data, Line}
 use Rattle.format_resp.specs.declared.reply.Protocol.{Protocol}
@@ -38,10 +34,7 @@ few list = omega (arith, list.ok.0, list.ok.1, list.small)
 small_of : (mark : AggregateMark) (size count : ℕ) → count ≡ many mark size → count < 2 ^ 63
     → size < 2 ^ 63
 small_of Star size count e small = omega (arith, e, small)
-small_of Percent size count e small = omega (arith, e, small)
-small_of Tilde size count e small = omega (arith, e, small)
-small_of Greater size count e small = omega (arith, e, small)
-small_of Bar size count e small = omega (arith, e, small)
+small_of mark size count e small = omega (arith, e, small)
 
 module _ {A : Type 0} where
   line_says : (mark : LineMark) (reply : Replies A) (line : List ℕ) → LineWritten mark reply line
@@ -49,12 +42,7 @@ module _ {A : Type 0} where
   line_says Colon reply line (n, is, fits, e) =
       let P : List ℕ → Type 0 = λ l. SignedText n l in
       (n, is, subst P (sym e) (signed_text n fits))
-  line_says Plus reply line x = x
-  line_says Minus reply line x = x
-  line_says Underscore reply line x = x
-  line_says Hash reply line x = x
-  line_says Comma reply line x = x
-  line_says Parenthesis reply line x = x
+  line_says mark reply line x = x
 
   data_says : (mark : DataMark) (reply : Replies A) (bytes : List ℕ) → DataSays mark reply bytes
       → DataBehind mark (Some (length bytes)) reply (bytes ++ line_end)
