@@ -116,8 +116,7 @@ module _ {A : Type 0} (alike : Replies A → Replies A → Type 0) where
       let plain = line_plain {A = A} mark in
       let same = (one_line tokens front back xs ys rest other (plain.plain v xs a)
       (plain.plain w ys b) e d f h).0 in
-      let P : List ℕ → Type 0 = λ l. LineSays mark w l in
-      line_alike mark v w xs a (subst P (sym same) b)
+      line_alike mark v w xs a (subst (LineSays mark w) (sym same) b)
 
   bytes_alike : (mark : DataMark) (size : Option ℕ) (v w : Replies A)
       (tokens rest other : List ℕ)
@@ -127,8 +126,7 @@ module _ {A : Type 0} (alike : Replies A → Replies A → Type 0) where
   bytes_alike mark (Some n) v w tokens rest other (front, (x, says, a), d)
       (back, (y, also, b), h) =
       let same = same_bytes n x y tokens rest other (front, a, d) (back, b, h) in
-      let P : List ℕ → Type 0 = λ l. DataSays mark w l in
-      data_alike mark v w x.now says (subst P (sym same) also)
+      data_alike mark v w x.now says (subst (DataSays mark w) (sym same) also)
   bytes_alike Dollar None v w tokens rest other (front, (e, a), d) (back, (f, b), h) =
       alike_as Reply-F.NullBulk Reply-F.NullBulk e null_bulk_is f null_bulk_is tt
   bytes_alike mark None v w tokens rest other (front, never, d) b = absurd never

@@ -133,9 +133,9 @@ module _ {A : Type 0} {i j : Input ℕ} (mark : DataMark) (n : ℕ) where
     none = inr (inr (λ more c. (
       b,
       λ reply rest (front, (other, says, a), e).
-          let P : List ℕ → Type 0 = λ l. DataSays mark reply l in
-          never reply (subst P (same_bytes n other bytes (i.left.tokens ++ more) rest
-          (j.left.tokens ++ more) (front, a, e) (s.stands more c)) says),
+          never reply (subst (DataSays mark reply) (same_bytes n other bytes
+          (i.left.tokens ++ more) rest (j.left.tokens ++ more) (front, a, e) (s.stands more c))
+          says),
     )));
   }
 

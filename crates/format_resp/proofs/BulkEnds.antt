@@ -64,13 +64,19 @@ behind_is size tokens behind more xs rest enough split many e =
     (sym (append_assoc (take size tokens) behind more) ∙ ap (λ l. l ++ more) (sym split) ∙ e
     ∙ append_assoc xs line_end rest)).1
 
+take_split : (size : ℕ) (tokens behind : List ℕ)
+    → behind ≡ take (length tokens - size) (drop size tokens)
+    → tokens ≡ take size tokens ++ behind
+take_split size tokens behind is =
+    sym (take-append-drop size tokens)
+    ∙ ap (λ l. take size tokens ++ l) (sym (unseen_rest tokens behind size is))
+
 pub data_end : (size : ℕ) (tokens behind : List ℕ) → size ≤ length tokens
     → behind ≡ take (length tokens - size) (drop size tokens) → (r : PartFound)
     → IsLineEnd behind r → IsDataEnd size tokens r
 unfolding First DataText Ended CountedText
 data_end size tokens behind enough is (Ok (Some left)) ends =
-    let split : tokens ≡ take size tokens ++ behind = sym (take-append-drop size tokens)
-    ∙ ap (λ l. take size tokens ++ l) (sym (unseen_rest tokens behind size is)) in
+    let split = take_split size tokens behind is in
     let (slice, shown) = slice_for (take size tokens) in (
       slice,
       (
@@ -81,8 +87,7 @@ data_end size tokens behind enough is (Ok (Some left)) ends =
       ),
     )
 data_end size tokens behind enough is (Ok None) (x, more, e) =
-    let split : tokens ≡ take size tokens ++ behind = sym (take-append-drop size tokens)
-    ∙ ap (λ l. take size tokens ++ l) (sym (unseen_rest tokens behind size is)) in
+    let split = take_split size tokens behind is in
     let (slice, shown) = slice_for (take size tokens) in
     record {
       bulk = slice;
@@ -97,8 +102,7 @@ data_end size tokens behind enough is (Ok None) (x, more, e) =
       );
     }
 data_end size tokens behind enough is (Err refused) none =
-    let split : tokens ≡ take size tokens ++ behind = sym (take-append-drop size tokens)
-    ∙ ap (λ l. take size tokens ++ l) (sym (unseen_rest tokens behind size is)) in
+    let split = take_split size tokens behind is in
     λ more bulk left (front, (xs, (many, shown), e), d).
     none more left (behind_is size tokens behind more xs left enough split many
     (d ∙ ap (λ l. l ++ left) e))

@@ -35,8 +35,7 @@ module _ {O : Type 0} (text : Text ℕ O) (p : IsPlain text) where
     one = λ o q tokens rest other (front, (xs, a, e), d) (back, (ys, b, f), h).
         let (same, left) = one_line tokens front back xs ys rest other (p.plain o xs a)
         (p.plain q ys b) e d f h in
-        let P : List ℕ → Type 0 = λ l. text q l in
-        (one o q xs a (subst P (sym same) b), left);
+        (one o q xs a (subst (text q) (sym same) b), left);
   }
 
   module _ {i j : Input ℕ} where
@@ -59,12 +58,8 @@ module _ {O : Type 0} (text : Text ℕ O) (p : IsPlain text) where
         → MatchesEachCompletion bytes_reading bytes_follow (First (Ended text)) i o j
     unfolding First LineText Ended Members
     ended_stood line o is = stood_as (λ tokens rest (front, (xs, (all, enough, shown), e), d).
-        let P : List ℕ → Type 0 = λ l. AllByRecursion InLine l in
-        let Q : List ℕ → Type 0 = λ l. text o l in (
-          front,
-          (xs, subst Q shown (is (subst P (sym shown) (recursion_from_All InLine xs all))), e),
-          d,
-        ))
+        let plain = subst (AllByRecursion InLine) (sym shown) (recursion_from_All InLine xs all) in
+        (front, (xs, subst (text o) shown (is plain), e), d))
 
     -- a line that is none
     pub ended_failed : (line : Bor (List ℕ)) {k : Kind} → k ≡ backtrack
@@ -81,7 +76,6 @@ module _ {O : Type 0} (text : Text ℕ O) (p : IsPlain text) where
             let (same, left) = one_line (i.left.tokens ++ more) front back xs ys rest
             (j.left.tokens ++ more) (p.plain o xs a) (recursion_from_All InLine ys all)
             e d f h in
-            let Q : List ℕ → Type 0 = λ l. text o l in
-            never o (subst Q (same ∙ sym shown) a),
+            never o (subst (text o) (same ∙ sym shown) a),
       )));
     }

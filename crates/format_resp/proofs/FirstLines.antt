@@ -130,9 +130,8 @@ pub start_unmarked : (tokens text : List ℕ) (byte : ℕ) → tokens ≡ byte �
     → ((mark : Mark) → IsIn Resp2 mark → byte ≡ byte_of mark → ⊥) → (more : List ℕ)
     (head : Head) (rest : List ℕ) → First HeadText (tokens ++ more) head rest → ⊥
 start_unmarked tokens text byte split none more head rest x =
-    let P : List ℕ → Type 0 = λ l. First HeadText (l ++ more) head rest in
     let (mark, line, within, is, ends, says) =
-    start_line head byte (text ++ more) rest (subst P split x) in
+    start_line head byte (text ++ more) rest (rw split at x) in
     none mark within is
 
 -- none where none will be
@@ -140,9 +139,8 @@ pub start_never : (tokens text : List ℕ) (byte : ℕ) → tokens ≡ byte ∷ 
     → ((more line rest : List ℕ) → EndsLine (text ++ more) line rest → ⊥) → (more : List ℕ)
     (head : Head) (rest : List ℕ) → First HeadText (tokens ++ more) head rest → ⊥
 start_never tokens text byte split none more head rest x =
-    let P : List ℕ → Type 0 = λ l. First HeadText (l ++ more) head rest in
     let (mark, line, within, is, ends, says) =
-    start_line head byte (text ++ more) rest (subst P split x) in
+    start_line head byte (text ++ more) rest (rw split at x) in
     none more line rest ends
 
 -- no head starts here if its line is invalid
@@ -151,41 +149,30 @@ pub start_silent : (tokens text line left : List ℕ) (byte : ℕ) (mark : Mark)
     → ((head : Head) → Says mark head line → ⊥) → (more : List ℕ) (head : Head)
     (rest : List ℕ) → First HeadText (tokens ++ more) head rest → ⊥
 start_silent tokens text line left byte mark split is (all, e) none more head rest x =
-    let P : List ℕ → Type 0 = λ l. First HeadText (l ++ more) head rest in
     let (other, back, within, are, (every, f), says) =
-    start_line head byte (text ++ more) rest (subst P split x) in
+    start_line head byte (text ++ more) rest (rw split at x) in
     let (same, first, rests) = until_end 13 13 line back (10 ∷ left ++ more) (10 ∷ rest) all every
     return_ends return_ends (sym (append_assoc line (13 ∷ 10 ∷ left) more)
     ∙ ap (λ l. l ++ more) (sym e) ∙ f) in
-    let Q : Mark → Type 0 = λ m. Says m head line in
-    let R : List ℕ → Type 0 = λ l. Says other head l in
-    none head (subst Q (one_mark other mark (sym are ∙ is)) (subst R (sym same) says))
+    none head (subst (λ m. Says m head line) (one_mark other mark (sym are ∙ is))
+    (subst (Says other head) (sym same) says))
 
 -- ---- what is sought after the first byte
 
-text_is : (tokens text : List ℕ) (byte : ℕ) → tokens ≡ byte ∷ text → drop 1 tokens ≡ text
-text_is tokens text byte e = ap (λ l. drop 1 l) e
-
 pub sought_text : (tokens text : List ℕ) (byte n : ℕ) → tokens ≡ byte ∷ text
     → AllByRecursion InLine (take n (drop 1 tokens)) → AllByRecursion InLine (take n text)
-sought_text tokens text byte n e =
-    let P : List ℕ → Type 0 = λ l. AllByRecursion InLine (take n l) in
-    subst P (text_is tokens text byte e)
+sought_text tokens text byte n e all = rw e at all
 
 pub text_sought : (tokens text : List ℕ) (byte n : ℕ) (mark : Mark) → tokens ≡ byte ∷ text
     → IsIn Resp2 mark → byte ≡ byte_of mark
     → (n ≤ length text) × AllByRecursion InLine (take n text) × IsOpen text
     → (n ≤ length (drop 1 tokens)) × AllByRecursion InLine (take n (drop 1 tokens))
     × IsLinePrefix tokens
-text_sought tokens text byte n mark e within is (enough, all, begun) =
-    let P : List ℕ → Type 0 = λ l. AllByRecursion InLine (take n l) in
-    let Q : List ℕ → Type 0 = λ l. n ≤ length l in
-    let R : List ℕ → Type 0 = λ l. IsOpen l in
-    let same = sym (text_is tokens text byte e) in (
-      subst Q same enough,
-      subst P same all,
-      record {
-        marked = λ b t d. (mark, within, same_first (sym d ∙ e) ∙ is);
-        begun = subst R same begun;
-      },
-    )
+text_sought tokens text byte n mark e within is (enough, all, begun) = rw e (
+  enough,
+  all,
+  record {
+    marked = λ b t d. (mark, within, sym (same_first d) ∙ is);
+    begun = begun;
+  },
+)

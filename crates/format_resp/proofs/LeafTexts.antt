@@ -28,10 +28,9 @@ ended_of : {O : Type 0} {g : Grammar ℕ O} (text : Text ℕ O) {follow : List �
 unfolding Both Literally Ended First
 ended_of {O} {g} text is may = record {
   there = λ tokens o rest (o1, o2, mid, x, (ys, slice, (end, was, spelled), shown, d, same), out).
-      let (xs, e, a) = is.there tokens o1 mid x in
-      let P : O → Type 0 = λ p. text p xs in (
+      let (xs, e, a) = is.there tokens o1 mid x in (
         xs ++ line_end,
-        (xs, subst P (sym out) a, refl),
+        (xs, subst (λ p. text p xs) (sym out) a, refl),
         e ∙ ap (λ l. xs ++ l) (d ∙ ap (λ l. l ++ rest) (spelled ∙ was))
             ∙ sym (append_assoc xs line_end rest),
       );

@@ -32,8 +32,7 @@ DigitsRead = Class IsDecDigit 1 (λ b. b) (λ b. b) bytes_reading
 
 stops : {P : Type 0} (rest : List ℕ) (x : ℕ) (xs : List ℕ) → NotFirst IsDecDigit rest
     → rest ≡ x ∷ xs → IsDecDigit x → P
-stops rest x xs n e is =
-    let Q : List ℕ → Type 0 = λ l. NotFirst IsDecDigit l in absurd ((subst Q e n) is)
+stops rest x xs n e is = absurd ((subst (NotFirst IsDecDigit) e n) is)
 
 not_first : (rest : List ℕ) (n : ℕ) → ((t : ℕ) (more : List ℕ) → rest ≡ t ∷ more
     → AnswersSeen (λ b. b) (InClass IsDecDigit (λ b. b) tt) t false
@@ -202,8 +201,7 @@ tail_not_first : (tokens : List ℕ) → IsTail tokens → NotFirst IsDecDigit t
 unfolding IsTail
 tail_not_first tokens (inl x) = exponent_not_first tokens x
 tail_not_first tokens (inr (digits, exponent, a, x, d)) =
-    let P : List ℕ → Type 0 = λ l. NotFirst IsDecDigit l in
-    subst P (sym d) (λ is. omega (arith, is.0))
+    subst (NotFirst IsDecDigit) (sym d) (λ is. omega (arith, is.0))
 
 -- ---- both
 

@@ -75,9 +75,8 @@ module _ (e : Extent) (tokens rest : List ℕ) (p : Passed e tokens rest) where
       → MatchesAtStart (AreDue e.bulk e.replies) (rest ++ more) left → ⊥)
       → (more left : List ℕ) → MatchesAtStart IsReply (tokens ++ more) left → ⊥
   never_due none more left x =
-      let P : List ℕ → Type 0 = λ l. MatchesAtStart IsReply l left in
-      none more left ((p.leads (rest ++ more) left).0
-      (subst P (ap (λ l. l ++ more) p.split ∙ append_assoc p.front rest more) x))
+      none more left ((p.leads (rest ++ more) left).0 (subst (λ l. MatchesAtStart IsReply l left)
+      (ap (λ l. l ++ more) p.split ∙ append_assoc p.front rest more) x))
 
   -- the part at the start of the rest is passed
   part_passed : (f : Extent) (part left : List ℕ) → rest ≡ part ++ left → 0 < length part
@@ -89,15 +88,13 @@ module _ (e : Extent) (tokens rest : List ℕ) (p : Passed e tokens rest) where
     front = p.front ++ part;
     split = all;
     count = omega (arith, count, ap (λ l. length l) all, length-append (p.front ++ part) left);
-    leads = λ xs r. (
-      λ x.
-          let P : List ℕ → Type 0 = λ l. MatchesAtStart IsReply l r in
-          (step xs r).0 ((p.leads (part ++ xs) r).0 (subst P (append_assoc p.front part xs) x)),
-      λ y.
-          let P : List ℕ → Type 0 = λ l. MatchesAtStart IsReply l r in
-          subst P (sym (append_assoc p.front part xs))
-          ((p.leads (part ++ xs) r).1 ((step xs r).1 y)),
-    );
+    leads = λ xs r.
+        let P : List ℕ → Type 0 = λ l. MatchesAtStart IsReply l r in
+        let split = append_assoc p.front part xs in
+        let (there, back) = p.leads (part ++ xs) r in (
+          λ x. (step xs r).0 (there (subst P split x)),
+          λ y. subst P (sym split) (back ((step xs r).1 y)),
+        );
     few = fewer;
     within = omega (arith, sought);
     plain = rw sought (all_none (drop 1 left));
@@ -181,9 +178,9 @@ module _ (e : Extent) (tokens rest : List ℕ) (p : Passed e tokens rest) where
         p.count,
         subst IsReply (sym (sym (append-nil p.front) ∙ same ∙ append-nil whole)) reply,
         λ more left x.
-            let S : List ℕ → Type 0 = λ l. MatchesAtStart IsReply l left in
             let (xs, empty, d) = (leads (rest ++ more) left).0
-            (subst S (ap (λ l. l ++ more) p.split ∙ append_assoc p.front rest more) x) in
+            (subst (λ l. MatchesAtStart IsReply l left)
+            (ap (λ l. l ++ more) p.split ∙ append_assoc p.front rest more) x) in
             sym (d ∙ ap (λ l. l ++ left) empty),
       )
 

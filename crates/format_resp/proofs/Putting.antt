@@ -4,6 +4,7 @@ use Rattle.std.specs.Prelude.{drop, take, slice_index_or, Contains, IfErr, Resul
 use Rattle.std.specs.Fmt.{decimal}
 use Rattle.std.specs.Result.{IsErrAnd}
 use Rattle.std.proofs.Common.{refl, sym, ap, subst, ◌∙◌, append_assoc}
+use Rattle.std.proofs.Math.Seq.{take-append_seam}
 use Rattle.std.proofs.lemmas.Fmt.{decimal_digit, decimal_step}
 use Rattle.std.proofs.lemmas.List.{append-nil, drop_all, drop_more}
 use Rattle.std.proofs.lemmas.Result.{err_from_is_err_and}
@@ -27,8 +28,7 @@ pub if_error : {T E : Type 0} (P : E → Type 0) (result : Result T E) (e : E)
     → IsErrAnd result (λ x. x ≡ e) → P e → IfErr result P
 if_error {T} {E} P result e is p =
     let (x, same, there) = err_from_is_err_and result is in
-    let Q : Result T E → Type 0 = λ r. IfErr r P in
-    subst Q (sym same) (subst P (sym there) p)
+    subst (λ r. IfErr r P) (sym same) (subst P (sym there) p)
 
 -- what was put is all that is there after
 pub adds : {O : Type 0} {text : Text ℕ O} {o : O} {before after : List ℕ} (tokens : List ℕ)
@@ -56,8 +56,7 @@ pub row_end : {O : Type 0} (text : Text ℕ O) (os : List O) (k : ℕ) (bytes : 
     → length os ≤ k → Adds (EachText text) (drop k os) bytes bytes
 unfolding EachText
 row_end {O} text os k bytes most =
-    let P : List O → Type 0 = λ l. Adds (EachText text) l bytes bytes in
-    subst P (sym (drop_all k os most))
+    subst (λ l. Adds (EachText text) l bytes bytes) (sym (drop_all k os most))
     (record { tokens = []; is = refl; behind = sym (append-nil bytes) })
 
 -- an element is among all
@@ -81,12 +80,4 @@ pub cut_back : {n : ℕ} {before after cut : List ℕ} → Keeps before after �
     → cut ≡ take n after → cut ≡ before
 cut_back {n} {before} {after} kept many e =
     e ∙ ap (λ k. take k after) many ∙ ap (λ l. take (length before) l) kept.behind
-    ∙ take_front before kept.more
-  where
-    all_none : (ys : List ℕ) → take 0 ys ≡ []
-    all_none [] = refl
-    all_none (y ∷ ys) = refl
-
-    take_front : (xs ys : List ℕ) → take (length xs) (xs ++ ys) ≡ xs
-    take_front [] ys = all_none ys
-    take_front (x ∷ xs) ys = ap (λ l. x ∷ l) (take_front xs ys)
+    ∙ take-append_seam before kept.more

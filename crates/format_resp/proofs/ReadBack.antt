@@ -18,7 +18,7 @@ use Rattle.format_resp.proofs.WrittenTexts.{written_text}
 use Rattle.format_resp.specs.Alike.{AreAlike, AreAlikeAs, ArePairwise, IsBulkAs, IsCommand}
 use Rattle.format_resp.specs.Alike.{IsCommandAs}
 use Rattle.format_resp.proofs.Bodies.{reply_unique}
-use Rattle.format_resp.proofs.Made.{array_is, bulk_is}
+use Rattle.format_resp.proofs.Made.{array_is, bulk_is, kind_of}
 use Rattle.format_resp.proofs.Sayings.{shown_is}
 use Rattle.format_resp.specs.Resp.{IsIn, Opened, Replies, ReplyText, line_end}
 use Rattle.format_resp.specs.Written.{Adds, WrittenElements, WrittenText, bulk_of, bulks_of}
@@ -68,19 +68,14 @@ module _ {O E : Type 0} (text : Text ℕ O) (bytes : List ℕ) {i j : Input ℕ}
   pub whole_stands : (o : O)
       → ReadsOrAsks bytes_reading bytes_follow kind (First text) i (Ok o) j
       → First text bytes o j.left.tokens
-  whole_stands o r =
-      let P : Input ℕ → Type 0 = λ x. ReadsOrAsks bytes_reading bytes_follow kind
-      (First text) x (Ok o) j in
-      (subst P is r).whole.stands refl
+  whole_stands o r = (rw is at r).whole.stands refl
 
   -- if it matches, the only error is out of memory
   pub whole_wants : (e : E) → (kind e ≡ memory → ⊥)
       → (o : O) × (rest : List ℕ) × First text bytes o rest
       → ReadsOrAsks {O = O} bytes_reading bytes_follow kind (First text) i (Err e) j → ⊥
   whole_wants e not_memory (o, rest, a) r =
-      let P : Input ℕ → Type 0 = λ x. ReadsOrAsks {O = O} bytes_reading bytes_follow
-      kind (First text) x (Err e) j in
-      elim ((subst P is r).whole.none refl) [
+      elim ((rw is at r).whole.none refl) [
         | inl m ↦ not_memory m
         | inr (_, none) ↦ none o rest a
       ]
@@ -143,7 +138,6 @@ command_text : {A : Type 0} (parts : List (Bor (List ℕ))) (list : Vec (Replies
     → ReplyText Resp2 1 (made.Array list) (command_of parts)
 unfolding WrittenElements
 command_text {A} parts list are small =
-    let P : List (Replies A) → Type 0 = λ l. EachText (WrittenText Resp2 0) l (bulks_of parts) in
     let many : length list.items ≡ length parts = ap (λ l. length l) are ∙ as_many A parts in
     written_text Resp2 1 (made.Array list) (command_of parts) (
       subst (λ m. IsIn Resp2 m) (sym (ap mark_in (array_is list))) tt,
@@ -154,7 +148,7 @@ command_text {A} parts list are small =
         bulks_of parts,
         refl,
         many,
-        subst P (sym are) (bulks_row A parts small),
+        rw are (bulks_row A parts small),
         refl,
       ))),
     )
@@ -196,9 +190,7 @@ module _ {A : Type 0} where
       → IsBulkAs part (out-Reply (Bor (List ℕ)) A reply)
   unfolding AreAlike
   bulk_back part reply alike =
-      let P : Opened A → Type 0 = λ k.
-      AreAlikeAs (λ v w. ⊥) k (out-Reply (Bor (List ℕ)) A reply) in
-      bulk_kind (λ v w. ⊥) part (out-Reply (Bor (List ℕ)) A reply) (subst P (bulk_is part) alike)
+      bulk_kind (λ v w. ⊥) part (kind_of reply) (rw (bulk_is part) at alike)
 
   bulks_back : (parts : List (Bor (List ℕ))) (replies : List (Replies A))
       → ArePairwise (AreAlike 0) (bulk_replies parts) replies
@@ -212,8 +204,7 @@ module _ {A : Type 0} where
       → list.items ≡ bulk_replies parts → (kind : Opened A)
       → AreAlikeAs (AreAlike 0) (Reply-F.Array list) kind → IsCommandAs parts kind
   command_kind parts list are (Reply-F.Array x) pairs =
-      let P : List (Replies A) → Type 0 = λ l. ArePairwise (AreAlike 0) l x.items in
-      bulks_back parts x.items (subst P are pairs)
+      bulks_back parts x.items (rw are at pairs)
   command_kind parts list are kind never = never
 
   -- what is read of it is the command
@@ -225,9 +216,4 @@ module _ {A : Type 0} where
   unfolding AreAlike
   command_back parts list read tokens more rest are a b =
       let (alike, left) = one_reply Resp2 1 (made.Array list) read tokens more rest a b in
-      let P : Opened A → Type 0 = λ k.
-      AreAlikeAs (AreAlike 0) k (out-Reply (Bor (List ℕ)) A read) in (
-        command_kind parts list are (out-Reply (Bor (List ℕ)) A read)
-            (subst P (array_is list) alike),
-        left,
-      )
+      (command_kind parts list are (kind_of read) (rw (array_is list) at alike), left)

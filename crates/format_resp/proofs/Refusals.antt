@@ -239,11 +239,11 @@ module _ {A : Type 0} (protocol : Protocol) where
       absurd (unsound_none IsNoDouble (λ k. no_double (Elements protocol k)) level above reply is
       (tokens, text))
   refused_textless level above reply BigNumber tokens is text =
-      absurd (unsound_none IsNoBigNumber (λ k. no_big_number (Elements protocol k)) level above reply is
-      (tokens, text))
+      absurd (unsound_none IsNoBigNumber (λ k. no_big_number (Elements protocol k)) level above
+      reply is (tokens, text))
   refused_textless level above reply Format tokens is text =
-      absurd (unsound_none IsUnformatted (λ k. unformatted (Elements protocol k)) level above reply is
-      (tokens, text))
+      absurd (unsound_none IsUnformatted (λ k. unformatted (Elements protocol k)) level above
+      reply is (tokens, text))
   refused_textless level above reply Pairs tokens is text =
       absurd (unsound_none IsUnpaired (λ k. unpaired (Elements protocol k)) level above reply is
       (tokens, text))

@@ -40,8 +40,7 @@ module _ {A : Type 0} where
   line_says : (mark : LineMark) (reply : Replies A) (line : List ℕ) → LineWritten mark reply line
       → LineSays mark reply line
   line_says Colon reply line (n, is, fits, e) =
-      let P : List ℕ → Type 0 = λ l. SignedText n l in
-      (n, is, subst P (sym e) (signed_text n fits))
+      (n, is, subst (SignedText n) (sym e) (signed_text n fits))
   line_says mark reply line x = x
 
   data_says : (mark : DataMark) (reply : Replies A) (bytes : List ℕ) → DataSays mark reply bytes
@@ -49,8 +48,7 @@ module _ {A : Type 0} where
   unfolding DataText Ended CountedText
   data_says mark reply bytes says =
       let (slice, shown) = slice_for bytes in
-      let P : List ℕ → Type 0 = λ l. DataSays mark reply l in
-      (slice, subst P (sym shown) says, (bytes, (refl, shown), refl))
+      (slice, subst (DataSays mark reply) (sym shown) says, (bytes, (refl, shown), refl))
 
 module _ {A : Type 0} (protocol : Protocol) (elements : Text ℕ (List (Replies A)))
     (reply : Replies A) (tokens : List ℕ) (within : IsIn protocol (first_mark reply)) where

@@ -1,5 +1,6 @@
 use Rattle.std.proofs.Common.{◌≡◌, ◌∷◌, rules}
-use Rattle.format_resp.proofs.NumberTexts.{bool_as, tail_none, tail_other, tail_other_back, tail_point}
+use Rattle.format_resp.proofs.NumberTexts.{bool_as, tail_none, tail_other, tail_other_back}
+use Rattle.format_resp.proofs.NumberTexts.{tail_point}
 use Rattle.format_resp.proofs.NumberTexts.{tail_point_back, tail_point_none}
 use Rattle.format_resp.proofs.numbers.is_tail.Goals as goal
 
