@@ -14,11 +14,7 @@ returns-in-Exclamation-clause-some g c =
 
 pub returns-then-is_verbatim-clause-some : goal.returns-then-is_verbatim-clause-some
 returns-then-is_verbatim-clause-some g c =
-    rw c.in-Equals.is (
-      c.args.bytes,
-      refl,
-      shown_is IsVerbatim c.args.bytes c.if-is_verbatim.ensures,
-    )
+    rw c.in-Equals.is (c.args.bytes, refl, shown_is IsVerbatim _ c.if-is_verbatim.ensures)
 
 pub returns-else-is_verbatim-clause-none : goal.returns-else-is_verbatim-clause-none
 returns-else-is_verbatim-clause-none g c =

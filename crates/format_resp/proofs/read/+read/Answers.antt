@@ -1,7 +1,7 @@
 use Rattle.std.proofs.Common.{arith, refl, ◌≡◌, ◌++◌, ◌∷◌, [], suc}
 use Rattle.winnow.specs.Input.{is_end_of_trans3}
-use Rattle.winnow.specs.InTurn.{failed, led_failed, led_none, led_stood, led_told}
-use Rattle.winnow.specs.InTurn.{passed, stood, told_err, told_ok, wanting}
+use Rattle.winnow.specs.InTurn.{failed, led_failed, led_none, led_stood, led_told, passed, stood}
+use Rattle.winnow.specs.InTurn.{told_err, told_ok, wanting}
 use Rattle.winnow.specs.InTurn.Rows.{more_failed, more_stood, none_stood}
 use Rattle.format_resp.proofs.Integers.{size_splits}
 use Rattle.format_resp.proofs.ReadParts.{alone_stood, pushed, roomy}
