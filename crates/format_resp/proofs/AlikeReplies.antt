@@ -6,16 +6,15 @@ use Rattle.std.proofs.Common.{refl, sym, ap, subst, ◌∙◌, arith}
 use Rattle.winnow.specs.Equal.{same_first}
 use Rattle.winnow.specs.InTurn.{First, Led}
 use Rattle.winnow.specs.Texts.{Text}
-use Rattle.format_resp.proofs.Integers.{one_number, size_splits}
-use Rattle.format_resp.proofs.ReadParts.{one_line}
-use Rattle.format_resp.proofs.Rows.{Pairs, led_alike, rows_alike, same_bytes}
+use Rattle.format_resp.proofs.LineTexts.{one_number, size_splits, line_plain}
+use Rattle.format_resp.proofs.LineEnds.{one_line}
+use Rattle.format_resp.proofs.Parts.{Pairs, led_alike, rows_alike, same_bytes}
 use Rattle.format_resp.proofs.Bodies.{reply_unique}
 use Rattle.format_resp.proofs.FirstBytes.{mark_splits}
 use Rattle.format_resp.proofs.Made.{array_is, attributed_is, big_number_is, boolean_is}
 use Rattle.format_resp.proofs.Made.{bulk_error_is, bulk_is, double_is, error_is, integer_is}
 use Rattle.format_resp.proofs.Made.{kind_of, map_is, null_array_is, null_bulk_is, null_is, push_is}
 use Rattle.format_resp.proofs.Made.{set_is, simple_is, verbatim_is}
-use Rattle.format_resp.proofs.Plain.{line_plain}
 use Rattle.format_resp.specs.Alike.{AreAlike, AreAlikeAs, AreAlikeBy, ArePairwise}
 use Rattle.format_resp.specs.Resp.{AggregateBehind, Body, BooleanText, DataBehind, DataSays}
 use Rattle.format_resp.specs.Resp.{Elements, Ended, LineSays, MarkText, Opened, Replies, ReplyText}

@@ -13,15 +13,13 @@ use Rattle.winnow.specs.InTurn.Rows.{RowOf, row_unique}
 use Rattle.winnow.specs.Input.{Input}
 use Rattle.winnow.specs.Kind.{Kind, backtrack}
 use Rattle.winnow.specs.Texts.{Text}
-use Rattle.format_resp.proofs.Rows.{same_bytes}
-use Rattle.format_resp.proofs.Integers.{size_small, size_splits}
-use Rattle.format_resp.proofs.ReadParts.{data_unique}
+use Rattle.format_resp.proofs.Parts.{same_bytes, data_unique}
+use Rattle.format_resp.proofs.LineTexts.{size_small, size_splits, line_plain}
 use Rattle.format_resp.specs.Resp.{DataText, SizeText, AggregateBehind, Body, DataBehind, DataSays}
 use Rattle.format_resp.specs.Resp.{Elements, LineSays, ListText, MarkText, Replies, ReplyText}
 use Rattle.format_resp.specs.Resp.{gathered, many}
-use Rattle.format_resp.proofs.EndedLines.{ended_unique}
+use Rattle.format_resp.proofs.LineEnds.{ended_unique}
 use Rattle.format_resp.proofs.FirstBytes.{mark_splits}
-use Rattle.format_resp.proofs.Plain.{line_plain}
 use Rattle.format_resp.specs.declared.marks.AggregateMark.{AggregateMark}
 use Rattle.format_resp.specs.declared.marks.AggregateMark.TheVariants.{Star}
 use Rattle.format_resp.specs.declared.marks.DataMark.{DataMark}

@@ -5,10 +5,9 @@ use Rattle.std.proofs.Common.{refl, sym, inl, ap, subst, ◌∙◌, append_assoc
 use Rattle.winnow.specs.Equal.{same_first, same_others}
 use Rattle.winnow.specs.InTurn.{First, Led, Splits}
 use Rattle.winnow.specs.Texts.{Text}
-use Rattle.format_resp.proofs.EndedLines.{IsPlain, ended_splits}
+use Rattle.format_resp.proofs.LineEnds.{IsPlain, ended_splits, open_endless, return_ends, until_end}
 use Rattle.format_resp.proofs.FirstBytes.{mark_splits, one_mark}
-use Rattle.format_resp.proofs.Integers.{one_size, signed_plain, size_plain}
-use Rattle.format_resp.proofs.LineEnds.{open_endless, return_ends, until_end}
+use Rattle.format_resp.proofs.LineTexts.{one_size, signed_plain, size_plain}
 use Rattle.format_resp.specs.Heads.{HeadText, IsLinePrefix, Says, array_head, bulk_head}
 use Rattle.format_resp.specs.Lines.{EndsLine, IsOpen}
 use Rattle.format_resp.specs.Resp.{Ended, InLine, IsIn, MarkText, byte_of, line_end}

@@ -1,4 +1,5 @@
--- Lemmas about the end of a line: it is at the first byte of a line ending.
+-- Lemmas about the end of a line, which is at the first byte of a line ending, and about texts on
+-- lines of their own.
 use Rattle.std.specs.Prelude.{◌≡◌, ◌≤◌, ◌<◌, ◌+◌, ℕ, zero, suc, List, [], ◌∷◌, ◌++◌, length, take}
 use Rattle.std.specs.Prelude.{drop, ◌-◌, ◌⊎◌, slice_index, true}
 use Rattle.std.specs.List.{AllByRecursion}
@@ -12,7 +13,16 @@ use Rattle.winnow.specs.Equal.{same_first, same_others}
 use Rattle.format_resp.specs.Lines.{EndsLine, IsLessLine, IsOpen}
 use Rattle.format_resp.specs.declared.lines.Line.{Line}
 use Rattle.format_resp.specs.declared.lines.Line.TheVariants.{Never, Open, Whole}
-use Rattle.format_resp.specs.Resp.{InLine}
+use Rattle.format_resp.specs.Resp.{InLine, line_end, Ended, LineText}
+use Rattle.std.specs.Borrow.{Bor}
+use Rattle.std.proofs.lemmas.List.Elements.{All-from_recursion, recursion_from_All}
+use Rattle.winnow.specs.Bytes.{bytes_follow, bytes_reading}
+use Rattle.winnow.specs.Grammar.{IsUnique}
+use Rattle.winnow.specs.Grammar.Inversion.{slice_for}
+use Rattle.winnow.specs.InTurn.{Failed, First, Splits, MatchesEachCompletion, failed_as, stood_as}
+use Rattle.winnow.specs.Input.{Input}
+use Rattle.winnow.specs.Kind.{Kind, backtrack}
+use Rattle.winnow.specs.Texts.{Members, Text}
 
 pub all_append : (xs ys : List ℕ) → AllByRecursion InLine xs → AllByRecursion InLine ys
     → AllByRecursion InLine (xs ++ ys)
@@ -69,6 +79,17 @@ until_end c d (x ∷ xs) (y ∷ ys) rest other a b m n e =
 
 pub return_ends : InLine 13 → ⊥
 return_ends a = a.0 refl
+
+-- lines at the start of the same tokens are equal
+pub one_line : (tokens front back xs ys rest other : List ℕ) → AllByRecursion InLine xs
+    → AllByRecursion InLine ys → front ≡ xs ++ line_end → tokens ≡ front ++ rest
+    → back ≡ ys ++ line_end → tokens ≡ back ++ other → (xs ≡ ys) × (rest ≡ other)
+one_line tokens front back xs ys rest other a b e d f h =
+    let split = sym (append_assoc xs line_end rest) ∙ ap (λ l. l ++ rest) (sym e) ∙ sym d ∙ h
+    ∙ ap (λ l. l ++ other) f ∙ append_assoc ys line_end other in
+    let (same, first, left) =
+    until_end 13 13 xs ys (10 ∷ rest) (10 ∷ other) a b return_ends return_ends split in
+    (same, same_others left)
 
 feed_ends : (c : ℕ) → c ≡ 10 → InLine c → ⊥
 feed_ends c e a = a.1 e
@@ -185,3 +206,69 @@ pub less_line : (line : Line) (n m : ℕ) → n ≤ m → IsLessLine n line → 
 less_line (Whole line rest) n m le less = omega (arith, le, less)
 less_line (Open k) n m le less = tt
 less_line Never n m le less = tt
+
+-- Texts without bytes of a line ending.
+pub record IsPlain {O : Type 0} (text : Text ℕ O) : Type 0 where
+  pub plain : (o : O) (xs : List ℕ) → text o xs → AllByRecursion InLine xs
+
+module _ {O : Type 0} (text : Text ℕ O) (p : IsPlain text) where
+  pub ended_unique : IsUnique (First (Ended text))
+  unfolding First Ended
+  ended_unique = record {
+    ends = λ tokens o rest (front, a, e). (front, e);
+    one = λ tokens o q rest other (front, (xs, a, e), d) (back, (ys, b, f), h).
+        (one_line tokens front back xs ys rest other (p.plain o xs a) (p.plain q ys b) e d f h).1;
+  }
+
+  -- where each is of one value
+  pub ended_splits : ((o q : O) (xs : List ℕ) → text o xs → text q xs → o ≡ q)
+      → Splits (Ended text)
+  unfolding First Ended
+  ended_splits one = record {
+    one = λ o q tokens rest other (front, (xs, a, e), d) (back, (ys, b, f), h).
+        let (same, left) = one_line tokens front back xs ys rest other (p.plain o xs a)
+        (p.plain q ys b) e d f h in
+        (one o q xs a (subst (text q) (sym same) b), left);
+  }
+
+  module _ {i j : Input ℕ} where
+    -- if there is no line, there is no line with this text either
+    pub ended_none : {k : Kind} → Failed bytes_reading bytes_follow (First LineText) i k j
+        → Failed bytes_reading bytes_follow (First (Ended text)) i k j
+    unfolding First LineText Ended Members
+    ended_none = failed_as (λ tokens none o rest (front, (xs, a, e), d).
+        let (line, shown) = slice_for xs in
+        none line rest (
+          front,
+          (xs, (All-from_recursion InLine xs (p.plain o xs a), omega arith, shown), e),
+          d,
+        ))
+
+    -- all of a line
+    pub ended_stood : (line : Bor (List ℕ)) (o : O)
+        → (AllByRecursion InLine line.now → text o line.now)
+        → MatchesEachCompletion bytes_reading bytes_follow (First LineText) i line j
+        → MatchesEachCompletion bytes_reading bytes_follow (First (Ended text)) i o j
+    unfolding First LineText Ended Members
+    ended_stood line o is = stood_as (λ tokens rest (front, (xs, (all, enough, shown), e), d).
+        let plain = subst (AllByRecursion InLine) (sym shown) (recursion_from_All InLine xs all) in
+        (front, (xs, subst (text o) shown (is plain), e), d))
+
+    -- a line that is none
+    pub ended_failed : (line : Bor (List ℕ)) {k : Kind} → k ≡ backtrack
+        → ((o : O) → text o line.now → ⊥)
+        → MatchesEachCompletion bytes_reading bytes_follow (First LineText) i line j
+        → Failed bytes_reading bytes_follow (First (Ended text)) i k j
+    unfolding First LineText Ended Members
+    ended_failed line b never s = record {
+      ends = s.ends;
+      none = inr (inr (λ more c. (
+        b,
+        λ o rest (front, (xs, a, e), d).
+            let (back, (ys, (all, enough, shown), f), h) = s.stands more c in
+            let (same, left) = one_line (i.left.tokens ++ more) front back xs ys rest
+            (j.left.tokens ++ more) (p.plain o xs a) (recursion_from_All InLine ys all)
+            e d f h in
+            never o (subst (text o) (same ∙ sym shown) a),
+      )));
+    }

@@ -7,7 +7,7 @@ use Rattle.std.proofs.Common.{◌∙◌, ap, append_assoc, arith, inl, inr, refl
 use Rattle.winnow.specs.InTurn.{First, Led}
 use Rattle.winnow.specs.Texts.{CountedText, EachText}
 use Rattle.format_resp.proofs.FirstBytes.{not_resp3}
-use Rattle.format_resp.proofs.Integers.{size_plain}
+use Rattle.format_resp.proofs.LineTexts.{size_plain}
 use Rattle.format_resp.proofs.Made.{kind_of, array_is, bulk_is, error_is, integer_is, null_array_is}
 use Rattle.format_resp.proofs.Made.{null_bulk_is, simple_is}
 use Rattle.format_resp.specs.Parts.{IsBehindFeed, IsLine, IsReplyAt, NoFeed, StandsBy}

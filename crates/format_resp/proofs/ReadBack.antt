@@ -13,13 +13,12 @@ use Rattle.winnow.specs.Kind.{Kind, memory}
 use Rattle.winnow.specs.Partial.{with_flag}
 use Rattle.winnow.specs.Texts.{EachText, Text}
 use Rattle.format_resp.proofs.AlikeReplies.{replies_alike}
-use Rattle.format_resp.proofs.Deeper.{list_for}
-use Rattle.format_resp.proofs.WrittenTexts.{written_text}
+use Rattle.format_resp.proofs.WrittenTexts.{list_for, written_text}
 use Rattle.format_resp.specs.Alike.{AreAlike, AreAlikeAs, ArePairwise, IsBulkAs, IsCommand}
 use Rattle.format_resp.specs.Alike.{IsCommandAs}
 use Rattle.format_resp.proofs.Bodies.{reply_unique}
 use Rattle.format_resp.proofs.Made.{array_is, bulk_is, kind_of}
-use Rattle.format_resp.proofs.Sayings.{shown_is}
+use Rattle.format_resp.proofs.Parts.{shown_is}
 use Rattle.format_resp.specs.Resp.{IsIn, Opened, Replies, ReplyText, line_end}
 use Rattle.format_resp.specs.Written.{Adds, WrittenElements, WrittenText, bulk_of, bulks_of}
 use Rattle.format_resp.specs.Written.{command_of, mark_in, marked}

@@ -10,8 +10,7 @@ use Rattle.winnow.specs.Texts.{EachText, Text}
 use Rattle.format_resp.proofs.Made.{array_is, attributed_is, big_number_is, boolean_is}
 use Rattle.format_resp.proofs.Made.{bulk_error_is, bulk_is, double_is, error_is, integer_is}
 use Rattle.format_resp.proofs.Made.{kind_of, map_is, null_array_is, null_bulk_is, null_is, push_is}
-use Rattle.format_resp.proofs.Made.{set_is, simple_is, verbatim_is}
-use Rattle.format_resp.proofs.FirstMarks.{text_within}
+use Rattle.format_resp.proofs.Made.{set_is, simple_is, verbatim_is, text_within}
 use Rattle.format_resp.specs.Numbers.{IsBigNumber, IsDouble}
 use Rattle.format_resp.specs.Resp.{AggregateBehind, Body, DataBehind, DataSays, Elements, Ended}
 use Rattle.format_resp.specs.Resp.{InLine, IsVerbatim, LineSays, Opened, Replies, ReplyText, Shown}

@@ -3,8 +3,8 @@ use Rattle.winnow.specs.Input.{is_end_of_trans3}
 use Rattle.winnow.specs.InTurn.{failed, led_failed, led_none, led_stood, led_told, passed, stood}
 use Rattle.winnow.specs.InTurn.{told_err, told_ok, wanting}
 use Rattle.winnow.specs.InTurn.Rows.{more_failed, more_stood, none_stood}
-use Rattle.format_resp.proofs.Integers.{size_splits}
-use Rattle.format_resp.proofs.ReadParts.{alone_stood, pushed, roomy}
+use Rattle.format_resp.proofs.LineTexts.{size_splits}
+use Rattle.format_resp.proofs.Parts.{alone_stood, pushed, roomy}
 use Rattle.format_resp.proofs.Bodies.{aggregate_failed, aggregate_stood, no_null_aggregate}
 use Rattle.format_resp.proofs.Bodies.{reply_unique, too_deep, too_many}
 use Rattle.format_resp.proofs.FirstBytes.{mark_splits}

@@ -2,13 +2,13 @@ use Rattle.std.specs.Prelude.{⊤, []}
 use Rattle.std.specs.List.{AllByRecursion}
 use Rattle.std.proofs.Common.{◌-◌, ◌∙◌, arith, inr, refl, rules, sym}
 use Rattle.std.proofs.lemmas.Result.{IfErr-weaker, on_ok_weaker}
-use Rattle.format_resp.proofs.Putting.{among, if_error, keeps_trans, row_end, row_more}
-use Rattle.format_resp.proofs.Sayings.{shown_is}
+use Rattle.format_resp.proofs.Writing.{among, if_error, keeps_trans, row_end, row_more}
 use Rattle.format_resp.proofs.Writing.{aggregate_put, data_put, deep_aggregate, list_put, line_put}
 use Rattle.format_resp.proofs.Writing.{null_array_put, null_bulk_put, refused_big_number}
 use Rattle.format_resp.proofs.Writing.{refused_count, refused_double, refused_error}
 use Rattle.format_resp.proofs.Writing.{refused_foreign, refused_form, refused_simple}
 use Rattle.format_resp.proofs.Writing.{refused_verbatim, refused_within}
+use Rattle.format_resp.proofs.Parts.{shown_is}
 use Rattle.format_resp.specs.Numbers.{IsBigNumber, IsDouble}
 use Rattle.format_resp.specs.Resp.{InLine, IsVerbatim}
 use Rattle.format_resp.specs.declared.marks.DataMark.TheVariants.{Dollar, Equals, Exclamation}

@@ -1,6 +1,5 @@
 use Rattle.std.proofs.Common.{refl}
-use Rattle.format_resp.proofs.BulkEnds.{part_none}
-use Rattle.format_resp.proofs.Passing.{data_never, data_open, data_part, err_part}
+use Rattle.format_resp.proofs.Passing.{part_none, data_never, data_open, data_part, err_part}
 use Rattle.format_resp.proofs.extent.Extent.pass_data.Goals as goal
 
 pub returns-in_err-skip_data-clause-told : goal.returns-in_err-skip_data-clause-told

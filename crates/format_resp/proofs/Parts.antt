@@ -1,13 +1,59 @@
--- Lemmas about two matches at the start of the same tokens, part by part.
-use Rattle.std.specs.Prelude.{◌≡◌, ℕ, List, [], ◌∷◌, ◌++◌, length}
-use Rattle.std.specs.Borrow.{Bor}
-use Rattle.std.proofs.Common.{refl, sym, ap, subst, ◌∙◌, arith, append_assoc}
+-- Lemmas about encodings of parts of replies, and the rests after them.
+use Rattle.std.specs.Prelude.{◌≡◌, ℕ, List, [], ◌∷◌, ◌++◌, Some, Result, Ok, Err, IfOk}
+use Rattle.std.specs.Prelude.{if◌then◌else◌, length}
+use Rattle.std.specs.Result.{is_ok}
+use Rattle.std.specs.declared.vec.Vec.{Vec}
+use Rattle.std.proofs.Common.{refl, sym, ap, subst, ◌∙◌, append_assoc, arith}
+use Rattle.winnow.specs.Equal.{none_is_some, same_others, same_some}
+use Rattle.winnow.specs.Following.{Following}
+use Rattle.winnow.specs.Input.{Input, is_end_of_refl}
+use Rattle.winnow.specs.Reading.{Reading}
+use Rattle.winnow.specs.Growth.{grown}
 use Rattle.winnow.specs.Grammar.{IsUnique}
 use Rattle.winnow.specs.Grammar.Lengths.{same_beginnings}
-use Rattle.winnow.specs.InTurn.{First, Led, Splits}
+use Rattle.winnow.specs.InTurn.{First, MatchesEachCompletion, Led, Splits}
 use Rattle.winnow.specs.Texts.{CountedText, EachText, Text}
+use Rattle.format_resp.specs.Resp.{DataText, Ended, line_end, Shown}
+use Rattle.std.specs.Borrow.{Bor}
 use Rattle.format_resp.specs.Alike.{ArePairwise}
-use Rattle.format_resp.specs.Resp.{DataText, Ended, line_end}
+
+-- where a value is made of nothing
+pub alone_stood : {T L R : Type 0} {reading : Reading T L} {following : Following T} {i : Input T}
+    (value : R) → MatchesEachCompletion reading following (First (λ r xs. (r ≡ value) × (xs ≡ [])))
+    i value i
+unfolding First
+alone_stood {reading = reading} {i = i} value = record {
+  ends = is_end_of_refl reading i;
+  stands = λ more c. ([], (refl, refl), refl);
+}
+
+-- ---- lines and bytes
+
+pub data_unique : (n : ℕ) → IsUnique (First (DataText n))
+unfolding First DataText Ended CountedText
+data_unique n = record {
+  ends = λ tokens o rest (front, a, e). (front, e);
+  one = λ tokens o p rest other (front, (xs, (many, shown), e), d) (back, (ys, (also, see), f), h).
+      let split = sym (append_assoc xs line_end rest) ∙ ap (λ l. l ++ rest) (sym e) ∙ sym d ∙ h
+      ∙ ap (λ l. l ++ other) f ∙ append_assoc ys line_end other in
+      same_others (same_others (same_beginnings xs ys (line_end ++ rest) (line_end ++ other)
+      (many ∙ sym also) split).1);
+}
+
+-- ---- lists
+
+-- what a list holds that had room for one more
+pub pushed : {T U E : Type 0} {list more : List T} (less : List T) (r : Result U E) {u : U}
+    → list ≡ (if is_ok r then more else less) → grown r ≡ Some u → list ≡ more
+pushed less (Ok v) e is = e
+pushed less (Err f) e is = none_is_some is
+
+-- and that had room made for it: nothing yet
+pub roomy : {T A E : Type 0} (r : Result (Vec T A) E) {list : Vec T A}
+    → IfOk r (λ made. made.items ≡ []) → grown r ≡ Some list → list.items ≡ []
+roomy {T} {A} (Ok made) e is =
+    let P : Vec T A → Type 0 = λ l. l.items ≡ [] in subst P (same_some is) e
+roomy (Err f) e is = none_is_some is
 
 -- Two values whose encodings start the same tokens are so, if they are so after equal leads.
 pub led_alike : {X O : Type 0} (first : Text ℕ X) (behind : X → Text ℕ O)
@@ -62,3 +108,14 @@ rows_alike text alike unique each (o ∷ os) (p ∷ ps) xs ys rest other (us, vs
           (unique.one all o p (vs ++ rest) (zs ++ other) (us, a, refl) (ws, b, one))
           (omega (arith, n)),
     )
+
+-- a slice shows its bytes
+pub shown_is : (these : List ℕ → Type 0) (slice : Bor (List ℕ)) → these slice.now
+    → Shown these slice slice.now
+unfolding Shown
+shown_is these slice is = (is, refl)
+
+pub shown_are : (these : List ℕ → Type 0) (slice : Bor (List ℕ)) (tokens : List ℕ)
+    → Shown these slice tokens → these tokens
+unfolding Shown
+shown_are these slice tokens (is, shown) = is
