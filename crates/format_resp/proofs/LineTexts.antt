@@ -46,9 +46,9 @@ unsigned_plain [] a = a
 unsigned_plain (x ∷ xs) a = elim (eqb_tells x 43) [
   | inl (plus, is) ↦ (above x (omega (arith, is)), rw plus at a)
   | inr (other, not) ↦ elim (eqb_tells x 45) [
-      | inl (minus, is) ↦ (above x (omega (arith, is)), rw (other, minus) at a)
-      | inr (more, no) ↦ rw (other, more) at a
-    ]
+    | inl (minus, is) ↦ (above x (omega (arith, is)), rw (other, minus) at a)
+    | inr (more, no) ↦ rw (other, more) at a
+  ]
 ]
 
 pub signed_plain : (n : ℤ) (xs : List ℕ) → SignedText n xs → Plainly xs

@@ -108,11 +108,11 @@ module _ {A : Type 0} (level : ℕ) (input rest : List ℕ) where
       (inr (inr (inr (inr (inl same)))), stands_made Reply-F.NullBulk same null_bulk_is tt)
   bulk_stands reply (Some k) front first others us vs m (xs, size, e)
       (bytes, (text, same, (any, shown)), (ds, (many, shows), d)) f g h = (
-    inr (inr (inr (inl (text, same)))),
-    stands_made (Reply-F.Bulk text) same (bulk_is text) (bulk_ended ds rest d (shown ∙ shows)
-        (behind_size xs vs rest (λ z. omega (arith, z)) (size_plain.plain (Some k) xs size) e f
-        (lead others rest m g h))),
-  )
+        inr (inr (inr (inl (text, same)))),
+        stands_made (Reply-F.Bulk text) same (bulk_is text) (bulk_ended ds rest d (shown ∙ shows)
+            (behind_size xs vs rest (λ z. omega (arith, z)) (size_plain.plain (Some k) xs size) e f
+            (lead others rest m g h))),
+      )
 
   array_stands : (reply : Replies A) (size : Option ℕ) (front first others us vs : List ℕ)
       → first ≡ 42 ∷ [] → SizeText size us
