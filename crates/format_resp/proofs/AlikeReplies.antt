@@ -8,8 +8,9 @@ use Rattle.winnow.specs.InTurn.{First, Led}
 use Rattle.winnow.specs.Texts.{Text}
 use Rattle.format_resp.proofs.LineTexts.{one_number, size_splits, line_plain}
 use Rattle.format_resp.proofs.LineEnds.{one_line}
-use Rattle.format_resp.proofs.Parts.{Pairs, led_alike, rows_alike, same_bytes}
-use Rattle.format_resp.proofs.Bodies.{reply_unique}
+use Rattle.format_resp.proofs.Parts.{Determined, Pairs, data_determined, led_determined}
+use Rattle.format_resp.proofs.Parts.{nothing_left, rows_determined}
+use Rattle.winnow.specs.Grammar.{IsUnique}
 use Rattle.format_resp.proofs.FirstBytes.{mark_splits}
 use Rattle.format_resp.proofs.Made.{array_is, attributed_is, big_number_is, boolean_is}
 use Rattle.format_resp.proofs.Made.{bulk_error_is, bulk_is, double_is, error_is, integer_is}
@@ -107,67 +108,70 @@ module _ {A : Type 0} (alike : Replies A → Replies A → Type 0) where
 
   -- ---- equivalence, by the kind of reply
 
-  ended_alike : (mark : LineMark) (v w : Replies A) (tokens rest other : List ℕ)
-      → First (Ended (LineSays mark)) tokens v rest
-      → First (Ended (LineSays mark)) tokens w other → AreAlikeBy alike v w
+  ended_alike : (mark : LineMark) → Determined (AreAlikeBy alike) (Ended (LineSays mark))
   unfolding First Ended
   ended_alike mark v w tokens rest other (front, (xs, a, e), d) (back, (ys, b, f), h) =
       let plain = line_plain {A = A} mark in
-      let same = (one_line tokens front back xs ys rest other (plain.plain v xs a)
-      (plain.plain w ys b) e d f h).0 in
-      line_alike mark v w xs a (subst (LineSays mark w) (sym same) b)
+      let (same, left) = one_line tokens front back xs ys rest other (plain.plain v xs a)
+      (plain.plain w ys b) e d f h in
+      (line_alike mark v w xs a (subst (LineSays mark w) (sym same) b), left)
 
-  bytes_alike : (mark : DataMark) (size : Option ℕ) (v w : Replies A)
-      (tokens rest other : List ℕ)
-      → First (DataBehind mark size) tokens v rest → First (DataBehind mark size) tokens w other
-      → AreAlikeBy alike v w
+  bytes_alike : (mark : DataMark) (size : Option ℕ)
+      → Determined (AreAlikeBy alike) (DataBehind mark size)
   unfolding First
   bytes_alike mark (Some n) v w tokens rest other (front, (x, says, a), d)
       (back, (y, also, b), h) =
-      let same = same_bytes n x y tokens rest other (front, a, d) (back, b, h) in
-      data_alike mark v w x.now says (subst (DataSays mark w) (sym same) also)
-  bytes_alike Dollar None v w tokens rest other (front, (e, a), d) (back, (f, b), h) =
-      alike_as Reply-F.NullBulk Reply-F.NullBulk e null_bulk_is f null_bulk_is tt
+      let (same, left) = data_determined n x y tokens rest other (front, a, d) (back, b, h) in
+      (data_alike mark v w x.now says (subst (DataSays mark w) (sym same) also), left)
+  bytes_alike Dollar None v w tokens rest other (front, (e, a), d) (back, (f, b), h) = (
+    alike_as Reply-F.NullBulk Reply-F.NullBulk e null_bulk_is f null_bulk_is tt,
+    nothing_left a b d h,
+  )
   bytes_alike mark None v w tokens rest other (front, never, d) b = absurd never
 
 module _ {A : Type 0} (alike : Replies A → Replies A → Type 0)
     (elements : Text ℕ (List (Replies A))) (pairs : Pairs alike elements) where
-  aggregate_alike : (mark : AggregateMark) (size : Option ℕ) (v w : Replies A)
-      (tokens rest other : List ℕ)
-      → First (AggregateBehind elements mark size) tokens v rest
-      → First (AggregateBehind elements mark size) tokens w other → AreAlikeBy alike v w
+  aggregate_alike : (mark : AggregateMark) (size : Option ℕ)
+      → Determined (AreAlikeBy alike) (AggregateBehind elements mark size)
   unfolding First
   aggregate_alike mark (Some n) v w tokens rest other (front, (l, e, (many, a)), d)
       (back, (m, f, (also, b)), h) =
-      gathered_alike alike mark v w l m e f
-      (pairs l.items m.items front back rest other a b (sym d ∙ h) (many ∙ sym also))
-  aggregate_alike Star None v w tokens rest other (front, (e, a), d) (back, (f, b), h) =
-      alike_as alike Reply-F.NullArray Reply-F.NullArray e null_array_is f null_array_is tt
+      let (are, left) =
+      pairs l.items m.items front back rest other a b (sym d ∙ h) (many ∙ sym also) in
+      (gathered_alike alike mark v w l m e f are, left)
+  aggregate_alike Star None v w tokens rest other (front, (e, a), d) (back, (f, b), h) = (
+    alike_as alike Reply-F.NullArray Reply-F.NullArray e null_array_is f null_array_is tt,
+    nothing_left a b d h,
+  )
   aggregate_alike mark None v w tokens rest other (front, never, d) b = absurd never
 
-  body_alike : (mark : Mark) (v w : Replies A) (tokens rest other : List ℕ)
-      → First (Body elements mark) tokens v rest → First (Body elements mark) tokens w other
-      → AreAlikeBy alike v w
+  body_alike : (mark : Mark) → Determined (AreAlikeBy alike) (Body elements mark)
   body_alike (Line mark) = ended_alike alike mark
-  body_alike (Data mark) =
-      led_alike SizeText (DataBehind mark) (AreAlikeBy alike) size_splits (bytes_alike alike mark)
-  body_alike (Aggregate mark) = led_alike SizeText (AggregateBehind elements mark)
+  body_alike (Data mark) = led_determined SizeText (DataBehind mark) (AreAlikeBy alike) size_splits
+      (bytes_alike alike mark)
+  body_alike (Aggregate mark) = led_determined SizeText (AggregateBehind elements mark)
       (AreAlikeBy alike) size_splits (aggregate_alike mark)
 
-  marked_alike : (protocol : Protocol) (v w : Replies A) (tokens rest other : List ℕ)
-      → First (Led (MarkText protocol) (Body elements)) tokens v rest
-      → First (Led (MarkText protocol) (Body elements)) tokens w other → AreAlikeBy alike v w
-  marked_alike protocol = led_alike (MarkText protocol) (Body elements) (AreAlikeBy alike)
+  marked_alike : (protocol : Protocol)
+      → Determined (AreAlikeBy alike) (Led (MarkText protocol) (Body elements))
+  marked_alike protocol = led_determined (MarkText protocol) (Body elements) (AreAlikeBy alike)
       (mark_splits protocol) body_alike
 
 -- replies
-pub replies_alike : {A : Type 0} (protocol : Protocol) (level : ℕ) (v w : Replies A)
-    (tokens rest other : List ℕ) → First (ReplyText protocol level) tokens v rest
-    → First (ReplyText protocol level) tokens w other → AreAlike level v w
+pub replies_alike : {A : Type 0} (protocol : Protocol) (level : ℕ)
+    → Determined (AreAlike level) (ReplyText {A = A} protocol level)
 unfolding AreAlike Elements
 replies_alike {A} protocol zero = marked_alike (λ v w. ⊥) (Elements protocol zero)
     (λ os ps xs ys rest other never. absurd never) protocol
 replies_alike {A} protocol (suc level) =
     marked_alike (AreAlike level) (Elements protocol (suc level))
-    (rows_alike (ReplyText protocol level) (AreAlike level) (reply_unique protocol level)
-    (replies_alike protocol level)) protocol
+    (rows_determined (ReplyText protocol level) (AreAlike level) (replies_alike protocol level))
+    protocol
+
+pub reply_unique : {A : Type 0} (protocol : Protocol) (level : ℕ)
+    → IsUnique (First (ReplyText {A = A} protocol level))
+unfolding First
+reply_unique protocol level = record {
+  ends = λ tokens o rest (front, a, e). (front, e);
+  one = λ tokens o p rest other a b. (replies_alike protocol level o p tokens rest other a b).1;
+}

@@ -11,7 +11,7 @@ use Rattle.format_resp.proofs.WrittenTexts.{deeper, list_for, row_as}
 use Rattle.format_resp.proofs.FirstBytes.{not_resp3}
 use Rattle.format_resp.proofs.FirstLines.{head_splits}
 use Rattle.format_resp.proofs.LineTexts.{size_small}
-use Rattle.format_resp.proofs.Parts.{data_unique}
+use Rattle.format_resp.proofs.Parts.{data_determined}
 use Rattle.format_resp.specs.Extents.{AreDue, AreReplies, IsReply, MatchesAtStart, count_after}
 use Rattle.format_resp.specs.Extents.{data_after}
 use Rattle.format_resp.specs.Heads.{HeadText, Says, array_head, bulk_head}
@@ -288,8 +288,8 @@ data_passed size n bulk tokens left (hs, text, f) rest = (
       d ∙ ap (λ l. l ++ rest) e ∙ append_assoc xs ys rest in (
         ys,
         many,
-        sym ((data_unique size).one tokens other bulk (ys ++ rest) left (xs, t, split)
-            (hs, text, f)),
+        sym (data_determined size other bulk tokens (ys ++ rest) left (xs, t, split)
+            (hs, text, f)).1,
       ),
   λ (front, many, d). (
     hs ++ front,

@@ -17,7 +17,6 @@ use Rattle.format_resp.specs.Resp.{InLine, line_end, Ended, LineText}
 use Rattle.std.specs.Borrow.{Bor}
 use Rattle.std.proofs.lemmas.List.Elements.{All-from_recursion, recursion_from_All}
 use Rattle.winnow.specs.Bytes.{bytes_follow, bytes_reading}
-use Rattle.winnow.specs.Grammar.{IsUnique}
 use Rattle.winnow.specs.Grammar.Inversion.{slice_for}
 use Rattle.winnow.specs.InTurn.{Failed, First, Splits, MatchesEachCompletion, failed_as, stood_as}
 use Rattle.winnow.specs.Input.{Input}
@@ -212,14 +211,6 @@ pub record IsPlain {O : Type 0} (text : Text ℕ O) : Type 0 where
   pub plain : (o : O) (xs : List ℕ) → text o xs → AllByRecursion InLine xs
 
 module _ {O : Type 0} (text : Text ℕ O) (p : IsPlain text) where
-  pub ended_unique : IsUnique (First (Ended text))
-  unfolding First Ended
-  ended_unique = record {
-    ends = λ tokens o rest (front, a, e). (front, e);
-    one = λ tokens o q rest other (front, (xs, a, e), d) (back, (ys, b, f), h).
-        (one_line tokens front back xs ys rest other (p.plain o xs a) (p.plain q ys b) e d f h).1;
-  }
-
   -- where each is of one value
   pub ended_splits : ((o q : O) (xs : List ℕ) → text o xs → text q xs → o ≡ q)
       → Splits (Ended text)

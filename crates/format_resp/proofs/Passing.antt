@@ -15,7 +15,7 @@ use Rattle.format_resp.proofs.LineEnds.{unseen_rest}
 use Rattle.format_resp.specs.Extents.{IsDataEnd, IsLineEnd, IsPartOfData, PartFound, AreDue}
 use Rattle.format_resp.specs.Extents.{AreReplies, IsOf, IsPart, IsReply, Passed, ReplyResult}
 use Rattle.format_resp.specs.Extents.{MatchesAtStart, count_after, data_after}
-use Rattle.format_resp.proofs.Parts.{data_unique}
+use Rattle.format_resp.proofs.Parts.{data_determined}
 use Rattle.format_resp.specs.Resp.{DataText, Ended, line_end, InLine, MarkText}
 use Rattle.std.specs.List.{AllByRecursion}
 use Rattle.std.specs.Result.{IsErrAnd}
@@ -125,8 +125,8 @@ pub part_none : (size : ℕ) (tokens : List ℕ) → IsPartOfData size tokens �
 unfolding First
 part_none size tokens p bulk left (front, t, e) =
     let same : left ++ p.more ≡ [] =
-    (data_unique size).one (tokens ++ p.more) bulk p.bulk (left ++ p.more) []
-    (front, t, ap (λ l. l ++ p.more) e ∙ append_assoc front left p.more) p.made in
+    (data_determined size bulk p.bulk (tokens ++ p.more) (left ++ p.more) []
+    (front, t, ap (λ l. l ++ p.more) e ∙ append_assoc front left p.more) p.made).1 in
     omega (arith, p.some, ap (λ l. length l) same, length-append left p.more)
 
 -- an error that is passed on

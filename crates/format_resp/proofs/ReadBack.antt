@@ -16,7 +16,6 @@ use Rattle.format_resp.proofs.AlikeReplies.{replies_alike}
 use Rattle.format_resp.proofs.WrittenTexts.{list_for, written_text}
 use Rattle.format_resp.specs.Alike.{AreAlike, AreAlikeAs, ArePairwise, IsBulkAs, IsCommand}
 use Rattle.format_resp.specs.Alike.{IsCommandAs}
-use Rattle.format_resp.proofs.Bodies.{reply_unique}
 use Rattle.format_resp.proofs.Made.{array_is, bulk_is, kind_of}
 use Rattle.format_resp.proofs.Parts.{shown_is}
 use Rattle.format_resp.specs.Resp.{IsIn, Opened, Replies, ReplyText, line_end}
@@ -36,10 +35,9 @@ module _ {A : Type 0} (protocol : Protocol) (level : ℕ) where
       → First (ReplyText protocol level) tokens written more
       → First (ReplyText protocol level) tokens read rest
       → AreAlike level written read × (rest ≡ more)
-  one_reply written read tokens more rest a b = (
-    replies_alike protocol level written read tokens more rest a b,
-    (reply_unique protocol level).one tokens read written rest more b a,
-  )
+  one_reply written read tokens more rest a b =
+      let (alike, left) = replies_alike protocol level written read tokens more rest a b in
+      (alike, sym left)
 
   pub written_back : (written read : Replies A) (text more rest : List ℕ)
       → ReplyText protocol level written text

@@ -6,7 +6,8 @@ use Rattle.winnow.specs.InTurn.Rows.{more_failed, more_stood, none_stood}
 use Rattle.format_resp.proofs.LineTexts.{size_splits}
 use Rattle.format_resp.proofs.Parts.{alone_stood, pushed, roomy}
 use Rattle.format_resp.proofs.Bodies.{aggregate_failed, aggregate_stood, no_null_aggregate}
-use Rattle.format_resp.proofs.Bodies.{reply_unique, too_deep, too_many}
+use Rattle.format_resp.proofs.Bodies.{too_deep, too_many}
+use Rattle.format_resp.proofs.AlikeReplies.{reply_unique}
 use Rattle.format_resp.proofs.FirstBytes.{mark_splits}
 use Rattle.format_resp.specs.Resp.{AggregateBehind, Body, Elements, MarkText, ReplyText, SizeText}
 use Rattle.format_resp.specs.declared.reply.Reply as made
