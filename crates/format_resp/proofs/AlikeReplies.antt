@@ -8,8 +8,8 @@ use Rattle.winnow.specs.InTurn.{First, Led}
 use Rattle.winnow.specs.Texts.{Text}
 use Rattle.format_resp.proofs.LineTexts.{one_number, size_splits, line_plain}
 use Rattle.format_resp.proofs.LineEnds.{one_line}
-use Rattle.format_resp.proofs.Parts.{Determined, Pairs, data_determined, led_determined}
-use Rattle.format_resp.proofs.Parts.{nothing_left, rows_determined}
+use Rattle.format_resp.proofs.Encodings.{Determined, Pairs, data_determined, led_determined}
+use Rattle.format_resp.proofs.Encodings.{nothing_left, rows_determined}
 use Rattle.winnow.specs.Grammar.{IsUnique}
 use Rattle.format_resp.proofs.FirstBytes.{mark_splits}
 use Rattle.format_resp.proofs.Made.{array_is, attributed_is, big_number_is, boolean_is}

@@ -10,7 +10,7 @@ use Rattle.winnow.specs.InTurn.Rows.{RowOf}
 use Rattle.winnow.specs.Input.{Input}
 use Rattle.winnow.specs.Kind.{Kind, backtrack}
 use Rattle.winnow.specs.Texts.{Text}
-use Rattle.format_resp.proofs.Parts.{data_determined}
+use Rattle.format_resp.proofs.Encodings.{data_determined}
 use Rattle.format_resp.proofs.LineTexts.{size_small}
 use Rattle.format_resp.specs.Resp.{DataText, SizeText, AggregateBehind, DataBehind, DataSays}
 use Rattle.format_resp.specs.Resp.{Elements, Replies, ReplyText, gathered, many}

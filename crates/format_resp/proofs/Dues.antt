@@ -11,7 +11,7 @@ use Rattle.format_resp.proofs.WrittenTexts.{deeper, list_for, row_as}
 use Rattle.format_resp.proofs.FirstBytes.{not_resp3}
 use Rattle.format_resp.proofs.FirstLines.{head_splits}
 use Rattle.format_resp.proofs.LineTexts.{size_small}
-use Rattle.format_resp.proofs.Parts.{data_determined}
+use Rattle.format_resp.proofs.Encodings.{data_determined}
 use Rattle.format_resp.specs.Extents.{AreDue, AreReplies, IsReply, MatchesAtStart, count_after}
 use Rattle.format_resp.specs.Extents.{data_after}
 use Rattle.format_resp.specs.Heads.{HeadText, Says, array_head, bulk_head}

@@ -1,6 +1,7 @@
 pub mod AlikeReplies
 pub mod Bodies
 pub mod Dues
+pub mod Encodings
 pub mod FirstBytes
 pub mod FirstLines
 pub mod LeafTexts
@@ -8,7 +9,6 @@ pub mod LineEnds
 pub mod LineTexts
 pub mod Made
 pub mod NumberTexts
-pub mod Parts
 pub mod PartsStand
 pub mod Passing
 pub mod ReadBack

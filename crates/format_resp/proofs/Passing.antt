@@ -15,7 +15,7 @@ use Rattle.format_resp.proofs.LineEnds.{unseen_rest}
 use Rattle.format_resp.specs.Extents.{IsDataEnd, IsLineEnd, IsPartOfData, PartFound, AreDue}
 use Rattle.format_resp.specs.Extents.{AreReplies, IsOf, IsPart, IsReply, Passed, ReplyResult}
 use Rattle.format_resp.specs.Extents.{MatchesAtStart, count_after, data_after}
-use Rattle.format_resp.proofs.Parts.{data_determined}
+use Rattle.format_resp.proofs.Encodings.{data_determined}
 use Rattle.format_resp.specs.Resp.{DataText, Ended, line_end, InLine, MarkText}
 use Rattle.std.specs.List.{AllByRecursion}
 use Rattle.std.specs.Result.{IsErrAnd}

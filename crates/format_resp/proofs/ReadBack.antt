@@ -17,7 +17,7 @@ use Rattle.format_resp.proofs.WrittenTexts.{list_for, written_text}
 use Rattle.format_resp.specs.Alike.{AreAlike, AreAlikeAs, ArePairwise, IsBulkAs, IsCommand}
 use Rattle.format_resp.specs.Alike.{IsCommandAs}
 use Rattle.format_resp.proofs.Made.{array_is, bulk_is, kind_of}
-use Rattle.format_resp.proofs.Parts.{shown_is}
+use Rattle.format_resp.proofs.Encodings.{shown_is}
 use Rattle.format_resp.specs.Resp.{IsIn, Opened, Replies, ReplyText, line_end}
 use Rattle.format_resp.specs.Written.{Adds, WrittenElements, WrittenText, bulk_of, bulks_of}
 use Rattle.format_resp.specs.Written.{command_of, mark_in, marked}

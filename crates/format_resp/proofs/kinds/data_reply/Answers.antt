@@ -1,6 +1,6 @@
 use Rattle.std.specs.Prelude.{⊤}
 use Rattle.std.proofs.Common.{refl}
-use Rattle.format_resp.proofs.Parts.{shown_are, shown_is}
+use Rattle.format_resp.proofs.Encodings.{shown_are, shown_is}
 use Rattle.format_resp.specs.Resp.{IsVerbatim}
 use Rattle.format_resp.proofs.kinds.data_reply.Goals as goal
 

@@ -1,7 +1,7 @@
 use Rattle.std.specs.List.{AllByRecursion}
 use Rattle.std.proofs.Common.{refl}
 use Rattle.format_resp.specs.Resp.{InLine}
-use Rattle.format_resp.proofs.Parts.{shown_are, shown_is}
+use Rattle.format_resp.proofs.Encodings.{shown_are, shown_is}
 use Rattle.format_resp.specs.Numbers.{IsBigNumber, IsDouble}
 use Rattle.format_resp.proofs.kinds.line_reply.Goals as goal
 

@@ -4,7 +4,7 @@ use Rattle.winnow.specs.InTurn.{failed, led_failed, led_none, led_stood, led_tol
 use Rattle.winnow.specs.InTurn.{told_err, told_ok, wanting}
 use Rattle.winnow.specs.InTurn.Rows.{more_failed, more_stood, none_stood}
 use Rattle.format_resp.proofs.LineTexts.{size_splits}
-use Rattle.format_resp.proofs.Parts.{alone_stood, pushed, roomy}
+use Rattle.format_resp.proofs.Encodings.{alone_stood, pushed, roomy}
 use Rattle.format_resp.proofs.Bodies.{aggregate_failed, aggregate_stood, no_null_aggregate}
 use Rattle.format_resp.proofs.Bodies.{too_deep, too_many}
 use Rattle.format_resp.proofs.AlikeReplies.{reply_unique}

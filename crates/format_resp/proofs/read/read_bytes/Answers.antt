@@ -2,7 +2,7 @@ use Rattle.std.proofs.Common.{refl}
 use Rattle.winnow.specs.InTurn.{failed, led_failed, led_none, led_stood, passed, stood, told_err}
 use Rattle.winnow.specs.InTurn.{told_ok}
 use Rattle.format_resp.proofs.LineTexts.{size_splits}
-use Rattle.format_resp.proofs.Parts.{alone_stood}
+use Rattle.format_resp.proofs.Encodings.{alone_stood}
 use Rattle.format_resp.proofs.Bodies.{data_failed, data_none, data_stood, no_null_data}
 use Rattle.format_resp.specs.Resp.{SizeText}
 use Rattle.format_resp.specs.declared.reply.Reply as made

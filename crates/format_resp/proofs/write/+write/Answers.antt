@@ -8,7 +8,7 @@ use Rattle.format_resp.proofs.Writing.{null_array_put, null_bulk_put, refused_bi
 use Rattle.format_resp.proofs.Writing.{refused_count, refused_double, refused_error}
 use Rattle.format_resp.proofs.Writing.{refused_foreign, refused_form, refused_simple}
 use Rattle.format_resp.proofs.Writing.{refused_verbatim, refused_within}
-use Rattle.format_resp.proofs.Parts.{shown_is}
+use Rattle.format_resp.proofs.Encodings.{shown_is}
 use Rattle.format_resp.specs.Numbers.{IsBigNumber, IsDouble}
 use Rattle.format_resp.specs.Resp.{InLine, IsVerbatim}
 use Rattle.format_resp.specs.declared.marks.DataMark.TheVariants.{Dollar, Equals, Exclamation}
