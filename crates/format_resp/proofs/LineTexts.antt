@@ -47,7 +47,7 @@ unsigned_plain (x ∷ xs) a = elim (eqb_tells x 43) [
   | inl (plus, is) ↦ (above x (omega (arith, is)), rw plus at a)
   | inr (other, not) ↦ elim (eqb_tells x 45) [
     | inl (minus, is) ↦ (above x (omega (arith, is)), rw (other, minus) at a)
-    | inr (more, no) ↦ rw (other, more) at a
+    | inr (more, _) ↦ rw (other, more) at a
   ]
 ]
 
@@ -57,7 +57,7 @@ signed_plain n xs (m, a, is, fits) = unsigned_plain xs (digits_plain (unsigned x
 
 size_line_plain : (size : Option ℕ) (xs : List ℕ) → SizeLine size xs → Plainly xs
 size_line_plain None xs e =
-    plain_as xs (45 ∷ 49 ∷ []) e (above_plain (45 ∷ 49 ∷ []) (omega arith, omega arith, tt))
+    plain_as xs (45 ∷ 49 ∷ []) e (above_plain (45 ∷ 49 ∷ []) (omega arith, (omega arith, tt)))
 size_line_plain (Some n) xs (a, small) = digits_plain xs a.0.0
 
 pub size_plain : IsPlain SizeLine
@@ -157,13 +157,13 @@ decimal_plain xs (whole, tail, a, b, e) = unsigned_plain xs (plain_as (unsigned 
 
 double_plain : (xs : List ℕ) → IsDouble xs → Plainly xs
 double_plain xs (inl e) =
-    plain_as xs inf_word e (above_plain inf_word (omega arith, omega arith, omega arith, tt))
+    plain_as xs inf_word e (above_plain inf_word (omega arith, (omega arith, (omega arith, tt))))
 double_plain xs (inr (inl e)) = plain_as xs (45 ∷ inf_word) e
-    (above_plain (45 ∷ inf_word) (omega arith, omega arith, omega arith, omega arith, tt))
+    (above_plain (45 ∷ inf_word) (omega arith, (omega arith, (omega arith, (omega arith, tt)))))
 double_plain xs (inr (inr (inl e))) =
-    plain_as xs nan_word e (above_plain nan_word (omega arith, omega arith, omega arith, tt))
+    plain_as xs nan_word e (above_plain nan_word (omega arith, (omega arith, (omega arith, tt))))
 double_plain xs (inr (inr (inr (inl e)))) = plain_as xs (45 ∷ nan_word) e
-    (above_plain (45 ∷ nan_word) (omega arith, omega arith, omega arith, omega arith, tt))
+    (above_plain (45 ∷ nan_word) (omega arith, (omega arith, (omega arith, (omega arith, tt)))))
 double_plain xs (inr (inr (inr (inr a)))) = decimal_plain xs a
 
 boolean_plain : (b : Bool) (xs : List ℕ) → BooleanText b xs → Plainly xs
