@@ -1,5 +1,6 @@
 -- Lemmas about the bytes appended for replies, and about the errors of writing.
-use Rattle.std.specs.Prelude.{◌≡◌, ◌≤◌, ◌<◌, ◌+◌, ◌/◌, ◌%◌, ◌^◌, ℕ, List, [], ◌∷◌, ◌++◌, length}
+use Rattle.std.specs.Prelude.{◌≡◌, ◌≤◌, ◌<◌, ◌+◌, ◌/◌, ◌%◌, ◌^◌, ℕ, List, [], ◌∷◌}
+use Rattle.std.specs.Prelude.{◌++◌, length}
 use Rattle.std.specs.Prelude.{drop, take, slice_index_or, Contains, IfErr, Result, zero, suc}
 use Rattle.std.specs.Fmt.{decimal}
 use Rattle.std.specs.Result.{IsErrAnd}

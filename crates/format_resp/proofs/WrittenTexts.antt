@@ -1,5 +1,5 @@
--- Proofs that the bytes written for a reply are an encoding of it, and that an encoding at a depth is
--- one at each greater depth.
+-- Proofs that the bytes written for a reply are an encoding of it, and that an encoding at a depth
+-- is one at each greater depth.
 use Rattle.std.specs.Prelude.{◌≡◌, ◌+◌, ◌<◌, ◌^◌, ℕ, zero, suc, List, [], ◌∷◌, length, Option, Some}
 use Rattle.std.specs.Prelude.{None, ◌++◌}
 use Rattle.std.specs.declared.vec.Vec.{Vec}

@@ -1,6 +1,7 @@
 -- Which of the texts of a reply is written for it, what is written for a command, and which replies
 -- are not written.
-use Rattle.std.specs.Prelude.{◌≡◌, ◌⊎◌, ◌<◌, ◌^◌, ⊤, ℕ, ℤ, zero, suc, List, [], ◌∷◌, ◌++◌, length}
+use Rattle.std.specs.Prelude.{◌≡◌, ◌⊎◌, ◌<◌, ◌^◌, ⊤, ℕ, ℤ, zero, suc, List, [], ◌∷◌, ◌++◌}
+use Rattle.std.specs.Prelude.{length}
 use Rattle.std.specs.Prelude.{Contains, FitsSigned}
 use Rattle.std.specs.Borrow.{Bor}
 use Rattle.std.specs.Fmt.{decimal, signed_decimal}

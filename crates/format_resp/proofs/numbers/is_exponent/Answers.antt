@@ -2,8 +2,10 @@ use Rattle.std.proofs.Common.{inl, inr}
 use Rattle.format_resp.proofs.NumberTexts.{bool_as, exponent_back, exponent_letter, exponent_none}
 use Rattle.format_resp.proofs.NumberTexts.{exponent_other}
 use Rattle.format_resp.proofs.numbers.is_exponent.Goals as goal
-use Rattle.format_resp.proofs.numbers.is_exponent.Goals.{then-first-eq101-via-then-first-eq101}
-use Rattle.format_resp.proofs.numbers.is_exponent.Goals.{then-first-eq101-via-else-first-eq101+then-first-eq69}
+use Rattle.format_resp.proofs.numbers.is_exponent.Goals.{
+  then-first-eq101-via-then-first-eq101,
+  then-first-eq101-via-else-first-eq101+then-first-eq69,
+}
 
 pub returns-in_default : goal.returns-in_default
 returns-in_default c = exponent_none c.args.bytes.now c.in_default.ensures.cases

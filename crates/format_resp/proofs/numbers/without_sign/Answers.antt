@@ -2,8 +2,10 @@ use Rattle.std.proofs.Common.{inl, inr, refl}
 use Rattle.std.proofs.lemmas.List.{nil_from_length}
 use Rattle.format_resp.proofs.NumberTexts.{no_sign, some_sign}
 use Rattle.format_resp.proofs.numbers.without_sign.Goals as goal
-use Rattle.format_resp.proofs.numbers.without_sign.Goals.{then-first-eq43-via-then-first-eq43}
-use Rattle.format_resp.proofs.numbers.without_sign.Goals.{then-first-eq43-via-else-first-eq43+then-first-eq45}
+use Rattle.format_resp.proofs.numbers.without_sign.Goals.{
+  then-first-eq43-via-then-first-eq43,
+  then-first-eq43-via-else-first-eq43+then-first-eq45,
+}
 
 pub returns-in_default : goal.returns-in_default
 returns-in_default c = rw (nil_from_length _ c.in_default.ensures.cases) refl
