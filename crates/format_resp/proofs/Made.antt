@@ -1,10 +1,9 @@
 -- Lemmas about constructed replies, and the first bytes of replies.
-use Rattle.std.specs.Prelude.{◌≡◌, Bool, ℕ, ℤ, List, Option, Some, None}
+use Rattle.std.specs.Prelude.{◌≡◌, Bool, ℕ, ℤ, List}
 use Rattle.std.specs.Borrow.{Bor}
 use Rattle.std.specs.declared.vec.Vec.{Vec}
-use Rattle.std.proofs.Common.{ap, sym, ◌∙◌, subst}
-use Rattle.format_resp.specs.Resp.{Opened, Replies, AggregateBehind, Body, DataBehind, DataSays}
-use Rattle.format_resp.specs.Resp.{Ended, IsIn, LineSays, MarkText, gathered}
+use Rattle.std.proofs.Common.{ap, sym, ◌∙◌}
+use Rattle.format_resp.specs.Resp.{Opened, Replies, DataSays, LineSays, gathered}
 use Rattle.format_resp.specs.declared.reply.Reply as made
 use Rattle.format_resp.specs.declared.reply.Reply.{out-Reply, roll-Reply}
 use Rattle.format_resp.specs.declared.reply.Reply.TheOpen.{Reply-F}
@@ -16,8 +15,6 @@ use Rattle.format_resp.specs.declared.reply.Reply.TheViews.{rolls-Error, rolls-I
 use Rattle.format_resp.specs.declared.reply.Reply.TheViews.{rolls-Null, rolls-NullArray}
 use Rattle.format_resp.specs.declared.reply.Reply.TheViews.{rolls-NullBulk, rolls-Push, rolls-Set}
 use Rattle.format_resp.specs.declared.reply.Reply.TheViews.{rolls-Simple, rolls-Verbatim}
-use Rattle.winnow.specs.InTurn.{Led}
-use Rattle.winnow.specs.Texts.{Text}
 use Rattle.format_resp.specs.Written.{first_mark, mark_in}
 use Rattle.format_resp.specs.declared.marks.AggregateMark.{AggregateMark}
 use Rattle.format_resp.specs.declared.marks.AggregateMark.TheVariants.{Bar, Greater, Percent, Star}
@@ -27,9 +24,7 @@ use Rattle.format_resp.specs.declared.marks.DataMark.TheVariants.{Dollar, Equals
 use Rattle.format_resp.specs.declared.marks.LineMark.{LineMark}
 use Rattle.format_resp.specs.declared.marks.LineMark.TheVariants.{Colon, Comma, Hash, Minus}
 use Rattle.format_resp.specs.declared.marks.LineMark.TheVariants.{Parenthesis, Plus, Underscore}
-use Rattle.format_resp.specs.declared.marks.Mark.{Mark}
 use Rattle.format_resp.specs.declared.marks.Mark.TheVariants.{Aggregate, Data, Line}
-use Rattle.format_resp.specs.declared.reply.Protocol.{Protocol}
 
 module _ {A : Type 0} where
   abbrev pub kind_of : Replies A → Opened A
@@ -122,33 +117,3 @@ module _ {A : Type 0} where
   marked_aggregate Tilde reply list is = ap first_mark is ∙ ap mark_in (set_is list)
   marked_aggregate Greater reply list is = ap first_mark is ∙ ap mark_in (push_is list)
   marked_aggregate Bar reply list is = ap first_mark is ∙ ap mark_in (attributed_is list)
-
-  marked_bytes : (mark : DataMark) (size : Option ℕ) (reply : Replies A) (tokens : List ℕ)
-      → DataBehind mark size reply tokens → first_mark reply ≡ Data mark
-  marked_bytes mark (Some n) reply tokens (bytes, says, a) = marked_data mark reply bytes.now says
-  marked_bytes Dollar None reply tokens (is, a) = marked_null_bulk reply is
-  marked_bytes mark None reply tokens never = absurd never
-
-  module _ (elements : Text ℕ (List (Replies A))) where
-    marked_list : (mark : AggregateMark) (size : Option ℕ) (reply : Replies A)
-        (tokens : List ℕ) → AggregateBehind elements mark size reply tokens
-        → first_mark reply ≡ Aggregate mark
-    marked_list mark (Some n) reply tokens (list, is, a) = marked_aggregate mark reply list is
-    marked_list Star None reply tokens (is, a) = marked_null_array reply is
-    marked_list mark None reply tokens never = absurd never
-
-    marked_body : (mark : Mark) (reply : Replies A) (tokens : List ℕ)
-        → Body elements mark reply tokens → first_mark reply ≡ mark
-    unfolding Ended Led
-    marked_body (Line mark) reply tokens (line, says, e) = marked_line mark reply line says
-    marked_body (Data mark) reply tokens (size, xs, ys, s, a, e) =
-        marked_bytes mark size reply ys a
-    marked_body (Aggregate mark) reply tokens (size, xs, ys, s, a, e) =
-        marked_list mark size reply ys a
-
-    -- a reply that has a text is of the version of the protocol
-    pub text_within : (protocol : Protocol) (reply : Replies A) (tokens : List ℕ)
-        → Led (MarkText protocol) (Body elements) reply tokens → IsIn protocol (first_mark reply)
-    unfolding Led MarkText
-    text_within protocol reply tokens (mark, xs, ys, (within, m), a, e) =
-        subst (λ k. IsIn protocol k) (sym (marked_body mark reply ys a)) within

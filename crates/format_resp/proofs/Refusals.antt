@@ -9,14 +9,15 @@ use Rattle.winnow.specs.InTurn.{Led}
 use Rattle.winnow.specs.Texts.{EachText, Text}
 use Rattle.format_resp.proofs.Made.{array_is, attributed_is, big_number_is, boolean_is}
 use Rattle.format_resp.proofs.Made.{bulk_error_is, bulk_is, double_is, error_is, integer_is}
-use Rattle.format_resp.proofs.Made.{kind_of, map_is, null_array_is, null_bulk_is, null_is, push_is}
-use Rattle.format_resp.proofs.Made.{set_is, simple_is, verbatim_is, text_within}
+use Rattle.format_resp.proofs.Made.{marked_aggregate, marked_data, marked_line, marked_null_array}
+use Rattle.format_resp.proofs.Made.{marked_null_bulk, kind_of, map_is, null_array_is, null_bulk_is}
+use Rattle.format_resp.proofs.Made.{null_is, push_is, set_is, simple_is, verbatim_is}
 use Rattle.format_resp.specs.Numbers.{IsBigNumber, IsDouble}
 use Rattle.format_resp.specs.Resp.{AggregateBehind, Body, DataBehind, DataSays, Elements, Ended}
-use Rattle.format_resp.specs.Resp.{InLine, IsVerbatim, LineSays, Opened, Replies, ReplyText, Shown}
-use Rattle.format_resp.specs.Resp.{gathered, many}
-use Rattle.format_resp.specs.Written.{IsBroken, IsDeeper, IsForeign, IsNoBigNumber, IsNoDouble}
-use Rattle.format_resp.specs.Written.{IsOrHas, IsRefused, IsUnformatted, IsUnpaired}
+use Rattle.format_resp.specs.Resp.{IsIn, MarkText, InLine, IsVerbatim, LineSays, Opened, Replies}
+use Rattle.format_resp.specs.Resp.{ReplyText, Shown, gathered, many}
+use Rattle.format_resp.specs.Written.{first_mark, IsBroken, IsDeeper, IsForeign, IsNoBigNumber}
+use Rattle.format_resp.specs.Written.{IsNoDouble, IsOrHas, IsRefused, IsUnformatted, IsUnpaired}
 use Rattle.format_resp.specs.declared.marks.AggregateMark.{AggregateMark}
 use Rattle.format_resp.specs.declared.marks.AggregateMark.TheVariants.{Bar, Greater, Percent, Star}
 use Rattle.format_resp.specs.declared.marks.AggregateMark.TheVariants.{Tilde}
@@ -89,9 +90,12 @@ module _ {A : Type 0} where
         sound (Reply-F.Verbatim x) is (verbatim_is x) (subst (λ l. IsVerbatim l) (sym s) a)
 
     bytes_sound : (mark : DataMark) (size : Option ℕ) (reply : Replies A) (tokens : List ℕ)
-        → DataBehind mark size reply tokens → Sound (kind_of reply)
-    bytes_sound mark (Some n) reply tokens (bytes, says, a) = data_sound mark reply bytes.now says
-    bytes_sound Dollar None reply tokens (is, a) = sound Reply-F.NullBulk is null_bulk_is tt
+        → DataBehind mark size reply tokens
+        → (first_mark reply ≡ Data mark) × Sound (kind_of reply)
+    bytes_sound mark (Some n) reply tokens (bytes, says, a) =
+        (marked_data mark reply bytes.now says, data_sound mark reply bytes.now says)
+    bytes_sound Dollar None reply tokens (is, a) =
+        (marked_null_bulk reply is, sound Reply-F.NullBulk is null_bulk_is tt)
     bytes_sound mark None reply tokens never = absurd never
 
     gathered_sound : (mark : AggregateMark) (list : Vec (Replies A) A) (reply : Replies A)
@@ -104,16 +108,21 @@ module _ {A : Type 0} where
 
     aggregate_sound : (mark : AggregateMark) (size : Option ℕ) (reply : Replies A)
         (tokens : List ℕ) → AggregateBehind elements mark size reply tokens
-        → Sound (kind_of reply)
-    aggregate_sound mark (Some n) reply tokens (list, is, (count, a)) =
-        gathered_sound mark list reply is ((n, count), (tokens, a))
-    aggregate_sound Star None reply tokens (is, a) = sound Reply-F.NullArray is null_array_is tt
+        → (first_mark reply ≡ Aggregate mark) × Sound (kind_of reply)
+    aggregate_sound mark (Some n) reply tokens (list, is, (count, a)) = (
+      marked_aggregate mark reply list is,
+      gathered_sound mark list reply is ((n, count), (tokens, a)),
+    )
+    aggregate_sound Star None reply tokens (is, a) =
+        (marked_null_array reply is, sound Reply-F.NullArray is null_array_is tt)
     aggregate_sound mark None reply tokens never = absurd never
 
     body_sound : (mark : Mark) (reply : Replies A) (tokens : List ℕ)
-        → Body elements mark reply tokens → Sound (kind_of reply)
+        → Body elements mark reply tokens
+        → (first_mark reply ≡ mark) × Sound (kind_of reply)
     unfolding Ended Led
-    body_sound (Line mark) reply tokens (line, says, e) = line_sound mark reply line says
+    body_sound (Line mark) reply tokens (line, says, e) =
+        (marked_line mark reply line says, line_sound mark reply line says)
     body_sound (Data mark) reply tokens (size, xs, ys, s, a, e) =
         bytes_sound mark size reply ys a
     body_sound (Aggregate mark) reply tokens (size, xs, ys, s, a, e) =
@@ -161,7 +170,7 @@ module _ {A : Type 0} (protocol : Protocol) where
       → Sound (Elements protocol level) (kind_of reply)
   unfolding Led
   text_sound level reply (tokens, (mark, xs, ys, m, a, e)) =
-      body_sound (Elements protocol level) mark reply ys a
+      (body_sound (Elements protocol level) mark reply ys a).1
 
   row_has : (level : ℕ) (replies : List (Replies A)) (tokens : List ℕ)
       → EachText (ReplyText protocol level) replies tokens → All (HasText level) replies
@@ -224,8 +233,10 @@ module _ {A : Type 0} (protocol : Protocol) where
       none level reply is (text_sound level reply text))
 
   foreign : (reply : Replies A) → IsForeign protocol reply → (level : ℕ) → HasText level reply → ⊥
-  foreign reply not level (tokens, text) =
-      not (text_within (Elements protocol level) protocol reply tokens text)
+  unfolding Led MarkText
+  foreign reply not level (tokens, (mark, xs, ys, (within, m), a, e)) =
+      not (subst (IsIn protocol) (sym (body_sound (Elements protocol level) mark reply ys a).0)
+      within)
 
   -- a reply with an error other than out of memory has no encoding, or one of a greater depth
   pub refused_textless : (level above : ℕ) (reply : Replies A) (e : WriteError) (tokens : List ℕ)
