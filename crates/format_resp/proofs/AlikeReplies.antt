@@ -1,26 +1,25 @@
 -- Lemmas that replies whose encodings start the same tokens are equivalent.
-use Rattle.std.specs.Prelude.{◌≡◌, Bool, true, false, ℕ, zero, suc, List, [], ◌∷◌}
-use Rattle.std.specs.Prelude.{Option, Some, None}
-use Rattle.std.specs.Borrow.{Bor}
+use Rattle.std.specs.Prelude.{◌≡◌, Bool, true, false, ℕ, zero, suc, List, [], ◌∷◌, Option, Some}
+use Rattle.std.specs.Prelude.{None}
 use Rattle.std.specs.declared.vec.Vec.{Vec}
 use Rattle.std.proofs.Common.{refl, sym, ap, subst, ◌∙◌, arith}
 use Rattle.winnow.specs.Equal.{same_first}
 use Rattle.winnow.specs.InTurn.{First, Led}
 use Rattle.winnow.specs.Texts.{Text}
-use Rattle.format_resp.proofs.Integers.{one_number, size_splits}
-use Rattle.format_resp.proofs.ReadParts.{one_line}
-use Rattle.format_resp.proofs.Rows.{Pairs, led_parts, rows_alike, same_bytes}
-use Rattle.format_resp.proofs.Bodies.{reply_unique}
+use Rattle.format_resp.proofs.LineTexts.{one_number, size_splits, line_plain}
+use Rattle.format_resp.proofs.LineEnds.{one_line}
+use Rattle.format_resp.proofs.Encodings.{Determined, Pairs, data_determined, led_determined}
+use Rattle.format_resp.proofs.Encodings.{nothing_left, rows_determined}
+use Rattle.winnow.specs.Grammar.{IsUnique}
 use Rattle.format_resp.proofs.FirstBytes.{mark_splits}
 use Rattle.format_resp.proofs.Made.{array_is, attributed_is, big_number_is, boolean_is}
 use Rattle.format_resp.proofs.Made.{bulk_error_is, bulk_is, double_is, error_is, integer_is}
-use Rattle.format_resp.proofs.Made.{map_is, null_array_is, null_bulk_is, null_is, push_is, set_is}
-use Rattle.format_resp.proofs.Made.{simple_is, verbatim_is}
-use Rattle.format_resp.proofs.Plain.{line_plain}
+use Rattle.format_resp.proofs.Made.{kind_of, map_is, null_array_is, null_bulk_is, null_is, push_is}
+use Rattle.format_resp.proofs.Made.{set_is, simple_is, verbatim_is}
 use Rattle.format_resp.specs.Alike.{AreAlike, AreAlikeAs, AreAlikeBy, ArePairwise}
 use Rattle.format_resp.specs.Resp.{AggregateBehind, Body, BooleanText, DataBehind, DataSays}
-use Rattle.format_resp.specs.Resp.{Elements, Ended, LineSays, MarkText, Opened, Replies}
-use Rattle.format_resp.specs.Resp.{ReplyText, Shown, SizeText, gathered}
+use Rattle.format_resp.specs.Resp.{Elements, Ended, LineSays, MarkText, Opened, Replies, ReplyText}
+use Rattle.format_resp.specs.Resp.{Shown, SizeText, gathered}
 use Rattle.format_resp.specs.declared.marks.AggregateMark.{AggregateMark}
 use Rattle.format_resp.specs.declared.marks.AggregateMark.TheVariants.{Bar, Greater, Percent, Star}
 use Rattle.format_resp.specs.declared.marks.AggregateMark.TheVariants.{Tilde}
@@ -32,13 +31,12 @@ use Rattle.format_resp.specs.declared.marks.LineMark.TheVariants.{Parenthesis, P
 use Rattle.format_resp.specs.declared.marks.Mark.{Mark}
 use Rattle.format_resp.specs.declared.marks.Mark.TheVariants.{Aggregate, Data, Line}
 use Rattle.format_resp.specs.declared.reply.Protocol.{Protocol}
-use Rattle.format_resp.specs.declared.reply.Reply.{out-Reply}
 use Rattle.format_resp.specs.declared.reply.Reply.TheOpen.{Reply-F}
 
 -- ---- booleans
 
 t_is_no_f : {P : Type 0} {line : List ℕ} → line ≡ 116 ∷ [] → line ≡ 102 ∷ [] → P
-t_is_no_f e f = let d = same_first (sym e ∙ f) in absurd (omega (arith, d))
+t_is_no_f e f = absurd (omega (arith, same_first (sym e ∙ f)))
 
 one_boolean : (m n : Bool) (line : List ℕ) → BooleanText m line → BooleanText n line → m ≡ n
 one_boolean true true line a b = refl
@@ -50,13 +48,12 @@ one_boolean false false line a b = refl
 
 module _ {A : Type 0} (alike : Replies A → Replies A → Type 0) where
   alike_as : (k l : Opened A) {v w form other : Replies A} → v ≡ form
-      → out-Reply (Bor (List ℕ)) A form ≡ k → w ≡ other → out-Reply (Bor (List ℕ)) A other ≡ l
+      → kind_of form ≡ k → w ≡ other → kind_of other ≡ l
       → AreAlikeAs alike k l → AreAlikeBy alike v w
   alike_as k l {v} {w} e is f are a =
       let P : Opened A → Type 0 = λ z. AreAlikeAs alike z l in
-      let Q : Opened A → Type 0 = λ z. AreAlikeAs alike (out-Reply (Bor (List ℕ)) A v) z in
-      subst Q (sym (ap (out-Reply (Bor (List ℕ)) A) f ∙ are))
-      (subst P (sym (ap (out-Reply (Bor (List ℕ)) A) e ∙ is)) a)
+      subst (AreAlikeAs alike (kind_of v)) (sym (ap kind_of f ∙ are))
+      (subst P (sym (ap kind_of e ∙ is)) a)
 
   -- of lines that say the same
   line_alike : (mark : LineMark) (v w : Replies A) (line : List ℕ) → LineSays mark v line
@@ -111,88 +108,70 @@ module _ {A : Type 0} (alike : Replies A → Replies A → Type 0) where
 
   -- ---- equivalence, by the kind of reply
 
-  ended_alike : (mark : LineMark) (v w : Replies A) (tokens rest other : List ℕ)
-      → First (Ended (LineSays mark)) tokens v rest
-      → First (Ended (LineSays mark)) tokens w other → AreAlikeBy alike v w
+  ended_alike : (mark : LineMark) → Determined (AreAlikeBy alike) (Ended (LineSays mark))
   unfolding First Ended
   ended_alike mark v w tokens rest other (front, (xs, a, e), d) (back, (ys, b, f), h) =
       let plain = line_plain {A = A} mark in
-      let same = (one_line tokens front back xs ys rest other (plain.plain v xs a)
-      (plain.plain w ys b) e d f h).0 in
-      let P : List ℕ → Type 0 = λ l. LineSays mark w l in
-      line_alike mark v w xs a (subst P (sym same) b)
+      let (same, left) = one_line tokens front back xs ys rest other (plain.plain v xs a)
+      (plain.plain w ys b) e d f h in
+      (line_alike mark v w xs a (subst (LineSays mark w) (sym same) b), left)
 
-  bytes_alike : (mark : DataMark) (size : Option ℕ) (v w : Replies A)
-      (tokens rest other : List ℕ)
-      → First (DataBehind mark size) tokens v rest → First (DataBehind mark size) tokens w other
-      → AreAlikeBy alike v w
+  bytes_alike : (mark : DataMark) (size : Option ℕ)
+      → Determined (AreAlikeBy alike) (DataBehind mark size)
   unfolding First
   bytes_alike mark (Some n) v w tokens rest other (front, (x, says, a), d)
       (back, (y, also, b), h) =
-      let same = same_bytes n x y tokens rest other (front, a, d) (back, b, h) in
-      let P : List ℕ → Type 0 = λ l. DataSays mark w l in
-      data_alike mark v w x.now says (subst P (sym same) also)
-  bytes_alike Dollar None v w tokens rest other (front, (e, a), d) (back, (f, b), h) =
-      alike_as Reply-F.NullBulk Reply-F.NullBulk e null_bulk_is f null_bulk_is tt
-  bytes_alike Exclamation None v w tokens rest other (front, never, d) b = absurd never
-  bytes_alike Equals None v w tokens rest other (front, never, d) b = absurd never
+      let (same, left) = data_determined n x y tokens rest other (front, a, d) (back, b, h) in
+      (data_alike mark v w x.now says (subst (DataSays mark w) (sym same) also), left)
+  bytes_alike Dollar None v w tokens rest other (front, (e, a), d) (back, (f, b), h) = (
+    alike_as Reply-F.NullBulk Reply-F.NullBulk e null_bulk_is f null_bulk_is tt,
+    nothing_left a b d h,
+  )
+  bytes_alike mark None v w tokens rest other (front, never, d) b = absurd never
 
 module _ {A : Type 0} (alike : Replies A → Replies A → Type 0)
     (elements : Text ℕ (List (Replies A))) (pairs : Pairs alike elements) where
-  aggregate_alike : (mark : AggregateMark) (size : Option ℕ) (v w : Replies A)
-      (tokens rest other : List ℕ)
-      → First (AggregateBehind elements mark size) tokens v rest
-      → First (AggregateBehind elements mark size) tokens w other → AreAlikeBy alike v w
+  aggregate_alike : (mark : AggregateMark) (size : Option ℕ)
+      → Determined (AreAlikeBy alike) (AggregateBehind elements mark size)
   unfolding First
   aggregate_alike mark (Some n) v w tokens rest other (front, (l, e, (many, a)), d)
       (back, (m, f, (also, b)), h) =
-      gathered_alike alike mark v w l m e f
-      (pairs l.items m.items front back rest other a b (sym d ∙ h) (many ∙ sym also))
-  aggregate_alike Star None v w tokens rest other (front, (e, a), d) (back, (f, b), h) =
-      alike_as alike Reply-F.NullArray Reply-F.NullArray e null_array_is f null_array_is tt
-  aggregate_alike Percent None v w tokens rest other (front, never, d) b = absurd never
-  aggregate_alike Tilde None v w tokens rest other (front, never, d) b = absurd never
-  aggregate_alike Greater None v w tokens rest other (front, never, d) b = absurd never
-  aggregate_alike Bar None v w tokens rest other (front, never, d) b = absurd never
+      let (are, left) =
+      pairs l.items m.items front back rest other a b (sym d ∙ h) (many ∙ sym also) in
+      (gathered_alike alike mark v w l m e f are, left)
+  aggregate_alike Star None v w tokens rest other (front, (e, a), d) (back, (f, b), h) = (
+    alike_as alike Reply-F.NullArray Reply-F.NullArray e null_array_is f null_array_is tt,
+    nothing_left a b d h,
+  )
+  aggregate_alike mark None v w tokens rest other (front, never, d) b = absurd never
 
-  body_alike : (mark : Mark) (v w : Replies A) (tokens rest other : List ℕ)
-      → First (Body elements mark) tokens v rest → First (Body elements mark) tokens w other
-      → AreAlikeBy alike v w
+  body_alike : (mark : Mark) → Determined (AreAlikeBy alike) (Body elements mark)
   body_alike (Line mark) = ended_alike alike mark
-  body_alike (Data mark) = λ v w tokens rest other a b.
-      let (m, mid, t, s) = led_parts SizeText (DataBehind mark) tokens v rest a in
-      let (n, end, u, r) = led_parts SizeText (DataBehind mark) tokens w other b in
-      let (same, left) = size_splits.one m n tokens mid end t u in
-      let P : Option ℕ → Type 0 = λ z. First (DataBehind mark z) end w other in
-      let Q : List ℕ → Type 0 = λ z. First (DataBehind mark m) z w other in
-      bytes_alike alike mark m v w mid rest other s (subst Q (sym left) (subst P (sym same) r))
-  body_alike (Aggregate mark) = λ v w tokens rest other a b.
-      let (m, mid, t, s) = led_parts SizeText (AggregateBehind elements mark) tokens v rest a in
-      let (n, end, u, r) = led_parts SizeText (AggregateBehind elements mark) tokens w other b in
-      let (same, left) = size_splits.one m n tokens mid end t u in
-      let P : Option ℕ → Type 0 = λ z. First (AggregateBehind elements mark z) end w other in
-      let Q : List ℕ → Type 0 = λ z. First (AggregateBehind elements mark m) z w other in
-      aggregate_alike mark m v w mid rest other s (subst Q (sym left) (subst P (sym same) r))
+  body_alike (Data mark) = led_determined SizeText (DataBehind mark) (AreAlikeBy alike) size_splits
+      (bytes_alike alike mark)
+  body_alike (Aggregate mark) = led_determined SizeText (AggregateBehind elements mark)
+      (AreAlikeBy alike) size_splits (aggregate_alike mark)
 
-  marked_alike : (protocol : Protocol) (v w : Replies A) (tokens rest other : List ℕ)
-      → First (Led (MarkText protocol) (Body elements)) tokens v rest
-      → First (Led (MarkText protocol) (Body elements)) tokens w other → AreAlikeBy alike v w
-  marked_alike protocol v w tokens rest other a b =
-      let (m, mid, t, s) = led_parts (MarkText protocol) (Body elements) tokens v rest a in
-      let (n, end, u, r) = led_parts (MarkText protocol) (Body elements) tokens w other b in
-      let (same, left) = (mark_splits protocol).one m n tokens mid end t u in
-      let P : Mark → Type 0 = λ z. First (Body elements z) end w other in
-      let Q : List ℕ → Type 0 = λ z. First (Body elements m) z w other in
-      body_alike m v w mid rest other s (subst Q (sym left) (subst P (sym same) r))
+  marked_alike : (protocol : Protocol)
+      → Determined (AreAlikeBy alike) (Led (MarkText protocol) (Body elements))
+  marked_alike protocol = led_determined (MarkText protocol) (Body elements) (AreAlikeBy alike)
+      (mark_splits protocol) body_alike
 
 -- replies
-pub replies_alike : {A : Type 0} (protocol : Protocol) (level : ℕ) (v w : Replies A)
-    (tokens rest other : List ℕ) → First (ReplyText protocol level) tokens v rest
-    → First (ReplyText protocol level) tokens w other → AreAlike level v w
+pub replies_alike : {A : Type 0} (protocol : Protocol) (level : ℕ)
+    → Determined (AreAlike level) (ReplyText {A = A} protocol level)
 unfolding AreAlike Elements
 replies_alike {A} protocol zero = marked_alike (λ v w. ⊥) (Elements protocol zero)
     (λ os ps xs ys rest other never. absurd never) protocol
 replies_alike {A} protocol (suc level) =
     marked_alike (AreAlike level) (Elements protocol (suc level))
-    (rows_alike (ReplyText protocol level) (AreAlike level) (reply_unique protocol level)
-    (replies_alike protocol level)) protocol
+    (rows_determined (ReplyText protocol level) (AreAlike level) (replies_alike protocol level))
+    protocol
+
+pub reply_unique : {A : Type 0} (protocol : Protocol) (level : ℕ)
+    → IsUnique (First (ReplyText {A = A} protocol level))
+unfolding First
+reply_unique protocol level = record {
+  ends = λ tokens o rest (front, a, e). (front, e);
+  one = λ tokens o p rest other a b. (replies_alike protocol level o p tokens rest other a b).1;
+}

@@ -1,116 +1,24 @@
 -- Lemmas about the bodies of replies, which follow the first byte.
-use Rattle.std.specs.Prelude.{◌≡◌, ◌<◌, ◌≤◌, ◌^◌, ℕ, List, [], ◌++◌, length, Option, Some, None}
-use Rattle.std.specs.Prelude.{zero, suc}
+use Rattle.std.specs.Prelude.{◌≡◌, ◌<◌, ◌≤◌, ◌^◌, ℕ, List, ◌++◌, Some, None, suc}
 use Rattle.std.specs.Borrow.{Bor}
 use Rattle.std.specs.declared.vec.Vec.{Vec}
-use Rattle.std.proofs.Common.{refl, sym, ap, subst, inr, ◌∙◌, arith}
+use Rattle.std.proofs.Common.{refl, sym, subst, inr, ◌∙◌, arith}
 use Rattle.winnow.specs.Bytes.{bytes_follow, bytes_reading}
-use Rattle.winnow.specs.Grammar.{IsUnique}
-use Rattle.winnow.specs.Grammar.Unique.{unique_by}
-use Rattle.winnow.specs.InTurn.{Failed, First, Led, MatchesEachCompletion, failed_as, led_unique}
-use Rattle.winnow.specs.InTurn.{refused}
+use Rattle.winnow.specs.InTurn.{Failed, First, Led, MatchesEachCompletion, failed_as, refused}
 use Rattle.winnow.specs.InTurn.{stood_as}
-use Rattle.winnow.specs.InTurn.Rows.{RowOf, row_unique}
+use Rattle.winnow.specs.InTurn.Rows.{RowOf}
 use Rattle.winnow.specs.Input.{Input}
 use Rattle.winnow.specs.Kind.{Kind, backtrack}
 use Rattle.winnow.specs.Texts.{Text}
-use Rattle.format_resp.proofs.Rows.{same_bytes}
-use Rattle.format_resp.proofs.Integers.{size_small, size_splits}
-use Rattle.format_resp.proofs.ReadParts.{data_unique}
-use Rattle.format_resp.specs.Resp.{DataText, SizeText}
-use Rattle.format_resp.proofs.EndedLines.{ended_unique}
-use Rattle.format_resp.proofs.FirstBytes.{mark_splits}
-use Rattle.format_resp.proofs.Plain.{line_plain}
-use Rattle.format_resp.specs.Resp.{AggregateBehind, Body, DataBehind, DataSays, Elements}
-use Rattle.format_resp.specs.Resp.{LineSays, ListText, MarkText, Replies, ReplyText, gathered}
-use Rattle.format_resp.specs.Resp.{many}
+use Rattle.format_resp.proofs.Encodings.{data_determined}
+use Rattle.format_resp.proofs.LineTexts.{size_small}
+use Rattle.format_resp.specs.Resp.{DataText, SizeText, AggregateBehind, DataBehind, DataSays}
+use Rattle.format_resp.specs.Resp.{Elements, Replies, ReplyText, gathered, many}
 use Rattle.format_resp.specs.declared.marks.AggregateMark.{AggregateMark}
-use Rattle.format_resp.specs.declared.marks.AggregateMark.TheVariants.{Bar, Greater, Percent, Star}
-use Rattle.format_resp.specs.declared.marks.AggregateMark.TheVariants.{Tilde}
+use Rattle.format_resp.specs.declared.marks.AggregateMark.TheVariants.{Star}
 use Rattle.format_resp.specs.declared.marks.DataMark.{DataMark}
-use Rattle.format_resp.specs.declared.marks.DataMark.TheVariants.{Dollar, Equals, Exclamation}
-use Rattle.format_resp.specs.declared.marks.Mark.{Mark}
-use Rattle.format_resp.specs.declared.marks.Mark.TheVariants.{Aggregate, Data, Line}
+use Rattle.format_resp.specs.declared.marks.DataMark.TheVariants.{Dollar}
 use Rattle.format_resp.specs.declared.reply.Protocol.{Protocol}
-use Rattle.format_resp.specs.declared.reply.Reply as made
-
--- ---- what is left is one
-
--- what is made of what leaves one rest leaves one
-pub made_unique : {T O R : Type 0} (text : Text T O) (make : O → R) → IsUnique (First text)
-    → IsUnique (First (λ r xs. (o : O) × (r ≡ make o) × text o xs))
-unfolding First
-made_unique text make = unique_by (λ tokens r rest (front, (o, is, a), e). (o, (front, a, e)))
-
--- and nothing leaves what there is
-pub nothing_unique : {T R : Type 0} (value : R)
-    → IsUnique (First (λ r (xs : List T). (r ≡ value) × (xs ≡ [])))
-unfolding First
-nothing_unique value = record {
-  ends = λ tokens r rest (front, a, e). (front, e);
-  one = λ tokens r s rest other (xs, (is, empty), e) (ys, (are, none), d).
-      ap (λ l. l ++ rest) (sym empty) ∙ sym e ∙ d ∙ ap (λ l. l ++ other) none;
-}
-
-none_unique : {R : Type 0} → IsUnique (First {T = ℕ} (λ (r : R) xs. ⊥))
-unfolding First
-none_unique = record {
-  ends = λ tokens o rest (front, never, e). absurd never;
-  one = λ tokens o p rest other (front, never, e) b. absurd never;
-}
-
-module _ {A : Type 0} where
-  data_behind_unique : (mark : DataMark) (size : Option ℕ)
-      → IsUnique (First (DataBehind {A = A} mark size))
-  unfolding First
-  data_behind_unique mark (Some n) =
-      unique_by (λ tokens reply rest (front, (bytes, says, a), e). (bytes, (front, a, e)))
-      (data_unique n)
-  data_behind_unique Dollar None = nothing_unique made.NullBulk
-  data_behind_unique Exclamation None = none_unique
-  data_behind_unique Equals None = none_unique
-
-  module _ (elements : Text ℕ (List (Replies A)))
-      (each : (n : ℕ) → IsUnique (First (λ os xs. (length os ≡ n) × elements os xs))) where
-    list_unique : (n : ℕ) → IsUnique (First (ListText elements n))
-    unfolding First
-    list_unique n = unique_by (λ tokens list rest x. (list.items, x)) (each n)
-
-    aggregate_unique : (mark : AggregateMark) (size : Option ℕ)
-        → IsUnique (First (AggregateBehind elements mark size))
-    aggregate_unique mark (Some n) =
-        made_unique (ListText elements (many mark n)) (λ list. gathered mark list)
-        (list_unique (many mark n))
-    aggregate_unique Star None = nothing_unique made.NullArray
-    aggregate_unique Percent None = none_unique
-    aggregate_unique Tilde None = none_unique
-    aggregate_unique Greater None = none_unique
-    aggregate_unique Bar None = none_unique
-
-    body_unique : (mark : Mark) → IsUnique (First (Body elements mark))
-    body_unique (Line mark) = ended_unique (LineSays mark) (line_plain mark)
-    body_unique (Data mark) =
-        led_unique SizeText (DataBehind mark) size_splits (data_behind_unique mark)
-    body_unique (Aggregate mark) =
-        led_unique SizeText (AggregateBehind elements mark) size_splits (aggregate_unique mark)
-
-  -- a reply
-  pub reply_unique : (protocol : Protocol) (level : ℕ)
-      → IsUnique (First (ReplyText {A = A} protocol level))
-  unfolding First Elements
-  reply_unique protocol level =
-      led_unique (MarkText protocol) (Body (Elements protocol level)) (mark_splits protocol)
-      (body_unique (Elements protocol level) (each level))
-    where
-      each : (level : ℕ) (n : ℕ)
-          → IsUnique (First (λ os xs. (length os ≡ n) × Elements {A = A} protocol level os xs))
-      each zero n = record {
-        ends = λ tokens o rest (front, (many, never), e). absurd never;
-        one = λ tokens o p rest other (front, (many, never), e) b. absurd never;
-      }
-      each (suc k) n = row_unique (ReplyText protocol k)
-          (led_unique (MarkText protocol) (Body (Elements protocol k)) (mark_splits protocol)
-          (body_unique (Elements protocol k) (each k))) n
 
 -- ---- bytes
 
@@ -140,9 +48,9 @@ module _ {A : Type 0} {i j : Input ℕ} (mark : DataMark) (n : ℕ) where
     none = inr (inr (λ more c. (
       b,
       λ reply rest (front, (other, says, a), e).
-          let P : List ℕ → Type 0 = λ l. DataSays mark reply l in
-          never reply (subst P (same_bytes n other bytes (i.left.tokens ++ more) rest
-          (j.left.tokens ++ more) (front, a, e) (s.stands more c)) says),
+          never reply (subst (DataSays mark reply) (data_determined n other bytes
+          (i.left.tokens ++ more) rest (j.left.tokens ++ more) (front, a, e)
+          (s.stands more c)).0 says),
     )));
   }
 
@@ -152,8 +60,7 @@ pub no_null_data : {A : Type 0} {i : Input ℕ} {k : Kind} (mark : DataMark)
     → Failed bytes_reading bytes_follow (First (DataBehind {A = A} mark None)) i k i
 unfolding First
 no_null_data Dollar other b = absurd (other refl)
-no_null_data Exclamation other b = refused b (λ tokens reply rest (front, never, e). never)
-no_null_data Equals other b = refused b (λ tokens reply rest (front, never, e). never)
+no_null_data mark other b = refused b (λ tokens reply rest (front, never, e). never)
 
 -- ---- aggregates
 
@@ -163,13 +70,7 @@ pub no_null_aggregate : {A : Type 0} {i : Input ℕ} {k : Kind}
     → Failed bytes_reading bytes_follow (First (AggregateBehind elements mark None)) i k i
 unfolding First
 no_null_aggregate elements Star other b = absurd (other refl)
-no_null_aggregate elements Percent other b =
-    refused b (λ tokens reply rest (front, never, e). never)
-no_null_aggregate elements Tilde other b =
-    refused b (λ tokens reply rest (front, never, e). never)
-no_null_aggregate elements Greater other b =
-    refused b (λ tokens reply rest (front, never, e). never)
-no_null_aggregate elements Bar other b =
+no_null_aggregate elements mark other b =
     refused b (λ tokens reply rest (front, never, e). never)
 
 module _ {A : Type 0} {i : Input ℕ} (protocol : Protocol) (level : ℕ) (mark : AggregateMark)
@@ -220,7 +121,4 @@ too_many elements mark n much b s = record {
   where
     no : (mark : AggregateMark) → n < 2 ^ 63 → 2 ^ 64 ≤ many mark n → ⊥
     no Star small large = omega (arith, small, large)
-    no Percent small large = omega (arith, small, large)
-    no Tilde small large = omega (arith, small, large)
-    no Greater small large = omega (arith, small, large)
-    no Bar small large = omega (arith, small, large)
+    no mark small large = omega (arith, small, large)

@@ -1,18 +1,18 @@
 -- Lemmas about the continuation of a reply after the bytes passed.
 use Rattle.std.specs.Prelude.{◌≡◌, ◌↔◌, ◌≤◌, ◌+◌, ◌^◌, ⊤, ℕ, zero, suc, List, [], ◌∷◌}
-use Rattle.std.specs.Prelude.{◌++◌}
-use Rattle.std.specs.Prelude.{None, Option, Some, length}
+use Rattle.std.specs.Prelude.{◌++◌, None}
+use Rattle.std.specs.Prelude.{Option, Some, length}
 use Rattle.std.specs.Borrow.{Bor}
 use Rattle.std.proofs.Common.{refl, sym, ap, subst, ◌∙◌, arith, append_assoc}
 use Rattle.std.proofs.lemmas.List.{append-nil}
 use Rattle.winnow.specs.Grammar.Inversion.{slice_for}
 use Rattle.winnow.specs.InTurn.{First, Led}
 use Rattle.winnow.specs.Texts.{EachText, Text}
-use Rattle.format_resp.proofs.Deeper.{deeper, list_for, row_as}
+use Rattle.format_resp.proofs.WrittenTexts.{deeper, list_for, row_as}
 use Rattle.format_resp.proofs.FirstBytes.{not_resp3}
 use Rattle.format_resp.proofs.FirstLines.{head_splits}
-use Rattle.format_resp.proofs.Integers.{size_small}
-use Rattle.format_resp.proofs.ReadParts.{data_unique}
+use Rattle.format_resp.proofs.LineTexts.{size_small}
+use Rattle.format_resp.proofs.Encodings.{data_determined}
 use Rattle.format_resp.specs.Extents.{AreDue, AreReplies, IsReply, MatchesAtStart, count_after}
 use Rattle.format_resp.specs.Extents.{data_after}
 use Rattle.format_resp.specs.Heads.{HeadText, Says, array_head, bulk_head}
@@ -20,11 +20,9 @@ use Rattle.format_resp.specs.Resp.{AggregateBehind, Body, DataBehind, DataText, 
 use Rattle.format_resp.specs.Resp.{IsIn, MarkText, Replies, ReplyText, Shown, SizeText, line_end}
 use Rattle.format_resp.specs.declared.heads.Head.{Head}
 use Rattle.format_resp.specs.declared.heads.Head.TheVariants as heads
-use Rattle.format_resp.specs.declared.marks.AggregateMark.TheVariants.{Bar, Greater, Percent, Star}
-use Rattle.format_resp.specs.declared.marks.AggregateMark.TheVariants.{Tilde}
-use Rattle.format_resp.specs.declared.marks.DataMark.TheVariants.{Dollar, Equals, Exclamation}
-use Rattle.format_resp.specs.declared.marks.LineMark.TheVariants.{Colon, Comma, Hash, Minus}
-use Rattle.format_resp.specs.declared.marks.LineMark.TheVariants.{Parenthesis, Plus, Underscore}
+use Rattle.format_resp.specs.declared.marks.AggregateMark.TheVariants.{Star}
+use Rattle.format_resp.specs.declared.marks.DataMark.TheVariants.{Dollar}
+use Rattle.format_resp.specs.declared.marks.LineMark.TheVariants.{Colon, Minus, Plus}
 use Rattle.format_resp.specs.declared.marks.Mark.{Mark}
 use Rattle.format_resp.specs.declared.marks.Mark.TheVariants.{Aggregate, Data, Line}
 use Rattle.format_resp.specs.declared.reply.Protocol.TheVariants.{Resp2}
@@ -79,7 +77,7 @@ module _ {A : Type 0} (elements : Text ℕ (List (Replies A)))
       → AggregateBehind elements Star size reply xs → BodyAfterLine (array_head size) xs
   array_there None reply xs (is, empty) = empty
   array_there (Some n) reply xs (list, is, (count, row)) =
-      let P : ℕ → Type 0 = λ k. AreReplies k xs in subst P count (are list.items xs row)
+      rw count at (are list.items xs row)
 
   body_there : (mark : Mark) (reply : Replies A) (xs : List ℕ) → IsIn Resp2 mark
       → Body elements mark reply xs
@@ -96,16 +94,7 @@ module _ {A : Type 0} (elements : Text ℕ (List (Replies A)))
       (bulk_head size, us, vs, (line, (size, refl, a), f), bulk_there size reply vs b, e)
   body_there (Aggregate Star) reply xs within (size, us, vs, (line, a, f), b, e) =
       (array_head size, us, vs, (line, (size, refl, a), f), array_there size reply vs b, e)
-  body_there (Line Underscore) reply xs within x = not_resp3 within
-  body_there (Line Hash) reply xs within x = not_resp3 within
-  body_there (Line Comma) reply xs within x = not_resp3 within
-  body_there (Line Parenthesis) reply xs within x = not_resp3 within
-  body_there (Data Exclamation) reply xs within x = not_resp3 within
-  body_there (Data Equals) reply xs within x = not_resp3 within
-  body_there (Aggregate Percent) reply xs within x = not_resp3 within
-  body_there (Aggregate Tilde) reply xs within x = not_resp3 within
-  body_there (Aggregate Greater) reply xs within x = not_resp3 within
-  body_there (Aggregate Bar) reply xs within x = not_resp3 within
+  body_there mark reply xs within x = not_resp3 within
 
   led_there : (reply : Replies A) (xs : List ℕ) → Led (MarkText Resp2) (Body elements) reply xs
       → (head : Head) × (us : List ℕ) × (vs : List ℕ) × HeadText head us × BodyAfterLine head vs
@@ -147,8 +136,7 @@ array_back (Some n) us xs s many =
 flat : {head : Head} (us vs line : List ℕ) → head ≡ heads.Ends → BodyAfterLine head vs
     → us ≡ line ++ line_end → us ++ vs ≡ line ++ line_end
 flat {head} us vs line is behind e =
-    let P : Head → Type 0 = λ h. BodyAfterLine h vs in
-    ap (λ l. us ++ l) (subst P is behind) ∙ append-nil us ∙ e
+    ap (λ l. us ++ l) (rw is at behind) ∙ append-nil us ∙ e
 
 body_back : (mark : Mark) (head : Head) (us vs : List ℕ) → Ended (Says mark) head us
     → BodyAfterLine head vs → (level : ℕ) × (reply : Replies ⊤)
@@ -163,23 +151,12 @@ body_back (Line Minus) head us vs (line, (is, all), e) behind =
 body_back (Line Colon) head us vs (line, (is, (n, a)), e) behind =
     (0, made.Integer n, (line, (n, refl, a), flat us vs line is behind e))
 body_back (Data Dollar) head us vs (line, (size, is, a), e) behind =
-    let P : Head → Type 0 = λ h. BodyAfterLine h vs in
-    let (reply, b) = bulk_back size vs (subst P is behind) in
+    let (reply, b) = bulk_back size vs (rw is at behind) in
     (0, reply, (size, us, vs, (line, a, e), b, refl))
 body_back (Aggregate Star) head us vs (line, (size, is, a), e) behind =
-    let P : Head → Type 0 = λ h. BodyAfterLine h vs in
-    let (level, reply, b) = array_back size us vs (line, a, e) (subst P is behind) in
+    let (level, reply, b) = array_back size us vs (line, a, e) (rw is at behind) in
     (level, reply, (size, us, vs, (line, a, e), b, refl))
-body_back (Line Underscore) head us vs (line, never, e) behind = absurd never
-body_back (Line Hash) head us vs (line, never, e) behind = absurd never
-body_back (Line Comma) head us vs (line, never, e) behind = absurd never
-body_back (Line Parenthesis) head us vs (line, never, e) behind = absurd never
-body_back (Data Exclamation) head us vs (line, never, e) behind = absurd never
-body_back (Data Equals) head us vs (line, never, e) behind = absurd never
-body_back (Aggregate Percent) head us vs (line, never, e) behind = absurd never
-body_back (Aggregate Tilde) head us vs (line, never, e) behind = absurd never
-body_back (Aggregate Greater) head us vs (line, never, e) behind = absurd never
-body_back (Aggregate Bar) head us vs (line, never, e) behind = absurd never
+body_back mark head us vs (line, never, e) behind = absurd never
 
 pub head_back : (head : Head) (us vs : List ℕ) → HeadText head us → BodyAfterLine head vs
     → IsReply (us ++ vs)
@@ -194,23 +171,23 @@ head_back head us vs (mark, ms, bs, m, says, d) behind =
 -- ---- replies of any allocator
 
 module _ {A : Type 0} where
+  reply_from : (level : ℕ) → ((os : List (Replies A)) (xs : List ℕ)
+      → Elements Resp2 level os xs → AreReplies (length os) xs)
+      → (reply : Replies A) (xs : List ℕ) → ReplyText Resp2 level reply xs → IsReply xs
+  reply_from level are reply xs t =
+      let (head, us, vs, text, behind, e) = led_there (Elements Resp2 level) are reply xs t in
+      subst IsReply (sym e) (head_back head us vs text behind)
+
   are_replies : (level : ℕ) (os : List (Replies A)) (xs : List ℕ) → Elements Resp2 level os xs
       → AreReplies (length os) xs
   unfolding Elements
   are_replies zero os xs never = absurd never
-  are_replies (suc level) os xs row = spread (ReplyText Resp2 level) (λ o ys t.
-      let (head, us, vs, text, behind, e) =
-      led_there (Elements Resp2 level) (are_replies level) o ys t in
-      let P : List ℕ → Type 0 = λ l. IsReply l in
-      subst P (sym e) (head_back head us vs text behind)) os xs row
+  are_replies (suc level) os xs row =
+      spread (ReplyText Resp2 level) (reply_from level (are_replies level)) os xs row
 
-  pub reply_any : (level : ℕ) (reply : Replies A) (xs : List ℕ) → ReplyText Resp2 level reply xs
+  reply_any : (level : ℕ) (reply : Replies A) (xs : List ℕ) → ReplyText Resp2 level reply xs
       → IsReply xs
-  reply_any level reply xs t =
-      let (head, us, vs, text, behind, e) =
-      led_there (Elements Resp2 level) (are_replies level) reply xs t in
-      let P : List ℕ → Type 0 = λ l. IsReply l in
-      subst P (sym e) (head_back head us vs text behind)
+  reply_any level = reply_from level (are_replies level)
 
 pub head_there : (xs : List ℕ) → IsReply xs → (head : Head) × (us : List ℕ) × (vs : List ℕ)
     × HeadText head us × BodyAfterLine head vs × (xs ≡ us ++ vs)
@@ -290,8 +267,7 @@ line_passed head n tokens left (hs, text, f) rest = (
       ∙ append_assoc us (vs ++ ys) rest in
       let (same, lefts) = head_splits.one other head tokens ((vs ++ ys) ++ rest) left
       (us, first, split) (hs, text, f) in
-      let P : Head → Type 0 = λ h. BodyAfterLine h vs in
-      (vs ++ ys, due_of head n vs ys (subst P same behind) many, sym lefts),
+      (vs ++ ys, due_of head n vs ys (rw same at behind) many, sym lefts),
   λ (front, due, d).
       let (us, vs, behind, many, e) = of_due head n front due in (
         (hs ++ us) ++ vs,
@@ -313,8 +289,8 @@ data_passed size n bulk tokens left (hs, text, f) rest = (
       d ∙ ap (λ l. l ++ rest) e ∙ append_assoc xs ys rest in (
         ys,
         many,
-        sym ((data_unique size).one tokens other bulk (ys ++ rest) left (xs, t, split)
-            (hs, text, f)),
+        sym (data_determined size other bulk tokens (ys ++ rest) left (xs, t, split)
+            (hs, text, f)).1,
       ),
   λ (front, many, d). (
     hs ++ front,
@@ -334,16 +310,7 @@ says_small (Data Dollar) head n line (None, is, s) = rw is (omega arith)
 says_small (Data Dollar) head n line (Some k, is, s) = rw is (omega arith)
 says_small (Aggregate Star) head n line (None, is, s) = rw is (omega arith)
 says_small (Aggregate Star) head n line (Some k, is, (a, small)) = rw is (omega (arith, small))
-says_small (Line Underscore) head n line never = absurd never
-says_small (Line Hash) head n line never = absurd never
-says_small (Line Comma) head n line never = absurd never
-says_small (Line Parenthesis) head n line never = absurd never
-says_small (Data Exclamation) head n line never = absurd never
-says_small (Data Equals) head n line never = absurd never
-says_small (Aggregate Percent) head n line never = absurd never
-says_small (Aggregate Tilde) head n line never = absurd never
-says_small (Aggregate Greater) head n line never = absurd never
-says_small (Aggregate Bar) head n line never = absurd never
+says_small mark head n line never = absurd never
 
 -- the number of replies in a line fits in 64 bits
 pub small_head : (head : Head) (n : ℕ) (xs : List ℕ) → HeadText head xs

@@ -1,6 +1,5 @@
 -- The first bytes of replies.
-use Rattle.std.specs.Prelude.{◌≡◌, ◌==◌, ℕ, [], ◌∷◌, ◌++◌, Option, Some, None}
-use Rattle.std.specs.Prelude.{if◌then◌else◌}
+use Rattle.std.specs.Prelude.{◌≡◌, ◌==◌, ℕ, [], ◌∷◌, ◌++◌, Option, Some, None, if◌then◌else◌}
 use Rattle.std.proofs.Common.{refl, sym, ap, inr, ◌∙◌}
 use Rattle.winnow.specs.Bytes.{bytes_follow, bytes_reading}
 use Rattle.winnow.specs.Equal.{same_first, same_others, same_some}
@@ -42,20 +41,9 @@ mark_at byte =
 at_byte : (mark : Mark) → mark_at (byte_of mark) ≡ Some mark
 unfolding mark_at
 at_byte (Line Plus) = refl
-at_byte (Line Minus) = refl
-at_byte (Line Colon) = refl
-at_byte (Line Underscore) = refl
-at_byte (Line Hash) = refl
-at_byte (Line Comma) = refl
-at_byte (Line Parenthesis) = refl
 at_byte (Data Dollar) = refl
-at_byte (Data Exclamation) = refl
-at_byte (Data Equals) = refl
 at_byte (Aggregate Star) = refl
-at_byte (Aggregate Percent) = refl
-at_byte (Aggregate Tilde) = refl
-at_byte (Aggregate Greater) = refl
-at_byte (Aggregate Bar) = refl
+at_byte mark = refl
 
 pub one_mark : (x y : Mark) → byte_of x ≡ byte_of y → x ≡ y
 one_mark x y e = same_some (sym (at_byte x) ∙ ap mark_at e ∙ at_byte y)
@@ -65,18 +53,9 @@ pub of_resp3 : (mark : Mark) → IsIn Resp3 mark
 of_resp3 (Line Plus) = tt
 of_resp3 (Line Minus) = tt
 of_resp3 (Line Colon) = tt
-of_resp3 (Line Underscore) = refl
-of_resp3 (Line Hash) = refl
-of_resp3 (Line Comma) = refl
-of_resp3 (Line Parenthesis) = refl
 of_resp3 (Data Dollar) = tt
-of_resp3 (Data Exclamation) = refl
-of_resp3 (Data Equals) = refl
 of_resp3 (Aggregate Star) = tt
-of_resp3 (Aggregate Percent) = refl
-of_resp3 (Aggregate Tilde) = refl
-of_resp3 (Aggregate Greater) = refl
-of_resp3 (Aggregate Bar) = refl
+of_resp3 mark = refl
 
 pub not_resp3 : {P : Type 0} → Resp2 ≡ Resp3 → P
 not_resp3 e = absurd cc

@@ -5,19 +5,16 @@ use Rattle.std.proofs.Common.{refl, sym, inl, ap, subst, ◌∙◌, append_assoc
 use Rattle.winnow.specs.Equal.{same_first, same_others}
 use Rattle.winnow.specs.InTurn.{First, Led, Splits}
 use Rattle.winnow.specs.Texts.{Text}
-use Rattle.format_resp.proofs.EndedLines.{IsPlain, ended_splits}
+use Rattle.format_resp.proofs.LineEnds.{IsPlain, ended_splits, open_endless, return_ends, until_end}
 use Rattle.format_resp.proofs.FirstBytes.{mark_splits, one_mark}
-use Rattle.format_resp.proofs.Integers.{one_size, signed_plain, size_plain}
-use Rattle.format_resp.proofs.LineEnds.{open_endless, return_ends, until_end}
+use Rattle.format_resp.proofs.LineTexts.{one_size, signed_plain, size_plain}
 use Rattle.format_resp.specs.Heads.{HeadText, IsLinePrefix, Says, array_head, bulk_head}
 use Rattle.format_resp.specs.Lines.{EndsLine, IsOpen}
 use Rattle.format_resp.specs.Resp.{Ended, InLine, IsIn, MarkText, byte_of, line_end}
 use Rattle.format_resp.specs.declared.heads.Head.{Head}
-use Rattle.format_resp.specs.declared.marks.AggregateMark.TheVariants.{Bar, Greater, Percent, Star}
-use Rattle.format_resp.specs.declared.marks.AggregateMark.TheVariants.{Tilde}
-use Rattle.format_resp.specs.declared.marks.DataMark.TheVariants.{Dollar, Equals, Exclamation}
-use Rattle.format_resp.specs.declared.marks.LineMark.TheVariants.{Colon, Comma, Hash, Minus}
-use Rattle.format_resp.specs.declared.marks.LineMark.TheVariants.{Parenthesis, Plus, Underscore}
+use Rattle.format_resp.specs.declared.marks.AggregateMark.TheVariants.{Star}
+use Rattle.format_resp.specs.declared.marks.DataMark.TheVariants.{Dollar}
+use Rattle.format_resp.specs.declared.marks.LineMark.TheVariants.{Colon, Minus, Plus}
 use Rattle.format_resp.specs.declared.marks.Mark.{Mark}
 use Rattle.format_resp.specs.declared.marks.Mark.TheVariants.{Aggregate, Data, Line}
 use Rattle.format_resp.specs.declared.reply.Protocol.TheVariants.{Resp2}
@@ -43,16 +40,7 @@ says_all (Line Minus) head line (is, all) = all
 says_all (Line Colon) head line (is, (n, a)) = signed_plain n line a
 says_all (Data Dollar) head line (size, is, a) = size_plain.plain size line a
 says_all (Aggregate Star) head line (size, is, a) = size_plain.plain size line a
-says_all (Line Underscore) head line never = absurd never
-says_all (Line Hash) head line never = absurd never
-says_all (Line Comma) head line never = absurd never
-says_all (Line Parenthesis) head line never = absurd never
-says_all (Data Exclamation) head line never = absurd never
-says_all (Data Equals) head line never = absurd never
-says_all (Aggregate Percent) head line never = absurd never
-says_all (Aggregate Tilde) head line never = absurd never
-says_all (Aggregate Greater) head line never = absurd never
-says_all (Aggregate Bar) head line never = absurd never
+says_all mark head line never = absurd never
 
 says_plain : (mark : Mark) → IsPlain (Says mark)
 says_plain mark = record { plain = says_all mark }
@@ -66,16 +54,7 @@ says_one (Data Dollar) head other line (m, is, a) (n, are, b) =
     is ∙ ap bulk_head (one_size m n line a b) ∙ sym are
 says_one (Aggregate Star) head other line (m, is, a) (n, are, b) =
     is ∙ ap array_head (one_size m n line a b) ∙ sym are
-says_one (Line Underscore) head other line never b = absurd never
-says_one (Line Hash) head other line never b = absurd never
-says_one (Line Comma) head other line never b = absurd never
-says_one (Line Parenthesis) head other line never b = absurd never
-says_one (Data Exclamation) head other line never b = absurd never
-says_one (Data Equals) head other line never b = absurd never
-says_one (Aggregate Percent) head other line never b = absurd never
-says_one (Aggregate Tilde) head other line never b = absurd never
-says_one (Aggregate Greater) head other line never b = absurd never
-says_one (Aggregate Bar) head other line never b = absurd never
+says_one mark head other line never b = absurd never
 
 pub head_splits : Splits HeadText
 head_splits = splits_led (MarkText Resp2) (λ mark. Ended (Says mark)) (mark_splits Resp2)
@@ -150,9 +129,8 @@ pub start_unmarked : (tokens text : List ℕ) (byte : ℕ) → tokens ≡ byte �
     → ((mark : Mark) → IsIn Resp2 mark → byte ≡ byte_of mark → ⊥) → (more : List ℕ)
     (head : Head) (rest : List ℕ) → First HeadText (tokens ++ more) head rest → ⊥
 start_unmarked tokens text byte split none more head rest x =
-    let P : List ℕ → Type 0 = λ l. First HeadText (l ++ more) head rest in
     let (mark, line, within, is, ends, says) =
-    start_line head byte (text ++ more) rest (subst P split x) in
+    start_line head byte (text ++ more) rest (rw split at x) in
     none mark within is
 
 -- none where none will be
@@ -160,9 +138,8 @@ pub start_never : (tokens text : List ℕ) (byte : ℕ) → tokens ≡ byte ∷ 
     → ((more line rest : List ℕ) → EndsLine (text ++ more) line rest → ⊥) → (more : List ℕ)
     (head : Head) (rest : List ℕ) → First HeadText (tokens ++ more) head rest → ⊥
 start_never tokens text byte split none more head rest x =
-    let P : List ℕ → Type 0 = λ l. First HeadText (l ++ more) head rest in
     let (mark, line, within, is, ends, says) =
-    start_line head byte (text ++ more) rest (subst P split x) in
+    start_line head byte (text ++ more) rest (rw split at x) in
     none more line rest ends
 
 -- no head starts here if its line is invalid
@@ -171,41 +148,30 @@ pub start_silent : (tokens text line left : List ℕ) (byte : ℕ) (mark : Mark)
     → ((head : Head) → Says mark head line → ⊥) → (more : List ℕ) (head : Head)
     (rest : List ℕ) → First HeadText (tokens ++ more) head rest → ⊥
 start_silent tokens text line left byte mark split is (all, e) none more head rest x =
-    let P : List ℕ → Type 0 = λ l. First HeadText (l ++ more) head rest in
     let (other, back, within, are, (every, f), says) =
-    start_line head byte (text ++ more) rest (subst P split x) in
+    start_line head byte (text ++ more) rest (rw split at x) in
     let (same, first, rests) = until_end 13 13 line back (10 ∷ left ++ more) (10 ∷ rest) all every
     return_ends return_ends (sym (append_assoc line (13 ∷ 10 ∷ left) more)
     ∙ ap (λ l. l ++ more) (sym e) ∙ f) in
-    let Q : Mark → Type 0 = λ m. Says m head line in
-    let R : List ℕ → Type 0 = λ l. Says other head l in
-    none head (subst Q (one_mark other mark (sym are ∙ is)) (subst R (sym same) says))
+    none head (subst (λ m. Says m head line) (one_mark other mark (sym are ∙ is))
+    (subst (Says other head) (sym same) says))
 
 -- ---- what is sought after the first byte
 
-text_is : (tokens text : List ℕ) (byte : ℕ) → tokens ≡ byte ∷ text → drop 1 tokens ≡ text
-text_is tokens text byte e = ap (λ l. drop 1 l) e
-
 pub sought_text : (tokens text : List ℕ) (byte n : ℕ) → tokens ≡ byte ∷ text
     → AllByRecursion InLine (take n (drop 1 tokens)) → AllByRecursion InLine (take n text)
-sought_text tokens text byte n e =
-    let P : List ℕ → Type 0 = λ l. AllByRecursion InLine (take n l) in
-    subst P (text_is tokens text byte e)
+sought_text tokens text byte n e all = rw e at all
 
 pub text_sought : (tokens text : List ℕ) (byte n : ℕ) (mark : Mark) → tokens ≡ byte ∷ text
     → IsIn Resp2 mark → byte ≡ byte_of mark
     → (n ≤ length text) × AllByRecursion InLine (take n text) × IsOpen text
     → (n ≤ length (drop 1 tokens)) × AllByRecursion InLine (take n (drop 1 tokens))
     × IsLinePrefix tokens
-text_sought tokens text byte n mark e within is (enough, all, begun) =
-    let P : List ℕ → Type 0 = λ l. AllByRecursion InLine (take n l) in
-    let Q : List ℕ → Type 0 = λ l. n ≤ length l in
-    let R : List ℕ → Type 0 = λ l. IsOpen l in
-    let same = sym (text_is tokens text byte e) in (
-      subst Q same enough,
-      subst P same all,
-      record {
-        marked = λ b t d. (mark, within, same_first (sym d ∙ e) ∙ is);
-        begun = subst R same begun;
-      },
-    )
+text_sought tokens text byte n mark e within is (enough, all, begun) = rw e (
+  enough,
+  all,
+  record {
+    marked = λ b t d. (mark, within, sym (same_first d) ∙ is);
+    begun = begun;
+  },
+)

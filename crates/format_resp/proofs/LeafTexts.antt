@@ -1,13 +1,8 @@
 -- That lines and bytes are what their parsers read.
-use Rattle.std.specs.Prelude.{◌≡◌, ◌==◌, ℕ, Bool, true, false, IsTrue, ◌↔◌, None, List, [], ◌∷◌}
-use Rattle.std.specs.Prelude.{◌++◌}
-use Rattle.std.specs.Prelude.{length}
+use Rattle.std.specs.Prelude.{◌≡◌, ℕ, Bool, IsTrue, ◌↔◌, None, List, [], ◌∷◌, ◌++◌}
 use Rattle.std.specs.Borrow.{Bor}
 use Rattle.std.proofs.Common.{refl, sym, ap, subst, inl, ◌∙◌, append_assoc}
-use Rattle.std.proofs.lemmas.Bool.{eq-eqb, eqb-true}
-use Rattle.std.proofs.lemmas.List.{nil_from_length}
 use Rattle.winnow.specs.Bytes.{bytes_reading}
-use Rattle.winnow.specs.Equal.{true_is_false}
 use Rattle.winnow.specs.Kind.{Kind, backtrack, memory}
 use Rattle.winnow.specs.Range.{from_to}
 use Rattle.winnow.specs.Sets.{InEither}
@@ -17,8 +12,7 @@ use Rattle.winnow.specs.Once.{Others}
 use Rattle.winnow.specs.Grammar.Inversion.{slice_for}
 use Rattle.winnow.specs.Grammar.Searches as searches
 use Rattle.winnow.specs.Texts.{IsGrammarOf, Text}
-use Rattle.winnow.specs.Texts.Tokens.{counted_of, divides_either, divides_others}
-use Rattle.winnow.specs.Texts.Tokens.{divides_seen}
+use Rattle.winnow.specs.Texts.Tokens.{counted_of, divides_either, divides_others, divides_seen}
 use Rattle.winnow.specs.Texts.Tokens.{divides_where, longest_of}
 use Rattle.winnow.specs.InTurn.{First}
 use Rattle.format_resp.specs.Resp.{DataText, Ended, LineText, line_end}
@@ -34,10 +28,9 @@ ended_of : {O : Type 0} {g : Grammar ℕ O} (text : Text ℕ O) {follow : List �
 unfolding Both Literally Ended First
 ended_of {O} {g} text is may = record {
   there = λ tokens o rest (o1, o2, mid, x, (ys, slice, (end, was, spelled), shown, d, same), out).
-      let (xs, e, a) = is.there tokens o1 mid x in
-      let P : O → Type 0 = λ p. text p xs in (
+      let (xs, e, a) = is.there tokens o1 mid x in (
         xs ++ line_end,
-        (xs, subst P (sym out) a, refl),
+        (xs, subst (λ p. text p xs) (sym out) a, refl),
         e ∙ ap (λ l. xs ++ l) (d ∙ ap (λ l. l ++ rest) (spelled ∙ was))
             ∙ sym (append_assoc xs line_end rest),
       );
@@ -76,14 +69,6 @@ pub same_data : (n : ℕ) → Same (Both (λ o1 o2. o1) (Counted bytes_reading n
     (First (DataText n))
 unfolding DataText
 same_data n = ended_of _ (counted_of bytes_reading n) (λ rest. tt)
-
--- nothing is left where the length is 0
-pub is_none : (rest : List ℕ) (b : Bool) → b ≡ (length rest == 0) → b ≡ true → rest ≡ []
-is_none rest b e is = nil_from_length rest (eqb-true (length rest) 0 (sym e ∙ is))
-
-pub is_some : (rest : List ℕ) (b : Bool) → b ≡ (length rest == 0) → b ≡ false → rest ≡ [] → ⊥
-is_some rest b e is none =
-    true_is_false (sym (eq-eqb (length rest) 0 (ap (λ l. length l) none)) ∙ sym e ∙ is)
 
 -- a call that fails with an error other than out of memory
 pub not_wanting : (k : Kind) → k ≡ memory → k ≡ backtrack → ⊥

@@ -1,7 +1,7 @@
--- Lemmas about the end of a line: it is at the first byte of a line ending.
+-- Lemmas about the end of a line, which is at the first byte of a line ending, and about texts on
+-- lines of their own.
 use Rattle.std.specs.Prelude.{◌≡◌, ◌≤◌, ◌<◌, ◌+◌, ℕ, zero, suc, List, [], ◌∷◌, ◌++◌, length, take}
-use Rattle.std.specs.Prelude.{drop}
-use Rattle.std.specs.Prelude.{◌-◌, ◌⊎◌, slice_index, true}
+use Rattle.std.specs.Prelude.{drop, ◌-◌, ◌⊎◌, slice_index, true}
 use Rattle.std.specs.List.{AllByRecursion}
 use Rattle.std.proofs.Common.{refl, sym, ap, subst, inl, inr, ◌∙◌, arith, append_assoc, get_or}
 use Rattle.std.proofs.Common.{length-append, length-drop}
@@ -9,10 +9,19 @@ use Rattle.std.proofs.Math.Seq.{take-add, take-append_seam}
 use Rattle.std.proofs.lemmas.Bool.Decides.{nat_tests}
 use Rattle.std.proofs.lemmas.List.{get_or-drop, take_all}
 use Rattle.memchr.specs.Find.{is_byte2}
+use Rattle.winnow.specs.Equal.{same_first, same_others}
 use Rattle.format_resp.specs.Lines.{EndsLine, IsLessLine, IsOpen}
 use Rattle.format_resp.specs.declared.lines.Line.{Line}
 use Rattle.format_resp.specs.declared.lines.Line.TheVariants.{Never, Open, Whole}
-use Rattle.format_resp.specs.Resp.{InLine}
+use Rattle.format_resp.specs.Resp.{InLine, line_end, Ended, LineText}
+use Rattle.std.specs.Borrow.{Bor}
+use Rattle.std.proofs.lemmas.List.Elements.{All-from_recursion, recursion_from_All}
+use Rattle.winnow.specs.Bytes.{bytes_follow, bytes_reading}
+use Rattle.winnow.specs.Grammar.Inversion.{slice_for}
+use Rattle.winnow.specs.InTurn.{Failed, First, Splits, MatchesEachCompletion, failed_as, stood_as}
+use Rattle.winnow.specs.Input.{Input}
+use Rattle.winnow.specs.Kind.{Kind, backtrack}
+use Rattle.winnow.specs.Texts.{Members, Text}
 
 pub all_append : (xs ys : List ℕ) → AllByRecursion InLine xs → AllByRecursion InLine ys
     → AllByRecursion InLine (xs ++ ys)
@@ -43,10 +52,8 @@ pub plain_before : (xs unseen : List ℕ) (n k : ℕ) → unseen ≡ drop n xs
     → ((j : ℕ) → j < k → is_byte2 13 10 (slice_index unseen j) ≡ true → ⊥)
     → AllByRecursion InLine (take (n + k) xs)
 plain_before xs unseen n k e all none =
-    let P : List ℕ → Type 0 = λ l. AllByRecursion InLine l in
-    let Q : List ℕ → Type 0 = λ l. AllByRecursion InLine (take k l) in
-    subst P (sym (take-add n k xs))
-    (all_append (take n xs) (take k (drop n xs)) all (subst Q e (none_plain unseen k none)))
+    subst (AllByRecursion InLine) (sym (take-add n k xs))
+    (all_append (take n xs) (take k (drop n xs)) all (rw e at (none_plain unseen k none)))
 
 -- no line ends in a line
 pub plain_none : (xs line rest : List ℕ) → AllByRecursion InLine xs
@@ -63,18 +70,25 @@ pub until_end : (c d : ℕ) (xs ys rest other : List ℕ) → AllByRecursion InL
     → xs ++ (c ∷ rest) ≡ ys ++ (d ∷ other) → (xs ≡ ys) × (c ≡ d) × (rest ≡ other)
 until_end c d [] [] rest other a b m n e = (refl, cc, cc)
 until_end c d [] (y ∷ ys) rest other a b m n e =
-    let P : ℕ → Type 0 = λ z. InLine z in
-    absurd (m (subst P (let f : y ≡ c = cc in f) b.0))
-until_end c d (x ∷ xs) [] rest other a b m n e =
-    let P : ℕ → Type 0 = λ z. InLine z in
-    absurd (n (subst P (let f : x ≡ d = cc in f) a.0))
+    absurd (m (subst InLine (sym (same_first e)) b.0))
+until_end c d (x ∷ xs) [] rest other a b m n e = absurd (n (subst InLine (same_first e) a.0))
 until_end c d (x ∷ xs) (y ∷ ys) rest other a b m n e =
-    let (same, first, left) = until_end c d xs ys rest other a.1 b.1 m n
-    (let f : xs ++ (c ∷ rest) ≡ ys ++ (d ∷ other) = cc in f) in
+    let (same, first, left) = until_end c d xs ys rest other a.1 b.1 m n (same_others e) in
     (let f : x ∷ xs ≡ y ∷ ys = cc in f, first, left)
 
 pub return_ends : InLine 13 → ⊥
 return_ends a = a.0 refl
+
+-- lines at the start of the same tokens are equal
+pub one_line : (tokens front back xs ys rest other : List ℕ) → AllByRecursion InLine xs
+    → AllByRecursion InLine ys → front ≡ xs ++ line_end → tokens ≡ front ++ rest
+    → back ≡ ys ++ line_end → tokens ≡ back ++ other → (xs ≡ ys) × (rest ≡ other)
+one_line tokens front back xs ys rest other a b e d f h =
+    let split = sym (append_assoc xs line_end rest) ∙ ap (λ l. l ++ rest) (sym e) ∙ sym d ∙ h
+    ∙ ap (λ l. l ++ other) f ∙ append_assoc ys line_end other in
+    let (same, first, left) =
+    until_end 13 13 xs ys (10 ∷ rest) (10 ∷ other) a b return_ends return_ends split in
+    (same, same_others left)
 
 feed_ends : (c : ℕ) → c ≡ 10 → InLine c → ⊥
 feed_ends c e a = a.1 e
@@ -119,10 +133,8 @@ module _ (line behind left : List ℕ) (first : ℕ) (all : AllByRecursion InLin
   pub ended_feed : (first ≡ 13 → ⊥) → is_byte2 13 10 (slice_index behind 0) ≡ true
       → (more other rest : List ℕ) → EndsLine ((line ++ behind) ++ more) other rest → ⊥
   ended_feed not test more other rest x =
-      let P : List ℕ → Type 0 = λ l. is_byte2 13 10 (slice_index l 0) ≡ true in
-      let Q : List ℕ → Type 0 = λ l. EndsLine ((line ++ l) ++ more) other rest in
-      feed_never first line left more other rest (feed first not (subst P split test)) all
-      (subst Q split x)
+      feed_never first line left more other rest (feed first not (rw split at test)) all
+      (rw split at x)
     where
       feed : (b : ℕ) → (b ≡ 13 → ⊥) → is_byte2 13 10 b ≡ true → b ≡ 10
       feed b not is = grind (arith, nat_tests)
@@ -130,10 +142,9 @@ module _ (line behind left : List ℕ) (first : ℕ) (all : AllByRecursion InLin
   pub ended_open : first ≡ 13 → left ≡ [] → (length line ≤ length (line ++ behind))
       × AllByRecursion InLine (take (length line) (line ++ behind)) × IsOpen (line ++ behind)
   ended_open is none =
-      let P : List ℕ → Type 0 = λ l. AllByRecursion InLine l in
       let e : behind ≡ 13 ∷ [] = cc in (
         omega (arith, length-append line behind),
-        subst P (sym (take-append_seam line behind)) all,
+        subst (AllByRecursion InLine) (sym (take-append_seam line behind)) all,
         (line, all, inr (ap (λ l. line ++ l) e)),
       )
 
@@ -142,27 +153,24 @@ module _ (line behind left : List ℕ) (first : ℕ) (all : AllByRecursion InLin
       → EndsLine ((line ++ behind) ++ more) other rest → ⊥
   ended_other second others is e not more other rest x =
       let d : behind ≡ 13 ∷ second ∷ others = cc in
-      let Q : List ℕ → Type 0 = λ l. EndsLine ((line ++ l) ++ more) other rest in
-      return_never second line others more other rest not all (subst Q d x)
+      return_never second line others more other rest not all (rw d at x)
 
 -- ---- bytes that were searched before
 
 -- all of it
 pub open_all : (xs : List ℕ) → AllByRecursion InLine xs → (length xs ≤ length xs)
     × AllByRecursion InLine (take (length xs) xs) × IsOpen xs
-open_all xs all =
-    let P : List ℕ → Type 0 = λ l. AllByRecursion InLine l in (
-      omega arith,
-      subst P (sym (take_all (length xs) xs (omega arith))) all,
-      (xs, all, inl refl),
-    )
+open_all xs all = (
+  omega arith,
+  subst (AllByRecursion InLine) (sym (take_all (length xs) xs (omega arith))) all,
+  (xs, all, inl refl),
+)
 
 -- more than there is
 pub open_past : (xs : List ℕ) (n : ℕ) → (length xs < n) ⊎ (length xs < length xs)
     → AllByRecursion InLine (take n xs) → AllByRecursion InLine xs
 open_past xs n (inl less) all =
-    let P : List ℕ → Type 0 = λ l. AllByRecursion InLine l in
-    subst P (take_all n xs (omega (arith, less))) all
+    subst (AllByRecursion InLine) (take_all n xs (omega (arith, less))) all
 open_past xs n (inr less) all = absurd (omega (arith, less))
 
 -- the bytes not searched yet are the rest
@@ -176,9 +184,8 @@ pub open_rest : (xs unseen : List ℕ) (n : ℕ) → unseen ≡ take (length xs 
     → ((k : ℕ) → 0 ≤ k → k < length unseen → is_byte2 13 10 (slice_index unseen k) ≡ true → ⊥)
     → AllByRecursion InLine xs
 open_rest xs unseen n e all none =
-    let P : List ℕ → Type 0 = λ l. AllByRecursion InLine l in
     let d = unseen_rest xs unseen n e in
-    subst P (take_all (n + length unseen) xs
+    subst (AllByRecursion InLine) (take_all (n + length unseen) xs
     (omega (arith, ap (λ l. length l) d, length-drop n xs)))
     (plain_before xs unseen n (length unseen) d all (λ j less. none j (omega arith) less))
 
@@ -198,3 +205,61 @@ pub less_line : (line : Line) (n m : ℕ) → n ≤ m → IsLessLine n line → 
 less_line (Whole line rest) n m le less = omega (arith, le, less)
 less_line (Open k) n m le less = tt
 less_line Never n m le less = tt
+
+-- Texts without bytes of a line ending.
+pub record IsPlain {O : Type 0} (text : Text ℕ O) : Type 0 where
+  pub plain : (o : O) (xs : List ℕ) → text o xs → AllByRecursion InLine xs
+
+module _ {O : Type 0} (text : Text ℕ O) (p : IsPlain text) where
+  -- where each is of one value
+  pub ended_splits : ((o q : O) (xs : List ℕ) → text o xs → text q xs → o ≡ q)
+      → Splits (Ended text)
+  unfolding First Ended
+  ended_splits one = record {
+    one = λ o q tokens rest other (front, (xs, a, e), d) (back, (ys, b, f), h).
+        let (same, left) = one_line tokens front back xs ys rest other (p.plain o xs a)
+        (p.plain q ys b) e d f h in
+        (one o q xs a (subst (text q) (sym same) b), left);
+  }
+
+  module _ {i j : Input ℕ} where
+    -- if there is no line, there is no line with this text either
+    pub ended_none : {k : Kind} → Failed bytes_reading bytes_follow (First LineText) i k j
+        → Failed bytes_reading bytes_follow (First (Ended text)) i k j
+    unfolding First LineText Ended Members
+    ended_none = failed_as (λ tokens none o rest (front, (xs, a, e), d).
+        let (line, shown) = slice_for xs in
+        none line rest (
+          front,
+          (xs, (All-from_recursion InLine xs (p.plain o xs a), omega arith, shown), e),
+          d,
+        ))
+
+    -- all of a line
+    pub ended_stood : (line : Bor (List ℕ)) (o : O)
+        → (AllByRecursion InLine line.now → text o line.now)
+        → MatchesEachCompletion bytes_reading bytes_follow (First LineText) i line j
+        → MatchesEachCompletion bytes_reading bytes_follow (First (Ended text)) i o j
+    unfolding First LineText Ended Members
+    ended_stood line o is = stood_as (λ tokens rest (front, (xs, (all, enough, shown), e), d).
+        let plain = subst (AllByRecursion InLine) (sym shown) (recursion_from_All InLine xs all) in
+        (front, (xs, subst (text o) shown (is plain), e), d))
+
+    -- a line that is none
+    pub ended_failed : (line : Bor (List ℕ)) {k : Kind} → k ≡ backtrack
+        → ((o : O) → text o line.now → ⊥)
+        → MatchesEachCompletion bytes_reading bytes_follow (First LineText) i line j
+        → Failed bytes_reading bytes_follow (First (Ended text)) i k j
+    unfolding First LineText Ended Members
+    ended_failed line b never s = record {
+      ends = s.ends;
+      none = inr (inr (λ more c. (
+        b,
+        λ o rest (front, (xs, a, e), d).
+            let (back, (ys, (all, enough, shown), f), h) = s.stands more c in
+            let (same, left) = one_line (i.left.tokens ++ more) front back xs ys rest
+            (j.left.tokens ++ more) (p.plain o xs a) (recursion_from_All InLine ys all)
+            e d f h in
+            never o (subst (text o) (same ∙ sym shown) a),
+      )));
+    }

@@ -1,11 +1,11 @@
--- Lemmas about constructed replies.
+-- Lemmas about constructed replies, and the first bytes of replies.
 use Rattle.std.specs.Prelude.{◌≡◌, Bool, ℕ, ℤ, List}
 use Rattle.std.specs.Borrow.{Bor}
 use Rattle.std.specs.declared.vec.Vec.{Vec}
 use Rattle.std.proofs.Common.{ap, sym, ◌∙◌}
-use Rattle.format_resp.specs.Resp.{Replies}
+use Rattle.format_resp.specs.Resp.{Opened, Replies, DataSays, LineSays, gathered}
 use Rattle.format_resp.specs.declared.reply.Reply as made
-use Rattle.format_resp.specs.declared.reply.Reply.{out-Reply}
+use Rattle.format_resp.specs.declared.reply.Reply.{out-Reply, roll-Reply}
 use Rattle.format_resp.specs.declared.reply.Reply.TheOpen.{Reply-F}
 use Rattle.format_resp.specs.declared.reply.Reply.TheViews.{out-roll-Reply, rolls-Array}
 use Rattle.format_resp.specs.declared.reply.Reply.TheViews.{rolls-Attributed, rolls-BigNumber}
@@ -15,103 +15,105 @@ use Rattle.format_resp.specs.declared.reply.Reply.TheViews.{rolls-Error, rolls-I
 use Rattle.format_resp.specs.declared.reply.Reply.TheViews.{rolls-Null, rolls-NullArray}
 use Rattle.format_resp.specs.declared.reply.Reply.TheViews.{rolls-NullBulk, rolls-Push, rolls-Set}
 use Rattle.format_resp.specs.declared.reply.Reply.TheViews.{rolls-Simple, rolls-Verbatim}
+use Rattle.format_resp.specs.Written.{first_mark, mark_in}
+use Rattle.format_resp.specs.declared.marks.AggregateMark.{AggregateMark}
+use Rattle.format_resp.specs.declared.marks.AggregateMark.TheVariants.{Bar, Greater, Percent, Star}
+use Rattle.format_resp.specs.declared.marks.AggregateMark.TheVariants.{Tilde}
+use Rattle.format_resp.specs.declared.marks.DataMark.{DataMark}
+use Rattle.format_resp.specs.declared.marks.DataMark.TheVariants.{Dollar, Equals, Exclamation}
+use Rattle.format_resp.specs.declared.marks.LineMark.{LineMark}
+use Rattle.format_resp.specs.declared.marks.LineMark.TheVariants.{Colon, Comma, Hash, Minus}
+use Rattle.format_resp.specs.declared.marks.LineMark.TheVariants.{Parenthesis, Plus, Underscore}
+use Rattle.format_resp.specs.declared.marks.Mark.TheVariants.{Aggregate, Data, Line}
 
 module _ {A : Type 0} where
-  pub simple_is : (text : Bor (List ℕ))
-      → out-Reply (Bor (List ℕ)) A (made.Simple text) ≡ Reply-F.Simple text
-  simple_is text =
-      ap (out-Reply (Bor (List ℕ)) A) (sym (rolls-Simple text))
-      ∙ out-roll-Reply (Bor (List ℕ)) A (Reply-F.Simple text)
+  abbrev pub kind_of : Replies A → Opened A
+  kind_of = out-Reply (Bor (List ℕ)) A
 
-  pub error_is : (text : Bor (List ℕ))
-      → out-Reply (Bor (List ℕ)) A (made.Error text) ≡ Reply-F.Error text
-  error_is text =
-      ap (out-Reply (Bor (List ℕ)) A) (sym (rolls-Error text))
-      ∙ out-roll-Reply (Bor (List ℕ)) A (Reply-F.Error text)
+  opens : (kind : Opened A) {reply : Replies A} → roll-Reply (Bor (List ℕ)) A kind ≡ reply
+      → kind_of reply ≡ kind
+  opens kind is = ap kind_of (sym is) ∙ out-roll-Reply (Bor (List ℕ)) A kind
 
-  pub integer_is : (number : ℤ)
-      → out-Reply (Bor (List ℕ)) A (made.Integer number) ≡ Reply-F.Integer number
-  integer_is number =
-      ap (out-Reply (Bor (List ℕ)) A) (sym (rolls-Integer number))
-      ∙ out-roll-Reply (Bor (List ℕ)) A (Reply-F.Integer number)
+  pub simple_is : (x : Bor (List ℕ)) → kind_of (made.Simple x) ≡ Reply-F.Simple x
+  simple_is x = opens (Reply-F.Simple x) (rolls-Simple x)
 
-  pub null_is : out-Reply (Bor (List ℕ)) A made.Null ≡ Reply-F.Null
-  null_is =
-      ap (out-Reply (Bor (List ℕ)) A) (sym rolls-Null)
-      ∙ out-roll-Reply (Bor (List ℕ)) A Reply-F.Null
+  pub error_is : (x : Bor (List ℕ)) → kind_of (made.Error x) ≡ Reply-F.Error x
+  error_is x = opens (Reply-F.Error x) (rolls-Error x)
 
-  pub boolean_is : (boolean : Bool)
-      → out-Reply (Bor (List ℕ)) A (made.Boolean boolean) ≡ Reply-F.Boolean boolean
-  boolean_is boolean =
-      ap (out-Reply (Bor (List ℕ)) A) (sym (rolls-Boolean boolean))
-      ∙ out-roll-Reply (Bor (List ℕ)) A (Reply-F.Boolean boolean)
+  pub integer_is : (number : ℤ) → kind_of (made.Integer number) ≡ Reply-F.Integer number
+  integer_is number = opens (Reply-F.Integer number) (rolls-Integer number)
 
-  pub double_is : (text : Bor (List ℕ))
-      → out-Reply (Bor (List ℕ)) A (made.Double text) ≡ Reply-F.Double text
-  double_is text =
-      ap (out-Reply (Bor (List ℕ)) A) (sym (rolls-Double text))
-      ∙ out-roll-Reply (Bor (List ℕ)) A (Reply-F.Double text)
+  pub null_is : kind_of made.Null ≡ Reply-F.Null
+  null_is = opens Reply-F.Null rolls-Null
 
-  pub big_number_is : (text : Bor (List ℕ))
-      → out-Reply (Bor (List ℕ)) A (made.BigNumber text) ≡ Reply-F.BigNumber text
-  big_number_is text =
-      ap (out-Reply (Bor (List ℕ)) A) (sym (rolls-BigNumber text))
-      ∙ out-roll-Reply (Bor (List ℕ)) A (Reply-F.BigNumber text)
+  pub boolean_is : (boolean : Bool) → kind_of (made.Boolean boolean) ≡ Reply-F.Boolean boolean
+  boolean_is boolean = opens (Reply-F.Boolean boolean) (rolls-Boolean boolean)
 
-  pub bulk_is : (text : Bor (List ℕ))
-      → out-Reply (Bor (List ℕ)) A (made.Bulk text) ≡ Reply-F.Bulk text
-  bulk_is text =
-      ap (out-Reply (Bor (List ℕ)) A) (sym (rolls-Bulk text))
-      ∙ out-roll-Reply (Bor (List ℕ)) A (Reply-F.Bulk text)
+  pub double_is : (x : Bor (List ℕ)) → kind_of (made.Double x) ≡ Reply-F.Double x
+  double_is x = opens (Reply-F.Double x) (rolls-Double x)
 
-  pub null_bulk_is : out-Reply (Bor (List ℕ)) A made.NullBulk ≡ Reply-F.NullBulk
-  null_bulk_is =
-      ap (out-Reply (Bor (List ℕ)) A) (sym rolls-NullBulk)
-      ∙ out-roll-Reply (Bor (List ℕ)) A Reply-F.NullBulk
+  pub big_number_is : (x : Bor (List ℕ)) → kind_of (made.BigNumber x) ≡ Reply-F.BigNumber x
+  big_number_is x = opens (Reply-F.BigNumber x) (rolls-BigNumber x)
 
-  pub bulk_error_is : (text : Bor (List ℕ))
-      → out-Reply (Bor (List ℕ)) A (made.BulkError text) ≡ Reply-F.BulkError text
-  bulk_error_is text =
-      ap (out-Reply (Bor (List ℕ)) A) (sym (rolls-BulkError text))
-      ∙ out-roll-Reply (Bor (List ℕ)) A (Reply-F.BulkError text)
+  pub bulk_is : (x : Bor (List ℕ)) → kind_of (made.Bulk x) ≡ Reply-F.Bulk x
+  bulk_is x = opens (Reply-F.Bulk x) (rolls-Bulk x)
 
-  pub verbatim_is : (text : Bor (List ℕ))
-      → out-Reply (Bor (List ℕ)) A (made.Verbatim text) ≡ Reply-F.Verbatim text
-  verbatim_is text =
-      ap (out-Reply (Bor (List ℕ)) A) (sym (rolls-Verbatim text))
-      ∙ out-roll-Reply (Bor (List ℕ)) A (Reply-F.Verbatim text)
+  pub null_bulk_is : kind_of made.NullBulk ≡ Reply-F.NullBulk
+  null_bulk_is = opens Reply-F.NullBulk rolls-NullBulk
 
-  pub array_is : (list : Vec (Replies A) A)
-      → out-Reply (Bor (List ℕ)) A (made.Array list) ≡ Reply-F.Array list
-  array_is list =
-      ap (out-Reply (Bor (List ℕ)) A) (sym (rolls-Array list))
-      ∙ out-roll-Reply (Bor (List ℕ)) A (Reply-F.Array list)
+  pub bulk_error_is : (x : Bor (List ℕ)) → kind_of (made.BulkError x) ≡ Reply-F.BulkError x
+  bulk_error_is x = opens (Reply-F.BulkError x) (rolls-BulkError x)
 
-  pub null_array_is : out-Reply (Bor (List ℕ)) A made.NullArray ≡ Reply-F.NullArray
-  null_array_is =
-      ap (out-Reply (Bor (List ℕ)) A) (sym rolls-NullArray)
-      ∙ out-roll-Reply (Bor (List ℕ)) A Reply-F.NullArray
+  pub verbatim_is : (x : Bor (List ℕ)) → kind_of (made.Verbatim x) ≡ Reply-F.Verbatim x
+  verbatim_is x = opens (Reply-F.Verbatim x) (rolls-Verbatim x)
 
-  pub map_is : (list : Vec (Replies A) A)
-      → out-Reply (Bor (List ℕ)) A (made.Map list) ≡ Reply-F.Map list
-  map_is list =
-      ap (out-Reply (Bor (List ℕ)) A) (sym (rolls-Map list))
-      ∙ out-roll-Reply (Bor (List ℕ)) A (Reply-F.Map list)
+  pub array_is : (l : Vec (Replies A) A) → kind_of (made.Array l) ≡ Reply-F.Array l
+  array_is l = opens (Reply-F.Array l) (rolls-Array l)
 
-  pub set_is : (list : Vec (Replies A) A)
-      → out-Reply (Bor (List ℕ)) A (made.Set list) ≡ Reply-F.Set list
-  set_is list =
-      ap (out-Reply (Bor (List ℕ)) A) (sym (rolls-Set list))
-      ∙ out-roll-Reply (Bor (List ℕ)) A (Reply-F.Set list)
+  pub null_array_is : kind_of made.NullArray ≡ Reply-F.NullArray
+  null_array_is = opens Reply-F.NullArray rolls-NullArray
 
-  pub push_is : (list : Vec (Replies A) A)
-      → out-Reply (Bor (List ℕ)) A (made.Push list) ≡ Reply-F.Push list
-  push_is list =
-      ap (out-Reply (Bor (List ℕ)) A) (sym (rolls-Push list))
-      ∙ out-roll-Reply (Bor (List ℕ)) A (Reply-F.Push list)
+  pub map_is : (l : Vec (Replies A) A) → kind_of (made.Map l) ≡ Reply-F.Map l
+  map_is l = opens (Reply-F.Map l) (rolls-Map l)
 
-  pub attributed_is : (list : Vec (Replies A) A)
-      → out-Reply (Bor (List ℕ)) A (made.Attributed list) ≡ Reply-F.Attributed list
-  attributed_is list =
-      ap (out-Reply (Bor (List ℕ)) A) (sym (rolls-Attributed list))
-      ∙ out-roll-Reply (Bor (List ℕ)) A (Reply-F.Attributed list)
+  pub set_is : (l : Vec (Replies A) A) → kind_of (made.Set l) ≡ Reply-F.Set l
+  set_is l = opens (Reply-F.Set l) (rolls-Set l)
+
+  pub push_is : (l : Vec (Replies A) A) → kind_of (made.Push l) ≡ Reply-F.Push l
+  push_is l = opens (Reply-F.Push l) (rolls-Push l)
+
+  pub attributed_is : (l : Vec (Replies A) A) → kind_of (made.Attributed l) ≡ Reply-F.Attributed l
+  attributed_is l = opens (Reply-F.Attributed l) (rolls-Attributed l)
+
+module _ {A : Type 0} where
+  pub marked_line : (mark : LineMark) (reply : Replies A) (line : List ℕ)
+      → LineSays mark reply line → first_mark reply ≡ Line mark
+  marked_line Plus reply line (x, is, a) = ap first_mark is ∙ ap mark_in (simple_is x)
+  marked_line Minus reply line (x, is, a) = ap first_mark is ∙ ap mark_in (error_is x)
+  marked_line Colon reply line (n, is, a) = ap first_mark is ∙ ap mark_in (integer_is n)
+  marked_line Underscore reply line (is, a) = ap first_mark is ∙ ap mark_in null_is
+  marked_line Hash reply line (b, is, a) = ap first_mark is ∙ ap mark_in (boolean_is b)
+  marked_line Comma reply line (x, is, a) = ap first_mark is ∙ ap mark_in (double_is x)
+  marked_line Parenthesis reply line (x, is, a) = ap first_mark is ∙ ap mark_in (big_number_is x)
+
+  pub marked_data : (mark : DataMark) (reply : Replies A) (bytes : List ℕ)
+      → DataSays mark reply bytes → first_mark reply ≡ Data mark
+  marked_data Dollar reply bytes (x, is, a) = ap first_mark is ∙ ap mark_in (bulk_is x)
+  marked_data Exclamation reply bytes (x, is, a) = ap first_mark is ∙ ap mark_in (bulk_error_is x)
+  marked_data Equals reply bytes (x, is, a) = ap first_mark is ∙ ap mark_in (verbatim_is x)
+
+  pub marked_null_bulk : (reply : Replies A) → reply ≡ made.NullBulk
+      → first_mark reply ≡ Data Dollar
+  marked_null_bulk reply is = ap first_mark is ∙ ap mark_in null_bulk_is
+
+  pub marked_null_array : (reply : Replies A) → reply ≡ made.NullArray
+      → first_mark reply ≡ Aggregate Star
+  marked_null_array reply is = ap first_mark is ∙ ap mark_in null_array_is
+
+  pub marked_aggregate : (mark : AggregateMark) (reply : Replies A) (list : Vec (Replies A) A)
+      → reply ≡ gathered mark list → first_mark reply ≡ Aggregate mark
+  marked_aggregate Star reply list is = ap first_mark is ∙ ap mark_in (array_is list)
+  marked_aggregate Percent reply list is = ap first_mark is ∙ ap mark_in (map_is list)
+  marked_aggregate Tilde reply list is = ap first_mark is ∙ ap mark_in (set_is list)
+  marked_aggregate Greater reply list is = ap first_mark is ∙ ap mark_in (push_is list)
+  marked_aggregate Bar reply list is = ap first_mark is ∙ ap mark_in (attributed_is list)

@@ -1,24 +1,21 @@
 -- Proofs that the parts of a RESP2 reply are at the positions that its definition gives.
-use Rattle.std.specs.Prelude.{◌≡◌, ◌⊎◌, ℕ, ℤ, List, [], ◌∷◌, ◌++◌, Option, None, Some, zero}
-use Rattle.std.specs.Prelude.{suc}
+use Rattle.std.specs.Prelude.{◌≡◌, ◌⊎◌, ℕ, ℤ, List, [], ◌∷◌, ◌++◌, Option, None, Some, zero, suc}
 use Rattle.std.specs.Borrow.{Bor}
 use Rattle.std.specs.List.{AllByRecursion}
 use Rattle.std.specs.declared.vec.Vec.{Vec}
 use Rattle.std.proofs.Common.{◌∙◌, ap, append_assoc, arith, inl, inr, refl, subst, sym}
 use Rattle.winnow.specs.InTurn.{First, Led}
-use Rattle.winnow.specs.Texts.{CountedText, EachText, Text}
+use Rattle.winnow.specs.Texts.{CountedText, EachText}
 use Rattle.format_resp.proofs.FirstBytes.{not_resp3}
-use Rattle.format_resp.proofs.Integers.{size_plain}
-use Rattle.format_resp.proofs.Made.{array_is, bulk_is, error_is, integer_is, null_array_is}
+use Rattle.format_resp.proofs.LineTexts.{size_plain}
+use Rattle.format_resp.proofs.Made.{kind_of, array_is, bulk_is, error_is, integer_is, null_array_is}
 use Rattle.format_resp.proofs.Made.{null_bulk_is, simple_is}
 use Rattle.format_resp.specs.Parts.{IsBehindFeed, IsLine, IsReplyAt, NoFeed, StandsBy}
 use Rattle.format_resp.specs.Resp.{AggregateBehind, DataBehind, DataText, Elements, Ended, InLine}
 use Rattle.format_resp.specs.Resp.{MarkText, Opened, Replies, ReplyText, Shown, SizeText, line_end}
-use Rattle.format_resp.specs.declared.marks.AggregateMark.TheVariants.{Bar, Greater, Percent, Star}
-use Rattle.format_resp.specs.declared.marks.AggregateMark.TheVariants.{Tilde}
-use Rattle.format_resp.specs.declared.marks.DataMark.TheVariants.{Dollar, Equals, Exclamation}
-use Rattle.format_resp.specs.declared.marks.LineMark.TheVariants.{Colon, Comma, Hash, Minus}
-use Rattle.format_resp.specs.declared.marks.LineMark.TheVariants.{Parenthesis, Plus, Underscore}
+use Rattle.format_resp.specs.declared.marks.AggregateMark.TheVariants.{Star}
+use Rattle.format_resp.specs.declared.marks.DataMark.TheVariants.{Dollar}
+use Rattle.format_resp.specs.declared.marks.LineMark.TheVariants.{Colon, Minus, Plus}
 use Rattle.format_resp.specs.declared.marks.Mark.TheVariants.{Aggregate, Data, Line}
 use Rattle.format_resp.specs.declared.reply.Protocol.TheVariants.{Resp2}
 use Rattle.format_resp.specs.declared.reply.Reply as made
@@ -60,9 +57,8 @@ behind_size {mark} {size = size} xs behind rest other plain e f g = (
 bulk_ended : {input bytes behind : List ℕ} (xs rest : List ℕ) → behind ≡ xs ++ line_end
     → bytes ≡ xs → IsBehindFeed input (behind ++ rest)
     → IsBehindFeed input (bytes ++ (line_end ++ rest))
-bulk_ended {input} {bytes} xs rest e shows it =
-    let P : List ℕ → Type 0 = λ l. IsBehindFeed input l in
-    subst P (ended xs rest e ∙ ap (λ l. l ++ (line_end ++ rest)) (sym shows)) it
+bulk_ended {input} xs rest e shows = subst (IsBehindFeed input)
+    (ended xs rest e ∙ ap (λ l. l ++ (line_end ++ rest)) (sym shows))
 
 -- ---- by what the reply is
 
@@ -84,81 +80,6 @@ line_stands input rest mark front first others xs text m e (all, shows) f g = (
       ∙ ap (λ l. l ++ (line_end ++ rest)) (sym shows)),
 )
 
-module _ {A : Type 0} (level : ℕ) (input rest : List ℕ) where
-  -- the contents of a reply of this form
-  stands_made : (kind : Opened A) {reply form : Replies A} → reply ≡ form
-      → out-Reply (Bor (List ℕ)) A form ≡ kind → StandsBy level input kind rest
-      → IsReplyAt level input reply rest
-  stands_made kind same is =
-      let P : Opened A → Type 0 = λ k. StandsBy level input k rest in
-      subst P (sym (ap (out-Reply (Bor (List ℕ)) A) same ∙ is))
-
-  bulk_stands : (reply : Replies A) (size : Option ℕ) (front first others us vs : List ℕ)
-      → first ≡ 36 ∷ [] → SizeText size us → DataBehind Dollar size reply vs → others ≡ us ++ vs
-      → front ≡ first ++ others → input ≡ front ++ rest → IsReplyAt level input reply rest
-  unfolding SizeText DataText Ended CountedText Shown
-  bulk_stands reply None front first others us vs m s (same, none) f g h =
-      stands_made Reply-F.NullBulk same null_bulk_is tt
-  bulk_stands reply (Some k) front first others us vs m (xs, size, e)
-      (bytes, (text, same, (any, shown)), (ds, (many, shows), d)) f g h =
-      stands_made (Reply-F.Bulk text) same (bulk_is text) (bulk_ended ds rest d (shown ∙ shows)
-      (behind_size xs vs rest (λ z. omega (arith, z)) (size_plain.plain (Some k) xs size) e f
-      (lead others rest m g h)))
-
-  array_stands : (reply : Replies A) (size : Option ℕ) (front first others us vs : List ℕ)
-      → first ≡ 42 ∷ [] → SizeText size us
-      → AggregateBehind (Elements Resp2 level) Star size reply vs → others ≡ us ++ vs
-      → front ≡ first ++ others → input ≡ front ++ rest → IsReplyAt level input reply rest
-  unfolding SizeText Ended
-  array_stands reply None front first others us vs m s (same, none) f g h =
-      stands_made Reply-F.NullArray same null_array_is tt
-  array_stands reply (Some k) front first others us vs m (xs, size, e) (list, same, (many, are)) f
-      g h =
-      let (inner, deeper, row) = elements_row level list.items vs are in
-      stands_made (Reply-F.Array list) same (array_is list) (
-        inner,
-        deeper,
-        vs,
-        row,
-        behind_size xs vs rest (λ z. omega (arith, z)) (size_plain.plain (Some k) xs size) e f
-            (lead others rest m g h),
-      )
-
-  pub parts_stand : (reply : Replies A) → First (ReplyText Resp2 level) input reply rest
-      → IsReplyAt level input reply rest
-  unfolding First Led MarkText Ended
-  parts_stand reply (front, (Line Plus, us, vs, (in2, m), (xs, (text, same, line), e), f), g) =
-      stands_made (Reply-F.Simple text) same (simple_is text)
-      (line_stands input rest 43 front us vs xs text m e line f g)
-  parts_stand reply (front, (Line Minus, us, vs, (in2, m), (xs, (text, same, line), e), f), g) =
-      stands_made (Reply-F.Error text) same (error_is text)
-      (line_stands input rest 45 front us vs xs text m e line f g)
-  parts_stand reply (front, (Line Colon, us, vs, (in2, m), (xs, (number, same, is), e), f), g) =
-      stands_made (Reply-F.Integer number) same (integer_is number) tt
-  parts_stand reply (front, (Data Dollar, us, vs, (in2, m), (size, ss, bs, s, b, e), f), g) =
-      bulk_stands reply size front us vs ss bs m s b e f g
-  parts_stand reply (front, (Aggregate Star, us, vs, (in2, m), (size, ss, bs, s, b, e), f), g) =
-      array_stands reply size front us vs ss bs m s b e f g
-  parts_stand reply (front, (Line Underscore, us, vs, (in2, m), x, f), g) = not_resp3 in2
-  parts_stand reply (front, (Line Hash, us, vs, (in2, m), x, f), g) = not_resp3 in2
-  parts_stand reply (front, (Line Comma, us, vs, (in2, m), x, f), g) = not_resp3 in2
-  parts_stand reply (front, (Line Parenthesis, us, vs, (in2, m), x, f), g) = not_resp3 in2
-  parts_stand reply (front, (Data Exclamation, us, vs, (in2, m), x, f), g) = not_resp3 in2
-  parts_stand reply (front, (Data Equals, us, vs, (in2, m), x, f), g) = not_resp3 in2
-  parts_stand reply (front, (Aggregate Percent, us, vs, (in2, m), x, f), g) = not_resp3 in2
-  parts_stand reply (front, (Aggregate Tilde, us, vs, (in2, m), x, f), g) = not_resp3 in2
-  parts_stand reply (front, (Aggregate Greater, us, vs, (in2, m), x, f), g) = not_resp3 in2
-  parts_stand reply (front, (Aggregate Bar, us, vs, (in2, m), x, f), g) = not_resp3 in2
-
--- the contents, if the kind of the reply is known
-pub stands_as : {A : Type 0} (level : ℕ) (input rest : List ℕ) (reply : Replies A)
-    (kind : Opened A)
-    → First (ReplyText Resp2 level) input reply rest → out-Reply (Bor (List ℕ)) A reply ≡ kind
-    → StandsBy level input kind rest
-stands_as {A} level input rest reply kind is same =
-    let P : Opened A → Type 0 = λ r. StandsBy level input r rest in
-    subst P same (parts_stand level input rest reply is)
-
 -- one of the kinds of RESP2
 abbrev pub IsMadeOfResp2 : {A : Type 0} → Replies A → Type 0
 IsMadeOfResp2 {A} reply =
@@ -168,50 +89,83 @@ IsMadeOfResp2 {A} reply =
     ⊎ ((reply ≡ made.NullBulk) ⊎ (((l : Vec (Replies A) A) × (reply ≡ made.Array l))
     ⊎ (reply ≡ made.NullArray))))))
 
-module _ {A : Type 0} where
-  made_of_data : (size : Option ℕ) (reply : Replies A) (tokens : List ℕ)
-      → DataBehind Dollar size reply tokens → IsMadeOfResp2 reply
-  made_of_data None reply tokens (is, none) = inr (inr (inr (inr (inl is))))
-  made_of_data (Some n) reply tokens (bytes, (x, is, a), t) = inr (inr (inr (inl (x, is))))
+module _ {A : Type 0} (level : ℕ) (input rest : List ℕ) where
+  -- the contents of a reply of this form
+  stands_made : (kind : Opened A) {reply form : Replies A} → reply ≡ form
+      → kind_of form ≡ kind → StandsBy level input kind rest
+      → IsReplyAt level input reply rest
+  stands_made kind same is =
+      subst (λ k. StandsBy level input k rest) (sym (ap kind_of same ∙ is))
 
-  made_of_list : (elements : Text ℕ (List (Replies A))) (size : Option ℕ) (reply : Replies A)
-      (tokens : List ℕ) → AggregateBehind elements Star size reply tokens → IsMadeOfResp2 reply
-  made_of_list elements None reply tokens (is, none) = inr (inr (inr (inr (inr (inr is)))))
-  made_of_list elements (Some n) reply tokens (l, is, a) =
-      inr (inr (inr (inr (inr (inl (l, is))))))
+  abbrev Stands : Replies A → Type 0
+  Stands reply = IsMadeOfResp2 reply × IsReplyAt level input reply rest
 
-  pub made_of_resp2 : (level : ℕ) (input rest : List ℕ) (reply : Replies A)
-      → First (ReplyText Resp2 level) input reply rest → IsMadeOfResp2 reply
+  bulk_stands : (reply : Replies A) (size : Option ℕ) (front first others us vs : List ℕ)
+      → first ≡ 36 ∷ [] → SizeText size us → DataBehind Dollar size reply vs → others ≡ us ++ vs
+      → front ≡ first ++ others → input ≡ front ++ rest → Stands reply
+  unfolding SizeText DataText Ended CountedText Shown
+  bulk_stands reply None front first others us vs m s (same, none) f g h =
+      (inr (inr (inr (inr (inl same)))), stands_made Reply-F.NullBulk same null_bulk_is tt)
+  bulk_stands reply (Some k) front first others us vs m (xs, size, e)
+      (bytes, (text, same, (any, shown)), (ds, (many, shows), d)) f g h = (
+        inr (inr (inr (inl (text, same)))),
+        stands_made (Reply-F.Bulk text) same (bulk_is text) (bulk_ended ds rest d (shown ∙ shows)
+            (behind_size xs vs rest (λ z. omega (arith, z)) (size_plain.plain (Some k) xs size) e f
+            (lead others rest m g h))),
+      )
+
+  array_stands : (reply : Replies A) (size : Option ℕ) (front first others us vs : List ℕ)
+      → first ≡ 42 ∷ [] → SizeText size us
+      → AggregateBehind (Elements Resp2 level) Star size reply vs → others ≡ us ++ vs
+      → front ≡ first ++ others → input ≡ front ++ rest → Stands reply
+  unfolding SizeText Ended
+  array_stands reply None front first others us vs m s (same, none) f g h =
+      (inr (inr (inr (inr (inr (inr same))))), stands_made Reply-F.NullArray same null_array_is tt)
+  array_stands reply (Some k) front first others us vs m (xs, size, e) (list, same, (many, are)) f
+      g h =
+      let (inner, deeper, row) = elements_row level list.items vs are in (
+        inr (inr (inr (inr (inr (inl (list, same)))))),
+        stands_made (Reply-F.Array list) same (array_is list) (
+          inner,
+          deeper,
+          vs,
+          row,
+          behind_size xs vs rest (λ z. omega (arith, z)) (size_plain.plain (Some k) xs size) e f
+              (lead others rest m g h),
+        ),
+      )
+
+  parts_stand : (reply : Replies A) → First (ReplyText Resp2 level) input reply rest
+      → Stands reply
   unfolding First Led MarkText Ended
-  made_of_resp2 level input rest reply
-      (front, (Line Plus, us, vs, m, (xs, (x, is, a), e), f), g) = inl (x, is)
-  made_of_resp2 level input rest reply
-      (front, (Line Minus, us, vs, m, (xs, (x, is, a), e), f), g) = inr (inl (x, is))
-  made_of_resp2 level input rest reply
-      (front, (Line Colon, us, vs, m, (xs, (n, is, a), e), f), g) = inr (inr (inl (n, is)))
-  made_of_resp2 level input rest reply
-      (front, (Data Dollar, us, vs, m, (size, ss, bs, s, b, e), f), g) =
-      made_of_data size reply bs b
-  made_of_resp2 level input rest reply
-      (front, (Aggregate Star, us, vs, m, (size, ss, bs, s, b, e), f), g) =
-      made_of_list (Elements Resp2 level) size reply bs b
-  made_of_resp2 level input rest reply (front, (Line Underscore, us, vs, (in2, m), x, f), g) =
-      not_resp3 in2
-  made_of_resp2 level input rest reply (front, (Line Hash, us, vs, (in2, m), x, f), g) =
-      not_resp3 in2
-  made_of_resp2 level input rest reply (front, (Line Comma, us, vs, (in2, m), x, f), g) =
-      not_resp3 in2
-  made_of_resp2 level input rest reply (front, (Line Parenthesis, us, vs, (in2, m), x, f), g) =
-      not_resp3 in2
-  made_of_resp2 level input rest reply (front, (Data Exclamation, us, vs, (in2, m), x, f), g) =
-      not_resp3 in2
-  made_of_resp2 level input rest reply (front, (Data Equals, us, vs, (in2, m), x, f), g) =
-      not_resp3 in2
-  made_of_resp2 level input rest reply (front, (Aggregate Percent, us, vs, (in2, m), x, f), g) =
-      not_resp3 in2
-  made_of_resp2 level input rest reply (front, (Aggregate Tilde, us, vs, (in2, m), x, f), g) =
-      not_resp3 in2
-  made_of_resp2 level input rest reply (front, (Aggregate Greater, us, vs, (in2, m), x, f), g) =
-      not_resp3 in2
-  made_of_resp2 level input rest reply (front, (Aggregate Bar, us, vs, (in2, m), x, f), g) =
-      not_resp3 in2
+  parts_stand reply (front, (Line Plus, us, vs, (in2, m), (xs, (text, same, line), e), f), g) = (
+    inl (text, same),
+    stands_made (Reply-F.Simple text) same (simple_is text)
+        (line_stands input rest 43 front us vs xs text m e line f g),
+  )
+  parts_stand reply (front, (Line Minus, us, vs, (in2, m), (xs, (text, same, line), e), f), g) = (
+    inr (inl (text, same)),
+    stands_made (Reply-F.Error text) same (error_is text)
+        (line_stands input rest 45 front us vs xs text m e line f g),
+  )
+  parts_stand reply (front, (Line Colon, us, vs, (in2, m), (xs, (number, same, is), e), f), g) = (
+    inr (inr (inl (number, same))),
+    stands_made (Reply-F.Integer number) same (integer_is number) tt,
+  )
+  parts_stand reply (front, (Data Dollar, us, vs, (in2, m), (size, ss, bs, s, b, e), f), g) =
+      bulk_stands reply size front us vs ss bs m s b e f g
+  parts_stand reply (front, (Aggregate Star, us, vs, (in2, m), (size, ss, bs, s, b, e), f), g) =
+      array_stands reply size front us vs ss bs m s b e f g
+  parts_stand reply (front, (mark, us, vs, (in2, m), x, f), g) = not_resp3 in2
+
+  pub made_of_resp2 : (reply : Replies A) → First (ReplyText Resp2 level) input reply rest
+      → IsMadeOfResp2 reply
+  made_of_resp2 reply is = (parts_stand reply is).0
+
+-- the contents, if the kind of the reply is known
+pub stands_as : {A : Type 0} (level : ℕ) (input rest : List ℕ) (reply : Replies A)
+    (kind : Opened A)
+    → First (ReplyText Resp2 level) input reply rest → out-Reply (Bor (List ℕ)) A reply ≡ kind
+    → StandsBy level input kind rest
+stands_as {A} level input rest reply kind is same =
+    subst (λ k. StandsBy level input k rest) same (parts_stand level input rest reply is).1

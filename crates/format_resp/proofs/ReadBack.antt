@@ -13,13 +13,11 @@ use Rattle.winnow.specs.Kind.{Kind, memory}
 use Rattle.winnow.specs.Partial.{with_flag}
 use Rattle.winnow.specs.Texts.{EachText, Text}
 use Rattle.format_resp.proofs.AlikeReplies.{replies_alike}
-use Rattle.format_resp.proofs.Deeper.{list_for}
-use Rattle.format_resp.proofs.WrittenTexts.{written_text}
+use Rattle.format_resp.proofs.WrittenTexts.{list_for, written_text}
 use Rattle.format_resp.specs.Alike.{AreAlike, AreAlikeAs, ArePairwise, IsBulkAs, IsCommand}
 use Rattle.format_resp.specs.Alike.{IsCommandAs}
-use Rattle.format_resp.proofs.Bodies.{reply_unique}
-use Rattle.format_resp.proofs.Made.{array_is, bulk_is}
-use Rattle.format_resp.proofs.Sayings.{shown_is}
+use Rattle.format_resp.proofs.Made.{array_is, bulk_is, kind_of}
+use Rattle.format_resp.proofs.Encodings.{shown_is}
 use Rattle.format_resp.specs.Resp.{IsIn, Opened, Replies, ReplyText, line_end}
 use Rattle.format_resp.specs.Written.{Adds, WrittenElements, WrittenText, bulk_of, bulks_of}
 use Rattle.format_resp.specs.Written.{command_of, mark_in, marked}
@@ -37,10 +35,9 @@ module _ {A : Type 0} (protocol : Protocol) (level : ℕ) where
       → First (ReplyText protocol level) tokens written more
       → First (ReplyText protocol level) tokens read rest
       → AreAlike level written read × (rest ≡ more)
-  one_reply written read tokens more rest a b = (
-    replies_alike protocol level written read tokens more rest a b,
-    (reply_unique protocol level).one tokens read written rest more b a,
-  )
+  one_reply written read tokens more rest a b =
+      let (alike, left) = replies_alike protocol level written read tokens more rest a b in
+      (alike, sym left)
 
   pub written_back : (written read : Replies A) (text more rest : List ℕ)
       → ReplyText protocol level written text
@@ -68,19 +65,14 @@ module _ {O E : Type 0} (text : Text ℕ O) (bytes : List ℕ) {i j : Input ℕ}
   pub whole_stands : (o : O)
       → ReadsOrAsks bytes_reading bytes_follow kind (First text) i (Ok o) j
       → First text bytes o j.left.tokens
-  whole_stands o r =
-      let P : Input ℕ → Type 0 = λ x. ReadsOrAsks bytes_reading bytes_follow kind
-      (First text) x (Ok o) j in
-      (subst P is r).whole.stands refl
+  whole_stands o r = (rw is at r).whole.stands refl
 
   -- if it matches, the only error is out of memory
   pub whole_wants : (e : E) → (kind e ≡ memory → ⊥)
       → (o : O) × (rest : List ℕ) × First text bytes o rest
       → ReadsOrAsks {O = O} bytes_reading bytes_follow kind (First text) i (Err e) j → ⊥
   whole_wants e not_memory (o, rest, a) r =
-      let P : Input ℕ → Type 0 = λ x. ReadsOrAsks {O = O} bytes_reading bytes_follow
-      kind (First text) x (Err e) j in
-      elim ((subst P is r).whole.none refl) [
+      elim ((rw is at r).whole.none refl) [
         | inl m ↦ not_memory m
         | inr (_, none) ↦ none o rest a
       ]
@@ -143,7 +135,6 @@ command_text : {A : Type 0} (parts : List (Bor (List ℕ))) (list : Vec (Replies
     → ReplyText Resp2 1 (made.Array list) (command_of parts)
 unfolding WrittenElements
 command_text {A} parts list are small =
-    let P : List (Replies A) → Type 0 = λ l. EachText (WrittenText Resp2 0) l (bulks_of parts) in
     let many : length list.items ≡ length parts = ap (λ l. length l) are ∙ as_many A parts in
     written_text Resp2 1 (made.Array list) (command_of parts) (
       subst (λ m. IsIn Resp2 m) (sym (ap mark_in (array_is list))) tt,
@@ -154,7 +145,7 @@ command_text {A} parts list are small =
         bulks_of parts,
         refl,
         many,
-        subst P (sym are) (bulks_row A parts small),
+        rw are (bulks_row A parts small),
         refl,
       ))),
     )
@@ -189,31 +180,14 @@ command_first {A} alloc parts {before} {between} more none put small e same =
 module _ {A : Type 0} where
   bulk_kind : (alike : Replies A → Replies A → Type 0) (part : Bor (List ℕ)) (kind : Opened A)
       → AreAlikeAs alike (Reply-F.Bulk part) kind → IsBulkAs part kind
-  bulk_kind alike part (Reply-F.Simple x) never = never
-  bulk_kind alike part (Reply-F.Error x) never = never
-  bulk_kind alike part (Reply-F.Integer x) never = never
   bulk_kind alike part (Reply-F.Bulk x) e = e
-  bulk_kind alike part Reply-F.NullBulk never = never
-  bulk_kind alike part (Reply-F.Array x) never = never
-  bulk_kind alike part Reply-F.NullArray never = never
-  bulk_kind alike part Reply-F.Null never = never
-  bulk_kind alike part (Reply-F.Boolean x) never = never
-  bulk_kind alike part (Reply-F.Double x) never = never
-  bulk_kind alike part (Reply-F.BigNumber x) never = never
-  bulk_kind alike part (Reply-F.BulkError x) never = never
-  bulk_kind alike part (Reply-F.Verbatim x) never = never
-  bulk_kind alike part (Reply-F.Map x) never = never
-  bulk_kind alike part (Reply-F.Set x) never = never
-  bulk_kind alike part (Reply-F.Push x) never = never
-  bulk_kind alike part (Reply-F.Attributed x) never = never
+  bulk_kind alike part kind never = never
 
   bulk_back : (part : Bor (List ℕ)) (reply : Replies A) → AreAlike 0 (made.Bulk part) reply
       → IsBulkAs part (out-Reply (Bor (List ℕ)) A reply)
   unfolding AreAlike
   bulk_back part reply alike =
-      let P : Opened A → Type 0 = λ k.
-      AreAlikeAs (λ v w. ⊥) k (out-Reply (Bor (List ℕ)) A reply) in
-      bulk_kind (λ v w. ⊥) part (out-Reply (Bor (List ℕ)) A reply) (subst P (bulk_is part) alike)
+      bulk_kind (λ v w. ⊥) part (kind_of reply) (rw (bulk_is part) at alike)
 
   bulks_back : (parts : List (Bor (List ℕ))) (replies : List (Replies A))
       → ArePairwise (AreAlike 0) (bulk_replies parts) replies
@@ -226,25 +200,9 @@ module _ {A : Type 0} where
   command_kind : (parts : List (Bor (List ℕ))) (list : Vec (Replies A) A)
       → list.items ≡ bulk_replies parts → (kind : Opened A)
       → AreAlikeAs (AreAlike 0) (Reply-F.Array list) kind → IsCommandAs parts kind
-  command_kind parts list are (Reply-F.Simple x) never = never
-  command_kind parts list are (Reply-F.Error x) never = never
-  command_kind parts list are (Reply-F.Integer x) never = never
-  command_kind parts list are (Reply-F.Bulk x) never = never
-  command_kind parts list are Reply-F.NullBulk never = never
   command_kind parts list are (Reply-F.Array x) pairs =
-      let P : List (Replies A) → Type 0 = λ l. ArePairwise (AreAlike 0) l x.items in
-      bulks_back parts x.items (subst P are pairs)
-  command_kind parts list are Reply-F.NullArray never = never
-  command_kind parts list are Reply-F.Null never = never
-  command_kind parts list are (Reply-F.Boolean x) never = never
-  command_kind parts list are (Reply-F.Double x) never = never
-  command_kind parts list are (Reply-F.BigNumber x) never = never
-  command_kind parts list are (Reply-F.BulkError x) never = never
-  command_kind parts list are (Reply-F.Verbatim x) never = never
-  command_kind parts list are (Reply-F.Map x) never = never
-  command_kind parts list are (Reply-F.Set x) never = never
-  command_kind parts list are (Reply-F.Push x) never = never
-  command_kind parts list are (Reply-F.Attributed x) never = never
+      bulks_back parts x.items (rw are at pairs)
+  command_kind parts list are kind never = never
 
   -- what is read of it is the command
   pub command_back : (parts : List (Bor (List ℕ))) (list : Vec (Replies A) A) (read : Replies A)
@@ -255,9 +213,4 @@ module _ {A : Type 0} where
   unfolding AreAlike
   command_back parts list read tokens more rest are a b =
       let (alike, left) = one_reply Resp2 1 (made.Array list) read tokens more rest a b in
-      let P : Opened A → Type 0 = λ k.
-      AreAlikeAs (AreAlike 0) k (out-Reply (Bor (List ℕ)) A read) in (
-        command_kind parts list are (out-Reply (Bor (List ℕ)) A read)
-            (subst P (array_is list) alike),
-        left,
-      )
+      (command_kind parts list are (kind_of read) (rw (array_is list) at alike), left)

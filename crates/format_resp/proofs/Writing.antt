@@ -1,30 +1,30 @@
 -- Lemmas about the bytes appended for replies, and about the errors of writing.
-use Rattle.std.specs.Prelude.{◌≡◌, ◌+◌, ◌<◌, ◌^◌, ⊤, Bool, ℕ, ℤ, List, [], ◌∷◌, ◌++◌}
-use Rattle.std.specs.Prelude.{zero, suc, length, Contains, FitsSigned}
-use Rattle.std.specs.Borrow.{Bor}
-use Rattle.std.specs.Fmt.{decimal, signed_decimal}
-use Rattle.std.specs.Int.{w64}
-use Rattle.std.specs.List.{AllByRecursion}
-use Rattle.std.specs.declared.vec.Vec.{Vec}
-use Rattle.std.proofs.Common.{refl, sym, ap, subst, inl, inr, ◌∙◌, arith}
-use Rattle.winnow.specs.Texts.{EachText}
-use Rattle.format_resp.proofs.FirstMarks.{marked_aggregate}
-use Rattle.format_resp.proofs.Putting.{adds, put_two}
-use Rattle.format_resp.proofs.Sayings.{shown_is}
-use Rattle.format_resp.proofs.WrittenTexts.{written_text}
-use Rattle.format_resp.specs.Numbers.{IsBigNumber, IsDouble}
-use Rattle.format_resp.specs.Resp.{BooleanText, DataSays, InLine, IsIn, IsVerbatim, Replies}
-use Rattle.format_resp.specs.Resp.{ReplyText, byte_of, gathered, many}
-use Rattle.format_resp.specs.Written.{Adds, IsBroken, IsDeeper, IsForeign, IsNoBigNumber}
+use Rattle.std.specs.Prelude.{◌≡◌, ◌≤◌, ◌<◌, ◌+◌, ◌/◌, ◌%◌, ◌^◌, ℕ, List, [], ◌∷◌}
+use Rattle.std.specs.Prelude.{◌++◌, length}
+use Rattle.std.specs.Prelude.{drop, take, slice_index_or, Contains, IfErr, Result, zero, suc}
+use Rattle.std.specs.Fmt.{decimal}
+use Rattle.std.specs.Result.{IsErrAnd}
+use Rattle.std.proofs.Common.{refl, sym, ap, subst, ◌∙◌, append_assoc, inl, inr, arith}
+use Rattle.std.proofs.Math.Seq.{take-append_seam}
+use Rattle.std.proofs.lemmas.Fmt.{decimal_digit, decimal_step}
+use Rattle.std.proofs.lemmas.List.{append-nil, drop_all, drop_more}
+use Rattle.std.proofs.lemmas.Result.{err_from_is_err_and}
+use Rattle.winnow.specs.Texts.{EachText, Text}
+use Rattle.format_resp.specs.Written.{Adds, Keeps, IsBroken, IsDeeper, IsForeign, IsNoBigNumber}
 use Rattle.format_resp.specs.Written.{IsNoDouble, IsOrHas, IsRefused, IsRefusedAmong, IsRefusedAs}
 use Rattle.format_resp.specs.Written.{IsUnformatted, IsUnpaired, LineWritten, WrittenElements}
 use Rattle.format_resp.specs.Written.{WrittenText, data_of, first_mark, marked}
+use Rattle.std.specs.Borrow.{Bor}
+use Rattle.std.specs.List.{AllByRecursion}
+use Rattle.std.specs.declared.vec.Vec.{Vec}
+use Rattle.format_resp.proofs.Made.{marked_aggregate}
+use Rattle.format_resp.proofs.WrittenTexts.{written_text}
+use Rattle.format_resp.specs.Numbers.{IsBigNumber, IsDouble}
+use Rattle.format_resp.specs.Resp.{DataSays, InLine, IsIn, IsVerbatim, Replies, ReplyText, byte_of}
+use Rattle.format_resp.specs.Resp.{gathered, many}
 use Rattle.format_resp.specs.declared.marks.AggregateMark.{AggregateMark}
 use Rattle.format_resp.specs.declared.marks.DataMark.{DataMark}
-use Rattle.format_resp.specs.declared.marks.DataMark.TheVariants.{Dollar, Equals, Exclamation}
 use Rattle.format_resp.specs.declared.marks.LineMark.{LineMark}
-use Rattle.format_resp.specs.declared.marks.LineMark.TheVariants.{Colon, Comma, Hash, Minus}
-use Rattle.format_resp.specs.declared.marks.LineMark.TheVariants.{Parenthesis, Plus, Underscore}
 use Rattle.format_resp.specs.declared.marks.Mark.TheVariants.{Aggregate, Data, Line}
 use Rattle.format_resp.specs.declared.reply.Protocol.{Protocol}
 use Rattle.format_resp.specs.declared.reply.Reply as made
@@ -33,78 +33,93 @@ use Rattle.format_resp.specs.declared.write.WriteError.TheVariants.{BigNumber, D
 use Rattle.format_resp.specs.declared.write.WriteError.TheVariants.{Format, Level, LineBreak}
 use Rattle.format_resp.specs.declared.write.WriteError.TheVariants.{NoParts, OutOfMemory, Pairs}
 
+pub keeps_trans : {before between after : List ℕ} → Keeps before between → Keeps between after
+    → Keeps before after
+keeps_trans {before} first second = record {
+  more = first.more ++ second.more;
+  behind = second.behind ∙ ap (λ l. l ++ second.more) first.behind
+      ∙ append_assoc before first.more second.more;
+}
+
+-- what is put in two parts
+pub put_two : (before : List ℕ) {between after : List ℕ} (xs ys : List ℕ) → between ≡ before ++ xs
+    → after ≡ between ++ ys → after ≡ before ++ (xs ++ ys)
+put_two before xs ys e f = f ∙ ap (λ l. l ++ ys) e ∙ append_assoc before xs ys
+
+pub if_error : {T E : Type 0} (P : E → Type 0) (result : Result T E) (e : E)
+    → IsErrAnd result (λ x. x ≡ e) → P e → IfErr result P
+if_error {T} {E} P result e is p =
+    let (x, same, there) = err_from_is_err_and result is in
+    subst (λ r. IfErr r P) (sym same) (subst P (sym there) p)
+
+-- what was put is all that is there after
+pub adds : {O : Type 0} {text : Text ℕ O} {o : O} {before after : List ℕ} (tokens : List ℕ)
+    → text o tokens → after ≡ before ++ tokens → Adds text o before after
+adds tokens is e = record { tokens = tokens; is = is; behind = e }
+
+-- one more element
+pub row_more : {O : Type 0} {text : Text ℕ O} (os : List O) (k : ℕ) (o : O)
+    {before between after : List ℕ} → k < length os → o ≡ slice_index_or os k o
+    → Adds text o before between → Adds (EachText text) (drop (k + 1) os) between after
+    → Adds (EachText text) (drop k os) before after
+unfolding EachText
+row_more {O} {text} os k o {before} {between} {after} below is one more =
+    let P : List O → Type 0 = λ l. Adds (EachText text) l before after in
+    let here : drop k os ≡ o ∷ drop (k + 1) os =
+    drop_more os k o below ∙ ap (λ y. y ∷ drop (k + 1) os) (sym is) in
+    subst P (sym here) (record {
+      tokens = one.tokens ++ more.tokens;
+      is = (one.tokens, more.tokens, one.is, more.is, refl);
+      behind = put_two before one.tokens more.tokens one.behind more.behind;
+    })
+
+-- no more
+pub row_end : {O : Type 0} (text : Text ℕ O) (os : List O) (k : ℕ) (bytes : List ℕ)
+    → length os ≤ k → Adds (EachText text) (drop k os) bytes bytes
+unfolding EachText
+row_end {O} text os k bytes most =
+    subst (λ l. Adds (EachText text) l bytes bytes) (sym (drop_all k os most))
+    (record { tokens = []; is = refl; behind = sym (append-nil bytes) })
+
+-- an element is among all
+pub among : {O : Type 0} (os : List O) (k : ℕ) (o : O) → k < length os
+    → o ≡ slice_index_or os k o → Contains os o
+among os k o below is = (k, below, sym is)
+
+-- the digits of a number, by those of its quotient by ten
+pub digits_more : (n : ℕ) (before : List ℕ) {between after : List ℕ} → 10 ≤ n → n < 2 ^ 64
+    → between ≡ before ++ decimal (n / 10) → after ≡ between ++ (48 + n % 10) ∷ []
+    → after ≡ before ++ decimal n
+digits_more n before low high e f =
+    put_two before (decimal (n / 10)) ((48 + n % 10) ∷ []) e f
+    ∙ ap (λ l. before ++ l) (sym (decimal_step n low high))
+
+pub digit_alone : (n : ℕ) (before : List ℕ) {after : List ℕ} → n < 10
+    → after ≡ before ++ (48 + n) ∷ [] → after ≡ before ++ decimal n
+digit_alone n before small e = e ∙ ap (λ l. before ++ l) (sym (decimal_digit n small))
+
+pub cut_back : {n : ℕ} {before after cut : List ℕ} → Keeps before after → n ≡ length before
+    → cut ≡ take n after → cut ≡ before
+cut_back {n} {before} {after} kept many e =
+    e ∙ ap (λ k. take k after) many ∙ ap (λ l. take (length before) l) kept.behind
+    ∙ take-append_seam before kept.more
+
 -- ---- what is put
 
 module _ {A : Type 0} (protocol : Protocol) (level : ℕ) {reply : Replies A}
     (within : IsIn protocol (first_mark reply)) {before after : List ℕ} where
-  line_put : (mark : LineMark) (line : List ℕ) → LineWritten mark reply line
+  pub line_put : (mark : LineMark) (line : List ℕ) → LineWritten mark reply line
       → after ≡ before ++ marked (byte_of (Line mark)) line
       → Adds (WrittenText protocol level) reply before after
   line_put mark line is = adds (marked (byte_of (Line mark)) line)
       (within, inl (mark, line, is, refl))
 
-  pub simple_put : (text : Bor (List ℕ)) → reply ≡ made.Simple text
-      → AllByRecursion InLine text.now × (after ≡ before ++ marked 43 text.now)
-      → Adds (WrittenText protocol level) reply before after
-  simple_put text is (all, e) = line_put Plus text.now
-      (text, is, shown_is (AllByRecursion InLine) text all) e
-
-  pub error_put : (text : Bor (List ℕ)) → reply ≡ made.Error text
-      → AllByRecursion InLine text.now × (after ≡ before ++ marked 45 text.now)
-      → Adds (WrittenText protocol level) reply before after
-  error_put text is (all, e) = line_put Minus text.now
-      (text, is, shown_is (AllByRecursion InLine) text all) e
-
-  pub integer_put : {n : ℤ} → after ≡ before ++ marked 58 (signed_decimal n)
-      → reply ≡ made.Integer n → FitsSigned w64 n
-      → Adds (WrittenText protocol level) reply before after
-  integer_put {n} e is fits = line_put Colon (signed_decimal n) (n, is, fits, refl) e
-
-  pub null_put : reply ≡ made.Null → after ≡ before ++ marked 95 []
-      → Adds (WrittenText protocol level) reply before after
-  null_put is = line_put Underscore [] (is, refl)
-
-  pub boolean_put : (boolean : Bool) (line : List ℕ) → reply ≡ made.Boolean boolean
-      → BooleanText boolean line → after ≡ before ++ marked 35 line
-      → Adds (WrittenText protocol level) reply before after
-  boolean_put boolean line is says = line_put Hash line (boolean, is, says)
-
-  pub double_put : (text : Bor (List ℕ)) → reply ≡ made.Double text
-      → IsDouble text.now × (after ≡ before ++ marked 44 text.now)
-      → Adds (WrittenText protocol level) reply before after
-  double_put text is (it, e) = line_put Comma text.now (text, is, shown_is IsDouble text it) e
-
-  pub big_number_put : (text : Bor (List ℕ)) → reply ≡ made.BigNumber text
-      → IsBigNumber text.now × (after ≡ before ++ marked 40 text.now)
-      → Adds (WrittenText protocol level) reply before after
-  big_number_put text is (it, e) =
-      line_put Parenthesis text.now (text, is, shown_is IsBigNumber text it) e
-
-  data_put : (mark : DataMark) (bytes : List ℕ) → DataSays mark reply bytes
+  pub data_put : (mark : DataMark) (bytes : List ℕ) → DataSays mark reply bytes
       → length bytes < 2 ^ 63 → after ≡ before ++ data_of (byte_of (Data mark)) bytes
       → Adds (WrittenText protocol level) reply before after
   data_put mark bytes says small =
       adds (data_of (byte_of (Data mark)) bytes)
       (within, inr (inl (mark, bytes, says, small, refl)))
-
-  pub bulk_error_put : (bytes : Bor (List ℕ)) → reply ≡ made.BulkError bytes
-      → length bytes.now < 2 ^ 63 → after ≡ before ++ data_of 33 bytes.now
-      → Adds (WrittenText protocol level) reply before after
-  bulk_error_put bytes is small = data_put Exclamation bytes.now
-      (bytes, is, shown_is (λ tokens. ⊤) bytes tt) small
-
-  pub bulk_put : (bytes : Bor (List ℕ)) → reply ≡ made.Bulk bytes
-      → length bytes.now < 2 ^ 63 → after ≡ before ++ data_of 36 bytes.now
-      → Adds (WrittenText protocol level) reply before after
-  bulk_put bytes is small = data_put Dollar bytes.now
-      (bytes, is, shown_is (λ tokens. ⊤) bytes tt) small
-
-  pub verbatim_put : (bytes : Bor (List ℕ)) → reply ≡ made.Verbatim bytes
-      → length bytes.now < 2 ^ 63
-      → IsVerbatim bytes.now × (after ≡ before ++ data_of 61 bytes.now)
-      → Adds (WrittenText protocol level) reply before after
-  verbatim_put bytes is small (it, e) =
-      data_put Equals bytes.now (bytes, is, shown_is IsVerbatim bytes it) small e
 
   pub null_bulk_put : reply ≡ made.NullBulk → after ≡ before ++ marked 36 (45 ∷ 49 ∷ [])
       → Adds (WrittenText protocol level) reply before after
@@ -141,21 +156,16 @@ aggregate_put {A} protocol mark size below {level} list {items} {byte} {before} 
           (e ∙ ap (λ b. before ++ marked b (decimal size)) first) added.behind;
     })
 
--- an aggregate of a version of the protocol
-pub aggregate_within : {A : Type 0} (protocol : Protocol) (mark : AggregateMark)
-    {reply : Replies A} (list : Vec (Replies A) A) → reply ≡ gathered mark list
-    → IsIn protocol (first_mark reply) → IsIn protocol (Aggregate mark)
-aggregate_within protocol mark {reply} list is within =
-    subst (λ m. IsIn protocol m) (marked_aggregate mark reply list is) within
-
--- what was put as another reply, which it is
-pub put_as : {A : Type 0} (protocol : Protocol) (level : ℕ) {reply form : Replies A}
-    {before after : List ℕ}
-    → reply ≡ form → Adds (WrittenText protocol level) form before after
+-- what was appended for an aggregate of the version, for the reply that is this aggregate
+pub list_put : {A : Type 0} (protocol : Protocol) (level : ℕ) (mark : AggregateMark)
+    {reply : Replies A} (list : Vec (Replies A) A) {before after : List ℕ}
+    → reply ≡ gathered mark list → IsIn protocol (first_mark reply)
+    → (IsIn protocol (Aggregate mark)
+    → Adds (WrittenText protocol level) (gathered mark list) before after)
     → Adds (WrittenText protocol level) reply before after
-put_as {A} protocol level {before = before} {after = after} is added =
-    let P : Replies A → Type 0 = λ r. Adds (WrittenText protocol level) r before after in
-    subst P (sym is) added
+list_put protocol level mark {reply} list {before} {after} is within told =
+    subst (λ r. Adds (WrittenText protocol level) r before after) (sym is)
+    (told (subst (IsIn protocol) (marked_aggregate mark reply list is) within))
 
 pub adds_text : {A : Type 0} (protocol : Protocol) (level : ℕ) {reply : Replies A}
     {before after : List ℕ}
@@ -188,10 +198,9 @@ module _ {A : Type 0} (protocol : Protocol) where
       → ((P → ⊥) → IsRefused protocol level reply error) → (e : WriteError) → IsRefusedAs error P e
       → IsRefused protocol level reply e
   as_error level reply error P why e (inl memory) =
-      let R : WriteError → Type 0 = λ x. IsRefused protocol level reply x in subst R (sym memory) tt
+      subst (IsRefused protocol level reply) (sym memory) tt
   as_error level reply error P why e (inr (is, not)) =
-      let R : WriteError → Type 0 =
-      λ x. IsRefused protocol level reply x in subst R (sym is) (why not)
+      subst (IsRefused protocol level reply) (sym is) (why not)
 
   module _ (level : ℕ) {reply : Replies A} where
     pub refused_simple : (text : Bor (List ℕ)) → reply ≡ made.Simple text → (e : WriteError)
@@ -230,8 +239,7 @@ module _ {A : Type 0} (protocol : Protocol) where
   -- an error of another reply, which it is
   pub refused_form : (level : ℕ) {reply form : Replies A} → reply ≡ form → (e : WriteError)
       → IsRefused protocol level form e → IsRefused protocol level reply e
-  refused_form level is e =
-      let P : Replies A → Type 0 = λ r. IsRefused protocol level r e in subst P (sym is)
+  refused_form level is e = subst (λ r. IsRefused protocol level r e) (sym is)
 
   -- ---- aggregates
 
@@ -248,39 +256,26 @@ module _ {A : Type 0} (protocol : Protocol) where
       → IsRefused protocol level (gathered mark list) Level
   unfolding IsDeeper
   deep_aggregate mark list is =
-      let P : ℕ → Type 0 = λ l. IsDeeper l (gathered mark list) in
-      subst P (sym is) (mark, list, refl)
+      subst (λ l. IsDeeper l (gathered mark list)) (sym is) (mark, list, refl)
 
   in_element : (below : ℕ) (mark : AggregateMark) (list : Vec (Replies A) A) (e : WriteError)
       → IsRefusedAmong protocol below list.items e
       → IsRefused protocol (suc below) (gathered mark list) e
   unfolding IsDeeper
   in_element below mark list e (inl memory) =
-      let P : WriteError → Type 0 = λ x. IsRefused protocol (suc below) (gathered mark list) x in
-      subst P (sym memory) tt
-  in_element below mark list LineBreak (inr (reply, among, is)) =
-      or_within IsBroken below mark list reply among is
-  in_element below mark list Double (inr (reply, among, is)) =
-      or_within IsNoDouble below mark list reply among is
-  in_element below mark list BigNumber (inr (reply, among, is)) =
-      or_within IsNoBigNumber below mark list reply among is
-  in_element below mark list Format (inr (reply, among, is)) =
-      or_within IsUnformatted below mark list reply among is
-  in_element below mark list Pairs (inr (reply, among, is)) =
-      or_within IsUnpaired below mark list reply among is
-  in_element below mark list Foreign (inr (reply, among, is)) =
-      or_within (IsForeign protocol) below mark list reply among is
+      subst (IsRefused protocol (suc below) (gathered mark list)) (sym memory) tt
   in_element below mark list NoParts (inr (reply, among, is)) = absurd is
   in_element below mark list Level (inr (reply, among, is)) =
       (mark, list, refl, reply, among, is)
   in_element below mark list OutOfMemory (inr (reply, among, is)) = tt
+  in_element below mark list e (inr (reply, among, is)) =
+      or_within _ below mark list reply among is
 
   -- an aggregate cannot be written if one of its elements cannot be written
   pub refused_within : (below : ℕ) {level : ℕ} (mark : AggregateMark) (list : Vec (Replies A) A)
       {items : List (Replies A)} (e : WriteError) → items ≡ list.items → level ≡ below + 1
       → IsRefusedAmong protocol below items e → IsRefused protocol level (gathered mark list) e
   refused_within below {level} mark list e same is among =
-      let P : ℕ → Type 0 = λ l. IsRefused protocol l (gathered mark list) e in
-      let Q : List (Replies A) → Type 0 = λ l. IsRefusedAmong protocol below l e in
       let f : level ≡ suc below = omega (arith, is) in
-      subst P (sym f) (in_element below mark list e (subst Q same among))
+      subst (λ l. IsRefused protocol l (gathered mark list) e) (sym f)
+      (in_element below mark list e (rw same at among))

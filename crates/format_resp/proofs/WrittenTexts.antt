@@ -1,35 +1,101 @@
--- Proofs that the bytes written for a reply are an encoding of it.
-use Rattle.std.specs.Prelude.{◌≡◌, ◌<◌, ◌^◌, ℕ, zero, suc, List, [], ◌∷◌, ◌++◌}
-use Rattle.std.specs.Prelude.{length, Some, None}
-use Rattle.std.specs.Fmt.{decimal}
+-- Proofs that the bytes written for a reply are an encoding of it, and that an encoding at a depth
+-- is one at each greater depth.
+use Rattle.std.specs.Prelude.{◌≡◌, ◌+◌, ◌<◌, ◌^◌, ℕ, zero, suc, List, [], ◌∷◌, length, Option, Some}
+use Rattle.std.specs.Prelude.{None, ◌++◌}
 use Rattle.std.specs.declared.vec.Vec.{Vec}
-use Rattle.std.proofs.Common.{refl, sym, subst, inl, inr, arith}
-use Rattle.winnow.specs.Grammar.Inversion.{slice_for}
+use denote.RawPtr.{null_ptr}
+use Rattle.std.proofs.Common.{refl, subst, arith, sym, inl, inr}
 use Rattle.winnow.specs.InTurn.{Led}
-use Rattle.winnow.specs.Texts.{CountedText, Text}
-use Rattle.format_resp.proofs.Deeper.{row_as}
-use Rattle.format_resp.proofs.Integers.{null_text, signed_text, size_text}
-use Rattle.format_resp.proofs.FirstMarks.{marked_aggregate, marked_data, marked_line}
-use Rattle.format_resp.proofs.FirstMarks.{marked_null_array}
-use Rattle.format_resp.proofs.FirstMarks.{marked_null_bulk}
-use Rattle.format_resp.specs.Numbers.{SignedText}
-use Rattle.format_resp.specs.Resp.{Body, DataBehind, DataSays, DataText, Elements, Ended, IsIn}
-use Rattle.format_resp.specs.Resp.{LineSays, MarkText, Replies, ReplyText, byte_of, gathered}
-use Rattle.format_resp.specs.Resp.{line_end, many}
-use Rattle.format_resp.specs.Written.{IsWritten, LineWritten, WrittenElements, WrittenText, data_of}
-use Rattle.format_resp.specs.Written.{first_mark, marked}
+use Rattle.winnow.specs.Texts.{EachText, Text, CountedText}
+use Rattle.format_resp.specs.Resp.{AggregateBehind, Body, Elements, MarkText, Replies, ReplyText}
+use Rattle.format_resp.specs.Resp.{DataBehind, DataSays, DataText, Ended, IsIn, LineSays, byte_of}
+use Rattle.format_resp.specs.Resp.{gathered, line_end, many}
 use Rattle.format_resp.specs.declared.marks.AggregateMark.{AggregateMark}
-use Rattle.format_resp.specs.declared.marks.AggregateMark.TheVariants.{Bar, Greater, Percent, Star}
-use Rattle.format_resp.specs.declared.marks.AggregateMark.TheVariants.{Tilde}
-use Rattle.format_resp.specs.declared.marks.DataMark.{DataMark}
-use Rattle.format_resp.specs.declared.marks.DataMark.TheVariants.{Dollar}
-use Rattle.format_resp.specs.declared.marks.LineMark.{LineMark}
-use Rattle.format_resp.specs.declared.marks.LineMark.TheVariants.{Colon, Comma, Hash, Minus}
-use Rattle.format_resp.specs.declared.marks.LineMark.TheVariants.{Parenthesis, Plus, Underscore}
+use Rattle.format_resp.specs.declared.marks.AggregateMark.TheVariants.{Star}
 use Rattle.format_resp.specs.declared.marks.Mark.{Mark}
 use Rattle.format_resp.specs.declared.marks.Mark.TheVariants.{Aggregate, Data, Line}
 use Rattle.format_resp.specs.declared.reply.Protocol.{Protocol}
+use Rattle.std.specs.Fmt.{decimal}
+use Rattle.winnow.specs.Grammar.Inversion.{slice_for}
+use Rattle.format_resp.proofs.LineTexts.{null_text, signed_text, size_text}
+use Rattle.format_resp.proofs.Made.{marked_aggregate, marked_data, marked_line, marked_null_array}
+use Rattle.format_resp.proofs.Made.{marked_null_bulk}
+use Rattle.format_resp.specs.Numbers.{SignedText}
+use Rattle.format_resp.specs.Written.{IsWritten, LineWritten, WrittenElements, WrittenText, data_of}
+use Rattle.format_resp.specs.Written.{first_mark, marked}
+use Rattle.format_resp.specs.declared.marks.DataMark.{DataMark}
+use Rattle.format_resp.specs.declared.marks.DataMark.TheVariants.{Dollar}
+use Rattle.format_resp.specs.declared.marks.LineMark.{LineMark}
+use Rattle.format_resp.specs.declared.marks.LineMark.TheVariants.{Colon}
 use Rattle.format_resp.specs.declared.reply.Reply as made
+
+pub row_as : {O : Type 0} (these those : Text ℕ O)
+    → ((o : O) (xs : List ℕ) → these o xs → those o xs) → (os : List O) (xs : List ℕ)
+    → EachText these os xs → EachText those os xs
+unfolding EachText
+row_as these those leads [] xs e = e
+row_as these those leads (o ∷ os) xs (ys, zs, a, row, e) =
+    (ys, zs, leads o ys a, row_as these those leads os zs row, e)
+
+module _ {A : Type 0} (protocol : Protocol) where
+  module _ (these those : Text ℕ (List (Replies A)))
+      (leads : (os : List (Replies A)) (xs : List ℕ) → these os xs → those os xs) where
+    behind_as : (mark : AggregateMark) (size : Option ℕ) (reply : Replies A) (xs : List ℕ)
+        → AggregateBehind these mark size reply xs → AggregateBehind those mark size reply xs
+    behind_as mark (Some n) reply xs (list, is, (many, a)) =
+        (list, is, (many, leads list.items xs a))
+    behind_as Star None reply xs x = x
+    behind_as mark None reply xs x = x
+
+    body_as : (mark : Mark) (reply : Replies A) (xs : List ℕ) → Body these mark reply xs
+        → Body those mark reply xs
+    unfolding Led
+    body_as (Line mark) reply xs x = x
+    body_as (Data mark) reply xs x = x
+    body_as (Aggregate mark) reply xs (size, ys, zs, s, b, e) =
+        (size, ys, zs, s, behind_as mark size reply zs b, e)
+
+    reply_as : (reply : Replies A) (xs : List ℕ) → Led (MarkText protocol) (Body these) reply xs
+        → Led (MarkText protocol) (Body those) reply xs
+    unfolding Led
+    reply_as reply xs (mark, ys, zs, m, b, e) = (mark, ys, zs, m, body_as mark reply zs b, e)
+
+  elements_deeper : (level : ℕ) (os : List (Replies A)) (xs : List ℕ)
+      → Elements protocol level os xs → Elements protocol (suc level) os xs
+  unfolding Elements
+  elements_deeper zero os xs never = absurd never
+  elements_deeper (suc level) os xs row =
+      row_as (ReplyText protocol level) (ReplyText protocol (suc level))
+      (reply_as (Elements protocol level) (Elements protocol (suc level)) (elements_deeper level))
+      os xs row
+
+  pub deeper : (more level : ℕ) (reply : Replies A) (xs : List ℕ)
+      → ReplyText protocol level reply xs → ReplyText protocol (more + level) reply xs
+  deeper zero level reply xs x =
+      let P : ℕ → Type 0 = λ k. ReplyText {A = A} protocol k reply xs in
+      let same : level ≡ 0 + level = omega arith in subst P same x
+  deeper (suc more) level reply xs x =
+      let P : ℕ → Type 0 = λ k. ReplyText {A = A} protocol k reply xs in
+      let same : suc (more + level) ≡ suc more + level = omega arith in
+      subst P same (reply_as (Elements protocol (more + level))
+      (Elements protocol (suc (more + level))) (elements_deeper (more + level)) reply xs
+      (deeper more level reply xs x))
+
+-- in the logic there is a list of each few elements
+pub list_for : {T A : Type 0} (alloc : A) (xs : List T) → length xs < 2 ^ 63
+    → (list : Vec T A) × (list.items ≡ xs)
+list_for alloc xs few = (
+  record {
+    ptr = null_ptr;
+    len = length xs;
+    cap = length xs;
+    alloc = alloc;
+    items = xs;
+    ok = (refl, omega arith);
+    small = omega (arith, few);
+  },
+  refl,
+)
 
 pub few : {T A : Type 0} (list : Vec T A) → length list.items < 2 ^ 63
 few list = omega (arith, list.ok.0, list.ok.1, list.small)
@@ -38,31 +104,21 @@ few list = omega (arith, list.ok.0, list.ok.1, list.small)
 small_of : (mark : AggregateMark) (size count : ℕ) → count ≡ many mark size → count < 2 ^ 63
     → size < 2 ^ 63
 small_of Star size count e small = omega (arith, e, small)
-small_of Percent size count e small = omega (arith, e, small)
-small_of Tilde size count e small = omega (arith, e, small)
-small_of Greater size count e small = omega (arith, e, small)
-small_of Bar size count e small = omega (arith, e, small)
+small_of mark size count e small = omega (arith, e, small)
 
 module _ {A : Type 0} where
   line_says : (mark : LineMark) (reply : Replies A) (line : List ℕ) → LineWritten mark reply line
       → LineSays mark reply line
   line_says Colon reply line (n, is, fits, e) =
-      let P : List ℕ → Type 0 = λ l. SignedText n l in
-      (n, is, subst P (sym e) (signed_text n fits))
-  line_says Plus reply line x = x
-  line_says Minus reply line x = x
-  line_says Underscore reply line x = x
-  line_says Hash reply line x = x
-  line_says Comma reply line x = x
-  line_says Parenthesis reply line x = x
+      (n, is, subst (SignedText n) (sym e) (signed_text n fits))
+  line_says mark reply line x = x
 
   data_says : (mark : DataMark) (reply : Replies A) (bytes : List ℕ) → DataSays mark reply bytes
       → DataBehind mark (Some (length bytes)) reply (bytes ++ line_end)
   unfolding DataText Ended CountedText
   data_says mark reply bytes says =
       let (slice, shown) = slice_for bytes in
-      let P : List ℕ → Type 0 = λ l. DataSays mark reply l in
-      (slice, subst P (sym shown) says, (bytes, (refl, shown), refl))
+      (slice, subst (DataSays mark reply) (sym shown) says, (bytes, (refl, shown), refl))
 
 module _ {A : Type 0} (protocol : Protocol) (elements : Text ℕ (List (Replies A)))
     (reply : Replies A) (tokens : List ℕ) (within : IsIn protocol (first_mark reply)) where

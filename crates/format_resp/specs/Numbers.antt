@@ -1,7 +1,8 @@
 -- Integers and sizes, and numbers of RESP3 that are kept as text, doubles and big numbers, as the
 -- Redis serialization protocol specification has them.
-use Rattle.std.specs.Prelude.{◌≡◌, ◌⊎◌, ◌<◌, ◌^◌, Bool, true, false, ℕ, ℤ, pos, neg_ℤ}
+use Rattle.std.specs.Prelude.{◌≡◌, ◌==◌, ◌⊎◌, ◌<◌, ◌^◌, ⊤, Bool, true, false, ℕ, ℤ, pos, neg_ℤ}
 use Rattle.std.specs.Prelude.{List, [], ◌∷◌, ◌++◌, length, Option, None, Some, FitsSigned}
+use Rattle.std.specs.Prelude.{if◌then◌else◌}
 use Rattle.std.specs.Int.{w64}
 use Rattle.std.specs.List.{AllByRecursion}
 use Rattle.winnow.specs.AsChar.{IsDecDigit}
@@ -16,10 +17,15 @@ AreDigits digits = AllByRecursion IsDecDigit digits × (0 < length digits)
 abbrev pub DigitsText : ℕ → List ℕ → Type 0
 DigitsText n tokens = AreDigits tokens × (value_in 10 tokens ≡ n)
 
--- a minus, or a plus or nothing
-abbrev pub IsSignOf : Bool → List ℕ → Type 0
-IsSignOf true sign = sign ≡ 45 ∷ []
-IsSignOf false sign = (sign ≡ []) ⊎ (sign ≡ 43 ∷ [])
+-- whether a minus is first
+abbrev pub is_negative : List ℕ → Bool
+is_negative [] = false
+is_negative (b ∷ bs) = b == 45
+
+-- the rest after a plus or a minus, or all bytes
+abbrev pub unsigned : List ℕ → List ℕ
+unsigned [] = []
+unsigned (b ∷ bs) = if b == 43 then bs else if b == 45 then bs else b ∷ bs
 
 abbrev pub signed : Bool → ℕ → ℤ
 signed true m = neg_ℤ (pos m)
@@ -32,48 +38,34 @@ UnsignedText negative n digits =
 
 -- an integer of 64 bits: [<+|->]<value>
 unfoldable pub SignedText : ℤ → List ℕ → Type 0
-SignedText n tokens =
-    (negative : Bool) × (sign : List ℕ) × (digits : List ℕ) × IsSignOf negative sign
-    × UnsignedText negative n digits × (tokens ≡ sign ++ digits)
+SignedText n tokens = UnsignedText (is_negative tokens) n (unsigned tokens)
 
 -- a size: digits, of a number that an integer of 64 bits can be; -1 for null
 abbrev pub SizeLine : Option ℕ → List ℕ → Type 0
 SizeLine None line = line ≡ 45 ∷ 49 ∷ []
 SizeLine (Some n) line = DigitsText n line × (n < 2 ^ 63)
 
--- a plus, a minus, or nothing
-abbrev pub IsSign : List ℕ → Type 0
-IsSign sign = (sign ≡ []) ⊎ ((sign ≡ 43 ∷ []) ⊎ (sign ≡ 45 ∷ []))
-
 -- [<+|->]<number>
 unfoldable pub IsBigNumber : List ℕ → Type 0
-IsBigNumber tokens =
-    (sign : List ℕ) × (digits : List ℕ) × IsSign sign × AreDigits digits
-    × (tokens ≡ sign ++ digits)
-
--- [.<fractional>]
-abbrev pub IsFraction : List ℕ → Type 0
-IsFraction tokens =
-    (tokens ≡ []) ⊎ ((digits : List ℕ) × AreDigits digits × (tokens ≡ 46 ∷ digits))
+IsBigNumber tokens = AreDigits (unsigned tokens)
 
 -- [<E|e>[sign]<exponent>]
 unfoldable pub IsExponent : List ℕ → Type 0
-IsExponent tokens =
-    (tokens ≡ [])
-    ⊎ ((letter : ℕ) × (power : List ℕ) × ((letter ≡ 69) ⊎ (letter ≡ 101)) × IsBigNumber power
-    × (tokens ≡ letter ∷ power))
+IsExponent [] = ⊤
+IsExponent (letter ∷ power) = ((letter ≡ 69) ⊎ (letter ≡ 101)) × IsBigNumber power
 
--- both
+-- [.<fractional>][<E|e>[sign]<exponent>]
 unfoldable pub IsTail : List ℕ → Type 0
 IsTail tokens =
-    (fraction : List ℕ) × (exponent : List ℕ) × IsFraction fraction × IsExponent exponent
-    × (tokens ≡ fraction ++ exponent)
+    IsExponent tokens
+    ⊎ ((digits : List ℕ) × (exponent : List ℕ) × AreDigits digits × IsExponent exponent
+    × (tokens ≡ 46 ∷ (digits ++ exponent)))
 
 -- [<+|->]<integral>[.<fractional>][<E|e>[sign]<exponent>]
 unfoldable pub IsDecimal : List ℕ → Type 0
 IsDecimal tokens =
-    (whole : List ℕ) × (tail : List ℕ) × IsBigNumber whole × IsTail tail
-    × (tokens ≡ whole ++ tail)
+    (whole : List ℕ) × (tail : List ℕ) × AreDigits whole × IsTail tail
+    × (unsigned tokens ≡ whole ++ tail)
 
 -- inf, -inf, nan
 abbrev pub inf_word : List ℕ
@@ -88,20 +80,7 @@ IsDouble tokens =
     (tokens ≡ inf_word) ⊎ ((tokens ≡ 45 ∷ inf_word) ⊎ ((tokens ≡ nan_word)
     ⊎ ((tokens ≡ 45 ∷ nan_word) ⊎ IsDecimal tokens)))
 
--- ---- what functions answer of them
-
--- The tokens start with bytes that satisfy `these`, and the rest does not start with a digit.
-abbrev pub RestAfter : (List ℕ → Type 0) → List ℕ → List ℕ → Type 0
-RestAfter these tokens rest =
-    (front : List ℕ) × these front × (tokens ≡ front ++ rest) × NotFirst IsDecDigit rest
-
--- The tokens do not start with bytes that satisfy `these`.
-abbrev pub NoneStands : (List ℕ → Type 0) → List ℕ → Type 0
-NoneStands these tokens = (front rest : List ℕ) → these front → tokens ≡ front ++ rest → ⊥
-
--- The rest after a leading sign, or everything if there is none.
-unfoldable pub SignsOff : List ℕ → List ℕ → Type 0
-SignsOff tokens rest =
-    ((sign : ℕ) × ((sign ≡ 43) ⊎ (sign ≡ 45)) × (tokens ≡ sign ∷ rest))
-    ⊎ ((rest ≡ tokens) × ((sign : ℕ) (others : List ℕ) → (sign ≡ 43) ⊎ (sign ≡ 45)
-    → tokens ≡ sign ∷ others → ⊥))
+-- The tokens start with digits, and the rest does not start with a digit.
+abbrev pub RestAfterDigits : List ℕ → List ℕ → Type 0
+RestAfterDigits tokens rest =
+    (front : List ℕ) × AreDigits front × (tokens ≡ front ++ rest) × NotFirst IsDecDigit rest

@@ -75,18 +75,9 @@ abbrev pub IsIn : Protocol → Mark → Type 0
 IsIn protocol (Line Plus) = ⊤
 IsIn protocol (Line Minus) = ⊤
 IsIn protocol (Line Colon) = ⊤
-IsIn protocol (Line Underscore) = protocol ≡ Resp3
-IsIn protocol (Line Hash) = protocol ≡ Resp3
-IsIn protocol (Line Comma) = protocol ≡ Resp3
-IsIn protocol (Line Parenthesis) = protocol ≡ Resp3
 IsIn protocol (Data Dollar) = ⊤
-IsIn protocol (Data Exclamation) = protocol ≡ Resp3
-IsIn protocol (Data Equals) = protocol ≡ Resp3
 IsIn protocol (Aggregate Star) = ⊤
-IsIn protocol (Aggregate Percent) = protocol ≡ Resp3
-IsIn protocol (Aggregate Tilde) = protocol ≡ Resp3
-IsIn protocol (Aggregate Greater) = protocol ≡ Resp3
-IsIn protocol (Aggregate Bar) = protocol ≡ Resp3
+IsIn protocol mark = protocol ≡ Resp3
 
 unfoldable pub MarkText : Protocol → Text ℕ Mark
 MarkText protocol mark tokens = IsIn protocol mark × (tokens ≡ byte_of mark ∷ [])
@@ -108,11 +99,9 @@ BooleanText false tokens = tokens ≡ 102 ∷ []
 -- how many replies are in an aggregate: keys and values are counted in twos, and after attributes
 -- the reply is that they are of
 abbrev pub many : AggregateMark → ℕ → ℕ
-many Star n = n
 many Percent n = n * 2
-many Tilde n = n
-many Greater n = n
 many Bar n = n * 2 + 1
+many mark n = n
 
 -- replies whose bytes are slices
 abbrev pub Replies : Type 0 → Type 0
@@ -145,8 +134,7 @@ module _ {A : Type 0} where
   DataBehind mark (Some n) reply tokens =
       (bytes : Bor (List ℕ)) × DataSays mark reply bytes.now × DataText n bytes tokens
   DataBehind Dollar None reply tokens = (reply ≡ made.NullBulk) × (tokens ≡ [])
-  DataBehind Exclamation None reply tokens = ⊥
-  DataBehind Equals None reply tokens = ⊥
+  DataBehind mark None reply tokens = ⊥
 
   -- what they are
   abbrev pub gathered : AggregateMark → Vec (Replies A) A → Replies A
@@ -166,10 +154,7 @@ module _ {A : Type 0} where
   AggregateBehind elements mark (Some n) =
       For (λ list. gathered mark list) (ListText elements (many mark n))
   AggregateBehind elements Star None = λ reply tokens. (reply ≡ made.NullArray) × (tokens ≡ [])
-  AggregateBehind elements Percent None = λ reply tokens. ⊥
-  AggregateBehind elements Tilde None = λ reply tokens. ⊥
-  AggregateBehind elements Greater None = λ reply tokens. ⊥
-  AggregateBehind elements Bar None = λ reply tokens. ⊥
+  AggregateBehind elements mark None = λ reply tokens. ⊥
 
   -- after the first byte
   abbrev pub Body : Text ℕ (List (Replies A)) → Mark → Text ℕ (Replies A)

@@ -92,12 +92,7 @@ module _ {A : Type 0} where
   abbrev pub LineWritten : LineMark → Text ℕ (Replies A)
   LineWritten Colon = λ reply tokens.
       (n : ℤ) × (reply ≡ made.Integer n) × FitsSigned w64 n × (tokens ≡ signed_decimal n)
-  LineWritten Plus = LineSays Plus
-  LineWritten Minus = LineSays Minus
-  LineWritten Underscore = LineSays Underscore
-  LineWritten Hash = LineSays Hash
-  LineWritten Comma = LineSays Comma
-  LineWritten Parenthesis = LineSays Parenthesis
+  LineWritten mark = LineSays mark
 
   -- the bytes written for a reply, by those of the elements of an aggregate: a line; a size and
   -- data; a size and replies; and the nulls of RESP2

@@ -9,10 +9,11 @@ ghost use Rattle.winnow.specs.Bytes.{bytes_input, bytes_reading};
 ghost use Rattle.winnow.specs.Digits.{value_in};
 ghost use Rattle.winnow.specs.Exact.{IsSpared, Reads};
 ghost use Rattle.winnow.specs.Grammar.{Class};
+ghost use Rattle.winnow.specs.Texts.{NotFirst};
 ghost use Rattle.format_resp.specs.Numbers.{AreDigits, DigitsText, IsBigNumber, IsDecimal};
-ghost use Rattle.format_resp.specs.Numbers.{IsDouble};
-ghost use Rattle.format_resp.specs.Numbers.{IsExponent, IsTail, NoneStands, RestAfter, SignedText};
-ghost use Rattle.format_resp.specs.Numbers.{SignsOff, SizeLine, UnsignedText, signed};
+ghost use Rattle.format_resp.specs.Numbers.{IsDouble, IsExponent, IsTail, RestAfterDigits};
+ghost use Rattle.format_resp.specs.Numbers.{SignedText, SizeLine, UnsignedText, is_negative};
+ghost use Rattle.format_resp.specs.Numbers.{signed, unsigned};
 
 use winnow::Parser;
 use winnow::ascii::impls::Digit1;
@@ -34,8 +35,8 @@ fn read_digits<'i>(bytes: &mut &'i [u8]) -> Result<&'i [u8], ErrMode<EmptyError>
 /// Skips one or more digits and returns the rest.
 #[inline(always)]
 fn skip_digits<'i>(bytes: &'i [u8]) -> Option<&'i [u8]>
-    ensures { MatchOption result (NoneStands AreDigits bytes.now)
-        (λ rest. RestAfter AreDigits bytes.now rest.now) }
+    ensures { MatchOption result (NotFirst IsDecDigit bytes.now)
+        (λ rest. RestAfterDigits bytes.now rest.now) }
 {
     let mut left = bytes;
     match read_digits(&mut left) {
@@ -120,6 +121,32 @@ fn signed_of(negative: bool, bytes: &[u8]) -> Option<i64>
     }
 }
 
+/// Whether the bytes start with a minus.
+#[inline(always)]
+fn has_minus(bytes: &[u8]) -> bool
+    ensures { result ≡ is_negative bytes.now }
+{
+    let Some((first, _more)) = bytes.split_first() else {
+        return false;
+    };
+    *first == b'-'
+}
+
+/// Returns the rest after a sign, or all bytes if there is none.
+#[inline(always)]
+fn without_sign<'i>(bytes: &'i [u8]) -> &'i [u8]
+    ensures { result.now ≡ unsigned bytes.now }
+{
+    let Some((first, rest)) = bytes.split_first() else {
+        return bytes;
+    };
+    let first = *first;
+    if first == b'+' || first == b'-' {
+        return rest;
+    }
+    bytes
+}
+
 /// The integer that a line is, without its end: digits, and a sign or none before them. `None` says
 /// that it is none of 64 bits.
 ///
@@ -134,18 +161,7 @@ pub fn number_of(line: &[u8]) -> Option<i64>
     ensures some { IfSome result (λ n. SignedText n line.now) }
     ensures none { result ≡ None → (n : ℤ) → SignedText n line.now → ⊥ }
 {
-    let (first, behind) = line.split_first()?;
-    let first = *first;
-    if first == b'-' {
-        let below = signed_of(true, behind);
-        return below;
-    }
-    if first == b'+' {
-        let above = signed_of(false, behind);
-        return above;
-    }
-    let plain = signed_of(false, line);
-    plain
+    signed_of(has_minus(line), without_sign(line))
 }
 
 /// The most bytes or replies that a size counts.
@@ -168,28 +184,6 @@ pub(crate) fn size_line(line: &[u8]) -> Option<Option<usize>>
     }
 }
 
-/// Returns the rest after a sign, or all bytes if there is none.
-fn without_sign<'i>(bytes: &'i [u8]) -> &'i [u8]
-    ensures { SignsOff bytes.now result.now }
-{
-    let Some((first, rest)) = bytes.split_first() else {
-        return bytes;
-    };
-    let first = *first;
-    if first == b'+' || first == b'-' {
-        return rest;
-    }
-    bytes
-}
-
-/// Skips an optional sign and digits, and returns the rest.
-fn skip_number<'i>(bytes: &'i [u8]) -> Option<&'i [u8]>
-    ensures { MatchOption result (NoneStands IsBigNumber bytes.now)
-        (λ rest. RestAfter IsBigNumber bytes.now rest.now) }
-{
-    skip_digits(without_sign(bytes))
-}
-
 /// Whether the bytes, all of them, are the text of a big number of RESP3: digits, and a sign before
 /// them or none.
 ///
@@ -202,10 +196,7 @@ fn skip_number<'i>(bytes: &'i [u8]) -> Option<&'i [u8]>
 pub fn is_big_number(bytes: &[u8]) -> bool
     ensures { MatchBool result (IsBigNumber bytes.now) (IsBigNumber bytes.now → ⊥) }
 {
-    match skip_number(bytes) {
-        Some(rest) => rest.is_empty(),
-        None => false,
-    }
+    are_digits(without_sign(bytes))
 }
 
 /// Whether it is a letter E and a number, or nothing.
@@ -245,7 +236,7 @@ fn is_tail(bytes: &[u8]) -> bool
 fn is_decimal(bytes: &[u8]) -> bool
     ensures { MatchBool result (IsDecimal bytes.now) (IsDecimal bytes.now → ⊥) }
 {
-    match skip_number(bytes) {
+    match skip_digits(without_sign(bytes)) {
         Some(rest) => is_tail(rest),
         None => false,
     }

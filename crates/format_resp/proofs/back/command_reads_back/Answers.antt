@@ -1,6 +1,6 @@
 use Rattle.std.proofs.lemmas.Result.{IfOk-weaker}
 use Rattle.format_resp.proofs.ReadBack.{command_back, command_first}
-use Rattle.format_resp.proofs.Putting.{if_error}
+use Rattle.format_resp.proofs.Writing.{if_error}
 use Rattle.format_resp.proofs.WrittenTexts.{few}
 use Rattle.format_resp.specs.declared.reply.Reply as made
 use Rattle.format_resp.proofs.back.command_reads_back.Goals as goal

@@ -1,5 +1,5 @@
 use Rattle.std.proofs.lemmas.Result.{IfOk-weaker}
-use Rattle.format_resp.proofs.Putting.{if_error}
+use Rattle.format_resp.proofs.Writing.{if_error}
 use Rattle.format_resp.proofs.ReadBack.{one_reply, put_first}
 use Rattle.format_resp.specs.Resp.{ReplyText}
 use Rattle.format_resp.proofs.back.reads_back.Goals as goal

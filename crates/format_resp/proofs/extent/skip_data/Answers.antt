@@ -1,4 +1,4 @@
-use Rattle.format_resp.proofs.BulkEnds.{data_end, data_short}
+use Rattle.format_resp.proofs.Passing.{data_end, data_short}
 use Rattle.format_resp.proofs.extent.skip_data.Goals as goal
 
 pub returns-in-None-clause-told : goal.returns-in-None-clause-told

@@ -1,22 +1,16 @@
-use Rattle.std.specs.Prelude.{None, Option, Some, ℕ}
-use Rattle.std.proofs.Common.{refl, subst}
-use Rattle.format_resp.specs.Numbers.{SizeLine}
+use Rattle.std.specs.Prelude.{None, Some}
+use Rattle.std.proofs.Common.{refl}
 use Rattle.format_resp.proofs.heads.aggregate_head.Goals as goal
 
 pub returns-in-Some-Some-clause-some : goal.returns-in-Some-Some-clause-some
 returns-in-Some-Some-clause-some c =
-    let P : Option ℕ → Type 0 = λ s. SizeLine s c.args.line.now in
-    rw c.in-Star.is (
-      Some c.in-Some-Some.size,
-      refl,
-      subst P c.in-Some-Some.field-0-is c.in-Some-Some.ensures.some,
-    )
+    let is = rw c.in-Some-Some.field-0-is at c.in-Some-Some.ensures.some in
+    rw c.in-Star.is (Some c.in-Some-Some.size, refl, is)
 
 pub returns-in-Some-None-clause-some : goal.returns-in-Some-None-clause-some
 returns-in-Some-None-clause-some c =
-    let P : Option ℕ → Type 0 = λ s. SizeLine s c.args.line.now in
-    rw c.in-Star.is
-    (None, refl, subst P c.in-Some-None.field-0-is c.in-Some-None.ensures.some)
+    let is = rw c.in-Some-None.field-0-is at c.in-Some-None.ensures.some in
+    rw c.in-Star.is (None, refl, is)
 
 pub returns-in-None-clause-none : goal.returns-in-None-clause-none
 returns-in-None-clause-none c =

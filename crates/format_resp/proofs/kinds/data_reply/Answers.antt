@@ -1,6 +1,6 @@
 use Rattle.std.specs.Prelude.{⊤}
 use Rattle.std.proofs.Common.{refl}
-use Rattle.format_resp.proofs.Sayings.{shown_are, shown_is}
+use Rattle.format_resp.proofs.Encodings.{shown_are, shown_is}
 use Rattle.format_resp.specs.Resp.{IsVerbatim}
 use Rattle.format_resp.proofs.kinds.data_reply.Goals as goal
 
@@ -14,11 +14,7 @@ returns-in-Exclamation-clause-some g c =
 
 pub returns-then-is_verbatim-clause-some : goal.returns-then-is_verbatim-clause-some
 returns-then-is_verbatim-clause-some g c =
-    rw c.in-Equals.is (
-      c.args.bytes,
-      refl,
-      shown_is IsVerbatim c.args.bytes c.if-is_verbatim.ensures,
-    )
+    rw c.in-Equals.is (c.args.bytes, refl, shown_is IsVerbatim _ c.if-is_verbatim.ensures)
 
 pub returns-else-is_verbatim-clause-none : goal.returns-else-is_verbatim-clause-none
 returns-else-is_verbatim-clause-none g c =

@@ -1,7 +1,7 @@
 use Rattle.std.specs.List.{AllByRecursion}
 use Rattle.std.proofs.Common.{refl}
 use Rattle.format_resp.specs.Resp.{InLine}
-use Rattle.format_resp.proofs.Sayings.{shown_are, shown_is}
+use Rattle.format_resp.proofs.Encodings.{shown_are, shown_is}
 use Rattle.format_resp.specs.Numbers.{IsBigNumber, IsDouble}
 use Rattle.format_resp.proofs.kinds.line_reply.Goals as goal
 
@@ -15,11 +15,7 @@ returns-in-Minus-clause-some g c =
 
 pub returns-then-is_double-clause-some : goal.returns-then-is_double-clause-some
 returns-then-is_double-clause-some g c =
-    rw c.in-Comma.is (λ all. (
-      c.args.line,
-      refl,
-      shown_is IsDouble c.args.line c.if-is_double.ensures,
-    ))
+    rw c.in-Comma.is (λ all. (c.args.line, refl, shown_is IsDouble _ c.if-is_double.ensures))
 
 pub returns-else-is_double-clause-none : goal.returns-else-is_double-clause-none
 returns-else-is_double-clause-none g c =
@@ -28,11 +24,8 @@ returns-else-is_double-clause-none g c =
 
 pub returns-then-is_big_number-clause-some : goal.returns-then-is_big_number-clause-some
 returns-then-is_big_number-clause-some g c =
-    rw c.in-Parenthesis.is (λ all. (
-      c.args.line,
-      refl,
-      shown_is IsBigNumber c.args.line c.if-is_big_number.ensures,
-    ))
+    let is = c.if-is_big_number.ensures in
+    rw c.in-Parenthesis.is (λ all. (c.args.line, refl, shown_is IsBigNumber _ is))
 
 pub returns-else-is_big_number-clause-none : goal.returns-else-is_big_number-clause-none
 returns-else-is_big_number-clause-none g c =

@@ -1,7 +1,7 @@
 use Rattle.std.proofs.Common.{refl}
 use Rattle.winnow.specs.InTurn.{failed, passed, stood, told_err, told_ok}
-use Rattle.format_resp.proofs.EndedLines.{ended_failed, ended_none, ended_stood}
-use Rattle.format_resp.proofs.Integers.{size_plain}
+use Rattle.format_resp.proofs.LineEnds.{ended_failed, ended_none, ended_stood}
+use Rattle.format_resp.proofs.LineTexts.{size_plain}
 use Rattle.format_resp.specs.Numbers.{SizeLine}
 use Rattle.format_resp.specs.Resp.{SizeText}
 use Rattle.format_resp.proofs.leaves.read_size.Goals as goal

@@ -6,8 +6,7 @@ use Rattle.std.proofs.lemmas.List.{take-append-drop}
 use Rattle.format_resp.specs.Lines.{IsLine}
 use Rattle.format_resp.specs.Resp.{InLine}
 use Rattle.format_resp.proofs.LineEnds.{found_first, open_all, open_past, open_rest, plain_before}
-use Rattle.format_resp.proofs.LineEnds.{less_line}
-use Rattle.format_resp.proofs.LineEnds.{unseen_rest}
+use Rattle.format_resp.proofs.LineEnds.{less_line, unseen_rest}
 use Rattle.format_resp.proofs.lines.line_of.Goals as goal
 
 pub returns-in-None-clause-told : goal.returns-in-None-clause-told

@@ -1,17 +1,12 @@
-use Rattle.format_resp.proofs.LeafTexts.{is_none, is_some}
-use Rattle.format_resp.proofs.NumberTexts.{all_whole, digits_more, none_whole}
-use Rattle.format_resp.proofs.Results.{bool_on}
-use Rattle.format_resp.specs.Numbers.{AreDigits}
+use Rattle.std.proofs.Common.{sym, []}
+use Rattle.std.proofs.lemmas.List.{append-nil}
+use Rattle.format_resp.proofs.NumberTexts.{digits_whole, starts}
 use Rattle.format_resp.proofs.numbers.are_digits.Goals as goal
 
 pub returns-in-Some : goal.returns-in-Some
-returns-in-Some c =
-    let rest = c.in-Some.rest.now in
-    bool_on _ _ c.is_empty.result
-    (λ is. all_whole AreDigits c.args.bytes.now rest c.in-Some.ensures
-    (is_none rest c.is_empty.result c.is_empty.ensures is))
-    (λ not. digits_more c.args.bytes.now rest c.in-Some.ensures
-    (is_some rest c.is_empty.result c.is_empty.ensures not))
+returns-in-Some c = digits_whole c.args.bytes.now c.in-Some.rest.now c.is_empty.result
+    c.in-Some.ensures c.is_empty.ensures
 
 pub returns-in-None : goal.returns-in-None
-returns-in-None c = none_whole AreDigits c.args.bytes.now c.in-None.ensures
+returns-in-None c a = starts c.args.bytes.now [] c.args.bytes.now a
+    (sym (append-nil c.args.bytes.now)) c.in-None.ensures

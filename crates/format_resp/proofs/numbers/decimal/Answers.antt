@@ -1,7 +1,7 @@
 use Rattle.std.proofs.Common.{arith, ap, take, ◌∙◌}
 use Rattle.std.specs.Str.Parse.{digits_value}
 use Rattle.std.proofs.lemmas.Int.Digits.{digits_value_more}
-use Rattle.format_resp.proofs.Digits.{all_digits, past_size}
+use Rattle.format_resp.proofs.NumberTexts.{all_digits, past_size}
 use Rattle.format_resp.proofs.numbers.decimal.Goals as goal
 
 pub returns-in_err-checked_mul : goal.returns-in_err-checked_mul

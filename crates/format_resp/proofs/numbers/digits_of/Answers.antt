@@ -1,4 +1,4 @@
-use Rattle.format_resp.proofs.Digits.{digits_none, digits_some}
+use Rattle.format_resp.proofs.NumberTexts.{digits_large, digits_some}
 use Rattle.format_resp.proofs.numbers.digits_of.Goals as goal
 
 pub returns-then-are_digits-clause-some : goal.returns-then-are_digits-clause-some
@@ -7,7 +7,7 @@ returns-then-are_digits-clause-some c =
 
 pub returns-then-are_digits-clause-none : goal.returns-then-are_digits-clause-none
 returns-then-are_digits-clause-none c =
-    digits_none c.args.bytes.now c.decimal.result c.decimal.ensures
+    digits_large c.args.bytes.now c.decimal.result c.decimal.ensures
 
 pub returns-else-are_digits-clause-none : goal.returns-else-are_digits-clause-none
 returns-else-are_digits-clause-none c e n a = absurd (c.if-are_digits.ensures a.0)

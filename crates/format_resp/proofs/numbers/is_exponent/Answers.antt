@@ -1,7 +1,6 @@
 use Rattle.std.proofs.Common.{inl, inr}
-use Rattle.format_resp.proofs.NumberTexts.{exponent_back, exponent_letter, exponent_none}
+use Rattle.format_resp.proofs.NumberTexts.{bool_as, exponent_back, exponent_letter, exponent_none}
 use Rattle.format_resp.proofs.NumberTexts.{exponent_other}
-use Rattle.format_resp.proofs.Results.{bool_as}
 use Rattle.format_resp.proofs.numbers.is_exponent.Goals as goal
 use Rattle.format_resp.proofs.numbers.is_exponent.Goals.{
   then-first-eq101-via-then-first-eq101,

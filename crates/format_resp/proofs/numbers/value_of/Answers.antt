@@ -1,6 +1,6 @@
 use Rattle.std.proofs.Common.{arith, ap}
 use Rattle.std.specs.Char.{digit_value}
-use Rattle.format_resp.proofs.Digits.{most_value}
+use Rattle.format_resp.proofs.NumberTexts.{most_value}
 use Rattle.format_resp.proofs.numbers.value_of.Goals as goal
 
 pub returns-in-None : goal.returns-in-None

@@ -1,5 +1,6 @@
-use Rattle.std.proofs.Common.{inl, inr}
-use Rattle.format_resp.proofs.NumberTexts.{no_sign, no_text, some_sign}
+use Rattle.std.proofs.Common.{inl, inr, refl}
+use Rattle.std.proofs.lemmas.List.{nil_from_length}
+use Rattle.format_resp.proofs.NumberTexts.{no_sign, some_sign}
 use Rattle.format_resp.proofs.numbers.without_sign.Goals as goal
 use Rattle.format_resp.proofs.numbers.without_sign.Goals.{
   then-first-eq43-via-then-first-eq43,
@@ -7,7 +8,7 @@ use Rattle.format_resp.proofs.numbers.without_sign.Goals.{
 }
 
 pub returns-in_default : goal.returns-in_default
-returns-in_default c = no_text c.args.bytes.now c.in_default.ensures.cases
+returns-in_default c = rw (nil_from_length _ c.in_default.ensures.cases) refl
 
 pub returns-then-first-eq43 : goal.returns-then-first-eq43
 returns-then-first-eq43 c = elim c.then-first-eq43.branch [

@@ -1,5 +1,5 @@
 use Rattle.std.proofs.Common.{arith}
-use Rattle.format_resp.proofs.Putting.{digit_alone, digits_more}
+use Rattle.format_resp.proofs.Writing.{digit_alone, digits_more}
 use Rattle.format_resp.proofs.parts.+write_digits.Goals as goal
 
 pub returns-then-number-lt10-clause-written : goal.returns-then-number-lt10-clause-written

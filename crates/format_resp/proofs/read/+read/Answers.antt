@@ -1,22 +1,22 @@
 use Rattle.std.proofs.Common.{arith, refl, ◌≡◌, ◌++◌, ◌∷◌, [], suc}
 use Rattle.winnow.specs.Input.{is_end_of_trans3}
-use Rattle.winnow.specs.InTurn.{failed, led_failed, led_none, led_stood, led_told}
-use Rattle.winnow.specs.InTurn.{passed, stood, told_err, told_ok, wanting}
+use Rattle.winnow.specs.InTurn.{failed, led_failed, led_none, led_stood, led_told, passed, stood}
+use Rattle.winnow.specs.InTurn.{told_err, told_ok, wanting}
 use Rattle.winnow.specs.InTurn.Rows.{more_failed, more_stood, none_stood}
-use Rattle.format_resp.proofs.Integers.{size_splits}
-use Rattle.format_resp.proofs.ReadParts.{alone_stood, pushed, roomy}
+use Rattle.format_resp.proofs.LineTexts.{size_splits}
+use Rattle.format_resp.proofs.Encodings.{alone_stood, pushed, roomy}
 use Rattle.format_resp.proofs.Bodies.{aggregate_failed, aggregate_stood, no_null_aggregate}
-use Rattle.format_resp.proofs.Bodies.{reply_unique, too_deep, too_many}
+use Rattle.format_resp.proofs.Bodies.{too_deep, too_many}
+use Rattle.format_resp.proofs.AlikeReplies.{reply_unique}
 use Rattle.format_resp.proofs.FirstBytes.{mark_splits}
-use Rattle.format_resp.specs.Resp.{AggregateBehind, Body, Elements, MarkText, ReplyText, SizeText}
+use Rattle.format_resp.specs.Resp.{Elements, MarkText, ReplyText, SizeText}
 use Rattle.format_resp.specs.declared.reply.Reply as made
 use Rattle.format_resp.proofs.read.+read.Goals as goal
 
 pub read_aggregate-returns-in_err-read_size : goal.read_aggregate-returns-in_err-read_size
 read_aggregate-returns-in_err-read_size g t c =
     passed _ c.from_residual.result c.from_residual.ensures.1
-    (led_none SizeText (AggregateBehind (Elements c.args.protocol c.args.level) c.args.mark)
-    (failed c.in_err-read_size.ensures))
+    (led_none SizeText _ (failed c.in_err-read_size.ensures))
 
 pub read_aggregate-loop-init : goal.read_aggregate-loop-init
 read_aggregate-loop-init g t c =
@@ -38,9 +38,7 @@ read_aggregate-returns-in_err-reply-in-Some-checked_sub g t c =
     let deep : c.args.level ≡ suc inner = omega (arith, c.in-Some-checked_sub.ensures) in
     passed _ c.from_residual-in_err-reply-in-Some-checked_sub.result
     c.from_residual-in_err-reply-in-Some-checked_sub.ensures.1
-    (led_failed SizeText (AggregateBehind (Elements c.args.protocol c.args.level) c.args.mark)
-    size_splits
-    (stood c.in_ok-read_size.ensures)
+    (led_failed SizeText _ size_splits (stood c.in_ok-read_size.ensures)
     (rw c.in-Some.is (aggregate_failed c.args.protocol c.args.level c.args.mark c.in-Some.size inner
     c.in-Some-count_of.count deep c.in-Some-count_of.ensures.some
     (more_failed (ReplyText c.args.protocol inner) c.loop.counter c.in-Some-count_of.count
@@ -68,17 +66,12 @@ read_aggregate-loop-preserved g t c =
 
 pub read_aggregate-returns-in-Star : goal.read_aggregate-returns-in-Star
 read_aggregate-returns-in-Star g t c =
-    told_ok (led_stood SizeText
-    (AggregateBehind (Elements c.args.protocol c.args.level) c.args.mark)
-    (stood c.in_ok-read_size.ensures)
+    told_ok (led_stood SizeText _ (stood c.in_ok-read_size.ensures)
     (rw (c.in-None.is, c.in-Star.is) (alone_stood made.NullArray)))
 
 pub read_aggregate-returns-in_default : goal.read_aggregate-returns-in_default
 read_aggregate-returns-in_default g t c =
-    told_err (led_failed SizeText
-    (AggregateBehind (Elements c.args.protocol c.args.level) c.args.mark) size_splits
-    (stood c.in_ok-read_size.ensures)
-    (rw c.in-None.is
+    told_err (led_failed SizeText _ size_splits (stood c.in_ok-read_size.ensures) (rw c.in-None.is
     (no_null_aggregate (Elements c.args.protocol c.args.level) c.args.mark
     c.in_default.not-Star
     c.from_input.ensures)))
@@ -86,9 +79,7 @@ read_aggregate-returns-in_default g t c =
 pub read_aggregate-returns-in-None-checked_sub : goal.read_aggregate-returns-in-None-checked_sub
 read_aggregate-returns-in-None-checked_sub g t c =
     let flat : c.args.level ≡ 0 = omega (arith, c.in-None-checked_sub.ensures) in
-    told_err (led_failed SizeText
-    (AggregateBehind (Elements c.args.protocol c.args.level) c.args.mark) size_splits
-    (stood c.in_ok-read_size.ensures)
+    told_err (led_failed SizeText _ size_splits (stood c.in_ok-read_size.ensures)
     (rw c.in-Some.is (too_deep c.args.protocol c.args.level c.args.mark c.in-Some.size flat
     c.from_input-in-None-checked_sub.ensures)))
 
@@ -102,10 +93,7 @@ pub read_aggregate-returns-after-loop : goal.read_aggregate-returns-after-loop
 read_aggregate-returns-after-loop g t c =
     let inner = c.in-Some-checked_sub.inner in
     let deep : c.args.level ≡ suc inner = omega (arith, c.in-Some-checked_sub.ensures) in
-    told_ok (led_stood SizeText
-    (AggregateBehind (Elements c.args.protocol c.args.level) c.args.mark)
-    (stood c.in_ok-read_size.ensures)
-    (rw c.in-Some.is
+    told_ok (led_stood SizeText _ (stood c.in_ok-read_size.ensures) (rw c.in-Some.is
     (aggregate_stood c.args.protocol c.args.level c.args.mark c.in-Some.size inner
     c.loop.counter
     deep (omega (
@@ -119,23 +107,19 @@ read_aggregate-returns-after-loop g t c =
 pub read_reply-returns-in_err-mark : goal.read_reply-returns-in_err-mark
 read_reply-returns-in_err-mark g t c =
     passed _ c.from_residual.result c.from_residual.ensures.1
-    (led_none (MarkText c.args.protocol) (Body (Elements c.args.protocol c.args.level))
-    (failed c.in_err-mark.ensures))
+    (led_none (MarkText c.args.protocol) _ (failed c.in_err-mark.ensures))
 
 pub read_reply-returns-in-Line : goal.read_reply-returns-in-Line
 read_reply-returns-in-Line g t c =
-    led_told (MarkText c.args.protocol) (Body (Elements c.args.protocol c.args.level))
-    (mark_splits c.args.protocol)
+    led_told (MarkText c.args.protocol) _ (mark_splits c.args.protocol)
     (stood c.in_ok-mark.ensures) (rw c.in-Line.is c.read_on_line.ensures)
 
 pub read_reply-returns-in-Data : goal.read_reply-returns-in-Data
 read_reply-returns-in-Data g t c =
-    led_told (MarkText c.args.protocol) (Body (Elements c.args.protocol c.args.level))
-    (mark_splits c.args.protocol)
+    led_told (MarkText c.args.protocol) _ (mark_splits c.args.protocol)
     (stood c.in_ok-mark.ensures) (rw c.in-Data.is c.read_bytes.ensures)
 
 pub read_reply-returns-in-Aggregate : goal.read_reply-returns-in-Aggregate
 read_reply-returns-in-Aggregate g t c =
-    led_told (MarkText c.args.protocol) (Body (Elements c.args.protocol c.args.level))
-    (mark_splits c.args.protocol)
+    led_told (MarkText c.args.protocol) _ (mark_splits c.args.protocol)
     (stood c.in_ok-mark.ensures) (rw c.in-Aggregate.is c.read_aggregate.ensures)

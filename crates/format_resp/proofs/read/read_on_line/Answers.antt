@@ -1,7 +1,7 @@
 use Rattle.std.proofs.Common.{refl}
 use Rattle.winnow.specs.InTurn.{failed, passed, stood, told_err, told_ok}
-use Rattle.format_resp.proofs.EndedLines.{ended_failed, ended_none, ended_stood}
-use Rattle.format_resp.proofs.Plain.{line_plain}
+use Rattle.format_resp.proofs.LineEnds.{ended_failed, ended_none, ended_stood}
+use Rattle.format_resp.proofs.LineTexts.{line_plain}
 use Rattle.format_resp.specs.Resp.{LineSays}
 use Rattle.format_resp.proofs.read.read_on_line.Goals as goal
 

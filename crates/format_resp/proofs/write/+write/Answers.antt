@@ -1,14 +1,20 @@
+use Rattle.std.specs.Prelude.{⊤, []}
+use Rattle.std.specs.List.{AllByRecursion}
 use Rattle.std.proofs.Common.{◌-◌, ◌∙◌, arith, inr, refl, rules, sym}
 use Rattle.std.proofs.lemmas.Result.{IfErr-weaker, on_ok_weaker}
-use Rattle.format_resp.proofs.Putting.{among, if_error, keeps_trans, row_end, row_more}
-use Rattle.format_resp.proofs.Writing.{aggregate_put, aggregate_within, big_number_put, boolean_put}
-use Rattle.format_resp.proofs.Writing.{bulk_error_put}
-use Rattle.format_resp.proofs.Writing.{deep_aggregate, double_put, error_put, integer_put}
-use Rattle.format_resp.proofs.Writing.{null_put, put_as, refused_big_number, refused_count}
-use Rattle.format_resp.proofs.Writing.{refused_double, refused_error, refused_form, refused_simple}
-use Rattle.format_resp.proofs.Writing.{refused_verbatim, refused_within, simple_put, verbatim_put}
-use Rattle.format_resp.proofs.Writing.{null_array_put, null_bulk_put, bulk_put, refused_foreign}
-use Rattle.format_resp.specs.declared.marks.AggregateMark.TheVariants.{Bar, Greater, Percent}
+use Rattle.format_resp.proofs.Writing.{among, if_error, keeps_trans, row_end, row_more}
+use Rattle.format_resp.proofs.Writing.{aggregate_put, data_put, deep_aggregate, list_put, line_put}
+use Rattle.format_resp.proofs.Writing.{null_array_put, null_bulk_put, refused_big_number}
+use Rattle.format_resp.proofs.Writing.{refused_count, refused_double, refused_error}
+use Rattle.format_resp.proofs.Writing.{refused_foreign, refused_form, refused_simple}
+use Rattle.format_resp.proofs.Writing.{refused_verbatim, refused_within}
+use Rattle.format_resp.proofs.Encodings.{shown_is}
+use Rattle.format_resp.specs.Numbers.{IsBigNumber, IsDouble}
+use Rattle.format_resp.specs.Resp.{InLine, IsVerbatim}
+use Rattle.format_resp.specs.declared.marks.DataMark.TheVariants.{Dollar, Equals, Exclamation}
+use Rattle.format_resp.specs.declared.marks.LineMark.TheVariants.{Colon, Comma, Hash, Minus}
+use Rattle.format_resp.specs.declared.marks.LineMark.TheVariants.{Parenthesis, Plus, Underscore}
+use Rattle.format_resp.specs.declared.marks.AggregateMark.TheVariants.{Bar, Greater, Percent, Star}
 use Rattle.format_resp.specs.declared.marks.AggregateMark.TheVariants.{Tilde}
 use Rattle.format_resp.proofs.write.+write.Goals as goal
 
@@ -89,7 +95,8 @@ pub write_nested-returns-in-Simple-clause-written :
     goal.write_nested-returns-in-Simple-clause-written
 write_nested-returns-in-Simple-clause-written g t c =
     on_ok_weaker c.write_text.result
-    (simple_put c.args.protocol c.args.level c.if-is_foreign.ensures _ c.in-Simple.is)
+    (λ told. line_put c.args.protocol c.args.level c.if-is_foreign.ensures Plus _
+    (_, c.in-Simple.is, shown_is (AllByRecursion InLine) _ told.0) told.1)
     c.write_text.ensures.written
 
 pub write_nested-returns-in-Simple-clause-refused :
@@ -103,7 +110,8 @@ pub write_nested-returns-in-Error-clause-written :
     goal.write_nested-returns-in-Error-clause-written
 write_nested-returns-in-Error-clause-written g t c =
     on_ok_weaker c.write_text-in-Error.result
-    (error_put c.args.protocol c.args.level c.if-is_foreign.ensures _ c.in-Error.is)
+    (λ told. line_put c.args.protocol c.args.level c.if-is_foreign.ensures Minus _
+    (_, c.in-Error.is, shown_is (AllByRecursion InLine) _ told.0) told.1)
     c.write_text-in-Error.ensures.written
 
 pub write_nested-returns-in-Error-clause-refused :
@@ -117,7 +125,8 @@ pub write_nested-returns-in-Double-clause-written :
     goal.write_nested-returns-in-Double-clause-written
 write_nested-returns-in-Double-clause-written g t c =
     on_ok_weaker c.write_double.result
-    (double_put c.args.protocol c.args.level c.if-is_foreign.ensures _ c.in-Double.is)
+    (λ told. line_put c.args.protocol c.args.level c.if-is_foreign.ensures Comma _
+    (_, c.in-Double.is, shown_is IsDouble _ told.0) told.1)
     c.write_double.ensures.written
 
 pub write_nested-returns-in-Double-clause-refused :
@@ -131,7 +140,8 @@ pub write_nested-returns-in-BigNumber-clause-written :
     goal.write_nested-returns-in-BigNumber-clause-written
 write_nested-returns-in-BigNumber-clause-written g t c =
     on_ok_weaker c.write_big_number.result
-    (big_number_put c.args.protocol c.args.level c.if-is_foreign.ensures _ c.in-BigNumber.is)
+    (λ told. line_put c.args.protocol c.args.level c.if-is_foreign.ensures Parenthesis _
+    (_, c.in-BigNumber.is, shown_is IsBigNumber _ told.0) told.1)
     c.write_big_number.ensures.written
 
 pub write_nested-returns-in-BigNumber-clause-refused :
@@ -145,8 +155,8 @@ pub write_nested-returns-in-Verbatim-clause-written :
     goal.write_nested-returns-in-Verbatim-clause-written
 write_nested-returns-in-Verbatim-clause-written g t c =
     on_ok_weaker c.write_verbatim.result
-    (verbatim_put c.args.protocol c.args.level c.if-is_foreign.ensures _ c.in-Verbatim.is
-    (search rules))
+    (λ told. data_put c.args.protocol c.args.level c.if-is_foreign.ensures Equals _
+    (_, c.in-Verbatim.is, shown_is IsVerbatim _ told.0) (search rules) told.1)
     c.write_verbatim.ensures.written
 
 pub write_nested-returns-in-Verbatim-clause-refused :
@@ -159,8 +169,8 @@ write_nested-returns-in-Verbatim-clause-refused g t c =
 pub write_nested-returns-in-Array-clause-written :
     goal.write_nested-returns-in-Array-clause-written
 write_nested-returns-in-Array-clause-written g t c =
-    on_ok_weaker c.write_list.result (λ told.
-    put_as c.args.protocol c.args.level c.in-Array.is (told tt))
+    on_ok_weaker c.write_list.result
+    (list_put c.args.protocol c.args.level Star _ c.in-Array.is c.if-is_foreign.ensures)
     c.write_list.ensures.written
 
 pub write_nested-returns-in-Array-clause-refused :
@@ -172,9 +182,8 @@ write_nested-returns-in-Array-clause-refused g t c =
 pub write_nested-returns-in-Map-clause-written :
     goal.write_nested-returns-in-Map-clause-written
 write_nested-returns-in-Map-clause-written g t c =
-    on_ok_weaker c.write_list-in-Map.result (λ told.
-    put_as c.args.protocol c.args.level c.in-Map.is (told
-    (aggregate_within c.args.protocol Percent _ c.in-Map.is c.if-is_foreign.ensures)))
+    on_ok_weaker c.write_list-in-Map.result
+    (list_put c.args.protocol c.args.level Percent _ c.in-Map.is c.if-is_foreign.ensures)
     c.write_list-in-Map.ensures.written
 
 pub write_nested-returns-in-Map-clause-refused :
@@ -187,9 +196,8 @@ write_nested-returns-in-Map-clause-refused g t c =
 pub write_nested-returns-in-Set-clause-written :
     goal.write_nested-returns-in-Set-clause-written
 write_nested-returns-in-Set-clause-written g t c =
-    on_ok_weaker c.write_list-in-Set.result (λ told.
-    put_as c.args.protocol c.args.level c.in-Set.is (told
-    (aggregate_within c.args.protocol Tilde _ c.in-Set.is c.if-is_foreign.ensures)))
+    on_ok_weaker c.write_list-in-Set.result
+    (list_put c.args.protocol c.args.level Tilde _ c.in-Set.is c.if-is_foreign.ensures)
     c.write_list-in-Set.ensures.written
 
 pub write_nested-returns-in-Set-clause-refused :
@@ -202,9 +210,8 @@ write_nested-returns-in-Set-clause-refused g t c =
 pub write_nested-returns-in-Push-clause-written :
     goal.write_nested-returns-in-Push-clause-written
 write_nested-returns-in-Push-clause-written g t c =
-    on_ok_weaker c.write_list-in-Push.result (λ told.
-    put_as c.args.protocol c.args.level c.in-Push.is (told
-    (aggregate_within c.args.protocol Greater _ c.in-Push.is c.if-is_foreign.ensures)))
+    on_ok_weaker c.write_list-in-Push.result
+    (list_put c.args.protocol c.args.level Greater _ c.in-Push.is c.if-is_foreign.ensures)
     c.write_list-in-Push.ensures.written
 
 pub write_nested-returns-in-Push-clause-refused :
@@ -218,9 +225,7 @@ pub write_nested-returns-in-Attributed-clause-written :
     goal.write_nested-returns-in-Attributed-clause-written
 write_nested-returns-in-Attributed-clause-written g t c =
     on_ok_weaker c.write_list-in-Attributed.result
-    (λ told.
-    put_as c.args.protocol c.args.level c.in-Attributed.is (told
-    (aggregate_within c.args.protocol Bar _ c.in-Attributed.is c.if-is_foreign.ensures)))
+    (list_put c.args.protocol c.args.level Bar _ c.in-Attributed.is c.if-is_foreign.ensures)
     c.write_list-in-Attributed.ensures.written
 
 pub write_nested-returns-in-Attributed-clause-refused :
@@ -233,34 +238,33 @@ write_nested-returns-in-Attributed-clause-refused g t c =
 pub write_nested-returns-in_ok-write_integer-in-Integer-clause-written :
     goal.write_nested-returns-in_ok-write_integer-in-Integer-clause-written
 write_nested-returns-in_ok-write_integer-in-Integer-clause-written g t c =
-    integer_put c.args.protocol c.args.level c.if-is_foreign.ensures
-    c.in_ok-write_integer-in-Integer.ensures.written
-    (search (rules, c.in-Integer.is)) (search rules)
+    line_put c.args.protocol c.args.level c.if-is_foreign.ensures Colon _
+    (_, c.in-Integer.is, search rules, refl) c.in_ok-write_integer-in-Integer.ensures.written
 
 pub write_nested-returns-in_ok-write_line-in-Null-clause-written :
     goal.write_nested-returns-in_ok-write_line-in-Null-clause-written
 write_nested-returns-in_ok-write_line-in-Null-clause-written g t c =
-    null_put c.args.protocol c.args.level c.if-is_foreign.ensures c.in-Null.is
-    c.in_ok-write_line-in-Null.ensures.written
+    line_put c.args.protocol c.args.level c.if-is_foreign.ensures Underscore []
+    (c.in-Null.is, refl) c.in_ok-write_line-in-Null.ensures.written
 
 pub write_nested-returns-in_ok-write_line-in-Boolean-clause-written :
     goal.write_nested-returns-in_ok-write_line-in-Boolean-clause-written
 write_nested-returns-in_ok-write_line-in-Boolean-clause-written g t c =
-    boolean_put c.args.protocol c.args.level c.if-is_foreign.ensures _ _ c.in-Boolean.is
-    c.boolean_text.ensures
-    c.in_ok-write_line-in-Boolean.ensures.written
+    line_put c.args.protocol c.args.level c.if-is_foreign.ensures Hash _
+    (_, c.in-Boolean.is, c.boolean_text.ensures) c.in_ok-write_line-in-Boolean.ensures.written
 
 pub write_nested-returns-in_ok-write_data-in-BulkError-clause-written :
     goal.write_nested-returns-in_ok-write_data-in-BulkError-clause-written
 write_nested-returns-in_ok-write_data-in-BulkError-clause-written g t c =
-    bulk_error_put c.args.protocol c.args.level c.if-is_foreign.ensures _ c.in-BulkError.is
-    (search rules)
+    data_put c.args.protocol c.args.level c.if-is_foreign.ensures Exclamation _
+    (_, c.in-BulkError.is, shown_is (λ tokens. ⊤) _ tt) (search rules)
     c.in_ok-write_data-in-BulkError.ensures.written
 
 pub write_nested-returns-in_ok-write_data-in-Bulk-clause-written :
     goal.write_nested-returns-in_ok-write_data-in-Bulk-clause-written
 write_nested-returns-in_ok-write_data-in-Bulk-clause-written g t c =
-    bulk_put c.args.protocol c.args.level c.if-is_foreign.ensures _ c.in-Bulk.is (search rules)
+    data_put c.args.protocol c.args.level c.if-is_foreign.ensures Dollar _
+    (_, c.in-Bulk.is, shown_is (λ tokens. ⊤) _ tt) (search rules)
     c.in_ok-write_data-in-Bulk.ensures.written
 
 pub write_nested-returns-in_ok-write_line-in-NullBulk-clause-written :

@@ -1,7 +1,6 @@
 use Rattle.std.proofs.Common.{◌+◌, ◌*◌, ℕ, List, drop}
 use Rattle.winnow.specs.Texts.{EachText}
-use Rattle.format_resp.specs.Written.{Adds, Keeps}
-use Rattle.format_resp.specs.Written.{WrittenText}
+use Rattle.format_resp.specs.Written.{Adds, Keeps, WrittenText}
 use Rattle.format_resp.proofs.write.+write.Given as goal
 
 -- an aggregate calls elements at a smaller depth, and these call replies at theirs

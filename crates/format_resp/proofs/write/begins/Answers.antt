@@ -1,7 +1,7 @@
 use Rattle.std.proofs.Common.{◌∙◌, ap, sym}
 use Rattle.format_resp.proofs.Made.{array_is, attributed_is, big_number_is, boolean_is}
-use Rattle.format_resp.proofs.Made.{bulk_error_is, bulk_is, double_is, error_is, integer_is}
-use Rattle.format_resp.proofs.Made.{map_is, null_array_is, null_bulk_is, null_is, push_is, set_is}
+use Rattle.format_resp.proofs.Made.{bulk_error_is, bulk_is, double_is, error_is, integer_is, map_is}
+use Rattle.format_resp.proofs.Made.{null_array_is, null_bulk_is, null_is, push_is, set_is}
 use Rattle.format_resp.proofs.Made.{simple_is, verbatim_is}
 use Rattle.format_resp.specs.Written.{first_mark, mark_in}
 use Rattle.format_resp.proofs.write.begins.Goals as goal

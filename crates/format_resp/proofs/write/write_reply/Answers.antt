@@ -1,6 +1,5 @@
 use Rattle.std.proofs.Common.{◌∙◌}
-use Rattle.format_resp.proofs.Putting.{cut_back}
-use Rattle.format_resp.proofs.Writing.{adds_text}
+use Rattle.format_resp.proofs.Writing.{cut_back, adds_text}
 use Rattle.format_resp.proofs.write.write_reply.Goals as goal
 
 pub returns-in-Ok-clause-text : goal.returns-in-Ok-clause-text

@@ -1,9 +1,5 @@
-use Rattle.std.specs.Prelude.{List, Ok, Option, ℕ}
-use Rattle.std.specs.Borrow.{Bor}
-use Rattle.std.proofs.Common.{refl, subst, sym}
-use Rattle.format_resp.proofs.BulkEnds.{part_none}
-use Rattle.format_resp.proofs.Passing.{data_never, data_open, data_part, err_part}
-use Rattle.format_resp.specs.Extents.{IsDataEnd, Wants}
+use Rattle.std.proofs.Common.{refl}
+use Rattle.format_resp.proofs.Passing.{part_none, data_never, data_open, data_part, err_part}
 use Rattle.format_resp.proofs.extent.Extent.pass_data.Goals as goal
 
 pub returns-in_err-skip_data-clause-told : goal.returns-in_err-skip_data-clause-told
@@ -13,20 +9,15 @@ returns-in_err-skip_data-clause-told c p =
 
 pub returns-in-None-clause-told : goal.returns-in-None-clause-told
 returns-in-None-clause-told c p =
-    let P : Option (Bor (List ℕ)) → Type 0 =
-    λ o. IsDataEnd c.args.size c.args.rest.now (Ok o) in
-    let Q : Option ℕ → Type 0 = λ o. Wants o c.args.rest.now in
-    let part = subst P c.in-None.is c.in_ok-skip_data.ensures.told in (
+    let part = rw c.in-None.is at c.in_ok-skip_data.ensures.told in (
       p,
       data_open _ _ _ p c.args.size c.requires.due
           (part_none c.args.size c.args.rest.now part),
-      subst Q (sym c.requires.due) part,
+      rw c.requires.due part,
     )
 
 pub returns-in-Some-clause-told : goal.returns-in-Some-clause-told
 returns-in-Some-clause-told c p =
-    let P : Option (Bor (List ℕ)) → Type 0 =
-    λ o. IsDataEnd c.args.size c.args.rest.now (Ok o) in
-    let (bulk, first) = subst P c.in-Some.is c.in_ok-skip_data.ensures.told in
+    let (bulk, first) = rw c.in-Some.is at c.in_ok-skip_data.ensures.told in
     data_part _ _ _ p _ c.args.size bulk c.in-Some.left.now c.requires.due first refl refl refl
     refl

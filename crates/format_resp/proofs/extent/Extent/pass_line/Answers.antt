@@ -1,8 +1,7 @@
 use Rattle.std.specs.Prelude.{Option, ℕ}
-use Rattle.std.proofs.Common.{ap, refl, subst, sym}
+use Rattle.std.proofs.Common.{ap, refl}
 use Rattle.format_resp.proofs.FirstLines.{begun_none}
 use Rattle.format_resp.proofs.Passing.{line_never, line_open, line_part}
-use Rattle.format_resp.specs.Extents.{Wants}
 use Rattle.format_resp.proofs.extent.Extent.pass_line.Goals as goal
 
 pub returns-in-Never-clause-told : goal.returns-in-Never-clause-told
@@ -11,8 +10,7 @@ returns-in-Never-clause-told c p =
 
 pub returns-in-Open-clause-told : goal.returns-in-Open-clause-told
 returns-in-Open-clause-told c p =
-    let (enough, all, begun) = c.in-Open.ensures.told p.plain in
-    let Q : Option ℕ → Type 0 = λ o. Wants o c.args.rest.now in (
+    let (enough, all, begun) = c.in-Open.ensures.told p.plain in (
       record {
         front = p.front;
         split = p.split;
@@ -24,7 +22,7 @@ returns-in-Open-clause-told c p =
       },
       line_open _ _ _ p c.args.others c.requires.due c.requires.one
           (begun_none c.args.rest.now begun),
-      subst Q (sym c.requires.due) begun,
+      rw c.requires.due begun,
     )
 
 pub returns-in-Some-clause-told : goal.returns-in-Some-clause-told

@@ -1,15 +1,10 @@
-use Rattle.std.specs.Prelude.{List, Ok, Option, ℕ}
-use Rattle.std.specs.Borrow.{Bor}
-use Rattle.std.proofs.Common.{arith, subst}
+use Rattle.std.proofs.Common.{arith}
 use Rattle.format_resp.proofs.Passing.{all_passed}
-use Rattle.format_resp.specs.Extents.{IsPart}
 use Rattle.format_resp.proofs.extent.Extent.walk.Goals as goal
 
 pub returns-in-None-2-clause-told : goal.returns-in-None-2-clause-told
 returns-in-None-2-clause-told c p =
-    let P : Option (Bor (List ℕ)) → Type 0 =
-    λ o. IsPart c.pass_data.new.self c.args.bytes.now c.parts.rest.now (Ok o) in
-    (subst P c.in-None-2.is (c.in_ok-pass_data-in-Some.ensures.told (c.parts.invariant.1 p))).1
+    (rw c.in-None-2.is at (c.in_ok-pass_data-in-Some.ensures.told (c.parts.invariant.1 p))).1
 
 pub returns-in-None-checked_sub-clause-told : goal.returns-in-None-checked_sub-clause-told
 returns-in-None-checked_sub-clause-told c p =
@@ -17,24 +12,17 @@ returns-in-None-checked_sub-clause-told c p =
     (omega (arith, c.in-None-checked_sub.ensures))
 
 pub returns-in-None-3-clause-told : goal.returns-in-None-3-clause-told
-returns-in-None-3-clause-told c p =
-    let P : Option (Bor (List ℕ)) → Type 0 =
-    λ o. IsPart c.pass_line.new.self c.args.bytes.now c.parts.rest.now (Ok o) in
-    (subst P c.in-None-3.is
+returns-in-None-3-clause-told c p = (rw c.in-None-3.is at
     (c.in_ok-pass_line-in-Some-checked_sub.ensures.told (c.parts.invariant.1 p))).1
 
 pub returns-in-None-2-clause-wants : goal.returns-in-None-2-clause-wants
 returns-in-None-2-clause-wants c p =
-    let P : Option (Bor (List ℕ)) → Type 0 =
-    λ o. IsPart c.pass_data.new.self c.args.bytes.now c.parts.rest.now (Ok o) in
     let (passed, none, wants) =
-    subst P c.in-None-2.is (c.in_ok-pass_data-in-Some.ensures.told (c.parts.invariant.1 p)) in
+    rw c.in-None-2.is at (c.in_ok-pass_data-in-Some.ensures.told (c.parts.invariant.1 p)) in
     (c.parts.rest.now, passed, wants)
 
 pub returns-in-None-3-clause-wants : goal.returns-in-None-3-clause-wants
 returns-in-None-3-clause-wants c p =
-    let P : Option (Bor (List ℕ)) → Type 0 =
-    λ o. IsPart c.pass_line.new.self c.args.bytes.now c.parts.rest.now (Ok o) in
-    let (passed, none, wants) = subst P c.in-None-3.is
+    let (passed, none, wants) = rw c.in-None-3.is at
     (c.in_ok-pass_line-in-Some-checked_sub.ensures.told (c.parts.invariant.1 p)) in
     (c.parts.rest.now, passed, wants)
