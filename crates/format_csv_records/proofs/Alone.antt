@@ -1,10 +1,12 @@
 -- Uniqueness of fields: bytes start with at most one field; and how a record continues after its
 -- first fields.
-use Rattle.std.specs.Prelude.{◌≡◌, ◌⊎◌, ℕ, List, [], ◌∷◌, ◌++◌}
+use Rattle.std.specs.Prelude.{◌≡◌, ◌⊎◌, ◌==◌, ℕ, Bool, List, None, Option, Some, [], ◌∷◌, ◌++◌}
+use Rattle.std.specs.Prelude.{false, if◌then◌else◌, option_map, true}
 use Rattle.std.specs.List.{All}
 use Rattle.std.proofs.Common.{refl, sym, ap, subst, inl, inr, ◌∙◌, append_assoc, eq-eqb}
 use Rattle.std.proofs.lemmas.Bool.{ne_eqb}
 use Rattle.std.proofs.lemmas.Bool.Decides.{eqb_tells}
+use Rattle.std.proofs.lemmas.List.{append_cancel_left}
 use Rattle.std.proofs.lemmas.List.Elements.{All-head, All-tail}
 use Rattle.format_csv_records.specs.Apart.{IsApart, IsBreak}
 use Rattle.format_csv_records.specs.Dialects.{IsFieldText, IsPlain}
@@ -13,10 +15,10 @@ use Rattle.format_csv_records.specs.Parts.{FieldFirst, IsOther, MayBegin, NotFir
 use Rattle.format_csv_records.specs.Parts.{OpenFirst}
 use Rattle.format_csv_records.specs.declared.dialect.Dialect.{Dialect}
 
-pub same_first : {x y : ℕ} {xs ys : List ℕ} → x ∷ xs ≡ y ∷ ys → x ≡ y
+pub same_first : {X : Type 0} {x y : X} {xs ys : List X} → x ∷ xs ≡ y ∷ ys → x ≡ y
 same_first e = cc
 
-pub same_others : {x y : ℕ} {xs ys : List ℕ} → x ∷ xs ≡ y ∷ ys → xs ≡ ys
+pub same_others : {X : Type 0} {x y : X} {xs ys : List X} → x ∷ xs ≡ y ∷ ys → xs ≡ ys
 same_others e = cc
 
 pub is_or_not : (b c : ℕ) → (b ≡ c) ⊎ (b ≡ c → ⊥)
@@ -43,11 +45,6 @@ runs_apart these (x ∷ xs) ys (z ∷ zs) ws a b c d e =
     let h = same_first e in
     (cc, g)
 
-pub no_quote : (quote : ℕ) (xs ys : List ℕ) → All (IsOther quote) (xs ++ (quote ∷ ys)) → ⊥
-no_quote quote [] ys all = All-head (IsOther quote) quote ys all refl
-no_quote quote (x ∷ xs) ys all =
-    no_quote quote xs ys (All-tail (IsOther quote) x (xs ++ (quote ∷ ys)) all)
-
 -- ---- quotes twice
 
 pub doubled_quote : (quote b : ℕ) (bs : List ℕ) → b ≡ quote
@@ -64,85 +61,68 @@ pub doubled_none : (quote : ℕ) → doubled quote [] ≡ []
 unfolding doubled
 doubled_none quote = refl
 
--- what is written for a byte, and an end, differ
-end_apart : (quote x : ℕ) (xs tail ys : List ℕ) → NotFirst (λ b. b ≡ quote) ys
-    → doubled quote (x ∷ xs) ++ tail ≡ quote ∷ ys → ⊥
-end_apart quote x xs tail ys not e = elim (is_or_not x quote) [
-  | inl is ↦
-      let P : List ℕ → Type 0 = λ l. NotFirst (λ b. b ≡ quote) l in
-      let f : quote ∷ ((quote ∷ doubled quote xs) ++ tail) ≡ quote ∷ ys =
-      ap (λ l. l ++ tail) (sym (doubled_quote quote x xs is)) ∙ e in
-      subst P (sym (same_others f)) not refl
+-- the contents of quotes, if the closing quote is there; `true`: after a quote
+unfoldable unquoted : ℕ → Bool → List ℕ → Option (List ℕ)
+unquoted quote false [] = None
+unquoted quote true [] = Some []
+unquoted quote false (b ∷ bs) =
+    if b == quote then unquoted quote true bs
+    else option_map (λ l. b ∷ l) (unquoted quote false bs)
+unquoted quote true (b ∷ bs) =
+    if b == quote then option_map (λ l. b ∷ l) (unquoted quote false bs) else Some []
+
+unquoted_closed : (quote : ℕ) (xs ys : List ℕ) → NotFirst (λ b. b ≡ quote) ys
+    → unquoted quote false (doubled quote xs ++ (quote ∷ ys)) ≡ Some xs
+unfolding unquoted doubled
+unquoted_closed quote [] [] not = rw (eq-eqb quote quote refl) refl
+unquoted_closed quote [] (y ∷ ys) not = rw (eq-eqb quote quote refl, ne_eqb y quote not) refl
+unquoted_closed quote (x ∷ xs) ys not = elim (is_or_not x quote) [
+  | inl is ↦ rw (
+    is,
+    eq-eqb quote quote refl,
+    eq-eqb quote quote refl,
+    unquoted_closed quote xs ys not,
+  ) refl
   | inr other ↦
-      let f : x ∷ (doubled quote xs ++ tail) ≡ quote ∷ ys =
-      ap (λ l. l ++ tail) (sym (doubled_other quote x xs other)) ∙ e in
-      other (same_first f)
+      rw (ne_eqb x quote other, ne_eqb x quote other, unquoted_closed quote xs ys not) refl
 ]
 
--- if two equal texts start with the contents of quotes, these start with the same byte, and the
--- rests are equal
-byte_apart : (quote x z : ℕ) (xs zs tail other : List ℕ)
-    → doubled quote (x ∷ xs) ++ tail ≡ doubled quote (z ∷ zs) ++ other
-    → (x ≡ z) × (doubled quote xs ++ tail ≡ doubled quote zs ++ other)
-byte_apart quote x z xs zs tail other e = elim (is_or_not x quote) [
-  | inl is ↦ elim (is_or_not z quote) [
-    | inl too ↦
-        let f : quote ∷ (quote ∷ (doubled quote xs ++ tail))
-        ≡ quote ∷ (quote ∷ (doubled quote zs ++ other)) =
-        ap (λ l. l ++ tail) (sym (doubled_quote quote x xs is)) ∙ e
-        ∙ ap (λ l. l ++ other) (doubled_quote quote z zs too) in
-        (is ∙ sym too, same_others (same_others f))
-    | inr not ↦
-        let f : quote ∷ (quote ∷ (doubled quote xs ++ tail)) ≡ z ∷ (doubled quote zs ++ other) =
-        ap (λ l. l ++ tail) (sym (doubled_quote quote x xs is)) ∙ e
-        ∙ ap (λ l. l ++ other) (doubled_other quote z zs not) in
-        absurd (not (sym (same_first f)))
-  ]
-  | inr not ↦ elim (is_or_not z quote) [
-    | inl too ↦
-        let f : x ∷ (doubled quote xs ++ tail) ≡ quote ∷ (quote ∷ (doubled quote zs ++ other)) =
-        ap (λ l. l ++ tail) (sym (doubled_other quote x xs not)) ∙ e
-        ∙ ap (λ l. l ++ other) (doubled_quote quote z zs too) in
-        absurd (not (same_first f))
-    | inr neither ↦
-        let f : x ∷ (doubled quote xs ++ tail) ≡ z ∷ (doubled quote zs ++ other) =
-        ap (λ l. l ++ tail) (sym (doubled_other quote x xs not)) ∙ e
-        ∙ ap (λ l. l ++ other) (doubled_other quote z zs neither) in
-        (same_first f, same_others f)
-  ]
+unquoted_open : (quote : ℕ) (xs run : List ℕ) → All (IsOther quote) run
+    → unquoted quote false (doubled quote xs ++ run) ≡ None
+unfolding unquoted doubled
+unquoted_open quote [] [] all = refl
+unquoted_open quote [] (b ∷ run) all = rw (
+  ne_eqb b quote (All-head (IsOther quote) b run all),
+  unquoted_open quote [] run (All-tail (IsOther quote) b run all),
+) refl
+unquoted_open quote (x ∷ xs) run all = elim (is_or_not x quote) [
+  | inl is ↦ rw (
+    is,
+    eq-eqb quote quote refl,
+    eq-eqb quote quote refl,
+    unquoted_open quote xs run all,
+  ) refl
+  | inr other ↦
+      rw (ne_eqb x quote other, ne_eqb x quote other, unquoted_open quote xs run all) refl
 ]
 
-pub closed_apart : (quote : ℕ) (xs zs ys ws : List ℕ) → NotFirst (λ b. b ≡ quote) ys
+closed_apart : (quote : ℕ) (xs zs ys ws : List ℕ) → NotFirst (λ b. b ≡ quote) ys
     → NotFirst (λ b. b ≡ quote) ws
     → doubled quote xs ++ (quote ∷ ys) ≡ doubled quote zs ++ (quote ∷ ws)
     → (xs ≡ zs) × (ys ≡ ws)
-closed_apart quote [] [] ys ws a b e =
-    let f : quote ∷ ys ≡ quote ∷ ws = ap (λ l. l ++ (quote ∷ ys)) (sym (doubled_none quote)) ∙ e
-    ∙ ap (λ l. l ++ (quote ∷ ws)) (doubled_none quote) in
-    (refl, same_others f)
-closed_apart quote [] (z ∷ zs) ys ws a b e =
-    absurd (end_apart quote z zs (quote ∷ ws) ys a
-    (sym (ap (λ l. l ++ (quote ∷ ys)) (sym (doubled_none quote)) ∙ e)))
-closed_apart quote (x ∷ xs) [] ys ws a b e =
-    absurd (end_apart quote x xs (quote ∷ ys) ws b
-    (e ∙ ap (λ l. l ++ (quote ∷ ws)) (doubled_none quote)))
-closed_apart quote (x ∷ xs) (z ∷ zs) ys ws a b e =
-    let (f, g) = byte_apart quote x z xs zs (quote ∷ ys) (quote ∷ ws) e in
-    let (h, k) = closed_apart quote xs zs ys ws a b g in
-    (cc, k)
+closed_apart quote xs zs ys ws a b e =
+    let same : Some xs ≡ Some zs = sym (unquoted_closed quote xs ys a)
+    ∙ ap (λ l. unquoted quote false l) e ∙ unquoted_closed quote zs ws b in
+    let f : xs ≡ zs = cc in
+    (f, same_others (append_cancel_left (doubled quote zs) (quote ∷ ys) (quote ∷ ws) (rw f at e)))
 
-pub unclosed_apart : (quote : ℕ) (done run field rest : List ℕ) → All (IsOther quote) run
+unclosed_apart : (quote : ℕ) (done run field rest : List ℕ) → All (IsOther quote) run
     → NotFirst (λ b. b ≡ quote) rest
     → doubled quote done ++ run ≡ doubled quote field ++ (quote ∷ rest) → ⊥
-unclosed_apart quote [] run field rest all not e =
-    let P : List ℕ → Type 0 = λ l. All (IsOther quote) l in
-    no_quote quote (doubled quote field) rest
-    (subst P (ap (λ l. l ++ run) (sym (doubled_none quote)) ∙ e) all)
-unclosed_apart quote (x ∷ done) run [] rest all not e =
-    end_apart quote x done run rest not (e ∙ ap (λ l. l ++ (quote ∷ rest)) (doubled_none quote))
-unclosed_apart quote (x ∷ done) run (z ∷ field) rest all not e =
-    unclosed_apart quote done run field rest all not
-    (byte_apart quote x z done field run (quote ∷ rest) e).1
+unclosed_apart quote done run field rest all not e =
+    let same : None ≡ Some field = sym (unquoted_open quote done run all)
+    ∙ ap (λ l. unquoted quote false l) e ∙ unquoted_closed quote field rest not in
+    cc
 
 -- what is written for bytes, and for bytes after them
 pub doubled_append : (quote : ℕ) (xs ys : List ℕ)

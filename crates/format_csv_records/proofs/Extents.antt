@@ -65,7 +65,7 @@ module _ (d : Dialect) (apart : IsApart d.delimiter d.quote) (new : RecordExtent
         | inr nothing ↦
             let all = all_passed nothing in (
               goes_on d new.place not new.text new.fields bytes all small,
-              none_for_good d apart new.place not new.text new.fields bytes all,
+              none_for_good d new.place not new.text new.fields bytes all apart,
             )
       ]
   tells small (Err fault) why stopped (is, at) =

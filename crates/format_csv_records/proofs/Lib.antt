@@ -5,7 +5,6 @@ pub mod Cuts
 pub mod Early
 pub mod Ending
 pub mod Extents
-pub mod ForGood
 pub mod One
 pub mod Placing
 pub mod Runs

@@ -15,13 +15,11 @@ use Rattle.format_csv_records.proofs.Alone.{is_or_not, same_first}
 -- all are such
 pub all_first : (these : ℕ → Type 0) (xs : List ℕ) (i n : ℕ) → length xs ≤ i → length xs ≡ n
     → All these (take i xs) → SoMany these xs n
-all_first these xs i n past is all =
-    let P : List ℕ → Type 0 = λ l. NotFirst these l in
-    let Q : List ℕ → Type 0 = λ l. All these l in (
-      omega arith,
-      subst Q (take_all i xs past ∙ sym (take_all n xs (omega arith))) all,
-      subst P (sym (drop_all n xs (omega arith))) tt,
-    )
+all_first these xs i n past is all = (
+  omega arith,
+  rw (take_all n xs (omega arith)) (rw (take_all i xs past) at all),
+  rw (drop_all n xs (omega arith)) tt,
+)
 
 -- ---- between quotes
 
@@ -31,9 +29,7 @@ pub run_quote : (quote : ℕ) (rest : List ℕ) (n : ℕ) → SoMany (IsOther qu
     → (rest ≡ take n rest ++ (quote ∷ drop (n + 1) rest)) × (n + 1 ≤ length rest)
 run_quote quote rest n (within, all, not) some =
     let less : n < length rest = omega arith in
-    let P : List ℕ → Type 0 = λ l. NotFirst (IsOther quote) l in
-    let at : NotFirst (IsOther quote) (get_or rest n 0 ∷ drop (n + 1) rest) =
-    subst P (drop_more rest n 0 less) not in
+    let at = rw (drop_more rest n 0 less) at not in
     elim (is_or_not (get_or rest n 0) quote) [
       | inl is ↦ (
         sym (take-append-drop n rest) ∙ ap (λ l. take n rest ++ l)
@@ -49,10 +45,26 @@ pub doubled_behind : (quote : ℕ) (done run : List ℕ) → All (IsOther quote)
 doubled_behind quote done run all = doubled_append quote done run
     ∙ ap (λ l. doubled quote done ++ l) (doubled_run quote run all)
 
-pub take_quote : (quote : ℕ) (rest : List ℕ) (n : ℕ) → n < length rest
-    → drop n rest ≡ quote ∷ drop (n + 1) rest → take (n + 1) rest ≡ take n rest ++ quote ∷ []
-take_quote quote rest n less e = take_more rest n 0 less
-    ∙ ap (λ b. take n rest ++ b ∷ []) (same_first (sym (drop_more rest n 0 less) ∙ e))
+-- the run and its quote
+pub take_quote : (quote : ℕ) (rest : List ℕ) (n : ℕ) → SoMany (IsOther quote) rest n
+    → (n ≡ length rest → ⊥) → take (n + 1) rest ≡ take n rest ++ quote ∷ []
+take_quote quote rest n run some =
+    let (split, within) = run_quote quote rest n run some in
+    let less : n < length rest = omega arith in
+    let same = append_cancel_left (take n rest) (drop n rest) (quote ∷ drop (n + 1) rest)
+    (take-append-drop n rest ∙ split) in
+    take_more rest n 0 less
+    ∙ ap (λ b. take n rest ++ b ∷ []) (same_first (sym (drop_more rest n 0 less) ∙ same))
+
+-- a quote after a run is written twice
+pub doubled_two : (quote : ℕ) (done run : List ℕ) → All (IsOther quote) run
+    → doubled quote (done ++ (run ++ quote ∷ []))
+    ≡ doubled quote done ++ (run ++ (quote ∷ quote ∷ []))
+doubled_two quote done run all = doubled_append quote done (run ++ quote ∷ [])
+    ∙ ap (λ l. doubled quote done ++ l) (doubled_append quote run (quote ∷ [])
+    ∙ ap (λ l. l ++ doubled quote (quote ∷ [])) (doubled_run quote run all)
+    ∙ ap (λ l. run ++ l) (doubled_quote quote quote [] refl
+    ∙ ap (λ l. quote ∷ quote ∷ l) (doubled_none quote)))
 
 -- the contents of quotes that were read, and the bytes added to the current field
 pub record Between (quote : ℕ) (input rest base begun : List ℕ) : Type 0 where
@@ -63,9 +75,7 @@ pub record Between (quote : ℕ) (input rest base begun : List ℕ) : Type 0 whe
 module _ (quote : ℕ) (input rest base begun : List ℕ) (n : ℕ)
     (it : Between quote input rest base begun) (run : SoMany (IsOther quote) rest n) where
   pub unclosed_here : n ≡ length rest → Unclosed quote input
-  unclosed_here is =
-      let P : List ℕ → Type 0 = λ l. All (IsOther quote) l in
-      (it.done, rest, it.whole, subst P (take_all n rest (omega arith)) run.1)
+  unclosed_here is = (it.done, rest, it.whole, rw (take_all n rest (omega arith)) at run.1)
 
   pub closed_here : (n ≡ length rest → ⊥) → (left added new : List ℕ) → left ≡ drop (n + 1) rest
       → NotFirst (λ b. b ≡ quote) left → added ≡ take n rest → new ≡ begun ++ added
@@ -89,24 +99,16 @@ module _ (quote : ℕ) (input rest base begun : List ℕ) (n : ℕ)
       → left ≡ quote ∷ drop 1 left → next ≡ drop 1 left → added ≡ take (n + 1) rest
       → new ≡ begun ++ added → Between quote input next base new
   more_here some left next added new is two goes adds e =
-      let (split, within) = run_quote quote rest n run some in
       let runs = take n rest in
-      let taken : take (n + 1) rest ≡ runs ++ quote ∷ [] =
-      take_quote quote rest n (omega arith)
-      (append_cancel_left runs (drop n rest) (quote ∷ drop (n + 1) rest)
-      (take-append-drop n rest ∙ split)) in
+      let tidy : (doubled quote it.done ++ (runs ++ (quote ∷ quote ∷ []))) ++ next
+      ≡ doubled quote it.done ++ (runs ++ (quote ∷ quote ∷ next)) = simp append_assoc in
       record {
         done = it.done ++ (runs ++ quote ∷ []);
-        whole = it.whole ∙ ap (λ l. doubled quote it.done ++ l) (split
+        whole = it.whole ∙ ap (λ l. doubled quote it.done ++ l)
+            ((run_quote quote rest n run some).0
             ∙ ap (λ l. runs ++ (quote ∷ l)) (sym is ∙ two ∙ ap (λ l. quote ∷ l) (sym goes)))
-            ∙ sym (append_assoc (doubled quote it.done) runs (quote ∷ quote ∷ next))
-            ∙ ap (λ l. l ++ (quote ∷ quote ∷ next)) (sym (doubled_behind quote it.done runs run.1))
-            ∙ sym (append_assoc (doubled quote (it.done ++ runs)) (quote ∷ quote ∷ []) next)
-            ∙ ap (λ l. (doubled quote (it.done ++ runs) ++ l) ++ next)
-            (sym (doubled_quote quote quote [] refl
-            ∙ ap (λ l. quote ∷ quote ∷ l) (doubled_none quote)))
-            ∙ ap (λ l. l ++ next) (sym (doubled_append quote (it.done ++ runs) (quote ∷ []))
-            ∙ ap (λ l. doubled quote l) (append_assoc it.done runs (quote ∷ [])));
-        all = e ∙ ap (λ l. begun ++ l) (adds ∙ taken) ∙ ap (λ l. l ++ (runs ++ quote ∷ [])) it.all
+            ∙ sym tidy ∙ ap (λ l. l ++ next) (sym (doubled_two quote it.done runs run.1));
+        all = e ∙ ap (λ l. begun ++ l) (adds ∙ take_quote quote rest n run some)
+            ∙ ap (λ l. l ++ (runs ++ quote ∷ [])) it.all
             ∙ append_assoc base it.done (runs ++ quote ∷ []);
       }
