@@ -1,10 +1,9 @@
 -- Results of calls, from those of `format_csv_records` with commas and double quotes.
-use Rattle.std.specs.Prelude.{◌≡◌, ◌<◌, ℕ, List, Bool, Err, MatchBool, Ok, [], drop}
-use Rattle.std.specs.Prelude.{length, true}
+use Rattle.std.specs.Prelude.{◌≡◌, ◌<◌, ℕ, List, Err, Ok, [], drop, length, true}
 use Rattle.std.specs.declared.vec.Vec.{Vec}
-use Rattle.std.proofs.Common.{ap, arith, inr, refl, subst, sym}
+use Rattle.std.proofs.Common.{ap, arith, inr, refl}
 use Rattle.format_csv_records.proofs.One.{fields_one, fields_split, refused_none}
-use Rattle.format_csv_records.specs.Buffers.{IsForGood, IsSized, NoneForGood}
+use Rattle.format_csv_records.specs.Buffers.{IsSized}
 use Rattle.format_csv_records.specs.Commas.{commas_apart}
 use Rattle.format_csv_records.specs.Dialects.{AreFields}
 use Rattle.format_csv_records.specs.Early.{IsPrefixOfNone}
@@ -44,28 +43,17 @@ module _ {A : Type 0} (ends : LineEnd) (bytes : List ℕ) where
         → ReadsOrAsks bytes_reading bytes_follow kind (IsRecord ends) i (Ok fields) j
     unfolding IsRecord
     reads_line {kind = kind} i j here there size (others, it) ended =
-        let (same, over) = fields_one (commas ends) commas_apart others (bytes_of fields.items) bytes
-        (drop size.length bytes) rest it.is_record.1 are in
-        let P : Bool → Type 0 = λ b. MatchBool b
-        (IsForGood (commas ends) bytes others (drop size.length bytes))
-        (NoneForGood (commas ends) bytes) in
-        let Q : List (List ℕ) → Type 0 =
-        λ l. IsForGood (commas ends) bytes l (drop size.length bytes) in
-        let R : List ℕ → Type 0 =
-        λ l. IsForGood (commas ends) bytes (bytes_of fields.items) l in
-        let good = subst R over (subst Q same (subst P ended it.ended)) in
-        let S : Input ℕ → Type 0 =
-        λ x. ReadsOrAsks bytes_reading bytes_follow kind (IsRecord ends) x (Ok fields) j in
-        let T : Input ℕ → Type 0 = λ y. ReadsOrAsks bytes_reading bytes_follow kind (IsRecord ends)
-        (with_flag (bytes_input bytes) true) (Ok fields) y in
-        subst S (sym here) (subst T (sym there) (record {
+        let (same, over) = fields_one (commas ends) commas_apart others (bytes_of fields.items)
+        bytes (drop size.length bytes) rest it.is_record.1 are in
+        let good = rw (same, over) at (rw ended at it.ended) in
+        rw (here, there) (record {
           whole = record {
             ends = record { ends = behind.ends; cut = refl };
             stands = λ whole. true_is_false whole;
             none = λ whole. tt;
           };
           cut = λ _. record { stands = λ more follows. good more; none = tt };
-        }))
+        })
 
   module _ {E : Type 0} {kind : E → Kind} (error : E) (backs : kind error ≡ backtrack) where
     pub reads_nothing : bytes ≡ [] → Reads bytes_reading kind (IsRecord {A = A} ends)
@@ -98,20 +86,17 @@ module _ {A : Type 0} (ends : LineEnd) (bytes : List ℕ) where
         → IsPrefixOfNone (commas ends) bytes
         → ReadsOrAsks bytes_reading bytes_follow kind (IsRecord {A = A} ends) i (Err error) i
     unfolding IsRecord
-    never_reads i here never =
-        let P : Input ℕ → Type 0 = λ x.
-        ReadsOrAsks bytes_reading bytes_follow kind (IsRecord {A = A} ends) x (Err error) x in
-        subst P (sym here) (record {
-          whole = record {
-            ends = is_end_of_refl bytes_reading (with_flag (bytes_input bytes) true);
-            stands = λ whole. tt;
-            none = λ whole. true_is_false whole;
-          };
-          cut = λ _. record {
-            stands = tt;
-            none = inr (inr (λ more follows. (
-              backs,
-              λ fields rest it. never more (bytes_of fields.items) rest it,
-            )));
-          };
-        })
+    never_reads i here never = rw here (record {
+      whole = record {
+        ends = is_end_of_refl bytes_reading (with_flag (bytes_input bytes) true);
+        stands = λ whole. tt;
+        none = λ whole. true_is_false whole;
+      };
+      cut = λ _. record {
+        stands = tt;
+        none = inr (inr (λ more follows. (
+          backs,
+          λ fields rest it. never more (bytes_of fields.items) rest it,
+        )));
+      };
+    })

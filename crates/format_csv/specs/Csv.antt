@@ -1,5 +1,5 @@
--- Comma separated values (RFC 4180, section 2): records, in the dialect of commas and double quotes,
--- and documents.
+-- Comma separated values (RFC 4180, section 2): records, in the dialect of commas and double
+-- quotes, and documents.
 use Rattle.std.specs.Prelude.{ℕ, List, map}
 use Rattle.std.specs.declared.vec.Vec.{Vec}
 use Rattle.format_csv_records.specs.Commas.{commas_by}

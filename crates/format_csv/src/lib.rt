@@ -97,15 +97,15 @@ pub fn read_record<'i, A: Allocator + Copy>(
         (bytes_input input.old.now) result (bytes_input input.new.now) }
 {
     if input.is_empty() {
-        return Err(ParserError::<&[u8]>::from_input(input));
+        return Err(ParserError::<&'i [u8]>::from_input(input));
     }
     match read_lists(alloc, end, input) {
         Ok((fields, rest)) => {
             *input = rest;
             Ok(fields)
         }
-        Err(RecordError::Invalid(_)) => Err(ParserError::<&[u8]>::from_input(input)),
-        Err(RecordError::OutOfMemory) => Err(ParserError::<&[u8]>::no_memory(input)),
+        Err(RecordError::Invalid(_)) => Err(ParserError::<&'i [u8]>::from_input(input)),
+        Err(RecordError::OutOfMemory) => Err(ParserError::<&'i [u8]>::no_memory(input)),
     }
 }
 

@@ -1,19 +1,23 @@
--- Uniqueness of fields: bytes start with at most one field; and how a record continues after its
--- first fields.
+-- Uniqueness of fields: bytes start with at most one field; the contents of quotes, runs of bytes
+-- of one class, and the ends of records.
 use Rattle.std.specs.Prelude.{◌≡◌, ◌⊎◌, ◌==◌, ℕ, Bool, List, None, Option, Some, [], ◌∷◌, ◌++◌}
-use Rattle.std.specs.Prelude.{false, if◌then◌else◌, option_map, true}
+use Rattle.std.specs.Prelude.{false, if◌then◌else◌, option_map, true, ◌≤◌, ◌<◌, ◌+◌, length, take}
+use Rattle.std.specs.Prelude.{drop}
 use Rattle.std.specs.List.{All}
-use Rattle.std.proofs.Common.{refl, sym, ap, subst, inl, inr, ◌∙◌, append_assoc, eq-eqb}
+use Rattle.std.proofs.Common.{refl, sym, ap, subst, inl, inr, ◌∙◌, append_assoc, eq-eqb, arith}
+use Rattle.std.proofs.Common.{get_or}
 use Rattle.std.proofs.lemmas.Bool.{ne_eqb}
 use Rattle.std.proofs.lemmas.Bool.Decides.{eqb_tells}
-use Rattle.std.proofs.lemmas.List.{append_cancel_left}
+use Rattle.std.proofs.lemmas.List.{append_cancel_left, drop_more, drop_all, take-append-drop}
+use Rattle.std.proofs.lemmas.List.{take_all, take_more}
 use Rattle.std.proofs.lemmas.List.Elements.{All-head, All-tail}
 use Rattle.format_csv_records.specs.Apart.{IsApart, IsBreak}
-use Rattle.format_csv_records.specs.Dialects.{IsFieldText, IsPlain}
-use Rattle.format_csv_records.specs.Dialects.{doubled}
-use Rattle.format_csv_records.specs.Parts.{FieldFirst, IsOther, MayBegin, NotFirst}
-use Rattle.format_csv_records.specs.Parts.{OpenFirst}
+use Rattle.format_csv_records.specs.Dialects.{IsFieldText, IsPlain, doubled, EndsHere, IsLineEnd}
+use Rattle.format_csv_records.specs.Parts.{FieldFirst, IsOther, MayBegin, NotFirst, OpenFirst}
+use Rattle.format_csv_records.specs.Parts.{Closed, SoMany, Unclosed}
 use Rattle.format_csv_records.specs.declared.dialect.Dialect.{Dialect}
+use Rattle.format_csv_records.specs.declared.dialect.LineEnds.{LineEnds}
+use Rattle.format_csv_records.specs.declared.dialect.LineEnds.TheVariants.{CrLf, Lf, Either}
 
 pub same_first : {X : Type 0} {x y : X} {xs ys : List X} → x ∷ xs ≡ y ∷ ys → x ≡ y
 same_first e = cc
@@ -209,3 +213,175 @@ open_apart d bytes field rest (here, e, (done, run, f, all)) (inl (there, g, (h,
     unclosed_apart d.quote done run field rest all not (sym f ∙ same_others (sym e ∙ g) ∙ h)
 open_apart d bytes field rest (here, e, unclosed) (inr (f, all, stop, not)) =
     let P : List ℕ → Type 0 = λ l. NotFirst (λ b. b ≡ d.quote) l in subst P e not refl
+
+-- ---- runs of bytes of one class
+
+-- all are such
+pub all_first : (these : ℕ → Type 0) (xs : List ℕ) (i n : ℕ) → length xs ≤ i → length xs ≡ n
+    → All these (take i xs) → SoMany these xs n
+all_first these xs i n past is all = (
+  omega arith,
+  rw (take_all n xs (omega arith)) (rw (take_all i xs past) at all),
+  rw (drop_all n xs (omega arith)) tt,
+)
+
+-- ---- between quotes
+
+-- the run ends at a quote
+pub run_quote : (quote : ℕ) (rest : List ℕ) (n : ℕ) → SoMany (IsOther quote) rest n
+    → (n ≡ length rest → ⊥)
+    → (rest ≡ take n rest ++ (quote ∷ drop (n + 1) rest)) × (n + 1 ≤ length rest)
+run_quote quote rest n (within, all, not) some =
+    let less : n < length rest = omega arith in
+    let at = rw (drop_more rest n 0 less) at not in
+    elim (is_or_not (get_or rest n 0) quote) [
+      | inl is ↦ (
+        sym (take-append-drop n rest) ∙ ap (λ l. take n rest ++ l)
+            (drop_more rest n 0 less ∙ ap (λ b. b ∷ drop (n + 1) rest) is),
+        omega arith,
+      )
+      | inr other ↦ absurd (at other)
+    ]
+
+-- a run after bytes that are read
+pub doubled_behind : (quote : ℕ) (done run : List ℕ) → All (IsOther quote) run
+    → doubled quote (done ++ run) ≡ doubled quote done ++ run
+doubled_behind quote done run all = doubled_append quote done run
+    ∙ ap (λ l. doubled quote done ++ l) (doubled_run quote run all)
+
+-- the run and its quote
+pub take_quote : (quote : ℕ) (rest : List ℕ) (n : ℕ) → SoMany (IsOther quote) rest n
+    → (n ≡ length rest → ⊥) → take (n + 1) rest ≡ take n rest ++ quote ∷ []
+take_quote quote rest n run some =
+    let (split, within) = run_quote quote rest n run some in
+    let less : n < length rest = omega arith in
+    let same = append_cancel_left (take n rest) (drop n rest) (quote ∷ drop (n + 1) rest)
+    (take-append-drop n rest ∙ split) in
+    take_more rest n 0 less
+    ∙ ap (λ b. take n rest ++ b ∷ []) (same_first (sym (drop_more rest n 0 less) ∙ same))
+
+-- a quote after a run is written twice
+pub doubled_two : (quote : ℕ) (done run : List ℕ) → All (IsOther quote) run
+    → doubled quote (done ++ (run ++ quote ∷ []))
+    ≡ doubled quote done ++ (run ++ (quote ∷ quote ∷ []))
+doubled_two quote done run all = doubled_append quote done (run ++ quote ∷ [])
+    ∙ ap (λ l. doubled quote done ++ l) (doubled_append quote run (quote ∷ [])
+    ∙ ap (λ l. l ++ doubled quote (quote ∷ [])) (doubled_run quote run all)
+    ∙ ap (λ l. run ++ l) (doubled_quote quote quote [] refl
+    ∙ ap (λ l. quote ∷ quote ∷ l) (doubled_none quote)))
+
+-- the contents of quotes that were read, and the bytes added to the current field
+pub record Between (quote : ℕ) (input rest base begun : List ℕ) : Type 0 where
+  pub done : List ℕ
+  pub whole : input ≡ doubled quote done ++ rest
+  pub all : begun ≡ base ++ done
+
+module _ (quote : ℕ) (input rest base begun : List ℕ) (n : ℕ)
+    (it : Between quote input rest base begun) (run : SoMany (IsOther quote) rest n) where
+  pub unclosed_here : n ≡ length rest → Unclosed quote input
+  unclosed_here is = (it.done, rest, it.whole, rw (take_all n rest (omega arith)) at run.1)
+
+  pub closed_here : (n ≡ length rest → ⊥) → (left added new : List ℕ) → left ≡ drop (n + 1) rest
+      → NotFirst (λ b. b ≡ quote) left → added ≡ take n rest → new ≡ begun ++ added
+      → (field : List ℕ) × Closed quote input field left × (new ≡ base ++ field)
+  closed_here some left added new is not adds e =
+      let split = (run_quote quote rest n run some).0 in (
+        it.done ++ take n rest,
+        (
+          it.whole ∙ ap (λ l. doubled quote it.done ++ l) split
+              ∙ sym (append_assoc (doubled quote it.done) (take n rest) (quote ∷ drop (n + 1) rest))
+              ∙ ap (λ l. l ++ (quote ∷ drop (n + 1) rest))
+              (sym (doubled_behind quote it.done (take n rest) run.1))
+              ∙ ap (λ l. doubled quote (it.done ++ take n rest) ++ (quote ∷ l)) (sym is),
+          not,
+        ),
+        e ∙ ap (λ l. begun ++ l) adds ∙ ap (λ l. l ++ take n rest) it.all
+            ∙ append_assoc base it.done (take n rest),
+      )
+
+  pub more_here : (n ≡ length rest → ⊥) → (left next added new : List ℕ) → left ≡ drop (n + 1) rest
+      → left ≡ quote ∷ drop 1 left → next ≡ drop 1 left → added ≡ take (n + 1) rest
+      → new ≡ begun ++ added → Between quote input next base new
+  more_here some left next added new is two goes adds e =
+      let runs = take n rest in
+      let tidy : (doubled quote it.done ++ (runs ++ (quote ∷ quote ∷ []))) ++ next
+      ≡ doubled quote it.done ++ (runs ++ (quote ∷ quote ∷ next)) = simp append_assoc in
+      record {
+        done = it.done ++ (runs ++ quote ∷ []);
+        whole = it.whole ∙ ap (λ l. doubled quote it.done ++ l)
+            ((run_quote quote rest n run some).0
+            ∙ ap (λ l. runs ++ (quote ∷ l)) (sym is ∙ two ∙ ap (λ l. quote ∷ l) (sym goes)))
+            ∙ sym tidy ∙ ap (λ l. l ++ next) (sym (doubled_two quote it.done runs run.1));
+        all = e ∙ ap (λ l. begun ++ l) (adds ∙ take_quote quote rest n run some)
+            ∙ ap (λ l. l ++ (runs ++ quote ∷ [])) it.all
+            ∙ append_assoc base it.done (runs ++ quote ∷ []);
+      }
+
+-- ---- the ends of records
+
+-- the ways in which bytes end a record
+abbrev IsEnded : List ℕ → List ℕ → Type 0
+IsEnded bytes rest = (bytes ≡ 13 ∷ 10 ∷ rest)
+    ⊎ ((bytes ≡ 10 ∷ rest) ⊎ ((bytes ≡ []) × (rest ≡ [])))
+
+ended : (ends : LineEnds) (bytes rest : List ℕ) → EndsHere ends bytes rest → IsEnded bytes rest
+ended ends bytes rest (inr none) = inr (inr none)
+ended CrLf bytes rest (inl (end, is, e)) = inl (rw is at e)
+ended Lf bytes rest (inl (end, is, e)) = inr (inl (rw is at e))
+ended Either bytes rest (inl (end, inl is, e)) = inl (rw is at e)
+ended Either bytes rest (inl (end, inr is, e)) = inr (inl (rw is at e))
+
+ended_one : (bytes rest left : List ℕ) → IsEnded bytes rest → IsEnded bytes left → rest ≡ left
+ended_one bytes rest left (inl e) (inl f) = same_others (same_others (sym e ∙ f))
+ended_one bytes rest left (inl e) (inr (inl f)) =
+    let h : 13 ≡ 10 = same_first (sym e ∙ f) in absurd (omega (arith, h))
+ended_one bytes rest left (inl e) (inr (inr (none, over))) = let h = sym e ∙ none in cc
+ended_one bytes rest left (inr (inl e)) (inl f) =
+    let h : 13 ≡ 10 = same_first (sym f ∙ e) in absurd (omega (arith, h))
+ended_one bytes rest left (inr (inl e)) (inr (inl f)) = same_others (sym e ∙ f)
+ended_one bytes rest left (inr (inl e)) (inr (inr (none, over))) = let h = sym e ∙ none in cc
+ended_one bytes rest left (inr (inr (none, over))) (inl f) = let h = sym f ∙ none in cc
+ended_one bytes rest left (inr (inr (none, over))) (inr (inl f)) = let h = sym f ∙ none in cc
+ended_one bytes rest left (inr (inr (none, over))) (inr (inr (nothing, done))) = over ∙ sym done
+
+pub ends_one : (ends : LineEnds) (bytes rest left : List ℕ) → EndsHere ends bytes rest
+    → EndsHere ends bytes left → rest ≡ left
+ends_one ends bytes rest left it other =
+    ended_one bytes rest left (ended ends bytes rest it) (ended ends bytes left other)
+
+break_first : (b : ℕ) (bytes rest : List ℕ) → IsEnded (b ∷ bytes) rest → IsBreak b
+break_first b bytes rest (inl e) = inl (same_first e)
+break_first b bytes rest (inr (inl e)) = inr (same_first e)
+break_first b bytes rest (inr (inr (none, over))) = cc
+
+-- what ends a record stops a field
+pub ends_stop : (d : Dialect) (ends : LineEnds) (bytes rest : List ℕ) → EndsHere ends bytes rest
+    → MayBegin (IsStop d) bytes
+ends_stop d ends [] rest it = tt
+ends_stop d ends (b ∷ bytes) rest it =
+    inr (break_first b bytes rest (ended ends (b ∷ bytes) rest it))
+
+pub ends_apart : (d : Dialect) → IsApart d.delimiter d.quote → (bytes rest more : List ℕ)
+    → EndsHere d.ends bytes rest → bytes ≡ d.delimiter ∷ more → ⊥
+ends_apart d apart bytes rest more it e =
+    elim (break_first d.delimiter more rest (ended d.ends (d.delimiter ∷ more) rest (rw e at it))) [
+      | inl is ↦ apart.delimiter_stays.0 is
+      | inr is ↦ apart.delimiter_stays.1 is
+    ]
+
+-- nothing ends at a carriage return with no line feed after it
+lone : (tail rest : List ℕ) → NotFirst (λ b. b ≡ 10) tail → IsEnded (13 ∷ tail) rest → ⊥
+lone tail rest not (inl e) =
+    let P : List ℕ → Type 0 = λ l. NotFirst (λ b. b ≡ 10) l in subst P (same_others e) not refl
+lone tail rest not (inr (inl e)) = let h : 13 ≡ 10 = same_first e in omega (arith, h)
+lone tail rest not (inr (inr (none, over))) = cc
+
+pub lone_return : (ends : LineEnds) (tail rest : List ℕ) → NotFirst (λ b. b ≡ 10) tail
+    → EndsHere ends (13 ∷ tail) rest → ⊥
+lone_return ends tail rest not it = lone tail rest not (ended ends (13 ∷ tail) rest it)
+
+pub end_some : (ends : LineEnds) (end : List ℕ) → IsLineEnd ends end → 0 < length end
+end_some CrLf end is = omega (arith, ap (λ l. length l) is)
+end_some Lf end is = omega (arith, ap (λ l. length l) is)
+end_some Either end (inl is) = omega (arith, ap (λ l. length l) is)
+end_some Either end (inr is) = omega (arith, ap (λ l. length l) is)

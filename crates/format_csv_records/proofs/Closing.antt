@@ -18,12 +18,12 @@ use Rattle.format_csv_records.specs.declared.dialect.Dialect.{Dialect}
 use Rattle.format_csv_records.specs.declared.extent.RecordPlace.{RecordPlace}
 use Rattle.format_csv_records.specs.declared.extent.RecordPlace.TheVariants as place
 use Rattle.format_csv_records.specs.declared.read.Reason.TheVariants.{OpenQuote, WrongLineEnd}
-use Rattle.format_csv_records.proofs.Ending.{end_some}
+use Rattle.format_csv_records.proofs.Alone.{end_some}
 use Rattle.format_csv_records.proofs.Early.{feed, line_end_of}
 use Rattle.format_csv_records.proofs.One.{fields_one}
 use Rattle.format_csv_records.proofs.Placing.{text_more}
 use Rattle.format_csv_records.proofs.Stepping.{field_text, plain_text, quote_text}
-use Rattle.format_csv_records.proofs.Stuck.{never_return}
+use Rattle.format_csv_records.proofs.Stepping.{never_return}
 use Rattle.format_csv_records.proofs.Whole.{SoFar, done_fields, last_field, so_far_open}
 
 -- ---- what ends a record
@@ -142,15 +142,16 @@ module _ (d : Dialect) (at : RecordPlace) (not : at ≡ place.Done → ⊥) (tex
       let c = closes_at d at not it.field it.begun it.is in
       let (same, over) = fields_one d apart others (row_of it) (front ++ c.more) (rest ++ c.more) []
       (all c.more).1
-      (rw (append-nil (front ++ c.more)) at (ended d (IsFieldPrefix d at) text fields front it c.more
-      c.text c.end c.is_text c.is_end c.same [])) in
+      (rw (append-nil (front ++ c.more)) at (ended d (IsFieldPrefix d at) text fields front it
+      c.more c.text c.end c.is_text c.is_end c.same [])) in
       omega (arith, c.some, ap (λ l. length l) over, length-append rest c.more)
 
 -- ---- one that is
 
 -- the size of a record whose bytes are passed
-sized_by : (d : Dialect) (so : List ℕ → List ℕ → Type 0) (text fields : ℕ) (front bytes left : List ℕ)
-    (it : Passed d so text fields front) → bytes ≡ front ++ left → IsRecord d bytes (row_of it) left
+sized_by : (d : Dialect) (so : List ℕ → List ℕ → Type 0) (text fields : ℕ)
+    (front bytes left : List ℕ) (it : Passed d so text fields front) → bytes ≡ front ++ left
+    → IsRecord d bytes (row_of it) left
     → (size : RecordSize) → size.fields ≡ fields + 1 → size.text ≡ text
     → size.length ≡ length front
     → MatchBool size.ended (IsForGood d bytes (row_of it) left) (NoneForGood d bytes)

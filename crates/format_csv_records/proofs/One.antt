@@ -12,8 +12,8 @@ use Rattle.format_csv_records.specs.Parts.{FieldFirst}
 use Rattle.format_csv_records.specs.Refused.{IsRefused, NoneWith}
 use Rattle.format_csv_records.specs.declared.dialect.Dialect.{Dialect}
 use Rattle.format_csv_records.specs.declared.read.InvalidRecord.{InvalidRecord}
-use Rattle.format_csv_records.proofs.Alone.{field_apart, same_first, same_others}
-use Rattle.format_csv_records.proofs.Ending.{end_some, ends_apart, ends_one}
+use Rattle.format_csv_records.proofs.Alone.{end_some, ends_apart, ends_one, field_apart, same_first}
+use Rattle.format_csv_records.proofs.Alone.{same_others}
 use Rattle.format_csv_records.proofs.Whole.{SoFar, behind_first, done_fields, done_more, first_text}
 use Rattle.format_csv_records.proofs.Whole.{last_field}
 
@@ -41,7 +41,8 @@ fields_one d apart (f ∷ fs) others bytes rest left it other =
         | inr (further, too, those) ↦
             let (all, over) = fields_one d apart fs b.others more rest left
             (rw (same_others a.all) them) (rw (same_others (sym is ∙ e ∙ too)) those) in
-            (ap (λ l. f ∷ l) all ∙ ap (λ x. x ∷ b.others) (same_first a.all ∙ same) ∙ sym b.all, over)
+            let one = ap (λ x. x ∷ b.others) (same_first a.all ∙ same) in
+            (ap (λ l. f ∷ l) all ∙ one ∙ sym b.all, over)
       ]
     ]
 

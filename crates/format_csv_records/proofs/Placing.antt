@@ -18,7 +18,7 @@ use Rattle.format_csv_records.specs.declared.buffers.RecordSize.{RecordSize}
 use Rattle.format_csv_records.specs.declared.dialect.Dialect.{Dialect}
 use Rattle.format_csv_records.specs.declared.dialect.LineEnds.{LineEnds}
 use Rattle.format_csv_records.proofs.One.{ended_so, fields_one}
-use Rattle.format_csv_records.proofs.Runs.{Between, closed_here, more_here, run_quote, take_quote}
+use Rattle.format_csv_records.proofs.Alone.{Between, closed_here, more_here, run_quote, take_quote}
 use Rattle.format_csv_records.proofs.Whole.{SoFar, first_text, so_far_ends, so_far_more}
 use Rattle.format_csv_records.proofs.Whole.{so_far_none}
 
@@ -293,8 +293,8 @@ module _ (these : ℕ → Type 0) (bytes : List ℕ) (at : ℕ) (old now : List 
   pub run_full : (k : ℕ) → n ≡ k → k ≤ length bytes → (rest : List ℕ) → rest ≡ drop k bytes
       → (m : ℕ) → SoMany these rest m → SoMany these bytes (k + m)
   run_full k same within rest is m (few, all, not) = (
-        omega (arith, few, within, ap (λ l. length l) is, length-drop k bytes),
-        rw (take-add k m bytes) (All-append these (take k bytes) (take m (drop k bytes))
-            (rw same at it.all) (rw is at all)),
-        rw (is, drop-drop m k bytes) at not,
-      )
+    omega (arith, few, within, ap (λ l. length l) is, length-drop k bytes),
+    rw (take-add k m bytes) (All-append these (take k bytes) (take m (drop k bytes))
+        (rw same at it.all) (rw is at all)),
+    rw (is, drop-drop m k bytes) at not,
+  )

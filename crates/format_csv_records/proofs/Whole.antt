@@ -15,12 +15,10 @@ use Rattle.format_csv_records.specs.declared.read.Reason.{Reason}
 use Rattle.format_csv_records.specs.declared.read.Reason.TheVariants.{QuoteInField}
 use Rattle.format_csv_records.specs.declared.read.Reason.TheVariants.{ByteBehindQuote}
 use Rattle.format_csv_records.specs.declared.read.Reason.TheVariants.{OpenQuote, WrongLineEnd}
-use Rattle.format_csv_records.proofs.Alone.{field_apart}
-use Rattle.format_csv_records.proofs.Alone.{open_apart, quoted_behind, same_others}
-use Rattle.format_csv_records.proofs.Alone.{text_first}
+use Rattle.format_csv_records.proofs.Alone.{doubled_behind, end_some, ends_apart, ends_stop}
+use Rattle.format_csv_records.proofs.Alone.{field_apart, lone_return, open_apart, quoted_behind}
+use Rattle.format_csv_records.proofs.Alone.{same_others, text_first}
 use Rattle.format_csv_records.proofs.Early.{line_end_of}
-use Rattle.format_csv_records.proofs.Ending.{end_some, ends_apart, ends_stop, lone_return}
-use Rattle.format_csv_records.proofs.Runs.{doubled_behind}
 
 -- ---- the text of the first field
 
@@ -240,15 +238,13 @@ module _ (d : Dialect) (apart : IsApart d.delimiter d.quote) (bytes rest : List 
         → left ≡ d.delimiter ∷ drop 1 left → next ≡ drop 1 left → SoFar d bytes next new
     so_far_more next new e goes is =
         let t = first_text d rest field left f in
-        let P : List (List ℕ) → Type 0 =
-        λ l. Done d l (it.before ++ (t.text ++ (d.delimiter ∷ []))) in
         record {
           before = it.before ++ (t.text ++ (d.delimiter ∷ []));
           whole = it.whole ∙ ap (λ l. it.before ++ l) (t.split ∙ ap (λ l. t.text ++ l) (goes
               ∙ ap (λ l. d.delimiter ∷ l) (sym is))
               ∙ sym (append_assoc t.text (d.delimiter ∷ []) next))
               ∙ sym (append_assoc it.before (t.text ++ (d.delimiter ∷ [])) next);
-          texts = subst P (sym e) (done_more d fields it.before field t.text it.texts t.is_text);
+          texts = rw e (done_more d fields it.before field t.text it.texts t.is_text);
         }
 
     -- with what ends it after the field
@@ -321,7 +317,6 @@ module _ (d : Dialect) (apart : IsApart d.delimiter d.quote) (bytes rest : List 
         let sizes : length bytes ≡ length before + length left =
         ap (λ l. length l) split ∙ length-append before left in
         let s = stuck d.ends left begun nowhere in
-        let N : List ℕ → Type 0 = λ l. NotFirst (λ b. b ≡ d.delimiter) l in
         elim s.ends_not [
           | inl (none, ends) ↦
               let z = line_end_of d.ends in
@@ -335,22 +330,20 @@ module _ (d : Dialect) (apart : IsApart d.delimiter d.quote) (bytes rest : List 
                 closes before z.end refl (inl (z.end, z.is, sym (append-nil z.end))) z.some,
                 lacks d why before z.end left whynot not ends_a_field z.is,
                 subst B (sym s.is) (λ after all o them. goes_not s.b s.bs after s.is
-                    (subst N s.is not) (λ l. ends after l) before refl all o them),
+                    (rw s.is at not) (λ l. ends after l) before refl all o them),
               )
           | inr (one, cr, is, lone) ↦
-              let W : List ℕ → Type 0 = λ l. WhyNot d.quote l why in
-              let here : left ≡ 13 ∷ s.bs = s.is ∙ ap (λ b. b ∷ s.bs) cr in
-              let R : List ℕ → Type 0 = λ l. IsRecord d l (fields ++ field ∷ []) [] in (
+              let here : left ≡ 13 ∷ s.bs = s.is ∙ ap (λ b. b ∷ s.bs) cr in (
                 before ++ (13 ∷ []),
                 s.bs,
                 10 ∷ [],
                 fields ++ field ∷ [],
                 split ∙ ap (λ l. before ++ l) here ∙ sym (append_assoc before (13 ∷ []) s.bs),
                 omega (arith, at, one, sizes, length-append before (13 ∷ [])),
-                subst R (sym (append_assoc before (13 ∷ []) (10 ∷ [])))
+                rw (append_assoc before (13 ∷ []) (10 ∷ []))
                     (closes before (13 ∷ 10 ∷ []) refl (inl (13 ∷ 10 ∷ [], is, refl))
                     (omega arith)),
-                lacks_feed d apart why before s.bs s.bs (subst W here whynot),
+                lacks_feed d apart why before s.bs s.bs (rw here at whynot),
                 none_return s.bs here lone before refl,
               )
         ]
@@ -362,7 +355,6 @@ module _ (d : Dialect) (apart : IsApart d.delimiter d.quote) (bytes rest : List 
       let text = q ∷ (doubled q (done ++ run) ++ q ∷ []) in
       let same : rest ++ q ∷ [] ≡ text =
       ap (λ l. l ++ q ∷ []) (e ∙ ap (λ l. q ∷ l) (g ∙ sym (doubled_behind q done run all))) in
-      let P : List ℕ → Type 0 = λ l. AreFields d l (fields ++ (done ++ run) ∷ []) [] in
       let whole : bytes ++ q ∷ [] ≡ it.before ++ (text ++ []) =
       ap (λ l. l ++ q ∷ []) it.whole ∙ append_assoc it.before rest (q ∷ [])
       ∙ ap (λ l. it.before ++ l) (same ∙ sym (append-nil text)) in (
@@ -374,13 +366,12 @@ module _ (d : Dialect) (apart : IsApart d.delimiter d.quote) (bytes rest : List 
         refl,
         (
           omega (arith, length-append bytes (q ∷ [])),
-          subst P (sym whole) (done_fields d fields it.before (text ++ []) ((done ++ run) ∷ []) []
+          rw whole (done_fields d fields it.before (text ++ []) ((done ++ run) ∷ []) []
               it.texts (last_field d (done ++ run) text [] [] (inl refl) (inr (refl, refl)))),
         ),
         (refl, refl),
         λ ps end (some, them).
-            let B : List ℕ → Type 0 = λ l. AreFields d l ps end in
             let (fs, o) = done_apart d apart fields it.before rest ps end it.texts
-            (subst B it.whole them) in
+            (rw it.whole at them) in
             none_open d apart rest fs end (here, e, (done, run, g, all)) o,
       )

@@ -16,9 +16,8 @@ use Rattle.format_csv_records.specs.Written.{bytes_of}
 use Rattle.format_csv_records.specs.declared.dialect.Dialect.{Dialect}
 use Rattle.format_csv_records.specs.declared.dialect.LineEnds.{LineEnds}
 use Rattle.format_csv_records.specs.declared.dialect.LineEnds.TheVariants.{CrLf, Lf, Either}
-use Rattle.format_csv_records.proofs.Alone.{doubled_none}
-use Rattle.format_csv_records.proofs.Ending.{end_some}
-use Rattle.format_csv_records.proofs.Runs.{doubled_behind, doubled_two, take_quote}
+use Rattle.format_csv_records.proofs.Alone.{doubled_behind, doubled_none, doubled_two, end_some}
+use Rattle.format_csv_records.proofs.Alone.{take_quote}
 use Rattle.format_csv_records.proofs.Whole.{done_fields, last_field}
 
 pub not_all : (these : ℕ → Type 0) (xs : List ℕ) (n : ℕ) → SoMany these xs n

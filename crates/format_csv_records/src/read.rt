@@ -154,11 +154,7 @@ pub(crate) fn first_is(bytes: &[u8], byte: u8) -> bool
 }
 
 // The bytes of a field up to its closing quote, of two quotes one; or false if there is none.
-fn read_quoted<S: FieldSink>(
-    quote: u8,
-    sink: &mut S,
-    input: &mut &[u8],
-) -> Result<bool, AllocError>
+fn read_quoted<S: FieldSink>(quote: u8, sink: &mut S, input: &mut &[u8]) -> Result<bool, AllocError>
     ensures { IfOk result (λ closed. MatchBool closed
         ((field : List ℕ) × Closed quote input.old.now field input.new.now
         × (S.fields sink.new ≡ S.fields sink.old)

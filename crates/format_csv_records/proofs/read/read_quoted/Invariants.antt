@@ -1,5 +1,5 @@
 use Rattle.std.proofs.Common.{◌≡◌, length}
-use Rattle.format_csv_records.proofs.Runs.{Between}
+use Rattle.format_csv_records.proofs.Alone.{Between}
 use Rattle.format_csv_records.proofs.read.read_quoted.Given as goal
 
 abbrev pub invariant-runs : goal.invariant-runs
