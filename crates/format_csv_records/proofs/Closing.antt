@@ -206,13 +206,25 @@ sized_whole d text fields front bytes left it splits size count total long close
 
 -- ---- where no more bytes come
 
+text_at : (d : Dialect) (at : RecordPlace) → (at ≡ place.Done → ⊥) → (at ≡ place.Quoted → ⊥)
+    → (at ≡ place.Return → ⊥) → (field begun : List ℕ) → IsFieldPrefix d at field begun
+    → IsFieldText d field begun
+text_at d place.Field not quoted lone field begun it = field_text d field begun it
+text_at d place.Plain not quoted lone field begun it = plain_text d field begun it
+text_at d place.Quoted not quoted lone field begun it = absurd (quoted refl)
+text_at d place.Quote not quoted lone field begun it = quote_text d field begun it
+text_at d place.Return not quoted lone field begun it = absurd (lone refl)
+text_at d place.Done not quoted lone field begun it = absurd (not refl)
+
 module _ (d : Dialect) (apart : IsApart d.delimiter d.quote) (text fields : ℕ)
     (bytes : List ℕ) where
-  sized_open : (at : RecordPlace) → (at ≡ place.Done → ⊥)
-      → (it : Passed d (IsFieldPrefix d at) text fields bytes) → IsFieldText d it.field it.begun
-      → 0 < length bytes → (size : RecordSize) → size.fields ≡ fields + 1 → size.text ≡ text
+  -- the record ends with the bytes
+  pub sized_end : (at : RecordPlace) → (at ≡ place.Done → ⊥) → (at ≡ place.Quoted → ⊥)
+      → (at ≡ place.Return → ⊥) → Passed d (IsFieldPrefix d at) text fields bytes → 0 < length bytes
+      → (size : RecordSize) → size.fields ≡ fields + 1 → size.text ≡ text
       → size.length ≡ length bytes → size.ended ≡ false → IsSized d bytes size
-  sized_open at not it is some size count total long unended =
+  sized_end at not quoted lone it some size count total long unended =
+      let is = text_at d at not quoted lone it.field it.begun it.is in
       let P : List ℕ → Type 0 = λ l. AreFields d l (row_of it) [] in
       sized_by d (IsFieldPrefix d at) text fields bytes bytes [] it (sym (append-nil bytes)) (
         some,
@@ -220,24 +232,6 @@ module _ (d : Dialect) (apart : IsApart d.delimiter d.quote) (text fields : ℕ)
             (done_fields d it.done it.before (it.begun ++ []) (it.field ∷ []) [] it.are
             (last_field d it.field it.begun [] [] is (inr (refl, refl)))),
       ) size count total long (rw unended (none_for_good d at not text fields bytes it apart))
-
-  -- the record ends with the bytes
-  pub sized_end : (at : RecordPlace) → (at ≡ place.Done → ⊥) → (at ≡ place.Quoted → ⊥)
-      → (at ≡ place.Return → ⊥) → Passed d (IsFieldPrefix d at) text fields bytes → 0 < length bytes
-      → (size : RecordSize) → size.fields ≡ fields + 1 → size.text ≡ text
-      → size.length ≡ length bytes → size.ended ≡ false → IsSized d bytes size
-  sized_end place.Field not quoted lone it some size count total long is =
-      sized_open place.Field not it (field_text d it.field it.begun it.is) some size count total
-      long is
-  sized_end place.Plain not quoted lone it some size count total long is =
-      sized_open place.Plain not it (plain_text d it.field it.begun it.is) some size count total
-      long is
-  sized_end place.Quoted not quoted lone it some size count total long is = absurd (quoted refl)
-  sized_end place.Quote not quoted lone it some size count total long is =
-      sized_open place.Quote not it (quote_text d it.field it.begun it.is) some size count total
-      long is
-  sized_end place.Return not quoted lone it some size count total long is = absurd (lone refl)
-  sized_end place.Done not quoted lone it some size count total long is = absurd (not refl)
 
   pub refused_open : Passed d (IsFieldPrefix d place.Quoted) text fields bytes
       → IsRefused d bytes (record { offset = length bytes; why = OpenQuote })

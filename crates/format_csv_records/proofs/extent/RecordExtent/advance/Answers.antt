@@ -9,11 +9,11 @@ returns-else-self-2-clause-fresh c room few =
 
 pub returns-else-self-2-clause-told : goal.returns-else-self-2-clause-told
 returns-else-self-2-clause-told c here =
-    let (room, few) = within _ _ _ here in
+    let (room, text, fields) = within _ _ _ here in
     told _ c.args.dialect.apart c.is_byte.ensures _ _ _ _ here
-    (returns-else-self-2-clause-fresh c room few)
+    (returns-else-self-2-clause-fresh c room (text, fields))
 
 pub returns-else-self-2-clause-kept : goal.returns-else-self-2-clause-kept
 returns-else-self-2-clause-kept c here =
-    let (room, few) = within _ _ _ here in
-    kept _ c.args.dialect.apart _ _ _ _ here (returns-else-self-2-clause-fresh c room few)
+    let (room, text, fields) = within _ _ _ here in
+    kept _ c.args.dialect.apart _ _ _ _ here (returns-else-self-2-clause-fresh c room (text, fields))

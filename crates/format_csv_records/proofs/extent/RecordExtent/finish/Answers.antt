@@ -3,7 +3,7 @@ use Rattle.format_csv_records.proofs.extent.RecordExtent.finish.Goals as goal
 
 pub returns-in-None-clause-told : goal.returns-in-None-clause-told
 returns-in-None-clause-told c here =
-    let (room, few) = within _ _ _ here in
+    let (room, text, fields) = within _ _ _ here in
     let (it, all, not) = open_after _ c.args.dialect.apart _ _ _ here
-    (rw c.in-None.is at (c.in_ok-size.ensures.fresh room few)) in
+    (rw c.in-None.is at (c.in_ok-size.ensures.fresh room (text, fields))) in
     c.end.ensures c.args.dialect not it all
