@@ -27,6 +27,7 @@ use crate::dialects::dialect_of;
 use crate::lists::FieldLists;
 use format_csv_records::read::{RecordError, read_fields};
 use std::alloc::Allocator;
+use winnow::Parser;
 use winnow::combinator::repeat;
 use winnow::error::{EmptyError, ErrMode, HasKind, ParseFault, ParserError};
 use winnow::exact::Rule;

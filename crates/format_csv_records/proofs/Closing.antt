@@ -1,10 +1,10 @@
 -- Lemmas about records whose bytes are all passed, and about how an incomplete record continues.
 use Rattle.std.specs.Prelude.{◌≡◌, ◌≤◌, ◌<◌, ◌+◌, ℕ, List, [], ◌∷◌, ◌++◌, length, drop}
-use Rattle.std.specs.Prelude.{Bool, MatchBool, false, true}
+use Rattle.std.specs.Prelude.{MatchBool, false, true}
 use Rattle.std.specs.List.{All}
 use Rattle.std.proofs.Common.{refl, sym, ap, subst, inl, inr, ◌∙◌, arith, append_assoc}
 use Rattle.std.proofs.Common.{length-append}
-use Rattle.std.proofs.lemmas.List.{append-nil, drop_all, drop_at}
+use Rattle.std.proofs.lemmas.List.{append-nil, drop_at}
 use Rattle.std.proofs.lemmas.List.Elements.{All-cons, All-nil}
 use Rattle.format_csv_records.specs.Apart.{IsApart}
 use Rattle.format_csv_records.specs.Buffers.{IsForGood, IsSized, NoneForGood, text_of}

@@ -1,7 +1,7 @@
 -- A record that has not ended can be continued; one with an error before its end never can.
 use Rattle.std.specs.Prelude.{◌≡◌, ◌<◌, ◌≤◌, ℕ, List, [], ◌∷◌, ◌++◌, length}
 use Rattle.std.specs.List.{All}
-use Rattle.std.proofs.Common.{refl, subst, sym, ap, inl, inr, ◌∙◌, arith, append_assoc}
+use Rattle.std.proofs.Common.{refl, ap, inl, inr, ◌∙◌, arith, append_assoc}
 use Rattle.std.proofs.Common.{length-append}
 use Rattle.std.proofs.lemmas.List.{append-nil, nil_from_length}
 use Rattle.std.proofs.lemmas.List.Elements.{All-append, All-cons, All-nil}

@@ -1,18 +1,17 @@
 -- How the bytes of fields, and their places, come into two buffers.
 use Rattle.std.specs.Prelude.{◌≡◌, ◌≤◌, ◌<◌, ◌+◌, ◌-◌, ℕ, List, [], ◌∷◌, ◌++◌, drop, length}
 use Rattle.std.specs.Prelude.{take, Bool, MatchBool}
-use Rattle.std.proofs.Common.{refl, sym, ap, subst, inl, inr, ◌∙◌, arith, append_assoc}
+use Rattle.std.proofs.Common.{refl, sym, ap, inl, inr, ◌∙◌, arith, append_assoc}
 use Rattle.std.proofs.Common.{length-append}
 use Rattle.std.proofs.Math.Seq.{take-add}
-use Rattle.std.proofs.lemmas.List.{append-nil, append_cancel_left, drop-drop, drop_at}
+use Rattle.std.proofs.lemmas.List.{append-nil, drop-drop, drop_at}
 use Rattle.std.proofs.lemmas.List.{flat_map_more, length-drop, length-take-le}
-use Rattle.std.proofs.lemmas.List.{take-append-drop}
 use Rattle.std.proofs.lemmas.List.Elements.{All-append}
 use Rattle.std.specs.List.{All}
 use Rattle.format_csv_records.specs.Apart.{IsApart}
-use Rattle.format_csv_records.specs.Buffers.{FieldPut, IsForGood, IsSized, NoneForGood, Placed}
+use Rattle.format_csv_records.specs.Buffers.{FieldPut, IsSized, Placed}
 use Rattle.format_csv_records.specs.Buffers.{Puts, PutsFields, ShowsFields, places_of, text_of}
-use Rattle.format_csv_records.specs.Dialects.{AreFields, EndsHere}
+use Rattle.format_csv_records.specs.Dialects.{EndsHere}
 use Rattle.format_csv_records.specs.Parts.{Closed, FieldFirst, IsOther, NotFirst, SoMany}
 use Rattle.format_csv_records.specs.declared.buffers.RecordSize.{RecordSize}
 use Rattle.format_csv_records.specs.declared.dialect.Dialect.{Dialect}

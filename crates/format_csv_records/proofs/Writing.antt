@@ -4,18 +4,16 @@ use Rattle.std.specs.Prelude.{◌-◌, Bool, true, false, MatchBool, if◌then�
 use Rattle.std.specs.Prelude.{Result, Ok, Err}
 use Rattle.std.specs.List.{All}
 use Rattle.std.specs.Borrow.{Bor}
-use Rattle.std.proofs.Common.{refl, sym, ap, subst, inl, inr, ◌∙◌, arith, append_assoc, get_or}
+use Rattle.std.proofs.Common.{refl, sym, ap, inl, inr, ◌∙◌, arith, append_assoc, get_or}
 use Rattle.std.proofs.Common.{length-append}
 use Rattle.std.proofs.lemmas.List.{drop_more, map_more}
 use Rattle.std.proofs.lemmas.List.{take-append-drop, take_all}
-use Rattle.format_csv_records.specs.Dialects.{AreFields, IsFieldText, IsLineEnd}
+use Rattle.format_csv_records.specs.Dialects.{IsFieldText}
 use Rattle.format_csv_records.specs.Dialects.{doubled}
-use Rattle.format_csv_records.specs.Parts.{Done, IsOther, NotFirst, SoMany}
+use Rattle.format_csv_records.specs.Parts.{Done, IsOther, SoMany}
 use Rattle.format_csv_records.specs.Written.{IsLast, IsLastOf, IsWritten, ReadsBack, Writes, Wrote}
 use Rattle.format_csv_records.specs.Written.{bytes_of}
 use Rattle.format_csv_records.specs.declared.dialect.Dialect.{Dialect}
-use Rattle.format_csv_records.specs.declared.dialect.LineEnds.{LineEnds}
-use Rattle.format_csv_records.specs.declared.dialect.LineEnds.TheVariants.{CrLf, Lf, Either}
 use Rattle.format_csv_records.proofs.Alone.{doubled_behind, doubled_none, doubled_two, end_some}
 use Rattle.format_csv_records.proofs.Alone.{take_quote}
 use Rattle.format_csv_records.proofs.Whole.{done_fields, last_field}

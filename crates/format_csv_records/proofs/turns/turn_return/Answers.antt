@@ -1,4 +1,4 @@
-use Rattle.std.proofs.Common.{◌∷◌, arith}
+use Rattle.std.proofs.Common.{arith}
 use Rattle.format_csv_records.proofs.Stepping.{goes_step, grows_both}
 use Rattle.format_csv_records.proofs.Stepping.{never_return}
 use Rattle.format_csv_records.specs.declared.extent.RecordPlace.TheVariants as place
