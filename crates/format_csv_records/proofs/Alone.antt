@@ -1,22 +1,28 @@
--- Uniqueness of fields: bytes start with at most one field; and how a record continues after its
--- first fields.
-use Rattle.std.specs.Prelude.{◌≡◌, ◌⊎◌, ℕ, List, [], ◌∷◌, ◌++◌}
+-- Uniqueness of fields: bytes start with at most one field; the contents of quotes, runs of bytes
+-- of one class, and the ends of records.
+use Rattle.std.specs.Prelude.{◌≡◌, ◌⊎◌, ◌==◌, ℕ, Bool, List, None, Option, Some, [], ◌∷◌, ◌++◌}
+use Rattle.std.specs.Prelude.{false, if◌then◌else◌, option_map, true, ◌≤◌, ◌<◌, ◌+◌, length, take}
+use Rattle.std.specs.Prelude.{drop}
 use Rattle.std.specs.List.{All}
-use Rattle.std.proofs.Common.{refl, sym, ap, subst, inl, inr, ◌∙◌, append_assoc, eq-eqb}
+use Rattle.std.proofs.Common.{refl, sym, ap, subst, inl, inr, ◌∙◌, append_assoc, eq-eqb, arith}
+use Rattle.std.proofs.Common.{get_or}
 use Rattle.std.proofs.lemmas.Bool.{ne_eqb}
 use Rattle.std.proofs.lemmas.Bool.Decides.{eqb_tells}
+use Rattle.std.proofs.lemmas.List.{append_cancel_left, drop_more, drop_all, take-append-drop}
+use Rattle.std.proofs.lemmas.List.{take_all, take_more}
 use Rattle.std.proofs.lemmas.List.Elements.{All-head, All-tail}
 use Rattle.format_csv_records.specs.Apart.{IsApart, IsBreak}
-use Rattle.format_csv_records.specs.Dialects.{IsFieldText, IsPlain}
-use Rattle.format_csv_records.specs.Dialects.{doubled}
-use Rattle.format_csv_records.specs.Parts.{FieldFirst, IsOther, MayBegin, NotFirst}
-use Rattle.format_csv_records.specs.Parts.{OpenFirst}
+use Rattle.format_csv_records.specs.Dialects.{IsFieldText, IsPlain, doubled, EndsHere, IsLineEnd}
+use Rattle.format_csv_records.specs.Parts.{FieldFirst, IsOther, MayBegin, NotFirst, OpenFirst}
+use Rattle.format_csv_records.specs.Parts.{Closed, SoMany, Unclosed}
 use Rattle.format_csv_records.specs.declared.dialect.Dialect.{Dialect}
+use Rattle.format_csv_records.specs.declared.dialect.LineEnds.{LineEnds}
+use Rattle.format_csv_records.specs.declared.dialect.LineEnds.TheVariants.{CrLf, Lf, Either}
 
-pub same_first : {x y : ℕ} {xs ys : List ℕ} → x ∷ xs ≡ y ∷ ys → x ≡ y
+pub same_first : {X : Type 0} {x y : X} {xs ys : List X} → x ∷ xs ≡ y ∷ ys → x ≡ y
 same_first e = cc
 
-pub same_others : {x y : ℕ} {xs ys : List ℕ} → x ∷ xs ≡ y ∷ ys → xs ≡ ys
+pub same_others : {X : Type 0} {x y : X} {xs ys : List X} → x ∷ xs ≡ y ∷ ys → xs ≡ ys
 same_others e = cc
 
 pub is_or_not : (b c : ℕ) → (b ≡ c) ⊎ (b ≡ c → ⊥)
@@ -43,11 +49,6 @@ runs_apart these (x ∷ xs) ys (z ∷ zs) ws a b c d e =
     let h = same_first e in
     (cc, g)
 
-pub no_quote : (quote : ℕ) (xs ys : List ℕ) → All (IsOther quote) (xs ++ (quote ∷ ys)) → ⊥
-no_quote quote [] ys all = All-head (IsOther quote) quote ys all refl
-no_quote quote (x ∷ xs) ys all =
-    no_quote quote xs ys (All-tail (IsOther quote) x (xs ++ (quote ∷ ys)) all)
-
 -- ---- quotes twice
 
 pub doubled_quote : (quote b : ℕ) (bs : List ℕ) → b ≡ quote
@@ -64,85 +65,68 @@ pub doubled_none : (quote : ℕ) → doubled quote [] ≡ []
 unfolding doubled
 doubled_none quote = refl
 
--- what is written for a byte, and an end, differ
-end_apart : (quote x : ℕ) (xs tail ys : List ℕ) → NotFirst (λ b. b ≡ quote) ys
-    → doubled quote (x ∷ xs) ++ tail ≡ quote ∷ ys → ⊥
-end_apart quote x xs tail ys not e = elim (is_or_not x quote) [
-  | inl is ↦
-      let P : List ℕ → Type 0 = λ l. NotFirst (λ b. b ≡ quote) l in
-      let f : quote ∷ ((quote ∷ doubled quote xs) ++ tail) ≡ quote ∷ ys =
-      ap (λ l. l ++ tail) (sym (doubled_quote quote x xs is)) ∙ e in
-      subst P (sym (same_others f)) not refl
+-- the contents of quotes, if the closing quote is there; `true`: after a quote
+unfoldable unquoted : ℕ → Bool → List ℕ → Option (List ℕ)
+unquoted quote false [] = None
+unquoted quote true [] = Some []
+unquoted quote false (b ∷ bs) =
+    if b == quote then unquoted quote true bs
+    else option_map (λ l. b ∷ l) (unquoted quote false bs)
+unquoted quote true (b ∷ bs) =
+    if b == quote then option_map (λ l. b ∷ l) (unquoted quote false bs) else Some []
+
+unquoted_closed : (quote : ℕ) (xs ys : List ℕ) → NotFirst (λ b. b ≡ quote) ys
+    → unquoted quote false (doubled quote xs ++ (quote ∷ ys)) ≡ Some xs
+unfolding unquoted doubled
+unquoted_closed quote [] [] not = rw (eq-eqb quote quote refl) refl
+unquoted_closed quote [] (y ∷ ys) not = rw (eq-eqb quote quote refl, ne_eqb y quote not) refl
+unquoted_closed quote (x ∷ xs) ys not = elim (is_or_not x quote) [
+  | inl is ↦ rw (
+    is,
+    eq-eqb quote quote refl,
+    eq-eqb quote quote refl,
+    unquoted_closed quote xs ys not,
+  ) refl
   | inr other ↦
-      let f : x ∷ (doubled quote xs ++ tail) ≡ quote ∷ ys =
-      ap (λ l. l ++ tail) (sym (doubled_other quote x xs other)) ∙ e in
-      other (same_first f)
+      rw (ne_eqb x quote other, ne_eqb x quote other, unquoted_closed quote xs ys not) refl
 ]
 
--- if two equal texts start with the contents of quotes, these start with the same byte, and the
--- rests are equal
-byte_apart : (quote x z : ℕ) (xs zs tail other : List ℕ)
-    → doubled quote (x ∷ xs) ++ tail ≡ doubled quote (z ∷ zs) ++ other
-    → (x ≡ z) × (doubled quote xs ++ tail ≡ doubled quote zs ++ other)
-byte_apart quote x z xs zs tail other e = elim (is_or_not x quote) [
-  | inl is ↦ elim (is_or_not z quote) [
-    | inl too ↦
-        let f : quote ∷ (quote ∷ (doubled quote xs ++ tail))
-        ≡ quote ∷ (quote ∷ (doubled quote zs ++ other)) =
-        ap (λ l. l ++ tail) (sym (doubled_quote quote x xs is)) ∙ e
-        ∙ ap (λ l. l ++ other) (doubled_quote quote z zs too) in
-        (is ∙ sym too, same_others (same_others f))
-    | inr not ↦
-        let f : quote ∷ (quote ∷ (doubled quote xs ++ tail)) ≡ z ∷ (doubled quote zs ++ other) =
-        ap (λ l. l ++ tail) (sym (doubled_quote quote x xs is)) ∙ e
-        ∙ ap (λ l. l ++ other) (doubled_other quote z zs not) in
-        absurd (not (sym (same_first f)))
-  ]
-  | inr not ↦ elim (is_or_not z quote) [
-    | inl too ↦
-        let f : x ∷ (doubled quote xs ++ tail) ≡ quote ∷ (quote ∷ (doubled quote zs ++ other)) =
-        ap (λ l. l ++ tail) (sym (doubled_other quote x xs not)) ∙ e
-        ∙ ap (λ l. l ++ other) (doubled_quote quote z zs too) in
-        absurd (not (same_first f))
-    | inr neither ↦
-        let f : x ∷ (doubled quote xs ++ tail) ≡ z ∷ (doubled quote zs ++ other) =
-        ap (λ l. l ++ tail) (sym (doubled_other quote x xs not)) ∙ e
-        ∙ ap (λ l. l ++ other) (doubled_other quote z zs neither) in
-        (same_first f, same_others f)
-  ]
+unquoted_open : (quote : ℕ) (xs run : List ℕ) → All (IsOther quote) run
+    → unquoted quote false (doubled quote xs ++ run) ≡ None
+unfolding unquoted doubled
+unquoted_open quote [] [] all = refl
+unquoted_open quote [] (b ∷ run) all = rw (
+  ne_eqb b quote (All-head (IsOther quote) b run all),
+  unquoted_open quote [] run (All-tail (IsOther quote) b run all),
+) refl
+unquoted_open quote (x ∷ xs) run all = elim (is_or_not x quote) [
+  | inl is ↦ rw (
+    is,
+    eq-eqb quote quote refl,
+    eq-eqb quote quote refl,
+    unquoted_open quote xs run all,
+  ) refl
+  | inr other ↦
+      rw (ne_eqb x quote other, ne_eqb x quote other, unquoted_open quote xs run all) refl
 ]
 
-pub closed_apart : (quote : ℕ) (xs zs ys ws : List ℕ) → NotFirst (λ b. b ≡ quote) ys
+closed_apart : (quote : ℕ) (xs zs ys ws : List ℕ) → NotFirst (λ b. b ≡ quote) ys
     → NotFirst (λ b. b ≡ quote) ws
     → doubled quote xs ++ (quote ∷ ys) ≡ doubled quote zs ++ (quote ∷ ws)
     → (xs ≡ zs) × (ys ≡ ws)
-closed_apart quote [] [] ys ws a b e =
-    let f : quote ∷ ys ≡ quote ∷ ws = ap (λ l. l ++ (quote ∷ ys)) (sym (doubled_none quote)) ∙ e
-    ∙ ap (λ l. l ++ (quote ∷ ws)) (doubled_none quote) in
-    (refl, same_others f)
-closed_apart quote [] (z ∷ zs) ys ws a b e =
-    absurd (end_apart quote z zs (quote ∷ ws) ys a
-    (sym (ap (λ l. l ++ (quote ∷ ys)) (sym (doubled_none quote)) ∙ e)))
-closed_apart quote (x ∷ xs) [] ys ws a b e =
-    absurd (end_apart quote x xs (quote ∷ ys) ws b
-    (e ∙ ap (λ l. l ++ (quote ∷ ws)) (doubled_none quote)))
-closed_apart quote (x ∷ xs) (z ∷ zs) ys ws a b e =
-    let (f, g) = byte_apart quote x z xs zs (quote ∷ ys) (quote ∷ ws) e in
-    let (h, k) = closed_apart quote xs zs ys ws a b g in
-    (cc, k)
+closed_apart quote xs zs ys ws a b e =
+    let same : Some xs ≡ Some zs = sym (unquoted_closed quote xs ys a)
+    ∙ ap (λ l. unquoted quote false l) e ∙ unquoted_closed quote zs ws b in
+    let f : xs ≡ zs = cc in
+    (f, same_others (append_cancel_left (doubled quote zs) (quote ∷ ys) (quote ∷ ws) (rw f at e)))
 
-pub unclosed_apart : (quote : ℕ) (done run field rest : List ℕ) → All (IsOther quote) run
+unclosed_apart : (quote : ℕ) (done run field rest : List ℕ) → All (IsOther quote) run
     → NotFirst (λ b. b ≡ quote) rest
     → doubled quote done ++ run ≡ doubled quote field ++ (quote ∷ rest) → ⊥
-unclosed_apart quote [] run field rest all not e =
-    let P : List ℕ → Type 0 = λ l. All (IsOther quote) l in
-    no_quote quote (doubled quote field) rest
-    (subst P (ap (λ l. l ++ run) (sym (doubled_none quote)) ∙ e) all)
-unclosed_apart quote (x ∷ done) run [] rest all not e =
-    end_apart quote x done run rest not (e ∙ ap (λ l. l ++ (quote ∷ rest)) (doubled_none quote))
-unclosed_apart quote (x ∷ done) run (z ∷ field) rest all not e =
-    unclosed_apart quote done run field rest all not
-    (byte_apart quote x z done field run (quote ∷ rest) e).1
+unclosed_apart quote done run field rest all not e =
+    let same : None ≡ Some field = sym (unquoted_open quote done run all)
+    ∙ ap (λ l. unquoted quote false l) e ∙ unquoted_closed quote field rest not in
+    cc
 
 -- what is written for bytes, and for bytes after them
 pub doubled_append : (quote : ℕ) (xs ys : List ℕ)
@@ -229,3 +213,175 @@ open_apart d bytes field rest (here, e, (done, run, f, all)) (inl (there, g, (h,
     unclosed_apart d.quote done run field rest all not (sym f ∙ same_others (sym e ∙ g) ∙ h)
 open_apart d bytes field rest (here, e, unclosed) (inr (f, all, stop, not)) =
     let P : List ℕ → Type 0 = λ l. NotFirst (λ b. b ≡ d.quote) l in subst P e not refl
+
+-- ---- runs of bytes of one class
+
+-- all are such
+pub all_first : (these : ℕ → Type 0) (xs : List ℕ) (i n : ℕ) → length xs ≤ i → length xs ≡ n
+    → All these (take i xs) → SoMany these xs n
+all_first these xs i n past is all = (
+  omega arith,
+  rw (take_all n xs (omega arith)) (rw (take_all i xs past) at all),
+  rw (drop_all n xs (omega arith)) tt,
+)
+
+-- ---- between quotes
+
+-- the run ends at a quote
+pub run_quote : (quote : ℕ) (rest : List ℕ) (n : ℕ) → SoMany (IsOther quote) rest n
+    → (n ≡ length rest → ⊥)
+    → (rest ≡ take n rest ++ (quote ∷ drop (n + 1) rest)) × (n + 1 ≤ length rest)
+run_quote quote rest n (within, all, not) some =
+    let less : n < length rest = omega arith in
+    let at = rw (drop_more rest n 0 less) at not in
+    elim (is_or_not (get_or rest n 0) quote) [
+      | inl is ↦ (
+        sym (take-append-drop n rest) ∙ ap (λ l. take n rest ++ l)
+            (drop_more rest n 0 less ∙ ap (λ b. b ∷ drop (n + 1) rest) is),
+        omega arith,
+      )
+      | inr other ↦ absurd (at other)
+    ]
+
+-- a run after bytes that are read
+pub doubled_behind : (quote : ℕ) (done run : List ℕ) → All (IsOther quote) run
+    → doubled quote (done ++ run) ≡ doubled quote done ++ run
+doubled_behind quote done run all = doubled_append quote done run
+    ∙ ap (λ l. doubled quote done ++ l) (doubled_run quote run all)
+
+-- the run and its quote
+pub take_quote : (quote : ℕ) (rest : List ℕ) (n : ℕ) → SoMany (IsOther quote) rest n
+    → (n ≡ length rest → ⊥) → take (n + 1) rest ≡ take n rest ++ quote ∷ []
+take_quote quote rest n run some =
+    let (split, within) = run_quote quote rest n run some in
+    let less : n < length rest = omega arith in
+    let same = append_cancel_left (take n rest) (drop n rest) (quote ∷ drop (n + 1) rest)
+    (take-append-drop n rest ∙ split) in
+    take_more rest n 0 less
+    ∙ ap (λ b. take n rest ++ b ∷ []) (same_first (sym (drop_more rest n 0 less) ∙ same))
+
+-- a quote after a run is written twice
+pub doubled_two : (quote : ℕ) (done run : List ℕ) → All (IsOther quote) run
+    → doubled quote (done ++ (run ++ quote ∷ []))
+    ≡ doubled quote done ++ (run ++ (quote ∷ quote ∷ []))
+doubled_two quote done run all = doubled_append quote done (run ++ quote ∷ [])
+    ∙ ap (λ l. doubled quote done ++ l) (doubled_append quote run (quote ∷ [])
+    ∙ ap (λ l. l ++ doubled quote (quote ∷ [])) (doubled_run quote run all)
+    ∙ ap (λ l. run ++ l) (doubled_quote quote quote [] refl
+    ∙ ap (λ l. quote ∷ quote ∷ l) (doubled_none quote)))
+
+-- the contents of quotes that were read, and the bytes added to the current field
+pub record Between (quote : ℕ) (input rest base begun : List ℕ) : Type 0 where
+  pub done : List ℕ
+  pub whole : input ≡ doubled quote done ++ rest
+  pub all : begun ≡ base ++ done
+
+module _ (quote : ℕ) (input rest base begun : List ℕ) (n : ℕ)
+    (it : Between quote input rest base begun) (run : SoMany (IsOther quote) rest n) where
+  pub unclosed_here : n ≡ length rest → Unclosed quote input
+  unclosed_here is = (it.done, rest, it.whole, rw (take_all n rest (omega arith)) at run.1)
+
+  pub closed_here : (n ≡ length rest → ⊥) → (left added new : List ℕ) → left ≡ drop (n + 1) rest
+      → NotFirst (λ b. b ≡ quote) left → added ≡ take n rest → new ≡ begun ++ added
+      → (field : List ℕ) × Closed quote input field left × (new ≡ base ++ field)
+  closed_here some left added new is not adds e =
+      let split = (run_quote quote rest n run some).0 in (
+        it.done ++ take n rest,
+        (
+          it.whole ∙ ap (λ l. doubled quote it.done ++ l) split
+              ∙ sym (append_assoc (doubled quote it.done) (take n rest) (quote ∷ drop (n + 1) rest))
+              ∙ ap (λ l. l ++ (quote ∷ drop (n + 1) rest))
+              (sym (doubled_behind quote it.done (take n rest) run.1))
+              ∙ ap (λ l. doubled quote (it.done ++ take n rest) ++ (quote ∷ l)) (sym is),
+          not,
+        ),
+        e ∙ ap (λ l. begun ++ l) adds ∙ ap (λ l. l ++ take n rest) it.all
+            ∙ append_assoc base it.done (take n rest),
+      )
+
+  pub more_here : (n ≡ length rest → ⊥) → (left next added new : List ℕ) → left ≡ drop (n + 1) rest
+      → left ≡ quote ∷ drop 1 left → next ≡ drop 1 left → added ≡ take (n + 1) rest
+      → new ≡ begun ++ added → Between quote input next base new
+  more_here some left next added new is two goes adds e =
+      let runs = take n rest in
+      let tidy : (doubled quote it.done ++ (runs ++ (quote ∷ quote ∷ []))) ++ next
+      ≡ doubled quote it.done ++ (runs ++ (quote ∷ quote ∷ next)) = simp append_assoc in
+      record {
+        done = it.done ++ (runs ++ quote ∷ []);
+        whole = it.whole ∙ ap (λ l. doubled quote it.done ++ l)
+            ((run_quote quote rest n run some).0
+            ∙ ap (λ l. runs ++ (quote ∷ l)) (sym is ∙ two ∙ ap (λ l. quote ∷ l) (sym goes)))
+            ∙ sym tidy ∙ ap (λ l. l ++ next) (sym (doubled_two quote it.done runs run.1));
+        all = e ∙ ap (λ l. begun ++ l) (adds ∙ take_quote quote rest n run some)
+            ∙ ap (λ l. l ++ (runs ++ quote ∷ [])) it.all
+            ∙ append_assoc base it.done (runs ++ quote ∷ []);
+      }
+
+-- ---- the ends of records
+
+-- the ways in which bytes end a record
+abbrev IsEnded : List ℕ → List ℕ → Type 0
+IsEnded bytes rest = (bytes ≡ 13 ∷ 10 ∷ rest)
+    ⊎ ((bytes ≡ 10 ∷ rest) ⊎ ((bytes ≡ []) × (rest ≡ [])))
+
+ended : (ends : LineEnds) (bytes rest : List ℕ) → EndsHere ends bytes rest → IsEnded bytes rest
+ended ends bytes rest (inr none) = inr (inr none)
+ended CrLf bytes rest (inl (end, is, e)) = inl (rw is at e)
+ended Lf bytes rest (inl (end, is, e)) = inr (inl (rw is at e))
+ended Either bytes rest (inl (end, inl is, e)) = inl (rw is at e)
+ended Either bytes rest (inl (end, inr is, e)) = inr (inl (rw is at e))
+
+ended_one : (bytes rest left : List ℕ) → IsEnded bytes rest → IsEnded bytes left → rest ≡ left
+ended_one bytes rest left (inl e) (inl f) = same_others (same_others (sym e ∙ f))
+ended_one bytes rest left (inl e) (inr (inl f)) =
+    let h : 13 ≡ 10 = same_first (sym e ∙ f) in absurd (omega (arith, h))
+ended_one bytes rest left (inl e) (inr (inr (none, over))) = let h = sym e ∙ none in cc
+ended_one bytes rest left (inr (inl e)) (inl f) =
+    let h : 13 ≡ 10 = same_first (sym f ∙ e) in absurd (omega (arith, h))
+ended_one bytes rest left (inr (inl e)) (inr (inl f)) = same_others (sym e ∙ f)
+ended_one bytes rest left (inr (inl e)) (inr (inr (none, over))) = let h = sym e ∙ none in cc
+ended_one bytes rest left (inr (inr (none, over))) (inl f) = let h = sym f ∙ none in cc
+ended_one bytes rest left (inr (inr (none, over))) (inr (inl f)) = let h = sym f ∙ none in cc
+ended_one bytes rest left (inr (inr (none, over))) (inr (inr (nothing, done))) = over ∙ sym done
+
+pub ends_one : (ends : LineEnds) (bytes rest left : List ℕ) → EndsHere ends bytes rest
+    → EndsHere ends bytes left → rest ≡ left
+ends_one ends bytes rest left it other =
+    ended_one bytes rest left (ended ends bytes rest it) (ended ends bytes left other)
+
+break_first : (b : ℕ) (bytes rest : List ℕ) → IsEnded (b ∷ bytes) rest → IsBreak b
+break_first b bytes rest (inl e) = inl (same_first e)
+break_first b bytes rest (inr (inl e)) = inr (same_first e)
+break_first b bytes rest (inr (inr (none, over))) = cc
+
+-- what ends a record stops a field
+pub ends_stop : (d : Dialect) (ends : LineEnds) (bytes rest : List ℕ) → EndsHere ends bytes rest
+    → MayBegin (IsStop d) bytes
+ends_stop d ends [] rest it = tt
+ends_stop d ends (b ∷ bytes) rest it =
+    inr (break_first b bytes rest (ended ends (b ∷ bytes) rest it))
+
+pub ends_apart : (d : Dialect) → IsApart d.delimiter d.quote → (bytes rest more : List ℕ)
+    → EndsHere d.ends bytes rest → bytes ≡ d.delimiter ∷ more → ⊥
+ends_apart d apart bytes rest more it e =
+    elim (break_first d.delimiter more rest (ended d.ends (d.delimiter ∷ more) rest (rw e at it))) [
+      | inl is ↦ apart.delimiter_stays.0 is
+      | inr is ↦ apart.delimiter_stays.1 is
+    ]
+
+-- nothing ends at a carriage return with no line feed after it
+lone : (tail rest : List ℕ) → NotFirst (λ b. b ≡ 10) tail → IsEnded (13 ∷ tail) rest → ⊥
+lone tail rest not (inl e) =
+    let P : List ℕ → Type 0 = λ l. NotFirst (λ b. b ≡ 10) l in subst P (same_others e) not refl
+lone tail rest not (inr (inl e)) = let h : 13 ≡ 10 = same_first e in omega (arith, h)
+lone tail rest not (inr (inr (none, over))) = cc
+
+pub lone_return : (ends : LineEnds) (tail rest : List ℕ) → NotFirst (λ b. b ≡ 10) tail
+    → EndsHere ends (13 ∷ tail) rest → ⊥
+lone_return ends tail rest not it = lone tail rest not (ended ends (13 ∷ tail) rest it)
+
+pub end_some : (ends : LineEnds) (end : List ℕ) → IsLineEnd ends end → 0 < length end
+end_some CrLf end is = omega (arith, ap (λ l. length l) is)
+end_some Lf end is = omega (arith, ap (λ l. length l) is)
+end_some Either end (inl is) = omega (arith, ap (λ l. length l) is)
+end_some Either end (inr is) = omega (arith, ap (λ l. length l) is)

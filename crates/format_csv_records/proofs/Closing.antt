@@ -1,10 +1,10 @@
 -- Lemmas about records whose bytes are all passed, and about how an incomplete record continues.
 use Rattle.std.specs.Prelude.{◌≡◌, ◌≤◌, ◌<◌, ◌+◌, ℕ, List, [], ◌∷◌, ◌++◌, length, drop}
-use Rattle.std.specs.Prelude.{Bool, MatchBool, false, true}
+use Rattle.std.specs.Prelude.{MatchBool, false, true}
 use Rattle.std.specs.List.{All}
 use Rattle.std.proofs.Common.{refl, sym, ap, subst, inl, inr, ◌∙◌, arith, append_assoc}
 use Rattle.std.proofs.Common.{length-append}
-use Rattle.std.proofs.lemmas.List.{append-nil, drop_all, drop_at}
+use Rattle.std.proofs.lemmas.List.{append-nil, drop_at}
 use Rattle.std.proofs.lemmas.List.Elements.{All-cons, All-nil}
 use Rattle.format_csv_records.specs.Apart.{IsApart}
 use Rattle.format_csv_records.specs.Buffers.{IsForGood, IsSized, NoneForGood, text_of}
@@ -18,12 +18,12 @@ use Rattle.format_csv_records.specs.declared.dialect.Dialect.{Dialect}
 use Rattle.format_csv_records.specs.declared.extent.RecordPlace.{RecordPlace}
 use Rattle.format_csv_records.specs.declared.extent.RecordPlace.TheVariants as place
 use Rattle.format_csv_records.specs.declared.read.Reason.TheVariants.{OpenQuote, WrongLineEnd}
-use Rattle.format_csv_records.proofs.Ending.{end_some}
+use Rattle.format_csv_records.proofs.Alone.{end_some}
 use Rattle.format_csv_records.proofs.Early.{feed, line_end_of}
 use Rattle.format_csv_records.proofs.One.{fields_one}
 use Rattle.format_csv_records.proofs.Placing.{text_more}
 use Rattle.format_csv_records.proofs.Stepping.{field_text, plain_text, quote_text}
-use Rattle.format_csv_records.proofs.Stuck.{never_return}
+use Rattle.format_csv_records.proofs.Stepping.{never_return}
 use Rattle.format_csv_records.proofs.Whole.{SoFar, done_fields, last_field, so_far_open}
 
 -- ---- what ends a record
@@ -102,15 +102,14 @@ ended : (d : Dialect) (so : List ℕ → List ℕ → Type 0) (text fields : ℕ
     → IsLineEnd d.ends end → it.begun ++ more ≡ whole ++ end → (after : List ℕ)
     → AreFields d ((front ++ more) ++ after) (row_of it) after
 ended d so text fields front it more whole end is ends same after =
-    let P : List ℕ → Type 0 = λ l. AreFields d l (row_of it) after in
     let e : (front ++ more) ++ after ≡ it.before ++ (whole ++ (end ++ after)) =
     ap (λ l. (l ++ more) ++ after) it.splits
     ∙ ap (λ l. l ++ after) (append_assoc it.before it.begun more
     ∙ ap (λ l. it.before ++ l) same)
     ∙ append_assoc it.before (whole ++ end) after
     ∙ ap (λ l. it.before ++ l) (append_assoc whole end after) in
-    subst P (sym e) (done_fields d it.done it.before (whole ++ (end ++ after)) (it.field ∷ []) after
-    it.are (last_field d it.field whole (end ++ after) after is (inl (end, ends, refl))))
+    rw e (done_fields d it.done it.before (whole ++ (end ++ after)) (it.field ∷ []) after it.are
+    (last_field d it.field whole (end ++ after) after is (inl (end, ends, refl))))
 
 -- ---- a record that is not whole
 
@@ -138,38 +137,43 @@ module _ (d : Dialect) (at : RecordPlace) (not : at ≡ place.Done → ⊥) (tex
         );
       }
 
-  open_for_good : IsApart d.delimiter d.quote → NoneForGood d front
-  open_for_good apart others rest all =
+  pub none_for_good : IsApart d.delimiter d.quote → NoneForGood d front
+  none_for_good apart others rest all =
       let c = closes_at d at not it.field it.begun it.is in
-      let P : List ℕ → Type 0 = λ l. AreFields d l (row_of it) [] in
       let (same, over) = fields_one d apart others (row_of it) (front ++ c.more) (rest ++ c.more) []
       (all c.more).1
-      (subst P (append-nil (front ++ c.more))
-      (ended d (IsFieldPrefix d at) text fields front it c.more
-      c.text c.end c.is_text c.is_end c.same [])) in
+      (rw (append-nil (front ++ c.more)) at (ended d (IsFieldPrefix d at) text fields front it
+      c.more c.text c.end c.is_text c.is_end c.same [])) in
       omega (arith, c.some, ap (λ l. length l) over, length-append rest c.more)
-
-pub none_for_good : (d : Dialect) → IsApart d.delimiter d.quote → (at : RecordPlace)
-    → (at ≡ place.Done → ⊥) → (text fields : ℕ) (front : List ℕ)
-    → Passed d (IsFieldPrefix d at) text fields front → NoneForGood d front
-none_for_good d apart at not text fields front it =
-    open_for_good d at not text fields front it apart
 
 -- ---- one that is
 
-text_size : (d : Dialect) (so : List ℕ → List ℕ → Type 0) (text fields : ℕ) (front : List ℕ)
-    (it : Passed d so text fields front) → text ≡ length (text_of (row_of it))
-text_size d so text fields front it = omega (
-  arith,
-  it.total,
-  ap (λ l. length l) (text_more it.done it.field),
-  length-append (text_of it.done) it.field,
-)
-
-row_size : (d : Dialect) (so : List ℕ → List ℕ → Type 0) (text fields : ℕ) (front : List ℕ)
-    (it : Passed d so text fields front) → fields + 1 ≡ length (row_of it)
-row_size d so text fields front it =
-    omega (arith, it.count, length-append it.done (it.field ∷ []))
+-- the size of a record whose bytes are passed
+sized_by : (d : Dialect) (so : List ℕ → List ℕ → Type 0) (text fields : ℕ)
+    (front bytes left : List ℕ) (it : Passed d so text fields front) → bytes ≡ front ++ left
+    → IsRecord d bytes (row_of it) left
+    → (size : RecordSize) → size.fields ≡ fields + 1 → size.text ≡ text
+    → size.length ≡ length front
+    → MatchBool size.ended (IsForGood d bytes (row_of it) left) (NoneForGood d bytes)
+    → IsSized d bytes size
+sized_by d so text fields front bytes left it splits is size count total long good =
+    let dropped : drop size.length bytes ≡ left =
+    ap (λ l. drop size.length l) splits ∙ drop_at front left size.length (sym long) in (
+      row_of it,
+      record {
+        is_record = rw dropped is;
+        within = omega (arith, long, ap (λ l. length l) splits, length-append front left);
+        count = omega (arith, count, it.count, length-append it.done (it.field ∷ []));
+        total = omega (
+          arith,
+          total,
+          it.total,
+          ap (λ l. length l) (text_more it.done it.field),
+          length-append (text_of it.done) it.field,
+        );
+        ended = rw dropped good;
+      },
+    )
 
 pub sized_whole : (d : Dialect) (text fields : ℕ) (front bytes left : List ℕ)
     → Passed d (IsFieldPrefix d place.Done) text fields front → bytes ≡ front ++ left
@@ -190,85 +194,44 @@ sized_whole d text fields front bytes left it splits size count total long close
       length-append whole end,
       end_some d.ends end ends,
     ) in
-    let dropped : drop size.length bytes ≡ left =
-    ap (λ l. drop size.length l) splits ∙ drop_at front left size.length (sym long) in
-    let Q : List ℕ → Type 0 = λ l. AreFields d l (row_of it) left in
-    let R : List ℕ → Type 0 = λ l. IsRecord d bytes (row_of it) l in
     let good : IsForGood d bytes (row_of it) left = λ more.
-    let S : List ℕ → Type 0 = λ l. AreFields d l (row_of it) (left ++ more) in
     let wide : bytes ++ more ≡ front ++ (left ++ more) =
     ap (λ l. l ++ more) splits ∙ append_assoc front left more in (
       omega (arith, some, ap (λ l. length l) wide, length-append front (left ++ more)),
-      subst S (sym wide) (are (left ++ more)),
+      rw wide (are (left ++ more)),
     ) in
-    let T : Bool → Type 0 = λ b. MatchBool b
-    (IsForGood d bytes (row_of it) (drop size.length bytes)) (NoneForGood d bytes) in
-    let U : List ℕ → Type 0 = λ l. IsForGood d bytes (row_of it) l in (
-      row_of it,
-      record {
-        is_record = subst R (sym dropped) (
-          omega (arith, some, ap (λ l. length l) splits, length-append front left),
-          subst Q (sym splits) (are left),
-        );
-        within = omega (
-          arith,
-          long,
-          ap (λ l. length l) splits,
-          length-append front left,
-        );
-        count = count ∙ row_size d so text fields front it;
-        total = total ∙ text_size d so text fields front it;
-        ended = subst T (sym closed) (subst U (sym dropped) good);
-      },
-    )
+    sized_by d so text fields front bytes left it splits
+    (omega (arith, some, ap (λ l. length l) splits, length-append front left), rw splits (are left))
+    size count total long (rw closed good)
 
 -- ---- where no more bytes come
 
+text_at : (d : Dialect) (at : RecordPlace) → (at ≡ place.Done → ⊥) → (at ≡ place.Quoted → ⊥)
+    → (at ≡ place.Return → ⊥) → (field begun : List ℕ) → IsFieldPrefix d at field begun
+    → IsFieldText d field begun
+text_at d place.Field not quoted lone field begun it = field_text d field begun it
+text_at d place.Plain not quoted lone field begun it = plain_text d field begun it
+text_at d place.Quoted not quoted lone field begun it = absurd (quoted refl)
+text_at d place.Quote not quoted lone field begun it = quote_text d field begun it
+text_at d place.Return not quoted lone field begun it = absurd (lone refl)
+text_at d place.Done not quoted lone field begun it = absurd (not refl)
+
 module _ (d : Dialect) (apart : IsApart d.delimiter d.quote) (text fields : ℕ)
     (bytes : List ℕ) where
-  sized_open : (at : RecordPlace) → (at ≡ place.Done → ⊥)
-      → (it : Passed d (IsFieldPrefix d at) text fields bytes) → IsFieldText d it.field it.begun
-      → 0 < length bytes → (size : RecordSize) → size.fields ≡ fields + 1 → size.text ≡ text
-      → size.length ≡ length bytes → size.ended ≡ false → IsSized d bytes size
-  sized_open at not it is some size count total long unended =
-      let so = IsFieldPrefix d at in
-      let P : List ℕ → Type 0 = λ l. AreFields d l (row_of it) [] in
-      let are : AreFields d bytes (row_of it) [] =
-      subst P (sym (it.splits ∙ ap (λ l. it.before ++ l) (sym (append-nil it.begun))))
-      (done_fields d it.done it.before (it.begun ++ []) (it.field ∷ []) [] it.are
-      (last_field d it.field it.begun [] [] is (inr (refl, refl)))) in
-      let dropped : drop size.length bytes ≡ [] =
-      drop_all size.length bytes (omega (arith, long)) in
-      let R : List ℕ → Type 0 = λ l. IsRecord d bytes (row_of it) l in
-      let T : Bool → Type 0 = λ b. MatchBool b
-      (IsForGood d bytes (row_of it) (drop size.length bytes)) (NoneForGood d bytes) in (
-        row_of it,
-        record {
-          is_record = subst R (sym dropped) (some, are);
-          within = omega (arith, long);
-          count = count ∙ row_size d so text fields bytes it;
-          total = total ∙ text_size d so text fields bytes it;
-          ended = subst T (sym unended) (none_for_good d apart at not text fields bytes it);
-        },
-      )
-
   -- the record ends with the bytes
   pub sized_end : (at : RecordPlace) → (at ≡ place.Done → ⊥) → (at ≡ place.Quoted → ⊥)
       → (at ≡ place.Return → ⊥) → Passed d (IsFieldPrefix d at) text fields bytes → 0 < length bytes
       → (size : RecordSize) → size.fields ≡ fields + 1 → size.text ≡ text
       → size.length ≡ length bytes → size.ended ≡ false → IsSized d bytes size
-  sized_end place.Field not quoted lone it some size count total long is =
-      sized_open place.Field not it (field_text d it.field it.begun it.is) some size count total
-      long is
-  sized_end place.Plain not quoted lone it some size count total long is =
-      sized_open place.Plain not it (plain_text d it.field it.begun it.is) some size count total
-      long is
-  sized_end place.Quoted not quoted lone it some size count total long is = absurd (quoted refl)
-  sized_end place.Quote not quoted lone it some size count total long is =
-      sized_open place.Quote not it (quote_text d it.field it.begun it.is) some size count total
-      long is
-  sized_end place.Return not quoted lone it some size count total long is = absurd (lone refl)
-  sized_end place.Done not quoted lone it some size count total long is = absurd (not refl)
+  sized_end at not quoted lone it some size count total long unended =
+      let is = text_at d at not quoted lone it.field it.begun it.is in
+      let P : List ℕ → Type 0 = λ l. AreFields d l (row_of it) [] in
+      sized_by d (IsFieldPrefix d at) text fields bytes bytes [] it (sym (append-nil bytes)) (
+        some,
+        subst P (sym (it.splits ∙ ap (λ l. it.before ++ l) (sym (append-nil it.begun))))
+            (done_fields d it.done it.before (it.begun ++ []) (it.field ∷ []) [] it.are
+            (last_field d it.field it.begun [] [] is (inr (refl, refl)))),
+      ) size count total long (rw unended (none_for_good d at not text fields bytes it apart))
 
   pub refused_open : Passed d (IsFieldPrefix d place.Quoted) text fields bytes
       → IsRefused d bytes (record { offset = length bytes; why = OpenQuote })
@@ -284,6 +247,4 @@ module _ (d : Dialect) (apart : IsApart d.delimiter d.quote) (text fields : ℕ)
   pub refused_return : Passed d (IsFieldPrefix d place.Return) text fields bytes
       → IsRefused d bytes (record { offset = length bytes; why = WrongLineEnd })
   refused_return it =
-      let P : List ℕ → Type 0 =
-      λ l. IsRefused d l (record { offset = length bytes; why = WrongLineEnd }) in
-      subst P (append-nil bytes) (never_return d apart [] tt text fields bytes it)
+      rw (append-nil bytes) at (never_return d apart [] tt text fields bytes it)

@@ -1,7 +1,7 @@
 -- A record that has not ended can be continued; one with an error before its end never can.
 use Rattle.std.specs.Prelude.{◌≡◌, ◌<◌, ◌≤◌, ℕ, List, [], ◌∷◌, ◌++◌, length}
 use Rattle.std.specs.List.{All}
-use Rattle.std.proofs.Common.{refl, subst, sym, ap, inl, inr, ◌∙◌, arith, append_assoc}
+use Rattle.std.proofs.Common.{refl, ap, inl, inr, ◌∙◌, arith, append_assoc}
 use Rattle.std.proofs.Common.{length-append}
 use Rattle.std.proofs.lemmas.List.{append-nil, nil_from_length}
 use Rattle.std.proofs.lemmas.List.Elements.{All-append, All-cons, All-nil}
@@ -125,15 +125,13 @@ pub record_goes_on : (d : Dialect) (bytes more : List ℕ) (fields : List (List 
     → IsViablePrefix d bytes
 record_goes_on d bytes more fields rest one known (some, them) =
     let r = ended d fields (bytes ++ more) rest them in
-    let P : List ℕ → List ℕ → Type 0 =
-    λ after l. IsRecord d (l ++ after) fields (r.rest ++ after) in
     record {
       more = more ++ r.more;
       known = All-append (λ b. b < 256) more r.more known r.known;
       few = omega (arith, one, r.few, length-append more r.more);
       fields = fields;
       rest = r.rest;
-      begins = λ after. subst (P after) (append_assoc bytes more r.more) (
+      begins = λ after. rw (← append_assoc bytes more r.more) (
         omega (
           arith,
           some,
@@ -166,12 +164,9 @@ lacks_one : (d : Dialect) → d.quote < 256 → (why : Reason) (before more : Li
 lacks_one d small QuoteInField before more (is, none, ends) = absurd none
 lacks_one d small ByteBehindQuote before more (is, none, ends) = absurd none
 lacks_one d small OpenQuote before more (is, none) =
-    let P : List ℕ → Type 0 = λ l. (length l ≤ 1) × All (λ b. b < 256) l in
-    subst P (sym is) (omega arith, one_byte d.quote small)
+    rw is (omega arith, one_byte d.quote small)
 lacks_one d small WrongLineEnd before more (inl (is, none)) = absurd none
-lacks_one d small WrongLineEnd before more (inr (is, behind)) =
-    let P : List ℕ → Type 0 = λ l. (length l ≤ 1) × All (λ b. b < 256) l in
-    subst P (sym is) (omega arith, feed)
+lacks_one d small WrongLineEnd before more (inr (is, behind)) = rw is (omega arith, feed)
 
 -- an error at the end of the bytes
 pub open_goes_on : (d : Dialect) → d.quote < 256 → (bytes : List ℕ) (fault : InvalidRecord)
@@ -184,10 +179,8 @@ open_goes_on d small bytes fault (before, back, more, fields, e, size, on, lacks
       ap (λ l. length l) e,
       length-append before back,
     )) in
-    let P : List ℕ → Type 0 = λ l. IsViablePrefix d l in
-    let Q : List ℕ → Type 0 = λ l. Lacks d fault.why before more l in
-    let (one, known) = lacks_one d small fault.why before more (subst Q nothing lacks) in
-    subst P (sym (e ∙ ap (λ l. before ++ l) nothing ∙ append-nil before))
+    let (one, known) = lacks_one d small fault.why before more (rw nothing at lacks) in
+    rw (e ∙ ap (λ l. before ++ l) nothing ∙ append-nil before)
     (record_goes_on d before more fields [] one known on)
 
 -- an error before the end of the bytes
@@ -195,14 +188,12 @@ none_within : (d : Dialect) (before back : List ℕ) → (back ≡ [] → ⊥) �
     → IsPrefixOfNone d (before ++ back)
 none_within d before [] some none more fields rest it = absurd (some refl)
 none_within d before (b ∷ bs) some none more fields rest it =
-    let P : List ℕ → Type 0 = λ l. IsRecord d l fields rest in
-    none (bs ++ more) fields rest (subst P (append_assoc before (b ∷ bs) more) it)
+    none (bs ++ more) fields rest (rw (append_assoc before (b ∷ bs) more) at it)
 
 pub never_goes_on : (d : Dialect) (bytes : List ℕ) (fault : InvalidRecord) → IsRefused d bytes fault
     → fault.offset < length bytes → IsPrefixOfNone d bytes
 never_goes_on d bytes fault (before, back, more, fields, e, size, on, lacks, none) near =
-    let P : List ℕ → Type 0 = λ l. IsPrefixOfNone d l in
-    subst P (sym e) (none_within d before back
+    rw e (none_within d before back
     (λ is. omega (
       arith,
       near,

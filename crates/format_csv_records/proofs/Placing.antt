@@ -1,25 +1,23 @@
 -- How the bytes of fields, and their places, come into two buffers.
 use Rattle.std.specs.Prelude.{◌≡◌, ◌≤◌, ◌<◌, ◌+◌, ◌-◌, ℕ, List, [], ◌∷◌, ◌++◌, drop, length}
 use Rattle.std.specs.Prelude.{take, Bool, MatchBool}
-use Rattle.std.proofs.Common.{refl, sym, ap, subst, inl, inr, ◌∙◌, arith, append_assoc}
+use Rattle.std.proofs.Common.{refl, sym, ap, inl, inr, ◌∙◌, arith, append_assoc}
 use Rattle.std.proofs.Common.{length-append}
 use Rattle.std.proofs.Math.Seq.{take-add}
-use Rattle.std.proofs.lemmas.List.{append-nil, append_cancel_left, drop-drop, drop_at}
+use Rattle.std.proofs.lemmas.List.{append-nil, drop-drop, drop_at}
 use Rattle.std.proofs.lemmas.List.{flat_map_more, length-drop, length-take-le}
-use Rattle.std.proofs.lemmas.List.{take-append-drop}
 use Rattle.std.proofs.lemmas.List.Elements.{All-append}
 use Rattle.std.specs.List.{All}
 use Rattle.format_csv_records.specs.Apart.{IsApart}
-use Rattle.format_csv_records.specs.Buffers.{FieldPut, IsForGood, IsSized, NoneForGood, Placed}
+use Rattle.format_csv_records.specs.Buffers.{FieldPut, IsSized, Placed}
 use Rattle.format_csv_records.specs.Buffers.{Puts, PutsFields, ShowsFields, places_of, text_of}
-use Rattle.format_csv_records.specs.Dialects.{AreFields, EndsHere}
+use Rattle.format_csv_records.specs.Dialects.{EndsHere}
 use Rattle.format_csv_records.specs.Parts.{Closed, FieldFirst, IsOther, NotFirst, SoMany}
 use Rattle.format_csv_records.specs.declared.buffers.RecordSize.{RecordSize}
 use Rattle.format_csv_records.specs.declared.dialect.Dialect.{Dialect}
 use Rattle.format_csv_records.specs.declared.dialect.LineEnds.{LineEnds}
-use Rattle.format_csv_records.proofs.ForGood.{ended_so}
-use Rattle.format_csv_records.proofs.One.{fields_one}
-use Rattle.format_csv_records.proofs.Runs.{Between, closed_here, more_here, run_quote, take_quote}
+use Rattle.format_csv_records.proofs.One.{ended_so, fields_one}
+use Rattle.format_csv_records.proofs.Alone.{Between, closed_here, more_here, run_quote, take_quote}
 use Rattle.format_csv_records.proofs.Whole.{SoFar, first_text, so_far_ends, so_far_more}
 use Rattle.format_csv_records.proofs.Whole.{so_far_none}
 
@@ -60,13 +58,7 @@ module _ (quote : ℕ) (bytes rest : List ℕ) (at : ℕ) (old now : List ℕ) (
       → Puts (take n rest) end now mid (end + n) → Puts (quote ∷ []) (end + n) mid new (end + n + 1)
       → Puts (take (n + 1) rest) end now new (end + n + 1)
   quote_behind some mid new puts more =
-      let (split, within) = run_quote quote rest n run some in
-      let taken : take (n + 1) rest ≡ take n rest ++ quote ∷ [] =
-      take_quote quote rest n (omega (arith, within))
-      (append_cancel_left (take n rest) (drop n rest) (quote ∷ drop (n + 1) rest)
-      (take-append-drop n rest ∙ split)) in
-      let P : List ℕ → Type 0 = λ l. Puts l end now new (end + n + 1) in
-      subst P (sym taken)
+      rw (take_quote quote rest n run some)
       (puts_more (take n rest) (quote ∷ []) end (end + n) (end + n + 1) now mid new puts more)
 
   pub quoted_more : (n ≡ length rest → ⊥) → (left next added new : List ℕ) (last : ℕ)
@@ -99,12 +91,11 @@ module _ (quote : ℕ) (bytes rest : List ℕ) (at : ℕ) (old now : List ℕ) (
   quoted_closed some left added new last is not adds puts =
       let (field, closed, e) = closed_here quote bytes rest [] it.begun n it.read run some left
       added (it.begun ++ added) is not adds refl in
-      let within = (run_quote quote rest n run some).1 in
-      let P : List ℕ → Type 0 = λ l. Puts l at old new last in (
+      let within = (run_quote quote rest n run some).1 in (
         field,
         closed,
         (
-          subst P e (puts_more it.begun added at end last old now new it.puts puts),
+          rw (← e) (puts_more it.begun added at end last old now new it.puts puts),
           omega (
             arith,
             it.less,
@@ -215,9 +206,8 @@ module _ {P : Type 0} (made : ℕ → ℕ → P) (d : Dialect) (apart : IsApart 
     (made_so : x ≡ made end (last - end)) (placed : Placed x count between after) where
   put_here : Put made (it.fields ++ field ∷ []) old new before after last (count + 1)
   put_here =
-      let Q : P → Type 0 = λ y. Placed y count between after in
       put_more made it.fields old now new before between after end count last it.put field puts.0
-      (subst Q made_so placed)
+      (rw made_so at placed)
 
   pub fields_more : (next : List ℕ) → left ≡ d.delimiter ∷ drop 1 left → next ≡ drop 1 left
       → FieldsSoFar made d bytes next old new before after last (count + 1)
@@ -250,18 +240,15 @@ module _ {P : Type 0} (made : ℕ → ℕ → P) (d : Dialect) (apart : IsApart 
       ap (λ l. length l) split ∙ length-append front over in
       let dropped : drop n bytes ≡ over =
       ap (λ l. drop n l) split ∙ drop_at front over n (omega (arith, size, sizes)) in
-      let R : List ℕ → Type 0 = λ l. AreFields d bytes fields l in
-      let Q : List ℕ → Type 0 = λ l. MatchBool is (IsForGood d bytes fields l)
-      (NoneForGood d bytes) in
       let put = put_here in
       record {
         fields = fields;
-        are = subst R (sym dropped) (so_far_ends d apart bytes rest it.fields it.read field left
+        are = rw dropped (so_far_ends d apart bytes rest it.fields it.read field left
             first over fields refl ends);
         within = omega (arith, size);
         count = put.number;
         total = put.total;
-        ended = subst Q (sym dropped) (ended_so d apart bytes rest it.fields it.read field left
+        ended = rw dropped (ended_so d apart bytes rest it.fields it.read field left
             first is over some ends);
         same = put.same;
         text = put.text;
@@ -304,12 +291,9 @@ module _ (these : ℕ → Type 0) (bytes : List ℕ) (at : ℕ) (old now : List 
   -- and with those after them
   pub run_full : (k : ℕ) → n ≡ k → k ≤ length bytes → (rest : List ℕ) → rest ≡ drop k bytes
       → (m : ℕ) → SoMany these rest m → SoMany these bytes (k + m)
-  run_full k same within rest is m (few, all, not) =
-      let P : List ℕ → Type 0 = λ l. All these l in
-      let Q : List ℕ → Type 0 = λ l. NotFirst these l in
-      let R : ℕ → Type 0 = λ x. All these (take x bytes) in (
-        omega (arith, few, within, ap (λ l. length l) is, length-drop k bytes),
-        subst P (sym (take-add k m bytes)) (All-append these (take k bytes) (take m (drop k bytes))
-            (subst R same it.all) (subst P (ap (λ l. take m l) is) all)),
-        subst Q (ap (λ l. drop m l) is ∙ drop-drop m k bytes) not,
-      )
+  run_full k same within rest is m (few, all, not) = (
+    omega (arith, few, within, ap (λ l. length l) is, length-drop k bytes),
+    rw (take-add k m bytes) (All-append these (take k bytes) (take m (drop k bytes))
+        (rw same at it.all) (rw is at all)),
+    rw (is, drop-drop m k bytes) at not,
+  )

@@ -1,25 +1,28 @@
 -- Lemmas about passing one more byte of a record, and about bytes that no record continues with.
-use Rattle.std.specs.Prelude.{◌≡◌, ◌≤◌, ◌+◌, ℕ, List, [], ◌∷◌, ◌++◌, length, take}
+use Rattle.std.specs.Prelude.{◌≡◌, ◌≤◌, ◌<◌, ◌+◌, ℕ, List, [], ◌∷◌, ◌++◌, length, take}
 use Rattle.std.specs.Prelude.{Some}
 use Rattle.std.specs.List.{All}
-use Rattle.std.proofs.Common.{refl, sym, ap, subst, inl, inr, ◌∙◌, arith, append_assoc}
+use Rattle.std.proofs.Common.{refl, sym, ap, inl, inr, ◌∙◌, arith, append_assoc}
 use Rattle.std.proofs.Common.{length-append}
 use Rattle.std.proofs.lemmas.List.{append-nil, length-take-le}
-use Rattle.std.proofs.lemmas.List.Elements.{All-append, All-nil}
+use Rattle.std.proofs.lemmas.List.Elements.{All-append, All-head, All-nil}
+use Rattle.format_csv_records.specs.Apart.{IsApart}
 use Rattle.format_csv_records.specs.Buffers.{text_of}
-use Rattle.format_csv_records.specs.Dialects.{IsFieldText, IsLineEnd, IsPlain, doubled}
+use Rattle.format_csv_records.specs.Dialects.{EndsHere, IsFieldText, IsLineEnd, IsPlain, doubled}
 use Rattle.format_csv_records.specs.Extents.{IsBehind, IsFieldPrefix, IsRun, IsTurn, Keeps, Passed}
-use Rattle.format_csv_records.specs.Parts.{IsOther, SoMany}
+use Rattle.format_csv_records.specs.Parts.{FieldFirst, IsOther, NotFirst, SoMany, WhyNot}
+use Rattle.format_csv_records.specs.Refused.{IsRefused}
 use Rattle.format_csv_records.specs.declared.dialect.Dialect.{Dialect}
 use Rattle.format_csv_records.specs.declared.extent.RecordPlace.{RecordPlace}
 use Rattle.format_csv_records.specs.declared.extent.RecordPlace.TheVariants as place
+use Rattle.format_csv_records.specs.declared.read.Reason.{Reason}
+use Rattle.format_csv_records.specs.declared.read.Reason.TheVariants.{WrongLineEnd}
 use Rattle.format_csv_records.specs.declared.turns.Step.{Step}
-use Rattle.format_csv_records.specs.declared.turns.Turn.{Turn}
 use Rattle.format_csv_records.specs.declared.turns.Turn.TheVariants.{Goes}
-use Rattle.format_csv_records.proofs.Alone.{doubled_append, doubled_none, doubled_quote}
+use Rattle.format_csv_records.proofs.Alone.{doubled_append, doubled_behind, doubled_none}
+use Rattle.format_csv_records.proofs.Alone.{doubled_quote, quoted_behind, text_first}
 use Rattle.format_csv_records.proofs.Placing.{text_more}
-use Rattle.format_csv_records.proofs.Runs.{doubled_behind}
-use Rattle.format_csv_records.proofs.Whole.{done_more}
+use Rattle.format_csv_records.proofs.Whole.{SoFar, done_more, so_far_bad}
 
 -- ---- what is passed
 
@@ -99,8 +102,7 @@ passed_as d so such text fields front into it = record {
 pub field_text : (d : Dialect) (field begun : List ℕ) → IsFieldPrefix d place.Field field begun
     → IsFieldText d field begun
 field_text d field begun (none, nothing) =
-    let P : List ℕ → Type 0 = λ l. All (IsPlain d) l in
-    inr (nothing ∙ sym none, subst P (sym none) (All-nil (IsPlain d)))
+    inr (nothing ∙ sym none, rw none (All-nil (IsPlain d)))
 
 pub plain_text : (d : Dialect) (field begun : List ℕ) → IsFieldPrefix d place.Plain field begun
     → IsFieldText d field begun
@@ -173,16 +175,6 @@ grows_two d field begun is =
           ∙ sym (doubled_append q field (q ∷ []))),
     )
 
--- a byte, by its effect on the current field
-pub keeps_byte : (d : Dialect) (at next : RecordPlace) (b n : ℕ) → n ≤ 1
-    → Grows (IsFieldPrefix d at) (b ∷ []) n (IsFieldPrefix d next) → (more others : ℕ) → more ≡ n
-    → others ≡ 0 → (text fields : ℕ)
-    → Keeps d at text fields (b ∷ []) next (text + more) (fields + others)
-keeps_byte d at next b n less grows more others m o text fields front it =
-    grown d (IsFieldPrefix d at) (IsFieldPrefix d next) (b ∷ []) n text fields (text + more)
-    (fields + others)
-    front grows less (omega (arith, m)) (omega (arith, o)) it
-
 pub keeps_run : (d : Dialect) (at : RecordPlace) (run : List ℕ) (n : ℕ) → length run ≡ n
     → Grows (IsFieldPrefix d at) run (length run) (IsFieldPrefix d at) → (text fields : ℕ)
     → Keeps d at text fields run at (text + n) fields
@@ -195,18 +187,14 @@ keeps_run d at run n size grows text fields front it =
 pub goes_step : (d : Dialect) (at next : RecordPlace) (b c n : ℕ) → b ≡ c → n ≤ 1
     → Grows (IsFieldPrefix d at) (c ∷ []) n (IsFieldPrefix d next) → (step : Step)
     → (step.place ≡ next) × (step.text ≡ n) × (step.fields ≡ 0) → IsTurn d at b (Goes step)
-goes_step d at next b c n same less grows step (is, text_is, none) =
-    let Q : ℕ → Type 0 = λ x. IsTurn d at x (Goes step) in
-    subst Q (sym same) (
-      omega (arith, text_is, less),
-      omega (arith, none),
-      λ text fields front it.
-          let P : RecordPlace → Type 0 =
-          λ p. Passed d (IsFieldPrefix d p) (text + step.text) (fields + step.fields)
-          (front ++ c ∷ []) in
-          subst P (sym is) (keeps_byte d at next c n less grows step.text step.fields text_is none
-          text fields front it),
-    )
+goes_step d at next b c n same less grows step (is, text_is, none) = (
+  omega arith,
+  omega arith,
+  λ text fields front it.
+      rw (same, is) (grown d (IsFieldPrefix d at) (IsFieldPrefix d next) (c ∷ []) n text fields
+      (text + step.text) (fields + step.fields) front grows less (omega (arith, text_is))
+      (omega (arith, none)) it),
+)
 
 -- a lemma for complete texts also holds for fields with such a text
 pub turn_text : (d : Dialect) (at : RecordPlace) (b : ℕ)
@@ -226,54 +214,110 @@ behind_delimiter d b e = (
   omega arith,
   omega arith,
   λ text fields front it.
-      let P : ℕ → Type 0 =
-      λ x. Passed d (IsFieldPrefix d place.Field) (text + 0) (fields + 1) (front ++ x ∷ []) in
-      subst P (sym e) (separated d text fields (text + 0) (fields + 1) front (omega arith) refl it),
+      rw e (separated d text fields (text + 0) (fields + 1) front (omega arith) refl it),
 )
 
 pub behind_step : (d : Dialect) (next : RecordPlace) (b c : ℕ) → b ≡ c
     → Grows (IsFieldText d) (c ∷ []) 0 (IsFieldPrefix d next) → (step : Step)
     → (step.place ≡ next) × (step.text ≡ 0) × (step.fields ≡ 0) → IsBehind d b (Some step)
-behind_step d next b c same grows step (is, none, nothing) =
-    let Q : ℕ → Type 0 = λ x. IsBehind d x (Some step) in
-    subst Q (sym same) (
-      omega (arith, none),
-      omega (arith, nothing),
-      λ text fields front it.
-          let P : RecordPlace → Type 0 =
-          λ p. Passed d (IsFieldPrefix d p) (text + step.text) (fields + step.fields)
-          (front ++ c ∷ []) in
-          subst P (sym is) (grown d (IsFieldText d) (IsFieldPrefix d next) (c ∷ []) 0 text fields
-          (text + step.text) (fields + step.fields) front grows (omega arith) (omega (arith, none))
-          (omega (arith, nothing)) it),
-    )
+behind_step d next b c same grows step (is, none, nothing) = (
+  omega arith,
+  omega arith,
+  λ text fields front it.
+      rw (same, is) (grown d (IsFieldText d) (IsFieldPrefix d next) (c ∷ []) 0 text fields
+      (text + step.text) (fields + step.fields) front grows (omega arith) (omega (arith, none))
+      (omega (arith, nothing)) it),
+)
 
 -- ---- runs
-
-run_in : (d : Dialect) (at here : RecordPlace) (run : List ℕ) (n : ℕ) → at ≡ here
-    → IsRun d here run n → IsRun d at run n
-run_in d at here run n is it =
-    let P : RecordPlace → Type 0 = λ a. IsRun d a run n in subst P (sym is) it
 
 pub run_plain : (d : Dialect) (at : RecordPlace) (bytes : List ℕ) (n : ℕ) → at ≡ place.Plain
     → SoMany (IsPlain d) bytes n → IsRun d at (take n bytes) n
 run_plain d at bytes n is (room, all, not) =
     let size : length (take n bytes) ≡ n = length-take-le n bytes room in
-    run_in d at place.Plain (take n bytes) n is (
-      size,
-      keeps_run d place.Plain (take n bytes) n size (grows_plain d (take n bytes) all),
-    )
+    rw is (size, keeps_run d place.Plain (take n bytes) n size (grows_plain d (take n bytes) all))
 
 pub run_quoted : (d : Dialect) (at : RecordPlace) (bytes : List ℕ) (n : ℕ) → at ≡ place.Quoted
     → SoMany (IsOther d.quote) bytes n → IsRun d at (take n bytes) n
 run_quoted d at bytes n is (room, all, not) =
     let size : length (take n bytes) ≡ n = length-take-le n bytes room in
-    run_in d at place.Quoted (take n bytes) n is (
-      size,
-      keeps_run d place.Quoted (take n bytes) n size (grows_quoted d (take n bytes) all),
-    )
+    rw is (size, keeps_run d place.Quoted (take n bytes) n size (grows_quoted d (take n bytes) all))
 
-pub turn_in : (d : Dialect) (at here : RecordPlace) (b : ℕ) (turn : Turn) → at ≡ here
-    → IsTurn d here b turn → IsTurn d at b turn
-turn_in d at here b turn is it =
-    let P : RecordPlace → Type 0 = λ a. IsTurn d a b turn in subst P (sym is) it
+-- ---- bytes that cannot continue a record
+
+module _ (d : Dialect) (apart : IsApart d.delimiter d.quote) (b : ℕ) where
+  pub stuck : (why : Reason) (so : List ℕ → List ℕ → Type 0)
+      → ((field begun bs : List ℕ) → so field begun
+      → FieldFirst d (begun ++ b ∷ bs) field (b ∷ bs))
+      → (b ≡ d.delimiter → ⊥) → ((after rest : List ℕ) → EndsHere d.ends (b ∷ after) rest → ⊥)
+      → ((more : List ℕ) → WhyNot d.quote (b ∷ more) why)
+      → (text fields : ℕ) (front bs : List ℕ) → Passed d so text fields front
+      → IsRefused d (front ++ b ∷ bs) (record { offset = length front; why = why })
+  stuck why so first not ends whynot text fields front bs it =
+      let far : SoFar d (front ++ b ∷ bs) (it.begun ++ b ∷ bs) it.done = record {
+        before = it.before;
+        whole = ap (λ l. l ++ b ∷ bs) it.splits ∙ append_assoc it.before it.begun (b ∷ bs);
+        texts = it.are;
+      } in
+      so_far_bad d apart (front ++ b ∷ bs) (it.begun ++ b ∷ bs) it.done far it.field (b ∷ bs)
+      (first it.field it.begun bs it.is) 0 (length front) why not (inl (refl, ends)) (whynot bs)
+      (omega (arith, length-append front (b ∷ bs)))
+
+  pub first_field : (b ≡ d.quote → ⊥) → (IsPlain d b → ⊥) → (field begun bs : List ℕ)
+      → IsFieldPrefix d place.Field field begun → FieldFirst d (begun ++ b ∷ bs) field (b ∷ bs)
+  first_field other plain field begun bs (none, nothing) = inr (
+    ap (λ l. l ++ b ∷ bs) (nothing ∙ sym none),
+    rw none (All-nil (IsPlain d)),
+    plain,
+    rw nothing other,
+  )
+
+  plain_first : (field rest : List ℕ) → All (IsPlain d) field → 0 < length field
+      → NotFirst (λ c. c ≡ d.quote) (field ++ rest)
+  plain_first [] rest all some = absurd (omega (arith, some))
+  plain_first (c ∷ field) rest all some = (All-head (IsPlain d) c field all).0
+
+  pub first_plain : (IsPlain d b → ⊥) → (field begun bs : List ℕ)
+      → IsFieldPrefix d place.Plain field begun → FieldFirst d (begun ++ b ∷ bs) field (b ∷ bs)
+  first_plain plain field begun bs (same, all, some) = inr (
+    ap (λ l. l ++ b ∷ bs) same,
+    all,
+    plain,
+    rw same (plain_first field (b ∷ bs) all some),
+  )
+
+  pub first_quote : (b ≡ d.quote → ⊥) → (field begun bs : List ℕ)
+      → IsFieldPrefix d place.Quote field begun → FieldFirst d (begun ++ b ∷ bs) field (b ∷ bs)
+  first_quote other field begun bs is = inl (
+    doubled d.quote field ++ (d.quote ∷ (b ∷ bs)),
+    ap (λ l. l ++ b ∷ bs) is ∙ quoted_behind d.quote field (b ∷ bs),
+    (refl, other),
+  )
+
+-- after a carriage return, where no line feed is
+pub never_return : (d : Dialect) → IsApart d.delimiter d.quote → (tail : List ℕ)
+    → NotFirst (λ c. c ≡ 10) tail → (text fields : ℕ) (front : List ℕ)
+    → Passed d (IsFieldPrefix d place.Return) text fields front
+    → IsRefused d (front ++ tail) (record { offset = length front; why = WrongLineEnd })
+never_return d apart tail not text fields front it =
+    let (begun, is_text, ends, e) = it.is in
+    let rest = it.begun ++ tail in
+    let left = 13 ∷ tail in
+    let split : rest ≡ begun ++ left =
+    ap (λ l. l ++ tail) e ∙ append_assoc begun (13 ∷ []) tail in
+    let far : SoFar d (front ++ tail) rest it.done = record {
+      before = it.before;
+      whole = ap (λ l. l ++ tail) it.splits ∙ append_assoc it.before it.begun tail;
+      texts = it.are;
+    } in
+    so_far_bad d apart (front ++ tail) rest it.done far it.field left
+    (text_first d apart rest it.field begun left is_text split (inr (inl refl))) 1 (length front)
+    WrongLineEnd (λ g. apart.delimiter_stays.0 (sym g)) (inr (refl, refl, ends, not)) (inl refl)
+    (omega (
+      arith,
+      length-append front tail,
+      ap (λ l. length l) it.splits,
+      length-append it.before it.begun,
+      ap (λ l. length l) e,
+      length-append begun (13 ∷ []),
+    ))

@@ -15,12 +15,10 @@ use Rattle.format_csv_records.specs.declared.read.Reason.{Reason}
 use Rattle.format_csv_records.specs.declared.read.Reason.TheVariants.{QuoteInField}
 use Rattle.format_csv_records.specs.declared.read.Reason.TheVariants.{ByteBehindQuote}
 use Rattle.format_csv_records.specs.declared.read.Reason.TheVariants.{OpenQuote, WrongLineEnd}
-use Rattle.format_csv_records.proofs.Alone.{field_apart}
-use Rattle.format_csv_records.proofs.Alone.{open_apart, quoted_behind, same_others}
-use Rattle.format_csv_records.proofs.Alone.{text_first}
+use Rattle.format_csv_records.proofs.Alone.{doubled_behind, end_some, ends_apart, ends_stop}
+use Rattle.format_csv_records.proofs.Alone.{field_apart, lone_return, open_apart, quoted_behind}
+use Rattle.format_csv_records.proofs.Alone.{same_others, text_first}
 use Rattle.format_csv_records.proofs.Early.{line_end_of}
-use Rattle.format_csv_records.proofs.Ending.{end_some, ends_apart, ends_stop, lone_return}
-use Rattle.format_csv_records.proofs.Runs.{doubled_behind}
 
 -- ---- the text of the first field
 
@@ -79,11 +77,9 @@ pub done_fields : (d : Dialect) (done : List (List ℕ)) (before here : List ℕ
     (fields : List (List ℕ)) (rest : List ℕ) → Done d done before → AreFields d here fields rest
     → AreFields d (before ++ here) (done ++ fields) rest
 unfolding Done
-done_fields d [] before here fields rest e it =
-    let P : List ℕ → Type 0 = λ l. AreFields d (l ++ here) fields rest in subst P (sym e) it
+done_fields d [] before here fields rest e it = rw e it
 done_fields d (field ∷ done) before here fields rest (text, more, t, e, others) it =
-    let P : List ℕ → Type 0 = λ l. AreFields d l (field ∷ (done ++ fields)) rest in
-    subst P (sym (ap (λ l. l ++ here) e ∙ append_assoc text (d.delimiter ∷ more) here))
+    rw (e, append_assoc text (d.delimiter ∷ more) here)
     (fields_more d field text (more ++ here) (done ++ fields) rest t
     (done_fields d done more here fields rest others it))
 
@@ -111,31 +107,37 @@ last_field d field text behind rest t ends = (text, behind, t, refl, ends)
 
 -- ---- uniqueness of records
 
--- the bytes after the first field of a record
+-- a record by its first field and the bytes after it
 pub record FieldsAfterFirst (d : Dialect) (bytes : List ℕ) (fields : List (List ℕ)) (rest : List ℕ)
     : Type 0 where
   pub field : List ℕ
+  pub others : List (List ℕ)
   pub behind : List ℕ
+  pub all : fields ≡ field ∷ others
   pub first : FieldFirst d bytes field behind
-  pub way : EndsHere d.ends behind rest ⊎ ((more : List ℕ) × (others : List (List ℕ))
+  pub way : ((others ≡ []) × EndsHere d.ends behind rest) ⊎ ((more : List ℕ)
       × (behind ≡ d.delimiter ∷ more) × AreFields d more others rest)
 
-behind_first : (d : Dialect) → IsApart d.delimiter d.quote → (bytes : List ℕ)
+pub behind_first : (d : Dialect) → IsApart d.delimiter d.quote → (bytes : List ℕ)
     (fields : List (List ℕ)) (rest : List ℕ) → AreFields d bytes fields rest
     → FieldsAfterFirst d bytes fields rest
 unfolding AreFields
 behind_first d apart bytes [] rest it = absurd it
 behind_first d apart bytes (field ∷ []) rest (text, behind, t, e, ends) = record {
   field = field;
+  others = [];
   behind = behind;
+  all = refl;
   first = text_first d apart bytes field text behind t e (ends_stop d d.ends behind rest ends);
-  way = inl ends;
+  way = inl (refl, ends);
 }
 behind_first d apart bytes (field ∷ (next ∷ fields)) rest (text, more, t, e, it) = record {
   field = field;
+  others = next ∷ fields;
   behind = d.delimiter ∷ more;
+  all = refl;
   first = text_first d apart bytes field text (d.delimiter ∷ more) t e (inl refl);
-  way = inr (more, next ∷ fields, refl, it);
+  way = inr (more, refl, it);
 }
 
 -- fields with their delimiters are followed by the other fields of the record
@@ -144,8 +146,7 @@ done_apart : (d : Dialect) → IsApart d.delimiter d.quote → (done : List (Lis
     → AreFields d (before ++ here) fields rest
     → (others : List (List ℕ)) × AreFields d here others rest
 unfolding Done
-done_apart d apart [] before here fields rest e it =
-    let P : List ℕ → Type 0 = λ l. AreFields d (l ++ here) fields rest in (fields, subst P e it)
+done_apart d apart [] before here fields rest e it = (fields, rw e at it)
 done_apart d apart (field ∷ done) before here fields rest (text, more, t, e, others) it =
     let b = behind_first d apart (before ++ here) fields rest it in
     let f = text_first d apart (before ++ here) field text (d.delimiter ∷ (more ++ here)) t
@@ -153,10 +154,11 @@ done_apart d apart (field ∷ done) before here fields rest (text, more, t, e, o
     let (same, left) = field_apart d (before ++ here) field (d.delimiter ∷ (more ++ here)) b.field
     b.behind f b.first in
     elim b.way [
-      | inl ends ↦ absurd (ends_apart d apart b.behind rest (more ++ here) ends (sym left))
-      | inr (further, fs, is, them) ↦
-          let P : List ℕ → Type 0 = λ l. AreFields d l fs rest in
-          done_apart d apart done more here fs rest others
+      | inl (none, ends) ↦
+          absurd (ends_apart d apart b.behind rest (more ++ here) ends (sym left))
+      | inr (further, is, them) ↦
+          let P : List ℕ → Type 0 = λ l. AreFields d l b.others rest in
+          done_apart d apart done more here b.others rest others
           (subst P (sym (same_others (left ∙ is))) them)
     ]
 
@@ -169,10 +171,9 @@ none_behind d apart bytes field left fields rest f not ends it =
     let b = behind_first d apart bytes fields rest it in
     let (same, e) = field_apart d bytes field left b.field b.behind f b.first in
     let P : List ℕ → Type 0 = λ l. NotFirst (λ c. c ≡ d.delimiter) l in
-    let Q : List ℕ → Type 0 = λ l. EndsHere d.ends l rest in
     elim b.way [
-      | inl at ↦ ends (subst Q (sym e) at)
-      | inr (further, fs, is, them) ↦ subst P (e ∙ is) not refl
+      | inl (none, at) ↦ ends (rw e at)
+      | inr (further, is, them) ↦ subst P (e ∙ is) not refl
     ]
 
 none_open : (d : Dialect) → IsApart d.delimiter d.quote → (bytes : List ℕ)
@@ -227,9 +228,7 @@ pub record SoFar (d : Dialect) (bytes rest : List ℕ) (fields : List (List ℕ)
 pub so_far_none : (d : Dialect) (bytes : List ℕ) (fields : List (List ℕ)) → fields ≡ []
     → SoFar d bytes bytes fields
 unfolding Done
-so_far_none d bytes fields e =
-    let P : List (List ℕ) → Type 0 = λ l. Done d l [] in
-    record { before = []; whole = refl; texts = subst P (sym e) refl }
+so_far_none d bytes fields e = record { before = []; whole = refl; texts = rw e refl }
 
 module _ (d : Dialect) (apart : IsApart d.delimiter d.quote) (bytes rest : List ℕ)
     (fields : List (List ℕ)) (it : SoFar d bytes rest fields) where
@@ -239,15 +238,13 @@ module _ (d : Dialect) (apart : IsApart d.delimiter d.quote) (bytes rest : List 
         → left ≡ d.delimiter ∷ drop 1 left → next ≡ drop 1 left → SoFar d bytes next new
     so_far_more next new e goes is =
         let t = first_text d rest field left f in
-        let P : List (List ℕ) → Type 0 =
-        λ l. Done d l (it.before ++ (t.text ++ (d.delimiter ∷ []))) in
         record {
           before = it.before ++ (t.text ++ (d.delimiter ∷ []));
           whole = it.whole ∙ ap (λ l. it.before ++ l) (t.split ∙ ap (λ l. t.text ++ l) (goes
               ∙ ap (λ l. d.delimiter ∷ l) (sym is))
               ∙ sym (append_assoc t.text (d.delimiter ∷ []) next))
               ∙ sym (append_assoc it.before (t.text ++ (d.delimiter ∷ [])) next);
-          texts = subst P (sym e) (done_more d fields it.before field t.text it.texts t.is_text);
+          texts = rw e (done_more d fields it.before field t.text it.texts t.is_text);
         }
 
     -- with what ends it after the field
@@ -264,21 +261,17 @@ module _ (d : Dialect) (apart : IsApart d.delimiter d.quote) (bytes rest : List 
         → EndsHere d.ends left end → AreFields d bytes new end
     so_far_ends end new e ends =
         let t = first_text d rest field left f in
-        let P : List (List ℕ) → Type 0 = λ l. AreFields d bytes l end in
-        let Q : List ℕ → Type 0 = λ l. AreFields d l (fields ++ field ∷ []) end in
-        subst P (sym e) (subst Q (sym (it.whole ∙ ap (λ l. it.before ++ l) t.split))
-        (ended left end ends))
+        rw (e, it.whole ∙ ap (λ l. it.before ++ l) t.split) (ended left end ends)
 
     -- a record with `more` after its last field
     closes : (before more : List ℕ) → before ≡ it.before ++ (first_text d rest field left f).text
         → EndsHere d.ends more [] → 0 < length more
         → IsRecord d (before ++ more) (fields ++ field ∷ []) []
     closes before more e ends some =
-        let t = first_text d rest field left f in
-        let g : before ++ more ≡ it.before ++ (t.text ++ more) =
-        ap (λ l. l ++ more) e ∙ append_assoc it.before t.text more in
-        let P : List ℕ → Type 0 = λ l. AreFields d l (fields ++ field ∷ []) [] in
-        (omega (arith, some, length-append before more), subst P (sym g) (ended more [] ends))
+        let t = first_text d rest field left f in (
+          omega (arith, length-append before more),
+          rw (e, append_assoc it.before t.text more) (ended more [] ends),
+        )
 
     -- this holds for each line ending
     ends_a_field : EndsAField d (it.before ++ (first_text d rest field left f).text)
@@ -295,11 +288,8 @@ module _ (d : Dialect) (apart : IsApart d.delimiter d.quote) (bytes rest : List 
         → (all : List (List ℕ)) (end : List ℕ) → IsRecord d (before ++ (b ∷ after)) all end → ⊥
     goes_not b bs after is not ends before e all end (some, them) =
         let t = first_text d rest field left f in
-        let g : before ++ (b ∷ after) ≡ it.before ++ (t.text ++ (b ∷ after)) =
-        ap (λ l. l ++ (b ∷ after)) e ∙ append_assoc it.before t.text (b ∷ after) in
-        let P : List ℕ → Type 0 = λ l. AreFields d l all end in
         let (fs, o) = done_apart d apart fields it.before (t.text ++ (b ∷ after)) all end it.texts
-        (subst P g them) in
+        (rw (e, append_assoc it.before t.text (b ∷ after)) at them) in
         none_behind d apart (t.text ++ (b ∷ after)) field (b ∷ after) fs end
         (t.again b bs after is) not (ends end) o
 
@@ -311,11 +301,9 @@ module _ (d : Dialect) (apart : IsApart d.delimiter d.quote) (bytes rest : List 
         λ all end them. goes_not 13 [] [] is (λ g. apart.delimiter_stays.0 (sym g))
         (λ o. lone_return d.ends [] o tt) before e all end them
     none_return (c ∷ bs) is not before e =
-        λ after all end them.
-        let P : List ℕ → Type 0 = λ l. IsRecord d l all end in
-        goes_not 13 (c ∷ bs) (c ∷ after) is (λ g. apart.delimiter_stays.0 (sym g))
-        (λ o. lone_return d.ends (c ∷ after) o not) before e all end
-        (subst P (append_assoc before (13 ∷ []) (c ∷ after)) them)
+        λ after all end them. goes_not 13 (c ∷ bs) (c ∷ after) is
+        (λ g. apart.delimiter_stays.0 (sym g)) (λ o. lone_return d.ends (c ∷ after) o not) before e
+        all end (rw (append_assoc before (13 ∷ []) (c ∷ after)) at them)
 
     pub so_far_bad : (begun offset : ℕ) (why : Reason) → NotFirst (λ b. b ≡ d.delimiter) left
         → EndsNowhere d.ends left begun → WhyNot d.quote left why
@@ -329,7 +317,6 @@ module _ (d : Dialect) (apart : IsApart d.delimiter d.quote) (bytes rest : List 
         let sizes : length bytes ≡ length before + length left =
         ap (λ l. length l) split ∙ length-append before left in
         let s = stuck d.ends left begun nowhere in
-        let N : List ℕ → Type 0 = λ l. NotFirst (λ b. b ≡ d.delimiter) l in
         elim s.ends_not [
           | inl (none, ends) ↦
               let z = line_end_of d.ends in
@@ -343,22 +330,20 @@ module _ (d : Dialect) (apart : IsApart d.delimiter d.quote) (bytes rest : List 
                 closes before z.end refl (inl (z.end, z.is, sym (append-nil z.end))) z.some,
                 lacks d why before z.end left whynot not ends_a_field z.is,
                 subst B (sym s.is) (λ after all o them. goes_not s.b s.bs after s.is
-                    (subst N s.is not) (λ l. ends after l) before refl all o them),
+                    (rw s.is at not) (λ l. ends after l) before refl all o them),
               )
           | inr (one, cr, is, lone) ↦
-              let W : List ℕ → Type 0 = λ l. WhyNot d.quote l why in
-              let here : left ≡ 13 ∷ s.bs = s.is ∙ ap (λ b. b ∷ s.bs) cr in
-              let R : List ℕ → Type 0 = λ l. IsRecord d l (fields ++ field ∷ []) [] in (
+              let here : left ≡ 13 ∷ s.bs = s.is ∙ ap (λ b. b ∷ s.bs) cr in (
                 before ++ (13 ∷ []),
                 s.bs,
                 10 ∷ [],
                 fields ++ field ∷ [],
                 split ∙ ap (λ l. before ++ l) here ∙ sym (append_assoc before (13 ∷ []) s.bs),
                 omega (arith, at, one, sizes, length-append before (13 ∷ [])),
-                subst R (sym (append_assoc before (13 ∷ []) (10 ∷ [])))
+                rw (append_assoc before (13 ∷ []) (10 ∷ []))
                     (closes before (13 ∷ 10 ∷ []) refl (inl (13 ∷ 10 ∷ [], is, refl))
                     (omega arith)),
-                lacks_feed d apart why before s.bs s.bs (subst W here whynot),
+                lacks_feed d apart why before s.bs s.bs (rw here at whynot),
                 none_return s.bs here lone before refl,
               )
         ]
@@ -370,7 +355,6 @@ module _ (d : Dialect) (apart : IsApart d.delimiter d.quote) (bytes rest : List 
       let text = q ∷ (doubled q (done ++ run) ++ q ∷ []) in
       let same : rest ++ q ∷ [] ≡ text =
       ap (λ l. l ++ q ∷ []) (e ∙ ap (λ l. q ∷ l) (g ∙ sym (doubled_behind q done run all))) in
-      let P : List ℕ → Type 0 = λ l. AreFields d l (fields ++ (done ++ run) ∷ []) [] in
       let whole : bytes ++ q ∷ [] ≡ it.before ++ (text ++ []) =
       ap (λ l. l ++ q ∷ []) it.whole ∙ append_assoc it.before rest (q ∷ [])
       ∙ ap (λ l. it.before ++ l) (same ∙ sym (append-nil text)) in (
@@ -382,13 +366,12 @@ module _ (d : Dialect) (apart : IsApart d.delimiter d.quote) (bytes rest : List 
         refl,
         (
           omega (arith, length-append bytes (q ∷ [])),
-          subst P (sym whole) (done_fields d fields it.before (text ++ []) ((done ++ run) ∷ []) []
+          rw whole (done_fields d fields it.before (text ++ []) ((done ++ run) ∷ []) []
               it.texts (last_field d (done ++ run) text [] [] (inl refl) (inr (refl, refl)))),
         ),
         (refl, refl),
         λ ps end (some, them).
-            let B : List ℕ → Type 0 = λ l. AreFields d l ps end in
             let (fs, o) = done_apart d apart fields it.before rest ps end it.texts
-            (subst B it.whole them) in
+            (rw it.whole at them) in
             none_open d apart rest fs end (here, e, (done, run, g, all)) o,
       )

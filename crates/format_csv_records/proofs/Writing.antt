@@ -4,31 +4,25 @@ use Rattle.std.specs.Prelude.{◌-◌, Bool, true, false, MatchBool, if◌then�
 use Rattle.std.specs.Prelude.{Result, Ok, Err}
 use Rattle.std.specs.List.{All}
 use Rattle.std.specs.Borrow.{Bor}
-use Rattle.std.proofs.Common.{refl, sym, ap, subst, inl, inr, ◌∙◌, arith, append_assoc, get_or}
+use Rattle.std.proofs.Common.{refl, sym, ap, inl, inr, ◌∙◌, arith, append_assoc, get_or}
 use Rattle.std.proofs.Common.{length-append}
-use Rattle.std.proofs.lemmas.List.{append_cancel_left, drop_more, map-append, take_more}
+use Rattle.std.proofs.lemmas.List.{drop_more, map_more}
 use Rattle.std.proofs.lemmas.List.{take-append-drop, take_all}
-use Rattle.format_csv_records.specs.Dialects.{AreFields, IsFieldText, IsLineEnd}
+use Rattle.format_csv_records.specs.Dialects.{IsFieldText}
 use Rattle.format_csv_records.specs.Dialects.{doubled}
-use Rattle.format_csv_records.specs.Parts.{Done, IsOther, NotFirst, SoMany}
+use Rattle.format_csv_records.specs.Parts.{Done, IsOther, SoMany}
 use Rattle.format_csv_records.specs.Written.{IsLast, IsLastOf, IsWritten, ReadsBack, Writes, Wrote}
 use Rattle.format_csv_records.specs.Written.{bytes_of}
 use Rattle.format_csv_records.specs.declared.dialect.Dialect.{Dialect}
-use Rattle.format_csv_records.specs.declared.dialect.LineEnds.{LineEnds}
-use Rattle.format_csv_records.specs.declared.dialect.LineEnds.TheVariants.{CrLf, Lf, Either}
-use Rattle.format_csv_records.proofs.Alone.{doubled_append, doubled_none, doubled_quote}
-use Rattle.format_csv_records.proofs.Alone.{doubled_run}
-use Rattle.format_csv_records.proofs.Runs.{doubled_behind, run_quote, take_quote}
+use Rattle.format_csv_records.proofs.Alone.{doubled_behind, doubled_none, doubled_two, end_some}
+use Rattle.format_csv_records.proofs.Alone.{take_quote}
 use Rattle.format_csv_records.proofs.Whole.{done_fields, last_field}
 
 pub not_all : (these : ℕ → Type 0) (xs : List ℕ) (n : ℕ) → SoMany these xs n
     → (n ≡ length xs → ⊥) → All these xs → ⊥
 not_all these xs n (within, first, not) some all =
     let less : n < length xs = omega arith in
-    let P : List ℕ → Type 0 = λ l. NotFirst these l in
-    let at : NotFirst these (get_or xs n 0 ∷ drop (n + 1) xs) =
-    subst P (drop_more xs n 0 less) not in
-    at (all n 0 less)
+    (rw (drop_more xs n 0 less) at not) (all n 0 less)
 
 -- a run and its quote more
 pub write_more : (quote : ℕ) (field rest base out : List ℕ) (n : ℕ) (done : List ℕ)
@@ -37,20 +31,9 @@ pub write_more : (quote : ℕ) (field rest base out : List ℕ) (n : ℕ) (done 
     → added ≡ take (n + 1) rest → mid ≡ out ++ added → new ≡ mid ++ quote ∷ []
     → (all : List ℕ) × (field ≡ all ++ next) × (new ≡ base ++ doubled quote all)
 write_more quote field rest base out n done e o run some next added mid new is adds m w =
-    let (split, within) = run_quote quote rest n run some in
     let runs = take n rest in
     let D = doubled quote done in
-    let taken : take (n + 1) rest ≡ runs ++ quote ∷ [] =
-    take_quote quote rest n (omega arith)
-    (append_cancel_left runs (drop n rest) (quote ∷ drop (n + 1) rest)
-    (take-append-drop n rest ∙ split)) in
-    let two : doubled quote (quote ∷ []) ≡ quote ∷ quote ∷ [] =
-    doubled_quote quote quote [] refl ∙ ap (λ l. quote ∷ quote ∷ l) (doubled_none quote) in
-    let text : doubled quote (done ++ (runs ++ quote ∷ [])) ≡ D ++ (runs ++ (quote ∷ quote ∷ [])) =
-    doubled_append quote done (runs ++ quote ∷ [])
-    ∙ ap (λ l. D ++ l) (doubled_append quote runs (quote ∷ [])
-    ∙ ap (λ l. l ++ doubled quote (quote ∷ [])) (doubled_run quote runs run.1)
-    ∙ ap (λ l. runs ++ l) two) in
+    let taken = take_quote quote rest n run some in
     let tidy : ((base ++ D) ++ (runs ++ quote ∷ [])) ++ quote ∷ []
     ≡ base ++ (D ++ (runs ++ (quote ∷ quote ∷ []))) =
     simp append_assoc in (
@@ -61,7 +44,7 @@ write_more quote field rest base out n done e o run some next added mid new is a
           (runs ++ quote ∷ []) next),
       w ∙ ap (λ l. l ++ quote ∷ [])
           (m ∙ ap (λ l. l ++ added) o ∙ ap (λ l. (base ++ D) ++ l) (adds ∙ taken))
-          ∙ tidy ∙ ap (λ l. base ++ l) (sym text),
+          ∙ tidy ∙ ap (λ l. base ++ l) (sym (doubled_two quote done runs run.1)),
     )
 
 -- the last run
@@ -70,10 +53,9 @@ pub write_end : (quote : ℕ) (field rest base out : List ℕ) (n : ℕ) (done :
     → n ≡ length rest → (mid new : List ℕ) → mid ≡ out ++ rest → new ≡ mid ++ quote ∷ []
     → new ≡ base ++ (doubled quote field ++ quote ∷ [])
 write_end quote field rest base out n done e o run is mid new m w =
-    let P : List ℕ → Type 0 = λ l. All (IsOther quote) l in
     let text : doubled quote field ≡ doubled quote done ++ rest =
     ap (λ l. doubled quote l) e
-    ∙ doubled_behind quote done rest (subst P (take_all n rest (omega arith)) run.1) in
+    ∙ doubled_behind quote done rest (rw (take_all n rest (omega arith)) at run.1) in
     let tidy : ((base ++ doubled quote done) ++ rest) ++ quote ∷ []
     ≡ base ++ ((doubled quote done ++ rest) ++ quote ∷ []) = simp append_assoc in
     w ∙ ap (λ l. l ++ quote ∷ []) (m ∙ ap (λ l. l ++ rest) o) ∙ tidy
@@ -97,8 +79,7 @@ wrote_more d (other ∷ fields) before field text (front, more, u, e, others) t 
 
 pub bytes_more : (fields : List (Bor (List ℕ))) (i : ℕ) (d : Bor (List ℕ)) → i < length fields
     → bytes_of (take (i + 1) fields) ≡ bytes_of (take i fields) ++ (get_or fields i d).now ∷ []
-bytes_more fields i d less = ap (λ l. bytes_of l) (take_more fields i d less)
-    ∙ map-append (λ (f : Bor (List ℕ)). f.now) (take i fields) (get_or fields i d ∷ [])
+bytes_more fields i d less = map_more (λ (f : Bor (List ℕ)). f.now) fields i d less
 
 -- ---- back
 
@@ -109,9 +90,7 @@ is_text d field text (inr (is, not)) = inl is
 last_is_text : (d : Dialect) (others : List (List ℕ)) (last text : List ℕ)
     → IsLast d others last text → IsFieldText d last text
 last_is_text d others last text (inl (alone, none, is)) =
-    let P : List ℕ → Type 0 = λ l. IsFieldText d l text in
-    subst P (sym none)
-    (inl (is ∙ ap (λ l. d.quote ∷ (l ++ d.quote ∷ [])) (sym (doubled_none d.quote))))
+    rw none (inl (is ∙ ap (λ l. d.quote ∷ (l ++ d.quote ∷ [])) (sym (doubled_none d.quote))))
 last_is_text d others last text (inr (some, t)) = is_text d last text t
 
 wrote_done : (d : Dialect) (fields : List (List ℕ)) (before : List ℕ) → Wrote d fields before
@@ -121,21 +100,12 @@ wrote_done d [] before e = e
 wrote_done d (field ∷ fields) before (text, more, t, e, others) =
     (text, more, is_text d field text t, e, wrote_done d fields more others)
 
-some_line_end : (ends : LineEnds) (end : List ℕ) → IsLineEnd ends end → 0 < length end
-some_line_end CrLf end is = omega (arith, ap (λ l. length l) is)
-some_line_end Lf end is = omega (arith, ap (λ l. length l) is)
-some_line_end Either end (inl is) = omega (arith, ap (λ l. length l) is)
-some_line_end Either end (inr is) = omega (arith, ap (λ l. length l) is)
-
 pub reads_back : (d : Dialect) (fields : List (List ℕ)) (old new : List ℕ)
     → Writes d fields old new → ReadsBack d fields old new
 reads_back d fields old new it = (
   it.before ++ (it.text ++ it.end),
   it.behind,
   λ rest.
-      let P : List (List ℕ) → Type 0 =
-      λ l. AreFields d ((it.before ++ (it.text ++ it.end)) ++ rest) l rest in
-      let Q : List ℕ → Type 0 = λ l. AreFields d l (it.others ++ it.last ∷ []) rest in
       let tidy : (it.before ++ (it.text ++ it.end)) ++ rest
       ≡ it.before ++ (it.text ++ (it.end ++ rest)) = simp append_assoc in (
         omega (
@@ -143,14 +113,14 @@ reads_back d fields old new it = (
           length-append (it.before ++ (it.text ++ it.end)) rest,
           length-append it.before (it.text ++ it.end),
           length-append it.text it.end,
-          some_line_end d.ends it.end it.is_end,
+          end_some d.ends it.end it.is_end,
         ),
-        subst P (sym it.all) (subst Q (sym tidy) (done_fields d it.others it.before
+        rw (it.all, tidy) (done_fields d it.others it.before
             (it.text ++ (it.end ++ rest)) (it.last ∷ []) rest
             (wrote_done d it.others it.before it.wrote)
             (last_field d it.last it.text (it.end ++ rest) rest
             (last_is_text d it.others it.last it.text it.is_last)
-            (inl (it.end, it.is_end, refl))))),
+            (inl (it.end, it.is_end, refl)))),
       ),
 )
 

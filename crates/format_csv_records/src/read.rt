@@ -17,7 +17,7 @@ ghost use Rattle.format_csv_records.specs.Refused.{IsNoRecord, ReadsRecord};
 ghost use Rattle.format_csv_records.specs.declared.read.RecordError.TheVariants.{OutOfMemory};
 
 use crate::dialect::{Dialect, LineEnds};
-use crate::record::ByteRecord;
+use crate::record::{ByteRecord, FieldSink};
 use std::alloc::{AllocError, Allocator};
 
 /// The reason why no record can continue at a byte.
@@ -154,15 +154,11 @@ pub(crate) fn first_is(bytes: &[u8], byte: u8) -> bool
 }
 
 // The bytes of a field up to its closing quote, of two quotes one; or false if there is none.
-fn read_quoted<A: Allocator>(
-    quote: u8,
-    fields: &mut ByteRecord<A>,
-    input: &mut &[u8],
-) -> Result<bool, AllocError>
+fn read_quoted<S: FieldSink>(quote: u8, sink: &mut S, input: &mut &[u8]) -> Result<bool, AllocError>
     ensures { IfOk result (λ closed. MatchBool closed
         ((field : List ℕ) × Closed quote input.old.now field input.new.now
-        × (fields_of fields.new ≡ fields_of fields.old)
-        × (begun_of fields.new ≡ begun_of fields.old ++ field))
+        × (S.fields sink.new ≡ S.fields sink.old)
+        × (S.begun sink.new ≡ S.begun sink.old ++ field))
         (Unclosed quote input.old.now)) }
 {
     let mut rest = *input;
@@ -173,54 +169,54 @@ fn read_quoted<A: Allocator>(
         }
         let left = behind(rest, run + 1);
         if !first_is(left, quote) {
-            fields.add(front(rest, run))?;
+            sink.add(front(rest, run))?;
             *input = left;
             return Ok(true);
         }
-        fields.add(front(rest, run + 1))?;
+        sink.add(front(rest, run + 1))?;
         rest = behind(left, 1);
     }
 }
 
 // The bytes of a field without quotes.
-fn read_plain<A: Allocator>(
+fn read_plain<S: FieldSink>(
     dialect: Dialect,
-    fields: &mut ByteRecord<A>,
+    sink: &mut S,
     input: &mut &[u8],
 ) -> Result<(), AllocError>
     ensures { IfOk result (λ _. (field : List ℕ) × (input.old.now ≡ field ++ input.new.now)
         × All (IsPlain dialect) field × NotFirst (IsPlain dialect) input.new.now
-        × (fields_of fields.new ≡ fields_of fields.old)
-        × (begun_of fields.new ≡ begun_of fields.old ++ field)) }
+        × (S.fields sink.new ≡ S.fields sink.old)
+        × (S.begun sink.new ≡ S.begun sink.old ++ field)) }
 {
     let size = plain_len(dialect, input);
-    fields.add(front(input, size))?;
+    sink.add(front(input, size))?;
     *input = behind(input, size);
     Ok(())
 }
 
 // Reads the field at the start of the bytes. Returns false if a quote is never closed.
-fn read_field<A: Allocator>(
+fn read_field<S: FieldSink>(
     dialect: Dialect,
-    fields: &mut ByteRecord<A>,
+    sink: &mut S,
     input: &mut &[u8],
 ) -> Result<bool, AllocError>
-    requires { begun_of fields.old ≡ [] }
+    requires { S.begun sink.old ≡ [] }
     ensures { IfOk result (λ closed. MatchBool closed
         ((field : List ℕ) × FieldFirst dialect input.old.now field input.new.now
-        × (fields_of fields.new ≡ fields_of fields.old ++ field ∷ [])
-        × (begun_of fields.new ≡ []))
+        × (S.fields sink.new ≡ S.fields sink.old ++ field ∷ [])
+        × (S.begun sink.new ≡ []))
         (OpenFirst dialect input.old.now)) }
 {
     if first_is(input, dialect.quote) {
         *input = behind(input, 1);
-        if !read_quoted(dialect.quote, fields, input)? {
+        if !read_quoted(dialect.quote, sink, input)? {
             return Ok(false);
         }
     } else {
-        read_plain(dialect, fields, input)?;
+        read_plain(dialect, sink, input)?;
     }
-    fields.end_field()?;
+    sink.end_field()?;
     Ok(true)
 }
 
@@ -286,21 +282,26 @@ pub(crate) fn why_not(quote: u8, bytes: &[u8]) -> Reason
     }
 }
 
-// Reads the fields of the record at the start of the bytes and returns the rest.
-fn read_fields<'i, A: Allocator>(
+/// Reads the fields of the record at the start of `bytes` into an empty sink, and returns the rest
+/// after its line ending. Empty bytes have one empty field.
+///
+/// # Errors
+///
+/// As of [`read_record_into`].
+pub fn read_fields<'i, S: FieldSink>(
     dialect: Dialect,
-    fields: &mut ByteRecord<A>,
+    sink: &mut S,
     bytes: &'i [u8],
 ) -> Result<&'i [u8], RecordError>
-    requires none { fields_of fields.old ≡ [] }
-    requires begun { begun_of fields.old ≡ [] }
+    requires none { S.fields sink.old ≡ [] }
+    requires begun { S.begun sink.old ≡ [] }
     ensures { MatchResult result
-        (λ rest. AreFields dialect bytes.now (fields_of fields.new) rest.now)
+        (λ rest. AreFields dialect bytes.now (S.fields sink.new) rest.now)
         (λ error. IsNoRecord dialect bytes.now error) }
 {
     let mut rest = bytes;
     'fields: loop {
-        if !read_field(dialect, fields, &mut rest)? {
+        if !read_field(dialect, sink, &mut rest)? {
             let why = Reason::OpenQuote;
             return Err(RecordError::Invalid(InvalidRecord {
                 offset: bytes.len(),

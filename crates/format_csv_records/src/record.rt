@@ -1,13 +1,32 @@
 //! Records whose fields share one buffer, which is reused for the next record.
 
 ghost use Rattle.std.specs.Prelude.{◌≡◌, ◌++◌, ◌∷◌, [], ◌<◌, ◌≤◌, ◌^◌, ◌+◌, ◌-◌, ◌↔◌};
-ghost use Rattle.std.specs.Prelude.{length};
+ghost use Rattle.std.specs.Prelude.{List, ℕ, length};
 ghost use Rattle.std.specs.Prelude.{IfSome, IsTrue, OnErr, OnOk, option_map, slice_index};
 ghost use Rattle.std.specs.Iterator.{at_most};
 ghost use Rattle.format_csv_records.specs.Records.{begun_of, field_at, fields_of, start_of};
 
 use std::alloc::{AllocError, Allocator};
 use std::marker::Model;
+
+/// What takes the fields of a record from [`read_fields`](crate::read::read_fields), in order.
+pub trait FieldSink {
+    // The complete fields.
+    ghost fields: { Self → List (List ℕ) };
+
+    // The bytes of the field after them.
+    ghost begun: { Self → List ℕ };
+
+    /// Appends bytes to the field after the complete ones.
+    fn add(&mut self, bytes: &[u8]) -> Result<(), AllocError>
+        ensures fields { fields self.new ≡ fields self.old }
+        ensures begun { OnOk result (begun self.new ≡ begun self.old ++ bytes.now) };
+
+    /// Completes this field.
+    fn end_field(&mut self) -> Result<(), AllocError>
+        ensures fields { OnOk result (fields self.new ≡ fields self.old ++ begun self.old ∷ []) }
+        ensures begun { OnOk result (begun self.new ≡ []) };
+}
 
 /// The fields of a record: their concatenated bytes, and the end of each. It is created once and
 /// reused, so its memory is that of the longest record.
@@ -122,19 +141,18 @@ impl<A: Allocator> ByteRecord<A> {
         let (start, end) = bounds(&self.ends, place);
         Some(&self.bytes.as_slice()[start..end])
     }
+}
 
-    pub(crate) fn add(&mut self, bytes: &[u8]) -> Result<(), AllocError>
-        ensures fields { fields_of self.new ≡ fields_of self.old }
-        ensures begun { OnOk result (begun_of self.new ≡ begun_of self.old ++ bytes.now) }
-    {
+impl<A: Allocator> FieldSink for ByteRecord<A> {
+    ghost fields = { fields_of };
+
+    ghost begun = { begun_of };
+
+    fn add(&mut self, bytes: &[u8]) -> Result<(), AllocError> {
         self.bytes.extend_from_slice(bytes)
     }
 
-    pub(crate) fn end_field(&mut self) -> Result<(), AllocError>
-        ensures fields { OnOk result
-            (fields_of self.new ≡ fields_of self.old ++ begun_of self.old ∷ []) }
-        ensures begun { OnOk result (begun_of self.new ≡ []) }
-    {
+    fn end_field(&mut self) -> Result<(), AllocError> {
         let end = self.bytes.len();
         match self.ends.push(end) {
             Ok(()) => Ok(()),

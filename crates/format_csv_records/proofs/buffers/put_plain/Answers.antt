@@ -1,5 +1,4 @@
 use Rattle.std.proofs.Common.{arith}
-use Rattle.format_csv_records.specs.Dialects.{IsPlain}
 use Rattle.format_csv_records.proofs.Placing.{run_full}
 use Rattle.format_csv_records.proofs.buffers.put_plain.Goals as goal
 

@@ -1,7 +1,6 @@
 use Rattle.std.proofs.Common.{[], refl, sym, ap, arith, ◌++◌}
-use Rattle.format_csv_records.proofs.Alone.{doubled_none}
+use Rattle.format_csv_records.proofs.Alone.{doubled_none, unclosed_here}
 use Rattle.format_csv_records.proofs.Placing.{puts_none, quote_behind, quoted_closed, quoted_more}
-use Rattle.format_csv_records.proofs.Runs.{run_quote, unclosed_here}
 use Rattle.format_csv_records.proofs.buffers.put_quoted.Goals as goal
 
 pub runs-init : goal.runs-init

@@ -1,7 +1,7 @@
 use Rattle.std.proofs.Common.{inl, inr}
 use Rattle.std.proofs.lemmas.List.{nil_from_length}
 use Rattle.std.specs.Prelude.{None, Some}
-use Rattle.format_csv_records.proofs.Walking.{walking_byte, walking_none, walking_run, walks}
+use Rattle.format_csv_records.proofs.Extents.{walking_byte, walking_none, walking_run, walks}
 use Rattle.format_csv_records.proofs.extent.walk.Goals as goal
 
 pub runs-init : goal.runs-init

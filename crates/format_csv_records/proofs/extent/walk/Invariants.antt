@@ -1,5 +1,5 @@
 use Rattle.std.proofs.Common.{length}
-use Rattle.format_csv_records.proofs.Walking.{Walking}
+use Rattle.format_csv_records.proofs.Extents.{Walking}
 use Rattle.format_csv_records.proofs.extent.walk.Given as goal
 
 abbrev pub invariant-runs : goal.invariant-runs

@@ -1,6 +1,5 @@
-use Rattle.std.proofs.Common.{arith, length}
-use Rattle.format_csv_records.specs.Dialects.{IsPlain}
-use Rattle.format_csv_records.proofs.Runs.{all_first}
+use Rattle.std.proofs.Common.{arith}
+use Rattle.format_csv_records.proofs.Alone.{all_first}
 use Rattle.format_csv_records.proofs.read.plain_len.Goals as goal
 
 pub returns : goal.returns

@@ -1,7 +1,7 @@
 use Rattle.std.proofs.Common.{[], refl, sym, ap, ◌∙◌, ◌++◌, arith}
 use Rattle.std.proofs.lemmas.List.{append-nil}
-use Rattle.format_csv_records.proofs.Alone.{doubled_none}
-use Rattle.format_csv_records.proofs.Runs.{closed_here, more_here, run_quote, unclosed_here}
+use Rattle.format_csv_records.proofs.Alone.{closed_here, doubled_none, more_here, run_quote}
+use Rattle.format_csv_records.proofs.Alone.{unclosed_here}
 use Rattle.format_csv_records.proofs.read.read_quoted.Goals as goal
 
 pub runs-init : goal.runs-init

@@ -1,6 +1,5 @@
 use Rattle.format_csv_records.proofs.Stepping.{behind_delimiter, behind_step, grows_feed}
 use Rattle.format_csv_records.proofs.Stepping.{grows_return}
-use Rattle.format_csv_records.specs.declared.extent.RecordPlace.TheVariants as place
 use Rattle.format_csv_records.proofs.turns.step_behind.Goals as goal
 
 pub returns-then-byte-dialect : goal.returns-then-byte-dialect

@@ -1,8 +1,7 @@
 use mathlib.Core.Bool.{false≢true}
 use Rattle.format_csv_records.proofs.Stepping.{field_text, goes_step, grows_open}
 use Rattle.format_csv_records.proofs.Stepping.{turn_text}
-use Rattle.format_csv_records.proofs.Stuck.{first_field, stuck}
-use Rattle.format_csv_records.specs.Extents.{IsFieldPrefix}
+use Rattle.format_csv_records.proofs.Stepping.{first_field, stuck}
 use Rattle.std.proofs.Common.{arith}
 use Rattle.format_csv_records.specs.declared.extent.RecordPlace.TheVariants as place
 use Rattle.format_csv_records.proofs.turns.turn_field.Goals as goal

@@ -1,10 +1,9 @@
 use mathlib.Core.Bool.{false≢true}
-use Rattle.std.proofs.Common.{[], ◌∷◌, arith, refl}
+use Rattle.std.proofs.Common.{[], arith, refl}
 use Rattle.std.proofs.lemmas.List.Elements.{All-cons, All-nil}
 use Rattle.format_csv_records.proofs.Stepping.{goes_step, grows_plain, plain_text, turn_text}
-use Rattle.format_csv_records.proofs.Stuck.{first_plain, stuck}
+use Rattle.format_csv_records.proofs.Stepping.{first_plain, stuck}
 use Rattle.format_csv_records.specs.Dialects.{IsPlain}
-use Rattle.format_csv_records.specs.Extents.{IsFieldPrefix}
 use Rattle.format_csv_records.specs.declared.extent.RecordPlace.TheVariants as place
 use Rattle.format_csv_records.proofs.turns.turn_plain.Goals as goal
 

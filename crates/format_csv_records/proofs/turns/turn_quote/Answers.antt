@@ -1,8 +1,7 @@
 use Rattle.std.proofs.Common.{arith}
 use Rattle.format_csv_records.proofs.Stepping.{goes_step, grows_two, quote_text}
 use Rattle.format_csv_records.proofs.Stepping.{turn_text}
-use Rattle.format_csv_records.proofs.Stuck.{first_quote, stuck}
-use Rattle.format_csv_records.specs.Extents.{IsFieldPrefix}
+use Rattle.format_csv_records.proofs.Stepping.{first_quote, stuck}
 use Rattle.format_csv_records.specs.declared.extent.RecordPlace.TheVariants as place
 use Rattle.format_csv_records.proofs.turns.turn_quote.Goals as goal
 

@@ -1,4 +1,4 @@
-use Rattle.std.proofs.Common.{[], ◌∷◌, arith, refl}
+use Rattle.std.proofs.Common.{[], arith, refl}
 use Rattle.std.proofs.lemmas.List.Elements.{All-cons, All-nil}
 use Rattle.format_csv_records.proofs.Stepping.{goes_step, grows_quote, grows_quoted}
 use Rattle.format_csv_records.specs.Parts.{IsOther}

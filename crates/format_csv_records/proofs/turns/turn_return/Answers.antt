@@ -1,6 +1,6 @@
-use Rattle.std.proofs.Common.{◌∷◌, arith}
+use Rattle.std.proofs.Common.{arith}
 use Rattle.format_csv_records.proofs.Stepping.{goes_step, grows_both}
-use Rattle.format_csv_records.proofs.Stuck.{never_return}
+use Rattle.format_csv_records.proofs.Stepping.{never_return}
 use Rattle.format_csv_records.specs.declared.extent.RecordPlace.TheVariants as place
 use Rattle.format_csv_records.proofs.turns.turn_return.Goals as goal
 

@@ -1,6 +1,6 @@
 use Rattle.std.proofs.Common.{[], ◌∷◌, ◌++◌, refl, ap, inr, ◌∙◌, append_assoc}
 use Rattle.std.proofs.lemmas.Result.{on_ok_weaker}
-use Rattle.format_csv_records.specs.Dialects.{IsPlain, doubled}
+use Rattle.format_csv_records.specs.Dialects.{doubled}
 use Rattle.format_csv_records.proofs.Writing.{not_all}
 use Rattle.format_csv_records.proofs.write.write_field.Goals as goal
 

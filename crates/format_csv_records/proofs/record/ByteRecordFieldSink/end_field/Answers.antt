@@ -3,8 +3,8 @@ use Rattle.std.proofs.lemmas.List.{drop_all}
 use Rattle.std.proofs.lemmas.Bool.{cases_Bool}
 use Rattle.std.specs.Result.{is_ok}
 use Rattle.format_csv_records.proofs.Cuts.{cut_end, last_append, rises_end}
-use Rattle.format_csv_records.proofs.record.ByteRecord.end_field.Goals as goal
-use Rattle.format_csv_records.proofs.record.ByteRecord.end_field.Goals.{in-Ok, in-Err}
+use Rattle.format_csv_records.proofs.record.ByteRecordFieldSink.end_field.Goals as goal
+use Rattle.format_csv_records.proofs.record.ByteRecordFieldSink.end_field.Goals.{in-Ok, in-Err}
 
 pub returns-clause-fields : goal.returns-clause-fields
 returns-clause-fields g c = elim c.match-push.branch [

@@ -1,9 +1,9 @@
-use Rattle.std.proofs.Common.{length, arith, inl, inr, refl}
+use Rattle.std.proofs.Common.{arith, inl, inr, refl}
 use Rattle.std.proofs.Common.{length-append}
 use Rattle.std.proofs.lemmas.Bool.{cases_Bool}
 use Rattle.std.specs.Result.{is_ok}
 use Rattle.format_csv_records.proofs.Cuts.{begun_more, cut_more, rises_last, rises_more}
-use Rattle.format_csv_records.proofs.record.ByteRecord.add.Goals as goal
+use Rattle.format_csv_records.proofs.record.ByteRecordFieldSink.add.Goals as goal
 
 pub returns-clause-fields : goal.returns-clause-fields
 returns-clause-fields g c = elim (cases_Bool (is_ok c.extend_from_slice.result)) [
