@@ -1,7 +1,7 @@
 """The offsets of errors in TOML, by a parser of `toml_descent.py` and by Python's `tomllib`.
 
-`format_toml_document` gives the first offset at which a text is no prefix of a document. The parser
-must give the same one. It also completes the text before it, and `tomllib` must accept the result.
+`format_toml_document` gives the first offset at which no document continues. The parser must give
+the same one. It also completes the text before it, and `tomllib` must accept the result.
 Of one text in 50, the part up to the character at the offset is completed in many ways, none of
 which `tomllib` may accept. `tomllib` stops at a key that is defined twice, so it does not judge
 texts with one.
@@ -24,7 +24,7 @@ WHOLE = re.compile(
 EARLIER = re.compile("Cannot|Duplicate|Invalid date")
 # Dates and times that `tomllib` does not support.
 MORE = re.compile(":[0-9]{2}:60|(?<![0-9])0000-")
-# One text in so many is completed in many ways.
+# The number of texts of which one is completed in many ways.
 SEARCHED = 50
 
 
