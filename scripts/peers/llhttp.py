@@ -4,8 +4,8 @@ from Debian's package in its default configuration.
 If only one accepts a text, there must be a reason: a row of the table of differences in
 `docs/READERS.md` that applies to the text. If both accept it, the method, the target, the status,
 the fields and the length of the body must be the same, except for a row; httparse does not report
-the length. The texts of the table's rows come first, then all that differ from one of a few heads in
-one byte.
+the length. The texts of the table's rows come first, then those that differ from one of a few heads
+in one byte.
 """
 import atexit
 import functools
