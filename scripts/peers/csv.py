@@ -4,9 +4,14 @@ endings.
 Python's strict reader treats both carriage returns and line feeds as line endings, and accepts a
 quote in the middle of a field. So texts are split into lines here, and texts with such a quote, or
 with another line ending outside of quotes, are left out.
+
+Tables that Python writes are read back too. Before Python 3.13 it quotes a carriage return only if
+lines end with CRLF. In the other dialects a field with one is then rejected, or loses it before the
+line feed that ends the line.
 """
 import csv
 import io
+import itertools
 
 from peers.harness import Comparison, each, often_changed, some
 
@@ -93,8 +98,7 @@ def told(row):
     found = records(row)
     if found is None:
         return "none"
-    shown = ("".join(str(list(it.encode("latin-1"))) for it in record) for record in found)
-    return "some" + "".join(f" [{fields}]" for fields in shown)
+    return shown(found)
 
 
 def told_and_written(row):
@@ -112,8 +116,41 @@ def told_and_written(row):
     return f"{said} {list(again.encode('latin-1'))}"
 
 
+def written(rng, count):
+    """Returns tables of each dialect, as in `texts`, with the texts that Python writes for them."""
+    for which, delimiter, quote in itertools.product(range(3), DELIMITERS, QUOTES):
+        parts = [*"ab \t\0\x7f\xe9\r\n", delimiter, quote, "\r\n"]
+        form = {"delimiter": delimiter, "quotechar": quote}
+        for _ in range(count):
+            sizes = rng.choices((1, 1, 2, 3), k=rng.randrange(5))
+            table = [[some(rng, parts, (0, 1, 1, 2, 5)) for _ in range(it)] for it in sizes]
+            text = io.StringIO(newline="")
+            csv.writer(text, lineterminator=rng.choice(ENDS[which]), **form).writerows(table)
+            yield which, delimiter, quote, text.getvalue(), table
+
+
+def shown(table):
+    """Returns a table as the program prints it."""
+    records = ("".join(str(list(it.encode("latin-1"))) for it in record) for record in table)
+    return "some" + "".join(f" [{fields}]" for fields in records)
+
+
+def is_back(row, ours, theirs):
+    """Returns whether a table is read back, or the reason why not."""
+    _, delimiter, quote, _, table = row
+    found = ours.rpartition(" [")[0]
+    if found == theirs:
+        return True
+    is_bare = lambda it: "\r" in it and not {delimiter, quote, "\n"} & {*it}
+    if ours == "none":
+        return any(is_bare(it) for record in table for it in record) and \
+            "a carriage return without quotes"
+    cut = [[*rest, last.removesuffix("\r") if is_bare(last) else last] for *rest, last in table]
+    return found == shown(cut) and "a carriage return without quotes before the line feed"
+
+
 def given(row):
-    which, delimiter, quote, text = row
+    which, delimiter, quote, text = row[:4]
     return (chr(which) + delimiter + quote + text).encode("latin-1")
 
 
@@ -125,5 +162,9 @@ COMPARISONS = [
     Comparison(
         "csv/dialects", "Python's csv, and its writer", "format_csv_records", "csv_dialects",
         in_dialects, given, each(told_and_written), seed=4180, count=3000,
+    ),
+    Comparison(
+        "csv/written", "tables that Python writes", "format_csv_records", "csv_dialects",
+        written, given, each(lambda row: shown(row[4])), is_back, seed=4180, count=1000,
     ),
 ]

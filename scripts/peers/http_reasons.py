@@ -50,6 +50,14 @@ ROWS = {
         RESPONSE, "HTTP/1.1 200 OK\r\nTransfer-Encoding: chunked, gzip\r\n\r\n", "nyy"),
     "a tab after Content-Length": (
         REQUEST, "POST / HTTP/1.1\r\nContent-Length: 1\t\r\n\r\n", "yyn"),
+    "a tab after chunked": (
+        REQUEST, "POST / HTTP/1.1\r\nTransfer-Encoding: chunked\t\r\n\r\n", "yyn"),
+    "a comma after chunked": (
+        REQUEST, "POST / HTTP/1.1\r\nTransfer-Encoding: chunked,\r\n\r\n", "yyn"),
+    "a tab after chunked, in a response": (
+        RESPONSE, "HTTP/1.1 200 OK\r\nTransfer-Encoding: chunked\t\r\n\r\n", "yyy"),
+    "a comma after chunked, in a response": (
+        RESPONSE, "HTTP/1.1 200 OK\r\nTransfer-Encoding: chunked,\r\n\r\n", "yyy"),
     "Transfer-Encoding without a coding": (
         REQUEST, "GET / HTTP/1.1\r\nTransfer-Encoding:\r\n\r\n", "nyy"),
     "a space before the method": (REQUEST, " GET / HTTP/1.1\r\n\r\n", "nyn"),
@@ -80,6 +88,12 @@ def follows_chunked(text):
     codings = [it.strip(b" \t") for it in b",".join(codings_of(text)).split(b",")]
     before = [it for it in codings if it][:-1]
     return any(re.match(rb"(?i)chunked([; \t]|$)", it) for it in before)
+
+
+def ends_oddly(text):
+    """Returns whether a tab or a comma follows the last coding, which is `chunked`."""
+    values = re.findall(rb"(?im)^transfer-encoding:([^\r\n]*)", text)
+    return bool(re.search(rb"(?i)chunked[ \t]*[\t,][ \t,]*$", b",".join(values)))
 
 
 def words(text):
@@ -117,8 +131,9 @@ COUNTED = {
     "Content-Length as a list": lambda text: any(b"," in it for it in lengths_of(text)),
     "a tab after Content-Length": lambda text: bool(TAB_BEHIND.search(text)),
 }
+AFTER_CHUNKED = {"a tab or a comma after chunked": ends_oddly}
 LLHTTP_REFUSES = {
-    REQUEST: COUNTED | {
+    REQUEST: COUNTED | AFTER_CHUNKED | {
         "the method": lambda text: words(text)[0].decode("latin-1") not in methods(),
         "the target": lambda text: not re.match(rb"/|\*|[A-Za-z]+://", words(text)[1]),
         "the version": lambda text: version_of(text) not in (b"0.9", b"1.0", b"1.1", b"2.0"),
@@ -158,7 +173,7 @@ ENDS = EMPTY_LINES | {
 HTTPARSE_TAKES = {
     REQUEST: ENDS | {
         "the target": lambda text: any(byte >= 128 for byte in words(text)[1]),
-        "the method": lambda text: bool(re.search(rb"[,:;/]", words(text)[0])),
+        "the method": lambda text: bool(re.search(rb'["(),/:;<=>?@{}\[\\\]]', words(text)[0])),
         "a space before the method": lambda text: text.lstrip(b"\r\n")[:1] == b" ",
     },
     RESPONSE: ENDS,

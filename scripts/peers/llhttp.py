@@ -3,8 +3,9 @@ from Debian's package in its default configuration.
 
 If only one accepts a text, there must be a reason: a row of the table of differences in
 `docs/READERS.md` that applies to the text. If both accept it, the method, the target, the status,
-the fields and the length of the body must be the same; httparse does not report the length. The
-texts of the table's rows come first.
+the fields and the length of the body must be the same, except for a row; httparse does not report
+the length. The texts of the table's rows come first, then those that differ from one of a few heads
+in one byte.
 """
 import atexit
 import functools
@@ -18,6 +19,7 @@ import tempfile
 
 from peers.harness import PROGRAMS, Comparison, NoPeer, install
 from peers.http_reasons import (
+    AFTER_CHUNKED,
     HTTPARSE_REFUSES,
     HTTPARSE_TAKES,
     LLHTTP_REFUSES,
@@ -37,6 +39,27 @@ SOURCE = '[source.crates-io]\nreplace-with = "debian"\n[source.debian]\n' \
 HEAD = re.compile(rb"(?:\r?\n)*.*?\r\n\r\n", re.DOTALL)
 MORE = "0\r\n\r\n" + "x" * 95
 MADE = {REQUEST: known_request, RESPONSE: response}
+HEADS = {
+    REQUEST: (
+        b"GET / HTTP/1.1\r\nHost: a\r\n\r\n",
+        b"POST /a HTTP/1.1\r\nContent-Length: 1\r\n\r\n",
+        b"POST / HTTP/1.1\r\nTransfer-Encoding: chunked\r\n\r\n",
+    ),
+    RESPONSE: (
+        b"HTTP/1.1 200 OK\r\nTransfer-Encoding: chunked\r\n\r\n",
+        b"HTTP/1.1 200 \r\nContent-Length: 0\r\n\r\n",
+        b"HTTP/1.1 404\r\nA: b\r\n\r\n",
+    ),
+}
+
+
+def near(text):
+    """Yields the bytes that differ in one byte, which is inserted, replaced or removed."""
+    for at in range(len(text) + 1):
+        for byte in range(256):
+            yield text[:at] + bytes([byte]) + text[at:]
+            yield text[:at] + bytes([byte]) + text[at + 1 :]
+        yield text[:at] + text[at + 1 :]
 
 
 def rows_of(kind):
@@ -47,6 +70,8 @@ def rows_of(kind):
         for of, text, cells in ROWS.values():
             if of == kind:
                 yield text.encode("latin-1"), cells
+        for text in dict.fromkeys(it for head in HEADS[kind] for it in near(head)):
+            yield text, None
         for text in texts(MADE[kind])(rng, count):
             yield text, None
 
@@ -165,10 +190,10 @@ def judged(kind, column, is_taken, takes, alike, refuses, takes_more):
         here, there = is_taken(answer), takes(said)
         if cells and cells[0] + cells[column] != "ny"[is_framed(answer)] + "ny"[there]:
             return False
-        if here and there:
-            return alike(kind, answer, said)
-        told = (refuses if here else takes_more)[kind] if here != there else {}
-        return here == there or next((it for it, holds in told.items() if holds(text)), False)
+        if here == there and (not here or alike(kind, answer, said)):
+            return True
+        told = AFTER_CHUNKED if there and here else (refuses if here else takes_more)[kind]
+        return next((it for it, holds in told.items() if holds(text)), False)
 
     return judge
 

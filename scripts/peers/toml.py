@@ -18,8 +18,6 @@ from peers.toml_texts import texts
 LEFT_OUT = re.compile(
     "[0-9](_?[0-9]){18}|0x([0-9a-fA-F]_?){16}|0o([0-7]_?){21}|0b([01]_?){64}"
 )
-# Dates and times that tomllib does not support.
-MORE = re.compile(":[0-9]{2}:60|(?<![0-9])0000-")
 
 
 def written(it):
@@ -152,7 +150,7 @@ def judge(row, answer, theirs):
     if isinstance(theirs, Exception):
         if is_read and re.match("Cannot|Duplicate", str(theirs)):
             return "a duplicate key or table"
-        if is_read and MORE.search(text):
+        if is_read and toml_errors.MORE.search(text):
             return "a second of 60, or a year of 0"
         return not is_read
     if not is_read:
@@ -188,7 +186,7 @@ COMPARISONS = [
     Comparison("toml/texts", rows=texts, **WITH),
     Comparison("toml/files", rows=files, **WITH),
     Comparison(
-        "toml/errors", "Python's tomllib, by completions", "format_toml_document", "toml_errors",
+        "toml/errors", "a parser, and Python's tomllib", "format_toml_document", "toml_errors",
         toml_errors.rows, WITH["given"], each(lambda row: toml_errors.is_read(row[1])),
         toml_errors.judge, toml_errors.kind, 1979,
     ),

@@ -1,15 +1,17 @@
-"""The offsets of errors in TOML, by Python's `tomllib`.
+"""The offsets of errors in TOML, by a parser of `toml_descent.py` and by Python's `tomllib`.
 
-`format_toml_document` gives the first offset at which a text is not a prefix of a document. The text
-before it is completed in many ways until `tomllib` accepts it. With the character at the offset,
-none of these may be accepted. Texts that define a key twice are not compared, as `tomllib` stops at
-the key.
+`format_toml_document` gives the first offset at which no document continues. The parser must give
+the same one. It also completes the text before it, and `tomllib` must accept the result.
+Of one text in 50, the part up to the character at the offset is completed in many ways, none of
+which `tomllib` may accept. `tomllib` stops at a key that is defined twice, so it does not judge
+texts with one.
 """
-import itertools
 import re
 import tomllib
+import zlib
 
 from peers.harness import often_changed
+from peers.toml_descent import completed, place
 from peers.toml_texts import PARTS, texts
 
 # A complete string, or a comment.
@@ -20,6 +22,10 @@ WHOLE = re.compile(
 )
 # Errors that depend on earlier lines, and dates that `tomllib` does not support.
 EARLIER = re.compile("Cannot|Duplicate|Invalid date")
+# Dates and times that `tomllib` does not support.
+MORE = re.compile(":[0-9]{2}:60|(?<![0-9])0000-")
+# The number of texts of which one is completed in many ways.
+SEARCHED = 50
 
 
 def own_ends():
@@ -41,7 +47,6 @@ def own_ends():
 
 
 OWN = list(dict.fromkeys(own_ends()))
-CLOSING = ["".join(it) for size in range(4) for it in itertools.product("]}", repeat=size)]
 
 
 def closing(text):
@@ -75,11 +80,11 @@ def is_read(text):
         return None if EARLIER.match(str(error)) else False
 
 
-def completion(text, others):
+def completion(text):
     """Returns the end of a document that begins with a text, or `None`. Its brackets are those that
-    are open, or these others."""
+    are open, without the first, or one."""
     first = closing(text)
-    for end in dict.fromkeys([first, first[1:], *others]):
+    for end in dict.fromkeys((first, first[1:], "", "]", "}")):
         for own in OWN:
             for value in ("", "=0"):
                 if is_read(text + own + value + end):
@@ -87,24 +92,28 @@ def completion(text, others):
     return None
 
 
+def is_searched(text):
+    """Returns whether a text is completed in many ways."""
+    return zlib.crc32(text.encode()) % SEARCHED == 0
+
+
 def judge(row, answer, theirs):
     """Returns whether the offset is the first at which no document continues."""
-    level, text = row
-    if theirs is None:
-        return None
-    if answer == "none" or theirs:
-        return theirs == (answer == "none")
-    if answer == "earlier":
+    _, text = row
+    at = place(text)
+    front = text[:at]
+    offset, is_document = answer.split(" ")[0], at is None
+    if is_document and offset not in ("none", "earlier"):
         return False
-    offset, expected = answer.split(" ", 1)
-    front = text.encode()[: int(offset)].decode()
-    if expected.startswith("no "):
-        return "too deep, or a byte order mark"
-    if completion(front, CLOSING) is None:
-        return False
-    if len(front) == len(text):
-        return True
-    return completion(text[: len(front) + 1], ("", "]", "}")) is None
+    if not is_document and offset != str(len(front.encode())):
+        is_next = offset == str(len(front.encode()) + 1)
+        return "an underscore that no digit may follow" if is_next and text[at] == "_" else False
+    whole = completed(front)
+    if is_read(whole) is False:
+        return "a second of 60, or a year of 0" if MORE.search(whole) else False
+    if is_document or at == len(text):
+        return is_document or not theirs
+    return not theirs and (not is_searched(text) or completion(text[: at + 1]) is None)
 
 
 def rows(rng, count):
@@ -114,4 +123,4 @@ def rows(rng, count):
 
 
 def kind(row, answer, theirs):
-    return "accepted" if answer == "none" else "rejected"
+    return "accepted" if answer in ("none", "earlier") else "rejected"

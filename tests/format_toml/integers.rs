@@ -32,46 +32,16 @@ const VALID: &[(&str, &str, &str)] = &[
     ),
 ];
 
-/// A case, and its document, which is none.
+/// A case, and its document, which is invalid. `tests/format_toml_document` has more of toml-test.
 const INVALID: &[(&str, &str)] = &[
-    ("capital-bin", "capital-bin = 0B0"),
-    ("capital-hex", "capital-hex = 0X1"),
-    ("capital-oct", "capital-oct = 0O0"),
-    ("double-sign-nex", "double-sign-nex = --99"),
-    ("double-sign-plus", "double-sign-plus = ++99"),
-    ("double-us", "double-us = 1__23"),
-    ("incomplete-bin", "incomplete-bin = 0b"),
-    ("incomplete-hex", "incomplete-hex = 0x"),
-    ("incomplete-oct", "incomplete-oct = 0o"),
-    ("invalid-bin-1", "invalid-bin = 0b0012"),
     ("invalid-bin-2", "a = 0b__1"),
     ("invalid-hex-1", "invalid-hex-1 = 0xaafz"),
     ("invalid-hex-2", "invalid-hex-2 = 0xgabba00f1"),
-    ("invalid-oct-1", "invalid-oct = 0o778"),
-    ("leading-us", "leading-us = _123"),
-    ("leading-us-bin", "leading-us-bin = _0b1"),
-    ("leading-us-hex", "leading-us-hex = _0x1"),
-    ("leading-us-oct", "leading-us-oct = _0o1"),
-    ("leading-zero-1", "leading-zero-1 = 01"),
-    ("leading-zero-2", "leading-zero-2 = 00"),
-    ("leading-zero-3", "leading-zero-3 = 0_0"),
     ("leading-zero-sign-1", "leading-zero-sign-1 = -01"),
     ("leading-zero-sign-2", "leading-zero-sign-2 = +01"),
     ("leading-zero-sign-3", "leading-zero-sign-3 = +0_1"),
-    ("negative-bin", "negative-bin = -0b11010110"),
-    ("negative-hex", "negative-hex = -0xff"),
     ("negative-oct", "negative-oct = -0o755"),
-    ("positive-bin", "positive-bin = +0b11010110"),
-    ("positive-hex", "positive-hex = +0xff"),
     ("positive-oct", "positive-oct = +0o755"),
-    ("text-after-integer", "answer = 42 the ultimate answer?"),
-    ("trailing-us", "trailing-us = 123_"),
-    ("trailing-us-bin", "trailing-us-bin = 0b1_"),
-    ("trailing-us-hex", "trailing-us-hex = 0x1_"),
-    ("trailing-us-oct", "trailing-us-oct = 0o1_"),
-    ("us-after-bin", "us-after-bin = 0b_1"),
-    ("us-after-hex", "us-after-hex = 0x_1"),
-    ("us-after-oct", "us-after-oct = 0o_1"),
 ];
 
 fn same(rt: &impl Abort, case: &str, got: &str, want: &str) {
