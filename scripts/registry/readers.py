@@ -116,6 +116,6 @@ def write_readers():
         links = ", ".join(f"[{it}](crates/{it})" for it in crates)
         is_exported = "yes" if {*crates} & of_library else "no"
         brief.append([what, links, is_exported, proved, page(crates[0])])
-    heads = ["Format", "Crate", "By grammars", "Source", "Specs", "Answers", "Proved"]
+    heads = ["Format", "Crate", "By grammars", "Source", "Specs", "Proofs", "Proved"]
     put(COUNTED, heads, counted)
     put(README, ["Format", "Crate", "From Rust and C", "Proved", "Page"], brief)
