@@ -1115,11 +1115,11 @@ extern "C" {
 
     /// Writes a record of comma-separated values (RFC 4180) of these fields, in any dialect.
     ///
-    /// A field is written in quotes, with each quote in it doubled, if it contains a quote, a delimiter,
-    /// a carriage return or a line feed, or if it is empty and the only field. Any other field is
-    /// written unchanged. The record ends with a line ending: a carriage return and a line feed if the
-    /// dialect accepts either. `exported_csv_record` reads the same fields from the record, regardless
-    /// of what follows.
+    /// A field is written in quotes, with each quote in it doubled, if it contains a quote, a
+    /// delimiter, a carriage return or a line feed, or if it is empty and the only field. Any other
+    /// field is written unchanged. The record ends with a line ending: a carriage return and a line
+    /// feed if the dialect accepts either. `exported_csv_record` reads the same fields from the record,
+    /// regardless of what follows.
     ///
     /// `DONE`: the record is written at the start of `buffer`, and its length into `out`. The other
     /// bytes of the buffer are unchanged.

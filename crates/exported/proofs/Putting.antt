@@ -1,7 +1,9 @@
 -- Lemmas about output into a buffer, part by part.
-use Rattle.std.specs.Prelude.{◌≡◌, ◌≤◌, ◌<◌, ◌+◌, ◌-◌, ℕ, List, [], ◌∷◌, ◌++◌, drop, length, take}
+use Rattle.std.specs.Prelude.{◌≡◌, ◌≤◌, ◌<◌, ◌+◌, ◌-◌, ℕ, List, [], ◌∷◌, ◌++◌, drop, length, min}
+use Rattle.std.specs.Prelude.{take}
 use Rattle.std.proofs.Common.{refl, sym, ap, ◌∙◌, arith, append_assoc, length-append}
-use Rattle.std.proofs.lemmas.List.{append-nil, drop-drop, take-append-drop}
+use Rattle.std.proofs.lemmas.List.{append-nil, drop-drop, drop_at, length-drop, length-take-le}
+use Rattle.std.proofs.lemmas.List.{take-append-drop, take_at}
 use Rattle.exported.specs.Output.{Fills, IsTooLong, Puts, most}
 
 pub puts_none : (at : ℕ) (old : List ℕ) → at ≤ most → Puts [] at old at old
@@ -35,6 +37,41 @@ puts_more xs ys {at} {end} {last} {old} {now} {new} it more =
       behind = λ room.
           more.behind (omega (arith, room, it.same))
           ∙ behind_more end last now old up (it.behind (omega (arith, room, up)));
+    }
+
+-- a part of the buffer is replaced
+pub put_there : (bytes put old : List ℕ) (at end : ℕ) → put ≡ bytes
+    → end ≡ min (at + length bytes) most → end ≤ length old → length old < most
+    → Puts bytes at old end (take at old ++ (put ++ drop (end - at) (drop at old)))
+put_there bytes put old at end is sum room small =
+    let front = take at old ++ put in
+    let rest = drop (end - at) (drop at old) in
+    let whole : end ≡ at + length bytes = omega (arith, sum, room, small) in
+    let back : at + (end - at) ≡ end = omega (arith, whole) in
+    let long : length front ≡ end = omega (
+      arith,
+      length-append (take at old) put,
+      length-take-le at old (omega (arith, whole, room)),
+      ap (λ l. length l) is,
+      whole,
+    ) in
+    let left : rest ≡ drop end old = drop-drop (end - at) at old ∙ ap (λ n. drop n old) back in
+    let split : take at old ++ (put ++ rest) ≡ front ++ rest =
+    sym (append_assoc (take at old) put rest) in
+    record {
+      is_end = sum;
+      same = omega (
+        arith,
+        ap (λ l. length l) split,
+        length-append front rest,
+        long,
+        ap (λ l. length l) left,
+        length-drop end old,
+        room,
+      );
+      there = λ _. ap (λ l. take end l) split ∙ take_at front rest end long
+          ∙ ap (λ l. take at old ++ l) is;
+      behind = λ _. ap (λ l. drop end l) split ∙ drop_at front rest end long ∙ left;
     }
 
 -- ---- a whole buffer

@@ -75,4 +75,4 @@ command_put parts n {at} {end} {old} {new} past it =
     Puts (head parts ++ bulks_of (slices_of l)) at old end new in
     let Q : ℕ → Type 0 = λ k.
     Puts (marked 42 (decimal k) ++ bulks_of (slices_of parts)) at old end new in
-    subst Q (sym (length-map (λ it. it.bytes) parts)) (subst P (take_all n parts past) it)
+    subst Q (sym (length-map parts (λ it. it.bytes))) (subst P (take_all n parts past) it)
