@@ -23,7 +23,8 @@ pub put_twice : (quote byte : ℕ) {at end last : ℕ} {old now new : List ℕ} 
     → Puts (doubled quote (byte ∷ [])) at old last new
 put_twice quote byte {at} {end} {last} {old} {now} {new} is one two =
     let P : List ℕ → Type 0 = λ l. Puts l at old last new in
-    subst P (sym (doubled_quote quote byte [] is ∙ ap (λ l. quote ∷ quote ∷ l) (doubled_none quote)))
+    subst P (sym (doubled_quote quote byte [] is
+    ∙ ap (λ l. quote ∷ quote ∷ l) (doubled_none quote)))
     (puts_more (quote ∷ []) (quote ∷ []) one two)
 
 pub put_once : (quote byte : ℕ) {at end : ℕ} {old new : List ℕ} → (byte ≡ quote → ⊥)
@@ -47,7 +48,8 @@ quoted_more quote field n d {at} {end} {last} {old} {now} {new} less it more =
     let P : List ℕ → Type 0 = λ l. Puts (quote ∷ l) at old last new in
     subst P (sym (ap (λ l. doubled quote l) (take_more field n d less)
     ∙ doubled_append quote (take n field) (get_or field n d ∷ [])))
-    (puts_more (quote ∷ doubled quote (take n field)) (doubled quote (get_or field n d ∷ [])) it more)
+    (puts_more (quote ∷ doubled quote (take n field)) (doubled quote (get_or field n d ∷ [])) it
+    more)
 
 pub quoted_closed : (quote : ℕ) (field : List ℕ) (n : ℕ) {at end last : ℕ}
     {old now new : List ℕ} → length field ≤ n
@@ -70,7 +72,8 @@ pub contents_more : (fields : List Bytes) (i : ℕ) (d : Bytes) → i < length f
     → contents (take (i + 1) fields)
     ≡ contents (take i fields) ++ (get_or fields i d).bytes.now ∷ []
 contents_more fields i d less =
-    ap (λ l. contents l) (take_more fields i d less) ∙ contents_push (take i fields) (get_or fields i d)
+    ap (λ l. contents l) (take_more fields i d less)
+    ∙ contents_push (take i fields) (get_or fields i d)
 
 pub others_none : (d : Dialect) (fields : List Bytes) (old : List ℕ)
     → (text : List ℕ) × Wrote d (contents (take 0 fields)) text × Puts text 0 old 0 old
@@ -87,7 +90,8 @@ others_more d fields n x less text wrote it more is puts one =
     let P : List (List ℕ) → Type 0 = λ l. Wrote d l (text ++ (more ++ (d.delimiter ∷ []))) in (
       text ++ (more ++ (d.delimiter ∷ [])),
       subst P (sym (contents_more fields n x less))
-          (wrote_more d (contents (take n fields)) text (get_or fields n x).bytes.now more wrote is),
+          (wrote_more d (contents (take n fields)) text (get_or fields n x).bytes.now more wrote
+          is),
       puts_more text (more ++ (d.delimiter ∷ [])) it
           (puts_more more (d.delimiter ∷ []) puts one),
     )

@@ -1,10 +1,10 @@
 -- Lemmas about output into a buffer, part by part.
-use Rattle.std.specs.Prelude.{◌≡◌, ◌≤◌, ◌<◌, ◌+◌, ◌-◌, ℕ, List, [], ◌∷◌, ◌++◌, drop, length, min}
-use Rattle.std.specs.Prelude.{take}
+use Rattle.std.specs.Prelude.{◌≡◌, ◌≤◌, ◌<◌, ◌+◌, ◌-◌, ℕ, List, [], ◌∷◌, ◌++◌, drop, length}
+use Rattle.std.specs.Prelude.{min, take}
 use Rattle.std.proofs.Common.{refl, sym, ap, ◌∙◌, arith, append_assoc, length-append}
 use Rattle.std.proofs.lemmas.List.{append-nil, drop-drop, drop_at, length-drop, length-take-le}
 use Rattle.std.proofs.lemmas.List.{take-append-drop, take_at}
-use Rattle.exported.specs.Output.{Fills, IsTooLong, Puts, most}
+use Rattle.exported.specs.Output.{Fills, Puts, most}
 
 pub puts_none : (at : ℕ) (old : List ℕ) → at ≤ most → Puts [] at old at old
 puts_none at old small = record {
@@ -92,10 +92,3 @@ fills text {old} {new} {size} {end} same it room small =
           (it.there within ∙ ap (λ l. l ++ text) (take_none old))
           ∙ ap (λ l. text ++ l) (it.behind within ∙ ap (λ n. drop n old) (sym same));
     }
-
-pub too_long : (text : List ℕ) {from old new : List ℕ} {size : ℕ} → Puts text 0 from size new
-    → length old < size → IsTooLong text old size
-too_long text it less = record {
-  is_size = omega (arith, it.is_end);
-  small = omega (arith, it.is_end, less);
-}

@@ -12,8 +12,8 @@ slices_of slices = map (λ it. it.bytes) slices
 abbrev pub most : ℕ
 most = 2 ^ 64 - 1
 
--- `Puts bytes at old end new`: `bytes` is written at offset `at` of a buffer, if it fits, and `end` is
--- the offset after it. The bytes before and after it are unchanged.
+-- `Puts bytes at old end new`: `bytes` is written at offset `at` of a buffer, if it fits, and `end`
+-- is the offset after it. The bytes before and after it are unchanged.
 pub record Puts (bytes : List ℕ) (at : ℕ) (old : List ℕ) (end : ℕ) (new : List ℕ) : Type 0 where
   pub is_end : end ≡ min (at + length bytes) most
   pub same : length new ≡ length old
