@@ -105,13 +105,7 @@ fn is_empty_record(others: &[Bytes], field: &[u8]) -> bool
 }
 
 /// Writes the last field, after which no delimiter follows.
-fn put_last(
-    dialect: Dialect,
-    others: &[Bytes],
-    field: &[u8],
-    at: usize,
-    buffer: &mut [u8],
-) -> usize
+fn put_last(dialect: Dialect, others: &[Bytes], field: &[u8], at: usize, buffer: &mut [u8]) -> usize
     ensures { (text : List ℕ) × IsLast dialect (contents others.now) field.now text
         × Puts text at buffer.old result buffer.new }
 {

@@ -72,17 +72,14 @@ fn put_command(parts: &[Bytes], buffer: &mut [u8]) -> usize
 /// `buffer_length` bytes, and `out` for writes of one length. These two must not overlap each other
 /// or the others. The call needs 16 KiB of stack.
 #[unsafe(no_mangle)]
-pub extern "C" fn exported_resp_command(
-    parts: &[Bytes],
-    buffer: &mut [u8],
-    out: &mut usize,
-) -> u32
+pub extern "C" fn exported_resp_command(parts: &[Bytes], buffer: &mut [u8], out: &mut usize) -> u32
     ensures command { result ≡ done → Fills (command_of (slices_of parts.now)) buffer.old buffer.new
         out.new }
     ensures small { result ≡ buffer_too_small
         → IsTooLong (command_of (slices_of parts.now)) buffer.old out.new }
     ensures kept { (result ≡ done → ⊥) → buffer.new ≡ buffer.old }
     ensures refused { result ≡ invalid → (parts.now ≡ []) × (out.new ≡ 0) }
+    ensures some { (result ≡ invalid → ⊥) → parts.now ≡ [] → ⊥ }
     ensures codes { (result ≡ done) ⊎ ((result ≡ buffer_too_small) ⊎ (result ≡ invalid)) }
 {
     *out = 0;
