@@ -4,7 +4,9 @@ use pergidau::resp::{self, Reply};
 use pergidau::{Bytes, Error, RequiredSize, Span};
 
 /// Fields, a dialect, and the record.
-fn records() -> Vec<(Vec<&'static [u8]>, Dialect, &'static [u8])> {
+type Row = (Vec<&'static [u8]>, Dialect, &'static [u8]);
+
+fn records() -> Vec<Row> {
     let standard = Dialect::standard();
     let semicolons = standard.delimiter(b';').quote(b'\'').line_end(LineEnd::Either);
     let tabs = standard.delimiter(b'\t').line_end(LineEnd::Lf);
