@@ -72,7 +72,7 @@ FAULTS = [
         ("a null document is written", "enum pergidau_code pergidau_toml_document", "out == NULL", "0"),
         ("nodes are counted as bytes", "enum pergidau_code pergidau_toml_document", "sizeof(struct pergidau_toml_node)", "sizeof(uint8_t)"),
         ("one more node is written", "enum pergidau_code pergidau_toml_document", "nodes, nodes_length, out)", "nodes, nodes_length + 1, out)"),
-        ("null fields are read", "enum pergidau_code pergidau_csv_write", "fields == NULL &&", "0 &&"),
+        ("null fields of a written record are read", "enum pergidau_code pergidau_csv_write", "fields == NULL &&", "0 &&"),
         ("a null field is read", "enum pergidau_code pergidau_csv_write", "fields[at].bytes == NULL", "0"),
         ("any length of a field is accepted", "enum pergidau_code pergidau_csv_write", "fields[at].bytes_length > PTRDIFF_MAX", "0"),
         ("only the first field is checked", "enum pergidau_code pergidau_csv_write", "at < fields_length", "at < 1 && fields_length > 0"),
