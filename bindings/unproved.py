@@ -59,12 +59,14 @@ def modules():
             found.setdefault(name, module)
             found[module, name] = module
         found |= {word: module for word in text.replace("(", " ").split() if word.startswith("exported_")}
-        found |= {it.split()[2]: module for it in text.splitlines() if it.startswith("pub struct ")}
+        found |= {name: module for name in re.findall(r"^pub struct (\w+)", text, re.MULTILINE)}
     return found
 
 
 def nothing(name, structs, where, module):
     """Returns an expression of a type with all numbers 0, for use in this module."""
+    if name == "&[u8]":
+        return "&bytes"
     if name not in structs:
         return "false" if name == "bool" else "0"
     parts = [(it.name, nothing(it.parts[0], structs, where, module)) for it in structs[name].parts]

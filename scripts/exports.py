@@ -8,7 +8,7 @@ SOURCE = TOP / "crates/exported/src"
 EXPORT = re.compile(r'pub extern "C" fn exported_(\w+)\(\s*(.*?)\s*\)\s*->\s*u32\b', re.DOTALL)
 CONSTANT = re.compile(r"pub const (\w+): (u32|usize) = (\d+);")
 TAKEN = re.compile(r"pub use (\w+)::(\w+)::\{?([\w,\s]+)\}?;")
-STRUCT = re.compile(r"pub struct (\w+) \{\n(.*?)\n\}", re.DOTALL)
+STRUCT = re.compile(r"pub struct (\w+)(?:<'\w+>)? \{\n(.*?)\n\}", re.DOTALL)
 
 
 @dataclasses.dataclass
@@ -28,14 +28,14 @@ def pairs(text):
 
 
 def fields(text):
-    """Returns the fields of a struct with their documentation."""
+    """Returns the fields of a struct with their documentation. A slice has the type `&[u8]`."""
     words = []
     for line in text.splitlines():
         line = line.strip()
         if line.startswith("///"):
             words.append(line[3:].strip())
-        elif found := re.match(r"pub (\w+): (\w+),", line):
-            yield Item(found[1], words, [found[2]])
+        elif found := re.match(r"pub (\w+): (\w+|&'\w+ \[u8\]),", line):
+            yield Item(found[1], words, ["&[u8]" if found[2].startswith("&") else found[2]])
             words = []
 
 

@@ -99,6 +99,22 @@ def of_field(struct, field):
     return f"enum pergidau_{enum}" if enum else type_in_c(field.parts[0])
 
 
+def has_slice(struct):
+    """Returns whether a struct has a slice: in C a pointer and a length."""
+    return any(field.parts == ["&[u8]"] for field in struct.parts)
+
+
+def flat(struct):
+    """Returns the fields of a struct in C: the documentation, the type in C, the type in Rust, and the
+    name. A pointer comes with its star."""
+    for field in struct.parts:
+        if field.parts == ["&[u8]"]:
+            yield field.words, "const uint8_t *", "*const u8", field.name
+            yield ["How many bytes there are."], "size_t ", "usize", f"{field.name}_length"
+        else:
+            yield field.words, f"{of_field(struct, field)} ", field.parts[0], field.name
+
+
 def comment(words, codes, indent=""):
     """Returns a comment in C, with the C names of codes and functions."""
     text = "\n".join(words)
@@ -200,8 +216,8 @@ def header(codes, constants, structs, exports):
         "",
         "The requirements for callers are in the last paragraph of each function. They are not checked,",
         "with two exceptions: if a pointer to be read or written is null, the function returns `NULL`,",
-        "and if a length is larger than any object, `TOO_LONG`. Then nothing is read or written. A null",
-        "pointer to zero bytes or entries is allowed.",
+        "and if a length is larger than any object, `TOO_LONG`. Then nothing is written. A null pointer",
+        "to zero bytes or entries is allowed, except in an entry of an array of slices.",
         "",
         "Functions keep no state except in the caller's memory: calls may run in parallel. Memory",
         "that a function allocates with malloc is freed before it returns.",
@@ -228,9 +244,9 @@ def header(codes, constants, structs, exports):
         text += f"const char *pergidau_{name}_message(enum pergidau_{name} error);\n\n"
     for struct in structs:
         text += comment(struct.words, names) + f"struct {snake(struct.name)} {{\n"
-        for field in struct.parts:
-            text += comment(field.words, names, "    ")
-            text += f"    {of_field(struct, field)} {field.name};\n"
+        for words, spelled, _, name in flat(struct):
+            text += comment(words, names, "    ")
+            text += f"    {spelled}{name};\n"
         text += "};\n\n"
     for export in exports:
         text += comment(export.words, names)
@@ -238,10 +254,22 @@ def header(codes, constants, structs, exports):
     return text + "#ifdef __cplusplus\n}\n#endif\n\n#endif\n"
 
 
-def body(export):
+def checks_of(name, struct):
+    """Returns the checks of the slices in the entries of a slice. A null pointer in an entry is
+    rejected also if it is to zero bytes, since the entries are the caller's."""
+    text = f"    for (size_t at = 0; at < {name}_length; at++) {{\n"
+    for field in struct.parts:
+        length, pointer = f"{name}[at].{field.name}_length", f"{name}[at].{field.name}"
+        for test, code in ((f"{length} > PTRDIFF_MAX", "PERGIDAU_TOO_LONG"), (f"{pointer} == NULL", "PERGIDAU_NULL")):
+            text += f"        if ({test}) {{\n            return {code};\n        }}\n"
+    return text + "    }\n"
+
+
+def body(export, structs):
     """Returns the code before the call of an export: the checks, and the replacements of null
     pointers."""
     refused, nothing, passed = [], [], []
+    entries = ""
     for name, written in export.parts:
         kind, inside = kind_of(written)
         passed.append(name)
@@ -250,6 +278,7 @@ def body(export):
             size = f"sizeof({type_in_c(inside)})"
             refused.append((f"{name}_length > PTRDIFF_MAX / {size}", "PERGIDAU_TOO_LONG"))
             refused.append((f"{name} == NULL && {name}_length > 0", "PERGIDAU_NULL"))
+            entries += "".join(checks_of(name, it) for it in structs if it.name == inside and has_slice(it))
             constant = "const " if kind == "read" else ""
             nothing.append(f"    {constant}{type_in_c(inside)} no_{name} = {{0}};\n")
             nothing.append(f"    if ({name} == NULL) {{\n        {name} = &no_{name};\n    }}\n")
@@ -258,7 +287,7 @@ def body(export):
     text = ""
     for test, code in refused:
         text += f"    if ({test}) {{\n        return {code};\n    }}\n"
-    return text, nothing, ", ".join(passed)
+    return text + entries, nothing, ", ".join(passed)
 
 
 def messages(name, parameter, items_of):
@@ -295,7 +324,7 @@ def glue(codes, constants, structs, exports):
         text += signature("exported", "uint32_t", export) + ";\n"
     text += answers(codes, constants, linked(codes, constants, structs, exports))
     for export in exports:
-        tests, nothing, passed = body(export)
+        tests, nothing, passed = body(export, structs)
         text += "\n" + signature("pergidau", "enum pergidau_code", export) + "\n{\n"
         text += "".join(it for it in nothing if it.endswith(";\n"))
         text += tests + "".join(it for it in nothing if not it.endswith(";\n"))
@@ -314,9 +343,10 @@ def rust(codes, constants, structs, exports):
         text += f"\n{rust_words(item.words)}pub const {item.name}: {item.parts[1]} = {item.parts[0]};\n"
     for struct in structs:
         text += f"\n{rust_words(struct.words)}#[repr(C)]\n"
-        text += f"#[derive(Clone, Copy, Debug, Default, PartialEq, Eq)]\npub struct {struct.name} {{\n"
-        for field in struct.parts:
-            text += f"{rust_words(field.words, '    ')}    pub {field.name}: {field.parts[0]},\n"
+        default = "" if has_slice(struct) else " Default,"
+        text += f"#[derive(Clone, Copy, Debug,{default} PartialEq, Eq)]\npub struct {struct.name} {{\n"
+        for words, _, spelled, name in flat(struct):
+            text += f"{rust_words(words, '    ')}    pub {name}: {spelled},\n"
         text += "}\n"
     symbol = linked(codes, constants, structs, exports)
     text += '\nextern "C" {\n'

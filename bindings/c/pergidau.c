@@ -33,6 +33,13 @@ uint32_t exported_csv_record_extent(
     size_t bytes_length,
     const struct pergidau_csv_dialect *dialect,
     struct pergidau_record *out);
+uint32_t exported_csv_write(
+    const struct pergidau_bytes *fields,
+    size_t fields_length,
+    const struct pergidau_csv_dialect *dialect,
+    uint8_t *buffer,
+    size_t buffer_length,
+    size_t *out);
 uint32_t exported_http_head(
     const uint8_t *bytes,
     size_t bytes_length,
@@ -172,6 +179,12 @@ uint32_t exported_resp_extent(
     const uint8_t *bytes,
     size_t bytes_length,
     size_t *out);
+uint32_t exported_resp_command(
+    const struct pergidau_bytes *parts,
+    size_t parts_length,
+    uint8_t *buffer,
+    size_t buffer_length,
+    size_t *out);
 uint32_t exported_text_position(
     const uint8_t *bytes,
     size_t bytes_length,
@@ -202,7 +215,7 @@ _Static_assert(sizeof(enum pergidau_resp_kind) == sizeof(uint32_t), "the size of
 _Static_assert(sizeof(enum pergidau_toml_error) == sizeof(uint32_t), "the size of an enum");
 _Static_assert(sizeof(enum pergidau_toml_kind) == sizeof(uint32_t), "the size of an enum");
 
-const char pergidau_declared_4632b30c = 0;
+const char pergidau_declared_9af03243 = 0;
 
 const char *pergidau_version(void)
 {
@@ -641,6 +654,51 @@ enum pergidau_code pergidau_csv_record_extent(
         bytes = &no_bytes;
     }
     return (enum pergidau_code)exported_csv_record_extent(state, bytes, bytes_length, dialect, out);
+}
+
+enum pergidau_code pergidau_csv_write(
+    const struct pergidau_bytes *fields,
+    size_t fields_length,
+    const struct pergidau_csv_dialect *dialect,
+    uint8_t *buffer,
+    size_t buffer_length,
+    size_t *out)
+{
+    const struct pergidau_bytes no_fields = {0};
+    uint8_t no_buffer = {0};
+    if (fields_length > PTRDIFF_MAX / sizeof(struct pergidau_bytes)) {
+        return PERGIDAU_TOO_LONG;
+    }
+    if (fields == NULL && fields_length > 0) {
+        return PERGIDAU_NULL;
+    }
+    if (dialect == NULL) {
+        return PERGIDAU_NULL;
+    }
+    if (buffer_length > PTRDIFF_MAX / sizeof(uint8_t)) {
+        return PERGIDAU_TOO_LONG;
+    }
+    if (buffer == NULL && buffer_length > 0) {
+        return PERGIDAU_NULL;
+    }
+    if (out == NULL) {
+        return PERGIDAU_NULL;
+    }
+    for (size_t at = 0; at < fields_length; at++) {
+        if (fields[at].bytes_length > PTRDIFF_MAX) {
+            return PERGIDAU_TOO_LONG;
+        }
+        if (fields[at].bytes == NULL) {
+            return PERGIDAU_NULL;
+        }
+    }
+    if (fields == NULL) {
+        fields = &no_fields;
+    }
+    if (buffer == NULL) {
+        buffer = &no_buffer;
+    }
+    return (enum pergidau_code)exported_csv_write(fields, fields_length, dialect, buffer, buffer_length, out);
 }
 
 enum pergidau_code pergidau_http_head(
@@ -1344,6 +1402,47 @@ enum pergidau_code pergidau_resp_extent(
         bytes = &no_bytes;
     }
     return (enum pergidau_code)exported_resp_extent(state, bytes, bytes_length, out);
+}
+
+enum pergidau_code pergidau_resp_command(
+    const struct pergidau_bytes *parts,
+    size_t parts_length,
+    uint8_t *buffer,
+    size_t buffer_length,
+    size_t *out)
+{
+    const struct pergidau_bytes no_parts = {0};
+    uint8_t no_buffer = {0};
+    if (parts_length > PTRDIFF_MAX / sizeof(struct pergidau_bytes)) {
+        return PERGIDAU_TOO_LONG;
+    }
+    if (parts == NULL && parts_length > 0) {
+        return PERGIDAU_NULL;
+    }
+    if (buffer_length > PTRDIFF_MAX / sizeof(uint8_t)) {
+        return PERGIDAU_TOO_LONG;
+    }
+    if (buffer == NULL && buffer_length > 0) {
+        return PERGIDAU_NULL;
+    }
+    if (out == NULL) {
+        return PERGIDAU_NULL;
+    }
+    for (size_t at = 0; at < parts_length; at++) {
+        if (parts[at].bytes_length > PTRDIFF_MAX) {
+            return PERGIDAU_TOO_LONG;
+        }
+        if (parts[at].bytes == NULL) {
+            return PERGIDAU_NULL;
+        }
+    }
+    if (parts == NULL) {
+        parts = &no_parts;
+    }
+    if (buffer == NULL) {
+        buffer = &no_buffer;
+    }
+    return (enum pergidau_code)exported_resp_command(parts, parts_length, buffer, buffer_length, out);
 }
 
 enum pergidau_code pergidau_text_position(

@@ -6,7 +6,8 @@
  * The requirements for callers are in the last paragraph of each function. They are not
  * checked, with two exceptions: if a pointer to be read or written is null, the function
  * returns PERGIDAU_NULL, and if a length is larger than any object, PERGIDAU_TOO_LONG. Then
- * nothing is read or written. A null pointer to zero bytes or entries is allowed.
+ * nothing is written. A null pointer to zero bytes or entries is allowed, except in an entry
+ * of an array of slices.
  *
  * Functions keep no state except in the caller's memory: calls may run in parallel. Memory
  * that a function allocates with malloc is freed before it returns.
@@ -39,10 +40,10 @@ extern "C" {
  * header refers to it, so that it links with no other library. For a file that is not linked
  * with the library, define PERGIDAU_NO_LINK_CHECK before the header.
  */
-extern const char pergidau_declared_4632b30c;
+extern const char pergidau_declared_9af03243;
 #if defined(__GNUC__) && !defined(PERGIDAU_NO_LINK_CHECK)
 __attribute__((__used__, __unused__)) static const char *const pergidau_linked =
-    &pergidau_declared_4632b30c;
+    &pergidau_declared_9af03243;
 #endif
 
 /* Returns the version of the linked library, in the form of PERGIDAU_VERSION. */
@@ -810,6 +811,17 @@ struct pergidau_json_text {
     size_t length;
 };
 
+/*
+ * A slice of bytes that the caller passes: a pointer and a length, in this order, as in struct
+ * iovec of POSIX.
+ */
+struct pergidau_bytes {
+    /* The bytes. */
+    const uint8_t *bytes;
+    /* How many bytes there are. */
+    size_t bytes_length;
+};
+
 /* A reply. */
 struct pergidau_reply {
     /*
@@ -1096,6 +1108,46 @@ enum pergidau_code pergidau_csv_record_extent(
     size_t bytes_length,
     const struct pergidau_csv_dialect *dialect,
     struct pergidau_record *out);
+
+/*
+ * Writes a record of comma-separated values (RFC 4180) of these fields, in any dialect.
+ *
+ * A field is written in quotes, with each quote in it doubled, if it contains a quote, a
+ * delimiter, a carriage return or a line feed, or if it is empty and the only field. Any other
+ * field is written unchanged. The record ends with a line ending: a carriage return and a line
+ * feed if the dialect accepts either. pergidau_csv_record reads the same fields from the
+ * record, regardless of what follows.
+ *
+ * PERGIDAU_DONE: the record is written at the start of buffer, and its length into out. The
+ * other bytes of the buffer are unchanged.
+ *
+ * The function does not allocate. It scans the fields twice, so that it writes nothing if the
+ * buffer is too small.
+ *
+ * # Errors
+ *
+ * PERGIDAU_BUFFER_TOO_SMALL: the record is longer than the buffer. Its length is written.
+ *
+ * PERGIDAU_INVALID: there are no fields. 0 is written.
+ *
+ * PERGIDAU_INVALID_DIALECT: there is no such dialect. 0 is written.
+ *
+ * After an error the buffer is unchanged.
+ *
+ * # Safety
+ *
+ * fields must be valid for reads of fields_length entries, the bytes of each entry for reads
+ * of its length, and dialect for reads of one dialect. They must not change during the call.
+ * buffer must be valid for writes of buffer_length bytes, and out for writes of one length.
+ * These two must not overlap each other or the others. The call needs 16 KiB of stack.
+ */
+enum pergidau_code pergidau_csv_write(
+    const struct pergidau_bytes *fields,
+    size_t fields_length,
+    const struct pergidau_csv_dialect *dialect,
+    uint8_t *buffer,
+    size_t buffer_length,
+    size_t *out);
 
 /*
  * Parses the head of an HTTP/1.1 request (RFC 9112) at the start of bytes: a request line,
@@ -1977,6 +2029,38 @@ enum pergidau_code pergidau_resp_extent(
     struct pergidau_resp_reply_state *state,
     const uint8_t *bytes,
     size_t bytes_length,
+    size_t *out);
+
+/*
+ * Writes a Redis command as clients send it: an array of bulk strings, the first of which is
+ * its name.
+ *
+ * PERGIDAU_DONE: the command is written at the start of buffer, and its length into out. The
+ * other bytes of the buffer are unchanged.
+ *
+ * The function does not allocate. If the buffer is too small, nothing is written into it.
+ *
+ * # Errors
+ *
+ * PERGIDAU_BUFFER_TOO_SMALL: the command is longer than the buffer. Its length is written.
+ *
+ * PERGIDAU_INVALID: there are no parts. 0 is written. A server does not respond to an empty
+ * array.
+ *
+ * After an error the buffer is unchanged.
+ *
+ * # Safety
+ *
+ * parts must be valid for reads of parts_length entries, and the bytes of each entry for reads
+ * of its length. They must not change during the call. buffer must be valid for writes of
+ * buffer_length bytes, and out for writes of one length. These two must not overlap each other
+ * or the others. The call needs 16 KiB of stack.
+ */
+enum pergidau_code pergidau_resp_command(
+    const struct pergidau_bytes *parts,
+    size_t parts_length,
+    uint8_t *buffer,
+    size_t buffer_length,
     size_t *out);
 
 /*

@@ -60,7 +60,7 @@ void *__wrap_realloc(void *block, size_t size)
 
 enum call { CALC, PAIR, DOCUMENT, ENTRY, CHECK, VALUE, NEXT, STEP, STRING, INTEGER, NATURAL, DECIMAL, DIAGNOSE, MEMBER, HEAD,
             HEAD_IN_PIECES, HEAD_EXTENT, REQUEST_BODY, FIELD, RESPONSE, RESPONSE_IN_PIECES, RESPONSE_EXTENT, RECORD, RECORD_IN_PIECES,
-            RECORD_EXTENT, REPLY, REPLY_IN_PIECES, EXTENT, CHUNKED, POSITION,
+            RECORD_EXTENT, CSV_WRITE, REPLY, REPLY_IN_PIECES, EXTENT, COMMAND, CHUNKED, POSITION,
             TOML };
 static const char *const names[] = {
     "calc_value", "ini_pair", "ini_document", "ini_next", "json_check", "json_value", "json_next",
@@ -68,8 +68,8 @@ static const char *const names[] = {
     "json_member", "http_head", "http_head_partial",
     "http_head_extent", "http_request_body", "http_field", "http_response_head", "http_response_head_partial",
     "http_response_head_extent", "csv_record",
-    "csv_record_partial", "csv_record_extent", "resp_reply", "resp_reply_partial",
-    "resp_extent", "http_chunked", "text_position", "toml_document",
+    "csv_record_partial", "csv_record_extent", "csv_write", "resp_reply", "resp_reply_partial",
+    "resp_extent", "resp_command", "http_chunked", "text_position", "toml_document",
 };
 
 /* Inputs: a start, a repeated part, and an end. `memory` is the header's limit of the peak memory, in
@@ -144,6 +144,9 @@ static const struct {
     {RECORD_IN_PIECES, "", ",", "\"\"x", LENGTH, 0, 16},
     {RECORD_EXTENT, "", ",", "\n", LENGTH, 0, 16},
     {RECORD_EXTENT, "\"", "\"\"", "", LENGTH / 2, 0, 16},
+    {CSV_WRITE, "", "\"", "", LENGTH, 0, 16},
+    {CSV_WRITE, "", "a", "\n", LENGTH, 0, 16},
+    {CSV_WRITE, "", "a", "", LENGTH, 0, 16},
     {REPLY, "", "*1\r\n", ":1\r\n", 512, 32, 512},
     {REPLY, "", "*1\r\n", ":1\r\n", LENGTH / 4, 32, 512},
     {REPLY, "*262144\r\n", ":1\r\n", "", 262144, 32, 512},
@@ -158,6 +161,7 @@ static const struct {
     {EXTENT, "*262144\r\n", ":1\r\n", "", 262144, 0, 16},
     {EXTENT, "", "*1\r\n", ":1\r\n", LENGTH / 4, 0, 16},
     {EXTENT, "+", "a", "", LENGTH, 0, 16},
+    {COMMAND, "", "a", "", LENGTH, 0, 16},
     {CHUNKED, "1;a=\"", "b", "\"\r\n", LENGTH, 0, 16},
     {CHUNKED, "0\r\na:", "b", "\r\n\r\n", LENGTH, 0, 16},
     {CHUNKED, "ffffff\r\n", "b", "", LENGTH, 0, 16},
@@ -177,6 +181,8 @@ static const struct {
 
 static const uint8_t *bytes;
 static size_t length;
+/* For what is written: each byte of the input may be doubled. */
+static uint8_t written[2 * LENGTH + 64];
 
 static enum pergidau_code call(enum call which, size_t max_depth)
 {
@@ -206,6 +212,7 @@ static enum pergidau_code call(enum call which, size_t max_depth)
     struct pergidau_chunked_step step;
     struct pergidau_position position;
     struct pergidau_toml_result toml;
+    struct pergidau_bytes slice = {bytes, length};
     size_t found;
     switch (which) {
     case CALC:
@@ -258,12 +265,16 @@ static enum pergidau_code call(enum call which, size_t max_depth)
         return pergidau_csv_record_partial(bytes, length, &lines, NULL, 0, NULL, 0, &record);
     case RECORD_EXTENT:
         return pergidau_csv_record_extent(&fields, bytes, length, &lines, &record);
+    case CSV_WRITE:
+        return pergidau_csv_write(&slice, 1, &lines, written, sizeof written, &found);
     case REPLY:
         return pergidau_resp_reply(bytes, length, max_depth, &reply);
     case REPLY_IN_PIECES:
         return pergidau_resp_reply_partial(bytes, length, max_depth, &reply);
     case EXTENT:
         return pergidau_resp_extent(&state, bytes, length, &found);
+    case COMMAND:
+        return pergidau_resp_command(&slice, 1, written, sizeof written, &found);
     case CHUNKED:
         return pergidau_http_chunked(&chunked, bytes, length, &step);
     case TOML:

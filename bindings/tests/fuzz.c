@@ -392,6 +392,7 @@ static void read_chunked(const uint8_t *bytes, size_t length)
 #include "json_fuzz.h"
 #include "json_lookup_fuzz.h"
 #include "toml_fuzz.h"
+#include "writing_fuzz.h"
 
 static void read_place(const uint8_t *bytes, size_t length)
 {
@@ -422,6 +423,7 @@ static void read_all(const uint8_t *bytes, size_t length)
     read_body(bytes, length);
     read_toml(bytes, length);
     read_place(bytes, length);
+    write_slices(bytes, length);
 }
 
 int main(int count, char **words)

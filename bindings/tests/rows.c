@@ -521,6 +521,13 @@ static const struct pergidau_csv_dialect csv_dialects[] = {
     {'\t', '"', PERGIDAU_CSV_LF},   {';', '\'', PERGIDAU_CSV_EITHER}, {0xff, 1, PERGIDAU_CSV_CRLF},
 };
 
+/* Two of the four bytes are equal, or there is no such line ending. */
+static const struct pergidau_csv_dialect no_dialects[] = {
+    {'"', '"', PERGIDAU_CSV_LF}, {'\r', '"', PERGIDAU_CSV_LF}, {'\n', '"', PERGIDAU_CSV_CRLF},
+    {',', '\r', PERGIDAU_CSV_LF}, {',', '\n', PERGIDAU_CSV_EITHER},
+    {',', '"', (enum pergidau_csv_line_end)3}, {',', '"', (enum pergidau_csv_line_end)-1},
+};
+
 /* Records in these dialects. */
 static const struct {
     const char *text;
@@ -1004,13 +1011,8 @@ static void test_wrong_records(void)
          PERGIDAU_NULL);
     same("null", "dialect", pergidau_csv_record_partial(bytes, 1, NULL, text, 1, places, 1, &out),
          PERGIDAU_NULL);
-    /* Two of the four bytes are equal, or there is no such line ending. */
-    static const struct pergidau_csv_dialect none[] = {
-        {'"', '"', PERGIDAU_CSV_LF}, {'\r', '"', PERGIDAU_CSV_LF}, {'\n', '"', PERGIDAU_CSV_CRLF},
-        {',', '\r', PERGIDAU_CSV_LF}, {',', '\n', PERGIDAU_CSV_EITHER},
-        {',', '"', (enum pergidau_csv_line_end)3}, {',', '"', (enum pergidau_csv_line_end)-1},
-    };
-    for (size_t i = 0; i < sizeof none / sizeof *none; i++) {
+    const struct pergidau_csv_dialect *none = no_dialects;
+    for (size_t i = 0; i < sizeof no_dialects / sizeof *no_dialects; i++) {
         struct pergidau_csv_record_state state = {1, 2, 3, 4};
         memset(&out, 0xab, sizeof out);
         text[0] = 0xab;
@@ -1166,6 +1168,7 @@ static void test_library(void)
 
 #include "bodies_rows.h"
 #include "heads_rows.h"
+#include "writing_rows.h"
 
 int main(void)
 {
@@ -1196,6 +1199,7 @@ int main(void)
     test_fields();
     test_toml();
     test_positions();
+    test_writing();
     test_wrong_use();
     return wrong;
 }

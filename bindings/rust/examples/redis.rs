@@ -151,8 +151,7 @@ fn shown(reply: Reply) -> String {
 fn play(server: &mut UnixStream, requests: &[&[&str]], end: &[u8]) -> io::Result<()> {
     let mut script = Vec::new();
     for request in requests {
-        script.extend_from_slice(format!("*{}\r\n", request.len()).as_bytes());
-        request.iter().for_each(|it| bulk(Some(it.as_bytes()), &mut script));
+        resp::append_command(request, &mut script).map_err(io::Error::other)?;
     }
     script.extend_from_slice(end);
     for piece in script.chunks(3) {

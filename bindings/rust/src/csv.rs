@@ -11,8 +11,12 @@
 //! # Ok::<(), pergidau::Error>(())
 //! ```
 mod extent;
+mod write;
 
 pub use self::extent::{Extent, Size};
+#[cfg(feature = "alloc")]
+pub use self::write::append_record;
+pub use self::write::write_record;
 
 use crate::{at, exports, Error, RequiredSize, Span};
 #[cfg(feature = "alloc")]

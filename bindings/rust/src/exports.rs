@@ -818,6 +818,17 @@ pub struct JsonText {
     pub length: usize,
 }
 
+/// A slice of bytes that the caller passes: a pointer and a length, in this order, as in `struct
+/// iovec` of POSIX.
+#[repr(C)]
+#[derive(Clone, Copy, Debug, PartialEq, Eq)]
+pub struct Bytes {
+    /// The bytes.
+    pub bytes: *const u8,
+    /// How many bytes there are.
+    pub bytes_length: usize,
+}
+
 /// A reply.
 #[repr(C)]
 #[derive(Clone, Copy, Debug, Default, PartialEq, Eq)]
@@ -936,7 +947,7 @@ pub struct TomlResult {
 
 extern "C" {
     /// A symbol that only a library with these declarations has.
-    #[link_name = "pergidau_declared_4632b30c"]
+    #[link_name = "pergidau_declared_9af03243"]
     static VERSION_LINKED: c_char;
 
     /// Returns the version of the linked library.
@@ -1100,6 +1111,45 @@ extern "C" {
         bytes_length: usize,
         dialect: *const CsvDialect,
         out: *mut Record,
+    ) -> u32;
+
+    /// Writes a record of comma-separated values (RFC 4180) of these fields, in any dialect.
+    ///
+    /// A field is written in quotes, with each quote in it doubled, if it contains a quote, a
+    /// delimiter, a carriage return or a line feed, or if it is empty and the only field. Any other
+    /// field is written unchanged. The record ends with a line ending: a carriage return and a line
+    /// feed if the dialect accepts either. `exported_csv_record` reads the same fields from the record,
+    /// regardless of what follows.
+    ///
+    /// `DONE`: the record is written at the start of `buffer`, and its length into `out`. The other
+    /// bytes of the buffer are unchanged.
+    ///
+    /// The function does not allocate. It scans the fields twice, so that it writes nothing if the
+    /// buffer is too small.
+    ///
+    /// # Errors
+    ///
+    /// `BUFFER_TOO_SMALL`: the record is longer than the buffer. Its length is written.
+    ///
+    /// `INVALID`: there are no fields. 0 is written.
+    ///
+    /// `INVALID_DIALECT`: there is no such dialect. 0 is written.
+    ///
+    /// After an error the buffer is unchanged.
+    ///
+    /// # Safety
+    ///
+    /// `fields` must be valid for reads of `fields_length` entries, the bytes of each entry for reads
+    /// of its length, and `dialect` for reads of one dialect. They must not change during the call.
+    /// `buffer` must be valid for writes of `buffer_length` bytes, and `out` for writes of one length.
+    /// These two must not overlap each other or the others. The call needs 16 KiB of stack.
+    pub fn exported_csv_write(
+        fields: *const Bytes,
+        fields_length: usize,
+        dialect: *const CsvDialect,
+        buffer: *mut u8,
+        buffer_length: usize,
+        out: *mut usize,
     ) -> u32;
 
     /// Parses the head of an HTTP/1.1 request (RFC 9112) at the start of `bytes`: a request line, field
@@ -1933,6 +1983,36 @@ extern "C" {
         state: *mut RespReplyState,
         bytes: *const u8,
         bytes_length: usize,
+        out: *mut usize,
+    ) -> u32;
+
+    /// Writes a Redis command as clients send it: an array of bulk strings, the first of which is its
+    /// name.
+    ///
+    /// `DONE`: the command is written at the start of `buffer`, and its length into `out`. The other
+    /// bytes of the buffer are unchanged.
+    ///
+    /// The function does not allocate. If the buffer is too small, nothing is written into it.
+    ///
+    /// # Errors
+    ///
+    /// `BUFFER_TOO_SMALL`: the command is longer than the buffer. Its length is written.
+    ///
+    /// `INVALID`: there are no parts. 0 is written. A server does not respond to an empty array.
+    ///
+    /// After an error the buffer is unchanged.
+    ///
+    /// # Safety
+    ///
+    /// `parts` must be valid for reads of `parts_length` entries, and the bytes of each entry for reads
+    /// of its length. They must not change during the call. `buffer` must be valid for writes of
+    /// `buffer_length` bytes, and `out` for writes of one length. These two must not overlap each other
+    /// or the others. The call needs 16 KiB of stack.
+    pub fn exported_resp_command(
+        parts: *const Bytes,
+        parts_length: usize,
+        buffer: *mut u8,
+        buffer_length: usize,
         out: *mut usize,
     ) -> u32;
 

@@ -11,11 +11,11 @@
 //! | Module | Parses |
 //! |---|---|
 //! | [`calc`] | formulas of integers |
-//! | [`csv`] | records of comma-separated values |
+//! | [`csv`] | records of comma-separated values, which it also writes |
 //! | [`http`] | heads of requests and responses of HTTP/1.1, and chunked bodies |
 //! | [`ini`] | lines of a key and a value, documents of them, and INI files of any dialect |
 //! | [`json`] | JSON texts, and the values in them |
-//! | [`resp`] | Redis replies |
+//! | [`resp`] | Redis replies; it writes commands |
 //! | [`toml`] | TOML documents |
 //!
 //! ```
@@ -42,6 +42,7 @@
 #[cfg(feature = "alloc")]
 extern crate alloc;
 
+mod bytes;
 pub mod calc;
 pub mod csv;
 mod error;
@@ -54,6 +55,7 @@ pub mod json;
 pub mod resp;
 pub mod toml;
 
+pub use crate::bytes::Bytes;
 pub use crate::error::{Error, Position, RequiredSize};
 pub use crate::exports::{Span, MAX_DEPTH};
 

@@ -1,4 +1,4 @@
-//! Redis replies (RESP2), from complete or partial input.
+//! Redis replies (RESP2), from complete or partial input, and commands.
 //!
 //! ```
 //! use pergidau::resp::{self, Reply};
@@ -6,10 +6,17 @@
 //! let (reply, rest) = resp::reply(b"+OK\r\n:7\r\n", 0)?;
 //! assert_eq!(reply, Reply::Simple(b"OK"));
 //! assert_eq!(resp::reply(rest, 0)?, (Reply::Integer(7), &b""[..]));
+//! let mut request = Vec::new();
+//! resp::append_command(&["LLEN", "mylist"], &mut request)?;
+//! assert_eq!(request, b"*2\r\n$4\r\nLLEN\r\n$6\r\nmylist\r\n");
 //! # Ok::<(), pergidau::Error>(())
 //! ```
 use crate::exports::{self, MAX_DEPTH};
-use crate::{at, Error, NOTHING};
+#[cfg(feature = "alloc")]
+use crate::bytes::append;
+use crate::{at, Bytes, Error, RequiredSize, NOTHING};
+#[cfg(feature = "alloc")]
+use alloc::vec::Vec;
 
 /// A Redis reply, whose strings are slices of the input.
 #[derive(Clone, Copy, Debug, PartialEq, Eq)]
@@ -125,6 +132,55 @@ pub fn reply(bytes: &[u8], max_depth: usize) -> Result<(Reply<'_>, &[u8]), Error
 /// ```
 pub fn reply_partial(bytes: &[u8], max_depth: usize) -> Result<(Reply<'_>, &[u8]), Error> {
     read(exports::exported_resp_reply_partial, bytes, max_depth)
+}
+
+/// Writes a command as clients send it to the start of `buffer`, and returns its length. A command
+/// is an array of bulk strings, the first of which is its name. Does not allocate.
+///
+/// # Errors
+///
+/// After an error the buffer is unchanged.
+///
+/// - [`Error::BufferTooSmall`] holds the length of the command.
+/// - [`Error::Invalid`] if there are no parts.
+///
+/// ```
+/// let mut buffer = [0; 64];
+/// let length = pergidau::resp::write_command(&["GET".into(), "key".into()], &mut buffer)?;
+/// assert_eq!(&buffer[..length], b"*2\r\n$3\r\nGET\r\n$3\r\nkey\r\n");
+/// # Ok::<(), pergidau::Error>(())
+/// ```
+pub fn write_command(parts: &[Bytes<'_>], buffer: &mut [u8]) -> Result<usize, Error> {
+    let (entries, count) = Bytes::given(parts);
+    let mut out = 0;
+    // SAFETY: the pointers are those of live borrows, and the entries and their bytes are only read. The
+    // call takes up to 4 KiB of stack (measured); where there is less, the thread's guard page ends the
+    // program.
+    let code = unsafe {
+        let (room, most) = (buffer.as_mut_ptr(), buffer.len());
+        exports::exported_resp_command(entries, count, room, most, &mut out)
+    };
+    match code {
+        exports::DONE => Ok(out),
+        code => Err(Error::of(code, None, RequiredSize { entries: 0, bytes: out })),
+    }
+}
+
+/// Appends a command to a vector, as [`write_command`] writes it. After an error the vector is
+/// unchanged.
+///
+/// ```
+/// let mut out = Vec::new();
+/// pergidau::resp::append_command(&["PING"], &mut out)?;
+/// assert_eq!(out, b"*1\r\n$4\r\nPING\r\n");
+/// # Ok::<(), pergidau::Error>(())
+/// ```
+#[cfg(feature = "alloc")]
+pub fn append_command<P: AsRef<[u8]>>(parts: &[P], out: &mut Vec<u8>) -> Result<(), Error> {
+    let slices: Vec<_> = parts.iter().map(Bytes::from).collect();
+    // A mark, up to 20 digits, and two line endings for each part; and a line.
+    let expected = slices.iter().map(|it| it.get().len() + 25).sum::<usize>() + 23;
+    append(out, expected, |buffer| write_command(&slices, buffer))
 }
 
 /// The state of a search for the end of a reply in input that arrives in chunks.

@@ -1,4 +1,5 @@
 pub mod Chunked
+pub mod CsvWrite
 pub mod DialectTexts
 pub mod Dialects
 pub mod Entries
@@ -13,8 +14,10 @@ pub mod JsonIntegers
 pub mod JsonTexts
 pub mod Nodes
 pub mod Pieces
+pub mod Putting
 pub mod RecordExtent
 pub mod Records
 pub mod Refusals
 pub mod Replies
+pub mod RespCommand
 pub mod Turns

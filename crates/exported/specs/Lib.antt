@@ -3,6 +3,7 @@ pub mod Chunked
 pub mod Code
 pub mod Csv
 pub mod CsvExtent
+pub mod CsvWrite
 pub mod Dialects
 pub mod Extent
 pub mod Http
@@ -17,6 +18,7 @@ pub mod JsonInteger
 pub mod JsonMember
 pub mod JsonStep
 pub mod JsonString
+pub mod Output
 pub mod Pieces
 pub mod Resp
 pub mod Span

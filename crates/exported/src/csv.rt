@@ -14,6 +14,7 @@ ghost use Rattle.exported.specs.Span.{span_of};
 
 pub mod dialect;
 pub mod extent;
+pub mod write;
 
 use crate::code::{BUFFER_TOO_SMALL, DONE, INCOMPLETE, INVALID, INVALID_DIALECT};
 use crate::csv::dialect::{CsvDialect, dialect_of};

@@ -15,6 +15,7 @@ pub mod csv;
 pub mod http;
 pub mod ini;
 pub mod json;
+pub mod output;
 pub mod resp;
 pub mod span;
 pub mod text;

@@ -10,6 +10,7 @@ ghost use Rattle.exported.specs.Extent.{TellsEnd, extent_of};
 ghost use Rattle.exported.specs.Resp.{IsReply, IsReplyForGood, NoReply, NoReplyForGood, ShowsReply};
 ghost use Rattle.exported.specs.Resp.{no_reply};
 
+pub mod command;
 pub mod extent;
 pub mod places;
 
