@@ -1,5 +1,5 @@
 -- Lemmas about passing a head byte by byte, and about the results for the bytes passed.
-use Rattle.std.proofs.Common.{◌≡◌, ◌∙◌, ◌<◌, ◌≤◌, ◌+◌, ◌-◌, ◌++◌, ◌∷◌, [], ap, ℕ}
+use Rattle.std.proofs.Common.{◌≡◌, ◌∙◌, ◌<◌, ◌≤◌, ◌-◌, ◌++◌, ◌∷◌, [], ap, ℕ}
 use Rattle.std.proofs.Common.{List, length, append_assoc, arith, drop, inl, inr, length-append}
 use Rattle.std.proofs.Common.{refl, subst, sym, take}
 use Rattle.std.proofs.lemmas.List.{append-nil, drop_at, length-drop, take-append-drop, take_all}
@@ -22,7 +22,6 @@ use Rattle.format_http_places.specs.declared.read.HeadError.TheVariants as error
 use Rattle.format_http_places.specs.declared.read.HeadError.TheVariants.{Incomplete}
 use Rattle.format_http_places.specs.declared.read.HeadError.TheVariants.{TooManyFields}
 use Rattle.format_http_places.specs.declared.state.HeadPlace.{HeadPlace}
-use Rattle.format_http_places.specs.declared.state.HeadPlace.TheVariants as place
 use Rattle.format_http_places.proofs.Continues.{at_front, behind_both, from_rest, in_turn}
 use Rattle.format_http_places.proofs.Continues.{stop_here, stops}
 use Rattle.format_http_places.proofs.Heads.{long_of, refused_of, wanting_of}
