@@ -1,4 +1,3 @@
-pub mod Decimal
 pub mod Declared
 pub mod Elements
 pub mod Lengths

@@ -1,253 +1,343 @@
--- The lines of heads as languages.
-use Rattle.std.proofs.Common.{◌≡◌, ◌∙◌, ◌<◌, ◌++◌, ◌∷◌, [], ap, ℕ, zero, suc, List}
-use Rattle.std.proofs.Common.{append_assoc, arith, inl, inr, length, refl, subst, sym}
-use Rattle.std.specs.Prelude.{⊤}
-use Rattle.std.proofs.lemmas.List.Elements.{All-append, All-weaker}
+-- The lines of heads as continuations of languages.
+use Rattle.std.proofs.Common.{◌≡◌, ◌∙◌, ◌<◌, ◌*◌, ◌+◌, ◌-◌, ◌++◌, ◌∷◌, [], ap, ℕ}
+use Rattle.std.proofs.Common.{zero, suc, List, arith, inl, inr, length, refl, subst, sym, take}
+use Rattle.std.proofs.Common.{drop}
+use Rattle.std.proofs.lemmas.List.{length-take, take-append-drop}
+use Rattle.std.proofs.lemmas.List.Elements.{All-cons, All-head, All-nil, All-tail}
 use Rattle.std.specs.List.{All}
-use Rattle.format_http.specs.Heads.Bytes.{IsTokenByte, IsValueByte, IsVisible, IsWhite}
-use Rattle.format_http.specs.Heads.Bytes.{line_end}
+use Rattle.format_http.specs.Heads.Bytes.{IsDigit, IsTokenByte, IsValueByte, IsVisible, line_end}
 use Rattle.format_http.specs.Heads.FieldLine.{IsFieldLine}
+use Rattle.format_http.specs.Heads.Head.{AreFieldLines, AreFields, Pair}
 use Rattle.format_http.specs.Heads.RequestLine.{IsRequestLine, digits}
-use Rattle.format_http_places.specs.Grammar.{Byte, FieldsText, HeadText, Language}
-use Rattle.format_http_places.specs.Grammar.{LineText, LinesText, Nothing, OneOf, Run}
-use Rattle.format_http_places.specs.Grammar.{SomeOf, Stops, VersionText}
-use Rattle.format_http_places.specs.Grammar.{protocol}
-use Rattle.format_http_places.specs.Runs.{NotFirst}
-use Rattle.format_http_places.proofs.EquivalentAfter.{EquivalentAfter, Live, behind_both}
-use Rattle.format_http_places.proofs.EquivalentAfter.{behind_byte}
-use Rattle.format_http_places.proofs.EquivalentAfter.{behind_run_end, behind_some_end, first_same}
-use Rattle.format_http_places.proofs.EquivalentAfter.{live_byte}
-use Rattle.format_http_places.proofs.EquivalentAfter.{live_one, live_run, none_byte, not_empty}
-use Rattle.format_http_places.proofs.EquivalentAfter.{part_stops}
-use Rattle.format_http_places.proofs.EquivalentAfter.{stops_at}
-use Rattle.format_http_places.proofs.Versions.{behind_version, live_fields, live_version}
+use Rattle.format_http.specs.Responses.StatusLine.{IsBehind, IsEnding, IsStatusLine}
+use Rattle.format_http.proofs.OneLemmas.Values.{all_value, field_line_some, regroup}
+use Rattle.format_http_places.specs.Grammar.{Byte, CodeText, Continues, EquivalentAfter}
+use Rattle.format_http_places.specs.Grammar.{FieldsText, HeadText, Language, LineText, LinesText}
+use Rattle.format_http_places.specs.Grammar.{NoLineEnd, Nothing, OneOf, ProtocolText, ReasonText}
+use Rattle.format_http_places.specs.Grammar.{ResponseText, Run, Stops, Unended, protocol}
+use Rattle.format_http_places.specs.Responses.{IsCodeFirst}
+use Rattle.format_http_places.specs.Runs.{NotFirst, SoMany}
+use Rattle.format_http_places.specs.States.{Due}
+use Rattle.format_http_places.specs.declared.state.HeadPlace.TheVariants as place
+use Rattle.format_http_places.proofs.Continues.{at_front, behind_end, from_rest, here, in_turn}
+use Rattle.format_http_places.proofs.Continues.{Live, none_byte, none_one, none_run, not_byte}
+use Rattle.format_http_places.proofs.Continues.{not_one, not_run, past_byte, past_end, past_one}
+use Rattle.format_http_places.proofs.Continues.{past_run, past_some_end, past_text, rest_of}
+use Rattle.format_http_places.proofs.Continues.{stop_here, stops}
+use Rattle.format_http_places.proofs.States.{a_digit, fields_line, line_fields, live_at}
+use Rattle.format_http_places.proofs.States.{none_fields, none_reason}
 use Rattle.format_http_places.proofs.Tests.{token_not, value_not, visible_not}
 
-pub token_no_space : IsTokenByte 32 → ⊥
-token_no_space is = token_not 32 refl is
+-- ---- versions and status codes
 
-pub token_no_colon : IsTokenByte 58 → ⊥
-token_no_colon is = token_not 58 refl is
+is_digit : (n : ℕ) → n < 10 → IsDigit (48 + n)
+is_digit n less = (omega arith, omega (arith, less))
 
-token_no_return : IsTokenByte 13 → ⊥
-token_no_return is = token_not 13 refl is
+pub past_digit : {n : ℕ} {K : Language} {bytes rest : List ℕ}
+    → (n < 10) × (bytes ≡ (48 + n) ∷ rest) → Continues (OneOf IsDigit K) bytes K rest
+past_digit {n = n} (less, e) = past_one IsDigit (is_digit n less) e
 
-pub value_no_return : IsValueByte 13 → ⊥
-value_no_return is = value_not 13 refl is
+pub not_digit : {K : Language} {bytes : List ℕ} {left : ℕ} → Live K → NotFirst IsDigit bytes
+    → left ≡ length bytes → Stops (OneOf IsDigit K) bytes left
+not_digit live not at = not_one IsDigit 48 a_digit live not at
 
-pub visible_no_space : IsVisible 32 → ⊥
-visible_no_space is = visible_not 32 refl is
+pub past_version : {K : Language} {bytes rest : List ℕ} (a b : ℕ) → a < 10 → b < 10
+    → bytes ≡ protocol ++ (digits a b ++ rest) → Continues (ProtocolText K) bytes K rest
+past_version a b less few e =
+    in_turn (past_text protocol e) (in_turn (past_digit (less, refl))
+    (in_turn (past_byte refl) (past_digit (few, refl))))
 
-pub a_token : IsTokenByte 65
-a_token = inr (inl (omega arith, omega arith))
-
-pub a_visible : IsVisible 65
-a_visible = (omega arith, omega arith)
-
--- ---- request lines
-
-abbrev Target : Language
-Target = SomeOf IsVisible 32 VersionText
-
-pub live_target : Live Target
-live_target = live_one IsVisible 65 (Run IsVisible 32 VersionText) a_visible
-    (live_run IsVisible 32 VersionText live_version)
-
-pub behind_method : (method : List ℕ) → 0 < length method → All IsTokenByte method
-    → EquivalentAfter HeadText (method ++ 32 ∷ []) Target
-unfolding HeadText
-behind_method method some all =
-    behind_some_end IsTokenByte 32 Target method all token_no_space some
-
-pub behind_target : (target : List ℕ) → 0 < length target → All IsVisible target
-    → EquivalentAfter Target (target ++ 32 ∷ []) VersionText
-behind_target target some all =
-    behind_some_end IsVisible 32 VersionText target all visible_no_space some
-
--- after a request line are fields
-pub behind_request : (m t : List ℕ) (a b : ℕ) (bytes rest : List ℕ)
-    → IsRequestLine m t a b bytes rest
-    → (front : List ℕ) × (bytes ≡ front ++ rest) × EquivalentAfter HeadText front FieldsText
-behind_request m t a b bytes rest is =
-    let last = protocol ++ (digits a b ++ line_end) in (
-      (m ++ 32 ∷ []) ++ ((t ++ 32 ∷ []) ++ last),
-      is.splits
-          ∙ ap (λ l. m ++ 32 ∷ l) (sym (append_assoc t (32 ∷ []) (last ++ rest))
-          ∙ sym (append_assoc (t ++ 32 ∷ []) last rest))
-          ∙ sym (append_assoc m (32 ∷ []) (((t ++ 32 ∷ []) ++ last) ++ rest))
-          ∙ sym (append_assoc (m ++ 32 ∷ []) ((t ++ 32 ∷ []) ++ last) rest),
-      behind_both HeadText Target FieldsText (m ++ 32 ∷ []) ((t ++ 32 ∷ []) ++ last)
-          (behind_method m is.some_method is.is_method)
-          (behind_both Target VersionText FieldsText (t ++ 32 ∷ []) last
-          (behind_target t is.some_target is.is_target)
-          (behind_version a b is.is_major is.is_minor)),
-    )
-
--- ---- field lines
-
-pub live_value : Live (Run IsValueByte 13 (Byte 10 FieldsText))
-live_value = live_run IsValueByte 13 (Byte 10 FieldsText) (live_byte 10 FieldsText live_fields)
-
-pub behind_name : (K : Language) (name : List ℕ) → 0 < length name → All IsTokenByte name
-    → EquivalentAfter (LineText K) (name ++ 58 ∷ []) (Run IsValueByte 13 (Byte 10 K))
-behind_name K name some all = behind_some_end IsTokenByte 58 (Run IsValueByte 13 (Byte 10 K)) name
-    all token_no_colon some
-
-white_value : (b : ℕ) → IsWhite b → IsValueByte b
-white_value b (inl e) = inl (omega (arith, e), λ other. omega (arith, e, other))
-white_value b (inr e) = inr e
-
--- the continuation of the language after a field line
-module _ (name value bytes rest : List ℕ) (is : IsFieldLine name value bytes rest) where
-  abbrev text : List ℕ
-  text = is.before ++ (value ++ is.behind)
-
-  abbrev pub line_of : List ℕ
-  line_of = (name ++ 58 ∷ []) ++ (text ++ line_end)
-
-  pub line_splits : bytes ≡ line_of ++ rest
-  line_splits = is.splits
-      ∙ ap (λ l. name ++ 58 ∷ l)
-      (ap (λ l. is.before ++ l) (sym (append_assoc value is.behind (line_end ++ rest)))
-      ∙ sym (append_assoc is.before (value ++ is.behind) (line_end ++ rest))
-      ∙ sym (append_assoc text line_end rest))
-      ∙ sym (append_assoc name (58 ∷ []) ((text ++ line_end) ++ rest))
-      ∙ sym (append_assoc (name ++ 58 ∷ []) (text ++ line_end) rest)
-
-  all_value : All IsValueByte text
-  all_value = All-append IsValueByte is.before (value ++ is.behind)
-      (All-weaker IsWhite IsValueByte white_value is.before is.white_before)
-      (All-append IsValueByte value is.behind is.is_value
-      (All-weaker IsWhite IsValueByte white_value is.behind is.white_behind))
-
-  pub behind_line : (K : Language) → EquivalentAfter (LineText K) line_of K
-  behind_line K =
-      let V : Language = Run IsValueByte 13 (Byte 10 K) in
-      let ends : EquivalentAfter V (text ++ line_end) K =
-      let P : List ℕ → Type 0 = λ l. EquivalentAfter V l K in
-      subst P (append_assoc text (13 ∷ []) (10 ∷ []))
-      (behind_both V (Byte 10 K) K (text ++ 13 ∷ []) (10 ∷ [])
-      (behind_run_end IsValueByte 13 (Byte 10 K) text all_value value_no_return)
-      (behind_byte 10 K)) in
-      behind_both (LineText K) V K (name ++ 58 ∷ []) (text ++ line_end)
-      (behind_name K name is.some_name is.is_name) ends
-
--- ---- fields
-
--- a field line begins with no carriage return
-pub line_first : (K : Language) (bytes rest : List ℕ) → LineText K bytes rest
-    → NotFirst (λ b. b ≡ 13) bytes
-unfolding OneOf
-line_first K [] rest it = tt
-line_first K (b ∷ bs) rest it = λ e.
-    token_no_return (subst IsTokenByte (sym (first_same b it.0 bs it.1 it.2) ∙ e) it.3)
-
-line_map : (K M : Language) (bytes rest : List ℕ) → ((more : List ℕ) → K more rest → M more rest)
-    → LineText K bytes rest → LineText M bytes rest
-unfolding OneOf Run Byte
-line_map K M bytes rest into it =
-    let name = it.4 in let value = name.4 in let feed = value.4 in (
-      it.0,
-      it.1,
-      it.2,
-      it.3,
+pub text_version : (K : Language) (bytes rest : List ℕ) → ProtocolText K bytes rest
+    → (a : ℕ) × (b : ℕ) × (behind : List ℕ) × (bytes ≡ protocol ++ (digits a b ++ behind))
+    × (a < 10) × (b < 10) × K behind rest
+unfolding OneOf Byte
+text_version K bytes rest (
+  v1,
+  i1,
+  (
+    v2,
+    i2,
+    (
+      v3,
+      i3,
       (
-        name.0,
-        name.1,
-        name.2,
-        name.3,
+        v4,
+        i4,
         (
-          value.0,
-          value.1,
-          value.2,
-          value.3,
-          (feed.0, feed.1, into feed.0 feed.2),
-        ),
-      ),
-    )
-
-pub line_fields : (bytes rest : List ℕ) → LineText FieldsText bytes rest → FieldsText bytes rest
-unfolding FieldsText OneOf Run Byte
-line_fields bytes rest it =
-    let name = it.4 in let value = name.4 in let feed = value.4 in (
-      suc feed.2.0,
-      (
-        it.0,
-        it.1,
-        it.2,
-        it.3,
-        (
-          name.0,
-          name.1,
-          name.2,
-          name.3,
+          v5,
+          i5,
           (
-            value.0,
-            value.1,
-            value.2,
-            value.3,
-            (feed.0, feed.1, feed.2.1),
+            a,
+            w1,
+            j1,
+            is_a,
+            (
+              w2,
+              j2,
+              (b, w3, j3, is_b, it),
+            ),
           ),
         ),
       ),
+    ),
+  ),
+) =
+    let major : a ≡ 48 + (a - 48) = omega (arith, is_a) in
+    let minor : b ≡ 48 + (b - 48) = omega (arith, is_b) in
+    (a - 48, b - 48, w3, cc, omega (arith, is_a), omega (arith, is_b), it)
+
+pub past_code : {K : Language} {bytes rest : List ℕ} {status : ℕ} (code : IsCodeFirst status bytes
+    rest)
+    → Continues (CodeText K) bytes K rest
+past_code code =
+    let is = code.is_code in
+    in_turn (past_digit (is.some_hundreds, code.splits))
+    (in_turn (past_digit (is.some_tens, refl)) (past_digit (is.some_ones, refl)))
+
+pub text_code : (bytes rest : List ℕ) → CodeText ReasonText bytes rest
+    → (status : ℕ) × (behind : List ℕ) × IsCodeFirst status bytes behind × ReasonText behind rest
+unfolding OneOf
+text_code bytes rest (h, v1, i1, is_h, (t, v2, i2, is_t, (o, v3, i3, is_o, it))) =
+    let hundreds : h ≡ 48 + (h - 48) = omega (arith, is_h) in
+    let tens : t ≡ 48 + (t - 48) = omega (arith, is_t) in
+    let ones : o ≡ 48 + (o - 48) = omega (arith, is_o) in (
+      (h - 48) * 100 + (t - 48) * 10 + (o - 48),
+      v3,
+      record {
+        hundreds = h - 48;
+        tens = t - 48;
+        ones = o - 48;
+        splits = cc;
+        is_code = record {
+          is_number = refl;
+          some_hundreds = omega (arith, is_h);
+          some_tens = omega (arith, is_t);
+          some_ones = omega (arith, is_o);
+        };
+      },
+      it,
     )
 
-pub fields_line : (bytes rest : List ℕ) → NotFirst (λ b. b ≡ 13) bytes → FieldsText bytes rest
-    → LineText FieldsText bytes rest
-unfolding FieldsText Byte
-fields_line [] rest not (zero, it) = absurd (not_empty 13 it.0 it.1)
-fields_line (b ∷ bs) rest not (zero, it) = absurd (not (first_same b 13 bs it.0 it.1))
-fields_line bytes rest not (suc n, it) =
-    line_map (LinesText n) FieldsText bytes rest (λ more lines. (n, lines)) it
+-- ---- reasons
 
-pub fields_stop : (bytes : List ℕ) (left : ℕ) → NotFirst (λ b. b ≡ 13) bytes
-    → Stops (LineText FieldsText) bytes left → Stops FieldsText bytes left
-fields_stop bytes left not it = part_stops (λ b. b ≡ 13) FieldsText (LineText FieldsText) bytes
-    left not line_fields fields_line it
-
--- after a field line are fields
-pub behind_field : (name value bytes rest : List ℕ) (is : IsFieldLine name value bytes rest)
-    → EquivalentAfter FieldsText (line_of name value bytes rest is) FieldsText
-unfolding FieldsText Byte
-behind_field name value bytes rest is = record {
-  there = λ more left fields. (
-    suc fields.0,
-    (behind_line name value bytes rest is (LinesText fields.0)).there more left fields.1,
-  );
-  back = λ more left fields. by more left fields.0 fields.1;
+pub behind_space : EquivalentAfter ReasonText (32 ∷ []) (Due place.Value)
+unfolding ReasonText
+behind_space = record {
+  there = λ more rest it. inl (from_rest (past_byte refl) it);
+  back = λ more rest it. elim it [
+    | inl space ↦ rest_of (past_byte refl) space
+    | inr end ↦ absurd (none_byte 13 (Byte 10 FieldsText) (32 ∷ []) (λ e. omega (arith, e)) more
+        rest end)
+  ];
 }
+
+-- after the carriage return of a line without a reason
+pub behind_no_reason : EquivalentAfter ReasonText (13 ∷ []) (Byte 10 FieldsText)
+unfolding ReasonText
+behind_no_reason = record {
+  there = λ more rest it. inr (from_rest (past_byte refl) it);
+  back = λ more rest it. elim it [
+    | inl space ↦ absurd (none_byte 32 (Due place.Value) (13 ∷ []) (λ e. omega (arith, e)) more
+        rest space)
+    | inr end ↦ rest_of (past_byte refl) end
+  ];
+}
+
+pub past_reason : {reason bytes rest : List ℕ} → IsEnding reason bytes rest
+    → Continues ReasonText bytes FieldsText rest
+past_reason {reason = reason} {bytes = bytes} {rest = rest} is = by is.is_behind
   where
-    Any : Language
-    Any more left = ⊤
+    by : IsBehind is.behind reason → Continues ReasonText bytes FieldsText rest
+    by (inl space) =
+        in_turn (at_front (32 ∷ []) behind_space (is.splits ∙ ap (λ l. l ++ (line_end ++ rest))
+        space))
+        (in_turn (past_end IsValueByte 13 reason (value_not 13 refl) is.is_reason refl)
+        (past_byte refl))
+    by (inr (none, empty)) = in_turn (at_front (13 ∷ []) behind_no_reason
+        (is.splits ∙ ap (λ l. l ++ (line_end ++ rest)) none)) (past_byte refl)
 
-    -- the line begins with no carriage return
-    first : (more left : List ℕ)
-        → NotFirst (λ b. b ≡ 13) (line_of name value bytes rest is ++ more)
-    first more left = line_first Any (line_of name value bytes rest is ++ more) left
-        ((behind_line name value bytes rest is Any).there more left tt)
+pub text_reason : (bytes rest : List ℕ) → ReasonText bytes rest
+    → (reason : List ℕ) × (behind : List ℕ) × IsEnding reason bytes behind
+    × FieldsText behind rest
+unfolding ReasonText Byte Run
+text_reason bytes rest (inl (text, e, (run, feed, f, all, (behind, g, it)))) = (
+  run,
+  behind,
+  record { behind = 32 ∷ run; splits = cc; is_behind = inl refl; is_reason = all },
+  it,
+)
+text_reason bytes rest (inr (feed, e, (behind, f, it))) = (
+  [],
+  behind,
+  record {
+    behind = [];
+    splits = cc;
+    is_behind = inr (refl, refl);
+    is_reason = All-nil IsValueByte;
+  },
+  it,
+)
 
-    by : (more left : List ℕ) (n : ℕ) → LinesText n (line_of name value bytes rest is ++ more) left
-        → FieldsText more left
-    by more left zero it =
-        let P : List ℕ → Type 0 = λ l. NotFirst (λ b. b ≡ 13) l in
-        absurd (subst P it.1 (first more left) refl)
-    by more left (suc n) it =
-        (n, (behind_line name value bytes rest is (LinesText n)).back more left it)
+-- a value, or a reason, that no line ending follows
+pub value_stops : {bytes rest : List ℕ} {left : ℕ} (size : ℕ) → SoMany IsValueByte bytes size
+    → rest ≡ drop size bytes → NoLineEnd rest left → Stops (Due place.Value) bytes left
+value_stops size seen is (inl (not, at)) =
+    not_run IsValueByte 13 size (value_not 13 refl) (live_at place.LineFeed) seen is not at
+value_stops {bytes = bytes} size seen is (inr (feed, e, not, at)) =
+    stops (past_end IsValueByte 13 (take size bytes) (value_not 13 refl) seen.0.1
+    (sym (take-append-drop size bytes) ∙ ap (λ l. take size bytes ++ l) (sym is ∙ e)))
+    (not_byte 10 (live_at place.Fields) not at)
+
+-- neither a space nor a line ending
+pub reason_stops : {bytes : List ℕ} {left : ℕ} → NotFirst (λ b. b ≡ 32) bytes
+    → NoLineEnd bytes left → Stops ReasonText bytes left
+reason_stops {bytes = bytes} other (inl (not, at)) =
+    stop_here (live_at place.AfterCode) (none_reason bytes other not) at
+reason_stops other (inr (feed, e, not, at)) =
+    stops (at_front (13 ∷ []) behind_no_reason e) (not_byte 10 (live_at place.Fields) not at)
+
+-- ---- request lines and status lines
+
+pub past_request : {m t : List ℕ} {a b : ℕ} {bytes rest : List ℕ}
+    → IsRequestLine m t a b bytes rest
+    → Continues HeadText bytes FieldsText rest
+past_request {m = m} {t = t} {a = a} {b = b} is =
+    in_turn (past_some_end IsTokenByte 32 m (token_not 32 refl) is.is_method is.some_method
+    is.splits)
+    (in_turn (past_some_end IsVisible 32 t (visible_not 32 refl) is.is_target is.some_target refl)
+    (in_turn (past_version a b is.is_major is.is_minor refl) (past_text line_end refl)))
+
+pub past_status : {a b status : ℕ} {reason bytes rest : List ℕ}
+    → IsStatusLine a b status reason bytes rest → Continues ResponseText bytes FieldsText rest
+past_status {a = a} {b = b} is =
+    in_turn (past_version a b is.is_major is.is_minor is.splits)
+    (in_turn (past_byte refl)
+    (in_turn (past_code (record {
+      hundreds = is.hundreds;
+      tens = is.tens;
+      ones = is.ones;
+      splits = refl;
+      is_code = is.is_code;
+    }))
+    (past_reason (record {
+      behind = is.behind;
+      splits = refl;
+      is_behind = is.is_behind;
+      is_reason = is.is_reason;
+    }))))
+
+-- ---- fields
+
+pub name_begins : (b : ℕ) → IsTokenByte b
+    → EquivalentAfter FieldsText (b ∷ []) (Due place.Name)
+name_begins b is = record {
+  there = λ more rest it. line_fields (b ∷ more) rest (from_rest (past_one IsTokenByte is refl)
+      it);
+  back = λ more rest it. rest_of (past_one IsTokenByte is refl)
+      (fields_line (b ∷ more) rest (λ e. token_not 13 refl (subst IsTokenByte e is)) it);
+}
+
+past_name : (name : List ℕ) {bytes rest : List ℕ} → All IsTokenByte name → 0 < length name
+    → bytes ≡ name ++ rest → Continues FieldsText bytes (Due place.Name) rest
+past_name [] all some e = absurd (omega (arith, some))
+past_name (b ∷ name) all some e =
+    in_turn (at_front (b ∷ []) (name_begins b (All-head IsTokenByte b name all)) e)
+    (past_run IsTokenByte 58 (Due place.Value) name (token_not 58 refl)
+    (All-tail IsTokenByte b name all) refl)
+
+past_named : (name : List ℕ) {bytes rest : List ℕ} → All IsTokenByte name → 0 < length name
+    → bytes ≡ name ++ 58 ∷ rest → Continues FieldsText bytes (Due place.Value) rest
+past_named name all some e = in_turn (past_name name all some e)
+    (at_front (58 ∷ []) (behind_end IsTokenByte 58 (Due place.Value) (token_not 58 refl)) refl)
+
+pub past_colon : {bytes rest : List ℕ} (size : ℕ) → SoMany IsTokenByte bytes size → 0 < size
+    → bytes ≡ take size bytes ++ 58 ∷ rest → Continues FieldsText bytes (Due place.Value) rest
+past_colon {bytes = bytes} size ((room, all), ends) some e =
+    past_named (take size bytes) all (omega (arith, length-take size bytes, some, room)) e
+
+-- neither an empty line nor a name and a colon
+pub name_stops : {bytes : List ℕ} {left : ℕ} (size : ℕ) → NotFirst (λ b. b ≡ 13) bytes
+    → SoMany IsTokenByte bytes size → Unended bytes size 58 left → Stops FieldsText bytes left
+name_stops {bytes = bytes} size first (run, ends) (inl (none, at)) =
+    let P : ℕ → Type 0 = λ n. NotFirst IsTokenByte (drop n bytes) in
+    stop_here (live_at place.Fields) (none_fields bytes first (subst P none ends)) at
+name_stops {bytes = bytes} size first ((room, all), ends) (inr (some, other, at)) =
+    stops (past_name (take size bytes) all (omega (arith, length-take size bytes, some, room))
+    (sym (take-append-drop size bytes)))
+    (stop_here (live_at place.Name)
+    (none_run IsTokenByte 58 (Due place.Value) (drop size bytes) ends other) at)
 
 -- after the carriage return of the empty line
 pub behind_return : EquivalentAfter FieldsText (13 ∷ []) (Byte 10 Nothing)
 unfolding FieldsText
 behind_return = record {
-  there = λ more rest it. (0, (behind_byte 13 (Byte 10 Nothing)).there more rest it);
+  there = λ more rest it. (0, from_rest (past_byte refl) it);
   back = λ more rest it. by more rest it.0 it.1;
 }
   where
     by : (more rest : List ℕ) (n : ℕ) → LinesText n (13 ∷ more) rest → Byte 10 Nothing more rest
-    by more rest zero it = (behind_byte 13 (Byte 10 Nothing)).back more rest it
-    by more rest (suc n) it = absurd (line_first (LinesText n) (13 ∷ more) rest it refl)
+    by more rest zero it = rest_of (past_byte refl) it
+    by more rest (suc n) it = absurd
+        (none_one IsTokenByte (Run IsTokenByte 58 (Run IsValueByte 13 (Byte 10 (LinesText n))))
+        (13 ∷ []) (token_not 13 refl) more rest it)
 
-pub stops_return : (bytes end : List ℕ) (left : ℕ) → bytes ≡ 13 ∷ end
-    → NotFirst (λ b. b ≡ 10) end → left ≡ length end → Stops FieldsText bytes left
-stops_return bytes end left e not size =
-    stops_at FieldsText (Byte 10 Nothing) bytes (13 ∷ []) end left behind_return
-    (live_byte 10 Nothing (record { bytes = []; is = refl })) (none_byte 10 Nothing end not) e size
+past_field : {name value bytes rest : List ℕ} → IsFieldLine name value bytes rest
+    → Continues FieldsText bytes FieldsText rest
+past_field {name = name} {value = value} {rest = rest} is =
+    in_turn (past_named name is.is_name is.some_name is.splits)
+    (in_turn (past_end IsValueByte 13 (is.before ++ (value ++ is.behind)) (value_not 13 refl)
+    (all_value is.before value is.behind is.white_before is.is_value is.white_behind)
+    (regroup is.before value is.behind (line_end ++ rest))) (past_byte refl))
+
+pub past_lines : (fields : List Pair) {bytes rest : List ℕ} → AreFieldLines fields bytes rest
+    → Continues FieldsText bytes FieldsText rest
+past_lines [] e = here e
+past_lines (f ∷ fields) (behind, is, are) = in_turn (past_field is) (past_lines fields are)
+
+pub past_fields : {fields : List Pair} {bytes rest : List ℕ} → AreFields fields bytes rest
+    → Continues FieldsText bytes Nothing rest
+past_fields {fields = fields} are = in_turn (past_lines fields are.lines)
+    (in_turn (at_front (13 ∷ []) behind_return are.ended) (past_byte refl))
+
+text_line : (K : Language) (bytes rest : List ℕ) → LineText K bytes rest
+    → (name : List ℕ) × (value : List ℕ) × (behind : List ℕ) × IsFieldLine name value bytes behind
+    × K behind rest
+unfolding OneOf Run Byte
+text_line K bytes rest (
+  b,
+  more,
+  e,
+  is,
+  (
+    run,
+    text,
+    f,
+    all,
+    (
+      value,
+      feed,
+      g,
+      values,
+      (
+        behind,
+        h,
+        it,
+      ),
+    ),
+  ),
+) =
+    let found = field_line_some (b ∷ run) value bytes behind (cc) (omega arith)
+    (All-cons IsTokenByte b run is all) values in
+    (b ∷ run, found.0, behind, found.1, it)
+
+pub text_lines : (n : ℕ) (bytes rest : List ℕ) → LinesText n bytes rest
+    → (fields : List Pair) × AreFields fields bytes rest
+unfolding Byte
+text_lines zero bytes rest (more, e, (last, f, it)) =
+    ([], record { end = bytes; lines = refl; ended = cc })
+text_lines (suc n) bytes rest it =
+    let (name, value, behind, is, lines) = text_line (LinesText n) bytes rest it in
+    let (fields, are) = text_lines n behind rest lines in (
+      (name, value) ∷ fields,
+      record { end = are.end; lines = (behind, is, are.lines); ended = are.ended },
+    )

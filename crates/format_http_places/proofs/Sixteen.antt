@@ -1,10 +1,9 @@
 -- From the lanes of sixteen bytes to how many of them are of a kind.
-use Rattle.std.proofs.Common.{◌≡◌, ◌∙◌, ◌≤◌, ◌<◌, ◌%◌, ◌^◌, ℕ, List, [], ◌∷◌, map, length}
-use Rattle.std.proofs.Common.{get_or, take, drop, replicate, Fits, w8, refl, sym, ap, ap₂, subst}
-use Rattle.std.proofs.Common.{◌⊎◌, Bool, true, false, not, ◌||◌, arith, inl, inr}
+use Rattle.std.proofs.Common.{◌≡◌, ◌∙◌, ◌≤◌, ◌<◌, ◌%◌, ◌^◌, ℕ, List, [], ◌∷◌, map}
+use Rattle.std.proofs.Common.{length, get_or, take, drop, replicate, Fits, w8, refl, sym, ap, ap₂}
+use Rattle.std.proofs.Common.{subst, ◌⊎◌, Bool, true, false, not, ◌||◌, arith, inl, inr}
 use Rattle.std.proofs.lemmas.Bool.{agree_below, agree_below_at, not-true, not-false, cases_eq}
-use Rattle.std.proofs.lemmas.Bool.{cases_lt}
-use Rattle.std.proofs.lemmas.Bool.{cond-true, cond-false, eq-eqb, ne_eqb}
+use Rattle.std.proofs.lemmas.Bool.{cases_lt, cond-true, cond-false, eq-eqb, ne_eqb}
 use Rattle.std.proofs.lemmas.List.{drop_more, drop_all, length-map, length-take, get_or-take}
 use Rattle.std.proofs.lemmas.List.Elements.{All-from_get_or}
 use Rattle.std.proofs.lemmas.List.Sums.{prefix_len-le-length, prefix_len_passes, prefix_len_stops}
@@ -78,20 +77,21 @@ module _ (q : ℕ → Bool) (P : ℕ → Type 0) (d : List ℕ) (r : ℕ) (z : L
       subst (λ x. stops x ≡ false) at (not-true _
       (prefix_len_passes (λ x. not (stops x)) (chunk 0 16 d) k 0 (omega (arith, counted))))
 
+  firsts : ((k : ℕ) → k < r → P (get_or d k 0)) → FirstAre P d r
+  firsts are = (
+    omega (arith, within),
+    All-from_get_or P (take r d) 0 (λ k less.
+        let below : k < r = omega (arith, less, length-take r d) in
+        subst P (sym (get_or-take r d k 0 below)) (are k below)),
+  )
+
   -- where each byte at which no lane stops is such
   pub first_are : agree_below (λ x. stops x || q x) (λ _. true) 256 ≡ true
       → ((b : ℕ) → q b ≡ true → P b) → (r ≤ 16) × FirstAre P d r
   first_are all is = (
     within,
-    (
-      omega (arith, within),
-      All-from_get_or P (take r d) 0 (λ k less.
-          let below : k < r = omega (arith, less, length-take r d) in
-          subst P (sym (get_or-take r d k 0 below))
-          (is (get_or d k 0) (sym (ap (λ b. b || q (get_or d k 0)) (goes_on k below))
-          ∙ agree_below_at (λ x. stops x || q x) (λ _. true) 256 (get_or d k 0) all
-          (fits k).fits))),
-    ),
+    firsts (λ k below. is (get_or d k 0) (sym (ap (λ b. b || q (get_or d k 0)) (goes_on k below))
+        ∙ agree_below_at (λ x. stops x || q x) (λ _. true) 256 (get_or d k 0) all (fits k).fits)),
   )
 
   -- where a lane stops just at those bytes that are not such
@@ -99,15 +99,9 @@ module _ (q : ℕ → Bool) (P : ℕ → Type 0) (d : List ℕ) (r : ℕ) (z : L
       → ((b : ℕ) → q b ≡ false → P b → ⊥) → SoManyOf16 P d r
   so_many all is other = (
     within,
-    (
-      omega (arith, within),
-      All-from_get_or P (take r d) 0 (λ k less.
-          let below : k < r = omega (arith, less, length-take r d) in
-          subst P (sym (get_or-take r d k 0 below))
-          (is (get_or d k 0) (not-false _
-          (sym (agree_below_at stops (λ x. not (q x)) 256 (get_or d k 0) all (fits k).fits)
-          ∙ goes_on k below)))),
-    ),
+    firsts (λ k below. is (get_or d k 0) (not-false _
+        (sym (agree_below_at stops (λ x. not (q x)) 256 (get_or d k 0) all (fits k).fits)
+        ∙ goes_on k below))),
     λ short.
         let at : get_or (chunk 0 16 d) (prefix_len (λ x. not (stops x)) (chunk 0 16 d)) 0
         ≡ get_or d r 0 =

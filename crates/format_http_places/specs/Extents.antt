@@ -1,9 +1,10 @@
 -- The scanner for the end of a head: the bytes passed, and the continuation expected after them.
-use Rattle.std.specs.Prelude.{◌≡◌, ◌⊎◌, ◌<◌, ◌+◌, ⊤, ℕ, List, [], ◌∷◌, ◌++◌, length, Bool, true}
-use Rattle.std.specs.Prelude.{Err, None, Ok, Option, Result, Some, false, take}
+use Rattle.std.specs.Prelude.{◌≡◌, ◌⊎◌, ◌<◌, ◌+◌, ⊤, ℕ, List, [], ◌∷◌, length, Bool, true, Err}
+use Rattle.std.specs.Prelude.{None, Ok, Option, Result, Some, false, take}
 use Rattle.format_http.specs.Heads.Head.{BeginsHead, IsHead, NoHead, Pair, Request}
 use Rattle.format_http.specs.Responses.Head.{BeginsResponseHead, IsResponseHead, NoResponseHead}
 use Rattle.format_http.specs.Responses.Head.{Status}
+use Rattle.format_http_places.specs.Grammar.{Continues}
 use Rattle.format_http_places.specs.Refusals.{IsRefusedBy, NoneRead}
 use Rattle.format_http_places.specs.Responses.{NoResponseRead}
 use Rattle.format_http_places.specs.States.{Due, IsIn, StateAfter, TextOf, part_of}
@@ -13,7 +14,8 @@ use Rattle.format_http_places.specs.declared.parts.HeadKind.TheVariants as kind
 use Rattle.format_http_places.specs.declared.parts.Invalid.{Invalid}
 use Rattle.format_http_places.specs.declared.read.HeadError.{HeadError}
 use Rattle.format_http_places.specs.declared.read.HeadError.TheVariants as error
-use Rattle.format_http_places.specs.declared.read.HeadError.TheVariants.{Incomplete, TooManyFields}
+use Rattle.format_http_places.specs.declared.read.HeadError.TheVariants.{Incomplete}
+use Rattle.format_http_places.specs.declared.read.HeadError.TheVariants.{TooManyFields}
 use Rattle.format_http_places.specs.declared.state.HeadPlace.{HeadPlace}
 use Rattle.format_http_places.specs.declared.state.HeadPlace.TheVariants as place
 
@@ -22,15 +24,12 @@ abbrev pub IsNever : HeadPlace → ℕ → Type 0
 IsNever at b = (more rest : List ℕ) → Due at (b ∷ more) rest → ⊥
 
 -- `IsOf kind extent bytes`: the extent is of `bytes`, or of a prefix of them. It has passed
--- `front`, and for any continuation of `front` the whole starts with a head of this kind if and
--- only if the continuation is accepted in its state.
+-- a front, and for any continuation of it the whole starts with a head of this kind if and only if
+-- the continuation is accepted in its state.
 pub record IsOf (k : HeadKind) (extent : HeadExtent) (bytes : List ℕ) : Type 0 where
-  pub front : List ℕ
   pub left : List ℕ
-  pub splits : bytes ≡ front ++ left
-  pub count : length front ≡ extent.passed
-  pub there : (more rest : List ℕ) → Due extent.place more rest → TextOf k (front ++ more) rest
-  pub back : (more rest : List ℕ) → TextOf k (front ++ more) rest → Due extent.place more rest
+  pub passed : Continues (TextOf k) bytes (Due extent.place) left
+  pub count : length passed.front ≡ extent.passed
 
 -- Some head starts with these bytes.
 abbrev pub Begins : HeadKind → List ℕ → Type 0
@@ -81,8 +80,7 @@ IsStopped at (b ∷ bs) = (at ≡ place.Done) ⊎ IsNever at b
 
 -- The scan passes the longest possible prefix of the bytes; `left` is the rest.
 abbrev pub Walks : HeadPlace → List ℕ → HeadPlace → List ℕ → Type 0
-Walks old fresh new left = (taken : List ℕ) × (fresh ≡ taken ++ left) × StateAfter old taken new
-    × IsStopped new left
+Walks old fresh new left = Continues (Due old) fresh (Due new) left × IsStopped new left
 
 -- the result in a state, with the rest and the number of bytes passed
 abbrev pub Says : HeadExtent → List ℕ → Result (Option ℕ) Invalid → Type 0
@@ -94,9 +92,10 @@ Says new left (Err refused) = (new.place ≡ place.Done → ⊥) × (0 < length 
 -- From one extent to the next: the longest possible prefix of the new bytes is passed, and the
 -- result depends on the new state. The bytes that were passed before do not matter.
 abbrev pub IsLed : HeadExtent → List ℕ → HeadExtent → Result (Option ℕ) Invalid → Type 0
-IsLed old fresh new result = (taken : List ℕ) × (left : List ℕ) × (fresh ≡ taken ++ left)
-    × (new.passed ≡ old.passed + length taken) × StateAfter old.place taken new.place
-    × IsStopped new.place left × Says new left result
+IsLed old fresh new result = (left : List ℕ)
+    × (walked : Continues (Due old.place) fresh (Due new.place) left)
+    × (new.passed ≡ old.passed + length walked.front) × IsStopped new.place left
+    × Says new left result
 
 -- ---- one byte
 

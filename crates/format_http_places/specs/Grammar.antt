@@ -57,11 +57,11 @@ abbrev pub ProtocolText : Language → Language
 ProtocolText behind = Text protocol (OneOf IsDigit (Byte 46 (OneOf IsDigit behind)))
 
 -- a version and a line ending, followed by fields
-unfoldable pub VersionText : Language
+abbrev pub VersionText : Language
 VersionText = ProtocolText (Text line_end FieldsText)
 
 -- a method and a target, and then a version
-unfoldable pub HeadText : Language
+abbrev pub HeadText : Language
 HeadText = SomeOf IsTokenByte 32 (SomeOf IsVisible 32 VersionText)
 
 -- the three digits of a status code, and then that
@@ -74,8 +74,19 @@ ReasonText bytes rest = Byte 32 (Run IsValueByte 13 (Byte 10 FieldsText)) bytes 
     ⊎ Text line_end FieldsText bytes rest
 
 -- a version, a space and a status code, and then a reason
-unfoldable pub ResponseText : Language
+abbrev pub ResponseText : Language
 ResponseText = ProtocolText (Byte 32 (CodeText ReasonText))
+
+-- After `front`, the language `L` continues as `K`.
+pub record EquivalentAfter (L : Language) (front : List ℕ) (K : Language) : Type 0 where
+  pub there : (more rest : List ℕ) → K more rest → L (front ++ more) rest
+  pub back : (more rest : List ℕ) → L (front ++ more) rest → K more rest
+
+-- `Continues L bytes K rest`: `bytes` are a front after which `L` continues as `K`, and `rest`.
+pub record Continues (L : Language) (bytes : List ℕ) (K : Language) (rest : List ℕ) : Type 0 where
+  pub front : List ℕ
+  pub splits : bytes ≡ front ++ rest
+  pub behind : EquivalentAfter L front K
 
 -- No bytes of this language start with `before` and the next byte; or there is no next byte, and
 -- `before` is not in the language.
@@ -104,6 +115,12 @@ pub record Differs (text bytes : List ℕ) (left : ℕ) : Type 0 where
   pub splits : bytes ≡ front ++ back
   pub other : NotFirst (λ b. b ≡ byte) back
   pub size : length back ≡ left
+
+-- The bytes do not start with a carriage return, or no line feed follows it.
+abbrev pub NoLineEnd : List ℕ → ℕ → Type 0
+NoLineEnd bytes left = (NotFirst (λ b. b ≡ 13) bytes × (left ≡ length bytes))
+    ⊎ ((feed : List ℕ) × (bytes ≡ 13 ∷ feed) × NotFirst (λ b. b ≡ 10) feed
+    × (left ≡ length feed))
 
 -- A run of `size` bytes, at least one, is not followed by `byte`; or the run is empty.
 abbrev pub Unended : List ℕ → ℕ → ℕ → ℕ → Type 0

@@ -1,9 +1,10 @@
 -- The states of the search for the end of a head, and the languages that follow them.
-use Rattle.std.specs.Prelude.{◌≡◌, ℕ, List, [], ◌∷◌, ◌++◌}
+use Rattle.std.specs.Prelude.{◌≡◌, ℕ, List, [], ◌∷◌}
 use Rattle.format_http.specs.Heads.Bytes.{IsDigit, IsTokenByte, IsValueByte, IsVisible, line_end}
-use Rattle.format_http_places.specs.Grammar.{Byte, CodeText, FieldsText, HeadText, Language}
-use Rattle.format_http_places.specs.Grammar.{Nothing, OneOf, ProtocolText, ReasonText, ResponseText}
-use Rattle.format_http_places.specs.Grammar.{Run, SomeOf, Text, VersionText}
+use Rattle.format_http_places.specs.Grammar.{Byte, CodeText, EquivalentAfter, FieldsText}
+use Rattle.format_http_places.specs.Grammar.{HeadText, Language, Nothing, OneOf, ProtocolText}
+use Rattle.format_http_places.specs.Grammar.{ReasonText, ResponseText, Run, SomeOf, Text}
+use Rattle.format_http_places.specs.Grammar.{VersionText}
 use Rattle.format_http_places.specs.declared.parts.HeadKind.{HeadKind}
 use Rattle.format_http_places.specs.declared.parts.HeadKind.TheVariants as kind
 use Rattle.format_http_places.specs.declared.parts.HeadPart.{HeadPart}
@@ -91,14 +92,12 @@ part_of place.Done = part.LineEnding
 
 -- `StateAfter old bytes new`: `bytes` lead from state `old` to state `new`. For any continuation,
 -- it is accepted in `new` if and only if `bytes` followed by it are accepted in `old`.
-pub record StateAfter (old : HeadPlace) (bytes : List ℕ) (new : HeadPlace) : Type 0 where
-  pub there : (more rest : List ℕ) → Due new more rest → Due old (bytes ++ more) rest
-  pub back : (more rest : List ℕ) → Due old (bytes ++ more) rest → Due new more rest
+abbrev pub StateAfter : HeadPlace → List ℕ → HeadPlace → Type 0
+StateAfter old bytes new = EquivalentAfter (Due old) bytes (Due new)
 
 -- `IsIn kind before part`: the byte after `before` is in this part of a head. For any continuation,
 -- `before` followed by it starts with a head if and only if it is accepted in a state of this part.
 pub record IsIn (k : HeadKind) (before : List ℕ) (part : HeadPart) : Type 0 where
   pub at : HeadPlace
-  pub there : (more rest : List ℕ) → Due at more rest → TextOf k (before ++ more) rest
-  pub back : (more rest : List ℕ) → TextOf k (before ++ more) rest → Due at more rest
+  pub behind : EquivalentAfter (TextOf k) before (Due at)
   pub is_part : part ≡ part_of at

@@ -3,11 +3,12 @@
 ghost use Rattle.std.specs.Prelude.{◌≡◌, ◌≤◌, ◌<◌, ◌+◌, ◌∷◌, ◌++◌, MatchResult, length, take};
 ghost use Rattle.format_http.specs.Heads.Bytes.{IsDigit, line_end};
 ghost use Rattle.format_http.specs.Heads.RequestLine.{digits};
-ghost use Rattle.format_http_places.specs.Grammar.{Differs, FieldsText, HeadText, LineText};
-ghost use Rattle.format_http_places.specs.Grammar.{Nothing, ProtocolText, Stops, Unended};
-ghost use Rattle.format_http_places.specs.Grammar.{VersionText, protocol};
+ghost use Rattle.format_http_places.specs.Grammar.{FieldsText, HeadText, NoLineEnd, ProtocolText};
+ghost use Rattle.format_http_places.specs.Grammar.{Stops, Unended, VersionText, protocol};
 ghost use Rattle.format_http_places.specs.Places.{ShowsFieldLine, ShowsLine};
 ghost use Rattle.format_http_places.specs.Runs.{NotFirst};
+ghost use Rattle.format_http_places.specs.States.{AfterVersion};
+ghost use Rattle.format_http_places.specs.declared.parts.HeadKind.{HeadKind};
 
 use crate::places::{Field, Span};
 use crate::runs::{bare, target_len, token_len, value_len};
@@ -56,7 +57,7 @@ fn ended(bytes: &[u8], size: usize, byte: u8) -> Result<&[u8], Stop>
 #[inline(always)]
 pub(crate) fn read_line_end(bytes: &[u8]) -> Result<&[u8], Stop>
     ensures { MatchResult result (λ rest. bytes.now ≡ line_end ++ rest.now)
-        (λ stop. Differs line_end bytes.now stop.left) }
+        (λ stop. NoLineEnd bytes.now stop.left) }
 {
     let line_feed = read_byte(bytes, b'\r')?;
     read_byte(line_feed, b'\n')
@@ -81,7 +82,7 @@ pub(crate) fn read_numbers(bytes: &[u8]) -> Result<Version<'_>, Stop>
     ensures { MatchResult result
         (λ version. (version.major < 10) × (version.minor < 10)
         × (bytes.now ≡ protocol ++ (digits version.major version.minor ++ version.rest.now)))
-        (λ stop. Stops (ProtocolText Nothing) bytes.now stop.left) }
+        (λ stop. (kind : HeadKind) → Stops (ProtocolText (AfterVersion kind)) bytes.now stop.left) }
 {
     let first = read_text(bytes, b"HTTP/".as_slice())?;
     let (major, point) = read_digit(first)?;
@@ -137,7 +138,7 @@ pub(crate) fn read_request_line(bytes: &[u8]) -> Result<RequestLine<'_>, Stop>
 pub(crate) fn read_field_line(whole: usize, bytes: &[u8]) -> Result<FieldLine<'_>, Stop>
     requires { length bytes.now ≤ whole }
     ensures { MatchResult result (λ line. ShowsFieldLine whole bytes.now line)
-        (λ stop. Stops (LineText FieldsText) bytes.now stop.left) }
+        (λ stop. NotFirst (λ b. b ≡ 13) bytes.now → Stops FieldsText bytes.now stop.left) }
 {
     let name = token_len(bytes);
     let text = ended(bytes, name, b':')?;

@@ -6,9 +6,8 @@ use Rattle.std.proofs.lemmas.List.Elements.{All-cons, All-from_recursion, All-he
 use Rattle.std.proofs.lemmas.List.Elements.{recursion_from_All}
 use Rattle.format_http.specs.Chunks.Bodies.{BodyHasSize, DigitsText, Extensions, HasNumber}
 use Rattle.format_http.specs.Chunks.Lines.{IsQuotedByte}
-use Rattle.format_http.specs.Chunks.SizeLine.{ExtensionText, IsSize, QuotedByteText}
-use Rattle.format_http.specs.Chunks.SizeLine.{Named, RunText, SizeLineText, Slice}
-use Rattle.format_http.specs.Chunks.SizeLine.{SpacedText, ValueText}
+use Rattle.format_http.specs.Chunks.SizeLine.{ExtensionText, IsSize, QuotedByteText, Named}
+use Rattle.format_http.specs.Chunks.SizeLine.{RunText, SizeLineText, Slice, SpacedText, ValueText}
 use Rattle.format_http.specs.Heads.Bytes.{IsTokenByte, IsValueByte, line_end}
 use Rattle.format_http.specs.Heads.FieldLine.{IsFieldLine}
 use Rattle.format_http.specs.Heads.Head.{AreFieldLines, Pair}
@@ -17,10 +16,8 @@ use Rattle.format_http.specs.declared.chunks.size_line.Size.TheVariants.{Bytes, 
 use Rattle.format_http.specs.declared.chunks.size_line.SizeLine.{SizeLine}
 use Rattle.format_http.proofs.ChunksLemmas.Alike.{Alike, byte_alike, either_alike, gathered_alike}
 use Rattle.format_http.proofs.ChunksLemmas.Alike.{many_alike, many_all, many_there, one_alike}
-use Rattle.format_http.proofs.ChunksLemmas.Alike.{optional_alike}
-use Rattle.format_http.proofs.ChunksLemmas.Alike.{slice_of, some_alike, star_alike, taken_alike}
-use Rattle.format_http.proofs.ChunksLemmas.Alike.{then_alike}
-use Rattle.format_http.proofs.OneLemmas.Heads.{field_line_longer}
+use Rattle.format_http.proofs.ChunksLemmas.Alike.{optional_alike, slice_of, some_alike}
+use Rattle.format_http.proofs.ChunksLemmas.Alike.{star_alike, taken_alike, then_alike}
 use Rattle.format_http.proofs.OneLemmas.Values.{all_value, field_line_some, regroup}
 use Rattle.format_http_chunked.specs.Bodies as body
 use Rattle.format_http_chunked.specs.Words.{Byte, Many, Times}
@@ -242,21 +239,11 @@ field_there next (b ∷ bytes) (is, x) =
     let (behind, f, z) = byte_there 58 (Many IsValueByte (body.LineEnd next)) mid y in
     let (text, end, values, g, w) = many_there IsValueByte (body.LineEnd next) behind z in
     let (rest, h, n) = line_end_there next end w in
-    let name = b ∷ front in
-    let whole = name ++ 58 ∷ (text ++ line_end) in
-    let (value, line) = field_line_some name text whole refl (omega arith)
-    (All-cons IsTokenByte b front is all) values in
-    let splits : b ∷ bytes ≡ whole ++ rest =
-    ap (λ l. b ∷ l) (e ∙ ap (λ l. front ++ l) (f ∙ ap (λ l. 58 ∷ l) (g ∙ ap (λ l. text ++ l) h)))
-    ∙ sym (append_assoc name (58 ∷ (text ++ line_end)) rest
-    ∙ ap (λ l. name ++ 58 ∷ l) (append_assoc text line_end rest)) in (
-      name,
-      value,
-      rest,
-      subst (λ l. IsFieldLine name value l rest) (sym splits)
-          (field_line_longer name value whole [] rest line),
-      n,
-    )
+    let (value, line) = field_line_some (b ∷ front) text (b ∷ bytes) rest
+    (ap (λ l. b ∷ l) (e ∙ ap (λ l. front ++ l) (f ∙ ap (λ l. 58 ∷ l) (g ∙ ap (λ l. text ++ l)
+    h))))
+    (omega arith) (All-cons IsTokenByte b front is all) values in
+    (b ∷ front, value, rest, line, n)
 
 field_back : (next : List ℕ → Type 0) (name value bytes rest : List ℕ)
     → IsFieldLine name value bytes rest → next rest → body.FieldLine next bytes

@@ -1,8 +1,6 @@
 -- Heads: bytes begin with one at most.
-use Rattle.std.proofs.Common.{◌≡◌, ◌∙◌, ◌++◌, ◌∷◌, ◌+◌, ℕ, List, [], ap, append_assoc, arith}
-use Rattle.std.proofs.Common.{refl, subst, sym}
+use Rattle.std.proofs.Common.{◌≡◌, ◌∙◌, ◌++◌, ◌∷◌, ◌+◌, ℕ, List, [], ap, arith, refl, subst, sym}
 use Rattle.format_http.specs.Heads.Bytes.{IsTokenByte, IsVisible, line_end}
-use Rattle.format_http.specs.Heads.FieldLine.{IsFieldLine}
 use Rattle.format_http.specs.Heads.Head.{AreFieldLines, AreFields, IsHead, Pair, Request}
 use Rattle.format_http.specs.Heads.RequestLine.{IsRequestLine, digits}
 use Rattle.format_http.proofs.OneLemmas.Texts.{one_text}
@@ -84,22 +82,3 @@ head_one line other fields others bytes one two h k =
       behind.0,
       behind.1,
     )
-
-pub field_line_longer : (name value bytes rest more : List ℕ) → IsFieldLine name value bytes rest
-    → IsFieldLine name value (bytes ++ more) (rest ++ more)
-field_line_longer name value bytes rest more line =
-    let splits : bytes ++ more
-    ≡ (name ++ 58 ∷ (line.before ++ (value ++ (line.behind ++ (line_end ++ rest))))) ++ more =
-    ap (λ l. l ++ more) line.splits in
-    record {
-      before = line.before;
-      behind = line.behind;
-      splits = simp append_assoc at splits;
-      some_name = line.some_name;
-      is_name = line.is_name;
-      white_before = line.white_before;
-      white_behind = line.white_behind;
-      is_value = line.is_value;
-      begins_bare = line.begins_bare;
-      ends_bare = line.ends_bare;
-    }

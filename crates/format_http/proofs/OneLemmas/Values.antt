@@ -4,43 +4,31 @@ use Rattle.std.proofs.Common.{◌⊎◌, ◌<◌, length, length-append, refl, s
 use Rattle.std.specs.Borrow.{Bor}
 use Rattle.std.specs.List.{All}
 use Rattle.std.proofs.lemmas.Bool.Decides.{eqb_tells}
-use Rattle.std.proofs.lemmas.List.Elements.{All-append, All-cons, All-head, All-nil, All-tail}
-use Rattle.std.proofs.lemmas.List.Elements.{All-weaker}
+use Rattle.std.proofs.lemmas.List.Elements.{All-append, All-cons, All-nil, All-tail, All-weaker}
+use Rattle.std.proofs.lemmas.List.Elements.{recursion_from_All}
 use Rattle.std.proofs.lemmas.List.{same_from_push}
+use Rattle.format_http.specs.Chunks.Framing.{IsBare}
 use Rattle.format_http.specs.Heads.Bytes.{IsTokenByte, IsValueByte, IsWhite, line_end}
 use Rattle.format_http.specs.Heads.FieldLine.{BeginsBare, EndsBare, IsFieldLine, IsTrimmed}
 use Rattle.format_http.specs.Heads.FieldRead.{all_front, none_returns, white_is_value}
 use Rattle.format_http.specs.declared.heads.field_line.Field.{Field}
 use Rattle.winnow.specs.Equal.{same_first, same_others}
+use Rattle.format_http.proofs.ChunksLemmas.Ends.{one_without}
 use Rattle.format_http.proofs.OneLemmas.Texts.{in_middle, one_stranger, one_text}
 
 -- ---- the end of a text
 
-bare_tail : (x : ℕ) (xs : List ℕ) → EndsBare (x ∷ xs) → EndsBare xs
-bare_tail x xs ends = λ b front e white. ends b (x ∷ front) (ap (λ l. x ∷ l) e) white
-
--- a text that ends bare is not all white
-white_last : (y : ℕ) (ys behind : List ℕ) → All IsWhite (y ∷ (ys ++ behind))
-    → EndsBare (y ∷ ys) → ⊥
-white_last y [] behind all ends = ends y [] refl (All-head IsWhite y behind all)
-white_last y (z ∷ zs) behind all ends =
-    white_last z zs behind (All-tail IsWhite y (z ∷ (zs ++ behind)) all)
-    (bare_tail y (z ∷ zs) ends)
+bare_of : (text : List ℕ) → EndsBare text → IsBare IsWhite text
+bare_of [] ends = tt
+bare_of (x ∷ []) ends = ends x [] refl
+bare_of (x ∷ y ∷ ys) ends =
+    bare_of (y ∷ ys) (λ b front e. ends b (x ∷ front) (ap (λ l. x ∷ l) e))
 
 -- before white space one text ends bare
 ends_one : (v w a b : List ℕ) → All IsWhite a → All IsWhite b → EndsBare v → EndsBare w
     → v ++ a ≡ w ++ b → v ≡ w
-ends_one [] [] a b p q ends other e = refl
-ends_one [] (y ∷ ys) a b p q ends other e =
-    let P : List ℕ → Type 0 = λ l. All IsWhite l in
-    absurd (white_last y ys b (subst P e p) other)
-ends_one (x ∷ xs) [] a b p q ends other e =
-    let P : List ℕ → Type 0 = λ l. All IsWhite l in
-    absurd (white_last x xs a (subst P (sym e) q) ends)
-ends_one (x ∷ xs) (y ∷ ys) a b p q ends other e =
-    ap (λ z. z ∷ xs) (same_first e)
-    ∙ ap (λ l. y ∷ l) (ends_one xs ys a b p q (bare_tail x xs ends) (bare_tail y ys other)
-    (same_others e))
+ends_one v w a b p q ends other e = one_without IsWhite v a w b e (recursion_from_All IsWhite a p)
+    (recursion_from_All IsWhite b q) (bare_of v ends) (bare_of w other)
 
 -- ---- both ends
 
@@ -53,7 +41,7 @@ none_bare a b c y ys d p q begins e =
     (in_middle IsWhite c y (ys ++ d) (subst P e (All-append IsWhite a b p q)))
 
 -- the text within whitespace that neither starts nor ends with whitespace is unique
-value_one : (a v b c w d : List ℕ) → All IsWhite a → All IsWhite b → All IsWhite c
+pub value_one : (a v b c w d : List ℕ) → All IsWhite a → All IsWhite b → All IsWhite c
     → All IsWhite d → BeginsBare v → EndsBare v → BeginsBare w → EndsBare w
     → a ++ (v ++ b) ≡ c ++ (w ++ d) → v ≡ w
 value_one a [] b c [] d p q r s begins ends begins' ends' e = refl
@@ -260,22 +248,22 @@ all_back : (Q : ℕ → Type 0) (xs ys : List ℕ) → All Q (xs ++ ys) → All 
 all_back Q [] ys all = all
 all_back Q (x ∷ xs) ys all = all_back Q xs ys (All-tail Q x (xs ++ ys) all)
 
-pub field_line_some : (name all bytes : List ℕ) → bytes ≡ name ++ 58 ∷ (all ++ line_end)
-    → 0 < length name → All IsTokenByte name → All IsValueByte all
-    → (value : List ℕ) × IsFieldLine name value bytes []
-field_line_some name all bytes splits some is_name is_value =
+pub field_line_some : (name all bytes rest : List ℕ)
+    → bytes ≡ name ++ 58 ∷ (all ++ (line_end ++ rest)) → 0 < length name → All IsTokenByte name
+    → All IsValueByte all → (value : List ℕ) × IsFieldLine name value bytes rest
+field_line_some name all bytes rest splits some is_name is_value =
     let (front, text, it) = shifted_some all in
     let P : List ℕ → Type 0 = λ l. All IsValueByte l in
     let (value, trimmed) = trimmed_some text in
-    let line : IsRead name text bytes [] = record {
+    let line : IsRead name text bytes rest = record {
       white = front;
       splits = splits
-          ∙ ap (λ l. name ++ 58 ∷ l) (ap (λ l. l ++ line_end) it.splits
-          ∙ append_assoc front text line_end);
+          ∙ ap (λ l. name ++ 58 ∷ l) (ap (λ l. l ++ (line_end ++ rest)) it.splits
+          ∙ append_assoc front text (line_end ++ rest));
       some_name = some;
       is_name = is_name;
       is_white = it.white;
       is_value = all_back IsValueByte front text (subst P it.splits is_value);
       bare = it.bare;
     } in
-    (value, read_trimmed name text value bytes [] line trimmed)
+    (value, read_trimmed name text value bytes rest line trimmed)

@@ -35,19 +35,21 @@ pub most_value : (c : ℕ) → digit_value c ≤ 36
 most_value c = grind (arith, nat_tests)
 
 -- the number of all digits
-pub all_digits : (digits : List ℕ) (n : ℕ)
-    → n ≡ digits_value 16 (take (length digits) digits) → n ≡ value_in 16 digits
-all_digits digits n e = e ∙ ap (digits_value 16) (take-length digits) ∙ value_is 16 digits
+pub all_digits : (base : ℕ) (digits : List ℕ) (n : ℕ)
+    → n ≡ digits_value base (take (length digits) digits) → n ≡ value_in base digits
+all_digits base digits n e =
+    e ∙ ap (digits_value base) (take-length digits) ∙ value_is base digits
 
 -- where those so far and one more do not fit, no more do
-pub past_size : (digits : List ℕ) (i n : ℕ) → i < length digits
-    → n ≡ digits_value 16 (take i digits)
-    → (n * 16 + digit_value (get_or digits i 0) < 2 ^ 64 → ⊥) → value_in 16 digits < 2 ^ 64 → ⊥
-past_size digits i n below so_far large small = large (omega (
+pub past_size : (base : ℕ) (digits : List ℕ) (i n : ℕ) → 1 ≤ base → i < length digits
+    → n ≡ digits_value base (take i digits)
+    → (n * base + digit_value (get_or digits i 0) < 2 ^ 64 → ⊥)
+    → value_in base digits < 2 ^ 64 → ⊥
+past_size base digits i n least below so_far large small = large (omega (
   arith,
-  so_far,
   small,
-  digits_value_more 16 digits i below,
-  digits_value-take-le 16 digits (i + 1) (omega arith),
-  value_is 16 digits,
+  ap (λ m. m * base) so_far,
+  digits_value_more base digits i below,
+  digits_value-take-le base digits (i + 1) least,
+  value_is base digits,
 ))

@@ -8,14 +8,13 @@ use Rattle.std.proofs.Common.{refl, sym, ap, subst, inl, inr, ◌∙◌, arith, 
 use Rattle.std.proofs.lemmas.List.Elements.{recursion_from_All}
 use Rattle.format_http.specs.Chunks.Lines.{Extension, Extensions, IsQuotedByte, Line, QuotedByte}
 use Rattle.format_http.specs.Chunks.Lines.{QuotedText, RunOf, Spaced, TextOrToken}
-use Rattle.format_http.specs.Chunks.SizeLine.{ExtensionText, ExtensionsText, LineText, Means, Named}
-use Rattle.format_http.specs.Chunks.SizeLine.{QuotedByteText, SizeLineText, Slice, SpacedText}
-use Rattle.format_http.specs.Chunks.SizeLine.{StringText}
-use Rattle.format_http.specs.Chunks.SizeLine.{TokenText, ValueText}
+use Rattle.format_http.specs.Chunks.SizeLine.{ExtensionText, ExtensionsText, LineText, Means}
+use Rattle.format_http.specs.Chunks.SizeLine.{Named, QuotedByteText, SizeLineText, Slice}
+use Rattle.format_http.specs.Chunks.SizeLine.{SpacedText, StringText, TokenText, ValueText}
 use Rattle.format_http.specs.declared.chunks.size_line.SizeLine.{SizeLine}
 use Rattle.format_http.specs.Heads.Bytes.{IsTokenByte, IsValueByte}
-use Rattle.format_http.specs.Heads.Tokens.{space_most, token_no_mark, token_no_space}
-use Rattle.format_http.specs.Heads.Tokens.{token_plain}
+use Rattle.format_http.specs.Heads.Tokens.{space_most, token_least, token_no_mark, token_no_quote}
+use Rattle.format_http.specs.Heads.Tokens.{token_no_space}
 use Rattle.winnow.specs.AsChar.{IsHexDigit, IsSpace}
 use Rattle.winnow.specs.Range.{from_to}
 use Rattle.winnow.specs.Counted.{counted_reading}
@@ -31,10 +30,10 @@ use Rattle.winnow.specs.Reading.{Reading}
 use Rattle.winnow.specs.Texts.{Anything, AtLeast, StartsWith, TextsStartWith, BothText, EachText}
 use Rattle.winnow.specs.Texts.{GatheredText, InFront, IsGrammarOf, Itself, MadeText, MayStartWith}
 use Rattle.winnow.specs.Texts.{Members, NotFirst, OptionalText, Spelled, Text}
-use Rattle.winnow.specs.Texts.Fronts.{begins_wider, both_front, each_front, either_front, front_any}
-use Rattle.winnow.specs.Texts.Fronts.{front_begins, front_whole, in_list_front, may_begin}
-use Rattle.winnow.specs.Texts.Fronts.{members_begin, none_begins, spelled_begins, taken_front}
-use Rattle.winnow.specs.Texts.Fronts.{token_of_begins}
+use Rattle.winnow.specs.Texts.Fronts.{begins_wider, both_front, each_front, either_front}
+use Rattle.winnow.specs.Texts.Fronts.{front_any, front_begins, front_whole, in_list_front}
+use Rattle.winnow.specs.Texts.Fronts.{may_begin, members_begin, none_begins, spelled_begins}
+use Rattle.winnow.specs.Texts.Fronts.{taken_front, token_of_begins}
 use Rattle.winnow.specs.Texts.Parts.{behind_less, both_of, either_apart, optional_of, taken_of}
 use Rattle.winnow.specs.Texts.Parts.{three_of}
 use Rattle.winnow.specs.Texts.Rows.{gathered_of, list_of, many_of}
@@ -54,20 +53,10 @@ bare_13 (inr is) = omega (arith, is)
 
 -- a byte that is unescaped in quotes is neither a quote nor a backslash
 quoted_plain : (b : ℕ) → IsQuotedByte b → (b ≡ 34 → ⊥) × (b ≡ 92 → ⊥)
-quoted_plain b (inl is) = ((λ e. omega (arith, is, e)), (λ e. omega (arith, is, e)))
-quoted_plain b (inr (inl is)) = ((λ e. omega (arith, is, e)), (λ e. omega (arith, is, e)))
-quoted_plain b (inr (inr (inl is))) = ((λ e. omega (arith, is, e)), (λ e. omega (arith, is, e)))
-quoted_plain b (inr (inr (inr (inl is)))) =
-    ((λ e. omega (arith, is.0, e)), (λ e. omega (arith, is.1, e)))
-quoted_plain b (inr (inr (inr (inr (inl is))))) =
-    ((λ e. omega (arith, is.0, e)), (λ e. omega (arith, is.0, e)))
-quoted_plain b (inr (inr (inr (inr (inr is))))) =
-    ((λ e. omega (arith, is, e)), (λ e. omega (arith, is, e)))
+quoted_plain b is = ((λ e. grind arith), (λ e. grind arith))
 
 hex_least : (b : ℕ) → IsHexDigit b → (48 ≤ b) × (b ≡ 59 → ⊥)
-hex_least b (inl is) = (omega (arith, is.0), (λ e. omega (arith, is.1, e)))
-hex_least b (inr (inl is)) = (omega (arith, is.0), (λ e. omega (arith, is.0, e)))
-hex_least b (inr (inr is)) = (omega (arith, is.0), (λ e. omega (arith, is.0, e)))
+hex_least b is = (grind arith, (λ e. grind arith))
 
 -- ---- a byte after white space
 
@@ -181,7 +170,7 @@ value_of : IsGrammarOf (TextOrToken counted_reading (λ b. b) Byte
 value_of = either_apart token_text
     (behind_less (λ rest x. tt) (taken_of counted_reading (three_of (λ _ u. u) (λ u _. u)
     (byte_of 34) quoted_text_of (byte_of 34) front_any (spelled_begins 34 [] 34)))) token_begins
-    (string_front (λ b. IsTokenByte b → ⊥) (λ is. (token_plain 34 is).1 refl))
+    (string_front (λ b. IsTokenByte b → ⊥) (token_no_quote 34 refl))
 
 -- ---- extensions
 
@@ -214,7 +203,7 @@ clear_begins these space semicolon return rest (inr m) =
 clear_no_token : (rest : List ℕ) → Clear rest → NotFirst IsTokenByte rest
 clear_no_token = clear_begins (λ b. IsTokenByte b → ⊥)
     (λ b space token. token_no_space b token space)
-    (token_no_mark 59 (omega arith) (omega arith)) (λ is. omega (arith, (token_plain 13 is).0))
+    (token_no_mark 59 (omega arith) (omega arith)) (λ is. omega (arith, token_least 13 is))
 
 clear_no_digit : (rest : List ℕ) → Clear rest → NotFirst IsHexDigit rest
 clear_no_digit = clear_begins (λ b. IsHexDigit b → ⊥)

@@ -46,17 +46,6 @@ abbrev pub StatusLineStands : Grammar ℕ StatusLine
 StatusLineStands bytes line rest =
     IsStatusLine line.major line.minor line.status line.reason.now bytes rest
 
--- The bytes are a version, a space and a status code of these numbers, and then the rest.
-pub record IsFront (major minor status : ℕ) (bytes rest : List ℕ) : Type 0 where
-  pub hundreds : ℕ
-  pub tens : ℕ
-  pub ones : ℕ
-  pub splits : bytes
-      ≡ http ++ (digits major minor ++ (32 ∷ (three hundreds tens ones ++ rest)))
-  pub is_major : major < 10
-  pub is_minor : minor < 10
-  pub is_code : IsCode status hundreds tens ones
-
 -- `IsEnding reason bytes rest`: `bytes` starts with a space and this reason, or nothing if there is
 -- none, and a line ending, followed by `rest`.
 pub record IsEnding (reason bytes rest : List ℕ) : Type 0 where

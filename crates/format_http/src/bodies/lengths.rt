@@ -6,26 +6,13 @@ ghost use Rattle.format_http.specs.Bodies.Lengths.{HasLength};
 ghost use Rattle.format_http.specs.Bodies.Lists.{HasElement, IsThe, parts_of};
 ghost use Rattle.format_http.specs.Heads.Head.{pair};
 ghost use Rattle.format_http.specs.declared.bodies.framing.FramingError.TheVariants.{LengthsDiffer};
-ghost use Rattle.std.specs.Option.{SomeIff};
-ghost use Rattle.std.specs.Prelude.{◌≡◌, ◌↔◌, ◌⊎◌, ◌<◌, ◌^◌, IfErr, IfOk, List, ℕ, map};
-ghost use Rattle.winnow.specs.Digits.{value_in};
+ghost use Rattle.std.specs.Prelude.{◌≡◌, ◌↔◌, ◌⊎◌, IfErr, IfOk, List, ℕ, map};
 
 use crate::bodies::framing::{BodyLength, FramingError};
 use crate::bodies::lists::{element_of, next_part};
 use crate::chunks::framing::{is_number, is_same};
-use crate::chunks::numbers::value_of;
+use crate::chunks::numbers::number_in;
 use crate::heads::field_line::Field;
-
-/// The number that decimal digits stand for; none where it is past 64 bits.
-fn decimal(digits: &[u8]) -> Option<u64>
-    ensures { SomeIff result (value_in 10 digits.now < 2 ^ 64) (value_in 10 digits.now) }
-{
-    let mut number = 0_u64;
-    for digit in digits {
-        number = number.checked_mul(10)?.checked_add(value_of(*digit))?;
-    }
-    Some(number)
-}
 
 /// Returns the second text if the first is the same or missing.
 fn one_of<'i>(found: Option<&'i [u8]>, other: &'i [u8]) -> Result<Option<&'i [u8]>, FramingError>
@@ -101,7 +88,7 @@ fn length_of(text: &[u8]) -> Result<BodyLength, FramingError>
     if !is_number(text) {
         return Err(FramingError::LengthIsNoNumber);
     }
-    match decimal(text) {
+    match number_in(10, text) {
         Some(number) => Ok(BodyLength::Length(number)),
         None => Err(FramingError::LengthTooLarge),
     }

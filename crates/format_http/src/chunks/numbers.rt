@@ -1,10 +1,10 @@
-//! The numbers of hexadecimal digits.
+//! The numbers of digits.
 #![tactic(auto)]
 
 ghost use Rattle.format_http.specs.Chunks.SizeLine.{IsSize};
 ghost use Rattle.std.specs.Char.{digit_value};
 ghost use Rattle.std.specs.Option.{SomeIff};
-ghost use Rattle.std.specs.Prelude.{◌≡◌, ◌^◌, ◌<◌};
+ghost use Rattle.std.specs.Prelude.{◌≡◌, ◌^◌, ◌<◌, ◌≤◌};
 ghost use Rattle.winnow.specs.Digits.{value_in};
 
 use crate::chunks::size_line::Size;
@@ -20,13 +20,15 @@ pub(crate) fn value_of(byte: u8) -> u64
     }
 }
 
-/// The number that hexadecimal digits stand for; none where it is past 64 bits.
-fn number_of(digits: &[u8]) -> Option<u64>
-    ensures { SomeIff result (value_in 16 digits.now < 2 ^ 64) (value_in 16 digits.now) }
+/// The number of digits in this base, or `None` if it does not fit in 64 bits.
+#[inline(always)]
+pub(crate) fn number_in(base: u64, digits: &[u8]) -> Option<u64>
+    requires { 1 ≤ base }
+    ensures { SomeIff result (value_in base digits.now < 2 ^ 64) (value_in base digits.now) }
 {
     let mut number = 0_u64;
     for digit in digits {
-        number = number.checked_mul(16)?.checked_add(value_of(*digit))?;
+        number = number.checked_mul(base)?.checked_add(value_of(*digit))?;
     }
     Some(number)
 }
@@ -35,7 +37,7 @@ fn number_of(digits: &[u8]) -> Option<u64>
 pub(crate) fn size_of(digits: &[u8]) -> Size
     ensures { IsSize result digits.now }
 {
-    match number_of(digits) {
+    match number_in(16, digits) {
         Some(number) => Size::Bytes(number),
         None => Size::TooLarge,
     }

@@ -1,8 +1,9 @@
-use Rattle.std.proofs.Common.{◌-◌, arith, length, refl, subst, ℕ}
+use Rattle.std.proofs.Common.{arith, refl, subst, ℕ}
 use Rattle.format_http_places.specs.Grammar.{Stops}
 use Rattle.format_http_places.specs.States.{TextOf}
-use Rattle.format_http_places.proofs.Extents.{begins_at, invalid_at, wanting_of}
-use Rattle.format_http_places.proofs.Stops.{stop_small}
+use Rattle.format_http_places.proofs.Continues.{stop_small}
+use Rattle.format_http_places.proofs.Extents.{begins_at, invalid_at}
+use Rattle.format_http_places.proofs.Heads.{wanting_of}
 use Rattle.format_http_places.proofs.read.error_at.Goals as goal
 
 pub returns-then-stop-eq0 : goal.returns-then-stop-eq0
@@ -11,14 +12,11 @@ returns-then-stop-eq0 c =
     wanting_of c.args.kind c.args.bytes.now (subst P c.if-stop-eq0.true c.requires)
 
 pub overflow_sub-place : goal.overflow_sub-place
-overflow_sub-place c =
-    stop_small (TextOf c.args.kind) c.args.bytes.now c.args.stop.left c.requires
+overflow_sub-place c = stop_small c.requires
 
 pub part_after-part-requires : goal.part_after-part-requires
-part_after-part-requires c = begins_at c.args.kind c.args.bytes.now c.front.result.now
-    c.args.stop.left (length c.args.bytes.now - c.args.stop.left) c.requires refl c.front.ensures
+part_after-part-requires c = begins_at c.args.kind c.requires refl c.front.ensures
 
 pub returns : goal.returns
-returns c = invalid_at c.args.kind c.args.bytes.now c.front.result.now c.args.stop.left
-    (length c.args.bytes.now - c.args.stop.left) c.part_after-part.result c.requires
-    (omega (arith, c.if-stop-eq0.false)) refl c.front.ensures c.part_after-part.ensures
+returns c = invalid_at c.requires (omega (arith, c.if-stop-eq0.false)) refl c.front.ensures
+    c.part_after-part.ensures

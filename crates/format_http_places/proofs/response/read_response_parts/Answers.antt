@@ -1,27 +1,17 @@
-use Rattle.std.proofs.Common.{arith}
-use Rattle.format_http_places.proofs.FieldLines.{fields_small}
+use Rattle.format_http_places.proofs.Continues.{in_turn, no_longer, stops}
+use Rattle.format_http_places.proofs.Heads.{response_read}
+use Rattle.format_http_places.proofs.Lines.{past_fields, past_status}
 use Rattle.format_http_places.proofs.Passed.{passed}
-use Rattle.format_http_places.proofs.Responses.{response_read, response_small, response_stops}
 use Rattle.format_http_places.proofs.response.read_response_parts.Goals as goal
 
 pub returns-in_err-found : goal.returns-in_err-found
 returns-in_err-found c =
     passed _ _ _ c.in_err-found.field-0.0 c.from_residual-in_err-found.ensures.1
-    (response_stops c.args.bytes.now c.in_ok-line.line c.in_ok-line.ensures
-    c.in_err-found.field-0.0.left c.in_err-found.ensures)
+    (stops (past_status c.in_ok-line.ensures.is_line) c.in_err-found.ensures)
 
 pub overflow_sub-result : goal.overflow_sub-result
-overflow_sub-result c =
-    let found = c.in_ok-found.ensures in
-    omega (
-      arith,
-      response_small c.args.bytes.now c.in_ok-line.line c.in_ok-line.ensures,
-      fields_small found.fields c.in_ok-line.line.rest.now c.in_ok-found.found.rest.now
-          found.are_fields,
-    )
+overflow_sub-result c = no_longer (in_turn (past_status c.in_ok-line.ensures.is_line)
+    (past_fields c.in_ok-found.ensures.are_fields))
 
 pub returns : goal.returns
-returns c =
-    response_read c.args.bytes.now c.in_ok-line.line c.in_ok-line.ensures
-    c.in_ok-found.found.rest.now c.read_fields.new.fields c.in_ok-found.found.count
-    c.in_ok-found.ensures
+returns c = response_read c.in_ok-line.ensures c.in_ok-found.ensures
