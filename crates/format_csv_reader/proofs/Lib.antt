@@ -1,2 +1,4 @@
 pub mod Finding
+pub mod Lists
+pub mod Marking
 pub mod Telling

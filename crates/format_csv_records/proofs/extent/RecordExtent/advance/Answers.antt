@@ -16,4 +16,5 @@ returns-else-self-2-clause-told c here =
 pub returns-else-self-2-clause-kept : goal.returns-else-self-2-clause-kept
 returns-else-self-2-clause-kept c here =
     let (room, text, fields) = within _ _ _ here in
-    kept _ c.args.dialect.apart _ _ _ _ here (returns-else-self-2-clause-fresh c room (text, fields))
+    kept _ c.args.dialect.apart _ _ _ _ here
+    (returns-else-self-2-clause-fresh c room (text, fields))
