@@ -1,13 +1,19 @@
 -- Lemmas that a set of texts is the same by its bytes as by its characters.
-use Rattle.std.proofs.Common.{◌≡◌, ◌∙◌, ◌++◌, ◌<◌, ℕ, [], ◌∷◌, List, ap, append_assoc, arith, inl}
-use Rattle.std.proofs.Common.{inr, refl, subst, sym}
+use Rattle.std.proofs.Common.{◌++◌, ◌<◌, ◌∙◌, ◌∷◌, ◌≡◌, [], ℕ, List, ap, append_assoc, arith, inl}
+use Rattle.std.proofs.Common.{inr, refl, subst, sym, true}
 use Rattle.std.specs.List.{All, AllByRecursion}
-use Rattle.std.specs.Str.{encode_utf8_all}
-use Rattle.std.proofs.lemmas.List.Elements.{All-cons, All-head, All-nil, All-tail}
+use Rattle.std.specs.Str.{IsUtf8, all_scalars, encode_utf8_all}
+use Rattle.std.proofs.lemmas.List.Elements.{All-append, All-cons, All-from_recursion, All-head}
+use Rattle.std.proofs.lemmas.List.Elements.{All-nil, All-tail, All-weaker}
 use Rattle.std.proofs.lemmas.Str.{cons_from_encodes, encode_ascii, encodes-append}
-use Rattle.format_json_extents.specs.Texts.{AreTwo, Either, IsByte, List_of, Maybe, Then}
-use Rattle.format_json_extents.specs.Texts.{before, last}
+use Rattle.format_json_extents.proofs.Matching.{joined}
+use Rattle.format_json_extents.specs.Texts.{AreTwo, Either, IsByte, List_of, Maybe, Then, before}
+use Rattle.format_json_extents.specs.Texts.{last}
 use Rattle.format_json_extents.specs.Value.{Only}
+use Rattle.std.proofs.Math.Utf8.{low_scalar}
+use Rattle.format_json_extents.proofs.Written.{and_true}
+use Rattle.format_json_extents.specs.Number.{IsDigit, IsDigits, IsE, IsLeading, IsMinus, IsNumber}
+use Rattle.format_json_extents.specs.Number.{IsPoint, IsSign, IsZero}
 pub mod Strings
 pub mod Values
 
@@ -37,22 +43,6 @@ front_to to f = record {
   is = to f.first f.is;
 }
 
--- the characters are these bytes and what those after them stand for
-front_more : {P : List ℕ → Type 0} (b : ℕ) (cs es rest : List ℕ) → cs ≡ b ∷ es
-    → Front (λ text. P (b ∷ text)) es rest → Front P cs rest
-front_more b cs es rest e f = record {
-  first = b ∷ f.first;
-  second = f.second;
-  splits = e ∙ ap (λ l. b ∷ l) f.splits;
-  rest_of = f.rest_of;
-  is = f.is;
-}
-
-front_none : {P : List ℕ → Type 0} (cs rest : List ℕ) → encode_utf8_all cs ≡ rest → P []
-    → Front P cs rest
-front_none cs rest e is =
-    record { first = []; second = cs; splits = refl; rest_of = e; is = is }
-
 -- ---- a byte of ASCII is the first character
 
 pub first_char : (cs rest : List ℕ) (b : ℕ) → b < 128 → encode_utf8_all cs ≡ b ∷ rest
@@ -64,54 +54,79 @@ pub first_byte : (b : ℕ) (cs : List ℕ) → b < 128
     → encode_utf8_all (b ∷ cs) ≡ b ∷ encode_utf8_all cs
 first_byte b cs low = ap (λ l. l ++ encode_utf8_all cs) (encode_ascii b low)
 
--- ---- sets of texts
+-- ---- texts of ASCII
 
-pub byte_alike : (P : ℕ → Type 0) → ((b : ℕ) → P b → b < 128) → Alike (IsByte P)
-byte_alike P low = record {
-  bytes = λ cs is. record {
-    byte = is.byte;
-    is_byte = is.is_byte;
-    alone = ap encode_utf8_all is.alone ∙ first_byte is.byte [] (low is.byte is.is_byte);
-  };
+abbrev pub AreLow : List ℕ → Type 0
+AreLow = All (λ b. b < 128)
+
+-- `IsLow P`: each text in `P` consists of ASCII bytes.
+abbrev pub IsLow : (List ℕ → Type 0) → Type 0
+IsLow P = (text : List ℕ) → P text → AreLow text
+
+one_low : (b : ℕ) → b < 128 → AreLow (b ∷ [])
+one_low b low = All-cons (λ b. b < 128) b [] low (All-nil (λ b. b < 128))
+
+pub byte_low : (P : ℕ → Type 0) → ((b : ℕ) → P b → b < 128) → IsLow (IsByte P)
+byte_low P low text is = subst AreLow (sym is.alone) (one_low is.byte (low is.byte is.is_byte))
+
+pub two_low : (P : ℕ → ℕ → Type 0) → ((a b : ℕ) → P a b → (a < 128) × (b < 128))
+    → IsLow (AreTwo P)
+two_low P low text is =
+    let (a, b) = low is.one is.two is.are_bytes in
+    subst AreLow (sym is.alone)
+    (All-cons (λ b. b < 128) is.one (is.two ∷ []) a (one_low is.two b))
+
+pub then_low : {P Q : List ℕ → Type 0} → IsLow P → IsLow Q → IsLow (Then P Q)
+then_low p q text is =
+    subst AreLow (sym is.joins)
+    (All-append (λ b. b < 128) is.first is.second (p is.first is.is_first)
+    (q is.second is.is_second))
+
+pub either_low : {P Q : List ℕ → Type 0} → IsLow P → IsLow Q → IsLow (Either P Q)
+either_low p q text (inl is) = p text is
+either_low p q text (inr is) = q text is
+
+pub maybe_low : {P : List ℕ → Type 0} → IsLow P → IsLow (Maybe P)
+maybe_low p text (inl e) = subst AreLow (sym e) (All-nil (λ b. b < 128))
+maybe_low p text (inr is) = p text is
+
+pub all_low : (P : ℕ → Type 0) → ((b : ℕ) → P b → b < 128) → IsLow (All P)
+all_low P low text all = All-weaker P (λ b. b < 128) low text all
+
+pub only_low : (word : List ℕ) → AllByRecursion (λ b. b < 128) word → IsLow (Only word)
+only_low word low text e =
+    subst AreLow (sym e) (All-from_recursion (λ b. b < 128) word low)
+
+pub low_same : (bytes : List ℕ) → AreLow bytes → encode_utf8_all bytes ≡ bytes
+low_same [] all = refl
+low_same (b ∷ bytes) all =
+    first_byte b bytes (All-head (λ b. b < 128) b bytes all)
+    ∙ ap (λ l. b ∷ l) (low_same bytes (All-tail (λ b. b < 128) b bytes all))
+
+low_front : (text cs rest : List ℕ) → AreLow text → encode_utf8_all cs ≡ text ++ rest
+    → (es : List ℕ) × (cs ≡ text ++ es) × (encode_utf8_all es ≡ rest)
+low_front [] cs rest all e = (cs, refl, e)
+low_front (b ∷ text) cs rest all e =
+    let (es, f, g) = first_char cs (text ++ rest) b (All-head (λ b. b < 128) b text all) e in
+    let (ds, h, k) = low_front text es rest (All-tail (λ b. b < 128) b text all) g in
+    (ds, f ∙ ap (λ l. b ∷ l) h, k)
+
+pub low_alike : {P : List ℕ → Type 0} → IsLow P → Alike P
+low_alike {P} low = record {
+  bytes = λ cs is. subst P (sym (low_same cs (low cs is))) is;
   chars = λ cs text rest is e.
-      let (es, f, g) = first_char cs rest is.byte (low is.byte is.is_byte)
-      (e ∙ ap (λ l. l ++ rest) is.alone) in
-      front_more is.byte cs es rest f
-      (front_none es rest g (record { byte = is.byte; is_byte = is.is_byte; alone = refl }));
+      let (es, f, g) = low_front text cs rest (low text is) e in
+      record { first = text; second = es; splits = f; rest_of = g; is = is };
 }
 
-pub two_alike : (P : ℕ → ℕ → Type 0) → ((a b : ℕ) → P a b → (a < 128) × (b < 128))
-    → Alike (AreTwo P)
-two_alike P low = record {
-  bytes = λ cs is.
-      let (a, b) = low is.one is.two is.are_bytes in
-      record {
-        one = is.one;
-        two = is.two;
-        are_bytes = is.are_bytes;
-        alone = ap encode_utf8_all is.alone ∙ first_byte is.one (is.two ∷ []) a
-            ∙ ap (λ l. is.one ∷ l) (first_byte is.two [] b);
-      };
-  chars = λ cs text rest is e.
-      let (a, b) = low is.one is.two is.are_bytes in
-      let (es, f, g) = first_char cs (is.two ∷ rest) is.one a
-      (e ∙ ap (λ l. l ++ rest) is.alone) in
-      let (ds, h, k) = first_char es rest is.two b g in
-      front_more is.one cs es rest f
-      (front_more is.two es ds rest h
-      (front_none ds rest k
-      (record { one = is.one; two = is.two; are_bytes = is.are_bytes; alone = refl })));
-}
+-- ---- other texts
 
 pub then_alike : {P Q : List ℕ → Type 0} → Alike P → Alike Q → Alike (Then P Q)
 then_alike {P} {Q} p q = record {
-  bytes = λ cs is. record {
-    first = encode_utf8_all is.first;
-    second = encode_utf8_all is.second;
-    is_first = p.bytes is.first is.is_first;
-    is_second = q.bytes is.second is.is_second;
-    joins = ap encode_utf8_all is.joins ∙ encodes-append is.first is.second;
-  };
+  bytes = λ cs is.
+      joined (encode_utf8_all is.first) (encode_utf8_all is.second) (p.bytes is.first is.is_first)
+      (q.bytes is.second is.is_second)
+      (ap encode_utf8_all is.joins ∙ encodes-append is.first is.second);
   chars = λ cs text rest is e.
       let f = p.chars cs is.first (is.second ++ rest) is.is_first
       (e ∙ ap (λ l. l ++ rest) is.joins ∙ append_assoc is.first is.second rest) in
@@ -122,13 +137,7 @@ then_alike {P} {Q} p q = record {
         splits = f.splits ∙ ap (λ l. f.first ++ l) s.splits
             ∙ sym (append_assoc f.first s.first s.second);
         rest_of = s.rest_of;
-        is = record {
-          first = f.first;
-          second = s.first;
-          is_first = f.is;
-          is_second = s.is;
-          joins = refl;
-        };
+        is = joined f.first s.first f.is s.is refl;
       };
 }
 
@@ -143,57 +152,6 @@ either_alike {P} {Q} p q = record { bytes = bytes; chars = chars }
         → Front (Either P Q) cs rest
     chars cs text rest (inl is) e = front_to (λ l x. inl x) (p.chars cs text rest is e)
     chars cs text rest (inr is) e = front_to (λ l x. inr x) (q.chars cs text rest is e)
-
-pub maybe_alike : {P : List ℕ → Type 0} → Alike P → Alike (Maybe P)
-maybe_alike {P} p = record { bytes = bytes; chars = chars }
-  where
-    bytes : (cs : List ℕ) → Maybe P cs → Maybe P (encode_utf8_all cs)
-    bytes cs (inl e) = inl (ap encode_utf8_all e)
-    bytes cs (inr is) = inr (p.bytes cs is)
-
-    chars : (cs text rest : List ℕ) → Maybe P text → encode_utf8_all cs ≡ text ++ rest
-        → Front (Maybe P) cs rest
-    chars cs text rest (inl none) e =
-        front_none cs rest (e ∙ ap (λ l. l ++ rest) none) (inl refl)
-    chars cs text rest (inr is) e = front_to (λ l x. inr x) (p.chars cs text rest is e)
-
-pub all_alike : (P : ℕ → Type 0) → ((b : ℕ) → P b → b < 128) → Alike (All P)
-all_alike P low = record { bytes = bytes; chars = chars }
-  where
-    bytes : (cs : List ℕ) → All P cs → All P (encode_utf8_all cs)
-    bytes [] all = all
-    bytes (c ∷ cs) all =
-        let is = All-head P c cs all in
-        subst (All P) (sym (first_byte c cs (low c is)))
-        (All-cons P c (encode_utf8_all cs) is (bytes cs (All-tail P c cs all)))
-
-    chars : (cs text rest : List ℕ) → All P text → encode_utf8_all cs ≡ text ++ rest
-        → Front (All P) cs rest
-    chars cs [] rest all e = front_none cs rest e (All-nil P)
-    chars cs (b ∷ text) rest all e =
-        let is = All-head P b text all in
-        let (es, f, g) = first_char cs (text ++ rest) b (low b is) e in
-        front_more b cs es rest f
-        (front_to (λ l x. All-cons P b l is x)
-        (chars es text rest (All-tail P b text all) g))
-
-pub only_alike : (word : List ℕ) → AllByRecursion (λ b. b < 128) word → Alike (Only word)
-only_alike word low = record { bytes = λ cs e. ap encode_utf8_all e ∙ same word low; chars = chars }
-  where
-    same : (w : List ℕ) → AllByRecursion (λ b. b < 128) w → encode_utf8_all w ≡ w
-    same [] l = refl
-    same (b ∷ w) l = first_byte b w l.0 ∙ ap (λ x. b ∷ x) (same w l.1)
-
-    by : (w cs rest : List ℕ) → AllByRecursion (λ b. b < 128) w → encode_utf8_all cs ≡ w ++ rest
-        → Front (Only w) cs rest
-    by [] cs rest l e = front_none cs rest e refl
-    by (b ∷ w) cs rest l e =
-        let (es, f, g) = first_char cs (w ++ rest) b l.0 e in
-        front_more b cs es rest f (front_to (λ x is. ap (λ y. b ∷ y) is) (by w es rest l.1 g))
-
-    chars : (cs text rest : List ℕ) → Only word text → encode_utf8_all cs ≡ text ++ rest
-        → Front (Only word) cs rest
-    chars cs text rest is e = by word cs rest low (e ∙ ap (λ l. l ++ rest) is)
 
 pub list_alike : {P : List ℕ → Type 0} → Alike P → Alike (List_of P)
 list_alike {P} p = record { bytes = bytes; chars = chars }
@@ -222,3 +180,30 @@ list_alike {P} p = record { bytes = bytes; chars = chars }
           rest_of = s.rest_of;
           is = before f.first s.first (f.first ++ 44 ∷ s.first) f.is s.is refl;
         }
+
+digit_low : (b : ℕ) → IsDigit b → b < 128
+digit_low b is = omega (arith, is)
+
+digits_low : IsLow IsDigits
+digits_low = then_low (byte_low IsDigit digit_low) (all_low IsDigit digit_low)
+
+pub number_low : IsLow IsNumber
+number_low =
+    then_low (maybe_low (byte_low IsMinus (λ b e. omega (arith, e))))
+    (then_low (either_low (byte_low IsZero (λ b e. omega (arith, e)))
+    (then_low (byte_low IsLeading (λ b e. omega (arith, e))) (all_low IsDigit digit_low)))
+    (then_low (maybe_low (then_low (byte_low IsPoint (λ b e. omega (arith, e))) digits_low))
+    (maybe_low (then_low (byte_low IsE (λ b is. grind (arith, is)))
+    (then_low (maybe_low (byte_low IsSign (λ b is. grind (arith, is)))) digits_low)))))
+
+-- ---- what is ASCII is UTF-8
+
+low_scalars : (bytes : List ℕ) → AreLow bytes → all_scalars bytes ≡ true
+low_scalars [] all = refl
+low_scalars (b ∷ bytes) all =
+    let low = All-head (λ b. b < 128) b bytes all in
+    and_true _ (all_scalars bytes) (low_scalar b (omega (arith, low)))
+    (low_scalars bytes (All-tail (λ b. b < 128) b bytes all))
+
+pub low_utf8 : (bytes : List ℕ) → AreLow bytes → IsUtf8 bytes
+low_utf8 bytes all = (bytes, (low_scalars bytes all, low_same bytes all))

@@ -1,80 +1,35 @@
 -- Which character an escape is the text of.
-use Rattle.std.proofs.Common.{◌≡◌, ◌∙◌, ◌⊎◌, ◌++◌, ◌≤◌, ◌+◌, ◌*◌, ◌-◌, ℕ, [], ◌∷◌}
-use Rattle.std.proofs.Common.{List, ap}
-use Rattle.std.proofs.Common.{arith, inl, inr, length, length-append, refl, subst, sym}
+use Rattle.std.proofs.Common.{◌*◌, ◌++◌, ◌+◌, ◌-◌, ◌<◌, ◌∙◌, ◌∷◌, ◌≡◌, ◌≤◌, ◌⊎◌}
+use Rattle.std.proofs.Common.{[], ℕ, List, ap, arith, inl, inr, length, length-append, refl}
+use Rattle.std.proofs.Common.{slice_index_or, subst, sym}
 use Rattle.std.proofs.Math.Utf8.{low_scalar}
 use Rattle.std.specs.Char.{IsScalar, encode_utf8}
-use Rattle.std.proofs.lemmas.Str.{length-encode, len_utf8_bounds}
-use Rattle.format_json_extents.proofs.Standing.{same_byte}
+use Rattle.std.proofs.lemmas.Str.{len_utf8_bounds, length-encode}
+use Rattle.format_json_extents.proofs.Matching.{same_first, same_rest, this_then}
 use Rattle.format_json_extents.proofs.Written.Escapes.{EscapedText, high_scalar}
-use Rattle.format_json_extents.proofs.Written.Units.{NoSurrogate, IsHigh, IsLow, digit_then}
-use Rattle.format_json_extents.proofs.Written.Units.{high_of, low_of, no_surrogate, one_digit}
-use Rattle.format_json_extents.proofs.Written.Units.{unit_digits}
-use Rattle.format_json_extents.specs.Strings.{BeginHigh, BeginLow, BeginOnly, IsD, IsEscape}
-use Rattle.format_json_extents.specs.Strings.{IsHexDigit, IsPair, IsUnit}
+use Rattle.format_json_extents.proofs.Written.Escapes.{pair_text as written_pair}
+use Rattle.format_json_extents.proofs.Written.Units.{IsHigh, IsLow, NoSurrogate, high_hex, high_of}
+use Rattle.format_json_extents.proofs.Written.Units.{low_hex, low_of, no_surrogate, only_hex}
+use Rattle.format_json_extents.proofs.Written.Units.{unit_digits, unit_size}
+use Rattle.format_json_extents.specs.Strings.{BeginHigh, BeginLow, BeginOnly, IsEscape, IsPair}
+use Rattle.format_json_extents.specs.Strings.{IsUnit}
 use Rattle.format_json_texts.specs.Strings.{EscapeText, StandsFor, UnicodeText}
-use Rattle.format_parts.specs.Hexadecimal.{IsHex, UnitText, one_unit, unit_of}
+use Rattle.format_parts.specs.Hexadecimal.{UnitText, one_unit, unit_of}
 use Rattle.format_parts.specs.Words.{Whichever}
 use Rattle.winnow.specs.Texts.{BothText as Both, EitherText, MadeText, Spelled}
 
 -- ---- lists of one length
 
-pub front_same : (xs zs ys ws : List ℕ) → length xs ≡ length zs → xs ++ ys ≡ zs ++ ws
+front_same : (xs zs ys ws : List ℕ) → length xs ≡ length zs → xs ++ ys ≡ zs ++ ws
     → (xs ≡ zs) × (ys ≡ ws)
 front_same [] [] ys ws n e = (refl, e)
 front_same [] (z ∷ zs) ys ws n e = absurd (omega (arith, n))
 front_same (x ∷ xs) [] ys ws n e = absurd (omega (arith, n))
 front_same (x ∷ xs) (z ∷ zs) ys ws n e =
-    let (a, more) = same_byte _ _ _ _ e in
-    let (p, q) = front_same xs zs ys ws (omega (arith, n)) more in
-    (ap (λ b. b ∷ xs) a ∙ ap (λ l. z ∷ l) p, q)
+    let (p, q) = front_same xs zs ys ws (omega (arith, n)) (same_rest e) in
+    (ap (λ b. b ∷ xs) (same_first e) ∙ ap (λ l. z ∷ l) p, q)
 
 -- ---- units
-
-module _ (P : ℕ → ℕ → Type 0) where
-  unit_list : (cs : List ℕ) → (is : IsUnit P cs) → cs ≡ is.is_first.one ∷ is.is_first.two
-      ∷ is.is_second.is_first.byte ∷ is.is_second.is_second.byte ∷ []
-  unit_list cs is =
-      let c = is.is_second.is_first in
-      let d = is.is_second.is_second in
-      let first = is.is_first in
-      is.joins ∙ ap (λ l. l ++ is.second) first.alone
-      ∙ ap (λ l. first.one ∷ first.two ∷ l) (is.is_second.joins
-      ∙ ap (λ l. l ++ is.is_second.second) c.alone ∙ ap (λ l. c.byte ∷ l) d.alone)
-
-  unit_size : (cs : List ℕ) → IsUnit P cs → length cs ≡ 4
-  unit_size cs is = ap (λ l. length l) (unit_list cs is)
-
-pub only_hex : (a b : ℕ) → BeginOnly a b → IsHexDigit a × IsHexDigit b
-only_hex a b is = (is.0, is.1)
-
-d_hex : (a : ℕ) → IsD a → IsHexDigit a
-d_hex a is = grind (arith, is)
-
-pub high_hex : (a b : ℕ) → BeginHigh a b → IsHexDigit a × IsHexDigit b
-high_hex a b is = (d_hex a is.0, grind (arith, is))
-
-pub low_hex : (a b : ℕ) → BeginLow a b → IsHexDigit a × IsHexDigit b
-low_hex a b is = (d_hex a is.0, grind (arith, is))
-
-pub unit_text : (a b c d da db dc dd u : ℕ) → IsHex a da → IsHex b db → IsHex c dc → IsHex d dd
-    → u ≡ da * 4096 + db * 256 + dc * 16 + dd → UnitText u (a ∷ b ∷ c ∷ d ∷ [])
-unfolding Both MadeText Whichever
-unit_text a b c d da db dc dd u xa xb xc xd e = (
-  (da, db, dc, dd),
-  (
-    da,
-    (db, (dc, dd)),
-    a ∷ [],
-    b ∷ c ∷ d ∷ [],
-    one_digit a da xa,
-    digit_then _ b db (dc, dd) (c ∷ d ∷ []) xb
-        (digit_then _ c dc dd (d ∷ []) xc (one_digit d dd xd)),
-    refl,
-    refl,
-  ),
-  e,
-)
 
 -- what four digits are is one number
 unit_same : (u v : ℕ) (cs : List ℕ) → UnitText u cs → UnitText v cs → u ≡ v
@@ -100,19 +55,14 @@ is_low u cs x is =
 
 pair_size : (cs : List ℕ) → IsPair cs → length cs ≡ 10
 pair_size cs is =
-    let slash = is.is_second in
-    let letter = slash.is_second in
+    let letter = is.is_second.is_second in
     omega (
       arith,
       unit_size BeginHigh is.first is.is_first,
       ap (λ l. length l) is.joins,
       length-append is.first is.second,
-      ap (λ l. length l) slash.joins,
-      length-append slash.first slash.second,
-      ap (λ l. length l) slash.is_first.alone,
-      ap (λ l. length l) letter.joins,
-      length-append letter.first letter.second,
-      ap (λ l. length l) letter.is_first.alone,
+      ap (λ l. length l) (this_then 92 is.is_second),
+      ap (λ l. length l) (this_then 117 letter),
       unit_size BeginLow letter.second letter.is_second,
     )
 
@@ -120,8 +70,7 @@ pub only_escape : (t a b c d : ℕ) → IsEscape (t ∷ a ∷ b ∷ c ∷ d ∷ 
     → (t ≡ 117) × IsUnit BeginOnly (a ∷ b ∷ c ∷ d ∷ [])
 only_escape t a b c d (inl is) = absurd (omega (arith, ap (λ l. length l) is.alone))
 only_escape t a b c d (inr is) =
-    let (same, left) = same_byte _ _ _ _ (is.joins ∙ ap (λ l. l ++ is.second) is.is_first.alone) in
-    (same ∙ is.is_first.is_byte, by is.second is.is_second left)
+    let e = this_then 117 is in (same_first e, by is.second is.is_second (same_rest e))
   where
     by : (cs : List ℕ) → (IsUnit BeginOnly cs) ⊎ (IsPair cs) → a ∷ b ∷ c ∷ d ∷ [] ≡ cs
         → IsUnit BeginOnly (a ∷ b ∷ c ∷ d ∷ [])
@@ -141,8 +90,7 @@ pub pair_escape : (t a b c d s v e f g h : ℕ)
 pair_escape t a b c d s v e f g h (inl is) =
     absurd (omega (arith, ap (λ l. length l) is.alone))
 pair_escape t a b c d s v e f g h (inr is) =
-    let (same, left) = same_byte _ _ _ _ (is.joins ∙ ap (λ l. l ++ is.second) is.is_first.alone) in
-    by is.second is.is_second left (same ∙ is.is_first.is_byte)
+    let e = this_then 117 is in by is.second is.is_second (same_rest e) (same_first e)
   where
     by : (cs : List ℕ) → (IsUnit BeginOnly cs) ⊎ (IsPair cs)
         → a ∷ b ∷ c ∷ d ∷ s ∷ v ∷ e ∷ f ∷ g ∷ h ∷ [] ≡ cs → t ≡ 117
@@ -153,18 +101,15 @@ pair_escape t a b c d s v e f g h (inr is) =
         let (front, behind) =
         front_same (a ∷ b ∷ c ∷ d ∷ []) pair.first (s ∷ v ∷ e ∷ f ∷ g ∷ h ∷ []) pair.second
         (sym (unit_size BeginHigh pair.first pair.is_first)) (all ∙ pair.joins) in
-        let slash = pair.is_second in
-        let (es, others) = same_byte _ _ _ _
-        (behind ∙ slash.joins ∙ ap (λ l. l ++ slash.second) slash.is_first.alone) in
-        let u = slash.is_second in
-        let (eu, last) = same_byte _ _ _ _
-        (others ∙ u.joins ∙ ap (λ l. l ++ u.second) u.is_first.alone) in
+        let es = behind ∙ this_then 92 pair.is_second in
+        let u = pair.is_second.is_second in
+        let eu = same_rest es ∙ this_then 117 u in
         record {
           letter = letter;
           high = subst (IsUnit BeginHigh) (sym front) pair.is_first;
-          slash = es ∙ slash.is_first.is_byte;
-          second_letter = eu ∙ u.is_first.is_byte;
-          low = subst (IsUnit BeginLow) (sym last) u.is_second;
+          slash = same_first es;
+          second_letter = same_first eu;
+          low = subst (IsUnit BeginLow) (sym (same_rest eu)) u.is_second;
         }
 
 -- ---- their characters
@@ -217,39 +162,90 @@ module _ (t a b c d s v e f g h high low : ℕ)
 
   pub pair_text : (k : ℕ) → k ≡ 65536 + (high - 55296) * 1024 + (low - 56320)
       → EscapeText k (92 ∷ t ∷ a ∷ b ∷ c ∷ d ∷ s ∷ v ∷ e ∷ f ∷ g ∷ h ∷ [])
-  unfolding EitherText MadeText Both Spelled
+  unfolding EitherText
   pair_text k same =
       let it = pair_escape t a b c d s v e f g h is in
+      let rest : s ∷ v ∷ e ∷ f ∷ g ∷ h ∷ [] ≡ 92 ∷ 117 ∷ e ∷ f ∷ g ∷ h ∷ [] =
+      ap (λ n. n ∷ v ∷ e ∷ f ∷ g ∷ h ∷ []) it.slash
+      ∙ ap (λ n. 92 ∷ n ∷ e ∷ f ∷ g ∷ h ∷ []) it.second_letter in
       unicode k t (a ∷ b ∷ c ∷ d ∷ s ∷ v ∷ e ∷ f ∷ g ∷ h ∷ []) it.letter
-      (inr (
-        (high, low),
-        (
-          high,
-          low,
-          a ∷ b ∷ c ∷ d ∷ [],
-          s ∷ v ∷ e ∷ f ∷ g ∷ h ∷ [],
-          x,
-          (
-            (92, 117),
-            low,
-            s ∷ v ∷ [],
-            e ∷ f ∷ g ∷ h ∷ [],
-            (
-              92,
-              117,
-              s ∷ [],
-              v ∷ [],
-              (refl, ap (λ n. n ∷ []) it.slash),
-              (refl, ap (λ n. n ∷ []) it.second_letter),
-              refl,
-              refl,
-            ),
-            y,
-            refl,
-            refl,
-          ),
-          refl,
-          refl,
-        ),
-        (pair_high.0, pair_high.1, pair_low.0, pair_low.1, same),
-      ))
+      (inr (written_pair k high low (a ∷ b ∷ c ∷ d ∷ []) (e ∷ f ∷ g ∷ h ∷ []) _ x y
+      (ap (λ l. a ∷ b ∷ c ∷ d ∷ l) rest) pair_high pair_low same))
+
+-- the byte of a number
+abbrev pub at : List ℕ → ℕ → ℕ
+at l i = slice_index_or l i 0
+
+one_byte : (l : List ℕ) → 1 ≤ length l → length l < 2 → l ≡ at l 0 ∷ []
+one_byte [] least most = absurd (omega (arith, least))
+one_byte (t ∷ []) least most = refl
+one_byte (t ∷ a ∷ l) least most = absurd (omega (arith, most))
+
+five_bytes : (l : List ℕ) → 5 ≤ length l → length l < 6
+    → l ≡ at l 0 ∷ at l 1 ∷ at l 2 ∷ at l 3 ∷ at l 4 ∷ []
+five_bytes (t ∷ a ∷ b ∷ c ∷ d ∷ []) least most = refl
+five_bytes (t ∷ a ∷ b ∷ c ∷ d ∷ e ∷ l) least most = absurd (omega (arith, most))
+five_bytes (t ∷ a ∷ b ∷ c ∷ []) least most = absurd (omega (arith, least))
+five_bytes (t ∷ a ∷ b ∷ []) least most = absurd (omega (arith, least))
+five_bytes (t ∷ a ∷ []) least most = absurd (omega (arith, least))
+five_bytes (t ∷ []) least most = absurd (omega (arith, least))
+five_bytes [] least most = absurd (omega (arith, least))
+
+six_bytes : (l : List ℕ) → 6 ≤ length l → length l < 7
+    → l ≡ at l 0 ∷ at l 1 ∷ at l 2 ∷ at l 3 ∷ at l 4 ∷ at l 5 ∷ []
+six_bytes (t ∷ l) least most =
+    ap (λ k. t ∷ k) (five_bytes l (omega (arith, least)) (omega (arith, most)))
+six_bytes [] least most = absurd (omega (arith, least))
+
+eleven_bytes : (l : List ℕ) → 11 ≤ length l → length l < 12
+    → l ≡ at l 0 ∷ at l 1 ∷ at l 2 ∷ at l 3 ∷ at l 4 ∷ at l 5 ∷ at l 6 ∷ at l 7 ∷ at l 8 ∷ at l 9
+    ∷ at l 10 ∷ []
+eleven_bytes (t ∷ a ∷ b ∷ c ∷ d ∷ l) least most =
+    ap (λ k. t ∷ a ∷ b ∷ c ∷ d ∷ k)
+    (six_bytes l (omega (arith, least)) (omega (arith, most)))
+eleven_bytes (t ∷ a ∷ b ∷ c ∷ []) least most = absurd (omega (arith, least))
+eleven_bytes (t ∷ a ∷ b ∷ []) least most = absurd (omega (arith, least))
+eleven_bytes (t ∷ a ∷ []) least most = absurd (omega (arith, least))
+eleven_bytes (t ∷ []) least most = absurd (omega (arith, least))
+eleven_bytes [] least most = absurd (omega (arith, least))
+
+pub counted_letter : (l : List ℕ) (k : ℕ) → 1 ≤ length l → length l < 2 → StandsFor (at l 0) k
+    → EscapeText k (92 ∷ l)
+counted_letter l k least most is =
+    subst (λ m. EscapeText k (92 ∷ m)) (sym (one_byte l least most)) (letter_text (at l 0) k is)
+
+-- an escape of one unit
+pub record Single (l : List ℕ) (u : ℕ) : Type 0 where
+  pub scalar : IsScalar u
+  pub text : EscapeText u (92 ∷ l)
+
+pub counted_single : {l : List ℕ} {u : ℕ} → IsEscape l → 5 ≤ length l → length l < 6
+    → UnitText u (at l 1 ∷ at l 2 ∷ at l 3 ∷ at l 4 ∷ []) → Single l u
+counted_single {l} {u} is least most x =
+    let listed = subst IsEscape (five_bytes l least most) is in
+    record {
+      scalar = only_scalar _ _ _ _ _ u listed x;
+      text = subst (λ m. EscapeText u (92 ∷ m)) (sym (five_bytes l least most))
+          (only_text _ _ _ _ _ u listed x);
+    }
+
+-- an escape of two units
+pub record Double (l : List ℕ) (high low : ℕ) : Type 0 where
+  pub is_high : IsHigh high
+  pub is_low : IsLow low
+  pub scalar : IsScalar (65536 + (high - 55296) * 1024 + (low - 56320))
+  pub text : EscapeText (65536 + (high - 55296) * 1024 + (low - 56320)) (92 ∷ l)
+
+pub counted_double : {l : List ℕ} {high low : ℕ} → IsEscape l → 11 ≤ length l → length l < 12
+    → UnitText high (at l 1 ∷ at l 2 ∷ at l 3 ∷ at l 4 ∷ [])
+    → UnitText low (at l 7 ∷ at l 8 ∷ at l 9 ∷ at l 10 ∷ []) → Double l high low
+counted_double {l} {high} {low} is least most x y =
+    let k = 65536 + (high - 55296) * 1024 + (low - 56320) in
+    let listed = subst IsEscape (eleven_bytes l least most) is in
+    record {
+      is_high = pair_high _ _ _ _ _ _ _ _ _ _ _ high low listed x y;
+      is_low = pair_low _ _ _ _ _ _ _ _ _ _ _ high low listed x y;
+      scalar = pair_scalar _ _ _ _ _ _ _ _ _ _ _ high low listed x y k refl;
+      text = subst (λ m. EscapeText k (92 ∷ m)) (sym (eleven_bytes l least most))
+          (pair_text _ _ _ _ _ _ _ _ _ _ _ high low listed x y k refl);
+    }

@@ -1,8 +1,7 @@
--- Runs of bytes of a set, from one place to a later one, and in the lanes of one load.
-use Rattle.std.proofs.Common.{◌≡◌, ◌∙◌, ◌+◌, ◌%◌, ◌<◌, ◌≤◌, ◌++◌, ◌∷◌, ℕ, Bool, List}
-use Rattle.std.proofs.Common.{[]}
-use Rattle.std.proofs.Common.{ap, append_assoc, arith, cond, drop, eqb, false, length, ltb}
-use Rattle.std.proofs.Common.{inl, inr, map, not, refl, replicate, subst, suc, sym, true, w8, zero}
+-- Runs of bytes of a set, from one position to a later one, and in the lanes of one load.
+use Rattle.std.proofs.Common.{◌%◌, ◌++◌, ◌+◌, ◌<◌, ◌∙◌, ◌∷◌, ◌≡◌, ◌≤◌, [], ℕ, Bool}
+use Rattle.std.proofs.Common.{List, ap, append_assoc, arith, cond, drop, eqb, false, length, ltb}
+use Rattle.std.proofs.Common.{map, not, refl, replicate, subst, suc, sym, true, w8, zero}
 use Rattle.std.proofs.lemmas.List.{length-append, length-map}
 use Rattle.std.proofs.lemmas.List.Elements.{All-append, All-cons, All-nil}
 use Rattle.std.proofs.lemmas.Bool.Decides.{nat_tests}
@@ -10,70 +9,58 @@ use Rattle.std.proofs.lemmas.Simd.{bitmask_splat, chunk-drop, map-map, tops_comp
 use Rattle.std.proofs.lemmas.Simd.{trailing_mask_l, zip2_splat}
 use Rattle.std.proofs.Math.Seq.{drop-append_seam}
 use Rattle.std.specs.List.{All, prefix_len}
-use Rattle.format_json_extents.proofs.Standing.{all_leaves, same_byte}
+use Rattle.format_json_extents.proofs.Matching.{all_leaves, all_stops, same_first}
 use Rattle.format_json_extents.specs.Strings.{IsUnescaped}
 use Rattle.format_json_extents.specs.Texts.{EndsAt, MatchesAtStart, RestAfter}
 use Rattle.format_json_extents.specs.Value.{IsSpace}
 use lib.Count.{count_trailing_zeros}
 use lib.Lanes.{chunk, mask_l, sel_l, top, zip2}
 
--- ---- from one place to a later one
+-- ---- from one position to a later one
 
-pub run_here : (P : ℕ → Type 0) (bytes : List ℕ) → MatchesAtStart (All P) bytes bytes
-run_here P bytes = record { text = []; is = All-nil P; splits = refl }
+module _ (P : ℕ → Type 0) {bytes : List ℕ} where
+  pub run_here : MatchesAtStart (All P) bytes bytes
+  run_here = record { text = []; is = All-nil P; splits = refl }
 
-pub run_on : (P : ℕ → Type 0) (bytes rest front more : List ℕ) → MatchesAtStart (All P) bytes rest
-    → rest ≡ front ++ more → All P front → MatchesAtStart (All P) bytes more
-run_on P bytes rest front more it e all = record {
-  text = it.text ++ front;
-  is = All-append P it.text front it.is all;
-  splits = it.splits ∙ ap (λ l. it.text ++ l) e ∙ sym (append_assoc it.text front more);
-}
+  pub run_on : {rest more : List ℕ} (front : List ℕ) → MatchesAtStart (All P) bytes rest
+      → rest ≡ front ++ more → All P front → MatchesAtStart (All P) bytes more
+  run_on {more = more} front it e all = record {
+    text = it.text ++ front;
+    is = All-append P it.text front it.is all;
+    splits = it.splits ∙ ap (λ l. it.text ++ l) e ∙ sym (append_assoc it.text front more);
+  }
 
-pub run_one : (P : ℕ → Type 0) (bytes rest : List ℕ) (b : ℕ) (more : List ℕ)
-    → MatchesAtStart (All P) bytes rest → rest ≡ b ∷ more → P b → MatchesAtStart (All P) bytes more
-run_one P bytes rest b more it e is =
-    run_on P bytes rest (b ∷ []) more it e (All-cons P b [] is (All-nil P))
+  pub run_one : {rest : List ℕ} {b : ℕ} {more : List ℕ} → MatchesAtStart (All P) bytes rest
+      → rest ≡ b ∷ more → P b → MatchesAtStart (All P) bytes more
+  run_one {b = b} it e is = run_on (b ∷ []) it e (All-cons P b [] is (All-nil P))
 
-pub run_stops : (P : ℕ → Type 0) (bytes rest : List ℕ) (b : ℕ) (more : List ℕ)
-    → MatchesAtStart (All P) bytes rest → rest ≡ b ∷ more → (P b → ⊥)
-    → RestAfter (All P) P bytes rest
-run_stops P bytes rest b more it e not =
-    all_leaves P it.text bytes rest it.is it.splits
-    (λ c tail begins is. not (subst P (same_byte _ _ _ _ (sym begins ∙ e)).0 is))
+module _ {P : ℕ → Type 0} {bytes : List ℕ} where
+  pub run_stops : {rest : List ℕ} {b : ℕ} {more : List ℕ} → MatchesAtStart (All P) bytes rest
+      → rest ≡ b ∷ more → (P b → ⊥) → RestAfter (All P) P bytes rest
+  run_stops it e not =
+      all_leaves it.text it.is it.splits
+      (λ c tail begins is. not (subst P (same_first (sym begins ∙ e)) is))
 
-pub run_ends : (P : ℕ → Type 0) (bytes rest : List ℕ) → MatchesAtStart (All P) bytes rest
-    → length rest ≡ 0 → RestAfter (All P) P bytes rest
-run_ends P bytes rest it e =
-    all_leaves P it.text bytes rest it.is it.splits
-    (λ c tail begins is. omega (arith, e, ap (λ l. length l) begins))
+  pub run_ends : {rest : List ℕ} → MatchesAtStart (All P) bytes rest → length rest ≡ 0
+      → RestAfter (All P) P bytes rest
+  run_ends it e =
+      all_leaves it.text it.is it.splits
+      (λ c tail begins is. omega (arith, e, ap (λ l. length l) begins))
 
--- the run after one byte of it
-pub run_after : (P : ℕ → Type 0) (bytes : List ℕ) (b : ℕ) (more rest : List ℕ)
-    → bytes ≡ b ∷ more → P b → RestAfter (All P) P more rest → RestAfter (All P) P bytes rest
-run_after P bytes b more rest e is it =
-    let text = it.stands.text in
-    all_leaves P (b ∷ text) bytes rest (All-cons P b text is it.stands.is)
-    (e ∙ ap (λ l. b ∷ l) it.stands.splits)
-    (λ c tail begins is_more.
-    let longer : MatchesAtStart (All P) more tail =
-    run_one P more rest c tail it.stands begins is_more in
-    elim (it.only tail longer) [
-      | inl same ↦ absurd (omega (
-        arith,
-        ap (λ l. length l) same,
-        ap (λ l. length l) begins,
-      ))
-      | inr on ↦ absurd (omega (arith, on.is_more, ap (λ l. length l) begins))
-    ])
+  -- after one more byte
+  pub run_after : {b : ℕ} {more rest : List ℕ} → bytes ≡ b ∷ more → P b
+      → RestAfter (All P) P more rest → RestAfter (All P) P bytes rest
+  run_after {b = b} e is it =
+      let text = it.stands.text in
+      all_leaves (b ∷ text) (All-cons P b text is it.stands.is)
+      (e ∙ ap (λ l. b ∷ l) it.stands.splits) (all_stops it)
 
 -- ---- where the lanes of one load are the first bytes
 
--- they stop there
-pub lanes_stop : (P : ℕ → Type 0) (bytes rest : List ℕ) (count : ℕ)
-    → MatchesAtStart (All P) bytes rest
-    → EndsAt P (chunk 0 16 rest) count → RestAfter (All P) P bytes (drop count rest)
-lanes_stop P bytes rest count it (front, other, tail, e, long, all, not) =
+pub lanes_stop : (P : ℕ → Type 0) {bytes rest : List ℕ} (count : ℕ)
+    → MatchesAtStart (All P) bytes rest → EndsAt P (chunk 0 16 rest) count
+    → RestAfter (All P) P bytes (drop count rest)
+lanes_stop P {rest = rest} count it (front, other, tail, e, long, all, not) =
     let more = (other ∷ tail) ++ drop 16 rest in
     let whole : rest ≡ front ++ more =
     chunk-drop 0 16 rest ∙ ap (λ l. l ++ drop 16 rest) e
@@ -81,14 +68,11 @@ lanes_stop P bytes rest count it (front, other, tail, e, long, all, not) =
     let left : drop count rest ≡ more =
     ap (λ n. drop n rest) (sym long) ∙ ap (drop (length front)) whole
     ∙ drop-append_seam front more in
-    run_stops P bytes (drop count rest) other (tail ++ drop 16 rest)
-    (run_on P bytes rest front (drop count rest) it (whole ∙ ap (λ l. front ++ l) (sym left)) all)
-    left not
+    run_stops (run_on P front it (whole ∙ ap (λ l. front ++ l) (sym left)) all) left not
 
-pub lanes_go_on : (P : ℕ → Type 0) (bytes rest : List ℕ) → MatchesAtStart (All P) bytes rest
+pub lanes_go_on : (P : ℕ → Type 0) {bytes rest : List ℕ} → MatchesAtStart (All P) bytes rest
     → All P (chunk 0 16 rest) → MatchesAtStart (All P) bytes (drop 16 rest)
-lanes_go_on P bytes rest it all =
-    run_on P bytes rest (chunk 0 16 rest) (drop 16 rest) it (chunk-drop 0 16 rest) all
+lanes_go_on P {rest = rest} it all = run_on P (chunk 0 16 rest) it (chunk-drop 0 16 rest) all
 
 pub lanes_within : (P : ℕ → Type 0) (rest : List ℕ) (count : ℕ)
     → EndsAt P (chunk 0 16 rest) count → count ≤ length rest
@@ -103,9 +87,9 @@ lanes_within P rest count (front, other, tail, e, long, all, not) =
 -- ---- which lanes are set
 
 -- `Refuses p P`: `p` is true for exactly the bytes that are not in `P`.
-record Refuses (p : ℕ → Bool) (P : ℕ → Type 0) : Type 0 where
-  no : (x : ℕ) → p x ≡ true → P x → ⊥
-  yes : (x : ℕ) → p x ≡ false → P x
+pub record Refuses (p : ℕ → Bool) (P : ℕ → Type 0) : Type 0 where
+  pub no : (x : ℕ) → p x ≡ true → P x → ⊥
+  pub yes : (x : ℕ) → p x ≡ false → P x
 
 ends_at : (p : ℕ → Bool) (P : ℕ → Type 0) → Refuses p P → (xs : List ℕ)
     → 0 < mask_l (map p xs) → EndsAt P xs (prefix_len (λ x. not (p x)) xs)
@@ -136,10 +120,10 @@ ends_at p P tells (x ∷ xs) some = by (p x) refl (λ more. ends_at p P tells xs
         )
 
 -- where none is set, all are of it
-none_set : (p : ℕ → Bool) (P : ℕ → Type 0) → Refuses p P → (xs : List ℕ) → mask_l (map p xs) ≡ 0
-    → All P xs
-none_set p P tells [] none = All-nil P
-none_set p P tells (x ∷ xs) none = by (p x) refl (λ e. none_set p P tells xs e)
+pub none_set : {p : ℕ → Bool} {P : ℕ → Type 0} → Refuses p P → (xs : List ℕ)
+    → mask_l (map p xs) ≡ 0 → All P xs
+none_set {P = P} tells [] none = All-nil P
+none_set {p} {P} tells (x ∷ xs) none = by (p x) refl (λ e. none_set tells xs e)
   where
     by : (b : Bool) → p x ≡ b → (mask_l (map p xs) ≡ 0 → All P xs) → All P (x ∷ xs)
     by true is more = absurd (omega (arith, none, ap {B = ℕ} (λ b. cond b 1 0) is))
@@ -148,10 +132,10 @@ none_set p P tells (x ∷ xs) none = by (p x) refl (λ e. none_set p P tells xs 
         (more (omega (arith, none, ap {B = ℕ} (λ b. cond b 1 0) is)))
 
 -- the bits of lanes tell the bytes of a set
-lanes_end : (p : ℕ → Bool) (P : ℕ → Type 0) → Refuses p P → (xs : List ℕ) (others : ℕ)
+pub lanes_end : {p : ℕ → Bool} {P : ℕ → Type 0} → Refuses p P → (xs : List ℕ) {others : ℕ}
     → length xs ≡ 16 → others ≡ mask_l (map p xs) → (others ≡ 0 → ⊥)
     → EndsAt P xs (count_trailing_zeros 64 others)
-lanes_end p P tells xs others long are some =
+lanes_end {p} {P} tells xs long are some =
     let positive : 0 < mask_l (map p xs) = omega (arith, are, some) in
     subst (EndsAt P xs) (sym (ap (count_trailing_zeros 64) are
     ∙ trailing_mask_l p 64 xs (omega (arith, long)) positive)) (ends_at p P tells xs positive)
@@ -168,7 +152,7 @@ plain x = cond (eqb x 92) 0 (unquoted x)
 abbrev pub is_other : ℕ → Bool
 is_other x = ltb (plain x) 32
 
-tells_others : Refuses is_other IsUnescaped
+pub tells_others : Refuses is_other IsUnescaped
 tells_others = record {
   no = λ x is p. grind (arith, nat_tests);
   yes = λ x is. grind (arith, nat_tests);
@@ -213,18 +197,9 @@ others_are xs long =
     ∙ bitmask_splat w8 ltb (map plain xs) 16 32 (length-map xs plain ∙ long) (omega arith)
     ∙ ap mask_l (map-map (λ x. ltb x 32) plain xs)
 
-pub others_end : (xs : List ℕ) (others : ℕ) → length xs ≡ 16 → others ≡ mask_l (map is_other xs)
-    → (others ≡ 0 → ⊥) → EndsAt IsUnescaped xs (count_trailing_zeros 64 others)
-others_end = lanes_end is_other IsUnescaped tells_others
+-- ---- whitespace
 
-pub others_none : (xs : List ℕ) (others : ℕ) → others ≡ mask_l (map is_other xs) → others ≡ 0
-    → All IsUnescaped xs
-others_none xs others are none =
-    none_set is_other IsUnescaped tells_others xs (sym are ∙ none)
-
--- ---- white space
-
--- a byte, or a space in place of other white space
+-- a byte, or a space in place of other whitespace
 abbrev no_tab : ℕ → ℕ
 no_tab x = cond (eqb x 9) 32 x
 
@@ -237,7 +212,7 @@ spaced x = cond (eqb x 13) 32 (no_line x)
 abbrev pub is_end : ℕ → Bool
 is_end x = not (eqb (spaced x) 32)
 
-tells_ends : Refuses is_end IsSpace
+pub tells_ends : Refuses is_end IsSpace
 tells_ends = record {
   no = λ x is p. grind (arith, nat_tests);
   yes = λ x is. grind (arith, nat_tests);
@@ -257,11 +232,3 @@ ends_are xs long =
     ∙ bitmask_splat w8 (λ a b. not (eqb a b)) (map spaced xs) 16 32 (length-map xs spaced ∙ long)
     (omega arith)
     ∙ ap mask_l (map-map (λ x. not (eqb x 32)) spaced xs)
-
-pub ends_end : (xs : List ℕ) (ends : ℕ) → length xs ≡ 16 → ends ≡ mask_l (map is_end xs)
-    → (ends ≡ 0 → ⊥) → EndsAt IsSpace xs (count_trailing_zeros 64 ends)
-ends_end = lanes_end is_end IsSpace tells_ends
-
-pub ends_none : (xs : List ℕ) (ends : ℕ) → ends ≡ mask_l (map is_end xs) → ends ≡ 0
-    → All IsSpace xs
-ends_none xs ends are none = none_set is_end IsSpace tells_ends xs (sym are ∙ none)

@@ -1,12 +1,12 @@
 -- How the text of a string is written, piece by piece.
-use Rattle.std.proofs.Common.{◌≡◌, ◌∙◌, ◌++◌, ◌-◌, ◌≤◌, ◌+◌, ℕ, [], ◌∷◌, List, ap}
-use Rattle.std.proofs.Common.{append_assoc}
-use Rattle.std.proofs.Common.{arith, drop, inl, inr, length, length-append, refl, subst, sym, take}
+use Rattle.std.proofs.Common.{◌++◌, ◌+◌, ◌-◌, ◌∙◌, ◌∷◌, ◌≡◌, ◌≤◌, [], ℕ, List, ap}
+use Rattle.std.proofs.Common.{append_assoc, arith, drop, inl, inr, length, length-append, refl}
+use Rattle.std.proofs.Common.{subst, sym, take}
 use Rattle.std.proofs.lemmas.List.{append-nil, drop-drop, drop_at, take_at}
 use Rattle.std.proofs.lemmas.List.Elements.{All-head, All-tail}
 use Rattle.std.specs.Char.{encode_utf8}
 use Rattle.std.specs.List.{All}
-use Rattle.format_json_extents.proofs.Answered.{from_left}
+use Rattle.format_json_extents.proofs.Scanning.{from_left}
 use Rattle.format_json_extents.specs.Strings.{IsEscape, IsUnescaped}
 use Rattle.format_json_extents.specs.Texts.{Never, RestAfter}
 use Rattle.format_json_extents.specs.Unescaped.{IsEscapePut, IsPut, IsTailWritten, Means}
@@ -14,32 +14,29 @@ use Rattle.format_json_extents.specs.Unescaped.{PieceMeans, means_more, means_no
 
 -- ---- one more piece
 
-pub means_end : (text bytes piece one : List ℕ) → Means text bytes → PieceMeans piece one
+pub means_end : {text bytes piece one : List ℕ} → Means text bytes → PieceMeans piece one
     → Means (text ++ piece) (bytes ++ one)
-means_end _ _ piece one (means_nothing text bytes e f) p =
+means_end {piece = piece} {one} (means_nothing text bytes e f) p =
     means_more piece [] one [] (text ++ piece) (bytes ++ one) p (means_nothing [] [] refl refl)
     (ap (λ l. l ++ piece) e ∙ sym (append-nil piece))
     (ap (λ l. l ++ one) f ∙ sym (append-nil one))
-means_end _ _ piece one (means_more first others head more text bytes q rest e f) p =
+means_end {piece = piece} {one} (means_more first others head more text bytes q rest e f) p =
     means_more first (others ++ piece) head (more ++ one) (text ++ piece) (bytes ++ one) q
-    (means_end others more piece one rest p)
-    (ap (λ l. l ++ piece) e ∙ append_assoc first others piece)
+    (means_end rest p) (ap (λ l. l ++ piece) e ∙ append_assoc first others piece)
     (ap (λ l. l ++ one) f ∙ append_assoc head more one)
 
-pub means_run : (run text bytes : List ℕ) → All IsUnescaped run → Means text bytes
+pub means_run : (run : List ℕ) {text bytes : List ℕ} → All IsUnescaped run → Means text bytes
     → Means (text ++ run) (bytes ++ run)
-means_run [] text bytes all it =
+means_run [] {text} {bytes} all it =
     let P : List ℕ → Type 0 = λ l. Means l (bytes ++ []) in
-    let Q : List ℕ → Type 0 = λ l. Means text l in
-    subst P (sym (append-nil text)) (subst Q (sym (append-nil bytes)) it)
-means_run (b ∷ run) text bytes all it =
-    let one = means_end text bytes (b ∷ []) (b ∷ []) it
-    (inl (record { byte = b; is_byte = All-head IsUnescaped b run all; alone = refl }, refl)) in
-    let more = means_run run (text ++ b ∷ []) (bytes ++ b ∷ [])
-    (All-tail IsUnescaped b run all) one in
+    subst P (sym (append-nil text)) (subst (Means text) (sym (append-nil bytes)) it)
+means_run (b ∷ run) {text} {bytes} all it =
+    let is = All-head IsUnescaped b run all in
+    let more = means_run run (All-tail IsUnescaped b run all)
+    (means_end it (inl (record { byte = b; is_byte = is; alone = refl }, refl))) in
     let P : List ℕ → Type 0 = λ l. Means l (bytes ++ b ∷ run) in
-    let Q : List ℕ → Type 0 = λ l. Means ((text ++ b ∷ []) ++ run) l in
-    subst P (append_assoc text (b ∷ []) run) (subst Q (append_assoc bytes (b ∷ []) run) more)
+    subst P (append_assoc text (b ∷ []) run)
+    (subst (Means ((text ++ b ∷ []) ++ run)) (append_assoc bytes (b ∷ []) run) more)
 
 -- ---- in the buffer
 
@@ -54,8 +51,8 @@ pub record Wrote (bytes rest old now : List ℕ) (count : ℕ) : Type 0 where
   pub room : length now ≡ length old
   pub written : count ≤ length old → now ≡ meant ++ drop count old
 
-pub wrote_nothing : (bytes old : List ℕ) → Wrote bytes bytes old old 0
-wrote_nothing bytes old = record {
+pub wrote_nothing : {bytes old : List ℕ} → Wrote bytes bytes old old 0
+wrote_nothing = record {
   text = [];
   meant = [];
   means = means_nothing [] [] refl refl;
@@ -107,38 +104,34 @@ module _ (bytes rest next old now new piece one : List ℕ) (count : ℕ)
   }
 
 -- after all bytes that stand for themselves
-pub wrote_run : (bytes rest ahead old now new run : List ℕ) (count : ℕ)
+pub wrote_run : {bytes rest ahead old now new run : List ℕ} {count : ℕ}
     → Wrote bytes rest old now count → RestAfter (All IsUnescaped) IsUnescaped rest ahead
     → run ≡ take (length rest - length ahead) rest → IsPut run count now new
     → Wrote bytes ahead old new (count + length run)
-wrote_run bytes rest ahead old now new run count it leaves is put =
-    let same : run ≡ leaves.stands.text =
-    is ∙ from_left rest leaves.stands.text ahead leaves.stands.splits in
+wrote_run {bytes} {rest} {ahead} {old} {now} {new} {run} {count} it leaves is put =
+    let same = is ∙ from_left leaves.stands.text ahead leaves.stands.splits in
     wrote_more bytes rest ahead old now new run run count it
     (leaves.stands.splits ∙ ap (λ l. l ++ ahead) (sym same)) (omega arith) put
-    (means_run run it.text it.meant (subst (All IsUnescaped) (sym same) leaves.stands.is) it.means)
+    (means_run run (subst (All IsUnescaped) (sym same) leaves.stands.is) it.means)
 
 -- and after an escape
-pub wrote_escape : (bytes ahead escape next old now new between : List ℕ) (count end : ℕ)
+pub wrote_escape : {bytes ahead escape next old now new between : List ℕ} {count end : ℕ}
     → Wrote bytes ahead old now count → ahead ≡ 92 ∷ escape → RestAfter IsEscape Never escape next
     → between ≡ take (length escape - length next) escape
     → IsEscapePut between count end now new → Wrote bytes next old new end
-wrote_escape bytes ahead escape next old now new between count end it e leaves is put =
-    let same : between ≡ leaves.stands.text =
-    is ∙ from_left escape leaves.stands.text next leaves.stands.splits in
-    let P : ℕ → Type 0 = λ n. Wrote bytes next old new n in
-    subst P (sym put.ends)
+wrote_escape {bytes} {ahead} {next = next} {old} {now} {new} {between} {count} it e leaves is put =
+    let same = is ∙ from_left leaves.stands.text next leaves.stands.splits in
+    subst (Wrote bytes next old new) (sym put.ends)
     (wrote_more bytes ahead next old now new (92 ∷ between) (encode_utf8 put.char) count it
     (e ∙ ap (λ l. 92 ∷ l) (leaves.stands.splits ∙ ap (λ l. l ++ next) (sym same)))
     (omega (arith, put.short)) put.is_put
-    (means_end it.text it.meant (92 ∷ between) (encode_utf8 put.char) it.means
-    (inr (put.char, put.text, refl))))
+    (means_end it.means (inr (put.char, put.text, refl))))
 
 -- ---- at the last quote
 
-pub tail_written : (bytes ahead end old now : List ℕ) (count : ℕ) → Wrote bytes ahead old now count
+pub tail_written : {bytes ahead end old now : List ℕ} {count : ℕ} → Wrote bytes ahead old now count
     → ahead ≡ 34 ∷ end → IsTailWritten count bytes end old now
-tail_written bytes ahead end old now count it e = record {
+tail_written it e = record {
   text = it.text;
   meant = it.meant;
   means = it.means;

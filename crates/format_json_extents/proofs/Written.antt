@@ -1,13 +1,13 @@
 -- A set of texts is that of the texts of some value.
-use Rattle.std.proofs.Common.{◌≡◌, ◌∙◌, ◌⊎◌, ◌++◌, ◌&&◌, ◌<◌, ◌≤◌, ◌^◌, ℕ, []}
-use Rattle.std.proofs.Common.{◌∷◌, List, ap, arith}
-use Rattle.std.proofs.Common.{Bool, None, Option, Some, inl, inr, length, length-append, refl}
-use Rattle.std.proofs.Common.{◌+◌, subst, sym, true, false}
+use Rattle.std.proofs.Common.{◌&&◌, ◌++◌, ◌+◌, ◌<◌, ◌^◌, ◌∙◌, ◌∷◌, ◌≡◌, ◌≤◌}
+use Rattle.std.proofs.Common.{◌⊎◌, [], ℕ, Bool, List, None, Option, Some, ap, arith, false, inl}
+use Rattle.std.proofs.Common.{inr, length, length-append, refl, subst, sym, true}
 use Rattle.std.specs.Borrow.{Bor}
 use Rattle.std.specs.List.{All}
 use Rattle.std.specs.Str.{all_scalars, encode_utf8_all}
 use Rattle.std.proofs.lemmas.List.Elements.{All-cons, All-head, All-tail, All-weaker}
 use Rattle.std.proofs.lemmas.Str.{encodes-append}
+use Rattle.format_json_extents.proofs.Matching.{joined, one}
 use Rattle.format_json_extents.specs.Texts.{Either, IsByte, Maybe, Then}
 use Rattle.format_parts.specs.Words.{For, In, One, Run}
 use Rattle.winnow.specs.Text.{text_reading}
@@ -66,13 +66,7 @@ pub then_written : {O1 O2 O : Type 0} (output : O1 → O2 → O) {P Q : List ℕ
     → Written (Then P Q) (Both output first second)
 unfolding Both
 then_written output p q = record {
-  set = λ o cs (a, b, xs, ys, x, y, e, out). record {
-    first = xs;
-    second = ys;
-    is_first = p.set a xs x;
-    is_second = q.set b ys y;
-    joins = e;
-  };
+  set = λ o cs (a, b, xs, ys, x, y, e, out). joined xs ys (p.set a xs x) (q.set b ys y) e;
   value = λ cs fits is.
       let (one, two) = fit_parts cs is.first is.second is.joins fits in
       let (a, x) = p.value is.first one is.is_first in
@@ -136,14 +130,14 @@ shown_written p = record {
 pub one_written : (c : ℕ) → Written (IsByte (λ b. b ≡ c)) (One c)
 unfolding Spelled
 one_written c = record {
-  set = λ o cs (is, e). record { byte = c; is_byte = refl; alone = e };
+  set = λ o cs (is, e). one refl e;
   value = λ cs fits is. (c, (refl, is.alone ∙ ap (λ b. b ∷ []) is.is_byte));
 }
 
 pub in_written : (P : ℕ → Type 0) → Written (IsByte P) (In P)
 unfolding In
 in_written P = record {
-  set = λ o cs (is, e). record { byte = o; is_byte = is; alone = e };
+  set = λ o cs (is, e). one is e;
   value = λ cs fits is. (is.byte, (is.is_byte, is.alone));
 }
 
@@ -179,10 +173,5 @@ run_one_written P = record {
   where
     some : (cs : List ℕ) → All P cs → 1 ≤ length cs → Then (IsByte P) (All P) cs
     some [] all enough = absurd (omega (arith, enough))
-    some (c ∷ cs) all enough = record {
-      first = c ∷ [];
-      second = cs;
-      is_first = record { byte = c; is_byte = All-head P c cs all; alone = refl };
-      is_second = All-tail P c cs all;
-      joins = refl;
-    }
+    some (c ∷ cs) all enough =
+        joined (c ∷ []) cs (one (All-head P c cs all) refl) (All-tail P c cs all) refl

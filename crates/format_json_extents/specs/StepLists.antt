@@ -1,10 +1,10 @@
 -- The steps of a JSON text from its start to its end, by the grammar of values.
-use Rattle.std.specs.Prelude.{◌≡◌, ◌⊎◌, ℕ, zero, suc, Bool, true, false, List, [], ◌∷◌, ◌++◌}
+use Rattle.std.specs.Prelude.{◌++◌, ◌∷◌, ◌≡◌, ◌⊎◌, [], ℕ, Bool, List, false, suc, true, zero}
 use Rattle.format_json_extents.specs.Number.{IsNumber}
 use Rattle.format_json_extents.specs.Steps.{IsNextStep, IsToken}
 use Rattle.format_json_extents.specs.Strings.{IsString}
-use Rattle.format_json_extents.specs.Texts.{MatchesAtStart, Then}
-use Rattle.format_json_extents.specs.Value.{IsGap, Only, closing, opening}
+use Rattle.format_json_extents.specs.Texts.{IsByte, MatchesAtStart, Then}
+use Rattle.format_json_extents.specs.Value.{IsColon, IsElement, IsGap, Only, closing, opening}
 use Rattle.format_json_extents.specs.Walk.{IsLead}
 use Rattle.format_json_extents.specs.declared.steps.Step.{Step}
 use Rattle.format_json_extents.specs.declared.steps.Step.TheVariants as steps
@@ -20,11 +20,7 @@ IsScalarOf steps.False text = Only (102 ∷ 97 ∷ 108 ∷ 115 ∷ 101 ∷ []) t
 IsScalarOf steps.True text = Only (116 ∷ 114 ∷ 117 ∷ 101 ∷ []) text
 IsScalarOf steps.Number text = IsNumber text
 IsScalarOf steps.String text = IsString text
-IsScalarOf steps.Name text = ⊥
-IsScalarOf steps.BeginArray text = ⊥
-IsScalarOf steps.EndArray text = ⊥
-IsScalarOf steps.BeginObject text = ⊥
-IsScalarOf steps.EndObject text = ⊥
+IsScalarOf step text = ⊥
 
 -- the step before the contents of an object (`true`) or an array (`false`), and the one after them
 abbrev pub begin_of : Bool → Step
@@ -41,30 +37,18 @@ pub record StepsOfScalar (told : StepList) (text : List ℕ) : Type 0 where
   pub is_scalar : IsScalarOf step text
   pub alone : told ≡ (step, text) ∷ []
 
--- A value with white space round it: the steps of the value.
-pub record StepsOfElement (V : StepList → List ℕ → Type 0) (told : StepList)
-    (text : List ℕ) : Type 0 where
-  pub before : List ℕ
-  pub value : List ℕ
-  pub behind : List ℕ
-  pub is_before : IsGap before
-  pub is_value : V told value
-  pub is_behind : IsGap behind
-  pub joins : text ≡ before ++ (value ++ behind)
+-- A value with whitespace around it: the steps of the value.
+abbrev pub StepsOfElement : (StepList → List ℕ → Type 0) → StepList → List ℕ → Type 0
+StepsOfElement V told = IsElement (V told)
 
--- A name with white space round it, a colon and a value: the name, and the steps of the value.
+-- A name with whitespace around it, a colon and a value: the name, and the steps of the value.
 pub record StepsOfMember (V : StepList → List ℕ → Type 0) (told : StepList)
     (text : List ℕ) : Type 0 where
-  pub before : List ℕ
   pub name : List ℕ
-  pub between : List ℕ
-  pub element : List ℕ
   pub others : StepList
-  pub is_before : IsGap before
   pub is_name : IsString name
-  pub is_between : IsGap between
-  pub is_element : StepsOfElement V others element
-  pub joins : text ≡ before ++ (name ++ (between ++ 58 ∷ element))
+  pub is_member : Then (Then IsGap (Then (Only name) (Then IsGap (IsByte IsColon))))
+      (IsElement (V others)) text
   pub in_turn : told ≡ (steps.Name, name) ∷ others
 
 -- A member of an object (`true`), or an element of an array (`false`).
@@ -111,8 +95,7 @@ InTurn bytes (it ∷ told) rest =
     (mid : List ℕ) × IsNextStep it.0 it.1 bytes mid × InTurn mid told rest
 
 -- `StepsResult told found rest`: `found` is all of `told`, and `rest` is whitespace; or `found` is
--- a
--- proper prefix of `told`, and `rest` has one more step.
+-- a proper prefix of `told`, and `rest` has one more step.
 abbrev pub StepsResult : StepList → StepList → List ℕ → Type 0
 StepsResult told found rest =
     ((found ≡ told) × IsGap rest)

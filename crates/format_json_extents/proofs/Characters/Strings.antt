@@ -1,8 +1,7 @@
 -- A string by its bytes is one by its characters.
-use Rattle.std.proofs.Common.{◌≡◌, ◌∙◌, ◌⊎◌, ◌++◌, ◌<◌, ◌≤◌, ℕ, zero, suc, [], ◌∷◌, List}
-use Rattle.std.proofs.Common.{ap}
+use Rattle.std.proofs.Common.{◌++◌, ◌<◌, ◌∙◌, ◌∷◌, ◌≡◌, ◌≤◌, ◌⊎◌, [], ℕ, List, ap}
 use Rattle.std.proofs.Common.{append_assoc, arith, inl, inr, length, length-append, refl, subst}
-use Rattle.std.proofs.Common.{sym}
+use Rattle.std.proofs.Common.{suc, sym, zero}
 use Rattle.std.specs.Char.{encode_utf8}
 use Rattle.std.specs.List.{All, AllByRecursion}
 use Rattle.std.specs.Str.{encode_utf8_all}
@@ -11,14 +10,14 @@ use Rattle.std.proofs.lemmas.List.{append-nil}
 use Rattle.std.proofs.lemmas.List.Elements.{All-cons, All-from_recursion, All-head, All-nil}
 use Rattle.std.proofs.lemmas.List.Elements.{All-tail, All-weaker}
 use Rattle.std.proofs.lemmas.Str.{encode_ascii, encodes-append}
-use Rattle.format_json_extents.proofs.Beginnings.{no_bytes}
-use Rattle.format_json_extents.proofs.Characters.{Alike, Front, byte_alike, either_alike}
-use Rattle.format_json_extents.proofs.Characters.{first_byte, first_char, then_alike, two_alike}
-use Rattle.format_json_extents.proofs.Standing.{byte_first, same_byte, then_split, then_stands}
-use Rattle.format_json_extents.proofs.Texts.{many_split, piece_starts, tail_run}
-use Rattle.format_json_extents.specs.Strings.{BeginHigh, BeginLow, BeginOnly, IsBackslash}
-use Rattle.format_json_extents.specs.Strings.{IsEscape, IsEscaped, IsHexDigit, IsPiece, IsQuote}
-use Rattle.format_json_extents.specs.Strings.{IsString, IsStringTail, IsU, IsUnescaped, IsUnit}
+use Rattle.format_json_extents.proofs.Characters.{Alike, Front, IsLow, byte_low, either_low}
+use Rattle.format_json_extents.proofs.Characters.{first_byte, first_char, low_alike, then_alike}
+use Rattle.format_json_extents.proofs.Characters.{then_low, two_low}
+use Rattle.format_json_extents.proofs.Matching.{begins_at, joined, one, same_first, same_rest}
+use Rattle.format_json_extents.proofs.Scalars.{piece_starts, tail_run, tail_split}
+use Rattle.format_json_extents.specs.Strings.{BeginHigh, BeginLow, BeginOnly, IsBackslash, IsEscape}
+use Rattle.format_json_extents.specs.Strings.{IsEscaped, IsHexDigit, IsPiece, IsQuote, IsString}
+use Rattle.format_json_extents.specs.Strings.{IsStringTail, IsU, IsUnescaped, IsUnit}
 use Rattle.format_json_extents.specs.Texts.{IsByte, Many, MatchesAtStart, Then, nothing, one_more}
 use Rattle.winnow.specs.Utf8.{four_bytes, three_bytes, two_bytes}
 
@@ -27,30 +26,32 @@ use Rattle.winnow.specs.Utf8.{four_bytes, three_bytes, two_bytes}
 hex_low : (b : ℕ) → IsHexDigit b → b < 128
 hex_low b is = grind (arith, is)
 
-unit_alike : (P : ℕ → ℕ → Type 0) → ((a b : ℕ) → P a b → (a < 128) × (b < 128))
-    → Alike (IsUnit P)
-unit_alike P low =
-    then_alike (two_alike P low)
-    (then_alike (byte_alike IsHexDigit hex_low) (byte_alike IsHexDigit hex_low))
+unit_low : (P : ℕ → ℕ → Type 0) → ((a b : ℕ) → P a b → (a < 128) × (b < 128))
+    → IsLow (IsUnit P)
+unit_low P low =
+    then_low (two_low P low) (then_low (byte_low IsHexDigit hex_low) (byte_low IsHexDigit hex_low))
 
-backslash_alike : Alike (IsByte IsBackslash)
-backslash_alike = byte_alike IsBackslash (λ b e. omega (arith, e))
+backslash_low : IsLow (IsByte IsBackslash)
+backslash_low = byte_low IsBackslash (λ b e. omega (arith, e))
 
-letter_alike : Alike (IsByte IsU)
-letter_alike = byte_alike IsU (λ b e. omega (arith, e))
+letter_low : IsLow (IsByte IsU)
+letter_low = byte_low IsU (λ b e. omega (arith, e))
 
-escape_alike : Alike IsEscape
-escape_alike =
-    either_alike (byte_alike IsEscaped (λ b is. grind (arith, is)))
-    (then_alike letter_alike
-    (either_alike (unit_alike BeginOnly (λ a b is. (hex_low a is.0, hex_low b is.1)))
-    (then_alike (unit_alike BeginHigh (λ a b is. (grind (arith, is), grind (arith, is))))
-    (then_alike backslash_alike
-    (then_alike letter_alike
-    (unit_alike BeginLow (λ a b is. (grind (arith, is), grind (arith, is)))))))))
+escape_low : IsLow IsEscape
+escape_low =
+    either_low (byte_low IsEscaped (λ b is. grind (arith, is)))
+    (then_low letter_low
+    (either_low (unit_low BeginOnly (λ a b is. (hex_low a is.0, hex_low b is.1)))
+    (then_low (unit_low BeginHigh (λ a b is. (grind (arith, is), grind (arith, is))))
+    (then_low backslash_low
+    (then_low letter_low
+    (unit_low BeginLow (λ a b is. (grind (arith, is), grind (arith, is)))))))))
 
 slashed_alike : Alike (Then (IsByte IsBackslash) IsEscape)
-slashed_alike = then_alike backslash_alike escape_alike
+slashed_alike = low_alike (then_low backslash_low escape_low)
+
+quote_alike : Alike (IsByte IsQuote)
+quote_alike = low_alike (byte_low IsQuote (λ b e. omega (arith, e)))
 
 -- ---- characters that stand for themselves
 
@@ -83,7 +84,7 @@ many_run : (bytes more : List ℕ) → All IsUnescaped bytes → Many IsPiece mo
 many_run [] more all many = many
 many_run (b ∷ bytes) more all many =
     one_more (b ∷ []) (bytes ++ more) (b ∷ (bytes ++ more))
-    (inl (record { byte = b; is_byte = All-head IsUnescaped b bytes all; alone = refl }))
+    (inl (one (All-head IsUnescaped b bytes all) refl))
     (many_run bytes more (All-tail IsUnescaped b bytes all) many) refl
 
 many_bytes : (cs : List ℕ) → Many IsPiece cs → Many IsPiece (encode_utf8_all cs)
@@ -123,38 +124,21 @@ tail_more piece cs more rest is e t = record {
   second = t.second;
   splits = e ∙ ap (λ l. piece ++ l) t.splits ∙ sym (append_assoc piece t.first t.second);
   rest_of = t.rest_of;
-  is = record {
-    first = piece ++ t.is.first;
-    second = t.is.second;
-    is_first = one_more piece t.is.first (piece ++ t.is.first) is t.is.is_first refl;
-    is_second = t.is.is_second;
-    joins = ap (λ l. piece ++ l) t.is.joins
-        ∙ sym (append_assoc piece t.is.first t.is.second);
-  };
+  is = joined (piece ++ t.is.first) t.is.second
+      (one_more piece t.is.first (piece ++ t.is.first) is t.is.is_first refl) t.is.is_second
+      (ap (λ l. piece ++ l) t.is.joins ∙ sym (append_assoc piece t.is.first t.is.second));
 }
 
-plain : (c : ℕ) → IsUnescaped c → IsPiece (c ∷ [])
-plain c is = inl (record { byte = c; is_byte = is; alone = refl })
-
 -- the last quote
-quoted : (cs bytes rest : List ℕ) → encode_utf8_all cs ≡ bytes
-    → MatchesAtStart (IsByte IsQuote) bytes rest
-    → Tail cs rest
-quoted cs bytes rest e quote =
-    let (es, f, g) = first_char cs rest 34 (omega arith)
-    (e ∙ byte_first IsQuote bytes rest quote ∙ ap (λ b. b ∷ rest) quote.is.is_byte) in
+quoted : (cs rest : List ℕ) → encode_utf8_all cs ≡ 34 ∷ rest → Tail cs rest
+quoted cs rest e =
+    let (es, f, g) = first_char cs rest 34 (omega arith) e in
     record {
       first = 34 ∷ [];
       second = es;
       splits = f;
       rest_of = g;
-      is = record {
-        first = [];
-        second = 34 ∷ [];
-        is_first = nothing [] refl;
-        is_second = record { byte = 34; is_byte = refl; alone = refl };
-        joins = refl;
-      };
+      is = joined [] (34 ∷ []) (nothing [] refl) (one refl refl) refl;
     }
 
 not_empty : (P : ℕ → Type 0) (Q : List ℕ → Type 0) (text : List ℕ) → Then (IsByte P) Q text
@@ -175,16 +159,17 @@ Shows n =
 
 module _ (n : ℕ) (shows : Shows n) (c : ℕ) (cs rest : List ℕ) (few : length cs ≤ n) where
   ahead : MatchesAtStart IsStringTail (encode_utf8_all cs) rest → IsUnescaped c → Tail (c ∷ cs) rest
-  ahead at is = tail_more (c ∷ []) (c ∷ cs) cs rest (plain c is) refl (shows cs rest few at)
+  ahead at is = tail_more (c ∷ []) (c ∷ cs) cs rest (inl (one is refl)) refl
+      (shows cs rest few at)
 
   escaped : (at text : List ℕ) → c < 128 → IsPiece text
       → encode_utf8_all (c ∷ cs) ≡ text ++ at → MatchesAtStart IsStringTail at rest
       → Tail (c ∷ cs) rest
-  escaped at text small (inl one) e tail =
-      let (same, left) = same_byte _ _ _ _
-      (sym (first_byte c cs small) ∙ e ∙ ap (λ l. l ++ at) one.alone) in
+  escaped at text small (inl is) e tail =
+      let same = sym (first_byte c cs small) ∙ e ∙ ap (λ l. l ++ at) is.alone in
       let P : List ℕ → Type 0 = λ l. MatchesAtStart IsStringTail l rest in
-      ahead (subst P (sym left) tail) (subst IsUnescaped (sym same) one.is_byte)
+      ahead (subst P (sym (same_rest same)) tail)
+      (subst IsUnescaped (sym (same_first same)) is.is_byte)
   escaped at text small (inr escape) e tail =
       let f = slashed_alike.chars (c ∷ cs) text at escape e in
       let P : List ℕ → Type 0 = λ l. MatchesAtStart IsStringTail l rest in
@@ -202,26 +187,22 @@ module _ (n : ℕ) (shows : Shows n) (c : ℕ) (cs rest : List ℕ) (few : lengt
   tail_one_more : MatchesAtStart IsStringTail (encode_utf8_all (c ∷ cs)) rest
       → (c < 128) ⊎ (128 ≤ c)
       → Tail (c ∷ cs) rest
-  tail_one_more it (inl small) =
-      let (mid, pieces, quote) = then_split (Many IsPiece) (IsByte IsQuote) _ rest it in
-      elim (many_split IsPiece _ mid pieces) [
-        | inl same ↦ quoted (c ∷ cs) mid rest same quote
-        | inr (at, piece, others) ↦
-            escaped at piece.text small piece.is piece.splits
-            (then_stands (Many IsPiece) (IsByte IsQuote) at mid rest others quote)
-      ]
+  tail_one_more it (inl small) = elim (tail_split it) [
+    | inl e ↦ quoted (c ∷ cs) rest e
+    | inr (at, piece, others) ↦ escaped at piece.text small piece.is piece.splits others
+  ]
   tail_one_more it (inr high) =
-      ahead ((tail_run (encode_utf8 c) (encode_utf8_all (c ∷ cs)) (encode_utf8_all cs)
-      (unescaped_bytes c high) refl).on rest it) (unescaped_high c high)
+      ahead ((tail_run (encode_utf8 c) {next = encode_utf8_all cs} (unescaped_bytes c high)
+      refl).on rest it) (unescaped_high c high)
 
 tail_chars : (n : ℕ) → Shows n
-tail_chars n [] rest few it =
-    let (mid, pieces, quote) = then_split (Many IsPiece) (IsByte IsQuote) [] rest it in
-    elim (many_split IsPiece [] mid pieces) [
-      | inl same ↦ quoted [] mid rest same quote
-      | inr (at, piece, others) ↦
-          let (b, more, e, is) = piece_starts [] at piece in absurd (no_bytes b more e)
-    ]
+tail_chars n [] rest few it = elim (tail_split it) [
+  | inl e ↦ quoted [] rest e
+  | inr (at, piece, others) ↦
+      let b = begins_at piece_starts piece in
+      let none : [] ≡ b.byte ∷ b.more = b.begins in
+      absurd (omega (arith, ap (λ l. length l) none))
+]
 tail_chars zero (c ∷ cs) rest few it = absurd (omega (arith, few))
 tail_chars (suc n) (c ∷ cs) rest few it =
     tail_one_more n (λ es more less at. tail_chars n es more less at) c cs rest
@@ -229,16 +210,14 @@ tail_chars (suc n) (c ∷ cs) rest few it =
 
 tail_alike : Alike IsStringTail
 tail_alike = record {
-  bytes = λ cs is. record {
-    first = encode_utf8_all is.first;
-    second = encode_utf8_all is.second;
-    is_first = many_bytes is.first is.is_first;
-    is_second = (byte_alike IsQuote (λ b e. omega (arith, e))).bytes is.second is.is_second;
-    joins = ap encode_utf8_all is.joins ∙ encodes-append is.first is.second;
-  };
+  bytes = λ cs is.
+      joined (encode_utf8_all is.first) (encode_utf8_all is.second)
+      (many_bytes is.first is.is_first)
+      (quote_alike.bytes is.second is.is_second)
+      (ap encode_utf8_all is.joins ∙ encodes-append is.first is.second);
   chars = λ cs text rest is e.
       tail_chars (length cs) cs rest (omega arith) (record { text = text; is = is; splits = e });
 }
 
 pub string_alike : Alike IsString
-string_alike = then_alike (byte_alike IsQuote (λ b e. omega (arith, e))) tail_alike
+string_alike = then_alike quote_alike tail_alike

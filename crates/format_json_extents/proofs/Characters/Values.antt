@@ -1,50 +1,38 @@
 -- A value by its bytes is one by its characters.
-use Rattle.std.proofs.Common.{◌≡◌, ◌∙◌, ◌↔◌, ◌++◌, ◌<◌, ℕ, zero, suc, Bool, true, false, []}
-use Rattle.std.proofs.Common.{List, ap, arith, subst, sym}
+use Rattle.std.proofs.Common.{◌++◌, ◌<◌, ◌↔◌, ◌∙◌, ◌≡◌, [], ℕ, Bool, List, ap, arith, false, subst}
+use Rattle.std.proofs.Common.{suc, sym, true, zero}
 use Rattle.std.specs.Str.{IsUtf8, chars}
 use Rattle.std.proofs.lemmas.List.{append-nil}
 use Rattle.std.proofs.lemmas.Str.{encodes-chars, encodes_same}
-use Rattle.format_json_extents.proofs.Characters.{Alike, all_alike, byte_alike, either_alike}
-use Rattle.format_json_extents.proofs.Characters.{list_alike, maybe_alike, only_alike, then_alike}
+use Rattle.format_json_extents.proofs.Characters.{Alike, IsLow, all_low, byte_low, either_alike}
+use Rattle.format_json_extents.proofs.Characters.{either_low, list_alike, low_alike, number_low}
+use Rattle.format_json_extents.proofs.Characters.{only_low, then_alike, then_low}
 use Rattle.format_json_extents.proofs.Characters.Strings.{string_alike}
-use Rattle.format_json_extents.specs.Number.{IsDigit, IsDigits, IsE, IsLeading, IsNumber, IsSign}
 use Rattle.format_json_extents.specs.Value.{IsClosing, IsElement, IsGap, IsItem, IsKey}
 use Rattle.format_json_extents.specs.Value.{IsNestedTail, IsScalar, IsSpace, IsText, IsValue}
 use Rattle.format_json_extents.specs.Value.{IsWord}
 use Rattle.format_json_extents.specs.Texts.{IsByte}
 
--- ---- numbers and words
+-- ---- scalars
 
-this_alike : (c : ℕ) → c < 128 → Alike (IsByte (λ b. b ≡ c))
-this_alike c low = byte_alike (λ b. b ≡ c) (λ b e. omega (arith, e, low))
+this_low : (c : ℕ) → c < 128 → IsLow (IsByte (λ b. b ≡ c))
+this_low c low = byte_low (λ b. b ≡ c) (λ b e. omega (arith, e, low))
 
-digit_low : (b : ℕ) → IsDigit b → b < 128
-digit_low b is = omega (arith, is)
-
-digits_alike : Alike IsDigits
-digits_alike = then_alike (byte_alike IsDigit digit_low) (all_alike IsDigit digit_low)
-
-number_alike : Alike IsNumber
-number_alike =
-    then_alike (maybe_alike (this_alike 45 (omega arith)))
-    (then_alike (either_alike (this_alike 48 (omega arith))
-    (then_alike (byte_alike IsLeading (λ b is. omega (arith, is))) (all_alike IsDigit digit_low)))
-    (then_alike (maybe_alike (then_alike (this_alike 46 (omega arith)) digits_alike))
-    (maybe_alike (then_alike (byte_alike IsE (λ b is. grind (arith, is)))
-    (then_alike (maybe_alike (byte_alike IsSign (λ b is. grind (arith, is)))) digits_alike)))))
-
-word_alike : Alike IsWord
-word_alike =
-    either_alike (only_alike _ (omega arith))
-    (either_alike (only_alike _ (omega arith)) (only_alike _ (omega arith)))
+word_low : IsLow IsWord
+word_low =
+    either_low (only_low _ (omega arith))
+    (either_low (only_low _ (omega arith)) (only_low _ (omega arith)))
 
 scalar_alike : Alike IsScalar
-scalar_alike = either_alike string_alike (either_alike number_alike word_alike)
+scalar_alike = either_alike string_alike (low_alike (either_low number_low word_low))
 
 -- ---- values
 
+gap_low : IsLow IsGap
+gap_low = all_low IsSpace (λ b is. grind (arith, is))
+
 gap_alike : Alike IsGap
-gap_alike = all_alike IsSpace (λ b is. grind (arith, is))
+gap_alike = low_alike gap_low
 
 element_alike : {V : List ℕ → Type 0} → Alike V → Alike (IsElement V)
 element_alike v = then_alike gap_alike (then_alike v gap_alike)
@@ -52,28 +40,28 @@ element_alike v = then_alike gap_alike (then_alike v gap_alike)
 key_alike : Alike IsKey
 key_alike =
     then_alike gap_alike
-    (then_alike string_alike (then_alike gap_alike (this_alike 58 (omega arith))))
+    (then_alike string_alike (low_alike (then_low gap_low (this_low 58 (omega arith)))))
 
 item_alike : (keyed : Bool) {V : List ℕ → Type 0} → Alike V → Alike (IsItem keyed V)
 item_alike true v = then_alike key_alike (element_alike v)
 item_alike false v = element_alike v
 
-closing_alike : (keyed : Bool) → Alike (IsByte (IsClosing keyed))
-closing_alike true = this_alike 125 (omega arith)
-closing_alike false = this_alike 93 (omega arith)
+closing_low : (keyed : Bool) → IsLow (IsByte (IsClosing keyed))
+closing_low true = this_low 125 (omega arith)
+closing_low false = this_low 93 (omega arith)
 
 tail_alike : (keyed : Bool) {V : List ℕ → Type 0} → Alike V → Alike (IsNestedTail keyed V)
 tail_alike keyed v =
-    either_alike (then_alike gap_alike (closing_alike keyed))
-    (then_alike (list_alike (item_alike keyed v)) (closing_alike keyed))
+    either_alike (low_alike (then_low gap_low (closing_low keyed)))
+    (then_alike (list_alike (item_alike keyed v)) (low_alike (closing_low keyed)))
 
 value_alike : (level : ℕ) → Alike (IsValue level)
 value_alike zero = scalar_alike
 value_alike (suc level) =
     let v = value_alike level in
     either_alike scalar_alike
-    (either_alike (then_alike (this_alike 91 (omega arith)) (tail_alike false v))
-    (then_alike (this_alike 123 (omega arith)) (tail_alike true v)))
+    (either_alike (then_alike (low_alike (this_low 91 (omega arith))) (tail_alike false v))
+    (then_alike (low_alike (this_low 123 (omega arith))) (tail_alike true v)))
 
 -- ---- whole texts
 

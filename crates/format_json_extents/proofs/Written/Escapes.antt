@@ -1,15 +1,16 @@
 -- Proofs that an escape sequence encodes a character.
-use Rattle.std.proofs.Common.{◌≡◌, ◌∙◌, ◌++◌, ◌<◌, ◌≤◌, ◌+◌, ◌*◌, ◌-◌, ℕ, [], ◌∷◌}
-use Rattle.std.proofs.Common.{List, ap}
-use Rattle.std.proofs.Common.{append_assoc, arith, inl, inr, length, length-append, refl, sym}
+use Rattle.std.proofs.Common.{◌*◌, ◌++◌, ◌+◌, ◌-◌, ◌<◌, ◌∙◌, ◌∷◌, ◌≡◌, ◌≤◌, [], ℕ}
+use Rattle.std.proofs.Common.{List, ap, append_assoc, arith, inl, inr, length, length-append, refl}
 use Rattle.std.proofs.Math.Utf8.{low_scalar}
 use Rattle.std.specs.Char.{IsScalar, encode_utf8}
 use Rattle.std.proofs.lemmas.Bool.Decides.{nat_tests}
-use Rattle.std.proofs.lemmas.Str.{length-encode, len_utf8_ascii, len_utf8_bounds}
-use Rattle.format_json_extents.proofs.Written.Units.{digits_unit, high_of, is_high_of, is_low_of}
-use Rattle.format_json_extents.proofs.Written.Units.{is_only, low_of, no_surrogate, unit_digits}
-use Rattle.format_json_extents.specs.Strings.{BeginHigh, BeginLow, BeginOnly, IsCharacter, IsD}
-use Rattle.format_json_extents.specs.Strings.{IsEscape, IsEscaped, IsHexDigit, IsPair, IsUnit}
+use Rattle.std.proofs.lemmas.Str.{len_utf8_ascii, len_utf8_bounds, length-encode}
+use Rattle.format_json_extents.proofs.Matching.{joined, one, this_then}
+use Rattle.format_json_extents.proofs.Written.Units.{IsHigh, IsLow, digits_unit, high_hex, high_of}
+use Rattle.format_json_extents.proofs.Written.Units.{is_high_of, is_low_of, is_only, low_hex}
+use Rattle.format_json_extents.proofs.Written.Units.{low_of, no_surrogate, only_hex, unit_digits}
+use Rattle.format_json_extents.specs.Strings.{BeginHigh, BeginLow, BeginOnly, IsCharacter, IsEscape}
+use Rattle.format_json_extents.specs.Strings.{IsEscaped, IsPair, IsUnit}
 use Rattle.format_json_texts.specs.Strings.{ArePair, StandsFor, UnicodeText}
 use Rattle.format_parts.specs.Hexadecimal.{IsAlone, UnitText}
 use Rattle.format_parts.specs.Words.{For, One, Whichever, latter, pair}
@@ -45,14 +46,14 @@ only_set c cs (u, x, (e, is)) =
 only_value : (cs : List ℕ) → IsUnit BeginOnly cs → Means (For IsAlone UnitText) cs
 unfolding MadeText
 only_value cs is =
-    let (u, it) = unit_digits BeginOnly (λ a b x. (x.0, x.1)) cs is in
+    let (u, it) = unit_digits BeginOnly only_hex cs is in
     let free = no_surrogate cs u it in
     means_long (For IsAlone UnitText) cs u (u, it.unit, (refl, free)) (elim free [
       | inl less ↦ low_scalar u less
       | inr more ↦ high_scalar u more.0 (omega (arith, more))
     ]) it.size
 
-abbrev PairText : Text ℕ ℕ
+abbrev pub PairText : Text ℕ ℕ
 PairText =
     For ArePair (Both pair UnitText (Both latter (Both pair (One 92) (One 117)) UnitText))
 
@@ -81,82 +82,58 @@ pair_set c cs (
   ),
   are,
 ) =
-    let one : p.0 ≡ u = ap (λ (q : ℕ × ℕ). q.0) ox in
-    let two : p.1 ≡ v2 = ap (λ (q : ℕ × ℕ). q.1) ox ∙ oy in
-    record {
-      first = xs;
-      second = ys;
-      is_first = digits_unit BeginHigh u xs
-          (λ a b high low rest it. is_high_of a b high low rest u it
-          (omega (arith, are, one), omega (arith, are, one))) x;
-      is_second = record {
-        first = ss;
-        second = ls ++ zs;
-        is_first = record { byte = 92; is_byte = refl; alone = fs };
-        is_second = record {
-          first = ls;
-          second = zs;
-          is_first = record { byte = 117; is_byte = refl; alone = fl };
-          is_second = digits_unit BeginLow v2 zs
-              (λ a b high low rest it. is_low_of a b high low rest v2 it
-              (omega (arith, are, two), omega (arith, are, two))) z;
-          joins = refl;
-        };
-        joins = ey ∙ ap (λ l. l ++ zs) em ∙ append_assoc ss ls zs;
-      };
-      joins = ex;
-    }
+    let high : p.0 ≡ u = ap (λ (q : ℕ × ℕ). q.0) ox in
+    let low : p.1 ≡ v2 = ap (λ (q : ℕ × ℕ). q.1) ox ∙ oy in
+    joined xs ys
+    (digits_unit BeginHigh u xs (λ a b h l rest it. is_high_of a b h l rest u it
+    (omega (arith, are, high), omega (arith, are, high))) x)
+    (joined ss (ls ++ zs) (one refl fs)
+    (joined ls zs (one refl fl)
+    (digits_unit BeginLow v2 zs (λ a b h l rest it. is_low_of a b h l rest v2 it
+    (omega (arith, are, low), omega (arith, are, low))) z) refl)
+    (ey ∙ ap (λ l. l ++ zs) em ∙ append_assoc ss ls zs)) ex
 
-d_hex : (a : ℕ) → IsD a → IsHexDigit a
-d_hex a is = grind (arith, is)
+pub pair_text : (c u v : ℕ) (xs ys cs : List ℕ) → UnitText u xs → UnitText v ys
+    → cs ≡ xs ++ 92 ∷ 117 ∷ ys → IsHigh u → IsLow v
+    → c ≡ 65536 + (u - 55296) * 1024 + (v - 56320) → PairText c cs
+unfolding MadeText Both Spelled
+pair_text c u v xs ys cs x y e high low same = (
+  (u, v),
+  (
+    u,
+    v,
+    xs,
+    92 ∷ 117 ∷ ys,
+    x,
+    (
+      (92, 117),
+      v,
+      92 ∷ 117 ∷ [],
+      ys,
+      (92, 117, 92 ∷ [], 117 ∷ [], (refl, refl), (refl, refl), refl, refl),
+      y,
+      refl,
+      refl,
+    ),
+    e,
+    refl,
+  ),
+  (high.0, high.1, low.0, low.1, same),
+)
 
 pair_value : (cs : List ℕ) → IsPair cs → Means PairText cs
-unfolding MadeText Both Spelled
 pair_value cs is =
-    let (u, it) = unit_digits BeginHigh (λ a b x. (d_hex a x.0, grind (arith, x))) is.first
-    is.is_first in
-    let low = is.is_second.is_second in
-    let (v, also) = unit_digits BeginLow (λ a b x. (d_hex a x.0, grind (arith, x))) low.second
-    low.is_second in
-    let high_is = high_of is.first u it in
-    let low_is = low_of low.second v also in
-    let slash = is.is_second.is_first in
-    let letter = low.is_first in
+    let (u, it) = unit_digits BeginHigh high_hex is.first is.is_first in
+    let letter = is.is_second.is_second in
+    let (v, also) = unit_digits BeginLow low_hex letter.second letter.is_second in
+    let high = high_of is.first u it in
+    let low = low_of letter.second v also in
     let c = 65536 + (u - 55296) * 1024 + (v - 56320) in
-    means_long PairText cs c (
-      (u, v),
-      (
-        u,
-        v,
-        is.first,
-        is.second,
-        it.unit,
-        (
-          (92, 117),
-          v,
-          is.is_second.first ++ low.first,
-          low.second,
-          (
-            92,
-            117,
-            is.is_second.first,
-            low.first,
-            (refl, slash.alone ∙ ap (λ b. b ∷ []) slash.is_byte),
-            (refl, letter.alone ∙ ap (λ b. b ∷ []) letter.is_byte),
-            refl,
-            refl,
-          ),
-          also.unit,
-          is.is_second.joins ∙ ap (λ l. is.is_second.first ++ l) low.joins
-              ∙ sym (append_assoc is.is_second.first low.first low.second),
-          refl,
-        ),
-        is.joins,
-        refl,
-      ),
-      (high_is.0, high_is.1, low_is.0, low_is.1, refl),
-    )
-    (high_scalar c (omega (arith, high_is)) (omega (arith, high_is, low_is)))
+    means_long PairText cs c
+    (pair_text c u v is.first letter.second cs it.unit also.unit
+    (is.joins ∙ ap (λ l. is.first ++ l)
+    (this_then 92 is.is_second ∙ ap (λ l. 92 ∷ l) (this_then 117 letter))) high low refl)
+    (high_scalar c (omega (arith, high)) (omega (arith, high, low)))
     (omega (arith, it.size, ap (λ l. length l) is.joins, length-append is.first is.second))
 
 means_to : (text other : Text ℕ ℕ) (cs : List ℕ) → ((c : ℕ) → text c cs → other c cs)
@@ -184,43 +161,23 @@ stands_for : (b : ℕ) → IsEscaped b → (k : ℕ) × StandsFor b k × (k < 12
 stands_for b (inl e) = (34, inl (e, refl), omega arith)
 stands_for b (inr (inl e)) = (92, inr (inl (e, refl)), omega arith)
 stands_for b (inr (inr (inl e))) = (47, inr (inr (inl (e, refl))), omega arith)
-stands_for b (inr (inr (inr (inl e)))) = (8, inr (inr (inr (inl (e, refl)))), omega arith)
-stands_for b (inr (inr (inr (inr (inl e))))) =
-    (12, inr (inr (inr (inr (inl (e, refl))))), omega arith)
-stands_for b (inr (inr (inr (inr (inr (inl e)))))) =
-    (10, inr (inr (inr (inr (inr (inl (e, refl)))))), omega arith)
-stands_for b (inr (inr (inr (inr (inr (inr (inl e))))))) =
-    (13, inr (inr (inr (inr (inr (inr (inl (e, refl))))))), omega arith)
-stands_for b (inr (inr (inr (inr (inr (inr (inr e))))))) =
-    (9, inr (inr (inr (inr (inr (inr (inr (e, refl))))))), omega arith)
+stands_for b (inr (inr (inr (inl e)))) = (8, grind (arith, e), omega arith)
+stands_for b (inr (inr (inr (inr (inl e))))) = (12, grind (arith, e), omega arith)
+stands_for b (inr (inr (inr (inr (inr (inl e)))))) = (10, grind (arith, e), omega arith)
+stands_for b (inr (inr (inr (inr (inr (inr (inl e))))))) = (13, grind (arith, e), omega arith)
+stands_for b (inr (inr (inr (inr (inr (inr (inr e))))))) = (9, grind (arith, e), omega arith)
 
 is_escaped : (b k : ℕ) → StandsFor b k → IsEscaped b
-is_escaped b k (inl x) = inl x.0
-is_escaped b k (inr (inl x)) = inr (inl x.0)
-is_escaped b k (inr (inr (inl x))) = inr (inr (inl x.0))
-is_escaped b k (inr (inr (inr (inl x)))) = inr (inr (inr (inl x.0)))
-is_escaped b k (inr (inr (inr (inr (inl x))))) = inr (inr (inr (inr (inl x.0))))
-is_escaped b k (inr (inr (inr (inr (inr (inl x)))))) = inr (inr (inr (inr (inr (inl x.0)))))
-is_escaped b k (inr (inr (inr (inr (inr (inr (inl x))))))) =
-    inr (inr (inr (inr (inr (inr (inl x.0))))))
-is_escaped b k (inr (inr (inr (inr (inr (inr (inr x))))))) =
-    inr (inr (inr (inr (inr (inr (inr x.0))))))
+is_escaped b k stands = grind (arith, stands)
 
 abbrev pub EscapedText : Text ℕ ℕ
 EscapedText = EitherText (For StandsFor Whichever) (Both latter (One 117) UnicodeText)
 
 pub escape_set : (c : ℕ) (cs : List ℕ) → EscapedText c cs → IsEscape cs
 unfolding EitherText MadeText Whichever Both Spelled
-escape_set c cs (inl (b, e, is)) =
-    inl (record { byte = b; is_byte = is_escaped b c is; alone = e })
+escape_set c cs (inl (b, e, is)) = inl (one (is_escaped b c is) e)
 escape_set c cs (inr (u, d, xs, ys, (eu, fu), x, e, out)) =
-    inr (record {
-      first = xs;
-      second = ys;
-      is_first = record { byte = 117; is_byte = refl; alone = fu };
-      is_second = character_set d ys x;
-      joins = e;
-    })
+    inr (joined xs ys (one refl fu) (character_set d ys x) e)
 
 pub escape_value : (cs : List ℕ) → IsEscape cs → Means EscapedText cs
 unfolding EitherText MadeText Whichever Both Spelled

@@ -1,6 +1,7 @@
 -- Numbers are the texts of some slice.
-use Rattle.std.proofs.Common.{◌≡◌, ◌∙◌, ◌⊎◌, ◌++◌, ℕ, [], ◌∷◌, List, ap, append_assoc, inl, inr}
+use Rattle.std.proofs.Common.{◌++◌, ◌∙◌, ◌∷◌, ◌≡◌, ◌⊎◌, [], ℕ, List, ap, append_assoc, inl, inr}
 use Rattle.std.proofs.Common.{refl, sym}
+use Rattle.format_json_extents.proofs.Matching.{joined, one}
 use Rattle.format_json_extents.proofs.Written.{Written, either_written, in_written, maybe_written}
 use Rattle.format_json_extents.proofs.Written.{one_written, run_one_written, run_written}
 use Rattle.format_json_extents.proofs.Written.{shown_written, then_written}
@@ -26,53 +27,34 @@ either_byte : (P Q : ℕ → Type 0) → Same (Either (IsByte P) (IsByte Q)) (Is
 either_byte P Q = (there, λ cs is. back cs is.byte is.is_byte is.alone)
   where
     there : (cs : List ℕ) → Either (IsByte P) (IsByte Q) cs → IsByte (λ b. P b ⊎ Q b) cs
-    there cs (inl is) = record { byte = is.byte; is_byte = inl is.is_byte; alone = is.alone }
-    there cs (inr is) = record { byte = is.byte; is_byte = inr is.is_byte; alone = is.alone }
+    there cs (inl is) = one (inl is.is_byte) is.alone
+    there cs (inr is) = one (inr is.is_byte) is.alone
 
     back : (cs : List ℕ) (b : ℕ) → P b ⊎ Q b → cs ≡ b ∷ [] → Either (IsByte P) (IsByte Q) cs
-    back cs b (inl is) e = inl (record { byte = b; is_byte = is; alone = e })
-    back cs b (inr is) e = inr (record { byte = b; is_byte = is; alone = e })
+    back cs b (inl is) e = inl (one is e)
+    back cs b (inr is) e = inr (one is e)
+
+pub swap : {X Y : Type 0} → X ⊎ Y → Y ⊎ X
+swap (inl x) = inr x
+swap (inr y) = inl y
 
 swap_byte : (P Q : ℕ → Type 0) → Same (IsByte (λ b. P b ⊎ Q b)) (IsByte (λ b. Q b ⊎ P b))
-swap_byte P Q = (
-  λ cs is. record { byte = is.byte; is_byte = swap is.is_byte; alone = is.alone },
-  λ cs is. record { byte = is.byte; is_byte = swap is.is_byte; alone = is.alone },
-)
-  where
-    swap : {X Y : Type 0} → X ⊎ Y → Y ⊎ X
-    swap (inl x) = inr x
-    swap (inr y) = inl y
+swap_byte P Q = (λ cs is. one (swap is.is_byte) is.alone, λ cs is. one (swap is.is_byte) is.alone)
 
 then_assoc : (P Q R : List ℕ → Type 0) → Same (Then (Then P Q) R) (Then P (Then Q R))
 then_assoc P Q R = (
-  λ cs is. record {
-    first = is.is_first.first;
-    second = is.is_first.second ++ is.second;
-    is_first = is.is_first.is_first;
-    is_second = record {
-      first = is.is_first.second;
-      second = is.second;
-      is_first = is.is_first.is_second;
-      is_second = is.is_second;
-      joins = refl;
-    };
-    joins = is.joins ∙ ap (λ l. l ++ is.second) is.is_first.joins
-        ∙ append_assoc is.is_first.first is.is_first.second is.second;
-  },
-  λ cs is. record {
-    first = is.first ++ is.is_second.first;
-    second = is.is_second.second;
-    is_first = record {
-      first = is.first;
-      second = is.is_second.first;
-      is_first = is.is_first;
-      is_second = is.is_second.is_first;
-      joins = refl;
-    };
-    is_second = is.is_second.is_second;
-    joins = is.joins ∙ ap (λ l. is.first ++ l) is.is_second.joins
-        ∙ sym (append_assoc is.first is.is_second.first is.is_second.second);
-  },
+  λ cs is.
+      let front = is.is_first in
+      joined front.first (front.second ++ is.second) front.is_first
+      (joined front.second is.second front.is_second is.is_second refl)
+      (is.joins ∙ ap (λ l. l ++ is.second) front.joins
+      ∙ append_assoc front.first front.second is.second),
+  λ cs is.
+      let rest = is.is_second in
+      joined (is.first ++ rest.first) rest.second
+      (joined is.first rest.first is.is_first rest.is_first refl) rest.is_second
+      (is.joins ∙ ap (λ l. is.first ++ l) rest.joins
+      ∙ sym (append_assoc is.first rest.first rest.second)),
 )
 
 digits_written : Written IsDigits (Run IsDigit 1)

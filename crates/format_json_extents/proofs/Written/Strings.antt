@@ -1,62 +1,41 @@
 -- Strings are the texts of those that hold some characters.
-use Rattle.std.proofs.Common.{◌≡◌, ◌∙◌, ◌⊎◌, ◌<◌, ◌≤◌, ◌^◌, ℕ, [], ◌∷◌, List, ap, arith}
-use Rattle.std.proofs.Common.{inl, inr}
+use Rattle.std.proofs.Common.{◌<◌, ◌^◌, ◌∙◌, ◌∷◌, ◌≡◌, ◌≤◌, [], ℕ, List, ap, arith, inl, inr}
 use Rattle.std.proofs.Common.{length, length-append, refl, subst, true}
 use Rattle.std.proofs.Math.Utf8.{scalar_cases}
 use Rattle.std.proofs.StringFromBytes.{spelled}
 use Rattle.std.specs.Char.{IsScalar, encode_utf8}
 use Rattle.std.specs.Str.{all_scalars, encode_utf8_all}
-use Rattle.std.proofs.lemmas.Bool.{cases_lt}
 use Rattle.std.proofs.lemmas.Str.{encodes-append, length-le-encodes}
-use Rattle.format_json_extents.proofs.Written.{Fits, Written, and_true, both_true}
-use Rattle.format_json_extents.proofs.Written.{fit_parts, one_written, then_written}
+use Rattle.format_json_extents.proofs.Matching.{joined, one}
+use Rattle.format_json_extents.proofs.Written.{Fits, Written, and_true, both_true, fit_parts}
+use Rattle.format_json_extents.proofs.Written.{one_written, then_written}
 use Rattle.format_json_extents.proofs.Written.Escapes.{escape_set, escape_value}
 use Rattle.format_json_extents.specs.Strings.{IsPiece, IsString, IsUnescaped}
 use Rattle.format_json_extents.specs.Texts.{Many, nothing, one_more}
-use Rattle.format_json_texts.specs.Strings.{CharacterText, StringText, IsUnescaped as IsPlain}
+use Rattle.format_json_texts.specs.Strings.{CharacterText, IsUnescaped as IsPlain, StringText}
 use Rattle.format_parts.specs.Words.{In, former, latter}
 use Rattle.winnow.specs.Accumulator.Holds.{HasCharacters}
 use Rattle.winnow.specs.Texts.{BothText as Both, EachText, EitherText, GatheredText, Spelled}
 
 -- ---- pieces
 
-apart : (x n : ℕ) → (x ≡ n → ⊥) → n ≤ x → n < x
-apart x n not least = grind (arith, not, least)
-
-plain_of : (b : ℕ) → IsUnescaped b → IsScalar b → IsPlain b
-plain_of b is scalar = by (cases_lt b 34) (cases_lt b 92)
-  where
-    most : b ≤ 1114111
-    most = elim (scalar_cases b scalar) [
-      | inl less ↦ omega (arith, less)
-      | inr more ↦ omega (arith, more)
-    ]
-
-    by : (b < 34) ⊎ (34 ≤ b) → (b < 92) ⊎ (92 ≤ b) → IsPlain b
-    by (inl less) _ = inl (is.0, omega (arith, less))
-    by (inr more) (inl less) = inr (inl (apart b 34 is.1 more, omega (arith, less)))
-    by (inr _) (inr more) = inr (inr (apart b 92 is.2 more, most))
+plain_of : (b : ℕ) → IsUnescaped b → b ≤ 1114111 → IsPlain b
+plain_of b is most = grind (arith, is, most)
 
 plain_is : (b : ℕ) → IsPlain b → IsUnescaped b
-plain_is b (inl x) =
-    (omega (arith, x), λ e. omega (arith, x, e), λ e. omega (arith, x, e))
-plain_is b (inr (inl x)) =
-    (omega (arith, x), λ e. omega (arith, x, e), λ e. omega (arith, x, e))
-plain_is b (inr (inr x)) =
-    (omega (arith, x), λ e. omega (arith, x, e), λ e. omega (arith, x, e))
+plain_is b is = (grind (arith, is), λ e. grind (arith, is, e), λ e. grind (arith, is, e))
+
+scalar_most : (b : ℕ) → IsScalar b → b ≤ 1114111
+scalar_most b scalar = elim (scalar_cases b scalar) [
+  | inl less ↦ omega (arith, less)
+  | inr more ↦ omega (arith, more)
+]
 
 piece_set : (c : ℕ) (cs : List ℕ) → CharacterText c cs → IsPiece cs
 unfolding EitherText Both Spelled In
-piece_set c cs (inl (is, e)) =
-    inl (record { byte = c; is_byte = plain_is c is; alone = e })
+piece_set c cs (inl (is, e)) = inl (one (plain_is c is) e)
 piece_set c cs (inr (s, d, xs, ys, (es, fs), x, e, out)) =
-    inr (record {
-      first = xs;
-      second = ys;
-      is_first = record { byte = 92; is_byte = refl; alone = fs };
-      is_second = escape_set d ys x;
-      joins = e;
-    })
+    inr (joined xs ys (one refl fs) (escape_set d ys x) e)
 
 -- a character that these are the text of, and that takes no more bytes than they do
 record Piece (cs : List ℕ) : Type 0 where
@@ -72,7 +51,7 @@ piece_value cs fits (inl is) =
     let scalar = (both_true _ true (subst P is.alone fits.scalars)).0 in
     record {
       char = is.byte;
-      written = inl (plain_of is.byte is.is_byte scalar, is.alone);
+      written = inl (plain_of is.byte is.is_byte (scalar_most is.byte scalar), is.alone);
       scalar = scalar;
       size = omega (
         arith,

@@ -1,33 +1,35 @@
 -- Proofs that the values of this crate encode values of RFC 8259, and likewise its JSON texts.
-use Rattle.std.proofs.Common.{◌≡◌, ◌∙◌, ◌++◌, ◌↔◌, ◌<◌, ◌^◌, ℕ, zero, suc, Bool, true, false, []}
-use Rattle.std.proofs.Common.{◌∷◌, List, None, Option, Some, ap, append_assoc, arith, inl, inr}
-use Rattle.std.proofs.Common.{length, refl, sym}
+use Rattle.std.proofs.Common.{◌++◌, ◌<◌, ◌^◌, ◌↔◌, ◌∙◌, ◌∷◌, ◌≡◌, ◌≤◌, [], ℕ, Bool}
+use Rattle.std.proofs.Common.{List, None, Option, Some, ap, append_assoc, arith, false, inl, inr}
+use Rattle.std.proofs.Common.{length, length-append, refl, suc, sym, true, zero}
 use Rattle.std.proofs.StringFromBytes.{spelled}
 use Rattle.std.proofs.lemmas.Str.{encodes-chars, scalars-chars}
 use Rattle.std.specs.Str.{IsUtf8, chars, encode_utf8_all}
 use Rattle.std.specs.declared.string.String.{String}
 use Rattle.format_json_extents.proofs.Characters.Values.{text_characters, value_characters}
+use Rattle.format_json_extents.proofs.Matching.{joined}
 use Rattle.format_json_extents.proofs.Written.{Fits, Written, either_written, for_written}
 use Rattle.format_json_extents.proofs.Written.{then_written}
 use Rattle.format_json_extents.proofs.Written.Brackets.{IsMarked, bracketed_written, gap_written}
-use Rattle.format_json_extents.proofs.Written.Brackets.{mark_written, spread_same}
+use Rattle.format_json_extents.proofs.Written.Brackets.{mark_written}
 use Rattle.format_json_extents.proofs.Written.Numbers.{Same, as_written, number_written}
 use Rattle.format_json_extents.proofs.Written.Strings.{string_written}
 use Rattle.format_json_extents.specs.Number.{IsNumber}
 use Rattle.format_json_extents.specs.Strings.{IsString}
-use Rattle.format_json_extents.specs.Texts.{Either, IsByte, Then}
-use Rattle.format_json_extents.specs.Value.{IsElement, IsGap, IsMember, IsNestedTail, IsScalar}
-use Rattle.format_json_extents.specs.Value.{IsText, IsValue, IsWord, Only, opening}
+use Rattle.format_json_extents.specs.Texts.{Either, IsByte, IsLongest, NoneStands, Then}
+use Rattle.format_json_extents.specs.Value.{IsGap, IsMember, IsNestedTail, IsScalar, IsText}
+use Rattle.format_json_extents.specs.Value.{IsValue, IsWord, Only, opening}
 use Rattle.format_json_texts.specs.Number.{NumberText}
 use Rattle.format_parts.specs.Words.{Slice, former, latter, pair}
-use Rattle.format_json_texts.specs.Values.{ArrayText, HasText, IsArray, IsObject, JsonText}
-use Rattle.format_json_texts.specs.Values.{ObjectText, ScalarText, Spaced, ValueText, WordText}
-use Rattle.format_json_texts.specs.Values.{IsNumber as IsNumberOf, IsString as IsStringOf}
-use Rattle.format_json_texts.specs.Values.{IsWord as IsWordOf}
+use Rattle.format_json_texts.specs.Values.{ArrayText, HasText, IsArray, IsNumber as IsNumberOf}
+use Rattle.format_json_texts.specs.Values.{IsObject, IsString as IsStringOf, IsWord as IsWordOf}
+use Rattle.format_json_texts.specs.Values.{JsonText, ObjectText, ScalarText, Spaced, ValueText}
+use Rattle.format_json_texts.specs.Values.{WordText}
 use Rattle.format_json_texts.specs.declared.value.Value.{Value}
 use Rattle.format_json_texts.specs.declared.value.Value as values
 use Rattle.winnow.specs.Accumulator.Holds.{HasCharacters}
 use Rattle.winnow.specs.Texts.{Spelled, TakenText, Text}
+use Rattle.format_json_extents.specs.Standard.{IsTextByStandard, IsValueByStandard}
 
 only_written : {O : Type 0} (word : List ℕ) (o : O) → Written (Only word) (Spelled word o)
 unfolding Spelled
@@ -64,42 +66,18 @@ member_there V cs is =
     let name = key.is_second in
     let colon = name.is_second in
     let element = is.is_second in
-    record {
-      first = key.first;
-      second = (name.first ++ colon.first)
-          ++ ((colon.second ++ element.first) ++ element.second);
-      is_first = key.is_first;
-      is_second = record {
-        first = name.first ++ colon.first;
-        second = (colon.second ++ element.first) ++ element.second;
-        is_first = record {
-          first = name.first;
-          second = colon.first;
-          is_first = name.is_first;
-          is_second = colon.is_first;
-          joins = refl;
-        };
-        is_second = record {
-          first = colon.second ++ element.first;
-          second = element.second;
-          is_first = record {
-            first = colon.second;
-            second = element.first;
-            is_first = colon.is_second;
-            is_second = element.is_first;
-            joins = refl;
-          };
-          is_second = element.is_second;
-          joins = refl;
-        };
-        joins = refl;
-      };
-      joins = is.joins ∙ ap (λ l. l ++ is.second)
-          (key.joins ∙ ap (λ l. key.first ++ l)
-          (name.joins ∙ ap (λ l. name.first ++ l) colon.joins))
-          ∙ ap (λ l. (key.first ++ (name.first ++ (colon.first ++ colon.second))) ++ l)
-          element.joins ∙ simp append_assoc;
-    }
+    let named = name.first ++ colon.first in
+    let value = (colon.second ++ element.first) ++ element.second in
+    joined key.first (named ++ value) key.is_first
+    (joined named value (joined name.first colon.first name.is_first colon.is_first refl)
+    (joined (colon.second ++ element.first) element.second
+    (joined colon.second element.first colon.is_second element.is_first refl) element.is_second
+    refl) refl)
+    (is.joins ∙ ap (λ l. l ++ is.second)
+    (key.joins ∙ ap (λ l. key.first ++ l)
+    (name.joins ∙ ap (λ l. name.first ++ l) colon.joins))
+    ∙ ap (λ l. (key.first ++ (name.first ++ (colon.first ++ colon.second))) ++ l)
+    element.joins ∙ simp append_assoc)
 
 member_back : (V : List ℕ → Type 0) (cs : List ℕ) → Then IsGap (MemberBody V) cs
     → IsMember V cs
@@ -108,40 +86,16 @@ member_back V cs is =
     let name = body.is_first in
     let more = body.is_second in
     let colon = more.is_first in
-    record {
-      first = is.first ++ (name.first ++ (name.second ++ colon.first));
-      second = colon.second ++ more.second;
-      is_first = record {
-        first = is.first;
-        second = name.first ++ (name.second ++ colon.first);
-        is_first = is.is_first;
-        is_second = record {
-          first = name.first;
-          second = name.second ++ colon.first;
-          is_first = name.is_first;
-          is_second = record {
-            first = name.second;
-            second = colon.first;
-            is_first = name.is_second;
-            is_second = colon.is_first;
-            joins = refl;
-          };
-          joins = refl;
-        };
-        joins = refl;
-      };
-      is_second = record {
-        first = colon.second;
-        second = more.second;
-        is_first = colon.is_second;
-        is_second = more.is_second;
-        joins = refl;
-      };
-      joins = is.joins ∙ ap (λ l. is.first ++ l)
-          (body.joins ∙ ap (λ l. l ++ body.second) name.joins
-          ∙ ap (λ l. (name.first ++ name.second) ++ l)
-          (more.joins ∙ ap (λ l. l ++ more.second) colon.joins)) ∙ simp append_assoc;
-    }
+    let named = name.second ++ colon.first in
+    joined (is.first ++ (name.first ++ named)) (colon.second ++ more.second)
+    (joined is.first (name.first ++ named) is.is_first
+    (joined name.first named name.is_first
+    (joined name.second colon.first name.is_second colon.is_first refl) refl) refl)
+    (joined colon.second more.second colon.is_second more.is_second refl)
+    (is.joins ∙ ap (λ l. is.first ++ l)
+    (body.joins ∙ ap (λ l. l ++ body.second) name.joins
+    ∙ ap (λ l. (name.first ++ name.second) ++ l)
+    (more.joins ∙ ap (λ l. l ++ more.second) colon.joins)) ∙ simp append_assoc)
 
 module _ {A : Type 0} (alloc : A) where
   word_means : (o : Option Bool) → (v : Value A) × IsWordOf o v
@@ -169,18 +123,14 @@ module _ {A : Type 0} (alloc : A) where
 
     array_written : Written (Then (IsByte (λ b. b ≡ opening false)) (IsNestedTail false V))
         (ArrayText (HasCharacters {A = A}) value)
-    array_written =
-        as_written (spread_same (IsElement V) (Then V IsGap) (λ cs is. is) (λ cs is. is) 91 93)
-        (bracketed_written spaced alloc 91 93)
+    array_written = bracketed_written (λ cs is. is) (λ cs is. is) spaced alloc 91 93
 
     object_written : Written (Then (IsByte (λ b. b ≡ opening true)) (IsNestedTail true V))
         (ObjectText (HasCharacters {A = A}) value)
     object_written =
-        as_written (spread_same (IsMember V) (MemberBody V) (member_there V) (member_back V) 123
-        125)
-        (bracketed_written
+        bracketed_written (member_there V) (member_back V)
         (then_written pair (then_written former (string_written alloc) gap_written)
-        (then_written latter (mark_written 58) spaced)) alloc 123 125)
+        (then_written latter (mark_written 58) spaced)) alloc 123 125
 
   value_written : (level : ℕ) → Written (IsValue level) (ValueText (HasCharacters {A = A}) level)
   unfolding ValueText
@@ -223,3 +173,43 @@ module _ {A : Type 0} (alloc : A) where
       ↔ ((v : Value A) × JsonText (HasCharacters {A = A}) level v (chars bytes))
   texts_written level bytes utf8 few =
       by_bytes (text_written level) bytes utf8 few (text_characters level bytes utf8)
+
+value_standard : (level : ℕ) (bytes : List ℕ) → length bytes < 2 ^ 63 → IsUtf8 bytes
+    → IsValue level bytes ↔ IsValueByStandard level bytes
+value_standard level bytes few utf8 =
+    let (there, back) = values_written tt level bytes utf8 few in
+    (λ is. (utf8, there is), λ (also, x). back x)
+
+pub text_standard : (level : ℕ) (bytes : List ℕ) → length bytes < 2 ^ 63 → IsUtf8 bytes
+    → IsText level bytes ↔ IsTextByStandard level bytes
+text_standard level bytes few utf8 =
+    let (there, back) = texts_written tt level bytes utf8 few in
+    (λ is. (utf8, there is), λ (also, x). back x)
+
+pub through : {X Y Z : Type 0} → X ↔ Y → Y ↔ Z → X ↔ Z
+through (a, b) (c, d) = (λ x. c (a x), λ z. b (d z))
+
+module _ (level : ℕ) (bytes : List ℕ) (few : length bytes < 2 ^ 63) where
+  front_few : (text rest : List ℕ) → bytes ≡ text ++ rest → length text < 2 ^ 63
+  front_few text rest e = omega (arith, few, ap (λ l. length l) e, length-append text rest)
+
+  -- what is found is so by the standard
+  pub found_standard : (text rest : List ℕ) → IsLongest (IsValue level) text bytes rest
+      → IsUtf8 text → IsValueByStandard level text
+  found_standard text rest it utf8 =
+      (value_standard level text (front_few text rest it.splits) utf8).0 it.is
+
+  pub found_longest : (found left : List ℕ) → IsLongest (IsValue level) found bytes left
+      → (text rest : List ℕ) → IsValueByStandard level text → bytes ≡ text ++ rest
+      → length text ≤ length found
+  found_longest found left it text rest is e =
+      it.longest text rest ((value_standard level text (front_few text rest e) is.0).1 is) e
+
+  pub none_standard : NoneStands (IsValue level) bytes → (text rest : List ℕ)
+      → IsValueByStandard level text → bytes ≡ text ++ rest → ⊥
+  none_standard none text rest is e =
+      none rest (record {
+        text = text;
+        is = (value_standard level text (front_few text rest e) is.0).1 is;
+        splits = e;
+      })

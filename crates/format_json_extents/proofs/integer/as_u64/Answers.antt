@@ -1,4 +1,4 @@
-use Rattle.format_json_extents.proofs.Ascii.{low_utf8, number_low}
+use Rattle.format_json_extents.proofs.Characters.{low_utf8, number_low}
 use Rattle.format_json_extents.proofs.integer.as_u64.Goals as goal
 
 pub returns-in-Err : goal.returns-in-Err

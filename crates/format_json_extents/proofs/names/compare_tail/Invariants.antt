@@ -1,7 +1,7 @@
 -- Loop invariant: what the pieces so far denote is removed from the name, and the string ends from
 -- here where it ends from its first quote.
 use Rattle.std.proofs.Common.{length}
-use Rattle.format_json_extents.proofs.Leading.{SameMatches}
+use Rattle.format_json_extents.proofs.Scanning.{SameMatches}
 use Rattle.format_json_extents.proofs.Naming.{Compared}
 use Rattle.format_json_extents.specs.Names.{said}
 use Rattle.format_json_extents.specs.Strings.{IsStringTail}

@@ -1,9 +1,10 @@
-use Rattle.format_json_extents.proofs.Numbers.{fraction_is, fraction_none}
-use Rattle.format_json_extents.proofs.Answered.{match_on}
+use Rattle.std.proofs.Common.{refl}
+use Rattle.format_json_extents.proofs.Matching.{byte_leaves, never}
+use Rattle.format_json_extents.proofs.Scanning.{then_scans}
+use Rattle.format_json_extents.specs.Number.{IsDigit}
 use Rattle.format_json_extents.proofs.number.skip_fraction.Goals as goal
 
 pub returns : goal.returns
 returns c =
-    match_on _ _ _ _ c.skip_some_digits.result
-    (λ none. fraction_none _ _ c.in_ok-digits.ensures none)
-    (λ rest it. fraction_is _ _ rest.now c.in_ok-digits.ensures it) c.skip_some_digits.ensures
+    then_scans IsDigit c.skip_some_digits.result never (byte_leaves c.in_ok-digits.ensures refl)
+    c.skip_some_digits.ensures

@@ -1,8 +1,8 @@
-use Rattle.std.proofs.Common.{arith, rules}
-use Rattle.format_json_extents.proofs.Numbers.{digits_are}
+use Rattle.std.proofs.Common.{arith}
+use Rattle.format_json_extents.proofs.Matching.{byte_leaves, never, then_exact}
 use Rattle.format_json_extents.proofs.number.skip_some_digits.Goals as goal
 
 pub returns-then-first-le57 : goal.returns-then-first-le57
 returns-then-first-le57 c =
-    digits_are _ c.in_ok-first.first.now c.in_ok-first.more.now _ (search rules)
-    (omega arith, omega arith) c.skip_digits.ensures
+    then_exact never (byte_leaves c.in_ok-first.ensures.cases.0 (omega arith, omega arith))
+    c.skip_digits.ensures

@@ -1,13 +1,12 @@
-use Rattle.format_json_extents.proofs.Answered.{match_on}
-use Rattle.format_json_extents.proofs.Units.{character_none, character_only, character_pair}
+use Rattle.format_json_extents.proofs.Matching.{either_left}
+use Rattle.format_json_extents.proofs.Scalars.{no_pair}
+use Rattle.format_json_extents.proofs.Scanning.{right_scans}
+use Rattle.format_json_extents.specs.Texts.{Never}
 use Rattle.format_json_extents.proofs.string.skip_character.Goals as goal
 
 pub returns-in-Some : goal.returns-in-Some
-returns-in-Some c = character_only c.args.bytes.now _ c.in-Some.ensures
+returns-in-Some c = either_left c.in-Some.ensures (no_pair c.in-Some.ensures.stands)
 
 pub returns-in-None : goal.returns-in-None
 returns-in-None c =
-    match_on _ _ _ _ c.skip_pair.result
-    (λ none. character_none c.args.bytes.now c.in-None.ensures none)
-    (λ rest it. character_pair c.args.bytes.now rest.now c.in-None.ensures it)
-    c.skip_pair.ensures
+    right_scans _ _ Never _ c.skip_pair.result c.in-None.ensures c.skip_pair.ensures

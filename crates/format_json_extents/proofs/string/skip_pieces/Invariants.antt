@@ -1,6 +1,6 @@
 -- Loop invariant: the string ends from here where it ends from its first quote.
 use Rattle.std.proofs.Common.{length}
-use Rattle.format_json_extents.proofs.Leading.{SameMatches}
+use Rattle.format_json_extents.proofs.Scanning.{SameMatches}
 use Rattle.format_json_extents.specs.Strings.{IsStringTail}
 use Rattle.format_json_extents.proofs.string.skip_pieces.Given as goal
 

@@ -1,8 +1,5 @@
-use Rattle.std.proofs.Common.{subst, sym}
-use Rattle.std.specs.List.{All}
 use Rattle.format_json_extents.proofs.Runs.{lanes_stop, lanes_within, run_here}
 use Rattle.format_json_extents.specs.Strings.{IsUnescaped}
-use Rattle.format_json_extents.specs.Texts.{RestAfter}
 use Rattle.format_json_extents.proofs.tokens.skip_unescaped.Goals as goal
 
 pub skip_many-requires : goal.skip_many-requires
@@ -10,5 +7,4 @@ skip_many-requires c = lanes_within IsUnescaped _ _ c.in-Some.ensures
 
 pub returns-in-Some : goal.returns-in-Some
 returns-in-Some c =
-    subst (RestAfter (All IsUnescaped) IsUnescaped c.args.bytes.now) (sym c.skip_many.ensures)
-    (lanes_stop IsUnescaped _ _ _ (run_here IsUnescaped c.args.bytes.now) c.in-Some.ensures)
+    rw c.skip_many.ensures (lanes_stop IsUnescaped _ (run_here IsUnescaped) c.in-Some.ensures)

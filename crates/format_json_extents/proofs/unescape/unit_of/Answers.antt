@@ -1,5 +1,5 @@
 use Rattle.std.proofs.Common.{refl}
-use Rattle.format_json_extents.proofs.Escaped.{unit_text}
+use Rattle.format_json_extents.proofs.Written.Units.{unit_text}
 use Rattle.format_json_extents.proofs.unescape.unit_of.Goals as goal
 
 pub returns : goal.returns

@@ -1,7 +1,7 @@
 -- Loop invariant: the bytes that the pieces so far denote are written, and the string ends from
 -- here where it ends from its first quote.
 use Rattle.std.proofs.Common.{length}
-use Rattle.format_json_extents.proofs.Leading.{SameMatches}
+use Rattle.format_json_extents.proofs.Scanning.{SameMatches}
 use Rattle.format_json_extents.proofs.Unescaping.{Wrote}
 use Rattle.format_json_extents.specs.Strings.{IsStringTail}
 use Rattle.format_json_extents.proofs.unescape.write_tail.Given as goal

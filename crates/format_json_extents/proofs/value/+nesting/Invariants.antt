@@ -1,6 +1,6 @@
 -- Loop invariant: the items end from here where they end from the opening bracket.
-use Rattle.std.proofs.Common.{◌+◌, ◌*◌, length}
-use Rattle.format_json_extents.proofs.Leading.{SameMatches}
+use Rattle.std.proofs.Common.{◌*◌, ◌+◌, length}
+use Rattle.format_json_extents.proofs.Scanning.{SameMatches}
 use Rattle.format_json_extents.specs.Value.{IsItemsTail, IsValue}
 use Rattle.format_json_extents.proofs.value.+nesting.Given as goal
 

@@ -1,22 +1,18 @@
 use Rattle.std.proofs.Common.{arith}
-use Rattle.format_json_extents.proofs.Answered.{longest}
-use Rattle.format_json_extents.proofs.Standard.{found_longest, found_standard, none_standard}
-use Rattle.format_json_extents.specs.Number.{IsNumberByte}
-use Rattle.format_json_extents.specs.Value.{IsValue}
+use Rattle.format_json_extents.proofs.Scanning.{longest}
+use Rattle.format_json_extents.proofs.Written.Values.{found_longest, found_standard, none_standard}
 use Rattle.format_json_extents.proofs.value.read_value.Goals as goal
 
 pub returns-clause-found : goal.returns-clause-found
-returns-clause-found c = longest (IsValue c.args.level) IsNumberByte _ _ c.in_ok-rest.ensures
+returns-clause-found c = longest c.in_ok-rest.ensures
 
 pub returns-clause-standard : goal.returns-clause-standard
 returns-clause-standard c =
-    found_standard c.args.level _ (omega arith) _ _
-    (longest (IsValue c.args.level) IsNumberByte _ _ c.in_ok-rest.ensures)
+    found_standard c.args.level _ (omega arith) _ _ (longest c.in_ok-rest.ensures)
 
 pub returns-clause-longest : goal.returns-clause-longest
 returns-clause-longest c =
-    found_longest c.args.level _ (omega arith) _ _
-    (longest (IsValue c.args.level) IsNumberByte _ _ c.in_ok-rest.ensures)
+    found_longest c.args.level _ (omega arith) _ _ (longest c.in_ok-rest.ensures)
 
 pub returns-in_err-rest-clause-longest : goal.returns-in_err-rest-clause-longest
 returns-in_err-rest-clause-longest c = λ text rest is e.

@@ -1,26 +1,27 @@
--- Lemmas about the result of one call, and of successive calls.
-use Rattle.std.proofs.Common.{◌≡◌, ◌∙◌, ◌⊎◌, ◌++◌, ℕ, [], ◌∷◌, List, ap, append_assoc, arith, inl}
-use Rattle.std.proofs.Common.{cond, inr, length, length-append, nat_lt, refl, subst, sym}
-use Rattle.std.specs.List.{All}
-use Rattle.std.proofs.lemmas.Bool.Decides.{nat_tests}
-use Rattle.std.proofs.lemmas.List.{append-nil}
-use Rattle.std.proofs.lemmas.List.Elements.{All-append, All-cons, All-head, All-nil, All-tail}
-use Rattle.std.proofs.lemmas.List.Elements.{All-weaker}
-use Rattle.format_json_extents.proofs.Escaped.{front_same}
-use Rattle.format_json_extents.proofs.Numbers.{number_starts}
-use Rattle.format_json_extents.proofs.Standing.{same_byte}
-use Rattle.format_json_extents.proofs.Stepping.{bracket_no_scalar, lead_no_token, token_starts}
-use Rattle.format_json_extents.proofs.Texts.{string_starts}
-use Rattle.format_json_extents.proofs.Words.{IsFirstOfScalar, scalar_starts}
-use Rattle.format_json_extents.specs.Number.{IsLeading, IsMinus, IsNumberByte, IsZero}
-use Rattle.format_json_extents.specs.Steps.{IsBracket, IsNextStep, IsOfStep, IsToken}
-use Rattle.format_json_extents.specs.Strings.{IsString}
-use Rattle.format_json_extents.specs.Texts.{IsByte, MatchesAtStart, Maybe, Or, Then}
-use Rattle.format_json_extents.specs.StepLists.{InTurn, StepList}
-use Rattle.format_json_extents.specs.Value.{IsGap, IsScalar, IsSpace}
-use Rattle.format_json_extents.specs.Walk.{IsLead, IsLeadByte, IsMark}
+-- Lemmas about the result of one call of `read_step`, and of successive calls.
+use Rattle.std.proofs.Common.{◌++◌, ◌∙◌, ◌∷◌, ◌≡◌, ◌⊎◌, [], ℕ, List, ap, append_assoc, arith, cond}
+use Rattle.std.proofs.Common.{inl, inr, nat_lt, refl, subst, sym}
+use Rattle.std.specs.Prelude.{⊤}
+use Rattle.std.proofs.lemmas.List.{append-nil, append_cancel_right}
+use Rattle.std.proofs.lemmas.List.Elements.{All-append, All-cons, All-head, All-nil, All-weaker}
+use Rattle.format_json_extents.proofs.Matching.{Begins, all_leaves, begins_at, joined, one}
+use Rattle.format_json_extents.proofs.Matching.{same_first, then_none, this_none}
+use Rattle.format_json_extents.proofs.Scanning.{rest_same}
+use Rattle.format_json_extents.proofs.Values.{colon_bars}
+use Rattle.format_json_extents.proofs.Walks.{IsFirstOfToken, lead_no_token, token_bracket}
+use Rattle.format_json_extents.proofs.Walks.{token_starts}
+use Rattle.format_json_extents.specs.Number.{IsNumberByte}
+use Rattle.format_json_extents.specs.Steps.{IsBeforeColon, IsBracket, IsNextStep, IsOfStep, IsToken}
+use Rattle.format_json_extents.specs.StepLists.{InTurn, IsScalarOf, StepList}
+use Rattle.format_json_extents.specs.Texts.{IsByte, MatchesAtStart, Maybe, RestAfter, Then}
+use Rattle.format_json_extents.specs.Value.{IsGap, IsSpace}
+use Rattle.format_json_extents.specs.Walk.{IsClosingByte, IsLead, IsLeadByte, IsMark}
 use Rattle.format_json_extents.specs.declared.steps.Step.{Step}
 use Rattle.format_json_extents.specs.declared.steps.Step.TheVariants as steps
+use Rattle.std.specs.List.{All}
+use Rattle.std.proofs.lemmas.Bool.Decides.{nat_tests}
+use Rattle.format_json_extents.proofs.Scalars.{IsFirstOfNumber, number_starts, string_starts}
+use Rattle.format_json_extents.specs.Strings.{IsString}
 
 -- ---- the bytes before a step
 
@@ -29,29 +30,21 @@ lead_all lead is =
     subst (All IsLeadByte) (sym is.joins)
     (All-append IsLeadByte is.first is.second
     (All-weaker IsSpace IsLeadByte (λ b s. inl s) is.first is.is_first)
-    (behind is.second is.is_second))
+    (marked is.second is.is_second))
   where
-    behind : (text : List ℕ) → Maybe (Then (IsByte IsMark) IsGap) text → All IsLeadByte text
-    behind text (inl e) = subst (All IsLeadByte) (sym e) (All-nil IsLeadByte)
-    behind text (inr m) =
+    marked : (text : List ℕ) → Maybe (Then (IsByte IsMark) IsGap) text → All IsLeadByte text
+    marked text (inl e) = subst (All IsLeadByte) (sym e) (All-nil IsLeadByte)
+    marked text (inr m) =
         subst (All IsLeadByte) (sym (m.joins ∙ ap (λ l. l ++ m.second) m.is_first.alone))
         (All-cons IsLeadByte m.is_first.byte m.second (inr (inr m.is_first.is_byte))
         (All-weaker IsSpace IsLeadByte (λ b s. inl s) m.second m.is_second))
 
-module _ (S : ℕ → Type 0) where
-  -- two ends that begin with no byte of S, after bytes of S
-  split_same : (xs ys s t more others : List ℕ) (b c : ℕ) → All S xs → All S ys → s ≡ b ∷ more
-      → (S b → ⊥) → t ≡ c ∷ others → (S c → ⊥) → xs ++ s ≡ ys ++ t → s ≡ t
-  split_same [] [] s t more others b c xa ya e nb f nc same = same
-  split_same [] (y ∷ ys) s t more others b c xa ya e nb f nc same =
-      let is = (same_byte _ _ _ _ (sym e ∙ same)).0 in
-      absurd (nb (subst S (sym is) (All-head S y ys ya)))
-  split_same (x ∷ xs) [] s t more others b c xa ya e nb f nc same =
-      let is = (same_byte _ _ _ _ (sym f ∙ sym same)).0 in
-      absurd (nc (subst S (sym is) (All-head S x xs xa)))
-  split_same (x ∷ xs) (y ∷ ys) s t more others b c xa ya e nb f nc same =
-      split_same xs ys s t more others b c (All-tail S x xs xa) (All-tail S y ys ya) e nb f nc
-      (same_byte _ _ _ _ same).1
+pub lead_longest : (lead : List ℕ) {bytes start : List ℕ} → IsLead lead → bytes ≡ lead ++ start
+    → Begins IsFirstOfToken start → RestAfter (All IsLeadByte) IsLeadByte bytes start
+lead_longest lead is e first =
+    all_leaves lead (lead_all lead is) e
+    (λ b more f l. lead_no_token b l
+    (subst IsFirstOfToken (same_first (sym first.begins ∙ f)) first.is))
 
 -- ---- which step a text is
 
@@ -94,62 +87,49 @@ of_same steps.True = inl refl
 of_same steps.BeginObject = inl refl
 of_same steps.EndObject = inl refl
 
-number_class : (b : ℕ) → Or IsMinus (Or IsZero IsLeading) b → class_of b ≡ 1
+number_class : (b : ℕ) → IsFirstOfNumber b → class_of b ≡ 1
 number_class b is = grind (arith, nat_tests, is)
 
 string_class : (b : ℕ) (more : List ℕ) → IsString (b ∷ more) → class_of b ≡ 0
 string_class b more is =
-    let (c, others, e, f) = string_starts (b ∷ more) []
-    (record { text = b ∷ more; is = is; splits = sym (append-nil (b ∷ more)) }) in
-    ap class_of ((same_byte _ _ _ _ e).0 ∙ f)
+    let first = string_starts (b ∷ more) is in ap class_of (same_first first.begins ∙ first.is)
 
 first_class : (s : Step) (b : ℕ) (more rest : List ℕ) → IsOfStep s (b ∷ more) rest
     → class_of b ≡ class s
-first_class steps.Null b more rest is = ap class_of (same_byte _ _ _ _ is).0
-first_class steps.False b more rest is = ap class_of (same_byte _ _ _ _ is).0
-first_class steps.True b more rest is = ap class_of (same_byte _ _ _ _ is).0
+first_class steps.Null b more rest is = ap class_of (same_first is)
+first_class steps.False b more rest is = ap class_of (same_first is)
+first_class steps.True b more rest is = ap class_of (same_first is)
 first_class steps.Number b more rest is =
-    let (c, others, e, f) = number_starts (b ∷ more) []
-    (record { text = b ∷ more; is = is; splits = sym (append-nil (b ∷ more)) }) in
-    number_class b (subst (Or IsMinus (Or IsZero IsLeading)) (sym (same_byte _ _ _ _ e).0) f)
+    let first = number_starts (b ∷ more) is in
+    number_class b (subst IsFirstOfNumber (sym (same_first first.begins)) first.is)
 first_class steps.String b more rest is = string_class b more is.0
 first_class steps.Name b more rest is = string_class b more is.0
-first_class steps.BeginArray b more rest is = ap class_of (same_byte _ _ _ _ is).0
-first_class steps.EndArray b more rest is = ap class_of (same_byte _ _ _ _ is).0
-first_class steps.BeginObject b more rest is = ap class_of (same_byte _ _ _ _ is).0
-first_class steps.EndObject b more rest is = ap class_of (same_byte _ _ _ _ is).0
+first_class steps.BeginArray b more rest is = ap class_of (same_first is)
+first_class steps.EndArray b more rest is = ap class_of (same_first is)
+first_class steps.BeginObject b more rest is = ap class_of (same_first is)
+first_class steps.EndObject b more rest is = ap class_of (same_first is)
 
-some_first : (s : Step) (text rest : List ℕ) → IsOfStep s text rest → IsToken text
-some_first steps.Null text rest is = inr (inr (inr (inl is)))
-some_first steps.False text rest is = inr (inr (inr (inr (inr is))))
-some_first steps.True text rest is = inr (inr (inr (inr (inl is))))
-some_first steps.Number text rest is = inr (inr (inl is))
-some_first steps.String text rest is = inr (inl is.0)
-some_first steps.Name text rest is = inr (inl is.0)
-some_first steps.BeginArray text rest is =
-    inl (record { byte = 91; is_byte = inl (inl refl); alone = is })
-some_first steps.EndArray text rest is =
-    inl (record { byte = 93; is_byte = inr (inl refl); alone = is })
-some_first steps.BeginObject text rest is =
-    inl (record { byte = 123; is_byte = inl (inr refl); alone = is })
-some_first steps.EndObject text rest is =
-    inl (record { byte = 125; is_byte = inr (inr refl); alone = is })
-
-of_token : (text : List ℕ) → IsToken text → (b : ℕ) × (more : List ℕ) × (text ≡ b ∷ more)
-of_token text is =
-    let (b, more, e, f) = token_starts text []
-    (record { text = text; is = is; splits = sym (append-nil text) }) in
-    (b, more, e)
+is_token : (s : Step) (text rest : List ℕ) → IsOfStep s text rest → IsToken text
+is_token steps.Null text rest is = inr (inr (inr (inl is)))
+is_token steps.False text rest is = inr (inr (inr (inr (inr is))))
+is_token steps.True text rest is = inr (inr (inr (inr (inl is))))
+is_token steps.Number text rest is = inr (inr (inl is))
+is_token steps.String text rest is = inr (inl is.0)
+is_token steps.Name text rest is = inr (inl is.0)
+is_token steps.BeginArray text rest is = inl (one (inl (inl refl)) is)
+is_token steps.EndArray text rest is = inl (one (inr (inl refl)) is)
+is_token steps.BeginObject text rest is = inl (one (inl (inr refl)) is)
+is_token steps.EndObject text rest is = inl (one (inr (inr refl)) is)
 
 -- a text is one step
-pub step_same : (s t : Step) (text rest : List ℕ) → IsOfStep s text rest → IsOfStep t text rest
+step_same : (s t : Step) (text rest : List ℕ) → IsOfStep s text rest → IsOfStep t text rest
     → s ≡ t
 step_same s t text rest is also =
-    let (b, more, e) = of_token text (some_first s text rest is) in
+    let first = token_starts text (is_token s text rest is) in
     let P : Step → List ℕ → Type 0 = λ u l. IsOfStep u l rest in
     let same : class s ≡ class t =
-    sym (first_class s b more rest (subst (P s) e is))
-    ∙ first_class t b more rest (subst (P t) e also) in
+    sym (first_class s first.byte first.more rest (subst (P s) first.begins is))
+    ∙ first_class t first.byte first.more rest (subst (P t) first.begins also) in
     by (of_same s) (of_same t) same
   where
     no_name : (u v : Step) → IsOfStep u text rest → IsOfStep v text rest → u ≡ steps.Name
@@ -179,65 +159,49 @@ pub record Here (step : Step) (text bytes rest : List ℕ) : Type 0 where
 
 module _ (bytes mid : List ℕ) (s : Step) (t : List ℕ) (next : IsNextStep s t bytes mid)
     (step : Step) (text rest : List ℕ) (here : Here step text bytes rest) where
-  is_token : IsToken text
-  is_token = some_first step text rest here.is_step
+  matches_here : MatchesAtStart IsToken (text ++ rest) rest
+  matches_here = record { text = text; is = is_token step text rest here.is_step; splits = refl }
+
+  matches_next : MatchesAtStart IsToken next.start mid
+  matches_next = record { text = t; is = next.longest.is; splits = next.longest.splits }
 
   -- the call begins here
   begins_here : next.start ≡ text ++ rest
   begins_here =
-      let (b, more, e, f) = token_starts next.start mid
-      (record { text = t; is = next.longest.is; splits = next.longest.splits }) in
-      let (c, others, g, h) = token_starts (text ++ rest) rest
-      (record { text = text; is = is_token; splits = refl }) in
-      split_same IsLeadByte next.lead here.lead next.start (text ++ rest) more others b c
-      (lead_all next.lead next.is_lead) (lead_all here.lead here.is_lead) e
-      (λ l. lead_no_token b l f) g (λ l. lead_no_token c l h) (sym next.splits ∙ here.splits)
+      rest_same
+      (lead_longest here.lead here.is_lead here.splits (begins_at token_starts matches_here))
+      (lead_longest next.lead next.is_lead next.splits (begins_at token_starts matches_next))
 
-  -- where it leaves the same rest it tells this step
+  -- where it leaves the same rest it returns this step
   told_here : mid ≡ rest → ◌≡◌ {A = Step × List ℕ} (s, t) (step, text)
   told_here same =
-      let joined : t ++ mid ≡ text ++ rest = sym next.longest.splits ∙ begins_here in
-      let size : length t ≡ length text = omega (
-        arith,
-        ap (λ l. length l) joined,
-        length-append t mid,
-        length-append text rest,
-        ap (λ l. length l) same,
-      ) in
-      let is : t ≡ text = (front_same t text mid rest size joined).0 in
+      let is : t ≡ text = append_cancel_right t text mid
+      (sym next.longest.splits ∙ begins_here ∙ ap (λ l. text ++ l) (sym same)) in
       let P : List ℕ → Type 0 = λ l. IsOfStep s l mid in
       let Q : List ℕ → Type 0 = λ l. IsOfStep s text l in
-      let one : s ≡ step =
-      step_same s step text rest (subst Q same (subst P is next.is_step)) here.is_step in
       let X : Step → Step × List ℕ = λ u. (u, t) in
       let Y : List ℕ → Step × List ℕ = λ l. (step, l) in
-      ap X one ∙ ap Y is
+      ap X (step_same s step text rest (subst Q same (subst P is next.is_step)) here.is_step)
+      ∙ ap Y is
 
   pub leaves_scalar : ((b : ℕ) (more : List ℕ) → rest ≡ b ∷ more → IsNumberByte b → ⊥)
       → mid ≡ rest
   leaves_scalar stops =
-      elim (next.others rest (record { text = text; is = is_token; splits = begins_here })) [
+      elim (next.others rest (record {
+        text = text;
+        is = is_token step text rest here.is_step;
+        splits = begins_here;
+      })) [
         | inl same ↦ sym same
         | inr goes ↦ absurd (stops goes.byte goes.tail goes.begins goes.is_byte)
       ]
 
-  -- and where the text is a bracket
   pub leaves_bracket : (b : ℕ) → IsBracket b → text ≡ b ∷ [] → mid ≡ rest
-  leaves_bracket b is alone = by next.longest.is
-    where
-      joined : t ++ mid ≡ b ∷ rest
-      joined = sym next.longest.splits ∙ begins_here ∙ ap (λ l. l ++ rest) alone
+  leaves_bracket b is alone =
+      rest_same (token_bracket (begins_here ∙ ap (λ l. l ++ rest) alone) is)
+      (record { stands = matches_next; only = next.others })
 
-      by : (IsByte IsBracket t) ⊎ (IsScalar t) → mid ≡ rest
-      by (inl one) =
-          (same_byte _ _ _ _ (sym (ap (λ l. l ++ mid) one.alone) ∙ joined)).1
-      by (inr scalar) =
-          let (c, more, e, f) = scalar_starts (b ∷ rest) mid
-          (record { text = t; is = scalar; splits = sym joined }) in
-          absurd (bracket_no_scalar b is
-          (subst IsFirstOfScalar (sym (same_byte _ _ _ _ e).0) f))
-
--- ---- calls in turn
+-- ---- successive calls
 
 -- One more step occurs in the rest.
 abbrev pub OneMore : List ℕ → Type 0
@@ -273,13 +237,7 @@ tells_of step text bytes rest here leaves = record { calls = calls }
             rest,
             record {
               text = here.lead ++ text;
-              is = record {
-                first = here.lead;
-                second = text;
-                is_first = here.is_lead;
-                is_second = some_first step text rest here.is_step;
-                joins = refl;
-              };
+              is = joined here.lead text here.is_lead (is_token step text rest here.is_step) refl;
               splits = sym e ∙ here.splits ∙ sym (append_assoc here.lead text rest);
             },
           ),
@@ -306,13 +264,12 @@ tells_bracket step b bytes rest here is =
     tells_of step (b ∷ []) bytes rest here
     (λ mid s t next. leaves_bracket bytes mid s t next step (b ∷ []) rest here b is refl)
 
-pub tells_nothing : (bytes : List ℕ) → StepsUpTo bytes [] bytes
-tells_nothing bytes = record { calls = λ found rest turn. inr (found, refl, turn) }
+pub tells_nothing : {bytes : List ℕ} → StepsUpTo bytes [] bytes
+tells_nothing = record { calls = λ found rest turn. inr (found, refl, turn) }
 
-pub tells_on : (start mid now : List ℕ) (one two : StepList) → StepsUpTo start one mid
-    → StepsUpTo mid two now
-    → StepsUpTo start (one ++ two) now
-tells_on start mid now one two first second = record { calls = calls }
+pub tells_on : {start mid now : List ℕ} {one two : StepList} → StepsUpTo start one mid
+    → StepsUpTo mid two now → StepsUpTo start (one ++ two) now
+tells_on {start} {now = now} {one} {two} first second = record { calls = calls }
   where
     calls : (found : StepList) (rest : List ℕ) → InTurn start found rest
         → Within (one ++ two) found rest
@@ -333,3 +290,66 @@ tells_on start mid now one two first second = record { calls = calls }
             inr (after, e ∙ ap (λ l. one ++ l) f ∙ sym (append_assoc one two after), last)
       ]
     ]
+
+-- ---- after a value
+
+abbrev IsStop : ℕ → Type 0
+IsStop b = (b ≡ 44) ⊎ IsClosingByte b
+
+-- a comma or a closing bracket, or nothing
+abbrev pub Stops : List ℕ → Type 0
+Stops [] = ⊤
+Stops (b ∷ more) = IsStop b
+
+-- after white space
+abbrev pub Follows : List ℕ → Type 0
+Follows rest =
+    (gap : List ℕ) × (tail : List ℕ) × IsGap gap × (rest ≡ gap ++ tail) × Stops tail
+
+stop_no_number : (b : ℕ) → IsStop b → IsNumberByte b → ⊥
+stop_no_number b is number = grind (arith, is, number)
+
+pub space_no_number : (b : ℕ) → IsSpace b → IsNumberByte b → ⊥
+space_no_number b is number = grind (arith, is, number)
+
+stop_no_space : (b : ℕ) → IsStop b → IsSpace b → ⊥
+stop_no_space b is s = grind (arith, is, s)
+
+stop_no_colon : IsStop 58 → ⊥
+stop_no_colon is = grind (arith, is)
+
+pub follows_stops : (rest : List ℕ) → Follows rest → (b : ℕ) (more : List ℕ) → rest ≡ b ∷ more
+    → IsNumberByte b → ⊥
+follows_stops rest ([], tail, all, e, stops) b more f =
+    stop_no_number b (subst Stops (sym e ∙ f) stops)
+follows_stops rest (c ∷ gap, tail, all, e, stops) b more f =
+    space_no_number b (subst IsSpace (same_first (sym e ∙ f)) (All-head IsSpace c gap all))
+
+pub follows_no_colon : (rest : List ℕ) → Follows rest → IsBeforeColon rest → ⊥
+follows_no_colon rest (gap, tail, all, e, stops) (after, it) =
+    then_none colon_bars
+    (all_leaves gap all e (λ b more f. stop_no_space b (subst Stops f stops)))
+    (this_none 58 (λ more f. stop_no_colon (subst Stops f stops))) after it
+
+pub scalar_step : (step : Step) (text rest : List ℕ) → IsScalarOf step text
+    → (IsBeforeColon rest → ⊥) → IsOfStep step text rest
+scalar_step steps.Null text rest is not = is
+scalar_step steps.False text rest is not = is
+scalar_step steps.True text rest is not = is
+scalar_step steps.Number text rest is not = is
+scalar_step steps.String text rest is not = (is, not)
+scalar_step step text rest is not = absurd is
+
+-- ---- before a value
+
+-- `front` followed by whitespace may precede a step.
+abbrev pub Leading : List ℕ → Type 0
+Leading front = (gap : List ℕ) → IsGap gap → IsLead (front ++ gap)
+
+pub gap_leads : (gap : List ℕ) → IsGap gap → IsLead gap
+gap_leads gap all = joined gap [] all (inl refl) (sym (append-nil gap))
+
+pub mark_leads : (gap : List ℕ) (b : ℕ) → IsGap gap → IsMark b → Leading (gap ++ b ∷ [])
+mark_leads gap b all is after also =
+    joined gap (b ∷ after) all (inr (joined (b ∷ []) after (one is refl) also refl))
+    (append_assoc gap (b ∷ []) after)
