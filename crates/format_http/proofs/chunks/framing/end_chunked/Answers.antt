@@ -8,7 +8,9 @@ use Rattle.format_http.specs.Heads.Head.{Pair, pair}
 use Rattle.winnow.specs.Equal.{true_is_false}
 use Rattle.format_http.proofs.chunks.framing.end_chunked.Goals as goal
 use Rattle.format_http.proofs.chunks.framing.end_chunked.Goals.{then-eq_ignore_ascii_case+in-Some}
-use Rattle.format_http.proofs.chunks.framing.end_chunked.Goals.{then-eq_ignore_ascii_case+in_default}
+use Rattle.format_http.proofs.chunks.framing.end_chunked.Goals.{
+  then-eq_ignore_ascii_case+in_default,
+}
 use Rattle.format_http.proofs.chunks.framing.end_chunked.Goals.{else-eq_ignore_ascii_case}
 
 pub loop-field-preserved : goal.loop-field-preserved
