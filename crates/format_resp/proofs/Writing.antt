@@ -1,8 +1,9 @@
 -- Lemmas about the bytes appended for replies, and about the errors of writing.
 use Rattle.std.specs.Prelude.{◌≡◌, ◌≤◌, ◌<◌, ◌+◌, ◌/◌, ◌%◌, ◌^◌, ℕ, List, [], ◌∷◌}
-use Rattle.std.specs.Prelude.{◌++◌, length}
+use Rattle.std.specs.Prelude.{◌++◌, length, FitsSigned, ℤ}
 use Rattle.std.specs.Prelude.{drop, take, slice_index_or, Contains, IfErr, Result, zero, suc}
-use Rattle.std.specs.Fmt.{decimal}
+use Rattle.std.specs.Fmt.{decimal, signed_decimal}
+use Rattle.std.specs.Int.{w64}
 use Rattle.std.specs.Result.{IsErrAnd}
 use Rattle.std.proofs.Common.{refl, sym, ap, subst, ◌∙◌, append_assoc, inl, inr, arith}
 use Rattle.std.proofs.Math.Seq.{take-append_seam}
@@ -25,6 +26,7 @@ use Rattle.format_resp.specs.Resp.{gathered, many}
 use Rattle.format_resp.specs.declared.marks.AggregateMark.{AggregateMark}
 use Rattle.format_resp.specs.declared.marks.DataMark.{DataMark}
 use Rattle.format_resp.specs.declared.marks.LineMark.{LineMark}
+use Rattle.format_resp.specs.declared.marks.LineMark.TheVariants.{Colon}
 use Rattle.format_resp.specs.declared.marks.Mark.TheVariants.{Aggregate, Data, Line}
 use Rattle.format_resp.specs.declared.reply.Protocol.{Protocol}
 use Rattle.format_resp.specs.declared.reply.Reply as made
@@ -113,6 +115,11 @@ module _ {A : Type 0} (protocol : Protocol) (level : ℕ) {reply : Replies A}
       → Adds (WrittenText protocol level) reply before after
   line_put mark line is = adds (marked (byte_of (Line mark)) line)
       (within, inl (mark, line, is, refl))
+
+  pub integer_put : {n : ℤ} → after ≡ before ++ marked 58 (signed_decimal n)
+      → reply ≡ made.Integer n → FitsSigned w64 n
+      → Adds (WrittenText protocol level) reply before after
+  integer_put {n} e is fits = line_put Colon (signed_decimal n) (n, is, fits, refl) e
 
   pub data_put : (mark : DataMark) (bytes : List ℕ) → DataSays mark reply bytes
       → length bytes < 2 ^ 63 → after ≡ before ++ data_of (byte_of (Data mark)) bytes

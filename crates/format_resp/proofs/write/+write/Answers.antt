@@ -2,7 +2,8 @@ use Rattle.std.specs.Prelude.{⊤, []}
 use Rattle.std.specs.List.{AllByRecursion}
 use Rattle.std.proofs.Common.{◌-◌, ◌∙◌, arith, inr, refl, rules, sym}
 use Rattle.std.proofs.lemmas.Result.{IfErr-weaker, on_ok_weaker}
-use Rattle.format_resp.proofs.Writing.{among, if_error, keeps_trans, row_end, row_more}
+use Rattle.format_resp.proofs.Writing.{among, if_error, integer_put, keeps_trans, row_end}
+use Rattle.format_resp.proofs.Writing.{row_more}
 use Rattle.format_resp.proofs.Writing.{aggregate_put, data_put, deep_aggregate, list_put, line_put}
 use Rattle.format_resp.proofs.Writing.{null_array_put, null_bulk_put, refused_big_number}
 use Rattle.format_resp.proofs.Writing.{refused_count, refused_double, refused_error}
@@ -12,7 +13,7 @@ use Rattle.format_resp.proofs.Encodings.{shown_is}
 use Rattle.format_resp.specs.Numbers.{IsBigNumber, IsDouble}
 use Rattle.format_resp.specs.Resp.{InLine, IsVerbatim}
 use Rattle.format_resp.specs.declared.marks.DataMark.TheVariants.{Dollar, Equals, Exclamation}
-use Rattle.format_resp.specs.declared.marks.LineMark.TheVariants.{Colon, Comma, Hash, Minus}
+use Rattle.format_resp.specs.declared.marks.LineMark.TheVariants.{Comma, Hash, Minus}
 use Rattle.format_resp.specs.declared.marks.LineMark.TheVariants.{Parenthesis, Plus, Underscore}
 use Rattle.format_resp.specs.declared.marks.AggregateMark.TheVariants.{Bar, Greater, Percent, Star}
 use Rattle.format_resp.specs.declared.marks.AggregateMark.TheVariants.{Tilde}
@@ -238,8 +239,9 @@ write_nested-returns-in-Attributed-clause-refused g t c =
 pub write_nested-returns-in_ok-write_integer-in-Integer-clause-written :
     goal.write_nested-returns-in_ok-write_integer-in-Integer-clause-written
 write_nested-returns-in_ok-write_integer-in-Integer-clause-written g t c =
-    line_put c.args.protocol c.args.level c.if-is_foreign.ensures Colon _
-    (_, c.in-Integer.is, search rules, refl) c.in_ok-write_integer-in-Integer.ensures.written
+    integer_put c.args.protocol c.args.level c.if-is_foreign.ensures
+    c.in_ok-write_integer-in-Integer.ensures.written
+    (search (rules, c.in-Integer.is)) (search rules)
 
 pub write_nested-returns-in_ok-write_line-in-Null-clause-written :
     goal.write_nested-returns-in_ok-write_line-in-Null-clause-written
