@@ -1,7 +1,7 @@
 -- Results of calls, from those of `format_csv_records` with commas and double quotes.
-use Rattle.std.specs.Prelude.{◌≡◌, ◌<◌, ℕ, List, Err, Ok, [], drop, length, true}
+use Rattle.std.specs.Prelude.{◌≡◌, ◌<◌, ℕ, List, Err, Ok, drop, length, true}
 use Rattle.std.specs.declared.vec.Vec.{Vec}
-use Rattle.std.proofs.Common.{ap, arith, inr, refl}
+use Rattle.std.proofs.Common.{arith, inr, refl}
 use Rattle.format_csv_records.proofs.One.{fields_one, fields_split, refused_none}
 use Rattle.format_csv_records.specs.Buffers.{IsSized}
 use Rattle.format_csv_records.specs.Commas.{commas_apart}
@@ -56,7 +56,7 @@ module _ {A : Type 0} (ends : LineEnd) (bytes : List ℕ) where
         })
 
   module _ {E : Type 0} {kind : E → Kind} (error : E) (backs : kind error ≡ backtrack) where
-    pub reads_nothing : bytes ≡ [] → Reads bytes_reading kind (IsRecord {A = A} ends)
+    pub reads_nothing : length bytes ≡ 0 → Reads bytes_reading kind (IsRecord {A = A} ends)
         (bytes_input bytes) (Err error) (bytes_input bytes)
     unfolding IsRecord
     reads_nothing empty = record {
@@ -64,7 +64,7 @@ module _ {A : Type 0} (ends : LineEnd) (bytes : List ℕ) where
       stands = λ _. tt;
       none = λ _. inr (
         backs,
-        λ fields rest it. omega (arith, it.0, ap (λ l. length l) empty),
+        λ fields rest it. omega (arith, it.0, empty),
       );
     }
 
@@ -72,13 +72,13 @@ module _ {A : Type 0} (ends : LineEnd) (bytes : List ℕ) where
         → Reads bytes_reading kind (IsRecord {A = A} ends) (bytes_input bytes) (Err error)
         (bytes_input bytes)
     unfolding IsRecord
-    reads_none fault no = record {
+    reads_none fault refused = record {
       ends = is_end_of_refl bytes_reading (bytes_input bytes);
       stands = λ _. tt;
       none = λ _. inr (
         backs,
         λ fields rest it.
-            refused_none (commas ends) bytes fault (bytes_of fields.items) rest no it,
+            refused_none (commas ends) bytes fault (bytes_of fields.items) rest refused it,
       );
     }
 

@@ -1,3 +1,5 @@
+use Rattle.std.proofs.Common.{arith, sym}
+use Rattle.std.proofs.lemmas.Bool.{eqb-false, eqb-true}
 use Rattle.format_csv.proofs.Reading.{reads_none, reads_nothing, reads_record}
 use Rattle.winnow.specs.Input.{is_end_of_refl}
 use Rattle.winnow.specs.Read.{reads_wanting}
@@ -5,10 +7,13 @@ use Rattle.format_csv.proofs.read_record.Goals as goal
 
 pub returns-then-is_empty : goal.returns-then-is_empty
 returns-then-is_empty g c =
-    reads_nothing c.args.end c.args.input.now.now c.from_input.result c.from_input.ensures ?
+    reads_nothing c.args.end c.args.input.now.now c.from_input.result c.from_input.ensures
+    (eqb-true _ 0 (sym c.if-is_empty.ensures))
 
 pub returns-in-Ok : goal.returns-in-Ok
-returns-in-Ok g c = reads_record c.args.end c.args.input.now.now c.in-Ok.fields _ c.in-Ok.ensures ?
+returns-in-Ok g c =
+    reads_record c.args.end c.args.input.now.now c.in-Ok.fields _ c.in-Ok.ensures
+    (let some = eqb-false _ 0 (sym c.if-is_empty.ensures) in omega (arith, some))
 
 pub returns-in-Err-Invalid : goal.returns-in-Err-Invalid
 returns-in-Err-Invalid g c =
