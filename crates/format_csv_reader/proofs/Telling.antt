@@ -1,5 +1,5 @@
 -- Lemmas about the result of a call, for the bytes held and for all bytes of the source.
-use Rattle.std.specs.Prelude.{◌≡◌, ◌⊎◌, ◌≤◌, ◌<◌, ◌-◌, ◌+◌, ◌^◌, ℕ, List, [], ◌∷◌}
+use Rattle.std.specs.Prelude.{◌≡◌, ◌⊎◌, ◌-◌, ℕ, List, [], ◌∷◌}
 use Rattle.std.specs.Prelude.{◌++◌, length}
 use Rattle.std.specs.Prelude.{Bool, drop}
 use Rattle.std.specs.Prelude.{Err, None, Ok, Option, Result, Some, false, true}
