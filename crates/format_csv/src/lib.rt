@@ -9,7 +9,7 @@
 //! `LineEnd::Lf` lines end with a line feed. Records may differ in their number of fields.
 #![tactic(auto)]
 
-ghost use Rattle.std.specs.Prelude.{◌≡◌, MatchResult, ⊤};
+ghost use Rattle.std.specs.Prelude.{MatchResult, ⊤};
 ghost use Rattle.winnow.specs.Bytes.{bytes_input, bytes_reading};
 ghost use Rattle.format_csv.specs.Csv.{AreRecords, IsRecord, bytes_of, commas};
 ghost use Rattle.format_csv.specs.Read.{record_takes, record_unique};
