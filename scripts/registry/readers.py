@@ -16,7 +16,7 @@ READERS = [
     ("trees of numbers in brackets", "examples/nested", "yes", "the first tree"),
     ("options in brackets", "examples/options", "yes", "the first options; `Incomplete`"),
     ("lines of settings and flags", "examples/assignments", "yes", "exactly; error offsets"),
-    ("CSV (RFC 4180)", "format_csv", "yes", "exactly, also for tables"),
+    ("CSV (RFC 4180)", "format_csv", "no", "exactly, also for tables"),
     ("CSV in any dialect", "format_csv_records", "no",
         "the first record or invalid byte; written records read back"),
     ("CSV from a reader", "format_csv_reader", "no", "each record, or the first invalid byte"),

@@ -4,12 +4,12 @@ use Rattle.std.specs.Prelude.{◌≡◌, ℕ, List, [], ◌∷◌, ◌++◌, len
 use Rattle.std.specs.List.{All, AllZip}
 use Rattle.std.specs.declared.vec.Vec.{Vec}
 use Rattle.std.proofs.Common.{refl, sym, subst, inl, inr, ◌∙◌, arith}
-use Rattle.std.proofs.lemmas.List.Elements.{All-cons, All-head, All-nil, All-tail, length_all_zip}
+use Rattle.std.proofs.lemmas.List.Elements.{All-cons, All-head, All-nil, All-tail}
 use Rattle.winnow.specs.Kind.{Kind}
 use Rattle.winnow.specs.{Needed}
 use Rattle.winnow.specs.{ParseFault}
 use Rattle.format_csv.specs.Csv.{AreRecords, IsRecord}
-use Rattle.format_csv.specs.One.{SameField, SameFields, document_one, no_bytes}
+use Rattle.format_csv.specs.One.{SameFields, document_one, no_bytes, same_width}
 use Rattle.format_csv.specs.Table.{HasWidth, HeadTold, IsFirst, IsHeaded, IsOdd, IsRagged}
 use Rattle.format_csv.specs.Table.{TableTold, table_told}
 use Rattle.format_csv.specs.declared.LineEnd.{LineEnd}
@@ -33,7 +33,7 @@ module _ {A : Type 0} where
   widths_as width [] (y ∷ ys) same all = absurd same
   widths_as width (x ∷ xs) [] same all = absurd same
   widths_as width (x ∷ xs) (y ∷ ys) (same, others) all = All-cons (HasWidth width) y ys
-      (sym (length_all_zip SameField x.items y.items same) ∙ All-head (HasWidth width) x xs all)
+      (sym (same_width x y same) ∙ All-head (HasWidth width) x xs all)
       (widths_as width xs ys others (All-tail (HasWidth width) x xs all))
 
   behind_all : (width : ℕ) (xs ys : List (Vec (Vec ℕ A) A)) → All (HasWidth width) (xs ++ ys)
@@ -52,7 +52,7 @@ module _ {A : Type 0} where
       let P : ℕ → Type 0 = λ n. All (HasWidth n) records in
       let Q : List (Vec (Vec ℕ A) A) → Type 0 = λ l. All (HasWidth width) l in
       let wide = widths_as width records others zip
-      (subst P (length_all_zip SameField header.items first.items same) all) in
+      (subst P (same_width header first same) all) in
       let (has, odd) = is.is_one in
       odd (sym has ∙ All-head (HasWidth width) is.found is.behind
       (behind_all width is.before (is.found ∷ is.behind) (subst Q is.whole wide)))
@@ -99,12 +99,12 @@ module _ {A : Type 0} where
       → All (HasWidth width) ys → IsOdd width h o → IsOdd width k p
       → (length xs ≡ length ys) × (h ≡ k)
   first_same width h k [] [] o p behind others (same, zip) all each (has, odd) (is, other) =
-      (refl, sym has ∙ length_all_zip SameField o.items p.items same ∙ is)
+      (refl, sym has ∙ same_width o p same ∙ is)
   first_same width h k [] (y ∷ ys) o p behind others (same, zip) all each (has, odd) (is, other) =
-      absurd (odd (sym has ∙ length_all_zip SameField o.items y.items same
+      absurd (odd (sym has ∙ same_width o y same
       ∙ All-head (HasWidth width) y ys each))
   first_same width h k (x ∷ xs) [] o p behind others (same, zip) all each (has, odd) (is, other) =
-      absurd (other (sym is ∙ sym (length_all_zip SameField x.items p.items same)
+      absurd (other (sym is ∙ sym (same_width x p same)
       ∙ All-head (HasWidth width) x xs all))
   first_same width h k (x ∷ xs) (y ∷ ys) o p behind others (same, zip) all each odd other =
       let (e, f) = first_same width h k xs ys o p behind others zip
@@ -117,7 +117,7 @@ module _ {A : Type 0} where
   ragged_same (o ∷ os) [] r s zip is never = absurd never
   ragged_same (o ∷ os) (p ∷ ps) r s (same, zip) (w, place, n, is) (v, other, m, are) =
       let width = length p.items in
-      let e = length_all_zip SameField o.items p.items same in
+      let e = same_width o p same in
       let P : ℕ → Type 0 = λ n. IsFirst (HasWidth n) (IsOdd n r.has) os place in
       let it = subst P e is in
       let Q : List (Vec (Vec ℕ A) A) → Type 0 = λ l. AllZip SameFields l ps in

@@ -1,9 +1,9 @@
 //! Records here and records of a dialect: these are those of commas and double quotes.
 
-ghost use Rattle.std.specs.Prelude.{◌≡◌, ◌↔◌, List, ℕ};
+ghost use Rattle.std.specs.Prelude.{◌≡◌, ◌<◌, ◌↔◌, List, length, ℕ};
 ghost use Rattle.std.specs.declared.vec.Vec.{Vec};
-ghost use Rattle.format_csv.specs.Csv.{IsRecord};
-ghost use Rattle.format_csv.specs.Instance.{IsOfCommas, commas};
+ghost use Rattle.format_csv.specs.Csv.{IsRecord, bytes_of, commas};
+ghost use Rattle.format_csv_records.specs.Dialects.{AreFields};
 
 use crate::LineEnd;
 use format_csv_records::dialect::{Dialect, LineEnds};
@@ -14,7 +14,8 @@ use std::alloc::Allocator;
 /// same rest.
 pub fn a_record_is_one_of_commas<A: Allocator>(end: LineEnd)
     ensures { (bytes : List ℕ) (fields : Vec (Vec ℕ A) A) (rest : List ℕ)
-        → IsRecord end bytes fields rest ↔ IsOfCommas end bytes fields rest }
+        → IsRecord end bytes fields rest
+        ↔ ((0 < length bytes) × AreFields (commas end) bytes (bytes_of fields.items) rest) }
 {}
 
 /// The dialect whose records are those that end so here.

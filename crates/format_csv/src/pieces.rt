@@ -1,56 +1,18 @@
 //! Records from pieces: one at a time, as their bytes come in.
 
-ghost use Rattle.std.specs.Prelude.{◌≡◌, ◌⊎◌, IfErr, IfOk, MatchBool};
-ghost use Rattle.winnow.specs.Bytes.{bytes_follow, bytes_input, bytes_reading};
+ghost use Rattle.std.specs.Prelude.{IfErr};
+ghost use Rattle.winnow.specs.Bytes.{bytes_follow, bytes_reading};
 ghost use Rattle.winnow.specs.Grammar.{NoMatch};
-ghost use Rattle.winnow.specs.Input.{IsEndOf};
-ghost use Rattle.winnow.specs.Kind.{backtrack, memory};
 ghost use Rattle.format_csv.specs.Csv.{IsRecord};
-ghost use Rattle.format_csv.specs.Early.{MayGoOn, NeverGoesOn};
-ghost use Rattle.format_csv.specs.Pieces.{IsLine};
+ghost use Rattle.format_csv.specs.Pieces.{IsLine, MayGoOn};
 ghost use Rattle.winnow.specs.Cut.{Asks, ReadsOrAsks};
 
 use crate::dialects::dialect_of;
-use crate::{Fields, LineEnd, Record, read_fields, read_record};
-use format_csv_records::read::{RecordError, read_record_into};
-use format_csv_records::record::ByteRecord;
-use std::alloc::{AllocError, Allocator};
-use winnow::Parser;
-use winnow::combinator::terminated;
+use crate::{LineEnd, Record, read_lists, read_record};
+use format_csv_records::extent::RecordExtent;
+use std::alloc::Allocator;
 use winnow::error::{EmptyError, ErrMode, HasKind, Needed, ParserError};
-use winnow::exact::Rule;
 use winnow::stream::{Partial, Stream, StreamIsPartial};
-use winnow::token::literal;
-
-/// Fields with a line end after them.
-fn read_line<'i, A: Allocator + Copy>(
-    alloc: A,
-    end: LineEnd,
-    input: &mut &'i [u8],
-) -> Result<Record<A>, ErrMode<EmptyError>>
-    ensures ends { IsEndOf bytes_reading (bytes_input input.new.now) (bytes_input input.old.now) }
-    ensures line { IfOk result (λ fields. IsLine end input.old.now fields input.new.now) }
-    ensures none { IfErr result (λ e. (⟦<ErrMode<EmptyError> as HasKind>⟧.kind e ≡ memory)
-        ⊎ ((⟦<ErrMode<EmptyError> as HasKind>⟧.kind e ≡ backtrack)
-        × NoMatch (IsLine {A = A} end) input.old.now)) }
-{
-    let fields = Fields(alloc).by(|input: &mut &[u8]| read_fields(alloc, input));
-    terminated(fields, literal(end.bytes())).read(input)
-}
-
-/// Returns whether `bytes` can be extended so that they start with a record.
-fn may_go_on<A: Allocator + Copy>(alloc: A, end: LineEnd, bytes: &[u8]) -> Result<bool, AllocError>
-    ensures { IfOk result (λ goes_on. MatchBool goes_on (MayGoOn end bytes.now)
-        (NeverGoesOn end bytes.now)) }
-{
-    let mut fields = ByteRecord::new(alloc);
-    let mut rest = bytes;
-    match read_record_into(dialect_of(end), &mut fields, &mut rest) {
-        Ok(_) => Ok(true),
-        Err(RecordError::Invalid(fault)) => Ok(fault.offset >= bytes.len()),
-        Err(RecordError::OutOfMemory) => Err(AllocError),
-    }
-}
 
 /// Like [`read_record`](crate::read_record), for partial input.
 ///
@@ -92,27 +54,22 @@ pub fn read_record_in_pieces<'i, A: Allocator + Copy>(
         → MayGoOn end (⟦<Partial<&'static [u8]> as Stream>⟧.view input.old).left.tokens) }
 {
     let whole = *input.as_inner();
-    let mut left = whole;
     if !input.is_partial() {
+        let mut left = whole;
         let answer = read_record(alloc, end, &mut left);
         *input = Partial::new(left);
         input.complete();
         return answer;
     }
-    match read_line(alloc, end, &mut left) {
-        Ok(record) => {
-            *input = Partial::new(left);
-            Ok(record)
-        }
-        Err(error) => {
-            if ParserError::<&[u8]>::is_memory(&error) {
-                return Err(error);
+    match RecordExtent::new().advance(dialect_of(end), whole) {
+        Ok(Some(_)) => match read_lists(alloc, end, whole) {
+            Ok((fields, left)) => {
+                *input = Partial::new(left);
+                Ok(fields)
             }
-            match may_go_on(alloc, end, whole) {
-                Ok(true) => Err(ErrMode::Incomplete(Needed::Unknown)),
-                Ok(false) => Err(error),
-                Err(_) => Err(ParserError::<&[u8]>::no_memory(&left)),
-            }
-        }
+            Err(_) => Err(ParserError::<&[u8]>::no_memory(&whole)),
+        },
+        Ok(None) => Err(ErrMode::Incomplete(Needed::Unknown)),
+        Err(_) => Err(ParserError::<&[u8]>::from_input(&whole)),
     }
 }

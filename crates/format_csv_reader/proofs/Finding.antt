@@ -1,41 +1,30 @@
--- Lemmas about the search for a record in the bytes held, and about the capacity of the buffer.
+-- Lemmas about the search for a record in the bytes held, about the capacity and the contents of
+-- the buffer, and about a byte order mark.
 use Rattle.std.specs.Prelude.{◌≡◌, ◌⊎◌, ◌≤◌, ◌+◌, ◌*◌, ℕ, List, [], ◌++◌, drop, length, max}
-use Rattle.std.specs.Prelude.{Bool, MatchBool, None, Ok, Option, Some, true}
+use Rattle.std.specs.Prelude.{Err, Ok, Option, false, true, ◌<◌, ◌^◌, ◌∷◌}
 use Rattle.std.proofs.KnownBytes.{Consumes-nil, Consumes-trans}
-use Rattle.std.proofs.Common.{◌∙◌, ap, append_assoc, append-nil, arith, inl, inr, refl, subst, sym}
-use Rattle.format_csv_records.specs.Buffers.{IsForGood, IsSized, NoneForGood}
-use Rattle.format_csv_records.specs.Early.{IsPrefixOfNone}
-use Rattle.format_csv_records.specs.Extents.{IsOf, RecordResult}
-use Rattle.format_csv_records.specs.Refused.{IsRefused}
+use Rattle.std.proofs.Common.{◌∙◌, ap, append_assoc, append-nil, arith, inl, inr, refl, sym}
+use Rattle.std.proofs.Common.{take, drop_at, length-take-le, take_at}
+use Rattle.format_csv_records.specs.Buffers.{IsSized, NoneForGood}
+use Rattle.format_csv_records.specs.Extents.{IsOf}
 use Rattle.format_csv_records.specs.declared.buffers.RecordSize.{RecordSize}
 use Rattle.format_csv_records.specs.declared.dialect.Dialect.{Dialect}
 use Rattle.format_csv_records.specs.declared.extent.RecordExtent.{RecordExtent}
-use Rattle.format_csv_records.specs.declared.read.InvalidRecord.{InvalidRecord}
-use Rattle.format_csv_reader.specs.Finds.{IsFound, IsSmall, StartsForGood, WantsMore}
+use Rattle.format_csv_reader.specs.Finds.{IsFound, IsSmall, StartsForGood, IsOfReader}
 use Rattle.format_csv_reader.specs.Held.{Grew}
 use Rattle.format_csv_reader.specs.declared.finds.Found.{Found}
 use Rattle.format_csv_reader.specs.declared.finds.Found.TheVariants.{Enough, Never}
+use Rattle.std.specs.Io.KnownBytes.{IsAtEnd}
+use Rattle.format_csv_records.specs.Parts.{NoMark}
+use Rattle.format_csv_reader.specs.Marks.{ReadsMark}
+use Rattle.format_csv_reader.specs.Results.{offset_after}
+use Rattle.format_csv_reader.specs.declared.error.ReadError.{ReadError}
+use lib.Seq.{take-add, take-append-le}
 
-sized_good : (d : Dialect) (bytes : List ℕ) (size : RecordSize) → IsSized d bytes size
+pub sized_good : (d : Dialect) (bytes : List ℕ) (size : RecordSize) → IsSized d bytes size
     → size.ended ≡ true → StartsForGood d bytes
 sized_good d bytes size (fields, it) ended =
-    let left = drop size.length bytes in
-    let Good : Type 0 = IsForGood d bytes fields left in
-    let P : Bool → Type 0 = λ b. MatchBool b Good (NoneForGood d bytes) in
-    (fields, left, subst P ended it.ended)
-
-pub told_good : (d : Dialect) (bytes : List ℕ) (told : Option RecordSize) (size : RecordSize)
-    → told ≡ Some size → RecordResult d bytes (Ok told) → StartsForGood d bytes
-told_good d bytes told size e it =
-    let P : Option RecordSize → Type 0 = λ x. RecordResult d bytes (Ok x) in
-    let (sized, ended) = subst P e it in
-    sized_good d bytes size sized ended
-
-pub told_more : (d : Dialect) (bytes : List ℕ) (told : Option RecordSize) → told ≡ None
-    → RecordResult d bytes (Ok told) → WantsMore d bytes
-told_more d bytes told e it =
-    let P : Option RecordSize → Type 0 = λ x. RecordResult d bytes (Ok x) in
-    subst P e it
+    (fields, drop size.length bytes, rw ended at it.ended)
 
 found_at : (d : Dialect) (bytes : List ℕ) (IsOver : Type 0) (found : Found)
     → IsFound d bytes ⊥ found → IsFound d bytes IsOver found
@@ -45,33 +34,13 @@ found_at d bytes IsOver (Never fault) it = it
 
 pub found_over : (d : Dialect) (held bytes : List ℕ) (IsOver : Type 0) (found : Found)
     → held ≡ bytes → IsFound d held ⊥ found → IsFound d bytes IsOver found
-found_over d held bytes IsOver found same it =
-    let P : List ℕ → Type 0 = λ l. IsFound d l ⊥ found in
-    found_at d bytes IsOver found (subst P same it)
-
-pub is_enough : (d : Dialect) (bytes : List ℕ) (IsOver : Type 0) (found : Found)
-    → found ≡ Enough → IsFound d bytes IsOver found → StartsForGood d bytes ⊎ IsOver
-is_enough d bytes IsOver found e it =
-    let P : Found → Type 0 = λ f. IsFound d bytes IsOver f in
-    subst P e it
-
-pub is_never : (d : Dialect) (bytes : List ℕ) (IsOver : Type 0) (found : Found) (at : InvalidRecord)
-    → found ≡ Never at → IsFound d bytes IsOver found
-    → IsRefused d bytes at × IsPrefixOfNone d bytes
-is_never d bytes IsOver found at e it =
-    let P : Found → Type 0 = λ f. IsFound d bytes IsOver f in
-    subst P e it
-
-pub wants_held : (d : Dialect) (held bytes : List ℕ) → held ≡ bytes → WantsMore d held
-    → WantsMore d bytes
-wants_held d held bytes same it = subst (λ l. WantsMore d l) same it
+found_over d held bytes IsOver found same it = found_at d bytes IsOver found (rw same at it)
 
 -- ---- what was looked at is of longer bytes
 
 pub of_more : (d : Dialect) (extent : RecordExtent) (held bytes read new : List ℕ) → held ≡ bytes
     → ((more : List ℕ) → IsOf d extent (held ++ more)) → new ≡ bytes ++ read → IsOf d extent new
-of_more d extent held bytes read new same kept is =
-    subst (λ l. IsOf d extent l) (sym (is ∙ ap (λ l. l ++ read) (sym same))) (kept read)
+of_more d extent held bytes read new same kept is = rw (is, ← same) (kept read)
 
 pub of_same : (d : Dialect) (extent : RecordExtent) (held bytes : List ℕ) → held ≡ bytes
     → ((more : List ℕ) → IsOf d extent (held ++ more)) → IsOf d extent bytes
@@ -125,3 +94,57 @@ small_more d old mid new bytes read more e none before (inr grown) =
       | inl few ↦ inr (inl few)
       | inr four ↦ inr (inr (bytes, read, e, none, four))
     ]
+
+-- ---- the mark at the start of a table
+
+pub mark_long : (held bytes rest : List ℕ) → held ≡ bytes → held ≡ 239 ∷ 187 ∷ 191 ∷ rest
+    → 3 ≤ length bytes
+mark_long held bytes rest same e = omega (arith, ap (λ l. length l) (sym same ∙ e))
+
+module _ (old mid : List ℕ) (before after : Option (List ℕ)) (start : ℕ)
+    (grew : Grew old mid before after) where
+  pub reads_none : (held : List ℕ) → held ≡ mid → NoMark held
+      → (3 ≤ length mid) ⊎ IsAtEnd after → start < 2 ^ 64
+      → ReadsMark old mid before after start start (Ok false)
+  reads_none held same none either few = record {
+    read = grew.read;
+    consumed = grew.consumed;
+    told = rw (← grew.grew) (rw same at none, either, refl);
+    moved = omega arith;
+  }
+
+  pub reads_some : (held rest new : List ℕ) (end : ℕ) → held ≡ mid
+      → held ≡ 239 ∷ 187 ∷ 191 ∷ rest → new ≡ drop 3 mid → end ≡ offset_after start 3
+      → ReadsMark old new before after start end (Ok true)
+  reads_some held rest new end same e is moved =
+      let whole : mid ≡ 239 ∷ 187 ∷ 191 ∷ rest = sym same ∙ e in
+      let left : new ≡ rest = is ∙ ap (drop 3) whole in
+      record {
+        read = grew.read;
+        consumed = grew.consumed;
+        told = rw (← grew.grew) (whole ∙ ap (λ l. 239 ∷ 187 ∷ 191 ∷ l) (sym left));
+        moved = moved;
+      }
+
+  pub reads_nothing : (error : ReadError) → IsOfReader error → start < 2 ^ 64
+      → ReadsMark old mid before after start start (Err error)
+  reads_nothing error it few = record {
+    read = grew.read;
+    consumed = grew.consumed;
+    told = rw (← grew.grew) (it, refl);
+    moved = omega arith;
+  }
+
+-- ---- the contents of a buffer after a read
+
+-- a write after the first bytes, seen as far as it goes
+pub behind_front : (a n : ℕ) (xs ys zs : List ℕ) → a ≤ length xs → n ≤ length ys
+    → take (a + n) (take a xs ++ (ys ++ zs)) ≡ take a xs ++ take n ys
+behind_front a n xs ys zs within fits =
+    let whole = take a xs ++ (ys ++ zs) in
+    take-add a n whole
+    ∙ ap (λ l. l ++ take n (drop a whole))
+    (take_at (take a xs) (ys ++ zs) a (length-take-le a xs within))
+    ∙ ap (λ l. take a xs ++ take n l)
+    (drop_at (take a xs) (ys ++ zs) a (length-take-le a xs within))
+    ∙ ap (λ l. take a xs ++ l) (take-append-le n ys zs fits)

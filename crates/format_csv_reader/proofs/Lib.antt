@@ -1,4 +1,2 @@
 pub mod Finding
-pub mod Lists
-pub mod Marking
 pub mod Telling

@@ -1,5 +1,5 @@
 -- A UTF-8 byte order mark at the start of a table.
-use Rattle.std.specs.Prelude.{◌≡◌, ◌⊎◌, ◌≤◌, ◌+◌, ℕ, List, ◌∷◌, ◌++◌, length, Bool, true}
+use Rattle.std.specs.Prelude.{◌≡◌, ◌⊎◌, ◌≤◌, ℕ, List, ◌∷◌, ◌++◌, length, Bool, true}
 use Rattle.std.specs.Prelude.{Err, Ok, Option, Result, false}
 use Rattle.std.specs.Io.KnownBytes.{Consumes, IsAtEnd}
 use Rattle.format_csv_records.specs.Parts.{NoMark}

@@ -1,6 +1,6 @@
 -- Bytes start with at most one record, and with none if there is an error; and which records are
 -- those of all longer bytes too.
-use Rattle.std.specs.Prelude.{◌≡◌, ◌<◌, ℕ, List, [], ◌∷◌, ◌++◌, length, Bool, true, false}
+use Rattle.std.specs.Prelude.{◌≡◌, ◌<◌, ◌≤◌, ℕ, List, [], ◌∷◌, ◌++◌, length, Bool, true, false}
 use Rattle.std.specs.Prelude.{MatchBool}
 use Rattle.std.proofs.Common.{refl, sym, ap, inl, inr, ◌∙◌, arith, append_assoc, length-append}
 use Rattle.std.proofs.lemmas.List.{append-nil}
@@ -12,7 +12,7 @@ use Rattle.format_csv_records.specs.Parts.{FieldFirst}
 use Rattle.format_csv_records.specs.Refused.{IsRefused, NoneWith}
 use Rattle.format_csv_records.specs.declared.dialect.Dialect.{Dialect}
 use Rattle.format_csv_records.specs.declared.read.InvalidRecord.{InvalidRecord}
-use Rattle.format_csv_records.proofs.Alone.{ends_apart, ends_one, field_apart, same_first}
+use Rattle.format_csv_records.proofs.Alone.{end_some, ends_apart, ends_one, field_apart, same_first}
 use Rattle.format_csv_records.proofs.Alone.{same_others}
 use Rattle.format_csv_records.proofs.Whole.{SoFar, behind_first, done_fields, done_more, first_text}
 use Rattle.format_csv_records.proofs.Whole.{last_field}
@@ -56,6 +56,56 @@ pub refused_none : (d : Dialect) (bytes : List ℕ) (fault : InvalidRecord) (fie
     (rest : List ℕ) → IsRefused d bytes fault → IsRecord d bytes fields rest → ⊥
 refused_none d bytes fault fields rest (before, back, more, others, e, size, on, lacks, none) it =
     none_with d bytes before back fields rest none e it
+
+-- ---- what is left after a record is the end of the bytes
+
+pub record Splits (bytes rest : List ℕ) : Type 0 where
+  pub front : List ℕ
+  pub is : bytes ≡ front ++ rest
+
+pub fields_split : (d : Dialect) (fields : List (List ℕ)) (bytes rest : List ℕ)
+    → AreFields d bytes fields rest → Splits bytes rest
+unfolding AreFields
+fields_split d [] bytes rest it = absurd it
+fields_split d (field ∷ []) bytes rest (text, behind, is, e, inl (end, line, f)) = record {
+  front = text ++ end;
+  is = e ∙ ap (λ l. text ++ l) f ∙ sym (append_assoc text end rest);
+}
+fields_split d (field ∷ []) bytes rest (text, behind, is, e, inr (none, over)) = record {
+  front = bytes;
+  is = sym (append-nil bytes) ∙ ap (λ l. bytes ++ l) (sym over);
+}
+fields_split d (field ∷ (next ∷ fields)) bytes rest (text, behind, is, e, are) =
+    let others = fields_split d (next ∷ fields) behind rest are in
+    record {
+      front = text ++ (d.delimiter ∷ others.front);
+      is = e ∙ ap (λ l. text ++ (d.delimiter ∷ l)) others.is
+          ∙ sym (append_assoc text (d.delimiter ∷ others.front) rest);
+    }
+
+pub rest_less : (bytes rest : List ℕ) → Splits bytes rest → length rest ≤ length bytes
+rest_less bytes rest it =
+    omega (arith, ap (λ l. length l) it.is, length-append it.front rest)
+
+pub fields_less : (d : Dialect) (fields : List (List ℕ)) (bytes rest : List ℕ)
+    → AreFields d bytes fields rest → 0 < length bytes → length rest < length bytes
+unfolding AreFields
+fields_less d [] bytes rest it some = absurd it
+fields_less d (field ∷ []) bytes rest (text, behind, is, e, inl (end, line, f)) some = omega (
+  arith,
+  end_some d.ends end line,
+  ap (λ l. length l) (e ∙ ap (λ l. text ++ l) f),
+  length-append text (end ++ rest),
+  length-append end rest,
+)
+fields_less d (field ∷ []) bytes rest (text, behind, is, e, inr (none, over)) some =
+    omega (arith, ap (λ l. length l) over)
+fields_less d (field ∷ (next ∷ fields)) bytes rest (text, behind, is, e, are) some = omega (
+  arith,
+  rest_less behind rest (fields_split d (next ∷ fields) behind rest are),
+  ap (λ l. length l) e,
+  length-append text (d.delimiter ∷ behind),
+)
 
 -- ---- which records are those of all longer bytes too
 

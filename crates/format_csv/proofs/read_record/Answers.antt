@@ -1,8 +1,24 @@
-use Rattle.format_csv.specs.Read.{same_record}
-use Rattle.winnow.specs.Read.{reads_by}
-use Rattle.winnow.specs.Exact.Same.{reads_as}
+use Rattle.std.proofs.Common.{arith, sym}
+use Rattle.std.proofs.lemmas.Bool.{eqb-false, eqb-true}
+use Rattle.format_csv.proofs.Reading.{reads_none, reads_nothing, reads_record}
+use Rattle.winnow.specs.Input.{is_end_of_refl}
+use Rattle.winnow.specs.Read.{reads_wanting}
 use Rattle.format_csv.proofs.read_record.Goals as goal
 
-pub returns : goal.returns
-returns g c = reads_as (same_record c.args.end)
-    (reads_by c.read.ensures.reads (rw (c.terminated.ensures.ignored, c.by-end.ensures.rule)))
+pub returns-then-is_empty : goal.returns-then-is_empty
+returns-then-is_empty g c =
+    reads_nothing c.args.end c.args.input.now.now c.from_input.result c.from_input.ensures
+    (eqb-true _ 0 (sym c.if-is_empty.ensures))
+
+pub returns-in-Ok : goal.returns-in-Ok
+returns-in-Ok g c =
+    reads_record c.args.end c.args.input.now.now c.in-Ok.fields _ c.in-Ok.ensures
+    (let some = eqb-false _ 0 (sym c.if-is_empty.ensures) in omega (arith, some))
+
+pub returns-in-Err-Invalid : goal.returns-in-Err-Invalid
+returns-in-Err-Invalid g c =
+    reads_none c.args.end c.args.input.now.now _ c.from_input-in-Err-Invalid.ensures _
+    (rw c.in-Err-Invalid.field-0-is at c.in-Err-Invalid.ensures)
+
+pub returns-in-Err-OutOfMemory : goal.returns-in-Err-OutOfMemory
+returns-in-Err-OutOfMemory g c = reads_wanting c.no_memory.ensures (is_end_of_refl _ _)

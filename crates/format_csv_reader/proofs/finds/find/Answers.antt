@@ -1,6 +1,6 @@
 use Rattle.std.proofs.Common.{◌∙◌, arith, inr, sym}
 use Rattle.format_csv_reader.proofs.Finding.{found_over, grew_more, grew_none, of_more, of_same}
-use Rattle.format_csv_reader.proofs.Finding.{small_more, small_none, wants_held}
+use Rattle.format_csv_reader.proofs.Finding.{small_more, small_none}
 use Rattle.format_csv_reader.proofs.finds.find.Goals as goal
 
 pub loop-found-init : goal.loop-found-init
@@ -39,7 +39,7 @@ returns-then-count-eq0-clause-found g c = inr (c.in-Ok.ensures.told.1 c.if-count
 pub returns-then-count-eq0-clause-small : goal.returns-then-count-eq0-clause-small
 returns-then-count-eq0-clause-small g c =
     small_more _ _ _ _ _ _ _ c.in-Ok.ensures.grew.grew
-    (wants_held _ _ _ c.held.ensures c.in-None.ensures.found).1 c.loop-found.invariant.small
+    (rw c.held.ensures at c.in-None.ensures.found).1 c.loop-found.invariant.small
     c.in-Ok.ensures.size
 
 pub loop-found-smaller : goal.loop-found-smaller
@@ -51,7 +51,7 @@ loop-found-preserved g c = record {
   of = of_more _ _ _ _ _ _ c.held.ensures c.in-None.ensures.kept c.in-Ok.ensures.grew.grew;
   grew = grew_more _ _ _ _ _ _ c.loop-found.invariant.grew c.in-Ok.ensures.grew;
   small = small_more _ _ _ _ _ _ _ c.in-Ok.ensures.grew.grew
-      (wants_held _ _ _ c.held.ensures c.in-None.ensures.found).1 c.loop-found.invariant.small
+      (rw c.held.ensures at c.in-None.ensures.found).1 c.loop-found.invariant.small
       c.in-Ok.ensures.size;
 }
 
@@ -66,11 +66,11 @@ returns-in-Err-clause-grew g c =
 pub returns-in-Err-clause-found : goal.returns-in-Err-clause-found
 returns-in-Err-clause-found g c = (
   c.in-Err.ensures.told.0,
-  wants_held _ _ _ (c.held.ensures ∙ sym c.in-Err.ensures.told.1) c.in-None.ensures.found,
+  rw (c.held.ensures ∙ sym c.in-Err.ensures.told.1) at c.in-None.ensures.found,
 )
 
 pub returns-in-Err-clause-small : goal.returns-in-Err-clause-small
 returns-in-Err-clause-small g c =
     small_more _ _ _ _ _ _ _ c.in-Err.ensures.grew.grew
-    (wants_held _ _ _ c.held.ensures c.in-None.ensures.found).1 c.loop-found.invariant.small
+    (rw c.held.ensures at c.in-None.ensures.found).1 c.loop-found.invariant.small
     c.in-Err.ensures.size

@@ -2,7 +2,7 @@ use Rattle.std.proofs.Common.{◌∙◌, ◌+◌, ◌-◌, ◌++◌, [], ap, ari
 use Rattle.std.proofs.Common.{take}
 use Rattle.std.proofs.KnownBytes.{Consumes-trans}
 use borrow.Rule.Slice.PartMut.{post_of, put_mid}
-use Rattle.format_csv_reader.proofs.Lists.{behind_front}
+use Rattle.format_csv_reader.proofs.Finding.{behind_front}
 use Rattle.format_csv_reader.proofs.refill.read_behind.Goals as goal
 
 pub returns-in-Ok-clause-read : goal.returns-in-Ok-clause-read

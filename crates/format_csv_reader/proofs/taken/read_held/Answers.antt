@@ -1,4 +1,5 @@
-use Rattle.format_csv_reader.proofs.Telling.{held_taken, read_split, rest_less}
+use Rattle.format_csv_records.proofs.One.{rest_less}
+use Rattle.format_csv_reader.proofs.Telling.{held_taken, read_split}
 use Rattle.format_csv_reader.proofs.taken.read_held.Goals as goal
 
 pub overflow_sub-count : goal.overflow_sub-count

@@ -1,7 +1,5 @@
-use Rattle.std.proofs.Common.{ap, arith}
-use Rattle.format_csv_reader.proofs.Finding.{is_enough, is_never}
-use Rattle.format_csv_reader.proofs.Telling.{all_of_reads, reads_failed, reads_never}
-use Rattle.format_csv_reader.proofs.Telling.{reads_taken}
+use Rattle.std.proofs.Common.{ap, arith, inl, refl}
+use Rattle.format_csv_reader.proofs.Telling.{all_of_reads, answer_taken, failed, reads}
 use Rattle.format_csv_reader.proofs.reader.Reader.next_record.Goals as goal
 
 pub find-requires : goal.find-requires
@@ -22,10 +20,11 @@ invariant_of-self-in-Err g c = c.in-Err.ensures.of
 pub returns-in-Ok-Enough-clause-reads : goal.returns-in-Ok-Enough-clause-reads
 returns-in-Ok-Enough-clause-reads g c =
     rw (← c.self.view_is)
-    (reads_taken _ _ _ _ _ _ _ _ _ c.in-Ok-Enough.ensures.grew
+    (reads _ _ _ _ _ _ _ _ _ c.in-Ok-Enough.ensures.grew
     (rw c.take_record.ensures.size c.in-Ok-Enough.ensures.small) _ _ _
-    (is_enough _ _ _ _ c.in-Ok-Enough.field-0-is c.in-Ok-Enough.ensures.found)
-    c.take_record.ensures.told c.take_record.ensures.moved)
+    (answer_taken _ _ _ _ _ _ _
+    (rw c.in-Ok-Enough.field-0-is at c.in-Ok-Enough.ensures.found) c.take_record.ensures.told)
+    c.take_record.ensures.moved)
 
 pub returns-in-Ok-Enough-clause-of_all : goal.returns-in-Ok-Enough-clause-of_all
 returns-in-Ok-Enough-clause-of_all g c =
@@ -36,12 +35,10 @@ returns-in-Ok-Enough-clause-same g c = ap (λ t. t.dialect) c.self.view_is
 
 pub returns-in-Ok-Never-clause-reads : goal.returns-in-Ok-Never-clause-reads
 returns-in-Ok-Never-clause-reads g c =
-    let (refusal, never) =
-    is_never _ _ _ _ _ c.in-Ok-Never.field-0-is c.in-Ok-Never.ensures.found in
+    let (refusal, never) = rw c.in-Ok-Never.field-0-is at c.in-Ok-Never.ensures.found in
     rw (← c.self.view_is)
-    (reads_never _ _ _ _ _ _ _ _ _ c.in-Ok-Never.ensures.grew c.in-Ok-Never.ensures.small _ _
-    refusal never c.fault_at.ensures
-    c.clear.ensures.fields (omega arith))
+    (reads _ _ _ _ _ _ _ _ _ c.in-Ok-Never.ensures.grew c.in-Ok-Never.ensures.small _ _ _
+    ((_, refusal, c.fault_at.ensures, inl never), refl, c.clear.ensures.fields) (omega arith))
 
 pub returns-in-Ok-Never-clause-of_all : goal.returns-in-Ok-Never-clause-of_all
 returns-in-Ok-Never-clause-of_all g c =
@@ -53,8 +50,9 @@ returns-in-Ok-Never-clause-same g c = ap (λ t. t.dialect) c.self.view_is
 pub returns-in-Err-clause-reads : goal.returns-in-Err-clause-reads
 returns-in-Err-clause-reads g c =
     rw (← c.self.view_is)
-    (reads_failed _ _ _ _ _ _ _ _ _ c.in-Err.ensures.grew c.in-Err.ensures.small _
-    c.in-Err.ensures.found.0 c.in-Err.ensures.found.1 c.clear.ensures.fields (omega arith))
+    (reads _ _ _ _ _ _ _ _ _ c.in-Err.ensures.grew c.in-Err.ensures.small _ _ _
+    (failed _ _ _ _ _ _ c.in-Err.ensures.found.0 c.in-Err.ensures.found.1 c.clear.ensures.fields)
+    (omega arith))
 
 pub returns-in-Err-clause-of_all : goal.returns-in-Err-clause-of_all
 returns-in-Err-clause-of_all g c =

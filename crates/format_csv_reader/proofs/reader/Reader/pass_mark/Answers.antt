@@ -1,5 +1,5 @@
 use Rattle.std.proofs.Common.{arith}
-use Rattle.format_csv_reader.proofs.Marking.{mark_long, reads_none, reads_nothing, reads_some}
+use Rattle.format_csv_reader.proofs.Finding.{mark_long, reads_none, reads_nothing, reads_some}
 use Rattle.format_csv_reader.proofs.reader.Reader.pass_mark.Goals as goal
 
 pub invariant_of-self : goal.invariant_of-self
