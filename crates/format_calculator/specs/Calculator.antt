@@ -7,11 +7,11 @@ use Rattle.std.specs.Prelude.{nat_eq, nat_le, if◌then◌else◌, FitsSigned, i
 use Rattle.std.proofs.Common.{suc, zero}
 use Rattle.std.specs.Prelude.{Ok, Err}
 use Rattle.std.specs.Int.{w64, CanDivide, int_pow}
-use Rattle.winnow.specs.Form.{Answer}
-use Rattle.winnow.specs.Kind.{backtrack}
+use Rattle.stream_errors.specs.Form.{Answer}
+use Rattle.streams.specs.Kind.{backtrack}
 use Rattle.std.specs.Str.{chars}
-use Rattle.winnow.specs.Stream.{IsBoundary}
-use Rattle.winnow.specs.Text.{width}
+use Rattle.streams.specs.Stream.{IsBoundary}
+use Rattle.streams.specs.Text.{width}
 use Rattle.format_calculator.specs.declared.fault.ReadError.{ReadError}
 use Rattle.format_calculator.specs.declared.fault.ReadError.TheVariants.{NoMemory, Invalid}
 use Rattle.format_calculator.specs.declared.calc.operators.Mark.{Mark}
@@ -22,13 +22,13 @@ use Rattle.format_calculator.specs.declared.calc.operators.Pair.TheVariants.{Ove
 use Rattle.format_calculator.specs.declared.calc.operators.Pair.TheVariants.{Rest, Power, Equals}
 use Rattle.format_calculator.specs.declared.calc.operators.Sign.{Sign}
 use Rattle.format_calculator.specs.declared.calc.operators.Sign.TheVariants.{Positive, Negative}
-use Rattle.winnow.specs.{Infix}
-use Rattle.winnow.specs.InfixCases.{Left, Neither}
-use Rattle.winnow.specs.InfixCases.{Right}
-use Rattle.winnow.specs.{Postfix}
-use Rattle.winnow.specs.{Prefix}
-use Rattle.winnow.specs.Items.{HasValue, Items, ItemsTree, NoItem}
-use Rattle.winnow.specs.Tree.{Tree}
+use Rattle.winnow_expression.specs.declared.combinator.operators.Infix.{Infix}
+use Rattle.winnow_expression.specs.declared.combinator.operators.Infix.TheVariants.{Left, Neither}
+use Rattle.winnow_expression.specs.declared.combinator.operators.Infix.TheVariants.{Right}
+use Rattle.winnow_expression.specs.declared.combinator.operators.Postfix.{Postfix}
+use Rattle.winnow_expression.specs.declared.combinator.operators.Prefix.{Prefix}
+use Rattle.winnow_expression_trees.specs.Items.{HasValue, Items, ItemsTree, NoItem}
+use Rattle.winnow_expression_trees.specs.Tree.{Tree}
 pub mod Laws
 
 -- ---- items

@@ -1,11 +1,11 @@
 //! The calculator: formulas of whole numbers.
-#![tactic(auto, using(winnow::specs::Rules::ends_follow))]
+#![tactic(auto, using(streams::specs::Ends::ends_follow))]
 
 ghost use Rattle.std.specs.Prelude.{◌≡◌, pos, IfErr, IfOk};
-ghost use Rattle.winnow.specs.Form.{answer_by};
-ghost use Rattle.winnow.specs.Input.{IsEndOf};
-ghost use Rattle.winnow.specs.Text.{text_input, text_reading};
-ghost use Rattle.winnow.specs.Items.{ReadsItems};
+ghost use Rattle.stream_errors.specs.Form.{answer_by};
+ghost use Rattle.streams.specs.Input.{IsEndOf};
+ghost use Rattle.streams.specs.Text.{text_input, text_reading};
+ghost use Rattle.winnow_expression_trees.specs.Items.{ReadsItems};
 ghost use Rattle.format_calculator.specs.Calculator.{CharItem, IsFormulaFault, IsValue, NumberItem};
 ghost use Rattle.format_calculator.specs.Calculator.{mark_at, mark_value, pair_at, pair_value};
 ghost use Rattle.format_calculator.specs.Calculator.{sign_at, sign_value};
@@ -20,11 +20,13 @@ use crate::calc::operators::{Mark, Pair, Sign};
 use crate::calc::parts::{BeforeIt, BehindIt, BetweenThem, Number};
 use crate::fault::ReadError;
 use std::alloc::Allocator;
-use winnow::Parser;
-use winnow::combinator::expression;
-use winnow::error::{EmptyError, HasKind, ParserError};
-use winnow::laws::{Likeness, expression_is_unambiguous};
-use winnow::stream::Stream;
+use stream_errors::empty::EmptyError;
+use stream_errors::has_kind::HasKind;
+use stream_errors::parser_error::ParserError;
+use streams::stream::Stream;
+use winnow_core::parser::Parser;
+use winnow_expression::combinator::expression;
+use winnow_expression_trees::laws::{Likeness, expression_is_unambiguous};
 
 /// Equality of numbers.
 struct Equal;

@@ -12,13 +12,13 @@ use Rattle.format_csv_records.specs.declared.buffers.RecordSize.{RecordSize}
 use Rattle.format_csv_records.specs.declared.read.InvalidRecord.{InvalidRecord}
 use Rattle.format_csv.specs.Csv.{IsRecord, bytes_of, commas}
 use Rattle.format_csv.specs.declared.LineEnd.{LineEnd}
-use Rattle.winnow.specs.Bytes.{bytes_follow, bytes_input, bytes_reading}
-use Rattle.winnow.specs.Cut.{ReadsOrAsks}
-use Rattle.winnow.specs.Equal.{true_is_false}
-use Rattle.winnow.specs.Exact.{Reads}
-use Rattle.winnow.specs.Input.{Input, IsEndOf, is_end_of_refl}
-use Rattle.winnow.specs.Kind.{Kind, backtrack}
-use Rattle.winnow.specs.Partial.{with_flag}
+use Rattle.streams.specs.Bytes.{bytes_follow, bytes_input, bytes_reading}
+use Rattle.winnow_grammar.specs.Cut.{ReadsOrAsks}
+use Rattle.streams.specs.Equal.{true_is_false}
+use Rattle.winnow_core.specs.Exact.{Reads}
+use Rattle.streams.specs.Input.{Input, IsEndOf, is_end_of_refl}
+use Rattle.streams.specs.Kind.{Kind, backtrack}
+use Rattle.streams.specs.Partial.{with_flag}
 
 module _ {A : Type 0} (ends : LineEnd) (bytes : List ℕ) where
   module _ (fields : Vec (Vec ℕ A) A) (rest : List ℕ)

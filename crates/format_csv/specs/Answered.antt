@@ -5,9 +5,9 @@ use Rattle.std.specs.List.{All, AllZip}
 use Rattle.std.specs.declared.vec.Vec.{Vec}
 use Rattle.std.proofs.Common.{refl, sym, subst, inl, inr, ◌∙◌, arith}
 use Rattle.std.proofs.lemmas.List.Elements.{All-cons, All-head, All-nil, All-tail}
-use Rattle.winnow.specs.Kind.{Kind}
-use Rattle.winnow.specs.{Needed}
-use Rattle.winnow.specs.{ParseFault}
+use Rattle.streams.specs.Kind.{Kind}
+use Rattle.streams.specs.declared.needed.Needed.{Needed}
+use Rattle.stream_errors.specs.declared.fault.ParseFault.{ParseFault}
 use Rattle.format_csv.specs.Csv.{AreRecords, IsRecord}
 use Rattle.format_csv.specs.One.{SameFields, document_one, no_bytes, same_width}
 use Rattle.format_csv.specs.Table.{HasWidth, HeadTold, IsFirst, IsHeaded, IsOdd, IsRagged}
@@ -17,9 +17,9 @@ use Rattle.format_csv.specs.declared.table.Ragged.{Ragged}
 use Rattle.format_csv.specs.declared.table.Table.{Table}
 use Rattle.format_csv.specs.declared.table.TableError.{TableError}
 use Rattle.format_csv.specs.declared.table.TableError.TheVariants.{Document, Empty, Width}
-use Rattle.winnow.specs.Exact.Whole.{IsWant, ReadsAll}
-use Rattle.winnow.specs.Grammar.{Each}
-use Rattle.winnow.specs.Grammar.Inversion.{Listed}
+use Rattle.winnow_core.specs.Exact.Whole.{IsWant, ReadsAll}
+use Rattle.grammars.specs.Grammar.{Each}
+use Rattle.grammars.specs.Grammar.Inversion.{Listed}
 
 -- The same numbers.
 abbrev pub SameNumbers : Ragged → Ragged → Type 0

@@ -9,8 +9,8 @@ use Rattle.format_csv_records.specs.declared.dialect.LineEnds.{LineEnds}
 use Rattle.format_csv_records.specs.declared.dialect.LineEnds.TheVariants as by
 use Rattle.format_csv.specs.declared.LineEnd.{LineEnd}
 use Rattle.format_csv.specs.declared.LineEnd.TheVariants.{CrLf, Lf}
-use Rattle.winnow.specs.Grammar.{Grammar}
-use Rattle.winnow.specs.Grammar.Inversion.{Listed}
+use Rattle.grammars.specs.Grammar.{Grammar}
+use Rattle.grammars.specs.Grammar.Inversion.{Listed}
 
 -- The line ending, as one of a dialect.
 abbrev pub ends_as : LineEnd → LineEnds

@@ -8,8 +8,8 @@ use Rattle.format_csv_records.specs.Commas.{commas_apart}
 use Rattle.format_csv_records.proofs.One.{fields_one}
 use Rattle.format_csv.specs.Csv.{AreRecords, IsRecord, bytes_of, commas}
 use Rattle.format_csv.specs.declared.LineEnd.{LineEnd}
-use Rattle.winnow.specs.Grammar.{Each}
-use Rattle.winnow.specs.Grammar.Inversion.{Listed}
+use Rattle.grammars.specs.Grammar.{Each}
+use Rattle.grammars.specs.Grammar.Inversion.{Listed}
 
 module _ {A : Type 0} where
   -- fields of the same bytes

@@ -5,7 +5,7 @@ use Rattle.format_csv_records.specs.Buffers.{IsForGood}
 use Rattle.format_csv_records.specs.Early.{IsViablePrefix}
 use Rattle.format_csv.specs.Csv.{bytes_of, commas}
 use Rattle.format_csv.specs.declared.LineEnd.{LineEnd}
-use Rattle.winnow.specs.Grammar.{Grammar}
+use Rattle.grammars.specs.Grammar.{Grammar}
 
 -- The bytes start with this record for any continuation, so its line ending is there.
 abbrev pub IsLine : {A : Type 0} → LineEnd → Grammar ℕ (Vec (Vec ℕ A) A)

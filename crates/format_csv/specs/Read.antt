@@ -6,13 +6,13 @@ use Rattle.format_csv_records.specs.Commas.{commas_apart}
 use Rattle.format_csv_records.proofs.One.{fields_less, fields_one, fields_split}
 use Rattle.format_csv.specs.Csv.{AreRecords, IsRecord, bytes_of, commas}
 use Rattle.format_csv.specs.declared.LineEnd.{LineEnd}
-use Rattle.winnow.specs.Exact.Whole.{ReadsAll, reads_all_as}
-use Rattle.winnow.specs.Grammar.{Gathered, Grammar, IsUnique, Many, TakesTokens}
-use Rattle.winnow.specs.Grammar.Inversion.{repeated_list}
-use Rattle.winnow.specs.{Needed}
-use Rattle.winnow.specs.{ParseFault}
-use Rattle.winnow.specs.Kind.{Kind}
-use Rattle.winnow.specs.Range.{from_to}
+use Rattle.winnow_core.specs.Exact.Whole.{ReadsAll, reads_all_as}
+use Rattle.grammars.specs.Grammar.{Gathered, Grammar, IsUnique, Many, TakesTokens}
+use Rattle.grammars.specs.Grammar.Inversion.{repeated_list}
+use Rattle.streams.specs.declared.needed.Needed.{Needed}
+use Rattle.stream_errors.specs.declared.fault.ParseFault.{ParseFault}
+use Rattle.streams.specs.Kind.{Kind}
+use Rattle.stream_sets.specs.Range.{from_to}
 
 module _ {A : Type 0} (ends : LineEnd) where
   pub record_unique : IsUnique (IsRecord {A = A} ends)

@@ -10,18 +10,18 @@ use Rattle.std.proofs.Common.{sym, subst, ap, ◌∙◌, arith, append_assoc, ta
 use Rattle.std.proofs.Common.{length-take}
 use Rattle.std.proofs.lemmas.List.{take_more, take-append-drop, take_all}
 use Rattle.std.proofs.lemmas.List.Elements.{All-more}
-use Rattle.winnow.specs.Kind.{Kind}
-use Rattle.winnow.specs.{Needed}
-use Rattle.winnow.specs.{ParseFault}
+use Rattle.streams.specs.Kind.{Kind}
+use Rattle.streams.specs.declared.needed.Needed.{Needed}
+use Rattle.stream_errors.specs.declared.fault.ParseFault.{ParseFault}
 use Rattle.format_csv.specs.Csv.{AreRecords, IsRecord}
 use Rattle.format_csv.specs.declared.LineEnd.{LineEnd}
 use Rattle.format_csv.specs.declared.table.Ragged.{Ragged}
 use Rattle.format_csv.specs.declared.table.Table.{Table}
 use Rattle.format_csv.specs.declared.table.TableError.{TableError}
 use Rattle.format_csv.specs.declared.table.TableError.TheVariants.{Document, Empty, Width}
-use Rattle.winnow.specs.Exact.Whole.{IsWant, ReadsAll}
-use Rattle.winnow.specs.Grammar.{Each}
-use Rattle.winnow.specs.Grammar.Inversion.{Listed}
+use Rattle.winnow_core.specs.Exact.Whole.{IsWant, ReadsAll}
+use Rattle.grammars.specs.Grammar.{Each}
+use Rattle.grammars.specs.Grammar.Inversion.{Listed}
 
 -- `IsFirst such those xs place`: the item of `xs` at index `place` satisfies `those`, and all items
 -- before it satisfy `such`.

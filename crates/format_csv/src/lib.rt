@@ -10,13 +10,13 @@
 #![tactic(auto)]
 
 ghost use Rattle.std.specs.Prelude.{MatchResult, ⊤};
-ghost use Rattle.winnow.specs.Bytes.{bytes_input, bytes_reading};
+ghost use Rattle.streams.specs.Bytes.{bytes_input, bytes_reading};
 ghost use Rattle.format_csv.specs.Csv.{AreRecords, IsRecord, bytes_of, commas};
 ghost use Rattle.format_csv.specs.Read.{record_takes, record_unique};
 ghost use Rattle.format_csv_records.specs.Dialects.{AreFields};
 ghost use Rattle.format_csv_records.specs.Refused.{IsNoRecord};
-ghost use Rattle.winnow.specs.Exact.{Reads};
-ghost use Rattle.winnow.specs.Exact.Whole.{ReadsAll};
+ghost use Rattle.winnow_core.specs.Exact.{Reads};
+ghost use Rattle.winnow_core.specs.Exact.Whole.{ReadsAll};
 
 pub mod dialects;
 mod lists;
@@ -27,11 +27,15 @@ use crate::dialects::dialect_of;
 use crate::lists::FieldLists;
 use format_csv_records::read::{RecordError, read_fields};
 use std::alloc::Allocator;
-use winnow::Parser;
-use winnow::combinator::repeat;
-use winnow::error::{EmptyError, ErrMode, HasKind, ParseFault, ParserError};
-use winnow::exact::Rule;
-use winnow::stream::Range;
+use stream_errors::empty::EmptyError;
+use stream_errors::fault::ParseFault;
+use stream_errors::has_kind::HasKind;
+use stream_errors::mode::ErrMode;
+use stream_errors::parser_error::ParserError;
+use stream_sets::range::Range;
+use winnow_core::parser::Parser;
+use winnow_grammar::rule::Rule;
+use winnow_repeat::combinator::repeat;
 
 /// A line ending.
 #[derive(Clone, Copy, Debug, PartialEq, Eq)]

@@ -1,18 +1,23 @@
 //! Records from pieces: one at a time, as their bytes come in.
 
 ghost use Rattle.std.specs.Prelude.{IfErr};
-ghost use Rattle.winnow.specs.Bytes.{bytes_follow, bytes_reading};
-ghost use Rattle.winnow.specs.Grammar.{NoMatch};
+ghost use Rattle.streams.specs.Bytes.{bytes_follow, bytes_reading};
+ghost use Rattle.grammars.specs.Grammar.{NoMatch};
 ghost use Rattle.format_csv.specs.Csv.{IsRecord};
 ghost use Rattle.format_csv.specs.Pieces.{IsLine, MayGoOn};
-ghost use Rattle.winnow.specs.Cut.{Asks, ReadsOrAsks};
+ghost use Rattle.winnow_grammar.specs.Cut.{Asks, ReadsOrAsks};
 
 use crate::dialects::dialect_of;
 use crate::{LineEnd, Record, read_lists, read_record};
 use format_csv_records::extent::RecordExtent;
 use std::alloc::Allocator;
-use winnow::error::{EmptyError, ErrMode, HasKind, Needed, ParserError};
-use winnow::stream::{Partial, Stream, StreamIsPartial};
+use stream_errors::empty::EmptyError;
+use stream_errors::has_kind::HasKind;
+use stream_errors::mode::ErrMode;
+use stream_errors::parser_error::ParserError;
+use streams::needed::Needed;
+use streams::partial::Partial;
+use streams::stream::{Stream, StreamIsPartial};
 
 /// Like [`read_record`](crate::read_record), for partial input.
 ///

@@ -5,7 +5,10 @@ ghost use Rattle.format_csv.specs.Table.{FieldTold, FirstNamed, FirstOdd, HeadTo
 
 use crate::{LineEnd, Record, parse_document};
 use std::alloc::Allocator;
-use winnow::error::{EmptyError, ErrMode, ParseFault, ParserError};
+use stream_errors::empty::EmptyError;
+use stream_errors::fault::ParseFault;
+use stream_errors::mode::ErrMode;
+use stream_errors::parser_error::ParserError;
 
 /// A header, and the records after it. As [`parse_table`] makes it, each of them has as many
 /// fields as the header.

@@ -9,30 +9,30 @@ use Rattle.std.specs.Prelude.{◌⊎◌, ⊤, take}
 use Rattle.std.proofs.lemmas.Bool.{cases_lt}
 use Rattle.std.proofs.lemmas.List.{nil_from_length, take_at}
 use Rattle.std.proofs.lemmas.List.Elements.{All-head, All-take}
-use Rattle.winnow.specs.BitBool.{BitBoolRuns}
-use Rattle.winnow.specs.BitInput.{bits_input, can_be_read, length_from, readable_is}
-use Rattle.winnow.specs.BitList.{bit_number, bits_cons, bits_nil, bits_of, low_bits}
-use Rattle.winnow.specs.BitList.{number_append, number_low, number_nil, number_of}
-use Rattle.winnow.specs.BitReading.{bits_reading}
-use Rattle.winnow.specs.BitTake.{BitTakeRuns}
-use Rattle.winnow.specs.BitTake.Inversion.{bit_take_ok}
-use Rattle.winnow.specs.BitsOfBytes.{BitsOfBytesRuns}
-use Rattle.winnow.specs.BitsOfBytes.Inversion.{bits_ok, whole_number}
-use Rattle.winnow.specs.Equal.{true_is_false}
-use Rattle.winnow.specs.Following.{most_bytes}
-use Rattle.winnow.specs.Form.{Answer, ErrorForm, modal}
-use Rattle.winnow.specs.Form.Inversion.{ok_is_err, same_kind, same_ok}
-use Rattle.winnow.specs.InOrder.Inversion.{three_err}
-use Rattle.winnow.specs.InParts.{reads_below, reads_both, reads_fewer}
-use Rattle.winnow.specs.Input.{Input}
-use Rattle.winnow.specs.Kind.{Kind}
-use Rattle.winnow.specs.Reading.{Reading}
-use Rattle.winnow.specs.Runs.{Keeps, Runs}
-use Rattle.winnow.specs.Sequence.{SequenceRuns3}
-use Rattle.winnow.specs.Sequence.Inversion.{sequence3_ok}
-use Rattle.winnow.specs.Within.{ReadsNumber}
-use Rattle.winnow.specs.Needs.{need_in_bytes, with_need}
-use Rattle.winnow.specs.Short.{ShortKind}
+use Rattle.winnow_bits.specs.BitBool.{BitBoolRuns}
+use Rattle.stream_bits.specs.BitInput.{bits_input, can_be_read, length_from, readable_is}
+use Rattle.stream_bits.specs.BitList.{bit_number, bits_cons, bits_nil, bits_of, low_bits}
+use Rattle.stream_bits.specs.BitList.{number_append, number_low, number_nil, number_of}
+use Rattle.stream_bits.specs.BitReading.{bits_reading}
+use Rattle.winnow_bits.specs.BitTake.{BitTakeRuns}
+use Rattle.winnow_bits.specs.BitTake.Inversion.{bit_take_ok}
+use Rattle.winnow_bits.specs.BitsOfBytes.{BitsOfBytesRuns}
+use Rattle.winnow_bits.specs.BitsOfBytes.Inversion.{bits_ok, whole_number}
+use Rattle.streams.specs.Equal.{true_is_false}
+use Rattle.streams.specs.Following.{most_bytes}
+use Rattle.stream_errors.specs.Form.{Answer, ErrorForm, modal}
+use Rattle.stream_errors.specs.Form.Inversion.{ok_is_err, same_kind, same_ok}
+use Rattle.winnow_core.specs.InOrder.Inversion.{three_err}
+use Rattle.winnow_bits.specs.InParts.{reads_below, reads_both, reads_fewer}
+use Rattle.streams.specs.Input.{Input}
+use Rattle.streams.specs.Kind.{Kind}
+use Rattle.streams.specs.Reading.{Reading}
+use Rattle.winnow_core.specs.Runs.{Keeps, Runs}
+use Rattle.winnow_core.specs.Sequence.{SequenceRuns3}
+use Rattle.winnow_core.specs.Sequence.Inversion.{sequence3_ok}
+use Rattle.stream_bits.specs.Within.{ReadsNumber}
+use Rattle.winnow_bits.specs.Needs.{need_in_bytes, with_need}
+use Rattle.winnow_core.specs.Short.{ShortKind}
 use Rattle.format_dns.specs.Header.{HasTooMany, LacksPart}
 
 -- ---- parsers of `count` bits

@@ -7,21 +7,21 @@ use Rattle.std.proofs.Common.{subst, sym}
 use Rattle.std.specs.Int.{bytes_high_first}
 use Rattle.std.specs.List.{All}
 use Rattle.std.specs.Prelude.{◌⊎◌, ⊤}
-use Rattle.winnow.specs.BitList.{bit_number}
-use Rattle.winnow.specs.BitReading.{bits_reading}
-use Rattle.winnow.specs.BitsOfBytes.{BitsOfBytesRuns}
-use Rattle.winnow.specs.Following.{most_bytes}
-use Rattle.winnow.specs.Form.{ErrorForm, modal}
-use Rattle.winnow.specs.Form.Inversion.{ok_is_err}
-use Rattle.winnow.specs.Input.{Input}
-use Rattle.winnow.specs.Integer.{IntegerRuns, value_of}
-use Rattle.winnow.specs.Integer.Inversion.{integer_ok}
-use Rattle.winnow.specs.Integer.Values.{value_of_fits}
-use Rattle.winnow.specs.Integer.Written.{be_written, length_written}
-use Rattle.winnow.specs.Kind.{Kind}
-use Rattle.winnow.specs.Reading.{Reading}
-use Rattle.winnow.specs.Runs.{Runs}
-use Rattle.winnow.specs.Sequence.{SequenceRuns3}
+use Rattle.stream_bits.specs.BitList.{bit_number}
+use Rattle.stream_bits.specs.BitReading.{bits_reading}
+use Rattle.winnow_bits.specs.BitsOfBytes.{BitsOfBytesRuns}
+use Rattle.streams.specs.Following.{most_bytes}
+use Rattle.stream_errors.specs.Form.{ErrorForm, modal}
+use Rattle.stream_errors.specs.Form.Inversion.{ok_is_err}
+use Rattle.streams.specs.Input.{Input}
+use Rattle.winnow_integers.specs.Integer.{IntegerRuns, value_of}
+use Rattle.winnow_integers.specs.Integer.Inversion.{integer_ok}
+use Rattle.winnow_integers.specs.Integer.Values.{value_of_fits}
+use Rattle.winnow_integers.specs.Integer.Written.{be_written, length_written}
+use Rattle.streams.specs.Kind.{Kind}
+use Rattle.streams.specs.Reading.{Reading}
+use Rattle.winnow_core.specs.Runs.{Runs}
+use Rattle.winnow_core.specs.Sequence.{SequenceRuns3}
 use Rattle.format_dns.specs.Fields.{IsField}
 use Rattle.format_dns.specs.Header.{HasTooMany, IsHighByte, IsLowByte, IsNumber, LacksPart}
 use Rattle.format_dns.proofs.BitRuns.{BoolMeans, ReadsBits, TakeMeans, bool_reads, byte_fails}

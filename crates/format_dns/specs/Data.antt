@@ -5,7 +5,7 @@ use Rattle.std.specs.Prelude.{if◌then◌else◌}
 use Rattle.std.specs.Net.Addr.{ipv4_octets, ipv6_segments, segments_of}
 use Rattle.std.specs.declared.net.ipv4_addr.Ipv4Addr.{Ipv4Addr}
 use Rattle.std.specs.declared.net.ipv6_addr.Ipv6Addr.{Ipv6Addr}
-use Rattle.winnow.specs.Grammar.{Each, NoMatch}
+use Rattle.grammars.specs.Grammar.{Each, NoMatch}
 use Rattle.format_dns.specs.Fields.{AreOfService, AreOfZone, IsField}
 use Rattle.format_dns.specs.Names.{At, HasNoName, IsString, Label}
 use Rattle.format_dns.specs.Questions.{HasName, IsShort}

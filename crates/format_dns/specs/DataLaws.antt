@@ -3,11 +3,11 @@ use Rattle.std.specs.Prelude.{◌≡◌, ◌⊎◌, ◌≤◌, ◌+◌, ◌-◌,
 use Rattle.std.specs.declared.vec.Vec.{Vec}
 use Rattle.std.proofs.Common.{refl, sym, ap, subst, inl, inr, ◌∙◌, arith, length-append}
 use Rattle.std.proofs.Common.{append_assoc}
-use Rattle.winnow.specs.Equal.{same_first, same_others, same_some}
-use Rattle.winnow.specs.Range.{from_to}
-use Rattle.winnow.specs.Grammar.{Each, Gathered, Grammar, Many, NoMatch}
-use Rattle.winnow.specs.Grammar.Lengths.{same_beginnings}
-use Rattle.winnow.specs.Grammar.Unique.{many_unique}
+use Rattle.streams.specs.Equal.{same_first, same_others, same_some}
+use Rattle.stream_sets.specs.Range.{from_to}
+use Rattle.grammars.specs.Grammar.{Each, Gathered, Grammar, Many, NoMatch}
+use Rattle.grammars.specs.Grammar.Lengths.{same_beginnings}
+use Rattle.grammars.specs.Grammar.Unique.{many_unique}
 use Rattle.format_dns.specs.Data.{AreStrings, HasMail, HasOtherSize, HasService, HasZone}
 use Rattle.format_dns.specs.Data.{IsLastName, IsOfForm, NoForm, NoLastName, NoMail}
 use Rattle.format_dns.specs.Data.{IsDataAt, NoService, NoStrings, NoZone, form_of_data}

@@ -2,7 +2,7 @@
 use Rattle.std.specs.Prelude.{◌≡◌, ◌+◌, ℕ, List, length}
 use Rattle.std.specs.Int.{bytes_high_first}
 use Rattle.std.proofs.Common.{ap, arith, length-append}
-use Rattle.winnow.specs.Integer.Written.{length_written}
+use Rattle.winnow_integers.specs.Integer.Written.{length_written}
 use Rattle.format_dns.specs.Fields.{AreAsked, AreOfService, AreOfZone, AreRecordFields}
 use Rattle.format_dns.specs.Fields.{IsField}
 

@@ -2,12 +2,12 @@
 use Rattle.std.specs.Prelude.{◌≡◌, ◌⊎◌, ◌<◌, ◌+◌, ◌-◌, ◌*◌, ◌++◌, ℕ, Bool, List, ◌∷◌}
 use Rattle.std.specs.Prelude.{length, Some}
 use Rattle.std.specs.Int.{bytes_high_first}
-use Rattle.winnow.specs.BitList.{bit_number}
-use Rattle.winnow.specs.Following.{most_bytes}
-use Rattle.winnow.specs.Form.{modal}
-use Rattle.winnow.specs.Input.{Input}
-use Rattle.winnow.specs.Kind.{Kind, cut}
-use Rattle.winnow.specs.Short.{ShortKind}
+use Rattle.stream_bits.specs.BitList.{bit_number}
+use Rattle.streams.specs.Following.{most_bytes}
+use Rattle.stream_errors.specs.Form.{modal}
+use Rattle.streams.specs.Input.{Input}
+use Rattle.streams.specs.Kind.{Kind, cut}
+use Rattle.winnow_core.specs.Short.{ShortKind}
 use Rattle.format_dns.specs.declared.header.Header.{Header}
 
 -- The bytes are a number of two bytes, the higher first, and then the rest.

@@ -5,14 +5,14 @@ use Rattle.std.specs.Prelude.{Result, Ok, Err, is_ok, is_err, false, if◌then�
 use Rattle.std.specs.declared.vec.Vec.{Vec}
 use Rattle.std.proofs.Common.{refl, sym, ap, subst, inl, inr, ◌∙◌, arith}
 use Rattle.std.proofs.lemmas.List.{length-take-le, take-append-drop}
-use Rattle.winnow.specs.Counted.{counted_reading}
-use Rattle.winnow.specs.Equal.{same_first, same_others, true_is_false}
-use Rattle.winnow.specs.Range.{from_to}
-use Rattle.winnow.specs.Grammar.Same.{Same}
-use Rattle.winnow.specs.Grammar.{Counted, Gathered, Grammar, IsUnique, Many, NoMatch}
-use Rattle.winnow.specs.Grammar.{TokenOf}
-use Rattle.winnow.specs.Grammar.Inversion.{slice_for}
-use Rattle.winnow.specs.Grammar.Lengths.{SaysOne, Sized, same_beginnings}
+use Rattle.streams.specs.Counted.{counted_reading}
+use Rattle.streams.specs.Equal.{same_first, same_others, true_is_false}
+use Rattle.stream_sets.specs.Range.{from_to}
+use Rattle.grammars.specs.Grammar.Same.{Same}
+use Rattle.grammars.specs.Grammar.{Counted, Gathered, Grammar, IsUnique, Many, NoMatch}
+use Rattle.grammars.specs.Grammar.{TokenOf}
+use Rattle.grammars.specs.Grammar.Inversion.{slice_for}
+use Rattle.grammars.specs.Grammar.Lengths.{SaysOne, Sized, same_beginnings}
 use Rattle.format_dns.specs.Names.{IsCut, IsNameEnding, IsNoNameEnding}
 use Rattle.format_dns.specs.Names.{IsLabel, IsPointer, IsRoot, IsSized, Label}
 use Rattle.format_dns.specs.Names.{EndingResult, NoEnding}

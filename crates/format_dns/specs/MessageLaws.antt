@@ -4,7 +4,7 @@ use Rattle.std.specs.Int.{bytes_high_first}
 use Rattle.std.specs.Result.{IsErrAnd}
 use Rattle.std.proofs.Common.{refl, sym, ap, subst, inl, inr, ◌∙◌, arith}
 use Rattle.std.proofs.lemmas.List.{take_all}
-use Rattle.winnow.specs.Equal.{same_others}
+use Rattle.streams.specs.Equal.{same_others}
 use Rattle.format_dns.specs.FieldLaws.{field_length}
 use Rattle.format_dns.specs.Fields.{IsField}
 use Rattle.format_dns.specs.Header.{AreCounts, IsHeader, IsNumber}

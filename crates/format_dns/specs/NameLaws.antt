@@ -7,11 +7,11 @@ use Rattle.std.specs.declared.vec.Vec.{Vec}
 use Rattle.std.proofs.Common.{refl, sym, ap, subst, inl, inr, ◌∙◌, arith, length-append}
 use Rattle.std.proofs.Common.{append_assoc, length-drop}
 use Rattle.std.proofs.lemmas.List.{length-take-le, take-append-drop, take_all}
-use Rattle.winnow.specs.Equal.{same_some}
-use Rattle.winnow.specs.Range.{from_to}
-use Rattle.winnow.specs.Grammar.{Each, Gathered, Many}
-use Rattle.winnow.specs.Grammar.Lengths.{same_beginnings}
-use Rattle.winnow.specs.Grammar.Unique.{many_unique}
+use Rattle.streams.specs.Equal.{same_some}
+use Rattle.stream_sets.specs.Range.{from_to}
+use Rattle.grammars.specs.Grammar.{Each, Gathered, Many}
+use Rattle.grammars.specs.Grammar.Lengths.{same_beginnings}
+use Rattle.grammars.specs.Grammar.Unique.{many_unique}
 use Rattle.format_dns.specs.Names.{AreLabels, At, FaultBy, HasNoName, IsNameEnding, IsNoNameEnding}
 use Rattle.format_dns.specs.Names.{HasMore, IsLabel, IsName, IsPointer, IsRoot, Label, NameBy}
 use Rattle.format_dns.specs.Names.{NameWithin, NoEnding, octets}

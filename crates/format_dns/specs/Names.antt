@@ -3,8 +3,8 @@ use Rattle.std.specs.Prelude.{◌≡◌, ◌⊎◌, ◌≤◌, ◌<◌, ◌+◌,
 use Rattle.std.specs.Prelude.{[], ◌∷◌}
 use Rattle.std.specs.Prelude.{length, None, Result, Ok, Err, ⊤}
 use Rattle.std.specs.Borrow.{Bor}
-use Rattle.winnow.specs.Range.{from_to}
-use Rattle.winnow.specs.Grammar.{Each, Grammar, Many}
+use Rattle.stream_sets.specs.Range.{from_to}
+use Rattle.grammars.specs.Grammar.{Each, Grammar, Many}
 use Rattle.format_dns.specs.declared.name.Name.{Name}
 use Rattle.format_dns.specs.declared.fault.PartError.{PartError}
 use Rattle.format_dns.specs.declared.fault.PartError.TheVariants.{Ends, NoMemory, NotPrior}

@@ -1,9 +1,9 @@
 -- How many octets the labels of a name have.
 use Rattle.std.specs.Prelude.{◌≡◌, ◌≤◌, ◌+◌, ◌*◌, ◌++◌, ℕ, List, [], ◌∷◌, length}
 use Rattle.std.proofs.Common.{sym, ap, subst, inl, inr, ◌∙◌, arith, length-append}
-use Rattle.winnow.specs.Equal.{none_is_some, same_first, same_others}
-use Rattle.winnow.specs.Grammar.{Each, Many, NoMatch}
-use Rattle.winnow.specs.Grammar.Lengths.{same_beginnings}
+use Rattle.streams.specs.Equal.{none_is_some, same_first, same_others}
+use Rattle.grammars.specs.Grammar.{Each, Many, NoMatch}
+use Rattle.grammars.specs.Grammar.Lengths.{same_beginnings}
 use Rattle.format_dns.specs.Names.{AreLabels, IsLabel, Label, octets}
 
 pub octets_append : (here more : List Label) → octets (here ++ more) ≡ octets here + octets more

@@ -2,9 +2,9 @@
 use Rattle.std.specs.Prelude.{◌≡◌, ◌+◌, ◌-◌, ℕ, List, take, slice_range}
 use Rattle.std.specs.Int.{bytes_high_first}
 use Rattle.std.proofs.Common.{sym, ap, subst, inl, inr, ◌∙◌, arith}
-use Rattle.winnow.specs.Grammar.Lengths.{same_beginnings}
-use Rattle.winnow.specs.Integer.{value_of}
-use Rattle.winnow.specs.Integer.Written.{length_written, written_value}
+use Rattle.grammars.specs.Grammar.Lengths.{same_beginnings}
+use Rattle.winnow_integers.specs.Integer.{value_of}
+use Rattle.winnow_integers.specs.Integer.Written.{length_written, written_value}
 use Rattle.format_dns.specs.Data.{NoForm, form_in}
 use Rattle.format_dns.specs.DataLaws.{no_form}
 use Rattle.format_dns.specs.FieldLaws.{record_length}

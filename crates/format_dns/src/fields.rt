@@ -5,9 +5,10 @@ ghost use Rattle.std.specs.Prelude.{◌≤◌, length, IfOk, IsOk};
 
 use crate::fault::PartError;
 use crate::header::number;
-use winnow::Parser;
-use winnow::binary::impls::BeU32;
-use winnow::error::{EmptyError, ErrMode};
+use stream_errors::empty::EmptyError;
+use stream_errors::mode::ErrMode;
+use winnow_core::parser::Parser;
+use winnow_integers::binary::impls::BeU32;
 
 /// The fields of a record between its name and its data.
 #[derive(Clone, Copy)]

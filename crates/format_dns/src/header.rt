@@ -3,19 +3,24 @@
 #![tactic(auto)]
 
 ghost use Rattle.std.specs.Prelude.{◌≡◌, ◌⊎◌, ◌≤◌, ◌<◌, ◌+◌, ◌*◌, length, IfErr, IfOk, IsOk, ℕ};
-ghost use Rattle.winnow.specs.BitTake.{bit_take_count};
-ghost use Rattle.winnow.specs.Bytes.{bytes_input, bytes_reading};
-ghost use Rattle.winnow.specs.Following.{most_bytes};
-ghost use Rattle.winnow.specs.Input.{IsEndOf};
+ghost use Rattle.winnow_bits.specs.BitTake.{bit_take_count};
+ghost use Rattle.streams.specs.Bytes.{bytes_input, bytes_reading};
+ghost use Rattle.streams.specs.Following.{most_bytes};
+ghost use Rattle.streams.specs.Input.{IsEndOf};
 ghost use Rattle.format_dns.specs.Header.{AreCounts, HasNoHeader, HasTooMany, IsHeader, IsHighByte};
 ghost use Rattle.format_dns.specs.Header.{IsLowByte, IsNumber, LacksPart};
 
-use winnow::binary::bits::impls::{Bits, Bool, Take};
-use winnow::binary::bits::{bits, take};
-use winnow::binary::impls::BeU16;
-use winnow::error::{EmptyError, ErrMode, HasKind};
-use winnow::prelude::*;
-use winnow::stream::{ByteStream, Partial};
+use stream_errors::empty::EmptyError;
+use stream_errors::has_kind::HasKind;
+use stream_errors::mode::ErrMode;
+use stream_errors::parser_error::ParserError;
+use streams::byte_stream::ByteStream;
+use streams::partial::Partial;
+use streams::stream::StreamIsPartial;
+use winnow_bits::bits::impls::{Bits, Bool, Take};
+use winnow_bits::bits::{bits, take};
+use winnow_core::parser::Parser;
+use winnow_integers::binary::impls::BeU16;
 
 /// The header of a message.
 #[derive(Clone, Copy, Debug, PartialEq, Eq)]

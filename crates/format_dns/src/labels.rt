@@ -1,20 +1,25 @@
 //! Sequences of labels.
 ghost use Rattle.format_dns.specs.Names.{IsLabel, IsString};
 ghost use Rattle.std.specs.Prelude.{◌≡◌, Some};
-ghost use Rattle.winnow.specs.Claim.{CanRead};
-ghost use Rattle.winnow.specs.Range.{from_to};
-ghost use Rattle.winnow.specs.Bytes.{bytes_input, bytes_reading};
-ghost use Rattle.winnow.specs.Exact.{Reads};
-ghost use Rattle.winnow.specs.Grammar.{Counted, Gathered, Many};
-ghost use Rattle.winnow.specs.Grammar.Lengths.{SaysOne, Sized};
+ghost use Rattle.winnow_core.specs.Claim.{CanRead};
+ghost use Rattle.stream_sets.specs.Range.{from_to};
+ghost use Rattle.streams.specs.Bytes.{bytes_input, bytes_reading};
+ghost use Rattle.winnow_core.specs.Exact.{Reads};
+ghost use Rattle.grammars.specs.Grammar.{Counted, Gathered, Many};
+ghost use Rattle.grammars.specs.Grammar.Lengths.{SaysOne, Sized};
 
 use std::alloc::Allocator;
-use winnow::Parser;
-use winnow::binary::length_take;
-use winnow::combinator::repeat;
-use winnow::error::{EmptyError, ErrMode, HasKind, ParserError};
-use winnow::stream::{Range, StreamIsPartial, ToUsize};
-use winnow::token::one_of;
+use stream_errors::empty::EmptyError;
+use stream_errors::has_kind::HasKind;
+use stream_errors::mode::ErrMode;
+use stream_errors::parser_error::ParserError;
+use stream_sets::numbers::ToUsize;
+use stream_sets::range::Range;
+use streams::stream::StreamIsPartial;
+use winnow_binary::binary::length_take;
+use winnow_core::parser::Parser;
+use winnow_repeat::combinator::repeat;
+use winnow_token::token::one_of;
 
 /// Parses consecutive slices, each after its length, up to `most` of them.
 fn read_sized<I, E, N, P, A>(

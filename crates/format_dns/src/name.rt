@@ -1,6 +1,6 @@
 //! Names.
 ghost use Rattle.format_dns.specs.Names.{EndingResult, IsLabel, NameResult, NameWithin};
-ghost use Rattle.winnow.specs.Grammar.{NoMatch};
+ghost use Rattle.grammars.specs.Grammar.{NoMatch};
 
 use crate::fault::PartError;
 use crate::labels::read_labels;

@@ -11,7 +11,8 @@ use crate::fault::{MessageError, PartError, Section};
 use crate::header::number;
 use crate::name::{Name, read_name};
 use std::alloc::Allocator;
-use winnow::error::{EmptyError, ErrMode};
+use stream_errors::empty::EmptyError;
+use stream_errors::mode::ErrMode;
 
 /// A question of a message `'m`.
 #[derive(Drop)]

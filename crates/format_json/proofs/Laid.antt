@@ -16,9 +16,9 @@ use Rattle.format_json_writer.specs.Within.{IsWithin, within_among, within_first
 use Rattle.format_json_writer.specs.Within.{within_list, within_refl, within_second}
 use Rattle.format_json_writer.specs.Within.{within_spaced, within_then}
 use Rattle.format_parts.specs.Words.{Between, One, Slice, former, latter, pair}
-use Rattle.winnow.specs.Accumulator.Holds.{HasCharacters}
-use Rattle.winnow.specs.Texts.{BothText, EachText, GatheredText, InList}
-use Rattle.winnow.specs.Texts.{PartedText, Text}
+use Rattle.stream_sets.specs.Accumulator.Holds.{HasCharacters}
+use Rattle.grammars.specs.Texts.{BothText, EachText, GatheredText, InList}
+use Rattle.grammars.specs.Texts.{PartedText, Text}
 use Rattle.format_json.specs.declared.layout.Gap.TheVariants as gaps
 
 -- ---- it is a text by the standard

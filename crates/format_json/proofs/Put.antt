@@ -20,9 +20,9 @@ use Rattle.format_json_writer.specs.Added.{one_added}
 use Rattle.format_json_writer.specs.Compact.{CompactScalar, CompactString, CompactValue}
 use Rattle.format_json_writer.specs.Strings.{CanonicalString}
 use Rattle.format_parts.specs.Words.{For, Run, Slice, former, latter, pair}
-use Rattle.winnow.specs.AsChar.{IsMultispace}
-use Rattle.winnow.specs.Texts.{BothText, EachText, EitherText, GatheredText, InList, MadeText}
-use Rattle.winnow.specs.Texts.{PartedText, Text}
+use Rattle.stream_sets.specs.AsChar.{IsMultispace}
+use Rattle.grammars.specs.Texts.{BothText, EachText, EitherText, GatheredText, InList, MadeText}
+use Rattle.grammars.specs.Texts.{PartedText, Text}
 use Rattle.format_json.specs.declared.layout.Gap.TheVariants as gaps
 use Rattle.format_json_texts.specs.declared.value.Value as values
 

@@ -12,7 +12,7 @@ use Rattle.format_json_pieces.specs.Place.{IsPlace}
 use Rattle.format_json_pieces.specs.declared.expected.Expected.TheVariants.{NoDeeper}
 use Rattle.format_json_writer.specs.declared.error.WriteError.{WriteError}
 use Rattle.format_json_writer.specs.declared.error.WriteError.TheVariants as errors
-use Rattle.winnow.specs.Position.{IsPosition}
+use Rattle.text_positions.specs.Position.{IsPosition}
 
 -- The place is this byte, with the line and the column after the text before it.
 abbrev pub IsLocation : List ℕ → ℕ → Location → Type 0

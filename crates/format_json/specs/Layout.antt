@@ -9,7 +9,7 @@ use Rattle.format_json_texts.specs.Values.{GapText, IsArray, IsObject}
 use Rattle.format_json_texts.specs.declared.value.Value.{Value}
 use Rattle.format_json_writer.specs.Compact.{CompactScalar, CompactString}
 use Rattle.format_parts.specs.Words.{Between, For, One, Slice, former, latter, pair}
-use Rattle.winnow.specs.Texts.{BothText, EitherText, InList, PartedText, Text}
+use Rattle.grammars.specs.Texts.{BothText, EitherText, InList, PartedText, Text}
 
 -- ---- white space
 

@@ -12,7 +12,7 @@ use std::alloc::Allocator;
 use std::error::Error;
 use std::fmt::{Display, Formatter};
 use std::{fmt, str};
-use winnow::stream::position_in;
+use text_positions::excerpt::position_in;
 
 /// A place in a text.
 ///

@@ -5,15 +5,18 @@ ghost use Rattle.format_json_pieces.specs.Value.{InUtf8};
 ghost use Rattle.format_json_texts.specs.Values.{JsonText};
 ghost use Rattle.std.specs.Prelude.{◌≡◌, ◌⊎◌, IfErr, IfOk, IsTrue};
 ghost use Rattle.std.specs.Str.{chars};
-ghost use Rattle.winnow.specs.Accumulator.Holds.{HasCharacters};
-ghost use Rattle.winnow.specs.Exact.Whole.{IsWant};
+ghost use Rattle.stream_sets.specs.Accumulator.Holds.{HasCharacters};
+ghost use Rattle.winnow_core.specs.Exact.Whole.{IsWant};
 
 use crate::fault::{JsonError, error_of, fault_of_text};
 use format_json_pieces::value::parse_value_of_bytes;
 use format_json_texts::value::Value;
 use format_json_values::value::parse_value;
 use std::alloc::Allocator;
-use winnow::error::{EmptyError, ErrMode, ParseFault, ParserError};
+use stream_errors::empty::EmptyError;
+use stream_errors::fault::ParseFault;
+use stream_errors::mode::ErrMode;
+use stream_errors::parser_error::ParserError;
 
 /// Returns whether the error of a text is out of memory.
 fn text_wants_memory<'i>(fault: &ParseFault<&'i str, EmptyError>) -> bool

@@ -8,7 +8,7 @@ ghost use Rattle.format_json_writer.specs.Refused.{HasNoText, IsRefused};
 ghost use Rattle.format_json_writer.specs.declared.error.WriteError.{WriteError};
 ghost use Rattle.std.specs.Prelude.{◌≡◌, ◌⊎◌, IfErr, IfOk, string_bytes};
 ghost use Rattle.std.specs.Str.{chars};
-ghost use Rattle.winnow.specs.Accumulator.Holds.{HasCharacters};
+ghost use Rattle.stream_sets.specs.Accumulator.Holds.{HasCharacters};
 
 use crate::fault::JsonWriteError;
 use crate::layout::{Indent, write_pretty};

@@ -16,7 +16,7 @@ use Rattle.format_json_extents.specs.Strings.{IsUnit}
 use Rattle.format_json_texts.specs.Strings.{EscapeText, StandsFor, UnicodeText}
 use Rattle.format_parts.specs.Hexadecimal.{UnitText, one_unit, unit_of}
 use Rattle.format_parts.specs.Words.{Whichever}
-use Rattle.winnow.specs.Texts.{BothText as Both, EitherText, MadeText, Spelled}
+use Rattle.grammars.specs.Texts.{BothText as Both, EitherText, MadeText, Spelled}
 
 -- ---- lists of one length
 

@@ -10,9 +10,9 @@ use Rattle.std.proofs.lemmas.Str.{encodes-append}
 use Rattle.format_json_extents.proofs.Matching.{joined, one}
 use Rattle.format_json_extents.specs.Texts.{Either, IsByte, Maybe, Then}
 use Rattle.format_parts.specs.Words.{For, In, One, Run}
-use Rattle.winnow.specs.Text.{text_reading}
-use Rattle.winnow.specs.Texts.{BothText as Both, EitherText, MadeText, OptionalText, Spelled}
-use Rattle.winnow.specs.Texts.{TakenText, Text}
+use Rattle.streams.specs.Text.{text_reading}
+use Rattle.grammars.specs.Texts.{BothText as Both, EitherText, MadeText, OptionalText, Spelled}
+use Rattle.grammars.specs.Texts.{TakenText, Text}
 pub mod Brackets
 pub mod Escapes
 pub mod Numbers

@@ -3,7 +3,7 @@ use Rattle.std.specs.Prelude.{ℕ, List}
 use Rattle.std.specs.Str.{IsUtf8, chars}
 use Rattle.format_json_texts.specs.Values.{JsonText, ValueText}
 use Rattle.format_json_texts.specs.declared.value.Value.{Value}
-use Rattle.winnow.specs.Accumulator.Holds.{HasCharacters}
+use Rattle.stream_sets.specs.Accumulator.Holds.{HasCharacters}
 
 -- a value, whatever allocates its strings and lists
 abbrev pub AnyValue : Type 0

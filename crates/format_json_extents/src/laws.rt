@@ -8,7 +8,7 @@ ghost use Rattle.format_json_texts.specs.Values.{JsonText, ValueText};
 ghost use Rattle.format_json_texts.specs.declared.value.Value.{Value};
 ghost use Rattle.std.specs.Prelude.{◌<◌, ◌^◌, ◌↔◌, ℕ, List, length};
 ghost use Rattle.std.specs.Str.{IsUtf8, chars};
-ghost use Rattle.winnow.specs.Accumulator.Holds.{HasCharacters};
+ghost use Rattle.stream_sets.specs.Accumulator.Holds.{HasCharacters};
 
 use std::alloc::Allocator;
 

@@ -7,7 +7,7 @@ use Rattle.format_json_pieces.specs.Extent.{behind_plain, byte, escaped, open_be
 use Rattle.format_json_pieces.specs.Extent.{plain}
 use Rattle.format_json_pieces.specs.Extent.{quote, string}
 use Rattle.format_json_pieces.specs.General.{split_two}
-use Rattle.winnow.specs.Compare.{IsShort, StartsWithSpelling}
+use Rattle.stream_searches.specs.Compare.{IsShort, StartsWithSpelling}
 
 -- ---- in a string
 

@@ -2,8 +2,8 @@
 use Rattle.std.specs.Prelude.{◌≡◌, ◌⊎◌, ◌==◌, ◌&&◌, ◌||◌, ◌<◌, if◌then◌else◌, ℕ, Bool}
 use Rattle.std.specs.Prelude.{List, not, suc}
 use Rattle.std.specs.Prelude.{[], ◌∷◌, Option, Some, None, nat_le, length, ⊤}
-use Rattle.winnow.specs.Cut.{Asks}
-use Rattle.winnow.specs.Kind.{Kind, backtrack, memory}
+use Rattle.winnow_grammar.specs.Cut.{Asks}
+use Rattle.streams.specs.Kind.{Kind, backtrack, memory}
 use Rattle.format_json_pieces.specs.Inside.{expected, figure_behind, goes_on, is_final}
 use Rattle.format_json_pieces.specs.Inside.{letters_behind}
 use Rattle.format_json_pieces.specs.Inside.{part_behind}

@@ -16,11 +16,11 @@ use Rattle.format_json_pieces.specs.Extent.{Closes, EndsString, IsClosed, MayEnd
 use Rattle.format_json_pieces.specs.Front.{Place, count, number_front, shut, value_front}
 use Rattle.format_json_pieces.specs.General.{Adds, Coded, spelled_front}
 use Rattle.format_json_pieces.specs.Value.{InUtf8, IsNumeral, IsNumeric}
-use Rattle.winnow.specs.Accumulator.Holds.{HasCharacters}
-use Rattle.winnow.specs.AsChar.{IsMultispace}
-use Rattle.winnow.specs.Equal.{same_first}
-use Rattle.winnow.specs.Texts.{StartsWith, InFront, NotFirst, Spelled}
-use Rattle.winnow.specs.Texts.Fronts.{either_front}
+use Rattle.stream_sets.specs.Accumulator.Holds.{HasCharacters}
+use Rattle.stream_sets.specs.AsChar.{IsMultispace}
+use Rattle.streams.specs.Equal.{same_first}
+use Rattle.grammars.specs.Texts.{StartsWith, InFront, NotFirst, Spelled}
+use Rattle.grammars.specs.Texts.Fronts.{either_front}
 
 numeral_ascii : (c : ℕ) → IsNumeral c → c < 128
 numeral_ascii c is = grind (arith, is)

@@ -7,11 +7,11 @@ use Rattle.std.proofs.Common.{refl, sym, ap, subst, inl, inr, ◌∙◌, arith, 
 use Rattle.std.proofs.Common.{length-append}
 use Rattle.format_json_pieces.specs.Results.{Allows}
 use Rattle.format_json_pieces.specs.Value.{IsNumeral, IsNumeric}
-use Rattle.winnow.specs.Equal.{same_rest}
+use Rattle.streams.specs.Equal.{same_rest}
 use Rattle.format_json_pieces.specs.declared.extent.Lack.{Lack}
 use Rattle.format_json_pieces.specs.declared.extent.Lack.TheVariants as lacks
-use Rattle.winnow.specs.Grammar.{Grammar, NoMatch}
-use Rattle.winnow.specs.Texts.{StartsWith, NotFirst}
+use Rattle.grammars.specs.Grammar.{Grammar, NoMatch}
+use Rattle.grammars.specs.Texts.{StartsWith, NotFirst}
 
 -- ---- what ends where
 

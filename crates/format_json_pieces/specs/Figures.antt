@@ -2,10 +2,10 @@
 use Rattle.std.specs.Prelude.{◌≡◌, ◌⊎◌, ◌<◌, ℕ, true, List, ◌∷◌, ◌++◌, Some}
 use Rattle.std.proofs.Common.{arith, inl, inr, refl}
 use Rattle.std.proofs.lemmas.Bool.Decides.{nat_tests}
-use Rattle.winnow.specs.AsChar.{IsDecDigit}
-use Rattle.winnow.specs.Text.{text_reading}
-use Rattle.winnow.specs.Texts.{InFront, Text}
-use Rattle.winnow.specs.Texts.Fronts.{both_front, either_front, taken_front}
+use Rattle.stream_sets.specs.AsChar.{IsDecDigit}
+use Rattle.streams.specs.Text.{text_reading}
+use Rattle.grammars.specs.Texts.{InFront, Text}
+use Rattle.grammars.specs.Texts.Fronts.{both_front, either_front, taken_front}
 use Rattle.format_json_texts.specs.Number.{ExponentText, FractionText, IntegerText, IsLeading}
 use Rattle.format_json_texts.specs.Number.{NumberText}
 use Rattle.format_parts.specs.Words.{One, Run, latter, pair, to_four}

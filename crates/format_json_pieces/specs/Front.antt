@@ -5,7 +5,7 @@ use Rattle.std.specs.declared.string.String.{String}
 use Rattle.std.proofs.Common.{refl, sym, ap, subst, inl, inr, arith}
 use Rattle.std.proofs.lemmas.Bool.{ne_eqb}
 use Rattle.std.proofs.lemmas.List.Elements.{All-from_recursion}
-use Rattle.winnow.specs.AsChar.{IsDecDigit, IsMultispace}
+use Rattle.stream_sets.specs.AsChar.{IsDecDigit, IsMultispace}
 use Rattle.format_json_texts.specs.Number.{ExponentText, FractionText, IntegerText, IsLeading}
 use Rattle.format_json_texts.specs.Number.{NumberText}
 use Rattle.format_json_texts.specs.Strings.{ArePair, CharacterText}
@@ -24,10 +24,10 @@ use Rattle.format_json_pieces.specs.General.{each_adds}
 use Rattle.format_json_pieces.specs.General.{in_front, joined_front, one_front, run_front}
 use Rattle.format_json_pieces.specs.General.{spelled_front}
 use Rattle.format_json_pieces.specs.Value.{IsNumeral}
-use Rattle.winnow.specs.Text.{text_reading}
-use Rattle.winnow.specs.Texts.{BothText, InFront, InList, MadeText, PartedText, Spelled, Text}
-use Rattle.winnow.specs.Texts.Fronts.{both_front, each_front, either_front, gathered_front}
-use Rattle.winnow.specs.Texts.Fronts.{in_list_front, optional_front, taken_front}
+use Rattle.streams.specs.Text.{text_reading}
+use Rattle.grammars.specs.Texts.{BothText, InFront, InList, MadeText, PartedText, Spelled, Text}
+use Rattle.grammars.specs.Texts.Fronts.{both_front, each_front, either_front, gathered_front}
+use Rattle.grammars.specs.Texts.Fronts.{in_list_front, optional_front, taken_front}
 
 pub number_front : {tokens : List ℕ → Type 0} → Adds IsNumeral tokens
     → InFront NumberText tokens tokens

@@ -9,10 +9,10 @@ use Rattle.std.proofs.lemmas.List.{append-nil}
 use Rattle.std.proofs.lemmas.List.Elements.{All-from_recursion, All-tail, All-weaker}
 use Rattle.std.proofs.lemmas.Str.{encode_ascii}
 use Rattle.format_parts.specs.Words.{In, One, Run}
-use Rattle.winnow.specs.Equal.{same_first, same_others}
-use Rattle.winnow.specs.Texts.{InFront, NotFirst, PartedText, Spelled, Text}
-use Rattle.winnow.specs.Texts.Fronts.{both_front, each_front}
-use Rattle.winnow.specs.Utf8.{four_bytes, three_bytes, two_bytes}
+use Rattle.streams.specs.Equal.{same_first, same_others}
+use Rattle.grammars.specs.Texts.{InFront, NotFirst, PartedText, Spelled, Text}
+use Rattle.grammars.specs.Texts.Fronts.{both_front, each_front}
+use Rattle.streams.specs.Utf8.{four_bytes, three_bytes, two_bytes}
 
 -- ---- lists
 

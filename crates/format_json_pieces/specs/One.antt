@@ -15,9 +15,9 @@ use Rattle.format_json_texts.specs.Values.{AnyValue, ValueText}
 use Rattle.format_json_texts.specs.Values.Texts.{value_of}
 use Rattle.format_json_texts.specs.declared.value.Value.{Value}
 use Rattle.format_json_values.specs.Unique.{value_unique}
-use Rattle.winnow.specs.Grammar.{IsUnique}
-use Rattle.winnow.specs.Accumulator.Holds.{HasCharacters}
-use Rattle.winnow.specs.Texts.{NotFirst}
+use Rattle.grammars.specs.Grammar.{IsUnique}
+use Rattle.stream_sets.specs.Accumulator.Holds.{HasCharacters}
+use Rattle.grammars.specs.Texts.{NotFirst}
 
 module _ {A : Type 0} (level : ℕ) where
   -- a number does not go on to a longer one

@@ -11,14 +11,14 @@ use Rattle.std.proofs.lemmas.Bool.Decides.{nat_tests}
 use Rattle.std.proofs.lemmas.List.{append-nil}
 use Rattle.std.proofs.lemmas.List.Elements.{All-tail}
 use Rattle.std.proofs.lemmas.Str.{encode_ascii, encodes-chars, scalars-chars}
-use Rattle.winnow.specs.Accumulator.Holds.{HasCharacters}
-use Rattle.winnow.specs.AsChar.{IsMultispace}
-use Rattle.winnow.specs.Cut.{Asks}
-use Rattle.winnow.specs.Equal.{true_is_false}
-use Rattle.winnow.specs.Kind.{Kind, incomplete}
-use Rattle.winnow.specs.Grammar.{NoMatch}
-use Rattle.winnow.specs.Texts.{StartsWith, BothText, InFront, InList, PartedText, Text}
-use Rattle.winnow.specs.Texts.Fronts.{both_front, either_front, in_list_front}
+use Rattle.stream_sets.specs.Accumulator.Holds.{HasCharacters}
+use Rattle.stream_sets.specs.AsChar.{IsMultispace}
+use Rattle.winnow_grammar.specs.Cut.{Asks}
+use Rattle.streams.specs.Equal.{true_is_false}
+use Rattle.streams.specs.Kind.{Kind, incomplete}
+use Rattle.grammars.specs.Grammar.{NoMatch}
+use Rattle.grammars.specs.Texts.{StartsWith, BothText, InFront, InList, PartedText, Text}
+use Rattle.grammars.specs.Texts.Fronts.{both_front, either_front, in_list_front}
 use Rattle.format_json_texts.specs.Values.{ArrayText, HasText, IsArray, IsNumber, IsObject}
 use Rattle.format_json_texts.specs.Values.{IsString, IsWord, Mark, ObjectText, ScalarText}
 use Rattle.format_json_texts.specs.Values.{JsonText, ValueText}

@@ -22,13 +22,13 @@ use Rattle.format_json_texts.specs.Values.{AnyValue, ValueText}
 use Rattle.format_json_texts.specs.Values.Texts.{value_of}
 use Rattle.format_json_values.specs.Unique.{value_unique}
 use Rattle.format_json_texts.specs.declared.value.Value.{Value}
-use Rattle.winnow.specs.AsChar.{IsMultispace}
-use Rattle.winnow.specs.Kind.{Kind}
-use Rattle.winnow.specs.Utf8.{chars_all}
-use Rattle.winnow.specs.Grammar.{Grammar, NoMatch}
-use Rattle.winnow.specs.Accumulator.Holds.{HasCharacters}
-use Rattle.winnow.specs.Texts.{StartsWith, NotFirst}
-use Rattle.winnow.specs.Texts.Fronts.{begins_never, not_first}
+use Rattle.stream_sets.specs.AsChar.{IsMultispace}
+use Rattle.streams.specs.Kind.{Kind}
+use Rattle.streams.specs.Utf8.{chars_all}
+use Rattle.grammars.specs.Grammar.{Grammar, NoMatch}
+use Rattle.stream_sets.specs.Accumulator.Holds.{HasCharacters}
+use Rattle.grammars.specs.Texts.{StartsWith, NotFirst}
+use Rattle.grammars.specs.Texts.Fronts.{begins_never, not_first}
 
 -- ---- matches in the bytes are matches in the text
 

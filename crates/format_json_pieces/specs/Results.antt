@@ -4,17 +4,18 @@ use Rattle.std.specs.Str.{IsUtf8, chars}
 use Rattle.std.proofs.Common.{refl, sym, subst, inl, inr, ◌∙◌}
 use Rattle.std.proofs.lemmas.List.{append-nil}
 use Rattle.format_json_pieces.specs.Value.{InUtf8}
-use Rattle.winnow.specs.{Needed, ParseFault}
-use Rattle.winnow.specs.Bytes.{bytes_follow, bytes_input, bytes_reading}
-use Rattle.winnow.specs.Equal.{true_is_false}
-use Rattle.winnow.specs.Input.{Input, is_end_of_refl}
-use Rattle.winnow.specs.Kind.{Kind, backtrack, memory}
-use Rattle.winnow.specs.Partial.{with_flag}
-use Rattle.winnow.specs.Cut.{Asks, ReadsOrAsks}
-use Rattle.winnow.specs.Exact.Whole.{IsNotIncomplete, IsWant}
-use Rattle.winnow.specs.Grammar.{Grammar, NoMatch}
-use Rattle.winnow.specs.Texts.{Text}
-use Rattle.winnow.specs.Told.{IsTextOf}
+use Rattle.streams.specs.declared.needed.Needed.{Needed}
+use Rattle.stream_errors.specs.declared.fault.ParseFault.{ParseFault}
+use Rattle.streams.specs.Bytes.{bytes_follow, bytes_input, bytes_reading}
+use Rattle.streams.specs.Equal.{true_is_false}
+use Rattle.streams.specs.Input.{Input, is_end_of_refl}
+use Rattle.streams.specs.Kind.{Kind, backtrack, memory}
+use Rattle.streams.specs.Partial.{with_flag}
+use Rattle.winnow_grammar.specs.Cut.{Asks, ReadsOrAsks}
+use Rattle.winnow_core.specs.Exact.Whole.{IsNotIncomplete, IsWant}
+use Rattle.grammars.specs.Grammar.{Grammar, NoMatch}
+use Rattle.grammars.specs.Texts.{Text}
+use Rattle.winnow_grammar.specs.Told.{IsTextOf}
 
 -- more may come after the bytes only where they are cut
 abbrev pub Allows : Bool → List ℕ → Type 0

@@ -8,8 +8,8 @@ use Rattle.std.proofs.lemmas.List.Elements.{All-tail}
 use Rattle.std.proofs.lemmas.Str.{encode_ascii}
 use Rattle.format_json_pieces.specs.General.{spelled_front}
 use Rattle.format_parts.specs.Words.{In, One, Run}
-use Rattle.winnow.specs.Texts.{InFront, OptionalText, PartedText, Text}
-use Rattle.winnow.specs.Texts.Fronts.{both_front, each_front}
+use Rattle.grammars.specs.Texts.{InFront, OptionalText, PartedText, Text}
+use Rattle.grammars.specs.Texts.Fronts.{both_front, each_front}
 
 pub both_true : (a b : Bool) → (a && b) ≡ true → (a ≡ true) × (b ≡ true)
 both_true true b h = (refl, h)

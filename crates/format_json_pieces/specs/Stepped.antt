@@ -5,10 +5,10 @@ use Rattle.std.specs.Prelude.{if◌then◌else◌}
 use Rattle.std.specs.Str.{encode_utf8_all}
 use Rattle.std.proofs.Common.{arith, inl, inr, refl, subst, sym}
 use Rattle.std.proofs.lemmas.Bool.Decides.{nat_tests}
-use Rattle.winnow.specs.AsChar.{IsMultispace}
-use Rattle.winnow.specs.Equal.{true_is_false}
-use Rattle.winnow.specs.Texts.{StartsWith, InFront, NotFirst}
-use Rattle.winnow.specs.Texts.Fronts.{either_front}
+use Rattle.stream_sets.specs.AsChar.{IsMultispace}
+use Rattle.streams.specs.Equal.{true_is_false}
+use Rattle.grammars.specs.Texts.{StartsWith, InFront, NotFirst}
+use Rattle.grammars.specs.Texts.Fronts.{either_front}
 use Rattle.format_json_texts.specs.Number.{ContinuesNumber, IsLeading, NumberText, number_begins}
 use Rattle.format_json_texts.specs.Values.{GapText}
 use Rattle.format_json_texts.specs.Values.{WordText}

@@ -7,9 +7,9 @@ use Rattle.std.specs.Str.{all_scalars, encode_utf8_all}
 use Rattle.std.proofs.Common.{refl, sym, ap, subst, inl, inr, ◌∙◌, arith, append_assoc}
 use Rattle.std.proofs.lemmas.Bool.{cases_lt}
 use Rattle.std.proofs.lemmas.Bool.Decides.{nat_tests}
-use Rattle.winnow.specs.Texts.{BothText, InFront, MadeText}
-use Rattle.winnow.specs.Texts.Fronts.{both_front, each_front, either_front, gathered_front}
-use Rattle.winnow.specs.Utf8.{four_bytes, three_bytes, two_bytes}
+use Rattle.grammars.specs.Texts.{BothText, InFront, MadeText}
+use Rattle.grammars.specs.Texts.Fronts.{both_front, each_front, either_front, gathered_front}
+use Rattle.streams.specs.Utf8.{four_bytes, three_bytes, two_bytes}
 use Rattle.format_json_texts.specs.Strings.{ArePair, CharacterText, EscapeText}
 use Rattle.format_parts.specs.Hexadecimal.{IsAlone, IsHex, UnitText}
 use Rattle.format_parts.specs.Words.{For, In, One, Whichever, former, latter, pair}

@@ -4,16 +4,17 @@ use Rattle.std.specs.List.{All}
 use Rattle.std.specs.Str.{IsUtf8, chars}
 use Rattle.std.proofs.Common.{refl, sym, ap, ◌∙◌, append_assoc}
 use Rattle.std.proofs.lemmas.List.{append-nil}
-use Rattle.winnow.specs.Fault.{refused_inner, refused_offset}
-use Rattle.winnow.specs.{Needed, ParseFault}
-use Rattle.winnow.specs.ParseFaultCases.{Incomplete, Invalid}
-use Rattle.winnow.specs.AsChar.{IsDecDigit, IsMultispace}
+use Rattle.stream_errors.specs.Fault.{refused_inner, refused_offset}
+use Rattle.streams.specs.declared.needed.Needed.{Needed}
+use Rattle.stream_errors.specs.declared.fault.ParseFault.{ParseFault}
+use Rattle.stream_errors.specs.declared.fault.ParseFault.TheVariants.{Incomplete, Invalid}
+use Rattle.stream_sets.specs.AsChar.{IsDecDigit, IsMultispace}
 use Rattle.format_json_texts.specs.Number.{ContinuesNumber}
 use Rattle.format_json_texts.specs.Values.{ValueText}
 use Rattle.format_json_texts.specs.declared.value.Value.{Value}
-use Rattle.winnow.specs.Grammar.{Grammar}
-use Rattle.winnow.specs.Accumulator.Holds.{HasCharacters}
-use Rattle.winnow.specs.Texts.{StartsWith, IsGrammarOf, NotFirst, Text}
+use Rattle.grammars.specs.Grammar.{Grammar}
+use Rattle.stream_sets.specs.Accumulator.Holds.{HasCharacters}
+use Rattle.grammars.specs.Texts.{StartsWith, IsGrammarOf, NotFirst, Text}
 
 -- `InUtf8 text o bytes`: `bytes` is UTF-8, and its characters encode `o` by `text`.
 unfoldable pub InUtf8 : {O : Type 0} → Text ℕ O → Text ℕ O

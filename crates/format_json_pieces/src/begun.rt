@@ -15,7 +15,11 @@ use crate::inside::{
     part_behind,
 };
 use std::alloc::{AllocError, Allocator};
-use winnow::error::{EmptyError, ErrMode, HasKind, Needed, ParserError};
+use stream_errors::empty::EmptyError;
+use stream_errors::has_kind::HasKind;
+use stream_errors::mode::ErrMode;
+use stream_errors::parser_error::ParserError;
+use streams::needed::Needed;
 
 /// A bracket that is open.
 #[derive(Clone, Copy, Drop)]

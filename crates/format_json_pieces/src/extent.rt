@@ -11,9 +11,9 @@ ghost use Rattle.format_json_pieces.specs.declared.extent.Lack.TheVariants as la
 ghost use Rattle.std.specs.List.{All};
 ghost use Rattle.std.specs.Prelude.{◌≡◌, ◌↔◌, ◌<◌, ◌≤◌, ◌+◌, ◌^◌, ◌++◌, ℕ, List};
 ghost use Rattle.std.specs.Prelude.{IfErr, IfOk, IfSome, IsTrue, None, true};
-ghost use Rattle.winnow.specs.Texts.{NotFirst};
+ghost use Rattle.grammars.specs.Texts.{NotFirst};
 
-use winnow::stream::{Compare, CompareResult};
+use stream_searches::compare::{Compare, CompareResult};
 
 /// Why no text was found.
 #[derive(Clone, Copy, Drop)]

@@ -6,7 +6,7 @@ ghost use Rattle.format_json_pieces.specs.declared.expected.Expected.TheVariants
 ghost use Rattle.format_json_texts.specs.Values.{JsonText};
 ghost use Rattle.format_json_texts.specs.declared.value.Value.{Value};
 ghost use Rattle.std.specs.Prelude.{◌≡◌, ◌++◌, ℕ, List, IfOk, length};
-ghost use Rattle.winnow.specs.Accumulator.Holds.{HasCharacters};
+ghost use Rattle.stream_sets.specs.Accumulator.Holds.{HasCharacters};
 
 use crate::begun::{Bracket, Mode, Step, next_step};
 use crate::expected::{Expected, wanted};

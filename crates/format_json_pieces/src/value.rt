@@ -11,14 +11,14 @@ ghost use Rattle.std.specs.Prelude.{◌≡◌, ◌≤◌, ◌↔◌, ◌++◌, �
 ghost use Rattle.std.specs.Prelude.{IsTrue, Some};
 ghost use Rattle.std.specs.Str.{IsUtf8, chars};
 ghost use Rattle.std.specs.Str.Lossy.{utf8_valid_len};
-ghost use Rattle.winnow.specs.AsChar.{IsMultispace};
-ghost use Rattle.winnow.specs.Bytes.{bytes_follow, bytes_reading};
-ghost use Rattle.winnow.specs.Cut.{Asks, ReadsOrAsks};
-ghost use Rattle.winnow.specs.Exact.Whole.{IsNotIncomplete, IsWant};
-ghost use Rattle.winnow.specs.Grammar.{IsUnique};
-ghost use Rattle.winnow.specs.Accumulator.Holds.{HasCharacters};
-ghost use Rattle.winnow.specs.Texts.{StartsWith, IsGrammarOf, NotFirst};
-ghost use Rattle.winnow.specs.Told.{IsTextOf};
+ghost use Rattle.stream_sets.specs.AsChar.{IsMultispace};
+ghost use Rattle.streams.specs.Bytes.{bytes_follow, bytes_reading};
+ghost use Rattle.winnow_grammar.specs.Cut.{Asks, ReadsOrAsks};
+ghost use Rattle.winnow_core.specs.Exact.Whole.{IsNotIncomplete, IsWant};
+ghost use Rattle.grammars.specs.Grammar.{IsUnique};
+ghost use Rattle.stream_sets.specs.Accumulator.Holds.{HasCharacters};
+ghost use Rattle.grammars.specs.Texts.{StartsWith, IsGrammarOf, NotFirst};
+ghost use Rattle.winnow_grammar.specs.Told.{IsTextOf};
 
 use crate::begun::lacking;
 use crate::extent::{Lack, text_of};
@@ -26,8 +26,14 @@ use format_json_texts::value::Value;
 use format_json_values::value::{parse_value, read_value};
 use std::alloc::Allocator;
 use std::str;
-use winnow::error::{EmptyError, ErrMode, HasKind, Needed, ParseError, ParseFault, ParserError};
-use winnow::stream::{Partial, Stream, StreamIsPartial};
+use stream_errors::empty::EmptyError;
+use stream_errors::fault::{ParseError, ParseFault};
+use stream_errors::has_kind::HasKind;
+use stream_errors::mode::ErrMode;
+use stream_errors::parser_error::ParserError;
+use streams::needed::Needed;
+use streams::partial::Partial;
+use streams::stream::{Stream, StreamIsPartial};
 
 /// Returns whether the text starts with a character that can continue a number.
 fn goes_on(text: &str) -> bool

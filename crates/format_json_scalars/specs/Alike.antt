@@ -6,20 +6,20 @@ use Rattle.std.specs.Range.{range_inclusive_end, range_inclusive_start}
 use Rattle.std.specs.Str.{chars, encode_utf8_all}
 use Rattle.std.specs.declared.ops.RangeInclusive.{RangeInclusive}
 use Rattle.std.proofs.Common.{refl, sym, ap, ◌∙◌, arith}
-use Rattle.winnow.specs.Equal.{none_is_some, same_some}
-use Rattle.winnow.specs.Input.{Input}
-use Rattle.winnow.specs.Kind.{Kind, memory}
-use Rattle.winnow.specs.Text.{text_reading}
-use Rattle.winnow.specs.Growth.{grown}
-use Rattle.winnow.specs.Sets.{InEither}
+use Rattle.streams.specs.Equal.{none_is_some, same_some}
+use Rattle.streams.specs.Input.{Input}
+use Rattle.streams.specs.Kind.{Kind, memory}
+use Rattle.streams.specs.Text.{text_reading}
+use Rattle.stream_errors.specs.Growth.{grown}
+use Rattle.stream_sets.specs.Sets.{InEither}
 use Rattle.format_parts.specs.Words.{OneIn, Slice, Word}
 use Rattle.format_json_texts.specs.Values.{HasText}
-use Rattle.winnow.specs.Exact.{Reads}
-use Rattle.winnow.specs.Read.{err_as, ok_as, reads_meaning, reads_wanting}
-use Rattle.winnow.specs.Grammar.Same.{Same}
-use Rattle.winnow.specs.Grammar.{Both, Grammar, Literally, Made, Taken, Three, TokenOf}
-use Rattle.winnow.specs.Grammar.Tuples.{Four}
-use Rattle.winnow.specs.Grammar.Meaning.{Meaning}
+use Rattle.winnow_core.specs.Exact.{Reads}
+use Rattle.winnow_grammar.specs.Read.{err_as, ok_as, reads_meaning, reads_wanting}
+use Rattle.grammars.specs.Grammar.Same.{Same}
+use Rattle.grammars.specs.Grammar.{Both, Grammar, Literally, Made, Taken, Three, TokenOf}
+use Rattle.grammars.specs.Grammar.Tuples.{Four}
+use Rattle.grammars.specs.Grammar.Meaning.{Meaning}
 
 -- a character of a set, where the set is a class
 pub class_same : {X : Type 0} (tells : X → ℕ → Bool → Type 0) (set : X) (class : ℕ → Type 0)

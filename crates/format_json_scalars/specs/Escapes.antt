@@ -4,20 +4,20 @@ use Rattle.std.proofs.Common.{inl}
 use Rattle.format_parts.specs.Hexadecimal.{CodeUnit}
 use Rattle.format_parts.specs.Unique.{char_takes, char_unique}
 use Rattle.format_parts.specs.Words.{Char, latter, pair}
-use Rattle.winnow.specs.Range.{from_to}
+use Rattle.stream_sets.specs.Range.{from_to}
 use Rattle.format_json_texts.specs.Strings.{ArePair, Character, Escape}
 use Rattle.format_json_texts.specs.Strings.{IsUnescaped, Quoted, StandsFor}
 use Rattle.format_json_texts.specs.Strings.{Unicode}
-use Rattle.winnow.specs.Any.Laws.{token_takes}
-use Rattle.winnow.specs.Grammar.{Both, Gathered, Grammar, InClass, IsUnique, Many, TakesTokens}
-use Rattle.winnow.specs.Grammar.{Token}
-use Rattle.winnow.specs.Grammar.Meaning.{Meaning, meaning_takes, meaning_unique}
-use Rattle.winnow.specs.Grammar.Outputs.{IsAlike, both_alike, second_alike}
-use Rattle.winnow.specs.Grammar.Sequences.{three_take, three_unique}
-use Rattle.winnow.specs.Grammar.Unique.{both_take, both_unique, either_takes, either_unique}
-use Rattle.winnow.specs.Grammar.Unique.{gathered_unique, many_unique, token_of_unique}
-use Rattle.winnow.specs.Grammar.Unique.{token_unique}
-use Rattle.winnow.specs.Accumulator.Holds.{HasCharacters}
+use Rattle.winnow_token.specs.Any.Laws.{token_takes}
+use Rattle.grammars.specs.Grammar.{Both, Gathered, Grammar, InClass, IsUnique, Many, TakesTokens}
+use Rattle.grammars.specs.Grammar.{Token}
+use Rattle.grammars.specs.Grammar.Meaning.{Meaning, meaning_takes, meaning_unique}
+use Rattle.grammars.specs.Grammar.Outputs.{IsAlike, both_alike, second_alike}
+use Rattle.grammars.specs.Grammar.Sequences.{three_take, three_unique}
+use Rattle.grammars.specs.Grammar.Unique.{both_take, both_unique, either_takes, either_unique}
+use Rattle.grammars.specs.Grammar.Unique.{gathered_unique, many_unique, token_of_unique}
+use Rattle.grammars.specs.Grammar.Unique.{token_unique}
+use Rattle.stream_sets.specs.Accumulator.Holds.{HasCharacters}
 use Rattle.format_parts.specs.Hexadecimal.{alone_takes, alone_unique, unit_one, unit_takes}
 use Rattle.format_parts.specs.Hexadecimal.{unit_unique}
 

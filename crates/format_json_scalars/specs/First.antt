@@ -3,10 +3,10 @@ use Rattle.std.specs.Prelude.{◌≡◌, ◌⊎◌, ◌<◌, ℕ, List, [], ◌�
 use Rattle.std.specs.Prelude.{Bool, false, true}
 use Rattle.std.proofs.Common.{arith, inl, inr, refl, subst}
 use Rattle.std.specs.Str.{chars}
-use Rattle.winnow.specs.Input.{Input}
-use Rattle.winnow.specs.Kind.{Kind}
-use Rattle.winnow.specs.Text.{text_reading}
-use Rattle.winnow.specs.AsChar.{IsDecDigit}
+use Rattle.streams.specs.Input.{Input}
+use Rattle.streams.specs.Kind.{Kind}
+use Rattle.streams.specs.Text.{text_reading}
+use Rattle.stream_sets.specs.AsChar.{IsDecDigit}
 use Rattle.format_json_texts.specs.Number.{ContinuesNumber, Number, number_begins, number_of}
 use Rattle.format_json_texts.specs.Strings.{Quoted, string_begins, string_of}
 use Rattle.format_json_texts.specs.Values.{AnyValue, AnyWord, HasText, IsNumber, IsString, IsWord}
@@ -15,13 +15,13 @@ use Rattle.format_json_texts.specs.Values.{ScalarText, ValueText}
 use Rattle.format_json_texts.specs.Values.Texts.{value_of}
 use Rattle.format_parts.specs.Words.{Word}
 use Rattle.format_json_texts.specs.declared.value.Value.{Value}
-use Rattle.winnow.specs.Exact.{Reads}
-use Rattle.winnow.specs.Read.{neither_stands, reads_former, reads_other}
-use Rattle.winnow.specs.Grammar.{NoMatch}
-use Rattle.winnow.specs.Grammar.Meaning.{Meaning, none_means}
-use Rattle.winnow.specs.Accumulator.Holds.{HasCharacters}
-use Rattle.winnow.specs.Texts.{StartsWith, IsGrammarOf, NotFirst}
-use Rattle.winnow.specs.Texts.Fronts.{may_begin, none_begins}
+use Rattle.winnow_core.specs.Exact.{Reads}
+use Rattle.winnow_grammar.specs.Read.{neither_stands, reads_former, reads_other}
+use Rattle.grammars.specs.Grammar.{NoMatch}
+use Rattle.grammars.specs.Grammar.Meaning.{Meaning, none_means}
+use Rattle.stream_sets.specs.Accumulator.Holds.{HasCharacters}
+use Rattle.grammars.specs.Texts.{StartsWith, IsGrammarOf, NotFirst}
+use Rattle.grammars.specs.Texts.Fronts.{may_begin, none_begins}
 
 -- what a number begins with
 abbrev pub IsNumeric : ℕ → Type 0

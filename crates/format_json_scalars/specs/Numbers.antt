@@ -1,25 +1,25 @@
 -- The parts of numbers: what they read, and that it is one, and takes characters.
 use Rattle.std.specs.Prelude.{ℕ, ◌↔◌}
 use Rattle.std.proofs.Common.{inl, inr, refl}
-use Rattle.winnow.specs.Text.{text_reading}
-use Rattle.winnow.specs.AsChar.{IsDecDigit}
+use Rattle.streams.specs.Text.{text_reading}
+use Rattle.stream_sets.specs.AsChar.{IsDecDigit}
 use Rattle.format_json_scalars.specs.Alike.{class_same, four_second, taken_same}
 use Rattle.format_parts.specs.Unique.{char_takes, char_unique, run_unique}
 use Rattle.format_parts.specs.Words.{Char, RunOf, latter, pair}
 use Rattle.format_json_scalars.specs.declared.number.LeadingDigits.{LeadingDigits}
 use Rattle.format_json_texts.specs.Number as texts
 use Rattle.format_json_texts.specs.Number.{IsLeading}
-use Rattle.winnow.specs.Exact.Adapters.{taken_takes}
-use Rattle.winnow.specs.OneOf.Laws.{token_of_takes}
-use Rattle.winnow.specs.Grammar.{Both, Class, Either, Grammar, InClass, IsUnique, Optional, Taken}
-use Rattle.winnow.specs.Grammar.{TakesTokens, TokenOf}
-use Rattle.winnow.specs.Grammar.Alike.{both_same, either_same}
-use Rattle.winnow.specs.Grammar.Same.{Same, same_refl}
-use Rattle.winnow.specs.Grammar.Tuples.{Four}
-use Rattle.winnow.specs.Reading.{Reading}
-use Rattle.winnow.specs.Grammar.Sequences.{four_take, four_unique}
-use Rattle.winnow.specs.Grammar.Unique.{both_take, both_unique, either_takes, either_unique}
-use Rattle.winnow.specs.Grammar.Unique.{optional_unique, taken_unique, token_of_unique}
+use Rattle.winnow_core.specs.Exact.Adapters.{taken_takes}
+use Rattle.winnow_token.specs.OneOf.Laws.{token_of_takes}
+use Rattle.grammars.specs.Grammar.{Both, Class, Either, Grammar, InClass, IsUnique, Optional, Taken}
+use Rattle.grammars.specs.Grammar.{TakesTokens, TokenOf}
+use Rattle.grammars.specs.Grammar.Alike.{both_same, either_same}
+use Rattle.grammars.specs.Grammar.Same.{Same, same_refl}
+use Rattle.grammars.specs.Grammar.Tuples.{Four}
+use Rattle.streams.specs.Reading.{Reading}
+use Rattle.grammars.specs.Grammar.Sequences.{four_take, four_unique}
+use Rattle.grammars.specs.Grammar.Unique.{both_take, both_unique, either_takes, either_unique}
+use Rattle.grammars.specs.Grammar.Unique.{optional_unique, taken_unique, token_of_unique}
 
 pub integer_unique : IsUnique texts.Integer
 integer_unique =

@@ -11,26 +11,26 @@ use Rattle.std.proofs.Common.{refl, sym, ap, subst, inl, inr, ◌∙◌, arith}
 use Rattle.std.proofs.lemmas.Bool.{cases_lt}
 use Rattle.std.proofs.lemmas.List.{append-nil}
 use Rattle.std.proofs.lemmas.Str.{encodes-append}
-use Rattle.winnow.specs.Equal.{true_is_false}
-use Rattle.winnow.specs.Input.{IsEndOf}
-use Rattle.winnow.specs.Kind.{Kind, memory}
-use Rattle.winnow.specs.Text.{text_input, text_reading}
-use Rattle.winnow.specs.Range.{from_to}
-use Rattle.winnow.specs.Sets.{InEither}
+use Rattle.streams.specs.Equal.{true_is_false}
+use Rattle.streams.specs.Input.{IsEndOf}
+use Rattle.streams.specs.Kind.{Kind, memory}
+use Rattle.streams.specs.Text.{text_input, text_reading}
+use Rattle.stream_sets.specs.Range.{from_to}
+use Rattle.stream_sets.specs.Sets.{InEither}
 use Rattle.format_json_scalars.specs.Alike.{RangeTells, RangesTell, range_told}
 use Rattle.format_json_scalars.specs.Escapes.{escape_takes}
 use Rattle.format_json_texts.specs.Strings.{Character, Escape, IsUnescaped}
 use Rattle.format_parts.specs.Words.{OneIn}
-use Rattle.winnow.specs.Exact.{Reads}
-use Rattle.winnow.specs.Read.{neither_stands}
-use Rattle.winnow.specs.Grammar.Same.{Same}
-use Rattle.winnow.specs.Grammar.{Each, Either, Gathered, Grammar, Longest, Many}
-use Rattle.winnow.specs.Grammar.{NoMatch, TokenOf}
-use Rattle.winnow.specs.RunByRun as runs
-use Rattle.winnow.specs.RunByRun.{RunOf, each_behind, each_one, run_takes}
-use Rattle.winnow.specs.Accumulator.Holds.{HasCharacters}
-use Rattle.winnow.specs.Texts.{Divides, NotFirst}
-use Rattle.winnow.specs.Texts.Tokens.{divides_as, divides_either, divides_seen}
+use Rattle.winnow_core.specs.Exact.{Reads}
+use Rattle.winnow_grammar.specs.Read.{neither_stands}
+use Rattle.grammars.specs.Grammar.Same.{Same}
+use Rattle.grammars.specs.Grammar.{Each, Either, Gathered, Grammar, Longest, Many}
+use Rattle.grammars.specs.Grammar.{NoMatch, TokenOf}
+use Rattle.winnow_grammar.specs.RunByRun as runs
+use Rattle.winnow_grammar.specs.RunByRun.{RunOf, each_behind, each_one, run_takes}
+use Rattle.stream_sets.specs.Accumulator.Holds.{HasCharacters}
+use Rattle.grammars.specs.Texts.{Divides, NotFirst}
+use Rattle.grammars.specs.Texts.Tokens.{divides_as, divides_either, divides_seen}
 
 -- zero or more characters, held by a string
 abbrev pub Characters : {A : Type 0} → Grammar ℕ (String A)

@@ -7,18 +7,20 @@ ghost use Rattle.format_json_scalars.specs.Escapes.{short_unique, unicode_takes,
 ghost use Rattle.format_json_texts.specs.Strings.{ArePair, Escape, StandsFor};
 ghost use Rattle.format_json_texts.specs.Strings.{Unicode};
 ghost use Rattle.std.specs.Prelude.{◌≡◌, ℕ, ⊤, MatchOption};
-ghost use Rattle.winnow.specs.Text.{text_input, text_reading};
-ghost use Rattle.winnow.specs.Exact.{Reads};
-ghost use Rattle.winnow.specs.Grammar.{Token};
-ghost use Rattle.winnow.specs.Grammar.Meaning.{Meaning};
+ghost use Rattle.streams.specs.Text.{text_input, text_reading};
+ghost use Rattle.winnow_core.specs.Exact.{Reads};
+ghost use Rattle.grammars.specs.Grammar.{Token};
+ghost use Rattle.grammars.specs.Grammar.Meaning.{Meaning};
 
 use crate::parts::{read_either, read_escape_of};
 use crate::units::{TwoUnits, read_units};
 use format_parts::hexadecimal::{Unit, read_unit};
-use winnow::Parser;
-use winnow::error::{EmptyError, ErrMode, HasKind};
-use winnow::exact::Rule;
-use winnow::token::impls::Any;
+use stream_errors::empty::EmptyError;
+use stream_errors::has_kind::HasKind;
+use stream_errors::mode::ErrMode;
+use winnow_core::parser::Parser;
+use winnow_grammar::rule::Rule;
+use winnow_token::token::impls::Any;
 
 /// The character that a unit is by itself: none if it is a surrogate.
 fn alone(unit: u32) -> Option<char>

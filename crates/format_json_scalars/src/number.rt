@@ -2,19 +2,25 @@
 ghost use Rattle.format_json_scalars.specs.Numbers.{NumberOf};
 ghost use Rattle.format_json_texts.specs.Number.{ContinuesNumber, IsLeading, Number, NumberText};
 ghost use Rattle.std.specs.Prelude.{◌≡◌};
-ghost use Rattle.winnow.specs.Class.Says.{CharIsFunction};
-ghost use Rattle.winnow.specs.Exact.{IsSpared, Reads};
-ghost use Rattle.winnow.specs.Grammar.{InClass, Literally};
-ghost use Rattle.winnow.specs.Text.{text_input, text_reading};
-ghost use Rattle.winnow.specs.Texts.{NotFirst};
-ghost use Rattle.winnow.specs.Told.{ReadsText};
+ghost use Rattle.winnow_ascii.specs.Class.Says.{CharIsFunction};
+ghost use Rattle.winnow_core.specs.Exact.{IsSpared, Reads};
+ghost use Rattle.grammars.specs.Grammar.{InClass, Literally};
+ghost use Rattle.streams.specs.Text.{text_input, text_reading};
+ghost use Rattle.grammars.specs.Texts.{NotFirst};
+ghost use Rattle.winnow_grammar.specs.Told.{ReadsText};
 
-use winnow::Parser;
-use winnow::ascii::impls::{Digit0, Digit1};
-use winnow::combinator::{alt, opt, preceded};
-use winnow::error::{EmptyError, ErrMode, HasKind, ParserError};
-use winnow::stream::{AsChar, Compare, ContainsToken, StreamIsPartial};
-use winnow::token::one_of;
+use stream_errors::empty::EmptyError;
+use stream_errors::has_kind::HasKind;
+use stream_errors::mode::ErrMode;
+use stream_errors::parser_error::ParserError;
+use stream_searches::compare::Compare;
+use stream_sets::as_char::AsChar;
+use stream_sets::sets::ContainsToken;
+use streams::stream::StreamIsPartial;
+use winnow_ascii::ascii::impls::{Digit0, Digit1};
+use winnow_comb::combinator::{alt, opt, preceded};
+use winnow_core::parser::Parser;
+use winnow_token::token::one_of;
 
 /// The digits from 1 on.
 #[derive(Clone, Copy, Drop)]

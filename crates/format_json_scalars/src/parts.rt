@@ -1,13 +1,13 @@
 //! Rules made of parts: they are specified by the grammars of the parts, for any parsers.
 ghost use Rattle.format_parts.specs.Words.{latter, pair};
-ghost use Rattle.winnow.specs.Claim.{CanRead};
-ghost use Rattle.winnow.specs.Exact.{Reads};
-ghost use Rattle.winnow.specs.Grammar.{Both, Either};
+ghost use Rattle.winnow_core.specs.Claim.{CanRead};
+ghost use Rattle.winnow_core.specs.Exact.{Reads};
+ghost use Rattle.grammars.specs.Grammar.{Both, Either};
 
-use winnow::Parser;
-use winnow::combinator::{alt, opt, preceded};
-use winnow::error::ParserError;
-use winnow::stream::Stream;
+use stream_errors::parser_error::ParserError;
+use streams::stream::Stream;
+use winnow_comb::combinator::{alt, opt, preceded};
+use winnow_core::parser::Parser;
 
 /// Parses the first, or the second if the first does not match.
 pub fn read_either<I, O, E, P, Q>(first: P, second: Q, input: &mut I) -> Result<O, E>

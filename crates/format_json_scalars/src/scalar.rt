@@ -8,20 +8,23 @@ ghost use Rattle.format_json_texts.specs.Values.{ScalarText};
 ghost use Rattle.format_parts.specs.Words.{Word};
 ghost use Rattle.std.specs.Prelude.{◌≡◌, false, IsTrue};
 ghost use Rattle.std.specs.Str.{chars};
-ghost use Rattle.winnow.specs.Text.{text_input, text_reading};
-ghost use Rattle.winnow.specs.Exact.{Reads};
-ghost use Rattle.winnow.specs.Grammar.Meaning.{Meaning};
-ghost use Rattle.winnow.specs.Accumulator.Holds.{HasCharacters};
-ghost use Rattle.winnow.specs.Texts.{StartsWith, NotFirst};
-ghost use Rattle.winnow.specs.Told.{ReadsText};
+ghost use Rattle.streams.specs.Text.{text_input, text_reading};
+ghost use Rattle.winnow_core.specs.Exact.{Reads};
+ghost use Rattle.grammars.specs.Grammar.Meaning.{Meaning};
+ghost use Rattle.stream_sets.specs.Accumulator.Holds.{HasCharacters};
+ghost use Rattle.grammars.specs.Texts.{StartsWith, NotFirst};
+ghost use Rattle.winnow_grammar.specs.Told.{ReadsText};
 
 use crate::number::read_number;
 use crate::string::read_string;
 use format_json_texts::value::Value;
 use std::alloc::Allocator;
-use winnow::Parser;
-use winnow::error::{EmptyError, ErrMode, HasKind, OrNoMemory};
-use winnow::token::literal;
+use stream_errors::empty::EmptyError;
+use stream_errors::growth::OrNoMemory;
+use stream_errors::has_kind::HasKind;
+use stream_errors::mode::ErrMode;
+use winnow_core::parser::Parser;
+use winnow_token::token::literal;
 
 /// Whether this character is first.
 fn begins_with(input: &str, first: char) -> bool

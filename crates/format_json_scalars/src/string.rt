@@ -3,20 +3,23 @@ ghost use Rattle.format_json_scalars.specs.Escapes.{characters_unique};
 ghost use Rattle.format_json_scalars.specs.Runs.{Characters, PlainRun};
 ghost use Rattle.format_json_texts.specs.Strings.{Quoted, StringText};
 ghost use Rattle.std.specs.Prelude.{◌≡◌};
-ghost use Rattle.winnow.specs.Text.{text_input, text_reading};
-ghost use Rattle.winnow.specs.Exact.{Reads};
-ghost use Rattle.winnow.specs.Accumulator.Holds.{HasCharacters};
-ghost use Rattle.winnow.specs.Texts.{Anything};
-ghost use Rattle.winnow.specs.Told.{ReadsText};
+ghost use Rattle.streams.specs.Text.{text_input, text_reading};
+ghost use Rattle.winnow_core.specs.Exact.{Reads};
+ghost use Rattle.stream_sets.specs.Accumulator.Holds.{HasCharacters};
+ghost use Rattle.grammars.specs.Texts.{Anything};
+ghost use Rattle.winnow_grammar.specs.Told.{ReadsText};
 
 use crate::escapes::read_escape;
 use format_parts::marks::read_between;
 use std::alloc::Allocator;
-use winnow::Parser;
-use winnow::error::{EmptyError, ErrMode, HasKind, ParserError};
-use winnow::exact::Rule;
-use winnow::stream::Range;
-use winnow::token::take_while;
+use stream_errors::empty::EmptyError;
+use stream_errors::has_kind::HasKind;
+use stream_errors::mode::ErrMode;
+use stream_errors::parser_error::ParserError;
+use stream_sets::range::Range;
+use winnow_core::parser::Parser;
+use winnow_grammar::rule::Rule;
+use winnow_token::token::take_while;
 
 /// Parses the longest run of unescaped characters.
 fn read_plain<'i>(input: &mut &'i str) -> Result<&'i str, ErrMode<EmptyError>>

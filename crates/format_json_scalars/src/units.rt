@@ -1,13 +1,15 @@
 //! Units of escapes in strings of JSON: four hexadecimal digits (RFC 8259, section 7).
 ghost use Rattle.format_json_scalars.specs.Escapes.{Units, units_takes, units_unique};
 ghost use Rattle.std.specs.Prelude.{⊤};
-ghost use Rattle.winnow.specs.Text.{text_input, text_reading};
-ghost use Rattle.winnow.specs.Exact.{Reads};
+ghost use Rattle.streams.specs.Text.{text_input, text_reading};
+ghost use Rattle.winnow_core.specs.Exact.{Reads};
 
 use crate::parts::read_units_of;
 use format_parts::hexadecimal::{Unit, read_unit};
-use winnow::error::{EmptyError, ErrMode, HasKind};
-use winnow::exact::Rule;
+use stream_errors::empty::EmptyError;
+use stream_errors::has_kind::HasKind;
+use stream_errors::mode::ErrMode;
+use winnow_grammar::rule::Rule;
 
 /// The name of two units, the second after another backslash and u.
 #[derive(Clone, Copy, Drop)]

@@ -1,18 +1,19 @@
 -- Numbers of JSON (RFC 8259, section 6): what is read, and what is written.
 use Rattle.std.specs.Prelude.{◌≡◌, ◌⊎◌, ◌≤◌, ℕ, List, [], ◌++◌, Option, Some, None}
 use Rattle.std.proofs.Common.{sym, subst, inl, inr, ◌∙◌, arith}
-use Rattle.winnow.specs.Text.{text_reading}
-use Rattle.winnow.specs.AsChar.{IsDecDigit}
-use Rattle.winnow.specs.Grammar.{Both, Either, Grammar, Optional, Taken}
-use Rattle.winnow.specs.Grammar.Tuples.{Four}
-use Rattle.winnow.specs.Texts.{Anything, StartsWith, TextsStartWith, BothText, EitherText, InFront}
-use Rattle.winnow.specs.Texts.{IsGrammarOf, NotFirst, OptionalText, TakenText, Text}
-use Rattle.winnow.specs.Texts.Fronts.{begins_more, begins_wider, both_front, either_front}
-use Rattle.winnow.specs.Texts.Fronts.{front_any, front_begins, front_behind, front_whole}
-use Rattle.winnow.specs.Texts.Fronts.{none_begins, not_first, optional_front, spelled_begins}
-use Rattle.winnow.specs.Texts.Fronts.{taken_front}
-use Rattle.winnow.specs.Texts.Parts.{behind_less, both_of, either_apart, optional_of, same_of}
-use Rattle.winnow.specs.Texts.Parts.{taken_of}
+use Rattle.streams.specs.Text.{text_reading}
+use Rattle.stream_sets.specs.AsChar.{IsDecDigit}
+use Rattle.grammars.specs.Grammar.{Both, Either, Grammar, Optional, Taken}
+use Rattle.grammars.specs.Grammar.Tuples.{Four}
+use Rattle.grammars.specs.Texts.{Anything, StartsWith, TextsStartWith, BothText, EitherText}
+use Rattle.grammars.specs.Texts.{InFront}
+use Rattle.grammars.specs.Texts.{IsGrammarOf, NotFirst, OptionalText, TakenText, Text}
+use Rattle.grammars.specs.Texts.Fronts.{begins_more, begins_wider, both_front, either_front}
+use Rattle.grammars.specs.Texts.Fronts.{front_any, front_begins, front_behind, front_whole}
+use Rattle.grammars.specs.Texts.Fronts.{none_begins, not_first, optional_front, spelled_begins}
+use Rattle.grammars.specs.Texts.Fronts.{taken_front}
+use Rattle.grammars.specs.Texts.Parts.{behind_less, both_of, either_apart, optional_of, same_of}
+use Rattle.grammars.specs.Texts.Parts.{taken_of}
 use Rattle.format_parts.specs.Words.{Char, FourTexts, In, One, OneIn, Run, RunOf, char_of}
 use Rattle.format_parts.specs.Words.{four_same, in_begins, in_of, latter, pair, run_begins, run_of}
 use Rattle.format_parts.specs.Words.{to_four}

@@ -2,17 +2,18 @@
 use Rattle.std.specs.Prelude.{◌≡◌, ◌⊎◌, ◌≤◌, ◌<◌, ◌+◌, ◌*◌, ◌-◌, ℕ, List, [], ◌++◌, None}
 use Rattle.std.specs.declared.string.String.{String}
 use Rattle.std.proofs.Common.{refl, sym, ap, subst, inl, inr, ◌∙◌, arith, append_assoc}
-use Rattle.winnow.specs.Range.{from_to}
-use Rattle.winnow.specs.Grammar.{Both, Either, Gathered, Grammar, Made, Many, NoMatch}
-use Rattle.winnow.specs.Grammar.{Three, Token}
-use Rattle.winnow.specs.Grammar.Meaning.{Meaning}
-use Rattle.winnow.specs.Texts.{Anything, StartsWith, TextsStartWith, BothText, EachText, EitherText}
-use Rattle.winnow.specs.Texts.{GatheredText, IsGrammarOf, MadeText, Text}
-use Rattle.winnow.specs.Texts.Fronts.{begins_wider, both_front, either_front, front_any}
-use Rattle.winnow.specs.Texts.Fronts.{front_begins, front_whole, may_begin, none_begins}
-use Rattle.winnow.specs.Texts.Fronts.{spelled_begins}
-use Rattle.winnow.specs.Texts.Parts.{both_of, either_apart, either_of}
-use Rattle.winnow.specs.Texts.Rows.{gathered_of, many_of}
+use Rattle.stream_sets.specs.Range.{from_to}
+use Rattle.grammars.specs.Grammar.{Both, Either, Gathered, Grammar, Made, Many, NoMatch}
+use Rattle.grammars.specs.Grammar.{Three, Token}
+use Rattle.grammars.specs.Grammar.Meaning.{Meaning}
+use Rattle.grammars.specs.Texts.{Anything, StartsWith, TextsStartWith, BothText, EachText}
+use Rattle.grammars.specs.Texts.{EitherText}
+use Rattle.grammars.specs.Texts.{GatheredText, IsGrammarOf, MadeText, Text}
+use Rattle.grammars.specs.Texts.Fronts.{begins_wider, both_front, either_front, front_any}
+use Rattle.grammars.specs.Texts.Fronts.{front_begins, front_whole, may_begin, none_begins}
+use Rattle.grammars.specs.Texts.Fronts.{spelled_begins}
+use Rattle.grammars.specs.Texts.Parts.{both_of, either_apart, either_of}
+use Rattle.grammars.specs.Texts.Rows.{gathered_of, many_of}
 use Rattle.format_parts.specs.Words.{Between, Char, For, In, One, OneIn, Whichever}
 use Rattle.format_parts.specs.Words.{any_of, between_of, char_of, for_of, in_begins}
 use Rattle.format_parts.specs.Words.{in_of, latter, pair}

@@ -3,11 +3,11 @@ use Rattle.std.specs.Prelude.{◌≡◌, ℕ, zero, suc, Bool, true, false, List
 use Rattle.std.specs.Prelude.{Option, Some, None, string_bytes}
 use Rattle.std.specs.declared.string.String.{String}
 use Rattle.std.specs.declared.vec.Vec.{Vec}
-use Rattle.winnow.specs.AsChar.{IsMultispace}
-use Rattle.winnow.specs.Range.{from_to}
-use Rattle.winnow.specs.Grammar.{Both, Either, Gathered, Grammar, Parted, Three}
-use Rattle.winnow.specs.Grammar.Meaning.{Meaning}
-use Rattle.winnow.specs.Texts.{BothText, EitherText, InList, PartedText, Spelled, Text}
+use Rattle.stream_sets.specs.AsChar.{IsMultispace}
+use Rattle.stream_sets.specs.Range.{from_to}
+use Rattle.grammars.specs.Grammar.{Both, Either, Gathered, Grammar, Parted, Three}
+use Rattle.grammars.specs.Grammar.Meaning.{Meaning}
+use Rattle.grammars.specs.Texts.{BothText, EitherText, InList, PartedText, Spelled, Text}
 use Rattle.format_json_texts.specs.Number.{Number, NumberText}
 use Rattle.format_parts.specs.Words.{Between, Char, For, One, Run, RunOf, Slice, Word, former}
 use Rattle.format_parts.specs.Words.{latter, pair}

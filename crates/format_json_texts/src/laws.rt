@@ -5,8 +5,8 @@ ghost use Rattle.format_json_texts.specs.Strings.{Quoted, StringText};
 ghost use Rattle.format_json_texts.specs.Values.{Json, JsonText};
 ghost use Rattle.format_json_texts.specs.Values.Texts.{Ended};
 ghost use Rattle.std.specs.Prelude.{ℕ};
-ghost use Rattle.winnow.specs.Accumulator.Holds.{HasCharacters};
-ghost use Rattle.winnow.specs.Texts.{Anything, IsGrammarOf, NotFirst};
+ghost use Rattle.stream_sets.specs.Accumulator.Holds.{HasCharacters};
+ghost use Rattle.grammars.specs.Texts.{Anything, IsGrammarOf, NotFirst};
 
 use std::alloc::Allocator;
 

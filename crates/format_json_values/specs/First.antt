@@ -2,14 +2,14 @@
 use Rattle.std.specs.Prelude.{◌≡◌, ◌⊎◌, ◌<◌, ℕ, zero, suc, true, false, List, [], ◌∷◌}
 use Rattle.std.specs.Prelude.{Some, None, Result}
 use Rattle.std.proofs.Common.{refl, sym, subst, inl, inr, arith}
-use Rattle.winnow.specs.Input.{Input}
-use Rattle.winnow.specs.Kind.{Kind}
-use Rattle.winnow.specs.Text.{text_reading}
-use Rattle.winnow.specs.{Needed}
-use Rattle.winnow.specs.Form.{marked_kind}
-use Rattle.winnow.specs.Mode.{mode_kind}
-use Rattle.winnow.specs.{EmptyError}
-use Rattle.winnow.specs.{ErrMode}
+use Rattle.streams.specs.Input.{Input}
+use Rattle.streams.specs.Kind.{Kind}
+use Rattle.streams.specs.Text.{text_reading}
+use Rattle.streams.specs.declared.needed.Needed.{Needed}
+use Rattle.stream_errors.specs.Form.{marked_kind}
+use Rattle.stream_errors.specs.Mode.{mode_kind}
+use Rattle.stream_errors.specs.declared.empty.EmptyError.{EmptyError}
+use Rattle.stream_errors.specs.declared.mode.ErrMode.{ErrMode}
 use Rattle.format_json_scalars.specs.First.{IsNumeric, scalar_of}
 use Rattle.format_json_texts.specs.Number.{number_begins}
 use Rattle.format_json_texts.specs.Strings.{string_begins}
@@ -21,14 +21,14 @@ use Rattle.format_json_texts.specs.Values.{WordText}
 use Rattle.format_parts.specs.Words.{Char, char_of, for_front, pair}
 use Rattle.format_json_texts.specs.declared.value.Value.{Value}
 use Rattle.format_json_values.specs.General.{none_both, none_three}
-use Rattle.winnow.specs.Exact.{Reads}
-use Rattle.winnow.specs.Read.{neither_stands, reads_former, reads_other}
-use Rattle.winnow.specs.Grammar.{Grammar, NoMatch, Three}
-use Rattle.winnow.specs.Grammar.Meaning.{Meaning, none_means}
-use Rattle.winnow.specs.Accumulator.Holds.{HasCharacters}
-use Rattle.winnow.specs.Texts.{StartsWith, TextsStartWith, NotFirst}
-use Rattle.winnow.specs.Texts.Fronts.{begins_more, begins_wider, either_front, may_begin}
-use Rattle.winnow.specs.Texts.Fronts.{none_begins, not_first, spelled_begins}
+use Rattle.winnow_core.specs.Exact.{Reads}
+use Rattle.winnow_grammar.specs.Read.{neither_stands, reads_former, reads_other}
+use Rattle.grammars.specs.Grammar.{Grammar, NoMatch, Three}
+use Rattle.grammars.specs.Grammar.Meaning.{Meaning, none_means}
+use Rattle.stream_sets.specs.Accumulator.Holds.{HasCharacters}
+use Rattle.grammars.specs.Texts.{StartsWith, TextsStartWith, NotFirst}
+use Rattle.grammars.specs.Texts.Fronts.{begins_more, begins_wider, either_front, may_begin}
+use Rattle.grammars.specs.Texts.Fronts.{none_begins, not_first, spelled_begins}
 
 -- the kind of an error
 abbrev pub no_memory_kind : ErrMode EmptyError Needed → Kind

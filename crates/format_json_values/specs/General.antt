@@ -1,6 +1,6 @@
 -- Lemmas that do not depend on JSON: conditions under which nothing matches.
 use Rattle.std.specs.Prelude.{List}
-use Rattle.winnow.specs.Grammar.{Both, Grammar, NoMatch, Three}
+use Rattle.grammars.specs.Grammar.{Both, Grammar, NoMatch, Three}
 
 module _ {T O1 O2 O : Type 0} (output : O1 → O2 → O) (g1 : Grammar T O1) (g2 : Grammar T O2) where
   pub none_both : (tokens : List T) → NoMatch g1 tokens → NoMatch (Both output g1 g2) tokens

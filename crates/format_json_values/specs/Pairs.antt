@@ -1,13 +1,13 @@
 -- The contents of an object: pairs of a name and a value.
 use Rattle.std.specs.Prelude.{◌≡◌, Result}
 use Rattle.std.specs.declared.vec.Vec.{Vec}
-use Rattle.winnow.specs.Input.{Input}
-use Rattle.winnow.specs.Kind.{Kind}
-use Rattle.winnow.specs.Reading.{Reading}
+use Rattle.streams.specs.Input.{Input}
+use Rattle.streams.specs.Kind.{Kind}
+use Rattle.streams.specs.Reading.{Reading}
 use Rattle.format_parts.specs.Marks.{Items}
 use Rattle.format_parts.specs.Words.{former, pair}
-use Rattle.winnow.specs.Exact.{Reads}
-use Rattle.winnow.specs.Grammar.{Both, Grammar, Three}
+use Rattle.winnow_core.specs.Exact.{Reads}
+use Rattle.grammars.specs.Grammar.{Both, Grammar, Three}
 
 -- a name, a mark and a value, and white space after each
 abbrev pub Pair : {T K O M W : Type 0} → Grammar T K → Grammar T M → Grammar T O → Grammar T W

@@ -1,8 +1,8 @@
 -- Proofs that arrays, objects and values of a level leave a unique rest, and consume characters.
 use Rattle.std.specs.Prelude.{◌≡◌, ℕ, zero, suc, true, false, [], ◌∷◌, Some, None}
 use Rattle.std.proofs.Common.{inl}
-use Rattle.winnow.specs.AsChar.{IsMultispace}
-use Rattle.winnow.specs.Range.{from_to}
+use Rattle.stream_sets.specs.AsChar.{IsMultispace}
+use Rattle.stream_sets.specs.Range.{from_to}
 use Rattle.format_json_scalars.specs.Escapes.{quoted_takes, quoted_unique}
 use Rattle.format_json_scalars.specs.Numbers.{number_takes, number_unique}
 use Rattle.format_parts.specs.Unique.{char_takes, char_unique, run_unique, word_takes, word_unique}
@@ -11,12 +11,12 @@ use Rattle.format_json_texts.specs.Values.{AnyValue, AnyWord, Array, Commas, Gap
 use Rattle.format_json_texts.specs.Values.{IsNumber, IsObject, IsString, IsWord, Member, Object}
 use Rattle.format_json_texts.specs.Values.{Punctuation, Scalar, SpacedOut}
 use Rattle.format_json_texts.specs.declared.value.Value.{Value}
-use Rattle.winnow.specs.Grammar.{Grammar, IsUnique, TakesTokens}
-use Rattle.winnow.specs.Grammar.Meaning.{meaning_takes, meaning_unique}
-use Rattle.winnow.specs.Grammar.Sequences.{three_take, three_unique}
-use Rattle.winnow.specs.Grammar.Unique.{both_take, both_unique, either_takes, either_unique}
-use Rattle.winnow.specs.Grammar.Unique.{gathered_unique, parted_unique}
-use Rattle.winnow.specs.Accumulator.Holds.{HasCharacters}
+use Rattle.grammars.specs.Grammar.{Grammar, IsUnique, TakesTokens}
+use Rattle.grammars.specs.Grammar.Meaning.{meaning_takes, meaning_unique}
+use Rattle.grammars.specs.Grammar.Sequences.{three_take, three_unique}
+use Rattle.grammars.specs.Grammar.Unique.{both_take, both_unique, either_takes, either_unique}
+use Rattle.grammars.specs.Grammar.Unique.{gathered_unique, parted_unique}
+use Rattle.stream_sets.specs.Accumulator.Holds.{HasCharacters}
 
 -- ---- white space and marks
 

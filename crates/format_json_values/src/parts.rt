@@ -5,19 +5,20 @@ ghost use Rattle.format_parts.specs.Words.{former, latter};
 ghost use Rattle.format_json_values.specs.Pairs.{Pair};
 ghost use Rattle.std.specs.Fn.{CalledAtMut};
 ghost use Rattle.std.specs.Prelude.{◌≡◌, false};
-ghost use Rattle.winnow.specs.Claim.{CanRead};
-ghost use Rattle.winnow.specs.Exact.{Reads};
-ghost use Rattle.winnow.specs.Exact.Whole.{ReadsAll};
-ghost use Rattle.winnow.specs.Grammar.{Both};
-ghost use Rattle.winnow.specs.Rule.{CallsRead};
+ghost use Rattle.winnow_core.specs.Claim.{CanRead};
+ghost use Rattle.winnow_core.specs.Exact.{Reads};
+ghost use Rattle.winnow_core.specs.Exact.Whole.{ReadsAll};
+ghost use Rattle.grammars.specs.Grammar.{Both};
+ghost use Rattle.winnow_grammar.specs.Rule.{CallsRead};
 
 use format_parts::marks::{Marks, read_items};
 use std::alloc::Allocator;
-use winnow::Parser;
-use winnow::combinator::{preceded, separated_pair, terminated};
-use winnow::error::{ParseFault, ParserError};
-use winnow::exact::Rule;
-use winnow::stream::{Stream, StreamIsPartial};
+use stream_errors::fault::ParseFault;
+use stream_errors::parser_error::ParserError;
+use streams::stream::{Stream, StreamIsPartial};
+use winnow_comb::combinator::{preceded, separated_pair, terminated};
+use winnow_core::parser::Parser;
+use winnow_grammar::rule::Rule;
 
 /// Reads members between marks, each a name, a mark and a value, with white space after each of
 /// them. A function reads a name by a rule, and another a value.

@@ -7,12 +7,12 @@ ghost use Rattle.format_json_values.specs.Unique.{value_takes, value_unique};
 ghost use Rattle.format_json_scalars.specs.Escapes.{quoted_takes, quoted_unique};
 ghost use Rattle.std.specs.Prelude.{◌≡◌, ◌⊎◌, ◌<◌, false, IsTrue, ⊤};
 ghost use Rattle.std.specs.Str.{chars};
-ghost use Rattle.winnow.specs.Text.{text_input, text_reading};
-ghost use Rattle.winnow.specs.Exact.{Reads};
-ghost use Rattle.winnow.specs.Exact.Whole.{ReadsAll};
-ghost use Rattle.winnow.specs.Accumulator.Holds.{HasCharacters};
-ghost use Rattle.winnow.specs.Texts.{StartsWith, NotFirst};
-ghost use Rattle.winnow.specs.Told.{IsTextOf, ReadsText};
+ghost use Rattle.streams.specs.Text.{text_input, text_reading};
+ghost use Rattle.winnow_core.specs.Exact.{Reads};
+ghost use Rattle.winnow_core.specs.Exact.Whole.{ReadsAll};
+ghost use Rattle.stream_sets.specs.Accumulator.Holds.{HasCharacters};
+ghost use Rattle.grammars.specs.Texts.{StartsWith, NotFirst};
+ghost use Rattle.winnow_grammar.specs.Told.{IsTextOf, ReadsText};
 
 use crate::parts::{parse_spaced, read_object_of};
 use format_json_scalars::scalar::read_scalar;
@@ -20,9 +20,13 @@ use format_json_scalars::string::read_string;
 use format_json_texts::value::Value;
 use format_parts::marks::{Marks, read_array_of};
 use std::alloc::Allocator;
-use winnow::ascii::impls::Multispace0;
-use winnow::error::{EmptyError, ErrMode, HasKind, ParseFault, ParserError};
-use winnow::exact::Rule;
+use stream_errors::empty::EmptyError;
+use stream_errors::fault::ParseFault;
+use stream_errors::has_kind::HasKind;
+use stream_errors::mode::ErrMode;
+use stream_errors::parser_error::ParserError;
+use winnow_ascii::ascii::impls::Multispace0;
+use winnow_grammar::rule::Rule;
 
 /// A level that is safe on a stack of two megabytes: parsing a value recurses once for each nested
 /// array and object, and so does dropping the value. A higher level requires a larger stack.

@@ -4,7 +4,7 @@ use Rattle.std.proofs.Common.{refl, sym, ap, ◌∙◌, append_assoc}
 use Rattle.std.proofs.lemmas.List.{append-nil}
 use Rattle.std.proofs.lemmas.Str.{encodes-append}
 use Rattle.format_parts.specs.Words.{One}
-use Rattle.winnow.specs.Texts.{BothText, EachText, Spelled, Text}
+use Rattle.grammars.specs.Texts.{BothText, EachText, Spelled, Text}
 
 -- `Keeps before after`: `after` is `before`, possibly followed by more.
 pub record Keeps (before after : List ℕ) : Type 0 where

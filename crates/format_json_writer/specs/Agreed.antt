@@ -3,12 +3,12 @@ use Rattle.std.specs.Prelude.{◌≡◌, ⊤, ℕ, List, [], ◌∷◌, ◌++◌
 use Rattle.std.specs.declared.vec.Vec.{Vec}
 use Rattle.std.proofs.Common.{sym, subst, inl, inr, ◌∙◌}
 use Rattle.std.proofs.lemmas.List.{append_cancel_right}
-use Rattle.winnow.specs.Range.{from_to}
+use Rattle.stream_sets.specs.Range.{from_to}
 use Rattle.format_parts.specs.Words.{former, latter}
-use Rattle.winnow.specs.Grammar.{Both, Each, Either, Gathered, Grammar, IsUnique, Made}
-use Rattle.winnow.specs.Grammar.{Many, NoMatch, Parted, Stops, Three}
-use Rattle.winnow.specs.Grammar.Meaning.{Meaning}
-use Rattle.winnow.specs.Grammar.Unique.{both_unique}
+use Rattle.grammars.specs.Grammar.{Both, Each, Either, Gathered, Grammar, IsUnique, Made}
+use Rattle.grammars.specs.Grammar.{Many, NoMatch, Parted, Stops, Three}
+use Rattle.grammars.specs.Grammar.Meaning.{Meaning}
+use Rattle.grammars.specs.Grammar.Unique.{both_unique}
 
 -- `Agrees alike grammar`: outputs of `grammar` at the start of the same tokens are equivalent.
 pub record Agrees {O : Type 0} (alike : O → O → Type 0) (grammar : Grammar ℕ O) : Type 0 where

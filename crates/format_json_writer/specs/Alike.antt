@@ -6,7 +6,7 @@ use Rattle.std.specs.Prelude.{encode_utf8_all, string_bytes}
 use Rattle.std.specs.declared.string.String.{String}
 use Rattle.std.specs.declared.vec.Vec.{Vec}
 use Rattle.std.proofs.Common.{refl, sym, ap, subst, inl, inr, ◌∙◌}
-use Rattle.winnow.specs.AsChar.{IsMultispace}
+use Rattle.stream_sets.specs.AsChar.{IsMultispace}
 use Rattle.format_json_scalars.specs.Escapes.{character_unique, quoted_unique}
 use Rattle.format_parts.specs.Hexadecimal.{IsAlone, unit_one}
 use Rattle.format_parts.specs.Unique.{char_unique, run_unique, token_one}
@@ -28,13 +28,13 @@ use Rattle.format_json_writer.specs.Agreed.{Agrees, ArePairwise, between_agrees,
 use Rattle.format_json_writer.specs.Agreed.{former_agrees, gathered_agree, latter_agrees}
 use Rattle.format_json_writer.specs.Agreed.{many_agree}
 use Rattle.format_json_writer.specs.Agreed.{means_agree, one_beginning, parted_agree}
-use Rattle.winnow.specs.Grammar.{Gathered, Grammar, InClass, IsUnique, Taken, Three, Token}
-use Rattle.winnow.specs.Grammar.Meaning.{Meaning}
-use Rattle.winnow.specs.Grammar.Outputs.{IsAlike, either_alike, made_alike, second_alike}
-use Rattle.winnow.specs.Grammar.Outputs.{token_of_alike}
-use Rattle.winnow.specs.Grammar.Sequences.{three_unique}
-use Rattle.winnow.specs.Grammar.Unique.{both_unique}
-use Rattle.winnow.specs.Accumulator.Holds.{HasCharacters}
+use Rattle.grammars.specs.Grammar.{Gathered, Grammar, InClass, IsUnique, Taken, Three, Token}
+use Rattle.grammars.specs.Grammar.Meaning.{Meaning}
+use Rattle.grammars.specs.Grammar.Outputs.{IsAlike, either_alike, made_alike, second_alike}
+use Rattle.grammars.specs.Grammar.Outputs.{token_of_alike}
+use Rattle.grammars.specs.Grammar.Sequences.{three_unique}
+use Rattle.grammars.specs.Grammar.Unique.{both_unique}
+use Rattle.stream_sets.specs.Accumulator.Holds.{HasCharacters}
 
 -- ---- equivalent values
 

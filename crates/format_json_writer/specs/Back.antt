@@ -2,16 +2,16 @@
 use Rattle.std.specs.Prelude.{◌≡◌, ℕ, List, Result, Ok, IfErr}
 use Rattle.std.specs.Str.{chars}
 use Rattle.std.proofs.Common.{sym, subst}
-use Rattle.winnow.specs.Kind.{Kind}
-use Rattle.winnow.specs.{Needed}
-use Rattle.winnow.specs.{ParseFault}
+use Rattle.streams.specs.Kind.{Kind}
+use Rattle.streams.specs.declared.needed.Needed.{Needed}
+use Rattle.stream_errors.specs.declared.fault.ParseFault.{ParseFault}
 use Rattle.format_json_texts.specs.Values.{JsonText, ValueText}
 use Rattle.format_json_texts.specs.declared.value.Value.{Value}
 use Rattle.format_json_writer.specs.Alike.{AreAlike, texts_alike}
 use Rattle.format_json_writer.specs.Within.{IsWithin, within_alone, within_refl, within_spaced}
-use Rattle.winnow.specs.Exact.Whole.{IsWant}
-use Rattle.winnow.specs.Accumulator.Holds.{HasCharacters}
-use Rattle.winnow.specs.Told.{IsTextOf, text_found}
+use Rattle.winnow_core.specs.Exact.Whole.{IsWant}
+use Rattle.stream_sets.specs.Accumulator.Holds.{HasCharacters}
+use Rattle.winnow_grammar.specs.Told.{IsTextOf, text_found}
 
 module _ {A : Type 0} where
   as_json : (level : ℕ) → IsWithin (ValueText {A = A} HasCharacters level)

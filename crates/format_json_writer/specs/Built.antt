@@ -21,8 +21,8 @@ use Rattle.format_json_writer.specs.Compact.{CompactMember, CompactScalar}
 use Rattle.format_json_writer.specs.Compact.{CompactString, CompactValue, scalar_is_value}
 use Rattle.format_json_writer.specs.Strings.{CanonicalString}
 use Rattle.format_json_writer.specs.Within.{IsWithin}
-use Rattle.winnow.specs.Texts.{BothText, EachText, EitherText, GatheredText, InList, MadeText}
-use Rattle.winnow.specs.Texts.{PartedText, Spelled, TakenText, Text}
+use Rattle.grammars.specs.Texts.{BothText, EachText, EitherText, GatheredText, InList, MadeText}
+use Rattle.grammars.specs.Texts.{PartedText, Spelled, TakenText, Text}
 
 -- ---- what is put is a text of more
 

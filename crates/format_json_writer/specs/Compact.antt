@@ -16,8 +16,8 @@ use Rattle.format_json_writer.specs.Strings.{CanonicalString, string_canonical}
 use Rattle.format_json_writer.specs.Within.{IsWithin, within_among, within_first, within_for}
 use Rattle.format_json_writer.specs.Within.{within_joined, within_list, within_mark, within_refl}
 use Rattle.format_json_writer.specs.Within.{within_second, within_spaced, within_then}
-use Rattle.winnow.specs.Accumulator.Holds.{HasCharacters}
-use Rattle.winnow.specs.Texts.{BothText, EitherText, GatheredText, InList, PartedText, Text}
+use Rattle.stream_sets.specs.Accumulator.Holds.{HasCharacters}
+use Rattle.grammars.specs.Texts.{BothText, EitherText, GatheredText, InList, PartedText, Text}
 
 module _ {A : Type 0} where
   -- a string

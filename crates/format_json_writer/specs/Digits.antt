@@ -6,13 +6,13 @@ use Rattle.std.proofs.Common.{sym, ap, subst, inl, inr, ◌∙◌, refl, arith}
 use Rattle.std.proofs.lemmas.Bool.{eqb-true}
 use Rattle.std.proofs.lemmas.List.{append-nil, nil_from_length}
 use Rattle.std.proofs.lemmas.Str.{chars-nil, encodes-chars}
-use Rattle.winnow.specs.Equal.{true_is_false}
-use Rattle.winnow.specs.Kind.{Kind, memory}
-use Rattle.winnow.specs.Text.{text_input, text_reading}
+use Rattle.streams.specs.Equal.{true_is_false}
+use Rattle.streams.specs.Kind.{Kind, memory}
+use Rattle.streams.specs.Text.{text_input, text_reading}
 use Rattle.format_json_scalars.specs.Numbers.{number_unique}
 use Rattle.format_json_texts.specs.Number.{Number, NumberText, number_of}
 use Rattle.format_parts.specs.Words.{Slice}
-use Rattle.winnow.specs.Exact.{Reads}
+use Rattle.winnow_core.specs.Exact.{Reads}
 
 pub all_read : (text : List ℕ) (is_empty : Bool) → is_empty ≡ (length text == 0)
     → is_empty ≡ true → chars text ≡ []

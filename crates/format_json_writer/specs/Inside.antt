@@ -8,7 +8,7 @@ use Rattle.std.specs.declared.vec.Vec.{Vec}
 use Rattle.std.proofs.Common.{sym, ap, subst, inl, inr, ◌∙◌, arith}
 use Rattle.std.proofs.lemmas.List.Elements.{All-cons, All-nil, All-weaker}
 use Rattle.std.proofs.lemmas.Str.{chars_from_encodes}
-use Rattle.winnow.specs.Equal.{same_some}
+use Rattle.streams.specs.Equal.{same_some}
 use Rattle.format_json_texts.specs.Number.{NumberText}
 use Rattle.format_parts.specs.Words.{For, Slice}
 use Rattle.format_json_texts.specs.Values.{ArrayText, HasText, IsWord, MemberText, ObjectText}
@@ -20,9 +20,9 @@ use Rattle.format_json_texts.specs.declared.value.Value.TheVariants.{outs-Array,
 use Rattle.format_json_texts.specs.declared.value.Value.TheVariants.{outs-Null}
 use Rattle.format_json_texts.specs.declared.value.Value.TheVariants.{outs-Number, outs-Object}
 use Rattle.format_json_texts.specs.declared.value.Value.TheVariants.{outs-Text}
-use Rattle.winnow.specs.Accumulator.Holds.{HasCharacters}
-use Rattle.winnow.specs.Texts.{BothText, EachText, EitherText, InList, MadeText, PartedText}
-use Rattle.winnow.specs.Texts.{TakenText, Text}
+use Rattle.stream_sets.specs.Accumulator.Holds.{HasCharacters}
+use Rattle.grammars.specs.Texts.{BothText, EachText, EitherText, InList, MadeText, PartedText}
+use Rattle.grammars.specs.Texts.{TakenText, Text}
 
 -- ---- which value it is
 

@@ -15,8 +15,8 @@ use Rattle.format_json_writer.specs.Added.{Adds, adds_more, adds_none, adds_then
 use Rattle.format_json_writer.specs.Strings.{CanonicalCharacter, CanonicalString, Escapes}
 use Rattle.format_json_writer.specs.Strings.{IsSmallHex}
 use Rattle.format_json_writer.specs.Strings.{SmallUnit, string_canonical}
-use Rattle.winnow.specs.Accumulator.Holds.{HasCharacters}
-use Rattle.winnow.specs.Texts.{BothText, EachText, EitherText, MadeText, Spelled}
+use Rattle.stream_sets.specs.Accumulator.Holds.{HasCharacters}
+use Rattle.grammars.specs.Texts.{BothText, EachText, EitherText, MadeText, Spelled}
 
 -- ---- what is written
 

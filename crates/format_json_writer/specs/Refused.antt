@@ -17,7 +17,7 @@ use Rattle.format_json_writer.specs.Inside.{HasOne, array_values, no_array, no_o
 use Rattle.format_json_writer.specs.Inside.{object_values}
 use Rattle.format_json_writer.specs.declared.error.WriteError.{WriteError}
 use Rattle.format_json_writer.specs.declared.error.WriteError.TheVariants as errors
-use Rattle.winnow.specs.Accumulator.Holds.{HasCharacters}
+use Rattle.stream_sets.specs.Accumulator.Holds.{HasCharacters}
 
 -- the text is not a number, or memory allocation failed
 abbrev pub IsNoNumber : List ℕ → WriteError → Type 0

@@ -11,8 +11,8 @@ use Rattle.format_json_texts.specs.Strings.{StandsFor, StringText}
 use Rattle.format_json_writer.specs.Within.{IsWithin, within_among, within_first, within_for}
 use Rattle.format_json_writer.specs.Within.{within_refl}
 use Rattle.format_json_writer.specs.Within.{within_row, within_second, within_then}
-use Rattle.winnow.specs.Accumulator.Holds.{HasCharacters}
-use Rattle.winnow.specs.Texts.{BothText, EachText, EitherText, GatheredText, Text}
+use Rattle.stream_sets.specs.Accumulator.Holds.{HasCharacters}
+use Rattle.grammars.specs.Texts.{BothText, EachText, EitherText, GatheredText, Text}
 
 -- the character after a backslash in an escape: those of RFC 8259 except a slash, which is written
 -- as it is

@@ -4,7 +4,7 @@ use Rattle.std.proofs.Common.{refl, sym, inl, inr, arith}
 use Rattle.std.proofs.lemmas.List.{append-nil}
 use Rattle.format_parts.specs.Words.{For, One, Run, Slice, latter}
 use Rattle.format_json_texts.specs.Values.{GapText, Mark, Spaced}
-use Rattle.winnow.specs.Texts.{BothText, EachText, EitherText, InList, MadeText, PartedText, Text}
+use Rattle.grammars.specs.Texts.{BothText, EachText, EitherText, InList, MadeText, PartedText, Text}
 
 -- `IsWithin inner outer`: each `inner` encoding of a value is an `outer` encoding of it.
 pub record IsWithin {T O : Type 0} (inner outer : Text T O) : Type 0 where

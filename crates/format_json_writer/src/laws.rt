@@ -4,7 +4,7 @@ ghost use Rattle.format_json_texts.specs.Values.{JsonText, ValueText};
 ghost use Rattle.format_json_texts.specs.declared.value.Value.{Value};
 ghost use Rattle.format_json_writer.specs.Alike.{AreAlike};
 ghost use Rattle.std.specs.Prelude.{List, ℕ};
-ghost use Rattle.winnow.specs.Accumulator.Holds.{HasCharacters};
+ghost use Rattle.stream_sets.specs.Accumulator.Holds.{HasCharacters};
 
 use std::alloc::Allocator;
 

@@ -7,7 +7,7 @@ ghost use Rattle.format_json_writer.specs.Compact.{CompactMember, CompactValue};
 ghost use Rattle.format_json_writer.specs.Refused.{IsRefused, IsRefusedAmong};
 ghost use Rattle.format_json_writer.specs.declared.error.WriteError.TheVariants.{Memory};
 ghost use Rattle.std.specs.Prelude.{◌≡◌, ◌++◌, IfErr, OnOk, string_bytes};
-ghost use Rattle.winnow.specs.Texts.{PartedText};
+ghost use Rattle.grammars.specs.Texts.{PartedText};
 
 use crate::error::WriteError;
 use crate::number::write_number;

@@ -10,7 +10,7 @@ ghost use Rattle.std.specs.Str.{chars};
 use crate::error::WriteError;
 use format_json_scalars::number::read_number;
 use std::alloc::Allocator;
-use winnow::error::ParserError;
+use stream_errors::parser_error::ParserError;
 
 /// Returns whether the remaining text is empty.
 fn is_read(rest: &str) -> bool

@@ -7,7 +7,7 @@ ghost use Rattle.format_json_writer.specs.Strings.{IsSmallHex};
 ghost use Rattle.std.specs.Prelude.{◌≡◌, ◌<◌, ℕ, MatchOption, OnOk, string_bytes};
 ghost use Rattle.std.specs.Str.{chars};
 ghost use Rattle.std.specs.declared.string.String.{String};
-ghost use Rattle.winnow.specs.Accumulator.Holds.{HasCharacters};
+ghost use Rattle.stream_sets.specs.Accumulator.Holds.{HasCharacters};
 
 use std::alloc::{AllocError, Allocator};
 

@@ -7,15 +7,18 @@ ghost use Rattle.format_json_writer.specs.Refused.{HasNoText, IsRefused};
 ghost use Rattle.format_json_writer.specs.declared.error.WriteError.TheVariants.{Memory};
 ghost use Rattle.std.specs.Prelude.{◌≡◌, ◌⊎◌, IfErr, IfOk, IsTrue, OnOk, string_bytes};
 ghost use Rattle.std.specs.Str.{chars};
-ghost use Rattle.winnow.specs.Exact.Whole.{IsWant};
-ghost use Rattle.winnow.specs.Accumulator.Holds.{HasCharacters};
+ghost use Rattle.winnow_core.specs.Exact.Whole.{IsWant};
+ghost use Rattle.stream_sets.specs.Accumulator.Holds.{HasCharacters};
 
 use crate::error::WriteError;
 use crate::nested::write_nested;
 use format_json_texts::value::Value;
 use format_json_values::value::parse_value;
 use std::alloc::Allocator;
-use winnow::error::{EmptyError, ErrMode, ParseFault, ParserError};
+use stream_errors::empty::EmptyError;
+use stream_errors::fault::ParseFault;
+use stream_errors::mode::ErrMode;
+use stream_errors::parser_error::ParserError;
 
 /// Appends a value whose arrays and objects are nested at most `level` deep. The level is 0 for a
 /// value that is not an array or an object, and 1 for an array of such values.

@@ -1,17 +1,17 @@
 -- Hexadecimal digits of escapes, four at a time: what is written, what is read, and that it is one.
 use Rattle.std.specs.Prelude.{◌≡◌, ◌⊎◌, ◌≤◌, ◌<◌, ◌+◌, ◌*◌, ℕ, List}
 use Rattle.std.proofs.Common.{sym, ap, subst, inl, inr, ◌∙◌, arith}
-use Rattle.winnow.specs.Any.Laws.{token_takes}
-use Rattle.winnow.specs.Equal.{same_first, same_others}
-use Rattle.winnow.specs.Grammar.{Both, Grammar, IsUnique, Made, TakesTokens, Three, Token}
-use Rattle.winnow.specs.Grammar.Meaning.{Meaning, meaning_takes, meaning_unique}
-use Rattle.winnow.specs.Grammar.Outputs.{IsAlike}
-use Rattle.winnow.specs.Grammar.Sequences.{four_take, four_unique}
-use Rattle.winnow.specs.Grammar.Tuples.{Four, join4}
-use Rattle.winnow.specs.Grammar.Unique.{token_unique}
-use Rattle.winnow.specs.Texts.{Anything, IsGrammarOf, Text}
-use Rattle.winnow.specs.Texts.Fronts.{front_any}
-use Rattle.winnow.specs.Texts.Parts.{both_of, same_of}
+use Rattle.winnow_token.specs.Any.Laws.{token_takes}
+use Rattle.streams.specs.Equal.{same_first, same_others}
+use Rattle.grammars.specs.Grammar.{Both, Grammar, IsUnique, Made, TakesTokens, Three, Token}
+use Rattle.grammars.specs.Grammar.Meaning.{Meaning, meaning_takes, meaning_unique}
+use Rattle.grammars.specs.Grammar.Outputs.{IsAlike}
+use Rattle.grammars.specs.Grammar.Sequences.{four_take, four_unique}
+use Rattle.grammars.specs.Grammar.Tuples.{Four, join4}
+use Rattle.grammars.specs.Grammar.Unique.{token_unique}
+use Rattle.grammars.specs.Texts.{Anything, IsGrammarOf, Text}
+use Rattle.grammars.specs.Texts.Fronts.{front_any}
+use Rattle.grammars.specs.Texts.Parts.{both_of, same_of}
 use Rattle.format_parts.specs.Words.{For, FourTexts, Whichever, any_of, for_of, four_same, pair}
 use Rattle.format_parts.specs.Words.{to_four}
 

@@ -2,12 +2,12 @@
 use Rattle.std.specs.Prelude.{◌≡◌, List, None, Result}
 use Rattle.std.specs.declared.vec.Vec.{Vec}
 use Rattle.format_parts.specs.Words.{pair}
-use Rattle.winnow.specs.{Needed}
-use Rattle.winnow.specs.{ParseFault}
-use Rattle.winnow.specs.Exact.Whole.{ReadsAll}
-use Rattle.winnow.specs.Grammar.{Both, Gathered, Grammar, Parted, Three}
-use Rattle.winnow.specs.Kind.{Kind}
-use Rattle.winnow.specs.Range.{from_to}
+use Rattle.streams.specs.declared.needed.Needed.{Needed}
+use Rattle.stream_errors.specs.declared.fault.ParseFault.{ParseFault}
+use Rattle.winnow_core.specs.Exact.Whole.{ReadsAll}
+use Rattle.grammars.specs.Grammar.{Both, Gathered, Grammar, Parted, Three}
+use Rattle.streams.specs.Kind.{Kind}
+use Rattle.stream_sets.specs.Range.{from_to}
 
 module _ {T M W A : Type 0} where
   -- Items with a mark between each two of them, between two others. Whitespace follows the first

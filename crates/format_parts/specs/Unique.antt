@@ -1,13 +1,13 @@
 -- Lemmas: characters and words leave a unique rest, and some of them consume characters.
 use Rattle.std.specs.Prelude.{◌≡◌, ℕ, List, [], ◌∷◌, length}
 use Rattle.std.proofs.Common.{sym, ap, ◌∙◌, arith, length-append}
-use Rattle.winnow.specs.Equal.{same_rest}
-use Rattle.winnow.specs.Text.{text_reading}
+use Rattle.streams.specs.Equal.{same_rest}
+use Rattle.streams.specs.Text.{text_reading}
 use Rattle.format_parts.specs.Words.{Char, RunOf, Word}
-use Rattle.winnow.specs.Class.Laws.{class_unique}
-use Rattle.winnow.specs.Grammar.{IsUnique, TakesTokens, Token}
-use Rattle.winnow.specs.Grammar.Outputs.{IsAlike, token_alike}
-use Rattle.winnow.specs.Grammar.Unique.{literally_takes, literally_unique}
+use Rattle.winnow_ascii.specs.Class.Laws.{class_unique}
+use Rattle.grammars.specs.Grammar.{IsUnique, TakesTokens, Token}
+use Rattle.grammars.specs.Grammar.Outputs.{IsAlike, token_alike}
+use Rattle.grammars.specs.Grammar.Unique.{literally_takes, literally_unique}
 
 -- ---- characters
 

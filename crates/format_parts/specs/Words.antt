@@ -6,19 +6,20 @@ use Rattle.std.specs.List.{All}
 use Rattle.std.specs.Str.{encode_utf8_all}
 use Rattle.std.proofs.Common.{refl, sym, ap, subst, inl, ◌∙◌, arith}
 use Rattle.std.proofs.lemmas.List.Elements.{All-weaker}
-use Rattle.winnow.specs.Equal.{true_is_false}
-use Rattle.winnow.specs.Stream.{AnswersSeen}
-use Rattle.winnow.specs.Text.{text_reading}
-use Rattle.winnow.specs.Grammar.Same.{Same}
-use Rattle.winnow.specs.Grammar.{Both, Class, Grammar, InClass, Literally, Longest}
-use Rattle.winnow.specs.Grammar.{Three, Token, TokenOf}
-use Rattle.winnow.specs.Grammar.Meaning.{Meaning}
-use Rattle.winnow.specs.Grammar.Tuples.{Four}
-use Rattle.winnow.specs.Texts.{Anything, StartsWith, TextsStartWith, BothText, InFront, IsGrammarOf}
-use Rattle.winnow.specs.Texts.{MadeText}
-use Rattle.winnow.specs.Texts.{NotFirst, Spelled, Text}
-use Rattle.winnow.specs.Texts.Fronts.{both_front, of_front}
-use Rattle.winnow.specs.Texts.Parts.{both_of, made_of, same_of}
+use Rattle.streams.specs.Equal.{true_is_false}
+use Rattle.streams.specs.Stream.{AnswersSeen}
+use Rattle.streams.specs.Text.{text_reading}
+use Rattle.grammars.specs.Grammar.Same.{Same}
+use Rattle.grammars.specs.Grammar.{Both, Class, Grammar, InClass, Literally, Longest}
+use Rattle.grammars.specs.Grammar.{Three, Token, TokenOf}
+use Rattle.grammars.specs.Grammar.Meaning.{Meaning}
+use Rattle.grammars.specs.Grammar.Tuples.{Four}
+use Rattle.grammars.specs.Texts.{Anything, StartsWith, TextsStartWith, BothText, InFront}
+use Rattle.grammars.specs.Texts.{IsGrammarOf}
+use Rattle.grammars.specs.Texts.{MadeText}
+use Rattle.grammars.specs.Texts.{NotFirst, Spelled, Text}
+use Rattle.grammars.specs.Texts.Fronts.{both_front, of_front}
+use Rattle.grammars.specs.Texts.Parts.{both_of, made_of, same_of}
 
 -- a slice of a text
 abbrev pub Slice : Type 0

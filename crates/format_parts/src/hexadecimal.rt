@@ -2,14 +2,16 @@
 ghost use Rattle.format_parts.specs.Hexadecimal.{CodeUnit, Digit, IsHex, IsNumberOf, digit_takes};
 ghost use Rattle.format_parts.specs.Hexadecimal.{digit_unique, unit_takes, unit_unique};
 ghost use Rattle.std.specs.Prelude.{◌≡◌, ℕ, ⊤, MatchOption};
-ghost use Rattle.winnow.specs.Text.{text_input, text_reading};
-ghost use Rattle.winnow.specs.Exact.{Reads};
+ghost use Rattle.streams.specs.Text.{text_input, text_reading};
+ghost use Rattle.winnow_core.specs.Exact.{Reads};
 
 use crate::turns::read_four_of;
-use winnow::Parser;
-use winnow::error::{EmptyError, ErrMode, HasKind};
-use winnow::exact::Rule;
-use winnow::token::impls::Any;
+use stream_errors::empty::EmptyError;
+use stream_errors::has_kind::HasKind;
+use stream_errors::mode::ErrMode;
+use winnow_core::parser::Parser;
+use winnow_grammar::rule::Rule;
+use winnow_token::token::impls::Any;
 
 /// The value of a hexadecimal digit.
 fn hex_value(c: char) -> Option<u8>

@@ -3,18 +3,20 @@
 ghost use Rattle.format_parts.specs.Marks.{Items};
 ghost use Rattle.format_parts.specs.Words.{former};
 ghost use Rattle.std.specs.Fn.{CalledAtMut};
-ghost use Rattle.winnow.specs.Claim.{CanRead};
-ghost use Rattle.winnow.specs.Exact.{Reads};
-ghost use Rattle.winnow.specs.Grammar.{Both, Three};
-ghost use Rattle.winnow.specs.Rule.{CallsRead};
+ghost use Rattle.winnow_core.specs.Claim.{CanRead};
+ghost use Rattle.winnow_core.specs.Exact.{Reads};
+ghost use Rattle.grammars.specs.Grammar.{Both, Three};
+ghost use Rattle.winnow_grammar.specs.Rule.{CallsRead};
 
 use std::alloc::Allocator;
-use winnow::Parser;
-use winnow::combinator::impls::Separated;
-use winnow::combinator::{delimited, separated, terminated};
-use winnow::error::ParserError;
-use winnow::exact::Rule;
-use winnow::stream::{Range, Stream};
+use stream_errors::parser_error::ParserError;
+use stream_sets::range::Range;
+use streams::stream::Stream;
+use winnow_comb::combinator::{delimited, terminated};
+use winnow_core::parser::Parser;
+use winnow_grammar::rule::Rule;
+use winnow_separated::combinator::impls::Separated;
+use winnow_separated::combinator::separated;
 
 /// Parses three parts in sequence and returns the output of the second one.
 pub fn read_between<I, O1, O2, O3, E, P, Q, R>(

@@ -1,14 +1,14 @@
 //! Parsers in sequence. The contracts are in terms of the grammars of the parts, for any parsers
 //! and over any stream.
 ghost use Rattle.format_parts.specs.Words.{pair};
-ghost use Rattle.winnow.specs.Claim.{CanRead};
-ghost use Rattle.winnow.specs.Exact.{Reads};
-ghost use Rattle.winnow.specs.Grammar.{Both};
-ghost use Rattle.winnow.specs.Grammar.Tuples.{Four};
+ghost use Rattle.winnow_core.specs.Claim.{CanRead};
+ghost use Rattle.winnow_core.specs.Exact.{Reads};
+ghost use Rattle.grammars.specs.Grammar.{Both};
+ghost use Rattle.grammars.specs.Grammar.Tuples.{Four};
 
-use winnow::Parser;
-use winnow::error::ParserError;
-use winnow::stream::Stream;
+use stream_errors::parser_error::ParserError;
+use streams::stream::Stream;
+use winnow_core::parser::Parser;
 
 /// Runs two parsers in sequence and returns both outputs.
 pub fn read_two_of<I, O1, O2, E, P, Q>(first: P, second: Q, input: &mut I) -> Result<(O1, O2), E>

@@ -3,14 +3,14 @@ use Rattle.std.specs.Prelude.{◌≡◌, Bool, true, false, ℕ, zero, suc, List
 use Rattle.std.specs.Prelude.{None}
 use Rattle.std.specs.declared.vec.Vec.{Vec}
 use Rattle.std.proofs.Common.{refl, sym, ap, subst, ◌∙◌, arith}
-use Rattle.winnow.specs.Equal.{same_first}
-use Rattle.winnow.specs.InTurn.{First, Led}
-use Rattle.winnow.specs.Texts.{Text}
+use Rattle.streams.specs.Equal.{same_first}
+use Rattle.winnow_grammar.specs.InTurn.{First, Led}
+use Rattle.grammars.specs.Texts.{Text}
 use Rattle.format_resp.proofs.LineTexts.{one_number, size_splits, line_plain}
 use Rattle.format_resp.proofs.LineEnds.{one_line}
 use Rattle.format_resp.proofs.Encodings.{Determined, Pairs, data_determined, led_determined}
 use Rattle.format_resp.proofs.Encodings.{nothing_left, rows_determined}
-use Rattle.winnow.specs.Grammar.{IsUnique}
+use Rattle.grammars.specs.Grammar.{IsUnique}
 use Rattle.format_resp.proofs.FirstBytes.{mark_splits}
 use Rattle.format_resp.proofs.Made.{array_is, attributed_is, big_number_is, boolean_is}
 use Rattle.format_resp.proofs.Made.{bulk_error_is, bulk_is, double_is, error_is, integer_is}

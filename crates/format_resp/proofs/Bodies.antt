@@ -3,13 +3,14 @@ use Rattle.std.specs.Prelude.{◌≡◌, ◌<◌, ◌≤◌, ◌^◌, ℕ, List,
 use Rattle.std.specs.Borrow.{Bor}
 use Rattle.std.specs.declared.vec.Vec.{Vec}
 use Rattle.std.proofs.Common.{refl, sym, subst, inr, ◌∙◌, arith}
-use Rattle.winnow.specs.Bytes.{bytes_follow, bytes_reading}
-use Rattle.winnow.specs.InTurn.{Failed, First, Led, MatchesEachCompletion, failed_as, refused}
-use Rattle.winnow.specs.InTurn.{stood_as}
-use Rattle.winnow.specs.InTurn.Rows.{RowOf}
-use Rattle.winnow.specs.Input.{Input}
-use Rattle.winnow.specs.Kind.{Kind, backtrack}
-use Rattle.winnow.specs.Texts.{Text}
+use Rattle.streams.specs.Bytes.{bytes_follow, bytes_reading}
+use Rattle.winnow_grammar.specs.InTurn.{Failed, First, Led, MatchesEachCompletion, failed_as}
+use Rattle.winnow_grammar.specs.InTurn.{refused}
+use Rattle.winnow_grammar.specs.InTurn.{stood_as}
+use Rattle.winnow_grammar.specs.InTurn.Rows.{RowOf}
+use Rattle.streams.specs.Input.{Input}
+use Rattle.streams.specs.Kind.{Kind, backtrack}
+use Rattle.grammars.specs.Texts.{Text}
 use Rattle.format_resp.proofs.Encodings.{data_determined}
 use Rattle.format_resp.proofs.LineTexts.{size_small}
 use Rattle.format_resp.specs.Resp.{DataText, SizeText, AggregateBehind, DataBehind, DataSays}

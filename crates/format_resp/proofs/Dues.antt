@@ -5,9 +5,9 @@ use Rattle.std.specs.Prelude.{Option, Some, length}
 use Rattle.std.specs.Borrow.{Bor}
 use Rattle.std.proofs.Common.{refl, sym, ap, subst, ◌∙◌, arith, append_assoc}
 use Rattle.std.proofs.lemmas.List.{append-nil}
-use Rattle.winnow.specs.Grammar.Inversion.{slice_for}
-use Rattle.winnow.specs.InTurn.{First, Led}
-use Rattle.winnow.specs.Texts.{EachText, Text}
+use Rattle.grammars.specs.Grammar.Inversion.{slice_for}
+use Rattle.winnow_grammar.specs.InTurn.{First, Led}
+use Rattle.grammars.specs.Texts.{EachText, Text}
 use Rattle.format_resp.proofs.WrittenTexts.{deeper, list_for, row_as}
 use Rattle.format_resp.proofs.FirstBytes.{not_resp3}
 use Rattle.format_resp.proofs.FirstLines.{head_splits}

@@ -4,14 +4,14 @@ use Rattle.std.specs.Prelude.{if◌then◌else◌, length}
 use Rattle.std.specs.Result.{is_ok}
 use Rattle.std.specs.declared.vec.Vec.{Vec}
 use Rattle.std.proofs.Common.{refl, sym, ap, subst, ◌∙◌, append_assoc, arith}
-use Rattle.winnow.specs.Equal.{none_is_some, same_others, same_some}
-use Rattle.winnow.specs.Following.{Following}
-use Rattle.winnow.specs.Input.{Input, is_end_of_refl}
-use Rattle.winnow.specs.Reading.{Reading}
-use Rattle.winnow.specs.Growth.{grown}
-use Rattle.winnow.specs.Grammar.Lengths.{same_beginnings}
-use Rattle.winnow.specs.InTurn.{First, MatchesEachCompletion, Led, Splits}
-use Rattle.winnow.specs.Texts.{CountedText, EachText, Text}
+use Rattle.streams.specs.Equal.{none_is_some, same_others, same_some}
+use Rattle.streams.specs.Following.{Following}
+use Rattle.streams.specs.Input.{Input, is_end_of_refl}
+use Rattle.streams.specs.Reading.{Reading}
+use Rattle.stream_errors.specs.Growth.{grown}
+use Rattle.grammars.specs.Grammar.Lengths.{same_beginnings}
+use Rattle.winnow_grammar.specs.InTurn.{First, MatchesEachCompletion, Led, Splits}
+use Rattle.grammars.specs.Texts.{CountedText, EachText, Text}
 use Rattle.format_resp.specs.Resp.{DataText, Ended, line_end, Shown}
 use Rattle.std.specs.Borrow.{Bor}
 use Rattle.format_resp.specs.Alike.{ArePairwise}

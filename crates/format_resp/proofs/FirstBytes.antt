@@ -1,12 +1,13 @@
 -- The first bytes of replies.
 use Rattle.std.specs.Prelude.{◌≡◌, ◌==◌, ℕ, [], ◌∷◌, ◌++◌, Option, Some, None, if◌then◌else◌}
 use Rattle.std.proofs.Common.{refl, sym, ap, inr, ◌∙◌}
-use Rattle.winnow.specs.Bytes.{bytes_follow, bytes_reading}
-use Rattle.winnow.specs.Equal.{same_first, same_others, same_some}
-use Rattle.winnow.specs.Grammar.{Token}
-use Rattle.winnow.specs.InTurn.{Failed, First, Splits, MatchesEachCompletion, failed_as, stood_as}
-use Rattle.winnow.specs.Input.{Input}
-use Rattle.winnow.specs.Kind.{Kind, backtrack}
+use Rattle.streams.specs.Bytes.{bytes_follow, bytes_reading}
+use Rattle.streams.specs.Equal.{same_first, same_others, same_some}
+use Rattle.grammars.specs.Grammar.{Token}
+use Rattle.winnow_grammar.specs.InTurn.{Failed, First, Splits, MatchesEachCompletion, failed_as}
+use Rattle.winnow_grammar.specs.InTurn.{stood_as}
+use Rattle.streams.specs.Input.{Input}
+use Rattle.streams.specs.Kind.{Kind, backtrack}
 use Rattle.format_resp.specs.Resp.{IsIn, MarkText, byte_of}
 use Rattle.format_resp.specs.declared.marks.AggregateMark.TheVariants.{Bar, Greater, Percent, Star}
 use Rattle.format_resp.specs.declared.marks.AggregateMark.TheVariants.{Tilde}

@@ -2,19 +2,19 @@
 use Rattle.std.specs.Prelude.{◌≡◌, ℕ, Bool, IsTrue, ◌↔◌, None, List, [], ◌∷◌, ◌++◌}
 use Rattle.std.specs.Borrow.{Bor}
 use Rattle.std.proofs.Common.{refl, sym, ap, subst, inl, ◌∙◌, append_assoc}
-use Rattle.winnow.specs.Bytes.{bytes_reading}
-use Rattle.winnow.specs.Kind.{Kind, backtrack, memory}
-use Rattle.winnow.specs.Range.{from_to}
-use Rattle.winnow.specs.Sets.{InEither}
-use Rattle.winnow.specs.Grammar.Same.{Same}
-use Rattle.winnow.specs.Grammar.{Both, Counted, Grammar, Literally, Longest}
-use Rattle.winnow.specs.Once.{Others}
-use Rattle.winnow.specs.Grammar.Inversion.{slice_for}
-use Rattle.winnow.specs.Grammar.Searches as searches
-use Rattle.winnow.specs.Texts.{IsGrammarOf, Text}
-use Rattle.winnow.specs.Texts.Tokens.{counted_of, divides_either, divides_others, divides_seen}
-use Rattle.winnow.specs.Texts.Tokens.{divides_where, longest_of}
-use Rattle.winnow.specs.InTurn.{First}
+use Rattle.streams.specs.Bytes.{bytes_reading}
+use Rattle.streams.specs.Kind.{Kind, backtrack, memory}
+use Rattle.stream_sets.specs.Range.{from_to}
+use Rattle.stream_sets.specs.Sets.{InEither}
+use Rattle.grammars.specs.Grammar.Same.{Same}
+use Rattle.grammars.specs.Grammar.{Both, Counted, Grammar, Literally, Longest}
+use Rattle.stream_sets.specs.Once.{Others}
+use Rattle.grammars.specs.Grammar.Inversion.{slice_for}
+use Rattle.grammars.specs.Grammar.Searches as searches
+use Rattle.grammars.specs.Texts.{IsGrammarOf, Text}
+use Rattle.grammars.specs.Texts.Tokens.{counted_of, divides_either, divides_others, divides_seen}
+use Rattle.grammars.specs.Texts.Tokens.{divides_where, longest_of}
+use Rattle.winnow_grammar.specs.InTurn.{First}
 use Rattle.format_resp.specs.Resp.{DataText, Ended, LineText, line_end}
 
 -- the end of a line, as it is read

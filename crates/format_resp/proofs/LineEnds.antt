@@ -9,19 +9,20 @@ use Rattle.std.proofs.Math.Seq.{take-add, take-append_seam}
 use Rattle.std.proofs.lemmas.Bool.Decides.{nat_tests}
 use Rattle.std.proofs.lemmas.List.{get_or-drop, take_all}
 use Rattle.memchr.specs.Find.{is_byte2}
-use Rattle.winnow.specs.Equal.{same_first, same_others}
+use Rattle.streams.specs.Equal.{same_first, same_others}
 use Rattle.format_resp.specs.Lines.{EndsLine, IsLessLine, IsOpen}
 use Rattle.format_resp.specs.declared.lines.Line.{Line}
 use Rattle.format_resp.specs.declared.lines.Line.TheVariants.{Never, Open, Whole}
 use Rattle.format_resp.specs.Resp.{InLine, line_end, Ended, LineText}
 use Rattle.std.specs.Borrow.{Bor}
 use Rattle.std.proofs.lemmas.List.Elements.{All-from_recursion, recursion_from_All}
-use Rattle.winnow.specs.Bytes.{bytes_follow, bytes_reading}
-use Rattle.winnow.specs.Grammar.Inversion.{slice_for}
-use Rattle.winnow.specs.InTurn.{Failed, First, Splits, MatchesEachCompletion, failed_as, stood_as}
-use Rattle.winnow.specs.Input.{Input}
-use Rattle.winnow.specs.Kind.{Kind, backtrack}
-use Rattle.winnow.specs.Texts.{Members, Text}
+use Rattle.streams.specs.Bytes.{bytes_follow, bytes_reading}
+use Rattle.grammars.specs.Grammar.Inversion.{slice_for}
+use Rattle.winnow_grammar.specs.InTurn.{Failed, First, Splits, MatchesEachCompletion, failed_as}
+use Rattle.winnow_grammar.specs.InTurn.{stood_as}
+use Rattle.streams.specs.Input.{Input}
+use Rattle.streams.specs.Kind.{Kind, backtrack}
+use Rattle.grammars.specs.Texts.{Members, Text}
 
 pub all_append : (xs ys : List ℕ) → AllByRecursion InLine xs → AllByRecursion InLine ys
     → AllByRecursion InLine (xs ++ ys)

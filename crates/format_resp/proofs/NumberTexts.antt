@@ -10,23 +10,23 @@ use Rattle.std.proofs.lemmas.Bool.{cases_lt, eq-eqb, eqb-true, ne_eqb}
 use Rattle.std.proofs.lemmas.Bool.Decides.{nat_tests}
 use Rattle.std.proofs.lemmas.Int.Digits.{digits_value_more}
 use Rattle.std.proofs.lemmas.Str.Parse.{digits_value-take-le}
-use Rattle.winnow.specs.Digits.{value_in}
-use Rattle.winnow.specs.Digits.Inversion.{value_is}
+use Rattle.winnow_numbers.specs.Digits.{value_in}
+use Rattle.winnow_numbers.specs.Digits.Inversion.{value_is}
 use Rattle.format_resp.specs.Numbers.{AreDigits, DigitsText, IsBigNumber, IsDecimal, IsExponent}
 use Rattle.format_resp.specs.Numbers.{IsTail, RestAfterDigits, unsigned}
 use Rattle.std.specs.Borrow.{Bor}
 use Rattle.std.specs.List.{AllByRecursion}
 use Rattle.std.proofs.lemmas.List.{append-nil, nil_from_length}
 use Rattle.std.proofs.lemmas.List.Elements.{All-from_recursion, recursion_from_All}
-use Rattle.winnow.specs.AsChar.{IsDecDigit}
-use Rattle.winnow.specs.Bytes.{bytes_reading}
-use Rattle.winnow.specs.Equal.{none_is_some, same_first, same_others, true_is_false}
-use Rattle.winnow.specs.Grammar.{Class, Grammar, InClass, Longest}
-use Rattle.winnow.specs.Grammar as grammars
-use Rattle.winnow.specs.Grammar.Inversion.{slice_for}
-use Rattle.winnow.specs.Stream.{AnswersSeen}
-use Rattle.winnow.specs.Texts.{Members, NotFirst}
-use Rattle.winnow.specs.Texts.Tokens.{class_of, divides_seen, divides_where}
+use Rattle.stream_sets.specs.AsChar.{IsDecDigit}
+use Rattle.streams.specs.Bytes.{bytes_reading}
+use Rattle.streams.specs.Equal.{none_is_some, same_first, same_others, true_is_false}
+use Rattle.grammars.specs.Grammar.{Class, Grammar, InClass, Longest}
+use Rattle.grammars.specs.Grammar as grammars
+use Rattle.grammars.specs.Grammar.Inversion.{slice_for}
+use Rattle.streams.specs.Stream.{AnswersSeen}
+use Rattle.grammars.specs.Texts.{Members, NotFirst}
+use Rattle.grammars.specs.Texts.Tokens.{class_of, divides_seen, divides_where}
 
 -- a byte that is neither a digit nor a letter has the value 36
 pub most_value : (c : ℕ) → digit_value c ≤ 36

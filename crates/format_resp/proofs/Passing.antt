@@ -8,10 +8,10 @@ use Rattle.std.proofs.Common.{refl, sym, ap, inl, inr, ◌∙◌, arith, append_
 use Rattle.std.proofs.Common.{subst}
 use Rattle.std.proofs.lemmas.List.{append-nil, length-take-le, nil_from_length, take-append-drop}
 use Rattle.std.proofs.lemmas.List.{drop_at, take-append-le}
-use Rattle.winnow.specs.Grammar.Inversion.{slice_for}
-use Rattle.winnow.specs.Grammar.Lengths.{same_beginnings}
-use Rattle.winnow.specs.InTurn.{First, Led}
-use Rattle.winnow.specs.Texts.{CountedText}
+use Rattle.grammars.specs.Grammar.Inversion.{slice_for}
+use Rattle.grammars.specs.Grammar.Lengths.{same_beginnings}
+use Rattle.winnow_grammar.specs.InTurn.{First, Led}
+use Rattle.grammars.specs.Texts.{CountedText}
 use Rattle.format_resp.proofs.LineEnds.{unseen_rest}
 use Rattle.format_resp.specs.Extents.{IsDataEnd, IsLineEnd, IsPartOfData, PartFound, AreDue}
 use Rattle.format_resp.specs.Extents.{AreReplies, IsOf, IsPart, IsReply, Passed, ReplyResult}

@@ -5,13 +5,13 @@ use Rattle.std.specs.Borrow.{Bor}
 use Rattle.std.specs.Fmt.{decimal}
 use Rattle.std.specs.declared.vec.Vec.{Vec}
 use Rattle.std.proofs.Common.{refl, sym, ap, subst, inl, inr, ◌∙◌, arith, length-append}
-use Rattle.winnow.specs.Bytes.{bytes_follow, bytes_input, bytes_reading}
-use Rattle.winnow.specs.Cut.{ReadsOrAsks}
-use Rattle.winnow.specs.InTurn.{First}
-use Rattle.winnow.specs.Input.{Input}
-use Rattle.winnow.specs.Kind.{Kind, memory}
-use Rattle.winnow.specs.Partial.{with_flag}
-use Rattle.winnow.specs.Texts.{EachText, Text}
+use Rattle.streams.specs.Bytes.{bytes_follow, bytes_input, bytes_reading}
+use Rattle.winnow_grammar.specs.Cut.{ReadsOrAsks}
+use Rattle.winnow_grammar.specs.InTurn.{First}
+use Rattle.streams.specs.Input.{Input}
+use Rattle.streams.specs.Kind.{Kind, memory}
+use Rattle.streams.specs.Partial.{with_flag}
+use Rattle.grammars.specs.Texts.{EachText, Text}
 use Rattle.format_resp.proofs.AlikeReplies.{replies_alike}
 use Rattle.format_resp.proofs.WrittenTexts.{list_for, written_text}
 use Rattle.format_resp.specs.Alike.{AreAlike, AreAlikeAs, ArePairwise, IsBulkAs, IsCommand}

@@ -5,8 +5,8 @@ use Rattle.std.specs.List.{All, AllByRecursion}
 use Rattle.std.specs.declared.vec.Vec.{Vec}
 use Rattle.std.proofs.Common.{refl, sym, ap, subst, inl, inr, ◌∙◌, arith}
 use Rattle.std.proofs.lemmas.List.Elements.{All-cons, All-nil}
-use Rattle.winnow.specs.InTurn.{Led}
-use Rattle.winnow.specs.Texts.{EachText, Text}
+use Rattle.winnow_grammar.specs.InTurn.{Led}
+use Rattle.grammars.specs.Texts.{EachText, Text}
 use Rattle.format_resp.proofs.Made.{array_is, attributed_is, big_number_is, boolean_is}
 use Rattle.format_resp.proofs.Made.{bulk_error_is, bulk_is, double_is, error_is, integer_is}
 use Rattle.format_resp.proofs.Made.{marked_aggregate, marked_data, marked_line, marked_null_array}

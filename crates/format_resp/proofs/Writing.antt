@@ -10,7 +10,7 @@ use Rattle.std.proofs.Math.Seq.{take-append_seam}
 use Rattle.std.proofs.lemmas.Fmt.{decimal_digit, decimal_step}
 use Rattle.std.proofs.lemmas.List.{append-nil, drop_all, drop_more}
 use Rattle.std.proofs.lemmas.Result.{err_from_is_err_and}
-use Rattle.winnow.specs.Texts.{EachText, Text}
+use Rattle.grammars.specs.Texts.{EachText, Text}
 use Rattle.format_resp.specs.Written.{Adds, Keeps, IsBroken, IsDeeper, IsForeign, IsNoBigNumber}
 use Rattle.format_resp.specs.Written.{IsNoDouble, IsOrHas, IsRefused, IsRefusedAmong, IsRefusedAs}
 use Rattle.format_resp.specs.Written.{IsUnformatted, IsUnpaired, LineWritten, WrittenElements}

@@ -5,8 +5,8 @@ use Rattle.std.specs.Prelude.{None, ◌++◌}
 use Rattle.std.specs.declared.vec.Vec.{Vec}
 use denote.RawPtr.{null_ptr}
 use Rattle.std.proofs.Common.{refl, subst, arith, sym, inl, inr}
-use Rattle.winnow.specs.InTurn.{Led}
-use Rattle.winnow.specs.Texts.{EachText, Text, CountedText}
+use Rattle.winnow_grammar.specs.InTurn.{Led}
+use Rattle.grammars.specs.Texts.{EachText, Text, CountedText}
 use Rattle.format_resp.specs.Resp.{AggregateBehind, Body, Elements, MarkText, Replies, ReplyText}
 use Rattle.format_resp.specs.Resp.{DataBehind, DataSays, DataText, Ended, IsIn, LineSays, byte_of}
 use Rattle.format_resp.specs.Resp.{gathered, line_end, many}
@@ -16,7 +16,7 @@ use Rattle.format_resp.specs.declared.marks.Mark.{Mark}
 use Rattle.format_resp.specs.declared.marks.Mark.TheVariants.{Aggregate, Data, Line}
 use Rattle.format_resp.specs.declared.reply.Protocol.{Protocol}
 use Rattle.std.specs.Fmt.{decimal}
-use Rattle.winnow.specs.Grammar.Inversion.{slice_for}
+use Rattle.grammars.specs.Grammar.Inversion.{slice_for}
 use Rattle.format_resp.proofs.LineTexts.{null_text, signed_text, size_text}
 use Rattle.format_resp.proofs.Made.{marked_aggregate, marked_data, marked_line, marked_null_array}
 use Rattle.format_resp.proofs.Made.{marked_null_bulk}

@@ -5,7 +5,7 @@ use Rattle.std.specs.Prelude.{[], ◌∷◌}
 use Rattle.std.specs.Prelude.{◌++◌, length, take, drop, Option, Some, None, Result, Ok, Err}
 use Rattle.std.specs.Borrow.{Bor}
 use Rattle.std.specs.List.{AllByRecursion}
-use Rattle.winnow.specs.InTurn.{First}
+use Rattle.winnow_grammar.specs.InTurn.{First}
 use Rattle.format_resp.specs.Heads.{IsLinePrefix}
 use Rattle.format_resp.specs.Resp.{DataText, InLine, Replies, ReplyText, line_end}
 use Rattle.format_resp.specs.declared.extent.Extent.{Extent}

@@ -2,8 +2,8 @@
 use Rattle.std.specs.Prelude.{◌≡◌, ◌≤◌, ◌<◌, ⊤, ℕ, ℤ, List, ◌∷◌, ◌++◌, length, take, drop, Option}
 use Rattle.std.specs.Prelude.{None, Some}
 use Rattle.std.specs.List.{AllByRecursion}
-use Rattle.winnow.specs.InTurn.{First, Led}
-use Rattle.winnow.specs.Texts.{Text}
+use Rattle.winnow_grammar.specs.InTurn.{First, Led}
+use Rattle.grammars.specs.Texts.{Text}
 use Rattle.format_resp.specs.Lines.{IsOpen}
 use Rattle.format_resp.specs.Numbers.{SignedText, SizeLine}
 use Rattle.format_resp.specs.Resp.{Ended, For, InLine, IsIn, MarkText, byte_of}

@@ -5,9 +5,9 @@ use Rattle.std.specs.Prelude.{List, [], ◌∷◌, ◌++◌, length, Option, Non
 use Rattle.std.specs.Prelude.{if◌then◌else◌}
 use Rattle.std.specs.Int.{w64}
 use Rattle.std.specs.List.{AllByRecursion}
-use Rattle.winnow.specs.AsChar.{IsDecDigit}
-use Rattle.winnow.specs.Digits.{value_in}
-use Rattle.winnow.specs.Texts.{NotFirst}
+use Rattle.stream_sets.specs.AsChar.{IsDecDigit}
+use Rattle.winnow_numbers.specs.Digits.{value_in}
+use Rattle.grammars.specs.Texts.{NotFirst}
 
 -- one digit or more
 abbrev pub AreDigits : List ℕ → Type 0

@@ -2,7 +2,7 @@
 use Rattle.std.specs.Prelude.{◌≡◌, ℕ, List, ◌∷◌, ◌++◌, suc, ⊤}
 use Rattle.std.specs.Borrow.{Bor}
 use Rattle.std.specs.List.{AllByRecursion}
-use Rattle.winnow.specs.Texts.{EachText}
+use Rattle.grammars.specs.Texts.{EachText}
 use Rattle.format_resp.specs.Resp.{Opened, Replies, ReplyText, line_end}
 use Rattle.format_resp.specs.declared.reply.Protocol.TheVariants.{Resp2}
 use Rattle.format_resp.specs.declared.reply.Reply.{out-Reply}

@@ -4,9 +4,9 @@ use Rattle.std.specs.Prelude.{Option, Some, None, zero, suc}
 use Rattle.std.specs.Borrow.{Bor}
 use Rattle.std.specs.List.{AllByRecursion}
 use Rattle.std.specs.declared.vec.Vec.{Vec}
-use Rattle.winnow.specs.Bytes.{bytes_reading}
-use Rattle.winnow.specs.Texts.{CountedText, EachText, Members, Text}
-use Rattle.winnow.specs.InTurn.{Led}
+use Rattle.streams.specs.Bytes.{bytes_reading}
+use Rattle.grammars.specs.Texts.{CountedText, EachText, Members, Text}
+use Rattle.winnow_grammar.specs.InTurn.{Led}
 use Rattle.format_resp.specs.Numbers.{IsBigNumber, IsDouble, SignedText, SizeLine}
 use Rattle.format_resp.specs.declared.marks.AggregateMark.{AggregateMark}
 use Rattle.format_resp.specs.declared.marks.AggregateMark.TheVariants.{Bar, Greater, Percent, Star}

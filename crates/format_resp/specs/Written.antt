@@ -8,7 +8,7 @@ use Rattle.std.specs.Fmt.{decimal, signed_decimal}
 use Rattle.std.specs.Int.{w64}
 use Rattle.std.specs.List.{AllByRecursion}
 use Rattle.std.specs.declared.vec.Vec.{Vec}
-use Rattle.winnow.specs.Texts.{EachText, Text}
+use Rattle.grammars.specs.Texts.{EachText, Text}
 use Rattle.format_resp.specs.Numbers.{IsBigNumber, IsDouble}
 use Rattle.format_resp.specs.Resp.{DataSays, InLine, IsIn, IsVerbatim, LineSays, Opened, Replies}
 use Rattle.format_resp.specs.Resp.{byte_of, gathered, line_end, many}

@@ -1,6 +1,6 @@
 //! Laws about parsing values that were written.
 ghost use Rattle.std.specs.Prelude.{◌≡◌, ◌⊎◌, ◌<◌, ◌++◌, [], ℕ, IfErr, IfOk, List};
-ghost use Rattle.winnow.specs.InTurn.{First};
+ghost use Rattle.winnow_grammar.specs.InTurn.{First};
 ghost use Rattle.format_resp.specs.Alike.{AreAlike, IsCommand};
 ghost use Rattle.format_resp.specs.Resp.{Replies, ReplyText};
 ghost use Rattle.format_resp.specs.Written.{IsRefused};
@@ -13,8 +13,9 @@ use crate::read::read_reply;
 use crate::reply::{Protocol, Reply};
 use crate::write::{WriteError, write_command, write_reply};
 use std::alloc::Allocator;
-use winnow::error::ParserError;
-use winnow::stream::{Partial, StreamIsPartial};
+use stream_errors::parser_error::ParserError;
+use streams::partial::Partial;
+use streams::stream::StreamIsPartial;
 
 /// Reads the reply at the start of the bytes, which is known to be there, and returns the rest.
 fn read_whole<'i, A: Allocator + Copy>(

@@ -1,14 +1,18 @@
 //! The parts of replies.
 
-ghost use Rattle.winnow.specs.Bytes.{bytes_follow, bytes_reading};
-ghost use Rattle.winnow.specs.Cut.{ReadsOrAsks};
-ghost use Rattle.winnow.specs.InTurn.{First};
+ghost use Rattle.streams.specs.Bytes.{bytes_follow, bytes_reading};
+ghost use Rattle.winnow_grammar.specs.Cut.{ReadsOrAsks};
+ghost use Rattle.winnow_grammar.specs.InTurn.{First};
 ghost use Rattle.format_resp.specs.Resp.{DataText, LineText, SizeText};
 
 use crate::numbers::size_line;
 use crate::pieces::{line, tokens};
-use winnow::error::{EmptyError, ErrMode, HasKind, ParserError};
-use winnow::stream::{Partial, Stream};
+use stream_errors::empty::EmptyError;
+use stream_errors::has_kind::HasKind;
+use stream_errors::mode::ErrMode;
+use stream_errors::parser_error::ParserError;
+use streams::partial::Partial;
+use streams::stream::Stream;
 
 type Bytes = Partial<&'static [u8]>;
 

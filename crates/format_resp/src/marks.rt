@@ -1,9 +1,9 @@
 //! The first bytes of replies.
 
 ghost use Rattle.std.specs.Prelude.{◌≡◌, None, IfSome, MatchBool};
-ghost use Rattle.winnow.specs.Bytes.{bytes_follow, bytes_reading};
-ghost use Rattle.winnow.specs.Cut.{ReadsOrAsks};
-ghost use Rattle.winnow.specs.InTurn.{First};
+ghost use Rattle.streams.specs.Bytes.{bytes_follow, bytes_reading};
+ghost use Rattle.winnow_grammar.specs.Cut.{ReadsOrAsks};
+ghost use Rattle.winnow_grammar.specs.InTurn.{First};
 ghost use Rattle.format_resp.specs.Resp.{IsIn, MarkText, byte_of};
 ghost use Rattle.format_resp.specs.declared.marks.Mark.{Mark};
 ghost use Rattle.format_resp.specs.declared.marks.Mark.TheVariants.{Aggregate};
@@ -11,8 +11,12 @@ ghost use Rattle.format_resp.specs.declared.reply.Protocol.TheVariants.{Resp2};
 
 use crate::pieces::token;
 use crate::reply::Protocol;
-use winnow::error::{EmptyError, ErrMode, HasKind, ParserError};
-use winnow::stream::{Partial, Stream};
+use stream_errors::empty::EmptyError;
+use stream_errors::has_kind::HasKind;
+use stream_errors::mode::ErrMode;
+use stream_errors::parser_error::ParserError;
+use streams::partial::Partial;
+use streams::stream::Stream;
 
 type Bytes = Partial<&'static [u8]>;
 

@@ -4,20 +4,22 @@ ghost use Rattle.std.specs.Char.{digit_value};
 ghost use Rattle.std.specs.Option.{SomeIff};
 ghost use Rattle.std.specs.Prelude.{◌≡◌, ◌≤◌, ◌<◌, ◌^◌, ℕ, ℤ, Option, None, IfSome};
 ghost use Rattle.std.specs.Prelude.{MatchBool, MatchOption};
-ghost use Rattle.winnow.specs.AsChar.{IsDecDigit};
-ghost use Rattle.winnow.specs.Bytes.{bytes_input, bytes_reading};
-ghost use Rattle.winnow.specs.Digits.{value_in};
-ghost use Rattle.winnow.specs.Exact.{IsSpared, Reads};
-ghost use Rattle.winnow.specs.Grammar.{Class};
-ghost use Rattle.winnow.specs.Texts.{NotFirst};
+ghost use Rattle.stream_sets.specs.AsChar.{IsDecDigit};
+ghost use Rattle.streams.specs.Bytes.{bytes_input, bytes_reading};
+ghost use Rattle.winnow_numbers.specs.Digits.{value_in};
+ghost use Rattle.winnow_core.specs.Exact.{IsSpared, Reads};
+ghost use Rattle.grammars.specs.Grammar.{Class};
+ghost use Rattle.grammars.specs.Texts.{NotFirst};
 ghost use Rattle.format_resp.specs.Numbers.{AreDigits, DigitsText, IsBigNumber, IsDecimal};
 ghost use Rattle.format_resp.specs.Numbers.{IsDouble, IsExponent, IsTail, RestAfterDigits};
 ghost use Rattle.format_resp.specs.Numbers.{SignedText, SizeLine, UnsignedText, is_negative};
 ghost use Rattle.format_resp.specs.Numbers.{signed, unsigned};
 
-use winnow::Parser;
-use winnow::ascii::impls::Digit1;
-use winnow::error::{EmptyError, ErrMode, HasKind};
+use stream_errors::empty::EmptyError;
+use stream_errors::has_kind::HasKind;
+use stream_errors::mode::ErrMode;
+use winnow_ascii::ascii::impls::Digit1;
+use winnow_core::parser::Parser;
 
 type Error = ErrMode<EmptyError>;
 

@@ -1,21 +1,25 @@
 //! The parts of replies, over any stream, by the grammars of their parsers.
 ghost use Rattle.std.specs.Prelude.{◌≡◌, ◌∷◌, [], None};
-ghost use Rattle.winnow.specs.Form.{modal};
-ghost use Rattle.winnow.specs.Range.{from_to};
-ghost use Rattle.winnow.specs.Cut.{ReadsOrAsks};
-ghost use Rattle.winnow.specs.Literal.Laws.{SpellsByText};
-ghost use Rattle.winnow.specs.Once.{TokenEqInjective};
-ghost use Rattle.winnow.specs.Grammar.{Both, Counted, Longest, Token};
-ghost use Rattle.winnow.specs.Once.{Others};
-ghost use Rattle.winnow.specs.Grammar.Searches.{LiterallyBytes};
+ghost use Rattle.stream_errors.specs.Form.{modal};
+ghost use Rattle.stream_sets.specs.Range.{from_to};
+ghost use Rattle.winnow_grammar.specs.Cut.{ReadsOrAsks};
+ghost use Rattle.winnow_core.specs.Literal.Laws.{SpellsByText};
+ghost use Rattle.stream_sets.specs.Once.{TokenEqInjective};
+ghost use Rattle.grammars.specs.Grammar.{Both, Counted, Longest, Token};
+ghost use Rattle.stream_sets.specs.Once.{Others};
+ghost use Rattle.grammars.specs.Grammar.Searches.{LiterallyBytes};
 
-use winnow::ascii::impls::Crlf;
-use winnow::combinator::terminated;
-use winnow::error::ParserError;
-use winnow::exact::ReadsPieces;
-use winnow::stream::{AsChar, Compare, ContainsToken, Range, StreamIsPartial};
-use winnow::token::impls::Any;
-use winnow::token::{take, take_till};
+use stream_errors::parser_error::ParserError;
+use stream_searches::compare::Compare;
+use stream_sets::as_char::AsChar;
+use stream_sets::range::Range;
+use stream_sets::sets::ContainsToken;
+use streams::stream::StreamIsPartial;
+use winnow_ascii::ascii::impls::Crlf;
+use winnow_comb::combinator::terminated;
+use winnow_grammar::pieces::ReadsPieces;
+use winnow_token::token::impls::Any;
+use winnow_token::token::{take, take_till};
 
 /// A token.
 #[inline(always)]

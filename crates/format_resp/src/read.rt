@@ -1,9 +1,9 @@
 //! The reader of replies.
 
 ghost use Rattle.std.specs.Prelude.{ℕ};
-ghost use Rattle.winnow.specs.Bytes.{bytes_follow, bytes_reading};
-ghost use Rattle.winnow.specs.Cut.{ReadsOrAsks};
-ghost use Rattle.winnow.specs.InTurn.{First, Led};
+ghost use Rattle.streams.specs.Bytes.{bytes_follow, bytes_reading};
+ghost use Rattle.winnow_grammar.specs.Cut.{ReadsOrAsks};
+ghost use Rattle.winnow_grammar.specs.InTurn.{First, Led};
 ghost use Rattle.format_resp.specs.Resp.{AggregateBehind, DataBehind, Elements, Ended, LineSays};
 ghost use Rattle.format_resp.specs.Resp.{ReplyText, SizeText};
 
@@ -12,8 +12,13 @@ use crate::leaves::{read_data, read_line, read_size};
 use crate::marks::{AggregateMark, DataMark, LineMark, Mark, read_mark};
 use crate::reply::{Protocol, Reply};
 use std::alloc::Allocator;
-use winnow::error::{EmptyError, ErrMode, HasKind, OrNoMemory, ParserError};
-use winnow::stream::{Partial, Stream};
+use stream_errors::empty::EmptyError;
+use stream_errors::growth::OrNoMemory;
+use stream_errors::has_kind::HasKind;
+use stream_errors::mode::ErrMode;
+use stream_errors::parser_error::ParserError;
+use streams::partial::Partial;
+use streams::stream::Stream;
 
 type Bytes = Partial<&'static [u8]>;
 

@@ -1,7 +1,7 @@
 //! Replies and commands as bytes.
 ghost use Rattle.std.specs.List.{AllByRecursion};
 ghost use Rattle.std.specs.Prelude.{◌≡◌, ◌⊎◌, ◌++◌, [], IfErr, MatchBool, OnErr, OnOk};
-ghost use Rattle.winnow.specs.Texts.{EachText};
+ghost use Rattle.grammars.specs.Texts.{EachText};
 ghost use Rattle.format_resp.specs.Numbers.{IsBigNumber, IsDouble};
 ghost use Rattle.format_resp.specs.Resp.{BooleanText, InLine, IsIn, IsVerbatim, ReplyText};
 ghost use Rattle.format_resp.specs.Resp.{gathered};

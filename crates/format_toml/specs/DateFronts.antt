@@ -15,7 +15,7 @@ use Rattle.format_toml_tree.specs.declared.value.DateTime.{DateTime}
 use Rattle.format_toml_tree.specs.declared.value.DateTime.TheVariants as dates
 use Rattle.format_toml_tree.specs.declared.value.Offset.{Offset}
 use Rattle.format_toml_tree.specs.declared.value.Offset.TheVariants.{Minutes, Zulu}
-use Rattle.winnow.specs.Texts.{StartsWith}
+use Rattle.grammars.specs.Texts.{StartsWith}
 
 -- ---- characters
 

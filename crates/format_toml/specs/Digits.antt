@@ -7,7 +7,7 @@ use Rattle.std.specs.Prelude.{◌∷◌, ◌++◌, zero, suc, length, drop}
 use Rattle.std.proofs.Common.{refl, sym, ap, subst, inl, inr, ◌∙◌, arith, get_or, drop-cons}
 use Rattle.std.proofs.Common.{◌⊎◌}
 use Rattle.format_toml.specs.Numbers.{DigitsText, NextText, NumberText}
-use Rattle.winnow.specs.Texts.{BothText, EachText, EitherText, Spelled, TokenOfText}
+use Rattle.grammars.specs.Texts.{BothText, EachText, EitherText, Spelled, TokenOfText}
 
 -- `Continues base due number tokens n`: after digits with the value `number`, the digits in
 -- `tokens` make `n`. If `due` is true, a digit must follow.

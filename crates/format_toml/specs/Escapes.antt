@@ -6,12 +6,12 @@ use Rattle.format_toml.specs.Grammars.{Character, Escape, Short, WideUnits}
 use Rattle.format_toml.specs.Led.{led_unique}
 use Rattle.format_toml.specs.Toml.{IsWide, SetResult, StandsFor}
 use Rattle.format_toml.specs.declared.characters.Characters.TheVariants.{Basic}
-use Rattle.winnow.specs.OneOf.Laws.{token_of_takes}
-use Rattle.winnow.specs.Grammar.{IsUnique, TakesTokens}
-use Rattle.winnow.specs.Grammar.Meaning.{Meaning, meaning_unique}
-use Rattle.winnow.specs.Grammar.Outputs.{IsAlike, both_alike}
-use Rattle.winnow.specs.Grammar.Unique.{both_take, both_unique, either_takes, either_unique}
-use Rattle.winnow.specs.Grammar.Unique.{token_of_unique, token_unique}
+use Rattle.winnow_token.specs.OneOf.Laws.{token_of_takes}
+use Rattle.grammars.specs.Grammar.{IsUnique, TakesTokens}
+use Rattle.grammars.specs.Grammar.Meaning.{Meaning, meaning_unique}
+use Rattle.grammars.specs.Grammar.Outputs.{IsAlike, both_alike}
+use Rattle.grammars.specs.Grammar.Unique.{both_take, both_unique, either_takes, either_unique}
+use Rattle.grammars.specs.Grammar.Unique.{token_of_unique, token_unique}
 use Rattle.format_parts.specs.Hexadecimal.{alone_unique, unit_one, unit_unique}
 
 -- ---- digits and numbers of them

@@ -17,7 +17,7 @@ use Rattle.format_toml.specs.Floats.{IsMagnitude, IsSign, IsTail, IsWhole, Signe
 use Rattle.format_toml.specs.Floats.{SplitsAt}
 use Rattle.format_toml.specs.Floats.{Unsigned}
 use Rattle.format_toml.specs.Numbers.{NextText}
-use Rattle.winnow.specs.Texts.{EachText}
+use Rattle.grammars.specs.Texts.{EachText}
 
 -- ---- the offset is unique
 

@@ -8,7 +8,7 @@ use Rattle.format_toml.specs.Floats.{AreDigits, IsExponent, IsFloat, IsFraction,
 use Rattle.format_toml.specs.Floats.{IsSign}
 use Rattle.format_toml.specs.Floats.{IsTail, IsWhole, Signed, Unsigned}
 use Rattle.format_toml.specs.Toml.{IsUnquoted}
-use Rattle.winnow.specs.Texts.{StartsWith}
+use Rattle.grammars.specs.Texts.{StartsWith}
 
 -- ---- characters
 

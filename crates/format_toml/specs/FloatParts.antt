@@ -16,7 +16,7 @@ use Rattle.format_toml.specs.Digits.{done_back, under_on}
 use Rattle.format_toml.specs.Floats.{AreDigits}
 use Rattle.format_toml.specs.Floats.{IsWhole}
 use Rattle.format_toml.specs.Numbers.{NextText}
-use Rattle.winnow.specs.Texts.{EachText}
+use Rattle.grammars.specs.Texts.{EachText}
 
 -- ---- digits in a loop
 

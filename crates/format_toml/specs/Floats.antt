@@ -5,7 +5,7 @@ use Rattle.std.specs.Prelude.{◌≡◌, ◌⊎◌, ◌==◌, ℕ, List, [], ◌
 use Rattle.std.specs.Prelude.{string_bytes}
 use Rattle.format_toml.specs.Numbers.{DigitsText}
 use Rattle.format_toml_tree.specs.declared.value.Float.{Float}
-use Rattle.winnow.specs.Texts.{Text}
+use Rattle.grammars.specs.Texts.{Text}
 
 -- ---- its parts
 

@@ -2,9 +2,9 @@
 use Rattle.std.specs.Prelude.{◌≡◌, ⊤, ℕ, zero, suc, Bool, true, false, List, Option, None, Some}
 use Rattle.std.specs.declared.string.String.{String}
 use Rattle.std.specs.declared.vec.Vec.{Vec}
-use Rattle.winnow.specs.Text.{text_reading}
-use Rattle.winnow.specs.AsChar.{IsSpace}
-use Rattle.winnow.specs.Range.{from_to}
+use Rattle.streams.specs.Text.{text_reading}
+use Rattle.stream_sets.specs.AsChar.{IsSpace}
+use Rattle.stream_sets.specs.Range.{from_to}
 use Rattle.format_parts.specs.Hexadecimal.{CodeUnit, IsAlone}
 use Rattle.format_parts.specs.Words.{Char, RunOf, Slice, Word, former, latter, pair}
 use Rattle.format_toml.specs.Led.{Led}
@@ -20,11 +20,12 @@ use Rattle.format_toml.specs.declared.characters.Characters.TheVariants.{White}
 use Rattle.format_toml_tree.specs.declared.value.Item.{Item}
 use Rattle.format_toml_tree.specs.declared.value.Key.{Key}
 use Rattle.format_toml_tree.specs.declared.value.Value.{Value}
-use Rattle.winnow.specs.Grammar.{Both, Either, Gathered, Grammar, Longest, Many, Nothing, Optional}
-use Rattle.winnow.specs.Grammar.{Parted, Taken, Three, Token, TokenOf}
-use Rattle.winnow.specs.Grammar.Meaning.{Meaning}
-use Rattle.winnow.specs.Grammar.Tuples.{Four}
-use Rattle.winnow.specs.Accumulator.Holds.{HasCharacters}
+use Rattle.grammars.specs.Grammar.{Both, Either, Gathered, Grammar, Longest, Many, Nothing}
+use Rattle.grammars.specs.Grammar.{Optional}
+use Rattle.grammars.specs.Grammar.{Parted, Taken, Three, Token, TokenOf}
+use Rattle.grammars.specs.Grammar.Meaning.{Meaning}
+use Rattle.grammars.specs.Grammar.Tuples.{Four}
+use Rattle.stream_sets.specs.Accumulator.Holds.{HasCharacters}
 
 -- ---- white space
 

@@ -16,7 +16,7 @@ use Rattle.format_toml.specs.Digits.{first, head_of, make_first, next, no_cons, 
 use Rattle.format_toml.specs.Numbers.{AnyIntegerText, BasedText, BehindZero}
 use Rattle.format_toml.specs.Numbers.{IntegerText, IsIntegerOf, IsNumber, IsSigned}
 use Rattle.format_toml.specs.Numbers.{NextText, NumberText, UnsignedText}
-use Rattle.winnow.specs.Texts.{BothText, EachText, EitherText, MadeText, Spelled, Text}
+use Rattle.grammars.specs.Texts.{BothText, EachText, EitherText, MadeText, Spelled, Text}
 
 -- ---- what begins digits
 

@@ -1,8 +1,8 @@
 -- The grammars of keys and headers are those of what is written.
 use Rattle.std.specs.Prelude.{◌≡◌, ◌⊎◌, ◌<◌, ℕ, List, [], None}
 use Rattle.std.proofs.Common.{refl, inl, inr, arith}
-use Rattle.winnow.specs.AsChar.{IsSpace}
-use Rattle.winnow.specs.Range.{from_to}
+use Rattle.stream_sets.specs.AsChar.{IsSpace}
+use Rattle.stream_sets.specs.Range.{from_to}
 use Rattle.format_parts.specs.Words.{Between, One, between_of, char_of, for_front, for_of}
 use Rattle.format_parts.specs.Words.{former, latter, pair}
 use Rattle.format_toml.specs.Grammars.{AnyCharacters, AnyKey, DoubleHeader, Header, LiteralString}
@@ -18,15 +18,15 @@ use Rattle.format_toml.specs.Toml.{KeyText, LiteralText, MarkText, NameText, Pai
 use Rattle.format_toml.specs.Toml.{TableText, WsText}
 use Rattle.format_toml.specs.declared.characters.Characters.TheVariants.{Bare}
 use Rattle.format_toml_tree.specs.declared.value.Value.{Value}
-use Rattle.winnow.specs.Grammar.{Grammar}
-use Rattle.winnow.specs.Texts.{Anything, AtLeast, StartsWith, TextsStartWith, EitherText, InFront}
-use Rattle.winnow.specs.Texts.{InList}
-use Rattle.winnow.specs.Texts.{IsGrammarOf, NotFirst, PartedText, Text}
-use Rattle.winnow.specs.Texts.Fronts.{begins_wider, both_front, either_front, front_any}
-use Rattle.winnow.specs.Texts.Fronts.{front_begins, in_list_front, may_begin, none_begins}
-use Rattle.winnow.specs.Texts.Fronts.{not_first, spelled_begins}
-use Rattle.winnow.specs.Texts.Parts.{behind_less, three_of}
-use Rattle.winnow.specs.Texts.Rows.{list_of, parted_of}
+use Rattle.grammars.specs.Grammar.{Grammar}
+use Rattle.grammars.specs.Texts.{Anything, AtLeast, StartsWith, TextsStartWith, EitherText, InFront}
+use Rattle.grammars.specs.Texts.{InList}
+use Rattle.grammars.specs.Texts.{IsGrammarOf, NotFirst, PartedText, Text}
+use Rattle.grammars.specs.Texts.Fronts.{begins_wider, both_front, either_front, front_any}
+use Rattle.grammars.specs.Texts.Fronts.{front_begins, in_list_front, may_begin, none_begins}
+use Rattle.grammars.specs.Texts.Fronts.{not_first, spelled_begins}
+use Rattle.grammars.specs.Texts.Parts.{behind_less, three_of}
+use Rattle.grammars.specs.Texts.Rows.{list_of, parted_of}
 
 -- ---- names
 

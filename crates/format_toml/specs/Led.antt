@@ -1,19 +1,19 @@
 -- One of two, by the character that is first.
 use Rattle.std.specs.Prelude.{◌≡◌, ◌⊎◌, ℕ, List, Result, Ok, Err}
 use Rattle.std.proofs.Common.{inl, inr}
-use Rattle.winnow.specs.Exact.{Reads}
-use Rattle.winnow.specs.Grammar.{Grammar, IsUnique, NoMatch}
-use Rattle.winnow.specs.{EmptyError}
-use Rattle.winnow.specs.{ErrMode}
-use Rattle.winnow.specs.{Needed}
-use Rattle.winnow.specs.Form.{marked_kind}
-use Rattle.winnow.specs.Mode.{mode_kind}
-use Rattle.winnow.specs.Input.{Input}
-use Rattle.winnow.specs.Kind.{Kind}
-use Rattle.winnow.specs.Text.{text_reading}
-use Rattle.winnow.specs.Texts.{StartsWith, TextsStartWith, EitherText, InFront, IsGrammarOf}
-use Rattle.winnow.specs.Texts.{NotFirst, Text}
-use Rattle.winnow.specs.Texts.Fronts.{begins_never}
+use Rattle.winnow_core.specs.Exact.{Reads}
+use Rattle.grammars.specs.Grammar.{Grammar, IsUnique, NoMatch}
+use Rattle.stream_errors.specs.declared.empty.EmptyError.{EmptyError}
+use Rattle.stream_errors.specs.declared.mode.ErrMode.{ErrMode}
+use Rattle.streams.specs.declared.needed.Needed.{Needed}
+use Rattle.stream_errors.specs.Form.{marked_kind}
+use Rattle.stream_errors.specs.Mode.{mode_kind}
+use Rattle.streams.specs.Input.{Input}
+use Rattle.streams.specs.Kind.{Kind}
+use Rattle.streams.specs.Text.{text_reading}
+use Rattle.grammars.specs.Texts.{StartsWith, TextsStartWith, EitherText, InFront, IsGrammarOf}
+use Rattle.grammars.specs.Texts.{NotFirst, Text}
+use Rattle.grammars.specs.Texts.Fronts.{begins_never}
 
 -- `Led these g h`: `g` if the tokens start with a character of `these`, otherwise `h`.
 unfoldable pub Led : {O : Type 0} → (ℕ → Type 0) → Grammar ℕ O → Grammar ℕ O → Grammar ℕ O

@@ -1,8 +1,8 @@
 -- The grammars of lines and documents are those of what is written.
 use Rattle.std.specs.Prelude.{◌≡◌, ◌⊎◌, ◌<◌, ℕ, [], None}
 use Rattle.std.proofs.Common.{arith, inl, inr, refl}
-use Rattle.winnow.specs.AsChar.{IsSpace}
-use Rattle.winnow.specs.Range.{from_to}
+use Rattle.stream_sets.specs.AsChar.{IsSpace}
+use Rattle.stream_sets.specs.Range.{from_to}
 use Rattle.format_parts.specs.Words.{between_of, char_of, for_front, for_of, latter}
 use Rattle.format_toml.specs.Grammars.{AnyItem, Document, Line}
 use Rattle.format_toml.specs.Keys.{OpensKey, opens_key_is, pair_begins, table_of}
@@ -13,12 +13,12 @@ use Rattle.format_toml.specs.Spaces.{newline_begins, newline_of, no_space, space
 use Rattle.format_toml.specs.Spaces.{spaced_of, tail_is, ws_of}
 use Rattle.format_toml.specs.Toml.{DocumentText, IsEntry, ItemText, LineText, Spaced, ValueText}
 use Rattle.format_toml.specs.Values.{entry_of}
-use Rattle.winnow.specs.Texts.{AtEnd, TextsStartWith, IsGrammarOf, MayStartWith}
-use Rattle.winnow.specs.Texts.Fronts.{begins_wider, both_front, either_front, front_any}
-use Rattle.winnow.specs.Texts.Fronts.{front_begins, front_behind, may_begin_more, may_begin_none}
-use Rattle.winnow.specs.Texts.Fronts.{none_begins, optional_front, spelled_begins}
-use Rattle.winnow.specs.Texts.Parts.{behind_less, both_of, optional_of}
-use Rattle.winnow.specs.Texts.Rows.{list_of, parted_of}
+use Rattle.grammars.specs.Texts.{AtEnd, TextsStartWith, IsGrammarOf, MayStartWith}
+use Rattle.grammars.specs.Texts.Fronts.{begins_wider, both_front, either_front, front_any}
+use Rattle.grammars.specs.Texts.Fronts.{front_begins, front_behind, may_begin_more, may_begin_none}
+use Rattle.grammars.specs.Texts.Fronts.{none_begins, optional_front, spelled_begins}
+use Rattle.grammars.specs.Texts.Parts.{behind_less, both_of, optional_of}
+use Rattle.grammars.specs.Texts.Rows.{list_of, parted_of}
 
 -- what a table or an entry begins with
 abbrev pub OpensItem : ℕ → Type 0

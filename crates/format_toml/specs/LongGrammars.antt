@@ -2,10 +2,10 @@
 use Rattle.std.specs.Prelude.{⊤, ℕ, None}
 use Rattle.std.specs.declared.string.String.{String}
 use Rattle.format_parts.specs.Words.{Char, former, latter, pair}
-use Rattle.winnow.specs.Accumulator.Holds.{HasCharacters}
-use Rattle.winnow.specs.Grammar.{Ahead, Both, Either, Gathered, Grammar, Many, NotAhead, Optional}
-use Rattle.winnow.specs.Grammar.{Three}
-use Rattle.winnow.specs.Range.{from_to}
+use Rattle.stream_sets.specs.Accumulator.Holds.{HasCharacters}
+use Rattle.grammars.specs.Grammar.{Ahead, Both, Either, Gathered, Grammar, Many, NotAhead, Optional}
+use Rattle.grammars.specs.Grammar.{Three}
+use Rattle.stream_sets.specs.Range.{from_to}
 
 module _ {T O : Type 0} (quote : Grammar T O) where
   abbrev pub TwoOf : Grammar T (O × O)

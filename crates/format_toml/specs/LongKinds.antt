@@ -12,13 +12,13 @@ use Rattle.format_toml.specs.Strings.{character_of, literal_string_begins, liter
 use Rattle.format_toml.specs.Strings.{one_of_set, set_begins}
 use Rattle.format_toml.specs.Toml.{AnyBasicText, AnyLiteralText, CharacterText, IsOf, NewlineText}
 use Rattle.format_toml.specs.declared.characters.Characters.TheVariants.{Basic, Literal}
-use Rattle.winnow.specs.Grammar.{Nothing}
-use Rattle.winnow.specs.Grammar.Unique.{unique_nothing}
-use Rattle.winnow.specs.Texts.{Anything, TextsStartWith, EitherText, IsGrammarOf, NotFirst, Text}
-use Rattle.winnow.specs.Texts.{TokenOfText}
-use Rattle.winnow.specs.Texts.Fronts.{begins_wider, both_front, either_front, front_any}
-use Rattle.winnow.specs.Texts.Fronts.{front_begins, spelled_begins}
-use Rattle.winnow.specs.Texts.Parts.{either_apart}
+use Rattle.grammars.specs.Grammar.{Nothing}
+use Rattle.grammars.specs.Grammar.Unique.{unique_nothing}
+use Rattle.grammars.specs.Texts.{Anything, TextsStartWith, EitherText, IsGrammarOf, NotFirst, Text}
+use Rattle.grammars.specs.Texts.{TokenOfText}
+use Rattle.grammars.specs.Texts.Fronts.{begins_wider, both_front, either_front, front_any}
+use Rattle.grammars.specs.Texts.Fronts.{front_begins, spelled_begins}
+use Rattle.grammars.specs.Texts.Parts.{either_apart}
 
 -- ---- literal ones
 

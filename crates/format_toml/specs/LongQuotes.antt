@@ -4,11 +4,11 @@ use Rattle.std.proofs.Common.{refl, sym, ap, subst, inl, inr, ◌∙◌}
 use Rattle.format_parts.specs.Words.{Char, One, char_of, pair}
 use Rattle.format_toml.specs.LongGrammars.{Delimiter, Quote, TwoOf}
 use Rattle.format_toml.specs.LongTexts.{DelimiterText, one_and_two}
-use Rattle.winnow.specs.Equal.{same_others}
-use Rattle.winnow.specs.Grammar.{Ahead, Both, NoMatch, NotAhead, Optional}
-use Rattle.winnow.specs.Texts.{Anything, BothText, IsGrammarOf, Spelled, Text}
-use Rattle.winnow.specs.Texts.Fronts.{front_any}
-use Rattle.winnow.specs.Texts.Parts.{both_of, three_of}
+use Rattle.streams.specs.Equal.{same_others}
+use Rattle.grammars.specs.Grammar.{Ahead, Both, NoMatch, NotAhead, Optional}
+use Rattle.grammars.specs.Texts.{Anything, BothText, IsGrammarOf, Spelled, Text}
+use Rattle.grammars.specs.Texts.Fronts.{front_any}
+use Rattle.grammars.specs.Texts.Parts.{both_of, three_of}
 
 pub twice : {a b c d : ℕ} {xs ys : List ℕ} → a ∷ b ∷ xs ≡ c ∷ d ∷ ys → xs ≡ ys
 twice e = same_others (same_others e)

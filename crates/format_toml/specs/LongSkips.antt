@@ -2,7 +2,7 @@
 use Rattle.std.specs.Prelude.{◌≡◌, ◌⊎◌, ◌<◌, ⊤, ℕ, List, [], ◌∷◌, ◌++◌, length, Some, None}
 use Rattle.std.specs.List.{All}
 use Rattle.std.proofs.Common.{refl, sym, ap, subst, inl, inr, ◌∙◌, arith}
-use Rattle.winnow.specs.AsChar.{IsSpace}
+use Rattle.stream_sets.specs.AsChar.{IsSpace}
 use Rattle.format_parts.specs.Words.{One, Run, char_of, latter}
 use Rattle.format_toml.specs.Grammars.{Blank, EscapedLine, Skips}
 use Rattle.format_toml.specs.LongStrings.{Skipping}
@@ -14,16 +14,17 @@ use Rattle.format_toml.specs.Toml.{BlankText, CharacterText, EscapedLineText, Es
 use Rattle.format_toml.specs.Toml.{NewlineText, WsText}
 use Rattle.format_toml.specs.UniqueLong.{skips_unique}
 use Rattle.format_toml.specs.declared.characters.Characters.TheVariants.{White}
-use Rattle.winnow.specs.Equal.{same_others}
-use Rattle.winnow.specs.Grammar.{Both, Each, Gathered, Many, NoMatch}
-use Rattle.winnow.specs.Range.{from_to}
-use Rattle.winnow.specs.Texts.{Anything, StartsWith, TextsStartWith, BothText, EachText, EitherText}
-use Rattle.winnow.specs.Texts.{GatheredText, InFront, IsGrammarOf, NotFirst, Spelled, TokenOfText}
-use Rattle.winnow.specs.Texts.Fronts.{begins_wider, both_front, either_front, front_any}
-use Rattle.winnow.specs.Texts.Fronts.{front_begins, front_whole, may_begin, none_begins}
-use Rattle.winnow.specs.Texts.Fronts.{spelled_begins}
-use Rattle.winnow.specs.Texts.Parts.{both_of, either_apart}
-use Rattle.winnow.specs.Texts.Rows.{each_back, each_there, gathered_of, many_of}
+use Rattle.streams.specs.Equal.{same_others}
+use Rattle.grammars.specs.Grammar.{Both, Each, Gathered, Many, NoMatch}
+use Rattle.stream_sets.specs.Range.{from_to}
+use Rattle.grammars.specs.Texts.{Anything, StartsWith, TextsStartWith, BothText, EachText}
+use Rattle.grammars.specs.Texts.{EitherText}
+use Rattle.grammars.specs.Texts.{GatheredText, InFront, IsGrammarOf, NotFirst, Spelled, TokenOfText}
+use Rattle.grammars.specs.Texts.Fronts.{begins_wider, both_front, either_front, front_any}
+use Rattle.grammars.specs.Texts.Fronts.{front_begins, front_whole, may_begin, none_begins}
+use Rattle.grammars.specs.Texts.Fronts.{spelled_begins}
+use Rattle.grammars.specs.Texts.Parts.{both_of, either_apart}
+use Rattle.grammars.specs.Texts.Rows.{each_back, each_there, gathered_of, many_of}
 
 -- ---- what is blank
 

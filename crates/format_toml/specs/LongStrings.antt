@@ -5,10 +5,10 @@ use Rattle.std.proofs.Common.{refl, sym, ap, subst, inl, inr, ◌∙◌, arith, 
 use Rattle.format_toml.specs.LongGrammars.{Part}
 use Rattle.format_toml.specs.LongQuotes.{Clear, quote_back, quote_there, twice}
 use Rattle.format_toml.specs.LongTexts.{BodyText, room_behind}
-use Rattle.winnow.specs.Equal.{same_others}
-use Rattle.winnow.specs.Grammar.{Both, Each, Either, Grammar, IsUnique, NoMatch}
-use Rattle.winnow.specs.Texts.{Anything, StartsWith, TextsStartWith, IsGrammarOf, NotFirst, Text}
-use Rattle.winnow.specs.Texts.Fronts.{none_begins}
+use Rattle.streams.specs.Equal.{same_others}
+use Rattle.grammars.specs.Grammar.{Both, Each, Either, Grammar, IsUnique, NoMatch}
+use Rattle.grammars.specs.Texts.{Anything, StartsWith, TextsStartWith, IsGrammarOf, NotFirst, Text}
+use Rattle.grammars.specs.Texts.Fronts.{none_begins}
 
 -- The input that may be skipped, by its grammar: `stop` holds where nothing more is skipped.
 pub record Skipping (quote : ℕ) (text : Text ℕ ℕ) (skips : Grammar ℕ ⊤)

@@ -2,8 +2,8 @@
 use Rattle.std.specs.Prelude.{◌≡◌, ◌⊎◌, ℕ, suc, List, [], ◌∷◌, ◌++◌}
 use Rattle.std.specs.declared.string.String.{String}
 use Rattle.format_parts.specs.Words.{Between, One, latter, pair}
-use Rattle.winnow.specs.Accumulator.Holds.{HasCharacters}
-use Rattle.winnow.specs.Texts.{BothText, GatheredText, Text}
+use Rattle.stream_sets.specs.Accumulator.Holds.{HasCharacters}
+use Rattle.grammars.specs.Texts.{BothText, GatheredText, Text}
 
 abbrev pub one_and_two : {A B C : Type 0} → A → B × C → A × B × C
 one_and_two a b = (a, b.0, b.1)

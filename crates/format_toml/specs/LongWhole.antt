@@ -10,15 +10,16 @@ use Rattle.format_toml.specs.LongStrings.{Before, Closes, Skipping, closes_begin
 use Rattle.format_toml.specs.LongStrings.{parts_there}
 use Rattle.format_toml.specs.LongTexts.{BodyText, DelimiterText, LongText, NoneWritten}
 use Rattle.format_toml.specs.LongTexts.{Trimmed, one_and_two}
-use Rattle.winnow.specs.Accumulator.Holds.{HasCharacters}
-use Rattle.winnow.specs.Equal.{same_first, same_others}
-use Rattle.winnow.specs.Grammar.{Both, Either, Gathered, Grammar, Many, NoMatch, Optional}
-use Rattle.winnow.specs.Range.{from_to}
-use Rattle.winnow.specs.Texts.{Anything, StartsWith, TextsStartWith, BothText, EachText, EitherText}
-use Rattle.winnow.specs.Texts.{GatheredText, InFront, IsGrammarOf, NotFirst, Spelled, Text}
-use Rattle.winnow.specs.Texts.Fronts.{both_front, each_front, front_any, front_whole}
-use Rattle.winnow.specs.Texts.Fronts.{gathered_front, spelled_begins}
-use Rattle.winnow.specs.Texts.Parts.{behind_less, either_of}
+use Rattle.stream_sets.specs.Accumulator.Holds.{HasCharacters}
+use Rattle.streams.specs.Equal.{same_first, same_others}
+use Rattle.grammars.specs.Grammar.{Both, Either, Gathered, Grammar, Many, NoMatch, Optional}
+use Rattle.stream_sets.specs.Range.{from_to}
+use Rattle.grammars.specs.Texts.{Anything, StartsWith, TextsStartWith, BothText, EachText}
+use Rattle.grammars.specs.Texts.{EitherText}
+use Rattle.grammars.specs.Texts.{GatheredText, InFront, IsGrammarOf, NotFirst, Spelled, Text}
+use Rattle.grammars.specs.Texts.Fronts.{both_front, each_front, front_any, front_whole}
+use Rattle.grammars.specs.Texts.Fronts.{gathered_front, spelled_begins}
+use Rattle.grammars.specs.Texts.Parts.{behind_less, either_of}
 
 -- ---- what is not written
 

@@ -5,12 +5,12 @@ use Rattle.format_toml.specs.Grammars.{AnyValue, Array, Inline, Scalar}
 use Rattle.format_toml.specs.Led.{reads_led, reads_other}
 use Rattle.format_toml.specs.Toml.{IsArray, IsInline}
 use Rattle.format_toml_tree.specs.declared.value.Value.{Value}
-use Rattle.winnow.specs.Exact.{Reads}
-use Rattle.winnow.specs.Grammar.Meaning.{Meaning}
-use Rattle.winnow.specs.Input.{Input}
-use Rattle.winnow.specs.Kind.{Kind}
-use Rattle.winnow.specs.Text.{text_reading}
-use Rattle.winnow.specs.Texts.{StartsWith, NotFirst}
+use Rattle.winnow_core.specs.Exact.{Reads}
+use Rattle.grammars.specs.Grammar.Meaning.{Meaning}
+use Rattle.streams.specs.Input.{Input}
+use Rattle.streams.specs.Kind.{Kind}
+use Rattle.streams.specs.Text.{text_reading}
+use Rattle.grammars.specs.Texts.{StartsWith, NotFirst}
 
 module _ {A E : Type 0} {kind : E → Kind} {i j : Input ℕ} {result : Result (Value A) E} where
   -- where no level is left it is one that has no others in it

@@ -5,7 +5,7 @@ use Rattle.std.specs.Prelude.{◌≡◌, ◌⊎◌, ◌<◌, ◌^◌, ℕ, ℤ, 
 use Rattle.std.specs.Prelude.{Option, Some, None}
 use Rattle.std.specs.Int.{w64}
 use Rattle.format_parts.specs.Words.{For, One, latter}
-use Rattle.winnow.specs.Texts.{BothText, EachText, EitherText, Text, TokenOfText}
+use Rattle.grammars.specs.Texts.{BothText, EachText, EitherText, Text, TokenOfText}
 
 -- DIGIT, HEXDIG, digit0-7, digit0-1: a digit of a base
 abbrev pub DigitText : ℕ → Text ℕ ℕ

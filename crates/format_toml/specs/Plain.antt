@@ -23,13 +23,13 @@ use Rattle.format_toml.specs.Times.{unquoteds_of}
 use Rattle.format_toml.specs.Toml.{IsInteger, IsUnquoted, MeansDateTime, MeansFloat, PlainText}
 use Rattle.format_toml_tree.specs.Dates.{IsDateTime, IsDigit}
 use Rattle.format_toml_tree.specs.declared.value.Value.{Value}
-use Rattle.winnow.specs.Equal.{same_others}
-use Rattle.winnow.specs.Text.{text_reading}
-use Rattle.winnow.specs.Texts.{StartsWith, TextsStartWith, EachText, EitherText, IsGrammarOf}
-use Rattle.winnow.specs.Texts.{MadeText}
-use Rattle.winnow.specs.Texts.{TakenText}
-use Rattle.winnow.specs.Texts.Fronts.{either_front}
-use Rattle.winnow.specs.Texts.Parts.{text_of}
+use Rattle.streams.specs.Equal.{same_others}
+use Rattle.streams.specs.Text.{text_reading}
+use Rattle.grammars.specs.Texts.{StartsWith, TextsStartWith, EachText, EitherText, IsGrammarOf}
+use Rattle.grammars.specs.Texts.{MadeText}
+use Rattle.grammars.specs.Texts.{TakenText}
+use Rattle.grammars.specs.Texts.Fronts.{either_front}
+use Rattle.grammars.specs.Texts.Parts.{text_of}
 
 -- ---- characters
 

@@ -13,14 +13,14 @@ use Rattle.format_toml_tree.specs.Dates.{FoundResult, IsDateTime}
 use Rattle.format_toml_tree.specs.declared.value.DateTime.{DateTime}
 use Rattle.format_toml_tree.specs.declared.value.Value.{Value}
 use Rattle.format_toml_tree.specs.declared.value.Value as values
-use Rattle.winnow.specs.Equal.{same_first, same_others}
-use Rattle.winnow.specs.Exact.{Reads}
-use Rattle.winnow.specs.Grammar.{Made, Taken}
-use Rattle.winnow.specs.Input.{Input}
-use Rattle.winnow.specs.Kind.{Kind, backtrack, memory}
-use Rattle.winnow.specs.Read.{reads_meaning}
-use Rattle.winnow.specs.Text.{text_reading}
-use Rattle.winnow.specs.Texts.{EitherText, MadeText, Text}
+use Rattle.streams.specs.Equal.{same_first, same_others}
+use Rattle.winnow_core.specs.Exact.{Reads}
+use Rattle.grammars.specs.Grammar.{Made, Taken}
+use Rattle.streams.specs.Input.{Input}
+use Rattle.streams.specs.Kind.{Kind, backtrack, memory}
+use Rattle.winnow_grammar.specs.Read.{reads_meaning}
+use Rattle.streams.specs.Text.{text_reading}
+use Rattle.grammars.specs.Texts.{EitherText, MadeText, Text}
 
 -- ---- of a text
 

@@ -1,12 +1,12 @@
 -- Sequences of at least one encoding: the first characters of these, and the input that may follow.
 use Rattle.std.specs.Prelude.{◌≡◌, ◌≤◌, ℕ, List, [], ◌∷◌, ◌++◌, length, None}
 use Rattle.std.proofs.Common.{refl, sym, ap, subst, inr, ◌∙◌, arith, append_assoc}
-use Rattle.winnow.specs.Grammar.{Both, Each, Grammar, NoMatch, Parted}
-use Rattle.winnow.specs.Range.{from_to}
-use Rattle.winnow.specs.Texts.{AtLeast, StartsWith, TextsStartWith, InFront, IsGrammarOf}
-use Rattle.winnow.specs.Texts.{PartedText, Text}
-use Rattle.winnow.specs.Texts.Fronts.{both_front}
-use Rattle.winnow.specs.Texts.Rows.{each_back, each_there, links}
+use Rattle.grammars.specs.Grammar.{Both, Each, Grammar, NoMatch, Parted}
+use Rattle.stream_sets.specs.Range.{from_to}
+use Rattle.grammars.specs.Texts.{AtLeast, StartsWith, TextsStartWith, InFront, IsGrammarOf}
+use Rattle.grammars.specs.Texts.{PartedText, Text}
+use Rattle.grammars.specs.Texts.Fronts.{both_front}
+use Rattle.grammars.specs.Texts.Rows.{each_back, each_there, links}
 
 -- they begin as the first of them does
 pub joined_begins : {O D : Type 0} {text : Text ℕ O} {these : ℕ → Type 0} (separator : Text ℕ D)

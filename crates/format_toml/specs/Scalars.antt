@@ -3,7 +3,7 @@ use Rattle.std.specs.Prelude.{◌≡◌, ◌⊎◌, ◌<◌, ℕ, Bool, true, fa
 use Rattle.std.specs.List.{All}
 use Rattle.std.proofs.Common.{ap, arith, inl, inr, refl, subst, sym}
 use Rattle.std.proofs.lemmas.List.Elements.{All-tail}
-use Rattle.winnow.specs.AsChar.{IsSpace}
+use Rattle.stream_sets.specs.AsChar.{IsSpace}
 use Rattle.format_parts.specs.Words.{For, Run, Word, for_front, for_of}
 use Rattle.format_toml.specs.Grammars.{AnyBasic, AnyBoolean, AnyLiteral, Plain, Scalar}
 use Rattle.format_toml.specs.Led.{Led, led_of}
@@ -17,15 +17,15 @@ use Rattle.format_toml.specs.Toml.{AnyBasicText, AnyLiteralText, BooleanText, Ga
 use Rattle.format_toml.specs.Plain.{plain_begins, plain_of}
 use Rattle.format_toml.specs.Toml.{IsBoolean, IsText, IsUnquoted}
 use Rattle.format_toml.specs.Toml.{PlainText, ScalarText, WsText, false_word, true_word}
-use Rattle.winnow.specs.Equal.{same_others}
-use Rattle.winnow.specs.Grammar.Meaning.{Meaning}
-use Rattle.winnow.specs.Texts.{StartsWith, TextsStartWith, EitherText, InFront, IsGrammarOf}
-use Rattle.winnow.specs.Texts.{NotFirst}
-use Rattle.winnow.specs.Texts.{Spelled}
-use Rattle.winnow.specs.Texts.{TokenOfText}
-use Rattle.winnow.specs.Texts.Fronts.{begins_wider, either_front, front_begins, front_behind}
-use Rattle.winnow.specs.Texts.Fronts.{may_begin, not_first, spelled_begins}
-use Rattle.winnow.specs.Texts.Parts.{behind_less}
+use Rattle.streams.specs.Equal.{same_others}
+use Rattle.grammars.specs.Grammar.Meaning.{Meaning}
+use Rattle.grammars.specs.Texts.{StartsWith, TextsStartWith, EitherText, InFront, IsGrammarOf}
+use Rattle.grammars.specs.Texts.{NotFirst}
+use Rattle.grammars.specs.Texts.{Spelled}
+use Rattle.grammars.specs.Texts.{TokenOfText}
+use Rattle.grammars.specs.Texts.Fronts.{begins_wider, either_front, front_begins, front_behind}
+use Rattle.grammars.specs.Texts.Fronts.{may_begin, not_first, spelled_begins}
+use Rattle.grammars.specs.Texts.Parts.{behind_less}
 
 -- ---- what goes on with a word or a number
 

@@ -2,9 +2,9 @@
 use Rattle.std.specs.Prelude.{◌≡◌, ◌⊎◌, ◌<◌, ⊤, ℕ, List, [], ◌∷◌, ◌++◌, None}
 use Rattle.std.specs.List.{All}
 use Rattle.std.proofs.Common.{arith, inl, inr, refl, subst}
-use Rattle.winnow.specs.Text.{text_reading}
-use Rattle.winnow.specs.AsChar.{IsSpace}
-use Rattle.winnow.specs.Range.{from_to}
+use Rattle.streams.specs.Text.{text_reading}
+use Rattle.stream_sets.specs.AsChar.{IsSpace}
+use Rattle.stream_sets.specs.Range.{from_to}
 use Rattle.format_parts.specs.Words.{Run, char_of, former, latter, pair, run_of}
 use Rattle.format_toml.specs.Grammars.{AnyComment, Gap, GapPart, GappedOut, Mark, Newline}
 use Rattle.format_toml.specs.Grammars.{SpacedOut, WideMark, Ws}
@@ -12,16 +12,17 @@ use Rattle.format_toml.specs.Strings.{one_of_set, set_begins}
 use Rattle.format_toml.specs.Toml.{CommentText, GapPartText, GapText, Gapped, IsOf, MarkText}
 use Rattle.format_toml.specs.Toml.{NewlineText, SetResult, Spaced, WideMarkText, WsText}
 use Rattle.format_toml.specs.declared.characters.Characters.TheVariants.{Comment, White}
-use Rattle.winnow.specs.Grammar.{Both, Grammar, Optional}
-use Rattle.winnow.specs.Texts.{Anything, TextsStartWith, BothText, InFront, IsGrammarOf}
-use Rattle.winnow.specs.Texts.{MayStartWith}
-use Rattle.winnow.specs.Texts.{NotFirst, OptionalText, Text}
-use Rattle.winnow.specs.Texts.Fronts.{begins_wider, both_front, each_front, either_front, front_any}
-use Rattle.winnow.specs.Texts.Fronts.{front_begins, front_behind, gathered_front, may_begin_more}
-use Rattle.winnow.specs.Texts.Fronts.{none_begins, not_first, optional_front, spelled_begins}
-use Rattle.winnow.specs.Texts.Parts.{behind_less, both_of, either_apart, optional_of}
-use Rattle.winnow.specs.Texts.Rows.{gathered_of, many_of}
-use Rattle.winnow.specs.Texts.Tokens.{divides_seen, divides_where, longest_of}
+use Rattle.grammars.specs.Grammar.{Both, Grammar, Optional}
+use Rattle.grammars.specs.Texts.{Anything, TextsStartWith, BothText, InFront, IsGrammarOf}
+use Rattle.grammars.specs.Texts.{MayStartWith}
+use Rattle.grammars.specs.Texts.{NotFirst, OptionalText, Text}
+use Rattle.grammars.specs.Texts.Fronts.{begins_wider, both_front, each_front, either_front}
+use Rattle.grammars.specs.Texts.Fronts.{front_any}
+use Rattle.grammars.specs.Texts.Fronts.{front_begins, front_behind, gathered_front, may_begin_more}
+use Rattle.grammars.specs.Texts.Fronts.{none_begins, not_first, optional_front, spelled_begins}
+use Rattle.grammars.specs.Texts.Parts.{behind_less, both_of, either_apart, optional_of}
+use Rattle.grammars.specs.Texts.Rows.{gathered_of, many_of}
+use Rattle.grammars.specs.Texts.Tokens.{divides_seen, divides_where, longest_of}
 
 -- ---- white space on a line
 

@@ -7,8 +7,8 @@ use Rattle.std.proofs.lemmas.Bool.{cases_order}
 use Rattle.format_toml.specs.Grammars.{Line, Newline}
 use Rattle.format_toml.specs.Unique.{line_unique}
 use Rattle.format_toml.specs.UniqueSpaces.{newline_unique}
-use Rattle.winnow.specs.Grammar.{Grammar, NoMatch}
-use Rattle.winnow.specs.Grammar.Unique.{end_of_end}
+use Rattle.grammars.specs.Grammar.{Grammar, NoMatch}
+use Rattle.grammars.specs.Grammar.Unique.{end_of_end}
 
 -- `tokens` starts with a match of `grammar`, followed by `rest`
 abbrev pub MatchesAtStart : {O : Type 0} → Grammar ℕ O → List ℕ → List ℕ → Type 0

@@ -1,7 +1,7 @@
 -- The grammars of strings and their characters are those of what is written.
 use Rattle.std.specs.Prelude.{◌≡◌, ◌⊎◌, ◌<◌, ◌≤◌, ℕ, List, [], ◌∷◌, ◌++◌, length, None}
 use Rattle.std.proofs.Common.{refl, sym, ap, subst, inl, inr, ◌∙◌, arith}
-use Rattle.winnow.specs.Range.{from_to}
+use Rattle.stream_sets.specs.Range.{from_to}
 use Rattle.format_parts.specs.Hexadecimal.{CodeUnit, Digit, IsAlone, IsHex, IsNumberOf, UnitText}
 use Rattle.format_parts.specs.Words.{Char, For, One, Whichever, any_of, between_of, char_of, for_of}
 use Rattle.format_parts.specs.Words.{four_same, latter, pair, to_four}
@@ -12,18 +12,18 @@ use Rattle.format_toml.specs.Toml.{BasicText, CharacterText, CharactersText, IsO
 use Rattle.format_toml.specs.Toml.{EscapeText, IsWide, SetResult, StandsFor}
 use Rattle.format_toml.specs.declared.characters.Characters.{Characters}
 use Rattle.format_toml.specs.declared.characters.Characters.TheVariants.{Basic, Literal}
-use Rattle.winnow.specs.Grammar.{Both, NoMatch, TokenOf}
-use Rattle.winnow.specs.Grammar.Meaning.{Meaning}
-use Rattle.winnow.specs.Accumulator.Holds.{HasCharacters}
-use Rattle.winnow.specs.Texts.{Anything, AtLeast, StartsWith, TextsStartWith, BothText, EachText}
-use Rattle.winnow.specs.Texts.{InFront}
-use Rattle.winnow.specs.Texts.{IsGrammarOf, MadeText, NotFirst, Spelled, TokenOfText}
-use Rattle.winnow.specs.Texts.Fronts.{begins_wider, both_front, either_front, front_any}
-use Rattle.winnow.specs.Texts.Fronts.{front_begins, gathered_front, may_begin, none_begins}
-use Rattle.winnow.specs.Texts.Fronts.{spelled_begins, token_of_begins}
-use Rattle.winnow.specs.Texts.Parts.{both_of, either_apart, same_of}
-use Rattle.winnow.specs.Texts.Rows.{gathered_of, many_of}
-use Rattle.winnow.specs.Texts.Tokens.{divides_where, token_of}
+use Rattle.grammars.specs.Grammar.{Both, NoMatch, TokenOf}
+use Rattle.grammars.specs.Grammar.Meaning.{Meaning}
+use Rattle.stream_sets.specs.Accumulator.Holds.{HasCharacters}
+use Rattle.grammars.specs.Texts.{Anything, AtLeast, StartsWith, TextsStartWith, BothText, EachText}
+use Rattle.grammars.specs.Texts.{InFront}
+use Rattle.grammars.specs.Texts.{IsGrammarOf, MadeText, NotFirst, Spelled, TokenOfText}
+use Rattle.grammars.specs.Texts.Fronts.{begins_wider, both_front, either_front, front_any}
+use Rattle.grammars.specs.Texts.Fronts.{front_begins, gathered_front, may_begin, none_begins}
+use Rattle.grammars.specs.Texts.Fronts.{spelled_begins, token_of_begins}
+use Rattle.grammars.specs.Texts.Parts.{both_of, either_apart, same_of}
+use Rattle.grammars.specs.Texts.Rows.{gathered_of, many_of}
+use Rattle.grammars.specs.Texts.Tokens.{divides_where, token_of}
 
 -- ---- characters of a set
 

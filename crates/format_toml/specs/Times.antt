@@ -17,18 +17,18 @@ use Rattle.format_toml.specs.Toml.{IsOf, IsUnquoted, SetResult}
 use Rattle.format_toml.specs.UniqueSpaces.{members_unique}
 use Rattle.format_toml.specs.declared.characters.Characters.TheVariants.{Digit, Unquoted}
 use Rattle.format_toml_tree.specs.Dates.{IsDigit}
-use Rattle.winnow.specs.Grammar.{IsUnique, Longest, NoMatch}
-use Rattle.winnow.specs.Grammar.Sequences.{four_unique}
-use Rattle.winnow.specs.Grammar.Unique.{both_unique, optional_unique, taken_unique}
-use Rattle.winnow.specs.Range.{from_to}
-use Rattle.winnow.specs.Text.{text_reading}
-use Rattle.winnow.specs.Texts.{Anything, TextsStartWith, BothText, InFront, IsGrammarOf, Members}
-use Rattle.winnow.specs.Texts.{NotFirst}
-use Rattle.winnow.specs.Texts.{OptionalText, SoManyOf, Spelled, TakenText, Text}
-use Rattle.winnow.specs.Texts.Fronts.{both_front, front_any, front_begins, front_behind}
-use Rattle.winnow.specs.Texts.Fronts.{optional_front, spelled_begins}
-use Rattle.winnow.specs.Texts.Parts.{behind_less, both_of, optional_of, same_of, taken_of}
-use Rattle.winnow.specs.Texts.Tokens.{divides_seen, divides_where, exactly_of, longest_of}
+use Rattle.grammars.specs.Grammar.{IsUnique, Longest, NoMatch}
+use Rattle.grammars.specs.Grammar.Sequences.{four_unique}
+use Rattle.grammars.specs.Grammar.Unique.{both_unique, optional_unique, taken_unique}
+use Rattle.stream_sets.specs.Range.{from_to}
+use Rattle.streams.specs.Text.{text_reading}
+use Rattle.grammars.specs.Texts.{Anything, TextsStartWith, BothText, InFront, IsGrammarOf, Members}
+use Rattle.grammars.specs.Texts.{NotFirst}
+use Rattle.grammars.specs.Texts.{OptionalText, SoManyOf, Spelled, TakenText, Text}
+use Rattle.grammars.specs.Texts.Fronts.{both_front, front_any, front_begins, front_behind}
+use Rattle.grammars.specs.Texts.Fronts.{optional_front, spelled_begins}
+use Rattle.grammars.specs.Texts.Parts.{behind_less, both_of, optional_of, same_of, taken_of}
+use Rattle.grammars.specs.Texts.Tokens.{divides_seen, divides_where, exactly_of, longest_of}
 
 -- ---- the input that may follow them
 

@@ -5,8 +5,8 @@ use Rattle.std.specs.Prelude.{IsTrue}
 use Rattle.std.specs.Prelude.{List, [], ◌∷◌, Option, Some, None}
 use Rattle.std.specs.declared.string.String.{String}
 use Rattle.std.specs.declared.vec.Vec.{Vec}
-use Rattle.winnow.specs.Text.{text_reading}
-use Rattle.winnow.specs.AsChar.{IsSpace}
+use Rattle.streams.specs.Text.{text_reading}
+use Rattle.stream_sets.specs.AsChar.{IsSpace}
 use Rattle.format_parts.specs.Hexadecimal.{IsAlone, UnitText}
 use Rattle.format_parts.specs.Words.{Between, For, One, Run, Slice, Whichever, former, latter, pair}
 use Rattle.format_toml.specs.declared.characters.Characters.{Characters}
@@ -21,9 +21,9 @@ use Rattle.format_toml_tree.specs.declared.value.Item.TheVariants as items
 use Rattle.format_toml_tree.specs.declared.value.Key.{Key}
 use Rattle.format_toml_tree.specs.declared.value.Value.{Value}
 use Rattle.format_toml_tree.specs.declared.value.Value as values
-use Rattle.winnow.specs.Accumulator.Holds.{HasCharacters}
-use Rattle.winnow.specs.Texts.{AtLeast, BothText, EachText, EitherText, GatheredText, InList}
-use Rattle.winnow.specs.Texts.{Members, OptionalText, PartedText, Spelled, Text, TokenOfText}
+use Rattle.stream_sets.specs.Accumulator.Holds.{HasCharacters}
+use Rattle.grammars.specs.Texts.{AtLeast, BothText, EachText, EitherText, GatheredText, InList}
+use Rattle.grammars.specs.Texts.{Members, OptionalText, PartedText, Spelled, Text, TokenOfText}
 use Rattle.format_toml.specs.Floats.{FloatText}
 use Rattle.format_toml.specs.LongTexts.{LongText, NoneWritten}
 use Rattle.format_toml.specs.Numbers.{IntegerText}

@@ -1,6 +1,6 @@
 -- Proofs that the grammars of values and lines leave a unique rest.
 use Rattle.std.specs.Prelude.{◌≡◌, ℕ, zero, suc, true, false, None}
-use Rattle.winnow.specs.Range.{from_to}
+use Rattle.stream_sets.specs.Range.{from_to}
 use Rattle.format_parts.specs.Unique.{char_unique, word_unique}
 use Rattle.format_parts.specs.Words.{former, latter}
 use Rattle.format_toml.specs.Escapes.{character_unique}
@@ -17,12 +17,12 @@ use Rattle.format_toml.specs.UniqueSpaces.{spaced_unique, wide_mark_unique, ws_u
 use Rattle.format_toml.specs.declared.characters.Characters.{Characters}
 use Rattle.format_toml.specs.declared.characters.Characters.TheVariants.{Bare, Literal}
 use Rattle.format_toml_tree.specs.declared.value.Value.{Value}
-use Rattle.winnow.specs.Grammar.{Grammar, IsUnique}
-use Rattle.winnow.specs.Grammar.Meaning.{meaning_unique}
-use Rattle.winnow.specs.Grammar.Sequences.{three_unique}
-use Rattle.winnow.specs.Grammar.Unique.{both_unique, either_unique, gathered_unique, many_unique}
-use Rattle.winnow.specs.Grammar.Unique.{optional_unique, parted_unique, token_of_unique}
-use Rattle.winnow.specs.Accumulator.Holds.{HasCharacters}
+use Rattle.grammars.specs.Grammar.{Grammar, IsUnique}
+use Rattle.grammars.specs.Grammar.Meaning.{meaning_unique}
+use Rattle.grammars.specs.Grammar.Sequences.{three_unique}
+use Rattle.grammars.specs.Grammar.Unique.{both_unique, either_unique, gathered_unique, many_unique}
+use Rattle.grammars.specs.Grammar.Unique.{optional_unique, parted_unique, token_of_unique}
+use Rattle.stream_sets.specs.Accumulator.Holds.{HasCharacters}
 
 module _ {A : Type 0} where
   characters_unique : (set : Characters) (least : ℕ) → IsUnique (AnyCharacters {A = A} set least)

@@ -12,14 +12,14 @@ use Rattle.format_toml.specs.LongGrammars.{Delimiter, Long, Part, Quote}
 use Rattle.format_toml.specs.Toml.{SetResult}
 use Rattle.format_toml.specs.UniqueSpaces.{newline_unique, ws_unique}
 use Rattle.format_toml.specs.declared.characters.Characters.TheVariants.{Literal, White}
-use Rattle.winnow.specs.Accumulator.Holds.{HasCharacters}
-use Rattle.winnow.specs.Grammar.{Grammar, IsUnique, TakesTokens}
-use Rattle.winnow.specs.Grammar.Sequences.{three_unique}
-use Rattle.winnow.specs.Grammar.Unique.{ahead_unique, both_take, both_unique, either_takes}
-use Rattle.winnow.specs.Grammar.Unique.{either_unique, gathered_unique, many_unique}
-use Rattle.winnow.specs.Grammar.Unique.{optional_unique, token_of_unique, unique_nothing}
-use Rattle.winnow.specs.OneOf.Laws.{token_of_takes}
-use Rattle.winnow.specs.Range.{from_to}
+use Rattle.stream_sets.specs.Accumulator.Holds.{HasCharacters}
+use Rattle.grammars.specs.Grammar.{Grammar, IsUnique, TakesTokens}
+use Rattle.grammars.specs.Grammar.Sequences.{three_unique}
+use Rattle.grammars.specs.Grammar.Unique.{ahead_unique, both_take, both_unique, either_takes}
+use Rattle.grammars.specs.Grammar.Unique.{either_unique, gathered_unique, many_unique}
+use Rattle.grammars.specs.Grammar.Unique.{optional_unique, token_of_unique, unique_nothing}
+use Rattle.winnow_token.specs.OneOf.Laws.{token_of_takes}
+use Rattle.stream_sets.specs.Range.{from_to}
 
 -- ---- whichever quotation mark they have
 

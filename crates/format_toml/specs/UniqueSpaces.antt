@@ -1,8 +1,8 @@
 -- Proofs that the grammars of whitespace, comments and line endings leave a unique rest.
 use Rattle.std.specs.Prelude.{⊤, ℕ, None}
-use Rattle.winnow.specs.Text.{text_reading}
-use Rattle.winnow.specs.AsChar.{IsSpace}
-use Rattle.winnow.specs.Range.{Bounds, from_to}
+use Rattle.streams.specs.Text.{text_reading}
+use Rattle.stream_sets.specs.AsChar.{IsSpace}
+use Rattle.stream_sets.specs.Range.{Bounds, from_to}
 use Rattle.format_parts.specs.Unique.{char_unique, run_unique}
 use Rattle.format_parts.specs.Words.{former, latter, pair}
 use Rattle.format_toml.specs.Grammars.{AnyComment, Gap, GapPart, GappedOut, Mark, Newline}
@@ -10,11 +10,11 @@ use Rattle.format_toml.specs.Grammars.{SpacedOut, WideMark, Ws}
 use Rattle.format_toml.specs.Toml.{IsOf, SetResult}
 use Rattle.format_toml.specs.declared.characters.Characters.{Characters}
 use Rattle.format_toml.specs.declared.characters.Characters.TheVariants.{Comment, White}
-use Rattle.winnow.specs.TakeWhile.Exact.{longest_unique}
-use Rattle.winnow.specs.Class.Says.{class_once}
-use Rattle.winnow.specs.Grammar.{Grammar, IsUnique, Longest}
-use Rattle.winnow.specs.Grammar.Unique.{both_unique, either_unique, gathered_unique, many_unique}
-use Rattle.winnow.specs.Grammar.Unique.{optional_unique, token_of_unique}
+use Rattle.winnow_token.specs.TakeWhile.Exact.{longest_unique}
+use Rattle.winnow_ascii.specs.Class.Says.{class_once}
+use Rattle.grammars.specs.Grammar.{Grammar, IsUnique, Longest}
+use Rattle.grammars.specs.Grammar.Unique.{both_unique, either_unique, gathered_unique, many_unique}
+use Rattle.grammars.specs.Grammar.Unique.{optional_unique, token_of_unique}
 
 pub ws_unique : IsUnique Ws
 ws_unique = run_unique IsSpace 0

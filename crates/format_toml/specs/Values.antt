@@ -1,8 +1,8 @@
 -- The grammars of arrays and inline tables, and of values, are those of what is written.
 use Rattle.std.specs.Prelude.{◌≡◌, ◌⊎◌, ◌<◌, ℕ, zero, suc, List, [], ◌∷◌, ◌++◌, Option, Some, None}
 use Rattle.std.proofs.Common.{refl, sym, ap, subst, inl, inr, ◌∙◌, arith, append_assoc}
-use Rattle.winnow.specs.AsChar.{IsSpace}
-use Rattle.winnow.specs.Range.{from_to}
+use Rattle.stream_sets.specs.AsChar.{IsSpace}
+use Rattle.stream_sets.specs.Range.{from_to}
 use Rattle.format_parts.specs.Words.{For, between_of, char_of, for_front, for_of, former, latter}
 use Rattle.format_parts.specs.Words.{pair}
 use Rattle.format_toml.specs.Grammars.{AnyValue, Array, ArrayValues, GappedOut, Inline, Pair}
@@ -20,14 +20,14 @@ use Rattle.format_toml.specs.Toml.{ArrayText, ArrayValuesText, Gapped, InlineTex
 use Rattle.format_toml.specs.Toml.{IsInline, MarkText, PairText, Spaced, ValueText, WideMarkText}
 use Rattle.format_toml.specs.UniqueSpaces.{wide_mark_unique}
 use Rattle.format_toml_tree.specs.declared.value.Value.{Value}
-use Rattle.winnow.specs.Grammar.{Both, Grammar, NoMatch}
-use Rattle.winnow.specs.Texts.{Anything, StartsWith, TextsStartWith, InFront, InList, IsGrammarOf}
-use Rattle.winnow.specs.Texts.{NotFirst, OptionalText, PartedText, Text}
-use Rattle.winnow.specs.Texts.Fronts.{begins_wider, both_front, either_front, front_any}
-use Rattle.winnow.specs.Texts.Fronts.{front_begins, front_behind, in_list_front, may_begin}
-use Rattle.winnow.specs.Texts.Fronts.{none_begins, optional_front, spelled_begins}
-use Rattle.winnow.specs.Texts.Parts.{behind_less, both_of, optional_of}
-use Rattle.winnow.specs.Texts.Rows.{list_of, none_both, parted_of}
+use Rattle.grammars.specs.Grammar.{Both, Grammar, NoMatch}
+use Rattle.grammars.specs.Texts.{Anything, StartsWith, TextsStartWith, InFront, InList, IsGrammarOf}
+use Rattle.grammars.specs.Texts.{NotFirst, OptionalText, PartedText, Text}
+use Rattle.grammars.specs.Texts.Fronts.{begins_wider, both_front, either_front, front_any}
+use Rattle.grammars.specs.Texts.Fronts.{front_begins, front_behind, in_list_front, may_begin}
+use Rattle.grammars.specs.Texts.Fronts.{none_begins, optional_front, spelled_begins}
+use Rattle.grammars.specs.Texts.Parts.{behind_less, both_of, optional_of}
+use Rattle.grammars.specs.Texts.Rows.{list_of, none_both, parted_of}
 
 -- what a value begins with
 abbrev pub Opens : ℕ → Type 0

@@ -3,12 +3,12 @@ use Rattle.std.specs.Prelude.{◌≡◌, ℕ, ◌++◌, Ok, Err}
 use Rattle.std.specs.Str.{chars, encode_utf8_all}
 use Rattle.std.proofs.Common.{refl, ap, ◌∙◌}
 use Rattle.format_parts.specs.Words.{Slice, Word}
-use Rattle.winnow.specs.Exact.{Reads}
-use Rattle.winnow.specs.Grammar.{Grammar, Literally}
-use Rattle.winnow.specs.Input.{Input}
-use Rattle.winnow.specs.Kind.{Kind}
-use Rattle.winnow.specs.Read.{err_as, ok_as}
-use Rattle.winnow.specs.Text.{text_reading}
+use Rattle.winnow_core.specs.Exact.{Reads}
+use Rattle.grammars.specs.Grammar.{Grammar, Literally}
+use Rattle.streams.specs.Input.{Input}
+use Rattle.streams.specs.Kind.{Kind}
+use Rattle.winnow_grammar.specs.Read.{err_as, ok_as}
+use Rattle.streams.specs.Text.{text_reading}
 
 -- a text that is read
 abbrev pub Spelling : Slice → Grammar ℕ Slice

@@ -2,7 +2,7 @@
 ghost use Rattle.std.specs.Prelude.{◌↔◌, IsTrue};
 ghost use Rattle.format_toml.specs.Toml.{IsBare, IsOf, IsShown, IsUnquoted};
 
-use winnow::stream::ContainsToken;
+use stream_sets::sets::ContainsToken;
 
 /// A set of characters.
 ///

@@ -2,25 +2,27 @@
 ghost use Rattle.std.specs.Prelude.{◌≡◌, ℕ, ⊤, MatchOption};
 ghost use Rattle.format_parts.specs.Hexadecimal.{CodeUnit, IsAlone, alone_unique};
 ghost use Rattle.format_parts.specs.Words.{Char, latter};
-ghost use Rattle.winnow.specs.Text.{text_input, text_reading};
+ghost use Rattle.streams.specs.Text.{text_input, text_reading};
 ghost use Rattle.format_toml.specs.Escapes.{character_takes, character_unique};
 ghost use Rattle.format_toml.specs.Escapes.{escape_unique, wide_code_unique};
 ghost use Rattle.format_toml.specs.Grammars.{Character, Escape, Short, WideUnits};
 ghost use Rattle.format_toml.specs.Toml.{IsWide, StandsFor};
-ghost use Rattle.winnow.specs.Exact.{Reads};
-ghost use Rattle.winnow.specs.Grammar.{Both};
-ghost use Rattle.winnow.specs.Grammar.Meaning.{Meaning};
+ghost use Rattle.winnow_core.specs.Exact.{Reads};
+ghost use Rattle.grammars.specs.Grammar.{Both};
+ghost use Rattle.grammars.specs.Grammar.Meaning.{Meaning};
 
 use crate::characters::Characters;
 use crate::strings::begins_with;
 use crate::units::{Wide, read_wide};
 use format_parts::hexadecimal::{Unit, read_unit};
-use winnow::Parser;
-use winnow::combinator::{alt, preceded};
-use winnow::error::{EmptyError, ErrMode, HasKind};
-use winnow::exact::Rule;
-use winnow::token::impls::Any;
-use winnow::token::one_of;
+use stream_errors::empty::EmptyError;
+use stream_errors::has_kind::HasKind;
+use stream_errors::mode::ErrMode;
+use winnow_comb::combinator::{alt, preceded};
+use winnow_core::parser::Parser;
+use winnow_grammar::rule::Rule;
+use winnow_token::token::impls::Any;
+use winnow_token::token::one_of;
 
 /// The character that a backslash and this one stand for.
 fn unescaped(c: char) -> Option<char>

@@ -1,18 +1,20 @@
 //! Whitespace and comments over several lines (TOML 1.0: Array), and line endings.
 ghost use Rattle.std.specs.Prelude.{◌≡◌, ⊤};
-ghost use Rattle.winnow.specs.Text.{text_input, text_reading};
+ghost use Rattle.streams.specs.Text.{text_input, text_reading};
 ghost use Rattle.format_toml.specs.Grammars.{Gap};
 ghost use Rattle.format_toml.specs.UniqueSpaces.{gap_unique};
-ghost use Rattle.winnow.specs.Exact.{Reads};
+ghost use Rattle.winnow_core.specs.Exact.{Reads};
 
 use crate::characters::Characters;
 use crate::parts::read_gap_of;
 use std::alloc::Allocator;
-use winnow::combinator::{alt, preceded};
-use winnow::error::{EmptyError, ErrMode, HasKind};
-use winnow::exact::Rule;
-use winnow::stream::Range;
-use winnow::token::{one_of, take_while};
+use stream_errors::empty::EmptyError;
+use stream_errors::has_kind::HasKind;
+use stream_errors::mode::ErrMode;
+use stream_sets::range::Range;
+use winnow_comb::combinator::{alt, preceded};
+use winnow_grammar::rule::Rule;
+use winnow_token::token::{one_of, take_while};
 
 /// The name of what [`read_gap`] reads.
 #[derive(Clone, Copy, Drop)]

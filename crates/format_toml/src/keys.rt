@@ -1,11 +1,11 @@
 //! Keys and the names of tables (TOML 1.0: Keys, Table).
 ghost use Rattle.std.specs.Prelude.{◌≡◌};
-ghost use Rattle.winnow.specs.Text.{text_input, text_reading};
+ghost use Rattle.streams.specs.Text.{text_input, text_reading};
 ghost use Rattle.format_toml.specs.Grammars.{AnyCharacters, AnyKey, DoubleHeader, Header};
 ghost use Rattle.format_toml.specs.Grammars.{Name, Names};
 ghost use Rattle.format_toml.specs.Unique.{header_unique, key_unique, name_unique};
 ghost use Rattle.format_toml.specs.declared.characters.Characters.TheVariants.{Bare};
-ghost use Rattle.winnow.specs.Exact.{Reads};
+ghost use Rattle.winnow_core.specs.Exact.{Reads};
 
 use crate::characters::Characters;
 use crate::parts::read_joined;
@@ -13,13 +13,15 @@ use crate::strings::{begins_with, read_basic, read_literal};
 use format_parts::marks::read_between;
 use format_toml_tree::value::Key;
 use std::alloc::Allocator;
-use winnow::Parser;
-use winnow::ascii::impls::Space0;
-use winnow::combinator::repeat;
-use winnow::error::{EmptyError, ErrMode, HasKind};
-use winnow::exact::Rule;
-use winnow::stream::Range;
-use winnow::token::one_of;
+use stream_errors::empty::EmptyError;
+use stream_errors::has_kind::HasKind;
+use stream_errors::mode::ErrMode;
+use stream_sets::range::Range;
+use winnow_ascii::ascii::impls::Space0;
+use winnow_core::parser::Parser;
+use winnow_grammar::rule::Rule;
+use winnow_repeat::combinator::repeat;
+use winnow_token::token::one_of;
 
 /// A bare key.
 fn read_bare<'i, A: Allocator + Copy>(

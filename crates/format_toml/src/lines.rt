@@ -1,15 +1,15 @@
 //! Lines (TOML 1.0: Key/Value Pair, Table, Array of Tables).
 ghost use Rattle.std.specs.Prelude.{◌≡◌};
 ghost use Rattle.std.specs.Str.{chars};
-ghost use Rattle.winnow.specs.Text.{text_input, text_reading};
+ghost use Rattle.streams.specs.Text.{text_input, text_reading};
 ghost use Rattle.format_parts.specs.Words.{Char, latter};
 ghost use Rattle.format_toml.specs.Grammars.{AnyItem, DoubleHeader, Entry, Header, Line, Table};
 ghost use Rattle.format_toml.specs.Toml.{DocumentText, IsEntry, IsTable, IsTables};
 ghost use Rattle.format_toml.specs.Unique.{item_unique, line_unique, table_unique};
-ghost use Rattle.winnow.specs.Exact.{Reads};
-ghost use Rattle.winnow.specs.Grammar.{Both};
-ghost use Rattle.winnow.specs.Grammar.Meaning.{Meaning};
-ghost use Rattle.winnow.specs.Told.{IsTextOf};
+ghost use Rattle.winnow_core.specs.Exact.{Reads};
+ghost use Rattle.grammars.specs.Grammar.{Both};
+ghost use Rattle.grammars.specs.Grammar.Meaning.{Meaning};
+ghost use Rattle.winnow_grammar.specs.Told.{IsTextOf};
 
 use crate::characters::Characters;
 use crate::keys::{read_double, read_header};
@@ -19,13 +19,17 @@ use crate::value::Document;
 use crate::values::read_entry;
 use format_toml_tree::value::Item;
 use std::alloc::Allocator;
-use winnow::Parser;
-use winnow::ascii::impls::Space0;
-use winnow::combinator::{alt, preceded};
-use winnow::error::{EmptyError, ErrMode, HasKind, ParseFault, ParserError};
-use winnow::exact::Rule;
-use winnow::stream::Range;
-use winnow::token::take_while;
+use stream_errors::empty::EmptyError;
+use stream_errors::fault::ParseFault;
+use stream_errors::has_kind::HasKind;
+use stream_errors::mode::ErrMode;
+use stream_errors::parser_error::ParserError;
+use stream_sets::range::Range;
+use winnow_ascii::ascii::impls::Space0;
+use winnow_comb::combinator::{alt, preceded};
+use winnow_core::parser::Parser;
+use winnow_grammar::rule::Rule;
+use winnow_token::token::take_while;
 
 /// The name of a table of an array of tables, after the first bracket, as an item.
 fn read_double_item<'i, A: Allocator + Copy>(

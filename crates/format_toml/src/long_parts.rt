@@ -3,16 +3,18 @@
 ghost use Rattle.format_parts.specs.Words.{latter};
 ghost use Rattle.format_toml.specs.LongGrammars.{LongOf, QuoteOf};
 ghost use Rattle.std.specs.Prelude.{◌≡◌, ⊤, None};
-ghost use Rattle.winnow.specs.Claim.{CanRead};
-ghost use Rattle.winnow.specs.Exact.{Reads};
-ghost use Rattle.winnow.specs.Grammar.{Both, Either, Gathered, Many};
-ghost use Rattle.winnow.specs.Range.{from_to};
+ghost use Rattle.winnow_core.specs.Claim.{CanRead};
+ghost use Rattle.winnow_core.specs.Exact.{Reads};
+ghost use Rattle.grammars.specs.Grammar.{Both, Either, Gathered, Many};
+ghost use Rattle.stream_sets.specs.Range.{from_to};
 
 use std::alloc::Allocator;
-use winnow::Parser;
-use winnow::combinator::{alt, delimited, not, opt, peek, preceded, repeat, terminated};
-use winnow::error::ParserError;
-use winnow::stream::{Range, Stream};
+use stream_errors::parser_error::ParserError;
+use stream_sets::range::Range;
+use streams::stream::Stream;
+use winnow_comb::combinator::{alt, delimited, not, opt, peek, preceded, terminated};
+use winnow_core::parser::Parser;
+use winnow_repeat::combinator::repeat;
 
 /// Parses a quotation mark that belongs to a multi-line string. After it, and after the next three
 /// if there are three, no two follow. So one or two quotation marks belong to the string, and three

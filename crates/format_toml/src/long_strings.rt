@@ -2,7 +2,7 @@
 //! after the first three is dropped. Each other line ending, also of two characters, is a line
 //! feed.
 ghost use Rattle.std.specs.Prelude.{◌≡◌, ⊤};
-ghost use Rattle.winnow.specs.Text.{text_input, text_reading};
+ghost use Rattle.streams.specs.Text.{text_input, text_reading};
 ghost use Rattle.format_toml.specs.Grammars.{AnyBasic, AnyLiteral, BasicPart, BasicString};
 ghost use Rattle.format_toml.specs.Grammars.{EscapedLine, LiteralPart, LiteralString, LongBasic};
 ghost use Rattle.format_toml.specs.Grammars.{LongLiteral, Skips};
@@ -13,7 +13,7 @@ ghost use Rattle.format_toml.specs.UniqueLong.{escaped_line_takes, escaped_line_
 ghost use Rattle.format_toml.specs.UniqueLong.{literal_part_takes, literal_part_unique};
 ghost use Rattle.format_toml.specs.UniqueLong.{long_basic_unique, long_literal_unique};
 ghost use Rattle.format_toml.specs.UniqueLong.{quote_takes, quote_unique, skips_unique};
-ghost use Rattle.winnow.specs.Exact.{Reads};
+ghost use Rattle.winnow_core.specs.Exact.{Reads};
 
 use crate::characters::Characters;
 use crate::escapes::{AnyCharacter, read_character};
@@ -22,14 +22,17 @@ use crate::long_parts::{
 };
 use crate::strings::{read_basic, read_literal};
 use std::alloc::Allocator;
-use winnow::Parser;
-use winnow::ascii::impls::Space0;
-use winnow::combinator::impls::Empty;
-use winnow::combinator::{alt, preceded, repeat};
-use winnow::error::{EmptyError, ErrMode, HasKind};
-use winnow::exact::Rule;
-use winnow::stream::Range;
-use winnow::token::one_of;
+use stream_errors::empty::EmptyError;
+use stream_errors::has_kind::HasKind;
+use stream_errors::mode::ErrMode;
+use stream_sets::range::Range;
+use winnow_ascii::ascii::impls::Space0;
+use winnow_comb::combinator::impls::Empty;
+use winnow_comb::combinator::{alt, preceded};
+use winnow_core::parser::Parser;
+use winnow_grammar::rule::Rule;
+use winnow_repeat::combinator::repeat;
+use winnow_token::token::one_of;
 
 /// The name of what [`read_quote`] reads.
 #[derive(Clone, Copy, Drop)]

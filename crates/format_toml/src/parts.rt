@@ -4,24 +4,26 @@ ghost use Rattle.format_toml.specs.Grammars.{Listing};
 ghost use Rattle.format_parts.specs.Words.{former, latter, pair};
 ghost use Rattle.std.specs.Fn.{CalledAtMut};
 ghost use Rattle.std.specs.Prelude.{◌≡◌, ⊤, false, None};
-ghost use Rattle.winnow.specs.Claim.{CanRead};
-ghost use Rattle.winnow.specs.Range.{from_to};
-ghost use Rattle.winnow.specs.Exact.{Reads};
-ghost use Rattle.winnow.specs.Exact.Whole.{ReadsAll};
-ghost use Rattle.winnow.specs.Grammar.{Both, Either, Gathered, Many, Optional, Parted, Taken};
-ghost use Rattle.winnow.specs.Grammar.{Three};
-ghost use Rattle.winnow.specs.Rule.{CallsRead};
+ghost use Rattle.winnow_core.specs.Claim.{CanRead};
+ghost use Rattle.stream_sets.specs.Range.{from_to};
+ghost use Rattle.winnow_core.specs.Exact.{Reads};
+ghost use Rattle.winnow_core.specs.Exact.Whole.{ReadsAll};
+ghost use Rattle.grammars.specs.Grammar.{Both, Either, Gathered, Many, Optional, Parted, Taken};
+ghost use Rattle.grammars.specs.Grammar.{Three};
+ghost use Rattle.winnow_grammar.specs.Rule.{CallsRead};
 
 use format_parts::marks::Marks;
 use std::alloc::Allocator;
-use winnow::Parser;
-use winnow::combinator::impls::Separated;
-use winnow::combinator::{
-    alt, delimited, opt, preceded, repeat, separated, separated_pair, terminated,
-};
-use winnow::error::{ParseFault, ParserError};
-use winnow::exact::Rule;
-use winnow::stream::{Range, Stream, StreamIsPartial};
+use stream_errors::fault::ParseFault;
+use stream_errors::parser_error::ParserError;
+use stream_sets::range::Range;
+use streams::stream::{Stream, StreamIsPartial};
+use winnow_comb::combinator::{alt, delimited, opt, preceded, separated_pair, terminated};
+use winnow_core::parser::Parser;
+use winnow_grammar::rule::Rule;
+use winnow_repeat::combinator::repeat;
+use winnow_separated::combinator::impls::Separated;
+use winnow_separated::combinator::separated;
 
 /// Reads elements, one at least, with a mark between each two of them, and white space after each
 /// element and each mark.

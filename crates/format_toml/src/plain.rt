@@ -4,8 +4,8 @@ ghost use Rattle.format_toml.specs.Floats.{IsFloat};
 ghost use Rattle.format_toml.specs.Grammars.{Plain, Unquoteds};
 ghost use Rattle.format_toml.specs.PlainAnswers.{IsAnswer, IsFloatAnswer};
 ghost use Rattle.format_toml.specs.Toml.{DateTimeText, OtherText, PlainText};
-ghost use Rattle.winnow.specs.Exact.{Reads};
-ghost use Rattle.winnow.specs.Text.{text_input, text_reading};
+ghost use Rattle.winnow_core.specs.Exact.{Reads};
+ghost use Rattle.streams.specs.Text.{text_input, text_reading};
 
 use crate::characters::Characters;
 use crate::floats::{is_float, without_underscores};
@@ -14,9 +14,12 @@ use crate::parts::read_both_taken;
 use format_toml_tree::date_times::date_time;
 use format_toml_tree::value::{Float, Value};
 use std::alloc::Allocator;
-use winnow::error::{EmptyError, ErrMode, HasKind, ParserError};
-use winnow::stream::Range;
-use winnow::token::take_while;
+use stream_errors::empty::EmptyError;
+use stream_errors::has_kind::HasKind;
+use stream_errors::mode::ErrMode;
+use stream_errors::parser_error::ParserError;
+use stream_sets::range::Range;
+use winnow_token::token::take_while;
 
 /// Parses the longest run of characters of numbers, dates and times, at least one. A space is also
 /// one if two digits and a colon follow it, since a date and a time may be written so.

@@ -1,20 +1,22 @@
 //! Values that have no others in them (TOML 1.0: String, Integer, Float, Boolean).
 ghost use Rattle.std.specs.Prelude.{◌≡◌};
 ghost use Rattle.std.specs.Str.{chars};
-ghost use Rattle.winnow.specs.Text.{text_input, text_reading};
+ghost use Rattle.streams.specs.Text.{text_input, text_reading};
 ghost use Rattle.format_toml.specs.Grammars.{AnyBasic, AnyBoolean, AnyLiteral, Scalar};
 ghost use Rattle.format_toml.specs.Toml.{IsText};
-ghost use Rattle.winnow.specs.Exact.{Reads};
-ghost use Rattle.winnow.specs.Grammar.Meaning.{Meaning};
+ghost use Rattle.winnow_core.specs.Exact.{Reads};
+ghost use Rattle.grammars.specs.Grammar.Meaning.{Meaning};
 
 use crate::long_strings::{read_any_basic, read_any_literal};
 use crate::plain::read_plain;
 use crate::strings::begins_with;
 use format_toml_tree::value::Value;
 use std::alloc::Allocator;
-use winnow::Parser;
-use winnow::error::{EmptyError, ErrMode, HasKind};
-use winnow::token::literal;
+use stream_errors::empty::EmptyError;
+use stream_errors::has_kind::HasKind;
+use stream_errors::mode::ErrMode;
+use winnow_core::parser::Parser;
+use winnow_token::token::literal;
 
 /// A basic string, as a value.
 fn read_basic_value<'i, A: Allocator + Copy>(

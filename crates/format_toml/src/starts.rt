@@ -6,10 +6,12 @@ ghost use Rattle.format_toml.specs.Starts.{IsPast, IsStart, MatchesAtStart};
 
 use crate::lines::{AnyLine, read_line};
 use std::alloc::Allocator;
-use winnow::Parser;
-use winnow::combinator::{alt, preceded};
-use winnow::error::{EmptyError, ErrMode, ParserError};
-use winnow::exact::Rule;
+use stream_errors::empty::EmptyError;
+use stream_errors::mode::ErrMode;
+use stream_errors::parser_error::ParserError;
+use winnow_comb::combinator::{alt, preceded};
+use winnow_core::parser::Parser;
+use winnow_grammar::rule::Rule;
 
 /// Returns the text after a match of a parser, or `None` if it does not match. Fails with out of
 /// memory if an allocation fails.

@@ -1,20 +1,22 @@
 //! Strings (TOML 1.0: String), and whether a character is first.
 ghost use Rattle.std.specs.Prelude.{◌≡◌, false, IsTrue};
 ghost use Rattle.std.specs.Str.{chars};
-ghost use Rattle.winnow.specs.Text.{text_input, text_reading};
+ghost use Rattle.streams.specs.Text.{text_input, text_reading};
 ghost use Rattle.format_toml.specs.Grammars.{BasicString, LiteralString};
-ghost use Rattle.winnow.specs.Exact.{Reads};
-ghost use Rattle.winnow.specs.Texts.{StartsWith, NotFirst};
+ghost use Rattle.winnow_core.specs.Exact.{Reads};
+ghost use Rattle.grammars.specs.Texts.{StartsWith, NotFirst};
 
 use crate::characters::Characters;
 use crate::escapes::{AnyCharacter, read_character};
 use format_parts::marks::read_between;
 use std::alloc::Allocator;
-use winnow::combinator::repeat;
-use winnow::error::{EmptyError, ErrMode, HasKind};
-use winnow::exact::Rule;
-use winnow::stream::Range;
-use winnow::token::one_of;
+use stream_errors::empty::EmptyError;
+use stream_errors::has_kind::HasKind;
+use stream_errors::mode::ErrMode;
+use stream_sets::range::Range;
+use winnow_grammar::rule::Rule;
+use winnow_repeat::combinator::repeat;
+use winnow_token::token::one_of;
 
 /// Whether this character is first.
 pub fn begins_with(input: &str, first: char) -> bool

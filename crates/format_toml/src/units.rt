@@ -1,13 +1,15 @@
 //! Eight hexadecimal digits of an escape (TOML 1.0: String).
 ghost use Rattle.format_toml.specs.Escapes.{wide_unique};
 ghost use Rattle.format_toml.specs.Grammars.{WideUnits};
-ghost use Rattle.winnow.specs.Text.{text_input, text_reading};
-ghost use Rattle.winnow.specs.Exact.{Reads};
+ghost use Rattle.streams.specs.Text.{text_input, text_reading};
+ghost use Rattle.winnow_core.specs.Exact.{Reads};
 
 use format_parts::hexadecimal::{Unit, read_unit};
 use format_parts::turns::read_two_of;
-use winnow::error::{EmptyError, ErrMode, HasKind};
-use winnow::exact::Rule;
+use stream_errors::empty::EmptyError;
+use stream_errors::has_kind::HasKind;
+use stream_errors::mode::ErrMode;
+use winnow_grammar::rule::Rule;
 
 /// The name of eight hexadecimal digits.
 #[derive(Clone, Copy, Drop)]

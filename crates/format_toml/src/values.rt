@@ -1,15 +1,15 @@
 //! Values (TOML 1.0: Array, Inline Table), and keys with them.
 ghost use Rattle.std.specs.Prelude.{◌≡◌};
 ghost use Rattle.std.specs.Str.{chars};
-ghost use Rattle.winnow.specs.Text.{text_input, text_reading};
+ghost use Rattle.streams.specs.Text.{text_input, text_reading};
 ghost use Rattle.format_toml.specs.Grammars.{AnyValue, Array, Entry, Inline};
 ghost use Rattle.format_toml.specs.Led.{no_memory_kind};
 ghost use Rattle.format_toml.specs.Scalars.{Goes};
 ghost use Rattle.format_toml.specs.Toml.{IsArray, IsInline, ValueText};
 ghost use Rattle.format_toml.specs.Unique.{entry_unique, value_unique};
-ghost use Rattle.winnow.specs.Exact.{Reads};
-ghost use Rattle.winnow.specs.Grammar.Meaning.{Meaning};
-ghost use Rattle.winnow.specs.Told.{ReadsText};
+ghost use Rattle.winnow_core.specs.Exact.{Reads};
+ghost use Rattle.grammars.specs.Grammar.Meaning.{Meaning};
+ghost use Rattle.winnow_grammar.specs.Told.{ReadsText};
 
 use crate::gaps::{AnyGap, read_gap};
 use crate::keys::{Keys, read_key};
@@ -19,9 +19,11 @@ use crate::strings::begins_with;
 use format_parts::marks::{Marks, read_array_of};
 use format_toml_tree::value::{Key, Value};
 use std::alloc::Allocator;
-use winnow::ascii::impls::Space0;
-use winnow::error::{EmptyError, ErrMode, HasKind};
-use winnow::exact::Rule;
+use stream_errors::empty::EmptyError;
+use stream_errors::has_kind::HasKind;
+use stream_errors::mode::ErrMode;
+use winnow_ascii::ascii::impls::Space0;
+use winnow_grammar::rule::Rule;
 
 /// A level that is safe on a stack of two megabytes: parsing a value recurses once for each nested
 /// array or inline table, and so does dropping the value. A higher level requires a larger stack.

@@ -24,7 +24,7 @@ use Rattle.format_toml_tree.specs.declared.build.TreeError.TheVariants as built
 use Rattle.format_toml_tree.specs.declared.roles.Reason.{Reason}
 use Rattle.format_toml_tree.specs.declared.tree.Tree.{Tree}
 use Rattle.format_toml_tree.specs.declared.value.Item.{Item}
-use Rattle.winnow.specs.Position.{IsPosition}
+use Rattle.text_positions.specs.Position.{IsPosition}
 
 pub after_of : (text rest front : List ℕ) (offset : ℕ) (at : Location) → IsUtf8 text
     → IsUtf8 rest → chars text ≡ front ++ chars rest → offset ≡ length text - length rest

@@ -16,7 +16,7 @@ use Rattle.format_toml_tree.specs.declared.build.TreeError.{TreeError}
 use Rattle.format_toml_tree.specs.declared.build.TreeError.TheVariants as built
 use Rattle.format_toml_tree.specs.declared.tree.Tree.{Tree}
 use Rattle.format_toml_tree.specs.declared.value.Item.{Item}
-use Rattle.winnow.specs.Position.{IsPosition}
+use Rattle.text_positions.specs.Position.{IsPosition}
 
 -- The place is this byte, with the line and the column after the text before it.
 abbrev pub IsLocation : List ℕ → ℕ → Location → Type 0

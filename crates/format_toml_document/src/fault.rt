@@ -14,7 +14,7 @@ use std::alloc::Allocator;
 use std::error::Error;
 use std::fmt;
 use std::fmt::{Display, Formatter};
-use winnow::stream::{Excerpt, position_in};
+use text_positions::excerpt::{Excerpt, position_in};
 
 /// A place in a text.
 ///

@@ -2,7 +2,7 @@
 ghost use Rattle.std.specs.Prelude.{◌≡◌, [], IfErr, IfOk, IsTrue};
 ghost use Rattle.std.specs.Str.{IsUtf8};
 ghost use Rattle.format_toml_document.specs.Fault.{IsBroken, IsDocument, IsErrorOf};
-ghost use Rattle.winnow.specs.Exact.Whole.{IsWant};
+ghost use Rattle.winnow_core.specs.Exact.Whole.{IsWant};
 
 use crate::fault::{TomlError, fault_of_build, fault_of_bytes, fault_of_text};
 use format_toml::lines::parse_lines;
@@ -11,7 +11,10 @@ use format_toml_tree::tree::Tree;
 use format_toml_tree::value::Item;
 use std::alloc::Allocator;
 use std::str;
-use winnow::error::{EmptyError, ErrMode, ParseFault, ParserError};
+use stream_errors::empty::EmptyError;
+use stream_errors::fault::ParseFault;
+use stream_errors::mode::ErrMode;
+use stream_errors::parser_error::ParserError;
 
 /// A place for what the lines of a text say, from which its [`Tree`] borrows.
 ///

@@ -7,18 +7,18 @@ use Rattle.std.specs.Str.{chars}
 use Rattle.std.specs.Int.{int_pow}
 use Rattle.std.proofs.Math.Nat.{mul-suc}
 use Rattle.std.proofs.Common.{append_assoc, suc, zero, refl, sym, ◌∙◌, ap, subst, inl, inr, arith}
-use Rattle.winnow.specs.Equal.{same_first, same_others}
-use Rattle.winnow.specs.Input.{Input, IsEndOf}
-use Rattle.winnow.specs.Reading.{Reading, units-zero}
-use Rattle.winnow.specs.Stream.{IsBoundary}
-use Rattle.winnow.specs.Text.{text_reading, width}
-use Rattle.winnow.specs.Kind.{Kind}
-use Rattle.winnow.specs.Form.{Answer}
-use Rattle.winnow.specs.Items.{AreItems, Gives, GivesOne, ItemRuns, Items}
-use Rattle.winnow.specs.Items.{ItemsTree, NoItem, ReadsItems, left_at}
-use Rattle.winnow.specs.Premises.{NotMemory}
-use Rattle.winnow.specs.Tree.{Tree}
-use Rattle.winnow.specs.Items.Premises.{item_ends}
+use Rattle.streams.specs.Equal.{same_first, same_others}
+use Rattle.streams.specs.Input.{Input, IsEndOf}
+use Rattle.streams.specs.Reading.{Reading, units-zero}
+use Rattle.streams.specs.Stream.{IsBoundary}
+use Rattle.streams.specs.Text.{text_reading, width}
+use Rattle.streams.specs.Kind.{Kind}
+use Rattle.stream_errors.specs.Form.{Answer}
+use Rattle.winnow_expression_trees.specs.Items.{AreItems, Gives, GivesOne, ItemRuns, Items}
+use Rattle.winnow_expression_trees.specs.Items.{ItemsTree, NoItem, ReadsItems, left_at}
+use Rattle.winnow_expression_trees.specs.Premises.{NotMemory}
+use Rattle.winnow_expression_trees.specs.Tree.{Tree}
+use Rattle.winnow_expression_trees.specs.Items.Premises.{item_ends}
 use Rattle.format_calculator.specs.Calculator.{AnswersItem, CharItem, GivesOption, HasFormula}
 use Rattle.format_calculator.specs.Calculator.{IsAnswerOf}
 use Rattle.format_calculator.specs.Calculator.{IsPower, IsUnitPower, IsValue, NumberItem}

@@ -9,8 +9,8 @@ ghost use Rattle.format_calculator.specs.Calculator.{is_white, mark_at, number_f
 ghost use Rattle.format_calculator.specs.Calculator.{sign_at};
 
 use crate::calc::operators::{Mark, Pair, Sign, mark_of, pair_of, sign_of};
-use winnow::combinator::{Infix, Postfix, Prefix};
-use winnow::stream::Stream;
+use streams::stream::Stream;
+use winnow_expression::combinator::{Infix, Postfix, Prefix};
 
 /// Takes a digit, if one comes first.
 fn digit(input: &mut &str) -> Option<i64>

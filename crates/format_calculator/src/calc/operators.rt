@@ -1,15 +1,15 @@
 //! The operators, and their effect on operands.
 ghost use Rattle.std.specs.Prelude.{◌≡◌};
-ghost use Rattle.winnow.specs.Items.{Gives};
-ghost use Rattle.winnow.specs.Items.Premises.{gives_ends};
+ghost use Rattle.winnow_expression_trees.specs.Items.{Gives};
+ghost use Rattle.winnow_expression_trees.specs.Items.Premises.{gives_ends};
 ghost use Rattle.format_calculator.specs.Calculator.{mark_at, mark_value, pair_at, pair_value};
 ghost use Rattle.format_calculator.specs.Calculator.{sign_at};
 ghost use Rattle.format_calculator.specs.Calculator.{sign_value};
 
 use crate::calc::numbers::{factorial_of, joined, signed};
-use winnow::combinator::{FoldBinary, FoldUnary, Infix, Postfix, Prefix};
-use winnow::error::ParserError;
-use winnow::stream::Stream;
+use stream_errors::parser_error::ParserError;
+use streams::stream::Stream;
+use winnow_expression::combinator::{FoldBinary, FoldUnary, Infix, Postfix, Prefix};
 
 /// The operators before an operand.
 #[derive(Clone, Copy, Drop)]

@@ -1,18 +1,19 @@
 //! The parsers of numbers and operators.
-ghost use Rattle.winnow.specs.Claim.{no_claim, nothing_claimed};
+ghost use Rattle.winnow_core.specs.Claim.{no_claim, nothing_claimed};
 ghost use Rattle.std.specs.Prelude.{⊤};
-ghost use Rattle.winnow.specs.Runs.{Keeps};
-ghost use Rattle.winnow.specs.Items.{ItemRuns};
+ghost use Rattle.winnow_core.specs.Runs.{Keeps};
+ghost use Rattle.winnow_expression_trees.specs.Items.{ItemRuns};
 ghost use Rattle.format_calculator.specs.Calculator.{CharItem, NumberItem, mark_at, pair_at};
 ghost use Rattle.format_calculator.specs.Calculator.{sign_at};
 ghost use Rattle.format_calculator.specs.Calculator.Laws.{char_ends, number_ends};
-ghost use Rattle.winnow.specs.Says.{nothing_done, nothing_said};
+ghost use Rattle.winnow_core.specs.Says.{nothing_done, nothing_said};
 
 use crate::calc::items::{read_mark, read_number, read_pair, read_sign};
 use crate::calc::operators::{Mark, Pair, Sign};
-use winnow::Parser;
-use winnow::combinator::{Infix, Postfix, Prefix};
-use winnow::error::{EmptyError, ParserError};
+use stream_errors::empty::EmptyError;
+use stream_errors::parser_error::ParserError;
+use winnow_core::parser::Parser;
+use winnow_expression::combinator::{Infix, Postfix, Prefix};
 
 /// The parser of a number.
 #[derive(Drop)]

@@ -1,8 +1,8 @@
 use Rattle.std.proofs.Common.{arith, sym}
 use Rattle.std.proofs.lemmas.Bool.{eqb-false, eqb-true}
 use Rattle.format_csv.proofs.Reading.{reads_none, reads_nothing, reads_record}
-use Rattle.winnow.specs.Input.{is_end_of_refl}
-use Rattle.winnow.specs.Read.{reads_wanting}
+use Rattle.streams.specs.Input.{is_end_of_refl}
+use Rattle.winnow_grammar.specs.Read.{reads_wanting}
 use Rattle.format_csv.proofs.read_record.Goals as goal
 
 pub returns-then-is_empty : goal.returns-then-is_empty

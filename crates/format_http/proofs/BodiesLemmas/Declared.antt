@@ -9,7 +9,7 @@ use Rattle.format_http.specs.Bodies.Lists.{IsThe}
 use Rattle.format_http.specs.Chunks.Framing.{IsNumber}
 use Rattle.format_http.specs.Heads.Head.{Pair}
 use Rattle.format_http.specs.declared.bodies.framing.FramingError.TheVariants.{LengthIsNoNumber}
-use Rattle.winnow.specs.Digits.{value_in}
+use Rattle.winnow_numbers.specs.Digits.{value_in}
 
 -- The fields have these texts.
 abbrev pub Tell : List Pair → Option (Bor (List ℕ)) → Type 0

@@ -3,7 +3,7 @@ use Rattle.std.specs.Prelude.{◌≡◌, ◌++◌, ℕ, List, [], ◌∷◌, len
 use Rattle.std.specs.List.{All}
 use Rattle.std.proofs.Common.{refl, sym, ap, subst, ◌∙◌, arith, append_assoc, length-append}
 use Rattle.std.proofs.lemmas.List.Elements.{All-append, All-cons, All-head, All-nil}
-use Rattle.winnow.specs.Equal.{same_first}
+use Rattle.streams.specs.Equal.{same_first}
 use Rattle.format_http.specs.Bodies.Lists.{IsElement}
 use Rattle.format_http.specs.Heads.Bytes.{IsWhite}
 use Rattle.format_http.specs.Heads.FieldLine.{IsTrimmed}

@@ -3,7 +3,7 @@ use Rattle.std.specs.Prelude.{◌≡◌, ◌⊎◌, ◌↔◌, ℕ, List, [], �
 use Rattle.std.specs.Prelude.{Bool, IfSome, IsTrue}
 use Rattle.std.specs.Option.{is_some}
 use Rattle.std.specs.Borrow.{Bor}
-use Rattle.winnow.specs.Equal.{true_is_false}
+use Rattle.streams.specs.Equal.{true_is_false}
 use Rattle.std.proofs.Common.{refl, sym, subst, ◌∙◌, inl, inr}
 use Rattle.format_http.specs.Bodies.Lengths.{HasLength}
 use Rattle.format_http.specs.Bodies.Lists.{HasElement, IsElement, IsThe, parts_of}

@@ -8,9 +8,9 @@ use Rattle.std.proofs.Common.{ap, append_assoc, arith, inl, inr, refl, subst, sy
 use Rattle.std.proofs.lemmas.List.Elements.{All-cons, All-head, All-nil, All-tail}
 use Rattle.format_http_chunked.specs.Words.{Byte, Many, One, Star, Times}
 use Rattle.format_http_chunked.specs.Words as words
-use Rattle.winnow.specs.Counted.{counted_reading}
-use Rattle.winnow.specs.Texts.{BothText, EachText, EitherText, GatheredText, Itself, Members}
-use Rattle.winnow.specs.Texts.{OptionalText, Spelled, TakenText, Text, TokenOfText}
+use Rattle.streams.specs.Counted.{counted_reading}
+use Rattle.grammars.specs.Texts.{BothText, EachText, EitherText, GatheredText, Itself, Members}
+use Rattle.grammars.specs.Texts.{OptionalText, Spelled, TakenText, Text, TokenOfText}
 
 -- `Alike A text`: `A next bytes` holds if and only if `bytes` starts with a match of `text`, and
 -- `next` holds for the rest.

@@ -21,11 +21,11 @@ use Rattle.format_http.proofs.ChunksLemmas.Alike.{star_alike, taken_alike, then_
 use Rattle.format_http.proofs.OneLemmas.Values.{all_value, field_line_some, regroup}
 use Rattle.format_http_chunked.specs.Bodies as body
 use Rattle.format_http_chunked.specs.Words.{Byte, Many, Times}
-use Rattle.winnow.specs.AsChar.{IsHexDigit, IsSpace}
-use Rattle.winnow.specs.Digits.{value_in}
-use Rattle.winnow.specs.Digits.Inversion.{value_is}
-use Rattle.winnow.specs.InTurn.{First}
-use Rattle.winnow.specs.Texts.{BothText, EachText, InList, Itself, MadeText, Members}
+use Rattle.stream_sets.specs.AsChar.{IsHexDigit, IsSpace}
+use Rattle.winnow_numbers.specs.Digits.{value_in}
+use Rattle.winnow_numbers.specs.Digits.Inversion.{value_is}
+use Rattle.winnow_grammar.specs.InTurn.{First}
+use Rattle.grammars.specs.Texts.{BothText, EachText, InList, Itself, MadeText, Members}
 
 -- ---- the parts of a size line
 

@@ -8,7 +8,7 @@ use Rattle.format_http.specs.Chunks.Framing.{AreBlank, EndChunked, EndsBehind, E
 use Rattle.format_http.specs.Chunks.Framing.{IsBlank, IsEnd, IsNamed, IsWithout}
 use Rattle.format_http.specs.Chunks.Framing.{transfer_encoding}
 use Rattle.format_http.specs.Heads.Head.{Pair}
-use Rattle.winnow.specs.Equal.{true_is_false}
+use Rattle.streams.specs.Equal.{true_is_false}
 
 -- ---- where the last element is the word
 

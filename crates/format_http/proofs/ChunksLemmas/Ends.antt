@@ -12,7 +12,7 @@ use Rattle.std.proofs.lemmas.Str.Ascii.{lowercase_is}
 use Rattle.format_http.specs.Chunks.Framing.{IsBare}
 use Rattle.format_http.specs.Chunks.Framing.{IsEnd, IsSeparated, IsWithout}
 use Rattle.format_http.specs.Heads.Bytes.{IsWhite}
-use Rattle.winnow.specs.Equal.{same_first, same_others, true_is_false}
+use Rattle.streams.specs.Equal.{same_first, same_others, true_is_false}
 
 -- ---- texts without an end
 

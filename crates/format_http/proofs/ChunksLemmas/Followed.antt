@@ -9,7 +9,7 @@ use Rattle.format_http.specs.Chunks.Codings.{ChunkedIsFollowed, EndsName, HasChu
 use Rattle.format_http.specs.Chunks.Codings.{HaveCoding, IsChunked, IsFollowed, NamesChunked}
 use Rattle.format_http.specs.Chunks.Framing.{IsNamed}
 use Rattle.format_http.specs.Heads.Head.{Pair}
-use Rattle.winnow.specs.Equal.{same_first, same_others}
+use Rattle.streams.specs.Equal.{same_first, same_others}
 
 -- ---- a coding
 

@@ -2,7 +2,7 @@
 use Rattle.std.proofs.Common.{◌≡◌, ◌∙◌, ◌++◌, ◌∷◌, ℕ, List, [], ap, refl, subst, sym}
 use Rattle.std.specs.List.{All}
 use Rattle.std.proofs.lemmas.List.Elements.{All-head, All-tail}
-use Rattle.winnow.specs.Equal.{same_first, same_others}
+use Rattle.streams.specs.Equal.{same_first, same_others}
 
 stranger : (P : ℕ → Type 0) (x y : ℕ) (xs ys : List ℕ) → (P x → ⊥) → P y → x ∷ xs ≡ y ∷ ys → ⊥
 stranger P x y xs ys not is e = not (subst P (sym (same_first e)) is)

@@ -12,7 +12,7 @@ use Rattle.format_http.specs.Heads.Bytes.{IsTokenByte, IsValueByte, IsWhite, lin
 use Rattle.format_http.specs.Heads.FieldLine.{BeginsBare, EndsBare, IsFieldLine, IsTrimmed}
 use Rattle.format_http.specs.Heads.FieldRead.{all_front, none_returns, white_is_value}
 use Rattle.format_http.specs.declared.heads.field_line.Field.{Field}
-use Rattle.winnow.specs.Equal.{same_first, same_others}
+use Rattle.streams.specs.Equal.{same_first, same_others}
 use Rattle.format_http.proofs.ChunksLemmas.Ends.{one_without}
 use Rattle.format_http.proofs.OneLemmas.Texts.{in_middle, one_stranger, one_text}
 

@@ -5,7 +5,7 @@ use Rattle.format_http.specs.Chunks.Codings.{ChunkedIsFollowed}
 use Rattle.format_http.specs.Chunks.Framing.{EndChunked, HasOne, IsNumber, content_length}
 use Rattle.format_http.specs.Chunks.Framing.{transfer_encoding}
 use Rattle.format_http.specs.Heads.Head.{Pair}
-use Rattle.winnow.specs.Digits.{value_in}
+use Rattle.winnow_numbers.specs.Digits.{value_in}
 use Rattle.format_http.specs.declared.bodies.framing.BodyLength.{BodyLength}
 use Rattle.format_http.specs.declared.bodies.framing.BodyLength.TheVariants.{Chunked, Length}
 use Rattle.format_http.specs.declared.bodies.framing.BodyLength.TheVariants.{NoBody, Tunnel}

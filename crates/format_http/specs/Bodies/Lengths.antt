@@ -4,7 +4,7 @@ use Rattle.std.specs.Prelude.{◌≡◌, ◌⊎◌, ℕ, List, [], ◌∷◌}
 use Rattle.format_http.specs.Bodies.Lists.{HasElement, parts_of}
 use Rattle.format_http.specs.Chunks.Framing.{IsNamed, IsNumber, content_length}
 use Rattle.format_http.specs.Heads.Head.{Pair}
-use Rattle.winnow.specs.Digits.{value_in}
+use Rattle.winnow_numbers.specs.Digits.{value_in}
 
 -- One of the elements of the Content-Length fields is this text. All fields of the name are one
 -- list. Empty elements count, so that those of `,4` are different: the value is 1*DIGIT, or one

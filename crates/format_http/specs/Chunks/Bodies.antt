@@ -4,8 +4,8 @@ use Rattle.format_http.specs.Chunks.SizeLine.{ExtensionText, RunText, Slice}
 use Rattle.format_http.specs.declared.chunks.size_line.Size.{Size}
 use Rattle.format_http.specs.declared.chunks.size_line.Size.TheVariants.{Bytes, TooLarge}
 use Rattle.format_http_chunked.specs.Bodies.{SizeLine}
-use Rattle.winnow.specs.AsChar.{IsHexDigit}
-use Rattle.winnow.specs.Texts.{BothText, EachText, Itself, Text}
+use Rattle.stream_sets.specs.AsChar.{IsHexDigit}
+use Rattle.grammars.specs.Texts.{BothText, EachText, Itself, Text}
 
 -- `HasNumber size n`: `n` is the size; a size that is too large is at least 2 ^ 64.
 abbrev pub HasNumber : Size → ℕ → Type 0

@@ -5,11 +5,11 @@
 use Rattle.std.specs.Prelude.{◌≡◌, ◌≤◌, ◌⊎◌, ℕ, List, Option, None, ⊤}
 use Rattle.std.specs.declared.vec.Vec.{Vec}
 use Rattle.format_http.specs.Heads.Bytes.{IsBetween, IsTokenByte, IsValueByte}
-use Rattle.winnow.specs.AsChar.{IsHexDigit, IsSpace}
-use Rattle.winnow.specs.Range.{from_to}
-use Rattle.winnow.specs.Reading.{Reading}
-use Rattle.winnow.specs.Grammar.{Both, Class, Either, Gathered, Grammar, InClass, Many, Optional}
-use Rattle.winnow.specs.Grammar.{Taken, Three, TokenOf}
+use Rattle.stream_sets.specs.AsChar.{IsHexDigit, IsSpace}
+use Rattle.stream_sets.specs.Range.{from_to}
+use Rattle.streams.specs.Reading.{Reading}
+use Rattle.grammars.specs.Grammar.{Both, Class, Either, Gathered, Grammar, InClass, Many, Optional}
+use Rattle.grammars.specs.Grammar.{Taken, Three, TokenOf}
 
 -- qdtext = HTAB / SP / %x21 / %x23-5B / %x5D-7E / obs-text
 abbrev pub IsQuotedByte : ℕ → Type 0

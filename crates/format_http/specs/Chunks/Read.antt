@@ -9,11 +9,11 @@ use Rattle.std.proofs.lemmas.Bool.Decides.{nat_tests}
 use Rattle.std.proofs.lemmas.Int.Digits.{digits_value_more}
 use Rattle.std.proofs.lemmas.Str.Parse.{digits_value-take-le}
 use Rattle.format_http.specs.Chunks.Lines.{OneOf, RunOf}
-use Rattle.winnow.specs.Range.{from_to}
-use Rattle.winnow.specs.Reading.{Reading}
-use Rattle.winnow.specs.Grammar.{Longest, TokenOf}
-use Rattle.winnow.specs.Digits.{value_in}
-use Rattle.winnow.specs.Digits.Inversion.{value_is}
+use Rattle.stream_sets.specs.Range.{from_to}
+use Rattle.streams.specs.Reading.{Reading}
+use Rattle.grammars.specs.Grammar.{Longest, TokenOf}
+use Rattle.winnow_numbers.specs.Digits.{value_in}
+use Rattle.winnow_numbers.specs.Digits.Inversion.{value_is}
 
 -- ---- sets: what one tells does not depend on its value
 

@@ -8,12 +8,12 @@ use Rattle.format_http.specs.declared.chunks.size_line.Size.{Size}
 use Rattle.format_http.specs.declared.chunks.size_line.Size.TheVariants.{Bytes, TooLarge}
 use Rattle.format_http.specs.declared.chunks.size_line.SizeLine.{SizeLine}
 use Rattle.format_http.specs.Heads.Bytes.{IsTokenByte, IsValueByte}
-use Rattle.winnow.specs.AsChar.{IsHexDigit, IsSpace}
-use Rattle.winnow.specs.Counted.{counted_reading}
-use Rattle.winnow.specs.Texts.{AtLeast, BothText, EachText, EitherText, GatheredText, InList}
-use Rattle.winnow.specs.Texts.{Itself, MadeText, Members, OptionalText, TakenText, Text}
-use Rattle.winnow.specs.Texts.{TokenOfText}
-use Rattle.winnow.specs.Digits.{value_in}
+use Rattle.stream_sets.specs.AsChar.{IsHexDigit, IsSpace}
+use Rattle.streams.specs.Counted.{counted_reading}
+use Rattle.grammars.specs.Texts.{AtLeast, BothText, EachText, EitherText, GatheredText, InList}
+use Rattle.grammars.specs.Texts.{Itself, MadeText, Members, OptionalText, TakenText, Text}
+use Rattle.grammars.specs.Texts.{TokenOfText}
+use Rattle.winnow_numbers.specs.Digits.{value_in}
 
 -- bytes of the input
 abbrev pub Slice : Type 0

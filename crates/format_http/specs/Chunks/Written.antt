@@ -15,29 +15,29 @@ use Rattle.format_http.specs.declared.chunks.size_line.SizeLine.{SizeLine}
 use Rattle.format_http.specs.Heads.Bytes.{IsTokenByte, IsValueByte}
 use Rattle.format_http.specs.Heads.Tokens.{space_most, token_least, token_no_mark, token_no_quote}
 use Rattle.format_http.specs.Heads.Tokens.{token_no_space}
-use Rattle.winnow.specs.AsChar.{IsHexDigit, IsSpace}
-use Rattle.winnow.specs.Range.{from_to}
-use Rattle.winnow.specs.Counted.{counted_reading}
-use Rattle.winnow.specs.Equal.{same_first, same_others}
-use Rattle.winnow.specs.Exact.{Reads}
-use Rattle.winnow.specs.Grammar.{Both, Grammar, InClass, NoMatch}
-use Rattle.winnow.specs.Grammar.Inversion.{Byte}
-use Rattle.winnow.specs.Input.{Input}
-use Rattle.winnow.specs.InTurn.{First}
-use Rattle.winnow.specs.Kind.{Kind}
-use Rattle.winnow.specs.Read.{err_as}
-use Rattle.winnow.specs.Reading.{Reading}
-use Rattle.winnow.specs.Texts.{Anything, AtLeast, StartsWith, TextsStartWith, BothText, EachText}
-use Rattle.winnow.specs.Texts.{GatheredText, InFront, IsGrammarOf, Itself, MadeText, MayStartWith}
-use Rattle.winnow.specs.Texts.{Members, NotFirst, OptionalText, Spelled, Text}
-use Rattle.winnow.specs.Texts.Fronts.{begins_wider, both_front, each_front, either_front}
-use Rattle.winnow.specs.Texts.Fronts.{front_any, front_begins, front_whole, in_list_front}
-use Rattle.winnow.specs.Texts.Fronts.{may_begin, members_begin, none_begins, spelled_begins}
-use Rattle.winnow.specs.Texts.Fronts.{taken_front, token_of_begins}
-use Rattle.winnow.specs.Texts.Parts.{behind_less, both_of, either_apart, optional_of, taken_of}
-use Rattle.winnow.specs.Texts.Parts.{three_of}
-use Rattle.winnow.specs.Texts.Rows.{gathered_of, list_of, many_of}
-use Rattle.winnow.specs.Texts.Tokens.{byte_of, class_of, divides_where, token_of}
+use Rattle.stream_sets.specs.AsChar.{IsHexDigit, IsSpace}
+use Rattle.stream_sets.specs.Range.{from_to}
+use Rattle.streams.specs.Counted.{counted_reading}
+use Rattle.streams.specs.Equal.{same_first, same_others}
+use Rattle.winnow_core.specs.Exact.{Reads}
+use Rattle.grammars.specs.Grammar.{Both, Grammar, InClass, NoMatch}
+use Rattle.grammars.specs.Grammar.Inversion.{Byte}
+use Rattle.streams.specs.Input.{Input}
+use Rattle.winnow_grammar.specs.InTurn.{First}
+use Rattle.streams.specs.Kind.{Kind}
+use Rattle.winnow_grammar.specs.Read.{err_as}
+use Rattle.streams.specs.Reading.{Reading}
+use Rattle.grammars.specs.Texts.{Anything, AtLeast, StartsWith, TextsStartWith, BothText, EachText}
+use Rattle.grammars.specs.Texts.{GatheredText, InFront, IsGrammarOf, Itself, MadeText, MayStartWith}
+use Rattle.grammars.specs.Texts.{Members, NotFirst, OptionalText, Spelled, Text}
+use Rattle.grammars.specs.Texts.Fronts.{begins_wider, both_front, each_front, either_front}
+use Rattle.grammars.specs.Texts.Fronts.{front_any, front_begins, front_whole, in_list_front}
+use Rattle.grammars.specs.Texts.Fronts.{may_begin, members_begin, none_begins, spelled_begins}
+use Rattle.grammars.specs.Texts.Fronts.{taken_front, token_of_begins}
+use Rattle.grammars.specs.Texts.Parts.{behind_less, both_of, either_apart, optional_of, taken_of}
+use Rattle.grammars.specs.Texts.Parts.{three_of}
+use Rattle.grammars.specs.Texts.Rows.{gathered_of, list_of, many_of}
+use Rattle.grammars.specs.Texts.Tokens.{byte_of, class_of, divides_where, token_of}
 
 -- ---- bytes
 

@@ -3,7 +3,7 @@ use Rattle.std.specs.Prelude.{◌≡◌, ◌<◌, ℕ, List, [], ◌∷◌, ◌+
 use Rattle.std.specs.List.{All}
 use Rattle.format_http.specs.Heads.Bytes.{IsTokenByte, IsValueByte, IsWhite, line_end}
 use Rattle.format_http.specs.declared.heads.field_line.Field.{Field}
-use Rattle.winnow.specs.Grammar.{Grammar}
+use Rattle.grammars.specs.Grammar.{Grammar}
 
 -- The text does not end with whitespace.
 abbrev pub EndsBare : List ℕ → Type 0

@@ -5,17 +5,17 @@ use Rattle.std.specs.List.{All}
 use Rattle.std.proofs.Common.{refl, sym, ap, subst, inl, inr, ◌∙◌, arith, append_assoc}
 use Rattle.std.proofs.lemmas.List.Elements.{All-append, All-cons, All-head, All-nil, All-tail}
 use Rattle.std.proofs.lemmas.List.Elements.{All-weaker}
-use Rattle.winnow.specs.Equal.{same_first, same_rest}
+use Rattle.streams.specs.Equal.{same_first, same_rest}
 use Rattle.format_http.specs.Heads.Bytes.{IsTokenByte, IsValueByte, IsWhite, line_end}
 use Rattle.format_http.specs.Heads.FieldLine.{BeginsBare, EndsBare, FieldLineStands, IsFieldLine}
 use Rattle.format_http.specs.Heads.FieldLine.{IsTrimmed}
 use Rattle.format_http.specs.Heads.Parts.{EndStands, Run, run_back, run_there, run_unique}
 use Rattle.format_http.specs.declared.heads.field_line.Field.{Field}
-use Rattle.winnow.specs.Steps.{Steps}
-use Rattle.winnow.specs.Grammar.{Both, Grammar, IsUnique}
-use Rattle.winnow.specs.Grammar.Inversion.{Byte, byte_stands, byte_unique, stands_byte}
-use Rattle.winnow.specs.Grammar.Unique.{both_unique, unique_by}
-use Rattle.winnow.specs.Texts.{NotFirst}
+use Rattle.winnow_grammar.specs.Steps.{Steps}
+use Rattle.grammars.specs.Grammar.{Both, Grammar, IsUnique}
+use Rattle.grammars.specs.Grammar.Inversion.{Byte, byte_stands, byte_unique, stands_byte}
+use Rattle.grammars.specs.Grammar.Unique.{both_unique, unique_by}
+use Rattle.grammars.specs.Texts.{NotFirst}
 
 -- ---- a value, with the white space around it
 

@@ -8,7 +8,7 @@ use Rattle.format_http.specs.Heads.RequestLine.{IsRequestLine}
 use Rattle.format_http.specs.declared.heads.field_line.Field.{Field}
 use Rattle.format_http.specs.declared.heads.head.Head.{Head}
 use Rattle.format_http.specs.declared.heads.request_line.RequestLine.{RequestLine}
-use Rattle.winnow.specs.Grammar.{Grammar}
+use Rattle.grammars.specs.Grammar.{Grammar}
 
 -- The contents of a request line, independent of its address: the method, the target, and the two
 -- numbers of the version.

@@ -2,10 +2,10 @@
 use Rattle.std.specs.Prelude.{◌≡◌, ℕ, List, [], ◌∷◌, ◌++◌, None, map, Ok, Err}
 use Rattle.std.specs.declared.vec.Vec.{Vec}
 use Rattle.std.proofs.Common.{refl, sym, ap, subst, inl, inr, ◌∙◌, arith}
-use Rattle.winnow.specs.Counted.{counted_input, counted_reading}
-use Rattle.winnow.specs.Input.{IsEndOf}
-use Rattle.winnow.specs.Kind.{Kind, memory}
-use Rattle.winnow.specs.Range.{from_to}
+use Rattle.streams.specs.Counted.{counted_input, counted_reading}
+use Rattle.streams.specs.Input.{IsEndOf}
+use Rattle.streams.specs.Kind.{Kind, memory}
+use Rattle.stream_sets.specs.Range.{from_to}
 use Rattle.format_http.specs.Heads.FieldLine.{FieldLineStands}
 use Rattle.format_http.specs.Heads.FieldRead.{field_unique, none_returns}
 use Rattle.format_http.specs.Heads.Head.{AreFieldLines, FieldsStand, HeadStands, IsHead, pair}
@@ -15,10 +15,10 @@ use Rattle.format_http.specs.Heads.RequestLine.{RequestLineStands}
 use Rattle.format_http.specs.declared.heads.field_line.Field.{Field}
 use Rattle.format_http.specs.declared.heads.head.Head.{Head}
 use Rattle.format_http.specs.declared.heads.request_line.RequestLine.{RequestLine}
-use Rattle.winnow.specs.Exact.{Reads}
-use Rattle.winnow.specs.Steps.{Steps}
-use Rattle.winnow.specs.Grammar.{Both, Each, Gathered, Grammar, IsUnique, Many}
-use Rattle.winnow.specs.Grammar.Unique.{gathered_unique, many_unique}
+use Rattle.winnow_core.specs.Exact.{Reads}
+use Rattle.winnow_grammar.specs.Steps.{Steps}
+use Rattle.grammars.specs.Grammar.{Both, Each, Gathered, Grammar, IsUnique, Many}
+use Rattle.grammars.specs.Grammar.Unique.{gathered_unique, many_unique}
 
 -- ---- field lines
 

@@ -5,18 +5,18 @@ use Rattle.std.specs.Borrow.{Bor}
 use Rattle.std.specs.List.{All}
 use Rattle.std.proofs.Common.{refl, sym, ap, subst, ◌∙◌}
 use Rattle.std.proofs.lemmas.List.Elements.{All-weaker}
-use Rattle.winnow.specs.Counted.{counted_reading}
-use Rattle.winnow.specs.Equal.{true_is_false}
-use Rattle.winnow.specs.Input.{Input, is_end_of_refl}
-use Rattle.winnow.specs.Kind.{Kind}
-use Rattle.winnow.specs.Range.{from_to}
+use Rattle.streams.specs.Counted.{counted_reading}
+use Rattle.streams.specs.Equal.{true_is_false}
+use Rattle.streams.specs.Input.{Input, is_end_of_refl}
+use Rattle.streams.specs.Kind.{Kind}
+use Rattle.stream_sets.specs.Range.{from_to}
 use Rattle.format_http.specs.Heads.Bytes.{line_end}
-use Rattle.winnow.specs.Exact.{Reads}
-use Rattle.winnow.specs.Class.Laws.{class_unique}
-use Rattle.winnow.specs.Grammar.{Class, Grammar, InClass, IsUnique, Literally, Longest}
-use Rattle.winnow.specs.Grammar.Inversion.Sets.{longest_stands, stands_longest}
-use Rattle.winnow.specs.Grammar.Unique.{literally_unique}
-use Rattle.winnow.specs.Texts.{NotFirst}
+use Rattle.winnow_core.specs.Exact.{Reads}
+use Rattle.winnow_ascii.specs.Class.Laws.{class_unique}
+use Rattle.grammars.specs.Grammar.{Class, Grammar, InClass, IsUnique, Literally, Longest}
+use Rattle.grammars.specs.Grammar.Inversion.Sets.{longest_stands, stands_longest}
+use Rattle.grammars.specs.Grammar.Unique.{literally_unique}
+use Rattle.grammars.specs.Texts.{NotFirst}
 
 -- ---- literals
 

@@ -3,7 +3,7 @@ use Rattle.std.specs.Prelude.{◌≡◌, ◌<◌, ◌+◌, ℕ, List, [], ◌∷
 use Rattle.std.specs.List.{All}
 use Rattle.format_http.specs.Heads.Bytes.{IsTokenByte, IsVisible, line_end}
 use Rattle.format_http.specs.declared.heads.request_line.RequestLine.{RequestLine}
-use Rattle.winnow.specs.Grammar.{Grammar}
+use Rattle.grammars.specs.Grammar.{Grammar}
 
 -- a space, and then what a version begins with: HTTP and a slash
 abbrev pub protocol : List ℕ

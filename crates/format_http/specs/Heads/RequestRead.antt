@@ -3,19 +3,19 @@ use Rattle.std.specs.Prelude.{◌≡◌, ◌<◌, ◌≤◌, ◌↔◌, ◌+◌,
 use Rattle.std.specs.Prelude.{◌++◌}
 use Rattle.std.specs.Borrow.{Bor}
 use Rattle.std.proofs.Common.{refl, sym, ap, subst, ◌∙◌, arith}
-use Rattle.winnow.specs.Equal.{same_others}
+use Rattle.streams.specs.Equal.{same_others}
 use Rattle.format_http.specs.Heads.Bytes.{IsDigit, IsTokenByte, IsVisible, line_end}
 use Rattle.format_http.specs.Heads.Parts.{Literal, Run, literal_back, literal_there, literal_unique}
 use Rattle.format_http.specs.Heads.Parts.{run_back, run_there, run_unique}
 use Rattle.format_http.specs.Heads.RequestLine.{IsRequestLine, RequestLineStands, digits, protocol}
 use Rattle.format_http.specs.declared.heads.request_line.RequestLine.{RequestLine}
-use Rattle.winnow.specs.Grammar.Same.{Same, unique_as}
-use Rattle.winnow.specs.Steps.{Steps}
-use Rattle.winnow.specs.Grammar.{Both, Grammar, IsUnique, Three, TokenOf}
-use Rattle.winnow.specs.Grammar.Inversion.{Byte, byte_stands, byte_unique, slice_for, stands_byte}
-use Rattle.winnow.specs.Grammar.Inversion.Sets.{stands_token_of, token_of_stands}
-use Rattle.winnow.specs.Grammar.Sequences.{three_unique}
-use Rattle.winnow.specs.Grammar.Unique.{both_unique, unique_by}
+use Rattle.grammars.specs.Grammar.Same.{Same, unique_as}
+use Rattle.winnow_grammar.specs.Steps.{Steps}
+use Rattle.grammars.specs.Grammar.{Both, Grammar, IsUnique, Three, TokenOf}
+use Rattle.grammars.specs.Grammar.Inversion.{Byte, byte_stands, byte_unique, slice_for, stands_byte}
+use Rattle.grammars.specs.Grammar.Inversion.Sets.{stands_token_of, token_of_stands}
+use Rattle.grammars.specs.Grammar.Sequences.{three_unique}
+use Rattle.grammars.specs.Grammar.Unique.{both_unique, unique_by}
 
 -- ---- a digit
 

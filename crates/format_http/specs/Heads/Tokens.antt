@@ -2,7 +2,7 @@
 use Rattle.std.specs.Prelude.{◌≡◌, ◌<◌, ◌≤◌, ℕ}
 use Rattle.std.proofs.Common.{arith, inl, inr}
 use Rattle.format_http.specs.Heads.Bytes.{IsTokenByte}
-use Rattle.winnow.specs.AsChar.{IsSpace}
+use Rattle.stream_sets.specs.AsChar.{IsSpace}
 
 pub space_most : (b : ℕ) → IsSpace b → b < 33
 space_most b (inl is) = omega (arith, is)

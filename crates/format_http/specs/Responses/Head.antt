@@ -7,7 +7,7 @@ use Rattle.format_http.specs.declared.bodies.framing.Message.{Message}
 use Rattle.format_http.specs.declared.bodies.framing.Message.TheVariants.{Response}
 use Rattle.format_http.specs.declared.responses.head.ResponseHead.{ResponseHead}
 use Rattle.format_http.specs.declared.responses.status_line.StatusLine.{StatusLine}
-use Rattle.winnow.specs.Grammar.{Grammar}
+use Rattle.grammars.specs.Grammar.{Grammar}
 
 -- The contents of a status line, independent of its address: the two numbers of the version, the
 -- status code, and the reason.

@@ -8,8 +8,8 @@ use Rattle.format_http.specs.Responses.StatusLine.{StatusLineStands}
 use Rattle.format_http.specs.declared.heads.field_line.Field.{Field}
 use Rattle.format_http.specs.declared.responses.head.ResponseHead.{ResponseHead}
 use Rattle.format_http.specs.declared.responses.status_line.StatusLine.{StatusLine}
-use Rattle.winnow.specs.Steps.{Steps}
-use Rattle.winnow.specs.Grammar.{Both, Grammar}
+use Rattle.winnow_grammar.specs.Steps.{Steps}
+use Rattle.grammars.specs.Grammar.{Both, Grammar}
 
 module _ {A : Type 0} where
   -- by a reader of the one after that of the other

@@ -4,7 +4,7 @@ use Rattle.std.specs.List.{All}
 use Rattle.format_http.specs.Heads.Bytes.{IsValueByte, line_end}
 use Rattle.format_http.specs.Heads.RequestLine.{digits}
 use Rattle.format_http.specs.declared.responses.status_line.StatusLine.{StatusLine}
-use Rattle.winnow.specs.Grammar.{Grammar}
+use Rattle.grammars.specs.Grammar.{Grammar}
 
 -- what a version begins with: HTTP and a slash
 abbrev pub http : List ℕ

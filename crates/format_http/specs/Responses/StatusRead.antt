@@ -5,7 +5,7 @@ use Rattle.std.specs.Borrow.{Bor}
 use Rattle.std.specs.List.{All}
 use Rattle.std.proofs.Common.{refl, sym, ap, subst, ◌∙◌, inl, inr, arith}
 use Rattle.std.proofs.lemmas.List.Elements.{All-nil}
-use Rattle.winnow.specs.Equal.{none_is_some, same_first, same_some}
+use Rattle.streams.specs.Equal.{none_is_some, same_first, same_some}
 use Rattle.format_http.specs.Heads.Bytes.{IsValueByte, line_end}
 use Rattle.format_http.specs.Heads.Parts.{Literal, Run, literal_back, literal_there, literal_unique}
 use Rattle.format_http.specs.Heads.Parts.{run_back, run_there, run_unique}
@@ -14,12 +14,12 @@ use Rattle.format_http.specs.Heads.RequestRead.{DigitStands, Numbers, digit_uniq
 use Rattle.format_http.specs.Responses.StatusLine.{IsBehind, IsCode, IsStatusLine, StatusLineStands}
 use Rattle.format_http.specs.Responses.StatusLine.{http, three}
 use Rattle.format_http.specs.declared.responses.status_line.StatusLine.{StatusLine}
-use Rattle.winnow.specs.Grammar.Same.{Same, unique_as}
-use Rattle.winnow.specs.Steps.{Steps}
-use Rattle.winnow.specs.Grammar.{Both, Grammar, IsUnique, Optional, Three}
-use Rattle.winnow.specs.Grammar.Inversion.{Byte, byte_stands, byte_unique, slice_for, stands_byte}
-use Rattle.winnow.specs.Grammar.Sequences.{three_unique}
-use Rattle.winnow.specs.Grammar.Unique.{both_unique, optional_unique, unique_by}
+use Rattle.grammars.specs.Grammar.Same.{Same, unique_as}
+use Rattle.winnow_grammar.specs.Steps.{Steps}
+use Rattle.grammars.specs.Grammar.{Both, Grammar, IsUnique, Optional, Three}
+use Rattle.grammars.specs.Grammar.Inversion.{Byte, byte_stands, byte_unique, slice_for, stands_byte}
+use Rattle.grammars.specs.Grammar.Sequences.{three_unique}
+use Rattle.grammars.specs.Grammar.Unique.{both_unique, optional_unique, unique_by}
 
 -- ---- a version, and a space after it
 

@@ -8,8 +8,8 @@ ghost use Rattle.format_http.specs.Heads.Head.{AreFieldLines, Pair};
 ghost use Rattle.format_http.specs.declared.chunks.size_line.SizeLine.{SizeLine};
 ghost use Rattle.format_http_chunked.specs.Bodies.{AreFields};
 ghost use Rattle.std.specs.Prelude.{◌≡◌, ◌↔◌, [], List, ℕ};
-ghost use Rattle.winnow.specs.Digits.{value_in};
-ghost use Rattle.winnow.specs.InTurn.{First};
+ghost use Rattle.winnow_numbers.specs.Digits.{value_in};
+ghost use Rattle.winnow_grammar.specs.InTurn.{First};
 
 use std::alloc::Allocator;
 

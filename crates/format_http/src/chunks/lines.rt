@@ -3,21 +3,24 @@
 #![tactic(auto)]
 
 ghost use Rattle.format_http.specs.Chunks.Lines.{Ended, Extensions, Line, TextOrToken};
-ghost use Rattle.winnow.specs.Claim.{CanRead};
-ghost use Rattle.winnow.specs.Exact.{Reads};
-ghost use Rattle.winnow.specs.Once.{TokenEqInjective};
-ghost use Rattle.winnow.specs.Grammar.{Literally};
+ghost use Rattle.winnow_core.specs.Claim.{CanRead};
+ghost use Rattle.winnow_core.specs.Exact.{Reads};
+ghost use Rattle.stream_sets.specs.Once.{TokenEqInjective};
+ghost use Rattle.grammars.specs.Grammar.{Literally};
 
 use crate::chunks::sets::QuotedBytes;
 use crate::heads::sets::{TokenBytes, ValueBytes};
 use std::alloc::Allocator;
-use winnow::Parser;
-use winnow::ascii::impls::{HexDigit1, Space0};
-use winnow::combinator::impls::Repeat;
-use winnow::combinator::{alt, delimited, opt, preceded, repeat, terminated};
-use winnow::error::ParserError;
-use winnow::stream::{Compare, Range, StreamIsPartial};
-use winnow::token::{one_of, take_while};
+use stream_errors::parser_error::ParserError;
+use stream_searches::compare::Compare;
+use stream_sets::range::Range;
+use streams::stream::StreamIsPartial;
+use winnow_ascii::ascii::impls::{HexDigit1, Space0};
+use winnow_comb::combinator::{alt, delimited, opt, preceded, terminated};
+use winnow_core::parser::Parser;
+use winnow_repeat::combinator::impls::Repeat;
+use winnow_repeat::combinator::repeat;
+use winnow_token::token::{one_of, take_while};
 
 /// Parses hexadecimal digits, a match of `behind`, and a line ending.
 fn ended<I, E, O, P>(behind: P, input: &mut I) -> Result<(I::Slice, O), E>

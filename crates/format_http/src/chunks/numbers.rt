@@ -5,7 +5,7 @@ ghost use Rattle.format_http.specs.Chunks.SizeLine.{IsSize};
 ghost use Rattle.std.specs.Char.{digit_value};
 ghost use Rattle.std.specs.Option.{SomeIff};
 ghost use Rattle.std.specs.Prelude.{◌≡◌, ◌^◌, ◌<◌, ◌≤◌};
-ghost use Rattle.winnow.specs.Digits.{value_in};
+ghost use Rattle.winnow_numbers.specs.Digits.{value_in};
 
 use crate::chunks::size_line::Size;
 

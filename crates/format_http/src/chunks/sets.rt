@@ -4,7 +4,7 @@
 ghost use Rattle.format_http.specs.Chunks.Lines.{IsQuotedByte};
 ghost use Rattle.std.specs.Prelude.{◌↔◌, IsTrue};
 
-use winnow::stream::ContainsToken;
+use stream_sets::sets::ContainsToken;
 
 /// The bytes that stand for themselves in a quoted string.
 #[derive(Clone, Copy, Drop)]

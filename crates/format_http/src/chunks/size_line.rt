@@ -4,15 +4,17 @@
 ghost use Rattle.format_http.specs.Chunks.Bodies.{BodyHasSize, HasNumber};
 ghost use Rattle.format_http.specs.Chunks.SizeLine.{SizeLineText};
 ghost use Rattle.std.specs.Prelude.{IfOk, ℕ};
-ghost use Rattle.winnow.specs.Bytes.{bytes_input, bytes_reading};
-ghost use Rattle.winnow.specs.Exact.{Reads};
-ghost use Rattle.winnow.specs.InTurn.{First};
+ghost use Rattle.streams.specs.Bytes.{bytes_input, bytes_reading};
+ghost use Rattle.winnow_core.specs.Exact.{Reads};
+ghost use Rattle.winnow_grammar.specs.InTurn.{First};
 
 use crate::chunks::laws::size_lines_are_those_of_bodies;
 use crate::chunks::lines::line;
 use crate::chunks::numbers::size_of;
 use std::alloc::Allocator;
-use winnow::error::{EmptyError, ErrMode, HasKind};
+use stream_errors::empty::EmptyError;
+use stream_errors::has_kind::HasKind;
+use stream_errors::mode::ErrMode;
 
 /// The size of a chunk: how many bytes its data has. That of the last chunk is 0.
 ///

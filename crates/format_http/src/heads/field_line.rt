@@ -4,20 +4,22 @@
 
 ghost use Rattle.std.specs.List.{All};
 ghost use Rattle.std.specs.Prelude.{◌≡◌, ◌++◌, ◌∷◌, IfOk, List, ℕ};
-ghost use Rattle.winnow.specs.Bytes.{bytes_input, bytes_reading};
+ghost use Rattle.streams.specs.Bytes.{bytes_input, bytes_reading};
 ghost use Rattle.format_http.specs.Heads.Bytes.{IsWhite};
 ghost use Rattle.format_http.specs.Heads.FieldLine.{FieldLineStands, IsTrimmed};
 ghost use Rattle.format_http.specs.Heads.FieldRead.{NameRead, NameValue, ValueStands};
 ghost use Rattle.format_http.specs.Heads.Parts.{EndStands};
-ghost use Rattle.winnow.specs.Exact.{IsSpared, Reads};
+ghost use Rattle.winnow_core.specs.Exact.{IsSpared, Reads};
 
 use crate::heads::laws::{no_return_stands_in_a_field, no_white_space_stands_before_a_colon};
 use crate::heads::sets::{TokenBytes, ValueBytes, White};
-use winnow::Parser;
-use winnow::combinator::{preceded, terminated};
-use winnow::error::{EmptyError, ErrMode, HasKind};
-use winnow::stream::Range;
-use winnow::token::take_while;
+use stream_errors::empty::EmptyError;
+use stream_errors::has_kind::HasKind;
+use stream_errors::mode::ErrMode;
+use stream_sets::range::Range;
+use winnow_comb::combinator::{preceded, terminated};
+use winnow_core::parser::Parser;
+use winnow_token::token::take_while;
 
 /// A field: its name and its value, as slices of the input.
 ///

@@ -7,15 +7,18 @@
 #![tactic(auto)]
 
 ghost use Rattle.std.specs.Prelude.{◌≡◌, IfErr};
-ghost use Rattle.winnow.specs.Bytes.{bytes_input, bytes_reading};
+ghost use Rattle.streams.specs.Bytes.{bytes_input, bytes_reading};
 ghost use Rattle.format_http.specs.Heads.Head.{HeadStands, FieldsStand};
 ghost use Rattle.format_http.specs.Heads.HeadRead.{LinesStand};
-ghost use Rattle.winnow.specs.Exact.{Reads};
+ghost use Rattle.winnow_core.specs.Exact.{Reads};
 
 use crate::heads::field_line::{Field, read_field_line, read_line_end};
 use crate::heads::request_line::{RequestLine, read_request_line};
 use std::alloc::Allocator;
-use winnow::error::{EmptyError, ErrMode, HasKind, ParserError};
+use stream_errors::empty::EmptyError;
+use stream_errors::has_kind::HasKind;
+use stream_errors::mode::ErrMode;
+use stream_errors::parser_error::ParserError;
 
 /// A head: its request line, and its fields in order. `A` is the allocator of their list.
 ///

@@ -6,19 +6,21 @@
 //! version is two digits; the caller must check whether it is supported.
 #![tactic(auto)]
 
-ghost use Rattle.winnow.specs.Bytes.{bytes_input, bytes_reading};
+ghost use Rattle.streams.specs.Bytes.{bytes_input, bytes_reading};
 ghost use Rattle.format_http.specs.Heads.RequestLine.{RequestLineStands};
 ghost use Rattle.format_http.specs.Heads.RequestRead.{DigitStands, MethodTarget, VersionStands};
 ghost use Rattle.format_http.specs.Heads.RequestRead.{digit_unique};
-ghost use Rattle.winnow.specs.Exact.{IsSpared, Reads};
+ghost use Rattle.winnow_core.specs.Exact.{IsSpared, Reads};
 
 use crate::heads::sets::{Digits, TokenBytes, Visible};
-use winnow::Parser;
-use winnow::combinator::{delimited, separated_pair};
-use winnow::error::{EmptyError, ErrMode, HasKind};
-use winnow::exact::Rule;
-use winnow::stream::Range;
-use winnow::token::{one_of, take_while};
+use stream_errors::empty::EmptyError;
+use stream_errors::has_kind::HasKind;
+use stream_errors::mode::ErrMode;
+use stream_sets::range::Range;
+use winnow_comb::combinator::{delimited, separated_pair};
+use winnow_core::parser::Parser;
+use winnow_grammar::rule::Rule;
+use winnow_token::token::{one_of, take_while};
 
 /// A request line: what it says, as slices of the input.
 ///

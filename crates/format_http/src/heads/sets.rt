@@ -5,7 +5,7 @@ ghost use Rattle.std.specs.Prelude.{◌↔◌, IsTrue};
 ghost use Rattle.format_http.specs.Heads.Bytes.{IsDigit, IsTokenByte, IsValueByte, IsVisible};
 ghost use Rattle.format_http.specs.Heads.Bytes.{IsWhite};
 
-use winnow::stream::ContainsToken;
+use stream_sets::sets::ContainsToken;
 
 /// The bytes of tokens. Names and methods are made of them.
 #[derive(Clone, Copy, Drop)]

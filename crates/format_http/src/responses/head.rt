@@ -3,18 +3,20 @@
 #![tactic(auto)]
 
 ghost use Rattle.std.specs.Prelude.{◌≡◌, IfErr, map};
-ghost use Rattle.winnow.specs.Bytes.{bytes_input, bytes_reading};
+ghost use Rattle.streams.specs.Bytes.{bytes_input, bytes_reading};
 ghost use Rattle.format_http.specs.Bodies.Framing.{IsBodyLength};
 ghost use Rattle.format_http.specs.Heads.Head.{pair};
 ghost use Rattle.format_http.specs.Responses.Head.{ResponseStands, response_to};
-ghost use Rattle.winnow.specs.Exact.{Reads};
+ghost use Rattle.winnow_core.specs.Exact.{Reads};
 
 use crate::bodies::framing::{BodyLength, FramingError, Message, body_length};
 use crate::heads::field_line::Field;
 use crate::heads::head::read_fields;
 use crate::responses::status_line::{StatusLine, read_status_line};
 use std::alloc::Allocator;
-use winnow::error::{EmptyError, ErrMode, HasKind};
+use stream_errors::empty::EmptyError;
+use stream_errors::has_kind::HasKind;
+use stream_errors::mode::ErrMode;
 
 /// The head of a response: its status line, and its fields in order. `A` is the allocator of their
 /// list.

@@ -6,20 +6,22 @@
 //! status code, which is its class, may be any.
 #![tactic(auto)]
 
-ghost use Rattle.winnow.specs.Bytes.{bytes_input, bytes_reading};
+ghost use Rattle.streams.specs.Bytes.{bytes_input, bytes_reading};
 ghost use Rattle.format_http.specs.Responses.StatusLine.{StatusLineStands};
 ghost use Rattle.format_http.specs.Responses.StatusRead.{CodeStands, ProtocolCode, ProtocolStands};
 ghost use Rattle.format_http.specs.Responses.StatusRead.{ReasonStands};
-ghost use Rattle.winnow.specs.Exact.{IsSpared, Reads};
+ghost use Rattle.winnow_core.specs.Exact.{IsSpared, Reads};
 
 use crate::heads::request_line::{Digit, read_digit};
 use crate::heads::sets::ValueBytes;
-use winnow::Parser;
-use winnow::combinator::{delimited, opt, preceded, separated_pair, terminated};
-use winnow::error::{EmptyError, ErrMode, HasKind};
-use winnow::exact::Rule;
-use winnow::stream::Range;
-use winnow::token::take_while;
+use stream_errors::empty::EmptyError;
+use stream_errors::has_kind::HasKind;
+use stream_errors::mode::ErrMode;
+use stream_sets::range::Range;
+use winnow_comb::combinator::{delimited, opt, preceded, separated_pair, terminated};
+use winnow_core::parser::Parser;
+use winnow_grammar::rule::Rule;
+use winnow_token::token::take_while;
 
 /// A status line: what it says.
 ///

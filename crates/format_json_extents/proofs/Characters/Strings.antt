@@ -19,7 +19,7 @@ use Rattle.format_json_extents.specs.Strings.{BeginHigh, BeginLow, BeginOnly, Is
 use Rattle.format_json_extents.specs.Strings.{IsEscaped, IsHexDigit, IsPiece, IsQuote, IsString}
 use Rattle.format_json_extents.specs.Strings.{IsStringTail, IsU, IsUnescaped, IsUnit}
 use Rattle.format_json_extents.specs.Texts.{IsByte, Many, MatchesAtStart, Then, nothing, one_more}
-use Rattle.winnow.specs.Utf8.{four_bytes, three_bytes, two_bytes}
+use Rattle.streams.specs.Utf8.{four_bytes, three_bytes, two_bytes}
 
 -- ---- escapes
 

@@ -11,8 +11,8 @@ use Rattle.format_json_extents.specs.Texts.{Either, IsByte, List_of, Then, befor
 use Rattle.format_json_extents.specs.Value.{IsGap, IsSpace}
 use Rattle.format_json_texts.specs.Values.{GapText, Mark}
 use Rattle.format_parts.specs.Words.{Between, One, pair}
-use Rattle.winnow.specs.AsChar.{IsMultispace}
-use Rattle.winnow.specs.Texts.{BothText as Both, EachText, InList, PartedText, Spelled, Text}
+use Rattle.stream_sets.specs.AsChar.{IsMultispace}
+use Rattle.grammars.specs.Texts.{BothText as Both, EachText, InList, PartedText, Spelled, Text}
 use denote.RawPtr.{null_ptr}
 
 -- ---- whitespace

@@ -14,7 +14,7 @@ use Rattle.format_json_extents.specs.Strings.{IsEscaped, IsPair, IsUnit}
 use Rattle.format_json_texts.specs.Strings.{ArePair, StandsFor, UnicodeText}
 use Rattle.format_parts.specs.Hexadecimal.{IsAlone, UnitText}
 use Rattle.format_parts.specs.Words.{For, One, Whichever, latter, pair}
-use Rattle.winnow.specs.Texts.{BothText as Both, EitherText, MadeText, Spelled, Text}
+use Rattle.grammars.specs.Texts.{BothText as Both, EitherText, MadeText, Spelled, Text}
 
 -- ---- escapes
 

@@ -14,8 +14,8 @@ use Rattle.format_json_extents.specs.Strings.{IsPiece, IsString, IsUnescaped}
 use Rattle.format_json_extents.specs.Texts.{Many, nothing, one_more}
 use Rattle.format_json_texts.specs.Strings.{CharacterText, IsUnescaped as IsPlain, StringText}
 use Rattle.format_parts.specs.Words.{In, former, latter}
-use Rattle.winnow.specs.Accumulator.Holds.{HasCharacters}
-use Rattle.winnow.specs.Texts.{BothText as Both, EachText, EitherText, GatheredText, Spelled}
+use Rattle.stream_sets.specs.Accumulator.Holds.{HasCharacters}
+use Rattle.grammars.specs.Texts.{BothText as Both, EachText, EitherText, GatheredText, Spelled}
 
 -- ---- pieces
 

@@ -6,7 +6,7 @@ use Rattle.format_json_extents.specs.Strings.{BeginHigh, BeginLow, BeginOnly, Is
 use Rattle.format_json_extents.specs.Strings.{IsUnit}
 use Rattle.format_parts.specs.Hexadecimal.{IsHex, UnitText}
 use Rattle.format_parts.specs.Words.{For, Whichever, pair}
-use Rattle.winnow.specs.Texts.{BothText as Both, MadeText}
+use Rattle.grammars.specs.Texts.{BothText as Both, MadeText}
 
 -- ---- hexadecimal digits
 

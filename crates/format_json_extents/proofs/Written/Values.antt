@@ -27,8 +27,8 @@ use Rattle.format_json_texts.specs.Values.{JsonText, ObjectText, ScalarText, Spa
 use Rattle.format_json_texts.specs.Values.{WordText}
 use Rattle.format_json_texts.specs.declared.value.Value.{Value}
 use Rattle.format_json_texts.specs.declared.value.Value as values
-use Rattle.winnow.specs.Accumulator.Holds.{HasCharacters}
-use Rattle.winnow.specs.Texts.{Spelled, TakenText, Text}
+use Rattle.stream_sets.specs.Accumulator.Holds.{HasCharacters}
+use Rattle.grammars.specs.Texts.{Spelled, TakenText, Text}
 use Rattle.format_json_extents.specs.Standard.{IsTextByStandard, IsValueByStandard}
 
 only_written : {O : Type 0} (word : List ℕ) (o : O) → Written (Only word) (Spelled word o)

@@ -5,18 +5,18 @@ use Rattle.std.specs.Prelude.{None, Some}
 use Rattle.std.specs.declared.string.String.{String}
 use Rattle.std.specs.List.{All}
 use Rattle.std.proofs.Common.{refl, sym, ap, subst, inl, inr, ◌∙◌, arith, append_assoc}
-use Rattle.winnow.specs.AsChar.{IsDecDigit, IsMultispace}
-use Rattle.winnow.specs.Range.{from_to}
-use Rattle.winnow.specs.Grammar.Same.{Same}
-use Rattle.winnow.specs.Grammar.{Both, Grammar, Three}
-use Rattle.winnow.specs.Texts.{Anything, StartsWith, TextsStartWith, InFront, InList, IsGrammarOf}
-use Rattle.winnow.specs.Texts.{NotFirst}
-use Rattle.winnow.specs.Texts.{PartedText, Spelled, Text}
-use Rattle.winnow.specs.Texts.Fronts.{begins_wider, both_front, either_front, front_any}
-use Rattle.winnow.specs.Texts.Fronts.{front_begins, may_begin, none_begins, not_first}
-use Rattle.winnow.specs.Texts.Fronts.{spelled_begins}
-use Rattle.winnow.specs.Texts.Parts.{behind_less, both_of, either_apart, same_of}
-use Rattle.winnow.specs.Texts.Rows.{list_of, parted_of}
+use Rattle.stream_sets.specs.AsChar.{IsDecDigit, IsMultispace}
+use Rattle.stream_sets.specs.Range.{from_to}
+use Rattle.grammars.specs.Grammar.Same.{Same}
+use Rattle.grammars.specs.Grammar.{Both, Grammar, Three}
+use Rattle.grammars.specs.Texts.{Anything, StartsWith, TextsStartWith, InFront, InList, IsGrammarOf}
+use Rattle.grammars.specs.Texts.{NotFirst}
+use Rattle.grammars.specs.Texts.{PartedText, Spelled, Text}
+use Rattle.grammars.specs.Texts.Fronts.{begins_wider, both_front, either_front, front_any}
+use Rattle.grammars.specs.Texts.Fronts.{front_begins, may_begin, none_begins, not_first}
+use Rattle.grammars.specs.Texts.Fronts.{spelled_begins}
+use Rattle.grammars.specs.Texts.Parts.{behind_less, both_of, either_apart, same_of}
+use Rattle.grammars.specs.Texts.Rows.{list_of, parted_of}
 use Rattle.format_json_texts.specs.Number.{ContinuesNumber, number_begins}
 use Rattle.format_json_texts.specs.Number.{number_of}
 use Rattle.format_json_texts.specs.Strings.{Quoted, string_begins, string_of}

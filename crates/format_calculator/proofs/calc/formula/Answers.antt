@@ -1,10 +1,10 @@
 use Rattle.std.proofs.Common.{◌≡◌, ◌∙◌, ℤ, pos, subst, ap}
 use Rattle.std.specs.Prelude.{⊤}
-use Rattle.winnow.specs.Text.{text_input, text_reading}
-use Rattle.winnow.specs.Kind.{backtrack}
-use Rattle.winnow.specs.Form.{answer_by, marked_kind}
-use Rattle.winnow.specs.Items.{ReadsItems}
-use Rattle.winnow.specs.Items.Laws.{items_exact, items_premises}
+use Rattle.streams.specs.Text.{text_input, text_reading}
+use Rattle.streams.specs.Kind.{backtrack}
+use Rattle.stream_errors.specs.Form.{answer_by, marked_kind}
+use Rattle.winnow_expression_trees.specs.Items.{ReadsItems}
+use Rattle.winnow_expression_trees.specs.Items.Laws.{items_exact, items_premises}
 use Rattle.format_calculator.specs.Calculator.{CharItem, NumberItem, mark_at, mark_value, pair_at}
 use Rattle.format_calculator.specs.Calculator.{pair_value}
 use Rattle.format_calculator.specs.Calculator.{sign_at, sign_value}

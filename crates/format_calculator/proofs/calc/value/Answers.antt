@@ -1,6 +1,6 @@
 use Rattle.std.proofs.Common.{rules, arith, refl, Ok, Err}
-use Rattle.winnow.specs.Text.{text_input}
-use Rattle.winnow.specs.Form.{marked_kind}
+use Rattle.streams.specs.Text.{text_input}
+use Rattle.stream_errors.specs.Form.{marked_kind}
 use Rattle.format_calculator.specs.Calculator.Laws.{left_boundary, no_output, value_as, value_none}
 use Rattle.format_calculator.specs.Calculator.Laws.{value_ok}
 use Rattle.format_calculator.proofs.calc.value.Goals as goal

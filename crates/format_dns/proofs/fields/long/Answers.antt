@@ -1,5 +1,5 @@
-use Rattle.winnow.specs.Bytes.{bytes_reading}
-use Rattle.winnow.specs.Form.{modal}
+use Rattle.streams.specs.Bytes.{bytes_reading}
+use Rattle.stream_errors.specs.Form.{modal}
 use Rattle.format_dns.proofs.HeaderRuns.{field_read}
 use Rattle.format_dns.proofs.fields.long.Goals as goal
 

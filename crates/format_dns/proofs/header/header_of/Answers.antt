@@ -1,6 +1,6 @@
 use Rattle.std.proofs.Common.{◌+◌, ◌*◌, arith, inl, inr, refl}
 use Rattle.std.proofs.lemmas.Result.{err_from_is_err_and}
-use Rattle.winnow.specs.Input.{is_end_of_trans}
+use Rattle.streams.specs.Input.{is_end_of_trans}
 use Rattle.format_dns.proofs.HeaderRuns.{lacks_after, many_after}
 use Rattle.format_dns.proofs.header.header_of.Goals as goal
 

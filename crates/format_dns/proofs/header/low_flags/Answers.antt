@@ -1,5 +1,5 @@
 use Rattle.std.proofs.Common.{◌∙◌, ap, arith, length}
-use Rattle.winnow.specs.BitTake.{bit_take_count}
+use Rattle.winnow_bits.specs.BitTake.{bit_take_count}
 use Rattle.format_dns.proofs.HeaderRuns.{low_fails, low_must, low_read}
 use Rattle.format_dns.proofs.header.low_flags.Goals as goal
 

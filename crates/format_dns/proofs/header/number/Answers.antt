@@ -1,4 +1,4 @@
-use Rattle.winnow.specs.Form.{modal}
+use Rattle.stream_errors.specs.Form.{modal}
 use Rattle.format_dns.proofs.HeaderRuns.{number_fails, number_left, number_must}
 use Rattle.format_dns.proofs.HeaderRuns.{number_read}
 use Rattle.format_dns.proofs.header.number.Goals as goal

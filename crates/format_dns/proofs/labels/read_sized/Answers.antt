@@ -1,4 +1,4 @@
-use Rattle.winnow.specs.Read.{reads_by}
+use Rattle.winnow_grammar.specs.Read.{reads_by}
 use Rattle.format_dns.proofs.labels.read_sized.Goals as goal
 
 pub returns : goal.returns

@@ -1,6 +1,6 @@
 use Rattle.std.proofs.Common.{ap, ◌∙◌}
-use Rattle.winnow.specs.Exact.Same.{reads_as}
-use Rattle.winnow.specs.Grammar.Alike.{gathered_same, many_same}
+use Rattle.winnow_core.specs.Exact.Same.{reads_as}
+use Rattle.grammars.specs.Grammar.Alike.{gathered_same, many_same}
 use Rattle.format_dns.specs.Laws.{in_range, one_says, same_sized}
 use Rattle.format_dns.proofs.labels.read_strings.Goals as goal
 

@@ -1,5 +1,5 @@
 use Rattle.std.proofs.Common.{inl, inr, sym, ◌∙◌}
-use Rattle.winnow.specs.Equal.{true_is_false}
+use Rattle.streams.specs.Equal.{true_is_false}
 use Rattle.format_json.proofs.read.from_bytes.Goals as goal
 
 pub returns-else-bytes_want_memory-clause-none : goal.returns-else-bytes_want_memory-clause-none

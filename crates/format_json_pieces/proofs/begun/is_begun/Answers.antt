@@ -1,7 +1,7 @@
 use Rattle.std.proofs.Common.{◌∙◌, ◌++◌, ◌-◌, ◌<◌, [], ◌∷◌, ap, arith, length, refl, sym}
 use Rattle.std.specs.Prelude.{slice_get}
 use Rattle.std.proofs.lemmas.Bool.Decides.{nat_tests}
-use Rattle.winnow.specs.Equal.{true_is_false}
+use Rattle.streams.specs.Equal.{true_is_false}
 use Rattle.format_json_pieces.proofs.Opened.{behind_none, behind_some, kept_length, kept_others}
 use Rattle.format_json_pieces.proofs.Opened.{walked}
 use Rattle.format_json_pieces.specs.Begun.{others_open}

@@ -1,6 +1,6 @@
 use Rattle.std.proofs.Common.{◌∙◌, ◌++◌, ◌∷◌, ap, append_assoc, [], refl, sym}
 use Rattle.std.proofs.lemmas.List.Elements.{All-push}
-use Rattle.winnow.specs.AsChar.{IsMultispace}
+use Rattle.stream_sets.specs.AsChar.{IsMultispace}
 use Rattle.format_json_pieces.proofs.value.skip_whitespace.Goals as goal
 
 pub bytes-preserved : goal.bytes-preserved

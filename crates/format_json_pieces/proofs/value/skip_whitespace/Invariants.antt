@@ -1,6 +1,6 @@
 use Rattle.std.proofs.Common.{◌≡◌, ◌++◌, ℕ, List, length}
 use Rattle.std.specs.List.{All}
-use Rattle.winnow.specs.AsChar.{IsMultispace}
+use Rattle.stream_sets.specs.AsChar.{IsMultispace}
 use Rattle.format_json_pieces.proofs.value.skip_whitespace.Given as goal
 
 abbrev pub invariant-bytes : goal.invariant-bytes

@@ -1,5 +1,5 @@
 use Rattle.std.proofs.Common.{rules}
-use Rattle.winnow.specs.Read.{reads_by}
+use Rattle.winnow_grammar.specs.Read.{reads_by}
 use Rattle.format_json_scalars.proofs.number.number.Goals as goal
 
 pub returns-clause-spared : goal.returns-clause-spared

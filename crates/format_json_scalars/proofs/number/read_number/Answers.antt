@@ -1,7 +1,7 @@
 use Rattle.format_json_texts.specs.Number.{number_of}
 use Rattle.format_json_scalars.specs.Numbers.{number_same}
-use Rattle.winnow.specs.Exact.Same.{reads_as}
-use Rattle.winnow.specs.Told.{text_told}
+use Rattle.winnow_core.specs.Exact.Same.{reads_as}
+use Rattle.winnow_grammar.specs.Told.{text_told}
 use Rattle.format_json_scalars.proofs.number.read_number.Goals as goal
 
 pub returns-clause-grammar : goal.returns-clause-grammar

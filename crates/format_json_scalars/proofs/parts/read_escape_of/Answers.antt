@@ -1,4 +1,4 @@
-use Rattle.winnow.specs.Read.{reads_by}
+use Rattle.winnow_grammar.specs.Read.{reads_by}
 use Rattle.format_json_scalars.proofs.parts.read_escape_of.Goals as goal
 
 pub returns : goal.returns

@@ -1,6 +1,6 @@
 use Rattle.std.proofs.Common.{refl}
 use Rattle.format_json_texts.specs.Values.{IsString}
-use Rattle.winnow.specs.Read.{reads_meaning, reads_no_meaning}
+use Rattle.winnow_grammar.specs.Read.{reads_meaning, reads_no_meaning}
 use Rattle.format_json_scalars.proofs.scalar.read_string_value.Goals as goal
 
 pub returns-in-Ok : goal.returns-in-Ok

@@ -1,5 +1,5 @@
 use Rattle.format_json_texts.specs.Values.{IsWord}
-use Rattle.winnow.specs.Read.{reads_meaning, reads_no_meaning}
+use Rattle.winnow_grammar.specs.Read.{reads_meaning, reads_no_meaning}
 use Rattle.format_json_scalars.proofs.scalar.read_word_value.Goals as goal
 
 pub returns-in-Ok : goal.returns-in-Ok

@@ -2,8 +2,8 @@
 -- input.
 use Rattle.std.proofs.Common.{length}
 use Rattle.std.specs.Str.{chars}
-use Rattle.winnow.specs.Input.{IsEndOf}
-use Rattle.winnow.specs.Text.{text_input, text_reading}
+use Rattle.streams.specs.Input.{IsEndOf}
+use Rattle.streams.specs.Text.{text_input, text_reading}
 use Rattle.format_json_scalars.specs.Runs.{HasRead}
 use Rattle.format_json_scalars.proofs.string.read_characters.Given as goal
 

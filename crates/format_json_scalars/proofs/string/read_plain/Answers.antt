@@ -1,13 +1,13 @@
 use Rattle.std.specs.Range.{range_inclusive_end, range_inclusive_start}
 use Rattle.std.proofs.Common.{ap, ◌∙◌}
 use Rattle.std.specs.Prelude.{None}
-use Rattle.winnow.specs.Text.{text_reading}
-use Rattle.winnow.specs.Range.{from_to}
+use Rattle.streams.specs.Text.{text_reading}
+use Rattle.stream_sets.specs.Range.{from_to}
 use Rattle.format_json_scalars.specs.Alike.{RangesTell}
 use Rattle.format_json_scalars.specs.Runs.{run_same}
-use Rattle.winnow.specs.Grammar.{Longest}
-use Rattle.winnow.specs.Read.{reads_by}
-use Rattle.winnow.specs.Exact.Same.{reads_as}
+use Rattle.grammars.specs.Grammar.{Longest}
+use Rattle.winnow_grammar.specs.Read.{reads_by}
+use Rattle.winnow_core.specs.Exact.Same.{reads_as}
 use Rattle.format_json_scalars.proofs.string.read_plain.Goals as goal
 
 pub returns : goal.returns

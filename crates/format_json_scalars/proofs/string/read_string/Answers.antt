@@ -1,8 +1,8 @@
 use Rattle.std.proofs.Common.{refl}
 use Rattle.format_json_texts.specs.Strings.{string_of}
-use Rattle.winnow.specs.Read.{reads_by}
-use Rattle.winnow.specs.Accumulator.Holds.{HasCharacters}
-use Rattle.winnow.specs.Told.{text_told}
+use Rattle.winnow_grammar.specs.Read.{reads_by}
+use Rattle.stream_sets.specs.Accumulator.Holds.{HasCharacters}
+use Rattle.winnow_grammar.specs.Told.{text_told}
 use Rattle.format_json_scalars.proofs.string.read_string.Goals as goal
 
 pub returns-clause-grammar : goal.returns-clause-grammar

@@ -1,7 +1,7 @@
 use Rattle.std.proofs.Common.{ap, rules, ◌∙◌}
-use Rattle.winnow.specs.Terminated.{terminated_parser}
+use Rattle.winnow_comb.specs.Terminated.{terminated_parser}
 use Rattle.format_parts.specs.Marks.{reads_all_by}
-use Rattle.winnow.specs.Rule.{reads_as_rule, run_as}
+use Rattle.winnow_grammar.specs.Rule.{reads_as_rule, run_as}
 use Rattle.format_json_values.proofs.parts.parse_spaced.Given as given
 use Rattle.format_json_values.proofs.parts.parse_spaced.Goals as goal
 

@@ -1,6 +1,6 @@
 use Rattle.std.proofs.Common.{ap, rules, ◌∙◌}
-use Rattle.winnow.specs.Terminated.{terminated_parser}
-use Rattle.winnow.specs.Rule.{reads_as_rule, run_as}
+use Rattle.winnow_comb.specs.Terminated.{terminated_parser}
+use Rattle.winnow_grammar.specs.Rule.{reads_as_rule, run_as}
 use Rattle.format_parts.specs.Marks.{three_by}
 use Rattle.format_json_values.specs.Pairs.{items_by}
 use Rattle.format_json_values.proofs.parts.read_object_of.Given as given

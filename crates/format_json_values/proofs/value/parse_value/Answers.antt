@@ -1,6 +1,6 @@
 use Rattle.format_json_texts.specs.Values.Texts.{json_of}
-use Rattle.winnow.specs.Accumulator.Holds.{HasCharacters}
-use Rattle.winnow.specs.Told.{texts_told}
+use Rattle.stream_sets.specs.Accumulator.Holds.{HasCharacters}
+use Rattle.winnow_grammar.specs.Told.{texts_told}
 use Rattle.format_json_values.proofs.value.parse_value.Goals as goal
 
 pub returns-clause-grammar : goal.returns-clause-grammar

@@ -1,6 +1,6 @@
 use Rattle.std.proofs.Common.{ℕ, List, IsUtf8, chars, string_bytes}
 use Rattle.std.specs.Str.Iter.{chars_rest}
-use Rattle.winnow.specs.Texts.{EachText}
+use Rattle.grammars.specs.Texts.{EachText}
 use Rattle.format_json_writer.specs.Added.{Adds, Keeps}
 use Rattle.format_json_writer.specs.Strings.{CanonicalCharacter}
 use Rattle.format_json_writer.proofs.string.write_string.Given as goal

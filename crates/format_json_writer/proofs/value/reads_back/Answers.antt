@@ -1,5 +1,5 @@
 use Rattle.std.proofs.Common.{sym, ◌∙◌}
-use Rattle.winnow.specs.Equal.{true_is_false}
+use Rattle.streams.specs.Equal.{true_is_false}
 use Rattle.format_json_writer.specs.Back.{read_alike, read_wants}
 use Rattle.format_json_writer.specs.Refused.{if_error}
 use Rattle.format_json_writer.proofs.value.reads_back.Goals as goal

@@ -1,5 +1,5 @@
 use Rattle.format_parts.specs.Hexadecimal.{IsNumberOf}
-use Rattle.winnow.specs.Read.{reads_meaning, reads_no_meaning}
+use Rattle.winnow_grammar.specs.Read.{reads_meaning, reads_no_meaning}
 use Rattle.format_parts.proofs.hexadecimal.read_unit.Goals as goal
 
 pub returns-in-Ok : goal.returns-in-Ok

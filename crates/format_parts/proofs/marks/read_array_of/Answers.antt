@@ -1,6 +1,6 @@
 use Rattle.std.proofs.Common.{rules}
-use Rattle.winnow.specs.Rule.{reads_as_rule, run_as}
-use Rattle.winnow.specs.Read.{reads_by}
+use Rattle.winnow_grammar.specs.Rule.{reads_as_rule, run_as}
+use Rattle.winnow_grammar.specs.Read.{reads_by}
 use Rattle.format_parts.proofs.marks.read_array_of.Given as given
 use Rattle.format_parts.proofs.marks.read_array_of.Goals as goal
 

@@ -1,8 +1,8 @@
 use Rattle.std.proofs.Common.{◌∙◌, ap, false, sym, subst, List, ℕ}
 use Rattle.std.proofs.lemmas.Bool.{true≢false}
-use Rattle.winnow.specs.Input.{Input}
-use Rattle.winnow.specs.InTurn.{First}
-use Rattle.winnow.specs.Partial.{with_flag}
+use Rattle.streams.specs.Input.{Input}
+use Rattle.winnow_grammar.specs.InTurn.{First}
+use Rattle.streams.specs.Partial.{with_flag}
 use Rattle.format_resp.proofs.ReadBack.{whole_stands, whole_wants}
 use Rattle.format_resp.specs.Resp.{ReplyText}
 use Rattle.format_resp.proofs.back.read_whole.Goals as goal

@@ -1,5 +1,5 @@
 use Rattle.format_resp.proofs.LeafTexts.{same_data}
-use Rattle.winnow.specs.Cut.{reads_or_asks_as}
+use Rattle.winnow_grammar.specs.Cut.{reads_or_asks_as}
 use Rattle.format_resp.proofs.leaves.read_data.Goals as goal
 
 pub returns : goal.returns

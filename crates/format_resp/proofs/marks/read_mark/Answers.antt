@@ -1,5 +1,5 @@
 use Rattle.std.proofs.Common.{refl}
-use Rattle.winnow.specs.InTurn.{failed, passed, stood, told_err, told_ok}
+use Rattle.winnow_grammar.specs.InTurn.{failed, passed, stood, told_err, told_ok}
 use Rattle.format_resp.proofs.FirstBytes.{mark_failed, mark_stood, no_mark}
 use Rattle.format_resp.proofs.marks.read_mark.Goals as goal
 

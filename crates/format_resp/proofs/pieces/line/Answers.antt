@@ -1,4 +1,4 @@
-use Rattle.winnow.specs.InTurn.{told_by}
+use Rattle.winnow_grammar.specs.InTurn.{told_by}
 use Rattle.format_resp.proofs.pieces.line.Goals as goal
 
 pub returns : goal.returns

@@ -1,8 +1,9 @@
 use Rattle.std.proofs.Common.{arith, refl, ◌≡◌, ◌++◌, ◌∷◌, [], suc}
-use Rattle.winnow.specs.Input.{is_end_of_trans3}
-use Rattle.winnow.specs.InTurn.{failed, led_failed, led_none, led_stood, led_told, passed, stood}
-use Rattle.winnow.specs.InTurn.{told_err, told_ok, wanting}
-use Rattle.winnow.specs.InTurn.Rows.{more_failed, more_stood, none_stood}
+use Rattle.streams.specs.Input.{is_end_of_trans3}
+use Rattle.winnow_grammar.specs.InTurn.{failed, led_failed, led_none, led_stood, led_told, passed}
+use Rattle.winnow_grammar.specs.InTurn.{stood}
+use Rattle.winnow_grammar.specs.InTurn.{told_err, told_ok, wanting}
+use Rattle.winnow_grammar.specs.InTurn.Rows.{more_failed, more_stood, none_stood}
 use Rattle.format_resp.proofs.LineTexts.{size_splits}
 use Rattle.format_resp.proofs.Encodings.{alone_stood, pushed, roomy}
 use Rattle.format_resp.proofs.Bodies.{aggregate_failed, aggregate_stood, no_null_aggregate}

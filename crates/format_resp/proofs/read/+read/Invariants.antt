@@ -1,8 +1,8 @@
 use Rattle.std.proofs.Common.{◌+◌}
-use Rattle.winnow.specs.Bytes.{bytes_follow, bytes_input, bytes_reading}
-use Rattle.winnow.specs.Partial.{with_flag}
-use Rattle.winnow.specs.InTurn.{First, MatchesEachCompletion}
-use Rattle.winnow.specs.InTurn.Rows.{RowOf}
+use Rattle.streams.specs.Bytes.{bytes_follow, bytes_input, bytes_reading}
+use Rattle.streams.specs.Partial.{with_flag}
+use Rattle.winnow_grammar.specs.InTurn.{First, MatchesEachCompletion}
+use Rattle.winnow_grammar.specs.InTurn.Rows.{RowOf}
 use Rattle.format_resp.specs.Resp.{ReplyText}
 use Rattle.format_resp.proofs.read.+read.Given as goal
 

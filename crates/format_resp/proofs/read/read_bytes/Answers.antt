@@ -1,6 +1,7 @@
 use Rattle.std.proofs.Common.{refl}
-use Rattle.winnow.specs.InTurn.{failed, led_failed, led_none, led_stood, passed, stood, told_err}
-use Rattle.winnow.specs.InTurn.{told_ok}
+use Rattle.winnow_grammar.specs.InTurn.{failed, led_failed, led_none, led_stood, passed, stood}
+use Rattle.winnow_grammar.specs.InTurn.{told_err}
+use Rattle.winnow_grammar.specs.InTurn.{told_ok}
 use Rattle.format_resp.proofs.LineTexts.{size_splits}
 use Rattle.format_resp.proofs.Encodings.{alone_stood}
 use Rattle.format_resp.proofs.Bodies.{data_failed, data_none, data_stood, no_null_data}

@@ -1,5 +1,5 @@
 use Rattle.std.proofs.Common.{refl}
-use Rattle.winnow.specs.InTurn.{failed, passed, stood, told_err, told_ok}
+use Rattle.winnow_grammar.specs.InTurn.{failed, passed, stood, told_err, told_ok}
 use Rattle.format_resp.proofs.LineEnds.{ended_failed, ended_none, ended_stood}
 use Rattle.format_resp.proofs.LineTexts.{line_plain}
 use Rattle.format_resp.specs.Resp.{LineSays}

@@ -1,8 +1,8 @@
 use Rattle.std.specs.Prelude.{◌≡◌, ◌++◌, ◌∷◌, take}
 use Rattle.std.proofs.Common.{◌∙◌, ap, rules, sym}
 use Rattle.std.proofs.lemmas.List.{take-append-drop}
-use Rattle.winnow.specs.Equal.{same_first}
-use Rattle.winnow.specs.Grammar.Lengths.{same_beginnings}
+use Rattle.streams.specs.Equal.{same_first}
+use Rattle.grammars.specs.Grammar.Lengths.{same_beginnings}
 use Rattle.format_resp.proofs.reply.split_verbatim.Goals as goal
 
 pub returns-else-colon-eq58-clause-none : goal.returns-else-colon-eq58-clause-none

@@ -1,5 +1,5 @@
 use Rattle.std.proofs.Common.{◌+◌, ◌*◌, ℕ, List, drop}
-use Rattle.winnow.specs.Texts.{EachText}
+use Rattle.grammars.specs.Texts.{EachText}
 use Rattle.format_resp.specs.Written.{Adds, Keeps, WrittenText}
 use Rattle.format_resp.proofs.write.+write.Given as goal
 

@@ -1,8 +1,8 @@
 use Rattle.std.specs.Prelude.{ℕ}
 use Rattle.std.proofs.Common.{rules, subst, sym}
 use Rattle.format_parts.specs.Hexadecimal.{IsAlone, unit_one}
-use Rattle.winnow.specs.Grammar.Meaning.{meaning_same}
-use Rattle.winnow.specs.Exact.Same.{reads_as}
+use Rattle.grammars.specs.Grammar.Meaning.{meaning_same}
+use Rattle.winnow_core.specs.Exact.Same.{reads_as}
 use Rattle.format_toml.proofs.escapes.read_alone.Goals as goal
 
 pub read-requires-clause-premise : goal.read-requires-clause-premise

@@ -1,9 +1,9 @@
 use Rattle.std.specs.Prelude.{ℕ}
 use Rattle.std.proofs.Common.{rules, subst, sym}
 use Rattle.format_toml.specs.Toml.{IsWide}
-use Rattle.winnow.specs.Grammar.Meaning.{meaning_same}
+use Rattle.grammars.specs.Grammar.Meaning.{meaning_same}
 use Rattle.format_toml.specs.Escapes.{wide_one}
-use Rattle.winnow.specs.Exact.Same.{reads_as}
+use Rattle.winnow_core.specs.Exact.Same.{reads_as}
 use Rattle.format_toml.proofs.escapes.read_wide_character.Goals as goal
 
 pub read-requires-clause-premise : goal.read-requires-clause-premise

@@ -1,7 +1,7 @@
 use Rattle.std.proofs.Common.{refl}
 use Rattle.format_toml.specs.Lines.{document_of}
 use Rattle.format_parts.specs.Marks.{reads_all_by}
-use Rattle.winnow.specs.Told.{texts_told}
+use Rattle.winnow_grammar.specs.Told.{texts_told}
 use Rattle.format_toml.proofs.lines.parse_lines.Goals as goal
 
 pub returns : goal.returns

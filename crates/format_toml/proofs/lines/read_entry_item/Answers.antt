@@ -1,6 +1,6 @@
 use Rattle.std.proofs.Common.{refl}
 use Rattle.format_toml.specs.Toml.{IsEntry}
-use Rattle.winnow.specs.Read.{reads_meaning, reads_no_meaning}
+use Rattle.winnow_grammar.specs.Read.{reads_meaning, reads_no_meaning}
 use Rattle.format_toml.proofs.lines.read_entry_item.Goals as goal
 
 pub returns-in-Ok : goal.returns-in-Ok

@@ -1,5 +1,5 @@
 use Rattle.format_parts.specs.Marks.{three_by}
-use Rattle.winnow.specs.Read.{reads_by}
+use Rattle.winnow_grammar.specs.Read.{reads_by}
 use Rattle.format_toml.proofs.long_parts.read_long_of.Goals as goal
 
 pub returns : goal.returns

@@ -1,4 +1,4 @@
-use Rattle.winnow.specs.Read.{reads_by}
+use Rattle.winnow_grammar.specs.Read.{reads_by}
 use Rattle.format_toml.proofs.long_parts.read_part_of.Goals as goal
 
 pub returns : goal.returns

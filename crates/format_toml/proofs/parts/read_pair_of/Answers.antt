@@ -1,6 +1,6 @@
 use Rattle.std.proofs.Common.{◌≡◌, refl, rules}
-use Rattle.winnow.specs.Rule.{reads_as_rule, run_as}
-use Rattle.winnow.specs.Read.{reads_by}
+use Rattle.winnow_grammar.specs.Rule.{reads_as_rule, run_as}
+use Rattle.winnow_grammar.specs.Read.{reads_by}
 use Rattle.format_toml.proofs.parts.read_pair_of.Given as given
 use Rattle.format_toml.proofs.parts.read_pair_of.Goals as goal
 

@@ -3,7 +3,7 @@ use Rattle.format_toml.specs.FloatFronts.{float_all}
 use Rattle.format_toml.specs.Floats.{FloatText}
 use Rattle.format_toml.specs.PlainAnswers.{IsFloatAnswer}
 use Rattle.format_toml.specs.Times.{ascii}
-use Rattle.winnow.specs.Texts.{MadeText}
+use Rattle.grammars.specs.Texts.{MadeText}
 use Rattle.format_toml.proofs.plain.float_value.Goals as goal
 
 pub without_underscores-requires : goal.without_underscores-requires

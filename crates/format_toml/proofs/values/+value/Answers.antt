@@ -2,8 +2,8 @@ use Rattle.std.proofs.Common.{refl, rules, arith}
 use Rattle.format_toml.specs.Nested.{value_array, value_inline, value_last, value_scalar}
 use Rattle.format_toml.specs.Toml.{IsArray, IsInline}
 use Rattle.format_toml.specs.Values.{value_of}
-use Rattle.winnow.specs.Read.{reads_meaning, reads_no_meaning}
-use Rattle.winnow.specs.Told.{text_told}
+use Rattle.winnow_grammar.specs.Read.{reads_meaning, reads_no_meaning}
+use Rattle.winnow_grammar.specs.Told.{text_told}
 use Rattle.format_toml.proofs.values.+value.Goals as goal
 
 pub read_array-returns-in-Ok-Some : goal.read_array-returns-in-Ok-Some

@@ -3,7 +3,7 @@ use Rattle.std.specs.Str.{chars}
 use Rattle.std.specs.Str.Lossy.{utf8_valid_len}
 use Rattle.std.proofs.Common.{arith, length-take-le, subst, sym}
 use Rattle.std.proofs.lemmas.Str.{utf8_valid_len-IsValidUpTo}
-use Rattle.winnow.specs.Position.{IsPosition}
+use Rattle.text_positions.specs.Position.{IsPosition}
 use Rattle.format_toml_document.proofs.fault.fault_of_bytes.Goals as goal
 
 pub returns : goal.returns

@@ -2,7 +2,7 @@ use Rattle.std.proofs.Common.{inl, inr, refl, subst, sym}
 use Rattle.std.specs.Prelude.{List, map, ℕ}
 use Rattle.format_http.specs.Chunks.Framing.{HasOne, transfer_encoding}
 use Rattle.format_http.specs.Heads.Head.{pair}
-use Rattle.winnow.specs.Equal.{true_is_false}
+use Rattle.streams.specs.Equal.{true_is_false}
 use Rattle.format_http.proofs.bodies.framing.body_length.Goals as goal
 
 pub returns-then-is_before : goal.returns-then-is_before

@@ -7,7 +7,7 @@ use Rattle.format_http.proofs.ChunksLemmas.Named.{at_next, no_field, of_next}
 use Rattle.format_http.specs.Bodies.Lengths.{HasLength}
 use Rattle.format_http.specs.Bodies.Lists.{IsThe}
 use Rattle.format_http.specs.Heads.Head.{Pair, pair}
-use Rattle.winnow.specs.Equal.{true_is_false}
+use Rattle.streams.specs.Equal.{true_is_false}
 use Rattle.format_http.proofs.bodies.lengths.one_length.Goals as goal
 use Rattle.format_http.proofs.bodies.lengths.one_length.Goals.{
   then-eq_ignore_ascii_case+in-Ok,

@@ -2,7 +2,7 @@ use Rattle.std.proofs.Common.{refl, subst, sym}
 use Rattle.std.specs.Borrow.{Bor}
 use Rattle.std.specs.Prelude.{List, Option, ℕ}
 use Rattle.format_http.specs.Bodies.Lists.{IsThe}
-use Rattle.winnow.specs.Equal.{true_is_false}
+use Rattle.streams.specs.Equal.{true_is_false}
 use Rattle.format_http.proofs.bodies.lengths.one_of.Goals as goal
 
 pub returns-else-is_same-clause-many : goal.returns-else-is_same-clause-many

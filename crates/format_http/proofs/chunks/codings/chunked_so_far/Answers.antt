@@ -3,7 +3,7 @@ use Rattle.std.proofs.lemmas.Bool.Decides.{nat_tests}
 use Rattle.format_http.proofs.ChunksLemmas.Followed.{coded_after, coded_part}
 use Rattle.format_http.proofs.ChunksLemmas.Followed.{empty_part, one_more}
 use Rattle.format_http.specs.Bodies.Lists.{parts_in}
-use Rattle.winnow.specs.Equal.{true_is_false}
+use Rattle.streams.specs.Equal.{true_is_false}
 use Rattle.format_http.proofs.chunks.codings.chunked_so_far.Goals as goal
 
 pub returns-then-chunked-clause-followed : goal.returns-then-chunked-clause-followed

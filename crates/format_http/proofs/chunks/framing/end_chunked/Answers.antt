@@ -5,7 +5,7 @@ use Rattle.format_http.proofs.ChunksLemmas.Codings.{Last, last_new, last_same}
 use Rattle.format_http.proofs.ChunksLemmas.Named.{at_next, no_field, of_next}
 use Rattle.format_http.specs.Chunks.Framing.{EndChunked}
 use Rattle.format_http.specs.Heads.Head.{Pair, pair}
-use Rattle.winnow.specs.Equal.{true_is_false}
+use Rattle.streams.specs.Equal.{true_is_false}
 use Rattle.format_http.proofs.chunks.framing.end_chunked.Goals as goal
 use Rattle.format_http.proofs.chunks.framing.end_chunked.Goals.{then-eq_ignore_ascii_case+in-Some}
 use Rattle.format_http.proofs.chunks.framing.end_chunked.Goals.{

@@ -1,7 +1,7 @@
 use Rattle.std.proofs.Common.{arith, get_or, inl, inr, refl, sym}
 use Rattle.format_http.proofs.ChunksLemmas.Named.{no_field, of_next}
 use Rattle.format_http.specs.Chunks.Framing.{HasNone, HasValue}
-use Rattle.winnow.specs.Equal.{true_is_false}
+use Rattle.streams.specs.Equal.{true_is_false}
 use Rattle.format_http.proofs.chunks.framing.first_value.Goals as goal
 
 pub returns-then-eq_ignore_ascii_case-clause-some :

@@ -1,7 +1,7 @@
 use Rattle.std.proofs.Common.{arith, refl, sym}
 use Rattle.format_http.proofs.ChunksLemmas.Named.{at_next, of_next}
 use Rattle.format_http.specs.Chunks.Framing.{HaveValue}
-use Rattle.winnow.specs.Equal.{true_is_false}
+use Rattle.streams.specs.Equal.{true_is_false}
 use Rattle.format_http.proofs.chunks.framing.have_value.Goals as goal
 
 pub returns-then-not-is_same : goal.returns-then-not-is_same

@@ -1,7 +1,7 @@
 use Rattle.std.proofs.Common.{sym}
 use Rattle.format_http.proofs.ChunksLemmas.Ends.{bare_last}
 use Rattle.format_http.specs.Chunks.Framing.{IsEnd}
-use Rattle.winnow.specs.Equal.{true_is_false}
+use Rattle.streams.specs.Equal.{true_is_false}
 use Rattle.format_http.proofs.chunks.framing.without_end.Goals as goal
 
 pub returns-then-not-is_end : goal.returns-then-not-is_end

@@ -1,4 +1,4 @@
-use Rattle.winnow.specs.Read.{reads_by}
+use Rattle.winnow_grammar.specs.Read.{reads_by}
 use Rattle.format_http.specs.Chunks.Lines.{IsQuotedByte}
 use Rattle.format_http.specs.Heads.Bytes.{IsValueByte}
 use Rattle.format_http.specs.Chunks.Read.{one_is}

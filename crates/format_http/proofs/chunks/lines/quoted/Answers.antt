@@ -1,4 +1,4 @@
-use Rattle.winnow.specs.Read.{reads_by}
+use Rattle.winnow_grammar.specs.Read.{reads_by}
 use Rattle.format_http.specs.Heads.Bytes.{IsTokenByte}
 use Rattle.format_http.specs.Chunks.Read.{run_is}
 use Rattle.format_http.proofs.chunks.lines.quoted.Goals as goal

@@ -3,7 +3,7 @@ use Rattle.std.specs.Char.{to_ascii_lowercase}
 use Rattle.format_http.proofs.ChunksLemmas.Hosts.{host_next, none_left, other_next}
 use Rattle.format_http.specs.Chunks.Refusals.{AreHosts}
 use Rattle.format_http.specs.Heads.Head.{pair}
-use Rattle.winnow.specs.Equal.{true_is_false}
+use Rattle.streams.specs.Equal.{true_is_false}
 use Rattle.format_http.proofs.chunks.refusals.hosts_in.Goals as goal
 use Rattle.format_http.proofs.chunks.refusals.hosts_in.Goals.{else-eq_ignore_ascii_case}
 use Rattle.format_http.proofs.chunks.refusals.hosts_in.Goals.{then-eq_ignore_ascii_case}

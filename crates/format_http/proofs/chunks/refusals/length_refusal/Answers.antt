@@ -3,7 +3,7 @@ use Rattle.std.specs.Prelude.{List, ℕ, map}
 use Rattle.format_http.proofs.ChunksLemmas.Named.{agree}
 use Rattle.format_http.specs.Chunks.Framing.{HaveValue, content_length}
 use Rattle.format_http.specs.Heads.Head.{pair}
-use Rattle.winnow.specs.Equal.{true_is_false}
+use Rattle.streams.specs.Equal.{true_is_false}
 use Rattle.format_http.proofs.chunks.refusals.length_refusal.Goals as goal
 
 pub returns-then-not-have_value : goal.returns-then-not-have_value

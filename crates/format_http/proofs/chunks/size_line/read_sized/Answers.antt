@@ -1,5 +1,5 @@
 use Rattle.std.proofs.Common.{refl}
-use Rattle.winnow.specs.Read.{ok_as}
+use Rattle.winnow_grammar.specs.Read.{ok_as}
 use Rattle.format_http.specs.Chunks.Written.{line_failed, line_stands}
 use Rattle.format_http.proofs.chunks.size_line.read_sized.Goals as goal
 

@@ -1,8 +1,8 @@
 use Rattle.std.proofs.Common.{refl}
 use Rattle.format_http.specs.Heads.FieldRead.{field_back, field_there, pair_unique}
 use Rattle.format_http.specs.Heads.Parts.{EndStands}
-use Rattle.winnow.specs.Read.{err_as, ok_as}
-use Rattle.winnow.specs.Steps.{first_err, second_err, steps_ok}
+use Rattle.winnow_grammar.specs.Read.{err_as, ok_as}
+use Rattle.winnow_grammar.specs.Steps.{first_err, second_err, steps_ok}
 use Rattle.format_http.proofs.heads.field_line.read_line.Goals as goal
 
 pub returns-in-Ok-read_line_end-clause-reads : goal.returns-in-Ok-read_line_end-clause-reads

@@ -1,6 +1,6 @@
 use Rattle.std.proofs.Common.{refl, rules}
 use Rattle.format_http.specs.Heads.Parts.{end_back, end_there}
-use Rattle.winnow.specs.Read.{err_as, ok_as}
+use Rattle.winnow_grammar.specs.Read.{err_as, ok_as}
 use Rattle.format_http.proofs.heads.field_line.read_line_end.Goals as goal
 
 pub returns-in-Ok-clause-reads : goal.returns-in-Ok-clause-reads

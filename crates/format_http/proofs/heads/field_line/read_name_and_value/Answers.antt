@@ -1,6 +1,6 @@
 use Rattle.std.proofs.Common.{refl}
 use Rattle.format_http.specs.Heads.FieldRead.{ValueStands, name_unique}
-use Rattle.winnow.specs.Steps.{first_err, second_err, steps_ok}
+use Rattle.winnow_grammar.specs.Steps.{first_err, second_err, steps_ok}
 use Rattle.format_http.proofs.heads.field_line.read_name_and_value.Goals as goal
 
 pub returns-in-Ok-read_value-clause-reads : goal.returns-in-Ok-read_value-clause-reads

@@ -1,9 +1,9 @@
 use Rattle.std.proofs.Common.{refl, rules, sym, ◌∙◌}
-use Rattle.winnow.specs.Bytes.{bytes_reading}
-use Rattle.winnow.specs.Equal.{true_is_false}
-use Rattle.winnow.specs.Input.{is_end_of_refl, is_end_of_trans}
+use Rattle.streams.specs.Bytes.{bytes_reading}
+use Rattle.streams.specs.Equal.{true_is_false}
+use Rattle.streams.specs.Input.{is_end_of_refl, is_end_of_trans}
 use Rattle.format_http.specs.Heads.HeadRead.{lines_more, lines_stop}
-use Rattle.winnow.specs.Read.{reads_wanting}
+use Rattle.winnow_grammar.specs.Read.{reads_wanting}
 use Rattle.format_http.proofs.heads.head.read_field_lines.Goals as goal
 
 pub lines-init : goal.lines-init

@@ -1,9 +1,9 @@
 -- Loop invariant: consecutive field lines were read, and the input is left at a suffix.
 use Rattle.std.proofs.Common.{length}
-use Rattle.winnow.specs.Bytes.{bytes_input, bytes_reading}
-use Rattle.winnow.specs.Input.{IsEndOf}
+use Rattle.streams.specs.Bytes.{bytes_input, bytes_reading}
+use Rattle.streams.specs.Input.{IsEndOf}
 use Rattle.format_http.specs.Heads.FieldLine.{FieldLineStands}
-use Rattle.winnow.specs.Grammar.{Each}
+use Rattle.grammars.specs.Grammar.{Each}
 use Rattle.format_http.proofs.heads.head.read_field_lines.Given as goal
 
 abbrev pub invariant-lines : goal.invariant-lines

@@ -1,7 +1,7 @@
 use Rattle.format_http.specs.Heads.HeadRead.{fields_back, fields_there, lines_unique}
 use Rattle.format_http.specs.Heads.Parts.{EndStands}
-use Rattle.winnow.specs.Read.{err_as, ok_as}
-use Rattle.winnow.specs.Steps.{first_err, second_err, steps_ok}
+use Rattle.winnow_grammar.specs.Read.{err_as, ok_as}
+use Rattle.winnow_grammar.specs.Steps.{first_err, second_err, steps_ok}
 use Rattle.format_http.proofs.heads.head.read_fields.Goals as goal
 
 pub returns-in-Ok-read_line_end : goal.returns-in-Ok-read_line_end

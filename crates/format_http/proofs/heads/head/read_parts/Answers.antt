@@ -1,8 +1,8 @@
 use Rattle.format_http.specs.Heads.Head.{FieldsStand}
 use Rattle.format_http.specs.Heads.HeadRead.{head_back, head_there}
-use Rattle.winnow.specs.Read.{err_as, ok_as}
+use Rattle.winnow_grammar.specs.Read.{err_as, ok_as}
 use Rattle.format_http.specs.Heads.RequestRead.{request_unique}
-use Rattle.winnow.specs.Steps.{first_err, second_err, steps_ok}
+use Rattle.winnow_grammar.specs.Steps.{first_err, second_err, steps_ok}
 use Rattle.format_http.proofs.heads.head.read_parts.Goals as goal
 
 pub returns-in-Ok-read_fields : goal.returns-in-Ok-read_fields

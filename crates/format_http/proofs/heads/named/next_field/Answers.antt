@@ -4,7 +4,7 @@ use Rattle.std.proofs.Common.{drop, get_or, length, take, ◌+◌, ◌-◌}
 use Rattle.format_http.proofs.ChunksLemmas.Named.{no_field}
 use Rattle.format_http.proofs.HeadsLemmas.Passed.{next_passed, one_passed}
 use Rattle.format_http.specs.Heads.Named.{IsNext}
-use Rattle.winnow.specs.Equal.{true_is_false}
+use Rattle.streams.specs.Equal.{true_is_false}
 use Rattle.format_http.proofs.heads.named.next_field.Goals as goal
 
 pub returns-then-eq_ignore_ascii_case-clause-some :

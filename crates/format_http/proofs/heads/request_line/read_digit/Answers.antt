@@ -1,5 +1,5 @@
 use Rattle.std.proofs.Common.{refl, rules}
-use Rattle.winnow.specs.Read.{err_as, ok_as}
+use Rattle.winnow_grammar.specs.Read.{err_as, ok_as}
 use Rattle.format_http.specs.Heads.RequestRead.{digit_back, digit_least, digit_there}
 use Rattle.format_http.proofs.heads.request_line.read_digit.Goals as goal
 

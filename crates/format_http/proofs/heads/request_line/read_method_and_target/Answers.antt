@@ -1,7 +1,7 @@
 use Rattle.std.proofs.Common.{rules}
 use Rattle.format_http.specs.Heads.Bytes.{IsTokenByte, IsVisible}
 use Rattle.format_http.specs.Heads.Parts.{run_is}
-use Rattle.winnow.specs.Read.{reads_by}
+use Rattle.winnow_grammar.specs.Read.{reads_by}
 use Rattle.format_http.specs.Heads.RequestRead.{MethodTarget}
 use Rattle.format_http.proofs.heads.request_line.read_method_and_target.Goals as goal
 

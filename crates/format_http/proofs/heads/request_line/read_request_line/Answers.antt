@@ -1,8 +1,8 @@
 use Rattle.std.proofs.Common.{refl}
-use Rattle.winnow.specs.Read.{err_as, ok_as}
+use Rattle.winnow_grammar.specs.Read.{err_as, ok_as}
 use Rattle.format_http.specs.Heads.RequestRead.{VersionStands, method_unique, request_back}
 use Rattle.format_http.specs.Heads.RequestRead.{request_there}
-use Rattle.winnow.specs.Steps.{first_err, second_err, steps_ok}
+use Rattle.winnow_grammar.specs.Steps.{first_err, second_err, steps_ok}
 use Rattle.format_http.proofs.heads.request_line.read_request_line.Goals as goal
 
 pub returns-in-Ok-read_version-clause-reads : goal.returns-in-Ok-read_version-clause-reads

@@ -1,8 +1,8 @@
 use Rattle.format_http.specs.Heads.Head.{FieldsStand}
 use Rattle.format_http.specs.Responses.HeadRead.{response_back, response_there}
 use Rattle.format_http.specs.Responses.StatusRead.{status_unique}
-use Rattle.winnow.specs.Read.{err_as, ok_as}
-use Rattle.winnow.specs.Steps.{first_err, second_err, steps_ok}
+use Rattle.winnow_grammar.specs.Read.{err_as, ok_as}
+use Rattle.winnow_grammar.specs.Steps.{first_err, second_err, steps_ok}
 use Rattle.format_http.proofs.responses.head.read_parts.Goals as goal
 
 pub returns-in-Ok-read_fields : goal.returns-in-Ok-read_fields

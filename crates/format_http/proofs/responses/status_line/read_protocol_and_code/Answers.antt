@@ -1,5 +1,5 @@
 use Rattle.std.proofs.Common.{refl}
-use Rattle.winnow.specs.Steps.{first_err, second_err, steps_ok}
+use Rattle.winnow_grammar.specs.Steps.{first_err, second_err, steps_ok}
 use Rattle.format_http.specs.Responses.StatusRead.{CodeStands, protocol_unique}
 use Rattle.format_http.proofs.responses.status_line.read_protocol_and_code.Goals as goal
 

@@ -2,7 +2,7 @@ use Rattle.std.proofs.Common.{refl, rules}
 use Rattle.format_http.specs.Heads.Bytes.{IsValueByte}
 use Rattle.format_http.specs.Heads.Parts.{run_is}
 use Rattle.format_http.specs.Responses.StatusRead.{ReasonRead, none_there, reason_back, some_there}
-use Rattle.winnow.specs.Read.{err_as, ok_as, reads_by}
+use Rattle.winnow_grammar.specs.Read.{err_as, ok_as, reads_by}
 use Rattle.format_http.proofs.responses.status_line.read_reason.Goals as goal
 
 pub returns-in-Ok-Some-clause-reads : goal.returns-in-Ok-Some-clause-reads

@@ -1,6 +1,6 @@
 use Rattle.std.proofs.Common.{Ok}
 use Rattle.std.specs.Str.{chars}
-use Rattle.winnow.specs.Text.{text_input}
+use Rattle.streams.specs.Text.{text_input}
 use Rattle.format_calculator.specs.Calculator.{CharItem, sign_at}
 use Rattle.format_calculator.specs.Calculator.Laws.{char_ends, item_some}
 use Rattle.format_calculator.proofs.calc.parts.BeforeItParserRefStrPrefixSignEmptyError.parse_next.Goals as goal
