@@ -45,7 +45,6 @@ READERS = [
     ("HTTP/1.1 lengths of bodies", "format_http/bodies", "no", "the length, or why it is rejected"),
     ("HTTP/1.1 heads of responses", "format_http/responses", "yes",
         "the first status line or head"),
-    ("HTTP/1.1 size lines of chunks", "format_http/chunks", "yes", "the first size line"),
     ("HTTP/1.1 chunked bodies, partial input", "format_http_chunked", "no",
         "content, trailers, or the first invalid byte"),
     ("HTTP/1.1 heads, as offsets", "format_http_places", "no",

@@ -3,3 +3,5 @@
 
 #[cfg(test)]
 mod framing;
+#[cfg(test)]
+mod refusals;

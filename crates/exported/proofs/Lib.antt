@@ -6,7 +6,6 @@ pub mod Entries
 pub mod ErrorKinds
 pub mod Extent
 pub mod HeadExtent
-pub mod HttpBodies
 pub mod Items
 pub mod JsonDecimals
 pub mod JsonDiagnostics

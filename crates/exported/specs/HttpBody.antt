@@ -1,18 +1,18 @@
 -- The length of the body of a message, or why the message must be rejected, by its head.
-use Rattle.std.specs.Prelude.{◌≡◌, ◌<◌, ◌⊎◌, ℕ, List, map, Option, Some, None, Ok, Err}
+use Rattle.std.specs.Prelude.{◌≡◌, ◌⊎◌, ℕ, List, map, Some, None, Ok, Err}
 use Rattle.std.specs.declared.alloc.Global.{Global}
 use Rattle.format_http.specs.Bodies.Framing.{Answer, IsBodyLength}
-use Rattle.format_http.specs.Chunks.Refusals.{AreHosts, MayHave, NeedsHost}
 use Rattle.format_http.specs.Heads.Head.{HeadStands, Pair, pair}
+use Rattle.format_http.specs.Heads.Hosts.{HasHostError}
 use Rattle.format_http.specs.Responses.Head.{ResponseStands, response_to}
 use Rattle.format_http.specs.declared.bodies.framing.BodyLength.{BodyLength}
 use Rattle.format_http.specs.declared.bodies.framing.BodyLength.TheVariants as lengths
 use Rattle.format_http.specs.declared.bodies.framing.FramingError.{FramingError}
 use Rattle.format_http.specs.declared.bodies.framing.FramingError.TheVariants as fault
 use Rattle.format_http.specs.declared.bodies.framing.Message.TheVariants.{Request}
-use Rattle.format_http.specs.declared.chunks.refusals.Reason.{Reason}
-use Rattle.format_http.specs.declared.chunks.refusals.Reason.TheVariants as refusal
 use Rattle.format_http.specs.declared.heads.head.Head.{Head}
+use Rattle.format_http.specs.declared.heads.hosts.HostError.{HostError}
+use Rattle.format_http.specs.declared.heads.hosts.HostError.TheVariants.{Many, Missing}
 use Rattle.format_http.specs.declared.responses.head.ResponseHead.{ResponseHead}
 use Rattle.exported.specs.Code.{done, invalid}
 use Rattle.exported.specs.declared.http.body.HttpBody.{HttpBody}
@@ -29,16 +29,10 @@ fault_number fault.LengthsDiffer = 8
 fault_number fault.LengthIsNoNumber = 9
 fault_number fault.LengthTooLarge = 10
 
--- the number of the error of the Host fields, or 0
-abbrev pub host_number : Option Reason → ℕ
-host_number (Some refusal.NoHost) = 2
-host_number (Some refusal.ManyHosts) = 3
-host_number (Some refusal.LengthBesideCoding) = 0
-host_number (Some refusal.ChunkedNotLast) = 0
-host_number (Some refusal.NotChunked) = 0
-host_number (Some refusal.LengthsDiffer) = 0
-host_number (Some refusal.LengthIsNoNumber) = 0
-host_number None = 0
+-- the number of an error of the Host fields
+abbrev pub host_number : HostError → ℕ
+host_number Missing = 2
+host_number Many = 3
 
 -- no length and no error
 abbrev pub no_body : HttpBody
@@ -72,9 +66,7 @@ pub record FramesRequest (bytes : List ℕ) (code : ℕ) (out : HttpBody) : Type
   pub head : Head Global
   pub rest : List ℕ
   pub stands : HeadStands bytes head rest
-  pub hosts : ℕ
-  pub are_hosts : AreHosts (fields_of head) hosts
-  pub may_have : MayHave head.line hosts
+  pub may_have : HasHostError head.line (fields_of head) None
   pub answer : Answer
   pub is_answer : IsBodyLength Request head.line.major head.line.minor (fields_of head) answer
   pub writes : Writes answer code out
@@ -84,10 +76,9 @@ pub record HasWrongHosts (bytes : List ℕ) (out : HttpBody) : Type 0 where
   pub head : Head Global
   pub rest : List ℕ
   pub stands : HeadStands bytes head rest
-  pub hosts : ℕ
-  pub are_hosts : AreHosts (fields_of head) hosts
-  pub is_error : ((hosts ≡ 0) × NeedsHost head.line × HasError out 2)
-      ⊎ ((1 < hosts) × HasError out 3)
+  pub error : HostError
+  pub has_hosts : HasHostError head.line (fields_of head) (Some error)
+  pub is_error : HasError out (host_number error)
 
 -- The bytes do not start with the head of a request.
 abbrev pub NoRequest : List ℕ → Type 0

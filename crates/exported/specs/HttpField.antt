@@ -1,7 +1,7 @@
 -- The fields of a name among the offsets of the fields of a head.
 use Rattle.std.specs.Prelude.{◌≡◌, ◌≤◌, ◌-◌, ◌++◌, ◌∷◌, ℕ, List, length, take, drop}
 use Rattle.std.specs.List.{All}
-use Rattle.format_http.specs.Chunks.Framing.{IsNamed}
+use Rattle.format_http.specs.Heads.Named.{IsNamed}
 use Rattle.format_http_places.specs.declared.places.Field.{Field}
 use Rattle.format_http_places.specs.declared.places.Span.{Span}
 

@@ -1,4 +1,3 @@
 pub mod BodiesLemmas
-pub mod ChunksLemmas
 pub mod HeadsLemmas
 pub mod OneLemmas

@@ -4,6 +4,7 @@ pub mod FieldLine
 pub mod FieldRead
 pub mod Head
 pub mod HeadRead
+pub mod Hosts
 pub mod Named
 pub mod Parts
 pub mod RequestLine

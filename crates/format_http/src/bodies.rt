@@ -13,7 +13,11 @@
 //!   value (rule 5). `42, 042` are two different numerals. `,42` and `42,` are rejected: an empty
 //!   element differs from a numeral (RFC 9110, section 8.6).
 //! - A length that does not fit in 64 bits is rejected.
+mod codings;
+mod fields;
 pub mod framing;
 pub mod laws;
 mod lengths;
-pub(crate) mod lists;
+mod lists;
+mod numbers;
+pub mod refusals;

@@ -1,11 +1,12 @@
 //! Heads of HTTP/1.1 requests (RFC 9112), specified by their encoding: request lines, field lines,
-//! and complete heads; and the lookup of fields by name.
+//! and complete heads; the lookup of fields by name, and the Host fields of a request.
 //!
 //! Differences from the standard: a target is any sequence of visible ASCII bytes, and the grammar
 //! of URIs accepts only some of these. An empty line before the request line, and a line that
 //! starts with whitespace to continue the previous one, are not part of a head.
 pub mod field_line;
 pub mod head;
+pub mod hosts;
 pub mod laws;
 pub mod named;
 pub mod request_line;

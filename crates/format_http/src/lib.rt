@@ -1,8 +1,7 @@
 //! Messages of HTTP/1.1 (RFC 9112): the heads of requests and responses, the length of a message's
-//! body, the size lines of chunks, and the reasons for which a server must reject a request.
+//! body, and the reasons for which a server must reject a request.
 #![tactic(auto)]
 
 pub mod bodies;
-pub mod chunks;
 pub mod heads;
 pub mod responses;

@@ -9,8 +9,8 @@ ghost use Rattle.exported.specs.HttpBody.{no_body};
 
 use crate::code::{DONE, INVALID, NO_MEMORY};
 use format_http::bodies::framing::{BodyLength, FramingError, request_body_length};
-use format_http::chunks::refusals::{Reason, refusal_of};
 use format_http::heads::head::read_head;
+use format_http::heads::hosts::{HostError, host_error};
 use format_http::responses::head::{read_response_head, response_body_length};
 use std::alloc::Global;
 use winnow::error::ParserError;
@@ -89,14 +89,13 @@ fn rejected(error: u32) -> HttpBody
     HttpBody { error, ..NO_BODY }
 }
 
-/// Returns the number of the error of the Host fields, or 0.
-fn host_error(refusal: Option<Reason>) -> u32
-    ensures { result ≡ host_number refusal }
+/// Returns the number of an error of the Host fields.
+fn number_of(error: HostError) -> u32
+    ensures { result ≡ host_number error }
 {
-    match refusal {
-        Some(Reason::NoHost) => HTTP_ERROR_MISSING_HOST,
-        Some(Reason::ManyHosts) => HTTP_ERROR_MANY_HOSTS,
-        _ => HTTP_ERROR_NONE,
+    match error {
+        HostError::Missing => HTTP_ERROR_MISSING_HOST,
+        HostError::Many => HTTP_ERROR_MANY_HOSTS,
     }
 }
 
@@ -180,9 +179,8 @@ pub extern "C" fn exported_http_request_body(alloc: Global, bytes: &[u8], out: &
     let mut input = bytes;
     match read_head(alloc, &mut input) {
         Ok(head) => {
-            let host = host_error(refusal_of(&head));
-            if host != HTTP_ERROR_NONE {
-                *out = rejected(host);
+            if let Some(error) = host_error(&head) {
+                *out = rejected(number_of(error));
                 return INVALID;
             }
             let (code, body) = body_of(request_body_length(&head));

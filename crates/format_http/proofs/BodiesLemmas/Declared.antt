@@ -6,7 +6,7 @@ use Rattle.format_http.specs.Bodies.Framing.{Answer, IsDeclaredLength, IsSameLen
 use Rattle.format_http.specs.Bodies.Framing.{IsTextLength}
 use Rattle.format_http.specs.Bodies.Lengths.{HasLength}
 use Rattle.format_http.specs.Bodies.Lists.{IsThe}
-use Rattle.format_http.specs.Chunks.Framing.{IsNumber}
+use Rattle.format_http.specs.Bodies.Fields.{IsNumber}
 use Rattle.format_http.specs.Heads.Head.{Pair}
 use Rattle.format_http.specs.declared.bodies.framing.FramingError.TheVariants.{LengthIsNoNumber}
 use Rattle.winnow_numbers.specs.Digits.{value_in}

@@ -4,7 +4,7 @@ use Rattle.std.proofs.Common.{sym, ap, subst, ◌∙◌, arith, drop, get_or, ta
 use Rattle.std.proofs.Common.{take-append-drop}
 use Rattle.std.proofs.lemmas.List.{drop_more, take_all, take_more}
 use Rattle.std.proofs.lemmas.List.Elements.{All-append, All-cons, All-nil}
-use Rattle.format_http.specs.Chunks.Framing.{IsNamed}
+use Rattle.format_http.specs.Heads.Named.{IsNamed}
 use Rattle.format_http.specs.Heads.Named.{HasNo, IsNext}
 use Rattle.format_http.specs.declared.heads.field_line.Field.{Field}
 

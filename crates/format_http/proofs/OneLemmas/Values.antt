@@ -4,31 +4,37 @@ use Rattle.std.proofs.Common.{◌⊎◌, ◌<◌, length, length-append, refl, s
 use Rattle.std.specs.Borrow.{Bor}
 use Rattle.std.specs.List.{All}
 use Rattle.std.proofs.lemmas.Bool.Decides.{eqb_tells}
-use Rattle.std.proofs.lemmas.List.Elements.{All-append, All-cons, All-nil, All-tail, All-weaker}
-use Rattle.std.proofs.lemmas.List.Elements.{recursion_from_All}
+use Rattle.std.proofs.lemmas.List.Elements.{All-append, All-cons, All-head, All-nil, All-tail}
+use Rattle.std.proofs.lemmas.List.Elements.{All-weaker}
 use Rattle.std.proofs.lemmas.List.{same_from_push}
-use Rattle.format_http.specs.Chunks.Framing.{IsBare}
 use Rattle.format_http.specs.Heads.Bytes.{IsTokenByte, IsValueByte, IsWhite, line_end}
 use Rattle.format_http.specs.Heads.FieldLine.{BeginsBare, EndsBare, IsFieldLine, IsTrimmed}
 use Rattle.format_http.specs.Heads.FieldRead.{all_front, none_returns, white_is_value}
 use Rattle.format_http.specs.declared.heads.field_line.Field.{Field}
 use Rattle.streams.specs.Equal.{same_first, same_others}
-use Rattle.format_http.proofs.ChunksLemmas.Ends.{one_without}
 use Rattle.format_http.proofs.OneLemmas.Texts.{in_middle, one_stranger, one_text}
 
 -- ---- the end of a text
 
-bare_of : (text : List ℕ) → EndsBare text → IsBare IsWhite text
-bare_of [] ends = tt
-bare_of (x ∷ []) ends = ends x [] refl
-bare_of (x ∷ y ∷ ys) ends =
-    bare_of (y ∷ ys) (λ b front e. ends b (x ∷ front) (ap (λ l. x ∷ l) e))
+bare_tail : (x : ℕ) (v : List ℕ) → EndsBare (x ∷ v) → EndsBare v
+bare_tail x v ends = λ b front e. ends b (x ∷ front) (ap (λ l. x ∷ l) e)
+
+-- a text that ends bare is not white
+white_end : (x : ℕ) (v : List ℕ) → All IsWhite (x ∷ v) → EndsBare (x ∷ v) → ⊥
+white_end x [] all ends = ends x [] refl (All-head IsWhite x [] all)
+white_end x (y ∷ v) all ends = white_end y v (All-tail IsWhite x (y ∷ v) all) (bare_tail x _ ends)
 
 -- before white space one text ends bare
 ends_one : (v w a b : List ℕ) → All IsWhite a → All IsWhite b → EndsBare v → EndsBare w
     → v ++ a ≡ w ++ b → v ≡ w
-ends_one v w a b p q ends other e = one_without IsWhite v a w b e (recursion_from_All IsWhite a p)
-    (recursion_from_All IsWhite b q) (bare_of v ends) (bare_of w other)
+ends_one [] [] a b p q ends other e = refl
+ends_one [] (y ∷ w) a b p q ends other e =
+    absurd (white_end y w (all_front IsWhite (y ∷ w) b (subst (λ l. All IsWhite l) e p)) other)
+ends_one (x ∷ v) [] a b p q ends other e =
+    absurd (white_end x v (all_front IsWhite (x ∷ v) a (subst (λ l. All IsWhite l) (sym e) q)) ends)
+ends_one (x ∷ v) (y ∷ w) a b p q ends other e =
+    ap (λ z. z ∷ v) (same_first e) ∙ ap (λ l. y ∷ l)
+    (ends_one v w a b p q (bare_tail x v ends) (bare_tail y w other) (same_others e))
 
 -- ---- both ends
 

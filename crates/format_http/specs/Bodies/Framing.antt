@@ -1,9 +1,9 @@
 -- How long the body of a message is (RFC 9112, section 6.3), by the rules of the standard in order.
 use Rattle.std.specs.Prelude.{◌≡◌, ◌<◌, ◌≤◌, ◌⊎◌, ◌^◌, ℕ, List, Result, Ok, Err, codes}
 use Rattle.format_http.specs.Bodies.Lengths.{AreOne, IsLength}
-use Rattle.format_http.specs.Chunks.Codings.{ChunkedIsFollowed}
-use Rattle.format_http.specs.Chunks.Framing.{EndChunked, HasOne, IsNumber, content_length}
-use Rattle.format_http.specs.Chunks.Framing.{transfer_encoding}
+use Rattle.format_http.specs.Bodies.Codings.{ChunkedIsFollowed, EndChunked}
+use Rattle.format_http.specs.Bodies.Fields.{HasOne, IsNumber, content_length}
+use Rattle.format_http.specs.Bodies.Fields.{transfer_encoding}
 use Rattle.format_http.specs.Heads.Head.{Pair}
 use Rattle.winnow_numbers.specs.Digits.{value_in}
 use Rattle.format_http.specs.declared.bodies.framing.BodyLength.{BodyLength}

@@ -2,7 +2,8 @@
 -- section 8.6).
 use Rattle.std.specs.Prelude.{◌≡◌, ◌⊎◌, ℕ, List, [], ◌∷◌}
 use Rattle.format_http.specs.Bodies.Lists.{HasElement, parts_of}
-use Rattle.format_http.specs.Chunks.Framing.{IsNamed, IsNumber, content_length}
+use Rattle.format_http.specs.Bodies.Fields.{IsNumber, content_length}
+use Rattle.format_http.specs.Heads.Named.{IsNamed}
 use Rattle.format_http.specs.Heads.Head.{Pair}
 use Rattle.winnow_numbers.specs.Digits.{value_in}
 

@@ -1,8 +1,12 @@
 -- The fields of a name, in letters of either case (RFC 9110, section 5.1).
-use Rattle.std.specs.Prelude.{◌≡◌, ◌++◌, ◌∷◌, ℕ, List}
+use Rattle.std.specs.Prelude.{◌≡◌, ◌++◌, ◌∷◌, ℕ, List, map}
+use Rattle.std.specs.Char.{to_ascii_lowercase}
 use Rattle.std.specs.List.{All}
-use Rattle.format_http.specs.Chunks.Framing.{IsNamed}
 use Rattle.format_http.specs.declared.heads.field_line.Field.{Field}
+
+-- The two are the same in letters of either case.
+abbrev pub IsNamed : List ℕ → List ℕ → Type 0
+IsNamed name other = map to_ascii_lowercase other ≡ map to_ascii_lowercase name
 
 -- No field has the name.
 abbrev pub HasNo : List ℕ → List Field → Type 0

@@ -1,5 +1,5 @@
 -- Which bytes a token has not.
-use Rattle.std.specs.Prelude.{◌≡◌, ◌<◌, ◌≤◌, ℕ}
+use Rattle.std.specs.Prelude.{◌<◌, ◌≤◌, ℕ}
 use Rattle.std.proofs.Common.{arith, inl, inr}
 use Rattle.format_http.specs.Heads.Bytes.{IsTokenByte}
 use Rattle.stream_sets.specs.AsChar.{IsSpace}
@@ -10,9 +10,6 @@ space_most b (inr is) = omega (arith, is)
 
 pub token_least : (b : ℕ) → IsTokenByte b → 33 ≤ b
 token_least b token = grind arith
-
-pub token_no_quote : (b : ℕ) → b ≡ 34 → IsTokenByte b → ⊥
-token_no_quote b e token = grind arith
 
 -- none of the marks around names and values
 pub token_no_mark : (b : ℕ) → (57 < b) → (b < 62) → IsTokenByte b → ⊥

@@ -4,14 +4,13 @@
 
 ghost use Rattle.format_http.specs.Bodies.Framing.{IsBefore, IsBodyLength, IsCodedLength};
 ghost use Rattle.format_http.specs.Bodies.Framing.{IsTunnel, IsUndeclared, IsWithoutBody};
-ghost use Rattle.format_http.specs.Chunks.Framing.{HasOne};
 ghost use Rattle.format_http.specs.Heads.Head.{pair};
 ghost use Rattle.format_http.specs.declared.bodies.framing.Message.TheVariants.{Request};
 ghost use Rattle.std.specs.Prelude.{◌↔◌, IsTrue, map};
 
+use crate::bodies::codings::end_chunked;
+use crate::bodies::fields::has;
 use crate::bodies::lengths::declared_length;
-use crate::chunks::codings::chunked_is_followed;
-use crate::chunks::framing::{end_chunked, first_value};
 use crate::heads::field_line::Field;
 use crate::heads::head::Head;
 use std::alloc::Allocator;
@@ -125,26 +124,17 @@ fn is_before(major: u8, minor: u8) -> bool
     major < 1 || (major == 1 && minor < 1)
 }
 
-/// Whether a field has this name.
-fn has(fields: &[Field<'_>], name: &[u8]) -> bool
-    ensures { IsTrue result ↔ HasOne name.now (map pair fields.now) }
-{
-    first_value(fields, name).is_some()
-}
-
 /// The length of a body with a transfer coding.
 fn coded_length(message: Message<'_>, fields: &[Field<'_>]) -> Result<BodyLength, FramingError>
     ensures { IsCodedLength message.entry (map pair fields.now) result }
 {
-    if chunked_is_followed(fields) {
-        return Err(FramingError::ChunkedNotLast);
-    }
-    if end_chunked(fields) {
-        return Ok(BodyLength::Chunked);
-    }
-    match message {
-        Message::Request => Err(FramingError::NotChunked),
-        Message::Response { .. } => Ok(BodyLength::UntilClose),
+    match end_chunked(fields) {
+        None => Err(FramingError::ChunkedNotLast),
+        Some(true) => Ok(BodyLength::Chunked),
+        Some(false) => match message {
+            Message::Request => Err(FramingError::NotChunked),
+            Message::Response { .. } => Ok(BodyLength::UntilClose),
+        },
     }
 }
 

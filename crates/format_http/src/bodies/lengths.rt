@@ -8,10 +8,10 @@ ghost use Rattle.format_http.specs.Heads.Head.{pair};
 ghost use Rattle.format_http.specs.declared.bodies.framing.FramingError.TheVariants.{LengthsDiffer};
 ghost use Rattle.std.specs.Prelude.{◌≡◌, ◌↔◌, ◌⊎◌, IfErr, IfOk, List, ℕ, map};
 
+use crate::bodies::fields::{is_number, is_same};
 use crate::bodies::framing::{BodyLength, FramingError};
 use crate::bodies::lists::{element_of, next_part};
-use crate::chunks::framing::{is_number, is_same};
-use crate::chunks::numbers::number_in;
+use crate::bodies::numbers::number_in;
 use crate::heads::field_line::Field;
 
 /// Returns the second text if the first is the same or missing.

@@ -3,10 +3,11 @@
 
 ghost use Rattle.format_http.specs.Heads.Bytes.{IsWhite};
 ghost use Rattle.format_http.specs.Heads.FieldLine.{IsFieldLine};
-ghost use Rattle.format_http.specs.Heads.Head.{IsHead, Pair, Request};
+ghost use Rattle.format_http.specs.Heads.Head.{AreFieldLines, IsHead, Pair, Request};
 ghost use Rattle.format_http.specs.Responses.Head.{IsResponseHead, Status};
+ghost use Rattle.format_http_chunked.specs.Bodies.{AreFields};
 ghost use Rattle.std.specs.List.{All};
-ghost use Rattle.std.specs.Prelude.{◌≡◌, ◌++◌, ◌∷◌, List, ℕ};
+ghost use Rattle.std.specs.Prelude.{◌≡◌, ◌↔◌, ◌++◌, ◌∷◌, [], List, ℕ};
 
 /// Proves that no byte before the first colon of a field line is whitespace. So
 /// [`read_head`](crate::heads::head::read_head) reads no head with whitespace between the name of a
@@ -49,4 +50,16 @@ pub fn bytes_begin_with_one_response_head_at_most()
     ensures { (line other : Status) (fields others : List Pair) (bytes one two : List ℕ)
         → IsResponseHead line fields bytes one → IsResponseHead other others bytes two
         → (line ≡ other) × (fields ≡ others) × (one ≡ two) }
+{}
+
+/// The trailer section of a chunked body is field lines, and each text of field lines is one.
+///
+/// ```
+/// use format_http::heads::laws;
+///
+/// laws::trailers_are_field_lines();
+/// ```
+pub fn trailers_are_field_lines()
+    ensures { (trailers : List ℕ) → AreFields trailers
+        ↔ ((fields : List Pair) × AreFieldLines fields trailers []) }
 {}

@@ -1,6 +1,6 @@
 use Rattle.std.proofs.Common.{inl, inr, refl, subst, sym}
 use Rattle.std.specs.Prelude.{List, map, ℕ}
-use Rattle.format_http.specs.Chunks.Framing.{HasOne, transfer_encoding}
+use Rattle.format_http.specs.Bodies.Fields.{HasOne, transfer_encoding}
 use Rattle.format_http.specs.Heads.Head.{pair}
 use Rattle.streams.specs.Equal.{true_is_false}
 use Rattle.format_http.proofs.bodies.framing.body_length.Goals as goal

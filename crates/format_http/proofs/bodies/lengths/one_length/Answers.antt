@@ -3,7 +3,7 @@ use Rattle.std.specs.Borrow.{Bor}
 use Rattle.std.specs.Char.{to_ascii_lowercase}
 use Rattle.std.specs.Prelude.{List, Option, map, ℕ, ◌↔◌, ◌⊎◌, ◌∷◌}
 use Rattle.format_http.proofs.BodiesLemmas.Lengths.{both_ways, field_has, field_more, other_more}
-use Rattle.format_http.proofs.ChunksLemmas.Named.{at_next, no_field, of_next}
+use Rattle.format_http.proofs.HeadsLemmas.Named.{at_next, no_field, of_next}
 use Rattle.format_http.specs.Bodies.Lengths.{HasLength}
 use Rattle.format_http.specs.Bodies.Lists.{IsThe}
 use Rattle.format_http.specs.Heads.Head.{Pair, pair}

@@ -1,7 +1,7 @@
 use Rattle.std.proofs.Common.{arith, refl, subst, sym}
 use Rattle.std.specs.Prelude.{ℕ}
 use Rattle.std.proofs.Common.{drop, get_or, length, take, ◌+◌, ◌-◌}
-use Rattle.format_http.proofs.ChunksLemmas.Named.{no_field}
+use Rattle.format_http.proofs.HeadsLemmas.Named.{no_field}
 use Rattle.format_http.proofs.HeadsLemmas.Passed.{next_passed, one_passed}
 use Rattle.format_http.specs.Heads.Named.{IsNext}
 use Rattle.streams.specs.Equal.{true_is_false}

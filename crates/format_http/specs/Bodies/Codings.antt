@@ -1,0 +1,82 @@
+-- The transfer codings of a message (RFC 9112, section 6.1): only the last may be `chunked`.
+use Rattle.std.specs.Prelude.{◌≡◌, ◌<◌, ◌⊎◌, ◌++◌, ℕ, List, [], ◌∷◌, Bool, IsTrue, length, codes}
+use Rattle.format_http.specs.Bodies.Lists.{HasElement, IsElement, parts_of}
+use Rattle.format_http.specs.Bodies.Fields.{transfer_encoding}
+use Rattle.format_http.specs.Heads.Bytes.{IsWhite}
+use Rattle.format_http.specs.Heads.Head.{Pair}
+use Rattle.format_http.specs.Heads.Named.{IsNamed}
+
+-- ---- a coding: a name, and parameters after semicolons, with optional whitespace
+
+-- `EndsName rest`: the name of a coding ends before `rest`.
+abbrev pub EndsName : List ℕ → Type 0
+EndsName [] = Unit {0}
+EndsName (b ∷ more) = (b ≡ 59) ⊎ IsWhite b
+
+-- The coding is `chunked`, ignoring ASCII case. It defines no parameters (RFC 9112, section 7.1);
+-- with some it is still `chunked`.
+abbrev pub NamesChunked : List ℕ → Type 0
+NamesChunked coding =
+    (word : List ℕ) × (rest : List ℕ) × (coding ≡ word ++ rest)
+    × IsNamed (codes "chunked") word × EndsName rest
+
+-- ---- in the parts of a list, between its commas
+
+-- One of the parts has a coding: an element that is not empty. Empty elements are skipped (RFC
+-- 9110, section 5.6.1).
+abbrev pub HasCoding : List (List ℕ) → Type 0
+HasCoding parts = (element : List ℕ) × HasElement element parts × (0 < length element)
+
+-- One of the parts has the coding `chunked`.
+abbrev pub HasChunked : List (List ℕ) → Type 0
+HasChunked parts = (element : List ℕ) × HasElement element parts × NamesChunked element
+
+-- The coding in this part is `chunked`.
+abbrev pub IsChunked : List ℕ → Type 0
+IsChunked part = (element : List ℕ) × IsElement element part × NamesChunked element
+
+-- A coding comes after `chunked`, possibly `chunked` again.
+abbrev pub IsFollowed : List (List ℕ) → Type 0
+IsFollowed [] = ⊥
+IsFollowed (part ∷ parts) = (IsChunked part × HasCoding parts) ⊎ IsFollowed parts
+
+-- The last coding is `chunked`, without parameters: other elements after it are empty.
+abbrev pub EndsChunked : List (List ℕ) → Type 0
+EndsChunked [] = ⊥
+EndsChunked (part ∷ parts) =
+    (((element : List ℕ) × IsElement element part × IsNamed (codes "chunked") element)
+    × (HasCoding parts → ⊥))
+    ⊎ EndsChunked parts
+
+-- A coding of these parts comes after `chunked`, which the last before them is or is not.
+abbrev pub FollowsSo : Bool → List (List ℕ) → Type 0
+FollowsSo chunked parts = (IsTrue chunked × HasCoding parts) ⊎ IsFollowed parts
+
+-- The last coding is `chunked`, which the last before these parts is or is not.
+abbrev pub EndsSo : Bool → List (List ℕ) → Type 0
+EndsSo chunked parts = (IsTrue chunked × (HasCoding parts → ⊥)) ⊎ EndsChunked parts
+
+-- ---- in all Transfer-Encoding fields, which are one list
+
+-- One of the fields has a coding.
+abbrev pub HaveCoding : List Pair → Type 0
+HaveCoding [] = ⊥
+HaveCoding (field ∷ fields) =
+    (IsNamed transfer_encoding field.0 × HasCoding (parts_of field.1)) ⊎ HaveCoding fields
+
+-- A coding comes after `chunked`, in the same field or in a later one: `chunked` is applied twice,
+-- which a sender must not do, or another coding is applied to chunks.
+abbrev pub ChunkedIsFollowed : List Pair → Type 0
+ChunkedIsFollowed [] = ⊥
+ChunkedIsFollowed (field ∷ fields) =
+    (IsNamed transfer_encoding field.0
+    × (IsFollowed (parts_of field.1) ⊎ (HasChunked (parts_of field.1) × HaveCoding fields)))
+    ⊎ ChunkedIsFollowed fields
+
+-- The last coding of all fields is `chunked`, without parameters.
+abbrev pub EndChunked : List Pair → Type 0
+EndChunked [] = ⊥
+EndChunked (field ∷ fields) =
+    (IsNamed transfer_encoding field.0 × EndsChunked (parts_of field.1)
+    × (HaveCoding fields → ⊥))
+    ⊎ EndChunked fields

@@ -1,0 +1,101 @@
+//! The transfer codings of a message (RFC 9112, section 6.1): only the last may be `chunked`.
+#![tactic(auto)]
+
+ghost use Rattle.format_http.specs.Bodies.Codings.{ChunkedIsFollowed, EndChunked, EndsName};
+ghost use Rattle.format_http.specs.Bodies.Codings.{EndsSo, FollowsSo, HasChunked, NamesChunked};
+ghost use Rattle.format_http.specs.Bodies.Lists.{parts_of};
+ghost use Rattle.format_http.specs.Heads.Head.{pair};
+ghost use Rattle.format_http.specs.Heads.Named.{IsNamed};
+ghost use Rattle.std.specs.Prelude.{◌≡◌, ◌↔◌, ◌⊎◌, IfSome, IsTrue, None, codes, map};
+
+use crate::bodies::lists::{element_of, next_part};
+use crate::heads::field_line::Field;
+
+/// What the codings so far say of the last one.
+#[derive(Clone, Copy, Drop)]
+struct Codings {
+    /// It is `chunked`, with or without parameters.
+    chunked: bool,
+    /// It is `chunked` without parameters.
+    plain: bool,
+}
+
+/// Whether the name of a coding ends before these bytes.
+fn ends_name(rest: &[u8]) -> bool
+    ensures { IsTrue result ↔ EndsName rest.now }
+{
+    match rest.split_first() {
+        Some((first, _)) => *first == b';' || *first == b' ' || *first == b'\t',
+        None => true,
+    }
+}
+
+/// Whether a coding is `chunked`, with or without parameters.
+fn names_chunked(coding: &[u8]) -> bool
+    ensures { IsTrue result ↔ NamesChunked coding.now }
+{
+    if coding.len() < 7 {
+        return false;
+    }
+    let (word, rest) = coding.split_at(7);
+    is_chunked(word) && ends_name(rest)
+}
+
+/// Whether a coding is `chunked` without parameters.
+fn is_chunked(coding: &[u8]) -> bool
+    ensures { IsTrue result ↔ IsNamed (codes "chunked") coding.now }
+{
+    coding.eq_ignore_ascii_case(b"chunked".as_slice())
+}
+
+/// Returns what the codings so far and those of this list say of the last one, or `None` if a
+/// coding of the list comes after `chunked`. `before` is what those so far say.
+fn codings_so_far(before: Codings, list: &[u8]) -> Option<Codings>
+    ensures followed { result ≡ None → FollowsSo before.chunked (parts_of list.now) }
+    ensures last { IfSome result (λ now. (FollowsSo before.chunked (parts_of list.now) → ⊥)
+        × (IsTrue now.chunked ↔ (IsTrue before.chunked ⊎ HasChunked (parts_of list.now)))
+        × (IsTrue now.plain ↔ EndsSo before.plain (parts_of list.now))) }
+{
+    let mut now = before;
+    let mut left = Some(list);
+    'parts: while let Some(here) = left {
+        let (part, more) = next_part(here);
+        let coding = element_of(part);
+        if !coding.is_empty() {
+            if now.chunked {
+                return None;
+            }
+            now = Codings {
+                chunked: names_chunked(coding),
+                plain: is_chunked(coding),
+            };
+        }
+        left = more;
+    }
+    Some(now)
+}
+
+/// Returns whether the last transfer coding of all fields is `chunked`, without parameters, or
+/// `None` if a coding comes after `chunked`. All Transfer-Encoding fields are one list.
+pub(crate) fn end_chunked(fields: &[Field<'_>]) -> Option<bool>
+    ensures followed { result ≡ None → ChunkedIsFollowed (map pair fields.now) }
+    ensures last { IfSome result (λ plain. (ChunkedIsFollowed (map pair fields.now) → ⊥)
+        × (IsTrue plain ↔ EndChunked (map pair fields.now))) }
+{
+    let mut now = Codings {
+        chunked: false,
+        plain: false,
+    };
+    for field in fields {
+        if field
+            .name
+            .eq_ignore_ascii_case(b"transfer-encoding".as_slice())
+        {
+            match codings_so_far(now, field.value) {
+                Some(more) => now = more,
+                None => return None,
+            }
+        }
+    }
+    Some(now.plain)
+}

@@ -1,0 +1,180 @@
+//! Requests that a server must reject, by their heads.
+use format_http::bodies::framing::FramingError;
+use format_http::bodies::refusals::{Reason, refusal_of};
+use format_http::heads::field_line::read_field_line;
+use format_http::heads::head::read_head;
+use format_http::heads::hosts::HostError;
+use std::alloc::Global;
+use std::process::Abort;
+
+const NO_HOST: Option<Reason> = Some(Reason::Host(HostError::Missing));
+
+const MANY_HOSTS: Option<Reason> = Some(Reason::Host(HostError::Many));
+
+/// Heads, and why each is rejected (RFC 9112, section 3.2, whose examples are the first rows).
+const HEADS: &[(&[u8], Option<Reason>)] = &[
+    (b"GET /where?q=now HTTP/1.1\r\nHost: www.example.org\r\n\r\n", None),
+    (b"OPTIONS * HTTP/1.1\r\nHost: www.example.org:8001\r\n\r\n", None),
+    (b"CONNECT server.example.com:80 HTTP/1.1\r\nHost: server.example.com\r\n\r\n", None),
+    (b"GET / HTTP/1.1\r\nHost:\r\n\r\n", None),
+    (b"GET / HTTP/1.1\r\nhOST: a\r\nX: y\r\n\r\n", None),
+    (b"GET / HTTP/1.0\r\n\r\n", None),
+    (b"GET / HTTP/1.0\r\nX: Host\r\n\r\n", None),
+    (b"GET / HTTP/2.0\r\n\r\n", None),
+    (b"GET / HTTP/0.9\r\n\r\n", None),
+    (b"GET / HTTP/1.1\r\n\r\n", NO_HOST),
+    (b"GET / HTTP/1.2\r\n\r\n", NO_HOST),
+    (b"GET / HTTP/1.1\r\nHosts: a\r\nHos: b\r\nX: Host\r\n\r\n", NO_HOST),
+    (b"GET / HTTP/1.1\r\nHost: a\r\nHost: a\r\n\r\n", MANY_HOSTS),
+    (b"GET / HTTP/1.1\r\nHost: a\r\nX: y\r\nHOST: b\r\n\r\n", MANY_HOSTS),
+    (b"GET / HTTP/1.0\r\nhost: a\r\nHost: b\r\nhosT:\r\n\r\n", MANY_HOSTS),
+];
+
+const BESIDE: Option<Reason> = Some(Reason::Body(FramingError::LengthBesideCoding));
+
+const NOT_CHUNKED: Option<Reason> = Some(Reason::Body(FramingError::NotChunked));
+
+const NOT_LAST: Option<Reason> = Some(Reason::Body(FramingError::ChunkedNotLast));
+
+const DIFFER: Option<Reason> = Some(Reason::Body(FramingError::LengthsDiffer));
+
+const NO_NUMBER: Option<Reason> = Some(Reason::Body(FramingError::LengthIsNoNumber));
+
+const TOO_LARGE: Option<Reason> = Some(Reason::Body(FramingError::LengthTooLarge));
+
+/// Fields after a Host field of an HTTP/1.1 request, and why the request is rejected (RFC 9112,
+/// sections 6.1 and 6.3, and RFC 9110, section 8.6).
+const FRAMINGS: &[(&[u8], Option<Reason>)] = &[
+    (b"", None),
+    (b"Content-Length: 42\r\n", None),
+    (b"Content-Length: 0\r\n", None),
+    (b"content-LENGTH: 42\r\nX: 43\r\nContent-Length:42\r\n", None),
+    (b"Content-Length: 340282366920938463463374607431768211456\r\n", TOO_LARGE),
+    (b"Content-Length: 42\r\nContent-Length: 43\r\n", DIFFER),
+    (b"Content-Length: 42\r\nX: y\r\nCONTENT-LENGTH: 042\r\n", DIFFER),
+    (b"Content-Length: 1\r\nCONTENT-length: 1\r\ncontent-length: a\r\n", DIFFER),
+    (b"Content-Length: a\r\nContent-Length: b\r\n", DIFFER),
+    (b"Content-Length: 42, 42\r\n", None),
+    (b"Content-Length:\r\n", NO_NUMBER),
+    (b"Content-Length: +42\r\n", NO_NUMBER),
+    (b"Content-Length: -1\r\n", NO_NUMBER),
+    (b"Content-Length: 0x2a\r\n", NO_NUMBER),
+    (b"Content-Length: 4 2\r\n", NO_NUMBER),
+    (b"Content-Length: ,4\r\n", DIFFER),
+    (b"Content-Length: 4,\r\n", DIFFER),
+    (b"Content-Length: 4,,4\r\n", DIFFER),
+    (b"Content-Length: a\r\nContent-Length: a\r\n", NO_NUMBER),
+    (b"Transfer-Encoding: chunked\r\n", None),
+    (b"Transfer-Encoding: gzip, chunked\r\n", None),
+    (b"transfer-encoding: GZIP ,\t\tChunKED\r\n", None),
+    (b"Transfer-Encoding: gzip\r\nTransfer-Encoding: chunked\r\n", None),
+    (b"Transfer-Encoding: chunked\r\nTransfer-Encoding:\r\n", None),
+    (b"Transfer-Encoding: ,chunked, ,\r\nTransfer-Encoding: ,\r\n", None),
+    (b"Transfer-Encoding: a;b=\"c, d\", chunked\r\n", None),
+    (b"Transfer-Encoding: gzip\r\n", NOT_CHUNKED),
+    (b"Transfer-Encoding: chunked, chunked\r\n", NOT_LAST),
+    (b"Transfer-Encoding: chunked\r\nX: y\r\ntransfer-encoding: CHUNKED\r\n", NOT_LAST),
+    (b"Transfer-Encoding: chunked, gzip\r\n", NOT_LAST),
+    (b"Transfer-Encoding: chunked, gzip, chunked\r\n", NOT_LAST),
+    (b"Transfer-Encoding: chunked ; a=b, chunked\r\n", NOT_LAST),
+    (b"Transfer-Encoding: chunked\r\nX: y\r\nTransfer-Encoding: gzip\r\n", NOT_LAST),
+    (b"Transfer-Encoding: identity\r\n", NOT_CHUNKED),
+    (b"Transfer-Encoding: xchunked\r\n", NOT_CHUNKED),
+    (b"Transfer-Encoding: x chunked\r\n", NOT_CHUNKED),
+    (b"Transfer-Encoding: chunke\r\n", NOT_CHUNKED),
+    (b"Transfer-Encoding: chunked;a=b\r\n", NOT_CHUNKED),
+    (b"Transfer-Encoding: a;b=\"c, chunked\"\r\n", NOT_CHUNKED),
+    (b"Transfer-Encoding:\r\n", NOT_CHUNKED),
+    (b"Transfer-Encoding: ,\r\n", NOT_CHUNKED),
+    (b"Content-Length: 4\r\nTransfer-Encoding: chunked\r\n", BESIDE),
+    (b"TRANSFER-ENCODING: gzip\r\ncontent-length: a\r\n", BESIDE),
+    (b"X: Content-Length\r\nContent-Lengths: a\r\nTransfer-Encodings: a\r\n", None),
+    (b"Host: b\r\nContent-Length: a\r\n", MANY_HOSTS),
+];
+
+/// White space before a colon (section 5.1), and lone carriage returns (section 2.2): no heads.
+const NO_HEADS: &[&[u8]] = &[
+    b"GET / HTTP/1.1\r\nHost : a\r\n\r\n",
+    b"GET / HTTP/1.1\r\nHost\t: a\r\n\r\n",
+    b"GET / HTTP/1.1\r\nHost: a\r\nTransfer-Encoding : chunked\r\n\r\n",
+    b"GET / HTTP/1.1\r\nHost: a\rb\r\n\r\n",
+    b"GET / HTTP/1.1\r\nHost: a\r\r\n\r\n",
+    b"GET / HTTP/1.1\r\nHost: a\r\n\r",
+    b"GET /\r HTTP/1.1\r\nHost: a\r\n\r\n",
+];
+
+#[test]
+fn refusal_of_heads(rt: HostRuntime) {
+    for (text, want) in HEADS {
+        let mut input = *text;
+        let head = read_head(rt.alloc(), &mut input);
+        assert!(rt; head.is_ok_and(|it| refusal_of(&it) == *want), "{text:?}");
+    }
+}
+
+/// Checks the reason for which the request of a head is rejected.
+fn refuses(rt: &impl Abort, alloc: Global, text: &[u8], want: Option<Reason>) {
+    let mut input = text;
+    let head = read_head(alloc, &mut input);
+    assert!(rt; head.is_ok_and(|it| refusal_of(&it) == want), "{text:?}");
+}
+
+#[test]
+fn refusal_of_framings(rt: HostRuntime) {
+    for (fields, want) in FRAMINGS {
+        let mut text = Vec::new(rt.alloc());
+        assert!(rt; text.extend_from_slice(b"POST / HTTP/1.1\r\nHost: a\r\n").is_ok());
+        assert!(rt; text.extend_from_slice(fields).is_ok());
+        assert!(rt; text.extend_from_slice(b"\r\n").is_ok());
+        refuses(&rt, rt.alloc(), &text, *want);
+    }
+}
+
+#[test]
+fn refusal_of_a_coding_before_version_1_1(rt: HostRuntime) {
+    let text = b"POST / HTTP/1.0\r\nTransfer-Encoding: chunked\r\n\r\n";
+    let want = Some(Reason::Body(FramingError::CodingBeforeVersion));
+    refuses(&rt, rt.alloc(), text, want);
+}
+
+#[test]
+fn refusal_of_no_host_comes_first(rt: HostRuntime) {
+    let text = b"POST / HTTP/1.1\r\nContent-Length: a\r\nTransfer-Encoding: a\r\n\r\n";
+    refuses(&rt, rt.alloc(), text, NO_HOST);
+    let text = b"POST / HTTP/1.0\r\nContent-Length: a\r\n\r\n";
+    refuses(&rt, rt.alloc(), text, Some(Reason::Body(FramingError::LengthIsNoNumber)));
+}
+
+#[test]
+fn read_head_of_none(rt: HostRuntime) {
+    for text in NO_HEADS {
+        let mut input = *text;
+        assert!(rt; read_head(rt.alloc(), &mut input).is_err(), "{text:?}");
+    }
+}
+
+/// Field lines, each with its value and how many bytes are left behind it; or none.
+const FIELD_LINES: &[(&[u8], Option<(&[u8], &[u8], usize)>)] = &[
+    (b"Host: a\r\n", Some((b"Host", b"a", 0))),
+    (b"Host:a:b \t\r\nX: y\r\n", Some((b"Host", b"a:b", 6))),
+    (b"X:\r\n\r\n", Some((b"X", b"", 2))),
+    (b"Host : a\r\n", None),
+    (b"Host\t: a\r\n", None),
+    (b" Host: a\r\n", None),
+    (b"Host: a\rb\r\n", None),
+    (b"Ho\rst: a\r\n", None),
+    (b"Host: a\r\r\n", None),
+    (b": a\r\n", None),
+];
+
+#[test]
+fn read_field_line_of_lines(rt: HostRuntime) {
+    for (text, want) in FIELD_LINES {
+        let mut input = *text;
+        let found = match read_field_line(&mut input) {
+            Ok(field) => Some((field.name, field.value, input.len())),
+            Err(_) => None,
+        };
+        assert!(rt; found == *want, "{text:?}");
+    }
+}
