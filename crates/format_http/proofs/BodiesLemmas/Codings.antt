@@ -7,8 +7,8 @@ use Rattle.std.proofs.lemmas.List.{length-map}
 use Rattle.format_http.proofs.BodiesLemmas.Lengths.{both_ways}
 use Rattle.format_http.specs.Bodies.Lists.{IsElement, parts_of}
 use Rattle.format_http.specs.Bodies.Codings.{ChunkedIsFollowed, EndChunked, EndsName, EndsSo}
-use Rattle.format_http.specs.Bodies.Codings.{FollowsSo, HasChunked, HasCoding, HaveCoding, IsChunked}
-use Rattle.format_http.specs.Bodies.Codings.{NamesChunked}
+use Rattle.format_http.specs.Bodies.Codings.{FollowsSo, HasChunked, HasCoding, HaveCoding}
+use Rattle.format_http.specs.Bodies.Codings.{IsChunked, NamesChunked}
 use Rattle.format_http.specs.Bodies.Fields.{transfer_encoding}
 use Rattle.format_http.specs.Heads.Named.{IsNamed}
 use Rattle.format_http.specs.Heads.Head.{Pair}
