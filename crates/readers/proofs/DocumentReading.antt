@@ -1,19 +1,16 @@
 -- Lemmas about consecutive sections, and about a document.
 use Rattle.std.proofs.Common.{◌≡◌, ◌≤◌, ◌+◌, ◌∙◌, ◌⊎◌, ℕ, List, [], ◌∷◌, ◌++◌, length}
-use Rattle.std.proofs.Common.{Bool, true}
-use Rattle.std.proofs.Common.{false, Some, None, Ok, Err, refl, sym, ap, subst, arith, inl, inr}
+use Rattle.std.proofs.Common.{None, Ok, Err, refl, sym, ap, subst, arith, inl, inr}
 use Rattle.std.specs.Prelude.{map, Result}
 use Rattle.std.specs.Borrow.{MutBor}
 use Rattle.std.specs.Fn.{Mut}
 use Rattle.std.specs.List.{AllByRecursion}
 use Rattle.std.specs.declared.vec.Vec.{Vec}
 use Rattle.winnow.specs.Bytes.{bytes_input, bytes_reading}
-use Rattle.winnow.specs.Equal.{same_some}
 use Rattle.winnow.specs.Input.{Input, IsEndOf}
 use Rattle.winnow.specs.Kind.{Kind, backtrack, memory}
-use Rattle.winnow.specs.Form.{Answer, inner_kind_of, marked_kind}
+use Rattle.winnow.specs.Form.{Answer}
 use Rattle.winnow.specs.Form.Inversion.{at_output, ok_is_err, same_kind}
-use Rattle.winnow.specs.Mode.{as_inner}
 use Rattle.winnow.specs.Accumulator.{list_kept}
 use Rattle.winnow.specs.Range.{bounds_of}
 use Rattle.winnow.specs.{Range}
@@ -395,16 +392,3 @@ whole_document told input o j (ends, inl (all, parts, begins, texts, none, is)) 
     let P : List ℕ → Type 0 = λ l. BeginsDocument parts input l in
     (parts, subst P nothing begins, at_output (λ c. told c ≡ sections_of parts) is texts)
 whole_document told input o j (ends, inr (reaches, is)) nothing = ok_is_err refl is
-
-pub inner_memory : (k inner : Kind) → k ≡ memory → inner_kind_of k ≡ Some inner → inner ≡ memory
-inner_memory k inner is e =
-    let P : Kind → Type 0 = λ x. inner_kind_of x ≡ Some inner in
-    sym (same_some (subst P is e))
-
-pub marked_memory : (is_memory : Bool) → as_inner (marked_kind is_memory) ≡ memory
-    → marked_kind is_memory ≡ memory
-marked_memory true e = refl
-marked_memory false e = e
-
-pub inner_backtracks : (k : Kind) → Some backtrack ≡ Some (as_inner k) → k ≡ memory → ⊥
-inner_backtracks k told is = cc (same_some told ∙ ap as_inner is)

@@ -1,14 +1,29 @@
 use denote.Param.Always.{mut_total}
-use Rattle.std.proofs.Common.{◌+◌, ◌∙◌, ap, sym, length, inl, inr}
+use Rattle.std.proofs.Common.{◌≡◌, ◌+◌, ◌∙◌, Bool, Some, true, false, refl, ap, sym, subst, length}
+use Rattle.std.proofs.Common.{inl, inr}
 use Rattle.std.specs.Prelude.{map}
-use Rattle.winnow.specs.Equal.{true_is_false}
+use Rattle.winnow.specs.Equal.{same_some, true_is_false}
 use Rattle.winnow.specs.FuncCalls.{calls_with_leave, run_with_by}
 use Rattle.readers.specs.DocumentRuns.{DocumentRuns}
 use Rattle.readers.specs.Sections.{section_text}
 use Rattle.readers.proofs.DocumentReading.{whole_document, refused_document, document_fails}
-use Rattle.readers.proofs.DocumentReading.{inner_memory, marked_memory, inner_backtracks}
-use Rattle.winnow.specs.Form.{marked_kind}
+use Rattle.winnow.specs.Form.{inner_kind_of, marked_kind}
+use Rattle.winnow.specs.Kind.{Kind, backtrack, memory}
+use Rattle.winnow.specs.Mode.{as_inner}
 use Rattle.readers.proofs.ini.sections.document.Goals as goal
+
+inner_memory : (k inner : Kind) → k ≡ memory → inner_kind_of k ≡ Some inner → inner ≡ memory
+inner_memory k inner is e =
+    let P : Kind → Type 0 = λ x. inner_kind_of x ≡ Some inner in
+    sym (same_some (subst P is e))
+
+marked_memory : (is_memory : Bool) → as_inner (marked_kind is_memory) ≡ memory
+    → marked_kind is_memory ≡ memory
+marked_memory true e = refl
+marked_memory false e = e
+
+inner_backtracks : (k : Kind) → Some backtrack ≡ Some (as_inner k) → k ≡ memory → ⊥
+inner_backtracks k told is = cc (same_some told ∙ ap as_inner is)
 
 pub parse-requires-clause-callable : goal.parse-requires-clause-callable
 parse-requires-clause-callable g c =
