@@ -92,7 +92,7 @@ const FRAMINGS: &[(&[u8], Option<Reason>)] = &[
     (b"Host: b\r\nContent-Length: a\r\n", MANY_HOSTS),
 ];
 
-/// White space before a colon (section 5.1), and lone carriage returns (section 2.2): no heads.
+/// Whitespace before a colon (section 5.1), and lone carriage returns (section 2.2): no heads.
 const NO_HEADS: &[&[u8]] = &[
     b"GET / HTTP/1.1\r\nHost : a\r\n\r\n",
     b"GET / HTTP/1.1\r\nHost\t: a\r\n\r\n",

@@ -80,7 +80,7 @@ behind_byte these next b bytes is = (λ x. x.1, λ x. (is, x))
 -- ---- extensions
 
 module _ (next : List ℕ → Type 0) (b : ℕ) (bytes : List ℕ) where
-  -- white space before a mark
+  -- whitespace before a mark
   pub spaced_white : (mark : ℕ) → (b ≡ mark → ⊥) → IsWhite b
       → Spaced mark next (b ∷ bytes) ↔ Spaced mark next bytes
   spaced_white mark other is =

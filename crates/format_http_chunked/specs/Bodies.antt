@@ -74,7 +74,7 @@ SizeLine next bytes =
 
 -- ---- the trailer section: *( field-line CRLF )
 
--- field-name ":" OWS field-value OWS CRLF: the bytes of the value, and white space around it
+-- field-name ":" OWS field-value OWS CRLF: the bytes of the value, and whitespace around it
 abbrev pub FieldLine : (List ℕ → Type 0) → List ℕ → Type 0
 FieldLine next = Some IsTokenByte (Byte 58 (Many IsValueByte (LineEnd next)))
 

@@ -6,15 +6,15 @@
 pub(crate) enum InLine {
     /// After the size, or after a value in quotes.
     AfterSize,
-    /// After white space there.
+    /// After whitespace there.
     White,
-    /// After a semicolon, and white space.
+    /// After a semicolon, and whitespace.
     Semicolon,
     /// In a name.
     Name,
     /// After whitespace that follows a name.
     NameWhite,
-    /// After an equals sign, and white space.
+    /// After an equals sign, and whitespace.
     Equals,
     /// In a value that is a token.
     Token,
@@ -33,7 +33,7 @@ pub(crate) enum InField {
     Start,
     /// In a name.
     Name,
-    /// In a value, or in white space around it.
+    /// In a value, or in whitespace around it.
     Value,
     /// After the carriage return.
     Return,

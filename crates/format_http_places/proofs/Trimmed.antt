@@ -1,4 +1,4 @@
--- A text without the white space at both ends.
+-- A text without the whitespace at both ends.
 use Rattle.std.proofs.Common.{◌≡◌, ◌∙◌, ◌⊎◌, ◌≤◌, ◌<◌, ◌+◌, ◌-◌, ◌++◌, ◌∷◌, [], ap}
 use Rattle.std.proofs.Common.{ℕ, List}
 use Rattle.std.proofs.Common.{length, take, drop, sym, subst, arith, inl, inr, get_or}

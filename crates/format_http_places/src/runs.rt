@@ -101,7 +101,7 @@ pub(crate) fn value_len(bytes: &[u8]) -> usize
     at
 }
 
-/// How many bytes of white space.
+/// How many bytes of whitespace.
 #[inline(always)]
 fn white_len(bytes: &[u8]) -> usize
     ensures { SoMany IsWhite bytes.now result }

@@ -46,7 +46,8 @@ module _ (coding front back : List ℕ) (e : coding ≡ front ++ back) (long : l
 abbrev pub Has : Bool → List (List ℕ) → Type 0
 Has chunked parts = IsTrue chunked ⊎ HasChunked parts
 
--- What is so of these parts is so of the rest of them, after what was found in the others.
+-- The codings of the parts and of those before them, and those of the rest after the others that
+-- were read, have the same properties.
 pub record IsSame (before plain : Bool) (parts : List (List ℕ)) (now bare : Bool)
     (rest : List (List ℕ)) : Type 0 where
   pub follows : FollowsSo before parts ↔ FollowsSo now rest
@@ -192,7 +193,7 @@ module _ (before plain : Bool) (part : List ℕ) (more : List (List ℕ)) (codin
 
 -- ---- in fields
 
--- What is so of these fields is so of all, after what the others say.
+-- The codings of the remaining fields and of those before them have the properties of all.
 pub record AreSame (chunked plain : Bool) (fields all : List Pair) : Type 0 where
   pub follows : ((IsTrue chunked × HaveCoding fields) ⊎ ChunkedIsFollowed fields)
       ↔ ChunkedIsFollowed all

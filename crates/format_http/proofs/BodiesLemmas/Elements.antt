@@ -15,7 +15,7 @@ one_element e f part x y = value_one x.before e x.behind y.before f y.behind x.w
     x.white_behind y.white_before y.white_behind x.begins_bare x.ends_bare y.begins_bare
     y.ends_bare (sym x.splits ∙ y.splits)
 
--- White space was taken off the beginning so far.
+-- Whitespace was taken off the beginning so far.
 pub record IsDropped (left part : List ℕ) : Type 0 where
   pub before : List ℕ
   pub splits : part ≡ before ++ left
@@ -33,7 +33,7 @@ more_dropped b more left part is e white = record {
       (All-cons IsWhite b [] white (All-nil IsWhite));
 }
 
--- what begins with no white space and is trimmed is the element
+-- what begins with no whitespace and is trimmed is the element
 pub found_element : (b : ℕ) (more left part value : List ℕ) → IsDropped left part
     → left ≡ b ∷ more → (IsWhite b → ⊥) → IsTrimmed value left → IsElement value part
 found_element b more left part [] is e not trimmed =
@@ -57,7 +57,7 @@ all_dropped [] part is none =
     (All-append IsWhite is.before [] is.white (All-nil IsWhite))
 all_dropped (x ∷ left) part is none = absurd (omega (arith, none))
 
--- what is left of white space alone is the element
+-- what is left of whitespace alone is the element
 pub empty_element : (left part : List ℕ) → IsDropped left part → length left ≡ 0
     → IsElement left part
 empty_element [] part is none = record {

@@ -1,4 +1,4 @@
--- The white space at the end of a text.
+-- The whitespace at the end of a text.
 use Rattle.std.proofs.Common.{◌≡◌, ◌++◌, ℕ, List}
 use Rattle.std.specs.List.{All}
 use Rattle.format_http.specs.Heads.Bytes.{IsWhite}

@@ -24,7 +24,7 @@ white_end : (x : ℕ) (v : List ℕ) → All IsWhite (x ∷ v) → EndsBare (x �
 white_end x [] all ends = ends x [] refl (All-head IsWhite x [] all)
 white_end x (y ∷ v) all ends = white_end y v (All-tail IsWhite x (y ∷ v) all) (bare_tail x _ ends)
 
--- before white space one text ends bare
+-- before whitespace one text ends bare
 ends_one : (v w a b : List ℕ) → All IsWhite a → All IsWhite b → EndsBare v → EndsBare w
     → v ++ a ≡ w ++ b → v ≡ w
 ends_one [] [] a b p q ends other e = refl
@@ -38,7 +38,7 @@ ends_one (x ∷ v) (y ∷ w) a b p q ends other e =
 
 -- ---- both ends
 
--- nothing begins bare within white space
+-- nothing begins bare within whitespace
 none_bare : (a b c : List ℕ) (y : ℕ) (ys d : List ℕ) → All IsWhite a → All IsWhite b
     → BeginsBare (y ∷ ys) → a ++ b ≡ c ++ ((y ∷ ys) ++ d) → ⊥
 none_bare a b c y ys d p q begins e =
@@ -107,7 +107,7 @@ pub field_line_begins : (name value bytes rest more : List ℕ) → IsFieldLine 
 field_line_begins name value bytes rest more line =
     none_returns bytes (field_of name value) rest more line
 
--- ---- a field line as it is read: its text is the value, and white space after that
+-- ---- a field line as it is read: its text is the value, and whitespace after that
 
 pub record IsRead (name text bytes rest : List ℕ) : Type 0 where
   pub white : List ℕ
@@ -118,7 +118,7 @@ pub record IsRead (name text bytes rest : List ℕ) : Type 0 where
   pub is_value : All IsValueByte text
   pub bare : BeginsBare text
 
--- the text without the white space after it is the value
+-- the text without the whitespace after it is the value
 pub read_trimmed : (name text value bytes rest : List ℕ) → IsRead name text bytes rest
     → IsTrimmed value text → IsFieldLine name value bytes rest
 read_trimmed name text value bytes rest line it =
@@ -207,7 +207,7 @@ trimmed_some (x ∷ xs) = by (trimmed_some xs) (is_white x)
       },
     )
 
--- white space, and a text that begins with none
+-- whitespace, and a text that begins with none
 pub record IsShifted (front text all : List ℕ) : Type 0 where
   pub splits : all ≡ front ++ text
   pub white : All IsWhite front

@@ -18,7 +18,7 @@ IsTokenByte b =
 abbrev pub IsWhite : ℕ → Type 0
 IsWhite b = (b ≡ 32) ⊎ (b ≡ 9)
 
--- A byte of a value: visible, white space, or of 128 and above; no control but the tab.
+-- A byte of a value: visible, whitespace, or of 128 and above; no control but the tab.
 abbrev pub IsValueByte : ℕ → Type 0
 IsValueByte b = ((32 ≤ b) × (b ≡ 127 → ⊥)) ⊎ (b ≡ 9)
 

@@ -17,7 +17,7 @@ use Rattle.grammars.specs.Grammar.Inversion.{Byte, byte_stands, byte_unique, sta
 use Rattle.grammars.specs.Grammar.Unique.{both_unique, unique_by}
 use Rattle.grammars.specs.Texts.{NotFirst}
 
--- ---- a value, with the white space around it
+-- ---- a value, with the whitespace around it
 
 -- The bytes start with whitespace, a value and whitespace, not followed by another byte of a value.
 pub record ValueStands (bytes : List ℕ) (value : Bor (List ℕ)) (rest : List ℕ) : Type 0 where
@@ -68,7 +68,7 @@ value_there text value is bytes rest (white, t, mid, x, y, out) =
     }
 
 module _ (bytes rest : List ℕ) (stops : NotFirst IsValueByte rest) where
-  -- white space, and a text that begins with none
+  -- whitespace, and a text that begins with none
   read_of : (white text : List ℕ) → bytes ≡ white ++ (text ++ rest) → All IsWhite white
       → All IsValueByte text → NotFirst IsWhite (text ++ rest)
       → (slice : Bor (List ℕ)) × ValueRead bytes slice rest
@@ -101,7 +101,7 @@ module _ (bytes rest : List ℕ) (stops : NotFirst IsValueByte rest) where
   not_white [] not = tt
   not_white (b ∷ more) not = λ white. not (white_is_value b white)
 
-  -- where there is no value, all white space is before it
+  -- where there is no value, all whitespace is before it
   text_of : (value before behind : List ℕ) → bytes ≡ before ++ (value ++ (behind ++ rest))
       → All IsWhite before → All IsWhite behind → All IsValueByte value → BeginsBare value
       → (slice : Bor (List ℕ)) × ValueRead bytes slice rest

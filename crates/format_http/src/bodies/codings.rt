@@ -11,7 +11,7 @@ ghost use Rattle.std.specs.Prelude.{◌≡◌, ◌↔◌, ◌⊎◌, IfSome, IsT
 use crate::bodies::lists::{element_of, next_part};
 use crate::heads::field_line::Field;
 
-/// What the codings so far say of the last one.
+/// The last of the codings so far.
 #[derive(Clone, Copy, Drop)]
 struct Codings {
     /// It is `chunked`, with or without parameters.
@@ -48,8 +48,8 @@ fn is_chunked(coding: &[u8]) -> bool
     coding.eq_ignore_ascii_case(b"chunked".as_slice())
 }
 
-/// Returns what the codings so far and those of this list say of the last one, or `None` if a
-/// coding of the list comes after `chunked`. `before` is what those so far say.
+/// Returns the last of the codings so far and of those in this list, or `None` if a coding of the
+/// list comes after `chunked`. `before` is the last of those so far.
 fn codings_so_far(before: Codings, list: &[u8]) -> Option<Codings>
     ensures followed { result ≡ None → FollowsSo before.chunked (parts_of list.now) }
     ensures last { IfSome result (λ now. (FollowsSo before.chunked (parts_of list.now) → ⊥)

@@ -33,7 +33,7 @@ use winnow_token::token::take_while;
 pub struct Field<'i> {
     /// The name, a token of one byte or more.
     pub name: &'i [u8],
-    /// The value, without the white space around it. It may have no bytes.
+    /// The value, without the whitespace around it. It may have no bytes.
     pub value: &'i [u8],
 }
 
@@ -57,7 +57,7 @@ pub fn trimmed<'i>(text: &'i [u8]) -> &'i [u8]
     value
 }
 
-/// A value, and the white space around it.
+/// A value, and the whitespace around it.
 fn read_value<'i>(input: &mut &'i [u8]) -> Result<&'i [u8], ErrMode<EmptyError>>
     ensures reads { Reads bytes_reading ⟦<ErrMode<EmptyError> as HasKind>⟧.kind ValueStands
         (bytes_input input.old.now) result (bytes_input input.new.now) }

@@ -1,4 +1,4 @@
--- The codings that were read and those that are left say what all do.
+-- Loop invariant: the codings so far and the remaining parts have the properties of all parts.
 use Rattle.std.proofs.Common.{length}
 use Rattle.format_http.proofs.BodiesLemmas.Codings.{IsSame}
 use Rattle.format_http.specs.Bodies.Lists.{parts_in, parts_of}

@@ -1,4 +1,4 @@
--- The codings that were read, and the fields that are left, say what all do.
+-- Loop invariant: the codings so far and the remaining fields have the properties of all fields.
 use Rattle.std.proofs.Common.{drop}
 use Rattle.std.specs.Prelude.{map}
 use Rattle.format_http.proofs.BodiesLemmas.Codings.{AreSame}

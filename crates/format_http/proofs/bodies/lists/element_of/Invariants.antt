@@ -1,4 +1,4 @@
--- White space was taken off the beginning.
+-- Whitespace was taken off the beginning.
 use Rattle.std.proofs.Common.{length}
 use Rattle.format_http.proofs.BodiesLemmas.Elements.{IsDropped}
 use Rattle.format_http.proofs.bodies.lists.element_of.Given as goal

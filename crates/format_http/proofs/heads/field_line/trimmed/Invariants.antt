@@ -1,4 +1,4 @@
--- White space was taken off the end.
+-- Whitespace was taken off the end.
 use Rattle.std.proofs.Common.{length}
 use Rattle.format_http.proofs.HeadsLemmas.Trimmed.{IsCut}
 use Rattle.format_http.proofs.heads.field_line.trimmed.Given as goal
