@@ -16,7 +16,7 @@ use stream_errors::mode::ErrMode;
 use stream_errors::parser_error::ParserError;
 use streams::byte_stream::ByteStream;
 use streams::partial::Partial;
-use streams::stream::StreamIsPartial;
+use streams::stream::{Stream, StreamIsPartial};
 use winnow_bits::bits::impls::{Bits, Bool, Take};
 use winnow_bits::bits::{bits, take};
 use winnow_core::parser::Parser;
