@@ -32,7 +32,7 @@ use Rattle.winnow_expression_trees.specs.Alike.{AlikeFirst, AlikeInfix, AlikeNex
 use Rattle.winnow_expression_trees.specs.OneTree.Alike.{Decided}
 use Rattle.winnow_expression_trees.specs.Premises.{AlikePostfix, AlikePrefix, Decides}
 use Rattle.winnow_expression_trees.specs.Premises.{EquivalentResults, FoldAlike, FoldsAlike}
-use Rattle.winnow_expression_trees.specs.Premises.{IsStateless, NotMemory, Premises}
+use Rattle.winnow_expression_trees.specs.Premises.{NotMemory, Premises}
 use Rattle.winnow_expression_trees.specs.Premises.Laws.{both_err, both_ok}
 use Rattle.winnow_expression_trees.specs.Reading.{FirstStep, NextStep}
 use Rattle.winnow_expression_trees.proofs.Plain.{Plain, first_run}
@@ -239,7 +239,8 @@ module _ {S1 S2 S3 S4 T L V F G H : Type 0} (reading : Reading T L) (refusal : K
     (infix_ : Runs S4 T (Infix H)) (before : F → Input T → V → Answer V → Input T → Type 0)
     (behind : G → Input T → V → Answer V → Input T → Type 0)
     (between : H → Input T → V → V → Answer V → Input T → Type 0) (alike : V → V → Type 0)
-    (s1 : S1) (s2 : S2) (s3 : S3) (s4 : S4)
+    (eo : LeaveEnds reading operand) (ep : LeaveEnds reading prefix)
+    (eq : LeaveEnds reading postfix) (ei : LeaveEnds reading infix_) (s1 : S1) (s2 : S2) (s3 : S3) (s4 : S4)
     (pr : Premises alike operand prefix postfix infix_ behind
     (folding before between reading.units refusal) s1 s2 s3 s4) where
   abbrev parts : Grammar (S1 × S2) (S3 × S4) T V F G H
@@ -311,11 +312,9 @@ module _ {S1 S2 S3 S4 T L V F G H : Type 0} (reading : Reading T L) (refusal : K
       ok_is_err refl e
   neither_moves i j o p (inr (some, inr (inr (m, r, inr (inr (n, q, place, e)))))) is = absurd (cc)
 
-  pub plain_parts : LeaveEnds reading operand → LeaveEnds reading prefix
-      → LeaveEnds reading postfix → LeaveEnds reading infix_
-      → Plain parts alike (FoldAlike alike before) (FoldAlike alike behind)
+  pub plain_parts : Plain parts alike (FoldAlike alike before) (FoldAlike alike behind)
       (FoldsAlike alike between) states
-  plain_parts eo ep eq ei = record {
+  plain_parts = record {
     first_keeps = λ i j a t r n. (keeps_first i j a t r n).0;
     first_decided = first_decided alike (FoldAlike alike before) operand prefix s1 s2
         pr.operands.decided pr.prefixes.decided;

@@ -5,10 +5,10 @@ use Rattle.std.proofs.Common.{refl, sym, ◌∙◌, ap, subst, inl, inr, arith}
 use Rattle.std.specs.Int.Signed.{clash_ℤ}
 use Rattle.stream_errors.specs.Form.{Answer}
 use Rattle.streams.specs.Input.{Input}
-use Rattle.streams.specs.Kind.{Kind, memory}
+use Rattle.streams.specs.Kind.{memory}
 use Rattle.winnow_expression.specs.Units.{units_left}
 use Rattle.winnow_expression.specs.Calls.{Call, Open, call_at}
-use Rattle.winnow_expression.specs.Operators.{fold_of, left_power, right_power}
+use Rattle.winnow_expression.specs.Operators.{left_power, right_power}
 use Rattle.winnow_expression.specs.Grammar.{Grammar, TurnEnds}
 use Rattle.winnow_expression.specs.Expression.{CallRuns, TurnRuns, ResumeRuns, call_ends}
 use Rattle.winnow_expression.specs.Expression.{call_operand, call_prefix}

@@ -1,6 +1,6 @@
 -- The expression's call and the trees over its reading.
 use Rattle.std.specs.Prelude.{◌≡◌, ◌⊎◌, ℤ, Bool, Ok, Err, IsOk}
-use Rattle.std.proofs.Common.{refl, sym, subst, inl, inr}
+use Rattle.std.proofs.Common.{refl, subst, inl, inr}
 use Rattle.stream_errors.specs.Form.{Answer}
 use Rattle.stream_errors.specs.Form.Inversion.{ok_is_err, same_kind, same_output}
 use Rattle.streams.specs.Input.{Input}
