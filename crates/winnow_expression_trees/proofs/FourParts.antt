@@ -75,9 +75,11 @@ module _ {T A O : Type 0} (alike : A → A → Type 0) (also : O → O → Type 
   else_same (Err h) (Err l) m n a b j k (like, at) (inl (unlike, e, place)) (inl (not, f, here))
       na nb =
       (both_err also a b h l e f like, place ∙ at ∙ sym here)
-  else_same (Err h) (Err l) m n a b j k (like, at) (inl (unlike, e, place)) (inr (back, rest)) na nb =
+  else_same (Err h) (Err l) m n a b j k (like, at) (inl (unlike, e, place)) (inr (back, rest))
+        na nb =
       absurd (unlike (like ∙ back))
-  else_same (Err h) (Err l) m n a b j k (like, at) (inr (back, rest)) (inl (unlike, e, place)) na nb =
+  else_same (Err h) (Err l) m n a b j k (like, at) (inr (back, rest)) (inl (unlike, e, place))
+        na nb =
       absurd (unlike (sym like ∙ back))
   else_same (Err h) (Err l) m n a b j k (like, at) (inr (back, more)) (inr (too, rest)) na nb =
       both n a b j k (subst (λ z. later z a j) at more) rest na nb
@@ -240,7 +242,8 @@ module _ {S1 S2 S3 S4 T L V F G H : Type 0} (reading : Reading T L) (refusal : K
     (behind : G → Input T → V → Answer V → Input T → Type 0)
     (between : H → Input T → V → V → Answer V → Input T → Type 0) (alike : V → V → Type 0)
     (eo : LeaveEnds reading operand) (ep : LeaveEnds reading prefix)
-    (eq : LeaveEnds reading postfix) (ei : LeaveEnds reading infix_) (s1 : S1) (s2 : S2) (s3 : S3) (s4 : S4)
+    (eq : LeaveEnds reading postfix) (ei : LeaveEnds reading infix_) (s1 : S1) (s2 : S2)
+        (s3 : S3) (s4 : S4)
     (pr : Premises alike operand prefix postfix infix_ behind
     (folding before between reading.units refusal) s1 s2 s3 s4) where
   abbrev parts : Grammar (S1 × S2) (S3 × S4) T V F G H

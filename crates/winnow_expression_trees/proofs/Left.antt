@@ -1,5 +1,5 @@
 -- What a call has read: the tree before the next operator, and why it fails.
-use Rattle.std.specs.Prelude.{◌≡◌, ◌⊎◌, ℤ, Bool, true, false, Ok, Err}
+use Rattle.std.specs.Prelude.{◌≡◌, ◌⊎◌, ◌≤ℤ◌, ℤ, Bool, true, false, Some, Ok, Err}
 use Rattle.std.proofs.Common.{sym, subst, inl, inr}
 use Rattle.stream_errors.specs.Form.{Answer}
 use Rattle.streams.specs.Input.{Input}
@@ -12,7 +12,7 @@ use Rattle.winnow_expression.specs.declared.combinator.places.First.{First}
 use Rattle.winnow_expression.specs.declared.combinator.places.Next.{Next}
 use Rattle.winnow_expression_trees.specs.Alike.{AlikeTree}
 use Rattle.winnow_expression_trees.specs.Failure.{EndedBy, ReadsTo, RejectedBy, StartsOperand}
-use Rattle.winnow_expression_trees.specs.Failure.{Unmoved, begins_infix, begins_prefix}
+use Rattle.winnow_expression_trees.specs.Failure.{TakesLeft, Unmoved, begins_infix, begins_prefix}
 use Rattle.winnow_expression_trees.specs.Failure.{begins_whole, comes_infix, comes_operand}
 use Rattle.winnow_expression_trees.specs.Failure.{comes_postfix, comes_prefix, comes_start}
 use Rattle.winnow_expression_trees.specs.Keeps.{Above, Binds, Keeps, Outcome, Reaches}
@@ -20,7 +20,7 @@ use Rattle.winnow_expression_trees.specs.OneTree.TreeCalls.{Reads, Grows, grows_
 use Rattle.winnow_expression_trees.specs.OneTree.TreeCalls.{grows_ended, grows_infix}
 use Rattle.winnow_expression_trees.specs.OneTree.TreeCalls.{grows_postfix, grows_stop}
 use Rattle.winnow_expression_trees.specs.OneTree.Views.{Follows}
-use Rattle.winnow_expression_trees.specs.Reading.{FirstStep, NextStep, Over}
+use Rattle.winnow_expression_trees.specs.Reading.{FirstStep, NextStep, Over, power_of}
 use Rattle.winnow_expression_trees.specs.Tree.{Tree, leaf, before, behind, between, top_neither}
 use Rattle.winnow_expression_trees.specs.Value.{Value}
 use Rattle.winnow_expression_trees.proofs.Plain.{Plain}
@@ -148,12 +148,20 @@ module _ {S W T V F G H : Type 0} {g : Grammar S W T V F G H} {alike : V → V �
         comes_over first next start known.tree at i (comes_begins call.least at known.begins)
         known.over
 
+    -- an operator that reaches the call's least power takes it
+    pub left_takes : (call : Call) (at : Input T) (left : V) (i n : Input T) (x : Next G H) (p : ℤ)
+        (known : IsLeft call at left i) → next i x n → power_of x ≡ Some p → call.least ≤ℤ p
+        → TakesLeft call.least known.tree p
+    left_takes call at left i n x p known read is reaches =
+        (known.binds, known.reaches, reaches, known.above x n read p is)
+
     pub failed : (m : ℤ) (at : Input T) (a : Answer (V × Bool)) (k : Kind) (t : S × W)
         (j : Input T) → a ≡ Err k → ((k ≡ memory → ⊥) → Fails m at k j) → Told m at a t j
     failed m at a k t j e why = subst (λ z. Told m at z t j) (sym e) why
 
     -- the call ends before the next operator
-    pub stops : (call : Call) (at : Input T) (left : V) (i : Input T) (known : IsLeft call at left i)
+    pub stops : (call : Call) (at : Input T) (left : V) (i : Input T)
+        (known : IsLeft call at left i)
         (x : Next G H) (n j : Input T) (all : Bool) (a : Answer (V × Bool)) (t : S × W)
         → next i x n → Outcome all call.least known.tree x → j ≡ i → a ≡ Ok (left, all) → Kept t
         → Told call.least at a t j

@@ -32,7 +32,7 @@ use Rattle.winnow_expression_trees.specs.OneTree.Views.{Follows, infix_at, prefi
 use Rattle.winnow_expression_trees.specs.Reading.{FirstStep, NextStep, Over}
 use Rattle.winnow_expression_trees.specs.Tree.{Tree, before, between, top_neither}
 use Rattle.winnow_expression_trees.specs.Value.{Value}
-use Rattle.winnow_expression_trees.proofs.Left.{IsLeft, comes_left, value_alike}
+use Rattle.winnow_expression_trees.proofs.Left.{IsLeft, comes_left, left_takes, value_alike}
 use Rattle.winnow_expression_trees.proofs.Over.{no_turn_still, over_falls}
 use Rattle.winnow_expression_trees.proofs.Plain.{Plain, decided}
 
@@ -50,7 +50,8 @@ module _ {S W T V F G H : Type 0} {g : Grammar S W T V F G H} {alike : V → V �
   FoldFails (prefix_open fold) right k n z = g.folding.before fold n right (Err k) z
   FoldFails (infix_open left fold) right k n z = g.folding.between fold n left right (Err k) z
 
-  -- An operator is open: its right operand begins at `m`, with the least power `p`, and the call that
+  -- An operator is open: its right operand begins at `m`, with the least power `p`, and the call
+  -- that
   -- it interrupts began at `at`. From the tree of the right operand it builds that of the call.
   pub record Opened (x : Open V F H) (p : ℤ) (m at : Input T) : Type 0 where
     pub build : Tree V F G H → Tree V F G H
@@ -116,7 +117,8 @@ module _ {S W T V F G H : Type 0} {g : Grammar S W T V F G H} {alike : V → V �
     gives = λ r right v n z known closes. (
       (right, known, n, z, closes),
       (pr.befores fold fold
-          ((decided pr).firsts i m m (prefix_read p fold) (prefix_read p fold) read read).0.1).leaves
+          ((decided pr).firsts i m m (prefix_read p fold) (prefix_read p fold) read
+                  read).0.1).leaves
           right n z (Ok v) closes tt,
     );
     refuses = λ r right k n z all over keeps known closes other. inl (
@@ -219,12 +221,8 @@ module _ {S W T V F G H : Type 0} {g : Grammar S W T V F G H} {alike : V → V �
                   known.begins,
                   known.over,
                   (
-                    (
-                      known.binds,
-                      known.reaches,
-                      reach,
-                      known.above (infix_read o) m read (left_power o) refl,
-                    ),
+                    left_takes pr level start call at left i m (infix_read o) (left_power o)
+                        known read refl reach,
                     free,
                   ),
                   read,

@@ -31,15 +31,13 @@ use Rattle.winnow_expression_trees.specs.OneTree.Views.{grows_as, operand_at, po
 use Rattle.winnow_expression_trees.specs.Reading.{FirstStep, NextStep}
 use Rattle.winnow_expression_trees.specs.Tree.{leaf, behind, top_neither}
 use Rattle.winnow_expression_trees.proofs.Left.{Fails, IsLeft, Kept, Told, comes_begins, comes_left}
-use Rattle.winnow_expression_trees.proofs.Left.{failed, follows_value, grows_value, stops}
+use Rattle.winnow_expression_trees.proofs.Left.{failed, follows_value, grows_value, left_takes}
+use Rattle.winnow_expression_trees.proofs.Left.{stops}
 use Rattle.winnow_expression_trees.proofs.Left.{value_alike}
 use Rattle.winnow_expression_trees.proofs.Opened.{Opened, opened_infix, opened_prefix}
 use Rattle.winnow_expression_trees.proofs.Over.{no_postfix_still, no_turn_begun, over_falls}
 use Rattle.winnow_expression_trees.proofs.Plain.{Plain, decided, no_first, no_next, no_prefix}
 use Rattle.winnow_expression_trees.proofs.Plain.{own_first, own_next}
-
-none_is : {p : ℤ} → ◌≡◌ {A = Option ℤ} None (Some p) → ⊥
-none_is e = cc
 
 some_is : {p q : ℤ} → ◌≡◌ {A = Option ℤ} (Some p) (Some q) → p ≡ q
 some_is e = cc
@@ -61,7 +59,7 @@ module _ {S W T V F G H : Type 0} {g : Grammar S W T V F G H} {alike : V → V �
   turn_ends_told call at left s t i j a (inl (r, e)) kept es known =
       let own = own_next pr s.1 t.1 i j Nothing es.1 r in
       stops pr level start call at left i known Nothing j j false a t own.1
-      (λ p is. absurd (none_is is), known.above Nothing j own.1) (pr.nothing i j own.1) e
+      (λ p is. absurd (cc), known.above Nothing j own.1) (pr.nothing i j own.1) e
       (kept ∙ es.0, own.0)
   turn_ends_told call at left s t i j a (inr (inl (kind, r, e))) kept es known =
       let ran = subst (λ z. g.next z i (Err kind) t.1 j) es.1 r in
@@ -76,8 +74,7 @@ module _ {S W T V F G H : Type 0} {g : Grammar S W T V F G H} {alike : V → V �
   turn_ends_told call at left s t i j a (inr (inr (inl (power, fold, m, r, below, back, e)))) kept
       es known =
       let own = own_next pr s.1 t.1 i m (Postfix power fold) es.1 r in
-      stops pr level start call at left i known (Postfix power fold) m j false a t own.1
-      (
+      stops pr level start call at left i known (Postfix power fold) m j false a t own.1 (
         λ p is. subst (λ z. z <ℤ call.least) (some_is is) below,
         known.above (Postfix power fold) m own.1,
       )
@@ -98,12 +95,8 @@ module _ {S W T V F G H : Type 0} {g : Grammar S W T V F G H} {alike : V → V �
           left,
           known.begins,
           known.over,
-          (
-            known.binds,
-            known.reaches,
-            reaches,
-            known.above (Postfix power fold) m own.1 power refl,
-          ),
+          left_takes pr level start call at left i m (Postfix power fold) power known own.1 refl
+              reaches,
           own.1,
           known.value,
           folded,
@@ -149,8 +142,7 @@ module _ {S W T V F G H : Type 0} {g : Grammar S W T V F G H} {alike : V → V �
   turn_ends_told call at left s t i j a
       (inr (inr (inr (inr (inr (inl (o, m, r, below, back, e))))))) kept es known =
       let own = own_next pr s.1 t.1 i m (infix_read o) es.1 r in
-      stops pr level start call at left i known (infix_read o) m j false a t own.1
-      (
+      stops pr level start call at left i known (infix_read o) m j false a t own.1 (
         λ p is. subst (λ z. z <ℤ call.least) (some_is is) below,
         known.above (infix_read o) m own.1,
       )
@@ -158,12 +150,12 @@ module _ {S W T V F G H : Type 0} {g : Grammar S W T V F G H} {alike : V → V �
   turn_ends_told call at left s t i j a
       (inr (inr (inr (inr (inr (inr (inl (o, m, r, reaches, meets, back, e)))))))) kept es known =
       let own = own_next pr s.1 t.1 i m (infix_read o) es.1 r in
-      stops pr level start call at left i known (infix_read o) m j true a t own.1
-      (
+      stops pr level start call at left i known (infix_read o) m j true a t own.1 (
         o,
         refl,
         inr
-            (known.above (infix_read o) m own.1 (left_power o) refl, reaches, sym known.top ∙ meets),
+            (known.above (infix_read o) m own.1 (left_power o) refl, reaches,
+                  sym known.top ∙ meets),
       )
       (back ∙ pr.back i m (infix_read o) own.1) e (kept ∙ es.0, own.0)
   turn_ends_told call at left s t i j a
@@ -298,14 +290,10 @@ module _ {S W T V F G H : Type 0} {g : Grammar S W T V F G H} {alike : V → V �
         (subst (λ p. Told pr level start p m b w n) strong
         (call_told (call_at power (units_left g.folding.units m)) u m b w n inner
         (kept ∙ es.0, own.0) refl refl
-        (begins_infix call.least power at i m o known.tree left known.begins known.over known.value
-        (
-          (
-            known.binds,
-            known.reaches,
-            reaches,
-            known.above (infix_read o) m own.1 (left_power o) refl,
-          ),
+        (begins_infix call.least power at i m o known.tree left known.begins known.over
+                known.value (
+          left_takes pr level start call at left i m (infix_read o) (left_power o) known own.1 refl
+              reaches,
           free_,
         )
         own.1 strong)))

@@ -149,8 +149,28 @@ module _ {S W T V F G H : Type 0} {g : Grammar S W T V F G H} {alike : V â†’ V â
       no_error V k folds.1
   no_refusal (inr (inl (m, z, x, n, p, f, l, v, begins, over, takes, read, value, folds))) =
       no_error V k folds.1
-  no_refusal (inr (inr (m, z, x, n, y, o, l, r, all, v, w, begins, over, takes, read, more, keeps,
-      value, also, folds))) =
+  no_refusal (inr (inr (
+    m,
+    z,
+    x,
+    n,
+    y,
+    o,
+    l,
+    r,
+    all,
+    v,
+    w,
+    begins,
+    over,
+    takes,
+    read,
+    more,
+    keeps,
+    value,
+    also,
+    folds,
+  ))) =
       no_error V k folds.1
 
   pub failure_excludes : (r : Tree V F G H) (n : Input T) (all : Bool)
