@@ -6,6 +6,8 @@ use Rattle.stream_errors.specs.Form.Inversion.{ok_is_err}
 use Rattle.streams.specs.Input.{Input, IsEndOf, back_at, same_parts}
 use Rattle.streams.specs.Kind.{Kind, backtrack, memory}
 use Rattle.streams.specs.Reading.{Reading}
+use Rattle.winnow_core.specs.Decided.{EqualResults}
+use Rattle.winnow_core.specs.Decided.Inputs.{both_err, both_ok}
 use Rattle.winnow_core.specs.Ends.{same_units}
 use Rattle.winnow_core.specs.Runs.{LeaveEnds, Runs}
 use Rattle.winnow_expression.specs.Grammar.{Grammar, folding}
@@ -31,9 +33,8 @@ use Rattle.winnow_expression.specs.declared.combinator.places.Next.TheVariants.{
 use Rattle.winnow_expression_trees.specs.Alike.{AlikeFirst, AlikeInfix, AlikeNext}
 use Rattle.winnow_expression_trees.specs.OneTree.Alike.{Decided}
 use Rattle.winnow_expression_trees.specs.Premises.{AlikePostfix, AlikePrefix, Decides}
-use Rattle.winnow_expression_trees.specs.Premises.{EquivalentResults, FoldAlike, FoldsAlike}
+use Rattle.winnow_expression_trees.specs.Premises.{FoldAlike, FoldsAlike}
 use Rattle.winnow_expression_trees.specs.Premises.{NotMemory, Premises}
-use Rattle.winnow_expression_trees.specs.Premises.Laws.{both_err, both_ok}
 use Rattle.winnow_expression_trees.specs.Reading.{FirstStep, NextStep}
 use Rattle.winnow_expression_trees.proofs.Plain.{Plain, first_run}
 
@@ -57,7 +58,7 @@ module _ {T A O : Type 0} (alike : A → A → Type 0) (also : O → O → Type 
     (wider : (x y : A) → alike x y → also (take x) (take y))
     (later other : Input T → Answer O → Input T → Type 0)
     (both : (m : Input T) (a b : Answer O) (j k : Input T) → later m a j → other m b k
-    → NotMemory a → NotMemory b → EquivalentResults also a b × (j ≡ k)) where
+    → NotMemory a → NotMemory b → EqualResults also a b × (j ≡ k)) where
   -- one that runs out of memory fails so
   else_not : (next : Input T → Answer O → Input T → Type 0) (x : Answer A) (m : Input T)
       (a : Answer O) (j : Input T) → Else take next x m a j → NotMemory a → NotMemory x
@@ -66,20 +67,20 @@ module _ {T A O : Type 0} (alike : A → A → Type 0) (also : O → O → Type 
   else_not next (Err k) m a j (inr (back, more)) n = λ is. not_back (sym back ∙ is)
 
   else_same : (x y : Answer A) (m n : Input T) (a b : Answer O) (j k : Input T)
-      → EquivalentResults alike x y × (m ≡ n) → Else take later x m a j → Else take other y n b k
-      → NotMemory a → NotMemory b → EquivalentResults also a b × (j ≡ k)
+      → EqualResults alike x y × (m ≡ n) → Else take later x m a j → Else take other y n b k
+      → NotMemory a → NotMemory b → EqualResults also a b × (j ≡ k)
   else_same (Ok x) (Ok y) m n a b j k (like, at) (e, place) (f, here) na nb =
-      (both_ok also a b (take x) (take y) e f (wider x y like), place ∙ at ∙ sym here)
+      (both_ok also e f (wider x y like), place ∙ at ∙ sym here)
   else_same (Ok x) (Err l) m n a b j k (like, at) one two na nb = absurd like
   else_same (Err l) (Ok y) m n a b j k (like, at) one two na nb = absurd like
   else_same (Err h) (Err l) m n a b j k (like, at) (inl (unlike, e, place)) (inl (not, f, here))
       na nb =
-      (both_err also a b h l e f like, place ∙ at ∙ sym here)
+      (both_err also e f like, place ∙ at ∙ sym here)
   else_same (Err h) (Err l) m n a b j k (like, at) (inl (unlike, e, place)) (inr (back, rest))
-        na nb =
+      na nb =
       absurd (unlike (like ∙ back))
   else_same (Err h) (Err l) m n a b j k (like, at) (inr (back, rest)) (inl (unlike, e, place))
-        na nb =
+      na nb =
       absurd (unlike (sym like ∙ back))
   else_same (Err h) (Err l) m n a b j k (like, at) (inr (back, more)) (inr (too, rest)) na nb =
       both n a b j k (subst (λ z. later z a j) at more) rest na nb
@@ -88,7 +89,7 @@ module _ {T A O : Type 0} (alike : A → A → Type 0) (also : O → O → Type 
   else_decided : {S : Type 0} (run : Runs S T A) (s : S) → Decides alike run s → (i : Input T)
       (t u : S) (x y : Answer A) (m n : Input T) (a b : Answer O) (j k : Input T)
       → run s i x t m → run s i y u n → Else take later x m a j → Else take other y n b k
-      → NotMemory a → NotMemory b → EquivalentResults also a b × (j ≡ k)
+      → NotMemory a → NotMemory b → EqualResults also a b × (j ≡ k)
   else_decided run s d i t u x y m n a b j k r q one two na nb =
       else_same x y m n a b j k
       (d i m n x y t u r q (else_not later x m a j one na) (else_not other y n b k two nb)) one two
@@ -123,17 +124,17 @@ module _ {S W T V F : Type 0} (av : V → V → Type 0) (af : F → F → Type 0
   see_not (Err k) a e n = err_not e n
 
   see_same : (b c : Answer (Prefix F)) (x y : Answer (First V F)) → x ≡ see b → y ≡ see c
-      → EquivalentResults (AlikePrefix af) b c → EquivalentResults (AlikeFirst av af) x y
+      → EqualResults (AlikePrefix af) b c → EqualResults (AlikeFirst av af) x y
   see_same (Ok p) (Ok q) x y e f like =
-      both_ok (AlikeFirst av af) x y (prefix_read p.0 p.1) (prefix_read q.0 q.1) e f like
+      both_ok (AlikeFirst av af) e f like
   see_same (Ok p) (Err k) x y e f like = absurd like
   see_same (Err k) (Ok q) x y e f like = absurd like
-  see_same (Err k) (Err l) x y e f like = both_err (AlikeFirst av af) x y k l e f like
+  see_same (Err k) (Err l) x y e f like = both_err (AlikeFirst av af) e f like
 
   first_decided : Decides av operand s → Decides (AlikePrefix af) prefix w → (i j k : Input T)
       (a b : Answer (First V F)) (t u : S × W) → FirstRuns operand prefix (s, w) i a t j
       → FirstRuns operand prefix (s, w) i b u k → NotMemory a → NotMemory b
-      → EquivalentResults (AlikeFirst av af) a b × (j ≡ k)
+      → EqualResults (AlikeFirst av af) a b × (j ≡ k)
   first_decided po pp i j k a b t u one two na nb =
       let (x, m, r, told) = first_seen i a t j one in
       let (y, n, q, seen) = first_seen i b u k two in
@@ -172,10 +173,10 @@ module _ {S W T G H : Type 0} (ag : G → G → Type 0) (ah : H → H → Type 0
   next_decided : Decides (AlikePostfix ag) postfix s → Decides (AlikeInfix ah) infix_ w
       → (units : List T → ℕ) (i j k : Input T) (a b : Answer (Next G H)) (t u : S × W)
       → NextRuns units postfix infix_ (s, w) i a t j → NextRuns units postfix infix_ (s, w) i b u k
-      → NotMemory a → NotMemory b → EquivalentResults (AlikeNext ag ah) a b × (j ≡ k)
+      → NotMemory a → NotMemory b → EqualResults (AlikeNext ag ah) a b × (j ≡ k)
   next_decided pq pi units i j k a b t u (inl (none, e, kept, place)) (inl (too, f, more, here))
       na nb =
-      (both_ok (AlikeNext ag ah) a b Nothing Nothing e f tt, place ∙ sym here)
+      (both_ok (AlikeNext ag ah) e f tt, place ∙ sym here)
   next_decided pq pi units i j k a b t u (inl (none, e, kept, place)) (inr (some, more)) na nb =
       absurd (omega (arith, none, some))
   next_decided pq pi units i j k a b t u (inr (some, more)) (inl (none, e, kept, place)) na nb =
@@ -188,7 +189,7 @@ module _ {S W T G H : Type 0} (ag : G → G → Type 0) (ah : H → H → Type 0
       (λ m a b j k (c, n, r, told) (d, z, q, seen) na nb.
       else_decided (AlikeInfix ah) (AlikeNext ag ah) infix_read (λ v w e. e) (NoOperator i)
       (NoOperator i) (λ n a b j k (e, place) (f, here) na nb.
-      (both_ok (AlikeNext ag ah) a b Nothing Nothing e f tt, place ∙ sym here)) infix_ w pi
+      (both_ok (AlikeNext ag ah) e f tt, place ∙ sym here)) infix_ w pi
       (back_at i.left m) t.1 u.1 c d n z a b j k r q told seen na nb) postfix s pq i t.0 u.0 x y m
       n a b j k r q told seen na nb
 
@@ -243,7 +244,7 @@ module _ {S1 S2 S3 S4 T L V F G H : Type 0} (reading : Reading T L) (refusal : K
     (between : H → Input T → V → V → Answer V → Input T → Type 0) (alike : V → V → Type 0)
     (eo : LeaveEnds reading operand) (ep : LeaveEnds reading prefix)
     (eq : LeaveEnds reading postfix) (ei : LeaveEnds reading infix_) (s1 : S1) (s2 : S2)
-        (s3 : S3) (s4 : S4)
+    (s3 : S3) (s4 : S4)
     (pr : Premises alike operand prefix postfix infix_ behind
     (folding before between reading.units refusal) s1 s2 s3 s4) where
   abbrev parts : Grammar (S1 × S2) (S3 × S4) T V F G H

@@ -118,7 +118,7 @@ module _ {S W T V F G H : Type 0} {g : Grammar S W T V F G H} {alike : V → V �
       (right, known, n, z, closes),
       (pr.befores fold fold
           ((decided pr).firsts i m m (prefix_read p fold) (prefix_read p fold) read
-                  read).0.1).leaves
+          read).0.1).leaves
           right n z (Ok v) closes tt,
     );
     refuses = λ r right k n z all over keeps known closes other. inl (

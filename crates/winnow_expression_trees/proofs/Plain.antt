@@ -4,6 +4,7 @@ use Rattle.std.proofs.Common.{ap, subst, arith}
 use Rattle.stream_errors.specs.Form.{Answer}
 use Rattle.streams.specs.Input.{Input, back_at}
 use Rattle.streams.specs.Kind.{Kind, memory}
+use Rattle.winnow_core.specs.Decided.{EqualResults}
 use Rattle.winnow_expression.specs.Units.{units_left}
 use Rattle.winnow_expression.specs.Grammar.{Grammar}
 use Rattle.winnow_expression.specs.declared.combinator.places.First.{First}
@@ -16,7 +17,7 @@ use Rattle.winnow_expression.specs.declared.combinator.places.Next.TheVariants.{
 use Rattle.winnow_expression_trees.specs.OneTree.Alike.{Decided}
 use Rattle.winnow_expression_trees.specs.Alike.{AlikeFirst, AlikeNext}
 use Rattle.winnow_expression_trees.proofs.Over.{Moves}
-use Rattle.winnow_expression_trees.specs.Premises.{EquivalentResults, FoldAlike, FoldsAlike}
+use Rattle.winnow_expression_trees.specs.Premises.{FoldAlike, FoldsAlike}
 use Rattle.winnow_expression_trees.specs.Premises.{NotMemory}
 use Rattle.winnow_expression_trees.specs.Reading.{FirstStep, NextStep}
 
@@ -29,12 +30,12 @@ pub record Plain {S W T V F G H : Type 0} (g : Grammar S W T V F G H) (alike : V
       → NotMemory a → t ≡ s.0
   pub first_decided : (i j k : Input T) (a b : Answer (First V F)) (t u : S) → g.first s.0 i a t j
       → g.first s.0 i b u k → NotMemory a → NotMemory b
-      → EquivalentResults (AlikeFirst alike af) a b × (j ≡ k)
+      → EqualResults (AlikeFirst alike af) a b × (j ≡ k)
   pub next_keeps : (i j : Input T) (a : Answer (Next G H)) (t : W) → g.next s.1 i a t j
       → NotMemory a → t ≡ s.1
   pub next_decided : (i j k : Input T) (a b : Answer (Next G H)) (t u : W) → g.next s.1 i a t j
       → g.next s.1 i b u k → NotMemory a → NotMemory b
-      → EquivalentResults (AlikeNext ag ah) a b × (j ≡ k)
+      → EqualResults (AlikeNext ag ah) a b × (j ≡ k)
   pub nothing : (i j : Input T) → NextStep g s i Nothing j → j ≡ i
   pub back : (i j : Input T) (x : Next G H) → NextStep g s i x j → back_at i.left j ≡ i
   pub moves : Moves (units_left g.folding.units) (FirstStep g s) (NextStep g s)

@@ -153,9 +153,11 @@ module _ {S W T V F G H : Type 0} {g : Grammar S W T V F G H} {alike : V → V �
       stops pr level start call at left i known (infix_read o) m j true a t own.1 (
         o,
         refl,
-        inr
-            (known.above (infix_read o) m own.1 (left_power o) refl, reaches,
-                  sym known.top ∙ meets),
+        inr (
+          known.above (infix_read o) m own.1 (left_power o) refl,
+          reaches,
+          sym known.top ∙ meets,
+        ),
       )
       (back ∙ pr.back i m (infix_read o) own.1) e (kept ∙ es.0, own.0)
   turn_ends_told call at left s t i j a
@@ -291,7 +293,7 @@ module _ {S W T V F G H : Type 0} {g : Grammar S W T V F G H} {alike : V → V �
         (call_told (call_at power (units_left g.folding.units m)) u m b w n inner
         (kept ∙ es.0, own.0) refl refl
         (begins_infix call.least power at i m o known.tree left known.begins known.over
-                known.value (
+        known.value (
           left_takes pr level start call at left i m (infix_read o) (left_power o) known own.1 refl
               reaches,
           free_,

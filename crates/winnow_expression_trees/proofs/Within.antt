@@ -161,7 +161,7 @@ module _ {S W T V F G H : Type 0} (g : Grammar S W T V F G H) (first : Runs S T 
           subst (λ z. Refused k z) (sym same) refused,
         )
     resume_by _ _ _ _ _ _ _
-          (resume_ends x b a s t i j (inr (inl (v, all, l, e, folds, failed))) kept)
+        (resume_ends x b a s t i j (inr (inl (v, all, l, e, folds, failed))) kept)
         (k, is, refused) =
         ok_is_err e is
     resume_by _ _ _ _ _ _ _ (resume_ends x b a s t i j (inr (inr (v, w, e, folds, done))) kept)

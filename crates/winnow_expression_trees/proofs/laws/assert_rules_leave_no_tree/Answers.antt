@@ -25,9 +25,9 @@ returns g c =
           failure_excludes (plain s.0.0 s.0.1 s.1.0 s.1.1 pr) s.2 i k (t.0, t.1) j
           (asserting_accepts whole s i (Err k) t j runs).0;
       failures = λ s pr i k t j runs. failure_excludes (plain s.0.0 s.0.1 s.1.0 s.1.1 pr) s.2 i
-            k (t.0, t.1) j runs.0;
+          k (t.0, t.1) j runs.0;
       ends = λ s pr i k t j runs. failure_ended (plain s.0.0 s.0.1 s.1.0 s.1.1 pr) s.2 i k
-            (t.0, t.1) j runs.0;
+          (t.0, t.1) j runs.0;
       kind = failure_told whole;
       within = asserting_accepts whole;
       run = accepting_runs whole;

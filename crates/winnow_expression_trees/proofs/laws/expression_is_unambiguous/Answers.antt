@@ -19,7 +19,7 @@ returns g c =
           expression_exact (plain s.0.0 s.0.1 s.1.0 s.1.1 pr) s.2 i answer (t.0, t.1) j runs.0;
       fails = λ s pr i k t j runs.
           expression_fails k
-                (expression_exact (plain s.0.0 s.0.1 s.1.0 s.1.1 pr) s.2 i (Err k) (t.0, t.1) j
-                  runs.0);
+          (expression_exact (plain s.0.0 s.0.1 s.1.0 s.1.1 pr) s.2 i (Err k) (t.0, t.1) j
+          runs.0);
       ended = λ s pr. ends_once (plain s.0.0 s.0.1 s.1.0 s.1.1 pr);
     }
