@@ -2,7 +2,7 @@
 -- is expected, and neither an operand nor a prefix operator begins.
 use Rattle.std.specs.Prelude.{◌≡◌, ◌⊎◌, ℤ, Bool, true, false, List, Result, Ok, Err, IfErr}
 use Rattle.std.specs.Prelude.{⊤}
-use Rattle.std.proofs.Common.{refl, sym, ◌∙◌, ap, subst, inl, inr, arith}
+use Rattle.std.proofs.Common.{refl, sym, ◌∙◌, subst, inl, inr, arith}
 use Rattle.streams.specs.Input.{Input, back_at}
 use Rattle.streams.specs.Kind.{Kind, backtrack, cut, incomplete, memory}
 use Rattle.streams.specs.Reading.{Reading}
@@ -59,14 +59,14 @@ module _ {T V F G H L : Type 0} (reading : Reading T L) (refusal : Kind)
   first_items : (i j : Input T) (x : First V F) → whole.first (tt, tt) i (Ok x) (tt, tt) j
       → FirstItems operand prefix i.left.tokens x j.left.tokens
   first_items i j x read =
-      (first_read reading refusal operand prefix postfix infix_ one other two tt tt tt tt operands
-      prefixes postfixes infixes i j x read).0
+      (first_read reading refusal operand prefix postfix infix_ one other two states.0.0 states.0.1
+      states.1.0 states.1.1 operands prefixes postfixes infixes i j x read).0
 
   next_items : (i j : Input T) (x : Next G H) → NextStep whole states i x j
       → NextItems postfix infix_ i.left.tokens x j.left.tokens
   next_items i j x read =
-      (next_down reading refusal operand prefix postfix infix_ one other two tt tt tt tt operands
-      prefixes postfixes infixes i j x read).0
+      (next_down reading refusal operand prefix postfix infix_ one other two states.0.0 states.0.1
+      states.1.0 states.1.1 operands prefixes postfixes infixes i j x read).0
 
   -- ---- every operator consumes input, and no fold fails
 
