@@ -1,338 +1,261 @@
--- Open operators, and the ends of calls, with folds that never fail.
-use Rattle.std.specs.Prelude.{◌≡◌, ◌⊎◌, ◌≤ℤ◌, ◌<ℤ◌, ℕ, ℤ, Bool, false, Some, None, Ok}
-use Rattle.std.specs.Prelude.{Err}
-use Rattle.std.proofs.Common.{refl, sym, ◌∙◌, ap, subst, inl, inr}
-use Rattle.stream_errors.specs.Form.{Answer}
+-- Open operators: what a call reads after a right operand.
+use Rattle.std.specs.Prelude.{◌≡◌, ◌⊎◌, ◌≤ℤ◌, ◌<ℤ◌, ℕ, ℤ, Bool, Some, None, Ok, Err}
+use Rattle.std.proofs.Common.{refl, sym, ◌∙◌, ap, subst, inl, inr, arith}
+use Rattle.std.specs.Int.Signed.{clash_ℤ}
+use Rattle.stream_errors.specs.Form.Inversion.{ok_is_err, same_kind}
 use Rattle.streams.specs.Input.{Input}
-use Rattle.streams.specs.Kind.{Kind}
-use Rattle.winnow_expression.specs.Operators.{fold_of, left_power, neither_power, right_power}
-use Rattle.winnow_expression.specs.Grammar.{Grammar, Closes, TurnEnds}
-use Rattle.winnow_expression.specs.Expression.{ResumeRuns}
-use Rattle.winnow_expression.specs.Expression.{resume_ends}
-use Rattle.winnow_expression.specs.Expression.{resume_goes}
-use Rattle.winnow_expression.specs.declared.combinator.places.First.TheVariants.{
-  Prefix as prefix_read,
-}
-use Rattle.winnow_expression.specs.declared.combinator.places.Next.{Next}
-use Rattle.winnow_expression.specs.declared.combinator.places.Next.TheVariants.{Postfix}
-use Rattle.winnow_expression.specs.declared.combinator.places.Next.TheVariants.{Infix as infix_read}
-use Rattle.winnow_expression.specs.declared.combinator.operators.Infix.{Infix}
+use Rattle.streams.specs.Kind.{Kind, memory}
+use Rattle.winnow_expression.specs.Units.{units_left}
 use Rattle.winnow_expression.specs.Calls.{Call, Open}
+use Rattle.winnow_expression.specs.Operators.{fold_of, left_power, neither_power, right_power}
+use Rattle.winnow_expression.specs.Grammar.{Grammar, Closes}
+use Rattle.winnow_expression.specs.declared.combinator.operators.Infix.{Infix}
+use Rattle.winnow_expression.specs.declared.combinator.calls.Operator.{Operator}
 use Rattle.winnow_expression.specs.declared.combinator.calls.Operator.TheVariants.{
   Prefix as prefix_open,
 }
 use Rattle.winnow_expression.specs.declared.combinator.calls.Operator.TheVariants.{
   Infix as infix_open,
 }
-use Rattle.winnow_expression_trees.specs.Failure.{StartsOperand, InfixTakes, RejectedBy, TakesLeft}
-use Rattle.winnow_expression_trees.specs.Keeps.{Above, Binds, EdgeAbove, Keeps, Outcome, Reaches}
-use Rattle.winnow_expression_trees.specs.Premises.{FoldAlike, FoldsAlike}
-use Rattle.winnow_expression_trees.specs.Reading.{FirstStep, NextStep, Over, power_of}
+use Rattle.winnow_expression.specs.declared.combinator.places.First.{First}
+use Rattle.winnow_expression.specs.declared.combinator.places.First.TheVariants.{
+  Prefix as prefix_read,
+}
+use Rattle.winnow_expression.specs.declared.combinator.places.Next.{Next}
+use Rattle.winnow_expression.specs.declared.combinator.places.Next.TheVariants.{Infix as infix_read}
+use Rattle.winnow_expression_trees.specs.Alike.{AlikeTree}
+use Rattle.winnow_expression_trees.specs.Failure.{RejectedBy, StartsOperand, Unmoved}
+use Rattle.winnow_expression_trees.specs.Keeps.{Binds, EdgeAbove, Keeps, Meets, MeetsHere, Reaches}
+use Rattle.winnow_expression_trees.specs.OneTree.Alike.{alike_top}
+use Rattle.winnow_expression_trees.specs.OneTree.TreeCalls.{Reads}
+use Rattle.winnow_expression_trees.specs.OneTree.Views.{Follows, infix_at, prefix_at}
+use Rattle.winnow_expression_trees.specs.Reading.{FirstStep, NextStep, Over}
 use Rattle.winnow_expression_trees.specs.Tree.{Tree, before, between, top_neither}
 use Rattle.winnow_expression_trees.specs.Value.{Value}
-use Rattle.winnow_expression_trees.proofs.Closing.{clash}
-use Rattle.winnow_expression_trees.specs.OneTree.Exact.{above_later}
-use Rattle.winnow_expression_trees.proofs.Fails.{err_ok, err_same}
-use Rattle.winnow_expression_trees.proofs.Finds.{between_closes}
-use Rattle.winnow_expression_trees.proofs.Plain.{Plain, decided, own_next}
-use Rattle.winnow_expression_trees.proofs.AnyFolds.{any_value, unrefusing}
+use Rattle.winnow_expression_trees.proofs.Left.{IsLeft, comes_left, left_takes, value_alike}
+use Rattle.winnow_expression_trees.proofs.Over.{no_turn_still, over_falls}
+use Rattle.winnow_expression_trees.proofs.Plain.{Plain, decided}
 
--- The fold of an operator fails, and this is the result.
-abbrev pub FoldFails : {S W T V F G H O : Type 0} → Grammar S W T V F G H → S × W → ℤ → Input T
-    → Answer O → Input T → Type 0
-FoldFails g s0 level start a j = (k : Kind) × (a ≡ Err k) × RejectedBy g s0 level start k j
+module _ {S W T V F G H : Type 0} {g : Grammar S W T V F G H} {alike : V → V → Type 0}
+    {af : F → F → Type 0} {ag : G → G → Type 0} {ah : H → H → Type 0} {s0 : S × W}
+    (pr : Plain g alike af ag ah s0) (level : ℤ) (start : Input T) where
+  abbrev first : Input T → First V F → Input T → Type 0
+  first = FirstStep g s0
 
--- A left operand that a call has read. It respects precedence so far, no operator that may be read
--- next binds within its right edge, and it has a value.
-pub record IsLeft {S W T V F G H : Type 0} (g : Grammar S W T V F G H) (s0 : S × W) (level : ℤ)
-    (start : Input T) (call : Call) (left : V) (i : Input T) : Type 0 where
-  pub at : Input T
-  pub tree : Tree V F G H
-  pub begins : StartsOperand g s0 level start call.least at
-  pub over : Over (FirstStep g s0) (NextStep g s0) tree at i
-  pub binds : Binds tree
-  pub reaches : Reaches call.least tree
-  pub above : (x : Next G H) (n : Input T) → NextStep g s0 i x n → Above tree x
-  pub top : call.neither ≡ top_neither tree
-  pub value : Value g tree left
+  abbrev next : Input T → Next G H → Input T → Type 0
+  next = NextStep g s0
 
--- The result of folding an open operator after a right operand: a left operand of the call that it
--- interrupted, if that continues. With folds that never fail it is folded too.
-pub record Opened {S W T V F G H : Type 0} (g : Grammar S W T V F G H) (s0 : S × W) (level : ℤ)
-    (start : Input T) (x : Open V F H) (i : Input T) (right : V) (all : Bool) : Type 0 where
-  pub left : (v : V) (m : Input T) → all ≡ false
-      → Closes g.folding x.operator x.call.turn i right (Ok v) m
-      → IsLeft g s0 level start x.call v m
-  pub place : (v : V) (m : Input T)
-      → Closes g.folding x.operator x.call.turn i right (Ok v) m → m ≡ i
-  pub gives : (v : V) (m : Input T)
-      → Closes g.folding x.operator x.call.turn i right (Ok v) m
-      → Closes (unrefusing g).folding x.operator x.call.turn i right (Ok v) m
-  pub refuses : (k : Kind) (m : Input T)
-      → Closes g.folding x.operator x.call.turn i right (Err k) m
-      → Closes (unrefusing g).folding x.operator x.call.turn i right (Err k) m
-      ⊎ RejectedBy g s0 level start k m
+  -- its fold fails, for the value of the right operand
+  abbrev FoldFails : Operator V F H → V → Kind → Input T → Input T → Type 0
+  FoldFails (prefix_open fold) right k n z = g.folding.before fold n right (Err k) z
+  FoldFails (infix_open left fold) right k n z = g.folding.between fold n left right (Err k) z
 
-module _ {S W T V F G H : Type 0} (g : Grammar S W T V F G H) (alike : V → V → Type 0) (s0 : S × W)
-    (pr : Plain g alike s0) (level : ℤ) (start : Input T) where
-  abbrev BeginsAt : ℤ → Input T → Type 0
-  BeginsAt m k = StartsOperand g s0 level start m k
+  -- An operator is open: its right operand begins at `m`, with the least power `p`, and the call
+  -- that
+  -- it interrupts began at `at`. From the tree of the right operand it builds that of the call.
+  pub record Opened (x : Open V F H) (p : ℤ) (m at : Input T) : Type 0 where
+    pub build : Tree V F G H → Tree V F G H
+    -- each tree that the call may read has one that the right operand may read
+    pub sees : (r : Tree V F G H) (n : Input T) (b : Bool) → Reads first next x.call.least at r n b
+        → (q t : Tree V F G H) × (z : Input T) × (c : Bool) × Reads first next p m q z c
+        × ((u : Tree V F G H) → AlikeTree alike af ag ah u q → AlikeTree alike af ag ah (build u) t)
+        × Follows first next x.call.least t z r n c b
+        × ((y : V) → Value g t y → (w : V) × Value g q w
+        × ((right : V) (k : Kind) (e j : Input T) → alike right w → FoldFails x.operator right k e j
+        → (k ≡ memory → ⊥) → ⊥))
+    pub begins : StartsOperand g s0 level start x.call.least at
+    pub began : x.call.began ≡ units_left g.folding.units at
+    pub over : (r : Tree V F G H) (n : Input T) → Over first next r m n
+        → Over first next (build r) at n
+    pub binds : (r : Tree V F G H) → Binds r → Reaches p r → Binds (build r)
+    pub reaches : (r : Tree V F G H) → Reaches x.call.least (build r)
+    pub top : (r : Tree V F G H) → x.call.neither ≡ top_neither (build r)
+    pub above : (r : Tree V F G H) (q : ℤ) → q <ℤ p → EdgeAbove r q → EdgeAbove (build r) q
+    pub meets : (r : Tree V F G H) (q : ℤ) → Meets r q ⊎ MeetsHere p r q → Meets (build r) q
+    pub gives : (r : Tree V F G H) (right v : V) (n z : Input T) → Value g r right
+        → Closes g.folding x.operator x.call.turn n right (Ok v) z
+        → Value g (build r) v × (z ≡ n)
+    pub refuses : (r : Tree V F G H) (right : V) (k : Kind) (n z : Input T) (all : Bool)
+        → Over first next r m n → Keeps next p r n all → Value g r right
+        → Closes g.folding x.operator x.call.turn n right (Err k) z → (k ≡ memory → ⊥)
+        → (RejectedBy g s0 level start k z × FoldFails x.operator right k n z)
+        ⊎ (Unmoved g s0 start × ((u : Tree V F G H) (e : Input T) (b : Bool)
+        → Reads first next x.call.least at u e b → ⊥))
 
-  abbrev LeftOf : Call → V → Input T → Type 0
-  LeftOf call left i = IsLeft g s0 level start call left i
+  pub opened_prefix : (call : Call) (fold : F) (p : ℤ) (i m : Input T)
+      → first i (prefix_read p fold) m → StartsOperand g s0 level start call.least i
+      → call.began ≡ units_left g.folding.units i → call.neither ≡ None
+      → Opened (record { operator = prefix_open fold; call = call }) p m i
+  opened_prefix call fold p i m read begins began none = record {
+    build = λ r. before p fold r;
+    sees = λ r n b reads.
+        let (h, q, z, c, like, also, more, follows) =
+        prefix_at (decided pr) call.least i r n b p fold m reads read in (
+          q,
+          before p h q,
+          z,
+          c,
+          more,
+          λ u same. (refl, like, same),
+          follows,
+          λ y (w, known, k, l, does). (
+            w,
+            known,
+            λ right kind e j right_like folded other.
+                (pr.befores fold h like).same right w e j k l (Err kind) (Ok y) right_like folded
+                does other tt,
+          ),
+        );
+    begins = begins;
+    began = began;
+    over = λ r n over. (m, read, over);
+    binds = λ r b e. (b, e);
+    reaches = λ r. tt;
+    top = λ r. none;
+    above = λ r q less up. (less, up);
+    meets = λ r q met. met;
+    gives = λ r right v n z known closes. (
+      (right, known, n, z, closes),
+      (pr.befores fold fold
+          ((decided pr).firsts i m m (prefix_read p fold) (prefix_read p fold) read
+          read).0.1).leaves
+          right n z (Ok v) closes tt,
+    );
+    refuses = λ r right k n z all over keeps known closes other. inl (
+      inl
+          (call.least, i, m, n, p, fold, r, all, right, begins, read, over, keeps, known, closes),
+      closes,
+    );
+  }
 
-  abbrev OverFrom : Tree V F G H → Input T → Input T → Type 0
-  OverFrom l k i = Over (FirstStep g s0) (NextStep g s0) l k i
-
-  -- what is read after a right operand does not bind within it
-  not_within : (p : ℤ) (r : Tree V F G H) (n : Input T) (all : Bool)
-      → Keeps (NextStep g s0) p r n all → all ≡ false → (x : Next G H) (k : Input T)
-      → NextStep g s0 n x k → (q : ℤ) → power_of x ≡ Some q → (q <ℤ p) × EdgeAbove r q
-  not_within p r n all keeps ended x k read q is =
-      let E : Bool → Type 0 = λ b. Outcome b p r keeps.then_read in
-      above_later alike (FoldAlike alike g.folding.before) (FoldAlike alike g.behind)
-      (FoldsAlike alike g.folding.between) (FirstStep g s0) (NextStep g s0)
-      (decided g alike s0 pr) p r n keeps.then_at k keeps.then_read x keeps.reads
-      (subst E ended keeps.ends) read q is
-
-  pub left_takes : (call : Call) (left : V) (i n : Input T) (x : Next G H) (p : ℤ)
-      (known : LeftOf call left i) → NextStep g s0 i x n → power_of x ≡ Some p → call.least ≤ℤ p
-      → TakesLeft call.least known.tree p
-  left_takes call left i n x p known read is reaches =
-      (known.binds, known.reaches, reaches, known.above x n read p is)
-
-  pub infix_takes : (call : Call) (left : V) (i n : Input T) (o : Infix H)
-      (known : LeftOf call left i) → NextStep g s0 i (infix_read o) n
-      → call.least ≤ℤ left_power o → (call.neither ≡ Some (left_power o) → ⊥)
-      → InfixTakes call.least known.tree o
-  infix_takes call left i n o known read reaches free = (
-    left_takes call left i n (infix_read o) (left_power o) known read refl reaches,
-    λ met. free (known.top ∙ met),
-  )
-
-  pub opened_prefix : (x : Open V F H) (call : Call) (fold : F) (power : ℤ) (i m n : Input T)
-      (right : V) (r : Tree V F G H) (all : Bool)
-      → x ≡ record { operator = prefix_open fold; call = call } → call.neither ≡ None
-      → FoldAlike alike g.folding.before fold fold → BeginsAt call.least i
-      → FirstStep g s0 i (prefix_read power fold) m → OverFrom r m n
-      → Keeps (NextStep g s0) power r n all → Value g r right
-      → Opened g s0 level start x n right all
-  opened_prefix x call fold power i m n right r all is none still begins read over keeps known =
-      let C : Answer V → Input T → Open _ _ _ → Type 0 =
-      λ c z y. Closes g.folding y.operator y.call.turn n right c z in
-      let D : Answer V → Input T → Open _ _ _ → Type 0 =
-      λ c z y. Closes (unrefusing g).folding y.operator y.call.turn n right c z in
-      let stays : (v : V) (z : Input T)
-      → Closes g.folding x.operator x.call.turn n right (Ok v) z → z ≡ n =
-      λ v z closes. still.leaves right n z (Ok v) (subst (C (Ok v) z) is closes) tt in
-      record {
-        left = λ v z ended closes.
-            let here : LeftOf call v n = record {
-              at = i;
-              tree = before power fold r;
-              begins = begins;
-              over = (m, read, over);
-              binds = (keeps.binds, keeps.reaches);
-              reaches = tt;
-              above = λ y k next q e. not_within power r n all keeps ended y k next q e;
-              top = none;
-              value = (right, known, n, z, subst (C (Ok v) z) is closes);
-            } in
-            subst (λ y. LeftOf y v z) (sym (ap (λ y. y.call) is))
-            (subst (λ y. LeftOf call v y) (sym (stays v z closes)) here);
-        place = stays;
-        gives = λ v z closes. subst (D (Ok v) z) (sym is) (v, refl, stays v z closes);
-        refuses = λ k z closes. inr (inl (
-          call.least,
-          i,
-          m,
-          n,
-          power,
-          fold,
-          r,
-          all,
-          right,
-          begins,
-          read,
-          over,
-          keeps,
-          known,
-          subst (C (Err k) z) is closes,
-        ));
-      }
-
-  infix_gives : (fold : H) (left right v : V) (turn : ℕ) (n z : Input T) → z ≡ n
+  infix_folds : (fold : H) (left right v : V) (turn : ℕ) (n z : Input T)
       → Closes g.folding (infix_open left fold) turn n right (Ok v) z
-      → Closes (unrefusing g).folding (infix_open left fold) turn n right (Ok v) z
-  infix_gives fold left right v turn n z place (inl (k, folded, e)) = absurd (err_ok (sym e))
-  infix_gives fold left right v turn n z place (inr (inl (w, folded, same, e))) =
-      absurd (err_ok (sym e))
-  infix_gives fold left right v turn n z place (inr (inr (w, folded, moved, e))) =
-      inr (inr (w, (w, refl, place), moved, e))
+      → g.folding.between fold n left right (Ok v) z
+  infix_folds fold left right v turn n z (inl (k, folded, e)) = ok_is_err refl e
+  infix_folds fold left right v turn n z (inr (inl (w, folded, same, e))) = ok_is_err refl e
+  infix_folds fold left right v turn n z (inr (inr (w, folded, moved, e))) =
+      let is : w ≡ v = cc in subst (λ x. g.folding.between fold n left right (Ok x) z) is folded
 
-  infix_refuses : (fold : H) (left right : V) (turn : ℕ) (k : Kind) (n z : Input T)
-      → FoldsAlike alike g.folding.between fold fold
-      → (g.folding.between fold n left right (Err k) z → RejectedBy g s0 level start k z)
+  infix_fails : (fold : H) (left right : V) (turn : ℕ) (k : Kind) (n z : Input T)
       → Closes g.folding (infix_open left fold) turn n right (Err k) z
-      → Closes (unrefusing g).folding (infix_open left fold) turn n right (Err k) z
-      ⊎ RejectedBy g s0 level start k z
-  infix_refuses fold left right turn k n z still says (inl (l, folded, e)) =
-      inr (says (subst (λ y. g.folding.between fold n left right (Err y) z)
-      (sym (err_same refl e)) folded))
-  infix_refuses fold left right turn k n z still says (inr (inl (w, folded, same, e))) =
-      inl (inr (inl (w, (w, refl, still.leaves left right n z (Ok w) folded tt), same, e)))
-  infix_refuses fold left right turn k n z still says (inr (inr (w, folded, moved, e))) =
-      absurd (err_ok e)
+      → g.folding.between fold n left right (Err k) z
+      ⊎ ((v : V) × g.folding.between fold n left right (Ok v) z
+      × (units_left g.folding.units z ≡ turn))
+  infix_fails fold left right turn k n z (inl (l, folded, e)) =
+      inl (subst (λ x. g.folding.between fold n left right (Err x) z) (sym (same_kind e)) folded)
+  infix_fails fold left right turn k n z (inr (inl (v, folded, same, e))) = inr (v, folded, same)
+  infix_fails fold left right turn k n z (inr (inr (v, folded, moved, e))) =
+      ok_is_err refl (sym e)
 
-  pub opened_infix : (x : Open V F H) (call : Call) (o : Infix H) (turn : ℕ) (i m n : Input T)
-      (left right : V) (r : Tree V F G H) (all : Bool)
-      → x ≡ record {
+  pub opened_infix : (call : Call) (at : Input T) (left : V) (i : Input T) (o : Infix H)
+      (m : Input T) (known : IsLeft pr level start call at left i) → next i (infix_read o) m
+      → call.least ≤ℤ left_power o → (top_neither known.tree ≡ Some (left_power o) → ⊥)
+      → Opened (record {
         operator = infix_open left (fold_of o);
-        call = record call { turn = turn; neither = neither_power o };
-      }
-      → FoldsAlike alike g.folding.between (fold_of o) (fold_of o)
-      → (known : LeftOf call left i) → InfixTakes call.least known.tree o
-      → NextStep g s0 i (infix_read o) m → OverFrom r m n
-      → Keeps (NextStep g s0) (right_power o) r n all → Value g r right
-      → Opened g s0 level start x n right all
-  opened_infix x call o turn i m n left right r all is still known takes read over keeps other =
-      let C : Answer V → Input T → Open _ _ _ → Type 0 =
-      λ c z y. Closes g.folding y.operator y.call.turn n right c z in
-      let D : Answer V → Input T → Open _ _ _ → Type 0 =
-      λ c z y. Closes (unrefusing g).folding y.operator y.call.turn n right c z in
-      let down : (c : Answer V) (z : Input T)
-      → Closes g.folding x.operator x.call.turn n right c z
-      → Closes g.folding (infix_open left (fold_of o)) turn n right c z =
-      λ c z closes. subst (C c z) is closes in
-      let up : (c : Answer V) (z : Input T)
-      → Closes (unrefusing g).folding (infix_open left (fold_of o)) turn n right c z
-      → Closes (unrefusing g).folding x.operator x.call.turn n right c z =
-      λ c z closes. subst (D c z) (sym is) closes in
-      let folds : (v : V) (z : Input T)
-      → Closes g.folding x.operator x.call.turn n right (Ok v) z
-      → g.folding.between (fold_of o) n left right (Ok v) z =
-      λ v z closes. between_closes g.folding left right v (fold_of o) turn n z
-      (down (Ok v) z closes) in
-      let stays : (v : V) (z : Input T)
-      → Closes g.folding x.operator x.call.turn n right (Ok v) z → z ≡ n =
-      λ v z closes. still.leaves left right n z (Ok v) (folds v z closes) tt in
-      let later : Call = record call { turn = turn; neither = neither_power o } in
+        call = record call {
+          turn = units_left g.folding.units i;
+          neither = neither_power o;
+        };
+      }) (right_power o) m at
+  opened_infix call at left i o m known read reach free =
+      let stays = (pr.betweens (fold_of o) (fold_of o)
+      ((decided pr).nexts i m m (infix_read o) (infix_read o) read read).0.3).leaves in
       record {
-        left = λ v z ended closes.
-            let here : LeftOf later v n = record {
-              at = known.at;
-              tree = between o known.tree r;
-              begins = known.begins;
-              over = (i, m, known.over, read, over);
-              binds = (known.binds, keeps.binds, takes.0.3, takes.1, keeps.reaches);
-              reaches = (takes.0.2, known.reaches);
-              above = λ y k next q e. not_within (right_power o) r n all keeps ended y k next q e;
-              top = refl;
-              value = (left, right, known.value, other, n, z, folds v z closes);
-            } in
-            subst (λ y. LeftOf y v z) (sym (ap (λ y. y.call) is))
-            (subst (λ y. LeftOf later v y) (sym (stays v z closes)) here);
-        place = stays;
-        gives = λ v z closes. up (Ok v) z
-            (infix_gives (fold_of o) left right v turn n z (stays v z closes)
-            (down (Ok v) z closes));
-        refuses = λ kind z closes. elim
-            (infix_refuses (fold_of o) left right turn kind n z still
-            (λ folded. inr (inr (
-              call.least,
-              known.at,
-              i,
-              m,
-              n,
-              o,
-              known.tree,
-              r,
-              all,
-              left,
-              right,
-              known.begins,
-              known.over,
-              takes,
-              read,
-              over,
-              keeps,
-              known.value,
-              other,
-              folded,
-            ))) (down (Err kind) z closes))
-            [ inl more ↦ inl (up (Err kind) z more) | inr refused ↦ inr refused ];
+        build = λ r. between o known.tree r;
+        sees = λ r n b reads.
+            let (l, like, grows) = known.sees r n b reads in
+            let (y, also, other, goes) =
+            infix_at (decided pr) call.least l i r n b o m grows read in
+            elim goes [
+              | inl (less, stops) ↦ clash_ℤ less reach
+              | inr (inl (reaches, tops, stops)) ↦
+                  absurd (free (alike_top alike af ag ah known.tree l like ∙ tops))
+              | inr (inr (reaches, free_, q, z, c, more, follows)) ↦ (
+                q,
+                between y l q,
+                z,
+                c,
+                more,
+                λ u same. (also, like, same),
+                follows,
+                λ v (x, w, one, two, k, j, does). (
+                  w,
+                  two,
+                  λ right kind e f right_like folded other_.
+                      (pr.betweens (fold_of o) (fold_of y) also.3).same left right x w e f k j
+                      (Err kind) (Ok v) (value_alike pr known.tree l like left x known.value one)
+                      right_like folded does other_ tt,
+                ),
+              )
+            ];
+        begins = known.begins;
+        began = known.began;
+        over = λ r n over. (i, m, known.over, read, over);
+        binds = λ r b e.
+            (known.binds, b, known.above (infix_read o) m read (left_power o) refl, free, e);
+        reaches = λ r. (reach, known.reaches);
+        top = λ r. refl;
+        above = λ r q less up. (less, up);
+        meets = λ r q met. met;
+        gives = λ r right v n z value closes.
+            let folded = infix_folds (fold_of o) left right v (units_left g.folding.units i) n z
+            closes in (
+              (left, right, known.value, value, n, z, folded),
+              stays left right n z (Ok v) folded tt,
+            );
+        refuses = λ r right k n z all over keeps value closes other.
+            elim (infix_fails (fold_of o) left right (units_left g.folding.units i) k n z closes) [
+              | inl folded ↦ inl (
+                inr (inr (
+                  call.least,
+                  at,
+                  i,
+                  m,
+                  n,
+                  o,
+                  known.tree,
+                  r,
+                  all,
+                  left,
+                  right,
+                  known.begins,
+                  known.over,
+                  (
+                    left_takes pr level start call at left i m (infix_read o) (left_power o)
+                        known read refl reach,
+                    free,
+                  ),
+                  read,
+                  over,
+                  keeps,
+                  known.value,
+                  value,
+                  folded,
+                )),
+                folded,
+              )
+              | inr (v, folded, same) ↦
+                  let still : units_left g.folding.units n ≡ units_left g.folding.units i =
+                  ap (units_left g.folding.units) (sym (stays left right n z (Ok v) folded tt))
+                  ∙ same in
+                  let falls = pr.moves.nexts_fall i m (infix_read o) read in
+                  let more = over_falls (decided pr) pr.moves r m n over in
+                  inr (
+                    inr (
+                      i,
+                      m,
+                      infix_read o,
+                      left_power o,
+                      comes_left pr level start call at left i known,
+                      read,
+                      refl,
+                      omega (arith, falls, more, still),
+                    ),
+                    λ u e b reads.
+                        let (l, like, grows) = known.sees u e b reads in
+                        no_turn_still (decided pr) pr.moves i m n o call.least l r u e b read over
+                        still grows
+                        (λ met. free (alike_top alike af ag ah known.tree l like ∙ met)) reach,
+                  )
+            ];
       }
-
-  pub turn_ends_total : (call : Call) (left : V) (s t : W) (i j : Input T)
-      (a : Answer (V × Bool))
-      → TurnEnds F g.folding.units g.next g.behind g.folding.refusal call left s i a t j
-      → s ≡ s0.1 → LeftOf call left i
-      → TurnEnds F g.folding.units g.next any_value g.folding.refusal call left s i a t j
-      ⊎ FoldFails g s0 level start a j
-  turn_ends_total call left s t i j a (inl ended) es known = inl (inl ended)
-  turn_ends_total call left s t i j a (inr (inl ended)) es known = inl (inr (inl ended))
-  turn_ends_total call left s t i j a (inr (inr (inl ended))) es known =
-      inl (inr (inr (inl ended)))
-  turn_ends_total call left s t i j a
-      (inr (inr (inr (inl (power, fold, m, kind, r, reaches, folded, e))))) es known =
-      let own = own_next g alike s0 pr s t i m (Postfix power fold) es r in
-      inr (
-        kind,
-        e,
-        inr (inl (
-          call.least,
-          known.at,
-          i,
-          m,
-          power,
-          fold,
-          known.tree,
-          left,
-          known.begins,
-          known.over,
-          left_takes call left i m (Postfix power fold) power known own.1 refl reaches,
-          own.1,
-          known.value,
-          folded,
-        )),
-      )
-  turn_ends_total call left s t i j a
-      (inr (inr (inr (inr (inl (power, fold, m, v, r, reaches, folded, same, e)))))) es known =
-      let own = own_next g alike s0 pr s t i m (Postfix power fold) es r in
-      let still = (decided g alike s0 pr).nexts i m m (Postfix power fold) (Postfix power fold)
-      own.1 own.1 in
-      inl (inr (inr (inr (inr (inl (
-        power,
-        fold,
-        m,
-        v,
-        r,
-        reaches,
-        (v, refl, still.0.1.leaves left m j (Ok v) folded tt),
-        same,
-        e,
-      ))))))
-  turn_ends_total call left s t i j a (inr (inr (inr (inr (inr more))))) es known =
-      inl (inr (inr (inr (inr (inr more)))))
-
-  -- where the right operand fails, so does the call that waits for it
-  pub resume_refused : (x : Open V F H) (b : Answer (V × Bool)) (s : S × W) (i : Input T)
-      (a : Answer (V × Bool)) (t : S × W) (j : Input T) → ResumeRuns g x b s i a t j
-      → FoldFails g s0 level start b i → FoldFails g s0 level start a j
-  resume_refused _ _ _ _ _ _ _ (resume_ends x b a s t i j (inl (kind, e, failed, same)) kept)
-      (k, is, refused) = (
-        k,
-        failed ∙ sym e ∙ is,
-        subst (λ z. RejectedBy g s0 level start k z) (sym same) refused,
-      )
-  resume_refused _ _ _ _ _ _ _
-      (resume_ends x b a s t i j (inr (inl (right, every, kind, e, folds, failed))) kept)
-      (k, is, refused) =
-      clash is e
-  resume_refused _ _ _ _ _ _ _
-      (resume_ends x b a s t i j (inr (inr (right, w, e, folds, done))) kept)
-      (k, is, refused) =
-      clash is e
-  resume_refused _ _ _ _ _ _ _ (resume_goes x b a s t i j m w (right, e, folds) turn)
-      (k, is, refused) =
-      clash is e

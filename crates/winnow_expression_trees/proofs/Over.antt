@@ -41,9 +41,9 @@ none_of : {A : Type 0} (x : Option A) → ((a : A) → x ≡ Some a → ⊥) →
 none_of None never = refl
 none_of (Some a) never = absurd (never a refl)
 
-module _ {V F G H P : Type 0} (units : P → ℕ) (av : V → V → Type 0) (af : F → F → Type 0)
-    (ag : G → G → Type 0) (ah : H → H → Type 0) (first : P → First V F → P → Type 0)
-    (next : P → Next G H → P → Type 0) (d : Decided av af ag ah first next)
+module _ {V F G H P : Type 0} {units : P → ℕ} {av : V → V → Type 0} {af : F → F → Type 0}
+    {ag : G → G → Type 0} {ah : H → H → Type 0} {first : P → First V F → P → Type 0}
+    {next : P → Next G H → P → Type 0} (d : Decided av af ag ah first next)
     (moves : Moves units first next) where
   pub over_falls : (t : Tree V F G H) (i j : P) → Over first next t i j → units j ≤ units i
   over_falls (leaf v) i j o = moves.firsts_fall i j (Operand v) o
@@ -168,14 +168,14 @@ module _ {V F G H P : Type 0} (units : P → ℕ) (av : V → V → Type 0) (af 
       clash_ℤ (grows_stays x v o read goes none m l x t n b grows refl free).0 reach
 
   -- nothing was consumed since the call began
-  pub no_turn_begun : (start i j : P) (o : Infix H) (m : ℤ) (l t : Tree V F G H) (n : P) (b : Bool)
-      → Over first next l start i → next i (infix_read o) j → units j ≡ units start
+  pub no_turn_begun : (start i j : P) (o : Infix H) (m : ℤ) (k l t : Tree V F G H) (n : P)
+      (b : Bool) → Over first next k start i → next i (infix_read o) j → units j ≡ units start
       → Grows first next m l i t n b → (top_neither l ≡ Some (left_power o) → ⊥)
       → m ≤ℤ left_power o → ⊥
-  no_turn_begun start i j o m l t n b over read still grows free reach =
-      let falls = over_falls l start i over in
+  no_turn_begun start i j o m k l t n b over read still grows free reach =
+      let falls = over_falls k start i over in
       let more = moves.nexts_fall i j (infix_read o) read in
-      let (same, v, operand) = over_first l start i over (omega (arith, falls, more, still)) in
+      let (same, v, operand) = over_first k start i over (omega (arith, falls, more, still)) in
       let stays = moves.nexts_stay i j (infix_read o) read (omega (arith, falls, more, still)) in
       no_turn i v o (subst (λ z. first z (Operand v) z) (sym same) operand)
       (subst (λ z. next i (infix_read o) z) stays read) m l t n b grows free reach

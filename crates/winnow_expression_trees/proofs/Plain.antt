@@ -1,11 +1,11 @@
 -- Parts that are functions of the input only.
-use Rattle.std.specs.Prelude.{◌≡◌, ℤ, ◌≤◌, ◌<◌, Some, Ok, Err}
-use Rattle.std.proofs.Common.{sym, subst}
+use Rattle.std.specs.Prelude.{◌≡◌, ℤ, Ok, Err}
+use Rattle.std.proofs.Common.{ap, subst, arith}
 use Rattle.stream_errors.specs.Form.{Answer}
 use Rattle.streams.specs.Input.{Input, back_at}
 use Rattle.streams.specs.Kind.{Kind, memory}
+use Rattle.winnow_core.specs.Decided.{EqualResults}
 use Rattle.winnow_expression.specs.Units.{units_left}
-use Rattle.winnow_expression.specs.Operators.{neither_power}
 use Rattle.winnow_expression.specs.Grammar.{Grammar}
 use Rattle.winnow_expression.specs.declared.combinator.places.First.{First}
 use Rattle.winnow_expression.specs.declared.combinator.places.First.TheVariants.{Operand}
@@ -14,71 +14,48 @@ use Rattle.winnow_expression.specs.declared.combinator.places.First.TheVariants.
 }
 use Rattle.winnow_expression.specs.declared.combinator.places.Next.{Next}
 use Rattle.winnow_expression.specs.declared.combinator.places.Next.TheVariants.{Nothing}
-use Rattle.winnow_expression.specs.declared.combinator.places.Next.TheVariants.{Infix as infix_read}
-use Rattle.winnow_expression.specs.declared.combinator.operators.Infix.{Infix}
 use Rattle.winnow_expression_trees.specs.OneTree.Alike.{Decided}
 use Rattle.winnow_expression_trees.specs.Alike.{AlikeFirst, AlikeNext}
 use Rattle.winnow_expression_trees.proofs.Over.{Moves}
-use Rattle.winnow_expression_trees.specs.Premises.{EquivalentResults, FoldAlike, FoldsAlike}
+use Rattle.winnow_expression_trees.specs.Premises.{FoldAlike, FoldsAlike}
 use Rattle.winnow_expression_trees.specs.Premises.{NotMemory}
 use Rattle.winnow_expression_trees.specs.Reading.{FirstStep, NextStep}
 
 -- Unless memory runs out, parts in the states `s` keep them and change only the position. The input
--- determines their results, up to equivalent outputs, and the rest. A neither consumes input.
+-- determines their results, up to equivalent outputs and folds, and the rest. Equivalent folds give
+-- equivalent results. A neither consumes input.
 pub record Plain {S W T V F G H : Type 0} (g : Grammar S W T V F G H) (alike : V → V → Type 0)
-    (s : S × W) : Type 0 where
+    (af : F → F → Type 0) (ag : G → G → Type 0) (ah : H → H → Type 0) (s : S × W) : Type 0 where
   pub first_keeps : (i j : Input T) (a : Answer (First V F)) (t : S) → g.first s.0 i a t j
-      → NotMemory a
-      → t ≡ s.0
+      → NotMemory a → t ≡ s.0
   pub first_decided : (i j k : Input T) (a b : Answer (First V F)) (t u : S) → g.first s.0 i a t j
       → g.first s.0 i b u k → NotMemory a → NotMemory b
-      → EquivalentResults (AlikeFirst alike (FoldAlike alike g.folding.before)) a b × (j ≡ k)
+      → EqualResults (AlikeFirst alike af) a b × (j ≡ k)
   pub next_keeps : (i j : Input T) (a : Answer (Next G H)) (t : W) → g.next s.1 i a t j
-      → NotMemory a
-      → t ≡ s.1
+      → NotMemory a → t ≡ s.1
   pub next_decided : (i j k : Input T) (a b : Answer (Next G H)) (t u : W) → g.next s.1 i a t j
       → g.next s.1 i b u k → NotMemory a → NotMemory b
-      → EquivalentResults (AlikeNext (FoldAlike alike g.behind)
-      (FoldsAlike alike g.folding.between)) a b
-      × (j ≡ k)
+      → EqualResults (AlikeNext ag ah) a b × (j ≡ k)
   pub nothing : (i j : Input T) → NextStep g s i Nothing j → j ≡ i
   pub back : (i j : Input T) (x : Next G H) → NextStep g s i x j → back_at i.left j ≡ i
-  pub first_falls : (i j : Input T) (x : First V F) → FirstStep g s i x j
-      → units_left g.folding.units j ≤ units_left g.folding.units i
-  pub first_stays : (i j : Input T) (x : First V F) → FirstStep g s i x j
-      → units_left g.folding.units j ≡ units_left g.folding.units i
-      → j ≡ i
-  pub next_falls : (i j : Input T) (x : Next G H) → NextStep g s i x j
-      → units_left g.folding.units j ≤ units_left g.folding.units i
-  pub next_stays : (i j : Input T) (x : Next G H) → NextStep g s i x j
-      → units_left g.folding.units j ≡ units_left g.folding.units i
-      → j ≡ i
-  pub neither_moves : (i j : Input T) (o : Infix H) (p : ℤ) → NextStep g s i (infix_read o) j
-      → neither_power o ≡ Some p → units_left g.folding.units j < units_left g.folding.units i
+  pub moves : Moves (units_left g.folding.units) (FirstStep g s) (NextStep g s)
+  pub befores : (f h : F) → af f h → FoldAlike alike g.folding.before f h
+  pub behinds : (f h : G) → ag f h → FoldAlike alike g.behind f h
+  pub betweens : (f h : H) → ah f h → FoldsAlike alike g.folding.between f h
 
 pub first_run : {S W T V F G H : Type 0} (g : Grammar S W T V F G H) (s : S × W) (i j : Input T)
     (x : First V F) → FirstStep g s i x j → g.first s.0 i (Ok x) s.0 j
 first_run g s i j (Operand v) r = r
 first_run g s i j (prefix_read p f) r = r.0
 
-module _ {S W T V F G H : Type 0} (g : Grammar S W T V F G H) (alike : V → V → Type 0) (s : S × W)
-    (pr : Plain g alike s) where
-  pub decided : Decided alike (FoldAlike alike g.folding.before) (FoldAlike alike g.behind)
-      (FoldsAlike alike g.folding.between) (FirstStep g s) (NextStep g s)
+module _ {S W T V F G H : Type 0} {g : Grammar S W T V F G H} {alike : V → V → Type 0}
+    {af : F → F → Type 0} {ag : G → G → Type 0} {ah : H → H → Type 0} {s : S × W}
+    (pr : Plain g alike af ag ah s) where
+  pub decided : Decided alike af ag ah (FirstStep g s) (NextStep g s)
   decided = record {
     firsts = λ i j k x y a b. pr.first_decided i j k (Ok x) (Ok y) s.0 s.0
         (first_run g s i j x a) (first_run g s i k y b) tt tt;
     nexts = λ i j k x y a b. pr.next_decided i j k (Ok x) (Ok y) s.1 s.1 a b tt tt;
-  }
-
-  pub moves : Moves (units_left g.folding.units) (FirstStep g s) (NextStep g s)
-  moves = record {
-    firsts_fall = pr.first_falls;
-    nexts_fall = pr.next_falls;
-    firsts_stay = pr.first_stays;
-    nexts_stay = pr.next_stays;
-    prefix_moves = λ i j p f r. r.1;
-    neither_moves = pr.neither_moves;
   }
 
   pub own_first : (z t : S) (i j : Input T) (x : First V F) → z ≡ s.0 → g.first z i (Ok x) t j
@@ -93,33 +70,27 @@ module _ {S W T V F G H : Type 0} (g : Grammar S W T V F G H) (alike : V → V �
       let r = subst (λ y. g.next y i (Ok x) t j) e run in
       let k = pr.next_keeps i j (Ok x) t r tt in (k, subst (λ y. g.next s.1 i (Ok x) y j) k r)
 
-  pub no_first : (z t : S) (i j k : Input T) (a : Kind) (x : First V F) → z ≡ s.0
-      → g.first z i (Err a) t j
+  -- where a part fails, nothing is read
+  pub no_first : (t : S) (i j k : Input T) (a : Kind) (x : First V F) → g.first s.0 i (Err a) t j
       → (a ≡ memory → ⊥) → FirstStep g s i x k → ⊥
-  no_first z t i j k a x e run other step =
-      (pr.first_decided i j k (Err a) (Ok x) t s.0 (subst (λ y. g.first y i (Err a) t j) e run)
-      (first_run g s i k x step) other tt).0
+  no_first t i j k a x run other step =
+      (pr.first_decided i j k (Err a) (Ok x) t s.0 run (first_run g s i k x step) other tt).0
 
-  pub no_next : (z t : W) (i j k : Input T) (a : Kind) (x : Next G H) → z ≡ s.1
-      → g.next z i (Err a) t j
+  pub no_next : (t : W) (i j k : Input T) (a : Kind) (x : Next G H) → g.next s.1 i (Err a) t j
       → (a ≡ memory → ⊥) → NextStep g s i x k → ⊥
-  no_next z t i j k a x e run other step =
-      (pr.next_decided i j k (Err a) (Ok x) t s.1 (subst (λ y. g.next y i (Err a) t j) e run)
-      step other tt).0
+  no_next t i j k a x run other step =
+      (pr.next_decided i j k (Err a) (Ok x) t s.1 run step other tt).0
 
-  moved_of : (i k : Input T) (p : ℤ) (f : F) (x : First V F)
-      → AlikeFirst alike (FoldAlike alike g.folding.before) (prefix_read p f) x
-      → FirstStep g s i x k
-      → units_left g.folding.units k < units_left g.folding.units i
-  moved_of i k p f (Operand v) same step = absurd same
-  moved_of i k p f (prefix_read q h) same step = step.1
-
-  pub no_prefix : (z t : S) (i j k : Input T) (p : ℤ) (f : F) (x : First V F) → z ≡ s.0
-      → g.first z i (Ok (prefix_read p f)) t j → FirstStep g s i x k
-      → units_left g.folding.units j < units_left g.folding.units i
-  no_prefix z t i j k p f x e run step =
-      let (same, place) =
-      pr.first_decided i j k (Ok (prefix_read p f)) (Ok x) s.0 s.0
-      (own_first z t i j (prefix_read p f) e run).1 (first_run g s i k x step) tt tt in
-      subst (λ y. units_left g.folding.units y < units_left g.folding.units i) (sym place)
-      (moved_of i k p f x same step)
+  -- nor where a prefix consumes nothing
+  pub no_prefix : (i j k : Input T) (p : ℤ) (f : F) (x : First V F)
+      → g.first s.0 i (Ok (prefix_read p f)) s.0 j
+      → units_left g.folding.units j ≡ units_left g.folding.units i → FirstStep g s i x k → ⊥
+  no_prefix i j k p f x run still step =
+      moved x (pr.first_decided i j k (Ok (prefix_read p f)) (Ok x) s.0 s.0 run
+      (first_run g s i k x step) tt tt) step
+    where
+      moved : (x : First V F) → AlikeFirst alike af (prefix_read p f) x × (j ≡ k)
+          → FirstStep g s i x k → ⊥
+      moved (Operand v) (same, place) step = absurd same
+      moved (prefix_read q h) (same, place) (read, less) =
+          absurd (omega (arith, less, still, ap (units_left g.folding.units) place))

@@ -18,11 +18,14 @@ abbrev pub asserting : {S W T V F G H : Type 0} → Grammar S W T V F G H → Gr
 asserting g = accepting (grammar (λ s i a t j. g.first s i a t j × IsOk a)
     (λ s i a t j. g.next s i a t j × IsOk a) g.behind g.folding)
 
+-- A fold fails with this kind, and leaves `j`.
+abbrev pub FoldFails : {S W T V F G H : Type 0} → Grammar S W T V F G H → Kind → Input T → Type 0
+FoldFails {T = T} {V = V} {F = F} {G = G} {H = H} g kind j =
+    ((f : F) × (i : Input T) × (v : V) × g.folding.before f i v (Err kind) j)
+    ⊎ (((f : G) × (i : Input T) × (v : V) × g.behind f i v (Err kind) j)
+    ⊎ ((f : H) × (i : Input T) × (v : V) × (w : V) × g.folding.between f i v w (Err kind) j))
+
 -- The result is that of a fold that fails, and leaves `j`.
 abbrev pub FoldAnswers : {S W T V F G H O : Type 0} → Grammar S W T V F G H → Answer O → Input T
     → Type 0
-FoldAnswers {T = T} {V = V} {F = F} {G = G} {H = H} g answer j =
-    (kind : Kind) × (answer ≡ Err kind)
-    × (((f : F) × (i : Input T) × (v : V) × g.folding.before f i v (Err kind) j)
-    ⊎ (((f : G) × (i : Input T) × (v : V) × g.behind f i v (Err kind) j)
-    ⊎ ((f : H) × (i : Input T) × (v : V) × (w : V) × g.folding.between f i v w (Err kind) j)))
+FoldAnswers g answer j = (kind : Kind) × (answer ≡ Err kind) × FoldFails g kind j

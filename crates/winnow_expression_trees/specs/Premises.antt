@@ -1,8 +1,9 @@
 -- Requirements on the parts and the folds of an expression.
-use Rattle.std.specs.Prelude.{◌≡◌, ◌<◌, ◌≡◌, ℤ, Some, Ok, Err}
+use Rattle.std.specs.Prelude.{◌≡◌, ◌<◌, ℤ, Some, Ok, Err}
 use Rattle.streams.specs.Input.{Input}
 use Rattle.streams.specs.Kind.{memory}
 use Rattle.stream_errors.specs.Form.{Answer}
+use Rattle.winnow_core.specs.Decided.{EqualResults}
 use Rattle.winnow_core.specs.Runs.{Runs}
 use Rattle.winnow_expression.specs.Grammar.{Folding}
 use Rattle.winnow_expression.specs.Operators.{neither_power}
@@ -19,26 +20,19 @@ abbrev pub NotMemory : {O : Type 0} → Answer O → Type 0
 NotMemory (Ok v) = Unit {0}
 NotMemory (Err k) = k ≡ memory → ⊥
 
--- Both results are equivalent outputs, or errors of one kind.
-abbrev pub EquivalentResults : {O : Type 0} → (O → O → Type 0) → Answer O → Answer O → Type 0
-EquivalentResults alike (Ok v) (Ok w) = alike v w
-EquivalentResults alike (Ok v) (Err l) = ⊥
-EquivalentResults alike (Err k) (Ok w) = ⊥
-EquivalentResults alike (Err k) (Err l) = k ≡ l
-
 -- Unless memory runs out, two folds give the same result for equivalent operands, and the first
 -- leaves its input unchanged.
 pub record FoldAlike {F T V : Type 0} (alike : V → V → Type 0)
     (folds : F → Input T → V → Answer V → Input T → Type 0) (f g : F) : Type 0 where
   pub same : (v w : V) (i j k n : Input T) (a b : Answer V) → alike v w → folds f i v a j
-      → folds g k w b n → NotMemory a → NotMemory b → EquivalentResults alike a b
+      → folds g k w b n → NotMemory a → NotMemory b → EqualResults alike a b
   pub leaves : (v : V) (i j : Input T) (a : Answer V) → folds f i v a j → NotMemory a → j ≡ i
 
 pub record FoldsAlike {H T V : Type 0} (alike : V → V → Type 0)
     (folds : H → Input T → V → V → Answer V → Input T → Type 0) (f g : H) : Type 0 where
   pub same : (v x w y : V) (i j k n : Input T) (a b : Answer V) → alike v w → alike x y
       → folds f i v x a j → folds g k w y b n → NotMemory a → NotMemory b
-      → EquivalentResults alike a b
+      → EqualResults alike a b
   pub leaves : (v x : V) (i j : Input T) (a : Answer V) → folds f i v x a j → NotMemory a → j ≡ i
 
 -- Unless memory runs out, the input determines the result of a part in the state `s`, up to
@@ -46,7 +40,7 @@ pub record FoldsAlike {H T V : Type 0} (alike : V → V → Type 0)
 abbrev pub Decides : {S T O : Type 0} → (O → O → Type 0) → Runs S T O → S → Type 0
 Decides {S} {T} {O} alike run s =
     (i j k : Input T) (a b : Answer O) (t u : S) → run s i a t j → run s i b u k → NotMemory a
-    → NotMemory b → EquivalentResults alike a b × (j ≡ k)
+    → NotMemory b → EqualResults alike a b × (j ≡ k)
 
 -- Unless memory runs out, a part in the state `s` keeps it and changes only the position. The input
 -- determines its result, up to equivalent outputs, and the rest.
@@ -55,7 +49,7 @@ pub record IsStateless {S T O : Type 0} (alike : O → O → Type 0) (run : Runs
   pub keeps : (i j : Input T) (a : Answer O) (t : S) → run s i a t j → NotMemory a
       → (t ≡ s) × (j.status ≡ i.status)
   pub decided : (i j k : Input T) (a b : Answer O) (t u : S) → run s i a t j → run s i b u k
-      → NotMemory a → NotMemory b → EquivalentResults alike a b × (j ≡ k)
+      → NotMemory a → NotMemory b → EqualResults alike a b × (j ≡ k)
 
 -- prefixes of one power with equivalent folds
 abbrev pub AlikePrefix : {F : Type 0} → (F → F → Type 0) → Prefix F → Prefix F → Type 0

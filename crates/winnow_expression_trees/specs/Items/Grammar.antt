@@ -22,6 +22,7 @@ use Rattle.winnow_expression.specs.declared.combinator.places.Next.TheVariants.{
   Postfix as postfix_read,
 }
 use Rattle.winnow_expression.specs.declared.combinator.places.Next.TheVariants.{Infix as infix_read}
+use Rattle.winnow_expression_trees.specs.OneTree.Alike.{Decided}
 use Rattle.winnow_expression_trees.specs.OneTree.Unique.{one_tree}
 use Rattle.winnow_expression_trees.specs.Alike.{AlikeFirst, AlikeInfix, AlikeNext}
 use Rattle.winnow_expression_trees.specs.Items.{AreItems, FirstItems, HasValue, Items, ItemsTree}
@@ -130,16 +131,17 @@ module _ {T V F G H : Type 0} (operand : Items T V) (prefix : Items T (Prefix F)
         let (same, place) = infixes.one i o q j k a.1 b.1 in
         (same_infix o q same, place)
 
+    decided : Decided (λ v w. v ≡ w) (λ f g. f ≡ g) (λ f g. f ≡ g) (λ f g. f ≡ g)
+        (FirstItems operand prefix) (NextItems postfix infix_)
+    decided = record { firsts = one_first; nexts = one_next }
+
     one_rest : (tokens : List T) (v w : V) (rest behind_ : List T)
         → ReadsTree operand prefix postfix infix_ one other two level tokens v rest
         → ReadsTree operand prefix postfix infix_ one other two level tokens w behind_
         → rest ≡ behind_
     unfolding ReadsTree
     one_rest tokens v w rest behind_ (t, b, (ot, kt), x) (u, c, (ou, ku), y) =
-        (one_tree (λ v w. v ≡ w) (λ f g. f ≡ g) (λ f g. f ≡ g) (λ f g. f ≡ g)
-        (FirstItems operand prefix) (NextItems postfix infix_)
-        (record { firsts = one_first; nexts = one_next }) level tokens t u rest behind_ b c ot kt
-        ou ku).1
+        (one_tree decided level tokens t u rest behind_ b c ot kt ou ku).1
 
     over_front : IsFront operand → IsFront prefix → IsFront postfix → IsFront infix_
         → (r : Tree V F G H) (i j : List T)

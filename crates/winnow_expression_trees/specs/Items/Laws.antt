@@ -6,6 +6,7 @@ use Rattle.streams.specs.Input.{Input, back_at}
 use Rattle.streams.specs.Kind.{Kind, backtrack}
 use Rattle.streams.specs.Reading.{Reading}
 use Rattle.stream_errors.specs.Form.{Answer}
+use Rattle.stream_errors.specs.Form.Inversion.{ok_is_err, same_ok}
 use Rattle.winnow_core.specs.Runs.{Keeps as KeepsState}
 use Rattle.winnow_expression.specs.Grammar.{Grammar, folding}
 use Rattle.winnow_expression.specs.Operators.{fold_of}
@@ -38,7 +39,7 @@ use Rattle.winnow_expression_trees.specs.Reading.{FirstStep, NextStep, Over}
 use Rattle.winnow_expression_trees.specs.Tree.{Tree, leaf, before, behind, between}
 use Rattle.winnow_expression_trees.specs.Value.{Value}
 use Rattle.winnow_expression_trees.specs.Items.Premises.{gives_alike, gives_both_alike}
-use Rattle.winnow_expression_trees.specs.Items.Premises.{items_stateless, ok_is_not, same_ok}
+use Rattle.winnow_expression_trees.specs.Items.Premises.{items_stateless}
 
 -- ---- runs, as items
 
@@ -49,20 +50,20 @@ item_ok item i j o (inl (p, rest, is, e, place)) = (
       (subst (λ z. item i.left.tokens z rest) (sym (same_ok refl e)) is),
   place ∙ ap (λ z. left_at i z) (sym (ap (λ z. z.left.tokens) place)),
 )
-item_ok item i j o (inr (none, e, place)) = ok_is_not refl e
+item_ok item i j o (inr (none, e, place)) = ok_is_err refl e
 
-item_err : {T O : Type 0} (item : Items T O) (i j : Input T) (k : Kind) → ItemRuns item i (Err k) j
-    → NoItem item i.left.tokens × (j ≡ i)
-item_err item i j k (inl (p, rest, is, e, place)) = ok_is_not e refl
-item_err item i j k (inr (none, e, place)) = (none, place)
+pub item_err : {T O : Type 0} (item : Items T O) (i j : Input T) (k : Kind)
+    → ItemRuns item i (Err k) j → NoItem item i.left.tokens × (j ≡ i) × (k ≡ backtrack)
+item_err item i j k (inl (p, rest, is, e, place)) = ok_is_err e refl
+item_err item i j k (inr (none, e, place)) = (none, place, cc)
 
-back_same : {T : Type 0} (i m : Input T) → m ≡ i → back_at i.left m ≡ i
+pub back_same : {T : Type 0} (i m : Input T) → m ≡ i → back_at i.left m ≡ i
 back_same i m e = ap (λ z. back_at i.left z) e
 
 gives_ok : {T V : Type 0} (given : V → Type 0) (i j : Input T) (v : V) → Gives given i (Ok v) j
     → given v
 gives_ok given i j v (inl (w, is, e, place)) = subst given (sym (same_ok refl e)) is
-gives_ok given i j v (inr (none, e, place)) = ok_is_not refl e
+gives_ok given i j v (inr (none, e, place)) = ok_is_err refl e
 
 gives_up : {T V : Type 0} (given : V → Type 0) (i : Input T) (v : V) → given v
     → Gives given i (Ok v) i
@@ -73,10 +74,7 @@ module _ {S1 S2 S3 S4 T V F G H L : Type 0} (reading : Reading T L) (refusal : K
     (infix_ : Items T (Infix H)) (one : F → V → V → Type 0) (other : G → V → V → Type 0)
     (two : H → V → V → V → Type 0) (s1 : S1) (s2 : S2) (s3 : S3) (s4 : S4)
     (operands : AreItems reading.units operand) (prefixes : AreItems reading.units prefix)
-    (postfixes : AreItems reading.units postfix) (infixes : AreItems reading.units infix_)
-    (ones : (f : F) (v : V) → GivesOne (one f v))
-    (others : (g : G) (v : V) → GivesOne (other g v))
-    (twos : (h : H) (v w : V) → GivesOne (two h v w)) where
+    (postfixes : AreItems reading.units postfix) (infixes : AreItems reading.units infix_) where
   abbrev Before : F → Input T → V → Answer V → Input T → Type 0
   Before f i v a j = Gives (one f v) i a j
 
@@ -94,11 +92,13 @@ module _ {S1 S2 S3 S4 T V F G H L : Type 0} (reading : Reading T L) (refusal : K
   abbrev states : (S1 × S2) × (S3 × S4)
   states = ((s1, s2), (s3, s4))
 
-  pub items_premises : Premises (λ v w. v ≡ w) (KeepsState (λ (_ : S1). ItemRuns operand))
+  pub items_premises : ((f : F) (v : V) → GivesOne (one f v))
+      → ((g : G) (v : V) → GivesOne (other g v)) → ((h : H) (v w : V) → GivesOne (two h v w))
+      → Premises (λ v w. v ≡ w) (KeepsState (λ (_ : S1). ItemRuns operand))
       (KeepsState (λ (_ : S2). ItemRuns prefix)) (KeepsState (λ (_ : S3). ItemRuns postfix))
       (KeepsState (λ (_ : S4). ItemRuns infix_)) AfterItems
       (folding Before Between reading.units refusal) s1 s2 s3 s4
-  items_premises = record {
+  items_premises ones others twos = record {
     operands = items_stateless reading.units (λ v w. v ≡ w) operand s1 operands (λ o. refl);
     prefixes = items_stateless reading.units (AlikePrefix (FoldAlike (λ v w. v ≡ w) Before)) prefix
         s2 prefixes (λ o. (refl, gives_alike one o.1 (ones o.1)));
@@ -114,22 +114,23 @@ module _ {S1 S2 S3 S4 T V F G H L : Type 0} (reading : Reading T L) (refusal : K
       moves i j o (inl (q, rest, item, e, place)) =
           subst (λ z. units_left reading.units z < units_left reading.units i) (sym place)
           (infixes.some i.left.tokens q rest item)
-      moves i j o (inr (none, e, place)) = ok_is_not refl e
+      moves i j o (inr (none, e, place)) = ok_is_err refl e
 
   -- ---- what is read at inputs is read of lists of tokens
 
-  first_down : (i j : Input T) (x : First V F) → FirstStep whole states i x j
+  pub first_read : (i j : Input T) (x : First V F)
+      → whole.first (s1, s2) i (Ok x) (s1, s2) j
       → FirstItems operand prefix i.left.tokens x j.left.tokens × (j ≡ left_at i j.left.tokens)
-  first_down i j (Operand v) (inl (w, (run, k), kept, e)) =
+  first_read i j (Operand v) (inl (w, (run, k), kept, e)) =
       let same : w ≡ v = cc in
       item_ok operand i j v (subst (λ z. ItemRuns operand i (Ok z) j) same run)
-  first_down i j (Operand v) (inr (inl (k, run, unlike, kept, e))) = ok_is_not refl e
-  first_down i j (Operand v) (inr (inr (inl (m, p, run, q, e)))) = absurd (cc)
-  first_down i j (Operand v) (inr (inr (inr (m, k, run, q, e)))) = ok_is_not refl e
-  first_down i j (prefix_read p f) (inl (w, run, kept, e), less) = absurd (cc)
-  first_down i j (prefix_read p f) (inr (inl (k, run, unlike, kept, e)), less) = ok_is_not refl e
-  first_down i j (prefix_read p f) (inr (inr (inr (m, k, run, q, e))), less) = ok_is_not refl e
-  first_down i j (prefix_read p f) (inr (inr (inl (m, z, (run, k), (q, l), e))), less) =
+  first_read i j (Operand v) (inr (inl (k, run, unlike, kept, e))) = ok_is_err refl e
+  first_read i j (Operand v) (inr (inr (inl (m, p, run, q, e)))) = absurd (cc)
+  first_read i j (Operand v) (inr (inr (inr (m, k, run, q, e)))) = ok_is_err refl e
+  first_read i j (prefix_read p f) (inl (w, run, kept, e)) = absurd (cc)
+  first_read i j (prefix_read p f) (inr (inl (k, run, unlike, kept, e))) = ok_is_err refl e
+  first_read i j (prefix_read p f) (inr (inr (inr (m, k, run, q, e)))) = ok_is_err refl e
+  first_read i j (prefix_read p f) (inr (inr (inl (m, z, (run, k), (q, l), e)))) =
       let none = item_err operand i m backtrack run in
       let power : z.0 ≡ p = cc in
       let fold : z.1 ≡ f = cc in
@@ -137,6 +138,11 @@ module _ {S1 S2 S3 S4 T V F G H L : Type 0} (reading : Reading T L) (refusal : K
       let read = item_ok prefix i j z
       (subst (λ y. ItemRuns prefix y (Ok z) j) (back_same i m none.1) q) in
       ((none.0, subst (λ y. prefix i.left.tokens y j.left.tokens) is read.0), read.1)
+
+  first_down : (i j : Input T) (x : First V F) → FirstStep whole states i x j
+      → FirstItems operand prefix i.left.tokens x j.left.tokens
+  first_down i j (Operand v) read = (first_read i j (Operand v) read).0
+  first_down i j (prefix_read p f) read = (first_read i j (prefix_read p f) read.0).0
 
   first_up : (i : Input T) (x : First V F) (rest : List T)
       → FirstItems operand prefix i.left.tokens x rest → FirstStep whole states i x (left_at i rest)
@@ -157,7 +163,7 @@ module _ {S1 S2 S3 S4 T V F G H L : Type 0} (reading : Reading T L) (refusal : K
   nothing_at_end item are tokens none o rest is =
       absurd (omega (arith, none, are.some tokens o rest is))
 
-  next_down : (i j : Input T) (x : Next G H) → NextStep whole states i x j
+  pub next_down : (i j : Input T) (x : Next G H) → NextStep whole states i x j
       → NextItems postfix infix_ i.left.tokens x j.left.tokens × (j ≡ left_at i j.left.tokens)
   next_down i j Nothing (inl (none, e, kept, place)) = (
     (
@@ -176,7 +182,7 @@ module _ {S1 S2 S3 S4 T V F G H L : Type 0} (reading : Reading T L) (refusal : K
       let is : z ≡ (p, g) = ap (λ y. (y, z.1)) power ∙ ap (λ y. (p, y)) fold in
       item_ok postfix i j (p, g) (subst (λ y. ItemRuns postfix i (Ok y) j) is run)
   next_down i j (infix_read o) (inr (some, inl (p, run, kept, e))) = absurd (cc)
-  next_down i j x (inr (some, inr (inl (k, run, unlike, kept, e)))) = ok_is_not refl e
+  next_down i j x (inr (some, inr (inl (k, run, unlike, kept, e)))) = ok_is_err refl e
   next_down i j Nothing (inr (some, inr (inr (m, run, inl (o, q, e))))) = absurd (cc)
   next_down i j (postfix_read p g) (inr (some, inr (inr (m, run, inl (o, q, e))))) = absurd (cc)
   next_down i j (infix_read o) (inr (some, inr (inr (m, (run, k), inl (z, (q, l), e))))) =
@@ -185,7 +191,7 @@ module _ {S1 S2 S3 S4 T V F G H L : Type 0} (reading : Reading T L) (refusal : K
       let read = item_ok infix_ i j o (subst (λ y. ItemRuns infix_ i (Ok y) j) same
       (subst (λ y. ItemRuns infix_ y (Ok z) j) (back_same i m none.1) q)) in
       ((none.0, read.0), read.1)
-  next_down i j x (inr (some, inr (inr (m, run, inr (inl (k, q, unlike, e)))))) = ok_is_not refl e
+  next_down i j x (inr (some, inr (inr (m, run, inr (inl (k, q, unlike, e)))))) = ok_is_err refl e
   next_down i j Nothing (inr (some, inr (inr (m, (run, k), inr (inr (n, (q, l), place, e)))))) =
       let none = item_err postfix i m backtrack run in
       let missing = item_err infix_ i n backtrack
@@ -233,9 +239,9 @@ module _ {S1 S2 S3 S4 T V F G H L : Type 0} (reading : Reading T L) (refusal : K
   over_down : (r : Tree V F G H) (i j : Input T)
       → Over (FirstStep whole states) (NextStep whole states) r i j
       → Over (FirstItems operand prefix) (NextItems postfix infix_) r i.left.tokens j.left.tokens
-  over_down (leaf v) i j over = (first_down i j (Operand v) over).0
+  over_down (leaf v) i j over = first_down i j (Operand v) over
   over_down (before p f r) i j (k, read, over) =
-      (k.left.tokens, (first_down i k (prefix_read p f) read).0, over_down r k j over)
+      (k.left.tokens, first_down i k (prefix_read p f) read, over_down r k j over)
   over_down (behind p g l) i j (k, over, read) =
       (k.left.tokens, over_down l i k over, (next_down k j (postfix_read p g) read).0)
   over_down (between o l r) i j (k, n, left, read, right) = (

@@ -1,31 +1,19 @@
 -- Parts that read items, and folds that give values, are as the premises ask; and they leave ends.
-use Rattle.std.specs.Prelude.{◌≡◌, ℕ, List, ◌++◌, Ok, Err}
+use Rattle.std.specs.Prelude.{◌≡◌, ℕ, List, ◌++◌}
 use Rattle.std.proofs.Common.{refl, sym, ◌∙◌, ap, subst, inl, inr}
 use Rattle.streams.specs.Input.{Input, IsEndOf}
-use Rattle.streams.specs.Kind.{Kind, backtrack}
 use Rattle.streams.specs.Place.{Place}
 use Rattle.streams.specs.Reading.{Reading}
 use Rattle.stream_errors.specs.Form.{Answer}
+use Rattle.winnow_core.specs.Decided.{EqualResults}
+use Rattle.winnow_core.specs.Decided.Inputs.{both_err, both_ok}
 use Rattle.winnow_core.specs.Ends.{same_ends}
 use Rattle.winnow_core.specs.Runs.{Keeps as KeepsState}
 use Rattle.winnow_expression_trees.specs.Items.{AreItems, Gives, GivesOne, ItemRuns}
 use Rattle.winnow_expression_trees.specs.Items.{Items}
 use Rattle.winnow_expression_trees.specs.Items.{left_at}
-use Rattle.winnow_expression_trees.specs.Premises.{EquivalentResults, FoldAlike, FoldsAlike}
+use Rattle.winnow_expression_trees.specs.Premises.{FoldAlike, FoldsAlike}
 use Rattle.winnow_expression_trees.specs.Premises.{IsStateless}
-use Rattle.winnow_expression_trees.specs.Premises.Laws.{both_ok}
-
-pub ok_is_not : {O X : Type 0} {a : Answer O} {v : O} {k : Kind} → a ≡ Ok v → a ≡ Err k → X
-ok_is_not e f = absurd (cc)
-
-pub same_ok : {O : Type 0} {a : Answer O} {v w : O} → a ≡ Ok v → a ≡ Ok w → v ≡ w
-same_ok e f = cc
-
-neither : {O : Type 0} (alike : O → O → Type 0) (a b : Answer O) (k : Kind) → a ≡ Err k
-    → b ≡ Err k → EquivalentResults alike a b
-neither alike a b k e f =
-    subst (λ x. EquivalentResults alike x b) (sym e)
-    (subst (λ x. EquivalentResults alike (Err k) x) (sym f) refl)
 
 -- ---- the premises
 
@@ -43,26 +31,26 @@ items_stateless {S} {T} {O} units alike item s are self = record {
     status i j a (inr (none, e, place)) = ap (λ z. z.status) place
 
     decide : (i j k : Input T) (a b : Answer O) → ItemRuns item i a j → ItemRuns item i b k
-        → EquivalentResults alike a b × (j ≡ k)
+        → EqualResults alike a b × (j ≡ k)
     decide i j k a b (inl (o, rest, is, e, place)) (inl (p, more, was, f, other)) =
         let same = are.one i.left.tokens o p rest more is was in (
-          both_ok alike a b o p e f (subst (λ z. alike o z) same.0 (self o)),
+          both_ok alike e f (subst (λ z. alike o z) same.0 (self o)),
           place ∙ ap (λ z. left_at i z) same.1 ∙ sym other,
         )
     decide i j k a b (inl (o, rest, is, e, place)) (inr (none, f, other)) = absurd (none o rest is)
     decide i j k a b (inr (none, e, place)) (inl (p, more, was, f, other)) =
         absurd (none p more was)
     decide i j k a b (inr (none, e, place)) (inr (none2, f, other)) =
-        (neither alike a b backtrack e f, place ∙ sym other)
+        (both_err alike e f refl, place ∙ sym other)
 
 gives_same : {T V : Type 0} (given : V → Type 0) → GivesOne given → (i j k n : Input T)
-    (a b : Answer V) → Gives given i a j → Gives given k b n → EquivalentResults (λ v w. v ≡ w) a b
+    (a b : Answer V) → Gives given i a j → Gives given k b n → EqualResults (λ v w. v ≡ w) a b
 gives_same given single i j k n a b (inl (v, is, e, p)) (inl (w, was, f, q)) =
-    both_ok (λ v w. v ≡ w) a b v w e f (single v w is was)
+    both_ok (λ v w. v ≡ w) e f (single v w is was)
 gives_same given single i j k n a b (inl (v, is, e, p)) (inr (none, f, q)) = absurd (none v is)
 gives_same given single i j k n a b (inr (none, e, p)) (inl (w, was, f, q)) = absurd (none w was)
 gives_same given single i j k n a b (inr (none, e, p)) (inr (none2, f, q)) =
-    neither (λ v w. v ≡ w) a b backtrack e f
+    both_err (λ v w. v ≡ w) e f refl
 
 pub gives_rest : {T V : Type 0} (given : V → Type 0) (i j : Input T) (a : Answer V)
     → Gives given i a j

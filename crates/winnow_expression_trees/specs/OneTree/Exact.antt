@@ -101,109 +101,12 @@ complete first next m t i j b over keeps =
     outcome_reads first next m t i j keeps.then_at keeps.then_read b keeps.binds keeps.reaches
     over keeps.reads keeps.ends
 
--- soundness
-pub above_later : {V F G H P : Type 0} (av : V → V → Type 0) (af : F → F → Type 0)
-    (ag : G → G → Type 0)
-    (ah : H → H → Type 0) (first : P → First V F → P → Type 0) (next : P → Next G H → P → Type 0)
-    → Decided av af ag ah first next → (p : ℤ) (r : Tree V F G H) (i k n : P) (x y : Next G H)
-    → next i x k → Ends p r x → next i y n
+-- what is read after a right operand does not bind within it
+pub above_later : {V F G H P : Type 0} {av : V → V → Type 0} {af : F → F → Type 0}
+    {ag : G → G → Type 0} {ah : H → H → Type 0} {first : P → First V F → P → Type 0}
+    {next : P → Next G H → P → Type 0} (d : Decided av af ag ah first next) (p : ℤ)
+    (r : Tree V F G H) (i k n : P) (x y : Next G H) → next i x k → Ends p r x → next i y n
     → (q : ℤ) → power_of y ≡ Some q → (q <ℤ p) × EdgeAbove r q
-above_later av af ag ah first next d p r i k n x y read ends later q is =
-    let same = alike_power ag ah x y (d.nexts i k n x y read later).0
-    ∙ is in (ends.0 q same, ends.1 q same)
-
-mutual
-  pub reads_sound : {V F G H P : Type 0} (av : V → V → Type 0) (af : F → F → Type 0)
-      (ag : G → G → Type 0)
-      (ah : H → H → Type 0) (first : P → First V F → P → Type 0) (next : P → Next G H → P → Type 0)
-      → Decided av af ag ah first next → (m : ℤ) (i : P) (t : Tree V F G H) (j : P) (b : Bool)
-      → Reads first next m i t j b → Over first next t i j × Keeps next m t j b
-  reads_sound av af ag ah first next d _ _ _ _ _ (reads_operand m v i j k t b read grows) =
-      grows_sound av af ag ah first next d m (leaf v) i j t k b read tt tt (λ x n r q is. tt) grows
-  reads_sound av af ag ah first next d _ _ _ _ _
-      (reads_prefix m p f i j k n r t b read inner grows) =
-      let s = reads_sound av af ag ah first next d p j r k false inner in
-      grows_sound av af ag ah first next d m (before p f r) i k t n b (j, read, s.0)
-      (s.1.binds, s.1.reaches) tt
-      (λ x q later. above_later av af ag ah first next d p r k s.1.then_at q s.1.then_read
-      x s.1.reads s.1.ends later)
-      grows
-  reads_sound av af ag ah first next d _ _ _ _ _ (reads_ended m p f i j k r read inner) =
-      let s = reads_sound av af ag ah first next d p j r k true inner in
-      let e = s.1.ends in (
-        (j, read, s.0),
-        record {
-          binds = (s.1.binds, s.1.reaches);
-          reaches = tt;
-          then_read = s.1.then_read;
-          then_at = s.1.then_at;
-          reads = s.1.reads;
-          ends = (e.0, e.1, inl e.2);
-        },
-      )
-
-  pub grows_sound : {V F G H P : Type 0} (av : V → V → Type 0) (af : F → F → Type 0)
-      (ag : G → G → Type 0)
-      (ah : H → H → Type 0) (first : P → First V F → P → Type 0) (next : P → Next G H → P → Type 0)
-      → Decided av af ag ah first next
-      → (m : ℤ) (l : Tree V F G H) (start i : P) (t : Tree V F G H) (j : P)
-      (b : Bool) → Over first next l start i → Binds l → Reaches m l
-      → ((x : Next G H) (k : P) → next i x k → Above l x) → Grows first next m l i t j b
-      → Over first next t start j × Keeps next m t j b
-  grows_sound av af ag ah first next d _ _ start _ _ _ _ over binds reaches above
-      (grows_stop m l i k x read below) = (
-        over,
-        record {
-          binds = binds;
-          reaches = reaches;
-          then_read = x;
-          then_at = k;
-          reads = read;
-          ends = (below, above x k read);
-        },
-      )
-  grows_sound av af ag ah first next d _ _ start _ _ _ _ over binds reaches above
-      (grows_block m o l i k read reach top) = (
-        over,
-        record {
-          binds = binds;
-          reaches = reaches;
-          then_read = infix_read o;
-          then_at = k;
-          reads = read;
-          ends = (o, refl, inr (above (infix_read o) k read (left_power o) refl, reach, top));
-        },
-      )
-  grows_sound av af ag ah first next d _ _ start _ _ _ _ over binds reaches above
-      (grows_postfix m p g l t i j k b read reach grows) =
-      grows_sound av af ag ah first next d m (behind p g l) start j t k b (i, over, read)
-      (binds, above (Postfix p g) j read p refl) (reach, reaches) (λ x n q r is. tt) grows
-  grows_sound av af ag ah first next d _ _ start _ _ _ _ over binds reaches above
-      (grows_infix m o l r t i j k n b read reach free inner grows) =
-      let s = reads_sound av af ag ah first next d (right_power o) j r k false inner in
-      grows_sound av af ag ah first next d m (between o l r) start k t n b (i, j, over, read, s.0)
-      (binds, s.1.binds, above (infix_read o) j read (left_power o) refl, free, s.1.reaches)
-      (reach, reaches)
-      (λ x q later. above_later av af ag ah first next d (right_power o) r k s.1.then_at q
-      s.1.then_read x s.1.reads s.1.ends later)
-      grows
-  grows_sound av af ag ah first next d _ _ start _ _ _ _ over binds reaches above
-      (grows_ended m o l r i j k read reach free inner) =
-      let s = reads_sound av af ag ah first next d (right_power o) j r k true inner in
-      let e = s.1.ends in (
-        (i, j, over, read, s.0),
-        record {
-          binds = (
-            binds,
-            s.1.binds,
-            above (infix_read o) j read (left_power o) refl,
-            free,
-            s.1.reaches,
-          );
-          reaches = (reach, reaches);
-          then_read = s.1.then_read;
-          then_at = s.1.then_at;
-          reads = s.1.reads;
-          ends = (e.0, e.1, inl e.2);
-        },
-      )
+above_later {ag = ag} {ah} d p r i k n x y read ends later q is =
+    let same = alike_power ag ah x y (d.nexts i k n x y read later).0 ∙ is in
+    (ends.0 q same, ends.1 q same)

@@ -21,19 +21,19 @@ use Rattle.winnow_expression_trees.specs.OneTree.Exact.{complete}
 pub clash_flag : {X : Type 0} → false ≡ true → X
 clash_flag e = absurd (cc)
 
-module _ {V F G H P : Type 0} (av : V → V → Type 0) (af : F → F → Type 0) (ag : G → G → Type 0)
-    (ah : H → H → Type 0) (first : P → First V F → P → Type 0) (next : P → Next G H → P → Type 0)
+module _ {V F G H P : Type 0} {av : V → V → Type 0} {af : F → F → Type 0} {ag : G → G → Type 0}
+    {ah : H → H → Type 0} {first : P → First V F → P → Type 0} {next : P → Next G H → P → Type 0}
     (d : Decided av af ag ah first next) where
   mutual
     pub reads_unique : (m : ℤ) (i : P) (t : Tree V F G H) (j : P) (b : Bool)
         → Reads first next m i t j b → (u : Tree V F G H) (q : P) (c : Bool)
         → Reads first next m i u q c → AlikeTree av af ag ah t u × (j ≡ q) × (b ≡ c)
     reads_unique _ _ _ _ _ (reads_operand m v i j k t b read grows) u q c other =
-        let (w, alike, also, more) = operand_at av af ag ah first next d m i u q c v j other read in
+        let (w, alike, also, more) = operand_at d m i u q c v j other read in
         grows_unique m (leaf v) j t k b grows (leaf w) alike u q c more
     reads_unique _ _ _ _ _ (reads_prefix m p f i j k n r t b read inner grows) u q c other =
         let (g, s, z, e, alike, also, more, follows) =
-        prefix_at av af ag ah first next d m i u q c p f j other read in
+        prefix_at d m i u q c p f j other read in
         let (same, place, flag) = reads_unique p j r k false inner s z e more in
         elim follows [
           | inl (is, goes)
@@ -44,7 +44,7 @@ module _ {V F G H P : Type 0} (av : V → V → Type 0) (af : F → F → Type 0
         ]
     reads_unique _ _ _ _ _ (reads_ended m p f i j k r read inner) u q c other =
         let (g, s, z, e, alike, also, more, follows) =
-        prefix_at av af ag ah first next d m i u q c p f j other read in
+        prefix_at d m i u q c p f j other read in
         let (same, place, flag) = reads_unique p j r k true inner s z e more in
         elim follows [
           | inl (is, goes) ↦ clash_flag (sym is ∙ sym flag)
@@ -61,10 +61,10 @@ module _ {V F G H P : Type 0} (av : V → V → Type 0) (af : F → F → Type 0
         → AlikeTree av af ag ah t u × (j ≡ q) × (b ≡ c)
     grows_unique _ _ _ _ _ _ (grows_stop m l i j x read below) o like u q c other =
         let (all, tree, stays) =
-        stop_at av af ag ah first next d m o i u q c x j other read below in
+        stop_at d m o i u q c x j other read below in
         (subst (λ y. AlikeTree av af ag ah l y) (sym tree) like, sym stays, sym all)
     grows_unique _ _ _ _ _ _ (grows_block m x l i j read reach top) o like u q c other =
-        let (y, alike, also, goes) = infix_at av af ag ah first next d m o i u q c x j other read in
+        let (y, alike, also, goes) = infix_at d m o i u q c x j other read in
         elim goes [
           | inl (less, stops) ↦ clash_ℤ less reach
           | inr (inl (reaches, tops, (all, tree, stays))) ↦
@@ -73,7 +73,7 @@ module _ {V F G H P : Type 0} (av : V → V → Type 0) (af : F → F → Type 0
         ]
     grows_unique _ _ _ _ _ _ (grows_postfix m p f l t i j k b read reach grows) o like u q c other =
         let (g, alike, also, goes) =
-        postfix_at av af ag ah first next d m o i u q c p f j other read in
+        postfix_at d m o i u q c p f j other read in
         elim goes [
           | inl (less, stops) ↦ clash_ℤ less reach
           | inr (reaches, more) ↦
@@ -82,7 +82,7 @@ module _ {V F G H P : Type 0} (av : V → V → Type 0) (af : F → F → Type 0
         ]
     grows_unique _ _ _ _ _ _ (grows_infix m x l r t i j k n b read reach free inner grows) o
         like u q c other =
-        let (y, alike, also, goes) = infix_at av af ag ah first next d m o i u q c x j other read in
+        let (y, alike, also, goes) = infix_at d m o i u q c x j other read in
         elim goes [
           | inl (less, stops) ↦ clash_ℤ less reach
           | inr (inl (reaches, tops, stops)) ↦ absurd (free (alike_top av af ag ah l o like ∙ tops))
@@ -97,7 +97,7 @@ module _ {V F G H P : Type 0} (av : V → V → Type 0) (af : F → F → Type 0
               ]
         ]
     grows_unique _ _ _ _ _ _ (grows_ended m x l r i j k read reach free inner) o like u q c other =
-        let (y, alike, also, goes) = infix_at av af ag ah first next d m o i u q c x j other read in
+        let (y, alike, also, goes) = infix_at d m o i u q c x j other read in
         elim goes [
           | inl (less, stops) ↦ clash_ℤ less reach
           | inr (inl (reaches, tops, stops)) ↦ absurd (free (alike_top av af ag ah l o like ∙ tops))

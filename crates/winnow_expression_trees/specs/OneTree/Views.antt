@@ -97,9 +97,9 @@ grows_as first next _ _ _ _ _ _ (grows_ended m o l r i j k read reach free inner
   inr (inr (reach, free, r, k, true, inner, inr (refl, refl, refl, refl))),
 )
 
-module _ {V F G H P : Type 0} (av : V → V → Type 0) (af : F → F → Type 0) (ag : G → G → Type 0)
-    (ah : H → H → Type 0) (first : P → First V F → P → Type 0)
-    (next : P → Next G H → P → Type 0) where
+module _ {V F G H P : Type 0} {av : V → V → Type 0} {af : F → F → Type 0} {ag : G → G → Type 0}
+    {ah : H → H → Type 0} {first : P → First V F → P → Type 0}
+    {next : P → Next G H → P → Type 0} (d : Decided av af ag ah first next) where
   operand_case : (m : ℤ) (i : P) (t : Tree V F G H) (n : P) (b : Bool) (v : V) (x : First V F)
       (k : P)
       → AlikeFirst av af (Operand v) x → first i x k → ReadsAs first next m t n b x k
@@ -186,52 +186,51 @@ module _ {V F G H P : Type 0} (av : V → V → Type 0) (af : F → F → Type 0
         )),
       )
 
-  module _ (d : Decided av af ag ah first next) where
-    pub operand_at : (m : ℤ) (i : P) (t : Tree V F G H) (n : P) (b : Bool) (v : V) (j : P)
-        → Reads first next m i t n b → first i (Operand v) j
-        → (w : V) × av v w × first i (Operand w) j × Grows first next m (leaf w) j t n b
-    operand_at m i t n b v j reads read =
-        let (x, k, other, how) = reads_as first next m i t n b reads in
-        let (same, place) = d.firsts i j k (Operand v) x read other in
-        operand_case m i t n b v x j same (subst (λ z. first i x z) (sym place) other)
-        (subst (λ z. ReadsAs first next m t n b x z) (sym place) how)
+  pub operand_at : (m : ℤ) (i : P) (t : Tree V F G H) (n : P) (b : Bool) (v : V) (j : P)
+      → Reads first next m i t n b → first i (Operand v) j
+      → (w : V) × av v w × first i (Operand w) j × Grows first next m (leaf w) j t n b
+  operand_at m i t n b v j reads read =
+      let (x, k, other, how) = reads_as first next m i t n b reads in
+      let (same, place) = d.firsts i j k (Operand v) x read other in
+      operand_case m i t n b v x j same (subst (λ z. first i x z) (sym place) other)
+      (subst (λ z. ReadsAs first next m t n b x z) (sym place) how)
 
-    pub prefix_at : (m : ℤ) (i : P) (t : Tree V F G H) (n : P) (b : Bool) (p : ℤ) (f : F) (j : P)
-        → Reads first next m i t n b → first i (prefix_read p f) j
-        → (g : F) × (r : Tree V F G H) × (z : P) × (c : Bool) × af f g
-        × first i (prefix_read p g) j × Reads first next p j r z c
-        × Follows first next m (before p g r) z t n c b
-    prefix_at m i t n b p f j reads read =
-        let (x, k, other, how) = reads_as first next m i t n b reads in
-        let (same, place) = d.firsts i j k (prefix_read p f) x read other in
-        prefix_case m i t n b p f x j same (subst (λ z. first i x z) (sym place) other)
-        (subst (λ z. ReadsAs first next m t n b x z) (sym place) how)
+  pub prefix_at : (m : ℤ) (i : P) (t : Tree V F G H) (n : P) (b : Bool) (p : ℤ) (f : F) (j : P)
+      → Reads first next m i t n b → first i (prefix_read p f) j
+      → (g : F) × (r : Tree V F G H) × (z : P) × (c : Bool) × af f g
+      × first i (prefix_read p g) j × Reads first next p j r z c
+      × Follows first next m (before p g r) z t n c b
+  prefix_at m i t n b p f j reads read =
+      let (x, k, other, how) = reads_as first next m i t n b reads in
+      let (same, place) = d.firsts i j k (prefix_read p f) x read other in
+      prefix_case m i t n b p f x j same (subst (λ z. first i x z) (sym place) other)
+      (subst (λ z. ReadsAs first next m t n b x z) (sym place) how)
 
-    pub stop_at : (m : ℤ) (l : Tree V F G H) (i : P) (t : Tree V F G H) (n : P) (b : Bool)
-        (x : Next G H)
-        (j : P) → Grows first next m l i t n b → next i x j → Below m x → Stops l i t n false b
-    stop_at m l i t n b x j grows read below =
-        let (y, k, other, how) = grows_as first next m l i t n b grows in
-        let (same, place) = d.nexts i j k x y read other in
-        stop_case m l i t n b x y k (alike_power ag ah x y same) below how
+  pub stop_at : (m : ℤ) (l : Tree V F G H) (i : P) (t : Tree V F G H) (n : P) (b : Bool)
+      (x : Next G H)
+      (j : P) → Grows first next m l i t n b → next i x j → Below m x → Stops l i t n false b
+  stop_at m l i t n b x j grows read below =
+      let (y, k, other, how) = grows_as first next m l i t n b grows in
+      let (same, place) = d.nexts i j k x y read other in
+      stop_case m l i t n b x y k (alike_power ag ah x y same) below how
 
-    pub postfix_at : (m : ℤ) (l : Tree V F G H) (i : P) (t : Tree V F G H) (n : P) (b : Bool)
-        (p : ℤ)
-        (f : G) (j : P) → Grows first next m l i t n b → next i (Postfix p f) j
-        → (g : G) × ag f g × next i (Postfix p g) j × (((p <ℤ m) × Stops l i t n false b)
-        ⊎ ((m ≤ℤ p) × Grows first next m (behind p g l) j t n b))
-    postfix_at m l i t n b p f j grows read =
-        let (y, k, other, how) = grows_as first next m l i t n b grows in
-        let (same, place) = d.nexts i j k (Postfix p f) y read other in
-        postfix_case m l i t n b p f y j same (subst (λ z. next i y z) (sym place) other)
-        (subst (λ z. GrowsAs first next m l i t n b y z) (sym place) how)
+  pub postfix_at : (m : ℤ) (l : Tree V F G H) (i : P) (t : Tree V F G H) (n : P) (b : Bool)
+      (p : ℤ)
+      (f : G) (j : P) → Grows first next m l i t n b → next i (Postfix p f) j
+      → (g : G) × ag f g × next i (Postfix p g) j × (((p <ℤ m) × Stops l i t n false b)
+      ⊎ ((m ≤ℤ p) × Grows first next m (behind p g l) j t n b))
+  postfix_at m l i t n b p f j grows read =
+      let (y, k, other, how) = grows_as first next m l i t n b grows in
+      let (same, place) = d.nexts i j k (Postfix p f) y read other in
+      postfix_case m l i t n b p f y j same (subst (λ z. next i y z) (sym place) other)
+      (subst (λ z. GrowsAs first next m l i t n b y z) (sym place) how)
 
-    pub infix_at : (m : ℤ) (l : Tree V F G H) (i : P) (t : Tree V F G H) (n : P) (b : Bool)
-        (o : Infix H) (j : P) → Grows first next m l i t n b → next i (infix_read o) j
-        → (q : Infix H) × AlikeInfix ah o q × next i (infix_read q) j
-        × InfixGoes first next m l i t n b o q j
-    infix_at m l i t n b o j grows read =
-        let (y, k, other, how) = grows_as first next m l i t n b grows in
-        let (same, place) = d.nexts i j k (infix_read o) y read other in
-        infix_case m l i t n b o y j same (subst (λ z. next i y z) (sym place) other)
-        (subst (λ z. GrowsAs first next m l i t n b y z) (sym place) how)
+  pub infix_at : (m : ℤ) (l : Tree V F G H) (i : P) (t : Tree V F G H) (n : P) (b : Bool)
+      (o : Infix H) (j : P) → Grows first next m l i t n b → next i (infix_read o) j
+      → (q : Infix H) × AlikeInfix ah o q × next i (infix_read q) j
+      × InfixGoes first next m l i t n b o q j
+  infix_at m l i t n b o j grows read =
+      let (y, k, other, how) = grows_as first next m l i t n b grows in
+      let (same, place) = d.nexts i j k (infix_read o) y read other in
+      infix_case m l i t n b o y j same (subst (λ z. next i y z) (sym place) other)
+      (subst (λ z. GrowsAs first next m l i t n b y z) (sym place) how)

@@ -10,38 +10,24 @@ use Rattle.winnow_core.specs.Literal.{LiteralRuns}
 use Rattle.winnow_core.specs.Literal.Inversion.{token_taken}
 use Rattle.winnow_core.specs.Runs.{Keeps, Runs}
 use Rattle.winnow_core.specs.Value.{ValueRuns}
-use Rattle.winnow_core.specs.Decided.{EqualResults, IsDecided}
+use Rattle.winnow_core.specs.Decided.{IsDecided}
+use Rattle.winnow_core.specs.Decided.Inputs.{widened}
 use Rattle.winnow_core.specs.Decided.{NotMemory as NotWantOfMemory}
 use Rattle.winnow_expression.specs.Units.{units_left}
-use Rattle.winnow_expression_trees.specs.Premises.{EquivalentResults, IsStateless, NotMemory}
+use Rattle.winnow_expression_trees.specs.Premises.{IsStateless, NotMemory}
 
 no_memory : {O : Type 0} (a : Answer O) → NotMemory a → NotWantOfMemory a
 no_memory (Ok o) other e = ok_is_err refl e
 no_memory (Err k) other e = other (same_kind e)
 
-same_answers : {O : Type 0} (alike : O → O → Type 0) (a b : Answer O) → EqualResults alike a b
-    → EquivalentResults alike a b
-same_answers alike (Ok o) (Ok p) like = like
-same_answers alike (Ok o) (Err l) like = like
-same_answers alike (Err k) (Ok p) like = like
-same_answers alike (Err k) (Err l) like = like
-
 -- what one state and one input decide is decided by the input, in that state
 pub decided_stateless : {S T O : Type 0} {s : S} {run : Runs S T O} {alike : O → O → Type 0}
     → IsDecided s run alike → IsStateless alike run s
-decided_stateless {alike = alike} c = record {
+decided_stateless c = record {
   keeps = λ i j a t r other. c.kept i a t j (no_memory a other) r;
   decided = λ i j k a b t u r q na nb.
-      let told = c.decided i a b t u j k (no_memory a na) (no_memory b nb) r q in
-      (same_answers alike a b told.0, told.1);
+      c.decided i a b t u j k (no_memory a na) (no_memory b nb) r q;
 }
-
-wider_answers : {O : Type 0} (one other : O → O → Type 0) → ((o p : O) → one o p → other o p)
-    → (a b : Answer O) → EquivalentResults one a b → EquivalentResults other a b
-wider_answers one other wider (Ok o) (Ok p) like = wider o p like
-wider_answers one other wider (Ok o) (Err l) like = like
-wider_answers one other wider (Err k) (Ok p) like = like
-wider_answers one other wider (Err k) (Err l) like = like
 
 pub stateless_wider : {S T O : Type 0} {s : S} {run : Runs S T O} {one other : O → O → Type 0}
     → ((o p : O) → one o p → other o p) → IsStateless one run s → IsStateless other run s
@@ -49,7 +35,7 @@ stateless_wider {one = one} {other} wider c = record {
   keeps = c.keeps;
   decided = λ i j k a b t u r q na nb.
       let told = c.decided i j k a b t u r q na nb in
-      (wider_answers one other wider a b told.0, told.1);
+      (widened one other wider a b told.0, told.1);
 }
 
 -- ---- operators that consume

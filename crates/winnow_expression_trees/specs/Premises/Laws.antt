@@ -3,14 +3,15 @@ use Rattle.std.specs.Prelude.{◌≡◌, ℕ, Ok, Err}
 use Rattle.std.specs.declared.ops.Range.{Range}
 use Rattle.std.proofs.Common.{refl, sym, ap, subst, inl, inr, ◌∙◌}
 use Rattle.streams.specs.Input.{Input}
-use Rattle.streams.specs.Kind.{Kind, backtrack}
 use Rattle.stream_errors.specs.Form.{Answer}
 use Rattle.winnow_comb.specs.Fail.{FailRuns}
+use Rattle.winnow_core.specs.Decided.{EqualResults}
+use Rattle.winnow_core.specs.Decided.Inputs.{both_err, both_ok}
 use Rattle.winnow_core.specs.MakesOutput.{MakesOutput}
 use Rattle.winnow_core.specs.Runs.{Keeps, Runs}
 use Rattle.winnow_core.specs.Span.{SpanRuns, places}
 use Rattle.winnow_core.specs.WithSpan.{WithSpanRuns}
-use Rattle.winnow_expression_trees.specs.Premises.{EquivalentResults, IsStateless, NotMemory}
+use Rattle.winnow_expression_trees.specs.Premises.{IsStateless, NotMemory}
 
 -- A call of a parser whose state does not matter. Unless memory runs out, it changes only the
 -- position, and the input determines its result and the rest.
@@ -18,19 +19,7 @@ pub record IsPlain {T O : Type 0} (alike : O → O → Type 0)
     (run : Input T → Answer O → Input T → Type 0) : Type 0 where
   pub status : (i j : Input T) (a : Answer O) → run i a j → NotMemory a → j.status ≡ i.status
   pub decided : (i j k : Input T) (a b : Answer O) → run i a j → run i b k → NotMemory a
-      → NotMemory b → EquivalentResults alike a b × (j ≡ k)
-
-pub both_ok : {O : Type 0} (alike : O → O → Type 0) (a b : Answer O) (v w : O) → a ≡ Ok v
-    → b ≡ Ok w → alike v w → EquivalentResults alike a b
-both_ok alike a b v w e f like =
-    subst (λ x. EquivalentResults alike x b) (sym e)
-    (subst (λ x. EquivalentResults alike (Ok v) x) (sym f) like)
-
-pub both_err : {O : Type 0} (alike : O → O → Type 0) (a b : Answer O) (k l : Kind) → a ≡ Err k
-    → b ≡ Err l → k ≡ l → EquivalentResults alike a b
-both_err alike a b k l e f same =
-    subst (λ x. EquivalentResults alike x b) (sym e)
-    (subst (λ x. EquivalentResults alike (Err k) x) (sym f) same)
+      → NotMemory b → EqualResults alike a b × (j ≡ k)
 
 -- a parser that keeps its value, as far as that decides its runs
 pub keeps_stateless : {S T O : Type 0} (alike : O → O → Type 0)
@@ -47,7 +36,7 @@ pub fail_plain : {T O : Type 0} (alike : O → O → Type 0)
 fail_plain alike = record {
   status = λ i j a r n. ap (λ x. x.status) r.1;
   decided = λ i j k a b r q na nb.
-      (both_err alike a b backtrack backtrack r.0 q.0 refl, r.1 ∙ sym q.1);
+      (both_err alike r.0 q.0 refl, r.1 ∙ sym q.1);
 }
 
 -- ---- outputs made of another, and of where that was read
@@ -66,10 +55,10 @@ module _ {S T O U : Type 0} {run : Runs S T O} {s : S} {alike : O → O → Type
 
       decided : (i j k : Input T) (a b : Answer U) (t u : S) → MakesOutput makes run s i a t j
           → MakesOutput makes run s i b u k → NotMemory a → NotMemory b
-          → EquivalentResults also a b × (j ≡ k)
+          → EqualResults also a b × (j ≡ k)
       decided i j k a b t u (inl (o, v, r, x, e)) (inl (p, w, q, y, f)) n m =
           let (like, place) = c.decided i j k (Ok o) (Ok p) t u r q tt tt in (
-            both_ok also a b v w e f
+            both_ok also e f
                 (made i j o p v w like x (subst (λ z. makes i p z w) (sym place) y)),
             place,
           )
@@ -80,7 +69,7 @@ module _ {S T O U : Type 0} {run : Runs S T O} {s : S} {alike : O → O → Type
       decided i j k a b t u (inr (l, r, e)) (inr (h, q, f)) n m =
           let (like, place) = c.decided i j k (Err l) (Err h) t u r q
           (subst (λ z. NotMemory z) e n) (subst (λ z. NotMemory z) f m) in
-          (both_err also a b l h e f like, place)
+          (both_err also e f like, place)
 
 -- equivalent outputs with the same span
 abbrev pub AlikeWithSpan : {O : Type 0} → (O → O → Type 0) → O × Range ℕ → O × Range ℕ → Type 0

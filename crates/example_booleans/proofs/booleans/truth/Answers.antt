@@ -28,7 +28,7 @@ returns-clause-reads g c =
     (items_exact bytes_reading backtrack (ByteItem operand_at) (ByteItem prefix_at)
     (ByteItem postfix_at) (ByteItem infix_at) not_value not_value logic_value tt tt tt tt
     (byte_items operand_at) (byte_items prefix_at) (byte_items postfix_at) (byte_items infix_at)
-    one_not one_not one_logic level (bytes_input c.args.input.now.now) _ _ states
+    level (bytes_input c.args.input.now.now) _ _ states
     (c.expression_is_unambiguous.ensures.exact state
     (items_premises bytes_reading backtrack (ByteItem operand_at) (ByteItem prefix_at)
     (ByteItem postfix_at) (ByteItem infix_at) not_value not_value logic_value tt tt tt tt
@@ -48,7 +48,8 @@ returns-clause-fails g c =
     c.parse_next.result
     (fails_at_items bytes_reading backtrack (ByteItem operand_at) (ByteItem prefix_at)
     (ByteItem postfix_at) (ByteItem infix_at) not_value not_value logic_value
-    (byte_items prefix_at) (byte_items postfix_at) (byte_items infix_at) some_not some_not
+    (byte_items operand_at) (byte_items prefix_at) (byte_items postfix_at) (byte_items infix_at)
+    some_not some_not
     some_logic level (bytes_input c.args.input.now.now) _ states _
     (c.expression_is_unambiguous.ensures.exact state
     (items_premises bytes_reading backtrack (ByteItem operand_at) (ByteItem prefix_at)
