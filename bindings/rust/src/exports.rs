@@ -1352,7 +1352,7 @@ extern "C" {
     /// highest byte first; names in them may be compressed, so pass their offsets to
     /// `exported_dns_name_at`.
     ///
-    /// A call holds up to 16 KiB of memory, and 64 bytes for each byte of the data.
+    /// A call holds up to 32 KiB of memory, and 64 bytes for each byte of the data.
     ///
     /// # Errors
     ///

@@ -126,6 +126,10 @@ no_question = refused_question no_fault
 abbrev pub no_record : DnsRecord
 no_record = refused_record no_fault
 
+-- the output for a name of this length
+abbrev pub name_of : ℕ → ℕ → DnsName
+name_of length end = record { length = length; end = end; fault = no_fault }
+
 -- the output for a record with data of `size` bytes, which follow ten bytes of fields
 abbrev pub record_of : Record Global → ℕ → DnsRecord
 record_of found size = record {
@@ -147,7 +151,7 @@ module _ (message : List ℕ) (start : ℕ) where
     pub is_name : IsShort message followed start labels end
     pub is_text : text ≡ wire labels
     pub short : length text ≤ 255
-    pub shows : it ≡ record { length = length text; end = end; fault = no_fault }
+    pub shows : it ≡ name_of (length text) end
 
   -- The name is written at the start of the buffer.
   abbrev pub WritesName : List ℕ → List ℕ → DnsName → Type 0

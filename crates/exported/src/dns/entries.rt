@@ -134,7 +134,7 @@ pub extern "C" fn exported_dns_question_at(
 /// highest byte first; names in them may be compressed, so pass their offsets to
 /// `exported_dns_name_at`.
 ///
-/// A call holds up to 16 KiB of memory, and 64 bytes for each byte of the data.
+/// A call holds up to 32 KiB of memory, and 64 bytes for each byte of the data.
 ///
 /// # Errors
 ///
