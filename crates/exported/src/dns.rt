@@ -108,8 +108,8 @@ pub(crate) fn code_for(why: PartError) -> u32
     }
 }
 
-/// Writes a name without compression, as far as there is room, and returns the offset after it: each
-/// label after its length, and the length 0 of the root. It calls itself once for each label.
+/// Writes a name without compression, as far as there is room, and returns the offset after it:
+/// each label after its length, and the length 0 of the root. It calls itself once for each label.
 fn put_labels(labels: &[&[u8]], at: usize, buffer: &mut [u8]) -> usize
     requires { octets labels.now ≤ 254 }
     ensures { Puts (wire labels.now) at buffer.old result buffer.new }

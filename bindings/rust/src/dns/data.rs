@@ -4,6 +4,8 @@ use crate::{at, exports, Error};
 
 /// The data of a record, by its type and class (RFC 1035, RFC 3596, RFC 2782). Addresses and services
 /// are those of the class of the Internet.
+// (a name holds its bytes, and nothing here allocates)
+#[allow(clippy::large_enum_variant)]
 #[derive(Clone, Copy, Debug, PartialEq, Eq)]
 #[non_exhaustive]
 pub enum Data<'m> {
