@@ -1345,11 +1345,11 @@ enum pergidau_code pergidau_dns_question_at(
  * Parses the resource record at an offset of a DNS message (RFC 1035, section 4.1.3): a name,
  * as by pergidau_dns_name_at, a type, a class, a time to live, and data of a given length. The
  * records start where the last question ends, each at the end of the one before; the header
- * has the number of each section.
+ * has their number in each section.
  *
  * The data must be exactly the contents of their type: a name (NS, CNAME, PTR), a preference
- * and a name (MX), character strings (TXT), two names and five numbers (SOA), and in the class
- * of the Internet an address (A, AAAA), or three numbers and a name (SRV). Data of other types
+ * and a name (MX), character strings (TXT), two names and five numbers (SOA); in the class of
+ * the Internet an address (A, AAAA), or three numbers and a name (SRV). Data of other types
  * and classes may be any bytes. In the classes 254 and 255 the data of any type may be empty
  * (RFC 2136).
  *

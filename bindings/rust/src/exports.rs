@@ -1338,15 +1338,16 @@ extern "C" {
         out: *mut DnsQuestion,
     ) -> u32;
 
-    /// Parses the resource record at an offset of a DNS message (RFC 1035, section 4.1.3): a name, as by
-    /// `exported_dns_name_at`, a type, a class, a time to live, and data of a given length. The records
-    /// start where the last question ends, each at the end of the one before; the header has the
-    /// number of each section.
+    /// Parses the resource record at an offset of a DNS message (RFC 1035, section 4.1.3): a name, as
+    /// by `exported_dns_name_at`, a type, a class, a time to live, and data of a given length. The
+    /// records start where the last question ends, each at the end of the one before; the header has
+    /// their number in each section.
     ///
     /// The data must be exactly the contents of their type: a name (NS, CNAME, PTR), a preference and a
-    /// name (MX), character strings (TXT), two names and five numbers (SOA), and in the class of the
-    /// Internet an address (A, AAAA), or three numbers and a name (SRV). Data of other types and classes
-    /// may be any bytes. In the classes 254 and 255 the data of any type may be empty (RFC 2136).
+    /// name (MX), character strings (TXT), two names and five numbers (SOA); in the class of the
+    /// Internet an address (A, AAAA), or three numbers and a name (SRV). Data of other types and
+    /// classes may be any bytes. In the classes 254 and 255 the data of any type may be empty (RFC
+    /// 2136).
     ///
     /// `DONE`: the record is written. Its name is at the same offset. Numbers in its data have their
     /// highest byte first; names in them may be compressed, so pass their offsets to
