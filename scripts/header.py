@@ -56,6 +56,7 @@ KINDS = {
     "CSV_": ("csv_line_end", "The end of a record of comma-separated values.", ("CsvDialect", "line_ends")),
     "INI_ERROR_": ("ini_error", "The errors of INI lines.", ("IniEntry", "error")),
     "INI_DIALECT_": ("ini_dialect", "The dialects of INI: flags, whose sum is a dialect, and three dialects.", None),
+    "DNS_ERROR_": ("dns_error", "Why a part of a DNS message is invalid.", ("DnsFault", "error")),
     "INI_": ("ini_kind", "The kinds of INI entries.", ("IniEntry", "kind")),
 }
 ENUMS = {(struct, fields[-1]): name

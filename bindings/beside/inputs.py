@@ -5,6 +5,7 @@ Each text is generated from a fixed seed, so it is the same everywhere. Some tex
 log, the statuses and the table are as long and as varied as real data. They are generated once, and
 again if this script changes.
 """
+import json
 import pathlib
 import random
 import sys
@@ -134,6 +135,63 @@ def statuses(seed):
     return '{\n  "statuses": [\n' + lines + behind
 
 
+def coordinates(seed):
+    """Borders of a country: rings of pairs of numbers with up to 17 digits."""
+    rings = []
+    for _ in range(40):
+        east, north, pairs = -141 + 88 * seed.random(), 42 + 41 * seed.random(), []
+        for _ in range(100 + seed.below(700)):
+            east, north = east + seed.random() / 50, north - seed.random() / 90
+            pairs.append([east, north])
+        rings.append(pairs)
+    border = {"type": "Polygon", "coordinates": rings}
+    return json.dumps({"type": "FeatureCollection", "features": [{"type": "Feature", "geometry": border}]})
+
+
+def catalog(seed):
+    """Events of concert halls, with whitespace: objects that have the same names, and integers."""
+
+    def category(number):
+        areas = [{"areaId": 205705000 + seed.below(1000), "blockIds": []} for _ in range(1 + seed.below(12))]
+        return {"areas": areas, "seatCategoryId": 338937000 + number}
+
+    def price(number):
+        kind = 337100000 + seed.below(1000)
+        return {"amount": 50 * seed.below(2000), "audienceSubCategoryId": kind, "seatCategoryId": number}
+
+    def performance(number):
+        count = 1 + seed.below(6)
+        return {
+            "eventId": 138586000 + seed.below(200),
+            "id": 339887000 + number,
+            "logo": seed.one((None, None, "/images/UE0AAAAACEKo6QAAAAZDSVRN")),
+            "name": None,
+            "prices": [price(338937000 + k) for k in range(count)],
+            "seatCategories": [category(k) for k in range(count)],
+            "seatMapImage": None,
+            "start": 1372701600000 + 86400000 * seed.below(1000),
+            "venueCode": seed.one(("PLEYEL_PLEYEL", "SALLE_CORTOT")),
+        }
+
+    events = {
+        str(138586000 + k): {
+            "description": None,
+            "id": 138586000 + k,
+            "name": seed.words(3),
+            "subTopicIds": [337184000 + seed.below(1000) for _ in range(1 + seed.below(4))],
+            "subtitle": None,
+        }
+        for k in range(200)
+    }
+    return json.dumps({"events": events, "performances": [performance(k) for k in range(300)]}, indent=2)
+
+
+def lines(seed):
+    """An array of strings of 64 bytes, without escapes."""
+    made = (f'"{(seed.words(20) + "." * 64)[:64]}"' for _ in range(8000))
+    return "[" + ",\n".join(made) + "]\n"
+
+
 def heads(_):
     """The same request head of a browser, repeated."""
     return HEAD * 1000
@@ -183,6 +241,11 @@ def records(_):
     return "".join(
         f'{k},item {k},"a ""{k}"", b",{k * 7}.5,,"two\nlines",plain text\n' for k in range(10000)
     )
+
+
+def semicolons(_):
+    """The same records with semicolons, single quotes, and carriage returns with line feeds."""
+    return records(_).translate(str.maketrans(",;\"'\n", ";,'\"\0")).replace("\0", "\r\n")
 
 
 def table(seed):
@@ -250,11 +313,15 @@ FILES = {
     "items.json": items,
     "strings.json": strings,
     "statuses.json": statuses,
+    "coordinates.json": coordinates,
+    "catalog.json": catalog,
+    "lines.json": lines,
     "heads.http": heads,
     "log.http": log,
     "small.chunked": chunks(16),
     "large.chunked": chunks(1000),
     "records.csv": records,
+    "semicolons.csv": semicolons,
     "table.csv": table,
     "small.resp": small,
     "large.resp": large,

@@ -40,6 +40,27 @@ uint32_t exported_csv_write(
     uint8_t *buffer,
     size_t buffer_length,
     size_t *out);
+uint32_t exported_dns_name_at(
+    const uint8_t *message,
+    size_t message_length,
+    size_t offset,
+    uint8_t *buffer,
+    size_t buffer_length,
+    struct pergidau_dns_name *out);
+uint32_t exported_dns_question_at(
+    const uint8_t *message,
+    size_t message_length,
+    size_t offset,
+    struct pergidau_dns_question *out);
+uint32_t exported_dns_record_at(
+    const uint8_t *message,
+    size_t message_length,
+    size_t offset,
+    struct pergidau_dns_record *out);
+uint32_t exported_dns_message_header(
+    const uint8_t *message,
+    size_t message_length,
+    struct pergidau_dns_header *out);
 uint32_t exported_http_head(
     const uint8_t *bytes,
     size_t bytes_length,
@@ -204,6 +225,7 @@ uint32_t exported_toml_document(
 _Static_assert(sizeof(enum pergidau_chunked_error) == sizeof(uint32_t), "the size of an enum");
 _Static_assert(sizeof(enum pergidau_chunked_kind) == sizeof(uint32_t), "the size of an enum");
 _Static_assert(sizeof(enum pergidau_csv_line_end) == sizeof(uint32_t), "the size of an enum");
+_Static_assert(sizeof(enum pergidau_dns_error) == sizeof(uint32_t), "the size of an enum");
 _Static_assert(sizeof(enum pergidau_http_body_kind) == sizeof(uint32_t), "the size of an enum");
 _Static_assert(sizeof(enum pergidau_http_error) == sizeof(uint32_t), "the size of an enum");
 _Static_assert(sizeof(enum pergidau_http_head_error) == sizeof(uint32_t), "the size of an enum");
@@ -215,7 +237,7 @@ _Static_assert(sizeof(enum pergidau_resp_kind) == sizeof(uint32_t), "the size of
 _Static_assert(sizeof(enum pergidau_toml_error) == sizeof(uint32_t), "the size of an enum");
 _Static_assert(sizeof(enum pergidau_toml_kind) == sizeof(uint32_t), "the size of an enum");
 
-const char pergidau_declared_9af03243 = 0;
+const char pergidau_declared_c0358006 = 0;
 
 const char *pergidau_version(void)
 {
@@ -508,6 +530,27 @@ const char *pergidau_ini_error_message(enum pergidau_ini_error error)
     return "unknown error";
 }
 
+const char *pergidau_dns_error_message(enum pergidau_dns_error error)
+{
+    switch (error) {
+    case PERGIDAU_DNS_ERROR_NONE:
+        return "no error";
+    case PERGIDAU_DNS_ERROR_INCOMPLETE:
+        return "incomplete element";
+    case PERGIDAU_DNS_ERROR_TRAILING:
+        return "unexpected trailing data";
+    case PERGIDAU_DNS_ERROR_RESERVED:
+        return "reserved label type";
+    case PERGIDAU_DNS_ERROR_NOT_PRIOR:
+        return "compression pointer without a prior target";
+    case PERGIDAU_DNS_ERROR_TOO_MANY:
+        return "too many compression pointers";
+    case PERGIDAU_DNS_ERROR_TOO_LONG:
+        return "name too long";
+    }
+    return "unknown error";
+}
+
 enum pergidau_code pergidau_calc_value(
     const uint8_t *text,
     size_t text_length,
@@ -699,6 +742,105 @@ enum pergidau_code pergidau_csv_write(
         buffer = &no_buffer;
     }
     return (enum pergidau_code)exported_csv_write(fields, fields_length, dialect, buffer, buffer_length, out);
+}
+
+enum pergidau_code pergidau_dns_name_at(
+    const uint8_t *message,
+    size_t message_length,
+    size_t offset,
+    uint8_t *buffer,
+    size_t buffer_length,
+    struct pergidau_dns_name *out)
+{
+    const uint8_t no_message = {0};
+    uint8_t no_buffer = {0};
+    if (message_length > PTRDIFF_MAX / sizeof(uint8_t)) {
+        return PERGIDAU_TOO_LONG;
+    }
+    if (message == NULL && message_length > 0) {
+        return PERGIDAU_NULL;
+    }
+    if (buffer_length > PTRDIFF_MAX / sizeof(uint8_t)) {
+        return PERGIDAU_TOO_LONG;
+    }
+    if (buffer == NULL && buffer_length > 0) {
+        return PERGIDAU_NULL;
+    }
+    if (out == NULL) {
+        return PERGIDAU_NULL;
+    }
+    if (message == NULL) {
+        message = &no_message;
+    }
+    if (buffer == NULL) {
+        buffer = &no_buffer;
+    }
+    return (enum pergidau_code)exported_dns_name_at(message, message_length, offset, buffer, buffer_length, out);
+}
+
+enum pergidau_code pergidau_dns_question_at(
+    const uint8_t *message,
+    size_t message_length,
+    size_t offset,
+    struct pergidau_dns_question *out)
+{
+    const uint8_t no_message = {0};
+    if (message_length > PTRDIFF_MAX / sizeof(uint8_t)) {
+        return PERGIDAU_TOO_LONG;
+    }
+    if (message == NULL && message_length > 0) {
+        return PERGIDAU_NULL;
+    }
+    if (out == NULL) {
+        return PERGIDAU_NULL;
+    }
+    if (message == NULL) {
+        message = &no_message;
+    }
+    return (enum pergidau_code)exported_dns_question_at(message, message_length, offset, out);
+}
+
+enum pergidau_code pergidau_dns_record_at(
+    const uint8_t *message,
+    size_t message_length,
+    size_t offset,
+    struct pergidau_dns_record *out)
+{
+    const uint8_t no_message = {0};
+    if (message_length > PTRDIFF_MAX / sizeof(uint8_t)) {
+        return PERGIDAU_TOO_LONG;
+    }
+    if (message == NULL && message_length > 0) {
+        return PERGIDAU_NULL;
+    }
+    if (out == NULL) {
+        return PERGIDAU_NULL;
+    }
+    if (message == NULL) {
+        message = &no_message;
+    }
+    return (enum pergidau_code)exported_dns_record_at(message, message_length, offset, out);
+}
+
+enum pergidau_code pergidau_dns_message_header(
+    const uint8_t *message,
+    size_t message_length,
+    struct pergidau_dns_header *out)
+{
+    const uint8_t no_message = {0};
+    if (message_length > PTRDIFF_MAX / sizeof(uint8_t)) {
+        return PERGIDAU_TOO_LONG;
+    }
+    if (message == NULL && message_length > 0) {
+        return PERGIDAU_NULL;
+    }
+    if (out == NULL) {
+        return PERGIDAU_NULL;
+    }
+    if (message == NULL) {
+        message = &no_message;
+    }
+    return (enum pergidau_code)exported_dns_message_header(message, message_length, out);
 }
 
 enum pergidau_code pergidau_http_head(

@@ -40,10 +40,10 @@ extern "C" {
  * header refers to it, so that it links with no other library. For a file that is not linked
  * with the library, define PERGIDAU_NO_LINK_CHECK before the header.
  */
-extern const char pergidau_declared_9af03243;
+extern const char pergidau_declared_c0358006;
 #if defined(__GNUC__) && !defined(PERGIDAU_NO_LINK_CHECK)
 __attribute__((__used__, __unused__)) static const char *const pergidau_linked =
-    &pergidau_declared_9af03243;
+    &pergidau_declared_c0358006;
 #endif
 
 /* Returns the version of the linked library, in the form of PERGIDAU_VERSION. */
@@ -98,6 +98,18 @@ enum pergidau_code {
 
 /* Returns the message for a code, in English, without a full stop. Do not free it. */
 const char *pergidau_message(enum pergidau_code code);
+
+/*
+ * The maximum length of a name in bytes, without compression. A buffer of this size suffices
+ * for any name.
+ */
+#define PERGIDAU_DNS_MAX_NAME 255
+
+/*
+ * How many compression pointers are followed in sequence. They suffice for any name if each
+ * leads to a label.
+ */
+#define PERGIDAU_DNS_MAX_POINTERS 127
 
 /*
  * The largest supported depth limit for nested arrays and objects. Each level takes some
@@ -506,6 +518,31 @@ enum pergidau_ini_dialect {
     PERGIDAU_INI_DIALECT_LENIENT = 831
 };
 
+/* Why a part of a DNS message is invalid. */
+enum pergidau_dns_error {
+    /* No error. */
+    PERGIDAU_DNS_ERROR_NONE = 0,
+    /*
+     * Incomplete element. The message, or a record's data by their length, ends within it: a
+     * label, a pointer, the end of a name, fields of a fixed length, a character string, or
+     * data.
+     */
+    PERGIDAU_DNS_ERROR_INCOMPLETE = 1,
+    /* Unexpected trailing data. A record's data have bytes after the contents of their type. */
+    PERGIDAU_DNS_ERROR_TRAILING = 2,
+    /* Reserved label type. Exactly one of the two highest bits of the byte is set. */
+    PERGIDAU_DNS_ERROR_RESERVED = 3,
+    /*
+     * Compression pointer without a prior target. Its target is not before the labels that
+     * precede it.
+     */
+    PERGIDAU_DNS_ERROR_NOT_PRIOR = 4,
+    /* Too many compression pointers. It is one more than are followed. */
+    PERGIDAU_DNS_ERROR_TOO_MANY = 5,
+    /* Name too long. With the labels from the offset on it has more than 255 bytes. */
+    PERGIDAU_DNS_ERROR_TOO_LONG = 6
+};
+
 /* The kinds of INI entries. */
 enum pergidau_ini_kind {
     /* The name of a section, which begins there. */
@@ -538,6 +575,9 @@ const char *pergidau_http_error_message(enum pergidau_http_error error);
 
 /* Returns the message for an error, as pergidau_message does for a code. */
 const char *pergidau_ini_error_message(enum pergidau_ini_error error);
+
+/* Returns the message for an error, as pergidau_message does for a code. */
+const char *pergidau_dns_error_message(enum pergidau_dns_error error);
 
 /* A span of the caller's bytes: an offset and a length. */
 struct pergidau_span {
@@ -595,6 +635,89 @@ struct pergidau_csv_record_state {
     size_t fields;
     /* The part of the record that is expected next; 0 at the start of a field. */
     size_t place;
+};
+
+/* Why a part of a message is invalid. */
+struct pergidau_dns_fault {
+    /* The reason; PERGIDAU_DNS_ERROR_NONE if there is none. */
+    enum pergidau_dns_error error;
+    /* The offset in the message of what is invalid; 0 if there is no reason. */
+    size_t offset;
+};
+
+/* A name. */
+struct pergidau_dns_name {
+    /* How many bytes the name has without compression, from 1 to PERGIDAU_DNS_MAX_NAME. */
+    size_t length;
+    /*
+     * The offset in the message after the labels and the pointer or root that start at the
+     * offset of the name.
+     */
+    size_t end;
+    /* Why there is no name. */
+    struct pergidau_dns_fault fault;
+};
+
+/* A question. */
+struct pergidau_dns_question {
+    /* The offset in the message after its name. */
+    size_t name_end;
+    /* The number of the type of the requested records; 255 means all. */
+    uint16_t record_type;
+    /* The number of their class; 1 is the Internet, 255 any. */
+    uint16_t record_class;
+    /* The offset in the message after the question. */
+    size_t end;
+    /* Why there is no question. */
+    struct pergidau_dns_fault fault;
+};
+
+/* A resource record. */
+struct pergidau_dns_record {
+    /* The offset in the message after its name. */
+    size_t name_end;
+    /* The number of its type. */
+    uint16_t record_type;
+    /* The number of its class; 1 is the Internet. */
+    uint16_t record_class;
+    /* For how many seconds it may be cached. A number above 2^31 - 1 is to be taken as 0. */
+    uint32_t time_to_live;
+    /* The span of its data in the message. */
+    struct pergidau_span span;
+    /* The offset in the message after the record, which is that after its data. */
+    size_t end;
+    /* Why there is no record. */
+    struct pergidau_dns_fault fault;
+};
+
+/* The header of a message. */
+struct pergidau_dns_header {
+    /* The identifier of the query and its response. */
+    uint16_t id;
+    /* The kind of query, a number of 4 bits; 0 is a standard query. */
+    uint8_t opcode;
+    /* The response code, a number of 4 bits; 0 is no error. */
+    uint8_t response_code;
+    /* The reserved bits, a number of 3 bits. */
+    uint8_t reserved;
+    /* Whether the message is a response, and not a query. */
+    bool is_response;
+    /* Whether the responding server is an authority for the name. */
+    bool is_authoritative;
+    /* Whether the message was truncated. */
+    bool is_truncated;
+    /* Whether the server is asked to pursue the query recursively. */
+    bool recursion_desired;
+    /* Whether the responding server can do so. */
+    bool recursion_available;
+    /* The number of questions. */
+    uint16_t question_count;
+    /* The number of records in the answer section. */
+    uint16_t answer_count;
+    /* The number of records in the authority section. */
+    uint16_t authority_count;
+    /* The number of records in the additional section. */
+    uint16_t additional_count;
 };
 
 /* The places of a field. */
@@ -1148,6 +1271,134 @@ enum pergidau_code pergidau_csv_write(
     uint8_t *buffer,
     size_t buffer_length,
     size_t *out);
+
+/*
+ * Decompresses the name at an offset of a DNS message (RFC 1035, sections 3.1 and 4.1.4): of
+ * each label a byte with its length, from 1 to 63, and its bytes, which may be any, and a zero
+ * for the root.
+ *
+ * Names are those of questions, of records, and in the data of records: of NS, CNAME and PTR
+ * at their start, of MX after two bytes, of SRV after six, and of SOA two at their start.
+ *
+ * Each pointer must lead to an offset before the labels that precede it, so pointers never
+ * form a cycle. At most PERGIDAU_DNS_MAX_POINTERS are followed in sequence.
+ *
+ * PERGIDAU_DONE: the name is written at the start of buffer, and its length and its end into
+ * out. The other bytes of the buffer are unchanged.
+ *
+ * A call holds up to 16 KiB of memory.
+ *
+ * # Errors
+ *
+ * PERGIDAU_BUFFER_TOO_SMALL: the name is longer than the buffer. Its length and its end are
+ * written.
+ *
+ * PERGIDAU_INVALID: there is no name of at most PERGIDAU_DNS_MAX_NAME bytes. The reason is
+ * written, and zeros.
+ *
+ * PERGIDAU_NO_MEMORY. Zeros are written.
+ *
+ * After an error the buffer is unchanged.
+ *
+ * # Safety
+ *
+ * message must be valid for reads of message_length bytes, which must not change during the
+ * call, buffer for writes of buffer_length bytes, and out for writes of one name. None of
+ * these may overlap. The call needs 64 KiB of stack.
+ */
+enum pergidau_code pergidau_dns_name_at(
+    const uint8_t *message,
+    size_t message_length,
+    size_t offset,
+    uint8_t *buffer,
+    size_t buffer_length,
+    struct pergidau_dns_name *out);
+
+/*
+ * Parses the question at an offset of a DNS message (RFC 1035, section 4.1.2): a name, as by
+ * pergidau_dns_name_at, a type and a class. The first question is at offset 12, each further
+ * one at the end of the one before; the header has their number.
+ *
+ * PERGIDAU_DONE: the question is written. Its name is at the same offset.
+ *
+ * A call holds up to 16 KiB of memory.
+ *
+ * # Errors
+ *
+ * PERGIDAU_INVALID: there is no question. The reason is written, and zeros.
+ *
+ * PERGIDAU_NO_MEMORY. Zeros are written.
+ *
+ * # Safety
+ *
+ * message must be valid for reads of message_length bytes, which must not change during the
+ * call, and out for writes of one question. They must not overlap. The call needs 64 KiB of
+ * stack.
+ */
+enum pergidau_code pergidau_dns_question_at(
+    const uint8_t *message,
+    size_t message_length,
+    size_t offset,
+    struct pergidau_dns_question *out);
+
+/*
+ * Parses the resource record at an offset of a DNS message (RFC 1035, section 4.1.3): a name,
+ * as by pergidau_dns_name_at, a type, a class, a time to live, and data of a given length. The
+ * records start where the last question ends, each at the end of the one before; the header
+ * has their number in each section.
+ *
+ * The data must be exactly the contents of their type: a name (NS, CNAME, PTR), a preference
+ * and a name (MX), character strings (TXT), two names and five numbers (SOA); in the class of
+ * the Internet an address (A, AAAA), or three numbers and a name (SRV). Data of other types
+ * and classes may be any bytes. In the classes 254 and 255 the data of any type may be empty
+ * (RFC 2136).
+ *
+ * PERGIDAU_DONE: the record is written. Its name is at the same offset. Numbers in its data
+ * have their highest byte first; names in them may be compressed, so pass their offsets to
+ * pergidau_dns_name_at.
+ *
+ * A call holds up to 32 KiB of memory, and 64 bytes for each byte of the data.
+ *
+ * # Errors
+ *
+ * PERGIDAU_INVALID: there is no record. The reason is written, and zeros.
+ *
+ * PERGIDAU_NO_MEMORY. Zeros are written.
+ *
+ * # Safety
+ *
+ * message must be valid for reads of message_length bytes, which must not change during the
+ * call, and out for writes of one record. They must not overlap. The call needs 64 KiB of
+ * stack.
+ */
+enum pergidau_code pergidau_dns_record_at(
+    const uint8_t *message,
+    size_t message_length,
+    size_t offset,
+    struct pergidau_dns_record *out);
+
+/*
+ * Parses the header of a DNS message: its first twelve bytes, whatever they are. The questions
+ * start after it, at offset 12, and the records after them, section by section.
+ *
+ * PERGIDAU_DONE: the header is written.
+ *
+ * The function does not allocate.
+ *
+ * # Errors
+ *
+ * PERGIDAU_INVALID: the message has fewer than twelve bytes. Zeros are written.
+ *
+ * # Safety
+ *
+ * message must be valid for reads of message_length bytes, which must not change during the
+ * call, and out for writes of one header. They must not overlap. The call needs 16 KiB of
+ * stack.
+ */
+enum pergidau_code pergidau_dns_message_header(
+    const uint8_t *message,
+    size_t message_length,
+    struct pergidau_dns_header *out);
 
 /*
  * Parses the head of an HTTP/1.1 request (RFC 9112) at the start of bytes: a request line,

@@ -61,7 +61,7 @@ void *__wrap_realloc(void *block, size_t size)
 enum call { CALC, PAIR, DOCUMENT, ENTRY, CHECK, VALUE, NEXT, STEP, STRING, INTEGER, NATURAL, DECIMAL, DIAGNOSE, MEMBER, HEAD,
             HEAD_IN_PIECES, HEAD_EXTENT, REQUEST_BODY, FIELD, RESPONSE, RESPONSE_IN_PIECES, RESPONSE_EXTENT, RECORD, RECORD_IN_PIECES,
             RECORD_EXTENT, CSV_WRITE, REPLY, REPLY_IN_PIECES, EXTENT, COMMAND, CHUNKED, POSITION,
-            TOML };
+            TOML, DNS_HEADER, DNS_NAME, DNS_QUESTION, DNS_RECORD };
 static const char *const names[] = {
     "calc_value", "ini_pair", "ini_document", "ini_next", "json_check", "json_value", "json_next",
     "json_step", "json_string", "json_integer", "json_natural", "json_decimal", "json_diagnose",
@@ -70,6 +70,7 @@ static const char *const names[] = {
     "http_response_head_extent", "csv_record",
     "csv_record_partial", "csv_record_extent", "csv_write", "resp_reply", "resp_reply_partial",
     "resp_extent", "resp_command", "http_chunked", "text_position", "toml_document",
+    "dns_message_header", "dns_name_at", "dns_question_at", "dns_record_at",
 };
 
 /* Inputs: a start, a repeated part, and an end. `memory` is the header's limit of the peak memory, in
@@ -177,6 +178,12 @@ static const struct {
     {TOML, "", "[[a]]\nb=1\n", "", POWER / 4 + 1, 600, 1024},
     {TOML, "a='", "b", "'", LENGTH, 600, 1024},
     {TOML, "a=[", "1,", "]\na=1", POWER + 1, 600, 1024},
+    {DNS_HEADER, "", "a", "", LENGTH, 0, 16},
+    {DNS_NAME, "", "\1a\xc0.", "", 127, 40, 64},
+    {DNS_NAME, "", "\1a\xc0.", "", 64, 40, 64},
+    {DNS_QUESTION, "", "\1a", "", 127, 40, 64},
+    {DNS_RECORD, "-----------", "a", "", 32769, 64, 64},
+    {DNS_RECORD, "-----------", "a", "", 65535, 64, 64},
 };
 
 static const uint8_t *bytes;
@@ -212,6 +219,10 @@ static enum pergidau_code call(enum call which, size_t max_depth)
     struct pergidau_chunked_step step;
     struct pergidau_position position;
     struct pergidau_toml_result toml;
+    struct pergidau_dns_header header;
+    struct pergidau_dns_name name;
+    struct pergidau_dns_question question;
+    struct pergidau_dns_record resource;
     struct pergidau_bytes slice = {bytes, length};
     size_t found;
     switch (which) {
@@ -279,6 +290,14 @@ static enum pergidau_code call(enum call which, size_t max_depth)
         return pergidau_http_chunked(&chunked, bytes, length, &step);
     case TOML:
         return pergidau_toml_document(bytes, length, max_depth, NULL, 0, NULL, 0, &toml);
+    case DNS_HEADER:
+        return pergidau_dns_message_header(bytes, length, &header);
+    case DNS_NAME:
+        return pergidau_dns_name_at(bytes, length, length - 4, written, sizeof written, &name);
+    case DNS_QUESTION:
+        return pergidau_dns_question_at(bytes, length, 0, &question);
+    case DNS_RECORD:
+        return pergidau_dns_record_at(bytes, length, 0, &resource);
     default:
         return pergidau_text_position(bytes, length, length / 2, &position);
     }
@@ -319,6 +338,24 @@ static size_t stack_of(void *(*run)(void *), void *row)
     return STACK - unused;
 }
 
+/* Writes what a string cannot have: of a chain of labels, each with a pointer to the one before, the
+ * pointers, and a record of as many empty character strings as its data have bytes. */
+static void put_zeros(size_t i, uint8_t *made)
+{
+    if (rows[i].call == DNS_NAME) {
+        made[2] = 0;
+        for (size_t at = 4; at < length; at += 4) {
+            made[at + 2] = (uint8_t)(0xc0 | (at - 4) >> 8);
+            made[at + 3] = (uint8_t)(at - 4);
+        }
+    } else if (rows[i].call == DNS_RECORD) {
+        memset(made, 0, length);
+        made[2] = 16;
+        made[9] = (uint8_t)(rows[i].turns >> 8);
+        made[10] = (uint8_t)rows[i].turns;
+    }
+}
+
 static void make(size_t i)
 {
     size_t front = strlen(rows[i].front), again = strlen(rows[i].again), end = strlen(rows[i].end);
@@ -332,6 +369,7 @@ static void make(size_t i)
         memcpy(made + front + k * again, rows[i].again, again);
     }
     memcpy(made + length - end, rows[i].end, end);
+    put_zeros(i, made);
     bytes = made;
 }
 

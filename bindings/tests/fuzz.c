@@ -388,6 +388,7 @@ static void read_chunked(const uint8_t *bytes, size_t length)
 
 #include "heads_fuzz.h"
 #include "bodies_fuzz.h"
+#include "dns_fuzz.h"
 #include "ini_fuzz.h"
 #include "json_fuzz.h"
 #include "json_lookup_fuzz.h"
@@ -424,6 +425,7 @@ static void read_all(const uint8_t *bytes, size_t length)
     read_toml(bytes, length);
     read_place(bytes, length);
     write_slices(bytes, length);
+    read_dns(bytes, length);
 }
 
 int main(int count, char **words)

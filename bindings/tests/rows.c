@@ -1167,6 +1167,7 @@ static void test_library(void)
 }
 
 #include "bodies_rows.h"
+#include "dns_rows.h"
 #include "heads_rows.h"
 #include "writing_rows.h"
 
@@ -1200,6 +1201,7 @@ int main(void)
     test_toml();
     test_positions();
     test_writing();
+    test_dns();
     test_wrong_use();
     return wrong;
 }

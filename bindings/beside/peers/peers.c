@@ -130,15 +130,29 @@ static void on_record(int end, void *out)
     ((struct outcome *)out)->sum++;
 }
 
-PEER(records_by_libcsv)
+/* Parses records with libcsv, with this delimiter and this quote. */
+static void records_in(unsigned char delimiter, unsigned char quote, const char *text, size_t length,
+                       struct outcome *out)
 {
     struct csv_parser parser;
     if (csv_init(&parser, CSV_STRICT) != 0) {
         return;
     }
+    csv_set_delim(&parser, delimiter);
+    csv_set_quote(&parser, quote);
     csv_parse(&parser, text, length, on_field, on_record, out);
     csv_fini(&parser, on_field, on_record, out);
     csv_free(&parser);
+}
+
+PEER(records_by_libcsv)
+{
+    records_in(',', '"', text, length, out);
+}
+
+PEER(records_with_semicolons_by_libcsv)
+{
+    records_in(';', '\'', text, length, out);
 }
 
 static void count_replies(const redisReply *reply, struct outcome *out)

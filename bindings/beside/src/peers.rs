@@ -31,6 +31,7 @@ peers!(
     heads_in_pieces_by_http_parser,
     pairs_by_inih,
     records_by_libcsv,
+    records_with_semicolons_by_libcsv,
     replies_by_hiredis,
     replies_in_pieces_by_hiredis,
     replies_told_by_hiredis,

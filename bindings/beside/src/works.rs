@@ -61,6 +61,11 @@ const RECORDS: &[(&str, Reader)] = &[
     ("csv, into one record", csv::records_by_csv),
     ("libcsv", peers::records_by_libcsv),
 ];
+const RECORDS_WITH_SEMICOLONS: &[(&str, Reader)] = &[
+    ("this library", csv::records_with_semicolons),
+    ("csv, into one record", csv::records_with_semicolons_by_csv),
+    ("libcsv", peers::records_with_semicolons_by_libcsv),
+];
 const REPLIES: &[(&str, Reader)] = &[
     ("this library", resp::replies),
     ("hiredis, which keeps them", peers::replies_by_hiredis),
@@ -79,12 +84,18 @@ pub const WORKS: &[Work] = &[
     whole("check of statuses", "statuses.json", CHECKS),
     whole("all values of a JSON text", "items.json", VALUES),
     whole("all values of statuses", "statuses.json", VALUES),
+    whole("check of coordinates", "coordinates.json", CHECKS),
+    whole("all values of coordinates", "coordinates.json", VALUES),
+    whole("check of a catalog", "catalog.json", CHECKS),
+    whole("all values of a catalog", "catalog.json", VALUES),
+    whole("check of strings of 64 bytes", "lines.json", CHECKS),
     work("one head of a request, 1000 times", "heads.http", HEADS),
     work("10,000 heads of a log", "log.http", HEADS),
     work("the same in pieces of 512 bytes", "log.http", HEADS_IN_PIECES),
     work("a body in chunks of 16 bytes", "small.chunked", BODIES),
     work("a body in chunks of 1,000 bytes", "large.chunked", BODIES),
     work("10,000 records", "records.csv", RECORDS),
+    work("the same with semicolons and CRLF", "semicolons.csv", RECORDS_WITH_SEMICOLONS),
     work("a table of 1,000,000 records", "table.csv", RECORDS),
     work("40,000 small replies of Redis", "small.resp", REPLIES),
     work("16 large replies of Redis", "large.resp", REPLIES),

@@ -1,4 +1,5 @@
 //! The errors of readers.
+use crate::dns::DnsError;
 use crate::exports::{self, MAX_DEPTH};
 use crate::http::HeadError;
 use core::fmt;
@@ -53,6 +54,13 @@ pub enum Error {
         /// Why it is invalid.
         reason: HeadError,
     },
+    /// A part of a DNS message is invalid.
+    InvalidDns {
+        /// The offset in the message of what is invalid.
+        offset: usize,
+        /// Why it is invalid.
+        reason: DnsError,
+    },
     /// The input is incomplete. The function documents whether more bytes can complete it.
     Incomplete,
     /// Memory allocation failed.
@@ -86,7 +94,7 @@ impl Error {
     pub fn offset(&self) -> Option<usize> {
         match self {
             Error::Invalid(offset) => *offset,
-            Error::InvalidHead { offset, .. } => Some(*offset),
+            Error::InvalidHead { offset, .. } | Error::InvalidDns { offset, .. } => Some(*offset),
             Error::TooDeep(offset) => Some(*offset),
             _ => None,
         }
@@ -126,6 +134,7 @@ impl fmt::Display for Error {
             Error::Invalid(Some(offset)) => write!(f, "invalid input at offset {offset}"),
             Error::Invalid(None) => f.write_str("invalid input"),
             Error::InvalidHead { offset, reason } => write!(f, "{reason} at offset {offset}"),
+            Error::InvalidDns { offset, reason } => write!(f, "{reason} at offset {offset}"),
             Error::Incomplete => f.write_str("incomplete input: more bytes are needed"),
             Error::NoMemory => f.write_str("memory allocation failed"),
             Error::InvalidUtf8 => f.write_str("input is not valid UTF-8"),

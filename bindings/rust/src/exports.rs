@@ -50,6 +50,36 @@ pub const CSV_LF: u32 = 1;
 /// Either of them ends a record, for each record anew.
 pub const CSV_EITHER: u32 = 2;
 
+/// The maximum length of a name in bytes, without compression. A buffer of this size suffices for
+/// any name.
+pub const DNS_MAX_NAME: usize = 255;
+
+/// How many compression pointers are followed in sequence. They suffice for any name if each leads
+/// to a label.
+pub const DNS_MAX_POINTERS: usize = 127;
+
+/// No error.
+pub const DNS_ERROR_NONE: u32 = 0;
+
+/// Incomplete element. The message, or a record's data by their length, ends within it: a label, a
+/// pointer, the end of a name, fields of a fixed length, a character string, or data.
+pub const DNS_ERROR_INCOMPLETE: u32 = 1;
+
+/// Unexpected trailing data. A record's data have bytes after the contents of their type.
+pub const DNS_ERROR_TRAILING: u32 = 2;
+
+/// Reserved label type. Exactly one of the two highest bits of the byte is set.
+pub const DNS_ERROR_RESERVED: u32 = 3;
+
+/// Compression pointer without a prior target. Its target is not before the labels that precede it.
+pub const DNS_ERROR_NOT_PRIOR: u32 = 4;
+
+/// Too many compression pointers. It is one more than are followed.
+pub const DNS_ERROR_TOO_MANY: u32 = 5;
+
+/// Name too long. With the labels from the offset on it has more than 255 bytes.
+pub const DNS_ERROR_TOO_LONG: u32 = 6;
+
 /// The message has no body. The next message starts after its head.
 pub const HTTP_BODY_NONE: u32 = 0;
 
@@ -585,6 +615,97 @@ pub struct CsvRecordState {
     pub place: usize,
 }
 
+/// Why a part of a message is invalid.
+#[repr(C)]
+#[derive(Clone, Copy, Debug, Default, PartialEq, Eq)]
+pub struct DnsFault {
+    /// The reason; `DNS_ERROR_NONE` if there is none.
+    pub error: u32,
+    /// The offset in the message of what is invalid; 0 if there is no reason.
+    pub offset: usize,
+}
+
+/// A name.
+#[repr(C)]
+#[derive(Clone, Copy, Debug, Default, PartialEq, Eq)]
+pub struct DnsName {
+    /// How many bytes the name has without compression, from 1 to `DNS_MAX_NAME`.
+    pub length: usize,
+    /// The offset in the message after the labels and the pointer or root that start at the offset
+    /// of the name.
+    pub end: usize,
+    /// Why there is no name.
+    pub fault: DnsFault,
+}
+
+/// A question.
+#[repr(C)]
+#[derive(Clone, Copy, Debug, Default, PartialEq, Eq)]
+pub struct DnsQuestion {
+    /// The offset in the message after its name.
+    pub name_end: usize,
+    /// The number of the type of the requested records; 255 means all.
+    pub record_type: u16,
+    /// The number of their class; 1 is the Internet, 255 any.
+    pub record_class: u16,
+    /// The offset in the message after the question.
+    pub end: usize,
+    /// Why there is no question.
+    pub fault: DnsFault,
+}
+
+/// A resource record.
+#[repr(C)]
+#[derive(Clone, Copy, Debug, Default, PartialEq, Eq)]
+pub struct DnsRecord {
+    /// The offset in the message after its name.
+    pub name_end: usize,
+    /// The number of its type.
+    pub record_type: u16,
+    /// The number of its class; 1 is the Internet.
+    pub record_class: u16,
+    /// For how many seconds it may be cached. A number above 2^31 - 1 is to be taken as 0.
+    pub time_to_live: u32,
+    /// The span of its data in the message.
+    pub span: Span,
+    /// The offset in the message after the record, which is that after its data.
+    pub end: usize,
+    /// Why there is no record.
+    pub fault: DnsFault,
+}
+
+/// The header of a message.
+#[repr(C)]
+#[derive(Clone, Copy, Debug, Default, PartialEq, Eq)]
+pub struct DnsHeader {
+    /// The identifier of the query and its response.
+    pub id: u16,
+    /// The kind of query, a number of 4 bits; 0 is a standard query.
+    pub opcode: u8,
+    /// The response code, a number of 4 bits; 0 is no error.
+    pub response_code: u8,
+    /// The reserved bits, a number of 3 bits.
+    pub reserved: u8,
+    /// Whether the message is a response, and not a query.
+    pub is_response: bool,
+    /// Whether the responding server is an authority for the name.
+    pub is_authoritative: bool,
+    /// Whether the message was truncated.
+    pub is_truncated: bool,
+    /// Whether the server is asked to pursue the query recursively.
+    pub recursion_desired: bool,
+    /// Whether the responding server can do so.
+    pub recursion_available: bool,
+    /// The number of questions.
+    pub question_count: u16,
+    /// The number of records in the answer section.
+    pub answer_count: u16,
+    /// The number of records in the authority section.
+    pub authority_count: u16,
+    /// The number of records in the additional section.
+    pub additional_count: u16,
+}
+
 /// The places of a field.
 #[repr(C)]
 #[derive(Clone, Copy, Debug, Default, PartialEq, Eq)]
@@ -947,7 +1068,7 @@ pub struct TomlResult {
 
 extern "C" {
     /// A symbol that only a library with these declarations has.
-    #[link_name = "pergidau_declared_9af03243"]
+    #[link_name = "pergidau_declared_c0358006"]
     static VERSION_LINKED: c_char;
 
     /// Returns the version of the linked library.
@@ -1150,6 +1271,126 @@ extern "C" {
         buffer: *mut u8,
         buffer_length: usize,
         out: *mut usize,
+    ) -> u32;
+
+    /// Decompresses the name at an offset of a DNS message (RFC 1035, sections 3.1 and 4.1.4): of each
+    /// label a byte with its length, from 1 to 63, and its bytes, which may be any, and a zero for the
+    /// root.
+    ///
+    /// Names are those of questions, of records, and in the data of records: of NS, CNAME and PTR at
+    /// their start, of MX after two bytes, of SRV after six, and of SOA two at their start.
+    ///
+    /// Each pointer must lead to an offset before the labels that precede it, so pointers never form a
+    /// cycle. At most `DNS_MAX_POINTERS` are followed in sequence.
+    ///
+    /// `DONE`: the name is written at the start of `buffer`, and its length and its end into `out`. The
+    /// other bytes of the buffer are unchanged.
+    ///
+    /// A call holds up to 16 KiB of memory.
+    ///
+    /// # Errors
+    ///
+    /// `BUFFER_TOO_SMALL`: the name is longer than the buffer. Its length and its end are written.
+    ///
+    /// `INVALID`: there is no name of at most `DNS_MAX_NAME` bytes. The reason is written, and zeros.
+    ///
+    /// `NO_MEMORY`. Zeros are written.
+    ///
+    /// After an error the buffer is unchanged.
+    ///
+    /// # Safety
+    ///
+    /// `message` must be valid for reads of `message_length` bytes, which must not change during the
+    /// call, `buffer` for writes of `buffer_length` bytes, and `out` for writes of one name. None of
+    /// these may overlap. The call needs 64 KiB of stack.
+    pub fn exported_dns_name_at(
+        message: *const u8,
+        message_length: usize,
+        offset: usize,
+        buffer: *mut u8,
+        buffer_length: usize,
+        out: *mut DnsName,
+    ) -> u32;
+
+    /// Parses the question at an offset of a DNS message (RFC 1035, section 4.1.2): a name, as by
+    /// `exported_dns_name_at`, a type and a class. The first question is at offset 12, each further one
+    /// at the end of the one before; the header has their number.
+    ///
+    /// `DONE`: the question is written. Its name is at the same offset.
+    ///
+    /// A call holds up to 16 KiB of memory.
+    ///
+    /// # Errors
+    ///
+    /// `INVALID`: there is no question. The reason is written, and zeros.
+    ///
+    /// `NO_MEMORY`. Zeros are written.
+    ///
+    /// # Safety
+    ///
+    /// `message` must be valid for reads of `message_length` bytes, which must not change during the
+    /// call, and `out` for writes of one question. They must not overlap. The call needs 64 KiB of
+    /// stack.
+    pub fn exported_dns_question_at(
+        message: *const u8,
+        message_length: usize,
+        offset: usize,
+        out: *mut DnsQuestion,
+    ) -> u32;
+
+    /// Parses the resource record at an offset of a DNS message (RFC 1035, section 4.1.3): a name, as
+    /// by `exported_dns_name_at`, a type, a class, a time to live, and data of a given length. The
+    /// records start where the last question ends, each at the end of the one before; the header has
+    /// their number in each section.
+    ///
+    /// The data must be exactly the contents of their type: a name (NS, CNAME, PTR), a preference and a
+    /// name (MX), character strings (TXT), two names and five numbers (SOA); in the class of the
+    /// Internet an address (A, AAAA), or three numbers and a name (SRV). Data of other types and
+    /// classes may be any bytes. In the classes 254 and 255 the data of any type may be empty (RFC
+    /// 2136).
+    ///
+    /// `DONE`: the record is written. Its name is at the same offset. Numbers in its data have their
+    /// highest byte first; names in them may be compressed, so pass their offsets to
+    /// `exported_dns_name_at`.
+    ///
+    /// A call holds up to 32 KiB of memory, and 64 bytes for each byte of the data.
+    ///
+    /// # Errors
+    ///
+    /// `INVALID`: there is no record. The reason is written, and zeros.
+    ///
+    /// `NO_MEMORY`. Zeros are written.
+    ///
+    /// # Safety
+    ///
+    /// `message` must be valid for reads of `message_length` bytes, which must not change during the
+    /// call, and `out` for writes of one record. They must not overlap. The call needs 64 KiB of stack.
+    pub fn exported_dns_record_at(
+        message: *const u8,
+        message_length: usize,
+        offset: usize,
+        out: *mut DnsRecord,
+    ) -> u32;
+
+    /// Parses the header of a DNS message: its first twelve bytes, whatever they are. The questions
+    /// start after it, at offset 12, and the records after them, section by section.
+    ///
+    /// `DONE`: the header is written.
+    ///
+    /// The function does not allocate.
+    ///
+    /// # Errors
+    ///
+    /// `INVALID`: the message has fewer than twelve bytes. Zeros are written.
+    ///
+    /// # Safety
+    ///
+    /// `message` must be valid for reads of `message_length` bytes, which must not change during the
+    /// call, and `out` for writes of one header. They must not overlap. The call needs 16 KiB of stack.
+    pub fn exported_dns_message_header(
+        message: *const u8,
+        message_length: usize,
+        out: *mut DnsHeader,
     ) -> u32;
 
     /// Parses the head of an HTTP/1.1 request (RFC 9112) at the start of `bytes`: a request line, field

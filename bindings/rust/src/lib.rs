@@ -12,6 +12,7 @@
 //! |---|---|
 //! | [`calc`] | formulas of integers |
 //! | [`csv`] | records of comma-separated values, which it also writes |
+//! | [`dns`] | messages of the Domain Name System |
 //! | [`http`] | heads of requests and responses of HTTP/1.1, and chunked bodies |
 //! | [`ini`] | lines of a key and a value, documents of them, and INI files of any dialect |
 //! | [`json`] | JSON texts, and the values in them |
@@ -45,6 +46,7 @@ extern crate alloc;
 mod bytes;
 pub mod calc;
 pub mod csv;
+pub mod dns;
 mod error;
 // (some constants are only for C)
 #[allow(dead_code)]

@@ -2,6 +2,8 @@ pub mod Chunked
 pub mod CsvWrite
 pub mod DialectTexts
 pub mod Dialects
+pub mod DnsFaults
+pub mod DnsNames
 pub mod Entries
 pub mod ErrorKinds
 pub mod Extent

@@ -5,6 +5,7 @@ pub mod Csv
 pub mod CsvExtent
 pub mod CsvWrite
 pub mod Dialects
+pub mod Dns
 pub mod Extent
 pub mod Http
 pub mod HttpBody

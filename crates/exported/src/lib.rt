@@ -12,6 +12,7 @@
 pub mod calc;
 pub mod code;
 pub mod csv;
+pub mod dns;
 pub mod http;
 pub mod ini;
 pub mod json;
