@@ -11,9 +11,8 @@ use Rattle.winnow_expression.specs.Calls.{Call, Open, call_at}
 use Rattle.winnow_expression.specs.Operators.{left_power, right_power}
 use Rattle.winnow_expression.specs.Grammar.{Grammar, TurnEnds}
 use Rattle.winnow_expression.specs.Expression.{CallRuns, TurnRuns, ResumeRuns, call_ends}
-use Rattle.winnow_expression.specs.Expression.{call_operand, call_prefix}
+use Rattle.winnow_expression.specs.Expression.{call_operand, call_prefix, resume_goes}
 use Rattle.winnow_expression.specs.Expression.{turn_ends, turn_postfix, turn_infix, resume_ends}
-use Rattle.winnow_expression.specs.Expression.{resume_goes}
 use Rattle.winnow_expression.specs.declared.combinator.places.First.{First}
 use Rattle.winnow_expression.specs.declared.combinator.places.First.TheVariants.{Operand}
 use Rattle.winnow_expression.specs.declared.combinator.places.First.TheVariants.{
