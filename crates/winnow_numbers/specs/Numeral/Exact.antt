@@ -1,15 +1,13 @@
 -- The grammars of the parsers of numbers.
 use Rattle.std.specs.Prelude.{◌≡◌, ◌⊎◌, ◌<◌, ℕ, ℤ, pos, neg_ℤ, true, false, List, [], ◌∷◌, ◌++◌}
-use Rattle.std.specs.Prelude.{length, Err, ⊤}
+use Rattle.std.specs.Prelude.{length, ⊤}
 use Rattle.std.proofs.Common.{refl, sym, ap, subst, inl, inr, ◌∙◌, arith, length-append}
 use Rattle.streams.specs.Equal.{same_rest, true_is_false}
 use Rattle.streams.specs.Input.{Input, Passes, at_start, no_status}
-use Rattle.streams.specs.Kind.{Kind, backtrack}
 use Rattle.streams.specs.Reading.{Reading}
 use Rattle.stream_sets.specs.AsChar.{IsDecDigit}
 use Rattle.grammars.specs.Grammar.{IsUnique, TakesTokens}
-use Rattle.stream_errors.specs.Form.{Answer, ErrorForm, plain}
-use Rattle.stream_errors.specs.Form.Inversion.{ok_is_err, same_kind}
+use Rattle.stream_errors.specs.Form.{ErrorForm, plain}
 use Rattle.winnow_core.specs.Exact.{IsExact}
 use Rattle.winnow_core.specs.Runs.{Keeps}
 use Rattle.winnow_numbers.specs.DecInt.{DecIntRuns}
@@ -23,7 +21,7 @@ use Rattle.winnow_numbers.specs.Digits.{AreCharacters, NoneFirst, value_in}
 use Rattle.winnow_numbers.specs.Digits.Inversion.{characters_length}
 use Rattle.winnow_numbers.specs.Numeral.{DigitsRuns, IsSign, NumeralRuns}
 use Rattle.winnow_numbers.specs.Numeral.Grammar.{Decimal, SignedDecimal}
-use Rattle.winnow_numbers.specs.Numeral.Inversion.{behind, digits_run, leads_behind, numeral_front}
+use Rattle.winnow_numbers.specs.Numeral.Inversion.{behind, digits_run, leads_behind}
 use Rattle.winnow_numbers.specs.Numeral.Once.{one_numeral}
 use Rattle.winnow_numbers.specs.Number.{signed_numbers, unsigned_numbers}
 use Rattle.winnow_numbers.specs.Number.Laws.{number_none, number_status, signed_apart}
