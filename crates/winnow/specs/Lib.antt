@@ -178,7 +178,7 @@ pub use Rattle.winnow_numbers.specs.Decimal
 pub use Rattle.winnow_numbers.specs.DecimalText
 pub use Rattle.winnow_numbers.specs.Digits
 pub use Rattle.winnow_numbers.specs.HexUint
-pub use Rattle.winnow_numbers.specs.NumberLaws
+pub use Rattle.winnow_numbers.specs.Number
 pub use Rattle.winnow_numbers.specs.Numeral
 -- Combinators for choices, options and sequences.
 pub use Rattle.winnow_comb.specs.Alt

@@ -113,16 +113,13 @@ module _ {K T S : Type 0} (seen : K → T) (code : K → ℕ) (reading : Reading
     unsigned_numeral : (i j : Input T) (slice : S) (bytes : List ℕ)
         → ((front : List T) → reading.shows slice front → bytes ≡ bytes_of front)
         → (taken : TakesNumeral seen code reading false i slice j)
-        → (taken.1 ≡ []) × IsUnsignedText bytes taken.2
-    unsigned_numeral i j slice bytes has (front, sign, digits, (a, first, r), takes, chars) =
-        let none = (unsigned seen code reading i sign a first).0 in (
-          none,
-          (
-            (digits_are seen code reading _ a digits j r).0,
-            inl ((numeral_bytes false i j slice bytes has
-                (front, sign, digits, (a, first, r), takes, chars)).0 ∙ ap (λ l. l ++ digits) none),
-          ),
-        )
+        → IsUnsignedText bytes taken.2
+    unsigned_numeral i j slice bytes has (front, sign, digits, (a, first, r), takes, chars) = (
+      (digits_are seen code reading _ a digits j r).0,
+      inl ((numeral_bytes false i j slice bytes has
+          (front, sign, digits, (a, first, r), takes, chars)).0
+          ∙ ap (λ l. l ++ digits) (unsigned seen code reading i sign a first).0),
+    )
 
     pub int_read : {N : Type 0} (number : N → ℤ) (fits : ℤ → Type 0) (form : ErrorForm)
         (i j : Input T) (slice : S) (bytes : List ℕ) (n : N)
@@ -149,11 +146,8 @@ module _ {K T S : Type 0} (seen : K → T) (code : K → ℕ) (reading : Reading
         → ReadsUnsigned number bound bytes (Some n)
         → DecUintRuns number bound seen code reading form i (Ok n) j
     uint_read number bound form i j slice bytes n has taken read =
-        let text = unsigned_numeral i j slice bytes has taken in
-        let told = read.reads taken.2 text.1 in
-        let P : List ℕ → Type 0 =
-        λ l. NumeralRuns seen code reading false i l taken.2 j in
-        inl (taken.2, n, subst P text.0 taken.3, told.0, told.1, refl)
+        let told = read.reads taken.2 (unsigned_numeral i j slice bytes has taken) in
+        inl (taken.1, taken.2, n, taken.3, told.0, told.1, refl)
 
     pub uint_refused : {N : Type 0} (number : N → ℕ) (bound : ℕ) (form : ErrorForm)
         (i j m : Input T) (slice : S) (bytes : List ℕ) (k : Kind)
@@ -161,11 +155,8 @@ module _ {K T S : Type 0} (seen : K → T) (code : K → ℕ) (reading : Reading
         → TakesNumeral seen code reading false i slice j → ReadsUnsigned number bound bytes None
         → k ≡ backtrack → m ≡ i → DecUintRuns number bound seen code reading form i (Err k) m
     uint_refused number bound form i j m slice bytes k has taken read kind same =
-        let text = unsigned_numeral i j slice bytes has taken in
-        let told = read.reads taken.2 text.1 in
-        let P : List ℕ → Type 0 =
-        λ l. NumeralRuns seen code reading false i l taken.2 j in
-        inr (inl (taken.2, j, subst P text.0 taken.3, told, ap (λ x. Err x) kind, same))
+        let told = read.reads taken.2 (unsigned_numeral i j slice bytes has taken) in
+        inr (inl (taken.1, taken.2, j, taken.3, told, ap (λ x. Err x) kind, same))
 
   -- the status after a numeral is that of the start
   pub taken_status : (signed : Bool) (i j : Input T) (slice : S)
@@ -180,7 +171,7 @@ module _ {K T S : Type 0} (seen : K → T) (code : K → ℕ) (reading : Reading
       → DecUintRuns number bound seen code reading form i (Ok n) j
   uint_passed number bound form i j m n (digits, run, same) (fits, is) =
       let unsigned = inr (λ e. absurd cc, refl, refl) in
-      inl (digits, n, (i, unsigned, run), subst (λ v. v < bound) same fits, is ∙ same, refl)
+      inl ([], digits, n, (i, unsigned, run), subst (λ v. v < bound) same fits, is ∙ same, refl)
 
   -- a numeral was passed after its sign
   pub signed_run : (i a j : Input T) (sign : Option ℕ) (m : ℕ) (z : ℤ)

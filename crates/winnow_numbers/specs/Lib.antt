@@ -7,5 +7,5 @@ pub mod DecimalText
 pub mod Digits
 pub mod HexUint
 pub mod Lanes
-pub mod NumberLaws
+pub mod Number
 pub mod Numeral

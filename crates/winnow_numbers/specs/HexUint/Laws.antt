@@ -13,7 +13,7 @@ use Rattle.winnow_core.specs.Decided.{EqualResults}
 use Rattle.winnow_core.specs.Decided.Inputs.{both_err, both_ok}
 use Rattle.winnow_core.specs.Ends.{same_ends}
 use Rattle.winnow_core.specs.Runs.{Keeps}
-use Rattle.winnow_numbers.specs.DecUint.Laws.{OneNumber}
+use Rattle.winnow_numbers.specs.Number.{OneNumber}
 use Rattle.winnow_numbers.specs.HexUint.{HexUintRuns}
 use Rattle.winnow_core.specs.Stable.Longer.{same_more, passes_more, passes_cut}
 use Rattle.winnow_core.specs.Stable.Grows.{Stays, final_by, not_whole}

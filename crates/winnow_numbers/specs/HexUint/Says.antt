@@ -15,7 +15,7 @@ use Rattle.winnow_core.specs.Says.{IsAt, Said, Says}
 use Rattle.winnow_core.specs.Says.Cases.{Case, FailsWhere, LacksWhere, OneCase, TakesWhere}
 use Rattle.winnow_core.specs.Says.Lacks.{short_outcome}
 use Rattle.winnow_numbers.specs.ByRuns.{by_runs, no_places, plain_at, plain_passes}
-use Rattle.winnow_numbers.specs.DecUint.Laws.{OneNumber}
+use Rattle.winnow_numbers.specs.Number.{OneNumber}
 use Rattle.winnow_ascii.specs.Class.Says.{CharIsFunction}
 use Rattle.winnow_numbers.specs.Digits.{AreCharacters, IsIn, NoneFirst, value_in}
 use Rattle.winnow_numbers.specs.HexUint.{HexUintRuns}

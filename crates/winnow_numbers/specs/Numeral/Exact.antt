@@ -1,16 +1,14 @@
 -- The grammars of the parsers of numbers.
 use Rattle.std.specs.Prelude.{◌≡◌, ◌⊎◌, ◌<◌, ℕ, ℤ, pos, neg_ℤ, true, false, List, [], ◌∷◌, ◌++◌}
-use Rattle.std.specs.Prelude.{length, Err, ⊤}
+use Rattle.std.specs.Prelude.{length, ⊤}
 use Rattle.std.proofs.Common.{refl, sym, ap, subst, inl, inr, ◌∙◌, arith, length-append}
 use Rattle.streams.specs.Equal.{same_rest, true_is_false}
 use Rattle.streams.specs.Input.{Input, Passes, at_start, no_status}
-use Rattle.streams.specs.Kind.{Kind, backtrack}
 use Rattle.streams.specs.Reading.{Reading}
 use Rattle.stream_sets.specs.AsChar.{IsDecDigit}
 use Rattle.grammars.specs.Grammar.{IsUnique, TakesTokens}
-use Rattle.stream_errors.specs.Form.{Answer, ErrorForm, plain}
-use Rattle.stream_errors.specs.Form.Inversion.{ok_is_err, same_kind}
-use Rattle.winnow_core.specs.Exact.{Backtracks, IsExact}
+use Rattle.stream_errors.specs.Form.{ErrorForm, plain}
+use Rattle.winnow_core.specs.Exact.{IsExact}
 use Rattle.winnow_core.specs.Runs.{Keeps}
 use Rattle.winnow_numbers.specs.DecInt.{DecIntRuns}
 use Rattle.winnow_numbers.specs.DecInt.Inversion.{dec_int_ok, numeral_run}
@@ -23,8 +21,11 @@ use Rattle.winnow_numbers.specs.Digits.{AreCharacters, NoneFirst, value_in}
 use Rattle.winnow_numbers.specs.Digits.Inversion.{characters_length}
 use Rattle.winnow_numbers.specs.Numeral.{DigitsRuns, IsSign, NumeralRuns}
 use Rattle.winnow_numbers.specs.Numeral.Grammar.{Decimal, SignedDecimal}
-use Rattle.winnow_numbers.specs.Numeral.Inversion.{behind, digits_run, leads_behind, numeral_front}
-use Rattle.winnow_numbers.specs.Numeral.Once.{numeral_or_none, one_numeral}
+use Rattle.winnow_numbers.specs.Numeral.Inversion.{behind, digits_run, leads_behind}
+use Rattle.winnow_numbers.specs.Numeral.Once.{one_numeral}
+use Rattle.winnow_numbers.specs.Number.{signed_numbers, unsigned_numbers}
+use Rattle.winnow_numbers.specs.Number.Laws.{number_none, number_status, signed_apart}
+use Rattle.winnow_numbers.specs.Number.Laws.{unsigned_apart}
 
 -- complete input of these tokens
 abbrev whole : {T : Type 0} → List T → Input T
@@ -121,7 +122,12 @@ module _ {K T L : Type 0} (seen : K → T) (code : K → ℕ) (reading : Reading
           (Decimal number bound seen code)
       unfolding Decimal
       dec_uint_exact once = record {
-        kept = λ i answer t j is (r, same). (same, still i answer j is r);
+        kept = λ i answer t j is (r, same). (
+          same,
+          ap (λ z. z.cut)
+              (number_status (unsigned_numbers number bound) seen code reading form i answer j r)
+              ∙ is,
+        );
         stands = λ i n t j is (r, kept).
             let read = dec_uint_ok number bound seen code reading form i n j r in (
               read.front,
@@ -133,49 +139,11 @@ module _ {K T L : Type 0} (seen : K → T) (code : K → ℕ) (reading : Reading
               read.fits,
             );
         none = λ i k t j is (r, kept). inr (λ n rest x.
-            none i k j r n rest (numeral i n rest is x));
+            let (digits, b, p, left, value, fits) = numeral i n rest is x in
+            number_none (unsigned_numbers number bound) seen code reading once
+            (unsigned_apart bound) form i k j r [] digits b p (omega (arith, value, fits)));
         unique = decimal_unique once;
       }
-        where
-          still : (i : Input T) (answer : Answer N) (j : Input T) → i.status.cut ≡ false
-              → DecUintRuns number bound seen code reading form i answer j
-              → j.status.cut ≡ false
-          still i answer j is (inl (digits, n, runs, fit, value, e)) =
-              ap (λ z. z.cut)
-              (numeral_front seen code reading false i [] digits j runs).1.status ∙ is
-          still i answer j is (inr (inl (digits, a, runs, misfit, e, same))) =
-              ap (λ z. z.status.cut) same ∙ is
-          still i answer j is (inr (inr (k, (sign, a, first, inl (b, lacks, cut, kind, at)), e))) =
-              true_is_false (sym cut ∙ is)
-          still i answer j is (inr (inr (k, (sign, a, first, inr (never, kind, at)), e))) =
-              ap (λ z. z.status.cut) at ∙ is
-
-          none : (i : Input T) (k : Kind) (j : Input T)
-              → DecUintRuns number bound seen code reading form i (Err k) j → (n : N)
-              (rest : List T) → Numeral i n rest → ⊥
-          none i k j (inl (digits, m, runs, fit, value, e)) n rest x = ok_is_err e refl
-          none i k j (inr (inl (digits, a, runs, misfit, e, same))) n rest
-              (xs, b, p, left, value, fits) =
-              let one = one_numeral seen code reading once false i [] []
-              digits xs a b runs p in
-              omega (arith, ap (λ l. value_in 10 l) one.1.0, misfit, value, fits)
-          none i k j (inr (inr (l, never, e))) n rest (xs, b, p, left, value, fits) =
-              numeral_or_none seen code reading once form false i [] xs b l j
-              p never
-
-      pub dec_uint_fails : Backtracks tt
-          (Keeps (λ (_ : ⊤). DecUintRuns number bound seen code reading form))
-      dec_uint_fails = record { fails = λ i k t j is (r, kept). fails i k j is r }
-        where
-          fails : (i : Input T) (k : Kind) (j : Input T) → i.status.cut ≡ false
-              → DecUintRuns number bound seen code reading form i (Err k) j
-              → k ≡ backtrack
-          fails i k j is (inl (digits, n, runs, fit, value, e)) = ok_is_err e refl
-          fails i k j is (inr (inl (digits, a, runs, misfit, e, same))) = same_kind e
-          fails i k j is (inr (inr (l, (sign, a, first, inl (b, lacks, cut, kind, at)), e))) =
-              true_is_false (sym cut ∙ is)
-          fails i k j is (inr (inr (l, (sign, a, first, inr (never, kind, at)), e))) =
-              same_kind e ∙ kind
 
   -- ---- signed numbers
 
@@ -293,7 +261,12 @@ module _ {K T L : Type 0} (seen : K → T) (code : K → ℕ) (reading : Reading
           (SignedDecimal number fits seen code)
       unfolding SignedDecimal
       dec_int_exact once = record {
-        kept = λ i answer t j is (r, same). (same, still i answer j is r);
+        kept = λ i answer t j is (r, same). (
+          same,
+          ap (λ z. z.cut)
+              (number_status (signed_numbers number fits) seen code reading form i answer j r)
+              ∙ is,
+        );
         stands = λ i n t j is (r, kept).
             let read = dec_int_ok number fits seen code reading form i n j r in (
               read.front,
@@ -306,47 +279,8 @@ module _ {K T L : Type 0} (seen : K → T) (code : K → ℕ) (reading : Reading
               read.fit,
             );
         none = λ i k t j is (r, kept). inr (λ n rest x.
-            none i k j r n rest (signed_numeral i n rest is x));
+            let (sign, digits, b, p, left, value, fit) = signed_numeral i n rest is x in
+            number_none (signed_numbers number fits) seen code reading once (signed_apart fits) form
+            i k j r sign digits b p (subst fits (sym value) fit));
         unique = signed_unique once;
       }
-        where
-          still : (i : Input T) (answer : Answer N) (j : Input T) → i.status.cut ≡ false
-              → DecIntRuns number fits seen code reading form i answer j
-              → j.status.cut ≡ false
-          still i answer j is (inl (sign, digits, n, runs, fit, value, e)) =
-              ap (λ z. z.cut)
-              (numeral_front seen code reading true i sign digits j runs).1.status ∙ is
-          still i answer j is (inr (inl (sign, digits, a, runs, misfit, e, same))) =
-              ap (λ z. z.status.cut) same ∙ is
-          still i answer j is (inr (inr (k, (sign, a, first, inl (b, lacks, cut, kind, at)), e))) =
-              true_is_false (sym cut ∙ is)
-          still i answer j is (inr (inr (k, (sign, a, first, inr (never, kind, at)), e))) =
-              ap (λ z. z.status.cut) at ∙ is
-
-          none : (i : Input T) (k : Kind) (j : Input T)
-              → DecIntRuns number fits seen code reading form i (Err k) j → (n : N)
-              (rest : List T) → SignedNumeral i n rest → ⊥
-          none i k j (inl (sign, digits, m, runs, fit, value, e)) n rest x = ok_is_err e refl
-          none i k j (inr (inl (sign, digits, a, runs, misfit, e, same))) n rest
-              (s, xs, b, p, left, value, fit) =
-              let one = one_numeral seen code reading once true i sign s
-              digits xs a b runs p in
-              misfit (subst fits (sym (ap (λ l. signed_value l digits) one.0
-              ∙ ap (λ l. signed_value s l) one.1.0 ∙ value)) fit)
-          none i k j (inr (inr (l, never, e))) n rest (s, xs, b, p, left, value, fit) =
-              numeral_or_none seen code reading once form true i s xs b l j
-              p never
-
-      pub dec_int_fails : Backtracks tt
-          (Keeps (λ (_ : ⊤). DecIntRuns number fits seen code reading form))
-      dec_int_fails = record { fails = λ i k t j is (r, kept). fails i k j is r }
-        where
-          fails : (i : Input T) (k : Kind) (j : Input T) → i.status.cut ≡ false
-              → DecIntRuns number fits seen code reading form i (Err k) j
-              → k ≡ backtrack
-          fails i k j is (inl (sign, digits, n, runs, fit, value, e)) = ok_is_err e refl
-          fails i k j is (inr (inl (sign, digits, a, runs, misfit, e, same))) = same_kind e
-          fails i k j is (inr (inr (l, (sign, a, first, inl (b, lacks, cut, kind, at)), e))) =
-              true_is_false (sym cut ∙ is)
-          fails i k j is (inr (inr (l, (sign, a, first, inr (never, kind, at)), e))) =
-              same_kind e ∙ kind

@@ -4,10 +4,12 @@ ghost use Rattle.winnow_core.specs.Exact.Allowed.{backs};
 ghost use Rattle.winnow_core.specs.Runs.{Keeps};
 ghost use Rattle.winnow_core.specs.Stable.Grows.{leaf_stays};
 ghost use Rattle.winnow_numbers.specs.DecInt.{DecIntRuns};
-ghost use Rattle.winnow_numbers.specs.DecInt.Laws.{dec_int_ends, dec_int_stays};
-ghost use Rattle.winnow_numbers.specs.Numeral.Exact.{dec_int_exact, dec_int_fails, signed_takes};
+ghost use Rattle.winnow_numbers.specs.Number.{signed_numbers};
+ghost use Rattle.winnow_numbers.specs.Number.Laws.{number_ends, number_fails, number_stays};
+ghost use Rattle.winnow_numbers.specs.Number.Laws.{signed_apart};
+ghost use Rattle.winnow_numbers.specs.Number.Says.{number_said, number_says};
+ghost use Rattle.winnow_numbers.specs.Numeral.Exact.{dec_int_exact, signed_takes};
 ghost use Rattle.winnow_numbers.specs.Numeral.Grammar.{SignedDecimal};
-ghost use Rattle.winnow_numbers.specs.DecInt.Says.{dec_int_said, dec_int_says};
 
 use crate::ascii::{Int, dec_int};
 use stream_errors::parser_error::ParserError;
@@ -37,7 +39,7 @@ where
     ghost meaning = { λ form. Keeps
         (λ _. DecIntRuns O.number O.fits I.seen_as I.Token.code I.reading form) };
 
-    ghost says = { λ _. dec_int_says O.number O.fits I.seen_as I.Token.code };
+    ghost says = { λ _. number_says (signed_numbers O.number O.fits) I.seen_as I.Token.code };
 
     ghost claim = { λ s. record {
       premise = ⊤;
@@ -47,17 +49,17 @@ where
       grammar = SignedDecimal O.number O.fits I.seen_as I.Token.code;
     } };
 
-    ghost leaves_ends = { λ form x i answer y j r. dec_int_ends O.number O.fits I.seen_as
-        I.Token.code I.reading form i answer j r.0 };
+    ghost leaves_ends = { λ form x i answer y j r. number_ends
+        (signed_numbers O.number O.fits) I.seen_as I.Token.code I.reading form i answer j r.0 };
 
-    ghost said = { λ _. dec_int_said O.number O.fits I.seen_as I.Token.code I.reading
-        I.one_code };
+    ghost said = { λ _. number_said (signed_numbers O.number O.fits) I.seen_as I.Token.code
+        I.reading I.one_code (signed_apart O.fits) };
 
     ghost claimed = { λ s. record {
       exact = λ form is. dec_int_exact I.seen_as I.Token.code I.reading O.number O.fits form
           I.one_code;
       fails = λ form is. backs
-          (dec_int_fails I.seen_as I.Token.code I.reading O.number O.fits form);
+          (number_fails (signed_numbers O.number O.fits) I.seen_as I.Token.code I.reading form);
       takes = λ is some. signed_takes I.seen_as I.Token.code I.reading O.number O.fits;
     } };
 
@@ -73,7 +75,7 @@ where
     I::Slice: AsBStr,
 {
     ghost stable = { leaf_stays I.following _
-        (λ _. dec_int_stays I.seen_as I.Token.code I.reading O.number O.fits) };
+        (λ _. number_stays (signed_numbers O.number O.fits) I.seen_as I.Token.code I.reading) };
 
     fn stay() {}
 }

@@ -4,10 +4,12 @@ ghost use Rattle.winnow_core.specs.Exact.Allowed.{backs};
 ghost use Rattle.winnow_core.specs.Runs.{Keeps};
 ghost use Rattle.winnow_core.specs.Stable.Grows.{leaf_stays};
 ghost use Rattle.winnow_numbers.specs.DecUint.{DecUintRuns};
-ghost use Rattle.winnow_numbers.specs.DecUint.Laws.{dec_uint_ends, dec_uint_stays};
-ghost use Rattle.winnow_numbers.specs.Numeral.Exact.{dec_uint_exact, dec_uint_fails, decimal_takes};
+ghost use Rattle.winnow_numbers.specs.Number.{unsigned_numbers};
+ghost use Rattle.winnow_numbers.specs.Number.Laws.{number_ends, number_fails, number_stays};
+ghost use Rattle.winnow_numbers.specs.Number.Laws.{unsigned_apart};
+ghost use Rattle.winnow_numbers.specs.Number.Says.{number_said, number_says};
+ghost use Rattle.winnow_numbers.specs.Numeral.Exact.{dec_uint_exact, decimal_takes};
 ghost use Rattle.winnow_numbers.specs.Numeral.Grammar.{Decimal};
-ghost use Rattle.winnow_numbers.specs.DecUint.Says.{dec_uint_said, dec_uint_says};
 
 use crate::ascii::{Uint, dec_uint};
 use stream_errors::parser_error::ParserError;
@@ -37,7 +39,7 @@ where
     ghost meaning = { λ form. Keeps
         (λ _. DecUintRuns O.number O.bound I.seen_as I.Token.code I.reading form) };
 
-    ghost says = { λ _. dec_uint_says O.number O.bound I.seen_as I.Token.code };
+    ghost says = { λ _. number_says (unsigned_numbers O.number O.bound) I.seen_as I.Token.code };
 
     ghost claim = { λ s. record {
       premise = ⊤;
@@ -47,17 +49,17 @@ where
       grammar = Decimal O.number O.bound I.seen_as I.Token.code;
     } };
 
-    ghost leaves_ends = { λ form x i answer y j r. dec_uint_ends O.number O.bound I.seen_as
-        I.Token.code I.reading form i answer j r.0 };
+    ghost leaves_ends = { λ form x i answer y j r. number_ends
+        (unsigned_numbers O.number O.bound) I.seen_as I.Token.code I.reading form i answer j r.0 };
 
-    ghost said = { λ _. dec_uint_said O.number O.bound I.seen_as I.Token.code I.reading
-        I.one_code };
+    ghost said = { λ _. number_said (unsigned_numbers O.number O.bound) I.seen_as I.Token.code
+        I.reading I.one_code (unsigned_apart O.bound) };
 
     ghost claimed = { λ s. record {
       exact = λ form is. dec_uint_exact I.seen_as I.Token.code I.reading O.number O.bound form
           I.one_code;
       fails = λ form is. backs
-          (dec_uint_fails I.seen_as I.Token.code I.reading O.number O.bound form);
+          (number_fails (unsigned_numbers O.number O.bound) I.seen_as I.Token.code I.reading form);
       takes = λ is some. decimal_takes I.seen_as I.Token.code I.reading O.number O.bound;
     } };
 
@@ -73,7 +75,7 @@ where
     I::Slice: AsBStr,
 {
     ghost stable = { leaf_stays I.following _
-        (λ _. dec_uint_stays I.seen_as I.Token.code I.reading O.number O.bound) };
+        (λ _. number_stays (unsigned_numbers O.number O.bound) I.seen_as I.Token.code I.reading) };
 
     fn stay() {}
 }
