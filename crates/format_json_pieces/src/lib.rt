@@ -15,7 +15,6 @@
 
 mod begun;
 pub mod expected;
-mod extent;
 mod inside;
 pub mod place;
 pub mod value;

@@ -1,17 +1,20 @@
 //! JSON values (RFC 8259) at the start of bytes, and JSON texts in bytes.
 ghost use Rattle.format_json_pieces.specs.Begun.{IsViablePrefix};
-ghost use Rattle.format_json_pieces.specs.Results.{Fails, MatchesAtStart};
-ghost use Rattle.format_json_pieces.specs.Value.{AreNumerals, HasInner, InUtf8, IsNext, IsNumeral};
+ghost use Rattle.format_json_pieces.specs.Results.{Allows, Fails, MatchesAtStart};
+ghost use Rattle.format_json_extents.specs.Number.{IsNumeral};
+ghost use Rattle.format_json_extents.specs.Value.{IsEnded};
+ghost use Rattle.format_json_pieces.specs.Read.{IsFinal, NoneIsFinal};
+ghost use Rattle.format_json_pieces.specs.Value.{AreNumerals, HasInner, InUtf8, IsNext};
 ghost use Rattle.format_json_pieces.specs.Value.{IsRefusedAt, IsValueIn};
 ghost use Rattle.format_json_pieces.specs.declared.begun.Mode.TheVariants as modes;
 ghost use Rattle.format_json_texts.specs.Number.{ContinuesNumber};
 ghost use Rattle.format_json_texts.specs.Values.{JsonText, ValueText};
+ghost use Rattle.format_json_texts.specs.Values.Texts.{IsNumeric};
 ghost use Rattle.std.specs.List.{All};
-ghost use Rattle.std.specs.Prelude.{◌≡◌, ◌≤◌, ◌↔◌, ◌++◌, ℕ, List, length, false, IfErr, IfOk, []};
-ghost use Rattle.std.specs.Prelude.{IsTrue, Some};
+ghost use Rattle.std.specs.Prelude.{◌≡◌, ◌≤◌, ◌↔◌, ◌++◌, ℕ, List, length, false, true, IfErr};
+ghost use Rattle.std.specs.Prelude.{IfNone, IfOk, IfSome, IsTrue, Some, []};
 ghost use Rattle.std.specs.Str.{IsUtf8, chars};
 ghost use Rattle.std.specs.Str.Lossy.{utf8_valid_len};
-ghost use Rattle.stream_sets.specs.AsChar.{IsMultispace};
 ghost use Rattle.streams.specs.Bytes.{bytes_follow, bytes_reading};
 ghost use Rattle.winnow_grammar.specs.Cut.{Asks, ReadsOrAsks};
 ghost use Rattle.winnow_core.specs.Exact.Whole.{IsNotIncomplete, IsWant};
@@ -21,7 +24,9 @@ ghost use Rattle.grammars.specs.Texts.{StartsWith, IsGrammarOf, NotFirst};
 ghost use Rattle.winnow_grammar.specs.Told.{IsTextOf};
 
 use crate::begun::lacking;
-use crate::extent::{Lack, text_of};
+use crate::inside::goes_on;
+use format_json_extents::tokens::skip_whitespace;
+use format_json_extents::value as extents;
 use format_json_texts::value::Value;
 use format_json_values::value::{parse_value, read_value};
 use std::alloc::Allocator;
@@ -35,14 +40,37 @@ use streams::needed::Needed;
 use streams::partial::Partial;
 use streams::stream::{Stream, StreamIsPartial};
 
-/// Returns whether the text starts with a character that can continue a number.
-fn goes_on(text: &str) -> bool
-    ensures yes { IsTrue result → StartsWith ContinuesNumber (chars text.now) }
-    ensures no { result ≡ false → NotFirst ContinuesNumber (chars text.now) }
+/// Returns whether the value `text` ends before `left`, for any continuation: a number ends where
+/// neither a digit, a point nor an E follows, which is not known at the end of partial input (`cut`).
+fn is_ended(text: &[u8], left: &[u8], cut: bool) -> bool
+    ensures yes { IsTrue result → (more : List ℕ) → Allows cut more
+        → IsEnded text.now (left.now ++ more) }
+    ensures no { result ≡ false → IsEnded text.now left.now
+        → (cut ≡ true) × (left.now ≡ []) × StartsWith IsNumeric text.now }
 {
-    match text.chars().next() {
-        Some(c) => c.is_ascii_digit() || c == '.' || c == 'e' || c == 'E',
-        None => false,
+    match text.split_first() {
+        Some((first, _)) if *first == b'-' || first.is_ascii_digit() => match left.split_first() {
+            Some((next, _)) => !goes_on(*next),
+            None => !cut,
+        },
+        _ => true,
+    }
+}
+
+/// Returns the text of the value that the bytes start with, and the remaining bytes, if it is the
+/// same for any continuation.
+fn text_in<'i>(level: usize, bytes: &'i [u8], cut: bool) -> Option<(&'i str, &'i [u8])>
+    ensures found { IfSome result (λ r. IsFinal level cut bytes.now r.0.now r.1.now) }
+    ensures none { IfNone result (NoneIsFinal level cut bytes.now) }
+{
+    let mut left = bytes;
+    let text = extents::read_value(level, &mut left)?;
+    if !is_ended(text, left, cut) {
+        return None;
+    }
+    match str::from_utf8(text) {
+        Ok(text) => Some((text, left)),
+        Err(_) => None,
     }
 }
 
@@ -59,47 +87,20 @@ fn value_in<'i, A: Allocator + Copy>(
         (⟦<ErrMode<EmptyError> as HasKind>⟧.kind e)) }
     ensures asks { IfErr result (λ e. Asks (⟦<ErrMode<EmptyError> as HasKind>⟧.kind e)
         → (v : Value A) (rest : List ℕ) → IsValueIn level bytes.now v rest
-        → All IsNumeral bytes.now) }
+        → (rest ≡ []) × All IsNumeral bytes.now) }
     ensures begun { IfErr result (λ e. Asks (⟦<ErrMode<EmptyError> as HasKind>⟧.kind e)
         → IsViablePrefix level modes.Value [] bytes.now) }
 {
-    let text = match text_of(bytes, cut) {
-        Ok((text, _)) => text,
-        Err(Lack::Bytes) => return Err(lacking(alloc, level, bytes)),
-        Err(Lack::Text) => return Err(ErrMode::from_input(&bytes)),
-    };
-    let mut left = match str::from_utf8(text) {
-        Ok(left) => left,
-        Err(_) => return Err(ErrMode::from_input(&bytes)),
-    };
-    let value = match read_value(alloc, level, &mut left) {
-        Ok(value) => value,
-        Err(error) => return Err(error),
-    };
-    if goes_on(left) {
-        return Err(ErrMode::from_input(&bytes));
-    }
-    Ok((value, &bytes[text.len() - left.as_bytes().len()..]))
-}
-
-/// Whether the byte is white space.
-fn is_space(byte: u8) -> bool
-    ensures { IsTrue result ↔ IsMultispace byte }
-{
-    matches!(byte, b' ' | b'\t' | b'\n' | b'\r')
-}
-
-/// Skips whitespace.
-fn skip_whitespace<'i>(bytes: &'i [u8]) -> &'i [u8]
-    ensures { (gap : List ℕ) × (bytes.now ≡ gap ++ result.now) × All IsMultispace gap
-        × NotFirst IsMultispace result.now }
-{
-    let mut left = bytes;
-    'bytes: loop {
-        match left.split_first() {
-            Some((first, more)) if is_space(*first) => left = more,
-            _ => return left,
+    match text_in(level, bytes, cut) {
+        Some((text, left)) => {
+            let mut text = text;
+            match read_value(alloc, level, &mut text) {
+                Ok(value) => Ok((value, left)),
+                Err(error) => Err(error),
+            }
         }
+        None if cut => Err(lacking(alloc, level, bytes)),
+        None => Err(ErrMode::from_input(&bytes)),
     }
 }
 
@@ -115,7 +116,7 @@ fn next_in<'i, A: Allocator + Copy>(
         (⟦<ErrMode<EmptyError> as HasKind>⟧.kind e)) }
     ensures asks { IfErr result (λ e. Asks (⟦<ErrMode<EmptyError> as HasKind>⟧.kind e)
         → (v : Value A) (rest : List ℕ) → IsNext level bytes.now (Some v) rest
-        → AreNumerals bytes.now) }
+        → (rest ≡ []) × AreNumerals bytes.now) }
     ensures begun { IfErr result (λ e. Asks (⟦<ErrMode<EmptyError> as HasKind>⟧.kind e)
         → IsViablePrefix level modes.Value [] bytes.now) }
 {
@@ -182,8 +183,8 @@ pub fn read_value_in_pieces<'i, A: Allocator + Copy>(
         (⟦<Partial<&'static [u8]> as Stream>⟧.view input.new) }
     ensures asks { IfErr result (λ e. Asks (⟦<ErrMode<EmptyError> as HasKind>⟧.kind e)
         → (v : Value A) (rest : List ℕ) → IsValueIn level
-        (⟦<Partial<&'static [u8]> as Stream>⟧.view input.old).left.tokens v rest
-        → All IsNumeral (⟦<Partial<&'static [u8]> as Stream>⟧.view input.old).left.tokens) }
+        (⟦<Partial<&'static [u8]> as Stream>⟧.view input.old).left.tokens v rest → (rest ≡ [])
+        × All IsNumeral (⟦<Partial<&'static [u8]> as Stream>⟧.view input.old).left.tokens) }
     ensures begun { IfErr result (λ e. Asks (⟦<ErrMode<EmptyError> as HasKind>⟧.kind e)
         → IsViablePrefix level modes.Value []
         (⟦<Partial<&'static [u8]> as Stream>⟧.view input.old).left.tokens) }
@@ -236,7 +237,7 @@ pub fn read_next_in_pieces<'i, A: Allocator + Copy>(
     ensures asks { IfErr result (λ e. Asks (⟦<ErrMode<EmptyError> as HasKind>⟧.kind e)
         → (v : Value A) (rest : List ℕ) → IsNext level
         (⟦<Partial<&'static [u8]> as Stream>⟧.view input.old).left.tokens (Some v) rest
-        → AreNumerals (⟦<Partial<&'static [u8]> as Stream>⟧.view input.old).left.tokens) }
+        → (rest ≡ []) × AreNumerals (⟦<Partial<&'static [u8]> as Stream>⟧.view input.old).left.tokens) }
     ensures begun { IfErr result (λ e. Asks (⟦<ErrMode<EmptyError> as HasKind>⟧.kind e)
         → IsViablePrefix level modes.Value []
         (⟦<Partial<&'static [u8]> as Stream>⟧.view input.old).left.tokens) }

@@ -2,12 +2,12 @@ use Rattle.std.proofs.Common.{◌∙◌, ◌-◌, ap, arith, length, refl, sym}
 use Rattle.std.specs.Prelude.{slice_get}
 use Rattle.std.proofs.lemmas.Bool.Decides.{nat_tests}
 use Rattle.format_json_pieces.proofs.Opened.{kept_others}
-use Rattle.format_json_pieces.proofs.Placed.{at_closed, at_deep, at_end, at_ended, at_refused}
-use Rattle.format_json_pieces.proofs.Placed.{on_closes, on_ends, on_goes, on_opens, place_as}
+use Rattle.format_json_pieces.proofs.Placed.{at_closed, at_deep, at_end, at_ended, at_ends}
+use Rattle.format_json_pieces.proofs.Placed.{at_refused, on_closes, on_ends, on_goes, on_opens, place_as}
 use Rattle.format_json_pieces.proofs.Placed.{step_open, top_open}
 use Rattle.format_json_pieces.specs.Place.{wanted}
 use Rattle.format_json_pieces.specs.declared.begun.Step.TheVariants as steps
-use Rattle.format_json_pieces.proofs.place.first_place.Goals as goal
+use Rattle.format_json_pieces.proofs.place.place_in.Goals as goal
 
 pub returns-in-Invalid : goal.returns-in-Invalid
 returns-in-Invalid g c =
