@@ -63,7 +63,7 @@ module _ {V : List ℕ → Type 0} {bytes start : List ℕ} (starts : Starts V I
       → RestAfter IsGap IsSpace end rest → RestAfter (IsElement V) IsItemByte bytes rest
   element_is is after =
       then_exact (starts_bars (then_starts starts) space_no_first) gap
-      (then_leaves (all_stays space_no_number) (widen (λ b number. number.1) is) after)
+      (then_leaves (all_stays space_no_number) (widen {S = IsNumberByteOf start} (λ b number. number.1) is) after)
 
   pub element_none : NoneStands V start → NoneStands (IsElement V) bytes
   element_none none =
@@ -296,11 +296,10 @@ value_nested below keyed {level} {bytes} result e starts it =
     (right_scans _ _ (IsNumberByteOf bytes) _ result (opening_no_scalar keyed starts)
     (wide_scans _ (IsNumberByteOf bytes) _ result (nested_scans keyed (IsValue below) result starts it)))
 
-module _ {F : ℕ → Type 0} {text : List ℕ} {X : Type 0} (apart : Apart F IsNumeric)
-    (numeric : StartsWith IsNumeric text) where
-  no_numeric : Begins F text → X
-  no_numeric b =
-      absurd (apart b.byte b.is (subst (λ l. StartsWith IsNumeric l) b.begins numeric))
+no_numeric : {F : ℕ → Type 0} {text : List ℕ} {X : Type 0} → Begins F text
+    → StartsWith IsNumeric text → Apart F IsNumeric → X
+no_numeric b numeric apart =
+    absurd (apart b.byte b.is (subst (λ l. StartsWith IsNumeric l) b.begins numeric))
 
 -- A value that starts as a number does is a number.
 pub value_number : (level : ℕ) (text : List ℕ) → IsValue level text → StartsWith IsNumeric text
@@ -308,15 +307,15 @@ pub value_number : (level : ℕ) (text : List ℕ) → IsValue level text → St
 value_number level text is numeric = value level is
   where
     scalar : IsScalar text → IsNumber text
-    scalar (inl is) = no_numeric (λ b f n. grind (arith, f, n)) numeric (string_starts text is)
+    scalar (inl is) = no_numeric (string_starts text is) numeric (λ b f n. grind (arith, f, n))
     scalar (inr (inl is)) = is
-    scalar (inr (inr is)) = no_numeric (λ b f n. grind (arith, f, n)) numeric (word_starts text is)
+    scalar (inr (inr is)) = no_numeric (word_starts text is) numeric (λ b f n. grind (arith, f, n))
 
     value : (level : ℕ) → IsValue level text → IsNumber text
     value zero is = scalar is
     value (suc level) (inl is) = scalar is
     value (suc level) (inr is) =
-        no_numeric (λ b f n. grind (arith, f, n)) numeric (nested_starts text is)
+        no_numeric (nested_starts text is) numeric (λ b f n. grind (arith, f, n))
 
 -- A value that no byte extends to a longer number is the longest.
 pub only_found : (level : ℕ) {bytes rest : List ℕ}

@@ -136,17 +136,16 @@ fn next_in<'i, A: Allocator + Copy>(
 
 /// Parses a value whose arrays and objects are nested at most `level` deep, from partial input. The
 /// value is returned once it is the same for every longer input. That is with the last byte of an
-/// array, an object, a string or a word, and with the byte after a number. The input is left after
-/// the value. Whitespace before the value is not skipped.
+/// array, an object, a string or a word, and with the byte after a number, also in `0-`. The input
+/// is left after the value. Whitespace before the value is not skipped.
 ///
 /// The bytes of the value must be UTF-8; those after it are not examined. A number must not be
 /// followed by a digit, a point, an `e` or an `E`; otherwise there is no value.
 ///
 /// Fails with `Incomplete` if more input may follow, and the bytes (possibly none) begin the text
 /// of a value of the level, which may continue after them. Then there is no value of the level in
-/// them, or they are the bytes of a number. A walk over the bytes with the open brackets checks
-/// that each byte may occur there (clause `begun`, by `IsViablePrefix`), so `[x`, `[1,,` and `01`
-/// are not
+/// them, or they are a number. A walk over the bytes with the open brackets checks that each byte
+/// may occur there (clause `begun`, by `IsViablePrefix`), so `[x`, `[1,,` and `01` are not
 /// `Incomplete`. (That bytes which pass the walk always begin some value is tested, not proved.)
 /// The caller must bound the bytes that it holds: a text that never closes is `Incomplete` again
 /// and again, and each call reads it anew.
