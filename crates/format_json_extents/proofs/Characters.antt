@@ -57,8 +57,8 @@ first_byte b cs low = ap (λ l. l ++ encode_utf8_all cs) (encode_ascii b low)
 -- ---- texts of ASCII
 
 -- `Consists Q P`: each text in `P` consists of bytes in `Q`.
-abbrev pub Consists : (ℕ → Type 0) → (List ℕ → Type 0) → Type 0
-Consists Q P = (text : List ℕ) → P text → All Q text
+pub record Consists (Q : ℕ → Type 0) (P : List ℕ → Type 0) : Type 0 where
+  pub each : (text : List ℕ) → P text → All Q text
 
 abbrev pub AreLow : List ℕ → Type 0
 AreLow = All (λ b. b < 128)
@@ -67,40 +67,50 @@ AreLow = All (λ b. b < 128)
 abbrev pub IsLow : (List ℕ → Type 0) → Type 0
 IsLow = Consists (λ b. b < 128)
 
-pub two_low : (P : ℕ → ℕ → Type 0) → ((a b : ℕ) → P a b → (a < 128) × (b < 128))
-    → IsLow (AreTwo P)
-two_low P low text is =
-    let (a, b) = low is.one is.two is.are_bytes in
-    let Q : ℕ → Type 0 = λ b. b < 128 in
-    subst AreLow (sym is.alone)
-    (All-cons Q is.one (is.two ∷ []) a (All-cons Q is.two [] b (All-nil Q)))
+all_one : (Q : ℕ → Type 0) (b : ℕ) → Q b → All Q (b ∷ [])
+all_one Q b is = All-cons Q b [] is (All-nil Q)
 
 module _ {Q : ℕ → Type 0} where
   pub byte_in : (P : ℕ → Type 0) → ((b : ℕ) → P b → Q b) → Consists Q (IsByte P)
-  byte_in P each text is =
-      subst (All Q) (sym is.alone)
-      (All-cons Q is.byte [] (each is.byte is.is_byte) (All-nil Q))
+  byte_in P into = record {
+    each = λ text is.
+        subst (All Q) (sym is.alone) (all_one Q is.byte (into is.byte is.is_byte));
+  }
+
+  pub two_in : (P : ℕ → ℕ → Type 0) → ((a b : ℕ) → P a b → Q a × Q b) → Consists Q (AreTwo P)
+  two_in P into = record {
+    each = λ text is.
+        let (a, b) = into is.one is.two is.are_bytes in
+        subst (All Q) (sym is.alone) (All-cons Q is.one (is.two ∷ []) a (all_one Q is.two b));
+  }
 
   pub then_in : {P R : List ℕ → Type 0} → Consists Q P → Consists Q R → Consists Q (Then P R)
-  then_in p r text is =
-      subst (All Q) (sym is.joins)
-      (All-append Q is.first is.second (p is.first is.is_first) (r is.second is.is_second))
+  then_in p r = record {
+    each = λ text is.
+        subst (All Q) (sym is.joins) (All-append Q is.first is.second
+        (p.each is.first is.is_first) (r.each is.second is.is_second));
+  }
 
-  pub either_in : {P R : List ℕ → Type 0} → Consists Q P → Consists Q R
-      → Consists Q (Either P R)
-  either_in p r text (inl is) = p text is
-  either_in p r text (inr is) = r text is
+  pub either_in : {P R : List ℕ → Type 0} → Consists Q P → Consists Q R → Consists Q (Either P R)
+  either_in p r = record {
+    each = λ text is. elim is [ inl it ↦ p.each text it | inr it ↦ r.each text it ];
+  }
 
   pub maybe_in : {P : List ℕ → Type 0} → Consists Q P → Consists Q (Maybe P)
-  maybe_in p text (inl e) = subst (All Q) (sym e) (All-nil Q)
-  maybe_in p text (inr is) = p text is
+  maybe_in p = record {
+    each = λ text is. elim is [
+      | inl e ↦ subst (All Q) (sym e) (All-nil Q)
+      | inr it ↦ p.each text it
+    ];
+  }
 
   pub all_in : (P : ℕ → Type 0) → ((b : ℕ) → P b → Q b) → Consists Q (All P)
-  all_in P each text all = All-weaker P Q each text all
+  all_in P into = record { each = λ text all. All-weaker P Q into text all }
 
 pub only_low : (word : List ℕ) → AllByRecursion (λ b. b < 128) word → IsLow (Only word)
-only_low word low text e =
-    subst AreLow (sym e) (All-from_recursion (λ b. b < 128) word low)
+only_low word low = record {
+  each = λ text e. subst AreLow (sym e) (All-from_recursion (λ b. b < 128) word low);
+}
 
 pub low_same : (bytes : List ℕ) → AreLow bytes → encode_utf8_all bytes ≡ bytes
 low_same [] all = refl
@@ -118,9 +128,9 @@ low_front (b ∷ text) cs rest all e =
 
 pub low_alike : {P : List ℕ → Type 0} → IsLow P → Alike P
 low_alike {P} low = record {
-  bytes = λ cs is. subst P (sym (low_same cs (low cs is))) is;
+  bytes = λ cs is. subst P (sym (low_same cs (low.each cs is))) is;
   chars = λ cs text rest is e.
-      let (es, f, g) = low_front text cs rest (low text is) e in
+      let (es, f, g) = low_front text cs rest (low.each text is) e in
       record { first = text; second = es; splits = f; rest_of = g; is = is };
 }
 
@@ -201,9 +211,11 @@ number_numerals =
     (then_in (maybe_in (byte_in IsSign (λ b is. inr (inr (inr is))))) digits_in)))))
 
 pub number_low : IsLow IsNumber
-number_low text is =
-    All-weaker IsNumeral (λ b. b < 128) (λ b numeral. grind (arith, numeral)) text
-    (number_numerals text is)
+number_low = record {
+  each = λ text is.
+      All-weaker IsNumeral (λ b. b < 128) (λ b numeral. grind (arith, numeral)) text
+      (number_numerals.each text is);
+}
 
 -- ---- what is ASCII is UTF-8
 

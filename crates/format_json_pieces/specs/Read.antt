@@ -109,7 +109,7 @@ module _ {A : Type 0} (alloc : A) (level : ℕ) where
           partial,
           nothing,
           subst (All IsNumeral) (sym (e ∙ ap (λ l. text ++ l) nothing ∙ append-nil text))
-              (number_numerals text (value_number level text is numeric)),
+              (number_numerals.each text (value_number level text is numeric)),
         )
 
   pub none_whole : (cut : Bool) (bytes : List ℕ) → cut ≡ false → NoneIsFinal level cut bytes

@@ -12,7 +12,7 @@ use Rattle.std.proofs.lemmas.List.Elements.{All-tail, All-weaker}
 use Rattle.std.proofs.lemmas.Str.{encode_ascii, encodes-append}
 use Rattle.format_json_extents.proofs.Characters.{Alike, Front, IsLow, byte_in, either_in}
 use Rattle.format_json_extents.proofs.Characters.{first_byte, first_char, low_alike, then_alike}
-use Rattle.format_json_extents.proofs.Characters.{then_in, two_low}
+use Rattle.format_json_extents.proofs.Characters.{then_in, two_in}
 use Rattle.format_json_extents.proofs.Matching.{begins_at, joined, one, same_first, same_rest}
 use Rattle.format_json_extents.proofs.Scalars.{piece_starts, tail_run, tail_split}
 use Rattle.format_json_extents.specs.Strings.{BeginHigh, BeginLow, BeginOnly, IsBackslash, IsEscape}
@@ -29,7 +29,7 @@ hex_low b is = grind (arith, is)
 unit_low : (P : ℕ → ℕ → Type 0) → ((a b : ℕ) → P a b → (a < 128) × (b < 128))
     → IsLow (IsUnit P)
 unit_low P low =
-    then_in (two_low P low) (then_in (byte_in IsHexDigit hex_low) (byte_in IsHexDigit hex_low))
+    then_in (two_in P low) (then_in (byte_in IsHexDigit hex_low) (byte_in IsHexDigit hex_low))
 
 backslash_low : IsLow (IsByte IsBackslash)
 backslash_low = byte_in IsBackslash (λ b e. omega (arith, e))
