@@ -1,5 +1,5 @@
 -- The walk that looks for a place: what it has come to, and the place where it stops.
-use Rattle.std.specs.Prelude.{◌≡◌, ◌↔◌, ◌<◌, ◌≤◌, ◌-◌, ◌++◌, ℕ, List, [], ◌∷◌, Option}
+use Rattle.std.specs.Prelude.{◌≡◌, ◌↔◌, ◌<◌, ◌≤◌, ◌+◌, ◌-◌, ◌++◌, ℕ, List, [], ◌∷◌, Option}
 use Rattle.std.specs.Prelude.{None, Some, length, slice_get}
 use Rattle.std.specs.Option.{option_to_list}
 use Rattle.std.proofs.Common.{ap, append_assoc, arith, inl, inr, length-append, refl, subst, sym}
@@ -32,20 +32,25 @@ step_open held items last mode b s same is e =
     e ∙ ap (λ x. next_step mode x b) (top_open held items last same is)
 
 -- the same place
-pub place_as : {level : ℕ} {outer : Option Bracket} {bytes : List ℕ} {n m : ℕ} {e f : Expected} → m ≡ n → f ≡ e
+pub place_as : (level : ℕ) (outer : Option Bracket) {bytes : List ℕ} {n m : ℕ} {e f : Expected} → m ≡ n → f ≡ e
     → IsPlaceIn level outer bytes n e → IsPlaceIn level outer bytes m f
-place_as {level} {outer} {bytes} {n} {m} {e} {f} same is x =
+place_as level outer {bytes} {n} {m} {e} {f} same is x =
     let P : ℕ → Expected → Type 0 = λ k g. IsPlaceIn level outer bytes k g in
     subst (λ k. P k f) (sym same) (subst (λ g. P n g) (sym is) x)
 
 -- The state of a walk: the bytes before it, the input that is expected next, and the open brackets.
 pub record Walked (level : ℕ) (outer : Option Bracket) (bytes left : List ℕ) (mode : Mode)
     (items : List Bracket) : Type 0 where
-    pub held : List Bracket
-    pub front : List ℕ
-    pub same : items ≡ kept held
-    pub splits : bytes ≡ front ++ left
-    pub leads : LeadsTo level outer front mode held
+  pub held : List Bracket
+  pub front : List ℕ
+  pub same : items ≡ kept held
+  pub splits : bytes ≡ front ++ left
+  pub leads : LeadsTo level outer front mode held
+
+pub most_is : (level : ℕ) (outer : Option Bracket)
+    → most_open level outer ≡ level + length (option_to_list outer)
+most_is level None = omega arith
+most_is level (Some k) = omega arith
 
 pub at_first : (level : ℕ) (outer : Option Bracket) (bytes : List ℕ) (items : List Bracket)
     → items ≡ option_to_list outer → Walked level outer bytes bytes modes.Value items

@@ -144,9 +144,9 @@ module _ (ends : List ℕ → Type 0) (level : ℕ) (rest : List ℕ) where
         → Place ends level rest held behind whole
         → InFront (ScalarText holds) behind whole
     scalars {held} place =
-        either_front (for_front IsWord (widened place.ends place.starts (words ends level rest held)))
+        either_front (for_front IsWord (widened place.closes place.starts (words ends level rest held)))
         (either_front (for_front IsNumber (for_front HasText place.numbers))
-        (for_front IsString (widened place.ends place.starts
+        (for_front IsString (widened place.closes place.starts
         (string_spells rest (text_goes ends level rest held) holds (Started ends level held)
         (λ l x mode. x)))))
 
@@ -191,10 +191,10 @@ module _ (ends : List ℕ → Type 0) (level : ℕ) (rest : List ℕ) where
     value_spells zero few place = scalars place
     value_spells (suc deep) {held} few place =
         either_front (scalars place)
-        (either_front (for_front IsArray (widened place.ends place.starts
+        (either_front (for_front IsArray (widened place.closes place.starts
         (array held (omega (arith, few))
         (value_spells deep (omega (arith, few)) (inner ends level rest Array held)))))
-        (for_front IsObject (widened place.ends place.starts
+        (for_front IsObject (widened place.closes place.starts
         (object held (omega (arith, few))
         (value_spells deep (omega (arith, few)) (inner ends level rest Object held))))))
 

@@ -6,17 +6,17 @@ use Rattle.std.specs.List.{All}
 use Rattle.std.specs.Str.{IsUtf8, chars}
 use Rattle.std.proofs.Common.{refl, sym, ap, subst, inl, inr, ◌∙◌, arith, append_assoc}
 use Rattle.std.proofs.Common.{length-append}
-use Rattle.std.proofs.lemmas.List.{append-nil, nil_from_length}
-use Rattle.std.proofs.lemmas.List.Elements.{All-weaker}
+use Rattle.std.proofs.lemmas.List.{append-nil, append_cancel_left, nil_from_length}
+use Rattle.std.proofs.lemmas.List.Elements.{All-nil, All-weaker}
 use Rattle.format_json_extents.proofs.Characters.{number_numerals}
 use Rattle.format_json_extents.proofs.Matching.{all_leaves, all_stops}
 use Rattle.format_json_extents.proofs.Values.{value_number, value_starts}
 use Rattle.format_json_extents.proofs.Written.Values.{value_bytes, values_written}
 use Rattle.format_json_extents.specs.Number.{IsNumeral}
 use Rattle.format_json_extents.specs.Value.{IsEnded, IsSpace, IsValue}
-use Rattle.format_json_extents.specs.Texts.{RestAfter}
-use Rattle.format_json_pieces.specs.Results.{Allows, Fails, MatchesAtStart}
-use Rattle.format_json_pieces.specs.Value.{AreNumerals, InUtf8, IsNext, IsValueIn}
+use Rattle.format_json_extents.specs.Texts.{IsLongest, RestAfter}
+use Rattle.format_json_pieces.specs.Results.{Allows, Fails, IsFinal, MatchesAtStart, NoneIsFinal}
+use Rattle.format_json_pieces.specs.Value.{AreNumerals, InUtf8, IsNext, IsValueIn, value_ends}
 use Rattle.format_json_texts.specs.Values.{AnyValue, ValueText}
 use Rattle.format_json_texts.specs.Values.Texts.{IsNumeric, value_of}
 use Rattle.format_json_values.specs.Unique.{value_unique}
@@ -28,23 +28,22 @@ use Rattle.grammars.specs.Grammar.{Grammar, NoMatch}
 use Rattle.stream_sets.specs.Accumulator.Holds.{HasCharacters}
 use Rattle.grammars.specs.Texts.{StartsWith, NotFirst}
 
--- ---- the text of a value
+-- a number that may go on
+pub none_final : (level : ℕ) (cut : Bool) (bytes found left : List ℕ)
+    → IsLongest (IsValue level) found bytes left
+    → ((text rest : List ℕ) → IsValue level text → bytes ≡ text ++ rest → IsEnded text rest
+    → text ≡ found)
+    → (IsEnded found left → (cut ≡ true) × (left ≡ []) × StartsWith IsNumeric found)
+    → NoneIsFinal level cut bytes
+none_final level cut bytes found left it only may text rest utf8 is e ended =
+    let same = only text rest is e ended in
+    let P : List ℕ → List ℕ → Type 0 = λ t r.
+    IsEnded t r → (cut ≡ true) × (r ≡ []) × StartsWith IsNumeric t in
+    let rests = append_cancel_left found left rest
+    (sym it.splits ∙ e ∙ ap (λ l. l ++ rest) same) in
+    subst (λ r. P text r) rests (subst (λ t. P t left) (sym same) may) ended
 
--- `IsFinal level cut bytes text left`: `bytes` starts with `text`, a value in UTF-8 followed by
--- `left`, and the value ends there for any continuation.
-abbrev pub IsFinal : ℕ → Bool → List ℕ → List ℕ → List ℕ → Type 0
-IsFinal level cut bytes text left =
-    IsUtf8 text × IsValue level text × (bytes ≡ text ++ left)
-    × ((more : List ℕ) → Allows cut more → IsEnded text (left ++ more))
-
--- `NoneIsFinal level cut bytes`: `bytes` starts with no value in UTF-8, except a number that is all
--- of partial bytes.
-abbrev pub NoneIsFinal : ℕ → Bool → List ℕ → Type 0
-NoneIsFinal level cut bytes =
-    (text rest : List ℕ) → IsUtf8 text → IsValue level text → bytes ≡ text ++ rest
-    → IsEnded text rest → (cut ≡ true) × (rest ≡ []) × StartsWith IsNumeric text
-
--- ---- its value
+-- ---- the value of a text
 
 module _ {A : Type 0} (alloc : A) (level : ℕ) where
   abbrev g : Grammar ℕ (Value A)
@@ -61,10 +60,10 @@ module _ {A : Type 0} (alloc : A) (level : ℕ) where
         )
 
     -- what is read of it is read of all of it
-    pub some_read : NoMatch g (chars text) → ⊥
+    some_read : NoMatch g (chars text) → ⊥
     some_read none = let (v, stands) = all_stands in none v [] stands
 
-    pub all_read : (v : Value A) (rest : List ℕ) → g (chars text) v rest
+    all_read : (v : Value A) (rest : List ℕ) → g (chars text) v rest
         → ValueText HasCharacters level v (chars text)
     all_read v rest it =
         let (w, stands) = all_stands in
@@ -73,16 +72,25 @@ module _ {A : Type 0} (alloc : A) (level : ℕ) where
         subst (λ l. ValueText HasCharacters level v l)
         (sym (e ∙ ap (λ l. front ++ l) (sym same) ∙ append-nil front)) written
 
-  pub final_stands : (cut : Bool) (bytes text left : List ℕ) → IsFinal level cut bytes text left
-      → length text < 2 ^ 63 → (v : Value A) (rest : List ℕ) → g (chars text) v rest
-      → MatchesAtStart (IsValueIn level) cut bytes v left
-  unfolding IsValueIn InUtf8
-  final_stands cut bytes text left (utf8, is, e, ended) few v rest it more allowed = (
-    text,
-    (utf8, all_read text few utf8 is v rest it),
-    ap (λ l. l ++ more) e ∙ append_assoc text left more,
-    ended more allowed,
-  )
+  module _ (cut : Bool) (bytes text left : List ℕ) (it : IsFinal level cut bytes text left)
+      (most : length bytes < 2 ^ 63) where
+    few : length text < 2 ^ 63
+    few = let (utf8, is, e, ended) = it in
+        omega (arith, most, ap (λ l. length l) e, length-append text left)
+
+    pub final_stands : (v : Value A) (rest : List ℕ) → g (chars text) v rest
+        → MatchesAtStart (IsValueIn level) cut bytes v left
+    unfolding IsValueIn InUtf8
+    final_stands v rest read more allowed =
+        let (utf8, is, e, ended) = it in (
+          text,
+          (utf8, all_read text few utf8 is v rest read),
+          ap (λ l. l ++ more) e ∙ append_assoc text left more,
+          ended more allowed,
+        )
+
+    pub final_read : NoMatch g (chars text) → ⊥
+    final_read none = let (utf8, is, e, ended) = it in some_read text few utf8 is none
 
   module _ (bytes : List ℕ) (v : Value A) (rest : List ℕ) (it : IsValueIn level bytes v rest) where
     -- the bytes of a value are one
@@ -116,9 +124,16 @@ module _ {A : Type 0} (alloc : A) (level : ℕ) where
       → (more : List ℕ) → Allows cut more → NoMatch (IsValueIn {A = A} level) (bytes ++ more)
   none_whole cut bytes whole none more allowed v rest it =
       let same = ap (λ l. bytes ++ l) (allowed whole) ∙ append-nil bytes in
-      let (partial, _) = open_number bytes v rest
+      let (partial, _, _) = open_number bytes v rest
       (subst (λ l. IsValueIn level l v rest) same it) cut none in
       true_is_false (sym partial ∙ whole)
+
+  -- nor is there one after white space
+  pub none_in_gap : (bytes : List ℕ) → StartsWith IsMultispace bytes → (more : List ℕ)
+      → NoMatch (IsValueIn {A = A} level) (bytes ++ more)
+  none_in_gap [] white more v rest it = white
+  none_in_gap (b ∷ bytes) white more v rest it =
+      value_first (b ∷ (bytes ++ more)) v rest it white
 
 -- ---- the next value, after white space
 
@@ -130,9 +145,12 @@ pub gap_of : {bytes start : List ℕ} → RestAfter (All IsSpace) IsSpace bytes 
     → (gap : List ℕ) × HasGap bytes gap start
 gap_of {start = start} it = (
   it.stands.text,
-  it.stands.splits,
-  All-weaker IsSpace IsMultispace (λ b space. grind (arith, space)) it.stands.text it.stands.is,
-  first start (all_stops it),
+  (
+    it.stands.splits,
+    All-weaker IsSpace IsMultispace (λ b space. grind (arith, space)) it.stands.text
+        it.stands.is,
+    first start (all_stops it),
+  ),
 )
   where
     first : (start : List ℕ) → ((b : ℕ) (more : List ℕ) → start ≡ b ∷ more → IsSpace b → ⊥)
@@ -217,3 +235,13 @@ none_next A level cut bytes gap left e all few whole more allowed =
     ap (λ l. bytes ++ l) (allowed whole) ∙ append-nil bytes ∙ e ∙ ap (λ l. gap ++ l) none
     ∙ append-nil gap in
     (subst (All IsMultispace) (sym same) all, ap (λ l. l ++ more) none ∙ allowed whole)
+
+-- no value is after white space alone
+pub white_numerals : {A : Type 0} (level : ℕ) (left : List ℕ) → length left ≡ 0
+    → (v : Value A) (rest : List ℕ) → IsValueIn level left v rest
+    → (rest ≡ []) × All IsNumeral left
+white_numerals level left few v rest it =
+    let (front, e) = value_ends level left v rest it in (
+      nil_from_length rest (omega (arith, few, ap (λ l. length l) e, length-append front rest)),
+      subst (All IsNumeral) (sym (nil_from_length left few)) (All-nil IsNumeral),
+    )

@@ -95,7 +95,7 @@ module _ (ends : List ℕ → Type 0) (level : ℕ) where
 
     -- The position of a value: in brackets, or in none.
     pub record Place (held : List Bracket) (behind whole : List ℕ → Type 0) : Type 0 where
-      pub ends : (cs : List ℕ) → behind cs → Spells rest (AfterValue held) cs
+      pub closes : (cs : List ℕ) → behind cs → Spells rest (AfterValue held) cs
       pub starts : (cs : List ℕ) → Spells rest (Started held) cs → whole cs
       pub numbers : InFront NumberText behind whole
 
@@ -218,7 +218,7 @@ module _ (ends : List ℕ → Type 0) (level : ℕ) where
     pub inner : (k : Bracket) (held : List Bracket)
         → Place (k ∷ held) (Spells rest (AfterValue (k ∷ held))) (Spells rest (Started (k ∷ held)))
     inner k held = record {
-      ends = λ cs x. x;
+      closes = λ cs x. x;
       starts = λ cs x. x;
       numbers = number_spells rest (inner_counts k held);
     }
@@ -232,7 +232,7 @@ module _ (ends : List ℕ → Type 0) (level : ℕ) where
 
     pub outer : ends rest → Place [] Last (λ cs. Stops cs → Spells rest (Started []) cs)
     outer ended = record {
-      ends = λ cs x scalars. subst ends (sym x) ended;
+      closes = λ cs x scalars. subst ends (sym x) ended;
       starts = λ cs x stops. x;
       numbers = record {
         makes = λ slice xs cs x same stops.

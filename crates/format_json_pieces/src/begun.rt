@@ -9,7 +9,10 @@ ghost use Rattle.format_json_pieces.specs.Begun.{text_step};
 ghost use Rattle.format_json_pieces.specs.Begun.{value_step};
 ghost use Rattle.std.specs.Prelude.{◌≡◌};
 
-use crate::inside::{Figure, Inner, Letters, Part, expected, figure_behind, goes_on, is_final, letters_behind, part_behind};
+use crate::inside::{
+    Figure, Inner, Letters, Part, expected, figure_behind, goes_on, is_final, letters_behind,
+    part_behind,
+};
 use crate::place::place_in;
 use std::alloc::Allocator;
 use stream_errors::empty::EmptyError;

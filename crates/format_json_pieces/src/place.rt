@@ -5,6 +5,7 @@ ghost use Rattle.format_json_pieces.specs.Value.{InUtf8};
 ghost use Rattle.format_json_pieces.specs.declared.expected.Expected.TheVariants as what;
 ghost use Rattle.format_json_texts.specs.Values.{JsonText};
 ghost use Rattle.format_json_texts.specs.declared.value.Value.{Value};
+ghost use Rattle.std.specs.Option.{option_to_list};
 ghost use Rattle.std.specs.Prelude.{◌≡◌, ◌++◌, ℕ, List, IfOk, length};
 ghost use Rattle.stream_sets.specs.Accumulator.Holds.{HasCharacters};
 
@@ -53,6 +54,20 @@ pub fn first_place<A: Allocator>(alloc: A, level: usize, bytes: &[u8]) -> Result
     place_in(alloc, Some(Bracket::Whole), level, bytes)
 }
 
+/// The brackets that are open at first.
+fn opened<A: Allocator>(
+    alloc: A,
+    outer: Option<Bracket>,
+) -> Result<Vec<Bracket, A>, AllocError>
+    ensures { IfOk result (λ brackets. brackets.items ≡ option_to_list outer) }
+{
+    let mut brackets = Vec::new(alloc);
+    if let Some(bracket) = outer {
+        brackets.push(bracket)?;
+    }
+    Ok(brackets)
+}
+
 /// As [`first_place`], for a value in the bracket `outer`; or in none, so that any bytes may follow
 /// it.
 pub(crate) fn place_in<A: Allocator>(
@@ -64,10 +79,7 @@ pub(crate) fn place_in<A: Allocator>(
     ensures { IfOk result (λ place.
         IsPlaceIn level outer bytes.now place.offset place.expected) }
 {
-    let mut brackets: Vec<Bracket, A> = Vec::new(alloc);
-    if let Some(bracket) = outer {
-        brackets.push(bracket)?;
-    }
+    let mut brackets = opened(alloc, outer)?;
     let most = level.saturating_add(brackets.len());
     let mut mode = Mode::Value;
     let mut left = bytes;

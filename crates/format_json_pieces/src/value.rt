@@ -1,9 +1,9 @@
 //! JSON values (RFC 8259) at the start of bytes, and JSON texts in bytes.
 ghost use Rattle.format_json_pieces.specs.Begun.{IsViablePrefix};
-ghost use Rattle.format_json_pieces.specs.Results.{Allows, Fails, MatchesAtStart};
+ghost use Rattle.format_json_pieces.specs.Results.{Allows, Fails, IsFinal, MatchesAtStart};
+ghost use Rattle.format_json_pieces.specs.Results.{NoneIsFinal};
 ghost use Rattle.format_json_extents.specs.Number.{IsNumeral};
 ghost use Rattle.format_json_extents.specs.Value.{IsEnded};
-ghost use Rattle.format_json_pieces.specs.Read.{IsFinal, NoneIsFinal};
 ghost use Rattle.format_json_pieces.specs.Value.{AreNumerals, HasInner, InUtf8, IsNext};
 ghost use Rattle.format_json_pieces.specs.Value.{IsRefusedAt, IsValueIn};
 ghost use Rattle.format_json_pieces.specs.declared.begun.Mode.TheVariants as modes;
@@ -20,6 +20,7 @@ ghost use Rattle.winnow_grammar.specs.Cut.{Asks, ReadsOrAsks};
 ghost use Rattle.winnow_core.specs.Exact.Whole.{IsNotIncomplete, IsWant};
 ghost use Rattle.grammars.specs.Grammar.{IsUnique};
 ghost use Rattle.stream_sets.specs.Accumulator.Holds.{HasCharacters};
+ghost use Rattle.stream_sets.specs.AsChar.{IsMultispace};
 ghost use Rattle.grammars.specs.Texts.{StartsWith, IsGrammarOf, NotFirst};
 ghost use Rattle.winnow_grammar.specs.Told.{IsTextOf};
 
@@ -74,6 +75,16 @@ fn text_in<'i>(level: usize, bytes: &'i [u8], cut: bool) -> Option<(&'i str, &'i
     }
 }
 
+/// Returns whether the bytes start with whitespace.
+fn has_gap(bytes: &[u8]) -> bool
+    ensures { IsTrue result ↔ StartsWith IsMultispace bytes.now }
+{
+    match bytes.split_first() {
+        Some((first, _)) => matches!(*first, b' ' | b'\t' | b'\n' | b'\r'),
+        None => false,
+    }
+}
+
 /// Returns the value that the bytes start with, and the remaining bytes. On partial input (`cut`)
 /// more may follow.
 fn value_in<'i, A: Allocator + Copy>(
@@ -90,6 +101,8 @@ fn value_in<'i, A: Allocator + Copy>(
         → (rest ≡ []) × All IsNumeral bytes.now) }
     ensures begun { IfErr result (λ e. Asks (⟦<ErrMode<EmptyError> as HasKind>⟧.kind e)
         → IsViablePrefix level modes.Value [] bytes.now) }
+    ensures gap { IfErr result (λ e. Asks (⟦<ErrMode<EmptyError> as HasKind>⟧.kind e)
+        → NotFirst IsMultispace bytes.now) }
 {
     match text_in(level, bytes, cut) {
         Some((text, left)) => {
@@ -99,8 +112,12 @@ fn value_in<'i, A: Allocator + Copy>(
                 Err(error) => Err(error),
             }
         }
-        None if cut => Err(lacking(alloc, level, bytes)),
-        None => Err(ErrMode::from_input(&bytes)),
+        None => {
+            if !cut || has_gap(bytes) {
+                return Err(ErrMode::from_input(&bytes));
+            }
+            Err(lacking(alloc, level, bytes))
+        }
     }
 }
 
@@ -186,6 +203,9 @@ pub fn read_value_in_pieces<'i, A: Allocator + Copy>(
         × All IsNumeral (⟦<Partial<&'static [u8]> as Stream>⟧.view input.old).left.tokens) }
     ensures begun { IfErr result (λ e. Asks (⟦<ErrMode<EmptyError> as HasKind>⟧.kind e)
         → IsViablePrefix level modes.Value []
+        (⟦<Partial<&'static [u8]> as Stream>⟧.view input.old).left.tokens) }
+    ensures gap { IfErr result (λ e. Asks (⟦<ErrMode<EmptyError> as HasKind>⟧.kind e)
+        → NotFirst IsMultispace
         (⟦<Partial<&'static [u8]> as Stream>⟧.view input.old).left.tokens) }
     ensures kept { IfErr result (λ e. ⟦<Partial<&'static [u8]> as Stream>⟧.view input.new
         ≡ ⟦<Partial<&'static [u8]> as Stream>⟧.view input.old) }
