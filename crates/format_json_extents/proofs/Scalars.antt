@@ -27,7 +27,8 @@ use Rattle.format_json_extents.specs.Texts.{one_more}
 use Rattle.format_json_extents.specs.Value.{IsNumberByteOf, IsScalar, IsWord, Only}
 use Rattle.std.specs.List.{All}
 use Rattle.std.proofs.lemmas.List.Elements.{All-head, All-tail}
-use Rattle.format_json_extents.proofs.Scanning.{SameMatches, Scans, alone, same_here, same_none, same_on}
+use Rattle.format_json_extents.proofs.Scanning.{SameMatches, Scans, alone, same_here, same_none}
+use Rattle.format_json_extents.proofs.Scanning.{same_on}
 
 -- ---- units
 

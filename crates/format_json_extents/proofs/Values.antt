@@ -11,7 +11,8 @@ use Rattle.format_json_extents.proofs.Matching.{begins_at, byte_leaves, byte_mat
 use Rattle.format_json_extents.proofs.Matching.{byte_starts, either_starts, first_none, never}
 use Rattle.format_json_extents.proofs.Matching.{none_first, same_first, same_rest, shorter}
 use Rattle.format_json_extents.proofs.Matching.{starts_bars, then_exact, then_leaves, then_matches}
-use Rattle.format_json_extents.proofs.Matching.{then_none, then_split, then_starts, this_first, widen}
+use Rattle.format_json_extents.proofs.Matching.{then_none, then_split, then_starts, this_first}
+use Rattle.format_json_extents.proofs.Matching.{widen}
 use Rattle.format_json_extents.proofs.Scalars.{IsFirstOfScalar, scalar_starts, string_starts}
 use Rattle.format_json_extents.proofs.Scalars.{word_starts}
 use Rattle.format_json_extents.proofs.Scanning.{SameMatches, Scans, ended, from_left}
@@ -22,7 +23,8 @@ use Rattle.format_json_extents.specs.Texts.{IsByte, IsLongerRest, List_of, Match
 use Rattle.format_json_extents.specs.Texts.{NoneStands, Or}
 use Rattle.format_json_extents.specs.Texts.{RestAfter, Then, before, last}
 use Rattle.format_json_extents.specs.Value.{IsClosing, IsColon, IsElement, IsEmptyTail, IsEnded}
-use Rattle.format_json_extents.specs.Value.{IsGap, IsItem, IsItemsTail, IsKey, IsName, IsNested, IsNumberByteOf}
+use Rattle.format_json_extents.specs.Value.{IsGap, IsItem, IsItemsTail, IsKey, IsName, IsNested}
+use Rattle.format_json_extents.specs.Value.{IsNumberByteOf}
 use Rattle.format_json_extents.specs.Value.{IsNestedTail, IsScalar, IsSpace, IsValue, Only, closing}
 use Rattle.format_json_extents.specs.Value.{opening}
 
@@ -63,7 +65,8 @@ module _ {V : List ℕ → Type 0} {bytes start : List ℕ} (starts : Starts V I
       → RestAfter IsGap IsSpace end rest → RestAfter (IsElement V) IsItemByte bytes rest
   element_is is after =
       then_exact (starts_bars (then_starts starts) space_no_first) gap
-      (then_leaves (all_stays space_no_number) (widen {S = IsNumberByteOf start} (λ b number. number.1) is) after)
+      (then_leaves (all_stays space_no_number)
+      (widen {S = IsNumberByteOf start} (λ b number. number.1) is) after)
 
   pub element_none : NoneStands V start → NoneStands (IsElement V) bytes
   element_none none =
@@ -273,7 +276,8 @@ pub value_scans : (level : ℕ) (bytes : List ℕ) (result : Option (Bor (List �
     → Scans (IsValue level) (IsNumberByteOf bytes) bytes result
 value_scans zero bytes result not it = it
 value_scans (suc level) bytes result not it =
-    left_scans _ _ (IsNumberByteOf bytes) _ result (λ rest is. nested (begins_at nested_starts is)) it
+    left_scans _ _ (IsNumberByteOf bytes) _ result
+    (λ rest is. nested (begins_at nested_starts is)) it
   where
     nested : Begins IsOpening bytes → ⊥
     nested b = elim b.is [
@@ -294,7 +298,8 @@ pub value_nested : (below : ℕ) (keyed : Bool) {level : ℕ} {bytes inside : Li
 value_nested below keyed {level} {bytes} result e starts it =
     subst (λ n. Scans (IsValue n) (IsNumberByteOf bytes) bytes result) (sym e)
     (right_scans _ _ (IsNumberByteOf bytes) _ result (opening_no_scalar keyed starts)
-    (wide_scans _ (IsNumberByteOf bytes) _ result (nested_scans keyed (IsValue below) result starts it)))
+    (wide_scans _ (IsNumberByteOf bytes) _ result
+    (nested_scans keyed (IsValue below) result starts it)))
 
 no_numeric : {F : ℕ → Type 0} {text : List ℕ} {X : Type 0} → Begins F text
     → StartsWith IsNumeric text → Apart F IsNumeric → X

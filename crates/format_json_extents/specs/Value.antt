@@ -8,11 +8,11 @@ use Rattle.format_json_extents.specs.Number.{IsNumber, IsNumberByte}
 use Rattle.format_json_extents.specs.Strings.{IsString}
 use Rattle.format_json_extents.specs.Texts.{Either, IsByte, List_of, Then}
 
--- A byte of white space: a space, a tab, a line feed or a carriage return.
+-- A byte of whitespace: a space, a tab, a line feed or a carriage return.
 abbrev pub IsSpace : ℕ → Type 0
 IsSpace b = (b ≡ 32) ⊎ ((b ≡ 9) ⊎ ((b ≡ 10) ⊎ (b ≡ 13)))
 
--- white space, or nothing
+-- whitespace, or nothing
 abbrev pub IsGap : List ℕ → Type 0
 IsGap = All IsSpace
 
@@ -34,11 +34,11 @@ IsScalar = Either IsString (Either IsNumber IsWord)
 abbrev pub IsColon : ℕ → Type 0
 IsColon b = b ≡ 58
 
--- A value, with white space round it.
+-- A value, with whitespace round it.
 abbrev pub IsElement : (List ℕ → Type 0) → List ℕ → Type 0
 IsElement V = Then IsGap (Then V IsGap)
 
--- A name and a colon, with white space round the name.
+-- A name and a colon, with whitespace round the name.
 abbrev pub IsKey : List ℕ → Type 0
 IsKey = Then IsGap (Then IsString (Then IsGap (IsByte IsColon)))
 

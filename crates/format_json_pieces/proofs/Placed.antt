@@ -1,15 +1,16 @@
 -- The walk that looks for a place: what it has come to, and the place where it stops.
-use Rattle.std.specs.Prelude.{◌≡◌, ◌↔◌, ◌<◌, ◌≤◌, ◌+◌, ◌-◌, ◌++◌, ℕ, List, [], ◌∷◌, Option}
+use Rattle.std.specs.Prelude.{◌≡◌, ◌↔◌, ◌<◌, ◌≤◌, ◌+◌, ◌-◌, ◌++◌, ℕ, List, [], ◌∷◌}
+use Rattle.std.specs.Prelude.{Option}
 use Rattle.std.specs.Prelude.{None, Some, length, slice_get}
 use Rattle.std.specs.Option.{option_to_list}
 use Rattle.std.proofs.Common.{ap, append_assoc, arith, inl, inr, length-append, refl, subst, sym}
 use Rattle.std.proofs.Common.{◌∙◌}
 use Rattle.std.proofs.lemmas.List.{append-nil, nil_from_length}
 use Rattle.format_json_pieces.proofs.Opened.{kept, kept_last, kept_length}
-use Rattle.format_json_pieces.specs.Begun.{IsViablePrefix, last_open, next_step, others_open}
+use Rattle.format_json_pieces.specs.Begun.{last_open, next_step, others_open}
 use Rattle.format_json_pieces.specs.Place.{BeginsIn, IsPlaceIn, IsWanted, LeadsTo, most_open}
-use Rattle.format_json_pieces.specs.Place.{IsStopped, wanted}
-use Rattle.format_json_pieces.specs.Stepped.{AfterValue, Next, any, begun_front}
+use Rattle.format_json_pieces.specs.Place.{wanted}
+use Rattle.format_json_pieces.specs.Stepped.{AfterValue, Next, any}
 use Rattle.format_json_pieces.specs.declared.begun.Bracket.{Bracket}
 use Rattle.format_json_pieces.specs.declared.begun.Mode.{Mode}
 use Rattle.format_json_pieces.specs.declared.begun.Mode.TheVariants as modes
@@ -32,7 +33,8 @@ step_open held items last mode b s same is e =
     e ∙ ap (λ x. next_step mode x b) (top_open held items last same is)
 
 -- the same place
-pub place_as : (level : ℕ) (outer : Option Bracket) {bytes : List ℕ} {n m : ℕ} {e f : Expected} → m ≡ n → f ≡ e
+pub place_as : (level : ℕ) (outer : Option Bracket) {bytes : List ℕ} {n m : ℕ} {e f : Expected}
+    → m ≡ n → f ≡ e
     → IsPlaceIn level outer bytes n e → IsPlaceIn level outer bytes m f
 place_as level outer {bytes} {n} {m} {e} {f} same is x =
     let P : ℕ → Expected → Type 0 = λ k g. IsPlaceIn level outer bytes k g in
@@ -65,36 +67,6 @@ at_first level outer bytes items same = record {
     alike : (outer : Option Bracket) → option_to_list outer ≡ kept (option_to_list outer)
     alike None = refl
     alike (Some k) = refl
-
--- Bytes may begin a value if and only if the place is their end.
-pub place_begun : (level n : ℕ) (bytes : List ℕ) (expected : Expected)
-    → IsPlaceIn level None bytes n expected
-    → (n ≡ length bytes → IsViablePrefix level modes.Value [] bytes)
-    × ((n ≡ length bytes → ⊥) → IsViablePrefix level modes.Value [] bytes → ⊥)
-place_begun level n bytes expected (front, rest, e, size, begins, stops, asks) =
-    by rest e stops
-  where
-    V : List ℕ → Type 0
-    V l = IsViablePrefix level modes.Value [] l
-
-    by : (rest : List ℕ) → bytes ≡ front ++ rest → IsStopped level None front rest
-        → (n ≡ length bytes → V bytes) × ((n ≡ length bytes → ⊥) → V bytes → ⊥)
-    by [] e stops =
-        let same = e ∙ append-nil front in (
-          λ at. subst V (sym same) begins,
-          λ not x. not (sym size ∙ sym (ap (λ l. length l) same)),
-        )
-    by (b ∷ rest) e stops = (
-      λ at. absurd (omega (
-        arith,
-        at,
-        size,
-        ap (λ l. length l) e,
-        length-append front (b ∷ rest),
-      )),
-      λ not x. stops (begun_front level (front ++ b ∷ []) rest modes.Value []
-          (subst V (e ∙ sym (append_assoc front (b ∷ []) rest)) x)),
-    )
 
 module _ {level : ℕ} {outer : Option Bracket} {bytes left : List ℕ} {mode : Mode}
     {items : List Bracket} (w : Walked level outer bytes left mode items) where
@@ -139,7 +111,8 @@ module _ {level : ℕ} {outer : Option Bracket} {bytes left : List ℕ} {mode : 
         w.splits ∙ ap (λ l. w.front ++ l) first ∙ sym (append_assoc w.front (b ∷ []) more)
 
     placed : (expected : Expected) (n : ℕ) → n ≡ length bytes - length left
-        → (BeginsIn level outer (w.front ++ b ∷ []) → ⊥) → IsWanted level outer w.front (b ∷ more) expected
+        → (BeginsIn level outer (w.front ++ b ∷ []) → ⊥)
+        → IsWanted level outer w.front (b ∷ more) expected
         → IsPlaceIn level outer bytes n expected
     placed expected n is never asks = (
       w.front,

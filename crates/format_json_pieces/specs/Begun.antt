@@ -29,7 +29,7 @@ use Rattle.format_json_pieces.specs.declared.inside.Part.TheVariants.{Plain}
 abbrev pub is_gap : ℕ → Bool
 is_gap b = b == 32 || (b == 9 || (b == 10 || b == 13))
 
--- where a value is to come, perhaps after white space
+-- where a value is to come, perhaps after whitespace
 abbrev pub value_step : Mode → ℕ → Step
 value_step mode b =
     if is_gap b then Goes mode else if b == 34 then Goes (Text Plain) else
@@ -141,7 +141,7 @@ IsNextStep before ended on level held Closes = IsAfterValue ended on (others_ope
 IsNextStep before ended on level held Ends = IsAfterValue ended on held
 
 -- `IsWalked ends level mode held bytes`: the walk over the bytes comes to the end of a value of the
--- level, or to theirs, and `ends` holds of those that remain. At first `mode` is to come in the
+-- level, or of the bytes, and the remaining bytes are in `ends`. At first `mode` is to come in the
 -- brackets `held`, that which was opened last first.
 abbrev pub IsWalked : (List ℕ → Type 0) → ℕ → Mode → List Bracket → List ℕ → Type 0
 IsWalked ends level mode held [] = ends []

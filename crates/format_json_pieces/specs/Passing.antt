@@ -1,7 +1,7 @@
 -- Proofs that the walk accepts the bytes of a value and their prefixes: if it rejects bytes, no
 -- longer bytes start with a value.
-use Rattle.std.specs.Prelude.{◌≡◌, ◌<◌, ◌≤◌, ◌+◌, ◌==◌, ℕ, zero, suc, Bool, true, false, List}
-use Rattle.std.specs.Prelude.{[], ◌∷◌, ◌++◌, Some, length, not, ⊤}
+use Rattle.std.specs.Prelude.{◌≡◌, ◌<◌, ◌≤◌, ◌+◌, ◌==◌, ℕ, zero, suc, Bool, true, List}
+use Rattle.std.specs.Prelude.{[], ◌∷◌, ◌++◌, Some, length, not}
 use Rattle.std.specs.Prelude.{if◌then◌else◌}
 use Rattle.std.specs.declared.string.String.{String}
 use Rattle.std.specs.List.{All}
@@ -13,9 +13,6 @@ use Rattle.std.proofs.lemmas.List.Elements.{All-tail}
 use Rattle.std.proofs.lemmas.Str.{encode_ascii, encodes-chars, scalars-chars}
 use Rattle.stream_sets.specs.Accumulator.Holds.{HasCharacters}
 use Rattle.stream_sets.specs.AsChar.{IsMultispace}
-use Rattle.winnow_grammar.specs.Cut.{Asks}
-use Rattle.streams.specs.Equal.{true_is_false}
-use Rattle.streams.specs.Kind.{Kind, incomplete}
 use Rattle.grammars.specs.Grammar.{IsUnique, NoMatch}
 use Rattle.grammars.specs.Texts.{StartsWith, BothText, InFront, InList, PartedText, Text}
 use Rattle.grammars.specs.Texts.Fronts.{both_front, either_front, in_list_front}
@@ -24,7 +21,7 @@ use Rattle.format_json_texts.specs.Values.{IsString, IsWord, Mark, ObjectText, S
 use Rattle.format_json_texts.specs.Values.{JsonText, ValueText}
 use Rattle.format_parts.specs.Words.{One, for_front, former, latter, pair}
 use Rattle.format_json_texts.specs.declared.value.Value.{Value}
-use Rattle.format_json_pieces.specs.Begun.{IsLacking, IsViablePrefix, IsWalked, MayBegin}
+use Rattle.format_json_pieces.specs.Begun.{IsViablePrefix, IsWalked, MayBegin}
 use Rattle.format_json_pieces.specs.Begun.{after_step, last_open, next_step, others_open}
 use Rattle.format_json_pieces.specs.Begun.{value_step}
 use Rattle.format_json_pieces.specs.Figures.{widened}
@@ -49,9 +46,11 @@ module _ (ends : List ℕ → Type 0) (level : ℕ) (rest : List ℕ) where
   marked : (mode next : Mode) (held : List Bracket) (c : ℕ) → c < 128
       → ((l : List ℕ) → At ends level next held l → At ends level mode held (c ∷ l))
       → ((b : ℕ) → IsMultispace b → next_step next (last_open held) b ≡ steps.Goes next)
-      → InFront (Mark c) (Spells rest (At ends level next held)) (Spells rest (At ends level mode held))
+      → InFront (Mark c) (Spells rest (At ends level next held))
+      (Spells rest (At ends level mode held))
   marked mode next held c low makes goes =
-      both_front pair (one_spells rest (At ends level next held) (At ends level mode held) c low makes)
+      both_front pair
+      (one_spells rest (At ends level next held) (At ends level mode held) c low makes)
       (gap_spells ends level rest next held goes)
 
   module _ (held : List Bracket) where
@@ -106,7 +105,8 @@ module _ (ends : List ℕ → Type 0) (level : ℕ) (rest : List ℕ) where
     value_item [] x = (x, x)
     value_item (b ∷ l) x = (
       (elim (both_ways (b == 93)) [
-        | inl e ↦ absurd (subst (λ s. Next ends level (Array ∷ held) b l s) (refused e) (x modes.First))
+        | inl e ↦ absurd
+            (subst (λ s. Next ends level (Array ∷ held) b l s) (refused e) (x modes.First))
         | inr e ↦ (let P : Bool → Type 0 = λ v. Next ends level (Array ∷ held) b l
             (if v then steps.Closes else value_step modes.First b) in
             subst P (sym e) (x modes.First))
@@ -128,7 +128,8 @@ module _ (ends : List ℕ → Type 0) (level : ℕ) (rest : List ℕ) where
         → ((l : List ℕ) → AfterValue ends level held l → Closed k (closing ∷ l))
         → InFront item (Spells rest (At ends level modes.After (k ∷ held))) (Spells rest (Items k))
         → InFront (BothText former (InList {A = A} (PartedText (Mark 44) item)) (One closing))
-        (Spells rest (AfterValue ends level held)) (Spells rest (At ends level modes.First (k ∷ held)))
+        (Spells rest (AfterValue ends level held))
+        (Spells rest (At ends level modes.First (k ∷ held)))
     listed k closing low comma closes front =
         both_front former (in_list_front (items_front
         (widened (λ cs x scalars. (x scalars).1) (λ cs x. x)
@@ -144,7 +145,9 @@ module _ (ends : List ℕ → Type 0) (level : ℕ) (rest : List ℕ) where
         → Place ends level rest held behind whole
         → InFront (ScalarText holds) behind whole
     scalars {held} place =
-        either_front (for_front IsWord (widened place.closes place.starts (words ends level rest held)))
+        either_front
+        (for_front IsWord
+        (widened place.closes place.starts (words ends level rest held)))
         (either_front (for_front IsNumber (for_front HasText place.numbers))
         (for_front IsString (widened place.closes place.starts
         (string_spells rest (text_goes ends level rest held) holds (Started ends level held)
@@ -156,7 +159,8 @@ module _ (ends : List ℕ → Type 0) (level : ℕ) (rest : List ℕ) where
           → InFront (ArrayText holds value) (Spells rest (AfterValue ends level held))
           (Spells rest (Started ends level held))
       array front =
-          both_front latter (both_front pair (one_spells rest (At ends level modes.First (Array ∷ held))
+          both_front latter
+          (both_front pair (one_spells rest (At ends level modes.First (Array ∷ held))
           (Started ends level held) 91 (omega arith) (λ l x mode. (few, x)))
           (gap_spells ends level rest modes.First (Array ∷ held) (first_gap held Array)))
           (listed held Array 93 (omega arith) (λ l x. x) (λ l x. (x, x))
@@ -169,7 +173,8 @@ module _ (ends : List ℕ → Type 0) (level : ℕ) (rest : List ℕ) where
           → InFront (ObjectText holds value) (Spells rest (AfterValue ends level held))
           (Spells rest (Started ends level held))
       object front =
-          both_front latter (both_front pair (one_spells rest (At ends level modes.First (Object ∷ held))
+          both_front latter
+          (both_front pair (one_spells rest (At ends level modes.First (Object ∷ held))
           (Started ends level held) 123 (omega arith) (λ l x mode. (few, x)))
           (gap_spells ends level rest modes.First (Object ∷ held) (first_gap held Object)))
           (listed held Object 125 (omega arith) (λ l x. x) (λ l x. (x, x))
@@ -229,7 +234,7 @@ module _ {A : Type 0} (level : ℕ) where
       (λ begins. stops (subst P same (numeric cs (subst P (append-nil cs) begins))))
       (subst Q (sym (append-nil cs)) (scalars-chars text utf8))))
 
--- a walk ends at one place
+-- a walk has one end
 module _ (level : ℕ) (rest other : List ℕ) where
   abbrev To : List ℕ → Mode → List Bracket → List ℕ → Type 0
   To end = IsWalked (λ l. l ≡ end) level
@@ -312,7 +317,7 @@ module _ {A : Type 0} (level : ℕ) where
       not (begun_front (suc level) bytes more modes.Value (Whole ∷ [])
       (text_may_begin (bytes ++ more) v text))
 
--- ---- white space before a value
+-- ---- whitespace before a value
 
 pub begun_gap : (level : ℕ) (gap left : List ℕ) → All IsMultispace gap
     → IsViablePrefix level modes.Value [] left → IsViablePrefix level modes.Value [] (gap ++ left)
@@ -324,21 +329,7 @@ begun_gap level (b ∷ gap) left all x =
     refl b (all 0 b (omega arith))))
     (begun_gap level gap left (All-tail IsMultispace b gap all) x)
 
--- ---- errors that are `Incomplete`
-
-abbrev is_asking : Kind → Bool
-is_asking (incomplete need) = true
-is_asking _ = false
-
-pub asks_begun : (level : ℕ) (bytes : List ℕ) (kind : Kind) → IsLacking level bytes kind
-    → Asks kind → IsViablePrefix level modes.Value [] bytes
-asks_begun level bytes kind (inl wants) (need, asks) =
-    absurd (true_is_false (ap is_asking (sym asks ∙ wants)))
-asks_begun level bytes kind (inr (inl (_, begun))) asks = begun
-asks_begun level bytes kind (inr (inr (backtracks, not))) (need, asks) =
-    absurd (true_is_false (ap is_asking (sym asks ∙ backtracks)))
-
--- after white space too
+-- after whitespace too
 pub asks_next : (level : ℕ) (bytes gap left : List ℕ) → bytes ≡ gap ++ left
     → All IsMultispace gap → IsViablePrefix level modes.Value [] left
     → IsViablePrefix level modes.Value [] bytes

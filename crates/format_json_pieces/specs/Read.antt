@@ -1,5 +1,5 @@
 -- The result for bytes, in terms of the text of the value that they start with.
-use Rattle.std.specs.Prelude.{◌≡◌, ◌⊎◌, ◌<◌, ◌^◌, ℕ, false, true, Bool, List, []}
+use Rattle.std.specs.Prelude.{◌≡◌, ◌<◌, ◌^◌, ℕ, false, true, Bool, List, []}
 use Rattle.std.specs.Prelude.{◌∷◌}
 use Rattle.std.specs.Prelude.{◌++◌, Some, None, length}
 use Rattle.std.specs.List.{All}
@@ -28,7 +28,7 @@ use Rattle.grammars.specs.Grammar.{Grammar, NoMatch}
 use Rattle.stream_sets.specs.Accumulator.Holds.{HasCharacters}
 use Rattle.grammars.specs.Texts.{StartsWith, NotFirst}
 
--- a number that may go on
+-- a number that may continue
 pub none_final : (level : ℕ) (cut : Bool) (bytes found left : List ℕ)
     → IsLongest (IsValue level) found bytes left
     → ((text rest : List ℕ) → IsValue level text → bytes ≡ text ++ rest → IsEnded text rest
@@ -101,7 +101,7 @@ module _ {A : Type 0} (alloc : A) (level : ℕ) where
         let (text, (utf8, written), e, ended) = it in
         (text, utf8, value_bytes alloc level text utf8 v written, e, ended)
 
-    -- it begins with no white space
+    -- it begins with no whitespace
     value_first : NotFirst IsMultispace bytes
     value_first =
         let (text, utf8, is, e, ended) = bytes_of in
@@ -128,14 +128,14 @@ module _ {A : Type 0} (alloc : A) (level : ℕ) where
       (subst (λ l. IsValueIn level l v rest) same it) cut none in
       true_is_false (sym partial ∙ whole)
 
-  -- nor is there one after white space
+  -- nor is there one after whitespace
   pub none_in_gap : (bytes : List ℕ) → StartsWith IsMultispace bytes → (more : List ℕ)
       → NoMatch (IsValueIn {A = A} level) (bytes ++ more)
   none_in_gap [] white more v rest it = white
   none_in_gap (b ∷ bytes) white more v rest it =
       value_first (b ∷ (bytes ++ more)) v rest it white
 
--- ---- the next value, after white space
+-- ---- the next value, after whitespace
 
 abbrev pub HasGap : List ℕ → List ℕ → List ℕ → Type 0
 HasGap bytes gap start =
@@ -158,7 +158,7 @@ gap_of {start = start} it = (
     first [] stops = tt
     first (b ∷ more) stops = λ white. stops b more refl (grind (arith, white))
 
--- white space ends at one place
+-- the longest whitespace is unique
 gap_ends : (bytes gap start g s : List ℕ) → HasGap bytes gap start → HasGap bytes g s → s ≡ start
 gap_ends bytes gap start g s (e, all, not) (f, each, first) =
     elim ((all_leaves gap all e stops).only s (record { text = g; is = each; splits = f })) [
@@ -176,7 +176,8 @@ module _ {A : Type 0} (alloc : A) (level : ℕ) (bytes gap start : List ℕ)
       → IsNext level bytes (Some v) rest → (rest ≡ []) × AreNumerals bytes
   unfolding IsNext
   next_numerals numerals v rest (g, s, each, e, x) =
-      let same = gap_ends bytes gap start g s passed (e, each, value_first alloc level s v rest x) in
+      let same = gap_ends bytes gap start g s passed
+      (e, each, value_first alloc level s v rest x) in
       let (nothing, are) = numerals v rest (subst (λ l. IsValueIn level l v rest) same x) in
       (nothing, (gap, start, passed.1, passed.0, are))
 
@@ -236,7 +237,7 @@ none_next A level cut bytes gap left e all few whole more allowed =
     ∙ append-nil gap in
     (subst (All IsMultispace) (sym same) all, ap (λ l. l ++ more) none ∙ allowed whole)
 
--- no value is after white space alone
+-- no value is after whitespace alone
 pub white_numerals : {A : Type 0} (level : ℕ) (left : List ℕ) → length left ≡ 0
     → (v : Value A) (rest : List ℕ) → IsValueIn level left v rest
     → (rest ≡ []) × All IsNumeral left

@@ -1,5 +1,6 @@
 -- The effect of characters on the bytes that follow them, one step at a time.
-use Rattle.std.specs.Prelude.{◌≡◌, ◌⊎◌, ◌<◌, ◌≤◌, ◌&&◌, ℕ, Bool, true, false, List, [], ◌∷◌, ◌++◌}
+use Rattle.std.specs.Prelude.{◌≡◌, ◌⊎◌, ◌<◌, ◌≤◌, ◌&&◌, ℕ, Bool, true, false, List, [], ◌∷◌}
+use Rattle.std.specs.Prelude.{◌++◌}
 use Rattle.std.specs.Prelude.{None, Option, Some, length}
 use Rattle.std.specs.List.{All}
 use Rattle.std.specs.Str.{all_scalars, encode_utf8_all}

@@ -1,5 +1,6 @@
 -- Proofs that the bytes of a string continue as its characters must.
-use Rattle.std.specs.Prelude.{◌≡◌, ◌⊎◌, ◌<◌, ◌≤◌, ◌+◌, ◌/◌, ◌%◌, ◌==◌, ◌||◌, ℕ, true, List}
+use Rattle.std.specs.Prelude.{◌≡◌, ◌⊎◌, ◌<◌, ◌≤◌, ◌+◌, ◌/◌, ◌%◌, ◌==◌, ◌||◌, ℕ, true}
+use Rattle.std.specs.Prelude.{List}
 use Rattle.std.specs.Prelude.{◌∷◌, ◌++◌}
 use Rattle.std.specs.declared.string.String.{String}
 use Rattle.std.specs.Char.{IsScalar, encode_utf8}
@@ -118,14 +119,16 @@ module _ (rest : List ℕ) {inside : Part → List ℕ → Type 0} {behind : Lis
       either_on (byte_on IsEscaped parts.Escape parts.Plain
       (λ c is. (grind (arith, is), grind (arith, nat_tests, is))))
       (then_on parts.Escape parts.Unit parts.Plain
-      (byte_on IsU parts.Escape parts.Unit (λ c is. (omega (arith, is), grind (arith, nat_tests, is))))
+      (byte_on IsU parts.Escape parts.Unit
+      (λ c is. (omega (arith, is), grind (arith, nat_tests, is))))
       (either_on (then_on parts.Unit parts.Two parts.Plain only_on last_on)
       (then_on parts.Unit parts.Backslash parts.Plain high_on
       (then_on parts.Backslash parts.LetterU parts.Plain
       (byte_on IsBackslash parts.Backslash parts.LetterU
       (λ c is. (omega (arith, is), grind (arith, nat_tests, is))))
       (then_on parts.LetterU parts.LowD parts.Plain
-      (byte_on IsU parts.LetterU parts.LowD (λ c is. (omega (arith, is), grind (arith, nat_tests, is))))
+      (byte_on IsU parts.LetterU parts.LowD
+      (λ c is. (omega (arith, is), grind (arith, nat_tests, is))))
       low_on)))))
 
   escape_front : InFront EscapeText (At parts.Plain) (At parts.Plain)

@@ -1,4 +1,4 @@
-//! Whether cut bytes may go on to the text of a value: by a walk over them, one byte at a time,
+//! Whether partial input can continue to the text of a value: by a walk over them, one byte at a time,
 //! with the brackets that are open.
 ghost use Rattle.format_json_pieces.specs.Begun.{IsLacking, after_step};
 ghost use Rattle.format_json_pieces.specs.Begun.{figure_step};
@@ -72,14 +72,14 @@ pub enum Step {
     Ends,
 }
 
-/// Whether the byte is white space.
+/// Whether the byte is whitespace.
 fn is_gap(byte: u8) -> bool
     ensures { result ≡ is_gap byte }
 {
     byte == b' ' || byte == b'\t' || byte == b'\n' || byte == b'\r'
 }
 
-/// Where a value is to come, perhaps after white space.
+/// Where a value is to come, perhaps after whitespace.
 fn value_step(mode: Mode, byte: u8) -> Step
     ensures { result ≡ value_step mode byte }
 {

@@ -55,10 +55,7 @@ pub fn first_place<A: Allocator>(alloc: A, level: usize, bytes: &[u8]) -> Result
 }
 
 /// The brackets that are open at first.
-fn opened<A: Allocator>(
-    alloc: A,
-    outer: Option<Bracket>,
-) -> Result<Vec<Bracket, A>, AllocError>
+fn opened<A: Allocator>(alloc: A, outer: Option<Bracket>) -> Result<Vec<Bracket, A>, AllocError>
     ensures { IfOk result (λ brackets. brackets.items ≡ option_to_list outer) }
 {
     let mut brackets = Vec::new(alloc);

@@ -42,7 +42,8 @@ use streams::partial::Partial;
 use streams::stream::{Stream, StreamIsPartial};
 
 /// Returns whether the value `text` ends before `left`, for any continuation: a number ends where
-/// neither a digit, a point nor an E follows, which is not known at the end of partial input (`cut`).
+/// neither a digit, a point nor an E follows, which is not known at the end of partial input
+/// (`cut`).
 fn is_ended(text: &[u8], left: &[u8], cut: bool) -> bool
     ensures yes { IsTrue result → (more : List ℕ) → Allows cut more
         → IsEnded text.now (left.now ++ more) }
@@ -121,7 +122,7 @@ fn value_in<'i, A: Allocator + Copy>(
     }
 }
 
-/// As [`value_in`], after white space; none where white space is all there is.
+/// As [`value_in`], after whitespace; none where whitespace is all there is.
 fn next_in<'i, A: Allocator + Copy>(
     alloc: A,
     level: usize,
@@ -153,8 +154,8 @@ fn next_in<'i, A: Allocator + Copy>(
 
 /// Parses a value whose arrays and objects are nested at most `level` deep, from partial input. The
 /// value is returned once it is the same for every longer input. That is with the last byte of an
-/// array, an object, a string or a word, and with the byte after a number, also in `0-`. The input
-/// is left after the value. Whitespace before the value is not skipped.
+/// array, an object, a string or a word, and with the byte after a number, also in `0-`. The bytes
+/// of the value are consumed. Whitespace before the value is not skipped.
 ///
 /// The bytes of the value must be UTF-8; those after it are not examined. A number must not be
 /// followed by a digit, a point, an `e` or an `E`; otherwise there is no value.
@@ -256,7 +257,8 @@ pub fn read_next_in_pieces<'i, A: Allocator + Copy>(
     ensures asks { IfErr result (λ e. Asks (⟦<ErrMode<EmptyError> as HasKind>⟧.kind e)
         → (v : Value A) (rest : List ℕ) → IsNext level
         (⟦<Partial<&'static [u8]> as Stream>⟧.view input.old).left.tokens (Some v) rest
-        → (rest ≡ []) × AreNumerals (⟦<Partial<&'static [u8]> as Stream>⟧.view input.old).left.tokens) }
+        → (rest ≡ [])
+        × AreNumerals (⟦<Partial<&'static [u8]> as Stream>⟧.view input.old).left.tokens) }
     ensures begun { IfErr result (λ e. Asks (⟦<ErrMode<EmptyError> as HasKind>⟧.kind e)
         → IsViablePrefix level modes.Value []
         (⟦<Partial<&'static [u8]> as Stream>⟧.view input.old).left.tokens) }

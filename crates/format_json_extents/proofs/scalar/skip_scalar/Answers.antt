@@ -22,7 +22,8 @@ returns-then-first-le57 c =
     let result = c.skip_number.result in
     let e = c.in_ok-first.ensures.cases.0 in
     let low = c.if-first-le57.true in
-    right_scans _ _ (IsNumberByteOf c.args.bytes.now) _ result (none_first string_starts e c.if-first-eq34.false)
+    right_scans _ _ (IsNumberByteOf c.args.bytes.now) _ result
+    (none_first string_starts e c.if-first-eq34.false)
     (left_scans _ _ (IsNumberByteOf c.args.bytes.now) _ result
     (none_first word_starts e (λ f. grind (arith, f, low)))
     (number_scans _ result c.skip_number.ensures))
@@ -32,7 +33,8 @@ returns-else-first-le57 c =
     let result = c.skip_word.result in
     let e = c.in_ok-first.ensures.cases.0 in
     let high = c.if-first-le57.false in
-    right_scans _ _ (IsNumberByteOf c.args.bytes.now) _ result (none_first string_starts e c.if-first-eq34.false)
+    right_scans _ _ (IsNumberByteOf c.args.bytes.now) _ result
+    (none_first string_starts e c.if-first-eq34.false)
     (right_scans _ _ (IsNumberByteOf c.args.bytes.now) _ result
     (none_first number_starts e (λ f. grind (arith, f, high)))
     (wide_scans _ (IsNumberByteOf c.args.bytes.now) _ result c.skip_word.ensures))

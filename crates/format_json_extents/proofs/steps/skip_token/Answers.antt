@@ -13,4 +13,5 @@ pub returns-else-is_bracket : goal.returns-else-is_bracket
 returns-else-is_bracket c =
     right_scans _ _ IsNumberByte _ c.skip_scalar.result
     (byte_none c.in_ok-first.ensures.cases.0 (not_by c.is_bracket.ensures c.if-is_bracket.false))
-    (grown_scans _ (IsNumberByteOf c.args.bytes.now) IsNumberByte _ c.skip_scalar.result (λ b is. is.1) c.skip_scalar.ensures)
+    (grown_scans _ (IsNumberByteOf c.args.bytes.now) IsNumberByte _ c.skip_scalar.result
+    (λ b is. is.1) c.skip_scalar.ensures)

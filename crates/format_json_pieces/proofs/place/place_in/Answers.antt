@@ -3,7 +3,8 @@ use Rattle.std.specs.Prelude.{slice_get}
 use Rattle.std.proofs.lemmas.Bool.Decides.{nat_tests}
 use Rattle.format_json_pieces.proofs.Opened.{kept_others}
 use Rattle.format_json_pieces.proofs.Placed.{at_closed, at_deep, at_end, at_ended, at_ends}
-use Rattle.format_json_pieces.proofs.Placed.{at_first, at_refused, most_is, on_closes, on_ends, on_goes, on_opens, place_as}
+use Rattle.format_json_pieces.proofs.Placed.{at_first, at_refused, most_is, on_closes, on_ends}
+use Rattle.format_json_pieces.proofs.Placed.{on_goes, on_opens, place_as}
 use Rattle.format_json_pieces.proofs.Placed.{step_open, top_open}
 use Rattle.format_json_pieces.specs.Place.{wanted}
 use Rattle.format_json_pieces.specs.declared.begun.Step.TheVariants as steps
@@ -83,7 +84,8 @@ returns-then-is_empty g c =
 pub returns-in-Ended : goal.returns-in-Ended
 returns-in-Ended g c =
     let w = c.bytes.invariant in
-    place_as c.args.level c.args.outer c.end_of-in-Ended.ensures.offset c.end_of-in-Ended.ensures.expected
+    place_as c.args.level c.args.outer c.end_of-in-Ended.ensures.offset
+    c.end_of-in-Ended.ensures.expected
     (at_ended w c.in-Some.ensures.cases.0
     (step_open w.held c.bytes.brackets.items c.copied-held.result c.bytes.mode
     c.in-Some.first.now steps.Ended w.same

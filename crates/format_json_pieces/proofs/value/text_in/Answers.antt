@@ -1,4 +1,3 @@
-use Rattle.std.proofs.Common.{◌∙◌, ap, subst, sym}
 use Rattle.format_json_pieces.specs.Read.{none_final}
 use Rattle.format_json_pieces.proofs.value.text_in.Goals as goal
 

@@ -4,7 +4,9 @@ use Rattle.format_json_pieces.specs.Read.{final_read, final_stands, none_in_gap,
 use Rattle.format_json_pieces.specs.Read.{open_number}
 use Rattle.format_json_pieces.proofs.value.value_in.Goals as goal
 use Rattle.format_json_pieces.proofs.value.value_in.Goals.{then-not-cut-via-then-not-cut}
-use Rattle.format_json_pieces.proofs.value.value_in.Goals.{then-not-cut-via-else-not-cut+then-has_gap}
+use Rattle.format_json_pieces.proofs.value.value_in.Goals.{
+  then-not-cut-via-else-not-cut+then-has_gap,
+}
 
 pub returns-in-Ok-clause-value : goal.returns-in-Ok-clause-value
 returns-in-Ok-clause-value g c =
