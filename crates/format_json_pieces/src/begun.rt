@@ -1,5 +1,5 @@
-//! Whether partial input can continue to the text of a value: by a walk over them, one byte at a time,
-//! with the brackets that are open.
+//! Whether partial input can continue to the text of a value: by a walk over the bytes, one at a
+//! time, with the brackets that are open.
 ghost use Rattle.format_json_pieces.specs.Begun.{IsLacking, after_step};
 ghost use Rattle.format_json_pieces.specs.Begun.{figure_step};
 ghost use Rattle.format_json_pieces.specs.Begun.{item_step};
