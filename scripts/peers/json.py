@@ -118,9 +118,8 @@ def first_bytes(level, given):
     if is_number and text[end : end + 1] in [*GOES_ON]:
         return "none", {"none", "asks"}
     said = f"{shown} {len(text[end:].encode('utf-8', 'surrogateescape'))}"
-    # After a number the result is `Incomplete` until a byte follows that numbers do not have.
-    asks = is_number and not text[end:].lstrip(GOES_ON + "+-")
-    return said, {"asks"} if asks else {said}
+    # After a number the result is `Incomplete` until a byte follows.
+    return said, {"asks"} if is_number and not text[end:] else {said}
 
 
 def pieces(row):

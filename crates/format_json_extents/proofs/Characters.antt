@@ -13,7 +13,7 @@ use Rattle.format_json_extents.specs.Value.{Only}
 use Rattle.std.proofs.Math.Utf8.{low_scalar}
 use Rattle.format_json_extents.proofs.Written.{and_true}
 use Rattle.format_json_extents.specs.Number.{IsDigit, IsDigits, IsE, IsLeading, IsMinus, IsNumber}
-use Rattle.format_json_extents.specs.Number.{IsPoint, IsSign, IsZero}
+use Rattle.format_json_extents.specs.Number.{IsNumeral, IsPoint, IsSign, IsZero}
 pub mod Strings
 pub mod Values
 
@@ -56,46 +56,61 @@ first_byte b cs low = ap (λ l. l ++ encode_utf8_all cs) (encode_ascii b low)
 
 -- ---- texts of ASCII
 
+-- `Consists Q P`: each text in `P` consists of bytes in `Q`.
+pub record Consists (Q : ℕ → Type 0) (P : List ℕ → Type 0) : Type 0 where
+  pub each : (text : List ℕ) → P text → All Q text
+
 abbrev pub AreLow : List ℕ → Type 0
 AreLow = All (λ b. b < 128)
 
 -- `IsLow P`: each text in `P` consists of ASCII bytes.
 abbrev pub IsLow : (List ℕ → Type 0) → Type 0
-IsLow P = (text : List ℕ) → P text → AreLow text
+IsLow = Consists (λ b. b < 128)
 
-one_low : (b : ℕ) → b < 128 → AreLow (b ∷ [])
-one_low b low = All-cons (λ b. b < 128) b [] low (All-nil (λ b. b < 128))
+all_one : (Q : ℕ → Type 0) (b : ℕ) → Q b → All Q (b ∷ [])
+all_one Q b is = All-cons Q b [] is (All-nil Q)
 
-pub byte_low : (P : ℕ → Type 0) → ((b : ℕ) → P b → b < 128) → IsLow (IsByte P)
-byte_low P low text is = subst AreLow (sym is.alone) (one_low is.byte (low is.byte is.is_byte))
+module _ {Q : ℕ → Type 0} where
+  pub byte_in : (P : ℕ → Type 0) → ((b : ℕ) → P b → Q b) → Consists Q (IsByte P)
+  byte_in P into = record {
+    each = λ text is.
+        subst (All Q) (sym is.alone) (all_one Q is.byte (into is.byte is.is_byte));
+  }
 
-pub two_low : (P : ℕ → ℕ → Type 0) → ((a b : ℕ) → P a b → (a < 128) × (b < 128))
-    → IsLow (AreTwo P)
-two_low P low text is =
-    let (a, b) = low is.one is.two is.are_bytes in
-    subst AreLow (sym is.alone)
-    (All-cons (λ b. b < 128) is.one (is.two ∷ []) a (one_low is.two b))
+  pub two_in : (P : ℕ → ℕ → Type 0) → ((a b : ℕ) → P a b → Q a × Q b) → Consists Q (AreTwo P)
+  two_in P into = record {
+    each = λ text is.
+        let (a, b) = into is.one is.two is.are_bytes in
+        subst (All Q) (sym is.alone) (All-cons Q is.one (is.two ∷ []) a (all_one Q is.two b));
+  }
 
-pub then_low : {P Q : List ℕ → Type 0} → IsLow P → IsLow Q → IsLow (Then P Q)
-then_low p q text is =
-    subst AreLow (sym is.joins)
-    (All-append (λ b. b < 128) is.first is.second (p is.first is.is_first)
-    (q is.second is.is_second))
+  pub then_in : {P R : List ℕ → Type 0} → Consists Q P → Consists Q R → Consists Q (Then P R)
+  then_in p r = record {
+    each = λ text is.
+        subst (All Q) (sym is.joins) (All-append Q is.first is.second
+        (p.each is.first is.is_first) (r.each is.second is.is_second));
+  }
 
-pub either_low : {P Q : List ℕ → Type 0} → IsLow P → IsLow Q → IsLow (Either P Q)
-either_low p q text (inl is) = p text is
-either_low p q text (inr is) = q text is
+  pub either_in : {P R : List ℕ → Type 0} → Consists Q P → Consists Q R → Consists Q (Either P R)
+  either_in p r = record {
+    each = λ text is. elim is [ inl it ↦ p.each text it | inr it ↦ r.each text it ];
+  }
 
-pub maybe_low : {P : List ℕ → Type 0} → IsLow P → IsLow (Maybe P)
-maybe_low p text (inl e) = subst AreLow (sym e) (All-nil (λ b. b < 128))
-maybe_low p text (inr is) = p text is
+  pub maybe_in : {P : List ℕ → Type 0} → Consists Q P → Consists Q (Maybe P)
+  maybe_in p = record {
+    each = λ text is. elim is [
+      | inl e ↦ subst (All Q) (sym e) (All-nil Q)
+      | inr it ↦ p.each text it
+    ];
+  }
 
-pub all_low : (P : ℕ → Type 0) → ((b : ℕ) → P b → b < 128) → IsLow (All P)
-all_low P low text all = All-weaker P (λ b. b < 128) low text all
+  pub all_in : (P : ℕ → Type 0) → ((b : ℕ) → P b → Q b) → Consists Q (All P)
+  all_in P into = record { each = λ text all. All-weaker P Q into text all }
 
 pub only_low : (word : List ℕ) → AllByRecursion (λ b. b < 128) word → IsLow (Only word)
-only_low word low text e =
-    subst AreLow (sym e) (All-from_recursion (λ b. b < 128) word low)
+only_low word low = record {
+  each = λ text e. subst AreLow (sym e) (All-from_recursion (λ b. b < 128) word low);
+}
 
 pub low_same : (bytes : List ℕ) → AreLow bytes → encode_utf8_all bytes ≡ bytes
 low_same [] all = refl
@@ -113,9 +128,9 @@ low_front (b ∷ text) cs rest all e =
 
 pub low_alike : {P : List ℕ → Type 0} → IsLow P → Alike P
 low_alike {P} low = record {
-  bytes = λ cs is. subst P (sym (low_same cs (low cs is))) is;
+  bytes = λ cs is. subst P (sym (low_same cs (low.each cs is))) is;
   chars = λ cs text rest is e.
-      let (es, f, g) = low_front text cs rest (low text is) e in
+      let (es, f, g) = low_front text cs rest (low.each text is) e in
       record { first = text; second = es; splits = f; rest_of = g; is = is };
 }
 
@@ -181,20 +196,26 @@ list_alike {P} p = record { bytes = bytes; chars = chars }
           is = before f.first s.first (f.first ++ 44 ∷ s.first) f.is s.is refl;
         }
 
-digit_low : (b : ℕ) → IsDigit b → b < 128
-digit_low b is = omega (arith, is)
+-- ---- numbers
 
-digits_low : IsLow IsDigits
-digits_low = then_low (byte_low IsDigit digit_low) (all_low IsDigit digit_low)
+digits_in : Consists IsNumeral IsDigits
+digits_in = then_in (byte_in IsDigit (λ b d. inl d)) (all_in IsDigit (λ b d. inl d))
+
+pub number_numerals : Consists IsNumeral IsNumber
+number_numerals =
+    then_in (maybe_in (byte_in IsMinus (λ b e. grind (arith, e))))
+    (then_in (either_in (byte_in IsZero (λ b e. grind (arith, e)))
+    (then_in (byte_in IsLeading (λ b is. grind (arith, is))) (all_in IsDigit (λ b d. inl d))))
+    (then_in (maybe_in (then_in (byte_in IsPoint (λ b e. inr (inl e))) digits_in))
+    (maybe_in (then_in (byte_in IsE (λ b is. inr (inr (inl is))))
+    (then_in (maybe_in (byte_in IsSign (λ b is. inr (inr (inr is))))) digits_in)))))
 
 pub number_low : IsLow IsNumber
-number_low =
-    then_low (maybe_low (byte_low IsMinus (λ b e. omega (arith, e))))
-    (then_low (either_low (byte_low IsZero (λ b e. omega (arith, e)))
-    (then_low (byte_low IsLeading (λ b e. omega (arith, e))) (all_low IsDigit digit_low)))
-    (then_low (maybe_low (then_low (byte_low IsPoint (λ b e. omega (arith, e))) digits_low))
-    (maybe_low (then_low (byte_low IsE (λ b is. grind (arith, is)))
-    (then_low (maybe_low (byte_low IsSign (λ b is. grind (arith, is)))) digits_low)))))
+number_low = record {
+  each = λ text is.
+      All-weaker IsNumeral (λ b. b < 128) (λ b numeral. grind (arith, numeral)) text
+      (number_numerals.each text is);
+}
 
 -- ---- what is ASCII is UTF-8
 

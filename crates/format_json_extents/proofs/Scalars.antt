@@ -1,7 +1,10 @@
 -- Lemmas about strings, numbers and words at the start of bytes.
 use Rattle.std.proofs.Common.{◌++◌, ◌-◌, ◌<◌, ◌∙◌, ◌∷◌, ◌≡◌, ◌≤◌, ◌⊎◌, [], ℕ, List}
 use Rattle.std.proofs.Common.{ap, append_assoc, arith, inl, inr, length, length-append, refl, subst}
-use Rattle.std.proofs.Common.{sym, take, take_at}
+use Rattle.std.proofs.Common.{sym, take, take_at, None, Option, Some}
+use Rattle.std.specs.Borrow.{Bor}
+use Rattle.grammars.specs.Texts.{StartsWith}
+use Rattle.format_json_texts.specs.Values.Texts.{IsNumeric}
 use Rattle.std.proofs.lemmas.List.{append_cancel_left}
 use Rattle.format_json_extents.proofs.Matching.{Bars, Starts, Stays, all_stops, begins_at}
 use Rattle.format_json_extents.proofs.Matching.{byte_leaves, byte_matches, byte_none, byte_starts}
@@ -21,10 +24,11 @@ use Rattle.format_json_extents.specs.Strings.{IsStringTail, IsUnescaped, IsUnit}
 use Rattle.format_json_extents.specs.Texts.{AreTwo, Either, IsByte, Many, MatchesAtStart, Maybe}
 use Rattle.format_json_extents.specs.Texts.{Never, NoneStands, Or, RestAfter, Then, nothing}
 use Rattle.format_json_extents.specs.Texts.{one_more}
-use Rattle.format_json_extents.specs.Value.{IsScalar, IsWord, Only}
+use Rattle.format_json_extents.specs.Value.{IsNumberByteOf, IsScalar, IsWord, Only}
 use Rattle.std.specs.List.{All}
 use Rattle.std.proofs.lemmas.List.Elements.{All-head, All-tail}
-use Rattle.format_json_extents.proofs.Scanning.{SameMatches, alone, same_here, same_none, same_on}
+use Rattle.format_json_extents.proofs.Scanning.{SameMatches, Scans, alone, same_here, same_none}
+use Rattle.format_json_extents.proofs.Scanning.{same_on}
 
 -- ---- units
 
@@ -270,6 +274,16 @@ IsFirstOfNumber = Or IsMinus (Or IsZero IsLeading)
 
 pub number_starts : Starts IsNumber IsFirstOfNumber
 number_starts = maybe_starts byte_starts (then_starts whole_starts)
+
+-- what extends a number extends that which the bytes start with
+pub number_scans : (bytes : List ℕ) (result : Option (Bor (List ℕ)))
+    → Scans IsNumber IsNumberByte bytes result → Scans IsNumber (IsNumberByteOf bytes) bytes result
+number_scans bytes None none = none
+number_scans bytes (Some rest) it =
+    let b = begins_at number_starts it.stands in
+    let numeric : StartsWith IsNumeric bytes =
+    subst (λ l. StartsWith IsNumeric l) (sym b.begins) (grind (arith, b.is)) in
+    widen (λ c is. (numeric, is)) it
 
 -- ---- words
 

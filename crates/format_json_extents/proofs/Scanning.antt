@@ -144,10 +144,15 @@ module _ (P Q : List ℕ → Type 0) (S : ℕ → Type 0) (bytes : List ℕ) whe
   right_scans None none q = either_none none q
   right_scans (Some rest) none q = either_right none q
 
+pub grown_scans : (P : List ℕ → Type 0) (S T : ℕ → Type 0) (bytes : List ℕ)
+    (result : Option (Bor (List ℕ))) → ((b : ℕ) → S b → T b) → Scans P S bytes result
+    → Scans P T bytes result
+grown_scans P S T bytes None wider none = none
+grown_scans P S T bytes (Some rest) wider it = widen wider it
+
 pub wide_scans : (P : List ℕ → Type 0) (S : ℕ → Type 0) (bytes : List ℕ)
     (result : Option (Bor (List ℕ))) → Scans P Never bytes result → Scans P S bytes result
-wide_scans P S bytes None none = none
-wide_scans P S bytes (Some rest) it = widen (λ b n. absurd n) it
+wide_scans P S bytes result it = grown_scans P Never S bytes result (λ b n. absurd n) it
 
 pub this_scans : (c : ℕ) (bytes : List ℕ) (result : Option (Bor (List ℕ)))
     → MatchOption result ((more : List ℕ) → bytes ≡ c ∷ more → ⊥) (λ rest. bytes ≡ c ∷ rest.now)

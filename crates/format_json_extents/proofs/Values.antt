@@ -1,7 +1,10 @@
 -- Lemmas about values at the start of bytes, and about the contents of arrays and objects.
 use Rattle.std.proofs.Common.{◌++◌, ◌<◌, ◌∙◌, ◌∷◌, ◌≡◌, ◌⊎◌, [], ℕ, Bool, List, Option, ap}
-use Rattle.std.proofs.Common.{append_assoc, arith, false, inl, inr, length, refl, subst, suc, sym}
-use Rattle.std.proofs.Common.{true, zero}
+use Rattle.std.proofs.Common.{◌-◌, append_assoc, arith, false, inl, inr, length, refl, subst, suc}
+use Rattle.std.proofs.Common.{sym, take, true, zero}
+use Rattle.grammars.specs.Texts.{StartsWith, NotFirst}
+use Rattle.format_json_texts.specs.Number.{ContinuesNumber}
+use Rattle.format_json_texts.specs.Values.Texts.{IsNumeric}
 use Rattle.std.specs.Borrow.{Bor}
 use Rattle.format_json_extents.proofs.Matching.{Apart, Bars, Begins, Starts, all_leaves, all_stays}
 use Rattle.format_json_extents.proofs.Matching.{begins_at, byte_leaves, byte_matches, byte_none}
@@ -9,15 +12,19 @@ use Rattle.format_json_extents.proofs.Matching.{byte_starts, either_starts, firs
 use Rattle.format_json_extents.proofs.Matching.{none_first, same_first, same_rest, shorter}
 use Rattle.format_json_extents.proofs.Matching.{starts_bars, then_exact, then_leaves, then_matches}
 use Rattle.format_json_extents.proofs.Matching.{then_none, then_split, then_starts, this_first}
+use Rattle.format_json_extents.proofs.Matching.{widen}
 use Rattle.format_json_extents.proofs.Scalars.{IsFirstOfScalar, scalar_starts, string_starts}
-use Rattle.format_json_extents.proofs.Scanning.{SameMatches, Scans, ended, left_scans, right_scans}
-use Rattle.format_json_extents.proofs.Scanning.{then_scans, wide_scans}
-use Rattle.format_json_extents.specs.Number.{IsNumberByte}
+use Rattle.format_json_extents.proofs.Scalars.{word_starts}
+use Rattle.format_json_extents.proofs.Scanning.{SameMatches, Scans, ended, from_left}
+use Rattle.format_json_extents.proofs.Scanning.{left_scans, right_scans, then_scans, wide_scans}
+use Rattle.format_json_extents.specs.Number.{IsNumber, IsNumberByte}
 use Rattle.format_json_extents.specs.Strings.{IsString}
-use Rattle.format_json_extents.specs.Texts.{IsByte, List_of, MatchesAtStart, Never, NoneStands, Or}
+use Rattle.format_json_extents.specs.Texts.{IsByte, IsLongerRest, List_of, MatchesAtStart, Never}
+use Rattle.format_json_extents.specs.Texts.{NoneStands, Or}
 use Rattle.format_json_extents.specs.Texts.{RestAfter, Then, before, last}
-use Rattle.format_json_extents.specs.Value.{IsClosing, IsColon, IsElement, IsEmptyTail, IsGap}
-use Rattle.format_json_extents.specs.Value.{IsItem, IsItemsTail, IsKey, IsName, IsNested}
+use Rattle.format_json_extents.specs.Value.{IsClosing, IsColon, IsElement, IsEmptyTail, IsEnded}
+use Rattle.format_json_extents.specs.Value.{IsGap, IsItem, IsItemsTail, IsKey, IsName, IsNested}
+use Rattle.format_json_extents.specs.Value.{IsNumberByteOf}
 use Rattle.format_json_extents.specs.Value.{IsNestedTail, IsScalar, IsSpace, IsValue, Only, closing}
 use Rattle.format_json_extents.specs.Value.{opening}
 
@@ -54,11 +61,12 @@ IsItemByte = Or IsNumberByte IsSpace
 
 module _ {V : List ℕ → Type 0} {bytes start : List ℕ} (starts : Starts V IsFirst)
     (gap : RestAfter IsGap IsSpace bytes start) where
-  pub element_is : {end rest : List ℕ} → RestAfter V IsNumberByte start end
+  pub element_is : {end rest : List ℕ} → RestAfter V (IsNumberByteOf start) start end
       → RestAfter IsGap IsSpace end rest → RestAfter (IsElement V) IsItemByte bytes rest
   element_is is after =
       then_exact (starts_bars (then_starts starts) space_no_first) gap
-      (then_leaves (all_stays space_no_number) is after)
+      (then_leaves (all_stays space_no_number)
+      (widen {S = IsNumberByteOf start} (λ b number. number.1) is) after)
 
   pub element_none : NoneStands V start → NoneStands (IsElement V) bytes
   element_none none =
@@ -264,10 +272,12 @@ nested_scans true V result e it =
 
 pub value_scans : (level : ℕ) (bytes : List ℕ) (result : Option (Bor (List ℕ)))
     → ((keyed : Bool) (more : List ℕ) → bytes ≡ opening keyed ∷ more → ⊥)
-    → Scans IsScalar IsNumberByte bytes result → Scans (IsValue level) IsNumberByte bytes result
+    → Scans IsScalar (IsNumberByteOf bytes) bytes result
+    → Scans (IsValue level) (IsNumberByteOf bytes) bytes result
 value_scans zero bytes result not it = it
 value_scans (suc level) bytes result not it =
-    left_scans _ _ IsNumberByte _ result (λ rest is. nested (begins_at nested_starts is)) it
+    left_scans _ _ (IsNumberByteOf bytes) _ result
+    (λ rest is. nested (begins_at nested_starts is)) it
   where
     nested : Begins IsOpening bytes → ⊥
     nested b = elim b.is [
@@ -284,8 +294,51 @@ opening_no_scalar false e = none_first scalar_starts e (λ is. grind (arith, is)
 pub value_nested : (below : ℕ) (keyed : Bool) {level : ℕ} {bytes inside : List ℕ}
     (result : Option (Bor (List ℕ))) → level ≡ suc below → bytes ≡ opening keyed ∷ inside
     → Scans (IsNestedTail keyed (IsValue below)) Never inside result
-    → Scans (IsValue level) IsNumberByte bytes result
+    → Scans (IsValue level) (IsNumberByteOf bytes) bytes result
 value_nested below keyed {level} {bytes} result e starts it =
-    subst (λ n. Scans (IsValue n) IsNumberByte bytes result) (sym e)
-    (right_scans _ _ IsNumberByte _ result (opening_no_scalar keyed starts)
-    (wide_scans _ IsNumberByte _ result (nested_scans keyed (IsValue below) result starts it)))
+    subst (λ n. Scans (IsValue n) (IsNumberByteOf bytes) bytes result) (sym e)
+    (right_scans _ _ (IsNumberByteOf bytes) _ result (opening_no_scalar keyed starts)
+    (wide_scans _ (IsNumberByteOf bytes) _ result
+    (nested_scans keyed (IsValue below) result starts it)))
+
+no_numeric : {F : ℕ → Type 0} {text : List ℕ} {X : Type 0} → Begins F text
+    → StartsWith IsNumeric text → Apart F IsNumeric → X
+no_numeric b numeric apart =
+    absurd (apart b.byte b.is (subst (λ l. StartsWith IsNumeric l) b.begins numeric))
+
+-- A value that starts as a number does is a number.
+pub value_number : (level : ℕ) (text : List ℕ) → IsValue level text → StartsWith IsNumeric text
+    → IsNumber text
+value_number level text is numeric = value level is
+  where
+    scalar : IsScalar text → IsNumber text
+    scalar (inl is) = no_numeric (string_starts text is) numeric (λ b f n. grind (arith, f, n))
+    scalar (inr (inl is)) = is
+    scalar (inr (inr is)) = no_numeric (word_starts text is) numeric (λ b f n. grind (arith, f, n))
+
+    value : (level : ℕ) → IsValue level text → IsNumber text
+    value zero is = scalar is
+    value (suc level) (inl is) = scalar is
+    value (suc level) (inr is) =
+        no_numeric (nested_starts text is) numeric (λ b f n. grind (arith, f, n))
+
+-- A value that no byte extends to a longer number is the longest.
+pub only_found : (level : ℕ) {bytes rest : List ℕ}
+    → RestAfter (IsValue level) (IsNumberByteOf bytes) bytes rest → (text left : List ℕ)
+    → IsValue level text → bytes ≡ text ++ left → IsEnded text left
+    → text ≡ take (length bytes - length rest) bytes
+only_found level {bytes} {rest} it text left is e ended =
+    elim (it.only left (record { text = text; is = is; splits = e })) [
+      | inl same ↦ sym (from_left text rest (e ∙ ap (λ l. text ++ l) same))
+      | inr goes ↦ absurd (goes_on (value_starts level text is) goes)
+    ]
+  where
+    P : List ℕ → Type 0
+    P l = StartsWith IsNumeric l
+
+    goes_on : Begins IsFirst text → IsLongerRest (IsNumberByteOf bytes) left rest → ⊥
+    goes_on b goes =
+        let first = e ∙ ap (λ l. l ++ left) b.begins in
+        let numeric : P text = subst P (sym b.begins) (subst P first goes.is_byte.0) in
+        let not = subst (λ l. NotFirst ContinuesNumber l) goes.begins (ended numeric) in
+        not (grind (arith, goes.is_byte.1))

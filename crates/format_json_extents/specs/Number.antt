@@ -52,6 +52,10 @@ abbrev pub IsNumber : List ℕ → Type 0
 IsNumber =
     Then (Maybe (IsByte IsMinus)) (Then IsWhole (Then (Maybe IsFraction) (Maybe IsExponent)))
 
+-- a byte of numbers: a digit, a point, an E or a sign
+abbrev pub IsNumeral : ℕ → Type 0
+IsNumeral b = IsDigit b ⊎ (IsPoint b ⊎ (IsE b ⊎ IsSign b))
+
 -- A byte that can extend a number to a longer one.
 abbrev pub IsNumberByte : ℕ → Type 0
 IsNumberByte b = IsDigit b ⊎ (IsPoint b ⊎ IsE b)

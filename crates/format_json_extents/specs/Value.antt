@@ -1,15 +1,18 @@
 -- Values of JSON (RFC 8259, sections 2 to 5).
 use Rattle.std.specs.Prelude.{◌≡◌, ◌⊎◌, ℕ, zero, suc, Bool, true, false, List, [], ◌∷◌}
 use Rattle.std.specs.List.{All}
-use Rattle.format_json_extents.specs.Number.{IsNumber}
+use Rattle.grammars.specs.Texts.{StartsWith, NotFirst}
+use Rattle.format_json_texts.specs.Number.{ContinuesNumber}
+use Rattle.format_json_texts.specs.Values.Texts.{IsNumeric}
+use Rattle.format_json_extents.specs.Number.{IsNumber, IsNumberByte}
 use Rattle.format_json_extents.specs.Strings.{IsString}
 use Rattle.format_json_extents.specs.Texts.{Either, IsByte, List_of, Then}
 
--- A byte of white space: a space, a tab, a line feed or a carriage return.
+-- A byte of whitespace: a space, a tab, a line feed or a carriage return.
 abbrev pub IsSpace : ℕ → Type 0
 IsSpace b = (b ≡ 32) ⊎ ((b ≡ 9) ⊎ ((b ≡ 10) ⊎ (b ≡ 13)))
 
--- white space, or nothing
+-- whitespace, or nothing
 abbrev pub IsGap : List ℕ → Type 0
 IsGap = All IsSpace
 
@@ -31,11 +34,11 @@ IsScalar = Either IsString (Either IsNumber IsWord)
 abbrev pub IsColon : ℕ → Type 0
 IsColon b = b ≡ 58
 
--- A value, with white space round it.
+-- A value, with whitespace round it.
 abbrev pub IsElement : (List ℕ → Type 0) → List ℕ → Type 0
 IsElement V = Then IsGap (Then V IsGap)
 
--- A name and a colon, with white space round the name.
+-- A name and a colon, with whitespace round the name.
 abbrev pub IsKey : List ℕ → Type 0
 IsKey = Then IsGap (Then IsString (Then IsGap (IsByte IsColon)))
 
@@ -89,6 +92,17 @@ IsNested V =
 abbrev pub IsValue : ℕ → List ℕ → Type 0
 IsValue zero text = IsScalar text
 IsValue (suc level) text = Either IsScalar (IsNested (IsValue level)) text
+
+-- ---- what follows a value
+
+-- A byte that can extend the number that these bytes start with.
+abbrev pub IsNumberByteOf : List ℕ → ℕ → Type 0
+IsNumberByteOf bytes b = StartsWith IsNumeric bytes × IsNumberByte b
+
+-- `IsEnded text rest`: if `text` starts as a number does, `rest` does not start with a byte that
+-- can continue a number: a digit, a point or an E.
+abbrev pub IsEnded : List ℕ → List ℕ → Type 0
+IsEnded text rest = StartsWith IsNumeric text → NotFirst ContinuesNumber rest
 
 -- a JSON text, if it is UTF-8: a value with whitespace around it
 abbrev pub IsText : ℕ → List ℕ → Type 0

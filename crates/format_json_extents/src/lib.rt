@@ -22,7 +22,7 @@ pub mod number;
 mod scalar;
 pub mod steps;
 pub mod string;
-mod tokens;
+pub mod tokens;
 pub mod unescape;
 pub mod value;
 pub mod walk;

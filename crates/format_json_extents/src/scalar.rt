@@ -1,9 +1,8 @@
 //! Values that have no others in them: strings, numbers and words.
 
 ghost use Rattle.std.specs.Prelude.{MatchOption};
-ghost use Rattle.format_json_extents.specs.Number.{IsNumberByte};
 ghost use Rattle.format_json_extents.specs.Texts.{Never, NoneStands, RestAfter};
-ghost use Rattle.format_json_extents.specs.Value.{IsScalar, IsWord, Only};
+ghost use Rattle.format_json_extents.specs.Value.{IsNumberByteOf, IsScalar, IsWord, Only};
 
 use crate::number::skip_number;
 use crate::string::skip_string_tail;
@@ -34,7 +33,7 @@ fn skip_word<'i>(bytes: &'i [u8]) -> Option<&'i [u8]>
 #[inline(always)]
 pub fn skip_scalar<'i>(bytes: &'i [u8]) -> Option<&'i [u8]>
     ensures { MatchOption result (NoneStands IsScalar bytes.now)
-        (λ rest. RestAfter IsScalar IsNumberByte bytes.now rest.now) }
+        (λ rest. RestAfter IsScalar (IsNumberByteOf bytes.now) bytes.now rest.now) }
 {
     let (first, inside) = bytes.split_first()?;
     if *first == b'"' {

@@ -3,11 +3,10 @@
 ghost use Rattle.std.specs.Prelude.{◌≡◌, ◌≤◌, ◌↔◌, ◌∷◌, ◌++◌, Bool, List, ℕ, IfNone, IfSome};
 ghost use Rattle.std.specs.Prelude.{IsTrue, MatchOption, length};
 ghost use Rattle.std.specs.Str.{IsUtf8};
-ghost use Rattle.format_json_extents.specs.Number.{IsNumberByte};
 ghost use Rattle.format_json_extents.specs.Standard.{IsTextByStandard, IsValueByStandard};
 ghost use Rattle.format_json_extents.specs.Texts.{IsLongest, Never, NoneStands, RestAfter};
-ghost use Rattle.format_json_extents.specs.Value.{IsEmptyTail, IsItemsTail, IsName, IsText};
-ghost use Rattle.format_json_extents.specs.Value.{IsValue, closing};
+ghost use Rattle.format_json_extents.specs.Value.{IsEmptyTail, IsEnded, IsItemsTail, IsName};
+ghost use Rattle.format_json_extents.specs.Value.{IsNumberByteOf, IsText, IsValue, closing};
 ghost use Rattle.format_json_extents.specs.Value.{opening};
 
 use crate::scalar::skip_scalar;
@@ -89,7 +88,7 @@ fn skip_items<'i>(keyed: bool, level: usize, bytes: &'i [u8]) -> Option<&'i [u8]
 #[inline(always)]
 fn skip_value<'i>(level: usize, bytes: &'i [u8]) -> Option<&'i [u8]>
     ensures { MatchOption result (NoneStands (IsValue level) bytes.now)
-        (λ rest. RestAfter (IsValue level) IsNumberByte bytes.now rest.now) }
+        (λ rest. RestAfter (IsValue level) (IsNumberByteOf bytes.now) bytes.now rest.now) }
 {
     match skip_opening(bytes) {
         Some((keyed, inside)) => {
@@ -112,7 +111,8 @@ fn skip_value<'i>(level: usize, bytes: &'i [u8]) -> Option<&'i [u8]>
 /// A number may be shorter than the writer meant, as in `read_number`. Each level uses frames of
 /// the stack, so `level` must not exceed what the stack has room for. Bytes of 128 and above are
 /// not examined: the result is JSON if it is UTF-8, and then a value as `format_json_values` parses
-/// it (clauses `standard` and `longest`).
+/// it (clauses `standard` and `longest`). All other values that the input starts with are numbers
+/// that go on in the next byte (clause `only`).
 ///
 /// Returns `None` if and only if the input does not start with such a value; then no input is
 /// consumed.
@@ -130,6 +130,8 @@ pub fn read_value<'i>(level: usize, input: &mut &'i [u8]) -> Option<&'i [u8]>
         IsLongest (IsValue level) text.now input.old.now input.new.now) }
     ensures none { IfNone result (NoneStands (IsValue level) input.old.now) }
     ensures kept { IfNone result (input.new.now ≡ input.old.now) }
+    ensures only { (text rest : List ℕ) → IsValue level text → input.old.now ≡ text ++ rest
+        → IsEnded text rest → MatchOption result ⊥ (λ found. text ≡ found.now) }
     ensures standard { IfSome result (λ text. IsUtf8 text.now → IsValueByStandard level text.now) }
     ensures longest { (text rest : List ℕ) → IsValueByStandard level text
         → input.old.now ≡ text ++ rest

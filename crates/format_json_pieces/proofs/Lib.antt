@@ -1,3 +1,2 @@
 pub mod Opened
 pub mod Placed
-pub mod Walks

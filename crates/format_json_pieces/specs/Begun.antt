@@ -29,7 +29,7 @@ use Rattle.format_json_pieces.specs.declared.inside.Part.TheVariants.{Plain}
 abbrev pub is_gap : ℕ → Bool
 is_gap b = b == 32 || (b == 9 || (b == 10 || b == 13))
 
--- where a value is to come, perhaps after white space
+-- where a value is to come, perhaps after whitespace
 abbrev pub value_step : Mode → ℕ → Step
 value_step mode b =
     if is_gap b then Goes mode else if b == 34 then Goes (Text Plain) else
@@ -124,27 +124,34 @@ abbrev pub others_open : List Bracket → List Bracket
 others_open [] = []
 others_open (bracket ∷ held) = held
 
--- after a value: any bytes are accepted outside brackets
-abbrev pub IsAfterValue : (Mode → List Bracket → Type 0) → List Bracket → Type 0
-IsAfterValue on [] = ⊤
-IsAfterValue on (bracket ∷ held) = on After (bracket ∷ held)
+-- after a value: outside brackets, `ended` holds
+abbrev pub IsAfterValue : Type 0 → (Mode → List Bracket → Type 0) → List Bracket → Type 0
+IsAfterValue ended on [] = ended
+IsAfterValue ended on (bracket ∷ held) = on After (bracket ∷ held)
 
-abbrev pub IsNextStep : (Mode → List Bracket → Type 0) → ℕ → List Bracket → Step → Type 0
-IsNextStep on level held Invalid = ⊥
-IsNextStep on level held Ended = ⊤
-IsNextStep on level held (Goes mode) = on mode held
-IsNextStep on level held (Opens bracket) = (length held < level) × on First (bracket ∷ held)
-IsNextStep on level held Closes = IsAfterValue on (others_open held)
-IsNextStep on level held Ends = IsAfterValue on held
+-- If the value ended before the byte, `before` holds; if it ends with it, `ended`.
+abbrev pub IsNextStep : Type 0 → Type 0 → (Mode → List Bracket → Type 0) → ℕ → List Bracket
+    → Step → Type 0
+IsNextStep before ended on level held Invalid = ⊥
+IsNextStep before ended on level held Ended = before
+IsNextStep before ended on level held (Goes mode) = on mode held
+IsNextStep before ended on level held (Opens bracket) =
+    (length held < level) × on First (bracket ∷ held)
+IsNextStep before ended on level held Closes = IsAfterValue ended on (others_open held)
+IsNextStep before ended on level held Ends = IsAfterValue ended on held
 
--- The bytes may go on to the text of a value of the level, or have it already, where this is to
--- come
--- in these brackets, that which was opened last first.
-abbrev pub IsViablePrefix : ℕ → Mode → List Bracket → List ℕ → Type 0
-IsViablePrefix level mode held [] = ⊤
-IsViablePrefix level mode held (b ∷ bytes) =
-    IsNextStep (λ m o. IsViablePrefix level m o bytes) level held
+-- `IsWalked ends level mode held bytes`: the walk over the bytes comes to the end of a value of the
+-- level, or of the bytes, and the remaining bytes are in `ends`. At first `mode` is to come in the
+-- brackets `held`, that which was opened last first.
+abbrev pub IsWalked : (List ℕ → Type 0) → ℕ → Mode → List Bracket → List ℕ → Type 0
+IsWalked ends level mode held [] = ends []
+IsWalked ends level mode held (b ∷ bytes) =
+    IsNextStep (ends (b ∷ bytes)) (ends bytes) (λ m o. IsWalked ends level m o bytes) level held
     (next_step mode (last_open held) b)
+
+-- The bytes may go on to the text of a value of the level, or have it already.
+abbrev pub IsViablePrefix : ℕ → Mode → List Bracket → List ℕ → Type 0
+IsViablePrefix = IsWalked (λ rest. ⊤)
 
 -- `MayBegin level bytes`: `bytes` is a possible prefix of a JSON text, or a complete one. Each byte
 -- may occur there in such a text, including the whitespace around its value.

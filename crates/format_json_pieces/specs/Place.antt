@@ -1,9 +1,10 @@
 -- The offset at which bytes are no longer a possible prefix of a JSON text, and the input that is
 -- expected there.
-use Rattle.std.specs.Prelude.{◌≡◌, ◌⊎◌, ◌↔◌, ◌<◌, ℕ, suc, List, [], ◌∷◌, ◌++◌, Option, Some}
+use Rattle.std.specs.Prelude.{◌≡◌, ◌⊎◌, ◌↔◌, ◌≤◌, ℕ, suc, List, [], ◌∷◌, ◌++◌, Option, Some}
 use Rattle.std.specs.Prelude.{None}
 use Rattle.std.specs.Prelude.{length, ⊤}
-use Rattle.format_json_pieces.specs.Begun.{IsViablePrefix, MayBegin, last_open, next_step}
+use Rattle.std.specs.Option.{option_to_list}
+use Rattle.format_json_pieces.specs.Begun.{IsViablePrefix, last_open, next_step}
 use Rattle.format_json_pieces.specs.Inside.{expected}
 use Rattle.format_json_pieces.specs.declared.begun.Bracket.{Bracket}
 use Rattle.format_json_pieces.specs.declared.begun.Bracket.TheVariants.{Array, Object, Whole}
@@ -71,40 +72,57 @@ wanted (Word letters) held = what.Letter (expected letters)
 
 -- ---- the place
 
--- `IsStopped level front rest`: `front` and the next byte of `rest` cannot begin a text; or `rest`
--- is empty.
-abbrev pub IsStopped : ℕ → List ℕ → List ℕ → Type 0
-IsStopped level front [] = ⊤
-IsStopped level front (b ∷ rest) = MayBegin level (front ++ b ∷ []) → ⊥
+-- the number of brackets that may be open
+abbrev pub most_open : ℕ → Option Bracket → ℕ
+most_open level None = level
+most_open level (Some outer) = suc level
 
--- `LeadsTo level front mode held`: after `front`, `mode` is expected in the brackets `held`. Bytes
--- may follow `front` if and only if they may occur there.
-abbrev pub LeadsTo : ℕ → List ℕ → Mode → List Bracket → Type 0
-LeadsTo level front mode held =
-    (more : List ℕ) → IsViablePrefix (suc level) mode held more ↔ MayBegin level (front ++ more)
+-- `BeginsIn level outer bytes`: `bytes` is a possible prefix, or already has the text, of a value
+-- in the bracket `outer`, or in none, with at most `level` more open.
+abbrev pub BeginsIn : ℕ → Option Bracket → List ℕ → Type 0
+BeginsIn level outer = IsViablePrefix (most_open level outer) Value (option_to_list outer)
 
--- `IsNamed level mode held rest expected`: at the end, or if the next byte is rejected, `expected`
--- is the name of `mode` in the brackets `held`. If the next byte opens a bracket beyond `level`,
--- `expected` is `NoDeeper`.
-abbrev pub IsNamed : ℕ → Mode → List Bracket → List ℕ → Expected → Type 0
-IsNamed level mode held [] expected = expected ≡ wanted mode (last_open held)
-IsNamed level mode held (b ∷ rest) expected =
-    ((next_step mode (last_open held) b ≡ Invalid) × (expected ≡ wanted mode (last_open held)))
-    ⊎ ((k : Bracket) × (next_step mode (last_open held) b ≡ Opens k) × (level < length held)
-    × (expected ≡ what.NoDeeper))
+module _ (level : ℕ) (outer : Option Bracket) where
+  -- `IsStopped front rest`: `front` and the next byte of `rest` cannot begin a text; or `rest` is
+  -- empty.
+  abbrev pub IsStopped : List ℕ → List ℕ → Type 0
+  IsStopped front [] = ⊤
+  IsStopped front (b ∷ rest) = BeginsIn level outer (front ++ b ∷ []) → ⊥
 
--- `IsWanted level front rest expected`: `expected` is the input that is expected after `front`,
--- with `rest` remaining.
-abbrev pub IsWanted : ℕ → List ℕ → List ℕ → Expected → Type 0
-IsWanted level front rest expected =
-    (mode : Mode) × (held : List Bracket) × LeadsTo level front mode held
-    × IsNamed level mode held rest expected
+  -- `LeadsTo front mode held`: after `front`, `mode` is expected in the brackets `held`. Bytes may
+  -- follow `front` if and only if they may occur there.
+  abbrev pub LeadsTo : List ℕ → Mode → List Bracket → Type 0
+  LeadsTo front mode held =
+      (more : List ℕ) → IsViablePrefix (most_open level outer) mode held more
+      ↔ BeginsIn level outer (front ++ more)
 
--- `IsPlace level bytes offset expected`: an offset in `bytes`, and the input that is expected
--- there. `End` is expected without such a name only if any continuation is accepted.
+  -- `IsNamed mode held rest expected`: at the end, or if the next byte is rejected, `expected` is
+  -- the name of `mode` in the brackets `held`. If the next byte opens a bracket too many,
+  -- `expected` is `NoDeeper`.
+  abbrev pub IsNamed : Mode → List Bracket → List ℕ → Expected → Type 0
+  IsNamed mode held [] expected = expected ≡ wanted mode (last_open held)
+  IsNamed mode held (b ∷ rest) expected =
+      ((next_step mode (last_open held) b ≡ Invalid) × (expected ≡ wanted mode (last_open held)))
+      ⊎ ((k : Bracket) × (next_step mode (last_open held) b ≡ Opens k)
+      × (most_open level outer ≤ length held) × (expected ≡ what.NoDeeper))
+
+  -- `IsWanted front rest expected`: `expected` is the input that is expected after `front`, with
+  -- `rest` remaining.
+  abbrev pub IsWanted : List ℕ → List ℕ → Expected → Type 0
+  IsWanted front rest expected =
+      (mode : Mode) × (held : List Bracket) × LeadsTo front mode held
+      × IsNamed mode held rest expected
+
+  -- `IsPlaceIn bytes offset expected`: an offset in `bytes`, and the input that is expected there.
+  -- `End` is expected without such a name only if any continuation is accepted.
+  abbrev pub IsPlaceIn : List ℕ → ℕ → Expected → Type 0
+  IsPlaceIn bytes offset expected =
+      (front : List ℕ) × (rest : List ℕ) × (bytes ≡ front ++ rest) × (length front ≡ offset)
+      × BeginsIn level outer front × IsStopped front rest
+      × (IsWanted front rest expected
+      ⊎ ((expected ≡ what.End) × (rest ≡ [])
+      × ((more : List ℕ) → BeginsIn level outer (front ++ more))))
+
+-- `IsPlace level bytes offset expected`: such a place in a JSON text.
 abbrev pub IsPlace : ℕ → List ℕ → ℕ → Expected → Type 0
-IsPlace level bytes offset expected =
-    (front : List ℕ) × (rest : List ℕ) × (bytes ≡ front ++ rest) × (length front ≡ offset)
-    × MayBegin level front × IsStopped level front rest
-    × (IsWanted level front rest expected
-    ⊎ ((expected ≡ what.End) × (rest ≡ []) × ((more : List ℕ) → MayBegin level (front ++ more))))
+IsPlace level = IsPlaceIn level (Some Whole)

@@ -1,312 +1,248 @@
 -- The result for bytes, in terms of the text of the value that they start with.
-use Rattle.std.specs.Prelude.{◌≡◌, ◌⊎◌, ◌<◌, ◌≤◌, ◌-◌, ◌&&◌, ℕ, false, true, Bool, List, []}
+use Rattle.std.specs.Prelude.{◌≡◌, ◌<◌, ◌^◌, ℕ, false, true, Bool, List, []}
 use Rattle.std.specs.Prelude.{◌∷◌}
-use Rattle.std.specs.Prelude.{◌++◌, Some, None, drop, length}
+use Rattle.std.specs.Prelude.{◌++◌, Some, None, length}
 use Rattle.std.specs.List.{All}
-use Rattle.std.specs.Str.{IsUtf8, all_scalars, chars, encode_utf8_all}
+use Rattle.std.specs.Str.{IsUtf8, chars}
 use Rattle.std.proofs.Common.{refl, sym, ap, subst, inl, inr, ◌∙◌, arith, append_assoc}
 use Rattle.std.proofs.Common.{length-append}
-use Rattle.std.proofs.lemmas.List.{append-nil, append_cancel_right, drop_at, nil_from_length}
-use Rattle.std.proofs.lemmas.List.Elements.{All-nil}
-use Rattle.std.proofs.lemmas.Str.{IsUtf8-append, IsUtf8-from_ascii, chars-IsAscii, chars-append}
-use Rattle.std.proofs.lemmas.Str.{encodes-append, encodes-chars, scalars-chars}
-use Rattle.format_json_pieces.specs.Closed.{closed_other, numerals_ascii, text_first, value_may_end}
-use Rattle.format_json_pieces.specs.Extent.{Ends, IsClosed, MayEnd, closed_one, closed_stays}
-use Rattle.format_json_pieces.specs.General.{all_behind, none_left, split_two}
-use Rattle.format_json_pieces.specs.Results.{Allows, Fails, MatchesAtStart}
-use Rattle.format_json_pieces.specs.Value.{AreNumerals, InUtf8, IsEnded, IsNext, IsNumeral}
-use Rattle.format_json_pieces.specs.Value.{IsNumeric}
-use Rattle.format_json_pieces.specs.Value.{IsValueIn}
-use Rattle.format_json_texts.specs.Number.{ContinuesNumber}
+use Rattle.std.proofs.lemmas.List.{append-nil, append_cancel_left, nil_from_length}
+use Rattle.std.proofs.lemmas.List.Elements.{All-nil, All-weaker}
+use Rattle.format_json_extents.proofs.Characters.{number_numerals}
+use Rattle.format_json_extents.proofs.Matching.{all_leaves, all_stops}
+use Rattle.format_json_extents.proofs.Values.{value_number, value_starts}
+use Rattle.format_json_extents.proofs.Written.Values.{value_bytes, values_written}
+use Rattle.format_json_extents.specs.Number.{IsNumeral}
+use Rattle.format_json_extents.specs.Value.{IsEnded, IsSpace, IsValue}
+use Rattle.format_json_extents.specs.Texts.{IsLongest, RestAfter}
+use Rattle.format_json_pieces.specs.Results.{Allows, Fails, IsFinal, MatchesAtStart, NoneIsFinal}
+use Rattle.format_json_pieces.specs.Value.{AreNumerals, InUtf8, IsNext, IsValueIn, value_ends}
 use Rattle.format_json_texts.specs.Values.{AnyValue, ValueText}
-use Rattle.format_json_texts.specs.Values.Texts.{value_of}
+use Rattle.format_json_texts.specs.Values.Texts.{IsNumeric, value_of}
 use Rattle.format_json_values.specs.Unique.{value_unique}
 use Rattle.format_json_texts.specs.declared.value.Value.{Value}
 use Rattle.stream_sets.specs.AsChar.{IsMultispace}
+use Rattle.streams.specs.Equal.{true_is_false}
 use Rattle.streams.specs.Kind.{Kind}
-use Rattle.streams.specs.Utf8.{chars_all}
 use Rattle.grammars.specs.Grammar.{Grammar, NoMatch}
 use Rattle.stream_sets.specs.Accumulator.Holds.{HasCharacters}
 use Rattle.grammars.specs.Texts.{StartsWith, NotFirst}
-use Rattle.grammars.specs.Texts.Fronts.{begins_never, not_first}
 
--- ---- matches in the bytes are matches in the text
+-- a number that may continue
+pub none_final : (level : ℕ) (cut : Bool) (bytes found left : List ℕ)
+    → IsLongest (IsValue level) found bytes left
+    → ((text rest : List ℕ) → IsValue level text → bytes ≡ text ++ rest → IsEnded text rest
+    → text ≡ found)
+    → (IsEnded found left → (cut ≡ true) × (left ≡ []) × StartsWith IsNumeric found)
+    → NoneIsFinal level cut bytes
+none_final level cut bytes found left it only may text rest utf8 is e ended =
+    let same = only text rest is e ended in
+    let P : List ℕ → List ℕ → Type 0 = λ t r.
+    IsEnded t r → (cut ≡ true) × (r ≡ []) × StartsWith IsNumeric t in
+    let rests = append_cancel_left found left rest
+    (sym it.splits ∙ e ∙ ap (λ l. l ++ rest) same) in
+    subst (λ r. P text r) rests (subst (λ t. P t left) (sym same) may) ended
 
-pub not_on : (behind left : List ℕ) → NotFirst ContinuesNumber (behind ++ left)
-    → NotFirst ContinuesNumber behind
-not_on [] left not = tt
-not_on (x ∷ behind) left not = not
+-- ---- the value of a text
 
--- The part of the text after a match.
-record Within (text t rest : List ℕ) : Type 0 where
-  pub behind : List ℕ
-  pub splits : text ≡ t ++ behind
-  pub numerals : All IsNumeral behind
-  pub stops : IsEnded t rest → NotFirst ContinuesNumber behind
-
-all_of_it : (text t rest : List ℕ) → text ≡ t → Within text t rest
-all_of_it text t rest e = record {
-  behind = [];
-  splits = e ∙ sym (append-nil t);
-  numerals = All-nil IsNumeral;
-  stops = λ ended. tt;
-}
-
-ends_within : (cut : Bool) (bytes text left more t rest : List ℕ) → Ends cut bytes text left
-    → Allows cut more → MayEnd (bytes ++ more) t rest → Within text t rest
-ends_within cut bytes text left more t rest ((e, it), ends) allowed (f, other) = by it other
-  where
-    whole : bytes ++ more ≡ text ++ (left ++ more)
-    whole = ap (λ l. l ++ more) e ∙ append_assoc text left more
-
-    by : IsClosed bytes left ⊎ (StartsWith IsNumeric text × All IsNumeral text)
-        → IsClosed (bytes ++ more) rest ⊎ (StartsWith IsNumeric t × All IsNumeral t)
-        → Within text t rest
-    by (inl c) (inl d) =
-        let same = closed_one (bytes ++ more) rest (left ++ more) d
-        (closed_stays bytes left more c) in
-        all_of_it text t rest (append_cancel_right text t rest
-        (ap (λ l. text ++ l) same ∙ sym whole ∙ f))
-    by (inl c) (inr (b, all)) =
-        closed_other (bytes ++ more) (left ++ more) t rest (closed_stays bytes left more c) f b
-    by (inr (b, all)) (inl d) = closed_other (bytes ++ more) rest text (left ++ more) d whole b
-    by (inr (b, all)) (inr (c, each)) =
-        let P : List ℕ → Type 0 = λ l. All IsNumeral l in
-        let Q : List ℕ → Type 0 = λ l. NotFirst ContinuesNumber l in
-        elim (split_two t rest text (left ++ more) (sym f ∙ whole)) [
-          | inl (behind, splits, rests) ↦ record {
-            behind = behind;
-            splits = splits;
-            numerals = all_behind IsNumeral t behind (subst P splits all);
-            stops = λ ended. not_on behind (left ++ more) (subst Q rests (ended c));
-          }
-          | inr p ↦ all_of_it text t rest
-              (none_left IsNumeral text (left ++ more) t rest p each (ends b more allowed)).0
-        ]
-
--- ---- the result for the text is a match in the bytes
-
-both_true : (a b : Bool) → (a && b) ≡ true → (a ≡ true) × (b ≡ true)
-both_true true b h = (refl, h)
-both_true false b h = (h, cc)
-
-scalars_in_front : (front rest : List ℕ) → all_scalars (front ++ rest) ≡ true
-    → all_scalars front ≡ true
-scalars_in_front [] rest h = refl
-scalars_in_front (c ∷ front) rest h =
-    let (one, more) = both_true _ (all_scalars (front ++ rest)) h in
-    ap (λ b. b && all_scalars front) one ∙ scalars_in_front front rest more
-
-ended_there : (cut : Bool) (bytes text left more t rest : List ℕ) → Ends cut bytes text left
-    → Allows cut more → text ≡ t ++ rest → NotFirst ContinuesNumber (chars rest)
-    → IsEnded t ((rest ++ left) ++ more)
-ended_there cut bytes text left more t rest ((e, inl c), ends) allowed whole not begins =
-    closed_other bytes left t (rest ++ left) c
-    (e ∙ ap (λ l. l ++ left) whole ∙ append_assoc t rest left) begins
-ended_there cut bytes text left more t rest ((e, inr (b, all)), ends) allowed whole not begins =
-    let P : List ℕ → Type 0 = λ l. All IsNumeral l in
-    by rest (all_behind IsNumeral t rest (subst P whole all)) not
-  where
-    by : (rest : List ℕ) → All IsNumeral rest → NotFirst ContinuesNumber (chars rest)
-        → NotFirst ContinuesNumber ((rest ++ left) ++ more)
-    by [] each stops =
-        not_first ContinuesNumber IsNumeral (λ c is. grind (arith, is)) (left ++ more)
-        (ends b more allowed)
-    by (x ∷ rest) each stops =
-        let P : List ℕ → Type 0 = λ l. NotFirst ContinuesNumber l in
-        let same = chars-IsAscii (x ∷ rest) (numerals_ascii (x ∷ rest) each) in
-        let it : NotFirst ContinuesNumber (x ∷ rest) = subst P same stops in it
-
-pub splits_there : (text rest front : List ℕ) → IsUtf8 text → IsUtf8 rest
-    → chars text ≡ front ++ chars rest → text ≡ encode_utf8_all front ++ rest
-splits_there text rest front utf8 ends e =
-    sym (encodes-chars text utf8) ∙ ap encode_utf8_all e ∙ encodes-append front (chars rest)
-    ∙ ap (λ l. encode_utf8_all front ++ l) (encodes-chars rest ends)
-
-pub no_longer : (text rest front : List ℕ) → IsUtf8 text → IsUtf8 rest
-    → chars text ≡ front ++ chars rest → length rest ≤ length text
-no_longer text rest front utf8 ends e =
-    omega (
-      arith,
-      ap (λ l. length l) (splits_there text rest front utf8 ends e),
-      length-append (encode_utf8_all front) rest,
-    )
-
-pub none_ends : {A : Type 0} (level : ℕ) (bytes : List ℕ) → NoMatch MayEnd bytes
-    → NoMatch (IsValueIn {A = A} level) bytes
-unfolding IsValueIn
-none_ends level bytes none v rest (t, written, e, ended) =
-    none t rest (value_may_end rest level v bytes t written e)
-
-pub numerals_lack : {A : Type 0} (level : ℕ) (bytes : List ℕ)
-    → ((text rest : List ℕ) → MayEnd bytes text rest → All IsNumeral bytes)
-    → (v : Value A) (rest : List ℕ) → IsValueIn level bytes v rest → All IsNumeral bytes
-unfolding IsValueIn
-numerals_lack level bytes all v rest (t, written, e, ended) =
-    all t rest (value_may_end rest level v bytes t written e)
-
-module _ {A : Type 0} (level : ℕ) (cut : Bool) (bytes text left : List ℕ)
-    (found : Ends cut bytes text left) where
+module _ {A : Type 0} (alloc : A) (level : ℕ) where
   abbrev g : Grammar ℕ (Value A)
   g = AnyValue HasCharacters level
 
-  stands_there : (more : List ℕ) → Allows cut more → (v : Value A) (rest : List ℕ)
-      → IsValueIn level (bytes ++ more) v rest
-      → IsUtf8 text × (behind : List ℕ) × g (chars text) v behind × NotFirst ContinuesNumber behind
-  unfolding IsValueIn InUtf8
-  stands_there more allowed v rest (t, (utf8, written), e, ended) =
-      let inside = ends_within cut bytes text left more t rest found allowed
-      (value_may_end rest level v (bytes ++ more) t (utf8, written) e) in
-      let ascii = numerals_ascii inside.behind inside.numerals in
-      let not = inside.stops ended in
-      let P : List ℕ → Type 0 = λ l. IsUtf8 l in
-      let Q : List ℕ → Type 0 = λ l. g l v inside.behind in (
-        subst P (sym inside.splits)
-            (IsUtf8-append t inside.behind utf8 (IsUtf8-from_ascii inside.behind ascii)),
-        inside.behind,
-        subst Q (sym (ap chars inside.splits ∙ chars-append t inside.behind utf8
-            ∙ ap (λ l. chars t ++ l) (chars-IsAscii inside.behind ascii)))
-            ((value_of HasCharacters level).back v (chars t) inside.behind written not),
-        not,
-      )
-
-  pub none_in_bytes : (IsUtf8 text → ⊥) → (more : List ℕ) → Allows cut more
-      → NoMatch (IsValueIn {A = A} level) (bytes ++ more)
-  none_in_bytes broken more allowed v rest x = broken (stands_there more allowed v rest x).0
-
-  -- by what is read of the text
-  module _ (seen : List ℕ) (same : seen ≡ text) where
-    pub none_in_text : NoMatch g (chars seen) → (more : List ℕ) → Allows cut more
-        → NoMatch (IsValueIn {A = A} level) (bytes ++ more)
-    none_in_text none more allowed v rest x =
-        let (utf8, behind, stands, not) = stands_there more allowed v rest x in
-        let P : List ℕ → Type 0 = λ l. g (chars l) v behind in
-        none v behind (subst P (sym same) stands)
-
-    pub none_on : (v : Value A) (rest : List ℕ) → g (chars seen) v rest
-        → StartsWith ContinuesNumber rest
-        → (more : List ℕ) → Allows cut more → NoMatch (IsValueIn {A = A} level) (bytes ++ more)
-    none_on v rest it goes more allowed w other x =
-        let (utf8, behind, stands, not) = stands_there more allowed w other x in
-        let P : List ℕ → Type 0 = λ l. g (chars l) v rest in
-        let Q : List ℕ → Type 0 = λ l. NotFirst ContinuesNumber l in
-        begins_never ContinuesNumber rest goes
-        (subst Q ((value_unique level).one (chars text) w v behind rest stands (subst P same it))
-        not)
-
-    pub some_stands : (v : Value A) (rest last : List ℕ) → IsUtf8 text → IsUtf8 rest
-        → g (chars seen) v (chars rest) → NotFirst ContinuesNumber (chars rest)
-        → last ≡ drop (length text - length rest) bytes → (more : List ℕ) → Allows cut more
-        → IsValueIn level (bytes ++ more) v (last ++ more)
-    unfolding IsValueIn InUtf8
-    some_stands v rest last utf8 ends it not is more allowed =
-        let G : List ℕ → Type 0 = λ l. g (chars l) v (chars rest) in
-        let (front, e, written) =
-        (value_of HasCharacters level).there (chars text) v (chars rest) (subst G same it) in
-        let t = encode_utf8_all front in
-        let whole = splits_there text rest front utf8 ends e in
-        let all : bytes ≡ t ++ (rest ++ left) = found.0.0 ∙ ap (λ l. l ++ left) whole
-        ∙ append_assoc t rest left in
-        let size : length t ≡ length text - length rest =
-        omega (arith, ap (λ l. length l) whole, length-append t rest) in
-        let behind : last ≡ rest ++ left =
-        is ∙ ap (λ l. drop (length text - length rest) l) all
-        ∙ drop_at t (rest ++ left) (length text - length rest) size in
-        let scalars = scalars_in_front front (chars rest)
-        (sym (ap all_scalars e) ∙ scalars-chars text utf8) in
-        let P : List ℕ → Type 0 = λ l. ValueText HasCharacters level v l in
-        let Q : List ℕ → Type 0 = λ l. IsEnded t (l ++ more) in (
-          t,
-          ((front, (scalars, refl)), subst P (sym (chars_all front)) written),
-          ap (λ l. l ++ more) all ∙ append_assoc t (rest ++ left) more
-              ∙ ap (λ l. t ++ (l ++ more)) (sym behind),
-          subst Q (sym behind)
-              (ended_there cut bytes text left more t rest found allowed whole not),
+  module _ (text : List ℕ) (few : length text < 2 ^ 63) (utf8 : IsUtf8 text)
+      (is : IsValue level text) where
+    all_stands : (v : Value A) × g (chars text) v []
+    all_stands =
+        let (v, written) = (values_written alloc level text utf8 few).0 is in (
+          v,
+          subst (λ l. g l v []) (append-nil (chars text))
+              ((value_of HasCharacters level).back v (chars text) [] written tt),
         )
 
--- ---- the next value, after white space
+    -- what is read of it is read of all of it
+    some_read : NoMatch g (chars text) → ⊥
+    some_read none = let (v, stands) = all_stands in none v [] stands
 
--- a value begins with none
-value_first : {A : Type 0} (level : ℕ) (bytes : List ℕ) (v : Value A) (rest : List ℕ)
-    → IsValueIn level bytes v rest → NotFirst IsMultispace bytes
-unfolding IsValueIn
-value_first level bytes v rest (t, written, e, ended) =
-    text_first bytes t rest (value_may_end rest level v bytes t written e)
+    all_read : (v : Value A) (rest : List ℕ) → g (chars text) v rest
+        → ValueText HasCharacters level v (chars text)
+    all_read v rest it =
+        let (w, stands) = all_stands in
+        let same = (value_unique level).one (chars text) w v [] rest stands it in
+        let (front, e, written) = (value_of HasCharacters level).there (chars text) v rest it in
+        subst (λ l. ValueText HasCharacters level v l)
+        (sym (e ∙ ap (λ l. front ++ l) (sym same) ∙ append-nil front)) written
 
-one_gap : (g h s t : List ℕ) → All IsMultispace g → All IsMultispace h → NotFirst IsMultispace s
-    → NotFirst IsMultispace t → g ++ s ≡ h ++ t → s ≡ t
-one_gap g h s t all each a b e = elim (split_two g s h t e) [
-  | inl p ↦ (none_left IsMultispace g s h t p each a).1
-  | inr p ↦ sym (none_left IsMultispace h t g s p all b).1
-]
+  module _ (cut : Bool) (bytes text left : List ℕ) (it : IsFinal level cut bytes text left)
+      (most : length bytes < 2 ^ 63) where
+    few : length text < 2 ^ 63
+    few = let (utf8, is, e, ended) = it in
+        omega (arith, most, ap (λ l. length l) e, length-append text left)
 
-module _ {A : Type 0} (level : ℕ) (cut : Bool) (bytes gap start : List ℕ)
-    (passed : (bytes ≡ gap ++ start) × All IsMultispace gap × NotFirst IsMultispace start) where
-  pub next_stands : (v : Value A) (left : List ℕ)
-      → MatchesAtStart (IsValueIn level) cut start v left
-      → MatchesAtStart (IsNext level) cut bytes (Some v) left
+    pub final_stands : (v : Value A) (rest : List ℕ) → g (chars text) v rest
+        → MatchesAtStart (IsValueIn level) cut bytes v left
+    unfolding IsValueIn InUtf8
+    final_stands v rest read more allowed =
+        let (utf8, is, e, ended) = it in (
+          text,
+          (utf8, all_read text few utf8 is v rest read),
+          ap (λ l. l ++ more) e ∙ append_assoc text left more,
+          ended more allowed,
+        )
+
+    pub final_read : NoMatch g (chars text) → ⊥
+    final_read none = let (utf8, is, e, ended) = it in some_read text few utf8 is none
+
+  module _ (bytes : List ℕ) (v : Value A) (rest : List ℕ) (it : IsValueIn level bytes v rest) where
+    -- the bytes of a value are one
+    bytes_of : (text : List ℕ) × IsUtf8 text × IsValue level text × (bytes ≡ text ++ rest)
+        × IsEnded text rest
+    unfolding IsValueIn InUtf8
+    bytes_of =
+        let (text, (utf8, written), e, ended) = it in
+        (text, utf8, value_bytes alloc level text utf8 v written, e, ended)
+
+    -- it begins with no whitespace
+    value_first : NotFirst IsMultispace bytes
+    value_first =
+        let (text, utf8, is, e, ended) = bytes_of in
+        let b = value_starts level text is in
+        subst (λ l. NotFirst IsMultispace l) (sym (e ∙ ap (λ l. l ++ rest) b.begins))
+        (λ white. absurd (grind (arith, b.is, white)))
+
+    pub open_number : (cut : Bool) → NoneIsFinal level cut bytes
+        → (cut ≡ true) × (rest ≡ []) × All IsNumeral bytes
+    open_number cut none =
+        let (text, utf8, is, e, ended) = bytes_of in
+        let (partial, nothing, numeric) = none text rest utf8 is e ended in (
+          partial,
+          nothing,
+          subst (All IsNumeral) (sym (e ∙ ap (λ l. text ++ l) nothing ∙ append-nil text))
+              (number_numerals.each text (value_number level text is numeric)),
+        )
+
+  pub none_whole : (cut : Bool) (bytes : List ℕ) → cut ≡ false → NoneIsFinal level cut bytes
+      → (more : List ℕ) → Allows cut more → NoMatch (IsValueIn {A = A} level) (bytes ++ more)
+  none_whole cut bytes whole none more allowed v rest it =
+      let same = ap (λ l. bytes ++ l) (allowed whole) ∙ append-nil bytes in
+      let (partial, _, _) = open_number bytes v rest
+      (subst (λ l. IsValueIn level l v rest) same it) cut none in
+      true_is_false (sym partial ∙ whole)
+
+  -- nor is there one after whitespace
+  pub none_in_gap : (bytes : List ℕ) → StartsWith IsMultispace bytes → (more : List ℕ)
+      → NoMatch (IsValueIn {A = A} level) (bytes ++ more)
+  none_in_gap [] white more v rest it = white
+  none_in_gap (b ∷ bytes) white more v rest it =
+      value_first (b ∷ (bytes ++ more)) v rest it white
+
+-- ---- the next value, after whitespace
+
+abbrev pub HasGap : List ℕ → List ℕ → List ℕ → Type 0
+HasGap bytes gap start =
+    (bytes ≡ gap ++ start) × All IsMultispace gap × NotFirst IsMultispace start
+
+pub gap_of : {bytes start : List ℕ} → RestAfter (All IsSpace) IsSpace bytes start
+    → (gap : List ℕ) × HasGap bytes gap start
+gap_of {start = start} it = (
+  it.stands.text,
+  (
+    it.stands.splits,
+    All-weaker IsSpace IsMultispace (λ b space. grind (arith, space)) it.stands.text
+        it.stands.is,
+    first start (all_stops it),
+  ),
+)
+  where
+    first : (start : List ℕ) → ((b : ℕ) (more : List ℕ) → start ≡ b ∷ more → IsSpace b → ⊥)
+        → NotFirst IsMultispace start
+    first [] stops = tt
+    first (b ∷ more) stops = λ white. stops b more refl (grind (arith, white))
+
+-- the longest whitespace is unique
+gap_ends : (bytes gap start g s : List ℕ) → HasGap bytes gap start → HasGap bytes g s → s ≡ start
+gap_ends bytes gap start g s (e, all, not) (f, each, first) =
+    elim ((all_leaves gap all e stops).only s (record { text = g; is = each; splits = f })) [
+      | inl same ↦ same
+      | inr goes ↦ absurd (subst (λ l. NotFirst IsMultispace l) goes.begins first goes.is_byte)
+    ]
+  where
+    stops : (b : ℕ) (more : List ℕ) → start ≡ b ∷ more → IsMultispace b → ⊥
+    stops b more same = subst (λ l. NotFirst IsMultispace l) same not
+
+module _ {A : Type 0} (alloc : A) (level : ℕ) (bytes gap start : List ℕ)
+    (passed : HasGap bytes gap start) where
+  pub next_numerals : ((v : Value A) (rest : List ℕ) → IsValueIn level start v rest
+      → (rest ≡ []) × All IsNumeral start) → (v : Value A) (rest : List ℕ)
+      → IsNext level bytes (Some v) rest → (rest ≡ []) × AreNumerals bytes
   unfolding IsNext
-  next_stands v left stands more allowed = (
-    gap,
-    start ++ more,
-    passed.1,
+  next_numerals numerals v rest (g, s, each, e, x) =
+      let same = gap_ends bytes gap start g s passed
+      (e, each, value_first alloc level s v rest x) in
+      let (nothing, are) = numerals v rest (subst (λ l. IsValueIn level l v rest) same x) in
+      (nothing, (gap, start, passed.1, passed.0, are))
+
+  on : 0 < length start → (more : List ℕ) → HasGap (bytes ++ more) gap (start ++ more)
+  on some more = (
     ap (λ l. l ++ more) passed.0 ∙ append_assoc gap start more,
-    stands more allowed,
+    passed.1,
+    kept start some passed.2,
   )
-
-  next_none : 0 < length start → (more : List ℕ)
-      → NoMatch (IsValueIn {A = A} level) (start ++ more)
-      → NoMatch (IsNext {A = A} level) (bytes ++ more)
-  unfolding IsNext
-  next_none some more none None rest (all, is) =
-      by start some passed.2 (all_behind IsMultispace gap (start ++ more) (subst P whole all))
-    where
-      P : List ℕ → Type 0
-      P l = All IsMultispace l
-
-      whole : bytes ++ more ≡ gap ++ (start ++ more)
-      whole = ap (λ l. l ++ more) passed.0 ∙ append_assoc gap start more
-
-      by : (s : List ℕ) → 0 < length s → NotFirst IsMultispace s → All IsMultispace (s ++ more) → ⊥
-      by [] most not every = absurd (omega (arith, most))
-      by (x ∷ s) most not every = not (every 0 x (omega arith))
-  next_none some more none (Some v) rest (g, s, all, e, x) =
-      let first : NotFirst IsMultispace (start ++ more) = kept start some passed.2 in
-      let same = one_gap g gap s (start ++ more) all passed.1 (value_first level s v rest x) first
-      (sym e ∙ ap (λ l. l ++ more) passed.0 ∙ append_assoc gap start more) in
-      let P : List ℕ → Type 0 = λ l. IsValueIn level l v rest in none v rest (subst P same x)
     where
       kept : (s : List ℕ) → 0 < length s → NotFirst IsMultispace s
           → NotFirst IsMultispace (s ++ more)
       kept [] most not = absurd (omega (arith, most))
       kept (x ∷ s) most not = not
 
-  pub next_fails : 0 < length start → (kind : Kind) → Fails (IsValueIn {A = A} level) cut start kind
-      → Fails (IsNext {A = A} level) cut bytes kind
-  next_fails some kind (inl wants) = inl wants
-  next_fails some kind (inr (inl asks)) = inr (inl asks)
-  next_fails some kind (inr (inr (backs, none))) =
+  next_none : 0 < length start → (more : List ℕ)
+      → NoMatch (IsValueIn {A = A} level) (start ++ more)
+      → NoMatch (IsNext {A = A} level) (bytes ++ more)
+  unfolding IsNext
+  next_none some more none None rest (white, is) =
+      let same = gap_ends (bytes ++ more) gap (start ++ more) (bytes ++ more) [] (on some more)
+      (sym (append-nil (bytes ++ more)), white, tt) in
+      absurd (omega (arith, some, ap (λ l. length l) same, length-append start more))
+  next_none some more none (Some v) rest (g, s, each, e, x) =
+      let same = gap_ends (bytes ++ more) gap (start ++ more) g s (on some more)
+      (e, each, value_first alloc level s v rest x) in
+      none v rest (subst (λ l. IsValueIn level l v rest) same x)
+
+  pub next_fails : (cut : Bool) → 0 < length start → (kind : Kind)
+      → Fails (IsValueIn {A = A} level) cut start kind → Fails (IsNext {A = A} level) cut bytes kind
+  next_fails cut some kind (inl wants) = inl wants
+  next_fails cut some kind (inr (inl asks)) = inr (inl asks)
+  next_fails cut some kind (inr (inr (backs, none))) =
       inr (inr (backs, λ more allowed. next_none some more (none more allowed)))
 
-pub next_numerals : {A : Type 0} (level : ℕ) (bytes gap left : List ℕ)
-    → (bytes ≡ gap ++ left) × All IsMultispace gap × NotFirst IsMultispace left
-    → ((v : Value A) (rest : List ℕ) → IsValueIn level left v rest → All IsNumeral left)
-    → (v : Value A) (rest : List ℕ) → IsNext level bytes (Some v) rest → AreNumerals bytes
+pub next_stands : {A : Type 0} (level : ℕ) (cut : Bool) (bytes gap start : List ℕ)
+    → bytes ≡ gap ++ start → All IsMultispace gap → (v : Value A) (left : List ℕ)
+    → MatchesAtStart (IsValueIn level) cut start v left
+    → MatchesAtStart (IsNext level) cut bytes (Some v) left
 unfolding IsNext
-next_numerals level bytes gap left passed all v rest (g, s, each, e, x) =
-    let same = one_gap g gap s left each passed.1 (value_first level s v rest x) passed.2
-    (sym e ∙ passed.0) in
-    let P : List ℕ → Type 0 = λ l. IsValueIn level l v rest in
-    (gap, left, passed.1, passed.0, all v rest (subst P same x))
+next_stands level cut bytes gap start e all v left stands more allowed = (
+  gap,
+  start ++ more,
+  all,
+  ap (λ l. l ++ more) e ∙ append_assoc gap start more,
+  stands more allowed,
+)
 
 pub none_next : (A : Type 0) (level : ℕ) (cut : Bool) (bytes gap left : List ℕ)
-    → (bytes ≡ gap ++ left) × All IsMultispace gap × NotFirst IsMultispace left
-    → length left ≡ 0 → cut ≡ false → MatchesAtStart (IsNext {A = A} level) cut bytes None left
+    → bytes ≡ gap ++ left → All IsMultispace gap → length left ≡ 0 → cut ≡ false
+    → MatchesAtStart (IsNext {A = A} level) cut bytes None left
 unfolding IsNext
-none_next A level cut bytes gap left passed few whole more allowed =
+none_next A level cut bytes gap left e all few whole more allowed =
     let none = nil_from_length left few in
-    let P : List ℕ → Type 0 = λ l. All IsMultispace l in
     let same : bytes ++ more ≡ gap =
-    ap (λ l. bytes ++ l) (allowed whole) ∙ append-nil bytes ∙ passed.0
-    ∙ ap (λ l. gap ++ l) none ∙ append-nil gap in
-    (subst P (sym same) passed.1, ap (λ l. l ++ more) none ∙ allowed whole)
+    ap (λ l. bytes ++ l) (allowed whole) ∙ append-nil bytes ∙ e ∙ ap (λ l. gap ++ l) none
+    ∙ append-nil gap in
+    (subst (All IsMultispace) (sym same) all, ap (λ l. l ++ more) none ∙ allowed whole)
+
+-- no value is after whitespace alone
+pub white_numerals : {A : Type 0} (level : ℕ) (left : List ℕ) → length left ≡ 0
+    → (v : Value A) (rest : List ℕ) → IsValueIn level left v rest
+    → (rest ≡ []) × All IsNumeral left
+white_numerals level left few v rest it =
+    let (front, e) = value_ends level left v rest it in (
+      nil_from_length rest (omega (arith, few, ap (λ l. length l) e, length-append front rest)),
+      subst (All IsNumeral) (sym (nil_from_length left few)) (All-nil IsNumeral),
+    )

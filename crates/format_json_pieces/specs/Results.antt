@@ -3,7 +3,9 @@ use Rattle.std.specs.Prelude.{◌≡◌, ◌⊎◌, ℕ, false, true, Bool, List
 use Rattle.std.specs.Str.{IsUtf8, chars}
 use Rattle.std.proofs.Common.{refl, sym, subst, inl, inr, ◌∙◌}
 use Rattle.std.proofs.lemmas.List.{append-nil}
+use Rattle.format_json_extents.specs.Value.{IsEnded, IsValue}
 use Rattle.format_json_pieces.specs.Value.{InUtf8}
+use Rattle.format_json_texts.specs.Values.Texts.{IsNumeric}
 use Rattle.streams.specs.declared.needed.Needed.{Needed}
 use Rattle.stream_errors.specs.declared.fault.ParseFault.{ParseFault}
 use Rattle.streams.specs.Bytes.{bytes_follow, bytes_input, bytes_reading}
@@ -14,7 +16,7 @@ use Rattle.streams.specs.Partial.{with_flag}
 use Rattle.winnow_grammar.specs.Cut.{Asks, ReadsOrAsks}
 use Rattle.winnow_core.specs.Exact.Whole.{IsNotIncomplete, IsWant}
 use Rattle.grammars.specs.Grammar.{Grammar, NoMatch}
-use Rattle.grammars.specs.Texts.{Text}
+use Rattle.grammars.specs.Texts.{StartsWith, Text}
 use Rattle.winnow_grammar.specs.Told.{IsTextOf}
 
 -- more may come after the bytes only where they are cut
@@ -34,6 +36,24 @@ module _ {O : Type 0} (grammar : Grammar ℕ O) (cut : Bool) (bytes : List ℕ) 
   Fails kind =
       (kind ≡ memory) ⊎ ((Asks kind × (cut ≡ true)) ⊎ ((kind ≡ backtrack)
       × ((more : List ℕ) → Allows cut more → NoMatch grammar (bytes ++ more))))
+
+-- ---- the text of a value
+
+-- `IsFinal level cut bytes text left`: `bytes` starts with `text`, a value in UTF-8 followed by
+-- `left`, and the value ends there for any continuation.
+abbrev pub IsFinal : ℕ → Bool → List ℕ → List ℕ → List ℕ → Type 0
+IsFinal level cut bytes text left =
+    IsUtf8 text × IsValue level text × (bytes ≡ text ++ left)
+    × ((more : List ℕ) → Allows cut more → IsEnded text (left ++ more))
+
+-- `NoneIsFinal level cut bytes`: `bytes` starts with no value in UTF-8, except a number that is all
+-- of partial bytes.
+abbrev pub NoneIsFinal : ℕ → Bool → List ℕ → Type 0
+NoneIsFinal level cut bytes =
+    (text rest : List ℕ) → IsUtf8 text → IsValue level text → bytes ≡ text ++ rest
+    → IsEnded text rest → (cut ≡ true) × (rest ≡ []) × StartsWith IsNumeric text
+
+-- ---- what a call tells
 
 of_cut : (cut : Bool) (more : List ℕ) → cut ≡ true → Allows cut more
 of_cut cut more is whole = true_is_false (sym is ∙ whole)

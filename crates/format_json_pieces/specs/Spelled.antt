@@ -1,19 +1,31 @@
 -- The effect of characters on the bytes that follow them, one step at a time.
-use Rattle.std.specs.Prelude.{◌≡◌, ◌<◌, ◌≤◌, ◌&&◌, ℕ, Bool, true, false, List, [], ◌∷◌, ◌++◌}
+use Rattle.std.specs.Prelude.{◌≡◌, ◌⊎◌, ◌<◌, ◌≤◌, ◌&&◌, ℕ, Bool, true, false, List, [], ◌∷◌}
+use Rattle.std.specs.Prelude.{◌++◌}
 use Rattle.std.specs.Prelude.{None, Option, Some, length}
 use Rattle.std.specs.List.{All}
 use Rattle.std.specs.Str.{all_scalars, encode_utf8_all}
-use Rattle.std.proofs.Common.{refl, sym, ap, subst, ◌∙◌, arith, append_assoc}
+use Rattle.std.proofs.Common.{refl, sym, ap, subst, inl, inr, ◌∙◌, arith, append_assoc}
 use Rattle.std.proofs.lemmas.List.Elements.{All-tail}
 use Rattle.std.proofs.lemmas.Str.{encode_ascii}
-use Rattle.format_json_pieces.specs.General.{spelled_front}
 use Rattle.format_parts.specs.Words.{In, One, Run}
-use Rattle.grammars.specs.Texts.{InFront, OptionalText, PartedText, Text}
+use Rattle.grammars.specs.Texts.{InFront, OptionalText, PartedText, Spelled, Text}
 use Rattle.grammars.specs.Texts.Fronts.{both_front, each_front}
+
+pub both_ways : (b : Bool) → (b ≡ true) ⊎ (b ≡ false)
+both_ways true = inl refl
+both_ways false = inr refl
 
 pub both_true : (a b : Bool) → (a && b) ≡ true → (a ≡ true) × (b ≡ true)
 both_true true b h = (refl, h)
 both_true false b h = (h, cc)
+
+pub spelled_front : {T O : Type 0} {behind whole : List T → Type 0} (xs : List T) (o : O)
+    → ((rest : List T) → behind rest → whole (xs ++ rest)) → InFront (Spelled xs o) behind whole
+unfolding Spelled
+spelled_front {T} {O} {behind} {whole} xs o makes = record {
+  makes = λ p tokens rest (is, e) b.
+      let P : List T → Type 0 = λ l. whole (l ++ rest) in subst P (sym e) (makes rest b);
+}
 
 -- Characters whose bytes, in front of the rest, are such bytes, if they are characters.
 abbrev pub Spells : List ℕ → (List ℕ → Type 0) → List ℕ → Type 0

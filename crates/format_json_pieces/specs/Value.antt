@@ -1,5 +1,5 @@
 -- JSON values at the start of bytes, and JSON texts in bytes.
-use Rattle.std.specs.Prelude.{◌≡◌, ◌⊎◌, ℕ, List, [], ◌++◌, Option, Some, None}
+use Rattle.std.specs.Prelude.{◌≡◌, ℕ, List, [], ◌++◌, Option, Some, None}
 use Rattle.std.specs.List.{All}
 use Rattle.std.specs.Str.{IsUtf8, chars}
 use Rattle.std.proofs.Common.{refl, sym, ap, ◌∙◌, append_assoc}
@@ -8,31 +8,19 @@ use Rattle.stream_errors.specs.Fault.{refused_inner, refused_offset}
 use Rattle.streams.specs.declared.needed.Needed.{Needed}
 use Rattle.stream_errors.specs.declared.fault.ParseFault.{ParseFault}
 use Rattle.stream_errors.specs.declared.fault.ParseFault.TheVariants.{Incomplete, Invalid}
-use Rattle.stream_sets.specs.AsChar.{IsDecDigit, IsMultispace}
+use Rattle.stream_sets.specs.AsChar.{IsMultispace}
 use Rattle.format_json_texts.specs.Number.{ContinuesNumber}
 use Rattle.format_json_texts.specs.Values.{ValueText}
 use Rattle.format_json_texts.specs.declared.value.Value.{Value}
 use Rattle.grammars.specs.Grammar.{Grammar}
 use Rattle.stream_sets.specs.Accumulator.Holds.{HasCharacters}
-use Rattle.grammars.specs.Texts.{StartsWith, IsGrammarOf, NotFirst, Text}
+use Rattle.grammars.specs.Texts.{IsGrammarOf, NotFirst, Text}
+use Rattle.format_json_extents.specs.Number.{IsNumeral}
+use Rattle.format_json_extents.specs.Value.{IsEnded}
 
 -- `InUtf8 text o bytes`: `bytes` is UTF-8, and its characters encode `o` by `text`.
 unfoldable pub InUtf8 : {O : Type 0} → Text ℕ O → Text ℕ O
 InUtf8 text o bytes = IsUtf8 bytes × text o (chars bytes)
-
--- what numbers begin with, and no other values: a minus, or a digit
-abbrev pub IsNumeric : ℕ → Type 0
-IsNumeric b = (b ≡ 45) ⊎ IsDecDigit b
-
--- `IsEnded text rest`: if `text` starts as a number does, `rest` does not start with a byte that
--- can continue a number: a digit, a point or an E.
-abbrev pub IsEnded : List ℕ → List ℕ → Type 0
-IsEnded text rest = StartsWith IsNumeric text → NotFirst ContinuesNumber rest
-
--- a byte of numbers: a digit, a sign, a point or an E
-abbrev pub IsNumeral : ℕ → Type 0
-IsNumeral b =
-    IsDecDigit b ⊎ ((b ≡ 43) ⊎ ((b ≡ 45) ⊎ ((b ≡ 46) ⊎ ((b ≡ 69) ⊎ (b ≡ 101)))))
 
 -- white space, and bytes of numbers
 abbrev pub AreNumerals : List ℕ → Type 0

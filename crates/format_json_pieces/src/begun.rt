@@ -1,20 +1,20 @@
-//! Whether cut bytes may go on to the text of a value: by a walk over them, one byte at a time,
-//! with the brackets that are open.
-ghost use Rattle.format_json_pieces.specs.Begun.{IsLacking, IsViablePrefix, after_step};
+//! Whether partial input can continue to the text of a value: by a walk over the bytes, one at a
+//! time, with the brackets that are open.
+ghost use Rattle.format_json_pieces.specs.Begun.{IsLacking, after_step};
 ghost use Rattle.format_json_pieces.specs.Begun.{figure_step};
 ghost use Rattle.format_json_pieces.specs.Begun.{item_step};
 ghost use Rattle.format_json_pieces.specs.Begun.{name_step};
 ghost use Rattle.format_json_pieces.specs.Begun.{is_gap, letters_step, name_part_step, next_step};
 ghost use Rattle.format_json_pieces.specs.Begun.{text_step};
 ghost use Rattle.format_json_pieces.specs.Begun.{value_step};
-ghost use Rattle.format_json_pieces.specs.declared.begun.Mode.TheVariants as modes;
-ghost use Rattle.std.specs.Prelude.{◌≡◌, ◌↔◌, IfOk, IsTrue, []};
+ghost use Rattle.std.specs.Prelude.{◌≡◌};
 
 use crate::inside::{
     Figure, Inner, Letters, Part, expected, figure_behind, goes_on, is_final, letters_behind,
     part_behind,
 };
-use std::alloc::{AllocError, Allocator};
+use crate::place::place_in;
+use std::alloc::Allocator;
 use stream_errors::empty::EmptyError;
 use stream_errors::has_kind::HasKind;
 use stream_errors::mode::ErrMode;
@@ -72,14 +72,14 @@ pub enum Step {
     Ends,
 }
 
-/// Whether the byte is white space.
+/// Whether the byte is whitespace.
 fn is_gap(byte: u8) -> bool
     ensures { result ≡ is_gap byte }
 {
     byte == b' ' || byte == b'\t' || byte == b'\n' || byte == b'\r'
 }
 
-/// Where a value is to come, perhaps after white space.
+/// Where a value is to come, perhaps after whitespace.
 fn value_step(mode: Mode, byte: u8) -> Step
     ensures { result ≡ value_step mode byte }
 {
@@ -225,54 +225,15 @@ pub fn next_step(mode: Mode, held: Option<Bracket>, byte: u8) -> Step
     }
 }
 
-/// Returns whether the bytes can continue to the text of a value whose arrays and objects are
-/// nested at most `level` deep, or already have one.
-pub fn is_begun<A: Allocator>(alloc: A, level: usize, bytes: &[u8]) -> Result<bool, AllocError>
-    ensures { IfOk result (λ begun. IsTrue begun ↔ IsViablePrefix level modes.Value [] bytes.now) }
-{
-    let mut brackets: Vec<Bracket, A> = Vec::new(alloc);
-    let mut mode = Mode::Value;
-    let mut left = bytes;
-    'bytes: while let Some((first, more)) = left.split_first() {
-        match next_step(mode, brackets.last().copied(), *first) {
-            Step::Invalid => return Ok(false),
-            Step::Ended => return Ok(true),
-            Step::Goes(next) => mode = next,
-            Step::Opens(bracket) => {
-                if brackets.len() >= level {
-                    return Ok(false);
-                }
-                brackets.push(bracket)?;
-                mode = Mode::First;
-            }
-            Step::Closes => {
-                let _ = brackets.pop();
-                if brackets.is_empty() {
-                    return Ok(true);
-                }
-                mode = Mode::After;
-            }
-            Step::Ends => {
-                if brackets.is_empty() {
-                    return Ok(true);
-                }
-                mode = Mode::After;
-            }
-        }
-        left = more;
-    }
-    Ok(true)
-}
-
 /// Returns the error for bytes that lack the rest of a value's text, if more may follow. It is
 /// `Incomplete` if the bytes can continue to such a text, and otherwise a backtrack; or it is out
 /// of memory.
 pub fn lacking<A: Allocator>(alloc: A, level: usize, bytes: &[u8]) -> ErrMode<EmptyError>
     ensures { IsLacking level bytes.now (⟦<ErrMode<EmptyError> as HasKind>⟧.kind result) }
 {
-    match is_begun(alloc, level, bytes) {
-        Ok(true) => ErrMode::Incomplete(Needed::Unknown),
-        Ok(false) => ErrMode::from_input(&bytes),
+    match place_in(alloc, None, level, bytes) {
+        Ok(place) if place.offset == bytes.len() => ErrMode::Incomplete(Needed::Unknown),
+        Ok(_) => ErrMode::from_input(&bytes),
         Err(_) => ParserError::<&[u8]>::no_memory(&bytes),
     }
 }

@@ -1,10 +1,11 @@
 //! The first offset at which bytes are no longer a prefix of a JSON text.
 ghost use Rattle.format_json_pieces.specs.Begun.{MayBegin};
-ghost use Rattle.format_json_pieces.specs.Place.{IsPlace};
+ghost use Rattle.format_json_pieces.specs.Place.{IsPlace, IsPlaceIn};
 ghost use Rattle.format_json_pieces.specs.Value.{InUtf8};
 ghost use Rattle.format_json_pieces.specs.declared.expected.Expected.TheVariants as what;
 ghost use Rattle.format_json_texts.specs.Values.{JsonText};
 ghost use Rattle.format_json_texts.specs.declared.value.Value.{Value};
+ghost use Rattle.std.specs.Option.{option_to_list};
 ghost use Rattle.std.specs.Prelude.{◌≡◌, ◌++◌, ℕ, List, IfOk, length};
 ghost use Rattle.stream_sets.specs.Accumulator.Holds.{HasCharacters};
 
@@ -50,8 +51,33 @@ pub struct Place {
 pub fn first_place<A: Allocator>(alloc: A, level: usize, bytes: &[u8]) -> Result<Place, AllocError>
     ensures { IfOk result (λ place. IsPlace level bytes.now place.offset place.expected) }
 {
-    let mut brackets: Vec<Bracket, A> = Vec::new(alloc);
-    brackets.push(Bracket::Whole)?;
+    place_in(alloc, Some(Bracket::Whole), level, bytes)
+}
+
+/// The brackets that are open at first.
+fn opened<A: Allocator>(alloc: A, outer: Option<Bracket>) -> Result<Vec<Bracket, A>, AllocError>
+    ensures { IfOk result (λ brackets. brackets.items ≡ option_to_list outer) }
+{
+    let mut brackets = Vec::new(alloc);
+    if let Some(bracket) = outer {
+        brackets.push(bracket)?;
+    }
+    Ok(brackets)
+}
+
+/// As [`first_place`], for a value in the bracket `outer`; or in none, so that any bytes may follow
+/// it.
+pub(crate) fn place_in<A: Allocator>(
+    alloc: A,
+    outer: Option<Bracket>,
+    level: usize,
+    bytes: &[u8],
+) -> Result<Place, AllocError>
+    ensures { IfOk result (λ place.
+        IsPlaceIn level outer bytes.now place.offset place.expected) }
+{
+    let mut brackets = opened(alloc, outer)?;
+    let most = level.saturating_add(brackets.len());
     let mut mode = Mode::Value;
     let mut left = bytes;
     'bytes: while let Some((first, more)) = left.split_first() {
@@ -64,7 +90,7 @@ pub fn first_place<A: Allocator>(alloc: A, level: usize, bytes: &[u8]) -> Result
             }
             Step::Goes(next) => mode = next,
             Step::Opens(bracket) => {
-                if brackets.len() > level {
+                if brackets.len() >= most {
                     let offset = bytes.len() - left.len();
                     let expected = Expected::NoDeeper;
                     return Ok(Place { offset, expected });
@@ -79,7 +105,12 @@ pub fn first_place<A: Allocator>(alloc: A, level: usize, bytes: &[u8]) -> Result
                 }
                 mode = Mode::After;
             }
-            Step::Ends => mode = Mode::After,
+            Step::Ends => {
+                if brackets.is_empty() {
+                    return Ok(end_of(bytes));
+                }
+                mode = Mode::After;
+            }
             Step::Ended => return Ok(end_of(bytes)),
         }
         left = more;

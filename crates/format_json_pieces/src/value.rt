@@ -1,27 +1,33 @@
 //! JSON values (RFC 8259) at the start of bytes, and JSON texts in bytes.
 ghost use Rattle.format_json_pieces.specs.Begun.{IsViablePrefix};
-ghost use Rattle.format_json_pieces.specs.Results.{Fails, MatchesAtStart};
-ghost use Rattle.format_json_pieces.specs.Value.{AreNumerals, HasInner, InUtf8, IsNext, IsNumeral};
+ghost use Rattle.format_json_pieces.specs.Results.{Allows, Fails, IsFinal, MatchesAtStart};
+ghost use Rattle.format_json_pieces.specs.Results.{NoneIsFinal};
+ghost use Rattle.format_json_extents.specs.Number.{IsNumeral};
+ghost use Rattle.format_json_extents.specs.Value.{IsEnded};
+ghost use Rattle.format_json_pieces.specs.Value.{AreNumerals, HasInner, InUtf8, IsNext};
 ghost use Rattle.format_json_pieces.specs.Value.{IsRefusedAt, IsValueIn};
 ghost use Rattle.format_json_pieces.specs.declared.begun.Mode.TheVariants as modes;
 ghost use Rattle.format_json_texts.specs.Number.{ContinuesNumber};
 ghost use Rattle.format_json_texts.specs.Values.{JsonText, ValueText};
+ghost use Rattle.format_json_texts.specs.Values.Texts.{IsNumeric};
 ghost use Rattle.std.specs.List.{All};
-ghost use Rattle.std.specs.Prelude.{◌≡◌, ◌≤◌, ◌↔◌, ◌++◌, ℕ, List, length, false, IfErr, IfOk, []};
-ghost use Rattle.std.specs.Prelude.{IsTrue, Some};
+ghost use Rattle.std.specs.Prelude.{◌≡◌, ◌≤◌, ◌↔◌, ◌++◌, ℕ, List, length, false, true, IfErr};
+ghost use Rattle.std.specs.Prelude.{IfNone, IfOk, IfSome, IsTrue, Some, []};
 ghost use Rattle.std.specs.Str.{IsUtf8, chars};
 ghost use Rattle.std.specs.Str.Lossy.{utf8_valid_len};
-ghost use Rattle.stream_sets.specs.AsChar.{IsMultispace};
 ghost use Rattle.streams.specs.Bytes.{bytes_follow, bytes_reading};
 ghost use Rattle.winnow_grammar.specs.Cut.{Asks, ReadsOrAsks};
 ghost use Rattle.winnow_core.specs.Exact.Whole.{IsNotIncomplete, IsWant};
 ghost use Rattle.grammars.specs.Grammar.{IsUnique};
 ghost use Rattle.stream_sets.specs.Accumulator.Holds.{HasCharacters};
+ghost use Rattle.stream_sets.specs.AsChar.{IsMultispace};
 ghost use Rattle.grammars.specs.Texts.{StartsWith, IsGrammarOf, NotFirst};
 ghost use Rattle.winnow_grammar.specs.Told.{IsTextOf};
 
 use crate::begun::lacking;
-use crate::extent::{Lack, text_of};
+use crate::inside::goes_on;
+use format_json_extents::tokens::skip_whitespace;
+use format_json_extents::value as extents;
 use format_json_texts::value::Value;
 use format_json_values::value::{parse_value, read_value};
 use std::alloc::Allocator;
@@ -35,13 +41,47 @@ use streams::needed::Needed;
 use streams::partial::Partial;
 use streams::stream::{Stream, StreamIsPartial};
 
-/// Returns whether the text starts with a character that can continue a number.
-fn goes_on(text: &str) -> bool
-    ensures yes { IsTrue result → StartsWith ContinuesNumber (chars text.now) }
-    ensures no { result ≡ false → NotFirst ContinuesNumber (chars text.now) }
+/// Returns whether the value `text` ends before `left`, for any continuation: a number ends where
+/// neither a digit, a point nor an E follows, which is not known at the end of partial input
+/// (`cut`).
+fn is_ended(text: &[u8], left: &[u8], cut: bool) -> bool
+    ensures yes { IsTrue result → (more : List ℕ) → Allows cut more
+        → IsEnded text.now (left.now ++ more) }
+    ensures no { result ≡ false → IsEnded text.now left.now
+        → (cut ≡ true) × (left.now ≡ []) × StartsWith IsNumeric text.now }
 {
-    match text.chars().next() {
-        Some(c) => c.is_ascii_digit() || c == '.' || c == 'e' || c == 'E',
+    match text.split_first() {
+        Some((first, _)) if *first == b'-' || first.is_ascii_digit() => match left.split_first() {
+            Some((next, _)) => !goes_on(*next),
+            None => !cut,
+        },
+        _ => true,
+    }
+}
+
+/// Returns the text of the value that the bytes start with, and the remaining bytes, if it is the
+/// same for any continuation.
+fn text_in<'i>(level: usize, bytes: &'i [u8], cut: bool) -> Option<(&'i str, &'i [u8])>
+    ensures found { IfSome result (λ r. IsFinal level cut bytes.now r.0.now r.1.now) }
+    ensures none { IfNone result (NoneIsFinal level cut bytes.now) }
+{
+    let mut left = bytes;
+    let text = extents::read_value(level, &mut left)?;
+    if !is_ended(text, left, cut) {
+        return None;
+    }
+    match str::from_utf8(text) {
+        Ok(text) => Some((text, left)),
+        Err(_) => None,
+    }
+}
+
+/// Returns whether the bytes start with whitespace.
+fn has_gap(bytes: &[u8]) -> bool
+    ensures { IsTrue result ↔ StartsWith IsMultispace bytes.now }
+{
+    match bytes.split_first() {
+        Some((first, _)) => matches!(*first, b' ' | b'\t' | b'\n' | b'\r'),
         None => false,
     }
 }
@@ -59,51 +99,30 @@ fn value_in<'i, A: Allocator + Copy>(
         (⟦<ErrMode<EmptyError> as HasKind>⟧.kind e)) }
     ensures asks { IfErr result (λ e. Asks (⟦<ErrMode<EmptyError> as HasKind>⟧.kind e)
         → (v : Value A) (rest : List ℕ) → IsValueIn level bytes.now v rest
-        → All IsNumeral bytes.now) }
+        → (rest ≡ []) × All IsNumeral bytes.now) }
     ensures begun { IfErr result (λ e. Asks (⟦<ErrMode<EmptyError> as HasKind>⟧.kind e)
         → IsViablePrefix level modes.Value [] bytes.now) }
+    ensures gap { IfErr result (λ e. Asks (⟦<ErrMode<EmptyError> as HasKind>⟧.kind e)
+        → NotFirst IsMultispace bytes.now) }
 {
-    let text = match text_of(bytes, cut) {
-        Ok((text, _)) => text,
-        Err(Lack::Bytes) => return Err(lacking(alloc, level, bytes)),
-        Err(Lack::Text) => return Err(ErrMode::from_input(&bytes)),
-    };
-    let mut left = match str::from_utf8(text) {
-        Ok(left) => left,
-        Err(_) => return Err(ErrMode::from_input(&bytes)),
-    };
-    let value = match read_value(alloc, level, &mut left) {
-        Ok(value) => value,
-        Err(error) => return Err(error),
-    };
-    if goes_on(left) {
-        return Err(ErrMode::from_input(&bytes));
-    }
-    Ok((value, &bytes[text.len() - left.as_bytes().len()..]))
-}
-
-/// Whether the byte is white space.
-fn is_space(byte: u8) -> bool
-    ensures { IsTrue result ↔ IsMultispace byte }
-{
-    matches!(byte, b' ' | b'\t' | b'\n' | b'\r')
-}
-
-/// Skips whitespace.
-fn skip_whitespace<'i>(bytes: &'i [u8]) -> &'i [u8]
-    ensures { (gap : List ℕ) × (bytes.now ≡ gap ++ result.now) × All IsMultispace gap
-        × NotFirst IsMultispace result.now }
-{
-    let mut left = bytes;
-    'bytes: loop {
-        match left.split_first() {
-            Some((first, more)) if is_space(*first) => left = more,
-            _ => return left,
+    match text_in(level, bytes, cut) {
+        Some((text, left)) => {
+            let mut text = text;
+            match read_value(alloc, level, &mut text) {
+                Ok(value) => Ok((value, left)),
+                Err(error) => Err(error),
+            }
+        }
+        None => {
+            if !cut || has_gap(bytes) {
+                return Err(ErrMode::from_input(&bytes));
+            }
+            Err(lacking(alloc, level, bytes))
         }
     }
 }
 
-/// As [`value_in`], after white space; none where white space is all there is.
+/// As [`value_in`], after whitespace; none where whitespace is all there is.
 fn next_in<'i, A: Allocator + Copy>(
     alloc: A,
     level: usize,
@@ -115,7 +134,7 @@ fn next_in<'i, A: Allocator + Copy>(
         (⟦<ErrMode<EmptyError> as HasKind>⟧.kind e)) }
     ensures asks { IfErr result (λ e. Asks (⟦<ErrMode<EmptyError> as HasKind>⟧.kind e)
         → (v : Value A) (rest : List ℕ) → IsNext level bytes.now (Some v) rest
-        → AreNumerals bytes.now) }
+        → (rest ≡ []) × AreNumerals bytes.now) }
     ensures begun { IfErr result (λ e. Asks (⟦<ErrMode<EmptyError> as HasKind>⟧.kind e)
         → IsViablePrefix level modes.Value [] bytes.now) }
 {
@@ -135,17 +154,16 @@ fn next_in<'i, A: Allocator + Copy>(
 
 /// Parses a value whose arrays and objects are nested at most `level` deep, from partial input. The
 /// value is returned once it is the same for every longer input. That is with the last byte of an
-/// array, an object, a string or a word, and with the byte after a number. The input is left after
-/// the value. Whitespace before the value is not skipped.
+/// array, an object, a string or a word, and with the byte after a number, also in `0-`. The bytes
+/// of the value are consumed. Whitespace before the value is not skipped.
 ///
 /// The bytes of the value must be UTF-8; those after it are not examined. A number must not be
 /// followed by a digit, a point, an `e` or an `E`; otherwise there is no value.
 ///
 /// Fails with `Incomplete` if more input may follow, and the bytes (possibly none) begin the text
 /// of a value of the level, which may continue after them. Then there is no value of the level in
-/// them, or they are the bytes of a number. A walk over the bytes with the open brackets checks
-/// that each byte may occur there (clause `begun`, by `IsViablePrefix`), so `[x`, `[1,,` and `01`
-/// are not
+/// them, or they are a number. A walk over the bytes with the open brackets checks that each byte
+/// may occur there (clause `begun`, by `IsViablePrefix`), so `[x`, `[1,,` and `01` are not
 /// `Incomplete`. (That bytes which pass the walk always begin some value is tested, not proved.)
 /// The caller must bound the bytes that it holds: a text that never closes is `Incomplete` again
 /// and again, and each call reads it anew.
@@ -182,10 +200,13 @@ pub fn read_value_in_pieces<'i, A: Allocator + Copy>(
         (⟦<Partial<&'static [u8]> as Stream>⟧.view input.new) }
     ensures asks { IfErr result (λ e. Asks (⟦<ErrMode<EmptyError> as HasKind>⟧.kind e)
         → (v : Value A) (rest : List ℕ) → IsValueIn level
-        (⟦<Partial<&'static [u8]> as Stream>⟧.view input.old).left.tokens v rest
-        → All IsNumeral (⟦<Partial<&'static [u8]> as Stream>⟧.view input.old).left.tokens) }
+        (⟦<Partial<&'static [u8]> as Stream>⟧.view input.old).left.tokens v rest → (rest ≡ [])
+        × All IsNumeral (⟦<Partial<&'static [u8]> as Stream>⟧.view input.old).left.tokens) }
     ensures begun { IfErr result (λ e. Asks (⟦<ErrMode<EmptyError> as HasKind>⟧.kind e)
         → IsViablePrefix level modes.Value []
+        (⟦<Partial<&'static [u8]> as Stream>⟧.view input.old).left.tokens) }
+    ensures gap { IfErr result (λ e. Asks (⟦<ErrMode<EmptyError> as HasKind>⟧.kind e)
+        → NotFirst IsMultispace
         (⟦<Partial<&'static [u8]> as Stream>⟧.view input.old).left.tokens) }
     ensures kept { IfErr result (λ e. ⟦<Partial<&'static [u8]> as Stream>⟧.view input.new
         ≡ ⟦<Partial<&'static [u8]> as Stream>⟧.view input.old) }
@@ -236,7 +257,8 @@ pub fn read_next_in_pieces<'i, A: Allocator + Copy>(
     ensures asks { IfErr result (λ e. Asks (⟦<ErrMode<EmptyError> as HasKind>⟧.kind e)
         → (v : Value A) (rest : List ℕ) → IsNext level
         (⟦<Partial<&'static [u8]> as Stream>⟧.view input.old).left.tokens (Some v) rest
-        → AreNumerals (⟦<Partial<&'static [u8]> as Stream>⟧.view input.old).left.tokens) }
+        → (rest ≡ [])
+        × AreNumerals (⟦<Partial<&'static [u8]> as Stream>⟧.view input.old).left.tokens) }
     ensures begun { IfErr result (λ e. Asks (⟦<ErrMode<EmptyError> as HasKind>⟧.kind e)
         → IsViablePrefix level modes.Value []
         (⟦<Partial<&'static [u8]> as Stream>⟧.view input.old).left.tokens) }

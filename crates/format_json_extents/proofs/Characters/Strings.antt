@@ -10,9 +10,9 @@ use Rattle.std.proofs.lemmas.List.{append-nil}
 use Rattle.std.proofs.lemmas.List.Elements.{All-cons, All-from_recursion, All-head, All-nil}
 use Rattle.std.proofs.lemmas.List.Elements.{All-tail, All-weaker}
 use Rattle.std.proofs.lemmas.Str.{encode_ascii, encodes-append}
-use Rattle.format_json_extents.proofs.Characters.{Alike, Front, IsLow, byte_low, either_low}
+use Rattle.format_json_extents.proofs.Characters.{Alike, Front, IsLow, byte_in, either_in}
 use Rattle.format_json_extents.proofs.Characters.{first_byte, first_char, low_alike, then_alike}
-use Rattle.format_json_extents.proofs.Characters.{then_low, two_low}
+use Rattle.format_json_extents.proofs.Characters.{then_in, two_in}
 use Rattle.format_json_extents.proofs.Matching.{begins_at, joined, one, same_first, same_rest}
 use Rattle.format_json_extents.proofs.Scalars.{piece_starts, tail_run, tail_split}
 use Rattle.format_json_extents.specs.Strings.{BeginHigh, BeginLow, BeginOnly, IsBackslash, IsEscape}
@@ -29,29 +29,29 @@ hex_low b is = grind (arith, is)
 unit_low : (P : ℕ → ℕ → Type 0) → ((a b : ℕ) → P a b → (a < 128) × (b < 128))
     → IsLow (IsUnit P)
 unit_low P low =
-    then_low (two_low P low) (then_low (byte_low IsHexDigit hex_low) (byte_low IsHexDigit hex_low))
+    then_in (two_in P low) (then_in (byte_in IsHexDigit hex_low) (byte_in IsHexDigit hex_low))
 
 backslash_low : IsLow (IsByte IsBackslash)
-backslash_low = byte_low IsBackslash (λ b e. omega (arith, e))
+backslash_low = byte_in IsBackslash (λ b e. omega (arith, e))
 
 letter_low : IsLow (IsByte IsU)
-letter_low = byte_low IsU (λ b e. omega (arith, e))
+letter_low = byte_in IsU (λ b e. omega (arith, e))
 
 escape_low : IsLow IsEscape
 escape_low =
-    either_low (byte_low IsEscaped (λ b is. grind (arith, is)))
-    (then_low letter_low
-    (either_low (unit_low BeginOnly (λ a b is. (hex_low a is.0, hex_low b is.1)))
-    (then_low (unit_low BeginHigh (λ a b is. (grind (arith, is), grind (arith, is))))
-    (then_low backslash_low
-    (then_low letter_low
+    either_in (byte_in IsEscaped (λ b is. grind (arith, is)))
+    (then_in letter_low
+    (either_in (unit_low BeginOnly (λ a b is. (hex_low a is.0, hex_low b is.1)))
+    (then_in (unit_low BeginHigh (λ a b is. (grind (arith, is), grind (arith, is))))
+    (then_in backslash_low
+    (then_in letter_low
     (unit_low BeginLow (λ a b is. (grind (arith, is), grind (arith, is)))))))))
 
 slashed_alike : Alike (Then (IsByte IsBackslash) IsEscape)
-slashed_alike = low_alike (then_low backslash_low escape_low)
+slashed_alike = low_alike (then_in backslash_low escape_low)
 
 quote_alike : Alike (IsByte IsQuote)
-quote_alike = low_alike (byte_low IsQuote (λ b e. omega (arith, e)))
+quote_alike = low_alike (byte_in IsQuote (λ b e. omega (arith, e)))
 
 -- ---- characters that stand for themselves
 

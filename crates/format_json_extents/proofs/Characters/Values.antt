@@ -4,9 +4,9 @@ use Rattle.std.proofs.Common.{suc, sym, true, zero}
 use Rattle.std.specs.Str.{IsUtf8, chars}
 use Rattle.std.proofs.lemmas.List.{append-nil}
 use Rattle.std.proofs.lemmas.Str.{encodes-chars, encodes_same}
-use Rattle.format_json_extents.proofs.Characters.{Alike, IsLow, all_low, byte_low, either_alike}
-use Rattle.format_json_extents.proofs.Characters.{either_low, list_alike, low_alike, number_low}
-use Rattle.format_json_extents.proofs.Characters.{only_low, then_alike, then_low}
+use Rattle.format_json_extents.proofs.Characters.{Alike, IsLow, all_in, byte_in, either_alike}
+use Rattle.format_json_extents.proofs.Characters.{either_in, list_alike, low_alike, number_low}
+use Rattle.format_json_extents.proofs.Characters.{only_low, then_alike, then_in}
 use Rattle.format_json_extents.proofs.Characters.Strings.{string_alike}
 use Rattle.format_json_extents.specs.Value.{IsClosing, IsElement, IsGap, IsItem, IsKey}
 use Rattle.format_json_extents.specs.Value.{IsNestedTail, IsScalar, IsSpace, IsText, IsValue}
@@ -16,20 +16,20 @@ use Rattle.format_json_extents.specs.Texts.{IsByte}
 -- ---- scalars
 
 this_low : (c : ℕ) → c < 128 → IsLow (IsByte (λ b. b ≡ c))
-this_low c low = byte_low (λ b. b ≡ c) (λ b e. omega (arith, e, low))
+this_low c low = byte_in (λ b. b ≡ c) (λ b e. omega (arith, e, low))
 
 word_low : IsLow IsWord
 word_low =
-    either_low (only_low _ (omega arith))
-    (either_low (only_low _ (omega arith)) (only_low _ (omega arith)))
+    either_in (only_low _ (omega arith))
+    (either_in (only_low _ (omega arith)) (only_low _ (omega arith)))
 
 scalar_alike : Alike IsScalar
-scalar_alike = either_alike string_alike (low_alike (either_low number_low word_low))
+scalar_alike = either_alike string_alike (low_alike (either_in number_low word_low))
 
 -- ---- values
 
 gap_low : IsLow IsGap
-gap_low = all_low IsSpace (λ b is. grind (arith, is))
+gap_low = all_in IsSpace (λ b is. grind (arith, is))
 
 gap_alike : Alike IsGap
 gap_alike = low_alike gap_low
@@ -40,7 +40,7 @@ element_alike v = then_alike gap_alike (then_alike v gap_alike)
 key_alike : Alike IsKey
 key_alike =
     then_alike gap_alike
-    (then_alike string_alike (low_alike (then_low gap_low (this_low 58 (omega arith)))))
+    (then_alike string_alike (low_alike (then_in gap_low (this_low 58 (omega arith)))))
 
 item_alike : (keyed : Bool) {V : List ℕ → Type 0} → Alike V → Alike (IsItem keyed V)
 item_alike true v = then_alike key_alike (element_alike v)
@@ -52,7 +52,7 @@ closing_low false = this_low 93 (omega arith)
 
 tail_alike : (keyed : Bool) {V : List ℕ → Type 0} → Alike V → Alike (IsNestedTail keyed V)
 tail_alike keyed v =
-    either_alike (low_alike (then_low gap_low (closing_low keyed)))
+    either_alike (low_alike (then_in gap_low (closing_low keyed)))
     (then_alike (list_alike (item_alike keyed v)) (low_alike (closing_low keyed)))
 
 value_alike : (level : ℕ) → Alike (IsValue level)

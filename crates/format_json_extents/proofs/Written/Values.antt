@@ -168,6 +168,12 @@ module _ {A : Type 0} (alloc : A) where
   values_written level bytes utf8 few =
       by_bytes (value_written level) bytes utf8 few (value_characters level bytes utf8)
 
+  -- what encodes a value is one by its bytes, however long
+  pub value_bytes : (level : ℕ) (bytes : List ℕ) → IsUtf8 bytes → (v : Value A)
+      → ValueText (HasCharacters {A = A}) level v (chars bytes) → IsValue level bytes
+  value_bytes level bytes utf8 v x =
+      (value_characters level bytes utf8).1 ((value_written level).set v (chars bytes) x)
+
   pub texts_written : (level : ℕ) (bytes : List ℕ) → IsUtf8 bytes → length bytes < 2 ^ 63
       → IsText level bytes
       ↔ ((v : Value A) × JsonText (HasCharacters {A = A}) level v (chars bytes))

@@ -1,7 +1,6 @@
 use Rattle.std.proofs.Common.{sym}
 use Rattle.std.proofs.lemmas.Bool.{true≢false}
 use Rattle.format_json_extents.proofs.Naming.{is_over, not_over, not_same}
-use Rattle.format_json_extents.proofs.Scanning.{whole}
 use Rattle.format_json_extents.proofs.names.is_whole.Goals as goal
 
 pub returns-in-Some : goal.returns-in-Some

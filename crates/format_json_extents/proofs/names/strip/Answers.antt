@@ -1,6 +1,5 @@
 use Rattle.std.proofs.Common.{◌≡◌, rules, true}
 use Rattle.format_json_extents.proofs.Naming.{passed_more, strip_ends, strip_other}
-use Rattle.format_json_extents.proofs.Scanning.{whole}
 use Rattle.format_json_extents.proofs.names.strip.Goals as goal
 
 pub returns-then-next-first : goal.returns-then-next-first

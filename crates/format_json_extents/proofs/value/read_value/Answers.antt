@@ -1,10 +1,18 @@
 use Rattle.std.proofs.Common.{arith}
 use Rattle.format_json_extents.proofs.Scanning.{longest}
+use Rattle.format_json_extents.proofs.Values.{only_found}
 use Rattle.format_json_extents.proofs.Written.Values.{found_longest, found_standard, none_standard}
 use Rattle.format_json_extents.proofs.value.read_value.Goals as goal
 
 pub returns-clause-found : goal.returns-clause-found
 returns-clause-found c = longest c.in_ok-rest.ensures
+
+pub returns-clause-only : goal.returns-clause-only
+returns-clause-only c = only_found c.args.level c.in_ok-rest.ensures
+
+pub returns-in_err-rest-clause-only : goal.returns-in_err-rest-clause-only
+returns-in_err-rest-clause-only c = λ text rest is e ended.
+    absurd (c.in_err-rest.ensures rest (record { text = text; is = is; splits = e }))
 
 pub returns-clause-standard : goal.returns-clause-standard
 returns-clause-standard c =

@@ -1,4 +1,4 @@
-use Rattle.format_json_extents.proofs.Scanning.{if_none, longest}
+use Rattle.format_json_extents.proofs.Scanning.{if_none}
 use Rattle.format_json_extents.proofs.Walks.{lead_none}
 use Rattle.format_json_extents.proofs.walk.read_next.Goals as goal
 
