@@ -1,0 +1,72 @@
+-- Lemmas about folds of bytes with commas between them.
+use Rattle.std.specs.Prelude.{◌≡◌, ℕ, List, [], ◌∷◌, length, max, ⊤}
+use Rattle.std.specs.Borrow.{Bor}
+use Rattle.std.proofs.Common.{refl, sym, ap, ◌∙◌, arith}
+use Rattle.winnow.specs.Any.{AnyRuns}
+use Rattle.winnow.specs.Any.Inversion.{any_ok}
+use Rattle.winnow.specs.Bytes.{bytes_reading}
+use Rattle.winnow.specs.FoldLaws.{ConsumesFrom, DecidesOutputs}
+use Rattle.winnow.specs.Form.{ErrorForm}
+use Rattle.winnow.specs.Literal.{LiteralRuns}
+use Rattle.winnow.specs.Literal.Inversion.{literal_taken, token_taken}
+use Rattle.winnow.specs.Runs.{Keeps, Runs}
+use Rattle.winnow.specs.SeparatedFoldl1.{FoldsLeft}
+use Rattle.winnow.specs.SeparatedFoldr1.{FoldsRight}
+
+abbrev pub any_byte : ErrorForm → Runs ⊤ ℕ ℕ
+any_byte form = Keeps (λ _. AnyRuns (λ x. x) bytes_reading form)
+
+abbrev pub one_byte : ErrorForm → Runs ℕ ℕ ℕ
+one_byte form =
+    Keeps (λ s. LiteralRuns bytes_reading form (λ xs. xs ≡ s ∷ []) (λ (_ : Bor (List ℕ)). s))
+
+pub any_decides : (form : ErrorForm) → DecidesOutputs (any_byte form) tt
+any_decides form t reaches i o p u v j k (ran, e) (also, f) =
+    let one = (any_ok (λ x. x) bytes_reading form i o j ran).tokens in
+    let other = (any_ok (λ x. x) bytes_reading form i p k also).tokens in
+    let same = sym one ∙ other in cc
+
+pub one_decides : (form : ErrorForm) (b : ℕ) → DecidesOutputs (one_byte form) b
+one_decides form b t reaches i o p u v j k (ran, e) (also, f) =
+    (literal_taken bytes_reading form (λ xs. xs ≡ t ∷ []) (λ _. t) i o j ran).answers
+    ∙ sym (literal_taken bytes_reading form (λ xs. xs ≡ t ∷ []) (λ _. t) i p k also).answers
+
+pub one_consumes : (form : ErrorForm) (b : ℕ) → ConsumesFrom (one_byte form) b
+one_consumes form b i o t j (ran, e) =
+    omega (arith, ap (λ l. length l) (token_taken bytes_reading form b (λ _. b) i o j ran).splits)
+
+max_three : (a b c : ℕ) → max (max a b) c ≡ max a (max b c)
+max_three a b c = omega arith
+
+-- the greatest of the elements
+greatest : ℕ → List (ℕ × ℕ) → ℕ
+greatest first [] = first
+greatest first (link ∷ links) = max first (greatest link.1 links)
+
+greatest_more : (a b : ℕ) (links : List (ℕ × ℕ))
+    → greatest (max a b) links ≡ max a (greatest b links)
+greatest_more a b [] = refl
+greatest_more a b (link ∷ links) = max_three a b (greatest link.1 links)
+
+module _ {H : Type 0} (step : H → ℕ → ℕ → ℕ → ℕ → H → Type 0)
+    (is : (p q : H) (a d b c : ℕ) → step p a d b c q → c ≡ max a b) where
+  left_is : (p q : H) (first value : ℕ) (links : List (ℕ × ℕ))
+      → FoldsLeft step p first links value q → value ≡ greatest first links
+  left_is p q first value [] (e, f) = e
+  left_is p q first value (link ∷ links) (more, c, stepped, folds) =
+      left_is c q more value links folds
+      ∙ ap (λ m. greatest m links) (is p c first link.0 link.1 more stepped)
+      ∙ greatest_more first link.1 links
+
+  right_is : (p q : H) (first value : ℕ) (links : List (ℕ × ℕ))
+      → FoldsRight step p first links value q → value ≡ greatest first links
+  right_is p q first value [] (e, f) = e
+  right_is p q first value (link ∷ links) (right, c, folds, stepped) =
+      is c q first link.0 right value stepped
+      ∙ ap (λ m. max first m) (right_is p c link.1 right links folds)
+
+  pub both_same : (p q r : H) (first left right : ℕ) (links : List (ℕ × ℕ))
+      → FoldsLeft step p first links left q → FoldsRight step p first links right r
+      → left ≡ right
+  both_same p q r first left right links one other =
+      left_is p q first left links one ∙ sym (right_is p r first right links other)
