@@ -93,10 +93,10 @@ module _ {H : Type 0} (A : Type 0) (step : H → ℕ → ℕ → ℕ → ℕ →
       let M : H → Type 0 = λ x. to_left (tt, 44, x) i (Ok left) t j in
       let R : ℕ → Type 0 = λ x. to_right (tt, x, h) i (Ok right) u k in
       let N : H → Type 0 = λ x. to_right (tt, 44, x) i (Ok right) u k in
-      let (v, n, places, first, links, one, others, r, turns, lefts, w, more, rights, e, g, l, same) =
+      let (v, n, places, first, links, one, others, r, turns, ls, w, more, rs, e, g, l, same) =
       agree (tt, 44, op) tt tt (one_consumes plain 44) i left right t u j k
       (subst M so (subst L is ran)) (subst N too (subst R are also)) in
       let both = same (any_decides plain) (one_decides plain 44) in
       let P : ℕ → Type 0 = λ x. FoldsRight step op x others right u.2 in
       let Q : List (ℕ × ℕ) → Type 0 = λ x. FoldsRight step op first x right u.2 in
-      (first, links, t.2, u.2, lefts, subst Q (sym both.1) (subst P (sym both.0) rights))
+      (first, links, t.2, u.2, ls, subst Q (sym both.1) (subst P (sym both.0) rs))

@@ -19,12 +19,12 @@ pub enum Entry<'i> {
     Section(&'i str),
     /// A pair, with its value, or the part of the value on this line.
     Pair {
-        /// The key, without white space at either end.
+        /// The key, without whitespace at either end.
         key: &'i str,
         /// The value, without whitespace at either end; `None` if there is no delimiter.
         value: Option<&'i str>,
     },
-    /// One more line of the value of the pair before, without white space at either end. It is
+    /// One more line of the value of the pair before, without whitespace at either end. It is
     /// empty for an empty line, also where no other line of the value follows.
     More(&'i str),
 }
@@ -49,7 +49,7 @@ pub enum Reason {
 /// The effect of the previous lines on the next one.
 #[derive(Clone, Copy, Debug, PartialEq, Eq)]
 pub struct State {
-    /// Whether a section has begun.
+    /// Whether a section precedes the next line.
     pub section: bool,
     /// The number of blanks before the pair that the next line may continue, if there is one.
     pub pair: Option<usize>,
