@@ -25,8 +25,9 @@ where
 {
     let (mut left, mut right) = (bytes, bytes);
     let to_left: Result<u8, EmptyError> = separated_foldl1(Any, b',', op).parse_next(&mut left);
-    let to_right: Result<u8, EmptyError> =
-        separated_foldr1(alloc, Any, b',', op).parse_next(&mut right);
+    let to_right: Result<u8, EmptyError> = separated_foldr1(alloc, Any, b',', op).parse_next(
+        &mut right,
+    );
     separated_folds_agree::<Any, u8, H, &[u8], u8, u8, EmptyError, A>();
     match (to_left, to_right) {
         (Ok(left), Ok(right)) => Some((left, right)),
