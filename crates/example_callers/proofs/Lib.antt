@@ -1,3 +1,4 @@
+pub mod FoldLemmas
 pub mod ItemLemmas
 pub mod MovedRuns
 pub mod PlaceLemmas

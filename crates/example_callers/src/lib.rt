@@ -4,6 +4,7 @@
 pub mod choices;
 pub mod complete_streams;
 pub mod first_line;
+pub mod folds;
 pub mod functions;
 pub mod identifiers;
 pub mod items;

@@ -6,13 +6,13 @@ use Rattle.std.specs.List.{All}
 use Rattle.std.specs.Borrow.{Bor}
 use Rattle.std.proofs.Common.{refl, sym, ap, inl, inr, ◌∙◌, arith, append_assoc, get_or}
 use Rattle.std.proofs.Common.{length-append}
-use Rattle.std.proofs.lemmas.List.{drop_more, map_more}
-use Rattle.std.proofs.lemmas.List.{take-append-drop, take_all}
+use Rattle.std.proofs.lemmas.List.{append-nil, drop_more, map_more}
+use Rattle.std.proofs.lemmas.List.{take-append-drop, take-append-le, take_all}
 use Rattle.format_csv_records.specs.Dialects.{IsFieldText}
 use Rattle.format_csv_records.specs.Dialects.{doubled}
 use Rattle.format_csv_records.specs.Parts.{Done, IsOther, SoMany}
-use Rattle.format_csv_records.specs.Written.{IsLast, IsLastOf, IsWritten, ReadsBack, Writes, Wrote}
-use Rattle.format_csv_records.specs.Written.{bytes_of}
+use Rattle.format_csv_records.specs.Written.{Extends, IsLast, IsLastOf, IsWritten, ReadsBack}
+use Rattle.format_csv_records.specs.Written.{Writes, Wrote, bytes_of}
 use Rattle.format_csv_records.specs.declared.dialect.Dialect.{Dialect}
 use Rattle.format_csv_records.proofs.Alone.{doubled_behind, doubled_none, doubled_two, end_some}
 use Rattle.format_csv_records.proofs.Alone.{take_quote}
@@ -80,6 +80,30 @@ wrote_more d (other ∷ fields) before field text (front, more, u, e, others) t 
 pub bytes_more : (fields : List (Bor (List ℕ))) (i : ℕ) (d : Bor (List ℕ)) → i < length fields
     → bytes_of (take (i + 1) fields) ≡ bytes_of (take i fields) ++ (get_or fields i d).now ∷ []
 bytes_more fields i d less = map_more (λ (f : Bor (List ℕ)). f.now) fields i d less
+
+-- ---- what was there stays
+
+pub kept_all : (old new : List ℕ) → new ≡ old → Extends old new
+kept_all old new e = ([], e ∙ sym (append-nil old))
+
+pub kept_on : (old mid new : List ℕ) → Extends old mid → Extends mid new → Extends old new
+kept_on old mid new (more, e) (others, f) =
+    (more ++ others, f ∙ ap (λ l. l ++ others) e ∙ append_assoc old more others)
+
+pub kept_after : (old more mid new : List ℕ) → mid ≡ old ++ more → Extends mid new
+    → Extends old new
+kept_after old more mid new e is = kept_on old mid new (more, e) is
+
+pub kept_added : {E : Type 0} (r : Result (Unit {0}) E) (old new more : List ℕ)
+    → new ≡ (if is_ok r then old ++ more else old) → Extends old new
+kept_added (Ok u) old new more e = (more, e)
+kept_added (Err x) old new more e = kept_all old new e
+
+pub front_of : (old new end : List ℕ) (n : ℕ) → Extends old new → n ≡ length old
+    → end ≡ take n new → end ≡ old
+front_of old new end n (more, e) size t =
+    t ∙ ap (λ l. take n l) e ∙ take-append-le n old more (omega (arith, size))
+    ∙ take_all n old (omega (arith, size))
 
 -- ---- back
 

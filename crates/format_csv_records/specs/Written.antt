@@ -1,6 +1,6 @@
 -- The encoding that is written for a record: quotes only for fields that need them.
 use Rattle.std.specs.Prelude.{◌≡◌, ◌⊎◌, ℕ, List, [], ◌∷◌, ◌++◌, map, Bool, true}
-use Rattle.std.specs.Prelude.{Result, Ok, Err, ⊤}
+use Rattle.std.specs.Prelude.{Result, Ok, Err}
 use Rattle.std.specs.Borrow.{Bor}
 use Rattle.std.specs.List.{All}
 use Rattle.format_csv_records.specs.Dialects.{IsLineEnd, IsPlain, IsRecord, doubled}
@@ -38,6 +38,10 @@ pub record Writes (d : Dialect) (fields : List (List ℕ)) (old new : List ℕ) 
   pub is_end : IsLineEnd d.ends end
   pub behind : new ≡ old ++ (before ++ (text ++ end))
 
+-- `Extends old new`: `new` is `old`, followed by more bytes or none.
+abbrev pub Extends : List ℕ → List ℕ → Type 0
+Extends old new = (more : List ℕ) × (new ≡ old ++ more)
+
 -- the bytes of fields
 abbrev pub bytes_of : List (Bor (List ℕ)) → List (List ℕ)
 bytes_of fields = map (λ f. f.now) fields
@@ -58,4 +62,4 @@ abbrev pub WritesRecord : Dialect → List (List ℕ) → List ℕ → Result (U
     → Type 0
 WritesRecord d fields old (Ok u) new = Writes d fields old new × ReadsBack d fields old new
 WritesRecord d fields old (Err NoFields) new = (fields ≡ []) × (new ≡ old)
-WritesRecord d fields old (Err OutOfMemory) new = ⊤
+WritesRecord d fields old (Err OutOfMemory) new = new ≡ old

@@ -2,7 +2,7 @@
 
 ghost use Rattle.std.specs.Prelude.{◌≡◌, ◌++◌, ◌∷◌, [], List, ℕ, length, MatchBool, OnOk};
 ghost use Rattle.format_csv_records.specs.Dialects.{IsLineEnd, IsRecord, doubled};
-ghost use Rattle.format_csv_records.specs.Written.{IsLast, IsLastOf, IsWritten, Writes};
+ghost use Rattle.format_csv_records.specs.Written.{Extends, IsLast, IsLastOf, IsWritten, Writes};
 ghost use Rattle.format_csv_records.specs.Written.{WritesRecord, Wrote, bytes_of};
 ghost use Rattle.format_csv_records.specs.declared.write.WriteError.TheVariants.{NoFields};
 ghost use Rattle.format_csv_records.specs.declared.write.WriteError.TheVariants.{OutOfMemory};
@@ -31,7 +31,8 @@ fn line_end(ends: LineEnds) -> &'static [u8]
 
 // One byte after the others.
 fn put<A: Allocator>(byte: u8, out: &mut Vec<u8, A>) -> Result<(), AllocError>
-    ensures { OnOk result (out.new.items ≡ out.old.items ++ byte ∷ []) }
+    ensures done { OnOk result (out.new.items ≡ out.old.items ++ byte ∷ []) }
+    ensures kept { Extends out.old.items out.new.items }
 {
     match out.push(byte) {
         Ok(()) => Ok(()),
@@ -45,8 +46,9 @@ fn write_doubled<A: Allocator>(
     field: &[u8],
     out: &mut Vec<u8, A>,
 ) -> Result<(), AllocError>
-    ensures { OnOk result
+    ensures done { OnOk result
         (out.new.items ≡ out.old.items ++ (doubled quote field.now ++ quote ∷ [])) }
+    ensures kept { Extends out.old.items out.new.items }
 {
     let mut rest = field;
     'runs: loop {
@@ -66,8 +68,9 @@ fn write_field<A: Allocator>(
     field: &[u8],
     out: &mut Vec<u8, A>,
 ) -> Result<(), AllocError>
-    ensures { OnOk result ((text : List ℕ) × IsWritten dialect field.now text
+    ensures done { OnOk result ((text : List ℕ) × IsWritten dialect field.now text
         × (out.new.items ≡ out.old.items ++ text)) }
+    ensures kept { Extends out.old.items out.new.items }
 {
     if plain_len(dialect, field) == field.len() {
         return out.extend_from_slice(field);
@@ -82,8 +85,9 @@ fn write_others<A: Allocator>(
     fields: &[&[u8]],
     out: &mut Vec<u8, A>,
 ) -> Result<(), AllocError>
-    ensures { OnOk result ((text : List ℕ) × Wrote dialect (bytes_of fields.now) text
+    ensures done { OnOk result ((text : List ℕ) × Wrote dialect (bytes_of fields.now) text
         × (out.new.items ≡ out.old.items ++ text)) }
+    ensures kept { Extends out.old.items out.new.items }
 {
     for field in fields {
         write_field(dialect, field, out)?;
@@ -98,8 +102,9 @@ fn write_last<A: Allocator>(
     field: &[u8],
     out: &mut Vec<u8, A>,
 ) -> Result<(), AllocError>
-    ensures { OnOk result ((text : List ℕ) × IsLastOf dialect alone field.now text
+    ensures done { OnOk result ((text : List ℕ) × IsLastOf dialect alone field.now text
         × (out.new.items ≡ out.old.items ++ text)) }
+    ensures kept { Extends out.old.items out.new.items }
 {
     if alone && field.is_empty() {
         put(dialect.quote, out)?;
@@ -122,8 +127,9 @@ fn write_parts<A: Allocator>(
     last: &[u8],
     out: &mut Vec<u8, A>,
 ) -> Result<(), AllocError>
-    ensures { OnOk result (Writes dialect (bytes_of others.now ++ last.now ∷ [])
+    ensures done { OnOk result (Writes dialect (bytes_of others.now ++ last.now ∷ [])
         out.old.items out.new.items) }
+    ensures kept { Extends out.old.items out.new.items }
 {
     write_others(dialect, others, out)?;
     write_last(dialect, none_of(others), last, out)?;
@@ -139,8 +145,9 @@ fn write_parts<A: Allocator>(
 /// # Errors
 ///
 /// - `NoFields`: there are no fields.
-/// - `OutOfMemory`: memory allocation failed. Nothing is appended then, which is tested and not
-///   proved.
+/// - `OutOfMemory`: memory allocation failed.
+///
+/// After an error `out` has the bytes that it had before.
 ///
 /// ```
 /// use format_csv_records::dialect::Dialect;

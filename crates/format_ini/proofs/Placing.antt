@@ -1,8 +1,8 @@
 -- The offsets of the texts of an entry.
-use Rattle.std.specs.Prelude.{◌≡◌, ◌≤◌, ◌<◌, ◌+◌, ◌-◌, ℕ, List, [], ◌∷◌, ◌++◌, length, take}
-use Rattle.std.specs.Prelude.{drop}
+use Rattle.std.specs.Prelude.{◌≡◌, ◌⊎◌, ◌≤◌, ◌<◌, ◌+◌, ◌-◌, ℕ, List, [], ◌∷◌, ◌++◌}
+use Rattle.std.specs.Prelude.{drop, length, take}
 use Rattle.std.specs.Prelude.{Bool, true, false, None, Some, suc, cond, Option}
-use Rattle.std.specs.Prelude.{Err, IfOk, Ok, Result}
+use Rattle.std.specs.Prelude.{Err, IfOk, MatchResult, Ok, Result}
 use Rattle.std.specs.Char.{is_ascii_whitespace}
 use Rattle.std.specs.List.{All, suffix_len}
 use Rattle.std.proofs.Common.{refl, sym, ap, subst, inl, inr, ◌∙◌, arith, append_assoc}
@@ -11,7 +11,7 @@ use Rattle.std.proofs.lemmas.List.{append-nil}
 use Rattle.std.proofs.lemmas.List.Elements.{All-append, All-cons, All-nil, All-weaker}
 use Rattle.std.proofs.lemmas.List.Folds.{length-prefix_len}
 use Rattle.format_ini.specs.Front.{IsKept, indent_of, trimmed}
-use Rattle.format_ini.specs.Lines.{value_of}
+use Rattle.format_ini.specs.Lines.{OwnSays, said_of, value_of}
 use Rattle.format_ini.specs.Marks.{IsBlank, IsDelimiter}
 use Rattle.format_ini.specs.Places.{BehindBlanks, BehindDelimiter, InBrackets, SaidAt}
 use Rattle.format_ini.specs.Places.{ValueAt}
@@ -24,6 +24,7 @@ use Rattle.format_ini.specs.declared.lines.Entry.TheVariants as entries
 use Rattle.format_ini.specs.declared.lines.Line.{Line}
 use Rattle.format_ini.specs.declared.lines.Places.{Places}
 use Rattle.format_ini.specs.declared.lines.Reason.{Reason}
+use Rattle.format_ini.specs.declared.lines.State.{State}
 
 -- ---- blanks
 
@@ -137,23 +138,35 @@ pair_key from text before behind mark key place e k p =
     )
 
 pub pair_value : (d : Dialect) (from : ℕ) (text before behind : List ℕ) (mark : ℕ)
-    (value : List ℕ) (place : ℕ) → text ≡ before ++ (mark ∷ behind)
+    (value : List ℕ) (blanks gap place : ℕ) → text ≡ before ++ (mark ∷ behind)
     → All (λ b. IsDelimiter d.delimiters b → ⊥) before → IsDelimiter d.delimiters mark
-    → value ≡ trimmed behind → place ≡ from + (length before + (1 + indent_of behind))
-    → BehindDelimiter d from text value place
-pair_value d from text before behind mark value place e none is v p =
-    let (gap, rest, f, all, n) = trimmed_stands behind in
-    let P : List ℕ → Type 0 = λ l. BehindDelimiter d from text l place in
-    subst P (sym v) (
+    → value ≡ trimmed behind → blanks ≡ indent_of behind
+    → ((value ≡ []) × (gap ≡ 0)) ⊎ ((value ≡ [] → ⊥) × (gap ≡ blanks))
+    → place ≡ from + (length before + (1 + gap)) → BehindDelimiter d from text value place
+pair_value d from text before behind mark value blanks gap place e none is v n (inl (w, g)) p = (
+  before,
+  mark,
+  [],
+  behind,
+  e ∙ ap (λ l. before ++ (mark ∷ (l ++ behind))) (sym w),
+  none,
+  is,
+  All-nil IsBlank,
+  λ none. refl,
+  p ∙ ap (λ l. from + (length before + (1 + l))) g,
+)
+pair_value d from text before behind mark value blanks gap place e none is v n (inr (some, g)) p =
+    let (lead, rest, f, all, m) = trimmed_stands behind in (
       before,
       mark,
-      gap,
+      lead,
       rest,
-      e ∙ ap (λ l. before ++ (mark ∷ l)) f,
+      e ∙ ap (λ l. before ++ (mark ∷ l)) (f ∙ ap (λ l. lead ++ (l ++ rest)) (sym v)),
       none,
       is,
       all,
-      p ∙ ap (λ l. from + (length before + (1 + l))) (sym n),
+      λ nothing. absurd (some nothing),
+      p ∙ ap (λ l. from + (length before + (1 + l))) (g ∙ n ∙ sym m),
     )
 
 pub at_front : (from : ℕ) (text : List ℕ) (place : ℕ) → place ≡ from
@@ -209,7 +222,7 @@ module _ (d : Dialect) (from : ℕ) (line lead text rest : List ℕ)
   delimiter_behind : (bytes : List ℕ) (place : ℕ)
       → BehindDelimiter d (from + length lead) text bytes place
       → BehindDelimiter d from line bytes place
-  delimiter_behind bytes place (l, mark, gap, r, f, none, is, all, p) =
+  delimiter_behind bytes place (l, mark, gap, r, f, none, is, all, right, p) =
       let P : ℕ → Type 0 = λ b. IsDelimiter d.delimiters b → ⊥ in (
         lead ++ l,
         mark,
@@ -221,6 +234,7 @@ module _ (d : Dialect) (from : ℕ) (line lead text rest : List ℕ)
         All-append P lead l (All-weaker IsBlank P (no_delimiter d.delimiters) lead blank) none,
         is,
         all,
+        right,
         place_behind l (1 + length gap) place p,
       )
 
@@ -229,27 +243,31 @@ module _ (d : Dialect) (from : ℕ) (line lead text rest : List ℕ)
   value_behind None at is = is
   value_behind (Some value) at is = delimiter_behind value at.value is
 
-  entry_behind : (entry : Option Entry) (at : Places)
+  entry_behind : (s : State) (indent : ℕ) (entry : Option Entry) (at : Places) (next : State)
+      → OwnSays d s indent text (said_of entry) next
       → SaidAt d (from + length lead) text entry at → SaidAt d from line entry at
-  entry_behind None at is = is
-  entry_behind (Some (entries.Section name)) at (is, same) =
+  entry_behind s indent None at next own is = is
+  entry_behind s indent (Some (entries.Section name)) at next own (is, same) =
       (brackets_behind name.now at.head is, same)
-  entry_behind (Some (entries.Pair key value)) at (is, more) =
+  entry_behind s indent (Some (entries.Pair key value)) at next own (is, more) =
       (blanks_behind key.now at.head is, value_behind (value_of value) at more)
-  entry_behind (Some (entries.More value)) at (is, same) =
-      (blanks_behind value.now at.head is, same)
+  entry_behind s indent (Some (entries.More value)) at next (inl (n, own, e, f)) is = cc
+  entry_behind s indent (Some (entries.More value)) at next (inr (k, v, not, may, own, e, f)) is =
+      cc
 
 -- ---- a line
 
 module _ (d : Dialect) (from : ℕ) (marks : Marks) (line kept text : List ℕ) (depth : ℕ)
     (is : IsKept marks line kept) (t : text ≡ trimmed kept) (n : depth ≡ indent_of kept) where
-  line_at : (entry : Option Entry) (at : Places) → SaidAt d (from + depth) text entry at
+  line_at : (s : State) (indent : ℕ) (entry : Option Entry) (at : Places) (next : State)
+      → OwnSays d s indent text (said_of entry) next → SaidAt d (from + depth) text entry at
       → SaidAt d from line entry at
-  line_at entry at said =
+  line_at s indent entry at next own said =
       let (lead, rest, e, all, m) = text_stands marks line kept is in
       let P : ℕ → Type 0 = λ k. SaidAt d (from + k) text entry at in
       let whole = e ∙ ap (λ l. lead ++ (l ++ rest)) (sym t) in
-      entry_behind d from line lead text rest whole all entry at (subst P (n ∙ sym m) said)
+      entry_behind d from line lead text rest whole all s indent entry at next own
+      (subst P (n ∙ sym m) said)
 
   pub more_at : (value : List ℕ) (at : Places) → value ≡ text → at.head ≡ from + depth
       → BehindBlanks from line value at.head
@@ -262,8 +280,10 @@ module _ (d : Dialect) (from : ℕ) (marks : Marks) (line kept text : List ℕ) 
         h ∙ ap (λ k. from + k) (n ∙ sym m),
       )
 
-  pub line_ok_at : (result : Result Line Reason)
+  pub line_ok_at : (s : State) (indent : ℕ) (lacks : Reason → Type 0)
+      (result : Result Line Reason)
+      → MatchResult result (λ l. OwnSays d s indent text (said_of l.entry) l.next) lacks
       → IfOk result (λ l. SaidAt d (from + depth) text l.entry l.at)
       → IfOk result (λ l. SaidAt d from line l.entry l.at)
-  line_ok_at (Ok l) said = line_at l.entry l.at said
-  line_ok_at (Err why) said = said
+  line_ok_at s indent lacks (Ok l) own said = line_at s indent l.entry l.at l.next own said
+  line_ok_at s indent lacks (Err why) own said = said

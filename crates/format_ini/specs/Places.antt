@@ -29,26 +29,29 @@ InBrackets from text bytes place = (lead : List ℕ) × (rest : List ℕ)
     × (text ≡ lead ++ (91 ∷ (bytes ++ (93 ∷ rest)))) × All IsBlank lead
     × (place ≡ from + (length lead + 1))
 
--- The same after the first delimiter and blanks.
+-- The same after the first delimiter and blanks. Without bytes, it is right after the delimiter.
 abbrev pub BehindDelimiter : Dialect → ℕ → List ℕ → List ℕ → ℕ → Type 0
 BehindDelimiter d from text bytes place = (before : List ℕ) × (mark : ℕ) × (gap : List ℕ)
     × (rest : List ℕ) × (text ≡ before ++ (mark ∷ (gap ++ (bytes ++ rest))))
     × All (λ b. IsDelimiter d.delimiters b → ⊥) before × IsDelimiter d.delimiters mark
-    × All IsBlank gap × (place ≡ from + (length before + (1 + length gap)))
+    × All IsBlank gap × (bytes ≡ [] → gap ≡ [])
+    × (place ≡ from + (length before + (1 + length gap)))
 
 -- where a value begins; where there is none, where the key does
 abbrev pub ValueAt : Dialect → ℕ → List ℕ → Option (List ℕ) → Places → Type 0
 ValueAt d from text None at = at.value ≡ at.head
 ValueAt d from text (Some value) at = BehindDelimiter d from text value at.value
 
--- Where the texts of an entry begin in its line, counted from that number on.
+-- Where the texts of an entry begin in its line, counted from that number on. An empty line of a
+-- value is at its start.
 abbrev pub EntryAt : Dialect → ℕ → List ℕ → Entry → Places → Type 0
 EntryAt d from text (entries.Section name) at =
     InBrackets from text name.now at.head × (at.value ≡ at.head)
 EntryAt d from text (entries.Pair key value) at =
     BehindBlanks from text key.now at.head × ValueAt d from text (value_of value) at
 EntryAt d from text (entries.More value) at =
-    BehindBlanks from text value.now at.head × (at.value ≡ at.head)
+    BehindBlanks from text value.now at.head × (value.now ≡ [] → at.head ≡ from)
+    × (at.value ≡ at.head)
 
 -- Like `EntryAt`, for a line that may have no entry.
 abbrev pub SaidAt : Dialect → ℕ → List ℕ → Option Entry → Places → Type 0

@@ -1,6 +1,7 @@
 //! The meaning of one line.
 
-ghost use Rattle.std.specs.Prelude.{◌≡◌, ◌<◌, ◌+◌, ◌^◌, List, length, IfOk, MatchResult, ℕ};
+ghost use Rattle.std.specs.Prelude.{◌≡◌, ◌⊎◌, ◌≤◌, ◌<◌, ◌+◌, ◌^◌, [], List, ℕ};
+ghost use Rattle.std.specs.Prelude.{IfOk, MatchResult, length};
 ghost use Rattle.format_ini.specs.Front.{StartsWith};
 ghost use Rattle.format_ini.specs.Lines.{IdleSays, IsPair, IsSection, Lacks, LacksOwn, NoPair};
 ghost use Rattle.format_ini.specs.Lines.{NoSection, OwnSays, Step, is_deeper, pair_at, said_of};
@@ -18,12 +19,12 @@ pub enum Entry<'i> {
     Section(&'i str),
     /// A pair, with its value, or the part of the value on this line.
     Pair {
-        /// The key, without white space at either end.
+        /// The key, without whitespace at either end.
         key: &'i str,
         /// The value, without whitespace at either end; `None` if there is no delimiter.
         value: Option<&'i str>,
     },
-    /// One more line of the value of the pair before, without white space at either end. It is
+    /// One more line of the value of the pair before, without whitespace at either end. It is
     /// empty for an empty line, also where no other line of the value follows.
     More(&'i str),
 }
@@ -48,7 +49,7 @@ pub enum Reason {
 /// The effect of the previous lines on the next one.
 #[derive(Clone, Copy, Debug, PartialEq, Eq)]
 pub struct State {
-    /// Whether a section has begun.
+    /// Whether a section precedes the next line.
     pub section: bool,
     /// The number of blanks before the pair that the next line may continue, if there is one.
     pub pair: Option<usize>,
@@ -57,9 +58,11 @@ pub struct State {
 /// Where the texts of an entry begin.
 #[derive(Clone, Copy, Debug, PartialEq, Eq)]
 pub struct Places {
-    /// Where the name of a section begins, a key, or one more line of a value.
+    /// Where the name of a section begins, a key, or one more line of a value. If that line is
+    /// empty, where the line begins.
     pub head: usize,
-    /// Where the value of a pair begins; of an entry without one it is the same as `head`.
+    /// Where the value of a pair begins. An empty value begins right after the delimiter. Of an
+    /// entry without a value it is the same as `head`.
     pub value: usize,
 }
 
@@ -104,6 +107,14 @@ fn read_section(text: &str) -> Result<&str, Reason>
     }
 }
 
+// Returns the number of blanks before a value. An empty value is before all of them.
+fn gap_before(blanks: usize, value: &str) -> usize
+    ensures few { result ≤ blanks }
+    ensures gap { ((value.now ≡ []) × (result ≡ 0)) ⊎ ((value.now ≡ [] → ⊥) × (result ≡ blanks)) }
+{
+    if value.is_empty() { 0 } else { blanks }
+}
+
 // Returns the key and the value of a pair that begins at `place`.
 fn read_pair<'i>(dialect: Dialect, place: usize, text: &'i str) -> Result<Pair<'i>, Reason>
     requires { place + length text.now < 2 ^ 63 }
@@ -117,7 +128,8 @@ fn read_pair<'i>(dialect: Dialect, place: usize, text: &'i str) -> Result<Pair<'
         Some((before, _)) if before.is_empty() => Err(Reason::NoKey),
         Some((before, behind)) => {
             let (lead, key) = trim(before);
-            let (gap, value) = trim(behind);
+            let (blanks, value) = trim(behind);
+            let gap = gap_before(blanks, value);
             let at = Places {
                 head: place + lead,
                 value: place + before.len() + 1 + gap,

@@ -1,11 +1,11 @@
 use Rattle.std.proofs.Common.{[], ◌∷◌, ◌++◌, refl, ap, inr, ◌∙◌, append_assoc}
 use Rattle.std.proofs.lemmas.Result.{on_ok_weaker}
 use Rattle.format_csv_records.specs.Dialects.{doubled}
-use Rattle.format_csv_records.proofs.Writing.{not_all}
+use Rattle.format_csv_records.proofs.Writing.{kept_added, kept_after, not_all}
 use Rattle.format_csv_records.proofs.write.write_field.Goals as goal
 
-pub returns : goal.returns
-returns g c =
+pub returns-clause-done : goal.returns-clause-done
+returns-clause-done g c =
     let q = c.args.dialect.quote in
     let text = doubled q c.args.field.now ++ q ∷ [] in
     on_ok_weaker c.write_doubled.result (λ e. (
@@ -14,6 +14,13 @@ returns g c =
         refl,
         not_all _ _ _ c.plain_len.ensures c.if-plain_len-field.false,
       ),
-      e ∙ ap (λ l. l ++ text) c.in_ok-put.ensures ∙ append_assoc c.args.out.now.items (q ∷ []) text,
+      e ∙ ap (λ l. l ++ text) c.in_ok-put.ensures.done ∙ append_assoc c.args.out.now.items (q ∷ []) text,
     ))
-    c.write_doubled.ensures
+    c.write_doubled.ensures.done
+
+pub returns-clause-kept : goal.returns-clause-kept
+returns-clause-kept g c = kept_after _ _ _ _ c.in_ok-put.ensures.done c.write_doubled.ensures.kept
+
+pub returns-then-plain_len-field-clause-kept : goal.returns-then-plain_len-field-clause-kept
+returns-then-plain_len-field-clause-kept g c =
+    kept_added c.extend_from_slice.result _ _ _ c.extend_from_slice.ensures.items

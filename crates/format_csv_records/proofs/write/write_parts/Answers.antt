@@ -1,12 +1,12 @@
 use Rattle.std.proofs.Common.{◌≡◌, ◌++◌, refl, ap, ◌∙◌, append_assoc}
 use Rattle.format_csv_records.specs.Written.{bytes_of}
-use Rattle.format_csv_records.proofs.Writing.{extended, last_by}
+use Rattle.format_csv_records.proofs.Writing.{extended, kept_added, kept_on, last_by}
 use Rattle.format_csv_records.proofs.write.write_parts.Goals as goal
 
-pub returns : goal.returns
-returns g c =
-    let h = c.in_ok-write_others.ensures in
-    let k = c.in_ok-write_last.ensures in
+pub returns-clause-done : goal.returns-clause-done
+returns-clause-done g c =
+    let h = c.in_ok-write_others.ensures.done in
+    let k = c.in_ok-write_last.ensures.done in
     let old = c.args.out.now.items in
     let end = c.line_end.result.now in
     let tidy : ((old ++ h.0) ++ k.0) ++ end ≡ old ++ (h.0 ++ (k.0 ++ end)) = simp append_assoc in
@@ -24,3 +24,12 @@ returns g c =
       is_end = c.line_end.ensures;
       behind = e ∙ ap (λ l. l ++ end) (k.2 ∙ ap (λ l. l ++ k.0) h.2) ∙ tidy;
     })
+
+pub returns-clause-kept : goal.returns-clause-kept
+returns-clause-kept g c =
+    kept_on _ _ _ c.in_ok-write_others.ensures.kept (kept_on _ _ _ c.in_ok-write_last.ensures.kept
+    (kept_added c.extend_from_slice.result _ _ _ c.extend_from_slice.ensures.items))
+
+pub returns-in_err-write_last-clause-kept : goal.returns-in_err-write_last-clause-kept
+returns-in_err-write_last-clause-kept g c =
+    kept_on _ _ _ c.in_ok-write_others.ensures.kept c.in_err-write_last.ensures.kept

@@ -48,6 +48,7 @@ pub returns-then-goes_on-clause-at : goal.returns-then-goes_on-clause-at
 returns-then-goes_on-clause-at c = (
   more_at c.args.dialect _ _ _ _ _ _ c.without_comment-kept.ensures c.trim-indent.ensures.text
       c.trim-indent.ensures.indent _ c.both_at.result refl c.both_at.ensures.0,
+  λ none. absurd (first_of (search rules, cc)),
   c.both_at.ensures.1 ∙ sym c.both_at.ensures.0,
 )
 
@@ -66,4 +67,5 @@ returns-clause-said c =
 pub returns-clause-at : goal.returns-clause-at
 returns-clause-at c =
     line_ok_at c.args.dialect _ _ _ _ _ _ c.without_comment-kept.ensures
-    c.trim-indent.ensures.text c.trim-indent.ensures.indent _ c.read_own.ensures.at
+    c.trim-indent.ensures.text c.trim-indent.ensures.indent c.args.state _ _ _ c.read_own.ensures.said
+    c.read_own.ensures.at

@@ -23,7 +23,8 @@ overflow_add-at-in-Some-2-3 c =
     omega (
       arith,
       c.requires,
-      c.trim-gap.ensures.indent,
+      c.trim-blanks.ensures.indent,
+      c.gap_before-gap.ensures.few,
       indent_within behind,
       ap (λ l. length l) e,
       length-append before (mark ∷ behind),
@@ -41,7 +42,5 @@ returns-in-Some-2-clause-key c =
 pub returns-in-Some-2-clause-value : goal.returns-in-Some-2-clause-value
 returns-in-Some-2-clause-value c =
     let (mark, e, is, none) = c.in-Some.ensures in
-    pair_value c.args.dialect _ _ _ _ _ _ _ e none is c.trim-gap.ensures.text (omega (
-      arith,
-      c.trim-gap.ensures.indent,
-    ))
+    pair_value c.args.dialect _ _ _ _ _ _ _ _ _ e none is c.trim-blanks.ensures.text
+    c.trim-blanks.ensures.indent c.gap_before-gap.ensures.gap (omega arith)
