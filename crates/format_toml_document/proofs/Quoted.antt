@@ -1,0 +1,406 @@
+-- The walk over strings on one line, their escapes, and keys.
+use Rattle.std.specs.Prelude.{◌≡◌, ◌⊎◌, ◌==◌, ◌||◌, ◌<◌, ◌≤◌, ◌+◌, ◌*◌, ℕ, zero, suc, Bool, true}
+use Rattle.std.specs.Prelude.{false, List, [], ◌∷◌, ◌++◌, if◌then◌else◌}
+use Rattle.std.proofs.Common.{refl, sym, ap, subst, inl, inr, ◌∙◌, arith, append_assoc}
+use Rattle.std.proofs.lemmas.Bool.Decides.{nat_tests}
+use Rattle.grammars.specs.Texts.{BothText, InFront, MadeText, AtLeast, EachText, GatheredText, Text}
+use Rattle.grammars.specs.Texts.Fronts.{both_front, either_front, each_front, front_behind}
+use Rattle.grammars.specs.Texts.Fronts.{gathered_front, in_list_front}
+use Rattle.format_parts.specs.Hexadecimal.{IsAlone, IsHex, UnitText}
+use Rattle.format_parts.specs.Words.{Whichever, latter, pair, to_four, Between, One, for_front}
+use Rattle.format_parts.specs.Words.{former}
+use Rattle.format_toml.specs.Toml.{EscapeText, IsWide, StandsFor, BasicText, IsBare}
+use Rattle.format_toml.specs.Toml.{IsKey, IsOf, KeyText, LiteralText, NameText, Spaced}
+use Rattle.format_toml_errors.specs.Escapes.{escape_step, is_hex, more_if}
+use Rattle.format_toml_errors.specs.declared.escapes.Escape.{Escape}
+use Rattle.stream_sets.specs.Accumulator.Holds.{HasCharacters}
+use Rattle.format_toml_errors.specs.Steps.{basic_step, behind_step, in_string, is_bare}
+use Rattle.format_toml_errors.specs.Steps.{literal_step, name_step, next_step}
+use Rattle.format_toml_errors.specs.Unclosed.{last_open}
+use Rattle.format_toml_errors.specs.declared.escapes.Escaped.{Escaped}
+use Rattle.format_toml_errors.specs.declared.modes.Bracket.{Bracket}
+use Rattle.format_toml_errors.specs.declared.modes.Mode.{Mode}
+use Rattle.format_toml_errors.specs.declared.modes.Owner.{Owner}
+use Rattle.format_toml_errors.specs.declared.modes.Role.{Role}
+use Rattle.format_toml_errors.specs.declared.escapes.Escape.TheVariants as escapes
+use Rattle.format_toml_errors.specs.declared.escapes.Escaped.TheVariants as escaped
+use Rattle.format_toml.specs.declared.characters.Characters.TheVariants as sets
+use Rattle.format_toml_errors.specs.declared.modes.Mode.TheVariants as modes
+use Rattle.format_toml_errors.specs.declared.modes.Role.TheVariants as roles
+use Rattle.format_toml_errors.specs.declared.modes.Step.TheVariants as steps
+use Rattle.format_toml_document.proofs.Walks.{both_ways, one_front, At, Next, by, parted, moved}
+use Rattle.format_toml_document.proofs.Walks.{some_front, token_front, ws_front}
+
+pub stands_by : (P : ℕ → Type 0) → P 98 → P 116 → P 110 → P 102 → P 114 → P 34 → P 92
+    → (c k : ℕ) → StandsFor c k → P c
+stands_by P b t n f r q s c k (inl e) = subst P (sym e.0) b
+stands_by P b t n f r q s c k (inr (inl e)) = subst P (sym e.0) t
+stands_by P b t n f r q s c k (inr (inr (inl e))) = subst P (sym e.0) n
+stands_by P b t n f r q s c k (inr (inr (inr (inl e)))) = subst P (sym e.0) f
+stands_by P b t n f r q s c k (inr (inr (inr (inr (inl e))))) = subst P (sym e.0) r
+stands_by P b t n f r q s c k (inr (inr (inr (inr (inr (inl e)))))) = subst P (sym e.0) q
+stands_by P b t n f r q s c k (inr (inr (inr (inr (inr (inr e)))))) = subst P (sym e.0) s
+
+abbrev pub is_letter : Escape → Bool
+is_letter escapes.Letter = true
+is_letter _ = false
+
+-- ---- four digits, and their number
+
+-- a digit, and others behind it
+glue : (c : ℕ) {xs front ys zs : List ℕ} → xs ≡ front ++ ys → front ≡ c ∷ [] → ys ≡ zs
+    → xs ≡ c ∷ zs
+glue c {ys = ys} e is same = e ∙ ap (λ l. l ++ ys) is ∙ ap (λ l. c ∷ l) same
+
+record Four (u : ℕ) (xs : List ℕ) : Type 0 where
+  a : ℕ
+  b : ℕ
+  c : ℕ
+  d : ℕ
+  a-is : ℕ
+  b-is : ℕ
+  c-is : ℕ
+  d-is : ℕ
+  first : IsHex a a-is
+  second : IsHex b b-is
+  third : IsHex c c-is
+  fourth : IsHex d d-is
+  whole : xs ≡ a ∷ b ∷ c ∷ d ∷ []
+  number : u ≡ a-is * 4096 + b-is * 256 + c-is * 16 + d-is
+
+four : (u : ℕ) (xs : List ℕ) → UnitText u xs → Four u xs
+unfolding BothText MadeText Whichever
+four u xs (q, (a, r, ps, ys, (x, x-is, x-hex), (b, s, bs, zs, (y, y-is, y-hex), (c, d, cs, ds, (z, z-is, z-hex), (w, w-is, w-hex), split, third), more, second), all, first), number) =
+    let value : ℕ × ℕ × ℕ × ℕ → ℕ = λ p. p.0 * 4096 + p.1 * 256 + p.2 * 16 + p.3 in
+    record {
+      a = x;
+      b = y;
+      c = z;
+      d = w;
+      a-is = a;
+      b-is = b;
+      c-is = c;
+      d-is = d;
+      first = x-hex;
+      second = y-hex;
+      third = z-hex;
+      fourth = w-hex;
+      whole = glue x all x-is (glue y more y-is (glue z split z-is w-is));
+      number = number ∙ ap value (first ∙ ap (λ (t : ℕ × (ℕ × ℕ)). to_four a t)
+          (second ∙ ap (λ (t : ℕ × ℕ). (b, t)) third));
+    }
+
+hex_below : (c d : ℕ) → IsHex c d → d < 16
+hex_below c d is = grind (arith, is)
+
+hex_is : (c d : ℕ) → IsHex c d → is_hex c ≡ true
+hex_is c d is = grind (arith, nat_tests, is)
+
+hex_goes : (c d : ℕ) (e : Escape) → IsHex c d → more_if (is_hex c) e ≡ escaped.More e
+hex_goes c d e is = ap (λ b. more_if b e) (hex_is c d is)
+
+zero_is : (c : ℕ) → IsHex c 0 → c ≡ 48
+zero_is c is = grind (arith, is)
+
+one_is : (c : ℕ) → IsHex c 1 → c ≡ 49
+one_is c is = grind (arith, is)
+
+-- the first of four digits that are no surrogate
+first_goes : (c d : ℕ) → IsHex c d
+    → ((d ≡ 13) × (escape_step escapes.Unit c ≡ escaped.More escapes.AfterD))
+    ⊎ (escape_step escapes.Unit c ≡ escaped.More escapes.Three)
+first_goes c d is = elim (both_ways (c == 68 || c == 100)) [
+  | inl e ↦ inl (
+    grind (arith, nat_tests, is, e),
+    ap (λ b. if b then escaped.More escapes.AfterD else more_if (is_hex c) escapes.Three) e,
+  )
+  | inr e ↦ inr (
+      ap (λ b. if b then escaped.More escapes.AfterD else more_if (is_hex c) escapes.Three) e
+      ∙ hex_goes c d escapes.Three is)
+]
+
+second_goes : (c d : ℕ) → IsHex c d → d < 8
+    → escape_step escapes.AfterD c ≡ escaped.More escapes.Two
+second_goes c d is less = grind (arith, nat_tests, is, less)
+
+-- the first of the digits before the last four, other than zeros
+fifth_goes : (c d : ℕ) → IsHex c (suc d)
+    → escape_step escapes.Five c ≡ escaped.More escapes.Four
+fifth_goes c d is = grind (arith, nat_tests, is)
+
+-- ---- escapes
+
+-- `Escaping on behind`: after a backslash, an escape leads to `behind`.
+pub record Escaping (on : Escape → List ℕ → Type 0) (behind : List ℕ → Type 0) : Type 0 where
+  pub letter : (c k : ℕ) (l : List ℕ) → StandsFor c k → behind l → on escapes.Letter (c ∷ l)
+  pub unit : (l : List ℕ) → on escapes.Unit l → on escapes.Letter (117 ∷ l)
+  pub wide : (l : List ℕ) → on escapes.Eight l → on escapes.Letter (85 ∷ l)
+  pub more : (e f : Escape) (c : ℕ) (l : List ℕ) → is_letter e ≡ false
+      → escape_step e c ≡ escaped.More f → on f l → on e (c ∷ l)
+  pub done : (c : ℕ) (l : List ℕ) → is_hex c ≡ true → behind l → on escapes.One (c ∷ l)
+
+module _ {on : Escape → List ℕ → Type 0} {behind : List ℕ → Type 0} (s : Escaping on behind) where
+  -- the last two, three and four digits
+  two : (c d c-is d-is : ℕ) (l : List ℕ) → IsHex c c-is → IsHex d d-is → behind l
+      → on escapes.Two (c ∷ d ∷ l)
+  two c d c-is d-is l is last x =
+      s.more escapes.Two escapes.One c (d ∷ l) refl (hex_goes c c-is escapes.One is)
+      (s.done d l (hex_is d d-is last) x)
+
+  three : (u : ℕ) (xs : List ℕ) (q : Four u xs) (l : List ℕ) → behind l
+      → on escapes.Three (q.b ∷ q.c ∷ q.d ∷ l)
+  three u xs q l x =
+      s.more escapes.Three escapes.Two q.b (q.c ∷ q.d ∷ l) refl
+      (hex_goes q.b q.b-is escapes.Two q.second)
+      (two q.c q.d q.c-is q.d-is l q.third q.fourth x)
+
+  any : (u : ℕ) (xs l : List ℕ) → Four u xs → behind l → on escapes.Four (xs ++ l)
+  any u xs l q x =
+      moved (λ k. on escapes.Four k) l q.whole
+      (s.more escapes.Four escapes.Three q.a (q.b ∷ q.c ∷ q.d ∷ l) refl
+      (hex_goes q.a q.a-is escapes.Three q.first) (three u xs q l x))
+
+  alone : (u c : ℕ) (xs l : List ℕ) → Four u xs → IsAlone u c → behind l
+      → on escapes.Unit (xs ++ l)
+  alone u c xs l q (same, is) x =
+      moved (λ k. on escapes.Unit k) l q.whole (elim (first_goes q.a q.a-is q.first) [
+        | inl (thirteen, e) ↦
+            s.more escapes.Unit escapes.AfterD q.a (q.b ∷ q.c ∷ q.d ∷ l) refl e
+            (s.more escapes.AfterD escapes.Two q.b (q.c ∷ q.d ∷ l) refl
+            (second_goes q.b q.b-is q.second (low thirteen is))
+            (two q.c q.d q.c-is q.d-is l q.third q.fourth x))
+        | inr e ↦
+            s.more escapes.Unit escapes.Three q.a (q.b ∷ q.c ∷ q.d ∷ l) refl e
+            (three u xs q l x)
+      ])
+    where
+      low : q.a-is ≡ 13 → (u < 55296) ⊎ ((57344 ≤ u) × (u ≤ 1114111)) → q.b-is < 8
+      low thirteen (inl less) = omega (arith, thirteen, less, q.number)
+      low thirteen (inr (least, most)) =
+          absurd (omega (
+            arith,
+            thirteen,
+            least,
+            q.number,
+            hex_below q.b q.b-is q.second,
+            hex_below q.c q.c-is q.third,
+            hex_below q.d q.d-is q.fourth,
+          ))
+
+  at : (e : Escape) {b c : ℕ} → c ≡ b → escape_step e c ≡ escape_step e b
+  at e is = ap (λ b. escape_step e b) is
+
+  -- the third and the fourth of eight digits
+  six : (c d c-is d-is : ℕ) (l : List ℕ) → IsHex c c-is → IsHex d d-is → c-is * 16 + d-is ≤ 16
+      → (c-is * 16 + d-is ≡ 0 → on escapes.Unit l) → on escapes.Four l → on escapes.Six (c ∷ d ∷ l)
+  six c d zero zero l is last few unit any =
+      s.more escapes.Six escapes.Five c (d ∷ l) refl (at escapes.Six (zero_is c is))
+      (s.more escapes.Five escapes.Unit d l refl (at escapes.Five (zero_is d last)) (unit refl))
+  six c d zero (suc n) l is last few unit any =
+      s.more escapes.Six escapes.Five c (d ∷ l) refl (at escapes.Six (zero_is c is))
+      (s.more escapes.Five escapes.Four d l refl (fifth_goes d n last) any)
+  six c d (suc zero) zero l is last few unit any =
+      s.more escapes.Six escapes.FiveHigh c (d ∷ l) refl (at escapes.Six (one_is c is))
+      (s.more escapes.FiveHigh escapes.Four d l refl (at escapes.FiveHigh (zero_is d last)) any)
+  six c d (suc zero) (suc n) l is last few unit any = absurd (omega (arith, few))
+  six c d (suc (suc m)) n l is last few unit any = absurd (omega (arith, few))
+
+  -- eight digits, from 0 to 10FFFF
+  eight : (u v c : ℕ) (xs ys l : List ℕ) → Four u xs → Four v ys → IsWide (u, v) c → behind l
+      → on escapes.Eight (xs ++ (ys ++ l))
+  eight u v c xs ys l q r (same, is) x =
+      let small : u ≤ 16 = elim is [
+        | inl less ↦ omega (arith, less)
+        | inr between ↦ omega (arith, between.1)
+      ] in
+      let number = q.number in
+      let first : q.a-is ≡ 0 = omega (arith, small, number) in
+      let second : q.b-is ≡ 0 = omega (arith, small, number) in
+      let P : List ℕ → Type 0 = λ k. on escapes.Eight (k ++ (ys ++ l)) in
+      let H : ℕ → ℕ → Type 0 = λ b d. IsHex b d in
+      subst P (sym q.whole)
+      (s.more escapes.Eight escapes.Seven q.a (q.b ∷ q.c ∷ q.d ∷ (ys ++ l)) refl
+      (at escapes.Eight (zero_is q.a (subst (λ d. H q.a d) first q.first)))
+      (s.more escapes.Seven escapes.Six q.b (q.c ∷ q.d ∷ (ys ++ l)) refl
+      (at escapes.Seven (zero_is q.b (subst (λ d. H q.b d) second q.second)))
+      (six q.c q.d q.c-is q.d-is (ys ++ l) q.third q.fourth (omega (arith, small, number))
+      (λ none. alone v v ys l r (refl, short none) x) (any v ys l r x))))
+    where
+      short : q.c-is * 16 + q.d-is ≡ 0 → (v < 55296) ⊎ ((57344 ≤ v) × (v ≤ 1114111))
+      short none = elim is [
+        | inl less ↦ inl (omega (arith, less))
+        | inr between ↦ inr (omega (arith, between, none), omega (arith, between))
+      ]
+
+  pub escape_front : InFront EscapeText behind (λ l. on escapes.Letter l)
+  unfolding BothText MadeText Whichever
+  escape_front =
+      either_front
+      (both_front latter (one_front {behind = λ l. on escapes.Unit l} 117 (λ l x. s.unit l x))
+      (record {
+        makes = λ c xs rest (u, text, is) x. alone u c xs rest (four u xs text) is x;
+      }))
+      (either_front
+      (both_front latter (one_front {behind = λ l. on escapes.Eight l} 85 (λ l x. s.wide l x))
+      (record {
+        makes = λ c xs rest (both, (u, v, ps, qs, first, second, split, joins), is) x.
+            let P : List ℕ → Type 0 = λ l. on escapes.Eight (l ++ rest) in
+            let Q : ℕ × ℕ → Type 0 = λ p. IsWide p c in
+            let R : List ℕ → Type 0 = λ l. on escapes.Eight l in
+            subst P (sym split) (subst R (sym (append_assoc ps qs rest))
+            (eight u v c ps qs rest (four u ps first) (four v qs second) (subst Q joins is) x));
+      }))
+      (record {
+        makes = λ k xs rest (c, split, is) x.
+            moved (λ l. on escapes.Letter l) rest split (s.letter c k rest is x);
+      }))
+
+-- a text between two quotation marks
+quoted_front : {A : Type 0} {content : Text ℕ (List ℕ)} {behind inside whole : List ℕ → Type 0}
+    (quote : ℕ) → ((l : List ℕ) → inside l → whole (quote ∷ l)) → InFront content inside inside
+    → ((l : List ℕ) → behind l → inside (quote ∷ l))
+    → InFront (Between (One quote) (GatheredText (HasCharacters {A = A}) content) (One quote))
+    behind whole
+quoted_front quote opens inner ends =
+    both_front latter (one_front quote opens)
+    (both_front former (gathered_front HasCharacters inner) (one_front quote ends))
+
+module _ (level : ℕ) (held : List Bracket) (role : Role) (mode : Mode) where
+  -- in a basic string, or in the mode that a string begins with
+  abbrev pub InBasic : List ℕ → Type 0
+  InBasic l = At level (modes.Basic role) held l × At level mode held l
+
+  escaping : Escaping (λ e l. At level (modes.Escaped role e) held l)
+      (λ l. At level (modes.Basic role) held l)
+  escaping = record {
+    letter = λ c k l is x.
+        let P : ℕ → Type 0 = λ b.
+        At level (modes.Escaped role escapes.Letter) held (b ∷ l) in
+        stands_by P x x x x x x x c k is;
+    unit = λ l x. x;
+    wide = λ l x. x;
+    more = λ e f c l not is x.
+        let P : Escaped → Type 0 = λ s. Next level held l (in_string role s) in
+        subst P (sym is) x;
+    done = λ c l is x.
+        let P : Bool → Type 0 = λ b.
+        Next level held l (in_string role (if b then escaped.Done else escaped.Invalid)) in
+        subst P (sym is) x;
+  }
+
+  basic_goes : (c : ℕ) → IsOf sets.Basic c → basic_step role c ≡ steps.Goes (modes.Basic role)
+  basic_goes c is = grind (arith, nat_tests, is)
+
+  pub basic_front : {A : Type 0} {behind whole : List ℕ → Type 0}
+      → ((c : ℕ) → (c ≡ 34 → ⊥) → next_step mode (last_open held) c ≡ basic_step role c)
+      → ((l : List ℕ) → InBasic l → whole (34 ∷ l))
+      → ((l : List ℕ) → behind l → InBasic (34 ∷ l)) → InFront (BasicText {A = A}) behind whole
+  basic_front same opens ends =
+      quoted_front 34 opens
+      (each_front (either_front (token_front (λ c l is x. (
+        by level held l (basic_goes c is) x.0,
+        by level held l (same c is.1.0 ∙ basic_goes c is) x.0,
+      )))
+      (both_front latter
+      (one_front {behind = λ l. At level (modes.Escaped role escapes.Letter) held l} 92
+      (λ l x. (x, by level held l (same 92 (λ e. omega (arith, e))) x)))
+      (front_behind (λ l x. x.0) (escape_front escaping)))))
+      ends
+
+  -- and likewise a literal string
+  abbrev pub InLiteral : List ℕ → Type 0
+  InLiteral l = At level (modes.Literal role) held l × At level mode held l
+
+  literal_goes : (c : ℕ) → IsOf sets.Literal c
+      → literal_step role c ≡ steps.Goes (modes.Literal role)
+  literal_goes c is = grind (arith, nat_tests, is)
+
+  pub literal_front : {A : Type 0} {behind whole : List ℕ → Type 0}
+      → ((c : ℕ) → (c ≡ 39 → ⊥) → next_step mode (last_open held) c ≡ literal_step role c)
+      → ((l : List ℕ) → InLiteral l → whole (39 ∷ l))
+      → ((l : List ℕ) → behind l → InLiteral (39 ∷ l))
+      → InFront (LiteralText {A = A}) behind whole
+  literal_front same opens ends =
+      quoted_front 39 opens
+      (each_front (token_front (λ c l is x. (
+        by level held l (literal_goes c is) x.0,
+        by level held l (same c is.1 ∙ literal_goes c is) x.0,
+      ))))
+      ends
+
+-- ---- keys
+
+-- a character that a name of a key begins with
+abbrev pub BeginsName : ℕ → Type 0
+BeginsName c = (c ≡ 34) ⊎ ((c ≡ 39) ⊎ IsBare c)
+
+bare_is : (c : ℕ) → IsBare c → is_bare c ≡ true
+bare_is c is = grind (arith, nat_tests, is)
+
+bare_name : (owner : Owner) (c : ℕ) → IsBare c
+    → name_step owner c ≡ steps.Goes (modes.Bare owner)
+bare_name owner c is = grind (arith, nat_tests, is)
+
+-- at least one
+each_some : {O : Type 0} {text : Text ℕ O} {behind whole : List ℕ → Type 0}
+    → InFront text behind whole → InFront text behind behind
+    → InFront (AtLeast 1 (EachText text)) behind whole
+unfolding EachText
+each_some {O} {text} {behind} {whole} first next = record { makes = makes }
+  where
+    makes : (os : List O) (tokens rest : List ℕ) → AtLeast 1 (EachText text) os tokens
+        → behind rest → whole (tokens ++ rest)
+    makes [] tokens rest (x, least) b = absurd (omega (arith, least))
+    makes (o ∷ os) tokens rest ((xs, ys, x, more, e), least) b =
+        parted whole xs ys rest e
+        (first.makes o xs (ys ++ rest) x ((each_front next).makes os ys rest more b))
+
+module _ (level : ℕ) (held : List Bracket) (owner : Owner) where
+  -- after a name of a key
+  abbrev pub BehindName : List ℕ → Type 0
+  BehindName l = At level (modes.Behind owner) held l × At level (modes.Bare owner) held l
+
+  bare_goes : (c : ℕ) (l : List ℕ) → IsBare c → At level (modes.Bare owner) held l
+      → At level (modes.Bare owner) held (c ∷ l)
+  bare_goes c l is x =
+      by level held l
+      (ap (λ b. if b then steps.Goes (modes.Bare owner) else behind_step owner c) (bare_is c is)) x
+
+  module _ (mode : Mode)
+      (begins : (c : ℕ) → BeginsName c → next_step mode (last_open held) c ≡ name_step owner c)
+    where
+      name_front : {A : Type 0}
+          → InFront (NameText {A = A}) BehindName (λ l. At level mode held l)
+      name_front =
+          either_front
+          (basic_front level held (roles.Name owner) (modes.Basic (roles.Name owner))
+          (λ c not. refl) (λ l x. by level held l (begins 34 (inl refl)) x.0) (λ l x. (x.0, x.0)))
+          (either_front
+          (literal_front level held (roles.Name owner) (modes.Literal (roles.Name owner))
+          (λ c not. refl) (λ l x. by level held l (begins 39 (inr (inl refl))) x.0)
+          (λ l x. (x.0, x.0)))
+          (front_behind (λ l x. x.1) (gathered_front HasCharacters (each_some
+          (token_front (λ c l is x.
+          by level held l (begins c (inr (inr is)) ∙ bare_name owner c is) x))
+          (token_front (λ c l is x. bare_goes c l is x))))))
+
+      spaced_name : {A : Type 0}
+          → InFront (Spaced (NameText {A = A})) BehindName (λ l. At level mode held l)
+      spaced_name =
+          both_front former name_front
+          (ws_front {tokens = BehindName} (λ l x. (x.0, x.0)) (λ l x. (x.0, x.0)))
+
+  pub later_begins : (c : ℕ) → BeginsName c
+      → next_step (modes.Name owner) (last_open held) c ≡ name_step owner c
+  later_begins c is = grind (arith, nat_tests, is)
+
+  -- a key, and a dot between its names
+  pub key_front : {A : Type 0} (mode : Mode)
+      → ((c : ℕ) → BeginsName c → next_step mode (last_open held) c ≡ name_step owner c)
+      → InFront (KeyText {A = A}) BehindName (λ l. At level mode held l)
+  key_front mode begins =
+      for_front IsKey (in_list_front (some_front
+      (both_front pair
+      (one_front {behind = λ l. At level (modes.Name owner) held l} 46 (λ l x. (x, x)))
+      (ws_front {tokens = λ l. At level (modes.Name owner) held l} (λ l x. x) (λ l x. x)))
+      (spaced_name mode begins) (spaced_name (modes.Name owner) later_begins)))
