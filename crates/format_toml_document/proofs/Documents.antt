@@ -1,6 +1,6 @@
 -- The walk over values, lines and documents.
-use Rattle.std.specs.Prelude.{◌≡◌, ◌<◌, ◌≤◌, ◌+◌, ⊤, ℕ, zero, suc, true, false, List, ◌∷◌}
-use Rattle.std.specs.Prelude.{◌++◌, length, ◌==◌, Option, [], if◌then◌else◌}
+use Rattle.std.specs.Prelude.{◌≡◌, ◌<◌, ◌≤◌, ◌+◌, ⊤, ℕ, zero, suc, true, false, List, ◌∷◌, ◌++◌}
+use Rattle.std.specs.Prelude.{length, ◌==◌, Option, [], if◌then◌else◌}
 use Rattle.std.proofs.Common.{inl, inr, arith, ◌∙◌, ap, refl, subst, sym}
 use Rattle.std.proofs.lemmas.Bool.Decides.{nat_tests}
 use Rattle.std.specs.declared.vec.Vec.{Vec}
@@ -12,10 +12,9 @@ use Rattle.format_parts.specs.Words.{for_front, former, latter, pair}
 use Rattle.format_toml.specs.Floats.{FloatText}
 use Rattle.format_toml.specs.Toml.{ArrayText, CommentText, GapText, Gapped, InlineText, IsArray}
 use Rattle.format_toml.specs.Toml.{IsBoolean, Spaced, IsInline, IsInteger, IsShown, IsText}
-use Rattle.format_toml.specs.Toml.{MeansDateTime, MeansFloat, PairText, ScalarText}
-use Rattle.format_toml.specs.Toml.{ValueText, WideMarkText, false_word, true_word, DocumentText}
-use Rattle.format_toml.specs.Toml.{IsBare, IsEntry, IsTable, IsTables, ItemText, LineText}
-use Rattle.format_toml.specs.Toml.{TableText}
+use Rattle.format_toml.specs.Toml.{MeansDateTime, MeansFloat, PairText, ScalarText, ValueText}
+use Rattle.format_toml.specs.Toml.{WideMarkText, false_word, true_word, DocumentText, IsBare}
+use Rattle.format_toml.specs.Toml.{IsEntry, IsTable, IsTables, ItemText, LineText, TableText}
 use Rattle.format_toml_errors.specs.Steps.{comment_step, name_step, next_step, else_line, in_line}
 use Rattle.format_toml_errors.specs.Unclosed.{last_open}
 use Rattle.format_toml_errors.specs.declared.modes.Bracket.{Bracket}
@@ -35,9 +34,9 @@ use Rattle.format_toml_document.proofs.Walks.{newline_front, one_front, some_fro
 use Rattle.format_toml_document.proofs.Walks.{spelled_front, token_front, ws_front, Started}
 use Rattle.format_toml_document.proofs.Walks.{accepted, viable_front}
 use Rattle.format_toml_document.proofs.Days.{date_starts}
-use Rattle.format_toml_document.proofs.Long.{any_basic_front, any_literal_front}
+use Rattle.format_toml_document.proofs.Long.{any_basic_front, any_literal_front, BeginsName}
+use Rattle.format_toml_document.proofs.Long.{BehindName, key_front, later_begins}
 use Rattle.format_toml_document.proofs.Numbers.{float_starts, integer_starts}
-use Rattle.format_toml_document.proofs.Quoted.{BeginsName, BehindName, key_front, later_begins}
 
 comment_goes : (gap : Gap) (c : ℕ) → IsShown c
     → comment_step gap c ≡ steps.Goes (modes.Comment gap)
@@ -281,7 +280,8 @@ module _ (level : ℕ) where
   walked lines tokens text =
       let front = in_list_front (some_front {item = λ l. At level modes.Line [] l} {after = Ending}
       (newline_front (λ l x. (x, x, x)) (λ l x. (x, x, x))) line_front line_front) in
-      subst (λ l. At level modes.Line [] l) (append-nil tokens) (front.makes lines tokens [] text (refl, refl, refl))
+      subst (λ l. At level modes.Line [] l) (append-nil tokens)
+            (front.makes lines tokens [] text (refl, refl, refl))
 
   pub document_accepted : {A : Type 0} (lines : Vec (Option (Item A)) A) (tokens : List ℕ)
       → DocumentText level lines tokens → IsAccepted level tokens

@@ -1,27 +1,30 @@
--- The walk over strings.
-use Rattle.std.specs.Prelude.{◌≡◌, ◌⊎◌, ◌&&◌, ◌≤◌, ◌+◌, ℕ, suc, Bool, true, false, nat_le}
-use Rattle.std.specs.Prelude.{nat_lt, ⊤, List, [], ◌∷◌, ◌++◌, if◌then◌else◌}
+-- The walk over strings of values, and over keys.
+use Rattle.std.specs.Prelude.{◌≡◌, ◌⊎◌, ◌&&◌, ◌≤◌, ◌+◌, ℕ, suc, Bool, true, false, nat_le, nat_lt}
+use Rattle.std.specs.Prelude.{⊤, List, [], ◌∷◌, ◌++◌, if◌then◌else◌}
 use Rattle.std.proofs.Common.{refl, sym, ap, subst, inl, inr, ◌∙◌, arith}
 use Rattle.std.proofs.lemmas.Bool.{eq-eqb, ne_eqb}
 use Rattle.std.proofs.lemmas.Bool.Decides.{nat_tests}
 use Rattle.stream_sets.specs.Accumulator.Holds.{HasCharacters}
-use Rattle.grammars.specs.Texts.{EachText, EitherText, GatheredText, InFront, Text}
-use Rattle.grammars.specs.Texts.{TokenOfText}
+use Rattle.grammars.specs.Texts.{EachText, EitherText, GatheredText, InFront, Text, TokenOfText}
+use Rattle.grammars.specs.Texts.{AtLeast}
 use Rattle.grammars.specs.Texts.Fronts.{both_front, each_front, either_front, front_whole}
-use Rattle.grammars.specs.Texts.Fronts.{gathered_front}
-use Rattle.format_parts.specs.Words.{former, latter, pair}
+use Rattle.grammars.specs.Texts.Fronts.{gathered_front, front_behind, in_list_front}
+use Rattle.format_parts.specs.Words.{former, latter, pair, for_front}
 use Rattle.format_toml.specs.LongTexts.{BodyText, DelimiterText, LongText, Trimmed, one_and_two}
 use Rattle.format_toml.specs.LongTexts.{room_behind}
 use Rattle.format_toml.specs.Toml.{AnyBasicText, AnyLiteralText, CharacterText, EscapedLineText}
-use Rattle.format_toml.specs.Toml.{EscapedLines, IsOf, NewlineText}
+use Rattle.format_toml.specs.Toml.{EscapedLines, IsOf, NewlineText, IsBare, IsKey, KeyText}
+use Rattle.format_toml.specs.Toml.{NameText, Spaced}
 use Rattle.format_toml_errors.specs.Escapes.{escape_step}
 use Rattle.format_toml_errors.specs.Steps.{after_step, content_step, in_long, long_step, mark_of}
-use Rattle.format_toml_errors.specs.Steps.{next_step, string_step}
+use Rattle.format_toml_errors.specs.Steps.{next_step, string_step, behind_step, is_bare, name_step}
 use Rattle.format_toml_errors.specs.Unclosed.{last_open}
 use Rattle.format_toml_errors.specs.declared.escapes.Escape.{Escape}
 use Rattle.format_toml_errors.specs.declared.escapes.Escaped.{Escaped}
 use Rattle.format_toml_errors.specs.declared.modes.Bracket.{Bracket}
 use Rattle.format_toml_errors.specs.declared.modes.Mark.{Mark}
+use Rattle.format_toml_errors.specs.declared.modes.Mode.{Mode}
+use Rattle.format_toml_errors.specs.declared.modes.Owner.{Owner}
 use Rattle.format_toml.specs.declared.characters.Characters.TheVariants as sets
 use Rattle.format_toml_errors.specs.declared.escapes.Escape.TheVariants as escapes
 use Rattle.format_toml_errors.specs.declared.escapes.Escaped.TheVariants as escaped
@@ -31,7 +34,7 @@ use Rattle.format_toml_errors.specs.declared.modes.Role.TheVariants as roles
 use Rattle.format_toml_errors.specs.declared.modes.Step.TheVariants as steps
 use Rattle.format_toml_document.proofs.Walks.{At, Next, by, moved, newline_front, one_front, parted}
 use Rattle.format_toml_document.proofs.Walks.{space_by, token_front, ws_front, Started, after_done}
-use Rattle.format_toml_document.proofs.Walks.{true_not_false}
+use Rattle.format_toml_document.proofs.Walks.{true_not_false, some_front}
 use Rattle.format_toml_document.proofs.Quoted.{Escaping, escape_front, is_letter, stands_by}
 use Rattle.format_toml_document.proofs.Quoted.{basic_front, literal_front}
 
@@ -204,7 +207,8 @@ module _ (level : ℕ) (held : List Bracket) where
   escaped_line : InFront EscapedLineText BasicAt (Any marks.Basic)
   escaped_line =
       both_front latter
-      (one_front {behind = Slash} 92 (λ l x. content_by marks.Basic 92 l (λ e. omega (arith, e)) x.0))
+      (one_front {behind = Slash} 92
+              (λ l x. content_by marks.Basic 92 l (λ e. omega (arith, e)) x.0))
       (both_front latter (ws_front {tokens = Slash} (λ l x. (x.1, x.1)) (λ l x. (x.1, x.1)))
       (both_front latter (newline_front {behind = BasicAt} (λ l x. (x, x)) (λ l x. (x, x)))
       (gathered_front (λ all parts. ⊤) (each_front (either_front
@@ -253,3 +257,80 @@ module _ (level : ℕ) (held : List Bracket) where
       (literal_front level held roles.Value (modes.Quote marks.Literal) (quote_same marks.Literal)
       (λ l x. (x.1, x.1))
       (λ l x. (x, after_done level held l x (modes.Quotes marks.Literal) refl)))
+
+-- ---- keys
+
+-- a character that a name of a key begins with
+abbrev pub BeginsName : ℕ → Type 0
+BeginsName c = (c ≡ 34) ⊎ ((c ≡ 39) ⊎ IsBare c)
+
+bare_is : (c : ℕ) → IsBare c → is_bare c ≡ true
+bare_is c is = grind (arith, nat_tests, is)
+
+bare_name : (owner : Owner) (c : ℕ) → IsBare c
+    → name_step owner c ≡ steps.Goes (modes.Bare owner)
+bare_name owner c is = grind (arith, nat_tests, is)
+
+-- at least one
+each_some : {O : Type 0} {text : Text ℕ O} {behind whole : List ℕ → Type 0}
+    → InFront text behind whole → InFront text behind behind
+    → InFront (AtLeast 1 (EachText text)) behind whole
+unfolding EachText
+each_some {O} {text} {behind} {whole} first next = record { makes = makes }
+  where
+    makes : (os : List O) (tokens rest : List ℕ) → AtLeast 1 (EachText text) os tokens
+        → behind rest → whole (tokens ++ rest)
+    makes [] tokens rest (x, least) b = absurd (omega (arith, least))
+    makes (o ∷ os) tokens rest ((xs, ys, x, more, e), least) b =
+        parted whole xs ys rest e
+        (first.makes o xs (ys ++ rest) x ((each_front next).makes os ys rest more b))
+
+module _ (level : ℕ) (held : List Bracket) (owner : Owner) where
+  -- after a name of a key
+  abbrev pub BehindName : List ℕ → Type 0
+  BehindName l = At level (modes.Behind owner) held l × At level (modes.Bare owner) held l
+
+  bare_goes : (c : ℕ) (l : List ℕ) → IsBare c → At level (modes.Bare owner) held l
+      → At level (modes.Bare owner) held (c ∷ l)
+  bare_goes c l is x =
+      by level held l
+      (ap (λ b. if b then steps.Goes (modes.Bare owner) else behind_step owner c) (bare_is c is)) x
+
+  module _ (mode : Mode)
+      (begins : (c : ℕ) → BeginsName c → next_step mode (last_open held) c ≡ name_step owner c)
+    where
+      name_front : {A : Type 0}
+          → InFront (NameText {A = A}) BehindName (λ l. At level mode held l)
+      name_front =
+          either_front
+          (basic_front level held (roles.Name owner) (modes.Basic (roles.Name owner))
+          (λ c not. refl) (λ l x. by level held l (begins 34 (inl refl)) x.0) (λ l x. (x.0, x.0)))
+          (either_front
+          (literal_front level held (roles.Name owner) (modes.Literal (roles.Name owner))
+          (λ c not. refl) (λ l x. by level held l (begins 39 (inr (inl refl))) x.0)
+          (λ l x. (x.0, x.0)))
+          (front_behind (λ l x. x.1) (gathered_front HasCharacters (each_some
+          (token_front (λ c l is x.
+          by level held l (begins c (inr (inr is)) ∙ bare_name owner c is) x))
+          (token_front (λ c l is x. bare_goes c l is x))))))
+
+      spaced_name : {A : Type 0}
+          → InFront (Spaced (NameText {A = A})) BehindName (λ l. At level mode held l)
+      spaced_name =
+          both_front former name_front
+          (ws_front {tokens = BehindName} (λ l x. (x.0, x.0)) (λ l x. (x.0, x.0)))
+
+  pub later_begins : (c : ℕ) → BeginsName c
+      → next_step (modes.Name owner) (last_open held) c ≡ name_step owner c
+  later_begins c is = grind (arith, nat_tests, is)
+
+  -- a key, and a dot between its names
+  pub key_front : {A : Type 0} (mode : Mode)
+      → ((c : ℕ) → BeginsName c → next_step mode (last_open held) c ≡ name_step owner c)
+      → InFront (KeyText {A = A}) BehindName (λ l. At level mode held l)
+  key_front mode begins =
+      for_front IsKey (in_list_front (some_front
+      (both_front pair
+      (one_front {behind = λ l. At level (modes.Name owner) held l} 46 (λ l x. (x, x)))
+      (ws_front {tokens = λ l. At level (modes.Name owner) held l} (λ l x. x) (λ l x. x)))
+      (spaced_name mode begins) (spaced_name (modes.Name owner) later_begins)))

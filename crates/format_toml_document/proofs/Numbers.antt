@@ -113,12 +113,14 @@ module _ (level : ℕ) (held : List Bracket) where
   unfolding NumberText
   based base m tokens l (ds, text, is) few x =
       let P : ℕ → Type 0 = λ n. (n < 9223372036854775808) × Fig (figures.Based base n) l in
-      digits_front (number_of base) (λ n k. (n < 9223372036854775808) × Fig (figures.Based base n) k)
+      digits_front (number_of base)
+            (λ n k. (n < 9223372036854775808) × Fig (figures.Based base n) k)
       (λ n k. (n < limit_of base) × Fig (figures.BasedMark base n) k)
       (λ n c k less y. (
         (
           limited base n (below base n (digit_value c) y.0),
-          figure (figures.Based base n) (figures.Based base (n * number_of base + digit_value c)) c k
+          figure (figures.Based base n)
+                (figures.Based base (n * number_of base + digit_value c)) c k
               (ap (λ b. if b then figure_if (nat_lt n (limit_of base)) (figures.BasedMark base n)
               else base_step base n c) (ne_eqb c 95 (no_mark base c less))
               ∙ digit_goes base n c less y.0) y.1,
@@ -165,7 +167,8 @@ module _ (level : ℕ) (held : List Bracket) where
         figure figures.Digits figures.Digits c k (more_goes c less) y,
         figure figures.Power figures.Digits c k (power_goes c less) y,
       ))
-      (λ n k y. y) (λ k. Fig f k) (λ c k less y. figure f figures.Digits c k (goes c less) y) ds tokens l text x
+      (λ n k y. y) (λ k. Fig f k) (λ c k less y. figure f figures.Digits c k (goes c less) y) ds
+            tokens l text x
 
   power : (tokens l : List ℕ) → Signed AreDigits tokens → Behind l
       → Fig figures.Exponent (tokens ++ l)
@@ -370,5 +373,7 @@ module _ (level : ℕ) (held : List Bracket) where
           (subst (λ k. UnsignedText k ys) (sym joins) t) (fits_least m few) few x in
           moved (Started level held) l (split ∙ ap (λ k. k ++ ys) a) (y, y)
       by_kind (inr (m, inl t, e)) = based_starts bases.Hex m tokens l t (fitting (pos m) e) x
-      by_kind (inr (m, inr (inl t), e)) = based_starts bases.Octal m tokens l t (fitting (pos m) e) x
-      by_kind (inr (m, inr (inr t), e)) = based_starts bases.Binary m tokens l t (fitting (pos m) e) x
+      by_kind (inr (m, inr (inl t), e)) =
+          based_starts bases.Octal m tokens l t (fitting (pos m) e) x
+      by_kind (inr (m, inr (inr t), e)) =
+          based_starts bases.Binary m tokens l t (fitting (pos m) e) x

@@ -1,35 +1,34 @@
--- The walk over strings on one line, their escapes, and keys.
-use Rattle.std.specs.Prelude.{◌≡◌, ◌⊎◌, ◌==◌, ◌||◌, ◌<◌, ◌≤◌, ◌+◌, ◌*◌, ℕ, zero, suc, Bool, true}
+-- The walk over strings on one line, and their escapes.
+use Rattle.std.specs.Prelude.{◌≡◌, ◌⊎◌, ◌==◌, ◌||◌, ◌<◌, ◌≤◌, ◌+◌, ◌*◌, ℕ, zero, suc}
+use Rattle.std.specs.Prelude.{Bool, true}
 use Rattle.std.specs.Prelude.{false, List, [], ◌∷◌, ◌++◌, if◌then◌else◌}
 use Rattle.std.proofs.Common.{refl, sym, ap, subst, inl, inr, ◌∙◌, arith, append_assoc}
 use Rattle.std.proofs.lemmas.Bool.Decides.{nat_tests}
-use Rattle.grammars.specs.Texts.{BothText, InFront, MadeText, AtLeast, EachText, GatheredText, Text}
+use Rattle.grammars.specs.Texts.{BothText, InFront, MadeText, GatheredText, Text}
 use Rattle.grammars.specs.Texts.Fronts.{both_front, either_front, each_front, front_behind}
-use Rattle.grammars.specs.Texts.Fronts.{gathered_front, in_list_front}
+use Rattle.grammars.specs.Texts.Fronts.{gathered_front}
 use Rattle.format_parts.specs.Hexadecimal.{IsAlone, IsHex, UnitText}
-use Rattle.format_parts.specs.Words.{Whichever, latter, pair, to_four, Between, One, for_front}
+use Rattle.format_parts.specs.Words.{Whichever, latter, to_four, Between, One}
 use Rattle.format_parts.specs.Words.{former}
-use Rattle.format_toml.specs.Toml.{EscapeText, IsWide, StandsFor, BasicText, IsBare}
-use Rattle.format_toml.specs.Toml.{IsKey, IsOf, KeyText, LiteralText, NameText, Spaced}
+use Rattle.format_toml.specs.Toml.{EscapeText, IsWide, StandsFor, BasicText}
+use Rattle.format_toml.specs.Toml.{IsOf, LiteralText}
 use Rattle.format_toml_errors.specs.Escapes.{escape_step, is_hex, more_if}
 use Rattle.format_toml_errors.specs.declared.escapes.Escape.{Escape}
 use Rattle.stream_sets.specs.Accumulator.Holds.{HasCharacters}
-use Rattle.format_toml_errors.specs.Steps.{basic_step, behind_step, in_string, is_bare}
-use Rattle.format_toml_errors.specs.Steps.{literal_step, name_step, next_step}
+use Rattle.format_toml_errors.specs.Steps.{basic_step, in_string}
+use Rattle.format_toml_errors.specs.Steps.{literal_step, next_step}
 use Rattle.format_toml_errors.specs.Unclosed.{last_open}
 use Rattle.format_toml_errors.specs.declared.escapes.Escaped.{Escaped}
 use Rattle.format_toml_errors.specs.declared.modes.Bracket.{Bracket}
 use Rattle.format_toml_errors.specs.declared.modes.Mode.{Mode}
-use Rattle.format_toml_errors.specs.declared.modes.Owner.{Owner}
 use Rattle.format_toml_errors.specs.declared.modes.Role.{Role}
 use Rattle.format_toml_errors.specs.declared.escapes.Escape.TheVariants as escapes
 use Rattle.format_toml_errors.specs.declared.escapes.Escaped.TheVariants as escaped
 use Rattle.format_toml.specs.declared.characters.Characters.TheVariants as sets
 use Rattle.format_toml_errors.specs.declared.modes.Mode.TheVariants as modes
-use Rattle.format_toml_errors.specs.declared.modes.Role.TheVariants as roles
 use Rattle.format_toml_errors.specs.declared.modes.Step.TheVariants as steps
-use Rattle.format_toml_document.proofs.Walks.{both_ways, one_front, At, Next, by, parted, moved}
-use Rattle.format_toml_document.proofs.Walks.{some_front, token_front, ws_front}
+use Rattle.format_toml_document.proofs.Walks.{both_ways, one_front, At, Next, by, moved}
+use Rattle.format_toml_document.proofs.Walks.{token_front}
 
 pub stands_by : (P : ℕ → Type 0) → P 98 → P 116 → P 110 → P 102 → P 114 → P 34 → P 92
     → (c k : ℕ) → StandsFor c k → P c
@@ -70,7 +69,10 @@ record Four (u : ℕ) (xs : List ℕ) : Type 0 where
 
 four : (u : ℕ) (xs : List ℕ) → UnitText u xs → Four u xs
 unfolding BothText MadeText Whichever
-four u xs (q, (a, r, ps, ys, (x, x-is, x-hex), (b, s, bs, zs, (y, y-is, y-hex), (c, d, cs, ds, (z, z-is, z-hex), (w, w-is, w-hex), split, third), more, second), all, first), number) =
+four u xs (q, (a, r, ps, ys, (x, x-is, x-hex),
+        (b, s, bs, zs, (y, y-is, y-hex),
+          (c, d, cs, ds, (z, z-is, z-hex), (w, w-is, w-hex), split, third), more, second), all,
+        first), number) =
     let value : ℕ × ℕ × ℕ × ℕ → ℕ = λ p. p.0 * 4096 + p.1 * 256 + p.2 * 16 + p.3 in
     record {
       a = x;
@@ -327,80 +329,3 @@ module _ (level : ℕ) (held : List Bracket) (role : Role) (mode : Mode) where
         by level held l (same c is.1 ∙ literal_goes c is) x.0,
       ))))
       ends
-
--- ---- keys
-
--- a character that a name of a key begins with
-abbrev pub BeginsName : ℕ → Type 0
-BeginsName c = (c ≡ 34) ⊎ ((c ≡ 39) ⊎ IsBare c)
-
-bare_is : (c : ℕ) → IsBare c → is_bare c ≡ true
-bare_is c is = grind (arith, nat_tests, is)
-
-bare_name : (owner : Owner) (c : ℕ) → IsBare c
-    → name_step owner c ≡ steps.Goes (modes.Bare owner)
-bare_name owner c is = grind (arith, nat_tests, is)
-
--- at least one
-each_some : {O : Type 0} {text : Text ℕ O} {behind whole : List ℕ → Type 0}
-    → InFront text behind whole → InFront text behind behind
-    → InFront (AtLeast 1 (EachText text)) behind whole
-unfolding EachText
-each_some {O} {text} {behind} {whole} first next = record { makes = makes }
-  where
-    makes : (os : List O) (tokens rest : List ℕ) → AtLeast 1 (EachText text) os tokens
-        → behind rest → whole (tokens ++ rest)
-    makes [] tokens rest (x, least) b = absurd (omega (arith, least))
-    makes (o ∷ os) tokens rest ((xs, ys, x, more, e), least) b =
-        parted whole xs ys rest e
-        (first.makes o xs (ys ++ rest) x ((each_front next).makes os ys rest more b))
-
-module _ (level : ℕ) (held : List Bracket) (owner : Owner) where
-  -- after a name of a key
-  abbrev pub BehindName : List ℕ → Type 0
-  BehindName l = At level (modes.Behind owner) held l × At level (modes.Bare owner) held l
-
-  bare_goes : (c : ℕ) (l : List ℕ) → IsBare c → At level (modes.Bare owner) held l
-      → At level (modes.Bare owner) held (c ∷ l)
-  bare_goes c l is x =
-      by level held l
-      (ap (λ b. if b then steps.Goes (modes.Bare owner) else behind_step owner c) (bare_is c is)) x
-
-  module _ (mode : Mode)
-      (begins : (c : ℕ) → BeginsName c → next_step mode (last_open held) c ≡ name_step owner c)
-    where
-      name_front : {A : Type 0}
-          → InFront (NameText {A = A}) BehindName (λ l. At level mode held l)
-      name_front =
-          either_front
-          (basic_front level held (roles.Name owner) (modes.Basic (roles.Name owner))
-          (λ c not. refl) (λ l x. by level held l (begins 34 (inl refl)) x.0) (λ l x. (x.0, x.0)))
-          (either_front
-          (literal_front level held (roles.Name owner) (modes.Literal (roles.Name owner))
-          (λ c not. refl) (λ l x. by level held l (begins 39 (inr (inl refl))) x.0)
-          (λ l x. (x.0, x.0)))
-          (front_behind (λ l x. x.1) (gathered_front HasCharacters (each_some
-          (token_front (λ c l is x.
-          by level held l (begins c (inr (inr is)) ∙ bare_name owner c is) x))
-          (token_front (λ c l is x. bare_goes c l is x))))))
-
-      spaced_name : {A : Type 0}
-          → InFront (Spaced (NameText {A = A})) BehindName (λ l. At level mode held l)
-      spaced_name =
-          both_front former name_front
-          (ws_front {tokens = BehindName} (λ l x. (x.0, x.0)) (λ l x. (x.0, x.0)))
-
-  pub later_begins : (c : ℕ) → BeginsName c
-      → next_step (modes.Name owner) (last_open held) c ≡ name_step owner c
-  later_begins c is = grind (arith, nat_tests, is)
-
-  -- a key, and a dot between its names
-  pub key_front : {A : Type 0} (mode : Mode)
-      → ((c : ℕ) → BeginsName c → next_step mode (last_open held) c ≡ name_step owner c)
-      → InFront (KeyText {A = A}) BehindName (λ l. At level mode held l)
-  key_front mode begins =
-      for_front IsKey (in_list_front (some_front
-      (both_front pair
-      (one_front {behind = λ l. At level (modes.Name owner) held l} 46 (λ l x. (x, x)))
-      (ws_front {tokens = λ l. At level (modes.Name owner) held l} (λ l x. x) (λ l x. x)))
-      (spaced_name mode begins) (spaced_name (modes.Name owner) later_begins)))

@@ -104,7 +104,8 @@ module _ (level : ℕ) (held : List Bracket) where
 
   pub hour_starts : (t o : ℕ) (k : List ℕ) → t ≤ 9 → o ≤ 9 → t * 10 + o ≤ 23
       → M (moments.Minute true) k → HourStart ((48 + t) ∷ (48 + o) ∷ 58 ∷ k)
-  hour_starts t o k t-few few most x = (from moments.Hour refl refl refl, from moments.Space refl refl refl)
+  hour_starts t o k t-few few most x =
+      (from moments.Hour refl refl refl, from moments.Space refl refl refl)
     where
       from : (start : Moment) → moment_step start 48 ≡ Some (moments.HourEnd false)
           → moment_step start 49 ≡ Some (moments.HourEnd false)
@@ -153,7 +154,8 @@ module _ (level : ℕ) (held : List Bracket) where
         (λ c is. ap (λ b. first_of (moment_if b (moments.SecondMark dated)) None) is)
         u v (b ++ l) v-few (omega (arith, m, same))
         (marked (λ k. M (moments.SecondMark dated) k) 58 b rest l c.2 third (λ p q p-few q-few last.
-        moment (moments.SecondMark dated) (moments.Second dated) 58 ((48 + p) ∷ (48 + q) ∷ (rest ++ l)) refl
+        moment (moments.SecondMark dated) (moments.Second dated) 58
+              ((48 + p) ∷ (48 + q) ∷ (rest ++ l)) refl
         (second p q (rest ++ l) q-few (omega (arith, s, last)) x))))))
 
     digits : (xs l : List ℕ) → 1 ≤ length xs → All IsDigit xs → M (moments.Fraction dated) l
@@ -238,7 +240,8 @@ module _ (level : ℕ) (held : List Bracket) where
       moved (λ k. Ended true k) l e (ended true l x)
   maybe_offset (Some offset) tokens l text x = offset_part offset tokens l text x
 
-  pub no_offset : (tokens l : List ℕ) → MaybeOffset None tokens → Behind l → Ended false (tokens ++ l)
+  pub no_offset : (tokens l : List ℕ) → MaybeOffset None tokens → Behind l
+      → Ended false (tokens ++ l)
   unfolding MaybeOffset
   no_offset tokens l e x =
       moved (λ k. Ended false k) l e (ended false l x)
