@@ -73,7 +73,7 @@ module _ (level : ℕ) (held : List Bracket) where
       (48 + o) l
       (whole_goes (whole_of k false v) (48 + o) (value_less o few)
       ∙ ap (λ z. Some (wholes (if nat_lt k 4 then k + 1 else 5) false z))
-            (next_as v o n few small is))
+      (next_as v o n few small is))
       x
 
   lead : (k v o n : ℕ) (l : List ℕ) → nat_lt k 4 ≡ true → o ≤ 9 → v ≤ 9999 → n ≡ v * 10 + o
@@ -232,7 +232,7 @@ module _ (level : ℕ) (held : List Bracket) where
       (subst P (sym (value_is (suc t) t-few))
       (grow 1 (suc t) o (suc t * 10 + o) (58 ∷ k) few (omega (arith, t-few)) refl
       (figure level held (wholes 2 false (suc t * 10 + o))
-              (figures.Moment (moments.Minute false)) 58
+      (figures.Moment (moments.Minute false)) 58
       k (ap (λ b. if b then Some (figures.Moment (moments.Minute false)) else None) early) x)))
 
   pub date_starts : {A : Type 0} (d : DateTime A) (tokens l : List ℕ) → IsDateTime d tokens

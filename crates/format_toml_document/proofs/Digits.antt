@@ -34,8 +34,7 @@ abbrev pub whole_of : ℕ → Bool → ℕ → Whole
 whole_of digits negative value = record { digits = digits; negative = negative; value = value }
 
 abbrev pub wholes : ℕ → Bool → ℕ → Figure
-wholes digits negative value =
-    figures.Whole (record { digits = digits; negative = negative; value = value })
+wholes digits negative value = figures.Whole (whole_of digits negative value)
 
 pub next_is : (n c : ℕ) → digit_value c < 10 → n * 10 + digit_value c ≤ 9223372036854775808
     → next_digit n c ≡ n * 10 + digit_value c
@@ -51,13 +50,6 @@ whole_goes w c less = simp (digit_is c less)
 pub mark_goes : (w : Whole) (c : ℕ) → digit_value c < 10
     → figure_step (figures.WholeMark w) c ≡ Some (figures.Whole (adding w c))
 mark_goes w c less = simp (digit_is c less)
-
-pub fraction_goes : (c : ℕ) → digit_value c < 10
-    → figure_step figures.Fraction c ≡ Some figures.Fraction
-fraction_goes c less = simp (digit_is c less)
-
-pub power_goes : (c : ℕ) → digit_value c < 10 → figure_step figures.Power c ≡ Some figures.Digits
-power_goes c less = simp (digit_is c less)
 
 pub point_goes : (c : ℕ) → digit_value c < 10
     → figure_step figures.Point c ≡ Some figures.Fraction
@@ -105,14 +97,9 @@ limited bases.Octal n few = omega (arith, few)
 limited bases.Binary n few = omega (arith, few)
 
 pub no_mark : (base : Base) (c : ℕ) → digit_value c < number_of base → c ≡ 95 → ⊥
-no_mark base c less e =
-    let P : ℕ → Type 0 = λ b. digit_value b < number_of base in
-    none base (subst P e less)
-  where
-    none : (base : Base) → 36 < number_of base → ⊥
-    none bases.Hex less = omega (arith, less)
-    none bases.Octal less = omega (arith, less)
-    none bases.Binary less = omega (arith, less)
+no_mark bases.Hex c less e = omega (arith, less, ap digit_value e)
+no_mark bases.Octal c less e = omega (arith, less, ap digit_value e)
+no_mark bases.Binary c less e = omega (arith, less, ap digit_value e)
 
 pub digit_goes : (base : Base) (n c : ℕ) → digit_value c < number_of base
     → n * number_of base + digit_value c < 9223372036854775808

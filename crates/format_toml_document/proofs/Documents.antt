@@ -281,7 +281,7 @@ module _ (level : ℕ) where
       let front = in_list_front (some_front {item = λ l. At level modes.Line [] l} {after = Ending}
       (newline_front (λ l x. (x, x, x)) (λ l x. (x, x, x))) line_front line_front) in
       subst (λ l. At level modes.Line [] l) (append-nil tokens)
-            (front.makes lines tokens [] text (refl, refl, refl))
+      (front.makes lines tokens [] text (refl, refl, refl))
 
   pub document_accepted : {A : Type 0} (lines : Vec (Option (Item A)) A) (tokens : List ℕ)
       → DocumentText level lines tokens → IsAccepted level tokens

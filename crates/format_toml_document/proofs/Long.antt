@@ -208,7 +208,7 @@ module _ (level : ℕ) (held : List Bracket) where
   escaped_line =
       both_front latter
       (one_front {behind = Slash} 92
-              (λ l x. content_by marks.Basic 92 l (λ e. omega (arith, e)) x.0))
+      (λ l x. content_by marks.Basic 92 l (λ e. omega (arith, e)) x.0))
       (both_front latter (ws_front {tokens = Slash} (λ l x. (x.1, x.1)) (λ l x. (x.1, x.1)))
       (both_front latter (newline_front {behind = BasicAt} (λ l x. (x, x)) (λ l x. (x, x)))
       (gathered_front (λ all parts. ⊤) (each_front (either_front

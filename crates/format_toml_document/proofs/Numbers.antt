@@ -27,10 +27,10 @@ use Rattle.format_toml_errors.specs.declared.figures.Figure.TheVariants as figur
 use Rattle.format_toml_errors.specs.declared.modes.Mode.TheVariants as modes
 use Rattle.format_toml_errors.specs.declared.modes.Step.TheVariants as steps
 use Rattle.format_toml_document.proofs.Walks.{At, Next, by, Started, after_done, moved, parted}
-use Rattle.format_toml_document.proofs.Digits.{below, digit_as, digit_goes, digits_front}
-use Rattle.format_toml_document.proofs.Digits.{exponent_goes, fraction_goes, limited, mark_goes}
+use Rattle.format_toml_document.proofs.Digits.{below, digit_as, digit_goes, digit_is, digits_front}
+use Rattle.format_toml_document.proofs.Digits.{exponent_goes, limited, mark_goes}
 use Rattle.format_toml_document.proofs.Digits.{more_goes, next_is, no_mark, number_of, point_goes}
-use Rattle.format_toml_document.proofs.Digits.{power_goes, prefix_of, whole_front, whole_goes}
+use Rattle.format_toml_document.proofs.Digits.{prefix_of, whole_front, whole_goes}
 use Rattle.format_toml_document.proofs.Digits.{whole_of, wholes}
 
 module _ (level : ℕ) (held : List Bracket) where
@@ -68,11 +68,8 @@ module _ (level : ℕ) (held : List Bracket) where
 
     abbrev Due : ℕ → List ℕ → Type 0
     Due n l =
-        (n ≤ 9223372036854775808) × ((k : ℕ) → Fig (figures.WholeMark (record {
-          digits = k;
-          negative = negative;
-          value = n;
-        })) l)
+        (n ≤ 9223372036854775808)
+        × ((k : ℕ) → Fig (figures.WholeMark (whole_of k negative n)) l)
 
     added : (k n c : ℕ) (l : List ℕ) → digit_value c < 10 → On (n * 10 + digit_value c) l
         → Fig (figures.Whole (adding (whole_of k negative n) c)) l
@@ -81,10 +78,10 @@ module _ (level : ℕ) (held : List Bracket) where
         subst P (sym (next_is n c less x.0)) (x.1 (if nat_lt k 4 then k + 1 else 5))
 
     unsigned : (m : ℕ) (tokens l : List ℕ) → UnsignedText m tokens
-        → fits (record { digits = 5; negative = negative; value = m }) ≡ true
-        → m ≤ 9223372036854775808 → Behind l → whole (tokens ++ l)
+        → fits (whole_of 5 negative m) ≡ true → Behind l → whole (tokens ++ l)
     unfolding UnsignedText NumberText
-    unsigned m tokens l ((ds, text, is), lone) fit few x =
+    unsigned m tokens l ((ds, text, is), lone) fit x =
+        let few : m ≤ 9223372036854775808 = grind (arith, nat_tests, fit) in
         let P : ℕ → Type 0 = λ n. On n l in
         whole_front 10 On Due
         (λ n c k less y. (
@@ -114,13 +111,13 @@ module _ (level : ℕ) (held : List Bracket) where
   based base m tokens l (ds, text, is) few x =
       let P : ℕ → Type 0 = λ n. (n < 9223372036854775808) × Fig (figures.Based base n) l in
       digits_front (number_of base)
-            (λ n k. (n < 9223372036854775808) × Fig (figures.Based base n) k)
+      (λ n k. (n < 9223372036854775808) × Fig (figures.Based base n) k)
       (λ n k. (n < limit_of base) × Fig (figures.BasedMark base n) k)
       (λ n c k less y. (
         (
           limited base n (below base n (digit_value c) y.0),
           figure (figures.Based base n)
-                (figures.Based base (n * number_of base + digit_value c)) c k
+              (figures.Based base (n * number_of base + digit_value c)) c k
               (ap (λ b. if b then figure_if (nat_lt n (limit_of base)) (figures.BasedMark base n)
               else base_step base n c) (ne_eqb c 95 (no_mark base c less))
               ∙ digit_goes base n c less y.0) y.1,
@@ -151,11 +148,9 @@ module _ (level : ℕ) (held : List Bracket) where
   unfolding Signed
   signed_by P tokens l none minus plus (inl text) = none text
   signed_by P tokens l none minus plus (inr (sign, rest, inl is, e, text)) =
-      let Q : List ℕ → Type 0 = λ k. P (k ++ l) in
-      subst Q (sym (e ∙ ap (λ c. c ∷ rest) is)) (minus rest text)
+      moved P l (e ∙ ap (λ c. c ∷ rest) is) (minus rest text)
   signed_by P tokens l none minus plus (inr (sign, rest, inr is, e, text)) =
-      let Q : List ℕ → Type 0 = λ k. P (k ++ l) in
-      subst Q (sym (e ∙ ap (λ c. c ∷ rest) is)) (plus rest text)
+      moved P l (e ∙ ap (λ c. c ∷ rest) is) (plus rest text)
 
   power_digits : (f : Figure)
       → ((c : ℕ) → digit_value c < 10 → figure_step f c ≡ Some figures.Digits)
@@ -165,10 +160,10 @@ module _ (level : ℕ) (held : List Bracket) where
       digits_front 10 (λ n k. Fig figures.Digits k) (λ n k. Fig figures.Power k)
       (λ n c k less y. (
         figure figures.Digits figures.Digits c k (more_goes c less) y,
-        figure figures.Power figures.Digits c k (power_goes c less) y,
+        figure figures.Power figures.Digits c k (simp (digit_is c less)) y,
       ))
       (λ n k y. y) (λ k. Fig f k) (λ c k less y. figure f figures.Digits c k (goes c less) y) ds
-            tokens l text x
+      tokens l text x
 
   power : (tokens l : List ℕ) → Signed AreDigits tokens → Behind l
       → Fig figures.Exponent (tokens ++ l)
@@ -176,8 +171,8 @@ module _ (level : ℕ) (held : List Bracket) where
       let end = after_done level held l x (modes.Number figures.Digits) refl in
       signed_by (λ k. Fig figures.Exponent k) tokens l
       (λ t. power_digits figures.Exponent exponent_goes tokens l t end)
-      (λ rest t. power_digits figures.Power power_goes rest l t end)
-      (λ rest t. power_digits figures.Power power_goes rest l t end) text
+      (λ rest t. power_digits figures.Power (λ c less. simp (digit_is c less)) rest l t end)
+      (λ rest t. power_digits figures.Power (λ c less. simp (digit_is c less)) rest l t end) text
 
   -- figures after which an exponent may follow
   abbrev Real : Figure → Type 0
@@ -201,7 +196,7 @@ module _ (level : ℕ) (held : List Bracket) where
       moved (λ k. Fig f k) l e (figure f figures.Point 46 (rest ++ l) point
       (digits_front 10 (λ n k. Fig figures.Fraction k) (λ n k. Fig figures.FractionMark k)
       (λ n c k less y. (
-        figure figures.Fraction figures.Fraction c k (fraction_goes c less) y,
+        figure figures.Fraction figures.Fraction c k (simp (digit_is c less)) y,
         figure figures.FractionMark figures.Fraction c k (point_goes c less) y,
       ))
       (λ n k y. y) (λ k. Fig figures.Point k)
@@ -319,17 +314,12 @@ module _ (level : ℕ) (held : List Bracket) where
   below_limit : (m : ℕ) → FitsSigned w64 (pos m) → m < 9223372036854775808
   below_limit m is = let small : m < 2 ^ 63 = is.sfits in omega (arith, small)
 
-  above_limit : (m : ℕ) → FitsSigned w64 (neg_ℤ (pos m)) → m ≤ 9223372036854775808
-  above_limit zero is = omega arith
-  above_limit (suc m) is = let small : m < 2 ^ 63 = is.sfits in omega (arith, small)
+  fits_above : (m : ℕ) → FitsSigned w64 (pos m) → fits (whole_of 5 false m) ≡ true
+  fits_above m is = let less = below_limit m is in grind (arith, nat_tests, less)
 
-  fits_below : (negative : Bool) (m : ℕ) → m < 9223372036854775808
-      → fits (record { digits = 5; negative = negative; value = m }) ≡ true
-  fits_below negative m less = grind (arith, nat_tests, less)
-
-  fits_least : (m : ℕ) → m ≤ 9223372036854775808
-      → fits (record { digits = 5; negative = true; value = m }) ≡ true
-  fits_least m few = grind (arith, nat_tests, few)
+  fits_below : (m : ℕ) → FitsSigned w64 (neg_ℤ (pos m)) → fits (whole_of 5 true m) ≡ true
+  fits_below zero is = refl
+  fits_below (suc m) is = let small : m < 2 ^ 63 = is.sfits in grind (arith, nat_tests, small)
 
   prefixed : (base : Base) (l : List ℕ) → Fig (figures.Prefix base) l
       → Started level held (48 ∷ prefix_of base ∷ l)
@@ -359,18 +349,15 @@ module _ (level : ℕ) (held : List Bracket) where
 
       by_kind : AnyIntegerText n tokens → Started level held (tokens ++ l)
       by_kind (inl (inl (m, t, e))) =
-          let less = below_limit m (fitting (pos m) e) in
-          unsigned bare m tokens l t (fits_below false m less) (omega (arith, less)) x
+          unsigned bare m tokens l t (fits_above m (fitting (pos m) e)) x
       by_kind (inl (inr (inl (m, (o, q, xs, ys, (is, a), t, split, joins), e)))) =
-          let less = below_limit m (fitting (pos m) e) in
           let y = unsigned (behind_sign false) m ys l
-          (subst (λ k. UnsignedText k ys) (sym joins) t) (fits_below false m less)
-          (omega (arith, less)) x in
+          (subst (λ k. UnsignedText k ys) (sym joins) t) (fits_above m (fitting (pos m) e)) x in
           moved (Started level held) l (split ∙ ap (λ k. k ++ ys) a) (y, y)
       by_kind (inl (inr (inr (m, (o, q, xs, ys, (is, a), t, split, joins), e)))) =
-          let few = above_limit m (fitting (neg_ℤ (pos m)) e) in
           let y = unsigned (behind_sign true) m ys l
-          (subst (λ k. UnsignedText k ys) (sym joins) t) (fits_least m few) few x in
+          (subst (λ k. UnsignedText k ys) (sym joins) t)
+          (fits_below m (fitting (neg_ℤ (pos m)) e)) x in
           moved (Started level held) l (split ∙ ap (λ k. k ++ ys) a) (y, y)
       by_kind (inr (m, inl t, e)) = based_starts bases.Hex m tokens l t (fitting (pos m) e) x
       by_kind (inr (m, inr (inl t), e)) =

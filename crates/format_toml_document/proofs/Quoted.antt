@@ -69,10 +69,29 @@ record Four (u : ℕ) (xs : List ℕ) : Type 0 where
 
 four : (u : ℕ) (xs : List ℕ) → UnitText u xs → Four u xs
 unfolding BothText MadeText Whichever
-four u xs (q, (a, r, ps, ys, (x, x-is, x-hex),
-        (b, s, bs, zs, (y, y-is, y-hex),
-          (c, d, cs, ds, (z, z-is, z-hex), (w, w-is, w-hex), split, third), more, second), all,
-        first), number) =
+four u xs (
+  q,
+  (
+    a,
+    r,
+    ps,
+    ys,
+    (x, x-is, x-hex),
+    (
+      b,
+      s,
+      bs,
+      zs,
+      (y, y-is, y-hex),
+      (c, d, cs, ds, (z, z-is, z-hex), (w, w-is, w-hex), split, third),
+      more,
+      second,
+    ),
+    all,
+    first,
+  ),
+  number,
+) =
     let value : ℕ × ℕ × ℕ × ℕ → ℕ = λ p. p.0 * 4096 + p.1 * 256 + p.2 * 16 + p.3 in
     record {
       a = x;

@@ -155,7 +155,7 @@ module _ (level : ℕ) (held : List Bracket) where
         u v (b ++ l) v-few (omega (arith, m, same))
         (marked (λ k. M (moments.SecondMark dated) k) 58 b rest l c.2 third (λ p q p-few q-few last.
         moment (moments.SecondMark dated) (moments.Second dated) 58
-              ((48 + p) ∷ (48 + q) ∷ (rest ++ l)) refl
+        ((48 + p) ∷ (48 + q) ∷ (rest ++ l)) refl
         (second p q (rest ++ l) q-few (omega (arith, s, last)) x))))))
 
     digits : (xs l : List ℕ) → 1 ≤ length xs → All IsDigit xs → M (moments.Fraction dated) l

@@ -2,9 +2,10 @@
 -- what may come after a value.
 use Rattle.std.specs.Prelude.{◌≡◌, ◌↔◌, ◌⊎◌, ℕ, Bool, true, false, List, [], ◌∷◌, ◌++◌}
 use Rattle.std.specs.Prelude.{Option, Some, None, ◌==◌, ◌&&◌, nat_le, nat_lt}
-use Rattle.std.specs.Prelude.{if◌then◌else◌, map}
+use Rattle.std.specs.Prelude.{if◌then◌else◌, map, ⊤}
 use Rattle.std.specs.List.{All}
-use Rattle.std.proofs.Common.{refl, sym, ap, subst, inl, inr, ◌∙◌, arith, append_assoc, get_or}
+use Rattle.std.proofs.Common.{refl, sym, ap, subst, inl, inr, ◌∙◌, arith, append_assoc, drop}
+use Rattle.std.proofs.Common.{get_or}
 use Rattle.std.proofs.lemmas.List.{append-nil}
 use Rattle.std.proofs.lemmas.List.Elements.{All-tail}
 use Rattle.std.proofs.lemmas.Bool.Decides.{nat_tests}
@@ -221,21 +222,16 @@ module _ {O D : Type 0} {separator : Text ℕ D} {text : Text ℕ O}
 
 -- ---- the characters that may come after a value
 
-abbrev IsEnder : ℕ → Type 0
-IsEnder c =
-    (c ≡ 32) ⊎ ((c ≡ 9) ⊎ ((c ≡ 10) ⊎ ((c ≡ 13) ⊎ ((c ≡ 35) ⊎ ((c ≡ 44) ⊎ ((c ≡ 93)
-    ⊎ (c ≡ 125)))))))
+abbrev enders : List ℕ
+enders = 32 ∷ 9 ∷ 10 ∷ 13 ∷ 35 ∷ 44 ∷ 93 ∷ 125 ∷ []
 
-ender_by : (P : ℕ → Type 0) → P 32 → P 9 → P 10 → P 13 → P 35 → P 44 → P 93 → P 125 → (c : ℕ)
-    → IsEnder c → P c
-ender_by P s t n r h m b e c (inl is) = subst P (sym is) s
-ender_by P s t n r h m b e c (inr (inl is)) = subst P (sym is) t
-ender_by P s t n r h m b e c (inr (inr (inl is))) = subst P (sym is) n
-ender_by P s t n r h m b e c (inr (inr (inr (inl is)))) = subst P (sym is) r
-ender_by P s t n r h m b e c (inr (inr (inr (inr (inl is))))) = subst P (sym is) h
-ender_by P s t n r h m b e c (inr (inr (inr (inr (inr (inl is)))))) = subst P (sym is) m
-ender_by P s t n r h m b e c (inr (inr (inr (inr (inr (inr (inl is))))))) = subst P (sym is) b
-ender_by P s t n r h m b e c (inr (inr (inr (inr (inr (inr (inr is))))))) = subst P (sym is) e
+abbrev IsOneOf : List ℕ → ℕ → Type 0
+IsOneOf [] c = ⊥
+IsOneOf (n ∷ ns) c = (c ≡ n) ⊎ IsOneOf ns c
+
+abbrev IsNoneOf : List ℕ → ℕ → Type 0
+IsNoneOf [] c = ⊤
+IsNoneOf (n ∷ ns) c = ((c == n) ≡ false) × IsNoneOf ns c
 
 pub tested : (c n : ℕ) → ((c == n) ≡ false) ⊎ (c ≡ n)
 tested c n = elim (both_ways (c == n)) [
@@ -243,39 +239,28 @@ tested c n = elim (both_ways (c == n)) [
   | inr e ↦ inl e
 ]
 
-none_else : (held : Option Bracket) (c : ℕ) → (c == 32) ≡ false → (c == 9) ≡ false
-    → (c == 10) ≡ false → (c == 13) ≡ false → (c == 35) ≡ false → (c == 44) ≡ false
-    → (c == 93) ≡ false → (c == 125) ≡ false → after_step held c ≡ steps.Invalid
-none_else None c s t n r h m b e = simp (s, t, n, r, h)
-none_else (Some brackets.Array) c s t n r h m b e = simp (s, t, n, r, h, m, b)
-none_else (Some brackets.Table) c s t n r h m b e = simp (s, t, m, e)
-
-ender : (held : Option Bracket) (c : ℕ) → (after_step held c ≡ steps.Invalid) ⊎ IsEnder c
-ender held c = elim (tested c 32) [
+one_of : (ns : List ℕ) (c : ℕ) → IsNoneOf ns c ⊎ IsOneOf ns c
+one_of [] c = inl tt
+one_of (n ∷ ns) c = elim (tested c n) [
   | inr e ↦ inr (inl e)
-  | inl s ↦ elim (tested c 9) [
-    | inr e ↦ inr (inr (inl e))
-    | inl t ↦ elim (tested c 10) [
-      | inr e ↦ inr (inr (inr (inl e)))
-      | inl n ↦ elim (tested c 13) [
-        | inr e ↦ inr (inr (inr (inr (inl e))))
-        | inl r ↦ elim (tested c 35) [
-          | inr e ↦ inr (inr (inr (inr (inr (inl e)))))
-          | inl h ↦ elim (tested c 44) [
-            | inr e ↦ inr (inr (inr (inr (inr (inr (inl e))))))
-            | inl m ↦ elim (tested c 93) [
-              | inr e ↦ inr (inr (inr (inr (inr (inr (inr (inl e)))))))
-              | inl b ↦ elim (tested c 125) [
-                | inr e ↦ inr (inr (inr (inr (inr (inr (inr (inr e)))))))
-                | inl e ↦ inl (none_else held c s t n r h m b e)
-              ]
-            ]
-          ]
-        ]
-      ]
-    ]
-  ]
+  | inl not ↦ elim (one_of ns c) [ inl none ↦ inl (not, none) | inr is ↦ inr (inr is) ]
 ]
+
+-- functions that are equal at each of these
+same_on : {A : Type 0} (f g : ℕ → A) (ns : List ℕ) → map f ns ≡ map g ns → (c : ℕ)
+    → IsOneOf ns c → f c ≡ g c
+same_on f g [] e c is = absurd is
+same_on f g (n ∷ ns) e c (inl is) =
+    ap f is ∙ ap (λ l. get_or l 0 (f n)) e ∙ ap g (sym is)
+same_on f g (n ∷ ns) e c (inr is) = same_on f g ns (ap (λ l. drop 1 l) e) c is
+
+none_else : (held : Option Bracket) (c : ℕ) → IsNoneOf enders c
+    → after_step held c ≡ steps.Invalid
+none_else None c (s, (t, (n, (r, (h, others))))) = simp (s, t, n, r, h)
+none_else (Some brackets.Array) c (s, (t, (n, (r, (h, (m, (b, others))))))) =
+    simp (s, t, n, r, h, m, b)
+none_else (Some brackets.Table) c (s, (t, (n, (r, (h, (m, (b, (e, others)))))))) =
+    simp (s, t, m, e)
 
 -- ---- modes that end a value
 
@@ -293,67 +278,60 @@ and_false : (b : Bool) → (b && false) ≡ false
 and_false true = refl
 and_false false = refl
 
-abbrev enders : List ℕ
-enders = 32 ∷ 9 ∷ 10 ∷ 13 ∷ 35 ∷ 44 ∷ 93 ∷ 125 ∷ []
-
-module _ (c : ℕ) (is : IsEnder c) where
-  -- functions that are equal at each of them
-  same_at : {A : Type 0} (f g : ℕ → A) → map f enders ≡ map g enders → f c ≡ g c
-  same_at {A} f g e =
-      let at : (k : ℕ) → get_or (map f enders) k (f 0) ≡ get_or (map g enders) k (f 0) =
-      λ k. ap (λ l. get_or l k (f 0)) e in
-      ender_by (λ b. f b ≡ g b) (at 0) (at 1) (at 2) (at 3) (at 4) (at 5) (at 6) (at 7) c is
-
+module _ (c : ℕ) where
   abbrev Stays : Figure → Type 0
   Stays f =
       (figure_step f c ≡ None)
       ⊎ ((c ≡ 32) × (figure_step f c ≡ Some (figures.Moment moments.Space)))
 
-  none_at : (f : Figure)
-      → map (λ b. figure_step f b) enders ≡ map (λ (b : ℕ). None) enders
-      → Stays f
-  none_at f e = inl (same_at (λ b. figure_step f b) (λ b. None) e)
+  none_at : IsOneOf enders c → (f : Figure)
+      → map (λ b. figure_step f b) enders ≡ map (λ (b : ℕ). None) enders → Stays f
+  none_at is f e = inl (same_on (λ b. figure_step f b) (λ b. None) enders e c is)
 
   -- no figure goes on, but a date
-  figure_none : (f : Figure) → ends_figure f ≡ true → Stays f
-  figure_none figures.Zero e = none_at figures.Zero refl
-  figure_none figures.SignedZero e = none_at figures.SignedZero refl
-  figure_none figures.Fraction e = none_at figures.Fraction refl
-  figure_none figures.Digits e = none_at figures.Digits refl
-  figure_none (figures.Whole whole) e = none_at (figures.Whole whole) refl
-  figure_none (figures.Based bases.Hex v) e =
-      none_at (figures.Based bases.Hex v) (simp and_false)
-  figure_none (figures.Based bases.Octal v) e =
-      none_at (figures.Based bases.Octal v) (simp and_false)
-  figure_none (figures.Based bases.Binary v) e =
-      none_at (figures.Based bases.Binary v) (simp and_false)
-  figure_none (figures.Moment moments.Date) e =
-      ender_by (λ b. (figure_step (figures.Moment moments.Date) b ≡ None)
-      ⊎ ((b ≡ 32) × (figure_step (figures.Moment moments.Date) b
-      ≡ Some (figures.Moment moments.Space)))) (inr (refl, refl)) (inl refl) (inl refl) (inl refl)
-      (inl refl) (inl refl) (inl refl) (inl refl) c is
-  figure_none (figures.Moment moments.Space) e = none_at (figures.Moment moments.Space) refl
-  figure_none (figures.Moment (moments.Time true)) e =
-      none_at (figures.Moment (moments.Time true)) refl
-  figure_none (figures.Moment (moments.Time false)) e =
-      none_at (figures.Moment (moments.Time false)) refl
-  figure_none (figures.Moment (moments.Fraction true)) e =
-      none_at (figures.Moment (moments.Fraction true)) refl
-  figure_none (figures.Moment (moments.Fraction false)) e =
-      none_at (figures.Moment (moments.Fraction false)) refl
-  figure_none (figures.Moment moments.Whole) e = none_at (figures.Moment moments.Whole) refl
-  figure_none f e = true_not_false (sym e)
+  figure_none : IsOneOf enders c → (f : Figure) → ends_figure f ≡ true → Stays f
+  figure_none is figures.Zero e = none_at is figures.Zero refl
+  figure_none is figures.SignedZero e = none_at is figures.SignedZero refl
+  figure_none is figures.Fraction e = none_at is figures.Fraction refl
+  figure_none is figures.Digits e = none_at is figures.Digits refl
+  figure_none is (figures.Whole whole) e = none_at is (figures.Whole whole) refl
+  figure_none is (figures.Based bases.Hex v) e =
+      none_at is (figures.Based bases.Hex v) (simp and_false)
+  figure_none is (figures.Based bases.Octal v) e =
+      none_at is (figures.Based bases.Octal v) (simp and_false)
+  figure_none is (figures.Based bases.Binary v) e =
+      none_at is (figures.Based bases.Binary v) (simp and_false)
+  figure_none (inl is) (figures.Moment moments.Date) e =
+      inr (is, ap (λ b. figure_step (figures.Moment moments.Date) b) is)
+  figure_none (inr is) (figures.Moment moments.Date) e =
+      inl (same_on (λ b. figure_step (figures.Moment moments.Date) b) (λ b. None) (drop 1 enders)
+      refl c is)
+  figure_none is (figures.Moment moments.Space) e =
+      none_at is (figures.Moment moments.Space) refl
+  figure_none is (figures.Moment (moments.Time true)) e =
+      none_at is (figures.Moment (moments.Time true)) refl
+  figure_none is (figures.Moment (moments.Time false)) e =
+      none_at is (figures.Moment (moments.Time false)) refl
+  figure_none is (figures.Moment (moments.Fraction true)) e =
+      none_at is (figures.Moment (moments.Fraction true)) refl
+  figure_none is (figures.Moment (moments.Fraction false)) e =
+      none_at is (figures.Moment (moments.Fraction false)) refl
+  figure_none is (figures.Moment moments.Whole) e =
+      none_at is (figures.Moment moments.Whole) refl
+  figure_none is f e = true_not_false (sym e)
 
-  module _ (held : Option Bracket) where
+  module _ (is : IsOneOf enders c) (held : Option Bracket) where
     abbrev Ends : Mode → Type 0
-    Ends mode = (next_step mode held c ≡ after_step held c)
-        ⊎ ((c ≡ 32) × (next_step mode held c ≡ steps.Goes (modes.Number (figures.Moment
-        moments.Space))))
+    Ends mode =
+        (next_step mode held c ≡ after_step held c)
+        ⊎ ((c ≡ 32)
+        × (next_step mode held c ≡ steps.Goes (modes.Number (figures.Moment moments.Space))))
 
     ends_at : (mode : Mode)
         → map (λ b. next_step mode held b) enders ≡ map (λ b. after_step held b) enders
         → Ends mode
-    ends_at mode e = inl (same_at (λ b. next_step mode held b) (λ b. after_step held b) e)
+    ends_at mode e =
+        inl (same_on (λ b. next_step mode held b) (λ b. after_step held b) enders e c is)
 
     done_ends : (mode : Mode) → is_done mode ≡ true → Ends mode
     done_ends modes.After e = inl refl
@@ -365,7 +343,7 @@ module _ (c : ℕ) (is : IsEnder c) where
     done_ends (modes.Long marks.Literal q) e =
         let past : nat_lt q 3 ≡ false = grind (arith, nat_tests, e) in
         ends_at (modes.Long marks.Literal q) (simp past)
-    done_ends (modes.Number f) e = elim (figure_none f e) [
+    done_ends (modes.Number f) e = elim (figure_none is f e) [
       | inl none ↦ inl (ap (λ o. number_goes o (ends_figure f) held c) none
           ∙ ap (λ b. if b then after_step held c else steps.Invalid) e)
       | inr (space, goes) ↦ inr (space, ap (λ o. number_goes o (ends_figure f) held c) goes)
@@ -379,8 +357,8 @@ after_done level held [] x mode done =
       | inl e ↦ ap is_end e ∙ x
       | inr (never, e) ↦ absurd (omega (arith, never))
     ]
-after_done level held (c ∷ l) x mode done = elim (ender (last_open held) c) [
-  | inl bad ↦ absurd (subst (λ s. Next level held l s) bad x)
+after_done level held (c ∷ l) x mode done = elim (one_of enders c) [
+  | inl none ↦ absurd (subst (λ s. Next level held l s) (none_else (last_open held) c none) x)
   | inr is ↦ elim (done_ends c is (last_open held) mode done) [
     | inl e ↦ by level held l e x
     | inr (space, e) ↦

@@ -69,7 +69,7 @@ IsUnexpected A level text (faults.Unexpected at expected unclosed) =
     (rest : List ℕ) × StopsAt level (chars text) (chars rest) expected × IsAfter text rest at
     × IsOpening text rest unclosed
     × ((front : List ℕ) × (chars text ≡ front ++ chars rest)
-          × NoneBegins A level front (chars rest))
+    × NoneBegins A level front (chars rest))
 IsUnexpected A level text faults.OutOfMemory = ⊤
 IsUnexpected A level text other = ⊥
 
