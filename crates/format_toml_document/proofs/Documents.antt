@@ -56,7 +56,7 @@ module _ (level : ℕ) where
       both_front latter (one_front 35 opens) (front_behind ends (members_front
       (λ c l is x. by level held l (comment_goes gap c is) x) 0))
 
-  -- white space, lines and comments in an array
+  -- whitespace, lines and comments in an array
   gap_front : (held : List Bracket) (gap : Gap) (mode : Mode)
       → ((l : List ℕ) → At level mode held l → At level mode held (32 ∷ l))
       → ((l : List ℕ) → At level mode held l → At level mode held (9 ∷ l))
@@ -226,7 +226,7 @@ module _ (level : ℕ) where
       At level modes.Line [] l × At level modes.After [] l
       × At level (modes.Comment gaps.Line) [] l
 
-  -- after a bracket, and perhaps white space
+  -- after a bracket, and perhaps whitespace
   abbrev Headed : List ℕ → Type 0
   Headed l = At level modes.Header [] l × At level (modes.Name owners.Header) [] l
 

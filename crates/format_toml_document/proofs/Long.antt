@@ -197,7 +197,7 @@ module _ (level : ℕ) (held : List Bracket) where
       (newline_front (λ l x. content_by marks.Basic 10 l (λ e. omega (arith, e)) x)
       (λ l x. content_by marks.Basic 13 (10 ∷ l) (λ e. omega (arith, e)) x))
 
-  -- after a backslash, and white space
+  -- after a backslash, and whitespace
   abbrev Slash : List ℕ → Type 0
   Slash l = At level (modes.LongEscape escapes.Letter) held l × At level modes.LongBlank held l
 
@@ -235,9 +235,6 @@ module _ (level : ℕ) (held : List Bracket) where
       (λ l x. (x, after_done level held l x (modes.Quotes marks.Basic) refl)))
 
   -- ---- literal strings
-
-  abbrev LiteralAt : List ℕ → Type 0
-  LiteralAt l = At level (modes.Long marks.Literal 0) held l
 
   literal_content : (c : ℕ) → IsOf sets.Literal c
       → content_step marks.Literal c ≡ steps.Goes (modes.Long marks.Literal 0)

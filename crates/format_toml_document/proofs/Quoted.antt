@@ -46,7 +46,7 @@ is_letter _ = false
 
 -- ---- four digits, and their number
 
--- a digit, and others behind it
+-- a digit, and others after it
 glue : (c : ℕ) {xs front ys zs : List ℕ} → xs ≡ front ++ ys → front ≡ c ∷ [] → ys ≡ zs
     → xs ≡ c ∷ zs
 glue c {ys = ys} e is same = e ∙ ap (λ l. l ++ ys) is ∙ ap (λ l. c ∷ l) same
@@ -126,7 +126,7 @@ zero_is c is = grind (arith, is)
 one_is : (c : ℕ) → IsHex c 1 → c ≡ 49
 one_is c is = grind (arith, is)
 
--- the first of four digits that are no surrogate
+-- the first of four digits that are not a surrogate
 first_goes : (c d : ℕ) → IsHex c d
     → ((d ≡ 13) × (escape_step escapes.Unit c ≡ escaped.More escapes.AfterD))
     ⊎ (escape_step escapes.Unit c ≡ escaped.More escapes.Three)

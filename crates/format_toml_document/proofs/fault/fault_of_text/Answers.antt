@@ -10,5 +10,5 @@ pub returns : goal.returns
 returns g c =
     let stop = c.in-Ok-Some.stop in
     let first : IsStopIn c.args.level (chars c.args.text.now) (Some stop) = search rules in
-    unexpected_told (A-type g.row.A) c.args.level c.args.text.now stop c.located.result _ first c.located.ensures
-    c.opening.ensures
+    unexpected_told (A-type g.row.A) c.args.level c.args.text.now stop c.located.result _ first
+    c.located.ensures c.opening.ensures
