@@ -1,7 +1,6 @@
 -- The walk over dates, and dates with times.
-use Rattle.std.specs.Prelude.{◌≡◌, ◌≤◌, ◌+◌, ◌*◌, ℕ, zero, suc}
-use Rattle.std.specs.Prelude.{true, false, nat_le, nat_lt, List, ◌∷◌, ◌++◌, Option, Some, None}
-use Rattle.std.specs.Prelude.{if◌then◌else◌}
+use Rattle.std.specs.Prelude.{◌≡◌, ◌≤◌, ◌+◌, ◌*◌, ℕ, zero, suc, true, false, nat_le, nat_lt, List}
+use Rattle.std.specs.Prelude.{◌∷◌, ◌++◌, Option, Some, None, if◌then◌else◌}
 use Rattle.std.proofs.Common.{refl, sym, ap, subst, inl, inr, ◌∙◌, arith}
 use Rattle.std.proofs.lemmas.Bool.Decides.{nat_tests}
 use Rattle.format_toml_errors.specs.Figures.{figure_step, next_digit}
@@ -19,9 +18,9 @@ use Rattle.format_toml_tree.specs.declared.value.DateTime.TheVariants as dates
 use Rattle.format_toml_document.proofs.Walks.{Started, moved}
 use Rattle.format_toml_document.proofs.Numbers.{Fig, digit_starts, figure}
 use Rattle.format_toml_document.proofs.Digits.{next_is, whole_goes, whole_of, wholes}
-use Rattle.format_toml_document.proofs.Times.{Behind, HourStart, M, digit_ok, done}
-use Rattle.format_toml_document.proofs.Times.{hour_starts, marked, maybe_offset, moment, no_offset}
-use Rattle.format_toml_document.proofs.Times.{timed, two, value_is, value_less}
+use Rattle.format_toml_document.proofs.Times.{Behind, HourStart, M, digit_ok, done, hour_starts}
+use Rattle.format_toml_document.proofs.Times.{marked, maybe_offset, moment, no_offset, timed, two}
+use Rattle.format_toml_document.proofs.Times.{value_is, value_less}
 
 by_nine : (P : ℕ → Type 0) → P 0 → P 1 → P 2 → P 3 → P 4 → P 5 → P 6 → P 7 → P 8 → P 9
     → (o : ℕ) → o ≤ 9 → P o
@@ -242,4 +241,4 @@ module _ (level : ℕ) (held : List Bracket) where
       full_date tokens rest l date text (behind_date date d rest l ends x)
   date_starts d tokens l (inr (time, is, (c, ds, made, text))) x =
       timed level held false (Started level held) alone_starts tokens l c ds None
-      (λ end last. no_offset level held end l last x) text
+      (λ end last. no_offset level held false end l last x) text

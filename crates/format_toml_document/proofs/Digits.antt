@@ -2,7 +2,8 @@
 use Rattle.std.specs.Char.{digit_value}
 use Rattle.std.specs.Str.Parse.{digits_value, digits_value_after}
 use Rattle.std.specs.Prelude.{◌≡◌, ◌==◌, ◌<◌, ◌+◌, ◌*◌, ℕ, true, false, List, [], ◌∷◌, ◌++◌}
-use Rattle.std.specs.Prelude.{◌≤◌, Bool, Some}
+use Rattle.std.specs.Prelude.{◌≤◌}
+use Rattle.std.specs.Prelude.{Bool, Some}
 use Rattle.std.proofs.Common.{ap, subst, inl, inr, ◌∙◌, arith}
 use Rattle.std.proofs.lemmas.Bool.Decides.{nat_tests}
 use Rattle.std.proofs.lemmas.Str.{digit_value_digit}
@@ -10,8 +11,8 @@ use Rattle.std.proofs.lemmas.Str.Parse.{digit_from_value}
 use Rattle.grammars.specs.Texts.{BothText, EachText, EitherText, Spelled, TokenOfText}
 use Rattle.format_toml.specs.Numbers.{DigitsText, NextText}
 use Rattle.format_toml_errors.specs.Moments.{digit, is_digit}
-use Rattle.format_toml_errors.specs.Figures.{adding, based_digit, based_if}
-use Rattle.format_toml_errors.specs.Figures.{figure_step, limit_of, next_digit}
+use Rattle.format_toml_errors.specs.Figures.{adding, based_digit, based_if, figure_step, limit_of}
+use Rattle.format_toml_errors.specs.Figures.{next_digit}
 use Rattle.format_toml_errors.specs.declared.figures.Base.{Base}
 use Rattle.format_toml_errors.specs.declared.figures.Figure.{Figure}
 use Rattle.format_toml_errors.specs.declared.figures.Whole.{Whole}

@@ -71,7 +71,7 @@ opening_told text stop start at is after unclosed =
 none_told : (A : Type 0) (level : ℕ) (tokens rest : List ℕ) (expected : Expected)
     → StopsAt level tokens rest expected
     → (front : List ℕ) × (tokens ≡ front ++ rest) × NoneBegins A level front rest
-none_told A level tokens [] expected (front, e, stops) = (front, e, tt)
+none_told A level tokens [] expected (front, e, may, stopped, wants) = (front, e, tt)
 none_told A level tokens (c ∷ rest) expected (front, e, may, stopped, wants) = (
   front,
   e,

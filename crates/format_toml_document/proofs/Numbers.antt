@@ -2,7 +2,8 @@
 use Rattle.std.specs.Char.{digit_value}
 use Rattle.std.specs.Int.{w64}
 use Rattle.std.specs.Prelude.{◌≡◌, ◌<◌, ◌≤◌, ◌^◌, ◌+◌, ◌*◌, ℕ, ℤ, zero, suc, pos, neg_ℤ, Bool}
-use Rattle.std.specs.Prelude.{true, false, nat_lt, List, ◌∷◌, ◌++◌, Option, Some, FitsSigned}
+use Rattle.std.specs.Prelude.{true}
+use Rattle.std.specs.Prelude.{false, nat_lt, List, ◌∷◌, ◌++◌, Option, Some, FitsSigned}
 use Rattle.std.specs.Prelude.{if◌then◌else◌}
 use Rattle.std.proofs.Common.{refl, sym, ap, subst, inl, inr, ◌∙◌, arith}
 use Rattle.std.proofs.lemmas.Bool.{lt-ltb, ne_eqb}
@@ -13,8 +14,8 @@ use Rattle.format_toml.specs.Floats.{AreDigits, IsExponent, IsFloat, IsFraction,
 use Rattle.format_toml.specs.Floats.{IsTail, IsWhole, Signed, Unsigned}
 use Rattle.format_toml.specs.Numbers.{AnyIntegerText, BasedText, IntegerText, NumberText}
 use Rattle.format_toml.specs.Numbers.{UnsignedText}
-use Rattle.format_toml_errors.specs.Figures.{adding, base_step, ends_figure}
-use Rattle.format_toml_errors.specs.Figures.{figure_if, figure_step, fits, limit_of}
+use Rattle.format_toml_errors.specs.Figures.{adding, base_step, ends_figure, figure_if, figure_step}
+use Rattle.format_toml_errors.specs.Figures.{fits, limit_of}
 use Rattle.format_toml_errors.specs.Moments.{digit}
 use Rattle.format_toml_errors.specs.Steps.{next_step, number_goes, sign_step, value_step}
 use Rattle.format_toml_errors.specs.Unclosed.{last_open}
@@ -28,10 +29,9 @@ use Rattle.format_toml_errors.specs.declared.modes.Mode.TheVariants as modes
 use Rattle.format_toml_errors.specs.declared.modes.Step.TheVariants as steps
 use Rattle.format_toml_document.proofs.Walks.{At, Next, by, Started, after_done, moved, parted}
 use Rattle.format_toml_document.proofs.Digits.{below, digit_as, digit_goes, digit_is, digits_front}
-use Rattle.format_toml_document.proofs.Digits.{exponent_goes, limited, mark_goes}
-use Rattle.format_toml_document.proofs.Digits.{more_goes, next_is, no_mark, number_of, point_goes}
-use Rattle.format_toml_document.proofs.Digits.{prefix_of, whole_front, whole_goes}
-use Rattle.format_toml_document.proofs.Digits.{whole_of, wholes}
+use Rattle.format_toml_document.proofs.Digits.{exponent_goes, limited, mark_goes, more_goes}
+use Rattle.format_toml_document.proofs.Digits.{next_is, no_mark, number_of, point_goes, prefix_of}
+use Rattle.format_toml_document.proofs.Digits.{whole_front, whole_goes, whole_of, wholes}
 
 module _ (level : ℕ) (held : List Bracket) where
   abbrev pub Fig : Figure → List ℕ → Type 0

@@ -8,15 +8,12 @@ use Rattle.grammars.specs.Texts.{BothText, InFront, MadeText, GatheredText, Text
 use Rattle.grammars.specs.Texts.Fronts.{both_front, either_front, each_front, front_behind}
 use Rattle.grammars.specs.Texts.Fronts.{gathered_front}
 use Rattle.format_parts.specs.Hexadecimal.{IsAlone, IsHex, UnitText}
-use Rattle.format_parts.specs.Words.{Whichever, latter, to_four, Between, One}
-use Rattle.format_parts.specs.Words.{former}
-use Rattle.format_toml.specs.Toml.{EscapeText, IsWide, StandsFor, BasicText}
-use Rattle.format_toml.specs.Toml.{IsOf, LiteralText}
+use Rattle.format_parts.specs.Words.{Whichever, latter, to_four, Between, One, former}
+use Rattle.format_toml.specs.Toml.{EscapeText, IsWide, StandsFor, BasicText, IsOf, LiteralText}
 use Rattle.format_toml_errors.specs.Escapes.{escape_step, is_hex, more_if}
 use Rattle.format_toml_errors.specs.declared.escapes.Escape.{Escape}
 use Rattle.stream_sets.specs.Accumulator.Holds.{HasCharacters}
-use Rattle.format_toml_errors.specs.Steps.{basic_step, in_string}
-use Rattle.format_toml_errors.specs.Steps.{literal_step, next_step}
+use Rattle.format_toml_errors.specs.Steps.{basic_step, in_string, literal_step, next_step}
 use Rattle.format_toml_errors.specs.Unclosed.{last_open}
 use Rattle.format_toml_errors.specs.declared.escapes.Escaped.{Escaped}
 use Rattle.format_toml_errors.specs.declared.modes.Bracket.{Bracket}
@@ -51,21 +48,12 @@ glue : (c : ℕ) {xs front ys zs : List ℕ} → xs ≡ front ++ ys → front �
     → xs ≡ c ∷ zs
 glue c {ys = ys} e is same = e ∙ ap (λ l. l ++ ys) is ∙ ap (λ l. c ∷ l) same
 
-record Four (u : ℕ) (xs : List ℕ) : Type 0 where
-  a : ℕ
-  b : ℕ
-  c : ℕ
-  d : ℕ
-  a-is : ℕ
-  b-is : ℕ
-  c-is : ℕ
-  d-is : ℕ
-  first : IsHex a a-is
-  second : IsHex b b-is
-  third : IsHex c c-is
-  fourth : IsHex d d-is
-  whole : xs ≡ a ∷ b ∷ c ∷ d ∷ []
-  number : u ≡ a-is * 4096 + b-is * 256 + c-is * 16 + d-is
+-- four characters, and their values
+abbrev Four : ℕ → List ℕ → Type 0
+Four u xs =
+    (cs : ℕ × ℕ × ℕ × ℕ) × (ds : ℕ × ℕ × ℕ × ℕ) × IsHex cs.0 ds.0 × IsHex cs.1 ds.1
+    × IsHex cs.2 ds.2 × IsHex cs.3 ds.3 × (xs ≡ cs.0 ∷ cs.1 ∷ cs.2 ∷ cs.3 ∷ [])
+    × (u ≡ ds.0 * 4096 + ds.1 * 256 + ds.2 * 16 + ds.3)
 
 four : (u : ℕ) (xs : List ℕ) → UnitText u xs → Four u xs
 unfolding BothText MadeText Whichever
@@ -76,14 +64,23 @@ four u xs (
     r,
     ps,
     ys,
-    (x, x-is, x-hex),
+    (x, x-is, k),
     (
       b,
       s,
       bs,
       zs,
-      (y, y-is, y-hex),
-      (c, d, cs, ds, (z, z-is, z-hex), (w, w-is, w-hex), split, third),
+      (y, y-is, l),
+      (
+        c,
+        d,
+        cs,
+        ds,
+        (z, z-is, m),
+        (w, w-is, n),
+        split,
+        third,
+      ),
       more,
       second,
     ),
@@ -93,23 +90,10 @@ four u xs (
   number,
 ) =
     let value : ℕ × ℕ × ℕ × ℕ → ℕ = λ p. p.0 * 4096 + p.1 * 256 + p.2 * 16 + p.3 in
-    record {
-      a = x;
-      b = y;
-      c = z;
-      d = w;
-      a-is = a;
-      b-is = b;
-      c-is = c;
-      d-is = d;
-      first = x-hex;
-      second = y-hex;
-      third = z-hex;
-      fourth = w-hex;
-      whole = glue x all x-is (glue y more y-is (glue z split z-is w-is));
-      number = number ∙ ap value (first ∙ ap (λ (t : ℕ × (ℕ × ℕ)). to_four a t)
-          (second ∙ ap (λ (t : ℕ × ℕ). (b, t)) third));
-    }
+    let whole = glue x all x-is (glue y more y-is (glue z split z-is w-is)) in
+    let same = first ∙ ap (λ (t : ℕ × (ℕ × ℕ)). to_four a t)
+    (second ∙ ap (λ (t : ℕ × ℕ). (b, t)) third) in
+    ((x, y, z, w), (a, b, c, d), k, l, m, n, whole, number ∙ ap value same)
 
 hex_below : (c d : ℕ) → IsHex c d → d < 16
 hex_below c d is = grind (arith, is)
@@ -160,53 +144,45 @@ pub record Escaping (on : Escape → List ℕ → Type 0) (behind : List ℕ →
       → escape_step e c ≡ escaped.More f → on f l → on e (c ∷ l)
   pub done : (c : ℕ) (l : List ℕ) → is_hex c ≡ true → behind l → on escapes.One (c ∷ l)
 
-module _ {on : Escape → List ℕ → Type 0} {behind : List ℕ → Type 0} (s : Escaping on behind) where
+module _ {on : Escape → List ℕ → Type 0} {behind : List ℕ → Type 0} (g : Escaping on behind) where
   -- the last two, three and four digits
   two : (c d c-is d-is : ℕ) (l : List ℕ) → IsHex c c-is → IsHex d d-is → behind l
       → on escapes.Two (c ∷ d ∷ l)
   two c d c-is d-is l is last x =
-      s.more escapes.Two escapes.One c (d ∷ l) refl (hex_goes c c-is escapes.One is)
-      (s.done d l (hex_is d d-is last) x)
+      g.more escapes.Two escapes.One c (d ∷ l) refl (hex_goes c c-is escapes.One is)
+      (g.done d l (hex_is d d-is last) x)
 
-  three : (u : ℕ) (xs : List ℕ) (q : Four u xs) (l : List ℕ) → behind l
-      → on escapes.Three (q.b ∷ q.c ∷ q.d ∷ l)
-  three u xs q l x =
-      s.more escapes.Three escapes.Two q.b (q.c ∷ q.d ∷ l) refl
-      (hex_goes q.b q.b-is escapes.Two q.second)
-      (two q.c q.d q.c-is q.d-is l q.third q.fourth x)
+  three : (b c d q r s : ℕ) (l : List ℕ) → IsHex b q → IsHex c r → IsHex d s → behind l
+      → on escapes.Three (b ∷ c ∷ d ∷ l)
+  three b c d q r s l is next last x =
+      g.more escapes.Three escapes.Two b (c ∷ d ∷ l) refl (hex_goes b q escapes.Two is)
+      (two c d r s l next last x)
 
   any : (u : ℕ) (xs l : List ℕ) → Four u xs → behind l → on escapes.Four (xs ++ l)
-  any u xs l q x =
-      moved (λ k. on escapes.Four k) l q.whole
-      (s.more escapes.Four escapes.Three q.a (q.b ∷ q.c ∷ q.d ∷ l) refl
-      (hex_goes q.a q.a-is escapes.Three q.first) (three u xs q l x))
+  any u xs l ((a, b, c, d), (p, q, r, s), i, j, k, m, whole, number) x =
+      moved (λ k. on escapes.Four k) l whole
+      (g.more escapes.Four escapes.Three a (b ∷ c ∷ d ∷ l) refl (hex_goes a p escapes.Three i)
+      (three b c d q r s l j k m x))
 
-  alone : (u c : ℕ) (xs l : List ℕ) → Four u xs → IsAlone u c → behind l
+  alone : (u v : ℕ) (xs l : List ℕ) → Four u xs → IsAlone u v → behind l
       → on escapes.Unit (xs ++ l)
-  alone u c xs l q (same, is) x =
-      moved (λ k. on escapes.Unit k) l q.whole (elim (first_goes q.a q.a-is q.first) [
+  alone u v xs l ((a, b, c, d), (p, q, r, s), i, j, k, m, whole, number) (same, is) x =
+      moved (λ k. on escapes.Unit k) l whole (elim (first_goes a p i) [
         | inl (thirteen, e) ↦
-            s.more escapes.Unit escapes.AfterD q.a (q.b ∷ q.c ∷ q.d ∷ l) refl e
-            (s.more escapes.AfterD escapes.Two q.b (q.c ∷ q.d ∷ l) refl
-            (second_goes q.b q.b-is q.second (low thirteen is))
-            (two q.c q.d q.c-is q.d-is l q.third q.fourth x))
+            g.more escapes.Unit escapes.AfterD a (b ∷ c ∷ d ∷ l) refl e
+            (g.more escapes.AfterD escapes.Two b (c ∷ d ∷ l) refl
+            (second_goes b q j (low thirteen is)) (two c d r s l k m x))
         | inr e ↦
-            s.more escapes.Unit escapes.Three q.a (q.b ∷ q.c ∷ q.d ∷ l) refl e
-            (three u xs q l x)
+            g.more escapes.Unit escapes.Three a (b ∷ c ∷ d ∷ l) refl e
+            (three b c d q r s l j k m x)
       ])
     where
-      low : q.a-is ≡ 13 → (u < 55296) ⊎ ((57344 ≤ u) × (u ≤ 1114111)) → q.b-is < 8
-      low thirteen (inl less) = omega (arith, thirteen, less, q.number)
+      low : p ≡ 13 → (u < 55296) ⊎ ((57344 ≤ u) × (u ≤ 1114111)) → q < 8
+      low thirteen (inl less) = omega (arith, thirteen, less, number)
       low thirteen (inr (least, most)) =
-          absurd (omega (
-            arith,
-            thirteen,
-            least,
-            q.number,
-            hex_below q.b q.b-is q.second,
-            hex_below q.c q.c-is q.third,
-            hex_below q.d q.d-is q.fourth,
-          ))
+          let second = hex_below b q j in
+          let third = hex_below c r k in
+          absurd (omega (arith, thirteen, least, number, second, third, hex_below d s m))
 
   at : (e : Escape) {b c : ℕ} → c ≡ b → escape_step e c ≡ escape_step e b
   at e is = ap (λ b. escape_step e b) is
@@ -215,54 +191,51 @@ module _ {on : Escape → List ℕ → Type 0} {behind : List ℕ → Type 0} (s
   six : (c d c-is d-is : ℕ) (l : List ℕ) → IsHex c c-is → IsHex d d-is → c-is * 16 + d-is ≤ 16
       → (c-is * 16 + d-is ≡ 0 → on escapes.Unit l) → on escapes.Four l → on escapes.Six (c ∷ d ∷ l)
   six c d zero zero l is last few unit any =
-      s.more escapes.Six escapes.Five c (d ∷ l) refl (at escapes.Six (zero_is c is))
-      (s.more escapes.Five escapes.Unit d l refl (at escapes.Five (zero_is d last)) (unit refl))
+      g.more escapes.Six escapes.Five c (d ∷ l) refl (at escapes.Six (zero_is c is))
+      (g.more escapes.Five escapes.Unit d l refl (at escapes.Five (zero_is d last)) (unit refl))
   six c d zero (suc n) l is last few unit any =
-      s.more escapes.Six escapes.Five c (d ∷ l) refl (at escapes.Six (zero_is c is))
-      (s.more escapes.Five escapes.Four d l refl (fifth_goes d n last) any)
+      g.more escapes.Six escapes.Five c (d ∷ l) refl (at escapes.Six (zero_is c is))
+      (g.more escapes.Five escapes.Four d l refl (fifth_goes d n last) any)
   six c d (suc zero) zero l is last few unit any =
-      s.more escapes.Six escapes.FiveHigh c (d ∷ l) refl (at escapes.Six (one_is c is))
-      (s.more escapes.FiveHigh escapes.Four d l refl (at escapes.FiveHigh (zero_is d last)) any)
+      g.more escapes.Six escapes.FiveHigh c (d ∷ l) refl (at escapes.Six (one_is c is))
+      (g.more escapes.FiveHigh escapes.Four d l refl (at escapes.FiveHigh (zero_is d last)) any)
   six c d (suc zero) (suc n) l is last few unit any = absurd (omega (arith, few))
   six c d (suc (suc m)) n l is last few unit any = absurd (omega (arith, few))
 
   -- eight digits, from 0 to 10FFFF
-  eight : (u v c : ℕ) (xs ys l : List ℕ) → Four u xs → Four v ys → IsWide (u, v) c → behind l
+  eight : (u v n : ℕ) (xs ys l : List ℕ) → Four u xs → Four v ys → IsWide (u, v) n → behind l
       → on escapes.Eight (xs ++ (ys ++ l))
-  eight u v c xs ys l q r (same, is) x =
+  eight u v n xs ys l ((a, b, c, d), (p, q, r, s), i, j, k, m, whole, number) y (same, is) x =
       let small : u ≤ 16 = elim is [
         | inl less ↦ omega (arith, less)
         | inr between ↦ omega (arith, between.1)
       ] in
-      let number = q.number in
-      let first : q.a-is ≡ 0 = omega (arith, small, number) in
-      let second : q.b-is ≡ 0 = omega (arith, small, number) in
-      let P : List ℕ → Type 0 = λ k. on escapes.Eight (k ++ (ys ++ l)) in
-      let H : ℕ → ℕ → Type 0 = λ b d. IsHex b d in
-      subst P (sym q.whole)
-      (s.more escapes.Eight escapes.Seven q.a (q.b ∷ q.c ∷ q.d ∷ (ys ++ l)) refl
-      (at escapes.Eight (zero_is q.a (subst (λ d. H q.a d) first q.first)))
-      (s.more escapes.Seven escapes.Six q.b (q.c ∷ q.d ∷ (ys ++ l)) refl
-      (at escapes.Seven (zero_is q.b (subst (λ d. H q.b d) second q.second)))
-      (six q.c q.d q.c-is q.d-is (ys ++ l) q.third q.fourth (omega (arith, small, number))
-      (λ none. alone v v ys l r (refl, short none) x) (any v ys l r x))))
+      let zero : (c d : ℕ) → IsHex c d → d ≡ 0 → c ≡ 48 =
+      λ c d is none. zero_is c (subst (λ e. IsHex c e) none is) in
+      moved (λ k. on escapes.Eight k) (ys ++ l) whole
+      (g.more escapes.Eight escapes.Seven a (b ∷ c ∷ d ∷ (ys ++ l)) refl
+      (at escapes.Eight (zero a p i (omega (arith, small, number))))
+      (g.more escapes.Seven escapes.Six b (c ∷ d ∷ (ys ++ l)) refl
+      (at escapes.Seven (zero b q j (omega (arith, small, number))))
+      (six c d r s (ys ++ l) k m (omega (arith, small, number))
+      (λ none. alone v v ys l y (refl, short none) x) (any v ys l y x))))
     where
-      short : q.c-is * 16 + q.d-is ≡ 0 → (v < 55296) ⊎ ((57344 ≤ v) × (v ≤ 1114111))
+      short : r * 16 + s ≡ 0 → (v < 55296) ⊎ ((57344 ≤ v) × (v ≤ 1114111))
       short none = elim is [
         | inl less ↦ inl (omega (arith, less))
-        | inr between ↦ inr (omega (arith, between, none), omega (arith, between))
+        | inr between ↦ inr (omega (arith, between, none, number), omega (arith, between))
       ]
 
   pub escape_front : InFront EscapeText behind (λ l. on escapes.Letter l)
   unfolding BothText MadeText Whichever
   escape_front =
       either_front
-      (both_front latter (one_front {behind = λ l. on escapes.Unit l} 117 (λ l x. s.unit l x))
+      (both_front latter (one_front {behind = λ l. on escapes.Unit l} 117 (λ l x. g.unit l x))
       (record {
         makes = λ c xs rest (u, text, is) x. alone u c xs rest (four u xs text) is x;
       }))
       (either_front
-      (both_front latter (one_front {behind = λ l. on escapes.Eight l} 85 (λ l x. s.wide l x))
+      (both_front latter (one_front {behind = λ l. on escapes.Eight l} 85 (λ l x. g.wide l x))
       (record {
         makes = λ c xs rest (both, (u, v, ps, qs, first, second, split, joins), is) x.
             let P : List ℕ → Type 0 = λ l. on escapes.Eight (l ++ rest) in
@@ -273,7 +246,7 @@ module _ {on : Escape → List ℕ → Type 0} {behind : List ℕ → Type 0} (s
       }))
       (record {
         makes = λ k xs rest (c, split, is) x.
-            moved (λ l. on escapes.Letter l) rest split (s.letter c k rest is x);
+            moved (λ l. on escapes.Letter l) rest split (g.letter c k rest is x);
       }))
 
 -- a text between two quotation marks

@@ -2,7 +2,8 @@
 use Rattle.std.specs.Char.{digit_value}
 use Rattle.std.specs.List.{All}
 use Rattle.std.specs.Prelude.{◌≡◌, ◌==◌, ◌&&◌, ◌≤◌, ◌<◌, ◌+◌, ◌*◌, ℕ, zero, suc, Bool, true}
-use Rattle.std.specs.Prelude.{false, nat_le, List, [], ◌∷◌, ◌++◌, Option, Some, None, if◌then◌else◌}
+use Rattle.std.specs.Prelude.{false}
+use Rattle.std.specs.Prelude.{nat_le, List, [], ◌∷◌, ◌++◌, Option, Some, None, if◌then◌else◌}
 use Rattle.std.specs.Prelude.{length}
 use Rattle.std.proofs.Common.{refl, sym, ap, subst, inl, inr, ◌∙◌, arith}
 use Rattle.std.proofs.lemmas.Bool.{eq-eqb}
@@ -31,8 +32,7 @@ pub two : (P : List ℕ → Type 0) (tokens rest l : List ℕ) (n : ℕ) → Two
     → P (tokens ++ l)
 unfolding TwoDigits
 two P tokens rest l n (t, o, c, d, (t-few, c-is), (o-few, d-is), e, is) makes =
-    let Q : List ℕ → Type 0 = λ k. P (k ++ l) in
-    subst Q (sym (e ∙ ap (λ b. b ∷ d ∷ rest) c-is ∙ ap (λ b. (48 + t) ∷ b ∷ rest) d-is))
+    moved P l (e ∙ ap (λ b. b ∷ d ∷ rest) c-is ∙ ap (λ b. (48 + t) ∷ b ∷ rest) d-is)
     (makes t o t-few o-few is)
 
 pub marked : (P : List ℕ → Type 0) (mark : ℕ) (tokens rest l : List ℕ) (n : ℕ)
@@ -41,8 +41,7 @@ pub marked : (P : List ℕ → Type 0) (mark : ℕ) (tokens rest l : List ℕ) (
     → P (tokens ++ l)
 unfolding Marked
 marked P mark tokens rest l n (mid, e, text) makes =
-    let Q : List ℕ → Type 0 = λ k. P (k ++ l) in
-    subst Q (sym e) (two (λ k. P (mark ∷ k)) mid rest l n text makes)
+    moved P l e (two (λ k. P (mark ∷ k)) mid rest l n text makes)
 
 pub digit_ok : (o : ℕ) → o ≤ 9 → is_digit (48 + o) ≡ true
 digit_ok o few = grind (arith, nat_tests, few)
@@ -215,8 +214,11 @@ module _ (level : ℕ) (held : List Bracket) where
       (λ c is. ap (λ b. moment_if b moments.OffsetMinuteEnd) is)
       (λ c is. ap (λ b. moment_if b moments.Whole) is) u v l v-few (omega (arith, m, same)) x))))
 
-  ended : (dated : Bool) (l : List ℕ) → Behind l → Ended dated l
-  ended dated l x =
+  pub no_offset : (dated : Bool) (tokens l : List ℕ) → MaybeOffset None tokens → Behind l
+      → Ended dated (tokens ++ l)
+  unfolding MaybeOffset
+  no_offset dated tokens l e x =
+      moved (λ k. Ended dated k) l e
       (done (moments.Time dated) l refl x, done (moments.Fraction dated) l refl x)
 
   offset_part : (offset : Offset) (tokens l : List ℕ) → IsOffset offset tokens → Behind l
@@ -236,12 +238,5 @@ module _ (level : ℕ) (held : List Bracket) where
   pub maybe_offset : (offset : Option Offset) (tokens l : List ℕ) → MaybeOffset offset tokens
       → Behind l → Ended true (tokens ++ l)
   unfolding MaybeOffset
-  maybe_offset None tokens l e x =
-      moved (λ k. Ended true k) l e (ended true l x)
+  maybe_offset None tokens l text x = no_offset true tokens l text x
   maybe_offset (Some offset) tokens l text x = offset_part offset tokens l text x
-
-  pub no_offset : (tokens l : List ℕ) → MaybeOffset None tokens → Behind l
-      → Ended false (tokens ++ l)
-  unfolding MaybeOffset
-  no_offset tokens l e x =
-      moved (λ k. Ended false k) l e (ended false l x)
