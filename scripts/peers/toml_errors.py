@@ -106,8 +106,7 @@ def judge(row, answer, theirs):
     if is_document and offset not in ("none", "earlier"):
         return False
     if not is_document and offset != str(len(front.encode())):
-        is_next = offset == str(len(front.encode()) + 1)
-        return "an underscore that no digit may follow" if is_next and text[at] == "_" else False
+        return False
     whole = completed(front)
     if is_read(whole) is False:
         return "a second of 60, or a year of 0" if MORE.search(whole) else False

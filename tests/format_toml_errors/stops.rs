@@ -16,6 +16,7 @@ fn first_stop_is_the_first_character_that_no_document_has(rt: HostRuntime) {
         ("a = 24:00:00", 6, None, "the end of the line"),
         ("a = 9223372036854775808", 23, None, "an integer of 64 bits"),
         ("a = 0x8000000000000000", 21, None, "an integer of 64 bits"),
+        ("a = 0x7fffffffffffffff_", 22, None, "the end of the line"),
         ("a = 1__0", 6, None, "a digit"),
         ("a = 012", 7, None, "a year or an hour, or a number without leading zeros"),
         ("a = {b = 1,}", 11, Some(4), "a key"),

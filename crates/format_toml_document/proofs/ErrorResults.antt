@@ -1,21 +1,25 @@
 -- Lemmas about the position and the contents of a `TomlError`.
-use Rattle.std.specs.Prelude.{◌≡◌, ◌⊎◌, ◌-◌, ℕ, List, [], ◌++◌, Option, Some, length, take}
+use Rattle.std.specs.Prelude.{◌≡◌, ◌⊎◌, ◌-◌, ℕ, List, [], ◌∷◌, ◌++◌, Option, Some}
+use Rattle.std.specs.Prelude.{length, take}
 use Rattle.std.specs.Prelude.{Err, IfOk, Ok, Result}
 use Rattle.std.specs.Borrow.{Bor}
 use Rattle.std.specs.Str.{IsCharBoundary, IsUtf8, chars, encode_utf8_all}
 use Rattle.std.specs.declared.vec.Vec.{Vec}
-use Rattle.std.proofs.Common.{inl, inr, refl, sym, ap, subst, ◌∙◌, arith, length-append}
+use Rattle.std.proofs.Common.{inl, inr, refl, sym, ap, subst, ◌∙◌, arith, append_assoc}
+use Rattle.std.proofs.Common.{length-append}
 use Rattle.std.proofs.Math.Seq.{take-append_seam}
 use Rattle.std.proofs.lemmas.Str.{IsCharBoundary-at_seam, IsUtf8-take, encodes-append}
 use Rattle.std.proofs.lemmas.Str.{encodes-chars}
 use Rattle.format_toml.specs.Starts.{IsStart, line_end}
 use Rattle.format_toml.specs.Toml.{DocumentText}
 use Rattle.format_toml_document.specs.Fault.{IsAfter, IsDocument, IsErrorOf, IsLocation}
-use Rattle.format_toml_document.specs.Fault.{IsOpening, IsRefusal, IsUnexpected}
+use Rattle.format_toml_document.specs.Fault.{IsOpening, IsRefusal, IsUnexpected, NoneBegins}
+use Rattle.format_toml_document.proofs.Documents.{none_begins}
 use Rattle.format_toml_document.specs.declared.fault.TomlError.{TomlError}
 use Rattle.format_toml_document.specs.declared.fault.TomlError.TheVariants as faults
 use Rattle.format_toml_document.specs.declared.fault.Location.{Location}
-use Rattle.format_toml_errors.specs.Stop.{IsStopIn}
+use Rattle.format_toml_errors.specs.Stop.{IsStopIn, StopsAt}
+use Rattle.format_toml_errors.specs.declared.expected.Expected.{Expected}
 use Rattle.format_toml_errors.specs.Unclosed.{IsUnclosed, text_of, unclosed_is_end}
 use Rattle.format_toml_errors.specs.declared.walk.Stop.{Stop}
 use Rattle.format_toml_tree.specs.Runs.{Gives, empty}
@@ -63,15 +67,33 @@ opening_told text stop start at is after unclosed =
     unclosed_is_end (chars text) (chars stop.rest.now) (Some (chars start.now)) found in
     (start.now, found, after front e)
 
-pub unexpected_told : (level : ℕ) (text : List ℕ) (stop : Stop) (at : Location)
+-- no document begins with the text before such a place and the character there
+none_told : (A : Type 0) (level : ℕ) (tokens rest : List ℕ) (expected : Expected)
+    → StopsAt level tokens rest expected
+    → (front : List ℕ) × (tokens ≡ front ++ rest) × NoneBegins A level front rest
+none_told A level tokens [] expected (front, e, may, stopped, wants) = (front, e, tt)
+none_told A level tokens (c ∷ rest) expected (front, e, may, stopped, wants) = (
+  front,
+  e,
+  λ more lines text.
+      none_begins level (front ++ c ∷ []) more stopped lines
+      (subst (λ l. DocumentText level lines l) (sym (append_assoc front (c ∷ []) more)) text),
+)
+
+pub unexpected_told : (A : Type 0) (level : ℕ) (text : List ℕ) (stop : Stop) (at : Location)
     (unclosed : Option Location) → IsStopIn level (chars text) (Some stop)
     → ((front : List ℕ) → chars text ≡ front ++ chars stop.rest.now
     → IsAfter text stop.rest.now at)
     → (IsUnclosed (chars text) (chars stop.rest.now) (text_of stop.unclosed)
     → IsOpening text stop.rest.now unclosed)
-    → IsUnexpected level text (faults.Unexpected at stop.expected unclosed)
-unexpected_told level text stop at unclosed (stops, starts) after opens =
-    (stop.rest.now, stops, after stops.0 stops.1, opens starts)
+    → IsUnexpected A level text (faults.Unexpected at stop.expected unclosed)
+unexpected_told A level text stop at unclosed (stops, starts) after opens = (
+  stop.rest.now,
+  stops,
+  after stops.0 stops.1,
+  opens starts,
+  none_told A level (chars text) (chars stop.rest.now) stop.expected stops,
+)
 
 module _ (A : Type 0) (level : ℕ) (text : List ℕ) where
   pub refusal_told : (n : ℕ) (why : Reason) (rest : Bor (List ℕ)) (at : Location)

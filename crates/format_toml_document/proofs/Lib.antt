@@ -1,1 +1,9 @@
+pub mod Days
+pub mod Digits
+pub mod Documents
 pub mod ErrorResults
+pub mod Long
+pub mod Numbers
+pub mod Quoted
+pub mod Times
+pub mod Walks

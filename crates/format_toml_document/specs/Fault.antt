@@ -1,5 +1,6 @@
 -- The definition of a document, and of the `TomlError` of a text.
-use Rattle.std.specs.Prelude.{◌≡◌, ◌++◌, ℕ, List, [], Option, Some, None, Ok, Err, length, take, ⊤}
+use Rattle.std.specs.Prelude.{◌≡◌, ◌++◌, ℕ, List, [], ◌∷◌, Option, Some, None, Ok, Err}
+use Rattle.std.specs.Prelude.{length, take, ⊤}
 use Rattle.std.specs.Str.{IsCharBoundary, IsUtf8, chars}
 use Rattle.std.specs.Str.Lossy.{utf8_valid_len}
 use Rattle.std.specs.declared.vec.Vec.{Vec}
@@ -52,14 +53,25 @@ IsOpening text rest (Some at) =
     × IsAfter text start at
 IsOpening text rest None = IsUnclosed (chars text) (chars rest) None
 
+-- `NoneBegins A level front rest`: no document of the level begins with `front` and the first
+-- character of `rest`; or `rest` is empty.
+abbrev pub NoneBegins : Type 0 → ℕ → List ℕ → List ℕ → Type 0
+NoneBegins A level front [] = ⊤
+NoneBegins A level front (c ∷ rest) =
+    (more : List ℕ) (lines : Vec (Option (Item A)) A) → DocumentText level lines (front ++ c ∷ more)
+    → ⊥
+
 -- The first character with which no document of the level continues, or the end of the text if all
--- are a prefix of one; what is expected there, and what is not closed.
-abbrev pub IsUnexpected : ℕ → List ℕ → TomlError → Type 0
-IsUnexpected level text (faults.Unexpected at expected unclosed) =
+-- are a prefix of one, by the walk; what is expected there, and what is not closed. No document
+-- begins with the text before it and this character.
+abbrev pub IsUnexpected : Type 0 → ℕ → List ℕ → TomlError → Type 0
+IsUnexpected A level text (faults.Unexpected at expected unclosed) =
     (rest : List ℕ) × StopsAt level (chars text) (chars rest) expected × IsAfter text rest at
     × IsOpening text rest unclosed
-IsUnexpected level text faults.OutOfMemory = ⊤
-IsUnexpected level text other = ⊥
+    × ((front : List ℕ) × (chars text ≡ front ++ chars rest)
+    × NoneBegins A level front (chars rest))
+IsUnexpected A level text faults.OutOfMemory = ⊤
+IsUnexpected A level text other = ⊥
 
 module _ (A : Type 0) (level : ℕ) (text : List ℕ) where
   -- The text is these lines, which give a tree, and places hold it.
@@ -83,7 +95,7 @@ module _ (A : Type 0) (level : ℕ) (text : List ℕ) where
   abbrev pub IsErrorOf : TomlError → Type 0
   IsErrorOf (faults.Unexpected at expected unclosed) =
       ((lines : Vec (Option (Item A)) A) → DocumentText level lines (chars text) → ⊥)
-      × IsUnexpected level text (faults.Unexpected at expected unclosed)
+      × IsUnexpected A level text (faults.Unexpected at expected unclosed)
   IsErrorOf (faults.Invalid at why) =
       (lines : Vec (Option (Item A)) A) × DocumentText level lines (chars text)
       × ((n : ℕ) × Gives (empty, []) 0 lines.items (Err (n, why))

@@ -217,7 +217,7 @@ fn opening(text: &str, stop: Stop<'_>) -> Option<Location>
 
 /// Returns the [`TomlError`] of a text that is not lines of TOML.
 pub(crate) fn fault_of_text<A: Allocator + Copy>(alloc: A, level: usize, text: &str) -> TomlError
-    ensures { IsUnexpected level text.now result }
+    ensures { IsUnexpected A level text.now result }
 {
     let Ok(Some(stop)) = first_stop(alloc, level, text) else {
         return TomlError::OutOfMemory;

@@ -1,14 +1,17 @@
 //! Laws that follow from the contracts.
+ghost use Rattle.format_toml.specs.Toml.{DocumentText};
 ghost use Rattle.format_toml_document.specs.Fault.{IsDocument, IsErrorOf};
 ghost use Rattle.format_toml_document.specs.declared.fault.TomlError.{TomlError};
 ghost use Rattle.format_toml_document.specs.declared.fault.TomlError.TheVariants as faults;
 ghost use Rattle.format_toml_document.specs.declared.fault.Location.{Location};
+ghost use Rattle.format_toml_errors.specs.Stop.{IsAccepted, MayBegin};
 ghost use Rattle.format_toml_tree.specs.Runs.{Gives, Tree as Given, empty};
 ghost use Rattle.format_toml_tree.specs.declared.roles.Reason.{Reason};
 ghost use Rattle.format_toml_tree.specs.declared.tree.Tree.{Tree};
 ghost use Rattle.format_toml_tree.specs.declared.value.Item.{Item};
-ghost use Rattle.std.specs.Prelude.{◌≡◌, ◌⊎◌, [], ℕ, List, Option, Result};
+ghost use Rattle.std.specs.Prelude.{◌≡◌, ◌⊎◌, ◌++◌, [], ℕ, List, Option, Result};
 ghost use Rattle.std.specs.Str.{IsUtf8};
+ghost use Rattle.std.specs.declared.vec.Vec.{Vec};
 
 use std::alloc::Allocator;
 
@@ -43,4 +46,36 @@ pub fn a_document_is_lines_of_text<A: Allocator>()
 pub fn lines_give_one_tree_or_one_refusal<A: Allocator>()
     ensures { (lines : List (Option (Item A))) (one other : Result (Given A) (ℕ × Reason))
         → Gives (empty, []) 0 lines one → Gives (empty, []) 0 lines other → one ≡ other }
+{}
+
+/// The walk of [`first_stop`](format_toml_errors::walk::first_stop) accepts each document: each of
+/// its characters may occur where it does, and the text may end after them.
+///
+/// ```
+/// use format_toml_document::laws::the_walk_accepts_documents;
+/// use std::alloc::Allocator;
+///
+/// fn of_an_allocator<A: Allocator>() {
+///     the_walk_accepts_documents::<A>();
+/// }
+/// ```
+pub fn the_walk_accepts_documents<A: Allocator>()
+    ensures { (level : ℕ) (lines : Vec (Option (Item A)) A) (text : List ℕ)
+        → DocumentText level lines text → IsAccepted level text }
+{}
+
+/// Characters that the walk of [`first_stop`](format_toml_errors::walk::first_stop) rejects at a
+/// level begin no document of this level. No continuation of them is the text of lines.
+///
+/// ```
+/// use format_toml_document::laws::no_document_begins_otherwise;
+/// use std::alloc::Allocator;
+///
+/// fn of_an_allocator<A: Allocator>() {
+///     no_document_begins_otherwise::<A>();
+/// }
+/// ```
+pub fn no_document_begins_otherwise<A: Allocator>()
+    ensures { (level : ℕ) (front more : List ℕ) → (MayBegin level front → ⊥)
+        → (lines : Vec (Option (Item A)) A) → DocumentText level lines (front ++ more) → ⊥ }
 {}

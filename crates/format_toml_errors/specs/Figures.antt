@@ -84,15 +84,22 @@ float_step figures.Digits c =
     if c == 95 then Some figures.Power else figure_if (is_digit c) figures.Digits
 float_step _ c = None
 
+-- an integer below this can have another digit: 2 ^ 63 by the base
+abbrev pub limit_of : Base → ℕ
+limit_of bases.Hex = 576460752303423488
+limit_of bases.Octal = 1152921504606846976
+limit_of bases.Binary = 4611686018427387904
+
 -- The number with one more digit of its base, if it is below 2 ^ 63.
 abbrev pub based_digit : Base → ℕ → ℕ → Option ℕ
 based_digit bases.Hex value c =
-    if nat_lt value 576460752303423488 && is_hex c then Some (value * 16 + digit_value c) else None
+    if nat_lt value (limit_of bases.Hex) && is_hex c then Some (value * 16 + digit_value c) else
+    None
 based_digit bases.Octal value c =
-    if nat_lt value 1152921504606846976 && (nat_le 48 c && nat_le c 55)
+    if nat_lt value (limit_of bases.Octal) && (nat_le 48 c && nat_le c 55)
     then Some (value * 8 + digit c) else None
 based_digit bases.Binary value c =
-    if nat_lt value 4611686018427387904 && (nat_le 48 c && nat_le c 49)
+    if nat_lt value (limit_of bases.Binary) && (nat_le 48 c && nat_le c 49)
     then Some (value * 2 + digit c) else None
 
 abbrev pub based_if : Base → Option ℕ → Option Figure
@@ -105,7 +112,8 @@ base_step base value c = based_if base (based_digit base value c)
 abbrev pub based_step : Figure → ℕ → Option Figure
 based_step (figures.Prefix base) c = base_step base 0 c
 based_step (figures.Based base value) c =
-    if c == 95 then Some (figures.BasedMark base value) else base_step base value c
+    if c == 95 then figure_if (nat_lt value (limit_of base)) (figures.BasedMark base value) else
+    base_step base value c
 based_step (figures.BasedMark base value) c = base_step base value c
 based_step figure c = float_step figure c
 

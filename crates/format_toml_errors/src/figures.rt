@@ -1,7 +1,8 @@
 //! The characters of a number, one by one, and of a date or a time that begins like one.
 ghost use Rattle.format_toml_errors.specs.Figures.{adding, base_step, based_digit, based_step};
 ghost use Rattle.format_toml_errors.specs.Figures.{ends_figure, figure_if, figure_step, fits};
-ghost use Rattle.format_toml_errors.specs.Figures.{float_step, is_e, lead_step, next_digit};
+ghost use Rattle.format_toml_errors.specs.Figures.{float_step, is_e, lead_step, limit_of};
+ghost use Rattle.format_toml_errors.specs.Figures.{next_digit};
 ghost use Rattle.format_toml_errors.specs.Figures.{real_step, whole_step, zero_step};
 ghost use Rattle.std.specs.Prelude.{◌≡◌};
 
@@ -207,6 +208,17 @@ fn float_step(figure: Figure, c: char) -> Option<Figure>
     }
 }
 
+/// Returns the least integer of a base that another digit makes too large.
+fn limit_of(base: Base) -> u64
+    ensures { result ≡ limit_of base }
+{
+    match base {
+        Base::Hex => 576_460_752_303_423_488,
+        Base::Octal => 1_152_921_504_606_846_976,
+        Base::Binary => 4_611_686_018_427_387_904,
+    }
+}
+
 /// Returns the number of a digit of a base with digits of this number before it, or `None` if it is
 /// no digit of the base, or the number is too large.
 fn based_digit(base: Base, value: u64, c: char) -> Option<u64>
@@ -242,7 +254,9 @@ fn based_step(figure: Figure, c: char) -> Option<Figure>
 {
     match figure {
         Figure::Prefix(base) => base_step(base, 0, c),
-        Figure::Based(base, value) if c == '_' => Some(Figure::BasedMark(base, value)),
+        Figure::Based(base, value) if c == '_' => {
+            figure_if(value < limit_of(base), Figure::BasedMark(base, value))
+        }
         Figure::Based(base, value) => base_step(base, value, c),
         Figure::BasedMark(base, value) => base_step(base, value, c),
         other => float_step(other, c),
