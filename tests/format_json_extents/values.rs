@@ -120,7 +120,7 @@ const NO_VALUES: &[(usize, &[u8])] = &[
     (2, b"{\"a\":{\"b\":{}}}"),
 ];
 
-/// Texts that are values of two levels at most, with white space round them.
+/// Texts that are values of two levels at most, with whitespace round them.
 const TEXTS: &[&[u8]] = &[
     b"1",
     b" 1",

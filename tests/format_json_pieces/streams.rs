@@ -1,4 +1,4 @@
-//! Values one by one, with white space between them, at every cut.
+//! Values one by one, with whitespace between them, at every cut.
 use format_json_pieces::value::read_next_in_pieces;
 use std::alloc::Global;
 use std::process::Abort;

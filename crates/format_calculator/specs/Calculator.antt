@@ -61,13 +61,13 @@ abbrev pub StopsAt : (ℕ → Bool) → List ℕ → Type 0
 StopsAt test [] = Unit {0}
 StopsAt test (c ∷ cs) = test c ≡ false
 
--- A number: one or more digits, and white space after them. It fits 64 bits.
+-- A number: one or more digits, and whitespace after them. It fits 64 bits.
 abbrev pub NumberItem : Items ℕ ℤ
 NumberItem tokens v rest =
     ((more : List ℕ) × TakesOne is_digit tokens more) × (v ≡ pos (number_from 0 tokens))
     × FitsSigned w64 v × (rest ≡ behind is_white (behind is_digit tokens))
 
--- An operator of one character, and white space after it.
+-- An operator of one character, and whitespace after it.
 abbrev pub CharItem : {O : Type 0} → (ℕ → Option O) → Items ℕ O
 CharItem meant tokens o rest =
     (c : ℕ) × (more : List ℕ) × (tokens ≡ c ∷ more) × (meant c ≡ Some o)

@@ -19,6 +19,6 @@ IsMark marks.NumberSign b = b ≡ 35
 IsMark marks.Semicolon b = b ≡ 59
 IsMark marks.Either b = (b ≡ 35) ⊎ (b ≡ 59)
 
--- White space of ASCII: tab, form feed, carriage return, space. A line feed is none within a line.
+-- Whitespace of ASCII: tab, form feed, carriage return, space. A line feed is none within a line.
 abbrev pub IsBlank : ℕ → Type 0
 IsBlank b = is_ascii_whitespace b ≡ true

@@ -114,7 +114,7 @@ impl Dialect {
         }
     }
 
-    /// The dialect that reads most: `=` and `:`, comments after white space too, keys without
+    /// The dialect that reads most: `=` and `:`, comments after whitespace too, keys without
     /// values, pairs before the first section, a line for each pair.
     ///
     /// ```

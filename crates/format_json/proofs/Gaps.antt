@@ -1,4 +1,4 @@
--- White space that is put, one space at a time.
+-- Whitespace that is put, one space at a time.
 use Rattle.std.specs.Prelude.{◌≡◌, ◌+◌, ◌≤◌, ◌++◌, ℕ, List, [], ◌∷◌, replicate}
 use Rattle.std.proofs.Common.{ap, append_assoc, arith, sym, ◌∙◌}
 use Rattle.std.proofs.lemmas.List.{append-nil, replicate-append-replicate}

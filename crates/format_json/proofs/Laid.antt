@@ -45,7 +45,7 @@ module _ {O : Type 0} {inner outer : Text ℕ O} (within : IsWithin inner outer)
   each_within : IsWithin Each Any
   each_within = within_then (λ d o. o) (mark_within 44 (gaps.Line near)) within
 
-  -- white space after the last part is that of the part
+  -- whitespace after the last part is that of the part
   rest_spaced : (o : O) (os : List O) (ys zs : List ℕ) (slice : Slice)
       → EachText Each (o ∷ os) ys → GapText slice zs → EachText Any (o ∷ os) (ys ++ zs)
   unfolding EachText BothText

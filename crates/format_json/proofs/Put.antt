@@ -26,7 +26,7 @@ use Rattle.grammars.specs.Texts.{PartedText, Text}
 use Rattle.format_json.specs.declared.layout.Gap.TheVariants as gaps
 use Rattle.format_json_texts.specs.declared.value.Value as values
 
--- ---- white space and marks
+-- ---- whitespace and marks
 
 ascii : (spaces : ℕ) → encode_utf8_all (replicate spaces 32) ≡ replicate spaces 32
 unfolding encode_utf8
@@ -50,7 +50,7 @@ gap_all gaps.Space = all_spaces 1
 gap_all (gaps.Line spaces) =
     All-cons IsMultispace 10 (replicate spaces 32) (inr (inr refl)) (all_spaces spaces)
 
--- a slice that shows the white space
+-- a slice that shows the whitespace
 abbrev pub shown : Gap → Slice
 shown gap = record { ref_ptr = (0, 0); now = gap_bytes gap }
 
@@ -63,7 +63,7 @@ gap_put {before} gap e = record {
   behind = e ∙ ap (λ l. before ++ l) (sym (gap_ascii gap));
 }
 
--- a structural character and white space
+-- a structural character and whitespace
 pub mark_put : {before after : List ℕ} (c : ℕ) (gap : Gap)
     → after ≡ before ++ (encode_utf8 c ++ gap_bytes gap)
     → Adds (LaidMark c gap) (c, shown gap) before after

@@ -11,7 +11,7 @@ use Rattle.format_json_writer.specs.Compact.{CompactScalar, CompactString}
 use Rattle.format_parts.specs.Words.{Between, For, One, Slice, former, latter, pair}
 use Rattle.grammars.specs.Texts.{BothText, EitherText, InList, PartedText, Text}
 
--- ---- white space
+-- ---- whitespace
 
 -- The bytes of a gap: none, a space, or a line feed and its spaces.
 abbrev pub gap_bytes : Gap → List ℕ
@@ -19,11 +19,11 @@ gap_bytes gaps.None = []
 gap_bytes gaps.Space = 32 ∷ []
 gap_bytes (gaps.Line spaces) = 10 ∷ replicate spaces 32
 
--- white space that is this one
+-- whitespace that is this one
 abbrev pub ThisGap : Gap → Text ℕ Slice
 ThisGap gap slice tokens = GapText slice tokens × (tokens ≡ gap_bytes gap)
 
--- a structural character, and this white space after it
+-- a structural character, and this whitespace after it
 abbrev pub LaidMark : ℕ → Gap → Text ℕ (ℕ × Slice)
 LaidMark c gap = BothText pair (One c) (ThisGap gap)
 

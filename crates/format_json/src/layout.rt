@@ -14,7 +14,7 @@ use format_json_writer::string::write_string;
 use format_json_writer::value::write_value;
 use std::alloc::{AllocError, Allocator};
 
-/// White space between two parts of a text.
+/// Whitespace between two parts of a text.
 #[derive(Clone, Copy, Drop)]
 pub enum Gap {
     /// None.

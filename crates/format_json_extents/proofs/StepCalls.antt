@@ -301,7 +301,7 @@ abbrev pub Stops : List ℕ → Type 0
 Stops [] = ⊤
 Stops (b ∷ more) = IsStop b
 
--- after white space
+-- after whitespace
 abbrev pub Follows : List ℕ → Type 0
 Follows rest =
     (gap : List ℕ) × (tail : List ℕ) × IsGap gap × (rest ≡ gap ++ tail) × Stops tail

@@ -44,7 +44,7 @@ scalar_walks told value it lead rest is follows =
       is_step = scalar_step it.step value rest it.is_scalar (follows_no_colon rest follows);
     }) (follows_stops rest follows))
 
--- Calls return these steps of a text with an end after it, and leave white space and the end.
+-- Calls return these steps of a text with an end after it, and leave whitespace and the end.
 abbrev Reaches : List ℕ → StepList → List ℕ → Type 0
 Reaches start told tail = (gap : List ℕ) × IsGap gap × StepsUpTo start told (gap ++ tail)
 

@@ -70,7 +70,7 @@ closing false = 93
 abbrev pub IsClosing : Bool → ℕ → Type 0
 IsClosing keyed b = b ≡ closing keyed
 
--- White space at most, and the closing bracket.
+-- Whitespace at most, and the closing bracket.
 abbrev pub IsEmptyTail : Bool → List ℕ → Type 0
 IsEmptyTail keyed = Then IsGap (IsByte (IsClosing keyed))
 

@@ -13,7 +13,7 @@ use std::simd::prelude::*;
 // How many bytes one load takes.
 const LANES: usize = 16;
 
-/// Whether a byte is white space.
+/// Whether a byte is whitespace.
 #[inline(always)]
 fn is_space(byte: u8) -> bool
     ensures { IsTrue result ↔ IsSpace byte }
@@ -76,7 +76,7 @@ pub fn skip_whitespace<'i>(bytes: &'i [u8]) -> &'i [u8]
     }
 }
 
-/// The same, after a byte of white space.
+/// The same, after a byte of whitespace.
 #[inline(always)]
 fn skip_more_whitespace<'i>(bytes: &'i [u8]) -> &'i [u8]
     ensures { RestAfter (All IsSpace) IsSpace bytes.now result.now }
@@ -126,7 +126,7 @@ fn space_first(lanes: u8x16) -> Option<usize>
     ensures { MatchOption result (All IsSpace lanes)
         (λ count. EndsAt IsSpace lanes count) }
 {
-    // Each byte of white space becomes a space.
+    // Each byte of whitespace becomes a space.
     let space = u8x16::splat(b' ');
     let tabs = lanes.simd_eq(u8x16::splat(b'\t')).select(space, lanes);
     let lines = lanes.simd_eq(u8x16::splat(b'\n')).select(space, tabs);
@@ -138,7 +138,7 @@ fn space_first(lanes: u8x16) -> Option<usize>
     Some(ends.trailing_zeros() as usize)
 }
 
-/// The same as `skip_whitespace`, of several bytes of white space.
+/// The same as `skip_whitespace`, of several bytes of whitespace.
 #[inline(never)]
 fn skip_long_whitespace<'i>(bytes: &'i [u8]) -> &'i [u8]
     ensures { RestAfter (All IsSpace) IsSpace bytes.now result.now }

@@ -22,7 +22,7 @@ use Rattle.format_json_extents.specs.Value.{IsEnded}
 unfoldable pub InUtf8 : {O : Type 0} → Text ℕ O → Text ℕ O
 InUtf8 text o bytes = IsUtf8 bytes × text o (chars bytes)
 
--- white space, and bytes of numbers
+-- whitespace, and bytes of numbers
 abbrev pub AreNumerals : List ℕ → Type 0
 AreNumerals bytes =
     (gap : List ℕ) × (left : List ℕ) × All IsMultispace gap × (bytes ≡ gap ++ left)

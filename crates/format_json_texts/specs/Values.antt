@@ -45,11 +45,11 @@ IsObject members v = v ≡ values.Object members
 abbrev pub GapText : Text ℕ Slice
 GapText = Run IsMultispace 0
 
--- a text, and white space after it
+-- a text, and whitespace after it
 abbrev pub Spaced : {O : Type 0} → Text ℕ O → Text ℕ O
 Spaced text = BothText former text GapText
 
--- a structural character, and white space after it
+-- a structural character, and whitespace after it
 abbrev pub Mark : ℕ → Text ℕ (ℕ × Slice)
 Mark c = BothText pair (One c) GapText
 

@@ -9,7 +9,7 @@ use Rattle.format_parts.specs.Words.{former, pair}
 use Rattle.winnow_core.specs.Exact.{Reads}
 use Rattle.grammars.specs.Grammar.{Both, Grammar, Three}
 
--- a name, a mark and a value, and white space after each
+-- a name, a mark and a value, and whitespace after each
 abbrev pub Pair : {T K O M W : Type 0} → Grammar T K → Grammar T M → Grammar T O → Grammar T W
     → Grammar T (K × O)
 Pair name colon value gap =

@@ -18,7 +18,7 @@ use Rattle.grammars.specs.Grammar.Unique.{both_take, both_unique, either_takes, 
 use Rattle.grammars.specs.Grammar.Unique.{gathered_unique, parted_unique}
 use Rattle.stream_sets.specs.Accumulator.Holds.{HasCharacters}
 
--- ---- white space and marks
+-- ---- whitespace and marks
 
 gap_unique : IsUnique Gap
 gap_unique = run_unique IsMultispace 0

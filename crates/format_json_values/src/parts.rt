@@ -20,7 +20,7 @@ use winnow_comb::combinator::{preceded, separated_pair, terminated};
 use winnow_core::parser::Parser;
 use winnow_grammar::rule::Rule;
 
-/// Reads members between marks, each a name, a mark and a value, with white space after each of
+/// Reads members between marks, each a name, a mark and a value, with whitespace after each of
 /// them. A function reads a name by a rule, and another a value.
 pub fn read_object_of<I, E, K, O, M, W, A, S, H, R, F, B, G>(
     alloc: A,
@@ -75,7 +75,7 @@ where
     )
 }
 
-/// Reads all of an input as a value, with white space before it and after it.
+/// Reads all of an input as a value, with whitespace before it and after it.
 pub fn parse_spaced<I, E, O, W, R, F, G>(
     rule: R,
     value: F,

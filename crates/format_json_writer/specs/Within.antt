@@ -77,7 +77,7 @@ pub within_list : {O A : Type 0} {inner outer : Text ℕ (List O)} → IsWithin 
 unfolding InList
 within_list within = record { told = λ list tokens a. within.told list.items tokens a }
 
--- ---- white space that is left out
+-- ---- whitespace that is left out
 
 abbrev no_gap : Slice
 no_gap = record { ref_ptr = (0, 0); now = [] }
@@ -86,7 +86,7 @@ empty_gap : GapText no_gap []
 unfolding Run
 empty_gap = ((λ k d below. absurd (omega (arith, below))), omega arith, refl)
 
--- a mark with no white space after it
+-- a mark with no whitespace after it
 pub within_mark : {O : Type 0} (c : ℕ) {inner outer : Text ℕ O} → IsWithin inner outer
     → IsWithin (BothText latter (One c) inner) (BothText latter (Mark c) outer)
 unfolding BothText

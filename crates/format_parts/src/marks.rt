@@ -45,7 +45,7 @@ where
     delimited(first, second, third).read(input)
 }
 
-/// The marks of an array or an object, and white space.
+/// The marks of an array or an object, and whitespace.
 #[derive(Clone, Copy, Drop)]
 pub struct Marks<B, G> {
     /// The mark before the items.
@@ -58,7 +58,7 @@ pub struct Marks<B, G> {
     pub gap: G,
 }
 
-/// Reads items between two marks, with a third between each two items, and white space after the
+/// Reads items between two marks, with a third between each two items, and whitespace after the
 /// first mark and after each of those between items.
 pub fn read_items<I, E, O, M, W, A, P, B, G>(
     alloc: A,

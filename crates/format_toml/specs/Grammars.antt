@@ -27,7 +27,7 @@ use Rattle.grammars.specs.Grammar.Meaning.{Meaning}
 use Rattle.grammars.specs.Grammar.Tuples.{Four}
 use Rattle.stream_sets.specs.Accumulator.Holds.{HasCharacters}
 
--- ---- white space
+-- ---- whitespace
 
 abbrev pub Ws : Grammar ℕ Slice
 Ws = RunOf IsSpace 0
@@ -39,7 +39,7 @@ abbrev pub AnyComment : Grammar ℕ Slice
 AnyComment =
     Both latter (Char 35) (Longest text_reading (λ c. c) SetResult Comment (from_to 0 None))
 
--- a character of white space, or a line end with a comment before it or none
+-- a character of whitespace, or a line end with a comment before it or none
 abbrev pub GapPart : Grammar ℕ ℕ
 GapPart = Either (TokenOf (λ c. c) SetResult White) (Both latter (Optional AnyComment) Newline)
 

@@ -73,7 +73,7 @@ ends_point : (c : ℕ) → EndsKey c → c ≡ 46 → ⊥
 ends_point c (inl e) f = absurd (omega (arith, e, f))
 ends_point c (inr e) f = absurd (omega (arith, e, f))
 
--- white space after a name
+-- whitespace after a name
 before_space : InFront WsText (Past IsBare) (NotFirst IsBare)
 before_space = ws_front space_bare
     (not_first IsBare (λ c. IsSpace c ⊎ IsBare c) (λ c bare. inr bare))

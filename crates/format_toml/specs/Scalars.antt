@@ -68,14 +68,14 @@ goes_basic rest goes = not_first (λ c. c ≡ 34) ContinuesScalar (λ c e. inr (
 goes_literal : (rest : List ℕ) → Goes rest → NotFirst (λ c. c ≡ 39) rest
 goes_literal rest goes = not_first (λ c. c ≡ 39) ContinuesScalar (λ c e. inr (inr e)) rest goes.0
 
--- ---- white space after a value
+-- ---- whitespace after a value
 
 -- no time is there where no space is first
 no_time : (rest : List ℕ) → NotFirst IsSpace rest → NoTime rest
 no_time rest not a b more one other e =
     let P : List ℕ → Type 0 = λ l. NotFirst IsSpace l in subst P e not (inl refl)
 
--- nor after white space
+-- nor after whitespace
 space_more : (c : ℕ) (rest : List ℕ) → IsSpace c → Goes rest → Goes (c ∷ rest)
 space_more c rest is goes = (
   space_goes c is,

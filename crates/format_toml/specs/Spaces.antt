@@ -24,13 +24,13 @@ use Rattle.grammars.specs.Texts.Parts.{behind_less, both_of, either_apart, optio
 use Rattle.grammars.specs.Texts.Rows.{gathered_of, many_of}
 use Rattle.grammars.specs.Texts.Tokens.{divides_seen, divides_where, longest_of}
 
--- ---- white space on a line
+-- ---- whitespace on a line
 
 pub space_below : (c : ℕ) → IsSpace c → c < 33
 space_below c (inl e) = omega (arith, e)
 space_below c (inr e) = omega (arith, e)
 
--- no white space above a space
+-- no whitespace above a space
 pub no_space : (c : ℕ) → 32 < c → IsSpace c → ⊥
 no_space c above is = absurd (omega (arith, above, space_below c is))
 
@@ -53,7 +53,7 @@ mark_of c = both_of pair (char_of c) ws_of front_any
 pub mark_begins : (c : ℕ) → TextsStartWith (λ x. x ≡ c) (MarkText c)
 mark_begins c = both_front pair (spelled_begins c [] c) front_any
 
--- neither white space nor one of these
+-- neither whitespace nor one of these
 abbrev pub Past : (ℕ → Type 0) → List ℕ → Type 0
 Past these = NotFirst (λ c. IsSpace c ⊎ these c)
 
@@ -141,7 +141,7 @@ newline_begins =
     either_front (begins_wider (λ c e. inl e) (spelled_begins 10 [] 10))
     (both_front latter (begins_wider (λ c e. inr e) (spelled_begins 13 [] 13)) front_any)
 
--- ---- white space over lines
+-- ---- whitespace over lines
 
 -- a line end with a comment before it or none
 ended_of : IsGrammarOf (Both latter (Optional AnyComment) Newline)
@@ -153,7 +153,7 @@ ended_begins =
     both_front latter (optional_front (front_behind (λ rest b. tt)
     (begins_wider (λ c e. inl e) comment_begins))) (begins_wider (λ c is. inr is) newline_begins)
 
--- what white space over lines begins with
+-- what whitespace over lines begins with
 abbrev pub OpensGap : ℕ → Type 0
 OpensGap c = IsSpace c ⊎ IsTail c
 
@@ -186,7 +186,7 @@ wide_mark_of c = both_of pair (char_of c) gap_of front_any
 pub wide_mark_begins : (c : ℕ) → TextsStartWith (λ x. x ≡ c) (WideMarkText c)
 wide_mark_begins c = both_front pair (spelled_begins c [] c) front_any
 
--- neither white space over lines nor one of these
+-- neither whitespace over lines nor one of these
 abbrev pub WidePast : (ℕ → Type 0) → List ℕ → Type 0
 WidePast these = NotFirst (λ c. OpensGap c ⊎ these c)
 

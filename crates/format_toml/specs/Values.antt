@@ -127,7 +127,7 @@ module _ {A : Type 0} {g : Grammar ℕ (Value A)} {value : Text ℕ (Value A)}
 
 -- ---- inline tables
 
--- elements, and what closes, are in front of no white space
+-- elements, and what closes, are in front of no whitespace
 commas_front : {O A : Type 0} {element : Text ℕ O} (closing : ℕ) → 32 < closing
     → TextsStartWith (λ c. 32 < c) element
     → InFront (InList {A = A} (PartedText (MarkText 44) element)) (StartsWith (λ c. c ≡ closing))

@@ -28,7 +28,7 @@ pub enum Characters {
     Literal,
     /// Those of a basic string that stand for themselves: as of a comment, without `"` and `\`.
     Basic,
-    /// Those of white space on a line: a space, and a tab.
+    /// Those of whitespace on a line: a space, and a tab.
     White,
     /// Those of numbers, dates and times: letters and digits of ASCII, `+`, `-`, `.`, `:` and `_`.
     Unquoted,

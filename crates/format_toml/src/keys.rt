@@ -67,7 +67,7 @@ fn read_name<'i, A: Allocator + Copy>(
     read_bare(alloc, input)
 }
 
-/// Names with points between them, and white space after each name and each point.
+/// Names with points between them, and whitespace after each name and each point.
 fn read_names<'i, A: Allocator + Copy>(
     alloc: A,
     input: &mut &'i str,
@@ -95,7 +95,7 @@ impl<'i, A: Allocator> Rule<&'i str, Key<A>> for Keys<A> {
     ghost takes = { λ _ never. absurd never };
 }
 
-/// A key, and white space after it.
+/// A key, and whitespace after it.
 pub fn read_key<'i, A: Allocator + Copy>(
     alloc: A,
     input: &mut &'i str,
@@ -125,7 +125,7 @@ impl<'i, A: Allocator> Rule<&'i str, Key<A>> for Headers<A> {
     ghost takes = { λ _ never. absurd never };
 }
 
-/// A key and a bracket after it, with white space in them.
+/// A key and a bracket after it, with whitespace in them.
 pub fn read_header<'i, A: Allocator + Copy>(
     alloc: A,
     input: &mut &'i str,

@@ -25,7 +25,7 @@ use winnow_repeat::combinator::repeat;
 use winnow_separated::combinator::impls::Separated;
 use winnow_separated::combinator::separated;
 
-/// Reads elements, one at least, with a mark between each two of them, and white space after each
+/// Reads elements, one at least, with a mark between each two of them, and whitespace after each
 /// element and each mark.
 pub fn read_joined<I, E, O, M, W, A, P, B, G>(
     alloc: A,
@@ -91,7 +91,7 @@ where
 }
 
 /// Reads elements between two marks, with a third between each two of them and perhaps after the
-/// last, or nothing between these marks; and white space after the first mark and after each of
+/// last, or nothing between these marks; and whitespace after the first mark and after each of
 /// those between elements.
 pub fn read_list<I, E, O, M, W, A, P, B, G>(
     alloc: A,
@@ -200,7 +200,7 @@ where
     read_pair(key, mark, rule.by(value), input)
 }
 
-/// Reads white space over lines: characters of white space, and line ends with a comment before
+/// Reads whitespace over lines: characters of whitespace, and line ends with a comment before
 /// them or none.
 pub fn read_gap_of<I, E, O, C, A, P, Q, N>(
     alloc: A,
@@ -260,7 +260,7 @@ where
     separated_pair(first, second, third).read(input)
 }
 
-/// Reads an item or none, with white space round it, and a comment after it or none.
+/// Reads an item or none, with whitespace round it, and a comment after it or none.
 pub fn read_line_of<I, E, O, C, W, P, Q, G>(
     item: P,
     comment: Q,

@@ -101,7 +101,7 @@ pub record IsPairBefore (p : PairBytes) (behind : List ℕ) : Type 0 where
 
 -- `FitsBefore part behind`: `part` can be followed by the bytes `behind`.
 abbrev pub FitsBefore : Part → List ℕ → Type 0
--- one or more bytes of white space, and then another byte or the end
+-- one or more bytes of whitespace, and then another byte or the end
 FitsBefore (white bytes) behind = (0 < length bytes) × All IsWhite bytes × NotFirst IsWhite behind
 -- bytes other than a line feed, and then a line feed or the end
 FitsBefore (comment text) behind = All IsCommentByte text × EndsLine behind

@@ -98,19 +98,19 @@ KeyValueRuns i answer j = IsEndOf bytes_reading j i × (
     -- none does, and the input is as it was
     ⊎ (NoPairBegins i.left.tokens × (j ≡ i) × (answer ≡ Err backtrack)))
 
--- White space or a comment.
+-- Whitespace or a comment.
 abbrev pub IsGapPart : Part → Type 0
 IsGapPart (white bytes) = ⊤
 IsGapPart (comment text) = ⊤
 IsGapPart (section name) = ⊥
 IsGapPart (pair p) = ⊥
 
--- The input begins with neither white space nor a comment.
+-- The input begins with neither whitespace nor a comment.
 abbrev pub NoGapBegins : List ℕ → Type 0
 NoGapBegins input = (part : Part) (behind : List ℕ) → IsGapPart part
     → StartsWithPart part input behind → ⊥
 
--- A run of the reader of a gap: it takes all the white space and the comments that the input begins
+-- A run of the reader of a gap: it takes all the whitespace and the comments that the input begins
 -- with.
 abbrev pub GapRuns : Input ℕ → Answer ⊤ → Input ℕ → Type 0
 GapRuns i answer j = IsEndOf bytes_reading j i ×

@@ -33,7 +33,7 @@ fn digit(input: &mut &str) -> Option<i64>
     }
 }
 
-/// Takes a white space character, if one comes first.
+/// Takes a whitespace character, if one comes first.
 fn space(input: &mut &str) -> bool
     ensures { MatchBool result (TakesOne is_white (chars input.old.now) (chars input.new.now))
         (StopsAt is_white (chars input.old.now) × (chars input.new.now ≡ chars input.old.now)) }
@@ -52,14 +52,14 @@ fn space(input: &mut &str) -> bool
     }
 }
 
-/// Takes all white space that comes first.
+/// Takes all whitespace that comes first.
 pub(super) fn white(input: &mut &str)
     ensures { chars input.new.now ≡ behind is_white (chars input.old.now) }
 {
     'spaces: while space(input) {}
 }
 
-/// Takes an operator before an operand and the white space after it.
+/// Takes an operator before an operand and the whitespace after it.
 pub(super) fn read_sign(input: &mut &str) -> Option<Prefix<Sign>>
     ensures { AnswersItem (CharItem sign_at) (chars input.old.now) result (chars input.new.now) }
 {
@@ -79,7 +79,7 @@ pub(super) fn read_sign(input: &mut &str) -> Option<Prefix<Sign>>
     }
 }
 
-/// Takes an operator after an operand and the white space after it.
+/// Takes an operator after an operand and the whitespace after it.
 pub(super) fn read_mark(input: &mut &str) -> Option<Postfix<Mark>>
     ensures { AnswersItem (CharItem mark_at) (chars input.old.now) result (chars input.new.now) }
 {
@@ -99,7 +99,7 @@ pub(super) fn read_mark(input: &mut &str) -> Option<Postfix<Mark>>
     }
 }
 
-/// Takes an operator between two operands and the white space after it.
+/// Takes an operator between two operands and the whitespace after it.
 pub(super) fn read_pair(input: &mut &str) -> Option<Infix<Pair>>
     ensures { AnswersItem (CharItem pair_at) (chars input.old.now) result (chars input.new.now) }
 {
@@ -146,7 +146,7 @@ fn digits(input: &mut &str, first: i64) -> Option<i64>
     value
 }
 
-/// Takes a number and the white space after it.
+/// Takes a number and the whitespace after it.
 pub(super) fn read_number(input: &mut &str) -> Option<i64>
     ensures { AnswersItem NumberItem (chars input.old.now) result (chars input.new.now) }
 {

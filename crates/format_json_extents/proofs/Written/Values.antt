@@ -55,7 +55,7 @@ third_first P Q R = (there, back)
     back cs (inr (inl q)) = inr (inl q)
     back cs (inr (inr r)) = inl r
 
--- what an object has in it is white space, and then the rest of a member
+-- what an object has in it is whitespace, and then the rest of a member
 abbrev MemberBody : (List ℕ → Type 0) → List ℕ → Type 0
 MemberBody V = Then (Then IsString IsGap) (Then (IsMarked 58) (Then V IsGap))
 

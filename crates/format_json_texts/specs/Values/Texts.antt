@@ -32,7 +32,7 @@ use Rattle.format_parts.specs.Words.{Between, Char, One, Run, Word, between_of, 
 use Rattle.format_parts.specs.Words.{for_of, former, latter, pair, run_of}
 use Rattle.format_json_texts.specs.declared.value.Value.{Value}
 
--- ---- white space
+-- ---- whitespace
 
 -- the characters do not start with whitespace
 abbrev pub NoGap : List ℕ → Type 0
@@ -121,7 +121,7 @@ quote_numeric : (c : ℕ) → c ≡ 34 → IsNumeric c → ⊥
 quote_numeric c x (inl e) = absurd (omega (arith, x, e))
 quote_numeric c x (inr e) = absurd (omega (arith, x, e))
 
--- what values begin with: no white space, and no closing bracket
+-- what values begin with: no whitespace, and no closing bracket
 abbrev pub Opens : ℕ → Type 0
 Opens c = (IsMultispace c → ⊥) × (c ≡ 93 → ⊥)
 
@@ -167,7 +167,7 @@ module _ {A : Type 0} (holds : String A → List ℕ → Type 0) where
 
 -- ---- the contents of brackets
 
--- elements, and what closes, are in front of no white space
+-- elements, and what closes, are in front of no whitespace
 commas_front : {O A : Type 0} {element : Text ℕ O} {these : ℕ → Type 0} (close : ℕ) → 33 < close
     → ((c : ℕ) → these c → IsMultispace c → ⊥) → TextsStartWith these element
     → InFront (InList {A = A} (PartedText (Mark 44) element)) (StartsWith (λ c. c ≡ close)) NoGap
@@ -210,7 +210,7 @@ close_goes_on close c (inr f) e (inr (inr (inl d))) = absurd (omega (arith, e, d
 close_goes_on close c (inr f) e (inr (inr (inr (inl d)))) = absurd (omega (arith, e, d, f))
 close_goes_on close c (inr f) e (inr (inr (inr (inr d)))) = absurd (omega (arith, e, d, f))
 
--- elements between brackets, where they end as values do, and begin with no white space and with
+-- elements between brackets, where they end as values do, and begin with no whitespace and with
 -- nothing that closes
 bracketed_of : {O A : Type 0} {g : Grammar ℕ O} {element : Text ℕ O} {these : ℕ → Type 0}
     (opening close : ℕ) → (close ≡ 93) ⊎ (close ≡ 125)

@@ -27,7 +27,7 @@ returns-clause-reads g c =
     (items_exact text_reading backtrack NumberItem (CharItem sign_at) (CharItem mark_at)
     (CharItem pair_at) sign_value mark_value pair_value tt tt tt tt number_items
     (char_items sign_at) (char_items mark_at) (char_items pair_at) level
-          (text_input c.args.input.now.now) _ _ states
+    (text_input c.args.input.now.now) _ _ states
     (c.expression_is_unambiguous.ensures.exact state
     (items_premises text_reading backtrack NumberItem (CharItem sign_at) (CharItem mark_at)
     (CharItem pair_at) sign_value mark_value pair_value tt tt tt tt number_items
