@@ -1,6 +1,6 @@
 -- Proofs that the parts of dates and times leave a unique rest, and the results of functions for
 -- them.
-use Rattle.std.specs.Prelude.{◌≡◌, ◌≤◌, ◌+◌, ◌*◌, ◌-◌, ℕ, ⊤, List, [], ◌∷◌, None, Option, Some}
+use Rattle.std.specs.Prelude.{◌≡◌, ◌≤◌, ◌+◌, ◌*◌, ℕ, ⊤, List, [], ◌∷◌, None, Option, Some}
 use Rattle.std.specs.Borrow.{Bor}
 use Rattle.std.proofs.Common.{refl, sym, ap, subst, ◌∙◌, arith}
 use Rattle.format_toml_tree.specs.Dates.{Clock, Finds, FourDigits, FullDate, HourAndMinute, InTurn}
