@@ -14,7 +14,8 @@ returns-clause-done g c =
         refl,
         not_all _ _ _ c.plain_len.ensures c.if-plain_len-field.false,
       ),
-      e ∙ ap (λ l. l ++ text) c.in_ok-put.ensures.done ∙ append_assoc c.args.out.now.items (q ∷ []) text,
+      e ∙ ap (λ l. l ++ text) c.in_ok-put.ensures.done
+          ∙ append_assoc c.args.out.now.items (q ∷ []) text,
     ))
     c.write_doubled.ensures.done
 

@@ -67,5 +67,5 @@ returns-clause-said c =
 pub returns-clause-at : goal.returns-clause-at
 returns-clause-at c =
     line_ok_at c.args.dialect _ _ _ _ _ _ c.without_comment-kept.ensures
-    c.trim-indent.ensures.text c.trim-indent.ensures.indent c.args.state _ _ _ c.read_own.ensures.said
-    c.read_own.ensures.at
+    c.trim-indent.ensures.text c.trim-indent.ensures.indent c.args.state _ _ _
+    c.read_own.ensures.said c.read_own.ensures.at
