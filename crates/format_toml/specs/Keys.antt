@@ -37,7 +37,7 @@ OpensKey c = (c ≡ 34) ⊎ ((c ≡ 39) ⊎ IsBare c)
 abbrev pub EndsKey : ℕ → Type 0
 EndsKey c = (c ≡ 61) ⊎ (c ≡ 93)
 
--- white space after a name
+-- whitespace after a name
 before_space : InFront WsText (Past IsBare) (NotFirst IsBare)
 before_space = ws_front (λ c s bare. omega arith)
     (not_first IsBare (λ c. IsSpace c ⊎ IsBare c) (λ c bare. inr bare))
