@@ -68,9 +68,4 @@ pub returns-clause-at : goal.returns-clause-at
 returns-clause-at c =
     line_ok_at c.args.dialect _ _ _ _ _ _ c.without_comment-kept.ensures
     c.trim-indent.ensures.text c.trim-indent.ensures.indent c.args.state _ _ _
-<<<<<<< HEAD
-    c.read_own.ensures.said
-    c.read_own.ensures.at
-=======
     c.read_own.ensures.said c.read_own.ensures.at
->>>>>>> de20a4252e56f579adab69dec61a6c6292eb09a5
