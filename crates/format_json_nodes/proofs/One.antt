@@ -1,6 +1,7 @@
 -- A text has one list of nodes.
-use Rattle.std.proofs.Common.{◌++◌, ◌+◌, ◌∙◌, ◌∷◌, ◌≡◌, ◌⊎◌, [], ℕ, Bool, List, ap, append_assoc}
-use Rattle.std.proofs.Common.{arith, false, inl, inr, length, refl, subst, suc, sym, true, zero}
+use Rattle.std.proofs.Common.{◌++◌, ◌+◌, ◌∙◌, ◌∷◌, ◌≡◌, ◌⊎◌, [], ℕ, Bool, List, ap}
+use Rattle.std.proofs.Common.{append_assoc, arith, false, inl, inr, length, refl, subst, suc, sym}
+use Rattle.std.proofs.Common.{true, zero}
 use Rattle.std.proofs.lemmas.List.{append_cancel_left, append_cancel_right}
 use Rattle.std.proofs.lemmas.List.Elements.{All-head}
 use Rattle.format_json_extents.proofs.Matching.{Apart, Begins, same_first, same_rest}
@@ -74,7 +75,8 @@ scalar_nodes_first from index a t x =
     let f = scalar_starts t (scalar_of x.kind t x.is_scalar) in
     record { byte = f.byte; more = f.more; begins = f.begins; is = inl f.is }
 
-pub nested_first : (keyed : Bool) (V : NodesAt) → Firsts (NestedNodes keyed V) (λ b. b ≡ opening keyed)
+pub nested_first : (keyed : Bool) (V : NodesAt)
+    → Firsts (NestedNodes keyed V) (λ b. b ≡ opening keyed)
 nested_first keyed V from index a t x = record {
   byte = opening keyed;
   more = x.inside ++ closing keyed ∷ [];
@@ -115,7 +117,8 @@ module _ (V : NodesAt) (one : One V (No IsWordByte)) (first : Firsts V IsFirst) 
       (word_gap x.after r x.is_after at_r.0) (word_gap y.after q y.is_after at_q.0) in
       let ends = append_cancel_left x.value (x.after ++ r) (y.after ++ q)
       (values ∙ ap (λ l. l ++ (y.after ++ q)) (sym texts)) in
-      let (behind, rests) = run_one {P = IsSpace} x.after y.after x.is_after y.is_after ends at_r.1 at_q.1 in
+      let (behind, rests) = run_one {P = IsSpace} x.after y.after x.is_after y.is_after ends
+      at_r.1 at_q.1 in
       (nodes, append_cancel_right t s r (e ∙ ap (λ l. s ++ l) (sym rests)))
 
   element_first : (from index : ℕ) (a : List JsonNode) (t : List ℕ)
@@ -143,7 +146,8 @@ module _ (V : NodesAt) (one : One V (No IsWordByte)) (first : Firsts V IsFirst) 
       let ys = ap (λ l. l ++ q) y.joins
       ∙ append_assoc (y.before ++ (y.name ++ y.after)) (58 ∷ y.element) q
       ∙ three y.before y.name y.after (58 ∷ (y.element ++ q)) refl in
-      let (gaps, names) = run_one {P = IsSpace} x.before y.before x.is_before y.is_before (sym xs ∙ e ∙ ys)
+      let (gaps, names) = run_one {P = IsSpace} x.before y.before x.is_before y.is_before
+      (sym xs ∙ e ∙ ys)
       (no_first (x.after ++ 58 ∷ (x.element ++ r)) (λ c s w. grind (arith, s, w))
       (string_starts x.name x.is_name))
       (no_first (y.after ++ 58 ∷ (y.element ++ q)) (λ c s w. grind (arith, s, w))
