@@ -44,7 +44,7 @@ COMPATIBLE = []
 # description, and the structs with a field of its values, followed by the field's name.
 KINDS = {
     "JSON_ERROR_": ("json_error", "The errors of JSON texts.", ("JsonDiagnostic", "error")),
-    "JSON_": ("json_kind", "The kinds of JSON items.", ("JsonItem", "kind")),
+    "JSON_": ("json_kind", "The kinds of JSON items.", ("JsonItem", "JsonNode", "kind")),
     "RESP_": ("resp_kind", "The kinds of Redis replies.", ("Reply", "kind")),
     "TOML_ERROR_": ("toml_error", "The errors of TOML documents.", ("TomlResult", "error")),
     "TOML_": ("toml_kind", "The kinds of TOML nodes.", ("TomlValue", "kind")),

@@ -175,6 +175,13 @@ uint32_t exported_json_member(
     size_t name_length,
     uint32_t is_token,
     size_t *out);
+uint32_t exported_json_nodes(
+    const uint8_t *text,
+    size_t text_length,
+    size_t max_depth,
+    struct pergidau_json_node *nodes,
+    size_t nodes_length,
+    size_t *out);
 uint32_t exported_json_step(
     const uint8_t *bytes,
     size_t bytes_length,
@@ -237,7 +244,7 @@ _Static_assert(sizeof(enum pergidau_resp_kind) == sizeof(uint32_t), "the size of
 _Static_assert(sizeof(enum pergidau_toml_error) == sizeof(uint32_t), "the size of an enum");
 _Static_assert(sizeof(enum pergidau_toml_kind) == sizeof(uint32_t), "the size of an enum");
 
-const char pergidau_declared_c0358006 = 0;
+const char pergidau_declared_df787e6a = 0;
 
 const char *pergidau_version(void)
 {
@@ -1421,6 +1428,40 @@ enum pergidau_code pergidau_json_member(
         name = &no_name;
     }
     return (enum pergidau_code)exported_json_member(bytes, bytes_length, max_depth, name, name_length, is_token, out);
+}
+
+enum pergidau_code pergidau_json_nodes(
+    const uint8_t *text,
+    size_t text_length,
+    size_t max_depth,
+    struct pergidau_json_node *nodes,
+    size_t nodes_length,
+    size_t *out)
+{
+    const uint8_t no_text = {0};
+    struct pergidau_json_node no_nodes = {0};
+    if (text_length > PTRDIFF_MAX / sizeof(uint8_t)) {
+        return PERGIDAU_TOO_LONG;
+    }
+    if (text == NULL && text_length > 0) {
+        return PERGIDAU_NULL;
+    }
+    if (nodes_length > PTRDIFF_MAX / sizeof(struct pergidau_json_node)) {
+        return PERGIDAU_TOO_LONG;
+    }
+    if (nodes == NULL && nodes_length > 0) {
+        return PERGIDAU_NULL;
+    }
+    if (out == NULL) {
+        return PERGIDAU_NULL;
+    }
+    if (text == NULL) {
+        text = &no_text;
+    }
+    if (nodes == NULL) {
+        nodes = &no_nodes;
+    }
+    return (enum pergidau_code)exported_json_nodes(text, text_length, max_depth, nodes, nodes_length, out);
 }
 
 enum pergidau_code pergidau_json_step(

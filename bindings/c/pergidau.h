@@ -40,10 +40,10 @@ extern "C" {
  * header refers to it, so that it links with no other library. For a file that is not linked
  * with the library, define PERGIDAU_NO_LINK_CHECK before the header.
  */
-extern const char pergidau_declared_c0358006;
+extern const char pergidau_declared_df787e6a;
 #if defined(__GNUC__) && !defined(PERGIDAU_NO_LINK_CHECK)
 __attribute__((__used__, __unused__)) static const char *const pergidau_linked =
-    &pergidau_declared_c0358006;
+    &pergidau_declared_df787e6a;
 #endif
 
 /* Returns the version of the linked library, in the form of PERGIDAU_VERSION. */
@@ -924,6 +924,28 @@ struct pergidau_json_diagnostic {
     enum pergidau_json_error error;
     /* The expected letter if error is PERGIDAU_JSON_ERROR_LETTER; 0 otherwise. */
     uint8_t letter;
+};
+
+/*
+ * A value of a JSON text, or the name of a member. Offsets are in bytes from the start of the
+ * text.
+ */
+struct pergidau_json_node {
+    /* The kind: one of the numbers PERGIDAU_JSON_NULL to PERGIDAU_JSON_NAME. */
+    enum pergidau_json_kind kind;
+    /*
+     * The offset of its first byte. Strings and names include their quotes, arrays and objects
+     * their brackets.
+     */
+    size_t start;
+    /* The offset after its last byte. */
+    size_t end;
+    /*
+     * The index of the node after it and everything in it. That of an array or an object is
+     * also the index after its last element or value. It is the number of nodes if no node
+     * follows.
+     */
+    size_t next;
 };
 
 /* The text of a string of JSON. */
@@ -2109,6 +2131,43 @@ enum pergidau_code pergidau_json_member(
     const uint8_t *name,
     size_t name_length,
     uint32_t is_token,
+    size_t *out);
+
+/*
+ * Checks a text as pergidau_json_check does, and writes all its values as nodes, in one pass
+ * and without allocating.
+ *
+ * There is a node for each value and for each name of a member, in the order of the text. An
+ * array or an object is followed by its contents, and a name by its value. Each node has the
+ * index after everything in it, so that a loop can skip an array or an object in one step.
+ *
+ * PERGIDAU_DONE: the nodes are written, and their number. Other entries of nodes are
+ * unchanged.
+ *
+ * # Errors
+ *
+ * PERGIDAU_BUFFER_TOO_SMALL: the text has more nodes than nodes has entries. The first are
+ * written, and the number of all. So a call without entries returns the required number.
+ *
+ * PERGIDAU_INVALID: the text is not a JSON text. 0 is written, and the contents of nodes are
+ * unspecified. pergidau_json_diagnose reports where and why.
+ *
+ * PERGIDAU_INVALID_UTF8: the text is not UTF-8. 0 is written, and nodes is unchanged.
+ *
+ * PERGIDAU_MAX_DEPTH_TOO_LARGE: max_depth is above 512. 0 is written, and nodes is unchanged.
+ *
+ * # Safety
+ *
+ * text must be valid for reads of text_length bytes, which must not change during the call.
+ * nodes must be valid for writes of nodes_length entries, and out for writes of one number.
+ * None of these may overlap. The call needs 512 KiB of stack.
+ */
+enum pergidau_code pergidau_json_nodes(
+    const uint8_t *text,
+    size_t text_length,
+    size_t max_depth,
+    struct pergidau_json_node *nodes,
+    size_t nodes_length,
     size_t *out);
 
 /*

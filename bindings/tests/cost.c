@@ -58,14 +58,14 @@ void *__wrap_realloc(void *block, size_t size)
     return grown;
 }
 
-enum call { CALC, PAIR, DOCUMENT, ENTRY, CHECK, VALUE, NEXT, STEP, STRING, INTEGER, NATURAL, DECIMAL, DIAGNOSE, MEMBER, HEAD,
+enum call { CALC, PAIR, DOCUMENT, ENTRY, CHECK, VALUE, NEXT, STEP, STRING, INTEGER, NATURAL, DECIMAL, DIAGNOSE, MEMBER, NODES, HEAD,
             HEAD_IN_PIECES, HEAD_EXTENT, REQUEST_BODY, FIELD, RESPONSE, RESPONSE_IN_PIECES, RESPONSE_EXTENT, RECORD, RECORD_IN_PIECES,
             RECORD_EXTENT, CSV_WRITE, REPLY, REPLY_IN_PIECES, EXTENT, COMMAND, CHUNKED, POSITION,
             TOML, DNS_HEADER, DNS_NAME, DNS_QUESTION, DNS_RECORD };
 static const char *const names[] = {
     "calc_value", "ini_pair", "ini_document", "ini_next", "json_check", "json_value", "json_next",
     "json_step", "json_string", "json_integer", "json_natural", "json_decimal", "json_diagnose",
-    "json_member", "http_head", "http_head_partial",
+    "json_member", "json_nodes", "http_head", "http_head_partial",
     "http_head_extent", "http_request_body", "http_field", "http_response_head", "http_response_head_partial",
     "http_response_head_extent", "csv_record",
     "csv_record_partial", "csv_record_extent", "csv_write", "resp_reply", "resp_reply_partial",
@@ -117,6 +117,8 @@ static const struct {
     {DIAGNOSE, "", "[", "", LENGTH, 1, 512},
     {DIAGNOSE, "", "{\"a\":", "", LENGTH / 5, 1, 512},
     {DIAGNOSE, "[", "[{}],", "1x", LENGTH / 5, 1, 512},
+    {NODES, "", "[", "", LENGTH, 0, 512},
+    {NODES, "", "{\"a\":", "", LENGTH / 5, 0, 512},
     {MEMBER, "{\"b\":", "[", "", LENGTH, 0, 512},
     {MEMBER, "{", "\"a\":1,", "", LENGTH / 6, 0, 512},
     {MEMBER, "{\"", "\\u0061", "\":1}", LENGTH / 6, 0, 512},
@@ -254,6 +256,8 @@ static enum pergidau_code call(enum call which, size_t max_depth)
         return pergidau_json_diagnose(bytes, length, max_depth, &diagnostic);
     case MEMBER:
         return pergidau_json_member(bytes, length, max_depth, bytes, length, 0, &found);
+    case NODES:
+        return pergidau_json_nodes(bytes, length, max_depth, NULL, 0, &found);
     case HEAD:
         return pergidau_http_head(bytes, length, NULL, 0, &head);
     case HEAD_IN_PIECES:

@@ -392,6 +392,7 @@ static void read_chunked(const uint8_t *bytes, size_t length)
 #include "ini_fuzz.h"
 #include "json_fuzz.h"
 #include "json_lookup_fuzz.h"
+#include "json_nodes_fuzz.h"
 #include "toml_fuzz.h"
 #include "writing_fuzz.h"
 
@@ -409,6 +410,7 @@ static void read_all(const uint8_t *bytes, size_t length)
     read_json(bytes, length);
     read_values(bytes, length);
     read_tokens(bytes, length);
+    read_nodes(bytes, length);
     read_diagnosis(bytes, length);
     read_members(bytes, length);
     read_document(bytes, length);

@@ -29,6 +29,7 @@ static uint8_t *copied(const char *text, size_t length)
 
 #include "ini_rows.h"
 #include "json_lookup_rows.h"
+#include "json_nodes_rows.h"
 #include "json_rows.h"
 #include "toml_rows.h"
 
@@ -1178,6 +1179,7 @@ int main(void)
     test_pairs();
     test_json();
     test_steps();
+    test_nodes();
     test_strings();
     test_integers();
     test_diagnoses();

@@ -33,6 +33,7 @@ READERS = [
         "the only decimal of a number, if it fits"),
     ("JSON: extents", "format_json_extents", "no",
         "where a value ends, and whether bytes are JSON"),
+    ("JSON: nodes", "format_json_nodes", "no", "all values of a text, if it is JSON"),
     ("JSON: by one entry", "format_json", "no", "exactly; error offsets"),
     ("TOML 1.0", "format_toml", "yes", "exactly; error positions"),
     ("TOML: trees", "format_toml_tree", "no", "the tree, or the first rejected line"),

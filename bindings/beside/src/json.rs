@@ -1,7 +1,7 @@
 //! JSON readers. A check counts 1 for a valid text. The other readers count each value; the sum is of
 //! the kinds, numbered as in `pergidau.h` from 1 on, multiplied by the depths of the values.
 use crate::text::{Outcome, Text};
-use pergidau::json::{self, Kind, Step, Value};
+use pergidau::json::{self, Item, Kind, OwnedNodes, Step, Value};
 
 const LEVELS: usize = 16;
 
@@ -61,6 +61,26 @@ pub fn values_by_calls(text: &Text) -> Outcome {
     if let Ok(text) = std::str::from_utf8(text.bytes()) {
         if let Ok(value) = json::parse(text, LEVELS) {
             count(value, 1, &mut out);
+        }
+    }
+    out
+}
+
+fn count_nodes(item: Item, depth: usize, out: &mut Outcome) {
+    let kind = item.kind();
+    out.add(number_of(kind) * depth);
+    match kind {
+        Kind::Array => item.elements().for_each(|it| count_nodes(it, depth + 1, out)),
+        Kind::Object => item.members().for_each(|(_, it)| count_nodes(it, depth + 1, out)),
+        _ => (),
+    }
+}
+
+pub fn values_by_nodes(text: &Text) -> Outcome {
+    let mut out = Outcome::default();
+    if let Ok(text) = std::str::from_utf8(text.bytes()) {
+        if let Ok(nodes) = OwnedNodes::parse(text, LEVELS) {
+            count_nodes(nodes.root(), 1, &mut out);
         }
     }
     out

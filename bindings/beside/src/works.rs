@@ -37,6 +37,7 @@ const CHECKS: &[(&str, Reader)] = &[
 ];
 const VALUES: &[(&str, Reader)] = &[
     ("this library, by steps", json::values),
+    ("this library, by nodes", json::values_by_nodes),
     ("this library, by calls in turn", json::values_by_calls),
     ("serde_json, `Value`", json::values_by_serde),
     ("rapidjson, `Document`", peers::values_by_rapidjson),

@@ -929,6 +929,23 @@ pub struct JsonDiagnostic {
     pub letter: u8,
 }
 
+/// A value of a JSON text, or the name of a member. Offsets are in bytes from the start of the
+/// text.
+#[repr(C)]
+#[derive(Clone, Copy, Debug, Default, PartialEq, Eq)]
+pub struct JsonNode {
+    /// The kind: one of the numbers `JSON_NULL` to `JSON_NAME`.
+    pub kind: u32,
+    /// The offset of its first byte. Strings and names include their quotes, arrays and objects
+    /// their brackets.
+    pub start: usize,
+    /// The offset after its last byte.
+    pub end: usize,
+    /// The index of the node after it and everything in it. That of an array or an object is also
+    /// the index after its last element or value. It is the number of nodes if no node follows.
+    pub next: usize,
+}
+
 /// The text of a string of JSON.
 #[repr(C)]
 #[derive(Clone, Copy, Debug, Default, PartialEq, Eq)]
@@ -1068,7 +1085,7 @@ pub struct TomlResult {
 
 extern "C" {
     /// A symbol that only a library with these declarations has.
-    #[link_name = "pergidau_declared_c0358006"]
+    #[link_name = "pergidau_declared_df787e6a"]
     static VERSION_LINKED: c_char;
 
     /// Returns the version of the linked library.
@@ -2062,6 +2079,41 @@ extern "C" {
         name: *const u8,
         name_length: usize,
         is_token: u32,
+        out: *mut usize,
+    ) -> u32;
+
+    /// Checks a text as `exported_json_check` does, and writes all its values as nodes, in one pass and
+    /// without allocating.
+    ///
+    /// There is a node for each value and for each name of a member, in the order of the text. An array
+    /// or an object is followed by its contents, and a name by its value. Each node has the index after
+    /// everything in it, so that a loop can skip an array or an object in one step.
+    ///
+    /// `DONE`: the nodes are written, and their number. Other entries of `nodes` are unchanged.
+    ///
+    /// # Errors
+    ///
+    /// `BUFFER_TOO_SMALL`: the text has more nodes than `nodes` has entries. The first are written, and
+    /// the number of all. So a call without entries returns the required number.
+    ///
+    /// `INVALID`: the text is not a JSON text. 0 is written, and the contents of `nodes` are
+    /// unspecified. `exported_json_diagnose` reports where and why.
+    ///
+    /// `INVALID_UTF8`: the text is not UTF-8. 0 is written, and `nodes` is unchanged.
+    ///
+    /// `MAX_DEPTH_TOO_LARGE`: `max_depth` is above 512. 0 is written, and `nodes` is unchanged.
+    ///
+    /// # Safety
+    ///
+    /// `text` must be valid for reads of `text_length` bytes, which must not change during the call.
+    /// `nodes` must be valid for writes of `nodes_length` entries, and `out` for writes of one number.
+    /// None of these may overlap. The call needs 512 KiB of stack.
+    pub fn exported_json_nodes(
+        text: *const u8,
+        text_length: usize,
+        max_depth: usize,
+        nodes: *mut JsonNode,
+        nodes_length: usize,
         out: *mut usize,
     ) -> u32;
 

@@ -15,6 +15,8 @@
 //! # Ok::<(), pergidau::Error>(())
 //! ```
 //!
+//! [`nodes`] writes all values into a buffer, also in one pass, for callers that visit most of them.
+//!
 //! [`Value::get`] and [`Value::pointer`] find single values:
 //!
 //! ```
@@ -29,10 +31,14 @@ use crate::{Error, NOTHING};
 
 mod diagnostic;
 mod lookup;
+mod nodes;
 mod scalars;
 mod steps;
 
 pub use diagnostic::{diagnose, Diagnostic, Expected};
+pub use nodes::{nodes, Item, ItemElements, ItemMembers, Node, Nodes};
+#[cfg(feature = "alloc")]
+pub use nodes::OwnedNodes;
 pub use scalars::{unescape, Decimal};
 pub use steps::{steps, Step, Steps};
 

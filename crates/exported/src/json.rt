@@ -15,6 +15,7 @@ pub mod decimal;
 pub mod diagnostic;
 pub mod integer;
 pub mod member;
+pub mod nodes;
 pub mod step;
 pub mod string;
 

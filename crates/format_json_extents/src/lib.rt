@@ -19,7 +19,7 @@ pub mod laws;
 pub mod members;
 pub mod names;
 pub mod number;
-mod scalar;
+pub mod scalar;
 pub mod steps;
 pub mod string;
 pub mod tokens;

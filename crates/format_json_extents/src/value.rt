@@ -15,7 +15,7 @@ use crate::tokens::{skip_byte, skip_whitespace};
 
 /// Skips an opening bracket, and returns whether names follow it.
 #[inline(always)]
-fn skip_opening<'i>(bytes: &'i [u8]) -> Option<(bool, &'i [u8])>
+pub fn skip_opening<'i>(bytes: &'i [u8]) -> Option<(bool, &'i [u8])>
     ensures { MatchOption result
         ((keyed : Bool) (more : List ℕ) → bytes.now ≡ opening keyed ∷ more → ⊥)
         (λ r. bytes.now ≡ opening r.0 ∷ r.1.now) }
@@ -30,7 +30,7 @@ fn skip_opening<'i>(bytes: &'i [u8]) -> Option<(bool, &'i [u8])>
 
 /// Skips the closing bracket.
 #[inline(always)]
-fn skip_closing<'i>(keyed: bool, bytes: &'i [u8]) -> Option<&'i [u8]>
+pub fn skip_closing<'i>(keyed: bool, bytes: &'i [u8]) -> Option<&'i [u8]>
     ensures { MatchOption result ((more : List ℕ) → bytes.now ≡ closing keyed ∷ more → ⊥)
         (λ rest. bytes.now ≡ closing keyed ∷ rest.now) }
 {
@@ -43,7 +43,7 @@ fn skip_closing<'i>(keyed: bool, bytes: &'i [u8]) -> Option<&'i [u8]>
 
 /// Skips the closing bracket of an empty array or object.
 #[inline(always)]
-fn skip_empty<'i>(keyed: bool, bytes: &'i [u8]) -> Option<&'i [u8]>
+pub fn skip_empty<'i>(keyed: bool, bytes: &'i [u8]) -> Option<&'i [u8]>
     ensures { MatchOption result (NoneStands (IsEmptyTail keyed) bytes.now)
         (λ rest. RestAfter (IsEmptyTail keyed) Never bytes.now rest.now) }
 {

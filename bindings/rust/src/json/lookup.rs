@@ -89,7 +89,7 @@ fn after_elements(mut inside: Inside<'_>, index: usize) -> Option<Inside<'_>> {
 
 /// Returns the text after the first member name that is `name` in an object that was checked.
 /// `is_token` is for reference tokens of JSON pointers.
-fn after_name<'i>(object: &'i str, max_depth: usize, name: &str, is_token: bool) -> Option<&'i str> {
+pub(super) fn after_name<'i>(object: &'i str, max_depth: usize, name: &str, is_token: bool) -> Option<&'i str> {
     let mut offset = 0;
     // SAFETY: the pointers are those of live borrows, and the bytes are only read. The call takes up to
     // 57 KiB of stack at `MAX_DEPTH` (measured); where there is less, the thread's guard page ends

@@ -1,0 +1,274 @@
+//! All values of a JSON text as nodes.
+pub use crate::exports::JsonNode as Node;
+
+use super::lookup::after_name;
+use super::{check, unknown, Kind, Value};
+use crate::exports;
+use crate::{Error, RequiredSize};
+#[cfg(feature = "alloc")]
+use alloc::{vec, vec::Vec};
+use core::fmt;
+
+/// The values of a JSON text, as nodes in a buffer.
+#[derive(Clone, Copy, Debug)]
+pub struct Nodes<'b> {
+    text: &'b str,
+    nodes: &'b [Node],
+    max_depth: usize,
+}
+
+impl<'b> Nodes<'b> {
+    /// Returns the value of the whole text.
+    pub fn root(&self) -> Item<'b> {
+        Item { all: *self, index: 0 }
+    }
+
+    /// Returns all nodes, in the order of the text.
+    pub fn nodes(&self) -> &'b [Node] {
+        self.nodes
+    }
+}
+
+/// The values of a JSON text, as nodes in a buffer of its own.
+#[cfg(feature = "alloc")]
+#[derive(Clone, Debug)]
+pub struct OwnedNodes<'i> {
+    text: &'i str,
+    nodes: Vec<Node>,
+    max_depth: usize,
+}
+
+#[cfg(feature = "alloc")]
+impl<'i> OwnedNodes<'i> {
+    /// Checks a text and writes its values, like [`nodes`]. A buffer that is too small grows once.
+    ///
+    /// ```
+    /// use pergidau::json::OwnedNodes;
+    ///
+    /// let nodes = OwnedNodes::parse("{\"a\": [1, 2]}", 2)?;
+    /// assert_eq!(nodes.root().get("a").unwrap().at(1).unwrap().value().as_i64(), Some(2));
+    /// # Ok::<(), pergidau::Error>(())
+    /// ```
+    pub fn parse(text: &'i str, max_depth: usize) -> Result<OwnedNodes<'i>, Error> {
+        let mut nodes = vec![Node::default(); text.len() / 8 + 8];
+        let count = loop {
+            match write(text, max_depth, &mut nodes) {
+                Err(Error::BufferTooSmall(required)) => {
+                    nodes.resize(required.entries.max(nodes.len()), Node::default());
+                }
+                found => break found?,
+            }
+        };
+        nodes.truncate(count);
+        Ok(OwnedNodes { text, nodes, max_depth })
+    }
+
+    /// Returns the nodes as a slice.
+    pub fn nodes(&self) -> Nodes<'_> {
+        Nodes { text: self.text, nodes: &self.nodes, max_depth: self.max_depth }
+    }
+
+    /// Returns the value of the whole text.
+    pub fn root(&self) -> Item<'_> {
+        self.nodes().root()
+    }
+}
+
+/// A value of a text that was written as nodes.
+///
+/// The methods visit only the nodes of the elements or members themselves, whatever these contain.
+#[derive(Clone, Copy)]
+pub struct Item<'b> {
+    all: Nodes<'b>,
+    index: usize,
+}
+
+impl fmt::Debug for Item<'_> {
+    fn fmt(&self, f: &mut fmt::Formatter<'_>) -> fmt::Result {
+        f.debug_struct("Item").field("value", &self.value()).finish()
+    }
+}
+
+impl<'b> Item<'b> {
+    fn node(&self) -> &'b Node {
+        &self.all.nodes[self.index]
+    }
+
+    /// Returns the type of the value.
+    pub fn kind(&self) -> Kind {
+        match self.node().kind {
+            exports::JSON_NULL => Kind::Null,
+            exports::JSON_FALSE => Kind::False,
+            exports::JSON_TRUE => Kind::True,
+            exports::JSON_NUMBER => Kind::Number,
+            // A name is a string.
+            exports::JSON_STRING | exports::JSON_NAME => Kind::String,
+            exports::JSON_ARRAY => Kind::Array,
+            exports::JSON_OBJECT => Kind::Object,
+            kind => unknown(kind),
+        }
+    }
+
+    /// Returns its text as written: a string with its quotes and escapes, an array or an object with
+    /// its brackets.
+    pub fn text(&self) -> &'b str {
+        let node = self.node();
+        &self.all.text[node.start..node.end]
+    }
+
+    /// Returns the value without its nodes, for conversions of numbers and strings.
+    pub fn value(&self) -> Value<'b> {
+        Value { kind: self.kind(), text: self.text(), max_depth: self.all.max_depth }
+    }
+
+    fn inside(&self, kind: Kind) -> Children<'b> {
+        let end = if self.kind() == kind { self.node().next } else { 0 };
+        Children { all: self.all, index: self.index + 1, end }
+    }
+
+    /// Returns the elements of an array, in order. The iterator is empty if the value is not an
+    /// array.
+    pub fn elements(&self) -> ItemElements<'b> {
+        ItemElements(self.inside(Kind::Array))
+    }
+
+    /// Returns the members of an object, in order, including repeated ones: the name as written
+    /// between its quotes, and the value. The iterator is empty if the value is not an object.
+    pub fn members(&self) -> ItemMembers<'b> {
+        ItemMembers(self.inside(Kind::Object))
+    }
+
+    /// Returns the element of an array at this index, from 0 on. Returns `None` if there is none, or
+    /// if the value is not an array.
+    pub fn at(&self, index: usize) -> Option<Item<'b>> {
+        self.elements().nth(index)
+    }
+
+    /// Returns the value of the first member of this name. Names are compared with their escapes
+    /// decoded. Returns `None` if no member has the name, or if the value is not an object.
+    ///
+    /// ```
+    /// use pergidau::json::{self, Node};
+    ///
+    /// let mut room = [Node::default(); 8];
+    /// let nodes = json::nodes("{\"b\": [], \"\\u0061\": 1, \"a\": 2}", 2, &mut room)?;
+    /// assert_eq!(nodes.root().get("a").unwrap().value().as_i64(), Some(1));
+    /// assert!(nodes.root().get("c").is_none());
+    /// # Ok::<(), pergidau::Error>(())
+    /// ```
+    pub fn get(&self, name: &str) -> Option<Item<'b>> {
+        let mut members = self.inside(Kind::Object);
+        while let Some((written, value)) = members.member() {
+            let text = written.text();
+            if text.contains('\\') {
+                let object = self.text();
+                let left = after_name(object, self.all.max_depth, name, false)?;
+                let end = self.node().start + object.len() - left.len();
+                let mut members = self.inside(Kind::Object);
+                return core::iter::from_fn(|| members.member())
+                    .find(|(written, _)| written.node().end == end)
+                    .map(|(_, value)| value);
+            }
+            if &text[1..text.len() - 1] == name {
+                return Some(value);
+            }
+        }
+        None
+    }
+}
+
+/// The nodes in an array or an object, without those in them.
+#[derive(Clone, Copy, Debug)]
+struct Children<'b> {
+    all: Nodes<'b>,
+    index: usize,
+    end: usize,
+}
+
+impl<'b> Children<'b> {
+    fn next(&mut self) -> Option<Item<'b>> {
+        if self.index >= self.end {
+            return None;
+        }
+        let item = Item { all: self.all, index: self.index };
+        self.index = item.node().next;
+        Some(item)
+    }
+
+    fn member(&mut self) -> Option<(Item<'b>, Item<'b>)> {
+        Some((self.next()?, self.next()?))
+    }
+}
+
+/// The elements of an array.
+#[derive(Clone, Copy, Debug)]
+pub struct ItemElements<'b>(Children<'b>);
+
+impl<'b> Iterator for ItemElements<'b> {
+    type Item = Item<'b>;
+
+    fn next(&mut self) -> Option<Item<'b>> {
+        self.0.next()
+    }
+}
+
+/// The members of an object.
+#[derive(Clone, Copy, Debug)]
+pub struct ItemMembers<'b>(Children<'b>);
+
+impl<'b> Iterator for ItemMembers<'b> {
+    type Item = (&'b str, Item<'b>);
+
+    fn next(&mut self) -> Option<Self::Item> {
+        let (name, value) = self.0.member()?;
+        let name = name.text();
+        Some((&name[1..name.len() - 1], value))
+    }
+}
+
+/// Checks a JSON text (RFC 8259) like [`check`], and writes all its values into `nodes`, in one pass
+/// and without allocating. Values are then found without reading the text again.
+///
+/// # Errors
+///
+/// - [`Error::BufferTooSmall`] if `nodes` is too small; it holds the required number.
+/// - The errors of [`check`].
+///
+/// ```
+/// use pergidau::json::{self, Node};
+///
+/// let mut room = [Node::default(); 16];
+/// let nodes = json::nodes("{\"a\": [1, [2], 3], \"b\": null}", 3, &mut room)?;
+/// let list = nodes.root().get("a").unwrap();
+/// assert_eq!(list.elements().map(|it| it.text()).collect::<Vec<_>>(), ["1", "[2]", "3"]);
+/// assert_eq!(nodes.root().members().last().unwrap().0, "b");
+/// assert_eq!(nodes.nodes().len(), 9);
+/// # Ok::<(), pergidau::Error>(())
+/// ```
+pub fn nodes<'b>(
+    text: &'b str,
+    max_depth: usize,
+    nodes: &'b mut [Node],
+) -> Result<Nodes<'b>, Error> {
+    let count = write(text, max_depth, nodes)?;
+    Ok(Nodes { text, nodes: &nodes[..count], max_depth })
+}
+
+/// Writes the nodes, and returns their number.
+fn write(text: &str, max_depth: usize, nodes: &mut [Node]) -> Result<usize, Error> {
+    let mut count = 0;
+    let (room, length) = (nodes.as_mut_ptr(), nodes.len());
+    // SAFETY: the pointers are those of live borrows, and the text is only read. The call takes up to
+    // 81 KiB of stack at `MAX_DEPTH` (measured); where there is less, the thread's guard page ends the
+    // program.
+    let code = unsafe {
+        exports::exported_json_nodes(
+            text.as_ptr(), text.len(), max_depth, room, length, &mut count,
+        )
+    };
+    match code {
+        exports::DONE => Ok(count),
+        exports::INVALID => Err(check(text.as_bytes(), max_depth).err().unwrap_or(Error::Invalid(None))),
+        code => Err(Error::of(code, None, RequiredSize { entries: count, bytes: 0 })),
+    }
+}

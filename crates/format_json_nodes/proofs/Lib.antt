@@ -1,0 +1,7 @@
+pub mod Nesting
+pub mod One
+pub mod Only
+pub mod Overlay
+pub mod Tokens
+pub mod Whole
+pub mod Writing
