@@ -1,5 +1,7 @@
+pub mod AfterLines
 pub mod AlikeReplies
 pub mod Bodies
+pub mod Bounded
 pub mod Dues
 pub mod Encodings
 pub mod FirstBytes
@@ -13,5 +15,6 @@ pub mod PartsStand
 pub mod Passing
 pub mod ReadBack
 pub mod Refusals
+pub mod Strings
 pub mod Writing
 pub mod WrittenTexts
