@@ -219,7 +219,7 @@ module _ (protocol : Protocol) where
       → vs ++ last ≡ left ++ more → k ≤ length os
       → (ps : List (Replies ⊤)) × (ws : List ℕ) × EachText (ReplyText protocol level) ps ws
       × (k + length ps ≡ length os) × (ws ++ last ≡ between ++ more)
-  unfolding AreAfter
+  unfolding AreAfter EachText First
   skip level zero left between more vs last os same row e le =
       (os, vs, row, omega arith, e ∙ ap (λ l. l ++ more) same)
   skip level (suc k) left between more vs last os (mid, after, found) row e le =
@@ -233,7 +233,6 @@ module _ (protocol : Protocol) where
           → MatchesAtStart (IsReplyWithin protocol level) mid between
           → (qs : List (Replies ⊤)) × (zs : List ℕ) × EachText (ReplyText protocol level) qs zs
           × (suc k + length qs ≡ length os) × (zs ++ last ≡ between ++ more)
-      unfolding EachText First
       one [] ws others count d found = absurd (omega (arith, count, le))
       one {mid} (p ∷ ps) ws (ys, zs, a, others, g) count d (front, (reply, t), f) =
           let (same, lefts) = replies_alike protocol level p reply (mid ++ more) (zs ++ last)

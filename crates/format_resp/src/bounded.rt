@@ -12,6 +12,7 @@ use crate::reply::Protocol;
 use std::alloc::Allocator;
 
 /// Where and why a reply is rejected.
+#[derive(Clone, Copy)]
 pub(crate) struct Stop<'i> {
     /// The reason.
     reason: Reason,
