@@ -4,8 +4,8 @@ use Rattle.std.specs.Prelude.{length}
 use Rattle.std.specs.Borrow.{Bor}
 use Rattle.std.proofs.Common.{refl, sym, ap, subst, ◌∙◌, append_assoc}
 use Rattle.std.proofs.lemmas.List.{append-nil}
-use Rattle.winnow.specs.InTurn.{First, Led}
-use Rattle.winnow.specs.Texts.{EachText, Text}
+use Rattle.winnow_grammar.specs.InTurn.{First, Led}
+use Rattle.grammars.specs.Texts.{EachText, Text}
 use Rattle.format_resp.proofs.WrittenTexts.{few, list_for}
 use Rattle.format_resp.specs.Extents.{Fits, StringText}
 use Rattle.format_resp.specs.Heads.{HeadText, IsAggregateHead, IsDataHead, Says, formatted}

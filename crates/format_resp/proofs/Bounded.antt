@@ -5,8 +5,8 @@ use Rattle.std.specs.Borrow.{Bor}
 use Rattle.std.proofs.Common.{refl, sym, ap, subst, inl, inr, ◌∙◌, arith, append_assoc}
 use Rattle.std.proofs.Common.{length-append}
 use Rattle.std.proofs.lemmas.List.{append-nil}
-use Rattle.winnow.specs.InTurn.{First}
-use Rattle.winnow.specs.Texts.{EachText, Text}
+use Rattle.winnow_grammar.specs.InTurn.{First}
+use Rattle.grammars.specs.Texts.{EachText, Text}
 use Rattle.format_resp.proofs.AfterLines.{AreElements, BodyAfterLine, led_back, led_there}
 use Rattle.format_resp.proofs.AlikeReplies.{replies_alike}
 use Rattle.format_resp.proofs.FirstLines.{begun_none, head_splits}

@@ -3,8 +3,8 @@ use Rattle.std.specs.Prelude.{◌≡◌, ◌↔◌, ◌≤◌, ◌+◌, ◌^◌,
 use Rattle.std.specs.Prelude.{Option, Some, length}
 use Rattle.std.specs.Borrow.{Bor}
 use Rattle.std.proofs.Common.{refl, sym, ap, subst, ◌∙◌, arith, append_assoc}
-use Rattle.winnow.specs.InTurn.{First, Led}
-use Rattle.winnow.specs.Texts.{EachText}
+use Rattle.winnow_grammar.specs.InTurn.{First, Led}
+use Rattle.grammars.specs.Texts.{EachText}
 use Rattle.format_resp.proofs.AfterLines.{AreElements, BodyAfterLine, led_back, led_there}
 use Rattle.format_resp.proofs.AfterLines.{reply_any}
 use Rattle.format_resp.proofs.WrittenTexts.{deeper, row_as}

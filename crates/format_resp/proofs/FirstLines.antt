@@ -4,9 +4,9 @@ use Rattle.std.specs.Prelude.{Option, None, Some}
 use Rattle.std.specs.List.{AllByRecursion}
 use Rattle.std.proofs.Common.{refl, sym, inl, ap, arith, subst, ◌∙◌, append_assoc}
 use Rattle.std.proofs.lemmas.List.{append-nil}
-use Rattle.winnow.specs.Equal.{same_first, same_others}
-use Rattle.winnow.specs.InTurn.{First, Led, Splits}
-use Rattle.winnow.specs.Texts.{Text}
+use Rattle.streams.specs.Equal.{same_first, same_others}
+use Rattle.winnow_grammar.specs.InTurn.{First, Led, Splits}
+use Rattle.grammars.specs.Texts.{Text}
 use Rattle.format_resp.proofs.LineEnds.{IsPlain, ended_splits, open_endless, return_ends, until_end}
 use Rattle.format_resp.proofs.FirstBytes.{mark_splits, one_mark}
 use Rattle.format_resp.proofs.LineTexts.{line_plain, one_size, size_plain}

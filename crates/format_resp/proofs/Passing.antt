@@ -8,7 +8,7 @@ use Rattle.std.specs.List.{AllByRecursion}
 use Rattle.std.proofs.Common.{refl, sym, ap, inl, inr, ◌∙◌, arith, append_assoc, length-append}
 use Rattle.std.proofs.Common.{subst}
 use Rattle.std.proofs.lemmas.List.{append-nil, drop_at, take-append-le}
-use Rattle.winnow.specs.InTurn.{First, Led}
+use Rattle.winnow_grammar.specs.InTurn.{First, Led}
 use Rattle.format_resp.proofs.LineEnds.{unseen_rest}
 use Rattle.format_resp.proofs.Dues.{data_passed, head_there, line_passed, small_head}
 use Rattle.format_resp.specs.Extents.{AreDue, AreReplies, IsNoString, IsOf}

@@ -4,10 +4,10 @@ use Rattle.std.specs.Borrow.{Bor}
 use Rattle.std.specs.List.{IsSplitAt}
 use Rattle.std.proofs.Common.{refl, sym, ap, subst, ◌∙◌, arith, append_assoc, length-append}
 use Rattle.std.proofs.lemmas.List.{append-nil, nil_from_length, take-append-drop}
-use Rattle.winnow.specs.Grammar.Inversion.{slice_for}
-use Rattle.winnow.specs.Grammar.Lengths.{same_beginnings}
-use Rattle.winnow.specs.InTurn.{First}
-use Rattle.winnow.specs.Texts.{CountedText}
+use Rattle.grammars.specs.Grammar.Inversion.{slice_for}
+use Rattle.grammars.specs.Grammar.Lengths.{same_beginnings}
+use Rattle.winnow_grammar.specs.InTurn.{First}
+use Rattle.grammars.specs.Texts.{CountedText}
 use Rattle.format_resp.proofs.Encodings.{data_determined}
 use Rattle.format_resp.specs.Extents.{Fits, IsNoString, IsPartOfData, StringText}
 use Rattle.format_resp.specs.Resp.{DataText, Ended, line_end}

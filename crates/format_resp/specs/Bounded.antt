@@ -2,7 +2,7 @@
 use Rattle.std.specs.Prelude.{◌≡◌, ◌+◌, ◌<◌, ◌⊎◌, ℕ, zero, suc, List, ◌++◌, length, Option, Some}
 use Rattle.std.specs.Prelude.{None, Result, Ok, Err}
 use Rattle.std.specs.Borrow.{Bor}
-use Rattle.winnow.specs.InTurn.{First}
+use Rattle.winnow_grammar.specs.InTurn.{First}
 use Rattle.format_resp.specs.Extents.{IsNoString, IsPartOfData, IsRejectedPart, IsReplyWithin}
 use Rattle.format_resp.specs.Extents.{MatchesAtStart, StringText, Wants}
 use Rattle.format_resp.specs.Heads.{HeadText}

@@ -4,8 +4,8 @@ use Rattle.std.specs.Prelude.{List, [], ◌∷◌, ◌++◌, length, take, drop,
 use Rattle.std.specs.Prelude.{Result, Ok, Err}
 use Rattle.std.specs.Borrow.{Bor}
 use Rattle.std.specs.List.{AllByRecursion}
-use Rattle.winnow.specs.InTurn.{First}
-use Rattle.winnow.specs.Texts.{Text}
+use Rattle.winnow_grammar.specs.InTurn.{First}
+use Rattle.grammars.specs.Texts.{Text}
 use Rattle.format_resp.specs.Heads.{IsLinePrefix, IsNoLine}
 use Rattle.format_resp.specs.Resp.{DataText, InLine, IsVerbatim, Replies, ReplyText, line_end}
 use Rattle.format_resp.specs.declared.extent.Bulk.{Bulk}

@@ -2,8 +2,8 @@
 use Rattle.std.specs.Prelude.{◌≡◌, ◌≤◌, ◌<◌, ◌^◌, ⊤, Bool, true, false, ℕ, List, [], ◌∷◌, ◌++◌}
 use Rattle.std.specs.Prelude.{length, take, drop, Option, None, Some}
 use Rattle.std.specs.List.{AllByRecursion}
-use Rattle.winnow.specs.InTurn.{First, Led}
-use Rattle.winnow.specs.Texts.{Text}
+use Rattle.winnow_grammar.specs.InTurn.{First, Led}
+use Rattle.grammars.specs.Texts.{Text}
 use Rattle.format_resp.specs.Lines.{EndsLine, IsOpen}
 use Rattle.format_resp.specs.Numbers.{AreDigits, IsBigNumber, SizeLine}
 use Rattle.format_resp.specs.Resp.{Ended, InLine, IsIn, LineSays, MarkText, byte_of, many}

@@ -4,7 +4,7 @@ ghost use Rattle.format_resp.specs.Extents.{IsReplyWithin, MatchesAtStart};
 ghost use Rattle.format_resp.specs.Resp.{Replies, ReplyText};
 ghost use Rattle.format_resp.specs.declared.reply.Protocol.{Protocol};
 ghost use Rattle.std.specs.Prelude.{ℕ, List};
-ghost use Rattle.winnow.specs.InTurn.{First};
+ghost use Rattle.winnow_grammar.specs.InTurn.{First};
 
 use crate::extent::{Bulk, Invalid, Reason, skip_string};
 use crate::heads::{Head, Start, start_of};

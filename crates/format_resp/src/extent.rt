@@ -10,7 +10,7 @@ ghost use Rattle.format_resp.specs.Resp.{Replies, ReplyText};
 ghost use Rattle.format_resp.specs.declared.reply.Protocol.{Protocol};
 ghost use Rattle.std.specs.Prelude.{◌≡◌, ◌≤◌, ◌^◌, ◌++◌, ℕ, List, None, Some, length};
 ghost use Rattle.std.specs.Prelude.{IfOk, IfSome, MatchBool, OnOk, suc};
-ghost use Rattle.winnow.specs.InTurn.{First};
+ghost use Rattle.winnow_grammar.specs.InTurn.{First};
 
 use crate::heads::{Head, Start, start_of};
 use crate::reply::{Protocol, is_verbatim};
