@@ -1,7 +1,6 @@
 pub mod AfterLines
 pub mod AlikeReplies
 pub mod Bodies
-pub mod Bounded
 pub mod Dues
 pub mod Encodings
 pub mod FirstBytes
@@ -16,5 +15,6 @@ pub mod Passing
 pub mod ReadBack
 pub mod Refusals
 pub mod Strings
+pub mod Within
 pub mod Writing
 pub mod WrittenTexts

@@ -1,6 +1,6 @@
 use Rattle.std.specs.Prelude.{None}
 use Rattle.std.proofs.Common.{arith, inl, inr, refl, suc, ◌≡◌}
-use Rattle.format_resp.proofs.Bounded.{leads_here, replies_passed, reply_within, string_passed}
+use Rattle.format_resp.proofs.Within.{leads_here, replies_passed, reply_within, string_passed}
 use Rattle.format_resp.proofs.Passing.{all_none}
 use Rattle.format_resp.proofs.bounded.+pass.Goals as goal
 
