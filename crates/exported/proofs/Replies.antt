@@ -282,3 +282,16 @@ module _ (protocol : Protocol) (level : ℕ) (input : List ℕ) where
     nowhere = λ code. refl;
     codes = inr (inr (inr (inr (inl refl))));
   }
+
+-- the codes for complete input
+pub without_wait : (code : ℕ) → (code ≡ 2 → ⊥)
+    → (code ≡ 0) ⊎ ((code ≡ 1) ⊎ ((code ≡ 12) ⊎ ((code ≡ 11) ⊎ ((code ≡ 6)
+    ⊎ ((code ≡ 2) ⊎ (code ≡ 3))))))
+    → (code ≡ 0) ⊎ ((code ≡ 1) ⊎ ((code ≡ 12) ⊎ ((code ≡ 11) ⊎ ((code ≡ 6) ⊎ (code ≡ 3)))))
+without_wait code not (inl a) = inl a
+without_wait code not (inr (inl a)) = inr (inl a)
+without_wait code not (inr (inr (inl a))) = inr (inr (inl a))
+without_wait code not (inr (inr (inr (inl a)))) = inr (inr (inr (inl a)))
+without_wait code not (inr (inr (inr (inr (inl a))))) = inr (inr (inr (inr (inl a))))
+without_wait code not (inr (inr (inr (inr (inr (inl a)))))) = absurd (not a)
+without_wait code not (inr (inr (inr (inr (inr (inr a)))))) = inr (inr (inr (inr (inr a))))

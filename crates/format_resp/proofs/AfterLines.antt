@@ -62,9 +62,9 @@ fits_data Exclamation slice a = (made.BulkError slice, (slice, refl, (tt, refl))
 fits_data Equals slice a = (made.Verbatim slice, (slice, refl, (a, refl)))
 
 -- the reply ends with this line
-flat : {these : ℕ → List ℕ → Type 0} {head : Head} (us vs line : List ℕ) → head ≡ heads.Ends
+flat : (these : ℕ → List ℕ → Type 0) {head : Head} (us vs line : List ℕ) → head ≡ heads.Ends
     → BodyAfterLine these head vs → us ≡ line ++ line_end → us ++ vs ≡ line ++ line_end
-flat {these} {head} us vs line is behind e =
+flat these {head} us vs line is behind e =
     let P : Head → Type 0 = λ h. BodyAfterLine these h vs in
     ap (λ l. us ++ l) (subst P is behind) ∙ append-nil us ∙ e
 
@@ -161,7 +161,7 @@ module _ {A : Type 0} (elements : Text ℕ (List (Replies A))) where
     unfolding Led Ended SizeText
     body_back (Line mark) head us vs (line, (is, (reply, says)), e) behind =
         let (other, also) = line_any mark reply line says in
-        (other, (line, also, flat us vs line is behind e))
+        (other, (line, also, flat (AreElements elements) us vs line is behind e))
     body_back (Data mark) head us vs (line, (size, a, is), e) behind =
         let (reply, b) = data_back mark size head vs is behind in
         (reply, (size, us, vs, (line, a, e), b, refl))

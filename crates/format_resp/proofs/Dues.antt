@@ -32,7 +32,7 @@ module _ (protocol : Protocol) where
       × AreElements (EachText (ReplyText {A = ⊤} protocol level)) n xs
   unfolding EachText
   gather zero xs e = (0, ([], refl, e))
-  gather (suc n) xs (ys, zs, (a, o, t), many, e) =
+  gather (suc n) xs (ys, zs, (a, (o, t)), many, e) =
       let (b, (os, count, row)) = gather n zs many in
       let P : ℕ → Type 0 = λ k. EachText (ReplyText {A = ⊤} protocol k) os zs in
       let same : a + b ≡ b + a = omega arith in (

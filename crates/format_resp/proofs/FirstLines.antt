@@ -90,27 +90,27 @@ null_number line e (all, some) =
 pub no_null_data : (mark : DataMark) (line : List ℕ) → line ≡ 45 ∷ 49 ∷ [] → (mark ≡ Dollar → ⊥)
     → IsRejectedLine (Data mark) line Malformed
 no_null_data mark line e other = (
-  λ head (size, a, is). none mark (one_size size None line a e) is other,
+  λ head (size, a, is). none mark size head (one_size size None line a e) is other,
   null_number line e,
 )
   where
-    none : (mark : DataMark) {size : Option ℕ} {head : Head} → size ≡ None
+    none : (mark : DataMark) (size : Option ℕ) (head : Head) → size ≡ None
         → IsDataHead mark size head → (mark ≡ Dollar → ⊥) → ⊥
-    none Dollar same is other = other refl
-    none mark {size} {head} same is other =
+    none Dollar size head same is other = other refl
+    none mark size head same is other =
         let P : Option ℕ → Type 0 = λ s. IsDataHead mark s head in subst P same is
 
 pub no_null_aggregate : (mark : AggregateMark) (line : List ℕ) → line ≡ 45 ∷ 49 ∷ []
     → (mark ≡ Star → ⊥) → IsRejectedLine (Aggregate mark) line Malformed
 no_null_aggregate mark line e other = (
-  λ head (size, a, is). none mark (one_size size None line a e) is other,
+  λ head (size, a, is). none mark size head (one_size size None line a e) is other,
   null_number line e,
 )
   where
-    none : (mark : AggregateMark) {size : Option ℕ} {head : Head} → size ≡ None
+    none : (mark : AggregateMark) (size : Option ℕ) (head : Head) → size ≡ None
         → IsAggregateHead mark size head → (mark ≡ Star → ⊥) → ⊥
-    none Star same is other = other refl
-    none mark {size} {head} same is other =
+    none Star size head same is other = other refl
+    none mark size head same is other =
         let P : Option ℕ → Type 0 = λ s. IsAggregateHead mark s head in subst P same is
 
 -- an aggregate of too many replies

@@ -45,6 +45,19 @@ module _ (protocol : Protocol) where
       (f ∙ ap (λ l. front ++ l) e ∙ sym (append_assoc front xs rest)) in
       (ps, omega (arith, count), found)
 
+  pub after_none : (level : ℕ) (tokens : List ℕ) → AreAfter protocol level 0 tokens tokens
+  unfolding AreAfter
+  after_none level tokens = refl
+
+  pub after_more : (level k : ℕ) (tokens between rest : List ℕ)
+      → AreAfter protocol level k tokens between
+      → MatchesAtStart (IsReplyWithin protocol level) between rest
+      → AreAfter protocol level (k + 1) tokens rest
+  unfolding AreAfter
+  after_more level k tokens between rest after found =
+      let P : ℕ → Type 0 = λ n. AreAfter protocol level n tokens rest in
+      let same : suc k ≡ k + 1 = omega arith in subst P same (between, after, found)
+
   -- an aggregate whose replies are
   pub aggregate_within : (level count : ℕ) (tokens left rest : List ℕ)
       → First (HeadText protocol) tokens (heads.Replies count) left
@@ -90,11 +103,12 @@ module _ (protocol : Protocol) where
   string_passed level bulk tokens left (Ok None) head part =
       (Some bulk, 0, left, leads_here level tokens (Some bulk) 0 left head, part)
   string_passed level bulk tokens left (Err stop) head (same, is, none) =
-      let P : List ℕ → Type 0 = λ l. LeadsTo protocol level tokens (Some bulk) 0 l
-      × IsRejectedHere protocol (Some bulk) 0 l stop.reason in (
+      let P : List ℕ → Type 0 = λ l. LeadsTo protocol level tokens (Some bulk) 0 l in
+      let Q : List ℕ → Type 0 = λ l. IsRejectedHere protocol (Some bulk) 0 l stop.reason in (
         Some bulk,
         0,
-        subst P (sym same) (leads_here level tokens (Some bulk) 0 left head, inl (is, none)),
+        subst P (sym same) (leads_here level tokens (Some bulk) 0 left head),
+        subst Q (sym same) (inl (is, none)),
       )
 
   pub replies_passed : (level inner count : ℕ) (tokens left : List ℕ) (r : Stopped)

@@ -129,7 +129,7 @@ fn skip_line_ending<'i>(bytes: &'i [u8]) -> Result<Option<&'i [u8]>, Reason>
 /// Returns data of `size` bytes, and the rest after their line ending.
 #[inline(always)]
 fn split_data<'i>(size: usize, bytes: &'i [u8]) -> Result<Option<(&'i [u8], &'i [u8])>, Reason>
-    ensures told { IsDataEnd size bytes.now result }
+    ensures { IsDataEnd size bytes.now result }
 {
     match bytes.split_at_checked(size) {
         None => Ok(None),

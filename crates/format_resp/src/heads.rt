@@ -3,6 +3,7 @@ ghost use Rattle.format_resp.specs.Heads.{HasNumber, IsLessStart, IsReason, IsRe
 ghost use Rattle.format_resp.specs.Heads.{IsStart, Says, formatted};
 ghost use Rattle.format_resp.specs.Numbers.{AreDigits};
 ghost use Rattle.format_resp.specs.Resp.{InLine};
+ghost use Rattle.format_resp.specs.declared.heads.Head.TheVariants.{Ends};
 ghost use Rattle.format_resp.specs.declared.marks.Mark.TheVariants as marks;
 ghost use Rattle.std.specs.List.{AllByRecursion};
 ghost use Rattle.std.specs.Prelude.{◌≡◌, IfErr, IfOk, drop, length, take};
@@ -12,7 +13,7 @@ use crate::kinds::{count_of, line_reply};
 use crate::lines::{Line, line_of};
 use crate::marks::{AggregateMark, DataMark, LineMark, Mark, mark_of};
 use crate::numbers::{MOST, are_digits, is_big_number, size_line};
-use crate::reply::Protocol;
+use crate::reply::{Protocol, Reply};
 use std::alloc::Global;
 
 /// The part of a reply that follows its first line.
@@ -76,6 +77,14 @@ fn is_formatted(mark: DataMark) -> bool
     }
 }
 
+/// Returns the part after the line of a reply that consists of one line: nothing.
+#[inline(always)]
+fn ends_with(_reply: Reply<&[u8], Global>) -> Head
+    ensures { result ≡ Ends }
+{
+    Head::Ends
+}
+
 /// Returns the meaning of a line after the mark of a reply that consists of one line.
 #[inline(always)]
 fn line_head(mark: LineMark, line: &[u8]) -> Result<Head, Reason>
@@ -84,7 +93,7 @@ fn line_head(mark: LineMark, line: &[u8]) -> Result<Head, Reason>
     ensures rejected { IfErr result (IsRejectedLine (marks.Line mark) line.now) }
 {
     match line_reply::<Global>(mark, line) {
-        Some(_) => Ok(Head::Ends),
+        Some(reply) => Ok(ends_with(reply)),
         None => Err(line_reason(mark, line)),
     }
 }

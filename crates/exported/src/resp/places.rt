@@ -4,7 +4,7 @@ ghost use Rattle.std.specs.Prelude.{◌≡◌, ◌≤◌, ◌+◌, ◌++◌, ◌
 ghost use Rattle.format_resp.specs.Parts.{IsBehindFeed, IsLine, NoFeed};
 ghost use Rattle.format_resp.specs.Resp.{line_end};
 ghost use Rattle.format_resp.specs.declared.reply.Protocol.{Protocol};
-ghost use Rattle.exported.specs.Resp.{HasFields, HasNumber, HasText, IsReply, IsShown};
+ghost use Rattle.exported.specs.Resp.{HasFields, HasNumber, HasText, IsReply, IsShown, number_of};
 ghost use Rattle.exported.specs.Span.{EndsWith, StandsAt};
 
 use crate::resp::{
@@ -30,6 +30,13 @@ fn skip_line<'i>(bytes: &'i [u8]) -> &'i [u8]
         }
     }
     rest
+}
+
+/// Returns the number of a boolean.
+fn of_boolean(boolean: bool) -> i64
+    ensures { result ≡ number_of boolean }
+{
+    if boolean { 1 } else { 0 }
 }
 
 /// Describes a reply that has only a number.
@@ -112,9 +119,7 @@ pub fn reply_at(bytes: &[u8], found: &reply::Reply<&[u8], Global>, left: usize) 
         reply::Reply::Array(list) => list_at(RESP_ARRAY, bytes, list.len(), left),
         reply::Reply::NullArray => number_at(RESP_NULL_ARRAY, 0, length),
         reply::Reply::Null => number_at(RESP_NULL, 0, length),
-        reply::Reply::Boolean(boolean) => {
-            number_at(RESP_BOOLEAN, if *boolean { 1 } else { 0 }, length)
-        }
+        reply::Reply::Boolean(boolean) => number_at(RESP_BOOLEAN, of_boolean(*boolean), length),
         reply::Reply::Double(text) => line_at(RESP_DOUBLE, text.len(), length),
         reply::Reply::BigNumber(text) => line_at(RESP_BIG_NUMBER, text.len(), length),
         reply::Reply::BulkError(text) => string_at(RESP_BULK_ERROR, bytes, text.len(), length),

@@ -4,20 +4,20 @@ use Rattle.format_resp.proofs.FirstLines.{no_null_aggregate, too_many}
 use Rattle.format_resp.specs.declared.heads.Head.TheVariants.{Replies}
 use Rattle.format_resp.proofs.heads.aggregate_head.Goals as goal
 
-pub returns-then-count-clause-head : goal.returns-then-count-clause-head
-returns-then-count-clause-head c =
+pub returns-then-count-le-MOST-clause-head : goal.returns-then-count-le-MOST-clause-head
+returns-then-count-le-MOST-clause-head c =
     let is = rw c.in-Some-Some.field-0-is at c.in-Some-Some.ensures.some in
-    let many = c.in-Some-count_of.ensures.some in (
+    let many = c.in-Some.ensures.some in (
       Some c.in-Some-Some.size,
       is,
-      (ap (λ (n : ℕ). Replies n) many, omega (arith, many, c.if-count.true)),
+      (ap (λ (n : ℕ). Replies n) many, omega (arith, many, c.if-count-le-MOST.true)),
     )
 
-pub returns-else-count-clause-rejected : goal.returns-else-count-clause-rejected
-returns-else-count-clause-rejected c =
+pub returns-else-count-le-MOST-clause-rejected : goal.returns-else-count-le-MOST-clause-rejected
+returns-else-count-le-MOST-clause-rejected c =
     let is = rw c.in-Some-Some.field-0-is at c.in-Some-Some.ensures.some in
     too_many c.args.mark c.in-Some-Some.size c.args.line.now is
-    (omega (arith, c.in-Some-count_of.ensures.some, c.if-count.false))
+    (omega (arith, c.in-Some.ensures.some, c.if-count-le-MOST.false))
 
 pub returns-in-None-count_of-clause-rejected : goal.returns-in-None-count_of-clause-rejected
 returns-in-None-count_of-clause-rejected c =

@@ -4,8 +4,8 @@ use Rattle.format_resp.proofs.heads.line_head.Goals as goal
 
 pub returns-in-Some-clause-head : goal.returns-in-Some-clause-head
 returns-in-Some-clause-head c all = (
-  refl,
-  line_any c.args.mark c.in-Some.field-0 c.args.line.now (c.in-Some.ensures.some all),
+  c.ends_with.ensures,
+  line_any c.args.mark c.in-Some.reply c.args.line.now (c.in-Some.ensures.some all),
 )
 
 pub returns-in-None-clause-rejected : goal.returns-in-None-clause-rejected
