@@ -1,6 +1,6 @@
 -- Lemmas about the parts of replies and their offsets, and about rejected replies.
 use Rattle.std.proofs.Common.{◌≡◌, ◌∙◌, ◌+◌, ◌-◌, ◌≤◌, ◌++◌, ◌∷◌, [], ℕ, List, Global, ap}
-use Rattle.std.proofs.Common.{append_assoc, arith, length, length-append, refl, subst, suc, sym}
+use Rattle.std.proofs.Common.{append_assoc, arith, inl, inr, length, pos, length-append, refl, subst, suc, sym}
 use Rattle.std.specs.Prelude.{◌<◌, ◌⊎◌, Err, None, Ok, Option, Some, ⊤}
 use Rattle.std.specs.Borrow.{Bor}
 use Rattle.std.specs.declared.vec.Vec.{Vec}

@@ -120,19 +120,15 @@ pub struct RespReplyState {
     pub high: usize,
 }
 
-/// The reply of nothing, with the offset of an error.
-pub(crate) fn none(error_offset: usize) -> Reply
-    ensures { result ≡ no_reply error_offset }
-{
-    Reply {
-        kind: RESP_SIMPLE,
-        number: 0,
-        elements: 0,
-        span: NOWHERE,
-        length: 0,
-        error_offset,
-    }
-}
+/// The reply of nothing.
+pub(crate) const NONE: Reply = Reply {
+    kind: RESP_SIMPLE,
+    number: 0,
+    elements: 0,
+    span: NOWHERE,
+    length: 0,
+    error_offset: 0,
+};
 
 /// Returns the version of the protocol: 3 stands for RESP3, another number for RESP2.
 fn version(protocol: u32) -> Protocol
@@ -160,7 +156,7 @@ fn code_of(reason: Reason) -> u32
 fn read(alloc: Global, protocol: u32, bytes: &[u8], max_depth: usize, out: &mut Reply) -> u32
     ensures { TellsReply (protocol_of protocol) max_depth bytes.now result out.new }
 {
-    *out = none(0);
+    *out = NONE;
     if max_depth > MAX_DEPTH {
         return MAX_DEPTH_TOO_LARGE;
     }
@@ -178,11 +174,14 @@ fn read(alloc: Global, protocol: u32, bytes: &[u8], max_depth: usize, out: &mut 
             }
             match bounded_length(protocol, max_depth, bytes) {
                 Err(invalid) => {
-                    *out = none(invalid.offset);
+                    *out = Reply {
+                        error_offset: invalid.offset,
+                        ..NONE
+                    };
                     code_of(invalid.reason)
                 }
                 Ok(None) => INCOMPLETE,
-                Ok(Some(_)) => unreachable!(),
+                Ok(Some(_length)) => unreachable!(),
             }
         }
     }
@@ -252,7 +251,10 @@ pub extern "C" fn exported_resp_reply(
 {
     let code = read(alloc, protocol, bytes, max_depth, out);
     if code == INCOMPLETE {
-        *out = none(bytes.len());
+        *out = Reply {
+            error_offset: bytes.len(),
+            ..NONE
+        };
         return INVALID;
     }
     code

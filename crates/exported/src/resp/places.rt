@@ -8,9 +8,9 @@ ghost use Rattle.exported.specs.Resp.{HasFields, HasNumber, HasText, IsReply, Is
 ghost use Rattle.exported.specs.Span.{EndsWith, StandsAt};
 
 use crate::resp::{
-    RESP_ARRAY, RESP_ATTRIBUTES, RESP_BIG_NUMBER, RESP_BOOLEAN, RESP_BULK, RESP_BULK_ERROR,
+    NONE, RESP_ARRAY, RESP_ATTRIBUTES, RESP_BIG_NUMBER, RESP_BOOLEAN, RESP_BULK, RESP_BULK_ERROR,
     RESP_DOUBLE, RESP_ERROR, RESP_INTEGER, RESP_MAP, RESP_NULL, RESP_NULL_ARRAY, RESP_NULL_BULK,
-    RESP_PUSH, RESP_SET, RESP_SIMPLE, RESP_VERBATIM, Reply, none,
+    RESP_PUSH, RESP_SET, RESP_SIMPLE, RESP_VERBATIM, Reply,
 };
 use crate::span::{Span, first_of};
 use format_resp::reply;
@@ -40,23 +40,23 @@ fn of_boolean(boolean: bool) -> i64
 }
 
 /// Describes a reply that has only a number.
-fn number_at(kind: u32, number: i64, length: usize) -> Reply
+fn number_at(kind: u32, number: i64, whole: usize) -> Reply
     ensures number { HasNumber kind number result }
-    ensures length { (result.length ≡ length) × (result.error_offset ≡ 0) }
+    ensures length { (result.length ≡ whole) × (result.error_offset ≡ 0) }
 {
     Reply {
         kind,
         number,
-        length,
-        ..none(0)
+        length: whole,
+        ..NONE
     }
 }
 
 /// Describes a reply whose text, of `count` bytes, follows its first byte.
-fn line_at(kind: u32, count: usize, length: usize) -> Reply
+fn line_at(kind: u32, count: usize, whole: usize) -> Reply
     ensures text { (input text rest : List ℕ) → IsLine input text rest → length text ≡ count
         → HasText kind input rest text result }
-    ensures length { (result.length ≡ length) × (result.error_offset ≡ 0) }
+    ensures length { (result.length ≡ whole) × (result.error_offset ≡ 0) }
 {
     Reply {
         kind,
@@ -64,22 +64,22 @@ fn line_at(kind: u32, count: usize, length: usize) -> Reply
             offset: 1,
             length: count,
         },
-        length,
-        ..none(0)
+        length: whole,
+        ..NONE
     }
 }
 
 /// Describes a reply whose text, of `count` bytes, follows its first line.
-fn string_at(kind: u32, bytes: &[u8], count: usize, length: usize) -> Reply
+fn string_at(kind: u32, bytes: &[u8], count: usize, whole: usize) -> Reply
     ensures text { (text rest : List ℕ) → IsBehindFeed bytes.now (text ++ (line_end ++ rest))
         → length text ≡ count → HasText kind bytes.now rest text result }
-    ensures length { (result.length ≡ length) × (result.error_offset ≡ 0) }
+    ensures length { (result.length ≡ whole) × (result.error_offset ≡ 0) }
 {
     Reply {
         kind,
         span: first_of(bytes, skip_line(bytes), count),
-        length,
-        ..none(0)
+        length: whole,
+        ..NONE
     }
 }
 
@@ -97,7 +97,7 @@ fn list_at(kind: u32, bytes: &[u8], count: usize, left: usize) -> Reply
         elements: count,
         span: first_of(bytes, behind, behind.len().saturating_sub(left)),
         length: bytes.len().saturating_sub(left),
-        ..none(0)
+        ..NONE
     }
 }
 

@@ -17,16 +17,16 @@ returns-then-code-eq-INCOMPLETE-clause-deep c = (
   )),
 )
 
-pub returns-else-code-eq-INCOMPLETE-clause-refused : goal.returns-else-code-eq-INCOMPLETE-clause-refused
-returns-else-code-eq-INCOMPLETE-clause-refused c e =
+pub returns-clause-refused : goal.returns-clause-refused
+returns-clause-refused c e =
     inl (c.read-code.ensures.rejected Malformed e)
 
-pub returns-else-code-eq-INCOMPLETE-clause-large : goal.returns-else-code-eq-INCOMPLETE-clause-large
-returns-else-code-eq-INCOMPLETE-clause-large c e = c.read-code.ensures.rejected TooLarge e
+pub returns-clause-large : goal.returns-clause-large
+returns-clause-large c e = c.read-code.ensures.rejected TooLarge e
 
-pub returns-else-code-eq-INCOMPLETE-clause-nested : goal.returns-else-code-eq-INCOMPLETE-clause-nested
-returns-else-code-eq-INCOMPLETE-clause-nested c e = c.read-code.ensures.rejected TooDeep e
+pub returns-clause-nested : goal.returns-clause-nested
+returns-clause-nested c e = c.read-code.ensures.rejected TooDeep e
 
-pub returns-else-code-eq-INCOMPLETE-clause-codes : goal.returns-else-code-eq-INCOMPLETE-clause-codes
-returns-else-code-eq-INCOMPLETE-clause-codes c =
+pub returns-clause-codes : goal.returns-clause-codes
+returns-clause-codes c =
     without_wait _ c.if-code-eq-INCOMPLETE.false c.read-code.ensures.codes

@@ -9,3 +9,6 @@ returns-clause-large c e = c.read.ensures.rejected TooLarge e
 
 pub returns-clause-nested : goal.returns-clause-nested
 returns-clause-nested c e = c.read.ensures.rejected TooDeep e
+
+pub returns-clause-incomplete : goal.returns-clause-incomplete
+returns-clause-incomplete c e = (c.read.ensures.waits e).0

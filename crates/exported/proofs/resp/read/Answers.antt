@@ -11,9 +11,9 @@ use Rattle.exported.proofs.Replies.{tells_memory, tells_rejected, tells_waits, w
 use Rattle.exported.specs.Resp.{TellsReply}
 use Rattle.exported.proofs.resp.read.Goals as goal
 
-pub returns-then-max_depth-gt512 : goal.returns-then-max_depth-gt512
-returns-then-max_depth-gt512 c =
-    tells_deep _ c.args.max_depth c.args.bytes.now (omega (arith, c.if-max_depth-gt512.true))
+pub returns-then-max_depth-gt-MAX_DEPTH : goal.returns-then-max_depth-gt-MAX_DEPTH
+returns-then-max_depth-gt-MAX_DEPTH c =
+    tells_deep _ c.args.max_depth c.args.bytes.now (omega (arith, c.if-max_depth-gt-MAX_DEPTH.true))
 
 pub returns-in-Ok : goal.returns-in-Ok
 returns-in-Ok c =
@@ -26,13 +26,13 @@ returns-in-Ok c =
     let left = sym (ap (λ (i : Input ℕ). length i.left.tokens) c.into_inner.ensures) in
     let P : Protocol → Type 0 = λ p. TellsReply p level bytes 0 c.reply_at.result in
     subst P c.version-protocol.ensures
-    (tells_done protocol level bytes _ (omega (arith, c.if-max_depth-gt512.false))
+    (tells_done protocol level bytes _ (omega (arith, c.if-max_depth-gt-MAX_DEPTH.false))
     (reply_told protocol level bytes _ c.in-Ok.found _ _ is left
     (c.reply_at.ensures.shown protocol level _ is left) c.reply_at.ensures.length))
 
 pub returns-then-is_memory : goal.returns-then-is_memory
 returns-then-is_memory c =
-    tells_memory _ c.args.max_depth c.args.bytes.now (omega (arith, c.if-max_depth-gt512.false))
+    tells_memory _ c.args.max_depth c.args.bytes.now (omega (arith, c.if-max_depth-gt-MAX_DEPTH.false))
 
 pub returns-in-Err-bounded_length : goal.returns-in-Err-bounded_length
 returns-in-Err-bounded_length c =
@@ -41,7 +41,7 @@ returns-in-Err-bounded_length c =
     let bytes = c.args.bytes.now in
     let P : Protocol → Type 0 = λ p. TellsReply p level bytes c.code_of.result _ in
     subst P c.version-protocol.ensures (tells_rejected protocol level bytes _ _ _
-    (omega (arith, c.if-max_depth-gt512.false)) c.code_of.ensures
+    (omega (arith, c.if-max_depth-gt-MAX_DEPTH.false)) c.code_of.ensures
     (rejects protocol level bytes c.in-Err-bounded_length.invalid
     c.in-Err-bounded_length.ensures))
 
@@ -52,15 +52,16 @@ returns-in-Ok-None c =
     let bytes = c.args.bytes.now in
     let P : Protocol → Type 0 = λ p. TellsReply p level bytes 2 _ in
     subst P c.version-protocol.ensures (tells_waits protocol level bytes
-    (omega (arith, c.if-max_depth-gt512.false)) (waits protocol level bytes
-    c.in-Ok-None.ensures))
+    (omega (arith, c.if-max_depth-gt-MAX_DEPTH.false)) (waits protocol level bytes
+    (rw c.in-Ok-None.field-0-is at c.in-Ok-None.ensures)))
 
 pub unreachable-requires : goal.unreachable-requires
 unreachable-requires c =
     let protocol = c.version-protocol.result in
     let level = c.args.max_depth in
     let bytes = c.args.bytes.now in
-    reply_there protocol level bytes c.args.alloc c.in-Ok-Some.field-0 c.in-Ok-Some.ensures
+    reply_there protocol level bytes c.args.alloc c.in-Ok-Some._length
+    (rw c.in-Ok-Some.field-0-is at c.in-Ok-Some.ensures)
     (none_whole (First (ReplyText protocol level)) bytes _ _ c.in-Err.error
     (c.complete.ensures.complete ∙ ap (λ (i : Input ℕ). with_flag i false) c.new-whole.ensures)
     (λ m. true≢false (sym (c.is_memory.ensures.1 m) ∙ c.if-is_memory.false)) c.in-Err.ensures)
