@@ -2,7 +2,7 @@
 use Rattle.std.specs.Prelude.{◌≡◌, ◌++◌, ℕ, List, [], Option, None, Some, Result, Ok, Err}
 use Rattle.std.specs.Prelude.{IfOk, OnOk}
 use Rattle.std.proofs.Common.{◌∙◌, arith, refl, subst, sym}
-use Rattle.format_resp.specs.Extents.{IsOf, IsRejected, IsRejectedPart, IsWanting, ReplyResult}
+use Rattle.format_resp.specs.Extents.{IsOf, IsRejectedPart, IsWanting, ReplyResult}
 use Rattle.format_resp.specs.declared.extent.Bulk.{Bulk}
 use Rattle.format_resp.specs.declared.extent.Extent.{Extent}
 use Rattle.format_resp.specs.declared.extent.Invalid.{Invalid}

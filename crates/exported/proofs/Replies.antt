@@ -1,9 +1,8 @@
 -- Lemmas about the parts of replies and their offsets, and about rejected replies.
 use Rattle.std.proofs.Common.{◌≡◌, ◌∙◌, ◌+◌, ◌-◌, ◌≤◌, ◌++◌, ◌∷◌, [], ℕ, List, Global, ap}
-use Rattle.std.proofs.Common.{append_assoc, arith, inl, inr, length, pos, length-append, refl, subst, suc, sym}
-use Rattle.std.specs.Prelude.{◌<◌, ◌⊎◌, Err, None, Ok, Option, Some, ⊤}
+use Rattle.std.proofs.Common.{append_assoc, arith, inl, inr, length, pos, length-append, refl, subst, sym}
+use Rattle.std.specs.Prelude.{◌<◌, ◌⊎◌, Err, None, Ok, Some, ⊤}
 use Rattle.std.specs.Borrow.{Bor}
-use Rattle.std.specs.declared.vec.Vec.{Vec}
 use Rattle.winnow.specs.Equal.{same_first, same_others}
 use Rattle.winnow.specs.InTurn.{First}
 use Rattle.format_resp.proofs.AfterLines.{first_any}
@@ -11,7 +10,7 @@ use Rattle.format_resp.proofs.PartsStand.{stands_as}
 use Rattle.format_resp.specs.Bounded.{BoundedResult}
 use Rattle.format_resp.specs.Extents.{IsReplyWithin, MatchesAtStart}
 use Rattle.format_resp.specs.Parts.{HasElements, IsBehindFeed, IsLine, NoFeed, StandsBy}
-use Rattle.format_resp.specs.Resp.{Opened, ReplyText, line_end}
+use Rattle.format_resp.specs.Resp.{Opened, line_end}
 use Rattle.format_resp.specs.declared.extent.Invalid.{Invalid}
 use Rattle.format_resp.specs.declared.extent.Reason.{Reason}
 use Rattle.format_resp.specs.declared.extent.Reason.TheVariants.{Malformed, TooDeep, TooLarge}

@@ -5,7 +5,7 @@ use Rattle.std.specs.List.{AllByRecursion}
 use Rattle.std.specs.declared.vec.Vec.{Vec}
 use Rattle.std.proofs.Common.{◌∙◌, ap, append_assoc, arith, refl, subst, sym}
 use Rattle.winnow_grammar.specs.InTurn.{First, Led}
-use Rattle.grammars.specs.Texts.{CountedText, EachText}
+use Rattle.grammars.specs.Texts.{CountedText}
 use Rattle.format_resp.proofs.LineTexts.{size_plain}
 use Rattle.format_resp.proofs.Made.{array_is, attributed_is, big_number_is, boolean_is}
 use Rattle.format_resp.proofs.Made.{bulk_error_is, bulk_is, double_is, error_is, integer_is}

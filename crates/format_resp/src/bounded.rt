@@ -1,6 +1,5 @@
 //! The end of a reply whose nesting depth is limited, and the reason why there is none.
 ghost use Rattle.format_resp.specs.Bounded.{BoundedResult, IsPassed, IsPassedEach, IsStringPassed};
-ghost use Rattle.format_resp.specs.Extents.{IsReplyWithin, MatchesAtStart};
 ghost use Rattle.format_resp.specs.Resp.{Replies, ReplyText};
 ghost use Rattle.format_resp.specs.declared.reply.Protocol.{Protocol};
 ghost use Rattle.std.specs.Prelude.{ℕ, List};
