@@ -78,7 +78,7 @@ const OPEN: &[&[u8]] = &[
     b"*1\r\n*2\r\n*1\r\n:7\r\n",
 ];
 
-/// Finds the end at each cut, in pieces and at once.
+/// Finds the end at each cut, in chunks and at once.
 fn ends_at_every_cut(rt: &impl std::process::Abort, protocol: Protocol, text: &[u8], length: usize) {
     let mut extent = Extent::new();
     for cut in 0..text.len() + 1 {
@@ -101,7 +101,7 @@ fn advance_at_every_cut(rt: HostRuntime) {
     }
 }
 
-/// Rejects bytes from the same prefix on, in pieces and at once, for the same reason.
+/// Rejects bytes from the same prefix on, in chunks and at once, for the same reason.
 fn refuses(
     rt: &impl std::process::Abort,
     protocol: Protocol,

@@ -63,24 +63,28 @@ module _ (given protocol : Protocol) (old new : Extent) (bytes : List ℕ)
       let S : Protocol → Type 0 = λ p. IsWanting p new bytes inside in
       subst Q (sym is) (subst S same (subst P e (wants it_was)))
 
-  pub tells_end : (count : ℕ) → answer ≡ Ok (Some count)
+  pub tells_end : (inside : Option ℕ) (count : ℕ) → answer ≡ Ok inside → inside ≡ Some count
       → TellsEnd protocol bytes done count after
-  tells_end count e = record {
-    ends = λ _. it_tells (Ok (Some count)) e;
-    wants = λ other. absurd (omega (arith, other));
-    never = λ other. absurd (omega (arith, other));
-    large = λ other. absurd (omega (arith, other));
-    kept = λ _ _. it_is (Some count) e;
-  }
+  tells_end inside count e some =
+      let P : Option ℕ → Type 0 = λ o. ReplyResult protocol bytes (Ok o) in record {
+        ends = λ _. subst P some (it_tells (Ok inside) e);
+        wants = λ other. absurd (omega (arith, other));
+        never = λ other. absurd (omega (arith, other));
+        large = λ other. absurd (omega (arith, other));
+        kept = λ _ _. it_is inside e;
+      }
 
-  pub tells_wants : answer ≡ Ok None → TellsEnd protocol bytes incomplete 0 after
-  tells_wants e = record {
-    ends = λ other. absurd (omega (arith, other));
-    wants = λ _. (it_tells (Ok None) e, it_wants None e);
-    never = λ other. absurd (omega (arith, other));
-    large = λ other. absurd (omega (arith, other));
-    kept = λ _ _. it_is None e;
-  }
+  pub tells_wants : (inside : Option ℕ) → answer ≡ Ok inside → inside ≡ None
+      → TellsEnd protocol bytes incomplete 0 after
+  tells_wants inside e none =
+      let P : Option ℕ → Type 0 = λ o. ReplyResult protocol bytes (Ok o) in
+      let Q : Option ℕ → Type 0 = λ o. IsWanting protocol (extent_of after) bytes o in record {
+        ends = λ other. absurd (omega (arith, other));
+        wants = λ _. (subst P none (it_tells (Ok inside) e), subst Q none (it_wants inside e));
+        never = λ other. absurd (omega (arith, other));
+        large = λ other. absurd (omega (arith, other));
+        kept = λ _ _. it_is inside e;
+      }
 
   made_of : (why : Invalid) (reason : Reason) → why.reason ≡ reason
       → ReplyResult protocol bytes (Err why)

@@ -1,6 +1,7 @@
 -- Lemmas about the parts of replies and their offsets, and about rejected replies.
 use Rattle.std.proofs.Common.{◌≡◌, ◌∙◌, ◌+◌, ◌-◌, ◌≤◌, ◌++◌, ◌∷◌, [], ℕ, List, Global, ap}
-use Rattle.std.proofs.Common.{append_assoc, arith, inl, inr, length, pos, length-append, refl, subst, sym}
+use Rattle.std.proofs.Common.{append_assoc, arith, inl, inr, length, pos, length-append, refl}
+use Rattle.std.proofs.Common.{subst, sym}
 use Rattle.std.specs.Prelude.{◌<◌, ◌⊎◌, Err, None, Ok, Some, ⊤}
 use Rattle.std.specs.Borrow.{Bor}
 use Rattle.winnow.specs.Equal.{same_first, same_others}

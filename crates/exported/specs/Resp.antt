@@ -1,5 +1,6 @@
 -- Results for replies.
-use Rattle.std.specs.Prelude.{◌≡◌, ◌<◌, ◌+◌, ◌⊎◌, ◌↔◌, Bool, true, false, ℕ, ℤ, pos, List, ◌++◌, length, zero, suc}
+use Rattle.std.specs.Prelude.{◌≡◌, ◌<◌, ◌+◌, ◌⊎◌, ◌↔◌, Bool, true, false, ℕ, ℤ, pos, List, ◌++◌}
+use Rattle.std.specs.Prelude.{length, zero, suc}
 use Rattle.std.specs.Borrow.{Bor}
 use Rattle.std.specs.declared.alloc.Global.{Global}
 use Rattle.format_resp.specs.Bounded.{IsRejectedWithin, IsWantingWithin}

@@ -1,5 +1,6 @@
 -- Lemmas about the continuation of a reply after the bytes passed.
-use Rattle.std.specs.Prelude.{◌≡◌, ◌↔◌, ◌≤◌, ◌+◌, ◌^◌, ⊤, ℕ, zero, suc, List, [], ◌∷◌, ◌++◌, None}
+use Rattle.std.specs.Prelude.{◌≡◌, ◌↔◌, ◌≤◌, ◌+◌, ◌^◌, ⊤, ℕ, zero, suc, List, [], ◌∷◌}
+use Rattle.std.specs.Prelude.{◌++◌, None}
 use Rattle.std.specs.Prelude.{Option, Some, length}
 use Rattle.std.specs.Borrow.{Bor}
 use Rattle.std.proofs.Common.{refl, sym, ap, subst, ◌∙◌, arith, append_assoc}
@@ -51,7 +52,8 @@ module _ (protocol : Protocol) where
         ),
       )
 
-  spread : (level : ℕ) (os : List (Replies ⊤)) (xs : List ℕ) → EachText (ReplyText protocol level) os xs
+  spread : (level : ℕ) (os : List (Replies ⊤)) (xs : List ℕ)
+      → EachText (ReplyText protocol level) os xs
       → AreReplies protocol (length os) xs
   unfolding EachText
   spread level [] xs e = e

@@ -76,7 +76,9 @@ module _ (protocol : Protocol) (e : Extent) (tokens rest : List ℕ)
       → MatchesAtStart (AreDue protocol e.bulk e.replies) (rest ++ more) left → ⊥)
       → (more left : List ℕ) → MatchesAtStart (IsReply protocol) (tokens ++ more) left → ⊥
   never_due none more left x =
-      none more left ((p.leads (rest ++ more) left).0 (subst (λ l. MatchesAtStart (IsReply protocol) l left)
+      none more left
+            ((p.leads (rest ++ more) left).0
+              (subst (λ l. MatchesAtStart (IsReply protocol) l left)
       (ap (λ l. l ++ more) p.split ∙ append_assoc p.front rest more) x))
 
   -- the part at the start of the rest is passed
@@ -191,7 +193,8 @@ module _ (protocol : Protocol) (e : Extent) (tokens rest : List ℕ)
   pub all_passed : e.bulk ≡ None → e.replies ≡ 0 → ReplyResult protocol tokens (Ok (Some e.passed))
   all_passed none zeros =
       let leads : (xs left : List ℕ)
-      → MatchesAtStart (IsReply protocol) (p.front ++ xs) left ↔ MatchesAtStart (AreReplies protocol 0) xs left =
+      → MatchesAtStart (IsReply protocol) (p.front ++ xs) left
+          ↔ MatchesAtStart (AreReplies protocol 0) xs left =
       rw (none, zeros) at p.leads in
       let (whole, reply, same) = (leads [] []).1 ([], refl, refl) in (
         p.front,
@@ -243,7 +246,8 @@ module _ (protocol : Protocol) (e : Extent) (tokens rest : List ℕ)
   passed_within (inr less) = omega (arith, less)
 
 -- before the first byte
-pub none_passed : (protocol : Protocol) (e : Extent) (tokens : List ℕ) → e.passed ≡ 0 → e.sought ≡ 0 → e.bulk ≡ None
+pub none_passed : (protocol : Protocol) (e : Extent) (tokens : List ℕ) → e.passed ≡ 0
+    → e.sought ≡ 0 → e.bulk ≡ None
     → e.replies ≡ 1 → IsOf protocol e tokens
 none_passed protocol e tokens passed sought none one = (
   tokens,
@@ -270,7 +274,8 @@ none_passed protocol e tokens passed sought none one = (
     )
 
 -- what is kept of bytes is kept of more
-pub kept_more : (protocol : Protocol) (r : Result (Option ℕ) Invalid) (e f : Extent) (tokens left : List ℕ)
+pub kept_more : (protocol : Protocol) (r : Result (Option ℕ) Invalid) (e f : Extent)
+    (tokens left : List ℕ)
     → left ≡ take (length tokens - e.passed) (drop e.passed tokens)
     → OnOk r (Passed protocol e tokens left → (rest : List ℕ) × Passed protocol f tokens rest)
     → OnOk r (IsOf protocol e tokens → (more : List ℕ) → IsOf protocol f (tokens ++ more))

@@ -65,10 +65,12 @@ module _ (protocol : Protocol) where
       → MatchesAtStart (IsReplyWithin protocol (suc level)) tokens rest
   unfolding First Elements EachText
   aggregate_within level count tokens left rest (us, text, e) after =
-      let (ps, many, (vs, row, f)) = gathered_from level count left rest rest [] [] after refl refl in
+      let (ps, many, (vs, row, f)) =
+          gathered_from level count left rest rest [] [] after refl refl in
       let same : length ps ≡ count = omega (arith, many) in (
         us ++ vs,
-        led_back (Elements {A = ⊤} protocol (suc level)) tt protocol (heads.Replies count) us vs text
+        led_back (Elements {A = ⊤} protocol (suc level)) tt protocol (heads.Replies count) us vs
+              text
             (ps, same, row),
         e ∙ ap (λ l. us ++ l) f ∙ sym (append_assoc us vs rest),
       )

@@ -45,7 +45,8 @@ IsAggregateHead mark None head = ⊥
 abbrev pub Says : Mark → Text ℕ Head
 Says (marks.Line mark) head line =
     (head ≡ Ends) × ((reply : resp.Replies ⊤) × LineSays mark reply line)
-Says (marks.Data mark) head line = (size : Option ℕ) × SizeLine size line × IsDataHead mark size head
+Says (marks.Data mark) head line =
+    (size : Option ℕ) × SizeLine size line × IsDataHead mark size head
 Says (marks.Aggregate mark) head line =
     (size : Option ℕ) × SizeLine size line × IsAggregateHead mark size head
 

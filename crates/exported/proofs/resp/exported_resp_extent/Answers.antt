@@ -6,14 +6,15 @@ returns-in-Ok-Some-clause-told c = λ here.
     tells_end _ _ _ _ c.args.bytes.now c.advance-answer.result c.advance-answer.ensures.told
     c.advance-answer.ensures.kept c.advance-answer.ensures.wants c.version.ensures
     c.args.state.now c.state_at.result c.extent_at-extent.ensures c.state_at.ensures here
-    c.in-Ok-Some.length (rw c.in-Ok-Some.field-0-is at c.in-Ok-Some.is)
+    c.in-Ok-Some.field-0 c.in-Ok-Some.length c.in-Ok-Some.is
+    (rw c.in-Ok-Some.is at c.in-Ok-Some.field-0-is)
 
 pub returns-in-Ok-None-clause-told : goal.returns-in-Ok-None-clause-told
 returns-in-Ok-None-clause-told c = λ here.
     tells_wants _ _ _ _ c.args.bytes.now c.advance-answer.result c.advance-answer.ensures.told
     c.advance-answer.ensures.kept c.advance-answer.ensures.wants c.version.ensures
     c.args.state.now c.state_at.result c.extent_at-extent.ensures c.state_at.ensures here
-    (rw c.in-Ok-None.field-0-is at c.in-Ok-None.is)
+    c.in-Ok-None.field-0 c.in-Ok-None.is (rw c.in-Ok-None.is at c.in-Ok-None.field-0-is)
 
 pub returns-in-TooLarge-clause-told : goal.returns-in-TooLarge-clause-told
 returns-in-TooLarge-clause-told c = λ here.

@@ -3,7 +3,8 @@ use Rattle.format_resp.specs.declared.extent.Reason.TheVariants.{Malformed, TooD
 use Rattle.exported.proofs.Replies.{without_wait}
 use Rattle.exported.proofs.resp.exported_resp_reply.Goals as goal
 
-pub returns-then-code-eq-INCOMPLETE-clause-refused : goal.returns-then-code-eq-INCOMPLETE-clause-refused
+pub returns-then-code-eq-INCOMPLETE-clause-refused :
+    goal.returns-then-code-eq-INCOMPLETE-clause-refused
 returns-then-code-eq-INCOMPLETE-clause-refused c e =
     inr ((c.read-code.ensures.waits c.if-code-eq-INCOMPLETE.true).0, refl)
 

@@ -8,7 +8,7 @@ use Rattle.format_resp.specs.declared.reply.Protocol.{Protocol}
 use Rattle.exported.proofs.Pieces.{none_whole, stands_whole}
 use Rattle.exported.proofs.Replies.{rejects, reply_there, reply_told, tells_deep, tells_done}
 use Rattle.exported.proofs.Replies.{tells_memory, tells_rejected, tells_waits, waits}
-use Rattle.exported.specs.Resp.{TellsReply}
+use Rattle.exported.specs.Resp.{TellsReply, no_reply}
 use Rattle.exported.proofs.resp.read.Goals as goal
 
 pub returns-then-max_depth-gt-MAX_DEPTH : goal.returns-then-max_depth-gt-MAX_DEPTH
@@ -32,14 +32,17 @@ returns-in-Ok c =
 
 pub returns-then-is_memory : goal.returns-then-is_memory
 returns-then-is_memory c =
-    tells_memory _ c.args.max_depth c.args.bytes.now (omega (arith, c.if-max_depth-gt-MAX_DEPTH.false))
+    tells_memory _ c.args.max_depth c.args.bytes.now
+    (omega (arith, c.if-max_depth-gt-MAX_DEPTH.false))
 
 pub returns-in-Err-bounded_length : goal.returns-in-Err-bounded_length
 returns-in-Err-bounded_length c =
     let protocol = c.version-protocol.result in
     let level = c.args.max_depth in
     let bytes = c.args.bytes.now in
-    let P : Protocol → Type 0 = λ p. TellsReply p level bytes c.code_of.result _ in
+    let P : Protocol → Type 0 = λ p.
+    TellsReply p level bytes c.code_of.result
+    (no_reply c.in-Err-bounded_length.invalid.offset) in
     subst P c.version-protocol.ensures (tells_rejected protocol level bytes _ _ _
     (omega (arith, c.if-max_depth-gt-MAX_DEPTH.false)) c.code_of.ensures
     (rejects protocol level bytes c.in-Err-bounded_length.invalid
@@ -50,7 +53,7 @@ returns-in-Ok-None c =
     let protocol = c.version-protocol.result in
     let level = c.args.max_depth in
     let bytes = c.args.bytes.now in
-    let P : Protocol → Type 0 = λ p. TellsReply p level bytes 2 _ in
+    let P : Protocol → Type 0 = λ p. TellsReply p level bytes 2 (no_reply 0) in
     subst P c.version-protocol.ensures (tells_waits protocol level bytes
     (omega (arith, c.if-max_depth-gt-MAX_DEPTH.false)) (waits protocol level bytes
     (rw c.in-Ok-None.field-0-is at c.in-Ok-None.ensures)))

@@ -9,7 +9,8 @@ use Rattle.exported.proofs.resp.places.reply_at.Goals as goal
 
 pub returns-in-Simple-clause-shown : goal.returns-in-Simple-clause-shown
 returns-in-Simple-clause-shown c protocol level rest is left =
-    shown_by protocol level c.args.bytes.now (Reply-F.Simple c.in-Simple.text) c.args.found.now rest _
+    shown_by protocol level c.args.bytes.now (Reply-F.Simple c.in-Simple.text) c.args.found.now
+    rest _
     (ap kind_of c.in-Simple.is ∙ simple_is c.in-Simple.text)
     (λ at. c.line_at.ensures.text c.args.bytes.now c.in-Simple.text.now rest at refl) is
 
@@ -33,7 +34,8 @@ returns-in-Error-clause-length c within = (
 
 pub returns-in-Integer-clause-shown : goal.returns-in-Integer-clause-shown
 returns-in-Integer-clause-shown c protocol level rest is left =
-    shown_by protocol level c.args.bytes.now (Reply-F.Integer c.in-Integer.number) c.args.found.now rest _
+    shown_by protocol level c.args.bytes.now (Reply-F.Integer c.in-Integer.number)
+    c.args.found.now rest _
     (ap kind_of c.in-Integer.is ∙ integer_is c.in-Integer.number)
     (λ at. (
       record {
@@ -110,7 +112,8 @@ returns-in-Null-clause-length c within = (
 
 pub returns-in-Boolean-clause-shown : goal.returns-in-Boolean-clause-shown
 returns-in-Boolean-clause-shown c protocol level rest is left =
-    shown_by protocol level c.args.bytes.now (Reply-F.Boolean c.in-Boolean.boolean) c.args.found.now rest _
+    shown_by protocol level c.args.bytes.now (Reply-F.Boolean c.in-Boolean.boolean)
+    c.args.found.now rest _
     (ap kind_of c.in-Boolean.is ∙ boolean_is c.in-Boolean.boolean)
     (λ at. (
       record {
@@ -129,7 +132,8 @@ returns-in-Boolean-clause-length c within = (
 
 pub returns-in-Double-clause-shown : goal.returns-in-Double-clause-shown
 returns-in-Double-clause-shown c protocol level rest is left =
-    shown_by protocol level c.args.bytes.now (Reply-F.Double c.in-Double.text) c.args.found.now rest _
+    shown_by protocol level c.args.bytes.now (Reply-F.Double c.in-Double.text) c.args.found.now
+    rest _
     (ap kind_of c.in-Double.is ∙ double_is c.in-Double.text)
     (λ at. c.line_at-in-Double.ensures.text c.args.bytes.now c.in-Double.text.now rest at refl) is
 
@@ -141,9 +145,11 @@ returns-in-Double-clause-length c within = (
 
 pub returns-in-BigNumber-clause-shown : goal.returns-in-BigNumber-clause-shown
 returns-in-BigNumber-clause-shown c protocol level rest is left =
-    shown_by protocol level c.args.bytes.now (Reply-F.BigNumber c.in-BigNumber.text) c.args.found.now rest _
+    shown_by protocol level c.args.bytes.now (Reply-F.BigNumber c.in-BigNumber.text)
+    c.args.found.now rest _
     (ap kind_of c.in-BigNumber.is ∙ big_number_is c.in-BigNumber.text)
-    (λ at. c.line_at-in-BigNumber.ensures.text c.args.bytes.now c.in-BigNumber.text.now rest at refl) is
+    (λ at. c.line_at-in-BigNumber.ensures.text c.args.bytes.now c.in-BigNumber.text.now rest at
+    refl) is
 
 pub returns-in-BigNumber-clause-length : goal.returns-in-BigNumber-clause-length
 returns-in-BigNumber-clause-length c within = (
@@ -153,7 +159,8 @@ returns-in-BigNumber-clause-length c within = (
 
 pub returns-in-BulkError-clause-shown : goal.returns-in-BulkError-clause-shown
 returns-in-BulkError-clause-shown c protocol level rest is left =
-    shown_by protocol level c.args.bytes.now (Reply-F.BulkError c.in-BulkError.text) c.args.found.now rest _
+    shown_by protocol level c.args.bytes.now (Reply-F.BulkError c.in-BulkError.text)
+    c.args.found.now rest _
     (ap kind_of c.in-BulkError.is ∙ bulk_error_is c.in-BulkError.text)
     (λ at. c.string_at-in-BulkError.ensures.text c.in-BulkError.text.now rest at refl) is
 
@@ -165,7 +172,8 @@ returns-in-BulkError-clause-length c within = (
 
 pub returns-in-Verbatim-clause-shown : goal.returns-in-Verbatim-clause-shown
 returns-in-Verbatim-clause-shown c protocol level rest is left =
-    shown_by protocol level c.args.bytes.now (Reply-F.Verbatim c.in-Verbatim.text) c.args.found.now rest _
+    shown_by protocol level c.args.bytes.now (Reply-F.Verbatim c.in-Verbatim.text)
+    c.args.found.now rest _
     (ap kind_of c.in-Verbatim.is ∙ verbatim_is c.in-Verbatim.text)
     (λ at. c.string_at-in-Verbatim.ensures.text c.in-Verbatim.text.now rest at refl) is
 
@@ -200,17 +208,20 @@ returns-in-Push-clause-shown c protocol level rest is left =
     shown_by protocol level c.args.bytes.now (Reply-F.Push c.in-Push.list) c.args.found.now rest _
     (ap kind_of c.in-Push.is ∙ push_is c.in-Push.list)
     (list_shown protocol level c.args.bytes.now 15 c.args.left _ c.in-Push.list.items rest _
-    c.list_at-in-Push.ensures.list (omega (arith, c.len-in-Push.ensures, c.in-Push.list.ok)) left) is
+    c.list_at-in-Push.ensures.list (omega (arith, c.len-in-Push.ensures, c.in-Push.list.ok))
+    left) is
 
 pub returns-in-Push-clause-length : goal.returns-in-Push-clause-length
 returns-in-Push-clause-length c = c.list_at-in-Push.ensures.length
 
 pub returns-in-Attributed-clause-shown : goal.returns-in-Attributed-clause-shown
 returns-in-Attributed-clause-shown c protocol level rest is left =
-    shown_by protocol level c.args.bytes.now (Reply-F.Attributed c.in-Attributed.list) c.args.found.now rest _
+    shown_by protocol level c.args.bytes.now (Reply-F.Attributed c.in-Attributed.list)
+    c.args.found.now rest _
     (ap kind_of c.in-Attributed.is ∙ attributed_is c.in-Attributed.list)
     (list_shown protocol level c.args.bytes.now 16 c.args.left _ c.in-Attributed.list.items rest _
-    c.list_at-in-Attributed.ensures.list (omega (arith, c.len-in-Attributed.ensures, c.in-Attributed.list.ok)) left) is
+    c.list_at-in-Attributed.ensures.list
+    (omega (arith, c.len-in-Attributed.ensures, c.in-Attributed.list.ok)) left) is
 
 pub returns-in-Attributed-clause-length : goal.returns-in-Attributed-clause-length
 returns-in-Attributed-clause-length c = c.list_at-in-Attributed.ensures.length
