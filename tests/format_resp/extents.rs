@@ -79,7 +79,12 @@ const OPEN: &[&[u8]] = &[
 ];
 
 /// Finds the end at each cut, in chunks and at once.
-fn ends_at_every_cut(rt: &impl std::process::Abort, protocol: Protocol, text: &[u8], length: usize) {
+fn ends_at_every_cut(
+    rt: &impl std::process::Abort,
+    protocol: Protocol,
+    text: &[u8],
+    length: usize,
+) {
     let mut extent = Extent::new();
     for cut in 0..text.len() + 1 {
         let want = Ok(if cut < length { None } else { Some(length) });
@@ -142,7 +147,7 @@ fn advance_refuses(rt: HostRuntime) {
 fn bounded_length_refuses_deep_ones(rt: HostRuntime) {
     for (text, level, offset) in DEEP {
         let invalid = Invalid { reason: Reason::TooDeep, offset: *offset };
-        for cut in offset + 4..text.len() + 1 {
+        for cut in *offset + 4..text.len() + 1 {
             for protocol in BOTH {
                 same(&rt, text, bounded_length(protocol, *level, &text[..cut]), Err(invalid));
             }
