@@ -195,17 +195,20 @@ uint32_t exported_json_string(
 uint32_t exported_resp_reply(
     const uint8_t *bytes,
     size_t bytes_length,
+    uint32_t protocol,
     size_t max_depth,
     struct pergidau_reply *out);
 uint32_t exported_resp_reply_partial(
     const uint8_t *bytes,
     size_t bytes_length,
+    uint32_t protocol,
     size_t max_depth,
     struct pergidau_reply *out);
 uint32_t exported_resp_extent(
     struct pergidau_resp_reply_state *state,
     const uint8_t *bytes,
     size_t bytes_length,
+    uint32_t protocol,
     size_t *out);
 uint32_t exported_resp_command(
     const struct pergidau_bytes *parts,
@@ -244,7 +247,7 @@ _Static_assert(sizeof(enum pergidau_resp_kind) == sizeof(uint32_t), "the size of
 _Static_assert(sizeof(enum pergidau_toml_error) == sizeof(uint32_t), "the size of an enum");
 _Static_assert(sizeof(enum pergidau_toml_kind) == sizeof(uint32_t), "the size of an enum");
 
-const char pergidau_declared_df787e6a = 0;
+const char pergidau_declared_b31ba5c9 = 0;
 
 const char *pergidau_version(void)
 {
@@ -1521,6 +1524,7 @@ enum pergidau_code pergidau_json_string(
 enum pergidau_code pergidau_resp_reply(
     const uint8_t *bytes,
     size_t bytes_length,
+    uint32_t protocol,
     size_t max_depth,
     struct pergidau_reply *out)
 {
@@ -1537,12 +1541,13 @@ enum pergidau_code pergidau_resp_reply(
     if (bytes == NULL) {
         bytes = &no_bytes;
     }
-    return (enum pergidau_code)exported_resp_reply(bytes, bytes_length, max_depth, out);
+    return (enum pergidau_code)exported_resp_reply(bytes, bytes_length, protocol, max_depth, out);
 }
 
 enum pergidau_code pergidau_resp_reply_partial(
     const uint8_t *bytes,
     size_t bytes_length,
+    uint32_t protocol,
     size_t max_depth,
     struct pergidau_reply *out)
 {
@@ -1559,13 +1564,14 @@ enum pergidau_code pergidau_resp_reply_partial(
     if (bytes == NULL) {
         bytes = &no_bytes;
     }
-    return (enum pergidau_code)exported_resp_reply_partial(bytes, bytes_length, max_depth, out);
+    return (enum pergidau_code)exported_resp_reply_partial(bytes, bytes_length, protocol, max_depth, out);
 }
 
 enum pergidau_code pergidau_resp_extent(
     struct pergidau_resp_reply_state *state,
     const uint8_t *bytes,
     size_t bytes_length,
+    uint32_t protocol,
     size_t *out)
 {
     const uint8_t no_bytes = {0};
@@ -1584,7 +1590,7 @@ enum pergidau_code pergidau_resp_extent(
     if (bytes == NULL) {
         bytes = &no_bytes;
     }
-    return (enum pergidau_code)exported_resp_extent(state, bytes, bytes_length, out);
+    return (enum pergidau_code)exported_resp_extent(state, bytes, bytes_length, protocol, out);
 }
 
 enum pergidau_code pergidau_resp_command(

@@ -40,10 +40,10 @@ extern "C" {
  * header refers to it, so that it links with no other library. For a file that is not linked
  * with the library, define PERGIDAU_NO_LINK_CHECK before the header.
  */
-extern const char pergidau_declared_df787e6a;
+extern const char pergidau_declared_b31ba5c9;
 #if defined(__GNUC__) && !defined(PERGIDAU_NO_LINK_CHECK)
 __attribute__((__used__, __unused__)) static const char *const pergidau_linked =
-    &pergidau_declared_df787e6a;
+    &pergidau_declared_b31ba5c9;
 #endif
 
 /* Returns the version of the linked library, in the form of PERGIDAU_VERSION. */
@@ -211,7 +211,27 @@ enum pergidau_resp_kind {
     /* An array. */
     PERGIDAU_RESP_ARRAY = 5,
     /* The null array. */
-    PERGIDAU_RESP_NULL_ARRAY = 6
+    PERGIDAU_RESP_NULL_ARRAY = 6,
+    /* The null of RESP3. */
+    PERGIDAU_RESP_NULL = 7,
+    /* A boolean. */
+    PERGIDAU_RESP_BOOLEAN = 8,
+    /* A double, as its text. */
+    PERGIDAU_RESP_DOUBLE = 9,
+    /* A big number, as its text. */
+    PERGIDAU_RESP_BIG_NUMBER = 10,
+    /* A bulk error: any bytes. */
+    PERGIDAU_RESP_BULK_ERROR = 11,
+    /* A verbatim string: a format of three bytes, a colon, and any bytes. */
+    PERGIDAU_RESP_VERBATIM = 12,
+    /* A map: its keys, each followed by its value. */
+    PERGIDAU_RESP_MAP = 13,
+    /* A set. */
+    PERGIDAU_RESP_SET = 14,
+    /* A push. */
+    PERGIDAU_RESP_PUSH = 15,
+    /* Attributes: their names, each followed by its value, and the reply that they belong to. */
+    PERGIDAU_RESP_ATTRIBUTES = 16
 };
 
 /* The errors of TOML documents. */
@@ -971,20 +991,25 @@ struct pergidau_bytes {
 struct pergidau_reply {
     /*
      * The kind of the reply: one of the constants from PERGIDAU_RESP_SIMPLE to
-     * PERGIDAU_RESP_NULL_ARRAY.
+     * PERGIDAU_RESP_ATTRIBUTES.
      */
     enum pergidau_resp_kind kind;
-    /* The number of an integer; 0 otherwise. */
+    /* The number of an integer; 1 for true; 0 otherwise. */
     int64_t number;
-    /* The number of elements of an array; 0 otherwise. */
+    /*
+     * The number of elements of an array, a set or a push; of a map or attributes the number
+     * of all replies in them; 0 otherwise.
+     */
     size_t elements;
     /*
-     * The bytes of a string or of an error, or those of the elements of an array, which are
-     * consecutive replies; zeros otherwise.
+     * The bytes of a string, an error, a double or a big number, or those of the elements,
+     * which are consecutive replies; zeros otherwise.
      */
     struct pergidau_span span;
     /* How many bytes the reply has. */
     size_t length;
+    /* The offset of the error in bytes; 0 otherwise. */
+    size_t error_offset;
 };
 
 /*
@@ -995,7 +1020,7 @@ struct pergidau_reply {
 struct pergidau_resp_reply_state {
     /*
      * The part that is expected next: 0 in the initial state, 1 for a line, 2 for the bytes of
-     * a string.
+     * a string, 3 for those of a verbatim string.
      */
     size_t due;
     /* How many bytes were passed. */
@@ -2240,27 +2265,39 @@ enum pergidau_code pergidau_json_string(
     struct pergidau_json_text *out);
 
 /*
- * Parses the Redis reply (RESP2, the second version of the protocol) at the start of bytes,
- * whose arrays are nested at most max_depth deep.
+ * Parses the Redis reply at the start of bytes, whose aggregates are nested at most max_depth
+ * deep. protocol is 3 for RESP3, the third version of the protocol; with any other number it
+ * is RESP2, the second, which has only the kinds up to PERGIDAU_RESP_NULL_ARRAY.
  *
- * To parse the elements of an array, call the function with the bytes in its span, and then
- * with those after each element. An integer may have a sign and leading zeros, a size leading
- * zeros. -1 is the size of a null.
+ * To parse the elements of an aggregate, call the function with the bytes in its span, and
+ * then with those after each element. An integer may have a sign and leading zeros, a size
+ * leading zeros. -1 is the size of a null. Streamed strings and aggregates are invalid.
  *
  * PERGIDAU_DONE: the reply is written.
  *
  * A call holds up to 32 bytes of memory for each byte of the reply, and 2 KiB for each level
- * of arrays that has started.
+ * of aggregates that has started.
  *
  * # Errors
  *
- * PERGIDAU_INVALID: bytes does not start with a reply.
+ * bytes does not start with a reply. After these errors only the offset is written: that of
+ * the first part of the reply that is rejected, which is the line of a nested reply, or the
+ * bytes of a string with their line ending.
+ *
+ * PERGIDAU_INVALID: that part is malformed. Or the reply is incomplete; then the offset is the
+ * length of bytes.
+ *
+ * PERGIDAU_OUT_OF_RANGE: that line has an integer or a size that does not fit a signed 64-bit
+ * integer, or an aggregate has too many parts.
+ *
+ * PERGIDAU_TOO_DEEP: that line is the one of an aggregate that is nested deeper than
+ * max_depth.
+ *
+ * After these errors only zeros are written:
  *
  * PERGIDAU_MAX_DEPTH_TOO_LARGE: max_depth is above 512.
  *
  * PERGIDAU_NO_MEMORY.
- *
- * After an error only zeros are written.
  *
  * # Safety
  *
@@ -2271,6 +2308,7 @@ enum pergidau_code pergidau_json_string(
 enum pergidau_code pergidau_resp_reply(
     const uint8_t *bytes,
     size_t bytes_length,
+    uint32_t protocol,
     size_t max_depth,
     struct pergidau_reply *out);
 
@@ -2279,16 +2317,16 @@ enum pergidau_code pergidau_resp_reply(
  *
  * PERGIDAU_DONE: as for complete input.
  *
- * PERGIDAU_INCOMPLETE: more bytes may be needed. Zeros are written. It is tested, but not
- * proved, that this is not returned once the reply is complete.
+ * PERGIDAU_INCOMPLETE: bytes does not start with a reply yet: its last line has not ended, or
+ * bytes of a string are missing. Zeros are written.
  *
  * Each call parses from the first byte, and holds as much memory as a call for a complete
  * reply.
  *
  * # Errors
  *
- * PERGIDAU_INVALID: bytes does not start with a reply, regardless of what follows. Zeros are
- * written.
+ * PERGIDAU_INVALID, PERGIDAU_OUT_OF_RANGE, PERGIDAU_TOO_DEEP: as for complete input,
+ * regardless of what follows. An invalid line is rejected at its end.
  *
  * PERGIDAU_MAX_DEPTH_TOO_LARGE, PERGIDAU_NO_MEMORY: as for complete input.
  *
@@ -2301,15 +2339,17 @@ enum pergidau_code pergidau_resp_reply(
 enum pergidau_code pergidau_resp_reply_partial(
     const uint8_t *bytes,
     size_t bytes_length,
+    uint32_t protocol,
     size_t max_depth,
     struct pergidau_reply *out);
 
 /*
- * Finds the end of a Redis reply (RESP2) in input that arrives in chunks.
+ * Finds the end of a Redis reply in input that arrives in chunks. protocol is as for
+ * pergidau_resp_reply, and the same in all calls for a reply.
  *
  * No call looks again at bytes that an earlier call scanned, so all calls for a reply take
- * time linear in its length. To obtain the reply, pass its bytes to pergidau_resp_reply, which
- * also checks the nesting depth; here it is not checked.
+ * time linear in its length. The function does not allocate. To obtain the reply, pass its
+ * bytes to pergidau_resp_reply, which also checks the nesting depth; here it is not checked.
  *
  * For the first call, state must be all zeros. Each further call for the same reply must have
  * the state that the previous call left, and the bytes of the previous call followed by more
@@ -2326,8 +2366,13 @@ enum pergidau_code pergidau_resp_reply_partial(
  *
  * # Errors
  *
- * PERGIDAU_INVALID: bytes does not start with a reply, regardless of what follows. 0 is
- * written. An invalid line is rejected at its end.
+ * bytes does not start with a reply, regardless of what follows. An invalid line is rejected
+ * at its end. The offset of the first part that is rejected is written, as by
+ * pergidau_resp_reply.
+ *
+ * PERGIDAU_INVALID: that part is malformed.
+ *
+ * PERGIDAU_OUT_OF_RANGE: that line has a number that is too large.
  *
  * # Safety
  *
@@ -2339,6 +2384,7 @@ enum pergidau_code pergidau_resp_extent(
     struct pergidau_resp_reply_state *state,
     const uint8_t *bytes,
     size_t bytes_length,
+    uint32_t protocol,
     size_t *out);
 
 /*

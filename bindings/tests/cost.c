@@ -283,11 +283,11 @@ static enum pergidau_code call(enum call which, size_t max_depth)
     case CSV_WRITE:
         return pergidau_csv_write(&slice, 1, &lines, written, sizeof written, &found);
     case REPLY:
-        return pergidau_resp_reply(bytes, length, max_depth, &reply);
+        return pergidau_resp_reply(bytes, length, 2, max_depth, &reply);
     case REPLY_IN_PIECES:
-        return pergidau_resp_reply_partial(bytes, length, max_depth, &reply);
+        return pergidau_resp_reply_partial(bytes, length, 2, max_depth, &reply);
     case EXTENT:
-        return pergidau_resp_extent(&state, bytes, length, &found);
+        return pergidau_resp_extent(&state, bytes, length, 2, &found);
     case COMMAND:
         return pergidau_resp_command(&slice, 1, written, sizeof written, &found);
     case CHUNKED:

@@ -303,32 +303,59 @@ static void read_record(const uint8_t *bytes, size_t length)
     }
 }
 
+static bool is_rejected(enum pergidau_code code)
+{
+    return code == PERGIDAU_INVALID || code == PERGIDAU_OUT_OF_RANGE || code == PERGIDAU_TOO_DEEP;
+}
+
+static bool is_aggregate(enum pergidau_resp_kind kind)
+{
+    return kind == PERGIDAU_RESP_ARRAY || kind >= PERGIDAU_RESP_MAP;
+}
+
 static void read_reply(const uint8_t *bytes, size_t length)
 {
     struct pergidau_reply out, part;
     size_t max_depth = below(4);
-    enum pergidau_code code = pergidau_resp_reply(bytes, length, max_depth, &out);
-    enum pergidau_code piece = pergidau_resp_reply_partial(bytes, length, max_depth, &part);
+    uint32_t protocol = 2 + (uint32_t)below(2);
+    enum pergidau_code code = pergidau_resp_reply(bytes, length, protocol, max_depth, &out);
+    enum pergidau_code piece = pergidau_resp_reply_partial(bytes, length, protocol, max_depth, &part);
     if (code != PERGIDAU_DONE) {
-        HOLDS(code == PERGIDAU_INVALID);
-        HOLDS(piece == PERGIDAU_INVALID || piece == PERGIDAU_INCOMPLETE);
+        HOLDS(is_rejected(code) && out.error_offset <= length);
+        if (piece == PERGIDAU_INCOMPLETE) {
+            HOLDS(code == PERGIDAU_INVALID && out.error_offset == length);
+            return;
+        }
+        HOLDS(piece == code && part.error_offset == out.error_offset && out.error_offset < length);
+        /* The bytes before the error start a reply, and a deeper limit only moves the error. */
+        size_t offset = out.error_offset;
+        HOLDS(pergidau_resp_reply_partial(bytes, offset, protocol, max_depth, &part)
+              == PERGIDAU_INCOMPLETE);
+        piece = pergidau_resp_reply_partial(bytes, length, protocol, max_depth + 1, &part);
+        HOLDS(code == PERGIDAU_TOO_DEEP ? !is_rejected(piece) || part.error_offset > offset
+                                        : piece == code && part.error_offset == offset);
         return;
     }
     HOLDS(piece == PERGIDAU_DONE && part.length == out.length && part.kind == out.kind);
+    HOLDS(out.error_offset == 0);
     HOLDS(out.length >= 3 && out.length <= length && within(out.span, out.length));
     HOLDS(!memcmp(bytes + out.length - 2, "\r\n", 2));
-    HOLDS((out.kind == PERGIDAU_RESP_ARRAY) == (bytes[0] == '*' && bytes[1] != '-'));
+    HOLDS(is_aggregate(out.kind) == (strchr("*%~>|", bytes[0]) != NULL && bytes[1] != '-'));
+    HOLDS(protocol == 3 || out.kind <= PERGIDAU_RESP_NULL_ARRAY);
     /* Its elements are consecutive replies that fill its span. */
     size_t at = out.span.offset, end = at + out.span.length;
     for (size_t i = 0; i < out.elements; i++) {
-        HOLDS(pergidau_resp_reply(bytes + at, end - at, max_depth - 1, &part) == PERGIDAU_DONE);
+        HOLDS(pergidau_resp_reply(bytes + at, end - at, protocol, max_depth - 1, &part)
+              == PERGIDAU_DONE);
         at += part.length;
     }
-    HOLDS(out.kind != PERGIDAU_RESP_ARRAY || at == end);
+    HOLDS(!is_aggregate(out.kind) || at == end);
     /* Each proper prefix of a reply is an incomplete reply. */
     size_t cut = below(out.length);
-    HOLDS(pergidau_resp_reply(bytes, cut, max_depth, &part) == PERGIDAU_INVALID);
-    HOLDS(pergidau_resp_reply_partial(bytes, cut, max_depth, &part) == PERGIDAU_INCOMPLETE);
+    HOLDS(pergidau_resp_reply(bytes, cut, protocol, max_depth, &part) == PERGIDAU_INVALID);
+    HOLDS(part.error_offset == cut);
+    HOLDS(pergidau_resp_reply_partial(bytes, cut, protocol, max_depth, &part)
+          == PERGIDAU_INCOMPLETE);
 }
 
 /* Successive calls find the same end of a reply as one call, and as the function that reads it. */
@@ -337,16 +364,18 @@ static void read_extent(const uint8_t *bytes, size_t length)
     struct pergidau_resp_reply_state state = {0}, once = {0};
     struct pergidau_reply reply;
     size_t end = 0, whole = 0, have = 0;
+    uint32_t protocol = 2 + (uint32_t)below(2);
     enum pergidau_code code = PERGIDAU_INCOMPLETE;
-    enum pergidau_code all = pergidau_resp_extent(&once, bytes, length, &whole);
+    enum pergidau_code all = pergidau_resp_extent(&once, bytes, length, protocol, &whole);
     while (code == PERGIDAU_INCOMPLETE && have < length) {
         have += 1 + below(length - have);
-        code = pergidau_resp_extent(&state, bytes, have, &end);
+        code = pergidau_resp_extent(&state, bytes, have, protocol, &end);
     }
     HOLDS(code == all && end == whole);
-    enum pergidau_code read = pergidau_resp_reply(bytes, length, PERGIDAU_MAX_DEPTH, &reply);
-    HOLDS((read == PERGIDAU_DONE) == (all == PERGIDAU_DONE));
-    HOLDS(read != PERGIDAU_DONE || reply.length == end);
+    enum pergidau_code read =
+        pergidau_resp_reply_partial(bytes, length, protocol, PERGIDAU_MAX_DEPTH, &reply);
+    HOLDS(read == all);
+    HOLDS(end == (read == PERGIDAU_DONE ? reply.length : reply.error_offset));
 }
 
 /* Decodes a chunked body that arrives in chunks, and as a complete input, and compares the output and

@@ -43,10 +43,10 @@ static size_t by_extent(const uint8_t *bytes, size_t length, struct pergidau_rep
     enum pergidau_code code = PERGIDAU_INCOMPLETE;
     while (code == PERGIDAU_INCOMPLETE && have < length) {
         have = length - have < PIECE ? length : have + PIECE;
-        code = pergidau_resp_extent(&state, bytes, have, &end);
+        code = pergidau_resp_extent(&state, bytes, have, 2, &end);
     }
     if (code == PERGIDAU_DONE) {
-        code = pergidau_resp_reply(bytes, end, 1, out);
+        code = pergidau_resp_reply(bytes, end, 2, 1, out);
     }
     return code == PERGIDAU_DONE ? have : 0;
 }
@@ -57,7 +57,7 @@ static size_t by_pieces(const uint8_t *bytes, size_t length, struct pergidau_rep
     enum pergidau_code code = PERGIDAU_INCOMPLETE;
     while (code == PERGIDAU_INCOMPLETE && have < length) {
         have = length - have < PIECE ? length : have + PIECE;
-        code = pergidau_resp_reply_partial(bytes, have, 1, out);
+        code = pergidau_resp_reply_partial(bytes, have, 2, 1, out);
     }
     return code == PERGIDAU_DONE ? have : 0;
 }

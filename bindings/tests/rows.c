@@ -650,45 +650,133 @@ static void test_records(void)
 
 static const struct {
     const char *bytes;
-    size_t max_depth, kind;
+    size_t protocol, max_depth, kind;
     long long number;
     size_t elements;
     const char *text;
     size_t rest;
 } replies[] = {
-    {"+OK\r\n", 0, PERGIDAU_RESP_SIMPLE, 0, 0, "OK", 0},
-    {"-ERR unknown\r\n+", 0, PERGIDAU_RESP_ERROR, 0, 0, "ERR unknown", 1},
-    {":1000\r\n", 0, PERGIDAU_RESP_INTEGER, 1000, 0, "", 0},
-    {":-1\r\n", 0, PERGIDAU_RESP_INTEGER, -1, 0, "", 0},
-    {":01\r\n", 0, PERGIDAU_RESP_INTEGER, 1, 0, "", 0},
-    {":+5\r\n", 0, PERGIDAU_RESP_INTEGER, 5, 0, "", 0},
-    {"$01\r\na\r\n", 0, PERGIDAU_RESP_BULK, 0, 0, "a", 0},
-    {"$6\r\nfoobar\r\n$", 0, PERGIDAU_RESP_BULK, 0, 0, "foobar", 1},
-    {"$2\r\n\r\n\r\n", 0, PERGIDAU_RESP_BULK, 0, 0, "\r\n", 0},
-    {"$0\r\n\r\n", 0, PERGIDAU_RESP_BULK, 0, 0, "", 0},
-    {"$-1\r\n", 0, PERGIDAU_RESP_NULL_BULK, 0, 0, "", 0},
-    {"*-1\r\n", 0, PERGIDAU_RESP_NULL_ARRAY, 0, 0, "", 0},
-    {"*0\r\n*", 1, PERGIDAU_RESP_ARRAY, 0, 0, "", 1},
-    {"*2\r\n:1\r\n$1\r\na\r\n", 1, PERGIDAU_RESP_ARRAY, 0, 2, ":1\r\n$1\r\na\r\n", 0},
-    {"*1\r\n*1\r\n+a\r\n+b\r\n", 2, PERGIDAU_RESP_ARRAY, 0, 1, "*1\r\n+a\r\n", 4},
+    {"+OK\r\n", 2, 0, PERGIDAU_RESP_SIMPLE, 0, 0, "OK", 0},
+    {"-ERR unknown\r\n+", 2, 0, PERGIDAU_RESP_ERROR, 0, 0, "ERR unknown", 1},
+    {":1000\r\n", 2, 0, PERGIDAU_RESP_INTEGER, 1000, 0, "", 0},
+    {":-1\r\n", 2, 0, PERGIDAU_RESP_INTEGER, -1, 0, "", 0},
+    {":01\r\n", 2, 0, PERGIDAU_RESP_INTEGER, 1, 0, "", 0},
+    {":+5\r\n", 2, 0, PERGIDAU_RESP_INTEGER, 5, 0, "", 0},
+    {":9223372036854775807\r\n", 2, 0, PERGIDAU_RESP_INTEGER, INT64_MAX, 0, "", 0},
+    {"$01\r\na\r\n", 2, 0, PERGIDAU_RESP_BULK, 0, 0, "a", 0},
+    {"$6\r\nfoobar\r\n$", 2, 0, PERGIDAU_RESP_BULK, 0, 0, "foobar", 1},
+    {"$2\r\n\r\n\r\n", 2, 0, PERGIDAU_RESP_BULK, 0, 0, "\r\n", 0},
+    {"$0\r\n\r\n", 2, 0, PERGIDAU_RESP_BULK, 0, 0, "", 0},
+    {"$-1\r\n", 2, 0, PERGIDAU_RESP_NULL_BULK, 0, 0, "", 0},
+    {"*-1\r\n", 2, 0, PERGIDAU_RESP_NULL_ARRAY, 0, 0, "", 0},
+    {"*0\r\n*", 2, 1, PERGIDAU_RESP_ARRAY, 0, 0, "", 1},
+    {"*2\r\n:1\r\n$1\r\na\r\n", 2, 1, PERGIDAU_RESP_ARRAY, 0, 2, ":1\r\n$1\r\na\r\n", 0},
+    {"*1\r\n*1\r\n+a\r\n+b\r\n", 2, 2, PERGIDAU_RESP_ARRAY, 0, 1, "*1\r\n+a\r\n", 4},
+    {"_\r\n", 3, 0, PERGIDAU_RESP_NULL, 0, 0, "", 0},
+    {"#t\r\n", 3, 0, PERGIDAU_RESP_BOOLEAN, 1, 0, "", 0},
+    {"#f\r\n#", 3, 0, PERGIDAU_RESP_BOOLEAN, 0, 0, "", 1},
+    {",1.23\r\n", 3, 0, PERGIDAU_RESP_DOUBLE, 0, 0, "1.23", 0},
+    {",-inf\r\n", 3, 0, PERGIDAU_RESP_DOUBLE, 0, 0, "-inf", 0},
+    {",nan\r\n", 3, 0, PERGIDAU_RESP_DOUBLE, 0, 0, "nan", 0},
+    {"(3492890328409238509324850943850943825024385\r\n", 3, 0, PERGIDAU_RESP_BIG_NUMBER, 0, 0,
+     "3492890328409238509324850943850943825024385", 0},
+    {"!21\r\nSYNTAX invalid syntax\r\n", 3, 0, PERGIDAU_RESP_BULK_ERROR, 0, 0,
+     "SYNTAX invalid syntax", 0},
+    {"=15\r\ntxt:Some string\r\n=", 3, 0, PERGIDAU_RESP_VERBATIM, 0, 0, "txt:Some string", 1},
+    {"%2\r\n+first\r\n:1\r\n+second\r\n:2\r\n", 3, 1, PERGIDAU_RESP_MAP, 0, 4,
+     "+first\r\n:1\r\n+second\r\n:2\r\n", 0},
+    {"~2\r\n+a\r\n#t\r\n~", 3, 1, PERGIDAU_RESP_SET, 0, 2, "+a\r\n#t\r\n", 1},
+    {">2\r\n+message\r\n$1\r\n\n\r\n", 3, 1, PERGIDAU_RESP_PUSH, 0, 2,
+     "+message\r\n$1\r\n\n\r\n", 0},
+    {"|1\r\n+ttl\r\n:3600\r\n*1\r\n:7\r\n", 3, 2, PERGIDAU_RESP_ATTRIBUTES, 0, 3,
+     "+ttl\r\n:3600\r\n*1\r\n:7\r\n", 0},
 };
 
-/* Invalid replies at depth 0, whatever bytes follow them. */
-static const char *no_replies[] = {"x",       ":1a\r\n", "$+1\r\na\r\n",   "$-2\r\n",
-                                   "+a\rb", "+a\n",    "$1\r\nab\r\n", "*1\r\n:1\r\n"};
+/* Invalid replies at depth 1, whatever bytes follow them. The result of the function that reads them,
+ * the offset of the error, and how many of their first bytes can begin a reply; for those that are
+ * nested too deep, how many can at depth 1. */
+static const struct {
+    const char *bytes;
+    size_t protocol;
+    enum pergidau_code code;
+    size_t offset, begins;
+} no_replies[] = {
+    {"x", 2, PERGIDAU_INVALID, 0, 0},
+    {":1a\r\n", 2, PERGIDAU_INVALID, 0, 4},
+    {"$+1\r\na\r\n", 2, PERGIDAU_INVALID, 0, 4},
+    {"$-2\r\n", 2, PERGIDAU_INVALID, 0, 4},
+    {"+a\rb", 2, PERGIDAU_INVALID, 0, 3},
+    {"+a\n", 2, PERGIDAU_INVALID, 0, 2},
+    {"$1\r\nab\r\n", 2, PERGIDAU_INVALID, 4, 5},
+    {"*1\r\nx", 2, PERGIDAU_INVALID, 4, 4},
+    {"*2\r\n+\r\n,", 2, PERGIDAU_INVALID, 7, 7},
+    {"_\r\n", 2, PERGIDAU_INVALID, 0, 0},
+    {"*1\r\n%0\r\n", 2, PERGIDAU_INVALID, 4, 4},
+    {"_x\r\n", 3, PERGIDAU_INVALID, 0, 3},
+    {"#true\r\n", 3, PERGIDAU_INVALID, 0, 6},
+    {",.5\r\n", 3, PERGIDAU_INVALID, 0, 4},
+    {"(1.0\r\n", 3, PERGIDAU_INVALID, 0, 5},
+    {"!-1\r\n", 3, PERGIDAU_INVALID, 0, 4},
+    {"=3\r\ntxt\r\n", 3, PERGIDAU_INVALID, 4, 8},
+    {"~2\r\n=4\r\ntext\r\n", 3, PERGIDAU_INVALID, 8, 13},
+    {"%?\r\n", 3, PERGIDAU_INVALID, 0, 3},
+    {":9223372036854775808\r\n", 2, PERGIDAU_OUT_OF_RANGE, 0, 21},
+    {":-9223372036854775809\r\n", 3, PERGIDAU_OUT_OF_RANGE, 0, 22},
+    {"*2\r\n:1\r\n$9223372036854775808\r\n", 2, PERGIDAU_OUT_OF_RANGE, 8, 29},
+    {"%4611686018427387904\r\n", 3, PERGIDAU_OUT_OF_RANGE, 0, 21},
+    {"*1\r\n*1\r\n:1\r\n", 2, PERGIDAU_TOO_DEEP, 4, 7},
+    {"*2\r\n:1\r\n*0\r\n:x\r\n", 2, PERGIDAU_TOO_DEEP, 8, 11},
+    {"|1\r\n+a\r\n_\r\n~1\r\n:1\r\n", 3, PERGIDAU_TOO_DEEP, 11, 14},
+};
+
+static void nothing_read(const char *row, const struct pergidau_reply *out, size_t offset)
+{
+    same("no kind", row, (long long)out->kind, 0);
+    same("no number", row, out->number, 0);
+    same("no elements", row, (long long)out->elements, 0);
+    same("no span", row, (long long)(out->span.offset + out->span.length), 0);
+    same("no length", row, (long long)out->length, 0);
+    same("the error offset", row, (long long)out->error_offset, (long long)offset);
+}
+
+static void test_invalid_replies(void)
+{
+    struct pergidau_reply out;
+    for (size_t i = 0; i < sizeof no_replies / sizeof *no_replies; i++) {
+        const char *row = no_replies[i].bytes;
+        uint32_t protocol = (uint32_t)no_replies[i].protocol;
+        size_t length = strlen(row), offset = no_replies[i].offset;
+        for (size_t end = 0; end <= length; end++) {
+            bool told = end > no_replies[i].begins;
+            uint8_t *bytes = copied(row, end);
+            same("invalid reply", row, pergidau_resp_reply(bytes, end, protocol, 1, &out),
+                 told ? no_replies[i].code : PERGIDAU_INVALID);
+            nothing_read(row, &out, told ? offset : end);
+            same("invalid reply", row, pergidau_resp_reply_partial(bytes, end, protocol, 1, &out),
+                 told ? no_replies[i].code : PERGIDAU_INCOMPLETE);
+            nothing_read(row, &out, told ? offset : 0);
+            free(bytes);
+        }
+    }
+}
 
 static void test_replies(void)
 {
     struct pergidau_reply out;
     for (size_t i = 0; i < sizeof replies / sizeof *replies; i++) {
         const char *row = replies[i].bytes;
+        uint32_t protocol = (uint32_t)replies[i].protocol;
         size_t length = strlen(row), max_depth = replies[i].max_depth;
         for (size_t end = 0; end <= length; end++) {
             bool whole = end >= length - replies[i].rest;
             uint8_t *bytes = copied(row, end);
-            same("partial input", row, pergidau_resp_reply_partial(bytes, end, max_depth, &out),
+            same("partial input", row,
+                 pergidau_resp_reply_partial(bytes, end, protocol, max_depth, &out),
                  whole ? PERGIDAU_DONE : PERGIDAU_INCOMPLETE);
-            same("resp_reply", row, pergidau_resp_reply(bytes, end, max_depth, &out),
+            if (!whole) {
+                nothing_read(row, &out, 0);
+            }
+            same("resp_reply", row, pergidau_resp_reply(bytes, end, protocol, max_depth, &out),
                  whole ? PERGIDAU_DONE : PERGIDAU_INVALID);
             if (whole) {
                 same("the kind", row, (long long)out.kind, (long long)replies[i].kind);
@@ -696,24 +784,24 @@ static void test_replies(void)
                 same("the elements", row, (long long)out.elements, (long long)replies[i].elements);
                 same("the length", row, (long long)out.length,
                      (long long)(length - replies[i].rest));
+                same("no error", row, (long long)out.error_offset, 0);
                 shown(row, bytes, out.span, replies[i].text);
+            } else {
+                nothing_read(row, &out, end);
             }
             free(bytes);
         }
         if (max_depth > 0) {
             same("a smaller depth limit", row,
-                 pergidau_resp_reply((const uint8_t *)row, length, max_depth - 1, &out),
-                 PERGIDAU_INVALID);
+                 pergidau_resp_reply((const uint8_t *)row, length, protocol, max_depth - 1, &out),
+                 PERGIDAU_TOO_DEEP);
         }
-    }
-    for (size_t i = 0; i < sizeof no_replies / sizeof *no_replies; i++) {
-        size_t length = strlen(no_replies[i]);
-        uint8_t *bytes = copied(no_replies[i], length);
-        same("invalid reply", no_replies[i], pergidau_resp_reply(bytes, length, 0, &out),
-             PERGIDAU_INVALID);
-        same("invalid reply", no_replies[i], pergidau_resp_reply_partial(bytes, length, 0, &out),
-             PERGIDAU_INVALID);
-        free(bytes);
+        /* A reply of RESP2 is one of RESP3. Other numbers than 3 stand for RESP2. */
+        same("the other version", row,
+             pergidau_resp_reply((const uint8_t *)row, length, 3, max_depth, &out), PERGIDAU_DONE);
+        same("another version", row,
+             pergidau_resp_reply((const uint8_t *)row, length, 4, max_depth, &out),
+             protocol == 2 ? PERGIDAU_DONE : PERGIDAU_INVALID);
     }
     /* Arrays that are nested up to the maximum depth. */
     size_t most = PERGIDAU_MAX_DEPTH;
@@ -725,106 +813,109 @@ static void test_replies(void)
         memcpy(deep + 4 * i, "*1\r\n", 4);
     }
     memcpy(deep + 4 * most, "+\r\n", 3);
-    same("resp_reply", "deep arrays", pergidau_resp_reply(deep, 4 * most + 3, most, &out),
+    same("resp_reply", "deep arrays", pergidau_resp_reply(deep, 4 * most + 3, 2, most, &out),
          PERGIDAU_DONE);
-    same("resp_reply", "deeper arrays", pergidau_resp_reply(deep, 4 * most + 3, most - 1, &out),
-         PERGIDAU_INVALID);
+    same("resp_reply", "deeper arrays", pergidau_resp_reply(deep, 4 * most + 3, 2, most - 1, &out),
+         PERGIDAU_TOO_DEEP);
+    nothing_read("deeper arrays", &out, 4 * (most - 1));
     free(deep);
     const uint8_t *bytes = (const uint8_t *)"+\r\n";
-    same("null", "reply", pergidau_resp_reply(NULL, 1, 0, &out), PERGIDAU_NULL);
-    same("null", "reply", pergidau_resp_reply(bytes, 3, 0, NULL), PERGIDAU_NULL);
-    same("too long", "reply", pergidau_resp_reply(bytes, (size_t)PTRDIFF_MAX + 1, 0, &out),
+    same("null", "reply", pergidau_resp_reply(NULL, 1, 2, 0, &out), PERGIDAU_NULL);
+    same("null", "reply", pergidau_resp_reply(bytes, 3, 2, 0, NULL), PERGIDAU_NULL);
+    same("too long", "reply", pergidau_resp_reply(bytes, (size_t)PTRDIFF_MAX + 1, 2, 0, &out),
          PERGIDAU_TOO_LONG);
-    same("too deep", "reply", pergidau_resp_reply(bytes, 3, PERGIDAU_MAX_DEPTH + 1, &out),
+    same("too deep", "reply", pergidau_resp_reply(bytes, 3, 2, PERGIDAU_MAX_DEPTH + 1, &out),
          PERGIDAU_MAX_DEPTH_TOO_LARGE);
-    same("nothing", "reply", pergidau_resp_reply(NULL, 0, 0, &out), PERGIDAU_INVALID);
-    same("nothing", "reply", pergidau_resp_reply_partial(NULL, 0, 0, &out), PERGIDAU_INCOMPLETE);
+    nothing_read("too deep", &out, 0);
+    same("nothing", "reply", pergidau_resp_reply(NULL, 0, 2, 0, &out), PERGIDAU_INVALID);
+    same("nothing", "reply", pergidau_resp_reply_partial(NULL, 0, 2, 0, &out), PERGIDAU_INCOMPLETE);
+    test_invalid_replies();
 }
 
 /* Makes successive calls, each with `step` more bytes, and returns the last result. */
-static enum pergidau_code extent_in_pieces(const char *row, size_t length, size_t step, size_t *end)
+static enum pergidau_code extent_in_pieces(const char *row, size_t length, uint32_t protocol,
+                                           size_t step, size_t *end)
 {
     struct pergidau_resp_reply_state state = {0};
     enum pergidau_code code = PERGIDAU_INCOMPLETE;
     for (size_t have = 0; code == PERGIDAU_INCOMPLETE && have <= length;
          have += length - have < step && have < length ? length - have : step) {
         uint8_t *bytes = copied(row, have);
-        code = pergidau_resp_extent(&state, bytes, have, end);
+        code = pergidau_resp_extent(&state, bytes, have, protocol, end);
         free(bytes);
     }
     return code;
 }
-
-/* Invalid replies at any depth. Their first `begins` bytes can begin a reply. */
-static const struct {
-    const char *bytes;
-    size_t begins;
-} no_extents[] = {
-    {"x", 0},        {":1a\r\n", 4}, {"$+1\r\na\r\n", 4},   {"$-2\r\n", 4},
-    {"+a\rb", 3},    {"+a\n", 2},    {"$1\r\nab\r\n", 5}, {"*1\r\nx", 4},
-    {"*2\r\n+\r\n,", 7},
-};
 
 static void test_extents(void)
 {
     size_t end = 1;
     for (size_t i = 0; i < sizeof replies / sizeof *replies; i++) {
         const char *row = replies[i].bytes;
+        uint32_t protocol = (uint32_t)replies[i].protocol;
         size_t length = strlen(row), whole = length - replies[i].rest;
         for (size_t step = 1; step <= length; step++) {
-            same("an extent", row, extent_in_pieces(row, length, step, &end), PERGIDAU_DONE);
+            same("an extent", row, extent_in_pieces(row, length, protocol, step, &end),
+                 PERGIDAU_DONE);
             same("its end", row, (long long)end, (long long)whole);
         }
         for (size_t cut = 0; cut < whole; cut++) {
             struct pergidau_resp_reply_state state = {0};
             uint8_t *bytes = copied(row, cut);
-            same("partial input", row, pergidau_resp_extent(&state, bytes, cut, &end),
+            same("partial input", row, pergidau_resp_extent(&state, bytes, cut, protocol, &end),
                  PERGIDAU_INCOMPLETE);
             same("no end", row, (long long)end, 0);
-            same("partial input again", row, pergidau_resp_extent(&state, bytes, cut, &end),
-                 PERGIDAU_INCOMPLETE);
+            same("partial input again", row,
+                 pergidau_resp_extent(&state, bytes, cut, protocol, &end), PERGIDAU_INCOMPLETE);
             free(bytes);
         }
     }
-    for (size_t i = 0; i < sizeof no_extents / sizeof *no_extents; i++) {
-        const char *row = no_extents[i].bytes;
-        size_t length = strlen(row), begins = no_extents[i].begins;
-        for (size_t step = 1; step <= length; step++) {
-            same("invalid reply", row, extent_in_pieces(row, length, step, &end), PERGIDAU_INVALID);
-            same("no end", row, (long long)end, 0);
+    for (size_t i = 0; i < sizeof no_replies / sizeof *no_replies; i++) {
+        const char *row = no_replies[i].bytes;
+        uint32_t protocol = (uint32_t)no_replies[i].protocol;
+        size_t length = strlen(row), begins = no_replies[i].begins;
+        if (no_replies[i].code == PERGIDAU_TOO_DEEP) {
+            continue;
         }
-        same("a prefix", row, extent_in_pieces(row, begins, 1, &end), PERGIDAU_INCOMPLETE);
-        same("it is rejected", row, extent_in_pieces(row, begins + 1, 1, &end), PERGIDAU_INVALID);
+        for (size_t step = 1; step <= length; step++) {
+            same("invalid reply", row, extent_in_pieces(row, length, protocol, step, &end),
+                 no_replies[i].code);
+            same("the error offset", row, (long long)end, (long long)no_replies[i].offset);
+        }
+        same("a prefix", row, extent_in_pieces(row, begins, protocol, 1, &end),
+             PERGIDAU_INCOMPLETE);
+        same("it is rejected", row, extent_in_pieces(row, begins + 1, protocol, 1, &end),
+             no_replies[i].code);
     }
     /* More replies are expected than 64 bits can count: nested arrays of the maximum size. */
     const char *many = "*2\r\n*9223372036854775807\r\n*9223372036854775807\r\n"
                        "*9223372036854775807\r\n:1\r\n";
     for (size_t step = 1; step <= strlen(many); step++) {
-        same("an extent", many, extent_in_pieces(many, strlen(many), step, &end),
+        same("an extent", many, extent_in_pieces(many, strlen(many), 2, step, &end),
              PERGIDAU_INCOMPLETE);
     }
     struct pergidau_resp_reply_state state = {0};
-    same("an extent", many, pergidau_resp_extent(&state, (const uint8_t *)many, strlen(many), &end),
+    same("an extent", many, pergidau_resp_extent(&state, (const uint8_t *)many, strlen(many), 2, &end),
          PERGIDAU_INCOMPLETE);
     /* Three times 2^63 - 1 elements were announced, and five lines are consumed. */
     same("expected replies", many, (long long)state.high, 1);
     same("expected replies", many, (long long)(state.low >> 1), (1LL << 62) - 3);
     const uint8_t *bytes = (const uint8_t *)"+\r\n";
-    same("null", "state", pergidau_resp_extent(NULL, bytes, 3, &end), PERGIDAU_NULL);
-    same("null", "extent", pergidau_resp_extent(&state, NULL, 1, &end), PERGIDAU_NULL);
-    same("null", "extent", pergidau_resp_extent(&state, bytes, 3, NULL), PERGIDAU_NULL);
+    same("null", "state", pergidau_resp_extent(NULL, bytes, 3, 2, &end), PERGIDAU_NULL);
+    same("null", "extent", pergidau_resp_extent(&state, NULL, 1, 2, &end), PERGIDAU_NULL);
+    same("null", "extent", pergidau_resp_extent(&state, bytes, 3, 2, NULL), PERGIDAU_NULL);
     same("too long", "extent",
-         pergidau_resp_extent(&state, bytes, (size_t)PTRDIFF_MAX + 1, &end), PERGIDAU_TOO_LONG);
+         pergidau_resp_extent(&state, bytes, (size_t)PTRDIFF_MAX + 1, 2, &end), PERGIDAU_TOO_LONG);
     state = (struct pergidau_resp_reply_state){0};
-    same("nothing", "extent", pergidau_resp_extent(&state, NULL, 0, &end), PERGIDAU_INCOMPLETE);
-    same("a state that continues", "extent", pergidau_resp_extent(&state, bytes, 3, &end),
+    same("nothing", "extent", pergidau_resp_extent(&state, NULL, 0, 2, &end), PERGIDAU_INCOMPLETE);
+    same("a state that continues", "extent", pergidau_resp_extent(&state, bytes, 3, 2, &end),
          PERGIDAU_DONE);
     /* For an invalid state the result is unspecified, but only the input is read. */
     state = (struct pergidau_resp_reply_state){SIZE_MAX, SIZE_MAX, SIZE_MAX,
                                           SIZE_MAX, SIZE_MAX, SIZE_MAX};
-    (void)pergidau_resp_extent(&state, bytes, 3, &end);
+    (void)pergidau_resp_extent(&state, bytes, 3, 2, &end);
     state = (struct pergidau_resp_reply_state){1, 1, SIZE_MAX, 0, 0, 0};
-    (void)pergidau_resp_extent(&state, bytes, 3, &end);
+    (void)pergidau_resp_extent(&state, bytes, 3, 2, &end);
 }
 
 /* The result of decoding a chunked body by successive calls: its content, its trailers, and the result
@@ -1156,7 +1247,7 @@ static void test_library(void)
     test_messages_of_errors();
     same("kinds", "JSON", PERGIDAU_JSON_NULL, 0);
     same("kinds", "JSON", PERGIDAU_JSON_OBJECT, 6);
-    same("kinds", "RESP", PERGIDAU_RESP_NULL_ARRAY, 6);
+    same("kinds", "RESP", PERGIDAU_RESP_ATTRIBUTES, 16);
     same("kinds", "a chunked body", PERGIDAU_CHUNKED_TRAILERS, 1);
     same("errors", "a chunked body", PERGIDAU_CHUNKED_ERROR_TRAILERS_TOO_LONG, 7);
     same("kinds", "INI", PERGIDAU_INI_MORE, 3);

@@ -47,12 +47,12 @@ static void write_slices(const uint8_t *bytes, size_t length)
     }
     HOLDS(code == PERGIDAU_DONE);
     if (is_command) {
-        HOLDS(pergidau_resp_reply(text, size, 1, &reply) == PERGIDAU_DONE);
+        HOLDS(pergidau_resp_reply(text, size, 2, 1, &reply) == PERGIDAU_DONE);
         HOLDS(reply.length == size && reply.elements == count);
         text += reply.span.offset;
         size -= reply.span.offset;
         for (size_t i = 0; i < count; i++) {
-            HOLDS(pergidau_resp_reply(text, size, 0, &reply) == PERGIDAU_DONE);
+            HOLDS(pergidau_resp_reply(text, size, 2, 0, &reply) == PERGIDAU_DONE);
             HOLDS(reply.kind == PERGIDAU_RESP_BULK && reply.span.length == slices[i].bytes_length);
             HOLDS(!memcmp(text + reply.span.offset, slices[i].bytes, reply.span.length));
             text += reply.length;

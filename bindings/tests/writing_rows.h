@@ -155,7 +155,7 @@ static void test_commands(void)
         test_written(slices, count, NULL, commands[i].text);
         struct pergidau_reply out;
         same("resp_reply", commands[i].text,
-             pergidau_resp_reply((const uint8_t *)commands[i].text, strlen(commands[i].text), 1, &out),
+             pergidau_resp_reply((const uint8_t *)commands[i].text, strlen(commands[i].text), 2, 1, &out),
              PERGIDAU_DONE);
         same("the parts", commands[i].text, (long long)out.elements, (long long)count);
         same("the rest", commands[i].text, (long long)out.length, (long long)strlen(commands[i].text));

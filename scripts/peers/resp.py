@@ -7,9 +7,9 @@ invalidations. For each reply, followed by another one, the program prints
 
 - the result and the rest of `read_reply`;
 - whether `write_reply` writes the same bytes;
-- the number of its prefixes for which the result is not `Incomplete`, which must be 0. They are all
+- the number of its prefixes for which a result is not `Incomplete`, which must be 0. They are all
   prefixes of short replies, and some of long ones;
-- for RESP2, the number of bytes after which `Extent` finds the end, given the same chunks.
+- the number of bytes after which `Extent`, given the same chunks, and `bounded_length` find the end.
 """
 import contextlib
 import re
@@ -168,7 +168,7 @@ def comparison(version):
     """Returns the comparison of a version."""
 
     def peer(rows):
-        ends = [f" end {len(raw)}" if version == 2 else "" for raw, _ in rows]
+        ends = [f" end {len(raw)} and {len(raw)}" for raw, _ in rows]
         begin = f"left {len(NEXT)} written true answered 0"
         return [said + begin + end for (_, said), end in zip(rows, ends)]
 

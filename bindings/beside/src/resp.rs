@@ -1,7 +1,7 @@
 //! Readers of Redis replies. Each reply is counted, also inside arrays; the sum is of the integers and
 //! of the lengths of the strings.
 use crate::text::{Outcome, Text};
-use pergidau::resp::{self, Extent, Reply};
+use pergidau::resp::{self, Extent, Protocol, Reply};
 
 /// The size of the chunks in bytes, for incremental readers: the payload of a packet.
 const PIECE: usize = 1460;
@@ -16,12 +16,14 @@ fn count(reply: Reply, out: &mut Outcome) {
             out.add(0);
             elements.flatten().for_each(|it| count(it, out));
         }
+        // The inputs are of RESP2.
+        _ => {}
     }
 }
 
 pub fn replies(text: &Text) -> Outcome {
     let (mut out, mut rest) = (Outcome::default(), text.bytes());
-    while let Ok((reply, behind)) = resp::reply(rest, LEVELS) {
+    while let Ok((reply, behind)) = resp::reply(rest, Protocol::Resp2, LEVELS) {
         count(reply, &mut out);
         rest = behind;
     }
@@ -29,16 +31,17 @@ pub fn replies(text: &Text) -> Outcome {
 }
 
 pub fn replies_in_pieces(text: &Text) -> Outcome {
-    let (mut out, mut extent) = (Outcome::default(), Extent::new());
+    let (mut out, mut extent) = (Outcome::default(), Extent::new(Protocol::Resp2));
     let (bytes, mut begin, mut end) = (text.bytes(), 0, 0);
     while begin < bytes.len() {
         match extent.advance(&bytes[begin..end]) {
             Ok(Some(length)) => {
-                if let Ok((reply, _)) = resp::reply(&bytes[begin..][..length], LEVELS) {
+                let whole = &bytes[begin..][..length];
+                if let Ok((reply, _)) = resp::reply(whole, Protocol::Resp2, LEVELS) {
                     count(reply, &mut out);
                 }
                 begin += length;
-                extent = Extent::new();
+                extent = Extent::new(Protocol::Resp2);
             }
             Ok(None) if end < bytes.len() => end = bytes.len().min(end + PIECE),
             _ => break,

@@ -4,7 +4,7 @@
 //! Without arguments it also plays a client over a pair of sockets, which sends chunks of three
 //! bytes, and prints the replies. With the argument `listen` it serves clients of `127.0.0.1`, one
 //! at a time, at a port that it prints first, until a client sends SHUTDOWN.
-use pergidau::resp::{self, Reply};
+use pergidau::resp::{self, Protocol, Reply};
 use pergidau::Error;
 use std::collections::HashMap;
 use std::io::{self, Read, Write};
@@ -50,7 +50,7 @@ fn bulk(text: Option<&[u8]>, out: &mut Vec<u8>) {
 fn incremented(old: Option<&Vec<u8>>) -> Option<i64> {
     let Some(old) = old else { return Some(1) };
     let text = [b":", &old[..], b"\r\n"].concat();
-    match resp::reply(&text, 0) {
+    match resp::reply(&text, Protocol::Resp2, 0) {
         Ok((Reply::Integer(number), b"")) => number.checked_add(1),
         _ => None,
     }
@@ -104,7 +104,7 @@ fn serve(client: &mut (impl Read + Write), values: &mut Values) -> io::Result<Ne
         held.extend_from_slice(&piece[..count]);
         let (mut left, mut next) = (&held[..], Next::Read);
         while !left.is_empty() && next == Next::Read {
-            match resp::reply_partial(left, 1) {
+            match resp::reply_partial(left, Protocol::Resp2, 1) {
                 Ok((request, behind)) => {
                     next = match words(request) {
                         Some(words) => answer(&words, values, &mut out),
@@ -144,6 +144,8 @@ fn shown(reply: Reply) -> String {
             let each = elements.map(|it| it.map_or_else(|error| error.to_string(), shown));
             format!("[{}]", each.collect::<Vec<_>>().join(", "))
         }
+        // The server sends only replies of RESP2.
+        other => format!("{other:?}"),
     }
 }
 
@@ -162,7 +164,7 @@ fn play(server: &mut UnixStream, requests: &[&[&str]], end: &[u8]) -> io::Result
     server.read_to_end(&mut got)?;
     let mut left = &got[..];
     while !left.is_empty() {
-        let (reply, behind) = resp::reply(left, 1).map_err(io::Error::other)?;
+        let (reply, behind) = resp::reply(left, Protocol::Resp2, 1).map_err(io::Error::other)?;
         println!("{}", shown(reply));
         left = behind;
     }

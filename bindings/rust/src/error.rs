@@ -73,6 +73,8 @@ pub enum Error {
     MaxDepthTooLarge,
     /// The input is nested deeper than the depth limit, at this offset in bytes.
     TooDeep(usize),
+    /// A number of a Redis reply is out of range, at this offset in bytes.
+    OutOfRange(usize),
     /// The delimiter, the quote, a carriage return and a line feed of a dialect are not four
     /// different bytes.
     InvalidDialect,
@@ -95,7 +97,7 @@ impl Error {
         match self {
             Error::Invalid(offset) => *offset,
             Error::InvalidHead { offset, .. } | Error::InvalidDns { offset, .. } => Some(*offset),
-            Error::TooDeep(offset) => Some(*offset),
+            Error::TooDeep(offset) | Error::OutOfRange(offset) => Some(*offset),
             _ => None,
         }
     }
@@ -151,6 +153,7 @@ impl fmt::Display for Error {
                 write!(f, "depth limit too large: at most {MAX_DEPTH} levels are supported")
             }
             Error::TooDeep(offset) => write!(f, "nested too deep at offset {offset}"),
+            Error::OutOfRange(offset) => write!(f, "number out of range at offset {offset}"),
             Error::InvalidDialect => f.write_str(
                 "impossible dialect: delimiter, quote, carriage return and line feed must differ",
             ),

@@ -386,6 +386,36 @@ pub const RESP_ARRAY: u32 = 5;
 /// The null array.
 pub const RESP_NULL_ARRAY: u32 = 6;
 
+/// The null of RESP3.
+pub const RESP_NULL: u32 = 7;
+
+/// A boolean.
+pub const RESP_BOOLEAN: u32 = 8;
+
+/// A double, as its text.
+pub const RESP_DOUBLE: u32 = 9;
+
+/// A big number, as its text.
+pub const RESP_BIG_NUMBER: u32 = 10;
+
+/// A bulk error: any bytes.
+pub const RESP_BULK_ERROR: u32 = 11;
+
+/// A verbatim string: a format of three bytes, a colon, and any bytes.
+pub const RESP_VERBATIM: u32 = 12;
+
+/// A map: its keys, each followed by its value.
+pub const RESP_MAP: u32 = 13;
+
+/// A set.
+pub const RESP_SET: u32 = 14;
+
+/// A push.
+pub const RESP_PUSH: u32 = 15;
+
+/// Attributes: their names, each followed by its value, and the reply that they belong to.
+pub const RESP_ATTRIBUTES: u32 = 16;
+
 /// A table, of headers, of dotted keys or inline.
 pub const TOML_TABLE: u32 = 0;
 
@@ -971,17 +1001,20 @@ pub struct Bytes {
 #[repr(C)]
 #[derive(Clone, Copy, Debug, Default, PartialEq, Eq)]
 pub struct Reply {
-    /// The kind of the reply: one of the constants from `RESP_SIMPLE` to `RESP_NULL_ARRAY`.
+    /// The kind of the reply: one of the constants from `RESP_SIMPLE` to `RESP_ATTRIBUTES`.
     pub kind: u32,
-    /// The number of an integer; 0 otherwise.
+    /// The number of an integer; 1 for true; 0 otherwise.
     pub number: i64,
-    /// The number of elements of an array; 0 otherwise.
+    /// The number of elements of an array, a set or a push; of a map or attributes the number of
+    /// all replies in them; 0 otherwise.
     pub elements: usize,
-    /// The bytes of a string or of an error, or those of the elements of an array, which are
-    /// consecutive replies; zeros otherwise.
+    /// The bytes of a string, an error, a double or a big number, or those of the elements, which
+    /// are consecutive replies; zeros otherwise.
     pub span: Span,
     /// How many bytes the reply has.
     pub length: usize,
+    /// The offset of the error in bytes; 0 otherwise.
+    pub error_offset: usize,
 }
 
 /// The state of a search for the end of a reply in input that arrives in chunks. Only the functions
@@ -991,7 +1024,7 @@ pub struct Reply {
 #[derive(Clone, Copy, Debug, Default, PartialEq, Eq)]
 pub struct RespReplyState {
     /// The part that is expected next: 0 in the initial state, 1 for a line, 2 for the bytes of a
-    /// string.
+    /// string, 3 for those of a verbatim string.
     pub due: usize,
     /// How many bytes were passed.
     pub passed: usize,
@@ -1085,7 +1118,7 @@ pub struct TomlResult {
 
 extern "C" {
     /// A symbol that only a library with these declarations has.
-    #[link_name = "pergidau_declared_df787e6a"]
+    #[link_name = "pergidau_declared_b31ba5c9"]
     static VERSION_LINKED: c_char;
 
     /// Returns the version of the linked library.
@@ -2182,27 +2215,38 @@ extern "C" {
         out: *mut JsonText,
     ) -> u32;
 
-    /// Parses the Redis reply (RESP2, the second version of the protocol) at the start of `bytes`,
-    /// whose arrays are nested at most `max_depth` deep.
+    /// Parses the Redis reply at the start of `bytes`, whose aggregates are nested at most `max_depth`
+    /// deep. `protocol` is 3 for RESP3, the third version of the protocol; with any other number it is
+    /// RESP2, the second, which has only the kinds up to `RESP_NULL_ARRAY`.
     ///
-    /// To parse the elements of an array, call the function with the bytes in its span, and then with
-    /// those after each element. An integer may have a sign and leading zeros, a size leading zeros.
-    /// `-1` is the size of a null.
+    /// To parse the elements of an aggregate, call the function with the bytes in its span, and then
+    /// with those after each element. An integer may have a sign and leading zeros, a size leading
+    /// zeros. `-1` is the size of a null. Streamed strings and aggregates are invalid.
     ///
     /// `DONE`: the reply is written.
     ///
     /// A call holds up to 32 bytes of memory for each byte of the reply, and 2 KiB for each level of
-    /// arrays that has started.
+    /// aggregates that has started.
     ///
     /// # Errors
     ///
-    /// `INVALID`: `bytes` does not start with a reply.
+    /// `bytes` does not start with a reply. After these errors only the offset is written: that of the
+    /// first part of the reply that is rejected, which is the line of a nested reply, or the bytes of a
+    /// string with their line ending.
+    ///
+    /// `INVALID`: that part is malformed. Or the reply is incomplete; then the offset is the length of
+    /// `bytes`.
+    ///
+    /// `OUT_OF_RANGE`: that line has an integer or a size that does not fit a signed 64-bit integer, or
+    /// an aggregate has too many parts.
+    ///
+    /// `TOO_DEEP`: that line is the one of an aggregate that is nested deeper than `max_depth`.
+    ///
+    /// After these errors only zeros are written:
     ///
     /// `MAX_DEPTH_TOO_LARGE`: `max_depth` is above 512.
     ///
     /// `NO_MEMORY`.
-    ///
-    /// After an error only zeros are written.
     ///
     /// # Safety
     ///
@@ -2212,6 +2256,7 @@ extern "C" {
     pub fn exported_resp_reply(
         bytes: *const u8,
         bytes_length: usize,
+        protocol: u32,
         max_depth: usize,
         out: *mut Reply,
     ) -> u32;
@@ -2220,14 +2265,15 @@ extern "C" {
     ///
     /// `DONE`: as for complete input.
     ///
-    /// `INCOMPLETE`: more bytes may be needed. Zeros are written. It is tested, but not proved, that
-    /// this is not returned once the reply is complete.
+    /// `INCOMPLETE`: `bytes` does not start with a reply yet: its last line has not ended, or bytes of
+    /// a string are missing. Zeros are written.
     ///
     /// Each call parses from the first byte, and holds as much memory as a call for a complete reply.
     ///
     /// # Errors
     ///
-    /// `INVALID`: `bytes` does not start with a reply, regardless of what follows. Zeros are written.
+    /// `INVALID`, `OUT_OF_RANGE`, `TOO_DEEP`: as for complete input, regardless of what follows. An
+    /// invalid line is rejected at its end.
     ///
     /// `MAX_DEPTH_TOO_LARGE`, `NO_MEMORY`: as for complete input.
     ///
@@ -2239,15 +2285,17 @@ extern "C" {
     pub fn exported_resp_reply_partial(
         bytes: *const u8,
         bytes_length: usize,
+        protocol: u32,
         max_depth: usize,
         out: *mut Reply,
     ) -> u32;
 
-    /// Finds the end of a Redis reply (RESP2) in input that arrives in chunks.
+    /// Finds the end of a Redis reply in input that arrives in chunks. `protocol` is as for
+    /// `exported_resp_reply`, and the same in all calls for a reply.
     ///
     /// No call looks again at bytes that an earlier call scanned, so all calls for a reply take time
-    /// linear in its length. To obtain the reply, pass its bytes to `exported_resp_reply`, which also
-    /// checks the nesting depth; here it is not checked.
+    /// linear in its length. The function does not allocate. To obtain the reply, pass its bytes to
+    /// `exported_resp_reply`, which also checks the nesting depth; here it is not checked.
     ///
     /// For the first call, `state` must be all zeros. Each further call for the same reply must have
     /// the state that the previous call left, and the bytes of the previous call followed by more
@@ -2264,8 +2312,12 @@ extern "C" {
     ///
     /// # Errors
     ///
-    /// `INVALID`: `bytes` does not start with a reply, regardless of what follows. 0 is written. An
-    /// invalid line is rejected at its end.
+    /// `bytes` does not start with a reply, regardless of what follows. An invalid line is rejected at
+    /// its end. The offset of the first part that is rejected is written, as by `exported_resp_reply`.
+    ///
+    /// `INVALID`: that part is malformed.
+    ///
+    /// `OUT_OF_RANGE`: that line has a number that is too large.
     ///
     /// # Safety
     ///
@@ -2276,6 +2328,7 @@ extern "C" {
         state: *mut RespReplyState,
         bytes: *const u8,
         bytes_length: usize,
+        protocol: u32,
         out: *mut usize,
     ) -> u32;
 

@@ -1,11 +1,11 @@
-//! Redis replies (RESP2), from complete or partial input, and commands.
+//! Redis replies (RESP2 and RESP3), from complete or partial input, and commands.
 //!
 //! ```
-//! use pergidau::resp::{self, Reply};
+//! use pergidau::resp::{self, Protocol, Reply};
 //!
-//! let (reply, rest) = resp::reply(b"+OK\r\n:7\r\n", 0)?;
+//! let (reply, rest) = resp::reply(b"+OK\r\n#t\r\n", Protocol::Resp3, 0)?;
 //! assert_eq!(reply, Reply::Simple(b"OK"));
-//! assert_eq!(resp::reply(rest, 0)?, (Reply::Integer(7), &b""[..]));
+//! assert_eq!(resp::reply(rest, Protocol::Resp3, 0)?, (Reply::Boolean(true), &b""[..]));
 //! let mut request = Vec::new();
 //! resp::append_command(&["LLEN", "mylist"], &mut request)?;
 //! assert_eq!(request, b"*2\r\n$4\r\nLLEN\r\n$6\r\nmylist\r\n");
@@ -17,6 +17,24 @@ use crate::bytes::append;
 use crate::{at, Bytes, Error, RequiredSize, NOTHING};
 #[cfg(feature = "alloc")]
 use alloc::vec::Vec;
+
+/// The version of the protocol that replies are of. Each reply of RESP2 is one of RESP3 too.
+#[derive(Clone, Copy, Debug, PartialEq, Eq)]
+pub enum Protocol {
+    /// The second, which has only the kinds from [`Reply::Simple`] to [`Reply::NullArray`].
+    Resp2,
+    /// The third.
+    Resp3,
+}
+
+impl Protocol {
+    fn number(self) -> u32 {
+        match self {
+            Protocol::Resp2 => 2,
+            Protocol::Resp3 => 3,
+        }
+    }
+}
 
 /// A Redis reply, whose strings are slices of the input.
 #[derive(Clone, Copy, Debug, PartialEq, Eq)]
@@ -35,14 +53,36 @@ pub enum Reply<'i> {
     Array(Elements<'i>),
     /// The null array.
     NullArray,
+    /// The null of RESP3.
+    Null,
+    /// A boolean.
+    Boolean(bool),
+    /// A double, as its text, which [`str::parse`] accepts.
+    Double(&'i [u8]),
+    /// A big number, as its text: digits, and a sign before them or none.
+    BigNumber(&'i [u8]),
+    /// A bulk error: any bytes.
+    BulkError(&'i [u8]),
+    /// A verbatim string: a format of three bytes, and any bytes.
+    Verbatim(&'i [u8], &'i [u8]),
+    /// A map: its keys, each followed by its value.
+    Map(Elements<'i>),
+    /// A set: its elements.
+    Set(Elements<'i>),
+    /// A push, which is not a reply to a command: its parts.
+    Push(Elements<'i>),
+    /// Attributes: their names, each followed by its value, and at the end the reply that they
+    /// belong to.
+    Attributed(Elements<'i>),
 }
 
-/// An iterator over the elements of an array, each parsed on demand. They were checked before, so
+/// An iterator over the elements of an aggregate, each parsed on demand. They were checked before, so
 /// the only possible error is [`Error::NoMemory`]; after it the iterator returns `None`.
 #[derive(Clone, Copy, Debug, PartialEq, Eq)]
 pub struct Elements<'i> {
     left: &'i [u8],
     count: usize,
+    protocol: Protocol,
 }
 
 impl<'i> Iterator for Elements<'i> {
@@ -50,7 +90,7 @@ impl<'i> Iterator for Elements<'i> {
 
     fn next(&mut self) -> Option<Self::Item> {
         self.count = self.count.checked_sub(1)?;
-        match reply(self.left, MAX_DEPTH) {
+        match reply(self.left, self.protocol, MAX_DEPTH) {
             Ok((reply, rest)) => {
                 self.left = rest;
                 Some(Ok(reply))
@@ -69,49 +109,91 @@ impl<'i> Iterator for Elements<'i> {
 
 impl ExactSizeIterator for Elements<'_> {}
 
-type Export = unsafe extern "C" fn(*const u8, usize, usize, *mut exports::Reply) -> u32;
+type Export = unsafe extern "C" fn(*const u8, usize, u32, usize, *mut exports::Reply) -> u32;
 
-fn read(export: Export, bytes: &[u8], max_depth: usize) -> Result<(Reply<'_>, &[u8]), Error> {
+/// Converts a code other than `DONE` to an error at this offset.
+fn error(code: u32, offset: usize) -> Error {
+    match code {
+        exports::TOO_DEEP => Error::TooDeep(offset),
+        exports::OUT_OF_RANGE => Error::OutOfRange(offset),
+        code => Error::of(code, Some(offset), NOTHING),
+    }
+}
+
+fn read(
+    export: Export,
+    bytes: &[u8],
+    protocol: Protocol,
+    max_depth: usize,
+) -> Result<(Reply<'_>, &[u8]), Error> {
     let mut out = exports::Reply::default();
     // SAFETY: the pointers are those of live borrows, and the bytes are only read. The call takes up to
     // 107 KiB of stack at `MAX_DEPTH` (measured); where there is less, the thread's guard page ends
     // the program.
-    let code = unsafe { export(bytes.as_ptr(), bytes.len(), max_depth, &mut out) };
+    let code =
+        unsafe { export(bytes.as_ptr(), bytes.len(), protocol.number(), max_depth, &mut out) };
     if code != exports::DONE {
-        return Err(Error::of(code, None, NOTHING));
+        return Err(error(code, out.error_offset));
     }
     let inside = at(bytes, out.span);
+    let elements = Elements { left: inside, count: out.elements, protocol };
     let reply = match out.kind {
         exports::RESP_SIMPLE => Reply::Simple(inside),
         exports::RESP_ERROR => Reply::Error(inside),
         exports::RESP_INTEGER => Reply::Integer(out.number),
         exports::RESP_BULK => Reply::Bulk(inside),
         exports::RESP_NULL_BULK => Reply::NullBulk,
-        exports::RESP_ARRAY => Reply::Array(Elements { left: inside, count: out.elements }),
+        exports::RESP_ARRAY => Reply::Array(elements),
         exports::RESP_NULL_ARRAY => Reply::NullArray,
+        exports::RESP_NULL => Reply::Null,
+        exports::RESP_BOOLEAN => Reply::Boolean(out.number == 1),
+        exports::RESP_DOUBLE => Reply::Double(inside),
+        exports::RESP_BIG_NUMBER => Reply::BigNumber(inside),
+        exports::RESP_BULK_ERROR => Reply::BulkError(inside),
+        // (a format of three bytes, and a colon)
+        exports::RESP_VERBATIM => Reply::Verbatim(&inside[..3], &inside[4..]),
+        exports::RESP_MAP => Reply::Map(elements),
+        exports::RESP_SET => Reply::Set(elements),
+        exports::RESP_PUSH => Reply::Push(elements),
+        exports::RESP_ATTRIBUTES => Reply::Attributed(elements),
         _ => return Err(Error::Unknown(code)),
     };
     Ok((reply, &bytes[out.length..]))
 }
 
-/// Parses the Redis reply (RESP2) at the start of `bytes`, whose arrays are nested at most
-/// `max_depth` deep. Returns the reply and the rest of the input.
+/// Parses the Redis reply at the start of `bytes`, whose aggregates are nested at most `max_depth`
+/// deep. Returns the reply and the rest of the input.
 ///
 /// A call holds up to 32 bytes of memory for each byte of the reply, and 2 KiB for each level of
-/// arrays that has started (measured).
+/// aggregates that has started (measured).
+///
+/// # Errors
+///
+/// `bytes` does not start with a reply. The offset is that of the first part that is rejected: the
+/// line of a nested reply, or the bytes of a string with their line ending.
+///
+/// - [`Error::Invalid`] if that part is malformed. If the reply is incomplete, the offset is the
+///   length of `bytes`.
+/// - [`Error::OutOfRange`] if that line has an integer or a size that does not fit an `i64`, or an
+///   aggregate has too many parts.
+/// - [`Error::TooDeep`] if that line is the one of an aggregate that is nested too deep.
 ///
 /// ```
-/// use pergidau::resp::{self, Reply};
+/// use pergidau::resp::{self, Protocol, Reply};
 ///
-/// let (reply, rest) = resp::reply(b"*2\r\n$3\r\nfoo\r\n:7\r\n+", 1)?;
-/// let Reply::Array(elements) = reply else { panic!() };
+/// let (reply, rest) = resp::reply(b"~2\r\n$3\r\nfoo\r\n,1.5\r\n+", Protocol::Resp3, 1)?;
+/// let Reply::Set(elements) = reply else { panic!() };
 /// let elements: Result<Vec<_>, _> = elements.collect();
-/// assert_eq!(elements?, [Reply::Bulk(b"foo"), Reply::Integer(7)]);
+/// assert_eq!(elements?, [Reply::Bulk(b"foo"), Reply::Double(b"1.5")]);
 /// assert_eq!(rest, b"+");
 /// # Ok::<(), pergidau::Error>(())
 /// ```
-pub fn reply(bytes: &[u8], max_depth: usize) -> Result<(Reply<'_>, &[u8]), Error> {
-    read(exports::exported_resp_reply, bytes, max_depth)
+pub fn reply(
+    bytes: &[u8],
+    protocol: Protocol,
+    max_depth: usize,
+) -> Result<(Reply<'_>, &[u8]), Error> {
+    read(exports::exported_resp_reply, bytes, protocol, max_depth)
 }
 
 /// Like [`reply`], for partial input.
@@ -121,17 +203,23 @@ pub fn reply(bytes: &[u8], max_depth: usize) -> Result<(Reply<'_>, &[u8]), Error
 ///
 /// # Errors
 ///
-/// - [`Error::Incomplete`] if more bytes may be needed.
-/// - [`Error::Invalid`] if `bytes` does not start with a reply, regardless of what follows.
+/// [`Error::Incomplete`] if `bytes` does not start with a reply yet. The others are those of
+/// [`reply`], regardless of what follows.
 ///
 /// ```
-/// use pergidau::{resp, Error};
+/// use pergidau::{resp::{self, Protocol}, Error};
 ///
-/// assert_eq!(resp::reply_partial(b"$6\r\nfoo", 0), Err(Error::Incomplete));
-/// assert_eq!(resp::reply_partial(b"$x\r\n", 0), Err(Error::Invalid(None)));
+/// assert_eq!(resp::reply_partial(b"$6\r\nfoo", Protocol::Resp2, 0), Err(Error::Incomplete));
+/// assert_eq!(resp::reply_partial(b"*1\r\n", Protocol::Resp2, 0), Err(Error::TooDeep(0)));
+/// let large = b":9223372036854775808\r\n";
+/// assert_eq!(resp::reply_partial(large, Protocol::Resp2, 0), Err(Error::OutOfRange(0)));
 /// ```
-pub fn reply_partial(bytes: &[u8], max_depth: usize) -> Result<(Reply<'_>, &[u8]), Error> {
-    read(exports::exported_resp_reply_partial, bytes, max_depth)
+pub fn reply_partial(
+    bytes: &[u8],
+    protocol: Protocol,
+    max_depth: usize,
+) -> Result<(Reply<'_>, &[u8]), Error> {
+    read(exports::exported_resp_reply_partial, bytes, protocol, max_depth)
 }
 
 /// Writes a command as clients send it to the start of `buffer`, and returns its length. A command
@@ -190,53 +278,57 @@ pub fn append_command<P: AsRef<[u8]>>(parts: &[P], out: &mut Vec<u8>) -> Result<
 /// byte each time.
 ///
 /// ```
-/// use pergidau::resp::{self, Extent, Reply};
+/// use pergidau::resp::{self, Extent, Protocol, Reply};
 ///
-/// let (mut bytes, mut extent, mut seen) = (Vec::new(), Extent::new(), Vec::new());
+/// let protocol = Protocol::Resp3;
+/// let (mut bytes, mut extent, mut seen) = (Vec::new(), Extent::new(protocol), Vec::new());
 /// for piece in [&b"$5\r\nhe"[..], b"llo\r\n:1\r", b"\n+"] {
 ///     bytes.extend(piece);
 ///     while let Some(length) = extent.advance(&bytes)? {
-///         let (reply, _) = resp::reply(&bytes[..length], 1)?;
+///         let (reply, _) = resp::reply(&bytes[..length], protocol, 1)?;
 ///         seen.push(format!("{reply:?}"));
 ///         bytes.drain(..length);
-///         extent = Extent::new();
+///         extent = Extent::new(protocol);
 ///     }
 /// }
 /// assert_eq!(seen, [format!("{:?}", Reply::Bulk(b"hello")), "Integer(1)".to_string()]);
 /// # Ok::<(), pergidau::Error>(())
 /// ```
-#[derive(Clone, Debug, Default, PartialEq, Eq)]
+#[derive(Clone, Debug, PartialEq, Eq)]
 pub struct Extent {
+    protocol: Protocol,
     state: exports::RespReplyState,
 }
 
 impl Extent {
     /// Returns the initial state.
-    pub fn new() -> Extent {
-        Extent::default()
+    pub fn new(protocol: Protocol) -> Extent {
+        Extent { protocol, state: exports::RespReplyState::default() }
     }
 
     /// Returns the length in bytes of the reply at the start of `bytes`, if it is complete.
     ///
     /// `bytes` must be the bytes of the previous call, followed by a new chunk; otherwise the
     /// result may be wrong. `None` means that the last line of the reply has not ended, or that
-    /// bytes of a string are missing. The nesting depth of arrays is not checked; [`reply`] checks
-    /// it when it parses the bytes.
+    /// bytes of a string are missing. The nesting depth of aggregates is not checked; [`reply`]
+    /// checks it when it parses the bytes.
     ///
     /// # Errors
     ///
-    /// [`Error::Invalid`] if `bytes` does not start with a reply, regardless of what follows.
+    /// [`Error::Invalid`] or [`Error::OutOfRange`] if `bytes` does not start with a reply,
+    /// regardless of what follows, with the offset that [`reply`] gives.
     pub fn advance(&mut self, bytes: &[u8]) -> Result<Option<usize>, Error> {
-        let mut length = 0;
+        let (mut out, number) = (0, self.protocol.number());
         // SAFETY: the pointers are those of live borrows, and the bytes are only read. The call takes up
         // to 4 KiB of stack (measured); where there is less, the thread's guard page ends the program.
         let code = unsafe {
-            exports::exported_resp_extent(&mut self.state, bytes.as_ptr(), bytes.len(), &mut length)
+            let (from, count) = (bytes.as_ptr(), bytes.len());
+            exports::exported_resp_extent(&mut self.state, from, count, number, &mut out)
         };
         match code {
-            exports::DONE => Ok(Some(length)),
+            exports::DONE => Ok(Some(out)),
             exports::INCOMPLETE => Ok(None),
-            code => Err(Error::of(code, None, NOTHING)),
+            code => Err(error(code, out)),
         }
     }
 }
@@ -248,10 +340,11 @@ mod tests {
     /// An iterator ends after an error, and reports this in advance.
     #[test]
     fn elements_end_behind_an_error() {
-        let mut elements = Elements { left: b":1\r\nx:2\r\n", count: 3 };
+        let protocol = Protocol::Resp2;
+        let mut elements = Elements { left: b":1\r\nx:2\r\n", count: 3, protocol };
         assert_eq!(elements.next(), Some(Ok(Reply::Integer(1))));
         assert_eq!(elements.len(), 2);
-        assert_eq!(elements.next(), Some(Err(Error::Invalid(None))));
+        assert_eq!(elements.next(), Some(Err(Error::Invalid(Some(0)))));
         assert_eq!(elements.len(), 0);
         assert_eq!(elements.next(), None);
     }

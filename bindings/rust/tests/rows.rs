@@ -5,7 +5,7 @@ use pergidau::csv::{self, Dialect, LineEnd};
 use pergidau::http::{self, Chunked, ChunkedError, Field, HeadError, Step};
 use pergidau::ini::{self, Entry};
 use pergidau::json::{self, Kind, Value};
-use pergidau::resp::{self, Extent, Reply};
+use pergidau::resp::{self, Extent, Protocol, Reply};
 use pergidau::{calc, Error, Position, RequiredSize, Span, MAX_DEPTH};
 
 fn invalid(offset: usize) -> Error {
@@ -327,8 +327,10 @@ fn csv_records_of_a_document() {
 
 #[test]
 fn resp_extent_of_pieces() {
-    let rows: [(&[u8], usize); 6] = [
+    let rows: [(&[u8], usize); 8] = [
         (b"+OK\r\n", 5),
+        (b"%1\r\n+a\r\n=5\r\ntxt:\n\r\n,", 19),
+        (b"|1\r\n+a\r\n_\r\n~0\r\n", 15),
         (b"$2\r\n\r\n\r\n+", 8),
         (b"*2\r\n*1\r\n$-1\r\n:7\r\n:8\r\n", 17),
         (b"*0\r\n*", 4),
@@ -337,7 +339,7 @@ fn resp_extent_of_pieces() {
     ];
     for (bytes, whole) in rows {
         for step in 1..=bytes.len() {
-            let mut extent = Extent::new();
+            let mut extent = Extent::new(Protocol::Resp3);
             let mut have = 0;
             let end = loop {
                 have = bytes.len().min(have + step);
@@ -429,37 +431,91 @@ fn http_chunked_of_pieces() {
     assert_eq!(ChunkedError::DataEnd.to_string(), "expected CRLF after chunk data");
 }
 
-#[test]
-fn resp_reply_of_bytes() {
-    let rows: [(&[u8], Reply, &[u8]); 9] = [
-        (b"+OK\r\n", Reply::Simple(b"OK"), b""),
-        (b"-ERR unknown\r\n+", Reply::Error(b"ERR unknown"), b"+"),
-        (b":1000\r\n", Reply::Integer(1000), b""),
-        (b":-9223372036854775808\r\n", Reply::Integer(i64::MIN), b""),
-        (b"$6\r\nfoobar\r\n$", Reply::Bulk(b"foobar"), b"$"),
-        (b"$2\r\n\r\n\r\n", Reply::Bulk(b"\r\n"), b""),
-        (b"$0\r\n\r\n", Reply::Bulk(b""), b""),
-        (b"$-1\r\n", Reply::NullBulk, b""),
-        (b"*-1\r\n", Reply::NullArray, b""),
-    ];
-    for (bytes, want, rest) in rows {
-        assert_eq!(resp::reply(bytes, 0), Ok((want, rest)), "{bytes:?}");
-        for end in 0..bytes.len() - rest.len() {
-            assert_eq!(resp::reply(&bytes[..end], 0), Err(Error::Invalid(None)), "{bytes:?}");
-            assert_eq!(resp::reply_partial(&bytes[..end], 0), Err(Error::Incomplete), "{bytes:?}");
-        }
-        assert_eq!(resp::reply_partial(bytes, 0), Ok((want, rest)), "{bytes:?}");
+/// Replies of both versions of the protocol.
+const REPLIES: [(&[u8], Reply, &[u8]); 9] = [
+    (b"+OK\r\n", Reply::Simple(b"OK"), b""),
+    (b"-ERR unknown\r\n+", Reply::Error(b"ERR unknown"), b"+"),
+    (b":1000\r\n", Reply::Integer(1000), b""),
+    (b":-9223372036854775808\r\n", Reply::Integer(i64::MIN), b""),
+    (b"$6\r\nfoobar\r\n$", Reply::Bulk(b"foobar"), b"$"),
+    (b"$2\r\n\r\n\r\n", Reply::Bulk(b"\r\n"), b""),
+    (b"$0\r\n\r\n", Reply::Bulk(b""), b""),
+    (b"$-1\r\n", Reply::NullBulk, b""),
+    (b"*-1\r\n", Reply::NullArray, b""),
+];
+
+/// Replies of RESP3 only.
+const OF_RESP3: [(&[u8], Reply, &[u8]); 9] = [
+    (b"_\r\n", Reply::Null, b""),
+    (b"#t\r\n#", Reply::Boolean(true), b"#"),
+    (b"#f\r\n", Reply::Boolean(false), b""),
+    (b",-1.5e+3\r\n", Reply::Double(b"-1.5e+3"), b""),
+    (b",inf\r\n", Reply::Double(b"inf"), b""),
+    (b"(-3492890328409238509324850943850943825024385\r\n(",
+     Reply::BigNumber(b"-3492890328409238509324850943850943825024385"), b"("),
+    (b"!21\r\nSYNTAX invalid syntax\r\n", Reply::BulkError(b"SYNTAX invalid syntax"), b""),
+    (b"=15\r\ntxt:Some string\r\n", Reply::Verbatim(b"txt", b"Some string"), b""),
+    (b"=4\r\nmkd:\r\n", Reply::Verbatim(b"mkd", b""), b""),
+];
+
+fn is_reply(protocol: Protocol, bytes: &[u8], want: Reply, rest: &[u8]) {
+    assert_eq!(resp::reply(bytes, protocol, 0), Ok((want, rest)), "{bytes:?}");
+    for end in 0..bytes.len() - rest.len() {
+        let cut = &bytes[..end];
+        assert_eq!(resp::reply(cut, protocol, 0), Err(Error::Invalid(Some(end))), "{bytes:?}");
+        assert_eq!(resp::reply_partial(cut, protocol, 0), Err(Error::Incomplete), "{bytes:?}");
     }
-    for bytes in [&b"x"[..], b":1a\r\n", b"$+1\r\na\r\n", b"$-2\r\n", b"+a\rb", b"$1\r\nab\r\n", b"*0\r\n"] {
-        assert_eq!(resp::reply(bytes, 0), Err(Error::Invalid(None)), "{bytes:?}");
-        assert_eq!(resp::reply_partial(bytes, 0), Err(Error::Invalid(None)), "{bytes:?}");
-    }
-    assert_eq!(resp::reply(b"+\r\n", MAX_DEPTH + 1), Err(Error::MaxDepthTooLarge));
+    assert_eq!(resp::reply_partial(bytes, protocol, 0), Ok((want, rest)), "{bytes:?}");
 }
 
 #[test]
-fn resp_reply_of_arrays() {
-    let (reply, rest) = resp::reply(b"*3\r\n*1\r\n:1\r\n$-1\r\n+a\r\n+b\r\n", 2).unwrap();
+fn resp_reply_of_bytes() {
+    for (bytes, want, rest) in REPLIES {
+        is_reply(Protocol::Resp2, bytes, want, rest);
+        is_reply(Protocol::Resp3, bytes, want, rest);
+    }
+    for (bytes, want, rest) in OF_RESP3 {
+        is_reply(Protocol::Resp3, bytes, want, rest);
+        let invalid = Err(Error::Invalid(Some(0)));
+        assert_eq!(resp::reply_partial(bytes, Protocol::Resp2, 0), invalid, "{bytes:?}");
+    }
+    assert_eq!(resp::reply(b"+\r\n", Protocol::Resp2, MAX_DEPTH + 1), Err(Error::MaxDepthTooLarge));
+}
+
+#[test]
+fn resp_reply_of_invalid_bytes() {
+    let rows: [(&[u8], Error); 13] = [
+        (b"x", Error::Invalid(Some(0))),
+        (b":1a\r\n", Error::Invalid(Some(0))),
+        (b"$+1\r\na\r\n", Error::Invalid(Some(0))),
+        (b"$-2\r\n", Error::Invalid(Some(0))),
+        (b"+a\rb", Error::Invalid(Some(0))),
+        (b"$1\r\nab\r\n", Error::Invalid(Some(4))),
+        (b"=3\r\ntxt\r\n", Error::Invalid(Some(4))),
+        (b"*2\r\n:1\r\n#x\r\n", Error::Invalid(Some(8))),
+        (b":9223372036854775808\r\n", Error::OutOfRange(0)),
+        (b"~2\r\n_\r\n$9223372036854775808\r\n", Error::OutOfRange(7)),
+        (b"%4611686018427387904\r\n", Error::OutOfRange(0)),
+        (b"*2\r\n:1\r\n>1\r\n:1\r\n", Error::TooDeep(8)),
+        (b"*2\r\n%0\r\n", Error::TooDeep(4)),
+    ];
+    for (bytes, want) in rows {
+        assert_eq!(resp::reply(bytes, Protocol::Resp3, 1), Err(want), "{bytes:?}");
+        assert_eq!(resp::reply_partial(bytes, Protocol::Resp3, 1), Err(want), "{bytes:?}");
+        let told = Extent::new(Protocol::Resp3).advance(bytes);
+        match want {
+            Error::TooDeep(_) => assert!(matches!(told, Ok(_)), "{bytes:?}"),
+            _ => assert_eq!(told, Err(want), "{bytes:?}"),
+        }
+    }
+    assert_eq!(Error::OutOfRange(7).to_string(), "number out of range at offset 7");
+    assert_eq!(Error::OutOfRange(7).offset(), Some(7));
+}
+
+#[test]
+fn resp_reply_of_aggregates() {
+    let text = b"*3\r\n*1\r\n:1\r\n$-1\r\n+a\r\n+b\r\n";
+    let (reply, rest) = resp::reply(text, Protocol::Resp2, 2).unwrap();
     let Reply::Array(mut elements) = reply else { panic!("{reply:?}") };
     assert_eq!(rest, b"+b\r\n");
     assert_eq!(elements.len(), 3);
@@ -469,8 +525,20 @@ fn resp_reply_of_arrays() {
     assert_eq!(elements.next(), Some(Ok(Reply::Simple(b"a"))));
     assert_eq!(elements.next(), None);
     let deep = "*1\r\n".repeat(MAX_DEPTH) + ":1\r\n";
-    assert!(resp::reply(deep.as_bytes(), MAX_DEPTH).is_ok());
-    assert_eq!(resp::reply(deep.as_bytes(), MAX_DEPTH - 1), Err(Error::Invalid(None)));
+    assert!(resp::reply(deep.as_bytes(), Protocol::Resp2, MAX_DEPTH).is_ok());
+    let too_deep = resp::reply(deep.as_bytes(), Protocol::Resp2, MAX_DEPTH - 1);
+    assert_eq!(too_deep, Err(Error::TooDeep(4 * (MAX_DEPTH - 1))));
+    // A map of a set, in attributes of a push.
+    let text = b"|1\r\n+a\r\n%1\r\n+b\r\n~1\r\n#t\r\n>2\r\n+c\r\n:1\r\n";
+    let Ok((Reply::Attributed(mut all), b"")) = resp::reply(text, Protocol::Resp3, 3) else { panic!() };
+    assert_eq!((all.len(), all.next()), (3, Some(Ok(Reply::Simple(b"a")))));
+    let Some(Ok(Reply::Map(mut pairs))) = all.next() else { panic!() };
+    assert_eq!((pairs.len(), pairs.next()), (2, Some(Ok(Reply::Simple(b"b")))));
+    let Some(Ok(Reply::Set(mut set))) = pairs.next() else { panic!() };
+    assert_eq!((set.next(), set.next()), (Some(Ok(Reply::Boolean(true))), None));
+    let Some(Ok(Reply::Push(push))) = all.next() else { panic!() };
+    let parts: Result<Vec<_>, _> = push.collect();
+    assert_eq!(parts.unwrap(), [Reply::Simple(b"c"), Reply::Integer(1)]);
 }
 
 #[test]

@@ -1,6 +1,6 @@
 //! Tables of records of comma-separated values and of Redis commands that are written.
 use pergidau::csv::{self, Dialect, LineEnd};
-use pergidau::resp::{self, Reply};
+use pergidau::resp::{self, Protocol, Reply};
 use pergidau::{Bytes, Error, RequiredSize, Span};
 
 /// Fields, a dialect, and the record.
@@ -100,7 +100,8 @@ fn commands_are_written_into_buffers_of_each_size() {
         resp::append_command(parts, &mut out).unwrap();
         assert_eq!(&out[..6], b"before");
         assert_eq!(&out[6..], want.as_bytes());
-        let Ok((Reply::Array(elements), b"")) = resp::reply(&out[6..], 1) else { panic!("{want:?}") };
+        let reply = resp::reply(&out[6..], Protocol::Resp2, 1);
+        let Ok((Reply::Array(elements), b"")) = reply else { panic!("{want:?}") };
         let bulks: Vec<_> = parts.iter().map(|it| Ok(Reply::Bulk(it.as_bytes()))).collect();
         assert_eq!(elements.collect::<Vec<_>>(), bulks);
     }

@@ -1,33 +1,28 @@
--- Lemmas about the parts of replies and their offsets.
+-- Lemmas about the parts of replies and their offsets, and about rejected replies.
 use Rattle.std.proofs.Common.{◌≡◌, ◌∙◌, ◌+◌, ◌-◌, ◌≤◌, ◌++◌, ◌∷◌, [], ℕ, List, Global, ap}
-use Rattle.std.proofs.Common.{append-nil, append_assoc, arith, inl, inr, length, length-append, pos}
-use Rattle.std.proofs.Common.{subst}
-use Rattle.std.proofs.Common.{sym, ℤ}
+use Rattle.std.proofs.Common.{append_assoc, arith, inl, inr, length, pos, length-append, refl}
+use Rattle.std.proofs.Common.{subst, sym}
+use Rattle.std.specs.Prelude.{◌<◌, ◌⊎◌, Err, None, Ok, Some, ⊤}
 use Rattle.std.specs.Borrow.{Bor}
-use Rattle.std.specs.declared.vec.Vec.{Vec}
 use Rattle.winnow.specs.Equal.{same_first, same_others}
-use Rattle.format_resp.proofs.Made.{array_is, bulk_is, error_is, integer_is, null_array_is}
-use Rattle.format_resp.proofs.Made.{null_bulk_is, simple_is}
-use Rattle.format_resp.proofs.PartsStand.{made_of_resp2, stands_as}
-use Rattle.format_resp.specs.Parts.{IsBehindFeed, IsLine, NoFeed, StandsBy}
-use Rattle.format_resp.specs.Resp.{Opened, line_end}
-use Rattle.format_resp.specs.declared.reply.Reply as made
-use Rattle.format_resp.specs.declared.reply.Reply.{out-Reply}
-use Rattle.format_resp.specs.declared.reply.Reply.TheOpen.{Reply-F}
 use Rattle.winnow.specs.InTurn.{First}
-use Rattle.exported.specs.Pieces.{MayFollow}
-use Rattle.exported.specs.Resp.{AreElements, Found, IsReply, IsReplyForGood, IsShown}
-use Rattle.exported.specs.Resp.{HasFields, HasText, IsShownBy, ShowsReply}
-use Rattle.exported.specs.Span.{EndsWith, StandsAt, nowhere}
+use Rattle.format_resp.proofs.AfterLines.{first_any}
+use Rattle.format_resp.proofs.PartsStand.{stands_as}
+use Rattle.format_resp.specs.Bounded.{BoundedResult}
+use Rattle.format_resp.specs.Extents.{IsReplyWithin, MatchesAtStart}
+use Rattle.format_resp.specs.Parts.{HasElements, IsBehindFeed, IsLine, NoFeed, StandsBy}
+use Rattle.format_resp.specs.Resp.{Opened, line_end}
+use Rattle.format_resp.specs.declared.extent.Invalid.{Invalid}
+use Rattle.format_resp.specs.declared.extent.Reason.{Reason}
+use Rattle.format_resp.specs.declared.extent.Reason.TheVariants.{Malformed, TooDeep, TooLarge}
+use Rattle.format_resp.specs.declared.reply.Protocol.{Protocol}
+use Rattle.format_resp.specs.declared.reply.Reply.{out-Reply}
+use Rattle.exported.specs.Resp.{Found, HasFields, HasList, IsIncomplete, IsReply, IsShown}
+use Rattle.exported.specs.Resp.{IsCodeOf, IsShownBy, NoReply, Rejects, ShowsReply, TellsReply}
+use Rattle.exported.specs.Resp.{no_reply}
+use Rattle.exported.specs.Span.{EndsWith, StandsAt}
 use Rattle.exported.specs.declared.resp.Reply.{Reply}
 use Rattle.exported.specs.declared.span.Span.{Span}
-
-pub reply_stands : (level : ℕ) (input : List ℕ) (reply : Found) (rest : List ℕ)
-    → MayFollow input [] → IsReplyForGood level input reply rest → IsReply level input reply rest
-reply_stands level input reply rest none good =
-    let P : List ℕ → Type 0 = λ l. IsReply level l reply (rest ++ []) in
-    let Q : List ℕ → Type 0 = λ l. IsReply level input reply l in
-    subst Q (append-nil rest) (subst P (append-nil input) (good [] none))
 
 -- ---- the bytes after the first line feed
 
@@ -44,20 +39,16 @@ feed_first [] rest behind more b is none e f = same_others (sym e ∙ f)
 feed_first (x ∷ line) rest behind more b is none e f =
     absurd (none.0 (sym (same_first (sym e ∙ f)) ∙ is))
 
--- ---- as the code finds them
-
-pub reply_long : (level : ℕ) (input : List ℕ) (reply : Found) (rest : List ℕ)
-    → IsReply level input reply rest → length rest ≤ length input
-unfolding First
-reply_long level input reply rest (front, is, e) =
-    omega (arith, ap length e, length-append front rest)
-
-pub feed_ends : (input behind left : List ℕ) → IsBehindFeed input behind → left ≡ behind
-    → EndsWith input left
-feed_ends input behind left (line, none, e) is = record {
-  before = line ++ 10 ∷ [];
-  splits = e ∙ ap (λ l. line ++ 10 ∷ l) (sym is) ∙ sym (append_assoc line (10 ∷ []) left);
+-- the rest after one byte more
+pub ends_more : (input rest more : List ℕ) (b : ℕ) → rest ≡ b ∷ more → EndsWith input rest
+    → EndsWith input more
+ends_more input rest more b e ends = record {
+  before = ends.before ++ b ∷ [];
+  splits = ends.splits ∙ ap (λ l. ends.before ++ l) e
+      ∙ sym (append_assoc ends.before (b ∷ []) more);
 }
+
+-- ---- as the code finds them
 
 -- a line after its first byte
 pub line_shown : (input text rest : List ℕ) (place : Span) → IsLine input text rest
@@ -70,113 +61,237 @@ line_shown input text rest place (mark, e) begins ends = record {
   ends = ends;
 }
 
-pub elements_long : (bytes rest left : List ℕ) → left ≡ bytes ++ rest
-    → length rest ≤ length left
-elements_long bytes rest left e =
-    omega (arith, ap length e, length-append bytes rest)
-
 pub elements_count : (bytes rest left : List ℕ) (n : ℕ) → left ≡ bytes ++ rest → length rest ≡ n
     → length bytes ≡ length left - n
 elements_count bytes rest left n e is =
     omega (arith, ap length e, length-append bytes rest, is)
 
-pub reply_told : (begins : List ℕ → Found → List ℕ → Type 0) (level : ℕ) (input : List ℕ)
-    (it : Reply) (reply : Found) (rest : List ℕ) (left : ℕ) → begins input reply rest
-    → length rest ≡ left → IsShown level input rest reply it
-    → it.length + left ≡ length input
-    → ShowsReply begins level input it
-reply_told begins level input it reply rest left is behind shown ends = record {
-  reply = reply;
-  rest = rest;
-  is_reply = is;
-  is_shown = shown;
-  ends = ap (λ n. it.length + n) behind ∙ ends;
-}
+module _ (protocol : Protocol) (level : ℕ) (input : List ℕ) where
+  -- the description of a reply of a kind
+  pub shown_by : (kind : Opened Global) (reply : Found) (rest : List ℕ) (it : Reply)
+      → out-Reply (Bor (List ℕ)) Global reply ≡ kind
+      → (StandsBy protocol level input kind rest → IsShownBy protocol level input rest kind it)
+      → IsReply protocol level input reply rest → IsShown protocol level input rest reply it
+  shown_by kind reply rest it e shows is =
+      let P : Opened Global → Type 0 = λ k. IsShownBy protocol level input rest k it in
+      subst P (sym e) (shows (stands_as protocol level input rest reply kind is e))
 
--- the parts of a reply of each kind
-module _ (level : ℕ) (input : List ℕ) (reply : Found) (rest : List ℕ)
-    (is : IsReply level input reply rest) where
-  opened : (kind : Opened Global) (form : Found) → reply ≡ form
-      → out-Reply (Bor (List ℕ)) Global form ≡ kind → StandsBy level input kind rest
-  opened kind form same form_is =
-      stands_as level input rest reply kind is
-      (ap (out-Reply (Bor (List ℕ)) Global) same ∙ form_is)
+  -- that of elements
+  pub list_shown : (kind left count : ℕ) (elements : List Found) (rest : List ℕ) (it : Reply)
+      → ((bytes rest : List ℕ) → IsBehindFeed input (bytes ++ rest) → length rest ≡ left
+      → HasFields it kind (pos 0) count × StandsAt input it.span bytes rest)
+      → count ≡ length elements → length rest ≡ left
+      → HasElements protocol level input elements rest
+      → HasList protocol level kind input rest elements it
+  list_shown kind left count elements rest it shows same long (inner, deeper, bytes, row, behind) =
+      let (fields, stand) = shows bytes rest behind long in record {
+        fields = record {
+          is_kind = fields.is_kind;
+          is_number = fields.is_number;
+          count = fields.count ∙ same;
+        };
+        inner = inner;
+        deeper = deeper;
+        bytes = bytes;
+        are = row;
+        behind_line = behind;
+        stand = stand;
+      }
 
-  pub simple_stands : (text : Bor (List ℕ)) → reply ≡ made.Simple text
-      → IsLine input text.now rest
-  simple_stands text same = opened (Reply-F.Simple text) (made.Simple text) same (simple_is text)
+  reply_long : (reply : Found) (rest : List ℕ) → IsReply protocol level input reply rest
+      → length rest ≤ length input
+  unfolding First
+  reply_long reply rest (front, is, e) =
+      omega (arith, ap length e, length-append front rest)
 
-  pub error_stands : (text : Bor (List ℕ)) → reply ≡ made.Error text → IsLine input text.now rest
-  error_stands text same = opened (Reply-F.Error text) (made.Error text) same (error_is text)
+  pub reply_told : (it : Reply) (reply : Found) (rest : List ℕ) (left : ℕ)
+      → IsReply protocol level input reply rest → length rest ≡ left
+      → IsShown protocol level input rest reply it
+      → (left ≤ length input → (it.length + left ≡ length input) × (it.error_offset ≡ 0))
+      → ShowsReply protocol level input it
+  unfolding First
+  reply_told it reply rest left is long shown ends =
+      let (whole, none) =
+      ends (omega (arith, reply_long reply rest is, long)) in record {
+        reply = reply;
+        rest = rest;
+        is_reply = λ more.
+            let (front, text, e) = is in
+            (front, text, ap (λ l. l ++ more) e ∙ append_assoc front rest more);
+        is_shown = shown;
+        ends = ap (λ n. it.length + n) long ∙ whole;
+        no_error = none;
+      }
 
-  pub bulk_stands : (text : Bor (List ℕ)) → reply ≡ made.Bulk text
-      → IsBehindFeed input (text.now ++ (line_end ++ rest))
-  bulk_stands text same = opened (Reply-F.Bulk text) (made.Bulk text) same (bulk_is text)
+  -- a reply of this allocator is one of any
+  pub matches_from : (reply : Found) (rest : List ℕ) → IsReply protocol level input reply rest
+      → MatchesAtStart (IsReplyWithin protocol level) input rest
+  unfolding First
+  matches_from reply rest is =
+      let (other, (front, t, e)) = first_any {B = ⊤} tt protocol level reply input rest is in
+      (front, (other, t), e)
 
-  pub array_stands : (list : Vec Found Global) → reply ≡ made.Array list
-      → StandsBy level input (Reply-F.Array list) rest
-  array_stands list same = opened (Reply-F.Array list) (made.Array list) same (array_is list)
+  pub reply_there : Global → (n : ℕ) → BoundedResult protocol level input (Ok (Some n))
+      → NoReply protocol level input → ⊥
+  unfolding First
+  reply_there alloc n (front, rest, e, many, (reply, t)) none =
+      let (other, is) = first_any alloc protocol level reply input rest (front, t, e) in
+      none other rest is
 
-  -- it is of one of the kinds of RESP2
-  pub none_else : ((x : Bor (List ℕ)) → reply ≡ made.Simple x → ⊥)
-      → ((x : Bor (List ℕ)) → reply ≡ made.Error x → ⊥)
-      → ((n : ℤ) → reply ≡ made.Integer n → ⊥)
-      → ((x : Bor (List ℕ)) → reply ≡ made.Bulk x → ⊥) → (reply ≡ made.NullBulk → ⊥)
-      → ((l : Vec Found Global) → reply ≡ made.Array l → ⊥) → (reply ≡ made.NullArray → ⊥) → ⊥
-  none_else simple error integer bulk null array none =
-      elim (made_of_resp2 level input rest reply is) [
-        | inl (x, e) ↦ simple x e
-        | inr (inl (x, e)) ↦ error x e
-        | inr (inr (inl (n, e))) ↦ integer n e
-        | inr (inr (inr (inl (x, e)))) ↦ bulk x e
-        | inr (inr (inr (inr (inl e)))) ↦ null e
-        | inr (inr (inr (inr (inr (inl (l, e)))))) ↦ array l e
-        | inr (inr (inr (inr (inr (inr e))))) ↦ none e
-      ]
+module _ (protocol : Protocol) (level : ℕ) (input : List ℕ) where
+  pub rejects : (invalid : Invalid) → BoundedResult protocol level input (Err invalid)
+      → Rejects protocol level input invalid.reason invalid.offset
+  rejects invalid (never, there) = (
+    λ more reply rest is.
+        never more rest (matches_from protocol level (input ++ more) reply rest is),
+    record {
+      due = there.due;
+      below = there.below;
+      rest = there.rest;
+      leads = there.leads;
+      offset = there.offset;
+      part = there.part;
+    },
+  )
 
--- ---- the result for a reply of each kind
+  pub waits : BoundedResult protocol level input (Ok None) → IsIncomplete protocol level input
+  waits (none, there) = (
+    λ reply rest is. none rest (matches_from protocol level input reply rest is),
+    there,
+  )
 
-module _ (level : ℕ) (input rest : List ℕ) (reply : Found) (it : Reply) where
-  shown_made : (kind : Opened Global) (form : Found) → reply ≡ form
-      → out-Reply (Bor (List ℕ)) Global form ≡ kind → IsShownBy level input rest kind it
-      → IsShown level input rest reply it
-  shown_made kind form same form_is =
-      let P : Opened Global → Type 0 = λ k. IsShownBy level input rest k it in
-      subst P (sym (ap (out-Reply (Bor (List ℕ)) Global) same ∙ form_is))
+-- ---- results by their codes
 
-  pub simple_shown : (text : Bor (List ℕ)) → reply ≡ made.Simple text
-      → HasText 0 input rest text.now it → IsShown level input rest reply it
-  simple_shown text same =
-      shown_made (Reply-F.Simple text) (made.Simple text) same (simple_is text)
+same_reason : (r s : Reason) (code : ℕ) → IsCodeOf r code → IsCodeOf s code → r ≡ s
+same_reason Malformed Malformed code a b = refl
+same_reason TooLarge TooLarge code a b = refl
+same_reason TooDeep TooDeep code a b = refl
+same_reason Malformed TooLarge code a b = absurd (omega (arith, a, b))
+same_reason Malformed TooDeep code a b = absurd (omega (arith, a, b))
+same_reason TooLarge Malformed code a b = absurd (omega (arith, a, b))
+same_reason TooLarge TooDeep code a b = absurd (omega (arith, a, b))
+same_reason TooDeep Malformed code a b = absurd (omega (arith, a, b))
+same_reason TooDeep TooLarge code a b = absurd (omega (arith, a, b))
 
-  pub error_shown : (text : Bor (List ℕ)) → reply ≡ made.Error text
-      → HasText 1 input rest text.now it → IsShown level input rest reply it
-  error_shown text same =
-      shown_made (Reply-F.Error text) (made.Error text) same (error_is text)
+-- the code is one of three
+one_of : (r : Reason) (code : ℕ) → IsCodeOf r code
+    → (code ≡ 1) ⊎ ((code ≡ 12) ⊎ (code ≡ 11))
+one_of Malformed code a = inl a
+one_of TooLarge code a = inr (inl a)
+one_of TooDeep code a = inr (inr a)
 
-  pub integer_shown : (number : ℤ) → reply ≡ made.Integer number → HasFields it 2 number 0
-      → it.span ≡ nowhere → IsShown level input rest reply it
-  integer_shown number same told none =
-      shown_made (Reply-F.Integer number) (made.Integer number) same (integer_is number)
-      (told, none)
+-- and so not another
+not_of : {P : Type 0} (r : Reason) (code : ℕ) → IsCodeOf r code
+    → (code ≡ 0) ⊎ ((code ≡ 2) ⊎ ((code ≡ 3) ⊎ (code ≡ 6))) → P
+not_of r code a other = absurd (by (one_of r code a) other)
+  where
+    by : (code ≡ 1) ⊎ ((code ≡ 12) ⊎ (code ≡ 11))
+        → (code ≡ 0) ⊎ ((code ≡ 2) ⊎ ((code ≡ 3) ⊎ (code ≡ 6))) → ⊥
+    by a (inl b) = elim a [
+      | inl x ↦ omega (arith, x, b)
+      | inr (inl x) ↦ omega (arith, x, b)
+      | inr (inr x) ↦ omega (arith, x, b)
+    ]
+    by a (inr (inl b)) = elim a [
+      | inl x ↦ omega (arith, x, b)
+      | inr (inl x) ↦ omega (arith, x, b)
+      | inr (inr x) ↦ omega (arith, x, b)
+    ]
+    by a (inr (inr (inl b))) = elim a [
+      | inl x ↦ omega (arith, x, b)
+      | inr (inl x) ↦ omega (arith, x, b)
+      | inr (inr x) ↦ omega (arith, x, b)
+    ]
+    by a (inr (inr (inr b))) = elim a [
+      | inl x ↦ omega (arith, x, b)
+      | inr (inl x) ↦ omega (arith, x, b)
+      | inr (inr x) ↦ omega (arith, x, b)
+    ]
 
-  pub bulk_shown : (text : Bor (List ℕ)) → reply ≡ made.Bulk text
-      → HasText 3 input rest text.now it → IsShown level input rest reply it
-  bulk_shown text same =
-      shown_made (Reply-F.Bulk text) (made.Bulk text) same (bulk_is text)
+module _ (protocol : Protocol) (level : ℕ) (input : List ℕ) where
+  pub tells_done : (it : Reply) → level ≤ 512 → ShowsReply protocol level input it
+      → TellsReply protocol level input 0 it
+  tells_done it small shows = record {
+    reply = λ _. shows;
+    rejected = λ reason code. not_of reason 0 code (inl refl);
+    waits = λ code. absurd (omega (arith, code));
+    deep = (λ code. absurd (omega (arith, code)), λ large. absurd (omega (arith, large, small)));
+    none = λ not. absurd (not refl);
+    nowhere = λ code. elim code [
+      | inl x ↦ absurd (omega (arith, x))
+      | inr x ↦ absurd (omega (arith, x))
+    ];
+    codes = inl refl;
+  }
 
-  pub null_bulk_shown : reply ≡ made.NullBulk → HasFields it 4 (pos 0) 0 → it.span ≡ nowhere
-      → IsShown level input rest reply it
-  null_bulk_shown same told none =
-      shown_made Reply-F.NullBulk made.NullBulk same null_bulk_is (told, none)
+  pub tells_rejected : (reason : Reason) (code offset : ℕ) → level ≤ 512 → IsCodeOf reason code
+      → Rejects protocol level input reason offset
+      → TellsReply protocol level input code (no_reply offset)
+  tells_rejected reason code offset small is rejects = record {
+    reply = λ e. not_of reason code is (inl e);
+    rejected = λ other also.
+        subst (λ r. Rejects protocol level input r offset) (same_reason reason other code is also)
+        rejects;
+    waits = λ e. not_of reason code is (inr (inl e));
+    deep = (
+      λ e. not_of reason code is (inr (inr (inr e))),
+      λ large. absurd (omega (arith, large, small)),
+    );
+    none = λ not. refl;
+    nowhere = λ e. elim e [
+      | inl x ↦ not_of reason code is (inr (inr (inr x)))
+      | inr x ↦ not_of reason code is (inr (inr (inl x)))
+    ];
+    codes = elim (one_of reason code is) [
+      | inl x ↦ inr (inl x)
+      | inr (inl x) ↦ inr (inr (inl x))
+      | inr (inr x) ↦ inr (inr (inr (inl x)))
+    ];
+  }
 
-  pub array_shown : (list : Vec Found Global) → reply ≡ made.Array list
-      → HasFields it 5 (pos 0) (length list.items) → AreElements level input rest list.items it
-      → IsShown level input rest reply it
-  array_shown list same told are =
-      shown_made (Reply-F.Array list) (made.Array list) same (array_is list) (told, are)
+  pub tells_waits : level ≤ 512 → IsIncomplete protocol level input
+      → TellsReply protocol level input 2 (no_reply 0)
+  tells_waits small is = record {
+    reply = λ e. absurd (omega (arith, e));
+    rejected = λ reason code. not_of reason 2 code (inr (inl refl));
+    waits = λ e. (is, refl);
+    deep = (λ code. absurd (omega (arith, code)), λ large. absurd (omega (arith, large, small)));
+    none = λ not. refl;
+    nowhere = λ code. refl;
+    codes = inr (inr (inr (inr (inr (inl refl)))));
+  }
 
-  pub null_array_shown : reply ≡ made.NullArray → HasFields it 6 (pos 0) 0 → it.span ≡ nowhere
-      → IsShown level input rest reply it
-  null_array_shown same told none =
-      shown_made Reply-F.NullArray made.NullArray same null_array_is (told, none)
+  pub tells_memory : level ≤ 512 → TellsReply protocol level input 3 (no_reply 0)
+  tells_memory small = record {
+    reply = λ e. absurd (omega (arith, e));
+    rejected = λ reason code. not_of reason 3 code (inr (inr (inl refl)));
+    waits = λ e. absurd (omega (arith, e));
+    deep = (λ code. absurd (omega (arith, code)), λ large. absurd (omega (arith, large, small)));
+    none = λ not. refl;
+    nowhere = λ code. refl;
+    codes = inr (inr (inr (inr (inr (inr refl)))));
+  }
+
+  pub tells_deep : 512 < level → TellsReply protocol level input 6 (no_reply 0)
+  tells_deep large = record {
+    reply = λ e. absurd (omega (arith, e));
+    rejected = λ reason code. not_of reason 6 code (inr (inr (inr refl)));
+    waits = λ e. absurd (omega (arith, e));
+    deep = (λ code. large, λ large. refl);
+    none = λ not. refl;
+    nowhere = λ code. refl;
+    codes = inr (inr (inr (inr (inl refl))));
+  }
+
+-- the codes for complete input
+pub without_wait : (code : ℕ) → (code ≡ 2 → ⊥)
+    → (code ≡ 0) ⊎ ((code ≡ 1) ⊎ ((code ≡ 12) ⊎ ((code ≡ 11) ⊎ ((code ≡ 6)
+    ⊎ ((code ≡ 2) ⊎ (code ≡ 3))))))
+    → (code ≡ 0) ⊎ ((code ≡ 1) ⊎ ((code ≡ 12) ⊎ ((code ≡ 11) ⊎ ((code ≡ 6) ⊎ (code ≡ 3)))))
+without_wait code not (inl a) = inl a
+without_wait code not (inr (inl a)) = inr (inl a)
+without_wait code not (inr (inr (inl a))) = inr (inr (inl a))
+without_wait code not (inr (inr (inr (inl a)))) = inr (inr (inr (inl a)))
+without_wait code not (inr (inr (inr (inr (inl a))))) = inr (inr (inr (inr (inl a))))
+without_wait code not (inr (inr (inr (inr (inr (inl a)))))) = absurd (not a)
+without_wait code not (inr (inr (inr (inr (inr (inr a)))))) = inr (inr (inr (inr (inr a))))

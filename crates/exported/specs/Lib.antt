@@ -20,7 +20,6 @@ pub mod JsonMember
 pub mod JsonStep
 pub mod JsonString
 pub mod Output
-pub mod Pieces
 pub mod Resp
 pub mod Span
 pub mod Toml

@@ -43,6 +43,3 @@ pub fn first_of(input: &[u8], rest: &[u8], count: usize) -> Span
         length: count,
     }
 }
-
-/// The maximum length of partial input: 64 bits can count its bits.
-pub(crate) const MAX_PARTIAL: usize = 2305843009213693951;

@@ -17,7 +17,7 @@ use Rattle.format_resp.specs.declared.marks.LineMark.TheVariants.{Parenthesis, P
 use Rattle.format_resp.specs.declared.marks.Mark.{Mark}
 use Rattle.format_resp.specs.declared.marks.Mark.TheVariants.{Aggregate, Data, Line}
 use Rattle.format_resp.specs.declared.reply.Protocol.{Protocol}
-use Rattle.format_resp.specs.declared.reply.Protocol.TheVariants.{Resp2, Resp3}
+use Rattle.format_resp.specs.declared.reply.Protocol.TheVariants.{Resp3}
 
 -- the mark that a byte is
 mark_at : ℕ → Option Mark
@@ -57,9 +57,6 @@ of_resp3 (Line Colon) = tt
 of_resp3 (Data Dollar) = tt
 of_resp3 (Aggregate Star) = tt
 of_resp3 mark = refl
-
-pub not_resp3 : {P : Type 0} → Resp2 ≡ Resp3 → P
-not_resp3 e = absurd cc
 
 module _ (protocol : Protocol) where
   pub mark_splits : Splits (MarkText protocol)

@@ -1,23 +1,31 @@
 -- Uniqueness of the first line of a reply, and its relation to lines.
-use Rattle.std.specs.Prelude.{◌≡◌, ◌≤◌, ℕ, List, [], ◌∷◌, ◌++◌, length, take, drop}
+use Rattle.std.specs.Prelude.{◌≡◌, ◌≤◌, ◌^◌, ℕ, List, [], ◌∷◌, ◌++◌, length, take, drop}
+use Rattle.std.specs.Prelude.{Option, None, Some}
 use Rattle.std.specs.List.{AllByRecursion}
-use Rattle.std.proofs.Common.{refl, sym, inl, ap, subst, ◌∙◌, append_assoc}
+use Rattle.std.proofs.Common.{refl, sym, inl, ap, arith, subst, ◌∙◌, append_assoc}
 use Rattle.streams.specs.Equal.{same_first, same_others}
 use Rattle.winnow_grammar.specs.InTurn.{First, Led, Splits}
 use Rattle.grammars.specs.Texts.{Text}
 use Rattle.format_resp.proofs.LineEnds.{IsPlain, ended_splits, open_endless, return_ends, until_end}
 use Rattle.format_resp.proofs.FirstBytes.{mark_splits, one_mark}
-use Rattle.format_resp.proofs.LineTexts.{one_size, signed_plain, size_plain}
-use Rattle.format_resp.specs.Heads.{HeadText, IsLinePrefix, Says, array_head, bulk_head}
+use Rattle.format_resp.proofs.LineTexts.{line_plain, one_size, size_plain}
+use Rattle.format_resp.specs.Heads.{HasNumber, HeadText, IsAggregateHead, IsDataHead, IsLinePrefix}
+use Rattle.format_resp.specs.Heads.{HasNumberLine, IsNoLine, IsReason, IsRejectedLine, IsWhy, Says}
 use Rattle.format_resp.specs.Lines.{EndsLine, IsOpen}
-use Rattle.format_resp.specs.Resp.{Ended, InLine, IsIn, MarkText, byte_of, line_end}
+use Rattle.format_resp.specs.Numbers.{AreDigits, SizeLine}
+use Rattle.format_resp.specs.Resp.{Ended, InLine, IsIn, MarkText, byte_of, line_end, many}
+use Rattle.format_resp.specs.declared.extent.Reason.{Reason}
+use Rattle.format_resp.specs.declared.extent.Reason.TheVariants.{Malformed, TooDeep, TooLarge}
 use Rattle.format_resp.specs.declared.heads.Head.{Head}
+use Rattle.format_resp.specs.declared.marks.AggregateMark.{AggregateMark}
 use Rattle.format_resp.specs.declared.marks.AggregateMark.TheVariants.{Star}
+use Rattle.format_resp.specs.declared.marks.DataMark.{DataMark}
 use Rattle.format_resp.specs.declared.marks.DataMark.TheVariants.{Dollar}
-use Rattle.format_resp.specs.declared.marks.LineMark.TheVariants.{Colon, Minus, Plus}
+use Rattle.format_resp.specs.declared.marks.LineMark.{LineMark}
+use Rattle.format_resp.specs.declared.marks.LineMark.TheVariants.{Colon}
 use Rattle.format_resp.specs.declared.marks.Mark.{Mark}
 use Rattle.format_resp.specs.declared.marks.Mark.TheVariants.{Aggregate, Data, Line}
-use Rattle.format_resp.specs.declared.reply.Protocol.TheVariants.{Resp2}
+use Rattle.format_resp.specs.declared.reply.Protocol.{Protocol}
 
 -- ---- texts at the start of the same tokens
 
@@ -35,143 +43,238 @@ splits_led {X} first behind a b = record {
 
 says_all : (mark : Mark) (head : Head) (line : List ℕ) → Says mark head line
     → AllByRecursion InLine line
-says_all (Line Plus) head line (is, all) = all
-says_all (Line Minus) head line (is, all) = all
-says_all (Line Colon) head line (is, (n, a)) = signed_plain n line a
-says_all (Data Dollar) head line (size, is, a) = size_plain.plain size line a
-says_all (Aggregate Star) head line (size, is, a) = size_plain.plain size line a
-says_all mark head line never = absurd never
+says_all (Line mark) head line (is, (reply, a)) = (line_plain mark).plain reply line a
+says_all (Data mark) head line (size, a, is) = size_plain.plain size line a
+says_all (Aggregate mark) head line (size, a, is) = size_plain.plain size line a
 
 says_plain : (mark : Mark) → IsPlain (Says mark)
 says_plain mark = record { plain = says_all mark }
 
+one_data : (mark : DataMark) (size : Option ℕ) (head other : Head) → IsDataHead mark size head
+    → IsDataHead mark size other → head ≡ other
+one_data mark (Some n) head other is are = is ∙ sym are
+one_data Dollar None head other is are = is ∙ sym are
+one_data mark None head other never are = absurd never
+
+one_aggregate : (mark : AggregateMark) (size : Option ℕ) (head other : Head)
+    → IsAggregateHead mark size head → IsAggregateHead mark size other → head ≡ other
+one_aggregate mark (Some n) head other (is, small) (are, less) = is ∙ sym are
+one_aggregate Star None head other is are = is ∙ sym are
+one_aggregate mark None head other never are = absurd never
+
 says_one : (mark : Mark) (head other : Head) (line : List ℕ) → Says mark head line
     → Says mark other line → head ≡ other
-says_one (Line Plus) head other line (is, a) (are, b) = is ∙ sym are
-says_one (Line Minus) head other line (is, a) (are, b) = is ∙ sym are
-says_one (Line Colon) head other line (is, a) (are, b) = is ∙ sym are
-says_one (Data Dollar) head other line (m, is, a) (n, are, b) =
-    is ∙ ap bulk_head (one_size m n line a b) ∙ sym are
-says_one (Aggregate Star) head other line (m, is, a) (n, are, b) =
-    is ∙ ap array_head (one_size m n line a b) ∙ sym are
-says_one mark head other line never b = absurd never
+says_one (Line mark) head other line (is, a) (are, b) = is ∙ sym are
+says_one (Data mark) head other line (m, a, is) (n, b, are) =
+    let P : Option ℕ → Type 0 = λ s. IsDataHead mark s other in
+    one_data mark m head other is (subst P (sym (one_size m n line a b)) are)
+says_one (Aggregate mark) head other line (m, a, is) (n, b, are) =
+    let P : Option ℕ → Type 0 = λ s. IsAggregateHead mark s other in
+    one_aggregate mark m head other is (subst P (sym (one_size m n line a b)) are)
 
-pub head_splits : Splits HeadText
-head_splits = splits_led (MarkText Resp2) (λ mark. Ended (Says mark)) (mark_splits Resp2)
-    (λ mark. ended_splits (Says mark) (says_plain mark) (says_one mark))
+-- ---- lines that are rejected
 
--- ---- what a first line is
+pub no_number : (mark : LineMark) (line : List ℕ) → (mark ≡ Colon → ⊥) → HasNumber (Line mark) line
+    → ⊥
+no_number Colon line other number = other refl
+no_number mark line other number = number
 
-pub start_stands : (mark : Mark) (head : Head) (byte : ℕ) (tokens text line left : List ℕ)
-    → IsIn Resp2 mark → byte ≡ byte_of mark → tokens ≡ byte ∷ text → EndsLine text line left
-    → Says mark head line → First HeadText tokens head left
-unfolding First Led MarkText Ended
-start_stands mark head byte tokens text line left within is split (all, e) says = (
-  byte_of mark ∷ (line ++ line_end),
-  (
-    mark,
-    byte_of mark ∷ [],
-    line ++ line_end,
-    (within, refl),
-    (line, says, refl),
-    refl,
-  ),
-  split ∙ ap (λ b. b ∷ text) is
-      ∙ ap (λ l. byte_of mark ∷ l) (e ∙ sym (append_assoc line line_end left)),
+-- the size of null
+null_number : (line : List ℕ) → line ≡ 45 ∷ 49 ∷ [] → AreDigits line → ⊥
+null_number line e (all, some) =
+    let P : List ℕ → Type 0 = λ l. AreDigits l in
+    let a = subst P e (all, some) in omega (arith, a.0.0.0)
+
+-- it is that of a bulk string and of an array only
+pub no_null_data : (mark : DataMark) (line : List ℕ) → line ≡ 45 ∷ 49 ∷ [] → (mark ≡ Dollar → ⊥)
+    → IsRejectedLine (Data mark) line Malformed
+no_null_data mark line e other = (
+  λ head (size, a, is). none mark size head (one_size size None line a e) is other,
+  null_number line e,
+)
+  where
+    none : (mark : DataMark) (size : Option ℕ) (head : Head) → size ≡ None
+        → IsDataHead mark size head → (mark ≡ Dollar → ⊥) → ⊥
+    none Dollar size head same is other = other refl
+    none mark size head same is other =
+        let P : Option ℕ → Type 0 = λ s. IsDataHead mark s head in subst P same is
+
+pub no_null_aggregate : (mark : AggregateMark) (line : List ℕ) → line ≡ 45 ∷ 49 ∷ []
+    → (mark ≡ Star → ⊥) → IsRejectedLine (Aggregate mark) line Malformed
+no_null_aggregate mark line e other = (
+  λ head (size, a, is). none mark size head (one_size size None line a e) is other,
+  null_number line e,
+)
+  where
+    none : (mark : AggregateMark) (size : Option ℕ) (head : Head) → size ≡ None
+        → IsAggregateHead mark size head → (mark ≡ Star → ⊥) → ⊥
+    none Star size head same is other = other refl
+    none mark size head same is other =
+        let P : Option ℕ → Type 0 = λ s. IsAggregateHead mark s head in subst P same is
+
+-- an aggregate of too many replies
+pub too_many : (mark : AggregateMark) (n : ℕ) (line : List ℕ) → SizeLine (Some n) line
+    → 2 ^ 63 ≤ many mark n → IsRejectedLine (Aggregate mark) line TooLarge
+too_many mark n line (digits, small) large = (
+  λ head (size, a, is).
+      let P : Option ℕ → Type 0 = λ s. IsAggregateHead mark s head in
+      omega (arith, (subst P (one_size size (Some n) line a (digits, small)) is).1, large),
+  digits.0,
 )
 
-start_line : (head : Head) (byte : ℕ) (text rest : List ℕ)
-    → First HeadText (byte ∷ text) head rest
-    → (mark : Mark) × (line : List ℕ) × IsIn Resp2 mark × (byte ≡ byte_of mark)
-    × EndsLine text line rest × Says mark head line
-unfolding First Led MarkText Ended
-start_line head byte text rest (front, (mark, xs, ys, (within, is), (line, says, f), d), e) =
-    let split : byte ∷ text ≡ byte_of mark ∷ (ys ++ rest) =
-    e ∙ ap (λ l. l ++ rest) (d ∙ ap (λ l. l ++ ys) is) in (
+module _ (protocol : Protocol) where
+  pub head_splits : Splits (HeadText protocol)
+  head_splits = splits_led (MarkText protocol) (λ mark. Ended (Says mark)) (mark_splits protocol)
+      (λ mark. ended_splits (Says mark) (says_plain mark) (says_one mark))
+
+  -- ---- what a first line is
+
+  pub start_stands : (mark : Mark) (head : Head) (byte : ℕ) (tokens text line left : List ℕ)
+      → IsIn protocol mark → byte ≡ byte_of mark → tokens ≡ byte ∷ text → EndsLine text line left
+      → Says mark head line → First (HeadText protocol) tokens head left
+  unfolding First Led MarkText Ended
+  start_stands mark head byte tokens text line left within is split (all, e) says = (
+    byte_of mark ∷ (line ++ line_end),
+    (
       mark,
-      line,
-      within,
-      same_first split,
-      (
-        says_all mark head line says,
-        same_others split ∙ ap (λ l. l ++ rest) f ∙ append_assoc line line_end rest,
-      ),
-      says,
+      byte_of mark ∷ [],
+      line ++ line_end,
+      (within, refl),
+      (line, says, refl),
+      refl,
+    ),
+    split ∙ ap (λ b. b ∷ text) is
+        ∙ ap (λ l. byte_of mark ∷ l) (e ∙ sym (append_assoc line line_end left)),
+  )
+
+  start_line : (head : Head) (byte : ℕ) (text rest : List ℕ)
+      → First (HeadText protocol) (byte ∷ text) head rest
+      → (mark : Mark) × (line : List ℕ) × IsIn protocol mark × (byte ≡ byte_of mark)
+      × EndsLine text line rest × Says mark head line
+  unfolding First Led MarkText Ended
+  start_line head byte text rest (front, (mark, xs, ys, (within, is), (line, says, f), d), e) =
+      let split : byte ∷ text ≡ byte_of mark ∷ (ys ++ rest) =
+      e ∙ ap (λ l. l ++ rest) (d ∙ ap (λ l. l ++ ys) is) in (
+        mark,
+        line,
+        within,
+        same_first split,
+        (
+          says_all mark head line says,
+          same_others split ∙ ap (λ l. l ++ rest) f ∙ append_assoc line line_end rest,
+        ),
+        says,
+      )
+
+  -- no first line in no bytes
+  start_none : (head : Head) (rest : List ℕ) → First (HeadText protocol) [] head rest → ⊥
+  unfolding First Led MarkText
+  start_none head rest (front, (mark, xs, ys, (within, is), says, d), e) =
+      let split : [] ≡ byte_of mark ∷ (ys ++ rest) =
+      e ∙ ap (λ l. l ++ rest) (d ∙ ap (λ l. l ++ ys) is) in
+      cc
+
+  -- none where it is not ended
+  pub begun_none : (tokens : List ℕ) → IsLinePrefix protocol tokens → (head : Head)
+      (rest : List ℕ) → First (HeadText protocol) tokens head rest → ⊥
+  begun_none [] b head rest x = start_none head rest x
+  begun_none (byte ∷ text) b head rest x =
+      let (mark, line, within, is, ends, says) = start_line head byte text rest x in
+      open_endless text b.begun line rest ends
+
+  nil_cons : (b : ℕ) (t : List ℕ) → [] ≡ b ∷ t → ⊥
+  nil_cons b t e = cc
+
+  pub none_begun : (tokens : List ℕ) → tokens ≡ [] → IsLinePrefix protocol tokens
+  none_begun tokens e = record {
+    marked = λ b t d. absurd (nil_cons b t (sym e ∙ d));
+    begun = ([], tt, inl (ap (λ l. drop 1 l) e));
+  }
+
+  module _ (tokens text : List ℕ) (byte : ℕ) (split : tokens ≡ byte ∷ text) where
+    number_line : (more : List ℕ) → HasNumberLine protocol (tokens ++ more)
+        → HasNumberLine protocol (byte ∷ (text ++ more))
+    number_line more = subst (λ l. HasNumberLine protocol (l ++ more)) split
+
+    -- none where no reply begins
+    pub start_unmarked : ((mark : Mark) → IsIn protocol mark → byte ≡ byte_of mark → ⊥)
+        → IsNoLine protocol tokens Malformed
+    start_unmarked none = record {
+      never = λ more head rest x.
+          let (mark, line, within, is, ends, says) =
+          start_line head byte (text ++ more) rest (rw split at x) in
+          none mark within is;
+      why = λ more x.
+          let (mark, line, rest, within, is, ends, number) = number_line more x in
+          none mark within is;
+    }
+
+    -- none where none will be
+    pub start_never : ((more line rest : List ℕ) → EndsLine (text ++ more) line rest → ⊥)
+        → IsNoLine protocol tokens Malformed
+    start_never none = record {
+      never = λ more head rest x.
+          let (mark, line, within, is, ends, says) =
+          start_line head byte (text ++ more) rest (rw split at x) in
+          none more line rest ends;
+      why = λ more x.
+          let (mark, line, rest, within, is, ends, number) = number_line more x in
+          none more line rest ends;
+    }
+
+    module _ (line left : List ℕ) (mark : Mark) (within : IsIn protocol mark)
+        (is : byte ≡ byte_of mark) (ends : EndsLine text line left) where
+      -- the same line with the same mark
+      same_line : (other : Mark) (back more rest : List ℕ) → byte ≡ byte_of other
+          → EndsLine (text ++ more) back rest → (other ≡ mark) × (back ≡ line)
+      same_line other back more rest are (every, f) = (
+        one_mark other mark (sym are ∙ is),
+        sym (until_end 13 13 line back (10 ∷ left ++ more) (10 ∷ rest) ends.0 every return_ends
+            return_ends (sym (append_assoc line (13 ∷ 10 ∷ left) more)
+            ∙ ap (λ l. l ++ more) (sym ends.1) ∙ f)).0,
+      )
+
+      why_silent : (reason : Reason) → IsReason (HasNumber mark line) reason
+          → IsWhy protocol tokens reason
+      why_silent Malformed none = λ more x.
+          let (other, back, rest, inside, are, begins, number) = number_line more x in
+          let (same, lines) = same_line other back more rest are begins in
+          let P : Mark → Type 0 = λ m. HasNumber m back in
+          let Q : List ℕ → Type 0 = λ l. HasNumber mark l in
+          none (subst Q lines (subst P same number))
+      why_silent TooLarge number = subst (λ l. HasNumberLine protocol l) (sym split)
+          (mark, line, left, within, is, ends, number)
+      why_silent TooDeep never = absurd never
+
+      -- no head starts here if its line is invalid
+      pub start_silent : (reason : Reason) → IsRejectedLine mark line reason
+          → IsNoLine protocol tokens reason
+      start_silent reason (none, why) = record {
+        never = λ more head rest x.
+            let (other, back, inside, are, begins, says) =
+            start_line head byte (text ++ more) rest (rw split at x) in
+            let (same, lines) = same_line other back more rest are begins in
+            let P : Mark → Type 0 = λ m. Says m head back in
+            let Q : List ℕ → Type 0 = λ l. Says mark head l in
+            none head (subst Q lines (subst P same says));
+        why = why_silent reason why;
+      }
+
+    -- ---- what is sought after the first byte
+
+    pub sought_text : (n : ℕ) → AllByRecursion InLine (take n (drop 1 tokens))
+        → AllByRecursion InLine (take n text)
+    sought_text n all = rw split at all
+
+    pub text_sought : (n : ℕ) (mark : Mark) → IsIn protocol mark → byte ≡ byte_of mark
+        → (n ≤ length text) × AllByRecursion InLine (take n text) × IsOpen text
+        → (n ≤ length (drop 1 tokens)) × AllByRecursion InLine (take n (drop 1 tokens))
+        × IsLinePrefix protocol tokens
+    text_sought n mark within is (enough, all, begun) = rw split (
+      enough,
+      all,
+      record {
+        marked = λ b t d. (mark, within, sym (same_first d) ∙ is);
+        begun = begun;
+      },
     )
-
--- no first line in no bytes
-start_none : (head : Head) (rest : List ℕ) → First HeadText [] head rest → ⊥
-unfolding First Led MarkText
-start_none head rest (front, (mark, xs, ys, (within, is), says, d), e) =
-    let split : [] ≡ byte_of mark ∷ (ys ++ rest) =
-    e ∙ ap (λ l. l ++ rest) (d ∙ ap (λ l. l ++ ys) is) in
-    cc
-
--- none where it is not ended
-pub begun_none : (tokens : List ℕ) → IsLinePrefix tokens → (head : Head) (rest : List ℕ)
-    → First HeadText tokens head rest → ⊥
-begun_none [] b head rest x = start_none head rest x
-begun_none (byte ∷ text) b head rest x =
-    let (mark, line, within, is, ends, says) = start_line head byte text rest x in
-    open_endless text b.begun line rest ends
-
-nil_cons : (b : ℕ) (t : List ℕ) → [] ≡ b ∷ t → ⊥
-nil_cons b t e = cc
-
-pub none_begun : (tokens : List ℕ) → tokens ≡ [] → IsLinePrefix tokens
-none_begun tokens e = record {
-  marked = λ b t d. absurd (nil_cons b t (sym e ∙ d));
-  begun = ([], tt, inl (ap (λ l. drop 1 l) e));
-}
-
--- none where no reply begins
-pub start_unmarked : (tokens text : List ℕ) (byte : ℕ) → tokens ≡ byte ∷ text
-    → ((mark : Mark) → IsIn Resp2 mark → byte ≡ byte_of mark → ⊥) → (more : List ℕ)
-    (head : Head) (rest : List ℕ) → First HeadText (tokens ++ more) head rest → ⊥
-start_unmarked tokens text byte split none more head rest x =
-    let (mark, line, within, is, ends, says) =
-    start_line head byte (text ++ more) rest (rw split at x) in
-    none mark within is
-
--- none where none will be
-pub start_never : (tokens text : List ℕ) (byte : ℕ) → tokens ≡ byte ∷ text
-    → ((more line rest : List ℕ) → EndsLine (text ++ more) line rest → ⊥) → (more : List ℕ)
-    (head : Head) (rest : List ℕ) → First HeadText (tokens ++ more) head rest → ⊥
-start_never tokens text byte split none more head rest x =
-    let (mark, line, within, is, ends, says) =
-    start_line head byte (text ++ more) rest (rw split at x) in
-    none more line rest ends
-
--- no head starts here if its line is invalid
-pub start_silent : (tokens text line left : List ℕ) (byte : ℕ) (mark : Mark)
-    → tokens ≡ byte ∷ text → byte ≡ byte_of mark → EndsLine text line left
-    → ((head : Head) → Says mark head line → ⊥) → (more : List ℕ) (head : Head)
-    (rest : List ℕ) → First HeadText (tokens ++ more) head rest → ⊥
-start_silent tokens text line left byte mark split is (all, e) none more head rest x =
-    let (other, back, within, are, (every, f), says) =
-    start_line head byte (text ++ more) rest (rw split at x) in
-    let (same, first, rests) = until_end 13 13 line back (10 ∷ left ++ more) (10 ∷ rest) all every
-    return_ends return_ends (sym (append_assoc line (13 ∷ 10 ∷ left) more)
-    ∙ ap (λ l. l ++ more) (sym e) ∙ f) in
-    none head (subst (λ m. Says m head line) (one_mark other mark (sym are ∙ is))
-    (subst (Says other head) (sym same) says))
-
--- ---- what is sought after the first byte
-
-pub sought_text : (tokens text : List ℕ) (byte n : ℕ) → tokens ≡ byte ∷ text
-    → AllByRecursion InLine (take n (drop 1 tokens)) → AllByRecursion InLine (take n text)
-sought_text tokens text byte n e all = rw e at all
-
-pub text_sought : (tokens text : List ℕ) (byte n : ℕ) (mark : Mark) → tokens ≡ byte ∷ text
-    → IsIn Resp2 mark → byte ≡ byte_of mark
-    → (n ≤ length text) × AllByRecursion InLine (take n text) × IsOpen text
-    → (n ≤ length (drop 1 tokens)) × AllByRecursion InLine (take n (drop 1 tokens))
-    × IsLinePrefix tokens
-text_sought tokens text byte n mark e within is (enough, all, begun) = rw e (
-  enough,
-  all,
-  record {
-    marked = λ b t d. (mark, within, sym (same_first d) ∙ is);
-    begun = begun;
-  },
-)

@@ -1,3 +1,4 @@
+pub mod AfterLines
 pub mod AlikeReplies
 pub mod Bodies
 pub mod Dues
@@ -13,5 +14,7 @@ pub mod PartsStand
 pub mod Passing
 pub mod ReadBack
 pub mod Refusals
+pub mod Strings
+pub mod Within
 pub mod Writing
 pub mod WrittenTexts

@@ -1,24 +1,31 @@
--- Proofs that the parts of a RESP2 reply are at the positions that its definition gives.
-use Rattle.std.specs.Prelude.{◌≡◌, ◌⊎◌, ℕ, ℤ, List, [], ◌∷◌, ◌++◌, Option, None, Some, zero, suc}
+-- Proofs that the parts of a reply are at the positions that its definition gives.
+use Rattle.std.specs.Prelude.{◌≡◌, ℕ, List, [], ◌∷◌, ◌++◌, Option, None, Some, zero, suc}
 use Rattle.std.specs.Borrow.{Bor}
 use Rattle.std.specs.List.{AllByRecursion}
 use Rattle.std.specs.declared.vec.Vec.{Vec}
-use Rattle.std.proofs.Common.{◌∙◌, ap, append_assoc, arith, inl, inr, refl, subst, sym}
+use Rattle.std.proofs.Common.{◌∙◌, ap, append_assoc, arith, refl, subst, sym}
 use Rattle.winnow_grammar.specs.InTurn.{First, Led}
-use Rattle.grammars.specs.Texts.{CountedText, EachText}
-use Rattle.format_resp.proofs.FirstBytes.{not_resp3}
+use Rattle.grammars.specs.Texts.{CountedText}
 use Rattle.format_resp.proofs.LineTexts.{size_plain}
-use Rattle.format_resp.proofs.Made.{kind_of, array_is, bulk_is, error_is, integer_is, null_array_is}
-use Rattle.format_resp.proofs.Made.{null_bulk_is, simple_is}
-use Rattle.format_resp.specs.Parts.{IsBehindFeed, IsLine, IsReplyAt, NoFeed, StandsBy}
-use Rattle.format_resp.specs.Resp.{AggregateBehind, DataBehind, DataText, Elements, Ended, InLine}
-use Rattle.format_resp.specs.Resp.{MarkText, Opened, Replies, ReplyText, Shown, SizeText, line_end}
-use Rattle.format_resp.specs.declared.marks.AggregateMark.TheVariants.{Star}
-use Rattle.format_resp.specs.declared.marks.DataMark.TheVariants.{Dollar}
-use Rattle.format_resp.specs.declared.marks.LineMark.TheVariants.{Colon, Minus, Plus}
+use Rattle.format_resp.proofs.Made.{array_is, attributed_is, big_number_is, boolean_is}
+use Rattle.format_resp.proofs.Made.{bulk_error_is, bulk_is, double_is, error_is, integer_is}
+use Rattle.format_resp.proofs.Made.{kind_of, map_is, null_array_is, null_bulk_is, null_is, push_is}
+use Rattle.format_resp.proofs.Made.{set_is, simple_is, verbatim_is}
+use Rattle.format_resp.specs.Parts.{HasElements, IsBehindFeed, IsLine, IsReplyAt, NoFeed, StandsBy}
+use Rattle.format_resp.specs.Resp.{AggregateBehind, Body, DataBehind, DataSays, DataText, Elements}
+use Rattle.format_resp.specs.Resp.{Ended, InLine, LineSays, MarkText, Opened, Replies, ReplyText}
+use Rattle.format_resp.specs.Resp.{Shown, SizeText, byte_of, gathered, line_end}
+use Rattle.format_resp.specs.declared.marks.AggregateMark.{AggregateMark}
+use Rattle.format_resp.specs.declared.marks.AggregateMark.TheVariants.{Bar, Greater, Percent, Star}
+use Rattle.format_resp.specs.declared.marks.AggregateMark.TheVariants.{Tilde}
+use Rattle.format_resp.specs.declared.marks.DataMark.{DataMark}
+use Rattle.format_resp.specs.declared.marks.DataMark.TheVariants.{Dollar, Equals, Exclamation}
+use Rattle.format_resp.specs.declared.marks.LineMark.{LineMark}
+use Rattle.format_resp.specs.declared.marks.LineMark.TheVariants.{Colon, Comma, Hash, Minus}
+use Rattle.format_resp.specs.declared.marks.LineMark.TheVariants.{Parenthesis, Plus, Underscore}
+use Rattle.format_resp.specs.declared.marks.Mark.{Mark}
 use Rattle.format_resp.specs.declared.marks.Mark.TheVariants.{Aggregate, Data, Line}
-use Rattle.format_resp.specs.declared.reply.Protocol.TheVariants.{Resp2}
-use Rattle.format_resp.specs.declared.reply.Reply as made
+use Rattle.format_resp.specs.declared.reply.Protocol.{Protocol}
 use Rattle.format_resp.specs.declared.reply.Reply.{out-Reply}
 use Rattle.format_resp.specs.declared.reply.Reply.TheOpen.{Reply-F}
 
@@ -62,110 +69,115 @@ bulk_ended {input} xs rest e shows = subst (IsBehindFeed input)
 
 -- ---- by what the reply is
 
-elements_row : {A : Type 0} (level : ℕ) (all : List (Replies A)) (bytes : List ℕ)
-    → Elements Resp2 level all bytes
-    → (inner : ℕ) × (level ≡ suc inner) × EachText (ReplyText Resp2 inner) all bytes
-unfolding Elements
-elements_row zero all bytes never = absurd never
-elements_row (suc inner) all bytes row = (inner, refl, row)
+no_feed : (mark : Mark) → byte_of mark ≡ 10 → ⊥
+no_feed (Line Plus) e = omega (arith, e)
+no_feed (Data Dollar) e = omega (arith, e)
+no_feed (Aggregate Star) e = omega (arith, e)
+no_feed mark e = omega (arith, e)
 
-line_stands : (input rest : List ℕ) (mark : ℕ) (front first others xs : List ℕ)
-    (text : Bor (List ℕ)) → first ≡ mark ∷ [] → others ≡ xs ++ line_end
-    → Shown (AllByRecursion InLine) text xs → front ≡ first ++ others → input ≡ front ++ rest
-    → IsLine input text.now rest
-unfolding Shown
-line_stands input rest mark front first others xs text m e (all, shows) f g = (
-  mark,
-  lead others rest m f g ∙ ap (λ l. mark ∷ l) (ended xs rest e
-      ∙ ap (λ l. l ++ (line_end ++ rest)) (sym shows)),
-)
+module _ {A : Type 0} (protocol : Protocol) (level : ℕ) (input rest : List ℕ) where
+  elements_row : (level : ℕ) (all : List (Replies A)) (bytes : List ℕ)
+      → Elements protocol level all bytes → IsBehindFeed input (bytes ++ rest)
+      → HasElements protocol level input all rest
+  unfolding Elements
+  elements_row zero all bytes never behind = absurd never
+  elements_row (suc inner) all bytes row behind = (inner, refl, bytes, row, behind)
 
--- one of the kinds of RESP2
-abbrev pub IsMadeOfResp2 : {A : Type 0} → Replies A → Type 0
-IsMadeOfResp2 {A} reply =
-    ((x : Bor (List ℕ)) × (reply ≡ made.Simple x))
-    ⊎ (((x : Bor (List ℕ)) × (reply ≡ made.Error x))
-    ⊎ (((n : ℤ) × (reply ≡ made.Integer n)) ⊎ (((x : Bor (List ℕ)) × (reply ≡ made.Bulk x))
-    ⊎ ((reply ≡ made.NullBulk) ⊎ (((l : Vec (Replies A) A) × (reply ≡ made.Array l))
-    ⊎ (reply ≡ made.NullArray))))))
-
-module _ {A : Type 0} (level : ℕ) (input rest : List ℕ) where
   -- the contents of a reply of this form
   stands_made : (kind : Opened A) {reply form : Replies A} → reply ≡ form
-      → kind_of form ≡ kind → StandsBy level input kind rest
-      → IsReplyAt level input reply rest
+      → kind_of form ≡ kind → StandsBy protocol level input kind rest
+      → IsReplyAt protocol level input reply rest
   stands_made kind same is =
-      subst (λ k. StandsBy level input k rest) (sym (ap kind_of same ∙ is))
+      subst (λ k. StandsBy protocol level input k rest) (sym (ap kind_of same ∙ is))
 
-  abbrev Stands : Replies A → Type 0
-  Stands reply = IsMadeOfResp2 reply × IsReplyAt level input reply rest
+  line_stands : (mark : LineMark) (reply : Replies A) (line : List ℕ) → LineSays mark reply line
+      → ((text : Bor (List ℕ)) → text.now ≡ line → IsLine input text.now rest)
+      → IsReplyAt protocol level input reply rest
+  unfolding Shown
+  line_stands Plus reply line (text, same, (all, shows)) at =
+      stands_made (Reply-F.Simple text) same (simple_is text) (at text shows)
+  line_stands Minus reply line (text, same, (all, shows)) at =
+      stands_made (Reply-F.Error text) same (error_is text) (at text shows)
+  line_stands Colon reply line (n, same, is) at =
+      stands_made (Reply-F.Integer n) same (integer_is n) tt
+  line_stands Underscore reply line (same, is) at = stands_made Reply-F.Null same null_is tt
+  line_stands Hash reply line (b, same, is) at =
+      stands_made (Reply-F.Boolean b) same (boolean_is b) tt
+  line_stands Comma reply line (text, same, (all, shows)) at =
+      stands_made (Reply-F.Double text) same (double_is text) (at text shows)
+  line_stands Parenthesis reply line (text, same, (all, shows)) at =
+      stands_made (Reply-F.BigNumber text) same (big_number_is text) (at text shows)
 
-  bulk_stands : (reply : Replies A) (size : Option ℕ) (front first others us vs : List ℕ)
-      → first ≡ 36 ∷ [] → SizeText size us → DataBehind Dollar size reply vs → others ≡ us ++ vs
-      → front ≡ first ++ others → input ≡ front ++ rest → Stands reply
-  unfolding SizeText DataText Ended CountedText Shown
-  bulk_stands reply None front first others us vs m s (same, none) f g h =
-      (inr (inr (inr (inr (inl same)))), stands_made Reply-F.NullBulk same null_bulk_is tt)
-  bulk_stands reply (Some k) front first others us vs m (xs, size, e)
-      (bytes, (text, same, (any, shown)), (ds, (many, shows), d)) f g h = (
-        inr (inr (inr (inl (text, same)))),
-        stands_made (Reply-F.Bulk text) same (bulk_is text) (bulk_ended ds rest d (shown ∙ shows)
-            (behind_size xs vs rest (λ z. omega (arith, z)) (size_plain.plain (Some k) xs size) e f
-            (lead others rest m g h))),
-      )
+  string_stands : (mark : DataMark) (reply : Replies A) (bytes : List ℕ)
+      → DataSays mark reply bytes → ((text : Bor (List ℕ)) → text.now ≡ bytes
+      → IsBehindFeed input (text.now ++ (line_end ++ rest)))
+      → IsReplyAt protocol level input reply rest
+  unfolding Shown
+  string_stands Dollar reply bytes (text, same, (all, shows)) at =
+      stands_made (Reply-F.Bulk text) same (bulk_is text) (at text shows)
+  string_stands Exclamation reply bytes (text, same, (all, shows)) at =
+      stands_made (Reply-F.BulkError text) same (bulk_error_is text) (at text shows)
+  string_stands Equals reply bytes (text, same, (all, shows)) at =
+      stands_made (Reply-F.Verbatim text) same (verbatim_is text) (at text shows)
 
-  array_stands : (reply : Replies A) (size : Option ℕ) (front first others us vs : List ℕ)
-      → first ≡ 42 ∷ [] → SizeText size us
-      → AggregateBehind (Elements Resp2 level) Star size reply vs → others ≡ us ++ vs
-      → front ≡ first ++ others → input ≡ front ++ rest → Stands reply
-  unfolding SizeText Ended
-  array_stands reply None front first others us vs m s (same, none) f g h =
-      (inr (inr (inr (inr (inr (inr same))))), stands_made Reply-F.NullArray same null_array_is tt)
-  array_stands reply (Some k) front first others us vs m (xs, size, e) (list, same, (many, are)) f
-      g h =
-      let (inner, deeper, row) = elements_row level list.items vs are in (
-        inr (inr (inr (inr (inr (inl (list, same)))))),
-        stands_made (Reply-F.Array list) same (array_is list) (
-          inner,
-          deeper,
-          vs,
-          row,
-          behind_size xs vs rest (λ z. omega (arith, z)) (size_plain.plain (Some k) xs size) e f
-              (lead others rest m g h),
-        ),
-      )
+  list_stands : (mark : AggregateMark) (reply : Replies A) (list : Vec (Replies A) A)
+      → reply ≡ gathered mark list → HasElements protocol level input list.items rest
+      → IsReplyAt protocol level input reply rest
+  list_stands Star reply list same =
+      stands_made (Reply-F.Array list) same (array_is list)
+  list_stands Percent reply list same = stands_made (Reply-F.Map list) same (map_is list)
+  list_stands Tilde reply list same = stands_made (Reply-F.Set list) same (set_is list)
+  list_stands Greater reply list same = stands_made (Reply-F.Push list) same (push_is list)
+  list_stands Bar reply list same =
+      stands_made (Reply-F.Attributed list) same (attributed_is list)
 
-  parts_stand : (reply : Replies A) → First (ReplyText Resp2 level) input reply rest
-      → Stands reply
-  unfolding First Led MarkText Ended
-  parts_stand reply (front, (Line Plus, us, vs, (in2, m), (xs, (text, same, line), e), f), g) = (
-    inl (text, same),
-    stands_made (Reply-F.Simple text) same (simple_is text)
-        (line_stands input rest 43 front us vs xs text m e line f g),
-  )
-  parts_stand reply (front, (Line Minus, us, vs, (in2, m), (xs, (text, same, line), e), f), g) = (
-    inr (inl (text, same)),
-    stands_made (Reply-F.Error text) same (error_is text)
-        (line_stands input rest 45 front us vs xs text m e line f g),
-  )
-  parts_stand reply (front, (Line Colon, us, vs, (in2, m), (xs, (number, same, is), e), f), g) = (
-    inr (inr (inl (number, same))),
-    stands_made (Reply-F.Integer number) same (integer_is number) tt,
-  )
-  parts_stand reply (front, (Data Dollar, us, vs, (in2, m), (size, ss, bs, s, b, e), f), g) =
-      bulk_stands reply size front us vs ss bs m s b e f g
-  parts_stand reply (front, (Aggregate Star, us, vs, (in2, m), (size, ss, bs, s, b, e), f), g) =
-      array_stands reply size front us vs ss bs m s b e f g
-  parts_stand reply (front, (mark, us, vs, (in2, m), x, f), g) = not_resp3 in2
+  data_stands : (mark : DataMark) (reply : Replies A) (size : Option ℕ) (vs : List ℕ)
+      → DataBehind mark size reply vs → IsBehindFeed input (vs ++ rest)
+      → IsReplyAt protocol level input reply rest
+  unfolding DataText Ended CountedText
+  data_stands mark reply (Some k) vs (bytes, says, (ds, (many, shows), d)) behind =
+      string_stands mark reply bytes.now says
+      (λ text same. bulk_ended ds rest d (same ∙ shows) behind)
+  data_stands Dollar reply None vs (same, none) behind =
+      stands_made Reply-F.NullBulk same null_bulk_is tt
+  data_stands mark reply None vs never behind = absurd never
 
-  pub made_of_resp2 : (reply : Replies A) → First (ReplyText Resp2 level) input reply rest
-      → IsMadeOfResp2 reply
-  made_of_resp2 reply is = (parts_stand reply is).0
+  aggregate_stands : (mark : AggregateMark) (reply : Replies A) (size : Option ℕ) (vs : List ℕ)
+      → AggregateBehind (Elements protocol level) mark size reply vs
+      → IsBehindFeed input (vs ++ rest) → IsReplyAt protocol level input reply rest
+  aggregate_stands mark reply (Some k) vs (list, same, (many, are)) behind =
+      list_stands mark reply list same (elements_row level list.items vs are behind)
+  aggregate_stands Star reply None vs (same, none) behind =
+      stands_made Reply-F.NullArray same null_array_is tt
+  aggregate_stands mark reply None vs never behind = absurd never
+
+  body_stands : (mark : Mark) (reply : Replies A) (others : List ℕ)
+      → Body (Elements protocol level) mark reply others
+      → input ≡ byte_of mark ∷ (others ++ rest) → IsReplyAt protocol level input reply rest
+  unfolding Led SizeText Ended
+  body_stands (Line mark) reply others (xs, says, e) f =
+      line_stands mark reply xs says (λ text shows. (
+        byte_of (Line mark),
+        f ∙ ap (λ l. byte_of (Line mark) ∷ l) (ended xs rest e
+            ∙ ap (λ l. l ++ (line_end ++ rest)) (sym shows)),
+      ))
+  body_stands (Data mark) reply others (size, us, vs, (xs, is, e), b, d) f =
+      data_stands mark reply size vs b
+      (behind_size xs vs rest (no_feed (Data mark)) (size_plain.plain size xs is) e d f)
+  body_stands (Aggregate mark) reply others (size, us, vs, (xs, is, e), b, d) f =
+      aggregate_stands mark reply size vs b
+      (behind_size xs vs rest (no_feed (Aggregate mark)) (size_plain.plain size xs is) e d f)
+
+  parts_stand : (reply : Replies A) → First (ReplyText protocol level) input reply rest
+      → IsReplyAt protocol level input reply rest
+  unfolding First Led MarkText
+  parts_stand reply (front, (mark, us, vs, (within, m), x, f), g) =
+      body_stands mark reply vs x (lead vs rest m f g)
 
 -- the contents, if the kind of the reply is known
-pub stands_as : {A : Type 0} (level : ℕ) (input rest : List ℕ) (reply : Replies A)
-    (kind : Opened A)
-    → First (ReplyText Resp2 level) input reply rest → out-Reply (Bor (List ℕ)) A reply ≡ kind
-    → StandsBy level input kind rest
-stands_as {A} level input rest reply kind is same =
-    subst (λ k. StandsBy level input k rest) same (parts_stand level input rest reply is).1
+pub stands_as : {A : Type 0} (protocol : Protocol) (level : ℕ) (input rest : List ℕ)
+    (reply : Replies A) (kind : Opened A) → First (ReplyText protocol level) input reply rest
+    → out-Reply (Bor (List ℕ)) A reply ≡ kind → StandsBy protocol level input kind rest
+stands_as {A} protocol level input rest reply kind is same =
+    subst (λ k. StandsBy protocol level input k rest) same
+    (parts_stand protocol level input rest reply is)

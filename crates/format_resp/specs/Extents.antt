@@ -1,23 +1,32 @@
--- The scanner for the end of a RESP2 reply: the bytes passed, and the continuation expected after
--- them.
-use Rattle.std.specs.Prelude.{◌≡◌, ◌≤◌, ◌+◌, ◌*◌, ◌^◌, ◌<◌, ◌↔◌, ⊤, ℕ, zero, suc, List}
-use Rattle.std.specs.Prelude.{[], ◌∷◌}
-use Rattle.std.specs.Prelude.{◌++◌, length, take, drop, Option, Some, None, Result, Ok, Err}
+-- The scanner for the end of a reply: the bytes passed, and the continuation expected after them.
+use Rattle.std.specs.Prelude.{◌≡◌, ◌≤◌, ◌+◌, ◌*◌, ◌^◌, ◌<◌, ◌↔◌, ⊤, Bool, true, false, ℕ}
+use Rattle.std.specs.Prelude.{zero, suc}
+use Rattle.std.specs.Prelude.{List, [], ◌∷◌, ◌++◌, length, take, drop, Option, Some, None}
+use Rattle.std.specs.Prelude.{Result, Ok, Err}
 use Rattle.std.specs.Borrow.{Bor}
 use Rattle.std.specs.List.{AllByRecursion}
 use Rattle.winnow_grammar.specs.InTurn.{First}
-use Rattle.format_resp.specs.Heads.{IsLinePrefix}
-use Rattle.format_resp.specs.Resp.{DataText, InLine, Replies, ReplyText, line_end}
+use Rattle.grammars.specs.Texts.{Text}
+use Rattle.format_resp.specs.Heads.{IsLinePrefix, IsNoLine}
+use Rattle.format_resp.specs.Resp.{DataText, InLine, IsVerbatim, Replies, ReplyText, line_end}
+use Rattle.format_resp.specs.declared.extent.Bulk.{Bulk}
 use Rattle.format_resp.specs.declared.extent.Extent.{Extent}
 use Rattle.format_resp.specs.declared.extent.Invalid.{Invalid}
+use Rattle.format_resp.specs.declared.extent.Reason.{Reason}
+use Rattle.format_resp.specs.declared.extent.Reason.TheVariants.{Malformed}
 use Rattle.format_resp.specs.declared.heads.Head.{Head}
 use Rattle.format_resp.specs.declared.heads.Head.TheVariants as heads
-use Rattle.format_resp.specs.declared.reply.Protocol.TheVariants.{Resp2}
+use Rattle.format_resp.specs.declared.reply.Protocol.{Protocol}
 
--- `IsReply tokens`: all of the bytes are a reply, with arrays nested to some depth. The allocator
--- of its elements does not matter.
-abbrev pub IsReply : List ℕ → Type 0
-IsReply tokens = (level : ℕ) × (reply : Replies ⊤) × ReplyText Resp2 level reply tokens
+-- All of the bytes are a reply, with aggregates nested at most `level` deep. The allocator of its
+-- elements does not matter.
+abbrev pub IsReplyWithin : Protocol → ℕ → List ℕ → Type 0
+IsReplyWithin protocol level tokens =
+    (reply : Replies ⊤) × ReplyText protocol level reply tokens
+
+-- `IsReply protocol tokens`: they are one, with aggregates nested to some depth.
+abbrev pub IsReply : Protocol → List ℕ → Type 0
+IsReply protocol tokens = (level : ℕ) × IsReplyWithin protocol level tokens
 
 -- `MatchesAtStart these tokens rest`: `tokens` starts with bytes that satisfy `these`, followed by
 -- `rest`.
@@ -25,114 +34,154 @@ abbrev pub MatchesAtStart : (List ℕ → Type 0) → List ℕ → List ℕ → 
 MatchesAtStart these tokens rest = (front : List ℕ) × these front × (tokens ≡ front ++ rest)
 
 -- `n` consecutive replies
-abbrev pub AreReplies : ℕ → List ℕ → Type 0
-AreReplies zero tokens = tokens ≡ []
-AreReplies (suc n) tokens =
-    (xs : List ℕ) × (ys : List ℕ) × IsReply xs × AreReplies n ys × (tokens ≡ xs ++ ys)
+abbrev pub AreReplies : Protocol → ℕ → List ℕ → Type 0
+AreReplies protocol zero tokens = tokens ≡ []
+AreReplies protocol (suc n) tokens =
+    (xs : List ℕ) × (ys : List ℕ) × IsReply protocol xs × AreReplies protocol n ys
+    × (tokens ≡ xs ++ ys)
 
--- The data of a bulk string, if its size was passed, followed by `n` replies.
-abbrev pub AreDue : Option ℕ → ℕ → List ℕ → Type 0
-AreDue None n tokens = AreReplies n tokens
-AreDue (Some size) n tokens =
-    (bulk : Bor (List ℕ)) × (xs : List ℕ) × (ys : List ℕ) × DataText size bulk xs
-    × AreReplies n ys × (tokens ≡ xs ++ ys)
+-- bytes of a string: those of a verbatim string have a format
+abbrev pub Fits : Bool → List ℕ → Type 0
+Fits true bytes = IsVerbatim bytes
+Fits false bytes = ⊤
+
+-- the data of a string and a line ending
+abbrev pub StringText : Bulk → Text ℕ (Bor (List ℕ))
+StringText bulk bytes tokens = Fits bulk.verbatim bytes.now × DataText bulk.size bytes tokens
+
+-- The data of a string, if its size was passed, followed by `n` replies.
+abbrev pub AreDue : Protocol → Option Bulk → ℕ → List ℕ → Type 0
+AreDue protocol None n tokens = AreReplies protocol n tokens
+AreDue protocol (Some bulk) n tokens =
+    (bytes : Bor (List ℕ)) × (xs : List ℕ) × (ys : List ℕ) × StringText bulk bytes xs
+    × AreReplies protocol n ys × (tokens ≡ xs ++ ys)
 
 -- The extent has passed a prefix of `tokens`, and `rest` remains. For any continuation of the
 -- prefix, the whole starts with a reply if and only if the continuation starts with the expected
 -- bytes, with the same rest.
-pub record Passed (extent : Extent) (tokens rest : List ℕ) : Type 0 where
+pub record Passed (protocol : Protocol) (extent : Extent) (tokens rest : List ℕ) : Type 0 where
   pub front : List ℕ
   pub split : tokens ≡ front ++ rest
   pub count : length front ≡ extent.passed
   pub leads : (xs left : List ℕ)
-      → MatchesAtStart IsReply (front ++ xs) left
-      ↔ MatchesAtStart (AreDue extent.bulk extent.replies) xs left
+      → MatchesAtStart (IsReply protocol) (front ++ xs) left
+      ↔ MatchesAtStart (AreDue protocol extent.bulk extent.replies) xs left
   pub few : extent.replies ≤ 2 ^ 64 * extent.passed + 1
   -- the first `sought` bytes after the next one have no byte of a line ending
   pub within : extent.sought ≤ length (drop 1 rest)
   pub plain : AllByRecursion InLine (take extent.sought (drop 1 rest))
 
 -- The extent is of these bytes, or of some that they begin with.
-abbrev pub IsOf : Extent → List ℕ → Type 0
-IsOf extent tokens = (rest : List ℕ) × Passed extent tokens rest
+abbrev pub IsOf : Protocol → Extent → List ℕ → Type 0
+IsOf protocol extent tokens = (rest : List ℕ) × Passed protocol extent tokens rest
+
+-- The bytes are a proper prefix of a string's data of `size` bytes.
+pub record IsPartOfData (size : ℕ) (tokens : List ℕ) : Type 0 where
+  pub bytes : Bor (List ℕ)
+  pub more : List ℕ
+  pub some : 0 < length more
+  pub made : First (DataText size) (tokens ++ more) bytes []
+
+-- no continuation starts with the data of the string
+abbrev pub IsNoString : Bulk → List ℕ → Type 0
+IsNoString bulk tokens =
+    (more : List ℕ) (bytes : Bor (List ℕ)) (left : List ℕ)
+    → First (StringText bulk) (tokens ++ more) bytes left → ⊥
+
+-- The expected part is rejected: a first line, or the data of a string, which is malformed.
+abbrev pub IsRejectedPart : Protocol → Option Bulk → List ℕ → Reason → Type 0
+IsRejectedPart protocol None rest reason = IsNoLine protocol rest reason
+IsRejectedPart protocol (Some bulk) rest reason = (reason ≡ Malformed) × IsNoString bulk rest
+
+-- The bytes before the offset lead to the part that is rejected there.
+pub record IsRejected (protocol : Protocol) (tokens : List ℕ) (invalid : Invalid) : Type 0 where
+  pub extent : Extent
+  pub rest : List ℕ
+  pub here : Passed protocol extent tokens rest
+  pub offset : invalid.offset ≡ extent.passed
+  pub part : IsRejectedPart protocol extent.bulk rest invalid.reason
 
 -- The contract of a scan: the length of a reply at the start, whose rest is the only one for any
 -- continuation; or `None`, if the bytes do not start with a reply; or an error, if no continuation
 -- does.
-abbrev pub ReplyResult : List ℕ → Result (Option ℕ) Invalid → Type 0
-ReplyResult tokens (Ok (Some n)) =
+abbrev pub ReplyResult : Protocol → List ℕ → Result (Option ℕ) Invalid → Type 0
+ReplyResult protocol tokens (Ok (Some n)) =
     (front : List ℕ) × (rest : List ℕ) × (tokens ≡ front ++ rest) × (length front ≡ n)
-    × IsReply front × ((more left : List ℕ) → MatchesAtStart IsReply (tokens ++ more) left
+    × IsReply protocol front
+    × ((more left : List ℕ) → MatchesAtStart (IsReply protocol) (tokens ++ more) left
     → left ≡ rest ++ more)
-ReplyResult tokens (Ok None) = (left : List ℕ) → MatchesAtStart IsReply tokens left → ⊥
-ReplyResult tokens (Err refused) =
-    (more left : List ℕ) → MatchesAtStart IsReply (tokens ++ more) left → ⊥
+ReplyResult protocol tokens (Ok None) =
+    (left : List ℕ) → MatchesAtStart (IsReply protocol) tokens left → ⊥
+ReplyResult protocol tokens (Err invalid) =
+    ((more left : List ℕ) → MatchesAtStart (IsReply protocol) (tokens ++ more) left → ⊥)
+    × IsRejected protocol tokens invalid
 
--- The bytes are a proper prefix of a bulk string's data of `size` bytes.
-pub record IsPartOfData (size : ℕ) (tokens : List ℕ) : Type 0 where
-  pub bulk : Bor (List ℕ)
-  pub more : List ℕ
-  pub some : 0 < length more
-  pub made : First (DataText size) (tokens ++ more) bulk []
+-- The missing bytes after the passed ones: the end of a line, or bytes of a string.
+abbrev pub Wants : Protocol → Option Bulk → List ℕ → Type 0
+Wants protocol None rest = IsLinePrefix protocol rest
+Wants protocol (Some bulk) rest = IsPartOfData bulk.size rest
 
--- The missing bytes after the passed ones: the end of a line, or bytes of a bulk string.
-abbrev pub Wants : Option ℕ → List ℕ → Type 0
-Wants None rest = IsLinePrefix rest
-Wants (Some size) rest = IsPartOfData size rest
-
--- If the result is `None`, the rest of the bytes is an incomplete line or an incomplete bulk
--- string.
-abbrev pub IsWanting : Extent → List ℕ → Option ℕ → Type 0
-IsWanting extent tokens None =
-    (rest : List ℕ) × Passed extent tokens rest × Wants extent.bulk rest
-IsWanting extent tokens (Some n) = ⊤
+-- If the result is `None`, the rest of the bytes is an incomplete line or an incomplete string.
+abbrev pub IsWanting : Protocol → Extent → List ℕ → Option ℕ → Type 0
+IsWanting protocol extent tokens None =
+    (rest : List ℕ) × Passed protocol extent tokens rest × Wants protocol extent.bulk rest
+IsWanting protocol extent tokens (Some n) = ⊤
 
 -- ---- one step
 
 -- the continuation after a first line that is followed by `n` other replies
-abbrev pub data_after : Head → Option ℕ
+abbrev pub data_after : Head → Option Bulk
 data_after heads.Ends = None
-data_after (heads.Data k) = Some k
+data_after (heads.Data bulk) = Some bulk
 data_after (heads.Replies k) = None
 
 abbrev pub count_after : Head → ℕ → ℕ
 count_after heads.Ends n = n
-count_after (heads.Data k) n = n
+count_after (heads.Data bulk) n = n
 count_after (heads.Replies k) n = n + k
 
--- the rest after the next part, `None` if it is incomplete, or an error
+-- the rest after the next part, `None` if it is incomplete, or why it is rejected
 abbrev pub PartFound : Type 0
-PartFound = Result (Option (Bor (List ℕ))) Invalid
+PartFound = Result (Option (Bor (List ℕ))) Reason
 
 -- The bytes start with a line ending, or are a proper prefix of one, or no continuation starts with
 -- one.
 abbrev pub IsLineEnd : List ℕ → PartFound → Type 0
 IsLineEnd tokens (Ok (Some left)) = tokens ≡ line_end ++ left.now
 IsLineEnd tokens (Ok None) = (x : ℕ) × (more : List ℕ) × (line_end ≡ tokens ++ (x ∷ more))
-IsLineEnd tokens (Err refused) = (more left : List ℕ) → tokens ++ more ≡ line_end ++ left → ⊥
+IsLineEnd tokens (Err reason) =
+    (reason ≡ Malformed) × ((more left : List ℕ) → tokens ++ more ≡ line_end ++ left → ⊥)
 
--- The bytes start with the data of a bulk string and a line ending, or are a proper prefix of
--- these, or no continuation starts with these.
-abbrev pub IsDataEnd : ℕ → List ℕ → PartFound → Type 0
-IsDataEnd size tokens (Ok (Some left)) =
-    (bulk : Bor (List ℕ)) × First (DataText size) tokens bulk left.now
+-- The bytes start with data and a line ending, or are a proper prefix of these, or no continuation
+-- starts with these.
+abbrev pub IsDataEnd : ℕ → List ℕ → Result (Option (Bor (List ℕ) × Bor (List ℕ))) Reason → Type 0
+IsDataEnd size tokens (Ok (Some (bytes, left))) = First (DataText size) tokens bytes left.now
 IsDataEnd size tokens (Ok None) = IsPartOfData size tokens
-IsDataEnd size tokens (Err refused) =
-    (more : List ℕ) (bulk : Bor (List ℕ)) (left : List ℕ)
-    → First (DataText size) (tokens ++ more) bulk left → ⊥
+IsDataEnd size tokens (Err reason) =
+    (reason ≡ Malformed) × ((more : List ℕ) (bytes : Bor (List ℕ)) (left : List ℕ)
+    → First (DataText size) (tokens ++ more) bytes left → ⊥)
+
+-- The same for the data of a string.
+abbrev pub IsStringEnd : Bulk → List ℕ → PartFound → Type 0
+IsStringEnd bulk tokens (Ok (Some left)) =
+    (bytes : Bor (List ℕ)) × First (StringText bulk) tokens bytes left.now
+IsStringEnd bulk tokens (Ok None) = IsPartOfData bulk.size tokens
+IsStringEnd bulk tokens (Err reason) = (reason ≡ Malformed) × IsNoString bulk tokens
 
 -- The rest after a part is shorter than `n` bytes.
-abbrev pub IsLessPart : ℕ → PartFound → Type 0
+abbrev pub IsLessPart : {E : Type 0} → ℕ → Result (Option (Bor (List ℕ))) E → Type 0
 IsLessPart n (Ok (Some left)) = length left.now < n
 IsLessPart n (Ok None) = ⊤
-IsLessPart n (Err refused) = ⊤
+IsLessPart n (Err reason) = ⊤
 
 -- One more part is passed; or it is incomplete, and the bytes do not start with a reply; or no
 -- continuation does.
-abbrev pub IsPart : Extent → List ℕ → List ℕ → PartFound → Type 0
-IsPart extent tokens rest (Ok (Some left)) = Passed extent tokens left.now
-IsPart extent tokens rest (Ok None) =
-    Passed extent tokens rest × ((left : List ℕ) → MatchesAtStart IsReply tokens left → ⊥)
-    × Wants extent.bulk rest
-IsPart extent tokens rest (Err refused) =
-    (more left : List ℕ) → MatchesAtStart IsReply (tokens ++ more) left → ⊥
+abbrev pub IsPart : Protocol → Extent → List ℕ → List ℕ → Result (Option (Bor (List ℕ))) Invalid
+    → Type 0
+IsPart protocol extent tokens rest (Ok (Some left)) = Passed protocol extent tokens left.now
+IsPart protocol extent tokens rest (Ok None) =
+    Passed protocol extent tokens rest
+    × ((left : List ℕ) → MatchesAtStart (IsReply protocol) tokens left → ⊥)
+    × Wants protocol extent.bulk rest
+IsPart protocol extent tokens rest (Err invalid) =
+    ReplyResult protocol tokens (Err invalid)

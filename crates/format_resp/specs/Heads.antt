@@ -1,63 +1,116 @@
--- The first lines of RESP2 replies, and their information about the bytes after them.
-use Rattle.std.specs.Prelude.{◌≡◌, ◌≤◌, ◌<◌, ⊤, ℕ, ℤ, List, ◌∷◌, ◌++◌, length, take, drop, Option}
-use Rattle.std.specs.Prelude.{None, Some}
+-- The first lines of replies, and their information about the bytes after them.
+use Rattle.std.specs.Prelude.{◌≡◌, ◌≤◌, ◌<◌, ◌^◌, ⊤, Bool, true, false, ℕ, List, [], ◌∷◌, ◌++◌}
+use Rattle.std.specs.Prelude.{length, take, drop, Option, None, Some}
 use Rattle.std.specs.List.{AllByRecursion}
 use Rattle.winnow_grammar.specs.InTurn.{First, Led}
 use Rattle.grammars.specs.Texts.{Text}
-use Rattle.format_resp.specs.Lines.{IsOpen}
-use Rattle.format_resp.specs.Numbers.{SignedText, SizeLine}
-use Rattle.format_resp.specs.Resp.{Ended, For, InLine, IsIn, MarkText, byte_of}
+use Rattle.format_resp.specs.Lines.{EndsLine, IsOpen}
+use Rattle.format_resp.specs.Numbers.{AreDigits, IsBigNumber, SizeLine}
+use Rattle.format_resp.specs.Resp.{Ended, InLine, IsIn, LineSays, MarkText, byte_of, many}
+use Rattle.format_resp.specs.Resp as resp
+use Rattle.format_resp.specs.declared.extent.Reason.{Reason}
+use Rattle.format_resp.specs.declared.extent.Reason.TheVariants.{Malformed, TooDeep, TooLarge}
 use Rattle.format_resp.specs.declared.heads.Head.{Head}
 use Rattle.format_resp.specs.declared.heads.Head.TheVariants.{Data, Ends, Replies}
 use Rattle.format_resp.specs.declared.heads.Start.{Start}
 use Rattle.format_resp.specs.declared.heads.Start.TheVariants.{Never, Open, Whole}
+use Rattle.format_resp.specs.declared.marks.AggregateMark.{AggregateMark}
 use Rattle.format_resp.specs.declared.marks.AggregateMark.TheVariants.{Star}
-use Rattle.format_resp.specs.declared.marks.DataMark.TheVariants.{Dollar}
-use Rattle.format_resp.specs.declared.marks.LineMark.TheVariants.{Colon, Minus, Plus}
+use Rattle.format_resp.specs.declared.marks.DataMark.{DataMark}
+use Rattle.format_resp.specs.declared.marks.DataMark.TheVariants.{Dollar, Equals}
+use Rattle.format_resp.specs.declared.marks.LineMark.TheVariants.{Colon}
 use Rattle.format_resp.specs.declared.marks.Mark.{Mark}
 use Rattle.format_resp.specs.declared.marks.Mark.TheVariants as marks
-use Rattle.format_resp.specs.declared.reply.Protocol.TheVariants.{Resp2}
+use Rattle.format_resp.specs.declared.reply.Protocol.{Protocol}
 
--- after the size of a bulk string its bytes are, and after that of an array its elements
-abbrev pub bulk_head : Option ℕ → Head
-bulk_head None = Ends
-bulk_head (Some n) = Data n
+-- whether the data start with a format: those of a verbatim string
+abbrev pub formatted : DataMark → Bool
+formatted Equals = true
+formatted mark = false
 
-abbrev pub array_head : Option ℕ → Head
-array_head None = Ends
-array_head (Some n) = Replies n
+-- after the size of a string its bytes are; that of a bulk string may be that of null
+abbrev pub IsDataHead : DataMark → Option ℕ → Head → Type 0
+IsDataHead mark (Some n) head = head ≡ Data (record { size = n; verbatim = formatted mark })
+IsDataHead Dollar None head = head ≡ Ends
+IsDataHead mark None head = ⊥
 
--- the line after the first byte of a RESP2 reply, by its meaning
+-- after that of an aggregate its replies are, fewer than 2 ^ 63; that of an array may be that of
+-- null
+abbrev pub IsAggregateHead : AggregateMark → Option ℕ → Head → Type 0
+IsAggregateHead mark (Some n) head = (head ≡ Replies (many mark n)) × (many mark n < 2 ^ 63)
+IsAggregateHead Star None head = head ≡ Ends
+IsAggregateHead mark None head = ⊥
+
+-- the line after the first byte of a reply, by its meaning
 abbrev pub Says : Mark → Text ℕ Head
-Says (marks.Line Plus) head line = (head ≡ Ends) × AllByRecursion InLine line
-Says (marks.Line Minus) head line = (head ≡ Ends) × AllByRecursion InLine line
-Says (marks.Line Colon) head line = (head ≡ Ends) × ((n : ℤ) × SignedText n line)
-Says (marks.Data Dollar) head line = For bulk_head SizeLine head line
-Says (marks.Aggregate Star) head line = For array_head SizeLine head line
-Says mark head line = ⊥
+Says (marks.Line mark) head line =
+    (head ≡ Ends) × ((reply : resp.Replies ⊤) × LineSays mark reply line)
+Says (marks.Data mark) head line =
+    (size : Option ℕ) × SizeLine size line × IsDataHead mark size head
+Says (marks.Aggregate mark) head line =
+    (size : Option ℕ) × SizeLine size line × IsAggregateHead mark size head
 
 -- the first line of a reply, by its meaning
-abbrev pub HeadText : Text ℕ Head
-HeadText = Led (MarkText Resp2) (λ mark. Ended (Says mark))
+abbrev pub HeadText : Protocol → Text ℕ Head
+HeadText protocol = Led (MarkText protocol) (λ mark. Ended (Says mark))
+
+-- ---- lines that are rejected
+
+-- the line has the digits of an integer or of a size, however large
+abbrev pub HasNumber : Mark → List ℕ → Type 0
+HasNumber (marks.Line Colon) line = IsBigNumber line
+HasNumber (marks.Line mark) line = ⊥
+HasNumber mark line = AreDigits line
+
+-- too large if it has a number, and malformed otherwise
+abbrev pub IsReason : Type 0 → Reason → Type 0
+IsReason number TooLarge = number
+IsReason number Malformed = number → ⊥
+IsReason number TooDeep = ⊥
+
+-- why a line after a first byte is rejected
+abbrev pub IsRejectedLine : Mark → List ℕ → Reason → Type 0
+IsRejectedLine mark line reason =
+    ((head : Head) → Says mark head line → ⊥) × IsReason (HasNumber mark line) reason
+
+-- the tokens start with a line of the protocol that has a number
+abbrev pub HasNumberLine : Protocol → List ℕ → Type 0
+HasNumberLine protocol [] = ⊥
+HasNumberLine protocol (byte ∷ text) =
+    (mark : Mark) × (line : List ℕ) × (rest : List ℕ) × IsIn protocol mark
+    × (byte ≡ byte_of mark) × EndsLine text line rest × HasNumber mark line
+
+-- No continuation starts with the first line of a reply. The reason is that the line has a number,
+-- which is too large; or that it has none, for any continuation.
+abbrev pub IsWhy : Protocol → List ℕ → Reason → Type 0
+IsWhy protocol tokens TooLarge = HasNumberLine protocol tokens
+IsWhy protocol tokens Malformed = (more : List ℕ) → HasNumberLine protocol (tokens ++ more) → ⊥
+IsWhy protocol tokens TooDeep = ⊥
+
+pub record IsNoLine (protocol : Protocol) (tokens : List ℕ) (reason : Reason) : Type 0 where
+  pub never : (more : List ℕ) (head : Head) (rest : List ℕ)
+      → First (HeadText protocol) (tokens ++ more) head rest → ⊥
+  pub why : IsWhy protocol tokens reason
+
+-- ---- the search for a first line
 
 -- The tokens are a first line without its end.
-pub record IsLinePrefix (tokens : List ℕ) : Type 0 where
+pub record IsLinePrefix (protocol : Protocol) (tokens : List ℕ) : Type 0 where
   pub marked : (byte : ℕ) (text : List ℕ) → tokens ≡ byte ∷ text
-      → (mark : Mark) × IsIn Resp2 mark × (byte ≡ byte_of mark)
+      → (mark : Mark) × IsIn protocol mark × (byte ≡ byte_of mark)
   pub begun : IsOpen (drop 1 tokens)
 
 -- The contract of a first line: a complete line; or `Open n`, if it is incomplete and `n` bytes
 -- after the first have no byte of a line ending; or `Never`, if no continuation starts with one.
-abbrev pub IsStart : List ℕ → Start → Type 0
-IsStart tokens (Whole head left) = First HeadText tokens head left.now
-IsStart tokens (Open n) =
+abbrev pub IsStart : Protocol → List ℕ → Start → Type 0
+IsStart protocol tokens (Whole head left) = First (HeadText protocol) tokens head left.now
+IsStart protocol tokens (Open n) =
     (n ≤ length (drop 1 tokens)) × AllByRecursion InLine (take n (drop 1 tokens))
-    × IsLinePrefix tokens
-IsStart tokens Never =
-    (more : List ℕ) (head : Head) (rest : List ℕ) → First HeadText (tokens ++ more) head rest → ⊥
+    × IsLinePrefix protocol tokens
+IsStart protocol tokens (Never reason) = IsNoLine protocol tokens reason
 
 -- The rest after a first line is shorter than `n` bytes.
 abbrev pub IsLessStart : ℕ → Start → Type 0
 IsLessStart n (Whole head left) = length left.now < n
 IsLessStart n (Open m) = ⊤
-IsLessStart n Never = ⊤
+IsLessStart n (Never reason) = ⊤

@@ -1,10 +1,10 @@
--- The positions of the parts of a RESP2 reply.
+-- The positions of the parts of a reply.
 use Rattle.std.specs.Prelude.{◌≡◌, ℕ, List, ◌∷◌, ◌++◌, suc, ⊤}
 use Rattle.std.specs.Borrow.{Bor}
 use Rattle.std.specs.List.{AllByRecursion}
 use Rattle.grammars.specs.Texts.{EachText}
 use Rattle.format_resp.specs.Resp.{Opened, Replies, ReplyText, line_end}
-use Rattle.format_resp.specs.declared.reply.Protocol.TheVariants.{Resp2}
+use Rattle.format_resp.specs.declared.reply.Protocol.{Protocol}
 use Rattle.format_resp.specs.declared.reply.Reply.{out-Reply}
 use Rattle.format_resp.specs.declared.reply.Reply.TheOpen.{Reply-F}
 
@@ -20,19 +20,36 @@ IsLine input text rest = (mark : ℕ) × (input ≡ mark ∷ (text ++ (line_end 
 abbrev pub IsBehindFeed : List ℕ → List ℕ → Type 0
 IsBehindFeed input behind = (line : List ℕ) × NoFeed line × (input ≡ line ++ 10 ∷ behind)
 
--- The positions of the parts of a RESP2 reply, by its kind.
-abbrev pub StandsBy : {A : Type 0} → ℕ → List ℕ → Opened A → List ℕ → Type 0
-StandsBy level input (Reply-F.Simple text) rest = IsLine input text.now rest
-StandsBy level input (Reply-F.Error text) rest = IsLine input text.now rest
-StandsBy level input (Reply-F.Integer number) rest = ⊤
-StandsBy level input (Reply-F.Bulk text) rest =
-    IsBehindFeed input (text.now ++ (line_end ++ rest))
-StandsBy level input Reply-F.NullBulk rest = ⊤
-StandsBy level input (Reply-F.Array list) rest =
+-- After it the elements of an aggregate are, and the rest.
+abbrev pub HasElements : {A : Type 0} → Protocol → ℕ → List ℕ → List (Replies A) → List ℕ → Type 0
+HasElements protocol level input elements rest =
     (inner : ℕ) × (level ≡ suc inner) × (bytes : List ℕ)
-    × EachText (ReplyText Resp2 inner) list.items bytes × IsBehindFeed input (bytes ++ rest)
-StandsBy level input Reply-F.NullArray rest = ⊤
-StandsBy level input kind rest = ⊥
+    × EachText (ReplyText protocol inner) elements bytes × IsBehindFeed input (bytes ++ rest)
 
-abbrev pub IsReplyAt : {A : Type 0} → ℕ → List ℕ → Replies A → List ℕ → Type 0
-IsReplyAt {A} level input reply rest = StandsBy level input (out-Reply (Bor (List ℕ)) A reply) rest
+-- The positions of the parts of a reply, by its kind: on the first line, or after it.
+abbrev pub StandsBy : {A : Type 0} → Protocol → ℕ → List ℕ → Opened A → List ℕ → Type 0
+StandsBy protocol level input (Reply-F.Simple text) rest = IsLine input text.now rest
+StandsBy protocol level input (Reply-F.Error text) rest = IsLine input text.now rest
+StandsBy protocol level input (Reply-F.Double text) rest = IsLine input text.now rest
+StandsBy protocol level input (Reply-F.BigNumber text) rest = IsLine input text.now rest
+StandsBy protocol level input (Reply-F.Bulk text) rest =
+    IsBehindFeed input (text.now ++ (line_end ++ rest))
+StandsBy protocol level input (Reply-F.BulkError text) rest =
+    IsBehindFeed input (text.now ++ (line_end ++ rest))
+StandsBy protocol level input (Reply-F.Verbatim text) rest =
+    IsBehindFeed input (text.now ++ (line_end ++ rest))
+StandsBy protocol level input (Reply-F.Array list) rest =
+    HasElements protocol level input list.items rest
+StandsBy protocol level input (Reply-F.Map list) rest =
+    HasElements protocol level input list.items rest
+StandsBy protocol level input (Reply-F.Set list) rest =
+    HasElements protocol level input list.items rest
+StandsBy protocol level input (Reply-F.Push list) rest =
+    HasElements protocol level input list.items rest
+StandsBy protocol level input (Reply-F.Attributed list) rest =
+    HasElements protocol level input list.items rest
+StandsBy protocol level input kind rest = ⊤
+
+abbrev pub IsReplyAt : {A : Type 0} → Protocol → ℕ → List ℕ → Replies A → List ℕ → Type 0
+IsReplyAt {A} protocol level input reply rest =
+    StandsBy protocol level input (out-Reply (Bor (List ℕ)) A reply) rest

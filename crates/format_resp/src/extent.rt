@@ -1,40 +1,92 @@
-//! An incremental scanner for the end of a RESP2 reply in bytes that arrive in chunks.
+//! An incremental scanner for the end of a reply in bytes that arrive in chunks.
 //!
-//! No byte is searched twice for a line ending, for any number of chunks, and those of a bulk
-//! string are not examined. So the time to find a reply is linear in its bytes. One call of
+//! No byte is searched twice for a line ending, for any number of chunks, and those of a string are
+//! not examined. So the time to find a reply is linear in its bytes. One call of
 //! [`read_reply`](crate::read::read_reply) then reads it.
-ghost use Rattle.format_resp.specs.Extents.{IsDataEnd, IsLessPart, IsLineEnd, IsOf, IsPart};
-ghost use Rattle.format_resp.specs.Extents.{IsReply, IsWanting, MatchesAtStart, Passed};
-ghost use Rattle.format_resp.specs.Extents.{ReplyResult};
-ghost use Rattle.format_resp.specs.Extents.{count_after, data_after};
+ghost use Rattle.format_resp.specs.Extents.{Fits, IsDataEnd, IsLessPart, IsLineEnd, IsOf, IsPart};
+ghost use Rattle.format_resp.specs.Extents.{IsReply, IsStringEnd, IsWanting, MatchesAtStart};
+ghost use Rattle.format_resp.specs.Extents.{Passed, ReplyResult, count_after, data_after};
 ghost use Rattle.format_resp.specs.Resp.{Replies, ReplyText};
-ghost use Rattle.format_resp.specs.declared.reply.Protocol.TheVariants.{Resp2};
+ghost use Rattle.format_resp.specs.declared.reply.Protocol.{Protocol};
 ghost use Rattle.std.specs.Prelude.{◌≡◌, ◌≤◌, ◌^◌, ◌++◌, ℕ, List, None, Some, length};
-ghost use Rattle.std.specs.Prelude.{IfOk, IfSome, OnOk, suc};
+ghost use Rattle.std.specs.Prelude.{IfOk, IfSome, MatchBool, OnOk, suc};
 ghost use Rattle.winnow_grammar.specs.InTurn.{First};
 
 use crate::heads::{Head, Start, start_of};
+use crate::reply::{Protocol, is_verbatim};
 use std::alloc::Allocator;
+
+/// Why bytes do not start with a reply, regardless of what follows.
+///
+/// ```
+/// use format_resp::extent::{Reason, reply_length};
+/// use format_resp::reply::Protocol;
+///
+/// let large = b":9223372036854775808\r\n".as_slice();
+/// assert!(rt; matches!(reply_length(Protocol::Resp2, large),
+///     Err(invalid) if invalid.reason == Reason::TooLarge));
+/// ```
+#[derive(Clone, Copy, Debug, PartialEq, Eq)]
+pub enum Reason {
+    /// A line is not the first line of a reply of this version of the protocol, and has no number
+    /// that is only too large. Or a string is not followed by a line ending, or a verbatim string
+    /// has no format.
+    Malformed,
+    /// An integer or a size does not fit 64 bits with a sign, or an aggregate has too many parts:
+    /// 2^63 or more.
+    TooLarge,
+    /// Aggregates are nested deeper than the limit.
+    TooDeep,
+}
 
 /// No continuation of the bytes starts with a reply.
 ///
 /// ```
-/// use format_resp::extent::{Extent, Invalid};
+/// use format_resp::extent::{Extent, Reason};
+/// use format_resp::reply::Protocol;
 ///
-/// assert!(rt; matches!(Extent::new().advance(b"OK"), Err(Invalid)));
+/// let invalid = Extent::new().advance(Protocol::Resp2, b"*2\r\n+OK\r\n:x\r\n");
+/// assert!(rt; matches!(invalid,
+///     Err(invalid) if invalid.reason == Reason::Malformed && invalid.offset == 9));
 /// ```
 #[derive(Clone, Copy, Debug, PartialEq, Eq)]
-pub struct Invalid;
+pub struct Invalid {
+    /// The reason.
+    pub reason: Reason,
+    /// The offset of the part that is rejected: of the first line of a reply, which may be nested,
+    /// or of the data of a string. The bytes before it start a reply.
+    pub offset: usize,
+}
+
+/// The size of a string.
+///
+/// ```
+/// use format_resp::extent::{Bulk, Extent};
+/// use format_resp::reply::Protocol;
+///
+/// let mut extent = Extent::new();
+/// assert!(rt; matches!(extent.advance(Protocol::Resp3, b"=8\r\ntxt:"), Ok(None)));
+/// assert!(rt; extent.bulk == Some(Bulk { size: 8, verbatim: true }));
+/// ```
+#[derive(Clone, Copy, Debug, PartialEq, Eq)]
+pub struct Bulk {
+    /// How many bytes it has.
+    pub size: usize,
+    /// Whether it is a verbatim string.
+    pub verbatim: bool,
+}
 
 /// The state of the search for the end of a reply. Its fields can be stored anywhere, and an extent
 /// can be made of them again.
 ///
 /// ```
 /// use format_resp::extent::Extent;
+/// use format_resp::reply::Protocol;
 ///
 /// let mut extent = Extent::new();
-/// assert!(rt; matches!(extent.advance(b"*2\r\n:1\r\n$3\r\nfo"), Ok(None)));
-/// assert!(rt; matches!(extent.advance(b"*2\r\n:1\r\n$3\r\nfoo\r\n+"), Ok(Some(17))));
+/// let bytes = b"*2\r\n:1\r\n$3\r\nfoo\r\n+".as_slice();
+/// assert!(rt; matches!(extent.advance(Protocol::Resp2, &bytes[..14]), Ok(None)));
+/// assert!(rt; matches!(extent.advance(Protocol::Resp2, bytes), Ok(Some(17))));
 /// ```
 #[derive(Clone, Copy, Debug, PartialEq, Eq)]
 pub struct Extent {
@@ -42,15 +94,15 @@ pub struct Extent {
     pub passed: usize,
     /// The number of bytes after the next one that are not part of a line ending.
     pub sought: usize,
-    /// The size of the bulk string that is expected next, if its size was passed.
-    pub bulk: Option<usize>,
+    /// The size of the string that is expected next, if its size was passed.
+    pub bulk: Option<Bulk>,
     /// The number of replies that are expected after that.
     pub replies: u128,
 }
 
 /// Skips a line ending and returns the rest.
 #[inline(always)]
-fn skip_line_ending<'i>(bytes: &'i [u8]) -> Result<Option<&'i [u8]>, Invalid>
+fn skip_line_ending<'i>(bytes: &'i [u8]) -> Result<Option<&'i [u8]>, Reason>
     ensures told { IsLineEnd bytes.now result }
     ensures less { IsLessPart (length bytes.now) result }
 {
@@ -58,7 +110,7 @@ fn skip_line_ending<'i>(bytes: &'i [u8]) -> Result<Option<&'i [u8]>, Invalid>
         None => Ok(None),
         Some((first, more)) => {
             if *first != b'\r' {
-                return Err(Invalid);
+                return Err(Reason::Malformed);
             }
             match more.split_first() {
                 None => Ok(None),
@@ -66,7 +118,7 @@ fn skip_line_ending<'i>(bytes: &'i [u8]) -> Result<Option<&'i [u8]>, Invalid>
                     if *second == b'\n' {
                         Ok(Some(left))
                     } else {
-                        Err(Invalid)
+                        Err(Reason::Malformed)
                     }
                 }
             }
@@ -74,27 +126,57 @@ fn skip_line_ending<'i>(bytes: &'i [u8]) -> Result<Option<&'i [u8]>, Invalid>
     }
 }
 
-/// Skips the data of a bulk string of `size` bytes and its line ending, and returns the rest.
+/// Returns data of `size` bytes, and the rest after their line ending.
 #[inline(always)]
-fn skip_data<'i>(size: usize, bytes: &'i [u8]) -> Result<Option<&'i [u8]>, Invalid>
-    ensures told { IsDataEnd size bytes.now result }
+fn split_data<'i>(size: usize, bytes: &'i [u8]) -> Result<Option<(&'i [u8], &'i [u8])>, Reason>
+    ensures { IsDataEnd size bytes.now result }
+{
+    match bytes.split_at_checked(size) {
+        None => Ok(None),
+        Some((text, behind)) => match skip_line_ending(behind) {
+            Err(reason) => Err(reason),
+            Ok(None) => Ok(None),
+            Ok(Some(left)) => Ok(Some((text, left))),
+        },
+    }
+}
+
+/// Whether the bytes are those of such a string.
+#[inline(always)]
+fn fits(verbatim: bool, bytes: &[u8]) -> bool
+    ensures { MatchBool result (Fits verbatim bytes.now) (Fits verbatim bytes.now → ⊥) }
+{
+    if verbatim { is_verbatim(bytes) } else { true }
+}
+
+/// Skips the data of a string and their line ending, and returns the rest.
+#[inline(always)]
+pub(crate) fn skip_string<'i>(bulk: Bulk, bytes: &'i [u8]) -> Result<Option<&'i [u8]>, Reason>
+    ensures told { IsStringEnd bulk bytes.now result }
     ensures less { IsLessPart (length bytes.now) result }
 {
-    match bytes.get(size..) {
-        None => Ok(None),
-        Some(behind) => skip_line_ending(behind),
+    match split_data(bulk.size, bytes) {
+        Err(reason) => Err(reason),
+        Ok(None) => Ok(None),
+        Ok(Some((text, left))) => {
+            if fits(bulk.verbatim, text) {
+                Ok(Some(left))
+            } else {
+                Err(Reason::Malformed)
+            }
+        }
     }
 }
 
 /// Returns the state after a line that is followed by `others` replies, or `None` on overflow.
 #[inline(always)]
-fn due_behind(head: Head, others: u128) -> Option<(Option<usize>, u128)>
+fn due_behind(head: Head, others: u128) -> Option<(Option<Bulk>, u128)>
     ensures some { IfSome result (λ due. due ≡ (data_after head, count_after head others)) }
     ensures none { result ≡ None → 2 ^ 128 ≤ count_after head others }
 {
     match head {
         Head::Ends => Some((None, others)),
-        Head::Data(size) => Some((Some(size), others)),
+        Head::Data(bulk) => Some((Some(bulk), others)),
         Head::Replies(count) => match others.checked_add(count as u128) {
             Some(sum) => Some((None, sum)),
             None => None,
@@ -105,7 +187,7 @@ fn due_behind(head: Head, others: u128) -> Option<(Option<usize>, u128)>
 impl Extent {
     /// Nothing is passed.
     pub fn new() -> Extent
-        ensures { (tokens : List ℕ) → IsOf result tokens }
+        ensures { (protocol : Protocol) (tokens : List ℕ) → IsOf protocol result tokens }
     {
         Extent {
             passed: 0,
@@ -115,23 +197,28 @@ impl Extent {
         }
     }
 
-    /// Passes the data of a bulk string.
+    /// Passes the data of a string.
     #[inline(always)]
     fn pass_data<'i>(
         &mut self,
-        size: usize,
+        protocol: Protocol,
+        bulk: Bulk,
         bytes: &[u8],
         rest: &'i [u8],
     ) -> Result<Option<&'i [u8]>, Invalid>
         requires within { length rest.now ≤ length bytes.now }
-        requires due { self.old.bulk ≡ Some size }
-        ensures told { Passed self.old bytes.now rest.now
-            → IsPart self.new bytes.now rest.now result }
+        requires due { self.old.bulk ≡ Some bulk }
+        ensures told { Passed protocol self.old bytes.now rest.now
+            → IsPart protocol self.new bytes.now rest.now result }
         ensures less { IsLessPart (length rest.now) result }
     {
-        match skip_data(size, rest)? {
-            None => Ok(None),
-            Some(left) => {
+        match skip_string(bulk, rest) {
+            Err(reason) => Err(Invalid {
+                reason,
+                offset: self.passed,
+            }),
+            Ok(None) => Ok(None),
+            Ok(Some(left)) => {
                 *self = Extent {
                     passed: bytes.len() - left.len(),
                     sought: 0,
@@ -147,6 +234,7 @@ impl Extent {
     #[inline(always)]
     fn pass_line<'i>(
         &mut self,
+        protocol: Protocol,
         others: u128,
         bytes: &[u8],
         rest: &'i [u8],
@@ -154,18 +242,24 @@ impl Extent {
         requires within { length rest.now ≤ length bytes.now }
         requires due { self.old.bulk ≡ None }
         requires one { self.old.replies ≡ suc others }
-        ensures told { Passed self.old bytes.now rest.now
-            → IsPart self.new bytes.now rest.now result }
+        ensures told { Passed protocol self.old bytes.now rest.now
+            → IsPart protocol self.new bytes.now rest.now result }
         ensures less { IsLessPart (length rest.now) result }
     {
-        match start_of(rest, self.sought) {
-            Start::Never => Err(Invalid),
+        match start_of(protocol, rest, self.sought) {
+            Start::Never(reason) => Err(Invalid {
+                reason,
+                offset: self.passed,
+            }),
             Start::Open(sought) => {
                 self.sought = sought;
                 Ok(None)
             }
             Start::Whole(head, left) => match due_behind(head, others) {
-                None => Err(Invalid),
+                None => Err(Invalid {
+                    reason: Reason::TooLarge,
+                    offset: self.passed,
+                }),
                 Some((bulk, replies)) => {
                     *self = Extent {
                         passed: bytes.len() - left.len(),
@@ -181,24 +275,30 @@ impl Extent {
 
     /// Continues with `from`, the rest after the bytes passed.
     #[inline(always)]
-    fn walk(&mut self, bytes: &[u8], from: &[u8]) -> Result<Option<usize>, Invalid>
+    fn walk(
+        &mut self,
+        protocol: Protocol,
+        bytes: &[u8],
+        from: &[u8],
+    ) -> Result<Option<usize>, Invalid>
         requires within { length from.now ≤ length bytes.now }
-        ensures told { Passed self.old bytes.now from.now → ReplyResult bytes.now result }
-        ensures kept { OnOk result (Passed self.old bytes.now from.now
-            → (rest : List ℕ) × Passed self.new bytes.now rest) }
-        ensures wants { Passed self.old bytes.now from.now
-            → IfOk result (IsWanting self.new bytes.now) }
+        ensures told { Passed protocol self.old bytes.now from.now
+            → ReplyResult protocol bytes.now result }
+        ensures kept { OnOk result (Passed protocol self.old bytes.now from.now
+            → (rest : List ℕ) × Passed protocol self.new bytes.now rest) }
+        ensures wants { Passed protocol self.old bytes.now from.now
+            → IfOk result (IsWanting protocol self.new bytes.now) }
     {
         let mut rest = from;
         'parts: loop {
             match self.bulk {
-                Some(size) => match self.pass_data(size, bytes, rest)? {
+                Some(bulk) => match self.pass_data(protocol, bulk, bytes, rest)? {
                     None => return Ok(None),
                     Some(left) => rest = left,
                 },
                 None => match self.replies.checked_sub(1) {
                     None => return Ok(Some(self.passed)),
-                    Some(others) => match self.pass_line(others, bytes, rest)? {
+                    Some(others) => match self.pass_line(protocol, others, bytes, rest)? {
                         None => return Ok(None),
                         Some(left) => rest = left,
                     },
@@ -208,16 +308,18 @@ impl Extent {
     }
 
     /// Searches for the end of the reply at the start of `bytes`, and returns the reply's length in
-    /// bytes. `bytes` must be those of the previous call, possibly followed by more. Bytes that
-    /// were passed are not examined again, so the time of all calls together is linear in the
-    /// bytes.
+    /// bytes. `bytes` must be those of the previous call, possibly followed by more, and the
+    /// version of the protocol the same. Bytes that were passed are not examined again, so the time
+    /// of all calls together is linear in the bytes.
     ///
-    /// It returns `None` if the reply is incomplete: a line has no end, or bytes of a bulk string
-    /// are missing. It returns [`Invalid`] if no continuation starts with a reply: an invalid line
-    /// is rejected at its end, and an invalid first byte at once. The nesting depth of arrays is
-    /// not checked; [`read_reply`](crate::read::read_reply) checks it once the reply is complete.
-    /// The result is specified only if the extent is of these bytes: if it was used for others, the
-    /// result may be wrong.
+    /// It returns `None` if the reply is incomplete: a line has no end, or bytes of a string are
+    /// missing. It returns [`Invalid`] if no continuation starts with a reply, with the reason and
+    /// the offset: an invalid line is rejected at its end, and an invalid first byte at once. The
+    /// nesting depth of aggregates is not checked, so the reason is never `TooDeep`;
+    /// [`bounded_length`](crate::bounded::bounded_length) and
+    /// [`read_reply`](crate::read::read_reply) check it once the reply is complete. The result is
+    /// specified only if the extent is of these bytes: if it was used for others, the result may be
+    /// wrong.
     ///
     /// ```
     /// use format_resp::extent::Extent;
@@ -227,21 +329,22 @@ impl Extent {
     ///
     /// let bytes = b"$6\r\nfoobar\r\n:1\r\n".as_slice();
     /// let mut extent = Extent::new();
-    /// assert!(rt; matches!(extent.advance(&bytes[..7]), Ok(None)));
-    /// assert!(rt; matches!(extent.advance(bytes), Ok(Some(12))));
+    /// assert!(rt; matches!(extent.advance(Protocol::Resp3, &bytes[..7]), Ok(None)));
+    /// assert!(rt; matches!(extent.advance(Protocol::Resp3, bytes), Ok(Some(12))));
     /// let mut whole = Partial::new(&bytes[..12]);
-    /// assert!(rt; read_reply(alloc, Protocol::Resp2, SAFE_DEPTH, &mut whole).is_ok());
+    /// assert!(rt; read_reply(alloc, Protocol::Resp3, SAFE_DEPTH, &mut whole).is_ok());
     /// ```
     #[inline(always)]
-    pub fn advance(&mut self, bytes: &[u8]) -> Result<Option<usize>, Invalid>
-        ensures told { IsOf self.old bytes.now → ReplyResult bytes.now result }
-        ensures kept { OnOk result (IsOf self.old bytes.now
-            → (more : List ℕ) → IsOf self.new (bytes.now ++ more)) }
-        ensures wants { IsOf self.old bytes.now → IfOk result (IsWanting self.new bytes.now) }
+    pub fn advance(&mut self, protocol: Protocol, bytes: &[u8]) -> Result<Option<usize>, Invalid>
+        ensures told { IsOf protocol self.old bytes.now → ReplyResult protocol bytes.now result }
+        ensures kept { OnOk result (IsOf protocol self.old bytes.now
+            → (more : List ℕ) → IsOf protocol self.new (bytes.now ++ more)) }
+        ensures wants { IsOf protocol self.old bytes.now
+            → IfOk result (IsWanting protocol self.new bytes.now) }
     {
         match bytes.get(self.passed..) {
             None => Ok(None),
-            Some(rest) => self.walk(bytes, rest),
+            Some(rest) => self.walk(protocol, bytes, rest),
         }
     }
 }
@@ -250,15 +353,16 @@ impl Extent {
 ///
 /// ```
 /// use format_resp::extent::reply_length;
+/// use format_resp::reply::Protocol;
 ///
-/// assert!(rt; matches!(reply_length(b"*1\r\n+OK\r\n:1"), Ok(Some(9))));
-/// assert!(rt; matches!(reply_length(b"*1\r\n+OK"), Ok(None)));
-/// assert!(rt; reply_length(b":x\r\n").is_err());
+/// assert!(rt; matches!(reply_length(Protocol::Resp3, b"~1\r\n#t\r\n:1"), Ok(Some(8))));
+/// assert!(rt; matches!(reply_length(Protocol::Resp3, b"~1\r\n#t"), Ok(None)));
+/// assert!(rt; reply_length(Protocol::Resp2, b"~1\r\n").is_err());
 /// ```
-pub fn reply_length(bytes: &[u8]) -> Result<Option<usize>, Invalid>
-    ensures { ReplyResult bytes.now result }
+pub fn reply_length(protocol: Protocol, bytes: &[u8]) -> Result<Option<usize>, Invalid>
+    ensures { ReplyResult protocol bytes.now result }
 {
-    Extent::new().advance(bytes)
+    Extent::new().advance(protocol, bytes)
 }
 
 /// Proves that the contract of [`Extent::advance`] also holds for the replies that
@@ -274,6 +378,7 @@ pub fn reply_length(bytes: &[u8]) -> Result<Option<usize>, Invalid>
 /// }
 /// ```
 pub fn a_reply_that_is_read_stands<A: Allocator>()
-    ensures { (level : ℕ) (reply : Replies A) (tokens rest : List ℕ)
-        → First (ReplyText Resp2 level) tokens reply rest → MatchesAtStart IsReply tokens rest }
+    ensures { (protocol : Protocol) (level : ℕ) (reply : Replies A) (tokens rest : List ℕ)
+        → First (ReplyText protocol level) tokens reply rest
+        → MatchesAtStart (IsReply protocol) tokens rest }
 {}

@@ -19,6 +19,7 @@
 #![tactic(auto)]
 
 pub mod back;
+pub mod bounded;
 pub mod extent;
 mod heads;
 mod kinds;

@@ -49,7 +49,7 @@ fn skip_digits<'i>(bytes: &'i [u8]) -> Option<&'i [u8]>
 
 /// Whether the bytes, all of them, are digits.
 #[inline(always)]
-fn are_digits(bytes: &[u8]) -> bool
+pub(crate) fn are_digits(bytes: &[u8]) -> bool
     ensures { MatchBool result (AreDigits bytes.now) (AreDigits bytes.now → ⊥) }
 {
     match skip_digits(bytes) {
@@ -167,7 +167,7 @@ pub fn number_of(line: &[u8]) -> Option<i64>
 }
 
 /// The most bytes or replies that a size counts.
-const MOST: u64 = 9223372036854775807;
+pub(crate) const MOST: u64 = 9223372036854775807;
 
 /// The size that a line is, without its end: digits; none for `-1`, which stands for null.
 #[inline(always)]

@@ -5,9 +5,10 @@ ghost use Rattle.exported.specs.Extent.{CallsInTurn, extent_of, nothing};
 ghost use Rattle.exported.specs.Turns.{all_of};
 ghost use Rattle.exported.specs.declared.resp.RespReplyState.{RespReplyState};
 ghost use Rattle.format_resp.specs.Extents.{IsOf};
+ghost use Rattle.format_resp.specs.declared.reply.Protocol.{Protocol};
 
 use crate::resp::RespReplyState;
-use format_resp::extent::Extent;
+use format_resp::extent::{Bulk, Extent};
 
 /// How many numbers a word has.
 const WORD: u128 = 18446744073709551616;
@@ -26,7 +27,14 @@ pub(crate) fn extent_at(state: RespReplyState) -> Extent
             };
         }
         1 => None,
-        _ => Some(state.bulk),
+        2 => Some(Bulk {
+            size: state.bulk,
+            verbatim: false,
+        }),
+        _ => Some(Bulk {
+            size: state.bulk,
+            verbatim: true,
+        }),
     };
     Extent {
         passed: state.passed,
@@ -42,7 +50,7 @@ pub(crate) fn state_at(extent: Extent) -> RespReplyState
 {
     let (due, bulk) = match extent.bulk {
         None => (1, 0),
-        Some(size) => (2, size),
+        Some(bulk) => (if bulk.verbatim { 3 } else { 2 }, bulk.size),
     };
     RespReplyState {
         due,
@@ -60,7 +68,7 @@ pub(crate) fn state_at(extent: Extent) -> RespReplyState
 /// these bytes, regardless of what follows. So the next call returns the result that a call with
 /// zeros returns for all of its bytes.
 pub fn calls_in_turn_are_of_their_bytes()
-    ensures { (pieces : List (List ℕ)) (state : RespReplyState)
-        → CallsInTurn nothing [] pieces state
-        → (more : List ℕ) → IsOf (extent_of state) (all_of pieces ++ more) }
+    ensures { (protocol : Protocol) (pieces : List (List ℕ)) (state : RespReplyState)
+        → CallsInTurn protocol nothing [] pieces state
+        → (more : List ℕ) → IsOf protocol (extent_of state) (all_of pieces ++ more) }
 {}

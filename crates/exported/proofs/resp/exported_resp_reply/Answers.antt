@@ -1,37 +1,33 @@
-use Rattle.std.proofs.Common.{◌∙◌, ap, false, length, sym, ℕ}
-use Rattle.std.proofs.lemmas.Bool.{true≢false}
-use Rattle.winnow.specs.Input.{Input}
-use Rattle.winnow.specs.Partial.{with_flag}
-use Rattle.format_resp.specs.Resp.{ReplyText}
-use Rattle.format_resp.specs.declared.reply.Protocol.TheVariants.{Resp2}
-use Rattle.winnow.specs.InTurn.{First}
-use Rattle.exported.specs.Resp.{IsReply}
-use Rattle.exported.proofs.Pieces.{none_whole, stands_whole}
-use Rattle.exported.proofs.Replies.{reply_told}
+use Rattle.std.proofs.Common.{arith, inl, inr, refl}
+use Rattle.format_resp.specs.declared.extent.Reason.TheVariants.{Malformed, TooDeep, TooLarge}
+use Rattle.exported.proofs.Replies.{without_wait}
 use Rattle.exported.proofs.resp.exported_resp_reply.Goals as goal
 
-pub reply_at-requires : goal.reply_at-requires
-reply_at-requires c = (
-  _,
-  stands_whole (First (ReplyText Resp2 c.args.max_depth)) c.args.bytes.now _ _ c.in-Ok.found
-      (c.complete.ensures.complete ∙ ap (λ (i : Input ℕ). with_flag i false) c.new-whole.ensures)
-      c.in-Ok.ensures,
-  sym (ap (λ (i : Input ℕ). length i.left.tokens) c.into_inner.ensures),
+pub returns-then-code-eq-INCOMPLETE-clause-refused :
+    goal.returns-then-code-eq-INCOMPLETE-clause-refused
+returns-then-code-eq-INCOMPLETE-clause-refused c e =
+    inr ((c.read-code.ensures.waits c.if-code-eq-INCOMPLETE.true).0, refl)
+
+pub returns-then-code-eq-INCOMPLETE-clause-deep : goal.returns-then-code-eq-INCOMPLETE-clause-deep
+returns-then-code-eq-INCOMPLETE-clause-deep c = (
+  λ e. absurd (omega (arith, e)),
+  λ large. absurd (omega (
+    arith,
+    c.read-code.ensures.deep.1 large,
+    c.if-code-eq-INCOMPLETE.true,
+  )),
 )
 
-pub returns-in-Ok-clause-reply : goal.returns-in-Ok-clause-reply
-returns-in-Ok-clause-reply c _ =
-    let is = stands_whole (First (ReplyText Resp2 c.args.max_depth)) c.args.bytes.now _ _
-    c.in-Ok.found
-    (c.complete.ensures.complete ∙ ap (λ (i : Input ℕ). with_flag i false) c.new-whole.ensures)
-    c.in-Ok.ensures in
-    let left = sym (ap (λ (i : Input ℕ). length i.left.tokens) c.into_inner.ensures) in
-    reply_told (IsReply c.args.max_depth) c.args.max_depth c.args.bytes.now _ c.in-Ok.found _ _
-    is left
-    (c.reply_at.ensures.shown _ is left) c.reply_at.ensures.ends
+pub returns-clause-refused : goal.returns-clause-refused
+returns-clause-refused c e =
+    inl (c.read-code.ensures.rejected Malformed e)
 
-pub returns-else-is_memory-clause-refused : goal.returns-else-is_memory-clause-refused
-returns-else-is_memory-clause-refused c _ =
-    none_whole (First (ReplyText Resp2 c.args.max_depth)) c.args.bytes.now _ _ c.in-Err.error
-    (c.complete.ensures.complete ∙ ap (λ (i : Input ℕ). with_flag i false) c.new-whole.ensures)
-    (λ m. true≢false (sym (c.is_memory.ensures.1 m) ∙ c.if-is_memory.false)) c.in-Err.ensures
+pub returns-clause-large : goal.returns-clause-large
+returns-clause-large c e = c.read-code.ensures.rejected TooLarge e
+
+pub returns-clause-nested : goal.returns-clause-nested
+returns-clause-nested c e = c.read-code.ensures.rejected TooDeep e
+
+pub returns-clause-codes : goal.returns-clause-codes
+returns-clause-codes c =
+    without_wait _ c.if-code-eq-INCOMPLETE.false c.read-code.ensures.codes

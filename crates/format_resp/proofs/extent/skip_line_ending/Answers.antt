@@ -1,4 +1,4 @@
-use Rattle.format_resp.proofs.Passing.{end_none, end_return}
+use Rattle.format_resp.proofs.Strings.{end_none, end_return}
 use Rattle.format_resp.proofs.extent.skip_line_ending.Goals as goal
 
 pub returns-in-None-clause-told : goal.returns-in-None-clause-told

@@ -1,17 +1,26 @@
-use Rattle.std.specs.Prelude.{None, Some}
-use Rattle.std.proofs.Common.{refl}
+use Rattle.std.specs.Prelude.{Bool, None, Some}
+use Rattle.std.proofs.Common.{ap, refl}
+use Rattle.format_resp.proofs.FirstLines.{no_null_data}
+use Rattle.format_resp.specs.declared.heads.Head.{Head}
+use Rattle.format_resp.specs.declared.heads.Head.TheVariants.{Data}
 use Rattle.format_resp.proofs.heads.data_head.Goals as goal
 
-pub returns-in-Some-Some-clause-some : goal.returns-in-Some-Some-clause-some
-returns-in-Some-Some-clause-some c =
+pub returns-in-Some-Some-clause-head : goal.returns-in-Some-Some-clause-head
+returns-in-Some-Some-clause-head c =
     let is = rw c.in-Some-Some.field-0-is at c.in-Some-Some.ensures.some in
-    rw c.in-Dollar.is (Some c.in-Some-Some.size, refl, is)
+    let made : Bool → Head = λ v. Data (record { size = c.in-Some-Some.size; verbatim = v }) in
+    (Some c.in-Some-Some.size, is, ap made c.is_formatted.ensures)
 
-pub returns-in-Some-None-clause-some : goal.returns-in-Some-None-clause-some
-returns-in-Some-None-clause-some c =
+pub returns-in-Dollar-clause-head : goal.returns-in-Dollar-clause-head
+returns-in-Dollar-clause-head c =
     let is = rw c.in-Some-None.field-0-is at c.in-Some-None.ensures.some in
-    rw c.in-Dollar.is (None, refl, is)
+    (None, is, rw c.in-Dollar.is refl)
 
-pub returns-in-None-clause-none : goal.returns-in-None-clause-none
-returns-in-None-clause-none c =
-    rw c.in-Dollar.is (λ e head (size, is, a). c.in-None.ensures.none refl size a)
+pub returns-in_default-clause-rejected : goal.returns-in_default-clause-rejected
+returns-in_default-clause-rejected c =
+    let is = rw c.in-Some-None.field-0-is at c.in-Some-None.ensures.some in
+    no_null_data c.args.mark c.args.line.now is c.in_default.not-Dollar
+
+pub returns-in-None-clause-rejected : goal.returns-in-None-clause-rejected
+returns-in-None-clause-rejected c =
+    (λ head (size, a, is). c.in-None.ensures.none refl size a, c.size_reason.ensures)

@@ -1,113 +1,227 @@
-use Rattle.std.proofs.Common.{arith, refl, rules}
-use Rattle.exported.proofs.Replies.{array_shown, array_stands, bulk_shown, bulk_stands}
-use Rattle.exported.proofs.Replies.{elements_count, elements_long, error_shown, error_stands}
-use Rattle.exported.proofs.Replies.{feed_ends, integer_shown, line_shown, none_else}
-use Rattle.exported.proofs.Replies.{null_array_shown, null_bulk_shown, reply_long, simple_shown}
-use Rattle.exported.proofs.Replies.{simple_stands}
+use Rattle.std.proofs.Common.{◌∙◌, ap, arith, refl, rules}
+use Rattle.format_resp.proofs.Made.{array_is, attributed_is, big_number_is, boolean_is}
+use Rattle.format_resp.proofs.Made.{bulk_error_is, bulk_is, double_is, error_is, integer_is}
+use Rattle.format_resp.proofs.Made.{kind_of, map_is, null_array_is, null_bulk_is, null_is, push_is}
+use Rattle.format_resp.proofs.Made.{set_is, simple_is, verbatim_is}
+use Rattle.format_resp.specs.declared.reply.Reply.TheOpen.{Reply-F}
+use Rattle.exported.proofs.Replies.{list_shown, shown_by}
 use Rattle.exported.proofs.resp.places.reply_at.Goals as goal
 
-pub overflow_sub-length : goal.overflow_sub-length
-overflow_sub-length c = omega (arith, reply_long _ _ _ _ c.requires.1, c.requires.2)
-
-pub first_of-place-requires : goal.first_of-place-requires
-first_of-place-requires c =
-    let (line, none, e) = bulk_stands _ _ _ _ c.requires.1 _ c.in-Bulk.is in
-    record { ends = feed_ends _ _ _ (line, none, e) (c.skip_line.ensures line _ none e) }
-
-pub overflow_sub-behind : goal.overflow_sub-behind
-overflow_sub-behind c =
-    let (inner, deeper, bytes, row, (line, none, e)) =
-    array_stands _ _ _ _ c.requires.1 _ c.in-Array.is in
-    omega (
-      arith,
-      elements_long bytes c.requires.0 _ (c.skip_line-behind.ensures line _ none e),
-      c.requires.2,
-    )
-
-pub first_of-requires : goal.first_of-requires
-first_of-requires c =
-    let (inner, deeper, bytes, row, (line, none, e)) =
-    array_stands _ _ _ _ c.requires.1 _ c.in-Array.is in
-    record { ends = feed_ends _ _ _ (line, none, e) (c.skip_line-behind.ensures line _ none e) }
-
 pub returns-in-Simple-clause-shown : goal.returns-in-Simple-clause-shown
-returns-in-Simple-clause-shown c rest is left =
-    simple_shown _ _ _ _ _ c.in-Simple.text c.in-Simple.is (
-      record { is_kind = refl; is_number = refl; count = refl },
-      line_shown _ _ _ _ (simple_stands _ _ _ _ is _ c.in-Simple.is) refl refl,
-    )
+returns-in-Simple-clause-shown c protocol level rest is left =
+    shown_by protocol level c.args.bytes.now (Reply-F.Simple c.in-Simple.text) c.args.found.now
+    rest _
+    (ap kind_of c.in-Simple.is ∙ simple_is c.in-Simple.text)
+    (λ at. c.line_at.ensures.text c.args.bytes.now c.in-Simple.text.now rest at refl) is
+
+pub returns-in-Simple-clause-length : goal.returns-in-Simple-clause-length
+returns-in-Simple-clause-length c within = (
+  omega (arith, c.line_at.ensures.length.0, c.saturating_sub-length.ensures, within),
+  c.line_at.ensures.length.1,
+)
 
 pub returns-in-Error-clause-shown : goal.returns-in-Error-clause-shown
-returns-in-Error-clause-shown c rest is left =
-    error_shown _ _ _ _ _ c.in-Error.text c.in-Error.is (
-      record { is_kind = refl; is_number = refl; count = refl },
-      line_shown _ _ _ _ (error_stands _ _ _ _ is _ c.in-Error.is) refl refl,
-    )
+returns-in-Error-clause-shown c protocol level rest is left =
+    shown_by protocol level c.args.bytes.now (Reply-F.Error c.in-Error.text) c.args.found.now rest _
+    (ap kind_of c.in-Error.is ∙ error_is c.in-Error.text)
+    (λ at. c.line_at-in-Error.ensures.text c.args.bytes.now c.in-Error.text.now rest at refl) is
+
+pub returns-in-Error-clause-length : goal.returns-in-Error-clause-length
+returns-in-Error-clause-length c within = (
+  omega (arith, c.line_at-in-Error.ensures.length.0, c.saturating_sub-length.ensures, within),
+  c.line_at-in-Error.ensures.length.1,
+)
 
 pub returns-in-Integer-clause-shown : goal.returns-in-Integer-clause-shown
-returns-in-Integer-clause-shown c rest is left =
-    integer_shown _ _ _ _ _ c.in-Integer.number c.in-Integer.is
-    (record { is_kind = refl; is_number = search rules; count = refl }) refl
+returns-in-Integer-clause-shown c protocol level rest is left =
+    shown_by protocol level c.args.bytes.now (Reply-F.Integer c.in-Integer.number)
+    c.args.found.now rest _
+    (ap kind_of c.in-Integer.is ∙ integer_is c.in-Integer.number)
+    (λ at. (
+      record {
+        is_kind = c.number_at.ensures.number.0.is_kind;
+        is_number = search rules;
+        count = c.number_at.ensures.number.0.count;
+      },
+      c.number_at.ensures.number.1,
+    )) is
+
+pub returns-in-Integer-clause-length : goal.returns-in-Integer-clause-length
+returns-in-Integer-clause-length c within = (
+  omega (arith, c.number_at.ensures.length.0, c.saturating_sub-length.ensures, within),
+  c.number_at.ensures.length.1,
+)
 
 pub returns-in-Bulk-clause-shown : goal.returns-in-Bulk-clause-shown
-returns-in-Bulk-clause-shown c rest is left =
-    let (line, none, e) = bulk_stands _ _ _ _ is _ c.in-Bulk.is in
-    bulk_shown _ _ _ _ _ c.in-Bulk.text c.in-Bulk.is (
-      record { is_kind = refl; is_number = refl; count = refl },
-      c.first_of-place.ensures _ _ (c.skip_line.ensures line _ none e) refl,
-    )
+returns-in-Bulk-clause-shown c protocol level rest is left =
+    shown_by protocol level c.args.bytes.now (Reply-F.Bulk c.in-Bulk.text) c.args.found.now rest _
+    (ap kind_of c.in-Bulk.is ∙ bulk_is c.in-Bulk.text)
+    (λ at. c.string_at.ensures.text c.in-Bulk.text.now rest at refl) is
+
+pub returns-in-Bulk-clause-length : goal.returns-in-Bulk-clause-length
+returns-in-Bulk-clause-length c within = (
+  omega (arith, c.string_at.ensures.length.0, c.saturating_sub-length.ensures, within),
+  c.string_at.ensures.length.1,
+)
 
 pub returns-in-NullBulk-clause-shown : goal.returns-in-NullBulk-clause-shown
-returns-in-NullBulk-clause-shown c rest is left =
-    null_bulk_shown _ _ _ _ _ c.in-NullBulk.is
-    (record { is_kind = refl; is_number = refl; count = refl }) refl
+returns-in-NullBulk-clause-shown c protocol level rest is left =
+    shown_by protocol level c.args.bytes.now Reply-F.NullBulk c.args.found.now rest _
+    (ap kind_of c.in-NullBulk.is ∙ null_bulk_is)
+    (λ at. c.number_at-in-NullBulk.ensures.number) is
+
+pub returns-in-NullBulk-clause-length : goal.returns-in-NullBulk-clause-length
+returns-in-NullBulk-clause-length c within = (
+  omega (arith, c.number_at-in-NullBulk.ensures.length.0, c.saturating_sub-length.ensures, within),
+  c.number_at-in-NullBulk.ensures.length.1,
+)
 
 pub returns-in-Array-clause-shown : goal.returns-in-Array-clause-shown
-returns-in-Array-clause-shown c rest is left =
-    let (inner, deeper, bytes, row, (line, none, e)) =
-    array_stands _ _ _ _ is _ c.in-Array.is in
-    let behind = c.skip_line-behind.ensures line _ none e in
-    array_shown _ _ _ _ _ c.in-Array.elements c.in-Array.is (record {
-      is_kind = refl;
-      is_number = refl;
-      count = omega (arith, c.len.ensures, c.in-Array.elements.ok);
-    }) (record {
-      inner = inner;
-      deeper = deeper;
-      bytes = bytes;
-      are = row;
-      behind_line = (line, none, e);
-      stand = c.first_of.ensures bytes _ behind (elements_count bytes _ _ _ behind left);
-    })
+returns-in-Array-clause-shown c protocol level rest is left =
+    shown_by protocol level c.args.bytes.now (Reply-F.Array c.in-Array.list) c.args.found.now rest _
+    (ap kind_of c.in-Array.is ∙ array_is c.in-Array.list)
+    (list_shown protocol level c.args.bytes.now 5 c.args.left _ c.in-Array.list.items rest _
+    c.list_at.ensures.list (omega (arith, c.len.ensures, c.in-Array.list.ok)) left) is
+
+pub returns-in-Array-clause-length : goal.returns-in-Array-clause-length
+returns-in-Array-clause-length c = c.list_at.ensures.length
 
 pub returns-in-NullArray-clause-shown : goal.returns-in-NullArray-clause-shown
-returns-in-NullArray-clause-shown c rest is left =
-    null_array_shown _ _ _ _ _ c.in-NullArray.is
-    (record { is_kind = refl; is_number = refl; count = refl }) refl
+returns-in-NullArray-clause-shown c protocol level rest is left =
+    shown_by protocol level c.args.bytes.now Reply-F.NullArray c.args.found.now rest _
+    (ap kind_of c.in-NullArray.is ∙ null_array_is)
+    (λ at. c.number_at-in-NullArray.ensures.number) is
 
-pub returns-in-Simple-clause-ends : goal.returns-in-Simple-clause-ends
-returns-in-Simple-clause-ends c = omega (arith, reply_long _ _ _ _ c.requires.1, c.requires.2)
+pub returns-in-NullArray-clause-length : goal.returns-in-NullArray-clause-length
+returns-in-NullArray-clause-length c within = (
+  omega (arith, c.number_at-in-NullArray.ensures.length.0, c.saturating_sub-length.ensures, within),
+  c.number_at-in-NullArray.ensures.length.1,
+)
 
-pub returns-in-Error-clause-ends : goal.returns-in-Error-clause-ends
-returns-in-Error-clause-ends c = omega (arith, reply_long _ _ _ _ c.requires.1, c.requires.2)
+pub returns-in-Null-clause-shown : goal.returns-in-Null-clause-shown
+returns-in-Null-clause-shown c protocol level rest is left =
+    shown_by protocol level c.args.bytes.now Reply-F.Null c.args.found.now rest _
+    (ap kind_of c.in-Null.is ∙ null_is)
+    (λ at. c.number_at-in-Null.ensures.number) is
 
-pub returns-in-Integer-clause-ends : goal.returns-in-Integer-clause-ends
-returns-in-Integer-clause-ends c = omega (arith, reply_long _ _ _ _ c.requires.1, c.requires.2)
+pub returns-in-Null-clause-length : goal.returns-in-Null-clause-length
+returns-in-Null-clause-length c within = (
+  omega (arith, c.number_at-in-Null.ensures.length.0, c.saturating_sub-length.ensures, within),
+  c.number_at-in-Null.ensures.length.1,
+)
 
-pub returns-in-Bulk-clause-ends : goal.returns-in-Bulk-clause-ends
-returns-in-Bulk-clause-ends c = omega (arith, reply_long _ _ _ _ c.requires.1, c.requires.2)
+pub returns-in-Boolean-clause-shown : goal.returns-in-Boolean-clause-shown
+returns-in-Boolean-clause-shown c protocol level rest is left =
+    shown_by protocol level c.args.bytes.now (Reply-F.Boolean c.in-Boolean.boolean)
+    c.args.found.now rest _
+    (ap kind_of c.in-Boolean.is ∙ boolean_is c.in-Boolean.boolean)
+    (λ at. (
+      record {
+        is_kind = c.number_at-in-Boolean.ensures.number.0.is_kind;
+        is_number = search rules;
+        count = c.number_at-in-Boolean.ensures.number.0.count;
+      },
+      c.number_at-in-Boolean.ensures.number.1,
+    )) is
 
-pub returns-in-NullBulk-clause-ends : goal.returns-in-NullBulk-clause-ends
-returns-in-NullBulk-clause-ends c = omega (arith, reply_long _ _ _ _ c.requires.1, c.requires.2)
+pub returns-in-Boolean-clause-length : goal.returns-in-Boolean-clause-length
+returns-in-Boolean-clause-length c within = (
+  omega (arith, c.number_at-in-Boolean.ensures.length.0, c.saturating_sub-length.ensures, within),
+  c.number_at-in-Boolean.ensures.length.1,
+)
 
-pub returns-in-Array-clause-ends : goal.returns-in-Array-clause-ends
-returns-in-Array-clause-ends c = omega (arith, reply_long _ _ _ _ c.requires.1, c.requires.2)
+pub returns-in-Double-clause-shown : goal.returns-in-Double-clause-shown
+returns-in-Double-clause-shown c protocol level rest is left =
+    shown_by protocol level c.args.bytes.now (Reply-F.Double c.in-Double.text) c.args.found.now
+    rest _
+    (ap kind_of c.in-Double.is ∙ double_is c.in-Double.text)
+    (λ at. c.line_at-in-Double.ensures.text c.args.bytes.now c.in-Double.text.now rest at refl) is
 
-pub returns-in-NullArray-clause-ends : goal.returns-in-NullArray-clause-ends
-returns-in-NullArray-clause-ends c = omega (arith, reply_long _ _ _ _ c.requires.1, c.requires.2)
+pub returns-in-Double-clause-length : goal.returns-in-Double-clause-length
+returns-in-Double-clause-length c within = (
+  omega (arith, c.line_at-in-Double.ensures.length.0, c.saturating_sub-length.ensures, within),
+  c.line_at-in-Double.ensures.length.1,
+)
 
-pub unreachable-requires : goal.unreachable-requires
-unreachable-requires c =
-    none_else _ _ _ _ c.requires.1 c.in_default.not-Simple c.in_default.not-Error
-    c.in_default.not-Integer c.in_default.not-Bulk c.in_default.not-NullBulk
-    c.in_default.not-Array c.in_default.not-NullArray
+pub returns-in-BigNumber-clause-shown : goal.returns-in-BigNumber-clause-shown
+returns-in-BigNumber-clause-shown c protocol level rest is left =
+    shown_by protocol level c.args.bytes.now (Reply-F.BigNumber c.in-BigNumber.text)
+    c.args.found.now rest _
+    (ap kind_of c.in-BigNumber.is ∙ big_number_is c.in-BigNumber.text)
+    (λ at. c.line_at-in-BigNumber.ensures.text c.args.bytes.now c.in-BigNumber.text.now rest at
+    refl) is
+
+pub returns-in-BigNumber-clause-length : goal.returns-in-BigNumber-clause-length
+returns-in-BigNumber-clause-length c within = (
+  omega (arith, c.line_at-in-BigNumber.ensures.length.0, c.saturating_sub-length.ensures, within),
+  c.line_at-in-BigNumber.ensures.length.1,
+)
+
+pub returns-in-BulkError-clause-shown : goal.returns-in-BulkError-clause-shown
+returns-in-BulkError-clause-shown c protocol level rest is left =
+    shown_by protocol level c.args.bytes.now (Reply-F.BulkError c.in-BulkError.text)
+    c.args.found.now rest _
+    (ap kind_of c.in-BulkError.is ∙ bulk_error_is c.in-BulkError.text)
+    (λ at. c.string_at-in-BulkError.ensures.text c.in-BulkError.text.now rest at refl) is
+
+pub returns-in-BulkError-clause-length : goal.returns-in-BulkError-clause-length
+returns-in-BulkError-clause-length c within = (
+  omega (arith, c.string_at-in-BulkError.ensures.length.0, c.saturating_sub-length.ensures, within),
+  c.string_at-in-BulkError.ensures.length.1,
+)
+
+pub returns-in-Verbatim-clause-shown : goal.returns-in-Verbatim-clause-shown
+returns-in-Verbatim-clause-shown c protocol level rest is left =
+    shown_by protocol level c.args.bytes.now (Reply-F.Verbatim c.in-Verbatim.text)
+    c.args.found.now rest _
+    (ap kind_of c.in-Verbatim.is ∙ verbatim_is c.in-Verbatim.text)
+    (λ at. c.string_at-in-Verbatim.ensures.text c.in-Verbatim.text.now rest at refl) is
+
+pub returns-in-Verbatim-clause-length : goal.returns-in-Verbatim-clause-length
+returns-in-Verbatim-clause-length c within = (
+  omega (arith, c.string_at-in-Verbatim.ensures.length.0, c.saturating_sub-length.ensures, within),
+  c.string_at-in-Verbatim.ensures.length.1,
+)
+
+pub returns-in-Map-clause-shown : goal.returns-in-Map-clause-shown
+returns-in-Map-clause-shown c protocol level rest is left =
+    shown_by protocol level c.args.bytes.now (Reply-F.Map c.in-Map.list) c.args.found.now rest _
+    (ap kind_of c.in-Map.is ∙ map_is c.in-Map.list)
+    (list_shown protocol level c.args.bytes.now 13 c.args.left _ c.in-Map.list.items rest _
+    c.list_at-in-Map.ensures.list (omega (arith, c.len-in-Map.ensures, c.in-Map.list.ok)) left) is
+
+pub returns-in-Map-clause-length : goal.returns-in-Map-clause-length
+returns-in-Map-clause-length c = c.list_at-in-Map.ensures.length
+
+pub returns-in-Set-clause-shown : goal.returns-in-Set-clause-shown
+returns-in-Set-clause-shown c protocol level rest is left =
+    shown_by protocol level c.args.bytes.now (Reply-F.Set c.in-Set.list) c.args.found.now rest _
+    (ap kind_of c.in-Set.is ∙ set_is c.in-Set.list)
+    (list_shown protocol level c.args.bytes.now 14 c.args.left _ c.in-Set.list.items rest _
+    c.list_at-in-Set.ensures.list (omega (arith, c.len-in-Set.ensures, c.in-Set.list.ok)) left) is
+
+pub returns-in-Set-clause-length : goal.returns-in-Set-clause-length
+returns-in-Set-clause-length c = c.list_at-in-Set.ensures.length
+
+pub returns-in-Push-clause-shown : goal.returns-in-Push-clause-shown
+returns-in-Push-clause-shown c protocol level rest is left =
+    shown_by protocol level c.args.bytes.now (Reply-F.Push c.in-Push.list) c.args.found.now rest _
+    (ap kind_of c.in-Push.is ∙ push_is c.in-Push.list)
+    (list_shown protocol level c.args.bytes.now 15 c.args.left _ c.in-Push.list.items rest _
+    c.list_at-in-Push.ensures.list (omega (arith, c.len-in-Push.ensures, c.in-Push.list.ok))
+    left) is
+
+pub returns-in-Push-clause-length : goal.returns-in-Push-clause-length
+returns-in-Push-clause-length c = c.list_at-in-Push.ensures.length
+
+pub returns-in-Attributed-clause-shown : goal.returns-in-Attributed-clause-shown
+returns-in-Attributed-clause-shown c protocol level rest is left =
+    shown_by protocol level c.args.bytes.now (Reply-F.Attributed c.in-Attributed.list)
+    c.args.found.now rest _
+    (ap kind_of c.in-Attributed.is ∙ attributed_is c.in-Attributed.list)
+    (list_shown protocol level c.args.bytes.now 16 c.args.left _ c.in-Attributed.list.items rest _
+    c.list_at-in-Attributed.ensures.list
+    (omega (arith, c.len-in-Attributed.ensures, c.in-Attributed.list.ok)) left) is
+
+pub returns-in-Attributed-clause-length : goal.returns-in-Attributed-clause-length
+returns-in-Attributed-clause-length c = c.list_at-in-Attributed.ensures.length

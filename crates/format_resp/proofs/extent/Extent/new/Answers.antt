@@ -3,4 +3,4 @@ use Rattle.format_resp.proofs.Passing.{none_passed}
 use Rattle.format_resp.proofs.extent.Extent.new.Goals as goal
 
 pub returns : goal.returns
-returns c tokens = none_passed _ tokens refl refl refl refl
+returns c protocol tokens = none_passed protocol _ tokens refl refl refl refl

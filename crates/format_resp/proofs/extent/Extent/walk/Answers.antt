@@ -8,7 +8,7 @@ returns-in-None-2-clause-told c p =
 
 pub returns-in-None-checked_sub-clause-told : goal.returns-in-None-checked_sub-clause-told
 returns-in-None-checked_sub-clause-told c p =
-    all_passed _ _ _ (c.parts.invariant.1 p) c.in-None.is
+    all_passed c.args.protocol _ _ _ (c.parts.invariant.1 p) c.in-None.is
     (omega (arith, c.in-None-checked_sub.ensures))
 
 pub returns-in-None-3-clause-told : goal.returns-in-None-3-clause-told

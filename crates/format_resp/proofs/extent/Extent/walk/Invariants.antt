@@ -6,7 +6,7 @@ use Rattle.format_resp.proofs.extent.Extent.walk.Given as goal
 abbrev pub invariant-parts : goal.invariant-parts
 invariant-parts l =
     (length l.rest ≤ length l.bytes)
-    × (Passed l.fn.self l.bytes l.from → Passed l.self l.bytes l.rest)
+    × (Passed l.protocol l.fn.self l.bytes l.from → Passed l.protocol l.self l.bytes l.rest)
 
 abbrev pub decreases-parts : goal.decreases-parts
 decreases-parts l = length l.rest
