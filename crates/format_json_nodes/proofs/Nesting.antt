@@ -5,10 +5,9 @@ use Rattle.std.proofs.Common.{inr, length, length-append, refl, set, subst, suc,
 use Rattle.std.specs.Borrow.{Bor}
 use Rattle.format_json_extents.proofs.Matching.{either_none, either_right}
 use Rattle.format_json_extents.proofs.Values.{value_scans}
-use Rattle.format_json_extents.specs.Number.{IsNumberByte}
 use Rattle.format_json_extents.specs.Texts.{Never, NoneStands, RestAfter}
-use Rattle.format_json_extents.specs.Value.{IsEmptyTail, IsItemsTail, IsNestedTail, IsScalar}
-use Rattle.format_json_extents.specs.Value.{IsValue, closing, opening}
+use Rattle.format_json_extents.specs.Value.{IsEmptyTail, IsItemsTail, IsNestedTail}
+use Rattle.format_json_extents.specs.Value.{IsNumberByteOf, IsScalar, IsValue, closing, opening}
 use Rattle.format_json_nodes.proofs.Overlay.{overlay_before, overlay_none, overlay_then}
 use Rattle.format_json_nodes.proofs.Overlay.{set_overlay}
 use Rattle.format_json_nodes.proofs.Writing.{ends_at, long}
@@ -238,6 +237,7 @@ items_skip keyed V bytes (Some r) none it = either_right none it
 
 pub scalar_skip : (level : ℕ) (bytes : List ℕ) (result : Option (ℕ × Bor (List ℕ)))
     → ((keyed : Bool) (more : List ℕ) → bytes ≡ opening keyed ∷ more → ⊥)
-    → Skips IsScalar IsNumberByte bytes result → Skips (IsValue level) IsNumberByte bytes result
+    → Skips IsScalar (IsNumberByteOf bytes) bytes result
+    → Skips (IsValue level) (IsNumberByteOf bytes) bytes result
 scalar_skip level bytes None not it = value_scans level bytes None not it
 scalar_skip level bytes (Some r) not it = value_scans level bytes (Some r.1) not it

@@ -4,10 +4,9 @@ use Rattle.std.proofs.Common.{append_assoc, arith, false, length, length-append,
 use Rattle.std.proofs.Common.{sym, true}
 use Rattle.format_json_extents.proofs.Matching.{start_less}
 use Rattle.format_json_extents.proofs.Scalars.{scalar_starts}
-use Rattle.format_json_extents.specs.Number.{IsNumberByte}
 use Rattle.format_json_extents.specs.Strings.{IsString}
 use Rattle.format_json_extents.specs.Texts.{Never, RestAfter}
-use Rattle.format_json_extents.specs.Value.{IsGap, IsScalar, IsSpace}
+use Rattle.format_json_extents.specs.Value.{IsGap, IsNumberByteOf, IsScalar, IsSpace}
 use Rattle.format_json_nodes.proofs.Overlay.{overlay_then, set_overlay}
 use Rattle.format_json_nodes.specs.Nodes.{ElementNodes, IsScalarOf, ItemNodes, NodesAt, ScalarNodes}
 use Rattle.format_json_nodes.specs.Nodes.{node}
@@ -38,7 +37,7 @@ ends_at size kind start next text rest few e is =
 module _ (size index : ℕ) {bytes rest : List ℕ} (few : index + length bytes ≤ size) where
   pub scalar_writes : (kind : ℕ) {old new : List JsonNode}
       → ((text more : List ℕ) → IsScalar text → bytes ≡ text ++ more → IsScalarOf kind text)
-      → RestAfter IsScalar IsNumberByte bytes rest
+      → RestAfter IsScalar (IsNumberByteOf bytes) bytes rest
       → new ≡ set old index (record {
         kind = kind;
         start = size - length bytes;

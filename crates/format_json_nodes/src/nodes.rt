@@ -3,11 +3,10 @@
 ghost use Rattle.std.specs.Prelude.{◌≡◌, ◌≤◌, ◌+◌, ◌++◌, List, ℕ, IfSome, MatchOption};
 ghost use Rattle.std.specs.Prelude.{length, set};
 ghost use Rattle.std.specs.Str.{IsUtf8};
-ghost use Rattle.format_json_extents.specs.Number.{IsNumberByte};
 ghost use Rattle.format_json_extents.specs.Standard.{IsTextByStandard};
 ghost use Rattle.format_json_extents.specs.Texts.{Never, NoneStands, RestAfter};
-ghost use Rattle.format_json_extents.specs.Value.{IsItemsTail, IsName, IsNestedTail, IsScalar};
-ghost use Rattle.format_json_extents.specs.Value.{IsText, IsValue};
+ghost use Rattle.format_json_extents.specs.Value.{IsItemsTail, IsName, IsNestedTail, IsNumberByteOf};
+ghost use Rattle.format_json_extents.specs.Value.{IsScalar, IsText, IsValue};
 ghost use Rattle.format_json_nodes.specs.Nodes.{HasNodes, IsScalarOf, ScalarNodes, ValueNodes};
 ghost use Rattle.format_json_nodes.specs.Nodes.{nested_kind};
 ghost use Rattle.format_json_nodes.specs.Writing.{ItemsNodes, TailNodes, Writes, WritesKey};
@@ -64,7 +63,7 @@ fn put_scalar<'i>(
 ) -> Option<(usize, &'i [u8])>
     requires { index + length bytes.now ≤ size }
     ensures rest { MatchOption result (NoneStands IsScalar bytes.now)
-        (λ r. RestAfter IsScalar IsNumberByte bytes.now r.1.now) }
+        (λ r. RestAfter IsScalar (IsNumberByteOf bytes.now) bytes.now r.1.now) }
     ensures nodes { IfSome result (λ r. Writes ScalarNodes size index bytes.now r.1.now r.0
         nodes.old nodes.new) }
 {
@@ -181,7 +180,7 @@ fn put_value<'i>(
 ) -> Option<(usize, &'i [u8])>
     requires { index + length bytes.now ≤ size }
     ensures rest { MatchOption result (NoneStands (IsValue level) bytes.now)
-        (λ r. RestAfter (IsValue level) IsNumberByte bytes.now r.1.now) }
+        (λ r. RestAfter (IsValue level) (IsNumberByteOf bytes.now) bytes.now r.1.now) }
     ensures nodes { IfSome result (λ r. Writes (ValueNodes level) size index bytes.now r.1.now r.0
         nodes.old nodes.new) }
 {
