@@ -353,16 +353,20 @@ fn resp_extent_of_pieces() {
         }
     }
     // The state records the bytes that were scanned.
-    let mut extent = Extent::new();
+    let mut extent = Extent::new(Protocol::Resp2);
     assert_eq!(extent.advance(b"*2\r\n:1\r\n"), Ok(None));
-    assert_ne!(extent, Extent::new());
-    for (bytes, begins) in [(&b"x"[..], 0), (b":1a\r\n", 4), (b"$1\r\nab\r\n", 5), (b"*1\r\nx", 4)] {
-        let mut extent = Extent::new();
+    assert_ne!(extent, Extent::new(Protocol::Resp2));
+    let rows: [(&[u8], usize, usize); 5] = [
+        (b"x", 0, 0), (b":1a\r\n", 4, 0), (b"$1\r\nab\r\n", 5, 4), (b"*1\r\nx", 4, 4),
+        (b"*1\r\n_", 4, 4),
+    ];
+    for (bytes, begins, offset) in rows {
+        let mut extent = Extent::new(Protocol::Resp2);
         for have in 0..=begins {
             assert_eq!(extent.advance(&bytes[..have]), Ok(None), "{bytes:?} {have}");
         }
         let refused = extent.advance(&bytes[..begins + 1]);
-        assert_eq!(refused, Err(Error::Invalid(None)), "{bytes:?}");
+        assert_eq!(refused, Err(Error::Invalid(Some(offset))), "{bytes:?}");
     }
 }
 
