@@ -77,8 +77,8 @@ module _ (protocol : Protocol) (e : Extent) (tokens rest : List ℕ)
       → (more left : List ℕ) → MatchesAtStart (IsReply protocol) (tokens ++ more) left → ⊥
   never_due none more left x =
       none more left
-            ((p.leads (rest ++ more) left).0
-              (subst (λ l. MatchesAtStart (IsReply protocol) l left)
+      ((p.leads (rest ++ more) left).0
+      (subst (λ l. MatchesAtStart (IsReply protocol) l left)
       (ap (λ l. l ++ more) p.split ∙ append_assoc p.front rest more) x))
 
   -- the part at the start of the rest is passed
@@ -194,7 +194,7 @@ module _ (protocol : Protocol) (e : Extent) (tokens rest : List ℕ)
   all_passed none zeros =
       let leads : (xs left : List ℕ)
       → MatchesAtStart (IsReply protocol) (p.front ++ xs) left
-          ↔ MatchesAtStart (AreReplies protocol 0) xs left =
+      ↔ MatchesAtStart (AreReplies protocol 0) xs left =
       rw (none, zeros) at p.leads in
       let (whole, reply, same) = (leads [] []).1 ([], refl, refl) in (
         p.front,

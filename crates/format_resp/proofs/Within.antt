@@ -66,11 +66,11 @@ module _ (protocol : Protocol) where
   unfolding First Elements EachText
   aggregate_within level count tokens left rest (us, text, e) after =
       let (ps, many, (vs, row, f)) =
-          gathered_from level count left rest rest [] [] after refl refl in
+      gathered_from level count left rest rest [] [] after refl refl in
       let same : length ps ≡ count = omega (arith, many) in (
         us ++ vs,
         led_back (Elements {A = ⊤} protocol (suc level)) tt protocol (heads.Replies count) us vs
-              text
+            text
             (ps, same, row),
         e ∙ ap (λ l. us ++ l) f ∙ sym (append_assoc us vs rest),
       )

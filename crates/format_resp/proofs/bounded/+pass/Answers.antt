@@ -40,15 +40,15 @@ pub pass_reply-returns-in-Ends : goal.pass_reply-returns-in-Ends
 pass_reply-returns-in-Ends t c =
     reply_within c.args.protocol c.args.level heads.Ends c.args.bytes.now c.in-Whole.left.now
     c.in-Whole.left.now _
-          (rw c.in-Ends.is at (c.in-Whole.ensures.told (all_none (drop 1 c.args.bytes.now))))
-          refl refl
+    (rw c.in-Ends.is at (c.in-Whole.ensures.told (all_none (drop 1 c.args.bytes.now))))
+    refl refl
 
 pub pass_reply-returns-in-Data : goal.pass_reply-returns-in-Data
 pass_reply-returns-in-Data t c =
     string_passed c.args.protocol c.args.level c.in-Data.bulk c.args.bytes.now
     c.in-Whole.left.now c.pass_string.result
     (rw c.in-Data.is at (c.in-Whole.ensures.told (all_none (drop 1 c.args.bytes.now))))
-          c.pass_string.ensures
+    c.pass_string.ensures
 
 pub pass_reply-returns-in-None : goal.pass_reply-returns-in-None
 pass_reply-returns-in-None t c =
@@ -74,4 +74,4 @@ pass_reply-returns-in-Some t c =
     replies_passed c.args.protocol c.args.level inner c.in-Replies.count c.args.bytes.now
     c.in-Whole.left.now c.pass_replies.result deeper
     (rw c.in-Replies.is at (c.in-Whole.ensures.told (all_none (drop 1 c.args.bytes.now))))
-          c.pass_replies.ensures
+    c.pass_replies.ensures

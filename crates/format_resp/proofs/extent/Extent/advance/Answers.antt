@@ -18,7 +18,7 @@ pub returns-in-Some-clause-kept : goal.returns-in-Some-clause-kept
 returns-in-Some-clause-kept c =
     let (low, high, is, size) = c.in-Some.ensures.lookup.0 in
     kept_more c.args.protocol c.walk.result c.args.self.now c.walk.new.self c.args.bytes.now
-          c.in-Some.rest.now is
+    c.in-Some.rest.now is
     c.walk.ensures.kept
 
 pub returns-in-None-clause-wants : goal.returns-in-None-clause-wants
