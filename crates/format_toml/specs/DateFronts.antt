@@ -8,8 +8,8 @@ use Rattle.format_toml.specs.Times.{IsSpacedTime, UnquotedText, unquoted_made}
 use Rattle.format_toml.specs.Toml.{IsUnquoted}
 use Rattle.format_toml_tree.specs.Dates.{Clock, FourDigits, Fraction, FullDate, HourAndMinute}
 use Rattle.format_toml_tree.specs.Dates.{InTurn, IsAlone, IsBehind, IsDateTime, IsDelimiter}
-use Rattle.format_toml_tree.specs.Dates.{IsDigit, IsDigitOf, IsOffset, IsTimed, Marked, MaybeOffset}
-use Rattle.format_toml_tree.specs.Dates.{TimeText, TwoDigits}
+use Rattle.format_toml_tree.specs.Dates.{IsDigit, IsOffset, IsTimed, Marked, MaybeOffset, TimeText}
+use Rattle.format_toml_tree.specs.Dates.{TwoDigits}
 use Rattle.format_toml_tree.specs.declared.value.Date.{Date}
 use Rattle.format_toml_tree.specs.declared.value.DateTime.{DateTime}
 use Rattle.format_toml_tree.specs.declared.value.DateTime.TheVariants as dates
@@ -19,17 +19,8 @@ use Rattle.grammars.specs.Texts.{StartsWith}
 
 -- ---- characters
 
-digit_is : (n c : ℕ) → IsDigitOf n c → IsDigit c
-digit_is n c is = omega (arith, is)
-
 digit : (c : ℕ) → IsDigit c → IsUnquoted c
 digit c is = inl (omega (arith, is))
-
-colon : IsUnquoted 58
-colon = inl (omega arith)
-
-minus : IsUnquoted 45
-minus = inr (inr (inr (inr (inl (omega arith)))))
 
 -- ---- properties of tokens that still hold with more of these characters before them
 
@@ -40,8 +31,8 @@ module _ (P : List ℕ → Type 0) (more : (c : ℕ) (l : List ℕ) → IsUnquot
   two_more : (tokens : List ℕ) (n : ℕ) (rest : List ℕ) → TwoDigits tokens n rest → P rest → P tokens
   unfolding TwoDigits
   two_more tokens n rest (t, o, c, d, tens, ones, e, is) x =
-      one_more c (d ∷ rest) tokens (digit c (digit_is t c tens))
-      (more d rest (digit d (digit_is o d ones)) x) e
+      one_more c (d ∷ rest) tokens (inl (omega (arith, tens)))
+      (more d rest (inl (omega (arith, ones))) x) e
 
   marked_more : (mark : ℕ) → IsUnquoted mark → (tokens : List ℕ) (n : ℕ) (rest : List ℕ)
       → Marked mark tokens n rest → P rest → P tokens
@@ -55,14 +46,16 @@ module _ (P : List ℕ → Type 0) (more : (c : ℕ) (l : List ℕ) → IsUnquot
   date_more tokens date rest ((a, b, (h, l, mid, first, last, is), m, d), least, most) x =
       two_more tokens h mid first
       (two_more mid l a last
-      (marked_more 45 minus a date.month b m (marked_more 45 minus b date.day rest d x)))
+      (marked_more 45 (grind arith) a date.month b m
+      (marked_more 45 (grind arith) b date.day rest d x)))
 
   clock_more : (tokens : List ℕ) (clock : ℕ × ℕ × ℕ) (rest : List ℕ) → Clock tokens clock rest
       → P rest → P tokens
   unfolding Clock InTurn
   clock_more tokens clock rest ((a, b, h, m, s), hours, minutes, seconds) x =
       two_more tokens clock.0 a h
-      (marked_more 58 colon a clock.1 b m (marked_more 58 colon b clock.2 rest s x))
+      (marked_more 58 (inl (omega arith)) a clock.1 b m
+      (marked_more 58 (inl (omega arith)) b clock.2 rest s x))
 
   digits_more : (digits rest : List ℕ) → All IsDigit digits → P rest → P (digits ++ rest)
   digits_more [] rest all x = x
@@ -74,7 +67,7 @@ module _ (P : List ℕ → Type 0) (more : (c : ℕ) (l : List ℕ) → IsUnquot
   unfolding Fraction
   fraction_more tokens digits rest (inl (none, e)) x = subst P (sym e) x
   fraction_more tokens digits rest (inr (some, all, e)) x =
-      one_more 46 (digits ++ rest) tokens (inr (inr (inr (inr (inl (omega arith))))))
+      one_more 46 (digits ++ rest) tokens (grind arith)
       (digits_more digits rest all x) e
 
   offset_more : (offset : Offset) (tokens : List ℕ) → IsOffset offset tokens → P [] → P tokens
@@ -83,10 +76,10 @@ module _ (P : List ℕ → Type 0) (more : (c : ℕ) (l : List ℕ) → IsUnquot
   offset_more Zulu tokens (inr e) x = one_more 122 [] tokens (inr (inr (inl (omega arith)))) x e
   offset_more (Minutes z) tokens (h, m, mid, (k, two, marked, hours, minutes), inl (e, is)) x =
       one_more 43 mid tokens (inr (inr (inr (inl refl))))
-      (two_more mid h k two (marked_more 58 colon k m [] marked x)) e
+      (two_more mid h k two (marked_more 58 (inl (omega arith)) k m [] marked x)) e
   offset_more (Minutes z) tokens (h, m, mid, (k, two, marked, hours, minutes), inr (e, is)) x =
-      one_more 45 mid tokens minus
-      (two_more mid h k two (marked_more 58 colon k m [] marked x)) e
+      one_more 45 mid tokens (grind arith)
+      (two_more mid h k two (marked_more 58 (inl (omega arith)) k m [] marked x)) e
 
   maybe_more : (offset : Option Offset) (tokens : List ℕ) → MaybeOffset offset tokens → P []
       → P tokens
@@ -114,13 +107,7 @@ two_begin : (tokens : List ℕ) (n : ℕ) (rest : List ℕ) → TwoDigits tokens
     → StartsWith IsDigit tokens
 unfolding TwoDigits
 two_begin tokens n rest (t, o, c, d, tens, ones, e, is) =
-    let P : List ℕ → Type 0 = λ l. StartsWith IsDigit l in subst P (sym e) (digit_is t c tens)
-
-timed_begin : (clock : ℕ × ℕ × ℕ) (digits : List ℕ) (offset : Option Offset) (tokens : List ℕ)
-    → IsTimed clock digits offset tokens → StartsWith IsDigit tokens
-unfolding IsTimed Clock InTurn
-timed_begin clock digits offset tokens (a, b, ((c, d, h, m, s), hours, minutes, seconds), f, o) =
-    two_begin tokens clock.0 c h
+    let P : List ℕ → Type 0 = λ l. StartsWith IsDigit l in subst P (sym e) (omega (arith, tens))
 
 timed_front : (clock : ℕ × ℕ × ℕ) (digits : List ℕ) (offset : Option Offset) (tokens : List ℕ)
     → IsTimed clock digits offset tokens
@@ -132,7 +119,7 @@ timed_front clock digits offset tokens (
   ((c, d, (t, o, a, b, tens, ones, e, is), (mid, f, m), s), hours, minutes, seconds),
   fraction,
   end,
-) = (a, b, mid, digit_is t a tens, digit_is o b ones, e ∙ ap (λ l. a ∷ b ∷ l) f)
+) = (a, b, mid, omega (arith, tens), omega (arith, ones), e ∙ ap (λ l. a ∷ b ∷ l) f)
 
 -- after a space
 timed_spaced : (clock : ℕ × ℕ × ℕ) (digits : List ℕ) (offset : Option Offset) (tokens : List ℕ)
@@ -168,23 +155,17 @@ all_parts tokens all = (tokens, [], all, sym (append-nil tokens), inl refl)
 delimited : (c : ℕ) (rest tokens : List ℕ) (clock : ℕ × ℕ × ℕ) (digits : List ℕ)
     (offset : Option Offset) → IsDelimiter c → tokens ≡ c ∷ rest
     → IsTimed clock digits offset rest → InParts tokens
-delimited c rest tokens clock digits offset is e x = subst (λ l. InParts l) (sym e) (by is)
+delimited c rest tokens clock digits offset is e x = rw e (by is)
   where
     letter : IsUnquoted c → InParts (c ∷ rest)
-    letter is = all_parts (c ∷ rest)
-        (all_more c rest is (timed_all clock digits offset rest x))
+    letter is = all_parts (c ∷ rest) (all_more c rest is (timed_all clock digits offset rest x))
 
     by : IsDelimiter c → InParts (c ∷ rest)
-    by (inl f) = letter (inr (inl (omega (arith, f))))
-    by (inr (inl f)) = letter (inr (inr (inl (omega (arith, f)))))
+    by (inl f) = letter (grind arith)
+    by (inr (inl f)) = letter (grind arith)
     by (inr (inr f)) =
-        let time = timed_spaced clock digits offset rest x in (
-          [],
-          c ∷ rest,
-          All-nil IsUnquoted,
-          refl,
-          inr (subst (λ k. IsSpacedTime (k ∷ rest)) (sym f) time),
-        )
+        let time = timed_spaced clock digits offset rest x in
+        ([], c ∷ rest, All-nil IsUnquoted, refl, inr (rw f time))
 
 module _ {A : Type 0} where
   behind_parts : (date : Date) (d : DateTime A) (tokens : List ℕ) → IsBehind date d tokens
@@ -212,7 +193,7 @@ module _ {A : Type 0} where
       (inl (date, rest, ((a, b, (h, l, mid, first, last, is), m, n), least, most), behind)) =
       two_begin tokens h mid first
   date_begins d tokens (inr (time, e, (clock, digits, t, x))) =
-      timed_begin clock digits None tokens x
+      let (a, b, more, one, other, f) = timed_front clock digits None tokens x in rw f one
 
   -- so they are what is read as one
   pub date_unquoted : (d : DateTime A) (tokens : List ℕ) → IsDateTime d tokens

@@ -1,288 +1,221 @@
--- Lemmas about the continuation of digits.
+-- Digits with underscores between them: what is written, and how they continue in a loop.
+use Rattle.std.proofs.lemmas.List.{drop_all, drop_more, take-append-drop, take_all}
 use Rattle.std.specs.Char.{digit_value}
 use native.Mathlib.Nat.{le-mul_of_pos_right}
-use Rattle.std.specs.Str.Parse.{digits_value_after}
-use Rattle.std.specs.Prelude.{◌≡◌, ◌<◌, ◌≤◌, ◌↔◌, ◌+◌, ◌*◌, ℕ, Bool, true, false, List, []}
-use Rattle.std.specs.Prelude.{◌∷◌, ◌++◌, zero, suc, length, drop}
-use Rattle.std.proofs.Common.{refl, sym, ap, subst, inl, inr, ◌∙◌, arith, get_or, drop-cons}
-use Rattle.std.proofs.Common.{◌⊎◌}
+use Rattle.std.specs.List.{All, filter}
+use Rattle.std.specs.Str.Parse.{digits_value, digits_value_after}
+use Rattle.std.specs.Prelude.{◌≡◌, ◌⊎◌, ◌<◌, ◌≤◌, ◌↔◌, ◌==◌, ◌+◌, ◌*◌, ℕ, Bool, true}
+use Rattle.std.specs.Prelude.{false, not}
+use Rattle.std.specs.Prelude.{List, [], ◌∷◌, ◌++◌, length, drop, take, cond}
+use Rattle.std.proofs.Common.{refl, sym, ap, subst, inl, inr, ◌∙◌, arith, get_or}
+use Rattle.std.proofs.lemmas.Bool.Decides.{nat_tests}
+use Rattle.std.proofs.lemmas.List.Elements.{All-cons, All-nil, filter-append, filter_more}
 use Rattle.format_toml.specs.Numbers.{DigitsText, NextText, NumberText}
 use Rattle.grammars.specs.Texts.{BothText, EachText, EitherText, Spelled, TokenOfText}
 
--- `Continues base due number tokens n`: after digits with the value `number`, the digits in
--- `tokens` make `n`. If `due` is true, a digit must follow.
-abbrev pub Continues : ℕ → Bool → ℕ → List ℕ → ℕ → Type 0
-Continues base true number tokens n =
-    (ds : List ℕ) × DigitsText base ds tokens × (n ≡ digits_value_after base number ds)
-Continues base false number tokens n =
-    (ds : List ℕ) × EachText (NextText base) ds tokens × (n ≡ digits_value_after base number ds)
-
 pub head_of : {a b : ℕ} {xs ys : List ℕ} → a ∷ xs ≡ b ∷ ys → a ≡ b
-head_of e = ap (λ l. get_or l 0 0) e
+head_of e = cc
 
 pub tail_of : {a b : ℕ} {xs ys : List ℕ} → a ∷ xs ≡ b ∷ ys → xs ≡ ys
-tail_of e = ap (λ l. drop 1 l) e
+tail_of e = cc
 
 pub no_cons : {a : ℕ} {xs : List ℕ} → [] ≡ a ∷ xs → ⊥
-no_cons e = absurd (omega (arith, ap (λ l. length l) e))
+no_cons e = cc
+
+-- what is not an underscore
+abbrev pub kept : List ℕ → List ℕ
+kept tokens = filter (λ c. not (c == 95)) tokens
+
+-- Digits of the base, with an underscore before any but the first; if `due`, one must be next.
+abbrev pub GoesOn : ℕ → Bool → List ℕ → Type 0
+GoesOn base due [] = due ≡ false
+GoesOn base due (c ∷ cs) =
+    ((digit_value c < base) × GoesOn base false cs)
+    ⊎ ((c ≡ 95) × (due ≡ false) × GoesOn base true cs)
+
+kept_other : (c : ℕ) (cs : List ℕ) → (c ≡ 95 → ⊥) → kept (c ∷ cs) ≡ c ∷ kept cs
+kept_other c cs other = grind (arith, nat_tests)
+
+pub true_false : true ≡ false → ⊥
+true_false e = cc
+
+-- ---- what is written
 
 module _ (base : ℕ) (most : base ≤ 36) where
-  pub first : (ds : List ℕ) (tokens : List ℕ) → DigitsText base ds tokens
-      → (d : ℕ) × (es : List ℕ) × (ys : List ℕ) × (digit_value d < base)
-      × EachText (NextText base) es ys
-      × (tokens ≡ d ∷ ys) × (ds ≡ d ∷ es)
-  unfolding BothText TokenOfText
-  first ds tokens (d, es, xs, ys, (is, x), row, e, f) =
-      (d, es, ys, is, row, e ∙ ap (λ l. l ++ ys) x, f)
+  pub no_under : (c : ℕ) → digit_value c < base → c ≡ 95 → ⊥
+  no_under c is e = let big : digit_value 95 < base = rw e at is in omega arith
 
-  pub next : (ds : List ℕ) (tokens : List ℕ) → EachText (NextText base) ds tokens
-      → ((ds ≡ []) × (tokens ≡ []))
-      ⊎ ((d : ℕ) × (es : List ℕ) × (ys : List ℕ) × (digit_value d < base)
-      × EachText (NextText base) es ys × ((tokens ≡ d ∷ ys) ⊎ (tokens ≡ 95 ∷ d ∷ ys))
-      × (ds ≡ d ∷ es))
+  abbrev Kept : Bool → List ℕ → List ℕ → Type 0
+  Kept due ds tokens = GoesOn base due tokens × (ds ≡ kept tokens)
+
+  one_more : (due : Bool) (d : ℕ) (ds tokens : List ℕ) → digit_value d < base
+      → Kept false ds tokens → Kept due (d ∷ ds) (d ∷ tokens)
+  one_more due d ds tokens is (goes, same) =
+      (inl (is, goes), ap (λ l. d ∷ l) same ∙ sym (kept_other d tokens (no_under d is)))
+
+  row_goes : (ds tokens : List ℕ) → EachText (NextText base) ds tokens → Kept false ds tokens
   unfolding EachText EitherText TokenOfText BothText Spelled
-  next [] tokens e = inl (refl, e)
-  next (d ∷ es) tokens (xs, ys, inl (is, x), row, e) =
-      inr (d, es, ys, is, row, inl (e ∙ ap (λ l. l ++ ys) x), refl)
-  next (d ∷ es) tokens (xs, ys, inr (u, v, us, vs, (a, b), (is, y), x, f), row, e) =
-      inr (
-        v,
-        es,
-        ys,
-        is,
-        row,
-        inr (e ∙ ap (λ l. l ++ ys) (x ∙ ap (λ l. l ++ vs) b ∙ ap (λ l. 95 ∷ l) y)),
-        ap (λ k. k ∷ es) f,
+  row_goes [] tokens e = rw e (refl, refl)
+  row_goes (d ∷ ds) tokens (xs, ys, inl (is, x), row, e) =
+      let at : tokens ≡ d ∷ ys = cc in rw at (one_more false d ds ys is (row_goes ds ys row))
+  row_goes (d ∷ ds) tokens (xs, ys, inr (u, v, us, vs, (a, b), (is, y), x, f), row, e) =
+      let at : tokens ≡ 95 ∷ v ∷ ys = cc in
+      let (goes, same) = one_more true v ds ys is (row_goes ds ys row) in
+      rw (f, at) (inr (refl, refl, goes), same)
+
+  pub digits_goes : (ds tokens : List ℕ) → DigitsText base ds tokens → Kept true ds tokens
+  unfolding BothText TokenOfText
+  digits_goes ds tokens (d, es, xs, ys, (is, x), row, e, f) =
+      let at : tokens ≡ d ∷ ys = cc in rw (f, at) (one_more true d es ys is (row_goes es ys row))
+
+  row_back : (tokens : List ℕ) → GoesOn base false tokens
+      → EachText (NextText base) (kept tokens) tokens
+  unfolding EachText EitherText TokenOfText BothText Spelled
+  row_back [] goes = refl
+  row_back (c ∷ cs) (inl (is, goes)) =
+      rw (kept_other c cs (no_under c is)) (c ∷ [], cs, inl (is, refl), row_back cs goes, refl)
+  row_back (c ∷ []) (inr (e, ready, goes)) = absurd (true_false goes)
+  row_back (c ∷ d ∷ ds) (inr (e, ready, inr (f, due, goes))) = absurd (true_false due)
+  row_back (c ∷ d ∷ ds) (inr (e, ready, inl (is, goes))) =
+      rw (e, kept_other d ds (no_under d is)) (
+        95 ∷ d ∷ [],
+        ds,
+        inr (95, d, 95 ∷ [], d ∷ [], (refl, refl), (is, refl), refl, refl),
+        row_back ds goes,
+        refl,
       )
 
-  pub make_first : (d : ℕ) (es ys : List ℕ) → digit_value d < base → EachText (NextText base) es ys
-      → DigitsText base (d ∷ es) (d ∷ ys)
+  pub digits_back : (tokens : List ℕ) → GoesOn base true tokens
+      → DigitsText base (kept tokens) tokens
   unfolding BothText TokenOfText
-  make_first d es ys is row = (d, es, d ∷ [], ys, (is, refl), row, refl, refl)
+  digits_back [] goes = absurd (true_false goes)
+  digits_back (c ∷ cs) (inl (is, goes)) =
+      (c, kept cs, c ∷ [], cs, (is, refl), row_back cs goes, refl, kept_other c cs (no_under c is))
+  digits_back (c ∷ cs) (inr (e, ready, goes)) = absurd (true_false ready)
 
-  make_next : (d : ℕ) (es ys : List ℕ) → digit_value d < base → EachText (NextText base) es ys
-      → EachText (NextText base) (d ∷ es) (d ∷ ys)
-  unfolding EachText EitherText TokenOfText
-  make_next d es ys is row = (d ∷ [], ys, inl (is, refl), row, refl)
-
-  make_under : (d : ℕ) (es ys : List ℕ) → digit_value d < base → EachText (NextText base) es ys
-      → EachText (NextText base) (d ∷ es) (95 ∷ d ∷ ys)
-  unfolding EachText EitherText TokenOfText BothText Spelled
-  make_under d es ys is row = (
-    95 ∷ d ∷ [],
-    ys,
-    inr (95, d, 95 ∷ [], d ∷ [], (refl, refl), (is, refl), refl, refl),
-    row,
-    refl,
+  -- the number that they are
+  pub number_goes : (n : ℕ) (tokens : List ℕ) → NumberText base n tokens
+      ↔ (GoesOn base true tokens × (n ≡ digits_value base (kept tokens)))
+  unfolding NumberText
+  number_goes n tokens = (
+    λ (ds, x, v). let (goes, same) = digits_goes ds tokens x in
+        (goes, v ∙ ap (λ l. digits_value base l) same),
+    λ (goes, v). (kept tokens, digits_back tokens goes, v),
   )
 
-  no_under : (d : ℕ) → digit_value d < base → 95 ≡ d → ⊥
-  no_under d is e =
-      let P : ℕ → Type 0 = λ c. digit_value c < base in
-      let big : 36 < base = subst P (sym e) is in absurd (omega (arith, big, most))
-
-  -- ---- steps
-
-  pub digit_on : (due : Bool) (number c : ℕ) (cs : List ℕ) (n : ℕ) → digit_value c < base
-      → Continues base due number (c ∷ cs) n
-      → Continues base false (number * base + digit_value c) cs n
-  digit_on true number c cs n is (ds, text, v) =
-      let (d, es, ys, less, row, e, f) = first ds (c ∷ cs) text in
-      let P : List ℕ → Type 0 = λ l. EachText (NextText base) es l in (
-        es,
-        subst P (sym (tail_of e)) row,
-        v ∙ ap (λ l. digits_value_after base number l) f
-            ∙ ap (λ k. digits_value_after base (number * base + digit_value k) es)
-            (sym (head_of e)),
-      )
-  digit_on false number c cs n is (ds, text, v) = elim (next ds (c ∷ cs) text) [
-    | inl (f, e) ↦ absurd (no_cons (sym e))
-    | inr (d, es, ys, less, row, inl e, f) ↦
-        let P : List ℕ → Type 0 = λ l. EachText (NextText base) es l in (
-          es,
-          subst P (sym (tail_of e)) row,
-          v ∙ ap (λ l. digits_value_after base number l) f
-              ∙ ap (λ k. digits_value_after base (number * base + digit_value k) es)
-              (sym (head_of e)),
-        )
-    | inr (d, es, ys, less, row, inr e, f) ↦ absurd (no_under c is (sym (head_of e)))
-  ]
-
-  pub digit_back : (due : Bool) (number c : ℕ) (cs : List ℕ) (n : ℕ) → digit_value c < base
-      → Continues base false (number * base + digit_value c) cs n
-      → Continues base due number (c ∷ cs) n
-  digit_back true number c cs n is (es, row, v) = (c ∷ es, make_first c es cs is row, v)
-  digit_back false number c cs n is (es, row, v) = (c ∷ es, make_next c es cs is row, v)
-
-  pub under_on : (number : ℕ) (cs : List ℕ) (n : ℕ) → Continues base false number (95 ∷ cs) n
-      → Continues base true number cs n
-  under_on number cs n (ds, text, v) = elim (next ds (95 ∷ cs) text) [
-    | inl (f, e) ↦ absurd (no_cons (sym e))
-    | inr (d, es, ys, less, row, inl e, f) ↦ absurd (no_under d less (head_of e))
-    | inr (d, es, ys, less, row, inr e, f) ↦
-        let P : List ℕ → Type 0 = λ l. DigitsText base (d ∷ es) l in (
-          d ∷ es,
-          subst P (sym (tail_of e)) (make_first d es ys less row),
-          v ∙ ap (λ l. digits_value_after base number l) f,
-        )
-  ]
-
-  pub under_back : (number : ℕ) (cs : List ℕ) (n : ℕ) → Continues base true number cs n
-      → Continues base false number (95 ∷ cs) n
-  under_back number cs n (ds, text, v) =
-      let (d, es, ys, less, row, e, f) = first ds cs text in
-      let P : List ℕ → Type 0 = λ l. EachText (NextText base) (d ∷ es) (95 ∷ l) in (
-        d ∷ es,
-        subst P (sym e) (make_under d es ys less row),
-        v ∙ ap (λ l. digits_value_after base number l) f,
-      )
-
-  -- ---- where it ends
-
-  pub done : (number n : ℕ) → Continues base false number [] n → n ≡ number
-  done number n (ds, text, v) = elim (next ds [] text) [
-    | inl (f, e) ↦ v ∙ ap (λ l. digits_value_after base number l) f
-    | inr (d, es, ys, less, row, inl e, f) ↦ absurd (no_cons e)
-    | inr (d, es, ys, less, row, inr e, f) ↦ absurd (no_cons e)
-  ]
-
-  pub done_back : (number : ℕ) → Continues base false number [] number
-  unfolding EachText
-  done_back number = ([], refl, refl)
-
-  pub not_done : (number n : ℕ) → Continues base true number [] n → ⊥
-  not_done number n (ds, text, v) =
-      let (d, es, ys, less, row, e, f) = first ds [] text in no_cons e
-
-  pub under_due : (number : ℕ) (cs : List ℕ) (n : ℕ) → Continues base true number (95 ∷ cs) n → ⊥
-  under_due number cs n (ds, text, v) =
-      let (d, es, ys, less, row, e, f) = first ds (95 ∷ cs) text in no_under d less (head_of e)
-
-  pub no_digit : (due : Bool) (number c : ℕ) (cs : List ℕ) (n : ℕ) → base ≤ digit_value c
-      → (c ≡ 95 → ⊥) → Continues base due number (c ∷ cs) n → ⊥
-  no_digit true number c cs n not other (ds, text, v) =
-      let (d, es, ys, less, row, e, f) = first ds (c ∷ cs) text in
-      absurd (omega (arith, not, less, ap digit_value (head_of e)))
-  no_digit false number c cs n not other (ds, text, v) = elim (next ds (c ∷ cs) text) [
-    | inl (f, e) ↦ no_cons (sym e)
-    | inr (d, es, ys, less, row, inl e, f) ↦
-        absurd (omega (arith, not, less, ap digit_value (head_of e)))
-    | inr (d, es, ys, less, row, inr e, f) ↦ other (head_of e)
-  ]
-
-after_ge : (base number : ℕ) (ds : List ℕ) → 0 < base → number ≤ digits_value_after base number ds
-after_ge base number [] some = omega arith
-after_ge base number (c ∷ cs) some =
-    omega (
-      arith,
-      le-mul_of_pos_right {m = base} number some,
-      after_ge base (number * base + digit_value c) cs some,
-    )
-
-pub below : (base : ℕ) (due : Bool) (number : ℕ) (tokens : List ℕ) (n : ℕ) → 0 < base
-    → Continues base due number tokens n → number ≤ n
-below base true number tokens n some (ds, text, v) = omega (arith, v, after_ge base number ds some)
-below base false number tokens n some (ds, text, v) = omega (arith, v, after_ge base number ds some)
+-- a property of digits and underscores is one of all the tokens
+pub goes_each : {base : ℕ} (P : ℕ → Type 0) → ((c : ℕ) → digit_value c < base → P c) → P 95
+    → (due : Bool) (tokens : List ℕ) → GoesOn base due tokens → All P tokens
+goes_each P digit under due [] goes = All-nil P
+goes_each P digit under due (c ∷ cs) (inl (is, goes)) =
+    All-cons P c cs (digit c is) (goes_each P digit under false cs goes)
+goes_each P digit under due (c ∷ cs) (inr (e, _, goes)) =
+    All-cons P c cs (subst P (sym e) under) (goes_each P digit under true cs goes)
 
 -- ---- in a loop: the digits continue from this index
 
-pub record GoesSo (base : ℕ) (text : List ℕ) (i : ℕ) (due : Bool) (number : ℕ) : Type 0 where
-  pub same : (n : ℕ) → NumberText base n text ↔ Continues base due number (drop i text) n
+pub record DigitsSo (base : ℕ) (text : List ℕ) (i : ℕ) (due : Bool) : Type 0 where
+  pub same : GoesOn base true text ↔ GoesOn base due (drop i text)
 
-pub begins_so : (base : ℕ) (text : List ℕ) → GoesSo base text 0 true 0
-unfolding NumberText
-begins_so base text = record { same = λ n. (λ x. x, λ x. x) }
+module _ {base i : ℕ} {text : List ℕ} {due : Bool} (so : DigitsSo base text i due) where
+  -- the next one is a digit, or an underscore after a digit
+  abbrev pub Step : Bool → Type 0
+  Step now = ((digit_value (get_or text i 0) < base) × (now ≡ false))
+      ⊎ ((get_or text i 0 ≡ 95) × (due ≡ false) × (now ≡ true))
 
-pub at : (text : List ℕ) (i : ℕ) → i < length text
-    → drop i text ≡ get_or text i 0 ∷ drop (i + 1) text
-at text i less =
-    let more : suc i ≡ i + 1 = omega arith in
-    drop-cons text i 0 less ∙ ap (λ k. get_or text i 0 ∷ drop k text) more
+  here : i < length text → GoesOn base true text
+      ↔ GoesOn base due (get_or text i 0 ∷ drop (i + 1) text)
+  here less = rw (drop_more text i 0 less) at so.same
 
-pub drop_past : (xs : List ℕ) (i : ℕ) → length xs ≤ i → drop i xs ≡ []
-drop_past [] zero past = refl
-drop_past [] (suc i) past = refl
-drop_past (x ∷ xs) zero past = absurd (omega (arith, past))
-drop_past (x ∷ xs) (suc i) past = drop_past xs i (omega (arith, past))
-
-module _ {base i number : ℕ} {text : List ℕ} {due : Bool} (some : 2 ≤ base) (most : base ≤ 16)
-    (so : GoesSo base text i due number) where
-  here : i < length text → (n : ℕ) → NumberText base n text
-      → Continues base due number (get_or text i 0 ∷ drop (i + 1) text) n
-  here less n x =
-      let P : List ℕ → Type 0 = λ l. Continues base due number l n in
-      subst P (at text i less) ((so.same n).0 x)
-
-  back : i < length text → (n : ℕ)
-      → Continues base due number (get_or text i 0 ∷ drop (i + 1) text) n → NumberText base n text
-  back less n x =
-      let P : List ℕ → Type 0 = λ l. Continues base due number l n in
-      (so.same n).1 (subst P (sym (at text i less)) x)
-
-  pub over : i < length text → digit_value (get_or text i 0) < base → (n : ℕ)
-      → NumberText base n text
-      → number * base + digit_value (get_or text i 0) ≤ n
-  over less is n x =
-      below base false _ _ n (omega (arith, some))
-      (digit_on base (omega (arith, most)) due number _ _ n is (here less n x))
-
-  pub on_digit : i < length text → digit_value (get_or text i 0) < base → {now : Bool} {more : ℕ}
-      → now ≡ false → more ≡ number * base + digit_value (get_or text i 0)
-      → GoesSo base text (i + 1) now more
-  on_digit less is {now} {more} e f = record {
-    same = λ n.
-        let P : Bool → ℕ → Type 0 = λ b m. Continues base b m (drop (i + 1) text) n in (
-          λ x. subst (λ b. P b more) (sym e) (subst (λ m. P false m) (sym f)
-              (digit_on base (omega (arith, most)) due number _ _ n is (here less n x))),
-          λ y. back less n (digit_back base (omega (arith, most)) due number _ _ n is
-              (subst (λ m. P false m) f (subst (λ b. P b more) e y))),
-        );
+  pub goes_next : base ≤ 36 → i < length text → {now : Bool} → Step now
+      → DigitsSo base text (i + 1) now
+  goes_next most less {now} step = record {
+    same = (λ x. there step ((here less).0 x), λ y. (here less).1 (back step y));
   }
+    where
+      c : ℕ
+      c = get_or text i 0
 
-  pub on_under : i < length text → get_or text i 0 ≡ 95 → due ≡ false → {now : Bool} {more : ℕ}
-      → now ≡ true → more ≡ number → GoesSo base text (i + 1) now more
-  on_under less is ready {now} {more} e f = record {
-    same = λ n.
-        let P : Bool → ℕ → Type 0 = λ b m. Continues base b m (drop (i + 1) text) n in
-        let Q : Bool → Type 0 = λ b. Continues base b number (95 ∷ drop (i + 1) text) n in
-        let R : ℕ → Type 0 = λ c. Continues base due number (c ∷ drop (i + 1) text) n in (
-          λ x. subst (λ b. P b more) (sym e) (subst (λ m. P true m) (sym f)
-              (under_on base (omega (arith, most)) number _ n
-              (subst Q ready (subst R is (here less n x))))),
-          λ y. back less n (subst R (sym is) (subst Q (sym ready)
-              (under_back base (omega (arith, most)) number _ n
-              (subst (λ m. P true m) f (subst (λ b. P b more) e y))))),
-        );
-  }
+      there : Step now → GoesOn base due (get_or text i 0 ∷ drop (i + 1) text)
+          → GoesOn base now (drop (i + 1) text)
+      there (inl (is, e)) (inl (_, goes)) = rw e goes
+      there (inl (is, e)) (inr (f, _, _)) = absurd (no_under base most _ is f)
+      there (inr (f, _, _)) (inl (is, _)) = absurd (no_under base most _ is f)
+      there (inr (_, _, e)) (inr (_, _, goes)) = rw e goes
 
-  pub stops_under : i < length text → get_or text i 0 ≡ 95 → due ≡ true → (n : ℕ)
-      → NumberText base n text → ⊥
-  stops_under less is ready n x =
-      let Q : Bool → Type 0 = λ b. Continues base b number (95 ∷ drop (i + 1) text) n in
-      let R : ℕ → Type 0 = λ c. Continues base due number (c ∷ drop (i + 1) text) n in
-      under_due base (omega (arith, most)) number _ n (subst Q ready (subst R is (here less n x)))
+      back : Step now → GoesOn base now (drop (i + 1) text)
+          → GoesOn base due (get_or text i 0 ∷ drop (i + 1) text)
+      back (inl (is, e)) goes = inl (is, rw e at goes)
+      back (inr (f, ready, e)) goes = inr (f, ready, rw e at goes)
 
-  pub stops_digit : i < length text → base ≤ digit_value (get_or text i 0)
-      → (get_or text i 0 ≡ 95 → ⊥) → (n : ℕ) → NumberText base n text → ⊥
-  stops_digit less not other n x =
-      no_digit base (omega (arith, most)) due number _ _ n not other (here less n x)
+  pub goes_stop : i < length text → (digit_value (get_or text i 0) < base → ⊥)
+      → (get_or text i 0 ≡ 95 → due ≡ false → ⊥) → GoesOn base true text → ⊥
+  goes_stop less no_digit no_under goes = elim ((here less).0 goes) [
+    | inl (is, _) ↦ no_digit is
+    | inr (f, ready, _) ↦ no_under f ready
+  ]
 
-  pub ends_due : length text ≤ i → due ≡ true → (n : ℕ) → NumberText base n text → ⊥
-  ends_due past ready n x =
-      let Q : Bool → List ℕ → Type 0 = λ b l. Continues base b number l n in
-      not_done base (omega (arith, most)) number n
-      (subst (λ l. Q true l) (drop_past text i past)
-      (subst (λ b. Q b (drop i text)) ready ((so.same n).0 x)))
+  pub goes_end : length text ≤ i → GoesOn base true text ↔ (due ≡ false)
+  goes_end past = rw (drop_all i text past) at so.same
 
-  pub ends_done : length text ≤ i → due ≡ false
-      → NumberText base number text × ((m : ℕ) → NumberText base m text → m ≡ number)
-  ends_done past ready = (
-    let Q : Bool → List ℕ → Type 0 = λ b l. Continues base b number l number in
-        (so.same number).1 (subst (λ b. Q b (drop i text)) (sym ready) (subst (λ l. Q false l)
-        (sym (drop_past text i past)) (done_back base (omega (arith, most)) number))),
-    λ m x.
-        let Q : Bool → List ℕ → Type 0 = λ b l. Continues base b number l m in
-        done base (omega (arith, most)) number m
-        (subst (λ l. Q false l) (drop_past text i past)
-        (subst (λ b. Q b (drop i text)) ready ((so.same m).0 x))),
-  )
+-- ---- their number, so far
+
+after_append : (base m : ℕ) (xs ys : List ℕ) → digits_value_after base m (xs ++ ys)
+    ≡ digits_value_after base (digits_value_after base m xs) ys
+after_append base m [] ys = refl
+after_append base m (x ∷ xs) ys = after_append base (m * base + digit_value x) xs ys
+
+after_most : (base m : ℕ) (ds : List ℕ) → 0 < base → m ≤ digits_value_after base m ds
+after_most base m [] some = omega arith
+after_most base m (c ∷ cs) some =
+    omega (
+      arith,
+      le-mul_of_pos_right {m = base} m some,
+      after_most base (m * base + digit_value c) cs some,
+    )
+
+abbrev pub so_far : ℕ → List ℕ → ℕ → ℕ
+so_far base text i = digits_value base (kept (take i text))
+
+module _ (base : ℕ) (text : List ℕ) (i : ℕ) where
+  pub value_under : i < length text → get_or text i 0 ≡ 95
+      → so_far base text (i + 1) ≡ so_far base text i
+  value_under less is =
+      ap (λ l. digits_value base l) (filter_more (λ c. not (c == 95)) text i 0 less)
+      ∙ ap (λ c. digits_value base (kept (take i text) ++ cond (not (c == 95)) (c ∷ []) [])) is
+      ∙ after_append base 0 (kept (take i text)) []
+
+  pub value_digit : i < length text → (get_or text i 0 ≡ 95 → ⊥)
+      → so_far base text (i + 1) ≡ so_far base text i * base + digit_value (get_or text i 0)
+  value_digit less other =
+      ap (λ l. digits_value base l) (filter_more (λ c. not (c == 95)) text i 0 less)
+      ∙ ap (λ l. digits_value base (kept (take i text) ++ l))
+      (kept_other (get_or text i 0) [] other)
+      ∙ after_append base 0 (kept (take i text)) (get_or text i 0 ∷ [])
+
+  pub value_most : 0 < base → so_far base text i ≤ digits_value base (kept text)
+  value_most some =
+      let whole : digits_value base (kept text)
+      ≡ digits_value_after base (so_far base text i) (kept (drop i text)) =
+      ap (λ l. digits_value base (kept l)) (sym (take-append-drop i text))
+      ∙ ap (λ l. digits_value base l)
+      (filter-append (λ c. not (c == 95)) (take i text) (drop i text))
+      ∙ after_append base 0 (kept (take i text)) (kept (drop i text)) in
+      omega (arith, after_most base (so_far base text i) (kept (drop i text)) some)
+
+  pub value_next : {number next : ℕ} → i < length text → (get_or text i 0 ≡ 95 → ⊥)
+      → number ≡ so_far base text i → next ≡ number * base + digit_value (get_or text i 0)
+      → next ≡ so_far base text (i + 1)
+  value_next less other is same =
+      same ∙ ap (λ k. k * base + digit_value (get_or text i 0)) is ∙ sym (value_digit less other)
+
+  pub value_end : length text ≤ i → so_far base text i ≡ digits_value base (kept text)
+  value_end past = ap (λ l. digits_value base (kept l)) (take_all i text past)
+
+-- a number is at least the number of its first digits
+pub value_over : (base : ℕ) (text : List ℕ) (i : ℕ) {number : ℕ} (n : ℕ) → 0 < base
+    → i < length text → (get_or text i 0 ≡ 95 → ⊥) → number ≡ so_far base text i
+    → n ≡ digits_value base (kept text) → number * base + digit_value (get_or text i 0) ≤ n
+value_over base text i {number} n some less other is all =
+    let next = value_next base text i {number = number} less other is refl in
+    let most = value_most base text (i + 1) some in omega (arith, next, most)

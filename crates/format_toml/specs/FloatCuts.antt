@@ -1,31 +1,102 @@
 -- Floats, cut at their letter and at their point.
+use Rattle.std.proofs.lemmas.List.{drop_more, take_rest, take-append-drop, take_all}
 use Rattle.std.specs.Borrow.{Bor}
+use Rattle.std.specs.Char.{digit_value}
 use Rattle.std.specs.List.{All}
-use Rattle.std.specs.Prelude.{◌≡◌, ◌⊎◌, ◌≤◌, ◌↔◌, ℕ}
-use Rattle.std.specs.Prelude.{List, [], ◌∷◌, ◌++◌, Some, None, length}
-use Rattle.std.specs.Prelude.{Bool, true, false}
+use Rattle.std.specs.Prelude.{◌≡◌, ◌⊎◌, ◌≤◌, ◌<◌, ◌↔◌, ◌+◌, ◌-◌, ℕ, Bool, true, false, List}
+use Rattle.std.specs.Prelude.{[]}
+use Rattle.std.specs.Prelude.{◌∷◌, ◌++◌, Some, None, length, drop, take}
 use Rattle.std.specs.Str.{bytes_eq}
 use Rattle.std.proofs.lemmas.Bool.{both_ways}
 use Rattle.std.proofs.lemmas.Slice.Eq.{bytes_eq-Decides}
-use Rattle.std.proofs.Common.{refl, sym, ap, subst, inl, inr, ◌∙◌, arith, append_assoc}
+use Rattle.std.proofs.Common.{refl, sym, ap, subst, inl, inr, ◌∙◌, arith, get_or}
 use Rattle.std.proofs.lemmas.List.Elements.{All-append, All-cons, All-tail}
+use Rattle.std.proofs.lemmas.Str.{digit_value_digit}
 use Rattle.std.proofs.lemmas.Str.Parse.{digit_from_value}
-use Rattle.format_toml.specs.Digits.{first, head_of, next, no_cons, tail_of}
-use Rattle.format_toml.specs.FloatParts.{Neither}
-use Rattle.format_toml.specs.Floats.{AreDigits, IsDecimal, IsExponent, IsFraction, IsLetterE}
-use Rattle.format_toml.specs.Floats.{IsMagnitude, IsSign, IsTail, IsWhole, Signed, SignsOff}
-use Rattle.format_toml.specs.Floats.{SplitsAt}
-use Rattle.format_toml.specs.Floats.{Unsigned}
-use Rattle.format_toml.specs.Numbers.{NextText}
-use Rattle.grammars.specs.Texts.{EachText}
+use Rattle.format_toml.specs.Digits.{GoesOn, digits_back, digits_goes, goes_each, head_of, kept}
+use Rattle.format_toml.specs.Digits.{no_cons, tail_of, true_false}
+use Rattle.format_toml.specs.Floats.{AreDigits, IsDecimal, IsMagnitude, IsScientific, IsSign}
+use Rattle.format_toml.specs.Floats.{IsWhole, Signed, SignsOff, SplitsAt, Unsigned}
 
--- ---- the offset is unique
+-- ---- which characters
 
-neither_at : (P : ℕ → Type 0) (xs ys : List ℕ) (c : ℕ) → All P (xs ++ c ∷ ys) → P c
-neither_at P [] ys c all = all 0 c (omega arith)
-neither_at P (x ∷ xs) ys c all = neither_at P xs ys c (All-tail P x (xs ++ c ∷ ys) all)
+pub are_goes : (tokens : List ℕ) → AreDigits tokens ↔ GoesOn 10 true tokens
+unfolding AreDigits
+are_goes tokens = (
+  λ (ds, x). (digits_goes 10 (omega arith) ds tokens x).0,
+  λ goes. (kept tokens, digits_back 10 (omega arith) tokens goes),
+)
+
+pub no_value : (c : ℕ) → (c < 48) ⊎ (57 < c) → digit_value c < 10 → ⊥
+no_value c not is = let range = digit_from_value c is in omega (arith, range)
+
+pub has_value : (c : ℕ) → (48 ≤ c) × (c ≤ 57) → digit_value c < 10
+has_value c range = let same = digit_value_digit c range in omega (arith, same)
+
+-- a property of digits and underscores is one of all the tokens
+pub digits_each : (P : ℕ → Type 0) → ((c : ℕ) → (48 ≤ c) × (c ≤ 57) → P c) → P 95
+    → (tokens : List ℕ) → AreDigits tokens → All P tokens
+digits_each P digit under tokens x =
+    goes_each P (λ c is. digit c (digit_from_value c is)) under true tokens ((are_goes tokens).0 x)
+
+-- a digit is first
+abbrev pub BeginsByDigit : List ℕ → Type 0
+BeginsByDigit tokens = (d : ℕ) × (ys : List ℕ) × ((48 ≤ d) × (d ≤ 57)) × (tokens ≡ d ∷ ys)
+
+digits_first : (tokens : List ℕ) → AreDigits tokens → BeginsByDigit tokens
+digits_first tokens x = by tokens ((are_goes tokens).0 x)
+  where
+    by : (tokens : List ℕ) → GoesOn 10 true tokens → BeginsByDigit tokens
+    by [] due = absurd (true_false due)
+    by (c ∷ cs) (inl (is, goes)) = (c, cs, digit_from_value c is, refl)
+    by (c ∷ cs) (inr (_, due, _)) = absurd (true_false due)
+
+-- what is before a letter
+abbrev IsNumber : List ℕ → Type 0
+IsNumber tokens = IsWhole tokens ⊎ IsDecimal tokens
+
+number_first : (tokens : List ℕ) → IsNumber tokens → BeginsByDigit tokens
+unfolding IsWhole IsDecimal
+number_first tokens (inl (w, lone)) = digits_first tokens w
+number_first tokens (inr (whole, digits, (w, lone), ds, f)) =
+    let (d, ys, range, e) = digits_first whole w in
+    (d, ys ++ 46 ∷ digits, range, f ∙ ap (λ l. l ++ 46 ∷ digits) e)
+
+pub magnitude_first : (tokens : List ℕ) → IsMagnitude tokens → BeginsByDigit tokens
+unfolding IsScientific
+magnitude_first tokens (inl x) = number_first tokens (inr x)
+magnitude_first tokens (inr (number, letter, power, n, l, p, f)) =
+    let (d, ys, range, e) = number_first number n in
+    (d, ys ++ letter ∷ power, range, f ∙ ap (λ l. l ++ letter ∷ power) e)
+
+-- ---- the first of two characters
+
+abbrev pub Neither : ℕ → ℕ → ℕ → Type 0
+Neither one other c = ((c ≡ one) ⊎ (c ≡ other)) → ⊥
+
+pub split_here : {one other i : ℕ} {text rest : List ℕ} → i < length text
+    → (get_or text i 0 ≡ one) ⊎ (get_or text i 0 ≡ other) → All (Neither one other) (take i text)
+    → rest ≡ take (length text - (i + 1)) (drop (i + 1) text)
+    → (c : ℕ) × ((c ≡ one) ⊎ (c ≡ other)) × (text ≡ take i text ++ c ∷ rest)
+    × All (Neither one other) (take i text)
+split_here {i = i} {text} less is none e =
+    let all = e ∙ take_rest text (i + 1) in
+    let cut = sym (take-append-drop i text)
+    ∙ ap (λ l. take i text ++ l) (drop_more text i 0 less) in
+    (get_or text i 0, is, cut ∙ ap (λ l. take i text ++ get_or text i 0 ∷ l) (sym all), none)
+
+pub split_none : {one other i : ℕ} (text : List ℕ) → length text ≤ i
+    → All (Neither one other) (take i text) → All (Neither one other) text
+split_none {one} {other} {i} text past none =
+    subst (λ l. All (Neither one other) l) (take_all i text past) none
 
 module _ (one other : ℕ) where
+  neither_at : (xs ys : List ℕ) (c : ℕ) → All (Neither one other) (xs ++ c ∷ ys)
+      → Neither one other c
+  neither_at [] ys c all = all 0 c (omega arith)
+  neither_at (x ∷ xs) ys c all =
+      neither_at xs ys c (All-tail (Neither one other) x (xs ++ c ∷ ys) all)
+
   one_split : (xs zs ys bs : List ℕ) (c d : ℕ) → All (Neither one other) xs
       → All (Neither one other) zs → (c ≡ one) ⊎ (c ≡ other) → (d ≡ one) ⊎ (d ≡ other)
       → xs ++ c ∷ ys ≡ zs ++ d ∷ bs → (xs ≡ zs) × (ys ≡ bs)
@@ -36,212 +107,70 @@ module _ (one other : ℕ) where
       absurd (f 0 x (omega arith) (subst (λ k. (k ≡ one) ⊎ (k ≡ other)) (sym (head_of e)) t))
   one_split (x ∷ xs) (z ∷ zs) ys bs c d f g s t e =
       let (p, q) = one_split xs zs ys bs c d (All-tail (Neither one other) x xs f)
-      (All-tail (Neither one other) z zs g) s t
-      (tail_of e) in
-      (ap (λ k. k ∷ xs) (head_of e) ∙ ap (λ l. z ∷ l) p, q)
+      (All-tail (Neither one other) z zs g) s t (tail_of e) in
+      let first = head_of e in ((cc), q)
 
--- ---- which characters
-
--- digits and underscores
-abbrev pub IsDigitLike : ℕ → Type 0
-IsDigitLike c = ((48 ≤ c) × (c ≤ 57)) ⊎ (c ≡ 95)
-
-none_all : (P : ℕ → Type 0) → All P []
-none_all P k d less = absurd (omega (arith, less))
-
-row_like : (ds tokens : List ℕ) → EachText (NextText 10) ds tokens → All IsDigitLike tokens
-unfolding EachText
-row_like [] tokens e = subst (λ l. All IsDigitLike l) (sym e) (none_all IsDigitLike)
-row_like (d ∷ ds) tokens row = elim (next 10 (omega arith) (d ∷ ds) tokens row) [
-  | inl (e, none) ↦ subst (λ l. All IsDigitLike l) (sym none) (none_all IsDigitLike)
-  | inr (c, es, ys, less, others, inl e, f) ↦
-      let here = subst (λ l. EachText (NextText 10) l ys) (sym (tail_of f)) others in
-      subst (λ l. All IsDigitLike l) (sym e)
-      (All-cons IsDigitLike c ys (inl (digit_from_value c less)) (row_like ds ys here))
-  | inr (c, es, ys, less, others, inr e, f) ↦
-      let here = subst (λ l. EachText (NextText 10) l ys) (sym (tail_of f)) others in
-      subst (λ l. All IsDigitLike l) (sym e)
-      (All-cons IsDigitLike 95 (c ∷ ys) (inr refl)
-      (All-cons IsDigitLike c ys (inl (digit_from_value c less)) (row_like ds ys here)))
-]
-
--- a digit is first, and digits and underscores are all
-pub digits_are : (tokens : List ℕ) → AreDigits tokens
-    → (d : ℕ) × (ys : List ℕ) × ((48 ≤ d) × (d ≤ 57)) × (tokens ≡ d ∷ ys) × All IsDigitLike tokens
-unfolding AreDigits
-digits_are tokens (ds, text) =
-    let (d, es, ys, less, row, e, f) = first 10 (omega arith) ds tokens text in (
-      d,
-      ys,
-      digit_from_value d less,
-      e,
-      subst (λ l. All IsDigitLike l) (sym e)
-          (All-cons IsDigitLike d ys (inl (digit_from_value d less)) (row_like es ys row)),
-    )
-
-no_point : (c : ℕ) → IsDigitLike c → Neither 46 46 c
-no_point c (inl d) (inl e) = absurd (omega (arith, d, e))
-no_point c (inl d) (inr e) = absurd (omega (arith, d, e))
-no_point c (inr d) (inl e) = absurd (omega (arith, d, e))
-no_point c (inr d) (inr e) = absurd (omega (arith, d, e))
-
-no_letter : (c : ℕ) → IsDigitLike c → Neither 101 69 c
-no_letter c (inl d) (inl e) = absurd (omega (arith, d, e))
-no_letter c (inl d) (inr e) = absurd (omega (arith, d, e))
-no_letter c (inr d) (inl e) = absurd (omega (arith, d, e))
-no_letter c (inr d) (inr e) = absurd (omega (arith, d, e))
-
-digits_free : (one other : ℕ) → ((c : ℕ) → IsDigitLike c → Neither one other c)
-    → (tokens : List ℕ) → AreDigits tokens → All (Neither one other) tokens
-digits_free one other not tokens x =
-    let (d, ys, is, e, all) = digits_are tokens x in
-    λ k c less. not _ (all k c less)
-
-whole_free : (one other : ℕ) → ((c : ℕ) → IsDigitLike c → Neither one other c)
-    → (tokens : List ℕ) → IsWhole tokens → All (Neither one other) tokens
-unfolding IsWhole
-whole_free one other not tokens x = digits_free one other not tokens x.0
-
-decimal_free : (tokens : List ℕ) → IsDecimal tokens → All (Neither 101 69) tokens
-unfolding IsDecimal
-decimal_free tokens (whole, digits, w, d, e) =
-    subst (λ l. All (Neither 101 69) l) (sym e)
-    (All-append (Neither 101 69) whole (46 ∷ digits) (whole_free 101 69 no_letter whole w)
-    (All-cons (Neither 101 69) 46 digits point (digits_free 101 69 no_letter digits d)))
-  where
-    point : Neither 101 69 46
-    point (inl e) = absurd (omega (arith, e))
-    point (inr e) = absurd (omega (arith, e))
+number_free : (tokens : List ℕ) → IsNumber tokens → All (Neither 101 69) tokens
+unfolding IsWhole IsDecimal
+number_free tokens (inl (w, lone)) =
+    digits_each (Neither 101 69) (λ c d e. omega arith) (λ e. omega arith) tokens w
+number_free tokens (inr (whole, digits, (w, lone), d, e)) =
+    rw e (All-append (Neither 101 69) whole (46 ∷ digits)
+    (digits_each (Neither 101 69) (λ c d e. omega arith) (λ e. omega arith) whole w)
+    (All-cons (Neither 101 69) 46 digits (λ e. omega arith)
+    (digits_each (Neither 101 69) (λ c d e. omega arith) (λ e. omega arith) digits d)))
 
 -- ---- at the point
 
 pub decimal_some : (text : List ℕ) (parts : Bor (List ℕ) × Bor (List ℕ))
     → SplitsAt 46 46 text (Some parts)
     → IsDecimal text ↔ (IsWhole parts.0.now × AreDigits parts.1.now)
-unfolding SplitsAt IsDecimal
-decimal_some text parts (c, is, e, free) = (there, back)
-  where
-    there : IsDecimal text → IsWhole parts.0.now × AreDigits parts.1.now
-    there (whole, digits, w, d, f) =
-        let (p, q) = one_split 46 46 whole parts.0.now digits parts.1.now 46 c
-        (whole_free 46 46 no_point whole w) free (inl refl) is (sym f ∙ e) in
-        (subst IsWhole p w, subst AreDigits q d)
-
-    back : IsWhole parts.0.now × AreDigits parts.1.now → IsDecimal text
-    back (w, d) = (
-      parts.0.now,
-      parts.1.now,
-      w,
-      d,
-      e ∙ ap (λ k. parts.0.now ++ k ∷ parts.1.now) (point is),
-    )
-      where
-        point : (c ≡ 46) ⊎ (c ≡ 46) → c ≡ 46
-        point (inl f) = f
-        point (inr f) = f
+unfolding SplitsAt IsDecimal IsWhole
+decimal_some text parts (c, is, e, free) = (
+  λ (whole, digits, w, d, f).
+      let (p, q) = one_split 46 46 whole parts.0.now digits parts.1.now 46 c
+      (digits_each (Neither 46 46) (λ c d e. omega arith) (λ e. omega arith) whole w.0) free
+      (inl refl) is (sym f ∙ e) in
+      (subst IsWhole p w, subst AreDigits q d),
+  λ (w, d).
+      let point : c ≡ 46 = omega arith in
+      (parts.0.now, parts.1.now, w, d, e ∙ ap (λ k. parts.0.now ++ k ∷ parts.1.now) point),
+)
 
 pub decimal_none : (text : List ℕ) → SplitsAt 46 46 text None → IsDecimal text → ⊥
 unfolding SplitsAt IsDecimal
 decimal_none text free (whole, digits, w, d, e) =
-    neither_at (Neither 46 46) whole digits 46 (subst (λ l. All (Neither 46 46) l) e free)
-    (inl refl)
+    neither_at 46 46 whole digits 46 (rw e at free) (inl refl)
 
 -- ---- at the letter
-
--- a number, the letter, and its power
-abbrev Scientific : List ℕ → Type 0
-Scientific tokens =
-    (number : List ℕ) × (letter : ℕ) × (power : List ℕ) × (IsWhole number ⊎ IsDecimal number)
-    × IsLetterE letter × Signed AreDigits power × (tokens ≡ number ++ letter ∷ power)
-
-sorted : (tokens : List ℕ) → IsMagnitude tokens → IsDecimal tokens ⊎ Scientific tokens
-unfolding IsMagnitude IsTail IsFraction IsExponent IsDecimal
-sorted tokens (whole, tail, w, inl (letter, power, l, f, p), e) =
-    inr (whole, letter, power, inl w, l, p, e ∙ ap (λ t. whole ++ t) f)
-sorted tokens (whole, tail, w, inr (inl (digits, f, d)), e) =
-    inl (whole, digits, w, d, e ∙ ap (λ t. whole ++ t) f)
-sorted tokens (
-  whole,
-  tail,
-  w,
-  inr (inr (
-    fraction,
-    exponent,
-    (digits, f, d),
-    (letter, power, l, g, p),
-    h,
-  )),
-  e,
-) =
-    inr (
-      whole ++ 46 ∷ digits,
-      letter,
-      power,
-      inr (whole, digits, w, d, refl),
-      l,
-      p,
-      e ∙ ap (λ t. whole ++ t) (h ∙ ap (λ t. t ++ exponent) f ∙ ap (λ t. 46 ∷ digits ++ t) g)
-          ∙ sym (append_assoc whole (46 ∷ digits) (letter ∷ power)),
-    )
-
-from_decimal : (tokens : List ℕ) → IsDecimal tokens → IsMagnitude tokens
-unfolding IsMagnitude IsTail IsFraction IsDecimal
-from_decimal tokens (whole, digits, w, d, e) =
-    (whole, 46 ∷ digits, w, inr (inl (digits, refl, d)), e)
-
-from_scientific : (tokens : List ℕ) → Scientific tokens → IsMagnitude tokens
-unfolding IsMagnitude IsTail IsFraction IsExponent IsDecimal
-from_scientific tokens (number, letter, power, inl w, l, p, e) =
-    (number, letter ∷ power, w, inl (letter, power, l, refl, p), e)
-from_scientific tokens (number, letter, power, inr (whole, digits, w, d, f), l, p, e) = (
-  whole,
-  46 ∷ digits ++ letter ∷ power,
-  w,
-  inr (inr (
-    46 ∷ digits,
-    letter ∷ power,
-    (digits, refl, d),
-    (letter, power, l, refl, p),
-    refl,
-  )),
-  e ∙ ap (λ t. t ++ letter ∷ power) f ∙ append_assoc whole (46 ∷ digits) (letter ∷ power),
-)
-
-number_free : (number : List ℕ) → IsWhole number ⊎ IsDecimal number → All (Neither 101 69) number
-number_free number (inl w) = whole_free 101 69 no_letter number w
-number_free number (inr d) = decimal_free number d
 
 pub magnitude_some : (text : List ℕ) (parts : Bor (List ℕ) × Bor (List ℕ))
     → SplitsAt 101 69 text (Some parts)
     → IsMagnitude text
     ↔ (Signed AreDigits parts.1.now × (IsWhole parts.0.now ⊎ IsDecimal parts.0.now))
-unfolding SplitsAt
+unfolding SplitsAt IsScientific
 magnitude_some text parts (c, is, e, free) = (
-  λ x. there (sorted text x),
-  λ (p, n). from_scientific text (parts.0.now, c, parts.1.now, n, is, p, e),
+  there,
+  λ (p, n). inr (parts.0.now, c, parts.1.now, n, is, p, e),
 )
   where
-    there : IsDecimal text ⊎ Scientific text
+    there : IsMagnitude text
         → Signed AreDigits parts.1.now × (IsWhole parts.0.now ⊎ IsDecimal parts.0.now)
     there (inl d) =
-        absurd (neither_at (Neither 101 69) parts.0.now parts.1.now c
-        (subst (λ l. All (Neither 101 69) l) e (decimal_free text d)) is)
+        absurd (neither_at 101 69 parts.0.now parts.1.now c (rw e at (number_free text (inr d))) is)
     there (inr (number, letter, power, n, l, p, f)) =
         let (same, behind) = one_split 101 69 number parts.0.now power parts.1.now letter c
-        (number_free number n) free l is (sym f ∙ e) in (
-          subst (λ t. Signed AreDigits t) behind p,
-          subst (λ t. IsWhole t ⊎ IsDecimal t) same n,
-        )
+        (number_free number n) free l is (sym f ∙ e) in
+        (subst (λ t. Signed AreDigits t) behind p, subst (λ t. IsNumber t) same n)
 
 pub magnitude_none : (text : List ℕ) → SplitsAt 101 69 text None → IsMagnitude text ↔ IsDecimal text
-unfolding SplitsAt
-magnitude_none text free = (λ x. there (sorted text x), λ d. from_decimal text d)
+unfolding SplitsAt IsScientific
+magnitude_none text free = (there, λ d. inl d)
   where
-    there : IsDecimal text ⊎ Scientific text → IsDecimal text
+    there : IsMagnitude text → IsDecimal text
     there (inl d) = d
     there (inr (number, letter, power, n, l, p, f)) =
-        absurd (neither_at (Neither 101 69) number power letter
-        (subst (λ l. All (Neither 101 69) l) f free) l)
+        absurd (neither_at 101 69 number power letter (rw f at free) l)
 
 -- ---- after a sign
 
@@ -260,24 +189,17 @@ signs_off p text rest off never = (λ x. there off x, λ y. back off y)
     back (inl (c, is, e)) y = inr (c, rest, is, e, y)
     back (inr (same, none)) y = inl (subst p same y)
 
-no_digit_sign : (c d : ℕ) → IsSign c → (48 ≤ d) × (d ≤ 57) → c ≡ d → ⊥
-no_digit_sign c d (inl e) is f = absurd (omega (arith, e, is, f))
-no_digit_sign c d (inr e) is f = absurd (omega (arith, e, is, f))
-
 pub digits_no_sign : (c : ℕ) (others : List ℕ) → IsSign c → AreDigits (c ∷ others) → ⊥
 digits_no_sign c others is x =
-    let (d, ys, range, e, all) = digits_are (c ∷ others) x in
-    no_digit_sign c d is range (head_of e)
+    let (d, ys, range, e) = digits_first (c ∷ others) x in
+    let same = head_of e in omega (arith, range, same)
 
 pub unsigned_no_sign : (c : ℕ) (others : List ℕ) → IsSign c → Unsigned (c ∷ others) → ⊥
-unfolding IsMagnitude IsWhole
-unsigned_no_sign c others (inl s) (inl e) = absurd (omega (arith, s, head_of e))
-unsigned_no_sign c others (inr s) (inl e) = absurd (omega (arith, s, head_of e))
-unsigned_no_sign c others (inl s) (inr (inl e)) = absurd (omega (arith, s, head_of e))
-unsigned_no_sign c others (inr s) (inr (inl e)) = absurd (omega (arith, s, head_of e))
-unsigned_no_sign c others s (inr (inr (whole, tail, (w, lone), t, e))) =
-    let (d, ys, range, f, all) = digits_are whole w in
-    no_digit_sign c d s range (head_of (e ∙ ap (λ l. l ++ tail) f))
+unsigned_no_sign c others s (inl e) = let same = head_of e in omega (arith, same)
+unsigned_no_sign c others s (inr (inl e)) = let same = head_of e in omega (arith, same)
+unsigned_no_sign c others s (inr (inr m)) =
+    let (d, ys, range, e) = magnitude_first (c ∷ others) m in
+    let same = head_of e in omega (arith, range, same)
 
 pub some_sign : {c : ℕ} {text rest : List ℕ} → IsSign c → text ≡ c ∷ rest → SignsOff text rest
 unfolding SignsOff
@@ -286,16 +208,13 @@ some_sign {c} is e = inl (c, is, e)
 pub no_sign : {c : ℕ} {text rest : List ℕ} → text ≡ c ∷ rest → (c ≡ 43 → ⊥) → (c ≡ 45 → ⊥)
     → SignsOff text text
 unfolding SignsOff
-no_sign {c} {text} e no_plus no_minus = inr (refl, none)
-  where
-    none : (d : ℕ) (others : List ℕ) → IsSign d → text ≡ d ∷ others → ⊥
-    none d others (inl is) f = no_minus (head_of (sym e ∙ f) ∙ is)
-    none d others (inr is) f = no_plus (head_of (sym e ∙ f) ∙ is)
+no_sign e no_plus no_minus =
+    inr (refl, λ d others is f. let same = head_of (sym e ∙ f) in omega (arith, same))
 
 pub no_text : (text : List ℕ) → length text ≡ 0 → SignsOff text text
 unfolding SignsOff
 no_text [] empty = inr (refl, λ d others is e. no_cons e)
-no_text (c ∷ cs) empty = absurd (omega (arith, empty))
+no_text (c ∷ cs) empty = absurd (omega arith)
 
 -- ---- words
 

@@ -3,7 +3,7 @@ use Rattle.std.specs.Borrow.{Bor}
 use Rattle.std.specs.List.{All, filter}
 use Rattle.std.specs.Prelude.{◌≡◌, ◌⊎◌, ◌==◌, ℕ, List, [], ◌∷◌, ◌++◌, Option, Some, None, not}
 use Rattle.std.specs.Prelude.{string_bytes}
-use Rattle.format_toml.specs.Numbers.{DigitsText}
+use Rattle.format_toml.specs.Numbers.{DigitsText, IsLone}
 use Rattle.format_toml_tree.specs.declared.value.Float.{Float}
 use Rattle.grammars.specs.Texts.{Text}
 
@@ -13,10 +13,9 @@ use Rattle.grammars.specs.Texts.{Text}
 unfoldable pub AreDigits : List ℕ → Type 0
 AreDigits tokens = (digits : List ℕ) × DigitsText 10 digits tokens
 
--- unsigned-dec-int = DIGIT / digit1-9 1*( DIGIT / underscore DIGIT ): a leading zero must be the
--- only digit
+-- unsigned-dec-int = DIGIT / digit1-9 1*( DIGIT / underscore DIGIT )
 unfoldable pub IsWhole : List ℕ → Type 0
-IsWhole tokens = AreDigits tokens × ((others : List ℕ) → tokens ≡ 48 ∷ others → others ≡ [])
+IsWhole tokens = AreDigits tokens × IsLone tokens
 
 -- minus / plus
 abbrev pub IsSign : ℕ → Type 0
@@ -27,32 +26,27 @@ unfoldable pub Signed : (List ℕ → Type 0) → List ℕ → Type 0
 Signed text tokens =
     text tokens ⊎ ((sign : ℕ) × (rest : List ℕ) × IsSign sign × (tokens ≡ sign ∷ rest) × text rest)
 
--- frac = decimal-point zero-prefixable-int
-unfoldable pub IsFraction : List ℕ → Type 0
-IsFraction tokens = (digits : List ℕ) × (tokens ≡ 46 ∷ digits) × AreDigits digits
+-- float-int-part frac without a sign, with float-int-part = dec-int and frac = decimal-point
+-- zero-prefixable-int
+unfoldable pub IsDecimal : List ℕ → Type 0
+IsDecimal tokens =
+    (whole : List ℕ) × (digits : List ℕ) × IsWhole whole × AreDigits digits
+    × (tokens ≡ whole ++ 46 ∷ digits)
 
 -- the letter "e", of either case as in each string of an ABNF
 abbrev pub IsLetterE : ℕ → Type 0
 IsLetterE c = (c ≡ 101) ⊎ (c ≡ 69)
 
--- exp = "e" float-exp-part, with float-exp-part = [ minus / plus ] zero-prefixable-int
-unfoldable pub IsExponent : List ℕ → Type 0
-IsExponent tokens =
-    (letter : ℕ) × (power : List ℕ) × IsLetterE letter × (tokens ≡ letter ∷ power)
-    × Signed AreDigits power
+-- float-int-part [ frac ] exp without a sign, with exp = "e" float-exp-part and float-exp-part =
+-- [ minus / plus ] zero-prefixable-int
+unfoldable pub IsScientific : List ℕ → Type 0
+IsScientific tokens =
+    (number : List ℕ) × (letter : ℕ) × (power : List ℕ) × (IsWhole number ⊎ IsDecimal number)
+    × IsLetterE letter × Signed AreDigits power × (tokens ≡ number ++ letter ∷ power)
 
--- exp / frac [ exp ]
-unfoldable pub IsTail : List ℕ → Type 0
-IsTail tokens =
-    IsExponent tokens ⊎ (IsFraction tokens
-    ⊎ ((fraction : List ℕ) × (exponent : List ℕ) × IsFraction fraction × IsExponent exponent
-    × (tokens ≡ fraction ++ exponent)))
-
--- float = float-int-part ( exp / frac [ exp ] ) without the sign of its
--- float-int-part = dec-int = [ minus / plus ] unsigned-dec-int
-unfoldable pub IsMagnitude : List ℕ → Type 0
-IsMagnitude tokens =
-    (whole : List ℕ) × (tail : List ℕ) × IsWhole whole × IsTail tail × (tokens ≡ whole ++ tail)
+-- float = float-int-part ( exp / frac [ exp ] ), without a sign
+abbrev pub IsMagnitude : List ℕ → Type 0
+IsMagnitude tokens = IsDecimal tokens ⊎ IsScientific tokens
 
 -- inf = %x69.6e.66, nan = %x6e.61.6e
 abbrev pub inf_word : List ℕ
@@ -74,12 +68,6 @@ FloatText float tokens =
     IsFloat tokens × (string_bytes float.text ≡ filter (λ c. not (c == 95)) tokens)
 
 -- ---- what functions answer of them
-
--- a whole part, a point and digits
-unfoldable pub IsDecimal : List ℕ → Type 0
-IsDecimal tokens =
-    (whole : List ℕ) × (digits : List ℕ) × IsWhole whole × AreDigits digits
-    × (tokens ≡ whole ++ 46 ∷ digits)
 
 -- The parts before and after the first occurrence of either token; `None` if neither occurs.
 unfoldable pub SplitsAt : ℕ → ℕ → List ℕ → Option (Bor (List ℕ) × Bor (List ℕ)) → Type 0

@@ -9,10 +9,9 @@ use Rattle.format_parts.specs.Hexadecimal.{CodeUnit, IsAlone}
 use Rattle.format_parts.specs.Words.{Char, RunOf, Slice, Word, former, latter, pair}
 use Rattle.format_toml.specs.Led.{Led}
 use Rattle.format_toml.specs.LongGrammars.{Long, Part}
-use Rattle.format_toml.specs.Toml.{IsArray, IsBoolean, IsEntry, IsInline, IsKey}
-use Rattle.format_toml.specs.Toml.{IsTable, IsTables, IsText, IsWide, PlainText, SetResult}
-use Rattle.format_toml.specs.Toml.{StandsFor}
-use Rattle.format_toml.specs.Toml.{false_word, true_word}
+use Rattle.format_toml.specs.Toml.{IsArray, IsBoolean, IsEntry, IsInline, IsKey, IsTable, IsTables}
+use Rattle.format_toml.specs.Toml.{IsText, IsWide, PlainText, SetResult, StandsFor, false_word}
+use Rattle.format_toml.specs.Toml.{true_word}
 use Rattle.format_toml.specs.declared.characters.Characters.{Characters}
 use Rattle.format_toml.specs.declared.characters.Characters.TheVariants.{Bare, Basic, Comment}
 use Rattle.format_toml.specs.declared.characters.Characters.TheVariants.{Digit, Literal, Unquoted}
@@ -21,13 +20,12 @@ use Rattle.format_toml_tree.specs.declared.value.Item.{Item}
 use Rattle.format_toml_tree.specs.declared.value.Key.{Key}
 use Rattle.format_toml_tree.specs.declared.value.Value.{Value}
 use Rattle.grammars.specs.Grammar.{Both, Either, Gathered, Grammar, Longest, Many, Nothing}
-use Rattle.grammars.specs.Grammar.{Optional}
-use Rattle.grammars.specs.Grammar.{Parted, Taken, Three, Token, TokenOf}
+use Rattle.grammars.specs.Grammar.{Optional, Parted, Taken, Three, Token, TokenOf}
 use Rattle.grammars.specs.Grammar.Meaning.{Meaning}
 use Rattle.grammars.specs.Grammar.Tuples.{Four}
 use Rattle.stream_sets.specs.Accumulator.Holds.{HasCharacters}
 
--- ---- white space
+-- ---- whitespace
 
 abbrev pub Ws : Grammar ℕ Slice
 Ws = RunOf IsSpace 0
@@ -39,7 +37,7 @@ abbrev pub AnyComment : Grammar ℕ Slice
 AnyComment =
     Both latter (Char 35) (Longest text_reading (λ c. c) SetResult Comment (from_to 0 None))
 
--- a character of white space, or a line end with a comment before it or none
+-- a character of whitespace, or a line end with a comment before it or none
 abbrev pub GapPart : Grammar ℕ ℕ
 GapPart = Either (TokenOf (λ c. c) SetResult White) (Both latter (Optional AnyComment) Newline)
 

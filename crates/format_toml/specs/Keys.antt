@@ -1,16 +1,16 @@
 -- The grammars of keys and headers are those of what is written.
-use Rattle.std.specs.Prelude.{◌≡◌, ◌⊎◌, ◌<◌, ℕ, List, [], None}
+use Rattle.std.specs.Prelude.{◌≡◌, ◌⊎◌, ℕ, List, [], None}
 use Rattle.std.proofs.Common.{refl, inl, inr, arith}
 use Rattle.stream_sets.specs.AsChar.{IsSpace}
 use Rattle.stream_sets.specs.Range.{from_to}
-use Rattle.format_parts.specs.Words.{Between, One, between_of, char_of, for_front, for_of}
-use Rattle.format_parts.specs.Words.{former, latter, pair}
+use Rattle.format_parts.specs.Words.{Between, One, between_of, char_of, for_front, for_of, former}
+use Rattle.format_parts.specs.Words.{latter, pair}
 use Rattle.format_toml.specs.Grammars.{AnyCharacters, AnyKey, DoubleHeader, Header, LiteralString}
 use Rattle.format_toml.specs.Grammars.{Name, Names, Pair, Table}
 use Rattle.format_toml.specs.Led.{Led, led_of}
 use Rattle.format_toml.specs.Rows.{joined_begins}
-use Rattle.format_toml.specs.Spaces.{Past, mark_begins, mark_of, no_space, past, spaced_begins}
-use Rattle.format_toml.specs.Spaces.{spaced_of, ws_front, ws_of}
+use Rattle.format_toml.specs.Spaces.{Past, mark_begins, mark_of, spaced_begins, spaced_of, ws_front}
+use Rattle.format_toml.specs.Spaces.{ws_of}
 use Rattle.format_toml.specs.Strings.{basic_string_begins, basic_string_of, characters_begin}
 use Rattle.format_toml.specs.Strings.{characters_of, literal_string_begins, literal_string_of}
 use Rattle.format_toml.specs.Toml.{CharactersText, HeaderText, IsBare, IsKey, IsTable, IsTables}
@@ -20,8 +20,7 @@ use Rattle.format_toml.specs.declared.characters.Characters.TheVariants.{Bare}
 use Rattle.format_toml_tree.specs.declared.value.Value.{Value}
 use Rattle.grammars.specs.Grammar.{Grammar}
 use Rattle.grammars.specs.Texts.{Anything, AtLeast, StartsWith, TextsStartWith, EitherText, InFront}
-use Rattle.grammars.specs.Texts.{InList}
-use Rattle.grammars.specs.Texts.{IsGrammarOf, NotFirst, PartedText, Text}
+use Rattle.grammars.specs.Texts.{InList, IsGrammarOf, NotFirst, PartedText, Text}
 use Rattle.grammars.specs.Texts.Fronts.{begins_wider, both_front, either_front, front_any}
 use Rattle.grammars.specs.Texts.Fronts.{front_begins, in_list_front, may_begin, none_begins}
 use Rattle.grammars.specs.Texts.Fronts.{not_first, spelled_begins}
@@ -30,52 +29,17 @@ use Rattle.grammars.specs.Texts.Rows.{list_of, parted_of}
 
 -- ---- names
 
--- what a bare key is not
-pub bare_is : (c : ℕ) → IsBare c
-    → (44 < c) × (c < 123) × (c ≡ 46 → ⊥) × (c ≡ 61 → ⊥) × (c ≡ 91 → ⊥) × (c ≡ 93 → ⊥)
-bare_is c (inl e) = omega (arith, e)
-bare_is c (inr (inl e)) = omega (arith, e)
-bare_is c (inr (inr (inl e))) = omega (arith, e)
-bare_is c (inr (inr (inr (inl e)))) = omega (arith, e)
-bare_is c (inr (inr (inr (inr e)))) = omega (arith, e)
-
-pub space_bare : (c : ℕ) → IsSpace c → IsBare c → ⊥
-space_bare c is bare =
-    let above = (bare_is c bare).0 in no_space c (omega (arith, above)) is
-
 -- what a key begins with
 abbrev pub OpensKey : ℕ → Type 0
 OpensKey c = (c ≡ 34) ⊎ ((c ≡ 39) ⊎ IsBare c)
-
-pub opens_key_is : (c : ℕ) → OpensKey c
-    → (33 < c) × (c < 123) × (c ≡ 35 → ⊥) × (c ≡ 44 → ⊥) × (c ≡ 91 → ⊥) × (c ≡ 93 → ⊥)
-opens_key_is c (inl e) = omega (arith, e)
-opens_key_is c (inr (inl e)) = omega (arith, e)
-opens_key_is c (inr (inr bare)) =
-    let (above, below, a, b, opens, closes) = bare_is c bare in (
-      omega (arith, above),
-      below,
-      λ e. absurd (omega (arith, above, e)),
-      λ e. absurd (omega (arith, above, e)),
-      opens,
-      closes,
-    )
 
 -- a character that follows a key and whitespace
 abbrev pub EndsKey : ℕ → Type 0
 EndsKey c = (c ≡ 61) ⊎ (c ≡ 93)
 
-ends_past : (c : ℕ) → EndsKey c → IsSpace c ⊎ IsBare c → ⊥
-ends_past c (inl e) = past IsBare 61 (omega arith) (λ bare. (bare_is 61 bare).3 refl) c e
-ends_past c (inr e) = past IsBare 93 (omega arith) (λ bare. (bare_is 93 bare).5 refl) c e
-
-ends_point : (c : ℕ) → EndsKey c → c ≡ 46 → ⊥
-ends_point c (inl e) f = absurd (omega (arith, e, f))
-ends_point c (inr e) f = absurd (omega (arith, e, f))
-
 -- white space after a name
 before_space : InFront WsText (Past IsBare) (NotFirst IsBare)
-before_space = ws_front space_bare
+before_space = ws_front (λ c s bare. omega arith)
     (not_first IsBare (λ c. IsSpace c ⊎ IsBare c) (λ c bare. inr bare))
 
 module _ {A : Type 0} where
@@ -84,8 +48,7 @@ module _ {A : Type 0} where
   after_basic_of =
       led_of (behind_less (λ rest b. tt) literal_string_of) (characters_of Bare 1)
       literal_string_begins
-      (front_begins (λ c bare e. absurd (omega (arith, (bare_is c bare).0, e)))
-      (characters_begin Bare))
+      (front_begins (λ c bare e. omega arith) (characters_begin Bare))
 
   after_basic_begins : TextsStartWith (λ c. (c ≡ 39) ⊎ IsBare c)
       (EitherText (LiteralText {A = A}) (CharactersText Bare 1))
@@ -96,11 +59,7 @@ module _ {A : Type 0} where
   name_of : IsGrammarOf (Name {A = A}) NameText (NotFirst IsBare)
   name_of =
       led_of (behind_less (λ rest b. tt) basic_string_of) after_basic_of basic_string_begins
-      (front_begins not_basic after_basic_begins)
-    where
-      not_basic : (c : ℕ) → (c ≡ 39) ⊎ IsBare c → c ≡ 34 → ⊥
-      not_basic c (inl e) f = absurd (omega (arith, e, f))
-      not_basic c (inr bare) f = absurd (omega (arith, (bare_is c bare).0, f))
+      (front_begins (λ c o e. omega arith) after_basic_begins)
 
   name_begins : TextsStartWith OpensKey (NameText {A = A})
   name_begins =
@@ -113,15 +72,12 @@ module _ {A : Type 0} where
       (Spaced NameText)))) (StartsWith EndsKey)
   names_of =
       list_of (parted_of (spaced_of before_space name_of) (mark_of 46)
-      (both_front pair (front_begins
-      (past IsBare 46 (omega arith) (λ bare. (bare_is 46 bare).2 refl))
-      (spelled_begins 46 [] 46)) front_any)
-      (front_begins (λ c o. no_space c (omega (arith, (opens_key_is c o).0)))
-      (spaced_begins name_begins)) (from_to 1 None) 1 refl
-      (may_begin EndsKey (λ c. IsSpace c ⊎ IsBare c → ⊥) ends_past)
+      (both_front pair (front_begins (λ c e o. omega arith) (spelled_begins 46 [] 46)) front_any)
+      (front_begins (λ c o s. omega arith) (spaced_begins name_begins)) (from_to 1 None) 1 refl
+      (may_begin EndsKey (λ c. IsSpace c ⊎ IsBare c → ⊥) (λ c e o. omega arith))
       (λ rest b. none_begins (mark_of 46) (mark_begins 46) rest
-      (may_begin EndsKey (λ c. c ≡ 46 → ⊥) ends_point rest b))
-      (λ rest never b. absurd (omega (arith, never))))
+      (may_begin EndsKey (λ c. c ≡ 46 → ⊥) (λ c e f. omega arith) rest b))
+      (λ rest never b. omega arith))
 
   pub key_of : IsGrammarOf (AnyKey {A = A}) KeyText (StartsWith EndsKey)
   key_of = for_of IsKey names_of
@@ -147,13 +103,13 @@ module _ {A : Type 0} where
   header_of : IsGrammarOf (Header {A = A}) HeaderText Anything
   header_of =
       between_of ws_of key_of (char_of 93)
-      (front_begins (λ c o. no_space c (omega (arith, (opens_key_is c o).0))) key_begins)
+      (front_begins (λ c o s. omega arith) key_begins)
       (begins_wider (λ c e. inr e) (spelled_begins 93 [] 93))
 
   header_front : InFront (HeaderText {A = A}) Anything (NotFirst (λ c. c ≡ 91))
   header_front =
-      both_front latter (ws_front (λ c s e. no_space c (omega (arith, e)) s) (λ rest b. b))
-      (both_front former (front_begins (λ c o. (opens_key_is c o).4) key_begins) front_any)
+      both_front latter (ws_front (λ c s e. omega arith) (λ rest b. b))
+      (both_front former (front_begins (λ c o e. omega arith) key_begins) front_any)
 
   double_of : IsGrammarOf (DoubleHeader {A = A}) (Between (One 91) HeaderText (One 93)) Anything
   double_of = between_of (char_of 91) header_of (char_of 93) front_any front_any

@@ -2,7 +2,7 @@
 use Rattle.std.specs.Prelude.{◌≡◌, ◌⊎◌, ℕ, List, Result, Ok, Err}
 use Rattle.std.proofs.Common.{inl, inr}
 use Rattle.winnow_core.specs.Exact.{Reads}
-use Rattle.grammars.specs.Grammar.{Grammar, IsUnique, NoMatch}
+use Rattle.grammars.specs.Grammar.{Grammar, IsUnique}
 use Rattle.stream_errors.specs.declared.empty.EmptyError.{EmptyError}
 use Rattle.stream_errors.specs.declared.mode.ErrMode.{ErrMode}
 use Rattle.streams.specs.declared.needed.Needed.{Needed}
@@ -57,53 +57,44 @@ module _ {O : Type 0} {g h : Grammar ℕ O} (these : ℕ → Type 0) (first : Is
     one = led_one;
   }
 
-module _ {O : Type 0} (these : ℕ → Type 0) (g h : Grammar ℕ O) where
-  none_led : (tokens : List ℕ) → StartsWith these tokens → NoMatch g tokens
-      → NoMatch (Led these g h) tokens
+-- of grammars with the same matches at this input
+module _ {O E : Type 0} (g h : Grammar ℕ O) {kind : E → Kind} {i j : Input ℕ}
+    (there : (o : O) (rest : List ℕ) → g i.left.tokens o rest → h i.left.tokens o rest)
+    (back : (o : O) (rest : List ℕ) → h i.left.tokens o rest → g i.left.tokens o rest) where
+  reads_here : {result : Result O E} → Reads text_reading kind g i result j
+      → Reads text_reading kind h i result j
+  reads_here {result = Ok o} r = record {
+    ends = r.ends;
+    stands = λ whole. there o j.left.tokens (r.stands whole);
+    none = λ whole. tt;
+  }
+  reads_here {result = Err e} r = record {
+    ends = r.ends;
+    stands = λ whole. tt;
+    none = λ whole. elim (r.none whole) [
+      | inl m ↦ inl m
+      | inr (b, none) ↦ inr (b, λ o rest x. none o rest (back o rest x))
+    ];
+  }
+
+module _ {O : Type 0} (these : ℕ → Type 0) (g h : Grammar ℕ O) {E : Type 0} {kind : E → Kind}
+    {i j : Input ℕ} {result : Result O E} where
+  pub reads_led : StartsWith these i.left.tokens → Reads text_reading kind g i result j
+      → Reads text_reading kind (Led these g h) i result j
   unfolding Led
-  none_led tokens begins none o rest (inl (b, x)) = none o rest x
-  none_led tokens begins none o rest (inr (n, x)) = begins_never these tokens begins n
+  reads_led first = reads_here g (Led these g h) (λ o rest x. inl (first, x))
+      (λ o rest it. elim it [
+        | inl (b, x) ↦ x
+        | inr (n, x) ↦ begins_never these i.left.tokens first n
+      ])
 
-  none_other : (tokens : List ℕ) → NotFirst these tokens → NoMatch h tokens
-      → NoMatch (Led these g h) tokens
+  pub reads_other : NotFirst these i.left.tokens → Reads text_reading kind h i result j
+      → Reads text_reading kind (Led these g h) i result j
   unfolding Led
-  none_other tokens not none o rest (inl (b, x)) = begins_never these tokens b not
-  none_other tokens not none o rest (inr (n, x)) = none o rest x
-
-  module _ {E : Type 0} {kind : E → Kind} {i j : Input ℕ} where
-    pub reads_led : {result : Result O E} → StartsWith these i.left.tokens
-        → Reads text_reading kind g i result j → Reads text_reading kind (Led these g h) i result j
-    unfolding Led
-    reads_led {result = Ok o} first r = record {
-      ends = r.ends;
-      stands = λ whole. inl (first, r.stands whole);
-      none = λ whole. tt;
-    }
-    reads_led {result = Err e} first r = record {
-      ends = r.ends;
-      stands = λ whole. tt;
-      none = λ whole. elim (r.none whole) [
-        | inl m ↦ inl m
-        | inr (b, nothing) ↦ inr (b, none_led i.left.tokens first nothing)
-      ];
-    }
-
-    pub reads_other : {result : Result O E} → NotFirst these i.left.tokens
-        → Reads text_reading kind h i result j → Reads text_reading kind (Led these g h) i result j
-    unfolding Led
-    reads_other {result = Ok o} not r = record {
-      ends = r.ends;
-      stands = λ whole. inr (not, r.stands whole);
-      none = λ whole. tt;
-    }
-    reads_other {result = Err e} not r = record {
-      ends = r.ends;
-      stands = λ whole. tt;
-      none = λ whole. elim (r.none whole) [
-        | inl m ↦ inl m
-        | inr (b, nothing) ↦ inr (b, none_other i.left.tokens not nothing)
-      ];
-    }
+  reads_other not = reads_here h (Led these g h) (λ o rest x. inr (not, x)) (λ o rest it. elim it [
+    | inl (b, x) ↦ begins_never these i.left.tokens b not
+    | inr (n, x) ↦ x
+  ])
 
 -- the kind of an error
 abbrev pub no_memory_kind : ErrMode EmptyError Needed → Kind

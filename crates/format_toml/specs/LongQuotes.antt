@@ -1,5 +1,5 @@
 -- Quotation marks of strings over lines: which belong to the string, and which close it.
-use Rattle.std.specs.Prelude.{◌≡◌, ◌⊎◌, ℕ, List, [], ◌∷◌, ◌++◌, Some, None}
+use Rattle.std.specs.Prelude.{◌≡◌, ◌⊎◌, ℕ, List, [], ◌∷◌, ◌++◌, Option, Some, None}
 use Rattle.std.proofs.Common.{refl, sym, ap, subst, inl, inr, ◌∙◌}
 use Rattle.format_parts.specs.Words.{Char, One, char_of, pair}
 use Rattle.format_toml.specs.LongGrammars.{Delimiter, Quote, TwoOf}
@@ -33,8 +33,7 @@ module _ (quote : ℕ) where
 
   two_is : (o : ℕ × ℕ) (tokens : List ℕ) → TwoText o tokens → tokens ≡ quote ∷ quote ∷ []
   unfolding BothText Spelled
-  two_is o tokens (a, b, xs, ys, (c, e), (d, f), g, h) =
-      g ∙ ap (λ l. l ++ ys) e ∙ ap (λ l. quote ∷ l) f
+  two_is o tokens (a, b, xs, ys, (c, e), (d, f), g, h) = cc
 
   two_text : TwoText (quote, quote) (quote ∷ quote ∷ [])
   unfolding BothText Spelled
@@ -90,49 +89,17 @@ module _ (quote : ℕ) where
         subst (λ l. Clear l) (sym same) clear,
       )
 
-  pub quote_back : (rest : List ℕ) → Clear rest → Quote quote (quote ∷ rest) quote rest
-  unfolding Both Ahead Optional NotAhead Spelled
-  quote_back rest (inl not) =
-      let one = (char_of quote).back quote (quote ∷ []) rest (refl, refl) tt in (
-        quote,
-        (None, tt),
-        rest,
-        one,
-        (
-          rest,
-          (
-            None,
-            tt,
-            rest,
-            inr (refl, none_three rest not, refl),
-            (none_two rest not, refl),
-            refl,
-          ),
-          refl,
-        ),
-        refl,
-      )
-  quote_back rest (inr (x, e, not)) =
+  quote_make : (rest at : List ℕ) (m : Option (ℕ × ℕ × ℕ)) → Optional (Delimiter quote) rest m at
+      → NotTwo at → Quote quote (quote ∷ rest) quote rest
+  unfolding Both Ahead NotAhead Spelled
+  quote_make rest at m may not =
       let one = (char_of quote).back quote (quote ∷ []) rest (refl, refl) tt in
+      (quote, (m, tt), rest, one, (at, (m, tt, at, may, (none_two at not, refl), refl), refl), refl)
+
+  pub quote_back : (rest : List ℕ) → Clear rest → Quote quote (quote ∷ rest) quote rest
+  unfolding Optional
+  quote_back rest (inl not) = quote_make rest rest None (inr (refl, none_three rest not, refl)) not
+  quote_back rest (inr (x, e, not)) =
       let all : ℕ × ℕ × ℕ = (quote, quote, quote) in
-      let P : List ℕ → Type 0 = λ l. Delimiter quote l all x in
-      let three = subst P (sym e)
-      (delimiter_of.back all (quote ∷ quote ∷ quote ∷ []) x three_text tt) in (
-        quote,
-        (Some all, tt),
-        rest,
-        one,
-        (
-          x,
-          (
-            Some all,
-            tt,
-            x,
-            inl (all, refl, three),
-            (none_two x not, refl),
-            refl,
-          ),
-          refl,
-        ),
-        refl,
-      )
+      let three = delimiter_of.back all (quote ∷ quote ∷ quote ∷ []) x three_text tt in
+      quote_make rest x (Some all) (inl (all, refl, rw e three)) not

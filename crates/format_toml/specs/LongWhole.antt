@@ -8,15 +8,15 @@ use Rattle.format_toml.specs.LongGrammars.{Body, Long, Part}
 use Rattle.format_toml.specs.LongQuotes.{NotTwo, delimiter_of, three_is}
 use Rattle.format_toml.specs.LongStrings.{Before, Closes, Skipping, closes_begins, parts_back}
 use Rattle.format_toml.specs.LongStrings.{parts_there}
-use Rattle.format_toml.specs.LongTexts.{BodyText, DelimiterText, LongText, NoneWritten}
-use Rattle.format_toml.specs.LongTexts.{Trimmed, one_and_two}
+use Rattle.format_toml.specs.LongTexts.{BodyText, DelimiterText, LongText, NoneWritten, Trimmed}
+use Rattle.format_toml.specs.LongTexts.{one_and_two}
 use Rattle.stream_sets.specs.Accumulator.Holds.{HasCharacters}
 use Rattle.streams.specs.Equal.{same_first, same_others}
 use Rattle.grammars.specs.Grammar.{Both, Either, Gathered, Grammar, Many, NoMatch, Optional}
 use Rattle.stream_sets.specs.Range.{from_to}
 use Rattle.grammars.specs.Texts.{Anything, StartsWith, TextsStartWith, BothText, EachText}
-use Rattle.grammars.specs.Texts.{EitherText}
-use Rattle.grammars.specs.Texts.{GatheredText, InFront, IsGrammarOf, NotFirst, Spelled, Text}
+use Rattle.grammars.specs.Texts.{EitherText, GatheredText, InFront, IsGrammarOf, NotFirst, Spelled}
+use Rattle.grammars.specs.Texts.{Text}
 use Rattle.grammars.specs.Texts.Fronts.{both_front, each_front, front_any, front_whole}
 use Rattle.grammars.specs.Texts.Fronts.{gathered_front, spelled_begins}
 use Rattle.grammars.specs.Texts.Parts.{behind_less, either_of}
@@ -188,10 +188,7 @@ long_begins quote text break skipped =
 module _ (quote : ℕ) {text : Text ℕ ℕ} (other : TextsStartWith (λ c. c ≡ quote → ⊥) text) where
   not_quote_two : (tokens : List ℕ) → StartsWith (λ c. c ≡ quote → ⊥) tokens → NotTwo quote tokens
   not_quote_two [] b x e = absurd b
-  not_quote_two (c ∷ cs) b x e = absurd (b (first e))
-    where
-      first : {c d : ℕ} {xs ys : List ℕ} → c ∷ xs ≡ d ∷ ys → c ≡ d
-      first e = cc
+  not_quote_two (c ∷ cs) b x e = absurd (b (same_first e))
 
   mark_apart : InFront (One quote) (NotFirst (λ c. c ≡ quote)) (NotTwo quote)
   unfolding Spelled

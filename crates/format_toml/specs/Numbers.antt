@@ -25,11 +25,13 @@ unfoldable pub NumberText : ℕ → Text ℕ ℕ
 NumberText base n tokens = (digits : List ℕ) × DigitsText base digits tokens
     × (n ≡ digits_value base digits)
 
--- unsigned-dec-int = DIGIT / digit1-9 1*( DIGIT / underscore DIGIT ): a leading zero must be the
--- only digit
+-- a leading zero must be the only digit
+abbrev pub IsLone : List ℕ → Type 0
+IsLone tokens = (others : List ℕ) → tokens ≡ 48 ∷ others → others ≡ []
+
+-- unsigned-dec-int = DIGIT / digit1-9 1*( DIGIT / underscore DIGIT )
 unfoldable pub UnsignedText : Text ℕ ℕ
-UnsignedText n tokens =
-    NumberText 10 n tokens × ((others : List ℕ) → tokens ≡ 48 ∷ others → others ≡ [])
+UnsignedText n tokens = NumberText 10 n tokens × IsLone tokens
 
 -- what is meant
 abbrev pub IsSame : ℕ → ℤ → Type 0
@@ -66,20 +68,18 @@ unfoldable pub IsNumber : Text ℕ ℕ → List ℕ → Option ℕ → Type 0
 IsNumber text tokens None = (n : ℕ) → text n tokens → n < 2 ^ 64 → ⊥
 IsNumber text tokens (Some n) = text n tokens × ((m : ℕ) → text m tokens → m ≡ n)
 
--- The number with its sign; none, where it does not fit.
-unfoldable pub IsSigned : (ℕ → ℤ) → ℕ → Option ℤ → Type 0
-IsSigned sign n None = FitsSigned w64 (sign n) → ⊥
-IsSigned sign n (Some z) = (z ≡ sign n) × FitsSigned w64 z
-
 -- The integer of the text; none, where there is none.
 unfoldable pub IsIntegerOf : List ℕ → Option ℤ → Type 0
 IsIntegerOf tokens None = (n : ℤ) → IntegerText n tokens → ⊥
 IsIntegerOf tokens (Some n) = IntegerText n tokens
 
--- the tokens after a leading zero: none, or a letter and digits of its base
-unfoldable pub BehindZero : Text ℕ ℕ
-BehindZero n tokens =
-    ((tokens ≡ []) × (n ≡ 0))
-    ⊎ (((rest : List ℕ) × (tokens ≡ 120 ∷ rest) × NumberText 16 n rest)
-    ⊎ (((rest : List ℕ) × (tokens ≡ 111 ∷ rest) × NumberText 8 n rest)
-    ⊎ ((rest : List ℕ) × (tokens ≡ 98 ∷ rest) × NumberText 2 n rest)))
+-- the letter of a base
+abbrev pub IsBase : ℕ → ℕ → Type 0
+IsBase letter base =
+    ((letter ≡ 120) × (base ≡ 16)) ⊎ (((letter ≡ 111) × (base ≡ 8)) ⊎ ((letter ≡ 98) × (base ≡ 2)))
+
+-- the tokens after a leading zero: a letter, and digits of its base
+unfoldable pub AfterZero : Text ℕ ℕ
+AfterZero n tokens =
+    (letter : ℕ) × (base : ℕ) × (rest : List ℕ) × IsBase letter base × (tokens ≡ letter ∷ rest)
+    × NumberText base n rest

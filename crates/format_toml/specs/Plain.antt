@@ -1,148 +1,93 @@
--- The grammar of values without quotes is that of what is written.
+-- The grammar of values without quotes is that of what is written; and the results for a text.
 use Rattle.std.specs.Char.{digit_value}
-use Rattle.std.specs.Prelude.{◌≡◌, ◌⊎◌, ◌≤◌, ◌<◌, ℕ, ℤ, zero, suc, List, [], ◌∷◌, ◌++◌}
-use Rattle.std.specs.Prelude.{Option}
-use Rattle.std.specs.Prelude.{encode_utf8_all}
+use Rattle.std.specs.Prelude.{◌≤◌, ◌<◌, ℕ, ℤ, true, List, [], ◌∷◌, ◌++◌, Option, encode_utf8_all}
+use Rattle.std.specs.Prelude.{◌≡◌, ◌⊎◌, None, Some, Err, FitsSigned, Ok, Result}
 use Rattle.std.specs.List.{All}
-use Rattle.std.proofs.Common.{refl, sym, subst, inl, inr, ◌∙◌, arith, append-nil}
+use Rattle.std.proofs.Common.{refl, sym, subst, inl, inr, ◌∙◌, arith, append-nil, ap}
 use Rattle.std.proofs.lemmas.Bool.Decides.{nat_tests}
 use Rattle.std.proofs.lemmas.Str.{encodes-IsAscii}
-use Rattle.std.proofs.lemmas.Str.Parse.{digit_from_value}
-use Rattle.format_parts.specs.Words.{Slice, for_front, for_of}
+use Rattle.format_parts.specs.Words.{Slice, for_front, for_of, For}
 use Rattle.format_toml.specs.DateFronts.{date_begins, date_unquoted}
 use Rattle.format_toml.specs.FloatFronts.{Are, IsNumeric, float_are, float_begins, more_of}
-use Rattle.format_toml.specs.FloatFronts.{more_are, no_tokens}
-use Rattle.format_toml.specs.Floats.{FloatText}
-use Rattle.format_toml.specs.Digits.{first, next}
-use Rattle.format_toml.specs.Grammars.{IsPlain, Plain}
-use Rattle.format_toml.specs.Integers.{sort}
-use Rattle.format_toml.specs.Numbers.{BehindZero, IntegerText}
-use Rattle.format_toml.specs.Numbers.{NextText, NumberText, UnsignedText}
+use Rattle.format_toml.specs.Floats.{FloatText, IsFloat}
+use Rattle.format_toml.specs.Digits.{goes_each, number_goes, true_false}
+use Rattle.format_toml.specs.Grammars.{IsPlain, Plain, Unquoteds}
+use Rattle.format_toml.specs.Integers.{digit_first, sort}
+use Rattle.format_toml.specs.Numbers.{AfterZero, IntegerText, IsBase, NumberText, UnsignedText}
+use Rattle.format_toml.specs.Numbers.{IsIntegerOf}
 use Rattle.format_toml.specs.Times.{EndsPlain, UnquotedText, unquoted_ascii, unquoted_made}
 use Rattle.format_toml.specs.Times.{unquoteds_of}
 use Rattle.format_toml.specs.Toml.{IsInteger, IsUnquoted, MeansDateTime, MeansFloat, PlainText}
-use Rattle.format_toml_tree.specs.Dates.{IsDateTime, IsDigit}
+use Rattle.format_toml.specs.Toml.{DateTimeText, OtherText}
+use Rattle.format_toml_tree.specs.Dates.{IsDateTime, IsDigit, FoundResult}
 use Rattle.format_toml_tree.specs.declared.value.Value.{Value}
-use Rattle.streams.specs.Equal.{same_others}
 use Rattle.streams.specs.Text.{text_reading}
-use Rattle.grammars.specs.Texts.{StartsWith, TextsStartWith, EachText, EitherText, IsGrammarOf}
-use Rattle.grammars.specs.Texts.{MadeText}
-use Rattle.grammars.specs.Texts.{TakenText}
+use Rattle.grammars.specs.Texts.{StartsWith, TextsStartWith, EitherText, IsGrammarOf, MadeText}
+use Rattle.grammars.specs.Texts.{TakenText, Text}
 use Rattle.grammars.specs.Texts.Fronts.{either_front}
 use Rattle.grammars.specs.Texts.Parts.{text_of}
+use Rattle.std.proofs.lemmas.List.{append_cancel_right}
+use Rattle.std.specs.Int.{w64}
+use Rattle.format_toml.specs.Unique.{unquoteds_unique}
+use Rattle.format_toml_tree.specs.declared.value.DateTime.{DateTime}
+use Rattle.format_toml_tree.specs.declared.value.Value as values
+use Rattle.winnow_core.specs.Exact.{Reads}
+use Rattle.grammars.specs.Grammar.{Made, Taken}
+use Rattle.streams.specs.Input.{Input}
+use Rattle.streams.specs.Kind.{Kind, backtrack, memory}
+use Rattle.winnow_grammar.specs.Read.{reads_meaning}
 
 -- ---- characters
 
-split : (a b : ℕ) → (a ≤ b) ⊎ (b < a)
-split zero b = inl (omega arith)
-split (suc a) zero = inr (omega arith)
-split (suc a) (suc b) = elim (split a b) [
-  | inl l ↦ inl (omega (arith, l))
-  | inr g ↦ inr (omega (arith, g))
-]
-
-no_low : (c : ℕ) → c < 48 → digit_value c ≡ 36
-no_low c low = grind (arith, nat_tests, low)
-
-no_capital : (c : ℕ) → 58 ≤ c → c < 65 → digit_value c ≡ 36
-no_capital c least most = grind (arith, nat_tests, least, most)
-
-no_small : (c : ℕ) → 91 ≤ c → c < 97 → digit_value c ≡ 36
-no_small c least most = grind (arith, nat_tests, least, most)
-
-no_high : (c : ℕ) → 123 ≤ c → digit_value c ≡ 36
-no_high c high = grind (arith, nat_tests, high)
-
 -- a digit of a base is one of them
 digit_is : (c : ℕ) → digit_value c < 36 → IsUnquoted c
-digit_is c is = elim (split 48 c) [
-  | inr low ↦ absurd (omega (arith, is, no_low c low))
-  | inl l48 ↦ elim (split 58 c) [
-    | inr g58 ↦ inl (omega (arith, l48, g58))
-    | inl l58 ↦ elim (split 65 c) [
-      | inr g65 ↦ absurd (omega (arith, is, no_capital c l58 g65))
-      | inl l65 ↦ elim (split 91 c) [
-        | inr g91 ↦ inr (inl (omega (arith, l65, g91)))
-        | inl l91 ↦ elim (split 97 c) [
-          | inr g97 ↦ absurd (omega (arith, is, no_small c l91 g97))
-          | inl l97 ↦ elim (split 123 c) [
-            | inr g123 ↦ inr (inr (inl (omega (arith, l97, g123))))
-            | inl l123 ↦ absurd (omega (arith, is, no_high c l123))
-          ]
-        ]
-      ]
-    ]
-  ]
-]
+digit_is c is = grind (arith, nat_tests)
 
-rest_are : (base : ℕ) → base ≤ 36 → (ds tokens : List ℕ) → EachText (NextText base) ds tokens
+number_all : (base n : ℕ) (tokens : List ℕ) → base ≤ 36 → NumberText base n tokens
     → All IsUnquoted tokens
-unfolding EachText
-rest_are base most [] tokens e = subst (λ l. All IsUnquoted l) (sym e) no_tokens
-rest_are base most (d ∷ ds) tokens row = elim (next base most (d ∷ ds) tokens row) [
-  | inl (e, none) ↦ subst (λ l. All IsUnquoted l) (sym none) no_tokens
-  | inr (c, es, ys, less, others, inl e, f) ↦
-      let here = subst (λ l. EachText (NextText base) l ys) (sym (same_others f)) others in
-      (more_of c (digit_is c (omega (arith, less, most))) (rest_are base most ds ys here) e).0
-  | inr (c, es, ys, less, others, inr e, f) ↦
-      let here = subst (λ l. EachText (NextText base) l ys) (sym (same_others f)) others in
-      let one = more_are c ys (digit_is c (omega (arith, less, most)))
-      (rest_are base most ds ys here) in
-      (more_of 95 (inr (inr (inr (inr (inr refl))))) one.0 e).0
-]
-
-number_are : (base n : ℕ) (tokens : List ℕ) → base ≤ 36 → NumberText base n tokens → Are tokens
-unfolding NumberText
-number_are base n tokens most (ds, text, v) =
-    let (d, es, ys, less, row, e, f) = first base most ds tokens text in
-    more_of d (digit_is d (omega (arith, less, most))) (rest_are base most es ys row) e
+number_all base n tokens most x =
+    goes_each IsUnquoted (λ c is. digit_is c (omega arith)) (inr (inr (inr (inr (inr refl))))) true
+    tokens ((number_goes base most n tokens).0 x).0
 
 unsigned_are : (n : ℕ) (tokens : List ℕ) → UnsignedText n tokens → Are tokens
 unfolding UnsignedText
-unsigned_are n tokens (is, lone) = number_are 10 n tokens (omega arith) is
+unsigned_are n [] (is, lone) =
+    absurd (true_false ((number_goes 10 (omega arith) n []).0 is).0)
+unsigned_are n (c ∷ cs) (is, lone) = (number_all 10 n (c ∷ cs) (omega arith) is, omega arith)
 
-behind_zero_are : (n : ℕ) (tokens : List ℕ) → BehindZero n tokens → All IsUnquoted tokens
-unfolding BehindZero
-behind_zero_are n tokens (inl (e, z)) = subst (λ l. All IsUnquoted l) (sym e) no_tokens
-behind_zero_are n tokens (inr (inl (ys, e, x))) =
-    (more_of 120 (inr (inr (inl (omega arith)))) (number_are 16 n ys (omega arith) x).0 e).0
-behind_zero_are n tokens (inr (inr (inl (ys, e, x)))) =
-    (more_of 111 (inr (inr (inl (omega arith)))) (number_are 8 n ys (omega arith) x).0 e).0
-behind_zero_are n tokens (inr (inr (inr (ys, e, x)))) =
-    (more_of 98 (inr (inr (inl (omega arith)))) (number_are 2 n ys (omega arith) x).0 e).0
+after_zero_all : (n : ℕ) (tokens : List ℕ) → AfterZero n tokens → All IsUnquoted tokens
+unfolding AfterZero
+after_zero_all n tokens (letter, base, rest, is, e, x) =
+    (more_of letter (letter_is letter base is) (number_all base n rest (omega arith) x) e).0
+  where
+    letter_is : (letter base : ℕ) → IsBase letter base → IsUnquoted letter
+    letter_is letter base is = grind arith
 
 integer_are : (n : ℤ) (tokens : List ℕ) → IntegerText n tokens → Are tokens
 unfolding IntegerText
 integer_are n tokens (x, fits) = elim (sort n tokens x) [
-  | inl (m, u, e) ↦ unsigned_are m tokens u
-  | inr (inl (m, ys, u, e, g)) ↦
-      more_of 43 (inr (inr (inr (inl refl)))) (unsigned_are m ys u).0 e
-  | inr (inr (inl (m, ys, u, e, g))) ↦
-      more_of 45 (inr (inr (inr (inr (inl (omega arith)))))) (unsigned_are m ys u).0 e
-  | inr (inr (inr (m, ys, u, some, e, g))) ↦
-      more_of 48 (inl (omega arith)) (behind_zero_are m ys u) e
+  | inl (m, ys, u, e, g) ↦ rw e (unsigned_are m ys u)
+  | inr (inl (m, ys, u, e, g)) ↦ more_of 43 (grind arith) (unsigned_are m ys u).0 e
+  | inr (inr (inl (m, ys, u, e, g))) ↦ more_of 45 (grind arith) (unsigned_are m ys u).0 e
+  | inr (inr (inr (m, ys, u, e, g))) ↦ more_of 48 (grind arith) (after_zero_all m ys u) e
 ]
 
 -- ---- what is first
 
 unsigned_begins : (n : ℕ) (tokens rest : List ℕ) → UnsignedText n tokens
     → StartsWith IsNumeric (tokens ++ rest)
-unfolding UnsignedText NumberText
-unsigned_begins n tokens rest ((ds, text, v), lone) =
-    let (d, es, ys, less, row, e, f) = first 10 (omega arith) ds tokens text in
-    let P : List ℕ → Type 0 = λ l. StartsWith IsNumeric (l ++ rest) in
-    subst P (sym e) (inl (omega (arith, digit_from_value d less)))
+unsigned_begins n [] rest x = absurd (omega (arith, (unsigned_are n [] x).1))
+unsigned_begins n (c ∷ cs) rest x = inl (omega (arith, digit_first n c cs x))
 
 integer_begins : TextsStartWith IsNumeric IntegerText
 unfolding IntegerText
 integer_begins = record {
-  makes = λ n tokens rest (x, fits) any.
-      let P : List ℕ → Type 0 = λ l. StartsWith IsNumeric (l ++ rest) in elim (sort n tokens x) [
-        | inl (m, u, e) ↦ unsigned_begins m tokens rest u
-        | inr (inl (m, ys, u, e, g)) ↦ subst P (sym e) (inl (omega arith))
-        | inr (inr (inl (m, ys, u, e, g))) ↦ subst P (sym e) (inl (omega arith))
-        | inr (inr (inr (m, ys, u, some, e, g))) ↦ subst P (sym e) (inl (omega arith))
-      ];
+  makes = λ n tokens rest (x, fits) any. elim (sort n tokens x) [
+    | inl (m, ys, u, e, g) ↦ rw e (unsigned_begins m ys rest u)
+    | inr (inl (m, ys, u, e, g)) ↦ rw e (inl (omega arith))
+    | inr (inr (inl (m, ys, u, e, g))) ↦ rw e (inl (omega arith))
+    | inr (inr (inr (m, ys, u, e, g))) ↦ rw e (inl (omega arith))
+  ];
 }
 
 -- with nothing after them
@@ -202,3 +147,105 @@ module _ {A : Type 0} where
             subst (λ l. PlainText v l)
                 (sym (encodes-IsAscii tokens (unquoted_ascii o tokens written))) x,
           )
+
+-- ---- of a text
+
+-- A value that all of the bytes encode. Or an error, if the bytes do not encode a value, or if
+-- memory allocation fails.
+unfoldable pub IsAnswer : {A E : Type 0} → Text ℕ (Value A) → (E → Kind) → List ℕ
+    → Result (Value A) E → Type 0
+IsAnswer text kind bytes (Ok v) = text v bytes
+IsAnswer {A} text kind bytes (Err e) =
+    (kind e ≡ memory) ⊎ ((kind e ≡ backtrack) × ((v : Value A) → text v bytes → ⊥))
+
+-- The float that the bytes are, or an out-of-memory error.
+unfoldable pub IsFloatAnswer : {A E : Type 0} → (E → Kind) → List ℕ → Result (Value A) E → Type 0
+IsFloatAnswer kind bytes (Ok v) = For MeansFloat FloatText v bytes
+IsFloatAnswer kind bytes (Err e) = kind e ≡ memory
+
+module _ (A : Type 0) where
+  pub integer_told : (n : ℤ) (v : Value A) (bytes : List ℕ) → IsIntegerOf bytes (Some n)
+      → (FitsSigned w64 n → v ≡ values.Integer n) → PlainText v bytes
+  unfolding MadeText IsIntegerOf IntegerText EitherText
+  integer_told n v bytes is same = inl (n, is, same is.1)
+
+  pub date_found : (d : DateTime A) (bytes : List ℕ)
+      → FoundResult (λ d. IsDateTime d bytes) (Some d)
+      → DateTimeText (values.DateTime d) bytes
+  unfolding MadeText FoundResult
+  date_found d bytes x = (d, x, refl)
+
+  pub no_date : (v : Value A) (bytes : List ℕ)
+      → FoundResult (λ (d : DateTime A). IsDateTime d bytes) None → DateTimeText v bytes → ⊥
+  unfolding MadeText FoundResult
+  no_date v bytes none (d, x, e) = none d x
+
+module _ {A E : Type 0} (kind : E → Kind) (bytes : List ℕ) where
+  pub float_told : (result : Result (Value A) E) → IsFloatAnswer kind bytes result
+      → IsAnswer OtherText kind bytes result
+  unfolding IsAnswer IsFloatAnswer EitherText
+  float_told (Ok v) x = inl x
+  float_told (Err e) m = inl m
+
+  no_other : (IsFloat bytes → ⊥) → ((v : Value A) → DateTimeText v bytes → ⊥) → (v : Value A)
+      → OtherText v bytes → ⊥
+  unfolding EitherText MadeText FloatText
+  no_other not none v (inl (f, (x, b), e)) = not x
+  no_other not none v (inr d) = none v d
+
+  pub date_told : (result : Result (Value A) E) → (IsFloat bytes → ⊥)
+      → IsAnswer DateTimeText kind bytes result → IsAnswer OtherText kind bytes result
+  unfolding IsAnswer EitherText
+  date_told (Ok v) not x = inr x
+  date_told (Err e) not (inl m) = inl m
+  date_told (Err e) not (inr (b, none)) = inr (b, no_other not none)
+
+  no_plain : IsIntegerOf bytes None → ((v : Value A) → OtherText v bytes → ⊥) → (v : Value A)
+      → PlainText v bytes → ⊥
+  unfolding EitherText MadeText IsIntegerOf
+  no_plain not none v (inl (n, x, e)) = not n x
+  no_plain not none v (inr x) = none v x
+
+  pub other_told : (result : Result (Value A) E) → IsIntegerOf bytes None
+      → IsAnswer OtherText kind bytes result → IsAnswer PlainText kind bytes result
+  unfolding IsAnswer EitherText
+  other_told (Ok v) not x = inr x
+  other_told (Err e) not (inl m) = inl m
+  other_told (Err e) not (inr (b, none)) = inr (b, no_plain not none)
+
+-- ---- of what is read
+
+one_text : (tokens : List ℕ) (slice other : Slice) (rest more : List ℕ)
+    → Unquoteds tokens slice rest → Unquoteds tokens other more → slice.now ≡ other.now
+unfolding Taken
+one_text tokens slice other rest more (o, x, (f, d, shown)) (p, y, (g, e, told)) =
+    let left = unquoteds_unique.one tokens slice other rest more
+    (o, x, (f, d, shown)) (p, y, (g, e, told)) in
+    let same = append_cancel_right f g more (ap (λ l. f ++ l) (sym left) ∙ sym d ∙ e) in
+    let one : slice.now ≡ encode_utf8_all f = shown in
+    let two : other.now ≡ encode_utf8_all g = told in one ∙ ap encode_utf8_all same ∙ sym two
+
+module _ {A E : Type 0} {kind : E → Kind} {i j : Input ℕ} {text : Slice} where
+  plain_err : {e : E} → Reads text_reading kind Unquoteds i (Ok text) j
+      → IsAnswer {A = A} PlainText kind text.now (Err e)
+      → Reads text_reading kind (Plain {A = A}) i (Err e) j
+  unfolding IsAnswer Made
+  plain_err {e} r told = record {
+    ends = r.ends;
+    stands = λ whole. tt;
+    none = λ whole. elim told [
+      | inl m ↦ inl m
+      | inr (b, none) ↦ inr (
+        b,
+        λ v rest (slice, x, is).
+            let same = one_text i.left.tokens slice text rest j.left.tokens x (r.stands whole) in
+            none v (subst (λ l. PlainText v l) same is),
+      )
+    ];
+  }
+
+  pub plain_reads : (result : Result (Value A) E) → Reads text_reading kind Unquoteds i (Ok text) j
+      → IsAnswer PlainText kind text.now result → Reads text_reading kind Plain i result j
+  unfolding IsAnswer
+  plain_reads (Ok v) r told = reads_meaning IsPlain r told
+  plain_reads (Err e) r told = plain_err r told

@@ -1,7 +1,7 @@
 -- Sequences of at least one encoding: the first characters of these, and the input that may follow.
 use Rattle.std.specs.Prelude.{◌≡◌, ◌≤◌, ℕ, List, [], ◌∷◌, ◌++◌, length, None}
 use Rattle.std.proofs.Common.{refl, sym, ap, subst, inr, ◌∙◌, arith, append_assoc}
-use Rattle.grammars.specs.Grammar.{Both, Each, Grammar, NoMatch, Parted}
+use Rattle.grammars.specs.Grammar.{Both, Grammar, NoMatch, Parted}
 use Rattle.stream_sets.specs.Range.{from_to}
 use Rattle.grammars.specs.Texts.{AtLeast, StartsWith, TextsStartWith, InFront, IsGrammarOf}
 use Rattle.grammars.specs.Texts.{PartedText, Text}

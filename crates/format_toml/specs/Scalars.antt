@@ -7,56 +7,32 @@ use Rattle.stream_sets.specs.AsChar.{IsSpace}
 use Rattle.format_parts.specs.Words.{For, Run, Word, for_front, for_of}
 use Rattle.format_toml.specs.Grammars.{AnyBasic, AnyBoolean, AnyLiteral, Plain, Scalar}
 use Rattle.format_toml.specs.Led.{Led, led_of}
-use Rattle.format_toml.specs.FloatFronts.{numeric_is}
 use Rattle.format_toml.specs.LongKinds.{any_basic_begins, any_basic_of, any_literal_begins}
 use Rattle.format_toml.specs.LongKinds.{any_literal_of}
 use Rattle.format_toml.specs.Spaces.{IsTail, OpensGap, Past, WidePast, ended_begins, gap_front}
-use Rattle.format_toml.specs.Spaces.{no_space, tail_is}
 use Rattle.format_toml.specs.Times.{EndsPlain, NoTime}
 use Rattle.format_toml.specs.Toml.{AnyBasicText, AnyLiteralText, BooleanText, GapPartText, GapText}
+use Rattle.format_toml.specs.Toml.{IsBoolean, IsText, IsUnquoted, PlainText, ScalarText, WsText}
+use Rattle.format_toml.specs.Toml.{false_word, true_word}
 use Rattle.format_toml.specs.Plain.{plain_begins, plain_of}
-use Rattle.format_toml.specs.Toml.{IsBoolean, IsText, IsUnquoted}
-use Rattle.format_toml.specs.Toml.{PlainText, ScalarText, WsText, false_word, true_word}
 use Rattle.streams.specs.Equal.{same_others}
 use Rattle.grammars.specs.Grammar.Meaning.{Meaning}
 use Rattle.grammars.specs.Texts.{StartsWith, TextsStartWith, EitherText, InFront, IsGrammarOf}
-use Rattle.grammars.specs.Texts.{NotFirst}
-use Rattle.grammars.specs.Texts.{Spelled}
-use Rattle.grammars.specs.Texts.{TokenOfText}
+use Rattle.grammars.specs.Texts.{NotFirst, Spelled, TokenOfText}
 use Rattle.grammars.specs.Texts.Fronts.{begins_wider, either_front, front_begins, front_behind}
 use Rattle.grammars.specs.Texts.Fronts.{may_begin, not_first, spelled_begins}
 use Rattle.grammars.specs.Texts.Parts.{behind_less}
 
--- ---- what goes on with a word or a number
+-- ---- what continues a word or a number
 
 -- letters, digits, and + - . : _, and quotation marks
 abbrev pub ContinuesScalar : ℕ → Type 0
 ContinuesScalar c = IsUnquoted c ⊎ ((c ≡ 34) ⊎ (c ≡ 39))
 
-pub goes_is : (c : ℕ) → ContinuesScalar c
-    → (33 < c) × (c < 123) × (c ≡ 44 → ⊥) × (c ≡ 93 → ⊥) × (c ≡ 35 → ⊥)
-goes_is c (inl (inl e)) = omega (arith, e)
-goes_is c (inl (inr (inl e))) = omega (arith, e)
-goes_is c (inl (inr (inr (inl e)))) = omega (arith, e)
-goes_is c (inl (inr (inr (inr (inl e))))) = omega (arith, e)
-goes_is c (inl (inr (inr (inr (inr (inl e)))))) = omega (arith, e)
-goes_is c (inl (inr (inr (inr (inr (inr e)))))) = omega (arith, e)
-goes_is c (inr (inl e)) = omega (arith, e)
-goes_is c (inr (inr e)) = omega (arith, e)
-
 -- `Goes rest`: the input after a value does not start with one of these, nor with a space and a
 -- time, which would continue a date.
 abbrev pub Goes : List ℕ → Type 0
 Goes rest = NotFirst ContinuesScalar rest × NoTime rest
-
-pub space_goes : (c : ℕ) → IsSpace c → ContinuesScalar c → ⊥
-space_goes c s g =
-    let above = (goes_is c g).0 in no_space c (omega (arith, above)) s
-
-pub tail_goes : (c : ℕ) → IsTail c → ContinuesScalar c → ⊥
-tail_goes c (inl e) g = (goes_is c g).4 e
-tail_goes c (inr (inl e)) g = absurd (omega (arith, e, (goes_is c g).0))
-tail_goes c (inr (inr e)) g = absurd (omega (arith, e, (goes_is c g).0))
 
 -- what ends a number, a date or a string
 goes_plain : (rest : List ℕ) → Goes rest → EndsPlain rest
@@ -68,17 +44,17 @@ goes_basic rest goes = not_first (λ c. c ≡ 34) ContinuesScalar (λ c e. inr (
 goes_literal : (rest : List ℕ) → Goes rest → NotFirst (λ c. c ≡ 39) rest
 goes_literal rest goes = not_first (λ c. c ≡ 39) ContinuesScalar (λ c e. inr (inr e)) rest goes.0
 
--- ---- white space after a value
+-- ---- whitespace after a value
 
 -- no time is there where no space is first
 no_time : (rest : List ℕ) → NotFirst IsSpace rest → NoTime rest
 no_time rest not a b more one other e =
     let P : List ℕ → Type 0 = λ l. NotFirst IsSpace l in subst P e not (inl refl)
 
--- nor after white space
+-- nor after whitespace
 space_more : (c : ℕ) (rest : List ℕ) → IsSpace c → Goes rest → Goes (c ∷ rest)
 space_more c rest is goes = (
-  space_goes c is,
+  λ g. omega arith,
   λ a b more one other e.
       let P : List ℕ → Type 0 = λ l. NotFirst ContinuesScalar l in
       subst P (same_others e) goes.0 (inl (inl (omega (arith, one)))),
@@ -99,8 +75,8 @@ wide_goes rest past = (
 
 tail_more : (tokens : List ℕ) → StartsWith IsTail tokens → Goes tokens
 tail_more tokens begins = (
-  may_begin IsTail (λ c. ContinuesScalar c → ⊥) tail_goes tokens begins,
-  no_time tokens (may_begin IsTail (λ c. IsSpace c → ⊥) (λ c is. (tail_is c is).1) tokens begins),
+  may_begin IsTail (λ c. ContinuesScalar c → ⊥) (λ c t g. omega arith) tokens begins,
+  no_time tokens (may_begin IsTail (λ c. IsSpace c → ⊥) (λ c t s. omega arith) tokens begins),
 )
 
 -- it may be on the line
@@ -141,9 +117,9 @@ word_of word output = record {
 
 -- ---- values that have no others in them
 
--- a character above another that opens and closes no array, and no comment
-abbrev pub Above : ℕ → ℕ → Type 0
-Above low c = (low < c) × (c < 117) × (c ≡ 91 → ⊥) × (c ≡ 93 → ⊥) × (c ≡ 35 → ⊥)
+-- a character between two others that opens and closes no array, and no comment
+abbrev pub Amid : ℕ → ℕ → ℕ → Type 0
+Amid low high c = (low < c) × (c < high) × (c ≡ 91 → ⊥) × (c ≡ 93 → ⊥) × (c ≡ 35 → ⊥)
 
 module _ {A : Type 0} where
   basic_of : IsGrammarOf (Meaning IsText (AnyBasic {A = A})) (For IsText AnyBasicText) Goes
@@ -172,13 +148,13 @@ module _ {A : Type 0} where
       (EitherText (BooleanText false_word false) PlainText) Goes
   after_true_of =
       led_of (boolean_of false_word false) (behind_less goes_plain plain_of)
-      (boolean_begins 102 _ false) (front_begins (λ c n e. (numeric_is c n).4 e) plain_begins)
+      (boolean_begins 102 _ false) (front_begins (λ c n e. omega arith) plain_begins)
 
-  after_true_begins : TextsStartWith (λ c. (42 < c) × (c < 112) × (c ≡ 91 → ⊥) × (c ≡ 93 → ⊥))
+  after_true_begins : TextsStartWith (Amid 42 112)
       (EitherText (BooleanText {A = A} false_word false) PlainText)
   after_true_begins =
-      either_front (begins_wider (λ c e. omega (arith, e)) (boolean_begins 102 _ false))
-      (begins_wider (λ c n. let m = numeric_is c n in (m.0, m.1, m.2, m.3)) plain_begins)
+      either_front (begins_wider (λ c e. omega arith) (boolean_begins 102 _ false))
+      (begins_wider (λ c n. omega arith) plain_begins)
 
   after_literal_of : IsGrammarOf (Led (λ c. c ≡ 116) (AnyBoolean {A = A} true_word true)
       (Led (λ c. c ≡ 102) (AnyBoolean false_word false) Plain))
@@ -186,19 +162,14 @@ module _ {A : Type 0} where
       (EitherText (BooleanText false_word false) PlainText)) Goes
   after_literal_of =
       led_of (boolean_of true_word true) after_true_of (boolean_begins 116 _ true)
-      (front_begins (λ c a e. absurd (omega (arith, a.1, e))) after_true_begins)
+      (front_begins (λ c a e. omega arith) after_true_begins)
 
-  after_literal_begins : TextsStartWith (Above 42) (EitherText (BooleanText {A = A} true_word true)
+  after_literal_begins : TextsStartWith (Amid 42 117)
+      (EitherText (BooleanText {A = A} true_word true)
       (EitherText (BooleanText false_word false) PlainText))
   after_literal_begins =
-      either_front (begins_wider (λ c e. omega (arith, e)) (boolean_begins 116 _ true))
-      (either_front (begins_wider (λ c e. omega (arith, e)) (boolean_begins 102 _ false))
-      (begins_wider (λ c n. above c (numeric_is c n)) plain_begins))
-    where
-      above : (c : ℕ) → (42 < c) × (c < 112) × (c ≡ 91 → ⊥) × (c ≡ 93 → ⊥) × (c ≡ 102 → ⊥)
-          → Above 42 c
-      above c (least, most, opens, closes, f) =
-          (least, omega (arith, most), opens, closes, λ e. absurd (omega (arith, least, e)))
+      either_front (begins_wider (λ c e. omega arith) (boolean_begins 116 _ true))
+      (begins_wider (λ c a. omega arith) after_true_begins)
 
   after_basic_of : IsGrammarOf (Led (λ c. c ≡ 39) (Meaning IsText (AnyLiteral {A = A}))
       (Led (λ c. c ≡ 116) (AnyBoolean true_word true)
@@ -208,21 +179,22 @@ module _ {A : Type 0} where
       (EitherText (BooleanText false_word false) PlainText))) Goes
   after_basic_of =
       led_of literal_of after_literal_of literal_begins
-      (front_begins (λ c a e. absurd (omega (arith, a.0, e))) after_literal_begins)
+      (front_begins (λ c a e. omega arith) after_literal_begins)
 
-  after_basic_begins : TextsStartWith (Above 38) (EitherText (For IsText (AnyLiteralText {A = A}))
+  after_basic_begins : TextsStartWith (Amid 38 117)
+      (EitherText (For IsText (AnyLiteralText {A = A}))
       (EitherText (BooleanText true_word true)
       (EitherText (BooleanText false_word false) PlainText)))
   after_basic_begins =
-      either_front (begins_wider (λ c e. omega (arith, e)) literal_begins)
-      (begins_wider (λ c a. (omega (arith, a.0), a.1, a.2, a.3, a.4)) after_literal_begins)
+      either_front (begins_wider (λ c e. omega arith) literal_begins)
+      (begins_wider (λ c a. omega arith) after_literal_begins)
 
   pub scalar_of : IsGrammarOf (Scalar {A = A}) ScalarText Goes
   scalar_of =
       led_of basic_of after_basic_of basic_begins
-      (front_begins (λ c a e. absurd (omega (arith, a.0, e))) after_basic_begins)
+      (front_begins (λ c a e. omega arith) after_basic_begins)
 
-  pub scalar_begins : TextsStartWith (Above 33) (ScalarText {A = A})
+  pub scalar_begins : TextsStartWith (Amid 33 117) (ScalarText {A = A})
   scalar_begins =
-      either_front (begins_wider (λ c e. omega (arith, e)) basic_begins)
-      (begins_wider (λ c a. (omega (arith, a.0), a.1, a.2, a.3, a.4)) after_basic_begins)
+      either_front (begins_wider (λ c e. omega arith) basic_begins)
+      (begins_wider (λ c a. omega arith) after_basic_begins)

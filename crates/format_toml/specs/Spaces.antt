@@ -1,7 +1,7 @@
 -- Proofs that the grammars of whitespace, comments and line endings match their written form.
-use Rattle.std.specs.Prelude.{◌≡◌, ◌⊎◌, ◌<◌, ⊤, ℕ, List, [], ◌∷◌, ◌++◌, None}
+use Rattle.std.specs.Prelude.{◌≡◌, ◌⊎◌, ⊤, ℕ, List, [], ◌∷◌, ◌++◌, None}
 use Rattle.std.specs.List.{All}
-use Rattle.std.proofs.Common.{arith, inl, inr, refl, subst}
+use Rattle.std.proofs.Common.{arith, inl, inr, refl}
 use Rattle.streams.specs.Text.{text_reading}
 use Rattle.stream_sets.specs.AsChar.{IsSpace}
 use Rattle.stream_sets.specs.Range.{from_to}
@@ -14,25 +14,16 @@ use Rattle.format_toml.specs.Toml.{NewlineText, SetResult, Spaced, WideMarkText,
 use Rattle.format_toml.specs.declared.characters.Characters.TheVariants.{Comment, White}
 use Rattle.grammars.specs.Grammar.{Both, Grammar, Optional}
 use Rattle.grammars.specs.Texts.{Anything, TextsStartWith, BothText, InFront, IsGrammarOf}
-use Rattle.grammars.specs.Texts.{MayStartWith}
-use Rattle.grammars.specs.Texts.{NotFirst, OptionalText, Text}
+use Rattle.grammars.specs.Texts.{MayStartWith, NotFirst, OptionalText, Text}
 use Rattle.grammars.specs.Texts.Fronts.{begins_wider, both_front, each_front, either_front}
-use Rattle.grammars.specs.Texts.Fronts.{front_any}
-use Rattle.grammars.specs.Texts.Fronts.{front_begins, front_behind, gathered_front, may_begin_more}
-use Rattle.grammars.specs.Texts.Fronts.{none_begins, not_first, optional_front, spelled_begins}
+use Rattle.grammars.specs.Texts.Fronts.{front_any, front_begins, front_behind, gathered_front}
+use Rattle.grammars.specs.Texts.Fronts.{may_begin_more, none_begins, not_first, optional_front}
+use Rattle.grammars.specs.Texts.Fronts.{spelled_begins}
 use Rattle.grammars.specs.Texts.Parts.{behind_less, both_of, either_apart, optional_of}
 use Rattle.grammars.specs.Texts.Rows.{gathered_of, many_of}
 use Rattle.grammars.specs.Texts.Tokens.{divides_seen, divides_where, longest_of}
 
--- ---- white space on a line
-
-pub space_below : (c : ℕ) → IsSpace c → c < 33
-space_below c (inl e) = omega (arith, e)
-space_below c (inr e) = omega (arith, e)
-
--- no white space above a space
-pub no_space : (c : ℕ) → 32 < c → IsSpace c → ⊥
-no_space c above is = absurd (omega (arith, above, space_below c is))
+-- ---- whitespace on a line
 
 pub ws_of : IsGrammarOf Ws WsText (NotFirst IsSpace)
 ws_of = run_of IsSpace 0
@@ -53,7 +44,7 @@ mark_of c = both_of pair (char_of c) ws_of front_any
 pub mark_begins : (c : ℕ) → TextsStartWith (λ x. x ≡ c) (MarkText c)
 mark_begins c = both_front pair (spelled_begins c [] c) front_any
 
--- neither white space nor one of these
+-- neither whitespace nor one of these
 abbrev pub Past : (ℕ → Type 0) → List ℕ → Type 0
 Past these = NotFirst (λ c. IsSpace c ⊎ these c)
 
@@ -68,12 +59,6 @@ pub spaced_begins : {O : Type 0} {text : Text ℕ O} {these : ℕ → Type 0} �
     → TextsStartWith these (Spaced text)
 spaced_begins begins = both_front former begins front_any
 
--- a character that is this one is none of those
-pub past : (these : ℕ → Type 0) (n : ℕ) → 32 < n → (these n → ⊥) → (c : ℕ) → c ≡ n
-    → IsSpace c ⊎ these c → ⊥
-past these n above not c e (inl s) = no_space c (omega (arith, above, e)) s
-past these n above not c e (inr t) = not (subst these e t)
-
 -- ---- line endings and comments
 
 -- the first character of a line ending
@@ -83,35 +68,6 @@ IsBreak c = (c ≡ 10) ⊎ (c ≡ 13)
 -- the first character of a comment or a line ending
 abbrev pub IsTail : ℕ → Type 0
 IsTail c = (c ≡ 35) ⊎ IsBreak c
-
-pub tail_is : (c : ℕ) → IsTail c → (c < 36) × (IsSpace c → ⊥)
-tail_is c (inl e) = (omega (arith, e), no_space c (omega (arith, e)))
-tail_is c (inr (inl e)) = (
-  omega (arith, e),
-  λ is. elim is [
-    | inl f ↦ absurd (omega (arith, e, f))
-    | inr f ↦ absurd (omega (arith, e, f))
-  ],
-)
-tail_is c (inr (inr e)) = (
-  omega (arith, e),
-  λ is. elim is [
-    | inl f ↦ absurd (omega (arith, e, f))
-    | inr f ↦ absurd (omega (arith, e, f))
-  ],
-)
-
-break_shown : (c : ℕ) → IsBreak c → IsOf Comment c → ⊥
-break_shown c (inl e) (inl f) = absurd (omega (arith, e, f))
-break_shown c (inl e) (inr (inl f)) = absurd (omega (arith, e, f))
-break_shown c (inl e) (inr (inr f)) = absurd (omega (arith, e, f))
-break_shown c (inr e) (inl f) = absurd (omega (arith, e, f))
-break_shown c (inr e) (inr (inl f)) = absurd (omega (arith, e, f))
-break_shown c (inr e) (inr (inr f)) = absurd (omega (arith, e, f))
-
-break_hash : (c : ℕ) → IsBreak c → c ≡ 35 → ⊥
-break_hash c (inl e) f = absurd (omega (arith, e, f))
-break_hash c (inr e) f = absurd (omega (arith, e, f))
 
 comment_of : IsGrammarOf AnyComment CommentText (NotFirst (IsOf Comment))
 comment_of =
@@ -125,23 +81,24 @@ comment_begins = both_front latter (spelled_begins 35 [] 35) front_any
 pub maybe_comment_of : IsGrammarOf (Optional AnyComment) (OptionalText CommentText)
     (MayStartWith IsBreak)
 maybe_comment_of =
-    optional_of (behind_less (may_begin_more IsBreak (λ c. IsOf Comment c → ⊥) break_shown)
+    optional_of (behind_less
+    (may_begin_more IsBreak (λ c. IsOf Comment c → ⊥) (λ c b s. omega arith))
     comment_of)
     (λ rest b. none_begins comment_of comment_begins rest
-    (may_begin_more IsBreak (λ c. c ≡ 35 → ⊥) break_hash rest b))
+    (may_begin_more IsBreak (λ c. c ≡ 35 → ⊥) (λ c b e. omega arith) rest b))
 
 pub newline_of : IsGrammarOf Newline NewlineText Anything
 newline_of =
     either_apart (char_of 10) (both_of latter (char_of 13) (char_of 10) front_any)
     (spelled_begins 10 [] 10) (both_front latter
-    (front_begins (λ c e f. absurd (omega (arith, e, f))) (spelled_begins 13 [] 13)) front_any)
+    (front_begins (λ c e f. omega arith) (spelled_begins 13 [] 13)) front_any)
 
 pub newline_begins : TextsStartWith IsBreak NewlineText
 newline_begins =
     either_front (begins_wider (λ c e. inl e) (spelled_begins 10 [] 10))
     (both_front latter (begins_wider (λ c e. inr e) (spelled_begins 13 [] 13)) front_any)
 
--- ---- white space over lines
+-- ---- whitespace over lines
 
 -- a line end with a comment before it or none
 ended_of : IsGrammarOf (Both latter (Optional AnyComment) Newline)
@@ -153,18 +110,14 @@ ended_begins =
     both_front latter (optional_front (front_behind (λ rest b. tt)
     (begins_wider (λ c e. inl e) comment_begins))) (begins_wider (λ c is. inr is) newline_begins)
 
--- what white space over lines begins with
+-- what whitespace over lines begins with
 abbrev pub OpensGap : ℕ → Type 0
 OpensGap c = IsSpace c ⊎ IsTail c
-
-pub gap_is : (c : ℕ) → OpensGap c → c < 36
-gap_is c (inl s) = omega (arith, space_below c s)
-gap_is c (inr t) = (tail_is c t).0
 
 gap_part_of : IsGrammarOf GapPart GapPartText Anything
 gap_part_of =
     either_apart (one_of_set White) ended_of (set_begins White)
-    (front_begins (λ c t s. (tail_is c t).1 s) ended_begins)
+    (front_begins (λ c t s. omega arith) ended_begins)
 
 gap_part_begins : TextsStartWith OpensGap GapPartText
 gap_part_begins =
@@ -186,7 +139,7 @@ wide_mark_of c = both_of pair (char_of c) gap_of front_any
 pub wide_mark_begins : (c : ℕ) → TextsStartWith (λ x. x ≡ c) (WideMarkText c)
 wide_mark_begins c = both_front pair (spelled_begins c [] c) front_any
 
--- neither white space over lines nor one of these
+-- neither whitespace over lines nor one of these
 abbrev pub WidePast : (ℕ → Type 0) → List ℕ → Type 0
 WidePast these = NotFirst (λ c. OpensGap c ⊎ these c)
 
@@ -200,9 +153,3 @@ gapped_of {these = these} front is =
 pub gapped_begins : {O : Type 0} {text : Text ℕ O} {these : ℕ → Type 0} → TextsStartWith these text
     → TextsStartWith these (Gapped text)
 gapped_begins begins = both_front former begins front_any
-
--- a character that is this one is none of those
-pub wide_past : (these : ℕ → Type 0) (n : ℕ) → 35 < n → (these n → ⊥) → (c : ℕ) → c ≡ n
-    → OpensGap c ⊎ these c → ⊥
-wide_past these n above not c e (inl s) = absurd (omega (arith, above, e, gap_is c s))
-wide_past these n above not c e (inr t) = not (subst these e t)

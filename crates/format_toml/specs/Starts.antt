@@ -5,8 +5,7 @@ use Rattle.std.specs.Str.{chars}
 use Rattle.std.proofs.Common.{sym, subst, inl, inr, ◌∙◌, arith}
 use Rattle.std.proofs.lemmas.Bool.{cases_order}
 use Rattle.format_toml.specs.Grammars.{Line, Newline}
-use Rattle.format_toml.specs.Unique.{line_unique}
-use Rattle.format_toml.specs.UniqueSpaces.{newline_unique}
+use Rattle.format_toml.specs.Unique.{line_unique, newline_unique}
 use Rattle.grammars.specs.Grammar.{Grammar, NoMatch}
 use Rattle.grammars.specs.Grammar.Unique.{end_of_end}
 

@@ -5,8 +5,8 @@ use Rattle.stream_sets.specs.Range.{from_to}
 use Rattle.format_parts.specs.Hexadecimal.{CodeUnit, Digit, IsAlone, IsHex, IsNumberOf, UnitText}
 use Rattle.format_parts.specs.Words.{Char, For, One, Whichever, any_of, between_of, char_of, for_of}
 use Rattle.format_parts.specs.Words.{four_same, latter, pair, to_four}
-use Rattle.format_toml.specs.Grammars.{AnyCharacters, BasicString, Character, Escape}
-use Rattle.format_toml.specs.Grammars.{LiteralString, WideUnits}
+use Rattle.format_toml.specs.Grammars.{AnyCharacters, BasicString, Character, Escape, LiteralString}
+use Rattle.format_toml.specs.Grammars.{WideUnits}
 use Rattle.format_toml.specs.Led.{led_of}
 use Rattle.format_toml.specs.Toml.{BasicText, CharacterText, CharactersText, IsOf, LiteralText}
 use Rattle.format_toml.specs.Toml.{EscapeText, IsWide, SetResult, StandsFor}
@@ -16,8 +16,7 @@ use Rattle.grammars.specs.Grammar.{Both, NoMatch, TokenOf}
 use Rattle.grammars.specs.Grammar.Meaning.{Meaning}
 use Rattle.stream_sets.specs.Accumulator.Holds.{HasCharacters}
 use Rattle.grammars.specs.Texts.{Anything, AtLeast, StartsWith, TextsStartWith, BothText, EachText}
-use Rattle.grammars.specs.Texts.{InFront}
-use Rattle.grammars.specs.Texts.{IsGrammarOf, MadeText, NotFirst, Spelled, TokenOfText}
+use Rattle.grammars.specs.Texts.{InFront, IsGrammarOf, MadeText, NotFirst, Spelled, TokenOfText}
 use Rattle.grammars.specs.Texts.Fronts.{begins_wider, both_front, either_front, front_any}
 use Rattle.grammars.specs.Texts.Fronts.{front_begins, gathered_front, may_begin, none_begins}
 use Rattle.grammars.specs.Texts.Fronts.{spelled_begins, token_of_begins}
@@ -74,22 +73,16 @@ unit_of =
     (both_of pair digit_of (both_of pair digit_of digit_of front_any)
     front_any) front_any))
 
-short_begins : TextsStartWith (λ c. (c ≡ 117 → ⊥) × (c ≡ 85 → ⊥)) (For StandsFor Whichever)
+-- a character that a backslash escapes is neither u nor U, and above a space
+abbrev OpensShort : ℕ → Type 0
+OpensShort c = (c ≡ 117 → ⊥) × (c ≡ 85 → ⊥) × (33 < c)
+
+short_begins : TextsStartWith OpensShort (For StandsFor Whichever)
 unfolding MadeText Whichever
-short_begins = record {
-  makes = λ k xs rest (c, e, stands) any.
-      let P : List ℕ → Type 0 = λ l. StartsWith (λ c. (c ≡ 117 → ⊥) × (c ≡ 85 → ⊥)) (l ++ rest) in
-      subst P (sym e) (no_u c k stands);
-}
+short_begins = record { makes = λ k xs rest (c, e, stands) any. rw e (opens c k stands) }
   where
-    no_u : (c k : ℕ) → StandsFor c k → (c ≡ 117 → ⊥) × (c ≡ 85 → ⊥)
-    no_u c k (inl x) = omega (arith, x.0)
-    no_u c k (inr (inl x)) = omega (arith, x.0)
-    no_u c k (inr (inr (inl x))) = omega (arith, x.0)
-    no_u c k (inr (inr (inr (inl x)))) = omega (arith, x.0)
-    no_u c k (inr (inr (inr (inr (inl x))))) = omega (arith, x.0)
-    no_u c k (inr (inr (inr (inr (inr (inl x)))))) = omega (arith, x.0)
-    no_u c k (inr (inr (inr (inr (inr (inr x)))))) = omega (arith, x.0)
+    opens : (c k : ℕ) → StandsFor c k → OpensShort c
+    opens c k stands = omega arith
 
 long_of : IsGrammarOf (Both latter (Char 85) (Meaning IsWide WideUnits))
     (BothText latter (One 85) (For IsWide (BothText pair UnitText UnitText))) Anything
@@ -105,7 +98,7 @@ escape_of =
     led_of (both_of latter (char_of 117) (for_of IsAlone unit_of) front_any)
     (led_of long_of (for_of StandsFor any_of) long_begins (front_begins (λ c u. u.1) short_begins))
     (both_front latter (spelled_begins 117 [] 117) front_any)
-    (either_front (front_begins (λ c e f. absurd (omega (arith, e, f))) long_begins)
+    (either_front (front_begins (λ c e f. omega arith) long_begins)
     (front_begins (λ c u. u.0) short_begins))
 
 escaped_of : IsGrammarOf (Both latter (Char 92) Escape) (BothText latter (One 92) EscapeText)
@@ -121,32 +114,14 @@ character_of =
 pub character_begins : TextsStartWith (λ c. c ≡ 34 → ⊥) CharacterText
 character_begins =
     either_front (begins_wider (λ c is. is.1.0) (set_begins Basic))
-    (both_front latter (begins_wider (λ c e q. absurd (omega (arith, e, q)))
-    (spelled_begins 92 [] 92)) front_any)
-
--- what a backslash escapes is above a space
-short_above : TextsStartWith (λ c. 33 < c) (For StandsFor Whichever)
-unfolding MadeText Whichever
-short_above = record {
-  makes = λ k xs rest (c, e, stands) any.
-      let P : List ℕ → Type 0 = λ l. StartsWith (λ c. 33 < c) (l ++ rest) in
-      subst P (sym e) (above c k stands);
-}
-  where
-    above : (c k : ℕ) → StandsFor c k → 33 < c
-    above c k (inl x) = omega (arith, x.0)
-    above c k (inr (inl x)) = omega (arith, x.0)
-    above c k (inr (inr (inl x))) = omega (arith, x.0)
-    above c k (inr (inr (inr (inl x)))) = omega (arith, x.0)
-    above c k (inr (inr (inr (inr (inl x))))) = omega (arith, x.0)
-    above c k (inr (inr (inr (inr (inr (inl x)))))) = omega (arith, x.0)
-    above c k (inr (inr (inr (inr (inr (inr x)))))) = omega (arith, x.0)
+    (both_front latter (begins_wider (λ c e q. omega arith) (spelled_begins 92 [] 92)) front_any)
 
 escape_above : TextsStartWith (λ c. 33 < c) EscapeText
 escape_above =
-    either_front (begins_wider (λ c e. omega (arith, e))
+    either_front (begins_wider (λ c e. omega arith)
     (both_front latter (spelled_begins 117 [] 117) front_any))
-    (either_front (begins_wider (λ c e. omega (arith, e)) long_begins) short_above)
+    (either_front (begins_wider (λ c e. omega arith) long_begins)
+    (begins_wider (λ c u. u.2) short_begins))
 
 -- the tokens do not start with a backslash, unless a character above a space follows it
 abbrev pub Apart : List ℕ → Type 0

@@ -1,8 +1,7 @@
 -- Characters of numbers, dates and times, with a time after a space or none: what is read of them
 -- is
 -- what is written.
-use Rattle.std.specs.Prelude.{◌≡◌, ◌⊎◌, ◌≤◌, ◌<◌, ℕ, List, [], ◌∷◌, ◌++◌, length, Option, Some}
-use Rattle.std.specs.Prelude.{None}
+use Rattle.std.specs.Prelude.{◌≡◌, ◌⊎◌, ◌≤◌, ℕ, List, [], ◌∷◌, ◌++◌, length, Option, Some, None}
 use Rattle.std.specs.Prelude.{IsAscii}
 use Rattle.std.specs.List.{All}
 use Rattle.std.specs.Str.{encode_utf8_all}
@@ -10,21 +9,16 @@ use Rattle.std.proofs.Common.{refl, sym, ap, subst, inl, inr, ◌∙◌, arith}
 use Rattle.std.proofs.lemmas.List.Elements.{All-cons, All-nil, All-tail}
 use Rattle.std.proofs.lemmas.Str.{IsAscii-append}
 use Rattle.std.proofs.lemmas.Str.Ascii.{IsAscii-cons, IsAscii-nil}
-use Rattle.format_parts.specs.Unique.{char_unique}
 use Rattle.format_parts.specs.Words.{Char, FourTexts, One, Slice, char_of, four_same, pair, to_four}
 use Rattle.format_toml.specs.Grammars.{SpacedTime, UnquotedRun, Unquoteds}
 use Rattle.format_toml.specs.Toml.{IsOf, IsUnquoted, SetResult}
-use Rattle.format_toml.specs.UniqueSpaces.{members_unique}
 use Rattle.format_toml.specs.declared.characters.Characters.TheVariants.{Digit, Unquoted}
 use Rattle.format_toml_tree.specs.Dates.{IsDigit}
-use Rattle.grammars.specs.Grammar.{IsUnique, Longest, NoMatch}
-use Rattle.grammars.specs.Grammar.Sequences.{four_unique}
-use Rattle.grammars.specs.Grammar.Unique.{both_unique, optional_unique, taken_unique}
+use Rattle.grammars.specs.Grammar.{Longest, NoMatch}
 use Rattle.stream_sets.specs.Range.{from_to}
 use Rattle.streams.specs.Text.{text_reading}
 use Rattle.grammars.specs.Texts.{Anything, TextsStartWith, BothText, InFront, IsGrammarOf, Members}
-use Rattle.grammars.specs.Texts.{NotFirst}
-use Rattle.grammars.specs.Texts.{OptionalText, SoManyOf, Spelled, TakenText, Text}
+use Rattle.grammars.specs.Texts.{NotFirst, OptionalText, SoManyOf, Spelled, TakenText, Text}
 use Rattle.grammars.specs.Texts.Fronts.{both_front, front_any, front_begins, front_behind}
 use Rattle.grammars.specs.Texts.Fronts.{optional_front, spelled_begins}
 use Rattle.grammars.specs.Texts.Parts.{behind_less, both_of, optional_of, same_of, taken_of}
@@ -43,20 +37,12 @@ EndsPlain rest = NotFirst IsUnquoted rest × NoTime rest
 
 -- ---- characters
 
-pub unquoted_is : (c : ℕ) → IsUnquoted c → (42 < c) × (c < 128)
-unquoted_is c (inl e) = omega (arith, e)
-unquoted_is c (inr (inl e)) = omega (arith, e)
-unquoted_is c (inr (inr (inl e))) = omega (arith, e)
-unquoted_is c (inr (inr (inr (inl e)))) = omega (arith, e)
-unquoted_is c (inr (inr (inr (inr (inl e))))) = omega (arith, e)
-unquoted_is c (inr (inr (inr (inr (inr e))))) = omega (arith, e)
-
 -- all of them are of ASCII
 pub ascii : (tokens : List ℕ) → All IsUnquoted tokens → IsAscii tokens
 ascii [] all = IsAscii-nil
 ascii (x ∷ xs) all =
-    IsAscii-cons x xs (unquoted_is x (all 0 x (omega arith))).1
-    (ascii xs (All-tail IsUnquoted x xs all))
+    let is = all 0 x (omega arith) in
+    IsAscii-cons x xs (omega (arith, is)) (ascii xs (All-tail IsUnquoted x xs all))
 
 -- zero or more
 run_of : (least : ℕ) → IsGrammarOf (UnquotedRun least) (Members text_reading IsUnquoted least)
@@ -106,35 +92,10 @@ two_of (a ∷ b ∷ c ∷ cs) all two = absurd (omega (arith, two))
 time_is : (o : ℕ × Slice × ℕ × Slice) (tokens : List ℕ) → SpacedTimeText o tokens
     → IsSpacedTime tokens
 unfolding BothText Spelled SoManyOf Members
-time_is o tokens (
-  s,
-  q,
-  xs,
-  ys,
-  (is, e),
-  (
-    ds,
-    r,
-    zs,
-    ws,
-    (digits, two, shows),
-    (m, t, us, vs, (colon, f), (all, least, shown), g, p),
-    h,
-    n,
-  ),
-  d,
-  k,
-) =
-    let (a, b, one, other, j) = two_of zs digits two in (
-      a,
-      b,
-      vs,
-      one,
-      other,
-      all,
-      d ∙ ap (λ l. l ++ ys) e ∙ ap (λ l. 32 ∷ l) (h ∙ ap (λ l. l ++ ws) j)
-          ∙ ap (λ l. 32 ∷ a ∷ b ∷ l) (g ∙ ap (λ l. l ++ vs) f),
-    )
+time_is o tokens (s, q, xs, ys, (is, e), behind, d, k) =
+    let (ds, r, zs, ws, (digits, two, shows), last, h, n) = behind in
+    let (m, t, us, vs, (colon, f), (all, least, shown), g, p) = last in
+    let (a, b, one, other, j) = two_of zs digits two in (a, b, vs, one, other, all, (cc))
 
 abbrev slice_of : List ℕ → Slice
 slice_of tokens = record { ref_ptr = (0, 0); now = encode_utf8_all tokens }
@@ -147,27 +108,15 @@ time_made tokens (a, b, more, one, other, all, e) =
     let hour = slice_of two in
     let others = slice_of more in
     let digits = All-cons IsDigit a (b ∷ []) one (All-cons IsDigit b [] other (All-nil IsDigit))
-    in (
+    in
+    let last : BothText pair (One 58) (Members text_reading IsUnquoted 0) (58, others) (58 ∷ more) =
+    (58, others, 58 ∷ [], more, (refl, refl), (all, omega arith, refl), refl, refl) in
+    let behind : BothText pair (SoManyOf text_reading IsDigit 2)
+    (BothText pair (One 58) (Members text_reading IsUnquoted 0)) (hour, (58, others))
+    (two ++ 58 ∷ more) =
+    (hour, (58, others), two, 58 ∷ more, (digits, refl, refl), last, refl, refl) in (
       (32, hour, 58, others),
-      (
-        32,
-        (hour, (58, others)),
-        32 ∷ [],
-        two ++ 58 ∷ more,
-        (refl, refl),
-        (
-          hour,
-          (58, others),
-          two,
-          58 ∷ more,
-          (digits, refl, refl),
-          (58, others, 58 ∷ [], more, (refl, refl), (all, omega arith, refl), refl, refl),
-          refl,
-          refl,
-        ),
-        e,
-        refl,
-      ),
+      (32, (hour, (58, others)), 32 ∷ [], two ++ 58 ∷ more, (refl, refl), behind, e, refl),
     )
 
 none_time : (rest : List ℕ) → NoTime rest → NoMatch SpacedTime rest
@@ -185,21 +134,13 @@ UnquotedText = BothText pair (Members text_reading IsUnquoted 1) (OptionalText S
 time_front : InFront (OptionalText SpacedTimeText) EndsPlain (NotFirst IsUnquoted)
 time_front =
     front_behind (λ rest b. b.0)
-    (optional_front (front_begins
-    (λ c e is. absurd (omega (arith, e, (unquoted_is c is).0))) time_begins))
+    (optional_front (front_begins (λ c e is. omega arith) time_begins))
 
 pub unquoteds_of : IsGrammarOf Unquoteds (TakenText text_reading UnquotedText) EndsPlain
 unquoteds_of =
     taken_of text_reading
     (both_of pair (run_of 1)
     (optional_of (behind_less (λ rest b. b.0) time_of) (λ rest b. none_time rest b.1)) time_front)
-
-pub unquoteds_unique : IsUnique Unquoteds
-unquoteds_unique =
-    taken_unique text_reading
-    (both_unique pair (members_unique Unquoted (from_to 1 None))
-    (optional_unique (four_unique (char_unique 32) (members_unique Digit (from_to 2 (Some 2)))
-    (char_unique 58) (members_unique Unquoted (from_to 0 None)))))
 
 -- it is of ASCII
 pub unquoted_ascii : (o : Slice × Option (ℕ × Slice × ℕ × Slice)) (tokens : List ℕ)

@@ -1,8 +1,7 @@
 -- TOML 1.0 (toml.io/en/v1.0.0): what is written for keys, values and lines, by its ABNF.
 use Rattle.std.specs.Prelude.{◌≡◌, ◌⊎◌, ◌≤◌, ◌↔◌, ◌+◌, ◌*◌, ⊤, ℕ, ℤ, zero, suc, Bool, true}
 use Rattle.std.specs.Prelude.{false}
-use Rattle.std.specs.Prelude.{IsTrue}
-use Rattle.std.specs.Prelude.{List, [], ◌∷◌, Option, Some, None}
+use Rattle.std.specs.Prelude.{IsTrue, List, [], ◌∷◌, Option, Some, None}
 use Rattle.std.specs.declared.string.String.{String}
 use Rattle.std.specs.declared.vec.Vec.{Vec}
 use Rattle.streams.specs.Text.{text_reading}
@@ -47,7 +46,7 @@ IsUnquoted c =
     ⊎ ((c ≡ 43) ⊎ (((45 ≤ c) × (c ≤ 46)) ⊎ (c ≡ 95)))))
 
 -- the characters of a bare key, of a comment, of a literal string, those of a basic string that
--- stand for themselves, white space, those of numbers, dates and times, and digits
+-- stand for themselves, whitespace, those of numbers, dates and times, and digits
 abbrev pub IsOf : Characters → ℕ → Type 0
 IsOf Bare c = IsBare c
 IsOf Comment c = IsShown c
@@ -110,7 +109,7 @@ module _ {A : Type 0} where
   abbrev pub IsEntry : Key A × Value A → Item A → Type 0
   IsEntry both item = item ≡ items.Entry both.0 both.1
 
--- ---- white space
+-- ---- whitespace
 
 -- ws = *wschar
 abbrev pub WsText : Text ℕ Slice
@@ -133,14 +132,14 @@ GapPartText = EitherText (TokenOfText (λ c. c) (IsOf White))
 abbrev pub GapText : Text ℕ ⊤
 GapText = GatheredText (λ all parts. ⊤) (EachText GapPartText)
 
--- a text, and white space after it, on its line or over lines
+-- a text, and whitespace after it, on its line or over lines
 abbrev pub Spaced : {O : Type 0} → Text ℕ O → Text ℕ O
 Spaced text = BothText former text WsText
 
 abbrev pub Gapped : {O : Type 0} → Text ℕ O → Text ℕ O
 Gapped text = BothText former text GapText
 
--- a character, and white space after it, on its line or over lines
+-- a character, and whitespace after it, on its line or over lines
 abbrev pub MarkText : ℕ → Text ℕ (ℕ × Slice)
 MarkText c = BothText pair (One c) WsText
 
@@ -244,7 +243,7 @@ module _ {A : Type 0} where
   abbrev pub NameText : Text ℕ (String A)
   NameText = EitherText BasicText (EitherText LiteralText (CharactersText Bare 1))
 
-  -- key = simple-key *( dot-sep simple-key ), with dot-sep = ws %x2E ws, and white space after it
+  -- key = simple-key *( dot-sep simple-key ), with dot-sep = ws %x2E ws, and whitespace after it
   abbrev pub KeyText : Text ℕ (Key A)
   KeyText = For IsKey (InList (AtLeast 1 (PartedText (MarkText 46) (Spaced NameText))))
 
@@ -254,7 +253,7 @@ module _ {A : Type 0} where
   abbrev pub PairText : Text ℕ (Value A) → Text ℕ (Key A × Value A)
   PairText value = BothText pair KeyText (BothText latter (MarkText 61) value)
 
-  -- array-values: values with commas between them, and perhaps one after the last; and white space
+  -- array-values: values with commas between them, and perhaps one after the last; and whitespace
   -- and comments after each value and each comma
   abbrev pub ArrayValuesText : Text ℕ (Value A) → Text ℕ (Vec (Value A) A)
   ArrayValuesText value =

@@ -2,8 +2,9 @@
 ghost use Rattle.std.specs.List.{filter};
 ghost use Rattle.std.specs.Prelude.{◌≡◌, ◌↔◌, ◌==◌, not, string_bytes, IfOk, IsAscii, IsTrue};
 ghost use Rattle.format_toml.specs.Floats.{AreDigits, IsDecimal, IsFloat, IsMagnitude, IsWhole};
-ghost use Rattle.format_toml.specs.Floats.{Signed, SignsOff, SplitsAt};
+ghost use Rattle.format_toml.specs.Floats.{SignsOff, SplitsAt};
 
+use crate::integers::is_lone;
 use std::alloc::{AllocError, Allocator};
 
 /// Returns the parts before and after the first occurrence of either byte.
@@ -39,10 +40,7 @@ fn are_digits(text: &[u8]) -> bool
 fn is_whole(text: &[u8]) -> bool
     ensures { IsTrue result ↔ IsWhole text.now }
 {
-    if text.len() > 1 && text[0] == b'0' {
-        return false;
-    }
-    are_digits(text)
+    is_lone(text) && are_digits(text)
 }
 
 /// Whether it is a whole part, a point and digits.

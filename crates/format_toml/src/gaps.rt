@@ -2,7 +2,7 @@
 ghost use Rattle.std.specs.Prelude.{◌≡◌, ⊤};
 ghost use Rattle.streams.specs.Text.{text_input, text_reading};
 ghost use Rattle.format_toml.specs.Grammars.{Gap};
-ghost use Rattle.format_toml.specs.UniqueSpaces.{gap_unique};
+ghost use Rattle.format_toml.specs.Unique.{gap_unique};
 ghost use Rattle.winnow_core.specs.Exact.{Reads};
 
 use crate::characters::Characters;

@@ -1,8 +1,7 @@
 //! Integers (TOML 1.0: Integer), as the numbers that they are.
 ghost use Rattle.std.specs.Char.{digit_value};
-ghost use Rattle.std.specs.Prelude.{◌≡◌, ◌≤◌, neg_ℤ, pos};
-ghost use Rattle.format_toml.specs.Numbers.{BehindZero, IsIntegerOf, IsNumber, IsSigned};
-ghost use Rattle.format_toml.specs.Numbers.{NumberText};
+ghost use Rattle.std.specs.Prelude.{◌≡◌, ◌≤◌, ◌↔◌, IsTrue};
+ghost use Rattle.format_toml.specs.Numbers.{AfterZero, IsIntegerOf, IsLone, IsNumber, NumberText};
 ghost use Rattle.format_toml.specs.Numbers.{UnsignedText};
 
 /// Returns the value of a digit or a letter, from 0 for '0' to 35 for 'Z' and 'z'; 36 for any other
@@ -43,24 +42,29 @@ fn number_in(base: u64, text: &[u8]) -> Option<u64>
     if due { None } else { Some(number) }
 }
 
+/// Whether a leading zero is the only digit, or there is none.
+pub(crate) fn is_lone(text: &[u8]) -> bool
+    ensures { IsTrue result ↔ IsLone text.now }
+{
+    text.len() <= 1 || text[0] != b'0'
+}
+
 /// Returns the number that decimal digits denote, where a leading zero must be the only digit.
 fn unsigned(text: &[u8]) -> Option<u64>
     ensures { IsNumber UnsignedText text.now result }
 {
-    if text.len() > 1 && text[0] == b'0' {
-        return None;
+    if is_lone(text) {
+        number_in(10, text)
+    } else {
+        None
     }
-    number_in(10, text)
 }
 
-/// Returns the number for the text after a leading zero: nothing, or a letter and digits of its
-/// base.
+/// Returns the number for the text after a leading zero: a letter, and digits of its base.
 fn after_zero(text: &[u8]) -> Option<u64>
-    ensures { IsNumber BehindZero text.now result }
+    ensures { IsNumber AfterZero text.now result }
 {
-    let Some((letter, digits)) = text.split_first() else {
-        return Some(0);
-    };
+    let (letter, digits) = text.split_first()?;
     let letter = *letter;
     if letter == b'x' {
         return number_in(16, digits);
@@ -74,20 +78,6 @@ fn after_zero(text: &[u8]) -> Option<u64>
     None
 }
 
-/// The number as one of 64 bits with a sign, where it fits.
-fn positive(number: u64) -> Option<i64>
-    ensures { IsSigned (λ n. pos n) number result }
-{
-    i64::try_from(i128::from(number)).ok()
-}
-
-/// The number below zero as one of 64 bits with a sign, where it fits.
-fn negative(number: u64) -> Option<i64>
-    ensures { IsSigned (λ n. neg_ℤ (pos n)) number result }
-{
-    i64::try_from(-i128::from(number)).ok()
-}
-
 /// The integer that a text is; nothing where it is none, or does not fit in 64 bits.
 pub(crate) fn integer(text: &[u8]) -> Option<i64>
     ensures { IsIntegerOf text.now result }
@@ -95,13 +85,13 @@ pub(crate) fn integer(text: &[u8]) -> Option<i64>
     let (first, rest) = text.split_first()?;
     let first = *first;
     if first == b'+' {
-        return positive(unsigned(rest)?);
+        return 0_i64.checked_add_unsigned(unsigned(rest)?);
     }
     if first == b'-' {
-        return negative(unsigned(rest)?);
+        return 0_i64.checked_sub_unsigned(unsigned(rest)?);
     }
-    if first == b'0' {
-        return positive(after_zero(rest)?);
+    if first == b'0' && text.len() > 1 {
+        return 0_i64.checked_add_unsigned(after_zero(rest)?);
     }
-    positive(unsigned(text)?)
+    0_i64.checked_add_unsigned(unsigned(text)?)
 }

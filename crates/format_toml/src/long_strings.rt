@@ -8,11 +8,11 @@ ghost use Rattle.format_toml.specs.Grammars.{EscapedLine, LiteralPart, LiteralSt
 ghost use Rattle.format_toml.specs.Grammars.{LongLiteral, Skips};
 ghost use Rattle.format_toml.specs.LongGrammars.{Quote};
 ghost use Rattle.format_toml.specs.Unique.{basic_unique, literal_unique};
-ghost use Rattle.format_toml.specs.UniqueLong.{basic_part_takes, basic_part_unique};
-ghost use Rattle.format_toml.specs.UniqueLong.{escaped_line_takes, escaped_line_unique};
-ghost use Rattle.format_toml.specs.UniqueLong.{literal_part_takes, literal_part_unique};
-ghost use Rattle.format_toml.specs.UniqueLong.{long_basic_unique, long_literal_unique};
-ghost use Rattle.format_toml.specs.UniqueLong.{quote_takes, quote_unique, skips_unique};
+ghost use Rattle.format_toml.specs.Unique.{basic_part_takes, basic_part_unique};
+ghost use Rattle.format_toml.specs.Unique.{escaped_line_takes, escaped_line_unique};
+ghost use Rattle.format_toml.specs.Unique.{literal_part_takes, literal_part_unique};
+ghost use Rattle.format_toml.specs.Unique.{long_basic_unique, long_literal_unique};
+ghost use Rattle.format_toml.specs.Unique.{quote_takes, quote_unique, skips_unique};
 ghost use Rattle.winnow_core.specs.Exact.{Reads};
 
 use crate::characters::Characters;

@@ -2,7 +2,7 @@
 //! Local Time).
 ghost use Rattle.format_toml.specs.Floats.{IsFloat};
 ghost use Rattle.format_toml.specs.Grammars.{Plain, Unquoteds};
-ghost use Rattle.format_toml.specs.PlainAnswers.{IsAnswer, IsFloatAnswer};
+ghost use Rattle.format_toml.specs.Plain.{IsAnswer, IsFloatAnswer};
 ghost use Rattle.format_toml.specs.Toml.{DateTimeText, OtherText, PlainText};
 ghost use Rattle.winnow_core.specs.Exact.{Reads};
 ghost use Rattle.streams.specs.Text.{text_input, text_reading};

@@ -1,5 +1,5 @@
 //! Eight hexadecimal digits of an escape (TOML 1.0: String).
-ghost use Rattle.format_toml.specs.Escapes.{wide_unique};
+ghost use Rattle.format_toml.specs.Unique.{wide_unique};
 ghost use Rattle.format_toml.specs.Grammars.{WideUnits};
 ghost use Rattle.streams.specs.Text.{text_input, text_reading};
 ghost use Rattle.winnow_core.specs.Exact.{Reads};

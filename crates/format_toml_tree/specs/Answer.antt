@@ -1,9 +1,7 @@
 -- The relation between the result and the tree that the lines of a document give.
-use Rattle.std.specs.Prelude.{◌≡◌, ℕ, List, [], Option, Result, Ok, Err, IsErr, IsErrAnd, true}
-use Rattle.std.specs.Prelude.{false}
-use Rattle.std.proofs.Common.{refl, subst, sym}
-use Rattle.format_toml_tree.specs.Runs.{Gives, empty}
-use Rattle.format_toml_tree.specs.Runs.{Tree as Given}
+use Rattle.std.specs.Prelude.{◌≡◌, ℕ, List, [], Option, Result, Ok, Err}
+use Rattle.std.proofs.Common.{refl, subst}
+use Rattle.format_toml_tree.specs.Runs.{Gives, empty, Tree as Given}
 use Rattle.format_toml_tree.specs.Holds.{HoldsTree}
 use Rattle.format_toml_tree.specs.Once.{gives_once}
 use Rattle.format_toml_tree.specs.declared.build.TreeError.{TreeError}
@@ -34,7 +32,7 @@ module _ {A : Type 0} where
   answers_tree lines tree given gives holds outcome other =
       subst (λ o. IsAnswer (Ok tree) o) (gives_once gives other) holds
 
-  no_memory : (outcome : Result (Given A) (ℕ × Reason)) → IsAnswer (Err OutOfMemory) outcome
+  pub no_memory : (outcome : Result (Given A) (ℕ × Reason)) → IsAnswer (Err OutOfMemory) outcome
   no_memory (Ok given) = tt
   no_memory (Err e) = tt
 
@@ -44,12 +42,3 @@ module _ {A : Type 0} where
   answers_fault lines OutOfMemory gives outcome other = no_memory outcome
   answers_fault lines (Invalid line why) gives outcome other =
       subst (λ o. IsAnswer (Err (Invalid line why)) o) (gives_once (gives line why refl) other) refl
-
-  pub answers_memory : (lines : List (Option (Item A))) (result : Result (Tree A) TreeError)
-      → IsErr result × IsErrAnd result (λ e. e ≡ OutOfMemory) → Answers lines result
-  answers_memory lines (Ok tree) is outcome other = absurd (never is.0)
-    where
-      never : false ≡ true → ⊥
-      never e = cc
-  answers_memory lines (Err fault) is outcome other =
-      subst (λ f. IsAnswer (Err f) outcome) (sym is.1) (no_memory outcome)

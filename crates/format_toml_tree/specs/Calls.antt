@@ -1,6 +1,6 @@
 -- The effects of calls on slots: a slot is unchanged, one is set, an entry or an element is added.
-use Rattle.std.specs.Prelude.{◌≡◌, ◌⊎◌, ℕ, zero, suc, ◌+◌, ◌<◌, ◌≤◌, Bool, true, false, cond}
-use Rattle.std.specs.Prelude.{List, [], ◌∷◌, ◌++◌, length, set, get_or, Some, None, slice_get}
+use Rattle.std.specs.Prelude.{◌≡◌, ◌⊎◌, ℕ, zero, suc, ◌+◌, ◌<◌, ◌≤◌, Bool, true, false, cond, List}
+use Rattle.std.specs.Prelude.{[], ◌∷◌, ◌++◌, length, set, get_or, Some, None, slice_get}
 use Rattle.std.specs.Borrow.{Bor}
 use Rattle.std.specs.BTreeMap.{UpdatesBy, is_at}
 use Rattle.std.specs.Cmp.Lexicographic.{slice_cmp}
@@ -13,11 +13,11 @@ use Rattle.std.proofs.lemmas.List.{length-append}
 use Rattle.std.proofs.lemmas.Map.Text.{btree_map_updates_str}
 use Rattle.std.proofs.lemmas.Option.{slice_get_read}
 use Rattle.std.proofs.lemmas.Slice.Eq.{bytes_eq-Decides}
-use Rattle.format_toml_tree.specs.Paths.{Path, named, no_place, placed, put, same_name}
-use Rattle.format_toml_tree.specs.Paths.{put_same, same_place}
+use Rattle.format_toml_tree.specs.Paths.{Path, named, no_place, placed, put, same_name, put_same}
+use Rattle.format_toml_tree.specs.Paths.{same_place}
 use Rattle.format_toml_tree.specs.Runs.{State, Tree}
-use Rattle.format_toml_tree.specs.Holds.{AddsElement, AddsEntry, Goes, Holds, IsFresh, Pushes}
-use Rattle.format_toml_tree.specs.Holds.{find, node_at, node_of}
+use Rattle.format_toml_tree.specs.Holds.{AddsElement, AddsEntry, Goes, Holds, IsFresh, Pushes, find}
+use Rattle.format_toml_tree.specs.Holds.{node_at, node_of}
 use Rattle.format_toml_tree.specs.Places.{get_push}
 use Rattle.format_toml_tree.specs.Added.{added}
 use Rattle.format_toml_tree.specs.declared.tree.Kind.{Kind}
@@ -92,7 +92,7 @@ module _ {A : Type 0} where
             ap (λ m. length m) e ∙ length-append old (fresh ∷ []) in
             omega (arith, within, count)
 
-    -- an entry is added to the place above
+    -- an entry is added below the place above
     pub entry_added : (name : Bor (List ℕ))
         → UpdatesBy (λ x y. slice_cmp nat_cmp x.now y.now) (λ k. slice_cmp nat_cmp name.now k.now)
         was.places now.places (Some place)
@@ -119,12 +119,10 @@ module _ {A : Type 0} where
             subst (λ v. length v.items ≤ k) elements f,
           );
         }) in
-        subst (λ m. Goes old path (put tree q (node_of kind 0), q) place (set m above now)) (sym e)
-        (subst (λ i. Goes old path (put tree q (node_of kind 0), q) i
-        (set (old ++ fresh ∷ []) above now)) (sym j)
-        (subst (λ t. Goes old path (t, q) (length old) (set (old ++ fresh ∷ []) above now))
+        rw (e, j) (subst (λ t. Goes old path (t, q) (length old)
+        (set (old ++ fresh ∷ []) above now))
         (ap (λ t. put t q (node_at fresh)) (put_same tree (path above) (node_at now) (sym same))
-        ∙ ap (λ n. put tree q n) (fresh_node is)) goes))
+        ∙ ap (λ n. put tree q n) (fresh_node is)) goes)
       where
         finds_by : (other : List ℕ) (n : ℕ) (b : Bool) → bytes_eq name.now other ≡ b
             → UpdatesBy (λ x y. slice_cmp nat_cmp x.now y.now)
@@ -144,13 +142,14 @@ module _ {A : Type 0} where
               ∙ ap (λ b. cond b (Some n) (find was.places other)) e,
         )
 
-    -- an element is added to the place above
+    -- an element is added below the place above
     pub element_added : now.places ≡ was.places
         → now.elements.items ≡ was.elements.items ++ place ∷ []
         → AddsElement old above kind place (set mid above now)
     element_added places elements tree path before holds at =
         let (fresh, is, e, j) = pushed in
-        let same : before ≡ was = some_slot (sym at ∙ is_old fresh e) in
+        let was_at = is_old fresh e in
+        let same : before ≡ was = cc in
         let xs : List ℕ = before.elements.items in
         let q : Path = placed (length xs) ∷ path above in
         let items : now.elements.items ≡ xs ++ length old ∷ [] =
@@ -186,22 +185,8 @@ module _ {A : Type 0} where
             omega (arith, f, count),
           );
         }) in
-        subst (λ m. Goes old path (
-          put (put tree (path above)
-              (node_of before.kind (length xs + 1))) q (node_of kind 0),
-          q,
-        ) place (set m above now))
-        (sym e)
-        (subst (λ i. Goes old path (
-          put (put tree (path above)
-              (node_of before.kind (length xs + 1))) q (node_of kind 0),
-          q,
-        ) i
-        (set (old ++ fresh ∷ []) above now)) (sym j)
-        (subst (λ t. Goes old path (t, q) (length old) (set (old ++ fresh ∷ []) above now))
+        rw (e, j) (subst (λ t. Goes old path (t, q) (length old)
+        (set (old ++ fresh ∷ []) above now))
         (ap (λ n. put (put tree (path above) n) q (node_at fresh)) node
         ∙ ap (λ n. put (put tree (path above) (node_of before.kind (length xs + 1))) q n)
-        (fresh_node is)) goes))
-      where
-        some_slot : {s t : Slot A} → Some s ≡ Some t → s ≡ t
-        some_slot e = cc
+        (fresh_node is)) goes)

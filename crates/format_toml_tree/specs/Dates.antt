@@ -3,9 +3,8 @@
 -- the rest.
 use Rattle.std.specs.Prelude.{◌≡◌, ◌⊎◌, ◌≤◌, ◌<◌, ◌+◌, ◌*◌, ◌%◌, ◌==◌, ◌&&◌, ◌||◌}
 use Rattle.std.specs.Prelude.{not, ℕ}
-use Rattle.std.specs.Prelude.{if◌then◌else◌, Bool, pos, neg_ℤ}
-use Rattle.std.specs.Prelude.{string_bytes}
-use Rattle.std.specs.Prelude.{List, [], ◌∷◌, ◌++◌, length, take, Option, Some, None}
+use Rattle.std.specs.Prelude.{if◌then◌else◌, Bool, pos, neg_ℤ, string_bytes, List, [], ◌∷◌, ◌++◌}
+use Rattle.std.specs.Prelude.{length, take, Option, Some, None}
 use Rattle.std.proofs.Common.{get_or}
 use Rattle.std.specs.Borrow.{Bor}
 use Rattle.std.specs.List.{All}

@@ -1,9 +1,9 @@
 -- Statements over the names of a key, in sequence.
-use Rattle.std.specs.Prelude.{◌≡◌, ℕ, suc, ◌+◌, ◌<◌, ◌≤◌, List, [], ◌∷◌, length, drop}
+use Rattle.std.specs.Prelude.{IsErr, IsErrAnd, ◌≡◌, ℕ, ◌+◌, ◌<◌, ◌≤◌, List, [], ◌∷◌, length, drop}
 use Rattle.std.specs.Prelude.{Err, Ok, Result, get_or, string_bytes}
+use Rattle.std.proofs.lemmas.List.{drop_all, drop_more}
 use Rattle.std.specs.declared.string.String.{String}
 use Rattle.std.proofs.Common.{refl, sym, ap, ◌∙◌, arith, length-drop}
-use Rattle.std.proofs.Math.Seq.{drop-cons}
 use Rattle.format_toml_tree.specs.Paths.{Path}
 use Rattle.format_toml_tree.specs.Rules.{Says}
 use Rattle.format_toml_tree.specs.Runs.{State, Tree, say, say_key, then}
@@ -17,17 +17,16 @@ use Rattle.format_toml_tree.specs.declared.tree.Stop.TheVariants.{OutOfMemory, I
 -- the rest of a list begins with its element there
 pub drop_here : {X : Type 0} (xs : List X) (i : ℕ) (x : X) → i < length xs → x ≡ get_or xs i x
     → drop i xs ≡ x ∷ drop (i + 1) xs
-drop_here xs i x w is =
-    let more : suc i ≡ i + 1 = omega arith in
-    drop-cons xs i x w ∙ ap (λ y. y ∷ drop (suc i) xs) (sym is)
-    ∙ ap (λ n. x ∷ drop n xs) more
-
-no_elements : {X : Type 0} (xs : List X) → length xs ≡ 0 → xs ≡ []
-no_elements [] e = refl
-no_elements (x ∷ xs) e = absurd (omega (arith, e))
+drop_here xs i x w is = drop_more xs i x w ∙ ap (λ y. y ∷ drop (i + 1) xs) (sym is)
 
 pub drop_past : {X : Type 0} (xs : List X) (i : ℕ) → length xs ≤ i → drop i xs ≡ []
-drop_past xs i past = no_elements (drop i xs) (omega (arith, length-drop i xs, past))
+drop_past xs i past = drop_all i xs past
+
+-- what fails with a stop is this error
+pub err_is : {X E : Type 0} (r : Result X E) (stop : E) → IsErr r × IsErrAnd r (λ e. e ≡ stop)
+    → r ≡ Err stop
+err_is (Ok x) stop is = let bad = is.0 in absurd (cc)
+err_is (Err e) stop is = ap (λ x. Err x) is.1
 
 then_ok : {X E : Type 0} (r : Result X E) → r ≡ then r (λ x. Ok x)
 then_ok (Ok x) = refl

@@ -18,4 +18,3 @@ pub mod Paths
 pub mod Places
 pub mod Rules
 pub mod Runs
-pub mod TimeParts

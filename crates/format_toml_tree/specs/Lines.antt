@@ -1,11 +1,10 @@
 -- Lines that are added to a tree, in sequence.
-use Rattle.std.specs.Prelude.{◌≡◌, ℕ, zero, suc, ◌+◌, ◌<◌, ◌≤◌, List, [], ◌∷◌, length, drop}
-use Rattle.std.specs.Prelude.{Err, IsErr, None, Ok, Option, Result, Some, get_or, slice_get}
-use Rattle.std.specs.Prelude.{IsErrAnd, false, true}
+use Rattle.std.specs.Prelude.{◌≡◌, ℕ, zero, suc, ◌+◌, ◌<◌, ◌≤◌, List, [], ◌∷◌, length, drop, Err}
+use Rattle.std.specs.Prelude.{None, Ok, Option, Result, Some, get_or, slice_get}
 use Rattle.std.proofs.Common.{refl, sym, ap, subst, ◌∙◌, arith}
 use Rattle.format_toml_tree.specs.Paths.{Path, Step}
-use Rattle.format_toml_tree.specs.Rules.{adds, defines, nothing, passes}
-use Rattle.format_toml_tree.specs.Runs.{FillsEntry, Gives, Runs, State, Tree, empty, say_key, then}
+use Rattle.format_toml_tree.specs.Rules.{Says, nothing, passes}
+use Rattle.format_toml_tree.specs.Runs.{State, FillsEntry, Gives, Runs, Tree, empty, say_key}
 use Rattle.format_toml_tree.specs.Runs as runs
 use Rattle.format_toml_tree.specs.Holds.{AddsItem, FillsBy, Holds, IsTreeAt, Pushes, SaysKey}
 use Rattle.format_toml_tree.specs.Holds.{StartsEmpty, find, node_at}
@@ -32,10 +31,7 @@ module _ {A : Type 0} where
   -- ---- the first place
 
   only : (s t : Slot A) (i : ℕ) → slice_get (s ∷ []) i ≡ Some t → (i ≡ 0) × (t ≡ s)
-  only s t zero e = (refl, sym (same e))
-    where
-      same : Some s ≡ Some t → s ≡ t
-      same e = cc
+  only s t zero e = (refl, (cc))
   only s t (suc i) e = absurd (none_some t e)
 
   pub starts_empty : (slots : List (Slot A)) (place : ℕ) → Pushes [] kinds.Header place slots
@@ -67,39 +63,19 @@ module _ {A : Type 0} where
   -- ---- what a line says
 
   module _ (old : List (Slot A)) (table : ℕ) (key : Key A) (item : Item A) where
-    pub adds_table : item ≡ items.Table key → (answer : Result ℕ Stop) (new : List (Slot A))
-        → SaysKey old 0 key.names.items passes defines answer new
-        → AddsItem old table item answer new
-    adds_table e (Ok j) new said = λ tree path holds.
-        let (s, told, goes) = said tree path holds in (
-          s,
-          subst (λ i. Runs (tree, path table) i (Ok s)) (sym e)
-              (sym (ap (λ p. say_key passes defines (tree, p) key.names.items) (sym holds.top)
-              ∙ told)),
-          goes,
-        )
-    adds_table e (Err OutOfMemory) new said = tt
-    adds_table e (Err (Invalid why)) new said = λ tree path holds.
-        subst (λ i. Runs (tree, path table) i (Err why)) (sym e)
-        (sym (ap (λ p. say_key passes defines (tree, p) key.names.items) (sym holds.top)
-        ∙ said tree path holds))
-
-    pub adds_tables : item ≡ items.Tables key → (answer : Result ℕ Stop) (new : List (Slot A))
-        → SaysKey old 0 key.names.items passes adds answer new
-        → AddsItem old table item answer new
-    adds_tables e (Ok j) new said = λ tree path holds.
-        let (s, told, goes) = said tree path holds in (
-          s,
-          subst (λ i. Runs (tree, path table) i (Ok s)) (sym e)
-              (sym (ap (λ p. say_key passes adds (tree, p) key.names.items) (sym holds.top)
-              ∙ told)),
-          goes,
-        )
-    adds_tables e (Err OutOfMemory) new said = tt
-    adds_tables e (Err (Invalid why)) new said = λ tree path holds.
-        subst (λ i. Runs (tree, path table) i (Err why)) (sym e)
-        (sym (ap (λ p. say_key passes adds (tree, p) key.names.items) (sym holds.top)
-        ∙ said tree path holds))
+    -- a header says its key by these rules
+    pub adds_header : (last : Says A) → ((s : State A) (r : Result (State A) Reason)
+        → r ≡ say_key passes last (s.0, []) key.names.items → Runs s item r)
+        → (answer : Result ℕ Stop) (new : List (Slot A))
+        → SaysKey old 0 key.names.items passes last answer new → AddsItem old table item answer new
+    adds_header last tells (Ok j) new said = λ tree path holds.
+        let (s, told, goes) = said tree path holds in
+        let top = ap (λ p. say_key passes last (tree, p) key.names.items) (sym holds.top) in
+        (s, tells (tree, path table) (Ok s) (sym (top ∙ told)), goes)
+    adds_header last tells (Err OutOfMemory) new said = tt
+    adds_header last tells (Err (Invalid why)) new said = λ tree path holds.
+        let top = ap (λ p. say_key passes last (tree, p) key.names.items) (sym holds.top) in
+        tells (tree, path table) (Err why) (sym (top ∙ said tree path holds))
 
     module _ (value : Value A) (e : item ≡ items.Entry key value) where
       pub adds_value : (done : Unit {0}) (new : List (Slot A))
@@ -120,17 +96,6 @@ module _ {A : Type 0} where
       adds_refused (Invalid why) new filled = λ tree path holds.
           subst (λ i. Runs (tree, path table) i (Err why)) (sym e)
           (Err why, filled tree path holds, refl)
-
-  -- what fails with a stop tells it
-  pub adds_err : (old new : List (Slot A)) (table : ℕ) (item : Item A) (answer : Result ℕ Stop)
-      (stop : Stop) → IsErr answer × IsErrAnd answer (λ e. e ≡ stop)
-      → AddsItem old table item (Err stop) new → AddsItem old table item answer new
-  adds_err old new table item (Ok j) stop is told = absurd (no is.0)
-    where
-      no : false ≡ true → ⊥
-      no e = cc
-  adds_err old new table item (Err e) stop is told =
-      subst (λ s. AddsItem old table item (Err s) new) (sym is.1) told
 
   -- ---- lines in turn
 

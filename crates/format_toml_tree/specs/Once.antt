@@ -7,7 +7,7 @@ use Rattle.std.proofs.lemmas.Bool.{cases_lt}
 use Rattle.format_toml_tree.specs.Paths.{Path, placed, put}
 use Rattle.format_toml_tree.specs.Rules.{valued}
 use Rattle.format_toml_tree.specs.Runs.{Fills, FillsEntry, FillsNames, FillsPlaces, Gives, IsNext}
-use Rattle.format_toml_tree.specs.Runs.{Runs, State, Tree, say_key, then}
+use Rattle.format_toml_tree.specs.Runs.{Runs, State, Tree, then}
 use Rattle.format_toml_tree.specs.Runs as runs
 use Rattle.format_toml_tree.specs.declared.roles.Reason.{Reason}
 use Rattle.format_toml_tree.specs.declared.value.Item.{Item}
@@ -24,35 +24,27 @@ err_once : {X E : Type 0} (r : Result X E) {a b : E} → r ≡ Err a → r ≡ E
 err_once r e f = cc
 
 ok_or_err : {P X E : Type 0} (r : Result X E) {a : X} {b : E} → r ≡ Ok a → r ≡ Err b → P
-ok_or_err r {a} {b} e f = absurd (never (sym e ∙ f))
-  where
-    never : Ok a ≡ Err b → ⊥
-    never e = cc
+ok_or_err r e f = absurd (cc)
 
 module _ {A : Type 0} where
   array_once : (v : Value A) (vs ws : Vec (Value A) A) → v ≡ values.Array vs → v ≡ values.Array ws
       → vs ≡ ws
-  array_once v vs ws e f = same
-      (sym (values.outs-Array vs) ∙ ap (out-Value A) (sym e ∙ f) ∙ values.outs-Array ws)
-    where
-      same : forms.Array vs ≡ forms.Array ws → vs ≡ ws
-      same e = cc
+  array_once v vs ws e f =
+      let same : forms.Array vs ≡ forms.Array ws =
+      sym (values.outs-Array vs) ∙ ap (out-Value A) (sym e ∙ f) ∙ values.outs-Array ws in cc same
 
   table_once : (v : Value A) (es fs : Vec (Key A × Value A) A) → v ≡ values.Table es
       → v ≡ values.Table fs → es ≡ fs
-  table_once v es fs e f = same
-      (sym (values.outs-Table es) ∙ ap (out-Value A) (sym e ∙ f) ∙ values.outs-Table fs)
-    where
-      same : forms.Table es ≡ forms.Table fs → es ≡ fs
-      same e = cc
+  table_once v es fs e f =
+      let same : forms.Table es ≡ forms.Table fs =
+      sym (values.outs-Table es) ∙ ap (out-Value A) (sym e ∙ f) ∙ values.outs-Table fs in cc same
 
   array_or_table : {P : Type 0} (v : Value A) (vs : Vec (Value A) A) (es : Vec (Key A × Value A) A)
       → v ≡ values.Array vs → v ≡ values.Table es → P
-  array_or_table v vs es e f = absurd (never
-      (sym (values.outs-Array vs) ∙ ap (out-Value A) (sym e ∙ f) ∙ values.outs-Table es))
-    where
-      never : forms.Array vs ≡ forms.Table es → ⊥
-      never e = cc
+  array_or_table v vs es e f =
+      let never : forms.Array vs ≡ forms.Table es =
+      sym (values.outs-Array vs) ∙ ap (out-Value A) (sym e ∙ f) ∙ values.outs-Table es in
+      absurd (cc never)
 
   next_once : (tree : Tree A) (q : Path) (j k : ℕ) → IsNext tree q j → IsNext tree q k → k ≡ j
   next_once tree q j k is at = elim (cases_lt j k) [
@@ -62,6 +54,15 @@ module _ {A : Type 0} where
       | inr least ↦ omega (arith, most, least)
     ]
   ]
+
+  -- what fills the next place fills it by either number
+  fills_at : {tree : Tree A} {q : Path} {v : Value A} {r : Result (Tree A) Reason} {j k : ℕ}
+      → IsNext tree q j → IsNext tree q k
+      → Fills (put tree (placed k ∷ q) (valued v)) (placed k ∷ q) v r
+      → Fills (put tree (placed j ∷ q) (valued v)) (placed j ∷ q) v r
+  fills_at {tree} {q} {v} {r} {j} {k} is at g =
+      subst (λ n. Fills (put tree (placed n ∷ q) (valued v)) (placed n ∷ q) v r)
+      (next_once tree q j k is at) g
 
   mutual
     pub fills_once : {tree : Tree A} {q : Path} {v : Value A} {r s : Result (Tree A) Reason}
@@ -89,27 +90,15 @@ module _ {A : Type 0} where
         {r s : Result (Tree A) Reason}
         → FillsPlaces tree q vs r → FillsPlaces tree q vs s → r ≡ s
     places_once runs.no_more runs.no_more = refl
-    places_once {tree = tree} {q = q} {vs = v ∷ vs} {s = s} (runs.place j is f more)
-        (runs.place {next = then_tree} k at g others) =
-        let same = fills_once f (subst
-        (λ n. Fills (put tree (placed n ∷ q) (valued v)) (placed n ∷ q) v (Ok then_tree))
-        (next_once tree q j k is at) g) in
+    places_once {q = q} {vs = v ∷ vs} {s = s} (runs.place j is f more) (runs.place k at g others) =
+        let same = fills_once f (fills_at is at g) in
         places_once more (subst (λ t. FillsPlaces t q vs s) (sym (ok_once _ refl same)) others)
-    places_once {tree = tree} {q = q} {vs = v ∷ vs} (runs.place j is f more)
-        (runs.place_refused {why = why} k at g) =
-        ok_or_err _ refl (fills_once f (subst
-        (λ n. Fills (put tree (placed n ∷ q) (valued v)) (placed n ∷ q) v (Err why))
-        (next_once tree q j k is at) g))
-    places_once {tree = tree} {q = q} {vs = v ∷ vs} (runs.place_refused j is f)
-        (runs.place {next = then_tree} k at g others) =
-        ok_or_err _ refl (sym (fills_once f (subst
-        (λ n. Fills (put tree (placed n ∷ q) (valued v)) (placed n ∷ q) v (Ok then_tree))
-        (next_once tree q j k is at) g)))
-    places_once {tree = tree} {q = q} {vs = v ∷ vs} (runs.place_refused j is f)
-        (runs.place_refused {why = why} k at g) =
-        fills_once f (subst
-        (λ n. Fills (put tree (placed n ∷ q) (valued v)) (placed n ∷ q) v (Err why))
-        (next_once tree q j k is at) g)
+    places_once (runs.place j is f more) (runs.place_refused k at g) =
+        ok_or_err _ refl (fills_once f (fills_at is at g))
+    places_once (runs.place_refused j is f) (runs.place k at g others) =
+        ok_or_err _ refl (sym (fills_once f (fills_at is at g)))
+    places_once (runs.place_refused j is f) (runs.place_refused k at g) =
+        fills_once f (fills_at is at g)
 
     names_once : {tree : Tree A} {q : Path} {es : List (Key A × Value A)}
         {r s : Result (Tree A) Reason}

@@ -1,6 +1,6 @@
 -- The effect of a statement on a name, over slots.
-use Rattle.std.specs.Prelude.{◌≡◌, ℕ, zero, suc, ◌+◌, ◌<◌, List, ◌∷◌, length, set, slice_get}
-use Rattle.std.specs.Prelude.{Err, IfOk, IsErr, IsErrAnd, None, Ok, Result, Some, false, true}
+use Rattle.std.specs.Prelude.{◌≡◌, ℕ, zero, suc, ◌+◌, ◌<◌, List, ◌∷◌, length, set, slice_get, Err}
+use Rattle.std.specs.Prelude.{None, Ok, Result, Some}
 use Rattle.std.proofs.Common.{refl, sym, ap, subst, ◌∙◌, arith}
 use Rattle.std.proofs.lemmas.List.{length-set}
 use Rattle.std.proofs.lemmas.Option.{slice_get_within}
@@ -19,11 +19,6 @@ use Rattle.format_toml_tree.specs.declared.tree.Kind.TheVariants as kinds
 use Rattle.format_toml_tree.specs.declared.tree.Slot.{Slot}
 use Rattle.format_toml_tree.specs.declared.tree.Stop.{Stop}
 use Rattle.format_toml_tree.specs.declared.tree.Stop.TheVariants.{OutOfMemory, Invalid}
-
-pub if_ok_more : {X E : Type 0} (r : Result X E) {P Q : X → Type 0} → IfOk r P
-    → ((x : X) → P x → Q x) → IfOk r Q
-if_ok_more (Ok x) is more = more x is
-if_ok_more (Err e) is more = tt
 
 module _ {A : Type 0} where
   -- ---- where the next name is
@@ -179,18 +174,6 @@ module _ {A : Type 0} where
       → SlotResult old path r (Err stop) new
   told_stop old new path r OutOfMemory is = tt
   told_stop old new path r (Invalid why) is = is why refl
-
-  -- what fails with a stop tells it
-  pub told_err : (old new : List (Slot A)) (path : ℕ → Path) (r : Result (State A) Reason)
-      (answer : Result ℕ Stop) (stop : Stop)
-      → IsErr answer × IsErrAnd answer (λ e. e ≡ stop) → SlotResult old path r (Err stop) new
-      → SlotResult old path r answer new
-  told_err old new path r (Ok j) stop is told = absurd (no is.0)
-    where
-      no : false ≡ true → ⊥
-      no e = cc
-  told_err old new path r (Err e) stop is told =
-      subst (λ s. SlotResult old path r (Err s) new) (sym is.1) told
 
   pub say_refused : (says : Says A) (s : State A) (name : List ℕ) (why : Reason)
       → ruled says (s.0 (named name ∷ s.1)) ≡ Err why → say says s name ≡ Err why

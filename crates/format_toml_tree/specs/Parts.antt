@@ -1,20 +1,17 @@
 -- The parts of a value fill the tree below its slot, in sequence.
-use Rattle.std.specs.Prelude.{◌≡◌, ℕ, ◌+◌, ◌<◌, ◌≤◌, List, ◌∷◌, length, drop, get_or}
-use Rattle.std.specs.Prelude.{Some, Result, Ok, Err, IsErr, IsErrAnd, true, false, slice_get}
+use Rattle.std.specs.Prelude.{[], ◌≡◌, ℕ, ◌+◌, ◌<◌, ◌≤◌, List, ◌∷◌, length, drop, get_or, Some}
+use Rattle.std.specs.Prelude.{Result, Ok, Err, slice_get}
 use Rattle.std.specs.declared.vec.Vec.{Vec}
 use Rattle.std.specs.Borrow.{Bor}
 use Rattle.std.proofs.Common.{refl, sym, ap, subst, ◌∙◌, arith}
 use Rattle.std.proofs.lemmas.Option.{slice_get_within}
 use Rattle.format_toml_tree.specs.Paths.{Path, placed, put, put_same}
-use Rattle.format_toml_tree.specs.Rules.{nothing, valued, super, header, dotted, tables}
-use Rattle.format_toml_tree.specs.Rules.{dots, gives}
+use Rattle.format_toml_tree.specs.Rules.{nothing, valued, dots, gives}
 use Rattle.format_toml_tree.specs.Runs.{Fills, FillsEntry, FillsNames, FillsPlaces, HasValue}
-use Rattle.format_toml_tree.specs.Runs.{IsNext}
-use Rattle.format_toml_tree.specs.Runs.{State, Tree, say_key}
+use Rattle.format_toml_tree.specs.Runs.{IsNext, State, Tree}
 use Rattle.format_toml_tree.specs.Runs as runs
 use Rattle.format_toml_tree.specs.Holds.{AddsElement, FillsBy, Goes, Holds, IsValueAt, Keeps}
-use Rattle.format_toml_tree.specs.Holds.{SaysKey}
-use Rattle.format_toml_tree.specs.Holds.{node_of}
+use Rattle.format_toml_tree.specs.Holds.{SaysKey, node_of}
 use Rattle.format_toml_tree.specs.Added.{some_there}
 use Rattle.format_toml_tree.specs.Calls.{goes_on, stays}
 use Rattle.format_toml_tree.specs.Filled.{keeps_put, keeps_then, key_keeps, no_value}
@@ -43,17 +40,14 @@ module _ {A : Type 0} where
     grown = goes.grown;
   }
 
-  -- a value is one whatever it has below
+  -- a value is one with any number of parts
   same_value : (k : Kind A) (n m : ℕ) (v : Value A) → node_of k n ≡ valued v
       → node_of k m ≡ valued v
   same_value (kinds.Value w) n m v e = e
   same_value kinds.Super n m v e = e
   same_value kinds.Header n m v e = e
   same_value kinds.Dotted n m v e = e
-  same_value kinds.Tables n m v e = absurd (no e)
-    where
-      no : tables n ≡ valued v → ⊥
-      no e = cc
+  same_value kinds.Tables n m v e = absurd (cc)
 
   -- The parts from the `k`-th on remain to fill the tree, by a rule on the remaining parts.
   abbrev pub LeftToFill : {X : Type 0} → (Tree A → Path → List X → Result (Tree A) Reason → Type 0)
@@ -63,18 +57,6 @@ module _ {A : Type 0} where
       × ((r : Result (Tree A) Reason) → By next (path place) (drop k parts) r
       → By tree (path place) parts r)
       × Keeps tree next × Goes old path (next, path place) place new
-
-  -- what fails with a stop tells it
-  pub fills_err : (By : Tree A → Path → Result (Tree A) Reason → Type 0) (old new : List (Slot A))
-      (place : ℕ) (answer : Result (Unit {0}) Stop) (stop : Stop)
-      → IsErr answer × IsErrAnd answer (λ e. e ≡ stop) → FillsBy By old place (Err stop) new
-      → FillsBy By old place answer new
-  fills_err By old new place (Ok done) stop is told = absurd (no is.0)
-    where
-      no : false ≡ true → ⊥
-      no e = cc
-  fills_err By old new place (Err e) stop is told =
-      subst (λ s. FillsBy By old place (Err s) new) (sym is.1) told
 
   -- one rule follows from another
   pub fills_more : (By To : Tree A → Path → Result (Tree A) Reason → Type 0)
@@ -99,33 +81,17 @@ module _ {A : Type 0} where
 
   -- ---- a value
 
-  some_slot : {s t : Slot A} → Some s ≡ Some t → s ≡ t
-  some_slot e = cc
-
   pub value_at : (slots : List (Slot A)) (place : ℕ) (s : Slot A) (value : Bor (Value A))
       → slice_get slots place ≡ Some s → s.kind ≡ kinds.Value value → IsValueAt slots place
-  value_at slots place s value at is t h =
-      (value, ap (λ x. x.kind) (some_slot (sym h ∙ at)) ∙ is)
+  value_at slots place s value at is t h = let same : s ≡ t = cc in (value, rw (← same) is)
 
   pub kind_of : (k : Kind A) (n : ℕ) (v : Value A) → node_of k n ≡ valued v
       → (value : Bor (Value A)) × (k ≡ kinds.Value value)
   kind_of (kinds.Value w) n v e = (w, refl)
-  kind_of kinds.Super n v e = absurd (no e)
-    where
-      no : super ≡ valued v → ⊥
-      no e = cc
-  kind_of kinds.Header n v e = absurd (no e)
-    where
-      no : header ≡ valued v → ⊥
-      no e = cc
-  kind_of kinds.Dotted n v e = absurd (no e)
-    where
-      no : dotted ≡ valued v → ⊥
-      no e = cc
-  kind_of kinds.Tables n v e = absurd (no e)
-    where
-      no : tables n ≡ valued v → ⊥
-      no e = cc
+  kind_of kinds.Super n v e = absurd (cc)
+  kind_of kinds.Header n v e = absurd (cc)
+  kind_of kinds.Dotted n v e = absurd (cc)
+  kind_of kinds.Tables n v e = absurd (cc)
 
   module _ (slots : List (Slot A)) (place : ℕ) (s : Slot A) (at : slice_get slots place ≡ Some s)
     where
@@ -268,14 +234,16 @@ module _ {A : Type 0} where
           (runs.place_refused n is_next (subst (λ p. Fills put_tree p part.now (Err why)) goes.at
           (filled put_tree goes.paths goes.holds))))
 
-    pub elements_filled : (vs : List (Value A)) (k : ℕ)
-        → LeftToFill FillsPlaces old place vs k mid → length vs ≤ k → (done : Unit {0})
-        → FillsBy (λ t p r. FillsPlaces t p vs r) old place (Ok done) mid
-    elements_filled vs k left past done tree path holds =
+    -- all parts are in the tree
+    pub all_filled : {X : Type 0} (By : Tree A → Path → List X → Result (Tree A) Reason → Type 0)
+        → ((tree : Tree A) (q : Path) → By tree q [] (Ok tree)) → (xs : List X) (k : ℕ)
+        → LeftToFill By old place xs k mid → length xs ≤ k → (done : Unit {0})
+        → FillsBy (λ t p r. By t p xs r) old place (Ok done) mid
+    all_filled By none xs k left past done tree path holds =
         let (next, f, keeps, goes) = left tree path holds in (
           next,
-          f (Ok next) (subst (λ l. FillsPlaces next (path place) l (Ok next))
-              (sym (drop_past vs k past)) runs.no_more),
+          f (Ok next) (subst (λ l. By next (path place) l (Ok next)) (sym (drop_past xs k past))
+              (none next (path place))),
           keeps,
           goes,
         )
@@ -312,18 +280,6 @@ module _ {A : Type 0} where
           f (Err why) (subst (λ l. FillsNames next (path place) l (Err why)) (sym there_is)
           (runs.name_refused (subst (λ p. FillsEntry next p e.0 e.1 (Err why)) goes.at
           (filled next goes.paths goes.holds))))
-
-    pub entries_filled : (es : List (Key A × Value A)) (k : ℕ)
-        → LeftToFill FillsNames old place es k mid → length es ≤ k → (done : Unit {0})
-        → FillsBy (λ t p r. FillsNames t p es r) old place (Ok done) mid
-    entries_filled es k left past done tree path holds =
-        let (next, f, keeps, goes) = left tree path holds in (
-          next,
-          f (Ok next) (subst (λ l. FillsNames next (path place) l (Ok next))
-              (sym (drop_past es k past)) runs.no_more_names),
-          keeps,
-          goes,
-        )
 
   -- ---- a key and its value
 

@@ -1,6 +1,5 @@
 -- Paths in the tree of a document.
-use Rattle.std.specs.Prelude.{◌≡◌, ◌⊎◌, ℕ, Bool, true, false, cond, ◌&&◌, ◌==◌}
-use Rattle.std.specs.Prelude.{List, [], ◌∷◌}
+use Rattle.std.specs.Prelude.{◌≡◌, ◌⊎◌, ℕ, Bool, true, false, cond, ◌&&◌, ◌==◌, List, [], ◌∷◌}
 use Rattle.std.specs.Str.{bytes_eq}
 use Rattle.std.proofs.Common.{refl, sym, ap, inl, inr, ◌∙◌}
 use Rattle.std.proofs.lemmas.Bool.Decides.{Decides-eqb}
@@ -34,43 +33,20 @@ put tree q n p = cond (same_path q p) n (tree p)
 
 -- ---- what is the same
 
-abbrev name_in : Step → List ℕ
-name_in (named a) = a
-name_in (placed k) = []
-
-abbrev place_in : Step → ℕ
-place_in (named a) = 0
-place_in (placed k) = k
-
-abbrev is_named : Step → Bool
-is_named (named a) = true
-is_named (placed k) = false
-
-abbrev first_step : Path → Step
-first_step [] = placed 0
-first_step (e ∷ p) = e
-
-abbrev other_steps : Path → Path
-other_steps [] = []
-other_steps (e ∷ p) = p
-
 pub same_name : {a b : List ℕ} → named a ≡ named b → a ≡ b
-same_name e = ap name_in e
+same_name e = cc
 
 pub same_place : {j k : ℕ} → placed j ≡ placed k → j ≡ k
-same_place e = ap place_in e
+same_place e = cc
 
 pub no_place : {P : Type 0} (a : List ℕ) (k : ℕ) → named a ≡ placed k → P
-no_place a k e = absurd (no (ap is_named e))
-  where
-    no : true ≡ false → ⊥
-    no e = cc
+no_place a k e = absurd (cc)
 
 pub first_same : {e f : Step} {p q : Path} → e ∷ p ≡ f ∷ q → e ≡ f
-first_same e = ap first_step e
+first_same e = cc
 
 pub others_same : {e f : Step} {p q : Path} → e ∷ p ≡ f ∷ q → p ≡ q
-others_same e = ap other_steps e
+others_same e = cc
 
 both : (b c : Bool) → (b && c) ≡ true → (b ≡ true) × (c ≡ true)
 both true true e = (refl, refl)
@@ -105,12 +81,16 @@ module _ {N : Type 0} (tree : Path → N) (q : Path) (n : N) where
   put_here p e = ap (λ r. cond (same_path q r) n (tree r)) e
       ∙ ap (λ b. cond b n (tree q)) (path_itself q)
 
-  pub put_apart : (p : Path) → (p ≡ q → ⊥) → put tree q n p ≡ tree p
-  put_apart p apart = by (same_path q p) refl
+  pub put_cases : (p : Path) → ((p ≡ q) × (put tree q n p ≡ n)) ⊎ (put tree q n p ≡ tree p)
+  put_cases p = by (same_path q p) refl
     where
-      by : (b : Bool) → same_path q p ≡ b → put tree q n p ≡ tree p
-      by true e = absurd (apart (sym (path_same q p e)))
-      by false e = ap (λ b. cond b n (tree p)) e
+      by : (b : Bool) → same_path q p ≡ b
+          → ((p ≡ q) × (put tree q n p ≡ n)) ⊎ (put tree q n p ≡ tree p)
+      by true e = inl (sym (path_same q p e), ap (λ b. cond b n (tree p)) e)
+      by false e = inr (ap (λ b. cond b n (tree p)) e)
+
+  pub put_apart : (p : Path) → (p ≡ q → ⊥) → put tree q n p ≡ tree p
+  put_apart p apart = elim (put_cases p) [ inl (e, f) ↦ absurd (apart e) | inr f ↦ f ]
 
   -- where it has that there, it is the same
   pub put_same : tree q ≡ n → put tree q n ≡ tree
@@ -119,11 +99,3 @@ module _ {N : Type 0} (tree : Path → N) (q : Path) (n : N) where
       at : (p : Path) (b : Bool) → same_path q p ≡ b → put tree q n p ≡ tree p
       at p true f = ap (λ c. cond c n (tree p)) f ∙ sym e ∙ ap tree (path_same q p f)
       at p false f = ap (λ c. cond c n (tree p)) f
-
-  pub put_cases : (p : Path) → ((p ≡ q) × (put tree q n p ≡ n)) ⊎ (put tree q n p ≡ tree p)
-  put_cases p = by (same_path q p) refl
-    where
-      by : (b : Bool) → same_path q p ≡ b
-          → ((p ≡ q) × (put tree q n p ≡ n)) ⊎ (put tree q n p ≡ tree p)
-      by true e = inl (sym (path_same q p e), ap (λ b. cond b n (tree p)) e)
-      by false e = inr (ap (λ b. cond b n (tree p)) e)

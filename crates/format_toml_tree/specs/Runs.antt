@@ -1,13 +1,11 @@
 -- The tree that the statements of a document give, or the first that is rejected (TOML 1.0).
 use Rattle.std.specs.Prelude.{◌≡◌, ℕ, suc, ◌+◌, ◌<◌, List, [], ◌∷◌, Result, Ok, Err, Option, Some}
-use Rattle.std.specs.Prelude.{None}
-use Rattle.std.specs.Prelude.{string_bytes}
+use Rattle.std.specs.Prelude.{None, string_bytes}
 use Rattle.std.specs.declared.string.String.{String}
 use Rattle.std.specs.declared.vec.Vec.{Vec}
 use Rattle.format_toml_tree.specs.Paths.{Path, named, placed, put}
-use Rattle.format_toml_tree.specs.Rules.{Node, Says, ruled}
-use Rattle.format_toml_tree.specs.Rules.{nothing, valued, header, tables}
-use Rattle.format_toml_tree.specs.Rules.{passes, defines, adds, dots, gives}
+use Rattle.format_toml_tree.specs.Rules.{Node, Says, ruled, nothing, valued, header, tables, passes}
+use Rattle.format_toml_tree.specs.Rules.{defines, adds, dots, gives}
 use Rattle.format_toml_tree.specs.declared.roles.Reason.{Reason}
 use Rattle.format_toml_tree.specs.declared.value.Key.{Key}
 use Rattle.format_toml_tree.specs.declared.value.Item.{Item}

@@ -66,7 +66,7 @@ impl<'d, 't, A: Allocator + Copy> Node<'d, 't, A> {
     pub fn get(&self, name: &str) -> Option<Node<'d, 't, A>>
         ensures { Finds self.now name.now result }
     {
-        let slot = self.tree.slots.as_slice().get(self.place)?;
+        let slot = self.slot()?;
         match slot.places.get(name).copied() {
             Some(place) => Some(Node {
                 tree: self.tree,
@@ -127,7 +127,7 @@ impl<'d, 't, A: Allocator + Copy> Node<'d, 't, A> {
     pub fn value(&self) -> Option<&'t Value<A>>
         ensures { Answers self.now result }
     {
-        let slot = self.tree.slots.as_slice().get(self.place)?;
+        let slot = self.slot()?;
         let kind = slot.kind;
         match kind {
             Kind::Value(value) => Some(value),

@@ -2,7 +2,7 @@ use Rattle.std.specs.Prelude.{ℕ}
 use Rattle.std.proofs.Common.{rules, subst, sym}
 use Rattle.format_toml.specs.Toml.{IsWide}
 use Rattle.grammars.specs.Grammar.Meaning.{meaning_same}
-use Rattle.format_toml.specs.Escapes.{wide_one}
+use Rattle.format_toml.specs.Unique.{wide_one}
 use Rattle.winnow_core.specs.Exact.Same.{reads_as}
 use Rattle.format_toml.proofs.escapes.read_wide_character.Goals as goal
 

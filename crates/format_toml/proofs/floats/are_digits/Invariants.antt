@@ -1,5 +1,5 @@
-use Rattle.format_toml.specs.FloatParts.{DigitsSo}
+use Rattle.format_toml.specs.Digits.{DigitsSo}
 use Rattle.format_toml.proofs.floats.are_digits.Given as goal
 
 abbrev pub invariant-loop-byte : goal.invariant-loop-byte
-invariant-loop-byte l = DigitsSo l.text l.byte-index l.due
+invariant-loop-byte l = DigitsSo 10 l.text l.byte-index l.due

@@ -1,9 +1,9 @@
 use Rattle.std.proofs.Common.{inl, inr, refl}
 use Rattle.format_toml.specs.Floats.{SplitsAt}
-use Rattle.format_toml.specs.FloatParts.{split_here, split_none}
+use Rattle.format_toml.specs.FloatCuts.{split_here, split_none}
 use Rattle.format_toml.proofs.floats.split_at_first.Goals as goal
+use Rattle.format_toml.proofs.floats.split_at_first.Goals.{then-text-place-via-then-text-place}
 use Rattle.format_toml.proofs.floats.split_at_first.Goals.{
-  then-text-place-via-then-text-place,
   then-text-place-via-else-text-place+then-text-place-2,
 }
 

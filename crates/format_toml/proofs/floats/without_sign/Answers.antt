@@ -1,8 +1,8 @@
 use Rattle.std.proofs.Common.{inl, inr}
 use Rattle.format_toml.specs.FloatCuts.{no_sign, no_text, some_sign}
 use Rattle.format_toml.proofs.floats.without_sign.Goals as goal
+use Rattle.format_toml.proofs.floats.without_sign.Goals.{then-first-eq43-via-then-first-eq43}
 use Rattle.format_toml.proofs.floats.without_sign.Goals.{
-  then-first-eq43-via-then-first-eq43,
   then-first-eq43-via-else-first-eq43+then-first-eq45,
 }
 

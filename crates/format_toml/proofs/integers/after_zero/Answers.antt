@@ -1,25 +1,25 @@
-use Rattle.std.proofs.Common.{inl, inr, refl}
-use Rattle.format_toml.specs.Integers.{by_letter, by_no_letter, zero_ends}
+use Rattle.std.proofs.Common.{inl, inr, refl, arith}
+use Rattle.format_toml.specs.Integers.{by_letter, by_no_letter, nothing_after}
 use Rattle.format_toml.proofs.integers.after_zero.Goals as goal
 
-pub returns-in_default : goal.returns-in_default
-returns-in_default c = zero_ends c.args.text.now c.in_default.ensures.cases
+pub returns-in_err-letter : goal.returns-in_err-letter
+returns-in_err-letter c =
+    rw c.from_residual.ensures (nothing_after c.args.text.now c.in_err-letter.ensures.cases)
 
 pub returns-then-letter-eq120 : goal.returns-then-letter-eq120
 returns-then-letter-eq120 c =
-    by_letter _ (inl (c.if-letter-eq120.true, refl)) c.in-Some.ensures.cases.0 c.number_in.ensures
+    by_letter _ (inl (c.if-letter-eq120.true, refl)) c.in_ok-letter.ensures.cases.0
+    c.number_in.ensures
 
 pub returns-then-letter-eq111 : goal.returns-then-letter-eq111
 returns-then-letter-eq111 c =
-    by_letter _ (inr (inl (c.if-letter-eq111.true, refl))) c.in-Some.ensures.cases.0
+    by_letter _ (inr (inl (c.if-letter-eq111.true, refl))) c.in_ok-letter.ensures.cases.0
     c.number_in-then-letter-eq111.ensures
 
 pub returns-then-letter-eq98 : goal.returns-then-letter-eq98
 returns-then-letter-eq98 c =
-    by_letter _ (inr (inr (c.if-letter-eq98.true, refl))) c.in-Some.ensures.cases.0
+    by_letter _ (inr (inr (c.if-letter-eq98.true, refl))) c.in_ok-letter.ensures.cases.0
     c.number_in-then-letter-eq98.ensures
 
 pub returns : goal.returns
-returns c =
-    by_no_letter c.in-Some.ensures.cases.0 c.if-letter-eq120.false c.if-letter-eq111.false
-    c.if-letter-eq98.false
+returns c = by_no_letter c.in_ok-letter.ensures.cases.0 (λ base is. omega arith)

@@ -1,20 +1,13 @@
-use Rattle.std.proofs.Common.{arith}
-use Rattle.format_toml.specs.Integers.{lone_zero, no_zero}
+use Rattle.format_toml.specs.Integers.{unsigned_by}
+use Rattle.format_toml.specs.Numbers.{IsNumber, UnsignedText}
+use Rattle.std.proofs.lemmas.Bool.{both_ways}
 use Rattle.format_toml.proofs.integers.unsigned.Goals as goal
-use Rattle.format_toml.proofs.integers.unsigned.Goals.{
-  else-text-gt1-via-then-text-gt1+else-text-eq48,
-}
-use Rattle.format_toml.proofs.integers.unsigned.Goals.{else-text-gt1-via-else-text-gt1}
 
-pub returns-then-text-eq48 : goal.returns-then-text-eq48
-returns-then-text-eq48 c = lone_zero c.args.text.now c.if-text-gt1.true c.if-text-eq48.true
+pub returns-then-is_lone : goal.returns-then-is_lone
+returns-then-is_lone c =
+    unsigned_by c.number_in.result (c.is_lone.ensures.0 c.if-is_lone.true) c.number_in.ensures
 
-pub returns : goal.returns
-returns c = elim c.else-text-gt1.branch [
-  | else-text-gt1-via-then-text-gt1+else-text-eq48 w ↦
-      no_zero c.args.text.now c.number_in.result (λ more is. w.if-text-eq48.false is)
-      c.number_in.ensures
-  | else-text-gt1-via-else-text-gt1 w ↦
-      no_zero c.args.text.now c.number_in.result
-      (λ more is. absurd (omega (arith, more, w.if-text-gt1.false))) c.number_in.ensures
-]
+pub returns-else-is_lone : goal.returns-else-is_lone
+unfolding IsNumber UnsignedText
+returns-else-is_lone c = λ n x small.
+    both_ways _ c.if-is_lone.false (c.is_lone.ensures.1 x.1)

@@ -1,5 +1,5 @@
 use Rattle.std.proofs.Common.{inl, inr}
-use Rattle.format_toml.specs.PlainAnswers.{IsAnswer, date_found, no_date}
+use Rattle.format_toml.specs.Plain.{IsAnswer, date_found, no_date}
 use Rattle.format_toml.proofs.plain.date_value.Goals as goal
 
 pub returns-in-Ok-Some : goal.returns-in-Ok-Some

@@ -1,7 +1,7 @@
 use Rattle.std.proofs.Common.{refl}
 use Rattle.format_toml.specs.FloatFronts.{float_all}
 use Rattle.format_toml.specs.Floats.{FloatText}
-use Rattle.format_toml.specs.PlainAnswers.{IsFloatAnswer}
+use Rattle.format_toml.specs.Plain.{IsFloatAnswer}
 use Rattle.format_toml.specs.Times.{ascii}
 use Rattle.grammars.specs.Texts.{MadeText}
 use Rattle.format_toml.proofs.plain.float_value.Goals as goal

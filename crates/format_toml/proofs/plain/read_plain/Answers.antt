@@ -1,5 +1,5 @@
 use Rattle.format_toml.specs.Grammars.{IsPlain}
-use Rattle.format_toml.specs.PlainAnswers.{plain_reads}
+use Rattle.format_toml.specs.Plain.{plain_reads}
 use Rattle.winnow_grammar.specs.Read.{reads_no_meaning}
 use Rattle.format_toml.proofs.plain.read_plain.Goals as goal
 

@@ -1,5 +1,6 @@
+use Rattle.format_toml_tree.specs.Keys.{err_is}
 use Rattle.std.proofs.Common.{[], ◌≡◌, Result, Err, refl, subst, sym, ◌+◌, ap}
-use Rattle.format_toml_tree.specs.Answer.{answers_fault, answers_memory, answers_tree}
+use Rattle.format_toml_tree.specs.Answer.{answers_fault, no_memory, answers_tree}
 use Rattle.format_toml_tree.specs.Holds.{AddsItem}
 use Rattle.format_toml_tree.specs.Lines.{LeftToAdd, all_added, left_added, left_blank, left_first}
 use Rattle.format_toml_tree.specs.Lines.{line_refused, none_of, some_place, stands}
@@ -32,7 +33,6 @@ pub loop-line-preserved : goal.loop-line-preserved
 loop-line-preserved g c =
     let lines = c.args.lines.now in
     let k = c.loop-line.line in
-    let old = c.loop-line.tree.slots.items in
     elim c.match-lines-line.branch [
       | in-Some+in-Ok w ↦
           subst (λ t. LeftToAdd lines (k + 1) t c.match-lines-line.tree.slots.items) (sym
@@ -58,7 +58,9 @@ returns-clause-accepted g c = (
 )
 
 pub returns-in_err-tree-clause-answers : goal.returns-in_err-tree-clause-answers
-returns-in_err-tree-clause-answers g c = answers_memory _ _ c.from_residual.ensures
+returns-in_err-tree-clause-answers g c =
+    rw (err_is c.from_residual.result _ c.from_residual.ensures)
+    (λ outcome other. no_memory outcome)
 
 pub returns-in-Err-clause-answers : goal.returns-in-Err-clause-answers
 returns-in-Err-clause-answers g c =

@@ -1,35 +1,40 @@
-use Rattle.std.proofs.Common.{inl, inr}
-use Rattle.format_toml_tree.specs.Dates.{FindsTime, IsDelimiter}
-use Rattle.format_toml_tree.specs.DateTimeParts.{behind_local, behind_none, behind_nothing}
-use Rattle.format_toml_tree.specs.DateTimeParts.{behind_offset, behind_other, timed_digits}
+use Rattle.std.proofs.lemmas.List.{nil_from_length}
+use Rattle.std.proofs.Common.{inl, inr, refl}
+use Rattle.format_toml_tree.specs.Dates.{FindsTime, FoundResult, IsBehind, IsDelimiter, TimeText}
+use Rattle.format_toml_tree.specs.DateTimeParts.{behind_none, timed_digits}
 use Rattle.format_toml_tree.proofs.date_times.after_date.Goals as goal
 use Rattle.format_toml_tree.proofs.date_times.after_date.Goals.{
   else-delimiter-ne84-via-then-delimiter-ne84+then-delimiter-ne116+else-delimiter-ne32,
+}
+use Rattle.format_toml_tree.proofs.date_times.after_date.Goals.{
   else-delimiter-ne84-via-then-delimiter-ne84+else-delimiter-ne116,
+}
+use Rattle.format_toml_tree.proofs.date_times.after_date.Goals.{
   else-delimiter-ne84-via-else-delimiter-ne84,
 }
 
 pub returns-in_default : goal.returns-in_default
-returns-in_default g c = behind_nothing _ c.args.date c.args.text.now c.in_default.ensures.cases
+unfolding FoundResult IsBehind
+returns-in_default g c = (refl, nil_from_length c.args.text.now c.in_default.ensures.cases)
 
 pub returns-then-delimiter-ne32 : goal.returns-then-delimiter-ne32
 returns-then-delimiter-ne32 g c =
-    behind_other _ _ _ _ _ c.in-Some.ensures.cases.0 (λ is. elim is [
+    behind_none _ _ _ _ _ c.in-Some.ensures.cases.0 (λ is. absurd (elim is [
       | inl e ↦ c.if-delimiter-ne84.true e
       | inr (inl e) ↦ c.if-delimiter-ne116.true e
       | inr (inr e) ↦ c.if-delimiter-ne32.true e
-    ])
+    ]))
 
 pub returns-in_default-parts : goal.returns-in_default-parts
 returns-in_default-parts g c =
-    behind_none _ _ _ _ _ c.in-Some.ensures.cases.0 c.in_default-parts.ensures
+    behind_none _ _ _ _ _ c.in-Some.ensures.cases.0 (λ is. c.in_default-parts.ensures)
 
 pub time_of-requires : goal.time_of-requires
 unfolding FindsTime
 time_of-requires g c = timed_digits _ _ _ _ c.in-Some-parts.ensures
 
 pub returns-in-Some-offset : goal.returns-in-Some-offset
-unfolding FindsTime
+unfolding FindsTime FoundResult IsBehind TimeText
 returns-in-Some-offset g c =
     let is : IsDelimiter c.in-Some.delimiter.now = elim c.else-delimiter-ne84.branch [
       | else-delimiter-ne84-via-then-delimiter-ne84+then-delimiter-ne116+else-delimiter-ne32 w ↦
@@ -38,11 +43,11 @@ returns-in-Some-offset g c =
           inr (inl w.if-delimiter-ne116.false)
       | else-delimiter-ne84-via-else-delimiter-ne84 w ↦ inl w.if-delimiter-ne84.false
     ] in
-    behind_offset _ _ _ _ _ c.in-Some.ensures.cases.0 is _ _ _ c.in_ok-time.ensures _
-    (rw c.in-Some-offset.is at c.in-Some-parts.ensures)
+    let timed = rw c.in-Some-offset.is at c.in-Some-parts.ensures in
+    (refl, (_, _, is, c.in-Some.ensures.cases.0, (_, _, c.in_ok-time.ensures, timed)))
 
 pub returns-in-None : goal.returns-in-None
-unfolding FindsTime
+unfolding FindsTime FoundResult IsBehind TimeText
 returns-in-None g c =
     let is : IsDelimiter c.in-Some.delimiter.now = elim c.else-delimiter-ne84.branch [
       | else-delimiter-ne84-via-then-delimiter-ne84+then-delimiter-ne116+else-delimiter-ne32 w ↦
@@ -51,5 +56,5 @@ returns-in-None g c =
           inr (inl w.if-delimiter-ne116.false)
       | else-delimiter-ne84-via-else-delimiter-ne84 w ↦ inl w.if-delimiter-ne84.false
     ] in
-    behind_local _ _ _ _ _ c.in-Some.ensures.cases.0 is _ _ _ c.in_ok-time.ensures
-    (rw c.in-None.is at c.in-Some-parts.ensures)
+    let timed = rw c.in-None.is at c.in-Some-parts.ensures in
+    (refl, (_, _, is, c.in-Some.ensures.cases.0, (_, _, c.in_ok-time.ensures, timed)))

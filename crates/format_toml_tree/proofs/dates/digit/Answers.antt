@@ -1,9 +1,12 @@
-use Rattle.format_toml_tree.specs.DateParts.{digit_none, digit_some}
+use Rattle.std.proofs.Common.{arith}
+use Rattle.format_toml_tree.specs.Dates.{FoundResult}
 use Rattle.format_toml_tree.proofs.dates.digit.Goals as goal
 
 pub returns-then-is_ascii_digit : goal.returns-then-is_ascii_digit
+unfolding FoundResult
 returns-then-is_ascii_digit c =
-    digit_some _ c.if-is_ascii_digit.ensures.cases.0 c.if-is_ascii_digit.ensures.cases.1
+    let (least, most) = c.if-is_ascii_digit.ensures.cases in (omega arith, omega arith)
 
 pub returns : goal.returns
-returns c = digit_none _ c.if-is_ascii_digit.ensures.cases
+unfolding FoundResult
+returns c = λ n (less, is). omega (arith, c.if-is_ascii_digit.ensures.cases)

@@ -1,5 +1,7 @@
-use Rattle.format_toml_tree.specs.TimeParts.{offset_none}
+use Rattle.std.proofs.lemmas.List.{nil_from_length}
+use Rattle.format_toml_tree.specs.Dates.{FoundResult, MaybeOffset}
 use Rattle.format_toml_tree.proofs.times.offset.Goals as goal
 
 pub returns-in_default : goal.returns-in_default
-returns-in_default c = offset_none c.args.text.now c.in_default.ensures.cases
+unfolding FoundResult MaybeOffset
+returns-in_default c = nil_from_length c.args.text.now c.in_default.ensures.cases

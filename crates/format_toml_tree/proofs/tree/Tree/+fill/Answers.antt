@@ -1,17 +1,17 @@
+use Rattle.format_toml_tree.specs.Keys.{err_is}
 use Rattle.std.proofs.Common.{◌≡◌, ◌<◌, ◌≤◌, ◌+◌, ◌*◌, ℕ, List, length, get_or, max, refl, ap}
 use Rattle.std.proofs.Common.{◌∙◌}
-use Rattle.std.proofs.Common.{rules}
-use Rattle.std.proofs.Common.{arith}
+use Rattle.std.proofs.Common.{rules, arith}
 use Rattle.std.specs.declared.vec.Vec.{Vec}
 use Rattle.std.proofs.lemmas.Option.{slice_get_read}
 use denote.Param.Weighed.{at_most as the_most, most}
 use Rattle.format_toml_tree.specs.Added.{some_there}
 use Rattle.format_toml_tree.specs.Calls.{stays}
-use Rattle.format_toml_tree.specs.Parts.{element_filled, element_refused, elements_filled}
-use Rattle.format_toml_tree.specs.Parts.{entries_filled, entry_filled, entry_refused, fills_array}
-use Rattle.format_toml_tree.specs.Parts.{fills_err, fills_inline, fills_nowhere, fills_single}
-use Rattle.format_toml_tree.specs.Parts.{key_refused, value_at, value_filled}
-use Rattle.format_toml_tree.specs.Runs.{FillsEntry, FillsNames, FillsPlaces}
+use Rattle.format_toml_tree.specs.Parts.{all_filled, element_filled, element_refused, entry_filled}
+use Rattle.format_toml_tree.specs.Parts.{entry_refused, fills_array, fills_inline, fills_nowhere}
+use Rattle.format_toml_tree.specs.Parts.{fills_single, key_refused, value_at, value_filled}
+use Rattle.format_toml_tree.specs.Runs.{FillsNames, FillsPlaces}
+use Rattle.format_toml_tree.specs.Runs as runs
 use Rattle.format_toml_tree.specs.declared.value.Value.{Value, size-Value, the_lemmas}
 use Rattle.format_toml_tree.specs.declared.value.Value.TheVariants as values
 use Rattle.format_toml_tree.specs.declared.value.Key.{Key}
@@ -134,24 +134,22 @@ fill_elements-fill-requires g t c κs l =
 
 pub fill_elements-returns-in_err-fill : goal.fill_elements-returns-in_err-fill
 fill_elements-returns-in_err-fill g t c =
-    let old = c.args.self.now.slots.items in
-    let new = c.fill.new.self.slots.items in
-    fills_err (λ t p r. FillsPlaces t p c.args.parts.now r) _ new c.args.place _ _
-    c.from_residual-in_err-fill.ensures (element_refused _ _ _ c.requires.stands.3 _ _
+    rw (err_is c.from_residual-in_err-fill.result _ c.from_residual-in_err-fill.ensures)
+    (element_refused _ _ _ c.requires.stands.3 _ _
     c.loop-part.invariant c.requires.valued
     (record { ref_ptr = (0, 0); now = c.part-item.result }) c.loop-part-test.true c.part-item.is
     _ _ c.in_ok-below.ensures _ _ c.in_err-fill.ensures)
 
 pub fill_elements-loop-part-preserved : goal.fill_elements-loop-part-preserved
 fill_elements-loop-part-preserved g t c =
-    let old = c.args.self.now.slots.items in
     element_filled _ _ _ c.requires.stands.3 _ _ c.loop-part.invariant c.requires.valued
     (record { ref_ptr = (0, 0); now = c.part-item.result }) c.loop-part-test.true c.part-item.is
     _ _ c.in_ok-below.ensures _ _ c.in_ok-fill.ensures
 
 pub fill_elements-returns : goal.fill_elements-returns
 fill_elements-returns g t c =
-    elements_filled _ _ _ c.requires.stands.3 _ _ c.loop-part.invariant c.loop-part-test.false _
+    all_filled _ _ _ c.requires.stands.3 FillsPlaces (λ t q. runs.no_more) _ _
+    c.loop-part.invariant c.loop-part-test.false _
 
 -- ---- entries
 
@@ -169,10 +167,8 @@ fill_entries-fill_entry-requires g t c κs l =
 
 pub fill_entries-returns-in_err-fill_entry : goal.fill_entries-returns-in_err-fill_entry
 fill_entries-returns-in_err-fill_entry g t c =
-    let old = c.args.self.now.slots.items in
-    let new = c.fill_entry.new.self.slots.items in
-    fills_err (λ t p r. FillsNames t p c.args.parts.now r) _ new c.args.place _ _
-    c.from_residual.ensures (entry_refused _ _ _ c.requires.3 _ _ c.loop-part.invariant _
+    rw (err_is c.from_residual.result _ c.from_residual.ensures)
+    (entry_refused _ _ _ c.requires.3 _ _ c.loop-part.invariant _
     c.loop-part-test.true c.part-item.is _ _ c.in_err-fill_entry.ensures)
 
 pub fill_entries-loop-part-preserved : goal.fill_entries-loop-part-preserved
@@ -182,17 +178,15 @@ fill_entries-loop-part-preserved g t c =
 
 pub fill_entries-returns : goal.fill_entries-returns
 fill_entries-returns g t c =
-    entries_filled _ _ _ c.requires.3 _ _ c.loop-part.invariant c.loop-part-test.false _
+    all_filled _ _ _ c.requires.3 FillsNames (λ t q. runs.no_more_names) _ _
+    c.loop-part.invariant c.loop-part-test.false _
 
 -- ---- an entry
 
 pub fill_entry-returns-in_err-below : goal.fill_entry-returns-in_err-below
 fill_entry-returns-in_err-below g t c =
-    let old = c.args.self.now.slots.items in
-    let new = c.say_key.new.self.slots.items in
     let key = c.args.part.now.0 in
-    let value = c.args.part.now.1 in
-    fills_err (λ t p r. FillsEntry t p key value r) _ new c.args.place _ _ c.from_residual.ensures
+    rw (err_is c.from_residual.result _ c.from_residual.ensures)
     (key_refused _ _ c.requires.3 key _ _ _ c.in_err-below.ensures)
 
 pub fill_entry-fill-requires : goal.fill_entry-fill-requires

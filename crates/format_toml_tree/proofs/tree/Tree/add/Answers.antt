@@ -1,22 +1,28 @@
-use Rattle.std.proofs.Common.{Err, Ok}
-use Rattle.format_toml_tree.specs.Lines.{adds_err, adds_refused, adds_table, adds_tables}
-use Rattle.format_toml_tree.specs.Lines.{adds_value}
+use Rattle.format_toml_tree.specs.Keys.{err_is}
+use Rattle.std.proofs.Common.{Err, Ok, subst, sym}
+use Rattle.format_toml_tree.specs.Lines.{adds_header, adds_refused, adds_value}
 use Rattle.format_toml_tree.specs.Parts.{key_refused, value_filled}
+use Rattle.format_toml_tree.specs.Rules.{adds, defines}
+use Rattle.format_toml_tree.specs.Runs.{Runs}
 use Rattle.format_toml_tree.proofs.tree.Tree.add.Goals as goal
 
 pub returns-in-Table : goal.returns-in-Table
-returns-in-Table g c = adds_table _ _ _ _ c.in-Table.is _ _ c.say_key.ensures
+returns-in-Table g c =
+    adds_header _ _ c.in-Table.key _ defines
+    (λ s r e. subst (λ i. Runs s i r) (sym c.in-Table.is) e) _ _
+    c.say_key.ensures
 
 pub returns-in-Tables : goal.returns-in-Tables
-returns-in-Tables g c = adds_tables _ _ _ _ c.in-Tables.is _ _ c.say_key-in-Tables.ensures
+returns-in-Tables g c =
+    adds_header _ _ c.in-Tables.key _ adds
+    (λ s r e. subst (λ i. Runs s i r) (sym c.in-Tables.is) e) _ _
+    c.say_key-in-Tables.ensures
 
 pub returns-in_err-place-in-Entry : goal.returns-in_err-place-in-Entry
 returns-in_err-place-in-Entry g c =
-    let old = c.args.self.now.slots.items in
-    let new = c.say_key-in-Entry.new.self.slots.items in
-    let stop = c.in_err-place-in-Entry.field-0.0 in
     let entry = c.in-Entry in
-    adds_err _ _ _ _ _ _ c.from_residual.ensures (adds_refused _ _ _ _ _ entry.is _ _ (key_refused
+    rw (err_is c.from_residual.result _ c.from_residual.ensures)
+    (adds_refused _ _ _ _ _ entry.is _ _ (key_refused
     _ _ c.requires.3 _ _ _ _ c.in_err-place-in-Entry.ensures))
 
 pub fill-requires : goal.fill-requires

@@ -1,7 +1,8 @@
+use Rattle.std.proofs.lemmas.Result.{IfOk-weaker}
 use Rattle.std.proofs.Common.{refl}
 use Rattle.std.proofs.lemmas.Option.{slice_get_read}
 use Rattle.format_toml_tree.specs.Added.{some_there}
-use Rattle.format_toml_tree.specs.Opened.{if_ok_more, opens_inside, opens_new, opens_none}
+use Rattle.format_toml_tree.specs.Opened.{opens_inside, opens_new, opens_none}
 use Rattle.format_toml_tree.proofs.tree.Tree.open.Goals as goal
 
 pub returns-in-Tables-kind : goal.returns-in-Tables-kind
@@ -9,9 +10,9 @@ returns-in-Tables-kind g c =
     let was = c.index.result.now in
     let at = slice_get_read c.args.self.now.slots.items _ c.args.place was refl c.requires
     c.index.ensures in
-    if_ok_more c.add_element.result c.add_element.ensures (λ j adds tree path holds.
+    IfOk-weaker c.add_element.result _ _ (λ j adds tree path holds.
     opens_new holds c.args.place was at c.args.role j c.add_element.new.self.slots.items
-    c.in-Tables.is c.in-Tables-kind.is (adds tree path was holds at))
+    c.in-Tables.is c.in-Tables-kind.is (adds tree path was holds at)) c.add_element.ensures
 
 pub returns-in_default-kind : goal.returns-in_default-kind
 returns-in_default-kind g c tree path holds =

@@ -1,12 +1,12 @@
+use Rattle.format_toml_tree.specs.Keys.{err_is}
 use Rattle.format_toml_tree.specs.Holds.{says_of}
-use Rattle.format_toml_tree.specs.Opened.{say_done, say_refused, told_err, told_stop}
+use Rattle.format_toml_tree.specs.Opened.{say_done, say_refused, told_stop}
 use Rattle.format_toml_tree.proofs.tree.Tree.say.Goals as goal
 
 pub returns-in_err-place : goal.returns-in_err-place
 returns-in_err-place g c tree path holds =
     let old = c.args.self.now.slots.items in
-    let new = c.set.new.self.slots.items in
-    told_err _ _ _ _ _ _ c.from_residual.ensures (told_stop old _ path _ _ (λ why e.
+    rw (err_is c.from_residual.result _ c.from_residual.ensures) (told_stop old _ path _ _ (λ why e.
     say_refused (says_of c.args.role) (tree, path c.args.table) c.args.name.now _
     (c.in_err-place.ensures tree path holds why e)))
 

@@ -1,8 +1,7 @@
 use Rattle.std.proofs.Common.{◌≡◌, ◌<◌, ◌≤◌, ◌+◌, length, Err, Ok, refl, ap, subst, arith}
 use Rattle.format_toml_tree.specs.Calls.{stays}
 use Rattle.format_toml_tree.specs.Holds.{SlotResult, says_of}
-use Rattle.format_toml_tree.specs.Keys.{all_said, said_more, said_refused}
-use Rattle.format_toml_tree.specs.Opened.{told_err}
+use Rattle.format_toml_tree.specs.Keys.{err_is, all_said, said_more, said_refused}
 use Rattle.format_toml_tree.specs.Runs.{say, say_key}
 use Rattle.format_toml_tree.proofs.tree.Tree.say_key.Goals as goal
 use Rattle.format_toml_tree.proofs.tree.Tree.say_key.Goals.{else-i-names, then-i-names}
@@ -37,7 +36,8 @@ returns-in_err-table g c tree path holds =
         λ l. ap (λ r. says_of r) w.here-is,
       )
     ] in
-    told_err _ _ _ _ _ _ c.from_residual.ensures (subst (λ l. SlotResult old path (say_key before
+    rw (err_is c.from_residual.result _ c.from_residual.ensures)
+    (subst (λ l. SlotResult old path (say_key before
     last (tree, path c.args.table) l) (Err stop) new) c.as_slice-names.ensures.value (said_refused
     _ _ _ _ _ _ _ _ c.loop-i.invariant _ c.loop-i-test.true c.index-names-i.is _ which _ _ (λ t p
     h. subst (λ n. SlotResult mid p (say here (t, p c.loop-i.table) n) (Err stop) new)
@@ -68,7 +68,6 @@ loop-i-preserved g c =
 
 pub returns : goal.returns
 returns g c tree path holds =
-    let names = c.as_slice-names.result.now in
     let old = c.args.self.now.slots.items in
     let new = c.loop-i.self.slots.items in
     let before = says_of c.args.passes in
