@@ -207,7 +207,7 @@ module _ (level : ℕ) (held : List Bracket) where
     whole_part : (tokens l : List ℕ) → IsWhole tokens → Fig z l
         → ((w : Whole) → Fig (figures.Whole w) l) → whole (tokens ++ l)
     unfolding IsWhole AreDigits
-    whole_part tokens l ((ds, text), lone) zero more =
+    whole_part tokens l ((ds, text), lone) first more =
         whole_front 10 (λ n k. (w : Whole) → Fig (figures.Whole w) k)
         (λ n k. (w : Whole) → Fig (figures.WholeMark w) k)
         (λ n c k less y. (
@@ -219,7 +219,7 @@ module _ (level : ℕ) (held : List Bracket) where
         (λ n k y w. y (whole_of 5 w.negative w.value))
         whole ds tokens l
         (λ c k less not y. o.digit c k less not (y (whole_of o.digits negative (digit_value c))))
-        (o.zero l zero) text lone more
+        (o.zero l first) text lone more
 
     decimal : (tokens l : List ℕ) → IsDecimal tokens → Fig figures.Fraction l
         → whole (tokens ++ l)
