@@ -10,8 +10,8 @@ use Rattle.std.proofs.lemmas.Bool.{lt-ltb, ne_eqb}
 use Rattle.std.proofs.lemmas.Bool.Decides.{nat_tests}
 use Rattle.std.proofs.lemmas.Str.Parse.{digit_from_value}
 use Rattle.grammars.specs.Texts.{BothText, EitherText, MadeText, Spelled}
-use Rattle.format_toml.specs.Floats.{AreDigits, IsExponent, IsFloat, IsFraction, IsMagnitude}
-use Rattle.format_toml.specs.Floats.{IsTail, IsWhole, Signed, Unsigned}
+use Rattle.format_toml.specs.Floats.{AreDigits, IsDecimal, IsFloat, IsLetterE, IsMagnitude}
+use Rattle.format_toml.specs.Floats.{IsScientific, IsWhole, Signed, Unsigned}
 use Rattle.format_toml.specs.Numbers.{AnyIntegerText, BasedText, IntegerText, NumberText}
 use Rattle.format_toml.specs.Numbers.{UnsignedText}
 use Rattle.format_toml_errors.specs.Figures.{adding, base_step, ends_figure, figure_if, figure_step}
@@ -179,21 +179,20 @@ module _ (level : ℕ) (held : List Bracket) where
   Real f =
       (figure_step f 101 ≡ Some figures.Exponent) × (figure_step f 69 ≡ Some figures.Exponent)
 
-  exponent : (f : Figure) → Real f → (tokens l : List ℕ) → IsExponent tokens → Behind l
-      → Fig f (tokens ++ l)
-  unfolding IsExponent
-  exponent f real tokens l (letter, rest, inl is, e, text) x =
-      moved (λ k. Fig f k) l (e ∙ ap (λ c. c ∷ rest) is)
+  exponent : (f : Figure) → Real f → (letter : ℕ) (rest l : List ℕ) → IsLetterE letter
+      → Signed AreDigits rest → Behind l → Fig f (letter ∷ (rest ++ l))
+  exponent f real letter rest l (inl is) text x =
+      subst (λ c. Fig f (c ∷ (rest ++ l))) (sym is)
       (figure f figures.Exponent 101 (rest ++ l) real.0 (power rest l text x))
-  exponent f real tokens l (letter, rest, inr is, e, text) x =
-      moved (λ k. Fig f k) l (e ∙ ap (λ c. c ∷ rest) is)
+  exponent f real letter rest l (inr is) text x =
+      subst (λ c. Fig f (c ∷ (rest ++ l))) (sym is)
       (figure f figures.Exponent 69 (rest ++ l) real.1 (power rest l text x))
 
-  fraction : (f : Figure) → figure_step f 46 ≡ Some figures.Point → (tokens l : List ℕ)
-      → IsFraction tokens → Fig figures.Fraction l → Fig f (tokens ++ l)
-  unfolding IsFraction AreDigits
-  fraction f point tokens l (rest, e, (ds, text)) x =
-      moved (λ k. Fig f k) l e (figure f figures.Point 46 (rest ++ l) point
+  fraction : (f : Figure) → figure_step f 46 ≡ Some figures.Point → (rest l : List ℕ)
+      → AreDigits rest → Fig figures.Fraction l → Fig f (46 ∷ (rest ++ l))
+  unfolding AreDigits
+  fraction f point rest l (ds, text) x =
+      figure f figures.Point 46 (rest ++ l) point
       (digits_front 10 (λ n k. Fig figures.Fraction k) (λ n k. Fig figures.FractionMark k)
       (λ n c k less y. (
         figure figures.Fraction figures.Fraction c k (simp (digit_is c less)) y,
@@ -201,25 +200,15 @@ module _ (level : ℕ) (held : List Bracket) where
       ))
       (λ n k y. y) (λ k. Fig figures.Point k)
       (λ c k less y. figure figures.Point figures.Fraction c k (point_goes c less) y)
-      ds rest l text x))
-
-  tail : (f : Figure) → figure_step f 46 ≡ Some figures.Point → Real f → (tokens l : List ℕ)
-      → IsTail tokens → Behind l → Fig f (tokens ++ l)
-  unfolding IsTail
-  tail f point real tokens l (inl text) x = exponent f real tokens l text x
-  tail f point real tokens l (inr (inl text)) x =
-      fraction f point tokens l text
-      (after_done level held l x (modes.Number figures.Fraction) refl)
-  tail f point real tokens l (inr (inr (xs, ys, first, second, e))) x =
-      parted (λ k. Fig f k) xs ys l e (fraction f point xs (ys ++ l) first
-      (exponent figures.Fraction (refl, refl) ys l second x))
+      ds rest l text x)
 
   module _ {negative : Bool} {z : Figure} {whole : List ℕ → Type 0}
       (o : Opens negative z whole) where
-    magnitude : (tokens l : List ℕ) → IsMagnitude tokens → Behind l → whole (tokens ++ l)
-    unfolding IsMagnitude IsWhole AreDigits
-    magnitude tokens l (xs, ys, ((ds, text), lone), ends, e) x =
-        parted whole xs ys l e (whole_front 10 (λ n k. (w : Whole) → Fig (figures.Whole w) k)
+    whole_part : (tokens l : List ℕ) → IsWhole tokens → Fig z l
+        → ((w : Whole) → Fig (figures.Whole w) l) → whole (tokens ++ l)
+    unfolding IsWhole AreDigits
+    whole_part tokens l ((ds, text), lone) first more =
+        whole_front 10 (λ n k. (w : Whole) → Fig (figures.Whole w) k)
         (λ n k. (w : Whole) → Fig (figures.WholeMark w) k)
         (λ n c k less y. (
           (λ w. figure (figures.Whole w) (figures.Whole (adding w c)) c k (whole_goes w c less)
@@ -227,11 +216,31 @@ module _ (level : ℕ) (held : List Bracket) where
           (λ w. figure (figures.WholeMark w) (figures.Whole (adding w c)) c k (mark_goes w c less)
               (y (adding w c))),
         ))
-        (λ n k y w. y (record { digits = 5; negative = w.negative; value = w.value }))
-        whole ds xs (ys ++ l)
+        (λ n k y w. y (whole_of 5 w.negative w.value))
+        whole ds tokens l
         (λ c k less not y. o.digit c k less not (y (whole_of o.digits negative (digit_value c))))
-        (o.zero (ys ++ l) (tail z o.point (o.letter, o.capital) ys l ends x)) text lone
-        (λ w. tail (figures.Whole w) refl (refl, refl) ys l ends x))
+        (o.zero l first) text lone more
+
+    decimal : (tokens l : List ℕ) → IsDecimal tokens → Fig figures.Fraction l
+        → whole (tokens ++ l)
+    unfolding IsDecimal
+    decimal tokens l (xs, ys, text, digits, e) x =
+        parted whole xs (46 ∷ ys) l e
+        (whole_part xs (46 ∷ (ys ++ l)) text (fraction z o.point ys l digits x)
+        (λ w. fraction (figures.Whole w) refl ys l digits x))
+
+    magnitude : (tokens l : List ℕ) → IsMagnitude tokens → Behind l → whole (tokens ++ l)
+    unfolding IsScientific
+    magnitude tokens l (inl text) x =
+        decimal tokens l text (after_done level held l x (modes.Number figures.Fraction) refl)
+    magnitude tokens l (inr (xs, c, ys, inl text, is, power, e)) x =
+        parted whole xs (c ∷ ys) l e
+        (whole_part xs (c ∷ (ys ++ l)) text (exponent z (o.letter, o.capital) c ys l is power x)
+        (λ w. exponent (figures.Whole w) (refl, refl) c ys l is power x))
+    magnitude tokens l (inr (xs, c, ys, inr text, is, power, e)) x =
+        parted whole xs (c ∷ ys) l e
+        (decimal xs (c ∷ (ys ++ l)) text
+        (exponent figures.Fraction (refl, refl) c ys l is power x))
 
     float : (tokens l : List ℕ) → Unsigned tokens → Behind l → whole (tokens ++ l)
     float tokens l (inl e) x =
