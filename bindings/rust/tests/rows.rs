@@ -508,7 +508,7 @@ fn resp_reply_of_invalid_bytes() {
         assert_eq!(resp::reply_partial(bytes, Protocol::Resp3, 1), Err(want), "{bytes:?}");
         let told = Extent::new(Protocol::Resp3).advance(bytes);
         match want {
-            Error::TooDeep(_) => assert!(matches!(told, Ok(_)), "{bytes:?}"),
+            Error::TooDeep(_) => assert!(told.is_ok(), "{bytes:?}"),
             _ => assert_eq!(told, Err(want), "{bytes:?}"),
         }
     }
