@@ -18,3 +18,29 @@ returns-in-Some-clause-refused c _ =
       has_hosts = subst P c.in-Some.is c.host_error.ensures;
       is_error = (error.0, error.1 ∙ c.number_of.ensures, error.2);
     }))
+
+pub returns-in_default-clause-body : goal.returns-in_default-clause-body
+returns-in_default-clause-body c _ = record {
+  head = c.in-Ok.head;
+  rest = c.read_head.new.input.now;
+  stands = c.in-Ok.ensures.head.stands refl;
+  may_have = subst (HasHostError c.in-Ok.head.line (fields_of c.in-Ok.head)) c.in_default.is
+      c.host_error.ensures;
+  answer = c.request_body_length.result;
+  is_answer = c.request_body_length.ensures;
+  writes = c.body_of-code.ensures;
+}
+
+pub returns-in_default-clause-refused : goal.returns-in_default-clause-refused
+returns-in_default-clause-refused c _ = inr (inr (
+    record {
+      head = c.in-Ok.head;
+      rest = c.read_head.new.input.now;
+      stands = c.in-Ok.ensures.head.stands refl;
+      may_have = subst (HasHostError c.in-Ok.head.line (fields_of c.in-Ok.head)) c.in_default.is
+          c.host_error.ensures;
+      answer = c.request_body_length.result;
+      is_answer = c.request_body_length.ensures;
+      writes = c.body_of-code.ensures;
+    }
+    ))
