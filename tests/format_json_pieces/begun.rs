@@ -73,10 +73,18 @@ fn each_text(rt: &impl Abort, alloc: Global, level: usize, bytes: &[u8], more: u
 }
 
 #[test]
-fn read_value_asks_not_in_vain(rt: HostRuntime) {
-    for level in 0..3 {
-        each_text(&rt, rt.alloc(), level, b"".as_slice(), LONGEST);
-    }
+fn read_value_asks_not_in_vain_of_scalars(rt: HostRuntime) {
+    each_text(&rt, rt.alloc(), 0, b"".as_slice(), LONGEST);
+}
+
+#[test]
+fn read_value_asks_not_in_vain_of_one_level(rt: HostRuntime) {
+    each_text(&rt, rt.alloc(), 1, b"".as_slice(), LONGEST);
+}
+
+#[test]
+fn read_value_asks_not_in_vain_of_two_levels(rt: HostRuntime) {
+    each_text(&rt, rt.alloc(), 2, b"".as_slice(), LONGEST);
 }
 
 /// Bytes in a string whose escape or character is cut.
