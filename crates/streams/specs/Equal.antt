@@ -1,5 +1,6 @@
 -- Values that are equal: their parts are, and some never are.
-use Rattle.std.specs.Prelude.{◌≡◌, true, false, List, [], ◌∷◌, ◌++◌, Some, None}
+use Rattle.std.specs.Prelude.{◌≡◌, true, false, List, [], ◌∷◌, ◌++◌, length, Some, None}
+use Rattle.std.proofs.Common.{refl, ap, ◌∙◌, arith}
 
 -- lists that are equal begin with the same ...
 pub same_first : {X : Type 0} {x y : X} {xs ys : List X} → x ∷ xs ≡ y ∷ ys → x ≡ y
@@ -12,6 +13,30 @@ same_others e = cc
 pub same_rest : {X : Type 0} (xs ys zs : List X) → xs ++ ys ≡ xs ++ zs → ys ≡ zs
 same_rest [] ys zs e = e
 same_rest (x ∷ xs) ys zs e = same_rest xs ys zs (same_others e)
+
+-- two lists of the same tokens, divided behind as many: their fronts are the same ...
+pub same_front : {X : Type 0} (f g rest more : List X) → length f ≡ length g
+    → f ++ rest ≡ g ++ more → f ≡ g
+same_front [] [] rest more n e = refl
+same_front [] (y ∷ g) rest more n e = absurd (omega (arith, n))
+same_front (x ∷ f) [] rest more n e = absurd (omega (arith, n))
+same_front (x ∷ f) (y ∷ g) rest more n e =
+    ap (λ z. z ∷ f) (same_first e)
+    ∙ ap (λ l. y ∷ l) (same_front f g rest more (omega (arith, n)) (same_others e))
+
+-- ... and what follows is
+pub same_behind : {X : Type 0} (f g rest more : List X) → length f ≡ length g
+    → f ++ rest ≡ g ++ more → rest ≡ more
+same_behind [] [] rest more n e = e
+same_behind [] (y ∷ g) rest more n e = absurd (omega (arith, n))
+same_behind (x ∷ f) [] rest more n e = absurd (omega (arith, n))
+same_behind (x ∷ f) (y ∷ g) rest more n e =
+    same_behind f g rest more (omega (arith, n)) (same_others e)
+
+-- triples of equal parts
+pub triple_is : {A B X : Type 0} {t s : A × B × X} → t.0 ≡ s.0 → t.1 ≡ s.1 → t.2 ≡ s.2 → t ≡ s
+triple_is {t = t} {s = s} e f g =
+    ap (λ x. (x, t.1, t.2)) e ∙ (ap (λ y. (s.0, y, t.2)) f ∙ ap (λ z. (s.0, s.1, z)) g)
 
 -- what there is of two is the same
 pub same_some : {X : Type 0} {x y : X} → Some x ≡ Some y → x ≡ y

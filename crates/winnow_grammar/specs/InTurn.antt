@@ -10,7 +10,7 @@ use Rattle.streams.specs.Input.{Input, IsEndOf, is_end_of_refl, is_end_of_trans}
 use Rattle.streams.specs.Kind.{Kind, backtrack, memory}
 use Rattle.streams.specs.Reading.{Reading}
 use Rattle.winnow_grammar.specs.Cut.{Asks, ReadsOrAsks}
-use Rattle.grammars.specs.Grammar.{Grammar, IsUnique, NoMatch}
+use Rattle.grammars.specs.Grammar.{Grammar, NoMatch}
 use Rattle.grammars.specs.Texts.{Text}
 pub mod Rows
 
@@ -227,21 +227,6 @@ module _ {T X O : Type 0} (first : Text T X) (behind : X → Text T O) where
     (x, xs, ys, a, b, refl),
     e ∙ ap (λ l. xs ++ l) d ∙ sym (append_assoc xs ys rest),
   )
-
-  -- what is left after both is one
-  pub led_unique : Splits first → ((x : X) → IsUnique (First (behind x)))
-      → IsUnique (First (Led first behind))
-  unfolding First
-  led_unique splits each = record {
-    ends = λ tokens o rest (front, a, e). (front, e);
-    one = λ tokens o p rest other a b.
-        let (x, mid, t, s) = led_first tokens o rest a in
-        let (y, end, u, r) = led_first tokens p other b in
-        let (same, left) = splits.one x y tokens mid end t u in
-        let P : X → Type 0 = λ z. First (behind z) end p other in
-        let Q : List T → Type 0 = λ l. First (behind x) l p other in
-        (each x).one mid o p rest other s (subst Q (sym left) (subst P (sym same) r));
-  }
 
   module _ {L : Type 0} {reading : Reading T L} {following : Following T} {i m : Input T} where
     pub led_stood : {x : X} {o : O} {j : Input T} → MatchesEachCompletion reading following

@@ -5,6 +5,7 @@ use Rattle.std.proofs.Common.{refl, ap, inl, inr, ◌∙◌}
 use Rattle.streams.specs.Input.{Input, Remaining, back_at}
 use Rattle.streams.specs.Kind.{Kind, backtrack}
 use Rattle.stream_errors.specs.Form.{Answer}
+use Rattle.stream_errors.specs.Form.Inversion.{same_kind}
 use Rattle.stream_sets.specs.Accumulator.{Accumulator}
 use Rattle.stream_sets.specs.Range.{Bounds, bounds_of, from_to}
 use Rattle.winnow_comb.specs.Alt.{OrElse}
@@ -28,13 +29,10 @@ ok_given e = cc
 back_given : {O : Type 0} → IsGivenMemory {O = O} (Err backtrack)
 back_given e = cc
 
-kind_is : {O : Type 0} {k l : Kind} → ◌≡◌ {A = Answer O} (Err k) (Err l) → k ≡ l
-kind_is e = cc
-
 -- a child's error that is returned unchanged
 handed : {O Q : Type 0} {k : Kind} {answer : Answer Q} → answer ≡ Err k → IsGivenMemory answer
     → IsGivenMemory {O = O} (Err k)
-handed e other w = other (e ∙ ap (λ z. Err z) (kind_is w))
+handed e other w = other (e ∙ ap (λ z. Err z) (same_kind w))
 
 -- the runs of a parser itself
 pub given : {S T O : Type 0} (run : Runs S T O) → NeverHides run (GivenMemory run)

@@ -13,6 +13,7 @@ use Rattle.std.specs.Str.Parse.{signed_digits_value, starts_with_minus}
 use Rattle.std.specs.Str.Parse.{without_leading_plus, without_leading_sign}
 use mir.Syntax.{Width}
 use Rattle.stream_sets.specs.AsChar.{IsDecDigit}
+use Rattle.winnow_numbers.specs.Decimal.Inversion.{digits_all}
 use Rattle.winnow_numbers.specs.DecimalText.{AreDigits, IsSignedText, IsUnsignedText, ReadsSigned}
 use Rattle.winnow_numbers.specs.DecimalText.{ReadsUnsigned, signed_value}
 use Rattle.winnow_numbers.specs.Digits.{value_in}
@@ -22,16 +23,9 @@ use Rattle.winnow_numbers.specs.Numeral.{IsSign}
 digit_low : (c : ℕ) → IsDecDigit c → digit_value c < 10
 digit_low c is = grind (arith, nat_tests)
 
-low_digit : (c : ℕ) → digit_value c < 10 → IsDecDigit c
-low_digit c is = (grind (arith, nat_tests), grind (arith, nat_tests))
-
 all_digits : (ds : List ℕ) → AllByRecursion IsDecDigit ds → AllDigits 10 ds
 all_digits [] all = tt
 all_digits (d ∷ ds) all = (digit_low d all.0, all_digits ds all.1)
-
-digits_all : (ds : List ℕ) → AllDigits 10 ds → AllByRecursion IsDecDigit ds
-digits_all [] all = tt
-digits_all (d ∷ ds) all = (low_digit d all.0, digits_all ds all.1)
 
 -- digits have no sign before them
 no_plus : (digits : List ℕ) → AreDigits digits → without_leading_plus digits ≡ digits

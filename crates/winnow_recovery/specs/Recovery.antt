@@ -1,6 +1,5 @@
 -- Recovery from an error: what the adapters that recover have in common.
 use Rattle.std.specs.Prelude.{◌≡◌, ◌⊎◌, ◌<◌, ⊤, Bool, IsTrue, true, length, Ok, Err}
-use Rattle.std.proofs.Common.{ap, ◌∙◌}
 use Rattle.streams.specs.Input.{Input, back_at}
 use Rattle.streams.specs.Kind.{Kind, backtrack, cut, incomplete, memory}
 use Rattle.stream_errors.specs.Join.{IsOrMemory}
@@ -53,8 +52,3 @@ IsNotRecovered {W} {T} must_consume grows recover k w x l v j =
     × IsOrMemory k (IsTrue grows) l)
     -- there is no memory to record the error
     ⊎ (recover w x (Ok tt) v m × (must_consume ≡ true → Consumes x m) × (l ≡ memory)))))
-
--- states of three parts
-pub triple_is : {A B X : Type 0} {t s : A × B × X} → t.0 ≡ s.0 → t.1 ≡ s.1 → t.2 ≡ s.2 → t ≡ s
-triple_is {t = t} {s = s} e f g =
-    ap (λ x. (x, t.1, t.2)) e ∙ (ap (λ y. (s.0, y, t.2)) f ∙ ap (λ z. (s.0, s.1, z)) g)

@@ -1,9 +1,9 @@
 -- Outputs that match the same tokens: when they are equal, or have equal images.
-use Rattle.std.specs.Prelude.{◌≡◌, List, [], ◌∷◌, ◌++◌, length, Bool}
+use Rattle.std.specs.Prelude.{◌≡◌, List, ◌++◌, length, Bool}
 use Rattle.std.specs.Borrow.{Bor}
-use Rattle.std.proofs.Common.{refl, sym, ap, subst, inl, inr, ◌∙◌, arith, length-append}
+use Rattle.std.proofs.Common.{sym, ap, subst, inl, inr, ◌∙◌, arith, length-append}
 use Rattle.streams.specs.Counted.{counted_reading}
-use Rattle.streams.specs.Equal.{same_first, same_others}
+use Rattle.streams.specs.Equal.{same_first, same_front}
 use Rattle.streams.specs.Stream.{AnswersSeen}
 use Rattle.stream_sets.specs.Longest.{one_longest}
 use Rattle.stream_sets.specs.Once.{TokenEqInjective, SetIsFunction}
@@ -31,16 +31,6 @@ pub rejects_all : {G T O U V : Type 0} (accepts : G → O → U → Type 0) (rej
     → RejectsAll accepts rejects f grammar
 rejects_all accepts rejects f shown same apart tokens o p rest other u x y out is =
     apart o p u (same.alike tokens o p rest other x y) out is
-
--- two lists of one beginning and one length
-same_front : {T : Type 0} (f g rest more : List T) → length f ≡ length g
-    → f ++ rest ≡ g ++ more → f ≡ g
-same_front [] [] rest more n e = refl
-same_front [] (y ∷ g) rest more n e = absurd (omega (arith, n))
-same_front (x ∷ f) [] rest more n e = absurd (omega (arith, n))
-same_front (x ∷ f) (y ∷ g) rest more n e =
-    ap (λ z. z ∷ f) (same_first e)
-    ∙ ap (λ l. y ∷ l) (same_front f g rest more (omega (arith, n)) (same_others e))
 
 front_of : {T : Type 0} {tokens : List T} (f g rest more : List T) → tokens ≡ f ++ rest
     → tokens ≡ g ++ more → rest ≡ more → f ≡ g

@@ -1,19 +1,17 @@
 -- The specification of `length_and_then`.
-use Rattle.std.specs.Prelude.{◌≡◌, ◌⊎◌, ◌<◌, ◌-◌, ℕ, Bool, false, List, ◌++◌, length, Option}
+use Rattle.std.specs.Prelude.{◌≡◌, ◌<◌, ◌-◌, ℕ, Bool, false, List, ◌++◌, length, Option}
 use Rattle.std.specs.Prelude.{Err, Ok}
 use Rattle.std.proofs.Common.{append_assoc, arith, inl, inr, length-append, refl, sym, ap, subst}
 use Rattle.std.proofs.Common.{◌∙◌}
-use Rattle.streams.specs.Equal.{same_rest}
-use Rattle.streams.specs.Input.{Input, Passes}
+use Rattle.streams.specs.Equal.{same_front, same_rest}
+use Rattle.streams.specs.Input.{Input}
 use Rattle.streams.specs.Kind.{backtrack, cut, incomplete, memory}
 use Rattle.streams.specs.Reading.{Reading}
 use Rattle.stream_errors.specs.Form.{Answer}
 use Rattle.winnow_core.specs.CompleteErr.Says.{complete_err_said, complete_err_says}
-use Rattle.winnow_core.specs.Decided.Inputs.{as_long_front}
-use Rattle.winnow_core.specs.Outcome.{Alike, Does, IsFinal, Outcome, Setting, alike_wants}
+use Rattle.winnow_core.specs.Outcome.{Alike, Does, Outcome, Setting, alike_wants}
 use Rattle.winnow_core.specs.Outcome.{as_longer}
-use Rattle.winnow_core.specs.Outcome.{asks, backs, both, by_alike, cuts, gave, grown, longer}
-use Rattle.winnow_core.specs.Outcome.{on_cut}
+use Rattle.winnow_core.specs.Outcome.{asks, backs, both, by_alike, cuts, longer}
 use Rattle.winnow_core.specs.Outcome.{outcome_of, took, wants}
 use Rattle.winnow_core.specs.Runs.{Meaning}
 use Rattle.winnow_core.specs.Says.{Did, EachDoes, IsAt, Lawful, Said, Says, did_as}
@@ -80,7 +78,7 @@ module _ {T O : Type 0} {alike : O → O → Type 0} {stable : Type 0} {does : D
   with_law : Lawful (Unit {0}) alike (WithTaken does n)
   with_law = record {
     one = λ at tokens y z (f, rest, x, many, split, d, e) (g, end, w, too, parts, c, h).
-        let same = as_long_front g f end rest (too ∙ sym many) (sym parts ∙ split) in
+        let same = same_front g f end rest (too ∙ sym many) (sym parts ∙ split) in
         let left = same_rest f rest end (sym split ∙ parts ∙ ap (λ l. l ++ end) same) in
         let P : List T → Type 0 = λ l. does (on_their_own at) l w in
         let Q : List T → Type 0 = λ l. Alike alike (behind rest x) (behind l w) in

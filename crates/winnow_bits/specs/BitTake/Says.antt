@@ -1,13 +1,12 @@
 -- The outcomes of `take` of bits.
 use Rattle.std.specs.Prelude.{◌≡◌, ⊤, ◌⊎◌, ◌<◌, ◌≤◌, ℕ, Bool, true, false, List, ◌++◌, length, Some}
 use Rattle.std.proofs.Common.{sym, ap, arith, inl, inr, ◌∙◌, append_assoc, length-append}
-use Rattle.streams.specs.Equal.{same_rest, true_is_false}
+use Rattle.streams.specs.Equal.{same_front, same_rest, true_is_false}
 use Rattle.streams.specs.Input.{Input}
 use Rattle.streams.specs.Reading.{Reading}
 use Rattle.stream_errors.specs.Form.{Answer}
 use Rattle.stream_bits.specs.BitList.{number_of}
 use Rattle.stream_bits.specs.Within.{ReadsNumber}
-use Rattle.winnow_core.specs.Decided.Inputs.{as_long_front}
 use Rattle.winnow_core.specs.Outcome.{Does, Outcome, Setting, gave, grown, on_cut}
 use Rattle.winnow_core.specs.Runs.{Keeps}
 use Rattle.winnow_core.specs.Says.{Did, IsAt, Lawful, Said, Says}
@@ -52,7 +51,7 @@ module _ {O : Type 0} (number : O → ℕ) (width n : ℕ) where
       → AreFirstBits number width n o at tokens rest → AreFirstBits number width n p at tokens end
       → (number o ≡ number p) × (rest ≡ end)
   one_number at tokens o p rest end (fits, can, f, many, is, e) (also, could, g, too, be, d) =
-      let same = as_long_front g f end rest (too ∙ sym many) (sym d ∙ e) in (
+      let same = same_front g f end rest (too ∙ sym many) (sym d ∙ e) in (
         is ∙ ap number_of (sym same) ∙ sym be,
         same_rest f rest end (sym e ∙ d ∙ ap (λ l. l ++ end) same),
       )

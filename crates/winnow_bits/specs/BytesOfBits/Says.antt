@@ -4,7 +4,7 @@ use Rattle.std.specs.Prelude.{Ok, Err}
 use Rattle.std.specs.List.{All}
 use Rattle.std.proofs.Common.{refl, sym, subst, ap, arith, inl, inr, ◌∙◌, length-append}
 use Rattle.streams.specs.ByteStream.{CountsBytes}
-use Rattle.streams.specs.Equal.{same_rest, true_is_false}
+use Rattle.streams.specs.Equal.{same_front, same_rest, true_is_false}
 use Rattle.streams.specs.Input.{Input}
 use Rattle.streams.specs.Kind.{Kind, backtrack, cut, incomplete, memory}
 use Rattle.streams.specs.Reading.{Reading}
@@ -12,7 +12,6 @@ use Rattle.stream_errors.specs.Form.{Answer, ErrorForm}
 use Rattle.stream_bits.specs.BitInput.{bits_from, bits_readable}
 use Rattle.stream_bits.specs.BitList.{bits_of, length_bits}
 use Rattle.stream_bits.specs.BitReading.{bits_reading}
-use Rattle.winnow_core.specs.Decided.Inputs.{as_long_front}
 use Rattle.winnow_core.specs.Outcome.{Alike, Does, Outcome, Setting, alike_wants, both, by_alike}
 use Rattle.winnow_core.specs.Outcome.{asks, backs, cuts, gave, outcome_of, took, wants}
 use Rattle.winnow_core.specs.Runs.{LeaveEnds, Meaning}
@@ -72,7 +71,7 @@ one_whole tokens xs ys a b =
       length_bits xs,
       length_bits ys,
     ) in
-    let same = as_long_front b.begun a.begun (bits_of ys) (bits_of xs) long
+    let same = same_front b.begun a.begun (bits_of ys) (bits_of xs) long
     (sym b.splits ∙ a.splits) in
     same_bytes xs ys a.are b.are (same_rest a.begun (bits_of xs) (bits_of ys)
     (sym a.splits ∙ b.splits ∙ ap (λ l. l ++ bits_of ys) same))

@@ -1,5 +1,5 @@
 -- Lemmas: when inputs and results are the same.
-use Rattle.std.specs.Prelude.{◌≡◌, List, [], ◌∷◌, ◌++◌, length, Ok, Err}
+use Rattle.std.specs.Prelude.{◌≡◌, List, [], ◌∷◌, ◌++◌, Ok, Err}
 use Rattle.std.proofs.Common.{refl, sym, ap, subst, ◌∙◌, arith}
 use Rattle.streams.specs.Equal.{same_first, same_others}
 use Rattle.streams.specs.Kind.{Kind}
@@ -21,16 +21,6 @@ same_front {T} reading (x ∷ xs) (y ∷ ys) rest more e u =
     let others = same_front reading xs ys rest more (same_others e)
     (omega (arith, same, reading.units_add (y ∷ []) xs, reading.units_add (y ∷ []) ys)) in
     ap (λ z. z ∷ xs) first ∙ ap (λ l. y ∷ l) others
-
--- beginnings of as many tokens are the same
-pub as_long_front : {T : Type 0} (f g rest more : List T) → length f ≡ length g
-    → f ++ rest ≡ g ++ more → f ≡ g
-as_long_front [] [] rest more n e = refl
-as_long_front [] (y ∷ g) rest more n e = absurd (omega (arith, n))
-as_long_front (x ∷ f) [] rest more n e = absurd (omega (arith, n))
-as_long_front (x ∷ f) (y ∷ g) rest more n e =
-    ap (λ z. z ∷ f) (same_first e)
-    ∙ ap (λ l. y ∷ l) (as_long_front f g rest more (omega (arith, n)) (same_others e))
 
 pub both_ok : {O : Type 0} (alike : O → O → Type 0) {a b : Answer O} {o p : O} → a ≡ Ok o
     → b ≡ Ok p → alike o p → EqualResults alike a b

@@ -32,7 +32,7 @@ try_map_says step f p = settle_says (λ form. GivesOk step f.0) (λ form. FailsB
     (p.premise × Stays step f.0 × TriesSame step f.0 p.alike)
     (OutputsMadeAlike p.alike (GivesOk step f.0)) p
 
-one_given : (a b : Keeping) (k l : Kind) → KindGiven a backtrack k → KindGiven b backtrack l
+pub one_given : (a b : Keeping) (k l : Kind) → KindGiven a backtrack k → KindGiven b backtrack l
     → OneKind k l
 one_given a b k l (inl (kept, e)) (inl (also, f)) = inl (e ∙ sym f)
 one_given a b k l (inl (kept, e)) (inr (refused, f)) = inr (inr f)

@@ -1,7 +1,8 @@
 -- The specification of `escaped`.
-use Rattle.std.specs.Prelude.{◌≡◌, List, length, Option, Some, None, Ok, Err}
+use Rattle.std.specs.Prelude.{List, length, Option, Some, None, Ok, Err}
 use Rattle.std.specs.List.{FoldsTo}
 use Rattle.std.proofs.Common.{refl, sym, ap, subst, inl, inr, ◌∙◌, arith}
+use Rattle.streams.specs.Equal.{triple_is}
 use Rattle.streams.specs.Input.{Input, back_at}
 use Rattle.streams.specs.Kind.{backtrack, memory}
 use Rattle.stream_errors.specs.Form.{Answer, assert_kind, incomplete_kind, plain}
@@ -38,10 +39,6 @@ escaped_says into p c q = record {
   does = EscapedDoes (TurnDoes p.does (in_form plain c).does q.does) into;
   alike = HeldAlike (Gathered into) (AlikeTurns p.alike q.alike);
 }
-
-triple_is : {A B X : Type 0} {t s : A × B × X} → t.0 ≡ s.0 → t.1 ≡ s.1 → t.2 ≡ s.2 → t ≡ s
-triple_is {t = t} {s = s} e f g =
-    ap (λ x. (x, t.1, t.2)) e ∙ (ap (λ y. (s.0, y, t.2)) f ∙ ap (λ z. (s.0, s.1, z)) g)
 
 -- the answer of a turn as one of a try
 abbrev tried : {X : Type 0} → Answer X → Answer (Option X)

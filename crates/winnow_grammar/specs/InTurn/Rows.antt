@@ -52,30 +52,6 @@ module _ {T O : Type 0} (text : Text T O) (unique : IsUnique (First text)) where
       row_next os ps vs zs rest other more also (unique.one all o p (vs ++ rest) (zs ++ other)
       (us, a, refl) (ws, b, one)) (omega (arith, less))
 
-  -- as many leave the same
-  row_one : (os ps : List O) (xs ys rest other : List T) → EachText text os xs → EachText text ps ys
-      → xs ++ rest ≡ ys ++ other → length os ≡ length ps → rest ≡ other
-  unfolding First EachText
-  row_one [] [] xs ys rest other a b e n =
-      ap (λ l. l ++ rest) (sym a) ∙ e ∙ ap (λ l. l ++ other) b
-  row_one [] (p ∷ ps) xs ys rest other a b e n = absurd (omega (arith, n))
-  row_one (o ∷ os) [] xs ys rest other a b e n = absurd (omega (arith, n))
-  row_one (o ∷ os) (p ∷ ps) xs ys rest other (us, vs, a, more, d) (ws, zs, b, also, f) e n =
-      let all = us ++ (vs ++ rest) in
-      let one : all ≡ ws ++ (zs ++ other) =
-      sym (append_assoc us vs rest) ∙ ap (λ l. l ++ rest) (sym d) ∙ e
-      ∙ ap (λ l. l ++ other) f ∙ append_assoc ws zs other in
-      row_one os ps vs zs rest other more also (unique.one all o p (vs ++ rest) (zs ++ other)
-      (us, a, refl) (ws, b, one)) (omega (arith, n))
-
-  pub row_unique : (n : ℕ) → IsUnique (First (RowOf text n))
-  unfolding First
-  row_unique n = record {
-    ends = λ tokens os rest (xs, a, e). (xs, e);
-    one = λ tokens os ps rest other (xs, (m, a), e) (ys, (k, b), d).
-        row_one os ps xs ys rest other a b (sym e ∙ d) (m ∙ sym k);
-  }
-
 module _ {T L O : Type 0} {reading : Reading T L} {following : Following T} (text : Text T O)
     {i : Input T} where
   -- before the first

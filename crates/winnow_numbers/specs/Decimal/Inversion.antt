@@ -148,7 +148,7 @@ one_decimal (x ∷ xs) (y ∷ ys) n p q =
 
 -- ---- it is what std writes
 
-digits_all : (ds : List ℕ) → AllDigits 10 ds → AllByRecursion IsDecDigit ds
+pub digits_all : (ds : List ℕ) → AllDigits 10 ds → AllByRecursion IsDecDigit ds
 digits_all [] all = tt
 digits_all (d ∷ ds) all = (digit_from_value d all.0, digits_all ds all.1)
 

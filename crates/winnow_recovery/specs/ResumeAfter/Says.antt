@@ -1,12 +1,12 @@
 -- The specification of `resume_after`.
 use Rattle.std.specs.Prelude.{◌≡◌, List, Option, Some, false}
 use Rattle.std.proofs.Common.{refl, sym, inl, inr, ◌∙◌}
-use Rattle.streams.specs.Equal.{true_is_false}
+use Rattle.streams.specs.Equal.{triple_is, true_is_false}
 use Rattle.winnow_core.specs.MakesOutput.Says.{OutputsMadeAlike, made_of, output_said, output_says}
 use Rattle.winnow_core.specs.Runs.{Meaning}
 use Rattle.winnow_core.specs.Says.{Said, Says, did_as}
 use Rattle.winnow_core.specs.Says.Along.{said_along}
-use Rattle.winnow_recovery.specs.Recovery.{Recovery, triple_is}
+use Rattle.winnow_recovery.specs.Recovery.{Recovery}
 use Rattle.winnow_recovery.specs.ResumeAfter.{ResumeAfterRuns, SomeRuns}
 
 -- Over a stream that records no errors, the outcomes of the parser, with the output in `Some`.

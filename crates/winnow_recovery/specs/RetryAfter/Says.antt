@@ -1,10 +1,10 @@
 -- The specification of `retry_after`.
 use Rattle.std.specs.Prelude.{◌≡◌, false}
 use Rattle.std.proofs.Common.{sym, inl, inr, ◌∙◌}
-use Rattle.streams.specs.Equal.{true_is_false}
+use Rattle.streams.specs.Equal.{triple_is, true_is_false}
 use Rattle.winnow_core.specs.Runs.{Meaning}
 use Rattle.winnow_core.specs.Says.{Said, Says, did_as}
-use Rattle.winnow_recovery.specs.Recovery.{Recovery, triple_is}
+use Rattle.winnow_recovery.specs.Recovery.{Recovery}
 use Rattle.winnow_recovery.specs.RetryAfter.{RetryAfterRuns}
 
 -- Over a stream that records no errors, the outcomes of the parser.

@@ -1,15 +1,15 @@
 -- The specification of `try_fold`.
 use Rattle.std.specs.Prelude.{◌≡◌, Result, Ok, Err}
-use Rattle.std.proofs.Common.{refl, sym, inl, inr, ◌∙◌}
+use Rattle.std.proofs.Common.{refl, inl, inr}
 use Rattle.streams.specs.Kind.{Kind, backtrack}
 use Rattle.stream_errors.specs.Form.{assert_kind}
 use Rattle.stream_errors.specs.Form.Inversion.{at_kind, at_output, ok_is_err}
 use Rattle.stream_errors.specs.Given.{Keeping, KindGiven}
 use Rattle.stream_sets.specs.declared.range.Range.{Range}
-use Rattle.winnow_core.specs.Outcome.Errors.{OneKind}
 use Rattle.winnow_core.specs.Runs.{Meaning}
 use Rattle.winnow_core.specs.Says.{Said, Says}
 use Rattle.winnow_core.specs.States.{pair_is}
+use Rattle.winnow_core.specs.TryMap.Says.{one_given}
 use Rattle.winnow_repeat.specs.Fold.Tries.Says.{FoldsOne, tried_said, tried_says}
 use Rattle.winnow_repeat.specs.TryFold.{TryFoldRuns, TryFoldTakes}
 
@@ -30,12 +30,6 @@ abbrev pub try_fold_says : {G H T O R X : Type 0} → (G → R → G → Type 0)
     → Says T R
 try_fold_says starts step s p =
     tried_says starts (TryFoldTakes step) (TriesOne step s.1.1.0 p.alike) s p
-
-one_given : (a b : Keeping) (k l : Kind) → KindGiven a backtrack k → KindGiven b backtrack l
-    → OneKind k l
-one_given a b k l (inl (kept, e)) (inl (also, f)) = inl (e ∙ sym f)
-one_given a b k l (inl (kept, e)) (inr (refused, f)) = inr (inr f)
-one_given a b k l (inr (refused, e)) y = inr (inl e)
 
 module _ {H R O X : Type 0} (step : H → R → O → Result R X → H → Type 0) (op : H × (X → Keeping))
   where

@@ -2,7 +2,7 @@
 use Rattle.std.specs.Prelude.{◌≡◌, ◌⊎◌, ◌≤◌, ◌<◌, ◌+◌, ◌-◌, ℕ, false, List, [], ◌∷◌, length}
 use Rattle.std.specs.Prelude.{Option, Some, None, Ok, Err}
 use Rattle.std.proofs.Common.{refl, sym, ap, subst, inl, inr, ◌∙◌, arith}
-use Rattle.streams.specs.Equal.{none_is_some, same_some}
+use Rattle.streams.specs.Equal.{none_is_some, same_some, triple_is}
 use Rattle.streams.specs.Input.{Input}
 use Rattle.streams.specs.Kind.{Kind, backtrack, memory}
 use Rattle.stream_sets.specs.Accumulator.{Accumulator, Wants}
@@ -219,10 +219,6 @@ module _ {S W T O D C : Type 0} {run : Runs S T O} {separator : Runs W T D} {g :
       items_allowed into asserted (links_within bounds) link (link_fails f between fb)
       (both_take (λ d o. o) between.unique element.unique (inl takes)) wants one n k t j on
       (links_items one v n (Err k) t j on same links)
-
-triple_is : {A B X : Type 0} {t s : A × B × X} → t.0 ≡ s.0 → t.1 ≡ s.1 → t.2 ≡ s.2 → t ≡ s
-triple_is {t = t} {s = s} e f g =
-    ap (λ x. (x, t.1, t.2)) e ∙ (ap (λ y. (s.0, y, t.2)) f ∙ ap (λ z. (s.0, s.1, z)) g)
 
 module _ {S W T O D C : Type 0} {run : Runs S T O} {separator : Runs W T D} {g : Grammar T O}
     {h : Grammar T D} (into : Accumulator C O) (asserted : Kind) (s : S × W × Range)

@@ -6,7 +6,7 @@ use Rattle.streams.specs.Kind.{Kind, backtrack}
 use Rattle.streams.specs.Reading.{Reading}
 use Rattle.stream_errors.specs.Form.{ErrorForm}
 use Rattle.stream_errors.specs.Form.Inversion.{ok_is_err, same_err, same_ok}
-use Rattle.winnow_core.specs.Short.Inversion.{short_whole}
+use Rattle.winnow_core.specs.Exact.Failed.{short_backtracks}
 use Rattle.winnow_token.specs.Any.{AnyRuns, NoTokenRuns}
 
 -- Empty complete input, which is unchanged.
@@ -20,7 +20,7 @@ pub no_token : {T O : Type 0} (form : ErrorForm) (i : Input T) (k : Kind) (j : I
 no_token form i k j whole (l, nothing, kind, e, same) =
     record {
       stays = same;
-      kind = same_err refl e ∙ short_whole form (Some 1) i l whole kind;
+      kind = same_err refl e ∙ short_backtracks form (Some 1) i l whole kind;
       nothing = nothing;
     }
 

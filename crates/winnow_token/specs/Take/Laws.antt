@@ -1,5 +1,5 @@
 -- Laws of `take`.
-use Rattle.std.specs.Prelude.{◌≡◌, ℕ, Bool, Err, ◌<◌, List, length, false, [], ◌∷◌, ◌++◌, Ok}
+use Rattle.std.specs.Prelude.{◌≡◌, ℕ, Bool, Err, ◌<◌, length, false, Ok}
 use Rattle.std.proofs.Common.{inl, inr, sym, ap, subst, ◌∙◌, arith, length-append, refl}
 use Rattle.streams.specs.Input.{Input, IsEndOf, takes_end}
 use Rattle.streams.specs.Reading.{Reading}
@@ -9,7 +9,7 @@ use Rattle.winnow_core.specs.Runs.{Keeps}
 use Rattle.winnow_token.specs.Take.{TakeRuns}
 use Rattle.winnow_core.specs.Stable.Longer.{takes_more, short_final}
 use Rattle.winnow_core.specs.Stable.Grows.{Stays, final_by}
-use Rattle.streams.specs.Equal.{same_others}
+use Rattle.streams.specs.Equal.{same_behind}
 use Rattle.streams.specs.Kind.{Kind, backtrack}
 use Rattle.grammars.specs.Grammar.{Counted, NoMatch, TakesTokens as TakesSome}
 use Rattle.stream_errors.specs.Form.Inversion.{ok_is_err, same_ok, same_kind}
@@ -33,14 +33,6 @@ take_stays reading counts n more flag i answer j is_cut final (inr (k, few, shor
     short_final i is_cut short (final_by (Err k) e final)
 
 -- ---- what it reads
-
-same_behind : {T : Type 0} (f g rest more : List T) → length f ≡ length g → f ++ rest ≡ g ++ more
-    → rest ≡ more
-same_behind [] [] rest more n e = e
-same_behind [] (y ∷ g) rest more n e = absurd (omega (arith, n))
-same_behind (x ∷ f) [] rest more n e = absurd (omega (arith, n))
-same_behind (x ∷ f) (y ∷ g) rest more n e =
-    same_behind f g rest more (omega (arith, n)) (same_others e)
 
 module _ {T L : Type 0} (reading : Reading T L) (form : ErrorForm) (counts : Bool) (n : ℕ) where
   pub take_exact : IsExact n (Keeps (λ x. TakeRuns reading form counts x)) (Counted reading n)

@@ -2,11 +2,10 @@
 use Rattle.std.specs.Prelude.{◌≡◌, ⊤, ◌<◌, ◌-◌, ℕ, Bool, List, ◌++◌, length, Option, Some, None}
 use Rattle.std.specs.Prelude.{if◌then◌else◌}
 use Rattle.std.proofs.Common.{sym, ap, subst, inl, inr, ◌∙◌, arith, append_assoc, length-append}
-use Rattle.streams.specs.Equal.{same_rest}
+use Rattle.streams.specs.Equal.{same_front, same_rest}
 use Rattle.streams.specs.Input.{Input}
 use Rattle.streams.specs.Reading.{Reading}
 use Rattle.stream_errors.specs.Form.{Answer}
-use Rattle.winnow_core.specs.Decided.Inputs.{as_long_front}
 use Rattle.winnow_core.specs.Literal.Laws.{ShowSame}
 use Rattle.winnow_core.specs.Outcome.{Setting, gave}
 use Rattle.winnow_core.specs.Runs.{Keeps}
@@ -41,7 +40,7 @@ module _ {T L : Type 0} (reading : Reading T L) (counts : Bool) (n : ℕ) where
       → length g ≡ n → reading.shows v f → reading.shows w g → tokens ≡ f ++ rest
       → tokens ≡ g ++ end → ShowSame reading v w × (rest ≡ end)
   one_taken tokens v w rest end f g many too shown shows e d =
-      let same = as_long_front g f end rest (too ∙ sym many) (sym d ∙ e) in
+      let same = same_front g f end rest (too ∙ sym many) (sym d ∙ e) in
       let P : List T → Type 0 = λ l. reading.shows w l in (
         (f, shown, subst P same shows),
         same_rest f rest end (sym e ∙ d ∙ ap (λ l. l ++ end) same),

@@ -13,7 +13,7 @@ use Rattle.stream_sets.specs.Range.{bounds_of, from_to, greatest_of, greatest_of
 use Rattle.stream_sets.specs.declared.range.Range.{Range}
 use Rattle.stream_errors.specs.Form.{ErrorForm}
 use Rattle.stream_errors.specs.Form.Inversion.{ok_is_err, same_err, same_ok}
-use Rattle.winnow_core.specs.Short.Inversion.{short_whole}
+use Rattle.winnow_core.specs.Exact.Failed.{short_backtracks}
 use Rattle.winnow_token.specs.TakeUntil.{TakeUntilRuns}
 
 -- no match occurs in the tokens
@@ -88,7 +88,7 @@ nothing_before reading form sought least i k j whole
     (inr (inl (k', within, nowhere, kind, e, same))) =
     record {
       stays = same;
-      kind = same_err refl e ∙ short_whole form None i k' whole kind;
+      kind = same_err refl e ∙ short_backtracks form None i k' whole kind;
       why = inl nowhere;
     }
 nothing_before reading form sought least i k j whole

@@ -3,7 +3,7 @@ use Rattle.std.specs.Prelude.{◌≡◌, ◌⊎◌, ◌<◌, ◌≤◌, ◌+◌,
 use Rattle.std.specs.Prelude.{Some, None, Err}
 use Rattle.std.proofs.Common.{refl, sym, ap, subst, inl, inr, ◌∙◌, arith, append_assoc}
 use Rattle.std.proofs.lemmas.Bool.{cases_order}
-use Rattle.streams.specs.Equal.{none_is_some}
+use Rattle.streams.specs.Equal.{none_is_some, same_front}
 use Rattle.streams.specs.Input.{Input}
 use Rattle.streams.specs.Reading.{Reading}
 use Rattle.grammars.specs.Grammar.Searches.{IsBefore}
@@ -14,7 +14,6 @@ use Rattle.stream_searches.specs.FirstMatch.{StaysFirst}
 use Rattle.stream_sets.specs.Longest.{within_is}
 use Rattle.stream_sets.specs.Range.{Bounds, IsWithin}
 use Rattle.stream_errors.specs.Form.{Answer}
-use Rattle.winnow_core.specs.Decided.Inputs.{as_long_front}
 use Rattle.winnow_core.specs.Literal.Laws.{ShowSame}
 use Rattle.winnow_core.specs.Outcome.{Outcome, Setting, gave}
 use Rattle.winnow_core.specs.Runs.{Keeps}
@@ -87,7 +86,7 @@ before_more {T} reading sought stays more tokens front rest before =
         ⊎ ((length front < length other) ⊎ (length other < length front))
         → reading.units front ≤ reading.units other
     no_more other end e le (inl many) =
-        omega (arith, ap reading.units (as_long_front front other rest end many e))
+        omega (arith, ap reading.units (same_front front other rest end many e))
     no_more other end e le (inr (inl less)) =
         omega (arith, longer reading front other rest end e less)
     no_more other end e le (inr (inr more)) = absurd (omega (arith, le, more))
@@ -105,7 +104,7 @@ module _ {T L : Type 0} (reading : Reading T L) (sought : List T → Type 0) (bo
       → PrecedesMatch reading sought bounds w at tokens end → ShowSame reading v w × (rest ≡ end)
   one_before_first at tokens v w rest end (f, before, enough, fits, shown)
       (g, also, much, within, shows) =
-      let same = as_long_front g f end rest (as_long also before)
+      let same = same_front g f end rest (as_long also before)
       (sym also.splits ∙ before.splits) in
       let P : List T → Type 0 = λ l. reading.shows w l in
       ((f, shown, subst P same shows), one_before before also)

@@ -4,7 +4,7 @@ use Rattle.std.specs.Borrow.{Bor}
 use Rattle.std.proofs.Common.{refl, sym, ap, subst, inl, inr, ◌∙◌, arith, length-append}
 use Rattle.std.proofs.lemmas.Bool.{cases_order}
 use Rattle.std.proofs.lemmas.List.{append-nil}
-use Rattle.streams.specs.Equal.{same_first, same_others}
+use Rattle.streams.specs.Equal.{same_behind, same_first, same_others}
 use Rattle.streams.specs.Reading.{Reading, units-nil}
 use Rattle.stream_sets.specs.Range.{Bounds}
 use Rattle.grammars.specs.Grammar.{IsUnique, TakesTokens}
@@ -28,14 +28,6 @@ longer {T} reading (x ∷ xs) (y ∷ ys) rest more e less =
       reading.units_add (x ∷ []) xs,
       reading.units_add (x ∷ []) ys,
     ))
-
-pub same_behind : {T : Type 0} (f g rest more : List T) → length f ≡ length g
-    → f ++ rest ≡ g ++ more → rest ≡ more
-same_behind [] [] rest more n e = e
-same_behind [] (y ∷ g) rest more n e = absurd (omega (arith, n))
-same_behind (x ∷ f) [] rest more n e = absurd (omega (arith, n))
-same_behind (x ∷ f) (y ∷ g) rest more n e =
-    same_behind f g rest more (omega (arith, n)) (same_others e)
 
 pub stands_behind : {T : Type 0} {sought : List T → Type 0} {tokens front rest : List T}
     → IsBefore sought tokens front rest
