@@ -1,5 +1,5 @@
 #!/usr/bin/env python3
-"""Names the faults of the pages of crates:
+"""Names the errors of the pages of crates:
 
     python3 scripts/pages.py
 

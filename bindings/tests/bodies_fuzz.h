@@ -10,7 +10,7 @@ static bool is_word(const uint8_t *bytes, struct pergidau_span at, const char *w
     return at.length == strlen(word) && !strncasecmp((const char *)bytes + at.offset, word, at.length);
 }
 
-/* Takes the next element of a list, without the white space around it. Returns false at the end. */
+/* Takes the next element of a list, without the whitespace around it. Returns false at the end. */
 static bool next_element(const uint8_t *bytes, struct pergidau_span *list, struct pergidau_span *element)
 {
     size_t end = list->offset + list->length, at = list->offset;

@@ -344,7 +344,7 @@ static void test_dns_records(void)
             test_dns_record(dns_records[i].row, message, length + more, type, of_class, size,
                         dns_records[i].error, done ? 0 : 15 + dns_records[i].place);
         }
-        /* A message that ends earlier is incomplete, whatever the data are. */
+        /* A message that ends earlier is incomplete, for all data. */
         for (size_t cut = 0; cut < length; cut++) {
             test_dns_record(dns_records[i].row, message, cut, type, of_class, size,
                         PERGIDAU_DNS_ERROR_INCOMPLETE, cut < 5 ? 3 : cut < 15 ? 5 : 15);

@@ -43,7 +43,7 @@ static struct pergidau_span without_blanks(const uint8_t *bytes, size_t from, si
     return (struct pergidau_span){from, to - from};
 }
 
-/* The state after a line: whether a section has begun, and the indentation of the pair that the next
+/* The state after a line: whether there was a section, and the indentation of the pair that the next
  * line may continue, or a negative number if there is no such pair. */
 struct before {
     bool section;

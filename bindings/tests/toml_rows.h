@@ -27,7 +27,7 @@ static const struct {
 };
 
 /* The offset of the error, where the innermost string or bracket starts that is not closed, or the same
- * offset, and the error. The offsets were found by hand, and agree with scripts/beside toml/errors. */
+ * offset, and the error. The offsets were found by hand, and those of scripts/beside toml/errors agree. */
 static const struct {
     const char *text;
     size_t place, start, error;

@@ -1,4 +1,4 @@
-//! The tests of tables that are read record by record from a reader, in pieces of each size.
+//! The tests of tables that are read record by record from a reader, in chunks of each size.
 #![tactic(auto)]
 
 #[cfg(test)]

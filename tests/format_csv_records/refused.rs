@@ -54,7 +54,7 @@ fn a_long_document_wants_the_memory_of_one_record(rt: HostRuntime) {
     for _ in 0..100000 {
         assert!(rt; bytes.push(b'\n').is_ok());
     }
-    // One request, for the list of ends; a second one would be refused.
+    // One request, for the list of ends; a second one would fail.
     let heap: Refusing<Global> = Refusing::once(alloc, 1);
     let mut fields = ByteRecord::new(&heap);
     match Dialect::new(b',', b'"', LineEnds::Lf) {

@@ -57,7 +57,7 @@ fn records_in_order(rt: HostRuntime) {
     assert!(rt; matches!(deeper, Err(PartError::TooMany(42))));
 }
 
-/// Cut anywhere the last is not there, and the fault is no further than the cut.
+/// Any proper prefix lacks the last one, and its error is within the prefix.
 #[test]
 fn records_cut_off(rt: HostRuntime) {
     for size in 26..MESSAGE.len() {

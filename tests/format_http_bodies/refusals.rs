@@ -153,7 +153,7 @@ fn read_head_of_none(rt: HostRuntime) {
     }
 }
 
-/// Field lines, each with its value and how many bytes are left behind it; or none.
+/// Field lines, each with its value and how many bytes follow it; or none.
 const FIELD_LINES: &[(&[u8], Option<(&[u8], &[u8], usize)>)] = &[
     (b"Host: a\r\n", Some((b"Host", b"a", 0))),
     (b"Host:a:b \t\r\nX: y\r\n", Some((b"Host", b"a:b", 6))),

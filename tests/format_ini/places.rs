@@ -21,7 +21,7 @@ fn tells(
     }
 }
 
-/// Checks that the next call stops so, with that many bytes read, and another one too.
+/// Checks that the next call stops so after these bytes, and another one too.
 fn stops(rt: &impl Abort, dialect: Dialect, bytes: &[u8], reading: &mut Reading, stop: Stop) {
     let offset = reading.offset;
     for _ in 0..2 {

@@ -5,7 +5,7 @@ use format_resp::read::{SAFE_DEPTH, read_reply};
 use format_resp::reply::Protocol;
 use winnow::stream::{Partial, StreamIsPartial};
 
-/// Whether an integer in so many aggregates is read at the safe level.
+/// Whether an integer in `level` aggregates is read at the safe level.
 fn is_read(alloc: Global, protocol: Protocol, level: usize) -> bool {
     let mut bytes = Vec::new(alloc);
     for _ in 0..level {

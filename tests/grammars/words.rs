@@ -81,7 +81,7 @@ impl<'t> Cut<'t> {
         }
     }
 
-    /// One or two hexadecimal digits are taken, and none is left behind them: their number.
+    /// One or two hexadecimal digits are taken, and none follows them: their number.
     fn hexadecimal(self) -> Option<i64> {
         let is_ended = match self.rest.first() {
             Some(next) => !next.is_ascii_hexdigit(),

@@ -35,7 +35,7 @@ fn comes_to(
     Ok(())
 }
 
-/// Operators whose operands are in one another.
+/// Operators with nested operands.
 #[test]
 fn operators_in_one_another(rt: HostRuntime) -> Result<(), Fail> {
     let alloc = rt.alloc();

@@ -191,7 +191,7 @@ fn runs_without_memory(rt: HostRuntime) {
     }
 }
 
-/// The usage line and the faults of reading need no memory.
+/// The usage line and the errors of reading need no memory.
 #[test]
 fn what_needs_no_memory(rt: HostRuntime) {
     let heap = Refusing::always_from(rt.alloc(), 0);

@@ -9,7 +9,7 @@ fn show_text(text: &str, into: &mut String<Global>) -> Result<(), AllocError> {
     into.push_str("'")
 }
 
-/// Writes a value with no white space, its strings as they are.
+/// Writes a value without whitespace, its strings as they are.
 pub fn show<A: Allocator>(value: &Value<A>, into: &mut String<Global>) -> Result<(), AllocError> {
     match value {
         Value::Null => into.push_str("null"),

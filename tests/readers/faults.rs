@@ -47,7 +47,7 @@ const FREE: Habit = Habit {
     is_silent: false,
 };
 
-/// A writer with room for so many bytes.
+/// A writer with room for a number of bytes.
 const fn room(room: usize) -> Habit {
     Habit { room, ..FREE }
 }

@@ -1,4 +1,4 @@
-//! Numbers, with white space, signs and bounds.
+//! Numbers, with whitespace, signs and bounds.
 
 use test_support::rows::Modal;
 use example_callers::percentages::read_percentage;

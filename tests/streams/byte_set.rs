@@ -35,7 +35,7 @@ fn byte_set(rt: HostRuntime) {
     assert_eq!(rt; all.complement().len(), 0);
 }
 
-/// Bytes at the ends of words are told apart from their neighbours.
+/// Bytes at the ends of words differ from their neighbours.
 #[test]
 fn byte_set_of_one_byte(rt: HostRuntime) {
     for byte in 0..=u8::MAX {

@@ -153,7 +153,7 @@ pub fn read_point(input: &mut &str) -> Result<Point, ErrMode<EmptyError>> {
     Ok(Point { x, y })
 }
 
-/// Reads the sign between a name and a text, with white space round it; over any stream of text.
+/// Reads the sign between a name and a text, with whitespace round it; over any stream of text.
 fn read_sign<I, E>(input: &mut I) -> Result<(), E>
 where
     I: StreamIsPartial + Compare<char>,
@@ -163,7 +163,7 @@ where
     (Space0, '=', Space0).void().parse_next(input)
 }
 
-/// Reads a name and what it is set to, with white space round the sign, as `name = any text`.
+/// Reads a name and what it is set to, with whitespace round the sign, as `name = any text`.
 pub fn read_assignment<'i>(input: &mut &'i str) -> Result<(&'i str, &'i str), ErrMode<EmptyError>> {
     let name = alphanumeric1(input)?;
     read_sign(input)?;

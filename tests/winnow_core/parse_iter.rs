@@ -17,7 +17,7 @@ use winnow_core::parser::{Func, Parser};
 use winnow_token::token;
 use winnow_token::token::impls::{Any, RestLen};
 
-/// How a parse in items ends: all is read, or what the fault says.
+/// How a parse in items ends: all is read, or the error.
 #[derive(Clone, Copy, Debug, PartialEq, Eq)]
 enum End {
     Read,

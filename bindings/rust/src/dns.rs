@@ -242,7 +242,7 @@ impl<'m> Iterator for Questions<'m> {
 /// A section of records.
 #[derive(Clone, Copy, Debug, PartialEq, Eq)]
 pub enum Section {
-    /// The records that answer the questions.
+    /// The records of the answer section.
     Answer,
     /// The records that point to an authority.
     Authority,

@@ -75,7 +75,7 @@ pub enum TableError<F> {
     Width(Ragged),
 }
 
-/// The first record that has not that many fields, if there is one.
+/// The first record with another number of fields, if there is one.
 fn first_odd<A: Allocator>(wants: usize, records: &[Record<A>]) -> Option<Ragged>
     ensures { FirstOdd wants records.now result }
 {

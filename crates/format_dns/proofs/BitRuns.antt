@@ -37,7 +37,7 @@ use Rattle.format_dns.specs.Header.{HasTooMany, LacksPart}
 
 -- ---- parsers of `count` bits
 
--- Bits are left that can be read, and there are that many.
+-- The remaining bits can be read, and there are at least `count`.
 pub record CanRead (count : ℕ) (i : Input Bool) : Type 0 where
   pub possible : i.left.possible ≡ true
   pub enough : count ≤ length i.left.tokens

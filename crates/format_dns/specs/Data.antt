@@ -149,7 +149,7 @@ module _ (message : List ℕ) where
         ⊎ ((more : List Label) × (behind : ℕ) × IsShort message pointers second more behind
         × HasOtherSize behind 20 fault)))
 
-    -- Data of any form, from a place to the end.
+    -- Data of any form, from an offset to the end.
     abbrev pub IsDataAt : {A : Type 0} → ℕ → Data A → Type 0
     IsDataAt place (Ipv4 address) = IsIpv4 place address
     IsDataAt place (Ipv6 address) = IsIpv6 place address

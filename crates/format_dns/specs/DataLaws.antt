@@ -60,7 +60,7 @@ string_next (x ∷ some) (y ∷ all) tokens rest (mid, (a, b, e), more) (mid2, (
     let P : List ℕ → Type 0 = λ l. Each IsString l some rest in
     string_next some all mid2 rest (subst P alike.1 more) more2 none left
 
--- strings that are read, no more than that many, in a list
+-- at most `most` strings that are read, in a list
 abbrev pub StringsRead : {A : Type 0} → ℕ → Grammar ℕ (Vec Label A)
 StringsRead {A} most = Gathered (λ (list : Vec Label A) strings. list.items ≡ strings)
     (Many IsString (from_to 0 (Some most)))

@@ -84,7 +84,7 @@ label_cut n bytes least most none enough =
           ∙ ap (λ m. m ∷ (label.now ++ drop n bytes)) (sym same),
     )
 
--- labels that are read, no more than that many, in a list
+-- at most `most` labels that are read, in a list
 abbrev pub LabelsRead : {A : Type 0} → ℕ → Grammar ℕ (Vec Label A)
 LabelsRead {A} most = Gathered (λ (list : Vec Label A) labels. list.items ≡ labels)
     (Many IsLabel (from_to 0 (Some most)))

@@ -110,7 +110,7 @@ module _ (message : List ℕ) (pointers : ℕ) where
       some.list.items questions.list.items 12 some.behind questions.behind rows others
       (size ∙ same ∙ sym many)
 
-  -- from one place on as many records end at one place
+  -- equally many records from one offset end at one offset
   records_end : {A : Type 0} (start other count number place : ℕ) (records : Records A)
       → start ≡ other → count ≡ number → RecordsTo message pointers A start count place
       → AreRecords message pointers other number records → place ≡ records.behind

@@ -59,7 +59,7 @@ module _ {X : Type 0} (Is : ℕ → X → Type 0) (behind : X → ℕ) where
         let (y, is) = rows_next parts others start place other rows more (omega (arith, few, many))
         in never place fault y fails is
 
-    -- as many end at one place
+    -- equally many end at one offset
     pub rows_end : (parts others : List X) (start place other : ℕ)
         → Rows Is behind start parts place → Rows Is behind start others other
         → length parts ≡ length others → place ≡ other

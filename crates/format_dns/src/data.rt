@@ -152,7 +152,7 @@ pub(crate) fn form_in(kind: u16, class: u16, length: u16) -> Form
     }
 }
 
-/// That many octets from a place to the end.
+/// The octets from an offset to the end, `size` of them.
 fn octets_to_end<'m>(message: &'m [u8], place: usize, size: usize) -> Result<&'m [u8], PartError>
     ensures { PartResult (λ octets. At message.now place octets.now × (length octets.now ≡ size))
         (HasOtherSize message.now place size) result }
@@ -169,7 +169,7 @@ fn octets_to_end<'m>(message: &'m [u8], place: usize, size: usize) -> Result<&'m
     Ok(octets)
 }
 
-/// The name from a place to the end.
+/// The name from an offset to the end.
 fn name_to_end<'m, A: Allocator + Copy>(
     alloc: A,
     pointers: usize,
@@ -187,7 +187,7 @@ fn name_to_end<'m, A: Allocator + Copy>(
     Ok(name)
 }
 
-/// The character strings from a place to the end.
+/// The character strings from an offset to the end.
 fn strings_to_end<'m, A: Allocator + Copy>(
     alloc: A,
     message: &'m [u8],
@@ -208,7 +208,7 @@ fn strings_to_end<'m, A: Allocator + Copy>(
     Ok(strings)
 }
 
-/// The mail exchange from a place to the end.
+/// The mail exchange from an offset to the end.
 fn mail_to_end<'m, A: Allocator + Copy>(
     alloc: A,
     pointers: usize,
@@ -226,7 +226,7 @@ fn mail_to_end<'m, A: Allocator + Copy>(
     })
 }
 
-/// The start of a zone from a place to the end.
+/// The start of a zone from an offset to the end.
 fn zone_to_end<'m, A: Allocator + Copy>(
     alloc: A,
     pointers: usize,
@@ -254,7 +254,7 @@ fn zone_to_end<'m, A: Allocator + Copy>(
     })
 }
 
-/// The service from a place to the end.
+/// The service from an offset to the end.
 fn service_to_end<'m, A: Allocator + Copy>(
     alloc: A,
     pointers: usize,
@@ -275,7 +275,7 @@ fn service_to_end<'m, A: Allocator + Copy>(
     })
 }
 
-/// The address of four octets from a place to the end.
+/// The address of four octets from an offset to the end.
 fn ipv4_to_end(message: &[u8], place: usize) -> Result<Ipv4Addr, PartError>
     ensures { PartResult (IsIpv4 message.now place)
         (HasOtherSize message.now place 4) result }
@@ -285,7 +285,7 @@ fn ipv4_to_end(message: &[u8], place: usize) -> Result<Ipv4Addr, PartError>
     Ok(Ipv4Addr::from_octets(octets))
 }
 
-/// The address of sixteen octets from a place to the end.
+/// The address of sixteen octets from an offset to the end.
 fn ipv6_to_end(message: &[u8], place: usize) -> Result<Ipv6Addr, PartError>
     ensures { PartResult (IsIpv6 message.now place) (HasOtherSize message.now place 16) result }
 {
@@ -294,7 +294,7 @@ fn ipv6_to_end(message: &[u8], place: usize) -> Result<Ipv6Addr, PartError>
     Ok(Ipv6Addr::from_octets(octets))
 }
 
-/// The data of a form, from a place to the end.
+/// The data of a form, from an offset to the end.
 pub(crate) fn read_data<'m, A: Allocator + Copy>(
     alloc: A,
     pointers: usize,

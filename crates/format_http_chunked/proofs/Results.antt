@@ -105,7 +105,7 @@ module _ (front given fields : List ℕ) where
         (subst (λ l. IsBody content trailers l) (sym (append-nil front)) x) in
         must_go_on at none left others y
 
-    -- each body that goes on with a byte is as large as here
+    -- each body that continues with a byte is as large as here
     large : (b : ℕ) → IsTooLarge at b → (content trailers more : List ℕ)
         → IsBody content trailers ((front ++ b ∷ []) ++ more) → 2 ^ 64 ≤ length content
     large b most content trailers more x =

@@ -61,7 +61,7 @@ IsInSizeLine (place.Data n) = ⊥
 IsInSizeLine (place.Trailers at) = ⊥
 IsInSizeLine place.Done = ⊥
 
--- a place at the line end of data
+-- an offset at the line ending of data
 abbrev pub IsAtDataEnd : Place → Type 0
 IsAtDataEnd at =
     (at ≡ place.Framing framing.DataEnd) ⊎ (at ≡ place.Framing framing.DataReturn)

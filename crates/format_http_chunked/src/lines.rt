@@ -11,7 +11,7 @@ use crate::places::InLine;
 
 /// The effect of a byte on a size line.
 pub(crate) enum Turn {
-    /// After it the line goes on here.
+    /// After it the line continues here.
     Goes(InLine),
     /// It ends the line.
     Ends,

@@ -48,7 +48,7 @@ pub(crate) enum Framing {
     Digits(u64),
     /// In the size line of a chunk of this size.
     Line(InLine, u64),
-    /// Where the line end of data begins.
+    /// Where the line ending of data begins.
     DataEnd,
     /// After the carriage return there.
     DataReturn,

@@ -33,7 +33,7 @@ lines_behind [] f bytes line rest e is =
 lines_behind (g ∷ fields) f bytes line rest (behind, shows, others) is =
     (behind, shows, lines_behind fields f behind line rest others is)
 
--- fewer bytes are left after a field
+-- fewer bytes follow a field
 pub line_less : {name value line rest : List ℕ} → IsFieldLine name value line rest
     → length rest < length line
 line_less is = omega (arith, is.some_name, simp length-append at (ap length is.splits))

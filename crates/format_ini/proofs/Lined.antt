@@ -21,7 +21,7 @@ not_idle d (b ∷ bs) some not (inr is) = not is
 other : {b : Bool} → b ≡ false → b ≡ true → ⊥
 other {b} e f = cc
 
--- what a line says that goes on
+-- the meaning of a line that continues
 pub more_line : (d : Dialect) (s : State) (line kept text : List ℕ) (depth : ℕ) (on : Bool)
     → IsKept d.inline_comments line kept → text ≡ trimmed kept → depth ≡ indent_of line
     → on ≡ is_deeper s.pair depth → on ≡ true → 0 < length text

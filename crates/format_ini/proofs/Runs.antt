@@ -15,7 +15,7 @@ pub around_is : (xs : List ℕ) (n : ℕ) → n < length xs
 around_is xs n less = sym (take-append-drop n xs)
     ∙ ap (λ l. take n xs ++ l) (drop_more xs n 0 less)
 
--- what is left after a line is less
+-- the rest after a line is shorter
 pub line_less : (text line rest : List ℕ) → FirstLine text line rest → length rest < length text
 line_less text line rest (others, inl e) =
     let h = ap (λ l. length l) e ∙ length-append line (10 ∷ rest) in omega (arith, h)

@@ -1,4 +1,4 @@
-//! Dialects: what ends a key, what begins a comment, and what goes on a value.
+//! Dialects: what ends a key, what begins a comment, and what continues a value.
 
 ghost use Rattle.std.specs.Prelude.{◌≡◌, MatchBool, false, true};
 ghost use Rattle.format_ini.specs.Marks.{IsDelimiter, IsMark};

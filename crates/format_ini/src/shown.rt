@@ -12,7 +12,7 @@ use std::fmt::{Display, Formatter};
 use text_positions::{Position, position_of};
 
 impl InvalidLine {
-    /// The line and the column of the fault, both counted from 1, in the text that was read. `None`
+    /// The line and the column of the error, both counted from 1, in the text that was read. `None`
     /// for a text that has no such place.
     ///
     /// ```

@@ -8,7 +8,7 @@ use crate::coefficient::read_coefficient;
 use crate::power::{power_of, shifted};
 
 /// An integer times a power of ten, written the one shortest way: the digits do not end in zero,
-/// and zero is digits 0, exponent 0, with no sign. So two numbers are equal exactly where their
+/// and zero is digits 0, exponent 0, with no sign. So two numbers are equal if and only if their
 /// decimals are, as those of `1500`, `1.50e3` and `15E+2`.
 ///
 /// ```

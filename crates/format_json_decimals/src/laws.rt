@@ -18,7 +18,7 @@ pub fn each_number_has_one_decimal()
         → (negative ≡ sign) × (digits ≡ others) × (exponent ≡ power) }
 {}
 
-/// Two numbers are equal exactly where they have the same decimal: `1.50e3` and `1500` do.
+/// Two numbers are equal if and only if they have the same decimal: `1.50e3` and `1500` do.
 ///
 /// ```
 /// use format_json_decimals::laws::equal_numbers_have_the_same_decimal;

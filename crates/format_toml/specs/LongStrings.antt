@@ -114,7 +114,7 @@ module _ (quote : ℕ) {content : Grammar ℕ ℕ} {text : Text ℕ ℕ} {skips 
   abbrev pub Last : List ℕ → Type 0
   Last tokens = NotFirst (λ c. c ≡ quote) tokens ⊎ Closes quote tokens
 
-  -- at most that many quotation marks are first, or three more that close the string
+  -- At most this number of quotation marks are first, or three more that close the string.
   pub Near : ℕ → List ℕ → Type 0
   Near zero tokens = Last tokens
   Near (suc k) tokens =

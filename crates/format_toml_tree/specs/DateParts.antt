@@ -44,7 +44,7 @@ marked_one mark = record {
       (subst (λ l. TwoDigits l m other) (sym (same_others (sym e ∙ f))) y);
 }
 
--- ---- one after another
+-- ---- in sequence
 
 -- `whole` has the outputs of both, where they are `fits`.
 pub record Joins {A B C : Type 0} (first : Standing A) (second : Standing B) (whole : Standing C)

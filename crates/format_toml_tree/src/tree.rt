@@ -297,7 +297,7 @@ impl<'t, A: Allocator + Copy> Tree<'t, A> {
         self.fill(alloc, below, value)
     }
 
-    /// Adds what a line says, and answers the table that the next line is in.
+    /// Adds the content of a line, and returns the table of the next line.
     pub(crate) fn add(&mut self, alloc: A, table: usize, item: &'t Item<A>) -> Result<usize, Stop>
         requires { IsTreeAt self.old.slots.items table }
         ensures { AddsItem self.old.slots.items table item.now result self.new.slots.items }

@@ -241,7 +241,7 @@ same_fields p q key before lead value trail remark =
     ∙ ap (λ x. make q.key q.before q.lead q.value x p.remark) trail
     ∙ ap (λ x. make q.key q.before q.lead q.value q.trail x) remark
 
--- what a line ends with, whatever the value: spaces and tabs end before it, and a value does too
+-- how a line ends, for every value: spaces and tabs end before it, and a value does too
 pub tail_no_blank : (remark behind : List ℕ) → IsRemark remark → EndsLine behind
     → NotFirst IsBlank (remark ++ behind)
 tail_no_blank remark behind is ends =

@@ -12,7 +12,7 @@ use Rattle.readers.specs.Pair.{IsKeyByte, IsLineEnd, IsPairLine, BeginsPairLine,
 pub not_none : {X : Type 0} {x : X} {xs : List X} → x ∷ xs ≡ [] → ⊥
 not_none e = cc
 
--- two lists that are the same stop being of P at the same place
+-- equal lists have equally long prefixes of P
 pub first_stranger : {X : Type 0} (P : X → Type 0) (xs ys : List X) (x y : X) (xs' ys' : List X)
     → All P xs → All P ys → (P x → ⊥) → (P y → ⊥) → xs ++ x ∷ xs' ≡ ys ++ y ∷ ys'
     → (xs ≡ ys) × (x ≡ y) × (xs' ≡ ys')

@@ -96,7 +96,7 @@ pub record IsPairBefore (p : PairBytes) (behind : List ℕ) : Type 0 where
   pub trail_begins : NotLast IsTrailing p.value
   -- a comment, or none
   pub remark : IsRemark p.remark
-  -- and the line ends there
+  -- and ends the line
   pub ends : EndsLine behind
 
 -- `FitsBefore part behind`: `part` can be followed by the bytes `behind`.

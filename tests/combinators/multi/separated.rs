@@ -243,7 +243,7 @@ fn separated_of_options(rt: HostRuntime) {
     same(&rt, "separated(0.., opt)", ",,", left, "");
 }
 
-/// Sums of numbers: a plus without a number after the last one is left in the input.
+/// Sums of numbers: a plus without a number after it remains in the input.
 #[test]
 fn separated_foldl1_of_sums(rt: HostRuntime) {
     let number: ParseTo<Digit1, &str, &str, u32, Modal> = Digit1.parse_to();

@@ -1,4 +1,4 @@
-//! Text with escapes, as it stands.
+//! Text with escapes, as a slice.
 use super::{AtBytes, Bytes, Plain, REFUSALS, lacks_behind};
 use std::fmt::Debug;
 use std::process::Abort;

@@ -19,7 +19,7 @@ use test_support::texts::OfText;
 use test_support::{at_located, at_streams};
 use winnow_ascii::ascii::impls::{Crlf, LineEnding, Newline, Tab, TillLineEnding};
 
-/// Cut text and cut bytes.
+/// Partial text and bytes.
 type CutText = Partial<&'static str>;
 
 type CutBytes = Partial<&'static [u8]>;

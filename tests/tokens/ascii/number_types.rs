@@ -6,7 +6,7 @@ use test_support::rows::{Modal, answers_each, answers_on_cut, same};
 use winnow_numbers::ascii::impls::{HexUint, HexUintParser};
 use winnow_numbers::ascii::{Int, Uint};
 
-/// Cut text and cut bytes.
+/// Partial text and bytes.
 type CutText = Partial<&'static str>;
 
 type CutBytes = Partial<&'static [u8]>;

@@ -20,7 +20,7 @@ use test_support::{at_located, at_streams};
 use winnow_numbers::ascii::impls::{DecInt, DecUint, HexUintParser};
 use winnow_token::token::impls::Any;
 
-/// Cut text and cut bytes.
+/// Partial text and bytes.
 type CutText = Partial<&'static str>;
 
 type CutBytes = Partial<&'static [u8]>;

@@ -56,7 +56,7 @@ some_logic Same v w = (if v then w else (if w then false else true), refl)
 
 -- ---- formulas, as a grammar
 
--- a byte is a beginning
+-- a byte is a prefix
 pub byte_front : {O : Type 0} (meant : ℕ → Option O) → IsFront (ByteItem meant)
 byte_front meant tokens o rest (b, splits, is) = (b ∷ [], splits)
 

@@ -65,7 +65,7 @@ module _ {A : Type 0} where
 abbrev pub Opens : List ℕ → Type 0
 Opens bytes = (rest : List ℕ) × (bytes ≡ 91 ∷ rest)
 
--- ---- what is left after a tree
+-- ---- the rest after a tree
 
 module _ {A : Type 0} where
   pub leaf_unique : IsUnique (IsLeaf {A = A})

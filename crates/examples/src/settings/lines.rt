@@ -22,7 +22,7 @@ use winnow::prelude::*;
 use winnow::stream::{Range, Recover, Recoverable};
 
 /// One line by `line`. Where that backtracks or cuts, `skip` is run from there: where it succeeds,
-/// the fault is recorded, and there is no output.
+/// the error is recorded, and there is no output.
 pub fn line_or_fault<
     P: Parser<I, O, E> + Drop,
     S: Parser<I, (), E> + Drop,
@@ -41,7 +41,7 @@ pub fn line_or_fault<
 }
 
 /// The first line that `line` reads. After one where it backtracks or cuts, `skip` is run: where
-/// it succeeds and consumes, the fault is recorded, and the next line is tried.
+/// it succeeds and consumes, the error is recorded, and the next line is tried.
 pub fn first_line<
     P: Parser<I, O, E> + Drop,
     S: Parser<I, (), E> + Drop,

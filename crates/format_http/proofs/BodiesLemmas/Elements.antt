@@ -57,7 +57,7 @@ all_dropped [] part is none =
     (All-append IsWhite is.before [] is.white (All-nil IsWhite))
 all_dropped (x ∷ left) part is none = absurd (omega (arith, none))
 
--- what is left of whitespace alone is the element
+-- without its whitespace the rest is the element
 pub empty_element : (left part : List ℕ) → IsDropped left part → length left ≡ 0
     → IsElement left part
 empty_element [] part is none = record {

@@ -1,4 +1,4 @@
--- Status lines and heads of responses, of which bytes begin with one at most.
+-- Bytes start with at most one status line, and with at most one head of a response.
 use Rattle.std.proofs.Common.{◌≡◌, ◌∙◌, ◌++◌, ◌∷◌, ◌+◌, ℕ, List, [], ap, arith, inl, inr, subst}
 use Rattle.std.proofs.Common.{sym}
 use Rattle.format_http.specs.Heads.Bytes.{IsValueByte, line_end}

@@ -19,7 +19,7 @@ AreHosts (field ∷ fields) hosts =
 abbrev pub NeedsHost : RequestLine → Type 0
 NeedsHost line = (line.major ≡ 1) × (1 ≤ line.minor)
 
--- A request of this line may have that many Host fields.
+-- A request of this line may have this number of Host fields.
 abbrev pub MayHave : RequestLine → ℕ → Type 0
 MayHave line hosts = (hosts ≡ 1) ⊎ ((hosts ≡ 0) × (NeedsHost line → ⊥))
 

@@ -1,4 +1,4 @@
-//! How long the body of a message is, by its head, or why the message must be refused (RFC 9112,
+//! How long the body of a message is, by its head, or why the message must be rejected (RFC 9112,
 //! section 6.3).
 #![tactic(auto)]
 

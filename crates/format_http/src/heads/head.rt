@@ -32,7 +32,7 @@ use stream_errors::parser_error::ParserError;
 pub struct Head<'i, A: Allocator> {
     /// The request line.
     pub line: RequestLine<'i>,
-    /// The fields, those of one name too, as they stand.
+    /// The fields in order, also those with the same name.
     pub fields: Vec<Field<'i>, A>,
 }
 

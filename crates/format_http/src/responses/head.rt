@@ -32,7 +32,7 @@ use stream_errors::mode::ErrMode;
 pub struct ResponseHead<'i, A: Allocator> {
     /// The status line.
     pub line: StatusLine<'i>,
-    /// The fields, those of one name too, as they stand.
+    /// The fields in order, also those with the same name.
     pub fields: Vec<Field<'i>, A>,
 }
 
