@@ -65,13 +65,11 @@ CHOSEN_STRUCT = (
 ghost use Rattle.std.specs.Prelude.{{⊤}};
 ghost use Rattle.winnow_binary.specs.Chosen.{{ChosenRuns}};
 ghost use Rattle.winnow_integers.specs.Integer.{{{value}}};
-ghost use Rattle.winnow_integers.specs.Integer.Grammar.{{Integer, integer_takes}};
-ghost use Rattle.winnow_integers.specs.Integer.Laws.{{integer_exact, integer_fails}};
+ghost use Rattle.winnow_integers.specs.Integer.Laws.{{integer_claim, integer_claimed}};
 ghost use Rattle.winnow_integers.specs.Integer.Laws.{{integer_leaves, integer_stays}};
 ghost use Rattle.winnow_integers.specs.Integer.Laws.{{some_bytes}};
 ghost use Rattle.winnow_integers.specs.Integer.Says.{{integer_said, integer_says}};
 ghost use Rattle.winnow_integers.specs.declared.binary.endianness.Endianness.{{Endianness}};
-ghost use Rattle.winnow_core.specs.Exact.Allowed.{{backs}};
 ghost use Rattle.winnow_core.specs.Stable.Grows.{{leaf_stays}};
 
 use std::marker::PhantomData;

@@ -1,5 +1,5 @@
 """The parsers of ASCII character classes, in the crate `winnow_ascii`."""
-from family.common import NEVER_TAKES, camel, documented, record, write
+from family.common import camel, documented, write
 from family.stable import class_block
 
 CLASSES = [
@@ -85,19 +85,11 @@ use streams::stream::StreamIsPartial;
 def class_claims(is_member, least):
     """Returns the claim of a parser of a class, and its proof."""
     parts = "%s %d I.Token.code I.seen_as I.reading" % (is_member, least)
-    claim = {
-        "premise": "CharIsFunction I.seen_as I.Token.code",
-        "backtracks": "⊤",
-        "spares_memory": "⊤",
-        "consumes": "⊤" if least else "⊥",
-        "grammar": "Class %s" % parts,
+    consumes, some = ("⊤", "(λ _. one_is_some)") if least else ("⊥", "(λ never. absurd never)")
+    return {
+        "claim": "    ghost claim = { λ s. class_claim %s %s };" % (consumes, parts),
+        "claimed": "    ghost claimed = { λ s. class_claimed %s %s };" % (parts, some),
     }
-    claimed = {
-        "exact": "λ form is. class_exact %s form is" % parts,
-        "fails": "λ form is. backs (class_fails %s form)" % parts,
-        "takes": "λ is some. class_takes %s one_is_some" % parts if least else NEVER_TAKES,
-    }
-    return {"claim": record("claim", claim), "claimed": record("claimed", claimed)}
 
 
 CLASS_STRUCT = """//! {about}
@@ -106,11 +98,9 @@ CLASS_STRUCT = """//! {about}
 ghost use Rattle.std.specs.Prelude.{{None, ⊤}};
 ghost use Rattle.stream_sets.specs.AsChar.{{{member}}};
 ghost use Rattle.stream_sets.specs.Range.{{from_to}};
-ghost use Rattle.grammars.specs.Grammar.{{Class}};
 ghost use Rattle.winnow_ascii.specs.Class.{{ClassRuns}};
-ghost use Rattle.winnow_ascii.specs.Class.Laws.{{class_exact, class_fails, {laws}}};
-ghost use Rattle.winnow_ascii.specs.Class.Says.{{CharIsFunction, class_said, class_says}};
-ghost use Rattle.winnow_core.specs.Exact.Allowed.{{backs}};
+ghost use Rattle.winnow_ascii.specs.Class.Laws.{{class_claim, class_claimed, class_leaves{laws}}};
+ghost use Rattle.winnow_ascii.specs.Class.Says.{{class_said, class_says}};
 ghost use Rattle.winnow_core.specs.Runs.{{Keeps}};
 ghost use Rattle.winnow_core.specs.Stable.Grows.{{leaf_stays}};
 ghost use Rattle.winnow_token.specs.TakeWhile.Laws.{{take_while_stays}};
@@ -144,7 +134,7 @@ where
 
 {claim}
 
-    ghost leaves_ends = {{ λ form x i answer y j r. class_ends {member} {least} I.Token.code I.seen_as I.reading form i answer j r.0 }};
+    ghost leaves_ends = {{ class_leaves {member} {least} I.Token.code I.seen_as I.reading }};
 
     ghost said = {{ λ _. class_said {member} {least} I.Token.code I.seen_as I.reading }};
 
@@ -173,7 +163,7 @@ def write_classes():
         about = "%s %s." % ("One or more" if least else "Zero or more", members)
         blocks = {
             "stable": class_block(camel(call), least),
-            "laws": ("class_takes, one_is_some, " if least else "") + "class_ends",
+            "laws": ", one_is_some" if least else "",
             **class_claims(is_member, least),
         }
         write(ascii_crate + "src/ascii/impls/%s.rt" % call, CLASS_STRUCT, about=about, **blocks, call=call, kind=camel(call), member=is_member, least=least, front=front, rest=rest)

@@ -1,33 +1,18 @@
 """The claims of the parsers of integers as bytes."""
-from family.common import record
 
 
 def integer_claims(one, order, by, state):
     """Returns what the parser of an integer in a byte order says and claims, with the proofs. `by`
     computes its value from a state, and `state` is the state."""
-    value = "(%s %s)" % (one.value, order)
-    laws = "%d %s I.reading form %s" % (one.width, by, state)
-    ends = "integer_leaves %d %s I.reading" % (one.width, by)
-    made = "integer_said %d %s I.reading" % (one.width, by)
-    some = "(some_bytes %d)" % (one.width - 1)
-    claim = {
-        "premise": "⊤",
-        "backtracks": "⊤",
-        "spares_memory": "⊤",
-        "consumes": "⊤",
-        "grammar": "Integer %d %s" % (one.width, value),
-    }
-    claimed = {
-        "exact": "λ form is. integer_exact %s" % laws,
-        "fails": "λ form is. backs (integer_fails %s)" % laws,
-        "takes": "λ is some. integer_takes %d %s %s" % (one.width, value, some),
-    }
+    value = "%d (%s %s)" % (one.width, one.value, order)
+    laws = "%d %s I.reading" % (one.width, by)
+    claimed = "integer_claimed %s %s (some_bytes %d)" % (laws, state, one.width - 1)
     return {
-        "says": "    ghost says = { λ s. integer_says %d %s };" % (one.width, value),
-        "claim": record("claim", claim),
-        "ends": "    ghost leaves_ends = { %s };" % ends,
-        "said": "    ghost said = { %s };" % made,
-        "claimed": record("claimed", claimed),
+        "says": "    ghost says = { λ s. integer_says %s };" % value,
+        "claim": "    ghost claim = { λ s. integer_claim %s };" % value,
+        "ends": "    ghost leaves_ends = { integer_leaves %s };" % laws,
+        "said": "    ghost said = { integer_said %s };" % laws,
+        "claimed": "    ghost claimed = { λ s. %s };" % claimed,
     }
 
 

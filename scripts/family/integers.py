@@ -137,13 +137,10 @@ STRUCT = (
 //! {head}
 ghost use Rattle.std.specs.Prelude.{{⊤}};
 ghost use Rattle.winnow_integers.specs.Integer.{{IntegerRuns, {value}}};
-ghost use Rattle.winnow_integers.specs.Integer.Grammar.{{Integer, integer_takes}};
-ghost use Rattle.winnow_integers.specs.Integer.Laws.{{integer_exact, integer_fails}};
-ghost use Rattle.winnow_integers.specs.Integer.Laws.{{integer_leaves, integer_stays}};
-ghost use Rattle.winnow_integers.specs.Integer.Laws.{{some_bytes}};
+ghost use Rattle.winnow_integers.specs.Integer.Laws.{{integer_claim, integer_claimed}};
+ghost use Rattle.winnow_integers.specs.Integer.Laws.{{integer_leaves, integer_stays, some_bytes}};
 ghost use Rattle.winnow_integers.specs.Integer.Says.{{integer_said, integer_says}};
 ghost use Rattle.winnow_integers.specs.declared.binary.endianness.Endianness.TheVariants.{{{constructor}}};
-ghost use Rattle.winnow_core.specs.Exact.Allowed.{{backs}};
 ghost use Rattle.winnow_core.specs.Runs.{{Keeps}};
 ghost use Rattle.winnow_core.specs.Stable.Grows.{{leaf_stays}};
 

@@ -1,12 +1,14 @@
 -- Properties of the calls of integers.
-use Rattle.std.specs.Prelude.{◌≡◌, ℕ, List, Ok, Err, ◌⊎◌, ◌<◌, suc, false, length}
+use Rattle.std.specs.Prelude.{◌≡◌, ℕ, ⊤, List, Ok, Err, ◌<◌, suc, false, length}
 use Rattle.std.proofs.Common.{refl, ap, ◌∙◌, inl, inr, arith, length-append}
 use Rattle.streams.specs.Input.{Input, IsEndOf, passes_end}
 use Rattle.streams.specs.Kind.{Kind, backtrack}
 use Rattle.streams.specs.Reading.{Reading}
 use Rattle.stream_errors.specs.Form.{Answer, ErrorForm, modal}
 use Rattle.stream_errors.specs.Form.Inversion.{ok_is_err, same_kind, same_ok, same_output}
+use Rattle.winnow_core.specs.Claim.{Claim, Claimed}
 use Rattle.winnow_core.specs.Ends.{same_ends}
+use Rattle.winnow_core.specs.Exact.Allowed.{backs}
 use Rattle.winnow_core.specs.Runs.{Keeps, LeaveEnds}
 use Rattle.winnow_integers.specs.Integer.{IntegerRuns}
 use Rattle.winnow_core.specs.Stable.Grows.{Stays, final_by}
@@ -14,7 +16,7 @@ use Rattle.winnow_core.specs.Stable.Longer.{passes_more, short_final}
 use Rattle.grammars.specs.Grammar.{NoMatch}
 use Rattle.winnow_core.specs.Exact.{Backtracks, IsExact}
 use Rattle.winnow_core.specs.Exact.Failed.{short_backtracks}
-use Rattle.winnow_integers.specs.Integer.Grammar.{Integer, integer_unique}
+use Rattle.winnow_integers.specs.Integer.Grammar.{Integer, integer_takes, integer_unique}
 
 -- every call leaves a suffix
 pub integer_ends : {S O : Type 0} (width : ℕ) (value : List ℕ → O) (reading : Reading ℕ S)
@@ -68,7 +70,7 @@ some_bytes n = omega arith
 
 module _ {X L O : Type 0} (width : ℕ) (value : X → List ℕ → O) (reading : Reading ℕ L)
     (form : ErrorForm) (x : X) where
-  pub integer_exact : IsExact x (Keeps (λ y. IntegerRuns width (value y) reading form))
+  integer_exact : IsExact x (Keeps (λ y. IntegerRuns width (value y) reading form))
       (Integer width (value x))
   unfolding Integer
   integer_exact = record {
@@ -98,7 +100,7 @@ module _ {X L O : Type 0} (width : ℕ) (value : X → List ℕ → O) (reading 
       none i k j (inr (l, few, short, e, same)) = λ o rest (bytes, many, are, split, is). absurd
           (omega (arith, ap (λ l. length l) split, length-append bytes rest, many, few))
 
-  pub integer_fails : Backtracks x (Keeps (λ y. IntegerRuns width (value y) reading form))
+  integer_fails : Backtracks x (Keeps (λ y. IntegerRuns width (value y) reading form))
   integer_fails = record { fails = λ i k y j is (r, kept). fails i k j is r }
     where
       fails : (i : Input ℕ) (k : Kind) (j : Input ℕ) → i.status.cut ≡ false
@@ -107,3 +109,22 @@ module _ {X L O : Type 0} (width : ℕ) (value : X → List ℕ → O) (reading 
       fails i k j is (inl (bytes, many, are, passes, e)) = ok_is_err e refl
       fails i k j is (inr (l, few, short, e, same)) =
           same_kind e ∙ short_backtracks form _ i l is short
+
+-- The claim of an integer: its bytes.
+abbrev pub integer_claim : {O : Type 0} → ℕ → (List ℕ → O) → Claim ℕ O
+integer_claim width value = record {
+  premise = ⊤;
+  backtracks = ⊤;
+  spares_memory = ⊤;
+  consumes = ⊤;
+  grammar = Integer width value;
+}
+
+pub integer_claimed : {X L O : Type 0} (width : ℕ) (value : X → List ℕ → O) (reading : Reading ℕ L)
+    (x : X) → 0 < width → Claimed (integer_claim width (value x)) x
+    (λ form. Keeps (λ y. IntegerRuns width (value y) reading form))
+integer_claimed width value reading x some = record {
+  exact = λ form is. integer_exact width value reading form x;
+  fails = λ form is. backs (integer_fails width value reading form x);
+  takes = λ is consumes. integer_takes width (value x) some;
+}

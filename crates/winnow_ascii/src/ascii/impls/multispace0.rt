@@ -4,11 +4,9 @@
 ghost use Rattle.std.specs.Prelude.{None, ⊤};
 ghost use Rattle.stream_sets.specs.AsChar.{IsMultispace};
 ghost use Rattle.stream_sets.specs.Range.{from_to};
-ghost use Rattle.grammars.specs.Grammar.{Class};
 ghost use Rattle.winnow_ascii.specs.Class.{ClassRuns};
-ghost use Rattle.winnow_ascii.specs.Class.Laws.{class_exact, class_fails, class_ends};
-ghost use Rattle.winnow_ascii.specs.Class.Says.{CharIsFunction, class_said, class_says};
-ghost use Rattle.winnow_core.specs.Exact.Allowed.{backs};
+ghost use Rattle.winnow_ascii.specs.Class.Laws.{class_claim, class_claimed, class_leaves};
+ghost use Rattle.winnow_ascii.specs.Class.Says.{class_said, class_says};
 ghost use Rattle.winnow_core.specs.Runs.{Keeps};
 ghost use Rattle.winnow_core.specs.Stable.Grows.{leaf_stays};
 ghost use Rattle.winnow_token.specs.TakeWhile.Laws.{take_while_stays};
@@ -41,24 +39,14 @@ where
 
     ghost says = { λ _. class_says IsMultispace 0 I.Token.code I.seen_as I.reading };
 
-    ghost claim = { λ s. record {
-      premise = CharIsFunction I.seen_as I.Token.code;
-      backtracks = ⊤;
-      spares_memory = ⊤;
-      consumes = ⊥;
-      grammar = Class IsMultispace 0 I.Token.code I.seen_as I.reading;
-    } };
+    ghost claim = { λ s. class_claim ⊥ IsMultispace 0 I.Token.code I.seen_as I.reading };
 
-    ghost leaves_ends = { λ form x i answer y j r. class_ends IsMultispace 0 I.Token.code
-        I.seen_as I.reading form i answer j r.0 };
+    ghost leaves_ends = { class_leaves IsMultispace 0 I.Token.code I.seen_as I.reading };
 
     ghost said = { λ _. class_said IsMultispace 0 I.Token.code I.seen_as I.reading };
 
-    ghost claimed = { λ s. record {
-      exact = λ form is. class_exact IsMultispace 0 I.Token.code I.seen_as I.reading form is;
-      fails = λ form is. backs (class_fails IsMultispace 0 I.Token.code I.seen_as I.reading form);
-      takes = λ is never. absurd never;
-    } };
+    ghost claimed = { λ s. class_claimed IsMultispace 0 I.Token.code I.seen_as I.reading
+        (λ never. absurd never) };
 
     #[inline(always)]
     fn parse_next(&mut self, input: &mut I) -> Result<I::Slice, E> {

@@ -4,13 +4,11 @@
 ghost use Rattle.std.specs.Prelude.{⊤};
 ghost use Rattle.winnow_binary.specs.Chosen.{ChosenRuns};
 ghost use Rattle.winnow_integers.specs.Integer.{signed_value};
-ghost use Rattle.winnow_integers.specs.Integer.Grammar.{Integer, integer_takes};
-ghost use Rattle.winnow_integers.specs.Integer.Laws.{integer_exact, integer_fails};
+ghost use Rattle.winnow_integers.specs.Integer.Laws.{integer_claim, integer_claimed};
 ghost use Rattle.winnow_integers.specs.Integer.Laws.{integer_leaves, integer_stays};
 ghost use Rattle.winnow_integers.specs.Integer.Laws.{some_bytes};
 ghost use Rattle.winnow_integers.specs.Integer.Says.{integer_said, integer_says};
 ghost use Rattle.winnow_integers.specs.declared.binary.endianness.Endianness.{Endianness};
-ghost use Rattle.winnow_core.specs.Exact.Allowed.{backs};
 ghost use Rattle.winnow_core.specs.Stable.Grows.{leaf_stays};
 
 use std::marker::PhantomData;
@@ -44,23 +42,13 @@ impl<I: StreamIsPartial + ByteStream, E: ParserError<I>> Parser<I, i128, E> for 
 
     ghost says = { λ s. integer_says 16 (signed_value s) };
 
-    ghost claim = { λ s. record {
-      premise = ⊤;
-      backtracks = ⊤;
-      spares_memory = ⊤;
-      consumes = ⊤;
-      grammar = Integer 16 (signed_value s);
-    } };
+    ghost claim = { λ s. integer_claim 16 (signed_value s) };
 
     ghost leaves_ends = { integer_leaves 16 signed_value I.reading };
 
     ghost said = { integer_said 16 signed_value I.reading };
 
-    ghost claimed = { λ s. record {
-      exact = λ form is. integer_exact 16 signed_value I.reading form s;
-      fails = λ form is. backs (integer_fails 16 signed_value I.reading form s);
-      takes = λ is some. integer_takes 16 (signed_value s) (some_bytes 15);
-    } };
+    ghost claimed = { λ s. integer_claimed 16 signed_value I.reading s (some_bytes 15) };
 
     #[inline(always)]
     fn parse_next(&mut self, input: &mut I) -> Result<i128, E> {
