@@ -1,7 +1,7 @@
 //! Combinators, as in winnow's documentation: repetition into a slice.
 #![tactic(auto, using(streams::specs::Ends::ends_follow))]
 
-ghost use Rattle.std.specs.Prelude.{◌≡◌, ◌<◌, false, length};
+ghost use Rattle.std.specs.Prelude.{◌≡◌, false};
 ghost use Rattle.stream_errors.specs.Form.{answer_by, assert_kind};
 ghost use Rattle.streams.specs.Input.{IsEndOf};
 ghost use Rattle.winnow_slices.specs.IntoSlice.{IntoSlice, TooManyKind};
@@ -63,9 +63,11 @@ where
     ensures reads { (P.claim (P.state parser.old)).premise
         → (P.claim (P.state parser.old)).backtracks → (P.claim (P.state parser.old)).consumes
         → (I.view input.old).status.cut ≡ false
-        → ReadsIntoSlice (P.claim (P.state parser.old)) (TooManyKind E.external_gives)
-        slice.old (P.state parser.old) (I.view input.old) (answer_by E.kind result) slice.new
-        (P.state parser.new) (I.view input.new) }
+        → (P.state parser.new ≡ P.state parser.old)
+        × ReadsIntoSlice (P.claim (P.state parser.old)).grammar
+        (P.claim (P.state parser.old)).spares_memory (TooManyKind E.external_gives) slice.old
+        (I.view input.old).left.tokens (answer_by E.kind result) slice.new
+        (I.view input.new).left.tokens }
 {
     write_items(input, parser, slice)
 }

@@ -3,6 +3,7 @@ use Rattle.std.specs.Prelude.{◌≡◌, ◌⊎◌, ◌<◌, ℕ, false, List, [
 use Rattle.std.specs.Prelude.{IfErr, IfOk}
 use Rattle.std.proofs.Common.{refl, sym, ap, subst, inl, inr, ◌∙◌, arith, length-append}
 use Rattle.std.proofs.lemmas.List.{append-nil}
+use Rattle.streams.specs.Equal.{none_is_some}
 use Rattle.streams.specs.Input.{Input}
 use Rattle.streams.specs.Kind.{Kind, backtrack, memory}
 use Rattle.stream_errors.specs.Form.{Answer, ErrorForm}
@@ -31,17 +32,17 @@ pub record HasMore {T O : Type 0} (grammar : Grammar T O) (elements : List O)
       → length elements < length os
 
 -- The result of a repetition into a slice on complete input, in terms of the grammar of its parser.
-pub record ReadsIntoSlice {S T O : Type 0} (claim : Claim T O) (too_many : ℕ → Kind → Type 0)
-    (old : List O) (s : S) (i : Input T) (answer : Answer ℕ) (new : List O) (t : S)
-    (j : Input T) : Type 0 where
+-- `spares`: that parser is never out of memory.
+pub record ReadsIntoSlice {T O : Type 0} (grammar : Grammar T O) (spares : Type 0)
+    (too_many : ℕ → Kind → Type 0) (old : List O) (tokens : List T) (answer : Answer ℕ)
+    (new : List O) (rest : List T) : Type 0 where
   -- the outputs of all matches are in the first elements
   pub stands : IfOk answer (λ n. (os : List O) × (n ≡ length os) × Overwrites os old new
-      × AllMatches claim.grammar i.left.tokens os j.left.tokens)
+      × AllMatches grammar tokens os rest)
   -- there are more matches than elements; or an item is out of memory
   pub fails : IfErr answer (λ k. (too_many (length old) k × (length new ≡ length old)
-      × HasMore claim.grammar new i.left.tokens j.left.tokens)
-      ⊎ ((k ≡ memory) × (claim.spares_memory → ⊥)))
-  pub kept : t ≡ s
+      × HasMore grammar new tokens rest)
+      ⊎ ((k ≡ memory) × (spares → ⊥)))
 
 -- ---- laws
 
@@ -69,7 +70,7 @@ has_more unique os tokens rest end o each x = record {
   each = each;
   next = (o, end, x);
   more = λ ps last (all, enough, stops). elim stops [
-    | inl never ↦ absurd (cc)
+    | inl never ↦ none_is_some never
     | inr (below, none) ↦ longer unique ps os tokens last rest end o all none each x
   ];
 }
@@ -82,7 +83,7 @@ all_written {os = os} w full =
     (omega (arith, ap length w.was, length-append w.before w.rest, w.as_many, full)) in
     w.is ∙ ap (λ l. os ++ l) none ∙ append-nil os
 
-module _ {S T O : Type 0} {claim : Claim T O} {s : S} {run : Runs S T O}
+module _ {S T O : Type 0} (claim : Claim T O) {s : S} {run : Runs S T O}
     (c : IsExact s run claim.grammar)
     (f : FailsBy (Allowed claim.backtracks claim.spares_memory) s run) (backs : claim.backtracks)
     (takes : TakesTokens claim.grammar) (too_many : ℕ → Kind → Type 0) (asserted : Kind)
@@ -90,14 +91,15 @@ module _ {S T O : Type 0} {claim : Claim T O} {s : S} {run : Runs S T O}
     (whole : m.status.cut ≡ false) (each : Each claim.grammar i.left.tokens os m.left.tokens)
     where
   abbrev Read : S → Input T → Answer ℕ → Type 0
-  Read t j answer = ReadsIntoSlice claim too_many old s i answer new t j
+  Read t j answer = (t ≡ s) × ReadsIntoSlice claim.grammar claim.spares_memory too_many old
+      i.left.tokens answer new j.left.tokens
 
   ends_read : (answer : Answer ℕ) (t : S) (j : Input T)
       → IntoSliceEnds run too_many asserted (length old) os s m answer t j → Read t j answer
   unfolding Many
   ends_read answer t j (inl (x, r, e, same)) =
       let Q : List T → Type 0 = λ l. AllMatches claim.grammar i.left.tokens os l in
-      subst (Read t j) (sym e) (record {
+      subst (Read t j) (sym e) ((c.kept m (Err backtrack) t x whole r).0, record {
         stands = (
           os,
           refl,
@@ -106,17 +108,15 @@ module _ {S T O : Type 0} {claim : Claim T O} {s : S} {run : Runs S T O}
               (each, omega arith, inr (tt, none_at_backtrack c m t x whole r)),
         );
         fails = tt;
-        kept = (c.kept m (Err backtrack) t x whole r).0;
       })
   ends_read answer t j (inr (inl (k, r, other, e))) =
       let may = f.fails m k t j whole r in
-      subst (Read t j) (sym e) (record {
+      subst (Read t j) (sym e) ((c.kept m (Err k) t j whole r).0, record {
         stands = tt;
         fails = elim ((softly backs f).fails m k t j whole r) [
           | inl is ↦ inr (is, λ spares. may.wants_none spares is)
           | inr is ↦ absurd (other is)
         ];
-        kept = (c.kept m (Err k) t j whole r).0;
       })
   ends_read answer t j (inr (inr (inl (o, r, nothing, e)))) =
       let fewer = takes.fewer m.left.tokens o j.left.tokens (c.stands m o t j whole r) in
@@ -125,7 +125,7 @@ module _ {S T O : Type 0} {claim : Claim T O} {s : S} {run : Runs S T O}
   ends_read answer t j (inr (inr (inr (o, x, k, full, r, less, same, many, e)))) =
       let P : List O → List T → Type 0 = λ l rest. HasMore claim.grammar l i.left.tokens rest in
       let is = all_written written full in
-      subst (Read t j) (sym e) (record {
+      subst (Read t j) (sym e) ((c.kept m (Ok o) t x whole r).0, record {
         stands = tt;
         fails = inl (
           many,
@@ -135,7 +135,6 @@ module _ {S T O : Type 0} {claim : Claim T O} {s : S} {run : Runs S T O}
               (has_more c.unique os i.left.tokens m.left.tokens x.left.tokens o each
               (c.stands m o t x whole r))),
         );
-        kept = (c.kept m (Ok o) t x whole r).0;
       })
 
 -- the clause of a call
@@ -145,12 +144,13 @@ pub into_slice_reads : {S T O : Type 0} {claim : Claim T O} {s : S} {meaning : M
     (i : Input T) (answer : Answer ℕ) (new : List O) (t : S) (j : Input T)
     → i.status.cut ≡ false
     → IntoSlice (meaning form) too_many asserted old s i answer new t j
-    → ReadsIntoSlice claim too_many old s i answer new t j
-into_slice_reads {S} {s = s} {meaning} claimed is backs consumes too_many asserted form old i
+    → (t ≡ s) × ReadsIntoSlice claim.grammar claim.spares_memory too_many old i.left.tokens answer
+    new j.left.tokens
+into_slice_reads {S} {claim = claim} {s} {meaning} claimed is backs consumes too_many asserted form old i
     answer new t j whole (os, u, m, chain, written, ends) =
     let c = claimed.exact form is in
     let (same, still, each) = chain_stands c os i u m whole chain.runs in
     let P : S → Type 0 = λ x. IntoSliceEnds (meaning form) too_many asserted (length old) os x m
     answer t j in
-    ends_read c (claimed.fails form is) backs (claimed.takes is consumes) too_many asserted written
+    ends_read claim c (claimed.fails form is) backs (claimed.takes is consumes) too_many asserted written
     i m still each answer t j (subst P same ends)

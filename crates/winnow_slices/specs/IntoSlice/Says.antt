@@ -1,11 +1,12 @@
 -- The outcomes of a repetition into a slice.
 use Rattle.std.specs.Prelude.{◌≡◌, ◌⊎◌, ◌<◌, ◌≤◌, ℕ, Bool, false, List, ◌++◌, length, Option, Some}
 use Rattle.std.specs.Prelude.{Ok, Err, IfOk}
-use Rattle.std.proofs.Common.{refl, sym, ap, subst, inl, inr, arith, length-append}
+use Rattle.std.proofs.Common.{refl, sym, ap, subst, inl, inr, ◌∙◌, arith}
 use Rattle.std.proofs.Math.Nat.{eq-or-lt_of_le}
 use Rattle.streams.specs.Input.{Input}
 use Rattle.streams.specs.Kind.{Kind, backtrack, cut, incomplete, memory}
 use Rattle.stream_errors.specs.Form.{Answer, ErrorForm, assert_kind}
+use Rattle.stream_errors.specs.Given.{Keeping}
 use Rattle.winnow_core.specs.Outcome.{Outcome, asks, cuts, backs, wants, took, Setting, grown, on_cut}
 use Rattle.winnow_core.specs.Outcome.{Does, IsFinal, as_longer, both, gave, longer, misused}
 use Rattle.winnow_core.specs.Outcome.{Alike, alike_wants, outcome_of}
@@ -22,7 +23,9 @@ use Rattle.winnow_repeat.specs.Chain.Says.{AlikeLists, Chained, Ends, ItemOf, St
 use Rattle.winnow_repeat.specs.Chain.Says.{chained_did, chained_meet, chained_stay, chained_whole}
 use Rattle.winnow_repeat.specs.Chain.Says.{did_wider, item_law, items_did, nor_less, still_less}
 use Rattle.winnow_repeat.specs.Chain.{Chain}
-use Rattle.winnow_slices.specs.IntoSlice.{IntoSlice, IntoSliceEnds, Overwrites, within_slice}
+use Rattle.winnow_slices.specs.IntoSlice.{IntoSlice, IntoSliceEnds, Overwrites, TooManyKind}
+use Rattle.winnow_slices.specs.IntoSlice.{within_slice}
+use Rattle.winnow_slices.specs.declared.combinator.TooMany.{TooMany}
 
 -- The outcome if the item after the last returned an output. `too_many` has the kinds of the error
 -- for that output.
@@ -157,7 +160,7 @@ last_stops {T} {O} {alike = alike} p os at tokens y o rest (x, d, c) (e, less) =
 into_slice_law : {T O : Type 0} {stable : Type 0} {alike : O → O → Type 0} {does : Does T O}
     → Lawful stable alike does → (too_many : ℕ → Kind → Type 0) (limit : ℕ)
     → Lawful stable (AlikeLists alike) (IntoSliceDo does too_many limit)
-into_slice_law {O = O} {alike = alike} {does} p too_many limit = record {
+into_slice_law {T} {O} {alike = alike} {does} p too_many limit = record {
   one = chained_meet (item_law p) (Some limit) (AlikeLists alike) full full last last
       (λ os ps like. then_meet p (after_meets (too_many limit) os ps like))
       (λ os ps like. then_meet p (after_meets (λ k. ⊥) os ps like)) (last_stops p)
@@ -170,10 +173,10 @@ into_slice_law {O = O} {alike = alike} {does} p too_many limit = record {
       (λ os. then_stay (λ is. is) p (after_holds (λ k. ⊥) os));
 }
   where
-    full : List O → Does _ (List O)
+    full : List O → Does T (List O)
     full os = Then does (after_items (too_many limit) os)
 
-    last : List O → Does _ (List O)
+    last : List O → Does T (List O)
     last os = Then does (after_items (λ k. ⊥) os)
 
 -- ---- runs do so
@@ -265,11 +268,11 @@ list_said {S} {T} {O} {says} {s} {meaning} p too_many soft limit = record {
 }
 
 -- the number that is returned
-count_of : {S T O : Type 0} {run : Runs S T O} (too_many : ℕ → Kind → Type 0) (asserted : Kind)
+count_of : {S T O : Type 0} (run : Runs S T O) (too_many : ℕ → Kind → Type 0) (asserted : Kind)
     (limit : ℕ) (os : List O) (u : S) (m : Input T) (answer : Answer ℕ) (t : S) (j : Input T)
     → IntoSliceEnds run too_many asserted limit os u m answer t j
     → IfOk answer (λ n. n ≡ length os)
-count_of too_many asserted limit os u m answer t j ends = by ends
+count_of run too_many asserted limit os u m answer t j ends = by ends
   where
     Counted : Answer ℕ → Type 0
     Counted a = IfOk a (λ n. n ≡ length os)
@@ -280,6 +283,12 @@ count_of too_many asserted limit os u m answer t j ends = by ends
     by (inr (inr (inl (o, r, nothing, e)))) = subst Counted (sym e) tt
     by (inr (inr (inr (o, x, k, full, r, less, same, many, e)))) = subst Counted (sym e) tt
 
+-- the error for an output without an element is a backtrack or out of memory
+pub soft_kinds : (keeping : TooMany → Keeping) (limit : ℕ) (k : Kind)
+    → TooManyKind keeping limit k → (k ≡ backtrack) ⊎ (k ≡ memory)
+soft_kinds keeping limit k (inl (kept, e)) = inl e
+soft_kinds keeping limit k (inr (refused, e)) = inr e
+
 -- the clause of a call
 pub into_slice_told : {S T O : Type 0} {says : Says T O} {s : S} {meaning : Meaning S T O}
     → Said says s meaning → says.premise → (too_many : ℕ → Kind → Type 0)
@@ -288,12 +297,14 @@ pub into_slice_told : {S T O : Type 0} {says : Says T O} {s : S} {meaning : Mean
     (j : Input T)
     → IntoSlice (meaning form) too_many (assert_kind form) old s i answer new t j
     → TellsIntoSlice says too_many form old s i answer new t j
-into_slice_told said is too_many soft form old i answer new t j (os, u, m, chain, written, ends) =
+into_slice_told {s = s} {meaning} said is too_many soft form old i answer new t j
+    (os, u, m, chain, written, ends) =
     let lists = list_said said too_many soft (length old) in
-    let ran = (os, u, m, answer, chain, within_slice written, refl, ends) in record {
+    let ran : ListRuns meaning too_many (length old) form s i (listed os answer) t j =
+    (os, u, m, answer, chain, within_slice written, refl, ends) in record {
       outputs = os;
       written = written;
-      counted = count_of too_many (assert_kind form) (length old) os u m answer t j ends;
+      counted = count_of (meaning form) too_many (assert_kind form) (length old) os u m answer t j ends;
       tells = told lists is form i (listed os answer) t j ran;
       kept = kept_by lists is form i (listed os answer) t j ran;
     }
