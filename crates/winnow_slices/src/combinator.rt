@@ -73,11 +73,7 @@ where
 }
 
 /// The loop of [`repeat_into_slice`].
-fn write_items<P, I, O, E>(
-    input: &mut I,
-    parser: &mut P,
-    slice: &mut [O],
-) -> Result<usize, E>
+fn write_items<P, I, O, E>(input: &mut I, parser: &mut P, slice: &mut [O]) -> Result<usize, E>
 where
     P: Parser<I, O, E>,
     I: Stream,

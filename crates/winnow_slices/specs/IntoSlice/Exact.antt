@@ -89,53 +89,62 @@ module _ {S T O : Type 0} (claim : Claim T O) {s : S} {run : Runs S T O}
     (takes : TakesTokens claim.grammar) (too_many : ℕ → Kind → Type 0) (asserted : Kind)
     {old new os : List O} (written : Overwrites os old new) (i m : Input T)
     (whole : m.status.cut ≡ false) (each : Each claim.grammar i.left.tokens os m.left.tokens)
-    where
-  abbrev Read : S → Input T → Answer ℕ → Type 0
-  Read t j answer = (t ≡ s) × ReadsIntoSlice claim.grammar claim.spares_memory too_many old
-      i.left.tokens answer new j.left.tokens
+  where
+    abbrev Read : S → Input T → Answer ℕ → Type 0
+    Read t j answer = (t ≡ s) × ReadsIntoSlice claim.grammar claim.spares_memory too_many old
+        i.left.tokens answer new j.left.tokens
 
-  ends_read : (answer : Answer ℕ) (t : S) (j : Input T)
-      → IntoSliceEnds run too_many asserted (length old) os s m answer t j → Read t j answer
-  unfolding Many
-  ends_read answer t j (inl (x, r, e, same)) =
-      let Q : List T → Type 0 = λ l. AllMatches claim.grammar i.left.tokens os l in
-      subst (Read t j) (sym e) ((c.kept m (Err backtrack) t x whole r).0, record {
-        stands = (
-          os,
-          refl,
-          written,
-          subst Q (sym (ap (λ y. y.left.tokens) same))
-              (each, omega arith, inr (tt, none_at_backtrack c m t x whole r)),
-        );
-        fails = tt;
-      })
-  ends_read answer t j (inr (inl (k, r, other, e))) =
-      let may = f.fails m k t j whole r in
-      subst (Read t j) (sym e) ((c.kept m (Err k) t j whole r).0, record {
-        stands = tt;
-        fails = elim ((softly backs f).fails m k t j whole r) [
-          | inl is ↦ inr (is, λ spares. may.wants_none spares is)
-          | inr is ↦ absurd (other is)
-        ];
-      })
-  ends_read answer t j (inr (inr (inl (o, r, nothing, e)))) =
-      let fewer = takes.fewer m.left.tokens o j.left.tokens (c.stands m o t j whole r) in
-      let as_many = ap length nothing in
-      absurd (omega (arith, fewer, as_many))
-  ends_read answer t j (inr (inr (inr (o, x, k, full, r, less, same, many, e)))) =
-      let P : List O → List T → Type 0 = λ l rest. HasMore claim.grammar l i.left.tokens rest in
-      let is = all_written written full in
-      subst (Read t j) (sym e) ((c.kept m (Ok o) t x whole r).0, record {
-        stands = tt;
-        fails = inl (
-          many,
-          ap length is ∙ full,
-          subst (λ l. P l j.left.tokens) (sym is)
-              (subst (P os) (sym (ap (λ y. y.left.tokens) same))
-              (has_more c.unique os i.left.tokens m.left.tokens x.left.tokens o each
-              (c.stands m o t x whole r))),
-        );
-      })
+    ends_read : (answer : Answer ℕ) (t : S) (j : Input T)
+        → IntoSliceEnds run too_many asserted (length old) os s m answer t j → Read t j answer
+    unfolding Many
+    ends_read answer t j (inl (x, r, e, same)) =
+        let Q : List T → Type 0 = λ l. AllMatches claim.grammar i.left.tokens os l in
+        subst (Read t j) (sym e) (
+          (c.kept m (Err backtrack) t x whole r).0,
+          record {
+            stands = (
+              os,
+              refl,
+              written,
+              subst Q (sym (ap (λ y. y.left.tokens) same))
+                  (each, omega arith, inr (tt, none_at_backtrack c m t x whole r)),
+            );
+            fails = tt;
+          },
+        )
+    ends_read answer t j (inr (inl (k, r, other, e))) =
+        let may = f.fails m k t j whole r in
+        subst (Read t j) (sym e) (
+          (c.kept m (Err k) t j whole r).0,
+          record {
+            stands = tt;
+            fails = elim ((softly backs f).fails m k t j whole r) [
+              | inl is ↦ inr (is, λ spares. may.wants_none spares is)
+              | inr is ↦ absurd (other is)
+            ];
+          },
+        )
+    ends_read answer t j (inr (inr (inl (o, r, nothing, e)))) =
+        let fewer = takes.fewer m.left.tokens o j.left.tokens (c.stands m o t j whole r) in
+        let as_many = ap length nothing in
+        absurd (omega (arith, fewer, as_many))
+    ends_read answer t j (inr (inr (inr (o, x, k, full, r, less, same, many, e)))) =
+        let P : List O → List T → Type 0 = λ l rest. HasMore claim.grammar l i.left.tokens rest in
+        let is = all_written written full in
+        subst (Read t j) (sym e) (
+          (c.kept m (Ok o) t x whole r).0,
+          record {
+            stands = tt;
+            fails = inl (
+              many,
+              ap length is ∙ full,
+              subst (λ l. P l j.left.tokens) (sym is)
+                  (subst (P os) (sym (ap (λ y. y.left.tokens) same))
+                  (has_more c.unique os i.left.tokens m.left.tokens x.left.tokens o each
+                  (c.stands m o t x whole r))),
+            );
+          },
+        )
 
 -- the clause of a call
 pub into_slice_reads : {S T O : Type 0} {claim : Claim T O} {s : S} {meaning : Meaning S T O}

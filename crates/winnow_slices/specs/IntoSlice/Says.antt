@@ -4,7 +4,7 @@ use Rattle.std.specs.Prelude.{Ok, Err, IfOk}
 use Rattle.std.proofs.Common.{refl, sym, ap, subst, inl, inr, ◌∙◌, arith}
 use Rattle.std.proofs.Math.Nat.{eq-or-lt_of_le}
 use Rattle.streams.specs.Input.{Input}
-use Rattle.streams.specs.Kind.{Kind, backtrack, cut, incomplete, memory}
+use Rattle.streams.specs.Kind.{Kind, backtrack, memory}
 use Rattle.stream_errors.specs.Form.{Answer, ErrorForm, assert_kind}
 use Rattle.stream_errors.specs.Given.{Keeping}
 use Rattle.winnow_core.specs.Outcome.{Outcome, asks, cuts, backs, wants, took, Setting, grown, on_cut}
@@ -182,29 +182,29 @@ into_slice_law {T} {O} {alike = alike} {does} p too_many limit = record {
 -- ---- runs do so
 
 module _ {T O : Type 0} (does : Does T O) (too_many : ℕ → Kind → Type 0) (limit : ℕ) (os : List O)
-    where
-  abbrev EndsDo : Does T (List O)
-  EndsDo = Ends (Some limit) (λ os. Then does (after_items (too_many limit) os))
-      (λ os. Then does (after_items (λ k. ⊥) os)) os
+  where
+    abbrev EndsDo : Does T (List O)
+    EndsDo = Ends (Some limit) (λ os. Then does (after_items (too_many limit) os))
+        (λ os. Then does (after_items (λ k. ⊥) os)) os
 
-  wider : (at : Setting) (tokens : List T) (x : Outcome T O) (y : Outcome T (List O))
-      → ComesOf (after_items (λ k. ⊥) os) at tokens x y
-      → ComesOf (after_items (too_many limit) os) at tokens x y
-  wider at tokens (took o rest) y (inl none) = inl none
-  wider at tokens (took o rest) y (inr (inl (less, never, e))) = absurd never
-  wider at tokens (took o rest) y (inr (inr (less, never, e))) = absurd never
-  wider at tokens (backs place) y c = c
-  wider at tokens (cuts place) y c = c
-  wider at tokens (asks need place) y c = c
-  wider at tokens wants y c = c
+    wider : (at : Setting) (tokens : List T) (x : Outcome T O) (y : Outcome T (List O))
+        → ComesOf (after_items (λ k. ⊥) os) at tokens x y
+        → ComesOf (after_items (too_many limit) os) at tokens x y
+    wider at tokens (took o rest) y (inl none) = inl none
+    wider at tokens (took o rest) y (inr (inl (less, never, e))) = absurd never
+    wider at tokens (took o rest) y (inr (inr (less, never, e))) = absurd never
+    wider at tokens (backs place) y c = c
+    wider at tokens (cuts place) y c = c
+    wider at tokens (asks need place) y c = c
+    wider at tokens wants y c = c
 
-  -- whether an element is left or not
-  either_way : length os ≤ limit → (at : Setting) (tokens : List T) (y : Outcome T (List O))
-      → Then does (after_items (λ k. ⊥) os) at tokens y → EndsDo at tokens y
-  either_way within at tokens y (x, d, c) = elim (eq-or-lt_of_le within) [
-    | inl full ↦ inl (ap Some (sym full), (x, d, wider at tokens x y c))
-    | inr below ↦ inr (below, (x, d, c))
-  ]
+    -- whether an element is left or not
+    either_way : length os ≤ limit → (at : Setting) (tokens : List T) (y : Outcome T (List O))
+        → Then does (after_items (λ k. ⊥) os) at tokens y → EndsDo at tokens y
+    either_way within at tokens y (x, d, c) = elim (eq-or-lt_of_le within) [
+      | inl full ↦ inl (ap Some (sym full), (x, d, wider at tokens x y c))
+      | inr below ↦ inr (below, (x, d, c))
+    ]
 
 module _ {S T O : Type 0} {does : Does T O} {s : S} {meaning : Meaning S T O}
     (part : EachDoes does s meaning) (too_many : ℕ → Kind → Type 0)
@@ -234,10 +234,16 @@ module _ {S T O : Type 0} {does : Does T O} {s : S} {meaning : Meaning S T O}
       did_wider (λ y d. inl (ap Some (sym full), d))
       (back_then {next = after_items (too_many limit) os} (part.did at m (Ok o) t x is r) same
       (inr (elim (soft limit k many) [
-        | inl b ↦ inl (less, subst (too_many limit) b many,
-            gave m.left.tokens (ap (listed os) e ∙ ap Err b))
-        | inr w ↦ inr (less, subst (too_many limit) w many,
-            gave m.left.tokens (ap (listed os) e ∙ ap Err w))
+        | inl b ↦ inl (
+          less,
+          subst (too_many limit) b many,
+          gave m.left.tokens (ap (listed os) e ∙ ap Err b),
+        )
+        | inr w ↦ inr (
+          less,
+          subst (too_many limit) w many,
+          gave m.left.tokens (ap (listed os) e ∙ ap Err w),
+        )
       ])))
 
 -- calls with the outputs as result, for a slice of `limit` elements
