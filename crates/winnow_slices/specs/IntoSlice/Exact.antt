@@ -155,11 +155,13 @@ pub into_slice_reads : {S T O : Type 0} {claim : Claim T O} {s : S} {meaning : M
     → IntoSlice (meaning form) too_many asserted old s i answer new t j
     → (t ≡ s) × ReadsIntoSlice claim.grammar claim.spares_memory too_many old i.left.tokens answer
     new j.left.tokens
-into_slice_reads {S} {claim = claim} {s} {meaning} claimed is backs consumes too_many asserted form old i
+into_slice_reads {S} {claim = claim} {s} {meaning} claimed is backs consumes too_many asserted
+    form old i
     answer new t j whole (os, u, m, chain, written, ends) =
     let c = claimed.exact form is in
     let (same, still, each) = chain_stands c os i u m whole chain.runs in
     let P : S → Type 0 = λ x. IntoSliceEnds (meaning form) too_many asserted (length old) os x m
     answer t j in
-    ends_read claim c (claimed.fails form is) backs (claimed.takes is consumes) too_many asserted written
+    ends_read claim c (claimed.fails form is) backs (claimed.takes is consumes) too_many
+    asserted written
     i m still each answer t j (subst P same ends)

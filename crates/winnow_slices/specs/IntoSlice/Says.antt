@@ -7,7 +7,8 @@ use Rattle.streams.specs.Input.{Input}
 use Rattle.streams.specs.Kind.{Kind, backtrack, memory}
 use Rattle.stream_errors.specs.Form.{Answer, ErrorForm, assert_kind}
 use Rattle.stream_errors.specs.Given.{Keeping}
-use Rattle.winnow_core.specs.Outcome.{Outcome, asks, cuts, backs, wants, took, Setting, grown, on_cut}
+use Rattle.winnow_core.specs.Outcome.{Outcome, asks, cuts, backs, wants, took, Setting, grown}
+use Rattle.winnow_core.specs.Outcome.{on_cut}
 use Rattle.winnow_core.specs.Outcome.{Does, IsFinal, as_longer, both, gave, longer, misused}
 use Rattle.winnow_core.specs.Outcome.{Alike, alike_wants, outcome_of}
 use Rattle.winnow_core.specs.Runs.{Meaning, Runs}
@@ -310,7 +311,8 @@ into_slice_told {s = s} {meaning} said is too_many soft form old i answer new t 
     (os, u, m, answer, chain, within_slice written, refl, ends) in record {
       outputs = os;
       written = written;
-      counted = count_of (meaning form) too_many (assert_kind form) (length old) os u m answer t j ends;
+      counted = count_of (meaning form) too_many (assert_kind form) (length old) os u m answer t
+          j ends;
       tells = told lists is form i (listed os answer) t j ran;
       kept = kept_by lists is form i (listed os answer) t j ran;
     }
