@@ -42,7 +42,7 @@ PAGES = [
         "Repetition",
         "combinator",
         "repeat Repeat repeat_till separated separated_foldl1 separated_foldr1 fill iterator "
-        "ParserIterator",
+        "ParserIterator repeat_into_slice TooMany",
     ),
     (
         "combinator_expression",

@@ -5,6 +5,7 @@ mod iterators;
 mod repeat;
 mod repeat_till;
 mod separated;
+mod slices;
 
 use std::fmt::Debug;
 use std::process::Abort;

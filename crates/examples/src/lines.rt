@@ -9,6 +9,10 @@ ghost use Rattle.winnow.specs.Bytes.{bytes_input, bytes_reading};
 ghost use Rattle.examples.specs.Lines.InWords.{IsLetter, LetterLines, SameLetters};
 ghost use Rattle.examples.specs.Lines.Lines.{AreLines, IsLine, line_takes, unique_line};
 ghost use Rattle.winnow.specs.Exact.{Reads};
+ghost use Rattle.winnow.specs.Form.{answer_by};
+ghost use Rattle.winnow.specs.Given.{always_kept};
+ghost use Rattle.winnow.specs.IntoSlice.{TooManyKind};
+ghost use Rattle.winnow.specs.IntoSlice.Exact.{ReadsIntoSlice};
 ghost use Rattle.winnow.specs.Exact.Whole.{ReadsAll};
 ghost use Rattle.winnow.specs.Texts.{NotFirst};
 ghost use Rattle.winnow.specs.Back.{ReadsBack};
@@ -16,7 +20,7 @@ ghost use Rattle.winnow.specs.Told.{IsTextOf, ReadsText};
 
 use std::alloc::Allocator;
 use winnow::Parser;
-use winnow::combinator::{alt, repeat, terminated};
+use winnow::combinator::{alt, repeat, repeat_into_slice, terminated};
 use winnow::error::{EmptyError, ErrMode, HasKind, ParseFault, ParserError};
 use winnow::exact::Rule;
 use winnow::stream::Range;
@@ -73,6 +77,33 @@ pub fn read_lines<'i, A: Allocator + Copy>(
         (NotFirst IsLetter) (bytes_input input.old.now) result (bytes_input input.new.now) }
 {
     repeat(alloc, Range::from(0..), Line.by(read_line)).read(input)
+}
+
+/// Parses as many consecutive lines as match, stores their letters in the first elements of
+/// `letters`, and returns their number. It does not allocate.
+///
+/// If there are more lines than elements, it backtracks, and the input is left before the first
+/// line that has no element.
+///
+/// ```
+/// use examples::lines::store_lines;
+///
+/// let mut letters = *b"--";
+/// let mut input = b"y\n-".as_slice();
+/// assert_eq!(rt; store_lines(&mut input, &mut letters), Ok(1));
+/// assert_eq!(rt; letters, *b"y-");
+/// let mut input = b"y\nn\ny\n".as_slice();
+/// assert!(rt; store_lines(&mut input, &mut letters).is_err());
+/// assert_eq!(rt; input, b"y\n".as_slice());
+/// ```
+pub fn store_lines<'i>(
+    input: &mut &'i [u8],
+    letters: &mut [u8],
+) -> Result<usize, ErrMode<EmptyError>>
+    ensures { ReadsIntoSlice IsLine ⊥ (TooManyKind (λ _. always_kept)) letters.old input.old.now
+        (answer_by ⟦<ErrMode<EmptyError> as HasKind>⟧.kind result) letters.new input.new.now }
+{
+    repeat_into_slice(input, &mut Line.by(read_line), letters)
 }
 
 /// Parses all of the bytes as lines, and returns their letters, in order. Otherwise the error holds

@@ -208,6 +208,8 @@ pub use Rattle.winnow_repeat.specs.RepeatLaws
 pub use Rattle.winnow_repeat.specs.RepeatTill
 pub use Rattle.winnow_repeat.specs.TryFold
 pub use Rattle.winnow_repeat.specs.VerifyFold
+-- Repetition into a slice of the caller, without allocating.
+pub use Rattle.winnow_slices.specs.IntoSlice
 -- Elements with separators between them, collected in an accumulator or joined to the left or the
 -- right.
 pub use Rattle.winnow_separated.specs.FoldLaws

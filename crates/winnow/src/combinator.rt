@@ -14,3 +14,4 @@ pub use winnow_expression::combinator::{
 };
 pub use winnow_repeat::combinator::{ParserIterator, fill, iterator, repeat, repeat_till};
 pub use winnow_separated::combinator::{separated, separated_foldl1, separated_foldr1};
+pub use winnow_slices::combinator::{TooMany, repeat_into_slice};

@@ -1,0 +1,115 @@
+//! Combinators, as in winnow's documentation: repetition into a slice.
+#![tactic(auto, using(streams::specs::Ends::ends_follow))]
+
+ghost use Rattle.std.specs.Prelude.{◌≡◌, false};
+ghost use Rattle.stream_errors.specs.Form.{answer_by, assert_kind};
+ghost use Rattle.streams.specs.Input.{IsEndOf};
+ghost use Rattle.winnow_slices.specs.IntoSlice.{IntoSlice, TooManyKind};
+ghost use Rattle.winnow_slices.specs.IntoSlice.Exact.{ReadsIntoSlice};
+ghost use Rattle.winnow_slices.specs.IntoSlice.Says.{TellsIntoSlice};
+
+use stream_errors::external::FromExternalError;
+use stream_errors::parser_error::ParserError;
+use streams::stream::Stream;
+use winnow_core::parser::Parser;
+
+/// The error for an output without an element of the slice, which has `limit` elements.
+#[derive(Clone, Copy, PartialEq, Eq, Debug)]
+pub struct TooMany {
+    /// The number of elements.
+    pub limit: usize,
+}
+
+/// Runs `parser` repeatedly, stores the outputs in the first elements of `slice`, and returns their
+/// number.
+///
+/// It ends before an item that backtracks. Another error of an item is returned unchanged. An item
+/// that consumes no input is an assert error.
+///
+/// If an item succeeds and no element is left, the error is made from [`TooMany`], as
+/// [`FromExternalError`] specifies. It backtracks, and the input is left before that item.
+///
+/// After every result the outputs of the items before are in the first elements, in order. The
+/// other elements are unchanged. It does not allocate.
+///
+/// ```
+/// let mut letters = ['-', '-', '-'];
+/// let mut input = "aab";
+/// let answer: Result<usize, EmptyError> = repeat_into_slice(&mut input, &mut 'a', &mut letters);
+/// assert_eq!(rt; answer, Ok(2));
+/// assert_eq!(rt; input, "b");
+/// assert_eq!(rt; letters, ['a', 'a', '-']);
+/// ```
+pub fn repeat_into_slice<P, I, O, E>(
+    input: &mut I,
+    parser: &mut P,
+    slice: &mut [O],
+) -> Result<usize, E>
+where
+    P: Parser<I, O, E>,
+    I: Stream,
+    O: Drop,
+    E: ParserError<I> + FromExternalError<I, TooMany>,
+    requires { P.can_parse parser.old }
+    ensures again { P.can_parse parser.new }
+    ensures ran { IntoSlice (P.meaning E.form) (TooManyKind E.external_gives) (assert_kind E.form)
+        slice.old (P.state parser.old) (I.view input.old) (answer_by E.kind result) slice.new
+        (P.state parser.new) (I.view input.new) }
+    ensures ends { IsEndOf I.reading (I.view input.new) (I.view input.old) }
+    ensures tells { (P.says (P.state parser.old)).premise
+        → TellsIntoSlice (P.says (P.state parser.old)) (TooManyKind E.external_gives) E.form
+        slice.old (P.state parser.old) (I.view input.old) (answer_by E.kind result) slice.new
+        (P.state parser.new) (I.view input.new) }
+    ensures reads { (P.claim (P.state parser.old)).premise
+        → (P.claim (P.state parser.old)).backtracks → (P.claim (P.state parser.old)).consumes
+        → (I.view input.old).status.cut ≡ false
+        → (P.state parser.new ≡ P.state parser.old)
+        × ReadsIntoSlice (P.claim (P.state parser.old)).grammar
+        (P.claim (P.state parser.old)).spares_memory (TooManyKind E.external_gives) slice.old
+        (I.view input.old).left.tokens (answer_by E.kind result) slice.new
+        (I.view input.new).left.tokens }
+{
+    write_items(input, parser, slice)
+}
+
+/// The loop of [`repeat_into_slice`].
+fn write_items<P, I, O, E>(input: &mut I, parser: &mut P, slice: &mut [O]) -> Result<usize, E>
+where
+    P: Parser<I, O, E>,
+    I: Stream,
+    O: Drop,
+    E: ParserError<I> + FromExternalError<I, TooMany>,
+    requires { P.can_parse parser.old }
+    ensures again { P.can_parse parser.new }
+    ensures ran { IntoSlice (P.meaning E.form) (TooManyKind E.external_gives) (assert_kind E.form)
+        slice.old (P.state parser.old) (I.view input.old) (answer_by E.kind result) slice.new
+        (P.state parser.new) (I.view input.new) }
+    ensures ends { IsEndOf I.reading (I.view input.new) (I.view input.old) }
+{
+    let mut count = 0;
+    'items: loop {
+        let start = input.checkpoint();
+        let left = input.eof_offset();
+        match parser.parse_next(input) {
+            Ok(output) => {
+                if input.eof_offset() == left {
+                    return Err(E::assert(input, "each item must consume"));
+                }
+                if count == slice.len() {
+                    input.reset(&start);
+                    let error = TooMany { limit: count };
+                    return Err(E::from_external_error(input, error));
+                }
+                slice[count] = output;
+                count += 1;
+            }
+            Err(error) => {
+                if error.is_backtrack() {
+                    input.reset(&start);
+                    return Ok(count);
+                }
+                return Err(error);
+            }
+        }
+    }
+}
