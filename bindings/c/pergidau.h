@@ -1066,17 +1066,17 @@ struct pergidau_toml_value {
     /*
      * The span of its own bytes in the text: those of a string, with its escapes undone; of a
      * float, without underscores, as -1.5e+3, inf and nan; or the digits of the fraction of a
-     * second. Other values have no bytes.
+     * second. Other values have no bytes. The offset of no bytes is 0.
      */
     struct pergidau_span text;
 };
 
-/* A node: what there is at a path of a document. */
+/*
+ * A node: what there is at a path of a document. The first is the root table, which is in
+ * none.
+ */
 struct pergidau_toml_node {
-    /*
-     * The number of the table or array that it is in. That of the first node, which is in
-     * none, is 0.
-     */
+    /* The number of the table or array that it is in; 0 of the first node. */
     size_t parent;
     /* The number of the first node in it, or 0 where there is none. */
     size_t first;
@@ -1085,8 +1085,8 @@ struct pergidau_toml_node {
     /* The number of elements before it in its array; 0 in a table. */
     size_t index;
     /*
-     * The span of its name in its table, with quotes and escapes undone. In an array it has no
-     * bytes.
+     * The span of its name in its table, with quotes and escapes undone. Elements of an array
+     * and the first node have no bytes here. The offset of no bytes is 0.
      */
     struct pergidau_span name;
     /* The value of a node. */
