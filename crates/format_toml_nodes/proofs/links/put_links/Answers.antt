@@ -42,7 +42,9 @@ returns g c =
       grows = i.grows;
       keeps = i.keeps;
       leads = λ tree path holds fits.
-          let (stay, below) = i.leads tree path holds (omega (arith, i.grows.same, fits)) in
-          (stay, λ k s h. below k s
-          (omega (arith, slice_get_within slots k s h, c.loop-parent-test.false)) h);
+          let (stay, below) = i.leads tree path holds (omega (arith, i.grows.same, fits)) in (
+            stay,
+            λ k s h. below k s
+                (omega (arith, slice_get_within slots k s h, c.loop-parent-test.false)) h,
+          );
     }
