@@ -298,12 +298,12 @@ FAULTS = [
     ),
     *of(
         RUST + "dns.rs",
-        ("a question is returned twice", "impl<'m> Iterator for Questions", "Ok(question) => self.end = question.end(),", "Ok(_) => (),"),
-        ("questions continue after an error", "impl<'m> Iterator for Questions", "Err(_) => self.left = 0,", "Err(_) => (),"),
+        ("a DNS entry is returned twice", "impl<'m> Entries", "Ok(entry) => self.end = end(entry),", "Ok(_) => (),"),
+        ("DNS entries continue after an error", "impl<'m> Entries", "Err(_) => self.left = [0; 3],", "Err(_) => (),"),
         ("sections are swapped", "const SECTIONS", "Section::Authority, Section::Additional", "Section::Additional, Section::Authority"),
-        ("a DNS record is returned twice", "impl<'m> Iterator for Records", "self.questions.end = record.end();", ""),
-        ("DNS records continue after an error", "impl<'m> Iterator for Records", "self.left = [0; 3];", ""),
-        ("the counts of two sections are swapped", "pub fn records", "left: [answer_count, authority_count,", "left: [authority_count, answer_count,"),
+        ("records begin at the questions", "impl<'m> Iterator for Records", "end.max(questions.0.end)", "end"),
+        ("an error of a question is ignored", "impl<'m> Iterator for Records", "Some(error) => Err(error)", "Some(_) => Record::at(bytes, end)"),
+        ("the counts of two sections are swapped", "pub fn records", "left = [answer_count, authority_count,", "left = [authority_count, answer_count,"),
     ),
     *of(
         RUST + "dns/name.rs",

@@ -12,6 +12,9 @@
  * Functions keep no state except in the caller's memory: calls may run in parallel. Memory
  * that a function allocates with malloc is freed before it returns.
  *
+ * After PERGIDAU_DONE, what follows the results in a buffer may be overwritten, unless the
+ * function documents that it is unchanged.
+ *
  * Memory and stack of calls are measured on inputs made to be expensive
  * (bindings/tests/cost.c), not proved. Memory is the maximum held at once, two blocks while
  * one grows. At a depth of 512 a call used up to 107 KiB of stack, for TOML 508 KiB, and a
@@ -1066,17 +1069,17 @@ struct pergidau_toml_value {
     /*
      * The span of its own bytes in the text: those of a string, with its escapes undone; of a
      * float, without underscores, as -1.5e+3, inf and nan; or the digits of the fraction of a
-     * second. Other values have no bytes.
+     * second. Other values have no bytes. The offset of no bytes is 0.
      */
     struct pergidau_span text;
 };
 
-/* A node: what there is at a path of a document. */
+/*
+ * A node: what there is at a path of a document. The first is the root table, which is in
+ * none.
+ */
 struct pergidau_toml_node {
-    /*
-     * The number of the table or array that it is in. That of the first node, which is in
-     * none, is 0.
-     */
+    /* The number of the table or array that it is in; 0 of the first node. */
     size_t parent;
     /* The number of the first node in it, or 0 where there is none. */
     size_t first;
@@ -1085,8 +1088,8 @@ struct pergidau_toml_node {
     /* The number of elements before it in its array; 0 in a table. */
     size_t index;
     /*
-     * The span of its name in its table, with quotes and escapes undone. In an array it has no
-     * bytes.
+     * The span of its name in its table, with quotes and escapes undone. Elements of an array
+     * and the first node have no bytes here. The offset of no bytes is 0.
      */
     struct pergidau_span name;
     /* The value of a node. */

@@ -1,6 +1,26 @@
 /* Checks the properties of the nodes of TOML documents that callers rely on, on random bytes. Included
  * by `fuzz.c`, after the helpers that it uses. */
 
+/* Checks that the fields of a node that it does not use are 0. */
+static void look_at_unused(const uint8_t *bytes, size_t length, size_t number,
+                           const struct pergidau_toml_node *node)
+{
+    const struct pergidau_toml_value *it = &node->value;
+    enum pergidau_toml_kind kind = it->kind;
+    bool dated = kind >= PERGIDAU_TOML_OFFSET_DATE_TIME && kind <= PERGIDAU_TOML_LOCAL_DATE;
+    bool timed = kind >= PERGIDAU_TOML_OFFSET_DATE_TIME && kind != PERGIDAU_TOML_LOCAL_DATE;
+    bool spelled = kind == PERGIDAU_TOML_STRING || kind == PERGIDAU_TOML_FLOAT || timed;
+    HOLDS(dated || (it->year == 0 && it->month == 0 && it->day == 0));
+    HOLDS(timed || (it->hour == 0 && it->minute == 0 && it->second == 0));
+    HOLDS(kind == PERGIDAU_TOML_OFFSET_DATE_TIME || it->offset == 0);
+    HOLDS(kind == PERGIDAU_TOML_INTEGER || kind == PERGIDAU_TOML_BOOLEAN || it->integer == 0);
+    HOLDS((spelled && it->text.length > 0) || (it->text.offset == 0 && it->text.length == 0));
+    HOLDS(node->is_element || node->index == 0);
+    HOLDS(node->name.length > 0 || node->name.offset == 0);
+    HOLDS((number > 0 && !node->is_element) || node->name.length == 0);
+    HOLDS(number > 0 || (node->parent == 0 && node->next == 0 && !node->is_element));
+}
+
 /* Checks the links of a node to its neighbours, and the spans of its texts. */
 static void look_at_node(const uint8_t *bytes, size_t length, size_t number,
                          const struct pergidau_toml_node *nodes, size_t count, size_t text)
@@ -9,9 +29,9 @@ static void look_at_node(const uint8_t *bytes, size_t length, size_t number,
     HOLDS(node->parent < count && node->first < count && node->next < count);
     HOLDS(within(node->name, text) && within(node->value.text, text));
     HOLDS(node->value.kind <= PERGIDAU_TOML_LOCAL_TIME);
-    HOLDS(number == 0 ? node->parent == 0 : node->parent < number);
+    HOLDS(number == 0 ? node->value.kind == PERGIDAU_TOML_TABLE : node->parent < number);
+    look_at_unused(bytes, length, number, node);
     if (number == 0) {
-        HOLDS(node->value.kind == PERGIDAU_TOML_TABLE && node->next == 0);
         return;
     }
     const struct pergidau_toml_node *above = &nodes[node->parent];

@@ -59,7 +59,7 @@ impl<'m> Message<'m> {
 
     /// Returns the questions, as many as the header counts. An error is the last item.
     pub fn questions(&self) -> Questions<'m> {
-        Questions { bytes: self.bytes, end: 12, left: self.header.question_count }
+        Questions(Entries { bytes: self.bytes, end: 12, left: [self.header.question_count, 0, 0] })
     }
 
     /// Returns the records of the three sections, as many as the header counts, each with its section.
@@ -78,10 +78,8 @@ impl<'m> Message<'m> {
     /// ```
     pub fn records(&self) -> Records<'m> {
         let Header { answer_count, authority_count, additional_count, .. } = self.header;
-        Records {
-            questions: self.questions(),
-            left: [answer_count, authority_count, additional_count],
-        }
+        let left = [answer_count, authority_count, additional_count];
+        Records { questions: self.questions(), records: Entries { left, ..self.questions().0 } }
     }
 }
 
@@ -217,28 +215,6 @@ impl<'m> Record<'m> {
     }
 }
 
-/// The questions of a message.
-#[derive(Clone, Debug)]
-pub struct Questions<'m> {
-    bytes: &'m [u8],
-    end: usize,
-    left: u16,
-}
-
-impl<'m> Iterator for Questions<'m> {
-    type Item = Result<Question<'m>, Error>;
-
-    fn next(&mut self) -> Option<Result<Question<'m>, Error>> {
-        self.left = self.left.checked_sub(1)?;
-        let question = Question::at(self.bytes, self.end);
-        match &question {
-            Ok(question) => self.end = question.end(),
-            Err(_) => self.left = 0,
-        }
-        Some(question)
-    }
-}
-
 /// A section of records.
 #[derive(Clone, Copy, Debug, PartialEq, Eq)]
 pub enum Section {
@@ -250,31 +226,63 @@ pub enum Section {
     Additional,
 }
 
+/// Entries of a message, in sequence.
+#[derive(Clone, Debug)]
+struct Entries<'m> {
+    bytes: &'m [u8],
+    end: usize,
+    /// (of each section, how many are left)
+    left: [u16; 3],
+}
+
+impl<'m> Entries<'m> {
+    /// Parses the next entry with `at`, and returns it with its section. An error is the last item.
+    fn next<E>(
+        &mut self,
+        at: impl FnOnce(&'m [u8], usize) -> Result<E, Error>,
+        end: fn(&E) -> usize,
+    ) -> Option<Result<(Section, E), Error>> {
+        const SECTIONS: [Section; 3] = [Section::Answer, Section::Authority, Section::Additional];
+        let (section, left) = SECTIONS.iter().zip(&mut self.left).find(|(_, left)| **left > 0)?;
+        *left -= 1;
+        let entry = at(self.bytes, self.end);
+        match &entry {
+            Ok(entry) => self.end = end(entry),
+            Err(_) => self.left = [0; 3],
+        }
+        Some(entry.map(|entry| (*section, entry)))
+    }
+}
+
+/// The questions of a message.
+#[derive(Clone, Debug)]
+pub struct Questions<'m>(Entries<'m>);
+
+impl<'m> Iterator for Questions<'m> {
+    type Item = Result<Question<'m>, Error>;
+
+    fn next(&mut self) -> Option<Result<Question<'m>, Error>> {
+        let question = self.0.next(Question::at, Question::end)?;
+        Some(question.map(|(_, question)| question))
+    }
+}
+
 /// The records of a message.
 #[derive(Clone, Debug)]
 pub struct Records<'m> {
-    /// (its end is that of the last record)
     questions: Questions<'m>,
-    left: [u16; 3],
+    records: Entries<'m>,
 }
 
 impl<'m> Iterator for Records<'m> {
     type Item = Result<(Section, Record<'m>), Error>;
 
     fn next(&mut self) -> Option<Result<(Section, Record<'m>), Error>> {
-        const SECTIONS: [Section; 3] = [Section::Answer, Section::Authority, Section::Additional];
-        let failed = self.questions.by_ref().find_map(Result::err);
-        let (section, left) = SECTIONS.iter().zip(&mut self.left).find(|(_, left)| **left > 0)?;
-        *left -= 1;
-        match failed.map_or_else(|| Record::at(self.questions.bytes, self.questions.end), Err) {
-            Ok(record) => {
-                self.questions.end = record.end();
-                Some(Ok((*section, record)))
-            }
-            Err(error) => {
-                self.left = [0; 3];
-                Some(Err(error))
-            }
-        }
+        let questions = &mut self.questions;
+        let at = |bytes, end: usize| match questions.find_map(Result::err) {
+            None => Record::at(bytes, end.max(questions.0.end)),
+            Some(error) => Err(error),
+        };
+        self.records.next(at, Record::end)
     }
 }

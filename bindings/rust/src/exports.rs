@@ -1072,16 +1072,15 @@ pub struct TomlValue {
     pub integer: i64,
     /// The span of its own bytes in the text: those of a string, with its escapes undone; of a
     /// float, without underscores, as `-1.5e+3`, `inf` and `nan`; or the digits of the fraction of
-    /// a second. Other values have no bytes.
+    /// a second. Other values have no bytes. The offset of no bytes is 0.
     pub text: Span,
 }
 
-/// A node: what there is at a path of a document.
+/// A node: what there is at a path of a document. The first is the root table, which is in none.
 #[repr(C)]
 #[derive(Clone, Copy, Debug, Default, PartialEq, Eq)]
 pub struct TomlNode {
-    /// The number of the table or array that it is in. That of the first node, which is in none,
-    /// is 0.
+    /// The number of the table or array that it is in; 0 of the first node.
     pub parent: usize,
     /// The number of the first node in it, or 0 where there is none.
     pub first: usize,
@@ -1089,8 +1088,8 @@ pub struct TomlNode {
     pub next: usize,
     /// The number of elements before it in its array; 0 in a table.
     pub index: usize,
-    /// The span of its name in its table, with quotes and escapes undone. In an array it has no
-    /// bytes.
+    /// The span of its name in its table, with quotes and escapes undone. Elements of an array and
+    /// the first node have no bytes here. The offset of no bytes is 0.
     pub name: Span,
     /// The value of a node.
     pub value: TomlValue,

@@ -9,13 +9,13 @@ use Rattle.std.specs.Map.{lookup}
 use Rattle.std.specs.Ordering.{nat_cmp}
 use Rattle.std.proofs.Common.{refl, sym, ap, subst, inl, inr, ◌∙◌, arith}
 use Rattle.std.proofs.lemmas.Option.{get_or_from_slice_get, slice_get_within}
-use Rattle.format_toml_nodes.specs.Laying.{ChangesAt, InParent, IsNamedAs, Puts, name_len}
-use Rattle.format_toml_nodes.specs.Laying.{names_len, total}
-use Rattle.format_toml_nodes.specs.Nodes.{StandsAt}
+use Rattle.format_toml_nodes.specs.Laying.{ChangesAt, Fits, InParent, IsNamedAs, Puts}
+use Rattle.format_toml_nodes.specs.Laying.{name_len, names_len, total}
+use Rattle.format_toml_nodes.specs.Nodes.{IsIn}
 use Rattle.format_toml_nodes.specs.declared.node.Span.{Span}
 use Rattle.format_toml_nodes.specs.declared.node.TomlNode.{TomlNode}
-use Rattle.format_toml_nodes.proofs.Changes.{named_here, named_others}
-use Rattle.format_toml_nodes.proofs.Texts.{stands_put}
+use Rattle.format_toml_nodes.proofs.Changes.{changed_here, changed_others}
+use Rattle.format_toml_nodes.proofs.Texts.{in_more, stands_put}
 use Rattle.format_toml_tree.specs.Holds.{Holds, find}
 use Rattle.format_toml_tree.specs.Paths.{Path, named}
 use Rattle.format_toml_tree.specs.Runs.{Tree}
@@ -63,7 +63,7 @@ module _ {A : Type 0} (slots : List (Slot A)) (parent at : ℕ) (old : List ℕ)
   module _ (within : parent < length slots) (e : Bor (List ℕ) × ℕ)
       (others left : List (Bor (List ℕ) × ℕ)) (is : left ≡ e ∷ others) (found : FoundSo left)
       (place : Span) (nodes after : List TomlNode) (buffer : List ℕ) (end next : ℕ)
-      (new : List ℕ) (begins : place.offset ≡ end) (ends : place.length ≡ length e.0.now)
+      (new : List ℕ) (is_place : Fits e.0.now end place)
       (changes : ChangesAt (IsNamedAs parent place) e.1 nodes after)
       (puts : Puts e.0.now end buffer next new) where
     pub name_more : NamesSo left end buffer nodes → NamesSo others next new after
@@ -72,24 +72,31 @@ module _ {A : Type 0} (slots : List (Slot A)) (parent at : ℕ) (old : List ℕ)
         let (stay, names) = so tree path holds (omega (arith, puts.up, room)) s g in
         let here : path e.1 ≡ named e.0.now ∷ path parent =
         (holds.found parent s g e.0.now e.1 (found s g 0 e (ap (λ l. slice_get l 0) is))).1 in
-        let stands = stands_put e.0.now end buffer next new place puts room begins ends in
-        let text = sym (puts.there room) in
-        let T : List ℕ → ℕ → Type 0 = λ l j. InParent l path (length slots) after j in
-        let others_so : (j : ℕ) → InParent (take end buffer) path (length slots) nodes j
-        → InParent (take next new) path (length slots) after j = λ j leads.
-        subst (λ l. T l j) text (named_others (take end buffer) path (length slots)
-        parent within place e.1 nodes after e.0.now
-        e.0.now changes (subst (λ l. StandsAt l place e.0.now) (sym text) stands) here j leads)
-        in (
+        let count = length slots in
+        let text = take next new in
+        let is_in = IsNamedAs parent place in
+        let leads : (was it : TomlNode) → is_in was it → IsIn text path count (path e.1) it =
+        λ was it same. subst (λ p. IsIn text path count p it) (sym here)
+        (subst (λ n. IsIn text path count (named e.0.now ∷ path parent) n) (sym same) (
+          within,
+          refl,
+          stands_put e.0.now end buffer next new place puts room is_place,
+          refl,
+          refl,
+        )) in
+        let grows : (p : Path) (it : TomlNode) → IsIn (take end buffer) path count p it
+        → IsIn text path count p it = λ p it was.
+        subst (λ l. IsIn l path count p it) (sym (puts.there room))
+        (in_more (take end buffer) e.0.now path count p it was) in
+        let others_so = changed_others (take end buffer) text path count e.1 is_in nodes after
+        changes leads grows in (
           λ j leads. others_so j (stay j leads),
           λ name j f. elim (names name j f) [
             | inl h ↦ elim (find_more name e others j (ap (λ l. find_in l name) (sym is) ∙ h)) [
               | inl same
-                  ↦ inr (subst (λ i. InParent (take next new) path (length slots) after i) same
-                  (subst (λ l. T l e.1) text (named_here (take end buffer) path (length slots)
-                  parent within place e.1 nodes after
-                  e.0.now e.0.now changes
-                  (subst (λ l. StandsAt l place e.0.now) (sym text) stands) here)))
+                  ↦ inr (subst (λ i. InParent text path count after i) same
+                  (changed_here (take end buffer) text path count e.1 is_in nodes after
+                  changes leads grows))
               | inr more ↦ inl more
             ]
             | inr leads ↦ inr (others_so j leads)

@@ -12,11 +12,12 @@ use Rattle.format_toml_tree.specs.Added.{some_there}
 same_some : {x y : TomlNode} → Some x ≡ Some y → x ≡ y
 same_some e = cc
 
-same_stays : (it : TomlNode) → Stays it it
-same_stays it = (refl, refl, refl, refl, refl)
-
 then_stays : (a b c : TomlNode) → Stays a b → Stays b c → Stays a c
-then_stays a b c (v, p, n, i, e) (w, q, m, j, f) = (w ∙ v, q ∙ p, m ∙ n, j ∙ i, f ∙ e)
+then_stays a b c e f =
+    f ∙ ap {A = TomlNode} (λ n. record n { first = c.first; next = c.next }) e
+
+same_stays : (was it : TomlNode) → it ≡ was → Stays was it
+same_stays was it e = ap {A = TomlNode} (λ n. record n { first = it.first; next = it.next }) e
 
 stays_then : {a b c : List TomlNode} → Each Stays a b → Each Stays b c → Each Stays a c
 stays_then first then = record {
@@ -32,14 +33,14 @@ stays_then first then = record {
 pub parent_was : {old new : List TomlNode} → Each Stays old new → (k i : ℕ) → HasParent new k i
     → HasParent old k i
 parent_was stays k i (it, g, e) =
-    let (was, h, s) = stays.each k it g in (was, h, sym s.1 ∙ e)
+    let (was, h, s) = stays.each k it g in (was, h, sym (ap (λ n. n.parent) s) ∙ e)
 
 pub parent_is : {old new : List TomlNode} → Each Stays old new → (k i : ℕ) → HasParent old k i
     → HasParent new k i
 parent_is {old} {new} stays k i (was, g, e) =
     let (it, h) = some_there new k (omega (arith, stays.same, slice_get_within old k was g)) in
     let (other, f, s) = stays.each k it h in
-    (it, h, s.1 ∙ ap (λ n. n.parent) (same_some (sym f ∙ g)) ∙ e)
+    (it, h, ap (λ n. n.parent) s ∙ ap (λ n. n.parent) (same_some (sym f ∙ g)) ∙ e)
 
 pub first_stays : {old new : List TomlNode} → Each Stays old new → (i from r : ℕ)
     → IsFirstIn old i from r → IsFirstIn new i from r
@@ -75,14 +76,29 @@ module _ (number parent next : ℕ) (old mid new : List TomlNode) (node above : 
 
   both : (j : ℕ) (it : TomlNode) → slice_get new j ≡ Some it → Both j it
   both j it g = elim (two.each j it g) [
-    | inl (a, (m, h, (s, f, n))) ↦ elim (one.each j m h) [
-      | inl (b, (was, i, (t, e, o))) ↦
-          (was, i, then_stays was m it t s, inl (a, f), inl (b, n ∙ o))
-      | inr (b, i) ↦ (m, i, s, inl (a, f), inr (b, n))
-    ]
+    | inl (a, (m, h, s)) ↦
+        let f = ap (λ n. n.first) s in
+        let n = ap (λ n. n.next) s in
+        let over = same_stays (record m { first = number }) it s in
+        elim (one.each j m h) [
+          | inl (b, (was, i, t)) ↦ (
+            was,
+            i,
+            then_stays was m it (same_stays (record was { next = next }) m t) over,
+            inl (a, f),
+            inl (b, n ∙ ap (λ x. x.next) t),
+          )
+          | inr (b, i) ↦ (m, i, over, inl (a, f), inr (b, n))
+        ]
     | inr (a, h) ↦ elim (one.each j it h) [
-      | inl (b, (was, i, (t, e, o))) ↦ (was, i, t, inr (a, e), inl (b, o))
-      | inr (b, i) ↦ (it, i, same_stays it, inr (a, refl), inr (b, refl))
+      | inl (b, (was, i, t)) ↦ (
+        was,
+        i,
+        same_stays (record was { next = next }) it t,
+        inr (a, ap (λ n. n.first) t),
+        inl (b, ap (λ n. n.next) t),
+      )
+      | inr (b, i) ↦ (it, i, refl, inr (a, refl), inr (b, refl))
     ]
   ]
 
@@ -105,7 +121,7 @@ module _ (number parent next : ℕ) (old mid new : List TomlNode) (node above : 
     next = λ it g within.
         let (was, i, s, f, n) = both number it g in
         let q : it.parent ≡ parent =
-        s.1 ∙ ap (λ x. x.parent) (same_some (sym i ∙ at)) ∙ in_it in
+        ap (λ x. x.parent) s ∙ ap (λ x. x.parent) (same_some (sym i ∙ at)) ∙ in_it in
         elim n [
           | inl (b, e) ↦ (above, ap (λ m. slice_get old m) q ∙ over, e ∙ is_next)
           | inr (b, e) ↦ absurd (b refl)
@@ -123,7 +139,7 @@ pub joins_none : (number : ℕ) (old : List TomlNode) (node : TomlNode)
     → slice_get old number ≡ Some node → length old ≤ node.parent → JoinsOne number old old
 joins_none number old node at past = record {
   same = refl;
-  stays = record { same = refl; each = λ j it g. (it, g, same_stays it) };
+  stays = record { same = refl; each = λ j it g. (it, g, refl) };
   first = λ j it g. inr (
     λ has.
         let e : node.parent ≡ j = ap (λ x. x.parent) (same_some (sym at ∙ has.1)) ∙ has.2 in
@@ -180,11 +196,15 @@ module _ (p : ℕ) (old nodes new : List TomlNode) (joins : JoinsFrom (p + 1) ol
       | inr more ↦
           let (was, h, e) = one.others j it (λ same. omega (arith, same, more)) g in
           let (mid, i, s) = one.stays.each j it g in
-          let q : it.parent ≡ was.parent = s.1 ∙ ap (λ x. x.parent) (same_some (sym i ∙ h)) in
+          let q : it.parent ≡ was.parent =
+          ap (λ x. x.parent) s ∙ ap (λ x. x.parent) (same_some (sym i ∙ h)) in
           let P : ℕ → Type 0 = λ n. IsFirstIn old n (j + 1) it.next in
           subst P (sym q) (subst (λ n. IsFirstIn old was.parent (j + 1) n) (sym e)
           (joins.nexts j was more h (omega (arith, within, q))))
     ];
+    others = λ j it less g.
+        let (was, h, e) = one.others j it (λ same. omega (arith, same, less)) g in
+        e ∙ joins.others j was (omega (arith, less)) h;
   }
 
 pub joins_end : (from : ℕ) (old nodes : List TomlNode) → JoinsFrom from old nodes → from ≤ 1
@@ -194,6 +214,8 @@ joins_end zero old nodes joins few none = record {
   firsts = λ j it g.
       absurd (omega (arith, slice_get_within nodes j it g, joins.stays.same, none refl));
   nexts = λ j it le g within. absurd (omega (arith, within, none refl));
+  others = λ j it less g.
+      absurd (omega (arith, slice_get_within nodes j it g, joins.stays.same, none refl));
 }
 joins_end (suc zero) old nodes joins few none = joins
 joins_end (suc (suc n)) old nodes joins few none = absurd (omega (arith, few))

@@ -2,8 +2,8 @@
 use Rattle.std.specs.Prelude.{◌≡◌, ℕ, ◌+◌, ◌<◌, ◌≤◌}
 use Rattle.std.specs.Prelude.{List, length, set, slice_get, Some, take}
 use Rattle.std.proofs.Common.{sym, ap, subst, inl, inr, ◌∙◌, arith}
-use Rattle.format_toml_nodes.specs.Laying.{Puts}
-use Rattle.format_toml_nodes.specs.Nodes.{IsValueOf, Shows, text_of}
+use Rattle.format_toml_nodes.specs.Laying.{Fits, Puts, alone}
+use Rattle.format_toml_nodes.specs.Nodes.{Shows, text_of, value_of}
 use Rattle.format_toml_nodes.specs.declared.node.TomlNode.{TomlNode}
 use Rattle.format_toml_nodes.proofs.Texts.{shows_more, stands_put}
 use Rattle.format_toml_tree.specs.Holds.{node_at}
@@ -22,21 +22,21 @@ module _ {A : Type 0} (slots : List (Slot A)) where
 
   abbrev pub ApartSo : ℕ → List TomlNode → Type 0
   ApartSo place nodes = (k : ℕ) (it : TomlNode) → k < place → slice_get nodes k ≡ Some it
-      → it.first ≡ 0
+      → it ≡ alone it.value
 
   pub apart_more : (place : ℕ) (node : TomlNode) (before after : List TomlNode)
-      → node.first ≡ 0 → after ≡ set before place node → ApartSo place before
+      → node ≡ alone node.value → after ≡ set before place node → ApartSo place before
       → ApartSo (place + 1) after
   apart_more place node before after none is so k it within g =
       elim (get_set before place node it k (ap (λ l. slice_get l k) (sym is) ∙ g)) [
-        | inl (a, b) ↦ ap (λ n. n.first) b ∙ none
+        | inl (a, b) ↦ b ∙ none ∙ ap (λ n. alone n.value) (sym b)
         | inr (a, h) ↦ so k it (omega (arith, within, a)) h
       ]
 
   module _ (place : ℕ) (s : Slot A) (at : slice_get slots place ≡ Some s) (node : TomlNode)
       (before after : List TomlNode) (buffer : List ℕ) (end next : ℕ) (new : List ℕ)
-      (is_value : IsValueOf (node_at s) node.value) (begins : node.value.text.offset ≡ end)
-      (ends : node.value.text.length ≡ length (text_of (node_at s)))
+      (is_value : node.value ≡ record (value_of (node_at s)) { text = node.value.text })
+      (is_place : Fits (text_of (node_at s)) end node.value.text)
       (is : after ≡ set before place node) (puts : Puts (text_of (node_at s)) end buffer next new)
     where
       pub value_more : ShowsSo place end buffer before → ShowsSo (place + 1) next new after
@@ -49,7 +49,7 @@ module _ {A : Type 0} (slots : List (Slot A)) where
                 subst P same (subst Q (sym b) (
                   is_value,
                   stands_put (text_of (node_at s)) end buffer next new node.value.text puts
-                      (omega (arith, puts.same, fits)) begins ends,
+                      (omega (arith, puts.same, fits)) is_place,
                 ))
             | inr (a, f) ↦
                 let room : next ≤ length buffer = omega (arith, puts.same, fits) in

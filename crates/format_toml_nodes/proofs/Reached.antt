@@ -56,10 +56,10 @@ module _ {A : Type 0} {slots : List (Slot A)} {tree : Tree A} {path : ℕ → Pa
   so_below P s below (named name) k b = below.0 name k b
   so_below P s below (placed n) k b = below.1 n k b
 
-  pub each_below : (P : ℕ → Type 0)
+  pub each_below : (P : ℕ → Type 0) → P 0
       → ((i : ℕ) (s : Slot A) → slice_get slots i ≡ Some s → Below s P)
-      → (j : ℕ) → j < length slots → 0 < j → P j
-  each_below P below j w more = by (path j) refl
+      → (j : ℕ) → j < length slots → P j
+  each_below P first below j w = by (path j) refl
     where
       never : (e : Step) (p : Path) → path j ≡ e ∷ p → tree (e ∷ p) ≡ nothing → ⊥
       never e p f none =
@@ -67,8 +67,7 @@ module _ {A : Type 0} {slots : List (Slot A)} {tree : Tree A} {path : ℕ → Pa
           nowhere is j s g (e ∷ p) none (sym f)
 
       by : (q : Path) → path j ≡ q → P j
-      by [] f = absurd (let first = is.apart j 0 w some (f ∙ sym is.top) in
-          omega (arith, first, more))
+      by [] f = subst P (sym (is.apart j 0 w some (f ∙ sym is.top))) first
       by (e ∷ p) f = elim (reach p) [
         | inl none ↦ absurd (never e p f (is.below p e none))
         | inr (i, v, at) ↦

@@ -1,12 +1,12 @@
 -- Lemmas about texts that grow, and about their contents.
 use Rattle.std.specs.Prelude.{◌≡◌, ℕ, ◌+◌, ◌≤◌, min}
 use Rattle.std.specs.Prelude.{List, [], ◌∷◌, ◌++◌, length, take, drop, slice_get, Some}
-use Rattle.std.proofs.Common.{refl, sym, ap, inl, inr, ◌∙◌, arith, append_assoc}
+use Rattle.std.proofs.Common.{refl, sym, ap, subst, ◌∙◌, arith, append_assoc}
 use Rattle.std.proofs.Common.{length-take}
 use Rattle.std.proofs.lemmas.List.{append-nil}
 use Rattle.std.proofs.lemmas.Option.{get_or_from_slice_get, slice_get_within}
-use Rattle.format_toml_nodes.specs.Laying.{Grows, Puts, most, total}
-use Rattle.format_toml_nodes.specs.Nodes.{IsIn, Shows, StandsAt}
+use Rattle.format_toml_nodes.specs.Laying.{Fits, Grows, Puts, most, total}
+use Rattle.format_toml_nodes.specs.Nodes.{IsIn, Shows, StandsAt, nowhere}
 use Rattle.format_toml_nodes.specs.declared.node.Span.{Span}
 use Rattle.format_toml_nodes.specs.declared.node.TomlNode.{TomlNode}
 use Rattle.format_toml_nodes.specs.declared.node.TomlValue.{TomlValue}
@@ -56,17 +56,31 @@ stands_more {text} {place} {bytes} more at = record {
       ∙ ap (λ l. at.before ++ l) (append_assoc bytes at.behind more);
   begins = at.begins;
   ends = at.ends;
+  none = at.none;
+}
+
+pub stands_none : (text : List ℕ) → StandsAt text nowhere []
+stands_none text = record {
+  before = [];
+  behind = text;
+  splits = refl;
+  begins = refl;
+  ends = refl;
+  none = λ e. refl;
 }
 
 pub stands_put : (bytes : List ℕ) (at : ℕ) (old : List ℕ) (end : ℕ) (new : List ℕ) (place : Span)
-    → Puts bytes at old end new → end ≤ length old → place.offset ≡ at
-    → place.length ≡ length bytes → StandsAt (take end new) place bytes
-stands_put bytes at old end new place puts fits begins ends = record {
+    → Puts bytes at old end new → end ≤ length old → Fits bytes at place
+    → StandsAt (take end new) place bytes
+stands_put [] at old end new place puts fits is =
+    subst (λ s. StandsAt (take end new) s []) (sym is) (stands_none (take end new))
+stands_put (b ∷ bytes) at old end new place puts fits is = record {
   before = take at old;
   behind = [];
-  splits = puts.there fits ∙ ap (λ l. take at old ++ l) (sym (append-nil bytes));
-  begins = begins ∙ omega (arith, length-take at old, puts.up, fits);
-  ends = ends;
+  splits = puts.there fits ∙ ap (λ l. take at old ++ l) (sym (append-nil (b ∷ bytes)));
+  begins = ap (λ s. s.offset) is ∙ omega (arith, length-take at old, puts.up, puts.same, fits);
+  ends = ap (λ s. s.length) is;
+  none = λ e. absurd (cc);
 }
 
 pub grows_put : {bytes : List ℕ} {at : ℕ} {old : List ℕ} {end : ℕ} {new : List ℕ}
@@ -99,8 +113,7 @@ pub shows_more : {A : Type 0} (text : List ℕ) (it : TomlValue) (given : Given 
     → Shows text it given → Shows (text ++ more) it given
 shows_more text it given more (is, at) = (is, stands_more more at)
 
-pub in_more : (text : List ℕ) (path : ℕ → Path) (count j : ℕ) (it : TomlNode) (more : List ℕ)
-    → IsIn text path count j it → IsIn (text ++ more) path count j it
-in_more text path count j it more (within, inl (is, (name, at, e))) =
-    (within, inl (is, (name, stands_more more at, e)))
-in_more text path count j it more (within, inr e) = (within, inr e)
+pub in_more : (text more : List ℕ) (path : ℕ → Path) (count : ℕ) (p : Path) (it : TomlNode)
+    → IsIn text path count p it → IsIn (text ++ more) path count p it
+in_more text more path count p it (within, over, name, index, element) =
+    (within, over, stands_more more name, index, element)

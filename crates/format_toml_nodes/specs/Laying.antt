@@ -2,9 +2,11 @@
 use Rattle.std.specs.Prelude.{◌≡◌, ◌⊎◌, ℕ, ◌+◌, ◌-◌, ◌<◌, ◌≤◌, ◌^◌, min, true, false}
 use Rattle.std.specs.Prelude.{List, [], ◌∷◌, ◌++◌, length, take, slice_get, Some}
 use Rattle.std.specs.Borrow.{Bor}
-use Rattle.format_toml_nodes.specs.Nodes.{HasParent, IsFirstIn, IsIn, Shows, text_of}
+use Rattle.format_toml_nodes.specs.Nodes.{HasParent, IsFirstIn, IsIn, Shows, nowhere}
+use Rattle.format_toml_nodes.specs.Nodes.{text_of}
 use Rattle.format_toml_nodes.specs.declared.node.Span.{Span}
 use Rattle.format_toml_nodes.specs.declared.node.TomlNode.{TomlNode}
+use Rattle.format_toml_nodes.specs.declared.node.TomlValue.{TomlValue}
 use Rattle.format_toml_nodes.specs.declared.nodes.Size.{Size}
 use Rattle.format_toml_tree.specs.Holds.{Holds, find, node_at}
 use Rattle.format_toml_tree.specs.Paths.{Path}
@@ -36,19 +38,40 @@ pub record Puts (bytes : List ℕ) (at : ℕ) (old : List ℕ) (end : ℕ) (new 
   pub same : length new ≡ length old
   pub there : end ≤ length old → take end new ≡ take at old ++ bytes
 
+-- `Fits bytes at place`: `place` is the span of `bytes` from the offset `at` on, or `nowhere`.
+abbrev pub Fits : List ℕ → ℕ → Span → Type 0
+Fits [] at place = place ≡ nowhere
+Fits (b ∷ bytes) at place = place ≡ record { offset = at; length = length (b ∷ bytes) }
+
 -- ---- nodes
 
--- a node keeps its value and its contents
+-- the node of a value, without a position or links
+abbrev pub alone : TomlValue → TomlNode
+alone value = record {
+  parent = 0;
+  first = 0;
+  next = 0;
+  index = 0;
+  name = nowhere;
+  value = value;
+  is_element = false;
+}
+
+-- a node has no links
+abbrev pub IsApart : TomlNode → Type 0
+IsApart it = (it.first ≡ 0) × (it.next ≡ 0)
+
+-- a node keeps its value and its links
 abbrev pub Keeps : TomlNode → TomlNode → Type 0
-Keeps was it = (it.value ≡ was.value) × (it.first ≡ was.first)
+Keeps was it = (it.value ≡ was.value) × (it.first ≡ was.first) × (it.next ≡ was.next)
 
 abbrev pub IsNamedAs : ℕ → Span → TomlNode → TomlNode → Type 0
 IsNamedAs parent name was it =
-    Keeps was it × (it.parent ≡ parent) × (it.name ≡ name) × (it.is_element ≡ false)
+    it ≡ record was { parent = parent; name = name; index = 0; is_element = false }
 
 abbrev pub IsNumbered : ℕ → ℕ → TomlNode → TomlNode → Type 0
 IsNumbered parent index was it =
-    Keeps was it × (it.parent ≡ parent) × (it.index ≡ index) × (it.is_element ≡ true)
+    it ≡ record was { parent = parent; name = nowhere; index = index; is_element = true }
 
 -- A node changes so, if it is there, and the others stay.
 pub record ChangesAt (so : TomlNode → TomlNode → Type 0) (j : ℕ) (old new : List TomlNode) : Type 0
@@ -64,10 +87,10 @@ pub record Each (so : TomlNode → TomlNode → Type 0) (old new : List TomlNode
   pub each : (k : ℕ) (it : TomlNode) → slice_get new k ≡ Some it
       → (was : TomlNode) × (slice_get old k ≡ Some was) × so was it
 
--- If there is a node of this number, it is in another, at the position that its path gives.
+-- If there is a node of this number, it has the position that its path gives.
 abbrev pub InParent : List ℕ → (ℕ → Path) → ℕ → List TomlNode → ℕ → Type 0
 InParent text path count nodes j = (it : TomlNode) → slice_get nodes j ≡ Some it
-    → IsIn text path count j it
+    → IsIn text path count (path j) it
 
 abbrev pub name_len : Bor (List ℕ) × ℕ → ℕ
 name_len e = length e.0.now
@@ -95,7 +118,7 @@ module _ {A : Type 0} where
         → slice_get slots k ≡ Some s → slice_get after k ≡ Some it
         → Shows (take end new) it.value (node_at s)
     pub apart : (k : ℕ) (it : TomlNode) → k < length slots → slice_get after k ≡ Some it
-        → it.first ≡ 0
+        → it ≡ alone it.value
 
   -- The entries of a slot get their names.
   pub record PutsEntries (slots : List (Slot A)) (parent at : ℕ) (old : List ℕ)
@@ -128,8 +151,10 @@ module _ {A : Type 0} where
     pub grows : Grows at old end new
     pub keeps : Each Keeps before after
     pub leads : (tree : Tree A) (path : ℕ → Path) → Holds slots tree path → end ≤ length old
-        → (i : ℕ) (s : Slot A) → slice_get slots i ≡ Some s
-        → Below s (InParent (take end new) path (length slots) after)
+        → ((j : ℕ) → InParent (take at old) path (length slots) before j
+        → InParent (take end new) path (length slots) after j)
+        × ((i : ℕ) (s : Slot A) → slice_get slots i ≡ Some s
+        → Below s (InParent (take end new) path (length slots) after))
 
   -- All is put, but the first and the next of each.
   pub record PutsAll (slots : List (Slot A)) (old : List ℕ) (before : List TomlNode) (end : ℕ)
@@ -140,10 +165,11 @@ module _ {A : Type 0} where
         → slice_get slots k ≡ Some s → slice_get after k ≡ Some it
         → Shows (take end new) it.value (node_at s)
     pub apart : (k : ℕ) (it : TomlNode) → k < length slots → slice_get after k ≡ Some it
-        → it.first ≡ 0
+        → IsApart it
     pub leads : (tree : Tree A) (path : ℕ → Path) → Holds slots tree path → end ≤ length old
-        → (i : ℕ) (s : Slot A) → slice_get slots i ≡ Some s
-        → Below s (InParent (take end new) path (length slots) after)
+        → (0 < length slots → InParent (take end new) path (length slots) after 0)
+        × ((i : ℕ) (s : Slot A) → slice_get slots i ≡ Some s
+        → Below s (InParent (take end new) path (length slots) after))
 
   -- It is the size of a tree: as many nodes as places, and the bytes of all.
   abbrev pub IsSizeOf : TreeOf A → Size → Type 0
@@ -152,16 +178,15 @@ module _ {A : Type 0} where
 
 -- ---- joins
 
--- a node keeps its value and its position
+-- a node keeps all but its links
 abbrev pub Stays : TomlNode → TomlNode → Type 0
-Stays was it = (it.value ≡ was.value) × (it.parent ≡ was.parent) × (it.name ≡ was.name)
-    × (it.index ≡ was.index) × (it.is_element ≡ was.is_element)
+Stays was it = it ≡ record was { first = it.first; next = it.next }
 
 abbrev pub IsBefore : ℕ → TomlNode → TomlNode → Type 0
-IsBefore next was it = Stays was it × (it.first ≡ was.first) × (it.next ≡ next)
+IsBefore next was it = it ≡ record was { next = next }
 
 abbrev pub IsAbove : ℕ → TomlNode → TomlNode → Type 0
-IsAbove first was it = Stays was it × (it.first ≡ first) × (it.next ≡ was.next)
+IsAbove first was it = it ≡ record was { first = first }
 
 -- Nodes are joined from this number on.
 pub record JoinsFrom (from : ℕ) (old new : List TomlNode) : Type 0 where
@@ -169,6 +194,7 @@ pub record JoinsFrom (from : ℕ) (old new : List TomlNode) : Type 0 where
   pub firsts : (j : ℕ) (it : TomlNode) → slice_get new j ≡ Some it → IsFirstIn old j from it.first
   pub nexts : (j : ℕ) (it : TomlNode) → from ≤ j → slice_get new j ≡ Some it
       → it.parent < length old → IsFirstIn old it.parent (j + 1) it.next
+  pub others : (j : ℕ) (it : TomlNode) → j < from → slice_get new j ≡ Some it → it.next ≡ 0
 
 -- One is put first in the one that it is in.
 pub record JoinsOne (number : ℕ) (old new : List TomlNode) : Type 0 where
@@ -183,6 +209,6 @@ pub record JoinsOne (number : ℕ) (old new : List TomlNode) : Type 0 where
   pub others : (j : ℕ) (it : TomlNode) → (j ≡ number → ⊥) → slice_get new j ≡ Some it
       → (was : TomlNode) × (slice_get old j ≡ Some was) × (it.next ≡ was.next)
 
--- no node says that there is one in it
+-- no node has links
 abbrev pub AreApart : List TomlNode → Type 0
-AreApart nodes = (j : ℕ) (it : TomlNode) → slice_get nodes j ≡ Some it → it.first ≡ 0
+AreApart nodes = (j : ℕ) (it : TomlNode) → slice_get nodes j ≡ Some it → IsApart it

@@ -17,21 +17,41 @@ use Rattle.format_toml_tree.specs.declared.value.Time.{Time}
 use Rattle.format_toml_tree.specs.declared.value.Value.{Value, out-Value}
 use Rattle.format_toml_tree.specs.declared.value.Value.TheOpen as forms
 
+-- no bytes
+abbrev pub nowhere : Span
+nowhere = record { offset = 0; length = 0 }
+
 -- ---- what there is at a node
+
+-- a value of this kind, of which all else is 0
+abbrev pub of_kind : ℕ → TomlValue
+of_kind kind = record {
+  kind = kind;
+  year = 0;
+  month = 0;
+  day = 0;
+  hour = 0;
+  minute = 0;
+  second = 0;
+  offset = pos 0;
+  integer = pos 0;
+  text = nowhere;
+}
+
+abbrev pub with_date : Date → TomlValue → TomlValue
+with_date date it = record it { year = date.year; month = date.month; day = date.day }
 
 abbrev pub minutes_of : Offset → ℤ
 minutes_of offsets.Zulu = pos 0
 minutes_of (offsets.Minutes n) = n
 
-abbrev pub IsDateOf : Date → TomlValue → Type 0
-IsDateOf date it = (it.year ≡ date.year) × (it.month ≡ date.month) × (it.day ≡ date.day)
-
 abbrev pub number_of : Bool → ℤ
 number_of b = cond b (pos 1) (pos 0)
 
 module _ {A : Type 0} where
-  abbrev pub IsTimeOf : Time A → TomlValue → Type 0
-  IsTimeOf time it = (it.hour ≡ time.hour) × (it.minute ≡ time.minute) × (it.second ≡ time.second)
+  abbrev pub with_time : Time A → TomlValue → TomlValue
+  with_time time it =
+      record it { hour = time.hour; minute = time.minute; second = time.second }
 
   -- the digits of the fraction of a second
   abbrev pub fraction_of : DateTime A → List ℕ
@@ -40,34 +60,33 @@ module _ {A : Type 0} where
   fraction_of (date_times.Date date) = []
   fraction_of (date_times.Time time) = string_bytes time.fraction
 
-  abbrev pub IsDateTimeOf : DateTime A → TomlValue → Type 0
-  IsDateTimeOf (date_times.Offset date time offset) it =
-      (it.kind ≡ 6) × IsDateOf date it × IsTimeOf time it × (it.offset ≡ minutes_of offset)
-  IsDateTimeOf (date_times.Local date time) it =
-      (it.kind ≡ 7) × IsDateOf date it × IsTimeOf time it
-  IsDateTimeOf (date_times.Date date) it = (it.kind ≡ 8) × IsDateOf date it
-  IsDateTimeOf (date_times.Time time) it = (it.kind ≡ 9) × IsTimeOf time it
+  abbrev pub date_time_of : DateTime A → TomlValue
+  date_time_of (date_times.Offset date time offset) =
+      record (with_time time (with_date date (of_kind 6))) { offset = minutes_of offset }
+  date_time_of (date_times.Local date time) = with_time time (with_date date (of_kind 7))
+  date_time_of (date_times.Date date) = with_date date (of_kind 8)
+  date_time_of (date_times.Time time) = with_time time (of_kind 9)
 
-  -- The kind and the numbers are those of a value.
-  abbrev pub IsValue : Value A → TomlValue → Type 0
-  IsValue v it = elim (out-Value A v) [
-    | forms.Text text ↦ it.kind ≡ 2
-    | forms.Integer n ↦ (it.kind ≡ 3) × (it.integer ≡ n)
-    | forms.Float float ↦ it.kind ≡ 4
-    | forms.Boolean b ↦ (it.kind ≡ 5) × (it.integer ≡ number_of b)
-    | forms.DateTime date_time ↦ IsDateTimeOf date_time it
-    | forms.Array elements ↦ it.kind ≡ 1
-    | forms.Table entries ↦ it.kind ≡ 0
+  -- the kind and the numbers of a value
+  abbrev pub numbers_of : Value A → TomlValue
+  numbers_of v = elim (out-Value A v) [
+    | forms.Text text ↦ of_kind 2
+    | forms.Integer n ↦ record (of_kind 3) { integer = n }
+    | forms.Float float ↦ of_kind 4
+    | forms.Boolean b ↦ record (of_kind 5) { integer = number_of b }
+    | forms.DateTime date_time ↦ date_time_of date_time
+    | forms.Array elements ↦ of_kind 1
+    | forms.Table entries ↦ of_kind 0
   ]
 
-  -- The kind and the numbers are those of the given value.
-  abbrev pub IsValueOf : Given A → TomlValue → Type 0
-  IsValueOf nothing it = ⊥
-  IsValueOf (valued v) it = IsValue v it
-  IsValueOf super it = it.kind ≡ 0
-  IsValueOf header it = it.kind ≡ 0
-  IsValueOf dotted it = it.kind ≡ 0
-  IsValueOf (tables n) it = it.kind ≡ 1
+  -- the kind and the numbers of what is given
+  abbrev pub value_of : Given A → TomlValue
+  value_of nothing = of_kind 0
+  value_of (valued v) = numbers_of v
+  value_of super = of_kind 0
+  value_of header = of_kind 0
+  value_of dotted = of_kind 0
+  value_of (tables n) = of_kind 1
 
   -- the bytes of a value: of a string, of a float, or of a fraction
   abbrev pub bytes_of : Value A → List ℕ
@@ -86,27 +105,51 @@ module _ {A : Type 0} where
   text_of dotted = []
   text_of (tables n) = []
 
--- `StandsAt text place bytes`: `text` has `bytes` at the span `place`.
+-- `StandsAt text place bytes`: `text` has `bytes` at the span `place`, which is `nowhere` if there
+-- are none.
 pub record StandsAt (text : List ℕ) (place : Span) (bytes : List ℕ) : Type 0 where
   pub before : List ℕ
   pub behind : List ℕ
   pub splits : text ≡ before ++ (bytes ++ behind)
   pub begins : place.offset ≡ length before
   pub ends : place.length ≡ length bytes
+  pub none : bytes ≡ [] → place.offset ≡ 0
 
 -- `Shows text it given`: the node value `it` is that of `given`, with its bytes in `text`.
 abbrev pub Shows : {A : Type 0} → List ℕ → TomlValue → Given A → Type 0
-Shows text it given = IsValueOf given it × StandsAt text it.text (text_of given)
+Shows text it given =
+    (it ≡ record (value_of given) { text = it.text }) × StandsAt text it.text (text_of given)
 
 -- ---- how nodes are nested
 
--- `IsIn text path count j it`: the node `j` is in its parent, one of `count` nodes: at its name
--- there, or after the number of elements that its index gives.
-abbrev pub IsIn : List ℕ → (ℕ → Path) → ℕ → ℕ → TomlNode → Type 0
-IsIn text path count j it = (it.parent < count)
-    × (((it.is_element ≡ false) × ((name : List ℕ) × StandsAt text it.name name
-    × (path j ≡ named name ∷ path it.parent)))
-    ⊎ ((it.is_element ≡ true) × (path j ≡ placed it.index ∷ path it.parent)))
+-- the name of an entry; elements, and the first node, have none
+abbrev pub name_of : Path → List ℕ
+name_of [] = []
+name_of (named name ∷ p) = name
+name_of (placed k ∷ p) = []
+
+-- the number of elements before an element
+abbrev pub index_of : Path → ℕ
+index_of [] = 0
+index_of (named name ∷ p) = 0
+index_of (placed k ∷ p) = k
+
+abbrev pub is_placed : Path → Bool
+is_placed [] = false
+is_placed (named name ∷ p) = false
+is_placed (placed k ∷ p) = true
+
+-- the path of the table or array; the first node has none, and its own
+abbrev pub above : Path → Path
+above [] = []
+above (e ∷ p) = p
+
+-- `IsIn text path count p it`: the node at the path `p` gives its parent, which is one of `count`
+-- nodes, and its name or index there.
+abbrev pub IsIn : List ℕ → (ℕ → Path) → ℕ → Path → TomlNode → Type 0
+IsIn text path count p it = (it.parent < count) × (path it.parent ≡ above p)
+    × StandsAt text it.name (name_of p) × (it.index ≡ index_of p)
+    × (it.is_element ≡ is_placed p)
 
 -- the node of number k is in that of number i
 abbrev pub HasParent : List TomlNode → ℕ → ℕ → Type 0
@@ -119,22 +162,25 @@ IsFirstIn nodes i from r =
     ⊎ ((from ≤ r) × HasParent nodes r i
     × ((k : ℕ) → from ≤ k → k < r → HasParent nodes k i → ⊥))
 
--- A node says the first that is in it, and the next that is in the same.
+-- A node gives the first that is in it, and the next that is in the same; the first node has none.
 pub record IsJoined (nodes : List TomlNode) (j : ℕ) (it : TomlNode) : Type 0 where
   pub first : IsFirstIn nodes j 1 it.first
   pub next : 0 < j → IsFirstIn nodes it.parent (j + 1) it.next
+  pub alone : j ≡ 0 → it.next ≡ 0
 
 -- The nodes are those of a tree. Each is at a path and has the value there, no two are at the same
--- path, and each path with a value has one of them. Their texts are in `text`.
+-- path, and each path with a value has one of them. Their texts are in `text`. Which number a path
+-- has is open, and where in `text` bytes are; these determine all fields of the nodes.
 pub record AreNodesOf {A : Type 0} (given : Tree A) (text : List ℕ) (nodes : List TomlNode)
     : Type 0 where
   pub path : ℕ → Path
   pub top : path 0 ≡ []
   pub some : 0 < length nodes
+  pub there : (j : ℕ) → j < length nodes → given (path j) ≡ nothing → ⊥
   pub shows : (j : ℕ) (it : TomlNode) → slice_get nodes j ≡ Some it
       → Shows text it.value (given (path j))
-  pub is_in : (j : ℕ) (it : TomlNode) → slice_get nodes j ≡ Some it → 0 < j
-      → IsIn text path (length nodes) j it
+  pub is_in : (j : ℕ) (it : TomlNode) → slice_get nodes j ≡ Some it
+      → IsIn text path (length nodes) (path j) it
   pub joined : (j : ℕ) (it : TomlNode) → slice_get nodes j ≡ Some it → IsJoined nodes j it
   pub apart : (i j : ℕ) → i < length nodes → j < length nodes → path i ≡ path j → i ≡ j
   pub all : (p : Path) → (given p ≡ nothing)

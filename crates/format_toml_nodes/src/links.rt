@@ -1,20 +1,22 @@
 //! The nodes of the slots of a tree, and their positions.
 ghost use Rattle.std.specs.Prelude.{◌≡◌, ◌<◌, length};
-ghost use Rattle.format_toml_nodes.specs.Laying.{PutsElements, PutsEntries, PutsLinks};
-ghost use Rattle.format_toml_nodes.specs.Laying.{PutsValues};
+ghost use Rattle.format_toml_nodes.specs.Laying.{PutsElements, PutsEntries, PutsLinks, PutsValues};
+ghost use Rattle.format_toml_nodes.specs.Laying.{alone};
 
 use crate::node::{NO_NODE, Span, TomlNode, TomlValue};
-use crate::put::{put_bytes, put_index, put_name, put_node};
+use crate::put::{put_bytes, put_index, put_name, put_node, span_of};
 use crate::values::{text, value_of};
 use format_toml_tree::tree::Slot;
 use std::alloc::Allocator;
 
-/// Returns a node without a parent.
-fn alone(value: TomlValue) -> TomlNode
-    ensures value { result.value ≡ value }
-    ensures first { result.first ≡ 0 }
+/// Returns the node of a value with its bytes, without a position or links.
+fn alone(value: TomlValue, text: Span) -> TomlNode
+    ensures { result ≡ alone (record value { text = text }) }
 {
-    TomlNode { value, ..NO_NODE }
+    TomlNode {
+        value: TomlValue { text, ..value },
+        ..NO_NODE
+    }
 }
 
 /// Writes the value of each slot with its bytes, and returns the offset after these.
@@ -29,11 +31,7 @@ pub(crate) fn put_values<'t, A: Allocator + Copy>(
     for place in 0..slots.len() {
         let kind = slots[place].kind();
         let bytes = text(kind).as_bytes();
-        let span = Span {
-            offset: end,
-            length: bytes.len(),
-        };
-        put_node(alone(value_of(kind, span)), place, nodes);
+        put_node(alone(value_of(kind), span_of(bytes, end)), place, nodes);
         end = put_bytes(bytes, end, buffer);
     }
     end
@@ -53,11 +51,7 @@ fn put_entries<'t, A: Allocator + Copy>(
     let mut end = at;
     for (name, place) in slots[parent].places() {
         let bytes = name.as_bytes();
-        let span = Span {
-            offset: end,
-            length: bytes.len(),
-        };
-        put_name(*place, parent, span, nodes);
+        put_name(*place, parent, span_of(bytes, end), nodes);
         end = put_bytes(bytes, end, buffer);
     }
     end

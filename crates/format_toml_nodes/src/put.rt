@@ -1,9 +1,9 @@
 //! Functions that write into a buffer, as far as there is room.
 ghost use Rattle.std.specs.Prelude.{◌≡◌, set};
-ghost use Rattle.format_toml_nodes.specs.Laying.{ChangesAt, IsAbove, IsBefore, IsNamedAs};
+ghost use Rattle.format_toml_nodes.specs.Laying.{ChangesAt, Fits, IsAbove, IsBefore, IsNamedAs};
 ghost use Rattle.format_toml_nodes.specs.Laying.{IsNumbered, Puts};
 
-use crate::node::{Span, TomlNode};
+use crate::node::{NOWHERE, Span, TomlNode};
 
 /// Writes bytes at an offset of the text, if they fit, and returns the offset after them.
 #[inline]
@@ -15,6 +15,21 @@ pub(crate) fn put_bytes(bytes: &[u8], at: usize, text: &mut [u8]) -> usize
         text[at..end].copy_from_slice(bytes);
     }
     end
+}
+
+/// Returns the span of bytes that are written at an offset of the text. Without bytes it is
+/// `NOWHERE`.
+#[inline]
+pub(crate) fn span_of(bytes: &[u8], at: usize) -> Span
+    ensures { Fits bytes.now at result }
+{
+    match bytes {
+        [] => NOWHERE,
+        _ => Span {
+            offset: at,
+            length: bytes.len(),
+        },
+    }
 }
 
 /// Puts a node at its number, if there is room for it.
@@ -51,6 +66,7 @@ pub(crate) fn put_index(number: usize, parent: usize, index: usize, nodes: &mut 
     if number < nodes.len() {
         nodes[number] = TomlNode {
             parent,
+            name: NOWHERE,
             index,
             is_element: true,
             ..nodes[number]

@@ -1,11 +1,11 @@
 //! Values of slots of a tree, in the form of nodes.
 ghost use Rattle.std.specs.Prelude.{◌≡◌, ℕ};
-ghost use Rattle.format_toml_nodes.specs.Nodes.{IsDateOf, IsDateTimeOf, IsTimeOf, IsValue};
-ghost use Rattle.format_toml_nodes.specs.Nodes.{IsValueOf, fraction_of, minutes_of, text_of};
+ghost use Rattle.format_toml_nodes.specs.Nodes.{date_time_of, fraction_of, minutes_of, numbers_of};
+ghost use Rattle.format_toml_nodes.specs.Nodes.{of_kind, text_of, value_of, with_date, with_time};
 ghost use Rattle.format_toml_tree.specs.Holds.{node_of};
 
 use crate::node::{
-    Span, TOML_ARRAY, TOML_BOOLEAN, TOML_FLOAT, TOML_INTEGER, TOML_LOCAL_DATE,
+    NO_NODE, TOML_ARRAY, TOML_BOOLEAN, TOML_FLOAT, TOML_INTEGER, TOML_LOCAL_DATE,
     TOML_LOCAL_DATE_TIME, TOML_LOCAL_TIME, TOML_OFFSET_DATE_TIME, TOML_STRING, TOML_TABLE,
     TomlValue,
 };
@@ -40,37 +40,19 @@ pub(crate) fn text<'t, A: Allocator>(kind: Kind<'t, A>) -> &'t str
     }
 }
 
-/// A value of a kind, with its bytes.
-fn of_kind(kind: u32, text: Span) -> TomlValue
-    ensures kind { result.kind ≡ kind }
-    ensures text { result.text ≡ text }
+/// A value of a kind, of which all else is 0.
+fn of_kind(kind: u32) -> TomlValue
+    ensures { result ≡ of_kind kind }
 {
     TomlValue {
         kind,
-        year: 0,
-        month: 0,
-        day: 0,
-        hour: 0,
-        minute: 0,
-        second: 0,
-        offset: 0,
-        integer: 0,
-        text,
+        ..NO_NODE.value
     }
-}
-
-/// The value with a number.
-fn with_integer(value: TomlValue, integer: i64) -> TomlValue
-    ensures integer { result.integer ≡ integer }
-    ensures kept { (result.kind ≡ value.kind) × (result.text ≡ value.text) }
-{
-    TomlValue { integer, ..value }
 }
 
 /// The value with a date.
 fn with_date(value: TomlValue, date: &Date) -> TomlValue
-    ensures date { IsDateOf date.now result }
-    ensures kept { (result.kind ≡ value.kind) × (result.text ≡ value.text) }
+    ensures { result ≡ with_date date.now value }
 {
     TomlValue {
         year: date.year,
@@ -82,10 +64,7 @@ fn with_date(value: TomlValue, date: &Date) -> TomlValue
 
 /// The value with a time.
 fn with_time<A: Allocator>(value: TomlValue, time: &Time<A>) -> TomlValue
-    ensures time { IsTimeOf time.now result }
-    ensures date { (result.year ≡ value.year) × (result.month ≡ value.month)
-        × (result.day ≡ value.day) }
-    ensures kept { (result.kind ≡ value.kind) × (result.text ≡ value.text) }
+    ensures { result ≡ with_time time.now value }
 {
     TomlValue {
         hour: time.hour,
@@ -105,53 +84,51 @@ fn minutes(offset: Offset) -> i16
     }
 }
 
-/// A date, a time or both, with the digits of the fraction.
-fn date_time_value<A: Allocator>(date_time: &DateTime<A>, text: Span) -> TomlValue
-    ensures value { IsDateTimeOf date_time.now result }
-    ensures text { result.text ≡ text }
+/// A date, a time or both.
+fn date_time_value<A: Allocator>(date_time: &DateTime<A>) -> TomlValue
+    ensures { result ≡ date_time_of date_time.now }
 {
     match date_time {
-        DateTime::Offset(date, time, offset) => {
-            let value = with_date(of_kind(TOML_OFFSET_DATE_TIME, text), date);
-            TomlValue {
-                offset: minutes(*offset),
-                ..with_time(value, time)
-            }
-        }
+        DateTime::Offset(date, time, offset) => TomlValue {
+            offset: minutes(*offset),
+            ..with_time(with_date(of_kind(TOML_OFFSET_DATE_TIME), date), time)
+        },
         DateTime::Local(date, time) => {
-            with_time(with_date(of_kind(TOML_LOCAL_DATE_TIME, text), date), time)
+            with_time(with_date(of_kind(TOML_LOCAL_DATE_TIME), date), time)
         }
-        DateTime::Date(date) => with_date(of_kind(TOML_LOCAL_DATE, text), date),
-        DateTime::Time(time) => with_time(of_kind(TOML_LOCAL_TIME, text), time),
+        DateTime::Date(date) => with_date(of_kind(TOML_LOCAL_DATE), date),
+        DateTime::Time(time) => with_time(of_kind(TOML_LOCAL_TIME), time),
     }
 }
 
-/// A value that a key gave, with its bytes.
-fn given_value<A: Allocator>(value: &Value<A>, text: Span) -> TomlValue
-    ensures value { IsValue value.now result }
-    ensures text { result.text ≡ text }
+/// The kind and the numbers of a value that a key gave.
+fn given_value<A: Allocator>(value: &Value<A>) -> TomlValue
+    ensures { result ≡ numbers_of value.now }
 {
     match value {
-        Value::Text(_) => of_kind(TOML_STRING, text),
-        Value::Integer(number) => with_integer(of_kind(TOML_INTEGER, text), *number),
-        Value::Float(_) => of_kind(TOML_FLOAT, text),
-        Value::Boolean(word) => {
-            with_integer(of_kind(TOML_BOOLEAN, text), if *word { 1 } else { 0 })
-        }
-        Value::DateTime(date_time) => date_time_value(date_time, text),
-        Value::Array(_) => of_kind(TOML_ARRAY, text),
-        Value::Table(_) => of_kind(TOML_TABLE, text),
+        Value::Text(_) => of_kind(TOML_STRING),
+        Value::Integer(number) => TomlValue {
+            integer: *number,
+            ..of_kind(TOML_INTEGER)
+        },
+        Value::Float(_) => of_kind(TOML_FLOAT),
+        Value::Boolean(word) => TomlValue {
+            integer: if *word { 1 } else { 0 },
+            ..of_kind(TOML_BOOLEAN)
+        },
+        Value::DateTime(date_time) => date_time_value(date_time),
+        Value::Array(_) => of_kind(TOML_ARRAY),
+        Value::Table(_) => of_kind(TOML_TABLE),
     }
 }
 
-/// Returns the value of a slot, with its bytes.
-pub(crate) fn value_of<'t, A: Allocator>(kind: Kind<'t, A>, text: Span) -> TomlValue
-    ensures value { (n : ℕ) → IsValueOf (node_of kind.entry n) result }
-    ensures text { result.text ≡ text }
+/// Returns the kind and the numbers of a slot's value.
+pub(crate) fn value_of<'t, A: Allocator>(kind: Kind<'t, A>) -> TomlValue
+    ensures { (n : ℕ) → result ≡ value_of (node_of kind.entry n) }
 {
     match kind {
-        Kind::Value(value) => given_value(value, text),
-        Kind::Super | Kind::Header | Kind::Dotted => of_kind(TOML_TABLE, text),
-        Kind::Tables => of_kind(TOML_ARRAY, text),
+        Kind::Value(value) => given_value(value),
+        Kind::Super | Kind::Header | Kind::Dotted => of_kind(TOML_TABLE),
+        Kind::Tables => of_kind(TOML_ARRAY),
     }
 }

@@ -3,7 +3,7 @@ use Rattle.std.proofs.Common.{subst, sym, ℕ}
 use Rattle.std.proofs.lemmas.Map.Iter.{rest_all, rest_more}
 use Rattle.std.proofs.lemmas.Option.{slice_get_read}
 use Rattle.std.specs.Map.Iter.{deref_pair}
-use Rattle.format_toml_nodes.specs.Laying.{Puts, most, name_len, total}
+use Rattle.format_toml_nodes.specs.Laying.{Fits, Puts, most, name_len, total}
 use Rattle.format_toml_nodes.proofs.Changes.{keeps_named, keeps_none, keeps_then}
 use Rattle.format_toml_nodes.proofs.Entries.{count_first, found_first, found_more, name_more}
 use Rattle.format_toml_nodes.proofs.Entries.{names_end, names_first}
@@ -64,8 +64,9 @@ loop-name-preserved g c =
           c.loop-name.invariant.found;
       names = name_more slots parent c.args.at old before c.requires e others left is
           c.loop-name.invariant.found _ c.loop-name.nodes c.put_name.new.nodes c.loop-name.buffer
-          end next new refl (ap (λ l. length l) c.as_bytes-bytes.ensures.value)
-          c.put_name.ensures puts c.loop-name.invariant.names;
+          end next new
+          (subst (λ b. Fits b end c.span_of.result) c.as_bytes-bytes.ensures.value
+          c.span_of.ensures) c.put_name.ensures puts c.loop-name.invariant.names;
     }
 
 pub returns : goal.returns

@@ -11,5 +11,5 @@ invariant-loop-parent g l = record {
       ≡ min (l.at + total names_len l.slots) most;
   grows : Grows l.at l.initial.buffer l.end l.buffer;
   keeps : Each Keeps l.initial.nodes l.nodes;
-  leads : LeadsSo l.slots l.parent l.end l.buffer l.nodes;
+  leads : LeadsSo l.slots l.at l.initial.buffer l.initial.nodes l.parent l.end l.buffer l.nodes;
 }

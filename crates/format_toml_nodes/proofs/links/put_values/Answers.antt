@@ -1,8 +1,9 @@
 use Rattle.std.proofs.Common.{◌≡◌, ◌+◌, ◌∙◌, arith, ap, drop, length, min, refl, subst, sym}
 use Rattle.std.proofs.lemmas.List.{length-set}
 use Rattle.std.proofs.lemmas.Option.{slice_get_read, slice_get_within}
-use Rattle.format_toml_nodes.specs.Laying.{Puts, most, text_len, total}
-use Rattle.format_toml_nodes.specs.Nodes.{IsValueOf, text_of}
+use Rattle.format_toml_nodes.specs.Laying.{Fits, Puts, alone, most, text_len, total}
+use Rattle.format_toml_nodes.specs.Nodes.{text_of, value_of}
+use Rattle.format_toml_nodes.specs.declared.node.TomlValue.{TomlValue}
 use Rattle.format_toml_nodes.proofs.Placed.{apart_more, value_more}
 use Rattle.format_toml_nodes.proofs.Texts.{capped_end, capped_more, capped_small, total_at}
 use Rattle.format_toml_nodes.proofs.Texts.{total_past}
@@ -26,14 +27,15 @@ loop-place-preserved g c =
     subst (λ b. Puts b end c.loop-place.buffer next c.put_bytes-end.new.text) is_bytes
     c.put_bytes-end.ensures in
     let node = c.alone.result in
-    let is_value : IsValueOf (node_at s) node.value =
-    subst (λ v. IsValueOf (node_at s) v) (sym c.alone.ensures.value)
-    (subst (λ k. IsValueOf (node_of k count) c.value_of.result) c.kind-kind.ensures
-    (c.value_of.ensures.value count)) in
-    let begins = ap (λ v. v.text.offset) c.alone.ensures.value
-    ∙ ap (λ t. t.offset) c.value_of.ensures.text in
-    let ends = ap (λ v. v.text.length) c.alone.ensures.value
-    ∙ ap (λ t. t.length) c.value_of.ensures.text ∙ ap (λ l. length l) is_bytes in
+    let single = c.alone.ensures in
+    let is_value : node.value ≡ record (value_of (node_at s)) { text = node.value.text } =
+    ap (λ n. n.value) single
+    ∙ ap {A = TomlValue} (λ v. record v { text = c.span_of.result })
+    (c.value_of.ensures count ∙ ap (λ k. value_of (node_of k count)) c.kind-kind.ensures)
+    ∙ ap (λ n. record (value_of (node_at s)) { text = n.value.text }) (sym single) in
+    let is_place : Fits (text_of (node_at s)) end node.value.text =
+    subst (λ b. Fits b end node.value.text) is_bytes
+    (subst (λ n. Fits bytes end n.value.text) (sym single) c.span_of.ensures) in
     record {
       small = capped_small _ next puts.is_end;
       count = capped_more end (text_len s) (total text_len (drop (place + 1) slots)) next _
@@ -45,10 +47,10 @@ loop-place-preserved g c =
             ∙ i.same.1,
       );
       shows = value_more slots place s there node c.loop-place.nodes c.put_node.new.nodes
-          c.loop-place.buffer end next c.put_bytes-end.new.text is_value begins ends
+          c.loop-place.buffer end next c.put_bytes-end.new.text is_value is_place
           c.put_node.ensures puts i.shows;
       apart = apart_more slots place node c.loop-place.nodes c.put_node.new.nodes
-          c.alone.ensures.first c.put_node.ensures i.apart;
+          (single ∙ ap (λ n. alone n.value) (sym single)) c.put_node.ensures i.apart;
     }
 
 pub returns : goal.returns
