@@ -39,7 +39,8 @@ returns-clause-spared g c item opening closing gap none =
     let between = both_claimed pair (claimed (g.B.Parser.state c.args.marks.comma)) of_gap in
     let range : Range = record { start_inclusive = 0; end_inclusive = None } in
     let last = claimed (g.B.Parser.state c.args.marks.closing) in
-    items_spared (BothRuns pair (g.B.Parser.meaning form) (g.G.Parser.meaning form)) list_kept (assert_kind form) (never_asserted form) (λ n never. never)
+    items_spared (BothRuns pair (g.B.Parser.meaning form) (g.G.Parser.meaning form)) list_kept
+    (assert_kind form) (never_asserted form) (λ n never. never)
     (first.exact form (opening_premise, gap_premise))
     (spared (opening_backs, gap_backs) (opening, gap)
     (first.fails form (opening_premise, gap_premise)))
