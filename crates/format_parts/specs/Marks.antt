@@ -1,7 +1,7 @@
 -- Items between marks, by the grammars of their parts, and their results by equal grammars.
 use Rattle.std.specs.Prelude.{◌≡◌, List, None, Result}
 use Rattle.std.specs.declared.vec.Vec.{Vec}
-use Rattle.format_parts.specs.Words.{pair}
+use Rattle.format_parts.specs.Words.{latter, pair}
 use Rattle.streams.specs.declared.needed.Needed.{Needed}
 use Rattle.stream_errors.specs.declared.fault.ParseFault.{ParseFault}
 use Rattle.winnow_core.specs.Exact.Whole.{ReadsAll}
@@ -18,6 +18,10 @@ module _ {T M W A : Type 0} where
       Three (λ _ o _. o) (Both pair opening gap)
       (Gathered (λ (list : Vec O A) os. list.items ≡ os)
       (Parted item (Both pair comma gap) (from_to 0 None))) closing
+
+-- The first mark, whitespace and an item.
+abbrev pub FirstItem : {T M W O : Type 0} → Grammar T O → Grammar T M → Grammar T W → Grammar T O
+FirstItem item opening gap = Both latter (Both pair opening gap) item
 
 pub three_by : {T O1 O2 O3 O : Type 0} (output : O1 → O2 → O3 → O) {f1 g1 : Grammar T O1}
     {f2 g2 : Grammar T O2} {f3 g3 : Grammar T O3} → f1 ≡ g1 → f2 ≡ g2 → f3 ≡ g3

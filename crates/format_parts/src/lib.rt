@@ -2,6 +2,7 @@
 //! escapes, and items between marks, as the values of an array.
 #![tactic(auto)]
 
+pub mod faults;
 pub mod hexadecimal;
 pub mod marks;
 pub mod turns;

@@ -1,12 +1,12 @@
 //! Items between marks, as the values of an array. The contracts are in terms of the grammars of
 //! the parts, for any parsers and over any stream.
-ghost use Rattle.format_parts.specs.Marks.{Items};
+ghost use Rattle.format_parts.specs.Marks.{FirstItem, Items};
 ghost use Rattle.format_parts.specs.Words.{former};
 ghost use Rattle.std.specs.Fn.{CalledAtMut};
 ghost use Rattle.winnow_core.specs.Claim.{CanRead};
-ghost use Rattle.winnow_core.specs.Exact.{Reads};
-ghost use Rattle.grammars.specs.Grammar.{Both, Three};
-ghost use Rattle.winnow_grammar.specs.Rule.{CallsRead};
+ghost use Rattle.winnow_core.specs.Exact.{IsSpared, Reads};
+ghost use Rattle.grammars.specs.Grammar.{Both, NoMatch, Three};
+ghost use Rattle.winnow_grammar.specs.Rule.{CallsRead, CallsSpared};
 
 use std::alloc::Allocator;
 use stream_errors::parser_error::ParserError;
@@ -18,7 +18,8 @@ use winnow_grammar::rule::Rule;
 use winnow_separated::combinator::impls::Separated;
 use winnow_separated::combinator::separated;
 
-/// Parses three parts in sequence and returns the output of the second one.
+/// Parses three parts in sequence and returns the output of the second one. It is out of memory
+/// only if one of them is.
 pub fn read_between<I, O1, O2, O3, E, P, Q, R>(
     first: P,
     second: Q,
@@ -37,10 +38,13 @@ where
     requires first { CanRead (P.can_parse first) (P.claim (P.state first)) }
     requires second { CanRead (Q.can_parse second) (Q.claim (Q.state second)) }
     requires third { CanRead (R.can_parse third) (R.claim (R.state third)) }
-    ensures { Reads I.reading E.kind
+    ensures reads { Reads I.reading E.kind
         (Three (λ _ o _. o) (P.claim (P.state first)).grammar
         (Q.claim (Q.state second)).grammar (R.claim (R.state third)).grammar)
         (I.view input.old) result (I.view input.new) }
+    ensures spared { (P.claim (P.state first)).spares_memory
+        → (Q.claim (Q.state second)).spares_memory → (R.claim (R.state third)).spares_memory
+        → IsSpared E.kind (I.view input.old) result }
 {
     delimited(first, second, third).read(input)
 }
@@ -59,7 +63,8 @@ pub struct Marks<B, G> {
 }
 
 /// Reads items between two marks, with a third between each two items, and whitespace after the
-/// first mark and after each of those between items.
+/// first mark and after each of those between items. It is out of memory only if a part is, or the
+/// input starts with the first mark and an item.
 pub fn read_items<I, E, O, M, W, A, P, B, G>(
     alloc: A,
     item: P,
@@ -82,11 +87,18 @@ where
         × (B.claim (B.state marks.comma)).consumes }
     requires closing { CanRead (B.can_parse marks.closing) (B.claim (B.state marks.closing)) }
     requires gap { CanRead (G.can_parse marks.gap) (G.claim (G.state marks.gap)) }
-    ensures { Reads I.reading E.kind
+    ensures reads { Reads I.reading E.kind
         (Items (P.claim (P.state item)).grammar (B.claim (B.state marks.opening)).grammar
         (B.claim (B.state marks.comma)).grammar (B.claim (B.state marks.closing)).grammar
         (G.claim (G.state marks.gap)).grammar) (I.view input.old) result
         (I.view input.new) }
+    ensures spared { (P.claim (P.state item)).spares_memory
+        → (B.claim (B.state marks.opening)).spares_memory
+        → (B.claim (B.state marks.closing)).spares_memory
+        → (G.claim (G.state marks.gap)).spares_memory
+        → NoMatch (FirstItem (P.claim (P.state item)).grammar
+        (B.claim (B.state marks.opening)).grammar (G.claim (G.state marks.gap)).grammar)
+        (I.view input.old).left.tokens → IsSpared E.kind (I.view input.old) result }
 {
     let items: Separated<P, (B, G), I, O, (M, W), Vec<O, A>, E, A> = separated(
         alloc,
@@ -97,7 +109,8 @@ where
     delimited((marks.opening, marks.gap), items, marks.closing).read(input)
 }
 
-/// Parses values between marks. A function parses a value by a rule, and whitespace follows it.
+/// Parses values between marks. A function parses a value by a rule, and whitespace follows it. It
+/// is out of memory where [`read_items`] is.
 pub fn read_array_of<I, E, O, M, W, A, R, F, B, G>(
     alloc: A,
     rule: R,
@@ -124,11 +137,18 @@ where
         × (B.claim (B.state marks.comma)).consumes }
     requires closing { CanRead (B.can_parse marks.closing) (B.claim (B.state marks.closing)) }
     requires gap { CanRead (G.can_parse marks.gap) (G.claim (G.state marks.gap)) }
-    ensures { Reads I.reading E.kind
+    ensures reads { Reads I.reading E.kind
         (Items (Both former (R.grammar rule) (G.claim (G.state marks.gap)).grammar)
         (B.claim (B.state marks.opening)).grammar (B.claim (B.state marks.comma)).grammar
         (B.claim (B.state marks.closing)).grammar (G.claim (G.state marks.gap)).grammar)
         (I.view input.old) result (I.view input.new) }
+    ensures spared { CallsSpared I.view E.kind (CalledAtMut F.FnMut) value
+        → (B.claim (B.state marks.opening)).spares_memory
+        → (B.claim (B.state marks.closing)).spares_memory
+        → (G.claim (G.state marks.gap)).spares_memory
+        → NoMatch (FirstItem (Both former (R.grammar rule) (G.claim (G.state marks.gap)).grammar)
+        (B.claim (B.state marks.opening)).grammar (G.claim (G.state marks.gap)).grammar)
+        (I.view input.old).left.tokens → IsSpared E.kind (I.view input.old) result }
 {
     let item = terminated(rule.by(value), marks.gap);
     read_items(alloc, item, marks, input)

@@ -2,7 +2,7 @@
 //! and over any stream.
 ghost use Rattle.format_parts.specs.Words.{pair};
 ghost use Rattle.winnow_core.specs.Claim.{CanRead};
-ghost use Rattle.winnow_core.specs.Exact.{Reads};
+ghost use Rattle.winnow_core.specs.Exact.{IsSpared, Reads};
 ghost use Rattle.grammars.specs.Grammar.{Both};
 ghost use Rattle.grammars.specs.Grammar.Tuples.{Four};
 
@@ -10,7 +10,7 @@ use stream_errors::parser_error::ParserError;
 use streams::stream::Stream;
 use winnow_core::parser::Parser;
 
-/// Runs two parsers in sequence and returns both outputs.
+/// Runs two parsers in sequence and returns both outputs. It is out of memory only if one of them is.
 pub fn read_two_of<I, O1, O2, E, P, Q>(first: P, second: Q, input: &mut I) -> Result<(O1, O2), E>
 where
     I: Stream,
@@ -20,14 +20,17 @@ where
     Q: Parser<I, O2, E> + Drop,
     requires first { CanRead (P.can_parse first) (P.claim (P.state first)) }
     requires second { CanRead (Q.can_parse second) (Q.claim (Q.state second)) }
-    ensures { Reads I.reading E.kind
+    ensures reads { Reads I.reading E.kind
         (Both pair (P.claim (P.state first)).grammar (Q.claim (Q.state second)).grammar)
         (I.view input.old) result (I.view input.new) }
+    ensures spared { (P.claim (P.state first)).spares_memory
+        → (Q.claim (Q.state second)).spares_memory → IsSpared E.kind (I.view input.old) result }
 {
     (first, second).read(input)
 }
 
-/// Runs four parsers in sequence and returns all outputs.
+/// Runs four parsers in sequence and returns all outputs. It is out of memory only if one of them
+/// is.
 pub fn read_four_of<I, O1, O2, O3, O4, E, P, Q, R, S>(
     first: P,
     second: Q,
@@ -49,10 +52,13 @@ where
     requires second { CanRead (Q.can_parse second) (Q.claim (Q.state second)) }
     requires third { CanRead (R.can_parse third) (R.claim (R.state third)) }
     requires fourth { CanRead (S.can_parse fourth) (S.claim (S.state fourth)) }
-    ensures { Reads I.reading E.kind
+    ensures reads { Reads I.reading E.kind
         (Four (P.claim (P.state first)).grammar (Q.claim (Q.state second)).grammar
         (R.claim (R.state third)).grammar (S.claim (S.state fourth)).grammar)
         (I.view input.old) result (I.view input.new) }
+    ensures spared { (P.claim (P.state first)).spares_memory
+        → (Q.claim (Q.state second)).spares_memory → (R.claim (R.state third)).spares_memory
+        → (S.claim (S.state fourth)).spares_memory → IsSpared E.kind (I.view input.old) result }
 {
     (first, second, third, fourth).read(input)
 }

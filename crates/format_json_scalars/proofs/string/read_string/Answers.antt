@@ -6,7 +6,7 @@ use Rattle.winnow_grammar.specs.Told.{text_told}
 use Rattle.format_json_scalars.proofs.string.read_string.Goals as goal
 
 pub returns-clause-grammar : goal.returns-clause-grammar
-returns-clause-grammar g c = reads_by c.read_between.ensures refl
+returns-clause-grammar g c = reads_by c.read_between.ensures.reads refl
 
 pub returns-clause-text : goal.returns-clause-text
 returns-clause-text g c = text_told (string_of HasCharacters) (returns-clause-grammar g c)

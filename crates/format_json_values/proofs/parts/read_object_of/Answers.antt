@@ -38,7 +38,7 @@ read_items-requires-clause-item g c =
     )
 
 pub returns : goal.returns
-returns g c = items_by _ _ _ _ c.read_items.ensures (three_by _
+returns g c = items_by _ _ _ _ c.read_items.ensures.reads (three_by _
     (rw (
       c.separated_pair.ensures.first,
       c.terminated-name.ensures.parser,

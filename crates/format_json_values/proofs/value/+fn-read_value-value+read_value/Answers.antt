@@ -19,7 +19,7 @@ pub returns-in-Ok-clause-grammar : goal.returns-in-Ok-clause-grammar
 returns-in-Ok-clause-grammar g t c =
     let (some, first) = c.opens.ensures.yes (search rules) in
     value_array (omega (arith, some)) (c.begins_array.ensures.yes (search rules))
-    (reads_meaning IsArray c.in-Ok.ensures refl)
+    (reads_meaning IsArray c.in-Ok.ensures.reads refl)
 
 pub returns-in-Ok-clause-text : goal.returns-in-Ok-clause-text
 returns-in-Ok-clause-text g t c =
@@ -29,7 +29,7 @@ pub returns-in-Err-clause-grammar : goal.returns-in-Err-clause-grammar
 returns-in-Err-clause-grammar g t c =
     let (some, first) = c.opens.ensures.yes (search rules) in
     value_array (omega (arith, some)) (c.begins_array.ensures.yes (search rules))
-    (reads_no_meaning IsArray c.in-Err.ensures)
+    (reads_no_meaning IsArray c.in-Err.ensures.reads)
 
 pub returns-in-Err-clause-text : goal.returns-in-Err-clause-text
 returns-in-Err-clause-text g t c =

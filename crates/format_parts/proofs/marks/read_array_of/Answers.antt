@@ -17,9 +17,18 @@ read_items-requires-clause-item g c =
       search rules,
     )
 
-pub returns : goal.returns
-returns g c = reads_by c.read_items.ensures (rw (
+pub returns-clause-reads : goal.returns-clause-reads
+returns-clause-reads g c = reads_by c.read_items.ensures.reads (rw (
   c.terminated-item.ensures.parser,
   c.terminated-item.ensures.ignored,
   c.by.ensures.rule,
 ))
+
+pub returns-clause-spared : goal.returns-clause-spared
+returns-clause-spared g c value opening closing gap none =
+    (rw (
+      c.terminated-item.ensures.parser,
+      c.terminated-item.ensures.ignored,
+      c.by.ensures.rule,
+      c.by.ensures.run,
+    ) at c.read_items.ensures.spared) (value, gap) opening closing gap none

@@ -1,4 +1,8 @@
 use Rattle.format_parts.proofs.turns.read_four_of.Goals as goal
 
-pub returns : goal.returns
-returns g c = c.read.ensures.reads
+pub returns-clause-reads : goal.returns-clause-reads
+returns-clause-reads g c = c.read.ensures.reads
+
+pub returns-clause-spared : goal.returns-clause-spared
+returns-clause-spared g c first second third fourth =
+    c.read.ensures.spared ((first, second, third), fourth)

@@ -1,4 +1,7 @@
 use Rattle.format_parts.proofs.turns.read_two_of.Goals as goal
 
-pub returns : goal.returns
-returns g c = c.read.ensures.reads
+pub returns-clause-reads : goal.returns-clause-reads
+returns-clause-reads g c = c.read.ensures.reads
+
+pub returns-clause-spared : goal.returns-clause-spared
+returns-clause-spared g c first second = c.read.ensures.spared (first, second)

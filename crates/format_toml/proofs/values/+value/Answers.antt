@@ -19,10 +19,10 @@ pub read_array-returns-in-Err : goal.read_array-returns-in-Err
 read_array-returns-in-Err g t c = reads_no_meaning IsArray c.in-Err.ensures
 
 pub read_inline-returns-in-Ok : goal.read_inline-returns-in-Ok
-read_inline-returns-in-Ok g t c = reads_meaning IsInline c.in-Ok.ensures refl
+read_inline-returns-in-Ok g t c = reads_meaning IsInline c.in-Ok.ensures.reads refl
 
 pub read_inline-returns-in-Err : goal.read_inline-returns-in-Err
-read_inline-returns-in-Err g t c = reads_no_meaning IsInline c.in-Err.ensures
+read_inline-returns-in-Err g t c = reads_no_meaning IsInline c.in-Err.ensures.reads
 
 pub read_value-returns-then-level-eq0-clause-grammar :
     goal.read_value-returns-then-level-eq0-clause-grammar
