@@ -1,12 +1,14 @@
 //! Combinators, as in winnow's documentation: repetition into a slice.
 #![tactic(auto, using(streams::specs::Ends::ends_follow))]
 
-ghost use Rattle.std.specs.Prelude.{◌≡◌, false};
+ghost use Rattle.std.specs.Prelude.{◌≡◌, false, length};
 ghost use Rattle.stream_errors.specs.Form.{answer_by, assert_kind};
 ghost use Rattle.streams.specs.Input.{IsEndOf};
 ghost use Rattle.winnow_slices.specs.IntoSlice.{IntoSlice, TooManyKind};
 ghost use Rattle.winnow_slices.specs.IntoSlice.Exact.{ReadsIntoSlice};
-ghost use Rattle.winnow_slices.specs.IntoSlice.Says.{TellsIntoSlice};
+ghost use Rattle.winnow_core.specs.Outcome.{outcome_of};
+ghost use Rattle.winnow_core.specs.Says.{Tells};
+ghost use Rattle.winnow_slices.specs.IntoSlice.Says.{into_slice_says, listed};
 
 use stream_errors::external::FromExternalError;
 use stream_errors::parser_error::ParserError;
@@ -57,9 +59,11 @@ where
         (P.state parser.new) (I.view input.new) }
     ensures ends { IsEndOf I.reading (I.view input.new) (I.view input.old) }
     ensures tells { (P.says (P.state parser.old)).premise
-        → TellsIntoSlice (P.says (P.state parser.old)) (TooManyKind E.external_gives) E.form
-        slice.old (P.state parser.old) (I.view input.old) (answer_by E.kind result) slice.new
-        (P.state parser.new) (I.view input.new) }
+        → (P.state parser.new ≡ P.state parser.old)
+        × Tells (into_slice_says (TooManyKind E.external_gives) (length slice.old)
+        (P.says (P.state parser.old))) E.form (I.view input.old)
+        (outcome_of (listed slice.new (answer_by E.kind result))
+        (I.view input.new).left.tokens) }
     ensures reads { (P.claim (P.state parser.old)).premise
         → (P.claim (P.state parser.old)).backtracks → (P.claim (P.state parser.old)).consumes
         → (I.view input.old).status.cut ≡ false

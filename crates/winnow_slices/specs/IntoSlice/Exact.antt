@@ -2,13 +2,14 @@
 use Rattle.std.specs.Prelude.{◌≡◌, ◌⊎◌, ◌<◌, ℕ, false, List, [], ◌∷◌, ◌++◌, length, None, Ok, Err}
 use Rattle.std.specs.Prelude.{IfErr, IfOk}
 use Rattle.std.proofs.Common.{refl, sym, ap, subst, inl, inr, ◌∙◌, arith, length-append}
-use Rattle.std.proofs.lemmas.List.{append-nil}
+use Rattle.std.proofs.lemmas.List.{append-nil, length_push}
 use Rattle.streams.specs.Equal.{none_is_some}
 use Rattle.streams.specs.Input.{Input}
 use Rattle.streams.specs.Kind.{Kind, backtrack, memory}
 use Rattle.stream_errors.specs.Form.{Answer, ErrorForm}
 use Rattle.stream_sets.specs.Range.{from_to}
-use Rattle.grammars.specs.Grammar.{Each, Grammar, IsUnique, Many, NoMatch, TakesTokens}
+use Rattle.grammars.specs.Grammar.{Each, Grammar, IsUnique, Many, TakesTokens}
+use Rattle.grammars.specs.Grammar.Unique.{no_more}
 use Rattle.winnow_core.specs.Claim.{Claim, Claimed}
 use Rattle.winnow_core.specs.Elements.{length-zero}
 use Rattle.winnow_core.specs.Exact.{FailsBy, IsExact}
@@ -46,32 +47,26 @@ pub record ReadsIntoSlice {T O : Type 0} (grammar : Grammar T O) (spares : Type 
 
 -- ---- laws
 
--- all matches are more than those that another one follows
-longer : {T O : Type 0} {g : Grammar T O} → IsUnique g → (os ps : List O)
-    (tokens rest other end : List T) (o : O) → Each g tokens os rest → NoMatch g rest
-    → Each g tokens ps other → g other o end → length ps < length os
-longer {g = g} unique [] [] tokens rest other end o e none f x =
-    absurd (none o end (subst (λ l. g l o end) (f ∙ sym e) x))
-longer {g = g} unique [] (p ∷ ps) tokens rest other end o e none (mid, y, more) x =
-    absurd (none p mid (subst (λ l. g l p mid) (sym e) y))
-longer unique (q ∷ os) [] tokens rest other end o each none f x = omega arith
-longer {T} {g = g} unique (q ∷ os) (p ∷ ps) tokens rest other end o (mid, y, each) none
-    (mid2, z, more) x =
-    let P : List T → Type 0 = λ l. Each g l os rest in
-    let fewer = longer unique os ps mid2 rest other end o
-    (subst P (unique.one tokens q p mid mid2 y z) each) none more x in
-    omega (arith, fewer)
+-- matches, and another one after them
+each_push : {T O : Type 0} (g : Grammar T O) (os : List O) (tokens rest end : List T) (o : O)
+    → Each g tokens os rest → g rest o end → Each g tokens (os ++ o ∷ []) end
+each_push g [] tokens rest end o e x = (end, subst (λ l. g l o end) e x, refl)
+each_push g (p ∷ os) tokens rest end o (mid, y, more) x =
+    (mid, y, each_push g os mid rest end o more x)
 
 has_more : {T O : Type 0} {g : Grammar T O} → IsUnique g → (os : List O)
     (tokens rest end : List T) (o : O) → Each g tokens os rest → g rest o end
     → HasMore g os tokens rest
 unfolding Many
-has_more unique os tokens rest end o each x = record {
+has_more {g = g} unique os tokens rest end o each x = record {
   each = each;
   next = (o, end, x);
   more = λ ps last (all, enough, stops). elim stops [
     | inl never ↦ none_is_some never
-    | inr (below, none) ↦ longer unique ps os tokens last rest end o all none each x
+    | inr (below, none) ↦
+        let fewer = no_more unique ps (os ++ o ∷ []) tokens last end all none
+        (each_push g os tokens rest end o each x) in
+        omega (arith, fewer, length_push os o)
   ];
 }
 

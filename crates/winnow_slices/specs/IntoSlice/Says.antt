@@ -1,19 +1,19 @@
 -- The outcomes of a repetition into a slice.
-use Rattle.std.specs.Prelude.{◌≡◌, ◌⊎◌, ◌<◌, ◌≤◌, ℕ, Bool, false, List, ◌++◌, length, Option, Some}
-use Rattle.std.specs.Prelude.{Ok, Err, IfOk}
+use Rattle.std.specs.Prelude.{◌≡◌, ◌⊎◌, ◌<◌, ℕ, Bool, false, List, ◌++◌, length, Option, Some}
+use Rattle.std.specs.Prelude.{Ok, Err, take}
 use Rattle.std.proofs.Common.{refl, sym, ap, subst, inl, inr, ◌∙◌, arith}
 use Rattle.std.proofs.Math.Nat.{eq-or-lt_of_le}
+use Rattle.std.proofs.Math.Seq.{take-append_seam}
 use Rattle.streams.specs.Input.{Input}
 use Rattle.streams.specs.Kind.{Kind, backtrack, memory}
-use Rattle.stream_errors.specs.Form.{Answer, ErrorForm, assert_kind}
+use Rattle.stream_errors.specs.Form.{Answer, assert_kind}
 use Rattle.stream_errors.specs.Given.{Keeping}
 use Rattle.winnow_core.specs.Outcome.{Outcome, asks, cuts, backs, wants, took, Setting, grown}
 use Rattle.winnow_core.specs.Outcome.{on_cut}
 use Rattle.winnow_core.specs.Outcome.{Does, IsFinal, as_longer, both, gave, longer, misused}
-use Rattle.winnow_core.specs.Outcome.{Alike, alike_wants, outcome_of}
-use Rattle.winnow_core.specs.Runs.{Meaning, Runs}
-use Rattle.winnow_core.specs.Says.{Did, EachDoes, IsAt, Lawful, Said, Says, Tells}
-use Rattle.winnow_core.specs.Says.{kept_by, told}
+use Rattle.winnow_core.specs.Outcome.{Alike, alike_wants}
+use Rattle.winnow_core.specs.Runs.{Meaning}
+use Rattle.winnow_core.specs.Says.{Did, EachDoes, IsAt, Lawful, Said, Says}
 use Rattle.winnow_core.specs.Says.Lacks.{misused_alike, misused_outcome, misused_whole}
 use Rattle.winnow_core.specs.Then.{Comes, ComesOf, Holds, Meets, Next, NextHolds, NextMeets, Then}
 use Rattle.winnow_core.specs.Then.{back_then, did_then, hands_on}
@@ -23,7 +23,6 @@ use Rattle.winnow_repeat.specs.Chain.Items.{then_meet, then_stay, then_whole}
 use Rattle.winnow_repeat.specs.Chain.Says.{AlikeLists, Chained, Ends, ItemOf, Stops, chain_at}
 use Rattle.winnow_repeat.specs.Chain.Says.{chained_did, chained_meet, chained_stay, chained_whole}
 use Rattle.winnow_repeat.specs.Chain.Says.{did_wider, item_law, items_did, nor_less, still_less}
-use Rattle.winnow_repeat.specs.Chain.{Chain}
 use Rattle.winnow_slices.specs.IntoSlice.{IntoSlice, IntoSliceEnds, Overwrites, TooManyKind}
 use Rattle.winnow_slices.specs.IntoSlice.{within_slice}
 use Rattle.winnow_slices.specs.declared.combinator.TooMany.{TooMany}
@@ -65,21 +64,10 @@ into_slice_says too_many limit p = record {
   alike = AlikeLists p.alike;
 }
 
--- the result of a call with the outputs instead of their number
+-- the result of a call with the first elements of the slice instead of their number
 abbrev pub listed : {O : Type 0} → List O → Answer ℕ → Answer (List O)
-listed outputs (Ok n) = Ok outputs
-listed outputs (Err k) = Err k
-
--- The result of a repetition into a slice, in terms of the outcomes of its parser.
-pub record TellsIntoSlice {S T O : Type 0} (says : Says T O) (too_many : ℕ → Kind → Type 0)
-    (form : ErrorForm) (old : List O) (s : S) (i : Input T) (answer : Answer ℕ) (new : List O)
-    (t : S) (j : Input T) : Type 0 where
-  pub outputs : List O
-  pub written : Overwrites outputs old new
-  pub counted : IfOk answer (λ n. n ≡ length outputs)
-  pub tells : Tells (into_slice_says too_many (length old) says) form i
-      (outcome_of (listed outputs answer) j.left.tokens)
-  pub kept : t ≡ s
+listed new (Ok n) = Ok (take n new)
+listed new (Err k) = Err k
 
 -- ---- laws
 
@@ -182,137 +170,89 @@ into_slice_law {T} {O} {alike = alike} {does} p too_many limit = record {
 
 -- ---- runs do so
 
-module _ {T O : Type 0} (does : Does T O) (too_many : ℕ → Kind → Type 0) (limit : ℕ) (os : List O)
-  where
-    abbrev EndsDo : Does T (List O)
-    EndsDo = Ends (Some limit) (λ os. Then does (after_items (too_many limit) os))
-        (λ os. Then does (after_items (λ k. ⊥) os)) os
-
-    wider : (at : Setting) (tokens : List T) (x : Outcome T O) (y : Outcome T (List O))
-        → ComesOf (after_items (λ k. ⊥) os) at tokens x y
-        → ComesOf (after_items (too_many limit) os) at tokens x y
-    wider at tokens (took o rest) y (inl none) = inl none
-    wider at tokens (took o rest) y (inr (inl (less, never, e))) = absurd never
-    wider at tokens (took o rest) y (inr (inr (less, never, e))) = absurd never
-    wider at tokens (backs place) y c = c
-    wider at tokens (cuts place) y c = c
-    wider at tokens (asks need place) y c = c
-    wider at tokens wants y c = c
-
-    -- whether an element is left or not
-    either_way : length os ≤ limit → (at : Setting) (tokens : List T) (y : Outcome T (List O))
-        → Then does (after_items (λ k. ⊥) os) at tokens y → EndsDo at tokens y
-    either_way within at tokens y (x, d, c) = elim (eq-or-lt_of_le within) [
-      | inl full ↦ inl (ap Some (sym full), (x, d, wider at tokens x y c))
-      | inr below ↦ inr (below, (x, d, c))
-    ]
+-- the error for an output without an element is a backtrack or out of memory
+soft_kind : (keeping : TooMany → Keeping) (limit : ℕ) (k : Kind) → TooManyKind keeping limit k
+    → (k ≡ backtrack) ⊎ (k ≡ memory)
+soft_kind keeping limit k (inl (kept, e)) = inl e
+soft_kind keeping limit k (inr (refused, e)) = inr e
 
 module _ {S T O : Type 0} {does : Does T O} {s : S} {meaning : Meaning S T O}
-    (part : EachDoes does s meaning) (too_many : ℕ → Kind → Type 0)
-    (soft : (limit : ℕ) (k : Kind) → too_many limit k → (k ≡ backtrack) ⊎ (k ≡ memory))
-    (at : Setting) (limit : ℕ) (os : List O) (within : length os ≤ limit) where
-  ends_did : (m : Input T) (answer : Answer ℕ) (t : S) (j : Input T) → IsAt at m
-      → IntoSliceEnds (meaning at.form) too_many (assert_kind at.form) limit os s m answer t j
-      → Did (EndsDo does too_many limit os) at s m (listed os answer) t j
-  ends_did m answer t j is (inl (x, r, e, same)) =
-      did_wider (either_way does too_many limit os within at m.left.tokens)
-      (back_then {next = after_items (λ k. ⊥) os} (part.did at m (Err backtrack) t x is r) same
-      (gave m.left.tokens (ap (listed os) e)))
-  ends_did m answer t j is (inr (inl (k, r, other, e))) =
-      did_wider (either_way does too_many limit os within at m.left.tokens)
-      (did_then {next = after_items (λ k. ⊥) os} (part.did at m (Err k) t j is r)
-      (hands_on (after_items (λ k. ⊥) os) at m.left.tokens j.left.tokens k
-      (λ y is e. absurd (other is)) (λ y is e. e) (λ y need is e. e) (ap (listed os) e)))
-  ends_did m answer t j is (inr (inr (inl (o, r, nothing, e)))) =
+    (part : EachDoes does s meaning) (keeping : TooMany → Keeping) (at : Setting)
+    (old new os : List O) (written : Overwrites os old new) where
+  abbrev limit : ℕ
+  limit = length old
+
+  abbrev ItemEnds : S → Input T → Answer ℕ → S → Input T → Type 0
+  ItemEnds u m answer t j = IntoSliceEnds (meaning at.form) (TooManyKind keeping)
+      (assert_kind at.form) limit os u m answer t j
+
+  -- the item after the last, where `many` has the kinds of the error for it
+  item_did : (many : Kind → Type 0)
+      → (length os ≡ limit → (k : Kind) → TooManyKind keeping limit k → many k)
+      → (m : Input T) (answer : Answer ℕ) (t : S) (j : Input T) → IsAt at m
+      → ItemEnds s m answer t j
+      → Did (Then does (after_items many os)) at s m (listed new answer) t j
+  item_did many which m answer t j is (inl (x, r, e, same)) =
+      let first = ap (take (length os)) written.is ∙ take-append_seam os written.rest in
+      back_then {next = after_items many os} (part.did at m (Err backtrack) t x is r) same
+      (gave m.left.tokens (ap (listed new) e ∙ ap Ok first))
+  item_did many which m answer t j is (inr (inl (k, r, other, e))) =
+      did_then {next = after_items many os} (part.did at m (Err k) t j is r)
+      (hands_on (after_items many os) at m.left.tokens j.left.tokens k
+      (λ y is e. absurd (other is)) (λ y is e. e) (λ y need is e. e) (ap (listed new) e))
+  item_did many which m answer t j is (inr (inr (inl (o, r, nothing, e)))) =
       let as_many = ap length nothing in
-      did_wider (either_way does too_many limit os within at m.left.tokens)
-      (did_then {next = after_items (λ k. ⊥) os} (part.did at m (Ok o) t j is r)
+      did_then {next = after_items many os} (part.did at m (Ok o) t j is r)
       (inl (
         λ less. absurd (omega (arith, as_many, less)),
-        misused_outcome at j.left.tokens (ap (listed os) e),
-      )))
-  ends_did m answer t j is (inr (inr (inr (o, x, k, full, r, less, same, many, e)))) =
-      did_wider (λ y d. inl (ap Some (sym full), d))
-      (back_then {next = after_items (too_many limit) os} (part.did at m (Ok o) t x is r) same
-      (inr (elim (soft limit k many) [
-        | inl b ↦ inl (
-          less,
-          subst (too_many limit) b many,
-          gave m.left.tokens (ap (listed os) e ∙ ap Err b),
-        )
-        | inr w ↦ inr (
-          less,
-          subst (too_many limit) w many,
-          gave m.left.tokens (ap (listed os) e ∙ ap Err w),
-        )
-      ])))
+        misused_outcome at j.left.tokens (ap (listed new) e),
+      ))
+  item_did many which m answer t j is
+      (inr (inr (inr (o, x, k, full, r, less, same, kind, e)))) =
+      let may = which full k kind in
+      let out = ap (listed new) e in
+      back_then {next = after_items many os} (part.did at m (Ok o) t x is r) same
+      (inr (elim (soft_kind keeping limit k kind) [
+        | inl b ↦ inl (less, subst many b may, gave m.left.tokens (out ∙ ap Err b))
+        | inr w ↦ inr (less, subst many w may, gave m.left.tokens (out ∙ ap Err w))
+      ]))
 
--- calls with the outputs as result, for a slice of `limit` elements
-abbrev ListRuns : {S T O : Type 0} → Meaning S T O → (ℕ → Kind → Type 0) → ℕ → Meaning S T (List O)
-ListRuns {S} {T} {O} meaning too_many limit form s i a t j =
-    (os : List O) × (u : S) × (m : Input T) × (answer : Answer ℕ) × Chain (meaning form) s i os u m
-    × (length os ≤ limit) × (a ≡ listed os answer)
-    × IntoSliceEnds (meaning form) too_many (assert_kind form) limit os u m answer t j
+  ends_did : (m : Input T) (answer : Answer ℕ) (t : S) (j : Input T) → IsAt at m
+      → ItemEnds s m answer t j
+      → Did (Ends (Some limit) (λ os. Then does (after_items (TooManyKind keeping limit) os))
+      (λ os. Then does (after_items (λ k. ⊥) os)) os) at s m (listed new answer) t j
+  ends_did m answer t j is ends = elim (eq-or-lt_of_le (within_slice written)) [
+    | inl full ↦ did_wider (λ y d. inl (ap Some (sym full), d))
+        (item_did (TooManyKind keeping limit) (λ same k kind. kind) m answer t j is ends)
+    | inr below ↦ did_wider (λ y d. inr (below, d))
+        (item_did (λ k. ⊥) (λ same k kind. absurd (omega (arith, same, below))) m answer t j is
+        ends)
+  ]
 
-list_said : {S T O : Type 0} {says : Says T O} {s : S} {meaning : Meaning S T O}
-    → Said says s meaning → (too_many : ℕ → Kind → Type 0)
-    → ((limit : ℕ) (k : Kind) → too_many limit k → (k ≡ backtrack) ⊎ (k ≡ memory)) → (limit : ℕ)
-    → Said (into_slice_says too_many limit says) s (ListRuns meaning too_many limit)
-list_said {S} {T} {O} {says} {s} {meaning} p too_many soft limit = record {
+-- calls with the outputs as result
+abbrev ListRuns : {S T O : Type 0} → Meaning S T O → (TooMany → Keeping) → List O → List O
+    → Meaning S T (List O)
+ListRuns meaning keeping old new form s i a t j =
+    (answer : Answer ℕ) × (a ≡ listed new answer)
+    × IntoSlice (meaning form) (TooManyKind keeping) (assert_kind form) old s i answer new t j
+
+-- the clause of a call
+pub into_slice_said : {S T O : Type 0} {says : Says T O} {s : S} {meaning : Meaning S T O}
+    → Said says s meaning → (keeping : TooMany → Keeping) (old new : List O)
+    → Said (into_slice_says (TooManyKind keeping) (length old) says) s
+    (ListRuns meaning keeping old new)
+into_slice_said {S} {T} {O} {says} {s} {meaning} p keeping old new = record {
   runs = λ is. record {
-    did = λ at i a t j here (os, u, m, answer, chain, within, e, ends).
-        let P : S → Type 0 = λ x. IntoSliceEnds (meaning at.form) too_many (assert_kind at.form)
-        limit os x m answer t j in
+    did = λ at i a t j here (answer, e, (os, u, m, chain, written, ends)).
+        let P : S → Type 0 = λ x. IntoSliceEnds (meaning at.form) (TooManyKind keeping)
+        (assert_kind at.form) (length old) os x m answer t j in
         let Q : Answer (List O) → Type 0 =
-        λ b. Did (IntoSliceDo says.does too_many limit) at s i b t j in
+        λ b. Did (IntoSliceDo says.does (TooManyKind keeping) (length old)) at s i b t j in
         let did = items_did (meaning at.form) at
         (λ i answer t j is2 r. (p.runs is).did at i answer t j is2 r) os i u m here chain.runs in
         subst Q (sym e) (chained_did os did
-        (ends_did (p.runs is) too_many soft at limit os within m answer t j (chain_at did here)
+        (ends_did (p.runs is) keeping at old new os written m answer t j (chain_at did here)
         (subst P did.kept ends)));
   };
-  law = λ is. into_slice_law (p.law is) too_many limit;
+  law = λ is. into_slice_law (p.law is) (TooManyKind keeping) (length old);
 }
-
--- the number that is returned
-count_of : {S T O : Type 0} (run : Runs S T O) (too_many : ℕ → Kind → Type 0) (asserted : Kind)
-    (limit : ℕ) (os : List O) (u : S) (m : Input T) (answer : Answer ℕ) (t : S) (j : Input T)
-    → IntoSliceEnds run too_many asserted limit os u m answer t j
-    → IfOk answer (λ n. n ≡ length os)
-count_of run too_many asserted limit os u m answer t j ends = by ends
-  where
-    Counted : Answer ℕ → Type 0
-    Counted a = IfOk a (λ n. n ≡ length os)
-
-    by : IntoSliceEnds run too_many asserted limit os u m answer t j → Counted answer
-    by (inl (x, r, e, same)) = subst Counted (sym e) refl
-    by (inr (inl (k, r, other, e))) = subst Counted (sym e) tt
-    by (inr (inr (inl (o, r, nothing, e)))) = subst Counted (sym e) tt
-    by (inr (inr (inr (o, x, k, full, r, less, same, many, e)))) = subst Counted (sym e) tt
-
--- the error for an output without an element is a backtrack or out of memory
-pub soft_kinds : (keeping : TooMany → Keeping) (limit : ℕ) (k : Kind)
-    → TooManyKind keeping limit k → (k ≡ backtrack) ⊎ (k ≡ memory)
-soft_kinds keeping limit k (inl (kept, e)) = inl e
-soft_kinds keeping limit k (inr (refused, e)) = inr e
-
--- the clause of a call
-pub into_slice_told : {S T O : Type 0} {says : Says T O} {s : S} {meaning : Meaning S T O}
-    → Said says s meaning → says.premise → (too_many : ℕ → Kind → Type 0)
-    → ((limit : ℕ) (k : Kind) → too_many limit k → (k ≡ backtrack) ⊎ (k ≡ memory))
-    → (form : ErrorForm) (old : List O) (i : Input T) (answer : Answer ℕ) (new : List O) (t : S)
-    (j : Input T)
-    → IntoSlice (meaning form) too_many (assert_kind form) old s i answer new t j
-    → TellsIntoSlice says too_many form old s i answer new t j
-into_slice_told {s = s} {meaning} said is too_many soft form old i answer new t j
-    (os, u, m, chain, written, ends) =
-    let lists = list_said said too_many soft (length old) in
-    let ran : ListRuns meaning too_many (length old) form s i (listed os answer) t j =
-    (os, u, m, answer, chain, within_slice written, refl, ends) in record {
-      outputs = os;
-      written = written;
-      counted = count_of (meaning form) too_many (assert_kind form) (length old) os u m answer t
-          j ends;
-      tells = told lists is form i (listed os answer) t j ran;
-      kept = kept_by lists is form i (listed os answer) t j ran;
-    }
