@@ -1,20 +1,19 @@
 -- The first invalid token: it is unique, and composes.
-use Rattle.std.specs.Prelude.{◌≡◌, ◌⊎◌, ◌↔◌, ◌≤◌, ℕ, List, [], ◌∷◌, ◌++◌, length, Option, Some}
-use Rattle.std.specs.Prelude.{None}
+use Rattle.std.specs.Prelude.{◌≡◌, ◌↔◌, ◌≤◌, ℕ, List, [], ◌∷◌, ◌++◌, length}
 use Rattle.std.specs.List.{All}
 use Rattle.std.proofs.Common.{refl, sym, ap, subst, inl, inr, ◌∙◌, arith, append_assoc}
 use Rattle.std.proofs.Common.{length-append}
 use Rattle.std.proofs.lemmas.List.{append-nil}
-use Rattle.streams.specs.Equal.{same_first, same_others}
+use Rattle.streams.specs.Equal.{same_first}
 use Rattle.streams.specs.Reading.{Reading}
-use Rattle.grammars.specs.Texts.{BothText, EachText, EitherText, Itself, Members, NotFirst}
-use Rattle.grammars.specs.Texts.{OptionalText, PartedText, Text}
+use Rattle.grammars.specs.Texts.{AtLeast, BothText, EachText, EitherText, Itself, Members}
+use Rattle.grammars.specs.Texts.{NotFirst, OptionalText, Text}
 use Rattle.grammar_prefixes.specs.Prefixes.{FollowedBy, IsDelimitedBy, IsFirstInvalid, IsNonempty}
 use Rattle.grammar_prefixes.specs.Prefixes.{IsPrefixOf}
 use Rattle.grammar_prefixes.specs.Prefixes.Parts.{between_of, both_prefix, either_prefix}
-use Rattle.grammar_prefixes.specs.Prefixes.Parts.{members_prefix, optional_prefix, same_prefix}
+use Rattle.grammar_prefixes.specs.Prefixes.Parts.{members_prefix, optional_prefix}
 use Rattle.grammar_prefixes.specs.Prefixes.Parts.{shorter_prefix, spelled_prefix, two_splits}
-use Rattle.grammar_prefixes.specs.Prefixes.Rows.{NextText}
+use Rattle.grammar_prefixes.specs.Prefixes.Rows.{IsRow, any_prefix, some_as}
 
 module _ {T O : Type 0} {text : Text T O} where
   -- a longer prefix has the first invalid token
@@ -115,7 +114,7 @@ module _ {T O1 O2 O : Type 0} (output : O1 → O2 → O) {first : Text T O1} {se
         elim ((both_prefix output first second (front ++ t ∷ [])).0 longer) [
           | inl (x, y) ↦ it.stops t more e x
           | inr x ↦
-            let (o, a, b) = past_first front t [] it.valid (it.stops t more e) x in none o a
+              let (o, a, b) = past_first front t [] it.valid (it.stops t more e) x in none o a
         ];
   }
 
@@ -155,7 +154,7 @@ behind_invalid : {T O : Type 0} {text : Text T O} {tokens front rest : List T} (
 behind_invalid {T} {text = text} {front = front} {rest} other t more it splits less longer =
     elim (two_splits front rest other (t ∷ more) (sym it.splits ∙ splits)) [
       | inl (m, d, f) ↦ past_invalid_at it m t more f
-        (subst P (ap (λ l. l ++ t ∷ []) d ∙ append_assoc front m (t ∷ [])) longer)
+          (subst P (ap (λ l. l ++ t ∷ []) d ∙ append_assoc front m (t ∷ [])) longer)
       | inr (m, d, f) ↦ same m d f
     ]
   where
@@ -170,29 +169,29 @@ behind_invalid {T} {text = text} {front = front} {rest} other t more it splits l
 
 module _ {T O : Type 0} {first second : Text T O} {tokens front rest other end : List T}
     (one : IsFirstInvalid first tokens front rest) (two : IsFirstInvalid second tokens other end)
-    where
-  -- The first invalid token of a choice is the later one of its branches.
-  pub either_stops_in_second : length front ≤ length other
-      → IsFirstInvalid (EitherText first second) tokens other end
-  either_stops_in_second less = record {
-    splits = two.splits;
-    valid = (either_prefix first second other).1 (inr two.valid);
-    stops = λ t more e longer. elim ((either_prefix first second (other ++ t ∷ [])).0 longer) [
-      | inl x ↦ behind_invalid other t more one (two.splits ∙ ap (λ l. other ++ l) e) less x
-      | inr y ↦ two.stops t more e y
-    ];
-  }
+  where
+    -- The first invalid token of a choice is the later one of its branches.
+    pub either_stops_in_second : length front ≤ length other
+        → IsFirstInvalid (EitherText first second) tokens other end
+    either_stops_in_second less = record {
+      splits = two.splits;
+      valid = (either_prefix first second other).1 (inr two.valid);
+      stops = λ t more e longer. elim ((either_prefix first second (other ++ t ∷ [])).0 longer) [
+        | inl x ↦ behind_invalid other t more one (two.splits ∙ ap (λ l. other ++ l) e) less x
+        | inr y ↦ two.stops t more e y
+      ];
+    }
 
-  pub either_stops_in_first : length other ≤ length front
-      → IsFirstInvalid (EitherText first second) tokens front rest
-  either_stops_in_first less = record {
-    splits = one.splits;
-    valid = (either_prefix first second front).1 (inl one.valid);
-    stops = λ t more e longer. elim ((either_prefix first second (front ++ t ∷ [])).0 longer) [
-      | inl x ↦ one.stops t more e x
-      | inr y ↦ behind_invalid front t more two (one.splits ∙ ap (λ l. front ++ l) e) less y
-    ];
-  }
+    pub either_stops_in_first : length other ≤ length front
+        → IsFirstInvalid (EitherText first second) tokens front rest
+    either_stops_in_first less = record {
+      splits = one.splits;
+      valid = (either_prefix first second front).1 (inl one.valid);
+      stops = λ t more e longer. elim ((either_prefix first second (front ++ t ∷ [])).0 longer) [
+        | inl x ↦ one.stops t more e x
+        | inr y ↦ behind_invalid front t more two (one.splits ∙ ap (λ l. front ++ l) e) less y
+      ];
+    }
 
 pub optional_stops : {T O : Type 0} {text : Text T O} {tokens front rest : List T}
     → IsFirstInvalid text tokens front rest
@@ -209,7 +208,6 @@ optional_stops {T} {text = text} {front = front} it = record {
     some : (xs : List T) (t : T) → xs ++ t ∷ [] ≡ [] → ⊥
     some [] t e = absurd (cc)
     some (x ∷ xs) t e = absurd (cc)
-
 
 -- ---- tokens
 
@@ -248,58 +246,45 @@ members_stop reading these least {front = front} {rest} slices some all splits e
       subst P e ends (between_of these front t [] both);
 }
 
--- ---- repetitions: an element and the others, or nothing
+-- ---- repetitions, and lists with separators
 
-module _ {T O : Type 0} (text : Text T O) where
-  unfolded : (os : List O) (tokens : List T) → EachText text os tokens → (p : Option (List O))
-      × OptionalText (BothText (λ o more. o ∷ more) text (EachText text)) p tokens
-  unfolding EachText OptionalText BothText
-  unfolded [] tokens e = (None, e)
-  unfolded (o ∷ os) tokens (xs, ys, a, b, e) = (Some (o ∷ os), (o, os, xs, ys, a, b, e, refl))
+-- no token continues an element and starts another one, so none starts a repetition
+pub each_delimits : {T O U : Type 0} {first : Text T U} {text : Text T O}
+    → IsDelimitedBy first text → IsDelimitedBy first (EachText text)
+unfolding EachText
+each_delimits {T} {O} {text = text} by = record {
+  apart = λ o xs t a longer (os, more, b). by.apart o xs t a longer (starts os t more b);
+}
+  where
+    starts : (os : List O) (t : T) (more : List T) → EachText text os (t ∷ more)
+        → IsPrefixOf text (t ∷ [])
+    starts [] t more e = absurd (cc)
+    starts (o ∷ os) t more ([], ys, a, b, e) =
+        let P : List T → Type 0 = λ l. EachText text os l in starts os t more (subst P (sym e) b)
+    starts (o ∷ os) t more (x ∷ xs, ys, a, b, e) =
+        let P : T → Type 0 = λ v. text o (v ∷ xs) in (o, xs, subst P (sym (same_first e)) a)
 
-  folded : (p : Option (List O)) (tokens : List T)
-      → OptionalText (BothText (λ o more. o ∷ more) text (EachText text)) p tokens
-      → (os : List O) × EachText text os tokens
-  unfolding EachText OptionalText BothText
-  folded None tokens e = ([], e)
-  folded (Some ps) tokens (o, os, xs, ys, a, b, e, out) = (o ∷ os, (xs, ys, a, b, e))
+-- the first invalid token of a list of at least one element is that of any number
+pub any_stops : {T O : Type 0} {text : Text T O} {others whole : Text T (List O)}
+    → IsRow text others whole → {tokens front rest : List T}
+    → IsFirstInvalid (AtLeast 1 whole) tokens front rest → IsFirstInvalid whole tokens front rest
+any_stops {whole = whole} is it = invalid_as (λ xs.
+    let (there, back) = optional_prefix (AtLeast 1 whole) xs in
+    let (from, to) = any_prefix is xs in (λ x. to (there x), λ x. back (from x)))
+    (optional_stops it)
 
-  one_and_more : {tokens front rest : List T}
-      → IsFirstInvalid (BothText (λ o more. o ∷ more) text (EachText text)) tokens front rest
-      → IsFirstInvalid (EachText text) tokens front rest
-  one_and_more it = invalid_as
-      (same_prefix (OptionalText (BothText (λ o more. o ∷ more) text (EachText text)))
-      (EachText text) folded unfolded) (optional_stops it)
+module _ {T O : Type 0} {text : Text T O} {others whole : Text T (List O)}
+    (is : IsRow text others whole) (by : IsDelimitedBy text others) {tokens front rest : List T}
+    (it : IsFirstInvalid text tokens front rest) where
+  -- If the first element is not complete at its first invalid token, this is that of the list.
+  pub stops_in_one : IsNonempty others → ((o : O) → text o front → ⊥)
+      → IsFirstInvalid (AtLeast 1 whole) tokens front rest
+  stops_in_one some none =
+      invalid_as (some_as is) (both_stops_in_first (λ o os. o ∷ os) by some it none)
 
-  -- a repetition starts as an element does
-  each_starts : (os : List O) (t : T) (more : List T) → EachText text os (t ∷ more)
-      → IsPrefixOf text (t ∷ [])
-  unfolding EachText
-  each_starts [] t more e = absurd (cc)
-  each_starts (o ∷ os) t more ([], ys, a, b, e) =
-      let P : List T → Type 0 = λ l. EachText text os l in each_starts os t more (subst P (sym e) b)
-  each_starts (o ∷ os) t more (x ∷ xs, ys, a, b, e) =
-      let P : T → Type 0 = λ v. text o (v ∷ xs) in (o, xs, subst P (sym (same_first e)) a)
-
-  each_delimits : {U : Type 0} {first : Text T U} → IsDelimitedBy first text
-      → IsDelimitedBy first (EachText text)
-  each_delimits by = record {
-    apart = λ o xs t a longer (os, more, b).
-        by.apart o xs t a longer (each_starts os t more b);
-  }
-
-  each_some : IsNonempty (EachText text)
-  unfolding EachText
-  each_some = ([], [], refl)
-
-  module _ (by : IsDelimitedBy text text) where
-    pub each_stops_in_one : {tokens front rest : List T} → IsFirstInvalid text tokens front rest
-        → ((o : O) → text o front → ⊥) → IsFirstInvalid (EachText text) tokens front rest
-    each_stops_in_one it none = one_and_more
-        (both_stops_in_first (λ o more. o ∷ more) (each_delimits by) each_some it none)
-
-    pub each_stops_after_one : {tokens front mid more rest : List T} (o : O) → text o front
-        → IsFirstInvalid text tokens front mid → IsFirstInvalid (EachText text) mid more rest
-        → IsFirstInvalid (EachText text) tokens (front ++ more) rest
-    each_stops_after_one o a it next = one_and_more
-        (both_stops_in_second (λ o more. o ∷ more) (each_delimits by) o a it next)
+  -- If it is complete there, that of the other elements is.
+  pub stops_after_one : {more end : List T} (o : O) → text o front
+      → IsFirstInvalid others rest more end
+      → IsFirstInvalid (AtLeast 1 whole) tokens (front ++ more) end
+  stops_after_one o a next =
+      invalid_as (some_as is) (both_stops_in_second (λ o os. o ∷ os) by o a it next)

@@ -1,5 +1,5 @@
 -- The prefixes of tokens, sequences, choices and options, and of outputs that are mapped.
-use Rattle.std.specs.Prelude.{◌≡◌, ◌⊎◌, ◌↔◌, ◌≤◌, ℕ, List, [], ◌∷◌, ◌++◌, length, Option, Some}
+use Rattle.std.specs.Prelude.{◌≡◌, ◌⊎◌, ◌↔◌, ◌≤◌, ℕ, List, [], ◌∷◌, ◌++◌, length, Some}
 use Rattle.std.specs.Prelude.{None, replicate}
 use Rattle.std.specs.List.{All}
 use Rattle.std.proofs.Common.{refl, sym, ap, subst, inl, inr, ◌∙◌, arith, append_assoc}
@@ -8,10 +8,12 @@ use Rattle.std.proofs.lemmas.List.Elements.{All-append, All-cons, All-head, All-
 use Rattle.std.proofs.lemmas.List.Elements.{All-replicate, All-tail}
 use Rattle.streams.specs.Equal.{same_first, same_others}
 use Rattle.streams.specs.Reading.{Reading}
-use Rattle.grammars.specs.Texts.{BothText, EitherText, MadeText, Members, OptionalText, Spelled}
-use Rattle.grammars.specs.Texts.{Text}
+use Rattle.grammars.specs.Grammar.{Grammar}
+use Rattle.grammars.specs.Texts.{BothText, EitherText, IsGrammarOf, MadeText, Members}
+use Rattle.grammars.specs.Texts.{OptionalText, Spelled, Text}
 use Rattle.grammars.specs.Texts.{TokenOfText}
-use Rattle.grammar_prefixes.specs.Prefixes.{FollowedBy, IsNonempty, IsPrefixOf, NoneOr}
+use Rattle.grammar_prefixes.specs.Prefixes.{FollowedBy, IsNonempty, IsPrefixOf}
+use Rattle.grammar_prefixes.specs.Prefixes.{IsPrefixOfMatch, NoneOr}
 
 -- ---- lists
 
@@ -46,9 +48,6 @@ module _ {T O : Type 0} (text : Text T O) where
   pub whole_prefix : (o : O) (xs : List T) → text o xs → IsPrefixOf text xs
   whole_prefix o xs it =
       let P : List T → Type 0 = λ l. text o l in (o, [], subst P (sym (append-nil xs)) it)
-
-  pub no_prefix : IsNonempty text ↔ IsPrefixOf text []
-  no_prefix = (λ it. it, λ it. it)
 
 -- ---- tokens
 
@@ -158,6 +157,44 @@ module _ {T O1 O2 O : Type 0} (output : O1 → O2 → O) (first : Text T O1) (se
       ⊎ FollowedBy first (IsPrefixOf second) front)
   both_prefix = (both_there, both_back)
 
+-- A prefix of the first of three parts, of the second after the first, or of the third after both.
+abbrev pub InOneOfThree : {T O1 O2 O3 : Type 0} → Text T O1 → Text T O2 → Text T O3 → List T
+    → Type 0
+InOneOfThree first second third front =
+    (IsPrefixOf first front × (IsNonempty second × IsNonempty third))
+    ⊎ ((FollowedBy first (IsPrefixOf second) front × IsNonempty third)
+    ⊎ FollowedBy first (FollowedBy second (IsPrefixOf third)) front)
+
+module _ {T O1 O2 O3 P O : Type 0} (outer : O1 → P → O) (inner : O2 → O3 → P) (first : Text T O1)
+    (second : Text T O2) (third : Text T O3) (front : List T) where
+  three_there : (IsPrefixOf first front × IsNonempty (BothText inner second third))
+      ⊎ FollowedBy first (IsPrefixOf (BothText inner second third)) front
+      → InOneOfThree first second third front
+  unfolding BothText
+  three_there (inl (x, (p, tokens, (o2, o3, ys, zs, b, c, e, out)))) =
+      inl (x, ((o2, ys, b), (o3, zs, c)))
+  three_there (inr (o1, xs, ys, a, x, e)) = elim (both_there inner second third ys x) [
+    | inl (y, some) ↦ inr (inl ((o1, xs, ys, a, y, e), some))
+    | inr y ↦ inr (inr (o1, xs, ys, a, y, e))
+  ]
+
+  three_back : InOneOfThree first second third front
+      → (IsPrefixOf first front × IsNonempty (BothText inner second third))
+      ⊎ FollowedBy first (IsPrefixOf (BothText inner second third)) front
+  unfolding BothText
+  three_back (inl (x, ((o2, ys, b), (o3, zs, c)))) =
+      inl (x, (inner o2 o3, ys ++ zs, (o2, o3, ys, zs, b, c, refl, refl)))
+  three_back (inr (inl ((o1, xs, ys, a, x, e), some))) =
+      inr (o1, xs, ys, a, both_back inner second third ys (inl (x, some)), e)
+  three_back (inr (inr (o1, xs, ys, a, x, e))) =
+      inr (o1, xs, ys, a, both_back inner second third ys (inr x), e)
+
+  pub three_prefix : IsPrefixOf (BothText outer first (BothText inner second third)) front
+      ↔ InOneOfThree first second third front
+  three_prefix =
+      let (there, back) = both_prefix outer first (BothText inner second third) front in
+      (λ x. three_there (there x), λ x. back (three_back x))
+
 -- ---- choices and options
 
 pub either_prefix : {T O : Type 0} (first second : Text T O) (front : List T)
@@ -199,3 +236,19 @@ unfolding MadeText
 made_prefix makes part text all = same_prefix (MadeText makes part text) text
     (λ u tokens (o, a, made). (o, a))
     (λ o tokens a. let (u, made) = all o in (u, (o, a, made)))
+
+-- ---- grammars
+
+-- A prefix of a list that matches as a whole is a prefix of an encoding.
+pub grammar_prefix : {T O : Type 0} {grammar : Grammar T O} {text : Text T O}
+    {follow : List T → Type 0} → IsGrammarOf grammar text follow → follow [] → (front : List T)
+    → IsPrefixOfMatch grammar front ↔ IsPrefixOf text front
+grammar_prefix {T} {O} {grammar} {text} is ends front = (
+  λ (o, more, x).
+      let (xs, e, a) = is.there (front ++ more) o [] x in
+      let P : List T → Type 0 = λ l. text o l in
+      (o, more, subst P (sym (e ∙ append-nil xs)) a),
+  λ (o, more, a).
+      let P : List T → Type 0 = λ l. grammar l o [] in
+      (o, more, subst P (append-nil (front ++ more)) (is.back o (front ++ more) [] a ends)),
+)

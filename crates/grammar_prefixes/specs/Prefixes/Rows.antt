@@ -1,11 +1,10 @@
 -- The prefixes of repetitions, and of elements with separators between them.
-use Rattle.std.specs.Prelude.{◌≡◌, ◌⊎◌, ◌↔◌, ◌≤◌, ℕ, zero, suc, List, [], ◌∷◌, ◌++◌, length}
+use Rattle.std.specs.Prelude.{◌≡◌, ◌⊎◌, ◌↔◌, ◌≤◌, List, [], ◌∷◌, ◌++◌, length}
 use Rattle.std.proofs.Common.{refl, sym, ap, subst, inl, inr, ◌∙◌, arith, append_assoc}
-use Rattle.std.proofs.Common.{length-append}
 use Rattle.std.proofs.lemmas.List.{append-nil}
 use Rattle.grammars.specs.Texts.{AtLeast, BothText, EachText, PartedText, Text}
 use Rattle.grammar_prefixes.specs.Prefixes.{FollowedBy, IsNonempty, IsPrefixOf, NoneOr}
-use Rattle.grammar_prefixes.specs.Prefixes.Parts.{no_front, two_splits, whole_prefix}
+use Rattle.grammar_prefixes.specs.Prefixes.Parts.{both_prefix, no_front, same_prefix, two_splits}
 
 module _ {T O : Type 0} (text : Text T O) where
   -- one more encoding
@@ -32,14 +31,14 @@ module _ {T O : Type 0} (text : Text T O) where
       elim (two_splits front more xs ys e) [
         | inl (m, d, f) ↦ ([], [], front, refl, inr (o, m, subst P d a), refl)
         | inr (m, d, f) ↦
-          let (ps, us, vs, c, last, g) = each_there os m more (subst Q f b) in (
-            o ∷ ps,
-            xs ++ us,
-            vs,
-            (xs, us, a, c, refl),
-            last,
-            d ∙ ap (λ l. xs ++ l) g ∙ sym (append_assoc xs us vs),
-          )
+            let (ps, us, vs, c, last, g) = each_there os m more (subst Q f b) in (
+              o ∷ ps,
+              xs ++ us,
+              vs,
+              (xs, us, a, c, refl),
+              last,
+              d ∙ ap (λ l. xs ++ l) g ∙ sym (append_assoc xs us vs),
+            )
       ]
 
   each_back : (front : List T) → FollowedBy (EachText text) (NoneOr (IsPrefixOf text)) front
@@ -58,130 +57,91 @@ module _ {T O : Type 0} (text : Text T O) where
       ↔ FollowedBy (EachText text) (NoneOr (IsPrefixOf text)) front
   each_prefix front = (λ (os, more, a). each_there os front more a, each_back front)
 
-  -- at least as many
-  each_longer : (n : ℕ) (front more : List T) (os : List O) → EachText text os (front ++ more)
-      → IsNonempty text → (ps : List O) × (end : List T) × EachText text ps (front ++ end)
-      × (n ≤ length ps)
-  each_longer zero front more os a some = (os, more, a, omega arith)
-  each_longer (suc n) front more os a (o, zs, b) =
-      let (ps, end, c, enough) = each_longer n front more os a (o, zs, b) in
-      let P : List T → Type 0 = λ l. EachText text (ps ++ o ∷ []) l in (
-        ps ++ o ∷ [],
-        end ++ zs,
-        subst P (append_assoc front end zs) (each_then_one ps o (front ++ end) zs c b),
-        omega (arith, enough, length-append ps (o ∷ [])),
+-- ---- lists of elements: none, or one and the others
+
+-- `whole` encodes a list as an element by `text` and the others by `others`, and an empty list as
+-- no tokens.
+pub record IsRow {T O : Type 0} (text : Text T O) (others whole : Text T (List O)) : Type 0 where
+  pub none_there : (tokens : List T) → whole [] tokens → tokens ≡ []
+  pub none_back : (tokens : List T) → tokens ≡ [] → whole [] tokens
+  pub there : (o : O) (os : List O) (tokens : List T) → whole (o ∷ os) tokens
+      → (xs : List T) × (ys : List T) × text o xs × others os ys × (tokens ≡ xs ++ ys)
+  pub back : (o : O) (os : List O) (xs ys tokens : List T) → text o xs → others os ys
+      → tokens ≡ xs ++ ys → whole (o ∷ os) tokens
+
+-- repetitions
+pub each_row : {T O : Type 0} (text : Text T O) → IsRow text (EachText text) (EachText text)
+unfolding EachText
+each_row text = record {
+  none_there = λ tokens e. e;
+  none_back = λ tokens e. e;
+  there = λ o os tokens x. x;
+  back = λ o os xs ys tokens a b e. (xs, ys, a, b, e);
+}
+
+-- a separator and an element
+abbrev pub NextText : {T O D : Type 0} → Text T D → Text T O → Text T O
+NextText separator text = BothText (λ d o. o) separator text
+
+-- elements with separators between them
+pub parted_row : {T O D : Type 0} (separator : Text T D) (text : Text T O)
+    → IsRow text (EachText (NextText separator text)) (PartedText separator text)
+unfolding PartedText
+parted_row separator text = record {
+  none_there = λ tokens e. e;
+  none_back = λ tokens e. e;
+  there = λ o os tokens x. x;
+  back = λ o os xs ys tokens a b e. (xs, ys, a, b, e);
+}
+
+pub each_some : {T O : Type 0} (text : Text T O) → IsNonempty (EachText text)
+unfolding EachText
+each_some text = ([], [], refl)
+
+module _ {T O : Type 0} {text : Text T O} {others whole : Text T (List O)}
+    (is : IsRow text others whole) where
+  abbrev pub OneAndOthers : Text T (List O)
+  OneAndOthers = BothText (λ o os. o ∷ os) text others
+
+  split : (os : List O) (tokens : List T) → AtLeast 1 whole os tokens
+      → (ps : List O) × OneAndOthers ps tokens
+  unfolding BothText
+  split [] tokens (a, some) = absurd (omega arith)
+  split (o ∷ os) tokens (a, some) =
+      let (xs, ys, b, c, e) = is.there o os tokens a in (o ∷ os, (o, os, xs, ys, b, c, e, refl))
+
+  joined : (ps : List O) (tokens : List T) → OneAndOthers ps tokens
+      → (os : List O) × AtLeast 1 whole os tokens
+  unfolding BothText
+  joined ps tokens (o, os, xs, ys, a, b, e, out) =
+      let some : 1 ≤ length (o ∷ os) = omega arith in
+      (o ∷ os, (is.back o os xs ys tokens a b e, some))
+
+  pub some_as : (front : List T)
+      → IsPrefixOf OneAndOthers front ↔ IsPrefixOf (AtLeast 1 whole) front
+  some_as = same_prefix OneAndOthers (AtLeast 1 whole) joined split
+
+  -- A prefix of a list is empty or one of a list of at least one element.
+  pub any_prefix : (front : List T)
+      → IsPrefixOf whole front ↔ NoneOr (IsPrefixOf (AtLeast 1 whole)) front
+  any_prefix front = (λ (os, more, a). there os more a, back)
+    where
+      there : (os : List O) (more : List T) → whole os (front ++ more)
+          → NoneOr (IsPrefixOf (AtLeast 1 whole)) front
+      there [] more a = inl (no_front front more (is.none_there (front ++ more) a))
+      there (o ∷ os) more a =
+          let some : 1 ≤ length (o ∷ os) = omega arith in inr (o ∷ os, more, (a, some))
+
+      back : NoneOr (IsPrefixOf (AtLeast 1 whole)) front → IsPrefixOf whole front
+      back (inl none) = ([], [], is.none_back (front ++ []) (append-nil front ∙ none))
+      back (inr (os, more, (a, some))) = (os, more, a)
+
+  -- A prefix of a list of at least one element is one of an element; or an element, followed by a
+  -- prefix of the others.
+  pub some_prefix : IsNonempty others → (front : List T) → IsPrefixOf (AtLeast 1 whole) front
+      ↔ (IsPrefixOf text front ⊎ FollowedBy text (IsPrefixOf others) front)
+  some_prefix any front =
+      let (there, back) = both_prefix (λ o os. o ∷ os) text others front in (
+        λ x. elim (there ((some_as front).1 x)) [ inl (y, some) ↦ inl y | inr y ↦ inr y ],
+        λ x. (some_as front).0 (back (elim x [ inl y ↦ inl (y, any) | inr y ↦ inr y ])),
       )
-
-  at_least_there : (n : ℕ) (front : List T) → IsPrefixOf (AtLeast n (EachText text)) front
-      → IsPrefixOf (EachText text) front × ((n ≡ 0) ⊎ IsNonempty text)
-  unfolding EachText
-  at_least_there zero front it = (it, inl refl)
-  at_least_there (suc n) front ([], more, (a, enough)) = absurd (omega arith)
-  at_least_there (suc n) front (o ∷ os, more, ((xs, ys, a, b, e), enough)) =
-      ((o ∷ os, more, (xs, ys, a, b, e)), inr (o, xs, a))
-
-  at_least_back : (n : ℕ) (front : List T)
-      → IsPrefixOf (EachText text) front × ((n ≡ 0) ⊎ IsNonempty text)
-      → IsPrefixOf (AtLeast n (EachText text)) front
-  at_least_back zero front (it, any) = it
-  at_least_back (suc n) front (it, inl none) = absurd (omega (arith, none))
-  at_least_back (suc n) front ((os, more, a), inr some) =
-      let (ps, end, b, enough) = each_longer (suc n) front more os a some in (ps, end, (b, enough))
-
-  -- A prefix of a repetition with a least number is one without, if there is an encoding.
-  pub at_least_prefix : (n : ℕ) (front : List T) → IsPrefixOf (AtLeast n (EachText text)) front
-      ↔ (IsPrefixOf (EachText text) front × ((n ≡ 0) ⊎ IsNonempty text))
-  at_least_prefix n front = (at_least_there n front, at_least_back n front)
-
--- ---- elements with separators between them
-
-module _ {T O D : Type 0} (separator : Text T D) (text : Text T O) where
-  -- a separator and an element
-  abbrev pub NextText : Text T O
-  NextText = BothText (λ d o. o) separator text
-
-  -- Elements with separators between them, followed by no tokens or by a prefix of a separator and
-  -- an element.
-  abbrev pub InElements : List T → Type 0
-  InElements =
-      FollowedBy (AtLeast 1 (PartedText separator text)) (NoneOr (IsPrefixOf NextText))
-
-  parted_there : (os : List O) (front more : List T) → PartedText separator text os (front ++ more)
-      → (front ≡ []) ⊎ (IsPrefixOf text front ⊎ InElements front)
-  unfolding PartedText
-  parted_there [] front more e = inl (no_front front more e)
-  parted_there (o ∷ os) front more (xs, ys, a, b, e) =
-      let P : List T → Type 0 = λ l. text o l in
-      let Q : List T → Type 0 = λ l. EachText NextText os l in
-      elim (two_splits front more xs ys e) [
-        | inl (m, d, f) ↦ inr (inl (o, m, subst P d a))
-        | inr (m, d, f) ↦
-          let (ps, us, vs, c, last, g) = each_there NextText os m more (subst Q f b) in
-          let some : 1 ≤ length (o ∷ ps) = omega arith in inr (inr (
-            o ∷ ps,
-            xs ++ us,
-            vs,
-            ((xs, us, a, c, refl), some),
-            last,
-            d ∙ ap (λ l. xs ++ l) g ∙ sym (append_assoc xs us vs),
-          ))
-      ]
-
-  elements_back : (os : List O) (xs ys front : List T) → AtLeast 1 (PartedText separator text) os xs
-      → NoneOr (IsPrefixOf NextText) ys → front ≡ xs ++ ys
-      → IsPrefixOf (PartedText separator text) front
-  unfolding PartedText
-  elements_back [] xs ys front (a, some) last e = absurd (omega arith)
-  elements_back (o ∷ os) xs ys front (a, some) (inl none) e =
-      let P : List T → Type 0 = λ l. PartedText separator text (o ∷ os) l in
-      let all = e ∙ ap (λ l. xs ++ l) none ∙ append-nil xs in
-      (o ∷ os, [], subst P (sym (append-nil front ∙ all)) a)
-  elements_back (o ∷ os) xs ys front ((us, vs, a, b, d), some) (inr (p, more, c)) e =
-      let all = ap (λ l. l ++ more) e ∙ append_assoc xs ys more
-      ∙ ap (λ l. l ++ (ys ++ more)) d ∙ append_assoc us vs (ys ++ more) in (
-        o ∷ (os ++ p ∷ []),
-        more,
-        (us, vs ++ (ys ++ more), a, each_then_one NextText os p vs (ys ++ more) b c, all),
-      )
-
-  parted_back : (front : List T) → (front ≡ []) ⊎ (IsPrefixOf text front ⊎ InElements front)
-      → IsPrefixOf (PartedText separator text) front
-  unfolding PartedText EachText
-  parted_back front (inl none) = ([], [], append-nil front ∙ none)
-  parted_back front (inr (inl (o, more, a))) =
-      (o ∷ [], more, (front ++ more, [], a, refl, sym (append-nil (front ++ more))))
-  parted_back front (inr (inr (os, xs, ys, a, last, e))) = elements_back os xs ys front a last e
-
-  -- A prefix of elements with separators between them is empty; a prefix of an element; or
-  -- elements, followed by no tokens or by a prefix of a separator and an element.
-  pub parted_prefix : (front : List T) → IsPrefixOf (PartedText separator text) front
-      ↔ ((front ≡ []) ⊎ (IsPrefixOf text front ⊎ InElements front))
-  parted_prefix front = (λ (os, more, a). parted_there os front more a, parted_back front)
-
-  parted_some_back : (front : List T) (os : List O) (more : List T)
-      → PartedText separator text os (front ++ more) → IsNonempty text
-      → IsPrefixOf (AtLeast 1 (PartedText separator text)) front
-  unfolding PartedText EachText
-  parted_some_back front [] more e (o, zs, b) =
-      let all = ap (λ l. l ++ zs) (no_front front more e) ∙ sym (append-nil zs) in
-      let some : 1 ≤ length (o ∷ []) = omega arith in
-      (o ∷ [], zs, ((zs, [], b, refl, all), some))
-  parted_some_back front (o ∷ os) more a any =
-      let some : 1 ≤ length (o ∷ os) = omega arith in (o ∷ os, more, (a, some))
-
-  parted_some_there : (front : List T) (os : List O) (more : List T)
-      → AtLeast 1 (PartedText separator text) os (front ++ more)
-      → IsPrefixOf (PartedText separator text) front × IsNonempty text
-  unfolding PartedText
-  parted_some_there front [] more (a, some) = absurd (omega arith)
-  parted_some_there front (o ∷ os) more ((xs, ys, a, b, e), some) =
-      ((o ∷ os, more, (xs, ys, a, b, e)), (o, xs, a))
-
-  -- A prefix of at least one element is one of any number, if an element has an encoding.
-  pub parted_some_prefix : (front : List T)
-      → IsPrefixOf (AtLeast 1 (PartedText separator text)) front
-      ↔ (IsPrefixOf (PartedText separator text) front × IsNonempty text)
-  parted_some_prefix front = (
-    λ (os, more, a). parted_some_there front os more a,
-    λ ((os, more, a), some). parted_some_back front os more a some,
-  )
