@@ -259,4 +259,5 @@ pub time_errs : {E : Type 0} (kind : E → Kind) (at : Setting) → at.more ≡ 
     → OnErr r ((front : List ℕ) × IsFirstInvalid TimeText tokens front rest)
 time_errs kind at whole tokens rest (Ok o) does = tt
 time_errs kind at whole tokens rest (Err e) does =
-    error_stops (kind e) tokens rest (time_stops at whole tokens (outcome_of (Err (kind e)) rest) does)
+    error_stops (kind e) tokens rest
+    (time_stops at whole tokens (outcome_of (Err (kind e)) rest) does)

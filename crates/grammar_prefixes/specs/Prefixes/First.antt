@@ -21,8 +21,8 @@ module _ {T O : Type 0} {text : Text T O} where
       (ts more : List T) → rest ≡ t ∷ more → IsPrefixOf text (front ++ t ∷ ts) → ⊥
   past_invalid {front = front} it t ts more e longer =
       let P : List T → Type 0 = λ l. IsPrefixOf text l in
-      it.stops t more e
-      (shorter_prefix text (front ++ t ∷ []) ts (subst P (sym (append_assoc front (t ∷ []) ts)) longer))
+      it.stops t more e (shorter_prefix text (front ++ t ∷ []) ts
+      (subst P (sym (append_assoc front (t ∷ []) ts)) longer))
 
   -- and so has a prefix that is longer by some tokens
   past_invalid_at : {tokens front rest : List T} → IsFirstInvalid text tokens front rest
@@ -134,10 +134,11 @@ module _ {T O1 O2 O : Type 0} (output : O1 → O2 → O) {first : Text T O1} {se
     where
       begun : (u : T) (us end : List T) → mid ≡ u ∷ end
           → IsPrefixOf (BothText output first second) (front ++ u ∷ us) → IsPrefixOf second (u ∷ us)
-      begun u us end e longer = elim ((both_prefix output first second (front ++ u ∷ us)).0 longer) [
-        | inl (x, y) ↦ absurd (past_invalid it u us end e x)
-        | inr x ↦ (past_first front u us it.valid (it.stops u end e) x).2
-      ]
+      begun u us end e longer =
+          elim ((both_prefix output first second (front ++ u ∷ us)).0 longer) [
+            | inl (x, y) ↦ absurd (past_invalid it u us end e x)
+            | inr x ↦ (past_first front u us it.valid (it.stops u end e) x).2
+          ]
 
       after : (xs : List T) (t : T) (end : List T) → mid ≡ xs ++ t ∷ end
           → IsPrefixOf (BothText output first second) (front ++ (xs ++ t ∷ []))

@@ -198,7 +198,8 @@ module _ {T O1 O2 O3 P O : Type 0} (outer : O1 → P → O) (inner : O2 → O3 �
 -- ---- choices and options
 
 pub either_prefix : {T O : Type 0} (first second : Text T O) (front : List T)
-    → IsPrefixOf (EitherText first second) front ↔ (IsPrefixOf first front ⊎ IsPrefixOf second front)
+    → IsPrefixOf (EitherText first second) front
+    ↔ (IsPrefixOf first front ⊎ IsPrefixOf second front)
 unfolding EitherText
 either_prefix first second front = (
   λ (o, more, it). elim it [ inl a ↦ inl (o, more, a) | inr b ↦ inr (o, more, b) ],

@@ -98,6 +98,7 @@ pub fn first_invalid_in_choices<T, O, A: Format<T, O>, B: Format<T, O>>()
 /// If the first element of a repetition is not complete at its first invalid token, this is that of
 /// the repetition. Otherwise the first invalid token of the other elements is. Likewise for lists
 /// with separators. A repetition that may be empty has the first invalid token of one that may not.
+/// Without tokens none is invalid.
 ///
 /// ```
 /// use grammar_prefixes::laws::Format;
@@ -118,6 +119,7 @@ pub fn first_invalid_in_repetitions<T, O, D, A: Format<T, O>, S: Format<T, D>>()
     ensures any { (tokens front rest : List T)
         → IsFirstInvalid (AtLeast 1 (EachText A.text)) tokens front rest
         → IsFirstInvalid (EachText A.text) tokens front rest }
+    ensures none { IsFirstInvalid (EachText A.text) [] [] [] }
     ensures separated { IsDelimitedBy A.text (NextText S.text A.text)
         → (tokens front rest : List T) → IsFirstInvalid A.text tokens front rest
         → ((o : O) → A.text o front → ⊥)
