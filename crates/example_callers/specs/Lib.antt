@@ -5,4 +5,5 @@ pub mod Lexed
 pub mod Numerals
 pub mod Places
 pub mod Premises
+pub mod Times
 pub mod Words

@@ -2,7 +2,9 @@
 //! complete and of partial input.
 #![tactic(auto)]
 
-ghost use Rattle.std.specs.Prelude.{◌≡◌};
+ghost use Rattle.std.specs.Prelude.{◌≡◌, ℕ, List, OnErr};
+ghost use Rattle.example_callers.specs.Times.{TimeText};
+ghost use Rattle.grammar_prefixes.specs.Prefixes.{IsFirstInvalid};
 ghost use Rattle.winnow.specs.BitsOfBytes.Says.{bits_says};
 ghost use Rattle.winnow.specs.BitsOfBytes.{BitsOfBytesRuns};
 ghost use Rattle.winnow.specs.Class.Says.{CharIsFunction};
@@ -53,11 +55,15 @@ where
     longer_inputs_get_partial_results::<(Digit1, u8, Digit1), I, (I::Slice, u8, I::Slice), E>();
 }
 
-/// A time of bytes.
+/// Parses a time from bytes. An error leaves the input at the first byte with which no time
+/// continues.
 pub fn time_of_bytes<'i>(
     input: &mut &'i [u8],
-) -> Result<(&'i [u8], u8, &'i [u8]), ErrMode<EmptyError>> {
-    time(input)
+) -> Result<(&'i [u8], u8, &'i [u8]), ErrMode<EmptyError>>
+    ensures invalid { OnErr result
+        ((front : List ℕ) × IsFirstInvalid TimeText input.old.now front input.new.now) }
+{
+    time::<&'i [u8], _>(input)
 }
 
 /// Parses a time from partial input.
