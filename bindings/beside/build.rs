@@ -18,10 +18,13 @@ fn main() {
     println!("cargo:rerun-if-changed=peers");
     let out = PathBuf::from(env::var("OUT_DIR").unwrap());
     let place = |name: &str| out.join(name).to_str().unwrap().to_string();
-    let (c, cpp, archive) = (place("c.o"), place("cpp.o"), place("libpeers.a"));
+    let (c, json, toml) = (place("c.o"), place("json.o"), place("toml.o"));
+    let archive = place("libpeers.a");
     run("CC", "cc", &["-std=c11", "-O3", CPU, "-Wall", "-Wextra", "-c", "peers/peers.c", "-o", &c]);
-    run("CXX", "c++", &["-std=c++17", "-O3", CPU, "-Wall", "-Wextra", "-c", "peers/peers.cpp", "-o", &cpp]);
-    run("AR", "ar", &["rcs", &archive, &c, &cpp]);
+    for (file, object) in [("peers/json.cpp", &json), ("peers/toml.cpp", &toml)] {
+        run("CXX", "c++", &["-std=c++17", "-O3", CPU, "-Wall", "-Wextra", "-c", file, "-o", object]);
+    }
+    run("AR", "ar", &["rcs", &archive, &c, &json, &toml]);
     println!("cargo:rustc-link-search=native={}", out.display());
     println!("cargo:rustc-link-lib=static=peers");
     for name in ["cjson", "csv", "hiredis", "http_parser", "inih", "simdjson", "stdc++"] {

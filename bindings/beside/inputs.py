@@ -309,6 +309,20 @@ def settings(seed):
     return "".join(made)
 
 
+def document(seed):
+    """A TOML document: tables with values of all kinds, arrays of tables, and comments."""
+    made = ['title = "Settings"\ncreated = 2024-05-27T07:32:00Z\n\n']
+    for k in range(1200):
+        made.append(f"# {seed.words(6)}\n[servers.unit-{k}]\n")
+        made.append(f'name = "{seed.words(3)}"\npath = \'C:\\data\\{seed.one(WORDS)}\'\n')
+        made.append(f"port = {1024 + seed.below(60000)}\nenabled = {seed.one(('true', 'false'))}\n")
+        made.append(f"ratio = {seed.below(1000) / 8}\nsince = 2024-{1 + seed.below(12):02}-15\n")
+        hosts = ", ".join(f'"{seed.one(WORDS)}.example.org"' for _ in range(1 + seed.below(4)))
+        made.append(f"hosts = [{hosts}]\nlimits = {{ soft = {seed.below(100)}, hard = 1_000 }}\n\n")
+        made.append(f'[[jobs]]\nid = {k}\nnote = "{seed.words(5)} \\"{seed.one(WORDS)}\\""\n\n')
+    return "".join(made)
+
+
 FILES = {
     "items.json": items,
     "strings.json": strings,
@@ -327,6 +341,7 @@ FILES = {
     "large.resp": large,
     "array.resp": array,
     "settings.ini": settings,
+    "settings.toml": document,
 }
 
 

@@ -15,6 +15,7 @@ mod json;
 mod peers;
 mod resp;
 mod text;
+mod toml;
 mod works;
 
 use std::hint::black_box;

@@ -27,6 +27,7 @@ peers!(
     body_by_http_parser,
     check_by_rapidjson,
     check_by_simdjson,
+    document_by_tomlplusplus,
     heads_by_http_parser,
     heads_in_pieces_by_http_parser,
     pairs_by_inih,

@@ -1,6 +1,6 @@
 //! The workloads, and the readers of each.
 use crate::text::{Outcome, Text};
-use crate::{csv, http, ini, json, peers, resp};
+use crate::{csv, http, ini, json, peers, resp, toml};
 
 pub type Reader = fn(&Text) -> Outcome;
 
@@ -77,6 +77,11 @@ const REPLIES_IN_PIECES: &[(&str, Reader)] = &[
     ("hiredis, which keeps them", peers::replies_in_pieces_by_hiredis),
     ("hiredis, which tells them", peers::replies_told_in_pieces_by_hiredis),
 ];
+const DOCUMENTS: &[(&str, Reader)] = &[
+    ("this library", toml::document),
+    ("toml", toml::document_by_toml),
+    ("toml++", peers::document_by_tomlplusplus),
+];
 const PAIRS: &[(&str, Reader)] = &[("this library", ini::pairs), ("inih", peers::pairs_by_inih)];
 
 pub const WORKS: &[Work] = &[
@@ -103,4 +108,5 @@ pub const WORKS: &[Work] = &[
     work("an array of 100,000 strings", "array.resp", REPLIES),
     work("the same in pieces of 1,460 bytes", "array.resp", REPLIES_IN_PIECES),
     work("a document of INI", "settings.ini", PAIRS),
+    work("a document of TOML", "settings.toml", DOCUMENTS),
 ];

@@ -4,6 +4,7 @@ pub mod Closing
 pub mod Cuts
 pub mod Early
 pub mod Extents
+pub mod Lanes
 pub mod One
 pub mod Placing
 pub mod Stepping

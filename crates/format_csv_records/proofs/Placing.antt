@@ -3,10 +3,8 @@ use Rattle.std.specs.Prelude.{◌≡◌, ◌≤◌, ◌<◌, ◌+◌, ◌-◌, �
 use Rattle.std.specs.Prelude.{take, Bool, MatchBool}
 use Rattle.std.proofs.Common.{refl, sym, ap, inl, inr, ◌∙◌, arith, append_assoc}
 use Rattle.std.proofs.Common.{length-append}
-use Rattle.std.proofs.Math.Seq.{take-add}
-use Rattle.std.proofs.lemmas.List.{append-nil, drop-drop, drop_at}
+use Rattle.std.proofs.lemmas.List.{append-nil, drop_at}
 use Rattle.std.proofs.lemmas.List.{flat_map_more, length-drop, length-take-le}
-use Rattle.std.proofs.lemmas.List.Elements.{All-append}
 use Rattle.std.specs.List.{All}
 use Rattle.format_csv_records.specs.Apart.{IsApart}
 use Rattle.format_csv_records.specs.Buffers.{FieldPut, IsSized, Placed}
@@ -285,15 +283,3 @@ pub record RunSoFar (these : ℕ → Type 0) (bytes : List ℕ) (at : ℕ) (old 
   pub all : All these (take n bytes)
   pub same : length new ≡ length old
   pub there : at + n ≤ length old → take (at + n) new ≡ take at old ++ take n bytes
-
-module _ (these : ℕ → Type 0) (bytes : List ℕ) (at : ℕ) (old now : List ℕ) (n : ℕ)
-    (it : RunSoFar these bytes at old now n) where
-  -- and with those after them
-  pub run_full : (k : ℕ) → n ≡ k → k ≤ length bytes → (rest : List ℕ) → rest ≡ drop k bytes
-      → (m : ℕ) → SoMany these rest m → SoMany these bytes (k + m)
-  run_full k same within rest is m (few, all, not) = (
-    omega (arith, few, within, ap (λ l. length l) is, length-drop k bytes),
-    rw (take-add k m bytes) (All-append these (take k bytes) (take m (drop k bytes))
-        (rw same at it.all) (rw is at all)),
-    rw (is, drop-drop m k bytes) at not,
-  )

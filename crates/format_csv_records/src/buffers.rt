@@ -244,6 +244,24 @@ fn put_fields<P: FieldPlace>(
     }
 }
 
+// The same. The frequent dialect has a loop of its own, whose comparisons are with constants.
+#[inline(always)]
+fn put_record<P: FieldPlace>(
+    dialect: Dialect,
+    bytes: &[u8],
+    text: &mut [u8],
+    places: &mut [P],
+) -> Result<RecordSize, InvalidRecord>
+    ensures { MatchResult result
+        (λ size. PutsFields P.made dialect bytes.now text.old text.new places.old places.new size)
+        (λ fault. IsRefused dialect bytes.now fault) }
+{
+    match dialect.of_commas() {
+        Some(same) => put_fields(same, bytes, text, places),
+        None => put_fields(dialect, bytes, text, places),
+    }
+}
+
 /// Returns the size of the record at the start of the bytes, or `None` if there are no bytes. An
 /// error holds the offset at which no record can continue, and the reason.
 ///
@@ -311,7 +329,7 @@ pub fn write_fields<P: FieldPlace>(
     if text.len() < size.text || places.len() < size.fields {
         return false;
     }
-    match put_fields(dialect, bytes, text, places) {
+    match put_record(dialect, bytes, text, places) {
         Ok(_) => true,
         Err(_) => false,
     }

@@ -1,6 +1,6 @@
 //! Dialects: what separates fields, what quotes them, and what ends a record.
 
-ghost use Rattle.std.specs.Prelude.{◌≡◌, ◌⊎◌, ◌↔◌, IsTrue, MatchResult};
+ghost use Rattle.std.specs.Prelude.{◌≡◌, ◌⊎◌, ◌↔◌, IfSome, IsTrue, MatchResult};
 ghost use Rattle.format_csv_records.specs.Apart.{IsApart, WhyNone};
 
 /// The line endings that end a record.
@@ -114,6 +114,22 @@ impl Dialect {
             delimiter: b',',
             quote: b'"',
             ends: LineEnds::CrLf,
+        }
+    }
+
+    // Returns the same dialect if it has commas and double quotes, so that the compiler knows both.
+    #[inline(always)]
+    pub(crate) fn of_commas(self) -> Option<Dialect>
+        ensures { IfSome result (λ it. it ≡ self) }
+    {
+        if self.delimiter == b',' && self.quote == b'"' {
+            Some(Dialect {
+                delimiter: b',',
+                quote: b'"',
+                ends: self.ends,
+            })
+        } else {
+            None
         }
     }
 }

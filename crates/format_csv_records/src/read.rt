@@ -19,6 +19,7 @@ ghost use Rattle.format_csv_records.specs.declared.read.RecordError.TheVariants.
 use crate::dialect::{Dialect, LineEnds};
 use crate::record::{ByteRecord, FieldSink};
 use std::alloc::{AllocError, Allocator};
+use std::simd::prelude::*;
 
 /// The reason why no record can continue at a byte.
 ///
@@ -115,9 +116,31 @@ pub(crate) fn behind(bytes: &[u8], size: usize) -> &[u8]
     &bytes[size..]
 }
 
-// Returns the length of the longest prefix of plain bytes.
+// That many bytes are examined together.
+const LANES: usize = 16;
+
+// Returns the length of the longest prefix of plain bytes, if it is shorter than the lanes.
 #[inline(always)]
-pub(crate) fn plain_len(dialect: Dialect, bytes: &[u8]) -> usize
+fn plain_lanes(dialect: Dialect, bytes: &[u8]) -> Option<usize>
+    requires { LANES ≤ length bytes.now }
+    ensures { MatchOption result (All (IsPlain dialect) (take LANES bytes.now))
+        (λ run. SoMany (IsPlain dialect) bytes.now run) }
+{
+    let lanes = u8x16::from_slice(bytes);
+    let quotes = lanes.simd_eq(u8x16::splat(dialect.quote));
+    let delimiters = lanes.simd_eq(u8x16::splat(dialect.delimiter));
+    let returns = lanes.simd_eq(u8x16::splat(b'\r'));
+    let feeds = lanes.simd_eq(u8x16::splat(b'\n'));
+    let others = ((quotes | delimiters) | (returns | feeds)).to_bitmask();
+    if others == 0 {
+        return None;
+    }
+    Some(others.trailing_zeros() as usize)
+}
+
+// The length of that prefix, byte by byte.
+#[inline(always)]
+fn plain_rest(dialect: Dialect, bytes: &[u8]) -> usize
     ensures { SoMany (IsPlain dialect) bytes.now result }
 {
     for (place, byte) in bytes.iter().enumerate() {
@@ -126,6 +149,21 @@ pub(crate) fn plain_len(dialect: Dialect, bytes: &[u8]) -> usize
         }
     }
     bytes.len()
+}
+
+// Returns the length of the longest prefix of plain bytes.
+#[inline(always)]
+pub(crate) fn plain_len(dialect: Dialect, bytes: &[u8]) -> usize
+    ensures { SoMany (IsPlain dialect) bytes.now result }
+{
+    let mut at = 0;
+    'lanes: while bytes.len() - at >= LANES {
+        match plain_lanes(dialect, behind(bytes, at)) {
+            Some(run) => return at + run,
+            None => at += LANES,
+        }
+    }
+    at + plain_rest(dialect, behind(bytes, at))
 }
 
 // Returns the number of bytes before the first quote, or of all bytes.

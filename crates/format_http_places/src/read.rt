@@ -64,6 +64,10 @@ pub(crate) fn error_at(kind: HeadKind, bytes: &[u8], stop: Stop) -> HeadError
 }
 
 /// The head with which the bytes begin. Its fields are written as far as there is room.
+///
+/// It is never inlined: what its callers keep for errors would push values of the loop to the
+/// stack.
+#[inline(never)]
 fn read_parts(bytes: &[u8], fields: &mut [Field]) -> Result<Head, Stop>
     ensures { MatchResult result (λ head. ReadsParts bytes.now head fields.new)
         (λ stop. Stops HeadText bytes.now stop.left) }

@@ -12,7 +12,9 @@ use crate::read::{HeadError, error_at};
 use crate::status::read_status_line;
 use crate::stop::Stop;
 
-/// The head with which the bytes begin. Its fields are written as far as there is room.
+/// The head with which the bytes begin. Its fields are written as far as there is room. It is never
+/// inlined, as `read_parts` of requests.
+#[inline(never)]
 fn read_response_parts(bytes: &[u8], fields: &mut [Field]) -> Result<ResponseHead, Stop>
     ensures { MatchResult result (λ head. ReadsResponseParts bytes.now head fields.new)
         (λ stop. Stops ResponseText bytes.now stop.left) }
