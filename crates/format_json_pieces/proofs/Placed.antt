@@ -10,7 +10,7 @@ use Rattle.format_json_pieces.proofs.Opened.{kept, kept_last, kept_length}
 use Rattle.format_json_pieces.specs.Begun.{last_open, next_step, others_open}
 use Rattle.format_json_pieces.specs.Place.{BeginsIn, IsPlaceIn, IsWanted, LeadsTo, most_open}
 use Rattle.format_json_pieces.specs.Place.{wanted}
-use Rattle.format_json_pieces.specs.Stepped.{AfterValue, Next, any}
+use Rattle.format_json_pieces.proofs.Walks.{AfterValue, Next, any}
 use Rattle.format_json_pieces.specs.declared.begun.Bracket.{Bracket}
 use Rattle.format_json_pieces.specs.declared.begun.Mode.{Mode}
 use Rattle.format_json_pieces.specs.declared.begun.Mode.TheVariants as modes

@@ -99,7 +99,7 @@ module _ {A : Type 0} (alloc : A) (level : ℕ) where
     unfolding IsValueIn InUtf8
     bytes_of =
         let (text, (utf8, written), e, ended) = it in
-        (text, utf8, value_bytes alloc level text utf8 v written, e, ended)
+        (text, utf8, value_bytes level text utf8 v written, e, ended)
 
     -- it begins with no whitespace
     value_first : NotFirst IsMultispace bytes
