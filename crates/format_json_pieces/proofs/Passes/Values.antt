@@ -218,7 +218,7 @@ module _ (ends : List ℕ → Type 0) (level : ℕ) where
 
     pub value_on : (deep : ℕ) (held : List Bracket) → length held + deep ≤ level
         → Walks (IsValue deep) held
-    value_on zero held few = scalar_on held
+    value_on zero held few xs cs is x stops = scalar_on held xs cs is x stops
     value_on (suc deep) held few xs cs (inl is) x stops = scalar_on held xs cs is x stops
     value_on (suc deep) held few xs cs (inr (inl is)) x stops =
         (nested_on held false (omega (arith, few)) (inner_on Array held
