@@ -6,18 +6,17 @@ use Rattle.std.proofs.lemmas.List.Elements.{All-head, All-weaker}
 use Rattle.format_json_extents.proofs.Matching.{all_leaves, begins_at, byte_matches, joined, one}
 use Rattle.format_json_extents.proofs.Matching.{same_first, then_matches, this_then}
 use Rattle.format_json_extents.proofs.Scanning.{rest_same}
-use Rattle.format_json_extents.proofs.StepCalls.{Follows, Leading, StepsUpTo, Stops}
+use Rattle.format_json_extents.proofs.StepCalls.{Follows, Leading, Stops, Told}
 use Rattle.format_json_extents.proofs.StepCalls.{follows_no_colon, follows_stops, gap_leads}
 use Rattle.format_json_extents.proofs.StepCalls.{lead_longest, mark_leads, scalar_step}
-use Rattle.format_json_extents.proofs.StepCalls.{space_no_number, tells_bracket, tells_nothing}
-use Rattle.format_json_extents.proofs.StepCalls.{tells_on, tells_scalar}
+use Rattle.format_json_extents.proofs.StepCalls.{space_no_number, tells_bracket, tells_scalar}
 use Rattle.format_json_extents.proofs.Walks.{token_starts}
 use Rattle.format_json_extents.specs.Number.{IsNumberByte}
-use Rattle.format_json_extents.specs.Steps.{IsBeforeColon, IsNextStep}
+use Rattle.format_json_extents.specs.Steps.{IsBeforeColon}
 use Rattle.format_json_extents.specs.StepLists.{InTurn, IsScalarOf, StepList, StepsOfElement}
 use Rattle.format_json_extents.specs.StepLists.{StepsOfItem, StepsOfList, StepsOfMember}
 use Rattle.format_json_extents.specs.StepLists.{StepsOfNested, StepsOfScalar, StepsOfText}
-use Rattle.format_json_extents.specs.StepLists.{StepsOfValue, StepsResult, begin_of, end_of}
+use Rattle.format_json_extents.specs.StepLists.{StepsOfValue, begin_of, end_of}
 use Rattle.format_json_extents.specs.StepLists.{tells_before, tells_last}
 use Rattle.format_json_extents.specs.Texts.{IsByte, List_of, Then, before, last}
 use Rattle.format_json_extents.specs.Value.{IsElement, IsGap, IsItem, IsMember, IsNestedTail}
@@ -32,18 +31,42 @@ use Rattle.format_json_extents.specs.declared.steps.Step.TheVariants as steps
 abbrev Walks : (List ℕ → Type 0) → (StepList → List ℕ → Type 0) → Type 0
 Walks P tells =
     (text : List ℕ) → P text → (told : StepList) × tells told text × ((lead rest : List ℕ)
-    → IsLead lead → Follows rest → StepsUpTo (lead ++ (text ++ rest)) told rest)
+    (more : StepList) → IsLead lead → Follows rest → Told more rest
+    → Told (told ++ more) (lead ++ (text ++ rest)))
+
+-- The same of texts with whitespace around them.
+abbrev Arrives : (List ℕ → Type 0) → (StepList → List ℕ → Type 0) → Type 0
+Arrives P tells =
+    (text : List ℕ) → P text → (told : StepList) × tells told text × ((front tail : List ℕ)
+    (more : StepList) → Leading front → Stops tail
+    → ((gap : List ℕ) → IsGap gap → Told more (gap ++ tail))
+    → Told (told ++ more) (front ++ (text ++ tail)))
+
+told_from : {told : StepList} {start other : List ℕ} → start ≡ other → Told told other
+    → Told told start
+told_from {told} e it = let P : List ℕ → Type 0 = λ l. Told told l in subst P (sym e) it
+
+told_as : {told other : StepList} (start : List ℕ) → told ≡ other → Told other start
+    → Told told start
+told_as start e it =
+    let P : StepList → Type 0 = λ l. Told l start in subst P (sym e) it
 
 scalar_walks : Walks IsScalar StepsOfScalar
-scalar_walks text is = by is
+scalar_walks text is = elim is [
+  | inl it ↦ one_step steps.String it
+  | inr (inl it) ↦ one_step steps.Number it
+  | inr (inr (inl it)) ↦ one_step steps.Null it
+  | inr (inr (inr (inl it))) ↦ one_step steps.True it
+  | inr (inr (inr (inr it))) ↦ one_step steps.False it
+]
   where
     one_step : (step : Step) → IsScalarOf step text → (told : StepList)
-        × StepsOfScalar told text × ((lead rest : List ℕ) → IsLead lead → Follows rest
-        → StepsUpTo (lead ++ (text ++ rest)) told rest)
+        × StepsOfScalar told text × ((lead rest : List ℕ) (more : StepList) → IsLead lead
+        → Follows rest → Told more rest → Told (told ++ more) (lead ++ (text ++ rest)))
     one_step step is = (
       (step, text) ∷ [],
       record { step = step; is_scalar = is; alone = refl },
-      λ lead rest leads follows.
+      λ lead rest more leads follows.
           tells_scalar step text (lead ++ (text ++ rest)) rest (record {
             lead = lead;
             is_lead = leads;
@@ -52,49 +75,20 @@ scalar_walks text is = by is
           }) (follows_stops rest follows),
     )
 
-    by : IsScalar text → (told : StepList) × StepsOfScalar told text × ((lead rest : List ℕ)
-        → IsLead lead → Follows rest → StepsUpTo (lead ++ (text ++ rest)) told rest)
-    by (inl is) = one_step steps.String is
-    by (inr (inl is)) = one_step steps.Number is
-    by (inr (inr (inl is))) = one_step steps.Null is
-    by (inr (inr (inr (inl is)))) = one_step steps.True is
-    by (inr (inr (inr (inr is)))) = one_step steps.False is
-
--- Calls return these steps of a text with an end after it, and leave whitespace and the end.
-abbrev Reaches : List ℕ → StepList → List ℕ → Type 0
-Reaches start told tail = (gap : List ℕ) × IsGap gap × StepsUpTo start told (gap ++ tail)
-
-reaches_from : (start other tail : List ℕ) (told : StepList) → start ≡ other
-    → Reaches other told tail → Reaches start told tail
-reaches_from start other tail told e (gap, all, it) =
-    let P : List ℕ → Type 0 = λ l. StepsUpTo l told (gap ++ tail) in (gap, all, subst P (sym e) it)
-
--- The same of texts with whitespace around them.
-abbrev Arrives : (List ℕ → Type 0) → (StepList → List ℕ → Type 0) → Type 0
-Arrives P tells =
-    (text : List ℕ) → P text → (told : StepList) × tells told text × ((front tail : List ℕ)
-    → Leading front → Stops tail → Reaches (front ++ (text ++ tail)) told tail)
-
 list_arrives : {P : List ℕ → Type 0} {tells : StepList → List ℕ → Type 0} → Arrives P tells
     → Arrives (List_of P) (StepsOfList tells)
 list_arrives item _ (last text is) =
-    let (told, it, reaches) = item text is in (told, tells_last told text it, reaches)
-list_arrives item _ (before first others text is more e) =
+    let (told, it, calls) = item text is in (told, tells_last told text it, calls)
+list_arrives item _ (before first others text is items e) =
     let (one, it, head) = item first is in
-    let (rest, list, items) = list_arrives item others more in (
+    let (rest, list, behind) = list_arrives item others items in (
       one ++ rest,
       tells_before one rest (one ++ rest) first others text it list e refl,
-      λ front tail leads stops.
-          let after = others ++ tail in
-          let start = front ++ (first ++ 44 ∷ after) in
-          let same : front ++ (text ++ tail) ≡ start = simp (e, append_assoc) in
-          let (gap, all, calls) = head front (44 ∷ after) leads (inl refl) in
-          let comma = gap ++ 44 ∷ [] in
-          let f : gap ++ 44 ∷ after ≡ comma ++ after = simp append_assoc in
-          let (end, also, others_too) = reaches_from (gap ++ 44 ∷ after) (comma ++ after) tail rest
-          f (items comma tail (mark_leads gap 44 all (inl refl)) stops) in
-          reaches_from (front ++ (text ++ tail)) start tail (one ++ rest) same
-          (end, also, tells_on calls others_too),
+      λ front tail more leads stops ends.
+          told_as _ (append_assoc one rest more) (told_from (simp (e, append_assoc))
+          (head front (44 ∷ (others ++ tail)) (rest ++ more) leads (inl refl) (λ gap all.
+          told_from (sym (append_assoc gap (44 ∷ []) (others ++ tail)))
+          (behind (gap ++ 44 ∷ []) tail more (mark_leads gap 44 all (inl refl)) stops ends)))),
     )
 
 colon_after : (gap more : List ℕ) → IsGap gap → IsBeforeColon (gap ++ 58 ∷ more)
@@ -111,8 +105,9 @@ colon_stops [] more all b others e number =
 colon_stops (g ∷ gap) more all b others e number =
     space_no_number b (subst IsSpace (same_first e) (All-head IsSpace g gap all)) number
 
-begin_here : (keyed : Bool) (lead rest : List ℕ) → IsLead lead
-    → StepsUpTo (lead ++ opening keyed ∷ rest) ((begin_of keyed, opening keyed ∷ []) ∷ []) rest
+begin_here : (keyed : Bool) (lead rest : List ℕ) {told : StepList} → IsLead lead
+    → Told told rest
+    → Told ((begin_of keyed, opening keyed ∷ []) ∷ told) (lead ++ opening keyed ∷ rest)
 begin_here true lead rest is =
     tells_bracket steps.BeginObject 123 (lead ++ 123 ∷ rest) rest
     (record { lead = lead; is_lead = is; splits = refl; is_step = refl }) (inl (inr refl))
@@ -120,8 +115,8 @@ begin_here false lead rest is =
     tells_bracket steps.BeginArray 91 (lead ++ 91 ∷ rest) rest
     (record { lead = lead; is_lead = is; splits = refl; is_step = refl }) (inl (inl refl))
 
-end_here : (keyed : Bool) (gap rest : List ℕ) → IsGap gap
-    → StepsUpTo (gap ++ closing keyed ∷ rest) ((end_of keyed, closing keyed ∷ []) ∷ []) rest
+end_here : (keyed : Bool) (gap rest : List ℕ) {told : StepList} → IsGap gap → Told told rest
+    → Told ((end_of keyed, closing keyed ∷ []) ∷ told) (gap ++ closing keyed ∷ rest)
 end_here true gap rest all =
     tells_bracket steps.EndObject 125 (gap ++ 125 ∷ rest) rest
     (record { lead = gap; is_lead = gap_leads gap all; splits = refl; is_step = refl })
@@ -143,18 +138,12 @@ module _ (V : List ℕ → Type 0) (tells : StepList → List ℕ → Type 0) (w
         told,
         joined is.first is.second is.is_first
             (joined v.first v.second it v.is_second v.joins) is.joins,
-        λ front tail leads stops.
-            let rest = v.second ++ tail in
-            let start = (front ++ is.first) ++ (v.first ++ rest) in
-            let e : front ++ (text ++ tail) ≡ start =
-            ap (λ l. front ++ (l ++ tail)) (is.joins ∙ ap (λ l. is.first ++ l) v.joins)
-            ∙ simp append_assoc in
-            reaches_from (front ++ (text ++ tail)) start tail told e (
-              v.second,
-              v.is_second,
-              calls (front ++ is.first) rest (leads is.first is.is_first)
-                  (v.second, tail, v.is_second, refl, stops),
-            ),
+        λ front tail more leads stops ends.
+            let e : front ++ (text ++ tail) ≡ (front ++ is.first) ++ (v.first ++ (v.second ++ tail)) =
+            simp (is.joins, v.joins, append_assoc) in
+            told_from e (calls (front ++ is.first) (v.second ++ tail) more
+            (leads is.first is.is_first) (v.second, tail, v.is_second, refl, stops)
+            (ends v.second v.is_second)),
       )
 
   member_arrives : Arrives (IsMember V) (StepsOfMember tells)
@@ -162,7 +151,7 @@ module _ (V : List ℕ → Type 0) (tells : StepList → List ℕ → Type 0) (w
       let key = is.is_first in
       let named = key.is_second in
       let colon = named.is_second in
-      let (told, it, reaches) = element_arrives is.second is.is_second in (
+      let (told, it, calls) = element_arrives is.second is.is_second in (
         (steps.Name, named.first) ∷ told,
         record {
           name = named.first;
@@ -174,28 +163,22 @@ module _ (V : List ℕ → Type 0) (tells : StepList → List ℕ → Type 0) (w
               is.joins;
           in_turn = refl;
         },
-        λ front tail leads stops.
+        λ front tail more leads stops ends.
             let after = is.second ++ tail in
             let rest = colon.first ++ 58 ∷ after in
             let start = (front ++ key.first) ++ (named.first ++ rest) in
-            let mark = colon.first ++ 58 ∷ [] in
+            let mark = colon.is_second.alone ∙ ap (λ b. b ∷ []) colon.is_second.is_byte in
             let e : front ++ (text ++ tail) ≡ start =
-            ap (λ l. front ++ (l ++ tail))
-            (is.joins ∙ ap (λ l. l ++ is.second) (key.joins ∙ ap (λ l. key.first ++ l)
-            (named.joins ∙ ap (λ l. named.first ++ l) (colon.joins ∙ ap (λ l. colon.first ++ l)
-            (colon.is_second.alone ∙ ap (λ b. b ∷ []) colon.is_second.is_byte)))))
-            ∙ simp append_assoc in
-            let f : rest ≡ mark ++ after = simp append_assoc in
-            let name = tells_scalar steps.Name named.first start rest (record {
+            simp (is.joins, key.joins, named.joins, colon.joins, mark, append_assoc) in
+            told_from e (tells_scalar steps.Name named.first start rest (record {
               lead = front ++ key.first;
               is_lead = leads key.first key.is_first;
               splits = refl;
               is_step = (named.is_first, colon_after colon.first after colon.is_first);
-            }) (colon_stops colon.first after colon.is_first) in
-            let (gap, all, value) = reaches_from rest (mark ++ after) tail told f
-            (reaches mark tail (mark_leads colon.first 58 colon.is_first (inr refl)) stops) in
-            reaches_from (front ++ (text ++ tail)) start tail ((steps.Name, named.first) ∷ told) e
-            (gap, all, tells_on name value),
+            }) (colon_stops colon.first after colon.is_first)
+            (told_from (sym (append_assoc colon.first (58 ∷ []) after))
+            (calls (colon.first ++ 58 ∷ []) tail more
+            (mark_leads colon.first 58 colon.is_first (inr refl)) stops ends))),
       )
 
   item_arrives : (keyed : Bool) → Arrives (IsItem keyed V) (StepsOfItem keyed tells)
@@ -210,18 +193,20 @@ module _ (V : List ℕ → Type 0) (tells : StepList → List ℕ → Type 0) (w
       walked : (inner : StepList) (inside end : List ℕ)
           → (IsGap inside × (inner ≡ [])) ⊎ StepsOfList (StepsOfItem keyed tells) inner inside
           → IsByte (λ b. b ≡ closing keyed) end → is.second ≡ inside ++ end
-          → ((rest : List ℕ)
-                → Reaches (inside ++ closing keyed ∷ rest) inner (closing keyed ∷ rest))
+          → ((rest : List ℕ) (more : StepList) → ((gap : List ℕ) → IsGap gap
+          → Told more (gap ++ closing keyed ∷ rest))
+          → Told (inner ++ more) (inside ++ closing keyed ∷ rest))
           → (told : StepList) × StepsOfNested keyed tells told text × ((lead rest : List ℕ)
-          → IsLead lead → Follows rest → StepsUpTo (lead ++ (text ++ rest)) told rest)
-      walked inner inside end items bracket e reaches =
+          (more : StepList) → IsLead lead → Follows rest → Told more rest
+          → Told (told ++ more) (lead ++ (text ++ rest)))
+      walked inner inside end items bracket e calls =
           let joins : text ≡ opening keyed ∷ (inside ++ closing keyed ∷ []) =
           this_then (opening keyed) is
           ∙ ap (λ l. opening keyed ∷ l) (e ∙ ap (λ l. inside ++ l) (bracket.alone
           ∙ ap (λ b. b ∷ []) bracket.is_byte)) in
-          let ended = (end_of keyed, closing keyed ∷ []) ∷ [] in
-          let told = (begin_of keyed, opening keyed ∷ []) ∷ (inner ++ ended) in (
-            told,
+          let begun : Step × List ℕ = (begin_of keyed, opening keyed ∷ []) in
+          let ended : Step × List ℕ = (end_of keyed, closing keyed ∷ []) in (
+            begun ∷ (inner ++ ended ∷ []),
             record {
               inner = inner;
               inside = inside;
@@ -229,26 +214,23 @@ module _ (V : List ℕ → Type 0) (tells : StepList → List ℕ → Type 0) (w
               joins = joins;
               in_turn = refl;
             },
-            λ lead rest leads follows.
-                let middle = inside ++ closing keyed ∷ rest in
-                let same : lead ++ (text ++ rest) ≡ lead ++ opening keyed ∷ middle =
-                simp (joins, append_assoc) in
-                let (gap, all, calls) = reaches rest in
-                let P : List ℕ → Type 0 = λ l. StepsUpTo l told rest in
-                subst P (sym same) (tells_on (begin_here keyed lead middle leads)
-                (tells_on calls (end_here keyed gap rest all))),
+            λ lead rest more leads follows on.
+                told_as _ (ap (λ l. begun ∷ l) (append_assoc inner (ended ∷ []) more))
+                (told_from (simp (joins, append_assoc))
+                (begin_here keyed lead (inside ++ closing keyed ∷ rest) leads
+                (calls rest (ended ∷ more) (λ gap all. end_here keyed gap rest all on)))),
           )
 
       by : IsNestedTail keyed V is.second → (told : StepList) × StepsOfNested keyed tells told text
-          × ((lead rest : List ℕ) → IsLead lead → Follows rest
-          → StepsUpTo (lead ++ (text ++ rest)) told rest)
+          × ((lead rest : List ℕ) (more : StepList) → IsLead lead → Follows rest → Told more rest
+          → Told (told ++ more) (lead ++ (text ++ rest)))
       by (inl it) =
           walked [] it.first it.second (inl (it.is_first, refl)) it.is_second it.joins
-          (λ rest. (it.first, it.is_first, tells_nothing))
+          (λ rest more ends. ends it.first it.is_first)
       by (inr it) =
-          let (inner, list, reaches) = list_arrives (item_arrives keyed) it.first it.is_first in
+          let (inner, list, calls) = list_arrives (item_arrives keyed) it.first it.is_first in
           walked inner it.first it.second (inr list) it.is_second it.joins
-          (λ rest. reaches [] (closing keyed ∷ rest) gap_leads (inr (closing_byte keyed)))
+          (λ rest more. calls [] (closing keyed ∷ rest) more gap_leads (inr (closing_byte keyed)))
 
 value_walks : (level : ℕ) → Walks (IsValue level) (StepsOfValue level)
 value_walks zero text is = scalar_walks text is
@@ -265,8 +247,10 @@ value_walks (suc level) text (inr (inr is)) =
 
 -- ---- texts
 
-gap_no_step : (gap : List ℕ) → IsGap gap → (s : Step) (t mid : List ℕ) → IsNextStep s t gap mid → ⊥
-gap_no_step gap all s t mid next =
+gap_told : (gap : List ℕ) → IsGap gap → Told [] gap
+unfolding InTurn
+gap_told gap all [] rest e = inl (refl, subst IsGap e all)
+gap_told gap all ((s, t) ∷ found) rest (mid, next, others) =
     let first = begins_at token_starts
     (record { text = t; is = next.longest.is; splits = next.longest.splits }) in
     let none : next.start ≡ [] =
@@ -274,28 +258,15 @@ gap_no_step gap all s t mid next =
     (all_leaves gap {rest = []} (All-weaker IsSpace IsLeadByte (λ b s. inl s) gap all)
     (sym (append-nil gap)) (λ b more e s. omega (arith, ap (λ l. length l) e)))
     (lead_longest next.lead next.is_lead next.splits first) in
-    omega (arith, ap (λ l. length l) none, ap (λ l. length l) first.begins)
+    absurd (omega (arith, ap (λ l. length l) none, ap (λ l. length l) first.begins))
 
 pub text_tells : (level : ℕ) (bytes : List ℕ) → IsText level bytes
-    → (told : StepList) × StepsOfText level told bytes
-    × ((found : StepList) (rest : List ℕ) → InTurn bytes found rest → StepsResult told found rest)
-unfolding InTurn
+    → (told : StepList) × StepsOfText level told bytes × Told told bytes
 text_tells level bytes is =
-    let (told, it, reaches) = element_arrives (IsValue level) (StepsOfValue level)
-    (value_walks level) bytes is in
-    let (gap, all, tells) = reaches_from bytes (bytes ++ []) [] told (sym (append-nil bytes))
-    (reaches [] [] gap_leads tt) in (
+    let (told, it, calls) = element_arrives (IsValue level) (StepsOfValue level)
+    (value_walks level) bytes is in (
       told,
       it,
-      λ found rest turn. elim (tells.calls found rest turn) [
-        | inl within ↦ inr within
-        | inr (more, e, left) ↦ inl (ended gap all told more found rest e
-            (subst (λ l. InTurn l more rest) (append-nil gap) left))
-      ],
+      told_as _ (sym (append-nil told)) (told_from (sym (append-nil bytes))
+          (calls [] [] [] gap_leads tt (λ gap all. told_from (append-nil gap) (gap_told gap all)))),
     )
-  where
-    ended : (gap : List ℕ) → IsGap gap → (told more found : StepList) (rest : List ℕ)
-        → found ≡ told ++ more → InTurn gap more rest → (found ≡ told) × IsGap rest
-    ended gap all told [] found rest e left = (e ∙ append-nil told, subst IsGap left all)
-    ended gap all told (s ∷ more) found rest e (mid, next, others) =
-        absurd (gap_no_step gap all s.0 s.1 mid next)

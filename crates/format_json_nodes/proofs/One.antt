@@ -221,9 +221,11 @@ module _ (keyed : Bool) (V : NodesAt)
       → (IsGap t × (a ≡ [])) ⊎ ListNodes (ItemNodes keyed V) from index a t
       → (IsGap s × (b ≡ [])) ⊎ ListNodes (ItemNodes keyed V) from index b s
       → t ++ closing keyed ∷ r ≡ s ++ closing keyed ∷ q → (a ≡ b) × (r ≡ q)
-  inside_one from index a b t s r q (inl (g, n)) (inl (h, m)) e =
-      (n ∙ sym m, same_rest (run_one {P = IsSpace} t s g h e (stop_closing keyed r).1
-      (stop_closing keyed q).1).1)
+  inside_one from index a b t s r q (inl (g, n)) (inl (h, m)) e = (
+    n ∙ sym m,
+    same_rest (run_one {P = IsSpace} t s g h e (stop_closing keyed r).1
+        (stop_closing keyed q).1).1,
+  )
   inside_one from index a b t s r q (inl (g, n)) (inr ys) e =
       absurd (list_open from index b s ys t r (closing keyed ∷ q) g e)
   inside_one from index a b t s r q (inr xs) (inl (h, m)) e =

@@ -5,9 +5,8 @@ use Rattle.std.proofs.lemmas.Bool.Decides.{nat_tests}
 use Rattle.std.proofs.lemmas.List.{append_cancel_left, append_cancel_right}
 use Rattle.std.proofs.lemmas.List.Elements.{All-head, All-tail}
 use Rattle.std.specs.List.{All}
-use Rattle.format_json_extents.proofs.Characters.{Consists, byte_in, number_numerals, then_in}
-use Rattle.format_json_extents.proofs.Characters.{two_in}
-use Rattle.format_json_extents.proofs.Matching.{Apart, Begins, Starts, all_leaves, either_starts}
+use Rattle.format_json_extents.proofs.Characters.{byte_in, number_numerals, then_in, two_in}
+use Rattle.format_json_extents.proofs.Matching.{Apart, Starts, all_leaves, either_starts}
 use Rattle.format_json_extents.proofs.Matching.{same_first, this_then}
 use Rattle.format_json_extents.proofs.Scalars.{IsFirstOfNumber, number_starts, only_starts}
 use Rattle.format_json_extents.proofs.Scalars.{string_starts}
@@ -113,7 +112,7 @@ character_passes text (inr is) =
     let slash = is.is_second in
     let letter = slash.is_second in
     passes_then is.first (92 ∷ 117 ∷ letter.second)
-          (is.joins ∙ ap (λ l. is.first ++ l) (this_then 92 slash
+    (is.joins ∙ ap (λ l. is.first ++ l) (this_then 92 slash
     ∙ ap (λ l. 92 ∷ l) (this_then 117 letter))) (unit_passes high_hex is.first is.is_first)
     (unit_passes low_hex letter.second letter.is_second)
 

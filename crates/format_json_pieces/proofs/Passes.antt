@@ -7,8 +7,7 @@ use Rattle.std.proofs.lemmas.List.Elements.{All-head, All-tail}
 use Rattle.std.proofs.lemmas.Str.{encode_ascii}
 use Rattle.format_json_extents.proofs.Written.{both_true}
 use Rattle.format_json_extents.specs.Texts.{Either, IsByte, List_of, Many, Maybe, Then, before}
-use Rattle.format_json_extents.specs.Texts.{last}
-use Rattle.format_json_extents.specs.Texts.{nothing, one_more}
+use Rattle.format_json_extents.specs.Texts.{last, nothing, one_more}
 use Rattle.format_json_extents.specs.Value.{Only}
 pub mod Numbers
 pub mod Strings

@@ -1,7 +1,6 @@
 -- The walk accepts the bytes of a value and their prefixes: if it rejects bytes, no longer bytes
 -- start with a value.
-use Rattle.std.proofs.Common.{◌++◌, ◌∙◌, ◌∷◌, ◌≡◌, [], ℕ, List, ap, arith, length, refl, subst}
-use Rattle.std.proofs.Common.{suc, sym, true}
+use Rattle.std.proofs.Common.{◌++◌, ◌∷◌, ◌≡◌, [], ℕ, List, arith, length, refl, subst, suc, sym}
 use Rattle.std.specs.List.{All}
 use Rattle.std.specs.Str.{IsUtf8, chars, encode_utf8_all}
 use Rattle.std.proofs.lemmas.List.{append-nil}

@@ -1,7 +1,6 @@
 -- The walk that looks for a place: what it has come to, and the place where it stops.
 use Rattle.std.specs.Prelude.{◌≡◌, ◌↔◌, ◌<◌, ◌≤◌, ◌+◌, ◌-◌, ◌++◌, ℕ, List, [], ◌∷◌}
-use Rattle.std.specs.Prelude.{Option}
-use Rattle.std.specs.Prelude.{None, Some, length, slice_get}
+use Rattle.std.specs.Prelude.{Option, None, Some, length, slice_get}
 use Rattle.std.specs.Option.{option_to_list}
 use Rattle.std.proofs.Common.{ap, append_assoc, arith, inl, inr, length-append, refl, subst, sym}
 use Rattle.std.proofs.Common.{◌∙◌}

@@ -57,9 +57,7 @@ module _ {O A : Type 0} {I B : List ℕ → Type 0} {text : Text ℕ O}
       before (gap ++ xs) (mark.second ++ (bs ++ ws)) (gap ++ (xs ++ ys))
       (back (gap ++ xs) (joined gap xs white (body.set o xs x) refl))
       (list_of mark.second mark.is_second q bs b os ws more)
-      (ap (λ l. gap ++ (xs ++ l))
-      (e ∙ ap (λ l. l ++ ws) (f ∙ ap (λ l. l ++ bs) (this_then 44 mark)))
-      ∙ simp append_assoc)
+      (simp (e, f, this_then 44 mark, append_assoc))
 
   record Listed (cs : List ℕ) : Type 0 where
     gap : List ℕ
@@ -117,8 +115,7 @@ module _ {O A : Type 0} {I B : List ℕ → Type 0} {text : Text ℕ O}
           r.others,
           refl,
         );
-        splits = e ∙ ap (λ l. l ++ 44 ∷ others) g.joins
-            ∙ ap (λ l. (g.first ++ g.second) ++ 44 ∷ l) r.splits ∙ simp append_assoc;
+        splits = simp (e, g.joins, r.splits, append_assoc);
         size = omega (arith, r.size, length-append next r.ys);
       }
 

@@ -1,5 +1,5 @@
 -- Proofs that the values of this crate encode values of RFC 8259, and likewise its JSON texts.
-use Rattle.std.proofs.Common.{◌++◌, ◌<◌, ◌^◌, ◌↔◌, ◌∙◌, ◌∷◌, ◌≡◌, ◌≤◌, [], ℕ, Bool}
+use Rattle.std.proofs.Common.{◌++◌, ◌<◌, ◌^◌, ◌↔◌, ◌∷◌, ◌≡◌, ◌≤◌, [], ℕ, Bool}
 use Rattle.std.proofs.Common.{List, None, Option, Some, ap, append_assoc, arith, false, inl, inr}
 use Rattle.std.proofs.Common.{length, length-append, refl, suc, sym, true, zero}
 use Rattle.std.proofs.StringFromBytes.{spelled}
@@ -74,11 +74,7 @@ member_there V cs is =
     (joined (colon.second ++ element.first) element.second
     (joined colon.second element.first colon.is_second element.is_first refl) element.is_second
     refl) refl)
-    (is.joins ∙ ap (λ l. l ++ is.second)
-    (key.joins ∙ ap (λ l. key.first ++ l)
-    (name.joins ∙ ap (λ l. name.first ++ l) colon.joins))
-    ∙ ap (λ l. (key.first ++ (name.first ++ (colon.first ++ colon.second))) ++ l)
-    element.joins ∙ simp append_assoc)
+    (simp (is.joins, key.joins, name.joins, colon.joins, element.joins, append_assoc))
 
 member_back : (V : List ℕ → Type 0) (cs : List ℕ) → Then IsGap (MemberBody V) cs
     → IsMember V cs
@@ -93,10 +89,7 @@ member_back V cs is =
     (joined name.first named name.is_first
     (joined name.second colon.first name.is_second colon.is_first refl) refl) refl)
     (joined colon.second more.second colon.is_second more.is_second refl)
-    (is.joins ∙ ap (λ l. is.first ++ l)
-    (body.joins ∙ ap (λ l. l ++ body.second) name.joins
-    ∙ ap (λ l. (name.first ++ name.second) ++ l)
-    (more.joins ∙ ap (λ l. l ++ more.second) colon.joins)) ∙ simp append_assoc)
+    (simp (is.joins, body.joins, name.joins, more.joins, colon.joins, append_assoc))
 
 module _ {A : Type 0} where
   word_means : (o : Option Bool) → (v : Value A) × IsWordOf o v

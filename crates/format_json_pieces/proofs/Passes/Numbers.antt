@@ -1,10 +1,10 @@
 -- Numbers and the input that the walk expects in them.
-use Rattle.std.proofs.Common.{◌∷◌, ◌≡◌, ◌≤◌, ◌<◌, [], ℕ, Bool, List, None, Option, Some, arith}
+use Rattle.std.proofs.Common.{◌∷◌, ◌≡◌, ◌<◌, [], ℕ, List, None, Option, Some, arith}
 use Rattle.std.proofs.Common.{false, inl, inr, refl, subst, sym, true}
 use Rattle.std.proofs.lemmas.Bool.Decides.{nat_tests}
 use Rattle.std.specs.List.{All}
 use Rattle.grammars.specs.Texts.{NotFirst}
-use Rattle.format_json_extents.specs.Number.{IsDigit, IsDigits, IsExponent, IsFraction, IsNumber}
+use Rattle.format_json_extents.specs.Number.{IsDigit, IsExponent, IsFraction, IsNumber}
 use Rattle.format_json_extents.specs.Number.{IsLeading, IsWhole}
 use Rattle.format_json_texts.specs.Number.{ContinuesNumber}
 use Rattle.format_json_pieces.proofs.Passes.{Passes, all_pass, byte_pass, either_pass}

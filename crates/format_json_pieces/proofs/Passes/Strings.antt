@@ -1,7 +1,6 @@
 -- Strings and the input that the walk expects in them.
 use Rattle.std.proofs.Common.{◌%◌, ◌++◌, ◌+◌, ◌/◌, ◌<◌, ◌==◌, ◌||◌, ◌∷◌, ◌≡◌, ◌≤◌}
-use Rattle.std.proofs.Common.{◌⊎◌}
-use Rattle.std.proofs.Common.{ℕ, Bool, List, arith, false, inl, inr, refl, subst, sym, true}
+use Rattle.std.proofs.Common.{◌⊎◌, ℕ, Bool, List, arith, false, inl, inr, refl, subst, sym, true}
 use Rattle.std.specs.Char.{IsScalar, encode_utf8}
 use Rattle.std.specs.Str.{all_scalars, encode_utf8_all}
 use Rattle.std.proofs.lemmas.Bool.{cases_lt}

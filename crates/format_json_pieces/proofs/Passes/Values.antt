@@ -1,18 +1,14 @@
 -- Values and the input that the walk expects in them.
 use Rattle.std.proofs.Common.{◌++◌, ◌+◌, ◌<◌, ◌==◌, ◌∷◌, ◌≡◌, ◌≤◌, [], ℕ, Bool, List, arith}
-use Rattle.std.proofs.Common.{false}
-use Rattle.std.proofs.Common.{inl, inr, length, refl, subst, suc, sym, true, zero}
+use Rattle.std.proofs.Common.{false, inl, inr, length, subst, suc, sym, true, zero}
 use Rattle.std.specs.Prelude.{if◌then◌else◌}
 use Rattle.std.proofs.lemmas.Bool.Decides.{nat_tests}
 use Rattle.grammars.specs.Texts.{NotFirst, StartsWith}
 use Rattle.format_json_extents.proofs.Scalars.{number_starts}
 use Rattle.format_json_extents.specs.Number.{IsNumber}
-use Rattle.format_json_extents.specs.Strings.{IsString}
 use Rattle.format_json_extents.specs.Texts.{IsByte, Then}
-use Rattle.format_json_extents.specs.Value.{IsClosing, IsElement, IsGap, IsItem, IsKey}
-use Rattle.format_json_extents.specs.Value.{IsNestedTail}
-use Rattle.format_json_extents.specs.Value.{IsScalar, IsSpace, IsText, IsValue, IsWord, closing}
-use Rattle.format_json_extents.specs.Value.{opening}
+use Rattle.format_json_extents.specs.Value.{IsClosing, IsGap, IsItem, IsKey, IsNestedTail, IsScalar}
+use Rattle.format_json_extents.specs.Value.{IsSpace, IsValue, IsWord, opening}
 use Rattle.format_json_texts.specs.Number.{ContinuesNumber}
 use Rattle.format_json_texts.specs.Values.Texts.{IsNumeric}
 use Rattle.format_json_pieces.proofs.Passes.{Passes, Spells, all_pass, either_pass}
@@ -20,12 +16,10 @@ use Rattle.format_json_pieces.proofs.Passes.{list_pass, then_pass, this_pass, wi
 use Rattle.format_json_pieces.proofs.Passes.Numbers.{number_on}
 use Rattle.format_json_pieces.proofs.Passes.Strings.{Goes, both_ways, string_on}
 use Rattle.format_json_pieces.proofs.Walks.{AfterValue, At, Next, Started}
-use Rattle.format_json_pieces.specs.Begun.{after_step, last_open, value_step, within_name}
-use Rattle.format_json_pieces.specs.Begun.{within_text}
+use Rattle.format_json_pieces.specs.Begun.{after_step, value_step, within_name, within_text}
 use Rattle.format_json_pieces.specs.declared.begun.Bracket.{Bracket}
 use Rattle.format_json_pieces.specs.declared.begun.Bracket.TheVariants.{Array, Object, Whole}
 use Rattle.format_json_pieces.specs.declared.begun.Mode.TheVariants as modes
-use Rattle.format_json_pieces.specs.declared.begun.Step.{Step}
 use Rattle.format_json_pieces.specs.declared.begun.Step.TheVariants as steps
 use Rattle.format_json_pieces.specs.declared.inside.Inner.{Inner}
 
@@ -83,7 +77,7 @@ module _ (ends : List ℕ → Type 0) (level : ℕ) where
 
     pub after_gap : (k : Bracket) (held : List Bracket)
         → Passes rest IsGap (At ends level modes.After (k ∷ held))
-              (At ends level modes.After (k ∷ held))
+        (At ends level modes.After (k ∷ held))
     after_gap k held = gap_on (λ l x. x) (λ l x. x) (λ l x. x) (λ l x. x)
 
     -- ---- in brackets
@@ -131,7 +125,7 @@ module _ (ends : List ℕ → Type 0) (level : ℕ) where
 
     closing_on : (keyed : Bool) (held : List Bracket)
         → Passes rest (IsByte (IsClosing keyed)) (λ l. First keyed held l × After keyed held l)
-              (AfterValue ends level held)
+        (AfterValue ends level held)
     closing_on true held = this_pass rest 125 (omega arith) (λ l x. (x, x))
     closing_on false held = this_pass rest 93 (omega arith) (λ l x. (x, x))
 
@@ -168,7 +162,7 @@ module _ (ends : List ℕ → Type 0) (level : ℕ) where
       nested_on : (keyed : Bool) → length held < level
           → Passes rest V (Started ends level (bracket keyed ∷ held)) (After keyed held)
           → Passes rest (Then (IsByte (λ b. b ≡ opening keyed)) (IsNestedTail keyed V))
-                (Started ends level held) (AfterValue ends level held)
+          (Started ends level held) (AfterValue ends level held)
       nested_on keyed few v =
           let close = closing_on keyed held in
           then_pass (opening_on keyed held few)
