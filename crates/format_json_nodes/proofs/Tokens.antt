@@ -1,4 +1,4 @@
--- Scalars: one starts at a place, and it has one kind.
+-- Scalars: their kind is unique, and so is the offset at which each ends.
 use Rattle.std.proofs.Common.{◌++◌, ◌==◌, ◌∙◌, ◌∷◌, ◌≡◌, ◌⊎◌, [], ℕ, Bool, List, ap}
 use Rattle.std.proofs.Common.{append_assoc, arith, cond, false, inl, inr, refl, subst, sym, true}
 use Rattle.std.proofs.lemmas.Bool.Decides.{nat_tests}
@@ -33,7 +33,7 @@ run_one t s {r} {q} p o e at_r at_q =
 pub text_same : (t s : List ℕ) {r q : List ℕ} → r ≡ q → t ++ r ≡ s ++ q → t ≡ s
 text_same t s {r} same e = append_cancel_right t s r (e ∙ ap (λ l. s ++ l) (sym same))
 
--- ---- one text at a place
+-- ---- unique texts
 
 -- `One P R`: what bytes start with by `P` is one, and so is the rest, if the rest is in `R`.
 abbrev pub One : {O : Type 0} → (O → List ℕ → Type 0) → (List ℕ → Type 0) → Type 0
