@@ -11,7 +11,7 @@ use Rattle.format_json.specs.declared.fault.JsonWriteError.{JsonWriteError}
 use Rattle.format_json.specs.declared.fault.JsonWriteError.TheVariants as unwritten
 use Rattle.format_json_pieces.specs.Begun.{MayBegin}
 use Rattle.format_json_pieces.specs.Place.{IsPlace}
-use Rattle.format_json_pieces.specs.Stepped.{begun_front}
+use Rattle.format_json_pieces.proofs.Walks.{begun_front}
 use Rattle.format_json_pieces.specs.declared.begun.Bracket.TheVariants.{Whole}
 use Rattle.format_json_pieces.specs.declared.begun.Mode.TheVariants.{Value}
 use Rattle.format_json_pieces.specs.declared.expected.Expected.{Expected}

@@ -149,8 +149,7 @@ then_alike {P} {Q} p q = record {
       record {
         first = f.first ++ s.first;
         second = s.second;
-        splits = f.splits ∙ ap (λ l. f.first ++ l) s.splits
-            ∙ sym (append_assoc f.first s.first s.second);
+        splits = simp (f.splits, s.splits, append_assoc);
         rest_of = s.rest_of;
         is = joined f.first s.first f.is s.is refl;
       };
@@ -190,8 +189,7 @@ list_alike {P} p = record { bytes = bytes; chars = chars }
         record {
           first = f.first ++ 44 ∷ s.first;
           second = s.second;
-          splits = f.splits ∙ ap (λ l. f.first ++ l) (g ∙ ap (λ l. 44 ∷ l) s.splits)
-              ∙ sym (append_assoc f.first (44 ∷ s.first) s.second);
+          splits = simp (f.splits, g, s.splits, append_assoc);
           rest_of = s.rest_of;
           is = before f.first s.first (f.first ++ 44 ∷ s.first) f.is s.is refl;
         }

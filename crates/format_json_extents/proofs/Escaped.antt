@@ -1,7 +1,7 @@
 -- Which character an escape is the text of.
 use Rattle.std.proofs.Common.{◌*◌, ◌++◌, ◌+◌, ◌-◌, ◌<◌, ◌∙◌, ◌∷◌, ◌≡◌, ◌≤◌, ◌⊎◌}
 use Rattle.std.proofs.Common.{[], ℕ, List, ap, arith, inl, inr, length, length-append, refl}
-use Rattle.std.proofs.Common.{slice_index_or, subst, sym}
+use Rattle.std.proofs.Common.{slice_index_or, subst, suc, sym, zero}
 use Rattle.std.proofs.Math.Utf8.{low_scalar}
 use Rattle.std.specs.Char.{IsScalar, encode_utf8}
 use Rattle.std.proofs.lemmas.Str.{len_utf8_bounds, length-encode}
@@ -176,43 +176,21 @@ module _ (t a b c d s v e f g h high low : ℕ)
 abbrev pub at : List ℕ → ℕ → ℕ
 at l i = slice_index_or l i 0
 
-one_byte : (l : List ℕ) → 1 ≤ length l → length l < 2 → l ≡ at l 0 ∷ []
-one_byte [] least most = absurd (omega (arith, least))
-one_byte (t ∷ []) least most = refl
-one_byte (t ∷ a ∷ l) least most = absurd (omega (arith, most))
+abbrev bytes_of : (ℕ → ℕ) → ℕ → List ℕ
+bytes_of f zero = []
+bytes_of f (suc n) = f 0 ∷ bytes_of (λ i. f (suc i)) n
 
-five_bytes : (l : List ℕ) → 5 ≤ length l → length l < 6
-    → l ≡ at l 0 ∷ at l 1 ∷ at l 2 ∷ at l 3 ∷ at l 4 ∷ []
-five_bytes (t ∷ a ∷ b ∷ c ∷ d ∷ []) least most = refl
-five_bytes (t ∷ a ∷ b ∷ c ∷ d ∷ e ∷ l) least most = absurd (omega (arith, most))
-five_bytes (t ∷ a ∷ b ∷ c ∷ []) least most = absurd (omega (arith, least))
-five_bytes (t ∷ a ∷ b ∷ []) least most = absurd (omega (arith, least))
-five_bytes (t ∷ a ∷ []) least most = absurd (omega (arith, least))
-five_bytes (t ∷ []) least most = absurd (omega (arith, least))
-five_bytes [] least most = absurd (omega (arith, least))
+listed : (l : List ℕ) → l ≡ bytes_of (at l) (length l)
+listed [] = refl
+listed (x ∷ l) = ap (λ m. x ∷ m) (listed l)
 
-six_bytes : (l : List ℕ) → 6 ≤ length l → length l < 7
-    → l ≡ at l 0 ∷ at l 1 ∷ at l 2 ∷ at l 3 ∷ at l 4 ∷ at l 5 ∷ []
-six_bytes (t ∷ l) least most =
-    ap (λ k. t ∷ k) (five_bytes l (omega (arith, least)) (omega (arith, most)))
-six_bytes [] least most = absurd (omega (arith, least))
-
-eleven_bytes : (l : List ℕ) → 11 ≤ length l → length l < 12
-    → l ≡ at l 0 ∷ at l 1 ∷ at l 2 ∷ at l 3 ∷ at l 4 ∷ at l 5 ∷ at l 6 ∷ at l 7 ∷ at l 8 ∷ at l 9
-    ∷ at l 10 ∷ []
-eleven_bytes (t ∷ a ∷ b ∷ c ∷ d ∷ l) least most =
-    ap (λ k. t ∷ a ∷ b ∷ c ∷ d ∷ k)
-    (six_bytes l (omega (arith, least)) (omega (arith, most)))
-eleven_bytes (t ∷ a ∷ b ∷ c ∷ []) least most = absurd (omega (arith, least))
-eleven_bytes (t ∷ a ∷ b ∷ []) least most = absurd (omega (arith, least))
-eleven_bytes (t ∷ a ∷ []) least most = absurd (omega (arith, least))
-eleven_bytes (t ∷ []) least most = absurd (omega (arith, least))
-eleven_bytes [] least most = absurd (omega (arith, least))
+counted : (l : List ℕ) (n : ℕ) → n ≤ length l → length l < suc n → l ≡ bytes_of (at l) n
+counted l n least most = listed l ∙ ap (bytes_of (at l)) (omega (arith, least, most))
 
 pub counted_letter : (l : List ℕ) (k : ℕ) → 1 ≤ length l → length l < 2 → StandsFor (at l 0) k
     → EscapeText k (92 ∷ l)
 counted_letter l k least most is =
-    subst (λ m. EscapeText k (92 ∷ m)) (sym (one_byte l least most)) (letter_text (at l 0) k is)
+    subst (λ m. EscapeText k (92 ∷ m)) (sym (counted l 1 least most)) (letter_text (at l 0) k is)
 
 -- an escape of one unit
 pub record Single (l : List ℕ) (u : ℕ) : Type 0 where
@@ -222,11 +200,11 @@ pub record Single (l : List ℕ) (u : ℕ) : Type 0 where
 pub counted_single : {l : List ℕ} {u : ℕ} → IsEscape l → 5 ≤ length l → length l < 6
     → UnitText u (at l 1 ∷ at l 2 ∷ at l 3 ∷ at l 4 ∷ []) → Single l u
 counted_single {l} {u} is least most x =
-    let listed = subst IsEscape (five_bytes l least most) is in
+    let parts = subst IsEscape (counted l 5 least most) is in
     record {
-      scalar = only_scalar _ _ _ _ _ u listed x;
-      text = subst (λ m. EscapeText u (92 ∷ m)) (sym (five_bytes l least most))
-          (only_text _ _ _ _ _ u listed x);
+      scalar = only_scalar _ _ _ _ _ u parts x;
+      text = subst (λ m. EscapeText u (92 ∷ m)) (sym (counted l 5 least most))
+          (only_text _ _ _ _ _ u parts x);
     }
 
 -- an escape of two units
@@ -241,11 +219,11 @@ pub counted_double : {l : List ℕ} {high low : ℕ} → IsEscape l → 11 ≤ l
     → UnitText low (at l 7 ∷ at l 8 ∷ at l 9 ∷ at l 10 ∷ []) → Double l high low
 counted_double {l} {high} {low} is least most x y =
     let k = 65536 + (high - 55296) * 1024 + (low - 56320) in
-    let listed = subst IsEscape (eleven_bytes l least most) is in
+    let parts = subst IsEscape (counted l 11 least most) is in
     record {
-      is_high = pair_high _ _ _ _ _ _ _ _ _ _ _ high low listed x y;
-      is_low = pair_low _ _ _ _ _ _ _ _ _ _ _ high low listed x y;
-      scalar = pair_scalar _ _ _ _ _ _ _ _ _ _ _ high low listed x y k refl;
-      text = subst (λ m. EscapeText k (92 ∷ m)) (sym (eleven_bytes l least most))
-          (pair_text _ _ _ _ _ _ _ _ _ _ _ high low listed x y k refl);
+      is_high = pair_high _ _ _ _ _ _ _ _ _ _ _ high low parts x y;
+      is_low = pair_low _ _ _ _ _ _ _ _ _ _ _ high low parts x y;
+      scalar = pair_scalar _ _ _ _ _ _ _ _ _ _ _ high low parts x y k refl;
+      text = subst (λ m. EscapeText k (92 ∷ m)) (sym (counted l 11 least most))
+          (pair_text _ _ _ _ _ _ _ _ _ _ _ high low parts x y k refl);
     }

@@ -77,7 +77,7 @@ this_none c not rest it = not rest (this_first c it)
 
 -- ---- the first bytes of texts
 
-begins_to : {F G : ℕ → Type 0} {text : List ℕ} → ((b : ℕ) → F b → G b) → Begins F text
+pub begins_to : {F G : ℕ → Type 0} {text : List ℕ} → ((b : ℕ) → F b → G b) → Begins F text
     → Begins G text
 begins_to to it =
     record { byte = it.byte; more = it.more; begins = it.begins; is = to it.byte it.is }

@@ -31,10 +31,8 @@ module _ {token : Bool} {name text left wanted : List ℕ}
       → said token left ≡ c ∷ said token more → c ≡ b → Passed token name text more others
   passed_more {more} {others} {b} e f same = record {
     passed = it.passed ++ b ∷ [];
-    splits = it.splits ∙ ap (λ l. it.passed ++ l) e
-        ∙ sym (append_assoc it.passed (b ∷ []) others);
-    said_so = it.said_so ∙ ap (λ l. it.passed ++ l) (f ∙ ap (λ x. x ∷ said token more) same)
-        ∙ sym (append_assoc it.passed (b ∷ []) (said token more));
+    splits = simp (it.splits, e, append_assoc);
+    said_so = simp (it.said_so, f, same, append_assoc);
   }
 
   module _ {same : Bool} {whole meant : List ℕ} (is : same ≡ true)
@@ -136,9 +134,7 @@ compared_run {whole = whole} {ahead = ahead} {run = run} it leaves is strips =
       text = it.text ++ run;
       meant = it.meant ++ run;
       means = means_run run (subst (All IsUnescaped) (sym e) leaves.stands.is) it.means;
-      splits = it.splits
-          ∙ ap (λ l. it.text ++ l) (leaves.stands.splits ∙ ap (λ l. l ++ ahead) (sym e))
-          ∙ sym (append_assoc it.text run ahead);
+      splits = simp (it.splits, leaves.stands.splits, e, append_assoc);
       remains = strips whole it.meant it.remains;
     }
 
@@ -156,10 +152,7 @@ compared_escape {whole = whole} {next = next} {between = between} it e leaves is
       text = it.text ++ 92 ∷ between;
       meant = it.meant ++ encode_utf8 char;
       means = means_end it.means (inr (char, text, refl));
-      splits = it.splits
-          ∙ ap (λ l. it.text ++ l)
-          (e ∙ ap (λ l. 92 ∷ l) (leaves.stands.splits ∙ ap (λ l. l ++ next) (sym f)))
-          ∙ sym (append_assoc it.text (92 ∷ between) next);
+      splits = simp (it.splits, e, leaves.stands.splits, f, append_assoc);
       remains = strips whole it.meant it.remains;
     }
 
@@ -171,6 +164,6 @@ tail_compared {whole = whole} it e over = record {
   text = it.text;
   meant = it.meant;
   means = it.means;
-  splits = it.splits ∙ ap (λ l. it.text ++ l) e;
+  splits = simp (it.splits, e);
   is_whole = over whole it.meant it.remains;
 }

@@ -12,7 +12,7 @@ use Rattle.format_json_extents.proofs.Walks.{IsFirstOfToken, lead_no_token, toke
 use Rattle.format_json_extents.proofs.Walks.{token_starts}
 use Rattle.format_json_extents.specs.Number.{IsNumberByte}
 use Rattle.format_json_extents.specs.Steps.{IsBeforeColon, IsBracket, IsNextStep, IsOfStep, IsToken}
-use Rattle.format_json_extents.specs.StepLists.{InTurn, IsScalarOf, StepList}
+use Rattle.format_json_extents.specs.StepLists.{InTurn, IsScalarOf, StepList, StepsResult}
 use Rattle.format_json_extents.specs.Texts.{IsByte, MatchesAtStart, Maybe, RestAfter, Then}
 use Rattle.format_json_extents.specs.Value.{IsGap, IsSpace}
 use Rattle.format_json_extents.specs.Walk.{IsClosingByte, IsLead, IsLeadByte, IsMark}
@@ -48,66 +48,51 @@ lead_longest lead is e first =
 
 -- ---- which step a text is
 
-abbrev class_of : ℕ → ℕ
-class_of b =
-    cond (nat_lt b 45) 0 (cond (nat_lt b 58) 1 (cond (nat_lt b 92) 2 (cond (nat_lt b 94) 3
-    (cond (nat_lt b 103) 4 (cond (nat_lt b 111) 5 (cond (nat_lt b 117) 6 (cond (nat_lt b 124) 7
-    8)))))))
+-- the step of a text that starts with this byte, where a string is not a name
+abbrev step_at : ℕ → Step
+step_at b =
+    cond (nat_lt b 45) steps.String (cond (nat_lt b 58) steps.Number
+    (cond (nat_lt b 92) steps.BeginArray (cond (nat_lt b 94) steps.EndArray
+    (cond (nat_lt b 103) steps.False (cond (nat_lt b 111) steps.Null (cond (nat_lt b 117) steps.True
+    (cond (nat_lt b 124) steps.BeginObject steps.EndObject)))))))
 
--- names and strings are of one class
-abbrev class : Step → ℕ
-class steps.String = 0
-class steps.Name = 0
-class steps.Number = 1
-class steps.BeginArray = 2
-class steps.EndArray = 3
-class steps.False = 4
-class steps.Null = 5
-class steps.True = 6
-class steps.BeginObject = 7
-class steps.EndObject = 8
+abbrev unnamed : Step → Step
+unnamed steps.Name = steps.String
+unnamed step = step
 
--- the step of a class, where a string is not a name
-abbrev of_class : ℕ → Step
-of_class n =
-    cond (nat_lt n 1) steps.String (cond (nat_lt n 2) steps.Number
-    (cond (nat_lt n 3) steps.BeginArray (cond (nat_lt n 4) steps.EndArray
-    (cond (nat_lt n 5) steps.False (cond (nat_lt n 6) steps.Null (cond (nat_lt n 7) steps.True
-    (cond (nat_lt n 8) steps.BeginObject steps.EndObject)))))))
+unnamed_same : (s : Step) → (unnamed s ≡ s) ⊎ (s ≡ steps.Name)
+unnamed_same steps.String = inl refl
+unnamed_same steps.Name = inr refl
+unnamed_same steps.Number = inl refl
+unnamed_same steps.BeginArray = inl refl
+unnamed_same steps.EndArray = inl refl
+unnamed_same steps.False = inl refl
+unnamed_same steps.Null = inl refl
+unnamed_same steps.True = inl refl
+unnamed_same steps.BeginObject = inl refl
+unnamed_same steps.EndObject = inl refl
 
-of_same : (s : Step) → (of_class (class s) ≡ s) ⊎ (s ≡ steps.Name)
-of_same steps.String = inl refl
-of_same steps.Name = inr refl
-of_same steps.Number = inl refl
-of_same steps.BeginArray = inl refl
-of_same steps.EndArray = inl refl
-of_same steps.False = inl refl
-of_same steps.Null = inl refl
-of_same steps.True = inl refl
-of_same steps.BeginObject = inl refl
-of_same steps.EndObject = inl refl
+number_step : (b : ℕ) → IsFirstOfNumber b → step_at b ≡ steps.Number
+number_step b is = grind (arith, nat_tests, is)
 
-number_class : (b : ℕ) → IsFirstOfNumber b → class_of b ≡ 1
-number_class b is = grind (arith, nat_tests, is)
+string_step : (b : ℕ) (more : List ℕ) → IsString (b ∷ more) → step_at b ≡ steps.String
+string_step b more is =
+    let first = string_starts (b ∷ more) is in ap step_at (same_first first.begins ∙ first.is)
 
-string_class : (b : ℕ) (more : List ℕ) → IsString (b ∷ more) → class_of b ≡ 0
-string_class b more is =
-    let first = string_starts (b ∷ more) is in ap class_of (same_first first.begins ∙ first.is)
-
-first_class : (s : Step) (b : ℕ) (more rest : List ℕ) → IsOfStep s (b ∷ more) rest
-    → class_of b ≡ class s
-first_class steps.Null b more rest is = ap class_of (same_first is)
-first_class steps.False b more rest is = ap class_of (same_first is)
-first_class steps.True b more rest is = ap class_of (same_first is)
-first_class steps.Number b more rest is =
+first_step : (s : Step) (b : ℕ) (more rest : List ℕ) → IsOfStep s (b ∷ more) rest
+    → step_at b ≡ unnamed s
+first_step steps.Null b more rest is = ap step_at (same_first is)
+first_step steps.False b more rest is = ap step_at (same_first is)
+first_step steps.True b more rest is = ap step_at (same_first is)
+first_step steps.Number b more rest is =
     let first = number_starts (b ∷ more) is in
-    number_class b (subst IsFirstOfNumber (sym (same_first first.begins)) first.is)
-first_class steps.String b more rest is = string_class b more is.0
-first_class steps.Name b more rest is = string_class b more is.0
-first_class steps.BeginArray b more rest is = ap class_of (same_first is)
-first_class steps.EndArray b more rest is = ap class_of (same_first is)
-first_class steps.BeginObject b more rest is = ap class_of (same_first is)
-first_class steps.EndObject b more rest is = ap class_of (same_first is)
+    number_step b (subst IsFirstOfNumber (sym (same_first first.begins)) first.is)
+first_step steps.String b more rest is = string_step b more is.0
+first_step steps.Name b more rest is = string_step b more is.0
+first_step steps.BeginArray b more rest is = ap step_at (same_first is)
+first_step steps.EndArray b more rest is = ap step_at (same_first is)
+first_step steps.BeginObject b more rest is = ap step_at (same_first is)
+first_step steps.EndObject b more rest is = ap step_at (same_first is)
 
 is_token : (s : Step) (text rest : List ℕ) → IsOfStep s text rest → IsToken text
 is_token steps.Null text rest is = inr (inr (inr (inl is)))
@@ -127,22 +112,19 @@ step_same : (s t : Step) (text rest : List ℕ) → IsOfStep s text rest → IsO
 step_same s t text rest is also =
     let first = token_starts text (is_token s text rest is) in
     let P : Step → List ℕ → Type 0 = λ u l. IsOfStep u l rest in
-    let same : class s ≡ class t =
-    sym (first_class s first.byte first.more rest (subst (P s) first.begins is))
-    ∙ first_class t first.byte first.more rest (subst (P t) first.begins also) in
-    by (of_same s) (of_same t) same
+    by (unnamed_same s) (unnamed_same t)
+    (sym (first_step s first.byte first.more rest (subst (P s) first.begins is))
+    ∙ first_step t first.byte first.more rest (subst (P t) first.begins also))
   where
     no_name : (u v : Step) → IsOfStep u text rest → IsOfStep v text rest → u ≡ steps.Name
-        → of_class (class v) ≡ v → class u ≡ class v → ⊥
+        → unnamed v ≡ v → unnamed u ≡ unnamed v → ⊥
     no_name u v x y name e same =
-        let plain : v ≡ steps.String =
-        sym e ∙ ap of_class (sym same ∙ ap class name) in
         let P : Step → Type 0 = λ w. IsOfStep w text rest in
-        (subst P plain y).1 (subst P name x).1
+        (subst P (sym e ∙ sym same ∙ ap unnamed name) y).1 (subst P name x).1
 
-    by : (of_class (class s) ≡ s) ⊎ (s ≡ steps.Name) → (of_class (class t) ≡ t) ⊎ (t ≡ steps.Name)
-        → class s ≡ class t → s ≡ t
-    by (inl x) (inl y) same = sym x ∙ ap of_class same ∙ y
+    by : (unnamed s ≡ s) ⊎ (s ≡ steps.Name) → (unnamed t ≡ t) ⊎ (t ≡ steps.Name)
+        → unnamed s ≡ unnamed t → s ≡ t
+    by (inl x) (inl y) same = sym x ∙ same ∙ y
     by (inr x) (inr y) same = x ∙ sym y
     by (inr x) (inl y) same = absurd (no_name s t is also x y same)
     by (inl x) (inr y) same = absurd (no_name t s also is y x (sym same))
@@ -203,93 +185,59 @@ module _ (bytes mid : List ℕ) (s : Step) (t : List ℕ) (next : IsNextStep s t
 
 -- ---- successive calls
 
--- One more step occurs in the rest.
-abbrev pub OneMore : List ℕ → Type 0
-OneMore rest = (after : List ℕ) × MatchesAtStart (Then IsLead IsToken) rest after
+-- `Told told start`: successive calls from `start` return `told`, or a prefix of it.
+abbrev pub Told : StepList → List ℕ → Type 0
+Told told start = (found : StepList) (rest : List ℕ) → InTurn start found rest
+    → StepsResult told found rest
 
--- `Within told found rest`: `found` is a proper prefix of `told`, and one more step occurs in
--- `rest`.
-abbrev pub Within : StepList → StepList → List ℕ → Type 0
-Within told found rest =
-    (it : Step × List ℕ) × (others : StepList) × (told ≡ found ++ it ∷ others) × OneMore rest
-
--- `StepsUpTo start told now`: successive calls from `start` return the steps `told` first, and then
--- those of `now`.
-pub record StepsUpTo (start : List ℕ) (told : StepList) (now : List ℕ) : Type 0 where
-  pub calls : (found : StepList) (rest : List ℕ) → InTurn start found rest → Within told found rest
-      ⊎ ((more : StepList) × (found ≡ told ++ more) × InTurn now more rest)
-
-tells_of : (step : Step) (text bytes rest : List ℕ) → Here step text bytes rest
+tells_of : (step : Step) (text bytes rest : List ℕ) (told : StepList) → Here step text bytes rest
     → ((mid : List ℕ) (s : Step) (t : List ℕ) → IsNextStep s t bytes mid → mid ≡ rest)
-    → StepsUpTo bytes ((step, text) ∷ []) rest
+    → Told told rest → Told ((step, text) ∷ told) bytes
 unfolding InTurn
-tells_of step text bytes rest here leaves = record { calls = calls }
-  where
-    calls : (found : StepList) (last : List ℕ) → InTurn bytes found last
-        → Within ((step, text) ∷ []) found last
-        ⊎ ((more : StepList) × (found ≡ (step, text) ∷ more) × InTurn rest more last)
-    calls [] last e =
-        inl (
-          (step, text),
-          [],
-          refl,
-          (
-            rest,
-            record {
-              text = here.lead ++ text;
-              is = joined here.lead text here.is_lead (is_token step text rest here.is_step) refl;
-              splits = sym e ∙ here.splits ∙ sym (append_assoc here.lead text rest);
-            },
-          ),
-        )
-    calls ((s, t) ∷ more) last (mid, next, others) =
-        let same = leaves mid s t next in
-        let P : List ℕ → Type 0 = λ l. InTurn l more last in
-        inr (
-          more,
-          ap (λ u. u ∷ more) (told_here bytes mid s t next step text rest here same),
-          subst P same others,
-        )
+tells_of step text bytes rest told here leaves more [] last e =
+    inr (
+      (step, text),
+      told,
+      refl,
+      (
+        rest,
+        record {
+          text = here.lead ++ text;
+          is = joined here.lead text here.is_lead (is_token step text rest here.is_step) refl;
+          splits = sym e ∙ here.splits ∙ sym (append_assoc here.lead text rest);
+        },
+      ),
+    )
+tells_of step text bytes rest told here leaves more ((s, t) ∷ found) last (mid, next, others) =
+    let same = leaves mid s t next in
+    let P : List ℕ → Type 0 = λ l. InTurn l found last in
+    let is = told_here bytes mid s t next step text rest here same in
+    elim (more found last (subst P same others)) [
+      | inl (all, gap) ↦ inl (ap (λ u. u ∷ found) is ∙ ap (λ l. (step, text) ∷ l) all, gap)
+      | inr (it, behind, e, some) ↦
+          inr (
+            it,
+            behind,
+            ap (λ l. (step, text) ∷ l) e ∙ ap (λ u. u ∷ (found ++ it ∷ behind))
+                (sym is),
+            some,
+          )
+    ]
 
-pub tells_scalar : (step : Step) (text bytes rest : List ℕ) → Here step text bytes rest
-    → ((b : ℕ) (more : List ℕ) → rest ≡ b ∷ more → IsNumberByte b → ⊥)
-    → StepsUpTo bytes ((step, text) ∷ []) rest
-tells_scalar step text bytes rest here stops =
-    tells_of step text bytes rest here
+pub tells_scalar : (step : Step) (text bytes rest : List ℕ) {told : StepList}
+    → Here step text bytes rest
+    → ((b : ℕ) (more : List ℕ) → rest ≡ b ∷ more → IsNumberByte b → ⊥) → Told told rest
+    → Told ((step, text) ∷ told) bytes
+tells_scalar step text bytes rest {told} here stops =
+    tells_of step text bytes rest told here
     (λ mid s t next. leaves_scalar bytes mid s t next step text rest here stops)
 
-pub tells_bracket : (step : Step) (b : ℕ) (bytes rest : List ℕ) → Here step (b ∷ []) bytes rest
-    → IsBracket b → StepsUpTo bytes ((step, b ∷ []) ∷ []) rest
-tells_bracket step b bytes rest here is =
-    tells_of step (b ∷ []) bytes rest here
+pub tells_bracket : (step : Step) (b : ℕ) (bytes rest : List ℕ) {told : StepList}
+    → Here step (b ∷ []) bytes rest → IsBracket b → Told told rest
+    → Told ((step, b ∷ []) ∷ told) bytes
+tells_bracket step b bytes rest {told} here is =
+    tells_of step (b ∷ []) bytes rest told here
     (λ mid s t next. leaves_bracket bytes mid s t next step (b ∷ []) rest here b is refl)
-
-pub tells_nothing : {bytes : List ℕ} → StepsUpTo bytes [] bytes
-tells_nothing = record { calls = λ found rest turn. inr (found, refl, turn) }
-
-pub tells_on : {start mid now : List ℕ} {one two : StepList} → StepsUpTo start one mid
-    → StepsUpTo mid two now → StepsUpTo start (one ++ two) now
-tells_on {start} {now = now} {one} {two} first second = record { calls = calls }
-  where
-    calls : (found : StepList) (rest : List ℕ) → InTurn start found rest
-        → Within (one ++ two) found rest
-        ⊎ ((more : StepList) × (found ≡ (one ++ two) ++ more) × InTurn now more rest)
-    calls found rest turn = elim (first.calls found rest turn) [
-      | inl (it, others, e, some) ↦
-          inl (it, others ++ two, ap (λ l. l ++ two) e ∙ append_assoc found (it ∷ others) two, some)
-      | inr (more, e, left) ↦ elim (second.calls more rest left) [
-        | inl (it, others, f, some) ↦
-            inl (
-              it,
-              others,
-              ap (λ l. one ++ l) f ∙ sym (append_assoc one more (it ∷ others))
-                  ∙ ap (λ l. l ++ it ∷ others) (sym e),
-              some,
-            )
-        | inr (after, f, last) ↦
-            inr (after, e ∙ ap (λ l. one ++ l) f ∙ sym (append_assoc one two after), last)
-      ]
-    ]
 
 -- ---- after a value
 

@@ -88,7 +88,7 @@ module _ (bytes rest next old now new piece one : List ℕ) (count : ℕ)
     text = it.text ++ piece;
     meant = it.meant ++ one;
     means = means;
-    splits = it.splits ∙ ap (λ l. it.text ++ l) e ∙ sym (append_assoc it.text piece next);
+    splits = simp (it.splits, e, append_assoc);
     counts = omega (arith, it.counts, length-append it.meant one);
     short = omega (
       arith,

@@ -20,13 +20,11 @@ use Rattle.format_json_extents.proofs.Scanning.{left_scans, right_scans, then_sc
 use Rattle.format_json_extents.specs.Number.{IsNumber, IsNumberByte}
 use Rattle.format_json_extents.specs.Strings.{IsString}
 use Rattle.format_json_extents.specs.Texts.{IsByte, IsLongerRest, List_of, MatchesAtStart, Never}
-use Rattle.format_json_extents.specs.Texts.{NoneStands, Or}
-use Rattle.format_json_extents.specs.Texts.{RestAfter, Then, before, last}
+use Rattle.format_json_extents.specs.Texts.{NoneStands, Or, RestAfter, Then, before, last}
 use Rattle.format_json_extents.specs.Value.{IsClosing, IsColon, IsElement, IsEmptyTail, IsEnded}
 use Rattle.format_json_extents.specs.Value.{IsGap, IsItem, IsItemsTail, IsKey, IsName, IsNested}
-use Rattle.format_json_extents.specs.Value.{IsNumberByteOf}
-use Rattle.format_json_extents.specs.Value.{IsNestedTail, IsScalar, IsSpace, IsValue, Only, closing}
-use Rattle.format_json_extents.specs.Value.{opening}
+use Rattle.format_json_extents.specs.Value.{IsNumberByteOf, IsNestedTail, IsScalar, IsSpace}
+use Rattle.format_json_extents.specs.Value.{IsValue, Only, closing, opening}
 
 -- ---- the first bytes of values
 

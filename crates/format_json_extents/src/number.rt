@@ -2,9 +2,8 @@
 
 ghost use Rattle.std.specs.Prelude.{◌≡◌, IfNone, IfSome, MatchOption};
 ghost use Rattle.format_json_extents.specs.Number.{IsDigit, IsDigits, IsE, IsExponent, IsFraction};
-ghost use Rattle.format_json_extents.specs.Number.{IsMinus};
-ghost use Rattle.format_json_extents.specs.Number.{IsNumber, IsNumberByte, IsPoint, IsSign};
-ghost use Rattle.format_json_extents.specs.Number.{IsWhole};
+ghost use Rattle.format_json_extents.specs.Number.{IsMinus, IsNumber, IsNumberByte, IsPoint};
+ghost use Rattle.format_json_extents.specs.Number.{IsSign, IsWhole};
 ghost use Rattle.format_json_extents.specs.Texts.{IsByte, IsLongest, Maybe, Never, RestAfter};
 ghost use Rattle.format_json_extents.specs.Texts.{NoneStands, Or};
 

@@ -1,7 +1,6 @@
 //! Single bytes, and all bytes of a set.
 
-ghost use Rattle.std.specs.Prelude.{◌≡◌, ◌≤◌, ◌↔◌, ◌∷◌, List, ℕ, IsTrue, MatchOption, drop};
-ghost use Rattle.std.specs.Prelude.{length};
+ghost use Rattle.std.specs.Prelude.{◌≡◌, ◌≤◌, ◌↔◌, ◌∷◌, List, ℕ, IsTrue, MatchOption, drop, length};
 ghost use Rattle.std.specs.List.{All};
 ghost use Rattle.format_json_extents.specs.Number.{IsDigit};
 ghost use Rattle.format_json_extents.specs.Strings.{IsUnescaped};

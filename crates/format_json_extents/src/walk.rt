@@ -4,8 +4,7 @@ ghost use Rattle.std.specs.Prelude.{◌≡◌, ◌↔◌, ◌∷◌, List, ℕ, 
 ghost use Rattle.format_json_extents.specs.Texts.{NoneStands, RestAfter, Then};
 ghost use Rattle.format_json_extents.specs.Value.{IsValue};
 ghost use Rattle.format_json_extents.specs.Walk.{EndsItems, IsClosingByte, IsLead, IsLeadByte};
-ghost use Rattle.format_json_extents.specs.Walk.{IsMark};
-ghost use Rattle.format_json_extents.specs.Walk.{IsNext, IsOfKind};
+ghost use Rattle.format_json_extents.specs.Walk.{IsMark, IsNext, IsOfKind};
 
 use crate::tokens::skip_whitespace;
 use crate::value::read_value;

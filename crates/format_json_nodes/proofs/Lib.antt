@@ -1,6 +1,5 @@
 pub mod Nesting
 pub mod One
-pub mod Only
 pub mod Overlay
 pub mod Tokens
 pub mod Whole

@@ -44,10 +44,7 @@ module _ (keyed : Bool) (V : NodesAt) (size index : ℕ) {bytes : List ℕ} wher
 
       text_all : (end onward : List ℕ) → ahead ≡ end ++ onward
           → bytes ≡ (so.text ++ (it.text ++ end)) ++ onward
-      text_all end onward e = so.splits
-          ∙ ap (λ l. so.text ++ l) (it.splits ∙ ap (λ l. it.text ++ l) e
-          ∙ sym (append_assoc it.text end onward))
-          ∙ sym (append_assoc so.text (it.text ++ end) onward)
+      text_all end onward e = simp (so.splits, it.splits, e, append_assoc)
 
       pub more_items : {onward : List ℕ} → length rest ≤ size → ahead ≡ 44 ∷ onward
           → WritesItems keyed V size index bytes onward next old new
@@ -79,8 +76,7 @@ module _ (keyed : Bool) (V : NodesAt) (size index : ℕ) {bytes : List ℕ} wher
             (sym (append_assoc so.nodes it.nodes others))
             (subst (λ l. ListNodes (ItemNodes keyed V) (at size bytes) index
             (so.nodes ++ (it.nodes ++ others)) l)
-            (ap (λ l. so.text ++ l) (sym (append_assoc it.text (44 ∷ []) more))
-            ∙ sym (append_assoc so.text (it.text ++ 44 ∷ []) more))
+            (simp append_assoc)
             (so.leads (it.nodes ++ others) (it.text ++ 44 ∷ more) on));
       }
         where

@@ -1,29 +1,27 @@
--- Lemmas about scalars: where each ends, and its kind.
-use Rattle.std.proofs.Common.{◌++◌, ◌∙◌, ◌∷◌, ◌≡◌, ◌≤◌, ◌⊎◌, [], ℕ, List, ap, append_assoc}
-use Rattle.std.proofs.Common.{arith, inl, inr, refl, subst, sym}
-use Rattle.std.proofs.lemmas.List.{append_cancel_right}
-use Rattle.std.proofs.lemmas.List.Elements.{All-append, All-cons, All-head, All-nil, All-tail}
+-- Scalars: their kind is unique, and so is the offset at which each ends.
+use Rattle.std.proofs.Common.{◌++◌, ◌==◌, ◌∙◌, ◌∷◌, ◌≡◌, ◌⊎◌, [], ℕ, Bool, List, ap}
+use Rattle.std.proofs.Common.{append_assoc, arith, cond, false, inl, inr, refl, subst, sym, true}
+use Rattle.std.proofs.lemmas.Bool.Decides.{nat_tests}
+use Rattle.std.proofs.lemmas.List.{append_cancel_left, append_cancel_right}
+use Rattle.std.proofs.lemmas.List.Elements.{All-head, All-tail}
 use Rattle.std.specs.List.{All}
-use Rattle.format_json_extents.proofs.Matching.{Begins, all_leaves, byte_leaves, byte_none}
-use Rattle.format_json_extents.proofs.Matching.{either_left, either_right, first_none, never}
-use Rattle.format_json_extents.proofs.Matching.{same_first, then_exact}
-use Rattle.format_json_extents.proofs.Scalars.{IsFirstOfNumber, no_pair, number_starts}
-use Rattle.format_json_extents.proofs.Scalars.{string_starts, tail_ends, tail_escape, tail_run}
-use Rattle.format_json_extents.proofs.Scalars.{two_leaves}
-use Rattle.format_json_extents.proofs.Scanning.{SameMatches, rest_same, same_here, same_leaves}
-use Rattle.format_json_extents.specs.Number.{IsDigit, IsDigits, IsExponent, IsFraction, IsNumber}
-use Rattle.format_json_extents.specs.Number.{IsWhole}
-use Rattle.format_json_extents.specs.Strings.{IsCharacter, IsEscape, IsPair, IsPiece, IsString}
-use Rattle.format_json_extents.specs.Strings.{IsStringTail, IsUnescaped, IsUnit}
-use Rattle.format_json_extents.specs.Texts.{AreTwo, IsByte, Many, Maybe, Never, RestAfter, Then}
-use Rattle.format_json_extents.specs.Texts.{nothing, one_more}
+use Rattle.format_json_extents.proofs.Characters.{byte_in, number_numerals, then_in, two_in}
+use Rattle.format_json_extents.proofs.Matching.{Apart, Starts, all_leaves, either_starts}
+use Rattle.format_json_extents.proofs.Matching.{same_first, this_then}
+use Rattle.format_json_extents.proofs.Scalars.{IsFirstOfNumber, number_starts, only_starts}
+use Rattle.format_json_extents.proofs.Scalars.{string_starts}
+use Rattle.format_json_extents.proofs.Scanning.{rest_same}
+use Rattle.format_json_extents.proofs.Written.Units.{high_hex, low_hex, only_hex}
+use Rattle.format_json_extents.specs.Number.{IsNumber, IsNumeral}
+use Rattle.format_json_extents.specs.Strings.{IsCharacter, IsEscape, IsHexDigit, IsPiece, IsQuote}
+use Rattle.format_json_extents.specs.Strings.{IsString, IsUnescaped, IsUnit}
+use Rattle.format_json_extents.specs.Texts.{Many, Or, nothing, one_more}
+use Rattle.format_json_extents.specs.Value.{Only}
 use Rattle.format_json_nodes.specs.Nodes.{IsScalarOf}
 
 -- `No S rest`: `rest` does not start with a byte of `S`.
 abbrev pub No : (ℕ → Type 0) → List ℕ → Type 0
 No S rest = (b : ℕ) (more : List ℕ) → rest ≡ b ∷ more → S b → ⊥
-
--- ---- bytes of a set
 
 -- two runs of bytes of a set, after which no such byte follows
 pub run_one : {P : ℕ → Type 0} (t s : List ℕ) {r q : List ℕ} → All P t → All P s
@@ -32,220 +30,160 @@ run_one t s {r} {q} p o e at_r at_q =
     let same : q ≡ r = rest_same (all_leaves t p refl at_r) (all_leaves s o e at_q) in
     (append_cancel_right t s r (e ∙ ap (λ l. s ++ l) same), sym same)
 
--- a byte of a number, or a letter of a word
-abbrev pub IsWordByte : ℕ → Type 0
-IsWordByte b = (b ≡ 43) ⊎ (((45 ≤ b) × (b ≤ 57)) ⊎ ((b ≡ 69) ⊎ ((97 ≤ b) × (b ≤ 122))))
+pub text_same : (t s : List ℕ) {r q : List ℕ} → r ≡ q → t ++ r ≡ s ++ q → t ≡ s
+text_same t s {r} same e = append_cancel_right t s r (e ∙ ap (λ l. s ++ l) (sym same))
 
-abbrev Words : (List ℕ → Type 0) → Type 0
-Words P = (text : List ℕ) → P text → All IsWordByte text
+-- ---- unique texts
 
-byte_words : {P : ℕ → Type 0} → ((b : ℕ) → P b → IsWordByte b) → Words (IsByte P)
-byte_words to text it =
-    subst (All IsWordByte) (sym it.alone)
-    (All-cons IsWordByte it.byte [] (to it.byte it.is_byte) (All-nil IsWordByte))
+-- `One P R`: what bytes start with by `P` is one, and so is the rest, if the rest is in `R`.
+abbrev pub One : {O : Type 0} → (O → List ℕ → Type 0) → (List ℕ → Type 0) → Type 0
+One {O} P R = (a b : O) (t s r q : List ℕ) → P a t → P b s → t ++ r ≡ s ++ q → R r → R q
+    → (a ≡ b) × (r ≡ q)
 
-then_words : {P Q : List ℕ → Type 0} → Words P → Words Q → Words (Then P Q)
-then_words p q text it =
-    subst (All IsWordByte) (sym it.joins)
-    (All-append IsWordByte it.first it.second (p it.first it.is_first) (q it.second it.is_second))
+-- Each text of `P` starts with a byte of `F`, and it is one.
+pub record Unique {O : Type 0} (P : O → List ℕ → Type 0) (F : ℕ → Type 0)
+    (R : List ℕ → Type 0) : Type 0 where
+  pub first : (a : O) → Starts (P a) F
+  pub one : One P R
 
-maybe_words : {P : List ℕ → Type 0} → Words P → Words (Maybe P)
-maybe_words p text (inl e) = subst (All IsWordByte) (sym e) (All-nil IsWordByte)
-maybe_words p text (inr is) = p text is
+module _ {O : Type 0} {P Q : O → List ℕ → Type 0} {F G : ℕ → Type 0} {R : List ℕ → Type 0}
+    (p : Unique P F R) (q : Unique Q G R) (apart : Apart F G) where
+  abbrev Sum : O → List ℕ → Type 0
+  Sum o text = P o text ⊎ Q o text
 
-digit_word : (b : ℕ) → IsDigit b → IsWordByte b
-digit_word b is = grind (arith, is)
+  not_both : (a b : O) (t s m n : List ℕ) → P a t → Q b s → t ++ m ≡ s ++ n → ⊥
+  not_both a b t s m n x y e =
+      let f = p.first a t x in
+      let g = q.first b s y in
+      let same : f.byte ≡ g.byte =
+      same_first (sym (ap (λ l. l ++ m) f.begins) ∙ e ∙ ap (λ l. l ++ n) g.begins) in
+      apart g.byte (subst F same f.is) g.is
 
-all_words : Words (All IsDigit)
-all_words [] all = All-nil IsWordByte
-all_words (b ∷ text) all =
-    All-cons IsWordByte b text (digit_word b (All-head IsDigit b text all))
-    (all_words text (All-tail IsDigit b text all))
+  sum_one : One Sum R
+  sum_one a b t s m n (inl x) (inl y) e at_m at_n = p.one a b t s m n x y e at_m at_n
+  sum_one a b t s m n (inr x) (inr y) e at_m at_n = q.one a b t s m n x y e at_m at_n
+  sum_one a b t s m n (inl x) (inr y) e at_m at_n = absurd (not_both a b t s m n x y e)
+  sum_one a b t s m n (inr x) (inl y) e at_m at_n = absurd (not_both b a s t n m y x (sym e))
 
-digits_words : Words IsDigits
-digits_words = then_words (byte_words digit_word) all_words
-
-whole_words : Words IsWhole
-whole_words text (inl is) = byte_words (λ b e. grind (arith, e)) text is
-whole_words text (inr is) = then_words (byte_words (λ b e. grind (arith, e))) all_words text is
-
-fraction_words : Words IsFraction
-fraction_words = then_words (byte_words (λ b e. grind (arith, e))) digits_words
-
-exponent_words : Words IsExponent
-exponent_words =
-    then_words (byte_words (λ b e. grind (arith, e)))
-    (then_words (maybe_words (byte_words (λ b e. grind (arith, e)))) digits_words)
-
-number_words : Words IsNumber
-number_words =
-    then_words (maybe_words (byte_words (λ b e. grind (arith, e))))
-    (then_words whole_words (then_words (maybe_words fraction_words)
-    (maybe_words exponent_words)))
+  pub sum_unique : Unique Sum (Or F G) R
+  sum_unique = record { first = λ a. either_starts (p.first a) (q.first a); one = sum_one }
 
 -- ---- strings
 
--- a text in `P` is the only one where it starts
-abbrev Alone : (List ℕ → Type 0) → Type 0
-Alone P = (text bytes rest : List ℕ) → P text → bytes ≡ text ++ rest → RestAfter P Never bytes rest
+-- The bytes after the last quote, from inside a string; `escaped` after a backslash.
+abbrev after : Bool → List ℕ → List ℕ
+after escaped [] = []
+after true (b ∷ bytes) = after false bytes
+after false (b ∷ bytes) = cond (b == 34) bytes (after (b == 92) bytes)
 
-byte_alone : {P : ℕ → Type 0} → Alone (IsByte P)
-byte_alone text bytes rest it e = byte_leaves (e ∙ ap (λ l. l ++ rest) it.alone) it.is_byte
+abbrev Passes : List ℕ → Type 0
+Passes text = (l : List ℕ) → after false (text ++ l) ≡ after false l
 
-two_alone : {P : ℕ → ℕ → Type 0} → Alone (AreTwo P)
-two_alone text bytes rest it e = two_leaves (e ∙ ap (λ l. l ++ rest) it.alone) it.are_bytes
+passes_then : {text : List ℕ} (first second : List ℕ) → text ≡ first ++ second → Passes first
+    → Passes second → Passes text
+passes_then first second e p q l =
+    ap (λ m. after false (m ++ l)) e ∙ ap (after false) (append_assoc first second l)
+    ∙ p (second ++ l) ∙ q l
 
-then_alone : {P Q : List ℕ → Type 0} → Alone P → Alone Q → Alone (Then P Q)
-then_alone p q text bytes rest it e =
-    then_exact never
-    (p it.first bytes (it.second ++ rest) it.is_first
-    (e ∙ ap (λ l. l ++ rest) it.joins ∙ append_assoc it.first it.second rest))
-    (q it.second (it.second ++ rest) rest it.is_second refl)
+run_passes : (run : List ℕ) → All IsUnescaped run → Passes run
+run_passes [] all l = refl
+run_passes (b ∷ run) all l =
+    let is = All-head IsUnescaped b run all in
+    let quote : (b == 34) ≡ false = grind (arith, nat_tests, is) in
+    let slash : (b == 92) ≡ false = grind (arith, nat_tests, is) in
+    ap (λ x. cond x (run ++ l) (after (b == 92) (run ++ l))) quote
+    ∙ ap (λ x. after x (run ++ l)) slash
+    ∙ run_passes run (All-tail IsUnescaped b run all) l
 
-unit_alone : {P : ℕ → ℕ → Type 0} → Alone (IsUnit P)
-unit_alone = then_alone two_alone (then_alone byte_alone byte_alone)
+hex_plain : (b : ℕ) → IsHexDigit b → IsUnescaped b
+hex_plain b is = (grind (arith, is), λ e. grind (arith, is, e), λ e. grind (arith, is, e))
 
-pair_alone : Alone IsPair
-pair_alone = then_alone unit_alone (then_alone byte_alone (then_alone byte_alone unit_alone))
+unit_passes : {P : ℕ → ℕ → Type 0} → ((a b : ℕ) → P a b → IsHexDigit a × IsHexDigit b)
+    → (text : List ℕ) → IsUnit P text → Passes text
+unit_passes {P} hex text is =
+    let digit = byte_in IsHexDigit hex_plain in
+    let first = two_in P (λ a b p.
+    let (one, two) = hex a b p in (hex_plain a one, hex_plain b two)) in
+    run_passes text ((then_in first (then_in digit digit)).each text is)
 
-character_alone : Alone IsCharacter
-character_alone text bytes rest (inl is) e =
-    let it = unit_alone text bytes rest is e in either_left it (no_pair it.stands)
-character_alone text bytes rest (inr is) e =
-    let it = pair_alone text bytes rest is e in
-    either_right (λ other only. no_pair only rest it.stands) it
+character_passes : (text : List ℕ) → IsCharacter text → Passes text
+character_passes text (inl is) = unit_passes only_hex text is
+character_passes text (inr is) =
+    let slash = is.is_second in
+    let letter = slash.is_second in
+    passes_then is.first (92 ∷ 117 ∷ letter.second)
+    (is.joins ∙ ap (λ l. is.first ++ l) (this_then 92 slash
+    ∙ ap (λ l. 92 ∷ l) (this_then 117 letter))) (unit_passes high_hex is.first is.is_first)
+    (unit_passes low_hex letter.second letter.is_second)
 
-escape_alone : Alone IsEscape
-escape_alone text bytes rest (inl is) e =
-    let at = e ∙ ap (λ l. l ++ rest) is.alone in
-    let byte = is.is_byte in
-    either_left (byte_leaves at byte) (first_none (byte_none at (λ u. grind (arith, u, byte))))
-escape_alone text bytes rest (inr is) e =
-    let it = then_alone byte_alone character_alone text bytes rest is e in
-    let at = e ∙ ap (λ l. l ++ rest) is.joins
-    ∙ ap (λ l. (l ++ is.second) ++ rest) is.is_first.alone in
-    let u = is.is_first.is_byte in
-    either_right (byte_none at (λ byte. grind (arith, u, byte))) it
+piece_passes : (text : List ℕ) → IsPiece text → Passes text
+piece_passes text (inl is) = run_passes text ((byte_in IsUnescaped (λ b u. u)).each text is)
+piece_passes text (inr is) = by is.second is.is_second (this_then 92 is)
+  where
+    by : (escape : List ℕ) → IsEscape escape → text ≡ 92 ∷ escape → Passes text
+    by escape (inl one) e l =
+        ap (λ m. after false (m ++ l)) (e ∙ ap (λ m. 92 ∷ m) one.alone)
+    by escape (inr letter) e l =
+        ap (λ m. after false (m ++ l)) (e ∙ ap (λ m. 92 ∷ m) (this_then 117 letter))
+        ∙ character_passes letter.second letter.is_second l
 
-piece_on : (text bytes next : List ℕ) → IsPiece text → bytes ≡ text ++ next
-    → SameMatches IsStringTail bytes next
-piece_on text bytes next (inl is) e =
-    tail_run (is.byte ∷ [])
-    (All-cons IsUnescaped is.byte [] is.is_byte (All-nil IsUnescaped))
-    (e ∙ ap (λ l. l ++ next) is.alone)
-piece_on text bytes next (inr is) e =
-    let slash = is.is_first.is_byte in
-    let at : bytes ≡ 92 ∷ (is.second ++ next) =
-    e ∙ ap (λ l. l ++ next) is.joins ∙ ap (λ l. (l ++ is.second) ++ next) is.is_first.alone
-    ∙ ap (λ b. b ∷ (is.second ++ next)) slash in
-    tail_escape same_here
-    (all_leaves [] (All-nil IsUnescaped) refl
-    (λ b more f plain. plain.2 (same_first (sym f ∙ at))))
-    at (escape_alone is.second (is.second ++ next) next is.is_second refl)
+many_passes : (text : List ℕ) → Many IsPiece text → Passes text
+many_passes _ (nothing text e) = λ l. ap (λ m. after false (m ++ l)) e
+many_passes _ (one_more first others text is more e) =
+    passes_then first others e (piece_passes first is) (many_passes others more)
 
-tail_alone : (pieces : List ℕ) → Many IsPiece pieces → (bytes rest : List ℕ)
-    → bytes ≡ pieces ++ 34 ∷ rest → RestAfter IsStringTail Never bytes rest
-tail_alone _ (nothing pieces e) bytes rest splits =
-    tail_ends (splits ∙ ap (λ l. l ++ 34 ∷ rest) e)
-tail_alone _ (one_more first others pieces piece more e) bytes rest splits =
-    same_leaves
-    (piece_on first bytes (others ++ 34 ∷ rest) piece
-    (splits ∙ ap (λ l. l ++ 34 ∷ rest) e ∙ append_assoc first others (34 ∷ rest)))
-    (tail_alone others more (others ++ 34 ∷ rest) rest refl)
+abbrev behind : List ℕ → List ℕ
+behind [] = []
+behind (b ∷ bytes) = after false bytes
 
-string_alone : Alone IsString
-string_alone = then_alone byte_alone
-    (λ text bytes rest it e. tail_alone it.first it.is_first bytes rest
-    (e ∙ ap (λ l. l ++ rest) it.joins ∙ append_assoc it.first it.second rest
-    ∙ ap (λ l. it.first ++ (l ++ rest)) (it.is_second.alone
-    ∙ ap (λ b. b ∷ []) it.is_second.is_byte)))
+string_ends : (text rest : List ℕ) → IsString text → behind (text ++ rest) ≡ rest
+string_ends text rest is =
+    let tail = is.is_second in
+    ap (λ l. behind (l ++ rest)) (this_then 34 is ∙ ap (λ l. 34 ∷ l) (tail.joins
+    ∙ ap (λ l. tail.first ++ l) (tail.is_second.alone
+    ∙ ap (λ b. b ∷ []) tail.is_second.is_byte)))
+    ∙ ap (λ l. after false l) (append_assoc tail.first (34 ∷ []) rest)
+    ∙ many_passes tail.first tail.is_first (34 ∷ rest)
 
 pub string_one : (t s : List ℕ) {r q : List ℕ} → IsString t → IsString s → t ++ r ≡ s ++ q
-    → (t ≡ s) × (r ≡ q)
+    → r ≡ q
 string_one t s {r} {q} is other e =
-    let same : q ≡ r =
-    rest_same (string_alone t (t ++ r) r is refl) (string_alone s (t ++ r) q other e) in
-    (append_cancel_right t s r (e ∙ ap (λ l. s ++ l) same), sym same)
+    sym (string_ends t r is) ∙ ap (λ l. behind l) e ∙ string_ends s q other
 
 -- ---- scalars
 
--- the first byte of a scalar of this kind
-abbrev FirstOf : ℕ → ℕ → Type 0
-FirstOf kind b =
-    ((kind ≡ 0) × (b ≡ 110)) ⊎ (((kind ≡ 1) × (b ≡ 102)) ⊎ (((kind ≡ 2) × (b ≡ 116))
-    ⊎ (((kind ≡ 3) × (45 ≤ b) × (b ≤ 57)) ⊎ ((kind ≡ 4) × (b ≡ 34)))))
-
-scalar_first : (kind : ℕ) (text : List ℕ) → IsScalarOf kind text → Begins (FirstOf kind) text
-scalar_first kind text (inl (e, w)) =
-    record { byte = 110; more = 117 ∷ 108 ∷ 108 ∷ []; begins = w; is = inl (e, refl) }
-scalar_first kind text (inr (inl (e, w))) = record {
-  byte = 102;
-  more = 97 ∷ 108 ∷ 115 ∷ 101 ∷ [];
-  begins = w;
-  is = inr (inl (e, refl));
+kind_unique : (k : ℕ) {P : List ℕ → Type 0} {F : ℕ → Type 0} {R : List ℕ → Type 0} → Starts P F
+    → ((t s r q : List ℕ) → P t → P s → t ++ r ≡ s ++ q → R r → R q → r ≡ q)
+    → Unique (λ kind text. (kind ≡ k) × P text) F R
+kind_unique k starts one = record {
+  first = λ a t x. starts t x.1;
+  one = λ a b t s r q x y e at_r at_q.
+      (x.0 ∙ sym y.0, one t s r q x.1 y.1 e at_r at_q);
 }
-scalar_first kind text (inr (inr (inl (e, w)))) = record {
-  byte = 116;
-  more = 114 ∷ 117 ∷ 101 ∷ [];
-  begins = w;
-  is = inr (inr (inl (e, refl)));
-}
-scalar_first kind text (inr (inr (inr (inl (e, n))))) =
-    let b = number_starts text n in
-    record {
-      byte = b.byte;
-      more = b.more;
-      begins = b.begins;
-      is = inr (inr (inr (inl (e, (low b.byte b.is).0, (low b.byte b.is).1))));
-    }
-  where
-    low : (b : ℕ) → IsFirstOfNumber b → (45 ≤ b) × (b ≤ 57)
-    low b is = (grind (arith, is), grind (arith, is))
-scalar_first kind text (inr (inr (inr (inr (e, s))))) =
-    let b = string_starts text s in
-    record {
-      byte = b.byte;
-      more = b.more;
-      begins = b.begins;
-      is = inr (inr (inr (inr (e, b.is))));
-    }
 
-same_kind : (kind other b : ℕ) → FirstOf kind b → FirstOf other b → kind ≡ other
-same_kind kind other b (inl f) g = grind (arith, f, g)
-same_kind kind other b (inr (inl f)) g = grind (arith, f, g)
-same_kind kind other b (inr (inr (inl f))) g = grind (arith, f, g)
-same_kind kind other b (inr (inr (inr (inl f)))) g = grind (arith, f, g)
-same_kind kind other b (inr (inr (inr (inr f)))) g = grind (arith, f, g)
+word_unique : (k c : ℕ) (word : List ℕ)
+    → Unique (λ kind text. (kind ≡ k) × Only (c ∷ word) text) (λ b. b ≡ c) (No IsNumeral)
+word_unique k c word =
+    kind_unique k only_starts (λ t s r q x y e at_r at_q. append_cancel_left (c ∷ word) r q
+    (sym (ap (λ l. l ++ r) x) ∙ e ∙ ap (λ l. l ++ q) y))
 
-same_text : (kind other : ℕ) (t s : List ℕ) {r q : List ℕ} → kind ≡ other → IsScalarOf kind t
-    → IsScalarOf other s → t ++ r ≡ s ++ q → No IsWordByte r → No IsWordByte q → t ≡ s
-same_text kind other t s k (inl (e, w)) (inl (f, v)) x r q = w ∙ sym v
-same_text kind other t s k (inr (inl (e, w))) (inr (inl (f, v))) x r q = w ∙ sym v
-same_text kind other t s k (inr (inr (inl (e, w)))) (inr (inr (inl (f, v)))) x r q = w ∙ sym v
-same_text kind other t s k (inr (inr (inr (inl (e, n))))) (inr (inr (inr (inl (f, m))))) x r q =
-    (run_one t s (number_words t n) (number_words s m) x r q).0
-same_text kind other t s k (inr (inr (inr (inr (e, n))))) (inr (inr (inr (inr (f, m))))) x r q =
-    (string_one t s n m x).0
-same_text kind other t s k (inl (e, w)) (inr g) x r q = absurd (grind (arith, k, e, g))
-same_text kind other t s k (inr g) (inl (f, v)) x r q = absurd (grind (arith, k, f, g))
-same_text kind other t s k (inr (inl (e, w))) (inr (inr g)) x r q = absurd (grind (arith, k, e, g))
-same_text kind other t s k (inr (inr g)) (inr (inl (f, v))) x r q = absurd (grind (arith, k, f, g))
-same_text kind other t s k (inr (inr (inl (e, w)))) (inr (inr (inr g))) x r q =
-    absurd (grind (arith, k, e, g))
-same_text kind other t s k (inr (inr (inr g))) (inr (inr (inl (f, v)))) x r q =
-    absurd (grind (arith, k, f, g))
-same_text kind other t s k (inr (inr (inr (inl (e, w))))) (inr (inr (inr (inr (f, v))))) x r q =
-    absurd (omega (arith, k, e, f))
-same_text kind other t s k (inr (inr (inr (inr (e, w))))) (inr (inr (inr (inl (f, v))))) x r q =
-    absurd (omega (arith, k, e, f))
+number_one : (t s r q : List ℕ) → IsNumber t → IsNumber s → t ++ r ≡ s ++ q → No IsNumeral r
+    → No IsNumeral q → r ≡ q
+number_one t s r q x y e at_r at_q =
+    (run_one {P = IsNumeral} t s (number_numerals.each t x) (number_numerals.each s y) e at_r
+    at_q).1
 
-pub scalar_one : (kind other : ℕ) (t s : List ℕ) {r q : List ℕ} → IsScalarOf kind t
-    → IsScalarOf other s → t ++ r ≡ s ++ q → No IsWordByte r → No IsWordByte q
-    → (kind ≡ other) × (t ≡ s)
-scalar_one kind other t s {r} {q} is it e at_r at_q =
-    let f = scalar_first kind t is in
-    let g = scalar_first other s it in
-    let first : f.byte ≡ g.byte =
-    same_first (sym (ap (λ l. l ++ r) f.begins) ∙ e ∙ ap (λ l. l ++ q) g.begins) in
-    let kinds = same_kind kind other g.byte (subst (FirstOf kind) first f.is) g.is in
-    (kinds, same_text kind other t s kinds is it e at_r at_q)
+-- a byte with which a scalar starts
+abbrev pub IsFirstOfScalar : ℕ → Type 0
+IsFirstOfScalar =
+    Or (λ b. b ≡ 110) (Or (λ b. b ≡ 102) (Or (λ b. b ≡ 116) (Or IsFirstOfNumber IsQuote)))
+
+pub scalar_unique : Unique IsScalarOf IsFirstOfScalar (No IsNumeral)
+scalar_unique =
+    sum_unique (word_unique 0 110 (117 ∷ 108 ∷ 108 ∷ []))
+    (sum_unique (word_unique 1 102 (97 ∷ 108 ∷ 115 ∷ 101 ∷ []))
+    (sum_unique (word_unique 2 116 (114 ∷ 117 ∷ 101 ∷ []))
+    (sum_unique (kind_unique 3 number_starts number_one)
+    (kind_unique 4 string_starts (λ t s r q x y e at_r at_q. string_one t s x y e))
+    (λ b f g. grind (arith, f, g))) (λ b f g. grind (arith, f, g)))
+    (λ b f g. grind (arith, f, g))) (λ b f g. grind (arith, f, g))

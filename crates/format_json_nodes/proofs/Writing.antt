@@ -88,11 +88,7 @@ module _ (size index : ℕ) {bytes rest : List ℕ} (few : index + length bytes 
         is_before = gap.stands.is;
         is_name = name.stands.is;
         is_after = space.stands.is;
-        splits = all
-            ∙ ap (λ l. front ++ l) (name.stands.splits
-            ∙ ap (λ l. text ++ l) (space.stands.splits ∙ ap (λ l. behind ++ l) colon)
-            ∙ sym (append_assoc text behind (58 ∷ rest)))
-            ∙ sym (append_assoc front (text ++ behind) (58 ∷ rest));
+        splits = simp (all, name.stands.splits, space.stands.splits, colon, append_assoc);
         counts = refl;
         written = is
             ∙ ap (λ n. set old index n) (ends_at size 7 (at size start) (index + 1) text end
@@ -124,10 +120,7 @@ module _ (V : NodesAt) (size index : ℕ) {bytes rest : List ℕ} (few : length 
           is_after = space.stands.is;
           joins = refl;
         };
-        splits = all
-            ∙ ap (λ l. front ++ l) (it.splits ∙ ap (λ l. it.text ++ l) space.stands.splits
-            ∙ sym (append_assoc it.text behind rest))
-            ∙ sym (append_assoc front (it.text ++ behind) rest);
+        splits = simp (all, it.splits, space.stands.splits, append_assoc);
         counts = it.counts;
         few = omega (
           arith,
@@ -175,8 +168,7 @@ module _ (V : NodesAt) (size index : ℕ) {bytes rest : List ℕ} (few : length 
           joins = refl;
           in_order = refl;
         };
-        splits = key.splits ∙ ap (λ l. front ++ 58 ∷ l) it.splits
-            ∙ sym (append_assoc front (58 ∷ it.text) rest);
+        splits = simp (key.splits, it.splits, append_assoc);
         counts = omega (arith, it.counts, key.counts);
         few = omega (arith, it.few, length-append front (58 ∷ it.text));
         written = it.written

@@ -1,7 +1,6 @@
 //! The nodes of a JSON text.
 
-ghost use Rattle.std.specs.Prelude.{◌≡◌, ◌≤◌, ◌+◌, ◌++◌, List, ℕ, IfSome, MatchOption};
-ghost use Rattle.std.specs.Prelude.{length, set};
+ghost use Rattle.std.specs.Prelude.{◌≡◌, ◌≤◌, ◌+◌, ◌++◌, List, ℕ, IfSome, MatchOption, length, set};
 ghost use Rattle.std.specs.Str.{IsUtf8};
 ghost use Rattle.format_json_extents.specs.Standard.{IsTextByStandard};
 ghost use Rattle.format_json_extents.specs.Texts.{Never, NoneStands, RestAfter};

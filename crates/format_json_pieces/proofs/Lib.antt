@@ -1,2 +1,5 @@
 pub mod Opened
+pub mod Passes
+pub mod Passing
 pub mod Placed
+pub mod Walks

@@ -1,7 +1,6 @@
 -- The walk that looks for a place: what it has come to, and the place where it stops.
 use Rattle.std.specs.Prelude.{◌≡◌, ◌↔◌, ◌<◌, ◌≤◌, ◌+◌, ◌-◌, ◌++◌, ℕ, List, [], ◌∷◌}
-use Rattle.std.specs.Prelude.{Option}
-use Rattle.std.specs.Prelude.{None, Some, length, slice_get}
+use Rattle.std.specs.Prelude.{Option, None, Some, length, slice_get}
 use Rattle.std.specs.Option.{option_to_list}
 use Rattle.std.proofs.Common.{ap, append_assoc, arith, inl, inr, length-append, refl, subst, sym}
 use Rattle.std.proofs.Common.{◌∙◌}
@@ -10,7 +9,7 @@ use Rattle.format_json_pieces.proofs.Opened.{kept, kept_last, kept_length}
 use Rattle.format_json_pieces.specs.Begun.{last_open, next_step, others_open}
 use Rattle.format_json_pieces.specs.Place.{BeginsIn, IsPlaceIn, IsWanted, LeadsTo, most_open}
 use Rattle.format_json_pieces.specs.Place.{wanted}
-use Rattle.format_json_pieces.specs.Stepped.{AfterValue, Next, any}
+use Rattle.format_json_pieces.proofs.Walks.{AfterValue, Next, any}
 use Rattle.format_json_pieces.specs.declared.begun.Bracket.{Bracket}
 use Rattle.format_json_pieces.specs.declared.begun.Mode.{Mode}
 use Rattle.format_json_pieces.specs.declared.begun.Mode.TheVariants as modes

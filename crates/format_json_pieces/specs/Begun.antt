@@ -1,12 +1,10 @@
 -- Bytes with which the text of a value may begin: what comes of each, after those before it.
-use Rattle.std.specs.Prelude.{◌≡◌, ◌⊎◌, ◌==◌, ◌&&◌, ◌||◌, ◌<◌, if◌then◌else◌, ℕ, Bool}
-use Rattle.std.specs.Prelude.{List, not, suc}
-use Rattle.std.specs.Prelude.{[], ◌∷◌, Option, Some, None, nat_le, length, ⊤}
+use Rattle.std.specs.Prelude.{◌≡◌, ◌⊎◌, ◌==◌, ◌&&◌, ◌||◌, ◌<◌, if◌then◌else◌, ℕ, Bool, List}
+use Rattle.std.specs.Prelude.{not, suc, [], ◌∷◌, Option, Some, None, nat_le, length, ⊤}
 use Rattle.winnow_grammar.specs.Cut.{Asks}
 use Rattle.streams.specs.Kind.{Kind, backtrack, memory}
 use Rattle.format_json_pieces.specs.Inside.{expected, figure_behind, goes_on, is_final}
-use Rattle.format_json_pieces.specs.Inside.{letters_behind}
-use Rattle.format_json_pieces.specs.Inside.{part_behind}
+use Rattle.format_json_pieces.specs.Inside.{letters_behind, part_behind}
 use Rattle.format_json_pieces.specs.declared.begun.Bracket.{Bracket}
 use Rattle.format_json_pieces.specs.declared.begun.Bracket.TheVariants.{Array, Object, Whole}
 use Rattle.format_json_pieces.specs.declared.begun.Mode.{Mode}
@@ -15,8 +13,7 @@ use Rattle.format_json_pieces.specs.declared.begun.Mode.TheVariants.{Name}
 use Rattle.format_json_pieces.specs.declared.begun.Mode.TheVariants.{Number, Text, Value, Word}
 use Rattle.format_json_pieces.specs.declared.begun.Step.{Step}
 use Rattle.format_json_pieces.specs.declared.begun.Step.TheVariants.{Closes, Ended, Ends, Goes}
-use Rattle.format_json_pieces.specs.declared.begun.Step.TheVariants.{Opens}
-use Rattle.format_json_pieces.specs.declared.begun.Step.TheVariants.{Invalid}
+use Rattle.format_json_pieces.specs.declared.begun.Step.TheVariants.{Opens, Invalid}
 use Rattle.format_json_pieces.specs.declared.inside.Figure.{Figure}
 use Rattle.format_json_pieces.specs.declared.inside.Figure.TheVariants.{Minus, Whole, Zero}
 use Rattle.format_json_pieces.specs.declared.inside.Inner.{Inner}

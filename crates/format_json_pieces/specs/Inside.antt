@@ -10,19 +10,15 @@ use Rattle.format_json_pieces.specs.declared.inside.Inner.{Inner}
 use Rattle.format_json_pieces.specs.declared.inside.Inner.TheVariants as inners
 use Rattle.format_json_pieces.specs.declared.inside.Letters.{Letters}
 use Rattle.format_json_pieces.specs.declared.inside.Letters.TheVariants.{Alse, E, L, Ll, Lse, Rue}
-use Rattle.format_json_pieces.specs.declared.inside.Letters.TheVariants.{Se, Ue}
-use Rattle.format_json_pieces.specs.declared.inside.Letters.TheVariants.{Ull}
+use Rattle.format_json_pieces.specs.declared.inside.Letters.TheVariants.{Se, Ue, Ull}
 use Rattle.format_json_pieces.specs.declared.inside.Part.{Part}
 use Rattle.format_json_pieces.specs.declared.inside.Part.TheVariants.{Backslash, BehindD, Escape}
-use Rattle.format_json_pieces.specs.declared.inside.Part.TheVariants.{HighOne}
-use Rattle.format_json_pieces.specs.declared.inside.Part.TheVariants.{HighTwo, LetterU, LowD}
-use Rattle.format_json_pieces.specs.declared.inside.Part.TheVariants.{LowSecond}
-use Rattle.format_json_pieces.specs.declared.inside.Part.TheVariants.{One, Plain, TailLast}
-use Rattle.format_json_pieces.specs.declared.inside.Part.TheVariants.{TailLong}
+use Rattle.format_json_pieces.specs.declared.inside.Part.TheVariants.{HighOne, HighTwo, LetterU}
+use Rattle.format_json_pieces.specs.declared.inside.Part.TheVariants.{LowD, LowSecond, One, Plain}
+use Rattle.format_json_pieces.specs.declared.inside.Part.TheVariants.{TailLast, TailLong}
 use Rattle.format_json_pieces.specs.declared.inside.Part.TheVariants.{TailLonger, TailOne}
-use Rattle.format_json_pieces.specs.declared.inside.Part.TheVariants.{TailScalar}
-use Rattle.format_json_pieces.specs.declared.inside.Part.TheVariants.{TailThree, TailTwo, Three}
-use Rattle.format_json_pieces.specs.declared.inside.Part.TheVariants.{Two, Unit}
+use Rattle.format_json_pieces.specs.declared.inside.Part.TheVariants.{TailScalar, TailThree}
+use Rattle.format_json_pieces.specs.declared.inside.Part.TheVariants.{TailTwo, Three, Two, Unit}
 
 -- ---- strings
 

@@ -1,8 +1,7 @@
 -- The offset at which bytes are no longer a possible prefix of a JSON text, and the input that is
 -- expected there.
 use Rattle.std.specs.Prelude.{◌≡◌, ◌⊎◌, ◌↔◌, ◌≤◌, ℕ, suc, List, [], ◌∷◌, ◌++◌, Option, Some}
-use Rattle.std.specs.Prelude.{None}
-use Rattle.std.specs.Prelude.{length, ⊤}
+use Rattle.std.specs.Prelude.{None, length, ⊤}
 use Rattle.std.specs.Option.{option_to_list}
 use Rattle.format_json_pieces.specs.Begun.{IsViablePrefix, last_open, next_step}
 use Rattle.format_json_pieces.specs.Inside.{expected}
@@ -16,8 +15,7 @@ use Rattle.format_json_pieces.specs.declared.begun.Step.TheVariants.{Opens, Inva
 use Rattle.format_json_pieces.specs.declared.expected.Expected.{Expected}
 use Rattle.format_json_pieces.specs.declared.expected.Expected.TheVariants as what
 use Rattle.format_json_pieces.specs.declared.inside.Figure.{Figure}
-use Rattle.format_json_pieces.specs.declared.inside.Figure.TheVariants.{Exponent, Minus}
-use Rattle.format_json_pieces.specs.declared.inside.Figure.TheVariants.{Point}
+use Rattle.format_json_pieces.specs.declared.inside.Figure.TheVariants.{Exponent, Minus, Point}
 use Rattle.format_json_pieces.specs.declared.inside.Figure.TheVariants.{Sign}
 use Rattle.format_json_pieces.specs.declared.inside.Part.{Part}
 use Rattle.format_json_pieces.specs.declared.inside.Part.TheVariants as parts

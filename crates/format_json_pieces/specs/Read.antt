@@ -1,7 +1,6 @@
 -- The result for bytes, in terms of the text of the value that they start with.
-use Rattle.std.specs.Prelude.{◌≡◌, ◌<◌, ◌^◌, ℕ, false, true, Bool, List, []}
-use Rattle.std.specs.Prelude.{◌∷◌}
-use Rattle.std.specs.Prelude.{◌++◌, Some, None, length}
+use Rattle.std.specs.Prelude.{◌≡◌, ◌<◌, ◌^◌, ℕ, false, true, Bool, List, [], ◌∷◌, ◌++◌, Some, None}
+use Rattle.std.specs.Prelude.{length}
 use Rattle.std.specs.List.{All}
 use Rattle.std.specs.Str.{IsUtf8, chars}
 use Rattle.std.proofs.Common.{refl, sym, ap, subst, inl, inr, ◌∙◌, arith, append_assoc}
@@ -99,7 +98,7 @@ module _ {A : Type 0} (alloc : A) (level : ℕ) where
     unfolding IsValueIn InUtf8
     bytes_of =
         let (text, (utf8, written), e, ended) = it in
-        (text, utf8, value_bytes alloc level text utf8 v written, e, ended)
+        (text, utf8, value_bytes level text utf8 v written, e, ended)
 
     -- it begins with no whitespace
     value_first : NotFirst IsMultispace bytes

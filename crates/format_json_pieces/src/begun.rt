@@ -1,12 +1,8 @@
 //! Whether partial input can continue to the text of a value: by a walk over the bytes, one at a
 //! time, with the brackets that are open.
-ghost use Rattle.format_json_pieces.specs.Begun.{IsLacking, after_step};
-ghost use Rattle.format_json_pieces.specs.Begun.{figure_step};
-ghost use Rattle.format_json_pieces.specs.Begun.{item_step};
-ghost use Rattle.format_json_pieces.specs.Begun.{name_step};
-ghost use Rattle.format_json_pieces.specs.Begun.{is_gap, letters_step, name_part_step, next_step};
-ghost use Rattle.format_json_pieces.specs.Begun.{text_step};
-ghost use Rattle.format_json_pieces.specs.Begun.{value_step};
+ghost use Rattle.format_json_pieces.specs.Begun.{IsLacking, after_step, figure_step, item_step};
+ghost use Rattle.format_json_pieces.specs.Begun.{name_step, is_gap, letters_step, name_part_step};
+ghost use Rattle.format_json_pieces.specs.Begun.{next_step, text_step, value_step};
 ghost use Rattle.std.specs.Prelude.{◌≡◌};
 
 use crate::inside::{

@@ -1,10 +1,8 @@
 //! State machines for the bytes inside a string, a number and a word.
 ghost use Rattle.format_json_pieces.specs.Inside.{escape_behind, expected, figure_behind, goes_on};
-ghost use Rattle.format_json_pieces.specs.Inside.{is_final};
-ghost use Rattle.format_json_pieces.specs.Inside.{is_hex, is_high, is_low, is_short, lead_behind};
-ghost use Rattle.format_json_pieces.specs.Inside.{letters_behind, part_behind, part_where};
-ghost use Rattle.format_json_pieces.specs.Inside.{plain_behind};
-ghost use Rattle.format_json_pieces.specs.Inside.{tail_behind};
+ghost use Rattle.format_json_pieces.specs.Inside.{is_final, is_hex, is_high, is_low, is_short};
+ghost use Rattle.format_json_pieces.specs.Inside.{lead_behind, letters_behind, part_behind};
+ghost use Rattle.format_json_pieces.specs.Inside.{part_where, plain_behind, tail_behind};
 ghost use Rattle.std.specs.Prelude.{◌≡◌};
 
 /// The input that is expected next in a string.

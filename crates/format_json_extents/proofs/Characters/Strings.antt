@@ -122,11 +122,11 @@ tail_more : (piece cs more rest : List ℕ) → IsPiece piece → cs ≡ piece +
 tail_more piece cs more rest is e t = record {
   first = piece ++ t.first;
   second = t.second;
-  splits = e ∙ ap (λ l. piece ++ l) t.splits ∙ sym (append_assoc piece t.first t.second);
+  splits = simp (e, t.splits, append_assoc);
   rest_of = t.rest_of;
   is = joined (piece ++ t.is.first) t.is.second
       (one_more piece t.is.first (piece ++ t.is.first) is t.is.is_first refl) t.is.is_second
-      (ap (λ l. piece ++ l) t.is.joins ∙ sym (append_assoc piece t.is.first t.is.second));
+      (simp (t.is.joins, append_assoc));
 }
 
 -- the last quote

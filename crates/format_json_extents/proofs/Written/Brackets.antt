@@ -23,23 +23,23 @@ space_white c is = grind (arith, is)
 white_space : (c : ℕ) → IsMultispace c → IsSpace c
 white_space c is = grind (arith, is)
 
-pub gap_written : Written IsGap GapText
+pub gap_written : {A : Type 0} → Written A IsGap GapText
 gap_written = run_written IsSpace IsMultispace space_white white_space
 
 -- a byte, and whitespace after it
 abbrev pub IsMarked : ℕ → List ℕ → Type 0
 IsMarked c = Then (IsByte (λ b. b ≡ c)) IsGap
 
-pub mark_written : (c : ℕ) → Written (IsMarked c) (Mark c)
+pub mark_written : {A : Type 0} (c : ℕ) → Written A (IsMarked c) (Mark c)
 mark_written c = then_written pair (one_written c) gap_written
 
 marked : (c : ℕ) (gap : List ℕ) → IsGap gap → IsMarked c (c ∷ gap)
 marked c gap white = joined (c ∷ []) gap (one refl refl) white refl
 
 -- An item is whitespace and then `B`, which `text` encodes.
-module _ {O : Type 0} {I B : List ℕ → Type 0} {text : Text ℕ O}
+module _ {O A : Type 0} {I B : List ℕ → Type 0} {text : Text ℕ O}
     (there : (cs : List ℕ) → I cs → Then IsGap B cs)
-    (back : (cs : List ℕ) → Then IsGap B cs → I cs) (body : Written B text) where
+    (back : (cs : List ℕ) → Then IsGap B cs → I cs) (body : Written A B text) where
   abbrev Others : List O → List ℕ → Type 0
   Others = EachText (Both (λ d o. o) (Mark 44) text)
 
@@ -53,13 +53,11 @@ module _ {O : Type 0} {I B : List ℕ → Type 0} {text : Text ℕ O}
       (joined gap xs white (body.set o xs x)
       (ap (λ l. gap ++ (xs ++ l)) e ∙ ap (λ l. gap ++ l) (append-nil xs))))
   list_of gap white o xs x (p ∷ os) ys (zs, ws, (d, q, ms, bs, m, b, f, out), more, e) =
-      let mark = (mark_written 44).set d ms m in
+      let mark = (mark_written {A = A} 44).set d ms m in
       before (gap ++ xs) (mark.second ++ (bs ++ ws)) (gap ++ (xs ++ ys))
       (back (gap ++ xs) (joined gap xs white (body.set o xs x) refl))
       (list_of mark.second mark.is_second q bs b os ws more)
-      (ap (λ l. gap ++ (xs ++ l))
-      (e ∙ ap (λ l. l ++ ws) (f ∙ ap (λ l. l ++ bs) (this_then 44 mark)))
-      ∙ simp append_assoc)
+      (simp (e, f, this_then 44 mark, append_assoc))
 
   record Listed (cs : List ℕ) : Type 0 where
     gap : List ℕ
@@ -73,7 +71,7 @@ module _ {O : Type 0} {I B : List ℕ → Type 0} {text : Text ℕ O}
     splits : cs ≡ gap ++ (xs ++ ys)
     size : length os ≤ length ys
 
-  listed : (cs : List ℕ) → Fits cs → List_of I cs → Listed cs
+  listed : (cs : List ℕ) → Fits A cs → List_of I cs → Listed cs
   unfolding EachText Both
   listed _ fits (last cs is) =
       let g = there cs is in
@@ -117,14 +115,13 @@ module _ {O : Type 0} {I B : List ℕ → Type 0} {text : Text ℕ O}
           r.others,
           refl,
         );
-        splits = e ∙ ap (λ l. l ++ 44 ∷ others) g.joins
-            ∙ ap (λ l. (g.first ++ g.second) ++ 44 ∷ l) r.splits ∙ simp append_assoc;
+        splits = simp (e, g.joins, r.splits, append_assoc);
         size = omega (arith, r.size, length-append next r.ys);
       }
 
   -- ---- in brackets
 
-  module _ {A : Type 0} (alloc : A) (opens closes : ℕ) where
+  module _ (opens closes : ℕ) where
     abbrev Bracketed : List ℕ → Type 0
     Bracketed =
         Then (IsByte (λ b. b ≡ opens))
@@ -140,10 +137,10 @@ module _ {O : Type 0} {I B : List ℕ → Type 0} {text : Text ℕ O}
         by l.items zs y e2
       where
         mark : IsMarked opens xs
-        mark = (mark_written opens).set m xs x
+        mark = (mark_written {A = A} opens).set m xs x
 
         end : IsByte (λ b. b ≡ closes) ws
-        end = (one_written closes).set c ws z
+        end = (one_written {A = A} closes).set c ws z
 
         starts : (inside : List ℕ) → ys ≡ inside → cs ≡ opens ∷ (mark.second ++ inside)
         starts inside e =
@@ -165,7 +162,7 @@ module _ {O : Type 0} {I B : List ℕ → Type 0} {text : Text ℕ O}
 
     bracketed : (gap inside cs : List ℕ) (os : List O) → IsGap gap
         → PartedText (Mark 44) text os inside → length os < 2 ^ 63
-        → cs ≡ (opens ∷ gap) ++ (inside ++ closes ∷ []) → Fits cs
+        → cs ≡ (opens ∷ gap) ++ (inside ++ closes ∷ []) → Fits A cs
         → (list : Vec O A) × Encoded list cs
     unfolding Both InList Spelled
     bracketed gap inside cs os white y few e fits =
@@ -175,7 +172,7 @@ module _ {O : Type 0} {I B : List ℕ → Type 0} {text : Text ℕ O}
           ptr = null_ptr;
           len = length os;
           cap = length os;
-          alloc = alloc;
+          alloc = fits.alloc;
           items = os;
           ok = (refl, omega arith);
           small = few;
@@ -193,7 +190,7 @@ module _ {O : Type 0} {I B : List ℕ → Type 0} {text : Text ℕ O}
           ),
         )
 
-    bracketed_value : (cs : List ℕ) → Fits cs → Bracketed cs → (list : Vec O A) × Encoded list cs
+    bracketed_value : (cs : List ℕ) → Fits A cs → Bracketed cs → (list : Vec O A) × Encoded list cs
     unfolding PartedText
     bracketed_value cs fits is = elim is.is_second [
       | inl none ↦
@@ -224,5 +221,5 @@ module _ {O : Type 0} {I B : List ℕ → Type 0} {text : Text ℕ O}
           )) e fits
     ]
 
-    pub bracketed_written : Written Bracketed Encoded
+    pub bracketed_written : Written A Bracketed Encoded
     bracketed_written = record { set = bracketed_set; value = bracketed_value }

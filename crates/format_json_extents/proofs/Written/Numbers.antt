@@ -16,8 +16,8 @@ use Rattle.format_parts.specs.Words.{Run, latter, pair, to_four}
 abbrev pub Same : (List ℕ → Type 0) → (List ℕ → Type 0) → Type 0
 Same P Q = ((cs : List ℕ) → P cs → Q cs) × ((cs : List ℕ) → Q cs → P cs)
 
-pub as_written : {O : Type 0} {P Q : List ℕ → Type 0} {text : O → List ℕ → Type 0} → Same P Q
-    → Written P text → Written Q text
+pub as_written : {A O : Type 0} {P Q : List ℕ → Type 0} {text : O → List ℕ → Type 0} → Same P Q
+    → Written A P text → Written A Q text
 as_written (there, back) p = record {
   set = λ o cs x. there cs (p.set o cs x);
   value = λ cs fits is. p.value cs fits (back cs is);
@@ -57,10 +57,10 @@ then_assoc P Q R = (
       ∙ sym (append_assoc is.first rest.first rest.second)),
 )
 
-digits_written : Written IsDigits (Run IsDigit 1)
+digits_written : {A : Type 0} → Written A IsDigits (Run IsDigit 1)
 digits_written = run_one_written IsDigit
 
-exponent_written : Written IsExponent ExponentText
+exponent_written : {A : Type 0} → Written A IsExponent ExponentText
 exponent_written =
     as_written (then_assoc (IsByte IsE) (Maybe (IsByte IsSign)) IsDigits)
     (then_written latter (then_written pair (as_written (swap_byte (λ b. b ≡ 101) (λ b. b ≡ 69))
@@ -69,7 +69,7 @@ exponent_written =
     (maybe_written (as_written (either_byte (λ b. b ≡ 43) (λ b. b ≡ 45))
     (either_written (one_written 43) (one_written 45))))) digits_written)
 
-pub number_written : Written IsNumber NumberText
+pub number_written : {A : Type 0} → Written A IsNumber NumberText
 number_written =
     shown_written (then_written to_four (maybe_written (one_written 45))
     (then_written pair (either_written (shown_written (one_written 48))

@@ -44,7 +44,7 @@ record Piece (cs : List ℕ) : Type 0 where
   scalar : IsScalar char
   size : length (encode_utf8 char) ≤ length (encode_utf8_all cs)
 
-piece_value : (cs : List ℕ) → Fits cs → IsPiece cs → Piece cs
+piece_value : {A : Type 0} (cs : List ℕ) → Fits A cs → IsPiece cs → Piece cs
 unfolding EitherText Both Spelled In
 piece_value cs fits (inl is) =
     let P : List ℕ → Type 0 = λ l. all_scalars l ≡ true in
@@ -99,7 +99,7 @@ record Characters (cs : List ℕ) : Type 0 where
   scalars : all_scalars os ≡ true
   size : length (encode_utf8_all os) ≤ length (encode_utf8_all cs)
 
-row_value : (cs : List ℕ) → Fits cs → Many IsPiece cs → Characters cs
+row_value : {A : Type 0} (cs : List ℕ) → Fits A cs → Many IsPiece cs → Characters cs
 unfolding EachText
 row_value _ fits (nothing cs e) =
     record { os = []; written = e; scalars = refl; size = omega arith }
@@ -122,8 +122,8 @@ row_value _ fits (one_more first others cs is more e) =
       );
     }
 
-module _ {A : Type 0} (alloc : A) where
-  held_written : Written (Many IsPiece)
+module _ {A : Type 0} where
+  held_written : Written A (Many IsPiece)
       (GatheredText (HasCharacters {A = A}) (EachText CharacterText))
   unfolding GatheredText
   held_written = record {
@@ -131,11 +131,11 @@ module _ {A : Type 0} (alloc : A) where
     value = λ cs fits is.
         let m = row_value cs fits is in
         let few : length (encode_utf8_all m.os) < 2 ^ 63 = omega (arith, m.size, fits.few) in (
-          spelled alloc (encode_utf8_all m.os) ∣ (m.os, (m.scalars, refl)) ∣₁ few,
+          spelled fits.alloc (encode_utf8_all m.os) ∣ (m.os, (m.scalars, refl)) ∣₁ few,
           (m.os, refl, m.written),
         );
   }
 
-  pub string_written : Written IsString (StringText (HasCharacters {A = A}))
+  pub string_written : Written A IsString (StringText (HasCharacters {A = A}))
   string_written =
       then_written latter (one_written 34) (then_written former held_written (one_written 34))

@@ -1,5 +1,5 @@
 -- Proofs that the values of this crate encode values of RFC 8259, and likewise its JSON texts.
-use Rattle.std.proofs.Common.{◌++◌, ◌<◌, ◌^◌, ◌↔◌, ◌∙◌, ◌∷◌, ◌≡◌, ◌≤◌, [], ℕ, Bool}
+use Rattle.std.proofs.Common.{◌++◌, ◌<◌, ◌^◌, ◌↔◌, ◌∷◌, ◌≡◌, ◌≤◌, [], ℕ, Bool}
 use Rattle.std.proofs.Common.{List, None, Option, Some, ap, append_assoc, arith, false, inl, inr}
 use Rattle.std.proofs.Common.{length, length-append, refl, suc, sym, true, zero}
 use Rattle.std.proofs.StringFromBytes.{spelled}
@@ -29,14 +29,15 @@ use Rattle.format_json_texts.specs.declared.value.Value.{Value}
 use Rattle.format_json_texts.specs.declared.value.Value as values
 use Rattle.stream_sets.specs.Accumulator.Holds.{HasCharacters}
 use Rattle.grammars.specs.Texts.{Spelled, TakenText, Text}
-use Rattle.format_json_extents.specs.Standard.{IsTextByStandard, IsValueByStandard}
+use Rattle.format_json_extents.specs.Standard.{AnyValue, IsTextByStandard, IsValueByStandard}
 
-only_written : {O : Type 0} (word : List ℕ) (o : O) → Written (Only word) (Spelled word o)
+only_written : {A : Type 0} {O : Type 0} (word : List ℕ) (o : O)
+    → Written A (Only word) (Spelled word o)
 unfolding Spelled
 only_written word o =
     record { set = λ p cs (is, e). e; value = λ cs fits e. (o, (refl, e)) }
 
-word_written : Written IsWord WordText
+word_written : {A : Type 0} → Written A IsWord WordText
 word_written =
     either_written (only_written (110 ∷ 117 ∷ 108 ∷ 108 ∷ []) None)
     (either_written (only_written (116 ∷ 114 ∷ 117 ∷ 101 ∷ []) (Some true))
@@ -73,11 +74,7 @@ member_there V cs is =
     (joined (colon.second ++ element.first) element.second
     (joined colon.second element.first colon.is_second element.is_first refl) element.is_second
     refl) refl)
-    (is.joins ∙ ap (λ l. l ++ is.second)
-    (key.joins ∙ ap (λ l. key.first ++ l)
-    (name.joins ∙ ap (λ l. name.first ++ l) colon.joins))
-    ∙ ap (λ l. (key.first ++ (name.first ++ (colon.first ++ colon.second))) ++ l)
-    element.joins ∙ simp append_assoc)
+    (simp (is.joins, key.joins, name.joins, colon.joins, element.joins, append_assoc))
 
 member_back : (V : List ℕ → Type 0) (cs : List ℕ) → Then IsGap (MemberBody V) cs
     → IsMember V cs
@@ -92,47 +89,44 @@ member_back V cs is =
     (joined name.first named name.is_first
     (joined name.second colon.first name.is_second colon.is_first refl) refl) refl)
     (joined colon.second more.second colon.is_second more.is_second refl)
-    (is.joins ∙ ap (λ l. is.first ++ l)
-    (body.joins ∙ ap (λ l. l ++ body.second) name.joins
-    ∙ ap (λ l. (name.first ++ name.second) ++ l)
-    (more.joins ∙ ap (λ l. l ++ more.second) colon.joins)) ∙ simp append_assoc)
+    (simp (is.joins, body.joins, name.joins, more.joins, colon.joins, append_assoc))
 
-module _ {A : Type 0} (alloc : A) where
+module _ {A : Type 0} where
   word_means : (o : Option Bool) → (v : Value A) × IsWordOf o v
   word_means None = (values.Null, refl)
   word_means (Some b) = (values.Boolean b, refl)
 
-  text_of : (slice : Slice) (cs : List ℕ) → Fits cs → NumberText slice cs
+  number_of : (slice : Slice) (cs : List ℕ) → Fits A cs → NumberText slice cs
       → (text : String A) × HasText slice text
   unfolding TakenText
-  text_of slice cs fits (o, x, shown) =
-      (spelled alloc (encode_utf8_all cs) ∣ (cs, (fits.scalars, refl)) ∣₁ fits.few, sym shown)
+  number_of slice cs fits (o, x, shown) =
+      (spelled fits.alloc (encode_utf8_all cs) ∣ (cs, (fits.scalars, refl)) ∣₁ fits.few, sym shown)
 
-  scalar_written : Written IsScalar (ScalarText (HasCharacters {A = A}))
+  scalar_written : Written A IsScalar (ScalarText (HasCharacters {A = A}))
   scalar_written =
       as_written (third_first IsString IsNumber IsWord)
       (either_written (for_written IsWordOf word_written (λ o cs fits x. word_means o))
-      (either_written (for_written IsNumberOf (for_written HasText number_written text_of)
+      (either_written (for_written IsNumberOf (for_written HasText number_written number_of)
       (λ text cs fits x. (values.Number text, refl)))
-      (for_written IsStringOf (string_written alloc)
+      (for_written IsStringOf string_written
       (λ text cs fits x. (values.Text text, refl)))))
 
-  module _ {V : List ℕ → Type 0} {value : Text ℕ (Value A)} (v : Written V value) where
-    spaced : Written (Then V IsGap) (Spaced value)
+  module _ {V : List ℕ → Type 0} {value : Text ℕ (Value A)} (v : Written A V value) where
+    spaced : Written A (Then V IsGap) (Spaced value)
     spaced = then_written former v gap_written
 
-    array_written : Written (Then (IsByte (λ b. b ≡ opening false)) (IsNestedTail false V))
+    array_written : Written A (Then (IsByte (λ b. b ≡ opening false)) (IsNestedTail false V))
         (ArrayText (HasCharacters {A = A}) value)
-    array_written = bracketed_written (λ cs is. is) (λ cs is. is) spaced alloc 91 93
+    array_written = bracketed_written (λ cs is. is) (λ cs is. is) spaced 91 93
 
-    object_written : Written (Then (IsByte (λ b. b ≡ opening true)) (IsNestedTail true V))
+    object_written : Written A (Then (IsByte (λ b. b ≡ opening true)) (IsNestedTail true V))
         (ObjectText (HasCharacters {A = A}) value)
     object_written =
         bracketed_written (member_there V) (member_back V)
-        (then_written pair (then_written former (string_written alloc) gap_written)
-        (then_written latter (mark_written 58) spaced)) alloc 123 125
+        (then_written pair (then_written former string_written gap_written)
+        (then_written latter (mark_written 58) spaced)) 123 125
 
-  value_written : (level : ℕ) → Written (IsValue level) (ValueText (HasCharacters {A = A}) level)
+  value_written : (level : ℕ) → Written A (IsValue level) (ValueText (HasCharacters {A = A}) level)
   unfolding ValueText
   value_written zero = scalar_written
   value_written (suc level) =
@@ -143,54 +137,65 @@ module _ {A : Type 0} (alloc : A) where
       (for_written IsObject (object_written v)
       (λ members cs fits x. (values.Object members, refl))))
 
-  text_written : (level : ℕ) → Written (IsText level) (JsonText (HasCharacters {A = A}) level)
+  text_written : (level : ℕ) → Written A (IsText level) (JsonText (HasCharacters {A = A}) level)
   text_written level = then_written latter gap_written (spaced (value_written level))
 
   -- ---- of bytes
 
-  fit : (bytes : List ℕ) → IsUtf8 bytes → length bytes < 2 ^ 63 → Fits (chars bytes)
-  fit bytes utf8 few = record {
-    scalars = scalars-chars bytes utf8;
-    few = omega (arith, few, ap (λ l. length l) (encodes-chars bytes utf8));
-  }
-
-  by_bytes : {O : Type 0} {P : List ℕ → Type 0} {text : Text ℕ O} → Written P text
-      → (bytes : List ℕ) → IsUtf8 bytes → length bytes < 2 ^ 63 → P bytes ↔ P (chars bytes)
+  by_bytes : {O : Type 0} {P : List ℕ → Type 0} {text : Text ℕ O} → Written A P text → A
+      → (bytes : List ℕ) → length bytes < 2 ^ 63 → IsUtf8 bytes → P bytes ↔ P (chars bytes)
       → P bytes ↔ ((o : O) × text o (chars bytes))
-  by_bytes w bytes utf8 few same = (
-    λ is. w.value (chars bytes) (fit bytes utf8 few) (same.0 is),
+  by_bytes w alloc bytes few utf8 same = (
+    λ is. w.value (chars bytes) (record {
+      alloc = alloc;
+      scalars = scalars-chars bytes utf8;
+      few = omega (arith, few, ap (λ l. length l) (encodes-chars bytes utf8));
+    }) (same.0 is),
     λ (o, x). same.1 (w.set o (chars bytes) x),
   )
 
-  pub values_written : (level : ℕ) (bytes : List ℕ) → IsUtf8 bytes → length bytes < 2 ^ 63
+  pub values_written : A → (level : ℕ) (bytes : List ℕ) → IsUtf8 bytes → length bytes < 2 ^ 63
       → IsValue level bytes
       ↔ ((v : Value A) × ValueText (HasCharacters {A = A}) level v (chars bytes))
-  values_written level bytes utf8 few =
-      by_bytes (value_written level) bytes utf8 few (value_characters level bytes utf8)
+  values_written alloc level bytes utf8 few =
+      by_bytes (value_written level) alloc bytes few utf8 (value_characters level bytes utf8)
 
-  -- what encodes a value is one by its bytes, however long
+  pub texts_written : A → (level : ℕ) (bytes : List ℕ) → IsUtf8 bytes → length bytes < 2 ^ 63
+      → IsText level bytes
+      ↔ ((v : Value A) × JsonText (HasCharacters {A = A}) level v (chars bytes))
+  texts_written alloc level bytes utf8 few =
+      by_bytes (text_written level) alloc bytes few utf8 (text_characters level bytes utf8)
+
+  -- what encodes a value is one, by its characters and by its bytes, however long
+  pub value_of : (level : ℕ) (v : Value A) (cs : List ℕ)
+      → ValueText (HasCharacters {A = A}) level v cs → IsValue level cs
+  value_of level = (value_written level).set
+
+  pub text_of : (level : ℕ) (v : Value A) (cs : List ℕ)
+      → JsonText (HasCharacters {A = A}) level v cs → IsText level cs
+  text_of level = (text_written level).set
+
   pub value_bytes : (level : ℕ) (bytes : List ℕ) → IsUtf8 bytes → (v : Value A)
       → ValueText (HasCharacters {A = A}) level v (chars bytes) → IsValue level bytes
   value_bytes level bytes utf8 v x =
-      (value_characters level bytes utf8).1 ((value_written level).set v (chars bytes) x)
+      (value_characters level bytes utf8).1 (value_of level v (chars bytes) x)
 
-  pub texts_written : (level : ℕ) (bytes : List ℕ) → IsUtf8 bytes → length bytes < 2 ^ 63
-      → IsText level bytes
-      ↔ ((v : Value A) × JsonText (HasCharacters {A = A}) level v (chars bytes))
-  texts_written level bytes utf8 few =
-      by_bytes (text_written level) bytes utf8 few (text_characters level bytes utf8)
+standard : {P : List ℕ → Type 0} {text : Text ℕ AnyValue} → Written (Unit {0}) P text
+    → (bytes : List ℕ) → length bytes < 2 ^ 63 → IsUtf8 bytes → P bytes ↔ P (chars bytes)
+    → P bytes ↔ (IsUtf8 bytes × ((v : AnyValue) × text v (chars bytes)))
+standard w bytes few utf8 same =
+    let (there, back) = by_bytes w tt bytes few utf8 same in
+    (λ is. (utf8, there is), λ (also, x). back x)
 
 value_standard : (level : ℕ) (bytes : List ℕ) → length bytes < 2 ^ 63 → IsUtf8 bytes
     → IsValue level bytes ↔ IsValueByStandard level bytes
 value_standard level bytes few utf8 =
-    let (there, back) = values_written tt level bytes utf8 few in
-    (λ is. (utf8, there is), λ (also, x). back x)
+    standard (value_written level) bytes few utf8 (value_characters level bytes utf8)
 
 pub text_standard : (level : ℕ) (bytes : List ℕ) → length bytes < 2 ^ 63 → IsUtf8 bytes
     → IsText level bytes ↔ IsTextByStandard level bytes
 text_standard level bytes few utf8 =
-    let (there, back) = texts_written tt level bytes utf8 few in
-    (λ is. (utf8, there is), λ (also, x). back x)
+    standard (text_written level) bytes few utf8 (text_characters level bytes utf8)
 
 pub through : {X Y Z : Type 0} → X ↔ Y → Y ↔ Z → X ↔ Z
 through (a, b) (c, d) = (λ x. c (a x), λ z. b (d z))

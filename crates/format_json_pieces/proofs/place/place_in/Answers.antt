@@ -4,8 +4,7 @@ use Rattle.std.proofs.lemmas.Bool.Decides.{nat_tests}
 use Rattle.format_json_pieces.proofs.Opened.{kept_others}
 use Rattle.format_json_pieces.proofs.Placed.{at_closed, at_deep, at_end, at_ended, at_ends}
 use Rattle.format_json_pieces.proofs.Placed.{at_first, at_refused, most_is, on_closes, on_ends}
-use Rattle.format_json_pieces.proofs.Placed.{on_goes, on_opens, place_as}
-use Rattle.format_json_pieces.proofs.Placed.{step_open, top_open}
+use Rattle.format_json_pieces.proofs.Placed.{on_goes, on_opens, place_as, step_open, top_open}
 use Rattle.format_json_pieces.specs.Place.{wanted}
 use Rattle.format_json_pieces.specs.declared.begun.Step.TheVariants as steps
 use Rattle.format_json_pieces.proofs.place.place_in.Goals as goal

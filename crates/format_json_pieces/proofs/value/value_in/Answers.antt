@@ -1,5 +1,5 @@
 use Rattle.std.proofs.Common.{arith, inl, inr, refl}
-use Rattle.format_json_pieces.specs.Passing.{none_begun}
+use Rattle.format_json_pieces.proofs.Passing.{none_begun}
 use Rattle.format_json_pieces.specs.Read.{final_read, final_stands, none_in_gap, none_whole}
 use Rattle.format_json_pieces.specs.Read.{open_number}
 use Rattle.format_json_pieces.proofs.value.value_in.Goals as goal

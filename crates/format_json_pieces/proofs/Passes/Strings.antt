@@ -1,27 +1,26 @@
--- Proofs that the bytes of a string continue as its characters must.
-use Rattle.std.specs.Prelude.{◌≡◌, ◌⊎◌, ◌<◌, ◌≤◌, ◌+◌, ◌/◌, ◌%◌, ◌==◌, ◌||◌, ℕ, true}
-use Rattle.std.specs.Prelude.{List}
-use Rattle.std.specs.Prelude.{◌∷◌, ◌++◌}
-use Rattle.std.specs.declared.string.String.{String}
+-- Strings and the input that the walk expects in them.
+use Rattle.std.proofs.Common.{◌%◌, ◌++◌, ◌+◌, ◌/◌, ◌<◌, ◌==◌, ◌||◌, ◌∷◌, ◌≡◌, ◌≤◌}
+use Rattle.std.proofs.Common.{◌⊎◌, ℕ, Bool, List, arith, false, inl, inr, refl, subst, sym, true}
 use Rattle.std.specs.Char.{IsScalar, encode_utf8}
 use Rattle.std.specs.Str.{all_scalars, encode_utf8_all}
-use Rattle.std.proofs.Common.{refl, sym, ap, subst, inl, inr, ◌∙◌, arith, append_assoc}
 use Rattle.std.proofs.lemmas.Bool.{cases_lt}
 use Rattle.std.proofs.lemmas.Bool.Decides.{nat_tests}
-use Rattle.grammars.specs.Texts.{InFront}
-use Rattle.grammars.specs.Texts.Fronts.{both_front, each_front, either_front, gathered_front}
 use Rattle.streams.specs.Utf8.{four_bytes, three_bytes, two_bytes}
-use Rattle.format_json_texts.specs.Strings.{CharacterText, EscapeText, IsUnescaped, StringText}
-use Rattle.format_parts.specs.Words.{In, former, latter}
-use Rattle.format_json_extents.proofs.Written.Escapes.{escape_set}
+use Rattle.format_json_extents.proofs.Written.{both_true}
 use Rattle.format_json_extents.specs.Strings.{BeginHigh, BeginLow, BeginOnly, IsBackslash, IsEscape}
-use Rattle.format_json_extents.specs.Strings.{IsEscaped, IsHexDigit, IsTwoDigits, IsU, IsUnit}
-use Rattle.format_json_extents.specs.Texts.{AreTwo, Either, IsByte, Then}
+use Rattle.format_json_extents.specs.Strings.{IsEscaped, IsHexDigit, IsPiece, IsString, IsTwoDigits}
+use Rattle.format_json_extents.specs.Strings.{IsU, IsUnescaped, IsUnit}
+use Rattle.format_json_extents.specs.Texts.{AreTwo, IsByte}
+use Rattle.format_json_pieces.proofs.Passes.{Passes, Spells, ascii_spells, byte_pass, either_pass}
+use Rattle.format_json_pieces.proofs.Passes.{many_pass, then_pass, this_pass}
 use Rattle.format_json_pieces.specs.Inside.{part_behind}
-use Rattle.format_json_pieces.specs.Spelled.{Spells, ascii_spells, both_true, both_ways, one_spells}
 use Rattle.format_json_pieces.specs.declared.inside.Inner.TheVariants as inners
 use Rattle.format_json_pieces.specs.declared.inside.Part.{Part}
 use Rattle.format_json_pieces.specs.declared.inside.Part.TheVariants as parts
+
+pub both_ways : (b : Bool) → (b ≡ true) ⊎ (b ≡ false)
+both_ways true = inl refl
+both_ways false = inr refl
 
 -- Bytes followed by the expected input in a string: each byte continues as its part specifies.
 pub record Goes (inside : Part → List ℕ → Type 0) (behind : List ℕ → Type 0) : Type 0 where
@@ -34,108 +33,89 @@ module _ (rest : List ℕ) {inside : Part → List ℕ → Type 0} {behind : Lis
   abbrev At : Part → List ℕ → Type 0
   At p = Spells rest (inside p)
 
-  -- one byte of ASCII
-  on : (p q : Part) (c : ℕ) (cs : List ℕ) → c < 128 → part_behind p c ≡ inners.Part q → At q cs
-      → At p (c ∷ cs)
-  on p q c cs low e x = ascii_spells rest (inside q) (inside p) c cs low (λ l. g.goes p q c l e) x
-
   -- ---- escapes
-
-  -- a text in `P` goes from one part to another
-  abbrev Passes : (List ℕ → Type 0) → Part → Part → Type 0
-  Passes P p q = (xs cs : List ℕ) → P xs → At q cs → At p (xs ++ cs)
 
   abbrev Leads : Part → Part → ℕ → Type 0
   Leads p q c = (c < 128) × (part_behind p c ≡ inners.Part q)
 
   byte_on : (P : ℕ → Type 0) (p q : Part) → ((c : ℕ) → P c → Leads p q c)
-      → Passes (IsByte P) p q
-  byte_on P p q leads xs cs is x =
-      let (low, e) = leads is.byte is.is_byte in
-      subst (λ l. At p (l ++ cs)) (sym is.alone) (on p q is.byte cs low e x)
+      → Passes rest (IsByte P) (inside p) (inside q)
+  byte_on P p q leads =
+      byte_pass rest (λ c is. (leads c is).0) (λ c is l x. g.goes p q c l (leads c is).1 x)
+
+  -- one byte of ASCII
+  on : (p q : Part) (c : ℕ) (cs : List ℕ) → Leads p q c → At q cs → At p (c ∷ cs)
+  on p q c cs (low, e) =
+      ascii_spells rest (inside p) (inside q) c cs low (λ l. g.goes p q c l e)
 
   two_on : (P : ℕ → ℕ → Type 0) (p q r : Part) (xs cs : List ℕ) → (is : AreTwo P xs)
       → Leads p q is.one → Leads q r is.two → At r cs → At p (xs ++ cs)
-  two_on P p q r xs cs is (low, e) (also, f) x =
+  two_on P p q r xs cs is first second x =
       subst (λ l. At p (l ++ cs)) (sym is.alone)
-      (on p q is.one (is.two ∷ cs) low e (on q r is.two cs also f x))
-
-  then_on : {P Q : List ℕ → Type 0} (p q r : Part) → Passes P p q → Passes Q q r
-      → Passes (Then P Q) p r
-  then_on p q r first second xs cs is x =
-      subst (At p) (sym (append_assoc is.first is.second cs) ∙ ap (λ l. l ++ cs) (sym is.joins))
-      (first is.first (is.second ++ cs) is.is_first (second is.second cs is.is_second x))
-
-  either_on : {P Q : List ℕ → Type 0} {p q : Part} → Passes P p q → Passes Q p q
-      → Passes (Either P Q) p q
-  either_on first second xs cs (inl is) x = first xs cs is x
-  either_on first second xs cs (inr is) x = second xs cs is x
+      (on p q is.one (is.two ∷ cs) first (on q r is.two cs second x))
 
   digits_on : (p q r : Part) → ((c : ℕ) → IsHexDigit c → Leads p q c)
-      → ((c : ℕ) → IsHexDigit c → Leads q r c) → Passes IsTwoDigits p r
+      → ((c : ℕ) → IsHexDigit c → Leads q r c) → Passes rest IsTwoDigits (inside p) (inside r)
   digits_on p q r first second =
-      then_on p q r (byte_on IsHexDigit p q first) (byte_on IsHexDigit q r second)
+      then_pass (byte_on IsHexDigit p q first) (byte_on IsHexDigit q r second)
 
-  last_on : Passes IsTwoDigits parts.Two parts.Plain
+  last_on : Passes rest IsTwoDigits (inside parts.Two) (inside parts.Plain)
   last_on =
       digits_on parts.Two parts.One parts.Plain
       (λ c is. (grind (arith, is), grind (arith, nat_tests, is)))
       (λ c is. (grind (arith, is), grind (arith, nat_tests, is)))
 
-  only_on : Passes (AreTwo BeginOnly) parts.Unit parts.Two
-  only_on xs cs is x =
-      let (hex, also, below) = is.are_bytes in
-      elim (both_ways (is.one == 68 || is.one == 100)) [
-        | inl d ↦
-            let few : is.two ≤ 55 = below (grind (arith, nat_tests, d)) in
-            two_on BeginOnly parts.Unit parts.BehindD parts.Two xs cs is
-            (grind (arith, hex), grind (arith, nat_tests, d))
-            (grind (arith, also), grind (arith, nat_tests, also, few)) x
-        | inr not ↦
-            two_on BeginOnly parts.Unit parts.Three parts.Two xs cs is
-            (grind (arith, hex), grind (arith, nat_tests, hex, not))
-            (grind (arith, also), grind (arith, nat_tests, also)) x
-      ]
+  only_on : Passes rest (AreTwo BeginOnly) (inside parts.Unit) (inside parts.Two)
+  only_on = record {
+    on = λ xs cs is x.
+        let (hex, also, below) = is.are_bytes in
+        elim (both_ways (is.one == 68 || is.one == 100)) [
+          | inl d ↦
+              let few : is.two ≤ 55 = below (grind (arith, nat_tests, d)) in
+              two_on BeginOnly parts.Unit parts.BehindD parts.Two xs cs is
+              (grind (arith, hex), grind (arith, nat_tests, d))
+              (grind (arith, also), grind (arith, nat_tests, also, few)) x
+          | inr not ↦
+              two_on BeginOnly parts.Unit parts.Three parts.Two xs cs is
+              (grind (arith, hex), grind (arith, nat_tests, hex, not))
+              (grind (arith, also), grind (arith, nat_tests, also)) x
+        ];
+  }
 
-  high_on : Passes (IsUnit BeginHigh) parts.Unit parts.Backslash
+  high_on : Passes rest (IsUnit BeginHigh) (inside parts.Unit) (inside parts.Backslash)
   high_on =
-      then_on parts.Unit parts.HighTwo parts.Backslash
-      (λ xs cs is x. two_on BeginHigh parts.Unit parts.BehindD parts.HighTwo xs cs is
-      (grind (arith, is.are_bytes), grind (arith, nat_tests, is.are_bytes))
-      (grind (arith, is.are_bytes), grind (arith, nat_tests, is.are_bytes)) x)
-      (digits_on parts.HighTwo parts.HighOne parts.Backslash
+      then_pass (record {
+        on = λ xs cs is x. two_on BeginHigh parts.Unit parts.BehindD parts.HighTwo xs cs is
+            (grind (arith, is.are_bytes), grind (arith, nat_tests, is.are_bytes))
+            (grind (arith, is.are_bytes), grind (arith, nat_tests, is.are_bytes)) x;
+      }) (digits_on parts.HighTwo parts.HighOne parts.Backslash
       (λ c is. (grind (arith, is), grind (arith, nat_tests, is)))
       (λ c is. (grind (arith, is), grind (arith, nat_tests, is))))
 
-  low_on : Passes (IsUnit BeginLow) parts.LowD parts.Plain
+  low_on : Passes rest (IsUnit BeginLow) (inside parts.LowD) (inside parts.Plain)
   low_on =
-      then_on parts.LowD parts.Two parts.Plain
-      (λ xs cs is x. two_on BeginLow parts.LowD parts.LowSecond parts.Two xs cs is
-      (grind (arith, is.are_bytes), grind (arith, nat_tests, is.are_bytes))
-      (grind (arith, is.are_bytes), grind (arith, nat_tests, is.are_bytes)) x) last_on
+      then_pass (record {
+        on = λ xs cs is x. two_on BeginLow parts.LowD parts.LowSecond parts.Two xs cs is
+            (grind (arith, is.are_bytes), grind (arith, nat_tests, is.are_bytes))
+            (grind (arith, is.are_bytes), grind (arith, nat_tests, is.are_bytes)) x;
+      }) last_on
 
-  escape_on : Passes IsEscape parts.Escape parts.Plain
+  letter_on : (p q : Part) → part_behind p 117 ≡ inners.Part q
+      → Passes rest (IsByte IsU) (inside p) (inside q)
+  letter_on p q e = this_pass rest 117 (omega arith) (λ l. g.goes p q 117 l e)
+
+  slash_on : (p q : Part) → part_behind p 92 ≡ inners.Part q
+      → Passes rest (IsByte IsBackslash) (inside p) (inside q)
+  slash_on p q e = this_pass rest 92 (omega arith) (λ l. g.goes p q 92 l e)
+
+  escape_on : Passes rest IsEscape (inside parts.Escape) (inside parts.Plain)
   escape_on =
-      either_on (byte_on IsEscaped parts.Escape parts.Plain
+      either_pass (byte_on IsEscaped parts.Escape parts.Plain
       (λ c is. (grind (arith, is), grind (arith, nat_tests, is))))
-      (then_on parts.Escape parts.Unit parts.Plain
-      (byte_on IsU parts.Escape parts.Unit
-      (λ c is. (omega (arith, is), grind (arith, nat_tests, is))))
-      (either_on (then_on parts.Unit parts.Two parts.Plain only_on last_on)
-      (then_on parts.Unit parts.Backslash parts.Plain high_on
-      (then_on parts.Backslash parts.LetterU parts.Plain
-      (byte_on IsBackslash parts.Backslash parts.LetterU
-      (λ c is. (omega (arith, is), grind (arith, nat_tests, is))))
-      (then_on parts.LetterU parts.LowD parts.Plain
-      (byte_on IsU parts.LetterU parts.LowD
-      (λ c is. (omega (arith, is), grind (arith, nat_tests, is))))
-      low_on)))))
-
-  escape_front : InFront EscapeText (At parts.Plain) (At parts.Plain)
-  escape_front =
-      both_front latter (one_spells rest (inside parts.Escape) (inside parts.Plain) 92
-      (omega arith) (λ l. g.goes parts.Plain parts.Escape 92 l refl))
-      (record { makes = λ c xs cs x b. escape_on xs cs (escape_set c xs x) b })
+      (then_pass (letter_on parts.Escape parts.Unit refl)
+      (either_pass (then_pass only_on last_on)
+      (then_pass high_on (then_pass (slash_on parts.Backslash parts.LetterU refl)
+      (then_pass (letter_on parts.LetterU parts.LowD refl) low_on)))))
 
   -- ---- characters
 
@@ -212,7 +192,7 @@ module _ (rest : List ℕ) {inside : Part → List ℕ → Type 0} {behind : Lis
       by : (c < 128) ⊎ (128 ≤ c) → (c < 2048) ⊎ (2048 ≤ c) → (c < 65536) ⊎ (65536 ≤ c)
           → P (encode_utf8 c)
       by (inl low) _ _ =
-          on parts.Plain parts.Plain c cs low (grind (arith, nat_tests, is, low)) x scalars
+          on parts.Plain parts.Plain c cs (low, grind (arith, nat_tests, is, low)) x scalars
       by (inr low) (inl high) _ =
           subst P (sym (two_bytes c low high)) (two_bytes_on c behind_it low high (x both.1))
       by (inr _) (inr low) (inl high) =
@@ -221,19 +201,15 @@ module _ (rest : List ℕ) {inside : Part → List ℕ → Type 0} {behind : Lis
       by (inr _) (inr _) (inr low) =
           subst P (sym (four_bytes c low)) (four_on c behind_it low both.0 (x both.1))
 
-  character_front : InFront CharacterText (At parts.Plain) (At parts.Plain)
-  unfolding In
-  character_front =
-      either_front (record {
-        makes = λ c xs cs (is, e) x.
-            let P : List ℕ → Type 0 = λ l. At parts.Plain (l ++ cs) in
-            subst P (sym e) (plain_on c cs is x);
-      }) escape_front
+  piece_on : Passes rest IsPiece (inside parts.Plain) (inside parts.Plain)
+  piece_on =
+      either_pass (record {
+        on = λ xs cs is x. subst (λ l. At parts.Plain (l ++ cs)) (sym is.alone)
+            (plain_on is.byte cs is.is_byte x);
+      }) (then_pass (slash_on parts.Plain parts.Escape refl) escape_on)
 
-  pub string_spells : {A : Type 0} (holds : String A → List ℕ → Type 0) (whole : List ℕ → Type 0)
-      → ((l : List ℕ) → inside parts.Plain l → whole (34 ∷ l))
-      → InFront (StringText holds) (Spells rest behind) (Spells rest whole)
-  string_spells holds whole opens =
-      both_front latter (one_spells rest (inside parts.Plain) whole 34 (omega arith) opens)
-      (both_front former (gathered_front holds (each_front character_front))
-      (one_spells rest behind (inside parts.Plain) 34 (omega arith) g.ends))
+  pub string_on : {whole : List ℕ → Type 0} → ((l : List ℕ) → inside parts.Plain l → whole (34 ∷ l))
+      → Passes rest IsString whole behind
+  string_on opens =
+      then_pass (this_pass rest 34 (omega arith) opens)
+      (then_pass (many_pass piece_on) (this_pass rest 34 (omega arith) g.ends))

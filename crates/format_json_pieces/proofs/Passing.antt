@@ -1,0 +1,114 @@
+-- The walk accepts the bytes of a value and their prefixes: if it rejects bytes, no longer bytes
+-- start with a value.
+use Rattle.std.proofs.Common.{◌++◌, ◌∷◌, ◌≡◌, [], ℕ, List, arith, length, refl, subst, suc, sym}
+use Rattle.std.specs.List.{All}
+use Rattle.std.specs.Str.{IsUtf8, chars, encode_utf8_all}
+use Rattle.std.proofs.lemmas.List.{append-nil}
+use Rattle.std.proofs.lemmas.List.Elements.{All-head, All-tail}
+use Rattle.std.proofs.lemmas.Str.{encode_ascii, encodes-chars, scalars-chars}
+use Rattle.stream_sets.specs.Accumulator.Holds.{HasCharacters}
+use Rattle.stream_sets.specs.AsChar.{IsMultispace}
+use Rattle.grammars.specs.Grammar.{IsUnique, NoMatch}
+use Rattle.grammars.specs.Texts.{StartsWith}
+use Rattle.format_json_extents.proofs.Written.Values.{text_of, value_of}
+use Rattle.format_json_texts.specs.Values.{JsonText}
+use Rattle.format_json_texts.specs.Values.Texts.{IsNumeric}
+use Rattle.format_json_texts.specs.declared.value.Value.{Value}
+use Rattle.format_json_pieces.proofs.Passes.{Spells, then_pass, wider}
+use Rattle.format_json_pieces.proofs.Passes.Values.{after_gap, inner_on, space_by, value_gap}
+use Rattle.format_json_pieces.proofs.Passes.Values.{value_here, value_on}
+use Rattle.format_json_pieces.proofs.Walks.{Started, any, begun_front, walked_one}
+use Rattle.format_json_pieces.specs.Begun.{IsViablePrefix, IsWalked, MayBegin}
+use Rattle.format_json_pieces.specs.Value.{InUtf8, IsValueIn, value_ends}
+use Rattle.format_json_pieces.specs.declared.begun.Bracket.TheVariants.{Whole}
+use Rattle.format_json_pieces.specs.declared.begun.Mode.TheVariants as modes
+
+-- the first byte of a number is its first character
+numeric : (cs : List ℕ) → StartsWith IsNumeric cs → StartsWith IsNumeric (encode_utf8_all cs)
+numeric [] x = absurd x
+numeric (c ∷ cs) x =
+    subst (λ l. StartsWith IsNumeric (l ++ encode_utf8_all cs))
+    (sym (encode_ascii c (grind (arith, x)))) x
+
+-- the characters of bytes, in front of none
+spelled : (bytes : List ℕ) → IsUtf8 bytes → (A : List ℕ → Type 0) (rest : List ℕ)
+    → Spells rest A (chars bytes ++ []) → A (bytes ++ rest)
+spelled bytes utf8 A rest x =
+    subst (λ l. A (l ++ rest)) (encodes-chars bytes utf8)
+    (subst (λ l. Spells rest A l) (append-nil (chars bytes)) x (scalars-chars bytes utf8))
+
+module _ {A : Type 0} (level : ℕ) where
+  value_walked : (ends : List ℕ → Type 0) (bytes : List ℕ) (v : Value A) (rest : List ℕ)
+      → IsValueIn level bytes v rest → ends rest → IsWalked ends level modes.Value [] bytes
+  unfolding IsValueIn InUtf8
+  value_walked ends bytes v rest (text, (utf8, written), e, stops) ended =
+      let cs = chars text in
+      subst (λ l. IsWalked ends level modes.Value [] l) (sym e)
+      (value_here ends level rest [] (text ++ rest)
+      (spelled text utf8 (λ l. Started ends level [] l) rest
+      (value_on ends level rest level [] (omega arith) cs [] (value_of level v cs written)
+      (λ scalars. ended)
+      (λ begins scalars. stops (subst (λ l. StartsWith IsNumeric l) (encodes-chars text utf8)
+      (numeric cs begins))))))
+
+pub value_one : {A : Type 0} (level : ℕ) → IsUnique (IsValueIn {A = A} level)
+value_one level = record {
+  ends = value_ends level;
+  one = λ bytes v w rest other x y. walked_one level rest other bytes modes.Value []
+      (value_walked level (λ l. l ≡ rest) bytes v rest x refl)
+      (value_walked level (λ l. l ≡ other) bytes w other y refl);
+}
+
+-- ---- bytes that the walk rejects
+
+pub none_begun : {A : Type 0} (level : ℕ) (bytes : List ℕ)
+    → (IsViablePrefix level modes.Value [] bytes → ⊥) → (more : List ℕ)
+    → NoMatch (IsValueIn {A = A} level) (bytes ++ more)
+none_begun level bytes not more v rest x =
+    not (begun_front level bytes more modes.Value []
+    (value_walked level any (bytes ++ more) v rest x tt))
+
+-- ---- all of a text
+
+module _ {A : Type 0} (level : ℕ) where
+  text_may_begin : (bytes : List ℕ) (v : Value A) → InUtf8 (JsonText HasCharacters level) v bytes
+      → MayBegin level bytes
+  unfolding InUtf8
+  text_may_begin bytes v (utf8, written) =
+      let deep = suc level in
+      subst (λ l. MayBegin level l) (append-nil bytes)
+      (spelled bytes utf8 (λ l. MayBegin level l) []
+      ((then_pass (value_gap any deep [] (Whole ∷ []))
+      (then_pass (wider (λ l x. x) (value_here any deep [] (Whole ∷ []))
+      (inner_on any deep [] Whole [] (value_on any deep [] level (Whole ∷ []) (omega arith))))
+      (after_gap any deep [] Whole []))).on (chars bytes) []
+      (text_of level v (chars bytes) written) (λ scalars. tt)))
+
+  pub none_begins_so : (bytes : List ℕ) → (MayBegin level bytes → ⊥) → (v : Value A)
+      (more : List ℕ) → InUtf8 (JsonText HasCharacters level) v (bytes ++ more) → ⊥
+  none_begins_so bytes not v more text =
+      not (begun_front (suc level) bytes more modes.Value (Whole ∷ [])
+      (text_may_begin (bytes ++ more) v text))
+
+-- ---- whitespace before a value
+
+begun_gap : (level : ℕ) (gap left : List ℕ) → All IsMultispace gap
+    → IsViablePrefix level modes.Value [] left → IsViablePrefix level modes.Value [] (gap ++ left)
+begun_gap level [] left all x = x
+begun_gap level (b ∷ gap) left all x =
+    space_by (λ c. IsViablePrefix level modes.Value [] (gap ++ left)
+    → IsViablePrefix level modes.Value [] (c ∷ (gap ++ left))) (λ y. y) (λ y. y) (λ y. y) (λ y. y) b
+    (grind (arith, All-head IsMultispace b gap all))
+    (begun_gap level gap left (All-tail IsMultispace b gap all) x)
+
+-- after whitespace too
+pub asks_next : (level : ℕ) (bytes gap left : List ℕ) → bytes ≡ gap ++ left
+    → All IsMultispace gap → IsViablePrefix level modes.Value [] left
+    → IsViablePrefix level modes.Value [] bytes
+asks_next level bytes gap left e all x =
+    subst (λ l. IsViablePrefix level modes.Value [] l) (sym e) (begun_gap level gap left all x)
+
+pub asks_white : (level : ℕ) (bytes gap left : List ℕ) → bytes ≡ gap ++ left
+    → All IsMultispace gap → length left ≡ 0 → IsViablePrefix level modes.Value [] bytes
+asks_white level bytes gap [] e all none = asks_next level bytes gap [] e all tt
+asks_white level bytes gap (x ∷ left) e all none = absurd (omega (arith, none))
