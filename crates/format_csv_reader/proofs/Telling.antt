@@ -140,7 +140,7 @@ answer_all d bytes ys start (Err (Invalid fault)) fields rest ((at, why, is, inl
     ((at, refused_on d bytes ys at why never, is), ap (λ l. l ++ ys) left, f)
 answer_all d bytes ys start (Err (Invalid fault)) fields rest ((at, why, is, inr over), left, f) =
     over_all d bytes ys start (Err (Invalid fault)) fields rest over ((at, why, is), left, f)
-answer_all d bytes ys start (Err (Failed e)) fields rest (wants, left, f) =
+answer_all d bytes ys start (Err (Failed e)) fields rest (other, wants, left, f) =
     (ap (λ l. l ++ ys) left, f)
 answer_all d bytes ys start (Err OutOfMemory) fields rest (left, f) =
     (ap (λ l. l ++ ys) left, f)
@@ -169,7 +169,7 @@ pub failed : (d : Dialect) (mid : List ℕ) (IsOver : Type 0) (start : ℕ) (fie
     (error : ReadError) → IsOfReader error → WantsMore d mid → fields ≡ []
     → IsAnswer d mid IsOver start (Err error) fields mid
 failed d mid IsOver start fields (Invalid fault) none wants empty = absurd none
-failed d mid IsOver start fields (Failed error) it wants empty = (wants, refl, empty)
+failed d mid IsOver start fields (Failed error) it wants empty = (it, wants, refl, empty)
 failed d mid IsOver start fields OutOfMemory it wants empty = (refl, empty)
 
 pub reads : (d : Dialect) (old mid : List ℕ) (before after : Option (List ℕ)) (start size room : ℕ)

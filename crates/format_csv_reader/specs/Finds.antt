@@ -1,5 +1,7 @@
 -- The result of the search for a record in bytes that arrive in chunks.
-use Rattle.std.specs.Prelude.{◌≡◌, ◌⊎◌, ◌≤◌, ◌*◌, ◌++◌, ℕ, List, length, ⊤}
+use Rattle.std.specs.Prelude.{◌≡◌, ◌≢◌, ◌⊎◌, ◌≤◌, ◌*◌, ◌++◌, ℕ, List, length, ⊤}
+use Rattle.std.specs.IoError.{error_kind}
+use Rattle.std.specs.declared.io.ErrorKind.TheVariants.{Interrupted}
 use Rattle.format_csv_records.specs.Buffers.{IsForGood, NoneForGood}
 use Rattle.format_csv_records.specs.Early.{IsPrefixOfNone, IsViablePrefix}
 use Rattle.format_csv_records.specs.Refused.{IsRefused}
@@ -10,10 +12,11 @@ use Rattle.format_csv_reader.specs.declared.error.ReadError.TheVariants.{Invalid
 use Rattle.format_csv_reader.specs.declared.finds.Found.{Found}
 use Rattle.format_csv_reader.specs.declared.finds.Found.TheVariants.{Enough, Never}
 
--- An error that does not depend on the bytes: the reader failed, or memory allocation failed.
+-- An error that does not depend on the bytes: the reader failed, or memory allocation failed. An
+-- interrupted read is no failure, since it is retried.
 abbrev pub IsOfReader : ReadError → Type 0
 IsOfReader (Invalid fault) = ⊥
-IsOfReader (Failed error) = ⊤
+IsOfReader (Failed error) = error_kind error ≢ Interrupted
 IsOfReader OutOfMemory = ⊤
 
 -- The bytes start with a record, for any continuation.

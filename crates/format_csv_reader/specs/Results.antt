@@ -9,7 +9,7 @@ use Rattle.format_csv_records.specs.Early.{IsPrefixOfNone}
 use Rattle.format_csv_records.specs.Refused.{IsRefused}
 use Rattle.format_csv_records.specs.declared.dialect.Dialect.{Dialect}
 use Rattle.format_csv_records.specs.declared.read.InvalidRecord.{InvalidRecord}
-use Rattle.format_csv_reader.specs.Finds.{IsSmall, WantsMore}
+use Rattle.format_csv_reader.specs.Finds.{IsOfReader, IsSmall, WantsMore}
 use Rattle.format_csv_reader.specs.declared.error.ReadError.{ReadError}
 use Rattle.format_csv_reader.specs.declared.error.ReadError.TheVariants.{Failed, OutOfMemory}
 use Rattle.format_csv_reader.specs.declared.error.ReadError.TheVariants.{Invalid}
@@ -31,8 +31,8 @@ IsRefusedAt d bytes start fault =
     (at : InvalidRecord) × IsRefused d bytes at × IsFaultAt start at fault
 
 -- The result of a call that has `bytes`, its fields, and the rest. `IsOver` is that no more bytes
--- follow. A record, or an error in the bytes, is final or `IsOver` holds. If the reader failed,
--- more bytes are needed.
+-- follow. A record, or an error in the bytes, is final or `IsOver` holds. If the reader failed, it
+-- was not just interrupted, and more bytes are needed.
 abbrev pub IsAnswer : Dialect → List ℕ → Type 0 → ℕ → Result Bool ReadError → List (List ℕ)
     → List ℕ → Type 0
 IsAnswer d bytes IsOver start (Ok true) fields rest =
@@ -43,7 +43,7 @@ IsAnswer d bytes IsOver start (Err (Invalid fault)) fields rest =
     ((at : InvalidRecord) × IsRefused d bytes at × IsFaultAt start at fault
     × (IsPrefixOfNone d bytes ⊎ IsOver)) × (rest ≡ bytes) × (fields ≡ [])
 IsAnswer d bytes IsOver start (Err (Failed error)) fields rest =
-    WantsMore d bytes × (rest ≡ bytes) × (fields ≡ [])
+    IsOfReader (Failed error) × WantsMore d bytes × (rest ≡ bytes) × (fields ≡ [])
 IsAnswer d bytes IsOver start (Err OutOfMemory) fields rest = (rest ≡ bytes) × (fields ≡ [])
 
 -- A call reads some bytes, and answers of those that were held and these.

@@ -1,8 +1,9 @@
 //! One read of bytes that are to come after others, and room for them.
 
 ghost use Rattle.std.specs.Prelude.{◌≡◌, ◌⊎◌, ◌≤◌, ◌<◌, ◌+◌, ◌-◌, ◌*◌, ◌++◌, [], List, ℕ};
-ghost use Rattle.std.specs.Prelude.{drop};
-ghost use Rattle.std.specs.Prelude.{IfOk, MatchResult, OnOk, length, max, take};
+ghost use Rattle.std.specs.Prelude.{◌≢◌, drop};
+ghost use Rattle.std.specs.Prelude.{IfErr, IfOk, MatchResult, OnOk, length, max, take};
+ghost use Rattle.std.specs.IoError.{error_kind};
 ghost use Rattle.std.specs.Io.KnownBytes.{Consumes, IsAtEnd};
 
 use std::alloc::{AllocError, Allocator};
@@ -12,7 +13,7 @@ use std::io::{self, ErrorKind, Read};
 const FIRST_SIZE: usize = 8192;
 
 /// Reads once into `bytes`, after the first `filled`, and returns the number of bytes read, which
-/// is 0 only at the end of the source. Interrupted reads are retried.
+/// is 0 only at the end of the source. Interrupted reads are retried; 2^64 of them are an error.
 pub(crate) fn read_behind<R: Read>(
     source: &mut R,
     bytes: &mut [u8],
@@ -26,14 +27,18 @@ pub(crate) fn read_behind<R: Read>(
         × Consumes (R.remaining source.old) (R.remaining source.new) read
         × MatchResult result (λ n. n ≡ length read) (λ _. read ≡ []) }
     ensures end { IfOk result (λ n. n ≡ 0 → IsAtEnd (R.remaining source.new)) }
+    ensures retried { IfErr result (λ e. error_kind e ≢ ErrorKind.Interrupted) }
 {
     let mut tries = 0u64;
     loop {
         match source.read(&mut bytes[filled..]) {
             Ok(count) => return Ok(count),
             Err(error) => {
-                if error.kind() != ErrorKind::Interrupted || tries == u64::MAX {
+                if error.kind() != ErrorKind::Interrupted {
                     return Err(error);
+                }
+                if tries == u64::MAX {
+                    return Err(io::Error::other("interrupted too often"));
                 }
                 tries += 1;
             }

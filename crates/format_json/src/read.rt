@@ -3,42 +3,16 @@ ghost use Rattle.format_json.specs.Fault.{IsErrorOf};
 ghost use Rattle.format_json.specs.declared.fault.JsonError.TheVariants.{NoMemory};
 ghost use Rattle.format_json_pieces.specs.Value.{InUtf8};
 ghost use Rattle.format_json_texts.specs.Values.{JsonText};
-ghost use Rattle.std.specs.Prelude.{◌≡◌, ◌⊎◌, IfErr, IfOk, IsTrue};
+ghost use Rattle.std.specs.Prelude.{◌≡◌, ◌⊎◌, IfErr, IfOk};
 ghost use Rattle.std.specs.Str.{chars};
 ghost use Rattle.stream_sets.specs.Accumulator.Holds.{HasCharacters};
-ghost use Rattle.winnow_core.specs.Exact.Whole.{IsWant};
 
 use crate::fault::{JsonError, error_of, fault_of_text};
 use format_json_pieces::value::parse_value_of_bytes;
 use format_json_texts::value::Value;
 use format_json_values::value::parse_value;
+use format_parts::faults::is_out_of_memory;
 use std::alloc::Allocator;
-use stream_errors::empty::EmptyError;
-use stream_errors::fault::ParseFault;
-use stream_errors::mode::ErrMode;
-use stream_errors::parser_error::ParserError;
-
-/// Returns whether the error of a text is out of memory.
-fn text_wants_memory<'i>(fault: &ParseFault<&'i str, EmptyError>) -> bool
-    ensures { IsWant ⟦<ErrMode<EmptyError> as ParserError<&'i str>>⟧.inner_kind fault.now
-        → IsTrue result }
-{
-    match fault {
-        ParseFault::Invalid(error) => ParserError::<&str>::is_memory(error.inner()),
-        ParseFault::Incomplete(_) => false,
-    }
-}
-
-/// Returns whether the error of bytes is out of memory.
-fn bytes_want_memory<'i>(fault: &ParseFault<&'i [u8], EmptyError>) -> bool
-    ensures { IsWant ⟦<ErrMode<EmptyError> as ParserError<&'i [u8]>>⟧.inner_kind fault.now
-        → IsTrue result }
-{
-    match fault {
-        ParseFault::Invalid(error) => ParserError::<&[u8]>::is_memory(error.inner()),
-        ParseFault::Incomplete(_) => false,
-    }
-}
 
 /// Parses a JSON text: a value with whitespace around it, whose arrays and objects are nested at
 /// most `level` deep. Each level uses some of the stack: up to [`SAFE_DEPTH`](crate::SAFE_DEPTH)
@@ -70,7 +44,7 @@ pub fn from_text<A: Allocator + Copy>(
     match parse_value(alloc, level, text) {
         Ok(value) => Ok(value),
         Err(fault) => {
-            if text_wants_memory(&fault) {
+            if is_out_of_memory(&fault) {
                 Err(JsonError::NoMemory)
             } else {
                 Err(fault_of_text(alloc, level, text.as_bytes()))
@@ -103,7 +77,7 @@ pub fn from_bytes<A: Allocator + Copy>(
     match parse_value_of_bytes(alloc, level, bytes) {
         Ok(value) => Ok(value),
         Err(fault) => {
-            if bytes_want_memory(&fault) {
+            if is_out_of_memory(&fault) {
                 Err(JsonError::NoMemory)
             } else {
                 Err(error_of(alloc, level, bytes))

@@ -5,20 +5,16 @@ ghost use Rattle.format_json_writer.specs.Alike.{AreAlike};
 ghost use Rattle.format_json_writer.specs.Compact.{CompactValue};
 ghost use Rattle.format_json_writer.specs.Refused.{HasNoText, IsRefused};
 ghost use Rattle.format_json_writer.specs.declared.error.WriteError.TheVariants.{Memory};
-ghost use Rattle.std.specs.Prelude.{◌≡◌, ◌⊎◌, IfErr, IfOk, IsTrue, OnOk, string_bytes};
+ghost use Rattle.std.specs.Prelude.{◌≡◌, ◌⊎◌, IfErr, IfOk, OnOk, string_bytes};
 ghost use Rattle.std.specs.Str.{chars};
-ghost use Rattle.winnow_core.specs.Exact.Whole.{IsWant};
 ghost use Rattle.stream_sets.specs.Accumulator.Holds.{HasCharacters};
 
 use crate::error::WriteError;
 use crate::nested::write_nested;
 use format_json_texts::value::Value;
 use format_json_values::value::parse_value;
+use format_parts::faults::is_out_of_memory;
 use std::alloc::Allocator;
-use stream_errors::empty::EmptyError;
-use stream_errors::fault::ParseFault;
-use stream_errors::mode::ErrMode;
-use stream_errors::parser_error::ParserError;
 
 /// Appends a value whose arrays and objects are nested at most `level` deep. The level is 0 for a
 /// value that is not an array or an object, and 1 for an array of such values.
@@ -97,17 +93,6 @@ pub fn to_text<A: Allocator, B: Allocator>(
     Ok(text)
 }
 
-/// Returns whether an error is out of memory.
-fn wants_memory<'i>(fault: &ParseFault<&'i str, EmptyError>) -> bool
-    ensures { IsWant ⟦<ErrMode<EmptyError> as ParserError<&'i str>>⟧.inner_kind fault.now
-        → IsTrue result }
-{
-    match fault {
-        ParseFault::Invalid(error) => ParserError::<&str>::is_memory(error.inner()),
-        ParseFault::Incomplete(_) => false,
-    }
-}
-
 /// Writes a value and parses its text. Returns an equivalent value: its words, numbers, strings,
 /// lists and names are the same, in the same order. Fails with the error of writing, or with out of
 /// memory in parsing; there is no other error.
@@ -136,7 +121,7 @@ pub fn reads_back<A: Allocator + Copy>(
     match parse_value(alloc, level, text.as_str()) {
         Ok(read) => Ok(read),
         Err(fault) => {
-            if wants_memory(&fault) {
+            if is_out_of_memory(&fault) {
                 return Err(WriteError::Memory);
             }
             unreachable!()

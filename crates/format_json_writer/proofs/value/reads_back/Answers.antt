@@ -13,7 +13,7 @@ pub unreachable-requires : goal.unreachable-requires
 unreachable-requires g c =
     let want = read_wants c.args.level c.args.value.now _ c.as_str.ensures.value
     c.in_ok-text.ensures.text c.in-Err.ensures.text in
-    true_is_false (sym (c.wants_memory.ensures want) ∙ c.if-wants_memory.false)
+    true_is_false (sym (c.is_out_of_memory.ensures.0 want) ∙ c.if-is_out_of_memory.false)
 
 pub returns-in_err-text-clause-refused : goal.returns-in_err-text-clause-refused
 returns-in_err-text-clause-refused g c =
