@@ -10,7 +10,8 @@ use stream_errors::parser_error::ParserError;
 use streams::stream::Stream;
 use winnow_core::parser::Parser;
 
-/// Runs two parsers in sequence and returns both outputs. It is out of memory only if one of them is.
+/// Runs two parsers in sequence and returns both outputs. It is out of memory only if one of them
+/// is.
 pub fn read_two_of<I, O1, O2, E, P, Q>(first: P, second: Q, input: &mut I) -> Result<(O1, O2), E>
 where
     I: Stream,
