@@ -223,6 +223,9 @@ def header(codes, constants, structs, exports):
         "Functions keep no state except in the caller's memory: calls may run in parallel. Memory",
         "that a function allocates with malloc is freed before it returns.",
         "",
+        "After `DONE`, what follows the results in a buffer may be overwritten, unless the function",
+        "documents that it is unchanged.",
+        "",
         *COST,
     ], names)
     text += "#ifndef PERGIDAU_H\n#define PERGIDAU_H\n\n#include <stdbool.h>\n#include <stddef.h>\n#include <stdint.h>\n\n"

@@ -12,6 +12,9 @@
  * Functions keep no state except in the caller's memory: calls may run in parallel. Memory
  * that a function allocates with malloc is freed before it returns.
  *
+ * After PERGIDAU_DONE, what follows the results in a buffer may be overwritten, unless the
+ * function documents that it is unchanged.
+ *
  * Memory and stack of calls are measured on inputs made to be expensive
  * (bindings/tests/cost.c), not proved. Memory is the maximum held at once, two blocks while
  * one grows. At a depth of 512 a call used up to 107 KiB of stack, for TOML 508 KiB, and a

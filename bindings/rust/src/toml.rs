@@ -304,6 +304,21 @@ impl<'b> Document<'b> {
     pub fn nodes(&self) -> &'b [Node] {
         self.nodes
     }
+
+    /// Returns the text that the spans of the nodes refer to.
+    ///
+    /// ```
+    /// use pergidau::toml::{self, Node};
+    ///
+    /// let (mut text, mut nodes) = ([0; 8], [Node::default(); 2]);
+    /// let document = toml::parse("a = 'b'", 0, &mut text, &mut nodes)?;
+    /// let name = document.nodes()[1].name;
+    /// assert_eq!(&document.text()[name.offset..][..name.length], "a");
+    /// # Ok::<(), pergidau::toml::Error>(())
+    /// ```
+    pub fn text(&self) -> &'b str {
+        self.text
+    }
 }
 
 /// A document in buffers of its own.

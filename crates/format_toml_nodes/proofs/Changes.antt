@@ -1,5 +1,5 @@
 -- Nodes that change, one at a time.
-use Rattle.std.specs.Prelude.{◌≡◌, ℕ}
+use Rattle.std.specs.Prelude.{ℕ}
 use Rattle.std.specs.Prelude.{List}
 use Rattle.std.proofs.Common.{refl, sym, ap, subst, inl, inr, ◌∙◌}
 use Rattle.format_toml_nodes.specs.Laying.{ChangesAt, Each, InParent, IsNamedAs, IsNumbered, Keeps}

@@ -67,38 +67,38 @@ module _ {A : Type 0} (slots : List (Slot A)) (parent : ℕ) (before : List Toml
 
 module _ {A : Type 0} (slots : List (Slot A)) (at : ℕ) (old : List ℕ) (before : List TomlNode)
   where
-  -- the nodes below the slots before this one have their position
-  abbrev pub LeadsSo : ℕ → ℕ → List ℕ → List TomlNode → Type 0
-  LeadsSo place end buffer nodes = (tree : Tree A) (path : ℕ → Path) → Holds slots tree path
-      → end ≤ length buffer → ((j : ℕ) → InParent (take at old) path (length slots) before j
-      → InParent (take end buffer) path (length slots) nodes j)
-      × ((i : ℕ) (s : Slot A) → i < place → slice_get slots i ≡ Some s
-      → Below s (InParent (take end buffer) path (length slots) nodes))
+    -- the nodes below the slots before this one have their position
+    abbrev pub LeadsSo : ℕ → ℕ → List ℕ → List TomlNode → Type 0
+    LeadsSo place end buffer nodes = (tree : Tree A) (path : ℕ → Path) → Holds slots tree path
+        → end ≤ length buffer → ((j : ℕ) → InParent (take at old) path (length slots) before j
+        → InParent (take end buffer) path (length slots) nodes j)
+        × ((i : ℕ) (s : Slot A) → i < place → slice_get slots i ≡ Some s
+        → Below s (InParent (take end buffer) path (length slots) nodes))
 
-  pub leads_more : (parent end : ℕ) (buffer : List ℕ) (nodes : List TomlNode) (next : ℕ)
-      (new : List ℕ) (mid after : List TomlNode) → parent < length slots
-      → PutsEntries slots parent end buffer nodes next new mid
-      → PutsElements slots parent mid after → LeadsSo parent end buffer nodes
-      → LeadsSo (parent + 1) next new after
-  leads_more parent end buffer nodes next new mid after within entries elements so tree path holds
-      fits =
-      let room : next ≤ length buffer = omega (arith, entries.grows.same, fits) in
-      let (t, there) = some_there slots parent within in
-      let (stay, names) = entries.names tree path holds room t there in
-      let (keep, numbers) = elements.numbers tree path holds (take next new) t there in
-      let (old_stay, below) = so tree path holds (omega (arith, entries.grows.up, room)) in
-      let count = length slots in
-      let kept : (j : ℕ) → InParent (take end buffer) path count nodes j
-      → InParent (take next new) path count after j = λ j leads. keep j (stay j leads) in (
-        λ j leads. kept j (old_stay j leads),
-        λ i s w g. elim (last i parent w) [
-          | inl is ↦
-              let same : t ≡ s = some_same (sym there ∙ ap (λ n. slice_get slots n) (sym is) ∙ g)
-              in
-              subst (λ u. Below u (InParent (take next new) path count after)) same
-              ((λ name j f. keep j (names name j f)), numbers)
-          | inr less ↦
-              let (a, b) = below i s less g in
-              ((λ name j f. kept j (a name j f)), (λ k j f. kept j (b k j f)))
-        ],
-      )
+    pub leads_more : (parent end : ℕ) (buffer : List ℕ) (nodes : List TomlNode) (next : ℕ)
+        (new : List ℕ) (mid after : List TomlNode) → parent < length slots
+        → PutsEntries slots parent end buffer nodes next new mid
+        → PutsElements slots parent mid after → LeadsSo parent end buffer nodes
+        → LeadsSo (parent + 1) next new after
+    leads_more parent end buffer nodes next new mid after within entries elements so tree path holds
+        fits =
+        let room : next ≤ length buffer = omega (arith, entries.grows.same, fits) in
+        let (t, there) = some_there slots parent within in
+        let (stay, names) = entries.names tree path holds room t there in
+        let (keep, numbers) = elements.numbers tree path holds (take next new) t there in
+        let (old_stay, below) = so tree path holds (omega (arith, entries.grows.up, room)) in
+        let count = length slots in
+        let kept : (j : ℕ) → InParent (take end buffer) path count nodes j
+        → InParent (take next new) path count after j = λ j leads. keep j (stay j leads) in (
+          λ j leads. kept j (old_stay j leads),
+          λ i s w g. elim (last i parent w) [
+            | inl is ↦
+                let same : t ≡ s = some_same (sym there ∙ ap (λ n. slice_get slots n) (sym is) ∙ g)
+                in
+                subst (λ u. Below u (InParent (take next new) path count after)) same
+                ((λ name j f. keep j (names name j f)), numbers)
+            | inr less ↦
+                let (a, b) = below i s less g in
+                ((λ name j f. kept j (a name j f)), (λ k j f. kept j (b k j f)))
+          ],
+        )

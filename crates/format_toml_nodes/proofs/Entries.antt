@@ -77,9 +77,13 @@ module _ {A : Type 0} (slots : List (Slot A)) (parent at : ℕ) (old : List ℕ)
         let is_in = IsNamedAs parent place in
         let leads : (was it : TomlNode) → is_in was it → IsIn text path count (path e.1) it =
         λ was it same. subst (λ p. IsIn text path count p it) (sym here)
-        (subst (λ n. IsIn text path count (named e.0.now ∷ path parent) n) (sym same)
-        (within, refl, stands_put e.0.now end buffer next new place puts room is_place, refl,
-        refl)) in
+        (subst (λ n. IsIn text path count (named e.0.now ∷ path parent) n) (sym same) (
+          within,
+          refl,
+          stands_put e.0.now end buffer next new place puts room is_place,
+          refl,
+          refl,
+        )) in
         let grows : (p : Path) (it : TomlNode) → IsIn (take end buffer) path count p it
         → IsIn text path count p it = λ p it was.
         subst (λ l. IsIn l path count p it) (sym (puts.there room))

@@ -5,18 +5,18 @@ use Rattle.std.proofs.Common.{refl, sym, ap, subst, inl, inr, ◌∙◌, arith}
 use Rattle.std.proofs.Common.{length-take}
 use Rattle.std.proofs.lemmas.List.{take-append-le, take_all}
 use Rattle.std.proofs.lemmas.Option.{slice_get_within}
+use Rattle.std.proofs.lemmas.Slice.{drop-append-drop}
 use Rattle.format_toml_nodes.specs.Laying.{InParent, JoinsFrom, PutsAll, PutsLinks}
 use Rattle.format_toml_nodes.specs.Laying.{PutsValues, alone, most, names_len, text_len, total}
 use Rattle.format_toml_nodes.specs.Nodes.{AreNodesOf, IsIn, Shows}
-use Rattle.format_toml_nodes.specs.Nodes.{StandsAt}
 use Rattle.format_toml_nodes.specs.declared.node.TomlNode.{TomlNode}
 use Rattle.format_toml_nodes.specs.declared.node.TomlValue.{TomlValue}
 use Rattle.format_toml_nodes.proofs.Joins.{first_stays}
 use Rattle.format_toml_nodes.proofs.Reached.{each_below, reach}
 use Rattle.format_toml_nodes.proofs.Texts.{capped_both, shows_more, stands_none}
 use Rattle.format_toml_tree.specs.Added.{some_there}
-use Rattle.format_toml_tree.specs.Holds.{Holds, HoldsTree, node_at}
-use Rattle.format_toml_tree.specs.Paths.{Path, named, placed}
+use Rattle.format_toml_tree.specs.Holds.{HoldsTree, node_at}
+use Rattle.format_toml_tree.specs.Paths.{Path}
 use Rattle.format_toml_tree.specs.Places.{nowhere}
 use Rattle.format_toml_tree.specs.Rules.{Node as Given}
 use Rattle.format_toml_tree.specs.Runs.{Tree}
@@ -105,24 +105,35 @@ nodes_of slots old before end text mid new given sized fits puts joins (path, ho
       ];
     }
 
--- as a call writes them: into the first of the caller's entries
+-- what is behind a front that is written stays
+pub behind : {X : Type 0} (n : ℕ) (old new : List X) → n ≤ length old
+    → length new ≡ length (take n old) → drop n (new ++ drop n old) ≡ drop n old
+behind n old new room same =
+    drop-append-drop n old new n (omega arith) (omega (arith, same, length-take n old, room))
+
+front : {X : Type 0} (n : ℕ) (xs ys : List X) → length xs ≡ n → take n (xs ++ ys) ≡ xs
+front n xs ys long =
+    take-append-le n xs ys (omega (arith, long)) ∙ take_all n xs (omega (arith, long))
+
+-- as a call writes them: into the first of the caller's bytes and entries
 pub written : {A : Type 0} (slots items : List (Slot A)) → slots ≡ items → (count bytes : ℕ)
     → (old text : List ℕ) (all mid new : List TomlNode) (end : ℕ) → count ≡ length items
     → bytes ≡ min (total text_len items + total names_len items) most → bytes ≤ length old
-    → count ≤ length all → PutsAll slots old (take count all) end text mid → JoinsFrom 1 mid new
-    → (given : Tree A) → HoldsTree items given
-    → AreNodesOf given (take bytes text) (take count (new ++ drop count all))
+    → count ≤ length all → PutsAll slots (take bytes old) (take count all) end text mid
+    → JoinsFrom 1 mid new → (given : Tree A) → HoldsTree items given
+    → AreNodesOf given (take bytes (text ++ drop bytes old)) (take count (new ++ drop count all))
 written slots items is count bytes old text all mid new end counted sized room places puts joins
     given holds =
-    let put : PutsAll items old (take count all) end text mid =
-    subst (λ l. PutsAll l old (take count all) end text mid) is puts in
+    let put : PutsAll items (take bytes old) (take count all) end text mid =
+    subst (λ l. PutsAll l (take bytes old) (take count all) end text mid) is puts in
     let same : end ≡ bytes = put.count ∙ sym sized in
-    let front : length (take count all) ≡ count = omega (arith, length-take count all, places) in
-    let long : length new ≡ count = joins.stays.same ∙ put.same.1 ∙ front in
-    let whole : take count (new ++ drop count all) ≡ new =
-    take-append-le count new (drop count all) (omega (arith, long))
-    ∙ take_all count new (omega (arith, long)) in
-    let nodes = nodes_of items old (take count all) end text mid new given (front ∙ counted)
-    (omega (arith, same, room)) put joins holds in
-    subst (λ l. AreNodesOf given (take bytes text) l) (sym whole)
-    (subst (λ n. AreNodesOf given (take n text) new) same nodes)
+    let some : length (take bytes old) ≡ bytes = omega (arith, length-take bytes old, room) in
+    let many : length (take count all) ≡ count = omega (arith, length-take count all, places) in
+    let nodes = nodes_of items (take bytes old) (take count all) end text mid new given
+    (many ∙ counted) (omega (arith, same, some)) put joins holds in
+    let shown : take end text ≡ take bytes (text ++ drop bytes old) =
+    take_all end text (omega (arith, put.same.0, some, same))
+    ∙ sym (front bytes text (drop bytes old) (put.same.0 ∙ some)) in
+    subst (λ l. AreNodesOf given (take bytes (text ++ drop bytes old)) l)
+    (sym (front count new (drop count all) (joins.stays.same ∙ put.same.1 ∙ many)))
+    (subst (λ l. AreNodesOf given l new) shown nodes)

@@ -1,5 +1,6 @@
 //! The nodes of a tree.
-ghost use Rattle.std.specs.Prelude.{◌≡◌, ◌⊎◌, ◌<◌, length, take, MatchBool};
+ghost use Rattle.std.specs.Prelude.{◌≡◌, ◌⊎◌, ◌<◌, ◌≤◌, drop, length, take, true};
+ghost use Rattle.std.specs.Prelude.{MatchBool};
 ghost use Rattle.format_toml_nodes.specs.Laying.{IsSizeOf, PutsAll};
 ghost use Rattle.format_toml_nodes.specs.Nodes.{AreNodesOf};
 ghost use Rattle.format_toml_tree.specs.Holds.{HoldsTree};
@@ -63,8 +64,8 @@ pub fn size_of<'t, A: Allocator + Copy>(tree: &Tree<'t, A>) -> Size
 }
 
 /// Writes the nodes of a tree into the first entries of `nodes`, and the bytes of their names and
-/// texts into the first of `text`. The size of the tree gives the number of both. Returns `false`
-/// if one of them is too small; both are then unchanged.
+/// texts into the first of `text`. The size of the tree gives the number of both; what is behind
+/// these stays. Returns `false` if one of them is too small; both are then unchanged.
 ///
 /// Does not allocate. The time is by the number of nodes and bytes. The elements of an array are in
 /// order by `next`, which is only tested; that each has its number is proved.
@@ -103,6 +104,10 @@ pub fn write_nodes<'t, A: Allocator + Copy>(
         → AreNodesOf given (take size.text text.new) (take size.nodes nodes.new))
         (((length text.old < size.text) ⊎ (length nodes.old < size.nodes))
         × (text.new ≡ text.old) × (nodes.new ≡ nodes.old)) }
+    ensures room { result ≡ true → (size.text ≤ length text.old)
+        × (size.nodes ≤ length nodes.old) }
+    ensures behind { (drop size.text text.new ≡ drop size.text text.old)
+        × (drop size.nodes nodes.new ≡ drop size.nodes nodes.old) }
     ensures sizes { (length text.new ≡ length text.old)
         × (length nodes.new ≡ length nodes.old) }
 {
@@ -110,7 +115,7 @@ pub fn write_nodes<'t, A: Allocator + Copy>(
         return false;
     }
     let nodes = &mut nodes[..size.nodes];
-    put_all(tree.slots(), text, nodes);
+    put_all(tree.slots(), &mut text[..size.text], nodes);
     join(nodes);
     true
 }

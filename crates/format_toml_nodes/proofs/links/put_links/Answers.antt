@@ -25,7 +25,8 @@ loop-parent-preserved g c =
           (ap (λ n. min (end + n) most) (sym (total_at names_len slots parent s there)) ∙ i.count);
       grows = grows_then i.grows entries.grows;
       keeps = keeps_then i.keeps (keeps_then entries.keeps elements.keeps);
-      leads = leads_more slots c.args.at c.args.buffer.now c.args.nodes.now parent end c.loop-parent.buffer c.loop-parent.nodes next
+      leads = leads_more slots c.args.at c.args.buffer.now c.args.nodes.now parent end
+          c.loop-parent.buffer c.loop-parent.nodes next
           c.put_entries-end.new.buffer c.put_entries-end.new.nodes c.put_elements.new.nodes
           c.loop-parent-test.true entries elements i.leads;
     }
@@ -42,7 +43,9 @@ returns g c =
       grows = i.grows;
       keeps = i.keeps;
       leads = λ tree path holds fits.
-          let (stay, below) = i.leads tree path holds (omega (arith, i.grows.same, fits)) in
-          (stay, λ k s h. below k s
-          (omega (arith, slice_get_within slots k s h, c.loop-parent-test.false)) h);
+          let (stay, below) = i.leads tree path holds (omega (arith, i.grows.same, fits)) in (
+            stay,
+            λ k s h. below k s
+                (omega (arith, slice_get_within slots k s h, c.loop-parent-test.false)) h,
+          );
     }
