@@ -169,9 +169,9 @@ pub record IsJoined (nodes : List TomlNode) (j : ℕ) (it : TomlNode) : Type 0 w
   pub alone : j ≡ 0 → it.next ≡ 0
 
 -- The nodes are those of a tree. Each is at a path and has the value there, no two are at the same
--- path, and each path with a value has one of them. A table or an array is before what is in it, and
--- an element before later ones. Texts are in `text`. The number of a path, and where in `text` bytes
--- are, is open otherwise; these determine all fields of the nodes.
+-- path, and each path with a value has one of them. A table or an array is before what is in it,
+-- and an element before later ones. Texts are in `text`. Otherwise it is open which number a path
+-- has, and where in `text` bytes are; these determine all fields of the nodes.
 pub record AreNodesOf {A : Type 0} (given : Tree A) (text : List ℕ) (nodes : List TomlNode)
     : Type 0 where
   pub path : ℕ → Path
