@@ -62,8 +62,9 @@ pub nodes_of : {A : Type 0} (slots : List (Slot A)) (old : List ℕ) (before : L
     → AreNodesOf given (take end text) new
 nodes_of slots old before end text mid new given sized fits puts joins (path, holds, some) =
     let count : length new ≡ length slots = joins.stays.same ∙ puts.same.1 ∙ sized in
+    let inside : (j : ℕ) → j < length new → j < length slots = λ j w. omega (arith, count, w) in
     let within : (j : ℕ) (it : TomlNode) → slice_get new j ≡ Some it → j < length slots =
-    λ j it g. omega (arith, slice_get_within new j it g, count) in
+    λ j it g. inside j (slice_get_within new j it g) in
     let (top, below) = puts.leads given path holds fits in
     let leads = each_below holds some (InParent (take end text) path (length slots) mid)
     (top some) below in
@@ -78,7 +79,7 @@ nodes_of slots old before end text mid new given sized fits puts joins (path, ho
       top = holds.top;
       some = omega (arith, count, some);
       there = λ j w none.
-          let (s, g) = some_there slots j (omega (arith, count, w)) in
+          let (s, g) = some_there slots j (inside j w) in
           nowhere holds j s g (path j) none refl;
       shows = λ j it g.
           let (was, h, s) = joins.stays.each j it g in
@@ -95,7 +96,9 @@ nodes_of slots old before end text mid new given sized fits puts joins (path, ho
             (omega (arith, joins.stays.same, (is_in j it g).0)));
         alone = λ first. joins.others j it (omega (arith, first)) g;
       };
-      apart = λ i j a b e. holds.apart i j (omega (arith, count, a)) (omega (arith, count, b)) e;
+      apart = λ i j a b e. holds.apart i j (inside i a) (inside j b) e;
+      deeper = λ i j e a b f. holds.deeper i j e (inside i a) (inside j b) f;
+      rising = λ i j m n p a b f g. holds.rising i j m n p (inside i a) (inside j b) f g;
       all = λ p. elim (reach holds some p) [
         | inl none ↦ inl none
         | inr (j, w, at) ↦ inr (j, omega (arith, count, w), at)

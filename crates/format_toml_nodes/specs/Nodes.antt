@@ -4,7 +4,7 @@ use Rattle.std.specs.Prelude.{List, [], ◌∷◌, ◌++◌, length, slice_get, 
 use Rattle.format_toml_nodes.specs.declared.node.Span.{Span}
 use Rattle.format_toml_nodes.specs.declared.node.TomlNode.{TomlNode}
 use Rattle.format_toml_nodes.specs.declared.node.TomlValue.{TomlValue}
-use Rattle.format_toml_tree.specs.Paths.{Path, named, placed}
+use Rattle.format_toml_tree.specs.Paths.{Path, Step, named, placed}
 use Rattle.format_toml_tree.specs.Rules.{Node as Given, nothing, valued, super, header, dotted}
 use Rattle.format_toml_tree.specs.Rules.{tables}
 use Rattle.format_toml_tree.specs.Runs.{Tree}
@@ -169,8 +169,9 @@ pub record IsJoined (nodes : List TomlNode) (j : ℕ) (it : TomlNode) : Type 0 w
   pub alone : j ≡ 0 → it.next ≡ 0
 
 -- The nodes are those of a tree. Each is at a path and has the value there, no two are at the same
--- path, and each path with a value has one of them. Their texts are in `text`. Which number a path
--- has is open, and where in `text` bytes are; these determine all fields of the nodes.
+-- path, and each path with a value has one of them. A table or an array is before what is in it,
+-- and an element before later ones. Texts are in `text`. Otherwise it is open which number a path
+-- has, and where in `text` bytes are; these determine all fields of the nodes.
 pub record AreNodesOf {A : Type 0} (given : Tree A) (text : List ℕ) (nodes : List TomlNode)
     : Type 0 where
   pub path : ℕ → Path
@@ -183,5 +184,9 @@ pub record AreNodesOf {A : Type 0} (given : Tree A) (text : List ℕ) (nodes : L
       → IsIn text path (length nodes) (path j) it
   pub joined : (j : ℕ) (it : TomlNode) → slice_get nodes j ≡ Some it → IsJoined nodes j it
   pub apart : (i j : ℕ) → i < length nodes → j < length nodes → path i ≡ path j → i ≡ j
+  pub deeper : (i j : ℕ) (e : Step) → i < length nodes → j < length nodes
+      → path j ≡ e ∷ path i → i < j
+  pub rising : (i j a b : ℕ) (p : Path) → i < length nodes → j < length nodes
+      → path i ≡ placed a ∷ p → path j ≡ placed b ∷ p → a < b → i < j
   pub all : (p : Path) → (given p ≡ nothing)
       ⊎ ((j : ℕ) × (j < length nodes) × (path j ≡ p))

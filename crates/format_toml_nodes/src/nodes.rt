@@ -67,8 +67,7 @@ pub fn size_of<'t, A: Allocator + Copy>(tree: &Tree<'t, A>) -> Size
 /// texts into the first of `text`. The size of the tree gives the number of both; what is behind
 /// these stays. Returns `false` if one of them is too small; both are then unchanged.
 ///
-/// Does not allocate. The time is by the number of nodes and bytes. The elements of an array are in
-/// order by `next`, which is only tested; that each has its number is proved.
+/// Does not allocate. The time is by the number of nodes and bytes.
 ///
 /// ```
 /// use format_toml_nodes::node::{NO_NODE, TOML_INTEGER};

@@ -8,7 +8,7 @@ use Rattle.std.proofs.lemmas.Bool.Decides.{Decides-eqb}
 use Rattle.std.proofs.lemmas.List.{length-append, length-set}
 use Rattle.std.proofs.lemmas.Option.{slice_get_within}
 use Rattle.format_toml_tree.specs.Paths.{Path, Step, named, placed, put, put_here, put_apart}
-use Rattle.format_toml_tree.specs.Paths.{first_same, others_same}
+use Rattle.format_toml_tree.specs.Paths.{first_same, others_same, same_place}
 use Rattle.format_toml_tree.specs.Rules.{Node, nothing}
 use Rattle.format_toml_tree.specs.Runs.{Tree}
 use Rattle.format_toml_tree.specs.Holds.{Goes, Holds, find, node_at}
@@ -54,6 +54,7 @@ module _ {A : Type 0} where
         ⊎ ((placed k ≡ e → ⊥) × (slice_get now.elements.items k ≡ slice_get was.elements.items k))
     pub beyond : (k : ℕ) → length now.elements.items ≤ k
         → (placed k ≡ e → ⊥) × (length was.elements.items ≤ k)
+    pub last : (k : ℕ) → placed k ≡ e → length was.elements.items ≤ k
 
   module _ {slots : List (Slot A)} {tree : Tree A} {path : ℕ → Path}
       (is : Holds slots tree path) (above : ℕ) (e : Step) (was now fresh : Slot A)
@@ -149,6 +150,35 @@ module _ {A : Type 0} where
         let (s, g) = has_slot j b in
         absurd (not_new j s g (sym (old_path j b) ∙ sym f ∙ more_here n q path i a))
     apart_then i j (inr a) (inr b) f = a ∙ sym b
+
+    deeper_then : (i j : ℕ) (f : Step) → (i < n) ⊎ (i ≡ n) → (j < n) ⊎ (j ≡ n)
+        → paths j ≡ f ∷ paths i → i < j
+    deeper_then i j f (inl a) (inl b) g = is.deeper i j f a b
+        (sym (old_path j b) ∙ g ∙ ap (λ p. f ∷ p) (old_path i a))
+    deeper_then i j f (inl a) (inr b) g = omega (arith, a, b)
+    deeper_then i j f (inr a) (inl b) g =
+        let (s, h) = has_slot j b in
+        absurd (nowhere is j s h (f ∷ q) (is.below q f none)
+        (ap (λ p. f ∷ p) (sym (more_here n q path i a)) ∙ sym g ∙ old_path j b))
+    deeper_then i j f (inr a) (inr b) g = absurd (longer f q
+        (ap (λ p. f ∷ p) (sym (more_here n q path i a)) ∙ sym g ∙ more_here n q path j b))
+
+    rising_then : (i j a b : ℕ) (p : Path) → (i < n) ⊎ (i ≡ n) → (j < n) ⊎ (j ≡ n)
+        → paths i ≡ placed a ∷ p → paths j ≡ placed b ∷ p → a < b → i < j
+    rising_then i j a b p (inl v) (inl w) f g less = is.rising i j a b p v w
+        (sym (old_path i v) ∙ f) (sym (old_path j w) ∙ g) less
+    rising_then i j a b p (inl v) (inr w) f g less = omega (arith, v, w)
+    rising_then i j a b p (inr v) (inl w) f g less =
+        let here : q ≡ placed a ∷ p = sym (more_here n q path i v) ∙ f in
+        let past = adds.last a (sym (first_same here)) in
+        let (s, h) = has_slot j w in
+        absurd (nowhere is j s h (placed b ∷ path above)
+        (is.beyond above was at b (omega (arith, past, less)))
+        (ap (λ r. placed b ∷ r) (others_same here) ∙ sym g ∙ old_path j w))
+    rising_then i j a b p (inr v) (inr w) f g less =
+        let same : placed a ∷ p ≡ placed b ∷ p =
+        sym f ∙ more_here n q path i v ∙ sym (more_here n q path j w) ∙ g in
+        absurd (omega (arith, same_place (first_same same), less))
 
     -- what is below an older place
     abbrev Below : (i : ℕ) → Step → ℕ → Type 0
@@ -260,6 +290,8 @@ module _ {A : Type 0} where
         elements = λ i s g. elements_then i s (which i s g);
         beyond = λ i s g. beyond_then i s (which i s g);
         below = below_then;
+        deeper = λ i j e v w f. deeper_then i j e (inside i v) (inside j w) f;
+        rising = λ i j a b p v w f g. rising_then i j a b p (inside i v) (inside j w) f g;
       };
       within = omega (arith, count);
       at = more_here n q path n refl;

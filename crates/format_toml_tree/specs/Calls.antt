@@ -118,6 +118,7 @@ module _ {A : Type 0} where
             λ g. no_place name.now k (sym g),
             subst (λ v. length v.items ≤ k) elements f,
           );
+          last = λ k f. no_place name.now k (sym f);
         }) in
         rw (e, j) (subst (λ t. Goes old path (t, q) (length old)
         (set (old ++ fresh ∷ []) above now))
@@ -184,6 +185,7 @@ module _ {A : Type 0} where
             λ g. let h = same_place g in omega (arith, f, count, h),
             omega (arith, f, count),
           );
+          last = λ k f. omega (arith, same_place f);
         }) in
         rw (e, j) (subst (λ t. Goes old path (t, q) (length old)
         (set (old ++ fresh ∷ []) above now))

@@ -65,6 +65,11 @@ module _ {A : Type 0} where
     pub beyond : (i : ℕ) (s : Slot A) → slice_get slots i ≡ Some s → (k : ℕ)
         → length s.elements.items ≤ k → tree (placed k ∷ path i) ≡ nothing
     pub below : (p : Path) (e : Step) → tree p ≡ nothing → tree (e ∷ p) ≡ nothing
+    -- a place is before those below it, and that of an element before those of later ones
+    pub deeper : (i j : ℕ) (e : Step) → i < length slots → j < length slots
+        → path j ≡ e ∷ path i → i < j
+    pub rising : (i j a b : ℕ) (p : Path) → i < length slots → j < length slots
+        → path i ≡ placed a ∷ p → path j ≡ placed b ∷ p → a < b → i < j
 
   -- Places hold a tree, and one of them is within.
   abbrev pub IsTreeAt : List (Slot A) → ℕ → Type 0

@@ -51,6 +51,8 @@ module _ {A : Type 0} where
               ∙ ap (λ x. slice_get x.elements.items k) (sym (only s t i g).1) ∙ f));
           beyond = λ i t g k f. refl;
           below = empty_below;
+          deeper = λ a b e v w f. absurd (cc);
+          rising = λ a b k m p v w f g less. absurd (cc);
         },
         omega arith,
       )

@@ -95,13 +95,14 @@ module _ {A : Type 0} where
         | inr (a, b) ↦ (s, b, refl, refl)
       ]
 
+      within : (i : ℕ) → i < length (set slots j now) → i < length slots
+      within i w = subst (λ n. i < n) (length-set slots j now) w
+
       pub altered : Holds (set slots j now) then_tree path
       altered = record {
         top = is.top;
         there = there_then;
-        apart = λ a b la lb e. is.apart a b
-            (subst (λ n. a < n) (length-set slots j now) la)
-            (subst (λ n. b < n) (length-set slots j now) lb) e;
+        apart = λ a b v w e. is.apart a b (within a v) (within b w) e;
         found = λ i s g name k f.
             let (t, h, p, q) = before i s g in
             let (w, e) = is.found i t h name k (ap (λ m. find m name) (sym p) ∙ f) in
@@ -123,4 +124,6 @@ module _ {A : Type 0} where
             (sym (put_here tree (path j) (node_at now) p f) ∙ none) in
             still_none (e ∷ p)
             (is.below p e (sym (put_apart tree (path j) (node_at now) p other) ∙ none));
+        deeper = λ a b e v w f. is.deeper a b e (within a v) (within b w) f;
+        rising = λ a b k m p v w f g. is.rising a b k m p (within a v) (within b w) f g;
       }
