@@ -176,8 +176,9 @@ pub extern "C" fn exported_toml_document(
         (take out.new.text text.new) (take out.new.nodes nodes.new) }
     ensures small { result ≡ buffer_too_small → WantsDocument max_depth bytes.now out.new
         × ((length nodes.old < out.new.nodes) ⊎ (length text.old < out.new.text)) }
-    ensures sized { result ≡ done → WantsDocument max_depth bytes.now out.new
-        × (out.new.nodes ≤ length nodes.old) × (out.new.text ≤ length text.old) }
+    ensures sized { result ≡ done → WantsDocument max_depth bytes.now out.new }
+    ensures room { result ≡ done → (out.new.nodes ≤ length nodes.old)
+        × (out.new.text ≤ length text.old) }
     ensures behind { result ≡ done → (drop out.new.text text.new ≡ drop out.new.text text.old)
         × (drop out.new.nodes nodes.new ≡ drop out.new.nodes nodes.old) }
     ensures kept { (result ≡ done → ⊥) → (nodes.new ≡ nodes.old) × (text.new ≡ text.old) }

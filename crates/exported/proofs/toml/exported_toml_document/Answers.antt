@@ -14,8 +14,6 @@ returns-in-Ok-clause-small c is = (
 )
 
 pub returns-in-Ok-clause-sized : goal.returns-in-Ok-clause-sized
-returns-in-Ok-clause-sized c is = (
-  wants_document c.args.max_depth c.args.bytes.now c.in-Ok.tree c.write_tree.new.out
-      c.in-Ok.ensures.tree c.write_tree.ensures.sized,
-  c.write_tree.ensures.room is,
-)
+returns-in-Ok-clause-sized c is =
+    wants_document c.args.max_depth c.args.bytes.now c.in-Ok.tree c.write_tree.new.out
+    c.in-Ok.ensures.tree c.write_tree.ensures.sized
