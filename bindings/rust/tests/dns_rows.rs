@@ -161,7 +161,7 @@ fn data() {
             },
         ),
         (2, 254, b"", Data::Other(b"")),
-        (1, 255, b"", Data::Other(b"")),
+        (2, 255, b"", Data::Other(b"")),
         (41, 4096, b"ab", Data::Other(b"ab")),
     ] {
         let message = record_of(record_type, class, bytes);
@@ -219,5 +219,6 @@ fn cut_messages() {
         let questions: Vec<_> = message.questions().collect();
         assert_eq!(questions.len(), (complete + 1).min(2));
         assert_eq!(questions.iter().filter(|question| question.is_ok()).count(), complete.min(2));
+        assert!(complete >= 2 || questions[complete] == Err(error));
     }
 }
