@@ -7,7 +7,7 @@ use Rattle.exported.specs.Code.{invalid, invalid_utf8, no_memory}
 use Rattle.exported.specs.TomlErrors.{expected_of, reason_of}
 use Rattle.exported.specs.declared.toml.TomlResult.{TomlResult}
 use Rattle.format_toml.specs.Toml.{DocumentText}
-use Rattle.format_toml_document.specs.Fault.{IsDocument, IsErrorOf}
+use Rattle.format_toml_document.specs.Fault.{IsBroken, IsDocument, IsErrorOf}
 use Rattle.format_toml_document.specs.declared.fault.Location.{Location}
 use Rattle.format_toml_document.specs.declared.fault.TomlError.{TomlError}
 use Rattle.format_toml_document.specs.declared.fault.TomlError.TheVariants as faults
@@ -55,11 +55,12 @@ abbrev pub HasNoError : TomlResult → Type 0
 HasNoError out = (out.error_offset ≡ 0) × (out.unclosed_offset ≡ 0) × (out.error ≡ 0)
 
 -- `IsFaultOf code level bytes out`: `out` has the offsets and the number of an error of `bytes`,
--- and `code` reports it.
+-- and `code` reports it. If `bytes` is not UTF-8, that is the error.
 pub record IsFaultOf (code level : ℕ) (bytes : List ℕ) (out : TomlResult) : Type 0 where
   pub fault : TomlError
   pub is_code : code_of fault ≡ code
   pub tells : IsErrorOf Global level bytes fault
+  pub broken : (IsUtf8 bytes → ⊥) → IsBroken bytes fault
   pub place : out.error_offset ≡ place_of fault
   pub unclosed : out.unclosed_offset ≡ unclosed_of fault
   pub number : out.error ≡ fault_of fault

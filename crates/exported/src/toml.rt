@@ -1,6 +1,6 @@
 //! Documents of TOML.
 
-ghost use Rattle.std.specs.Prelude.{◌≡◌, ◌<◌, ◌⊎◌, ◌↔◌, length, take};
+ghost use Rattle.std.specs.Prelude.{◌≡◌, ◌<◌, ◌≤◌, ◌⊎◌, ◌↔◌, drop, length, take};
 ghost use Rattle.exported.specs.Code.{done, invalid, invalid_utf8, max_depth_too_large, no_memory};
 ghost use Rattle.exported.specs.Code.{supported_depth};
 ghost use Rattle.exported.specs.Code.{buffer_too_small};
@@ -105,6 +105,10 @@ fn write_tree<'t>(
     ensures small { result ≡ buffer_too_small
         → (length nodes.old < out.new.nodes) ⊎ (length text.old < out.new.text) }
     ensures kept { result ≡ buffer_too_small → (nodes.new ≡ nodes.old) × (text.new ≡ text.old) }
+    ensures room { result ≡ done → (out.new.nodes ≤ length nodes.old)
+        × (out.new.text ≤ length text.old) }
+    ensures behind { (drop out.new.text text.new ≡ drop out.new.text text.old)
+        × (drop out.new.nodes nodes.new ≡ drop out.new.nodes nodes.old) }
     ensures codes { (result ≡ done) ⊎ (result ≡ buffer_too_small) }
 {
     let size = size_of(tree);
@@ -127,7 +131,7 @@ fn write_tree<'t>(
 /// are returned as text.
 ///
 /// `DONE`: the nodes of the document are written into `nodes`, and the bytes of their names and
-/// texts into `text`. A node is a table, an array or another value. Nodes are in the order in which
+/// texts into `text`; the others are unchanged. A node is a table, an array or another value. Nodes are in the order in which
 /// the document first mentions them. The first is the root table, and a table or an array precedes
 /// its contents. Each node has the index of its parent, of its first child and of its next sibling,
 /// so that a loop can walk them.
@@ -173,6 +177,10 @@ pub extern "C" fn exported_toml_document(
     ensures small { result ≡ buffer_too_small → WantsDocument max_depth bytes.now out.new
         × ((length nodes.old < out.new.nodes) ⊎ (length text.old < out.new.text)) }
     ensures sized { result ≡ done → WantsDocument max_depth bytes.now out.new }
+    ensures room { result ≡ done → (out.new.nodes ≤ length nodes.old)
+        × (out.new.text ≤ length text.old) }
+    ensures behind { result ≡ done → (drop out.new.text text.new ≡ drop out.new.text text.old)
+        × (drop out.new.nodes nodes.new ≡ drop out.new.nodes nodes.old) }
     ensures kept { (result ≡ done → ⊥) → (nodes.new ≡ nodes.old) × (text.new ≡ text.old) }
     ensures nowhere { (result ≡ invalid → ⊥) → (result ≡ invalid_utf8 → ⊥)
         → HasNoError out.new }
