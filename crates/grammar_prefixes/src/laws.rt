@@ -72,8 +72,9 @@ pub trait TokenClass<T, L> {
     ghost reading: { Reading T L };
 }
 
-/// The prefixes of a literal are those of its tokens; a token of a class has itself and no tokens;
-/// a run of tokens of a class has each run that is long enough, or can continue.
+/// The prefixes of a literal are those of its tokens. Those of one token of a class are that token
+/// and no tokens. Those of a run of a class are the runs of its tokens, if they are long enough or
+/// the class has a token.
 ///
 /// ```
 /// use grammar_prefixes::laws::{TokenClass, prefixes_of_tokens};
