@@ -1,5 +1,5 @@
 -- The walk over strings of values, and over keys.
-use Rattle.std.specs.Prelude.{◌≡◌, ◌⊎◌, ◌&&◌, ◌≤◌, ◌+◌, ℕ, suc, Bool, true, false, nat_le, nat_lt}
+use Rattle.std.specs.Prelude.{◌≡◌, ◌⊎◌, ◌&&◌, ◌≤◌, ◌+◌, ℕ, suc, Bool, true, nat_le, nat_lt}
 use Rattle.std.specs.Prelude.{⊤, List, [], ◌∷◌, ◌++◌, if◌then◌else◌}
 use Rattle.std.proofs.Common.{refl, sym, ap, subst, inl, inr, ◌∙◌, arith}
 use Rattle.std.proofs.lemmas.Bool.{eq-eqb, ne_eqb}
@@ -15,13 +15,11 @@ use Rattle.format_toml.specs.LongTexts.{room_behind}
 use Rattle.format_toml.specs.Toml.{AnyBasicText, AnyLiteralText, CharacterText, EscapedLineText}
 use Rattle.format_toml.specs.Toml.{EscapedLines, IsOf, NewlineText, IsBare, IsKey, KeyText}
 use Rattle.format_toml.specs.Toml.{NameText, Spaced}
-use Rattle.format_toml_errors.specs.Accepted.{after_done, At, by, Next, true_not_false}
+use Rattle.format_toml_errors.specs.Accepted.{after_done, At, by, Next}
 use Rattle.format_toml_errors.specs.Endings.{long_more}
 use Rattle.format_toml_errors.specs.Steps.{after_step, content_step, in_long, long_step, mark_of}
 use Rattle.format_toml_errors.specs.Steps.{next_step, string_step, behind_step, is_bare, name_step}
 use Rattle.format_toml_errors.specs.Unclosed.{last_open}
-use Rattle.format_toml_errors.specs.declared.escapes.Escape.{Escape}
-use Rattle.format_toml_errors.specs.declared.escapes.Escaped.{Escaped}
 use Rattle.format_toml_errors.specs.declared.modes.Bracket.{Bracket}
 use Rattle.format_toml_errors.specs.declared.modes.Mark.{Mark}
 use Rattle.format_toml_errors.specs.declared.modes.Mode.{Mode}

@@ -1,13 +1,10 @@
 -- The walk of `format_toml_errors` over a text in front of another: a character, rows of them, and
 -- what may come after a value.
-use Rattle.std.specs.Prelude.{◌≡◌, ◌↔◌, ◌⊎◌, ℕ, Bool, true, false, List, [], ◌∷◌, ◌++◌, Option}
-use Rattle.std.specs.Prelude.{Some, None, ◌==◌, ◌&&◌, nat_le, nat_lt, if◌then◌else◌, map, ⊤}
+use Rattle.std.specs.Prelude.{◌≡◌, ℕ, List, [], ◌∷◌, ◌++◌, Option}
+use Rattle.std.specs.Prelude.{Some, None}
 use Rattle.std.specs.List.{All}
-use Rattle.std.proofs.Common.{refl, sym, ap, subst, inl, inr, ◌∙◌, arith, append_assoc, drop}
-use Rattle.std.proofs.Common.{get_or}
-use Rattle.std.proofs.lemmas.List.{append-nil}
+use Rattle.std.proofs.Common.{sym, subst, inl, inr, arith, append_assoc}
 use Rattle.std.proofs.lemmas.List.Elements.{All-tail}
-use Rattle.std.proofs.lemmas.Bool.Decides.{nat_tests}
 use Rattle.grammars.specs.Texts.{AtLeast, InFront, Members, OptionalText, PartedText, Spelled, Text}
 use Rattle.grammars.specs.Texts.{TokenOfText}
 use Rattle.grammars.specs.Texts.Fronts.{both_front, each_front, either_front}
@@ -15,22 +12,9 @@ use Rattle.stream_sets.specs.AsChar.{IsSpace}
 use Rattle.streams.specs.Text.{text_reading}
 use Rattle.format_parts.specs.Words.{One, Run, latter}
 use Rattle.format_toml.specs.Toml.{NewlineText, WsText}
-use Rattle.format_toml_errors.specs.Steps.{next_step, after_step, number_goes}
-use Rattle.format_toml_errors.specs.Stop.{IsAccepted, IsNextStep, IsViablePrefix, LeadsTo, MayBegin}
-use Rattle.format_toml_errors.specs.Stop.{ends_line, is_end}
-use Rattle.format_toml_errors.specs.Unclosed.{last_open, opened, others_open}
+use Rattle.format_toml_errors.specs.Accepted.{At}
 use Rattle.format_toml_errors.specs.declared.modes.Bracket.{Bracket}
-use Rattle.format_toml_errors.specs.declared.modes.Mode.{Mode}
-use Rattle.format_toml_errors.specs.declared.modes.Step.{Step}
-use Rattle.format_toml_errors.specs.Figures.{ends_figure, figure_step}
-use Rattle.format_toml_errors.specs.declared.figures.Figure.{Figure}
 use Rattle.format_toml_errors.specs.declared.modes.Mode.TheVariants as modes
-use Rattle.format_toml_errors.specs.declared.modes.Step.TheVariants as steps
-use Rattle.format_toml_errors.specs.declared.figures.Base.TheVariants as bases
-use Rattle.format_toml_errors.specs.declared.figures.Figure.TheVariants as figures
-use Rattle.format_toml_errors.specs.declared.modes.Bracket.TheVariants as brackets
-use Rattle.format_toml_errors.specs.declared.modes.Mark.TheVariants as marks
-use Rattle.format_toml_errors.specs.declared.moments.Moment.TheVariants as moments
 
 -- ---- parts of a text
 
