@@ -10,6 +10,7 @@ use Rattle.std.proofs.lemmas.Str.{digit_value_digit}
 use Rattle.std.proofs.lemmas.Str.Parse.{digit_from_value}
 use Rattle.grammars.specs.Texts.{BothText, EachText, EitherText, Spelled, TokenOfText}
 use Rattle.format_toml.specs.Numbers.{DigitsText, NextText}
+use Rattle.format_toml_errors.specs.Accepted.{tested}
 use Rattle.format_toml_errors.specs.Moments.{digit, is_digit}
 use Rattle.format_toml_errors.specs.Figures.{adding, based_digit, based_if, figure_step, limit_of}
 use Rattle.format_toml_errors.specs.Figures.{next_digit}
@@ -18,7 +19,7 @@ use Rattle.format_toml_errors.specs.declared.figures.Figure.{Figure}
 use Rattle.format_toml_errors.specs.declared.figures.Whole.{Whole}
 use Rattle.format_toml_errors.specs.declared.figures.Base.TheVariants as bases
 use Rattle.format_toml_errors.specs.declared.figures.Figure.TheVariants as figures
-use Rattle.format_toml_document.proofs.Walks.{moved, tested}
+use Rattle.format_toml_document.proofs.Walks.{moved}
 
 pub digit_is : (c : ℕ) → digit_value c < 10 → is_digit c ≡ true
 digit_is c less = grind (arith, nat_tests, digit_from_value c less)

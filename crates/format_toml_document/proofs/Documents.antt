@@ -15,6 +15,7 @@ use Rattle.format_toml.specs.Toml.{IsBoolean, Spaced, IsInline, IsInteger, IsSho
 use Rattle.format_toml.specs.Toml.{MeansDateTime, MeansFloat, PairText, ScalarText, ValueText}
 use Rattle.format_toml.specs.Toml.{WideMarkText, false_word, true_word, DocumentText, IsBare}
 use Rattle.format_toml.specs.Toml.{IsEntry, IsTable, IsTables, ItemText, LineText, TableText}
+use Rattle.format_toml_errors.specs.Accepted.{accepted, At, by, viable_front}
 use Rattle.format_toml_errors.specs.Steps.{comment_step, name_step, next_step, else_line, in_line}
 use Rattle.format_toml_errors.specs.Unclosed.{last_open}
 use Rattle.format_toml_errors.specs.declared.modes.Bracket.{Bracket}
@@ -29,10 +30,9 @@ use Rattle.format_toml_errors.specs.declared.modes.Gap.TheVariants as gaps
 use Rattle.format_toml_errors.specs.declared.modes.Mode.TheVariants as modes
 use Rattle.format_toml_errors.specs.declared.modes.Owner.TheVariants as owners
 use Rattle.format_toml_errors.specs.declared.modes.Step.TheVariants as steps
-use Rattle.format_toml_document.proofs.Walks.{At, any_front, by, left_out, members_front}
+use Rattle.format_toml_document.proofs.Walks.{any_front, left_out, members_front}
 use Rattle.format_toml_document.proofs.Walks.{newline_front, one_front, some_front, space_by}
 use Rattle.format_toml_document.proofs.Walks.{spelled_front, token_front, ws_front, Started}
-use Rattle.format_toml_document.proofs.Walks.{accepted, viable_front}
 use Rattle.format_toml_document.proofs.Days.{date_starts}
 use Rattle.format_toml_document.proofs.Long.{any_basic_front, any_literal_front, BeginsName}
 use Rattle.format_toml_document.proofs.Long.{BehindName, key_front, later_begins}

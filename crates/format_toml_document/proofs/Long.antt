@@ -1,5 +1,5 @@
 -- The walk over strings of values, and over keys.
-use Rattle.std.specs.Prelude.{◌≡◌, ◌⊎◌, ◌&&◌, ◌≤◌, ◌+◌, ℕ, suc, Bool, true, false, nat_le, nat_lt}
+use Rattle.std.specs.Prelude.{◌≡◌, ◌⊎◌, ◌&&◌, ◌≤◌, ◌+◌, ℕ, suc, Bool, true, nat_le, nat_lt}
 use Rattle.std.specs.Prelude.{⊤, List, [], ◌∷◌, ◌++◌, if◌then◌else◌}
 use Rattle.std.proofs.Common.{refl, sym, ap, subst, inl, inr, ◌∙◌, arith}
 use Rattle.std.proofs.lemmas.Bool.{eq-eqb, ne_eqb}
@@ -15,12 +15,11 @@ use Rattle.format_toml.specs.LongTexts.{room_behind}
 use Rattle.format_toml.specs.Toml.{AnyBasicText, AnyLiteralText, CharacterText, EscapedLineText}
 use Rattle.format_toml.specs.Toml.{EscapedLines, IsOf, NewlineText, IsBare, IsKey, KeyText}
 use Rattle.format_toml.specs.Toml.{NameText, Spaced}
-use Rattle.format_toml_errors.specs.Escapes.{escape_step}
+use Rattle.format_toml_errors.specs.Accepted.{after_done, At, by, Next}
+use Rattle.format_toml_errors.specs.Endings.{long_more}
 use Rattle.format_toml_errors.specs.Steps.{after_step, content_step, in_long, long_step, mark_of}
 use Rattle.format_toml_errors.specs.Steps.{next_step, string_step, behind_step, is_bare, name_step}
 use Rattle.format_toml_errors.specs.Unclosed.{last_open}
-use Rattle.format_toml_errors.specs.declared.escapes.Escape.{Escape}
-use Rattle.format_toml_errors.specs.declared.escapes.Escaped.{Escaped}
 use Rattle.format_toml_errors.specs.declared.modes.Bracket.{Bracket}
 use Rattle.format_toml_errors.specs.declared.modes.Mark.{Mark}
 use Rattle.format_toml_errors.specs.declared.modes.Mode.{Mode}
@@ -32,10 +31,10 @@ use Rattle.format_toml_errors.specs.declared.modes.Mark.TheVariants as marks
 use Rattle.format_toml_errors.specs.declared.modes.Mode.TheVariants as modes
 use Rattle.format_toml_errors.specs.declared.modes.Role.TheVariants as roles
 use Rattle.format_toml_errors.specs.declared.modes.Step.TheVariants as steps
-use Rattle.format_toml_document.proofs.Walks.{At, Next, by, moved, newline_front, one_front, parted}
-use Rattle.format_toml_document.proofs.Walks.{space_by, token_front, ws_front, Started, after_done}
-use Rattle.format_toml_document.proofs.Walks.{true_not_false, some_front}
-use Rattle.format_toml_document.proofs.Quoted.{Escaping, escape_front, is_letter, stands_by}
+use Rattle.format_toml_document.proofs.Walks.{moved, newline_front, one_front, parted}
+use Rattle.format_toml_document.proofs.Walks.{space_by, token_front, ws_front, Started}
+use Rattle.format_toml_document.proofs.Walks.{some_front}
+use Rattle.format_toml_document.proofs.Quoted.{Escaping, escape_front, stands_by}
 use Rattle.format_toml_document.proofs.Quoted.{basic_front, literal_front}
 
 delimiter_front : {behind whole : List ℕ → Type 0} (quote : ℕ)
@@ -164,13 +163,6 @@ module _ (level : ℕ) (held : List Bracket) where
       → content_step marks.Basic c ≡ steps.Goes (modes.Long marks.Basic 0)
   basic_content c is = grind (arith, nat_tests, is)
 
-  long_more : (e f : Escape) (c : ℕ) (l : List ℕ) → is_letter e ≡ false
-      → escape_step e c ≡ escaped.More f → At level (modes.LongEscape f) held l
-      → At level (modes.LongEscape e) held (c ∷ l)
-  long_more escapes.Letter f c l not is x = true_not_false not
-  long_more e f c l not is x =
-      let P : Escaped → Type 0 = λ s. Next level held l (in_long s) in subst P (sym is) x
-
   long_escaping : Escaping (λ e l. At level (modes.LongEscape e) held l) BasicAt
   long_escaping = record {
     letter = λ c k l is x.
@@ -178,7 +170,7 @@ module _ (level : ℕ) (held : List Bracket) where
         stands_by P x x x x x x x c k is;
     unit = λ l x. x;
     wide = λ l x. x;
-    more = long_more;
+    more = long_more level held;
     done = λ c l is x.
         let P : Bool → Type 0 = λ b.
         Next level held l (in_long (if b then escaped.Done else escaped.Invalid)) in

@@ -14,6 +14,7 @@ use Rattle.format_toml.specs.Floats.{AreDigits, IsDecimal, IsFloat, IsLetterE, I
 use Rattle.format_toml.specs.Floats.{IsScientific, IsWhole, Signed, Unsigned}
 use Rattle.format_toml.specs.Numbers.{AnyIntegerText, BasedText, IntegerText, NumberText}
 use Rattle.format_toml.specs.Numbers.{UnsignedText}
+use Rattle.format_toml_errors.specs.Accepted.{after_done, At, by, Next}
 use Rattle.format_toml_errors.specs.Figures.{adding, base_step, ends_figure, figure_if, figure_step}
 use Rattle.format_toml_errors.specs.Figures.{fits, limit_of}
 use Rattle.format_toml_errors.specs.Moments.{digit}
@@ -27,7 +28,7 @@ use Rattle.format_toml_errors.specs.declared.figures.Base.TheVariants as bases
 use Rattle.format_toml_errors.specs.declared.figures.Figure.TheVariants as figures
 use Rattle.format_toml_errors.specs.declared.modes.Mode.TheVariants as modes
 use Rattle.format_toml_errors.specs.declared.modes.Step.TheVariants as steps
-use Rattle.format_toml_document.proofs.Walks.{At, Next, by, Started, after_done, moved, parted}
+use Rattle.format_toml_document.proofs.Walks.{Started, moved, parted}
 use Rattle.format_toml_document.proofs.Digits.{below, digit_as, digit_goes, digit_is, digits_front}
 use Rattle.format_toml_document.proofs.Digits.{exponent_goes, limited, mark_goes, more_goes}
 use Rattle.format_toml_document.proofs.Digits.{next_is, no_mark, number_of, point_goes, prefix_of}

@@ -10,6 +10,8 @@ use Rattle.grammars.specs.Texts.Fronts.{gathered_front}
 use Rattle.format_parts.specs.Hexadecimal.{IsAlone, IsHex, UnitText}
 use Rattle.format_parts.specs.Words.{Whichever, latter, to_four, Between, One, former}
 use Rattle.format_toml.specs.Toml.{EscapeText, IsWide, StandsFor, BasicText, IsOf, LiteralText}
+use Rattle.format_toml_errors.specs.Accepted.{At, both_ways, by, Next}
+use Rattle.format_toml_errors.specs.Endings.{is_letter}
 use Rattle.format_toml_errors.specs.Escapes.{escape_step, is_hex, more_if}
 use Rattle.format_toml_errors.specs.declared.escapes.Escape.{Escape}
 use Rattle.stream_sets.specs.Accumulator.Holds.{HasCharacters}
@@ -24,7 +26,7 @@ use Rattle.format_toml_errors.specs.declared.escapes.Escaped.TheVariants as esca
 use Rattle.format_toml.specs.declared.characters.Characters.TheVariants as sets
 use Rattle.format_toml_errors.specs.declared.modes.Mode.TheVariants as modes
 use Rattle.format_toml_errors.specs.declared.modes.Step.TheVariants as steps
-use Rattle.format_toml_document.proofs.Walks.{both_ways, one_front, At, Next, by, moved}
+use Rattle.format_toml_document.proofs.Walks.{one_front, moved}
 use Rattle.format_toml_document.proofs.Walks.{token_front}
 
 pub stands_by : (P : ℕ → Type 0) → P 98 → P 116 → P 110 → P 102 → P 114 → P 34 → P 92
@@ -36,10 +38,6 @@ stands_by P b t n f r q s c k (inr (inr (inr (inl e)))) = subst P (sym e.0) f
 stands_by P b t n f r q s c k (inr (inr (inr (inr (inl e))))) = subst P (sym e.0) r
 stands_by P b t n f r q s c k (inr (inr (inr (inr (inr (inl e)))))) = subst P (sym e.0) q
 stands_by P b t n f r q s c k (inr (inr (inr (inr (inr (inr e)))))) = subst P (sym e.0) s
-
-abbrev pub is_letter : Escape → Bool
-is_letter escapes.Letter = true
-is_letter _ = false
 
 -- ---- four digits, and their number
 

@@ -10,6 +10,7 @@ use Rattle.std.proofs.lemmas.Bool.{eq-eqb}
 use Rattle.std.proofs.lemmas.Bool.Decides.{nat_tests}
 use Rattle.std.proofs.lemmas.List.Elements.{All-tail}
 use Rattle.std.proofs.lemmas.Str.{digit_value_digit}
+use Rattle.format_toml_errors.specs.Accepted.{after_done, At, tested}
 use Rattle.format_toml_errors.specs.Figures.{ends_figure, moment_as}
 use Rattle.format_toml_errors.specs.Moments.{first_of, is_digit, moment_if, moment_step}
 use Rattle.format_toml_errors.specs.Moments.{offset_start}
@@ -22,7 +23,7 @@ use Rattle.format_toml_errors.specs.declared.figures.Figure.TheVariants as figur
 use Rattle.format_toml_errors.specs.declared.modes.Mode.TheVariants as modes
 use Rattle.format_toml_errors.specs.declared.moments.Moment.TheVariants as moments
 use Rattle.format_toml_tree.specs.declared.value.Offset.TheVariants as offsets
-use Rattle.format_toml_document.proofs.Walks.{At, all_front, after_done, tested, moved, parted}
+use Rattle.format_toml_document.proofs.Walks.{all_front, moved, parted}
 use Rattle.format_toml_document.proofs.Numbers.{Fig, figure}
 
 -- ---- two digits

@@ -63,7 +63,8 @@ NoneBegins A level front (c ∷ rest) =
 
 -- The first character with which no document of the level continues, or the end of the text if all
 -- are a prefix of one, by the walk; what is expected there, and what is not closed. No document
--- begins with the text before it and this character.
+-- begins with the text before it and this character, and the walk accepts a text that begins with
+-- the text before it.
 abbrev pub IsUnexpected : Type 0 → ℕ → List ℕ → TomlError → Type 0
 IsUnexpected A level text (faults.Unexpected at expected unclosed) =
     (rest : List ℕ) × StopsAt level (chars text) (chars rest) expected × IsAfter text rest at

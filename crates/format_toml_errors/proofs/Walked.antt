@@ -5,10 +5,11 @@ use Rattle.std.proofs.Common.{ap, append_assoc, arith, inl, inr, refl, subst, sy
 use Rattle.std.proofs.Common.{◌∙◌}
 use Rattle.std.proofs.lemmas.List.{append-nil}
 use Rattle.format_toml_errors.proofs.Opened.{kept, kept_last, kept_length}
+use Rattle.format_toml_errors.specs.Endings.{completed}
 use Rattle.format_toml_errors.specs.Expected.{wanted, wanted_at}
 use Rattle.format_toml_errors.specs.Steps.{next_step}
-use Rattle.format_toml_errors.specs.Stop.{IsAccepted, IsNextStep, IsViablePrefix, IsWanted, LeadsTo}
-use Rattle.format_toml_errors.specs.Stop.{MayBegin, StopsAt, ends_line}
+use Rattle.format_toml_errors.specs.Stop.{IsAccepted, IsCompletable, IsNextStep, IsViablePrefix}
+use Rattle.format_toml_errors.specs.Stop.{IsWanted, LeadsTo, MayBegin, StopsAt, ends_line}
 use Rattle.format_toml_errors.specs.Unclosed.{last_open, opened, others_open}
 use Rattle.format_toml_errors.specs.declared.expected.Expected.{Expected}
 use Rattle.format_toml_errors.specs.declared.expected.Expected.TheVariants as what
@@ -49,6 +50,9 @@ module _ {level : ℕ} {tokens left : List ℕ} {mode : Mode} {items : List Brac
   begins : MayBegin level w.front
   begins = subst (λ l. MayBegin level l) (append-nil w.front) ((w.leads []).0 tt)
 
+  goes_on : IsCompletable level w.front
+  goes_on = completed level w.front begins
+
   -- at the end of the text
   module _ (none : left ≡ []) (last : Option Bracket)
       (is : last ≡ slice_get items (length items - 1)) where
@@ -63,7 +67,7 @@ module _ {level : ℕ} {tokens left : List ℕ} {mode : Mode} {items : List Brac
         subst P (sym none) (
           w.front,
           w.splits ∙ ap (λ l. w.front ++ l) none,
-          begins,
+          goes_on,
           tt,
           (
             mode,
@@ -116,7 +120,7 @@ module _ {level : ℕ} {tokens left : List ℕ} {mode : Mode} {items : List Brac
     placed expected never asks =
         let P : List ℕ → Type 0 = λ l. StopsAt level tokens l expected in
         subst P (sym first)
-        (w.front, w.splits ∙ ap (λ l. w.front ++ l) first, begins, never, asks)
+        (w.front, w.splits ∙ ap (λ l. w.front ++ l) first, goes_on, never, asks)
 
     pub at_refused : (expected : Expected) → steps.Invalid ≡ next_step mode last c
         → expected ≡ wanted_at mode last c → StopsAt level tokens left expected

@@ -76,18 +76,22 @@ IsWanted level front rest expected =
     (mode : Mode) × (held : List Bracket) × LeadsTo level front mode held
     × IsNamed level mode held rest expected
 
--- `StopsAt level tokens rest expected`: the first token with which no document continues is the
--- first of `rest`, and this is expected instead; or all are a prefix of one and not one.
-abbrev pub StopsAt : ℕ → List ℕ → List ℕ → Expected → Type 0
-StopsAt level tokens rest expected =
-    (front : List ℕ) × (tokens ≡ front ++ rest) × MayBegin level front
-    × IsStopped level front rest × IsWanted level front rest expected
-
 -- `IsAccepted level tokens`: each token may occur where it does, and the text may end after them.
 abbrev pub IsAccepted : ℕ → List ℕ → Type 0
 IsAccepted level tokens =
     (mode : Mode) × (held : List Bracket) × LeadsTo level tokens mode held
     × MayBegin level tokens × (ends_line mode (last_open held) ≡ true)
+
+-- `IsCompletable level front`: the walk accepts some text that begins with `front`.
+abbrev pub IsCompletable : ℕ → List ℕ → Type 0
+IsCompletable level front = (more : List ℕ) × IsAccepted level (front ++ more)
+
+-- `StopsAt level tokens rest expected`: the first token with which no document continues is the
+-- first of `rest`, and this is expected instead; or all are a prefix of one and not one.
+abbrev pub StopsAt : ℕ → List ℕ → List ℕ → Expected → Type 0
+StopsAt level tokens rest expected =
+    (front : List ℕ) × (tokens ≡ front ++ rest) × IsCompletable level front
+    × IsStopped level front rest × IsWanted level front rest expected
 
 abbrev pub IsStopIn : ℕ → List ℕ → Option Stop → Type 0
 IsStopIn level tokens None = IsAccepted level tokens

@@ -17,6 +17,7 @@
 mod escapes;
 pub mod expected;
 pub mod figures;
+pub mod laws;
 pub mod modes;
 mod moments;
 mod steps;
