@@ -175,8 +175,12 @@ spent_then old mid new bytes ahead rest n (e, f, g) (h, i, j) =
 
 pub spends_then : (old mid new : Decoder) (bytes ahead rest : List ℕ) (r : Result Step ChunkError)
     → IsSpent old mid bytes ahead 0 → Spends mid new ahead rest r → Spends old new bytes rest r
-spends_then old mid new bytes ahead rest (Ok (step.Data chunk)) (e, f, g) (h, i, j) =
-    (h ∙ e, i ∙ ap (λ (l : Limits). l.size_line) e, omega (arith, g, j))
+spends_then old mid new bytes ahead rest (Ok (step.Data chunk)) (e, f, g) (h, i, j, k) = (
+  h ∙ e,
+  i ∙ ap (λ (l : Limits). l.size_line) e,
+  omega (arith, g, j),
+  omega (arith, f, k),
+)
 spends_then old mid new bytes ahead rest (Ok (step.Trailers fields)) x y =
     spent_then old mid new bytes ahead rest (length fields.now) x y
 spends_then old mid new bytes ahead rest (Ok step.End) x y =

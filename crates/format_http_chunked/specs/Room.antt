@@ -1,5 +1,5 @@
 -- How many bytes more a decoder takes.
-use Rattle.std.specs.Prelude.{◌≡◌, ◌+◌, ℕ, List, length, Option, Some, None, Result, Ok, Err}
+use Rattle.std.specs.Prelude.{◌≡◌, ◌≤◌, ◌+◌, ℕ, List, length, Option, Some, None, Result, Ok, Err}
 use Rattle.format_http_chunked.specs.declared.decoder.Decoder.{Decoder}
 use Rattle.format_http_chunked.specs.declared.decoder.ChunkError.{ChunkError}
 use Rattle.format_http_chunked.specs.declared.decoder.Step.{Step}
@@ -12,11 +12,13 @@ IsSpent old new bytes rest fields =
     (new.limits ≡ old.limits) × (new.room + length bytes ≡ old.room + (length rest + fields))
     × (new.trailer_room + fields ≡ old.trailer_room)
 
--- Data leave all of the room between data after them, and other steps less.
+-- Data leave all of the room between data after them, and other steps less. The bytes that are taken
+-- before the data are not more than there was room for.
 abbrev pub Spends : Decoder → Decoder → List ℕ → List ℕ → Result Step ChunkError → Type 0
 Spends old new bytes rest (Ok (step.Data chunk)) =
     (new.limits ≡ old.limits) × (new.room ≡ old.limits.size_line)
     × (new.trailer_room ≡ old.trailer_room)
+    × (length bytes ≤ old.room + (length chunk.now + length rest))
 Spends old new bytes rest (Ok (step.Trailers fields)) =
     IsSpent old new bytes rest (length fields.now)
 Spends old new bytes rest (Ok step.End) = IsSpent old new bytes rest 0
