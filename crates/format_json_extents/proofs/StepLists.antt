@@ -140,7 +140,7 @@ module _ (V : List ℕ → Type 0) (tells : StepList → List ℕ → Type 0) (w
             (joined v.first v.second it v.is_second v.joins) is.joins,
         λ front tail more leads stops ends.
             let e : front ++ (text ++ tail)
-                ≡ (front ++ is.first) ++ (v.first ++ (v.second ++ tail)) =
+            ≡ (front ++ is.first) ++ (v.first ++ (v.second ++ tail)) =
             simp (is.joins, v.joins, append_assoc) in
             told_from e (calls (front ++ is.first) (v.second ++ tail) more
             (leads is.first is.is_first) (v.second, tail, v.is_second, refl, stops)
