@@ -131,10 +131,10 @@ fn write_tree<'t>(
 /// are returned as text.
 ///
 /// `DONE`: the nodes of the document are written into `nodes`, and the bytes of their names and
-/// texts into `text`; the others are unchanged. A node is a table, an array or another value. Nodes are in the order in which
-/// the document first mentions them. The first is the root table, and a table or an array precedes
-/// its contents. Each node has the index of its parent, of its first child and of its next sibling,
-/// so that a loop can walk them.
+/// texts into `text`; the others are unchanged. A node is a table, an array or another value. Nodes
+/// are in the order in which the document first mentions them. The first is the root table, and a
+/// table or an array precedes its contents. Each node has the index of its parent, of its first
+/// child and of its next sibling, so that a loop can walk them.
 ///
 /// A call holds up to 600 bytes of memory for each byte of the document.
 ///

@@ -12,8 +12,8 @@ IsSpent old new bytes rest fields =
     (new.limits ≡ old.limits) × (new.room + length bytes ≡ old.room + (length rest + fields))
     × (new.trailer_room + fields ≡ old.trailer_room)
 
--- Data leave all of the room between data after them, and other steps less. The bytes that are taken
--- before the data are not more than there was room for.
+-- Data leave all of the room between data after them, and other steps less. There was room for the
+-- bytes that are taken before the data.
 abbrev pub Spends : Decoder → Decoder → List ℕ → List ℕ → Result Step ChunkError → Type 0
 Spends old new bytes rest (Ok (step.Data chunk)) =
     (new.limits ≡ old.limits) × (new.room ≡ old.limits.size_line)
