@@ -123,6 +123,21 @@ impl<'i, 'b> Record<'i, 'b> {
         self.places.get(number).map(|place| at(self.text, *place))
     }
 
+    /// The number of the first field with these bytes: in a header, the column of this name.
+    ///
+    /// ```
+    /// use pergidau::csv::{self, LineEnd};
+    ///
+    /// let mut records = csv::records(b"name,port\nlocal,80\n", LineEnd::Lf);
+    /// let port = records.next_record().unwrap()?.position(b"port").expect("no such column");
+    /// let record = records.next_record().unwrap()?;
+    /// assert_eq!(record.get(port), Some(&b"80"[..]));
+    /// # Ok::<(), pergidau::Error>(())
+    /// ```
+    pub fn position(&self, name: &[u8]) -> Option<usize> {
+        self.fields().position(|field| field == name)
+    }
+
     /// Returns the input after the record and its line ending.
     pub fn rest(&self) -> &'i [u8] {
         self.rest

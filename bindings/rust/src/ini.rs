@@ -53,6 +53,22 @@ impl<'b> Document<'b> {
     pub fn sections(&self) -> Sections<'b> {
         Sections { text: self.text, left: self.entries }
     }
+
+    /// The first value of a key in the sections of this name.
+    ///
+    /// ```
+    /// use pergidau::ini::{self, Entry};
+    ///
+    /// let (mut text, mut entries) = ([0; 64], [Entry::default(); 8]);
+    /// let bytes = b"[a]\nx = 1\n[b]\nx = 2\nx = 3\n";
+    /// let document = ini::document(bytes, &mut text, &mut entries)?;
+    /// assert_eq!(document.get(b"b", b"x"), Some(&b"2"[..]));
+    /// assert_eq!(document.get(b"b", b"y"), None);
+    /// # Ok::<(), pergidau::Error>(())
+    /// ```
+    pub fn get(&self, section: &[u8], key: &[u8]) -> Option<&'b [u8]> {
+        self.sections().filter(|it| it.name == section).find_map(|it| it.get(key))
+    }
 }
 
 /// The sections of a document.
@@ -92,6 +108,11 @@ impl<'b> Section<'b> {
     pub fn pairs(&self) -> impl ExactSizeIterator<Item = (&'b [u8], &'b [u8])> + 'b {
         let text = self.text;
         self.pairs.iter().map(move |it| (at(text, it.key), at(text, it.value)))
+    }
+
+    /// The first value of a key.
+    pub fn get(&self, key: &[u8]) -> Option<&'b [u8]> {
+        self.pairs().find(|pair| pair.0 == key).map(|pair| pair.1)
     }
 }
 
