@@ -1,23 +1,27 @@
--- The bytes after the first line of a reply, and replies of two allocators.
+-- A reply is its first line, by its meaning, and what follows it: nothing, the data of a string, or
+-- as many replies. So the allocator of its elements does not matter.
 use Rattle.std.specs.Prelude.{◌≡◌, ◌<◌, ◌^◌, ℕ, zero, suc, List, [], ◌∷◌, ◌++◌, None, Option, Some}
 use Rattle.std.specs.Prelude.{length}
 use Rattle.std.specs.Borrow.{Bor}
 use Rattle.std.proofs.Common.{refl, sym, ap, subst, ◌∙◌, append_assoc}
-use Rattle.std.proofs.lemmas.List.{append-nil}
+use Rattle.streams.specs.Equal.{none_is_some, same_some}
 use Rattle.winnow_grammar.specs.InTurn.{First, Led}
-use Rattle.grammars.specs.Texts.{EachText, Text}
+use Rattle.grammars.specs.Texts.{EachText}
+use Rattle.format_resp.proofs.Made.{big_number_is, boolean_is, double_is, error_is, gathered_is}
+use Rattle.format_resp.proofs.Made.{integer_is, null_array_is, null_bulk_is, null_is, simple_is}
+use Rattle.format_resp.proofs.Made.{string_is}
 use Rattle.format_resp.proofs.WrittenTexts.{few, list_for}
-use Rattle.format_resp.specs.Extents.{Fits, StringText}
-use Rattle.format_resp.specs.Heads.{HeadText, IsAggregateHead, IsDataHead, Says, formatted}
-use Rattle.format_resp.specs.Resp.{AggregateBehind, Body, DataBehind, DataSays, Elements, Ended}
-use Rattle.format_resp.specs.Resp.{LineSays, MarkText, Replies, ReplyText, Shown, SizeText}
-use Rattle.format_resp.specs.Resp.{gathered, line_end, many}
+use Rattle.format_resp.specs.Extents.{IsReplyOf, MatchesAtStart, Times}
+use Rattle.format_resp.specs.Heads.{HeadText, IsSmall, Says, head_after}
+use Rattle.format_resp.specs.Resp.{AggregateBehind, Any, Body, DataBehind, Elements, ElementsIn}
+use Rattle.format_resp.specs.Resp.{Ended, LineSays, Replies, ReplyText, SizeText}
+use Rattle.format_resp.specs.Resp.{StringText, formatted, gathered, many, shape}
 use Rattle.format_resp.specs.declared.heads.Head.{Head}
 use Rattle.format_resp.specs.declared.heads.Head.TheVariants as heads
 use Rattle.format_resp.specs.declared.marks.AggregateMark.{AggregateMark}
 use Rattle.format_resp.specs.declared.marks.AggregateMark.TheVariants.{Star}
 use Rattle.format_resp.specs.declared.marks.DataMark.{DataMark}
-use Rattle.format_resp.specs.declared.marks.DataMark.TheVariants.{Dollar, Equals, Exclamation}
+use Rattle.format_resp.specs.declared.marks.DataMark.TheVariants.{Dollar}
 use Rattle.format_resp.specs.declared.marks.LineMark.{LineMark}
 use Rattle.format_resp.specs.declared.marks.LineMark.TheVariants.{Colon, Comma, Hash, Minus}
 use Rattle.format_resp.specs.declared.marks.LineMark.TheVariants.{Parenthesis, Plus, Underscore}
@@ -26,206 +30,273 @@ use Rattle.format_resp.specs.declared.marks.Mark.TheVariants.{Aggregate, Data, L
 use Rattle.format_resp.specs.declared.reply.Protocol.{Protocol}
 use Rattle.format_resp.specs.declared.reply.Reply as made
 
--- ---- the bytes after a first line, by those of `n` replies
-
-abbrev pub BodyAfterLine : (ℕ → List ℕ → Type 0) → Head → List ℕ → Type 0
-BodyAfterLine these heads.Ends xs = xs ≡ []
-BodyAfterLine these (heads.Data bulk) xs = (bytes : Bor (List ℕ)) × StringText bulk bytes xs
-BodyAfterLine these (heads.Replies n) xs = these n xs
-
--- `n` replies that are elements of an aggregate
-abbrev pub AreElements : {A : Type 0} → Text ℕ (List (Replies A)) → ℕ → List ℕ → Type 0
-AreElements {A} elements n xs = (os : List (Replies A)) × (length os ≡ n) × elements os xs
-
 pub line_any : {A B : Type 0} (mark : LineMark) (reply : Replies A) (line : List ℕ)
-    → LineSays mark reply line → (other : Replies B) × LineSays mark other line
-line_any Plus reply line (x, is, a) = (made.Simple x, (x, refl, a))
-line_any Minus reply line (x, is, a) = (made.Error x, (x, refl, a))
-line_any Colon reply line (n, is, a) = (made.Integer n, (n, refl, a))
-line_any Underscore reply line (is, e) = (made.Null, (refl, e))
-line_any Hash reply line (b, is, a) = (made.Boolean b, (b, refl, a))
-line_any Comma reply line (x, is, a) = (made.Double x, (x, refl, a))
-line_any Parenthesis reply line (x, is, a) = (made.BigNumber x, (x, refl, a))
+    → LineSays Any mark reply line → (other : Replies B) × LineSays Any mark other line
+line_any Plus reply line (x, is, a) = (made.Simple x, (x, ap shape (simple_is x), a))
+line_any Minus reply line (x, is, a) = (made.Error x, (x, ap shape (error_is x), a))
+line_any Colon reply line (n, is, a) = (made.Integer n, (n, ap shape (integer_is n), a))
+line_any Underscore reply line (is, e) = (made.Null, (ap shape null_is, e))
+line_any Hash reply line (b, is, a) = (made.Boolean b, (b, ap shape (boolean_is b), a))
+line_any Comma reply line (x, is, a) = (made.Double x, (x, ap shape (double_is x), a))
+line_any Parenthesis reply line (x, is, a) =
+    (made.BigNumber x, (x, ap shape (big_number_is x), a))
 
-data_fits : {A : Type 0} (mark : DataMark) (reply : Replies A) (bytes : List ℕ)
-    → DataSays mark reply bytes → Fits (formatted mark) bytes
-unfolding Shown
-data_fits Dollar reply bytes says = tt
-data_fits Exclamation reply bytes says = tt
-data_fits Equals reply bytes (x, is, (a, shown)) = a
+-- a relation of what is before a step and what is after it
+abbrev pub Step : Type 1
+Step = List ℕ → List ℕ → Type 0
 
-fits_data : {A : Type 0} (mark : DataMark) (slice : Bor (List ℕ)) → Fits (formatted mark) slice.now
-    → (reply : Replies A) × DataSays mark reply slice.now
-unfolding Shown
-fits_data Dollar slice a = (made.Bulk slice, (slice, refl, (tt, refl)))
-fits_data Exclamation slice a = (made.BulkError slice, (slice, refl, (tt, refl)))
-fits_data Equals slice a = (made.Verbatim slice, (slice, refl, (a, refl)))
+pub times_map : (these those : Step) → ((from to : List ℕ) → these from to → those from to)
+    → (n : ℕ) (from to : List ℕ) → Times these n from to → Times those n from to
+unfolding Times
+times_map these those leads zero from to e = e
+times_map these those leads (suc n) from to (mid, one, more) =
+    (mid, leads from mid one, times_map these those leads n mid to more)
 
--- the reply ends with this line
-flat : (these : ℕ → List ℕ → Type 0) {head : Head} (us vs line : List ℕ) → head ≡ heads.Ends
-    → BodyAfterLine these head vs → us ≡ line ++ line_end → us ++ vs ≡ line ++ line_end
-flat these {head} us vs line is behind e =
-    let P : Head → Type 0 = λ h. BodyAfterLine these h vs in
-    ap (λ l. us ++ l) (subst P is behind) ∙ append-nil us ∙ e
+-- what follows a first line, by `n` replies
+abbrev pub Behind : (ℕ → Step) → Head → Step
+Behind these heads.Ends tokens rest = tokens ≡ rest
+Behind these (heads.Data bulk) tokens rest =
+    (bytes : Bor (List ℕ)) × First (StringText bulk) tokens bytes rest
+Behind these (heads.Replies n) tokens rest = these n tokens rest
 
-module _ {A : Type 0} (elements : Text ℕ (List (Replies A))) where
+pub behind_as : {these those : ℕ → Step}
+    → ((n : ℕ) (from to : List ℕ) → these n from to → those n from to) → (head : Head)
+    (tokens rest : List ℕ) → Behind these head tokens rest → Behind those head tokens rest
+behind_as leads heads.Ends tokens rest e = e
+behind_as leads (heads.Data bulk) tokens rest x = x
+behind_as leads (heads.Replies n) tokens rest x = leads n tokens rest x
+
+as_head : (these : ℕ → Step) (tokens rest : List ℕ) {head other : Head} → Some other ≡ Some head
+    → Behind these head tokens rest → Behind these other tokens rest
+as_head these tokens rest is =
+    subst (λ h. Behind these h tokens rest) (sym (same_some is))
+
+-- a reply at a depth, with this allocator
+abbrev pub At : Type 0 → Protocol → ℕ → Step
+At A protocol level = MatchesAtStart (IsReplyOf A protocol level)
+
+-- and its elements
+abbrev pub Inner : Type 0 → Protocol → ℕ → ℕ → Step
+Inner A protocol zero n tokens rest = ⊥
+Inner A protocol (suc level) n tokens rest = Times (At A protocol level) n tokens rest
+
+module _ {A : Type 0} (protocol : Protocol) where
+  -- ---- elements, one after another
+
+  row_times : (level : ℕ) (os : List (Replies A)) (xs rest : List ℕ)
+      → EachText (ReplyText protocol level) os xs
+      → Times (At A protocol level) (length os) (xs ++ rest) rest
+  unfolding EachText Times
+  row_times level [] xs rest e = ap (λ l. l ++ rest) e
+  row_times level (o ∷ os) xs rest (ys, zs, t, row, e) = (
+    zs ++ rest,
+    (ys, (o, t), ap (λ l. l ++ rest) e ∙ append_assoc ys zs rest),
+    row_times level os zs rest row,
+  )
+
+  times_row : (level n : ℕ) (tokens rest : List ℕ) → Times (At A protocol level) n tokens rest
+      → (os : List (Replies A)) × (length os ≡ n)
+      × ((xs : List ℕ) × EachText (ReplyText protocol level) os xs × (tokens ≡ xs ++ rest))
+  unfolding EachText Times
+  times_row level zero tokens rest e = ([], refl, ([], refl, e))
+  times_row level (suc n) tokens rest (mid, (front, (o, t), e), more) =
+      let (os, count, (xs, row, d)) = times_row level n mid rest more in (
+        o ∷ os,
+        ap (λ k. suc k) count,
+        (
+          front ++ xs,
+          (front, xs, t, row, refl),
+          e ∙ ap (λ l. front ++ l) d ∙ sym (append_assoc front xs rest),
+        ),
+      )
+
+  elements_times : (level : ℕ) (os : List (Replies A)) (xs rest : List ℕ)
+      → Elements protocol level os xs → Inner A protocol level (length os) (xs ++ rest) rest
+  unfolding ElementsIn
+  elements_times zero os xs rest never = never
+  elements_times (suc level) os xs rest row = row_times level os xs rest row
+
+  times_elements : (level n : ℕ) (tokens rest : List ℕ) → Inner A protocol level n tokens rest
+      → (os : List (Replies A)) × (length os ≡ n)
+      × ((xs : List ℕ) × Elements protocol level os xs × (tokens ≡ xs ++ rest))
+  unfolding ElementsIn
+  times_elements zero n tokens rest never = absurd never
+  times_elements (suc level) n tokens rest more = times_row level n tokens rest more
+
+module _ {A : Type 0} (protocol : Protocol) (level : ℕ) (rest : List ℕ) where
+  -- ---- the first line, and what follows
+
   data_there : (mark : DataMark) (size : Option ℕ) (reply : Replies A) (xs : List ℕ)
-      → DataBehind mark size reply xs
-      → (head : Head) × IsDataHead mark size head × BodyAfterLine (AreElements elements) head xs
-  data_there mark (Some n) reply xs (bytes, says, t) = (
+      → DataBehind mark size reply xs → (head : Head) × (head_after (Data mark) size ≡ Some head)
+      × IsSmall head × Behind (Inner A protocol level) head (xs ++ rest) rest
+  unfolding First
+  data_there mark (Some n) reply xs (bytes, is, t) = (
     heads.Data (record { size = n; verbatim = formatted mark }),
     refl,
-    (bytes, (data_fits mark reply bytes.now says, t)),
+    tt,
+    (bytes, (xs, t, refl)),
   )
-  data_there Dollar None reply xs (is, empty) = (heads.Ends, refl, empty)
+  data_there Dollar None reply xs (is, empty) =
+      (heads.Ends, refl, tt, ap (λ l. l ++ rest) empty)
   data_there mark None reply xs never = absurd never
 
   aggregate_there : (mark : AggregateMark) (size : Option ℕ) (reply : Replies A) (xs : List ℕ)
-      → AggregateBehind elements mark size reply xs
-      → (head : Head) × IsAggregateHead mark size head
-      × BodyAfterLine (AreElements elements) head xs
+      → AggregateBehind (Elements protocol level) mark size reply xs
+      → (head : Head) × (head_after (Aggregate mark) size ≡ Some head) × IsSmall head
+      × Behind (Inner A protocol level) head (xs ++ rest) rest
   aggregate_there mark (Some n) reply xs (list, is, (count, row)) = (
     heads.Replies (many mark n),
-    (refl, subst (λ k. k < 2 ^ 63) count (few list)),
-    (list.items, count, row),
+    refl,
+    subst (λ k. k < 2 ^ 63) count (few list),
+    subst (λ k. Inner A protocol level k (xs ++ rest) rest) count
+        (elements_times protocol level list.items xs rest row),
   )
-  aggregate_there Star None reply xs (is, empty) = (heads.Ends, refl, empty)
+  aggregate_there Star None reply xs (is, empty) =
+      (heads.Ends, refl, tt, ap (λ l. l ++ rest) empty)
   aggregate_there mark None reply xs never = absurd never
 
-  body_there : (mark : Mark) (reply : Replies A) (xs : List ℕ) → Body elements mark reply xs
-      → (head : Head) × (us : List ℕ) × (vs : List ℕ) × Ended (Says mark) head us
-      × BodyAfterLine (AreElements elements) head vs × (xs ≡ us ++ vs)
-  unfolding Led Ended SizeText
-  body_there (Line mark) reply xs (line, says, e) = (
-    heads.Ends,
-    xs,
-    [],
-    (line, (refl, line_any mark reply line says), e),
-    refl,
-    sym (append-nil xs),
-  )
+  body_there : (mark : Mark) (reply : Replies A) (xs : List ℕ)
+      → Body Any (Elements protocol level) mark reply xs
+      → (head : Head) × (mid : List ℕ) × First (Ended (Says mark)) (xs ++ rest) head mid
+      × Behind (Inner A protocol level) head mid rest
+  unfolding First Led Ended SizeText
+  body_there (Line mark) reply xs (line, says, e) =
+      (heads.Ends, rest, (xs, (line, (refl, line_any mark reply line says), e), refl), refl)
   body_there (Data mark) reply xs (size, us, vs, (line, a, f), b, e) =
-      let (head, is, behind) = data_there mark size reply vs b in
-      (head, us, vs, (line, (size, a, is), f), behind, e)
-  body_there (Aggregate mark) reply xs (size, us, vs, (line, a, f), b, e) =
-      let (head, is, behind) = aggregate_there mark size reply vs b in
-      (head, us, vs, (line, (size, a, is), f), behind, e)
-
-  pub led_there : (protocol : Protocol) (reply : Replies A) (xs : List ℕ)
-      → Led (MarkText protocol) (Body elements) reply xs
-      → (head : Head) × (us : List ℕ) × (vs : List ℕ) × HeadText protocol head us
-      × BodyAfterLine (AreElements elements) head vs × (xs ≡ us ++ vs)
-  unfolding Led
-  led_there protocol reply xs (mark, ms, bs, m, body, e) =
-      let (head, us, vs, says, behind, d) = body_there mark reply bs body in (
+      let (head, is, small, behind) = data_there mark size reply vs b in (
         head,
-        ms ++ us,
-        vs,
-        (mark, ms, us, m, says, refl),
+        vs ++ rest,
+        (us, (line, (size, a, is, small), f), ap (λ l. l ++ rest) e ∙ append_assoc us vs rest),
         behind,
-        e ∙ ap (λ l. ms ++ l) d ∙ sym (append_assoc ms us vs),
+      )
+  body_there (Aggregate mark) reply xs (size, us, vs, (line, a, f), b, e) =
+      let (head, is, small, behind) = aggregate_there mark size reply vs b in (
+        head,
+        vs ++ rest,
+        (us, (line, (size, a, is, small), f), ap (λ l. l ++ rest) e ∙ append_assoc us vs rest),
+        behind,
+      )
+
+  pub head_there : (tokens : List ℕ) → At A protocol level tokens rest
+      → (head : Head) × (mid : List ℕ) × First (HeadText protocol) tokens head mid
+      × Behind (Inner A protocol level) head mid rest
+  unfolding First Led
+  head_there tokens (front, (reply, (mark, ms, bs, m, body, d)), e) =
+      let (head, mid, (us, says, f), behind) = body_there mark reply bs body in (
+        head,
+        mid,
+        (
+          ms ++ us,
+          (mark, ms, us, m, says, refl),
+          e ∙ ap (λ l. l ++ rest) d ∙ append_assoc ms bs rest ∙ ap (λ l. ms ++ l) f
+              ∙ sym (append_assoc ms us mid),
+        ),
+        behind,
       )
 
   -- ---- and back
 
-  data_back : (mark : DataMark) (size : Option ℕ) (head : Head) (xs : List ℕ)
-      → IsDataHead mark size head → BodyAfterLine (AreElements elements) head xs
-      → (reply : Replies A) × DataBehind mark size reply xs
-  data_back mark (Some n) head xs is behind =
-      let P : Head → Type 0 = λ h. BodyAfterLine (AreElements elements) h xs in
-      let (bytes, (fits, t)) = subst P is behind in
-      let (reply, says) = fits_data mark bytes fits in (reply, (bytes, says, t))
-  data_back Dollar None head xs is behind =
-      let P : Head → Type 0 = λ h. BodyAfterLine (AreElements elements) h xs in
-      (made.NullBulk, (refl, subst P is behind))
-  data_back mark None head xs never behind = absurd never
+  data_back : (mark : DataMark) (size : Option ℕ) (head : Head) (tokens : List ℕ)
+      → head_after (Data mark) size ≡ Some head → Behind (Inner A protocol level) head tokens rest
+      → (reply : Replies A) × (vs : List ℕ) × DataBehind mark size reply vs
+      × (tokens ≡ vs ++ rest)
+  unfolding First
+  data_back mark (Some n) head tokens is behind =
+      let (bytes, (vs, t, e)) = as_head (Inner A protocol level) tokens rest is behind in
+      let (reply, made) = string_is mark bytes in (reply, vs, (bytes, made, t), e)
+  data_back Dollar None head tokens is behind = (
+    made.NullBulk,
+    [],
+    (ap shape null_bulk_is, refl),
+    as_head (Inner A protocol level) tokens rest is behind,
+  )
+  data_back mark None head tokens is behind = none_is_some is
 
   module _ (alloc : A) where
-    aggregate_back : (mark : AggregateMark) (size : Option ℕ) (head : Head) (xs : List ℕ)
-        → IsAggregateHead mark size head → BodyAfterLine (AreElements elements) head xs
-        → (reply : Replies A) × AggregateBehind elements mark size reply xs
-    aggregate_back mark (Some n) head xs (is, small) behind =
-        let P : Head → Type 0 = λ h. BodyAfterLine (AreElements elements) h xs in
-        let (os, count, row) = subst P is behind in
-        let (list, same) = list_for alloc os (subst (λ k. k < 2 ^ 63) (sym count) small) in
-        let Q : List (Replies A) → Type 0 = λ l. (length l ≡ many mark n) × elements l xs in
-        (gathered mark list, (list, refl, subst Q (sym same) (count, row)))
-    aggregate_back Star None head xs is behind =
-        let P : Head → Type 0 = λ h. BodyAfterLine (AreElements elements) h xs in
-        (made.NullArray, (refl, subst P is behind))
-    aggregate_back mark None head xs never behind = absurd never
+    aggregate_back : (mark : AggregateMark) (size : Option ℕ) (head : Head) (tokens : List ℕ)
+        → head_after (Aggregate mark) size ≡ Some head → IsSmall head
+        → Behind (Inner A protocol level) head tokens rest
+        → (reply : Replies A) × (vs : List ℕ)
+        × AggregateBehind (Elements protocol level) mark size reply vs × (tokens ≡ vs ++ rest)
+    aggregate_back mark (Some n) head tokens is small behind =
+        let (os, count, (vs, row, e)) =
+        times_elements protocol level (many mark n) tokens rest
+        (as_head (Inner A protocol level) tokens rest is behind) in
+        let less : many mark n < 2 ^ 63 = subst IsSmall (sym (same_some is)) small in
+        let (list, same) = list_for alloc os (subst (λ k. k < 2 ^ 63) (sym count) less) in
+        let Q : List (Replies A) → Type 0 = λ l.
+        (length l ≡ many mark n) × Elements protocol level l vs in (
+          gathered mark list,
+          vs,
+          (list, gathered_is mark list refl, subst Q (sym same) (count, row)),
+          e,
+        )
+    aggregate_back Star None head tokens is small behind = (
+      made.NullArray,
+      [],
+      (ap shape null_array_is, refl),
+      as_head (Inner A protocol level) tokens rest is behind,
+    )
+    aggregate_back mark None head tokens is small behind = none_is_some is
 
-    body_back : (mark : Mark) (head : Head) (us vs : List ℕ) → Ended (Says mark) head us
-        → BodyAfterLine (AreElements elements) head vs
-        → (reply : Replies A) × Body elements mark reply (us ++ vs)
+    body_back : (mark : Mark) (head : Head) (us mid : List ℕ) → Ended (Says mark) head us
+        → Behind (Inner A protocol level) head mid rest
+        → (reply : Replies A) × (vs : List ℕ) × Body Any (Elements protocol level) mark reply vs
+        × (us ++ mid ≡ vs ++ rest)
     unfolding Led Ended SizeText
-    body_back (Line mark) head us vs (line, (is, (reply, says)), e) behind =
+    body_back (Line mark) head us mid (line, (is, (reply, says)), e) behind =
         let (other, also) = line_any mark reply line says in
-        (other, (line, also, flat (AreElements elements) us vs line is behind e))
-    body_back (Data mark) head us vs (line, (size, a, is), e) behind =
-        let (reply, b) = data_back mark size head vs is behind in
-        (reply, (size, us, vs, (line, a, e), b, refl))
-    body_back (Aggregate mark) head us vs (line, (size, a, is), e) behind =
-        let (reply, b) = aggregate_back mark size head vs is behind in
-        (reply, (size, us, vs, (line, a, e), b, refl))
-
-    pub led_back : (protocol : Protocol) (head : Head) (us vs : List ℕ)
-        → HeadText protocol head us → BodyAfterLine (AreElements elements) head vs
-        → (reply : Replies A) × Led (MarkText protocol) (Body elements) reply (us ++ vs)
-    unfolding Led
-    led_back protocol head us vs (mark, ms, bs, m, says, d) behind =
-        let (reply, body) = body_back mark head bs vs says behind in (
+        let P : Head → Type 0 = λ h. Behind (Inner A protocol level) h mid rest in
+        (other, us, (line, also, e), ap (λ l. us ++ l) (subst P is behind))
+    body_back (Data mark) head us mid (line, (size, a, is, small), e) behind =
+        let (reply, vs, b, f) = data_back mark size head mid is behind in (
           reply,
-          (mark, ms, bs ++ vs, m, body, ap (λ l. l ++ vs) d ∙ append_assoc ms bs vs),
+          us ++ vs,
+          (size, us, vs, (line, a, e), b, refl),
+          ap (λ l. us ++ l) f ∙ sym (append_assoc us vs rest),
+        )
+    body_back (Aggregate mark) head us mid (line, (size, a, is, small), e) behind =
+        let (reply, vs, b, f) = aggregate_back mark size head mid is small behind in (
+          reply,
+          us ++ vs,
+          (size, us, vs, (line, a, e), b, refl),
+          ap (λ l. us ++ l) f ∙ sym (append_assoc us vs rest),
+        )
+
+    pub head_back : (head : Head) (tokens mid : List ℕ)
+        → First (HeadText protocol) tokens head mid
+        → Behind (Inner A protocol level) head mid rest → At A protocol level tokens rest
+    unfolding First Led
+    head_back head tokens mid (front, (mark, ms, us, m, says, d), e) behind =
+        let (reply, vs, body, f) = body_back mark head us mid says behind in (
+          ms ++ vs,
+          (reply, (mark, ms, vs, m, body, refl)),
+          e ∙ ap (λ l. l ++ mid) d ∙ append_assoc ms us mid ∙ ap (λ l. ms ++ l) f
+              ∙ sym (append_assoc ms vs rest),
         )
 
 -- ---- replies of another allocator
 
 module _ {A B : Type 0} (alloc : B) (protocol : Protocol) where
-  row_any : {these : Text ℕ (Replies A)} {those : Text ℕ (Replies B)}
-      → ((o : Replies A) (xs : List ℕ) → these o xs → (p : Replies B) × those p xs)
-      → (os : List (Replies A)) (xs : List ℕ) → EachText these os xs
-      → (ps : List (Replies B)) × (length ps ≡ length os) × EachText those ps xs
-  unfolding EachText
-  row_any leads [] xs e = ([], refl, e)
-  row_any leads (o ∷ os) xs (ys, zs, a, row, e) =
-      let (p, b) = leads o ys a in
-      let (ps, count, others) = row_any leads os zs row in
-      (p ∷ ps, ap (λ n. suc n) count, (ys, zs, b, others, e))
+  any_by : (level : ℕ)
+      → ((n : ℕ) (from to : List ℕ) → Inner A protocol level n from to
+      → Inner B protocol level n from to)
+      → (tokens rest : List ℕ) → At A protocol level tokens rest → At B protocol level tokens rest
+  any_by level leads tokens rest found =
+      let (head, mid, first, behind) = head_there protocol level rest tokens found in
+      head_back protocol level rest alloc head tokens mid first
+      (behind_as leads head mid rest behind)
 
-  module _ (these : Text ℕ (List (Replies A))) (those : Text ℕ (List (Replies B)))
-      (leads : (os : List (Replies A)) (xs : List ℕ) → these os xs
-      → (ps : List (Replies B)) × (length ps ≡ length os) × those ps xs) where
-    behind_any : (head : Head) (xs : List ℕ) → BodyAfterLine (AreElements these) head xs
-        → BodyAfterLine (AreElements those) head xs
-    behind_any heads.Ends xs e = e
-    behind_any (heads.Data bulk) xs x = x
-    behind_any (heads.Replies n) xs (os, count, row) =
-        let (ps, same, others) = leads os xs row in (ps, same ∙ count, others)
-
-    led_any : (reply : Replies A) (xs : List ℕ) → Led (MarkText protocol) (Body these) reply xs
-        → (other : Replies B) × Led (MarkText protocol) (Body those) other xs
-    led_any reply xs t =
-        let (head, us, vs, text, behind, e) = led_there these protocol reply xs t in
-        let (other, back) = led_back those alloc protocol head us vs text
-        (behind_any head vs behind) in
-        (other, subst (λ l. Led (MarkText protocol) (Body those) other l) (sym e) back)
-
-  elements_any : (level : ℕ) (os : List (Replies A)) (xs : List ℕ) → Elements protocol level os xs
-      → (ps : List (Replies B)) × (length ps ≡ length os) × Elements protocol level ps xs
-  unfolding Elements
-  elements_any zero os xs never = absurd never
-  elements_any (suc level) os xs row =
-      row_any (led_any (Elements protocol level) (Elements protocol level) (elements_any level))
-      os xs row
-
-  pub reply_any : (level : ℕ) (reply : Replies A) (xs : List ℕ) → ReplyText protocol level reply xs
-      → (other : Replies B) × ReplyText protocol level other xs
-  reply_any level = led_any (Elements protocol level) (Elements protocol level) (elements_any level)
+  at_any : (level : ℕ) (tokens rest : List ℕ) → At A protocol level tokens rest
+      → At B protocol level tokens rest
+  at_any zero = any_by zero (λ n from to never. never)
+  at_any (suc level) =
+      any_by (suc level) (times_map (At A protocol level) (At B protocol level) (at_any level))
 
   pub first_any : (level : ℕ) (reply : Replies A) (tokens rest : List ℕ)
       → First (ReplyText protocol level) tokens reply rest
       → (other : Replies B) × First (ReplyText protocol level) tokens other rest
   unfolding First
   first_any level reply tokens rest (front, t, e) =
-      let (other, u) = reply_any level reply front t in (other, (front, u, e))
+      let (back, (other, u), f) = at_any level tokens rest (front, (reply, t), e) in
+      (other, (back, u, f))

@@ -13,34 +13,37 @@ use Rattle.streams.specs.Kind.{Kind, backtrack}
 use Rattle.grammars.specs.Texts.{Text}
 use Rattle.format_resp.proofs.Encodings.{data_determined}
 use Rattle.format_resp.proofs.LineTexts.{size_small}
-use Rattle.format_resp.specs.Resp.{DataText, SizeText, AggregateBehind, DataBehind, DataSays}
-use Rattle.format_resp.specs.Resp.{Elements, Replies, ReplyText, gathered, many}
+use Rattle.format_resp.specs.Resp.{AggregateBehind, Bytes, DataBehind, DataText, Elements}
+use Rattle.format_resp.specs.Resp.{ElementsIn, Fits, Items, Replies, ReplyText, SizeText, formatted}
+use Rattle.format_resp.specs.Resp.{many, shape_of}
 use Rattle.format_resp.specs.declared.marks.AggregateMark.{AggregateMark}
 use Rattle.format_resp.specs.declared.marks.AggregateMark.TheVariants.{Star}
 use Rattle.format_resp.specs.declared.marks.DataMark.{DataMark}
 use Rattle.format_resp.specs.declared.marks.DataMark.TheVariants.{Dollar}
+use Rattle.format_resp.specs.declared.marks.Mark.TheVariants.{Aggregate, Data}
 use Rattle.format_resp.specs.declared.reply.Protocol.{Protocol}
 
 -- ---- bytes
 
 module _ {A : Type 0} {i j : Input ℕ} (mark : DataMark) (n : ℕ) where
-  pub data_stood : (bytes : Bor (List ℕ)) (reply : Replies A) → DataSays mark reply bytes.now
+  pub data_stood : (bytes : Bor (List ℕ)) (reply : Replies A)
+      → shape_of reply ≡ (Data mark, Bytes bytes) → Fits (formatted mark) bytes.now
       → MatchesEachCompletion bytes_reading bytes_follow (First (DataText n)) i bytes j
       → MatchesEachCompletion bytes_reading bytes_follow (First (DataBehind mark (Some n))) i reply
       j
   unfolding First
-  data_stood bytes reply says =
-      stood_as (λ tokens rest (front, a, e). (front, (bytes, says, a), e))
+  data_stood bytes reply is fits =
+      stood_as (λ tokens rest (front, a, e). (front, (bytes, is, (fits, a)), e))
 
   pub data_none : {k : Kind} → Failed bytes_reading bytes_follow (First (DataText n)) i k j
       → Failed bytes_reading bytes_follow (First (DataBehind {A = A} mark (Some n))) i k j
   unfolding First
-  data_none = failed_as (λ tokens none reply rest (front, (bytes, says, a), e).
+  data_none = failed_as (λ tokens none reply rest (front, (bytes, is, (fits, a)), e).
       none bytes rest (front, a, e))
 
   -- bytes that are no such reply
   pub data_failed : {k : Kind} (bytes : Bor (List ℕ)) → k ≡ backtrack
-      → ((reply : Replies A) → DataSays mark reply bytes.now → ⊥)
+      → (Fits (formatted mark) bytes.now → ⊥)
       → MatchesEachCompletion bytes_reading bytes_follow (First (DataText n)) i bytes j
       → Failed bytes_reading bytes_follow (First (DataBehind {A = A} mark (Some n))) i k j
   unfolding First
@@ -48,10 +51,10 @@ module _ {A : Type 0} {i j : Input ℕ} (mark : DataMark) (n : ℕ) where
     ends = s.ends;
     none = inr (inr (λ more c. (
       b,
-      λ reply rest (front, (other, says, a), e).
-          never reply (subst (DataSays mark reply) (data_determined n other bytes
+      λ reply rest (front, (other, is, (fits, a)), e).
+          never (subst (Fits (formatted mark)) (data_determined n other bytes
           (i.left.tokens ++ more) rest (j.left.tokens ++ more) (front, a, e)
-          (s.stands more c)).0 says),
+          (s.stands more c)).0 fits),
     )));
   }
 
@@ -77,14 +80,15 @@ no_null_aggregate elements mark other b =
 module _ {A : Type 0} {i : Input ℕ} (protocol : Protocol) (level : ℕ) (mark : AggregateMark)
     (n : ℕ) where
   pub aggregate_stood : {j : Input ℕ} (inner count : ℕ) → level ≡ suc inner → count ≡ many mark n
-      → (list : Vec (Replies A) A) (reply : Replies A) → reply ≡ gathered mark list
+      → (list : Vec (Replies A) A) (reply : Replies A)
+      → shape_of reply ≡ (Aggregate mark, Items list)
       → MatchesEachCompletion bytes_reading bytes_follow
       (First (RowOf (ReplyText protocol inner) count)) i
       list.items j
       → MatchesEachCompletion bytes_reading bytes_follow
       (First (AggregateBehind (Elements protocol level) mark (Some n))) i
       reply j
-  unfolding First Elements
+  unfolding First ElementsIn
   aggregate_stood inner count e m list reply is = rw e (stood_as (λ tokens rest
       (front, (k, a), split). (front, (list, is, (k ∙ m, a)), split)))
 
@@ -94,7 +98,7 @@ module _ {A : Type 0} {i : Input ℕ} (protocol : Protocol) (level : ℕ) (mark 
       (First (RowOf (ReplyText {A = A} protocol inner) count)) i k j
       → Failed bytes_reading bytes_follow
       (First (AggregateBehind (Elements {A = A} protocol level) mark (Some n))) i k j
-  unfolding First Elements
+  unfolding First ElementsIn
   aggregate_failed inner count e m = rw e (failed_as (λ tokens none o rest
       (front, (list, is, (k, a)), split). none list.items rest (front, (k ∙ sym m, a), split)))
 
@@ -102,7 +106,7 @@ module _ {A : Type 0} {i : Input ℕ} (protocol : Protocol) (level : ℕ) (mark 
   pub too_deep : {k : Kind} → level ≡ 0 → k ≡ backtrack
       → Failed bytes_reading bytes_follow
       (First (AggregateBehind (Elements {A = A} protocol level) mark (Some n))) i k i
-  unfolding First Elements
+  unfolding First ElementsIn
   too_deep e b = rw e (refused b (λ tokens o rest (front, (list, is, (many, never)), split). never))
 
 -- ---- sizes

@@ -18,12 +18,12 @@ use Rattle.format_resp.specs.Alike.{ArePairwise}
 
 -- where a value is made of nothing
 pub alone_stood : {T L R : Type 0} {reading : Reading T L} {following : Following T} {i : Input T}
-    (value : R) → MatchesEachCompletion reading following (First (λ r xs. (r ≡ value) × (xs ≡ [])))
-    i value i
+    (P : R → Type 0) (value : R) → P value
+    → MatchesEachCompletion reading following (First (λ r xs. P r × (xs ≡ []))) i value i
 unfolding First
-alone_stood {reading = reading} {i = i} value = record {
+alone_stood {reading = reading} {i = i} P value is = record {
   ends = is_end_of_refl reading i;
-  stands = λ more c. ([], (refl, refl), refl);
+  stands = λ more c. ([], (is, refl), refl);
 }
 
 -- ---- lists

@@ -1,16 +1,17 @@
 -- Uniqueness of the first line of a reply, and its relation to lines.
 use Rattle.std.specs.Prelude.{◌≡◌, ◌≤◌, ◌^◌, ℕ, List, [], ◌∷◌, ◌++◌, length, take, drop}
-use Rattle.std.specs.Prelude.{Option, None, Some}
+use Rattle.std.specs.Prelude.{None, Some}
 use Rattle.std.specs.List.{AllByRecursion}
 use Rattle.std.proofs.Common.{refl, sym, inl, ap, arith, subst, ◌∙◌, append_assoc}
-use Rattle.streams.specs.Equal.{same_first, same_others}
+use Rattle.streams.specs.Equal.{none_is_some, same_first, same_others, same_some}
 use Rattle.winnow_grammar.specs.InTurn.{First, Led, Splits}
 use Rattle.grammars.specs.Texts.{Text}
 use Rattle.format_resp.proofs.LineEnds.{IsPlain, ended_splits, open_endless, return_ends, until_end}
+use Rattle.format_resp.proofs.Encodings.{led_determined}
 use Rattle.format_resp.proofs.FirstBytes.{mark_splits, one_mark}
 use Rattle.format_resp.proofs.LineTexts.{line_plain, one_size, size_plain}
-use Rattle.format_resp.specs.Heads.{HasNumber, HeadText, IsAggregateHead, IsDataHead, IsLinePrefix}
-use Rattle.format_resp.specs.Heads.{HasNumberLine, IsNoLine, IsReason, IsRejectedLine, IsWhy, Says}
+use Rattle.format_resp.specs.Heads.{HasNumber, HasNumberLine, HeadText, IsLinePrefix, IsNoLine}
+use Rattle.format_resp.specs.Heads.{IsReason, IsRejectedLine, IsSmall, IsWhy, Says, head_after}
 use Rattle.format_resp.specs.Lines.{EndsLine, IsOpen}
 use Rattle.format_resp.specs.Numbers.{AreDigits, SizeLine}
 use Rattle.format_resp.specs.Resp.{Ended, InLine, IsIn, MarkText, byte_of, line_end, many}
@@ -31,46 +32,26 @@ use Rattle.format_resp.specs.declared.reply.Protocol.{Protocol}
 
 splits_led : {X O : Type 0} (first : Text ℕ X) (behind : X → Text ℕ O) → Splits first
     → ((x : X) → Splits (behind x)) → Splits (Led first behind)
-unfolding First Led
-splits_led {X} first behind a b = record {
-  one = λ o p tokens rest other (front, (x, xs, ys, t, u, d), e) (back, (y, zs, ws, v, w, f), h).
-      let (same, left) = a.one x y tokens (ys ++ rest) (ws ++ other)
-      (xs, t, e ∙ ap (λ l. l ++ rest) d ∙ append_assoc xs ys rest)
-      (zs, v, h ∙ ap (λ l. l ++ other) f ∙ append_assoc zs ws other) in
-      let P : X → Type 0 = λ z. behind z p ws in
-      (b x).one o p (ys ++ rest) rest other (ys, u, refl) (ws, subst P (sym same) w, left);
+splits_led first behind a b = record {
+  one = led_determined first behind (λ o p. o ≡ p) a (λ x. (b x).one);
 }
 
 says_all : (mark : Mark) (head : Head) (line : List ℕ) → Says mark head line
     → AllByRecursion InLine line
 says_all (Line mark) head line (is, (reply, a)) = (line_plain mark).plain reply line a
-says_all (Data mark) head line (size, a, is) = size_plain.plain size line a
-says_all (Aggregate mark) head line (size, a, is) = size_plain.plain size line a
+says_all mark head line says =
+    let (size, a, is, small) = says in size_plain.plain size line a
 
 says_plain : (mark : Mark) → IsPlain (Says mark)
 says_plain mark = record { plain = says_all mark }
 
-one_data : (mark : DataMark) (size : Option ℕ) (head other : Head) → IsDataHead mark size head
-    → IsDataHead mark size other → head ≡ other
-one_data mark (Some n) head other is are = is ∙ sym are
-one_data Dollar None head other is are = is ∙ sym are
-one_data mark None head other never are = absurd never
-
-one_aggregate : (mark : AggregateMark) (size : Option ℕ) (head other : Head)
-    → IsAggregateHead mark size head → IsAggregateHead mark size other → head ≡ other
-one_aggregate mark (Some n) head other (is, small) (are, less) = is ∙ sym are
-one_aggregate Star None head other is are = is ∙ sym are
-one_aggregate mark None head other never are = absurd never
-
 says_one : (mark : Mark) (head other : Head) (line : List ℕ) → Says mark head line
     → Says mark other line → head ≡ other
 says_one (Line mark) head other line (is, a) (are, b) = is ∙ sym are
-says_one (Data mark) head other line (m, a, is) (n, b, are) =
-    let P : Option ℕ → Type 0 = λ s. IsDataHead mark s other in
-    one_data mark m head other is (subst P (sym (one_size m n line a b)) are)
-says_one (Aggregate mark) head other line (m, a, is) (n, b, are) =
-    let P : Option ℕ → Type 0 = λ s. IsAggregateHead mark s other in
-    one_aggregate mark m head other is (subst P (sym (one_size m n line a b)) are)
+says_one mark head other line says also =
+    let (m, a, is, small) = says in
+    let (n, b, are, less) = also in
+    same_some (sym is ∙ ap (head_after mark) (one_size m n line a b) ∙ are)
 
 -- ---- lines that are rejected
 
@@ -89,36 +70,35 @@ null_number line e (all, some) =
 pub no_null_data : (mark : DataMark) (line : List ℕ) → line ≡ 45 ∷ 49 ∷ [] → (mark ≡ Dollar → ⊥)
     → IsRejectedLine (Data mark) line Malformed
 no_null_data mark line e other = (
-  λ head (size, a, is). none mark size head (one_size size None line a e) is other,
+  λ head (size, a, is, few). none_is_some (sym (none mark other)
+      ∙ ap (head_after (Data mark)) (sym (one_size size None line a e)) ∙ is),
   null_number line e,
 )
   where
-    none : (mark : DataMark) (size : Option ℕ) (head : Head) → size ≡ None
-        → IsDataHead mark size head → (mark ≡ Dollar → ⊥) → ⊥
-    none Dollar size head same is other = other refl
-    none mark size head same is other =
-        let P : Option ℕ → Type 0 = λ s. IsDataHead mark s head in subst P same is
+    none : (mark : DataMark) → (mark ≡ Dollar → ⊥) → head_after (Data mark) None ≡ None
+    none Dollar other = absurd (other refl)
+    none mark other = refl
 
 pub no_null_aggregate : (mark : AggregateMark) (line : List ℕ) → line ≡ 45 ∷ 49 ∷ []
     → (mark ≡ Star → ⊥) → IsRejectedLine (Aggregate mark) line Malformed
 no_null_aggregate mark line e other = (
-  λ head (size, a, is). none mark size head (one_size size None line a e) is other,
+  λ head (size, a, is, few). none_is_some (sym (none mark other)
+      ∙ ap (head_after (Aggregate mark)) (sym (one_size size None line a e)) ∙ is),
   null_number line e,
 )
   where
-    none : (mark : AggregateMark) (size : Option ℕ) (head : Head) → size ≡ None
-        → IsAggregateHead mark size head → (mark ≡ Star → ⊥) → ⊥
-    none Star size head same is other = other refl
-    none mark size head same is other =
-        let P : Option ℕ → Type 0 = λ s. IsAggregateHead mark s head in subst P same is
+    none : (mark : AggregateMark) → (mark ≡ Star → ⊥) → head_after (Aggregate mark) None ≡ None
+    none Star other = absurd (other refl)
+    none mark other = refl
 
 -- an aggregate of too many replies
 pub too_many : (mark : AggregateMark) (n : ℕ) (line : List ℕ) → SizeLine (Some n) line
     → 2 ^ 63 ≤ many mark n → IsRejectedLine (Aggregate mark) line TooLarge
 too_many mark n line (digits, small) large = (
-  λ head (size, a, is).
-      let P : Option ℕ → Type 0 = λ s. IsAggregateHead mark s head in
-      omega (arith, (subst P (one_size size (Some n) line a (digits, small)) is).1, large),
+  λ head (size, a, is, few).
+      let same = same_some (ap (head_after (Aggregate mark))
+      (sym (one_size size (Some n) line a (digits, small))) ∙ is) in
+      omega (arith, subst IsSmall (sym same) few, large),
   digits.0,
 )
 
@@ -196,31 +176,28 @@ module _ (protocol : Protocol) where
         → HasNumberLine protocol (byte ∷ (text ++ more))
     number_line more = subst (λ l. HasNumberLine protocol (l ++ more)) split
 
-    -- none where no reply begins
-    pub start_unmarked : ((mark : Mark) → IsIn protocol mark → byte ≡ byte_of mark → ⊥)
-        → IsNoLine protocol tokens Malformed
-    start_unmarked none = record {
+    -- none where no line follows a first byte
+    no_line : ((more line rest : List ℕ) (mark : Mark) → IsIn protocol mark → byte ≡ byte_of mark
+        → EndsLine (text ++ more) line rest → ⊥) → IsNoLine protocol tokens Malformed
+    no_line none = record {
       never = λ more head rest x.
           let (mark, line, within, is, ends, says) =
           start_line head byte (text ++ more) rest (rw split at x) in
-          none mark within is;
+          none more line rest mark within is ends;
       why = λ more x.
           let (mark, line, rest, within, is, ends, number) = number_line more x in
-          none mark within is;
+          none more line rest mark within is ends;
     }
+
+    -- none where no reply begins
+    pub start_unmarked : ((mark : Mark) → IsIn protocol mark → byte ≡ byte_of mark → ⊥)
+        → IsNoLine protocol tokens Malformed
+    start_unmarked none = no_line (λ more line rest mark within is ends. none mark within is)
 
     -- none where none will be
     pub start_never : ((more line rest : List ℕ) → EndsLine (text ++ more) line rest → ⊥)
         → IsNoLine protocol tokens Malformed
-    start_never none = record {
-      never = λ more head rest x.
-          let (mark, line, within, is, ends, says) =
-          start_line head byte (text ++ more) rest (rw split at x) in
-          none more line rest ends;
-      why = λ more x.
-          let (mark, line, rest, within, is, ends, number) = number_line more x in
-          none more line rest ends;
-    }
+    start_never none = no_line (λ more line rest mark within is ends. none more line rest ends)
 
     module _ (line left : List ℕ) (mark : Mark) (within : IsIn protocol mark)
         (is : byte ≡ byte_of mark) (ends : EndsLine text line left) where

@@ -7,12 +7,10 @@ use Rattle.std.proofs.Common.{refl, sym, ap, subst, inl, inr, ◌∙◌, arith, 
 use Rattle.std.proofs.Common.{length-append, length-drop}
 use Rattle.std.proofs.Math.Seq.{take-add, take-append_seam}
 use Rattle.std.proofs.lemmas.Bool.Decides.{nat_tests}
-use Rattle.std.proofs.lemmas.List.{get_or-drop, take_all}
+use Rattle.std.proofs.lemmas.List.{append-nil, get_or-drop, take-append-drop, take_all}
 use Rattle.memchr.specs.Find.{is_byte2}
-use Rattle.streams.specs.Equal.{same_first, same_others}
-use Rattle.format_resp.specs.Lines.{EndsLine, IsLessLine, IsOpen}
-use Rattle.format_resp.specs.declared.lines.Line.{Line}
-use Rattle.format_resp.specs.declared.lines.Line.TheVariants.{Never, Open, Whole}
+use Rattle.streams.specs.Equal.{same_first, same_others, true_is_false}
+use Rattle.format_resp.specs.Lines.{EndsLine, IsOpen}
 use Rattle.format_resp.specs.Resp.{InLine, line_end, Ended, LineText}
 use Rattle.std.specs.Borrow.{Bor}
 use Rattle.std.proofs.lemmas.List.Elements.{All-from_recursion, recursion_from_All}
@@ -30,7 +28,7 @@ all_append [] ys a b = b
 all_append (x ∷ xs) ys a b = (a.0, all_append xs ys a.1 b)
 
 -- bytes without a byte of a line ending
-pub none_plain : (ys : List ℕ) (k : ℕ)
+none_plain : (ys : List ℕ) (k : ℕ)
     → ((j : ℕ) → j < k → is_byte2 13 10 (slice_index ys j) ≡ true → ⊥)
     → AllByRecursion InLine (take k ys)
 none_plain [] zero f = tt
@@ -48,7 +46,7 @@ none_plain (y ∷ ys) (suc k) f = (
     P z = is_byte2 13 10 z ≡ true
 
 -- and the bytes before them have none either
-pub plain_before : (xs unseen : List ℕ) (n k : ℕ) → unseen ≡ drop n xs
+plain_before : (xs unseen : List ℕ) (n k : ℕ) → unseen ≡ drop n xs
     → AllByRecursion InLine (take n xs)
     → ((j : ℕ) → j < k → is_byte2 13 10 (slice_index unseen j) ≡ true → ⊥)
     → AllByRecursion InLine (take (n + k) xs)
@@ -91,9 +89,6 @@ one_line tokens front back xs ys rest other a b e d f h =
     until_end 13 13 xs ys (10 ∷ rest) (10 ∷ other) a b return_ends return_ends split in
     (same, same_others left)
 
-feed_ends : (c : ℕ) → c ≡ 10 → InLine c → ⊥
-feed_ends c e a = a.1 e
-
 -- a carriage return without a line feed does not end a line
 pub open_none : (xs line rest : List ℕ) → AllByRecursion InLine xs
     → EndsLine (xs ++ (13 ∷ [])) line rest
@@ -110,51 +105,44 @@ open_endless tokens (xs, all, inl e) line rest (a, f) =
 open_endless tokens (xs, all, inr e) line rest (a, f) =
     open_none xs line rest all (a, sym e ∙ f)
 
--- a line feed without a carriage return never ends a line
-pub feed_never : (c : ℕ) (xs behind more line rest : List ℕ) → c ≡ 10 → AllByRecursion InLine xs
-    → EndsLine ((xs ++ (c ∷ behind)) ++ more) line rest → ⊥
-feed_never c xs behind more line rest is a (b, e) =
-    let (same, first, left) = until_end c 13 xs line (behind ++ more) (10 ∷ rest) a b
-    (feed_ends c is) return_ends (sym (append_assoc xs (c ∷ behind) more) ∙ e) in
-    absurd (omega (arith, first, is))
+-- ---- the bytes after a line, where a line ending is or not
 
--- nor a return and another byte
-pub return_never : (c : ℕ) (xs behind more line rest : List ℕ) → (c ≡ 10 → ⊥)
-    → AllByRecursion InLine xs
-    → EndsLine ((xs ++ (13 ∷ c ∷ behind)) ++ more) line rest → ⊥
-return_never c xs behind more line rest is a (b, e) =
-    let (same, first, left) = until_end 13 13 xs line (c ∷ behind ++ more) (10 ∷ rest) a b
-    return_ends return_ends (sym (append_assoc xs (13 ∷ c ∷ behind) more) ∙ e) in
-    is (let f : c ≡ 10 = cc in f)
+module _ (xs line behind : List ℕ) (split : xs ≡ line ++ behind)
+    (all : AllByRecursion InLine line) where
+  pub ended_whole : (left : List ℕ) → behind ≡ line_end ++ left → EndsLine xs line left
+  ended_whole left e = (all, split ∙ ap (λ l. line ++ l) e)
 
--- ---- the bytes after a line
-
-module _ (line behind left : List ℕ) (first : ℕ) (all : AllByRecursion InLine line)
-    (split : behind ≡ first ∷ left) where
-  pub ended_feed : (first ≡ 13 → ⊥) → is_byte2 13 10 (slice_index behind 0) ≡ true
-      → (more other rest : List ℕ) → EndsLine ((line ++ behind) ++ more) other rest → ⊥
-  ended_feed not test more other rest x =
-      feed_never first line left more other rest (feed first not (rw split at test)) all
-      (rw split at x)
+  pub ended_open : (x : ℕ) (more : List ℕ) → line_end ≡ behind ++ (x ∷ more)
+      → (length line ≤ length xs) × AllByRecursion InLine (take (length line) xs) × IsOpen xs
+  ended_open x more e = rw split (
+    omega (arith, length-append line behind),
+    subst (AllByRecursion InLine) (sym (take-append_seam line behind)) all,
+    (line, all, part behind e),
+  )
     where
-      feed : (b : ℕ) → (b ≡ 13 → ⊥) → is_byte2 13 10 b ≡ true → b ≡ 10
-      feed b not is = grind (arith, nat_tests)
+      part : (ys : List ℕ) → line_end ≡ ys ++ (x ∷ more)
+          → (line ++ ys ≡ line) ⊎ (line ++ ys ≡ line ++ (13 ∷ []))
+      part [] e = inl (append-nil line)
+      part (b ∷ []) e = let f : b ≡ 13 = cc in inr (ap (λ c. line ++ c ∷ []) f)
+      part (b ∷ c ∷ []) e = absurd cc
+      part (b ∷ c ∷ d ∷ ys) e = absurd cc
 
-  pub ended_open : first ≡ 13 → left ≡ [] → (length line ≤ length (line ++ behind))
-      × AllByRecursion InLine (take (length line) (line ++ behind)) × IsOpen (line ++ behind)
-  ended_open is none =
-      let e : behind ≡ 13 ∷ [] = cc in (
-        omega (arith, length-append line behind),
-        subst (AllByRecursion InLine) (sym (take-append_seam line behind)) all,
-        (line, all, inr (ap (λ l. line ++ l) e)),
-      )
+  -- the first byte after the line is of a line ending, which never is there
+  pub ended_never : is_byte2 13 10 (slice_index behind 0) ≡ true
+      → ((more left : List ℕ) → behind ++ more ≡ line_end ++ left → ⊥)
+      → (more other rest : List ℕ) → EndsLine (xs ++ more) other rest → ⊥
+  ended_never test none more other rest (each, e) = none more rest (starts behind test
+      (sym (append_assoc line behind more) ∙ ap (λ l. l ++ more) (sym split) ∙ e))
+    where
+      stops : (c : ℕ) → is_byte2 13 10 c ≡ true → InLine c → ⊥
+      stops c is (no_return, no_feed) = grind (arith, nat_tests)
 
-  pub ended_other : (second : ℕ) (others : List ℕ) → first ≡ 13 → left ≡ second ∷ others
-      → (second ≡ 10 → ⊥) → (more other rest : List ℕ)
-      → EndsLine ((line ++ behind) ++ more) other rest → ⊥
-  ended_other second others is e not more other rest x =
-      let d : behind ≡ 13 ∷ second ∷ others = cc in
-      return_never second line others more other rest not all (rw d at x)
+      starts : (ys : List ℕ) → is_byte2 13 10 (slice_index ys 0) ≡ true
+          → line ++ (ys ++ more) ≡ other ++ (13 ∷ 10 ∷ rest) → ys ++ more ≡ line_end ++ rest
+      starts [] test f = true_is_false (sym test)
+      starts (c ∷ ys) test f =
+          let (same, first, left) = until_end c 13 line other (ys ++ more) (10 ∷ rest) all each
+          (stops c test) return_ends f in cc
 
 -- ---- bytes that were searched before
 
@@ -191,7 +179,7 @@ open_rest xs unseen n e all none =
     (plain_before xs unseen n (length unseen) d all (λ j less. none j (omega arith) less))
 
 -- the first byte that is in no line
-pub found_first : (xs unseen : List ℕ) (n k : ℕ) → unseen ≡ take (length xs - n) (drop n xs)
+found_first : (xs unseen : List ℕ) (n k : ℕ) → unseen ≡ take (length xs - n) (drop n xs)
     → is_byte2 13 10 (slice_index unseen k) ≡ true
     → is_byte2 13 10 (slice_index (drop (n + k) xs) 0) ≡ true
 found_first xs unseen n k e test =
@@ -202,10 +190,21 @@ found_first xs unseen n k e test =
     ∙ sym (get_or-drop (n + k) xs 0 0) in
     let P : ℕ → Type 0 = λ b. is_byte2 13 10 b ≡ true in subst P same test
 
-pub less_line : (line : Line) (n m : ℕ) → n ≤ m → IsLessLine n line → IsLessLine m line
-less_line (Whole line rest) n m le less = omega (arith, le, less)
-less_line (Open k) n m le less = tt
-less_line Never n m le less = tt
+-- a line that is found, and what is behind it
+pub found_line : (xs unseen line behind : List ℕ) (n k : ℕ)
+    → unseen ≡ take (length xs - n) (drop n xs) → AllByRecursion InLine (take n xs)
+    → ((j : ℕ) → j < k → is_byte2 13 10 (slice_index unseen j) ≡ true → ⊥)
+    → is_byte2 13 10 (slice_index unseen k) ≡ true → line ≡ take (n + k) xs
+    → behind ≡ drop (n + k) xs → (xs ≡ line ++ behind) × AllByRecursion InLine line
+    × (is_byte2 13 10 (slice_index behind 0) ≡ true)
+found_line xs unseen line behind n k is all none test front back =
+    let T : List ℕ → Type 0 = λ l. is_byte2 13 10 (slice_index l 0) ≡ true in (
+      sym (ap (λ l. l ++ behind) front ∙ ap (λ l. take (n + k) xs ++ l) back
+          ∙ take-append-drop (n + k) xs),
+      subst (AllByRecursion InLine) (sym front)
+          (plain_before xs unseen n k (unseen_rest xs unseen n is) all none),
+      subst T (sym back) (found_first xs unseen n k is test),
+    )
 
 -- Texts without bytes of a line ending.
 pub record IsPlain {O : Type 0} (text : Text ℕ O) : Type 0 where

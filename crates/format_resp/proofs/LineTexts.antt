@@ -13,14 +13,14 @@ use Rattle.winnow_numbers.specs.Decimal.Inversion.{decimal_digits}
 use Rattle.winnow_grammar.specs.InTurn.{Splits}
 use Rattle.winnow_numbers.specs.Numeral.Grammar.Signed.{fits_short}
 use Rattle.format_resp.proofs.LineEnds.{IsPlain, ended_splits, all_append}
-use Rattle.format_resp.specs.Numbers.{AreDigits, DigitsText, SignedText, SizeLine, is_negative}
-use Rattle.format_resp.specs.Numbers.{signed, unsigned, IsBigNumber, IsDecimal, IsDouble}
-use Rattle.format_resp.specs.Numbers.{IsExponent, IsTail, inf_word, nan_word}
-use Rattle.format_resp.specs.Resp.{Ended, InLine, SizeText, line_end, BooleanText, LineSays}
-use Rattle.format_resp.specs.Resp.{Replies, Shown}
+use Rattle.format_resp.specs.Numbers.{AreDigits, DigitsText, IsBigNumber, IsDecimal, IsDouble}
+use Rattle.format_resp.specs.Numbers.{IsExponent, IsTail, ShortInteger, ShortSize, SignedText}
+use Rattle.format_resp.specs.Numbers.{SizeLine, inf_word, is_negative, nan_word, signed, unsigned}
+use Rattle.format_resp.specs.Resp.{Any, BooleanText, Ended, InLine, LineSays, Replies, Shown}
+use Rattle.format_resp.specs.Resp.{SizeText}
 use Rattle.format_resp.specs.declared.marks.LineMark.{LineMark}
-use Rattle.format_resp.specs.declared.marks.LineMark.TheVariants.{Colon, Comma, Hash, Minus}
-use Rattle.format_resp.specs.declared.marks.LineMark.TheVariants.{Parenthesis, Plus, Underscore}
+use Rattle.format_resp.specs.declared.marks.LineMark.TheVariants.{Colon, Comma, Hash}
+use Rattle.format_resp.specs.declared.marks.LineMark.TheVariants.{Parenthesis, Underscore}
 
 -- no byte is of a line ending
 abbrev pub Plainly : List ℕ → Type 0
@@ -102,7 +102,7 @@ digits_unsigned (x ∷ xs) a =
     let plus = ne_eqb x 43 (λ e. omega (arith, e, a.0.0.0)) in
     let minus = ne_eqb x 45 (λ e. omega (arith, e, a.0.0.0)) in (minus, rw (plus, minus) refl)
 
-pub signed_text : (n : ℤ) → FitsSigned w64 n → SignedText n (signed_decimal n)
+signed_text : (n : ℤ) → FitsSigned w64 n → SignedText n (signed_decimal n)
 unfolding SignedText
 signed_text (pos m) fits =
     let is = digits_text m (fits_short w64 (pos m) (omega arith) fits) in
@@ -114,17 +114,20 @@ signed_text (negsuc m) fits =
 fits_size : (n : ℕ) → n < 2 ^ 63 → FitsSigned w64 (pos n)
 fits_size n small = record { sfits = omega (arith, small) }
 
-pub size_text : (n : ℕ) → n < 2 ^ 63 → SizeText (Some n) (decimal n ++ line_end)
-unfolding SizeText Ended
-size_text n small = (
-  decimal n,
-  (digits_text n (fits_short w64 (pos n) (omega arith) (fits_size n small)), small),
-  refl,
+pub integer_read : (n : ℤ) (xs : List ℕ) → ShortInteger n xs → SignedText n xs
+integer_read n xs (fits, e) = subst (SignedText n) (sym e) (signed_text n fits)
+
+short_read : (size : Option ℕ) (line : List ℕ) → ShortSize size line → SizeLine size line
+short_read None line e = e
+short_read (Some n) line (small, e) = (
+  subst (DigitsText n) (sym e)
+      (digits_text n (fits_short w64 (pos n) (omega arith) (fits_size n small))),
+  small,
 )
 
-pub null_text : SizeText None (45 ∷ 49 ∷ line_end)
+pub size_read : (size : Option ℕ) (xs : List ℕ) → Ended ShortSize size xs → SizeText size xs
 unfolding SizeText Ended
-null_text = (45 ∷ 49 ∷ [], refl, refl)
+size_read size xs (line, a, e) = (line, short_read size line a, e)
 
 pub size_small : (n : ℕ) (xs : List ℕ) → SizeText (Some n) xs → n < 2 ^ 63
 unfolding SizeText Ended
@@ -171,16 +174,15 @@ boolean_plain true xs e = plain_as xs (116 ∷ []) e (above 116 (omega arith), t
 boolean_plain false xs e = plain_as xs (102 ∷ []) e (above 102 (omega arith), tt)
 
 module _ {A : Type 0} where
-  says_plain : (mark : LineMark) (reply : Replies A) (xs : List ℕ) → LineSays mark reply xs
+  says_plain : (mark : LineMark) (reply : Replies A) (xs : List ℕ) → LineSays Any mark reply xs
       → Plainly xs
   unfolding Shown
-  says_plain Plus reply xs (text, is, (a, shown)) = a
-  says_plain Minus reply xs (text, is, (a, shown)) = a
   says_plain Colon reply xs (n, is, a) = signed_plain n xs a
   says_plain Underscore reply xs (is, e) = plain_as xs [] e tt
   says_plain Hash reply xs (b, is, a) = boolean_plain b xs a
   says_plain Comma reply xs (text, is, (a, shown)) = double_plain xs a
   says_plain Parenthesis reply xs (text, is, (a, shown)) = number_plain xs a
+  says_plain mark reply xs says = let (text, is, (a, shown)) = says in a
 
-  pub line_plain : (mark : LineMark) → IsPlain (LineSays {A = A} mark)
+  pub line_plain : (mark : LineMark) → IsPlain (LineSays {A = A} Any mark)
   line_plain mark = record { plain = says_plain mark }

@@ -1,9 +1,10 @@
--- Lemmas about constructed replies, and the first bytes of replies.
+-- The kinds and the shapes of constructed replies.
 use Rattle.std.specs.Prelude.{◌≡◌, Bool, ℕ, ℤ, List}
 use Rattle.std.specs.Borrow.{Bor}
 use Rattle.std.specs.declared.vec.Vec.{Vec}
 use Rattle.std.proofs.Common.{ap, sym, ◌∙◌}
-use Rattle.format_resp.specs.Resp.{Opened, Replies, DataSays, LineSays, gathered}
+use Rattle.format_resp.specs.Resp.{Bytes, Content, Form, Items, LineSays, Opened, Replies}
+use Rattle.format_resp.specs.Resp.{first_mark, gathered, shape, shape_of}
 use Rattle.format_resp.specs.declared.reply.Reply as made
 use Rattle.format_resp.specs.declared.reply.Reply.{out-Reply, roll-Reply}
 use Rattle.format_resp.specs.declared.reply.Reply.TheOpen.{Reply-F}
@@ -15,15 +16,14 @@ use Rattle.format_resp.specs.declared.reply.Reply.TheViews.{rolls-Error, rolls-I
 use Rattle.format_resp.specs.declared.reply.Reply.TheViews.{rolls-Null, rolls-NullArray}
 use Rattle.format_resp.specs.declared.reply.Reply.TheViews.{rolls-NullBulk, rolls-Push, rolls-Set}
 use Rattle.format_resp.specs.declared.reply.Reply.TheViews.{rolls-Simple, rolls-Verbatim}
-use Rattle.format_resp.specs.Written.{first_mark, mark_in}
 use Rattle.format_resp.specs.declared.marks.AggregateMark.{AggregateMark}
 use Rattle.format_resp.specs.declared.marks.AggregateMark.TheVariants.{Bar, Greater, Percent, Star}
 use Rattle.format_resp.specs.declared.marks.AggregateMark.TheVariants.{Tilde}
 use Rattle.format_resp.specs.declared.marks.DataMark.{DataMark}
 use Rattle.format_resp.specs.declared.marks.DataMark.TheVariants.{Dollar, Equals, Exclamation}
 use Rattle.format_resp.specs.declared.marks.LineMark.{LineMark}
-use Rattle.format_resp.specs.declared.marks.LineMark.TheVariants.{Colon, Comma, Hash, Minus}
-use Rattle.format_resp.specs.declared.marks.LineMark.TheVariants.{Parenthesis, Plus, Underscore}
+use Rattle.format_resp.specs.declared.marks.LineMark.TheVariants.{Colon, Hash, Underscore}
+use Rattle.format_resp.specs.declared.marks.Mark.{Mark}
 use Rattle.format_resp.specs.declared.marks.Mark.TheVariants.{Aggregate, Data, Line}
 
 module _ {A : Type 0} where
@@ -86,34 +86,33 @@ module _ {A : Type 0} where
   attributed_is l = opens (Reply-F.Attributed l) (rolls-Attributed l)
 
 module _ {A : Type 0} where
-  pub marked_line : (mark : LineMark) (reply : Replies A) (line : List ℕ)
-      → LineSays mark reply line → first_mark reply ≡ Line mark
-  marked_line Plus reply line (x, is, a) = ap first_mark is ∙ ap mark_in (simple_is x)
-  marked_line Minus reply line (x, is, a) = ap first_mark is ∙ ap mark_in (error_is x)
-  marked_line Colon reply line (n, is, a) = ap first_mark is ∙ ap mark_in (integer_is n)
-  marked_line Underscore reply line (is, a) = ap first_mark is ∙ ap mark_in null_is
-  marked_line Hash reply line (b, is, a) = ap first_mark is ∙ ap mark_in (boolean_is b)
-  marked_line Comma reply line (x, is, a) = ap first_mark is ∙ ap mark_in (double_is x)
-  marked_line Parenthesis reply line (x, is, a) = ap first_mark is ∙ ap mark_in (big_number_is x)
+  -- the shape of a reply of this form
+  pub shaped : {kind : Opened A} {reply form : Replies A} → reply ≡ form → kind_of form ≡ kind
+      → shape_of reply ≡ shape kind
+  shaped is same = ap shape (ap kind_of is ∙ same)
 
-  pub marked_data : (mark : DataMark) (reply : Replies A) (bytes : List ℕ)
-      → DataSays mark reply bytes → first_mark reply ≡ Data mark
-  marked_data Dollar reply bytes (x, is, a) = ap first_mark is ∙ ap mark_in (bulk_is x)
-  marked_data Exclamation reply bytes (x, is, a) = ap first_mark is ∙ ap mark_in (bulk_error_is x)
-  marked_data Equals reply bytes (x, is, a) = ap first_mark is ∙ ap mark_in (verbatim_is x)
+  pub gathered_is : (mark : AggregateMark) (list : Vec (Replies A) A) {reply : Replies A}
+      → reply ≡ gathered mark list → shape_of reply ≡ (Aggregate mark, Items list)
+  gathered_is Star list is = shaped is (array_is list)
+  gathered_is Percent list is = shaped is (map_is list)
+  gathered_is Tilde list is = shaped is (set_is list)
+  gathered_is Greater list is = shaped is (push_is list)
+  gathered_is Bar list is = shaped is (attributed_is list)
 
-  pub marked_null_bulk : (reply : Replies A) → reply ≡ made.NullBulk
-      → first_mark reply ≡ Data Dollar
-  marked_null_bulk reply is = ap first_mark is ∙ ap mark_in null_bulk_is
+  pub string_is : (mark : DataMark) (bytes : Bor (List ℕ))
+      → (reply : Replies A) × (shape_of reply ≡ (Data mark, Bytes bytes))
+  string_is Dollar bytes = (made.Bulk bytes, ap shape (bulk_is bytes))
+  string_is Exclamation bytes = (made.BulkError bytes, ap shape (bulk_error_is bytes))
+  string_is Equals bytes = (made.Verbatim bytes, ap shape (verbatim_is bytes))
 
-  pub marked_null_array : (reply : Replies A) → reply ≡ made.NullArray
-      → first_mark reply ≡ Aggregate Star
-  marked_null_array reply is = ap first_mark is ∙ ap mark_in null_array_is
+  -- what encodings begin with
+  pub mark_is : {mark : Mark} {content : Content A} (reply : Replies A)
+      → shape_of reply ≡ (mark, content) → first_mark reply ≡ mark
+  mark_is reply is = ap (λ (s : Mark × Content A). s.0) is
 
-  pub marked_aggregate : (mark : AggregateMark) (reply : Replies A) (list : Vec (Replies A) A)
-      → reply ≡ gathered mark list → first_mark reply ≡ Aggregate mark
-  marked_aggregate Star reply list is = ap first_mark is ∙ ap mark_in (array_is list)
-  marked_aggregate Percent reply list is = ap first_mark is ∙ ap mark_in (map_is list)
-  marked_aggregate Tilde reply list is = ap first_mark is ∙ ap mark_in (set_is list)
-  marked_aggregate Greater reply list is = ap first_mark is ∙ ap mark_in (push_is list)
-  marked_aggregate Bar reply list is = ap first_mark is ∙ ap mark_in (attributed_is list)
+  pub line_mark : (form : Form) (mark : LineMark) (reply : Replies A) (line : List ℕ)
+      → LineSays form mark reply line → first_mark reply ≡ Line mark
+  line_mark form Colon reply line (n, is, a) = mark_is reply is
+  line_mark form Underscore reply line (is, a) = mark_is reply is
+  line_mark form Hash reply line (b, is, a) = mark_is reply is
+  line_mark form mark reply line says = let (text, is, a) = says in mark_is reply is

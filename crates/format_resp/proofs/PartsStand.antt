@@ -2,32 +2,24 @@
 use Rattle.std.specs.Prelude.{◌≡◌, ℕ, List, [], ◌∷◌, ◌++◌, Option, None, Some, zero, suc}
 use Rattle.std.specs.Borrow.{Bor}
 use Rattle.std.specs.List.{AllByRecursion}
-use Rattle.std.specs.declared.vec.Vec.{Vec}
 use Rattle.std.proofs.Common.{◌∙◌, ap, append_assoc, arith, refl, subst, sym}
 use Rattle.winnow_grammar.specs.InTurn.{First, Led}
 use Rattle.grammars.specs.Texts.{CountedText}
 use Rattle.format_resp.proofs.LineTexts.{size_plain}
-use Rattle.format_resp.proofs.Made.{array_is, attributed_is, big_number_is, boolean_is}
-use Rattle.format_resp.proofs.Made.{bulk_error_is, bulk_is, double_is, error_is, integer_is}
-use Rattle.format_resp.proofs.Made.{kind_of, map_is, null_array_is, null_bulk_is, null_is, push_is}
-use Rattle.format_resp.proofs.Made.{set_is, simple_is, verbatim_is}
-use Rattle.format_resp.specs.Parts.{HasElements, IsBehindFeed, IsLine, IsReplyAt, NoFeed, StandsBy}
-use Rattle.format_resp.specs.Resp.{AggregateBehind, Body, DataBehind, DataSays, DataText, Elements}
-use Rattle.format_resp.specs.Resp.{Ended, InLine, LineSays, MarkText, Opened, Replies, ReplyText}
-use Rattle.format_resp.specs.Resp.{Shown, SizeText, byte_of, gathered, line_end}
+use Rattle.format_resp.specs.Parts.{HasElements, IsBehindFeed, IsLine, NoFeed, StandsAs, StandsBy}
+use Rattle.format_resp.specs.Resp.{AggregateBehind, Any, Body, Content, DataBehind, DataText}
+use Rattle.format_resp.specs.Resp.{Elements, ElementsIn, Ended, InLine, LineSays, MarkText, Opened}
+use Rattle.format_resp.specs.Resp.{Replies, ReplyText, Shown, SizeText, byte_of, line_end, shape_of}
 use Rattle.format_resp.specs.declared.marks.AggregateMark.{AggregateMark}
-use Rattle.format_resp.specs.declared.marks.AggregateMark.TheVariants.{Bar, Greater, Percent, Star}
-use Rattle.format_resp.specs.declared.marks.AggregateMark.TheVariants.{Tilde}
+use Rattle.format_resp.specs.declared.marks.AggregateMark.TheVariants.{Star}
 use Rattle.format_resp.specs.declared.marks.DataMark.{DataMark}
-use Rattle.format_resp.specs.declared.marks.DataMark.TheVariants.{Dollar, Equals, Exclamation}
+use Rattle.format_resp.specs.declared.marks.DataMark.TheVariants.{Dollar}
 use Rattle.format_resp.specs.declared.marks.LineMark.{LineMark}
-use Rattle.format_resp.specs.declared.marks.LineMark.TheVariants.{Colon, Comma, Hash, Minus}
-use Rattle.format_resp.specs.declared.marks.LineMark.TheVariants.{Parenthesis, Plus, Underscore}
+use Rattle.format_resp.specs.declared.marks.LineMark.TheVariants.{Colon, Hash, Plus, Underscore}
 use Rattle.format_resp.specs.declared.marks.Mark.{Mark}
 use Rattle.format_resp.specs.declared.marks.Mark.TheVariants.{Aggregate, Data, Line}
 use Rattle.format_resp.specs.declared.reply.Protocol.{Protocol}
 use Rattle.format_resp.specs.declared.reply.Reply.{out-Reply}
-use Rattle.format_resp.specs.declared.reply.Reply.TheOpen.{Reply-F}
 
 -- ---- lines
 
@@ -79,81 +71,48 @@ module _ {A : Type 0} (protocol : Protocol) (level : ℕ) (input rest : List ℕ
   elements_row : (level : ℕ) (all : List (Replies A)) (bytes : List ℕ)
       → Elements protocol level all bytes → IsBehindFeed input (bytes ++ rest)
       → HasElements protocol level input all rest
-  unfolding Elements
+  unfolding ElementsIn
   elements_row zero all bytes never behind = absurd never
   elements_row (suc inner) all bytes row behind = (inner, refl, bytes, row, behind)
 
-  -- the contents of a reply of this form
-  stands_made : (kind : Opened A) {reply form : Replies A} → reply ≡ form
-      → kind_of form ≡ kind → StandsBy protocol level input kind rest
-      → IsReplyAt protocol level input reply rest
-  stands_made kind same is =
-      subst (λ k. StandsBy protocol level input k rest) (sym (ap kind_of same ∙ is))
+  -- the positions in a reply of this shape
+  stands_made : {s : Mark × Content A} (reply : Replies A) → shape_of reply ≡ s
+      → StandsAs protocol level input s rest
+      → StandsAs protocol level input (shape_of reply) rest
+  stands_made reply same = subst (λ s. StandsAs protocol level input s rest) (sym same)
 
-  line_stands : (mark : LineMark) (reply : Replies A) (line : List ℕ) → LineSays mark reply line
+  line_stands : (mark : LineMark) (reply : Replies A) (line : List ℕ)
+      → LineSays Any mark reply line
       → ((text : Bor (List ℕ)) → text.now ≡ line → IsLine input text.now rest)
-      → IsReplyAt protocol level input reply rest
+      → StandsAs protocol level input (shape_of reply) rest
   unfolding Shown
-  line_stands Plus reply line (text, same, (all, shows)) at =
-      stands_made (Reply-F.Simple text) same (simple_is text) (at text shows)
-  line_stands Minus reply line (text, same, (all, shows)) at =
-      stands_made (Reply-F.Error text) same (error_is text) (at text shows)
-  line_stands Colon reply line (n, same, is) at =
-      stands_made (Reply-F.Integer n) same (integer_is n) tt
-  line_stands Underscore reply line (same, is) at = stands_made Reply-F.Null same null_is tt
-  line_stands Hash reply line (b, same, is) at =
-      stands_made (Reply-F.Boolean b) same (boolean_is b) tt
-  line_stands Comma reply line (text, same, (all, shows)) at =
-      stands_made (Reply-F.Double text) same (double_is text) (at text shows)
-  line_stands Parenthesis reply line (text, same, (all, shows)) at =
-      stands_made (Reply-F.BigNumber text) same (big_number_is text) (at text shows)
-
-  string_stands : (mark : DataMark) (reply : Replies A) (bytes : List ℕ)
-      → DataSays mark reply bytes → ((text : Bor (List ℕ)) → text.now ≡ bytes
-      → IsBehindFeed input (text.now ++ (line_end ++ rest)))
-      → IsReplyAt protocol level input reply rest
-  unfolding Shown
-  string_stands Dollar reply bytes (text, same, (all, shows)) at =
-      stands_made (Reply-F.Bulk text) same (bulk_is text) (at text shows)
-  string_stands Exclamation reply bytes (text, same, (all, shows)) at =
-      stands_made (Reply-F.BulkError text) same (bulk_error_is text) (at text shows)
-  string_stands Equals reply bytes (text, same, (all, shows)) at =
-      stands_made (Reply-F.Verbatim text) same (verbatim_is text) (at text shows)
-
-  list_stands : (mark : AggregateMark) (reply : Replies A) (list : Vec (Replies A) A)
-      → reply ≡ gathered mark list → HasElements protocol level input list.items rest
-      → IsReplyAt protocol level input reply rest
-  list_stands Star reply list same =
-      stands_made (Reply-F.Array list) same (array_is list)
-  list_stands Percent reply list same = stands_made (Reply-F.Map list) same (map_is list)
-  list_stands Tilde reply list same = stands_made (Reply-F.Set list) same (set_is list)
-  list_stands Greater reply list same = stands_made (Reply-F.Push list) same (push_is list)
-  list_stands Bar reply list same =
-      stands_made (Reply-F.Attributed list) same (attributed_is list)
+  line_stands Colon reply line (n, same, is) at = stands_made reply same tt
+  line_stands Underscore reply line (same, is) at = stands_made reply same tt
+  line_stands Hash reply line (b, same, is) at = stands_made reply same tt
+  line_stands mark reply line says at =
+      let (text, same, (all, shows)) = says in stands_made reply same (at text shows)
 
   data_stands : (mark : DataMark) (reply : Replies A) (size : Option ℕ) (vs : List ℕ)
       → DataBehind mark size reply vs → IsBehindFeed input (vs ++ rest)
-      → IsReplyAt protocol level input reply rest
+      → StandsAs protocol level input (shape_of reply) rest
   unfolding DataText Ended CountedText
-  data_stands mark reply (Some k) vs (bytes, says, (ds, (many, shows), d)) behind =
-      string_stands mark reply bytes.now says
-      (λ text same. bulk_ended ds rest d (same ∙ shows) behind)
-  data_stands Dollar reply None vs (same, none) behind =
-      stands_made Reply-F.NullBulk same null_bulk_is tt
+  data_stands mark reply (Some k) vs (text, same, (fits, (ds, (many, shows), d))) behind =
+      stands_made reply same (bulk_ended ds rest d shows behind)
+  data_stands Dollar reply None vs (same, none) behind = stands_made reply same tt
   data_stands mark reply None vs never behind = absurd never
 
   aggregate_stands : (mark : AggregateMark) (reply : Replies A) (size : Option ℕ) (vs : List ℕ)
       → AggregateBehind (Elements protocol level) mark size reply vs
-      → IsBehindFeed input (vs ++ rest) → IsReplyAt protocol level input reply rest
+      → IsBehindFeed input (vs ++ rest) → StandsAs protocol level input (shape_of reply) rest
   aggregate_stands mark reply (Some k) vs (list, same, (many, are)) behind =
-      list_stands mark reply list same (elements_row level list.items vs are behind)
-  aggregate_stands Star reply None vs (same, none) behind =
-      stands_made Reply-F.NullArray same null_array_is tt
+      stands_made reply same (elements_row level list.items vs are behind)
+  aggregate_stands Star reply None vs (same, none) behind = stands_made reply same tt
   aggregate_stands mark reply None vs never behind = absurd never
 
   body_stands : (mark : Mark) (reply : Replies A) (others : List ℕ)
-      → Body (Elements protocol level) mark reply others
-      → input ≡ byte_of mark ∷ (others ++ rest) → IsReplyAt protocol level input reply rest
+      → Body Any (Elements protocol level) mark reply others
+      → input ≡ byte_of mark ∷ (others ++ rest)
+      → StandsAs protocol level input (shape_of reply) rest
   unfolding Led SizeText Ended
   body_stands (Line mark) reply others (xs, says, e) f =
       line_stands mark reply xs says (λ text shows. (
@@ -169,7 +128,7 @@ module _ {A : Type 0} (protocol : Protocol) (level : ℕ) (input rest : List ℕ
       (behind_size xs vs rest (no_feed (Aggregate mark)) (size_plain.plain size xs is) e d f)
 
   parts_stand : (reply : Replies A) → First (ReplyText protocol level) input reply rest
-      → IsReplyAt protocol level input reply rest
+      → StandsAs protocol level input (shape_of reply) rest
   unfolding First Led MarkText
   parts_stand reply (front, (mark, us, vs, (within, m), x, f), g) =
       body_stands mark reply vs x (lead vs rest m f g)

@@ -10,12 +10,11 @@ use Rattle.std.proofs.Common.{subst}
 use Rattle.std.proofs.lemmas.List.{append-nil, drop_at, take-append-le}
 use Rattle.winnow_grammar.specs.InTurn.{First, Led}
 use Rattle.format_resp.proofs.LineEnds.{unseen_rest}
-use Rattle.format_resp.proofs.Dues.{data_passed, head_there, line_passed, small_head}
-use Rattle.format_resp.specs.Extents.{AreDue, AreReplies, IsNoString, IsOf}
-use Rattle.format_resp.specs.Extents.{IsReply, MatchesAtStart, Passed, ReplyResult}
-use Rattle.format_resp.specs.Extents.{StringText, count_after, data_after}
+use Rattle.format_resp.proofs.Dues.{any_there, data_passed, line_passed, small_head}
+use Rattle.format_resp.specs.Extents.{IsDue, IsNoString, IsOf, IsReply, MatchesAtStart, Passed}
+use Rattle.format_resp.specs.Extents.{ReplyResult, Times, count_after, data_after}
 use Rattle.format_resp.specs.Heads.{HeadText, IsNoLine}
-use Rattle.format_resp.specs.Resp.{DataText, Ended, InLine, MarkText}
+use Rattle.format_resp.specs.Resp.{DataText, Ended, InLine, MarkText, StringText}
 use Rattle.format_resp.specs.declared.extent.Bulk.{Bulk}
 use Rattle.format_resp.specs.declared.extent.Extent.{Extent}
 use Rattle.format_resp.specs.declared.extent.Invalid.{Invalid}
@@ -46,34 +45,21 @@ module _ (protocol : Protocol) where
   -- if there is no first line, there are no replies
   no_line : (n : ℕ) (tokens : List ℕ)
       → ((head : Head) (rest : List ℕ) → First (HeadText protocol) tokens head rest → ⊥)
-      → (left : List ℕ) → MatchesAtStart (AreReplies protocol (suc n)) tokens left → ⊥
-  unfolding First
-  no_line n tokens none left (front, (xs, ys, reply, many, e), d) =
-      let (head, us, vs, text, behind, g) = head_there protocol xs reply in
-      none head ((vs ++ ys) ++ left) (
-        us,
-        text,
-        d ∙ ap (λ l. l ++ left) (e ∙ ap (λ l. l ++ ys) g ∙ append_assoc us vs ys)
-            ∙ append_assoc us (vs ++ ys) left,
-      )
-
-  -- if there is no string, nothing that follows it matches either
-  no_string : (bulk : Bulk) (n : ℕ) (tokens : List ℕ)
-      → ((bytes : Bor (List ℕ)) (rest : List ℕ) → First (StringText bulk) tokens bytes rest → ⊥)
-      → (left : List ℕ) → MatchesAtStart (AreDue protocol (Some bulk) n) tokens left → ⊥
-  unfolding First
-  no_string bulk n tokens none left (front, (bytes, xs, ys, t, many, e), d) =
-      none bytes (ys ++ left) (xs, t, d ∙ ap (λ l. l ++ left) e ∙ append_assoc xs ys left)
+      → (left : List ℕ) → IsDue protocol None (suc n) tokens left → ⊥
+  unfolding Times
+  no_line n tokens none left (mid, reply, more) =
+      let (head, behind, first, body) = any_there protocol tokens mid reply in
+      none head behind first
 
 module _ (protocol : Protocol) (e : Extent) (tokens rest : List ℕ)
     (p : Passed protocol e tokens rest) where
   -- if the expected continuation does not match, there is no reply
-  none_due : ((left : List ℕ) → MatchesAtStart (AreDue protocol e.bulk e.replies) rest left → ⊥)
+  none_due : ((left : List ℕ) → IsDue protocol e.bulk e.replies rest left → ⊥)
       → (left : List ℕ) → MatchesAtStart (IsReply protocol) tokens left → ⊥
   none_due none left x = none left ((p.leads rest left).0 (rw p.split at x))
 
   never_due : ((more left : List ℕ)
-      → MatchesAtStart (AreDue protocol e.bulk e.replies) (rest ++ more) left → ⊥)
+      → IsDue protocol e.bulk e.replies (rest ++ more) left → ⊥)
       → (more left : List ℕ) → MatchesAtStart (IsReply protocol) (tokens ++ more) left → ⊥
   never_due none more left x =
       none more left
@@ -84,8 +70,8 @@ module _ (protocol : Protocol) (e : Extent) (tokens rest : List ℕ)
   -- the part at the start of the rest is passed
   part_passed : (f : Extent) (part left : List ℕ) → rest ≡ part ++ left → 0 < length part
       → f.passed ≡ length tokens - length left → f.sought ≡ 0
-      → ((xs r : List ℕ) → MatchesAtStart (AreDue protocol e.bulk e.replies) (part ++ xs) r
-      ↔ MatchesAtStart (AreDue protocol f.bulk f.replies) xs r)
+      → ((xs r : List ℕ) → IsDue protocol e.bulk e.replies (part ++ xs) r
+      ↔ IsDue protocol f.bulk f.replies xs r)
       → f.replies ≤ e.replies + 2 ^ 63 → Passed protocol f tokens left
   part_passed f part left split some count sought step few = record {
     front = p.front ++ part;
@@ -162,13 +148,13 @@ module _ (protocol : Protocol) (e : Extent) (tokens rest : List ℕ)
       → ((bytes : Bor (List ℕ)) (left : List ℕ) → First (StringText bulk) rest bytes left → ⊥)
       → (left : List ℕ) → MatchesAtStart (IsReply protocol) tokens left → ⊥
   string_open bulk some never =
-      none_due (rw some (no_string protocol bulk e.replies rest never))
+      none_due (rw some (λ left (bytes, mid, first, more). never bytes mid first))
 
   pub string_never : (bulk : Bulk) (invalid : Invalid) → e.bulk ≡ Some bulk
       → invalid.offset ≡ e.passed → invalid.reason ≡ Malformed → IsNoString bulk rest
       → ReplyResult protocol tokens (Err invalid)
   string_never bulk invalid some offset is not = (
-    never_due (rw some (λ more. no_string protocol bulk e.replies (rest ++ more) (not more))),
+    never_due (rw some (λ more left (bytes, mid, first, others). not more bytes mid first)),
     record { extent = e; rest = rest; here = p; offset = offset; part = rw some (is, not) },
   )
 
@@ -191,22 +177,20 @@ module _ (protocol : Protocol) (e : Extent) (tokens rest : List ℕ)
 
   -- if nothing more is expected, the reply is the passed bytes
   pub all_passed : e.bulk ≡ None → e.replies ≡ 0 → ReplyResult protocol tokens (Ok (Some e.passed))
+  unfolding Times
   all_passed none zeros =
       let leads : (xs left : List ℕ)
-      → MatchesAtStart (IsReply protocol) (p.front ++ xs) left
-      ↔ MatchesAtStart (AreReplies protocol 0) xs left =
+      → MatchesAtStart (IsReply protocol) (p.front ++ xs) left ↔ IsDue protocol None 0 xs left =
       rw (none, zeros) at p.leads in
-      let (whole, reply, same) = (leads [] []).1 ([], refl, refl) in (
+      let (whole, reply, same) = (leads [] []).1 refl in (
         p.front,
         rest,
         p.split,
         p.count,
         subst (IsReply protocol) (sym (sym (append-nil p.front) ∙ same ∙ append-nil whole)) reply,
-        λ more left x.
-            let (xs, empty, d) = (leads (rest ++ more) left).0
+        λ more left x. sym ((leads (rest ++ more) left).0
             (subst (λ l. MatchesAtStart (IsReply protocol) l left)
-            (ap (λ l. l ++ more) p.split ∙ append_assoc p.front rest more) x) in
-            sym (d ∙ ap (λ l. l ++ left) empty),
+            (ap (λ l. l ++ more) p.split ∙ append_assoc p.front rest more) x)),
       )
 
   -- what is passed of bytes is passed of more
@@ -249,6 +233,7 @@ module _ (protocol : Protocol) (e : Extent) (tokens rest : List ℕ)
 pub none_passed : (protocol : Protocol) (e : Extent) (tokens : List ℕ) → e.passed ≡ 0
     → e.sought ≡ 0 → e.bulk ≡ None
     → e.replies ≡ 1 → IsOf protocol e tokens
+unfolding Times
 none_passed protocol e tokens passed sought none one = (
   tokens,
   record {
@@ -263,14 +248,10 @@ none_passed protocol e tokens passed sought none one = (
 )
   where
     one_due : (xs left : List ℕ)
-        → MatchesAtStart (IsReply protocol) xs left ↔ MatchesAtStart (AreReplies protocol 1) xs left
+        → MatchesAtStart (IsReply protocol) xs left ↔ IsDue protocol None 1 xs left
     one_due xs left = (
-      λ (front, reply, d). (front, (front, [], reply, refl, sym (append-nil front)), d),
-      λ (front, (us, vs, reply, empty, d), f). (
-        us,
-        reply,
-        f ∙ ap (λ l. l ++ left) (d ∙ ap (λ l. us ++ l) empty ∙ append-nil us),
-      ),
+      λ x. (left, x, refl),
+      λ (mid, x, e). subst (MatchesAtStart (IsReply protocol) xs) e x,
     )
 
 -- what is kept of bytes is kept of more

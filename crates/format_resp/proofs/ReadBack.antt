@@ -1,5 +1,5 @@
 -- Lemmas that reading a written reply returns an equivalent one.
-use Rattle.std.specs.Prelude.{◌≡◌, ◌<◌, ◌≤◌, ◌^◌, ⊤, ℕ, suc, List, [], ◌∷◌, ◌++◌, length, false}
+use Rattle.std.specs.Prelude.{◌≡◌, ◌<◌, ◌≤◌, ◌^◌, ℕ, suc, List, [], ◌∷◌, ◌++◌, length, false}
 use Rattle.std.specs.Prelude.{Err, Ok}
 use Rattle.std.specs.Borrow.{Bor}
 use Rattle.std.specs.Fmt.{decimal}
@@ -13,21 +13,19 @@ use Rattle.streams.specs.Kind.{Kind, memory}
 use Rattle.streams.specs.Partial.{with_flag}
 use Rattle.grammars.specs.Texts.{EachText, Text}
 use Rattle.format_resp.proofs.AlikeReplies.{replies_alike}
-use Rattle.format_resp.proofs.WrittenTexts.{list_for, written_text}
-use Rattle.format_resp.specs.Alike.{AreAlike, AreAlikeAs, ArePairwise, IsBulkAs, IsCommand}
-use Rattle.format_resp.specs.Alike.{IsCommandAs}
-use Rattle.format_resp.proofs.Made.{array_is, bulk_is, kind_of}
-use Rattle.format_resp.proofs.Encodings.{shown_is}
-use Rattle.format_resp.specs.Resp.{IsIn, Opened, Replies, ReplyText, line_end}
-use Rattle.format_resp.specs.Written.{Adds, WrittenElements, WrittenText, bulk_of, bulks_of}
-use Rattle.format_resp.specs.Written.{command_of, mark_in, marked}
+use Rattle.format_resp.proofs.Made.{array_is, bulk_is, mark_is}
+use Rattle.format_resp.proofs.WrittenTexts.{aggregate_text, data_text, list_for, written_text}
+use Rattle.format_resp.specs.Alike.{AreAlike, AreAlikeBy, ArePairwise, HoldAlike, IsCommand}
+use Rattle.format_resp.specs.Resp.{Bytes, Content, ElementsIn, IsIn, Items, Replies, ReplyText}
+use Rattle.format_resp.specs.Resp.{Shortest, WrittenText, first_mark, line_end, shape, shape_of}
+use Rattle.format_resp.specs.Written.{Adds, bulk_of, bulks_of, command_of, marked}
 use Rattle.format_resp.specs.declared.marks.AggregateMark.TheVariants.{Star}
 use Rattle.format_resp.specs.declared.marks.DataMark.TheVariants.{Dollar}
+use Rattle.format_resp.specs.declared.marks.Mark.{Mark}
+use Rattle.format_resp.specs.declared.marks.Mark.TheVariants.{Aggregate, Data}
 use Rattle.format_resp.specs.declared.reply.Protocol.{Protocol}
 use Rattle.format_resp.specs.declared.reply.Protocol.TheVariants.{Resp2}
 use Rattle.format_resp.specs.declared.reply.Reply as made
-use Rattle.format_resp.specs.declared.reply.Reply.{out-Reply}
-use Rattle.format_resp.specs.declared.reply.Reply.TheOpen.{Reply-F}
 
 module _ {A : Type 0} (protocol : Protocol) (level : ℕ) where
   -- two replies at the start of the same tokens are equivalent, and their rests are equal
@@ -113,19 +111,14 @@ bulks_row : (A : Type 0) (parts : List (Bor (List ℕ))) → length (bulks_of pa
 unfolding EachText
 bulks_row A [] small = refl
 bulks_row A (part ∷ parts) small =
-    let long = length-append (bulk_of part.now) (bulks_of parts) in (
+    let long = length-append (bulk_of part.now) (bulks_of parts) in
+    let bulk : Replies A = made.Bulk part in
+    let is : shape_of bulk ≡ (Data Dollar, Bytes part) = ap shape (bulk_is part) in (
       bulk_of part.now,
       bulks_of parts,
-      (
-        subst (λ m. IsIn Resp2 m) (sym (ap mark_in (bulk_is part))) tt,
-        inr (inl (
-          Dollar,
-          part.now,
-          (part, refl, shown_is (λ tokens. ⊤) part tt),
-          omega (arith, small, long, longer part.now),
-          refl,
-        )),
-      ),
+      data_text Resp2 (ElementsIn Shortest Resp2 0) bulk
+          (subst (IsIn Resp2) (sym (mark_is _ is)) tt) Dollar part is tt
+          (omega (arith, small, long, longer part.now)),
       bulks_row A parts (omega (arith, small, long)),
       refl,
     )
@@ -133,22 +126,15 @@ bulks_row A (part ∷ parts) small =
 command_text : {A : Type 0} (parts : List (Bor (List ℕ))) (list : Vec (Replies A) A)
     → list.items ≡ bulk_replies parts → length (bulks_of parts) < 2 ^ 63
     → ReplyText Resp2 1 (made.Array list) (command_of parts)
-unfolding WrittenElements
+unfolding ElementsIn
 command_text {A} parts list are small =
     let many : length list.items ≡ length parts = ap (λ l. length l) are ∙ as_many A parts in
-    written_text Resp2 1 (made.Array list) (command_of parts) (
-      subst (λ m. IsIn Resp2 m) (sym (ap mark_in (array_is list))) tt,
-      inr (inr (inl (
-        Star,
-        length parts,
-        list,
-        bulks_of parts,
-        refl,
-        many,
-        rw are (bulks_row A parts small),
-        refl,
-      ))),
-    )
+    let is : shape_of (made.Array list) ≡ (Aggregate Star, Items list) =
+    ap shape (array_is list) in
+    written_text Resp2 1 (made.Array list) (command_of parts)
+    (aggregate_text Resp2 (ElementsIn Shortest Resp2 1) (made.Array list)
+    (subst (IsIn Resp2) (sym (mark_is _ is)) tt) Star (length parts) list (bulks_of parts) is many
+    (rw are (bulks_row A parts small)))
 
 -- an array is at the start of the bytes if a command was appended to an empty buffer
 pub command_first : {A : Type 0} (alloc : A) (parts : List (Bor (List ℕ)))
@@ -178,31 +164,41 @@ command_first {A} alloc parts {before} {between} more none put small e same =
     )
 
 module _ {A : Type 0} where
-  bulk_kind : (alike : Replies A → Replies A → Type 0) (part : Bor (List ℕ)) (kind : Opened A)
-      → AreAlikeAs alike (Reply-F.Bulk part) kind → IsBulkAs part kind
-  bulk_kind alike part (Reply-F.Bulk x) e = e
-  bulk_kind alike part kind never = never
+  shaped_alike : (alike : Replies A → Replies A → Type 0) (v w : Replies A) {s : Mark × Content A}
+      → shape_of v ≡ s → AreAlikeBy alike v w
+      → (s.0 ≡ first_mark w) × HoldAlike alike s.1 (shape_of w).1
+  shaped_alike alike v w =
+      subst (λ s. (s.0 ≡ first_mark w) × HoldAlike alike s.1 (shape_of w).1)
 
-  bulk_back : (part : Bor (List ℕ)) (reply : Replies A) → AreAlike 0 (made.Bulk part) reply
-      → IsBulkAs part (out-Reply (Bor (List ℕ)) A reply)
-  unfolding AreAlike
-  bulk_back part reply alike =
-      bulk_kind (λ v w. ⊥) part (kind_of reply) (rw (bulk_is part) at alike)
+  -- a reply that is equivalent to a bulk string is one, and so of an array
+  bulk_held : (alike : Replies A → Replies A → Type 0) (part : Bor (List ℕ)) (s : Mark × Content A)
+      → Data Dollar ≡ s.0 → HoldAlike alike (Bytes part) s.1
+      → (bulk : Bor (List ℕ)) × (s ≡ (Data Dollar, Bytes bulk)) × (part.now ≡ bulk.now)
+  bulk_held alike part (mark, Bytes x) e a = (x, ap (λ m. (m, Bytes x)) (sym e), a)
+  bulk_held alike part (mark, content) e never = absurd never
+
+  list_held : (alike : Replies A → Replies A → Type 0) (list : Vec (Replies A) A)
+      (s : Mark × Content A) → Aggregate Star ≡ s.0 → HoldAlike alike (Items list) s.1
+      → (other : Vec (Replies A) A) × (s ≡ (Aggregate Star, Items other))
+      × ArePairwise alike list.items other.items
+  list_held alike list (mark, Items l) e a = (l, ap (λ m. (m, Items l)) (sym e), a)
+  list_held alike list (mark, content) e never = absurd never
+
+  abbrev IsBulk : Bor (List ℕ) → Replies A → Type 0
+  IsBulk part reply =
+      (bulk : Bor (List ℕ)) × (shape_of reply ≡ (Data Dollar, Bytes bulk))
+      × (part.now ≡ bulk.now)
 
   bulks_back : (parts : List (Bor (List ℕ))) (replies : List (Replies A))
       → ArePairwise (AreAlike 0) (bulk_replies parts) replies
-      → ArePairwise (λ part reply. IsBulkAs part (out-Reply (Bor (List ℕ)) A reply)) parts replies
+      → ArePairwise IsBulk parts replies
+  unfolding AreAlike
   bulks_back [] [] are = tt
   bulks_back [] (r ∷ rs) never = never
   bulks_back (p ∷ ps) [] never = never
-  bulks_back (p ∷ ps) (r ∷ rs) (one, more) = (bulk_back p r one, bulks_back ps rs more)
-
-  command_kind : (parts : List (Bor (List ℕ))) (list : Vec (Replies A) A)
-      → list.items ≡ bulk_replies parts → (kind : Opened A)
-      → AreAlikeAs (AreAlike 0) (Reply-F.Array list) kind → IsCommandAs parts kind
-  command_kind parts list are (Reply-F.Array x) pairs =
-      bulks_back parts x.items (rw are at pairs)
-  command_kind parts list are kind never = never
+  bulks_back (p ∷ ps) (r ∷ rs) (one, more) =
+      let (same, held) = shaped_alike (λ v w. ⊥) (made.Bulk p) r (ap shape (bulk_is p)) one in
+      (bulk_held (λ v w. ⊥) p (shape_of r) same held, bulks_back ps rs more)
 
   -- what is read of it is the command
   pub command_back : (parts : List (Bor (List ℕ))) (list : Vec (Replies A) A) (read : Replies A)
@@ -213,4 +209,8 @@ module _ {A : Type 0} where
   unfolding AreAlike
   command_back parts list read tokens more rest are a b =
       let (alike, left) = one_reply Resp2 1 (made.Array list) read tokens more rest a b in
-      (command_kind parts list are (kind_of read) (rw (array_is list) at alike), left)
+      let (same, held) =
+      shaped_alike (AreAlike 0) (made.Array list) read (ap shape (array_is list)) alike in
+      let (other, is, pairs) = list_held (AreAlike 0) list (shape_of read) same held in
+      let P : List (Replies A) → Type 0 = λ l. ArePairwise (AreAlike 0) l other.items in
+      ((other, is, bulks_back parts other.items (subst P are pairs)), left)

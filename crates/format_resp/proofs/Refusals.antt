@@ -1,163 +1,97 @@
 -- Proofs that a reply that cannot be written has no encoding.
 use Rattle.std.specs.Prelude.{◌≡◌, ◌⊎◌, ◌<◌, ⊤, ℕ, zero, suc, List, [], ◌∷◌, length, Contains}
 use Rattle.std.specs.Prelude.{Option, Some, None}
-use Rattle.std.specs.List.{All, AllByRecursion}
+use Rattle.std.specs.List.{All}
 use Rattle.std.specs.declared.vec.Vec.{Vec}
-use Rattle.std.proofs.Common.{refl, sym, ap, subst, inl, inr, ◌∙◌, arith}
+use Rattle.std.proofs.Common.{refl, sym, subst, inl, inr, arith}
 use Rattle.std.proofs.lemmas.List.Elements.{All-cons, All-nil}
 use Rattle.winnow_grammar.specs.InTurn.{Led}
 use Rattle.grammars.specs.Texts.{EachText, Text}
-use Rattle.format_resp.proofs.Made.{array_is, attributed_is, big_number_is, boolean_is}
-use Rattle.format_resp.proofs.Made.{bulk_error_is, bulk_is, double_is, error_is, integer_is}
-use Rattle.format_resp.proofs.Made.{marked_aggregate, marked_data, marked_line, marked_null_array}
-use Rattle.format_resp.proofs.Made.{marked_null_bulk, kind_of, map_is, null_array_is, null_bulk_is}
-use Rattle.format_resp.proofs.Made.{null_is, push_is, set_is, simple_is, verbatim_is}
+use Rattle.format_resp.proofs.Made.{line_mark, mark_is}
 use Rattle.format_resp.specs.Numbers.{IsBigNumber, IsDouble}
-use Rattle.format_resp.specs.Resp.{AggregateBehind, Body, DataBehind, DataSays, Elements, Ended}
-use Rattle.format_resp.specs.Resp.{IsIn, MarkText, InLine, IsVerbatim, LineSays, Opened, Replies}
-use Rattle.format_resp.specs.Resp.{ReplyText, Shown, gathered, many}
-use Rattle.format_resp.specs.Written.{first_mark, IsBroken, IsDeeper, IsForeign, IsNoBigNumber}
-use Rattle.format_resp.specs.Written.{IsNoDouble, IsOrHas, IsRefused, IsUnformatted, IsUnpaired}
+use Rattle.format_resp.specs.Resp.{AggregateBehind, Any, Body, Bytes, Content, DataBehind, Elements}
+use Rattle.format_resp.specs.Resp.{ElementsIn, Ended, Fits, IsIn, IsLineOf, IsVerbatim, Items}
+use Rattle.format_resp.specs.Resp.{LineSays, MarkText, Replies, ReplyText, Shown, first_mark}
+use Rattle.format_resp.specs.Resp.{formatted, many, shape_of}
+use Rattle.format_resp.specs.Written.{IsBroken, IsDeeper, IsForeign, IsInvalid, IsOf, IsOrHas}
+use Rattle.format_resp.specs.Written.{IsRefused, IsUnpaired}
 use Rattle.format_resp.specs.declared.marks.AggregateMark.{AggregateMark}
-use Rattle.format_resp.specs.declared.marks.AggregateMark.TheVariants.{Bar, Greater, Percent, Star}
-use Rattle.format_resp.specs.declared.marks.AggregateMark.TheVariants.{Tilde}
+use Rattle.format_resp.specs.declared.marks.AggregateMark.TheVariants.{Star}
 use Rattle.format_resp.specs.declared.marks.DataMark.{DataMark}
-use Rattle.format_resp.specs.declared.marks.DataMark.TheVariants.{Dollar, Equals, Exclamation}
+use Rattle.format_resp.specs.declared.marks.DataMark.TheVariants.{Dollar, Equals}
 use Rattle.format_resp.specs.declared.marks.LineMark.{LineMark}
-use Rattle.format_resp.specs.declared.marks.LineMark.TheVariants.{Colon, Comma, Hash, Minus}
-use Rattle.format_resp.specs.declared.marks.LineMark.TheVariants.{Parenthesis, Plus, Underscore}
+use Rattle.format_resp.specs.declared.marks.LineMark.TheVariants.{Colon, Comma, Hash}
+use Rattle.format_resp.specs.declared.marks.LineMark.TheVariants.{Parenthesis, Underscore}
 use Rattle.format_resp.specs.declared.marks.Mark.{Mark}
 use Rattle.format_resp.specs.declared.marks.Mark.TheVariants.{Aggregate, Data, Line}
 use Rattle.format_resp.specs.declared.reply.Protocol.{Protocol}
-use Rattle.format_resp.specs.declared.reply.Reply.TheOpen.{Reply-F}
 use Rattle.format_resp.specs.declared.write.WriteError.{WriteError}
 use Rattle.format_resp.specs.declared.write.WriteError.TheVariants.{BigNumber, Double, Foreign}
 use Rattle.format_resp.specs.declared.write.WriteError.TheVariants.{Format, Level, LineBreak}
 use Rattle.format_resp.specs.declared.write.WriteError.TheVariants.{NoParts, OutOfMemory, Pairs}
 
-module _ {A : Type 0} where
-  module _ (elements : Text ℕ (List (Replies A))) where
-    -- an aggregate has a size, and its elements have encodings
-    abbrev Built : AggregateMark → Vec (Replies A) A → Type 0
-    Built mark list =
-        ((n : ℕ) × (length list.items ≡ many mark n))
-        × ((xs : List ℕ) × elements list.items xs)
+module _ {A : Type 0} (elements : Text ℕ (List (Replies A))) where
+  -- an aggregate has a size, and its elements have encodings
+  abbrev Built : AggregateMark → Vec (Replies A) A → Type 0
+  Built mark list =
+      ((n : ℕ) × (length list.items ≡ many mark n)) × ((xs : List ℕ) × elements list.items xs)
 
-    -- what holds for each reply that has an encoding
-    abbrev Sound : Opened A → Type 0
-    Sound (Reply-F.Simple x) = AllByRecursion InLine x.now
-    Sound (Reply-F.Error x) = AllByRecursion InLine x.now
-    Sound (Reply-F.Double x) = IsDouble x.now
-    Sound (Reply-F.BigNumber x) = IsBigNumber x.now
-    Sound (Reply-F.Verbatim x) = IsVerbatim x.now
-    Sound (Reply-F.Array l) = Built Star l
-    Sound (Reply-F.Map l) = Built Percent l
-    Sound (Reply-F.Set l) = Built Tilde l
-    Sound (Reply-F.Push l) = Built Greater l
-    Sound (Reply-F.Attributed l) = Built Bar l
-    Sound kind = ⊤
+  -- what holds for each reply that has an encoding
+  abbrev Sound : Mark × Content A → Type 0
+  Sound (Line mark, Bytes x) = IsLineOf mark x.now
+  Sound (Data mark, Bytes x) = Fits (formatted mark) x.now
+  Sound (Aggregate mark, Items list) = Built mark list
+  Sound s = ⊤
 
-    sound : (kind : Opened A) {reply form : Replies A} → reply ≡ form → kind_of form ≡ kind
-        → Sound kind → Sound (kind_of reply)
-    sound kind is same = subst (λ k. Sound k) (sym (ap kind_of is ∙ same))
+  sound : {s : Mark × Content A} (reply : Replies A) → shape_of reply ≡ s → Sound s
+      → Sound (shape_of reply)
+  sound reply is = subst (λ s. Sound s) (sym is)
 
-    unsound : (kind : Opened A) {reply form : Replies A} → reply ≡ form → kind_of form ≡ kind
-        → Sound (kind_of reply) → Sound kind
-    unsound kind is same = subst (λ k. Sound k) (ap kind_of is ∙ same)
+  unsound : {s : Mark × Content A} (reply : Replies A) → shape_of reply ≡ s → (Sound s → ⊥)
+      → Sound (shape_of reply) → ⊥
+  unsound reply is not a = not (subst (λ s. Sound s) is a)
 
-    line_sound : (mark : LineMark) (reply : Replies A) (line : List ℕ) → LineSays mark reply line
-        → Sound (kind_of reply)
-    unfolding Shown
-    line_sound Plus reply line (x, is, (a, s)) = sound (Reply-F.Simple x) is (simple_is x)
-        (subst (λ l. AllByRecursion InLine l) (sym s) a)
-    line_sound Minus reply line (x, is, (a, s)) = sound (Reply-F.Error x) is (error_is x)
-        (subst (λ l. AllByRecursion InLine l) (sym s) a)
-    line_sound Colon reply line (n, is, a) = sound (Reply-F.Integer n) is (integer_is n) tt
-    line_sound Underscore reply line (is, a) = sound Reply-F.Null is null_is tt
-    line_sound Hash reply line (b, is, a) = sound (Reply-F.Boolean b) is (boolean_is b) tt
-    line_sound Comma reply line (x, is, (a, s)) = sound (Reply-F.Double x) is (double_is x)
-        (subst (λ l. IsDouble l) (sym s) a)
-    line_sound Parenthesis reply line (x, is, (a, s)) = sound (Reply-F.BigNumber x) is
-        (big_number_is x) (subst (λ l. IsBigNumber l) (sym s) a)
+  line_sound : (mark : LineMark) (reply : Replies A) (line : List ℕ) → LineSays Any mark reply line
+      → Sound (shape_of reply)
+  unfolding Shown
+  line_sound Colon reply line (n, is, a) = sound reply is tt
+  line_sound Underscore reply line (is, a) = sound reply is tt
+  line_sound Hash reply line (b, is, a) = sound reply is tt
+  line_sound mark reply line says =
+      let (x, is, (a, s)) = says in sound reply is (subst (IsLineOf mark) (sym s) a)
 
-    data_sound : (mark : DataMark) (reply : Replies A) (bytes : List ℕ)
-        → DataSays mark reply bytes → Sound (kind_of reply)
-    unfolding Shown
-    data_sound Dollar reply bytes (x, is, a) = sound (Reply-F.Bulk x) is (bulk_is x) tt
-    data_sound Exclamation reply bytes (x, is, a) =
-        sound (Reply-F.BulkError x) is (bulk_error_is x) tt
-    data_sound Equals reply bytes (x, is, (a, s)) =
-        sound (Reply-F.Verbatim x) is (verbatim_is x) (subst (λ l. IsVerbatim l) (sym s) a)
+  bytes_sound : (mark : DataMark) (size : Option ℕ) (reply : Replies A) (tokens : List ℕ)
+      → DataBehind mark size reply tokens
+      → (first_mark reply ≡ Data mark) × Sound (shape_of reply)
+  bytes_sound mark (Some n) reply tokens (bytes, is, (fits, a)) =
+      (mark_is reply is, sound reply is fits)
+  bytes_sound Dollar None reply tokens (is, a) = (mark_is reply is, sound reply is tt)
+  bytes_sound mark None reply tokens never = absurd never
 
-    bytes_sound : (mark : DataMark) (size : Option ℕ) (reply : Replies A) (tokens : List ℕ)
-        → DataBehind mark size reply tokens
-        → (first_mark reply ≡ Data mark) × Sound (kind_of reply)
-    bytes_sound mark (Some n) reply tokens (bytes, says, a) =
-        (marked_data mark reply bytes.now says, data_sound mark reply bytes.now says)
-    bytes_sound Dollar None reply tokens (is, a) =
-        (marked_null_bulk reply is, sound Reply-F.NullBulk is null_bulk_is tt)
-    bytes_sound mark None reply tokens never = absurd never
+  aggregate_sound : (mark : AggregateMark) (size : Option ℕ) (reply : Replies A)
+      (tokens : List ℕ) → AggregateBehind elements mark size reply tokens
+      → (first_mark reply ≡ Aggregate mark) × Sound (shape_of reply)
+  aggregate_sound mark (Some n) reply tokens (list, is, (count, a)) =
+      (mark_is reply is, sound reply is ((n, count), (tokens, a)))
+  aggregate_sound Star None reply tokens (is, a) = (mark_is reply is, sound reply is tt)
+  aggregate_sound mark None reply tokens never = absurd never
 
-    gathered_sound : (mark : AggregateMark) (list : Vec (Replies A) A) (reply : Replies A)
-        → reply ≡ gathered mark list → Built mark list → Sound (kind_of reply)
-    gathered_sound Star list reply is = sound (Reply-F.Array list) is (array_is list)
-    gathered_sound Percent list reply is = sound (Reply-F.Map list) is (map_is list)
-    gathered_sound Tilde list reply is = sound (Reply-F.Set list) is (set_is list)
-    gathered_sound Greater list reply is = sound (Reply-F.Push list) is (push_is list)
-    gathered_sound Bar list reply is = sound (Reply-F.Attributed list) is (attributed_is list)
+  body_sound : (mark : Mark) (reply : Replies A) (tokens : List ℕ)
+      → Body Any elements mark reply tokens
+      → (first_mark reply ≡ mark) × Sound (shape_of reply)
+  unfolding Ended Led
+  body_sound (Line mark) reply tokens (line, says, e) =
+      (line_mark Any mark reply line says, line_sound mark reply line says)
+  body_sound (Data mark) reply tokens (size, xs, ys, s, a, e) = bytes_sound mark size reply ys a
+  body_sound (Aggregate mark) reply tokens (size, xs, ys, s, a, e) =
+      aggregate_sound mark size reply ys a
 
-    aggregate_sound : (mark : AggregateMark) (size : Option ℕ) (reply : Replies A)
-        (tokens : List ℕ) → AggregateBehind elements mark size reply tokens
-        → (first_mark reply ≡ Aggregate mark) × Sound (kind_of reply)
-    aggregate_sound mark (Some n) reply tokens (list, is, (count, a)) = (
-      marked_aggregate mark reply list is,
-      gathered_sound mark list reply is ((n, count), (tokens, a)),
-    )
-    aggregate_sound Star None reply tokens (is, a) =
-        (marked_null_array reply is, sound Reply-F.NullArray is null_array_is tt)
-    aggregate_sound mark None reply tokens never = absurd never
+  broken : (reply : Replies A) → IsBroken reply → Sound (shape_of reply) → ⊥
+  broken reply (inl (text, is, not)) = unsound reply is not
+  broken reply (inr (text, is, not)) = unsound reply is not
 
-    body_sound : (mark : Mark) (reply : Replies A) (tokens : List ℕ)
-        → Body elements mark reply tokens
-        → (first_mark reply ≡ mark) × Sound (kind_of reply)
-    unfolding Ended Led
-    body_sound (Line mark) reply tokens (line, says, e) =
-        (marked_line mark reply line says, line_sound mark reply line says)
-    body_sound (Data mark) reply tokens (size, xs, ys, s, a, e) =
-        bytes_sound mark size reply ys a
-    body_sound (Aggregate mark) reply tokens (size, xs, ys, s, a, e) =
-        aggregate_sound mark size reply ys a
-
-    -- ---- what is wrong in one
-
-    built : (mark : AggregateMark) (list : Vec (Replies A) A) (reply : Replies A)
-        → reply ≡ gathered mark list → Sound (kind_of reply) → Built mark list
-    built Star list reply is = unsound (Reply-F.Array list) is (array_is list)
-    built Percent list reply is = unsound (Reply-F.Map list) is (map_is list)
-    built Tilde list reply is = unsound (Reply-F.Set list) is (set_is list)
-    built Greater list reply is = unsound (Reply-F.Push list) is (push_is list)
-    built Bar list reply is = unsound (Reply-F.Attributed list) is (attributed_is list)
-
-    broken : (reply : Replies A) → IsBroken reply → Sound (kind_of reply) → ⊥
-    broken reply (text, inl is, not) s =
-        not (unsound (Reply-F.Simple text) is (simple_is text) s)
-    broken reply (text, inr is, not) s = not (unsound (Reply-F.Error text) is (error_is text) s)
-
-    no_double : (reply : Replies A) → IsNoDouble reply → Sound (kind_of reply) → ⊥
-    no_double reply (text, is, not) s =
-        not (unsound (Reply-F.Double text) is (double_is text) s)
-
-    no_big_number : (reply : Replies A) → IsNoBigNumber reply → Sound (kind_of reply) → ⊥
-    no_big_number reply (text, is, not) s =
-        not (unsound (Reply-F.BigNumber text) is (big_number_is text) s)
-
-    unformatted : (reply : Replies A) → IsUnformatted reply → Sound (kind_of reply) → ⊥
-    unformatted reply (text, is, not) s =
-        not (unsound (Reply-F.Verbatim text) is (verbatim_is text) s)
-
-    unpaired : (reply : Replies A) → IsUnpaired reply → Sound (kind_of reply) → ⊥
-    unpaired reply (mark, list, is, not) s =
-        let ((n, count), has) = built mark list reply is s in not n count
+  unpaired : (reply : Replies A) → IsUnpaired reply → Sound (shape_of reply) → ⊥
+  unpaired reply (mark, list, is, not) = unsound reply is (λ ((n, count), has). not n count)
 
 -- ---- replies
 
@@ -167,7 +101,7 @@ module _ {A : Type 0} (protocol : Protocol) where
   HasText level reply = (tokens : List ℕ) × ReplyText protocol level reply tokens
 
   text_sound : (level : ℕ) (reply : Replies A) → HasText level reply
-      → Sound (Elements protocol level) (kind_of reply)
+      → Sound (Elements protocol level) (shape_of reply)
   unfolding Led
   text_sound level reply (tokens, (mark, xs, ys, m, a, e)) =
       (body_sound (Elements protocol level) mark reply ys a).1
@@ -182,17 +116,17 @@ module _ {A : Type 0} (protocol : Protocol) where
   elements_have : (level : ℕ) (items : List (Replies A)) (tokens : List ℕ)
       → Elements protocol level items tokens
       → (inner : ℕ) × (level ≡ suc inner) × All (HasText inner) items
-  unfolding Elements
+  unfolding ElementsIn
   elements_have zero items tokens never = absurd never
   elements_have (suc inner) items tokens row = (inner, refl, row_has inner items tokens row)
 
   -- an element of an aggregate that has a text has one, of a level that is one less
   element_has : (level : ℕ) (mark : AggregateMark) (list : Vec (Replies A) A) (reply : Replies A)
-      → reply ≡ gathered mark list → HasText level reply
+      → IsOf mark list reply → HasText level reply
       → (inner : ℕ) × (level ≡ suc inner) × All (HasText inner) list.items
   element_has level mark list reply is text =
       let (size, (zs, are)) =
-      built (Elements protocol level) mark list reply is (text_sound level reply text) in
+      subst (λ s. Sound (Elements protocol level) s) is (text_sound level reply text) in
       elements_have level list.items zs are
 
   at : (P : Replies A → Type 0) (os : List (Replies A)) (o : Replies A) → All P os
@@ -227,7 +161,7 @@ module _ {A : Type 0} (protocol : Protocol) where
   -- a reply without what holds for each reply that has an encoding
   unsound_none : (such : Replies A → Type 0)
       → ((level : ℕ) (reply : Replies A) → such reply
-      → Sound (Elements protocol level) (kind_of reply) → ⊥)
+      → Sound (Elements protocol level) (shape_of reply) → ⊥)
       → (level above : ℕ) (reply : Replies A) → IsOrHas such level reply → HasText above reply → ⊥
   unsound_none such none = none_within such (λ reply is level text.
       none level reply is (text_sound level reply text))
@@ -246,14 +180,14 @@ module _ {A : Type 0} (protocol : Protocol) where
       absurd (unsound_none IsBroken (λ k. broken (Elements protocol k)) level above reply is
       (tokens, text))
   refused_textless level above reply Double tokens is text =
-      absurd (unsound_none IsNoDouble (λ k. no_double (Elements protocol k)) level above reply is
-      (tokens, text))
+      absurd (unsound_none (IsInvalid (Line Comma) IsDouble) (λ k reply (text, is, not).
+      unsound (Elements protocol k) reply is not) level above reply is (tokens, text))
   refused_textless level above reply BigNumber tokens is text =
-      absurd (unsound_none IsNoBigNumber (λ k. no_big_number (Elements protocol k)) level above
-      reply is (tokens, text))
+      absurd (unsound_none (IsInvalid (Line Parenthesis) IsBigNumber) (λ k reply (text, is, not).
+      unsound (Elements protocol k) reply is not) level above reply is (tokens, text))
   refused_textless level above reply Format tokens is text =
-      absurd (unsound_none IsUnformatted (λ k. unformatted (Elements protocol k)) level above
-      reply is (tokens, text))
+      absurd (unsound_none (IsInvalid (Data Equals) IsVerbatim) (λ k reply (text, is, not).
+      unsound (Elements protocol k) reply is not) level above reply is (tokens, text))
   refused_textless level above reply Pairs tokens is text =
       absurd (unsound_none IsUnpaired (λ k. unpaired (Elements protocol k)) level above reply is
       (tokens, text))

@@ -3,14 +3,13 @@ use Rattle.std.specs.Prelude.{◌≡◌, ◌<◌, ◌-◌, ℕ, List, [], ◌∷
 use Rattle.std.specs.Borrow.{Bor}
 use Rattle.std.specs.List.{IsSplitAt}
 use Rattle.std.proofs.Common.{refl, sym, ap, subst, ◌∙◌, arith, append_assoc, length-append}
-use Rattle.std.proofs.lemmas.List.{append-nil, nil_from_length, take-append-drop}
-use Rattle.grammars.specs.Grammar.Inversion.{slice_for}
+use Rattle.std.proofs.lemmas.List.{nil_from_length, take-append-drop}
 use Rattle.grammars.specs.Grammar.Lengths.{same_beginnings}
 use Rattle.winnow_grammar.specs.InTurn.{First}
 use Rattle.grammars.specs.Texts.{CountedText}
 use Rattle.format_resp.proofs.Encodings.{data_determined}
-use Rattle.format_resp.specs.Extents.{Fits, IsNoString, IsPartOfData, StringText}
-use Rattle.format_resp.specs.Resp.{DataText, Ended, line_end}
+use Rattle.format_resp.specs.Extents.{IsNoString, IsPartOfData}
+use Rattle.format_resp.specs.Resp.{DataText, Ended, Fits, StringText, line_end}
 use Rattle.format_resp.specs.declared.extent.Bulk.{Bulk}
 
 -- a list of `n` bytes
@@ -20,24 +19,14 @@ some_list (suc n) = let (xs, e) = some_list n in (0 ∷ xs, ap (λ k. suc k) e)
 
 -- fewer bytes are there
 pub data_short : (size : ℕ) (tokens : List ℕ) → length tokens < size → IsPartOfData size tokens
-unfolding First DataText Ended CountedText
 data_short size tokens less =
     let (fill, many) = some_list (size - length tokens) in
-    let (slice, shown) = slice_for (tokens ++ fill) in
     record {
-      bytes = slice;
+      bytes = tokens ++ fill;
       more = fill ++ line_end;
+      enough = omega (arith, less, many, length-append tokens fill);
       some = omega (arith, length-append fill line_end);
-      made = (
-        (tokens ++ fill) ++ line_end,
-        (
-          tokens ++ fill,
-          (omega (arith, less, many, length-append tokens fill), shown),
-          refl,
-        ),
-        sym (append_assoc tokens fill line_end)
-            ∙ sym (append-nil ((tokens ++ fill) ++ line_end)),
-      );
+      whole = sym (append_assoc tokens fill line_end);
     }
 
 -- a proper prefix of a line ending
@@ -75,17 +64,13 @@ module _ (size : ℕ) (tokens : List ℕ) (text : Bor (List ℕ)) (behind : List
 
   pub data_open : (x : ℕ) (more : List ℕ) → line_end ≡ behind ++ (x ∷ more)
       → IsPartOfData size tokens
-  unfolding First DataText Ended CountedText
   data_open x more e = record {
-    bytes = text;
+    bytes = text.now;
     more = x ∷ more;
+    enough = data_many;
     some = omega arith;
-    made = (
-      text.now ++ line_end,
-      (text.now, (data_many, refl), refl),
-      ap (λ l. l ++ (x ∷ more)) data_split ∙ append_assoc text.now behind (x ∷ more)
-          ∙ ap (λ l. text.now ++ l) (sym e) ∙ sym (append-nil (text.now ++ line_end)),
-    );
+    whole = ap (λ l. l ++ (x ∷ more)) data_split ∙ append_assoc text.now behind (x ∷ more)
+        ∙ ap (λ l. text.now ++ l) (sym e);
   }
 
   pub data_refused : ((more left : List ℕ) → behind ++ more ≡ line_end ++ left → ⊥)
@@ -135,9 +120,17 @@ module _ (bulk : Bulk) (tokens : List ℕ) where
   -- incomplete data are not complete data
   pub part_none : IsPartOfData bulk.size tokens → (bytes : Bor (List ℕ)) (left : List ℕ)
       → First (StringText bulk) tokens bytes left → ⊥
-  unfolding First
-  part_none p bytes left (front, (fits, t), e) =
-      let same : left ++ p.more ≡ [] =
-      (data_determined bulk.size bytes p.bytes (tokens ++ p.more) (left ++ p.more) []
-      (front, t, ap (λ l. l ++ p.more) e ∙ append_assoc front left p.more) p.made).1 in
-      omega (arith, p.some, ap (λ l. length l) same, length-append left p.more)
+  unfolding First DataText Ended CountedText
+  part_none p bytes left (front, (fits, (xs, (many, shown), e)), d) = omega (
+    arith,
+    p.some,
+    p.enough,
+    many,
+    ap (λ l. length l) p.whole,
+    length-append tokens p.more,
+    length-append p.bytes line_end,
+    ap (λ l. length l) d,
+    length-append front left,
+    ap (λ l. length l) e,
+    length-append xs line_end,
+  )

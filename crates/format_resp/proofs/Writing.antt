@@ -2,38 +2,37 @@
 use Rattle.std.specs.Prelude.{◌≡◌, ◌≤◌, ◌<◌, ◌+◌, ◌/◌, ◌%◌, ◌^◌, ℕ, List, [], ◌∷◌}
 use Rattle.std.specs.Prelude.{◌++◌, length, FitsSigned, ℤ}
 use Rattle.std.specs.Prelude.{drop, take, slice_index_or, Contains, IfErr, Result, zero, suc}
+use Rattle.std.specs.Borrow.{Bor}
 use Rattle.std.specs.Fmt.{decimal, signed_decimal}
 use Rattle.std.specs.Int.{w64}
 use Rattle.std.specs.Result.{IsErrAnd}
+use Rattle.std.specs.declared.vec.Vec.{Vec}
 use Rattle.std.proofs.Common.{refl, sym, ap, subst, ◌∙◌, append_assoc, inl, inr, arith}
 use Rattle.std.proofs.Math.Seq.{take-append_seam}
 use Rattle.std.proofs.lemmas.Fmt.{decimal_digit, decimal_step}
 use Rattle.std.proofs.lemmas.List.{append-nil, drop_all, drop_more}
 use Rattle.std.proofs.lemmas.Result.{err_from_is_err_and}
 use Rattle.grammars.specs.Texts.{EachText, Text}
-use Rattle.format_resp.specs.Written.{Adds, Keeps, IsBroken, IsDeeper, IsForeign, IsNoBigNumber}
-use Rattle.format_resp.specs.Written.{IsNoDouble, IsOrHas, IsRefused, IsRefusedAmong, IsRefusedAs}
-use Rattle.format_resp.specs.Written.{IsUnformatted, IsUnpaired, LineWritten, WrittenElements}
-use Rattle.format_resp.specs.Written.{WrittenText, data_of, first_mark, marked}
-use Rattle.std.specs.Borrow.{Bor}
-use Rattle.std.specs.List.{AllByRecursion}
-use Rattle.std.specs.declared.vec.Vec.{Vec}
-use Rattle.format_resp.proofs.Made.{marked_aggregate}
-use Rattle.format_resp.proofs.WrittenTexts.{written_text}
-use Rattle.format_resp.specs.Numbers.{IsBigNumber, IsDouble}
-use Rattle.format_resp.specs.Resp.{DataSays, InLine, IsIn, IsVerbatim, Replies, ReplyText, byte_of}
-use Rattle.format_resp.specs.Resp.{gathered, many}
+use Rattle.format_resp.proofs.Made.{gathered_is, integer_is, mark_is, shaped}
+use Rattle.format_resp.proofs.WrittenTexts.{aggregate_text, data_text, line_text, null_array_text}
+use Rattle.format_resp.proofs.WrittenTexts.{null_bulk_text, written_text}
+use Rattle.format_resp.specs.Resp.{Bytes, ElementsIn, Fits, IsIn, LineSays, Nothing, Replies}
+use Rattle.format_resp.specs.Resp.{ReplyText, Shortest, WrittenText, byte_of, first_mark, formatted}
+use Rattle.format_resp.specs.Resp.{gathered, many, shape_of}
+use Rattle.format_resp.specs.Written.{Adds, IsDeeper, IsForeign, IsOrHas, IsRefused, IsRefusedAmong}
+use Rattle.format_resp.specs.Written.{IsRefusedAs, IsUnpaired, Keeps, data_of, marked}
 use Rattle.format_resp.specs.declared.marks.AggregateMark.{AggregateMark}
+use Rattle.format_resp.specs.declared.marks.AggregateMark.TheVariants.{Star}
 use Rattle.format_resp.specs.declared.marks.DataMark.{DataMark}
+use Rattle.format_resp.specs.declared.marks.DataMark.TheVariants.{Dollar}
 use Rattle.format_resp.specs.declared.marks.LineMark.{LineMark}
 use Rattle.format_resp.specs.declared.marks.LineMark.TheVariants.{Colon}
 use Rattle.format_resp.specs.declared.marks.Mark.TheVariants.{Aggregate, Data, Line}
 use Rattle.format_resp.specs.declared.reply.Protocol.{Protocol}
 use Rattle.format_resp.specs.declared.reply.Reply as made
 use Rattle.format_resp.specs.declared.write.WriteError.{WriteError}
-use Rattle.format_resp.specs.declared.write.WriteError.TheVariants.{BigNumber, Double, Foreign}
-use Rattle.format_resp.specs.declared.write.WriteError.TheVariants.{Format, Level, LineBreak}
-use Rattle.format_resp.specs.declared.write.WriteError.TheVariants.{NoParts, OutOfMemory, Pairs}
+use Rattle.format_resp.specs.declared.write.WriteError.TheVariants.{Foreign, Level, NoParts}
+use Rattle.format_resp.specs.declared.write.WriteError.TheVariants.{OutOfMemory, Pairs}
 
 pub keeps_trans : {before between after : List ℕ} → Keeps before between → Keeps between after
     → Keeps before after
@@ -110,58 +109,59 @@ cut_back {n} {before} {after} kept many e =
 
 module _ {A : Type 0} (protocol : Protocol) (level : ℕ) {reply : Replies A}
     (within : IsIn protocol (first_mark reply)) {before after : List ℕ} where
-  pub line_put : (mark : LineMark) (line : List ℕ) → LineWritten mark reply line
+  pub line_put : (mark : LineMark) (line : List ℕ) → LineSays Shortest mark reply line
       → after ≡ before ++ marked (byte_of (Line mark)) line
       → Adds (WrittenText protocol level) reply before after
-  line_put mark line is = adds (marked (byte_of (Line mark)) line)
-      (within, inl (mark, line, is, refl))
+  line_put mark line says = adds (marked (byte_of (Line mark)) line)
+      (line_text protocol (ElementsIn Shortest protocol level) reply within mark line says)
 
   pub integer_put : {n : ℤ} → after ≡ before ++ marked 58 (signed_decimal n)
       → reply ≡ made.Integer n → FitsSigned w64 n
       → Adds (WrittenText protocol level) reply before after
-  integer_put {n} e is fits = line_put Colon (signed_decimal n) (n, is, fits, refl) e
+  integer_put {n} e is fits =
+      line_put Colon (signed_decimal n) (n, shaped is (integer_is n), (fits, refl)) e
 
-  pub data_put : (mark : DataMark) (bytes : List ℕ) → DataSays mark reply bytes
-      → length bytes < 2 ^ 63 → after ≡ before ++ data_of (byte_of (Data mark)) bytes
+  pub data_put : (mark : DataMark) (bytes : Bor (List ℕ))
+      → shape_of reply ≡ (Data mark, Bytes bytes) → Fits (formatted mark) bytes.now
+      → length bytes.now < 2 ^ 63 → after ≡ before ++ data_of (byte_of (Data mark)) bytes.now
       → Adds (WrittenText protocol level) reply before after
-  data_put mark bytes says small =
-      adds (data_of (byte_of (Data mark)) bytes)
-      (within, inr (inl (mark, bytes, says, small, refl)))
+  data_put mark bytes is fits small = adds (data_of (byte_of (Data mark)) bytes.now)
+      (data_text protocol (ElementsIn Shortest protocol level) reply within mark bytes is fits
+      small)
 
-  pub null_bulk_put : reply ≡ made.NullBulk → after ≡ before ++ marked 36 (45 ∷ 49 ∷ [])
+  pub null_bulk_put : shape_of reply ≡ (Data Dollar, Nothing)
+      → after ≡ before ++ marked 36 (45 ∷ 49 ∷ [])
       → Adds (WrittenText protocol level) reply before after
-  null_bulk_put is = adds (marked 36 (45 ∷ 49 ∷ [])) (within, inr (inr (inr (inl (is, refl)))))
+  null_bulk_put is = adds (marked 36 (45 ∷ 49 ∷ []))
+      (null_bulk_text protocol (ElementsIn Shortest protocol level) reply within is)
 
-  pub null_array_put : reply ≡ made.NullArray → after ≡ before ++ marked 42 (45 ∷ 49 ∷ [])
+  pub null_array_put : shape_of reply ≡ (Aggregate Star, Nothing)
+      → after ≡ before ++ marked 42 (45 ∷ 49 ∷ [])
       → Adds (WrittenText protocol level) reply before after
-  null_array_put is = adds (marked 42 (45 ∷ 49 ∷ [])) (within, inr (inr (inr (inr (is, refl)))))
+  null_array_put is = adds (marked 42 (45 ∷ 49 ∷ []))
+      (null_array_text protocol (ElementsIn Shortest protocol level) reply within is)
 
 -- the size of an aggregate, and its elements
 pub aggregate_put : {A : Type 0} (protocol : Protocol) (mark : AggregateMark) (size below : ℕ)
-    {level : ℕ}
-    (list : Vec (Replies A) A) {items : List (Replies A)} {byte : ℕ}
+    {level : ℕ} (list : Vec (Replies A) A) {items : List (Replies A)} {byte : ℕ}
     {before between after : List ℕ} → IsIn protocol (Aggregate mark) → items ≡ list.items
     → length list.items ≡ many mark size → level ≡ below + 1 → byte ≡ byte_of (Aggregate mark)
     → between ≡ before ++ marked byte (decimal size)
     → Adds (EachText (WrittenText protocol below)) items between after
     → Adds (WrittenText protocol level) (gathered mark list) before after
-unfolding WrittenElements
-aggregate_put {A} protocol mark size below {level} list {items} {byte} {before} {between}
-    {after} within same count is first e added =
+unfolding ElementsIn
+aggregate_put {A} protocol mark size below {level} list {before = before} {after = after} within
+    same count is first e added =
     let P : ℕ → Type 0 = λ l. Adds (WrittenText protocol l) (gathered mark list) before after in
     let Q : List (Replies A) → Type 0 = λ l. EachText (WrittenText protocol below) l added.tokens in
     let f : level ≡ suc below = omega (arith, is) in
     let head = marked (byte_of (Aggregate mark)) (decimal size) in
-    subst P (sym f) (record {
-      tokens = head ++ added.tokens;
-      is = (
-        subst (λ m. IsIn protocol m) (sym (marked_aggregate mark (gathered mark list) list refl))
-            within,
-        inr (inr (inl (mark, size, list, added.tokens, refl, count, subst Q same added.is, refl))),
-      );
-      behind = put_two before head added.tokens
-          (e ∙ ap (λ b. before ++ marked b (decimal size)) first) added.behind;
-    })
+    let shape = gathered_is mark list refl in
+    subst P (sym f) (adds (head ++ added.tokens)
+    (aggregate_text protocol (ElementsIn Shortest protocol (suc below)) (gathered mark list)
+    (subst (IsIn protocol) (sym (mark_is _ shape)) within) mark size list added.tokens shape count
+    (subst Q same added.is)) (put_two before head added.tokens
+    (e ∙ ap (λ b. before ++ marked b (decimal size)) first) added.behind))
 
 -- what was appended for an aggregate of the version, for the reply that is this aggregate
 pub list_put : {A : Type 0} (protocol : Protocol) (level : ℕ) (mark : AggregateMark)
@@ -172,7 +172,7 @@ pub list_put : {A : Type 0} (protocol : Protocol) (level : ℕ) (mark : Aggregat
     → Adds (WrittenText protocol level) reply before after
 list_put protocol level mark {reply} list {before} {after} is within told =
     subst (λ r. Adds (WrittenText protocol level) r before after) (sym is)
-    (told (subst (IsIn protocol) (marked_aggregate mark reply list is) within))
+    (told (subst (IsIn protocol) (mark_is reply (gathered_is mark list is)) within))
 
 pub adds_text : {A : Type 0} (protocol : Protocol) (level : ℕ) {reply : Replies A}
     {before after : List ℕ}
@@ -187,21 +187,22 @@ adds_text protocol level {reply} added = record {
 -- ---- what is not written
 
 module _ {A : Type 0} where
-  or_itself : (such : Replies A → Type 0) (level : ℕ) (reply : Replies A) → such reply
+  pub or_itself : (such : Replies A → Type 0) (level : ℕ) {reply : Replies A} → such reply
       → IsOrHas such level reply
   unfolding IsOrHas
-  or_itself such zero reply is = is
-  or_itself such (suc level) reply is = inl is
+  or_itself such zero is = is
+  or_itself such (suc level) is = inl is
 
   or_within : (such : Replies A → Type 0) (below : ℕ) (mark : AggregateMark)
       (list : Vec (Replies A) A) (element : Replies A) → Contains list.items element
       → IsOrHas such below element → IsOrHas such (suc below) (gathered mark list)
   unfolding IsOrHas
-  or_within such below mark list element among is = inr (mark, list, refl, element, among, is)
+  or_within such below mark list element among is =
+      inr (mark, list, gathered_is mark list refl, element, among, is)
 
 module _ {A : Type 0} (protocol : Protocol) where
   -- an error with its reason
-  as_error : (level : ℕ) (reply : Replies A) (error : WriteError) (P : Type 0)
+  pub as_error : (level : ℕ) (reply : Replies A) (error : WriteError) (P : Type 0)
       → ((P → ⊥) → IsRefused protocol level reply error) → (e : WriteError) → IsRefusedAs error P e
       → IsRefused protocol level reply e
   as_error level reply error P why e (inl memory) =
@@ -209,39 +210,9 @@ module _ {A : Type 0} (protocol : Protocol) where
   as_error level reply error P why e (inr (is, not)) =
       subst (IsRefused protocol level reply) (sym is) (why not)
 
-  module _ (level : ℕ) {reply : Replies A} where
-    pub refused_simple : (text : Bor (List ℕ)) → reply ≡ made.Simple text → (e : WriteError)
-        → IsRefusedAs LineBreak (AllByRecursion InLine text.now) e
-        → IsRefused protocol level reply e
-    refused_simple text is = as_error level reply LineBreak (AllByRecursion InLine text.now)
-        (λ not. or_itself IsBroken level reply (text, inl is, not))
-
-    pub refused_error : (text : Bor (List ℕ)) → reply ≡ made.Error text → (e : WriteError)
-        → IsRefusedAs LineBreak (AllByRecursion InLine text.now) e
-        → IsRefused protocol level reply e
-    refused_error text is = as_error level reply LineBreak (AllByRecursion InLine text.now)
-        (λ not. or_itself IsBroken level reply (text, inr is, not))
-
-    pub refused_double : (text : Bor (List ℕ)) → reply ≡ made.Double text → (e : WriteError)
-        → IsRefusedAs Double (IsDouble text.now) e → IsRefused protocol level reply e
-    refused_double text is = as_error level reply Double (IsDouble text.now)
-        (λ not. or_itself IsNoDouble level reply (text, is, not))
-
-    pub refused_big_number : (text : Bor (List ℕ)) → reply ≡ made.BigNumber text
-        → (e : WriteError) → IsRefusedAs BigNumber (IsBigNumber text.now) e
-        → IsRefused protocol level reply e
-    refused_big_number text is = as_error level reply BigNumber (IsBigNumber text.now)
-        (λ not. or_itself IsNoBigNumber level reply (text, is, not))
-
-    pub refused_verbatim : (bytes : Bor (List ℕ)) → reply ≡ made.Verbatim bytes
-        → (e : WriteError) → IsRefusedAs Format (IsVerbatim bytes.now) e
-        → IsRefused protocol level reply e
-    refused_verbatim bytes is = as_error level reply Format (IsVerbatim bytes.now)
-        (λ not. or_itself IsUnformatted level reply (bytes, is, not))
-
   pub refused_foreign : (level : ℕ) (reply : Replies A) → IsForeign protocol reply
       → IsRefused protocol level reply Foreign
-  refused_foreign level reply = or_itself (IsForeign protocol) level reply
+  refused_foreign level reply = or_itself (IsForeign protocol) level
 
   -- an error of another reply, which it is
   pub refused_form : (level : ℕ) {reply form : Replies A} → reply ≡ form → (e : WriteError)
@@ -255,15 +226,16 @@ module _ {A : Type 0} (protocol : Protocol) where
       → count ≡ length list.items → ((size : ℕ) → count ≡ many mark size → ⊥)
       → IsRefused protocol level (gathered mark list) Pairs
   refused_count level mark list many_are none =
-      or_itself IsUnpaired level (gathered mark list)
-      (mark, list, refl, (λ size e. none size (many_are ∙ e)))
+      or_itself IsUnpaired level
+      (mark, list, gathered_is mark list refl, (λ size e. none size (many_are ∙ e)))
 
   -- at level 0 each aggregate is too deep
   pub deep_aggregate : {level : ℕ} (mark : AggregateMark) (list : Vec (Replies A) A) → level ≡ 0
       → IsRefused protocol level (gathered mark list) Level
   unfolding IsDeeper
   deep_aggregate mark list is =
-      subst (λ l. IsDeeper l (gathered mark list)) (sym is) (mark, list, refl)
+      subst (λ l. IsDeeper l (gathered mark list)) (sym is)
+      (mark, list, gathered_is mark list refl)
 
   in_element : (below : ℕ) (mark : AggregateMark) (list : Vec (Replies A) A) (e : WriteError)
       → IsRefusedAmong protocol below list.items e
@@ -273,7 +245,7 @@ module _ {A : Type 0} (protocol : Protocol) where
       subst (IsRefused protocol (suc below) (gathered mark list)) (sym memory) tt
   in_element below mark list NoParts (inr (reply, among, is)) = absurd is
   in_element below mark list Level (inr (reply, among, is)) =
-      (mark, list, refl, reply, among, is)
+      (mark, list, gathered_is mark list refl, reply, among, is)
   in_element below mark list OutOfMemory (inr (reply, among, is)) = tt
   in_element below mark list e (inr (reply, among, is)) =
       or_within _ below mark list reply among is

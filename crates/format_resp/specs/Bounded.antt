@@ -4,8 +4,9 @@ use Rattle.std.specs.Prelude.{None, Result, Ok, Err}
 use Rattle.std.specs.Borrow.{Bor}
 use Rattle.winnow_grammar.specs.InTurn.{First}
 use Rattle.format_resp.specs.Extents.{IsNoString, IsPartOfData, IsRejectedPart, IsReplyWithin}
-use Rattle.format_resp.specs.Extents.{MatchesAtStart, StringText, Wants}
+use Rattle.format_resp.specs.Extents.{MatchesAtStart, Times, Wants}
 use Rattle.format_resp.specs.Heads.{HeadText}
+use Rattle.format_resp.specs.Resp.{StringText}
 use Rattle.format_resp.specs.declared.bounded.Stop.{Stop}
 use Rattle.format_resp.specs.declared.extent.Bulk.{Bulk}
 use Rattle.format_resp.specs.declared.extent.Invalid.{Invalid}
@@ -16,11 +17,9 @@ use Rattle.format_resp.specs.declared.reply.Protocol.{Protocol}
 
 -- After `n` replies at the start of `tokens`, with aggregates nested at most `level` deep, `rest`
 -- remains.
-unfoldable pub AreAfter : Protocol → ℕ → ℕ → List ℕ → List ℕ → Type 0
-AreAfter protocol level zero tokens rest = tokens ≡ rest
-AreAfter protocol level (suc n) tokens rest =
-    (between : List ℕ) × AreAfter protocol level n tokens between
-    × MatchesAtStart (IsReplyWithin protocol level) between rest
+abbrev pub AreAfter : Protocol → ℕ → ℕ → List ℕ → List ℕ → Type 0
+AreAfter protocol level n tokens rest =
+    Times (MatchesAtStart (IsReplyWithin protocol level)) n tokens rest
 
 -- `LeadsTo protocol level tokens due below rest`: the bytes of `tokens` before `rest` are the start
 -- of a reply with aggregates nested at most `level` deep. Then follow the data of a string, by its

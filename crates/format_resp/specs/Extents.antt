@@ -1,14 +1,13 @@
 -- The scanner for the end of a reply: the bytes passed, and the continuation expected after them.
-use Rattle.std.specs.Prelude.{◌≡◌, ◌≤◌, ◌+◌, ◌*◌, ◌^◌, ◌<◌, ◌↔◌, ⊤, Bool, true, false, ℕ}
+use Rattle.std.specs.Prelude.{◌≡◌, ◌≤◌, ◌+◌, ◌*◌, ◌^◌, ◌<◌, ◌↔◌, ⊤, ℕ}
 use Rattle.std.specs.Prelude.{zero, suc}
-use Rattle.std.specs.Prelude.{List, [], ◌∷◌, ◌++◌, length, take, drop, Option, Some, None}
+use Rattle.std.specs.Prelude.{List, ◌∷◌, ◌++◌, length, take, drop, Option, Some, None}
 use Rattle.std.specs.Prelude.{Result, Ok, Err}
 use Rattle.std.specs.Borrow.{Bor}
 use Rattle.std.specs.List.{AllByRecursion}
 use Rattle.winnow_grammar.specs.InTurn.{First}
-use Rattle.grammars.specs.Texts.{Text}
 use Rattle.format_resp.specs.Heads.{IsLinePrefix, IsNoLine}
-use Rattle.format_resp.specs.Resp.{DataText, InLine, IsVerbatim, Replies, ReplyText, line_end}
+use Rattle.format_resp.specs.Resp.{DataText, InLine, Replies, ReplyText, StringText, line_end}
 use Rattle.format_resp.specs.declared.extent.Bulk.{Bulk}
 use Rattle.format_resp.specs.declared.extent.Extent.{Extent}
 use Rattle.format_resp.specs.declared.extent.Invalid.{Invalid}
@@ -18,11 +17,14 @@ use Rattle.format_resp.specs.declared.heads.Head.{Head}
 use Rattle.format_resp.specs.declared.heads.Head.TheVariants as heads
 use Rattle.format_resp.specs.declared.reply.Protocol.{Protocol}
 
--- All of the bytes are a reply, with aggregates nested at most `level` deep. The allocator of its
--- elements does not matter.
+-- All of the bytes are a reply, with aggregates nested at most `level` deep, whose elements have
+-- this allocator.
+abbrev pub IsReplyOf : Type 0 → Protocol → ℕ → List ℕ → Type 0
+IsReplyOf A protocol level tokens = (reply : Replies A) × ReplyText protocol level reply tokens
+
+-- The allocator does not matter.
 abbrev pub IsReplyWithin : Protocol → ℕ → List ℕ → Type 0
-IsReplyWithin protocol level tokens =
-    (reply : Replies ⊤) × ReplyText protocol level reply tokens
+IsReplyWithin = IsReplyOf ⊤
 
 -- `IsReply protocol tokens`: they are one, with aggregates nested to some depth.
 abbrev pub IsReply : Protocol → List ℕ → Type 0
@@ -33,28 +35,17 @@ IsReply protocol tokens = (level : ℕ) × IsReplyWithin protocol level tokens
 abbrev pub MatchesAtStart : (List ℕ → Type 0) → List ℕ → List ℕ → Type 0
 MatchesAtStart these tokens rest = (front : List ℕ) × these front × (tokens ≡ front ++ rest)
 
--- `n` consecutive replies
-abbrev pub AreReplies : Protocol → ℕ → List ℕ → Type 0
-AreReplies protocol zero tokens = tokens ≡ []
-AreReplies protocol (suc n) tokens =
-    (xs : List ℕ) × (ys : List ℕ) × IsReply protocol xs × AreReplies protocol n ys
-    × (tokens ≡ xs ++ ys)
+-- `Times step n from to`: `n` steps lead from one to the other.
+unfoldable pub Times : (List ℕ → List ℕ → Type 0) → ℕ → List ℕ → List ℕ → Type 0
+Times step zero from to = from ≡ to
+Times step (suc n) from to = (between : List ℕ) × step from between × Times step n between to
 
--- bytes of a string: those of a verbatim string have a format
-abbrev pub Fits : Bool → List ℕ → Type 0
-Fits true bytes = IsVerbatim bytes
-Fits false bytes = ⊤
-
--- the data of a string and a line ending
-abbrev pub StringText : Bulk → Text ℕ (Bor (List ℕ))
-StringText bulk bytes tokens = Fits bulk.verbatim bytes.now × DataText bulk.size bytes tokens
-
--- The data of a string, if its size was passed, followed by `n` replies.
-abbrev pub AreDue : Protocol → Option Bulk → ℕ → List ℕ → Type 0
-AreDue protocol None n tokens = AreReplies protocol n tokens
-AreDue protocol (Some bulk) n tokens =
-    (bytes : Bor (List ℕ)) × (xs : List ℕ) × (ys : List ℕ) × StringText bulk bytes xs
-    × AreReplies protocol n ys × (tokens ≡ xs ++ ys)
+-- The data of a string, if its size was passed, and `n` replies: what remains after them.
+abbrev pub IsDue : Protocol → Option Bulk → ℕ → List ℕ → List ℕ → Type 0
+IsDue protocol None n tokens rest = Times (MatchesAtStart (IsReply protocol)) n tokens rest
+IsDue protocol (Some bulk) n tokens rest =
+    (bytes : Bor (List ℕ)) × (between : List ℕ) × First (StringText bulk) tokens bytes between
+    × Times (MatchesAtStart (IsReply protocol)) n between rest
 
 -- The extent has passed a prefix of `tokens`, and `rest` remains. For any continuation of the
 -- prefix, the whole starts with a reply if and only if the continuation starts with the expected
@@ -65,7 +56,7 @@ pub record Passed (protocol : Protocol) (extent : Extent) (tokens rest : List �
   pub count : length front ≡ extent.passed
   pub leads : (xs left : List ℕ)
       → MatchesAtStart (IsReply protocol) (front ++ xs) left
-      ↔ MatchesAtStart (AreDue protocol extent.bulk extent.replies) xs left
+      ↔ IsDue protocol extent.bulk extent.replies xs left
   pub few : extent.replies ≤ 2 ^ 64 * extent.passed + 1
   -- the first `sought` bytes after the next one have no byte of a line ending
   pub within : extent.sought ≤ length (drop 1 rest)
@@ -77,10 +68,11 @@ IsOf protocol extent tokens = (rest : List ℕ) × Passed protocol extent tokens
 
 -- The bytes are a proper prefix of a string's data of `size` bytes.
 pub record IsPartOfData (size : ℕ) (tokens : List ℕ) : Type 0 where
-  pub bytes : Bor (List ℕ)
+  pub bytes : List ℕ
   pub more : List ℕ
+  pub enough : length bytes ≡ size
   pub some : 0 < length more
-  pub made : First (DataText size) (tokens ++ more) bytes []
+  pub whole : tokens ++ more ≡ bytes ++ line_end
 
 -- no continuation starts with the data of the string
 abbrev pub IsNoString : Bulk → List ℕ → Type 0

@@ -1,12 +1,13 @@
 -- The first lines of replies, and their information about the bytes after them.
-use Rattle.std.specs.Prelude.{◌≡◌, ◌≤◌, ◌<◌, ◌^◌, ⊤, Bool, true, false, ℕ, List, [], ◌∷◌, ◌++◌}
+use Rattle.std.specs.Prelude.{◌≡◌, ◌≤◌, ◌<◌, ◌^◌, ⊤, ℕ, List, [], ◌∷◌, ◌++◌}
 use Rattle.std.specs.Prelude.{length, take, drop, Option, None, Some}
 use Rattle.std.specs.List.{AllByRecursion}
 use Rattle.winnow_grammar.specs.InTurn.{First, Led}
 use Rattle.grammars.specs.Texts.{Text}
 use Rattle.format_resp.specs.Lines.{EndsLine, IsOpen}
 use Rattle.format_resp.specs.Numbers.{AreDigits, IsBigNumber, SizeLine}
-use Rattle.format_resp.specs.Resp.{Ended, InLine, IsIn, LineSays, MarkText, byte_of, many}
+use Rattle.format_resp.specs.Resp.{Any, Ended, InLine, IsIn, LineSays, MarkText, byte_of, formatted}
+use Rattle.format_resp.specs.Resp.{many}
 use Rattle.format_resp.specs.Resp as resp
 use Rattle.format_resp.specs.declared.extent.Reason.{Reason}
 use Rattle.format_resp.specs.declared.extent.Reason.TheVariants.{Malformed, TooDeep, TooLarge}
@@ -14,41 +15,34 @@ use Rattle.format_resp.specs.declared.heads.Head.{Head}
 use Rattle.format_resp.specs.declared.heads.Head.TheVariants.{Data, Ends, Replies}
 use Rattle.format_resp.specs.declared.heads.Start.{Start}
 use Rattle.format_resp.specs.declared.heads.Start.TheVariants.{Never, Open, Whole}
-use Rattle.format_resp.specs.declared.marks.AggregateMark.{AggregateMark}
 use Rattle.format_resp.specs.declared.marks.AggregateMark.TheVariants.{Star}
-use Rattle.format_resp.specs.declared.marks.DataMark.{DataMark}
-use Rattle.format_resp.specs.declared.marks.DataMark.TheVariants.{Dollar, Equals}
+use Rattle.format_resp.specs.declared.marks.DataMark.TheVariants.{Dollar}
 use Rattle.format_resp.specs.declared.marks.LineMark.TheVariants.{Colon}
 use Rattle.format_resp.specs.declared.marks.Mark.{Mark}
 use Rattle.format_resp.specs.declared.marks.Mark.TheVariants as marks
 use Rattle.format_resp.specs.declared.reply.Protocol.{Protocol}
 
--- whether the data start with a format: those of a verbatim string
-abbrev pub formatted : DataMark → Bool
-formatted Equals = true
-formatted mark = false
+-- what is after a size: the bytes of a string, or replies; the size of a bulk string or of an array
+-- may be that of null
+abbrev pub head_after : Mark → Option ℕ → Option Head
+head_after (marks.Data mark) (Some n) =
+    Some (Data (record { size = n; verbatim = formatted mark }))
+head_after (marks.Data Dollar) None = Some Ends
+head_after (marks.Aggregate mark) (Some n) = Some (Replies (many mark n))
+head_after (marks.Aggregate Star) None = Some Ends
+head_after mark size = None
 
--- after the size of a string its bytes are; that of a bulk string may be that of null
-abbrev pub IsDataHead : DataMark → Option ℕ → Head → Type 0
-IsDataHead mark (Some n) head = head ≡ Data (record { size = n; verbatim = formatted mark })
-IsDataHead Dollar None head = head ≡ Ends
-IsDataHead mark None head = ⊥
-
--- after that of an aggregate its replies are, fewer than 2 ^ 63; that of an array may be that of
--- null
-abbrev pub IsAggregateHead : AggregateMark → Option ℕ → Head → Type 0
-IsAggregateHead mark (Some n) head = (head ≡ Replies (many mark n)) × (many mark n < 2 ^ 63)
-IsAggregateHead Star None head = head ≡ Ends
-IsAggregateHead mark None head = ⊥
+-- it is not of 2 ^ 63 replies or more
+abbrev pub IsSmall : Head → Type 0
+IsSmall (Replies n) = n < 2 ^ 63
+IsSmall head = ⊤
 
 -- the line after the first byte of a reply, by its meaning
 abbrev pub Says : Mark → Text ℕ Head
 Says (marks.Line mark) head line =
-    (head ≡ Ends) × ((reply : resp.Replies ⊤) × LineSays mark reply line)
-Says (marks.Data mark) head line =
-    (size : Option ℕ) × SizeLine size line × IsDataHead mark size head
-Says (marks.Aggregate mark) head line =
-    (size : Option ℕ) × SizeLine size line × IsAggregateHead mark size head
+    (head ≡ Ends) × ((reply : resp.Replies ⊤) × LineSays Any mark reply line)
+Says mark head line =
+    (size : Option ℕ) × SizeLine size line × (head_after mark size ≡ Some head) × IsSmall head
 
 -- the first line of a reply, by its meaning
 abbrev pub HeadText : Protocol → Text ℕ Head

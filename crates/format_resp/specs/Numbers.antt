@@ -3,6 +3,7 @@
 use Rattle.std.specs.Prelude.{◌≡◌, ◌==◌, ◌⊎◌, ◌<◌, ◌^◌, ⊤, Bool, true, false, ℕ, ℤ, pos, neg_ℤ}
 use Rattle.std.specs.Prelude.{List, [], ◌∷◌, ◌++◌, length, Option, None, Some, FitsSigned}
 use Rattle.std.specs.Prelude.{if◌then◌else◌}
+use Rattle.std.specs.Fmt.{decimal, signed_decimal}
 use Rattle.std.specs.Int.{w64}
 use Rattle.std.specs.List.{AllByRecursion}
 use Rattle.stream_sets.specs.AsChar.{IsDecDigit}
@@ -44,6 +45,14 @@ SignedText n tokens = UnsignedText (is_negative tokens) n (unsigned tokens)
 abbrev pub SizeLine : Option ℕ → List ℕ → Type 0
 SizeLine None line = line ≡ 45 ∷ 49 ∷ []
 SizeLine (Some n) line = DigitsText n line × (n < 2 ^ 63)
+
+-- the same as they are written: no plus sign, and no leading zeros
+abbrev pub ShortInteger : ℤ → List ℕ → Type 0
+ShortInteger n tokens = FitsSigned w64 n × (tokens ≡ signed_decimal n)
+
+abbrev pub ShortSize : Option ℕ → List ℕ → Type 0
+ShortSize None line = line ≡ 45 ∷ 49 ∷ []
+ShortSize (Some n) line = (n < 2 ^ 63) × (line ≡ decimal n)
 
 -- [<+|->]<number>
 unfoldable pub IsBigNumber : List ℕ → Type 0

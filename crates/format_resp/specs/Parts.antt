@@ -1,12 +1,12 @@
 -- The positions of the parts of a reply.
 use Rattle.std.specs.Prelude.{◌≡◌, ℕ, List, ◌∷◌, ◌++◌, suc, ⊤}
-use Rattle.std.specs.Borrow.{Bor}
 use Rattle.std.specs.List.{AllByRecursion}
 use Rattle.grammars.specs.Texts.{EachText}
-use Rattle.format_resp.specs.Resp.{Opened, Replies, ReplyText, line_end}
+use Rattle.format_resp.specs.Resp.{Bytes, Content, Items, Opened, Replies, ReplyText, line_end}
+use Rattle.format_resp.specs.Resp.{shape}
+use Rattle.format_resp.specs.declared.marks.Mark.{Mark}
+use Rattle.format_resp.specs.declared.marks.Mark.TheVariants.{Line}
 use Rattle.format_resp.specs.declared.reply.Protocol.{Protocol}
-use Rattle.format_resp.specs.declared.reply.Reply.{out-Reply}
-use Rattle.format_resp.specs.declared.reply.Reply.TheOpen.{Reply-F}
 
 -- no line feed
 abbrev pub NoFeed : List ℕ → Type 0
@@ -26,30 +26,14 @@ HasElements protocol level input elements rest =
     (inner : ℕ) × (level ≡ suc inner) × (bytes : List ℕ)
     × EachText (ReplyText protocol inner) elements bytes × IsBehindFeed input (bytes ++ rest)
 
--- The positions of the parts of a reply, by its kind: on the first line, or after it.
-abbrev pub StandsBy : {A : Type 0} → Protocol → ℕ → List ℕ → Opened A → List ℕ → Type 0
-StandsBy protocol level input (Reply-F.Simple text) rest = IsLine input text.now rest
-StandsBy protocol level input (Reply-F.Error text) rest = IsLine input text.now rest
-StandsBy protocol level input (Reply-F.Double text) rest = IsLine input text.now rest
-StandsBy protocol level input (Reply-F.BigNumber text) rest = IsLine input text.now rest
-StandsBy protocol level input (Reply-F.Bulk text) rest =
+-- The positions of the parts of a reply, by what it is: on the first line, or after it.
+abbrev pub StandsAs : {A : Type 0} → Protocol → ℕ → List ℕ → Mark × Content A → List ℕ → Type 0
+StandsAs protocol level input (Line mark, Bytes text) rest = IsLine input text.now rest
+StandsAs protocol level input (mark, Bytes text) rest =
     IsBehindFeed input (text.now ++ (line_end ++ rest))
-StandsBy protocol level input (Reply-F.BulkError text) rest =
-    IsBehindFeed input (text.now ++ (line_end ++ rest))
-StandsBy protocol level input (Reply-F.Verbatim text) rest =
-    IsBehindFeed input (text.now ++ (line_end ++ rest))
-StandsBy protocol level input (Reply-F.Array list) rest =
+StandsAs protocol level input (mark, Items list) rest =
     HasElements protocol level input list.items rest
-StandsBy protocol level input (Reply-F.Map list) rest =
-    HasElements protocol level input list.items rest
-StandsBy protocol level input (Reply-F.Set list) rest =
-    HasElements protocol level input list.items rest
-StandsBy protocol level input (Reply-F.Push list) rest =
-    HasElements protocol level input list.items rest
-StandsBy protocol level input (Reply-F.Attributed list) rest =
-    HasElements protocol level input list.items rest
-StandsBy protocol level input kind rest = ⊤
+StandsAs protocol level input (mark, content) rest = ⊤
 
-abbrev pub IsReplyAt : {A : Type 0} → Protocol → ℕ → List ℕ → Replies A → List ℕ → Type 0
-IsReplyAt {A} protocol level input reply rest =
-    StandsBy protocol level input (out-Reply (Bor (List ℕ)) A reply) rest
+abbrev pub StandsBy : {A : Type 0} → Protocol → ℕ → List ℕ → Opened A → List ℕ → Type 0
+StandsBy protocol level input kind rest = StandsAs protocol level input (shape kind) rest

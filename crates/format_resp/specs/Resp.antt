@@ -1,13 +1,15 @@
--- RESP2 and RESP3: which bytes are written for a reply.
+-- RESP2 and RESP3: which bytes are encodings of a reply.
 use Rattle.std.specs.Prelude.{◌≡◌, ◌+◌, ◌*◌, Bool, true, false, ⊤, ℕ, List, [], ◌∷◌, ◌++◌, length}
-use Rattle.std.specs.Prelude.{Option, Some, None, zero, suc}
+use Rattle.std.specs.Prelude.{Option, Some, None, zero, suc, ℤ}
 use Rattle.std.specs.Borrow.{Bor}
 use Rattle.std.specs.List.{AllByRecursion}
 use Rattle.std.specs.declared.vec.Vec.{Vec}
 use Rattle.streams.specs.Bytes.{bytes_reading}
 use Rattle.grammars.specs.Texts.{CountedText, EachText, Members, Text}
 use Rattle.winnow_grammar.specs.InTurn.{Led}
-use Rattle.format_resp.specs.Numbers.{IsBigNumber, IsDouble, SignedText, SizeLine}
+use Rattle.format_resp.specs.Numbers.{IsBigNumber, IsDouble, ShortInteger, ShortSize, SignedText}
+use Rattle.format_resp.specs.Numbers.{SizeLine}
+use Rattle.format_resp.specs.declared.extent.Bulk.{Bulk}
 use Rattle.format_resp.specs.declared.marks.AggregateMark.{AggregateMark}
 use Rattle.format_resp.specs.declared.marks.AggregateMark.TheVariants.{Bar, Greater, Percent, Star}
 use Rattle.format_resp.specs.declared.marks.AggregateMark.TheVariants.{Tilde}
@@ -22,6 +24,7 @@ use Rattle.format_resp.specs.declared.reply.Protocol.{Protocol}
 use Rattle.format_resp.specs.declared.reply.Protocol.TheVariants.{Resp3}
 use Rattle.format_resp.specs.declared.reply.Reply.{Reply}
 use Rattle.format_resp.specs.declared.reply.Reply as made
+use Rattle.format_resp.specs.declared.reply.Reply.{out-Reply}
 use Rattle.format_resp.specs.declared.reply.Reply.TheOpen.{Reply-F}
 
 -- a carriage return and a line feed
@@ -47,10 +50,6 @@ SizeText = Ended SizeLine
 -- `n` bytes, and a line ending
 unfoldable pub DataText : ℕ → Text ℕ (Bor (List ℕ))
 DataText n = Ended (CountedText bytes_reading n)
-
--- a reply that is made so of a value
-abbrev pub For : {O R : Type 0} → (O → R) → Text ℕ O → Text ℕ R
-For {O} make text reply tokens = (o : O) × (reply ≡ make o) × text o tokens
 
 -- the bytes that replies begin with
 abbrev pub byte_of : Mark → ℕ
@@ -96,12 +95,28 @@ abbrev pub BooleanText : Text ℕ Bool
 BooleanText true tokens = tokens ≡ 116 ∷ []
 BooleanText false tokens = tokens ≡ 102 ∷ []
 
+-- whether the data start with a format: those of a verbatim string
+abbrev pub formatted : DataMark → Bool
+formatted Equals = true
+formatted mark = false
+
+-- bytes of a string: those of a verbatim string have a format
+abbrev pub Fits : Bool → List ℕ → Type 0
+Fits true bytes = IsVerbatim bytes
+Fits false bytes = ⊤
+
+-- the data of a string and a line ending
+abbrev pub StringText : Bulk → Text ℕ (Bor (List ℕ))
+StringText bulk bytes tokens = Fits bulk.verbatim bytes.now × DataText bulk.size bytes tokens
+
 -- how many replies are in an aggregate: keys and values are counted in twos, and after attributes
 -- the reply is that they are of
 abbrev pub many : AggregateMark → ℕ → ℕ
 many Percent n = n * 2
 many Bar n = n * 2 + 1
 many mark n = n
+
+-- ---- what a reply is
 
 -- replies whose bytes are slices
 abbrev pub Replies : Type 0 → Type 0
@@ -111,38 +126,94 @@ Replies A = Reply (Bor (List ℕ)) A
 abbrev pub Opened : Type 0 → Type 0
 Opened A = Reply-F (Bor (List ℕ)) A (Replies A)
 
+-- what one holds, besides its kind
+pub data Content (A : Type 0) : Type 0 where
+  Bytes : Bor (List ℕ) → Content A
+  Number : ℤ → Content A
+  Truth : Bool → Content A
+  Items : Vec (Replies A) A → Content A
+  Nothing : Content A
+
 module _ {A : Type 0} where
-  -- the contents of the line of a reply that consists of one line
-  abbrev pub LineSays : LineMark → Text ℕ (Replies A)
-  LineSays Plus = For (λ text. made.Simple text) (Shown (AllByRecursion InLine))
-  LineSays Minus = For (λ text. made.Error text) (Shown (AllByRecursion InLine))
-  LineSays Colon = For (λ n. made.Integer n) SignedText
-  LineSays Underscore = λ reply tokens. (reply ≡ made.Null) × (tokens ≡ [])
-  LineSays Hash = For (λ b. made.Boolean b) BooleanText
-  LineSays Comma = For (λ text. made.Double text) (Shown IsDouble)
-  LineSays Parenthesis = For (λ text. made.BigNumber text) (Shown IsBigNumber)
+  -- by its kind: what its encodings begin with, and what it holds
+  abbrev pub shape : Opened A → Mark × Content A
+  shape (Reply-F.Simple x) = (Line Plus, Bytes x)
+  shape (Reply-F.Error x) = (Line Minus, Bytes x)
+  shape (Reply-F.Integer n) = (Line Colon, Number n)
+  shape (Reply-F.Bulk x) = (Data Dollar, Bytes x)
+  shape Reply-F.NullBulk = (Data Dollar, Nothing)
+  shape (Reply-F.Array l) = (Aggregate Star, Items l)
+  shape Reply-F.NullArray = (Aggregate Star, Nothing)
+  shape Reply-F.Null = (Line Underscore, Nothing)
+  shape (Reply-F.Boolean b) = (Line Hash, Truth b)
+  shape (Reply-F.Double x) = (Line Comma, Bytes x)
+  shape (Reply-F.BigNumber x) = (Line Parenthesis, Bytes x)
+  shape (Reply-F.BulkError x) = (Data Exclamation, Bytes x)
+  shape (Reply-F.Verbatim x) = (Data Equals, Bytes x)
+  shape (Reply-F.Map l) = (Aggregate Percent, Items l)
+  shape (Reply-F.Set l) = (Aggregate Tilde, Items l)
+  shape (Reply-F.Push l) = (Aggregate Greater, Items l)
+  shape (Reply-F.Attributed l) = (Aggregate Bar, Items l)
 
-  -- the bytes of a reply
-  abbrev pub DataSays : DataMark → Text ℕ (Replies A)
-  DataSays Dollar = For (λ bytes. made.Bulk bytes) (Shown (λ tokens. ⊤))
-  DataSays Exclamation = For (λ bytes. made.BulkError bytes) (Shown (λ tokens. ⊤))
-  DataSays Equals = For (λ bytes. made.Verbatim bytes) (Shown IsVerbatim)
+  abbrev pub shape_of : Replies A → Mark × Content A
+  shape_of reply = shape (out-Reply (Bor (List ℕ)) A reply)
 
-  -- after the size of a reply: its bytes, and a line ending; the size of a bulk string may be that
-  -- of null
-  abbrev pub DataBehind : DataMark → Option ℕ → Text ℕ (Replies A)
-  DataBehind mark (Some n) reply tokens =
-      (bytes : Bor (List ℕ)) × DataSays mark reply bytes.now × DataText n bytes tokens
-  DataBehind Dollar None reply tokens = (reply ≡ made.NullBulk) × (tokens ≡ [])
-  DataBehind mark None reply tokens = ⊥
+  abbrev pub first_mark : Replies A → Mark
+  first_mark reply = (shape_of reply).0
 
-  -- what they are
+  -- the aggregate of these replies
   abbrev pub gathered : AggregateMark → Vec (Replies A) A → Replies A
   gathered Star list = made.Array list
   gathered Percent list = made.Map list
   gathered Tilde list = made.Set list
   gathered Greater list = made.Push list
   gathered Bar list = made.Attributed list
+
+  -- a reply of this shape, by the value in it
+  abbrev pub For : {O : Type 0} → (O → Mark × Content A) → Text ℕ O → Text ℕ (Replies A)
+  For {O} of text reply tokens = (o : O) × (shape_of reply ≡ of o) × text o tokens
+
+  -- one that holds nothing
+  abbrev pub Empty : Mark → Text ℕ (Replies A)
+  Empty mark reply tokens = (shape_of reply ≡ (mark, Nothing)) × (tokens ≡ [])
+
+-- ---- encodings
+
+-- Which numbers are written: with any zeros before them and any sign, as they are read, or in the
+-- shortest form.
+pub data Form : Type 0 where
+  Any : Form
+  Shortest : Form
+
+abbrev pub IntegerText : Form → Text ℕ ℤ
+IntegerText Any = SignedText
+IntegerText Shortest = ShortInteger
+
+abbrev pub SizeIn : Form → Text ℕ (Option ℕ)
+SizeIn Any = SizeText
+SizeIn Shortest = Ended ShortSize
+
+-- the bytes of a reply that is a line
+abbrev pub IsLineOf : LineMark → List ℕ → Type 0
+IsLineOf Comma = IsDouble
+IsLineOf Parenthesis = IsBigNumber
+IsLineOf mark = AllByRecursion InLine
+
+module _ {A : Type 0} where
+  -- the contents of the line of a reply that consists of one line
+  abbrev pub LineSays : Form → LineMark → Text ℕ (Replies A)
+  LineSays form Colon = For (λ n. (Line Colon, Number n)) (IntegerText form)
+  LineSays form Underscore = Empty (Line Underscore)
+  LineSays form Hash = For (λ b. (Line Hash, Truth b)) BooleanText
+  LineSays form mark = For (λ text. (Line mark, Bytes text)) (Shown (IsLineOf mark))
+
+  -- after the size of a reply: its bytes, and a line ending; the size of a bulk string may be that
+  -- of null
+  abbrev pub DataBehind : DataMark → Option ℕ → Text ℕ (Replies A)
+  DataBehind mark (Some n) = For (λ bytes. (Data mark, Bytes bytes))
+      (StringText (record { size = n; verbatim = formatted mark }))
+  DataBehind Dollar None = Empty (Data Dollar)
+  DataBehind mark None = λ reply tokens. ⊥
 
   -- a list of `n` replies
   abbrev pub ListText : Text ℕ (List (Replies A)) → ℕ → Text ℕ (Vec (Replies A) A)
@@ -152,23 +223,35 @@ module _ {A : Type 0} where
   abbrev pub AggregateBehind : Text ℕ (List (Replies A)) → AggregateMark → Option ℕ
       → Text ℕ (Replies A)
   AggregateBehind elements mark (Some n) =
-      For (λ list. gathered mark list) (ListText elements (many mark n))
-  AggregateBehind elements Star None = λ reply tokens. (reply ≡ made.NullArray) × (tokens ≡ [])
+      For (λ list. (Aggregate mark, Items list)) (ListText elements (many mark n))
+  AggregateBehind elements Star None = Empty (Aggregate Star)
   AggregateBehind elements mark None = λ reply tokens. ⊥
 
   -- after the first byte
-  abbrev pub Body : Text ℕ (List (Replies A)) → Mark → Text ℕ (Replies A)
-  Body elements (Line mark) = Ended (LineSays mark)
-  Body elements (Data mark) = Led SizeText (DataBehind mark)
-  Body elements (Aggregate mark) = Led SizeText (AggregateBehind elements mark)
+  abbrev pub Body : Form → Text ℕ (List (Replies A)) → Mark → Text ℕ (Replies A)
+  Body form elements (Line mark) = Ended (LineSays form mark)
+  Body form elements (Data mark) = Led (SizeIn form) (DataBehind mark)
+  Body form elements (Aggregate mark) = Led (SizeIn form) (AggregateBehind elements mark)
 
-module _ {A : Type 0} (protocol : Protocol) where
+module _ (form : Form) (protocol : Protocol) {A : Type 0} where
   -- the elements of an aggregate nested at most this deep, counting the aggregate itself
-  unfoldable pub Elements : ℕ → Text ℕ (List (Replies A))
-  Elements zero replies tokens = ⊥
-  Elements (suc level) replies tokens =
-      EachText (Led (MarkText protocol) (Body (Elements level))) replies tokens
+  unfoldable pub ElementsIn : ℕ → Text ℕ (List (Replies A))
+  ElementsIn zero replies tokens = ⊥
+  ElementsIn (suc level) replies tokens =
+      EachText (Led (MarkText protocol) (Body form (ElementsIn level))) replies tokens
 
   -- a reply whose aggregates are nested at most `level` deep
+  abbrev pub Encoding : ℕ → Text ℕ (Replies A)
+  Encoding level = Led (MarkText protocol) (Body form (ElementsIn level))
+
+module _ {A : Type 0} (protocol : Protocol) where
+  -- as it may be read
+  abbrev pub Elements : ℕ → Text ℕ (List (Replies A))
+  Elements = ElementsIn Any protocol
+
   abbrev pub ReplyText : ℕ → Text ℕ (Replies A)
-  ReplyText level = Led (MarkText protocol) (Body (Elements level))
+  ReplyText = Encoding Any protocol
+
+  -- as it is written
+  abbrev pub WrittenText : ℕ → Text ℕ (Replies A)
+  WrittenText = Encoding Shortest protocol

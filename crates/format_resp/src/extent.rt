@@ -3,16 +3,17 @@
 //! No byte is searched twice for a line ending, for any number of chunks, and those of a string are
 //! not examined. So the time to find a reply is linear in its bytes. One call of
 //! [`read_reply`](crate::read::read_reply) then reads it.
-ghost use Rattle.format_resp.specs.Extents.{Fits, IsDataEnd, IsLessPart, IsLineEnd, IsOf, IsPart};
+ghost use Rattle.format_resp.specs.Extents.{IsDataEnd, IsLessPart, IsOf, IsPart};
 ghost use Rattle.format_resp.specs.Extents.{IsReply, IsStringEnd, IsWanting, MatchesAtStart};
 ghost use Rattle.format_resp.specs.Extents.{Passed, ReplyResult, count_after, data_after};
-ghost use Rattle.format_resp.specs.Resp.{Replies, ReplyText};
+ghost use Rattle.format_resp.specs.Resp.{Fits, Replies, ReplyText};
 ghost use Rattle.format_resp.specs.declared.reply.Protocol.{Protocol};
 ghost use Rattle.std.specs.Prelude.{◌≡◌, ◌≤◌, ◌^◌, ◌++◌, ℕ, List, None, Some, length};
 ghost use Rattle.std.specs.Prelude.{IfOk, IfSome, MatchBool, OnOk, suc};
 ghost use Rattle.winnow_grammar.specs.InTurn.{First};
 
 use crate::heads::{Head, Start, start_of};
+use crate::lines::skip_line_ending;
 use crate::reply::{Protocol, is_verbatim};
 use std::alloc::Allocator;
 
@@ -98,32 +99,6 @@ pub struct Extent {
     pub bulk: Option<Bulk>,
     /// The number of replies that are expected after that.
     pub replies: u128,
-}
-
-/// Skips a line ending and returns the rest.
-#[inline(always)]
-fn skip_line_ending<'i>(bytes: &'i [u8]) -> Result<Option<&'i [u8]>, Reason>
-    ensures told { IsLineEnd bytes.now result }
-    ensures less { IsLessPart (length bytes.now) result }
-{
-    match bytes.split_first() {
-        None => Ok(None),
-        Some((first, more)) => {
-            if *first != b'\r' {
-                return Err(Reason::Malformed);
-            }
-            match more.split_first() {
-                None => Ok(None),
-                Some((second, left)) => {
-                    if *second == b'\n' {
-                        Ok(Some(left))
-                    } else {
-                        Err(Reason::Malformed)
-                    }
-                }
-            }
-        }
-    }
 }
 
 /// Returns data of `size` bytes, and the rest after their line ending.

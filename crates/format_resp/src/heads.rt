@@ -1,8 +1,8 @@
 //! The first lines of replies, and their information about the bytes after them.
 ghost use Rattle.format_resp.specs.Heads.{HasNumber, IsLessStart, IsReason, IsRejectedLine};
-ghost use Rattle.format_resp.specs.Heads.{IsStart, Says, formatted};
+ghost use Rattle.format_resp.specs.Heads.{IsStart, Says};
 ghost use Rattle.format_resp.specs.Numbers.{AreDigits};
-ghost use Rattle.format_resp.specs.Resp.{InLine};
+ghost use Rattle.format_resp.specs.Resp.{InLine, formatted};
 ghost use Rattle.format_resp.specs.declared.heads.Head.TheVariants.{Ends};
 ghost use Rattle.format_resp.specs.declared.marks.Mark.TheVariants as marks;
 ghost use Rattle.std.specs.List.{AllByRecursion};

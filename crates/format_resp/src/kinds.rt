@@ -2,8 +2,9 @@
 
 ghost use Rattle.std.specs.List.{AllByRecursion};
 ghost use Rattle.std.specs.Prelude.{◌≡◌, ◌≤◌, ◌+◌, ◌*◌, ◌^◌, ℕ, Bool, IfSome, None};
-ghost use Rattle.format_resp.specs.Resp.{BooleanText, DataSays, InLine, LineSays, Replies};
-ghost use Rattle.format_resp.specs.Resp.{gathered, many};
+ghost use Rattle.format_resp.specs.Resp.{Any, BooleanText, Bytes, Fits, InLine, LineSays};
+ghost use Rattle.format_resp.specs.Resp.{Replies, formatted, gathered, many, shape_of};
+ghost use Rattle.format_resp.specs.declared.marks.Mark.TheVariants.{Data};
 
 use crate::marks::{AggregateMark, DataMark, LineMark};
 use crate::numbers::{is_big_number, is_double, number_of};
@@ -30,8 +31,8 @@ pub(crate) fn line_reply<'i, A: Allocator>(
     line: &'i [u8],
 ) -> Option<Reply<&'i [u8], A>>
     ensures some { IfSome result (λ reply. AllByRecursion InLine line.now
-        → LineSays mark reply line.now) }
-    ensures none { result ≡ None → (reply : Replies A) → LineSays mark reply line.now → ⊥ }
+        → LineSays Any mark reply line.now) }
+    ensures none { result ≡ None → (reply : Replies A) → LineSays Any mark reply line.now → ⊥ }
 {
     match mark {
         LineMark::Plus => Some(Reply::Simple(line)),
@@ -74,8 +75,9 @@ pub(crate) fn data_reply<'i, A: Allocator>(
     mark: DataMark,
     bytes: &'i [u8],
 ) -> Option<Reply<&'i [u8], A>>
-    ensures some { IfSome result (λ reply. DataSays mark reply bytes.now) }
-    ensures none { result ≡ None → (reply : Replies A) → DataSays mark reply bytes.now → ⊥ }
+    ensures some { IfSome result (λ reply. (shape_of reply ≡ (Data mark, Bytes bytes.entry))
+        × Fits (formatted mark) bytes.now) }
+    ensures none { result ≡ None → Fits (formatted mark) bytes.now → ⊥ }
 {
     match mark {
         DataMark::Dollar => Some(Reply::Bulk(bytes)),

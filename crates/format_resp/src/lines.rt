@@ -1,10 +1,11 @@
 //! Lines, as far as they are there.
 ghost use Rattle.std.specs.List.{AllByRecursion};
-ghost use Rattle.std.specs.Prelude.{◌≡◌, ◌++◌, length, slice_index, take, true};
-ghost use Rattle.memchr.specs.Find.{is_byte2};
+ghost use Rattle.std.specs.Prelude.{length, take};
+ghost use Rattle.format_resp.specs.Extents.{IsLessPart, IsLineEnd};
 ghost use Rattle.format_resp.specs.Lines.{IsLessLine, IsLine};
 ghost use Rattle.format_resp.specs.Resp.{InLine};
 
+use crate::extent::Reason;
 use memchr::memchr2;
 
 /// The result of the search for a line.
@@ -17,27 +18,27 @@ pub(crate) enum Line<'i> {
     Never,
 }
 
-/// Returns the result for `line` followed by `behind`, whose first byte is of a line ending.
+/// Skips a line ending and returns the rest.
 #[inline(always)]
-fn ended<'i>(line: &'i [u8], behind: &'i [u8]) -> Line<'i>
-    ensures told { AllByRecursion InLine line.now
-        → is_byte2 13 10 (slice_index behind.now 0) ≡ true
-        → IsLine (line.now ++ behind.now) result }
-    ensures less { IsLessLine (length behind.now) result }
+pub(crate) fn skip_line_ending<'i>(bytes: &'i [u8]) -> Result<Option<&'i [u8]>, Reason>
+    ensures told { IsLineEnd bytes.now result }
+    ensures less { IsLessPart (length bytes.now) result }
 {
-    let Some((first, more)) = behind.split_first() else {
-        return Line::Never;
-    };
-    if *first != b'\r' {
-        return Line::Never;
-    }
-    match more.split_first() {
-        None => Line::Open(line.len()),
-        Some((second, left)) => {
-            if *second == b'\n' {
-                Line::Whole(line, left)
-            } else {
-                Line::Never
+    match bytes.split_first() {
+        None => Ok(None),
+        Some((first, more)) => {
+            if *first != b'\r' {
+                return Err(Reason::Malformed);
+            }
+            match more.split_first() {
+                None => Ok(None),
+                Some((second, left)) => {
+                    if *second == b'\n' {
+                        Ok(Some(left))
+                    } else {
+                        Err(Reason::Malformed)
+                    }
+                }
             }
         }
     }
@@ -56,7 +57,11 @@ pub(crate) fn line_of<'i>(bytes: &'i [u8], sought: usize) -> Line<'i>
             None => Line::Open(bytes.len()),
             Some(at) => {
                 let (line, behind) = bytes.split_at(sought + at);
-                ended(line, behind)
+                match skip_line_ending(behind) {
+                    Ok(Some(left)) => Line::Whole(line, left),
+                    Ok(None) => Line::Open(line.len()),
+                    Err(_) => Line::Never,
+                }
             }
         },
     }

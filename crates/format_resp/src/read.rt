@@ -4,8 +4,8 @@ ghost use Rattle.std.specs.Prelude.{ℕ};
 ghost use Rattle.streams.specs.Bytes.{bytes_follow, bytes_reading};
 ghost use Rattle.winnow_grammar.specs.Cut.{ReadsOrAsks};
 ghost use Rattle.winnow_grammar.specs.InTurn.{First, Led};
-ghost use Rattle.format_resp.specs.Resp.{AggregateBehind, DataBehind, Elements, Ended, LineSays};
-ghost use Rattle.format_resp.specs.Resp.{ReplyText, SizeText};
+ghost use Rattle.format_resp.specs.Resp.{AggregateBehind, Any, DataBehind, Elements, Ended};
+ghost use Rattle.format_resp.specs.Resp.{LineSays, ReplyText, SizeText};
 
 use crate::kinds::{aggregate_reply, count_of, data_reply, line_reply};
 use crate::leaves::{read_data, read_line, read_size};
@@ -31,7 +31,7 @@ fn read_on_line<'i, A: Allocator>(
     input: &mut Partial<&'i [u8]>,
 ) -> Result<Reply<&'i [u8], A>, ErrMode<EmptyError>>
     ensures { ReadsOrAsks bytes_reading bytes_follow ⟦<Error as HasKind>⟧.kind
-        (First (Ended (LineSays mark))) (⟦<Bytes as Stream>⟧.view input.old) result
+        (First (Ended (LineSays Any mark))) (⟦<Bytes as Stream>⟧.view input.old) result
         (⟦<Bytes as Stream>⟧.view input.new) }
 {
     let line = read_line(input)?;

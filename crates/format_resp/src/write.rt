@@ -4,11 +4,10 @@ ghost use Rattle.std.specs.Prelude.{◌≡◌, ◌⊎◌, ◌++◌, [], IfErr, M
 ghost use Rattle.grammars.specs.Texts.{EachText};
 ghost use Rattle.format_resp.specs.Numbers.{IsBigNumber, IsDouble};
 ghost use Rattle.format_resp.specs.Resp.{BooleanText, InLine, IsIn, IsVerbatim, ReplyText};
-ghost use Rattle.format_resp.specs.Resp.{gathered};
+ghost use Rattle.format_resp.specs.Resp.{WrittenText, first_mark, gathered};
 ghost use Rattle.format_resp.specs.Written.{Adds, IsForeign, IsRefused, IsRefusedAmong};
 ghost use Rattle.format_resp.specs.Written.{IsRefusedAs};
-ghost use Rattle.format_resp.specs.Written.{Keeps, WrittenText, bulks_of, command_of, data_of};
-ghost use Rattle.format_resp.specs.Written.{first_mark, marked};
+ghost use Rattle.format_resp.specs.Written.{Keeps, bulks_of, command_of, data_of, marked};
 ghost use Rattle.format_resp.specs.declared.marks.Mark.TheVariants.{Aggregate};
 ghost use Rattle.format_resp.specs.declared.write.WriteError.TheVariants as errors;
 

@@ -1,8 +1,9 @@
 use Rattle.std.specs.Prelude.{None, drop, suc, ◌≡◌}
 use Rattle.std.proofs.Common.{arith, inl, inr, refl}
+use Rattle.format_resp.proofs.AfterLines.{head_back}
 use Rattle.format_resp.proofs.Passing.{all_none}
 use Rattle.format_resp.proofs.Within.{after_more, after_none, leads_here, replies_passed}
-use Rattle.format_resp.proofs.Within.{reply_within, string_passed}
+use Rattle.format_resp.proofs.Within.{string_passed}
 use Rattle.format_resp.specs.declared.heads.Head.TheVariants as heads
 use Rattle.format_resp.proofs.bounded.+pass.Goals as goal
 
@@ -38,10 +39,9 @@ pass_reply-returns-in-Open t c =
 
 pub pass_reply-returns-in-Ends : goal.pass_reply-returns-in-Ends
 pass_reply-returns-in-Ends t c =
-    reply_within c.args.protocol c.args.level heads.Ends c.args.bytes.now c.in-Whole.left.now
-    c.in-Whole.left.now _
-    (rw c.in-Ends.is at (c.in-Whole.ensures.told (all_none (drop 1 c.args.bytes.now))))
-    refl refl
+    head_back c.args.protocol c.args.level c.in-Whole.left.now tt heads.Ends c.args.bytes.now
+    c.in-Whole.left.now
+    (rw c.in-Ends.is at (c.in-Whole.ensures.told (all_none (drop 1 c.args.bytes.now)))) refl
 
 pub pass_reply-returns-in-Data : goal.pass_reply-returns-in-Data
 pass_reply-returns-in-Data t c =

@@ -1,5 +1,5 @@
 use Rattle.std.specs.Prelude.{None, Some, ℕ}
-use Rattle.std.proofs.Common.{ap, arith, refl}
+use Rattle.std.proofs.Common.{ap, arith, refl, sym}
 use Rattle.format_resp.proofs.FirstLines.{no_null_aggregate, too_many}
 use Rattle.format_resp.specs.declared.heads.Head.TheVariants.{Replies}
 use Rattle.format_resp.proofs.heads.aggregate_head.Goals as goal
@@ -10,7 +10,8 @@ returns-then-count-le-MOST-clause-head c =
     let many = c.in-Some.ensures.some in (
       Some c.in-Some-Some.size,
       is,
-      (ap (λ (n : ℕ). Replies n) many, omega (arith, many, c.if-count-le-MOST.true)),
+      ap (λ (n : ℕ). Some (Replies n)) (sym many),
+      omega (arith, many, c.if-count-le-MOST.true),
     )
 
 pub returns-else-count-le-MOST-clause-rejected : goal.returns-else-count-le-MOST-clause-rejected
@@ -28,7 +29,7 @@ returns-in-None-count_of-clause-rejected c =
 pub returns-in-Star-clause-head : goal.returns-in-Star-clause-head
 returns-in-Star-clause-head c =
     let is = rw c.in-Some-None.field-0-is at c.in-Some-None.ensures.some in
-    (None, is, rw c.in-Star.is refl)
+    (None, is, rw c.in-Star.is refl, tt)
 
 pub returns-in_default-clause-rejected : goal.returns-in_default-clause-rejected
 returns-in_default-clause-rejected c =
@@ -37,4 +38,4 @@ returns-in_default-clause-rejected c =
 
 pub returns-in-None-clause-rejected : goal.returns-in-None-clause-rejected
 returns-in-None-clause-rejected c =
-    (λ head (size, a, is). c.in-None.ensures.none refl size a, c.size_reason.ensures)
+    (λ head (size, a, is, small). c.in-None.ensures.none refl size a, c.size_reason.ensures)

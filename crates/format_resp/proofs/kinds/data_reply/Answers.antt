@@ -1,22 +1,18 @@
-use Rattle.std.specs.Prelude.{⊤}
-use Rattle.std.proofs.Common.{refl}
-use Rattle.format_resp.proofs.Encodings.{shown_are, shown_is}
-use Rattle.format_resp.specs.Resp.{IsVerbatim}
+use Rattle.std.proofs.Common.{ap}
+use Rattle.format_resp.proofs.Made.{bulk_error_is, bulk_is, verbatim_is}
+use Rattle.format_resp.specs.Resp.{shape}
 use Rattle.format_resp.proofs.kinds.data_reply.Goals as goal
 
 pub returns-in-Dollar-clause-some : goal.returns-in-Dollar-clause-some
-returns-in-Dollar-clause-some g c =
-    rw c.in-Dollar.is (c.args.bytes, refl, shown_is (λ tokens. ⊤) c.args.bytes tt)
+returns-in-Dollar-clause-some g c = rw c.in-Dollar.is (ap shape (bulk_is c.args.bytes), tt)
 
 pub returns-in-Exclamation-clause-some : goal.returns-in-Exclamation-clause-some
 returns-in-Exclamation-clause-some g c =
-    rw c.in-Exclamation.is (c.args.bytes, refl, shown_is (λ tokens. ⊤) c.args.bytes tt)
+    rw c.in-Exclamation.is (ap shape (bulk_error_is c.args.bytes), tt)
 
 pub returns-then-is_verbatim-clause-some : goal.returns-then-is_verbatim-clause-some
 returns-then-is_verbatim-clause-some g c =
-    rw c.in-Equals.is (c.args.bytes, refl, shown_is IsVerbatim _ c.if-is_verbatim.ensures)
+    rw c.in-Equals.is (ap shape (verbatim_is c.args.bytes), c.if-is_verbatim.ensures)
 
 pub returns-else-is_verbatim-clause-none : goal.returns-else-is_verbatim-clause-none
-returns-else-is_verbatim-clause-none g c =
-    rw c.in-Equals.is (λ e reply (text, is, shown).
-    c.if-is_verbatim.ensures (shown_are IsVerbatim text c.args.bytes.now shown))
+returns-else-is_verbatim-clause-none g c = rw c.in-Equals.is (λ e. c.if-is_verbatim.ensures)

@@ -1,21 +1,41 @@
 use Rattle.std.specs.List.{AllByRecursion}
-use Rattle.std.proofs.Common.{refl}
-use Rattle.format_resp.specs.Resp.{InLine}
+use Rattle.std.proofs.Common.{ap, arith, rules}
+use Rattle.std.proofs.lemmas.Bool.Decides.{nat_tests}
+use Rattle.std.proofs.lemmas.List.{nil_from_length}
 use Rattle.format_resp.proofs.Encodings.{shown_are, shown_is}
+use Rattle.format_resp.proofs.Made.{big_number_is, boolean_is, double_is, error_is, integer_is}
+use Rattle.format_resp.proofs.Made.{null_is, simple_is}
 use Rattle.format_resp.specs.Numbers.{IsBigNumber, IsDouble}
+use Rattle.format_resp.specs.Resp.{InLine, shape}
 use Rattle.format_resp.proofs.kinds.line_reply.Goals as goal
 
 pub returns-in-Plus-clause-some : goal.returns-in-Plus-clause-some
-returns-in-Plus-clause-some g c =
-    rw c.in-Plus.is (λ all. (c.args.line, refl, shown_is (AllByRecursion InLine) c.args.line all))
+returns-in-Plus-clause-some g c = rw c.in-Plus.is
+    (λ all. (c.args.line, ap shape (simple_is _), shown_is (AllByRecursion InLine) _ all))
 
 pub returns-in-Minus-clause-some : goal.returns-in-Minus-clause-some
-returns-in-Minus-clause-some g c =
-    rw c.in-Minus.is (λ all. (c.args.line, refl, shown_is (AllByRecursion InLine) c.args.line all))
+returns-in-Minus-clause-some g c = rw c.in-Minus.is
+    (λ all. (c.args.line, ap shape (error_is _), shown_is (AllByRecursion InLine) _ all))
+
+pub returns-in-Some-clause-some : goal.returns-in-Some-clause-some
+returns-in-Some-clause-some g c = rw c.in-Colon.is
+    (λ all. (_, ap shape (integer_is _), search (rules, c.in-Some.ensures.some)))
+
+pub returns-then-is_empty-clause-some : goal.returns-then-is_empty-clause-some
+returns-then-is_empty-clause-some g c =
+    rw c.in-Underscore.is (λ all. (
+      ap shape null_is,
+      nil_from_length c.args.line.now
+          (grind (arith, nat_tests, c.if-is_empty.true, c.is_empty.ensures)),
+    ))
+
+pub returns-in-Some-boolean_of-clause-some : goal.returns-in-Some-boolean_of-clause-some
+returns-in-Some-boolean_of-clause-some g c = rw c.in-Hash.is
+    (λ all. (_, ap shape (boolean_is _), c.in-Some-boolean_of.ensures.some))
 
 pub returns-then-is_double-clause-some : goal.returns-then-is_double-clause-some
-returns-then-is_double-clause-some g c =
-    rw c.in-Comma.is (λ all. (c.args.line, refl, shown_is IsDouble _ c.if-is_double.ensures))
+returns-then-is_double-clause-some g c = rw c.in-Comma.is
+    (λ all. (c.args.line, ap shape (double_is _), shown_is IsDouble _ c.if-is_double.ensures))
 
 pub returns-else-is_double-clause-none : goal.returns-else-is_double-clause-none
 returns-else-is_double-clause-none g c =
@@ -24,8 +44,8 @@ returns-else-is_double-clause-none g c =
 
 pub returns-then-is_big_number-clause-some : goal.returns-then-is_big_number-clause-some
 returns-then-is_big_number-clause-some g c =
-    let is = c.if-is_big_number.ensures in
-    rw c.in-Parenthesis.is (λ all. (c.args.line, refl, shown_is IsBigNumber _ is))
+    let is = c.if-is_big_number.ensures in rw c.in-Parenthesis.is
+    (λ all. (c.args.line, ap shape (big_number_is _), shown_is IsBigNumber _ is))
 
 pub returns-else-is_big_number-clause-none : goal.returns-else-is_big_number-clause-none
 returns-else-is_big_number-clause-none g c =

@@ -1,4 +1,4 @@
-use Rattle.std.proofs.Common.{arith, refl, ◌≡◌, ◌++◌, ◌∷◌, [], suc}
+use Rattle.std.proofs.Common.{ap, arith, refl, ◌≡◌, ◌++◌, ◌∷◌, [], suc}
 use Rattle.streams.specs.Input.{is_end_of_trans3}
 use Rattle.winnow_grammar.specs.InTurn.{failed, led_failed, led_none, led_stood, led_told, passed}
 use Rattle.winnow_grammar.specs.InTurn.{stood}
@@ -10,7 +10,8 @@ use Rattle.format_resp.proofs.Bodies.{aggregate_failed, aggregate_stood, no_null
 use Rattle.format_resp.proofs.Bodies.{too_deep, too_many}
 use Rattle.format_resp.proofs.AlikeReplies.{reply_unique}
 use Rattle.format_resp.proofs.FirstBytes.{mark_splits}
-use Rattle.format_resp.specs.Resp.{Elements, MarkText, ReplyText, SizeText}
+use Rattle.format_resp.proofs.Made.{gathered_is, null_array_is}
+use Rattle.format_resp.specs.Resp.{Elements, MarkText, ReplyText, SizeText, shape}
 use Rattle.format_resp.specs.declared.reply.Reply as made
 use Rattle.format_resp.proofs.read.+read.Goals as goal
 
@@ -68,7 +69,7 @@ read_aggregate-loop-preserved g t c =
 pub read_aggregate-returns-in-Star : goal.read_aggregate-returns-in-Star
 read_aggregate-returns-in-Star g t c =
     told_ok (led_stood SizeText _ (stood c.in_ok-read_size.ensures)
-    (rw (c.in-None.is, c.in-Star.is) (alone_stood made.NullArray)))
+    (rw (c.in-None.is, c.in-Star.is) (alone_stood _ made.NullArray (ap shape null_array_is))))
 
 pub read_aggregate-returns-in_default : goal.read_aggregate-returns-in_default
 read_aggregate-returns-in_default g t c =
@@ -103,7 +104,7 @@ read_aggregate-returns-after-loop g t c =
       c.loop.auto.counter-end,
       c.in-Some-count_of.ensures.some,
     )) c.loop.replies c.aggregate_reply.result
-    c.aggregate_reply.ensures c.loop.invariant)))
+    (gathered_is c.args.mark c.loop.replies c.aggregate_reply.ensures) c.loop.invariant)))
 
 pub read_reply-returns-in_err-mark : goal.read_reply-returns-in_err-mark
 read_reply-returns-in_err-mark g t c =

@@ -1,11 +1,12 @@
-use Rattle.std.proofs.Common.{refl}
+use Rattle.std.proofs.Common.{ap, refl}
 use Rattle.winnow_grammar.specs.InTurn.{failed, led_failed, led_none, led_stood, passed, stood}
 use Rattle.winnow_grammar.specs.InTurn.{told_err}
 use Rattle.winnow_grammar.specs.InTurn.{told_ok}
 use Rattle.format_resp.proofs.LineTexts.{size_splits}
 use Rattle.format_resp.proofs.Encodings.{alone_stood}
 use Rattle.format_resp.proofs.Bodies.{data_failed, data_none, data_stood, no_null_data}
-use Rattle.format_resp.specs.Resp.{SizeText}
+use Rattle.format_resp.proofs.Made.{null_bulk_is}
+use Rattle.format_resp.specs.Resp.{SizeText, shape}
 use Rattle.format_resp.specs.declared.reply.Reply as made
 use Rattle.format_resp.proofs.read.read_bytes.Goals as goal
 
@@ -16,7 +17,7 @@ returns-in_err-read_size g c = passed _ c.from_residual.result c.from_residual.e
 pub returns-in-Dollar : goal.returns-in-Dollar
 returns-in-Dollar g c =
     told_ok (led_stood SizeText _ (stood c.in_ok-read_size.ensures)
-    (rw (c.in-None.is, c.in-Dollar.is) (alone_stood made.NullBulk)))
+    (rw (c.in-None.is, c.in-Dollar.is) (alone_stood _ made.NullBulk (ap shape null_bulk_is))))
 
 pub returns-in_default : goal.returns-in_default
 returns-in_default g c =
@@ -35,8 +36,8 @@ pub returns-in-Some-data_reply : goal.returns-in-Some-data_reply
 returns-in-Some-data_reply g c =
     told_ok (led_stood SizeText _ (stood c.in_ok-read_size.ensures)
     (rw c.in-Some.is (data_stood c.args.mark c.in-Some.size c.in_ok-bytes-in-Some.bytes
-    c.in-Some-data_reply.reply c.in-Some-data_reply.ensures.some
-    (stood c.in_ok-bytes-in-Some.ensures))))
+    c.in-Some-data_reply.reply c.in-Some-data_reply.ensures.some.0
+    c.in-Some-data_reply.ensures.some.1 (stood c.in_ok-bytes-in-Some.ensures))))
 
 pub returns-in-None-data_reply : goal.returns-in-None-data_reply
 returns-in-None-data_reply g c =

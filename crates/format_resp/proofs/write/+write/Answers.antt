@@ -1,22 +1,26 @@
-use Rattle.std.specs.Prelude.{⊤, []}
+use Rattle.std.specs.Prelude.{[]}
 use Rattle.std.specs.List.{AllByRecursion}
-use Rattle.std.proofs.Common.{◌-◌, ◌∙◌, arith, inr, refl, rules, sym}
+use Rattle.std.proofs.Common.{◌-◌, ◌∙◌, arith, inl, inr, refl, rules, sym}
 use Rattle.std.proofs.lemmas.Result.{IfErr-weaker, on_ok_weaker}
-use Rattle.format_resp.proofs.Writing.{among, if_error, integer_put, keeps_trans, row_end}
-use Rattle.format_resp.proofs.Writing.{row_more}
-use Rattle.format_resp.proofs.Writing.{aggregate_put, data_put, deep_aggregate, list_put, line_put}
-use Rattle.format_resp.proofs.Writing.{null_array_put, null_bulk_put, refused_big_number}
-use Rattle.format_resp.proofs.Writing.{refused_count, refused_double, refused_error}
-use Rattle.format_resp.proofs.Writing.{refused_foreign, refused_form, refused_simple}
-use Rattle.format_resp.proofs.Writing.{refused_verbatim, refused_within}
 use Rattle.format_resp.proofs.Encodings.{shown_is}
+use Rattle.format_resp.proofs.Made.{big_number_is, boolean_is, bulk_error_is, bulk_is, double_is}
+use Rattle.format_resp.proofs.Made.{error_is, null_array_is, null_bulk_is, null_is}
+use Rattle.format_resp.proofs.Made.{shaped, simple_is, verbatim_is}
+use Rattle.format_resp.proofs.Writing.{aggregate_put, among, as_error, data_put, deep_aggregate}
+use Rattle.format_resp.proofs.Writing.{if_error, integer_put, keeps_trans, line_put, list_put}
+use Rattle.format_resp.proofs.Writing.{null_array_put}
+use Rattle.format_resp.proofs.Writing.{null_bulk_put, or_itself, refused_count, refused_foreign}
+use Rattle.format_resp.proofs.Writing.{refused_form, refused_within, row_end, row_more}
 use Rattle.format_resp.specs.Numbers.{IsBigNumber, IsDouble}
-use Rattle.format_resp.specs.Resp.{InLine, IsVerbatim}
+use Rattle.format_resp.specs.Resp.{InLine}
+use Rattle.format_resp.specs.Written.{IsBroken}
+use Rattle.format_resp.specs.declared.marks.AggregateMark.TheVariants.{Bar, Greater, Percent, Star}
+use Rattle.format_resp.specs.declared.marks.AggregateMark.TheVariants.{Tilde}
 use Rattle.format_resp.specs.declared.marks.DataMark.TheVariants.{Dollar, Equals, Exclamation}
 use Rattle.format_resp.specs.declared.marks.LineMark.TheVariants.{Comma, Hash, Minus}
 use Rattle.format_resp.specs.declared.marks.LineMark.TheVariants.{Parenthesis, Plus, Underscore}
-use Rattle.format_resp.specs.declared.marks.AggregateMark.TheVariants.{Bar, Greater, Percent, Star}
-use Rattle.format_resp.specs.declared.marks.AggregateMark.TheVariants.{Tilde}
+use Rattle.format_resp.specs.declared.write.WriteError.TheVariants.{BigNumber, Double, Format}
+use Rattle.format_resp.specs.declared.write.WriteError.TheVariants.{LineBreak}
 use Rattle.format_resp.proofs.write.+write.Goals as goal
 
 -- ---- elements
@@ -97,14 +101,15 @@ pub write_nested-returns-in-Simple-clause-written :
 write_nested-returns-in-Simple-clause-written g t c =
     on_ok_weaker c.write_text.result
     (λ told. line_put c.args.protocol c.args.level c.if-is_foreign.ensures Plus _
-    (_, c.in-Simple.is, shown_is (AllByRecursion InLine) _ told.0) told.1)
+    (_, shaped c.in-Simple.is (simple_is _), shown_is (AllByRecursion InLine) _ told.0) told.1)
     c.write_text.ensures.written
 
 pub write_nested-returns-in-Simple-clause-refused :
     goal.write_nested-returns-in-Simple-clause-refused
 write_nested-returns-in-Simple-clause-refused g t c =
     IfErr-weaker c.write_text.result _ _
-    (refused_simple c.args.protocol c.args.level _ c.in-Simple.is)
+    (as_error c.args.protocol c.args.level _ LineBreak _
+    (λ not. or_itself IsBroken _ (inl (_, shaped c.in-Simple.is (simple_is _), not))))
     c.write_text.ensures.refused
 
 pub write_nested-returns-in-Error-clause-written :
@@ -112,14 +117,15 @@ pub write_nested-returns-in-Error-clause-written :
 write_nested-returns-in-Error-clause-written g t c =
     on_ok_weaker c.write_text-in-Error.result
     (λ told. line_put c.args.protocol c.args.level c.if-is_foreign.ensures Minus _
-    (_, c.in-Error.is, shown_is (AllByRecursion InLine) _ told.0) told.1)
+    (_, shaped c.in-Error.is (error_is _), shown_is (AllByRecursion InLine) _ told.0) told.1)
     c.write_text-in-Error.ensures.written
 
 pub write_nested-returns-in-Error-clause-refused :
     goal.write_nested-returns-in-Error-clause-refused
 write_nested-returns-in-Error-clause-refused g t c =
     IfErr-weaker c.write_text-in-Error.result _ _
-    (refused_error c.args.protocol c.args.level _ c.in-Error.is)
+    (as_error c.args.protocol c.args.level _ LineBreak _
+    (λ not. or_itself IsBroken _ (inr (_, shaped c.in-Error.is (error_is _), not))))
     c.write_text-in-Error.ensures.refused
 
 pub write_nested-returns-in-Double-clause-written :
@@ -127,14 +133,15 @@ pub write_nested-returns-in-Double-clause-written :
 write_nested-returns-in-Double-clause-written g t c =
     on_ok_weaker c.write_double.result
     (λ told. line_put c.args.protocol c.args.level c.if-is_foreign.ensures Comma _
-    (_, c.in-Double.is, shown_is IsDouble _ told.0) told.1)
+    (_, shaped c.in-Double.is (double_is _), shown_is IsDouble _ told.0) told.1)
     c.write_double.ensures.written
 
 pub write_nested-returns-in-Double-clause-refused :
     goal.write_nested-returns-in-Double-clause-refused
 write_nested-returns-in-Double-clause-refused g t c =
     IfErr-weaker c.write_double.result _ _
-    (refused_double c.args.protocol c.args.level _ c.in-Double.is)
+    (as_error c.args.protocol c.args.level _ Double _
+    (λ not. or_itself _ _ (_, shaped c.in-Double.is (double_is _), not)))
     c.write_double.ensures.refused
 
 pub write_nested-returns-in-BigNumber-clause-written :
@@ -142,14 +149,15 @@ pub write_nested-returns-in-BigNumber-clause-written :
 write_nested-returns-in-BigNumber-clause-written g t c =
     on_ok_weaker c.write_big_number.result
     (λ told. line_put c.args.protocol c.args.level c.if-is_foreign.ensures Parenthesis _
-    (_, c.in-BigNumber.is, shown_is IsBigNumber _ told.0) told.1)
+    (_, shaped c.in-BigNumber.is (big_number_is _), shown_is IsBigNumber _ told.0) told.1)
     c.write_big_number.ensures.written
 
 pub write_nested-returns-in-BigNumber-clause-refused :
     goal.write_nested-returns-in-BigNumber-clause-refused
 write_nested-returns-in-BigNumber-clause-refused g t c =
     IfErr-weaker c.write_big_number.result _ _
-    (refused_big_number c.args.protocol c.args.level _ c.in-BigNumber.is)
+    (as_error c.args.protocol c.args.level _ BigNumber _
+    (λ not. or_itself _ _ (_, shaped c.in-BigNumber.is (big_number_is _), not)))
     c.write_big_number.ensures.refused
 
 pub write_nested-returns-in-Verbatim-clause-written :
@@ -157,14 +165,15 @@ pub write_nested-returns-in-Verbatim-clause-written :
 write_nested-returns-in-Verbatim-clause-written g t c =
     on_ok_weaker c.write_verbatim.result
     (λ told. data_put c.args.protocol c.args.level c.if-is_foreign.ensures Equals _
-    (_, c.in-Verbatim.is, shown_is IsVerbatim _ told.0) (search rules) told.1)
+    (shaped c.in-Verbatim.is (verbatim_is _)) told.0 (search rules) told.1)
     c.write_verbatim.ensures.written
 
 pub write_nested-returns-in-Verbatim-clause-refused :
     goal.write_nested-returns-in-Verbatim-clause-refused
 write_nested-returns-in-Verbatim-clause-refused g t c =
     IfErr-weaker c.write_verbatim.result _ _
-    (refused_verbatim c.args.protocol c.args.level _ c.in-Verbatim.is)
+    (as_error c.args.protocol c.args.level _ Format _
+    (λ not. or_itself _ _ (_, shaped c.in-Verbatim.is (verbatim_is _), not)))
     c.write_verbatim.ensures.refused
 
 pub write_nested-returns-in-Array-clause-written :
@@ -247,36 +256,39 @@ pub write_nested-returns-in_ok-write_line-in-Null-clause-written :
     goal.write_nested-returns-in_ok-write_line-in-Null-clause-written
 write_nested-returns-in_ok-write_line-in-Null-clause-written g t c =
     line_put c.args.protocol c.args.level c.if-is_foreign.ensures Underscore []
-    (c.in-Null.is, refl) c.in_ok-write_line-in-Null.ensures.written
+    (shaped c.in-Null.is null_is, refl) c.in_ok-write_line-in-Null.ensures.written
 
 pub write_nested-returns-in_ok-write_line-in-Boolean-clause-written :
     goal.write_nested-returns-in_ok-write_line-in-Boolean-clause-written
 write_nested-returns-in_ok-write_line-in-Boolean-clause-written g t c =
     line_put c.args.protocol c.args.level c.if-is_foreign.ensures Hash _
-    (_, c.in-Boolean.is, c.boolean_text.ensures) c.in_ok-write_line-in-Boolean.ensures.written
+    (_, shaped c.in-Boolean.is (boolean_is _), c.boolean_text.ensures)
+    c.in_ok-write_line-in-Boolean.ensures.written
 
 pub write_nested-returns-in_ok-write_data-in-BulkError-clause-written :
     goal.write_nested-returns-in_ok-write_data-in-BulkError-clause-written
 write_nested-returns-in_ok-write_data-in-BulkError-clause-written g t c =
     data_put c.args.protocol c.args.level c.if-is_foreign.ensures Exclamation _
-    (_, c.in-BulkError.is, shown_is (λ tokens. ⊤) _ tt) (search rules)
+    (shaped c.in-BulkError.is (bulk_error_is _)) tt (search rules)
     c.in_ok-write_data-in-BulkError.ensures.written
 
 pub write_nested-returns-in_ok-write_data-in-Bulk-clause-written :
     goal.write_nested-returns-in_ok-write_data-in-Bulk-clause-written
 write_nested-returns-in_ok-write_data-in-Bulk-clause-written g t c =
     data_put c.args.protocol c.args.level c.if-is_foreign.ensures Dollar _
-    (_, c.in-Bulk.is, shown_is (λ tokens. ⊤) _ tt) (search rules)
+    (shaped c.in-Bulk.is (bulk_is _)) tt (search rules)
     c.in_ok-write_data-in-Bulk.ensures.written
 
 pub write_nested-returns-in_ok-write_line-in-NullBulk-clause-written :
     goal.write_nested-returns-in_ok-write_line-in-NullBulk-clause-written
 write_nested-returns-in_ok-write_line-in-NullBulk-clause-written g t c =
-    null_bulk_put c.args.protocol c.args.level c.if-is_foreign.ensures c.in-NullBulk.is
+    null_bulk_put c.args.protocol c.args.level c.if-is_foreign.ensures
+    (shaped c.in-NullBulk.is null_bulk_is)
     c.in_ok-write_line-in-NullBulk.ensures.written
 
 pub write_nested-returns-in_ok-write_line-in-NullArray-clause-written :
     goal.write_nested-returns-in_ok-write_line-in-NullArray-clause-written
 write_nested-returns-in_ok-write_line-in-NullArray-clause-written g t c =
-    null_array_put c.args.protocol c.args.level c.if-is_foreign.ensures c.in-NullArray.is
+    null_array_put c.args.protocol c.args.level c.if-is_foreign.ensures
+    (shaped c.in-NullArray.is null_array_is)
     c.in_ok-write_line-in-NullArray.ensures.written

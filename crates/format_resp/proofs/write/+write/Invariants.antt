@@ -1,6 +1,7 @@
 use Rattle.std.proofs.Common.{◌+◌, ◌*◌, ℕ, List, drop}
 use Rattle.grammars.specs.Texts.{EachText}
-use Rattle.format_resp.specs.Written.{Adds, Keeps, WrittenText}
+use Rattle.format_resp.specs.Resp.{WrittenText}
+use Rattle.format_resp.specs.Written.{Adds, Keeps}
 use Rattle.format_resp.proofs.write.+write.Given as goal
 
 -- an aggregate calls elements at a smaller depth, and these call replies at theirs

@@ -1,5 +1,5 @@
 use Rattle.format_resp.proofs.Strings.{end_none, end_return}
-use Rattle.format_resp.proofs.extent.skip_line_ending.Goals as goal
+use Rattle.format_resp.proofs.lines.skip_line_ending.Goals as goal
 
 pub returns-in-None-clause-told : goal.returns-in-None-clause-told
 returns-in-None-clause-told c = end_none c.args.bytes.now c.in-None.ensures.cases
