@@ -15,7 +15,8 @@ use Rattle.format_toml.specs.Toml.{IsBoolean, Spaced, IsInline, IsInteger, IsSho
 use Rattle.format_toml.specs.Toml.{MeansDateTime, MeansFloat, PairText, ScalarText, ValueText}
 use Rattle.format_toml.specs.Toml.{WideMarkText, false_word, true_word, DocumentText, IsBare}
 use Rattle.format_toml.specs.Toml.{IsEntry, IsTable, IsTables, ItemText, LineText, TableText}
-use Rattle.format_toml_errors.specs.Accepted.{accepted, At, by, viable_front}
+use Rattle.format_toml_errors.specs.Accepted.{by, viable_front}
+use Rattle.format_toml_errors.specs.Stop.{At, IsAccepted, MayBegin}
 use Rattle.format_toml_errors.specs.Steps.{comment_step, name_step, next_step, else_line, in_line}
 use Rattle.format_toml_errors.specs.Unclosed.{last_open}
 use Rattle.format_toml_errors.specs.declared.modes.Bracket.{Bracket}
@@ -24,15 +25,14 @@ use Rattle.format_toml_errors.specs.declared.modes.Gap.{Gap}
 use Rattle.format_toml_errors.specs.declared.modes.Mode.{Mode}
 use Rattle.format_toml_errors.specs.declared.modes.Owner.{Owner}
 use Rattle.format_toml_tree.specs.declared.value.Value.{Value}
-use Rattle.format_toml_errors.specs.Stop.{IsAccepted, MayBegin}
 use Rattle.format_toml_tree.specs.declared.value.Item.{Item}
 use Rattle.format_toml_errors.specs.declared.modes.Gap.TheVariants as gaps
 use Rattle.format_toml_errors.specs.declared.modes.Mode.TheVariants as modes
 use Rattle.format_toml_errors.specs.declared.modes.Owner.TheVariants as owners
 use Rattle.format_toml_errors.specs.declared.modes.Step.TheVariants as steps
-use Rattle.format_toml_document.proofs.Walks.{any_front, left_out, members_front}
-use Rattle.format_toml_document.proofs.Walks.{newline_front, one_front, some_front, space_by}
-use Rattle.format_toml_document.proofs.Walks.{spelled_front, token_front, ws_front, Started}
+use Rattle.format_toml_document.proofs.Walks.{any_front, left_out, members_front, newline_front}
+use Rattle.format_toml_document.proofs.Walks.{one_front, some_front, space_by, spelled_front}
+use Rattle.format_toml_document.proofs.Walks.{token_front, ws_front, Started}
 use Rattle.format_toml_document.proofs.Days.{date_starts}
 use Rattle.format_toml_document.proofs.Long.{any_basic_front, any_literal_front, BeginsName}
 use Rattle.format_toml_document.proofs.Long.{BehindName, key_front, later_begins}
@@ -275,20 +275,16 @@ module _ (level : ℕ) where
       (left_out (λ l x. (x.0, x.1))
       (comment_front level [] gaps.Line (λ l x. x.2) (λ l x. (x, x)))))
 
-  walked : {A : Type 0} (lines : Vec (Option (Item A)) A) (tokens : List ℕ)
-      → DocumentText level lines tokens → At level modes.Line [] tokens
-  walked lines tokens text =
+  pub document_accepted : {A : Type 0} (lines : Vec (Option (Item A)) A) (tokens : List ℕ)
+      → DocumentText level lines tokens → IsAccepted level tokens
+  document_accepted lines tokens text =
       let front = in_list_front (some_front {item = λ l. At level modes.Line [] l} {after = Ending}
       (newline_front (λ l x. (x, x, x)) (λ l x. (x, x, x))) line_front line_front) in
       subst (λ l. At level modes.Line [] l) (append-nil tokens)
       (front.makes lines tokens [] text (refl, refl, refl))
 
-  pub document_accepted : {A : Type 0} (lines : Vec (Option (Item A)) A) (tokens : List ℕ)
-      → DocumentText level lines tokens → IsAccepted level tokens
-  document_accepted lines tokens text = accepted level tokens (walked lines tokens text)
-
   pub none_begins : {A : Type 0} (front more : List ℕ) → (MayBegin level front → ⊥)
       → (lines : Vec (Option (Item A)) A) → DocumentText level lines (front ++ more) → ⊥
   none_begins front more not lines text =
-      let (mode, held, leads, may, ends) = document_accepted lines (front ++ more) text in
-      not (viable_front level front more modes.Line [] may)
+      let is = document_accepted lines (front ++ more) text in
+      not (viable_front level front more modes.Line [] is)

@@ -1,6 +1,5 @@
 -- Lemmas about the position and the contents of a `TomlError`.
-use Rattle.std.specs.Prelude.{◌≡◌, ◌⊎◌, ◌-◌, ℕ, List, [], ◌∷◌, ◌++◌, Option, Some}
-use Rattle.std.specs.Prelude.{length, take}
+use Rattle.std.specs.Prelude.{◌≡◌, ◌⊎◌, ◌-◌, ℕ, List, [], ◌∷◌, ◌++◌, Option, Some, length, take}
 use Rattle.std.specs.Prelude.{Err, IfOk, Ok, Result}
 use Rattle.std.specs.Borrow.{Bor}
 use Rattle.std.specs.Str.{IsCharBoundary, IsUtf8, chars, encode_utf8_all}
@@ -12,8 +11,8 @@ use Rattle.std.proofs.lemmas.Str.{IsCharBoundary-at_seam, IsUtf8-take, encodes-a
 use Rattle.std.proofs.lemmas.Str.{encodes-chars}
 use Rattle.format_toml.specs.Starts.{IsStart, line_end}
 use Rattle.format_toml.specs.Toml.{DocumentText}
-use Rattle.format_toml_document.specs.Fault.{IsAfter, IsDocument, IsErrorOf, IsLocation}
-use Rattle.format_toml_document.specs.Fault.{IsOpening, IsRefusal, IsUnexpected, NoneBegins}
+use Rattle.format_toml_document.specs.Fault.{IsAfter, IsDocument, IsErrorOf, IsLocation, IsOpening}
+use Rattle.format_toml_document.specs.Fault.{IsRefusal, IsUnexpected, NoneBegins}
 use Rattle.format_toml_document.proofs.Documents.{none_begins}
 use Rattle.format_toml_document.specs.declared.fault.TomlError.{TomlError}
 use Rattle.format_toml_document.specs.declared.fault.TomlError.TheVariants as faults

@@ -1,6 +1,6 @@
 -- The walk over strings of values, and over keys.
-use Rattle.std.specs.Prelude.{◌≡◌, ◌⊎◌, ◌&&◌, ◌≤◌, ◌+◌, ℕ, suc, Bool, true, nat_le, nat_lt}
-use Rattle.std.specs.Prelude.{⊤, List, [], ◌∷◌, ◌++◌, if◌then◌else◌}
+use Rattle.std.specs.Prelude.{◌≡◌, ◌⊎◌, ◌&&◌, ◌≤◌, ◌+◌, ℕ, suc, Bool, true, nat_le, nat_lt, ⊤, List}
+use Rattle.std.specs.Prelude.{[], ◌∷◌, ◌++◌, if◌then◌else◌}
 use Rattle.std.proofs.Common.{refl, sym, ap, subst, inl, inr, ◌∙◌, arith}
 use Rattle.std.proofs.lemmas.Bool.{eq-eqb, ne_eqb}
 use Rattle.std.proofs.lemmas.Bool.Decides.{nat_tests}
@@ -15,7 +15,8 @@ use Rattle.format_toml.specs.LongTexts.{room_behind}
 use Rattle.format_toml.specs.Toml.{AnyBasicText, AnyLiteralText, CharacterText, EscapedLineText}
 use Rattle.format_toml.specs.Toml.{EscapedLines, IsOf, NewlineText, IsBare, IsKey, KeyText}
 use Rattle.format_toml.specs.Toml.{NameText, Spaced}
-use Rattle.format_toml_errors.specs.Accepted.{after_done, At, by, Next}
+use Rattle.format_toml_errors.specs.Accepted.{after_done, by, Next}
+use Rattle.format_toml_errors.specs.Stop.{At}
 use Rattle.format_toml_errors.specs.Endings.{long_more}
 use Rattle.format_toml_errors.specs.Steps.{after_step, content_step, in_long, long_step, mark_of}
 use Rattle.format_toml_errors.specs.Steps.{next_step, string_step, behind_step, is_bare, name_step}
@@ -31,11 +32,10 @@ use Rattle.format_toml_errors.specs.declared.modes.Mark.TheVariants as marks
 use Rattle.format_toml_errors.specs.declared.modes.Mode.TheVariants as modes
 use Rattle.format_toml_errors.specs.declared.modes.Role.TheVariants as roles
 use Rattle.format_toml_errors.specs.declared.modes.Step.TheVariants as steps
-use Rattle.format_toml_document.proofs.Walks.{moved, newline_front, one_front, parted}
-use Rattle.format_toml_document.proofs.Walks.{space_by, token_front, ws_front, Started}
-use Rattle.format_toml_document.proofs.Walks.{some_front}
-use Rattle.format_toml_document.proofs.Quoted.{Escaping, escape_front, stands_by}
-use Rattle.format_toml_document.proofs.Quoted.{basic_front, literal_front}
+use Rattle.format_toml_document.proofs.Walks.{moved, newline_front, one_front, parted, space_by}
+use Rattle.format_toml_document.proofs.Walks.{token_front, ws_front, Started, some_front}
+use Rattle.format_toml_document.proofs.Quoted.{Escaping, escape_front, stands_by, basic_front}
+use Rattle.format_toml_document.proofs.Quoted.{literal_front}
 
 delimiter_front : {behind whole : List ℕ → Type 0} (quote : ℕ)
     → ((l : List ℕ) → behind l → whole (quote ∷ quote ∷ quote ∷ l))

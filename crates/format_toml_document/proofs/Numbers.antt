@@ -1,8 +1,7 @@
 -- The walk over integers and floats.
 use Rattle.std.specs.Char.{digit_value}
 use Rattle.std.specs.Int.{w64}
-use Rattle.std.specs.Prelude.{◌≡◌, ◌<◌, ◌≤◌, ◌^◌, ◌+◌, ◌*◌, ℕ, ℤ, zero, suc, pos, neg_ℤ, Bool}
-use Rattle.std.specs.Prelude.{true}
+use Rattle.std.specs.Prelude.{◌≡◌, ◌<◌, ◌≤◌, ◌^◌, ◌+◌, ◌*◌, ℕ, ℤ, zero, suc, pos, neg_ℤ, Bool, true}
 use Rattle.std.specs.Prelude.{false, nat_lt, List, ◌∷◌, ◌++◌, Option, Some, FitsSigned}
 use Rattle.std.specs.Prelude.{if◌then◌else◌}
 use Rattle.std.proofs.Common.{refl, sym, ap, subst, inl, inr, ◌∙◌, arith}
@@ -14,7 +13,8 @@ use Rattle.format_toml.specs.Floats.{AreDigits, IsDecimal, IsFloat, IsLetterE, I
 use Rattle.format_toml.specs.Floats.{IsScientific, IsWhole, Signed, Unsigned}
 use Rattle.format_toml.specs.Numbers.{AnyIntegerText, BasedText, IntegerText, NumberText}
 use Rattle.format_toml.specs.Numbers.{UnsignedText}
-use Rattle.format_toml_errors.specs.Accepted.{after_done, At, by, Next}
+use Rattle.format_toml_errors.specs.Accepted.{after_done, by, Next}
+use Rattle.format_toml_errors.specs.Stop.{At}
 use Rattle.format_toml_errors.specs.Figures.{adding, base_step, ends_figure, figure_if, figure_step}
 use Rattle.format_toml_errors.specs.Figures.{fits, limit_of}
 use Rattle.format_toml_errors.specs.Moments.{digit}

@@ -1,6 +1,5 @@
 -- The walk over strings on one line, and their escapes.
-use Rattle.std.specs.Prelude.{◌≡◌, ◌⊎◌, ◌==◌, ◌||◌, ◌<◌, ◌≤◌, ◌+◌, ◌*◌, ℕ, zero, suc}
-use Rattle.std.specs.Prelude.{Bool, true}
+use Rattle.std.specs.Prelude.{◌≡◌, ◌⊎◌, ◌==◌, ◌||◌, ◌<◌, ◌≤◌, ◌+◌, ◌*◌, ℕ, zero, suc, Bool, true}
 use Rattle.std.specs.Prelude.{false, List, [], ◌∷◌, ◌++◌, if◌then◌else◌}
 use Rattle.std.proofs.Common.{refl, sym, ap, subst, inl, inr, ◌∙◌, arith, append_assoc}
 use Rattle.std.proofs.lemmas.Bool.Decides.{nat_tests}
@@ -10,7 +9,8 @@ use Rattle.grammars.specs.Texts.Fronts.{gathered_front}
 use Rattle.format_parts.specs.Hexadecimal.{IsAlone, IsHex, UnitText}
 use Rattle.format_parts.specs.Words.{Whichever, latter, to_four, Between, One, former}
 use Rattle.format_toml.specs.Toml.{EscapeText, IsWide, StandsFor, BasicText, IsOf, LiteralText}
-use Rattle.format_toml_errors.specs.Accepted.{At, both_ways, by, Next}
+use Rattle.format_toml_errors.specs.Accepted.{both_ways, by, Next}
+use Rattle.format_toml_errors.specs.Stop.{At}
 use Rattle.format_toml_errors.specs.Endings.{is_letter}
 use Rattle.format_toml_errors.specs.Escapes.{escape_step, is_hex, more_if}
 use Rattle.format_toml_errors.specs.declared.escapes.Escape.{Escape}
@@ -26,8 +26,7 @@ use Rattle.format_toml_errors.specs.declared.escapes.Escaped.TheVariants as esca
 use Rattle.format_toml.specs.declared.characters.Characters.TheVariants as sets
 use Rattle.format_toml_errors.specs.declared.modes.Mode.TheVariants as modes
 use Rattle.format_toml_errors.specs.declared.modes.Step.TheVariants as steps
-use Rattle.format_toml_document.proofs.Walks.{one_front, moved}
-use Rattle.format_toml_document.proofs.Walks.{token_front}
+use Rattle.format_toml_document.proofs.Walks.{one_front, moved, token_front}
 
 pub stands_by : (P : ℕ → Type 0) → P 98 → P 116 → P 110 → P 102 → P 114 → P 34 → P 92
     → (c k : ℕ) → StandsFor c k → P c

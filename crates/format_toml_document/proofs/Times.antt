@@ -1,8 +1,7 @@
 -- The walk over times.
 use Rattle.std.specs.Char.{digit_value}
 use Rattle.std.specs.List.{All}
-use Rattle.std.specs.Prelude.{◌≡◌, ◌==◌, ◌&&◌, ◌≤◌, ◌<◌, ◌+◌, ◌*◌, ℕ, zero, suc, Bool, true}
-use Rattle.std.specs.Prelude.{false}
+use Rattle.std.specs.Prelude.{◌≡◌, ◌==◌, ◌&&◌, ◌≤◌, ◌<◌, ◌+◌, ◌*◌, ℕ, zero, suc, Bool, true, false}
 use Rattle.std.specs.Prelude.{nat_le, List, [], ◌∷◌, ◌++◌, Option, Some, None, if◌then◌else◌}
 use Rattle.std.specs.Prelude.{length}
 use Rattle.std.proofs.Common.{refl, sym, ap, subst, inl, inr, ◌∙◌, arith}
@@ -10,7 +9,8 @@ use Rattle.std.proofs.lemmas.Bool.{eq-eqb}
 use Rattle.std.proofs.lemmas.Bool.Decides.{nat_tests}
 use Rattle.std.proofs.lemmas.List.Elements.{All-tail}
 use Rattle.std.proofs.lemmas.Str.{digit_value_digit}
-use Rattle.format_toml_errors.specs.Accepted.{after_done, At, tested}
+use Rattle.format_toml_errors.specs.Accepted.{after_done, tested}
+use Rattle.format_toml_errors.specs.Stop.{At}
 use Rattle.format_toml_errors.specs.Figures.{ends_figure, moment_as}
 use Rattle.format_toml_errors.specs.Moments.{first_of, is_digit, moment_if, moment_step}
 use Rattle.format_toml_errors.specs.Moments.{offset_start}

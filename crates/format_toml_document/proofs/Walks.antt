@@ -1,7 +1,6 @@
 -- The walk of `format_toml_errors` over a text in front of another: a character, rows of them, and
 -- what may come after a value.
-use Rattle.std.specs.Prelude.{◌≡◌, ℕ, List, [], ◌∷◌, ◌++◌, Option}
-use Rattle.std.specs.Prelude.{Some, None}
+use Rattle.std.specs.Prelude.{◌≡◌, ℕ, List, [], ◌∷◌, ◌++◌, Option, Some, None}
 use Rattle.std.specs.List.{All}
 use Rattle.std.proofs.Common.{sym, subst, inl, inr, arith, append_assoc}
 use Rattle.std.proofs.lemmas.List.Elements.{All-tail}
@@ -12,7 +11,7 @@ use Rattle.stream_sets.specs.AsChar.{IsSpace}
 use Rattle.streams.specs.Text.{text_reading}
 use Rattle.format_parts.specs.Words.{One, Run, latter}
 use Rattle.format_toml.specs.Toml.{NewlineText, WsText}
-use Rattle.format_toml_errors.specs.Accepted.{At}
+use Rattle.format_toml_errors.specs.Stop.{At}
 use Rattle.format_toml_errors.specs.declared.modes.Bracket.{Bracket}
 use Rattle.format_toml_errors.specs.declared.modes.Mode.TheVariants as modes
 

@@ -1,14 +1,13 @@
 -- The walk over the characters of a text: what it has come to, and the place where it stops.
-use Rattle.std.specs.Prelude.{◌≡◌, ◌↔◌, ◌<◌, ◌≤◌, ◌-◌, ◌++◌, ℕ, List, [], ◌∷◌, Option}
-use Rattle.std.specs.Prelude.{length, slice_get, true, false}
-use Rattle.std.proofs.Common.{ap, append_assoc, arith, inl, inr, refl, subst, sym}
-use Rattle.std.proofs.Common.{◌∙◌}
+use Rattle.std.specs.Prelude.{◌≡◌, ◌↔◌, ◌<◌, ◌≤◌, ◌-◌, ◌++◌, ℕ, List, [], ◌∷◌, Option, length}
+use Rattle.std.specs.Prelude.{slice_get, true, false}
+use Rattle.std.proofs.Common.{ap, append_assoc, arith, inl, inr, refl, subst, sym, ◌∙◌}
 use Rattle.std.proofs.lemmas.List.{append-nil}
 use Rattle.format_toml_errors.proofs.Opened.{kept, kept_last, kept_length}
 use Rattle.format_toml_errors.specs.Endings.{completed}
 use Rattle.format_toml_errors.specs.Expected.{wanted, wanted_at}
 use Rattle.format_toml_errors.specs.Steps.{next_step}
-use Rattle.format_toml_errors.specs.Stop.{IsAccepted, IsCompletable, IsNextStep, IsViablePrefix}
+use Rattle.format_toml_errors.specs.Stop.{At, IsAccepted, IsCompletable, IsNextStep, IsViablePrefix}
 use Rattle.format_toml_errors.specs.Stop.{IsWanted, LeadsTo, MayBegin, StopsAt, ends_line}
 use Rattle.format_toml_errors.specs.Unclosed.{last_open, opened, others_open}
 use Rattle.format_toml_errors.specs.declared.expected.Expected.{Expected}
@@ -33,6 +32,7 @@ pub record Walked (level : ℕ) (tokens left : List ℕ) (mode : Mode) (items : 
     pub same : items ≡ kept held
     pub splits : tokens ≡ front ++ left
     pub leads : LeadsTo level front mode held
+    pub accepts : (l : List ℕ) → At level mode held l → IsAccepted level (front ++ l)
 
 pub begun : (level : ℕ) (tokens : List ℕ) (items : List Bracket) → items ≡ []
     → Walked level tokens tokens modes.Line items
@@ -42,6 +42,7 @@ begun level tokens items none = record {
   same = none;
   splits = refl;
   leads = λ l. ((λ x. x), (λ x. x));
+  accepts = λ l x. x;
 }
 
 module _ {level : ℕ} {tokens left : List ℕ} {mode : Mode} {items : List Bracket}
@@ -56,9 +57,6 @@ module _ {level : ℕ} {tokens left : List ℕ} {mode : Mode} {items : List Brac
   -- at the end of the text
   module _ (none : left ≡ []) (last : Option Bracket)
       (is : last ≡ slice_get items (length items - 1)) where
-    whole : tokens ≡ w.front
-    whole = w.splits ∙ ap (λ l. w.front ++ l) none ∙ append-nil w.front
-
     pub at_end : (expected : Expected) → expected ≡ wanted mode last
         → ends_line mode last ≡ false → StopsAt level tokens left expected
     at_end expected wants not_end =
@@ -83,14 +81,8 @@ module _ {level : ℕ} {tokens left : List ℕ} {mode : Mode} {items : List Brac
     pub at_accepted : ends_line mode last ≡ true → IsAccepted level tokens
     at_accepted ends =
         let top = top_open w.held items last w.same is in
-        let P : List ℕ → Type 0 = λ l. IsAccepted level l in
-        subst P (sym whole) (
-          mode,
-          w.held,
-          w.leads,
-          begins,
-          ap (λ o. ends_line mode o) (sym top) ∙ ends,
-        )
+        subst (λ l. IsAccepted level l) (sym (w.splits ∙ ap (λ l. w.front ++ l) none))
+        (w.accepts [] (ap (λ o. ends_line mode o) (sym top) ∙ ends))
 
   module _ {c : ℕ} {more : List ℕ} (first : left ≡ c ∷ more) (last : Option Bracket)
       (is : last ≡ slice_get items (length items - 1)) where
@@ -110,6 +102,14 @@ module _ {level : ℕ} {tokens left : List ℕ} {mode : Mode} {items : List Brac
         subst (λ t. P t ((w.front ++ c ∷ []) ++ l)) (sym (stepped s e))
         (subst (λ x. P (next_step mode (last_open w.held) c) x)
         (sym (append_assoc w.front (c ∷ []) l)) (w.leads (c ∷ l)))
+
+    led_at : (s : Step) → s ≡ next_step mode last c → (l : List ℕ)
+        → IsNextStep (λ m o. At level m o l) level w.held s
+        → IsAccepted level ((w.front ++ c ∷ []) ++ l)
+    led_at s e l x =
+        let P : Step → Type 0 = λ t. IsNextStep (λ m o. At level m o l) level w.held t in
+        subst (λ k. IsAccepted level k) (sym (append_assoc w.front (c ∷ []) l))
+        (w.accepts (c ∷ l) (subst P (stepped s e) x))
 
     passed : tokens ≡ (w.front ++ c ∷ []) ++ more
     passed =
@@ -156,6 +156,7 @@ module _ {level : ℕ} {tokens left : List ℕ} {mode : Mode} {items : List Brac
       same = w.same;
       splits = passed;
       leads = λ l. led (steps.Goes m) e l;
+      accepts = λ l x. led_at (steps.Goes m) e l x;
     }
 
     pub on_ends : steps.Ends ≡ next_step mode last c
@@ -166,6 +167,7 @@ module _ {level : ℕ} {tokens left : List ℕ} {mode : Mode} {items : List Brac
       same = w.same;
       splits = passed;
       leads = λ l. led steps.Ends e l;
+      accepts = λ l x. led_at steps.Ends e l x;
     }
 
     pub on_closes : (new : List Bracket) → steps.Closes ≡ next_step mode last c
@@ -176,6 +178,7 @@ module _ {level : ℕ} {tokens left : List ℕ} {mode : Mode} {items : List Brac
       same = same;
       splits = passed;
       leads = λ l. led steps.Closes e l;
+      accepts = λ l x. led_at steps.Closes e l x;
     }
 
     pub on_opens : (k : Bracket) (m : Mode) (new : List Bracket)
@@ -194,4 +197,5 @@ module _ {level : ℕ} {tokens left : List ℕ} {mode : Mode} {items : List Brac
             (λ x. (led (steps.Opens k) e l).0 (here, x)),
             (λ x. ((led (steps.Opens k) e l).1 x).1),
           );
+          accepts = λ l x. led_at (steps.Opens k) e l (here, x);
         })

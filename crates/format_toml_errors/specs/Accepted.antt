@@ -1,13 +1,11 @@
 -- Texts that the walk accepts, from each of its modes on; and what may come after a value.
-use Rattle.std.specs.Prelude.{◌≡◌, ◌↔◌, ◌⊎◌, ℕ, Bool, true, false, List, [], ◌∷◌, ◌++◌, Option}
+use Rattle.std.specs.Prelude.{◌≡◌, ◌⊎◌, ℕ, Bool, true, false, List, [], ◌∷◌, ◌++◌, Option}
 use Rattle.std.specs.Prelude.{Some, None, ◌==◌, ◌&&◌, nat_le, nat_lt, if◌then◌else◌, map, ⊤}
-use Rattle.std.proofs.Common.{refl, sym, ap, subst, inl, inr, ◌∙◌, arith, append_assoc, drop}
+use Rattle.std.proofs.Common.{refl, sym, ap, subst, inl, inr, ◌∙◌, arith, drop}
 use Rattle.std.proofs.Common.{get_or}
-use Rattle.std.proofs.lemmas.List.{append-nil}
 use Rattle.std.proofs.lemmas.Bool.Decides.{nat_tests}
 use Rattle.format_toml_errors.specs.Steps.{next_step, after_step, number_goes}
-use Rattle.format_toml_errors.specs.Stop.{IsAccepted, IsNextStep, IsViablePrefix, LeadsTo, MayBegin}
-use Rattle.format_toml_errors.specs.Stop.{ends_line, is_end}
+use Rattle.format_toml_errors.specs.Stop.{At, IsNextStep, IsViablePrefix, is_end}
 use Rattle.format_toml_errors.specs.Unclosed.{last_open, opened, others_open}
 use Rattle.format_toml_errors.specs.declared.modes.Bracket.{Bracket}
 use Rattle.format_toml_errors.specs.declared.modes.Mode.{Mode}
@@ -22,68 +20,25 @@ use Rattle.format_toml_errors.specs.declared.modes.Bracket.TheVariants as bracke
 use Rattle.format_toml_errors.specs.declared.modes.Mark.TheVariants as marks
 use Rattle.format_toml_errors.specs.declared.moments.Moment.TheVariants as moments
 
--- `At level mode held tokens`: each of the tokens may occur where it does, where `mode` is expected
--- in the brackets `held`, and a line may end after them.
-abbrev pub At : ℕ → Mode → List Bracket → List ℕ → Type 0
-At level mode held [] = ends_line mode (last_open held) ≡ true
-At level mode held (c ∷ tokens) =
-    IsNextStep (λ m o. At level m o tokens) level held (next_step mode (last_open held) c)
+module _ (level : ℕ) (short long : List ℕ)
+    (fewer : (mode : Mode) (held : List Bracket) → At level mode held long
+    → IsViablePrefix level mode held short) where
+  fewer_next : (held : List Bracket) (s : Step)
+      → IsNextStep (λ m o. At level m o long) level held s
+      → IsNextStep (λ m o. IsViablePrefix level m o short) level held s
+  fewer_next held steps.Invalid x = x
+  fewer_next held (steps.Goes m) x = fewer m held x
+  fewer_next held (steps.Opens k) x = (x.0, fewer (opened k) (k ∷ held) x.1)
+  fewer_next held steps.Closes x = fewer modes.After (others_open held) x
+  fewer_next held steps.Ends x = fewer modes.Line held x
 
-module _ (level : ℕ) where
-  -- ---- the walk accepts such tokens
-
-  module _ (short long : List ℕ)
-      (fewer : (mode : Mode) (held : List Bracket) → IsViablePrefix level mode held long
-      → IsViablePrefix level mode held short) where
-    fewer_next : (held : List Bracket) (s : Step)
-        → IsNextStep (λ m o. IsViablePrefix level m o long) level held s
-        → IsNextStep (λ m o. IsViablePrefix level m o short) level held s
-    fewer_next held steps.Invalid x = x
-    fewer_next held (steps.Goes m) x = fewer m held x
-    fewer_next held (steps.Opens k) x = (x.0, fewer (opened k) (k ∷ held) x.1)
-    fewer_next held steps.Closes x = fewer modes.After (others_open held) x
-    fewer_next held steps.Ends x = fewer modes.Line held x
-
-  pub viable_front : (short more : List ℕ) (mode : Mode) (held : List Bracket)
-      → IsViablePrefix level mode held (short ++ more) → IsViablePrefix level mode held short
-  viable_front [] more mode held x = tt
-  viable_front (c ∷ short) more mode held x =
-      fewer_next short (short ++ more) (λ m o. viable_front short more m o) held
-      (next_step mode (last_open held) c) x
-
-  module _ (front tokens : List ℕ)
-      (on : (mode : Mode) (held : List Bracket) → LeadsTo level front mode held
-      → At level mode held tokens → IsAccepted level (front ++ tokens)) where
-    accepted_next : (held : List Bracket) (s : Step)
-        → ((more : List ℕ) → IsNextStep (λ m o. IsViablePrefix level m o more) level held s
-        ↔ MayBegin level (front ++ more))
-        → IsNextStep (λ m o. At level m o tokens) level held s → IsAccepted level (front ++ tokens)
-    accepted_next held steps.Invalid leads x = absurd x
-    accepted_next held (steps.Goes m) leads x = on m held leads x
-    accepted_next held (steps.Opens k) leads x =
-        on (opened k) (k ∷ held)
-        (λ more. ((λ y. (leads more).0 (x.0, y)), (λ y. ((leads more).1 y).1))) x.1
-    accepted_next held steps.Closes leads x = on modes.After (others_open held) leads x
-    accepted_next held steps.Ends leads x = on modes.Line held leads x
-
-  accepted_from : (tokens front : List ℕ) (mode : Mode) (held : List Bracket)
-      → LeadsTo level front mode held → At level mode held tokens
-      → IsAccepted level (front ++ tokens)
-  accepted_from [] front mode held leads x =
-      let may : MayBegin level front =
-      subst (λ l. MayBegin level l) (append-nil front) ((leads []).0 tt) in
-      subst (λ l. IsAccepted level l) (sym (append-nil front)) (mode, held, leads, may, x)
-  accepted_from (c ∷ tokens) front mode held leads x =
-      let Q : List ℕ → List ℕ → Type 0 = λ more l.
-      IsNextStep (λ m o. IsViablePrefix level m o more) level held
-      (next_step mode (last_open held) c) ↔ MayBegin level l in
-      subst (λ l. IsAccepted level l) (append_assoc front (c ∷ []) tokens)
-      (accepted_next (front ++ c ∷ []) tokens
-      (λ m o. accepted_from tokens (front ++ c ∷ []) m o) held (next_step mode (last_open held) c)
-      (λ more. subst (λ l. Q more l) (sym (append_assoc front (c ∷ []) more)) (leads (c ∷ more))) x)
-
-  pub accepted : (tokens : List ℕ) → At level modes.Line [] tokens → IsAccepted level tokens
-  accepted tokens x = accepted_from tokens [] modes.Line [] (λ more. ((λ y. y), (λ y. y))) x
+-- each character of its beginning may occur where it does
+pub viable_front : (level : ℕ) (short more : List ℕ) (mode : Mode) (held : List Bracket)
+    → At level mode held (short ++ more) → IsViablePrefix level mode held short
+viable_front level [] more mode held x = tt
+viable_front level (c ∷ short) more mode held x =
+    fewer_next level short (short ++ more) (λ m o. viable_front level short more m o) held
+    (next_step mode (last_open held) c) x
 
 -- ---- one character
 

@@ -1,19 +1,17 @@
 -- From each mode that a walk reaches, some text leads to an end: a word or zeros end a value, and
 -- then brackets close.
 use Rattle.std.specs.Char.{digit_value}
-use Rattle.std.specs.Prelude.{◌≡◌, ◌≤◌, ◌+◌, ◌*◌, ℕ, zero, suc, Bool, true, false}
-use Rattle.std.specs.Prelude.{List, [], ◌∷◌, ◌++◌, Option, Some, None, nat_le, nat_lt}
-use Rattle.std.specs.Prelude.{if◌then◌else◌}
+use Rattle.std.specs.Prelude.{◌≡◌, ◌≤◌, ◌+◌, ◌*◌, ℕ, zero, suc, Bool, true, false, List, [], ◌∷◌}
+use Rattle.std.specs.Prelude.{◌++◌, Option, Some, None, nat_le, nat_lt, if◌then◌else◌}
 use Rattle.std.proofs.Common.{refl, sym, ap, subst, inl, inr, arith}
 use Rattle.std.proofs.lemmas.Bool.Decides.{nat_tests}
 use Rattle.format_toml_errors.specs.Escapes.{escape_step}
-use Rattle.format_toml_errors.specs.Figures.{ends_figure, figure_step, limit_of}
-use Rattle.format_toml_errors.specs.Figures.{moment_as}
+use Rattle.format_toml_errors.specs.Figures.{ends_figure, figure_step, limit_of, moment_as}
 use Rattle.format_toml_errors.specs.Moments.{day_fits, digit, ends_moment, first_of, is_leap}
 use Rattle.format_toml_errors.specs.Moments.{moment_if, moment_step}
-use Rattle.format_toml_errors.specs.Steps.{after_step, content_step, end_of, next_step}
-use Rattle.format_toml_errors.specs.Steps.{in_long, in_string, number_goes}
-use Rattle.format_toml_errors.specs.Stop.{IsCompletable, IsNextStep, IsViablePrefix, MayBegin}
+use Rattle.format_toml_errors.specs.Steps.{after_step, content_step, end_of, next_step, in_long}
+use Rattle.format_toml_errors.specs.Steps.{in_string, number_goes}
+use Rattle.format_toml_errors.specs.Stop.{At, IsCompletable, IsNextStep, IsViablePrefix, MayBegin}
 use Rattle.format_toml_errors.specs.Unclosed.{last_open, others_open}
 use Rattle.format_toml_errors.specs.declared.escapes.Escape.{Escape}
 use Rattle.format_toml_errors.specs.declared.escapes.Escape.TheVariants as escapes
@@ -41,8 +39,7 @@ use Rattle.format_toml_errors.specs.declared.modes.Step.{Step}
 use Rattle.format_toml_errors.specs.declared.modes.Step.TheVariants as steps
 use Rattle.format_toml_errors.specs.declared.moments.Moment.{Moment}
 use Rattle.format_toml_errors.specs.declared.moments.Moment.TheVariants as moments
-use Rattle.format_toml_errors.specs.Accepted.{At, Next, accepted, after_done, both_ways, by}
-use Rattle.format_toml_errors.specs.Accepted.{true_not_false}
+use Rattle.format_toml_errors.specs.Accepted.{Next, after_done, both_ways, by, true_not_false}
 use Rattle.format_toml_errors.specs.Reached.{IsFigure, IsMoment, IsReached, MayReach, next_reached}
 
 abbrev pub is_letter : Escape → Bool
@@ -360,5 +357,4 @@ module _ (level : ℕ) where
 
   -- characters that the walk accepts begin a text that it accepts
   pub completed : (front : List ℕ) → MayBegin level front → IsCompletable level front
-  completed front may =
-      let (more, x) = goes_on front modes.Line [] tt may in (more, accepted level (front ++ more) x)
+  completed front may = goes_on front modes.Line [] tt may

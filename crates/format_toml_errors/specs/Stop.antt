@@ -76,11 +76,16 @@ IsWanted level front rest expected =
     (mode : Mode) × (held : List Bracket) × LeadsTo level front mode held
     × IsNamed level mode held rest expected
 
+-- `At level mode held tokens`: each of the tokens may occur where it does, where `mode` is expected
+-- in the brackets `held`, and a line may end after them.
+abbrev pub At : ℕ → Mode → List Bracket → List ℕ → Type 0
+At level mode held [] = ends_line mode (last_open held) ≡ true
+At level mode held (c ∷ tokens) =
+    IsNextStep (λ m o. At level m o tokens) level held (next_step mode (last_open held) c)
+
 -- `IsAccepted level tokens`: each token may occur where it does, and the text may end after them.
 abbrev pub IsAccepted : ℕ → List ℕ → Type 0
-IsAccepted level tokens =
-    (mode : Mode) × (held : List Bracket) × LeadsTo level tokens mode held
-    × MayBegin level tokens × (ends_line mode (last_open held) ≡ true)
+IsAccepted level tokens = At level modes.Line [] tokens
 
 -- `IsCompletable level front`: the walk accepts some text that begins with `front`.
 abbrev pub IsCompletable : ℕ → List ℕ → Type 0
