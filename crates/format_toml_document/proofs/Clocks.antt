@@ -1,5 +1,6 @@
 -- The clocks that the walk accepts are those of the grammar.
-use Rattle.std.specs.Prelude.{◌≡◌, ◌≤◌, ◌+◌, ◌-◌, ◌*◌, ◌==◌, ◌&&◌, ℕ, Bool, true, false, List, ◌∷◌}
+use Rattle.std.specs.Prelude.{◌≡◌, ◌≤◌, ◌+◌, ◌-◌, ◌*◌, ◌==◌, ◌&&◌, ℕ}
+use Rattle.std.specs.Prelude.{Bool, true, false, List, ◌∷◌}
 use Rattle.std.specs.Prelude.{◌++◌, Option, None, nat_le, length}
 use Rattle.std.proofs.Common.{refl, ap, subst, inl, inr, ◌∙◌, arith}
 use Rattle.std.proofs.lemmas.Bool.Decides.{nat_tests}

@@ -1,7 +1,8 @@
 -- The walk over integers and floats.
 use Rattle.std.specs.Char.{digit_value}
 use Rattle.std.specs.Int.{w64}
-use Rattle.std.specs.Prelude.{◌≡◌, ◌<◌, ◌≤◌, ◌^◌, ◌+◌, ◌*◌, ℕ, ℤ, zero, suc, pos, neg_ℤ, Bool, true}
+use Rattle.std.specs.Prelude.{◌≡◌, ◌<◌, ◌≤◌, ◌^◌, ◌+◌, ◌*◌, ℕ, ℤ, zero}
+use Rattle.std.specs.Prelude.{suc, pos, neg_ℤ, Bool, true}
 use Rattle.std.specs.Prelude.{false, nat_lt, List, ◌∷◌, ◌++◌, Option, Some, FitsSigned}
 use Rattle.std.specs.Prelude.{if◌then◌else◌}
 use Rattle.std.proofs.Common.{refl, sym, ap, subst, inl, inr, ◌∙◌, arith}

@@ -1,5 +1,6 @@
 -- What may follow in each mode of the walk so that the text is a document, by the grammar.
-use Rattle.std.specs.Prelude.{◌≡◌, ◌⊎◌, ◌≤◌, ◌-◌, ⊤, ℕ, zero, suc, Bool, true, List, [], ◌∷◌, ◌++◌}
+use Rattle.std.specs.Prelude.{◌≡◌, ◌⊎◌, ◌≤◌, ◌-◌, ⊤, ℕ, zero, suc, Bool}
+use Rattle.std.specs.Prelude.{true, List, [], ◌∷◌, ◌++◌}
 use Rattle.std.specs.Prelude.{length, Option, Some, None}
 use Rattle.grammars.specs.Texts.{AtLeast, BothText, EachText, EitherText, GatheredText, Members}
 use Rattle.grammars.specs.Texts.{OptionalText, PartedText, Text, TokenOfText}

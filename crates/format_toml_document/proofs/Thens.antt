@@ -1,5 +1,6 @@
 -- Texts that begin with an encoding: what is known of the rest is known of the whole.
-use Rattle.std.specs.Prelude.{◌≡◌, ◌≤◌, ◌<◌, ◌+◌, ◌*◌, ◌^◌, ◌==◌, ◌&&◌, ℕ, Bool, true, false, List}
+use Rattle.std.specs.Prelude.{◌≡◌, ◌≤◌, ◌<◌, ◌+◌, ◌*◌, ◌^◌, ◌==◌, ◌&&◌}
+use Rattle.std.specs.Prelude.{ℕ, Bool, true, false, List}
 use Rattle.std.specs.Prelude.{[], ◌∷◌, ◌++◌, length, Some, None}
 use Rattle.std.specs.Char.{IsScalar, len_utf8}
 use Rattle.std.specs.Str.{all_scalars, encode_utf8_all}
@@ -107,12 +108,6 @@ module _ {O : Type 0} {text : Text ℕ O} {K : List ℕ → Type 0} {l : List �
   behind fits more t =
       let (o, xs, ys, x, e, k) = parts t in
       to o xs ys x e (more ys (fit_parts l xs ys e fits).1 k)
-
-  pub read_as : {P : Type 0} {other : Text ℕ P}
-      → ((o : O) (xs : List ℕ) → text o xs → (p : P) × other p xs) → Then text K l
-      → Then other K l
-  read_as make t =
-      let (o, xs, ys, x, e, k) = parts t in let (p, y) = make o xs x in to p xs ys y e k
 
   pub left : (other : Text ℕ O) → Then text K l → Then (EitherText text other) K l
   unfolding EitherText

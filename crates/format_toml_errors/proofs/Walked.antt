@@ -1,5 +1,6 @@
 -- The walk over the characters of a text: what it has come to, and the place where it stops.
-use Rattle.std.specs.Prelude.{◌≡◌, ◌↔◌, ◌<◌, ◌≤◌, ◌-◌, ◌++◌, ℕ, List, [], ◌∷◌, Option, length}
+use Rattle.std.specs.Prelude.{◌≡◌, ◌↔◌, ◌<◌, ◌≤◌, ◌-◌, ◌++◌, ℕ, List}
+use Rattle.std.specs.Prelude.{[], ◌∷◌, Option, length}
 use Rattle.std.specs.Prelude.{slice_get, true, false}
 use Rattle.std.proofs.Common.{ap, append_assoc, arith, inl, inr, refl, subst, sym, ◌∙◌}
 use Rattle.std.proofs.lemmas.List.{append-nil}
