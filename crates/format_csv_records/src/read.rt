@@ -24,18 +24,9 @@ use std::simd::prelude::*;
 /// The reason why no record can continue at a byte.
 ///
 /// ```
-/// use format_csv_records::dialect::Dialect;
-/// use format_csv_records::read::{RecordError, Reason, read_record_into};
-/// use format_csv_records::record::ByteRecord;
+/// use format_csv_records::read::Reason;
 ///
-/// let mut fields = ByteRecord::new(alloc);
-/// let mut input = b"a,\"b\"c\r\n".as_slice();
-/// match read_record_into(Dialect::standard(), &mut fields, &mut input) {
-///     Err(RecordError::Invalid(fault)) => {
-///         assert!(rt; fault.why == Reason::ByteBehindQuote);
-///     }
-///     _ => assert!(rt; false),
-/// }
+/// assert!(rt; Reason::OpenQuote != Reason::QuoteInField);
 /// ```
 #[derive(Clone, Copy, Debug, PartialEq, Eq)]
 pub enum Reason {
