@@ -1,15 +1,17 @@
--- Texts that the walk accepts are documents, once a line feed follows them.
-use Rattle.std.specs.Prelude.{◌≡◌, ◌<◌, ◌^◌, ℕ, true, List, [], ◌∷◌, ◌++◌, length, Option}
+-- Texts that the walk accepts are documents.
+use Rattle.std.specs.Prelude.{◌≡◌, ◌<◌, ◌^◌, ℕ, true, List, [], ◌∷◌, ◌++◌, length, Option, nat_lt}
+use Rattle.std.specs.Prelude.{if◌then◌else◌, ◌==◌, Some, None, Bool, false}
 use Rattle.std.specs.Str.{all_scalars}
 use Rattle.std.specs.declared.vec.Vec.{Vec}
-use Rattle.std.proofs.Common.{refl, sym, ap, subst, inl, ◌∙◌, arith, length-append}
+use Rattle.std.proofs.Common.{inr, refl, sym, ap, subst, inl, ◌∙◌}
 use Rattle.std.proofs.lemmas.List.{append-nil}
 use Rattle.grammars.specs.Texts.{InList}
 use Rattle.format_toml.specs.Toml.{DocumentText}
-use Rattle.format_toml_errors.specs.Accepted.{true_not_false}
-use Rattle.format_toml_errors.specs.Stop.{At, IsAccepted, IsNextStep, is_end}
+use Rattle.format_toml_errors.specs.Accepted.{true_not_false, both_ways}
+use Rattle.format_toml_errors.specs.Stop.{At, IsAccepted, IsNextStep, is_end, ends_line}
 use Rattle.format_toml_errors.specs.Escapes.{escape_step}
-use Rattle.format_toml_errors.specs.Steps.{next_step}
+use Rattle.format_toml_errors.specs.Steps.{next_step, after_step, content_step, in_long, in_string}
+use Rattle.format_toml_errors.specs.Steps.{key_end, letter_of, number_goes, rest_of}
 use Rattle.format_toml_errors.specs.Unclosed.{last_open, opened, others_open}
 use Rattle.format_toml_errors.specs.declared.modes.Bracket.{Bracket}
 use Rattle.format_toml_errors.specs.declared.modes.Mode.{Mode}
@@ -24,20 +26,57 @@ use Rattle.format_toml_document.proofs.LongBacks.{long_back, long_blank_back, lo
 use Rattle.format_toml_document.proofs.LongBacks.{long_return_back, quotes_back}
 use Rattle.format_toml_document.proofs.Parts.{lines_made, newline_long}
 use Rattle.format_toml_document.proofs.Rests.{After, Rest}
-use Rattle.format_toml_document.proofs.Thens.{Fits, and_true, both_true, cons, fit_parts}
-use Rattle.format_toml_document.proofs.Thens.{least_counts, listed, nil, none, parts, run_more}
-use Rattle.format_toml_document.proofs.Thens.{run_none, token}
+use Rattle.format_toml_document.proofs.Thens.{Fits, cons, fit_parts, least_counts, listed, nil}
+use Rattle.format_toml_document.proofs.Thens.{none, parts, run_more, run_none, token, members_none}
 use Rattle.format_toml_document.proofs.Values.{ReadsNumbers, after_back, closing_back, comment_back}
 use Rattle.format_toml_document.proofs.Values.{element_back, blank_after, figure_back, first_back}
 use Rattle.format_toml_document.proofs.Values.{header_back, line_back, return_step, value_back}
 use Rattle.format_toml_document.proofs.Zeros.{reads}
+use Rattle.format_toml_errors.specs.Figures.{ends_figure, figure_step}
+use Rattle.format_toml_errors.specs.declared.escapes.Escape.TheVariants as escapes
+use Rattle.format_toml_errors.specs.declared.escapes.Escaped.{Escaped}
+use Rattle.format_toml_errors.specs.declared.escapes.Escaped.TheVariants as escaped
+use Rattle.format_toml_errors.specs.declared.figures.Figure.{Figure}
+use Rattle.format_toml_errors.specs.declared.modes.Bracket.TheVariants as brackets
+use Rattle.format_toml_errors.specs.declared.modes.Gap.TheVariants as gaps
+use Rattle.format_toml_errors.specs.declared.modes.Mark.{Mark}
+use Rattle.format_toml_errors.specs.declared.modes.Mark.TheVariants as marks
+use Rattle.format_toml_errors.specs.declared.modes.Owner.{Owner}
+use Rattle.format_toml_errors.specs.declared.modes.Owner.TheVariants as owners
+use Rattle.format_toml_errors.specs.declared.modes.Role.{Role}
+use Rattle.format_toml_document.proofs.Longs.{closes}
 
-scalars_both : (xs ys : List ℕ) → all_scalars xs ≡ true → all_scalars ys ≡ true
-    → all_scalars (xs ++ ys) ≡ true
-scalars_both [] ys one two = two
-scalars_both (x ∷ xs) ys one two =
-    let (first, more) = both_true _ (all_scalars xs) one in
-    and_true _ (all_scalars (xs ++ ys)) first (scalars_both xs ys more two)
+-- ---- what does not end at a line feed
+
+string_goes : (role : Role) (s : Escaped) → is_end (in_string role s) ≡ false
+string_goes role escaped.Invalid = refl
+string_goes role (escaped.More e) = refl
+string_goes role escaped.Done = refl
+
+long_goes : (s : Escaped) → is_end (in_long s) ≡ false
+long_goes escaped.Invalid = refl
+long_goes (escaped.More e) = refl
+long_goes escaped.Done = refl
+
+content_goes : (mark : Mark) → is_end (content_step mark 10) ≡ false
+content_goes marks.Basic = refl
+content_goes marks.Literal = refl
+
+word_goes : (b : Bool) (m : Mode) → is_end (if b then steps.Goes m else steps.Invalid) ≡ false
+word_goes true m = refl
+word_goes false m = refl
+
+key_goes : (owner : Owner) → is_end (key_end owner 10) ≡ false
+key_goes owners.Entry = refl
+key_goes owners.Member = refl
+key_goes owners.Header = refl
+key_goes owners.Headers = refl
+
+number_ends : (o : Option Figure) (b : Bool) (k : Option Bracket)
+    → is_end (number_goes o b k 10) ≡ true → (b ≡ true) × (is_end (after_step k 10) ≡ true)
+number_ends (Some f) b k e = true_not_false (sym e)
+number_ends None true k e = (refl, e)
+number_ends None false k e = true_not_false (sym e)
 
 module _ {A : Type 0} (alloc : A) (level : ℕ) where
   numbers : (held : List Bracket) → ReadsNumbers A (After A level held)
@@ -88,46 +127,78 @@ module _ {A : Type 0} (alloc : A) (level : ℕ) where
     back (modes.Sign negative) x = sign_back A level held l alloc c fits negative x
     back (modes.Number f) x = figure_back alloc level numbers c l fits held f x
 
-  -- a line feed after a text that may end
-  abbrev feed : List ℕ
-  feed = 10 ∷ []
+  -- ---- where a text may end
+
+  after_ends : (held : List Bracket) → is_end (after_step (last_open held) 10) ≡ true
+      → After A level held []
+  unfolding After
+  after_ends [] e = run_none _ (none _ (inl refl))
+  after_ends (brackets.Array ∷ held) e = true_not_false (sym e)
+  after_ends (brackets.Table ∷ held) e = true_not_false (sym e)
+
+  long_ends : (held : List Bracket) (mark : Mark) (quotes : ℕ)
+      → is_end (if nat_lt quotes 3 then content_step mark 10
+      else after_step (last_open held) 10) ≡ true
+      → Rest A level (modes.Long mark quotes) held []
+  long_ends held mark quotes e most =
+      let P : Bool → Type 0 = λ b.
+      is_end (if b then content_step mark 10 else after_step (last_open held) 10) ≡ true in
+      elim (both_ways (nat_lt quotes 3)) [
+        | inl few ↦ true_not_false (sym (subst P few e) ∙ content_goes mark)
+        | inr many ↦
+            closes A level held mark quotes [] many most (after_ends held (subst P many e))
+      ]
+
+  ends : (mode : Mode) (held : List Bracket) → ends_line mode (last_open held) ≡ true
+      → Rest A level mode held []
+  ends modes.Line [] e = run_none _ (none _ (none _ (inl refl)))
+  ends modes.Line (bracket ∷ held) e = tt
+  ends (modes.Comment gaps.Line) [] e = members_none _ (inl refl)
+  ends (modes.Comment gaps.Line) (bracket ∷ held) e = members_none _ tt
+  ends (modes.Comment gaps.Item) held e = true_not_false (sym e)
+  ends (modes.Comment gaps.After) held e = true_not_false (sym e)
+  ends modes.After held e = after_ends held e
+  ends (modes.Quotes marks.Basic) held e = inl (after_ends held e)
+  ends (modes.Quotes marks.Literal) held e = inl (after_ends held e)
+  ends (modes.Long marks.Basic quotes) held e = long_ends held marks.Basic quotes e
+  ends (modes.Long marks.Literal quotes) held e = long_ends held marks.Literal quotes e
+  ends (modes.Number f) held e =
+      let (whole, after) = number_ends (figure_step f 10) (ends_figure f) (last_open held) e in
+      (whole, after_ends held after)
+  ends (modes.Bare owner) held e = true_not_false (sym e ∙ key_goes owner)
+  ends (modes.Behind owner) held e = true_not_false (sym e ∙ key_goes owner)
+  ends (modes.Escaped role f) held e = true_not_false (sym e ∙ string_goes role (escape_step f 10))
+  ends (modes.Quote marks.Basic) held e = true_not_false (sym e)
+  ends (modes.Quote marks.Literal) held e = true_not_false (sym e)
+  ends (modes.LongEscape escapes.Letter) held e = true_not_false (sym e)
+  ends (modes.LongEscape f) held e = true_not_false (sym e ∙ long_goes (escape_step f 10))
+  ends (modes.Word left) held e =
+      true_not_false (sym e ∙ word_goes (10 == letter_of left) (rest_of left))
+  ends mode held e = true_not_false (sym e)
 
   module _ (l : List ℕ) (on : (mode : Mode) (held : List Bracket) → At level mode held l
-      → Rest A level mode held (l ++ feed)) where
+      → Rest A level mode held l) where
     led : (held : List Bracket) (s : Step) → IsNextStep (λ m o. At level m o l) level held s
-        → Led A level held (l ++ feed) s
+        → Led A level held l s
     led held steps.Invalid x = absurd x
     led held (steps.Goes mode) x = record { led = on mode held x }
     led held (steps.Opens k) x = record { led = (x.0, on (opened k) (k ∷ held) x.1) }
     led held steps.Closes x = record { led = on modes.After (others_open held) x }
     led held steps.Ends x = record { led = on modes.Line held x }
 
-  last : (held : List Bracket) (s : Step) → is_end s ≡ true → Led A level held [] s
-  last held steps.Ends e = record { led = start held }
-    where
-      start : (held : List Bracket) → Rest A level modes.Line held []
-      start [] = run_none _ (none _ (none _ (inl refl)))
-      start (bracket ∷ held) = tt
-  last held s e = true_not_false (sym e)
-
-  rest : (l : List ℕ) → Fits (l ++ feed) → (mode : Mode) (held : List Bracket)
-      → At level mode held l → Rest A level mode held (l ++ feed)
-  rest [] fits mode held x =
-      back 10 [] fits held mode (last held (next_step mode (last_open held) 10) x)
+  rest : (l : List ℕ) → Fits l → (mode : Mode) (held : List Bracket) → At level mode held l
+      → Rest A level mode held l
+  rest [] fits mode held x = ends mode held x
   rest (c ∷ l) fits mode held x =
-      let less = (fit_parts (c ∷ (l ++ feed)) (c ∷ []) (l ++ feed) refl fits).1 in
-      back c (l ++ feed) fits held mode
+      let less = (fit_parts (c ∷ l) (c ∷ []) l refl fits).1 in
+      back c l fits held mode
       (led l (λ m o y. rest l less m o y) held (next_step mode (last_open held) c) x)
 
-  pub only_documents : (text : List ℕ) → all_scalars text ≡ true → length text < 2 ^ 59
-      → IsAccepted level text
-      → (lines : Vec (Option (Item A)) A) × DocumentText level lines (text ++ feed)
+  pub only_documents : (text : List ℕ) → all_scalars text ≡ true → length text < 2 ^ 60
+      → IsAccepted level text → (lines : Vec (Option (Item A)) A) × DocumentText level lines text
   unfolding InList
   only_documents text scalars few x =
-      let fits : Fits (text ++ feed) = record {
-        scalars = scalars_both text feed scalars refl;
-        few = omega (arith, few, length-append text feed);
-      } in
+      let fits : Fits text = record { scalars = scalars; few = few } in
       let found = lines_made {A = A} level fits (rest text fits modes.Line [] x) in
       let (list, xs, ys, is, e, k) = parts (listed alloc fits (least_counts _ newline_long) found)
       in

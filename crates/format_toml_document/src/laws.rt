@@ -9,7 +9,7 @@ ghost use Rattle.format_toml_tree.specs.Runs.{Gives, Tree as Given, empty};
 ghost use Rattle.format_toml_tree.specs.declared.roles.Reason.{Reason};
 ghost use Rattle.format_toml_tree.specs.declared.tree.Tree.{Tree};
 ghost use Rattle.format_toml_tree.specs.declared.value.Item.{Item};
-ghost use Rattle.std.specs.Prelude.{◌≡◌, ◌⊎◌, ◌<◌, ◌^◌, ◌++◌, ◌∷◌, [], ℕ, List, Option, Result};
+ghost use Rattle.std.specs.Prelude.{◌≡◌, ◌⊎◌, ◌<◌, ◌^◌, ◌++◌, [], ℕ, List, Option, Result};
 ghost use Rattle.std.specs.Prelude.{length, true};
 ghost use Rattle.std.specs.Str.{IsUtf8, all_scalars};
 ghost use Rattle.std.specs.declared.vec.Vec.{Vec};
@@ -66,9 +66,8 @@ pub fn the_walk_accepts_documents<A: Allocator>()
 {}
 
 /// The walk of [`first_stop`](format_toml_errors::walk::first_stop) accepts only documents: a text
-/// that it accepts, and a line feed after it, are the text of lines. The text is of characters that
-/// Unicode permits (no surrogates), and of fewer than 2^59 of them, as strings and lists are
-/// bounded.
+/// that it accepts is the text of lines. The text is of characters that Unicode permits (no
+/// surrogates), and of fewer than 2^60 of them, as strings and lists are bounded.
 ///
 /// ```
 /// use format_toml_document::laws::the_walk_accepts_only_documents;
@@ -80,8 +79,8 @@ pub fn the_walk_accepts_documents<A: Allocator>()
 /// ```
 pub fn the_walk_accepts_only_documents<A: Allocator>()
     ensures { (level : ℕ) (alloc : A) (text : List ℕ) → all_scalars text ≡ true
-        → length text < 2 ^ 59 → IsAccepted level text
-        → (lines : Vec (Option (Item A)) A) × DocumentText level lines (text ++ 10 ∷ []) }
+        → length text < 2 ^ 60 → IsAccepted level text
+        → (lines : Vec (Option (Item A)) A) × DocumentText level lines text }
 {}
 
 /// Characters that the walk of [`first_stop`](format_toml_errors::walk::first_stop) rejects at a
