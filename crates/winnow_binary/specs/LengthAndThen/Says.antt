@@ -34,13 +34,13 @@ behind rest (cuts place) = cuts rest
 behind rest (asks need place) = backs rest
 behind rest wants = wants
 
--- There are `n` tokens, and the parser does so with them.
+-- There are that many tokens, and the parser does so with them.
 abbrev pub WithTaken : {T O : Type 0} → Does T O → ℕ → Does T O
 WithTaken {T} {O} does n at tokens y =
     (taken : List T) × (rest : List T) × (x : Outcome T O) × (length taken ≡ n)
     × (tokens ≡ taken ++ rest) × does (on_their_own at) taken x × (y ≡ behind rest x)
 
--- There are `n` tokens, or too few.
+-- There are that many, or too few.
 abbrev pub TakenDo : {T O : Type 0} → Bool → Does T O → ℕ → Does T O
 TakenDo counts does n =
     OneCase (WithTaken does n) (LacksWhere (missing_from counts n) (λ at tokens. length tokens < n))
