@@ -7,7 +7,7 @@ import shutil
 from family.along import write_along
 from family.blocks import blocks, mentions, used
 from family.common import documented, write
-from registry.common import CRATES
+from registry.common import CRATES, below_winnow
 
 SAME = "Rattle.winnow_core.specs.SameMeaning"
 # Parsers with one type of errors, the argument of a closure or a conversion.
@@ -184,7 +184,7 @@ def products(text):
 
 
 TRAITS = {"is_clone": "Clone", "is_infallible": "Clone", "is_default": "Default", "from_gives": "From", "step": "FnMut", "post": "Fn", "next_gives": "Iterator"}
-for _path in sorted(CRATES.glob("*/src/**/*.rt")):
+for _path in sorted(it for crate in below_winnow() for it in (CRATES / crate / "src").rglob("*.rt")):
     for _found in re.finditer(r"^pub trait (\w+).*?^\}", _path.read_text(encoding="utf-8"), re.MULTILINE | re.DOTALL):
         for _item in re.findall(r"^    ghost (\w+):", _found[0], re.MULTILINE):
             TRAITS.setdefault(_item, []) if not isinstance(TRAITS.get(_item), str) else None
