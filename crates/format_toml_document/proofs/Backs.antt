@@ -30,13 +30,15 @@ use Rattle.format_toml_errors.specs.declared.modes.Role.{Role}
 use Rattle.format_toml_errors.specs.declared.modes.Role.TheVariants as roles
 use Rattle.format_toml_errors.specs.declared.modes.Step.{Step}
 use Rattle.format_toml_errors.specs.declared.modes.Step.TheVariants as steps
-use Rattle.format_toml_document.proofs.Escapes.{AfterEscape, Escapes, escape_text}
+use Rattle.format_toml_document.proofs.Escapes.{escape_text}
+use Rattle.format_toml_document.proofs.Hexes.{AfterEscape, Escapes}
 use Rattle.format_toml_document.proofs.Parts.{bare_made, basic_made, literal_made}
 use Rattle.format_toml_document.proofs.Rests.{After, BasicRest, KeyEnd, KeyTail, LiteralRest, Rest}
 use Rattle.format_toml_document.proofs.Numerals.{Opened, from_digit, from_zero}
-use Rattle.format_toml_document.proofs.Rests.{Front, StringEnd, StringRest, Word, word_of}
-use Rattle.format_toml_document.proofs.Thens.{Fits, Then, behind, both, cons, fit_parts, left, nil}
-use Rattle.format_toml_document.proofs.Thens.{equal, one, parts, right, run_more, run_none, to}
+use Rattle.format_toml_document.proofs.Rests.{StringEnd, StringRest, Word, word_of}
+use Rattle.format_toml_document.proofs.Thens.{Fits, Front, Then, behind, both, cons, fit_parts}
+use Rattle.format_toml_document.proofs.Thens.{left, nil}
+use Rattle.format_toml_document.proofs.Thens.{equal, more_front, one, right, run_more, run_none, to}
 use Rattle.format_toml_document.proofs.Thens.{token}
 
 -- ---- characters
@@ -52,11 +54,6 @@ bare_is c e = grind (arith, nat_tests, e)
 
 pub other : (c n : ℕ) → (c == n) ≡ false → c ≡ n → ⊥
 other c n not same = grind (arith, nat_tests, not, same)
-
-pub more_front : {P Q K : List ℕ → Type 0} {l : List ℕ} (c : ℕ)
-    → ((xs : List ℕ) → P xs → Q (c ∷ xs)) → Front P K l → Front Q K (c ∷ l)
-more_front c more t =
-    let (o, xs, ys, is, e, k) = parts t in to tt (c ∷ xs) ys (more xs is) (ap (λ m. c ∷ m) e) k
 
 -- what follows after a step
 pub record Led (A : Type 0) (level : ℕ) (held : List Bracket) (l : List ℕ) (s : Step) : Type 0
@@ -166,7 +163,7 @@ module _ (A : Type 0) (level : ℕ) (held : List Bracket) (l : List ℕ) where
         (λ y. nil _ (one 34 (end_back role y)))
         (λ e y. at (λ b. BasicRest A level role held (b ∷ l)) c 92 _ _
         (λ z. cons (right _ (both _ (one 92
-        (escape_text _ l (goes (modes.Escaped role escapes.Letter) z))))))
+        (escape_text (goes (modes.Escaped role escapes.Letter) z))))))
         (λ f z. test (is_shown c) _ _
         (λ g w. cons (left _ (token _ c (shown_is c g, (other c 34 e, other c 92 f))
         (goes (modes.Basic role) w))))
@@ -182,7 +179,7 @@ module _ (A : Type 0) (level : ℕ) (held : List Bracket) (l : List ℕ) where
         (λ g w. never w) y) x
 
     pub escaped_back : (role : Role) (s : Escaped) → Leads (in_string role s)
-        → AfterEscape (λ e. Escapes (BasicRest A level role held) e l)
+        → AfterEscape (λ e. Front (Escapes e) (BasicRest A level role held) l)
         (BasicRest A level role held l) s
     escaped_back role escaped.Invalid x = never x
     escaped_back role (escaped.More e) x = goes (modes.Escaped role e) x

@@ -4,9 +4,9 @@ pub mod Dates
 pub mod Decimals
 pub mod Documents
 pub mod ErrorResults
-pub mod EscapeDigits
 pub mod Escapes
 pub mod Figures
+pub mod Hexes
 pub mod Long
 pub mod LongBacks
 pub mod LongRows

@@ -1,7 +1,7 @@
 -- The walk over strings of values, and over keys.
-use Rattle.std.specs.Prelude.{◌≡◌, ◌⊎◌, ◌&&◌, ◌≤◌, ◌+◌, ℕ, suc, Bool, true, nat_le, nat_lt, ⊤, List}
-use Rattle.std.specs.Prelude.{[], ◌∷◌, ◌++◌, if◌then◌else◌}
-use Rattle.std.proofs.Common.{refl, sym, ap, subst, inl, inr, ◌∙◌, arith}
+use Rattle.std.specs.Prelude.{◌≡◌, ◌⊎◌, ◌&&◌, ◌≤◌, ◌+◌, ℕ, suc, true, nat_le, nat_lt, ⊤, List}
+use Rattle.std.specs.Prelude.{[], ◌∷◌, ◌++◌, false, ◌==◌, if◌then◌else◌}
+use Rattle.std.proofs.Common.{refl, ap, inl, inr, ◌∙◌, arith}
 use Rattle.std.proofs.lemmas.Bool.{eq-eqb, ne_eqb}
 use Rattle.std.proofs.lemmas.Bool.Decides.{nat_tests}
 use Rattle.stream_sets.specs.Accumulator.Holds.{HasCharacters}
@@ -17,16 +17,20 @@ use Rattle.format_toml.specs.Toml.{EscapedLines, IsOf, NewlineText, IsBare, IsKe
 use Rattle.format_toml.specs.Toml.{NameText, Spaced}
 use Rattle.format_toml_errors.specs.Accepted.{after_done, by, Next}
 use Rattle.format_toml_errors.specs.Stop.{At}
-use Rattle.format_toml_errors.specs.Endings.{long_more}
+use Rattle.format_toml_errors.specs.Escapes.{escape_step}
 use Rattle.format_toml_errors.specs.Steps.{after_step, content_step, in_long, long_step, mark_of}
-use Rattle.format_toml_errors.specs.Steps.{next_step, string_step, behind_step, is_bare, name_step}
+use Rattle.format_toml_errors.specs.Steps.{next_step, string_step, behind_step, is_bare, is_blank}
+use Rattle.format_toml_errors.specs.Steps.{name_step}
+use Rattle.format_toml_errors.specs.Steps.{long_escape_step}
 use Rattle.format_toml_errors.specs.Unclosed.{last_open}
 use Rattle.format_toml_errors.specs.declared.modes.Bracket.{Bracket}
 use Rattle.format_toml_errors.specs.declared.modes.Mark.{Mark}
 use Rattle.format_toml_errors.specs.declared.modes.Mode.{Mode}
 use Rattle.format_toml_errors.specs.declared.modes.Owner.{Owner}
 use Rattle.format_toml.specs.declared.characters.Characters.TheVariants as sets
+use Rattle.format_toml_errors.specs.declared.escapes.Escape.{Escape}
 use Rattle.format_toml_errors.specs.declared.escapes.Escape.TheVariants as escapes
+use Rattle.format_toml_errors.specs.declared.escapes.Escaped.{Escaped}
 use Rattle.format_toml_errors.specs.declared.escapes.Escaped.TheVariants as escaped
 use Rattle.format_toml_errors.specs.declared.modes.Mark.TheVariants as marks
 use Rattle.format_toml_errors.specs.declared.modes.Mode.TheVariants as modes
@@ -34,8 +38,8 @@ use Rattle.format_toml_errors.specs.declared.modes.Role.TheVariants as roles
 use Rattle.format_toml_errors.specs.declared.modes.Step.TheVariants as steps
 use Rattle.format_toml_document.proofs.Walks.{moved, newline_front, one_front, parted, space_by}
 use Rattle.format_toml_document.proofs.Walks.{token_front, ws_front, Started, some_front}
-use Rattle.format_toml_document.proofs.Quoted.{Escaping, escape_front, stands_by, basic_front}
-use Rattle.format_toml_document.proofs.Quoted.{literal_front}
+use Rattle.format_toml_document.proofs.Escapes.{Escaping, escape_front}
+use Rattle.format_toml_document.proofs.Quoted.{basic_front, literal_front}
 
 delimiter_front : {behind whole : List ℕ → Type 0} (quote : ℕ)
     → ((l : List ℕ) → behind l → whole (quote ∷ quote ∷ quote ∷ l))
@@ -163,18 +167,19 @@ module _ (level : ℕ) (held : List Bracket) where
       → content_step marks.Basic c ≡ steps.Goes (modes.Long marks.Basic 0)
   basic_content c is = grind (arith, nat_tests, is)
 
+  long_is : (e : Escape) (c : ℕ) (s : Escaped) → escape_step e c ≡ s → (s ≡ escaped.Invalid → ⊥)
+      → long_escape_step e c ≡ in_long s
+  long_is escapes.Letter c s is valid =
+      let blank : is_blank c ≡ false = grind (arith, nat_tests, is, valid) in
+      let feed : (c == 10) ≡ false = grind (arith, nat_tests, is, valid) in
+      let return : (c == 13) ≡ false = grind (arith, nat_tests, is, valid) in
+      rw (blank, feed, return, is) refl
+  long_is e c s is valid = ap (λ s. in_long s) is
+
   long_escaping : Escaping (λ e l. At level (modes.LongEscape e) held l) BasicAt
   long_escaping = record {
-    letter = λ c k l is x.
-        let P : ℕ → Type 0 = λ b. At level (modes.LongEscape escapes.Letter) held (b ∷ l) in
-        stands_by P x x x x x x x c k is;
-    unit = λ l x. x;
-    wide = λ l x. x;
-    more = long_more level held;
-    done = λ c l is x.
-        let P : Bool → Type 0 = λ b.
-        Next level held l (in_long (if b then escaped.Done else escaped.Invalid)) in
-        subst P (sym is) x;
+    more = λ e f c l is x. by level held l (long_is e c (escaped.More f) is (λ n. cc)) x;
+    done = λ e c l is x. by level held l (long_is e c escaped.Done is (λ n. cc)) x;
   }
 
   basic_characters : InFront (EitherText CharacterText NewlineText) BasicAt (Any marks.Basic)

@@ -25,12 +25,13 @@ use Rattle.format_toml_errors.specs.declared.modes.Mode.TheVariants as modes
 use Rattle.format_toml_errors.specs.declared.modes.Step.{Step}
 use Rattle.format_toml_errors.specs.declared.modes.Step.TheVariants as steps
 use Rattle.format_toml_document.proofs.Backs.{Led, at, blank_is, goes, never, other, shown_is, test}
-use Rattle.format_toml_document.proofs.Escapes.{AfterEscape, Escapes, escape_text}
+use Rattle.format_toml_document.proofs.Escapes.{escape_back, escape_text}
+use Rattle.format_toml_document.proofs.Hexes.{AfterEscape, Escapes}
 use Rattle.format_toml_document.proofs.Longs.{blank_made, closes, content_made, none_first}
 use Rattle.format_toml_document.proofs.Longs.{one_more, StartsBlank}
 use Rattle.format_toml_document.proofs.Parts.{feed, return}
 use Rattle.format_toml_document.proofs.Rests.{After, LongRest, Rest, content_of, marked}
-use Rattle.format_toml_document.proofs.Thens.{Fits, Then, both_true, fit_parts, one, parts}
+use Rattle.format_toml_document.proofs.Thens.{Fits, Front, Then, both_true, fit_parts, one, parts}
 use Rattle.format_toml_document.proofs.Thens.{run_more, run_none, equal}
 use Rattle.format_toml_document.proofs.LongRows.{escaped_line, long_start}
 
@@ -139,7 +140,7 @@ module _ {A : Type 0} (alloc : A) (level : ℕ) (held : List Bracket) (c : ℕ) 
       → LongAt marks.Basic (marked marks.Basic n (92 ∷ l))
   unfolding EitherText BothText Spelled
   slash_back n few (inl x) =
-      let (o, es, r, y, e, k) = parts (escape_text _ l x) in
+      let (o, es, r, y, e, k) = parts (escape_text x) in
       let P : List ℕ → Type 0 = λ m. LongAt marks.Basic (marked marks.Basic n (92 ∷ m)) in
       subst P (sym e)
       (content_made A level held marks.Basic n o (92 ∷ es) r few
@@ -210,12 +211,12 @@ module _ {A : Type 0} (alloc : A) (level : ℕ) (held : List Bracket) (c : ℕ) 
       (λ z. never z) y
 
   not_letter : (e : Escape) → is_letter e ≡ false → Rest A level (modes.LongEscape e) held l
-      → Escapes (LongAt marks.Basic) e l
+      → Front (Escapes e) (LongAt marks.Basic) l
   not_letter escapes.Letter not x = true_not_false not
   not_letter e not x = x
 
   after_escape : (s : Escaped) → MayGo s → Led A level held l (in_long s)
-      → AfterEscape (λ e. Escapes (LongAt marks.Basic) e l) (LongAt marks.Basic l) s
+      → AfterEscape (λ e. Front (Escapes e) (LongAt marks.Basic) l) (LongAt marks.Basic l) s
   unfolding MayGo
   after_escape escaped.Invalid may y = never y
   after_escape (escaped.More e) may y = not_letter e may (goes (modes.LongEscape e) y)
@@ -226,8 +227,10 @@ module _ {A : Type 0} (alloc : A) (level : ℕ) (held : List Bracket) (c : ℕ) 
   long_escape_back escapes.Letter y =
       blank_back (λ b. Rest A level (modes.LongEscape escapes.Letter) held (b ∷ l)) _
       (λ b t. inr t)
-      (λ z. inl (after_escape (escape_step escapes.Letter c) (later escapes.Letter c) z)) y
-  long_escape_back e y = after_escape (escape_step e c) (later e c) y
+      (λ z. inl (escape_back escapes.Letter c (escape_step escapes.Letter c) refl
+      (after_escape (escape_step escapes.Letter c) (later escapes.Letter c) z))) y
+  long_escape_back e y =
+      escape_back e c (escape_step e c) refl (after_escape (escape_step e c) (later e c) y)
 
   pub quotes_back : (mark : Mark) → Led A level held l (quotes_step mark (last_open held) c)
       → Rest A level (modes.Quotes mark) held (c ∷ l)

@@ -31,18 +31,14 @@ use Rattle.format_toml_errors.specs.declared.modes.Owner.TheVariants as owners
 use Rattle.format_toml_errors.specs.declared.modes.Role.{Role}
 use Rattle.format_toml_errors.specs.declared.modes.Role.TheVariants as roles
 use Rattle.format_toml_tree.specs.declared.value.Value.{Value}
-use Rattle.format_toml_document.proofs.Escapes.{Escapes}
+use Rattle.format_toml_document.proofs.Hexes.{Escapes}
 use Rattle.format_toml_document.proofs.Figures.{Figures}
 use Rattle.format_toml_document.proofs.Numerals.{Opened}
-use Rattle.format_toml_document.proofs.Thens.{Then}
+use Rattle.format_toml_document.proofs.Thens.{Front, Then}
 
 -- the other items of a row
 abbrev pub Others : {O D : Type 0} → Text ℕ D → Text ℕ O → Text ℕ (List O)
 Others separator text = EachText (BothText (λ d o. o) separator text)
-
--- characters by `P`, and then the rest
-abbrev pub Front : (List ℕ → Type 0) → (List ℕ → Type 0) → List ℕ → Type 0
-Front P K l = Then (λ (o : ⊤) xs. P xs) K l
 
 abbrev pub word_of : Letters → List ℕ
 word_of letters.Rue = 114 ∷ 117 ∷ 101 ∷ []
@@ -213,7 +209,7 @@ module _ (A : Type 0) (level : ℕ) where
   Rest modes.Item held l = ElementStart held l
   Rest modes.After held l = After held l
   Rest (modes.Basic role) held l = BasicRest role held l
-  Rest (modes.Escaped role e) held l = Escapes (BasicRest role held) e l
+  Rest (modes.Escaped role e) held l = Front (Escapes e) (BasicRest role held) l
   Rest (modes.Literal role) held l = LiteralRest role held l
   Rest (modes.Quote mark) held l =
       StringRest mark held l
@@ -224,9 +220,9 @@ module _ (A : Type 0) (level : ℕ) where
       quotes ≤ 5 → LongRest mark held (marked mark quotes l)
   Rest (modes.LongReturn mark) held l = Then (One 10) (LongRest mark held) l
   Rest (modes.LongEscape escapes.Letter) held l =
-      Escapes (LongRest marks.Basic held) escapes.Letter l
+      Front (Escapes escapes.Letter) (LongRest marks.Basic held) l
       ⊎ Then WsText (Then NewlineText (LongRest marks.Basic held)) l
-  Rest (modes.LongEscape e) held l = Escapes (LongRest marks.Basic held) e l
+  Rest (modes.LongEscape e) held l = Front (Escapes e) (LongRest marks.Basic held) l
   Rest modes.LongBlank held l =
       Then WsText (Then NewlineText (LongRest marks.Basic held)) l
   Rest (modes.Word rest) held l = Word (After held) rest l

@@ -1,6 +1,6 @@
 -- Texts that begin with an encoding: what is known of the rest is known of the whole.
 use Rattle.std.specs.Prelude.{◌≡◌, ◌≤◌, ◌<◌, ◌+◌, ◌*◌, ◌^◌, ◌==◌, ◌&&◌}
-use Rattle.std.specs.Prelude.{ℕ, Bool, true, false, List}
+use Rattle.std.specs.Prelude.{⊤, ℕ, Bool, true, false, List}
 use Rattle.std.specs.Prelude.{[], ◌∷◌, ◌++◌, length, Some, None}
 use Rattle.std.specs.Char.{IsScalar, len_utf8}
 use Rattle.std.specs.Str.{all_scalars, encode_utf8_all}
@@ -101,6 +101,15 @@ parts t = (t.value, t.front, t.rest, t.is, t.splits, t.kept)
 pub to : {O : Type 0} {text : Text ℕ O} {K : List ℕ → Type 0} {l : List ℕ} (o : O)
     (xs ys : List ℕ) → text o xs → l ≡ xs ++ ys → K ys → Then text K l
 to o xs ys x e k = record { value = o; front = xs; rest = ys; is = x; splits = e; kept = k }
+
+-- characters by `P`, and then the rest
+abbrev pub Front : (List ℕ → Type 0) → (List ℕ → Type 0) → List ℕ → Type 0
+Front P K l = Then (λ (o : ⊤) xs. P xs) K l
+
+pub more_front : {P Q K : List ℕ → Type 0} {l : List ℕ} (c : ℕ)
+    → ((xs : List ℕ) → P xs → Q (c ∷ xs)) → Front P K l → Front Q K (c ∷ l)
+more_front c more t =
+    let (o, xs, ys, is, e, k) = parts t in to tt (c ∷ xs) ys (more xs is) (ap (λ m. c ∷ m) e) k
 
 module _ {O : Type 0} {text : Text ℕ O} {K : List ℕ → Type 0} {l : List ℕ} where
   pub behind : {J : List ℕ → Type 0} → Fits l → ((ys : List ℕ) → Fits ys → K ys → J ys)

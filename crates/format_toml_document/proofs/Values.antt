@@ -33,17 +33,20 @@ use Rattle.format_toml_errors.specs.declared.modes.Step.TheVariants as steps
 use Rattle.format_toml_tree.specs.declared.value.Item.TheVariants as items
 use Rattle.format_toml_tree.specs.declared.value.Value as values
 use Rattle.format_toml_document.proofs.Backs.{Led, at, blank_is, goes, in_line_back, name_back}
-use Rattle.format_toml_document.proofs.Backs.{more_front, never, shown_is, spaced_back, test}
+use Rattle.format_toml_document.proofs.Backs.{never, shown_is, spaced_back, test}
 use Rattle.format_toml_document.proofs.Parts.{array_made, basic_made, feed, gap_cons, gap_nil}
 use Rattle.format_toml_document.proofs.Parts.{header_made, inline_made, lines_made, literal_made}
 use Rattle.format_toml_document.proofs.Parts.{pair_made, return, which}
 use Rattle.format_toml_document.proofs.Figures.{Figures, goes as took}
 use Rattle.format_toml_document.proofs.Numerals.{from_digit, from_zero}
 use Rattle.format_toml_document.proofs.Plain.{Plain, plain_read, with_sign}
-use Rattle.format_toml_document.proofs.Rests.{After, Back, Break, ElementStart, Front, ItemRest}
+use Rattle.format_toml_document.proofs.Rests.{After, Back, Break, ElementStart, ItemRest}
 use Rattle.format_toml_document.proofs.Rests.{KeyTail, LineStart, Rest, Start, ValueAt, word_of}
-use Rattle.format_toml_document.proofs.Thens.{Fits, Then, behind, both, cons, fit_parts, for, left}
-use Rattle.format_toml_document.proofs.Thens.{members_more, members_none, nil, none, one, parts}
+use Rattle.format_toml_document.proofs.Thens.{Fits, Front, Then, behind, both, cons, fit_parts, for}
+use Rattle.format_toml_document.proofs.Thens.{left}
+use Rattle.format_toml_document.proofs.Thens.{members_more, members_none, more_front, nil, none}
+use Rattle.format_toml_document.proofs.Thens.{one}
+use Rattle.format_toml_document.proofs.Thens.{parts}
 use Rattle.format_toml_document.proofs.Thens.{right}
 use Rattle.format_toml_document.proofs.Thens.{run_more, run_none, some, to, token}
 

@@ -22,6 +22,7 @@ use Rattle.format_toml_tree.specs.declared.value.Item.{Item}
 use Rattle.format_toml_document.proofs.Backs.{Led, bare_is, basic_back, behind_back, blank_is}
 use Rattle.format_toml_document.proofs.Backs.{escaped_back, goes, literal_back, quote_back}
 use Rattle.format_toml_document.proofs.Backs.{sign_back, spaced_back, test, word_back}
+use Rattle.format_toml_document.proofs.Escapes.{escape_back}
 use Rattle.format_toml_document.proofs.LongBacks.{long_back, long_blank_back, long_escape_back}
 use Rattle.format_toml_document.proofs.LongBacks.{long_return_back, quotes_back}
 use Rattle.format_toml_document.proofs.Parts.{lines_made, newline_long}
@@ -101,7 +102,8 @@ module _ {A : Type 0} (alloc : A) (level : ℕ) where
     back modes.After x = after_back alloc level c l fits held x
     back (modes.Basic role) x = basic_back A level held l alloc c fits role x
     back (modes.Escaped role e) x =
-        escaped_back A level held l alloc c fits role (escape_step e c) x
+        escape_back e c (escape_step e c) refl
+        (escaped_back A level held l alloc c fits role (escape_step e c) x)
     back (modes.Literal role) x = literal_back A level held l alloc c fits role x
     back (modes.Quote mark) x = quote_back A level held l alloc c fits mark x
     back (modes.Quotes mark) x =
