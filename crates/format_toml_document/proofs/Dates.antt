@@ -67,16 +67,10 @@ time_read dated (c ∷ xs) x = elim (both_ways (c == 46)) [
   | inl is ↦
       let (d, r, (e, t), y) = (tested (moments.Point dated) refl is_digit
       (λ n. moments.Fraction dated) (λ n. sym (only _))).takes xs (rw is at x) in
-      let (ds, b, all, f, o) = fraction_read dated r y in (
-        d ∷ ds,
-        b,
-        inr (
-          omega arith,
-          All-cons IsDigit d ds (grind (arith, nat_tests, t)) all,
-          ap (λ n. n ∷ xs) (equal c 46 is) ∙ ap (λ l. 46 ∷ l) (e ∙ ap (λ l. d ∷ l) f),
-        ),
-        o,
-      )
+      let (ds, b, all, f, o) = fraction_read dated r y in
+      let more = All-cons IsDigit d ds (grind (arith, nat_tests, t)) all in
+      let split = ap (λ n. n ∷ xs) (equal c 46 is) ∙ ap (λ l. 46 ∷ l) (e ∙ ap (λ l. d ∷ l) f) in
+      (d ∷ ds, b, inr (omega arith, more, split), o)
   | inr not ↦ ([], c ∷ xs, inl (refl, refl), inr (c, xs, refl, rw not at x))
 ]
 
@@ -235,18 +229,9 @@ hour_read xs x =
     let (n, s, (two, few), y) = hours.takes xs x in
     let (p, q, dp, dq, e, v) = two_read xs n s two in
     let (c, r, (f, t), z) = (tested moments.MinuteMark refl (λ c. c == 58)
-    (λ c. moments.Minute true) (λ c. refl)).takes s y in (
-      p,
-      q,
-      r,
-      e ∙ ap (λ l. p ∷ q ∷ l) (f ∙ ap (λ b. b ∷ r) (equal c 58 t)),
-      (
-        dp,
-        dq,
-        omega (arith, v, few),
-        z,
-      ),
-    )
+    (λ c. moments.Minute true) (λ c. refl)).takes s y in
+    let split = e ∙ ap (λ l. p ∷ q ∷ l) (f ∙ ap (λ b. b ∷ r) (equal c 58 t)) in
+    (p, q, r, split, (dp, dq, omega (arith, v, few), z))
 
 hour_made : (xs : List ℕ) (p q : ℕ) (r : List ℕ) → xs ≡ p ∷ q ∷ 58 ∷ r → AtHour true p q r
     → M moments.Hour xs × M moments.Space xs

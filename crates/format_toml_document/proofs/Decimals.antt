@@ -72,13 +72,8 @@ exponent_read [] e = true_not_false (sym e)
 exponent_read (c ∷ xs) x =
     if_figure (On xs) (c == 43 || c == 45) (Some figures.Power)
     (figure_if (is_digit c) figures.Digits)
-    (λ e y. inr (
-      c,
-      xs,
-      grind (arith, nat_tests, e),
-      refl,
-      (digits_are xs).1 (bare_read powers ((row_read powers xs tt).1 y)).0,
-    ))
+    (λ e y. let text = (digits_are xs).1 (bare_read powers ((row_read powers xs tt).1 y)).0 in
+    inr (c, xs, grind (arith, nat_tests, e), refl, text))
     (λ e y. if_some (On xs) (is_digit c) figures.Digits (λ is z.
     inl ((digits_are (c ∷ xs)).1
     (inl (digit_less c is, (bare_read powers ((row_read powers xs tt).0 z)).0)))) y) x
@@ -160,13 +155,8 @@ pub real_read : (c : ℕ) (xs : List ℕ) → AfterFigure (On xs) (real_step c) 
 real_read c xs x =
     if_figure (On xs) (c == 46) (Some figures.Point) (figure_if (is_e c) figures.Exponent)
     (λ e y. let (ds, es, g, end, f) = (row_read fractions xs tt).1 ((point_same xs).0 y) in
-    inl (
-      ds,
-      es,
-      (digits_are ds).1 g,
-      end,
-      ap (λ b. b ∷ xs) (equal c 46 e) ∙ ap (λ l. 46 ∷ l) f,
-    ))
+    let split = ap (λ b. b ∷ xs) (equal c 46 e) ∙ ap (λ l. 46 ∷ l) f in
+    inl (ds, es, (digits_are ds).1 g, end, split))
     (λ e y. inr (exponent_if c xs y)) x
 
 pub real_made : (f : Figure) → figure_step f 46 ≡ Some figures.Point

@@ -158,11 +158,9 @@ unit_read (c ∷ xs) x =
     (λ e y. if_more xs (is_hex c) escapes.Three (λ t z.
     let (p, is) = hex_for c t in
     let not : p ≡ 13 → ⊥ = λ same. grind (arith, nat_tests, e, is, same) in
-    let (v, w) = three.read xs z in (
-      p * 4096 + v,
-      (c, p, v, xs, is, refl, refl, w),
-      apart p v not (three_less v xs w) (below c p is),
-    )) y) x
+    let (v, w) = three.read xs z in
+    let alone = apart p v not (three_less v xs w) (below c p is) in
+    (p * 4096 + v, (c, p, v, xs, is, refl, refl, w), alone)) y) x
   where
     apart : (p v : ℕ) → (p ≡ 13 → ⊥) → v < 4096 → p < 16 → Alone (p * 4096 + v)
     apart p v not less most = elim (both_ways (nat_le p 12)) [
@@ -277,25 +275,12 @@ text_unit u xs (ds, text, number) =
     let same = first ∙ ap (λ (x : ℕ × (ℕ × ℕ)). to_four p x)
     (second ∙ ap (λ (x : ℕ × ℕ). (q, x)) fourth) in
     let value : ℕ × ℕ × ℕ × ℕ → ℕ = λ x. x.0 * 4096 + x.1 * 256 + x.2 * 16 + x.3 in
-    let is = number ∙ ap value same in (
-      a,
-      p,
-      q * 256 + (t * 16 + o),
-      r,
-      i,
-      e ∙ ap (λ l. l ++ r) a-is,
-      omega (arith, is),
-      (
-        b,
-        q,
-        t * 16 + o,
-        s,
-        j,
-        f ∙ ap (λ l. l ++ s) b-is,
-        refl,
-        (c, t, o, k, h, g ∙ ap (λ l. l ++ k) c-is, refl, (d, y, d-is)),
-      ),
-    )
+    let is = number ∙ ap value same in
+    let v = t * 16 + o in
+    let w = q * 256 + v in
+    let two : Two v s = (c, t, o, k, h, g ∙ ap (λ l. l ++ k) c-is, refl, (d, y, d-is)) in
+    let three : Three w r = (b, q, v, s, j, f ∙ ap (λ l. l ++ s) b-is, refl, two) in
+    (a, p, w, r, i, e ∙ ap (λ l. l ++ r) a-is, omega (arith, is), three)
 
 pub alone_text : (xs : List ℕ) → Escapes escapes.Unit xs → (o : ℕ) × For IsAlone UnitText o xs
 unfolding MadeText
@@ -315,30 +300,17 @@ wide_text xs x =
     let (a, r, e, t, y) = tested escapes.Eight escapes.Seven (λ n. n == 48) (λ n. refl) xs x in
     let (b, s, f, u, z) = tested escapes.Seven escapes.Six (λ n. n == 48) (λ n. refl) r y in
     let (c, d, p, q, m, v, is, has, g, text, alone) = six_read s z in
-    let first : Four (p * 16 + q) (a ∷ b ∷ c ∷ d ∷ []) = (
-      a,
-      0,
-      p * 16 + q,
-      b ∷ c ∷ d ∷ [],
-      zero_hex a t,
-      refl,
-      omega arith,
-      (
-        b,
-        0,
-        p * 16 + q,
-        c ∷ d ∷ [],
-        zero_hex b u,
-        refl,
-        omega arith,
-        (c, p, q, d ∷ [], is, refl, refl, (d, has, refl)),
-      ),
-    ) in
-    let one = unit_text (p * 16 + q) (a ∷ b ∷ c ∷ d ∷ []) first in
+    let n = p * 16 + q in
+    let two : Two n (c ∷ d ∷ []) = (c, p, q, d ∷ [], is, refl, refl, (d, has, refl)) in
+    let three : Three n (b ∷ c ∷ d ∷ []) =
+    (b, 0, n, c ∷ d ∷ [], zero_hex b u, refl, omega arith, two) in
+    let four : Four n (a ∷ b ∷ c ∷ d ∷ []) =
+    (a, 0, n, b ∷ c ∷ d ∷ [], zero_hex a t, refl, omega arith, three) in
+    let one = unit_text n (a ∷ b ∷ c ∷ d ∷ []) four in
     let split = e ∙ ap (λ l. a ∷ l) (f ∙ ap (λ l. b ∷ l) g) in
-    let both : BothText (λ (a b : ℕ). (a, b)) UnitText UnitText (p * 16 + q, v) xs =
-    (p * 16 + q, v, a ∷ b ∷ c ∷ d ∷ [], m, one, unit_text v m text, split, refl) in
-    ((p * 16 + q) * 65536 + v, ((p * 16 + q, v), both, (refl, alone)))
+    let both : BothText (λ (a b : ℕ). (a, b)) UnitText UnitText (n, v) xs =
+    (n, v, a ∷ b ∷ c ∷ d ∷ [], m, one, unit_text v m text, split, refl) in
+    (n * 65536 + v, ((n, v), both, (refl, alone)))
 
 pub text_wide : (o : ℕ) (xs : List ℕ) → WideText o xs → Escapes escapes.Eight xs
 unfolding MadeText BothText

@@ -15,7 +15,6 @@ pub mod Moments
 pub mod Numerals
 pub mod Parts
 pub mod Plain
-pub mod Quoted
 pub mod Rests
 pub mod Thens
 pub mod Values

@@ -12,7 +12,7 @@ use Rattle.format_toml_errors.specs.declared.figures.Figure.TheVariants as figur
 use Rattle.format_toml_errors.specs.declared.moments.Moment.{Moment}
 use Rattle.format_toml_errors.specs.declared.moments.Moment.TheVariants as moments
 use Rattle.format_toml_tree.specs.Dates.{HourAndMinute}
-use Rattle.format_toml_tree.specs.Dates.{IsDigit, IsOffset, Marked, MaybeOffset, Standing}
+use Rattle.format_toml_tree.specs.Dates.{IsDigit, IsDigitOf, IsOffset, Marked, MaybeOffset, Standing}
 use Rattle.format_toml_tree.specs.Dates.{TwoDigits}
 use Rattle.format_toml_tree.specs.declared.value.Offset.{Offset}
 use Rattle.format_toml_tree.specs.declared.value.Offset.TheVariants.{Minutes, Zulu}
@@ -75,28 +75,18 @@ two_value a b = (a - 48) * 10 + (b - 48)
 pub two_made : (xs : List ℕ) (a b : ℕ) (rest : List ℕ) → xs ≡ a ∷ b ∷ rest → IsDigit a
     → IsDigit b → TwoDigits xs (two_value a b) rest
 unfolding TwoDigits
-two_made xs a b rest e is has = (
-  a - 48,
-  b - 48,
-  a,
-  b,
-  (omega (arith, is), omega (arith, is)),
-  (omega (arith, has), omega (arith, has)),
-  e,
-  refl,
-)
+two_made xs a b rest e is has =
+    let tens : IsDigitOf (a - 48) a = (omega (arith, is), omega (arith, is)) in
+    let ones : IsDigitOf (b - 48) b = (omega (arith, has), omega (arith, has)) in
+    (a - 48, b - 48, a, b, tens, ones, e, refl)
 
 pub two_read : (xs : List ℕ) (n : ℕ) (rest : List ℕ) → TwoDigits xs n rest
     → (a : ℕ) × (b : ℕ) × IsDigit a × IsDigit b × (xs ≡ a ∷ b ∷ rest) × (n ≡ two_value a b)
 unfolding TwoDigits
-two_read xs n rest (t, o, c, d, c-is, d-is, e, is) = (
-  c,
-  d,
-  (omega (arith, c-is), omega (arith, c-is)),
-  (omega (arith, d-is), omega (arith, d-is)),
-  e,
-  omega (arith, is, c-is, d-is),
-)
+two_read xs n rest (t, o, c, d, c-is, d-is, e, is) =
+    let dc : IsDigit c = (omega (arith, c-is), omega (arith, c-is)) in
+    let dd : IsDigit d = (omega (arith, d-is), omega (arith, d-is)) in
+    (c, d, dc, dd, e, omega (arith, is, c-is, d-is))
 
 -- the number is one of these
 abbrev pub Limited : (ℕ → Type 0) → Standing ℕ
@@ -125,12 +115,9 @@ two_digits {F} {first} {flag} {last} {ok} {next} {into} m mid ends nots is has p
       takes = λ xs x.
           let (a, r, (e, t), y) = one.takes xs x in
           let (b, s, (f, u), z) = (other (flag a)).takes r y in
-          let (da, db, fine) = pair.takes a b t u in (
-            two_value a b,
-            s,
-            (two_made xs a b s (e ∙ ap (λ k. a ∷ k) f) da db, fine),
-            subst (λ k. M k s) (pair.same a b t u) z,
-          );
+          let (da, db, fine) = pair.takes a b t u in
+          let two = two_made xs a b s (e ∙ ap (λ k. a ∷ k) f) da db in
+          (two_value a b, s, (two, fine), subst (λ k. M k s) (pair.same a b t u) z);
       made = λ xs n rest (two, fine) x.
           let (a, b, da, db, e, v) = two_read xs n rest two in
           let (t, u) = pair.made a b da db (subst ok v fine) in
@@ -279,33 +266,16 @@ offset_read true xs (inr (c, r, e, x)) = elim (both_ways (c == 90 || c == 122)) 
       let (s, y) = if_test c r (c == 43 || c == 45) moments.OffsetHour x in
       let (h, m, text) = shift_read r y in
       elim (both_ways (c == 43)) [
-        | inl plus ↦ (
-          Some (Minutes (pos (h * 60 + m))),
-          (
-            (
-              h,
-              m,
-              r,
-              text,
-              inl (rw (e, equal c 43 plus) refl, refl),
-            ),
-            λ f. true_not_false f,
-          ),
-        )
+        | inl plus ↦
+            let split : xs ≡ 43 ∷ r = rw (e, equal c 43 plus) refl in
+            let is : IsOffset (Minutes (pos (h * 60 + m))) xs = (h, m, r, text, inl (split, refl)) in
+            (Some (Minutes (pos (h * 60 + m))), (is, λ f. true_not_false f))
         | inr nay ↦
-            let minus : c ≡ 45 = grind (arith, nat_tests, s, nay) in (
-              Some (Minutes (neg_ℤ (pos (h * 60 + m)))),
-              (
-                (
-                  h,
-                  m,
-                  r,
-                  text,
-                  inr (rw (e, minus) refl, refl),
-                ),
-                λ f. true_not_false f,
-              ),
-            )
+            let minus : c ≡ 45 = grind (arith, nat_tests, s, nay) in
+            let split : xs ≡ 45 ∷ r = rw (e, minus) refl in
+            let is : IsOffset (Minutes (neg_ℤ (pos (h * 60 + m)))) xs =
+            (h, m, r, text, inr (split, refl)) in
+            (Some (Minutes (neg_ℤ (pos (h * 60 + m)))), (is, λ f. true_not_false f))
       ]
 ]
   where
