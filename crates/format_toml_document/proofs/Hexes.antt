@@ -309,7 +309,7 @@ wide_text xs x =
     let one = unit_text n (a ∷ b ∷ c ∷ d ∷ []) four in
     let split = e ∙ ap (λ l. a ∷ l) (f ∙ ap (λ l. b ∷ l) g) in
     let both : BothText (λ (a b : ℕ). (a, b)) UnitText UnitText (n, v) xs =
-    (n, v, a ∷ b ∷ c ∷ d ∷ [], m, one, unit_text v m text, split, refl) in
+    (n, v, a ∷ b ∷ c ∷ d ∷ [], m, one, unit_text v m text, split, refl {a = (n, v)}) in
     (n * 65536 + v, ((n, v), both, (refl, alone)))
 
 pub text_wide : (o : ℕ) (xs : List ℕ) → WideText o xs → Escapes escapes.Eight xs

@@ -9,7 +9,6 @@ pub mod Figures
 pub mod Hexes
 pub mod Long
 pub mod LongBacks
-pub mod LongRows
 pub mod Longs
 pub mod Moments
 pub mod Numerals

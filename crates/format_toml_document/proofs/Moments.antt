@@ -12,7 +12,8 @@ use Rattle.format_toml_errors.specs.declared.figures.Figure.TheVariants as figur
 use Rattle.format_toml_errors.specs.declared.moments.Moment.{Moment}
 use Rattle.format_toml_errors.specs.declared.moments.Moment.TheVariants as moments
 use Rattle.format_toml_tree.specs.Dates.{HourAndMinute}
-use Rattle.format_toml_tree.specs.Dates.{IsDigit, IsDigitOf, IsOffset, Marked, MaybeOffset, Standing}
+use Rattle.format_toml_tree.specs.Dates.{IsDigit, IsDigitOf, IsOffset, Marked, MaybeOffset}
+use Rattle.format_toml_tree.specs.Dates.{Standing}
 use Rattle.format_toml_tree.specs.Dates.{TwoDigits}
 use Rattle.format_toml_tree.specs.declared.value.Offset.{Offset}
 use Rattle.format_toml_tree.specs.declared.value.Offset.TheVariants.{Minutes, Zulu}
@@ -268,7 +269,8 @@ offset_read true xs (inr (c, r, e, x)) = elim (both_ways (c == 90 || c == 122)) 
       elim (both_ways (c == 43)) [
         | inl plus ↦
             let split : xs ≡ 43 ∷ r = rw (e, equal c 43 plus) refl in
-            let is : IsOffset (Minutes (pos (h * 60 + m))) xs = (h, m, r, text, inl (split, refl)) in
+            let is : IsOffset (Minutes (pos (h * 60 + m))) xs =
+            (h, m, r, text, inl (split, refl)) in
             (Some (Minutes (pos (h * 60 + m))), (is, λ f. true_not_false f))
         | inr nay ↦
             let minus : c ≡ 45 = grind (arith, nat_tests, s, nay) in

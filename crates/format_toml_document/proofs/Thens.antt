@@ -194,20 +194,15 @@ module _ {K : List ℕ → Type 0} {l : List ℕ} where
       to slice (c ∷ xs) ys (All-cons class c xs in-class x.0, omega arith, shown)
       (ap (λ l. c ∷ l) e) k
 
+  -- the same, as the two texts are one
   pub members_none : (class : ℕ → Type 0) → K l → Then (Members text_reading class 0) K l
-  unfolding Members
-  members_none class k =
-      let (slice, shown) = slice_for [] in
-      to slice [] l (All-nil class, omega arith, shown) refl k
+  unfolding Members Run
+  members_none class k = run_none class k
 
   pub members_more : (class : ℕ → Type 0) (c : ℕ) → class c
       → Then (Members text_reading class 0) K l → Then (Members text_reading class 0) K (c ∷ l)
-  unfolding Members
-  members_more class c in-class t =
-      let (s, xs, ys, x, e, k) = parts t in
-      let (slice, shown) = slice_for (c ∷ xs) in
-      to slice (c ∷ xs) ys (All-cons class c xs in-class x.0, omega arith, shown)
-      (ap (λ l. c ∷ l) e) k
+  unfolding Members Run
+  members_more class c in-class t = run_more class c in-class t
 
 -- ---- strings
 
