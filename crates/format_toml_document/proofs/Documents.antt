@@ -1,7 +1,7 @@
 -- The walk over values, lines and documents.
 use Rattle.std.specs.Prelude.{◌≡◌, ◌<◌, ◌≤◌, ◌+◌, ⊤, ℕ, zero, suc, true, false, List, ◌∷◌, ◌++◌}
 use Rattle.std.specs.Prelude.{length, ◌==◌, Option, [], if◌then◌else◌}
-use Rattle.std.proofs.Common.{inl, inr, arith, ◌∙◌, ap, refl, subst, sym}
+use Rattle.std.proofs.Common.{inl, inr, arith, ◌∙◌, ap, refl, subst}
 use Rattle.std.proofs.lemmas.Bool.Decides.{nat_tests}
 use Rattle.std.specs.declared.vec.Vec.{Vec}
 use Rattle.std.proofs.lemmas.List.{append-nil}
@@ -189,12 +189,8 @@ no_bracket c is = grind (arith, nat_tests, is)
 
 line_begins : (c : ℕ) → BeginsName c
     → next_step modes.Line (last_open []) c ≡ name_step owners.Entry c
-line_begins c (inl e) =
-    let P : ℕ → Type 0 = λ b. next_step modes.Line (last_open []) b ≡ name_step owners.Entry b in
-    subst P (sym e) refl
-line_begins c (inr (inl e)) =
-    let P : ℕ → Type 0 = λ b. next_step modes.Line (last_open []) b ≡ name_step owners.Entry b in
-    subst P (sym e) refl
+line_begins c (inl e) = rw e refl
+line_begins c (inr (inl e)) = rw e refl
 line_begins c (inr (inr is)) =
     ap (λ s. else_line c s) (out_of_line c is)
     ∙ ap (λ b. if b then steps.Goes modes.Header else name_step owners.Entry c) (no_bracket c is)

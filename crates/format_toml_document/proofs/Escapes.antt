@@ -3,7 +3,7 @@ use Rattle.std.specs.Prelude.{◌≡◌, ◌≤◌, ◌+◌, ◌*◌, ◌==◌, 
 use Rattle.std.specs.Prelude.{List, [], ◌∷◌, ◌++◌, length}
 use Rattle.std.specs.Char.{IsScalar}
 use Rattle.std.specs.Str.{all_scalars}
-use Rattle.std.proofs.Common.{refl, sym, ap, subst, inl, inr, arith, length-append}
+use Rattle.std.proofs.Common.{refl, ap, inl, inr, ◌∙◌, arith, length-append}
 use Rattle.std.proofs.lemmas.Bool.Decides.{nat_tests}
 use Rattle.grammars.specs.Texts.{BothText, EitherText, InFront, MadeText, Spelled, TokenOfText}
 use Rattle.format_parts.specs.Hexadecimal.{IsAlone}
@@ -120,10 +120,9 @@ scalar_stands c k is = grind (arith, nat_tests, is)
 escape_scalar : (o : ℕ) (xs : List ℕ) → EscapeText o xs → IsScalar o
 unfolding EitherText BothText MadeText
 escape_scalar o xs (inl (a, c, ys, zs, x, (u, y, is), e, same)) =
-    let P : ℕ → Type 0 = λ n. IsScalar n in subst P (sym same) (scalar_alone u c is)
+    rw same (scalar_alone u c is)
 escape_scalar o xs (inr (inl (a, c, ys, zs, x, (u, y, is), e, same))) =
-    let P : ℕ → Type 0 = λ n. IsScalar n in
-    subst P (sym same) (scalar_alone (u.0 * 65536 + u.1) c is)
+    rw same (scalar_alone (u.0 * 65536 + u.1) c is)
 escape_scalar o xs (inr (inr (c, y, is))) = scalar_stands c o is
 
 pub character_emits : Emits CharacterText
@@ -133,15 +132,7 @@ character_emits = record { is = is }
     is : (o : ℕ) (xs : List ℕ) → CharacterText o xs → all_scalars xs ≡ true
         → IsScalar o × (1 ≤ length xs)
     is o xs (inl (in-class, e)) scalars =
-        let P : List ℕ → Type 0 = λ k. all_scalars k ≡ true in
-        ((both_true _ true (subst P e scalars)).0, omega (arith, ap (λ k. length k) e))
+        ((both_true _ true (rw e at scalars)).0, omega (arith, ap (λ k. length k) e))
     is o xs (inr (a, c, ys, zs, (b, f), x, e, same)) scalars =
-        let P : ℕ → Type 0 = λ n. IsScalar n in (
-          subst P (sym same) (escape_scalar c zs x),
-          omega (
-            arith,
-            ap (λ k. length k) e,
-            ap (λ k. length k) f,
-            length-append ys zs,
-          ),
-        )
+        let size = ap (λ k. length k) e ∙ length-append ys zs in
+        (rw same (escape_scalar c zs x), omega (arith, size, ap (λ k. length k) f))

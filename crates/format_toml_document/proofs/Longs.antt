@@ -288,13 +288,10 @@ newline_emits = record { is = is }
     is : (o : ℕ) (xs : List ℕ) → NewlineText o xs → all_scalars xs ≡ true
         → IsScalar o × (1 ≤ length xs)
     is o xs (inl (same, e)) scalars =
-        let P : ℕ → Type 0 = λ n. IsScalar n in
-        (subst P (sym same) refl, omega (arith, ap (λ k. length k) e))
+        (rw same refl, omega (arith, ap (λ k. length k) e))
     is o xs (inr (a, b, ps, qs, (i, f), (j, g), e, out)) scalars =
-        let P : ℕ → Type 0 = λ n. IsScalar n in (
-          subst P (sym (out ∙ j)) refl,
-          omega (arith, ap (λ k. length k) e, ap (λ k. length k) f, length-append ps qs),
-        )
+        let size = ap (λ k. length k) e ∙ length-append ps qs in
+        (rw (out, j) refl, omega (arith, size, ap (λ k. length k) f))
 
 either_emits : {one two : Text ℕ ℕ} → Emits one → Emits two → Emits (EitherText one two)
 unfolding EitherText
@@ -323,8 +320,7 @@ body_spells mark room = record { few = λ os xs b scalars. few os room xs b scal
         → all_scalars xs ≡ true → (all_scalars os ≡ true) × (length os ≤ length xs)
     few [] room xs b scalars = (refl, omega arith)
     few (o ∷ os) room xs (ps, cs, zs, e, skip, rest) scalars =
-        let P : List ℕ → Type 0 = λ m. all_scalars m ≡ true in
-        let (before, behind) = scalars_parts ps (cs ++ zs) (subst P e scalars) in
+        let (before, behind) = scalars_parts ps (cs ++ zs) (rw e at scalars) in
         let (here, there) = scalars_parts cs zs behind in
         let size = ap (λ m. length m) e ∙ length-append ps (cs ++ zs) in
         let both = length-append cs zs in

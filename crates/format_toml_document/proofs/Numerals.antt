@@ -169,11 +169,16 @@ zero_real negative rs r =
     inr (inr (inr (magnitude_read (48 ∷ []) rs
     (whole_is 48 [] (inl (omega arith, refl)) (λ e. refl)) r)))
 
--- digits after the first one, which is not a zero
+-- digits after the first one, and then what begins a date or a time
+abbrev pub Dated : ℕ → Bool → ℕ → List ℕ → Type 0
+Dated k negative c r =
+    (ds : List ℕ) × (es : List ℕ) × GoesOn 10 false ds × (r ≡ ds ++ es)
+    × Dating (passed next_whole (whole_of k negative (digit c)) ds) es
+
+-- the first one is not a zero
 pub digits_read : (k : ℕ) (negative : Bool) (c : ℕ) (r : List ℕ) → 49 ≤ c → c ≤ 57
     → Figures (figures.Whole (whole_of k negative (digit c))) r → Numeral negative (c ∷ r)
-    ⊎ ((ds : List ℕ) × (es : List ℕ) × GoesOn 10 false ds × (r ≡ ds ++ es)
-    × Dating (passed next_whole (whole_of k negative (digit c)) ds) es)
+    ⊎ Dated k negative c r
 digits_read k negative c r low high x =
     let less : digit_value c < 10 =
     omega (arith, digit_value_digit c (omega (arith, low), high), high, low) in
@@ -182,9 +187,7 @@ digits_read k negative c r low high x =
   where
     by : digit_value c < 10 → (ds es : List ℕ) → GoesOn 10 false ds
         → Ending (passed next_whole (whole_of k negative (digit c)) ds) es → r ≡ ds ++ es
-        → Numeral negative (c ∷ r)
-        ⊎ ((ds : List ℕ) × (es : List ℕ) × GoesOn 10 false ds × (r ≡ ds ++ es)
-        × Dating (passed next_whole (whole_of k negative (digit c)) ds) es)
+        → Numeral negative (c ∷ r) ⊎ Dated k negative c r
     by less ds es g (inr (inr dating)) e = inr (ds, es, g, e, dating)
     by less ds es g (inr (inl real)) e =
         inl (rw e (inr (inr (inr (magnitude_read (c ∷ ds) es

@@ -48,7 +48,7 @@ scalars_parts (x ∷ xs) ys h =
 pub fit_parts : (l xs ys : List ℕ) → l ≡ xs ++ ys → Fits l → Fits xs × Fits ys
 fit_parts l xs ys e fits =
     let (one, two) = scalars_parts xs ys
-    (let P : List ℕ → Type 0 = λ k. all_scalars k ≡ true in subst P e fits.scalars) in
+    (rw e at fits.scalars) in
     let size = ap (λ k. length k) e ∙ length-append xs ys in (
       record { scalars = one; few = omega (arith, size, fits.few) },
       record { scalars = two; few = omega (arith, size, fits.few) },
@@ -223,8 +223,7 @@ each_spells {text} emits = record { few = few }
         → (all_scalars os ≡ true) × (length os ≤ length xs)
     few [] xs e scalars = (refl, omega arith)
     few (o ∷ os) xs (ys, zs, x, more, e) scalars =
-        let P : List ℕ → Type 0 = λ k. all_scalars k ≡ true in
-        let (one, two) = scalars_parts ys zs (subst P e scalars) in
+        let (one, two) = scalars_parts ys zs (rw e at scalars) in
         let (is, long) = emits.is o ys x one in
         let (all, fewer) = few os zs more two in (
           and_true _ (all_scalars os) is all,
@@ -235,8 +234,7 @@ pub token_emits : (class : ℕ → Type 0) → Emits (TokenOfText (λ c. c) clas
 unfolding TokenOfText
 token_emits class = record {
   is = λ o xs (in-class, e) scalars.
-      let P : List ℕ → Type 0 = λ k. all_scalars k ≡ true in
-      ((both_true _ true (subst P e scalars)).0, omega (arith, ap (λ k. length k) e));
+      ((both_true _ true (rw e at scalars)).0, omega (arith, ap (λ k. length k) e));
 }
 
 pub gathered_text : {A : Type 0} (alloc : A) {row : Text ℕ (List ℕ)} (os xs : List ℕ) → Fits xs
