@@ -99,8 +99,7 @@ module _ (mark : Mark) where
 
   blank_content : (o : ℕ) (xs : List ℕ) → BlankText o xs → content_of mark o xs
   unfolding EitherText TokenOfText
-  blank_content o xs (inl (is, e)) =
-      subst (λ l. content_of mark o l) (sym e) (white_content o is)
+  blank_content o xs (inl (is, e)) = rw e (white_content o is)
   blank_content o xs (inr x) = by mark
     where
       by : (mark : Mark) → content_of mark o xs
@@ -110,15 +109,11 @@ module _ (mark : Mark) where
   as_content : (bs xs os zs : List ℕ) → EachText BlankText bs xs → Body 2 os zs
       → (ks : List ℕ) × Body 2 ks (xs ++ zs)
   unfolding EachText
-  as_content [] xs os zs e b =
-      (os, subst (λ l. Body 2 os (l ++ zs)) (sym e) b)
+  as_content [] xs os zs e b = (os, rw e b)
   as_content (o ∷ bs) xs os zs (ps, qs, x, more, e) b =
       let (ks, y) = as_content bs qs os zs more b in
-      let whole = body_content 2 o ks ps (qs ++ zs) (blank_content o ps x) y in (
-        o ∷ ks,
-        subst (λ l. Body 2 (o ∷ ks) l)
-            (sym (append_assoc ps qs zs) ∙ ap (λ l. l ++ zs) (sym e)) whole,
-      )
+      let whole = body_content 2 o ks ps (qs ++ zs) (blank_content o ps x) y in
+      (o ∷ ks, rw (e, append_assoc ps qs zs) whole)
 
   mark_no_blank : StartsBlank (mark_of mark) → ⊥
   mark_no_blank = by mark

@@ -328,7 +328,7 @@ module _ {A : Type 0} (alloc : A) where
       (λ e4 v. numeral (48 ∷ c ∷ l) fits (zero_real false (c ∷ l) (real_read c l v))) w) z) y) x
     where
       at : (n : ℕ) → (c == n) ≡ true → Reads (48 ∷ n ∷ l) → Reads (48 ∷ c ∷ l)
-      at n e y = let P : ℕ → Type 0 = λ b. Reads (48 ∷ b ∷ l) in subst P (sym (equal c n e)) y
+      at n e y = rw (equal c n e) y
 
       based : (base : Base) (l : List ℕ) → Figures (figures.Prefix base) l
           → Reads (48 ∷ letter_of base ∷ l)

@@ -49,10 +49,9 @@ pub fit_parts : (l xs ys : List ℕ) → l ≡ xs ++ ys → Fits l → Fits xs �
 fit_parts l xs ys e fits =
     let (one, two) = scalars_parts xs ys
     (rw e at fits.scalars) in
-    let size = ap (λ k. length k) e ∙ length-append xs ys in (
-      record { scalars = one; few = omega (arith, size, fits.few) },
-      record { scalars = two; few = omega (arith, size, fits.few) },
-    )
+    let size = ap (λ k. length k) e ∙ length-append xs ys in
+    let front : Fits xs = record { scalars = one; few = omega (arith, size, fits.few) } in
+    (front, record { scalars = two; few = omega (arith, size, fits.few) })
 
 width_most : (os : List ℕ) → width os ≤ 4 * length os
 width_most [] = omega arith

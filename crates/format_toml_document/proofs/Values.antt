@@ -3,7 +3,7 @@
 use Rattle.std.specs.Prelude.{◌≡◌, ◌≤◌, ◌<◌, ◌-◌, ◌==◌, ◌||◌, ℕ}
 use Rattle.std.specs.Prelude.{zero, suc, true, false}
 use Rattle.std.specs.Prelude.{List, [], ◌∷◌, ◌++◌, length, Option, Some, None, if◌then◌else◌}
-use Rattle.std.proofs.Common.{refl, sym, ap, subst, inl, inr, ◌∙◌, arith, append_assoc}
+use Rattle.std.proofs.Common.{refl, ap, subst, inl, inr, ◌∙◌, arith, append_assoc}
 use Rattle.std.proofs.lemmas.Bool.Decides.{nat_tests}
 use Rattle.grammars.specs.Texts.{Spelled, Text}
 use Rattle.format_parts.specs.Words.{Between, One}
@@ -187,15 +187,13 @@ module _ {A : Type 0} (alloc : A) (level : ℕ) (c : ℕ) (l : List ℕ) (whole 
     unfolding ValueText After
     array_back x =
         let (few, y) = after_open held brackets.Array x in
-        let P : ℕ → Type 0 = λ n. Then (ValueText {A = A} n) (After A level held) (91 ∷ l) in
-        subst P (sym (deeper brackets.Array few)) (left _ (array_made alloc less y))
+        rw (deeper brackets.Array few) (left _ (array_made alloc less y))
 
     table_back : Leads held (steps.Opens brackets.Table) → Valued 123
     unfolding ValueText After
     table_back x =
         let (few, y) = after_open held brackets.Table x in
-        let P : ℕ → Type 0 = λ n. Then (ValueText {A = A} n) (After A level held) (123 ∷ l) in
-        subst P (sym (deeper brackets.Table few)) (right _ (left _ (inline_made alloc _ less
+        rw (deeper brackets.Table few) (right _ (left _ (inline_made alloc _ less
         (behind less (λ ys f k. elim k [ inl e ↦ inl e | inr n ↦ inr (pair_made alloc f n) ]) y))))
 
     -- a value without quotes, where what is taken may have a space after a date
