@@ -1,4 +1,4 @@
--- Integers of other bases: what the walk takes is what the grammar has.
+-- Integers of other bases: the walk accepts those of the grammar, and no others.
 use Rattle.std.specs.Char.{digit_value}
 use Rattle.std.specs.Str.Parse.{digits_value, digits_value_after}
 use Rattle.std.specs.Prelude.{◌≡◌, ◌≤◌, ◌<◌, ◌+◌, ◌*◌, ◌==◌, ◌↔◌, ℕ, Bool, true, false}

@@ -1,4 +1,4 @@
--- Dates and times that the walk takes are those of the grammar.
+-- Dates and times: the walk accepts those of the grammar, and no others.
 use Rattle.std.specs.List.{All}
 use Rattle.std.specs.Prelude.{◌≡◌, ◌⊎◌, ◌≤◌, ◌<◌, ◌+◌, ◌*◌, ◌^◌, ◌==◌, ◌&&◌}
 use Rattle.std.specs.Prelude.{◌||◌, ℕ, Bool}

@@ -1,4 +1,4 @@
--- Digits, fractions and exponents: what the walk takes is what the grammar has.
+-- Digits, fractions and exponents: the walk accepts those of the grammar, and no others.
 use Rattle.std.specs.Char.{digit_value}
 use Rattle.std.specs.Str.Parse.{digits_value_after}
 use Rattle.std.specs.Prelude.{◌≡◌, ◌⊎◌, ◌≤◌, ◌<◌, ◌+◌, ◌*◌, ◌==◌, ◌&&◌, ◌||◌}
@@ -145,7 +145,7 @@ point_same : (xs : List ℕ) → Figures figures.Point xs ↔ Figures figures.Fr
 point_same [] = (λ x. x, λ x. x)
 point_same (c ∷ xs) = (λ x. x, λ x. x)
 
--- what makes a float of digits
+-- a fraction or an exponent, which makes digits a float
 abbrev pub Real : List ℕ → Type 0
 Real xs =
     ((ds : List ℕ) × (es : List ℕ) × AreDigits ds × Ended es × (xs ≡ 46 ∷ (ds ++ es)))

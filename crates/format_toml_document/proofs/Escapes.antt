@@ -1,4 +1,4 @@
--- The escapes that the walk takes are those of strings.
+-- Escapes: the walk accepts those of the grammar, and no others.
 use Rattle.std.specs.Prelude.{◌≡◌, ◌≤◌, ◌+◌, ◌*◌, ◌==◌, ◌||◌, ℕ, Bool, true, false}
 use Rattle.std.specs.Prelude.{List, [], ◌∷◌, ◌++◌, length}
 use Rattle.std.specs.Char.{IsScalar}

@@ -1,4 +1,5 @@
--- The characters that the walk takes for a number, a date or a time, and rows of digits in it.
+-- Numbers, dates and times in the walk: the characters that it accepts after each, and rows of
+-- digits.
 use Rattle.std.specs.Char.{digit_value}
 use Rattle.std.specs.Prelude.{◌≡◌, ◌⊎◌, ◌<◌, ◌≤◌, ℕ, Bool, true, false, List, [], ◌∷◌, ◌++◌}
 use Rattle.std.specs.Prelude.{Option, Some, None, if◌then◌else◌}
@@ -22,7 +23,7 @@ abbrev pub AfterFigure : (Figure → Type 0) → Option Figure → Type 0
 AfterFigure on None = ⊥
 AfterFigure on (Some f) = on f
 
--- `Figures f xs`: where `f` is expected, the walk takes `xs`, and the number may end after it.
+-- `Figures f xs`: where `f` is expected, the walk accepts `xs` as the rest of a number.
 abbrev pub Figures : Figure → List ℕ → Type 0
 Figures f [] = ends_figure f ≡ true
 Figures f (c ∷ xs) = AfterFigure (λ g. Figures g xs) (figure_step f c)
@@ -68,7 +69,7 @@ digit_less c e =
 pub less_digit : (c : ℕ) → digit_value c < 10 → is_digit c ≡ true
 less_digit c less = grind (arith, nat_tests, digit_from_value c less)
 
--- what comes of digits and underscores
+-- the state after digits and underscores
 abbrev pub passed : {S : Type 0} → (S → ℕ → S) → S → List ℕ → S
 passed next s [] = s
 passed next s (c ∷ ds) = passed next (next s c) ds
@@ -128,7 +129,7 @@ module _ {base : ℕ} {S : Type 0} {next : S → ℕ → S} {on due end : S → 
     ],
   )
 
--- rows that end where they are complete
+-- rows that nothing follows
 module _ {base : ℕ} {S : Type 0} {next : S → ℕ → S} {on due : S → List ℕ → Type 0} {P : S → Type 0}
     (rows : Rows base next on due (λ s es. (es ≡ []) × P s)) where
   pub bare_read : {must : Bool} {s : S} {xs : List ℕ} → Row rows must s xs

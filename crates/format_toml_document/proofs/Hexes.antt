@@ -1,4 +1,4 @@
--- Escapes by four and eight digits: those that the walk takes are those of the grammar.
+-- Escapes by four and eight digits: the walk accepts those of the grammar, and no others.
 use Rattle.std.specs.Prelude.{◌≡◌, ◌⊎◌, ◌≤◌, ◌<◌, ◌+◌, ◌*◌, ◌-◌, ◌==◌, ◌&&◌}
 use Rattle.std.specs.Prelude.{◌||◌, ℕ, zero, suc}
 use Rattle.std.specs.Prelude.{Bool, true, false, List, [], ◌∷◌, ◌++◌, nat_le, if◌then◌else◌}
@@ -20,7 +20,7 @@ AfterEscape on done escaped.Invalid = ⊥
 AfterEscape on done (escaped.More e) = on e
 AfterEscape on done escaped.Done = done
 
--- `Escapes e xs`: where `e` is expected, the walk takes `xs`, and the escape ends after it.
+-- `Escapes e xs`: where `e` is expected, the walk accepts `xs` as the rest of an escape.
 abbrev pub Escapes : Escape → List ℕ → Type 0
 Escapes e [] = ⊥
 Escapes e (c ∷ xs) = AfterEscape (λ f. Escapes f xs) (xs ≡ []) (escape_step e c)
@@ -87,7 +87,7 @@ Three = Led 256 Two
 abbrev Four : Text ℕ ℕ
 Four = Led 4096 Three
 
--- the walk where `e` is expected is over these
+-- where `e` is expected, the walk accepts these, and no others
 record Reads (e : Escape) (text : Text ℕ ℕ) : Type 0 where
   read : (xs : List ℕ) → Escapes e xs → (u : ℕ) × text u xs
   made : (u : ℕ) (xs : List ℕ) → text u xs → Escapes e xs

@@ -1,4 +1,4 @@
--- Dates and times: what the walk takes is what the grammar has, a number after the other.
+-- The numbers of dates and times: the walk accepts those of the grammar, and no others.
 use Rattle.std.specs.Prelude.{◌≡◌, ◌⊎◌, ◌≤◌, ◌+◌, ◌-◌, ◌*◌, ◌==◌, ◌&&◌, ◌||◌, ℕ, Bool}
 use Rattle.std.specs.Prelude.{pos, neg_ℤ, true, false, List, [], ◌∷◌, Option, Some, None}
 use Rattle.std.specs.Prelude.{nat_le, if◌then◌else◌}
@@ -31,8 +31,8 @@ pub step : (m next : Moment) (c : ℕ) (xs : List ℕ) → moment_step m c ≡ S
 step m next c xs e x =
     goes (figures.Moment m) (figures.Moment next) c xs (ap (λ o. moment_as o) e) x
 
--- `Segment m text into`: where `m` is expected, the walk takes an encoding by `text` of some `o`,
--- and then what it takes where `into o` is expected.
+-- `Segment m text into`: where `m` is expected, the walk accepts an encoding by `text` of some `o`,
+-- and after it what it accepts where `into o` is expected; and nothing else.
 pub record Segment {O : Type 0} (m : Moment) (text : Standing O) (into : O → Moment) : Type 0 where
   pub takes : (xs : List ℕ) → M m xs → (o : O) × (rest : List ℕ) × text xs o rest × M (into o) rest
   pub made : (xs : List ℕ) (o : O) (rest : List ℕ) → text xs o rest → M (into o) rest → M m xs
@@ -89,11 +89,11 @@ two_read xs n rest (t, o, c, d, c-is, d-is, e, is) =
     let dd : IsDigit d = (omega (arith, d-is), omega (arith, d-is)) in
     (c, d, dc, dd, e, omega (arith, is, c-is, d-is))
 
--- the number is one of these
+-- two digits whose number satisfies `ok`
 abbrev pub Limited : (ℕ → Type 0) → Standing ℕ
 Limited ok xs n rest = TwoDigits xs n rest × ok n
 
--- The second digit is tested by what the first one is.
+-- How the second digit is tested depends on the first one.
 pub record Pair {F : Type 0} (first : ℕ → Bool) (flag : ℕ → F) (last : F → ℕ → Bool)
     (ok : ℕ → Type 0) (next : F → ℕ → Moment) (into : ℕ → Moment) : Type 0 where
   pub takes : (a b : ℕ) → first a ≡ true → last (flag a) b ≡ true

@@ -1,4 +1,4 @@
--- Integers and floats that the walk takes are those of the grammar.
+-- Integers and floats: the walk accepts those of the grammar, and no others.
 use Rattle.std.specs.Char.{digit_value}
 use Rattle.std.specs.Int.{w64}
 use Rattle.std.specs.Str.Parse.{digits_value}
@@ -101,7 +101,7 @@ unfolding UnsignedText IsWhole
 unsigned_is c n ds g lone e =
     ((number_goes 10 (omega arith) n (c ∷ ds)).1 (g, e), (whole_is c ds g lone).1)
 
--- the number of a digit and others
+-- the value after a digit and those that follow it
 first_close : (k c : ℕ) (negative : Bool) (ds : List ℕ) → digit_value c < 10 → GoesOn 10 false ds
     → Close (passed next_whole (whole_of k negative (digit c)) ds).value
     (digits_value 10 (kept (c ∷ ds)))
@@ -169,7 +169,7 @@ zero_real negative rs r =
     inr (inr (inr (magnitude_read (48 ∷ []) rs
     (whole_is 48 [] (inl (omega arith, refl)) (λ e. refl)) r)))
 
--- digits after the first one, and then what begins a date or a time
+-- more digits, followed by the mark of a date or a time
 abbrev pub Dated : ℕ → Bool → ℕ → List ℕ → Type 0
 Dated k negative c r =
     (ds : List ℕ) × (es : List ℕ) × GoesOn 10 false ds × (r ≡ ds ++ es)

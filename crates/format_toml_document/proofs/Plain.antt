@@ -1,4 +1,4 @@
--- Values without quotes: the numbers, dates and times that the walk takes are those of the grammar.
+-- Numbers, dates and times as values: the walk accepts those of the grammar, and no others.
 use Rattle.std.specs.Int.{w64}
 use Rattle.std.specs.Prelude.{◌≡◌, ◌⊎◌, ◌≤◌, ◌+◌, ◌-◌, ◌*◌, ◌==◌, ℕ, ℤ, pos, neg_ℤ}
 use Rattle.std.specs.Prelude.{Bool, true, false}
@@ -226,7 +226,7 @@ module _ {A : Type 0} where
     | inr (p, q, r, e, hour) ↦ rw e (hour_made p q r hour)
   ]
 
--- ---- what the walk takes, but a space after a date
+-- ---- what the walk accepts, but a space after a date
 
 module _ {A : Type 0} (alloc : A) where
   abbrev pub Reads : List ℕ → Type 0

@@ -83,7 +83,7 @@ module _ {A : Type 0} (alloc : A) where
 
 -- ---- an encoding, and then the rest
 
--- `Then text K l`: `l` begins with an encoding by `text`, and `K` holds of the rest.
+-- `Then text K l`: `l` begins with an encoding by `text`, and the rest satisfies `K`.
 pub record Then {O : Type 0} (text : Text ℕ O) (K : List ℕ → Type 0) (l : List ℕ) : Type 0 where
   pub value : O
   pub front : List ℕ
@@ -101,7 +101,7 @@ pub to : {O : Type 0} {text : Text ℕ O} {K : List ℕ → Type 0} {l : List �
     (xs ys : List ℕ) → text o xs → l ≡ xs ++ ys → K ys → Then text K l
 to o xs ys x e k = record { value = o; front = xs; rest = ys; is = x; splits = e; kept = k }
 
--- characters by `P`, and then the rest
+-- `l` begins with characters that satisfy `P`, and the rest satisfies `K`.
 abbrev pub Front : (List ℕ → Type 0) → (List ℕ → Type 0) → List ℕ → Type 0
 Front P K l = Then (λ (o : ⊤) xs. P xs) K l
 
@@ -323,7 +323,7 @@ module _ {O D : Type 0} (separator : Text ℕ D) (text : Text ℕ O) {K : List �
   unfolding PartedText
   parted_none k = to [] [] l refl refl k
 
-  -- some behind a separator are others
+  -- some after a separator are others
   pub others : Then separator (Then (AtLeast 1 (PartedText separator text)) K) l
       → Then (EachText (BothText (λ d o. o) separator text)) K l
   unfolding EachText BothText PartedText
