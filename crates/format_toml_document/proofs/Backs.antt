@@ -4,6 +4,7 @@ use Rattle.std.specs.Prelude.{if◌then◌else◌}
 use Rattle.std.proofs.Common.{refl, sym, ap, subst, inl, inr, ◌∙◌, arith}
 use Rattle.std.proofs.lemmas.Bool.Decides.{nat_tests}
 use Rattle.stream_sets.specs.AsChar.{IsSpace}
+use Rattle.format_toml.specs.Floats.{inf_word, nan_word}
 use Rattle.format_toml.specs.Toml.{IsBare, IsShown, NameText, WsText}
 use Rattle.format_toml_errors.specs.Moments.{is_digit}
 use Rattle.format_toml_errors.specs.Steps.{basic_step, behind_step, end_of, in_line, in_string}
@@ -29,12 +30,16 @@ use Rattle.format_toml_errors.specs.declared.modes.Role.{Role}
 use Rattle.format_toml_errors.specs.declared.modes.Role.TheVariants as roles
 use Rattle.format_toml_errors.specs.declared.modes.Step.{Step}
 use Rattle.format_toml_errors.specs.declared.modes.Step.TheVariants as steps
-use Rattle.format_toml_document.proofs.Escapes.{AfterEscape, Escapes, escape_text}
+use Rattle.format_toml_document.proofs.Escapes.{escape_text}
+use Rattle.format_toml_document.proofs.Hexes.{AfterEscape, Escapes}
 use Rattle.format_toml_document.proofs.Parts.{bare_made, basic_made, literal_made}
 use Rattle.format_toml_document.proofs.Rests.{After, BasicRest, KeyEnd, KeyTail, LiteralRest, Rest}
-use Rattle.format_toml_document.proofs.Rests.{SignRest, StringEnd, StringRest, Word, word_of}
-use Rattle.format_toml_document.proofs.Thens.{Fits, Then, behind, both, cons, fit_parts, left, nil}
-use Rattle.format_toml_document.proofs.Thens.{one, right, run_more, run_none, token, equal}
+use Rattle.format_toml_document.proofs.Numerals.{Opened, from_digit, from_zero}
+use Rattle.format_toml_document.proofs.Rests.{StringEnd, StringRest, Word, word_of}
+use Rattle.format_toml_document.proofs.Thens.{Fits, Front, Then, behind, both, cons, fit_parts}
+use Rattle.format_toml_document.proofs.Thens.{left, nil}
+use Rattle.format_toml_document.proofs.Thens.{equal, more_front, one, right, run_more, run_none, to}
+use Rattle.format_toml_document.proofs.Thens.{token}
 
 -- ---- characters
 
@@ -158,7 +163,7 @@ module _ (A : Type 0) (level : ℕ) (held : List Bracket) (l : List ℕ) where
         (λ y. nil _ (one 34 (end_back role y)))
         (λ e y. at (λ b. BasicRest A level role held (b ∷ l)) c 92 _ _
         (λ z. cons (right _ (both _ (one 92
-        (escape_text _ l (goes (modes.Escaped role escapes.Letter) z))))))
+        (escape_text (goes (modes.Escaped role escapes.Letter) z))))))
         (λ f z. test (is_shown c) _ _
         (λ g w. cons (left _ (token _ c (shown_is c g, (other c 34 e, other c 92 f))
         (goes (modes.Basic role) w))))
@@ -174,7 +179,7 @@ module _ (A : Type 0) (level : ℕ) (held : List Bracket) (l : List ℕ) where
         (λ g w. never w) y) x
 
     pub escaped_back : (role : Role) (s : Escaped) → Leads (in_string role s)
-        → AfterEscape (λ e. Escapes (BasicRest A level role held) e l)
+        → AfterEscape (λ e. Front (Escapes e) (BasicRest A level role held) l)
         (BasicRest A level role held l) s
     escaped_back role escaped.Invalid x = never x
     escaped_back role (escaped.More e) x = goes (modes.Escaped role e) x
@@ -233,15 +238,21 @@ module _ (A : Type 0) (level : ℕ) (held : List Bracket) (l : List ℕ) where
         more letters.An y = step letters.An letters.N refl y
         more letters.N y = last letters.N refl y
 
-    pub sign_back : (negative : Bool) → Leads (sign_step negative c)
-        → SignRest negative (After A level held) (c ∷ l)
+    abbrev Signed : Bool → ℕ → Type 0
+    Signed negative b =
+        Front (Opened 5 negative figures.SignedZero) (After A level held) (b ∷ l)
+
+    pub sign_back : (negative : Bool) → Leads (sign_step negative c) → Signed negative c
     sign_back negative x =
-        test (c == 105) _ _ (λ e y. inl (equal c 105 e, goes (modes.Word letters.Nf) y))
-        (λ e y. test (c == 110) _ _
-        (λ f z. inr (inl (equal c 110 f, goes (modes.Word letters.An) z)))
-        (λ f z. test (c == 48) _ _
-        (λ g w. inr (inr (inl (equal c 48 g, goes (modes.Number figures.SignedZero) w))))
-        (λ g w. test (is_digit c) _ _ (λ h v.
-        let range : (49 ≤ c) × (c ≤ 57) = grind (arith, nat_tests, g, h) in
-        inr (inr (inr (range.0, range.1, goes (modes.Number (figures.Whole _)) v))))
-        (λ h v. never v) w) z) y) x
+        at (Signed negative) c 105 _ _ (λ y. let (ys, e, k) = goes (modes.Word letters.Nf) y in
+        to tt inf_word ys (inl refl) (ap (λ m. 105 ∷ m) e) k)
+        (λ e0 y. at (Signed negative) c 110 _ _
+        (λ z. let (ys, e, k) = goes (modes.Word letters.An) z in
+        to tt nan_word ys (inr (inl refl)) (ap (λ m. 110 ∷ m) e) k)
+        (λ e1 z. at (Signed negative) c 48 _ _
+        (λ w. more_front 48 from_zero (goes (modes.Number figures.SignedZero) w))
+        (λ e2 w. test (is_digit c) _ _ (λ e v.
+        let range : (49 ≤ c) × (c ≤ 57) = grind (arith, nat_tests, e2, e) in
+        more_front c (λ xs. from_digit xs c range.0 range.1)
+        (goes (modes.Number (figures.Whole _)) v))
+        (λ e v. never v) w) z) y) x

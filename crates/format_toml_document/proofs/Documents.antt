@@ -1,7 +1,7 @@
 -- The walk over values, lines and documents.
 use Rattle.std.specs.Prelude.{◌≡◌, ◌<◌, ◌≤◌, ◌+◌, ⊤, ℕ, zero, suc, true, false, List, ◌∷◌, ◌++◌}
 use Rattle.std.specs.Prelude.{length, ◌==◌, Option, [], if◌then◌else◌}
-use Rattle.std.proofs.Common.{inl, inr, arith, ◌∙◌, ap, refl, subst, sym}
+use Rattle.std.proofs.Common.{inl, inr, arith, ◌∙◌, ap, refl, subst}
 use Rattle.std.proofs.lemmas.Bool.Decides.{nat_tests}
 use Rattle.std.specs.declared.vec.Vec.{Vec}
 use Rattle.std.proofs.lemmas.List.{append-nil}
@@ -9,10 +9,9 @@ use Rattle.grammars.specs.Texts.{InFront, Text}
 use Rattle.grammars.specs.Texts.Fronts.{both_front, each_front, either_front, front_behind}
 use Rattle.grammars.specs.Texts.Fronts.{front_whole, gathered_front, in_list_front}
 use Rattle.format_parts.specs.Words.{for_front, former, latter, pair}
-use Rattle.format_toml.specs.Floats.{FloatText}
 use Rattle.format_toml.specs.Toml.{ArrayText, CommentText, GapText, Gapped, InlineText, IsArray}
-use Rattle.format_toml.specs.Toml.{IsBoolean, Spaced, IsInline, IsInteger, IsShown, IsText}
-use Rattle.format_toml.specs.Toml.{MeansDateTime, MeansFloat, PairText, ScalarText, ValueText}
+use Rattle.format_toml.specs.Toml.{IsBoolean, Spaced, IsInline, IsShown, IsText}
+use Rattle.format_toml.specs.Toml.{PairText, ScalarText, ValueText}
 use Rattle.format_toml.specs.Toml.{WideMarkText, false_word, true_word, DocumentText, IsBare}
 use Rattle.format_toml.specs.Toml.{IsEntry, IsTable, IsTables, ItemText, LineText, TableText}
 use Rattle.format_toml_errors.specs.Accepted.{by, viable_front}
@@ -33,10 +32,9 @@ use Rattle.format_toml_errors.specs.declared.modes.Step.TheVariants as steps
 use Rattle.format_toml_document.proofs.Walks.{any_front, left_out, members_front, newline_front}
 use Rattle.format_toml_document.proofs.Walks.{one_front, some_front, space_by, spelled_front}
 use Rattle.format_toml_document.proofs.Walks.{token_front, ws_front, Started}
-use Rattle.format_toml_document.proofs.Days.{date_starts}
 use Rattle.format_toml_document.proofs.Long.{any_basic_front, any_literal_front, BeginsName}
 use Rattle.format_toml_document.proofs.Long.{BehindName, key_front, later_begins}
-use Rattle.format_toml_document.proofs.Numbers.{float_starts, integer_starts}
+use Rattle.format_toml_document.proofs.Plain.{plain_at, plain_made}
 
 comment_goes : (gap : Gap) (c : ℕ) → IsShown c
     → comment_step gap c ≡ steps.Goes (modes.Comment gap)
@@ -94,21 +92,14 @@ module _ (level : ℕ) where
     Behind l = At level modes.After held l
 
     scalar_front : {A : Type 0} → InFront (ScalarText {A = A}) Behind (Started level held)
-    unfolding FloatText
     scalar_front =
         either_front (for_front IsText (any_basic_front level held))
         (either_front (for_front IsText (any_literal_front level held))
         (either_front (for_front IsBoolean (spelled_front true_word true (λ l x. (x, x))))
         (either_front (for_front IsBoolean (spelled_front false_word false (λ l x. (x, x))))
-        (either_front (for_front IsInteger (record {
-          makes = λ n xs rest text x. integer_starts level held n xs rest text x;
-        }))
-        (either_front (for_front MeansFloat (record {
-          makes = λ f xs rest text x. float_starts level held xs rest text.0 x;
-        }))
-        (for_front MeansDateTime (record {
-          makes = λ d xs rest text x. date_starts level held d xs rest text x;
-        })))))))
+        (record {
+          makes = λ v xs l text x. plain_at level held xs l (plain_made v xs text) x;
+        }))))
 
     -- in an array or an inline table
     abbrev Element : List ℕ → Type 0
@@ -198,12 +189,8 @@ no_bracket c is = grind (arith, nat_tests, is)
 
 line_begins : (c : ℕ) → BeginsName c
     → next_step modes.Line (last_open []) c ≡ name_step owners.Entry c
-line_begins c (inl e) =
-    let P : ℕ → Type 0 = λ b. next_step modes.Line (last_open []) b ≡ name_step owners.Entry b in
-    subst P (sym e) refl
-line_begins c (inr (inl e)) =
-    let P : ℕ → Type 0 = λ b. next_step modes.Line (last_open []) b ≡ name_step owners.Entry b in
-    subst P (sym e) refl
+line_begins c (inl e) = rw e refl
+line_begins c (inr (inl e)) = rw e refl
 line_begins c (inr (inr is)) =
     ap (λ s. else_line c s) (out_of_line c is)
     ∙ ap (λ b. if b then steps.Goes modes.Header else name_step owners.Entry c) (no_bracket c is)

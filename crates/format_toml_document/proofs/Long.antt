@@ -1,7 +1,7 @@
--- The walk over strings of values, and over keys.
-use Rattle.std.specs.Prelude.{◌≡◌, ◌⊎◌, ◌&&◌, ◌≤◌, ◌+◌, ℕ, suc, Bool, true, nat_le, nat_lt, ⊤, List}
-use Rattle.std.specs.Prelude.{[], ◌∷◌, ◌++◌, if◌then◌else◌}
-use Rattle.std.proofs.Common.{refl, sym, ap, subst, inl, inr, ◌∙◌, arith}
+-- The walk over strings and keys.
+use Rattle.std.specs.Prelude.{◌≡◌, ◌⊎◌, ◌&&◌, ◌≤◌, ◌+◌, ℕ, suc, true, nat_le, nat_lt, ⊤, List}
+use Rattle.std.specs.Prelude.{[], ◌∷◌, ◌++◌, false, ◌==◌, if◌then◌else◌}
+use Rattle.std.proofs.Common.{refl, ap, inl, inr, ◌∙◌, arith}
 use Rattle.std.proofs.lemmas.Bool.{eq-eqb, ne_eqb}
 use Rattle.std.proofs.lemmas.Bool.Decides.{nat_tests}
 use Rattle.stream_sets.specs.Accumulator.Holds.{HasCharacters}
@@ -9,22 +9,30 @@ use Rattle.grammars.specs.Texts.{EachText, EitherText, GatheredText, InFront, Te
 use Rattle.grammars.specs.Texts.{AtLeast}
 use Rattle.grammars.specs.Texts.Fronts.{both_front, each_front, either_front, front_whole}
 use Rattle.grammars.specs.Texts.Fronts.{gathered_front, front_behind, in_list_front}
-use Rattle.format_parts.specs.Words.{former, latter, pair, for_front}
+use Rattle.format_parts.specs.Words.{former, latter, pair, for_front, Between, One}
 use Rattle.format_toml.specs.LongTexts.{BodyText, DelimiterText, LongText, Trimmed, one_and_two}
 use Rattle.format_toml.specs.LongTexts.{room_behind}
 use Rattle.format_toml.specs.Toml.{AnyBasicText, AnyLiteralText, CharacterText, EscapedLineText}
 use Rattle.format_toml.specs.Toml.{EscapedLines, IsOf, NewlineText, IsBare, IsKey, KeyText}
-use Rattle.format_toml.specs.Toml.{NameText, Spaced}
+use Rattle.format_toml.specs.Toml.{NameText, Spaced, BasicText, LiteralText}
 use Rattle.format_toml_errors.specs.Accepted.{after_done, by, Next}
 use Rattle.format_toml_errors.specs.Stop.{At}
-use Rattle.format_toml_errors.specs.Endings.{long_more}
+use Rattle.format_toml_errors.specs.Escapes.{escape_step}
 use Rattle.format_toml_errors.specs.Steps.{after_step, content_step, in_long, long_step, mark_of}
-use Rattle.format_toml_errors.specs.Steps.{next_step, string_step, behind_step, is_bare, name_step}
+use Rattle.format_toml_errors.specs.Steps.{next_step, string_step, behind_step, is_bare, is_blank}
+use Rattle.format_toml_errors.specs.Steps.{name_step, long_escape_step, basic_step, in_string}
+use Rattle.format_toml_errors.specs.Steps.{literal_step}
 use Rattle.format_toml_errors.specs.Unclosed.{last_open}
 use Rattle.format_toml_errors.specs.declared.modes.Bracket.{Bracket}
 use Rattle.format_toml_errors.specs.declared.modes.Mark.{Mark}
 use Rattle.format_toml_errors.specs.declared.modes.Mode.{Mode}
 use Rattle.format_toml_errors.specs.declared.modes.Owner.{Owner}
+use Rattle.format_toml_errors.specs.declared.escapes.Escape.{Escape}
+use Rattle.format_toml_errors.specs.declared.escapes.Escaped.{Escaped}
+use Rattle.format_toml_document.proofs.Walks.{moved, newline_front, one_front, parted, space_by}
+use Rattle.format_toml_document.proofs.Walks.{token_front, ws_front, Started, some_front}
+use Rattle.format_toml_document.proofs.Escapes.{Escaping, escape_front}
+use Rattle.format_toml_errors.specs.declared.modes.Role.{Role}
 use Rattle.format_toml.specs.declared.characters.Characters.TheVariants as sets
 use Rattle.format_toml_errors.specs.declared.escapes.Escape.TheVariants as escapes
 use Rattle.format_toml_errors.specs.declared.escapes.Escaped.TheVariants as escaped
@@ -32,10 +40,72 @@ use Rattle.format_toml_errors.specs.declared.modes.Mark.TheVariants as marks
 use Rattle.format_toml_errors.specs.declared.modes.Mode.TheVariants as modes
 use Rattle.format_toml_errors.specs.declared.modes.Role.TheVariants as roles
 use Rattle.format_toml_errors.specs.declared.modes.Step.TheVariants as steps
-use Rattle.format_toml_document.proofs.Walks.{moved, newline_front, one_front, parted, space_by}
-use Rattle.format_toml_document.proofs.Walks.{token_front, ws_front, Started, some_front}
-use Rattle.format_toml_document.proofs.Quoted.{Escaping, escape_front, stands_by, basic_front}
-use Rattle.format_toml_document.proofs.Quoted.{literal_front}
+
+-- ---- strings on one line
+
+-- a text between two quotation marks
+quoted_front : {A : Type 0} {content : Text ℕ (List ℕ)} {behind inside whole : List ℕ → Type 0}
+    (quote : ℕ) → ((l : List ℕ) → inside l → whole (quote ∷ l)) → InFront content inside inside
+    → ((l : List ℕ) → behind l → inside (quote ∷ l))
+    → InFront (Between (One quote) (GatheredText (HasCharacters {A = A}) content) (One quote))
+    behind whole
+quoted_front quote opens inner ends =
+    both_front latter (one_front quote opens)
+    (both_front former (gathered_front HasCharacters inner) (one_front quote ends))
+
+module _ (level : ℕ) (held : List Bracket) (role : Role) (mode : Mode) where
+  -- in a basic string, or in the mode that a string begins with
+  abbrev InBasic : List ℕ → Type 0
+  InBasic l = At level (modes.Basic role) held l × At level mode held l
+
+  escaping : Escaping (λ e l. At level (modes.Escaped role e) held l)
+      (λ l. At level (modes.Basic role) held l)
+  escaping = record {
+    more = λ e f c l is x. by level held l (ap (λ s. in_string role s) is) x;
+    done = λ e c l is x. by level held l (ap (λ s. in_string role s) is) x;
+  }
+
+  basic_goes : (c : ℕ) → IsOf sets.Basic c → basic_step role c ≡ steps.Goes (modes.Basic role)
+  basic_goes c is = grind (arith, nat_tests, is)
+
+  basic_front : {A : Type 0} {behind whole : List ℕ → Type 0}
+      → ((c : ℕ) → (c ≡ 34 → ⊥) → next_step mode (last_open held) c ≡ basic_step role c)
+      → ((l : List ℕ) → InBasic l → whole (34 ∷ l))
+      → ((l : List ℕ) → behind l → InBasic (34 ∷ l)) → InFront (BasicText {A = A}) behind whole
+  basic_front same opens ends =
+      quoted_front 34 opens
+      (each_front (either_front (token_front (λ c l is x. (
+        by level held l (basic_goes c is) x.0,
+        by level held l (same c is.1.0 ∙ basic_goes c is) x.0,
+      )))
+      (both_front latter
+      (one_front {behind = λ l. At level (modes.Escaped role escapes.Letter) held l} 92
+      (λ l x. (x, by level held l (same 92 (λ e. omega (arith, e))) x)))
+      (front_behind (λ l x. x.0) (escape_front escaping)))))
+      ends
+
+  -- and likewise a literal string
+  abbrev InLiteral : List ℕ → Type 0
+  InLiteral l = At level (modes.Literal role) held l × At level mode held l
+
+  literal_goes : (c : ℕ) → IsOf sets.Literal c
+      → literal_step role c ≡ steps.Goes (modes.Literal role)
+  literal_goes c is = grind (arith, nat_tests, is)
+
+  literal_front : {A : Type 0} {behind whole : List ℕ → Type 0}
+      → ((c : ℕ) → (c ≡ 39 → ⊥) → next_step mode (last_open held) c ≡ literal_step role c)
+      → ((l : List ℕ) → InLiteral l → whole (39 ∷ l))
+      → ((l : List ℕ) → behind l → InLiteral (39 ∷ l))
+      → InFront (LiteralText {A = A}) behind whole
+  literal_front same opens ends =
+      quoted_front 39 opens
+      (each_front (token_front (λ c l is x. (
+        by level held l (literal_goes c is) x.0,
+        by level held l (same c is.1 ∙ literal_goes c is) x.0,
+      ))))
+      ends
+
+-- ---- strings over lines
 
 delimiter_front : {behind whole : List ℕ → Type 0} (quote : ℕ)
     → ((l : List ℕ) → behind l → whole (quote ∷ quote ∷ quote ∷ l))
@@ -163,18 +233,19 @@ module _ (level : ℕ) (held : List Bracket) where
       → content_step marks.Basic c ≡ steps.Goes (modes.Long marks.Basic 0)
   basic_content c is = grind (arith, nat_tests, is)
 
+  long_is : (e : Escape) (c : ℕ) (s : Escaped) → escape_step e c ≡ s → (s ≡ escaped.Invalid → ⊥)
+      → long_escape_step e c ≡ in_long s
+  long_is escapes.Letter c s is valid =
+      let blank : is_blank c ≡ false = grind (arith, nat_tests, is, valid) in
+      let feed : (c == 10) ≡ false = grind (arith, nat_tests, is, valid) in
+      let return : (c == 13) ≡ false = grind (arith, nat_tests, is, valid) in
+      rw (blank, feed, return, is) refl
+  long_is e c s is valid = ap (λ s. in_long s) is
+
   long_escaping : Escaping (λ e l. At level (modes.LongEscape e) held l) BasicAt
   long_escaping = record {
-    letter = λ c k l is x.
-        let P : ℕ → Type 0 = λ b. At level (modes.LongEscape escapes.Letter) held (b ∷ l) in
-        stands_by P x x x x x x x c k is;
-    unit = λ l x. x;
-    wide = λ l x. x;
-    more = long_more level held;
-    done = λ c l is x.
-        let P : Bool → Type 0 = λ b.
-        Next level held l (in_long (if b then escaped.Done else escaped.Invalid)) in
-        subst P (sym is) x;
+    more = λ e f c l is x. by level held l (long_is e c (escaped.More f) is (λ n. cc)) x;
+    done = λ e c l is x. by level held l (long_is e c escaped.Done is (λ n. cc)) x;
   }
 
   basic_characters : InFront (EitherText CharacterText NewlineText) BasicAt (Any marks.Basic)

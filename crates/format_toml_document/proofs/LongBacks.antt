@@ -1,5 +1,5 @@
 -- The same for each character of a string over lines.
-use Rattle.std.specs.Prelude.{◌≡◌, ◌≤◌, ◌+◌, ◌==◌, ◌&&◌, ◌||◌, ⊤, ℕ, Bool, true, false, List, []}
+use Rattle.std.specs.Prelude.{◌≡◌, ◌≤◌, ◌+◌, ◌==◌, ◌&&◌, ◌||◌, ℕ, Bool, true, false, List, []}
 use Rattle.std.specs.Prelude.{◌∷◌, ◌++◌, nat_lt, if◌then◌else◌}
 use Rattle.std.proofs.Common.{refl, sym, ap, subst, inl, inr, ◌∙◌, arith}
 use Rattle.std.proofs.lemmas.Bool.Decides.{nat_tests}
@@ -25,14 +25,15 @@ use Rattle.format_toml_errors.specs.declared.modes.Mode.TheVariants as modes
 use Rattle.format_toml_errors.specs.declared.modes.Step.{Step}
 use Rattle.format_toml_errors.specs.declared.modes.Step.TheVariants as steps
 use Rattle.format_toml_document.proofs.Backs.{Led, at, blank_is, goes, never, other, shown_is, test}
-use Rattle.format_toml_document.proofs.Escapes.{AfterEscape, Escapes, escape_text}
+use Rattle.format_toml_document.proofs.Escapes.{escape_back, escape_text}
+use Rattle.format_toml_document.proofs.Hexes.{Escapes}
 use Rattle.format_toml_document.proofs.Longs.{blank_made, closes, content_made, none_first}
 use Rattle.format_toml_document.proofs.Longs.{one_more, StartsBlank}
 use Rattle.format_toml_document.proofs.Parts.{feed, return}
 use Rattle.format_toml_document.proofs.Rests.{After, LongRest, Rest, content_of, marked}
-use Rattle.format_toml_document.proofs.Thens.{Fits, Then, both_true, fit_parts, one, parts}
+use Rattle.format_toml_document.proofs.Thens.{Fits, Front, Then, both_true, fit_parts, one, parts}
 use Rattle.format_toml_document.proofs.Thens.{run_more, run_none, equal}
-use Rattle.format_toml_document.proofs.LongRows.{escaped_line, long_start}
+use Rattle.format_toml_document.proofs.Longs.{escaped_line, long_start}
 
 or_other : (a b : Bool) → (a || b) ≡ true → a ≡ false → b ≡ true
 or_other true b h not = true_not_false not
@@ -43,30 +44,10 @@ no_mark c m n e f same = grind (arith, nat_tests, e, f, same)
 
 -- ---- which escapes go on
 
-MayGo : Escaped → Type 0
-MayGo escaped.Invalid = ⊤
-MayGo (escaped.More e) = is_letter e ≡ false
-MayGo escaped.Done = ⊤
-
-go_invalid : MayGo escaped.Invalid
-unfolding MayGo
-go_invalid = tt
-
-go_done : MayGo escaped.Done
-unfolding MayGo
-go_done = tt
-
-go_more : (e : Escape) → is_letter e ≡ false → MayGo (escaped.More e)
-unfolding MayGo
-go_more e not = not
-
-go_either : (b : Bool) (s t : Escaped) → MayGo s → MayGo t → MayGo (if b then s else t)
-go_either true s t x y = x
-go_either false s t x y = y
-
-later : (e : Escape) (c : ℕ) → MayGo (escape_step e c)
-later escapes.Letter c = search (go_invalid, go_done, go_more, go_either, refl) depth 20
-later e c = search (go_invalid, go_done, go_more, go_either, refl) depth 20
+later : (e f : Escape) (c : ℕ) → escape_step e c ≡ escaped.More f → is_letter f ≡ false
+later escapes.Letter escapes.Letter c is = absurd (grind (arith, nat_tests, is))
+later e escapes.Letter c is = absurd (grind (arith, nat_tests, is))
+later e f c is = refl
 
 -- ---- steps
 
@@ -139,7 +120,7 @@ module _ {A : Type 0} (alloc : A) (level : ℕ) (held : List Bracket) (c : ℕ) 
       → LongAt marks.Basic (marked marks.Basic n (92 ∷ l))
   unfolding EitherText BothText Spelled
   slash_back n few (inl x) =
-      let (o, es, r, y, e, k) = parts (escape_text _ l x) in
+      let (o, es, r, y, e, k) = parts (escape_text x) in
       let P : List ℕ → Type 0 = λ m. LongAt marks.Basic (marked marks.Basic n (92 ∷ m)) in
       subst P (sym e)
       (content_made A level held marks.Basic n o (92 ∷ es) r few
@@ -210,24 +191,26 @@ module _ {A : Type 0} (alloc : A) (level : ℕ) (held : List Bracket) (c : ℕ) 
       (λ z. never z) y
 
   not_letter : (e : Escape) → is_letter e ≡ false → Rest A level (modes.LongEscape e) held l
-      → Escapes (LongAt marks.Basic) e l
+      → Front (Escapes e) (LongAt marks.Basic) l
   not_letter escapes.Letter not x = true_not_false not
   not_letter e not x = x
 
-  after_escape : (s : Escaped) → MayGo s → Led A level held l (in_long s)
-      → AfterEscape (λ e. Escapes (LongAt marks.Basic) e l) (LongAt marks.Basic l) s
-  unfolding MayGo
-  after_escape escaped.Invalid may y = never y
-  after_escape (escaped.More e) may y = not_letter e may (goes (modes.LongEscape e) y)
-  after_escape escaped.Done may y = goes (modes.Long marks.Basic 0) y (omega arith)
+  after_escape : (e : Escape) (s : Escaped) → escape_step e c ≡ s → Led A level held l (in_long s)
+      → Front (Escapes e) (LongAt marks.Basic) (c ∷ l)
+  after_escape e escaped.Invalid is y = never y
+  after_escape e (escaped.More f) is y =
+      escape_back e c (escaped.More f) is
+      (not_letter f (later e f c is) (goes (modes.LongEscape f) y))
+  after_escape e escaped.Done is y =
+      escape_back e c escaped.Done is (goes (modes.Long marks.Basic 0) y (omega arith))
 
   pub long_escape_back : (e : Escape) → Led A level held l (long_escape_step e c)
       → Rest A level (modes.LongEscape e) held (c ∷ l)
   long_escape_back escapes.Letter y =
       blank_back (λ b. Rest A level (modes.LongEscape escapes.Letter) held (b ∷ l)) _
       (λ b t. inr t)
-      (λ z. inl (after_escape (escape_step escapes.Letter c) (later escapes.Letter c) z)) y
-  long_escape_back e y = after_escape (escape_step e c) (later e c) y
+      (λ z. inl (after_escape escapes.Letter (escape_step escapes.Letter c) refl z)) y
+  long_escape_back e y = after_escape e (escape_step e c) refl y
 
   pub quotes_back : (mark : Mark) → Led A level held l (quotes_step mark (last_open held) c)
       → Rest A level (modes.Quotes mark) held (c ∷ l)

@@ -1,7 +1,7 @@
 -- What may follow in each mode of the walk so that the text is a document, by the grammar.
-use Rattle.std.specs.Prelude.{◌≡◌, ◌⊎◌, ◌≤◌, ◌-◌, ⊤, ℕ, zero, suc, Bool}
-use Rattle.std.specs.Prelude.{true, List, [], ◌∷◌, ◌++◌}
-use Rattle.std.specs.Prelude.{length, Option, Some, None}
+use Rattle.std.specs.Prelude.{◌≡◌, ◌⊎◌, ◌≤◌, ◌-◌, ⊤, ℕ, zero, suc}
+use Rattle.std.specs.Prelude.{List, [], ◌∷◌, ◌++◌}
+use Rattle.std.specs.Prelude.{length}
 use Rattle.grammars.specs.Texts.{AtLeast, BothText, EachText, EitherText, GatheredText, Members}
 use Rattle.grammars.specs.Texts.{OptionalText, PartedText, Text, TokenOfText}
 use Rattle.format_parts.specs.Words.{One}
@@ -13,11 +13,8 @@ use Rattle.format_toml.specs.Toml.{Gapped, IsOf, ItemText, LineText, MarkText, N
 use Rattle.format_toml.specs.Toml.{NewlineText, PairText, Spaced, TableText, ValueText}
 use Rattle.format_toml.specs.Toml.{WideMarkText, WsText}
 use Rattle.format_toml.specs.declared.characters.Characters.TheVariants as sets
-use Rattle.format_toml_errors.specs.Figures.{ends_figure, figure_step}
-use Rattle.format_toml_errors.specs.Moments.{digit}
 use Rattle.format_toml_errors.specs.Steps.{mark_of}
 use Rattle.format_toml_errors.specs.declared.escapes.Escape.TheVariants as escapes
-use Rattle.format_toml_errors.specs.declared.figures.Figure.{Figure}
 use Rattle.format_toml_errors.specs.declared.figures.Figure.TheVariants as figures
 use Rattle.format_toml_errors.specs.declared.modes.Bracket.{Bracket}
 use Rattle.format_toml_errors.specs.declared.modes.Bracket.TheVariants as brackets
@@ -34,22 +31,14 @@ use Rattle.format_toml_errors.specs.declared.modes.Owner.TheVariants as owners
 use Rattle.format_toml_errors.specs.declared.modes.Role.{Role}
 use Rattle.format_toml_errors.specs.declared.modes.Role.TheVariants as roles
 use Rattle.format_toml_tree.specs.declared.value.Value.{Value}
-use Rattle.format_toml_document.proofs.Escapes.{Escapes}
-use Rattle.format_toml_document.proofs.Thens.{Then}
+use Rattle.format_toml_document.proofs.Hexes.{Escapes}
+use Rattle.format_toml_document.proofs.Figures.{Figures}
+use Rattle.format_toml_document.proofs.Numerals.{Opened}
+use Rattle.format_toml_document.proofs.Thens.{Front, Then}
 
 -- the other items of a row
 abbrev pub Others : {O D : Type 0} → Text ℕ D → Text ℕ O → Text ℕ (List O)
 Others separator text = EachText (BothText (λ d o. o) separator text)
-
-abbrev pub AfterFigure : (Figure → Type 0) → Option Figure → Type 0
-AfterFigure on None = ⊥
-AfterFigure on (Some f) = on f
-
--- `Figures K f l`: the walk of a number where `f` is expected ends in `l`, where `K` holds.
-abbrev pub Figures : (List ℕ → Type 0) → Figure → List ℕ → Type 0
-Figures K f [] = (ends_figure f ≡ true) × K []
-Figures K f (c ∷ l) =
-    ((ends_figure f ≡ true) × K (c ∷ l)) ⊎ AfterFigure (λ g. Figures K g l) (figure_step f c)
 
 abbrev pub word_of : Letters → List ℕ
 word_of letters.Rue = 114 ∷ 117 ∷ 101 ∷ []
@@ -65,18 +54,6 @@ word_of letters.N = 110 ∷ []
 
 abbrev pub Word : (List ℕ → Type 0) → Letters → List ℕ → Type 0
 Word K rest l = (ys : List ℕ) × (l ≡ word_of rest ++ ys) × K ys
-
--- after a sign
-abbrev pub SignRest : Bool → (List ℕ → Type 0) → List ℕ → Type 0
-SignRest negative K [] = ⊥
-SignRest negative K (c ∷ l) =
-    ((c ≡ 105) × Word K letters.Nf l) ⊎ (((c ≡ 110) × Word K letters.An l)
-    ⊎ (((c ≡ 48) × Figures K figures.SignedZero l) ⊎ ((49 ≤ c) × (c ≤ 57)
-    × Figures K (figures.Whole (record {
-      digits = 5;
-      negative = negative;
-      value = digit c;
-    })) l)))
 
 -- quotation marks before a text
 abbrev pub marked : Mark → ℕ → List ℕ → List ℕ
@@ -232,7 +209,7 @@ module _ (A : Type 0) (level : ℕ) where
   Rest modes.Item held l = ElementStart held l
   Rest modes.After held l = After held l
   Rest (modes.Basic role) held l = BasicRest role held l
-  Rest (modes.Escaped role e) held l = Escapes (BasicRest role held) e l
+  Rest (modes.Escaped role e) held l = Front (Escapes e) (BasicRest role held) l
   Rest (modes.Literal role) held l = LiteralRest role held l
   Rest (modes.Quote mark) held l =
       StringRest mark held l
@@ -243,11 +220,11 @@ module _ (A : Type 0) (level : ℕ) where
       quotes ≤ 5 → LongRest mark held (marked mark quotes l)
   Rest (modes.LongReturn mark) held l = Then (One 10) (LongRest mark held) l
   Rest (modes.LongEscape escapes.Letter) held l =
-      Escapes (LongRest marks.Basic held) escapes.Letter l
+      Front (Escapes escapes.Letter) (LongRest marks.Basic held) l
       ⊎ Then WsText (Then NewlineText (LongRest marks.Basic held)) l
-  Rest (modes.LongEscape e) held l = Escapes (LongRest marks.Basic held) e l
+  Rest (modes.LongEscape e) held l = Front (Escapes e) (LongRest marks.Basic held) l
   Rest modes.LongBlank held l =
       Then WsText (Then NewlineText (LongRest marks.Basic held)) l
   Rest (modes.Word rest) held l = Word (After held) rest l
-  Rest (modes.Sign negative) held l = SignRest negative (After held) l
-  Rest (modes.Number f) held l = Figures (After held) f l
+  Rest (modes.Sign negative) held l = Front (Opened 5 negative figures.SignedZero) (After held) l
+  Rest (modes.Number f) held l = Front (Figures f) (After held) l

@@ -1,6 +1,6 @@
 -- Texts that begin with an encoding: what is known of the rest is known of the whole.
 use Rattle.std.specs.Prelude.{◌≡◌, ◌≤◌, ◌<◌, ◌+◌, ◌*◌, ◌^◌, ◌==◌, ◌&&◌}
-use Rattle.std.specs.Prelude.{ℕ, Bool, true, false, List}
+use Rattle.std.specs.Prelude.{⊤, ℕ, Bool, true, false, List}
 use Rattle.std.specs.Prelude.{[], ◌∷◌, ◌++◌, length, Some, None}
 use Rattle.std.specs.Char.{IsScalar, len_utf8}
 use Rattle.std.specs.Str.{all_scalars, encode_utf8_all}
@@ -48,11 +48,10 @@ scalars_parts (x ∷ xs) ys h =
 pub fit_parts : (l xs ys : List ℕ) → l ≡ xs ++ ys → Fits l → Fits xs × Fits ys
 fit_parts l xs ys e fits =
     let (one, two) = scalars_parts xs ys
-    (let P : List ℕ → Type 0 = λ k. all_scalars k ≡ true in subst P e fits.scalars) in
-    let size = ap (λ k. length k) e ∙ length-append xs ys in (
-      record { scalars = one; few = omega (arith, size, fits.few) },
-      record { scalars = two; few = omega (arith, size, fits.few) },
-    )
+    (rw e at fits.scalars) in
+    let size = ap (λ k. length k) e ∙ length-append xs ys in
+    let front : Fits xs = record { scalars = one; few = omega (arith, size, fits.few) } in
+    (front, record { scalars = two; few = omega (arith, size, fits.few) })
 
 width_most : (os : List ℕ) → width os ≤ 4 * length os
 width_most [] = omega arith
@@ -84,7 +83,7 @@ module _ {A : Type 0} (alloc : A) where
 
 -- ---- an encoding, and then the rest
 
--- `Then text K l`: `l` begins with an encoding by `text`, and `K` holds of the rest.
+-- `Then text K l`: `l` begins with an encoding by `text`, and the rest satisfies `K`.
 pub record Then {O : Type 0} (text : Text ℕ O) (K : List ℕ → Type 0) (l : List ℕ) : Type 0 where
   pub value : O
   pub front : List ℕ
@@ -101,6 +100,15 @@ parts t = (t.value, t.front, t.rest, t.is, t.splits, t.kept)
 pub to : {O : Type 0} {text : Text ℕ O} {K : List ℕ → Type 0} {l : List ℕ} (o : O)
     (xs ys : List ℕ) → text o xs → l ≡ xs ++ ys → K ys → Then text K l
 to o xs ys x e k = record { value = o; front = xs; rest = ys; is = x; splits = e; kept = k }
+
+-- `l` begins with characters that satisfy `P`, and the rest satisfies `K`.
+abbrev pub Front : (List ℕ → Type 0) → (List ℕ → Type 0) → List ℕ → Type 0
+Front P K l = Then (λ (o : ⊤) xs. P xs) K l
+
+pub more_front : {P Q K : List ℕ → Type 0} {l : List ℕ} (c : ℕ)
+    → ((xs : List ℕ) → P xs → Q (c ∷ xs)) → Front P K l → Front Q K (c ∷ l)
+more_front c more t =
+    let (o, xs, ys, is, e, k) = parts t in to tt (c ∷ xs) ys (more xs is) (ap (λ m. c ∷ m) e) k
 
 module _ {O : Type 0} {text : Text ℕ O} {K : List ℕ → Type 0} {l : List ℕ} where
   pub behind : {J : List ℕ → Type 0} → Fits l → ((ys : List ℕ) → Fits ys → K ys → J ys)
@@ -185,20 +193,15 @@ module _ {K : List ℕ → Type 0} {l : List ℕ} where
       to slice (c ∷ xs) ys (All-cons class c xs in-class x.0, omega arith, shown)
       (ap (λ l. c ∷ l) e) k
 
+  -- the same, as the two texts are one
   pub members_none : (class : ℕ → Type 0) → K l → Then (Members text_reading class 0) K l
-  unfolding Members
-  members_none class k =
-      let (slice, shown) = slice_for [] in
-      to slice [] l (All-nil class, omega arith, shown) refl k
+  unfolding Members Run
+  members_none class k = run_none class k
 
   pub members_more : (class : ℕ → Type 0) (c : ℕ) → class c
       → Then (Members text_reading class 0) K l → Then (Members text_reading class 0) K (c ∷ l)
-  unfolding Members
-  members_more class c in-class t =
-      let (s, xs, ys, x, e, k) = parts t in
-      let (slice, shown) = slice_for (c ∷ xs) in
-      to slice (c ∷ xs) ys (All-cons class c xs in-class x.0, omega arith, shown)
-      (ap (λ l. c ∷ l) e) k
+  unfolding Members Run
+  members_more class c in-class t = run_more class c in-class t
 
 -- ---- strings
 
@@ -219,8 +222,7 @@ each_spells {text} emits = record { few = few }
         → (all_scalars os ≡ true) × (length os ≤ length xs)
     few [] xs e scalars = (refl, omega arith)
     few (o ∷ os) xs (ys, zs, x, more, e) scalars =
-        let P : List ℕ → Type 0 = λ k. all_scalars k ≡ true in
-        let (one, two) = scalars_parts ys zs (subst P e scalars) in
+        let (one, two) = scalars_parts ys zs (rw e at scalars) in
         let (is, long) = emits.is o ys x one in
         let (all, fewer) = few os zs more two in (
           and_true _ (all_scalars os) is all,
@@ -231,8 +233,7 @@ pub token_emits : (class : ℕ → Type 0) → Emits (TokenOfText (λ c. c) clas
 unfolding TokenOfText
 token_emits class = record {
   is = λ o xs (in-class, e) scalars.
-      let P : List ℕ → Type 0 = λ k. all_scalars k ≡ true in
-      ((both_true _ true (subst P e scalars)).0, omega (arith, ap (λ k. length k) e));
+      ((both_true _ true (rw e at scalars)).0, omega (arith, ap (λ k. length k) e));
 }
 
 pub gathered_text : {A : Type 0} (alloc : A) {row : Text ℕ (List ℕ)} (os xs : List ℕ) → Fits xs
@@ -322,7 +323,7 @@ module _ {O D : Type 0} (separator : Text ℕ D) (text : Text ℕ O) {K : List �
   unfolding PartedText
   parted_none k = to [] [] l refl refl k
 
-  -- some behind a separator are others
+  -- some after a separator are others
   pub others : Then separator (Then (AtLeast 1 (PartedText separator text)) K) l
       → Then (EachText (BothText (λ d o. o) separator text)) K l
   unfolding EachText BothText PartedText

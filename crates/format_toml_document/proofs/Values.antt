@@ -1,17 +1,18 @@
 -- The same for values, lines and documents, where the numbers and the strings over lines that the
 -- walk accepts are those of the grammar.
-use Rattle.std.specs.Prelude.{◌≡◌, ◌⊎◌, ◌≤◌, ◌<◌, ◌-◌, ◌==◌, ◌||◌, ℕ}
-use Rattle.std.specs.Prelude.{zero, suc, Bool, true, false}
+use Rattle.std.specs.Prelude.{◌≡◌, ◌≤◌, ◌<◌, ◌-◌, ◌==◌, ◌||◌, ℕ}
+use Rattle.std.specs.Prelude.{zero, suc, true, false}
 use Rattle.std.specs.Prelude.{List, [], ◌∷◌, ◌++◌, length, Option, Some, None, if◌then◌else◌}
-use Rattle.std.proofs.Common.{refl, sym, ap, subst, inl, inr, arith}
+use Rattle.std.proofs.Common.{refl, ap, subst, inl, inr, ◌∙◌, arith, append_assoc}
 use Rattle.std.proofs.lemmas.Bool.Decides.{nat_tests}
 use Rattle.grammars.specs.Texts.{Spelled, Text}
 use Rattle.format_parts.specs.Words.{Between, One}
+use Rattle.format_toml.specs.Floats.{inf_word, nan_word}
 use Rattle.format_toml.specs.LongTexts.{DelimiterText}
 use Rattle.stream_sets.specs.AsChar.{IsSpace}
-use Rattle.format_toml.specs.Toml.{GapText, NameText, PairText, PlainText, ScalarText, ValueText}
+use Rattle.format_toml.specs.Toml.{GapText, NameText, PairText, ScalarText, ValueText}
 use Rattle.format_toml_errors.specs.Figures.{ends_figure, figure_step}
-use Rattle.format_toml_errors.specs.Moments.{digit, is_digit}
+use Rattle.format_toml_errors.specs.Moments.{is_digit}
 use Rattle.format_toml_errors.specs.Steps.{after_step, back_to, bracket_step, comment_step}
 use Rattle.format_toml_errors.specs.Steps.{else_item, else_line, in_line, is_blank, is_shown}
 use Rattle.format_toml_errors.specs.Steps.{line_end, name_step, next_step, number_goes, plain_step}
@@ -36,26 +37,18 @@ use Rattle.format_toml_document.proofs.Backs.{never, shown_is, spaced_back, test
 use Rattle.format_toml_document.proofs.Parts.{array_made, basic_made, feed, gap_cons, gap_nil}
 use Rattle.format_toml_document.proofs.Parts.{header_made, inline_made, lines_made, literal_made}
 use Rattle.format_toml_document.proofs.Parts.{pair_made, return, which}
-use Rattle.format_toml_document.proofs.Rests.{After, AfterFigure, Back, Break, ElementStart}
-use Rattle.format_toml_document.proofs.Rests.{Figures, LineStart, ItemRest, KeyTail, Rest, SignRest}
-use Rattle.format_toml_document.proofs.Rests.{Start, ValueAt, Word, word_of}
-use Rattle.format_toml_document.proofs.Thens.{Fits, Then, behind, both, cons, fit_parts, for, left}
-use Rattle.format_toml_document.proofs.Thens.{members_more, members_none, nil, none, one, right}
+use Rattle.format_toml_document.proofs.Figures.{Figures, goes as took}
+use Rattle.format_toml_document.proofs.Numerals.{from_digit, from_zero}
+use Rattle.format_toml_document.proofs.Plain.{Plain, plain_read, with_sign}
+use Rattle.format_toml_document.proofs.Rests.{After, Back, Break, ElementStart, ItemRest}
+use Rattle.format_toml_document.proofs.Rests.{KeyTail, LineStart, Rest, Start, ValueAt, word_of}
+use Rattle.format_toml_document.proofs.Thens.{Fits, Front, Then, behind, both, cons, fit_parts, for}
+use Rattle.format_toml_document.proofs.Thens.{left}
+use Rattle.format_toml_document.proofs.Thens.{members_more, members_none, more_front, nil, none}
+use Rattle.format_toml_document.proofs.Thens.{one}
+use Rattle.format_toml_document.proofs.Thens.{parts}
+use Rattle.format_toml_document.proofs.Thens.{right}
 use Rattle.format_toml_document.proofs.Thens.{run_more, run_none, some, to, token}
-
--- what the walk accepts as a number, by its first character
-pub record ReadsNumbers (A : Type 0) (K : List ℕ → Type 0) : Type 0 where
-  pub zero : (l : List ℕ) → Fits (48 ∷ l) → Figures K figures.Zero l
-      → Then (PlainText {A = A}) K (48 ∷ l)
-  pub digit : (c : ℕ) (l : List ℕ) → Fits (c ∷ l) → 49 ≤ c → c ≤ 57
-      → Figures K (figures.Whole (record { digits = 1; negative = false; value = digit c })) l
-      → Then (PlainText {A = A}) K (c ∷ l)
-  pub signed : (c : ℕ) (l : List ℕ) → (c ≡ 43) ⊎ (c ≡ 45) → Fits (c ∷ l)
-      → SignRest (c == 45) K l → Then (PlainText {A = A}) K (c ∷ l)
-  pub inf : (l : List ℕ) → Fits (105 ∷ l) → Word K letters.Nf l
-      → Then (PlainText {A = A}) K (105 ∷ l)
-  pub nan : (l : List ℕ) → Fits (110 ∷ l) → Word K letters.An l
-      → Then (PlainText {A = A}) K (110 ∷ l)
 
 word_text : {O : Type 0} {K : List ℕ → Type 0} {l : List ℕ} (o : O) (c : ℕ) (w : List ℕ)
     → (ys : List ℕ) → l ≡ w ++ ys → K ys → Then (Spelled (c ∷ w) o) K (c ∷ l)
@@ -83,9 +76,7 @@ unfolding ValueText
 scalar_at zero x = x
 scalar_at (suc n) x = right _ (right _ x)
 
-module _ {A : Type 0} (alloc : A) (level : ℕ)
-    (numbers : (held : List Bracket) → ReadsNumbers A (After A level held)) (c : ℕ) (l : List ℕ)
-    (whole : Fits (c ∷ l)) where
+module _ {A : Type 0} (alloc : A) (level : ℕ) (c : ℕ) (l : List ℕ) (whole : Fits (c ∷ l)) where
   abbrev Leads : List Bracket → Step → Type 0
   Leads held s = Led A level held l s
 
@@ -185,9 +176,6 @@ module _ {A : Type 0} (alloc : A) (level : ℕ)
     abbrev Valued : ℕ → Type 0
     Valued b = Then (ValueAt A level held) (After A level held) (b ∷ l)
 
-    abbrev Fitted : ℕ → Type 0
-    Fitted b = Fits (b ∷ l) → Valued b
-
     scalar : (b : ℕ) → Then (ScalarText {A = A}) (After A level held) (b ∷ l) → Valued b
     scalar b x = scalar_at (level - length held) x
 
@@ -199,19 +187,26 @@ module _ {A : Type 0} (alloc : A) (level : ℕ)
     unfolding ValueText After
     array_back x =
         let (few, y) = after_open held brackets.Array x in
-        let P : ℕ → Type 0 = λ n. Then (ValueText {A = A} n) (After A level held) (91 ∷ l) in
-        subst P (sym (deeper brackets.Array few)) (left _ (array_made alloc less y))
+        rw (deeper brackets.Array few) (left _ (array_made alloc less y))
 
     table_back : Leads held (steps.Opens brackets.Table) → Valued 123
     unfolding ValueText After
     table_back x =
         let (few, y) = after_open held brackets.Table x in
-        let P : ℕ → Type 0 = λ n. Then (ValueText {A = A} n) (After A level held) (123 ∷ l) in
-        subst P (sym (deeper brackets.Table few)) (right _ (left _ (inline_made alloc _ less
+        rw (deeper brackets.Table few) (right _ (left _ (inline_made alloc _ less
         (behind less (λ ys f k. elim k [ inl e ↦ inl e | inr n ↦ inr (pair_made alloc f n) ]) y))))
 
-    plain : (b : ℕ) → Then (PlainText {A = A}) (After A level held) (b ∷ l) → Valued b
-    plain b x = scalar b (right _ (right _ (right _ (right _ x))))
+    -- a value without quotes, where what is taken may have a space after a date
+    plain : (b : ℕ) → Fits (b ∷ l) → Front Plain (After A level held) (b ∷ l) → Valued b
+    plain b fits t =
+        let (o, xs, ys, is, e, k) = parts t in
+        let (v, zs, text, spaced) = plain_read alloc xs (fit_parts (b ∷ l) xs ys e fits).0 is in
+        scalar b (right _ (right _ (right _ (right _ (elim spaced [
+          | inl same ↦ to v zs ys text (e ∙ ap (λ m. m ++ ys) same) k
+          | inr more ↦ to v zs (32 ∷ ys) text
+              (e ∙ ap (λ m. m ++ ys) more ∙ append_assoc zs (32 ∷ []) ys)
+              (blank_after A level held 32 ys (inl refl) k)
+        ])))))
 
     plain_back : Leads held (plain_step c) → Valued c
     plain_back x =
@@ -223,24 +218,24 @@ module _ {A : Type 0} (alloc : A) (level : ℕ)
         (λ y. let (ys, e, k) = goes (modes.Word letters.Alse) y in
         scalar 102 (right _ (right _ (right _ (left _ (for _ (λ o. (values.Boolean o, refl))
         (word_text false 102 (word_of letters.Alse) ys e k)))))))
-        (λ e1 y. at Fitted c 105 _ _
-        (λ y fits. plain 105 ((numbers held).inf l fits (goes (modes.Word letters.Nf) y)))
-        (λ e2 y. at Fitted c 110 _ _
-        (λ y fits. plain 110 ((numbers held).nan l fits (goes (modes.Word letters.An) y)))
-        (λ e3 y fits. test (c == 43 || c == 45) _ _
-        (λ e y. plain c ((numbers held).signed c l (sign e) fits
-        (goes (modes.Sign (c == 45)) y)))
-        (λ e4 y. at Fitted c 48 _ _
-        (λ y fits. plain 48 ((numbers held).zero l fits (goes (modes.Number figures.Zero) y)))
-        (λ e5 y fits. test (is_digit c) _ _
+        (λ e1 y. plain c whole (at (λ b. Front Plain (After A level held) (b ∷ l)) c 105 _ _
+        (λ y. let (ys, e, k) = goes (modes.Word letters.Nf) y in
+        to tt inf_word ys (inl (inl refl)) (ap (λ m. 105 ∷ m) e) k)
+        (λ e2 y. at (λ b. Front Plain (After A level held) (b ∷ l)) c 110 _ _
+        (λ y. let (ys, e, k) = goes (modes.Word letters.An) y in
+        to tt nan_word ys (inl (inr (inl refl))) (ap (λ m. 110 ∷ m) e) k)
+        (λ e3 y. test (c == 43 || c == 45) _ _
+        (λ e y. more_front c (λ xs is. with_sign c xs (grind (arith, nat_tests, e)) is)
+        (goes (modes.Sign (c == 45)) y))
+        (λ e4 y. at (λ b. Front Plain (After A level held) (b ∷ l)) c 48 _ _
+        (λ y. more_front 48 (λ xs is. inl (from_zero xs is))
+        (goes (modes.Number figures.Zero) y))
+        (λ e5 y. test (is_digit c) _ _
         (λ e y.
         let range : (49 ≤ c) × (c ≤ 57) = grind (arith, nat_tests, e5, e) in
-        plain c ((numbers held).digit c l fits range.0 range.1
-        (goes (modes.Number (figures.Whole _)) y)))
-        (λ e y. never y) y) y fits) y) y) y whole) y) x
-      where
-        sign : (c == 43 || c == 45) ≡ true → (c ≡ 43) ⊎ (c ≡ 45)
-        sign e = grind (arith, nat_tests, e)
+        more_front c (λ xs is. inl (from_digit xs c range.0 range.1 is))
+        (goes (modes.Number (figures.Whole _)) y))
+        (λ e y. never y) y) y) y) y) y)) y) x
 
     pub value_back : Leads held (value_step c) → Valued c
     value_back x =
@@ -383,13 +378,13 @@ module _ {A : Type 0} (alloc : A) (level : ℕ)
 
   pub figure_back : (held : List Bracket) (f : Figure)
       → Leads held (number_goes (figure_step f c) (ends_figure f) (last_open held) c)
-      → Figures (After A level held) f (c ∷ l)
-  figure_back held f x = by (figure_step f c) (ends_figure f) refl x
+      → Front (Figures f) (After A level held) (c ∷ l)
+  figure_back held f x = by (figure_step f c) refl x
     where
-      by : (o : Option Figure) (ends : Bool) → ends_figure f ≡ ends
-          → Leads held (number_goes o ends (last_open held) c)
-          → ((ends_figure f ≡ true) × After A level held (c ∷ l))
-          ⊎ AfterFigure (λ g. Figures (After A level held) g l) o
-      by (Some g) ends e x = inr (goes (modes.Number g) x)
-      by None true e x = inl (e, after_back held x)
-      by None false e x = never x
+      by : (o : Option Figure) → figure_step f c ≡ o
+          → Leads held (number_goes o (ends_figure f) (last_open held) c)
+          → Front (Figures f) (After A level held) (c ∷ l)
+      by (Some g) e x = more_front c (λ xs is. took f g c xs e is) (goes (modes.Number g) x)
+      by None e x =
+          test (ends_figure f) _ _ (λ ends y. to tt [] (c ∷ l) ends refl (after_back held y))
+          (λ not y. never y) x

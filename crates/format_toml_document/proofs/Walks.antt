@@ -69,10 +69,8 @@ module _ {tokens : List ℕ → Type 0} {class : ℕ → Type 0}
   }
 
   pub members_front : (least : ℕ) → InFront (Members text_reading class least) tokens tokens
-  unfolding Members
-  members_front least = record {
-    makes = λ slice xs rest (all, enough, shown) x. all_front xs rest all x;
-  }
+  unfolding Members Run
+  members_front least = run_front least
 
 pub space_by : (P : ℕ → Type 0) → P 32 → P 9 → (c : ℕ) → IsSpace c → P c
 space_by P s t c (inl e) = subst P (sym e) s

@@ -22,16 +22,17 @@ use Rattle.format_toml_tree.specs.declared.value.Item.{Item}
 use Rattle.format_toml_document.proofs.Backs.{Led, bare_is, basic_back, behind_back, blank_is}
 use Rattle.format_toml_document.proofs.Backs.{escaped_back, goes, literal_back, quote_back}
 use Rattle.format_toml_document.proofs.Backs.{sign_back, spaced_back, test, word_back}
+use Rattle.format_toml_document.proofs.Escapes.{escape_back}
 use Rattle.format_toml_document.proofs.LongBacks.{long_back, long_blank_back, long_escape_back}
 use Rattle.format_toml_document.proofs.LongBacks.{long_return_back, quotes_back}
 use Rattle.format_toml_document.proofs.Parts.{lines_made, newline_long}
 use Rattle.format_toml_document.proofs.Rests.{After, Rest}
 use Rattle.format_toml_document.proofs.Thens.{Fits, cons, fit_parts, least_counts, listed, nil}
-use Rattle.format_toml_document.proofs.Thens.{none, parts, run_more, run_none, token, members_none}
-use Rattle.format_toml_document.proofs.Values.{ReadsNumbers, after_back, closing_back, comment_back}
-use Rattle.format_toml_document.proofs.Values.{element_back, blank_after, figure_back, first_back}
+use Rattle.format_toml_document.proofs.Thens.{none, parts, run_more, run_none, to, token}
+use Rattle.format_toml_document.proofs.Thens.{members_none}
+use Rattle.format_toml_document.proofs.Values.{after_back, closing_back, comment_back}
+use Rattle.format_toml_document.proofs.Values.{element_back, figure_back, first_back}
 use Rattle.format_toml_document.proofs.Values.{header_back, line_back, return_step, value_back}
-use Rattle.format_toml_document.proofs.Zeros.{reads}
 use Rattle.format_toml_errors.specs.Figures.{ends_figure, figure_step}
 use Rattle.format_toml_errors.specs.declared.escapes.Escape.TheVariants as escapes
 use Rattle.format_toml_errors.specs.declared.escapes.Escaped.{Escaped}
@@ -79,19 +80,15 @@ number_ends None true k e = (refl, e)
 number_ends None false k e = true_not_false (sym e)
 
 module _ {A : Type 0} (alloc : A) (level : ℕ) where
-  numbers : (held : List Bracket) → ReadsNumbers A (After A level held)
-  numbers held =
-      reads alloc (After A level held) (λ l x. blank_after A level held 32 l (inl refl) x)
-
   module _ (c : ℕ) (l : List ℕ) (fits : Fits (c ∷ l)) (held : List Bracket) where
     back : (mode : Mode) → Led A level held l (next_step mode (last_open held) c)
         → Rest A level mode held (c ∷ l)
-    back modes.Line x = line_back alloc level numbers c l fits held x
-    back (modes.Comment gap) x = comment_back alloc level numbers c l fits gap held x
-    back (modes.Return gap) x = return_step alloc level numbers c l fits gap held x
-    back modes.Header x = header_back alloc level numbers c l fits held x
-    back modes.Closing x = closing_back alloc level numbers c l fits held x
-    back modes.FirstName x = first_back alloc level numbers c l fits held x
+    back modes.Line x = line_back alloc level c l fits held x
+    back (modes.Comment gap) x = comment_back alloc level c l fits gap held x
+    back (modes.Return gap) x = return_step alloc level c l fits gap held x
+    back modes.Header x = header_back alloc level c l fits held x
+    back modes.Closing x = closing_back alloc level c l fits held x
+    back modes.FirstName x = first_back alloc level c l fits held x
     back (modes.Name owner) x =
         spaced_back A level held l alloc c fits (modes.Name owner) owner (λ y. y) x
     back (modes.Bare owner) x =
@@ -100,32 +97,33 @@ module _ {A : Type 0} (alloc : A) (level : ℕ) where
     back (modes.Behind owner) x = behind_back A level held l alloc c fits owner x
     back modes.Value x =
         test _ _ _ (λ e y. run_more _ c (blank_is c e) (goes modes.Value y))
-        (λ e y. run_none _ (value_back alloc level numbers c l fits held y)) x
-    back modes.Item x = element_back alloc level numbers c l fits held x
-    back modes.After x = after_back alloc level numbers c l fits held x
+        (λ e y. run_none _ (value_back alloc level c l fits held y)) x
+    back modes.Item x = element_back alloc level c l fits held x
+    back modes.After x = after_back alloc level c l fits held x
     back (modes.Basic role) x = basic_back A level held l alloc c fits role x
     back (modes.Escaped role e) x =
-        escaped_back A level held l alloc c fits role (escape_step e c) x
+        escape_back e c (escape_step e c) refl
+        (escaped_back A level held l alloc c fits role (escape_step e c) x)
     back (modes.Literal role) x = literal_back A level held l alloc c fits role x
     back (modes.Quote mark) x = quote_back A level held l alloc c fits mark x
     back (modes.Quotes mark) x =
         quotes_back alloc level held c l fits
-        (λ y. after_back alloc level numbers c l fits held y) mark x
+        (λ y. after_back alloc level c l fits held y) mark x
     back (modes.Long mark quotes) x =
         long_back alloc level held c l fits
-        (λ y. after_back alloc level numbers c l fits held y) mark quotes x
+        (λ y. after_back alloc level c l fits held y) mark quotes x
     back (modes.LongReturn mark) x =
         long_return_back alloc level held c l fits
-        (λ y. after_back alloc level numbers c l fits held y) mark x
+        (λ y. after_back alloc level c l fits held y) mark x
     back (modes.LongEscape e) x =
         long_escape_back alloc level held c l fits
-        (λ y. after_back alloc level numbers c l fits held y) e x
+        (λ y. after_back alloc level c l fits held y) e x
     back modes.LongBlank x =
         long_blank_back alloc level held c l fits
-        (λ y. after_back alloc level numbers c l fits held y) x
+        (λ y. after_back alloc level c l fits held y) x
     back (modes.Word rest) x = word_back A level held l alloc c fits rest x
     back (modes.Sign negative) x = sign_back A level held l alloc c fits negative x
-    back (modes.Number f) x = figure_back alloc level numbers c l fits held f x
+    back (modes.Number f) x = figure_back alloc level c l fits held f x
 
   -- ---- where a text may end
 
@@ -164,7 +162,7 @@ module _ {A : Type 0} (alloc : A) (level : ℕ) where
   ends (modes.Long marks.Literal quotes) held e = long_ends held marks.Literal quotes e
   ends (modes.Number f) held e =
       let (whole, after) = number_ends (figure_step f 10) (ends_figure f) (last_open held) e in
-      (whole, after_ends held after)
+      to tt [] [] whole refl (after_ends held after)
   ends (modes.Bare owner) held e = true_not_false (sym e ∙ key_goes owner)
   ends (modes.Behind owner) held e = true_not_false (sym e ∙ key_goes owner)
   ends (modes.Escaped role f) held e = true_not_false (sym e ∙ string_goes role (escape_step f 10))
