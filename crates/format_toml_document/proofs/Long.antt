@@ -17,7 +17,7 @@ use Rattle.format_toml.specs.Toml.{EscapedLines, IsOf, NewlineText, IsBare, IsKe
 use Rattle.format_toml.specs.Toml.{NameText, Spaced}
 use Rattle.format_toml_errors.specs.Accepted.{after_done, by, Next}
 use Rattle.format_toml_errors.specs.Stop.{At}
-use Rattle.format_toml_errors.specs.Endings.{long_more}
+use Rattle.format_toml_errors.specs.Accepted.{long_more}
 use Rattle.format_toml_errors.specs.Steps.{after_step, content_step, in_long, long_step, mark_of}
 use Rattle.format_toml_errors.specs.Steps.{next_step, string_step, behind_step, is_bare, name_step}
 use Rattle.format_toml_errors.specs.Unclosed.{last_open}

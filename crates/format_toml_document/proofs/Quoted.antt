@@ -12,7 +12,7 @@ use Rattle.format_parts.specs.Words.{Whichever, latter, to_four, Between, One, f
 use Rattle.format_toml.specs.Toml.{EscapeText, IsWide, StandsFor, BasicText, IsOf, LiteralText}
 use Rattle.format_toml_errors.specs.Accepted.{both_ways, by, Next}
 use Rattle.format_toml_errors.specs.Stop.{At}
-use Rattle.format_toml_errors.specs.Endings.{is_letter}
+use Rattle.format_toml_errors.specs.Accepted.{is_letter}
 use Rattle.format_toml_errors.specs.Escapes.{escape_step, is_hex, more_if}
 use Rattle.format_toml_errors.specs.declared.escapes.Escape.{Escape}
 use Rattle.stream_sets.specs.Accumulator.Holds.{HasCharacters}
