@@ -1,24 +1,26 @@
 -- Lemmas about the position and the contents of a `TomlError`.
 use Rattle.std.specs.Prelude.{◌≡◌, ◌⊎◌, ◌-◌, ℕ, List, [], ◌∷◌, ◌++◌, Option, Some, length, take}
-use Rattle.std.specs.Prelude.{Err, IfOk, Ok, Result}
+use Rattle.std.specs.Prelude.{◌<◌, ◌^◌, Err, IfOk, Ok, Result, true}
 use Rattle.std.specs.Borrow.{Bor}
-use Rattle.std.specs.Str.{IsCharBoundary, IsUtf8, chars, encode_utf8_all}
+use Rattle.std.specs.Str.{IsCharBoundary, IsUtf8, all_scalars, chars, encode_utf8_all}
 use Rattle.std.specs.declared.vec.Vec.{Vec}
 use Rattle.std.proofs.Common.{inl, inr, refl, sym, ap, subst, ◌∙◌, arith, append_assoc}
 use Rattle.std.proofs.Common.{length-append}
 use Rattle.std.proofs.Math.Seq.{take-append_seam}
+use Rattle.std.proofs.lemmas.Bool.{and_from, and_parts}
 use Rattle.std.proofs.lemmas.Str.{IsCharBoundary-at_seam, IsUtf8-take, encodes-append}
-use Rattle.std.proofs.lemmas.Str.{encodes-chars}
+use Rattle.std.proofs.lemmas.Str.{encodes-chars, scalars-chars}
 use Rattle.format_toml.specs.Starts.{IsStart, line_end}
 use Rattle.format_toml.specs.Toml.{DocumentText}
 use Rattle.format_toml_document.specs.Fault.{IsAfter, IsDocument, IsErrorOf, IsLocation, IsOpening}
-use Rattle.format_toml_document.specs.Fault.{IsRefusal, IsUnexpected, NoneBegins}
+use Rattle.format_toml_document.specs.Fault.{IsRefusal, IsUnexpected, NoneBegins, OneBegins}
 use Rattle.format_toml_document.proofs.Documents.{none_begins}
+use Rattle.format_toml_document.proofs.Thens.{scalars_parts}
+use Rattle.format_toml_document.proofs.Whole.{only_documents}
 use Rattle.format_toml_document.specs.declared.fault.TomlError.{TomlError}
 use Rattle.format_toml_document.specs.declared.fault.TomlError.TheVariants as faults
 use Rattle.format_toml_document.specs.declared.fault.Location.{Location}
-use Rattle.format_toml_errors.specs.Stop.{IsStopIn, StopsAt}
-use Rattle.format_toml_errors.specs.declared.expected.Expected.{Expected}
+use Rattle.format_toml_errors.specs.Stop.{IsCompletable, IsStopIn, IsStopped}
 use Rattle.format_toml_errors.specs.Unclosed.{IsUnclosed, text_of, unclosed_is_end}
 use Rattle.format_toml_errors.specs.declared.walk.Stop.{Stop}
 use Rattle.format_toml_tree.specs.Runs.{Gives, empty}
@@ -66,33 +68,54 @@ opening_told text stop start at is after unclosed =
     unclosed_is_end (chars text) (chars stop.rest.now) (Some (chars start.now)) found in
     (start.now, found, after front e)
 
--- no document begins with the text before such a place and the character there
-none_told : (A : Type 0) (level : ℕ) (tokens rest : List ℕ) (expected : Expected)
-    → StopsAt level tokens rest expected
-    → (front : List ℕ) × (tokens ≡ front ++ rest) × NoneBegins A level front rest
-none_told A level tokens [] expected (front, e, may, stopped, wants) = (front, e, tt)
-none_told A level tokens (c ∷ rest) expected (front, e, may, stopped, wants) = (
-  front,
-  e,
-  λ more lines text.
-      none_begins level (front ++ c ∷ []) more stopped lines
-      (subst (λ l. DocumentText level lines l) (sym (append_assoc front (c ∷ []) more)) text),
-)
+-- no document begins with the text before such a position and the character there
+none_told : (A : Type 0) (level : ℕ) (front rest : List ℕ) → IsStopped level front rest
+    → NoneBegins A level front rest
+none_told A level front [] stopped = tt
+none_told A level front (c ∷ rest) stopped = λ more lines text.
+    none_begins level (front ++ c ∷ []) more stopped lines
+    (subst (λ l. DocumentText level lines l) (sym (append_assoc front (c ∷ []) more)) text)
 
-pub unexpected_told : (A : Type 0) (level : ℕ) (text : List ℕ) (stop : Stop) (at : Location)
-    (unclosed : Option Location) → IsStopIn level (chars text) (Some stop)
+scalars_both : (xs ys : List ℕ) → all_scalars xs ≡ true → all_scalars ys ≡ true
+    → all_scalars (xs ++ ys) ≡ true
+scalars_both [] ys one two = two
+scalars_both (x ∷ xs) ys one two =
+    let (first, more) = and_parts _ (all_scalars xs) one in
+    and_from _ _ first (scalars_both xs ys more two)
+
+-- a document begins with what the walk accepts
+pub one_told : {A : Type 0} (alloc : A) (level : ℕ) (front : List ℕ) → all_scalars front ≡ true
+    → length front < 2 ^ 58 → IsCompletable level front → OneBegins A level front
+one_told alloc level front scalars few (more, accepted, permitted, short) =
+    let (lines, text) =
+    only_documents alloc level (front ++ more) (scalars_both front more scalars permitted)
+    (omega (arith, few, short, length-append front more)) accepted in
+    (more, lines, text)
+
+pub unexpected_told : {A : Type 0} (alloc : A) (level : ℕ) (text : List ℕ) (stop : Stop)
+    (at : Location) (unclosed : Option Location) → IsUtf8 text
+    → IsStopIn level (chars text) (Some stop)
     → ((front : List ℕ) → chars text ≡ front ++ chars stop.rest.now
     → IsAfter text stop.rest.now at)
     → (IsUnclosed (chars text) (chars stop.rest.now) (text_of stop.unclosed)
     → IsOpening text stop.rest.now unclosed)
     → IsUnexpected A level text (faults.Unexpected at stop.expected unclosed)
-unexpected_told A level text stop at unclosed (stops, starts) after opens = (
-  stop.rest.now,
-  stops,
-  after stops.0 stops.1,
-  opens starts,
-  none_told A level (chars text) (chars stop.rest.now) stop.expected stops,
-)
+unexpected_told {A} alloc level text stop at unclosed utf8 (stops, starts) after opens =
+    let (front, e, completable, stopped, wants) = stops in
+    let P : List ℕ → Type 0 = λ l. all_scalars l ≡ true in
+    let rest = chars stop.rest.now in
+    let scalars = scalars_parts front rest (subst P e (scalars-chars text utf8)) in (
+      stop.rest.now,
+      stops,
+      after front e,
+      opens starts,
+      (
+        front,
+        e,
+        none_told A level front rest stopped,
+        λ few. one_told alloc level front scalars.0 few completable,
+      ),
+    )
 
 module _ (A : Type 0) (level : ℕ) (text : List ℕ) where
   pub refusal_told : (n : ℕ) (why : Reason) (rest : Bor (List ℕ)) (at : Location)

@@ -8,7 +8,7 @@ use Rattle.format_parts.specs.Words.{One}
 use Rattle.stream_sets.specs.AsChar.{IsSpace}
 use Rattle.format_toml.specs.Toml.{IsShown, NewlineText, WsText}
 use Rattle.format_toml_errors.specs.Accepted.{both_ways, true_not_false}
-use Rattle.format_toml_errors.specs.Endings.{is_letter}
+use Rattle.format_toml_errors.specs.Accepted.{is_letter}
 use Rattle.format_toml_errors.specs.Escapes.{escape_step}
 use Rattle.format_toml_errors.specs.Steps.{after_step, blank_or, content_step, in_long, is_blank}
 use Rattle.format_toml_errors.specs.Steps.{is_shown, long_escape_step, long_shown, long_step}

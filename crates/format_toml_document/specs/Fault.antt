@@ -1,5 +1,5 @@
 -- The definition of a document, and of the `TomlError` of a text.
-use Rattle.std.specs.Prelude.{◌≡◌, ◌++◌, ℕ, List, [], ◌∷◌, Option, Some, None, Ok, Err}
+use Rattle.std.specs.Prelude.{◌≡◌, ◌<◌, ◌^◌, ◌++◌, ℕ, List, [], ◌∷◌, Option, Some, None, Ok, Err}
 use Rattle.std.specs.Prelude.{length, take, ⊤}
 use Rattle.std.specs.Str.{IsCharBoundary, IsUtf8, chars}
 use Rattle.std.specs.Str.Lossy.{utf8_valid_len}
@@ -61,16 +61,22 @@ NoneBegins A level front (c ∷ rest) =
     (more : List ℕ) (lines : Vec (Option (Item A)) A) → DocumentText level lines (front ++ c ∷ more)
     → ⊥
 
+-- `OneBegins A level front`: some document of the level begins with `front`.
+abbrev pub OneBegins : Type 0 → ℕ → List ℕ → Type 0
+OneBegins A level front =
+    (more : List ℕ) × (lines : Vec (Option (Item A)) A) × DocumentText level lines (front ++ more)
+
 -- The first character with which no document of the level continues, or the end of the text if all
--- are a prefix of one, by the walk; what is expected there, and what is not closed. No document
--- begins with the text before it and this character, and the walk accepts a text that begins with
--- the text before it.
+-- are a prefix of one; what is expected there, and what is not closed. No document begins with the
+-- text before it and this character. Some document begins with the text before it, if this has
+-- fewer than 2^58 characters, as strings and lists have a greatest length.
 abbrev pub IsUnexpected : Type 0 → ℕ → List ℕ → TomlError → Type 0
 IsUnexpected A level text (faults.Unexpected at expected unclosed) =
     (rest : List ℕ) × StopsAt level (chars text) (chars rest) expected × IsAfter text rest at
     × IsOpening text rest unclosed
     × ((front : List ℕ) × (chars text ≡ front ++ chars rest)
-    × NoneBegins A level front (chars rest))
+    × NoneBegins A level front (chars rest)
+    × (length front < 2 ^ 58 → OneBegins A level front))
 IsUnexpected A level text faults.OutOfMemory = ⊤
 IsUnexpected A level text other = ⊥
 

@@ -58,8 +58,9 @@ impl Display for Location {
 #[derive(Clone, Copy, Debug, PartialEq, Eq, Drop)]
 pub enum TomlError {
     /// A syntax error: no document of the level starts with the text up to the position and the
-    /// character there, or the text ends there and is incomplete. This error comes first, also if
-    /// an earlier line defines a key twice.
+    /// character there, or the text ends there and is incomplete. Some document starts with the
+    /// text up to the position. This error comes first, also if an earlier line defines a key
+    /// twice.
     Unexpected {
         /// The position of that character, or the end of the text.
         at: Location,

@@ -1,6 +1,6 @@
 //! Laws that follow from the contracts.
 ghost use Rattle.format_toml.specs.Toml.{DocumentText};
-ghost use Rattle.format_toml_document.specs.Fault.{IsDocument, IsErrorOf};
+ghost use Rattle.format_toml_document.specs.Fault.{IsDocument, IsErrorOf, OneBegins};
 ghost use Rattle.format_toml_document.specs.declared.fault.TomlError.{TomlError};
 ghost use Rattle.format_toml_document.specs.declared.fault.TomlError.TheVariants as faults;
 ghost use Rattle.format_toml_document.specs.declared.fault.Location.{Location};
@@ -14,6 +14,7 @@ ghost use Rattle.std.specs.Prelude.{length, true};
 ghost use Rattle.std.specs.Str.{IsUtf8, all_scalars};
 ghost use Rattle.std.specs.declared.vec.Vec.{Vec};
 
+use format_toml_errors::laws::each_prefix_is_completable;
 use std::alloc::Allocator;
 
 /// If bytes have a tree, no [`TomlError`] for them is that they are not lines, or not UTF-8. It can
@@ -82,6 +83,25 @@ pub fn the_walk_accepts_only_documents<A: Allocator>()
         → length text < 2 ^ 60 → IsAccepted level text
         → (lines : Vec (Option (Item A)) A) × DocumentText level lines text }
 {}
+
+/// Characters that the walk of [`first_stop`](format_toml_errors::walk::first_stop) accepts at a
+/// level begin a document of this level, if they are fewer than 2^58, and Unicode permits them. So
+/// the walk stops at the first character with which no document continues.
+///
+/// ```
+/// use format_toml_document::laws::a_document_begins_with_accepted_characters;
+/// use std::alloc::Allocator;
+///
+/// fn of_an_allocator<A: Allocator>() {
+///     a_document_begins_with_accepted_characters::<A>();
+/// }
+/// ```
+pub fn a_document_begins_with_accepted_characters<A: Allocator>()
+    ensures { (level : ℕ) (alloc : A) (front : List ℕ) → all_scalars front ≡ true
+        → length front < 2 ^ 58 → MayBegin level front → OneBegins A level front }
+{
+    each_prefix_is_completable();
+}
 
 /// Characters that the walk of [`first_stop`](format_toml_errors::walk::first_stop) rejects at a
 /// level begin no document of this level. No continuation of them is the text of lines.

@@ -1,3 +1,5 @@
+mod Endings
 mod Opened
+mod Reached
 mod Starts
 mod Walked

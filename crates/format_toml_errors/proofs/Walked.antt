@@ -5,7 +5,7 @@ use Rattle.std.specs.Prelude.{slice_get, true, false}
 use Rattle.std.proofs.Common.{ap, append_assoc, arith, inl, inr, refl, subst, sym, ◌∙◌}
 use Rattle.std.proofs.lemmas.List.{append-nil}
 use Rattle.format_toml_errors.proofs.Opened.{kept, kept_last, kept_length}
-use Rattle.format_toml_errors.specs.Endings.{completed}
+use Rattle.format_toml_errors.proofs.Endings.{completed}
 use Rattle.format_toml_errors.specs.Expected.{wanted, wanted_at}
 use Rattle.format_toml_errors.specs.Steps.{next_step}
 use Rattle.format_toml_errors.specs.Stop.{At, IsAccepted, IsCompletable, IsNextStep, IsViablePrefix}

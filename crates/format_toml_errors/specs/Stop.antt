@@ -1,7 +1,7 @@
 -- The offset at which a text is no longer a prefix of a document, and what is expected there.
-use Rattle.std.specs.Prelude.{◌≡◌, ◌⊎◌, ◌↔◌, ◌<◌, ℕ, List, [], ◌∷◌, ◌++◌, Option, Some, None}
-use Rattle.std.specs.Prelude.{length, ⊤, Bool, true, false}
-use Rattle.std.specs.Str.{chars}
+use Rattle.std.specs.Prelude.{◌≡◌, ◌⊎◌, ◌↔◌, ◌<◌, ◌≤◌, ◌+◌, ℕ, List, [], ◌∷◌, ◌++◌}
+use Rattle.std.specs.Prelude.{length, ⊤, Bool, true, false, Option, Some, None}
+use Rattle.std.specs.Str.{all_scalars, chars}
 use Rattle.format_toml_errors.specs.Expected.{wanted, wanted_at}
 use Rattle.format_toml_errors.specs.Steps.{next_step}
 use Rattle.format_toml_errors.specs.Unclosed.{IsUnclosed, last_open, opened, others_open, text_of}
@@ -87,9 +87,12 @@ At level mode held (c ∷ tokens) =
 abbrev pub IsAccepted : ℕ → List ℕ → Type 0
 IsAccepted level tokens = At level modes.Line [] tokens
 
--- `IsCompletable level front`: the walk accepts some text that begins with `front`.
+-- `IsCompletable level front`: the walk accepts some text that begins with `front`. The rest of it
+-- has at most 16 characters more than `front`, all permitted by Unicode.
 abbrev pub IsCompletable : ℕ → List ℕ → Type 0
-IsCompletable level front = (more : List ℕ) × IsAccepted level (front ++ more)
+IsCompletable level front =
+    (more : List ℕ) × IsAccepted level (front ++ more) × (all_scalars more ≡ true)
+    × (length more ≤ length front + 16)
 
 -- `StopsAt level tokens rest expected`: the first token with which no document continues is the
 -- first of `rest`, and this is expected instead; or all are a prefix of one and not one.

@@ -1,15 +1,14 @@
 -- The modes that a walk reaches: in a date or a number, which counts of digits and of days, and
 -- which numbers before an underscore.
-use Rattle.std.specs.Prelude.{◌≡◌, ◌⊎◌, ◌≤◌, ◌==◌, ℕ, Bool, true, false, Option, Some, None}
+use Rattle.std.specs.Prelude.{◌≡◌, ◌≤◌, ◌==◌, ℕ, zero, suc, Bool, true, false, Option, Some, None}
 use Rattle.std.specs.Prelude.{⊤, nat_lt, if◌then◌else◌}
-use Rattle.std.proofs.Common.{refl, sym, subst, inl, inr, arith}
+use Rattle.std.proofs.Common.{sym, subst, inl, inr, arith}
 use Rattle.std.proofs.lemmas.Bool.Decides.{nat_tests}
 use Rattle.format_toml_errors.specs.Escapes.{escape_step}
 use Rattle.format_toml_errors.specs.Figures.{based_if, ends_figure, figure_if, figure_step}
-use Rattle.format_toml_errors.specs.Figures.{lead_step, limit_of, moment_as, next_digit}
-use Rattle.format_toml_errors.specs.Moments.{clock_step, date_step, days_of, digit, first_of}
-use Rattle.format_toml_errors.specs.Moments.{is_leap, moment_step, offset_start}
-use Rattle.format_toml_errors.specs.Moments.{offset_step}
+use Rattle.format_toml_errors.specs.Figures.{lead_step, limit_of, moment_as}
+use Rattle.format_toml_errors.specs.Moments.{clock_step, date_step, days_of, first_of}
+use Rattle.format_toml_errors.specs.Moments.{is_leap, moment_step, offset_step}
 use Rattle.format_toml_errors.specs.Steps.{after_step, behind_step}
 use Rattle.format_toml_errors.specs.Steps.{content_step, else_item, else_line, end_of, in_line}
 use Rattle.format_toml_errors.specs.Steps.{in_long, in_string, long_escape_step}
@@ -52,123 +51,101 @@ IsMoment (moments.Day days) = 1 ≤ days
 IsMoment (moments.DayEnd days tens) = 1 ≤ days
 IsMoment _ = ⊤
 
-MayMoment : Option Moment → Type 0
-MayMoment None = ⊤
-MayMoment (Some m) = IsMoment m
+May : {X : Type 0} → (X → Type 0) → Option X → Type 0
+May P None = ⊤
+May P (Some x) = P x
 
-no_moment : MayMoment None
-unfolding MayMoment
-no_moment = tt
+module _ {X : Type 0} (P : X → Type 0) where
+  nothing : May P None
+  unfolding May
+  nothing = tt
 
-some_moment : (m : Moment) → IsMoment m → MayMoment (Some m)
-unfolding MayMoment
-some_moment m x = x
+  something : (x : X) → P x → May P (Some x)
+  unfolding May
+  something x is = is
 
-either_moment : (b : Bool) (o p : Option Moment) → MayMoment o → MayMoment p
-    → MayMoment (if b then o else p)
-either_moment true o p x y = x
-either_moment false o p x y = y
+  either : (b : Bool) (o p : Option X) → May P o → May P p → May P (if b then o else p)
+  either true o p x y = x
+  either false o p x y = y
 
-first_moment : (o p : Option Moment) → MayMoment o → MayMoment p → MayMoment (first_of o p)
+first_moment : (o p : Option Moment) → May IsMoment o → May IsMoment p
+    → May IsMoment (first_of o p)
 first_moment (Some m) p x y = x
 first_moment None p x y = y
 
 days_some : (leap one : Bool) (c : ℕ) → 1 ≤ days_of leap one c
 days_some leap one c = grind (arith, nat_tests)
 
-ruleset moments_reached =
-    (no_moment, some_moment, either_moment, first_moment, days_some)
+ruleset moments_reached = (nothing, something, either, first_moment, days_some)
 
-date_reached : (m : Moment) (c : ℕ) → IsMoment m → MayMoment (date_step m c)
+date_reached : (m : Moment) (c : ℕ) → IsMoment m → May IsMoment (date_step m c)
 date_reached (moments.MonthEnd leap true) c x = search moments_reached depth 20
 date_reached (moments.MonthEnd leap false) c x = search moments_reached depth 20
 date_reached m c x = search moments_reached depth 20
 
-clock_reached : (m : Moment) (c : ℕ) → MayMoment (clock_step m c)
+clock_reached : (m : Moment) (c : ℕ) → May IsMoment (clock_step m c)
 clock_reached (moments.HourEnd true) c = search moments_reached depth 20
 clock_reached (moments.HourEnd false) c = search moments_reached depth 20
 clock_reached (moments.SecondEnd dated true) c = search moments_reached depth 20
 clock_reached (moments.SecondEnd dated false) c = search moments_reached depth 20
 clock_reached m c = search moments_reached depth 20
 
-start_reached : (dated : Bool) (c : ℕ) → MayMoment (offset_start dated c)
-start_reached true c = search moments_reached depth 20
-start_reached false c = search moments_reached depth 20
-
-offset_reached : (m : Moment) (c : ℕ) → MayMoment (offset_step m c)
+offset_reached : (m : Moment) (c : ℕ) → May IsMoment (offset_step m c)
 offset_reached (moments.OffsetHourEnd true) c = search moments_reached depth 20
 offset_reached (moments.OffsetHourEnd false) c = search moments_reached depth 20
-offset_reached m c = search (start_reached, moments_reached) depth 20
+offset_reached m c = search moments_reached depth 20
 
 -- ---- numbers
 
+abbrev IsLead : ℕ → Type 0
+IsLead (suc (suc zero)) = ⊤
+IsLead (suc (suc (suc zero))) = ⊤
+IsLead (suc (suc (suc (suc zero)))) = ⊤
+IsLead digits = ⊥
+
 -- Two to four digits of a year; and an underscore only where another digit may follow.
 abbrev pub IsFigure : Figure → Type 0
-IsFigure (figures.Lead digits value) = (digits ≡ 2) ⊎ ((digits ≡ 3) ⊎ (digits ≡ 4))
+IsFigure (figures.Lead digits value) = IsLead digits
 IsFigure (figures.BasedMark base value) = nat_lt value (limit_of base) ≡ true
 IsFigure (figures.Moment m) = IsMoment m
 IsFigure _ = ⊤
 
-MayFigure : Option Figure → Type 0
-MayFigure None = ⊤
-MayFigure (Some f) = IsFigure f
-
-no_figure : MayFigure None
-unfolding MayFigure
-no_figure = tt
-
-some_figure : (f : Figure) → IsFigure f → MayFigure (Some f)
-unfolding MayFigure
-some_figure f x = x
-
-either_figure : (b : Bool) (o p : Option Figure) → MayFigure o → MayFigure p
-    → MayFigure (if b then o else p)
-either_figure true o p x y = x
-either_figure false o p x y = y
-
 mark_reached : (base : Base) (value : ℕ)
-    → MayFigure (figure_if (nat_lt value (limit_of base)) (figures.BasedMark base value))
+    → May IsFigure (figure_if (nat_lt value (limit_of base)) (figures.BasedMark base value))
 mark_reached base value = elim (both_ways (nat_lt value (limit_of base))) [
   | inl e ↦
-      let P : Bool → Type 0 = λ b. MayFigure (figure_if b (figures.BasedMark base value)) in
-      subst P (sym e) (some_figure (figures.BasedMark base value) e)
+      let P : Bool → Type 0 = λ b. May IsFigure (figure_if b (figures.BasedMark base value)) in
+      subst P (sym e) (something IsFigure (figures.BasedMark base value) e)
   | inr e ↦
-      let P : Bool → Type 0 = λ b. MayFigure (figure_if b (figures.BasedMark base value)) in
-      subst P (sym e) no_figure
+      let P : Bool → Type 0 = λ b. May IsFigure (figure_if b (figures.BasedMark base value)) in
+      subst P (sym e) (nothing IsFigure)
 ]
 
-based_reached : (base : Base) (o : Option ℕ) → MayFigure (based_if base o)
-based_reached base (Some next) = some_figure (figures.Based base next) tt
-based_reached base None = no_figure
+based_reached : (base : Base) (o : Option ℕ) → May IsFigure (based_if base o)
+based_reached base (Some next) = something IsFigure (figures.Based base next) tt
+based_reached base None = nothing IsFigure
 
-moment_reached : (o : Option Moment) → MayMoment o → MayFigure (moment_as o)
-unfolding MayMoment MayFigure
+moment_reached : (o : Option Moment) → May IsMoment o → May IsFigure (moment_as o)
+unfolding May
 moment_reached (Some m) x = x
 moment_reached None x = tt
 
 ruleset figures_reached =
-    (no_figure, some_figure, either_figure, mark_reached, based_reached, moment_reached)
+    (nothing, something, either, mark_reached, based_reached, moment_reached)
 
 lead_reached : (digits value c : ℕ) → IsFigure (figures.Lead digits value)
-    → MayFigure (lead_step digits value c)
-lead_reached digits value c (inl e) =
-    let P : ℕ → Type 0 = λ n. MayFigure (lead_step n value c) in
-    let third : IsFigure (figures.Lead 3 (next_digit value c)) = inr (inl refl) in
-    subst P (sym e) (search (third, figures_reached) depth 20)
-lead_reached digits value c (inr (inl e)) =
-    let P : ℕ → Type 0 = λ n. MayFigure (lead_step n value c) in
-    let fourth : IsFigure (figures.Lead 4 (next_digit value c)) = inr (inr refl) in
-    subst P (sym e) (search (fourth, figures_reached) depth 20)
-lead_reached digits value c (inr (inr e)) =
-    let P : ℕ → Type 0 = λ n. MayFigure (lead_step n value c) in
-    let month : MayFigure (figure_if (c == 45) (figures.Moment (moments.Month (is_leap value)))) =
-    search figures_reached in
-    subst P (sym e) month
+    → May IsFigure (lead_step digits value c)
+lead_reached (suc (suc zero)) value c x = search figures_reached depth 20
+lead_reached (suc (suc (suc zero))) value c x = search figures_reached depth 20
+lead_reached (suc (suc (suc (suc zero)))) value c x =
+    let month : May IsFigure (figure_if (c == 45)
+    (figures.Moment (moments.Month (is_leap value)))) =
+    search figures_reached in month
+lead_reached digits value c x = absurd x
 
-figure_reached : (f : Figure) (c : ℕ) → IsFigure f → MayFigure (figure_step f c)
+figure_reached : (f : Figure) (c : ℕ) → IsFigure f → May IsFigure (figure_step f c)
 figure_reached figures.Zero c x =
-    let second : IsFigure (figures.Lead 2 (digit c)) = inl refl in
-    search (second, figures_reached) depth 20
+    search figures_reached depth 20
 figure_reached (figures.Lead digits value) c x = lead_reached digits value c x
 figure_reached (figures.Moment m) c x =
     moment_reached (moment_step m c)
@@ -231,7 +208,7 @@ item_or_reached c s x = x
 
 after_reached : (held : Option Bracket) (c : ℕ) → MayReach (after_step held c)
 after_reached (Some brackets.Array) c = search (line_reached, steps_reached) depth 30
-after_reached held c = search (line_reached, steps_reached) depth 30
+after_reached held c = search steps_reached depth 30
 
 behind_reached : (owner : Owner) (c : ℕ) → MayReach (behind_step owner c)
 behind_reached owners.Entry c = search steps_reached depth 30
@@ -265,9 +242,9 @@ rest_reached : (rest : Letters) → IsReached (rest_of rest)
 rest_reached letters.E = tt
 rest_reached rest = tt
 
-number_reached : (o : Option Figure) (ends : Bool) (held : Option Bracket) (c : ℕ) → MayFigure o
+number_reached : (o : Option Figure) (ends : Bool) (held : Option Bracket) (c : ℕ) → May IsFigure o
     → MayReach (number_goes o ends held c)
-unfolding MayFigure
+unfolding May
 number_reached (Some f) ends held c x = goes (modes.Number f) x
 number_reached None ends held c x = search (after_reached, steps_reached)
 
