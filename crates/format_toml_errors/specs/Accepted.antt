@@ -4,14 +4,11 @@ use Rattle.std.specs.Prelude.{Some, None, ◌==◌, ◌&&◌, nat_le, nat_lt, if
 use Rattle.std.proofs.Common.{refl, sym, ap, subst, inl, inr, ◌∙◌, arith, drop}
 use Rattle.std.proofs.Common.{get_or}
 use Rattle.std.proofs.lemmas.Bool.Decides.{nat_tests}
-use Rattle.format_toml_errors.specs.Escapes.{escape_step}
-use Rattle.format_toml_errors.specs.Steps.{next_step, after_step, in_long, number_goes}
+use Rattle.format_toml_errors.specs.Steps.{next_step, after_step, number_goes}
 use Rattle.format_toml_errors.specs.Stop.{At, IsNextStep, IsViablePrefix, is_end}
 use Rattle.format_toml_errors.specs.Unclosed.{last_open, opened, others_open}
 use Rattle.format_toml_errors.specs.declared.escapes.Escape.{Escape}
 use Rattle.format_toml_errors.specs.declared.escapes.Escape.TheVariants as escapes
-use Rattle.format_toml_errors.specs.declared.escapes.Escaped.{Escaped}
-use Rattle.format_toml_errors.specs.declared.escapes.Escaped.TheVariants as escaped
 use Rattle.format_toml_errors.specs.declared.modes.Bracket.{Bracket}
 use Rattle.format_toml_errors.specs.declared.modes.Mode.{Mode}
 use Rattle.format_toml_errors.specs.declared.modes.Step.{Step}
@@ -211,10 +208,3 @@ after_done level held (c ∷ l) x mode done = elim (one_of enders c) [
 abbrev pub is_letter : Escape → Bool
 is_letter escapes.Letter = true
 is_letter _ = false
-
-pub long_more : (level : ℕ) (held : List Bracket) (e f : Escape) (c : ℕ) (l : List ℕ)
-    → is_letter e ≡ false → escape_step e c ≡ escaped.More f
-    → At level (modes.LongEscape f) held l → At level (modes.LongEscape e) held (c ∷ l)
-long_more level held escapes.Letter f c l not is x = true_not_false not
-long_more level held e f c l not is x =
-    let P : Escaped → Type 0 = λ s. Next level held l (in_long s) in subst P (sym is) x
