@@ -8,9 +8,9 @@ use Rattle.format_toml.specs.Floats.{inf_word, nan_word}
 use Rattle.format_toml.specs.Toml.{IsBare, IsShown, NameText, WsText}
 use Rattle.format_toml_errors.specs.Moments.{is_digit}
 use Rattle.format_toml_errors.specs.Steps.{basic_step, behind_step, end_of, in_line, in_string}
-use Rattle.format_toml_errors.specs.Steps.{is_bare, is_blank, is_shown, key_end, letter_of}
-use Rattle.format_toml_errors.specs.Steps.{line_end, literal_step, mark_of, name_step, back_to}
-use Rattle.format_toml_errors.specs.Steps.{quote_step, rest_of, sign_step, string_step, word_step}
+use Rattle.format_toml_errors.specs.Steps.{is_bare, is_blank, is_shown, key_end, letter_of, mark_of}
+use Rattle.format_toml_errors.specs.Steps.{line_end, literal_step, name_step, back_to, quote_step}
+use Rattle.format_toml_errors.specs.Steps.{rest_of, sign_step, string_step, word_step}
 use Rattle.format_toml_errors.specs.Stop.{IsNextStep}
 use Rattle.format_toml_errors.specs.declared.escapes.Escape.TheVariants as escapes
 use Rattle.format_toml_errors.specs.declared.escapes.Escaped.{Escaped}
@@ -34,12 +34,11 @@ use Rattle.format_toml_document.proofs.Escapes.{escape_text}
 use Rattle.format_toml_document.proofs.Hexes.{AfterEscape, Escapes}
 use Rattle.format_toml_document.proofs.Parts.{bare_made, basic_made, literal_made}
 use Rattle.format_toml_document.proofs.Rests.{After, BasicRest, KeyEnd, KeyTail, LiteralRest, Rest}
-use Rattle.format_toml_document.proofs.Numerals.{Opened, from_digit, from_zero}
 use Rattle.format_toml_document.proofs.Rests.{StringEnd, StringRest, Word, word_of}
-use Rattle.format_toml_document.proofs.Thens.{Fits, Front, Then, behind, both, cons, fit_parts}
-use Rattle.format_toml_document.proofs.Thens.{left, nil}
-use Rattle.format_toml_document.proofs.Thens.{equal, more_front, one, right, run_more, run_none, to}
-use Rattle.format_toml_document.proofs.Thens.{token}
+use Rattle.format_toml_document.proofs.Numerals.{Opened, from_digit, from_zero}
+use Rattle.format_toml_document.proofs.Thens.{Fits, Front, Then, behind, both, cons, fit_parts, nil}
+use Rattle.format_toml_document.proofs.Thens.{left, equal, more_front, one, right, run_more, to}
+use Rattle.format_toml_document.proofs.Thens.{run_none, token}
 
 -- ---- characters
 
@@ -220,23 +219,18 @@ module _ (A : Type 0) (level : ℕ) (held : List Bracket) (l : List ℕ) where
             let (ys, f, k) = goes (modes.Word next) y in
             (ys, ap (λ k. letter_of rest ∷ k) f ∙ ap (λ w. w ++ ys) (sym e), k)
 
-        last : (rest : Letters) → word_of rest ≡ letter_of rest ∷ []
-            → Leads (steps.Goes modes.After)
-            → Word (After A level held) rest (letter_of rest ∷ l)
-        last rest e y = (l, ap (λ w. w ++ l) (sym e), goes modes.After y)
-
         more : (rest : Letters) → Leads (steps.Goes (rest_of rest))
             → Word (After A level held) rest (letter_of rest ∷ l)
         more letters.Rue y = step letters.Rue letters.Ue refl y
         more letters.Ue y = step letters.Ue letters.E refl y
-        more letters.E y = last letters.E refl y
+        more letters.E y = (l, refl, goes modes.After y)
         more letters.Alse y = step letters.Alse letters.Lse refl y
         more letters.Lse y = step letters.Lse letters.Se refl y
         more letters.Se y = step letters.Se letters.E refl y
         more letters.Nf y = step letters.Nf letters.F refl y
-        more letters.F y = last letters.F refl y
+        more letters.F y = (l, refl, goes modes.After y)
         more letters.An y = step letters.An letters.N refl y
-        more letters.N y = last letters.N refl y
+        more letters.N y = (l, refl, goes modes.After y)
 
     abbrev Signed : Bool → ℕ → Type 0
     Signed negative b =

@@ -1,9 +1,8 @@
 -- Integers of other bases: the walk accepts those of the grammar, and no others.
 use Rattle.std.specs.Char.{digit_value}
 use Rattle.std.specs.Str.Parse.{digits_value, digits_value_after}
-use Rattle.std.specs.Prelude.{◌≡◌, ◌≤◌, ◌<◌, ◌+◌, ◌*◌, ◌==◌, ◌↔◌, ℕ, Bool, true, false}
-use Rattle.std.specs.Prelude.{List, []}
-use Rattle.std.specs.Prelude.{◌∷◌, Option, Some, None, nat_lt, if◌then◌else◌}
+use Rattle.std.specs.Prelude.{◌≡◌, ◌≤◌, ◌<◌, ◌+◌, ◌*◌, ◌==◌, ◌↔◌, ℕ, Bool, true, false, []}
+use Rattle.std.specs.Prelude.{List, ◌∷◌, Option, Some, None, nat_lt, if◌then◌else◌}
 use Rattle.std.proofs.Common.{refl, sym, ap, subst, inl, inr, ◌∙◌, arith}
 use Rattle.std.proofs.lemmas.Bool.{lt-ltb}
 use Rattle.std.proofs.lemmas.Bool.Decides.{nat_tests}
@@ -12,8 +11,7 @@ use Rattle.std.proofs.lemmas.Str.Parse.{digit_from_value}
 use Rattle.format_toml.specs.Digits.{GoesOn, kept, no_under, number_goes}
 use Rattle.format_toml.specs.Numbers.{NumberText}
 use Rattle.format_toml_errors.specs.Accepted.{true_not_false}
-use Rattle.format_toml_errors.specs.Figures.{base_step, based_digit, based_if, figure_if}
-use Rattle.format_toml_errors.specs.Figures.{limit_of}
+use Rattle.format_toml_errors.specs.Figures.{base_step, based_digit, based_if, figure_if, limit_of}
 use Rattle.format_toml_errors.specs.declared.figures.Base.{Base}
 use Rattle.format_toml_errors.specs.declared.figures.Base.TheVariants as bases
 use Rattle.format_toml_errors.specs.declared.figures.Figure.TheVariants as figures

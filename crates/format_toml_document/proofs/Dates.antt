@@ -1,9 +1,8 @@
 -- Dates and times: the walk accepts those of the grammar, and no others.
 use Rattle.std.specs.List.{All}
-use Rattle.std.specs.Prelude.{◌≡◌, ◌⊎◌, ◌≤◌, ◌<◌, ◌+◌, ◌*◌, ◌^◌, ◌==◌, ◌&&◌}
-use Rattle.std.specs.Prelude.{◌||◌, ℕ, Bool}
-use Rattle.std.specs.Prelude.{true, false, List, [], ◌∷◌, ◌++◌, length, Option, Some, None, nat_le}
-use Rattle.std.specs.Prelude.{if◌then◌else◌}
+use Rattle.std.specs.Prelude.{◌≡◌, ◌⊎◌, ◌≤◌, ◌<◌, ◌+◌, ◌*◌, ◌^◌, ◌==◌, ◌&&◌, ◌||◌}
+use Rattle.std.specs.Prelude.{ℕ, Bool, true, false, List, [], ◌∷◌, ◌++◌, length, Option, Some, None}
+use Rattle.std.specs.Prelude.{nat_le, if◌then◌else◌}
 use Rattle.std.specs.Str.{IsAscii}
 use Rattle.std.proofs.Common.{refl, sym, ap, subst, inl, inr, ◌∙◌, arith, length-append}
 use Rattle.std.proofs.StringFromBytes.{spelled}
@@ -16,17 +15,17 @@ use Rattle.format_toml_errors.specs.Moments.{date_step, day_fits, days_of, first
 use Rattle.format_toml_errors.specs.Moments.{moment_if, moment_step, offset_start, tens_of}
 use Rattle.format_toml_errors.specs.declared.moments.Moment.TheVariants as moments
 use Rattle.format_toml_tree.specs.Dates.{Clock, FourDigits, Fraction, FullDate, InTurn, IsAlone}
-use Rattle.format_toml_tree.specs.Dates.{IsBehind, IsDateTime, IsDelimiter, IsDigit}
-use Rattle.format_toml_tree.specs.Dates.{IsTimed, Marked, TimeText, TwoDigits, days_in, is_leap}
+use Rattle.format_toml_tree.specs.Dates.{IsBehind, IsDateTime, IsDelimiter, IsDigit, IsTimed}
+use Rattle.format_toml_tree.specs.Dates.{Marked, TimeText, TwoDigits, days_in, is_leap}
 use Rattle.format_toml_tree.specs.declared.value.Date.{Date}
 use Rattle.format_toml_tree.specs.declared.value.DateTime.{DateTime}
 use Rattle.format_toml_tree.specs.declared.value.DateTime.TheVariants as dates
 use Rattle.format_toml_tree.specs.declared.value.Offset.{Offset}
 use Rattle.format_toml_tree.specs.declared.value.Time.{Time}
 use Rattle.format_toml_document.proofs.Moments.{Limited, M, MarkedBy, Offsets, On, Pair, Segment}
-use Rattle.format_toml_document.proofs.Moments.{hours, if_test, marked, minutes, offset_made}
-use Rattle.format_toml_document.proofs.Moments.{offset_read, only, seconds, tested, two_digits}
-use Rattle.format_toml_document.proofs.Moments.{two_made, two_read, two_value}
+use Rattle.format_toml_document.proofs.Moments.{hours, if_test, marked, minutes, offset_made, only}
+use Rattle.format_toml_document.proofs.Moments.{offset_read, seconds, tested, two_digits, two_made}
+use Rattle.format_toml_document.proofs.Moments.{two_read, two_value}
 use Rattle.format_toml_document.proofs.Thens.{Fits, equal, fit_parts}
 
 -- ---- fractions of seconds

@@ -1,9 +1,8 @@
 -- Digits, fractions and exponents: the walk accepts those of the grammar, and no others.
 use Rattle.std.specs.Char.{digit_value}
 use Rattle.std.specs.Str.Parse.{digits_value_after}
-use Rattle.std.specs.Prelude.{◌≡◌, ◌⊎◌, ◌≤◌, ◌<◌, ◌+◌, ◌*◌, ◌==◌, ◌&&◌, ◌||◌}
-use Rattle.std.specs.Prelude.{◌↔◌, ⊤, ℕ, Bool}
-use Rattle.std.specs.Prelude.{true, false, List, [], ◌∷◌, ◌++◌, length, Some, nat_lt}
+use Rattle.std.specs.Prelude.{◌≡◌, ◌⊎◌, ◌≤◌, ◌<◌, ◌+◌, ◌*◌, ◌==◌, ◌&&◌, ◌||◌, ⊤, []}
+use Rattle.std.specs.Prelude.{◌↔◌, ℕ, Bool, true, false, List, ◌∷◌, ◌++◌, length, Some, nat_lt}
 use Rattle.std.specs.Prelude.{if◌then◌else◌}
 use Rattle.std.proofs.Common.{refl, sym, ap, subst, inl, inr, ◌∙◌, arith}
 use Rattle.std.proofs.lemmas.Bool.Decides.{nat_tests}
@@ -19,9 +18,9 @@ use Rattle.format_toml_errors.specs.declared.figures.Figure.{Figure}
 use Rattle.format_toml_errors.specs.declared.figures.Figure.TheVariants as figures
 use Rattle.format_toml_errors.specs.declared.figures.Whole.{Whole}
 use Rattle.format_toml_errors.specs.declared.moments.Moment.TheVariants as moments
-use Rattle.format_toml_document.proofs.Figures.{AfterFigure, Figures, Rows, bare_made}
-use Rattle.format_toml_document.proofs.Figures.{bare_read, digit_less, goes, if_figure, if_some}
-use Rattle.format_toml_document.proofs.Figures.{less_digit, passed, row_made, row_read}
+use Rattle.format_toml_document.proofs.Figures.{AfterFigure, Figures, Rows, bare_made, bare_read}
+use Rattle.format_toml_document.proofs.Figures.{digit_less, goes, if_figure, if_some, less_digit}
+use Rattle.format_toml_document.proofs.Figures.{passed, row_made, row_read}
 use Rattle.format_toml_document.proofs.Thens.{both_true, equal}
 
 pub digits_are : (xs : List ℕ) → AreDigits xs ↔ GoesOn 10 true xs

@@ -1,6 +1,6 @@
 -- The walk over values, lines and documents.
-use Rattle.std.specs.Prelude.{◌≡◌, ◌<◌, ◌≤◌, ◌+◌, ⊤, ℕ, zero, suc, true, false, List, ◌∷◌, ◌++◌}
-use Rattle.std.specs.Prelude.{length, ◌==◌, Option, [], if◌then◌else◌}
+use Rattle.std.specs.Prelude.{◌≡◌, ◌<◌, ◌≤◌, ◌+◌, ⊤, ℕ, zero, suc, true, false, List, ◌∷◌, length}
+use Rattle.std.specs.Prelude.{◌++◌, ◌==◌, Option, [], if◌then◌else◌}
 use Rattle.std.proofs.Common.{inl, inr, arith, ◌∙◌, ap, refl, subst}
 use Rattle.std.proofs.lemmas.Bool.Decides.{nat_tests}
 use Rattle.std.specs.declared.vec.Vec.{Vec}
@@ -10,10 +10,10 @@ use Rattle.grammars.specs.Texts.Fronts.{both_front, each_front, either_front, fr
 use Rattle.grammars.specs.Texts.Fronts.{front_whole, gathered_front, in_list_front}
 use Rattle.format_parts.specs.Words.{for_front, former, latter, pair}
 use Rattle.format_toml.specs.Toml.{ArrayText, CommentText, GapText, Gapped, InlineText, IsArray}
-use Rattle.format_toml.specs.Toml.{IsBoolean, Spaced, IsInline, IsShown, IsText}
-use Rattle.format_toml.specs.Toml.{PairText, ScalarText, ValueText}
-use Rattle.format_toml.specs.Toml.{WideMarkText, false_word, true_word, DocumentText, IsBare}
-use Rattle.format_toml.specs.Toml.{IsEntry, IsTable, IsTables, ItemText, LineText, TableText}
+use Rattle.format_toml.specs.Toml.{IsBoolean, Spaced, IsInline, IsShown, IsText, PairText, IsBare}
+use Rattle.format_toml.specs.Toml.{ScalarText, ValueText, WideMarkText, false_word, true_word}
+use Rattle.format_toml.specs.Toml.{DocumentText, IsEntry, IsTable, IsTables, ItemText, LineText}
+use Rattle.format_toml.specs.Toml.{TableText}
 use Rattle.format_toml_errors.specs.Accepted.{by, viable_front}
 use Rattle.format_toml_errors.specs.Stop.{At, IsAccepted, MayBegin}
 use Rattle.format_toml_errors.specs.Steps.{comment_step, name_step, next_step, else_line, in_line}

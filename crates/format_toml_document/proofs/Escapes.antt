@@ -1,6 +1,6 @@
 -- Escapes: the walk accepts those of the grammar, and no others.
-use Rattle.std.specs.Prelude.{◌≡◌, ◌≤◌, ◌+◌, ◌*◌, ◌==◌, ◌||◌, ℕ, Bool, true, false}
-use Rattle.std.specs.Prelude.{List, [], ◌∷◌, ◌++◌, length}
+use Rattle.std.specs.Prelude.{◌≡◌, ◌≤◌, ◌+◌, ◌*◌, ◌==◌, ◌||◌, ℕ, Bool, true, false, List, []}
+use Rattle.std.specs.Prelude.{◌∷◌, ◌++◌, length}
 use Rattle.std.specs.Char.{IsScalar}
 use Rattle.std.specs.Str.{all_scalars}
 use Rattle.std.proofs.Common.{refl, ap, inl, inr, ◌∙◌, arith, length-append}
@@ -16,9 +16,8 @@ use Rattle.format_toml_errors.specs.declared.escapes.Escaped.{Escaped}
 use Rattle.format_toml_errors.specs.declared.escapes.Escaped.TheVariants as escaped
 use Rattle.format_toml_document.proofs.Hexes.{AfterEscape, Escapes, alone_text, goes, if_escape}
 use Rattle.format_toml_document.proofs.Hexes.{text_alone, text_wide, wide_text}
-use Rattle.format_toml_document.proofs.Thens.{Emits, Front, Then, both_true, equal, more_front}
+use Rattle.format_toml_document.proofs.Thens.{Emits, Front, Then, both_true, equal, more_front, to}
 use Rattle.format_toml_document.proofs.Thens.{parts}
-use Rattle.format_toml_document.proofs.Thens.{to}
 
 -- ---- the letter after the backslash
 

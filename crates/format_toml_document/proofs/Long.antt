@@ -1,6 +1,6 @@
 -- The walk over strings and keys.
-use Rattle.std.specs.Prelude.{◌≡◌, ◌⊎◌, ◌&&◌, ◌≤◌, ◌+◌, ℕ, suc, true, nat_le, nat_lt, ⊤, List}
-use Rattle.std.specs.Prelude.{[], ◌∷◌, ◌++◌, false, ◌==◌, if◌then◌else◌}
+use Rattle.std.specs.Prelude.{◌≡◌, ◌⊎◌, ◌&&◌, ◌≤◌, ◌+◌, ℕ, suc, true, nat_le, nat_lt, ⊤, List, []}
+use Rattle.std.specs.Prelude.{◌∷◌, ◌++◌, false, ◌==◌, if◌then◌else◌}
 use Rattle.std.proofs.Common.{refl, ap, inl, inr, ◌∙◌, arith}
 use Rattle.std.proofs.lemmas.Bool.{eq-eqb, ne_eqb}
 use Rattle.std.proofs.lemmas.Bool.Decides.{nat_tests}
@@ -13,8 +13,8 @@ use Rattle.format_parts.specs.Words.{former, latter, pair, for_front, Between, O
 use Rattle.format_toml.specs.LongTexts.{BodyText, DelimiterText, LongText, Trimmed, one_and_two}
 use Rattle.format_toml.specs.LongTexts.{room_behind}
 use Rattle.format_toml.specs.Toml.{AnyBasicText, AnyLiteralText, CharacterText, EscapedLineText}
-use Rattle.format_toml.specs.Toml.{EscapedLines, IsOf, NewlineText, IsBare, IsKey, KeyText}
-use Rattle.format_toml.specs.Toml.{NameText, Spaced, BasicText, LiteralText}
+use Rattle.format_toml.specs.Toml.{EscapedLines, IsOf, NewlineText, IsBare, IsKey, KeyText, Spaced}
+use Rattle.format_toml.specs.Toml.{NameText, BasicText, LiteralText}
 use Rattle.format_toml_errors.specs.Accepted.{after_done, by, Next}
 use Rattle.format_toml_errors.specs.Stop.{At}
 use Rattle.format_toml_errors.specs.Escapes.{escape_step}

@@ -28,12 +28,11 @@ use Rattle.format_toml_document.proofs.Backs.{Led, at, blank_is, goes, never, ot
 use Rattle.format_toml_document.proofs.Escapes.{escape_back, escape_text}
 use Rattle.format_toml_document.proofs.Hexes.{Escapes}
 use Rattle.format_toml_document.proofs.Longs.{blank_made, closes, content_made, none_first}
-use Rattle.format_toml_document.proofs.Longs.{one_more, StartsBlank}
+use Rattle.format_toml_document.proofs.Longs.{one_more, StartsBlank, escaped_line, long_start}
 use Rattle.format_toml_document.proofs.Parts.{feed, return}
 use Rattle.format_toml_document.proofs.Rests.{After, LongRest, Rest, content_of, marked}
 use Rattle.format_toml_document.proofs.Thens.{Fits, Front, Then, both_true, fit_parts, one, parts}
 use Rattle.format_toml_document.proofs.Thens.{run_more, run_none, equal}
-use Rattle.format_toml_document.proofs.Longs.{escaped_line, long_start}
 
 or_other : (a b : Bool) → (a || b) ≡ true → a ≡ false → b ≡ true
 or_other true b h not = true_not_false not

@@ -1,20 +1,18 @@
 -- The numbers of dates and times: the walk accepts those of the grammar, and no others.
-use Rattle.std.specs.Prelude.{◌≡◌, ◌⊎◌, ◌≤◌, ◌+◌, ◌-◌, ◌*◌, ◌==◌, ◌&&◌, ◌||◌, ℕ, Bool}
-use Rattle.std.specs.Prelude.{pos, neg_ℤ, true, false, List, [], ◌∷◌, Option, Some, None}
-use Rattle.std.specs.Prelude.{nat_le, if◌then◌else◌}
+use Rattle.std.specs.Prelude.{◌≡◌, ◌⊎◌, ◌≤◌, ◌+◌, ◌-◌, ◌*◌, ◌==◌, ◌&&◌, ◌||◌, ℕ, []}
+use Rattle.std.specs.Prelude.{Bool, pos, neg_ℤ, true, false, List, ◌∷◌, Option, Some, None, nat_le}
+use Rattle.std.specs.Prelude.{if◌then◌else◌}
 use Rattle.std.proofs.Common.{refl, sym, ap, subst, inl, inr, ◌∙◌, arith}
 use Rattle.std.proofs.lemmas.Bool.Decides.{nat_tests}
 use Rattle.format_toml_errors.specs.Accepted.{both_ways, true_not_false}
 use Rattle.format_toml_errors.specs.Figures.{moment_as}
-use Rattle.format_toml_errors.specs.Moments.{ends_moment, first_of, is_digit}
-use Rattle.format_toml_errors.specs.Moments.{moment_if, moment_step, offset_start}
+use Rattle.format_toml_errors.specs.Moments.{ends_moment, first_of, is_digit, moment_if}
+use Rattle.format_toml_errors.specs.Moments.{moment_step, offset_start}
 use Rattle.format_toml_errors.specs.declared.figures.Figure.TheVariants as figures
 use Rattle.format_toml_errors.specs.declared.moments.Moment.{Moment}
 use Rattle.format_toml_errors.specs.declared.moments.Moment.TheVariants as moments
-use Rattle.format_toml_tree.specs.Dates.{HourAndMinute}
-use Rattle.format_toml_tree.specs.Dates.{IsDigit, IsDigitOf, IsOffset, Marked, MaybeOffset}
-use Rattle.format_toml_tree.specs.Dates.{Standing}
-use Rattle.format_toml_tree.specs.Dates.{TwoDigits}
+use Rattle.format_toml_tree.specs.Dates.{HourAndMinute, IsDigit, IsDigitOf, IsOffset, Marked}
+use Rattle.format_toml_tree.specs.Dates.{MaybeOffset, Standing, TwoDigits}
 use Rattle.format_toml_tree.specs.declared.value.Offset.{Offset}
 use Rattle.format_toml_tree.specs.declared.value.Offset.TheVariants.{Minutes, Zulu}
 use Rattle.format_toml_document.proofs.Figures.{AfterFigure, Figures, goes}

@@ -2,9 +2,9 @@
 use Rattle.std.specs.Char.{digit_value}
 use Rattle.std.specs.Int.{w64}
 use Rattle.std.specs.Str.Parse.{digits_value}
-use Rattle.std.specs.Prelude.{◌≡◌, ◌⊎◌, ◌≤◌, ◌<◌, ◌^◌, ◌+◌, ◌*◌, ◌==◌, ℕ, zero, suc}
-use Rattle.std.specs.Prelude.{pos, neg_ℤ}
-use Rattle.std.specs.Prelude.{Bool, true, false, List, [], ◌∷◌, ◌++◌, length, FitsSigned, cond, not}
+use Rattle.std.specs.Prelude.{◌≡◌, ◌⊎◌, ◌≤◌, ◌<◌, ◌^◌, ◌+◌, ◌*◌, ◌==◌, ℕ, zero, suc, []}
+use Rattle.std.specs.Prelude.{pos, neg_ℤ, Bool, true, false, List, ◌∷◌, ◌++◌, length, FitsSigned}
+use Rattle.std.specs.Prelude.{cond, not}
 use Rattle.std.proofs.Common.{refl, sym, ap, inl, inr, ◌∙◌, arith, append_assoc}
 use Rattle.std.proofs.StringFromBytes.{spelled}
 use Rattle.std.proofs.lemmas.Bool.Decides.{nat_tests}
@@ -32,9 +32,8 @@ use Rattle.format_toml_errors.specs.declared.figures.Whole.{Whole}
 use Rattle.format_toml_tree.specs.declared.value.Float.{Float}
 use Rattle.format_toml_document.proofs.Bases.{base_of, letter_of}
 use Rattle.format_toml_document.proofs.Decimals.{Close, Dating, Ending, Real, counted, dating_few}
-use Rattle.format_toml_document.proofs.Decimals.{digits_are}
-use Rattle.format_toml_document.proofs.Decimals.{kept_digit, next_whole, real_read, same_sign}
-use Rattle.format_toml_document.proofs.Decimals.{value_close, wholes}
+use Rattle.format_toml_document.proofs.Decimals.{digits_are, kept_digit, next_whole, real_read}
+use Rattle.format_toml_document.proofs.Decimals.{same_sign, value_close, wholes}
 use Rattle.format_toml_document.proofs.Figures.{Figures, passed, row_made, row_read}
 use Rattle.format_toml_document.proofs.Thens.{Fits, equal}
 

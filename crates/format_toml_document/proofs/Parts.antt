@@ -3,23 +3,22 @@
 use Rattle.std.specs.Prelude.{◌⊎◌, ℕ, List, [], ◌∷◌, ◌++◌, length, Option, Some, None}
 use Rattle.std.specs.declared.vec.Vec.{Vec}
 use Rattle.std.proofs.Common.{refl, sym, ap, inl, inr, ◌∙◌, arith, append_assoc, length-append}
-use Rattle.grammars.specs.Texts.{AtLeast, BothText, EachText, EitherText, GatheredText}
-use Rattle.grammars.specs.Texts.{OptionalText, Spelled, Text, TokenOfText}
+use Rattle.grammars.specs.Texts.{AtLeast, BothText, EachText, EitherText, GatheredText, Spelled}
+use Rattle.grammars.specs.Texts.{OptionalText, Text, TokenOfText}
 use Rattle.format_parts.specs.Words.{For, One}
-use Rattle.format_toml.specs.Toml.{ArrayText, ArrayValuesText, BasicText, CharacterText}
-use Rattle.format_toml.specs.Toml.{CharactersText, GapPartText, GapText, Gapped, HeaderText}
-use Rattle.format_toml.specs.Toml.{InlineText, IsArray, IsInline, IsOf, KeyText, LiteralText}
-use Rattle.format_toml.specs.Toml.{MarkText, NameText, NewlineText, PairText, Spaced, WideMarkText}
-use Rattle.format_toml.specs.Toml.{WsText}
+use Rattle.format_toml.specs.Toml.{ArrayText, ArrayValuesText, BasicText, CharacterText, GapText}
+use Rattle.format_toml.specs.Toml.{CharactersText, GapPartText, Gapped, HeaderText, InlineText}
+use Rattle.format_toml.specs.Toml.{IsArray, IsInline, IsOf, KeyText, LiteralText, MarkText, Spaced}
+use Rattle.format_toml.specs.Toml.{NameText, NewlineText, PairText, WideMarkText, WsText}
 use Rattle.format_toml.specs.declared.characters.Characters.TheVariants as sets
 use Rattle.format_toml_tree.specs.declared.value.Value.{Value}
 use Rattle.format_toml_tree.specs.declared.value.Value as values
 use Rattle.format_toml_document.proofs.Escapes.{character_emits}
 use Rattle.format_toml_document.proofs.Rests.{LineStart, Lines, Others}
 use Rattle.format_toml_document.proofs.Thens.{Fits, Long, Spells, Then, behind, both, parts, to}
-use Rattle.format_toml_document.proofs.Thens.{each_spells, for, gathered, least_counts, left}
-use Rattle.format_toml_document.proofs.Thens.{list_for, listed, nil, none, one, others, parted}
-use Rattle.format_toml_document.proofs.Thens.{parted_any, parted_counts, parted_none, right, some}
+use Rattle.format_toml_document.proofs.Thens.{each_spells, for, gathered, least_counts, left, nil}
+use Rattle.format_toml_document.proofs.Thens.{list_for, listed, none, one, others, parted, right}
+use Rattle.format_toml_document.proofs.Thens.{parted_any, parted_counts, parted_none, some}
 use Rattle.format_toml_document.proofs.Thens.{token_emits}
 
 -- ---- which separators are long

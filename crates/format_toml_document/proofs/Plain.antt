@@ -1,9 +1,8 @@
 -- Numbers, dates and times as values: the walk accepts those of the grammar, and no others.
 use Rattle.std.specs.Int.{w64}
-use Rattle.std.specs.Prelude.{◌≡◌, ◌⊎◌, ◌≤◌, ◌+◌, ◌-◌, ◌*◌, ◌==◌, ℕ, ℤ, pos, neg_ℤ}
-use Rattle.std.specs.Prelude.{Bool, true, false}
-use Rattle.std.specs.Prelude.{List, [], ◌∷◌, ◌++◌, Some, None, nat_lt, FitsSigned, length}
-use Rattle.std.specs.Prelude.{if◌then◌else◌}
+use Rattle.std.specs.Prelude.{◌≡◌, ◌⊎◌, ◌≤◌, ◌+◌, ◌-◌, ◌*◌, ◌==◌, ℕ, ℤ, pos, neg_ℤ, []}
+use Rattle.std.specs.Prelude.{Bool, true, false, List, ◌∷◌, ◌++◌, Some, None, nat_lt, FitsSigned}
+use Rattle.std.specs.Prelude.{length, if◌then◌else◌}
 use Rattle.std.proofs.Common.{refl, sym, ap, subst, inl, inr, ◌∙◌, arith}
 use Rattle.std.proofs.lemmas.Bool.Decides.{nat_tests}
 use Rattle.grammars.specs.Texts.{BothText, EitherText, MadeText, Spelled}
@@ -12,8 +11,7 @@ use Rattle.format_toml.specs.Floats.{FloatText, IsFloat, IsSign, Signed}
 use Rattle.format_toml.specs.Numbers.{AnyIntegerText, BasedText, IntegerText, UnsignedText}
 use Rattle.format_toml.specs.Toml.{PlainText}
 use Rattle.format_toml_errors.specs.Accepted.{both_ways, by, true_not_false}
-use Rattle.format_toml_errors.specs.Figures.{adding, figure_step, lead_step, next_digit}
-use Rattle.format_toml_errors.specs.Figures.{real_step}
+use Rattle.format_toml_errors.specs.Figures.{adding, figure_step, lead_step, next_digit, real_step}
 use Rattle.format_toml_errors.specs.Moments.{digit, is_digit, is_leap}
 use Rattle.format_toml_errors.specs.Steps.{next_step, sign_step}
 use Rattle.format_toml_errors.specs.Stop.{At}
@@ -35,17 +33,15 @@ use Rattle.format_toml_document.proofs.Bases.{base_of, letter_of, prefix_made, p
 use Rattle.format_toml_document.proofs.Dates.{AtHour, Spaced, Year, alone_read, date_made}
 use Rattle.format_toml_document.proofs.Dates.{year_read}
 use Rattle.format_toml_document.proofs.Decimals.{AllDigits, Dating, On, added, adds, counted}
-use Rattle.format_toml_document.proofs.Decimals.{dating_few}
-use Rattle.format_toml_document.proofs.Decimals.{next_whole, real_made, real_read}
+use Rattle.format_toml_document.proofs.Decimals.{dating_few, next_whole, real_made, real_read}
 use Rattle.format_toml_document.proofs.Figures.{AfterFigure, Figures, figures_at, goes, if_figure}
 use Rattle.format_toml_document.proofs.Figures.{if_some, less_digit, passed}
 use Rattle.format_toml_document.proofs.Moments.{M, two_value}
 use Rattle.format_toml_document.proofs.Numerals.{Numeral, Opened, any_made, based_read, digits_read}
 use Rattle.format_toml_document.proofs.Numerals.{fits_neg, fits_pos, float_for, float_made}
-use Rattle.format_toml_document.proofs.Numerals.{from_digit}
-use Rattle.format_toml_document.proofs.Numerals.{from_zero, neg_fits}
-use Rattle.format_toml_document.proofs.Numerals.{pos_fits, signed_read, unsigned_made, whole_of}
-use Rattle.format_toml_document.proofs.Numerals.{zero_numeral, zero_real}
+use Rattle.format_toml_document.proofs.Numerals.{from_digit, from_zero, neg_fits, pos_fits}
+use Rattle.format_toml_document.proofs.Numerals.{signed_read, unsigned_made, whole_of, zero_numeral}
+use Rattle.format_toml_document.proofs.Numerals.{zero_real}
 use Rattle.format_toml_document.proofs.Thens.{Fits, equal}
 use Rattle.format_toml_document.proofs.Walks.{Started}
 

@@ -1,6 +1,5 @@
 -- What may follow in each mode of the walk so that the text is a document, by the grammar.
-use Rattle.std.specs.Prelude.{◌≡◌, ◌⊎◌, ◌≤◌, ◌-◌, ⊤, ℕ, zero, suc}
-use Rattle.std.specs.Prelude.{List, [], ◌∷◌, ◌++◌}
+use Rattle.std.specs.Prelude.{◌≡◌, ◌⊎◌, ◌≤◌, ◌-◌, ⊤, ℕ, zero, suc, List, [], ◌∷◌, ◌++◌}
 use Rattle.std.specs.Prelude.{length}
 use Rattle.grammars.specs.Texts.{AtLeast, BothText, EachText, EitherText, GatheredText, Members}
 use Rattle.grammars.specs.Texts.{OptionalText, PartedText, Text, TokenOfText}
@@ -9,9 +8,8 @@ use Rattle.stream_sets.specs.Accumulator.Holds.{HasCharacters}
 use Rattle.streams.specs.Text.{text_reading}
 use Rattle.format_toml.specs.LongTexts.{BodyText, DelimiterText, NoneWritten, Trimmed}
 use Rattle.format_toml.specs.Toml.{BlankText, CharacterText, CommentText, EscapedLines, GapText}
-use Rattle.format_toml.specs.Toml.{Gapped, IsOf, ItemText, LineText, MarkText, NameText}
-use Rattle.format_toml.specs.Toml.{NewlineText, PairText, Spaced, TableText, ValueText}
-use Rattle.format_toml.specs.Toml.{WideMarkText, WsText}
+use Rattle.format_toml.specs.Toml.{Gapped, IsOf, ItemText, LineText, MarkText, NameText, PairText}
+use Rattle.format_toml.specs.Toml.{NewlineText, Spaced, TableText, ValueText, WideMarkText, WsText}
 use Rattle.format_toml.specs.declared.characters.Characters.TheVariants as sets
 use Rattle.format_toml_errors.specs.Steps.{mark_of}
 use Rattle.format_toml_errors.specs.declared.escapes.Escape.TheVariants as escapes

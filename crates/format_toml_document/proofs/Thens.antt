@@ -1,7 +1,6 @@
 -- Texts that begin with an encoding: what is known of the rest is known of the whole.
-use Rattle.std.specs.Prelude.{◌≡◌, ◌≤◌, ◌<◌, ◌+◌, ◌*◌, ◌^◌, ◌==◌, ◌&&◌}
-use Rattle.std.specs.Prelude.{⊤, ℕ, Bool, true, false, List}
-use Rattle.std.specs.Prelude.{[], ◌∷◌, ◌++◌, length, Some, None}
+use Rattle.std.specs.Prelude.{◌≡◌, ◌≤◌, ◌<◌, ◌+◌, ◌*◌, ◌^◌, ◌==◌, ◌&&◌, ⊤, ℕ, Bool, []}
+use Rattle.std.specs.Prelude.{true, false, List, ◌∷◌, ◌++◌, length, Some, None}
 use Rattle.std.specs.Char.{IsScalar, len_utf8}
 use Rattle.std.specs.Str.{all_scalars, encode_utf8_all}
 use Rattle.std.specs.declared.string.String.{String}

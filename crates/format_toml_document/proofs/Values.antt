@@ -1,8 +1,7 @@
 -- The same for values, lines and documents, where the numbers and the strings over lines that the
 -- walk accepts are those of the grammar.
-use Rattle.std.specs.Prelude.{◌≡◌, ◌≤◌, ◌<◌, ◌-◌, ◌==◌, ◌||◌, ℕ}
-use Rattle.std.specs.Prelude.{zero, suc, true, false}
-use Rattle.std.specs.Prelude.{List, [], ◌∷◌, ◌++◌, length, Option, Some, None, if◌then◌else◌}
+use Rattle.std.specs.Prelude.{◌≡◌, ◌≤◌, ◌<◌, ◌-◌, ◌==◌, ◌||◌, ℕ, zero, suc, true, false, List, []}
+use Rattle.std.specs.Prelude.{◌∷◌, ◌++◌, length, Option, Some, None, if◌then◌else◌}
 use Rattle.std.proofs.Common.{refl, ap, subst, inl, inr, ◌∙◌, arith, append_assoc}
 use Rattle.std.proofs.lemmas.Bool.Decides.{nat_tests}
 use Rattle.grammars.specs.Texts.{Spelled, Text}
@@ -13,9 +12,9 @@ use Rattle.stream_sets.specs.AsChar.{IsSpace}
 use Rattle.format_toml.specs.Toml.{GapText, NameText, PairText, ScalarText, ValueText}
 use Rattle.format_toml_errors.specs.Figures.{ends_figure, figure_step}
 use Rattle.format_toml_errors.specs.Moments.{is_digit}
-use Rattle.format_toml_errors.specs.Steps.{after_step, back_to, bracket_step, comment_step}
-use Rattle.format_toml_errors.specs.Steps.{else_item, else_line, in_line, is_blank, is_shown}
-use Rattle.format_toml_errors.specs.Steps.{line_end, name_step, next_step, number_goes, plain_step}
+use Rattle.format_toml_errors.specs.Steps.{after_step, back_to, bracket_step, comment_step, in_line}
+use Rattle.format_toml_errors.specs.Steps.{else_item, else_line, is_blank, is_shown, line_end}
+use Rattle.format_toml_errors.specs.Steps.{name_step, next_step, number_goes, plain_step}
 use Rattle.format_toml_errors.specs.Steps.{value_step}
 use Rattle.format_toml_errors.specs.Unclosed.{last_open, opened, others_open}
 use Rattle.format_toml_errors.specs.declared.figures.Figure.{Figure}
@@ -40,15 +39,12 @@ use Rattle.format_toml_document.proofs.Parts.{pair_made, return, which}
 use Rattle.format_toml_document.proofs.Figures.{Figures, goes as took}
 use Rattle.format_toml_document.proofs.Numerals.{from_digit, from_zero}
 use Rattle.format_toml_document.proofs.Plain.{Plain, plain_read, with_sign}
-use Rattle.format_toml_document.proofs.Rests.{After, Back, Break, ElementStart, ItemRest}
-use Rattle.format_toml_document.proofs.Rests.{KeyTail, LineStart, Rest, Start, ValueAt, word_of}
+use Rattle.format_toml_document.proofs.Rests.{After, Back, Break, ElementStart, ItemRest, KeyTail}
+use Rattle.format_toml_document.proofs.Rests.{LineStart, Rest, Start, ValueAt, word_of}
 use Rattle.format_toml_document.proofs.Thens.{Fits, Front, Then, behind, both, cons, fit_parts, for}
-use Rattle.format_toml_document.proofs.Thens.{left}
-use Rattle.format_toml_document.proofs.Thens.{members_more, members_none, more_front, nil, none}
-use Rattle.format_toml_document.proofs.Thens.{one}
-use Rattle.format_toml_document.proofs.Thens.{parts}
-use Rattle.format_toml_document.proofs.Thens.{right}
-use Rattle.format_toml_document.proofs.Thens.{run_more, run_none, some, to, token}
+use Rattle.format_toml_document.proofs.Thens.{left, members_more, members_none, more_front, nil, to}
+use Rattle.format_toml_document.proofs.Thens.{none, one, parts, right, run_more, run_none, some}
+use Rattle.format_toml_document.proofs.Thens.{token}
 
 word_text : {O : Type 0} {K : List ℕ → Type 0} {l : List ℕ} (o : O) (c : ℕ) (w : List ℕ)
     → (ys : List ℕ) → l ≡ w ++ ys → K ys → Then (Spelled (c ∷ w) o) K (c ∷ l)

@@ -19,20 +19,19 @@ use Rattle.format_toml_errors.specs.declared.modes.Mode.TheVariants as modes
 use Rattle.format_toml_errors.specs.declared.modes.Step.{Step}
 use Rattle.format_toml_errors.specs.declared.modes.Step.TheVariants as steps
 use Rattle.format_toml_tree.specs.declared.value.Item.{Item}
-use Rattle.format_toml_document.proofs.Backs.{Led, bare_is, basic_back, behind_back, blank_is}
-use Rattle.format_toml_document.proofs.Backs.{escaped_back, goes, literal_back, quote_back}
-use Rattle.format_toml_document.proofs.Backs.{sign_back, spaced_back, test, word_back}
+use Rattle.format_toml_document.proofs.Backs.{Led, bare_is, basic_back, behind_back, blank_is, goes}
+use Rattle.format_toml_document.proofs.Backs.{escaped_back, literal_back, quote_back, sign_back}
+use Rattle.format_toml_document.proofs.Backs.{spaced_back, test, word_back}
 use Rattle.format_toml_document.proofs.Escapes.{escape_back}
 use Rattle.format_toml_document.proofs.LongBacks.{long_back, long_blank_back, long_escape_back}
 use Rattle.format_toml_document.proofs.LongBacks.{long_return_back, quotes_back}
 use Rattle.format_toml_document.proofs.Parts.{lines_made, newline_long}
 use Rattle.format_toml_document.proofs.Rests.{After, Rest}
-use Rattle.format_toml_document.proofs.Thens.{Fits, cons, fit_parts, least_counts, listed, nil}
-use Rattle.format_toml_document.proofs.Thens.{none, parts, run_more, run_none, to, token}
-use Rattle.format_toml_document.proofs.Thens.{members_none}
-use Rattle.format_toml_document.proofs.Values.{after_back, closing_back, comment_back}
-use Rattle.format_toml_document.proofs.Values.{element_back, figure_back, first_back}
-use Rattle.format_toml_document.proofs.Values.{header_back, line_back, return_step, value_back}
+use Rattle.format_toml_document.proofs.Thens.{Fits, cons, fit_parts, least_counts, listed, nil, to}
+use Rattle.format_toml_document.proofs.Thens.{none, parts, run_more, run_none, token, members_none}
+use Rattle.format_toml_document.proofs.Values.{after_back, closing_back, comment_back, element_back}
+use Rattle.format_toml_document.proofs.Values.{figure_back, first_back, header_back, line_back}
+use Rattle.format_toml_document.proofs.Values.{return_step, value_back}
 use Rattle.format_toml_errors.specs.Figures.{ends_figure, figure_step}
 use Rattle.format_toml_errors.specs.declared.escapes.Escape.TheVariants as escapes
 use Rattle.format_toml_errors.specs.declared.escapes.Escaped.{Escaped}
