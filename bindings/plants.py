@@ -122,7 +122,7 @@ FAULTS = [
         ("month and day are swapped", "struct pergidau_toml_value {", "uint8_t month;\n    /* The day of a date, from 1 to the last of its month. */\n    uint8_t day;", "uint8_t day;\n    uint8_t month;"),
         ("tables and arrays are swapped", "enum pergidau_toml_kind", "PERGIDAU_TOML_TABLE = 0,\n    /* An array, of values or of tables. */\n    PERGIDAU_TOML_ARRAY = 1,", "PERGIDAU_TOML_TABLE = 1,\n    PERGIDAU_TOML_ARRAY = 0,"),
         ("an error of a head has a wrong number", "enum pergidau_http_head_error", "PERGIDAU_HTTP_HEAD_ERROR_COLON = 6,", "PERGIDAU_HTTP_HEAD_ERROR_COLON = 11,"),
-        ("a TOML error has a wrong number", "enum pergidau_toml_error", "PERGIDAU_TOML_ERROR_CLOSED = 43,", "PERGIDAU_TOML_ERROR_CLOSED = 45,"),
+        ("a TOML error has a wrong number", "enum pergidau_toml_error", "PERGIDAU_TOML_ERROR_CLOSED = 43,", "PERGIDAU_TOML_ERROR_CLOSED = 46,"),
         ("the maximum depth is too small", "PERGIDAU_MAX_DEPTH 512", "512", "511"),
         ("a status code is truncated", "struct pergidau_response_head {", "uint16_t status;", "uint8_t status;"),
         ("fields and length of a response are swapped", "struct pergidau_response_head {", "size_t fields;\n    /* The length of the head in bytes, including the empty line after the fields. */\n    size_t length;", "size_t length;\n    size_t fields;"),

@@ -247,7 +247,7 @@ _Static_assert(sizeof(enum pergidau_resp_kind) == sizeof(uint32_t), "the size of
 _Static_assert(sizeof(enum pergidau_toml_error) == sizeof(uint32_t), "the size of an enum");
 _Static_assert(sizeof(enum pergidau_toml_kind) == sizeof(uint32_t), "the size of an enum");
 
-const char pergidau_declared_b31ba5c9 = 0;
+const char pergidau_declared_1bfb0d6a = 0;
 
 const char *pergidau_version(void)
 {
@@ -436,6 +436,8 @@ const char *pergidau_toml_error_message(enum pergidau_toml_error error)
         return "table cannot be extended";
     case PERGIDAU_TOML_ERROR_NOT_AN_ARRAY_OF_TABLES:
         return "key is not an array of tables";
+    case PERGIDAU_TOML_ERROR_LINE_TOO_DEEP:
+        return "table or array is nested deeper than the depth limit";
     }
     return "unknown error";
 }

@@ -43,10 +43,10 @@ extern "C" {
  * header refers to it, so that it links with no other library. For a file that is not linked
  * with the library, define PERGIDAU_NO_LINK_CHECK before the header.
  */
-extern const char pergidau_declared_b31ba5c9;
+extern const char pergidau_declared_1bfb0d6a;
 #if defined(__GNUC__) && !defined(PERGIDAU_NO_LINK_CHECK)
 __attribute__((__used__, __unused__)) static const char *const pergidau_linked =
-    &pergidau_declared_b31ba5c9;
+    &pergidau_declared_1bfb0d6a;
 #endif
 
 /* Returns the version of the linked library, in the form of PERGIDAU_VERSION. */
@@ -331,7 +331,9 @@ enum pergidau_toml_error {
      */
     PERGIDAU_TOML_ERROR_CLOSED = 43,
     /* Key is not an array of tables. */
-    PERGIDAU_TOML_ERROR_NOT_AN_ARRAY_OF_TABLES = 44
+    PERGIDAU_TOML_ERROR_NOT_AN_ARRAY_OF_TABLES = 44,
+    /* Table or array is nested deeper than the depth limit. The line makes it. */
+    PERGIDAU_TOML_ERROR_LINE_TOO_DEEP = 45
 };
 
 /* The kinds of TOML nodes. */
@@ -2443,8 +2445,8 @@ enum pergidau_code pergidau_text_position(
     struct pergidau_position *out);
 
 /*
- * Parses a document of TOML 1.0 (toml.io/en/v1.0.0) whose values have arrays and inline tables
- * nested at most max_depth deep.
+ * Parses a document of TOML 1.0 (toml.io/en/v1.0.0) whose tables and arrays are nested at most
+ * max_depth deep. [a] and a.b = 1 nest a table in the root table, one level deep.
  *
  * Where the standard leaves a choice, this follows most parsers: integers have 64 bits, and
  * floats are returned as text.
@@ -2463,7 +2465,8 @@ enum pergidau_code pergidau_text_position(
  * syntax error, this is the first offset at which no document continues, or the end of the
  * input, and the start of the innermost string, array or inline table that is not closed is
  * written. Syntax errors come first. For a line that the standard forbids because of earlier
- * lines, it is the start of that line. A byte order mark is an error.
+ * lines, or that makes a table or an array that is nested too deep, it is the start of that
+ * line. A byte order mark is an error.
  *
  * PERGIDAU_INVALID_UTF8: bytes is not UTF-8. The length of the longest prefix that is UTF-8 is
  * written.

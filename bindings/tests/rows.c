@@ -1182,9 +1182,9 @@ static void test_messages_of_errors(void)
                  "missing delimiter after the key");
     test_message(pergidau_ini_error_message((enum pergidau_ini_error)7), "unknown error");
     test_message(pergidau_toml_error_message(PERGIDAU_TOML_ERROR_NONE), "no error");
-    test_message(pergidau_toml_error_message(PERGIDAU_TOML_ERROR_NOT_AN_ARRAY_OF_TABLES),
-                 "key is not an array of tables");
-    test_message(pergidau_toml_error_message((enum pergidau_toml_error)45), "unknown error");
+    test_message(pergidau_toml_error_message(PERGIDAU_TOML_ERROR_LINE_TOO_DEEP),
+                 "table or array is nested deeper than the depth limit");
+    test_message(pergidau_toml_error_message((enum pergidau_toml_error)46), "unknown error");
     test_message(pergidau_chunked_error_message(PERGIDAU_CHUNKED_ERROR_SIZE),
                  "expected a chunk size");
     test_message(pergidau_chunked_error_message(PERGIDAU_CHUNKED_ERROR_TRAILERS_TOO_LONG),

@@ -57,6 +57,25 @@ static void look_at_joins(const uint8_t *bytes, size_t length,
     HOLDS(joins == count - 1);
 }
 
+/* Returns how many nodes a node is below. */
+static size_t depth_of(const struct pergidau_toml_node *nodes, size_t number)
+{
+    size_t depth = 0;
+    for (; number > 0; depth++) {
+        number = nodes[number].parent;
+    }
+    return depth;
+}
+
+/* Checks that a table or an array is nested at most `max_depth` deep. */
+static void look_at_depth(const uint8_t *bytes, size_t length,
+                          const struct pergidau_toml_node *nodes, size_t number, size_t max_depth)
+{
+    enum pergidau_toml_kind kind = nodes[number].value.kind;
+    HOLDS((kind != PERGIDAU_TOML_TABLE && kind != PERGIDAU_TOML_ARRAY)
+          || depth_of(nodes, number) <= max_depth);
+}
+
 static void read_toml(const uint8_t *bytes, size_t length)
 {
     struct pergidau_toml_result out;
@@ -81,6 +100,7 @@ static void read_toml(const uint8_t *bytes, size_t length)
     HOLDS(code == PERGIDAU_DONE && out.nodes == count && out.text == size);
     for (size_t i = 0; i < count; i++) {
         look_at_node(bytes, length, i, nodes, count, size);
+        look_at_depth(bytes, length, nodes, i, max_depth);
     }
     look_at_joins(bytes, length, nodes, count);
     free(nodes);

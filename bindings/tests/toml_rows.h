@@ -230,6 +230,10 @@ static void test_toml(void)
     same("the error", "[[]]", it.found.error, PERGIDAU_TOML_ERROR_TOO_DEEP);
     same("the error offset", "[[]]", (long long)it.found.error_offset, 5);
     same("the depth limit", "[[]]", read_toml("a = [[]]", 2, 64, 8, &it), PERGIDAU_DONE);
+    same("the depth limit", "[a]", read_toml("a = 1\n[b]\nc.d = 2", 2, 64, 8, &it), PERGIDAU_DONE);
+    same("the depth limit", "[a]", read_toml("a = 1\n[b]\nc.d = 2", 1, 64, 8, &it), PERGIDAU_INVALID);
+    same("the error", "[a]", it.found.error, PERGIDAU_TOML_ERROR_LINE_TOO_DEEP);
+    same("the error offset", "[a]", (long long)it.found.error_offset, 10);
     same("the depth limit", "512", read_toml("a = 1", 512, 64, 8, &it), PERGIDAU_DONE);
     same("the depth limit", "513", read_toml("a = 1", 513, 64, 8, &it), PERGIDAU_MAX_DEPTH_TOO_LARGE);
     const uint8_t *a = (const uint8_t *)"a=1";

@@ -1,5 +1,6 @@
 //! The messages of errors, and the contents of a tree.
-use format_toml_document::{Document, TomlError, Location, Reason, from_bytes, from_text};
+use format_toml_document::{Document, Location, Reason, SAFE_DEPTH, TomlError};
+use format_toml_document::{from_bytes, from_text};
 use std::alloc::Global;
 
 /// Returns the error message for a text, with a maximum nesting depth of 1, or an empty text if it
@@ -39,9 +40,34 @@ fn from_text_says_where_and_why(rt: HostRuntime) {
         ("a = \"\"\"\n\n\"\"\"\r\n\na.b = 2", "line 5, column 1: key is not a table"),
         ("a = {}\n[a.b]", "line 2, column 1: table cannot be extended"),
         ("a = []\n  [[a]]", "line 2, column 1: key is not an array of tables"),
+        // Depths are those of the tree, so of headers and dotted keys too.
+        ("[a]\nb = 1\nc.d = 2", "line 3, column 1: table or array is nested too deep"),
+        ("[[a]]\n", "line 1, column 1: table or array is nested too deep"),
+        ("a = 1\n\n  [b.c]\n", "line 3, column 1: table or array is nested too deep"),
+        ("a.b = []\nb", "line 2, column 2: expected `.` or `=`"),
     ];
     for (text, wanted) in rows {
         assert_eq!(rt; said(&rt, text).as_str(), wanted);
+    }
+}
+
+/// A key of 4,000 names, and a header of as many: a tree of one table below the other.
+#[test]
+fn from_text_takes_no_deep_tree(rt: HostRuntime) {
+    for (start, end) in [("", " = 1\n"), ("[", "]\n"), ("[[", "]]\n"), ("b = {", " = 1}\n")] {
+        let mut text = String::from_str(rt.alloc(), start).unwrap();
+        for _ in 1..4_000usize {
+            text.push_str("a.").unwrap();
+        }
+        text.push_str("a").unwrap();
+        text.push_str(end).unwrap();
+        let mut document = Document::new(rt.alloc());
+        match from_text(rt.alloc(), SAFE_DEPTH, text.as_str(), &mut document) {
+            Ok(_) => assert!(rt; false),
+            Err(fault) => {
+                assert!(rt; matches!(fault, TomlError::Invalid { at, why: Reason::TooDeep } if at.offset == 0));
+            }
+        }
     }
 }
 
@@ -63,7 +89,7 @@ fn location_is_that_of_the_fault(rt: HostRuntime) {
 #[test]
 fn from_bytes_reads_what_from_text_does(rt: HostRuntime) {
     let mut document = Document::new(rt.alloc());
-    match from_bytes(rt.alloc(), 1, b"a = '\xc3\xa9'\nb.c = [2]\n", &mut document) {
+    match from_bytes(rt.alloc(), 2, b"a = '\xc3\xa9'\nb.c = [2]\n", &mut document) {
         Ok(tree) => {
             let root = tree.root();
             assert_eq!(rt; root.len(), 2);

@@ -55,7 +55,7 @@ fn look_at(rt: &impl Abort, tree: &Tree<'_, Global>) {
 fn write_nodes_writes_those_of_the_tree(rt: HostRuntime) {
     for text in TEXTS {
         let mut document = Document::new(rt.alloc());
-        match from_text(rt.alloc(), 3, text, &mut document) {
+        match from_text(rt.alloc(), 5, text, &mut document) {
             Ok(tree) => look_at(&rt, &tree),
             Err(_) => assert!(rt; false),
         }

@@ -210,7 +210,7 @@ fn count(node: Node<'_, '_, Global>, depth: usize) -> usize {
 fn build_holds_what_lines_say(rt: HostRuntime) {
     for (text, want) in ROWS {
         match lines_of(rt.alloc(), text) {
-            Ok(lines) => match build(rt.alloc(), lines.as_slice()) {
+            Ok(lines) => match build(rt.alloc(), 9, lines.as_slice()) {
                 Ok(tree) => {
                     for (path, number) in want.iter() {
                         match at(tree.root(), path) {
@@ -244,7 +244,7 @@ const ORDER: &[(&str, &str, &[&str])] = &[
 fn at_is_in_the_order_of_names(rt: HostRuntime) {
     for (text, path, names) in ORDER {
         match lines_of(rt.alloc(), text) {
-            Ok(lines) => match build(rt.alloc(), lines.as_slice()) {
+            Ok(lines) => match build(rt.alloc(), 9, lines.as_slice()) {
                 Ok(tree) => match at(tree.root(), path) {
                     Some(node) => {
                         assert_eq!(rt; node.len(), names.len(), "{text:?}");
@@ -268,7 +268,7 @@ fn at_is_in_the_order_of_names(rt: HostRuntime) {
 #[test]
 fn get_finds_nothing_else(rt: HostRuntime) {
     match lines_of(rt.alloc(), "a.b = 1\nc = [2]\n[[d]]\ne = { }\n[f.g]") {
-        Ok(lines) => match build(rt.alloc(), lines.as_slice()) {
+        Ok(lines) => match build(rt.alloc(), 9, lines.as_slice()) {
             Ok(tree) => {
                 let root = tree.root();
                 assert!(rt; root.is_table() && !root.is_array() && root.value().is_none());

@@ -1,6 +1,7 @@
 //! Large and deep documents.
 use super::lines::Wrong;
-use format_toml_tree::build::build;
+use format_toml_tree::build::{TreeError, build};
+use format_toml_tree::roles::Reason;
 use format_toml_tree::value::{Item, Key, Value};
 use std::alloc::Global;
 
@@ -32,17 +33,17 @@ fn many_headers(alloc: Global) -> Result<Vec<Option<Item<Global>>>, Wrong> {
     Ok(lines)
 }
 
-/// A header of twenty thousand names.
-fn deep_header(alloc: Global) -> Result<Vec<Option<Item<Global>>>, Wrong> {
+/// A header of this number of names.
+fn deep_header(alloc: Global, depth: usize) -> Result<Vec<Option<Item<Global>>>, Wrong> {
     let mut lines = Vec::new(alloc);
-    lines.push(Some(Item::Table(key_of(alloc, 20_000, 0)?)))?;
+    lines.push(Some(Item::Table(key_of(alloc, depth, 0)?)))?;
     Ok(lines)
 }
 
 #[test]
 fn build_takes_many_keys(rt: HostRuntime) {
     match many_keys(rt.alloc()) {
-        Ok(lines) => match build(rt.alloc(), lines.as_slice()) {
+        Ok(lines) => match build(rt.alloc(), 0, lines.as_slice()) {
             Ok(tree) => {
                 assert_eq!(rt; tree.root().len(), 20_000);
                 assert!(rt; tree.root().get("19999").is_some_and(|n| n.as_i64() == Some(1)));
@@ -56,7 +57,7 @@ fn build_takes_many_keys(rt: HostRuntime) {
 #[test]
 fn build_takes_many_headers(rt: HostRuntime) {
     match many_headers(rt.alloc()) {
-        Ok(lines) => match build(rt.alloc(), lines.as_slice()) {
+        Ok(lines) => match build(rt.alloc(), 4, lines.as_slice()) {
             Ok(tree) => {
                 let node = tree.root().get_path(&["a", "a", "a"]);
                 assert_eq!(rt; node.map(|n| n.len()), Some(20_000));
@@ -69,8 +70,8 @@ fn build_takes_many_headers(rt: HostRuntime) {
 
 #[test]
 fn build_takes_deep_headers(rt: HostRuntime) {
-    match deep_header(rt.alloc()) {
-        Ok(lines) => match build(rt.alloc(), lines.as_slice()) {
+    match deep_header(rt.alloc(), 20_000) {
+        Ok(lines) => match build(rt.alloc(), 20_000, lines.as_slice()) {
             Ok(tree) => {
                 let mut node = tree.root();
                 for _ in 1..20_000usize {
@@ -83,6 +84,18 @@ fn build_takes_deep_headers(rt: HostRuntime) {
             }
             Err(_) => assert!(rt; false),
         },
+        Err(_) => assert!(rt; false),
+    }
+}
+
+#[test]
+fn build_rejects_deeper_headers(rt: HostRuntime) {
+    match deep_header(rt.alloc(), 80_000) {
+        Ok(lines) => {
+            let fault = build(rt.alloc(), 79_999, lines.as_slice()).err();
+            let want = TreeError::Invalid { line: 0, why: Reason::TooDeep };
+            assert!(rt; fault.is_some_and(|fault| fault == want));
+        }
         Err(_) => assert!(rt; false),
     }
 }

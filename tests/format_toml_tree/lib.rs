@@ -8,6 +8,8 @@ mod date_times;
 #[cfg(test)]
 mod deep;
 #[cfg(test)]
+mod levels;
+#[cfg(test)]
 mod lines;
 #[cfg(test)]
 mod refused;

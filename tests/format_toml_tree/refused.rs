@@ -68,7 +68,7 @@ const ROWS: &[(&str, usize, Reason)] = &[
 fn build_names_the_first_line(rt: HostRuntime) {
     for (text, line, why) in ROWS {
         match lines_of(rt.alloc(), text) {
-            Ok(lines) => match build(rt.alloc(), lines.as_slice()) {
+            Ok(lines) => match build(rt.alloc(), 9, lines.as_slice()) {
                 Ok(_) => assert!(rt; false, "{text:?}"),
                 Err(fault) => {
                     let want = TreeError::Invalid { line: *line, why: *why };
@@ -90,6 +90,10 @@ fn faults_say_the_line_and_why(rt: HostRuntime) {
         (
             TreeError::Invalid { line: 2, why: Reason::NoTables },
             "line 3: key is not an array of tables",
+        ),
+        (
+            TreeError::Invalid { line: 0, why: Reason::TooDeep },
+            "line 1: table or array is nested too deep",
         ),
     ];
     for (fault, wanted) in rows {

@@ -582,6 +582,9 @@ pub const TOML_ERROR_CLOSED: u32 = 43;
 /// Key is not an array of tables.
 pub const TOML_ERROR_NOT_AN_ARRAY_OF_TABLES: u32 = 44;
 
+/// Table or array is nested deeper than the depth limit. The line makes it.
+pub const TOML_ERROR_LINE_TOO_DEEP: u32 = 45;
+
 /// A span of the caller's bytes: an offset and a length.
 #[repr(C)]
 #[derive(Clone, Copy, Debug, Default, PartialEq, Eq)]
@@ -1117,7 +1120,7 @@ pub struct TomlResult {
 
 extern "C" {
     /// A symbol that only a library with these declarations has.
-    #[link_name = "pergidau_declared_b31ba5c9"]
+    #[link_name = "pergidau_declared_1bfb0d6a"]
     static VERSION_LINKED: c_char;
 
     /// Returns the version of the linked library.
@@ -2380,8 +2383,8 @@ extern "C" {
         out: *mut Position,
     ) -> u32;
 
-    /// Parses a document of TOML 1.0 (toml.io/en/v1.0.0) whose values have arrays and inline tables
-    /// nested at most `max_depth` deep.
+    /// Parses a document of TOML 1.0 (toml.io/en/v1.0.0) whose tables and arrays are nested at most
+    /// `max_depth` deep. `[a]` and `a.b = 1` nest a table in the root table, one level deep.
     ///
     /// Where the standard leaves a choice, this follows most parsers: integers have 64 bits, and floats
     /// are returned as text.
@@ -2399,8 +2402,8 @@ extern "C" {
     /// `INVALID`: `bytes` is not a document. The reason and the offset are written. For a syntax error,
     /// this is the first offset at which no document continues, or the end of the input, and the start
     /// of the innermost string, array or inline table that is not closed is written. Syntax errors come
-    /// first. For a line that the standard forbids because of earlier lines, it is the start of that
-    /// line. A byte order mark is an error.
+    /// first. For a line that the standard forbids because of earlier lines, or that makes a table or
+    /// an array that is nested too deep, it is the start of that line. A byte order mark is an error.
     ///
     /// `INVALID_UTF8`: `bytes` is not UTF-8. The length of the longest prefix that is UTF-8 is written.
     ///

@@ -125,7 +125,7 @@ pub enum Expected {
     NoByteOrderMark,
 }
 
-/// The reason why the standard forbids a line.
+/// The reason why a line is rejected.
 #[derive(Clone, Copy, Debug, PartialEq, Eq)]
 pub enum Reason {
     /// Its key is already defined.
@@ -136,6 +136,8 @@ pub enum Reason {
     Closed,
     /// It adds a table to a key that is not an array of tables.
     NotAnArrayOfTables,
+    /// It makes a table or an array that is nested deeper than the depth limit.
+    TooDeep,
 }
 
 impl fmt::Display for Error {
@@ -205,6 +207,7 @@ impl fmt::Display for Reason {
             Reason::NotATable => "key is not a table",
             Reason::Closed => "table cannot be extended",
             Reason::NotAnArrayOfTables => "key is not an array of tables",
+            Reason::TooDeep => "table or array is nested too deep",
         })
     }
 }
@@ -280,6 +283,7 @@ impl Error {
             exports::TOML_ERROR_NOT_AN_ARRAY_OF_TABLES => {
                 return Error::Invalid(offset, Reason::NotAnArrayOfTables);
             }
+            exports::TOML_ERROR_LINE_TOO_DEEP => return Error::Invalid(offset, Reason::TooDeep),
             _ => return Error::Other(crate::Error::Unknown(code)),
         };
         let start = out.unclosed_offset;
@@ -569,8 +573,8 @@ impl<'b> Iterator for Children<'b> {
     }
 }
 
-/// Parses a TOML document whose values have arrays and inline tables nested at most `max_depth`
-/// deep.
+/// Parses a TOML document whose tables and arrays are nested at most `max_depth` deep. `[a]` and
+/// `a.b = 1` nest a table in the root table, one level deep.
 ///
 /// The nodes are written into `nodes`, and the bytes of their names and texts into `text`.
 ///
@@ -595,6 +599,8 @@ impl<'b> Iterator for Children<'b> {
 /// assert_eq!(error.position("[a]\nb 2\n").unwrap().to_string(), "line 2, column 3");
 /// let error = toml::parse("a = 1\na = 2\n", 0, &mut text, &mut nodes).unwrap_err();
 /// assert_eq!(error.to_string(), "key is already defined at offset 6");
+/// let error = toml::parse("a = 1\n[b]\n", 0, &mut text, &mut nodes).unwrap_err();
+/// assert_eq!(error.to_string(), "table or array is nested too deep at offset 6");
 /// ```
 pub fn parse<'b>(
     source: &str,

@@ -49,7 +49,7 @@ fn values_are_of_their_kinds() {
     let text = "d = 1979-05-27T07:32:00.999-08:00\nl = 1979-05-27 00:32:00\nn = 1979-05-27\n\
                 t = 23:59:60.1\ns = 'x'\ni = 7\nb = true\nf = -1.5\n[k]\n";
     let (mut bytes, mut nodes) = ([0; 64], [Node::default(); 32]);
-    let document = toml::parse(text, 0, &mut bytes, &mut nodes).unwrap();
+    let document = toml::parse(text, 1, &mut bytes, &mut nodes).unwrap();
     let root = document.root();
     let get = |name| root.get(name).unwrap();
     let date = Date { year: 1979, month: 5, day: 27 };
@@ -115,6 +115,8 @@ fn buffers_that_are_too_small_are_named() {
     let small = toml::parse("ab = 'cde'", 0, &mut bytes, &mut nodes[..1]).unwrap_err();
     assert_eq!(small.to_string(), "buffer too small: 2 entries and 5 bytes required");
     assert!(toml::parse("ab = 'cde'", 0, &mut bytes, &mut nodes).is_ok());
+    let deep = toml::parse("a = 1\nb.c = 2", 0, &mut bytes, &mut nodes).unwrap_err();
+    assert!(matches!(deep, Error::Invalid(6, Reason::TooDeep)));
     let deep = toml::parse("a = 1", pergidau::MAX_DEPTH + 1, &mut bytes, &mut nodes).unwrap_err();
     assert_eq!(deep, Error::Other(pergidau::Error::MaxDepthTooLarge));
 }

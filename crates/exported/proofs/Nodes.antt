@@ -11,13 +11,15 @@ use Rattle.format_toml_tree.specs.declared.tree.Tree.{Tree}
 pub shows_document : (level : ℕ) (bytes text : List ℕ) (tree : Tree Global)
     (nodes : List TomlNode) → IsUtf8 bytes × IsDocument Global level bytes tree
     → ShowsTree tree text nodes → ShowsDocument level bytes text nodes
-shows_document level bytes text tree nodes (is_text, (lines, are, (given, gives, holds))) shows =
+shows_document level bytes text tree nodes (is_text, (lines, are, document)) shows =
+    let (given, gives, holds, nested) = document in
     record {
       is_text = is_text;
       lines = lines;
       are_lines = are;
       given = given;
       gives = gives;
+      nested = nested;
       nodes_are = shows given holds;
     }
 

@@ -15,7 +15,7 @@ use Rattle.format_toml_nodes.specs.Laying.{IsSizeOf}
 use Rattle.format_toml_nodes.specs.Nodes.{AreNodesOf}
 use Rattle.format_toml_nodes.specs.declared.node.TomlNode.{TomlNode}
 use Rattle.format_toml_tree.specs.Holds.{HoldsTree}
-use Rattle.format_toml_tree.specs.Runs.{Gives, Tree as Given, empty}
+use Rattle.format_toml_tree.specs.Runs.{Gives, IsWithin, Tree as Given, empty}
 use Rattle.format_toml_tree.specs.declared.tree.Tree.{Tree}
 use Rattle.format_toml_tree.specs.declared.value.Item.{Item}
 
@@ -83,13 +83,15 @@ abbrev pub WantsTree : Tree Global → TomlResult → Type 0
 WantsTree tree found = IsSizeOf tree (record { nodes = found.nodes; text = found.text })
 
 -- `ShowsDocument level bytes text nodes`: `bytes` is UTF-8, its lines are TOML, the standard allows
--- all of them, and `nodes` and `text` are the nodes of the tree that they define.
+-- all of them, and `nodes` and `text` are the nodes of the tree that they define. Its tables and
+-- arrays are nested at most `level` deep.
 pub record ShowsDocument (level : ℕ) (bytes text : List ℕ) (nodes : List TomlNode) : Type 0 where
   pub is_text : IsUtf8 bytes
   pub lines : Vec (Option (Item Global)) Global
   pub are_lines : DocumentText level lines (chars bytes)
   pub given : Given Global
-  pub gives : Gives (empty, []) 0 lines.items (Ok given)
+  pub gives : Gives level (empty, []) 0 lines.items (Ok given)
+  pub nested : IsWithin level given
   pub nodes_are : AreNodesOf given text nodes
 
 -- `WantsDocument level bytes found`: `bytes` is UTF-8, and a document that needs the sizes in

@@ -66,3 +66,4 @@ reason_of refusals.Defined = 41
 reason_of refusals.NoTable = 42
 reason_of refusals.Closed = 43
 reason_of refusals.NoTables = 44
+reason_of refusals.TooDeep = 45

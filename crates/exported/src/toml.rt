@@ -124,8 +124,8 @@ fn write_tree<'t>(
     }
 }
 
-/// Parses a document of TOML 1.0 (toml.io/en/v1.0.0) whose values have arrays and inline tables
-/// nested at most `max_depth` deep.
+/// Parses a document of TOML 1.0 (toml.io/en/v1.0.0) whose tables and arrays are nested at most
+/// `max_depth` deep. `[a]` and `a.b = 1` nest a table in the root table, one level deep.
 ///
 /// Where the standard leaves a choice, this follows most parsers: integers have 64 bits, and floats
 /// are returned as text.
@@ -143,8 +143,8 @@ fn write_tree<'t>(
 /// `INVALID`: `bytes` is not a document. The reason and the offset are written. For a syntax error,
 /// this is the first offset at which no document continues, or the end of the input, and the start
 /// of the innermost string, array or inline table that is not closed is written. Syntax errors come
-/// first. For a line that the standard forbids because of earlier lines, it is the start of that
-/// line. A byte order mark is an error.
+/// first. For a line that the standard forbids because of earlier lines, or that makes a table or
+/// an array that is nested too deep, it is the start of that line. A byte order mark is an error.
 ///
 /// `INVALID_UTF8`: `bytes` is not UTF-8. The length of the longest prefix that is UTF-8 is written.
 ///

@@ -14,7 +14,7 @@
 //! let Ok(lines) = parse_lines(alloc, SAFE_DEPTH, text) else {
 //!     return;
 //! };
-//! let Ok(tree) = build(alloc, lines.as_slice()) else {
+//! let Ok(tree) = build(alloc, SAFE_DEPTH, lines.as_slice()) else {
 //!     return;
 //! };
 //! let server = tree.root().get("server");

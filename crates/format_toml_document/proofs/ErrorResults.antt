@@ -129,7 +129,7 @@ module _ (A : Type 0) (level : ℕ) (text : List ℕ) where
   pub lines_told : (lines : Vec (Option (Item A)) A) (fault : TreeError) (told : TomlError)
       → DocumentText level lines (chars text)
       → ((n : ℕ) (why : Reason) → fault ≡ built.Invalid n why
-      → Gives (empty, []) 0 lines.items (Err (n, why)))
+      → Gives level (empty, []) 0 lines.items (Err (n, why)))
       → IsRefusal A level text fault told → IsErrorOf A level text told
   lines_told lines fault (faults.Invalid at why) stands refused (n, is, rest, before, after) =
       (lines, stands, (n, refused n why is, (rest, before, after)))

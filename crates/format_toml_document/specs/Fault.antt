@@ -12,7 +12,7 @@ use Rattle.format_toml_document.specs.declared.fault.Location.{Location}
 use Rattle.format_toml_errors.specs.Stop.{StopsAt}
 use Rattle.format_toml_errors.specs.Unclosed.{IsUnclosed}
 use Rattle.format_toml_tree.specs.Holds.{HoldsTree}
-use Rattle.format_toml_tree.specs.Runs.{Gives, Tree as Given, empty}
+use Rattle.format_toml_tree.specs.Runs.{Gives, IsWithin, Tree as Given, empty}
 use Rattle.format_toml_tree.specs.declared.build.TreeError.{TreeError}
 use Rattle.format_toml_tree.specs.declared.build.TreeError.TheVariants as built
 use Rattle.format_toml_tree.specs.declared.tree.Tree.{Tree}
@@ -81,12 +81,13 @@ IsUnexpected A level text faults.OutOfMemory = ⊤
 IsUnexpected A level text other = ⊥
 
 module _ (A : Type 0) (level : ℕ) (text : List ℕ) where
-  -- The text is these lines, which give a tree, and places hold it.
+  -- The text is these lines, which give a tree, and places hold it. Its tables and arrays are
+  -- nested at most `level` deep.
   abbrev pub IsDocument : Tree A → Type 0
   IsDocument tree =
       (lines : Vec (Option (Item A)) A) × DocumentText level lines (chars text)
-      × ((given : Given A) × Gives (empty, []) 0 lines.items (Ok given)
-      × HoldsTree tree.slots.items given)
+      × ((given : Given A) × Gives level (empty, []) 0 lines.items (Ok given)
+      × HoldsTree tree.slots.items given × IsWithin level given)
 
   -- The rejection of a line, at the position where it starts.
   abbrev pub IsRefusal : TreeError → TomlError → Type 0
@@ -105,7 +106,7 @@ module _ (A : Type 0) (level : ℕ) (text : List ℕ) where
       × IsUnexpected A level text (faults.Unexpected at expected unclosed)
   IsErrorOf (faults.Invalid at why) =
       (lines : Vec (Option (Item A)) A) × DocumentText level lines (chars text)
-      × ((n : ℕ) × Gives (empty, []) 0 lines.items (Err (n, why))
+      × ((n : ℕ) × Gives level (empty, []) 0 lines.items (Err (n, why))
       × ((rest : List ℕ) × LinesBefore A level n (chars text) (chars rest)
       × IsAfter text rest at))
   IsErrorOf (faults.NotUtf8 at) = IsBroken text (faults.NotUtf8 at)

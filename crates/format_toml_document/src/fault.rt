@@ -70,8 +70,8 @@ pub enum TomlError {
         /// position, or `None` if all are closed.
         unclosed: Option<Location>,
     },
-    /// The syntax of the whole text is valid, and the standard rejects the statement of a line
-    /// because of earlier ones.
+    /// The syntax of the whole text is valid, and a line is rejected: by the standard because of
+    /// earlier ones, or as it makes a table or an array that is nested too deep.
     Invalid {
         /// Where the first such line begins.
         at: Location,

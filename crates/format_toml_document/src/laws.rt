@@ -46,8 +46,9 @@ pub fn a_document_is_lines_of_text<A: Allocator>()
 /// }
 /// ```
 pub fn lines_give_one_tree_or_one_refusal<A: Allocator>()
-    ensures { (lines : List (Option (Item A))) (one other : Result (Given A) (ℕ × Reason))
-        → Gives (empty, []) 0 lines one → Gives (empty, []) 0 lines other → one ≡ other }
+    ensures { (level : ℕ) (lines : List (Option (Item A)))
+        (one other : Result (Given A) (ℕ × Reason)) → Gives level (empty, []) 0 lines one
+        → Gives level (empty, []) 0 lines other → one ≡ other }
 {}
 
 /// The walk of [`first_stop`](format_toml_errors::walk::first_stop) accepts each document: each of

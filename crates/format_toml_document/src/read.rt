@@ -53,13 +53,16 @@ fn wants_memory<'i>(fault: &ParseFault<&'i str, EmptyError>) -> bool
 }
 
 /// Parses a TOML document and returns its tree, which borrows from the lines that are put into
-/// `document`. The arrays and inline tables of values are nested at most `level` deep. Each level
-/// uses some of the stack: up to [`SAFE_DEPTH`](crate::SAFE_DEPTH) two megabytes suffice.
+/// `document`. Its tables and arrays are nested at most `level` deep: `[a]`, `a.b = 1` and `a = {}`
+/// make a table at depth 1, `[[a]]` an array at depth 1 and its tables at depth 2, and `a.b.c = []`
+/// an array at depth 3. Each level uses some of the stack: up to
+/// [`SAFE_DEPTH`](crate::SAFE_DEPTH) two megabytes suffice.
 ///
 /// If the syntax is invalid, the [`TomlError`] gives the first position at which no document
 /// continues, the input that is expected there, and what is not closed. This error comes first:
 /// only if the syntax of the whole text is valid, the [`TomlError`] gives the first line that the
-/// standard rejects because of those before it, and why. Or memory allocation failed. A second pass
+/// standard rejects because of those before it, or that makes a table or an array that is nested
+/// too deep, and why. Or memory allocation failed. A second pass
 /// over the text finds the position. A byte order mark is an error, at the start too.
 ///
 /// ```
@@ -91,7 +94,7 @@ pub fn from_text<'l, A: Allocator + Copy>(
             return Err(fault_of_text(alloc, level, text));
         }
     }
-    match build(alloc, document.lines.as_slice()) {
+    match build(alloc, level, document.lines.as_slice()) {
         Ok(tree) => Ok(tree),
         Err(fault) => Err(fault_of_build(alloc, level, text, fault)),
     }

@@ -12,7 +12,8 @@ use Rattle.format_toml_nodes.specs.Nodes.{AreNodesOf, IsIn, Shows}
 use Rattle.format_toml_nodes.specs.declared.node.TomlNode.{TomlNode}
 use Rattle.format_toml_nodes.specs.declared.node.TomlValue.{TomlValue}
 use Rattle.format_toml_nodes.proofs.Joins.{first_stays}
-use Rattle.format_toml_nodes.proofs.Reached.{each_below, reach}
+use Rattle.format_toml_nodes.proofs.Reached.{each_below}
+use Rattle.format_toml_tree.proofs.Reached.{reach}
 use Rattle.format_toml_nodes.proofs.Texts.{capped_both, shows_more, stands_none}
 use Rattle.format_toml_tree.specs.Added.{some_there}
 use Rattle.format_toml_tree.specs.Holds.{HoldsTree, node_at}

@@ -47,7 +47,7 @@ fn put_all<'t, A: Allocator + Copy>(
 /// use format_toml_tree::build::build;
 ///
 /// // A document of no lines is a table with nothing in it.
-/// if let Ok(tree) = build(alloc, &[]) {
+/// if let Ok(tree) = build(alloc, 0, &[]) {
 ///     let size = size_of(&tree);
 ///     assert!(rt; size.nodes == 1 && size.text == 0);
 /// }
@@ -83,7 +83,7 @@ pub fn size_of<'t, A: Allocator + Copy>(tree: &Tree<'t, A>) -> Size
 /// let lines = [Some(Item::Entry(Key { names }, Value::Integer(80)))];
 /// let mut text = [0; 4];
 /// let mut nodes = [NO_NODE; 2];
-/// if let Ok(tree) = build(alloc, &lines) {
+/// if let Ok(tree) = build(alloc, 0, &lines) {
 ///     let size = size_of(&tree);
 ///     assert!(rt; write_nodes(&tree, size, text.as_mut_slice(), nodes.as_mut_slice()));
 /// }

@@ -1,7 +1,7 @@
 -- A place that is added below another one holds what is put there.
 use Rattle.std.specs.Prelude.{◌≡◌, ◌⊎◌, ℕ, zero, suc, ◌+◌, ◌<◌, ◌≤◌, ◌==◌, Bool, true, false}
 use Rattle.std.specs.Prelude.{cond}
-use Rattle.std.specs.Prelude.{List, [], ◌∷◌, ◌++◌, length, set, Some, None, slice_get}
+use Rattle.std.specs.Prelude.{List, [], ◌∷◌, ◌++◌, length, set, Option, Some, None, slice_get}
 use Rattle.std.proofs.Common.{refl, sym, ap, subst, inl, inr, ◌∙◌, arith}
 use Rattle.std.proofs.lemmas.Bool.{cases_eq}
 use Rattle.std.proofs.lemmas.Bool.Decides.{Decides-eqb}
@@ -11,7 +11,7 @@ use Rattle.format_toml_tree.specs.Paths.{Path, Step, named, placed, put, put_her
 use Rattle.format_toml_tree.specs.Paths.{first_same, others_same, same_place}
 use Rattle.format_toml_tree.specs.Rules.{Node, nothing}
 use Rattle.format_toml_tree.specs.Runs.{Tree}
-use Rattle.format_toml_tree.specs.Holds.{Goes, Holds, find, node_at}
+use Rattle.format_toml_tree.specs.Holds.{Contains, Goes, Holds, find, node_at}
 use Rattle.format_toml_tree.specs.Places.{get_push, get_set, longer, nowhere, some_node}
 use Rattle.format_toml_tree.specs.declared.tree.Slot.{Slot}
 
@@ -37,6 +37,9 @@ none_some e = cc
 some_number : {j k : ℕ} → Some j ≡ Some k → j ≡ k
 some_number e = cc
 
+pub get_once : {X : Type 0} {x y : X} (r : Option X) → r ≡ Some x → r ≡ Some y → x ≡ y
+get_once r f g = cc
+
 pub some_there : {X : Type 0} (xs : List X) (i : ℕ) → i < length xs
     → (x : X) × (slice_get xs i ≡ Some x)
 some_there [] i w = absurd (omega (arith, w))
@@ -55,6 +58,9 @@ module _ {A : Type 0} where
     pub beyond : (k : ℕ) → length now.elements.items ≤ k
         → (placed k ≡ e → ⊥) × (length was.elements.items ≤ k)
     pub last : (k : ℕ) → placed k ≡ e → length was.elements.items ≤ k
+    pub kind : now.kind ≡ was.kind
+    pub depth : now.depth ≡ was.depth
+    pub depth_below : fresh.depth ≡ was.depth + 1
 
   module _ {slots : List (Slot A)} {tree : Tree A} {path : ℕ → Path}
       (is : Holds slots tree path) (above : ℕ) (e : Step) (was now fresh : Slot A)
@@ -277,6 +283,35 @@ module _ {A : Type 0} where
         ∙ sym (put_apart first q (node_at fresh) p a) ∙ g) in
         still_none (f ∷ p) (is.below p f (sym (apart_tree p a b) ∙ g)) (λ h. b (others_same h))
 
+    depth_then : (i : ℕ) (s : Slot A) → Which i s → (s.depth ≡ length (paths i)) × (s.depth ≤ i)
+    depth_then i s (older a g) =
+        let (e, most) = is.depth i s g in (
+          e ∙ ap (λ p. length p) (sym (old_path i (slice_get_within slots i s g))),
+          most,
+        )
+    depth_then i s (upper a b) =
+        let (e, most) = is.depth above was at in
+        let same : s.depth ≡ was.depth = ap (λ t. t.depth) b ∙ adds.depth in
+        let here : length (paths i) ≡ length (path above) =
+        ap (λ k. length (paths k)) a ∙ ap (λ p. length p) (old_path above above_within) in
+        (omega (arith, e, same, here), omega (arith, most, same, a))
+    depth_then i s (newest a b) =
+        let (e, most) = is.depth above was at in
+        let same : s.depth ≡ was.depth + 1 = ap (λ t. t.depth) b ∙ adds.depth_below in
+        let here : length (paths i) ≡ length q = ap (λ p. length p) (more_here n q path i a) in
+        (omega (arith, e, same, here), omega (arith, most, same, a, above_within))
+
+    contains_then : (i : ℕ) (s t : Slot A) → slice_get slots i ≡ Some s → Which i t
+        → Contains t.kind → Contains s.kind
+    contains_then i s t g (older a h) has =
+        subst (λ x. Contains x.kind) (get_once (slice_get slots i) h g) has
+    contains_then i s t g (upper a b) has =
+        let same : was ≡ s = get_once (slice_get slots above) at (ap (λ k. slice_get slots k)
+        (sym a) ∙ g) in
+        subst (λ k. Contains k) (ap (λ x. x.kind) b ∙ adds.kind ∙ ap (λ x. x.kind) same) has
+    contains_then i s t g (newest a b) has =
+        absurd (omega (arith, a, slice_get_within slots i s g))
+
     -- the places hold the tree with both nodes
     pub added : Goes slots path (then_tree, q) n grown
     added = record {
@@ -292,9 +327,11 @@ module _ {A : Type 0} where
         below = below_then;
         deeper = λ i j e v w f. deeper_then i j e (inside i v) (inside j w) f;
         rising = λ i j a b p v w f g. rising_then i j a b p (inside i v) (inside j w) f g;
+        depth = λ i s g. depth_then i s (which i s g);
       };
       within = omega (arith, count);
       at = more_here n q path n refl;
       kept = old_path;
       grown = omega (arith, count);
+      contains = λ i s t g h. contains_then i s t g (which i t h);
     }

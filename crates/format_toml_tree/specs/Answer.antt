@@ -22,23 +22,23 @@ module _ {A : Type 0} where
   IsAnswer (Err (Invalid line why)) (Err e) = e ≡ (line, why)
 
   -- for every outcome of the lines
-  abbrev pub Answers : List (Option (Item A)) → Result (Tree A) TreeError → Type 0
-  Answers lines result = (outcome : Result (Given A) (ℕ × Reason))
-      → Gives (empty, []) 0 lines outcome → IsAnswer result outcome
+  abbrev pub Answers : ℕ → List (Option (Item A)) → Result (Tree A) TreeError → Type 0
+  Answers level lines result = (outcome : Result (Given A) (ℕ × Reason))
+      → Gives level (empty, []) 0 lines outcome → IsAnswer result outcome
 
-  pub answers_tree : (lines : List (Option (Item A))) (tree : Tree A) (given : Given A)
-      → Gives (empty, []) 0 lines (Ok given) → HoldsTree tree.slots.items given
-      → Answers lines (Ok tree)
-  answers_tree lines tree given gives holds outcome other =
+  pub answers_tree : (level : ℕ) (lines : List (Option (Item A))) (tree : Tree A) (given : Given A)
+      → Gives level (empty, []) 0 lines (Ok given) → HoldsTree tree.slots.items given
+      → Answers level lines (Ok tree)
+  answers_tree level lines tree given gives holds outcome other =
       subst (λ o. IsAnswer (Ok tree) o) (gives_once gives other) holds
 
   pub no_memory : (outcome : Result (Given A) (ℕ × Reason)) → IsAnswer (Err OutOfMemory) outcome
   no_memory (Ok given) = tt
   no_memory (Err e) = tt
 
-  pub answers_fault : (lines : List (Option (Item A))) (fault : TreeError)
+  pub answers_fault : (level : ℕ) (lines : List (Option (Item A))) (fault : TreeError)
       → ((line : ℕ) (why : Reason) → fault ≡ Invalid line why
-      → Gives (empty, []) 0 lines (Err (line, why))) → Answers lines (Err fault)
-  answers_fault lines OutOfMemory gives outcome other = no_memory outcome
-  answers_fault lines (Invalid line why) gives outcome other =
+      → Gives level (empty, []) 0 lines (Err (line, why))) → Answers level lines (Err fault)
+  answers_fault level lines OutOfMemory gives outcome other = no_memory outcome
+  answers_fault level lines (Invalid line why) gives outcome other =
       subst (λ o. IsAnswer (Err (Invalid line why)) o) (gives_once (gives line why refl) other) refl

@@ -7,19 +7,19 @@ use Rattle.std.specs.Cmp.Lexicographic.{slice_cmp}
 use Rattle.std.specs.Map.{lookup}
 use Rattle.std.specs.Ordering.{nat_cmp}
 use Rattle.std.specs.Str.{bytes_eq}
-use Rattle.std.proofs.Common.{refl, sym, ap, subst, inl, inr, ◌∙◌, arith}
+use Rattle.std.proofs.Common.{refl, sym, ap, subst, inl, inr, min, ◌∙◌, arith}
 use Rattle.std.proofs.lemmas.Bool.{cases_eq}
 use Rattle.std.proofs.lemmas.List.{length-append}
 use Rattle.std.proofs.lemmas.Map.Text.{btree_map_updates_str}
-use Rattle.std.proofs.lemmas.Option.{slice_get_read}
+use Rattle.std.proofs.lemmas.Option.{slice_get_read, slice_get_within}
 use Rattle.std.proofs.lemmas.Slice.Eq.{bytes_eq-Decides}
 use Rattle.format_toml_tree.specs.Paths.{Path, named, no_place, placed, put, same_name, put_same}
 use Rattle.format_toml_tree.specs.Paths.{same_place}
 use Rattle.format_toml_tree.specs.Runs.{State, Tree}
-use Rattle.format_toml_tree.specs.Holds.{AddsElement, AddsEntry, Goes, Holds, IsFresh, Pushes, find}
-use Rattle.format_toml_tree.specs.Holds.{node_at, node_of}
+use Rattle.format_toml_tree.specs.Holds.{AddsElement, AddsEntry, Contains, Goes, Holds, IsFresh}
+use Rattle.format_toml_tree.specs.Holds.{Pushes, find, node_at, node_of}
 use Rattle.format_toml_tree.specs.Places.{get_push}
-use Rattle.format_toml_tree.specs.Added.{added}
+use Rattle.format_toml_tree.specs.Added.{added, get_once, some_there}
 use Rattle.format_toml_tree.specs.declared.tree.Kind.{Kind}
 use Rattle.format_toml_tree.specs.declared.tree.Slot.{Slot}
 
@@ -44,39 +44,59 @@ module _ {A : Type 0} where
 
   pub goes_on : {old mid new : List (Slot A)} {path : ℕ → Path} {s t : State A} {i j : ℕ}
       (first : Goes old path s i mid) → Goes mid first.paths t j new → Goes old path t j new
-  goes_on first next = record {
+  goes_on {old = old} {mid = mid} first next = record {
     paths = next.paths;
     holds = next.holds;
     within = next.within;
     at = next.at;
     kept = λ k w. next.kept k (omega (arith, w, first.grown)) ∙ first.kept k w;
     grown = omega (arith, first.grown, next.grown);
+    contains = λ k r u g h has.
+        let within : k < length old = slice_get_within old k r g in
+        let (m, f) = some_there mid k (omega (arith, within, first.grown)) in
+        first.contains k r m g f (next.contains k m u f h has);
   }
 
   pub stays : {slots : List (Slot A)} {tree : Tree A} {path : ℕ → Path} (j : ℕ)
       → Holds slots tree path → j < length slots → Goes slots path (tree, path j) j slots
-  stays {path = path} j holds within = record {
+  stays {slots = slots} {path = path} j holds within = record {
     paths = path;
     holds = holds;
     within = within;
     at = refl;
     kept = λ i w. refl;
     grown = omega arith;
+    contains = λ i s t g h has. subst (λ x. Contains x.kind) (get_once (slice_get slots i) h g) has;
   }
 
-  pub fresh_node : {kind : Kind A} {s : Slot A} → IsFresh kind s → node_at s ≡ node_of kind 0
+  pub fresh_node : {depth : ℕ} {kind : Kind A} {s : Slot A} → IsFresh depth kind s
+      → node_at s ≡ node_of kind 0
   fresh_node {kind = kind} {s = s} is =
       ap (λ k. node_of k (length s.elements.items)) is.kind_is
       ∙ ap (λ (xs : List ℕ). node_of kind (length xs)) is.no_elements
 
-  pub fresh_none : {kind : Kind A} {s : Slot A} → IsFresh kind s → (name : List ℕ)
+  pub fresh_none : {depth : ℕ} {kind : Kind A} {s : Slot A} → IsFresh depth kind s
+      → (name : List ℕ)
       → find s.places name ≡ None
   fresh_none is name =
       ap (λ es. lookup (is_at (λ (k : Bor (List ℕ)). slice_cmp nat_cmp name k.now)) es) is.no_places
 
-  module _ (old mid : List (Slot A)) (above place : ℕ) (kind : Kind A) (was now : Slot A)
-      (pushed : Pushes old kind place mid) (within : above < length old)
-      (read : was ≡ get_or mid above was) (kinds : now.kind ≡ was.kind) where
+  -- the depth below a slot, where depths are less than the number of slots
+  pub depth_added : (slots : List (Slot A)) (above depth : ℕ) (was : Slot A)
+      → slice_get slots above ≡ Some was → depth ≡ min (was.depth + 1) 18446744073709551615
+      → length slots < 18446744073709551616 → (s : Slot A) → slice_get slots above ≡ Some s
+      → s.depth < length slots → depth ≡ s.depth + 1
+  depth_added slots above depth was at sum small s is less =
+      let same : s.depth ≡ was.depth =
+      ap (λ t. t.depth) (get_once (slice_get slots above) is at) in
+      omega (arith, same, sum, small, less)
+
+  module _ (old mid : List (Slot A)) (above depth place : ℕ) (kind : Kind A) (was now : Slot A)
+      (pushed : Pushes old depth kind place mid) (within : above < length old)
+      (deep : (s : Slot A) → slice_get old above ≡ Some s → s.depth < length old
+      → depth ≡ s.depth + 1)
+      (read : was ≡ get_or mid above was) (kinds : now.kind ≡ was.kind)
+      (depths : now.depth ≡ was.depth) where
     -- the place above was there before
     abbrev is_old : (fresh : Slot A) → mid ≡ old ++ fresh ∷ [] → slice_get old above ≡ Some was
     is_old fresh e = elim (get_push old fresh was above
@@ -91,6 +111,11 @@ module _ {A : Type 0} where
             let count : length mid ≡ length old + 1 =
             ap (λ m. length m) e ∙ length-append old (fresh ∷ []) in
             omega (arith, within, count)
+
+    depth_next : {tree : Tree A} {path : ℕ → Path} (s fresh : Slot A) → Holds old tree path
+        → slice_get old above ≡ Some s → IsFresh depth kind fresh → fresh.depth ≡ s.depth + 1
+    depth_next s fresh holds at is =
+        is.depth_is ∙ deep s at (omega (arith, (holds.depth above s at).1, within))
 
     -- an entry is added below the place above
     pub entry_added : (name : Bor (List ℕ))
@@ -119,6 +144,9 @@ module _ {A : Type 0} where
             subst (λ v. length v.items ≤ k) elements f,
           );
           last = λ k f. no_place name.now k (sym f);
+          kind = kinds;
+          depth = depths;
+          depth_below = depth_next was fresh holds at is;
         }) in
         rw (e, j) (subst (λ t. Goes old path (t, q) (length old)
         (set (old ++ fresh ∷ []) above now))
@@ -186,6 +214,9 @@ module _ {A : Type 0} where
             omega (arith, f, count),
           );
           last = λ k f. omega (arith, same_place f);
+          kind = kinds ∙ ap (λ s. s.kind) (sym same);
+          depth = depths ∙ ap (λ s. s.depth) (sym same);
+          depth_below = depth_next before fresh holds at is;
         }) in
         rw (e, j) (subst (λ t. Goes old path (t, q) (length old)
         (set (old ++ fresh ∷ []) above now))

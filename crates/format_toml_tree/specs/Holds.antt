@@ -1,7 +1,7 @@
 -- The tree that slots hold, and proofs that slots that are changed or added hold the new contents.
 use Rattle.std.specs.Prelude.{◌≡◌, ℕ, suc, ◌+◌, ◌<◌, ◌≤◌, List, [], ◌∷◌, ◌++◌, length, Option}
 use Rattle.std.specs.Prelude.{Some}
-use Rattle.std.specs.Prelude.{None, slice_get, Err, MatchResult, Ok, Result}
+use Rattle.std.specs.Prelude.{None, slice_get, Bool, true, false, Err, MatchResult, Ok, Result}
 use Rattle.std.specs.declared.string.String.{String}
 use Rattle.std.specs.Borrow.{Bor}
 use Rattle.std.specs.BTreeMap.{BTreeMap, get_by}
@@ -9,8 +9,9 @@ use Rattle.std.specs.Cmp.Lexicographic.{slice_cmp}
 use Rattle.std.specs.Ordering.{nat_cmp}
 use Rattle.format_toml_tree.specs.Paths.{Path, Step, named, placed, put}
 use Rattle.format_toml_tree.specs.Rules.{Node, Says, dotted, header, nothing, super, tables, valued}
-use Rattle.format_toml_tree.specs.Rules.{adds, defines, dots, gives, passes, ruled}
-use Rattle.format_toml_tree.specs.Runs.{Runs, State, Tree, empty, opened, say, say_key}
+use Rattle.format_toml_tree.specs.Rules.{IsContainer, adds, defines, dots, gives, passes, ruled}
+use Rattle.format_toml_tree.specs.Runs.{IsWithin, Runs, RunsWithin, State, Tree, empty, opened}
+use Rattle.format_toml_tree.specs.Runs.{say, say_key}
 use Rattle.format_toml_tree.specs.declared.roles.Reason.{Reason}
 use Rattle.format_toml_tree.specs.declared.roles.Role.{Role}
 use Rattle.format_toml_tree.specs.declared.roles.Role.TheVariants as roles
@@ -47,6 +48,10 @@ module _ {A : Type 0} where
   nodes_of (Ok k) n = Ok (node_of k n)
   nodes_of (Err why) n = Err why
 
+  -- a table or an array
+  abbrev pub Contains : Kind A → Type 0
+  Contains k = IsContainer (node_of k 0)
+
   abbrev pub node_at : Slot A → Node A
   node_at s = node_of s.kind (length s.elements.items)
 
@@ -70,6 +75,8 @@ module _ {A : Type 0} where
         → path j ≡ e ∷ path i → i < j
     pub rising : (i j a b : ℕ) (p : Path) → i < length slots → j < length slots
         → path i ≡ placed a ∷ p → path j ≡ placed b ∷ p → a < b → i < j
+    pub depth : (i : ℕ) (s : Slot A) → slice_get slots i ≡ Some s
+        → (s.depth ≡ length (path i)) × (s.depth ≤ i)
 
   -- Places hold a tree, and one of them is within.
   abbrev pub IsTreeAt : List (Slot A) → ℕ → Type 0
@@ -85,6 +92,9 @@ module _ {A : Type 0} where
     pub at : paths j ≡ s.1
     pub kept : (i : ℕ) → i < length old → paths i ≡ path i
     pub grown : length old ≤ length new
+    -- a table or an array was one before
+    pub contains : (i : ℕ) (s t : Slot A) → slice_get old i ≡ Some s → slice_get new i ≡ Some t
+        → Contains t.kind → Contains s.kind
 
   -- The result of a call is the slot of a state, or why a statement is rejected.
   abbrev pub SlotResult : List (Slot A) → (ℕ → Path) → Result (State A) Reason → Result ℕ Stop
@@ -96,15 +106,16 @@ module _ {A : Type 0} where
   -- ---- what calls do
 
   -- a place with nothing below it
-  pub record IsFresh (kind : Kind A) (s : Slot A) : Type 0 where
+  pub record IsFresh (depth : ℕ) (kind : Kind A) (s : Slot A) : Type 0 where
+    pub depth_is : s.depth ≡ depth
     pub kind_is : s.kind ≡ kind
     pub no_places : s.places.entries ≡ []
     pub no_elements : s.elements.items ≡ []
 
   -- one more place, below none
-  abbrev pub Pushes : List (Slot A) → Kind A → ℕ → List (Slot A) → Type 0
-  Pushes old kind j new =
-      (fresh : Slot A) × IsFresh kind fresh × (new ≡ old ++ fresh ∷ []) × (j ≡ length old)
+  abbrev pub Pushes : List (Slot A) → ℕ → Kind A → ℕ → List (Slot A) → Type 0
+  Pushes old depth kind j new =
+      (fresh : Slot A) × IsFresh depth kind fresh × (new ≡ old ++ fresh ∷ []) × (j ≡ length old)
 
   -- an entry is added where there is nothing
   abbrev pub AddsEntry : List (Slot A) → ℕ → List ℕ → Kind A → ℕ → List (Slot A) → Type 0
@@ -191,6 +202,25 @@ module _ {A : Type 0} where
   AddsItem old table item (Err (Invalid why)) new =
       (tree : Tree A) (path : ℕ → Path) → Holds old tree path
       → Runs (tree, path table) item (Err why)
+
+  -- The statement of a line is added at a level, or it is rejected.
+  abbrev pub AddsLine : ℕ → List (Slot A) → ℕ → Item A → Result ℕ Stop → List (Slot A) → Type 0
+  AddsLine level old table item (Ok j) new =
+      (tree : Tree A) (path : ℕ → Path) → Holds old tree path → IsWithin level tree
+      → (s : State A) × RunsWithin level (tree, path table) item (Ok s) × IsWithin level s.0
+      × Goes old path s j new
+  AddsLine level old table item (Err OutOfMemory) new = Unit {0}
+  AddsLine level old table item (Err (Invalid why)) new =
+      (tree : Tree A) (path : ℕ → Path) → Holds old tree path
+      → RunsWithin level (tree, path table) item (Err why)
+
+  -- Whether the slots from this one on are tables and arrays of at most this depth, or other
+  -- values.
+  abbrev pub FitResult : ℕ → List (Slot A) → ℕ → Bool → Type 0
+  FitResult level slots from true = (i : ℕ) (s : Slot A) → from ≤ i → slice_get slots i ≡ Some s
+      → Contains s.kind → s.depth ≤ level
+  FitResult level slots from false = (i : ℕ) × (s : Slot A) × (slice_get slots i ≡ Some s)
+      × Contains s.kind × (level < s.depth)
 
   -- Places hold what there is at each path of a tree.
   abbrev pub HoldsTree : List (Slot A) → Tree A → Type 0

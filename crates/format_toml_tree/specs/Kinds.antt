@@ -1,5 +1,5 @@
 -- The results of nodes for their kind: a table, or an array.
-use Rattle.std.specs.Prelude.{◌≡◌, ◌↔◌, ◌≤◌, ⊤, ℕ, Bool, true, false, IsTrue, length, None, Option}
+use Rattle.std.specs.Prelude.{◌≡◌, ◌↔◌, ◌≤◌, ℕ, Bool, true, false, IsTrue, length, None, Option}
 use Rattle.std.specs.Prelude.{Some, slice_get}
 use Rattle.std.specs.Borrow.{Bor}
 use Rattle.std.specs.declared.vec.Vec.{Vec}
@@ -7,8 +7,7 @@ use Rattle.std.proofs.Common.{sym, ap, subst, ◌∙◌, refl}
 use Rattle.format_toml_tree.specs.Holds.{node_at, node_of}
 use Rattle.format_toml_tree.specs.Nodes.{IsAt}
 use Rattle.format_toml_tree.specs.Paths.{Path}
-use Rattle.format_toml_tree.specs.Rules.{Node as Given, dotted, header, nothing, super, valued}
-use Rattle.format_toml_tree.specs.Rules.{tables}
+use Rattle.format_toml_tree.specs.Rules.{IsArray, IsTable, Node as Given}
 use Rattle.format_toml_tree.specs.Runs.{Tree}
 use Rattle.format_toml_tree.specs.declared.node.Node.{Node}
 use Rattle.format_toml_tree.specs.declared.tree.Kind.{Kind}
@@ -19,24 +18,6 @@ use Rattle.format_toml_tree.specs.declared.value.Value.{Value}
 use Rattle.format_toml_tree.specs.declared.value.Value.TheVariants as values
 
 module _ {A : Type 0} where
-  -- A table: that of a header, one that headers or dotted keys passed through, or an inline one.
-  abbrev pub IsTable : Given A → Type 0
-  IsTable nothing = ⊥
-  IsTable (valued v) = (entries : Vec (Key A × Value A) A) × (v ≡ values.Table entries)
-  IsTable super = ⊤
-  IsTable header = ⊤
-  IsTable dotted = ⊤
-  IsTable (tables n) = ⊥
-
-  -- An array: of tables, or of values.
-  abbrev pub IsArray : Given A → Type 0
-  IsArray nothing = ⊥
-  IsArray (valued v) = (elements : Vec (Value A) A) × (v ≡ values.Array elements)
-  IsArray super = ⊥
-  IsArray header = ⊥
-  IsArray dotted = ⊥
-  IsArray (tables n) = ⊤
-
   -- `KindResult so node b`: `b` is true if and only if `so` holds for the contents of `node`.
   abbrev pub KindResult : (Given A → Type 0) → Node A → Bool → Type 0
   KindResult so node b =

@@ -1,13 +1,14 @@
 -- Lines that are added to a tree, in sequence.
 use Rattle.std.specs.Prelude.{◌≡◌, ℕ, zero, suc, ◌+◌, ◌<◌, ◌≤◌, List, [], ◌∷◌, length, drop, Err}
 use Rattle.std.specs.Prelude.{None, Ok, Option, Result, Some, get_or, slice_get}
-use Rattle.std.proofs.Common.{refl, sym, ap, subst, ◌∙◌, arith}
+use Rattle.std.proofs.Common.{refl, sym, ap, subst, inl, inr, ◌∙◌, arith}
 use Rattle.format_toml_tree.specs.Paths.{Path, Step}
 use Rattle.format_toml_tree.specs.Rules.{Says, nothing, passes}
-use Rattle.format_toml_tree.specs.Runs.{State, FillsEntry, Gives, Runs, Tree, empty, say_key}
+use Rattle.format_toml_tree.specs.Runs.{State, FillsEntry, Gives, IsWithin, Runs, Tree, empty}
+use Rattle.format_toml_tree.specs.Runs.{say_key}
 use Rattle.format_toml_tree.specs.Runs as runs
-use Rattle.format_toml_tree.specs.Holds.{AddsItem, FillsBy, Holds, IsTreeAt, Pushes, SaysKey}
-use Rattle.format_toml_tree.specs.Holds.{StartsEmpty, find, node_at}
+use Rattle.format_toml_tree.specs.Holds.{AddsItem, AddsLine, FillsBy, Holds, IsTreeAt, Pushes}
+use Rattle.format_toml_tree.specs.Holds.{SaysKey, StartsEmpty, find, node_at}
 use Rattle.format_toml_tree.specs.Calls.{fresh_node, fresh_none}
 use Rattle.format_toml_tree.specs.Keys.{drop_here, drop_past}
 use Rattle.format_toml_tree.specs.declared.roles.Reason.{Reason}
@@ -27,6 +28,12 @@ pub none_of : {X : Type 0} (o : Option X) → ((x : X) → o ≡ Some x → ⊥)
 none_of None never = refl
 none_of (Some x) never = absurd (never x refl)
 
+-- only the top of the tree before all lines is a table
+top_within : (A : Type 0) (level : ℕ) → IsWithin {A = A} level empty
+top_within A level [] has = omega arith
+top_within A level (e ∷ p) (inl never) = absurd never
+top_within A level (e ∷ p) (inr never) = absurd never
+
 module _ {A : Type 0} where
   -- ---- the first place
 
@@ -34,7 +41,7 @@ module _ {A : Type 0} where
   only s t zero e = (refl, (cc))
   only s t (suc i) e = absurd (none_some t e)
 
-  pub starts_empty : (slots : List (Slot A)) (place : ℕ) → Pushes [] kinds.Header place slots
+  pub starts_empty : (slots : List (Slot A)) (place : ℕ) → Pushes [] 0 kinds.Header place slots
       → StartsEmpty slots
   starts_empty slots place (s, is, e, j) =
       subst (λ l. StartsEmpty l) (sym e) (
@@ -53,10 +60,17 @@ module _ {A : Type 0} where
           below = empty_below;
           deeper = λ a b e v w f. absurd (cc);
           rising = λ a b k m p v w f g less. absurd (cc);
+          depth = λ i t g. one_depth i t (only s t i g);
         },
         omega arith,
       )
     where
+      one_depth : (i : ℕ) (t : Slot A) → (i ≡ 0) × (t ≡ s)
+          → (t.depth ≡ length {A = Step} []) × (t.depth ≤ i)
+      one_depth i t (a, b) =
+          let none : t.depth ≡ 0 = ap (λ x. x.depth) b ∙ is.depth_is in
+          (none, omega (arith, none))
+
       empty_below : (p : Path) (e : Step) → empty {A = A} p ≡ nothing
           → empty {A = A} (e ∷ p) ≡ nothing
       empty_below [] e f = refl
@@ -102,28 +116,31 @@ module _ {A : Type 0} where
   -- ---- lines in turn
 
   -- The lines from the k-th on are left to add, to a state that places hold.
-  pub record LeftToAdd (lines : List (Option (Item A))) (k table : ℕ)
+  pub record LeftToAdd (level : ℕ) (lines : List (Option (Item A))) (k table : ℕ)
       (slots : List (Slot A)) : Type 0
     where
       pub tree : Tree A
       pub path : ℕ → Path
       pub holds : Holds slots tree path
       pub within : table < length slots
+      pub nested : IsWithin level tree
       pub left : (r : Result (Tree A) (ℕ × Reason))
-          → Gives (tree, path table) k (drop k lines) r → Gives (empty, []) 0 lines r
+          → Gives level (tree, path table) k (drop k lines) r → Gives level (empty, []) 0 lines r
 
-  pub left_first : (lines : List (Option (Item A))) (slots : List (Slot A)) → StartsEmpty slots
-      → LeftToAdd lines 0 0 slots
-  left_first lines slots (path, holds, within) = record {
+  pub left_first : (level : ℕ) (lines : List (Option (Item A))) (slots : List (Slot A))
+      → StartsEmpty slots
+      → LeftToAdd level lines 0 0 slots
+  left_first level lines slots (path, holds, within) = record {
     tree = empty;
     path = path;
     holds = holds;
     within = within;
-    left = λ r by. subst (λ p. Gives (empty, p) 0 lines r) holds.top by;
+    nested = top_within A level;
+    left = λ r by. subst (λ p. Gives level (empty, p) 0 lines r) holds.top by;
   }
 
-  module _ (lines : List (Option (Item A))) (k table : ℕ) (slots : List (Slot A))
-      (left : LeftToAdd lines k table slots) where
+  module _ (level : ℕ) (lines : List (Option (Item A))) (k table : ℕ) (slots : List (Slot A))
+      (left : LeftToAdd level lines k table slots) where
     pub stands : IsTreeAt slots table
     stands = (left.tree, left.path, left.holds, left.within)
 
@@ -132,13 +149,14 @@ module _ {A : Type 0} where
         here : drop k lines ≡ line ∷ drop (k + 1) lines
         here = drop_here lines k line within is
 
-        pub left_blank : line ≡ None → LeftToAdd lines (k + 1) table slots
+        pub left_blank : line ≡ None → LeftToAdd level lines (k + 1) table slots
         left_blank none = record {
           tree = left.tree;
           path = left.path;
           holds = left.holds;
           within = left.within;
-          left = λ r by. left.left r (subst (λ l. Gives (left.tree, left.path table) k l r)
+          nested = left.nested;
+          left = λ r by. left.left r (subst (λ l. Gives level (left.tree, left.path table) k l r)
               (sym (here ∙ ap (λ x. x ∷ drop (k + 1) lines) none)) (runs.blank by));
         }
 
@@ -146,32 +164,34 @@ module _ {A : Type 0} where
           abbrev then_lines : drop k lines ≡ Some item ∷ drop (k + 1) lines
           then_lines = here ∙ ap (λ x. x ∷ drop (k + 1) lines) some
 
-          pub left_added : (j : ℕ) (new : List (Slot A)) → AddsItem slots table item (Ok j) new
-              → LeftToAdd lines (k + 1) j new
+          pub left_added : (j : ℕ) (new : List (Slot A))
+              → AddsLine level slots table item (Ok j) new
+              → LeftToAdd level lines (k + 1) j new
           left_added j new added =
-              let (s, ran, goes) = added left.tree left.path left.holds in record {
+              let (s, ran, is, goes) = added left.tree left.path left.holds left.nested in record {
                 tree = s.0;
                 path = goes.paths;
                 holds = goes.holds;
                 within = goes.within;
+                nested = is;
                 left = λ r by. left.left r
-                    (subst (λ l. Gives (left.tree, left.path table) k l r) (sym then_lines)
-                    (runs.accepted ran (subst (λ p. Gives (s.0, p) (k + 1) (drop (k + 1) lines) r)
-                    goes.at by)));
+                    (subst (λ l. Gives level (left.tree, left.path table) k l r) (sym then_lines)
+                    (runs.accepted ran (subst (λ p. Gives level (s.0, p) (k + 1)
+                    (drop (k + 1) lines) r) goes.at by)));
               }
 
           pub line_refused : (why : Reason) (new : List (Slot A))
-              → AddsItem slots table item (Err (Invalid why)) new
-              → Gives (empty, []) 0 lines (Err (k, why))
+              → AddsLine level slots table item (Err (Invalid why)) new
+              → Gives level (empty, []) 0 lines (Err (k, why))
           line_refused why new added =
-              left.left (Err (k, why)) (subst (λ l. Gives (left.tree, left.path table) k l
+              left.left (Err (k, why)) (subst (λ l. Gives level (left.tree, left.path table) k l
               (Err (k, why))) (sym then_lines)
               (runs.refused (added left.tree left.path left.holds)))
 
-    pub all_added : length lines ≤ k → Gives (empty, []) 0 lines (Ok left.tree)
+    pub all_added : length lines ≤ k → Gives level (empty, []) 0 lines (Ok left.tree)
     all_added past =
-        left.left (Ok left.tree) (subst (λ l. Gives (left.tree, left.path table) k l (Ok left.tree))
-        (sym (drop_past lines k past)) runs.ended)
+        left.left (Ok left.tree) (subst (λ l. Gives level (left.tree, left.path table) k l
+        (Ok left.tree)) (sym (drop_past lines k past)) runs.ended)
 
     pub some_place : 0 < length slots
     some_place = omega (arith, left.within)

@@ -1,13 +1,13 @@
 -- Proofs that the lines of a document give one tree, or that one of them is rejected first, and not
 -- both.
-use Rattle.std.specs.Prelude.{◌≡◌, ℕ, ◌+◌, List, ◌∷◌, Option, Some, Result, Ok, Err}
+use Rattle.std.specs.Prelude.{◌≡◌, ℕ, ◌+◌, List, ◌∷◌, Option, Result, Ok, Err}
 use Rattle.std.specs.declared.vec.Vec.{Vec}
 use Rattle.std.proofs.Common.{refl, sym, ap, subst, inl, inr, ◌∙◌, arith}
 use Rattle.std.proofs.lemmas.Bool.{cases_lt}
 use Rattle.format_toml_tree.specs.Paths.{Path, placed, put}
 use Rattle.format_toml_tree.specs.Rules.{valued}
 use Rattle.format_toml_tree.specs.Runs.{Fills, FillsEntry, FillsNames, FillsPlaces, Gives, IsNext}
-use Rattle.format_toml_tree.specs.Runs.{Runs, State, Tree, then}
+use Rattle.format_toml_tree.specs.Runs.{IsWithin, Runs, RunsWithin, State, Tree, then}
 use Rattle.format_toml_tree.specs.Runs as runs
 use Rattle.format_toml_tree.specs.declared.roles.Reason.{Reason}
 use Rattle.format_toml_tree.specs.declared.value.Item.{Item}
@@ -127,17 +127,34 @@ module _ {A : Type 0} where
   runs_once s (items.Entry key value) (a, f, e) (b, g, h) =
       e ∙ ap (λ x. then x (λ tree. Ok (tree, s.1))) (entry_once f g) ∙ sym h
 
-  pub gives_once : {s : State A} {k : ℕ} {lines : List (Option (Item A))}
-      {r t : Result (Tree A) (ℕ × Reason)} → Gives s k lines r → Gives s k lines t → r ≡ t
+  within_once : {level : ℕ} {s : State A} {item : Item A} {r t : Result (State A) Reason}
+      → RunsWithin level s item r → RunsWithin level s item t → r ≡ t
+  within_once {s = s} {item = item} (runs.allowed f is) (runs.allowed g has) =
+      runs_once s item f g
+  within_once {s = s} {item = item} (runs.allowed f is) (runs.invalid g) = runs_once s item f g
+  within_once {level = level} {s = s} {item = item} (runs.allowed f is) (runs.too_deep u g not) =
+      absurd (not (subst (λ u. IsWithin level u.0) (ok_once _ refl (runs_once s item f g)) is))
+  within_once {s = s} {item = item} (runs.invalid f) (runs.allowed g has) = runs_once s item f g
+  within_once {s = s} {item = item} (runs.invalid f) (runs.invalid g) = runs_once s item f g
+  within_once {s = s} {item = item} (runs.invalid f) (runs.too_deep u g not) =
+      ok_or_err _ refl (sym (runs_once s item f g))
+  within_once {level = level} {s = s} {item = item} (runs.too_deep t f not) (runs.allowed g is) =
+      absurd (not (subst (λ u. IsWithin level u.0) (ok_once _ refl (runs_once s item g f)) is))
+  within_once {s = s} {item = item} (runs.too_deep t f not) (runs.invalid g) =
+      ok_or_err _ refl (runs_once s item f g)
+  within_once (runs.too_deep t f not) (runs.too_deep u g never) = refl
+
+  pub gives_once : {level : ℕ} {s : State A} {k : ℕ} {lines : List (Option (Item A))}
+      {r t : Result (Tree A) (ℕ × Reason)} → Gives level s k lines r → Gives level s k lines t
+      → r ≡ t
   gives_once runs.ended runs.ended = refl
   gives_once (runs.blank f) (runs.blank g) = gives_once f g
-  gives_once {s = s} {k = k} {lines = Some item ∷ lines} {t = t} (runs.accepted f more)
+  gives_once {level = level} {k = k} {lines = line ∷ lines} {t = t} (runs.accepted f more)
       (runs.accepted g others) =
-      let same = runs_once s item f g in
-      gives_once more (subst (λ u. Gives u (k + 1) lines t) (sym (ok_once _ refl same)) others)
-  gives_once {s = s} {lines = Some item ∷ lines} (runs.accepted f more) (runs.refused g) =
-      ok_or_err _ refl (runs_once s item f g)
-  gives_once {s = s} {lines = Some item ∷ lines} (runs.refused f) (runs.accepted g others) =
-      ok_or_err _ refl (sym (runs_once s item f g))
-  gives_once {s = s} {k = k} {lines = Some item ∷ lines} (runs.refused f) (runs.refused g) =
-      ap (λ w. Err (k, w)) (err_once _ refl (runs_once s item f g))
+      let same = within_once f g in
+      gives_once more (subst (λ u. Gives level u (k + 1) lines t) (sym (ok_once _ refl same))
+      others)
+  gives_once (runs.accepted f more) (runs.refused g) = ok_or_err _ refl (within_once f g)
+  gives_once (runs.refused f) (runs.accepted g others) = ok_or_err _ refl (sym (within_once f g))
+  gives_once {k = k} (runs.refused f) (runs.refused g) =
+      ap (λ w. Err (k, w)) (err_once _ refl (within_once f g))

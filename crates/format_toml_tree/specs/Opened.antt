@@ -1,15 +1,17 @@
 -- The effect of a statement on a name, over slots.
 use Rattle.std.specs.Prelude.{◌≡◌, ℕ, zero, suc, ◌+◌, ◌<◌, List, ◌∷◌, length, set, slice_get, Err}
 use Rattle.std.specs.Prelude.{None, Ok, Result, Some}
-use Rattle.std.proofs.Common.{refl, sym, ap, subst, ◌∙◌, arith}
+use Rattle.std.proofs.Common.{refl, sym, ap, subst, inl, inr, ◌∙◌, arith}
 use Rattle.std.proofs.lemmas.List.{length-set}
 use Rattle.std.proofs.lemmas.Option.{slice_get_within}
 use Rattle.format_toml_tree.specs.Paths.{Path, named, placed, put, put_here}
-use Rattle.format_toml_tree.specs.Rules.{Node, Says, nothing, ruled}
+use Rattle.format_toml_tree.specs.Rules.{Node, Says, adds, defines, dots, gives, nothing, passes}
+use Rattle.format_toml_tree.specs.Rules.{ruled}
 use Rattle.format_toml_tree.specs.Runs.{State, Tree, entered, grown, opened, say, then}
-use Rattle.format_toml_tree.specs.Holds.{Goes, Holds, IsInside, SlotResult, find, node_at, node_of}
-use Rattle.format_toml_tree.specs.Holds.{says_of}
-use Rattle.format_toml_tree.specs.Places.{altered}
+use Rattle.format_toml_tree.specs.Holds.{Contains, Goes, Holds, IsInside, SlotResult, find}
+use Rattle.format_toml_tree.specs.Holds.{node_at, node_of, says_of}
+use Rattle.format_toml_tree.specs.Added.{get_once}
+use Rattle.format_toml_tree.specs.Places.{altered, get_set}
 use Rattle.format_toml_tree.specs.Calls.{goes_on, stays}
 use Rattle.format_toml_tree.specs.declared.roles.Reason.{Reason}
 use Rattle.format_toml_tree.specs.declared.roles.Role.{Role}
@@ -19,6 +21,9 @@ use Rattle.format_toml_tree.specs.declared.tree.Kind.TheVariants as kinds
 use Rattle.format_toml_tree.specs.declared.tree.Slot.{Slot}
 use Rattle.format_toml_tree.specs.declared.tree.Stop.{Stop}
 use Rattle.format_toml_tree.specs.declared.tree.Stop.TheVariants.{OutOfMemory, Invalid}
+
+never : {X E : Type 0} {e : E} {x : X} → Err e ≡ Ok x → ⊥
+never e = cc
 
 module _ {A : Type 0} where
   -- ---- where the next name is
@@ -101,6 +106,20 @@ module _ {A : Type 0} where
 
   -- ---- what there is at a name
 
+  -- a statement makes no table or array of another value
+  contained : (says : Says A) (was kind : Kind A)
+      → ((n : ℕ) → ruled says (node_of was n) ≡ Ok (node_of kind n))
+      → Contains kind → Contains was
+  contained passes (kinds.Value v) kind rule has = absurd (never (rule 0))
+  contained defines (kinds.Value v) kind rule has = absurd (never (rule 0))
+  contained adds (kinds.Value v) kind rule has = absurd (never (rule 0))
+  contained dots (kinds.Value v) kind rule has = absurd (never (rule 0))
+  contained (gives w) (kinds.Value v) kind rule has = absurd (never (rule 0))
+  contained says kinds.Super kind rule has = inl tt
+  contained says kinds.Header kind rule has = inl tt
+  contained says kinds.Dotted kind rule has = inl tt
+  contained says kinds.Tables kind rule has = inr tt
+
   module _ {slots : List (Slot A)} {tree : Tree A} {path : ℕ → Path} (holds : Holds slots tree path)
       (table : ℕ) (above : Slot A) (at : slice_get slots table ≡ Some above) (name : List ℕ)
       (says : Says A) where
@@ -123,6 +142,7 @@ module _ {A : Type 0} where
           → ((n : ℕ) → ruled says (node_of was.kind n) ≡ Ok (node_of kind n))
           → IsSet place (set slots place (record {
             kind = kind;
+            depth = was.depth;
             name = was.name;
             places = was.places;
             entries = was.entries;
@@ -132,6 +152,7 @@ module _ {A : Type 0} where
           let n : ℕ = length was.elements.items in
           let now : Slot A = record {
             kind = kind;
+            depth = was.depth;
             name = was.name;
             places = was.places;
             entries = was.entries;
@@ -145,11 +166,20 @@ module _ {A : Type 0} where
                 (set slots place now)) here
                 (record {
                   paths = path;
-                  holds = altered holds place was now is refl refl;
+                  holds = altered holds place was now is refl refl refl;
                   within = omega (arith, count, inside);
                   at = refl;
                   kept = λ i w. refl;
                   grown = omega (arith, count);
+                  contains = λ i s t g h has. elim (get_set slots place now t i h) [
+                    | inl (a, b) ↦
+                        let same : was ≡ s = get_once (slice_get slots place) is
+                        (ap (λ k. slice_get slots k) (sym a) ∙ g) in
+                        subst (λ x. Contains x.kind) same (contained says was.kind kind rule
+                        (subst (λ x. Contains x.kind) b has))
+                    | inr (a, b) ↦
+                        subst (λ x. Contains x.kind) (get_once (slice_get slots i) b g) has
+                  ];
                 }),
           )
 

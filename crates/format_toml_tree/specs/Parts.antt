@@ -38,6 +38,7 @@ module _ {A : Type 0} where
     at = goes.kept i w;
     kept = goes.kept;
     grown = goes.grown;
+    contains = goes.contains;
   }
 
   -- a value is one with any number of parts

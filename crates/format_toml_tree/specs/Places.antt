@@ -62,7 +62,8 @@ module _ {A : Type 0} where
         (sym (is.there i s g) ∙ ap tree (sym e) ∙ none)
 
     module _ (j : ℕ) (was now : Slot A) (at : slice_get slots j ≡ Some was)
-        (places : now.places ≡ was.places) (elements : now.elements ≡ was.elements) where
+        (places : now.places ≡ was.places) (elements : now.elements ≡ was.elements)
+        (depth : now.depth ≡ was.depth) where
       abbrev then_tree : Tree A
       then_tree = put tree (path j) (node_at now)
 
@@ -126,4 +127,8 @@ module _ {A : Type 0} where
             (is.below p e (sym (put_apart tree (path j) (node_at now) p other) ∙ none));
         deeper = λ a b e v w f. is.deeper a b e (within a v) (within b w) f;
         rising = λ a b k m p v w f g. is.rising a b k m p (within a v) (within b w) f g;
+        depth = λ i s g. elim (get_set slots j now s i g) [
+          | inl (a, b) ↦ rw (a, b, depth) (is.depth j was at)
+          | inr (a, b) ↦ is.depth i s b
+        ];
       }

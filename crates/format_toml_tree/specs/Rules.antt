@@ -1,11 +1,14 @@
 -- Statements about a name, and their effects (TOML 1.0: Keys, Table, Inline Table, Array of
 -- Tables).
-use Rattle.std.specs.Prelude.{ℕ, Result, Ok, Err}
+use Rattle.std.specs.Prelude.{◌≡◌, ◌⊎◌, ⊤, ℕ, Result, Ok, Err}
+use Rattle.std.specs.declared.vec.Vec.{Vec}
 use Rattle.format_toml_tree.specs.declared.roles.Reason.{Reason}
 use Rattle.format_toml_tree.specs.declared.roles.Reason.TheVariants.{Defined, NoTable, Closed}
 use Rattle.format_toml_tree.specs.declared.roles.Reason.TheVariants.{NoTables}
+use Rattle.format_toml_tree.specs.declared.value.Key.{Key}
 use Rattle.format_toml_tree.specs.declared.value.Value.{Value, out-Value}
 use Rattle.format_toml_tree.specs.declared.value.Value.TheOpen as forms
+use Rattle.format_toml_tree.specs.declared.value.Value.TheVariants as values
 
 module _ (A : Type 0) where
   -- The contents of a tree at a path.
@@ -36,6 +39,27 @@ module _ (A : Type 0) where
     gives : Value A → Says
 
 module _ {A : Type 0} where
+  -- A table: that of a header, one that headers or dotted keys passed through, or an inline one.
+  abbrev pub IsTable : Node A → Type 0
+  IsTable nothing = ⊥
+  IsTable (valued v) = (entries : Vec (Key A × Value A) A) × (v ≡ values.Table entries)
+  IsTable super = ⊤
+  IsTable header = ⊤
+  IsTable dotted = ⊤
+  IsTable (tables n) = ⊥
+
+  -- An array: of tables, or of values.
+  abbrev pub IsArray : Node A → Type 0
+  IsArray nothing = ⊥
+  IsArray (valued v) = (elements : Vec (Value A) A) × (v ≡ values.Array elements)
+  IsArray super = ⊥
+  IsArray header = ⊥
+  IsArray dotted = ⊥
+  IsArray (tables n) = ⊤
+
+  abbrev pub IsContainer : Node A → Type 0
+  IsContainer node = IsTable node ⊎ IsArray node
+
   -- An inline table is closed: "keys and sub-tables cannot be added outside the braces". Any other
   -- value is not a table.
   abbrev pub no_table : Value A → Reason

@@ -1,12 +1,13 @@
 -- The tree that the statements of a document give, or the first that is rejected (TOML 1.0).
-use Rattle.std.specs.Prelude.{◌≡◌, ℕ, suc, ◌+◌, ◌<◌, List, [], ◌∷◌, Result, Ok, Err, Option, Some}
-use Rattle.std.specs.Prelude.{None, string_bytes}
+use Rattle.std.specs.Prelude.{◌≡◌, ℕ, suc, ◌+◌, ◌<◌, ◌≤◌, List, [], ◌∷◌, Result, Ok, Err, Option}
+use Rattle.std.specs.Prelude.{Some, None, length, string_bytes}
 use Rattle.std.specs.declared.string.String.{String}
 use Rattle.std.specs.declared.vec.Vec.{Vec}
 use Rattle.format_toml_tree.specs.Paths.{Path, named, placed, put}
 use Rattle.format_toml_tree.specs.Rules.{Node, Says, ruled, nothing, valued, header, tables, passes}
-use Rattle.format_toml_tree.specs.Rules.{defines, adds, dots, gives}
+use Rattle.format_toml_tree.specs.Rules.{IsContainer, defines, adds, dots, gives}
 use Rattle.format_toml_tree.specs.declared.roles.Reason.{Reason}
+use Rattle.format_toml_tree.specs.declared.roles.Reason.TheVariants.{TooDeep}
 use Rattle.format_toml_tree.specs.declared.value.Key.{Key}
 use Rattle.format_toml_tree.specs.declared.value.Item.{Item}
 use Rattle.format_toml_tree.specs.declared.value.Item.TheVariants as items
@@ -131,15 +132,32 @@ module _ {A : Type 0} where
   Runs s (items.Entry key value) r = (t : Result (Tree A) Reason)
       × FillsEntry s.0 s.1 key value t × (r ≡ then t (λ tree. Ok (tree, s.1)))
 
-  -- The lines of a document, from the `k`-th on, give a tree, or one of them is rejected first.
-  pub data Gives : State A → ℕ → List (Option (Item A)) → Result (Tree A) (ℕ × Reason) → Type 0
+  -- Each table and each array is nested at most `level` deep: its path has at most `level` steps.
+  abbrev pub IsWithin : ℕ → Tree A → Type 0
+  IsWithin level tree = (p : Path) → IsContainer (tree p) → length p ≤ level
+
+  -- The statement of a line at a level. It is rejected if the standard rejects it, or if the tree
+  -- after it has a table or an array that is nested too deeply.
+  pub data RunsWithin (level : ℕ) (s : State A) (item : Item A)
+      : Result (State A) Reason → Type 0
     where
-      ended : {s : State A} {k : ℕ} → Gives s k [] (Ok s.0)
+      allowed : {t : State A} → Runs s item (Ok t) → IsWithin level t.0
+          → RunsWithin level s item (Ok t)
+      invalid : {why : Reason} → Runs s item (Err why) → RunsWithin level s item (Err why)
+      too_deep : (t : State A) → Runs s item (Ok t) → (IsWithin level t.0 → ⊥)
+          → RunsWithin level s item (Err TooDeep)
+
+  -- The lines of a document, from the `k`-th on, give a tree, or one of them is rejected first.
+  pub data Gives (level : ℕ)
+      : State A → ℕ → List (Option (Item A)) → Result (Tree A) (ℕ × Reason) → Type 0
+    where
+      ended : {s : State A} {k : ℕ} → Gives level s k [] (Ok s.0)
       blank : {s : State A} {k : ℕ} {lines : List (Option (Item A))}
           {r : Result (Tree A) (ℕ × Reason)}
-          → Gives s (k + 1) lines r → Gives s k (None ∷ lines) r
+          → Gives level s (k + 1) lines r → Gives level s k (None ∷ lines) r
       accepted : {s t : State A} {k : ℕ} {item : Item A} {lines : List (Option (Item A))}
-          {r : Result (Tree A) (ℕ × Reason)} → Runs s item (Ok t)
-          → Gives t (k + 1) lines r → Gives s k (Some item ∷ lines) r
+          {r : Result (Tree A) (ℕ × Reason)} → RunsWithin level s item (Ok t)
+          → Gives level t (k + 1) lines r → Gives level s k (Some item ∷ lines) r
       refused : {s : State A} {k : ℕ} {item : Item A} {lines : List (Option (Item A))}
-          {why : Reason} → Runs s item (Err why) → Gives s k (Some item ∷ lines) (Err (k, why))
+          {why : Reason} → RunsWithin level s item (Err why)
+          → Gives level s k (Some item ∷ lines) (Err (k, why))

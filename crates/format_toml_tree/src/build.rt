@@ -1,6 +1,6 @@
 //! From the lines of a document to its tree.
 ghost use Rattle.std.specs.Prelude.{◌≡◌, ℕ, [], IfOk, Ok, Err};
-ghost use Rattle.format_toml_tree.specs.Runs.{Gives, Tree as Given, empty};
+ghost use Rattle.format_toml_tree.specs.Runs.{Gives, IsWithin, Tree as Given, empty};
 ghost use Rattle.format_toml_tree.specs.Answer.{Answers};
 ghost use Rattle.format_toml_tree.specs.Holds.{HoldsTree};
 ghost use Rattle.format_toml_tree.specs.declared.build.TreeError.TheVariants.{Invalid};
@@ -73,6 +73,10 @@ fn fault_at(line: usize, stop: Stop) -> TreeError
 
 /// Builds the tree of some lines, or returns the first that is rejected.
 ///
+/// Each table and array of the tree is nested at most `level` deep: `[a]`, `a.b = 1` and `a = {}`
+/// make a table at depth 1, `[[a]]` an array at depth 1 and its tables at depth 2. So a caller who
+/// recurses into the tree needs a stack for `level` calls.
+///
 /// The error has the number of the line, counted from 0, and why it is rejected; or memory
 /// allocation failed. The tree borrows names and values from the lines. The time is by the number
 /// of all names, and for each by the logarithm of the number of entries of its table.
@@ -87,7 +91,7 @@ fn fault_at(line: usize, stop: Stop) -> TreeError
 ///     let _ = names.push(name);
 /// }
 /// let lines = [Some(Item::Entry(Key { names }, Value::Integer(80)))];
-/// match build(alloc, &lines) {
+/// match build(alloc, 0, &lines) {
 ///     Ok(tree) => {
 ///         let port = tree.root().get("port").and_then(|node| node.as_i64());
 ///         assert_eq!(rt; port, Some(80));
@@ -97,20 +101,21 @@ fn fault_at(line: usize, stop: Stop) -> TreeError
 /// ```
 pub fn build<'t, A: Allocator + Copy>(
     alloc: A,
+    level: usize,
     lines: &'t [Option<Item<A>>],
 ) -> Result<Tree<'t, A>, TreeError>
-    ensures answers { Answers lines.now result }
+    ensures answers { Answers level lines.now result }
     ensures accepted { IfOk result
-        (λ tree. (given : Given A) × Gives (empty, []) 0 lines.now (Ok given)
-        × HoldsTree tree.slots.items given) }
+        (λ tree. (given : Given A) × Gives level (empty, []) 0 lines.now (Ok given)
+        × HoldsTree tree.slots.items given × IsWithin level given) }
     ensures refused { (line : ℕ) (why : Reason) → result ≡ Err (Invalid line why)
-        → Gives (empty, []) 0 lines.now (Err (line, why)) }
+        → Gives level (empty, []) 0 lines.now (Err (line, why)) }
 {
     let mut tree = Tree::new(alloc)?;
     let mut table = 0;
     for line in 0..lines.len() {
         if let Some(item) = &lines[line] {
-            match tree.add(alloc, table, item) {
+            match tree.add_line(alloc, level, table, item) {
                 Ok(next) => table = next,
                 Err(stop) => return Err(fault_at(line, stop)),
             }

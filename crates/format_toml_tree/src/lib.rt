@@ -22,6 +22,7 @@
 //! - A dotted key may add to a table that headers passed through, and that no header defines, as
 //!   `[a.b.c]`, then `[a]` and `b.d = 1`. Then no header may define it. Python's `tomllib` does so
 //!   too.
+//! - The caller gives the maximum depth of tables and arrays: the standard has none.
 #![tactic(auto)]
 
 pub mod build;

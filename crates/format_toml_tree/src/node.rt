@@ -3,8 +3,9 @@ ghost use Rattle.format_toml_tree.specs.Nodes.{Answers, AnswersAs, AnswersText, 
 ghost use Rattle.format_toml_tree.specs.declared.value.DateTime.{DateTime as DateTimeOf};
 ghost use Rattle.format_toml_tree.specs.declared.value.Float.{Float as FloatOf};
 ghost use Rattle.format_toml_tree.specs.declared.value.Value.TheVariants as values;
-ghost use Rattle.format_toml_tree.specs.Holds.{node_of};
-ghost use Rattle.format_toml_tree.specs.Kinds.{AnswersItself, IsArray, IsSlot, IsTable, KindResult};
+ghost use Rattle.format_toml_tree.specs.Holds.{Contains, node_of};
+ghost use Rattle.format_toml_tree.specs.Kinds.{AnswersItself, IsSlot, KindResult};
+ghost use Rattle.format_toml_tree.specs.Rules.{IsArray, IsTable};
 ghost use Rattle.std.specs.Borrow.{Bor};
 ghost use Rattle.std.specs.Prelude.{◌↔◌, ℕ, IsTrue};
 
@@ -39,6 +40,13 @@ fn shows_array<'t, A: Allocator>(kind: Kind<'t, A>) -> bool
         Kind::Tables => true,
         Kind::Value(value) => matches!(value, Value::Array(_)),
     }
+}
+
+/// Whether a place of this kind is a table or an array.
+pub(crate) fn contains<'t, A: Allocator + Copy>(kind: Kind<'t, A>) -> bool
+    ensures { IsTrue result ↔ Contains kind.entry }
+{
+    shows_table(kind) || shows_array(kind)
 }
 
 impl<'t, A: Allocator + Copy> Tree<'t, A> {

@@ -28,6 +28,8 @@ pub enum Reason {
     Closed,
     /// It adds a table to a value that is not an array of tables.
     NoTables,
+    /// It makes a table or an array that is nested more deeply than the level.
+    TooDeep,
 }
 
 impl Display for Reason {
@@ -37,6 +39,7 @@ impl Display for Reason {
             Reason::NoTable => "key is not a table",
             Reason::Closed => "table cannot be extended",
             Reason::NoTables => "key is not an array of tables",
+            Reason::TooDeep => "table or array is nested too deep",
         })
     }
 }

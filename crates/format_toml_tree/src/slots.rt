@@ -12,7 +12,7 @@ impl<'t, A: Allocator + Copy> Tree<'t, A> {
     /// ```
     /// use format_toml_tree::build::build;
     ///
-    /// if let Ok(tree) = build(alloc, &[]) {
+    /// if let Ok(tree) = build(alloc, 0, &[]) {
     ///     assert_eq!(rt; tree.slots().len(), 1);
     /// }
     /// ```

@@ -1,12 +1,13 @@
 //! The tree of a document.
 ghost use Rattle.std.specs.Prelude.{◌≡◌, ◌<◌, ◌≤◌, length, IfOk, slice_get, Some};
 ghost use Rattle.format_toml_tree.specs.Runs.{Fills, FillsEntry, FillsNames, FillsPlaces};
-ghost use Rattle.format_toml_tree.specs.Holds.{AddsElement, AddsEntry, AddsItem, FillsBy, IsInside};
-ghost use Rattle.format_toml_tree.specs.Holds.{IsValueAt, Opens};
+ghost use Rattle.format_toml_tree.specs.Holds.{AddsElement, AddsEntry, AddsItem, AddsLine, FillsBy};
+ghost use Rattle.format_toml_tree.specs.Holds.{FitResult, IsInside, IsValueAt, Opens};
 ghost use Rattle.format_toml_tree.specs.Holds.{IsTreeAt, Pushes, SaysKey, SaysName, Sets};
 ghost use Rattle.format_toml_tree.specs.Holds.{StartsEmpty, node_at};
 ghost use Rattle.format_toml_tree.specs.Holds.{says_of};
 
+use crate::node::contains;
 use crate::roles::{Reason, Role, first, next};
 use crate::value::{Item, Key, Value};
 use std::alloc::{AllocError, AllocFailed, Allocator};
@@ -32,6 +33,8 @@ pub enum Kind<'t, A: Allocator> {
 pub struct Slot<'t, A: Allocator> {
     /// The value of a node.
     pub(crate) kind: Kind<'t, A>,
+    /// The number of steps to it from the first slot.
+    pub(crate) depth: usize,
     /// Its name in the table that it is in; nothing where it is in an array.
     pub(crate) name: &'t str,
     /// Where its entries are, by their names.
@@ -76,17 +79,25 @@ impl<'t, A: Allocator + Copy> Tree<'t, A> {
         let mut tree = Tree {
             slots: Vec::new(alloc),
         };
-        tree.push(alloc, "", Kind::Header)?;
+        tree.push(alloc, 0, "", Kind::Header)?;
         Ok(tree)
     }
 
     /// Adds a place, below none, and answers it.
-    fn push(&mut self, alloc: A, name: &'t str, kind: Kind<'t, A>) -> Result<usize, AllocError>
-        ensures { IfOk result (λ j. Pushes self.old.slots.items kind.entry j self.new.slots.items) }
+    fn push(
+        &mut self,
+        alloc: A,
+        depth: usize,
+        name: &'t str,
+        kind: Kind<'t, A>,
+    ) -> Result<usize, AllocError>
+        ensures { IfOk result (λ j. Pushes self.old.slots.items depth kind.entry j
+            self.new.slots.items) }
     {
         let place = self.slots.len();
         let slot = Slot {
             kind,
+            depth,
             name,
             places: BTreeMap::new(alloc),
             entries: Vec::new(alloc),
@@ -108,7 +119,8 @@ impl<'t, A: Allocator + Copy> Tree<'t, A> {
         ensures { IfOk result (λ j. AddsEntry self.old.slots.items table name.now kind.entry j
             self.new.slots.items) }
     {
-        let place = self.push(alloc, name, kind)?;
+        let depth = self.slots[table].depth.saturating_add(1);
+        let place = self.push(alloc, depth, name, kind)?;
         let slot = &mut self.slots[table];
         slot.places.insert(name, place)?;
         slot.entries.push(place)?;
@@ -126,7 +138,8 @@ impl<'t, A: Allocator + Copy> Tree<'t, A> {
         ensures { IfOk result (λ j. AddsElement self.old.slots.items array kind.entry j
             self.new.slots.items) }
     {
-        let place = self.push(alloc, "", kind)?;
+        let depth = self.slots[array].depth.saturating_add(1);
+        let place = self.push(alloc, depth, "", kind)?;
         let slot = &mut self.slots[array];
         slot.elements.push(place)?;
         Ok(place)
@@ -298,7 +311,7 @@ impl<'t, A: Allocator + Copy> Tree<'t, A> {
     }
 
     /// Adds the content of a line, and returns the table of the next line.
-    pub(crate) fn add(&mut self, alloc: A, table: usize, item: &'t Item<A>) -> Result<usize, Stop>
+    fn add(&mut self, alloc: A, table: usize, item: &'t Item<A>) -> Result<usize, Stop>
         requires { IsTreeAt self.old.slots.items table }
         ensures { AddsItem self.old.slots.items table item.now result self.new.slots.items }
     {
@@ -312,6 +325,41 @@ impl<'t, A: Allocator + Copy> Tree<'t, A> {
                     Err(stop) => Err(stop),
                 }
             }
+        }
+    }
+
+    /// Returns whether no slot from `from` on is a table or an array that is nested more than
+    /// `level` deep.
+    fn fits(&self, from: usize, level: usize) -> bool
+        ensures { FitResult level self.now.slots.items from result }
+    {
+        for i in from..self.slots.len() {
+            let slot = &self.slots[i];
+            if slot.depth > level && contains(slot.kind) {
+                return false;
+            }
+        }
+        true
+    }
+
+    /// Adds the content of a line, and returns the table of the next line. Rejects it if it makes a
+    /// table or an array that is nested more than `level` deep.
+    pub(crate) fn add_line(
+        &mut self,
+        alloc: A,
+        level: usize,
+        table: usize,
+        item: &'t Item<A>,
+    ) -> Result<usize, Stop>
+        requires { IsTreeAt self.old.slots.items table }
+        ensures { AddsLine level self.old.slots.items table item.now result self.new.slots.items }
+    {
+        let from = self.slots.len();
+        let next = self.add(alloc, table, item)?;
+        if self.fits(from, level) {
+            Ok(next)
+        } else {
+            Err(Stop::Invalid(Reason::TooDeep))
         }
     }
 }

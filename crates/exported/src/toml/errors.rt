@@ -141,6 +141,9 @@ pub const TOML_ERROR_CLOSED: u32 = 43;
 /// Key is not an array of tables.
 pub const TOML_ERROR_NOT_AN_ARRAY_OF_TABLES: u32 = 44;
 
+/// Table or array is nested deeper than the depth limit. The line makes it.
+pub const TOML_ERROR_LINE_TOO_DEEP: u32 = 45;
+
 /// Returns the number of an expected character of a string or a comment.
 fn number_in_text(expected: Expected) -> u32
     ensures { result ≡ number_in_text expected }
@@ -208,7 +211,7 @@ pub fn number_of_expected(expected: Expected) -> u32
     }
 }
 
-/// Returns the number of the reason for which the standard rejects a line.
+/// Returns the number of the reason why a line is rejected.
 pub fn number_of_reason(why: Reason) -> u32
     ensures { result ≡ reason_of why }
 {
@@ -217,5 +220,6 @@ pub fn number_of_reason(why: Reason) -> u32
         Reason::NoTable => TOML_ERROR_NOT_A_TABLE,
         Reason::Closed => TOML_ERROR_CLOSED,
         Reason::NoTables => TOML_ERROR_NOT_AN_ARRAY_OF_TABLES,
+        Reason::TooDeep => TOML_ERROR_LINE_TOO_DEEP,
     }
 }

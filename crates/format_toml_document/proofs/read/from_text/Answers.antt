@@ -4,14 +4,14 @@ use Rattle.format_toml_document.specs.contracts.read.from_text.{A-type}
 use Rattle.format_toml_document.proofs.ErrorResults.{lines_told}
 use Rattle.format_toml_document.proofs.read.from_text.Goals as goal
 use Rattle.format_toml_tree.specs.Holds.{HoldsTree}
-use Rattle.format_toml_tree.specs.Runs.{Gives, Tree as Given, empty}
+use Rattle.format_toml_tree.specs.Runs.{Gives, IsWithin, Tree as Given, empty}
 use Rattle.format_toml_tree.specs.declared.value.Item.{Item}
 
 pub returns-in-Ok-build-clause-tree : goal.returns-in-Ok-build-clause-tree
 returns-in-Ok-build-clause-tree g c =
     let P : List (Option (Item (A-type g.row.A))) → Type 0 = λ l.
-    (given : Given (A-type g.row.A)) × Gives (empty, []) 0 l (Ok given)
-    × HoldsTree c.in-Ok-build.tree.slots.items given in (
+    (given : Given (A-type g.row.A)) × Gives c.args.level (empty, []) 0 l (Ok given)
+    × HoldsTree c.in-Ok-build.tree.slots.items given × IsWithin c.args.level given in (
       c.in-Ok.lines,
       c.in-Ok.ensures.stands,
       subst P c.as_slice.ensures.value c.in-Ok-build.ensures.accepted,
@@ -23,7 +23,7 @@ returns-in-Err-build-clause-fault g c =
     c.in-Err-build.fault c.fault_of_build.result c.in-Ok.ensures.stands
     (λ n why is.
     let P : List (Option (Item (A-type g.row.A))) → Type 0 = λ l.
-    Gives (empty, []) 0 l (Err (n, why)) in
+    Gives c.args.level (empty, []) 0 l (Err (n, why)) in
     subst P c.as_slice.ensures.value
     (c.build.ensures.refused n why (c.in-Err-build.is ∙ ap (λ fault. Err fault) is)))
     c.fault_of_build.ensures

@@ -1,7 +1,7 @@
 use Rattle.format_toml_tree.specs.Keys.{err_is}
 use Rattle.std.proofs.Common.{[], ◌≡◌, Result, Err, refl, subst, sym, ◌+◌, ap}
 use Rattle.format_toml_tree.specs.Answer.{answers_fault, no_memory, answers_tree}
-use Rattle.format_toml_tree.specs.Holds.{AddsItem}
+use Rattle.format_toml_tree.specs.Holds.{AddsLine}
 use Rattle.format_toml_tree.specs.Lines.{LeftToAdd, all_added, left_added, left_blank, left_first}
 use Rattle.format_toml_tree.specs.Lines.{line_refused, none_of, some_place, stands}
 use Rattle.format_toml_tree.specs.Runs.{Gives, empty}
@@ -10,10 +10,10 @@ use Rattle.format_toml_tree.proofs.build.build.Goals as goal
 use Rattle.format_toml_tree.proofs.build.build.Goals.{in-Some+in-Ok, in_default}
 
 pub loop-line-init : goal.loop-line-init
-loop-line-init g c = left_first _ _ c.in_ok-tree.ensures
+loop-line-init g c = left_first _ _ _ c.in_ok-tree.ensures
 
-pub add-requires : goal.add-requires
-add-requires g c = stands _ _ _ _ c.loop-line.invariant
+pub add_line-requires : goal.add_line-requires
+add_line-requires g c = stands _ _ _ _ _ c.loop-line.invariant
 
 err_same : {X : Type 0} {a b : TreeError} (r : Result X TreeError) → r ≡ Err a → r ≡ Err b → a ≡ b
 err_same r e f = cc
@@ -23,38 +23,41 @@ returns-in-Err-clause-refused g c line why e =
     let (at, stop) = c.fault_at.ensures line why (err_same _ refl e) in
     let lines = c.args.lines.now in
     let old = c.loop-line.tree.slots.items in
-    let new = c.add.new.self.slots.items in
-    subst (λ l. Gives (empty, []) 0 lines (Err (l, why))) (sym at) (line_refused _ _ _ _
-    c.loop-line.invariant _ c.loop-line-test.true c.index-lines-line.is _ c.in-Some.is _ new
-    (subst (λ s. AddsItem old c.loop-line.table c.in-Some.item (Err s) new) stop
+    let new = c.add_line.new.self.slots.items in
+    subst (λ l. Gives c.args.level (empty, []) 0 lines (Err (l, why))) (sym at) (line_refused _ _
+    _ _ _ c.loop-line.invariant _ c.loop-line-test.true c.index-lines-line.is _ c.in-Some.is _ new
+    (subst (λ s. AddsLine c.args.level old c.loop-line.table c.in-Some.item (Err s) new) stop
     c.in-Err.ensures))
 
 pub loop-line-preserved : goal.loop-line-preserved
 loop-line-preserved g c =
     let lines = c.args.lines.now in
     let k = c.loop-line.line in
+    let slots = c.match-lines-line.tree.slots.items in
+    let level = c.args.level in
     elim c.match-lines-line.branch [
       | in-Some+in-Ok w ↦
-          subst (λ t. LeftToAdd lines (k + 1) t c.match-lines-line.tree.slots.items) (sym
-          w.table-is) (subst (λ t. LeftToAdd lines (k + 1) w.in-Ok.next t.slots.items) (sym
-          w.tree-is) (left_added _ _ _ _ c.loop-line.invariant _ c.loop-line-test.true
+          subst (λ t. LeftToAdd level lines (k + 1) t slots) (sym w.table-is)
+          (subst (λ t. LeftToAdd level lines (k + 1) w.in-Ok.next t.slots.items) (sym
+          w.tree-is) (left_added _ _ _ _ _ c.loop-line.invariant _ c.loop-line-test.true
           c.index-lines-line.is _ w.in-Some.is _ _ w.in-Ok.ensures))
       | in_default w ↦
-          subst (λ t. LeftToAdd lines (k + 1) t c.match-lines-line.tree.slots.items) (sym
-          w.table-is) (subst (λ t. LeftToAdd lines (k + 1) c.loop-line.table t.slots.items) (sym
-          w.tree-is) (left_blank _ _ _ _ c.loop-line.invariant _ c.loop-line-test.true
+          subst (λ t. LeftToAdd level lines (k + 1) t slots) (sym w.table-is)
+          (subst (λ t. LeftToAdd level lines (k + 1) c.loop-line.table t.slots.items) (sym
+          w.tree-is) (left_blank _ _ _ _ _ c.loop-line.invariant _ c.loop-line-test.true
           c.index-lines-line.is (none_of _ w.in_default.not-Some)))
     ]
 
 pub returns-clause-accepted : goal.returns-clause-accepted
 returns-clause-accepted g c = (
   c.loop-line.invariant.tree,
-  all_added _ _ _ _ c.loop-line.invariant c.loop-line-test.false,
+  all_added _ _ _ _ _ c.loop-line.invariant c.loop-line-test.false,
   (
     c.loop-line.invariant.path,
     c.loop-line.invariant.holds,
-    some_place _ _ _ _ c.loop-line.invariant,
+    some_place _ _ _ _ _ c.loop-line.invariant,
   ),
+  c.loop-line.invariant.nested,
 )
 
 pub returns-in_err-tree-clause-answers : goal.returns-in_err-tree-clause-answers
@@ -64,10 +67,10 @@ returns-in_err-tree-clause-answers g c =
 
 pub returns-in-Err-clause-answers : goal.returns-in-Err-clause-answers
 returns-in-Err-clause-answers g c =
-    answers_fault _ _ (λ line why e.
+    answers_fault _ _ _ (λ line why e.
     returns-in-Err-clause-refused g c line why (ap (λ f. Err f) e))
 
 pub returns-clause-answers : goal.returns-clause-answers
 returns-clause-answers g c =
     let told = returns-clause-accepted g c in
-    answers_tree _ c.loop-line.tree _ told.1 told.2
+    answers_tree _ _ c.loop-line.tree _ told.1 told.2

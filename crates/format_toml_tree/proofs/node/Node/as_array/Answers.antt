@@ -1,4 +1,5 @@
-use Rattle.format_toml_tree.specs.Kinds.{IsArray, itself_none, itself_some}
+use Rattle.format_toml_tree.specs.Rules.{IsArray}
+use Rattle.format_toml_tree.specs.Kinds.{itself_none, itself_some}
 use Rattle.format_toml_tree.proofs.node.Node.as_array.Goals as goal
 
 pub returns-then-is_array : goal.returns-then-is_array

@@ -1,4 +1,5 @@
-use Rattle.format_toml_tree.specs.Kinds.{IsTable, itself_none, itself_some}
+use Rattle.format_toml_tree.specs.Rules.{IsTable}
+use Rattle.format_toml_tree.specs.Kinds.{itself_none, itself_some}
 use Rattle.format_toml_tree.proofs.node.Node.as_table.Goals as goal
 
 pub returns-then-is_table : goal.returns-then-is_table

@@ -1,5 +1,6 @@
 use Rattle.std.specs.Prelude.{length}
-use Rattle.format_toml_tree.specs.Kinds.{IsArray, tells_at}
+use Rattle.format_toml_tree.specs.Rules.{IsArray}
+use Rattle.format_toml_tree.specs.Kinds.{tells_at}
 use Rattle.format_toml_tree.proofs.node.Node.is_array.Goals as goal
 
 pub returns-in-Some : goal.returns-in-Some

@@ -1,5 +1,6 @@
 use Rattle.std.specs.Prelude.{length}
-use Rattle.format_toml_tree.specs.Kinds.{IsTable, tells_at}
+use Rattle.format_toml_tree.specs.Rules.{IsTable}
+use Rattle.format_toml_tree.specs.Kinds.{tells_at}
 use Rattle.format_toml_tree.proofs.node.Node.is_table.Goals as goal
 
 pub returns-in-Some : goal.returns-in-Some

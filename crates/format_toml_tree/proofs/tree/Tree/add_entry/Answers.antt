@@ -1,9 +1,16 @@
-use Rattle.std.proofs.Common.{refl}
-use Rattle.format_toml_tree.specs.Calls.{entry_added}
+use Rattle.std.proofs.Common.{◌<◌, length, refl, arith}
+use Rattle.std.proofs.lemmas.Option.{slice_get_read}
+use Rattle.format_toml_tree.specs.Calls.{depth_added, entry_added}
 use Rattle.format_toml_tree.proofs.tree.Tree.add_entry.Goals as goal
 
 pub returns : goal.returns
 returns g c =
-    entry_added _ _ _ _ _ _ _ c.in_ok-place.ensures c.requires c.index_mut-slot.ensures.value
-    refl c.args.name
-    c.in_ok-insert.ensures.updates refl
+    let slots = c.args.self.now.slots in
+    let at = slice_get_read slots.items _ c.args.table c.index.result.now refl c.requires
+    c.index.ensures in
+    let small : length slots.items < 18446744073709551616 =
+    omega (arith, slots.ok.0, slots.ok.1, slots.small) in
+    entry_added _ _ _ _ _ _ _ _ c.in_ok-place.ensures c.requires
+    (depth_added slots.items c.args.table _ c.index.result.now at
+    c.saturating_add-depth.ensures small)
+    c.index_mut-slot.ensures.value refl refl c.args.name c.in_ok-insert.ensures.updates refl

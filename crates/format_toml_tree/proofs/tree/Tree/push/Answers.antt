@@ -5,12 +5,14 @@ pub returns : goal.returns
 returns g c = (
   record {
     kind = c.args.kind;
+    depth = c.args.depth;
     name = c.args.name;
     places = c.new.result;
     entries = c.new-2.result;
     elements = c.new-3.result;
   },
   record {
+    depth_is = refl;
     kind_is = refl;
     no_places = c.new.ensures.empty;
     no_elements = c.new-3.ensures.items;
