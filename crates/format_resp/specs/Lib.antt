@@ -6,5 +6,6 @@ pub mod Heads
 pub mod Lines
 pub mod Numbers
 pub mod Parts
+pub mod Reading
 pub mod Resp
 pub mod Written
