@@ -1,7 +1,7 @@
 -- Numbers that are equal have one decimal.
 use Rattle.std.proofs.Common.{◌≡◌, ◌∙◌, ◌+◌, ◌*◌, ◌^◌, ◌%◌, ◌/◌, ◌+ℤ◌, ◌*ℤ◌, ◌++◌}
 use Rattle.std.proofs.Common.{Bool, false, true, ℕ, zero, suc, ℤ, pos, negsuc, neg_ℤ, ap, arith}
-use Rattle.std.proofs.Common.{inl, inr, refl, subst, sym}
+use Rattle.std.proofs.Common.{inl, inr, refl, sym}
 use Rattle.std.proofs.Math.Nat.{mul_assoc, mul-div_cancel}
 use Rattle.std.proofs.lemmas.Int.{ints}
 use Rattle.std.proofs.lemmas.Nat.{mod-mul-add, pow-add}
