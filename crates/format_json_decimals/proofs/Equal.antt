@@ -1,8 +1,7 @@
 -- Numbers that are equal have one decimal.
-use Rattle.std.proofs.Common.{◌≡◌, ◌∙◌, ◌<◌, ◌⊎◌, ◌+◌, ◌*◌, ◌^◌, ◌%◌, ◌/◌, ◌+ℤ◌}
-use Rattle.std.proofs.Common.{◌*ℤ◌, ◌++◌}
-use Rattle.std.proofs.Common.{Bool, false, true, ℕ, zero, suc, ℤ, pos, negsuc, ap, arith, inl}
-use Rattle.std.proofs.Common.{inr, refl, subst, sym}
+use Rattle.std.proofs.Common.{◌≡◌, ◌∙◌, ◌+◌, ◌*◌, ◌^◌, ◌%◌, ◌/◌, ◌+ℤ◌, ◌*ℤ◌, ◌++◌}
+use Rattle.std.proofs.Common.{Bool, false, true, ℕ, zero, suc, ℤ, pos, negsuc, neg_ℤ, ap, arith}
+use Rattle.std.proofs.Common.{inl, inr, refl, sym}
 use Rattle.std.proofs.Math.Nat.{mul_assoc, mul-div_cancel}
 use Rattle.std.proofs.lemmas.Int.{ints}
 use Rattle.std.proofs.lemmas.Nat.{mod-mul-add, pow-add}
@@ -14,11 +13,9 @@ use Rattle.format_json_decimals.specs.Numbers.{Number, coefficient, scale, with_
 
 -- ---- integers with signs
 
--- `Alike b x c y`: `x` and `y` are equal, and so are the signs `b` and `c` unless `x` is zero
-abbrev pub Alike : Bool → ℕ → Bool → ℕ → Type 0
-Alike b x c y = (x ≡ y) × ((x ≡ 0 → ⊥) → b ≡ c)
-
-alike : (b c : Bool) (x y : ℕ) → with_sign b x ≡ with_sign c y → Alike b x c y
+-- `x` and `y` are equal, and so are their signs `b` and `c` unless `x` is zero
+alike : (b c : Bool) (x y : ℕ) → with_sign b x ≡ with_sign c y
+    → (x ≡ y) × ((x ≡ 0 → ⊥) → b ≡ c)
 alike false false x y e = (omega (arith, ints, e), λ _. refl)
 alike true true x y e = (omega (arith, ints, e), λ _. refl)
 alike false true x y e =
@@ -26,150 +23,121 @@ alike false true x y e =
 alike true false x y e =
     (omega (arith, ints, e), λ some. absurd (some (omega (arith, ints, e))))
 
-signed_alike : (b c : Bool) (x y : ℕ) → Alike b x c y → with_sign b x ≡ with_sign c y
-signed_alike b c zero y (e, s) = no_sign b c ∙ ap (with_sign c) e
+cancel : (x y k : ℕ) → x * 10 ^ k ≡ y * 10 ^ k → x ≡ y
+cancel x y k e =
+    sym (mul-div_cancel x (some_tens k)) ∙ ap (λ n. n / 10 ^ k) e ∙ mul-div_cancel y (some_tens k)
+
+is_zero : (x k : ℕ) → x * 10 ^ k ≡ 0 → x ≡ 0
+is_zero x k e = cancel x 0 k (e ∙ omega arith)
+
+signed_cancel : (b c : Bool) (x y k : ℕ) → with_sign b (x * 10 ^ k) ≡ with_sign c (y * 10 ^ k)
+    → with_sign b x ≡ with_sign c y
+signed_cancel b c x y k e = by b c (alike b c (x * 10 ^ k) (y * 10 ^ k) e) e
   where
-    no_sign : (b c : Bool) → with_sign b 0 ≡ with_sign c 0
-    no_sign false false = refl
-    no_sign false true = refl
-    no_sign true false = refl
-    no_sign true true = refl
-signed_alike b c (suc x) y (e, s) =
-    ap (λ d. with_sign d (suc x)) (s (λ none. omega (arith, none))) ∙ ap (with_sign c) e
+    no_sign : (x y : ℕ) → x ≡ 0 → y ≡ 0 → pos x ≡ neg_ℤ (pos y)
+    no_sign x y e f = ap pos e ∙ ap (λ n. neg_ℤ (pos n)) (sym f)
 
--- both times the same
-cancel : (x y t : ℕ) → 0 < t → x * t ≡ y * t → x ≡ y
-cancel x y t some e =
-    sym (mul-div_cancel x some) ∙ ap (λ n. n / t) e ∙ mul-div_cancel y some
-
-alike_less : (b c : Bool) (x y t : ℕ) → 0 < t → Alike b (x * t) c (y * t) → Alike b x c y
-alike_less b c x y t some (e, s) =
-    (cancel x y t some e, λ not. s (λ none. not (cancel x 0 t some (none ∙ omega arith))))
-
--- ---- being equal
-
-pub equal_self : (a p : ℤ) → AreEqual a p a p
-equal_self a p i j e = ap (λ k. a *ℤ pos (10 ^ k)) (omega (arith, ints, e))
-
-equal_back : (a p b q : ℤ) → AreEqual a p b q → AreEqual b q a p
-equal_back a p b q is i j e = sym (is j i (sym e))
-
--- powers of ten that make up for a difference, and are large enough
-gap : (p q : ℤ) (i : ℕ) → (k : ℕ) × (h : ℕ) × (p +ℤ pos h ≡ q +ℤ pos (i + k))
-gap (pos a) (pos b) i = (a, b + i, omega (arith, ints))
-gap (pos a) (negsuc b) i = (a + b + 1, i, omega (arith, ints))
-gap (negsuc a) (pos b) i = (0, a + 1 + b + i, omega (arith, ints))
-gap (negsuc a) (negsuc b) i = (b, i + a, omega (arith, ints))
+    by : (b c : Bool) → (x * 10 ^ k ≡ y * 10 ^ k) × ((x * 10 ^ k ≡ 0 → ⊥) → b ≡ c)
+        → with_sign b (x * 10 ^ k) ≡ with_sign c (y * 10 ^ k) → with_sign b x ≡ with_sign c y
+    by false false (same, _) e = ap pos (cancel x y k same)
+    by true true (same, _) e = ap (λ n. neg_ℤ (pos n)) (cancel x y k same)
+    by false true (same, _) e =
+        no_sign x y (is_zero x k (omega (arith, ints, e))) (is_zero y k (omega (arith, ints, e)))
+    by true false (same, _) e =
+        sym (no_sign y x (is_zero y k (omega (arith, ints, e)))
+        (is_zero x k (omega (arith, ints, e))))
 
 less_tens : (b c : Bool) (x w i j k : ℕ)
     → with_sign b x *ℤ pos (10 ^ (i + k)) ≡ with_sign c w *ℤ pos (10 ^ (j + k))
     → with_sign b x *ℤ pos (10 ^ i) ≡ with_sign c w *ℤ pos (10 ^ j)
 less_tens b c x w i j k e =
-    let all : with_sign b (x * 10 ^ i * 10 ^ k) ≡ with_sign c (w * 10 ^ j * 10 ^ k) =
-    ap (with_sign b) (parted x i k) ∙ sym (sign_times b x (10 ^ (i + k))) ∙ e
-    ∙ sign_times c w (10 ^ (j + k)) ∙ ap (with_sign c) (sym (parted w j k)) in
     sign_times b x (10 ^ i)
-    ∙ signed_alike b c (x * 10 ^ i) (w * 10 ^ j)
-    (alike_less b c (x * 10 ^ i) (w * 10 ^ j) (10 ^ k) (some_tens k)
-    (alike b c (x * 10 ^ i * 10 ^ k) (w * 10 ^ j * 10 ^ k) all))
+    ∙ signed_cancel b c (x * 10 ^ i) (w * 10 ^ j) k
+    (ap (with_sign b) (parted x i) ∙ sym (sign_times b x (10 ^ (i + k))) ∙ e
+    ∙ sign_times c w (10 ^ (j + k)) ∙ ap (with_sign c) (sym (parted w j)))
     ∙ sym (sign_times c w (10 ^ j))
   where
-    parted : (x i k : ℕ) → x * 10 ^ i * 10 ^ k ≡ x * 10 ^ (i + k)
-    parted x i k = mul_assoc x (10 ^ i) (10 ^ k) ∙ ap (λ t. x * t) (sym (pow-add 10 i k))
+    parted : (x i : ℕ) → x * 10 ^ i * 10 ^ k ≡ x * 10 ^ (i + k)
+    parted x i = mul_assoc x (10 ^ i) (10 ^ k) ∙ ap (λ t. x * t) (sym (pow-add 10 i k))
 
-equal_on : (b c d : Bool) (x y w : ℕ) (p q r : ℤ) → AreEqual (with_sign b x) p (with_sign c y) q
-    → AreEqual (with_sign c y) q (with_sign d w) r → AreEqual (with_sign b x) p (with_sign d w) r
-equal_on b c d x y w p q r one two i j e =
-    let (k, h, f) = gap p q i in
-    less_tens b d x w i j k
-    (one (i + k) h f ∙ two h (j + k) (omega (arith, ints, e, f)))
+-- ---- numbers that do not end in zero
 
--- ---- the shortest
+tens : (x k : ℕ) → x * 10 ^ suc k ≡ x * 10 ^ k * 10
+tens x k =
+    let more : suc k ≡ k + 1 = omega arith in ap (λ i. x * 10 ^ i) more ∙ times_ten x k
 
-ends_in_zero : (m k : ℕ) → (m * 10 ^ (k + 1)) % 10 ≡ 0
-ends_in_zero m k =
-    ap (λ n. n % 10) (times_ten m k ∙ omega arith) ∙ mod-mul-add (m * 10 ^ k) 10 0 (omega arith)
+ends_in_zero : (x y k : ℕ) → y ≡ x * 10 ^ suc k → y % 10 ≡ 0
+ends_in_zero x y k e =
+    ap (λ n. n % 10) (e ∙ tens x k ∙ omega arith) ∙ mod-mul-add (x * 10 ^ k) 10 0 (omega arith)
 
-one_shortest : (b c : Bool) (x y : ℕ) (e f : ℤ) (k : ℕ) → IsShortest b x e → IsShortest c y f
-    → f ≡ e +ℤ pos k → AreEqual (with_sign b x) e (with_sign c y) f
+one_ending : (x y i j : ℕ) → (x % 10 ≡ 0 → ⊥) → (y % 10 ≡ 0 → ⊥) → x * 10 ^ i ≡ y * 10 ^ j
+    → (x ≡ y) × (i ≡ j)
+one_ending x y zero zero xs ys e = (omega (arith, e), refl)
+one_ending x y zero (suc j) xs ys e = absurd (xs (ends_in_zero y x j (omega (arith, e))))
+one_ending x y (suc i) zero xs ys e = absurd (ys (ends_in_zero x y i (omega (arith, e))))
+one_ending x y (suc i) (suc j) xs ys e =
+    let (same, k) = one_ending x y i j xs ys (omega (arith, e, tens x i, tens y j)) in
+    (same, ap suc k)
+
+-- ---- decimals
+
+pub equal_self : (a p : ℤ) → AreEqual a p a p
+equal_self a p i j e = ap (λ k. a *ℤ pos (10 ^ k)) (omega (arith, ints, e))
+
+-- a power of ten that makes an exponent natural
+raised : (p : ℤ) → (k : ℕ) × (i : ℕ) × (p +ℤ pos k ≡ pos i)
+raised (pos a) = (0, a, omega (arith, ints))
+raised (negsuc a) = (a + 1, 0, omega (arith, ints))
+
+one_shortest : (b c : Bool) (x y : ℕ) (e f : ℤ) (i j : ℕ) → e +ℤ pos j ≡ f +ℤ pos i
+    → IsShortest b x e → IsShortest c y f
+    → with_sign b x *ℤ pos (10 ^ i) ≡ with_sign c y *ℤ pos (10 ^ j)
     → (b ≡ c) × (x ≡ y) × (e ≡ f)
-one_shortest b c x y e f k short brief more equal = by k short brief more there
+one_shortest b c x y e f i j balance short brief equal = by short brief
+    (alike b c (x * 10 ^ i) (y * 10 ^ j)
+    (sym (sign_times b x (10 ^ i)) ∙ equal ∙ sign_times c y (10 ^ j)))
   where
-    more_is : (k : ℕ) → suc k ≡ k + 1
-    more_is k = omega arith
+    nothing : (x y i j : ℕ) → x * 10 ^ i ≡ y * 10 ^ j → y ≡ 0 → x % 10 ≡ 0
+    nothing x y i j e none =
+        ap (λ n. n % 10) (is_zero x i (e ∙ ap (λ n. n * 10 ^ j) none ∙ omega arith))
 
-    there : Alike b (x * 10 ^ 0) c (y * 10 ^ k)
-    there = alike b c (x * 10 ^ 0) (y * 10 ^ k)
-        (sym (sign_times b x (10 ^ 0)) ∙ equal 0 k (omega (arith, ints, more))
-        ∙ sign_times c y (10 ^ k))
+    by : IsShortest b x e → IsShortest c y f
+        → (x * 10 ^ i ≡ y * 10 ^ j) × ((x * 10 ^ i ≡ 0 → ⊥) → b ≡ c)
+        → (b ≡ c) × (x ≡ y) × (e ≡ f)
+    by (inl ends) (inl too) (same, sign) =
+        let (numbers, powers) = one_ending x y i j ends too same in (
+          sign (λ none. ends (ap (λ n. n % 10) (is_zero x i none))),
+          numbers,
+          omega (arith, ints, balance, powers),
+        )
+    by (inl ends) (inr none) (same, sign) = absurd (ends (nothing x y i j same none.1))
+    by (inr none) (inl ends) (same, sign) = absurd (ends (nothing y x j i (sym same) none.1))
+    by (inr none) (inr too) _ = (none.0 ∙ sym too.0, none.1 ∙ sym too.1, none.2 ∙ sym too.2)
 
-    by : (k : ℕ) → IsShortest b x e → IsShortest c y f → f ≡ e +ℤ pos k
-        → Alike b (x * 10 ^ 0) c (y * 10 ^ k) → (b ≡ c) × (x ≡ y) × (e ≡ f)
-    by zero (inl ends) brief more (same, sign) = (
-      sign (λ none. let nothing : x ≡ 0 = omega (arith, none) in
-          ends (ap (λ n. n % 10) nothing)),
-      omega (arith, same),
-      omega (arith, ints, more),
-    )
-    by zero (inr none) (inl ends) more (same, sign) =
-        let nothing : y ≡ 0 = omega (arith, same, none.1) in
-        absurd (ends (ap (λ n. n % 10) nothing))
-    by zero (inr none) (inr nothing) more (same, sign) =
-        (none.0 ∙ sym nothing.0, none.1 ∙ sym nothing.1, none.2 ∙ sym nothing.2)
-    by (suc k) (inl ends) brief more (same, sign) =
-        let longer : x ≡ y * 10 ^ (k + 1) =
-        omega (arith, same, ap (λ i. y * 10 ^ i) (more_is k)) in
-        absurd (ends (ap (λ n. n % 10) longer ∙ ends_in_zero y k))
-    by (suc k) (inr none) (inl ends) more (same, sign) =
-        let nothing : y ≡ 0 = cancel y 0 (10 ^ suc k) (some_tens (suc k))
-        (omega (arith, same, none.1)) in
-        absurd (ends (ap (λ n. n % 10) nothing))
-    by (suc k) (inr none) (inr nothing) more (same, sign) =
-        (none.0 ∙ sym nothing.0, none.1 ∙ sym nothing.1, none.2 ∙ sym nothing.2)
-
-order_sizes : (a b : ℕ) → (k : ℕ) × ((b ≡ a + k) ⊎ (a ≡ b + k))
-order_sizes zero b = (b, inl (omega arith))
-order_sizes (suc a) zero = (suc a, inr (omega arith))
-order_sizes (suc a) (suc b) = (let (k, which) = order_sizes a b in elim which [
-  | inl more ↦ (k, inl (omega (arith, more)))
-  | inr more ↦ (k, inr (omega (arith, more)))
-])
-
-order : (e f : ℤ) → (k : ℕ) × ((f ≡ e +ℤ pos k) ⊎ (e ≡ f +ℤ pos k))
-order (pos a) (pos b) = (let (k, which) = order_sizes a b in elim which [
-  | inl more ↦ (k, inl (omega (arith, ints, more)))
-  | inr more ↦ (k, inr (omega (arith, ints, more)))
-])
-order (pos a) (negsuc b) = (a + b + 1, inr (omega (arith, ints)))
-order (negsuc a) (pos b) = (a + b + 1, inl (omega (arith, ints)))
-order (negsuc a) (negsuc b) = (let (k, which) = order_sizes a b in elim which [
-  | inl more ↦ (k, inr (omega (arith, ints, more)))
-  | inr more ↦ (k, inl (omega (arith, ints, more)))
-])
-
+-- all four, times powers of ten that make their exponents one
 pub one_decimal : (n m : Number) (b c : Bool) (x y : ℕ) (e f : ℤ) → IsDecimal n b x e
     → IsDecimal m c y f → AreEqual (coefficient n) (scale n) (coefficient m) (scale m)
     → (b ≡ c) × (x ≡ y) × (e ≡ f)
-one_decimal n m b c x y e f is has same = let (k, which) = order e f in elim which [
-  | inl more ↦ one_shortest b c x y e f k is.1 has.1 more equal
-  | inr more ↦
-      let (g, h, i) = one_shortest c b y x f e k has.1 is.1 more (equal_back _ _ _ _ equal) in
-      (sym g, sym h, sym i)
-]
-  where
-    equal : AreEqual (with_sign b x) e (with_sign c y) f
-    equal =
-        equal_on b n.negative c x (digits_value 10 (n.whole ++ n.fraction)) y e (scale n) f
-        (equal_back _ _ _ _ is.0)
-        (equal_on n.negative m.negative c (digits_value 10 (n.whole ++ n.fraction))
-        (digits_value 10 (m.whole ++ m.fraction)) y (scale n) (scale m) f same has.0)
+one_decimal n m b c x y e f is has same =
+    let (k, p, r) = raised (scale n) in
+    let (l, q, s) = raised (scale m) in
+    let (g, i, t) = raised e in
+    let (h, j, u) = raised f in
+    one_shortest b c x y e f (i + k + l + h) (j + k + l + g) (omega (arith, ints, t, u)) is.1 has.1
+    (sym (is.0 (p + l + g + h) (i + k + l + h) (omega (arith, ints, r, t)))
+    ∙ same (p + l + g + h) (q + k + g + h) (omega (arith, ints, r, s))
+    ∙ has.0 (q + k + g + h) (j + k + l + g) (omega (arith, ints, s, u)))
 
 pub same_decimal : (n m : Number) (b c : Bool) (x y : ℕ) (e f : ℤ) → IsDecimal n b x e
     → IsDecimal m c y f → (b ≡ c) × (x ≡ y) × (e ≡ f)
     → AreEqual (coefficient n) (scale n) (coefficient m) (scale m)
-same_decimal n m b c x y e f is has (g, h, i) =
-    equal_on n.negative b m.negative (digits_value 10 (n.whole ++ n.fraction)) x
-    (digits_value 10 (m.whole ++ m.fraction)) (scale n) e (scale m) is.0
-    (equal_back _ _ _ _ (subst (λ d. AreEqual (coefficient m) (scale m) (with_sign d x) e) (sym g)
-    (subst (λ k. AreEqual (coefficient m) (scale m) (with_sign c k) e) (sym h)
-    (subst (AreEqual (coefficient m) (scale m) (with_sign c y)) (sym i) has.0))))
+same_decimal n m b c x y e f is has (g, h, same) i j balance =
+    let (k, p, r) = raised (scale n) in
+    let (l, q, s) = raised e in
+    let both : with_sign b x ≡ with_sign c y = ap (λ d. with_sign d x) g ∙ ap (with_sign c) h in
+    less_tens n.negative m.negative (digits_value 10 (n.whole ++ n.fraction))
+    (digits_value 10 (m.whole ++ m.fraction)) i j (p + l)
+    (is.0 (i + (p + l)) (q + k + i) (omega (arith, ints, r, s))
+    ∙ ap (λ a. a *ℤ pos (10 ^ (q + k + i))) both
+    ∙ sym (has.0 (j + (p + l)) (q + k + i)
+    (omega (arith, ints, r, s, balance, same))))

@@ -1,47 +1,20 @@
--- Lemmas that a set of texts is the same by its bytes as by its characters.
-use Rattle.std.proofs.Common.{◌++◌, ◌<◌, ◌∙◌, ◌∷◌, ◌≡◌, [], ℕ, List, ap, append_assoc, arith, inl}
-use Rattle.std.proofs.Common.{inr, refl, subst, sym, true}
+-- Texts of ASCII bytes, and spellings of characters in bytes.
+use Rattle.std.proofs.Common.{◌&&◌, ◌++◌, ◌<◌, ◌∙◌, ◌∷◌, ◌≡◌, ◌≤◌, ◌⊎◌, [], ℕ, Bool}
+use Rattle.std.proofs.Common.{List, ap, arith, false, inl, inr, refl, subst, sym, true}
+use Rattle.std.specs.Char.{encode_utf8}
 use Rattle.std.specs.List.{All, AllByRecursion}
 use Rattle.std.specs.Str.{IsUtf8, all_scalars, encode_utf8_all}
+use Rattle.std.proofs.lemmas.Bool.{cases_lt}
+use Rattle.std.proofs.lemmas.List.{append-nil}
 use Rattle.std.proofs.lemmas.List.Elements.{All-append, All-cons, All-from_recursion, All-head}
 use Rattle.std.proofs.lemmas.List.Elements.{All-nil, All-tail, All-weaker}
 use Rattle.std.proofs.lemmas.Str.{cons_from_encodes, encode_ascii, encodes-append}
-use Rattle.format_json_extents.proofs.Matching.{joined}
-use Rattle.format_json_extents.specs.Texts.{AreTwo, Either, IsByte, List_of, Maybe, Then, before}
-use Rattle.format_json_extents.specs.Texts.{last}
-use Rattle.format_json_extents.specs.Value.{Only}
 use Rattle.std.proofs.Math.Utf8.{low_scalar}
-use Rattle.format_json_extents.proofs.Written.{and_true}
+use Rattle.format_json_extents.specs.Texts.{AreTwo, Either, IsByte, Maybe, Then}
+use Rattle.format_json_extents.specs.Value.{Only}
 use Rattle.format_json_extents.specs.Number.{IsDigit, IsDigits, IsE, IsLeading, IsMinus, IsNumber}
 use Rattle.format_json_extents.specs.Number.{IsNumeral, IsPoint, IsSign, IsZero}
-pub mod Strings
-pub mod Values
-
--- `Front P cs rest`: the characters `cs` start with a text in `P`, and `rest` is the bytes of the
--- others.
-pub record Front (P : List ℕ → Type 0) (cs rest : List ℕ) : Type 0 where
-  pub first : List ℕ
-  pub second : List ℕ
-  pub splits : cs ≡ first ++ second
-  pub rest_of : encode_utf8_all second ≡ rest
-  pub is : P first
-
--- The bytes of characters in `P` are in `P`; and if bytes in `P` are a prefix, so are characters in
--- `P`.
-pub record Alike (P : List ℕ → Type 0) : Type 0 where
-  pub bytes : (cs : List ℕ) → P cs → P (encode_utf8_all cs)
-  pub chars : (cs text rest : List ℕ) → P text → encode_utf8_all cs ≡ text ++ rest
-      → Front P cs rest
-
-front_to : {P Q : List ℕ → Type 0} → ((text : List ℕ) → P text → Q text) → {cs rest : List ℕ}
-    → Front P cs rest → Front Q cs rest
-front_to to f = record {
-  first = f.first;
-  second = f.second;
-  splits = f.splits;
-  rest_of = f.rest_of;
-  is = to f.first f.is;
-}
+use Rattle.streams.specs.Utf8.{four_bytes, three_bytes, two_bytes}
 
 -- ---- a byte of ASCII is the first character
 
@@ -67,7 +40,7 @@ AreLow = All (λ b. b < 128)
 abbrev pub IsLow : (List ℕ → Type 0) → Type 0
 IsLow = Consists (λ b. b < 128)
 
-all_one : (Q : ℕ → Type 0) (b : ℕ) → Q b → All Q (b ∷ [])
+pub all_one : (Q : ℕ → Type 0) (b : ℕ) → Q b → All Q (b ∷ [])
 all_one Q b is = All-cons Q b [] is (All-nil Q)
 
 module _ {Q : ℕ → Type 0} where
@@ -112,87 +85,70 @@ only_low word low = record {
   each = λ text e. subst AreLow (sym e) (All-from_recursion (λ b. b < 128) word low);
 }
 
-pub low_same : (bytes : List ℕ) → AreLow bytes → encode_utf8_all bytes ≡ bytes
-low_same [] all = refl
-low_same (b ∷ bytes) all =
-    first_byte b bytes (All-head (λ b. b < 128) b bytes all)
-    ∙ ap (λ l. b ∷ l) (low_same bytes (All-tail (λ b. b < 128) b bytes all))
+-- ---- spellings of characters
 
-low_front : (text cs rest : List ℕ) → AreLow text → encode_utf8_all cs ≡ text ++ rest
+pub both_true : (a b : Bool) → (a && b) ≡ true → (a ≡ true) × (b ≡ true)
+both_true true b h = (refl, h)
+both_true false b h = (h, cc)
+
+pub and_true : (a b : Bool) → a ≡ true → b ≡ true → (a && b) ≡ true
+and_true true b e f = f
+and_true false b e f = e
+
+-- A spelling of characters in bytes: those of ASCII as themselves, and others in larger bytes.
+pub record Spelling : Type 0 where
+  pub on : List ℕ → List ℕ
+  pub nothing : on [] ≡ []
+  pub joins : (xs ys : List ℕ) → on (xs ++ ys) ≡ on xs ++ on ys
+  pub low : (b : ℕ) (cs : List ℕ) → b < 128 → on (b ∷ cs) ≡ b ∷ on cs
+  pub high : (c : ℕ) → 128 ≤ c → All (λ b. 128 ≤ b) (on (c ∷ []))
+
+abbrev pub themselves : Spelling
+themselves = record {
+  on = λ cs. cs;
+  nothing = refl;
+  joins = λ xs ys. refl;
+  low = λ b cs low. refl;
+  high = λ c high. all_one (λ b. 128 ≤ b) c high;
+}
+
+-- the bytes of a character above ASCII are above it
+pub high_bytes : (c : ℕ) → 128 ≤ c → All (λ b. 128 ≤ b) (encode_utf8 c)
+high_bytes c high = by (cases_lt c 2048) (cases_lt c 65536)
+  where
+    of : (bytes : List ℕ) → encode_utf8 c ≡ bytes → AllByRecursion (λ b. 128 ≤ b) bytes
+        → All (λ b. 128 ≤ b) (encode_utf8 c)
+    of bytes e all =
+        subst (All (λ b. 128 ≤ b)) (sym e) (All-from_recursion (λ b. 128 ≤ b) bytes all)
+
+    by : (c < 2048) ⊎ (2048 ≤ c) → (c < 65536) ⊎ (65536 ≤ c) → All (λ b. 128 ≤ b) (encode_utf8 c)
+    by (inl low) _ = of _ (two_bytes c high low) (omega arith)
+    by (inr more) (inl low) = of _ (three_bytes c more low) (omega arith)
+    by (inr _) (inr more) = of _ (four_bytes c more) (omega arith)
+
+abbrev pub in_utf8 : Spelling
+in_utf8 = record {
+  on = encode_utf8_all;
+  nothing = refl;
+  joins = encodes-append;
+  low = first_byte;
+  high = λ c high.
+      subst (All (λ b. 128 ≤ b)) (sym (append-nil (encode_utf8 c))) (high_bytes c high);
+}
+
+pub low_on : (e : Spelling) (bytes : List ℕ) → AreLow bytes → e.on bytes ≡ bytes
+low_on e [] all = e.nothing
+low_on e (b ∷ bytes) all =
+    e.low b bytes (All-head (λ b. b < 128) b bytes all)
+    ∙ ap (λ l. b ∷ l) (low_on e bytes (All-tail (λ b. b < 128) b bytes all))
+
+pub low_front : (text cs rest : List ℕ) → AreLow text → encode_utf8_all cs ≡ text ++ rest
     → (es : List ℕ) × (cs ≡ text ++ es) × (encode_utf8_all es ≡ rest)
 low_front [] cs rest all e = (cs, refl, e)
 low_front (b ∷ text) cs rest all e =
     let (es, f, g) = first_char cs (text ++ rest) b (All-head (λ b. b < 128) b text all) e in
     let (ds, h, k) = low_front text es rest (All-tail (λ b. b < 128) b text all) g in
     (ds, f ∙ ap (λ l. b ∷ l) h, k)
-
-pub low_alike : {P : List ℕ → Type 0} → IsLow P → Alike P
-low_alike {P} low = record {
-  bytes = λ cs is. subst P (sym (low_same cs (low.each cs is))) is;
-  chars = λ cs text rest is e.
-      let (es, f, g) = low_front text cs rest (low.each text is) e in
-      record { first = text; second = es; splits = f; rest_of = g; is = is };
-}
-
--- ---- other texts
-
-pub then_alike : {P Q : List ℕ → Type 0} → Alike P → Alike Q → Alike (Then P Q)
-then_alike {P} {Q} p q = record {
-  bytes = λ cs is.
-      joined (encode_utf8_all is.first) (encode_utf8_all is.second) (p.bytes is.first is.is_first)
-      (q.bytes is.second is.is_second)
-      (ap encode_utf8_all is.joins ∙ encodes-append is.first is.second);
-  chars = λ cs text rest is e.
-      let f = p.chars cs is.first (is.second ++ rest) is.is_first
-      (e ∙ ap (λ l. l ++ rest) is.joins ∙ append_assoc is.first is.second rest) in
-      let s = q.chars f.second is.second rest is.is_second f.rest_of in
-      record {
-        first = f.first ++ s.first;
-        second = s.second;
-        splits = simp (f.splits, s.splits, append_assoc);
-        rest_of = s.rest_of;
-        is = joined f.first s.first f.is s.is refl;
-      };
-}
-
-pub either_alike : {P Q : List ℕ → Type 0} → Alike P → Alike Q → Alike (Either P Q)
-either_alike {P} {Q} p q = record { bytes = bytes; chars = chars }
-  where
-    bytes : (cs : List ℕ) → Either P Q cs → Either P Q (encode_utf8_all cs)
-    bytes cs (inl is) = inl (p.bytes cs is)
-    bytes cs (inr is) = inr (q.bytes cs is)
-
-    chars : (cs text rest : List ℕ) → Either P Q text → encode_utf8_all cs ≡ text ++ rest
-        → Front (Either P Q) cs rest
-    chars cs text rest (inl is) e = front_to (λ l x. inl x) (p.chars cs text rest is e)
-    chars cs text rest (inr is) e = front_to (λ l x. inr x) (q.chars cs text rest is e)
-
-pub list_alike : {P : List ℕ → Type 0} → Alike P → Alike (List_of P)
-list_alike {P} p = record { bytes = bytes; chars = chars }
-  where
-    bytes : (cs : List ℕ) → List_of P cs → List_of P (encode_utf8_all cs)
-    bytes _ (last cs is) = last (encode_utf8_all cs) (p.bytes cs is)
-    bytes _ (before first others cs is more e) =
-        before (encode_utf8_all first) (encode_utf8_all others) (encode_utf8_all cs)
-        (p.bytes first is) (bytes others more)
-        (ap encode_utf8_all e ∙ encodes-append first (44 ∷ others)
-        ∙ ap (λ l. encode_utf8_all first ++ l) (first_byte 44 others (omega arith)))
-
-    chars : (cs text rest : List ℕ) → List_of P text → encode_utf8_all cs ≡ text ++ rest
-        → Front (List_of P) cs rest
-    chars cs _ rest (last text is) e = front_to (λ l x. last l x) (p.chars cs text rest is e)
-    chars cs _ rest (before first others text is more joins) e =
-        let f = p.chars cs first (44 ∷ (others ++ rest)) is
-        (e ∙ ap (λ l. l ++ rest) joins ∙ append_assoc first (44 ∷ others) rest) in
-        let (es, g, h) = first_char f.second (others ++ rest) 44 (omega arith) f.rest_of in
-        let s = chars es others rest more h in
-        record {
-          first = f.first ++ 44 ∷ s.first;
-          second = s.second;
-          splits = simp (f.splits, g, s.splits, append_assoc);
-          rest_of = s.rest_of;
-          is = before f.first s.first (f.first ++ 44 ∷ s.first) f.is s.is refl;
-        }
 
 -- ---- numbers
 
@@ -225,4 +181,4 @@ low_scalars (b ∷ bytes) all =
     (low_scalars bytes (All-tail (λ b. b < 128) b bytes all))
 
 pub low_utf8 : (bytes : List ℕ) → AreLow bytes → IsUtf8 bytes
-low_utf8 bytes all = (bytes, (low_scalars bytes all, low_same bytes all))
+low_utf8 bytes all = (bytes, (low_scalars bytes all, low_on in_utf8 bytes all))

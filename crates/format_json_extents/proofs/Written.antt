@@ -1,12 +1,14 @@
--- A set of texts is that of the texts of some value.
-use Rattle.std.proofs.Common.{◌&&◌, ◌++◌, ◌+◌, ◌<◌, ◌^◌, ◌∙◌, ◌∷◌, ◌≡◌, ◌≤◌}
-use Rattle.std.proofs.Common.{◌⊎◌, [], ℕ, Bool, List, None, Option, Some, ap, arith, false, inl}
-use Rattle.std.proofs.Common.{inr, length, length-append, refl, subst, sym, true}
+-- Sets of texts that consist of the encodings of values.
+use Rattle.std.proofs.Common.{◌++◌, ◌+◌, ◌<◌, ◌^◌, ◌∙◌, ◌∷◌, ◌≡◌, ◌≤◌, ◌⊎◌, [], ℕ}
+use Rattle.std.proofs.Common.{List, None, Option, Some, ap, append_assoc, arith, inl, inr, length}
+use Rattle.std.proofs.Common.{length-append, refl, subst, sym, true}
 use Rattle.std.specs.Borrow.{Bor}
 use Rattle.std.specs.List.{All}
 use Rattle.std.specs.Str.{all_scalars, encode_utf8_all}
 use Rattle.std.proofs.lemmas.List.Elements.{All-cons, All-head, All-tail, All-weaker}
 use Rattle.std.proofs.lemmas.Str.{encodes-append}
+use Rattle.format_json_extents.proofs.Characters.{IsLow, Spelling, all_in, and_true, both_true}
+use Rattle.format_json_extents.proofs.Characters.{byte_in, low_front, low_on, then_in}
 use Rattle.format_json_extents.proofs.Matching.{joined, one}
 use Rattle.format_json_extents.specs.Texts.{Either, IsByte, Maybe, Then}
 use Rattle.format_parts.specs.Words.{For, In, One, Run}
@@ -26,22 +28,26 @@ pub record Fits (A : Type 0) (cs : List ℕ) : Type 0 where
   pub scalars : all_scalars cs ≡ true
   pub few : length (encode_utf8_all cs) < 2 ^ 63
 
--- The texts of some value are those of P.
+-- `Encoded text cs rest`: the characters `cs` start with an encoding of a value, and `rest` is the
+-- bytes of the others.
+pub record Encoded {O : Type 0} (text : Text ℕ O) (cs rest : List ℕ) : Type 0 where
+  pub first : List ℕ
+  pub second : List ℕ
+  pub output : O
+  pub splits : cs ≡ first ++ second
+  pub rest_of : encode_utf8_all second ≡ rest
+  pub written : text output first
+
+-- Encodings are in `P`, spelled as characters or in bytes; and if bytes in `P` are a prefix of
+-- UTF-8, they are an encoding.
 pub record Written {O : Type 0} (A : Type 0) (P : List ℕ → Type 0) (text : Text ℕ O) : Type 0 where
-  pub set : (o : O) (cs : List ℕ) → text o cs → P cs
-  pub value : (cs : List ℕ) → Fits A cs → P cs → (o : O) × text o cs
+  pub set : (e : Spelling) (o : O) (cs : List ℕ) → text o cs → P (e.on cs)
+  pub value : (cs front rest : List ℕ) → Fits A cs → P front → encode_utf8_all cs ≡ front ++ rest
+      → Encoded text cs rest
 
 -- ---- characters that fit
 
-pub both_true : (a b : Bool) → (a && b) ≡ true → (a ≡ true) × (b ≡ true)
-both_true true b h = (refl, h)
-both_true false b h = (h, cc)
-
-pub and_true : (a b : Bool) → a ≡ true → b ≡ true → (a && b) ≡ true
-and_true true b e f = f
-and_true false b e f = e
-
-scalars_parts : (xs ys : List ℕ) → all_scalars (xs ++ ys) ≡ true
+pub scalars_parts : (xs ys : List ℕ) → all_scalars (xs ++ ys) ≡ true
     → (all_scalars xs ≡ true) × (all_scalars ys ≡ true)
 scalars_parts [] ys h = (refl, h)
 scalars_parts (x ∷ xs) ys h =
@@ -62,17 +68,36 @@ fit_parts cs xs ys e fits =
 
 -- ---- texts of texts
 
+pub encoded : {O : Type 0} {text : Text ℕ O} {cs rest : List ℕ} (first second : List ℕ) (o : O)
+    → text o first → cs ≡ first ++ second → encode_utf8_all second ≡ rest → Encoded text cs rest
+encoded first second o x e f = record {
+  first = first;
+  second = second;
+  output = o;
+  splits = e;
+  rest_of = f;
+  written = x;
+}
+
+encoded_to : {O U : Type 0} {text : Text ℕ O} {other : Text ℕ U} {cs rest : List ℕ}
+    → (v : Encoded text cs rest) → (u : U) → other u v.first → Encoded other cs rest
+encoded_to v u x = encoded v.first v.second u x v.splits v.rest_of
+
 pub then_written : {A O1 O2 O : Type 0} (output : O1 → O2 → O) {P Q : List ℕ → Type 0}
     {first : Text ℕ O1} {second : Text ℕ O2} → Written A P first → Written A Q second
     → Written A (Then P Q) (Both output first second)
 unfolding Both
 then_written output p q = record {
-  set = λ o cs (a, b, xs, ys, x, y, e, out). joined xs ys (p.set a xs x) (q.set b ys y) e;
-  value = λ cs fits is.
-      let (one, two) = fit_parts cs is.first is.second is.joins fits in
-      let (a, x) = p.value is.first one is.is_first in
-      let (b, y) = q.value is.second two is.is_second in
-      (output a b, (a, b, is.first, is.second, x, y, is.joins, refl));
+  set = λ e o cs (a, b, xs, ys, x, y, f, out).
+      joined (e.on xs) (e.on ys) (p.set e a xs x) (q.set e b ys y) (ap e.on f ∙ e.joins xs ys);
+  value = λ cs front rest fits is f.
+      let u = p.value cs is.first (is.second ++ rest) fits is.is_first
+      (f ∙ ap (λ l. l ++ rest) is.joins ∙ append_assoc is.first is.second rest) in
+      let v = q.value u.second is.second rest (fit_parts cs u.first u.second u.splits fits).1
+      is.is_second u.rest_of in
+      encoded (u.first ++ v.first) v.second (output u.output v.output)
+      (u.output, v.output, u.first, v.first, u.written, v.written, refl, refl)
+      (simp (u.splits, v.splits, append_assoc)) v.rest_of;
 }
 
 pub either_written : {A O : Type 0} {P Q : List ℕ → Type 0} {first second : Text ℕ O}
@@ -80,26 +105,32 @@ pub either_written : {A O : Type 0} {P Q : List ℕ → Type 0} {first second : 
 unfolding EitherText
 either_written {A} {O} {P} {Q} {first} {second} p q = record { set = set; value = value }
   where
-    set : (o : O) (cs : List ℕ) → first o cs ⊎ second o cs → Either P Q cs
-    set o cs (inl x) = inl (p.set o cs x)
-    set o cs (inr x) = inr (q.set o cs x)
+    set : (e : Spelling) (o : O) (cs : List ℕ) → first o cs ⊎ second o cs → Either P Q (e.on cs)
+    set e o cs (inl x) = inl (p.set e o cs x)
+    set e o cs (inr x) = inr (q.set e o cs x)
 
-    value : (cs : List ℕ) → Fits A cs → Either P Q cs → (o : O) × (first o cs ⊎ second o cs)
-    value cs fits (inl is) = let (o, x) = p.value cs fits is in (o, inl x)
-    value cs fits (inr is) = let (o, x) = q.value cs fits is in (o, inr x)
+    value : (cs front rest : List ℕ) → Fits A cs → Either P Q front
+        → encode_utf8_all cs ≡ front ++ rest → Encoded (EitherText first second) cs rest
+    value cs front rest fits (inl is) f =
+        let v = p.value cs front rest fits is f in encoded_to v v.output (inl v.written)
+    value cs front rest fits (inr is) f =
+        let v = q.value cs front rest fits is f in encoded_to v v.output (inr v.written)
 
 pub maybe_written : {A O : Type 0} {P : List ℕ → Type 0} {text : Text ℕ O} → Written A P text
     → Written A (Maybe P) (OptionalText text)
 unfolding OptionalText
 maybe_written {A} {O} {P} {text} p = record { set = set; value = value }
   where
-    set : (o : Option O) (cs : List ℕ) → OptionalText text o cs → Maybe P cs
-    set None cs e = inl e
-    set (Some o) cs x = inr (p.set o cs x)
+    set : (e : Spelling) (o : Option O) (cs : List ℕ) → OptionalText text o cs → Maybe P (e.on cs)
+    set e None cs f = inl (ap e.on f ∙ e.nothing)
+    set e (Some o) cs x = inr (p.set e o cs x)
 
-    value : (cs : List ℕ) → Fits A cs → Maybe P cs → (o : Option O) × OptionalText text o cs
-    value cs fits (inl e) = (None, e)
-    value cs fits (inr is) = let (o, x) = p.value cs fits is in (Some o, x)
+    value : (cs front rest : List ℕ) → Fits A cs → Maybe P front
+        → encode_utf8_all cs ≡ front ++ rest → Encoded (OptionalText text) cs rest
+    value cs front rest fits (inl e) f =
+        encoded [] cs None refl refl (f ∙ ap (λ l. l ++ rest) e)
+    value cs front rest fits (inr is) f =
+        let v = p.value cs front rest fits is f in encoded_to v (Some v.output) v.written
 
 -- where each of these values means another
 pub for_written : {A O U : Type 0} (means : O → U → Type 0) {P : List ℕ → Type 0} {text : Text ℕ O}
@@ -108,9 +139,12 @@ pub for_written : {A O U : Type 0} (means : O → U → Type 0) {P : List ℕ �
     → Written A P (For means text)
 unfolding MadeText
 for_written means p meant = record {
-  set = λ u cs (o, x, is). p.set o cs x;
-  value = λ cs fits is.
-      let (o, x) = p.value cs fits is in let (u, m) = meant o cs fits x in (u, (o, x, m));
+  set = λ e u cs (o, x, is). p.set e o cs x;
+  value = λ cs front rest fits is f.
+      let v = p.value cs front rest fits is f in
+      let (u, m) = meant v.output v.first (fit_parts cs v.first v.second v.splits fits).0
+      v.written in
+      encoded_to v u (v.output, v.written, m);
 }
 
 slice_of : (cs : List ℕ) → (slice : Bor (List ℕ)) × text_reading.shows slice cs
@@ -120,57 +154,68 @@ pub shown_written : {A O : Type 0} {P : List ℕ → Type 0} {text : Text ℕ O}
     → Written A P (TakenText text_reading text)
 unfolding TakenText
 shown_written p = record {
-  set = λ slice cs (o, x, shown). p.set o cs x;
-  value = λ cs fits is.
-      let (o, x) = p.value cs fits is in let (slice, shown) = slice_of cs in
-      (slice, (o, x, shown));
+  set = λ e slice cs (o, x, shown). p.set e o cs x;
+  value = λ cs front rest fits is f.
+      let v = p.value cs front rest fits is f in let (slice, shown) = slice_of v.first in
+      encoded_to v slice (v.output, v.written, shown);
 }
 
--- ---- characters
+-- ---- characters of ASCII
 
-pub one_written : {A : Type 0} (c : ℕ) → Written A (IsByte (λ b. b ≡ c)) (One c)
+pub low_written : {A O : Type 0} {P : List ℕ → Type 0} {text : Text ℕ O} → IsLow P
+    → ((o : O) (cs : List ℕ) → text o cs → P cs) → ((cs : List ℕ) → P cs → (o : O) × text o cs)
+    → Written A P text
+low_written {P = P} low set value = record {
+  set = λ e o cs x.
+      let is = set o cs x in subst P (sym (low_on e cs (low.each cs is))) is;
+  value = λ cs front rest fits is f.
+      let (es, g, h) = low_front front cs rest (low.each front is) f in
+      let (o, x) = value front is in encoded front es o x g h;
+}
+
+pub one_written : {A : Type 0} (c : ℕ) → c < 128 → Written A (IsByte (λ b. b ≡ c)) (One c)
 unfolding Spelled
-one_written c = record {
-  set = λ o cs (is, e). one refl e;
-  value = λ cs fits is. (c, (refl, is.alone ∙ ap (λ b. b ∷ []) is.is_byte));
-}
+one_written c low =
+    low_written (byte_in (λ b. b ≡ c) (λ b e. omega (arith, e, low)))
+    (λ o cs (is, e). one refl e)
+    (λ cs is. (c, (refl, is.alone ∙ ap (λ b. b ∷ []) is.is_byte)))
 
-pub in_written : {A : Type 0} (P : ℕ → Type 0) → Written A (IsByte P) (In P)
+pub in_written : {A : Type 0} (P : ℕ → Type 0) → ((b : ℕ) → P b → b < 128)
+    → Written A (IsByte P) (In P)
 unfolding In
-in_written P = record {
-  set = λ o cs (is, e). one is e;
-  value = λ cs fits is. (is.byte, (is.is_byte, is.alone));
-}
+in_written P low =
+    low_written (byte_in P low) (λ o cs (is, e). one is e)
+    (λ cs is. (is.byte, (is.is_byte, is.alone)))
 
 -- of a set of which another has the same members
-pub run_written : {A : Type 0} (P Q : ℕ → Type 0) → ((c : ℕ) → P c → Q c) → ((c : ℕ) → Q c → P c)
-    → Written A (All P) (Run Q 0)
+pub run_written : {A : Type 0} (P Q : ℕ → Type 0) → ((b : ℕ) → P b → b < 128)
+    → ((c : ℕ) → P c → Q c) → ((c : ℕ) → Q c → P c) → Written A (All P) (Run Q 0)
 unfolding Run
-run_written P Q there back = record {
-  set = λ slice cs (all, enough, shown). All-weaker Q P back cs all;
-  value = λ cs fits all.
-      let (slice, shown) = slice_of cs in
-      (slice, (All-weaker P Q there cs all, omega arith, shown));
-}
+run_written P Q low there back =
+    low_written (all_in P low) (λ slice cs (all, enough, shown). All-weaker Q P back cs all)
+    (λ cs all.
+    let (slice, shown) = slice_of cs in
+    (slice, (All-weaker P Q there cs all, omega arith, shown)))
 
 -- one at least
-pub run_one_written : {A : Type 0} (P : ℕ → Type 0) → Written A (Then (IsByte P) (All P)) (Run P 1)
+pub run_one_written : {A : Type 0} (P : ℕ → Type 0) → ((b : ℕ) → P b → b < 128)
+    → Written A (Then (IsByte P) (All P)) (Run P 1)
 unfolding Run
-run_one_written P = record {
-  set = λ slice cs (all, enough, shown). some cs all enough;
-  value = λ cs fits is.
-      let e : cs ≡ is.is_first.byte ∷ is.second =
-      is.joins ∙ ap (λ l. l ++ is.second) is.is_first.alone in
-      let (slice, shown) = slice_of cs in (
-        slice,
-        (
-          subst (All P) (sym e)
-              (All-cons P is.is_first.byte is.second is.is_first.is_byte is.is_second),
-          omega (arith, ap (λ l. length l) e),
-          shown,
-        ),
-      );
-}
+run_one_written P low =
+    low_written (then_in (byte_in P low) (all_in P low))
+    (λ slice cs (all, enough, shown). some cs all enough)
+    (λ cs is.
+    let e : cs ≡ is.is_first.byte ∷ is.second =
+    is.joins ∙ ap (λ l. l ++ is.second) is.is_first.alone in
+    let (slice, shown) = slice_of cs in (
+      slice,
+      (
+        subst (All P) (sym e)
+            (All-cons P is.is_first.byte is.second is.is_first.is_byte is.is_second),
+        omega (arith, ap (λ l. length l) e),
+        shown,
+      ),
+    ))
   where
     some : (cs : List ℕ) → All P cs → 1 ≤ length cs → Then (IsByte P) (All P) cs
     some [] all enough = absurd (omega (arith, enough))

@@ -11,7 +11,7 @@ use Rattle.format_json_extents.proofs.Matching.{same_first, this_then}
 use Rattle.format_json_extents.proofs.Scalars.{IsFirstOfNumber, number_starts, only_starts}
 use Rattle.format_json_extents.proofs.Scalars.{string_starts}
 use Rattle.format_json_extents.proofs.Scanning.{rest_same}
-use Rattle.format_json_extents.proofs.Written.Units.{high_hex, low_hex, only_hex}
+use Rattle.format_json_extents.proofs.Written.Units.{high_ranges, low_ranges, only_ranges}
 use Rattle.format_json_extents.specs.Number.{IsNumber, IsNumeral}
 use Rattle.format_json_extents.specs.Strings.{IsCharacter, IsEscape, IsHexDigit, IsPiece, IsQuote}
 use Rattle.format_json_extents.specs.Strings.{IsString, IsUnescaped, IsUnit}
@@ -107,14 +107,14 @@ unit_passes {P} hex text is =
     run_passes text ((then_in first (then_in digit digit)).each text is)
 
 character_passes : (text : List ℕ) → IsCharacter text → Passes text
-character_passes text (inl is) = unit_passes only_hex text is
+character_passes text (inl is) = unit_passes only_ranges.hex text is
 character_passes text (inr is) =
     let slash = is.is_second in
     let letter = slash.is_second in
     passes_then is.first (92 ∷ 117 ∷ letter.second)
     (is.joins ∙ ap (λ l. is.first ++ l) (this_then 92 slash
-    ∙ ap (λ l. 92 ∷ l) (this_then 117 letter))) (unit_passes high_hex is.first is.is_first)
-    (unit_passes low_hex letter.second letter.is_second)
+    ∙ ap (λ l. 92 ∷ l) (this_then 117 letter))) (unit_passes high_ranges.hex is.first is.is_first)
+    (unit_passes low_ranges.hex letter.second letter.is_second)
 
 piece_passes : (text : List ℕ) → IsPiece text → Passes text
 piece_passes text (inl is) = run_passes text ((byte_in IsUnescaped (λ b u. u)).each text is)

@@ -5,7 +5,7 @@ use Rattle.std.specs.List.{All, AllByRecursion}
 use Rattle.std.specs.Str.{all_scalars, encode_utf8_all}
 use Rattle.std.proofs.lemmas.List.Elements.{All-head, All-tail}
 use Rattle.std.proofs.lemmas.Str.{encode_ascii}
-use Rattle.format_json_extents.proofs.Written.{both_true}
+use Rattle.format_json_extents.proofs.Characters.{both_true}
 use Rattle.format_json_extents.specs.Texts.{Either, IsByte, List_of, Many, Maybe, Then, before}
 use Rattle.format_json_extents.specs.Texts.{last, nothing, one_more}
 use Rattle.format_json_extents.specs.Value.{Only}

@@ -1,40 +1,46 @@
 -- Proofs that the contents of brackets encode a list.
-use Rattle.std.proofs.Common.{◌++◌, ◌<◌, ◌^◌, ◌∙◌, ◌∷◌, ◌≡◌, ◌≤◌, [], ℕ, List, ap}
+use Rattle.std.proofs.Common.{◌++◌, ◌+◌, ◌<◌, ◌^◌, ◌∙◌, ◌∷◌, ◌≡◌, ◌≤◌, [], ℕ, List, ap}
 use Rattle.std.proofs.Common.{append_assoc, arith, inl, inr, length, length-append, refl, sym}
+use Rattle.std.specs.Str.{encode_utf8_all}
 use Rattle.std.specs.declared.vec.Vec.{Vec}
 use Rattle.std.proofs.lemmas.List.{append-nil}
 use Rattle.std.proofs.lemmas.Str.{length-le-encodes}
+use Rattle.format_json_extents.proofs.Characters.{Spelling, first_char}
 use Rattle.format_json_extents.proofs.Matching.{joined, one, this_then}
-use Rattle.format_json_extents.proofs.Written.{Fits, Written, fit_parts, one_written, run_written}
-use Rattle.format_json_extents.proofs.Written.{then_written}
+use Rattle.format_json_extents.proofs.Written.{Encoded, Fits, Written, encoded, fit_parts}
+use Rattle.format_json_extents.proofs.Written.{one_written, run_written, then_written}
 use Rattle.format_json_extents.specs.Texts.{Either, IsByte, List_of, Then, before, last}
 use Rattle.format_json_extents.specs.Value.{IsGap, IsSpace}
 use Rattle.format_json_texts.specs.Values.{GapText, Mark}
-use Rattle.format_parts.specs.Words.{Between, One, pair}
+use Rattle.format_parts.specs.Words.{Between, One, Slice, pair}
 use Rattle.stream_sets.specs.AsChar.{IsMultispace}
 use Rattle.grammars.specs.Texts.{BothText as Both, EachText, InList, PartedText, Spelled, Text}
 use denote.RawPtr.{null_ptr}
 
 -- ---- whitespace
 
-space_white : (c : ℕ) → IsSpace c → IsMultispace c
-space_white c is = grind (arith, is)
-
-white_space : (c : ℕ) → IsMultispace c → IsSpace c
-white_space c is = grind (arith, is)
-
 pub gap_written : {A : Type 0} → Written A IsGap GapText
-gap_written = run_written IsSpace IsMultispace space_white white_space
+gap_written =
+    run_written IsSpace IsMultispace (λ b is. grind (arith, is)) (λ c is. grind (arith, is))
+    (λ c is. grind (arith, is))
 
 -- a byte, and whitespace after it
 abbrev pub IsMarked : ℕ → List ℕ → Type 0
 IsMarked c = Then (IsByte (λ b. b ≡ c)) IsGap
 
-pub mark_written : {A : Type 0} (c : ℕ) → Written A (IsMarked c) (Mark c)
-mark_written c = then_written pair (one_written c) gap_written
+pub mark_written : {A : Type 0} (c : ℕ) → c < 128 → Written A (IsMarked c) (Mark c)
+mark_written c low = then_written pair (one_written c low) gap_written
 
-marked : (c : ℕ) (gap : List ℕ) → IsGap gap → IsMarked c (c ∷ gap)
-marked c gap white = joined (c ∷ []) gap (one refl refl) white refl
+mark_text : (c : ℕ) (gap : Slice) (cs : List ℕ) → GapText gap cs → Mark c (c, gap) (c ∷ cs)
+unfolding Both Spelled
+mark_text c gap cs x = (c, gap, c ∷ [], cs, (refl, refl), x, refl, refl)
+
+-- an item, a comma, and more items
+listed_more : (gaps xs gap ys zs second : List ℕ) {cs front others after : List ℕ}
+    → cs ≡ front ++ others → front ≡ gaps ++ xs → others ≡ 44 ∷ after
+    → after ≡ gap ++ (ys ++ (zs ++ second))
+    → cs ≡ gaps ++ (xs ++ ((((44 ∷ gap) ++ ys) ++ zs) ++ second))
+listed_more gaps xs gap ys zs second e f g h = simp (e, f, g, h, append_assoc)
 
 -- An item is whitespace and then `B`, which `text` encodes.
 module _ {O A : Type 0} {I B : List ℕ → Type 0} {text : Text ℕ O}
@@ -45,129 +51,166 @@ module _ {O A : Type 0} {I B : List ℕ → Type 0} {text : Text ℕ O}
 
   -- ---- with commas between them
 
-  list_of : (gap : List ℕ) → IsGap gap → (o : O) (xs : List ℕ) → text o xs → (os : List O)
-      (ys : List ℕ) → Others os ys → List_of I (gap ++ (xs ++ ys))
+  list_of : (e : Spelling) (gap : List ℕ) → IsGap gap → (o : O) (xs : List ℕ) → text o xs
+      → (os : List O) (ys : List ℕ) → Others os ys → List_of I (gap ++ (e.on xs ++ e.on ys))
   unfolding EachText Both
-  list_of gap white o xs x [] ys e =
-      last (gap ++ (xs ++ ys)) (back (gap ++ (xs ++ ys))
-      (joined gap xs white (body.set o xs x)
-      (ap (λ l. gap ++ (xs ++ l)) e ∙ ap (λ l. gap ++ l) (append-nil xs))))
-  list_of gap white o xs x (p ∷ os) ys (zs, ws, (d, q, ms, bs, m, b, f, out), more, e) =
-      let mark = (mark_written {A = A} 44).set d ms m in
-      before (gap ++ xs) (mark.second ++ (bs ++ ws)) (gap ++ (xs ++ ys))
-      (back (gap ++ xs) (joined gap xs white (body.set o xs x) refl))
-      (list_of mark.second mark.is_second q bs b os ws more)
-      (simp (e, f, this_then 44 mark, append_assoc))
+  list_of e gap white o xs x [] ys f =
+      let inside = e.on xs ++ e.on ys in
+      last (gap ++ inside) (back (gap ++ inside)
+      (joined gap (e.on xs) white (body.set e o xs x)
+      (ap (λ l. gap ++ (e.on xs ++ l)) (ap e.on f ∙ e.nothing)
+      ∙ ap (λ l. gap ++ l) (append-nil (e.on xs)))))
+  list_of e gap white o xs x (p ∷ os) ys (zs, ws, (d, q, ms, bs, m, b, f, out), more, g) =
+      let mark = (mark_written {A = A} 44 (omega arith)).set e d ms m in
+      let parts : e.on ys ≡ 44 ∷ (mark.second ++ (e.on bs ++ e.on ws)) =
+      ap e.on g ∙ e.joins zs ws ∙ ap (λ l. l ++ e.on ws) (ap e.on f ∙ e.joins ms bs
+      ∙ ap (λ l. l ++ e.on bs) (this_then 44 mark))
+      ∙ ap (λ l. 44 ∷ l) (append_assoc mark.second (e.on bs) (e.on ws)) in
+      before (gap ++ e.on xs) (mark.second ++ (e.on bs ++ e.on ws)) (gap ++ (e.on xs ++ e.on ys))
+      (back (gap ++ e.on xs) (joined gap (e.on xs) white (body.set e o xs x) refl))
+      (list_of e mark.second mark.is_second q bs b os ws more)
+      (ap (λ l. gap ++ (e.on xs ++ l)) parts
+      ∙ sym (append_assoc gap (e.on xs) (44 ∷ (mark.second ++ (e.on bs ++ e.on ws)))))
 
-  record Listed (cs : List ℕ) : Type 0 where
-    gap : List ℕ
+  -- characters that start with such a list, and the bytes of the others
+  record Listed (cs rest : List ℕ) : Type 0 where
+    gap : Slice
+    gaps : List ℕ
     first : O
     xs : List ℕ
     os : List O
     ys : List ℕ
-    white : IsGap gap
+    second : List ℕ
+    white : GapText gap gaps
     is_first : text first xs
     others : Others os ys
-    splits : cs ≡ gap ++ (xs ++ ys)
+    splits : cs ≡ gaps ++ (xs ++ (ys ++ second))
+    rest_of : encode_utf8_all second ≡ rest
     size : length os ≤ length ys
 
-  listed : (cs : List ℕ) → Fits A cs → List_of I cs → Listed cs
+  item_written : Written A (Then IsGap B) (Both pair GapText text)
+  item_written = then_written pair gap_written body
+
+  listed : (cs front rest : List ℕ) → Fits A cs → List_of I front
+      → encode_utf8_all cs ≡ front ++ rest → Listed cs rest
   unfolding EachText Both
-  listed _ fits (last cs is) =
-      let g = there cs is in
-      let (white, rest) = fit_parts cs g.first g.second g.joins fits in
-      let (o, x) = body.value g.second rest g.is_second in
+  listed cs _ rest fits (last front is) f =
+      let v = item_written.value cs front rest fits (there front is) f in
+      let (gap, o, gaps, xs, white, x, e, out) = v.written in
       record {
-        gap = g.first;
+        gap = gap;
+        gaps = gaps;
         first = o;
-        xs = g.second;
+        xs = xs;
         os = [];
         ys = [];
-        white = g.is_first;
+        second = v.second;
+        white = white;
         is_first = x;
         others = refl;
-        splits = g.joins ∙ ap (λ l. g.first ++ l) (sym (append-nil g.second));
+        splits = v.splits ∙ ap (λ l. l ++ v.second) e ∙ append_assoc gaps xs v.second;
+        rest_of = v.rest_of;
         size = omega arith;
       }
-  listed _ fits (before head others cs is more e) =
-      let (front, rest) = fit_parts cs head (44 ∷ others) e fits in
-      let (comma, after) = fit_parts (44 ∷ others) (44 ∷ []) others refl rest in
-      let r = listed others after more in
-      let g = there head is in
-      let (white, item) = fit_parts head g.first g.second g.joins front in
-      let (o, x) = body.value g.second item g.is_second in
-      let (sep, tail) = fit_parts (44 ∷ others) (44 ∷ r.gap) (r.xs ++ r.ys)
-      (ap (λ l. 44 ∷ l) r.splits) rest in
-      let (d, m) = (mark_written 44).value (44 ∷ r.gap) sep (marked 44 r.gap r.white) in
-      let next = (44 ∷ r.gap) ++ r.xs in
+  listed cs _ rest fits (before head others front is more e) f =
+      let v = item_written.value cs head (44 ∷ (others ++ rest)) fits (there head is)
+      (f ∙ ap (λ l. l ++ rest) e ∙ append_assoc head (44 ∷ others) rest) in
+      let (gap, o, gaps, xs, white, x, g, out) = v.written in
+      let (es, h, k) = first_char v.second (others ++ rest) 44 (omega arith) v.rest_of in
+      let after = (fit_parts v.second (44 ∷ []) es h
+      (fit_parts cs v.first v.second v.splits fits).1).1 in
+      let r = listed es others rest after more k in
+      let next = (44 ∷ r.gaps) ++ r.xs in
       record {
-        gap = g.first;
+        gap = gap;
+        gaps = gaps;
         first = o;
-        xs = g.second;
+        xs = xs;
         os = r.first ∷ r.os;
         ys = next ++ r.ys;
-        white = g.is_first;
+        second = r.second;
+        white = white;
         is_first = x;
         others = (
           next,
           r.ys,
-          (d, r.first, 44 ∷ r.gap, r.xs, m, r.is_first, refl, refl),
+          (
+            (44, r.gap),
+            r.first,
+            44 ∷ r.gaps,
+            r.xs,
+            mark_text 44 r.gap r.gaps r.white,
+            r.is_first,
+            refl,
+            refl,
+          ),
           r.others,
           refl,
         );
-        splits = simp (e, g.joins, r.splits, append_assoc);
+        splits = listed_more gaps xs r.gaps r.xs r.ys r.second v.splits g h r.splits;
+        rest_of = r.rest_of;
         size = omega (arith, r.size, length-append next r.ys);
       }
 
   -- ---- in brackets
 
-  module _ (opens closes : ℕ) where
+  module _ (opens closes : ℕ) (opens_low : opens < 128) (closes_low : closes < 128) where
     abbrev Bracketed : List ℕ → Type 0
     Bracketed =
         Then (IsByte (λ b. b ≡ opens))
         (Either (Then IsGap (IsByte (λ b. b ≡ closes)))
         (Then (List_of I) (IsByte (λ b. b ≡ closes))))
 
-    abbrev Encoded : Vec O A → List ℕ → Type 0
-    Encoded = Between (Mark opens) (InList (PartedText (Mark 44) text)) (One closes)
+    abbrev InBrackets : Vec O A → List ℕ → Type 0
+    InBrackets = Between (Mark opens) (InList (PartedText (Mark 44) text)) (One closes)
 
-    bracketed_set : (list : Vec O A) (cs : List ℕ) → Encoded list cs → Bracketed cs
+    bracketed_set : (e : Spelling) (list : Vec O A) (cs : List ℕ) → InBrackets list cs
+        → Bracketed (e.on cs)
     unfolding Both InList PartedText
-    bracketed_set list cs (m, i, xs, ys, x, (l, c, zs, ws, y, z, e2, o2), e1, o1) =
+    bracketed_set e list cs (m, i, xs, ys, x, (l, c, zs, ws, y, z, e2, o2), e1, o1) =
         by l.items zs y e2
       where
-        mark : IsMarked opens xs
-        mark = (mark_written {A = A} opens).set m xs x
+        mark : IsMarked opens (e.on xs)
+        mark = (mark_written {A = A} opens opens_low).set e m xs x
 
-        end : IsByte (λ b. b ≡ closes) ws
-        end = (one_written {A = A} closes).set c ws z
+        end : IsByte (λ b. b ≡ closes) (e.on ws)
+        end = (one_written {A = A} closes closes_low).set e c ws z
 
-        starts : (inside : List ℕ) → ys ≡ inside → cs ≡ opens ∷ (mark.second ++ inside)
-        starts inside e =
-            e1 ∙ ap (λ l. l ++ ys) (this_then opens mark)
-            ∙ ap (λ l. opens ∷ (mark.second ++ l)) e
+        starts : (inside : List ℕ) → e.on ys ≡ inside → e.on cs ≡ opens ∷ (mark.second ++ inside)
+        starts inside f =
+            ap e.on e1 ∙ e.joins xs ys ∙ ap (λ l. l ++ e.on ys) (this_then opens mark)
+            ∙ ap (λ l. opens ∷ (mark.second ++ l)) f
 
         by : (os : List O) (zs : List ℕ) → PartedText (Mark 44) text os zs → ys ≡ zs ++ ws
-            → Bracketed cs
-        by [] zs y e =
-            joined (opens ∷ []) (mark.second ++ ws) (one refl refl)
-            (inl (joined mark.second ws mark.is_second end refl))
-            (starts ws (e ∙ ap (λ l. l ++ ws) y))
-        by (o ∷ os) zs (vs, bs, a, more, f) e =
-            let list = mark.second ++ (vs ++ bs) in
-            joined (opens ∷ []) (list ++ ws) (one refl refl)
-            (inr (joined list ws (list_of mark.second mark.is_second o vs a os bs more) end refl))
-            (starts ((vs ++ bs) ++ ws) (e ∙ ap (λ l. l ++ ws) f)
-            ∙ ap (λ l. opens ∷ l) (sym (append_assoc mark.second (vs ++ bs) ws)))
+            → Bracketed (e.on cs)
+        by [] zs y f =
+            joined (opens ∷ []) (mark.second ++ e.on ws) (one refl refl)
+            (inl (joined mark.second (e.on ws) mark.is_second end refl))
+            (starts (e.on ws) (ap e.on (f ∙ ap (λ l. l ++ ws) y)))
+        by (o ∷ os) zs (vs, bs, a, more, g) f =
+            let list = mark.second ++ (e.on vs ++ e.on bs) in
+            joined (opens ∷ []) (list ++ e.on ws) (one refl refl)
+            (inr (joined list (e.on ws)
+            (list_of e mark.second mark.is_second o vs a os bs more) end refl))
+            (starts ((e.on vs ++ e.on bs) ++ e.on ws)
+            (ap e.on f ∙ e.joins zs ws ∙ ap (λ l. l ++ e.on ws) (ap e.on g ∙ e.joins vs bs))
+            ∙ ap (λ l. opens ∷ l) (sym (append_assoc mark.second (e.on vs ++ e.on bs) (e.on ws))))
 
-    bracketed : (gap inside cs : List ℕ) (os : List O) → IsGap gap
-        → PartedText (Mark 44) text os inside → length os < 2 ^ 63
-        → cs ≡ (opens ∷ gap) ++ (inside ++ closes ∷ []) → Fits A cs
-        → (list : Vec O A) × Encoded list cs
+    bracketed : (gap : Slice) (gaps inside cs second rest : List ℕ) (os : List O)
+        → GapText gap gaps → PartedText (Mark 44) text os inside → length os ≤ length inside + 1
+        → cs ≡ opens ∷ (gaps ++ (inside ++ closes ∷ second)) → encode_utf8_all second ≡ rest
+        → Fits A cs → Encoded InBrackets cs rest
     unfolding Both InList Spelled
-    bracketed gap inside cs os white y few e fits =
-        let (front, rest) = fit_parts cs (opens ∷ gap) (inside ++ closes ∷ []) e fits in
-        let (m, x) = (mark_written opens).value (opens ∷ gap) front (marked opens gap white) in
+    bracketed gap gaps inside cs second rest os white y size e f fits =
+        let few : length os < 2 ^ 63 = omega (
+          arith,
+          size,
+          fits.few,
+          length-le-encodes cs,
+          ap (λ l. length l) e,
+          length-append gaps (inside ++ closes ∷ second),
+          length-append inside (closes ∷ second),
+        ) in
         let list : Vec O A = record {
           ptr = null_ptr;
           len = length os;
@@ -176,50 +219,49 @@ module _ {O A : Type 0} {I B : List ℕ → Type 0} {text : Text ℕ O}
           items = os;
           ok = (refl, omega arith);
           small = few;
-        } in (
+        } in
+        encoded ((opens ∷ gaps) ++ (inside ++ closes ∷ [])) second list (
+          (opens, gap),
           list,
-          (
-            m,
-            list,
-            opens ∷ gap,
-            inside ++ closes ∷ [],
-            x,
-            (list, closes, inside, closes ∷ [], y, (refl, refl), refl, refl),
-            e,
-            refl,
-          ),
-        )
+          opens ∷ gaps,
+          inside ++ closes ∷ [],
+          mark_text opens gap gaps white,
+          (list, closes, inside, closes ∷ [], y, (refl, refl), refl, refl),
+          refl,
+          refl,
+        ) (simp (e, append_assoc)) f
 
-    bracketed_value : (cs : List ℕ) → Fits A cs → Bracketed cs → (list : Vec O A) × Encoded list cs
-    unfolding PartedText
-    bracketed_value cs fits is = elim is.is_second [
-      | inl none ↦
-          bracketed none.first [] cs [] none.is_first refl (omega arith)
-          (this_then opens is ∙ ap (λ l. opens ∷ l) (none.joins ∙ ap (λ l. none.first ++ l)
-          (none.is_second.alone ∙ ap (λ b. b ∷ []) none.is_second.is_byte))) fits
-      | inr some ↦
-          let (front, rest) = fit_parts cs is.first is.second is.joins fits in
-          let (list, end) = fit_parts is.second some.first some.second some.joins rest in
-          let r = listed some.first list some.is_first in
-          let inside = r.xs ++ r.ys in
-          let e : cs ≡ (opens ∷ r.gap) ++ (inside ++ closes ∷ []) =
-          this_then opens is ∙ ap (λ l. opens ∷ l) (some.joins
-          ∙ ap (λ l. l ++ some.second) r.splits ∙ ap (λ l. (r.gap ++ inside) ++ l)
-          (some.is_second.alone ∙ ap (λ b. b ∷ []) some.is_second.is_byte)
-          ∙ append_assoc r.gap inside (closes ∷ [])) in
-          bracketed r.gap inside cs (r.first ∷ r.os) r.white
-          (r.xs, r.ys, r.is_first, r.others, refl)
-          (omega (
-            arith,
-            r.size,
-            fits.few,
-            length-le-encodes cs,
-            ap (λ l. length l) e,
-            length-append (opens ∷ r.gap) (inside ++ closes ∷ []),
-            length-append inside (closes ∷ []),
-            length-append r.xs r.ys,
-          )) e fits
-    ]
+    bracketed_value : (cs front rest : List ℕ) → Fits A cs → Bracketed front
+        → encode_utf8_all cs ≡ front ++ rest → Encoded InBrackets cs rest
+    unfolding PartedText Both
+    bracketed_value cs front rest fits is f =
+        let (es, g, h) = first_char cs (is.second ++ rest) opens opens_low
+        (f ∙ ap (λ l. l ++ rest) (this_then opens is)) in
+        let more = (fit_parts cs (opens ∷ []) es g fits).1 in
+        elim is.is_second [
+          | inl none ↦
+              let v = gap_written.value es none.first (none.second ++ rest) more none.is_first
+              (h ∙ ap (λ l. l ++ rest) none.joins
+              ∙ append_assoc none.first none.second rest) in
+              let (ds, k, j) = first_char v.second rest closes closes_low
+              (v.rest_of ∙ ap (λ l. l ++ rest) (none.is_second.alone
+              ∙ ap (λ b. b ∷ []) none.is_second.is_byte)) in
+              bracketed v.output v.first [] cs ds rest [] v.written refl (omega arith)
+              (g ∙ ap (λ l. opens ∷ l) (v.splits ∙ ap (λ l. v.first ++ l) k)) j fits
+          | inr some ↦
+              let r = listed es some.first (some.second ++ rest) more some.is_first
+              (h ∙ ap (λ l. l ++ rest) some.joins
+              ∙ append_assoc some.first some.second rest) in
+              let (ds, k, j) = first_char r.second rest closes closes_low
+              (r.rest_of ∙ ap (λ l. l ++ rest) (some.is_second.alone
+              ∙ ap (λ b. b ∷ []) some.is_second.is_byte)) in
+              bracketed r.gap r.gaps (r.xs ++ r.ys) cs ds rest (r.first ∷ r.os) r.white
+              (r.xs, r.ys, r.is_first, r.others, refl)
+              (omega (arith, r.size, length-append r.xs r.ys))
+              (g ∙ ap (λ l. opens ∷ l) (r.splits ∙ ap (λ l. r.gaps ++ l)
+              (ap (λ l. r.xs ++ (r.ys ++ l)) k
+              ∙ sym (append_assoc r.xs r.ys (closes ∷ ds))))) j fits
+        ]
 
-    pub bracketed_written : Written A Bracketed Encoded
+    pub bracketed_written : Written A Bracketed InBrackets
     bracketed_written = record { set = bracketed_set; value = bracketed_value }

@@ -6,10 +6,10 @@ use Rattle.std.specs.Char.{IsScalar, encode_utf8}
 use Rattle.std.proofs.lemmas.Bool.Decides.{nat_tests}
 use Rattle.std.proofs.lemmas.Str.{len_utf8_ascii, len_utf8_bounds, length-encode}
 use Rattle.format_json_extents.proofs.Matching.{joined, one, this_then}
-use Rattle.format_json_extents.proofs.Written.Units.{IsHigh, IsLow, digits_unit, high_hex, high_of}
-use Rattle.format_json_extents.proofs.Written.Units.{is_high_of, is_low_of, is_only, low_hex}
-use Rattle.format_json_extents.proofs.Written.Units.{low_of, no_surrogate, only_hex, unit_digits}
-use Rattle.format_json_extents.specs.Strings.{BeginHigh, BeginLow, BeginOnly, IsCharacter, IsEscape}
+use Rattle.format_json_extents.proofs.Written.Units.{IsHigh, IsLow, NoSurrogate, high_ranges}
+use Rattle.format_json_extents.proofs.Written.Units.{low_ranges, only_ranges, unit_set, unit_size}
+use Rattle.format_json_extents.proofs.Written.Units.{unit_value}
+use Rattle.format_json_extents.specs.Strings.{BeginOnly, IsCharacter, IsEscape}
 use Rattle.format_json_extents.specs.Strings.{IsEscaped, IsPair, IsUnit}
 use Rattle.format_json_texts.specs.Strings.{ArePair, StandsFor, UnicodeText}
 use Rattle.format_parts.specs.Hexadecimal.{IsAlone, UnitText}
@@ -38,20 +38,20 @@ means_long text cs c x scalar size = record {
 pub high_scalar : (c : ℕ) → 57344 ≤ c → c < 1114112 → IsScalar c
 high_scalar c least most = grind (arith, nat_tests, least, most)
 
+pub free_scalar : (u : ℕ) → NoSurrogate u → IsScalar u
+free_scalar u (inl less) = low_scalar u less
+free_scalar u (inr more) = high_scalar u more.0 (omega (arith, more))
+
 only_set : (c : ℕ) (cs : List ℕ) → For IsAlone UnitText c cs → IsUnit BeginOnly cs
 unfolding MadeText
-only_set c cs (u, x, (e, is)) =
-    digits_unit BeginOnly u cs (λ a b high low rest it. is_only a b high low rest u it is) x
+only_set c cs (u, x, (e, is)) = unit_set only_ranges cs u is x
 
 only_value : (cs : List ℕ) → IsUnit BeginOnly cs → Means (For IsAlone UnitText) cs
 unfolding MadeText
 only_value cs is =
-    let (u, it) = unit_digits BeginOnly only_hex cs is in
-    let free = no_surrogate cs u it in
-    means_long (For IsAlone UnitText) cs u (u, it.unit, (refl, free)) (elim free [
-      | inl less ↦ low_scalar u less
-      | inr more ↦ high_scalar u more.0 (omega (arith, more))
-    ]) it.size
+    let (u, x, free) = unit_value only_ranges cs is in
+    means_long (For IsAlone UnitText) cs u (u, x, (refl, free)) (free_scalar u free)
+    (omega (arith, unit_size cs is))
 
 abbrev pub PairText : Text ℕ ℕ
 PairText =
@@ -85,12 +85,10 @@ pair_set c cs (
     let high : p.0 ≡ u = ap (λ (q : ℕ × ℕ). q.0) ox in
     let low : p.1 ≡ v2 = ap (λ (q : ℕ × ℕ). q.1) ox ∙ oy in
     joined xs ys
-    (digits_unit BeginHigh u xs (λ a b h l rest it. is_high_of a b h l rest u it
-    (omega (arith, are, high), omega (arith, are, high))) x)
+    (unit_set high_ranges xs u (omega (arith, are, high), omega (arith, are, high)) x)
     (joined ss (ls ++ zs) (one refl fs)
     (joined ls zs (one refl fl)
-    (digits_unit BeginLow v2 zs (λ a b h l rest it. is_low_of a b h l rest v2 it
-    (omega (arith, are, low), omega (arith, are, low))) z) refl)
+    (unit_set low_ranges zs v2 (omega (arith, are, low), omega (arith, are, low)) z) refl)
     (ey ∙ ap (λ l. l ++ zs) em ∙ append_assoc ss ls zs)) ex
 
 pub pair_text : (c u v : ℕ) (xs ys cs : List ℕ) → UnitText u xs → UnitText v ys
@@ -121,20 +119,27 @@ pair_text c u v xs ys cs x y e high low same = (
   (high.0, high.1, low.0, low.1, same),
 )
 
+pub pair_joins : (cs : List ℕ) → (is : IsPair cs)
+    → cs ≡ is.first ++ 92 ∷ 117 ∷ is.is_second.is_second.second
+pair_joins cs is =
+    is.joins ∙ ap (λ l. is.first ++ l) (this_then 92 is.is_second
+    ∙ ap (λ l. 92 ∷ l) (this_then 117 is.is_second.is_second))
+
 pair_value : (cs : List ℕ) → IsPair cs → Means PairText cs
 pair_value cs is =
-    let (u, it) = unit_digits BeginHigh high_hex is.first is.is_first in
     let letter = is.is_second.is_second in
-    let (v, also) = unit_digits BeginLow low_hex letter.second letter.is_second in
-    let high = high_of is.first u it in
-    let low = low_of letter.second v also in
+    let (u, x, high) = unit_value high_ranges is.first is.is_first in
+    let (v, y, low) = unit_value low_ranges letter.second letter.is_second in
     let c = 65536 + (u - 55296) * 1024 + (v - 56320) in
     means_long PairText cs c
-    (pair_text c u v is.first letter.second cs it.unit also.unit
-    (is.joins ∙ ap (λ l. is.first ++ l)
-    (this_then 92 is.is_second ∙ ap (λ l. 92 ∷ l) (this_then 117 letter))) high low refl)
+    (pair_text c u v is.first letter.second cs x y (pair_joins cs is) high low refl)
     (high_scalar c (omega (arith, high)) (omega (arith, high, low)))
-    (omega (arith, it.size, ap (λ l. length l) is.joins, length-append is.first is.second))
+    (omega (
+      arith,
+      unit_size is.first is.is_first,
+      ap (λ l. length l) is.joins,
+      length-append is.first is.second,
+    ))
 
 means_to : (text other : Text ℕ ℕ) (cs : List ℕ) → ((c : ℕ) → text c cs → other c cs)
     → Means text cs → Means other cs

@@ -1,6 +1,6 @@
 -- Numbers are the texts of some slice.
-use Rattle.std.proofs.Common.{◌++◌, ◌∙◌, ◌∷◌, ◌≡◌, ◌⊎◌, [], ℕ, List, ap, append_assoc, inl, inr}
-use Rattle.std.proofs.Common.{refl, sym}
+use Rattle.std.proofs.Common.{◌++◌, ◌<◌, ◌∙◌, ◌∷◌, ◌≡◌, ◌⊎◌, [], ℕ, List, ap, append_assoc}
+use Rattle.std.proofs.Common.{arith, inl, inr, refl, sym}
 use Rattle.format_json_extents.proofs.Matching.{joined, one}
 use Rattle.format_json_extents.proofs.Written.{Written, either_written, in_written, maybe_written}
 use Rattle.format_json_extents.proofs.Written.{one_written, run_one_written, run_written}
@@ -19,8 +19,8 @@ Same P Q = ((cs : List ℕ) → P cs → Q cs) × ((cs : List ℕ) → Q cs → 
 pub as_written : {A O : Type 0} {P Q : List ℕ → Type 0} {text : O → List ℕ → Type 0} → Same P Q
     → Written A P text → Written A Q text
 as_written (there, back) p = record {
-  set = λ o cs x. there cs (p.set o cs x);
-  value = λ cs fits is. p.value cs fits (back cs is);
+  set = λ e o cs x. there (e.on cs) (p.set e o cs x);
+  value = λ cs front rest fits is. p.value cs front rest fits (back front is);
 }
 
 either_byte : (P Q : ℕ → Type 0) → Same (Either (IsByte P) (IsByte Q)) (IsByte (λ b. P b ⊎ Q b))
@@ -57,23 +57,28 @@ then_assoc P Q R = (
       ∙ sym (append_assoc is.first rest.first rest.second)),
 )
 
+digit_low : (b : ℕ) → IsDigit b → b < 128
+digit_low b is = omega (arith, is)
+
 digits_written : {A : Type 0} → Written A IsDigits (Run IsDigit 1)
-digits_written = run_one_written IsDigit
+digits_written = run_one_written IsDigit digit_low
 
 exponent_written : {A : Type 0} → Written A IsExponent ExponentText
 exponent_written =
     as_written (then_assoc (IsByte IsE) (Maybe (IsByte IsSign)) IsDigits)
     (then_written latter (then_written pair (as_written (swap_byte (λ b. b ≡ 101) (λ b. b ≡ 69))
     (as_written (either_byte (λ b. b ≡ 101) (λ b. b ≡ 69))
-    (either_written (one_written 101) (one_written 69))))
+    (either_written (one_written 101 (omega arith)) (one_written 69 (omega arith)))))
     (maybe_written (as_written (either_byte (λ b. b ≡ 43) (λ b. b ≡ 45))
-    (either_written (one_written 43) (one_written 45))))) digits_written)
+    (either_written (one_written 43 (omega arith)) (one_written 45 (omega arith))))))
+    digits_written)
 
 pub number_written : {A : Type 0} → Written A IsNumber NumberText
 number_written =
-    shown_written (then_written to_four (maybe_written (one_written 45))
-    (then_written pair (either_written (shown_written (one_written 48))
-    (shown_written (then_written pair (in_written IsLeading)
-    (run_written IsDigit IsDigit (λ c is. is) (λ c is. is)))))
-    (then_written pair (maybe_written (then_written latter (one_written 46) digits_written))
+    shown_written (then_written to_four (maybe_written (one_written 45 (omega arith)))
+    (then_written pair (either_written (shown_written (one_written 48 (omega arith)))
+    (shown_written (then_written pair (in_written IsLeading (λ b is. omega (arith, is)))
+    (run_written IsDigit IsDigit digit_low (λ c is. is) (λ c is. is)))))
+    (then_written pair
+    (maybe_written (then_written latter (one_written 46 (omega arith)) digits_written))
     (maybe_written exponent_written))))

@@ -1,70 +1,199 @@
--- Strings are the texts of those that hold some characters.
-use Rattle.std.proofs.Common.{◌<◌, ◌^◌, ◌∙◌, ◌∷◌, ◌≡◌, ◌≤◌, [], ℕ, List, ap, arith, inl, inr}
-use Rattle.std.proofs.Common.{length, length-append, refl, subst, true}
+-- Strings are the encodings of those that hold some characters.
+use Rattle.std.proofs.Common.{◌++◌, ◌<◌, ◌^◌, ◌∙◌, ◌∷◌, ◌≡◌, ◌≤◌, ◌⊎◌, [], ℕ, List}
+use Rattle.std.proofs.Common.{ap, append_assoc, arith, inl, inr, length, length-append, refl, subst}
+use Rattle.std.proofs.Common.{suc, sym, true, zero}
 use Rattle.std.proofs.Math.Utf8.{scalar_cases}
 use Rattle.std.proofs.StringFromBytes.{spelled}
 use Rattle.std.specs.Char.{IsScalar, encode_utf8}
+use Rattle.std.specs.List.{All}
 use Rattle.std.specs.Str.{all_scalars, encode_utf8_all}
+use Rattle.std.proofs.lemmas.Bool.{cases_lt}
+use Rattle.std.proofs.lemmas.List.Elements.{All-cons, All-head, All-nil, All-tail, All-weaker}
 use Rattle.std.proofs.lemmas.Str.{encodes-append, length-le-encodes}
-use Rattle.format_json_extents.proofs.Matching.{joined, one}
-use Rattle.format_json_extents.proofs.Written.{Fits, Written, and_true, both_true, fit_parts}
-use Rattle.format_json_extents.proofs.Written.{one_written, then_written}
+use Rattle.format_json_extents.proofs.Characters.{IsLow, Spelling, and_true, both_true, byte_in}
+use Rattle.format_json_extents.proofs.Characters.{either_in, first_byte, first_char, in_utf8}
+use Rattle.format_json_extents.proofs.Characters.{low_front, low_on, then_in, two_in}
+use Rattle.format_json_extents.proofs.Matching.{begins_at, joined, one, same_first, same_rest}
+use Rattle.format_json_extents.proofs.Matching.{this_then}
+use Rattle.format_json_extents.proofs.Scalars.{piece_starts, tail_run, tail_split}
+use Rattle.format_json_extents.proofs.Written.{Written, encoded, fit_parts, one_written}
+use Rattle.format_json_extents.proofs.Written.{scalars_parts, then_written}
 use Rattle.format_json_extents.proofs.Written.Escapes.{escape_set, escape_value}
-use Rattle.format_json_extents.specs.Strings.{IsPiece, IsString, IsUnescaped}
-use Rattle.format_json_extents.specs.Texts.{Many, nothing, one_more}
+use Rattle.format_json_extents.proofs.Written.Units.{Ranges, high_ranges, low_ranges, only_ranges}
+use Rattle.format_json_extents.specs.Strings.{IsBackslash, IsEscape, IsEscaped, IsHexDigit, IsPiece}
+use Rattle.format_json_extents.specs.Strings.{IsString, IsStringTail, IsU, IsUnescaped, IsUnit}
+use Rattle.format_json_extents.specs.Texts.{IsByte, Many, MatchesAtStart, Then, nothing, one_more}
 use Rattle.format_json_texts.specs.Strings.{CharacterText, IsUnescaped as IsPlain, StringText}
-use Rattle.format_parts.specs.Words.{In, former, latter}
+use Rattle.format_parts.specs.Words.{In, One, former, latter}
 use Rattle.stream_sets.specs.Accumulator.Holds.{HasCharacters}
 use Rattle.grammars.specs.Texts.{BothText as Both, EachText, EitherText, GatheredText, Spelled}
 
--- ---- pieces
+-- ---- escapes
 
-plain_of : (b : ℕ) → IsUnescaped b → b ≤ 1114111 → IsPlain b
-plain_of b is most = grind (arith, is, most)
+hex_low : (b : ℕ) → IsHexDigit b → b < 128
+hex_low b is = grind (arith, is)
+
+unit_low : {P : ℕ → ℕ → Type 0} {Q : ℕ → Type 0} → Ranges P Q → IsLow (IsUnit P)
+unit_low {P} ranges =
+    then_in (two_in P (λ a b is.
+    let (one, two) = ranges.hex a b is in (hex_low a one, hex_low b two)))
+    (then_in (byte_in IsHexDigit hex_low) (byte_in IsHexDigit hex_low))
+
+slash_low : IsLow (IsByte IsBackslash)
+slash_low = byte_in IsBackslash (λ b e. omega (arith, e))
+
+letter_low : IsLow (IsByte IsU)
+letter_low = byte_in IsU (λ b e. omega (arith, e))
+
+escape_low : IsLow (Then (IsByte IsBackslash) IsEscape)
+escape_low =
+    then_in slash_low
+    (either_in (byte_in IsEscaped (λ b is. grind (arith, is)))
+    (then_in letter_low
+    (either_in (unit_low only_ranges)
+    (then_in (unit_low high_ranges)
+    (then_in slash_low (then_in letter_low (unit_low low_ranges)))))))
+
+-- ---- characters that stand for themselves
+
+unescaped_high : (b : ℕ) → 128 ≤ b → IsUnescaped b
+unescaped_high b high =
+    (omega (arith, high), λ e. omega (arith, high, e), λ e. omega (arith, high, e))
+
+unescaped_on : (e : Spelling) (c : ℕ) → 128 ≤ c → All IsUnescaped (e.on (c ∷ []))
+unescaped_on e c high =
+    All-weaker (λ b. 128 ≤ b) IsUnescaped unescaped_high (e.on (c ∷ [])) (e.high c high)
+
+plain_of : (b : ℕ) → IsUnescaped b → IsScalar b → IsPlain b
+plain_of b is scalar = elim (scalar_cases b scalar) [
+  | inl less ↦ grind (arith, is, less)
+  | inr more ↦ grind (arith, is, more)
+]
 
 plain_is : (b : ℕ) → IsPlain b → IsUnescaped b
 plain_is b is = (grind (arith, is), λ e. grind (arith, is, e), λ e. grind (arith, is, e))
 
-scalar_most : (b : ℕ) → IsScalar b → b ≤ 1114111
-scalar_most b scalar = elim (scalar_cases b scalar) [
-  | inl less ↦ omega (arith, less)
-  | inr more ↦ omega (arith, more)
-]
+-- ---- encodings are strings
 
-piece_set : (c : ℕ) (cs : List ℕ) → CharacterText c cs → IsPiece cs
-unfolding EitherText Both Spelled In
-piece_set c cs (inl (is, e)) = inl (one (plain_is c is) e)
-piece_set c cs (inr (s, d, xs, ys, (es, fs), x, e, out)) =
-    inr (joined xs ys (one refl fs) (escape_set d ys x) e)
+many_run : (bytes more : List ℕ) → All IsUnescaped bytes → Many IsPiece more
+    → Many IsPiece (bytes ++ more)
+many_run [] more all many = many
+many_run (b ∷ bytes) more all many =
+    one_more (b ∷ []) (bytes ++ more) (b ∷ (bytes ++ more))
+    (inl (one (All-head IsUnescaped b bytes all) refl))
+    (many_run bytes more (All-tail IsUnescaped b bytes all) many) refl
 
--- a character that these are the text of, and that takes no more bytes than they do
-record Piece (cs : List ℕ) : Type 0 where
-  char : ℕ
-  written : CharacterText char cs
-  scalar : IsScalar char
-  size : length (encode_utf8 char) ≤ length (encode_utf8_all cs)
+module _ (e : Spelling) where
+  piece_set : (c : ℕ) (cs more : List ℕ) → CharacterText c cs → Many IsPiece more
+      → Many IsPiece (e.on cs ++ more)
+  unfolding EitherText Both Spelled In
+  piece_set c cs more (inl (is, f)) many =
+      let P : List ℕ → Type 0 = λ l. Many IsPiece (e.on l ++ more) in
+      subst P (sym f) (many_run (e.on (c ∷ [])) more (by (cases_lt c 128)) many)
+    where
+      by : (c < 128) ⊎ (128 ≤ c) → All IsUnescaped (e.on (c ∷ []))
+      by (inl low) =
+          subst (All IsUnescaped) (sym (e.low c [] low ∙ ap (λ l. c ∷ l) e.nothing))
+          (All-cons IsUnescaped c [] (plain_is c is) (All-nil IsUnescaped))
+      by (inr high) = unescaped_on e c high
+  piece_set c cs more (inr (s, d, xs, ys, (es, fs), x, f, out)) many =
+      let is : Then (IsByte IsBackslash) IsEscape cs =
+      joined xs ys (one refl fs) (escape_set d ys x) f in
+      one_more (e.on cs) more (e.on cs ++ more) (inr (subst (Then (IsByte IsBackslash) IsEscape)
+      (sym (low_on e cs (escape_low.each cs is))) is)) many refl
 
-piece_value : {A : Type 0} (cs : List ℕ) → Fits A cs → IsPiece cs → Piece cs
-unfolding EitherText Both Spelled In
-piece_value cs fits (inl is) =
-    let P : List ℕ → Type 0 = λ l. all_scalars l ≡ true in
-    let scalar = (both_true _ true (subst P is.alone fits.scalars)).0 in
+  row_set : (os cs : List ℕ) → EachText CharacterText os cs → Many IsPiece (e.on cs)
+  unfolding EachText
+  row_set [] cs f = nothing (e.on cs) (ap e.on f ∙ e.nothing)
+  row_set (o ∷ os) cs (xs, ys, x, more, f) =
+      let P : List ℕ → Type 0 = λ l. Many IsPiece l in
+      subst P (sym (ap e.on f ∙ e.joins xs ys))
+      (piece_set o xs (e.on ys) x (row_set os ys more))
+
+-- ---- strings are encodings
+
+-- Characters that start with encodings of others and a quote, and the bytes after it. The others
+-- take no more bytes.
+record Row (cs rest : List ℕ) : Type 0 where
+  os : List ℕ
+  first : List ℕ
+  second : List ℕ
+  splits : cs ≡ first ++ 34 ∷ second
+  rest_of : encode_utf8_all second ≡ rest
+  written : EachText CharacterText os first
+  scalars : all_scalars os ≡ true
+  size : length (encode_utf8_all os) ≤ length (encode_utf8_all first)
+
+row_more : (c : ℕ) (xs more cs rest : List ℕ) → CharacterText c xs → IsScalar c
+    → length (encode_utf8 c) ≤ length (encode_utf8_all xs) → cs ≡ xs ++ more → Row more rest
+    → Row cs rest
+unfolding EachText
+row_more c xs more cs rest x scalar less e r = record {
+  os = c ∷ r.os;
+  first = xs ++ r.first;
+  second = r.second;
+  splits = simp (e, r.splits, append_assoc);
+  rest_of = r.rest_of;
+  written = (xs, r.first, x, r.written, refl);
+  scalars = and_true _ (all_scalars r.os) scalar r.scalars;
+  size = omega (
+    arith,
+    less,
+    r.size,
+    length-append (encode_utf8 c) (encode_utf8_all r.os),
+    ap (λ l. length l) (encodes-append xs r.first),
+    length-append (encode_utf8_all xs) (encode_utf8_all r.first),
+  );
+}
+
+-- the last quote
+quoted : (cs rest : List ℕ) → encode_utf8_all cs ≡ 34 ∷ rest → Row cs rest
+unfolding EachText
+quoted cs rest e =
+    let (es, f, g) = first_char cs rest 34 (omega arith) e in
     record {
-      char = is.byte;
-      written = inl (plain_of is.byte is.is_byte (scalar_most is.byte scalar), is.alone);
-      scalar = scalar;
-      size = omega (
-        arith,
-        ap (λ l. length (encode_utf8_all l)) is.alone,
-        length-append (encode_utf8 is.byte) [],
-      );
+      os = [];
+      first = [];
+      second = es;
+      splits = f;
+      rest_of = g;
+      written = refl;
+      scalars = refl;
+      size = omega arith;
     }
-piece_value cs fits (inr is) =
-    let m = escape_value is.second is.is_second in
-    let slash = is.is_first in
-    record {
-      char = m.char;
-      written = inr (
+
+-- what holds of fewer characters does of one more
+abbrev Rows : ℕ → Type 0
+Rows n =
+    (cs rest : List ℕ) → length cs ≤ n → all_scalars cs ≡ true
+    → MatchesAtStart IsStringTail (encode_utf8_all cs) rest → Row cs rest
+
+module _ (n : ℕ) (rows : Rows n) (c : ℕ) (cs rest : List ℕ) (few : length cs ≤ n)
+    (scalars : all_scalars (c ∷ cs) ≡ true) where
+  ahead : MatchesAtStart IsStringTail (encode_utf8_all cs) rest → IsUnescaped c → Row (c ∷ cs) rest
+  unfolding EitherText In
+  ahead at is =
+      let (scalar, more) = both_true _ (all_scalars cs) scalars in
+      row_more c (c ∷ []) cs (c ∷ cs) rest (inl (plain_of c is scalar, refl)) scalar
+      (omega (arith, length-append (encode_utf8 c) [])) refl (rows cs rest few more at)
+
+  escaped : (at text : List ℕ) → c < 128 → IsPiece text
+      → encode_utf8_all (c ∷ cs) ≡ text ++ at → MatchesAtStart IsStringTail at rest
+      → Row (c ∷ cs) rest
+  unfolding EitherText Both Spelled
+  escaped at text small (inl is) e tail =
+      let same = sym (first_byte c cs small) ∙ e ∙ ap (λ l. l ++ at) is.alone in
+      let P : List ℕ → Type 0 = λ l. MatchesAtStart IsStringTail l rest in
+      ahead (subst P (sym (same_rest same)) tail)
+      (subst IsUnescaped (sym (same_first same)) is.is_byte)
+  escaped at text small (inr is) e tail =
+      let (es, f, g) = low_front text (c ∷ cs) at (escape_low.each text is) e in
+      let m = escape_value is.second is.is_second in
+      let slash = is.is_first in
+      let P : List ℕ → Type 0 = λ l. MatchesAtStart IsStringTail l rest in
+      let Q : List ℕ → Type 0 = λ l. all_scalars l ≡ true in
+      let size = ap (λ l. length l) (this_then 92 is) in
+      row_more m.char text es (c ∷ cs) rest (inr (
         92,
         m.char,
         is.first,
@@ -73,69 +202,56 @@ piece_value cs fits (inr is) =
         m.written,
         is.joins,
         refl,
-      );
-      scalar = m.scalar;
-      size = omega (
-        arith,
-        m.size,
-        ap (λ l. length l) is.joins,
-        length-append is.first is.second,
-        length-le-encodes cs,
-      );
-    }
+      )) m.scalar (omega (arith, m.size, size, length-le-encodes text)) f
+      (rows es rest
+      (omega (arith, few, size, ap (λ l. length l) f, length-append text es))
+      (scalars_parts text es (subst Q f scalars)).1 (subst P (sym g) tail))
 
--- ---- strings
+  row_one_more : MatchesAtStart IsStringTail (encode_utf8_all (c ∷ cs)) rest
+      → (c < 128) ⊎ (128 ≤ c) → Row (c ∷ cs) rest
+  row_one_more it (inl small) = elim (tail_split it) [
+    | inl e ↦ quoted (c ∷ cs) rest e
+    | inr (at, piece, others) ↦ escaped at piece.text small piece.is piece.splits others
+  ]
+  row_one_more it (inr high) =
+      ahead ((tail_run (encode_utf8_all (c ∷ [])) {next = encode_utf8_all cs}
+      (unescaped_on in_utf8 c high) (encodes-append (c ∷ []) cs)).on rest it)
+      (unescaped_high c high)
 
-row_set : (os cs : List ℕ) → EachText CharacterText os cs → Many IsPiece cs
-unfolding EachText
-row_set [] cs e = nothing cs e
-row_set (o ∷ os) cs (xs, ys, x, more, e) =
-    one_more xs ys cs (piece_set o xs x) (row_set os ys more) e
-
--- characters that these are the text of, and that take no more bytes
-record Characters (cs : List ℕ) : Type 0 where
-  os : List ℕ
-  written : EachText CharacterText os cs
-  scalars : all_scalars os ≡ true
-  size : length (encode_utf8_all os) ≤ length (encode_utf8_all cs)
-
-row_value : {A : Type 0} (cs : List ℕ) → Fits A cs → Many IsPiece cs → Characters cs
-unfolding EachText
-row_value _ fits (nothing cs e) =
-    record { os = []; written = e; scalars = refl; size = omega arith }
-row_value _ fits (one_more first others cs is more e) =
-    let (one, rest) = fit_parts cs first others e fits in
-    let p = piece_value first one is in
-    let m = row_value others rest more in
-    record {
-      os = p.char ∷ m.os;
-      written = (first, others, p.written, m.written, e);
-      scalars = and_true _ (all_scalars m.os) p.scalar m.scalars;
-      size = omega (
-        arith,
-        p.size,
-        m.size,
-        length-append (encode_utf8 p.char) (encode_utf8_all m.os),
-        ap (λ l. length (encode_utf8_all l)) e,
-        ap (λ l. length l) (encodes-append first others),
-        length-append (encode_utf8_all first) (encode_utf8_all others),
-      );
-    }
+row_value : (n : ℕ) → Rows n
+row_value n [] rest few scalars it = elim (tail_split it) [
+  | inl e ↦ quoted [] rest e
+  | inr (at, piece, others) ↦
+      let b = begins_at piece_starts piece in
+      let none : [] ≡ b.byte ∷ b.more = b.begins in
+      absurd (omega (arith, ap (λ l. length l) none))
+]
+row_value zero (c ∷ cs) rest few scalars it = absurd (omega (arith, few))
+row_value (suc n) (c ∷ cs) rest few scalars it =
+    row_one_more n (λ es more less are at. row_value n es more less are at) c cs rest
+    (omega (arith, few)) scalars it (cases_lt c 128)
 
 module _ {A : Type 0} where
-  held_written : Written A (Many IsPiece)
-      (GatheredText (HasCharacters {A = A}) (EachText CharacterText))
-  unfolding GatheredText
-  held_written = record {
-    set = λ o cs (os, holds, x). row_set os cs x;
-    value = λ cs fits is.
-        let m = row_value cs fits is in
-        let few : length (encode_utf8_all m.os) < 2 ^ 63 = omega (arith, m.size, fits.few) in (
-          spelled fits.alloc (encode_utf8_all m.os) ∣ (m.os, (m.scalars, refl)) ∣₁ few,
-          (m.os, refl, m.written),
-        );
+  quote_written : Written A (IsByte (λ b. b ≡ 34)) (One 34)
+  quote_written = one_written 34 (omega arith)
+
+  tail_written : Written A IsStringTail
+      (Both former (GatheredText (HasCharacters {A = A}) (EachText CharacterText)) (One 34))
+  unfolding Both GatheredText Spelled
+  tail_written = record {
+    set = λ e o cs (string, q, xs, ys, (os, holds, x), y, f, out).
+        joined (e.on xs) (e.on ys) (row_set e os xs x) (quote_written.set e q ys y)
+        (ap e.on f ∙ e.joins xs ys);
+    value = λ cs front rest fits is f.
+        let r = row_value (length cs) cs rest (omega arith) fits.scalars
+        (record { text = front; is = is; splits = f }) in
+        let room = (fit_parts cs r.first (34 ∷ r.second) r.splits fits).0 in
+        let few : length (encode_utf8_all r.os) < 2 ^ 63 = omega (arith, r.size, room.few) in
+        let string = spelled fits.alloc (encode_utf8_all r.os) ∣ (r.os, (r.scalars, refl)) ∣₁ few in
+        encoded (r.first ++ 34 ∷ []) r.second string
+        (string, 34, r.first, 34 ∷ [], (r.os, refl, r.written), (refl, refl), refl, refl)
+        (simp (r.splits, append_assoc)) r.rest_of;
   }
 
   pub string_written : Written A IsString (StringText (HasCharacters {A = A}))
-  string_written =
-      then_written latter (one_written 34) (then_written former held_written (one_written 34))
+  string_written = then_written latter quote_written tail_written

@@ -1,15 +1,17 @@
 -- Proofs that the values of this crate encode values of RFC 8259, and likewise its JSON texts.
-use Rattle.std.proofs.Common.{◌++◌, ◌<◌, ◌^◌, ◌↔◌, ◌∷◌, ◌≡◌, ◌≤◌, [], ℕ, Bool}
+use Rattle.std.proofs.Common.{◌++◌, ◌<◌, ◌^◌, ◌↔◌, ◌∙◌, ◌∷◌, ◌≡◌, ◌≤◌, [], ℕ, Bool}
 use Rattle.std.proofs.Common.{List, None, Option, Some, ap, append_assoc, arith, false, inl, inr}
-use Rattle.std.proofs.Common.{length, length-append, refl, suc, sym, true, zero}
+use Rattle.std.proofs.Common.{length, length-append, refl, subst, suc, sym, true, zero}
 use Rattle.std.proofs.StringFromBytes.{spelled}
-use Rattle.std.proofs.lemmas.Str.{encodes-chars, scalars-chars}
+use Rattle.std.proofs.lemmas.List.{append-nil}
+use Rattle.std.proofs.lemmas.Str.{encodes-chars, encodes_same, scalars-chars}
+use Rattle.std.specs.List.{AllByRecursion}
 use Rattle.std.specs.Str.{IsUtf8, chars, encode_utf8_all}
 use Rattle.std.specs.declared.string.String.{String}
-use Rattle.format_json_extents.proofs.Characters.Values.{text_characters, value_characters}
+use Rattle.format_json_extents.proofs.Characters.{in_utf8, only_low, themselves}
 use Rattle.format_json_extents.proofs.Matching.{joined}
 use Rattle.format_json_extents.proofs.Written.{Fits, Written, either_written, for_written}
-use Rattle.format_json_extents.proofs.Written.{then_written}
+use Rattle.format_json_extents.proofs.Written.{low_written, then_written}
 use Rattle.format_json_extents.proofs.Written.Brackets.{IsMarked, bracketed_written, gap_written}
 use Rattle.format_json_extents.proofs.Written.Brackets.{mark_written}
 use Rattle.format_json_extents.proofs.Written.Numbers.{Same, as_written, number_written}
@@ -32,16 +34,16 @@ use Rattle.grammars.specs.Texts.{Spelled, TakenText, Text}
 use Rattle.format_json_extents.specs.Standard.{AnyValue, IsTextByStandard, IsValueByStandard}
 
 only_written : {A : Type 0} {O : Type 0} (word : List ℕ) (o : O)
-    → Written A (Only word) (Spelled word o)
+    → AllByRecursion (λ b. b < 128) word → Written A (Only word) (Spelled word o)
 unfolding Spelled
-only_written word o =
-    record { set = λ p cs (is, e). e; value = λ cs fits e. (o, (refl, e)) }
+only_written word o low =
+    low_written (only_low word low) (λ p cs (is, e). e) (λ cs e. (o, (refl, e)))
 
 word_written : {A : Type 0} → Written A IsWord WordText
 word_written =
-    either_written (only_written (110 ∷ 117 ∷ 108 ∷ 108 ∷ []) None)
-    (either_written (only_written (116 ∷ 114 ∷ 117 ∷ 101 ∷ []) (Some true))
-    (only_written (102 ∷ 97 ∷ 108 ∷ 115 ∷ 101 ∷ []) (Some false)))
+    either_written (only_written (110 ∷ 117 ∷ 108 ∷ 108 ∷ []) None (omega arith))
+    (either_written (only_written (116 ∷ 114 ∷ 117 ∷ 101 ∷ []) (Some true) (omega arith))
+    (only_written (102 ∷ 97 ∷ 108 ∷ 115 ∷ 101 ∷ []) (Some false) (omega arith)))
 
 third_first : (P Q R : List ℕ → Type 0) → Same (Either R (Either Q P)) (Either P (Either Q R))
 third_first P Q R = (there, back)
@@ -117,14 +119,16 @@ module _ {A : Type 0} where
 
     array_written : Written A (Then (IsByte (λ b. b ≡ opening false)) (IsNestedTail false V))
         (ArrayText (HasCharacters {A = A}) value)
-    array_written = bracketed_written (λ cs is. is) (λ cs is. is) spaced 91 93
+    array_written =
+        bracketed_written (λ cs is. is) (λ cs is. is) spaced 91 93 (omega arith) (omega arith)
 
     object_written : Written A (Then (IsByte (λ b. b ≡ opening true)) (IsNestedTail true V))
         (ObjectText (HasCharacters {A = A}) value)
     object_written =
         bracketed_written (member_there V) (member_back V)
         (then_written pair (then_written former string_written gap_written)
-        (then_written latter (mark_written 58) spaced)) 123 125
+        (then_written latter (mark_written 58 (omega arith)) spaced)) 123 125 (omega arith)
+        (omega arith)
 
   value_written : (level : ℕ) → Written A (IsValue level) (ValueText (HasCharacters {A = A}) level)
   unfolding ValueText
@@ -143,59 +147,64 @@ module _ {A : Type 0} where
   -- ---- of bytes
 
   by_bytes : {O : Type 0} {P : List ℕ → Type 0} {text : Text ℕ O} → Written A P text → A
-      → (bytes : List ℕ) → length bytes < 2 ^ 63 → IsUtf8 bytes → P bytes ↔ P (chars bytes)
+      → (bytes : List ℕ) → length bytes < 2 ^ 63 → IsUtf8 bytes
       → P bytes ↔ ((o : O) × text o (chars bytes))
-  by_bytes w alloc bytes few utf8 same = (
-    λ is. w.value (chars bytes) (record {
-      alloc = alloc;
-      scalars = scalars-chars bytes utf8;
-      few = omega (arith, few, ap (λ l. length l) (encodes-chars bytes utf8));
-    }) (same.0 is),
-    λ (o, x). same.1 (w.set o (chars bytes) x),
-  )
+  by_bytes {P = P} {text} w alloc bytes few utf8 =
+      let same = encodes-chars bytes utf8 in (
+        λ is.
+            let v = w.value (chars bytes) bytes [] (record {
+              alloc = alloc;
+              scalars = scalars-chars bytes utf8;
+              few = omega (arith, few, ap (λ l. length l) same);
+            }) is (same ∙ sym (append-nil bytes)) in
+            let none : v.second ≡ [] = encodes_same v.second [] v.rest_of in (
+              v.output,
+              subst (text v.output) (sym (v.splits ∙ ap (λ l. v.first ++ l) none
+                  ∙ append-nil v.first)) v.written,
+            ),
+        λ (o, x). subst P same (w.set in_utf8 o (chars bytes) x),
+      )
 
   pub values_written : A → (level : ℕ) (bytes : List ℕ) → IsUtf8 bytes → length bytes < 2 ^ 63
       → IsValue level bytes
       ↔ ((v : Value A) × ValueText (HasCharacters {A = A}) level v (chars bytes))
   values_written alloc level bytes utf8 few =
-      by_bytes (value_written level) alloc bytes few utf8 (value_characters level bytes utf8)
+      by_bytes (value_written level) alloc bytes few utf8
 
   pub texts_written : A → (level : ℕ) (bytes : List ℕ) → IsUtf8 bytes → length bytes < 2 ^ 63
       → IsText level bytes
       ↔ ((v : Value A) × JsonText (HasCharacters {A = A}) level v (chars bytes))
-  texts_written alloc level bytes utf8 few =
-      by_bytes (text_written level) alloc bytes few utf8 (text_characters level bytes utf8)
+  texts_written alloc level bytes utf8 few = by_bytes (text_written level) alloc bytes few utf8
 
   -- what encodes a value is one, by its characters and by its bytes, however long
   pub value_of : (level : ℕ) (v : Value A) (cs : List ℕ)
       → ValueText (HasCharacters {A = A}) level v cs → IsValue level cs
-  value_of level = (value_written level).set
+  value_of level = (value_written level).set themselves
 
   pub text_of : (level : ℕ) (v : Value A) (cs : List ℕ)
       → JsonText (HasCharacters {A = A}) level v cs → IsText level cs
-  text_of level = (text_written level).set
+  text_of level = (text_written level).set themselves
 
   pub value_bytes : (level : ℕ) (bytes : List ℕ) → IsUtf8 bytes → (v : Value A)
       → ValueText (HasCharacters {A = A}) level v (chars bytes) → IsValue level bytes
   value_bytes level bytes utf8 v x =
-      (value_characters level bytes utf8).1 (value_of level v (chars bytes) x)
+      subst (IsValue level) (encodes-chars bytes utf8)
+      ((value_written level).set in_utf8 v (chars bytes) x)
 
 standard : {P : List ℕ → Type 0} {text : Text ℕ AnyValue} → Written (Unit {0}) P text
-    → (bytes : List ℕ) → length bytes < 2 ^ 63 → IsUtf8 bytes → P bytes ↔ P (chars bytes)
+    → (bytes : List ℕ) → length bytes < 2 ^ 63 → IsUtf8 bytes
     → P bytes ↔ (IsUtf8 bytes × ((v : AnyValue) × text v (chars bytes)))
-standard w bytes few utf8 same =
-    let (there, back) = by_bytes w tt bytes few utf8 same in
+standard w bytes few utf8 =
+    let (there, back) = by_bytes w tt bytes few utf8 in
     (λ is. (utf8, there is), λ (also, x). back x)
 
 value_standard : (level : ℕ) (bytes : List ℕ) → length bytes < 2 ^ 63 → IsUtf8 bytes
     → IsValue level bytes ↔ IsValueByStandard level bytes
-value_standard level bytes few utf8 =
-    standard (value_written level) bytes few utf8 (value_characters level bytes utf8)
+value_standard level bytes few utf8 = standard (value_written level) bytes few utf8
 
 pub text_standard : (level : ℕ) (bytes : List ℕ) → length bytes < 2 ^ 63 → IsUtf8 bytes
     → IsText level bytes ↔ IsTextByStandard level bytes
-text_standard level bytes few utf8 =
-    standard (text_written level) bytes few utf8 (text_characters level bytes utf8)
+text_standard level bytes few utf8 = standard (text_written level) bytes few utf8
 
 pub through : {X Y Z : Type 0} → X ↔ Y → Y ↔ Z → X ↔ Z
 through (a, b) (c, d) = (λ x. c (a x), λ z. b (d z))

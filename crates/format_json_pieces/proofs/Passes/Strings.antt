@@ -6,7 +6,7 @@ use Rattle.std.specs.Str.{all_scalars, encode_utf8_all}
 use Rattle.std.proofs.lemmas.Bool.{cases_lt}
 use Rattle.std.proofs.lemmas.Bool.Decides.{nat_tests}
 use Rattle.streams.specs.Utf8.{four_bytes, three_bytes, two_bytes}
-use Rattle.format_json_extents.proofs.Written.{both_true}
+use Rattle.format_json_extents.proofs.Characters.{both_true}
 use Rattle.format_json_extents.specs.Strings.{BeginHigh, BeginLow, BeginOnly, IsBackslash, IsEscape}
 use Rattle.format_json_extents.specs.Strings.{IsEscaped, IsHexDigit, IsPiece, IsString, IsTwoDigits}
 use Rattle.format_json_extents.specs.Strings.{IsU, IsUnescaped, IsUnit}
