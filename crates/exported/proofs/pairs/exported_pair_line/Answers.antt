@@ -1,5 +1,5 @@
 use Rattle.std.proofs.Common.{[], ◌++◌, ◌∙◌, ◌∷◌, append_assoc, length-append, refl, sym}
-use Rattle.exported.proofs.ini.exported_ini_pair.Goals as goal
+use Rattle.exported.proofs.pairs.exported_pair_line.Goals as goal
 
 pub returns-in-Ok-clause-pair : goal.returns-in-Ok-clause-pair
 returns-in-Ok-clause-pair c _ =

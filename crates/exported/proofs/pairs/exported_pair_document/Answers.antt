@@ -1,8 +1,8 @@
 use Rattle.std.proofs.Common.{◌≤◌, ap, arith, length, map, rules}
 use Rattle.readers.specs.Sections.{pair_text, section_text}
-use Rattle.exported.specs.Ini.{entries_of, text_of}
+use Rattle.exported.specs.Pairs.{entries_of, text_of}
 use Rattle.exported.proofs.Entries.{document_long}
-use Rattle.exported.proofs.ini.exported_ini_document.Goals as goal
+use Rattle.exported.proofs.pairs.exported_pair_document.Goals as goal
 
 pub write_entries-requires : goal.write_entries-requires
 write_entries-requires c =

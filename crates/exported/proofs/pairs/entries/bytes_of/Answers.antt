@@ -1,6 +1,6 @@
 use Rattle.std.proofs.Common.{arith, refl}
 use Rattle.exported.proofs.Entries.{front_long, length_more, of_number}
-use Rattle.exported.proofs.ini.entries.bytes_of.Goals as goal
+use Rattle.exported.proofs.pairs.entries.bytes_of.Goals as goal
 
 pub overflow_add-total : goal.overflow_add-total
 overflow_add-total c =

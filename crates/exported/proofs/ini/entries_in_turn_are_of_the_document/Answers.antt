@@ -1,5 +1,5 @@
-use Rattle.exported.proofs.Dialects.{no_texts, refuses, whole}
-use Rattle.exported.proofs.ini.dialects.entries_in_turn_are_of_the_document.Goals as goal
+use Rattle.exported.proofs.IniEntries.{no_texts, refuses, whole}
+use Rattle.exported.proofs.ini.entries_in_turn_are_of_the_document.Goals as goal
 
 pub returns-clause-whole : goal.returns-clause-whole
 returns-clause-whole c dialect bytes outs said state next out turns last =

@@ -1,6 +1,6 @@
 use Rattle.std.proofs.Common.{arith, refl}
 use Rattle.exported.proofs.Entries.{front_long, length_more, of_number, shown_more}
-use Rattle.exported.proofs.ini.entries.place_entries.Goals as goal
+use Rattle.exported.proofs.pairs.entries.place_entries.Goals as goal
 
 pub overflow_add-middle : goal.overflow_add-middle
 overflow_add-middle c =

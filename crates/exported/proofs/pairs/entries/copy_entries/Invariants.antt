@@ -1,8 +1,8 @@
 -- The invariant: the buffer starts with the bytes of the entries so far.
 use Rattle.std.proofs.Common.{◌≡◌, length, map, take}
 use Rattle.readers.specs.Sections.{pair_text}
-use Rattle.exported.specs.Ini.{text_of}
-use Rattle.exported.proofs.ini.entries.copy_entries.Given as goal
+use Rattle.exported.specs.Pairs.{text_of}
+use Rattle.exported.proofs.pairs.entries.copy_entries.Given as goal
 
 abbrev pub invariant-loop-number : goal.invariant-loop-number
 invariant-loop-number l = record {

@@ -1,9 +1,9 @@
 -- The places of the entries so far.
 use Rattle.std.proofs.Common.{◌≡◌, ◌+◌, ◌<◌, drop, length, map, slice_index_or, take, ℕ}
 use Rattle.readers.specs.Sections.{pair_text}
-use Rattle.exported.specs.Ini.{EntryText, ShowsEntry, text_of}
-use Rattle.exported.specs.declared.ini.Entry.{Entry}
-use Rattle.exported.proofs.ini.entries.place_entries.Given as goal
+use Rattle.exported.specs.Pairs.{EntryText, ShowsEntry, text_of}
+use Rattle.exported.specs.declared.pairs.Entry.{Entry}
+use Rattle.exported.proofs.pairs.entries.place_entries.Given as goal
 
 abbrev pub invariant-loop-number : goal.invariant-loop-number
 invariant-loop-number l = record {

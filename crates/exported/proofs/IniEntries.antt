@@ -16,12 +16,12 @@ use Rattle.format_ini.specs.declared.places.Placed.{Placed}
 use Rattle.format_ini.specs.declared.places.Reading.{Reading}
 use Rattle.format_ini.specs.declared.places.Stop.{Stop}
 use Rattle.format_ini.specs.declared.places.Stop.TheVariants as stops
-use Rattle.exported.proofs.DialectTexts.{line_text, mark_text, rest_text}
+use Rattle.exported.proofs.IniTexts.{line_text, mark_text, rest_text}
 use Rattle.exported.specs.Code.{done, end, invalid, invalid_utf8}
-use Rattle.exported.specs.Dialects.{EntriesInTurn, IsFrom, TellsEntry, Writes, dialect_of}
-use Rattle.exported.specs.Dialects.{fault_number, reading_at, said_by, zeros}
-use Rattle.exported.specs.declared.ini.dialects.IniEntry.{IniEntry}
-use Rattle.exported.specs.declared.ini.dialects.IniState.{IniState}
+use Rattle.exported.specs.Ini.{EntriesInTurn, IsFrom, TellsEntry, Writes, dialect_of}
+use Rattle.exported.specs.Ini.{fault_number, reading_at, said_by, zeros}
+use Rattle.exported.specs.declared.ini.IniEntry.{IniEntry}
+use Rattle.exported.specs.declared.ini.IniState.{IniState}
 
 pub tells : (dialect : ℕ) (d : Dialect) (old new : IniState) (bytes : List ℕ)
     (from after : Reading) (answer : Result (Option Placed) Stop) (code : ℕ) (out : IniEntry)
@@ -127,7 +127,7 @@ turn_by_turn dialect bytes (out ∷ outs) state last before said here
     (turn_by_turn dialect bytes outs next last (before ++ one) others
     (stands_more dialect bytes before state next out tells here) again)
 
-over_by : (dialect : ℕ) (bytes : List ℕ) (said : List Said) (from new : Reading)
+pub over_by : (dialect : ℕ) (bytes : List ℕ) (said : List Said) (from new : Reading)
     (answer : Result (Option Placed) Stop) (out : IniEntry)
     → NextPlaced (dialect_of dialect) bytes from answer new → Writes answer new.offset end out
     → SoFar dialect bytes said from → IsDocument (dialect_of dialect) bytes said
@@ -142,7 +142,7 @@ over_by dialect bytes said from new (Err stops.NoText) out next (code, none) her
 over_by dialect bytes said from new (Err (stops.Invalid reason)) out next (code, none) here =
     absurd (omega (arith, code))
 
-refused_by : (dialect : ℕ) (bytes : List ℕ) (said : List Said) (from new : Reading)
+pub refused_by : (dialect : ℕ) (bytes : List ℕ) (said : List Said) (from new : Reading)
     (answer : Result (Option Placed) Stop) (out : IniEntry)
     → NextPlaced (dialect_of dialect) bytes from answer new
     → Writes answer new.offset invalid out → SoFar dialect bytes said from
@@ -170,7 +170,7 @@ refused_by dialect bytes said from new (Ok (Some it)) out next (code, none) here
 refused_by dialect bytes said from new (Err stops.NoText) out next (code, none) here =
     absurd (omega (arith, code))
 
-no_text_by : (dialect : ℕ) (bytes : List ℕ) (said : List Said) (from new : Reading)
+pub no_text_by : (dialect : ℕ) (bytes : List ℕ) (said : List Said) (from new : Reading)
     (answer : Result (Option Placed) Stop) (out : IniEntry)
     → NextPlaced (dialect_of dialect) bytes from answer new
     → Writes answer new.offset invalid_utf8 out → SoFar dialect bytes said from → IsUtf8 bytes → ⊥

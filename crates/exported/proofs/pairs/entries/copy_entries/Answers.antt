@@ -1,6 +1,6 @@
 use Rattle.std.proofs.Common.{◌∙◌, ◌++◌, ◌≤◌, ap, arith, length, refl}
 use Rattle.exported.proofs.Entries.{copied_more, front_long, length_more, of_number}
-use Rattle.exported.proofs.ini.entries.copy_entries.Goals as goal
+use Rattle.exported.proofs.pairs.entries.copy_entries.Goals as goal
 
 pub overflow_add-end : goal.overflow_add-end
 overflow_add-end c =

@@ -2,9 +2,9 @@
 
 ghost use Rattle.std.specs.Prelude.{◌≡◌, ◌<◌, ◌+◌, ◌++◌, ◌^◌, IfSome, length, map};
 ghost use Rattle.readers.specs.Sections.{pair_text, section_text};
-ghost use Rattle.exported.specs.Ini.{AreEntries, entries_of, text_of};
+ghost use Rattle.exported.specs.Pairs.{AreEntries, entries_of, text_of};
 
-use crate::ini::Entry;
+use crate::pairs::Entry;
 use crate::span::Span;
 use readers::ini::Section;
 use std::alloc::Global;
