@@ -118,23 +118,21 @@ uint32_t exported_http_response_head_partial(
     struct pergidau_field *fields,
     size_t fields_length,
     struct pergidau_response_head *out);
-uint32_t exported_ini_pair(
-    const uint8_t *bytes,
-    size_t bytes_length,
-    struct pergidau_pair *out);
-uint32_t exported_ini_document(
-    const uint8_t *bytes,
-    size_t bytes_length,
-    uint8_t *text,
-    size_t text_length,
-    struct pergidau_entry *entries,
-    size_t entries_length,
-    struct pergidau_document *out);
 uint32_t exported_ini_next(
     struct pergidau_ini_state *state,
     const uint8_t *bytes,
     size_t bytes_length,
     size_t dialect,
+    struct pergidau_ini_entry *out);
+uint32_t exported_ini_get(
+    struct pergidau_ini_state *state,
+    const uint8_t *bytes,
+    size_t bytes_length,
+    size_t dialect,
+    const uint8_t *section,
+    size_t section_length,
+    const uint8_t *key,
+    size_t key_length,
     struct pergidau_ini_entry *out);
 uint32_t exported_json_check(
     const uint8_t *text,
@@ -192,6 +190,18 @@ uint32_t exported_json_string(
     uint8_t *buffer,
     size_t buffer_length,
     struct pergidau_json_text *out);
+uint32_t exported_pair_line(
+    const uint8_t *bytes,
+    size_t bytes_length,
+    struct pergidau_pair *out);
+uint32_t exported_pair_document(
+    const uint8_t *bytes,
+    size_t bytes_length,
+    uint8_t *text,
+    size_t text_length,
+    struct pergidau_entry *entries,
+    size_t entries_length,
+    struct pergidau_document *out);
 uint32_t exported_resp_reply(
     const uint8_t *bytes,
     size_t bytes_length,
@@ -247,7 +257,7 @@ _Static_assert(sizeof(enum pergidau_resp_kind) == sizeof(uint32_t), "the size of
 _Static_assert(sizeof(enum pergidau_toml_error) == sizeof(uint32_t), "the size of an enum");
 _Static_assert(sizeof(enum pergidau_toml_kind) == sizeof(uint32_t), "the size of an enum");
 
-const char pergidau_declared_1bfb0d6a = 0;
+const char pergidau_declared_e422ca0d = 0;
 
 const char *pergidau_version(void)
 {
@@ -1161,72 +1171,6 @@ enum pergidau_code pergidau_http_response_head_partial(
     return (enum pergidau_code)exported_http_response_head_partial(bytes, bytes_length, fields, fields_length, out);
 }
 
-enum pergidau_code pergidau_ini_pair(
-    const uint8_t *bytes,
-    size_t bytes_length,
-    struct pergidau_pair *out)
-{
-    const uint8_t no_bytes = {0};
-    if (bytes_length > PTRDIFF_MAX / sizeof(uint8_t)) {
-        return PERGIDAU_TOO_LONG;
-    }
-    if (bytes == NULL && bytes_length > 0) {
-        return PERGIDAU_NULL;
-    }
-    if (out == NULL) {
-        return PERGIDAU_NULL;
-    }
-    if (bytes == NULL) {
-        bytes = &no_bytes;
-    }
-    return (enum pergidau_code)exported_ini_pair(bytes, bytes_length, out);
-}
-
-enum pergidau_code pergidau_ini_document(
-    const uint8_t *bytes,
-    size_t bytes_length,
-    uint8_t *text,
-    size_t text_length,
-    struct pergidau_entry *entries,
-    size_t entries_length,
-    struct pergidau_document *out)
-{
-    const uint8_t no_bytes = {0};
-    uint8_t no_text = {0};
-    struct pergidau_entry no_entries = {0};
-    if (bytes_length > PTRDIFF_MAX / sizeof(uint8_t)) {
-        return PERGIDAU_TOO_LONG;
-    }
-    if (bytes == NULL && bytes_length > 0) {
-        return PERGIDAU_NULL;
-    }
-    if (text_length > PTRDIFF_MAX / sizeof(uint8_t)) {
-        return PERGIDAU_TOO_LONG;
-    }
-    if (text == NULL && text_length > 0) {
-        return PERGIDAU_NULL;
-    }
-    if (entries_length > PTRDIFF_MAX / sizeof(struct pergidau_entry)) {
-        return PERGIDAU_TOO_LONG;
-    }
-    if (entries == NULL && entries_length > 0) {
-        return PERGIDAU_NULL;
-    }
-    if (out == NULL) {
-        return PERGIDAU_NULL;
-    }
-    if (bytes == NULL) {
-        bytes = &no_bytes;
-    }
-    if (text == NULL) {
-        text = &no_text;
-    }
-    if (entries == NULL) {
-        entries = &no_entries;
-    }
-    return (enum pergidau_code)exported_ini_document(bytes, bytes_length, text, text_length, entries, entries_length, out);
-}
-
 enum pergidau_code pergidau_ini_next(
     struct pergidau_ini_state *state,
     const uint8_t *bytes,
@@ -1251,6 +1195,56 @@ enum pergidau_code pergidau_ini_next(
         bytes = &no_bytes;
     }
     return (enum pergidau_code)exported_ini_next(state, bytes, bytes_length, dialect, out);
+}
+
+enum pergidau_code pergidau_ini_get(
+    struct pergidau_ini_state *state,
+    const uint8_t *bytes,
+    size_t bytes_length,
+    size_t dialect,
+    const uint8_t *section,
+    size_t section_length,
+    const uint8_t *key,
+    size_t key_length,
+    struct pergidau_ini_entry *out)
+{
+    const uint8_t no_bytes = {0};
+    const uint8_t no_section = {0};
+    const uint8_t no_key = {0};
+    if (state == NULL) {
+        return PERGIDAU_NULL;
+    }
+    if (bytes_length > PTRDIFF_MAX / sizeof(uint8_t)) {
+        return PERGIDAU_TOO_LONG;
+    }
+    if (bytes == NULL && bytes_length > 0) {
+        return PERGIDAU_NULL;
+    }
+    if (section_length > PTRDIFF_MAX / sizeof(uint8_t)) {
+        return PERGIDAU_TOO_LONG;
+    }
+    if (section == NULL && section_length > 0) {
+        return PERGIDAU_NULL;
+    }
+    if (key_length > PTRDIFF_MAX / sizeof(uint8_t)) {
+        return PERGIDAU_TOO_LONG;
+    }
+    if (key == NULL && key_length > 0) {
+        return PERGIDAU_NULL;
+    }
+    if (out == NULL) {
+        return PERGIDAU_NULL;
+    }
+    if (bytes == NULL) {
+        bytes = &no_bytes;
+    }
+    if (section == NULL) {
+        section = &no_section;
+    }
+    if (key == NULL) {
+        key = &no_key;
+    }
+    return (enum pergidau_code)exported_ini_get(state, bytes, bytes_length, dialect, section, section_length, key, key_length, out);
 }
 
 enum pergidau_code pergidau_json_check(
@@ -1521,6 +1515,72 @@ enum pergidau_code pergidau_json_string(
         buffer = &no_buffer;
     }
     return (enum pergidau_code)exported_json_string(bytes, bytes_length, buffer, buffer_length, out);
+}
+
+enum pergidau_code pergidau_pair_line(
+    const uint8_t *bytes,
+    size_t bytes_length,
+    struct pergidau_pair *out)
+{
+    const uint8_t no_bytes = {0};
+    if (bytes_length > PTRDIFF_MAX / sizeof(uint8_t)) {
+        return PERGIDAU_TOO_LONG;
+    }
+    if (bytes == NULL && bytes_length > 0) {
+        return PERGIDAU_NULL;
+    }
+    if (out == NULL) {
+        return PERGIDAU_NULL;
+    }
+    if (bytes == NULL) {
+        bytes = &no_bytes;
+    }
+    return (enum pergidau_code)exported_pair_line(bytes, bytes_length, out);
+}
+
+enum pergidau_code pergidau_pair_document(
+    const uint8_t *bytes,
+    size_t bytes_length,
+    uint8_t *text,
+    size_t text_length,
+    struct pergidau_entry *entries,
+    size_t entries_length,
+    struct pergidau_document *out)
+{
+    const uint8_t no_bytes = {0};
+    uint8_t no_text = {0};
+    struct pergidau_entry no_entries = {0};
+    if (bytes_length > PTRDIFF_MAX / sizeof(uint8_t)) {
+        return PERGIDAU_TOO_LONG;
+    }
+    if (bytes == NULL && bytes_length > 0) {
+        return PERGIDAU_NULL;
+    }
+    if (text_length > PTRDIFF_MAX / sizeof(uint8_t)) {
+        return PERGIDAU_TOO_LONG;
+    }
+    if (text == NULL && text_length > 0) {
+        return PERGIDAU_NULL;
+    }
+    if (entries_length > PTRDIFF_MAX / sizeof(struct pergidau_entry)) {
+        return PERGIDAU_TOO_LONG;
+    }
+    if (entries == NULL && entries_length > 0) {
+        return PERGIDAU_NULL;
+    }
+    if (out == NULL) {
+        return PERGIDAU_NULL;
+    }
+    if (bytes == NULL) {
+        bytes = &no_bytes;
+    }
+    if (text == NULL) {
+        text = &no_text;
+    }
+    if (entries == NULL) {
+        entries = &no_entries;
+    }
+    return (enum pergidau_code)exported_pair_document(bytes, bytes_length, text, text_length, entries, entries_length, out);
 }
 
 enum pergidau_code pergidau_resp_reply(

@@ -43,10 +43,10 @@ extern "C" {
  * header refers to it, so that it links with no other library. For a file that is not linked
  * with the library, define PERGIDAU_NO_LINK_CHECK before the header.
  */
-extern const char pergidau_declared_1bfb0d6a;
+extern const char pergidau_declared_e422ca0d;
 #if defined(__GNUC__) && !defined(PERGIDAU_NO_LINK_CHECK)
 __attribute__((__used__, __unused__)) static const char *const pergidau_linked =
-    &pergidau_declared_1bfb0d6a;
+    &pergidau_declared_e422ca0d;
 #endif
 
 /* Returns the version of the linked library, in the form of PERGIDAU_VERSION. */
@@ -503,17 +503,17 @@ enum pergidau_ini_error {
 
 /* The dialects of INI: flags, whose sum is a dialect, and three dialects. */
 enum pergidau_ini_dialect {
-    /* = ends a key. Where neither this is set nor the next, both end one. */
+    /* = ends a key. If neither this flag nor the next one is set, both end a key. */
     PERGIDAU_INI_DIALECT_EQUALS = 1,
     /* : ends a key. */
     PERGIDAU_INI_DIALECT_COLON = 2,
-    /* # begins a comment where it is the first of a line, after whitespace. */
+    /* # starts a comment if it is first in a line, after optional whitespace. */
     PERGIDAU_INI_DIALECT_NUMBER_SIGN = 4,
-    /* ; does. */
+    /* ; starts a comment if it is first in a line, after optional whitespace. */
     PERGIDAU_INI_DIALECT_SEMICOLON = 8,
-    /* # begins a comment at the start of a line, or after whitespace in it. */
+    /* # starts a comment at the start of a line, or after whitespace in it. */
     PERGIDAU_INI_DIALECT_INLINE_NUMBER_SIGN = 16,
-    /* ; does. */
+    /* ; starts a comment at the start of a line, or after whitespace in it. */
     PERGIDAU_INI_DIALECT_INLINE_SEMICOLON = 32,
     /*
      * A line that is indented deeper than the pair before it continues the value of that pair.
@@ -570,7 +570,7 @@ enum pergidau_dns_error {
 
 /* The kinds of INI entries. */
 enum pergidau_ini_kind {
-    /* The name of a section, which begins there. */
+    /* The start of a section. The key is its name. */
     PERGIDAU_INI_SECTION = 0,
     /* A key with its value, or with the first line of that. */
     PERGIDAU_INI_PAIR = 1,
@@ -654,7 +654,7 @@ struct pergidau_csv_dialect {
 struct pergidau_csv_record_state {
     /* How many bytes were passed. */
     size_t passed;
-    /* How many bytes the fields have that were passed, as they are meant. */
+    /* How many bytes these fields have without their quotes, as far as they were passed. */
     size_t text;
     /* How many fields were passed with the delimiter after them. */
     size_t fields;
@@ -854,35 +854,10 @@ struct pergidau_response_head {
     uint8_t minor;
 };
 
-/* The places of a key and its value. */
-struct pergidau_pair {
-    /* The key. */
-    struct pergidau_span key;
-    /* The value. */
-    struct pergidau_span value;
-    /* The offset of the error in bytes; 0 otherwise. */
-    size_t error_offset;
-};
-
-/* An entry of a document: a pair, or the head of a section. */
-struct pergidau_entry {
-    /* The key of a pair. It is empty for the head of a section, and only there. */
-    struct pergidau_span key;
-    /* The value of a pair, or the name of a section. It may have no bytes. */
-    struct pergidau_span value;
-};
-
-/* The sizes of a document, or the offset of an error. */
-struct pergidau_document {
-    /* How many entries there are. */
-    size_t entries;
-    /* How many bytes the keys, the values and the names have together. */
-    size_t text;
-    /* The offset of the error in bytes; 0 otherwise. */
-    size_t error_offset;
-};
-
-/* How far a document is read. Zeros stand for its start. */
+/*
+ * The state of parsing an INI file. Only the functions of this library may interpret its
+ * fields. All zeros is the initial state; start from it for each file.
+ */
 struct pergidau_ini_state {
     /* How many bytes are read: the next line begins after them. */
     size_t offset;
@@ -992,6 +967,34 @@ struct pergidau_bytes {
     size_t bytes_length;
 };
 
+/* The places of a key and its value. */
+struct pergidau_pair {
+    /* The key. */
+    struct pergidau_span key;
+    /* The value. */
+    struct pergidau_span value;
+    /* The offset of the error in bytes; 0 otherwise. */
+    size_t error_offset;
+};
+
+/* An entry of a document: a pair, or the head of a section. */
+struct pergidau_entry {
+    /* The key of a pair. It is empty for the head of a section, and only there. */
+    struct pergidau_span key;
+    /* The value of a pair, or the name of a section. It may have no bytes. */
+    struct pergidau_span value;
+};
+
+/* The sizes of a document, or the offset of an error. */
+struct pergidau_document {
+    /* How many entries there are. */
+    size_t entries;
+    /* How many bytes the keys, the values and the names have together. */
+    size_t text;
+    /* The offset of the error in bytes; 0 otherwise. */
+    size_t error_offset;
+};
+
 /* A reply. */
 struct pergidau_reply {
     /*
@@ -1036,7 +1039,7 @@ struct pergidau_resp_reply_state {
     size_t bulk;
     /* The number of expected replies, its lower 64 bits. */
     size_t low;
-    /* By the upper 64 bits. */
+    /* The upper 64 bits of that number. */
     size_t high;
 };
 
@@ -1802,74 +1805,6 @@ enum pergidau_code pergidau_http_response_head_partial(
     struct pergidau_response_head *out);
 
 /*
- * Parses a line of the form key=value. The key consists of one or more ASCII letters or
- * digits. The value consists of any bytes except line feeds, and may be empty. The line may
- * end with one line feed.
- *
- * PERGIDAU_DONE: the spans of the key and of the value are written.
- *
- * # Errors
- *
- * PERGIDAU_INVALID: bytes is not such a line. The length of its longest prefix that is a
- * prefix of such a line is written.
- *
- * # Safety
- *
- * bytes must be valid for reads of bytes_length bytes, which must not change during the call,
- * and out must be valid for writes of one pair. They must not overlap. The call needs 16 KiB
- * of stack.
- */
-enum pergidau_code pergidau_ini_pair(
-    const uint8_t *bytes,
-    size_t bytes_length,
-    struct pergidau_pair *out);
-
-/*
- * Parses a document of sections, each a name in brackets followed by pairs.
- *
- * A pair is a key of ASCII letters or digits, = with optional spaces and tabs around it, and a
- * value. The value ends before ; or the end of its line, without the whitespace there.
- * Whitespace, and comments from ; to the end of a line, may precede, separate and follow these
- * parts. Names and values are UTF-8. Pairs before the first section are invalid.
- *
- * PERGIDAU_DONE: the bytes of the entries are written into text, one entry after another, each
- * key before its value. Their spans are written into entries, in order: the head of each
- * section, and then its pairs.
- *
- * A call holds up to 100 bytes of memory for each byte of the document, even if it then
- * returns PERGIDAU_INVALID or PERGIDAU_BUFFER_TOO_SMALL.
- *
- * # Errors
- *
- * PERGIDAU_INVALID: bytes is not a document. The length of the longest prefix that consists of
- * such parts is written; each part is determined in the context of all bytes. A pair extends
- * to the end of its line: for [a], a line feed, and x= before a byte that is not UTF-8, the
- * length is 4.
- *
- * PERGIDAU_BUFFER_TOO_SMALL: the document needs more entries or more bytes than the buffers
- * have. The required numbers of both are written.
- *
- * PERGIDAU_NO_MEMORY.
- *
- * After an error the buffers are unchanged.
- *
- * # Safety
- *
- * bytes must be valid for reads of bytes_length bytes, which must not change during the call.
- * text must be valid for writes of text_length bytes, entries for writes of entries_length
- * entries, and out for writes of one document. None of these may overlap. The call needs 16
- * KiB of stack.
- */
-enum pergidau_code pergidau_ini_document(
-    const uint8_t *bytes,
-    size_t bytes_length,
-    uint8_t *text,
-    size_t text_length,
-    struct pergidau_entry *entries,
-    size_t entries_length,
-    struct pergidau_document *out);
-
-/*
  * Parses the next entry of an INI file in any dialect, as common in .ini, .cfg and .desktop
  * files.
  *
@@ -1914,6 +1849,48 @@ enum pergidau_code pergidau_ini_next(
     const uint8_t *bytes,
     size_t bytes_length,
     size_t dialect,
+    struct pergidau_ini_entry *out);
+
+/*
+ * Finds the first pair with a key in the sections of a name, in an INI file of any dialect.
+ *
+ * bytes and dialect are as for pergidau_ini_next. Names and keys are compared byte by byte.
+ * The name without bytes is that of the pairs before the first section.
+ *
+ * PERGIDAU_DONE: the kind, the key and the value of the pair are written, as by
+ * pergidau_ini_next. With the state that is written, pergidau_ini_next continues after the
+ * line of the pair: each PERGIDAU_INI_MORE is a further line of the value. The lines after the
+ * pair are not checked. The state before the call is ignored.
+ *
+ * PERGIDAU_END: the bytes are a document of the dialect, and no such pair is in it. Only
+ * PERGIDAU_DONE writes a kind and spans.
+ *
+ * A call takes time linear in the bytes up to the pair. For many keys, one pass by
+ * pergidau_ini_next costs less.
+ *
+ * # Errors
+ *
+ * PERGIDAU_INVALID: a line before any such pair is invalid in the dialect. Its offset and the
+ * reason are written.
+ *
+ * PERGIDAU_INVALID_UTF8: a line before any such pair is not UTF-8. Its offset is written.
+ *
+ * # Safety
+ *
+ * bytes must be valid for reads of bytes_length bytes, section for reads of section_length
+ * bytes and key for reads of key_length bytes, which must not change during the call. state
+ * must be valid for reads and writes of one state, and out for writes of one entry. These two
+ * must not overlap each other or the others. The call needs 16 KiB of stack.
+ */
+enum pergidau_code pergidau_ini_get(
+    struct pergidau_ini_state *state,
+    const uint8_t *bytes,
+    size_t bytes_length,
+    size_t dialect,
+    const uint8_t *section,
+    size_t section_length,
+    const uint8_t *key,
+    size_t key_length,
     struct pergidau_ini_entry *out);
 
 /*
@@ -2268,6 +2245,77 @@ enum pergidau_code pergidau_json_string(
     uint8_t *buffer,
     size_t buffer_length,
     struct pergidau_json_text *out);
+
+/*
+ * Parses a line of the form key=value. For lines of INI files, use pergidau_ini_next.
+ *
+ * The key consists of one or more ASCII letters or digits. The value consists of any bytes
+ * except line feeds, and may be empty. The line may end with one line feed.
+ *
+ * PERGIDAU_DONE: the spans of the key and of the value are written.
+ *
+ * # Errors
+ *
+ * PERGIDAU_INVALID: bytes is not such a line. The length of its longest prefix that is a
+ * prefix of such a line is written.
+ *
+ * # Safety
+ *
+ * bytes must be valid for reads of bytes_length bytes, which must not change during the call,
+ * and out must be valid for writes of one pair. They must not overlap. The call needs 16 KiB
+ * of stack.
+ */
+enum pergidau_code pergidau_pair_line(
+    const uint8_t *bytes,
+    size_t bytes_length,
+    struct pergidau_pair *out);
+
+/*
+ * Parses a document of sections, each a name in brackets followed by pairs, by a fixed grammar
+ * in which several sections and pairs may share a line. For INI files, use pergidau_ini_next
+ * or pergidau_ini_get.
+ *
+ * A pair is a key of ASCII letters or digits, = with optional spaces and tabs around it, and a
+ * value. The value ends before ; or the end of its line, without the whitespace there.
+ * Whitespace, and comments from ; to the end of a line, may precede, separate and follow these
+ * parts. Names and values are UTF-8. Pairs before the first section are invalid.
+ *
+ * PERGIDAU_DONE: the bytes of the entries are written into text, one entry after another, each
+ * key before its value. Their spans are written into entries, in order: the head of each
+ * section, and then its pairs.
+ *
+ * A call holds up to 100 bytes of memory for each byte of the document, even if it then
+ * returns PERGIDAU_INVALID or PERGIDAU_BUFFER_TOO_SMALL.
+ *
+ * # Errors
+ *
+ * PERGIDAU_INVALID: bytes is not a document. The length of the longest prefix that consists of
+ * such parts is written; each part is determined in the context of all bytes. A pair extends
+ * to the end of its line: for [a], a line feed, and x= before a byte that is not UTF-8, the
+ * length is 4.
+ *
+ * PERGIDAU_BUFFER_TOO_SMALL: the document needs more entries or more bytes than the buffers
+ * have. The required numbers of both are written.
+ *
+ * PERGIDAU_NO_MEMORY.
+ *
+ * After an error the buffers are unchanged.
+ *
+ * # Safety
+ *
+ * bytes must be valid for reads of bytes_length bytes, which must not change during the call.
+ * text must be valid for writes of text_length bytes, entries for writes of entries_length
+ * entries, and out for writes of one document. None of these may overlap. The call needs 16
+ * KiB of stack.
+ */
+enum pergidau_code pergidau_pair_document(
+    const uint8_t *bytes,
+    size_t bytes_length,
+    uint8_t *text,
+    size_t text_length,
+    struct pergidau_entry *entries,
+    size_t entries_length,
+    struct pergidau_document *out);
 
 /*
  * Parses the Redis reply at the start of bytes, whose aggregates are nested at most max_depth

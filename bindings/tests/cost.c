@@ -58,12 +58,12 @@ void *__wrap_realloc(void *block, size_t size)
     return grown;
 }
 
-enum call { CALC, PAIR, DOCUMENT, ENTRY, CHECK, VALUE, NEXT, STEP, STRING, INTEGER, NATURAL, DECIMAL, DIAGNOSE, MEMBER, NODES, HEAD,
+enum call { CALC, PAIR, DOCUMENT, ENTRY, LOOKUP, CHECK, VALUE, NEXT, STEP, STRING, INTEGER, NATURAL, DECIMAL, DIAGNOSE, MEMBER, NODES, HEAD,
             HEAD_IN_PIECES, HEAD_EXTENT, REQUEST_BODY, FIELD, RESPONSE, RESPONSE_IN_PIECES, RESPONSE_EXTENT, RECORD, RECORD_IN_PIECES,
             RECORD_EXTENT, CSV_WRITE, REPLY, REPLY_IN_PIECES, EXTENT, COMMAND, CHUNKED, POSITION,
             TOML, DNS_HEADER, DNS_NAME, DNS_QUESTION, DNS_RECORD };
 static const char *const names[] = {
-    "calc_value", "ini_pair", "ini_document", "ini_next", "json_check", "json_value", "json_next",
+    "calc_value", "pair_line", "pair_document", "ini_next", "ini_get", "json_check", "json_value", "json_next",
     "json_step", "json_string", "json_integer", "json_natural", "json_decimal", "json_diagnose",
     "json_member", "json_nodes", "http_head", "http_head_partial",
     "http_head_extent", "http_request_body", "http_field", "http_response_head", "http_response_head_partial",
@@ -99,6 +99,8 @@ static const struct {
     {ENTRY, "", "#\n", "", LENGTH / 2, 0, 16},
     {ENTRY, "", " ", "a", LENGTH, 0, 16},
     {ENTRY, "[", "a", "]", LENGTH, 0, 16},
+    {LOOKUP, "", "a\n", "", LENGTH / 2, 0, 16},
+    {LOOKUP, "", "a", "\n", LENGTH, 0, 16},
     {CHECK, "", "[", "", LENGTH, 0, 512},
     {CHECK, "", "{\"a\":", "", LENGTH / 5, 0, 512},
     {CHECK, "[", "[{}],", "1]", LENGTH / 5, 0, 512},
@@ -231,11 +233,14 @@ static enum pergidau_code call(enum call which, size_t max_depth)
     case CALC:
         return pergidau_calc_value(bytes, length, &number);
     case PAIR:
-        return pergidau_ini_pair(bytes, length, &pair);
+        return pergidau_pair_line(bytes, length, &pair);
     case DOCUMENT:
-        return pergidau_ini_document(bytes, length, NULL, 0, NULL, 0, &document);
+        return pergidau_pair_document(bytes, length, NULL, 0, NULL, 0, &document);
     case ENTRY:
         return pergidau_ini_next(&reading, bytes, length, PERGIDAU_INI_DIALECT_LENIENT, &entry);
+    case LOOKUP:
+        return pergidau_ini_get(&reading, bytes, length, PERGIDAU_INI_DIALECT_LENIENT, bytes, 0,
+                                bytes, length, &entry);
     case CHECK:
         return pergidau_json_check(bytes, length, max_depth);
     case VALUE:

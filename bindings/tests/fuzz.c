@@ -41,7 +41,7 @@ static void read_formula(const uint8_t *bytes, size_t length)
 static void read_pair(const uint8_t *bytes, size_t length)
 {
     struct pergidau_pair out;
-    if (pergidau_ini_pair(bytes, length, &out) == PERGIDAU_DONE) {
+    if (pergidau_pair_line(bytes, length, &out) == PERGIDAU_DONE) {
         HOLDS(within(out.key, length) && within(out.value, length));
         HOLDS(out.key.offset == 0 && out.key.length > 0);
         HOLDS(bytes[out.key.length] == '=' && out.value.offset == out.key.length + 1);
@@ -131,7 +131,7 @@ static void read_document(const uint8_t *bytes, size_t length)
     struct pergidau_entry *entries = buffer(size);
     uint8_t *text = (uint8_t *)memset((uint8_t *)entries - most, 0xab, most);
     enum pergidau_code code =
-        pergidau_ini_document(bytes, length, text, most, entries, count, &out);
+        pergidau_pair_document(bytes, length, text, most, entries, count, &out);
     if (code == PERGIDAU_BUFFER_TOO_SMALL) {
         HOLDS(out.entries > count || out.text > most);
         for (size_t i = 0; i < most + size; i++) {
@@ -143,7 +143,7 @@ static void read_document(const uint8_t *bytes, size_t length)
         entries = malloc(count * sizeof *entries);
         text = (uint8_t *)buffer(most);
         HOLDS(entries != NULL);
-        code = pergidau_ini_document(bytes, length, text, most, entries, count, &out);
+        code = pergidau_pair_document(bytes, length, text, most, entries, count, &out);
         HOLDS(code == PERGIDAU_DONE && out.entries == count && out.text == most);
         free(entries);
     } else if (code == PERGIDAU_DONE) {
@@ -159,7 +159,7 @@ static void read_document(const uint8_t *bytes, size_t length)
     } else {
         HOLDS(code == PERGIDAU_INVALID && out.error_offset <= length);
         /* The input up to the error is a document. */
-        HOLDS(pergidau_ini_document(bytes, out.error_offset, NULL, 0, NULL, 0, &out)
+        HOLDS(pergidau_pair_document(bytes, out.error_offset, NULL, 0, NULL, 0, &out)
               != PERGIDAU_INVALID);
     }
 }

@@ -148,6 +148,39 @@ static enum pergidau_code next_by_hand(const uint8_t *bytes, size_t length, size
     return PERGIDAU_END;
 }
 
+/* Compares a lookup with a pass over all entries. Names and keys are spans of the bytes. */
+static void look_up_ini(const uint8_t *bytes, size_t length, size_t dialect)
+{
+    struct pergidau_span name = {0, 0}, key = {0, 0}, here = {0, 0};
+    struct pergidau_ini_state ours = {below(9), below(2), below(2), below(9)}, state = {0};
+    struct pergidau_ini_entry out, want;
+    enum pergidau_code code;
+    for (size_t left = below(9); pergidau_ini_next(&state, bytes, length, dialect, &want)
+                                 == PERGIDAU_DONE; left--) {
+        here = want.kind == PERGIDAU_INI_SECTION ? want.key : here;
+        if (left == 0 && want.kind != PERGIDAU_INI_MORE) {
+            name = here;
+            key = want.key;
+        }
+    }
+    state = (struct pergidau_ini_state){0};
+    bool is_within = name.length == 0;
+    while ((code = pergidau_ini_next(&state, bytes, length, dialect, &want)) == PERGIDAU_DONE) {
+        bool is_key = want.key.length == key.length
+            && !memcmp(bytes + want.key.offset, bytes + key.offset, key.length);
+        if (want.kind == PERGIDAU_INI_SECTION) {
+            is_within = want.key.length == name.length
+                && !memcmp(bytes + want.key.offset, bytes + name.offset, name.length);
+        } else if (is_within && is_key && want.kind != PERGIDAU_INI_MORE) {
+            break;
+        }
+    }
+    HOLDS(pergidau_ini_get(&ours, bytes, length, dialect, bytes + name.offset, name.length,
+                           bytes + key.offset, key.length, &out) == code);
+    HOLDS(!memcmp(&out, &want, sizeof out));
+    HOLDS(!memcmp(&ours, &state, sizeof ours));
+}
+
 static void read_ini(const uint8_t *bytes, size_t length)
 {
     static const size_t known[] = {
@@ -166,6 +199,7 @@ static void read_ini(const uint8_t *bytes, size_t length)
         HOLDS(!memcmp(&out, &want, sizeof out));
         HOLDS(ours.offset == at || at == 3);
     } while (code == PERGIDAU_DONE);
+    look_up_ini(bytes, length, dialect);
     /* A state that may be invalid. */
     struct pergidau_ini_state other = {below(length + 3), below(3), below(3), below(5)};
     code = pergidau_ini_next(&other, bytes, length, dialect, &out);

@@ -105,6 +105,75 @@ static void test_lines_of_ini(void)
     }
 }
 
+/* Lookups by section and key: the value, or NULL for the codes that write none. */
+static const struct {
+    size_t dialect;
+    const char *text, *section, *key, *value;
+    enum pergidau_code code;
+    size_t place, error;
+} lookups_of_ini[] = {
+    {LENIENT, "a=0\n[s]\na=1\n[t]\na=2\n", "", "a", "0", PERGIDAU_DONE, 0, 0},
+    {LENIENT, "a=0\n[s]\na=1\n[t]\na=2\n", "s", "a", "1", PERGIDAU_DONE, 0, 0},
+    {LENIENT, "a=0\n[s]\na=1\n[t]\na=2\n", "t", "a", "2", PERGIDAU_DONE, 0, 0},
+    {LENIENT, "a=0\n[s]\na=1\n[t]\na=2\n", "u", "a", NULL, PERGIDAU_END, 0, 0},
+    {LENIENT, "a=0\n[s]\na=1\n[t]\na=2\n", "s", "A", NULL, PERGIDAU_END, 0, 0},
+    {LENIENT, "a=0\n[s]\na=1\n[t]\na=2\n", "s", "", NULL, PERGIDAU_END, 0, 0},
+    {LENIENT, "", "", "a", NULL, PERGIDAU_END, 0, 0},
+    {LENIENT, "a\n", "", "a", "", PERGIDAU_DONE, 0, 0},
+    {PYTHON, "[s]\na=1\n[t]\n[s]\na=2\nb=3\n", "s", "a", "1", PERGIDAU_DONE, 0, 0},
+    {PYTHON, "[s]\na=1\n[t]\n[s]\na=2\nb=3\n", "s", "b", "3", PERGIDAU_DONE, 0, 0},
+    {PYTHON, "[s]\na=1\n b=2\n", "s", "b", NULL, PERGIDAU_END, 0, 0},
+    {PYTHON, "\xef\xbb\xbf[s]\na b : c d \n", "s", "a b", "c d", PERGIDAU_DONE, 0, 0},
+    {PYTHON, "[s]\na=1\nb\n", "s", "a", "1", PERGIDAU_DONE, 0, 0},
+    {PYTHON, "[s]\na=1\nb\n", "s", "b", NULL, PERGIDAU_INVALID, 8,
+     PERGIDAU_INI_ERROR_MISSING_DELIMITER},
+    {PYTHON, "[s]\na=1\n\xff=2\n", "s", "\xff", NULL, PERGIDAU_INVALID_UTF8, 8, 0},
+};
+
+static void test_lookups_of_ini(void)
+{
+    for (size_t i = 0; i < sizeof lookups_of_ini / sizeof *lookups_of_ini; i++) {
+        const char *text = lookups_of_ini[i].text, *value = lookups_of_ini[i].value;
+        size_t length = strlen(text), named = strlen(lookups_of_ini[i].section);
+        uint8_t *bytes = copied(text, length), *section = copied(lookups_of_ini[i].section, named);
+        uint8_t *key = copied(lookups_of_ini[i].key, strlen(lookups_of_ini[i].key));
+        struct pergidau_ini_state state = {9, 9, 9, 9};
+        struct pergidau_ini_entry out;
+        same("a lookup", text,
+             pergidau_ini_get(&state, bytes, length, lookups_of_ini[i].dialect, section, named, key,
+                              strlen(lookups_of_ini[i].key), &out),
+             lookups_of_ini[i].code);
+        same("the length of the value", text, (long long)out.value.length,
+             value == NULL ? 0 : (long long)strlen(value));
+        same("the value", text,
+             value != NULL && memcmp(bytes + out.value.offset, value, strlen(value)), 0);
+        same("the error offset", text, (long long)out.error_offset,
+             (long long)lookups_of_ini[i].place);
+        same("the error", text, (long long)out.error, (long long)lookups_of_ini[i].error);
+        free(bytes);
+        free(section);
+        free(key);
+    }
+    /* The state after a lookup is that after the pair. */
+    const uint8_t *bytes = (const uint8_t *)"[s]\na=1\n 2\nb=3\n";
+    struct pergidau_ini_state state = {0};
+    struct pergidau_ini_entry out;
+    pergidau_ini_get(&state, bytes, 15, PYTHON, bytes + 1, 1, bytes + 4, 1, &out);
+    same("the pair", "a=1", (long long)out.value.offset, 6);
+    same("a further line", "a=1", pergidau_ini_next(&state, bytes, 15, PYTHON, &out), PERGIDAU_DONE);
+    same("its kind", "a=1", (long long)out.kind, PERGIDAU_INI_MORE);
+    same("its offset", "a=1", (long long)out.value.offset, 9);
+    same("null", "get", pergidau_ini_get(NULL, bytes, 1, 0, bytes, 1, bytes, 1, &out), PERGIDAU_NULL);
+    same("null", "get", pergidau_ini_get(&state, NULL, 1, 0, bytes, 1, bytes, 1, &out), PERGIDAU_NULL);
+    same("null", "get", pergidau_ini_get(&state, bytes, 1, 0, NULL, 1, bytes, 1, &out), PERGIDAU_NULL);
+    same("null", "get", pergidau_ini_get(&state, bytes, 1, 0, bytes, 1, NULL, 1, &out), PERGIDAU_NULL);
+    same("null", "get", pergidau_ini_get(&state, bytes, 1, 0, bytes, 1, bytes, 1, NULL), PERGIDAU_NULL);
+    same("too long", "get",
+         pergidau_ini_get(&state, bytes, 1, 0, bytes, (size_t)PTRDIFF_MAX + 1, bytes, 1, &out),
+         PERGIDAU_TOO_LONG);
+    same("nothing", "get", pergidau_ini_get(&state, NULL, 0, 0, NULL, 0, NULL, 0, &out), PERGIDAU_END);
+}
+
 /* The offsets of texts that occur twice in a line, and the state between calls. */
 static void test_places_of_ini(void)
 {

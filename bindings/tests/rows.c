@@ -103,7 +103,7 @@ static void test_pairs(void)
         uint8_t *line = copied(lines[i].line, length);
         struct pergidau_pair out;
         bool done = lines[i].code == PERGIDAU_DONE;
-        same("ini_pair", lines[i].line, pergidau_ini_pair(line, length, &out), lines[i].code);
+        same("pair_line", lines[i].line, pergidau_pair_line(line, length, &out), lines[i].code);
         same("the key", lines[i].line, (long long)out.key.length, (long long)lines[i].key);
         same("the key's offset", lines[i].line, (long long)out.key.offset, 0);
         same("the value", lines[i].line, (long long)out.value.length, (long long)lines[i].value);
@@ -316,8 +316,8 @@ static void test_document(size_t i)
     if (text == NULL || entries == NULL) {
         exit(2);
     }
-    same("ini_document", row,
-         pergidau_ini_document(input, length, text, bytes, entries, count, &out),
+    same("pair_document", row,
+         pergidau_pair_document(input, length, text, bytes, entries, count, &out),
          documents[i].code);
     same("the entries", row, (long long)out.entries, (long long)count);
     same("the bytes", row, (long long)out.text, (long long)bytes);
@@ -332,13 +332,13 @@ static void test_document(size_t i)
     }
     if (count > 0) {
         same("no entry", row,
-             pergidau_ini_document(input, length, text, bytes, entries, count - 1, &out),
+             pergidau_pair_document(input, length, text, bytes, entries, count - 1, &out),
              PERGIDAU_BUFFER_TOO_SMALL);
         same("required entries", row, (long long)out.entries, (long long)count);
     }
     if (bytes > 0) {
         same("no byte", row,
-             pergidau_ini_document(input, length, text, bytes - 1, entries, count, &out),
+             pergidau_pair_document(input, length, text, bytes - 1, entries, count, &out),
              PERGIDAU_BUFFER_TOO_SMALL);
         same("required bytes", row, (long long)out.text, (long long)bytes);
     }
@@ -357,23 +357,23 @@ static void test_documents(void)
     for (size_t i = 0; i < sizeof documents / sizeof *documents; i++) {
         test_document(i);
     }
-    same("null", "document", pergidau_ini_document(NULL, 1, text, 1, entries, 1, &out),
+    same("null", "document", pergidau_pair_document(NULL, 1, text, 1, entries, 1, &out),
          PERGIDAU_NULL);
-    same("null", "document", pergidau_ini_document(bytes, 3, NULL, 1, entries, 1, &out),
+    same("null", "document", pergidau_pair_document(bytes, 3, NULL, 1, entries, 1, &out),
          PERGIDAU_NULL);
-    same("null", "document", pergidau_ini_document(bytes, 3, text, 1, NULL, 1, &out),
+    same("null", "document", pergidau_pair_document(bytes, 3, text, 1, NULL, 1, &out),
          PERGIDAU_NULL);
-    same("null", "document", pergidau_ini_document(bytes, 3, text, 1, entries, 1, NULL),
+    same("null", "document", pergidau_pair_document(bytes, 3, text, 1, entries, 1, NULL),
          PERGIDAU_NULL);
-    same("too long", "document", pergidau_ini_document(bytes, far, text, 1, entries, 1, &out),
+    same("too long", "document", pergidau_pair_document(bytes, far, text, 1, entries, 1, &out),
          PERGIDAU_TOO_LONG);
     same("too long", "document",
-         pergidau_ini_document(bytes, 3, text, 1, entries,
+         pergidau_pair_document(bytes, 3, text, 1, entries,
                                (size_t)PTRDIFF_MAX / sizeof *entries + 1, &out),
          PERGIDAU_TOO_LONG);
-    same("no room", "document", pergidau_ini_document(bytes, 3, NULL, 0, NULL, 0, &out),
+    same("no room", "document", pergidau_pair_document(bytes, 3, NULL, 0, NULL, 0, &out),
          PERGIDAU_BUFFER_TOO_SMALL);
-    same("nothing", "document", pergidau_ini_document(NULL, 0, NULL, 0, NULL, 0, &out),
+    same("nothing", "document", pergidau_pair_document(NULL, 0, NULL, 0, NULL, 0, &out),
          PERGIDAU_DONE);
 }
 
@@ -1143,9 +1143,9 @@ static void test_wrong_use(void)
     same("too long", "calc", pergidau_calc_value(bytes, SIZE_MAX, &number), PERGIDAU_TOO_LONG);
     same("kept", "calc", number.value, 5);
     same("nothing", "calc", pergidau_calc_value(NULL, 0, &number), PERGIDAU_INVALID);
-    same("null", "pair", pergidau_ini_pair(NULL, 1, &pair), PERGIDAU_NULL);
-    same("null", "pair", pergidau_ini_pair(bytes, 1, NULL), PERGIDAU_NULL);
-    same("too long", "pair", pergidau_ini_pair(bytes, far, &pair), PERGIDAU_TOO_LONG);
+    same("null", "pair", pergidau_pair_line(NULL, 1, &pair), PERGIDAU_NULL);
+    same("null", "pair", pergidau_pair_line(bytes, 1, NULL), PERGIDAU_NULL);
+    same("too long", "pair", pergidau_pair_line(bytes, far, &pair), PERGIDAU_TOO_LONG);
     same("null", "check", pergidau_json_check(NULL, 1, 1), PERGIDAU_NULL);
     same("too long", "check", pergidau_json_check(bytes, far, 1), PERGIDAU_TOO_LONG);
     same("nothing", "check", pergidau_json_check(NULL, 0, 1), PERGIDAU_INVALID);
@@ -1281,6 +1281,7 @@ int main(void)
     test_documents();
     test_lines_of_ini();
     test_places_of_ini();
+    test_lookups_of_ini();
     test_heads();
     test_responses();
     test_head_extents();

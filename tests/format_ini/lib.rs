@@ -2,6 +2,8 @@
 #![tactic(auto)]
 
 #[cfg(test)]
+mod lookup;
+#[cfg(test)]
 mod places;
 #[cfg(test)]
 mod reads;

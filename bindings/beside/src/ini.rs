@@ -1,6 +1,6 @@
 //! INI readers. Each pair is counted; the sum is of the lengths of the keys and values.
 use crate::text::{Outcome, Text};
-use pergidau::ini::{document, Entry};
+use pergidau::pairs::{document, Entry};
 use std::cell::RefCell;
 
 thread_local! {

@@ -191,7 +191,7 @@ pub const HTTP_HEAD_ERROR_LINE_ENDING: u32 = 8;
 /// Incomplete head. The bytes end within it.
 pub const HTTP_HEAD_ERROR_INCOMPLETE: u32 = 9;
 
-/// The name of a section, which begins there.
+/// The start of a section. The key is its name.
 pub const INI_SECTION: u32 = 0;
 
 /// A key with its value, or with the first line of that.
@@ -225,22 +225,22 @@ pub const INI_ERROR_MISSING_KEY: u32 = 5;
 /// Missing delimiter after the key.
 pub const INI_ERROR_MISSING_DELIMITER: u32 = 6;
 
-/// `=` ends a key. Where neither this is set nor the next, both end one.
+/// `=` ends a key. If neither this flag nor the next one is set, both end a key.
 pub const INI_DIALECT_EQUALS: usize = 1;
 
 /// `:` ends a key.
 pub const INI_DIALECT_COLON: usize = 2;
 
-/// `#` begins a comment where it is the first of a line, after whitespace.
+/// `#` starts a comment if it is first in a line, after optional whitespace.
 pub const INI_DIALECT_NUMBER_SIGN: usize = 4;
 
-/// `;` does.
+/// `;` starts a comment if it is first in a line, after optional whitespace.
 pub const INI_DIALECT_SEMICOLON: usize = 8;
 
-/// `#` begins a comment at the start of a line, or after whitespace in it.
+/// `#` starts a comment at the start of a line, or after whitespace in it.
 pub const INI_DIALECT_INLINE_NUMBER_SIGN: usize = 16;
 
-/// `;` does.
+/// `;` starts a comment at the start of a line, or after whitespace in it.
 pub const INI_DIALECT_INLINE_SEMICOLON: usize = 32;
 
 /// A line that is indented deeper than the pair before it continues the value of that pair. An
@@ -640,7 +640,7 @@ pub struct CsvDialect {
 pub struct CsvRecordState {
     /// How many bytes were passed.
     pub passed: usize,
-    /// How many bytes the fields have that were passed, as they are meant.
+    /// How many bytes these fields have without their quotes, as far as they were passed.
     pub text: usize,
     /// How many fields were passed with the delimiter after them.
     pub fields: usize,
@@ -856,41 +856,8 @@ pub struct ResponseHead {
     pub minor: u8,
 }
 
-/// The places of a key and its value.
-#[repr(C)]
-#[derive(Clone, Copy, Debug, Default, PartialEq, Eq)]
-pub struct Pair {
-    /// The key.
-    pub key: Span,
-    /// The value.
-    pub value: Span,
-    /// The offset of the error in bytes; 0 otherwise.
-    pub error_offset: usize,
-}
-
-/// An entry of a document: a pair, or the head of a section.
-#[repr(C)]
-#[derive(Clone, Copy, Debug, Default, PartialEq, Eq)]
-pub struct Entry {
-    /// The key of a pair. It is empty for the head of a section, and only there.
-    pub key: Span,
-    /// The value of a pair, or the name of a section. It may have no bytes.
-    pub value: Span,
-}
-
-/// The sizes of a document, or the offset of an error.
-#[repr(C)]
-#[derive(Clone, Copy, Debug, Default, PartialEq, Eq)]
-pub struct Document {
-    /// How many entries there are.
-    pub entries: usize,
-    /// How many bytes the keys, the values and the names have together.
-    pub text: usize,
-    /// The offset of the error in bytes; 0 otherwise.
-    pub error_offset: usize,
-}
-
-/// How far a document is read. Zeros stand for its start.
+/// The state of parsing an INI file. Only the functions of this library may interpret its fields.
+/// All zeros is the initial state; start from it for each file.
 #[repr(C)]
 #[derive(Clone, Copy, Debug, Default, PartialEq, Eq)]
 pub struct IniState {
@@ -1000,6 +967,40 @@ pub struct Bytes {
     pub bytes_length: usize,
 }
 
+/// The places of a key and its value.
+#[repr(C)]
+#[derive(Clone, Copy, Debug, Default, PartialEq, Eq)]
+pub struct Pair {
+    /// The key.
+    pub key: Span,
+    /// The value.
+    pub value: Span,
+    /// The offset of the error in bytes; 0 otherwise.
+    pub error_offset: usize,
+}
+
+/// An entry of a document: a pair, or the head of a section.
+#[repr(C)]
+#[derive(Clone, Copy, Debug, Default, PartialEq, Eq)]
+pub struct Entry {
+    /// The key of a pair. It is empty for the head of a section, and only there.
+    pub key: Span,
+    /// The value of a pair, or the name of a section. It may have no bytes.
+    pub value: Span,
+}
+
+/// The sizes of a document, or the offset of an error.
+#[repr(C)]
+#[derive(Clone, Copy, Debug, Default, PartialEq, Eq)]
+pub struct Document {
+    /// How many entries there are.
+    pub entries: usize,
+    /// How many bytes the keys, the values and the names have together.
+    pub text: usize,
+    /// The offset of the error in bytes; 0 otherwise.
+    pub error_offset: usize,
+}
+
 /// A reply.
 #[repr(C)]
 #[derive(Clone, Copy, Debug, Default, PartialEq, Eq)]
@@ -1037,7 +1038,7 @@ pub struct RespReplyState {
     pub bulk: usize,
     /// The number of expected replies, its lower 64 bits.
     pub low: usize,
-    /// By the upper 64 bits.
+    /// The upper 64 bits of that number.
     pub high: usize,
 }
 
@@ -1120,7 +1121,7 @@ pub struct TomlResult {
 
 extern "C" {
     /// A symbol that only a library with these declarations has.
-    #[link_name = "pergidau_declared_1bfb0d6a"]
+    #[link_name = "pergidau_declared_e422ca0d"]
     static VERSION_LINKED: c_char;
 
     /// Returns the version of the linked library.
@@ -1773,71 +1774,6 @@ extern "C" {
         out: *mut ResponseHead,
     ) -> u32;
 
-    /// Parses a line of the form `key=value`. The key consists of one or more ASCII letters or digits.
-    /// The value consists of any bytes except line feeds, and may be empty. The line may end with one
-    /// line feed.
-    ///
-    /// `DONE`: the spans of the key and of the value are written.
-    ///
-    /// # Errors
-    ///
-    /// `INVALID`: `bytes` is not such a line. The length of its longest prefix that is a prefix of such
-    /// a line is written.
-    ///
-    /// # Safety
-    ///
-    /// `bytes` must be valid for reads of `bytes_length` bytes, which must not change during the call,
-    /// and `out` must be valid for writes of one pair. They must not overlap. The call needs 16 KiB of
-    /// stack.
-    pub fn exported_ini_pair(
-        bytes: *const u8,
-        bytes_length: usize,
-        out: *mut Pair,
-    ) -> u32;
-
-    /// Parses a document of sections, each a name in brackets followed by pairs.
-    ///
-    /// A pair is a key of ASCII letters or digits, `=` with optional spaces and tabs around it, and a
-    /// value. The value ends before `;` or the end of its line, without the whitespace there.
-    /// Whitespace, and comments from `;` to the end of a line, may precede, separate and follow these
-    /// parts. Names and values are UTF-8. Pairs before the first section are invalid.
-    ///
-    /// `DONE`: the bytes of the entries are written into `text`, one entry after another, each key
-    /// before its value. Their spans are written into `entries`, in order: the head of each section,
-    /// and then its pairs.
-    ///
-    /// A call holds up to 100 bytes of memory for each byte of the document, even if it then returns
-    /// `INVALID` or `BUFFER_TOO_SMALL`.
-    ///
-    /// # Errors
-    ///
-    /// `INVALID`: `bytes` is not a document. The length of the longest prefix that consists of such
-    /// parts is written; each part is determined in the context of all bytes. A pair extends to the end
-    /// of its line: for `[a]`, a line feed, and `x=` before a byte that is not UTF-8, the length is 4.
-    ///
-    /// `BUFFER_TOO_SMALL`: the document needs more entries or more bytes than the buffers have. The
-    /// required numbers of both are written.
-    ///
-    /// `NO_MEMORY`.
-    ///
-    /// After an error the buffers are unchanged.
-    ///
-    /// # Safety
-    ///
-    /// `bytes` must be valid for reads of `bytes_length` bytes, which must not change during the call.
-    /// `text` must be valid for writes of `text_length` bytes, `entries` for writes of `entries_length`
-    /// entries, and `out` for writes of one document. None of these may overlap. The call needs 16 KiB
-    /// of stack.
-    pub fn exported_ini_document(
-        bytes: *const u8,
-        bytes_length: usize,
-        text: *mut u8,
-        text_length: usize,
-        entries: *mut Entry,
-        entries_length: usize,
-        out: *mut Document,
-    ) -> u32;
-
     /// Parses the next entry of an INI file in any dialect, as common in `.ini`, `.cfg` and `.desktop`
     /// files.
     ///
@@ -1878,6 +1814,47 @@ extern "C" {
         bytes: *const u8,
         bytes_length: usize,
         dialect: usize,
+        out: *mut IniEntry,
+    ) -> u32;
+
+    /// Finds the first pair with a key in the sections of a name, in an INI file of any dialect.
+    ///
+    /// `bytes` and `dialect` are as for `exported_ini_next`. Names and keys are compared byte by byte.
+    /// The name without bytes is that of the pairs before the first section.
+    ///
+    /// `DONE`: the kind, the key and the value of the pair are written, as by `exported_ini_next`. With
+    /// the state that is written, `exported_ini_next` continues after the line of the pair: each
+    /// `INI_MORE` is a further line of the value. The lines after the pair are not checked. The state
+    /// before the call is ignored.
+    ///
+    /// `END`: the bytes are a document of the dialect, and no such pair is in it. Only `DONE` writes a
+    /// kind and spans.
+    ///
+    /// A call takes time linear in the bytes up to the pair. For many keys, one pass by
+    /// `exported_ini_next` costs less.
+    ///
+    /// # Errors
+    ///
+    /// `INVALID`: a line before any such pair is invalid in the dialect. Its offset and the reason are
+    /// written.
+    ///
+    /// `INVALID_UTF8`: a line before any such pair is not UTF-8. Its offset is written.
+    ///
+    /// # Safety
+    ///
+    /// `bytes` must be valid for reads of `bytes_length` bytes, `section` for reads of `section_length`
+    /// bytes and `key` for reads of `key_length` bytes, which must not change during the call. `state`
+    /// must be valid for reads and writes of one state, and `out` for writes of one entry. These two
+    /// must not overlap each other or the others. The call needs 16 KiB of stack.
+    pub fn exported_ini_get(
+        state: *mut IniState,
+        bytes: *const u8,
+        bytes_length: usize,
+        dialect: usize,
+        section: *const u8,
+        section_length: usize,
+        key: *const u8,
+        key_length: usize,
         out: *mut IniEntry,
     ) -> u32;
 
@@ -2215,6 +2192,75 @@ extern "C" {
         buffer: *mut u8,
         buffer_length: usize,
         out: *mut JsonText,
+    ) -> u32;
+
+    /// Parses a line of the form `key=value`. For lines of INI files, use `exported_ini_next`.
+    ///
+    /// The key consists of one or more ASCII letters or digits.
+    /// The value consists of any bytes except line feeds, and may be empty. The line may end with one
+    /// line feed.
+    ///
+    /// `DONE`: the spans of the key and of the value are written.
+    ///
+    /// # Errors
+    ///
+    /// `INVALID`: `bytes` is not such a line. The length of its longest prefix that is a prefix of such
+    /// a line is written.
+    ///
+    /// # Safety
+    ///
+    /// `bytes` must be valid for reads of `bytes_length` bytes, which must not change during the call,
+    /// and `out` must be valid for writes of one pair. They must not overlap. The call needs 16 KiB of
+    /// stack.
+    pub fn exported_pair_line(
+        bytes: *const u8,
+        bytes_length: usize,
+        out: *mut Pair,
+    ) -> u32;
+
+    /// Parses a document of sections, each a name in brackets followed by pairs, by a fixed grammar in
+    /// which several sections and pairs may share a line. For INI files, use `exported_ini_next` or
+    /// `exported_ini_get`.
+    ///
+    /// A pair is a key of ASCII letters or digits, `=` with optional spaces and tabs around it, and a
+    /// value. The value ends before `;` or the end of its line, without the whitespace there.
+    /// Whitespace, and comments from `;` to the end of a line, may precede, separate and follow these
+    /// parts. Names and values are UTF-8. Pairs before the first section are invalid.
+    ///
+    /// `DONE`: the bytes of the entries are written into `text`, one entry after another, each key
+    /// before its value. Their spans are written into `entries`, in order: the head of each section,
+    /// and then its pairs.
+    ///
+    /// A call holds up to 100 bytes of memory for each byte of the document, even if it then returns
+    /// `INVALID` or `BUFFER_TOO_SMALL`.
+    ///
+    /// # Errors
+    ///
+    /// `INVALID`: `bytes` is not a document. The length of the longest prefix that consists of such
+    /// parts is written; each part is determined in the context of all bytes. A pair extends to the end
+    /// of its line: for `[a]`, a line feed, and `x=` before a byte that is not UTF-8, the length is 4.
+    ///
+    /// `BUFFER_TOO_SMALL`: the document needs more entries or more bytes than the buffers have. The
+    /// required numbers of both are written.
+    ///
+    /// `NO_MEMORY`.
+    ///
+    /// After an error the buffers are unchanged.
+    ///
+    /// # Safety
+    ///
+    /// `bytes` must be valid for reads of `bytes_length` bytes, which must not change during the call.
+    /// `text` must be valid for writes of `text_length` bytes, `entries` for writes of `entries_length`
+    /// entries, and `out` for writes of one document. None of these may overlap. The call needs 16 KiB
+    /// of stack.
+    pub fn exported_pair_document(
+        bytes: *const u8,
+        bytes_length: usize,
+        text: *mut u8,
+        text_length: usize,
+        entries: *mut Entry,
+        entries_length: usize,
+        out: *mut Document,
     ) -> u32;
 
     /// Parses the Redis reply at the start of `bytes`, whose aggregates are nested at most `max_depth`

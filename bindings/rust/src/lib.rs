@@ -14,16 +14,17 @@
 //! | [`csv`] | records of comma-separated values, which it also writes |
 //! | [`dns`] | messages of the Domain Name System |
 //! | [`http`] | heads of requests and responses of HTTP/1.1, and chunked bodies |
-//! | [`ini`] | lines of a key and a value, documents of them, and INI files of any dialect |
+//! | [`ini`] | INI files of any dialect |
 //! | [`json`] | JSON texts, and the values in them |
+//! | [`pairs`] | lines of a key and a value, and documents of them, by a fixed grammar |
 //! | [`resp`] | Redis replies; it writes commands |
 //! | [`toml`] | TOML documents |
 //!
 //! ```
-//! use pergidau::{calc, ini};
+//! use pergidau::{calc, pairs};
 //!
 //! assert_eq!(calc::value("2 + 3 * 4"), Ok(14));
-//! assert_eq!(ini::pair(b"key=value\n"), Ok((&b"key"[..], &b"value"[..])));
+//! assert_eq!(pairs::line(b"key=value\n"), Ok((&b"key"[..], &b"value"[..])));
 //! let error = calc::value("1 +\n 2 / 0").unwrap_err();
 //! assert_eq!(error.to_string(), "invalid input at offset 10");
 //! assert_eq!(error.position("1 +\n 2 / 0").unwrap().to_string(), "line 2, column 7");
@@ -54,6 +55,7 @@ mod exports;
 pub mod http;
 pub mod ini;
 pub mod json;
+pub mod pairs;
 pub mod resp;
 pub mod toml;
 

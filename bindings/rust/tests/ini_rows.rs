@@ -1,6 +1,6 @@
 //! Tables of INI files of any dialect, entry by entry, from Rust. In the dialect of Python the
 //! expected results are those of its `configparser`.
-use pergidau::ini::dialects::{entries, Continued, Delimiters, Dialect, Entry, Marks, Reason};
+use pergidau::ini::{entries, get, Continued, Delimiters, Dialect, Entry, Marks, Reason};
 
 /// Formats the entries of a document, and the reason, line and column of an error.
 fn told(text: &str, dialect: Dialect) -> String {
@@ -91,4 +91,28 @@ fn refused_lines() {
     assert_eq!((refused.offset, refused.reason), (4, Reason::MissingDelimiter));
     assert_eq!(refused.to_string(), "missing delimiter after the key at offset 4");
     assert_eq!(found.next(), None);
+}
+
+#[test]
+fn values_by_section_and_key() {
+    let text = "a = 0\n[s]\na = 1\nb = 2\n  more\n[t]\na: 3\n[s]\nA\na = 4\nc = 5\n";
+    let rows = [
+        ("", "a", Some(Some("0"))),
+        ("s", "a", Some(Some("1"))),
+        ("t", "a", Some(Some("3"))),
+        ("s", "A", Some(None)),
+        ("s", "c", Some(Some("5"))),
+        ("", "c", None),
+        ("T", "a", None),
+        ("s", "", None),
+    ];
+    for (section, key, want) in rows {
+        let found = get(text, Dialect::LENIENT, section, key).unwrap();
+        assert_eq!(found.map(|it| it.value), want, "[{section}] {key}");
+    }
+    let text = "[s]\nb = 2\n  more\nc\n";
+    let mut found = get(text, Dialect::PYTHON, "s", "b").unwrap().unwrap();
+    assert_eq!(found.rest.next(), Some(Ok(Entry::More("more"))));
+    let error = get(text, Dialect::PYTHON, "s", "a").unwrap_err();
+    assert_eq!((error.offset, error.reason), (17, Reason::MissingDelimiter));
 }

@@ -3,7 +3,7 @@
 #![allow(clippy::type_complexity)]
 use pergidau::csv::{self, Dialect, LineEnd};
 use pergidau::http::{self, Chunked, ChunkedError, Field, HeadError, Step};
-use pergidau::ini::{self, Entry};
+use pergidau::pairs::{self, Entry};
 use pergidau::json::{self, Kind, Value};
 use pergidau::resp::{self, Extent, Protocol, Reply};
 use pergidau::{calc, Error, Position, RequiredSize, Span, MAX_DEPTH};
@@ -41,7 +41,7 @@ fn calc_value_of_deep_formulas() {
 }
 
 #[test]
-fn ini_pair_of_lines() {
+fn pairs_of_lines() {
     let rows: [(&[u8], Result<(&[u8], &[u8]), Error>); 7] = [
         (b"key=value\n", Ok((b"key", b"value"))),
         (b"a=", Ok((b"a", b""))),
@@ -52,7 +52,7 @@ fn ini_pair_of_lines() {
         (b"", Err(invalid(0))),
     ];
     for (line, want) in rows {
-        assert_eq!(ini::pair(line), want, "{line:?}");
+        assert_eq!(pairs::line(line), want, "{line:?}");
     }
 }
 
@@ -135,10 +135,10 @@ fn json_walks() {
 }
 
 #[test]
-fn ini_document_of_sections() {
+fn pairs_in_sections() {
     let (mut text, mut entries) = ([0; 64], [Entry::default(); 8]);
     let bytes = b"; c\r\n[a]\nx = 1 ; one\ny=\n[]\n[b c]x=2\nx=\xc3\xa9";
-    let document = ini::document(bytes, &mut text, &mut entries).unwrap();
+    let document = pairs::document(bytes, &mut text, &mut entries).unwrap();
     let want: [(&[u8], &[(&[u8], &[u8])]); 3] = [
         (b"a", &[(b"x", b"1"), (b"y", b"")]),
         (b"", &[]),
@@ -149,15 +149,15 @@ fn ini_document_of_sections() {
         assert_eq!(section.name(), name);
         assert_eq!(section.pairs().collect::<Vec<_>>(), pairs);
     }
-    let empty = ini::document(b" \n;x", &mut [], &mut []).unwrap();
+    let empty = pairs::document(b" \n;x", &mut [], &mut []).unwrap();
     assert_eq!(empty.sections().count(), 0);
-    let small = ini::document(bytes, &mut text[..10], &mut entries).unwrap_err();
+    let small = pairs::document(bytes, &mut text[..10], &mut entries).unwrap_err();
     assert_eq!(small.to_string(), "buffer too small: 7 entries and 12 bytes required");
-    let small = ini::document(bytes, &mut text[..12], &mut entries[..6]).unwrap_err();
+    let small = pairs::document(bytes, &mut text[..12], &mut entries[..6]).unwrap_err();
     assert_eq!(small.to_string(), "buffer too small: 7 entries and 12 bytes required");
-    assert!(ini::document(bytes, &mut text[..12], &mut entries[..7]).is_ok());
+    assert!(pairs::document(bytes, &mut text[..12], &mut entries[..7]).is_ok());
     for (bytes, offset) in [(&b"x=1"[..], 0), (b"[a]\nx\n", 4), (b"[a]\nx=1\n [b", 9)] {
-        let refused = ini::document(bytes, &mut text, &mut entries).unwrap_err();
+        let refused = pairs::document(bytes, &mut text, &mut entries).unwrap_err();
         assert_eq!(refused, invalid(offset), "{bytes:?}");
     }
 }

@@ -130,6 +130,6 @@ fn owned_documents_grow() {
     assert_eq!(document.document().nodes().len(), 100);
     assert_eq!(toml::OwnedDocument::parse("a = 1 2", 0).unwrap_err().offset(), Some(6));
     let text: String = (0..99).map(|number| format!("[s{number}]\nk = {number}\n")).collect();
-    let document = pergidau::ini::OwnedDocument::parse(text.as_bytes()).unwrap();
+    let document = pergidau::pairs::OwnedDocument::parse(text.as_bytes()).unwrap();
     assert_eq!(document.sections().map(|it| it.pairs().len()).sum::<usize>(), 99);
 }

@@ -13,8 +13,8 @@ use borrow.Rule.Slice.PartMut.{put_mid}
 use Rattle.readers.specs.Document.{BeginsWith, HasSections, Part, PairBytes, SectionText}
 use Rattle.readers.specs.Document.{comment, pair, pairs_of, section, sections_of, white}
 use Rattle.readers.specs.Sections.{pair_text}
-use Rattle.exported.specs.Ini.{EntryText, ShowsEntry, entries_of, text_of}
-use Rattle.exported.specs.declared.ini.Entry.{Entry}
+use Rattle.exported.specs.Pairs.{EntryText, ShowsEntry, entries_of, text_of}
+use Rattle.exported.specs.declared.pairs.Entry.{Entry}
 
 -- A key and a value as they are found.
 abbrev pub Found : Type 0

@@ -1,13 +1,14 @@
 pub mod Chunked
 pub mod CsvWrite
-pub mod DialectTexts
-pub mod Dialects
 pub mod DnsFaults
 pub mod DnsNames
 pub mod Entries
 pub mod ErrorKinds
 pub mod Extent
 pub mod HeadExtent
+pub mod IniEntries
+pub mod IniLookups
+pub mod IniTexts
 pub mod Items
 pub mod JsonDecimals
 pub mod JsonDiagnostics

@@ -4,7 +4,6 @@ pub mod Code
 pub mod Csv
 pub mod CsvExtent
 pub mod CsvWrite
-pub mod Dialects
 pub mod Dns
 pub mod Extent
 pub mod Http
@@ -20,6 +19,7 @@ pub mod JsonMember
 pub mod JsonStep
 pub mod JsonString
 pub mod Output
+pub mod Pairs
 pub mod Resp
 pub mod Span
 pub mod Toml

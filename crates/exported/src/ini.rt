@@ -1,210 +1,399 @@
-//! Lines of a key and a value, and documents of them in sections.
+//! Documents of any dialect of INI, an entry a call.
+ghost use Rattle.std.specs.Prelude.{◌≡◌, ◌⊎◌, ◌<◌, List, length, ℕ};
+ghost use Rattle.std.specs.Str.{IsUtf8};
+ghost use Rattle.format_ini.specs.Documents.{IsDocument, IsRefused};
+ghost use Rattle.format_ini.specs.Lines.{Said};
+ghost use Rattle.format_ini.specs.declared.lines.Reason.{Reason};
+ghost use Rattle.exported.specs.Code.{done, end, invalid, invalid_utf8};
+ghost use Rattle.exported.specs.Ini.{EntriesInTurn, IsFrom, ShowsEntry, TellsEntry, Writes};
+ghost use Rattle.exported.specs.Ini.{continued_of, delimiters_of, dialect_of, fault_number};
+ghost use Rattle.exported.specs.Ini.{has, is_set, marks_of, reading_at, zeros};
+ghost use Rattle.exported.specs.declared.ini.IniEntry.{IniEntry};
+ghost use Rattle.exported.specs.declared.ini.IniState.{IniState};
 
-ghost use Rattle.std.specs.Prelude.{◌≡◌, ◌⊎◌, ◌<◌, ◌^◌, length, map, take};
-ghost use Rattle.readers.specs.Document.{IsRefusedDocument};
-ghost use Rattle.readers.specs.Pair.{IsRefusedPair};
-ghost use Rattle.readers.specs.Sections.{pair_text};
-ghost use Rattle.exported.specs.Code.{buffer_too_small, done, invalid, no_memory};
-ghost use Rattle.exported.specs.Ini.{AreEntries, ShowsDocument, ShowsPair, WantsDocument, text_of};
-ghost use Rattle.exported.specs.Span.{nowhere};
+pub mod lookup;
 
-pub mod dialects;
-pub mod entries;
-
-use crate::code::{BUFFER_TOO_SMALL, DONE, INVALID, NO_MEMORY};
-use crate::ini::entries::{bytes_of, copy_entries, entries_of, place_entries};
+use crate::code::{DONE, END, INVALID, INVALID_UTF8};
 use crate::span::{NOWHERE, Span};
-use readers::fault::ReadError;
-use readers::ini;
-use std::alloc::Global;
+use format_ini::dialect::{Continued, Delimiters, Dialect, Marks};
+use format_ini::lines::{Entry, Places, Reason, State};
+use format_ini::places::{Placed, Reading, Stop, next_placed};
 
-/// The places of a key and its value.
+/// The start of a section. The key is its name.
+pub const INI_SECTION: u32 = 0;
+
+/// A key with its value, or with the first line of that.
+pub const INI_PAIR: u32 = 1;
+
+/// A key without a delimiter, and so without a value.
+pub const INI_KEY: u32 = 2;
+
+/// One more line of the value of the pair before. It is empty for an empty line, also where no
+/// other line of the value follows.
+pub const INI_MORE: u32 = 3;
+
+/// No error.
+pub const INI_ERROR_NONE: u32 = 0;
+
+/// Unclosed section header. The line starts with `[` and has no `]`.
+pub const INI_ERROR_UNCLOSED_SECTION: u32 = 1;
+
+/// Empty section name. There is nothing between `[` and `]`.
+pub const INI_ERROR_EMPTY_SECTION: u32 = 2;
+
+/// Unexpected text after a section header.
+pub const INI_ERROR_TRAILING_TEXT: u32 = 3;
+
+/// Pair before the first section header.
+pub const INI_ERROR_MISSING_SECTION: u32 = 4;
+
+/// Missing key before the delimiter.
+pub const INI_ERROR_MISSING_KEY: u32 = 5;
+
+/// Missing delimiter after the key.
+pub const INI_ERROR_MISSING_DELIMITER: u32 = 6;
+
+/// `=` ends a key. If neither this flag nor the next one is set, both end a key.
+pub const INI_DIALECT_EQUALS: usize = 1;
+
+/// `:` ends a key.
+pub const INI_DIALECT_COLON: usize = 2;
+
+/// `#` starts a comment if it is first in a line, after optional whitespace.
+pub const INI_DIALECT_NUMBER_SIGN: usize = 4;
+
+/// `;` starts a comment if it is first in a line, after optional whitespace.
+pub const INI_DIALECT_SEMICOLON: usize = 8;
+
+/// `#` starts a comment at the start of a line, or after whitespace in it.
+pub const INI_DIALECT_INLINE_NUMBER_SIGN: usize = 16;
+
+/// `;` starts a comment at the start of a line, or after whitespace in it.
+pub const INI_DIALECT_INLINE_SEMICOLON: usize = 32;
+
+/// A line that is indented deeper than the pair before it continues the value of that pair. An
+/// empty line or a comment ends the value.
+pub const INI_DIALECT_UNTIL_EMPTY: usize = 64;
+
+/// Such a line continues the value, and empty lines within are part of it; comments within are
+/// skipped. If this flag is set, the previous one has no effect.
+pub const INI_DIALECT_PAST_EMPTY: usize = 128;
+
+/// A line without a delimiter is a key without a value; otherwise it is an error.
+pub const INI_DIALECT_VALUELESS: usize = 256;
+
+/// Pairs may precede the first section; otherwise they are an error.
+pub const INI_DIALECT_BEFORE_SECTIONS: usize = 512;
+
+/// The default dialect of Python's `configparser`: `=` and `:`, `#` and `;` at the start of lines,
+/// continued lines with empty lines within.
+pub const INI_DIALECT_PYTHON: usize = 143;
+
+/// The dialect of desktop entries: `=`, `#` at the start of lines, a line for each pair.
+pub const INI_DIALECT_DESKTOP: usize = 5;
+
+/// The dialect that reads most: `=` and `:`, comments after whitespace too, keys without values,
+/// pairs before the first section, a line for each pair.
+pub const INI_DIALECT_LENIENT: usize = 831;
+
+/// The state of parsing an INI file. Only the functions of this library may interpret its fields.
+/// All zeros is the initial state; start from it for each file.
 #[repr(C)]
 #[derive(Clone, Copy, Drop)]
-pub struct Pair {
-    /// The key.
+pub struct IniState {
+    /// How many bytes are read: the next line begins after them.
+    pub offset: usize,
+    /// 1 after the head of a section; 0 otherwise.
+    pub section: usize,
+    /// 1 if the next line may continue the value of a pair; 0 otherwise.
+    pub pair: usize,
+    /// The number of blanks before that pair; 0 otherwise.
+    pub indent: usize,
+}
+
+/// The content of a line.
+#[repr(C)]
+#[derive(Clone, Copy, Drop)]
+pub struct IniEntry {
+    /// The kind of the entry.
+    pub kind: u32,
+    /// The name of a section, or the key of a pair; zeros otherwise.
     pub key: Span,
-    /// The value.
+    /// The value of a pair, or a further line of it; zeros otherwise.
     pub value: Span,
-    /// The offset of the error in bytes; 0 otherwise.
+    /// The offset of the line that is invalid or not UTF-8; 0 otherwise.
     pub error_offset: usize,
+    /// The reason why the line is invalid; `INI_ERROR_NONE` otherwise.
+    pub error: u32,
 }
 
-/// Parses a line of the form `key=value`. The key consists of one or more ASCII letters or digits.
-/// The value consists of any bytes except line feeds, and may be empty. The line may end with one
-/// line feed.
-///
-/// `DONE`: the spans of the key and of the value are written.
-///
-/// # Errors
-///
-/// `INVALID`: `bytes` is not such a line. The length of its longest prefix that is a prefix of such
-/// a line is written.
-///
-/// # Safety
-///
-/// `bytes` must be valid for reads of `bytes_length` bytes, which must not change during the call,
-/// and `out` must be valid for writes of one pair. They must not overlap. The call needs 16 KiB of
-/// stack.
-#[unsafe(no_mangle)]
-pub extern "C" fn exported_ini_pair(bytes: &[u8], out: &mut Pair) -> u32
-    ensures pair { result ≡ done → ShowsPair bytes.now out.new }
-    ensures refused { result ≡ invalid → IsRefusedPair bytes.now out.new.error_offset }
-    ensures nowhere { (result ≡ invalid → ⊥) → out.new.error_offset ≡ 0 }
-    ensures parts { result ≡ invalid → (out.new.key ≡ nowhere) × (out.new.value ≡ nowhere) }
-    ensures codes { (result ≡ done) ⊎ (result ≡ invalid) }
-{
-    match ini::pair(bytes) {
-        Ok((key, value)) => {
-            *out = Pair {
-                key: Span {
-                    offset: 0,
-                    length: key.len(),
-                },
-                value: Span {
-                    offset: key.len() + 1,
-                    length: value.len(),
-                },
-                error_offset: 0,
-            };
-            DONE
-        }
-        Err(ReadError::Invalid(place)) => {
-            *out = Pair {
-                key: NOWHERE,
-                value: NOWHERE,
-                error_offset: place,
-            };
-            INVALID
-        }
-        Err(ReadError::NoMemory) => unreachable!(),
-    }
-}
-
-/// An entry of a document: a pair, or the head of a section.
-#[repr(C)]
-#[derive(Clone, Copy, Drop)]
-pub struct Entry {
-    /// The key of a pair. It is empty for the head of a section, and only there.
-    pub key: Span,
-    /// The value of a pair, or the name of a section. It may have no bytes.
-    pub value: Span,
-}
-
-/// The sizes of a document, or the offset of an error.
-#[repr(C)]
-#[derive(Clone, Copy, Drop)]
-pub struct Document {
-    /// How many entries there are.
-    pub entries: usize,
-    /// How many bytes the keys, the values and the names have together.
-    pub text: usize,
-    /// The offset of the error in bytes; 0 otherwise.
-    pub error_offset: usize,
-}
-
-/// The document of nothing.
-const NONE: Document = Document {
-    entries: 0,
-    text: 0,
+const NO_ENTRY: IniEntry = IniEntry {
+    kind: INI_SECTION,
+    key: NOWHERE,
+    value: NOWHERE,
     error_offset: 0,
+    error: INI_ERROR_NONE,
 };
 
-/// Writes entries where there is room.
-fn write_entries(
-    found: &[(&str, &str)],
-    text: &mut [u8],
-    entries: &mut [Entry],
-    out: &mut Document,
-) -> u32
-    requires { length (text_of (map pair_text found.now)) < 2 ^ 63 }
-    ensures count { out.new.entries ≡ length found.now }
-    ensures bytes { out.new.text ≡ length (text_of (map pair_text found.now)) }
-    ensures nowhere { out.new.error_offset ≡ 0 }
-    ensures entries { result ≡ done
-        → AreEntries (take out.new.text text.new) (take out.new.entries entries.new)
-        (map pair_text found.now) }
-    ensures small { result ≡ buffer_too_small
-        → (length entries.old < out.new.entries) ⊎ (length text.old < out.new.text) }
-    ensures kept { result ≡ buffer_too_small → (entries.new ≡ entries.old) × (text.new ≡ text.old) }
-    ensures codes { (result ≡ done) ⊎ (result ≡ buffer_too_small) }
+fn has(dialect: usize, flag: usize) -> bool
+    requires { 0 < flag }
+    ensures { result ≡ has dialect flag }
 {
-    let (count, total) = (found.len(), bytes_of(found));
-    *out = Document {
-        entries: count,
-        text: total,
-        error_offset: 0,
-    };
-    if entries.len() < count || text.len() < total {
-        return BUFFER_TOO_SMALL;
-    }
-    copy_entries(found, &mut text[..total]);
-    place_entries(found, &mut entries[..count]);
-    DONE
+    dialect / flag % 2 == 1
 }
 
-/// Parses a document of sections, each a name in brackets followed by pairs.
+fn delimiters_of(equals: bool, colon: bool) -> Delimiters
+    ensures { result ≡ delimiters_of equals colon }
+{
+    match (equals, colon) {
+        (true, false) => Delimiters::Equals,
+        (false, true) => Delimiters::Colon,
+        _ => Delimiters::Either,
+    }
+}
+
+fn marks_of(number_sign: bool, semicolon: bool) -> Marks
+    ensures { result ≡ marks_of number_sign semicolon }
+{
+    match (number_sign, semicolon) {
+        (false, false) => Marks::Neither,
+        (true, false) => Marks::NumberSign,
+        (false, true) => Marks::Semicolon,
+        (true, true) => Marks::Either,
+    }
+}
+
+fn continued_of(until_empty: bool, past_empty: bool) -> Continued
+    ensures { result ≡ continued_of until_empty past_empty }
+{
+    match (until_empty, past_empty) {
+        (_, true) => Continued::PastEmpty,
+        (true, false) => Continued::UntilEmpty,
+        (false, false) => Continued::Never,
+    }
+}
+
+/// The dialect with these flags.
+pub(crate) fn dialect_of(flags: usize) -> Dialect
+    ensures { result ≡ dialect_of flags }
+{
+    Dialect {
+        delimiters: delimiters_of(
+            has(flags, INI_DIALECT_EQUALS),
+            has(flags, INI_DIALECT_COLON),
+        ),
+        comments: marks_of(
+            has(flags, INI_DIALECT_NUMBER_SIGN),
+            has(flags, INI_DIALECT_SEMICOLON),
+        ),
+        inline_comments: marks_of(
+            has(flags, INI_DIALECT_INLINE_NUMBER_SIGN),
+            has(flags, INI_DIALECT_INLINE_SEMICOLON),
+        ),
+        continued: continued_of(
+            has(flags, INI_DIALECT_UNTIL_EMPTY),
+            has(flags, INI_DIALECT_PAST_EMPTY),
+        ),
+        valueless: has(flags, INI_DIALECT_VALUELESS),
+        before_sections: has(flags, INI_DIALECT_BEFORE_SECTIONS),
+    }
+}
+
+fn is_set(number: usize) -> bool
+    ensures { result ≡ is_set number }
+{
+    number != 0
+}
+
+/// Returns the position at which parsing resumes in this state.
+fn reading_of(state: IniState, bytes: &[u8]) -> Reading
+    ensures { IsFrom state bytes.now result }
+{
+    if state.offset == 0 {
+        return Reading::begin(bytes);
+    }
+    Reading {
+        offset: state.offset,
+        state: State {
+            section: is_set(state.section),
+            pair: if is_set(state.pair) {
+                Some(state.indent)
+            } else {
+                None
+            },
+        },
+    }
+}
+
+pub(crate) fn state_of(reading: Reading) -> IniState
+    ensures { reading_at result ≡ reading }
+{
+    let (pair, indent) = match reading.state.pair {
+        None => (0, 0),
+        Some(indent) => (1, indent),
+    };
+    IniState {
+        offset: reading.offset,
+        section: if reading.state.section { 1 } else { 0 },
+        pair,
+        indent,
+    }
+}
+
+fn fault_number(why: Reason) -> u32
+    ensures { result ≡ fault_number why }
+{
+    match why {
+        Reason::OpenSection => INI_ERROR_UNCLOSED_SECTION,
+        Reason::EmptySection => INI_ERROR_EMPTY_SECTION,
+        Reason::TextBehindSection => INI_ERROR_TRAILING_TEXT,
+        Reason::NoSection => INI_ERROR_MISSING_SECTION,
+        Reason::NoKey => INI_ERROR_MISSING_KEY,
+        Reason::NoDelimiter => INI_ERROR_MISSING_DELIMITER,
+    }
+}
+
+fn place_of(offset: usize, text: &str) -> Span
+    ensures { (result.offset ≡ offset) × (result.length ≡ length text.now) }
+{
+    Span {
+        offset,
+        length: text.len(),
+    }
+}
+
+/// Converts an entry and the offsets of its texts.
+fn entry_of(entry: Entry<'_>, at: Places) -> IniEntry
+    ensures { ShowsEntry entry.entry at result }
+{
+    match entry {
+        Entry::Section(name) => IniEntry {
+            kind: INI_SECTION,
+            key: place_of(at.head, name),
+            ..NO_ENTRY
+        },
+        Entry::Pair {
+            key,
+            value: Some(value),
+        } => IniEntry {
+            kind: INI_PAIR,
+            key: place_of(at.head, key),
+            value: place_of(at.value, value),
+            ..NO_ENTRY
+        },
+        Entry::Pair { key, value: None } => IniEntry {
+            kind: INI_KEY,
+            key: place_of(at.head, key),
+            ..NO_ENTRY
+        },
+        Entry::More(value) => IniEntry {
+            kind: INI_MORE,
+            value: place_of(at.head, value),
+            ..NO_ENTRY
+        },
+    }
+}
+
+/// Returns the code and the output for a result; the next line with content starts at `offset`.
+pub(crate) fn told_of(found: Result<Option<Placed<'_>>, Stop>, offset: usize) -> (u32, IniEntry)
+    ensures writes { Writes found.entry offset result.0 result.1 }
+    ensures codes { (result.0 ≡ done) ⊎ ((result.0 ≡ end) ⊎ ((result.0 ≡ invalid)
+        ⊎ (result.0 ≡ invalid_utf8))) }
+{
+    match found {
+        Ok(Some(placed)) => (DONE, entry_of(placed.entry, placed.at)),
+        Ok(None) => (END, NO_ENTRY),
+        Err(Stop::NoText) => (
+            INVALID_UTF8,
+            IniEntry {
+                error_offset: offset,
+                ..NO_ENTRY
+            },
+        ),
+        Err(Stop::Invalid(why)) => (
+            INVALID,
+            IniEntry {
+                error_offset: offset,
+                error: fault_number(why),
+                ..NO_ENTRY
+            },
+        ),
+    }
+}
+
+/// Parses the next entry of an INI file in any dialect, as common in `.ini`, `.cfg` and `.desktop`
+/// files.
 ///
-/// A pair is a key of ASCII letters or digits, `=` with optional spaces and tabs around it, and a
-/// value. The value ends before `;` or the end of its line, without the whitespace there.
-/// Whitespace, and comments from `;` to the end of a line, may precede, separate and follow these
-/// parts. Names and values are UTF-8. Pairs before the first section are invalid.
+/// A line feed ends a line. `[name]` starts a section. Any other line is a key, a delimiter and a
+/// value, without whitespace at the ends of either. Empty lines, comments and a byte order mark at
+/// the start are skipped. Whitespace is tab, form feed, carriage return and space. Quotes are kept,
+/// and keys and sections may be repeated.
 ///
-/// `DONE`: the bytes of the entries are written into `text`, one entry after another, each key
-/// before its value. Their spans are written into `entries`, in order: the head of each section,
-/// and then its pairs.
+/// `dialect` is a sum of flags: `INI_DIALECT_PYTHON`, `INI_DIALECT_DESKTOP`, `INI_DIALECT_LENIENT`,
+/// or others from `INI_DIALECT_EQUALS` to `INI_DIALECT_BEFORE_SECTIONS`. Other bits are ignored.
 ///
-/// A call holds up to 100 bytes of memory for each byte of the document, even if it then returns
-/// `INVALID` or `BUFFER_TOO_SMALL`.
+/// For the first call, `state` must be all zeros. Each further call must have the state that the
+/// previous call left, with the same bytes, which are the complete document, and the same dialect.
+/// No call looks again at bytes that an earlier call parsed, so all calls for a document take time
+/// linear in its length.
+///
+/// `DONE`: the kind of the entry and the spans of its texts are written. Its line is UTF-8. A value
+/// of several lines is returned as a pair, and one `INI_MORE` for each further line.
+///
+/// `END`: there are no more entries. Only `DONE` writes a kind and spans. After another code, a
+/// further call returns the same. Lines are checked one at a time, so entries before a line that is
+/// not UTF-8 are returned. If `state` belongs to other bytes or was modified, the result may be
+/// wrong, but nothing outside `bytes` is read.
 ///
 /// # Errors
 ///
-/// `INVALID`: `bytes` is not a document. The length of the longest prefix that consists of such
-/// parts is written; each part is determined in the context of all bytes. A pair extends to the end
-/// of its line: for `[a]`, a line feed, and `x=` before a byte that is not UTF-8, the length is 4.
+/// `INVALID`: the next line is invalid in the dialect. Its offset and the reason are written.
 ///
-/// `BUFFER_TOO_SMALL`: the document needs more entries or more bytes than the buffers have. The
-/// required numbers of both are written.
-///
-/// `NO_MEMORY`.
-///
-/// After an error the buffers are unchanged.
+/// `INVALID_UTF8`: the next line is not UTF-8. Its offset is written.
 ///
 /// # Safety
 ///
+/// `state` must be valid for reads and writes of one state, and `out` for writes of one entry.
 /// `bytes` must be valid for reads of `bytes_length` bytes, which must not change during the call.
-/// `text` must be valid for writes of `text_length` bytes, `entries` for writes of `entries_length`
-/// entries, and `out` for writes of one document. None of these may overlap. The call needs 16 KiB
-/// of stack.
+/// None of these may overlap. The call needs 16 KiB of stack.
 #[unsafe(no_mangle)]
-pub extern "C" fn exported_ini_document(
-    alloc: Global,
+pub extern "C" fn exported_ini_next(
+    state: &mut IniState,
     bytes: &[u8],
-    text: &mut [u8],
-    entries: &mut [Entry],
-    out: &mut Document,
+    dialect: usize,
+    out: &mut IniEntry,
 ) -> u32
-    ensures document { result ≡ done → ShowsDocument bytes.now out.new
-        (take out.new.text text.new) (take out.new.entries entries.new) }
-    ensures small { result ≡ buffer_too_small → WantsDocument bytes.now out.new
-        × ((length entries.old < out.new.entries) ⊎ (length text.old < out.new.text)) }
-    ensures kept { (result ≡ done → ⊥) → (entries.new ≡ entries.old) × (text.new ≡ text.old) }
-    ensures sizes { result ≡ invalid → (out.new.entries ≡ 0) × (out.new.text ≡ 0) }
-    ensures refused { result ≡ invalid → IsRefusedDocument bytes.now out.new.error_offset }
-    ensures nowhere { (result ≡ invalid → ⊥) → out.new.error_offset ≡ 0 }
-    ensures codes { (result ≡ done) ⊎ ((result ≡ buffer_too_small) ⊎ ((result ≡ invalid)
-        ⊎ (result ≡ no_memory))) }
+    ensures told { TellsEntry dialect state.old state.new bytes.now result out.new }
+    ensures codes { (result ≡ done) ⊎ ((result ≡ end) ⊎ ((result ≡ invalid)
+        ⊎ (result ≡ invalid_utf8))) }
 {
-    *out = NONE;
-    match ini::document(alloc, bytes) {
-        Ok(sections) => match entries_of(alloc, &sections) {
-            Some(found) => write_entries(&found, text, entries, out),
-            None => NO_MEMORY,
-        },
-        Err(ReadError::Invalid(place)) => {
-            out.error_offset = place;
-            INVALID
-        }
-        Err(ReadError::NoMemory) => NO_MEMORY,
-    }
+    let mut reading = reading_of(*state, bytes);
+    let found = next_placed(dialect_of(dialect), bytes, &mut reading);
+    *state = state_of(reading);
+    let (code, entry) = told_of(found, reading.offset);
+    *out = entry;
+    code
 }
+
+/// States that successive calls of `exported_ini_next` parse the document, as `read_document` of
+/// `format_ini` does. The first call starts with zeros. If the last call returns `END`, the entries
+/// of the calls before it are all entries of the document, once and in order. If it returns
+/// `INVALID`, the document is invalid at that line, for that reason. If it returns `INVALID_UTF8`,
+/// the bytes are not UTF-8.
+pub fn entries_in_turn_are_of_the_document()
+    ensures whole { (dialect : ℕ) (bytes : List ℕ) (outs : List IniEntry) (said : List Said)
+        (state next : IniState) (out : IniEntry)
+        → EntriesInTurn dialect bytes zeros outs said state
+        → TellsEntry dialect state next bytes end out
+        → IsDocument (dialect_of dialect) bytes said }
+    ensures refuses { (dialect : ℕ) (bytes : List ℕ) (outs : List IniEntry) (said : List Said)
+        (state next : IniState) (out : IniEntry)
+        → EntriesInTurn dialect bytes zeros outs said state
+        → TellsEntry dialect state next bytes invalid out
+        → (why : Reason) × (out.error ≡ fault_number why)
+        × IsRefused (dialect_of dialect) bytes (record { offset = out.error_offset; why = why }) }
+    ensures text { (dialect : ℕ) (bytes : List ℕ) (outs : List IniEntry) (said : List Said)
+        (state next : IniState) (out : IniEntry)
+        → EntriesInTurn dialect bytes zeros outs said state
+        → TellsEntry dialect state next bytes invalid_utf8 out → IsUtf8 bytes → ⊥ }
+{}

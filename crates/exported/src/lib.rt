@@ -17,6 +17,7 @@ pub mod http;
 pub mod ini;
 pub mod json;
 pub mod output;
+pub mod pairs;
 pub mod resp;
 pub mod span;
 pub mod text;

@@ -116,7 +116,7 @@ pub struct RespReplyState {
     pub bulk: usize,
     /// The number of expected replies, its lower 64 bits.
     pub low: usize,
-    /// By the upper 64 bits.
+    /// The upper 64 bits of that number.
     pub high: usize,
 }
 

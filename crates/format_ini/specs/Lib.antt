@@ -2,5 +2,6 @@
 pub mod Documents
 pub mod Front
 pub mod Lines
+pub mod Lookup
 pub mod Marks
 pub mod Places

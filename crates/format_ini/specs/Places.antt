@@ -5,7 +5,7 @@ use Rattle.std.specs.List.{All}
 use Rattle.std.specs.Str.{IsUtf8}
 use Rattle.format_ini.specs.Documents.{BehindMark, ReadsLines, start}
 use Rattle.format_ini.specs.Front.{FirstLine}
-use Rattle.format_ini.specs.Lines.{Lacks, Step, said_of, value_of}
+use Rattle.format_ini.specs.Lines.{Lacks, Said, Step, said_of, value_of}
 use Rattle.format_ini.specs.Marks.{IsBlank, IsDelimiter}
 use Rattle.format_ini.specs.declared.dialect.Dialect.{Dialect}
 use Rattle.format_ini.specs.declared.lines.Entry.{Entry}
@@ -68,12 +68,16 @@ abbrev pub IsAtStart : List ℕ → Reading → Type 0
 IsAtStart bytes reading = BehindMark bytes (drop reading.offset bytes)
     × (reading.offset ≤ length bytes) × (reading.state ≡ start)
 
--- `PassesIdle d bytes old new`: the lines from `old` to `new` are empty or comments, and end in the
--- bytes. If there are none, `new` is `old`.
-abbrev pub PassesIdle : Dialect → List ℕ → Reading → Reading → Type 0
-PassesIdle d bytes old new =
+-- `Passes d bytes old said new`: the lines from `old` to `new` mean `said`, and end in the bytes.
+-- If there are none, `new` is `old`.
+abbrev pub Passes : Dialect → List ℕ → Reading → List Said → Reading → Type 0
+Passes d bytes old said new =
     ((new ≡ old) ⊎ ((old.offset < new.offset) × (new.offset ≤ length bytes)))
-    × ReadsLines d old.state (drop old.offset bytes) [] new.state (drop new.offset bytes)
+    × ReadsLines d old.state (drop old.offset bytes) said new.state (drop new.offset bytes)
+
+-- the same for lines that are empty or comments
+abbrev pub PassesIdle : Dialect → List ℕ → Reading → Reading → Type 0
+PassesIdle d bytes old new = Passes d bytes old [] new
 
 -- The result of a call for the bytes after those that have been read, and the state after it. The
 -- result is the next entry, with the offsets of its texts in all of the bytes; or `None`, if all

@@ -30,5 +30,6 @@ pub mod documents;
 mod front;
 pub mod laws;
 pub mod lines;
+pub mod lookup;
 pub mod places;
 mod shown;

@@ -2,9 +2,8 @@
 use Rattle.std.specs.Prelude.{ℕ}
 use Rattle.std.specs.Prelude.{List}
 use Rattle.std.proofs.Common.{refl, sym, ap, subst, inl, inr, ◌∙◌}
-use Rattle.format_toml_nodes.specs.Laying.{ChangesAt, Each, InParent, IsNamedAs, IsNumbered, Keeps}
+use Rattle.format_toml_nodes.specs.Laying.{ChangesAt, Each, InParent, IsPlacedAs, Keeps}
 use Rattle.format_toml_nodes.specs.Nodes.{IsIn}
-use Rattle.format_toml_nodes.specs.declared.node.Span.{Span}
 use Rattle.format_toml_nodes.specs.declared.node.TomlNode.{TomlNode}
 use Rattle.format_toml_tree.specs.Paths.{Path}
 
@@ -20,26 +19,16 @@ keeps_then first then = record {
       (was, i, (e ∙ e2, f ∙ f2, n ∙ n2));
 }
 
-keeps_at : (so : TomlNode → TomlNode → Type 0)
-    → ((was it : TomlNode) → so was it → Keeps was it) → {j : ℕ} {old new : List TomlNode}
-    → ChangesAt so j old new → Each Keeps old new
-keeps_at so keeps changes = record {
+pub keeps_placed : (at : TomlNode) {j : ℕ} {old new : List TomlNode}
+    → ChangesAt (IsPlacedAs at) j old new → Each Keeps old new
+keeps_placed at changes = record {
   same = changes.same;
   each = λ k it g. elim (changes.each k it g) [
-    | inl (a, (was, h, is)) ↦ (was, h, keeps was it is)
+    | inl (a, (was, h, e)) ↦
+        (was, h, (ap (λ n. n.value) e, ap (λ n. n.first) e, ap (λ n. n.next) e))
     | inr (a, h) ↦ (it, h, (refl, refl, refl))
   ];
 }
-
-pub keeps_named : {parent : ℕ} {name : Span} {j : ℕ} {old new : List TomlNode}
-    → ChangesAt (IsNamedAs parent name) j old new → Each Keeps old new
-keeps_named {parent} {name} changes = keeps_at (IsNamedAs parent name)
-    (λ was it e. (ap (λ n. n.value) e, ap (λ n. n.first) e, ap (λ n. n.next) e)) changes
-
-pub keeps_numbered : {parent index j : ℕ} {old new : List TomlNode}
-    → ChangesAt (IsNumbered parent index) j old new → Each Keeps old new
-keeps_numbered {parent} {index} changes = keeps_at (IsNumbered parent index)
-    (λ was it e. (ap (λ n. n.value) e, ap (λ n. n.first) e, ap (λ n. n.next) e)) changes
 
 -- One more node has its position; the others keep theirs.
 module _ (text after : List ℕ) (path : ℕ → Path) (count j : ℕ)

@@ -1,10 +1,11 @@
 -- The elements of a slot, in sequence, and everything below slots.
 use Rattle.std.specs.Prelude.{◌≡◌, ◌⊎◌, ℕ, zero, suc, ◌+◌, ◌<◌, ◌≤◌}
-use Rattle.std.specs.Prelude.{List, ◌∷◌, Some, length, slice_get, take}
+use Rattle.std.specs.Prelude.{List, ◌∷◌, Some, length, slice_get, take, true}
 use Rattle.std.proofs.Common.{refl, sym, ap, subst, inl, inr, ◌∙◌, arith}
-use Rattle.format_toml_nodes.specs.Laying.{Below, ChangesAt, InParent, IsNumbered}
+use Rattle.std.proofs.lemmas.Option.{same_Some}
+use Rattle.format_toml_nodes.specs.Laying.{Below, ChangesAt, InParent, IsPlacedAs, alone}
 use Rattle.format_toml_nodes.specs.Laying.{PutsElements, PutsEntries}
-use Rattle.format_toml_nodes.specs.Nodes.{IsIn}
+use Rattle.format_toml_nodes.specs.Nodes.{IsIn, of_kind}
 use Rattle.format_toml_nodes.specs.declared.node.TomlNode.{TomlNode}
 use Rattle.format_toml_nodes.proofs.Changes.{changed_here, changed_others}
 use Rattle.format_toml_nodes.proofs.Texts.{stands_none}
@@ -14,8 +15,10 @@ use Rattle.format_toml_tree.specs.Paths.{Path, placed}
 use Rattle.format_toml_tree.specs.Runs.{Tree}
 use Rattle.format_toml_tree.specs.declared.tree.Slot.{Slot}
 
-some_same : {X : Type 0} {x y : X} → Some x ≡ Some y → x ≡ y
-some_same e = cc
+-- the position of an element
+abbrev pub element_at : ℕ → ℕ → TomlNode
+element_at parent index =
+    record (alone (of_kind 0)) { parent = parent; index = index; is_element = true }
 
 -- the number is this one, or below it
 pub last : (k n : ℕ) → k < n + 1 → (k ≡ n) ⊎ (k < n)
@@ -40,24 +43,25 @@ module _ {A : Type 0} (slots : List (Slot A)) (parent : ℕ) (before : List Toml
   pub number_more : (within : parent < length slots) (s : Slot A)
       → slice_get slots parent ≡ Some s → (index j : ℕ)
       → slice_get s.elements.items index ≡ Some j → (nodes after : List TomlNode)
-      → ChangesAt (IsNumbered parent index) j nodes after → NumbersSo index nodes
+      → ChangesAt (IsPlacedAs (element_at parent index)) j nodes after → NumbersSo index nodes
       → NumbersSo (index + 1) after
   number_more within s at index j e nodes after changes was tree path holds text t g =
       let (stay, numbers) = was tree path holds text t g in
       let count = length slots in
       let here = (holds.elements parent s at index j e).1 in
-      let so = IsNumbered parent index in
+      let so = IsPlacedAs (element_at parent index) in
       let leads : (was it : TomlNode) → so was it → IsIn text path count (path j) it =
       λ was it is. subst (λ p. IsIn text path count p it) (sym here)
       (subst (λ n. IsIn text path count (placed index ∷ path parent) n) (sym is)
       (within, refl, stands_none text, refl, refl)) in
       let others : (i : ℕ) → InParent text path count nodes i → InParent text path count after i =
       changed_others text text path count j so nodes after changes leads (λ p it is. is) in
-      let same : s ≡ t = some_same (sym at ∙ g) in (
+      let same : s ≡ t = same_Some s t (sym at ∙ g) in (
         λ i leads. others i (stay i leads),
         λ k i w f. elim (last k index w) [
           | inl is ↦
-              let is_j : j ≡ i = some_same (sym e ∙ ap (λ u. slice_get u.elements.items index) same
+              let is_j : j ≡ i =
+              same_Some j i (sym e ∙ ap (λ u. slice_get u.elements.items index) same
               ∙ ap (λ n. slice_get t.elements.items n) (sym is) ∙ f) in
               subst (λ n. InParent text path count after n) is_j
               (changed_here text text path count j so nodes after changes leads (λ p it is. is))
@@ -93,8 +97,8 @@ module _ {A : Type 0} (slots : List (Slot A)) (at : ℕ) (old : List ℕ) (befor
           λ j leads. kept j (old_stay j leads),
           λ i s w g. elim (last i parent w) [
             | inl is ↦
-                let same : t ≡ s = some_same (sym there ∙ ap (λ n. slice_get slots n) (sym is) ∙ g)
-                in
+                let same : t ≡ s =
+                same_Some t s (sym there ∙ ap (λ n. slice_get slots n) (sym is) ∙ g) in
                 subst (λ u. Below u (InParent (take next new) path count after)) same
                 ((λ name j f. keep j (names name j f)), numbers)
             | inr less ↦

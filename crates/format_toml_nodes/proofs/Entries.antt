@@ -8,10 +8,10 @@ use Rattle.std.specs.Cmp.Lexicographic.{slice_cmp}
 use Rattle.std.specs.Map.{lookup}
 use Rattle.std.specs.Ordering.{nat_cmp}
 use Rattle.std.proofs.Common.{refl, sym, ap, subst, inl, inr, ◌∙◌, arith}
-use Rattle.std.proofs.lemmas.Option.{get_or_from_slice_get, slice_get_within}
-use Rattle.format_toml_nodes.specs.Laying.{ChangesAt, Fits, InParent, IsNamedAs, Puts}
+use Rattle.std.proofs.lemmas.Option.{get_or_from_slice_get, same_Some, slice_get_within}
+use Rattle.format_toml_nodes.specs.Laying.{ChangesAt, Fits, InParent, IsPlacedAs, Puts, alone}
 use Rattle.format_toml_nodes.specs.Laying.{name_len, names_len, total}
-use Rattle.format_toml_nodes.specs.Nodes.{IsIn}
+use Rattle.format_toml_nodes.specs.Nodes.{IsIn, of_kind}
 use Rattle.format_toml_nodes.specs.declared.node.Span.{Span}
 use Rattle.format_toml_nodes.specs.declared.node.TomlNode.{TomlNode}
 use Rattle.format_toml_nodes.proofs.Changes.{changed_here, changed_others}
@@ -25,8 +25,9 @@ use Rattle.format_toml_tree.specs.declared.tree.Slot.{Slot}
 abbrev pub find_in : List (Bor (List ℕ) × ℕ) → List ℕ → Option ℕ
 find_in entries name = lookup (is_at (λ (k : Bor (List ℕ)). slice_cmp nat_cmp name k.now)) entries
 
-some_same : {x y : ℕ} → Some x ≡ Some y → x ≡ y
-some_same e = cc
+-- the position of an entry
+abbrev pub entry_at : ℕ → Span → TomlNode
+entry_at parent name = record (alone (of_kind 0)) { parent = parent; name = name }
 
 find_more : (name : List ℕ) (e : Bor (List ℕ) × ℕ) (others : List (Bor (List ℕ) × ℕ)) (j : ℕ)
     → find_in (e ∷ others) name ≡ Some j → (e.1 ≡ j) ⊎ (find_in others name ≡ Some j)
@@ -35,7 +36,7 @@ find_more name e others j f =
   where
     by : (b : Bool) → is_at (λ (k : Bor (List ℕ)). slice_cmp nat_cmp name k.now) e.0 ≡ b
         → (e.1 ≡ j) ⊎ (find_in others name ≡ Some j)
-    by true t = inl (some_same (sym (ap (λ b. cond b (Some e.1) (find_in others name)) t) ∙ f))
+    by true t = inl (same_Some _ _ (sym (ap (λ b. cond b (Some e.1) (find_in others name)) t) ∙ f))
     by false t = inr (sym (ap (λ b. cond b (Some e.1) (find_in others name)) t) ∙ f)
 
 module _ {A : Type 0} (slots : List (Slot A)) (parent at : ℕ) (old : List ℕ)
@@ -64,7 +65,7 @@ module _ {A : Type 0} (slots : List (Slot A)) (parent at : ℕ) (old : List ℕ)
       (others left : List (Bor (List ℕ) × ℕ)) (is : left ≡ e ∷ others) (found : FoundSo left)
       (place : Span) (nodes after : List TomlNode) (buffer : List ℕ) (end next : ℕ)
       (new : List ℕ) (is_place : Fits e.0.now end place)
-      (changes : ChangesAt (IsNamedAs parent place) e.1 nodes after)
+      (changes : ChangesAt (IsPlacedAs (entry_at parent place)) e.1 nodes after)
       (puts : Puts e.0.now end buffer next new) where
     pub name_more : NamesSo left end buffer nodes → NamesSo others next new after
     name_more so tree path holds fits s g =
@@ -74,7 +75,7 @@ module _ {A : Type 0} (slots : List (Slot A)) (parent at : ℕ) (old : List ℕ)
         (holds.found parent s g e.0.now e.1 (found s g 0 e (ap (λ l. slice_get l 0) is))).1 in
         let count = length slots in
         let text = take next new in
-        let is_in = IsNamedAs parent place in
+        let is_in = IsPlacedAs (entry_at parent place) in
         let leads : (was it : TomlNode) → is_in was it → IsIn text path count (path e.1) it =
         λ was it same. subst (λ p. IsIn text path count p it) (sym here)
         (subst (λ n. IsIn text path count (named e.0.now ∷ path parent) n) (sym same) (

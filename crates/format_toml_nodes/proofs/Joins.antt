@@ -2,15 +2,13 @@
 use Rattle.std.specs.Prelude.{◌≡◌, ◌⊎◌, ℕ, zero, suc, ◌+◌, ◌≤◌}
 use Rattle.std.specs.Prelude.{List, length, slice_get, Some}
 use Rattle.std.proofs.Common.{refl, sym, ap, subst, inl, inr, ◌∙◌, arith}
-use Rattle.std.proofs.lemmas.Option.{slice_get_within}
+use Rattle.std.proofs.lemmas.Option.{same_Some, slice_get_within}
 use Rattle.format_toml_nodes.specs.Laying.{ChangesAt, Each, IsAbove, IsBefore}
 use Rattle.format_toml_nodes.specs.Laying.{JoinsFrom, JoinsOne, Stays}
 use Rattle.format_toml_nodes.specs.Nodes.{HasParent, IsFirstIn}
+use Rattle.format_toml_nodes.proofs.Elements.{last}
 use Rattle.format_toml_nodes.specs.declared.node.TomlNode.{TomlNode}
 use Rattle.format_toml_tree.specs.Added.{some_there}
-
-same_some : {x y : TomlNode} → Some x ≡ Some y → x ≡ y
-same_some e = cc
 
 then_stays : (a b c : TomlNode) → Stays a b → Stays b c → Stays a c
 then_stays a b c e f =
@@ -40,7 +38,7 @@ pub parent_is : {old new : List TomlNode} → Each Stays old new → (k i : ℕ)
 parent_is {old} {new} stays k i (was, g, e) =
     let (it, h) = some_there new k (omega (arith, stays.same, slice_get_within old k was g)) in
     let (other, f, s) = stays.each k it h in
-    (it, h, ap (λ n. n.parent) s ∙ ap (λ n. n.parent) (same_some (sym f ∙ g)) ∙ e)
+    (it, h, ap (λ n. n.parent) s ∙ ap (λ n. n.parent) (same_Some _ _ (sym f ∙ g)) ∙ e)
 
 pub first_stays : {old new : List TomlNode} → Each Stays old new → (i from r : ℕ)
     → IsFirstIn old i from r → IsFirstIn new i from r
@@ -54,15 +52,6 @@ first_stays stays i from r (inr (le, has, never)) =
     )
 
 -- ---- one more
-
-split : (p k : ℕ) → p ≤ k → (k ≡ p) ⊎ (p + 1 ≤ k)
-split zero zero le = inl refl
-split zero (suc k) le = inr (omega arith)
-split (suc p) zero le = absurd (omega (arith, le))
-split (suc p) (suc k) le = elim (split p k (omega (arith, le))) [
-  | inl e ↦ inl (ap (λ n. suc n) e)
-  | inr l ↦ inr (omega (arith, l))
-]
 
 module _ (number parent next : ℕ) (old mid new : List TomlNode) (node above : TomlNode)
     (at : slice_get old number ≡ Some node) (in_it : node.parent ≡ parent)
@@ -114,14 +103,14 @@ module _ (number parent next : ℕ) (old mid new : List TomlNode) (node above : 
         elim f [
           | inl (a, e) ↦ inl ((node, at, in_it ∙ sym a), e)
           | inr (a, e) ↦ inr (
-            λ has. a (sym has.2 ∙ ap (λ x. x.parent) (same_some (sym has.1 ∙ at)) ∙ in_it),
+            λ has. a (sym has.2 ∙ ap (λ x. x.parent) (same_Some _ _ (sym has.1 ∙ at)) ∙ in_it),
             (was, i, e),
           )
         ];
     next = λ it g within.
         let (was, i, s, f, n) = both number it g in
         let q : it.parent ≡ parent =
-        ap (λ x. x.parent) s ∙ ap (λ x. x.parent) (same_some (sym i ∙ at)) ∙ in_it in
+        ap (λ x. x.parent) s ∙ ap (λ x. x.parent) (same_Some _ _ (sym i ∙ at)) ∙ in_it in
         elim n [
           | inl (b, e) ↦ (above, ap (λ m. slice_get old m) q ∙ over, e ∙ is_next)
           | inr (b, e) ↦ absurd (b refl)
@@ -142,12 +131,12 @@ joins_none number old node at past = record {
   stays = record { same = refl; each = λ j it g. (it, g, refl) };
   first = λ j it g. inr (
     λ has.
-        let e : node.parent ≡ j = ap (λ x. x.parent) (same_some (sym at ∙ has.1)) ∙ has.2 in
+        let e : node.parent ≡ j = ap (λ x. x.parent) (same_Some _ _ (sym at ∙ has.1)) ∙ has.2 in
         omega (arith, e, past, slice_get_within old j it g),
     (it, g, refl),
   );
   next = λ it g within.
-      let e : it.parent ≡ node.parent = ap (λ x. x.parent) (same_some (sym g ∙ at)) in
+      let e : it.parent ≡ node.parent = ap (λ x. x.parent) (same_Some _ _ (sym g ∙ at)) in
       absurd (omega (arith, e, within, past));
   others = λ j it other g. (it, g, refl);
 }
@@ -160,17 +149,17 @@ module _ (p : ℕ) (old nodes new : List TomlNode) (joins : JoinsFrom (p + 1) ol
       → IsFirstIn old j p r
   first_more j r not (inl (none, never)) = inl (
     none,
-    λ k le has. elim (split p k le) [
-      | inl e ↦ not (parent_is joins.stays p j (subst (λ n. HasParent old n j) e has))
-      | inr more ↦ never k more has
+    λ k le has. elim (last p k (omega (arith, le))) [
+      | inl e ↦ not (parent_is joins.stays p j (subst (λ n. HasParent old n j) (sym e) has))
+      | inr more ↦ never k (omega (arith, more)) has
     ],
   )
   first_more j r not (inr (le, has, never)) = inr (
     omega (arith, le),
     has,
-    λ k least less it. elim (split p k least) [
-      | inl e ↦ not (parent_is joins.stays p j (subst (λ n. HasParent old n j) e it))
-      | inr more ↦ never k more less it
+    λ k least less it. elim (last p k (omega (arith, least))) [
+      | inl e ↦ not (parent_is joins.stays p j (subst (λ n. HasParent old n j) (sym e) it))
+      | inr more ↦ never k (omega (arith, more)) less it
     ],
   )
 
@@ -186,21 +175,21 @@ module _ (p : ℕ) (old nodes new : List TomlNode) (joins : JoinsFrom (p + 1) ol
       | inr (not, (was, h, e)) ↦ subst (λ n. IsFirstIn old j p n) (sym e)
           (first_more j was.first not (joins.firsts j was h))
     ];
-    nexts = λ j it le g within. elim (split p j le) [
+    nexts = λ j it le g within. elim (last p j (omega (arith, le))) [
       | inl same ↦
-          let here : slice_get new p ≡ Some it = ap (λ n. slice_get new n) (sym same) ∙ g in
+          let here : slice_get new p ≡ Some it = ap (λ n. slice_get new n) same ∙ g in
           let (above, h, e) = one.next it here (omega (arith, within, joins.stays.same)) in
           let P : ℕ → Type 0 = λ n. IsFirstIn old it.parent (n + 1) it.next in
-          subst P (sym same) (subst (λ n. IsFirstIn old it.parent (p + 1) n) (sym e)
+          subst P same (subst (λ n. IsFirstIn old it.parent (p + 1) n) (sym e)
           (joins.firsts it.parent above h))
       | inr more ↦
           let (was, h, e) = one.others j it (λ same. omega (arith, same, more)) g in
           let (mid, i, s) = one.stays.each j it g in
           let q : it.parent ≡ was.parent =
-          ap (λ x. x.parent) s ∙ ap (λ x. x.parent) (same_some (sym i ∙ h)) in
+          ap (λ x. x.parent) s ∙ ap (λ x. x.parent) (same_Some _ _ (sym i ∙ h)) in
           let P : ℕ → Type 0 = λ n. IsFirstIn old n (j + 1) it.next in
           subst P (sym q) (subst (λ n. IsFirstIn old was.parent (j + 1) n) (sym e)
-          (joins.nexts j was more h (omega (arith, within, q))))
+          (joins.nexts j was (omega (arith, more)) h (omega (arith, within, q))))
     ];
     others = λ j it less g.
         let (was, h, e) = one.others j it (λ same. omega (arith, same, less)) g in

@@ -2,6 +2,7 @@
 use Rattle.std.specs.Prelude.{◌≡◌, ℕ, ◌+◌, ◌<◌, ◌≤◌}
 use Rattle.std.specs.Prelude.{List, length, set, slice_get, Some, take}
 use Rattle.std.proofs.Common.{sym, ap, subst, inl, inr, ◌∙◌, arith}
+use Rattle.std.proofs.lemmas.Option.{same_Some}
 use Rattle.format_toml_nodes.specs.Laying.{Fits, Puts, alone}
 use Rattle.format_toml_nodes.specs.Nodes.{Shows, text_of, value_of}
 use Rattle.format_toml_nodes.specs.declared.node.TomlNode.{TomlNode}
@@ -9,9 +10,6 @@ use Rattle.format_toml_nodes.proofs.Texts.{shows_more, stands_put}
 use Rattle.format_toml_tree.specs.Holds.{node_at}
 use Rattle.format_toml_tree.specs.Places.{get_set}
 use Rattle.format_toml_tree.specs.declared.tree.Slot.{Slot}
-
-some_same : {X : Type 0} {x y : X} → Some x ≡ Some y → x ≡ y
-some_same e = cc
 
 module _ {A : Type 0} (slots : List (Slot A)) where
   -- The nodes of the slots before this one have their values.
@@ -43,7 +41,8 @@ module _ {A : Type 0} (slots : List (Slot A)) where
       value_more so fits k t it within g h =
           elim (get_set before place node it k (ap (λ l. slice_get l k) (sym is) ∙ h)) [
             | inl (a, b) ↦
-                let same : s ≡ t = some_same (sym at ∙ ap (λ n. slice_get slots n) (sym a) ∙ g) in
+                let same : s ≡ t =
+                same_Some s t (sym at ∙ ap (λ n. slice_get slots n) (sym a) ∙ g) in
                 let P : Slot A → Type 0 = λ u. Shows (take next new) it.value (node_at u) in
                 let Q : TomlNode → Type 0 = λ n. Shows (take next new) n.value (node_at s) in
                 subst P same (subst Q (sym b) (

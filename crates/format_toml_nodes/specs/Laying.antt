@@ -1,5 +1,5 @@
 -- The specification of the functions that write the nodes of a tree.
-use Rattle.std.specs.Prelude.{◌≡◌, ◌⊎◌, ℕ, ◌+◌, ◌-◌, ◌<◌, ◌≤◌, ◌^◌, min, true, false}
+use Rattle.std.specs.Prelude.{◌≡◌, ◌⊎◌, ℕ, ◌+◌, ◌-◌, ◌<◌, ◌≤◌, ◌^◌, min, false}
 use Rattle.std.specs.Prelude.{List, [], ◌∷◌, ◌++◌, length, take, slice_get, Some}
 use Rattle.std.specs.Borrow.{Bor}
 use Rattle.format_toml_nodes.specs.Nodes.{HasParent, IsFirstIn, IsIn, Shows, nowhere}
@@ -65,13 +65,14 @@ IsApart it = (it.first ≡ 0) × (it.next ≡ 0)
 abbrev pub Keeps : TomlNode → TomlNode → Type 0
 Keeps was it = (it.value ≡ was.value) × (it.first ≡ was.first) × (it.next ≡ was.next)
 
-abbrev pub IsNamedAs : ℕ → Span → TomlNode → TomlNode → Type 0
-IsNamedAs parent name was it =
-    it ≡ record was { parent = parent; name = name; index = 0; is_element = false }
-
-abbrev pub IsNumbered : ℕ → ℕ → TomlNode → TomlNode → Type 0
-IsNumbered parent index was it =
-    it ≡ record was { parent = parent; name = nowhere; index = index; is_element = true }
+-- `IsPlacedAs at was it`: `it` is `was` with the parent, the name and the index of `at`.
+abbrev pub IsPlacedAs : TomlNode → TomlNode → TomlNode → Type 0
+IsPlacedAs at was it = it ≡ record was {
+  parent = at.parent;
+  name = at.name;
+  index = at.index;
+  is_element = at.is_element;
+}
 
 -- A node changes so, if it is there, and the others stay.
 pub record ChangesAt (so : TomlNode → TomlNode → Type 0) (j : ℕ) (old new : List TomlNode) : Type 0

@@ -4,7 +4,7 @@ ghost use Rattle.format_toml_nodes.specs.Laying.{PutsElements, PutsEntries, Puts
 ghost use Rattle.format_toml_nodes.specs.Laying.{alone};
 
 use crate::node::{NO_NODE, Span, TomlNode, TomlValue};
-use crate::put::{put_bytes, put_index, put_name, put_node, span_of};
+use crate::put::{put_bytes, put_node, put_position, span_of};
 use crate::values::{text, value_of};
 use format_toml_tree::tree::Slot;
 use std::alloc::Allocator;
@@ -51,7 +51,12 @@ fn put_entries<'t, A: Allocator + Copy>(
     let mut end = at;
     for (name, place) in slots[parent].places() {
         let bytes = name.as_bytes();
-        put_name(*place, parent, span_of(bytes, end), nodes);
+        let at = TomlNode {
+            parent,
+            name: span_of(bytes, end),
+            ..NO_NODE
+        };
+        put_position(*place, at, nodes);
         end = put_bytes(bytes, end, buffer);
     }
     end
@@ -68,7 +73,13 @@ fn put_elements<'t, A: Allocator + Copy>(
 {
     let elements = slots[parent].elements();
     for index in 0..elements.len() {
-        put_index(elements[index], parent, index, nodes);
+        let at = TomlNode {
+            parent,
+            index,
+            is_element: true,
+            ..NO_NODE
+        };
+        put_position(elements[index], at, nodes);
     }
 }
 

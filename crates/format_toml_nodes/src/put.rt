@@ -1,7 +1,7 @@
 //! Functions that write into a buffer, as far as there is room.
 ghost use Rattle.std.specs.Prelude.{◌≡◌, set};
-ghost use Rattle.format_toml_nodes.specs.Laying.{ChangesAt, Fits, IsAbove, IsBefore, IsNamedAs};
-ghost use Rattle.format_toml_nodes.specs.Laying.{IsNumbered, Puts};
+ghost use Rattle.format_toml_nodes.specs.Laying.{ChangesAt, Fits, IsAbove, IsBefore, IsPlacedAs};
+ghost use Rattle.format_toml_nodes.specs.Laying.{Puts};
 
 use crate::node::{NOWHERE, Span, TomlNode};
 
@@ -42,33 +42,17 @@ pub(crate) fn put_node(node: TomlNode, number: usize, nodes: &mut [TomlNode])
     }
 }
 
-/// Says of a node, if it is there, that it has this name in the table of that number.
+/// Sets the parent, the name and the index of a node, if it exists, to those of `at`.
 #[inline]
-pub(crate) fn put_name(number: usize, parent: usize, name: Span, nodes: &mut [TomlNode])
-    ensures { ChangesAt (IsNamedAs parent name) number nodes.old nodes.new }
+pub(crate) fn put_position(number: usize, at: TomlNode, nodes: &mut [TomlNode])
+    ensures { ChangesAt (IsPlacedAs at) number nodes.old nodes.new }
 {
     if number < nodes.len() {
         nodes[number] = TomlNode {
-            parent,
-            name,
-            index: 0,
-            is_element: false,
-            ..nodes[number]
-        };
-    }
-}
-
-/// Sets the parent and the index of a node in an array, if it exists.
-#[inline]
-pub(crate) fn put_index(number: usize, parent: usize, index: usize, nodes: &mut [TomlNode])
-    ensures { ChangesAt (IsNumbered parent index) number nodes.old nodes.new }
-{
-    if number < nodes.len() {
-        nodes[number] = TomlNode {
-            parent,
-            name: NOWHERE,
-            index,
-            is_element: true,
+            parent: at.parent,
+            name: at.name,
+            index: at.index,
+            is_element: at.is_element,
             ..nodes[number]
         };
     }

@@ -24,7 +24,7 @@ use format_csv_records::extent::{RecordExtent, RecordPlace};
 pub struct CsvRecordState {
     /// How many bytes were passed.
     pub passed: usize,
-    /// How many bytes the fields have that were passed, as they are meant.
+    /// How many bytes these fields have without their quotes, as far as they were passed.
     pub text: usize,
     /// How many fields were passed with the delimiter after them.
     pub fields: usize,

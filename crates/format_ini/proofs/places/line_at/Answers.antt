@@ -1,4 +1,4 @@
-use Rattle.std.proofs.Common.{◌-◌, arith, drop, length, length-drop, refl, take}
+use Rattle.std.proofs.Common.{◌-◌, arith, drop, length, length-drop, refl}
 use Rattle.std.proofs.lemmas.List.{take_all}
 use Rattle.format_ini.proofs.Passing.{line_fed, line_last}
 use Rattle.format_ini.proofs.places.line_at.Goals as goal

@@ -1,8 +1,8 @@
 use Rattle.std.proofs.Common.{◌≡◌, refl, arith, ap, length, subst, sym, Some, get_or, slice_get}
 use Rattle.std.proofs.Common.{◌∙◌, ℕ}
 use Rattle.std.proofs.lemmas.Option.{same_Some, slice_get-get_or, slice_get_read, slice_get_within}
-use Rattle.format_toml_nodes.proofs.Changes.{keeps_numbered, keeps_then}
-use Rattle.format_toml_nodes.proofs.Elements.{number_more}
+use Rattle.format_toml_nodes.proofs.Changes.{keeps_placed, keeps_then}
+use Rattle.format_toml_nodes.proofs.Elements.{element_at, number_more}
 use Rattle.format_toml_nodes.proofs.links.put_elements.Goals as goal
 
 pub loop-index-preserved : goal.loop-index-preserved
@@ -16,10 +16,11 @@ loop-index-preserved g c =
     let here : slice_get elements index ≡ Some j = slice_get-get_or elements index 0
     (omega (arith, c.loop-index-test.true, c.loop-index.auto.index-end)) in
     record {
-      keeps = keeps_then c.loop-index.invariant.keeps (keeps_numbered c.put_index.ensures);
+      keeps = keeps_then c.loop-index.invariant.keeps
+          (keeps_placed (element_at c.args.parent index) c.put_position.ensures);
       numbers = number_more slots c.args.parent c.args.nodes.now c.requires s at index j
           (subst (λ l. slice_get l index ≡ Some j) c.elements-elements.ensures here)
-          c.loop-index.nodes c.put_index.new.nodes c.put_index.ensures
+          c.loop-index.nodes c.put_position.new.nodes c.put_position.ensures
           c.loop-index.invariant.numbers;
     }
 

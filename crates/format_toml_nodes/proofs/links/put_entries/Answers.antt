@@ -4,9 +4,9 @@ use Rattle.std.proofs.lemmas.Map.Iter.{rest_all, rest_more}
 use Rattle.std.proofs.lemmas.Option.{slice_get_read}
 use Rattle.std.specs.Map.Iter.{deref_pair}
 use Rattle.format_toml_nodes.specs.Laying.{Fits, Puts, most, name_len, total}
-use Rattle.format_toml_nodes.proofs.Changes.{keeps_named, keeps_none, keeps_then}
-use Rattle.format_toml_nodes.proofs.Entries.{count_first, found_first, found_more, name_more}
-use Rattle.format_toml_nodes.proofs.Entries.{names_end, names_first}
+use Rattle.format_toml_nodes.proofs.Changes.{keeps_none, keeps_placed, keeps_then}
+use Rattle.format_toml_nodes.proofs.Entries.{count_first, entry_at, found_first, found_more}
+use Rattle.format_toml_nodes.proofs.Entries.{name_more, names_end, names_first}
 use Rattle.format_toml_nodes.proofs.Texts.{capped_end, capped_more, capped_small, grows_none}
 use Rattle.format_toml_nodes.proofs.Texts.{grows_put, grows_then}
 use Rattle.format_toml_nodes.proofs.links.put_entries.Goals as goal
@@ -59,14 +59,15 @@ loop-name-preserved g c =
           (ap (λ l. min (end + total name_len l) most) (sym is)
           ∙ c.loop-name.invariant.count t h);
       grows = grows_then c.loop-name.invariant.grows (grows_put puts);
-      keeps = keeps_then c.loop-name.invariant.keeps (keeps_named c.put_name.ensures);
+      keeps = keeps_then c.loop-name.invariant.keeps
+          (keeps_placed (entry_at parent c.span_of.result) c.put_position.ensures);
       found = found_more slots parent c.args.at old before e others left is
           c.loop-name.invariant.found;
       names = name_more slots parent c.args.at old before c.requires e others left is
-          c.loop-name.invariant.found _ c.loop-name.nodes c.put_name.new.nodes c.loop-name.buffer
-          end next new
+          c.loop-name.invariant.found _ c.loop-name.nodes c.put_position.new.nodes
+          c.loop-name.buffer end next new
           (subst (λ b. Fits b end c.span_of.result) c.as_bytes-bytes.ensures.value
-          c.span_of.ensures) c.put_name.ensures puts c.loop-name.invariant.names;
+          c.span_of.ensures) c.put_position.ensures puts c.loop-name.invariant.names;
     }
 
 pub returns : goal.returns

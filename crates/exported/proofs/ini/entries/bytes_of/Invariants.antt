@@ -1,8 +1,0 @@
--- The bytes of the entries so far.
-use Rattle.std.proofs.Common.{◌≡◌, length, map, take}
-use Rattle.readers.specs.Sections.{pair_text}
-use Rattle.exported.specs.Ini.{text_of}
-use Rattle.exported.proofs.ini.entries.bytes_of.Given as goal
-
-abbrev pub invariant-loop-number : goal.invariant-loop-number
-invariant-loop-number l = l.total ≡ length (text_of (take l.number (map pair_text l.found)))
