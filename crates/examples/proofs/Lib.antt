@@ -1,3 +1,4 @@
+pub mod AssignmentsLemmas
 pub mod ErrorsLemmas
 pub mod FramesLemmas
 pub mod SettingsLemmas

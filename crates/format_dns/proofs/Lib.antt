@@ -1,2 +1,10 @@
 pub mod BitRuns
+pub mod DataLaws
+pub mod FieldLaws
 pub mod HeaderRuns
+pub mod Laws
+pub mod MessageLaws
+pub mod NameLaws
+pub mod Octets
+pub mod PartLaws
+pub mod RecordLaws

@@ -1,5 +1,5 @@
 use Rattle.std.proofs.Common.{refl}
-use Rattle.examples.specs.Assignments.Read.{lines_told}
+use Rattle.examples.proofs.AssignmentsLemmas.Read.{lines_told}
 use Rattle.examples.proofs.assignments.check_assignments.Goals as goal
 
 pub returns : goal.returns

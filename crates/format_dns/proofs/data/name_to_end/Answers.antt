@@ -1,6 +1,6 @@
 use Rattle.std.proofs.Common.{refl, inr}
 use Rattle.format_dns.specs.Data.{NoLastName}
-use Rattle.format_dns.specs.DataLaws.{no_last_name}
+use Rattle.format_dns.proofs.DataLaws.{no_last_name}
 use Rattle.format_dns.specs.declared.fault.PartError.TheVariants.{Trailing}
 use Rattle.format_dns.proofs.data.name_to_end.Goals as goal
 

@@ -1,5 +1,5 @@
 use Rattle.std.proofs.Common.{arith}
-use Rattle.format_dns.specs.PartLaws.{at_from}
+use Rattle.format_dns.proofs.PartLaws.{at_from}
 use Rattle.format_dns.proofs.data.octets_to_end.Goals as goal
 
 pub returns : goal.returns

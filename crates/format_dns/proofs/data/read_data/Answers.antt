@@ -1,5 +1,5 @@
 use Rattle.std.proofs.Common.{rules}
-use Rattle.format_dns.specs.PartLaws.{at_from}
+use Rattle.format_dns.proofs.PartLaws.{at_from}
 use Rattle.format_dns.proofs.data.read_data.Goals as goal
 
 pub returns-in-Some : goal.returns-in-Some

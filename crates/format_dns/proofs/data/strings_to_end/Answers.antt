@@ -1,7 +1,7 @@
 use Rattle.std.proofs.Common.{refl, sym, arith, inl, inr}
 use Rattle.std.proofs.lemmas.Bool.{eqb-false, eqb-true}
-use Rattle.format_dns.specs.DataLaws.{no_strings, strings_fail, strings_stand}
-use Rattle.format_dns.specs.PartLaws.{at_from}
+use Rattle.format_dns.proofs.DataLaws.{no_strings, strings_fail, strings_stand}
+use Rattle.format_dns.proofs.PartLaws.{at_from}
 use Rattle.format_dns.proofs.data.strings_to_end.Goals as goal
 use Rattle.format_dns.proofs.data.strings_to_end.Goals.{
   then-is_empty-via-else-is_empty+then-not-is_empty,

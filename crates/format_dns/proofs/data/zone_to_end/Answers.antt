@@ -1,8 +1,8 @@
 use Rattle.std.proofs.Common.{refl, arith, inl, inr, ◌+◌}
 use Rattle.format_dns.specs.Data.{HasZone, NoZone}
-use Rattle.format_dns.specs.DataLaws.{no_zone}
-use Rattle.format_dns.specs.FieldLaws.{zone_length}
-use Rattle.format_dns.specs.PartLaws.{at_length, part_err}
+use Rattle.format_dns.proofs.DataLaws.{no_zone}
+use Rattle.format_dns.proofs.FieldLaws.{zone_length}
+use Rattle.format_dns.proofs.PartLaws.{at_length, part_err}
 use Rattle.format_dns.specs.declared.fault.PartError.TheVariants.{Trailing}
 use Rattle.format_dns.proofs.data.zone_to_end.Goals as goal
 

@@ -1,4 +1,4 @@
-use Rattle.format_dns.specs.PartLaws.{at_from}
+use Rattle.format_dns.proofs.PartLaws.{at_from}
 use Rattle.format_dns.proofs.fields.short_at.Goals as goal
 
 pub returns-in-Ok : goal.returns-in-Ok

@@ -1,7 +1,7 @@
 use Rattle.std.proofs.Common.{ap, ◌∙◌}
 use Rattle.winnow_core.specs.Exact.Same.{reads_as}
 use Rattle.grammars.specs.Grammar.Alike.{gathered_same, many_same}
-use Rattle.format_dns.specs.Laws.{in_range, one_says, same_sized}
+use Rattle.format_dns.proofs.Laws.{in_range, one_says, same_sized}
 use Rattle.format_dns.proofs.labels.read_labels.Goals as goal
 
 pub read_sized-requires-clause-says : goal.read_sized-requires-clause-says

@@ -1,5 +1,5 @@
 use Rattle.std.proofs.Common.{refl, inl, inr}
-use Rattle.format_dns.specs.MessageLaws.{message_err, section_err}
+use Rattle.format_dns.proofs.MessageLaws.{message_err, section_err}
 use Rattle.format_dns.specs.declared.fault.Section.TheVariants as section
 use Rattle.format_dns.proofs.message.read_message.Goals as goal
 

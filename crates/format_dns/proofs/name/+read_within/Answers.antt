@@ -1,11 +1,11 @@
 use Rattle.std.proofs.Common.{refl, rules, ap, sym, inr, arith, ◌≤◌, ◌∙◌, ◌++◌, ◌+◌, ◌-◌, ◌/◌}
 use Rattle.std.proofs.Common.{length}
-use Rattle.format_dns.specs.Laws.{put_behind, told_pointer, told_root}
-use Rattle.format_dns.specs.NameLaws.{err_further, labels_at, name_ends, name_goes_on, none_ends}
-use Rattle.format_dns.specs.NameLaws.{none_prior, octets_at, told_err, told_fault, too_long}
-use Rattle.format_dns.specs.NameLaws.{too_many}
+use Rattle.format_dns.proofs.Laws.{put_behind, told_pointer, told_root}
+use Rattle.format_dns.proofs.NameLaws.{err_further, labels_at, name_ends, name_goes_on, none_ends}
+use Rattle.format_dns.proofs.NameLaws.{none_prior, octets_at, told_err, told_fault, too_long}
+use Rattle.format_dns.proofs.NameLaws.{too_many}
 use Rattle.format_dns.specs.Names.{octets}
-use Rattle.format_dns.specs.Octets.{none_here, octets_append}
+use Rattle.format_dns.proofs.Octets.{none_here, octets_append}
 use Rattle.format_dns.proofs.name.+read_within.Goals as goal
 
 pub read_ending-requires : goal.read_ending-requires

@@ -1,5 +1,5 @@
 use Rattle.std.proofs.Common.{ap, rules, ◌+◌, ◌*◌}
-use Rattle.format_dns.specs.Laws.{ending_cut, pointer_at}
+use Rattle.format_dns.proofs.Laws.{ending_cut, pointer_at}
 use Rattle.format_dns.proofs.name.read_ending.Goals as goal
 
 pub returns-in-1-to-63 : goal.returns-in-1-to-63

@@ -1,7 +1,7 @@
 use Rattle.std.proofs.Common.{refl, sym, inl, inr, arith, ◌∙◌, ◌∷◌, []}
 use Rattle.std.proofs.Common.{length-append}
-use Rattle.format_dns.specs.Laws.{put_behind}
-use Rattle.format_dns.specs.PartLaws.{lack_questions, rows_push}
+use Rattle.format_dns.proofs.Laws.{put_behind}
+use Rattle.format_dns.proofs.PartLaws.{lack_questions, rows_push}
 use Rattle.format_dns.specs.Questions.{IsQuestion, QuestionsLack}
 use Rattle.format_dns.proofs.question.questions_in.Goals as goal
 

@@ -1,5 +1,5 @@
 use Rattle.std.proofs.Common.{inr}
-use Rattle.format_dns.specs.PartLaws.{no_question, part_err}
+use Rattle.format_dns.proofs.PartLaws.{no_question, part_err}
 use Rattle.format_dns.specs.Questions.{HasNoQuestion, IsQuestion}
 use Rattle.format_dns.proofs.question.read_question.Goals as goal
 

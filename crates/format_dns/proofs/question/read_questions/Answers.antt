@@ -1,5 +1,5 @@
 use Rattle.std.proofs.Common.{inl, inr}
-use Rattle.format_dns.specs.PartLaws.{fail_questions}
+use Rattle.format_dns.proofs.PartLaws.{fail_questions}
 use Rattle.format_dns.proofs.question.read_questions.Goals as goal
 
 pub returns-in-Err : goal.returns-in-Err

@@ -1,8 +1,8 @@
 use Rattle.std.proofs.Common.{refl, subst, arith, inl, inr, ◌≡◌, ◌+◌, ℕ, List}
 use Rattle.std.specs.Prelude.{take}
 use Rattle.format_dns.specs.Data.{IsOfForm, NoForm}
-use Rattle.format_dns.specs.PartLaws.{part_err}
-use Rattle.format_dns.specs.RecordLaws.{no_record, whole_is}
+use Rattle.format_dns.proofs.PartLaws.{part_err}
+use Rattle.format_dns.proofs.RecordLaws.{no_record, whole_is}
 use Rattle.format_dns.specs.Records.{HasNoRecord, IsRecord}
 use Rattle.format_dns.specs.declared.data.Form.{Form}
 use Rattle.format_dns.specs.declared.fault.PartError.TheVariants.{Ends}

@@ -1,5 +1,5 @@
 use Rattle.std.proofs.Common.{inl, inr}
-use Rattle.format_dns.specs.RecordLaws.{fail_records}
+use Rattle.format_dns.proofs.RecordLaws.{fail_records}
 use Rattle.format_dns.proofs.record.read_records.Goals as goal
 
 pub returns-in-Err : goal.returns-in-Err

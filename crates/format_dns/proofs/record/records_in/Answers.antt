@@ -1,8 +1,8 @@
 use Rattle.std.proofs.Common.{refl, sym, inl, inr, arith, ◌∙◌, ◌∷◌, []}
 use Rattle.std.proofs.Common.{length-append}
-use Rattle.format_dns.specs.Laws.{put_behind}
-use Rattle.format_dns.specs.PartLaws.{rows_push}
-use Rattle.format_dns.specs.RecordLaws.{lack_records}
+use Rattle.format_dns.proofs.Laws.{put_behind}
+use Rattle.format_dns.proofs.PartLaws.{rows_push}
+use Rattle.format_dns.proofs.RecordLaws.{lack_records}
 use Rattle.format_dns.specs.Records.{IsRecord, RecordsLack}
 use Rattle.format_dns.proofs.record.records_in.Goals as goal
 

@@ -7,9 +7,9 @@ use Rattle.std.proofs.Common.{refl, sym, ap, subst, inl, inr, ◌∙◌, arith}
 use Rattle.examples.specs.Assignments.Assignments.{AreLines, HasValue, IsFlag, IsSetting}
 use Rattle.examples.specs.Assignments.Assignments.{IsErrorOfLines}
 use Rattle.examples.specs.Assignments.Assignments.{LacksValue, Line, Name, NoValue}
-use Rattle.examples.specs.Assignments.Parts.{byte1, class1, Gives, Known, after, byte_back}
-use Rattle.examples.specs.Assignments.Parts.{byte_fails, byte_there, class_back, class_fails}
-use Rattle.examples.specs.Assignments.Parts.{class_there, comes, one, some_takes}
+use Rattle.examples.proofs.AssignmentsLemmas.Parts.{byte1, class1, Gives, Known, after, byte_back}
+use Rattle.examples.proofs.AssignmentsLemmas.Parts.{byte_fails, byte_there, class_back, class_fails}
+use Rattle.examples.proofs.AssignmentsLemmas.Parts.{class_there, comes, one, some_takes}
 use Rattle.examples.specs.Assignments.Says.{LineSays, LinesSay}
 use Rattle.winnow.specs.Accumulator.{nothing_kept}
 use Rattle.winnow.specs.Alt.Says.{or_else_said}

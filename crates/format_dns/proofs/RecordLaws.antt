@@ -6,12 +6,12 @@ use Rattle.grammars.specs.Grammar.Lengths.{same_beginnings}
 use Rattle.winnow_integers.specs.Integer.{value_of}
 use Rattle.winnow_integers.specs.Integer.Written.{length_written, written_value}
 use Rattle.format_dns.specs.Data.{NoForm, form_in}
-use Rattle.format_dns.specs.DataLaws.{no_form}
-use Rattle.format_dns.specs.FieldLaws.{record_length}
+use Rattle.format_dns.proofs.DataLaws.{no_form}
+use Rattle.format_dns.proofs.FieldLaws.{record_length}
 use Rattle.format_dns.specs.Fields.{AreRecordFields, IsField}
-use Rattle.format_dns.specs.NameLaws.{no_name, one_behind, one_place}
+use Rattle.format_dns.proofs.NameLaws.{no_name, one_behind, one_place}
 use Rattle.format_dns.specs.Names.{At}
-use Rattle.format_dns.specs.PartLaws.{at_length, lack_fails, rows_none}
+use Rattle.format_dns.proofs.PartLaws.{at_length, lack_fails, rows_none}
 use Rattle.format_dns.specs.Records.{AreRecords, HasNoRecord, HaveNoRecords, IsRecord}
 use Rattle.format_dns.specs.Records.{RecordsLack}
 use Rattle.format_dns.specs.declared.fault.PartError.{PartError}

@@ -11,11 +11,11 @@ use Rattle.grammars.specs.Grammar.Unique.{many_unique}
 use Rattle.format_dns.specs.Data.{AreStrings, HasMail, HasOtherSize, HasService, HasZone}
 use Rattle.format_dns.specs.Data.{IsLastName, IsOfForm, NoForm, NoLastName, NoMail}
 use Rattle.format_dns.specs.Data.{IsDataAt, NoService, NoStrings, NoZone, form_of_data}
-use Rattle.format_dns.specs.FieldLaws.{field_length, service_length, zone_length}
-use Rattle.format_dns.specs.Laws.{sized_unique}
-use Rattle.format_dns.specs.NameLaws.{no_name, one_behind, one_place}
+use Rattle.format_dns.proofs.FieldLaws.{field_length, service_length, zone_length}
+use Rattle.format_dns.proofs.Laws.{sized_unique}
+use Rattle.format_dns.proofs.NameLaws.{no_name, one_behind, one_place}
 use Rattle.format_dns.specs.Names.{At, IsName, IsString, Label}
-use Rattle.format_dns.specs.PartLaws.{at_length}
+use Rattle.format_dns.proofs.PartLaws.{at_length}
 use Rattle.format_dns.specs.declared.data.Data.{Data}
 use Rattle.format_dns.specs.declared.data.Data.TheVariants.{Ipv4, Ipv6, MailExchange, Name, Other}
 use Rattle.format_dns.specs.declared.data.Data.TheVariants.{Service, StartOfAuthority, Text}

@@ -5,15 +5,15 @@ use Rattle.std.specs.Result.{IsErrAnd}
 use Rattle.std.proofs.Common.{refl, sym, ap, subst, inl, inr, ◌∙◌, arith}
 use Rattle.std.proofs.lemmas.List.{take_all}
 use Rattle.streams.specs.Equal.{same_others}
-use Rattle.format_dns.specs.FieldLaws.{field_length}
+use Rattle.format_dns.proofs.FieldLaws.{field_length}
 use Rattle.format_dns.specs.Fields.{IsField}
 use Rattle.format_dns.specs.Header.{AreCounts, IsHeader, IsNumber}
 use Rattle.format_dns.specs.Messages.{HasNoMessage, IsMessage, MessageResult, StartsWithHeader}
 use Rattle.format_dns.specs.Messages.{QuestionsTo, RecordsTo, SectionLacks, SectionStops}
 use Rattle.format_dns.specs.Messages.{SectionWants, WantsMessage}
-use Rattle.format_dns.specs.PartLaws.{lack_questions, one_question, rows_end}
+use Rattle.format_dns.proofs.PartLaws.{lack_questions, one_question, rows_end}
 use Rattle.format_dns.specs.Questions.{AreQuestions, IsQuestion, QuestionsLack, QuestionsWant}
-use Rattle.format_dns.specs.RecordLaws.{lack_records, one_field, one_record}
+use Rattle.format_dns.proofs.RecordLaws.{lack_records, one_field, one_record}
 use Rattle.format_dns.specs.Records.{AreRecords, IsRecord, RecordsLack, RecordsWant}
 use Rattle.format_dns.specs.declared.fault.PartError.{PartError}
 use Rattle.format_dns.specs.declared.fault.MessageError.{MessageError}

@@ -15,13 +15,13 @@ use Rattle.grammars.specs.Grammar.Unique.{many_unique}
 use Rattle.format_dns.specs.Names.{AreLabels, At, FaultBy, HasNoName, IsNameEnding, IsNoNameEnding}
 use Rattle.format_dns.specs.Names.{HasMore, IsLabel, IsName, IsPointer, IsRoot, Label, NameBy}
 use Rattle.format_dns.specs.Names.{NameWithin, NoEnding, octets}
-use Rattle.format_dns.specs.Octets.{each_here, none_here, octets_append, octets_each}
-use Rattle.format_dns.specs.Octets.{octets_least, octets_most}
+use Rattle.format_dns.proofs.Octets.{each_here, none_here, octets_append, octets_each}
+use Rattle.format_dns.proofs.Octets.{octets_least, octets_most}
 use Rattle.format_dns.specs.declared.fault.PartError.{PartError}
 use Rattle.format_dns.specs.declared.fault.PartError.TheVariants.{NoMemory, NotPrior, TooLong}
 use Rattle.format_dns.specs.declared.fault.PartError.TheVariants.{TooMany}
 use Rattle.format_dns.specs.declared.name.Name.{Name}
-use Rattle.format_dns.specs.Laws.{LabelsRead, goes_one, label_unique, root_pointer}
+use Rattle.format_dns.proofs.Laws.{LabelsRead, goes_one, label_unique, root_pointer}
 
 -- ---- either one name or an error
 

@@ -6,8 +6,8 @@ use Rattle.std.specs.Result.{IsErrAnd}
 use Rattle.std.proofs.Common.{refl, sym, ap, subst, inl, inr, ◌∙◌, arith, length-append}
 use Rattle.std.proofs.Common.{length-drop}
 use Rattle.std.proofs.lemmas.List.{length-take-le, take-append-drop, take_all}
-use Rattle.format_dns.specs.FieldLaws.{asked_length}
-use Rattle.format_dns.specs.NameLaws.{no_name, one_behind}
+use Rattle.format_dns.proofs.FieldLaws.{asked_length}
+use Rattle.format_dns.proofs.NameLaws.{no_name, one_behind}
 use Rattle.format_dns.specs.Names.{At}
 use Rattle.format_dns.specs.Questions.{AreQuestions, HasNoQuestion, HaveNoQuestions, IsQuestion}
 use Rattle.format_dns.specs.Questions.{PartResult, QuestionsLack, Rows, RowsFail, RowsLack}
