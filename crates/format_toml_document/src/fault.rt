@@ -59,8 +59,8 @@ impl Display for Location {
 pub enum TomlError {
     /// A syntax error: no document of the level starts with the text up to the position and the
     /// character there, or the text ends there and is incomplete. Some document starts with the
-    /// text up to the position. This error comes first, also if an earlier line defines a key
-    /// twice.
+    /// text up to the position, if it has fewer than 2^58 characters. This error comes first, also
+    /// if an earlier line defines a key twice.
     Unexpected {
         /// The position of that character, or the end of the text.
         at: Location,

@@ -90,10 +90,16 @@ pub fn the_walk_accepts_only_documents<A: Allocator>()
 /// the walk stops at the first character with which no document continues.
 ///
 /// ```
+/// ghost use Rattle.format_toml_document.specs.Fault.{OneBegins};
+/// ghost use Rattle.std.specs.Prelude.{◌∷◌, []};
 /// use format_toml_document::laws::a_document_begins_with_accepted_characters;
 /// use std::alloc::Allocator;
 ///
-/// fn of_an_allocator<A: Allocator>() {
+/// // Some document begins with `a=[`, by the clause of the law: `.ensures 1 alloc` of these
+/// // characters, `refl`, `omega arith` and `(omega arith, tt)`.
+/// fn an_array_may_be_open<A: Allocator>(alloc: A)
+///     ensures { OneBegins A 1 (97 ∷ 61 ∷ 91 ∷ []) }
+/// {
 ///     a_document_begins_with_accepted_characters::<A>();
 /// }
 /// ```
