@@ -1,4 +1,4 @@
--- What is written for a command, and which replies are not written.
+-- The encoding of a command, the shapes of replies, and the replies that are not written.
 use Rattle.std.specs.Prelude.{◌≡◌, ◌⊎◌, ⊤, ℕ, zero, suc, List, [], ◌∷◌, ◌++◌, length, Contains}
 use Rattle.std.specs.Borrow.{Bor}
 use Rattle.std.specs.Fmt.{decimal}
@@ -81,7 +81,7 @@ module _ {A : Type 0} where
       (mark : AggregateMark) × (list : Vec (Replies A) A) × IsOf mark list reply
       × (element : Replies A) × Contains list.items element × such element
 
-  -- such a reply, or one in which such a one is, within no more than that many aggregates
+  -- such a reply, or one that contains such a reply within at most `level` aggregates
   unfoldable pub IsOrHas : (Replies A → Type 0) → ℕ → Replies A → Type 0
   IsOrHas such zero reply = such reply
   IsOrHas such (suc level) reply = such reply ⊎ HasElement (IsOrHas such level) reply

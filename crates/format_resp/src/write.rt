@@ -60,7 +60,7 @@ impl From<AllocError> for WriteError {
     }
 }
 
-/// What is written for a reply, by its mark.
+/// A reply by what is written for it.
 #[derive(Drop)]
 pub(crate) enum Shape<'r, 'b, A: Allocator> {
     /// A line of the reply's bytes, which may be invalid.
@@ -82,7 +82,7 @@ fn boolean_text(boolean: bool) -> &'static [u8]
     if boolean { b"t" } else { b"f" }
 }
 
-/// Returns what is written for a reply.
+/// Returns the shape of a reply.
 fn shape_of<'r, 'b, A: Allocator>(reply: &'r Reply<&'b [u8], A>) -> Shape<'r, 'b, A>
     ensures { IsShape reply.now result }
 {
@@ -109,7 +109,7 @@ fn shape_of<'r, 'b, A: Allocator>(reply: &'r Reply<&'b [u8], A>) -> Shape<'r, 'b
     }
 }
 
-/// Returns the mark of a reply by what is written for it.
+/// Returns the mark of a reply by its shape.
 fn mark_in<A: Allocator>(shape: &Shape<'_, '_, A>) -> Mark
     ensures { result ≡ shape_mark shape.now }
 {
