@@ -1,4 +1,1 @@
 pub mod ErrorResults
-pub mod Gaps
-pub mod Laid
-pub mod Put

@@ -34,7 +34,6 @@
 #![tactic(auto)]
 
 pub mod fault;
-mod layout;
 pub mod number;
 pub mod read;
 pub mod write;

@@ -1,18 +1,18 @@
 //! Values as text.
 ghost use Rattle.format_json.specs.Fault.{write_fault};
-ghost use Rattle.format_json.specs.Layout.{LaidValue};
 ghost use Rattle.format_json.specs.declared.fault.JsonWriteError.TheVariants.{NoMemory};
 ghost use Rattle.format_json_texts.specs.Values.{ValueText};
-ghost use Rattle.format_json_writer.specs.Compact.{CompactValue};
+ghost use Rattle.format_json_writer.specs.Layout.{CompactValue, LaidValue};
 ghost use Rattle.format_json_writer.specs.Refused.{HasNoText, IsRefused};
 ghost use Rattle.format_json_writer.specs.declared.error.WriteError.{WriteError};
+ghost use Rattle.format_json_writer.specs.declared.layout.Layout.TheVariants.{Lines};
 ghost use Rattle.std.specs.Prelude.{◌≡◌, ◌⊎◌, IfErr, IfOk, string_bytes};
 ghost use Rattle.std.specs.Str.{chars};
 ghost use Rattle.stream_sets.specs.Accumulator.Holds.{HasCharacters};
 
 use crate::fault::JsonWriteError;
-use crate::layout::{Indent, write_pretty};
 use format_json_texts::value::Value;
+use format_json_writer::layout::Layout;
 use format_json_writer::value as writer;
 use std::alloc::Allocator;
 
@@ -72,7 +72,7 @@ pub fn to_text_pretty<A: Allocator, B: Allocator>(
     indent: usize,
     value: &Value<A>,
 ) -> Result<String<B>, JsonWriteError>
-    ensures written { IfOk result (λ text. LaidValue indent level 0 value.now
+    ensures written { IfOk result (λ text. LaidValue (Lines 0 indent) level value.now
         (chars (string_bytes text))) }
     ensures text { IfOk result (λ text. ValueText HasCharacters level value.now
         (chars (string_bytes text))) }
@@ -80,16 +80,12 @@ pub fn to_text_pretty<A: Allocator, B: Allocator>(
     ensures refused { IfErr result (λ e. (w : WriteError) × (e ≡ write_fault w)
         × IsRefused level value.now w) }
 {
-    let mut text = String::new(alloc);
-    let indent = Indent {
+    let layout = Layout::Lines {
         now: 0,
         step: indent,
     };
-    match write_pretty(level, indent, value, &mut text) {
-        Ok(()) => {
-            let _written = text.as_str();
-            Ok(text)
-        }
+    match writer::to_text_with(alloc, level, layout, value) {
+        Ok(text) => Ok(text),
         Err(error) => Err(JsonWriteError::of(error)),
     }
 }

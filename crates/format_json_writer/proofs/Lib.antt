@@ -1,0 +1,12 @@
+pub mod Adding
+pub mod Agreed
+pub mod Back
+pub mod Built
+pub mod Canonical
+pub mod Digits
+pub mod Equivalent
+pub mod Inside
+pub mod Laid
+pub mod Pushed
+pub mod Refusals
+pub mod Within

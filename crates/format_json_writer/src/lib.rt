@@ -2,7 +2,7 @@
 //!
 //! Choices where the standard permits several texts for one value:
 //!
-//! - There is no whitespace (section 2).
+//! - There is no whitespace (section 2), unless a [`Layout`](layout::Layout) asks for lines.
 //! - Strings are escaped as in RFC 8785 (section 3.2.2.2): only where they must be.
 //! - A number is written as it is in the value, and the members of an object in their order,
 //!   including those with the same name. So the text need not be that of RFC 8785.
@@ -12,6 +12,7 @@
 
 pub mod error;
 pub mod laws;
+pub mod layout;
 mod nested;
 mod number;
 pub mod string;

@@ -1,15 +1,14 @@
 //! Values of JSON, nested to a level, as text (RFC 8259, sections 2 to 7).
 ghost use Rattle.format_json_texts.specs.Values.{WordText};
-ghost use Rattle.format_parts.specs.Words.{One};
 ghost use Rattle.format_json_texts.specs.declared.value.Value as values;
 ghost use Rattle.format_json_writer.specs.Added.{Adds, Keeps};
-ghost use Rattle.format_json_writer.specs.Compact.{CompactMember, CompactValue};
+ghost use Rattle.format_json_writer.specs.Layout.{LaidItems, LaidMember, LaidValue};
 ghost use Rattle.format_json_writer.specs.Refused.{IsRefused, IsRefusedAmong};
 ghost use Rattle.format_json_writer.specs.declared.error.WriteError.TheVariants.{Memory};
 ghost use Rattle.std.specs.Prelude.{◌≡◌, ◌++◌, IfErr, OnOk, string_bytes};
-ghost use Rattle.grammars.specs.Texts.{PartedText};
 
 use crate::error::WriteError;
+use crate::layout::{Layout, deeper, put_line, put_line_in, put_space};
 use crate::number::write_number;
 use crate::string::write_string;
 use format_json_texts::value::Value;
@@ -43,10 +42,11 @@ fn write_word<B: Allocator>(word: Option<bool>, into: &mut String<B>) -> Result<
 #[cycle(write)]
 fn write_items<A: Allocator, B: Allocator>(
     level: usize,
+    layout: Layout,
     items: &[Value<A>],
     into: &mut String<B>,
 ) -> Result<(), WriteError>
-    ensures written { OnOk result (Adds (PartedText (One 44) (CompactValue level)) items.now
+    ensures written { OnOk result (Adds (LaidItems layout (LaidValue layout level)) items.now
         (string_bytes into.old) (string_bytes into.new)) }
     ensures refused { IfErr result (IsRefusedAmong (λ v. v) level items.now) }
     ensures kept { Keeps (string_bytes into.old) (string_bytes into.new) }
@@ -54,10 +54,11 @@ fn write_items<A: Allocator, B: Allocator>(
     match items.split_first() {
         None => Ok(()),
         Some((first, rest)) => {
-            write_nested(level, first, into)?;
+            write_nested(level, layout, first, into)?;
             for item in rest {
                 into.push(',')?;
-                write_nested(level, item, into)?;
+                put_line(layout, into)?;
+                write_nested(level, layout, item, into)?;
             }
             Ok(())
         }
@@ -68,10 +69,11 @@ fn write_items<A: Allocator, B: Allocator>(
 #[cycle(write)]
 fn write_array<A: Allocator, B: Allocator>(
     level: usize,
+    layout: Layout,
     items: &Vec<Value<A>, A>,
     into: &mut String<B>,
 ) -> Result<(), WriteError>
-    ensures written { OnOk result (Adds (CompactValue level) (values.Array items.now)
+    ensures written { OnOk result (Adds (LaidValue layout level) (values.Array items.now)
         (string_bytes into.old) (string_bytes into.new)) }
     ensures refused { IfErr result (IsRefused level (values.Array items.now)) }
     ensures kept { Keeps (string_bytes into.old) (string_bytes into.new) }
@@ -79,8 +81,12 @@ fn write_array<A: Allocator, B: Allocator>(
     if level == 0 {
         return Err(WriteError::Level);
     }
+    let inner = deeper(layout)?;
+    let list = items.as_slice();
     into.push('[')?;
-    write_items(level - 1, items.as_slice(), into)?;
+    put_line_in(list, inner, into)?;
+    write_items(level - 1, inner, list, into)?;
+    put_line_in(list, layout, into)?;
     into.push(']')?;
     Ok(())
 }
@@ -89,10 +95,11 @@ fn write_array<A: Allocator, B: Allocator>(
 #[cycle(write)]
 fn write_member<A: Allocator, B: Allocator>(
     level: usize,
+    layout: Layout,
     member: &(String<A>, Value<A>),
     into: &mut String<B>,
 ) -> Result<(), WriteError>
-    ensures written { OnOk result (Adds (CompactMember (CompactValue level)) member.now
+    ensures written { OnOk result (Adds (LaidMember layout (LaidValue layout level)) member.now
         (string_bytes into.old) (string_bytes into.new)) }
     ensures refused { IfErr result (IsRefused level member.now.1) }
     ensures kept { Keeps (string_bytes into.old) (string_bytes into.new) }
@@ -100,28 +107,31 @@ fn write_member<A: Allocator, B: Allocator>(
     let (name, value) = member;
     write_string(name.as_str(), into)?;
     into.push(':')?;
-    write_nested(level, value, into)
+    put_space(layout, into)?;
+    write_nested(level, layout, value, into)
 }
 
 /// Appends members, separated by commas.
 #[cycle(write)]
 fn write_members<A: Allocator, B: Allocator>(
     level: usize,
+    layout: Layout,
     members: &[(String<A>, Value<A>)],
     into: &mut String<B>,
 ) -> Result<(), WriteError>
-    ensures written { OnOk result (Adds (PartedText (One 44) (CompactMember (CompactValue level)))
-        members.now (string_bytes into.old) (string_bytes into.new)) }
+    ensures written { OnOk result (Adds (LaidItems layout (LaidMember layout
+        (LaidValue layout level))) members.now (string_bytes into.old) (string_bytes into.new)) }
     ensures refused { IfErr result (IsRefusedAmong (λ m. m.1) level members.now) }
     ensures kept { Keeps (string_bytes into.old) (string_bytes into.new) }
 {
     match members.split_first() {
         None => Ok(()),
         Some((first, rest)) => {
-            write_member(level, first, into)?;
+            write_member(level, layout, first, into)?;
             for member in rest {
                 into.push(',')?;
-                write_member(level, member, into)?;
+                put_line(layout, into)?;
+                write_member(level, layout, member, into)?;
             }
             Ok(())
         }
@@ -132,10 +142,11 @@ fn write_members<A: Allocator, B: Allocator>(
 #[cycle(write)]
 fn write_object<A: Allocator, B: Allocator>(
     level: usize,
+    layout: Layout,
     members: &Vec<(String<A>, Value<A>), A>,
     into: &mut String<B>,
 ) -> Result<(), WriteError>
-    ensures written { OnOk result (Adds (CompactValue level) (values.Object members.now)
+    ensures written { OnOk result (Adds (LaidValue layout level) (values.Object members.now)
         (string_bytes into.old) (string_bytes into.new)) }
     ensures refused { IfErr result (IsRefused level (values.Object members.now)) }
     ensures kept { Keeps (string_bytes into.old) (string_bytes into.new) }
@@ -143,8 +154,12 @@ fn write_object<A: Allocator, B: Allocator>(
     if level == 0 {
         return Err(WriteError::Level);
     }
+    let inner = deeper(layout)?;
+    let list = members.as_slice();
     into.push('{')?;
-    write_members(level - 1, members.as_slice(), into)?;
+    put_line_in(list, inner, into)?;
+    write_members(level - 1, inner, list, into)?;
+    put_line_in(list, layout, into)?;
     into.push('}')?;
     Ok(())
 }
@@ -153,10 +168,11 @@ fn write_object<A: Allocator, B: Allocator>(
 #[cycle(write)]
 pub fn write_nested<A: Allocator, B: Allocator>(
     level: usize,
+    layout: Layout,
     value: &Value<A>,
     into: &mut String<B>,
 ) -> Result<(), WriteError>
-    ensures written { OnOk result (Adds (CompactValue level) value.now (string_bytes into.old)
+    ensures written { OnOk result (Adds (LaidValue layout level) value.now (string_bytes into.old)
         (string_bytes into.new)) }
     ensures refused { IfErr result (IsRefused level value.now) }
     ensures kept { Keeps (string_bytes into.old) (string_bytes into.new) }
@@ -169,7 +185,7 @@ pub fn write_nested<A: Allocator, B: Allocator>(
             write_string(text.as_str(), into)?;
             Ok(())
         }
-        Value::Array(items) => write_array(level, items, into),
-        Value::Object(members) => write_object(level, members, into),
+        Value::Array(items) => write_array(level, layout, items, into),
+        Value::Object(members) => write_object(level, layout, members, into),
     }
 }

@@ -1,8 +1,7 @@
 //! Numbers of JSON as text (RFC 8259, section 6).
 ghost use Rattle.format_json_texts.specs.Number.{NumberText};
 ghost use Rattle.format_parts.specs.Words.{Slice};
-ghost use Rattle.format_json_writer.specs.Added.{Keeps};
-ghost use Rattle.format_json_writer.specs.Built.{PutsNumber};
+ghost use Rattle.format_json_writer.specs.Added.{Keeps, PutsNumber};
 ghost use Rattle.format_json_writer.specs.Refused.{IsNoNumber};
 ghost use Rattle.std.specs.Prelude.{◌≡◌, [], false, IfErr, IsTrue, OnOk, string_bytes};
 ghost use Rattle.std.specs.Str.{chars};

@@ -2,7 +2,7 @@
 ghost use Rattle.format_json_texts.specs.Values.{ValueText};
 ghost use Rattle.format_json_writer.specs.Added.{Adds, Keeps};
 ghost use Rattle.format_json_writer.specs.Alike.{AreAlike};
-ghost use Rattle.format_json_writer.specs.Compact.{CompactValue};
+ghost use Rattle.format_json_writer.specs.Layout.{CompactValue, LaidValue};
 ghost use Rattle.format_json_writer.specs.Refused.{HasNoText, IsRefused};
 ghost use Rattle.format_json_writer.specs.declared.error.WriteError.TheVariants.{Memory};
 ghost use Rattle.std.specs.Prelude.{◌≡◌, ◌⊎◌, IfErr, IfOk, OnOk, string_bytes};
@@ -10,6 +10,7 @@ ghost use Rattle.std.specs.Str.{chars};
 ghost use Rattle.stream_sets.specs.Accumulator.Holds.{HasCharacters};
 
 use crate::error::WriteError;
+use crate::layout::Layout;
 use crate::nested::write_nested;
 use format_json_texts::value::Value;
 use format_json_values::value::parse_value;
@@ -55,7 +56,41 @@ pub fn write_value<A: Allocator, B: Allocator>(
     ensures none { IfErr result (λ e. (e ≡ Memory) ⊎ HasNoText level value.now) }
     ensures kept { Keeps (string_bytes into.old) (string_bytes into.new) }
 {
-    write_nested(level, value, into)
+    write_value_with(level, Layout::Compact, value, into)
+}
+
+/// Like [`write_value`], with the whitespace of `layout`. Indentation of more spaces than `usize`
+/// can count is out of memory.
+///
+/// ```
+/// use format_json_values::value::parse_value;
+/// use format_json_writer::layout::Layout;
+/// use format_json_writer::value::write_value_with;
+///
+/// let Ok(value) = parse_value(alloc, 2, "{\"a\":[1.50,null],\"b\":[]}") else {
+///     return;
+/// };
+/// let mut into = String::from_str(alloc, "x = ").unwrap();
+/// let lines = Layout::Lines { now: 0, step: 2 };
+/// assert!(rt; write_value_with(2, lines, &value, &mut into).is_ok());
+/// let written = "x = {\n  \"a\": [\n    1.50,\n    null\n  ],\n  \"b\": []\n}";
+/// assert_eq!(rt; into.as_str(), written);
+/// ```
+pub fn write_value_with<A: Allocator, B: Allocator>(
+    level: usize,
+    layout: Layout,
+    value: &Value<A>,
+    into: &mut String<B>,
+) -> Result<(), WriteError>
+    ensures written { OnOk result (Adds (LaidValue layout level) value.now (string_bytes into.old)
+        (string_bytes into.new)) }
+    ensures text { OnOk result (Adds (ValueText HasCharacters level) value.now
+        (string_bytes into.old) (string_bytes into.new)) }
+    ensures refused { IfErr result (IsRefused level value.now) }
+    ensures none { IfErr result (λ e. (e ≡ Memory) ⊎ HasNoText level value.now) }
+    ensures kept { Keeps (string_bytes into.old) (string_bytes into.new) }
+{
+    write_nested(level, layout, value, into)
 }
 
 /// Returns the text of a value whose arrays and objects are nested at most `level` deep, as
@@ -87,8 +122,37 @@ pub fn to_text<A: Allocator, B: Allocator>(
     ensures refused { IfErr result (IsRefused level value.now) }
     ensures none { IfErr result (λ e. (e ≡ Memory) ⊎ HasNoText level value.now) }
 {
+    to_text_with(alloc, level, Layout::Compact, value)
+}
+
+/// Like [`to_text`], with the whitespace of `layout`, as [`write_value_with`] writes it.
+///
+/// ```
+/// use format_json_values::value::parse_value;
+/// use format_json_writer::layout::Layout;
+/// use format_json_writer::value::to_text_with;
+///
+/// let Ok(value) = parse_value(alloc, 1, "[1,{}]") else {
+///     return;
+/// };
+/// let text = to_text_with(alloc, 2, Layout::Lines { now: 0, step: 4 }, &value);
+/// assert!(rt; matches!(text, Ok(text) if text.as_str() == "[\n    1,\n    {}\n]"));
+/// ```
+pub fn to_text_with<A: Allocator, B: Allocator>(
+    alloc: B,
+    level: usize,
+    layout: Layout,
+    value: &Value<A>,
+) -> Result<String<B>, WriteError>
+    ensures written { IfOk result (λ text. LaidValue layout level value.now
+        (chars (string_bytes text))) }
+    ensures text { IfOk result (λ text. ValueText HasCharacters level value.now
+        (chars (string_bytes text))) }
+    ensures refused { IfErr result (IsRefused level value.now) }
+    ensures none { IfErr result (λ e. (e ≡ Memory) ⊎ HasNoText level value.now) }
+{
     let mut text = String::new(alloc);
-    write_value(level, value, &mut text)?;
+    write_value_with(level, layout, value, &mut text)?;
     let _written = text.as_str();
     Ok(text)
 }

@@ -1,6 +1,6 @@
 use Rattle.std.proofs.Common.{rules}
 use Rattle.std.proofs.lemmas.Result.{on_ok_weaker}
-use Rattle.format_json_writer.specs.Built.{false_word, null_word, true_word}
+use Rattle.format_json_writer.proofs.Built.{false_word, null_word, true_word}
 use Rattle.format_json_writer.proofs.nested.write_word.Goals as goal
 
 pub returns-in-None-clause-written : goal.returns-in-None-clause-written

@@ -1,5 +1,5 @@
 use Rattle.std.proofs.Common.{inr, refl, rules}
-use Rattle.format_json_writer.specs.Digits.{number_none, number_part, number_whole}
+use Rattle.format_json_writer.proofs.Digits.{number_none, number_part, number_whole}
 use Rattle.format_json_writer.proofs.number.check_number.Goals as goal
 
 pub returns-then-is_read-clause-is : goal.returns-then-is_read-clause-is

@@ -1,4 +1,4 @@
-use Rattle.format_json_writer.specs.Digits.{all_read, some_left}
+use Rattle.format_json_writer.proofs.Digits.{all_read, some_left}
 use Rattle.format_json_writer.proofs.number.is_read.Goals as goal
 
 pub returns-clause-yes : goal.returns-clause-yes

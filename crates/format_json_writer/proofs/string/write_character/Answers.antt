@@ -1,6 +1,6 @@
 use Rattle.std.proofs.Common.{arith}
 use Rattle.std.proofs.lemmas.Result.{on_ok_weaker}
-use Rattle.format_json_writer.specs.Pushed.{escape_pushed, plain_pushed, where_ok}
+use Rattle.format_json_writer.proofs.Pushed.{escape_pushed, plain_pushed, where_ok}
 use Rattle.format_json_writer.proofs.string.write_character.Goals as goal
 
 pub returns-in-Some-clause-written : goal.returns-in-Some-clause-written

@@ -1,5 +1,5 @@
 use Rattle.std.proofs.lemmas.Result.{on_ok_weaker}
-use Rattle.format_json_writer.specs.Pushed.{number_pushed, where_ok}
+use Rattle.format_json_writer.proofs.Pushed.{number_pushed, where_ok}
 use Rattle.format_json_writer.proofs.string.write_number.Goals as goal
 
 pub returns-clause-written : goal.returns-clause-written

@@ -1,8 +1,8 @@
 use Rattle.std.proofs.lemmas.Result.{on_ok_weaker}
 use Rattle.std.proofs.lemmas.Str.{IsUtf8-past_char}
-use Rattle.format_json_writer.specs.Added.{keeps_trans}
-use Rattle.format_json_writer.specs.Pushed.{none_left, one_more, string_added, string_pushed}
-use Rattle.format_json_writer.specs.Pushed.{where_ok}
+use Rattle.format_json_writer.proofs.Adding.{keeps_trans}
+use Rattle.format_json_writer.proofs.Pushed.{none_left, one_more, string_added, string_pushed}
+use Rattle.format_json_writer.proofs.Pushed.{where_ok}
 use Rattle.format_json_writer.proofs.string.write_string.Goals as goal
 
 pub loop-c-preserved : goal.loop-c-preserved

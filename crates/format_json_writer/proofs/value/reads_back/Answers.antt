@@ -1,7 +1,7 @@
 use Rattle.std.proofs.Common.{sym, ◌∙◌}
 use Rattle.streams.specs.Equal.{true_is_false}
-use Rattle.format_json_writer.specs.Back.{read_alike, read_wants}
-use Rattle.format_json_writer.specs.Refused.{if_error}
+use Rattle.format_json_writer.proofs.Back.{read_alike, read_wants}
+use Rattle.format_json_writer.proofs.Refusals.{if_error}
 use Rattle.format_json_writer.proofs.value.reads_back.Goals as goal
 
 pub returns-clause-alike : goal.returns-clause-alike

@@ -5,6 +5,7 @@ use Rattle.std.proofs.Common.{sym, subst, inl, inr, ◌∙◌}
 use Rattle.std.proofs.lemmas.List.{append_cancel_right}
 use Rattle.stream_sets.specs.Range.{from_to}
 use Rattle.format_parts.specs.Words.{former, latter}
+use Rattle.format_json_writer.specs.Alike.{ArePairwise}
 use Rattle.grammars.specs.Grammar.{Both, Each, Either, Gathered, Grammar, IsUnique, Made}
 use Rattle.grammars.specs.Grammar.{Many, NoMatch, Parted, Stops, Three}
 use Rattle.grammars.specs.Grammar.Meaning.{Meaning}
@@ -14,13 +15,6 @@ use Rattle.grammars.specs.Grammar.Unique.{both_unique}
 pub record Agrees {O : Type 0} (alike : O → O → Type 0) (grammar : Grammar ℕ O) : Type 0 where
   pub one : (tokens : List ℕ) (o p : O) (rest other : List ℕ) → grammar tokens o rest
       → grammar tokens p other → alike o p
-
--- lists of the same length whose items are pairwise equivalent
-abbrev pub ArePairwise : {O : Type 0} → (O → O → Type 0) → List O → List O → Type 0
-ArePairwise alike [] [] = ⊤
-ArePairwise alike [] (p ∷ ps) = ⊥
-ArePairwise alike (o ∷ os) [] = ⊥
-ArePairwise alike (o ∷ os) (p ∷ ps) = alike o p × ArePairwise alike os ps
 
 pub one_beginning : {tokens : List ℕ} (f g rest more : List ℕ) → tokens ≡ f ++ rest
     → tokens ≡ g ++ more → rest ≡ more → f ≡ g

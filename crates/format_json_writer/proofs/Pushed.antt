@@ -11,10 +11,12 @@ use Rattle.std.proofs.lemmas.List.{append-nil, nil_from_length}
 use Rattle.std.proofs.lemmas.Str.{chars-nil, chars_past_char, encodes-chars}
 use Rattle.format_json_texts.specs.Strings.{IsUnescaped, StringText}
 use Rattle.format_parts.specs.Words.{In, Whichever, former, latter}
-use Rattle.format_json_writer.specs.Added.{Adds, adds_more, adds_none, adds_then, one_added}
+use Rattle.format_json_writer.specs.Added.{Adds}
+use Rattle.format_json_writer.proofs.Adding.{adds_more, adds_none, adds_then, one_added}
 use Rattle.format_json_writer.specs.Strings.{CanonicalCharacter, CanonicalString, Escapes}
 use Rattle.format_json_writer.specs.Strings.{IsSmallHex}
-use Rattle.format_json_writer.specs.Strings.{SmallUnit, string_canonical}
+use Rattle.format_json_writer.specs.Strings.{SmallUnit}
+use Rattle.format_json_writer.proofs.Canonical.{string_canonical}
 use Rattle.stream_sets.specs.Accumulator.Holds.{HasCharacters}
 use Rattle.grammars.specs.Texts.{BothText, EachText, EitherText, MadeText, Spelled}
 

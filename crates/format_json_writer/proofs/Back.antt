@@ -7,8 +7,9 @@ use Rattle.streams.specs.declared.needed.Needed.{Needed}
 use Rattle.stream_errors.specs.declared.fault.ParseFault.{ParseFault}
 use Rattle.format_json_texts.specs.Values.{JsonText, ValueText}
 use Rattle.format_json_texts.specs.declared.value.Value.{Value}
-use Rattle.format_json_writer.specs.Alike.{AreAlike, texts_alike}
-use Rattle.format_json_writer.specs.Within.{IsWithin, within_alone, within_refl, within_spaced}
+use Rattle.format_json_writer.specs.Alike.{AreAlike}
+use Rattle.format_json_writer.proofs.Equivalent.{texts_alike}
+use Rattle.format_json_writer.proofs.Within.{IsWithin, within_alone, within_refl, within_spaced}
 use Rattle.winnow_core.specs.Exact.Whole.{IsWant}
 use Rattle.stream_sets.specs.Accumulator.Holds.{HasCharacters}
 use Rattle.winnow_grammar.specs.Told.{IsTextOf, text_found}
