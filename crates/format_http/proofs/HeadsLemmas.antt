@@ -1,6 +1,13 @@
+pub mod FieldRead
 pub mod Fields
+pub mod HeadRead
 pub mod Hosts
 pub mod Named
+pub mod Parts
 pub mod Passed
+pub mod RequestRead
+pub mod ResponseRead
+pub mod StatusRead
+pub mod Tokens
 pub mod Trailers
 pub mod Trimmed

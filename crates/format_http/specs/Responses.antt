@@ -1,5 +1,4 @@
 -- Heads of responses.
 pub mod Head
-pub mod HeadRead
+pub mod Parts
 pub mod StatusLine
-pub mod StatusRead

@@ -2,7 +2,7 @@
 use Rattle.std.proofs.Common.{◌≡◌, ◌∙◌, ◌++◌, ◌∷◌, ℕ, List, arith, inl, inr, subst, sym, refl}
 use Rattle.std.specs.List.{All}
 use Rattle.std.proofs.lemmas.List.Elements.{All-weaker}
-use Rattle.format_http.specs.Heads.Tokens.{token_least, token_no_mark, token_no_space}
+use Rattle.format_http.proofs.HeadsLemmas.Tokens.{token_least, token_no_mark, token_no_space}
 use Rattle.format_http.specs.Heads.Bytes.{IsTokenByte, IsValueByte, IsWhite}
 use Rattle.format_http.specs.Heads.FieldLine.{IsFieldLine}
 use Rattle.format_http.proofs.OneLemmas.Texts.{one_text}

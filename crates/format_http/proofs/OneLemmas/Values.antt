@@ -9,7 +9,7 @@ use Rattle.std.proofs.lemmas.List.Elements.{All-weaker}
 use Rattle.std.proofs.lemmas.List.{same_from_push}
 use Rattle.format_http.specs.Heads.Bytes.{IsTokenByte, IsValueByte, IsWhite, line_end}
 use Rattle.format_http.specs.Heads.FieldLine.{BeginsBare, EndsBare, IsFieldLine, IsTrimmed}
-use Rattle.format_http.specs.Heads.FieldRead.{all_front, none_returns, white_is_value}
+use Rattle.format_http.proofs.HeadsLemmas.FieldRead.{all_front, none_returns, white_is_value}
 use Rattle.format_http.specs.declared.heads.field_line.Field.{Field}
 use Rattle.streams.specs.Equal.{same_first, same_others}
 use Rattle.format_http.proofs.OneLemmas.Texts.{in_middle, one_stranger, one_text}

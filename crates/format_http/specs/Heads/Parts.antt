@@ -1,116 +1,79 @@
--- Parts that readers of HTTP share.
-use Rattle.std.specs.Prelude.{◌≡◌, ◌≤◌, ◌↔◌, ℕ, IsTrue, true, false, List, [], ◌∷◌, ◌++◌, length}
-use Rattle.std.specs.Prelude.{None, Err}
+-- What the parsers of a head match, part by part.
+use Rattle.std.specs.Prelude.{◌≡◌, ℕ, List, ◌++◌, None, ◌<◌, ◌+◌, ◌∷◌}
 use Rattle.std.specs.Borrow.{Bor}
 use Rattle.std.specs.List.{All}
-use Rattle.std.proofs.Common.{refl, sym, ap, subst, ◌∙◌}
-use Rattle.std.proofs.lemmas.List.Elements.{All-weaker}
+use Rattle.std.specs.declared.vec.Vec.{Vec}
+use Rattle.std.proofs.Common.{sym, ◌∙◌}
 use Rattle.streams.specs.Counted.{counted_reading}
-use Rattle.streams.specs.Equal.{true_is_false}
-use Rattle.streams.specs.Input.{Input, is_end_of_refl}
-use Rattle.streams.specs.Kind.{Kind}
-use Rattle.stream_sets.specs.Range.{from_to}
-use Rattle.format_http.specs.Heads.Bytes.{line_end}
-use Rattle.winnow_core.specs.Exact.{Reads}
-use Rattle.winnow_ascii.specs.Class.Laws.{class_unique}
-use Rattle.grammars.specs.Grammar.{Class, Grammar, InClass, IsUnique, Literally, Longest}
-use Rattle.grammars.specs.Grammar.Inversion.Sets.{longest_stands, stands_longest}
-use Rattle.grammars.specs.Grammar.Unique.{literally_unique}
+use Rattle.grammars.specs.Grammar.{Class, Grammar, Both, Gathered, Many, IsUnique, Three}
+use Rattle.winnow_grammar.specs.Steps.{Steps}
+use Rattle.grammars.specs.Grammar.Inversion.{Byte}
 use Rattle.grammars.specs.Texts.{NotFirst}
-
--- ---- literals
-
--- by a text as a parser
-abbrev pub Literal : Bor (List ℕ) → Grammar ℕ (Bor (List ℕ))
-Literal = Literally counted_reading (λ s xs. xs ≡ s.now) (λ _ slice. slice)
-
-pub literal_there : (literal : Bor (List ℕ)) (text bytes : List ℕ) (slice : Bor (List ℕ))
-    (rest : List ℕ) → literal.now ≡ text → Literal literal bytes slice rest → bytes ≡ text ++ rest
-unfolding Literally
-literal_there literal text bytes slice rest is (front, shows, spells, shown, e, out) =
-    e ∙ ap (λ l. l ++ rest) (spells ∙ is)
-
-pub literal_back : (literal : Bor (List ℕ)) (text bytes rest : List ℕ) → literal.now ≡ text
-    → bytes ≡ text ++ rest → Literal literal bytes literal rest
-unfolding Literally
-literal_back literal text bytes rest is e = (text, literal, sym is, is, e, refl)
-
-pub literal_unique : (literal : Bor (List ℕ)) → IsUnique (Literal literal)
-literal_unique literal =
-    literally_unique counted_reading (λ s xs. xs ≡ s.now) (λ _ slice. slice) literal
-    (λ xs ys e f. ap (λ l. length l) (e ∙ sym f))
+use Rattle.stream_sets.specs.Range.{from_to}
+use Rattle.streams.specs.Equal.{same_others}
+use Rattle.format_http.specs.Heads.Bytes.{line_end, IsTokenByte, IsValueByte, IsWhite, IsVisible}
+use Rattle.format_http.specs.Heads.FieldLine.{BeginsBare, EndsBare, FieldLineStands}
+use Rattle.format_http.specs.declared.heads.field_line.Field.{Field}
+use Rattle.format_http.specs.Heads.RequestLine.{digits, protocol}
 
 -- The bytes start with a carriage return and a line feed.
 abbrev pub EndStands : Grammar ℕ (Unit {0})
 EndStands bytes u rest = bytes ≡ line_end ++ rest
 
-pub end_there : (last : Bor (List ℕ)) → last.now ≡ line_end → (u : Unit {0})
-    (slice : Bor (List ℕ)) (bytes rest : List ℕ) → Literal last bytes slice rest
-    → EndStands bytes u rest
-end_there last ends u slice bytes rest x = literal_there last line_end bytes slice rest ends x
-
-pub end_back : (last : Bor (List ℕ)) → last.now ≡ line_end → (bytes : List ℕ) (u : Unit {0})
-    (rest : List ℕ) → EndStands bytes u rest
-    → (slice : Bor (List ℕ)) × Literal last bytes slice rest
-end_back last ends bytes u rest e = (last, literal_back last line_end bytes rest ends e)
-
--- ---- takes
-
 -- by `take_while(least.., set)`, of a set that tells these bytes
 abbrev pub Run : (ℕ → Type 0) → ℕ → Grammar ℕ (Bor (List ℕ))
 Run these least = Class these least (λ b. b) (λ b. b) counted_reading
 
--- what a set tells does not depend on the set
-pub run_is : {S : Type 0} (these : ℕ → Type 0) (least : ℕ) (set : S)
-    → Longest counted_reading (λ b. b) (λ (s : S) b answer. IsTrue answer ↔ these b) set
-    (from_to least None) ≡ Run these least
-unfolding Longest
-run_is these least set = refl
+-- The bytes start with whitespace, a value and whitespace, not followed by another byte of a value.
+pub record ValueStands (bytes : List ℕ) (value : Bor (List ℕ)) (rest : List ℕ) : Type 0 where
+  pub before : List ℕ
+  pub behind : List ℕ
+  pub splits : bytes ≡ before ++ (value.now ++ (behind ++ rest))
+  pub white_before : All IsWhite before
+  pub white_behind : All IsWhite behind
+  pub is_value : All IsValueByte value.now
+  pub begins_bare : BeginsBare value.now
+  pub ends_bare : EndsBare value.now
+  pub stops : NotFirst IsValueByte rest
 
--- That many of these bytes or more, with none after them, and then the rest.
-pub record IsRunOf (these : ℕ → Type 0) (least : ℕ) (bytes text rest : List ℕ) : Type 0 where
-  pub splits : bytes ≡ text ++ rest
-  pub members : All these text
-  pub enough : least ≤ length text
-  pub stops : NotFirst these rest
+-- two slices
+abbrev pub Texts : Type 0
+Texts = Bor (List ℕ) × Bor (List ℕ)
 
-module _ (these : ℕ → Type 0) (least : ℕ) (bytes : List ℕ) (text : Bor (List ℕ)) (rest : List ℕ)
-  where
-    pub run_there : Run these least bytes text rest → IsRunOf these least bytes text.now rest
-    run_there x =
-        let is = longest_stands (InClass these (λ b. b)) tt least bytes text rest x in record {
-          splits = is.splits;
-          members = All-weaker (λ b. InClass these (λ b. b) tt b true) these (λ b it. it.0 refl)
-              text.now is.members;
-          enough = is.enough;
-          stops = none rest is.stops;
-        }
-      where
-        none : (others : List ℕ) → ((b : ℕ) (more : List ℕ) → others ≡ b ∷ more
-            → InClass these (λ b. b) tt b false) → NotFirst these others
-        none [] stops = tt
-        none (b ∷ more) stops = λ is. true_is_false (sym ((stops b more refl).1 is))
+-- by `terminated(take_while(1.., ..), b':')`
+abbrev pub NameRead : Grammar ℕ (Bor (List ℕ))
+NameRead = Both (λ name _. name) (Run IsTokenByte 1) (Byte 58)
 
-    pub run_back : IsRunOf these least bytes text.now rest → Run these least bytes text rest
-    run_back is = stands_longest (InClass these (λ b. b)) tt least bytes text rest (record {
-      splits = is.splits;
-      members = All-weaker these (λ b. InClass these (λ b. b) tt b true)
-          (λ b it. (λ e. it, λ m. refl)) text.now is.members;
-      enough = is.enough;
-      stops = λ b more e.
-          let P : List ℕ → Type 0 = λ l. NotFirst these l in
-          (λ never. true_is_false (sym never), λ it. absurd (subst P e is.stops it));
-    })
+-- by that, and after it a value
+abbrev pub NameValue : Grammar ℕ Texts
+NameValue = Steps NameRead ValueStands
 
-pub run_unique : (these : ℕ → Type 0) (least : ℕ) → IsUnique (Run these least)
-run_unique these least =
-    class_unique these least (λ b. b) (λ b. b) counted_reading (λ t u e. e)
+module _ {A : Type 0} where
+  -- what a list holds
+  abbrev pub Lists : Vec Field A → List Field → Type 0
+  Lists list os = list.items ≡ os
 
--- an error that leaves the input where it was
-pub err_at : {O E : Type 0} {kind : E → Kind} {g : Grammar ℕ O} {i j : Input ℕ} {e : E}
-    → Reads counted_reading kind g i (Err e) j → Reads counted_reading kind g i (Err e) i
-err_at {i = i} r = record {
-  ends = is_end_of_refl counted_reading i;
-  stands = r.stands;
-  none = r.none;
+  -- The bytes start with these field lines, as many as there are: the grammar of `repeat(alloc,
+  -- 0.., ..)`.
+  abbrev pub LinesStand : Grammar ℕ (Vec Field A)
+  LinesStand = Gathered Lists (Many FieldLineStands (from_to 0 None))
+
+-- The bytes start with a digit of this number.
+abbrev pub DigitStands : Grammar ℕ ℕ
+DigitStands bytes n rest = (n < 10) × (bytes ≡ (48 + n) ∷ rest)
+
+pub digit_unique : IsUnique DigitStands
+digit_unique = record {
+  ends = λ bytes n rest (below, e). ((48 + n) ∷ [], e);
+  one = λ bytes n m rest other (below, e) (less, f). same_others (sym e ∙ f);
 }
+
+-- The bytes start with a space, the version of these numbers and a line ending.
+abbrev pub VersionStands : Grammar ℕ (ℕ × ℕ)
+VersionStands bytes v rest =
+    (v.0 < 10) × (v.1 < 10) × (bytes ≡ protocol ++ (digits v.0 v.1 ++ (line_end ++ rest)))
+
+-- by `separated_pair(take_while(1.., ..), b' ', take_while(1.., ..))`
+abbrev pub MethodTarget : Grammar ℕ Texts
+MethodTarget = Three (λ method _ target. (method, target)) (Run IsTokenByte 1) (Byte 32)
+    (Run IsVisible 1)

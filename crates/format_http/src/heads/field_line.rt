@@ -7,8 +7,7 @@ ghost use Rattle.std.specs.Prelude.{◌≡◌, ◌++◌, ◌∷◌, IfOk, List, 
 ghost use Rattle.streams.specs.Bytes.{bytes_input, bytes_reading};
 ghost use Rattle.format_http.specs.Heads.Bytes.{IsWhite};
 ghost use Rattle.format_http.specs.Heads.FieldLine.{FieldLineStands, IsTrimmed};
-ghost use Rattle.format_http.specs.Heads.FieldRead.{NameRead, NameValue, ValueStands};
-ghost use Rattle.format_http.specs.Heads.Parts.{EndStands};
+ghost use Rattle.format_http.specs.Heads.Parts.{EndStands, NameRead, NameValue, ValueStands};
 ghost use Rattle.winnow_core.specs.Exact.{IsSpared, Reads};
 
 use crate::heads::laws::{no_return_stands_in_a_field, no_white_space_stands_before_a_colon};

@@ -9,7 +9,7 @@
 ghost use Rattle.std.specs.Prelude.{◌≡◌, IfErr};
 ghost use Rattle.streams.specs.Bytes.{bytes_input, bytes_reading};
 ghost use Rattle.format_http.specs.Heads.Head.{HeadStands, FieldsStand};
-ghost use Rattle.format_http.specs.Heads.HeadRead.{LinesStand};
+ghost use Rattle.format_http.specs.Heads.Parts.{LinesStand};
 ghost use Rattle.winnow_core.specs.Exact.{Reads};
 
 use crate::heads::field_line::{Field, read_field_line, read_line_end};

@@ -8,8 +8,8 @@
 
 ghost use Rattle.streams.specs.Bytes.{bytes_input, bytes_reading};
 ghost use Rattle.format_http.specs.Heads.RequestLine.{RequestLineStands};
-ghost use Rattle.format_http.specs.Heads.RequestRead.{DigitStands, MethodTarget, VersionStands};
-ghost use Rattle.format_http.specs.Heads.RequestRead.{digit_unique};
+ghost use Rattle.format_http.specs.Heads.Parts.{DigitStands, MethodTarget, VersionStands};
+ghost use Rattle.format_http.specs.Heads.Parts.{digit_unique};
 ghost use Rattle.winnow_core.specs.Exact.{IsSpared, Reads};
 
 use crate::heads::sets::{Digits, TokenBytes, Visible};

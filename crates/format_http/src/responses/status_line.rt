@@ -8,8 +8,8 @@
 
 ghost use Rattle.streams.specs.Bytes.{bytes_input, bytes_reading};
 ghost use Rattle.format_http.specs.Responses.StatusLine.{StatusLineStands};
-ghost use Rattle.format_http.specs.Responses.StatusRead.{CodeStands, ProtocolCode, ProtocolStands};
-ghost use Rattle.format_http.specs.Responses.StatusRead.{ReasonStands};
+ghost use Rattle.format_http.specs.Responses.Parts.{CodeStands, ProtocolCode, ProtocolStands};
+ghost use Rattle.format_http.specs.Responses.Parts.{ReasonStands};
 ghost use Rattle.winnow_core.specs.Exact.{IsSpared, Reads};
 
 use crate::heads::request_line::{Digit, read_digit};

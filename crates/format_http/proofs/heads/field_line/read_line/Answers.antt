@@ -1,5 +1,5 @@
 use Rattle.std.proofs.Common.{refl}
-use Rattle.format_http.specs.Heads.FieldRead.{field_back, field_there, pair_unique}
+use Rattle.format_http.proofs.HeadsLemmas.FieldRead.{field_back, field_there, pair_unique}
 use Rattle.format_http.specs.Heads.Parts.{EndStands}
 use Rattle.winnow_grammar.specs.Read.{err_as, ok_as}
 use Rattle.winnow_grammar.specs.Steps.{first_err, second_err, steps_ok}

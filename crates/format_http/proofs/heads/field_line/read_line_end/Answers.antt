@@ -1,5 +1,5 @@
 use Rattle.std.proofs.Common.{refl, rules}
-use Rattle.format_http.specs.Heads.Parts.{end_back, end_there}
+use Rattle.format_http.proofs.HeadsLemmas.Parts.{end_back, end_there}
 use Rattle.winnow_grammar.specs.Read.{err_as, ok_as}
 use Rattle.format_http.proofs.heads.field_line.read_line_end.Goals as goal
 

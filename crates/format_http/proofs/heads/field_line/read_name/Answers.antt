@@ -1,7 +1,7 @@
 use Rattle.std.proofs.Common.{rules}
 use Rattle.format_http.specs.Heads.Bytes.{IsTokenByte}
-use Rattle.format_http.specs.Heads.FieldRead.{NameRead}
-use Rattle.format_http.specs.Heads.Parts.{run_is}
+use Rattle.format_http.specs.Heads.Parts.{NameRead}
+use Rattle.format_http.proofs.HeadsLemmas.Parts.{run_is}
 use Rattle.winnow_grammar.specs.Read.{reads_by}
 use Rattle.format_http.proofs.heads.field_line.read_name.Goals as goal
 

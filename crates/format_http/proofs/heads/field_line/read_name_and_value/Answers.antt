@@ -1,5 +1,6 @@
 use Rattle.std.proofs.Common.{refl}
-use Rattle.format_http.specs.Heads.FieldRead.{ValueStands, name_unique}
+use Rattle.format_http.specs.Heads.Parts.{ValueStands}
+use Rattle.format_http.proofs.HeadsLemmas.FieldRead.{name_unique}
 use Rattle.winnow_grammar.specs.Steps.{first_err, second_err, steps_ok}
 use Rattle.format_http.proofs.heads.field_line.read_name_and_value.Goals as goal
 

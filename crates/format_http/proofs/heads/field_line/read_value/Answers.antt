@@ -1,7 +1,7 @@
 use Rattle.std.proofs.Common.{refl, rules}
 use Rattle.format_http.specs.Heads.Bytes.{IsValueByte, IsWhite}
-use Rattle.format_http.specs.Heads.FieldRead.{ValueRead, value_back, value_there}
-use Rattle.format_http.specs.Heads.Parts.{run_is}
+use Rattle.format_http.proofs.HeadsLemmas.FieldRead.{ValueRead, value_back, value_there}
+use Rattle.format_http.proofs.HeadsLemmas.Parts.{run_is}
 use Rattle.winnow_grammar.specs.Read.{err_as, ok_as, reads_by}
 use Rattle.format_http.proofs.heads.field_line.read_value.Goals as goal
 

@@ -2,7 +2,7 @@ use Rattle.std.proofs.Common.{refl, rules, sym, ◌∙◌}
 use Rattle.streams.specs.Bytes.{bytes_reading}
 use Rattle.streams.specs.Equal.{true_is_false}
 use Rattle.streams.specs.Input.{is_end_of_refl, is_end_of_trans}
-use Rattle.format_http.specs.Heads.HeadRead.{lines_more, lines_stop}
+use Rattle.format_http.proofs.HeadsLemmas.HeadRead.{lines_more, lines_stop}
 use Rattle.winnow_grammar.specs.Read.{reads_wanting}
 use Rattle.format_http.proofs.heads.head.read_field_lines.Goals as goal
 

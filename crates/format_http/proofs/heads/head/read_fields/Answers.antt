@@ -1,4 +1,4 @@
-use Rattle.format_http.specs.Heads.HeadRead.{fields_back, fields_there, lines_unique}
+use Rattle.format_http.proofs.HeadsLemmas.HeadRead.{fields_back, fields_there, lines_unique}
 use Rattle.format_http.specs.Heads.Parts.{EndStands}
 use Rattle.winnow_grammar.specs.Read.{err_as, ok_as}
 use Rattle.winnow_grammar.specs.Steps.{first_err, second_err, steps_ok}

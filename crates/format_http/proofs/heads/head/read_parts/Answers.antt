@@ -1,7 +1,7 @@
 use Rattle.format_http.specs.Heads.Head.{FieldsStand}
-use Rattle.format_http.specs.Heads.HeadRead.{head_back, head_there}
+use Rattle.format_http.proofs.HeadsLemmas.HeadRead.{head_back, head_there}
 use Rattle.winnow_grammar.specs.Read.{err_as, ok_as}
-use Rattle.format_http.specs.Heads.RequestRead.{request_unique}
+use Rattle.format_http.proofs.HeadsLemmas.RequestRead.{request_unique}
 use Rattle.winnow_grammar.specs.Steps.{first_err, second_err, steps_ok}
 use Rattle.format_http.proofs.heads.head.read_parts.Goals as goal
 

@@ -1,6 +1,6 @@
 use Rattle.std.proofs.Common.{refl, rules}
 use Rattle.winnow_grammar.specs.Read.{err_as, ok_as}
-use Rattle.format_http.specs.Heads.RequestRead.{digit_back, digit_least, digit_there}
+use Rattle.format_http.proofs.HeadsLemmas.RequestRead.{digit_back, digit_least, digit_there}
 use Rattle.format_http.proofs.heads.request_line.read_digit.Goals as goal
 
 pub overflow_sub-result : goal.overflow_sub-result

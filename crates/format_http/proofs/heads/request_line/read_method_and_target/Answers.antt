@@ -1,8 +1,8 @@
 use Rattle.std.proofs.Common.{rules}
 use Rattle.format_http.specs.Heads.Bytes.{IsTokenByte, IsVisible}
-use Rattle.format_http.specs.Heads.Parts.{run_is}
+use Rattle.format_http.proofs.HeadsLemmas.Parts.{run_is}
 use Rattle.winnow_grammar.specs.Read.{reads_by}
-use Rattle.format_http.specs.Heads.RequestRead.{MethodTarget}
+use Rattle.format_http.specs.Heads.Parts.{MethodTarget}
 use Rattle.format_http.proofs.heads.request_line.read_method_and_target.Goals as goal
 
 pub returns-clause-reads : goal.returns-clause-reads

@@ -1,7 +1,8 @@
 use Rattle.std.proofs.Common.{refl}
 use Rattle.winnow_grammar.specs.Read.{err_as, ok_as}
-use Rattle.format_http.specs.Heads.RequestRead.{VersionStands, method_unique, request_back}
-use Rattle.format_http.specs.Heads.RequestRead.{request_there}
+use Rattle.format_http.specs.Heads.Parts.{VersionStands}
+use Rattle.format_http.proofs.HeadsLemmas.RequestRead.{method_unique, request_back}
+use Rattle.format_http.proofs.HeadsLemmas.RequestRead.{request_there}
 use Rattle.winnow_grammar.specs.Steps.{first_err, second_err, steps_ok}
 use Rattle.format_http.proofs.heads.request_line.read_request_line.Goals as goal
 

@@ -1,6 +1,6 @@
 use Rattle.std.proofs.Common.{rules}
 use Rattle.winnow_grammar.specs.Read.{reads_by}
-use Rattle.format_http.specs.Heads.RequestRead.{VersionRead, same_version}
+use Rattle.format_http.proofs.HeadsLemmas.RequestRead.{VersionRead, same_version}
 use Rattle.winnow_core.specs.Exact.Same.{reads_as}
 use Rattle.format_http.proofs.heads.request_line.read_version.Goals as goal
 

@@ -1,6 +1,6 @@
 use Rattle.format_http.specs.Heads.Head.{FieldsStand}
-use Rattle.format_http.specs.Responses.HeadRead.{response_back, response_there}
-use Rattle.format_http.specs.Responses.StatusRead.{status_unique}
+use Rattle.format_http.proofs.HeadsLemmas.ResponseRead.{response_back, response_there}
+use Rattle.format_http.proofs.HeadsLemmas.StatusRead.{status_unique}
 use Rattle.winnow_grammar.specs.Read.{err_as, ok_as}
 use Rattle.winnow_grammar.specs.Steps.{first_err, second_err, steps_ok}
 use Rattle.format_http.proofs.responses.head.read_parts.Goals as goal

@@ -1,4 +1,4 @@
-use Rattle.format_http.specs.Heads.Parts.{err_at}
+use Rattle.format_http.proofs.HeadsLemmas.Parts.{err_at}
 use Rattle.format_http.proofs.responses.head.read_response_head.Goals as goal
 
 pub returns-in-Err-clause-head : goal.returns-in-Err-clause-head

@@ -1,6 +1,6 @@
 use Rattle.std.proofs.Common.{arith, refl, rules}
 use Rattle.winnow_grammar.specs.Read.{err_as, ok_as}
-use Rattle.format_http.specs.Responses.StatusRead.{code_back, code_there}
+use Rattle.format_http.proofs.HeadsLemmas.StatusRead.{code_back, code_there}
 use Rattle.format_http.proofs.responses.status_line.read_code.Goals as goal
 
 pub returns-in-Ok-clause-reads : goal.returns-in-Ok-clause-reads

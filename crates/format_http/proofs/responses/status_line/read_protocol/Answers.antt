@@ -1,6 +1,6 @@
 use Rattle.std.proofs.Common.{rules}
 use Rattle.winnow_grammar.specs.Read.{reads_by}
-use Rattle.format_http.specs.Responses.StatusRead.{ProtocolRead, same_protocol}
+use Rattle.format_http.proofs.HeadsLemmas.StatusRead.{ProtocolRead, same_protocol}
 use Rattle.winnow_core.specs.Exact.Same.{reads_as}
 use Rattle.format_http.proofs.responses.status_line.read_protocol.Goals as goal
 

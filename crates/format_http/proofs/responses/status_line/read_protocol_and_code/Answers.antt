@@ -1,6 +1,7 @@
 use Rattle.std.proofs.Common.{refl}
 use Rattle.winnow_grammar.specs.Steps.{first_err, second_err, steps_ok}
-use Rattle.format_http.specs.Responses.StatusRead.{CodeStands, protocol_unique}
+use Rattle.format_http.specs.Responses.Parts.{CodeStands}
+use Rattle.format_http.proofs.HeadsLemmas.StatusRead.{protocol_unique}
 use Rattle.format_http.proofs.responses.status_line.read_protocol_and_code.Goals as goal
 
 pub returns-in-Ok-read_code-clause-reads : goal.returns-in-Ok-read_code-clause-reads

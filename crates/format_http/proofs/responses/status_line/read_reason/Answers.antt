@@ -1,7 +1,8 @@
 use Rattle.std.proofs.Common.{refl, rules}
 use Rattle.format_http.specs.Heads.Bytes.{IsValueByte}
-use Rattle.format_http.specs.Heads.Parts.{run_is}
-use Rattle.format_http.specs.Responses.StatusRead.{ReasonRead, none_there, reason_back, some_there}
+use Rattle.format_http.proofs.HeadsLemmas.Parts.{run_is}
+use Rattle.format_http.proofs.HeadsLemmas.StatusRead.{ReasonRead, none_there, reason_back}
+use Rattle.format_http.proofs.HeadsLemmas.StatusRead.{some_there}
 use Rattle.winnow_grammar.specs.Read.{err_as, ok_as, reads_by}
 use Rattle.format_http.proofs.responses.status_line.read_reason.Goals as goal
 

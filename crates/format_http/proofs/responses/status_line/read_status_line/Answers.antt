@@ -1,7 +1,8 @@
 use Rattle.std.proofs.Common.{refl}
 use Rattle.winnow_grammar.specs.Read.{err_as, ok_as}
-use Rattle.format_http.specs.Responses.StatusRead.{ReasonStands, protocol_code_unique, status_back}
-use Rattle.format_http.specs.Responses.StatusRead.{status_there}
+use Rattle.format_http.specs.Responses.Parts.{ReasonStands}
+use Rattle.format_http.proofs.HeadsLemmas.StatusRead.{protocol_code_unique, status_back}
+use Rattle.format_http.proofs.HeadsLemmas.StatusRead.{status_there}
 use Rattle.winnow_grammar.specs.Steps.{first_err, second_err, steps_ok}
 use Rattle.format_http.proofs.responses.status_line.read_status_line.Goals as goal
 

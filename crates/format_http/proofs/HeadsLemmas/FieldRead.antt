@@ -1,5 +1,5 @@
--- The grammar of the parsers of a field line, and a proof that it matches field lines.
-use Rattle.std.specs.Prelude.{◌≡◌, ◌<◌, ℕ, List, [], ◌∷◌, ◌++◌, length}
+-- The grammar of the parsers of a field line matches field lines.
+use Rattle.std.specs.Prelude.{◌≡◌, ◌<◌, ℕ, List, ◌∷◌, ◌++◌, length}
 use Rattle.std.specs.Borrow.{Bor}
 use Rattle.std.specs.List.{All}
 use Rattle.std.proofs.Common.{refl, sym, ap, subst, inl, inr, ◌∙◌, arith, append_assoc}
@@ -7,29 +7,15 @@ use Rattle.std.proofs.lemmas.List.Elements.{All-append, All-cons, All-head, All-
 use Rattle.std.proofs.lemmas.List.Elements.{All-weaker}
 use Rattle.streams.specs.Equal.{same_first, same_rest}
 use Rattle.format_http.specs.Heads.Bytes.{IsTokenByte, IsValueByte, IsWhite, line_end}
-use Rattle.format_http.specs.Heads.FieldLine.{BeginsBare, EndsBare, FieldLineStands, IsFieldLine}
-use Rattle.format_http.specs.Heads.FieldLine.{IsTrimmed}
-use Rattle.format_http.specs.Heads.Parts.{EndStands, Run, run_back, run_there, run_unique}
+use Rattle.format_http.specs.Heads.FieldLine.{BeginsBare, FieldLineStands, IsFieldLine, IsTrimmed}
+use Rattle.format_http.specs.Heads.Parts.{EndStands, NameRead, NameValue, Run, Texts, ValueStands}
+use Rattle.format_http.proofs.HeadsLemmas.Parts.{run_back, run_there, run_unique}
 use Rattle.format_http.specs.declared.heads.field_line.Field.{Field}
 use Rattle.winnow_grammar.specs.Steps.{Steps}
 use Rattle.grammars.specs.Grammar.{Both, Grammar, IsUnique}
-use Rattle.grammars.specs.Grammar.Inversion.{Byte, byte_stands, byte_unique, stands_byte}
+use Rattle.grammars.specs.Grammar.Inversion.{byte_stands, byte_unique, stands_byte}
 use Rattle.grammars.specs.Grammar.Unique.{both_unique, unique_by}
 use Rattle.grammars.specs.Texts.{NotFirst}
-
--- ---- a value, with the whitespace around it
-
--- The bytes start with whitespace, a value and whitespace, not followed by another byte of a value.
-pub record ValueStands (bytes : List ℕ) (value : Bor (List ℕ)) (rest : List ℕ) : Type 0 where
-  pub before : List ℕ
-  pub behind : List ℕ
-  pub splits : bytes ≡ before ++ (value.now ++ (behind ++ rest))
-  pub white_before : All IsWhite before
-  pub white_behind : All IsWhite behind
-  pub is_value : All IsValueByte value.now
-  pub begins_bare : BeginsBare value.now
-  pub ends_bare : EndsBare value.now
-  pub stops : NotFirst IsValueByte rest
 
 -- by `preceded(take_while(0.., ..), take_while(0.., ..))`
 abbrev pub ValueRead : Grammar ℕ (Bor (List ℕ))
@@ -125,18 +111,6 @@ value_unique = unique_by value_back
     (both_unique (λ _ text. text) (run_unique IsWhite 0) (run_unique IsValueByte 0))
 
 -- ---- a field line
-
--- a name and a value
-abbrev Texts : Type 0
-Texts = Bor (List ℕ) × Bor (List ℕ)
-
--- by `terminated(take_while(1.., ..), b':')`
-abbrev pub NameRead : Grammar ℕ (Bor (List ℕ))
-NameRead = Both (λ name _. name) (Run IsTokenByte 1) (Byte 58)
-
--- by that, and after it a value
-abbrev pub NameValue : Grammar ℕ Texts
-NameValue = Steps NameRead ValueStands
 
 pub name_unique : IsUnique NameRead
 name_unique = both_unique (λ name _. name) (run_unique IsTokenByte 1) (byte_unique 58)

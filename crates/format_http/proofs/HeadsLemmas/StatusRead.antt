@@ -1,18 +1,18 @@
--- The grammar of the parsers of a status line, and a proof that it matches status lines.
-use Rattle.std.specs.Prelude.{◌≡◌, ◌<◌, ◌+◌, ◌*◌, ℕ, List, [], ◌∷◌, ◌++◌}
-use Rattle.std.specs.Prelude.{Option, Some, None}
+-- The grammar of the parsers of a status line matches status lines.
+use Rattle.std.specs.Prelude.{◌≡◌, ◌+◌, ◌*◌, ℕ, List, ◌∷◌, ◌++◌, Option, Some, None}
 use Rattle.std.specs.Borrow.{Bor}
 use Rattle.std.specs.List.{All}
 use Rattle.std.proofs.Common.{refl, sym, ap, subst, ◌∙◌, inl, inr, arith}
 use Rattle.std.proofs.lemmas.List.Elements.{All-nil}
 use Rattle.streams.specs.Equal.{none_is_some, same_first, same_some}
 use Rattle.format_http.specs.Heads.Bytes.{IsValueByte, line_end}
-use Rattle.format_http.specs.Heads.Parts.{Literal, Run, literal_back, literal_there, literal_unique}
-use Rattle.format_http.specs.Heads.Parts.{run_back, run_there, run_unique}
+use Rattle.format_http.proofs.HeadsLemmas.Parts.{Literal, literal_back, literal_there}
+use Rattle.format_http.proofs.HeadsLemmas.Parts.{literal_unique}
+use Rattle.format_http.specs.Heads.Parts.{DigitStands, Run, digit_unique}
+use Rattle.format_http.proofs.HeadsLemmas.Parts.{run_back, run_there, run_unique}
 use Rattle.format_http.specs.Heads.RequestLine.{digits}
-use Rattle.format_http.specs.Heads.RequestRead.{DigitStands, Numbers, digit_unique, numbers_unique}
-use Rattle.format_http.specs.Responses.StatusLine.{IsBehind, IsCode, IsStatusLine, StatusLineStands}
-use Rattle.format_http.specs.Responses.StatusLine.{http, three}
+use Rattle.format_http.proofs.HeadsLemmas.RequestRead.{Numbers, numbers_unique}
+use Rattle.format_http.specs.Responses.StatusLine.{IsStatusLine, StatusLineStands, http, three}
 use Rattle.format_http.specs.declared.responses.status_line.StatusLine.{StatusLine}
 use Rattle.grammars.specs.Grammar.Same.{Same, unique_as}
 use Rattle.winnow_grammar.specs.Steps.{Steps}
@@ -20,13 +20,10 @@ use Rattle.grammars.specs.Grammar.{Both, Grammar, IsUnique, Optional, Three}
 use Rattle.grammars.specs.Grammar.Inversion.{Byte, byte_stands, byte_unique, slice_for, stands_byte}
 use Rattle.grammars.specs.Grammar.Sequences.{three_unique}
 use Rattle.grammars.specs.Grammar.Unique.{both_unique, optional_unique, unique_by}
+use Rattle.format_http.specs.Responses.Parts.{CodeStands, ProtocolCode, ProtocolStands}
+use Rattle.format_http.specs.Responses.Parts.{ReasonStands}
 
 -- ---- a version, and a space after it
-
--- The bytes start with the version of these numbers and a space.
-abbrev pub ProtocolStands : Grammar ℕ (ℕ × ℕ)
-ProtocolStands bytes v rest =
-    (v.0 < 10) × (v.1 < 10) × (bytes ≡ http ++ (digits v.0 v.1 ++ (32 ∷ rest)))
 
 -- by `delimited(b"HTTP/", .., b' ')`
 abbrev pub ProtocolRead : Bor (List ℕ) → Grammar ℕ (ℕ × ℕ)
@@ -87,11 +84,6 @@ protocol_unique =
 
 -- ---- a status code
 
--- The bytes start with the three digits of this status code.
-abbrev pub CodeStands : Grammar ℕ ℕ
-CodeStands bytes status rest =
-    (a : ℕ) × (b : ℕ) × (c : ℕ) × IsCode status a b c × (bytes ≡ three a b c ++ rest)
-
 -- by a tuple of three digits
 abbrev pub CodeRead : Grammar ℕ (ℕ × ℕ × ℕ)
 CodeRead = Three (λ a b c. (a, b, c)) DigitStands DigitStands DigitStands
@@ -136,12 +128,6 @@ code_unique = unique_by code_back (three_unique {O = ℕ × ℕ × ℕ} (λ a b 
     digit_unique digit_unique)
 
 -- ---- a reason, and the line ending
-
--- The bytes start with this reason, as it follows a status code, and a line ending.
-abbrev pub ReasonStands : Grammar ℕ (Bor (List ℕ))
-ReasonStands bytes reason rest =
-    (behind : List ℕ) × IsBehind behind reason.now × All IsValueByte reason.now
-    × (bytes ≡ behind ++ (line_end ++ rest))
 
 -- by `preceded(b' ', take_while(0.., ..))`
 abbrev pub Spaced : Grammar ℕ (Bor (List ℕ))
@@ -241,10 +227,6 @@ module _ (last : Bor (List ℕ)) (ends : last.now ≡ line_end) where
       )
 
 -- ---- a status line
-
--- by a reader of the one after that of the other
-abbrev pub ProtocolCode : Grammar ℕ ((ℕ × ℕ) × ℕ)
-ProtocolCode = Steps ProtocolStands CodeStands
 
 pub protocol_code_unique : IsUnique ProtocolCode
 protocol_code_unique =

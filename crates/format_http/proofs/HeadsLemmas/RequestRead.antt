@@ -1,12 +1,11 @@
--- The grammar of the parsers of a request line, and a proof that it matches request lines.
-use Rattle.std.specs.Prelude.{◌≡◌, ◌<◌, ◌≤◌, ◌↔◌, ◌+◌, ◌-◌, ℕ, Bool, IsTrue, List, [], ◌∷◌}
-use Rattle.std.specs.Prelude.{◌++◌}
+-- The grammar of the parsers of a request line matches request lines.
+use Rattle.std.specs.Prelude.{◌≡◌, ◌≤◌, ◌↔◌, ◌+◌, ◌-◌, ℕ, Bool, IsTrue, List, ◌∷◌, ◌++◌}
 use Rattle.std.specs.Borrow.{Bor}
 use Rattle.std.proofs.Common.{refl, sym, ap, subst, ◌∙◌, arith}
-use Rattle.streams.specs.Equal.{same_others}
 use Rattle.format_http.specs.Heads.Bytes.{IsDigit, IsTokenByte, IsVisible, line_end}
-use Rattle.format_http.specs.Heads.Parts.{Literal, Run, literal_back, literal_there, literal_unique}
-use Rattle.format_http.specs.Heads.Parts.{run_back, run_there, run_unique}
+use Rattle.format_http.proofs.HeadsLemmas.Parts.{Literal, literal_back, literal_there}
+use Rattle.format_http.proofs.HeadsLemmas.Parts.{literal_unique}
+use Rattle.format_http.proofs.HeadsLemmas.Parts.{run_back, run_there, run_unique}
 use Rattle.format_http.specs.Heads.RequestLine.{IsRequestLine, RequestLineStands, digits, protocol}
 use Rattle.format_http.specs.declared.heads.request_line.RequestLine.{RequestLine}
 use Rattle.grammars.specs.Grammar.Same.{Same, unique_as}
@@ -16,12 +15,10 @@ use Rattle.grammars.specs.Grammar.Inversion.{Byte, byte_stands, byte_unique, sli
 use Rattle.grammars.specs.Grammar.Inversion.Sets.{stands_token_of, token_of_stands}
 use Rattle.grammars.specs.Grammar.Sequences.{three_unique}
 use Rattle.grammars.specs.Grammar.Unique.{both_unique, unique_by}
+use Rattle.format_http.specs.Heads.Parts.{DigitStands, MethodTarget, Texts, VersionStands}
+use Rattle.format_http.specs.Heads.Parts.{digit_unique}
 
 -- ---- a digit
-
--- The bytes start with a digit of this number.
-abbrev pub DigitStands : Grammar ℕ ℕ
-DigitStands bytes n rest = (n < 10) × (bytes ≡ (48 + n) ∷ rest)
 
 -- what a set of digits tells
 abbrev Digits : {S : Type 0} → S → ℕ → Bool → Type 0
@@ -47,18 +44,7 @@ module _ {S : Type 0} (set : S) where
         ((λ t. (omega arith, omega (arith, below))), (λ is. refl)) e,
   )
 
-pub digit_unique : IsUnique DigitStands
-digit_unique = record {
-  ends = λ bytes n rest (below, e). ((48 + n) ∷ [], e);
-  one = λ bytes n m rest other (below, e) (less, f). same_others (sym e ∙ f);
-}
-
 -- ---- a version, with the bytes around it
-
--- The bytes start with a space, the version of these numbers and a line ending.
-abbrev pub VersionStands : Grammar ℕ (ℕ × ℕ)
-VersionStands bytes v rest =
-    (v.0 < 10) × (v.1 < 10) × (bytes ≡ protocol ++ (digits v.0 v.1 ++ (line_end ++ rest)))
 
 -- by `separated_pair(.., b'.', ..)`
 abbrev pub Numbers : Grammar ℕ (ℕ × ℕ)
@@ -130,17 +116,8 @@ version_unique =
 
 -- ---- a request line
 
--- a method and a target; and these and a version
-abbrev Texts : Type 0
-Texts = Bor (List ℕ) × Bor (List ℕ)
-
 abbrev Parts : Type 0
 Parts = Texts × (ℕ × ℕ)
-
--- by `separated_pair(take_while(1.., ..), b' ', take_while(1.., ..))`
-abbrev pub MethodTarget : Grammar ℕ Texts
-MethodTarget = Three (λ method _ target. (method, target)) (Run IsTokenByte 1) (Byte 32)
-    (Run IsVisible 1)
 
 -- by that, and after it the version
 abbrev pub RequestRead : Grammar ℕ Parts

@@ -1,5 +1,5 @@
--- The grammar of the parsers of a head, and a proof that it matches heads.
-use Rattle.std.specs.Prelude.{◌≡◌, ℕ, List, [], ◌∷◌, ◌++◌, None, map, Ok, Err}
+-- The grammar of the parsers of a head matches heads.
+use Rattle.std.specs.Prelude.{◌≡◌, ℕ, List, ◌∷◌, ◌++◌, None, map, Ok, Err}
 use Rattle.std.specs.declared.vec.Vec.{Vec}
 use Rattle.std.proofs.Common.{refl, sym, ap, subst, inl, inr, ◌∙◌, arith}
 use Rattle.streams.specs.Counted.{counted_input, counted_reading}
@@ -7,10 +7,10 @@ use Rattle.streams.specs.Input.{IsEndOf}
 use Rattle.streams.specs.Kind.{Kind, memory}
 use Rattle.stream_sets.specs.Range.{from_to}
 use Rattle.format_http.specs.Heads.FieldLine.{FieldLineStands}
-use Rattle.format_http.specs.Heads.FieldRead.{field_unique, none_returns}
+use Rattle.format_http.proofs.HeadsLemmas.FieldRead.{field_unique, none_returns}
 use Rattle.format_http.specs.Heads.Head.{AreFieldLines, FieldsStand, HeadStands, IsHead, pair}
 use Rattle.format_http.specs.Heads.Head.{request}
-use Rattle.format_http.specs.Heads.Parts.{EndStands}
+use Rattle.format_http.specs.Heads.Parts.{EndStands, LinesStand, Lists}
 use Rattle.format_http.specs.Heads.RequestLine.{RequestLineStands}
 use Rattle.format_http.specs.declared.heads.field_line.Field.{Field}
 use Rattle.format_http.specs.declared.heads.head.Head.{Head}
@@ -33,15 +33,6 @@ lines_each [] bytes rest e = sym e
 lines_each (o ∷ os) bytes rest (mid, x, more) = (mid, x, lines_each os mid rest more)
 
 module _ {A : Type 0} where
-  -- what a list holds
-  abbrev Lists : Vec Field A → List Field → Type 0
-  Lists list os = list.items ≡ os
-
-  -- The bytes start with these field lines, as many as there are: the grammar of `repeat(alloc,
-  -- 0.., ..)`.
-  abbrev pub LinesStand : Grammar ℕ (Vec Field A)
-  LinesStand = Gathered Lists (Many FieldLineStands (from_to 0 None))
-
   pub lines_unique : IsUnique LinesStand
   lines_unique = gathered_unique Lists (many_unique field_unique (from_to 0 None))
 
