@@ -1,20 +1,16 @@
 //! Documents from text and from bytes.
-ghost use Rattle.std.specs.Prelude.{◌≡◌, [], IfErr, IfOk, IsTrue};
+ghost use Rattle.std.specs.Prelude.{◌≡◌, [], IfErr, IfOk};
 ghost use Rattle.std.specs.Str.{IsUtf8};
 ghost use Rattle.format_toml_document.specs.Fault.{IsBroken, IsDocument, IsErrorOf};
-ghost use Rattle.winnow_core.specs.Exact.Whole.{IsWant};
 
 use crate::fault::{TomlError, fault_of_build, fault_of_bytes, fault_of_text};
+use format_parts::faults::is_out_of_memory;
 use format_toml::lines::parse_lines;
 use format_toml_tree::build::build;
 use format_toml_tree::tree::Tree;
 use format_toml_tree::value::Item;
 use std::alloc::Allocator;
 use std::str;
-use stream_errors::empty::EmptyError;
-use stream_errors::fault::ParseFault;
-use stream_errors::mode::ErrMode;
-use stream_errors::parser_error::ParserError;
 
 /// A place for what the lines of a text say, from which its [`Tree`] borrows.
 ///
@@ -38,17 +34,6 @@ impl<A: Allocator + Copy> Document<A> {
         Document {
             lines: Vec::new(alloc),
         }
-    }
-}
-
-/// Returns whether an error is out of memory.
-fn wants_memory<'i>(fault: &ParseFault<&'i str, EmptyError>) -> bool
-    ensures { IsWant ⟦<ErrMode<EmptyError> as ParserError<&'i str>>⟧.inner_kind fault.now
-        → IsTrue result }
-{
-    match fault {
-        ParseFault::Invalid(error) => ParserError::<&str>::is_memory(error.inner()),
-        ParseFault::Incomplete(_) => false,
     }
 }
 
@@ -88,7 +73,7 @@ pub fn from_text<'l, A: Allocator + Copy>(
     match parse_lines(alloc, level, text) {
         Ok(lines) => document.lines = lines,
         Err(fault) => {
-            if wants_memory(&fault) {
+            if is_out_of_memory(&fault) {
                 return Err(TomlError::OutOfMemory);
             }
             return Err(fault_of_text(alloc, level, text));
