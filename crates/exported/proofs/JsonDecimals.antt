@@ -1,10 +1,10 @@
 -- Lemmas about the decimal of a number.
-use Rattle.std.proofs.Common.{FitsSigned, List, ℤ, ℕ, Bool, subst, sym}
+use Rattle.std.proofs.Common.{FitsSigned, ℤ, ℕ, Bool, subst, sym}
 use Rattle.std.specs.Int.{w32}
 use Rattle.std.proofs.lemmas.Int.{to_z-of_z}
 use mir.Val.{of_z, to_z}
 use Rattle.format_json_decimals.specs.Decimals.{IsDecimal}
-use Rattle.format_json_decimals.specs.Numbers.{IsWritten, Number}
+use Rattle.format_json_decimals.specs.Numbers.{Number}
 
 pub decimal_shown : (n : Number) (negative : Bool) (digits : ℕ) (exponent : ℤ)
     → FitsSigned w32 exponent → IsDecimal n negative digits exponent

@@ -5,7 +5,6 @@ use Rattle.format_http.specs.Bodies.Framing.{Answer, IsBodyLength}
 use Rattle.format_http.specs.Heads.Head.{HeadStands, Pair, pair}
 use Rattle.format_http.specs.Heads.Hosts.{HasHostError}
 use Rattle.format_http.specs.Responses.Head.{ResponseStands, response_to}
-use Rattle.format_http.specs.declared.bodies.framing.BodyLength.{BodyLength}
 use Rattle.format_http.specs.declared.bodies.framing.BodyLength.TheVariants as lengths
 use Rattle.format_http.specs.declared.bodies.framing.FramingError.{FramingError}
 use Rattle.format_http.specs.declared.bodies.framing.FramingError.TheVariants as fault

@@ -1,18 +1,16 @@
 -- Entries in sequence, none of which is the pair of a section and a key.
 use Rattle.std.specs.Prelude.{◌≡◌, ℕ, ◌+◌, ◌<◌, Bool, List, [], ◌∷◌, ◌++◌, drop}
-use Rattle.std.specs.Prelude.{MatchBool, Ok, Option, Result, Some, false, true}
+use Rattle.std.specs.Prelude.{MatchBool, Ok, Some, false, true}
 use Rattle.std.proofs.Common.{refl, sym, ap, subst, inl, inr, arith}
 use Rattle.std.proofs.lemmas.List.{append-nil}
 use Rattle.format_ini.proofs.Reading.{reads_more, reads_next, reads_none}
 use Rattle.format_ini.specs.Documents.{ReadsLines}
 use Rattle.format_ini.specs.Lines.{Said, said_in}
-use Rattle.format_ini.specs.Lookup.{HasNo, IsFor, IsFound, IsLookup, IsPairOf, name_after}
-use Rattle.format_ini.specs.Lookup.{section_after}
+use Rattle.format_ini.specs.Lookup.{HasNo, IsFor, IsPairOf, name_after, section_after}
 use Rattle.format_ini.specs.Places.{IsAtStart, NextPlaced, Passes}
 use Rattle.format_ini.specs.declared.dialect.Dialect.{Dialect}
 use Rattle.format_ini.specs.declared.places.Placed.{Placed}
 use Rattle.format_ini.specs.declared.places.Reading.{Reading}
-use Rattle.format_ini.specs.declared.places.Stop.{Stop}
 
 after_more : (now : List ℕ) (said : List Said) (one : Said)
     → section_after now (said ++ one ∷ []) ≡ name_after (section_after now said) one

@@ -9,7 +9,7 @@ use Rattle.format_json_writer.proofs.Within.{IsWithin, within_among, within_firs
 use Rattle.format_json_writer.proofs.Within.{within_refl, within_row, within_second, within_then}
 use Rattle.format_parts.specs.Hexadecimal.{IsHex, UnitText}
 use Rattle.format_parts.specs.Words.{For, Whichever, latter, pair, to_four}
-use Rattle.grammars.specs.Texts.{BothText, EachText, GatheredText}
+use Rattle.grammars.specs.Texts.{BothText, GatheredText}
 use Rattle.stream_sets.specs.Accumulator.Holds.{HasCharacters}
 
 small_is_hex : (c d : ℕ) → IsSmallHex c d → IsHex c d

@@ -1,10 +1,9 @@
 -- Proofs that values with a common encoding are equivalent.
-use Rattle.std.specs.Prelude.{◌≡◌, ◌⊎◌, ◌+◌, ◌*◌, ◌-◌, ◌==◌, if◌then◌else◌, ℕ, zero, suc}
+use Rattle.std.specs.Prelude.{◌≡◌, ◌+◌, ◌*◌, ◌-◌, ◌==◌, if◌then◌else◌, ℕ, zero, suc}
 use Rattle.std.specs.Prelude.{Bool}
 use Rattle.std.specs.Prelude.{List, [], ◌∷◌, ◌++◌, Option, Some, None}
-use Rattle.std.specs.Prelude.{encode_utf8_all, string_bytes}
+use Rattle.std.specs.Prelude.{encode_utf8_all}
 use Rattle.std.specs.declared.string.String.{String}
-use Rattle.std.specs.declared.vec.Vec.{Vec}
 use Rattle.std.proofs.Common.{refl, sym, ap, subst, inl, inr, ◌∙◌}
 use Rattle.stream_sets.specs.AsChar.{IsMultispace}
 use Rattle.format_json_scalars.specs.Escapes.{character_unique, quoted_unique}
@@ -22,7 +21,6 @@ use Rattle.format_json_texts.specs.Values.{IsObject, IsString, IsWord, JsonText,
 use Rattle.format_json_texts.specs.Values.{Punctuation, Scalar, SpacedOut}
 use Rattle.format_json_texts.specs.Values.Texts.{json_of}
 use Rattle.format_json_texts.specs.declared.value.Value.{Value}
-use Rattle.format_json_texts.specs.declared.value.Value as values
 use Rattle.format_json_values.specs.Unique.{value_unique}
 use Rattle.format_json_writer.specs.Alike.{AreAlike, AreAlikeBy, AreAlikeMembers, ArePairwise}
 use Rattle.format_json_writer.specs.Alike.{HaveSameBytes}

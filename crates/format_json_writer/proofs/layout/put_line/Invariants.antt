@@ -1,4 +1,4 @@
-use Rattle.std.proofs.Common.{◌≡◌, ◌∷◌, ◌++◌, replicate, string_bytes}
+use Rattle.std.proofs.Common.{◌≡◌, ◌++◌, replicate, string_bytes}
 use Rattle.format_json_writer.proofs.layout.put_line.Given as goal
 
 abbrev pub invariant-loop : goal.invariant-loop
