@@ -1,5 +1,5 @@
 -- What the parsers of a head match, part by part.
-use Rattle.std.specs.Prelude.{◌≡◌, ℕ, List, ◌++◌, None, ◌<◌, ◌+◌, ◌∷◌}
+use Rattle.std.specs.Prelude.{◌≡◌, ℕ, List, ◌++◌, None, ◌<◌, ◌+◌, ◌∷◌, []}
 use Rattle.std.specs.Borrow.{Bor}
 use Rattle.std.specs.List.{All}
 use Rattle.std.specs.declared.vec.Vec.{Vec}
