@@ -33,7 +33,7 @@ lines_each [] bytes rest e = sym e
 lines_each (o ∷ os) bytes rest (mid, x, more) = (mid, x, lines_each os mid rest more)
 
 module _ {A : Type 0} where
-  pub lines_unique : IsUnique LinesStand
+  pub lines_unique : IsUnique (LinesStand {A = A})
   lines_unique = gathered_unique Lists (many_unique field_unique (from_to 0 None))
 
   pub fields_there : (fields : Vec Field A) (u : Unit {0}) (bytes rest : List ℕ)
