@@ -83,7 +83,7 @@ Inner A protocol (suc level) n tokens rest = Times (At A protocol level) n token
 module _ {A : Type 0} (protocol : Protocol) where
   -- ---- elements, one after another
 
-  pub row_times : (level : ℕ) (os : List (Replies A)) (xs rest : List ℕ)
+  row_times : (level : ℕ) (os : List (Replies A)) (xs rest : List ℕ)
       → EachText (ReplyText protocol level) os xs
       → Times (At A protocol level) (length os) (xs ++ rest) rest
   unfolding EachText Times
@@ -287,7 +287,7 @@ module _ {A B : Type 0} (alloc : B) (protocol : Protocol) where
       head_back protocol level rest alloc head tokens mid first
       (behind_as leads head mid rest behind)
 
-  pub at_any : (level : ℕ) (tokens rest : List ℕ) → At A protocol level tokens rest
+  at_any : (level : ℕ) (tokens rest : List ℕ) → At A protocol level tokens rest
       → At B protocol level tokens rest
   at_any zero = any_by zero (λ n from to never. never)
   at_any (suc level) =

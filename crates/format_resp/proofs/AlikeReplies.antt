@@ -9,6 +9,7 @@ use Rattle.format_resp.proofs.LineTexts.{one_number, size_splits, line_plain}
 use Rattle.format_resp.proofs.LineEnds.{one_line}
 use Rattle.format_resp.proofs.Encodings.{Determined, Pairs, data_determined, led_determined}
 use Rattle.format_resp.proofs.Encodings.{nothing_left, rows_determined}
+use Rattle.grammars.specs.Grammar.{IsUnique}
 use Rattle.format_resp.proofs.FirstBytes.{mark_splits}
 use Rattle.format_resp.specs.Alike.{AreAlike, AreAlikeBy, HoldAlike}
 use Rattle.format_resp.specs.Resp.{AggregateBehind, Any, Body, BooleanText, Content, DataBehind}
@@ -114,3 +115,11 @@ replies_alike {A} protocol (suc level) =
     marked_alike (AreAlike level) (Elements protocol (suc level))
     (rows_determined (ReplyText protocol level) (AreAlike level) (replies_alike protocol level))
     protocol
+
+pub reply_unique : {A : Type 0} (protocol : Protocol) (level : ℕ)
+    → IsUnique (First (ReplyText {A = A} protocol level))
+unfolding First
+reply_unique protocol level = record {
+  ends = λ tokens o rest (front, a, e). (front, e);
+  one = λ tokens o p rest other a b. (replies_alike protocol level o p tokens rest other a b).1;
+}

@@ -1,14 +1,45 @@
 -- Lemmas about encodings of parts of replies, and the rests after them.
-use Rattle.std.specs.Prelude.{◌≡◌, ℕ, List, [], ◌∷◌, ◌++◌}
-use Rattle.std.specs.Prelude.{length}
+use Rattle.std.specs.Prelude.{◌≡◌, ℕ, List, [], ◌∷◌, ◌++◌, Some, Result, Ok, Err, IfOk}
+use Rattle.std.specs.Prelude.{if◌then◌else◌, length}
+use Rattle.std.specs.Result.{is_ok}
+use Rattle.std.specs.declared.vec.Vec.{Vec}
 use Rattle.std.proofs.Common.{refl, sym, ap, subst, ◌∙◌, append_assoc, arith}
-use Rattle.streams.specs.Equal.{same_others}
+use Rattle.streams.specs.Equal.{none_is_some, same_others, same_some}
+use Rattle.streams.specs.Following.{Following}
+use Rattle.streams.specs.Input.{Input, is_end_of_refl}
+use Rattle.streams.specs.Reading.{Reading}
+use Rattle.stream_errors.specs.Growth.{grown}
 use Rattle.grammars.specs.Grammar.Lengths.{same_beginnings}
-use Rattle.winnow_grammar.specs.InTurn.{First, Led, Splits}
+use Rattle.winnow_grammar.specs.InTurn.{First, MatchesEachCompletion, Led, Splits}
 use Rattle.grammars.specs.Texts.{CountedText, EachText, Text}
 use Rattle.format_resp.specs.Resp.{DataText, Ended, line_end, Shown}
 use Rattle.std.specs.Borrow.{Bor}
 use Rattle.format_resp.specs.Alike.{ArePairwise}
+
+-- where a value is made of nothing
+pub alone_stood : {T L R : Type 0} {reading : Reading T L} {following : Following T} {i : Input T}
+    (P : R → Type 0) (value : R) → P value
+    → MatchesEachCompletion reading following (First (λ r xs. P r × (xs ≡ []))) i value i
+unfolding First
+alone_stood {reading = reading} {i = i} P value is = record {
+  ends = is_end_of_refl reading i;
+  stands = λ more c. ([], (is, refl), refl);
+}
+
+-- ---- lists
+
+-- what a list holds that had room for one more
+pub pushed : {T U E : Type 0} {list more : List T} (less : List T) (r : Result U E) {u : U}
+    → list ≡ (if is_ok r then more else less) → grown r ≡ Some u → list ≡ more
+pushed less (Ok v) e is = e
+pushed less (Err f) e is = none_is_some is
+
+-- and that had room made for it: nothing yet
+pub roomy : {T A E : Type 0} (r : Result (Vec T A) E) {list : Vec T A}
+    → IfOk r (λ made. made.items ≡ []) → grown r ≡ Some list → list.items ≡ []
+roomy {T} {A} (Ok made) e is =
+    let P : Vec T A → Type 0 = λ l. l.items ≡ [] in subst P (same_some is) e
+roomy (Err f) e is = none_is_some is
 
 -- ---- encodings at the start of the same tokens
 

@@ -1,8 +1,13 @@
 -- The first bytes of replies.
-use Rattle.std.specs.Prelude.{◌≡◌, ◌==◌, ℕ, ◌++◌, Option, Some, None, if◌then◌else◌}
-use Rattle.std.proofs.Common.{refl, sym, ap, ◌∙◌}
+use Rattle.std.specs.Prelude.{◌≡◌, ◌==◌, ℕ, [], ◌∷◌, ◌++◌, Option, Some, None, if◌then◌else◌}
+use Rattle.std.proofs.Common.{refl, sym, ap, inr, ◌∙◌}
+use Rattle.streams.specs.Bytes.{bytes_follow, bytes_reading}
 use Rattle.streams.specs.Equal.{same_first, same_others, same_some}
-use Rattle.winnow_grammar.specs.InTurn.{First, Splits}
+use Rattle.grammars.specs.Grammar.{Token}
+use Rattle.winnow_grammar.specs.InTurn.{Failed, First, Splits, MatchesEachCompletion, failed_as}
+use Rattle.winnow_grammar.specs.InTurn.{stood_as}
+use Rattle.streams.specs.Input.{Input}
+use Rattle.streams.specs.Kind.{Kind, backtrack}
 use Rattle.format_resp.specs.Resp.{IsIn, MarkText, byte_of}
 use Rattle.format_resp.specs.declared.marks.AggregateMark.TheVariants.{Bar, Greater, Percent, Star}
 use Rattle.format_resp.specs.declared.marks.AggregateMark.TheVariants.{Tilde}
@@ -61,3 +66,33 @@ module _ (protocol : Protocol) where
         let split = ap (λ l. l ++ rest) (sym is) ∙ sym e ∙ d ∙ ap (λ l. l ++ other) are in
         (one_mark x y (same_first split), same_others split);
   }
+
+  module _ {i j : Input ℕ} where
+    pub mark_stood : (byte : ℕ) (mark : Mark) → IsIn protocol mark → byte ≡ byte_of mark
+        → MatchesEachCompletion bytes_reading bytes_follow (Token (λ b. b)) i byte j
+        → MatchesEachCompletion bytes_reading bytes_follow (First (MarkText protocol)) i mark j
+    unfolding Token First MarkText
+    mark_stood byte mark within is = stood_as (λ tokens rest e.
+        (byte_of mark ∷ [], (within, refl), e ∙ ap (λ b. b ∷ rest) is))
+
+    pub mark_failed : {k : Kind} → Failed bytes_reading bytes_follow (Token (λ b. b)) i k j
+        → Failed bytes_reading bytes_follow (First (MarkText protocol)) i k j
+    unfolding Token First MarkText
+    mark_failed = failed_as (λ tokens none mark rest (front, (within, is), e).
+        none (byte_of mark) rest (e ∙ ap (λ l. l ++ rest) is))
+
+    -- a byte that no reply begins with
+    pub no_mark : {k : Kind} (byte : ℕ) → k ≡ backtrack
+        → ((mark : Mark) → IsIn protocol mark → byte ≡ byte_of mark → ⊥)
+        → MatchesEachCompletion bytes_reading bytes_follow (Token (λ b. b)) i byte j
+        → Failed bytes_reading bytes_follow (First (MarkText protocol)) i k j
+    unfolding Token First MarkText
+    no_mark byte b other s = record {
+      ends = s.ends;
+      none = inr (inr (λ more c. (
+        b,
+        λ mark rest (front, (within, is), e).
+            other mark within
+            (same_first (sym (s.stands more c) ∙ e ∙ ap (λ l. l ++ rest) is)),
+      )));
+    }

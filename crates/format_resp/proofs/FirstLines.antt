@@ -1,28 +1,31 @@
 -- Uniqueness of the first line of a reply, and its relation to lines.
-use Rattle.std.specs.Prelude.{◌≡◌, ◌≤◌, ℕ, List, [], ◌∷◌, ◌++◌, length, take, drop}
-use Rattle.std.specs.Prelude.{IsSome, None, Option, Some}
+use Rattle.std.specs.Prelude.{◌≡◌, ◌≤◌, ◌^◌, ℕ, List, [], ◌∷◌, ◌++◌, length, take, drop}
+use Rattle.std.specs.Prelude.{None, Some}
 use Rattle.std.specs.List.{AllByRecursion}
 use Rattle.std.proofs.Common.{refl, sym, inl, ap, arith, subst, ◌∙◌, append_assoc}
-use Rattle.streams.specs.Equal.{same_first, same_others, same_some, true_is_false}
+use Rattle.streams.specs.Equal.{none_is_some, same_first, same_others, same_some}
 use Rattle.winnow_grammar.specs.InTurn.{First, Led, Splits}
 use Rattle.grammars.specs.Texts.{Text}
 use Rattle.format_resp.proofs.LineEnds.{IsPlain, ended_splits, open_endless, return_ends, until_end}
 use Rattle.format_resp.proofs.Encodings.{led_determined}
 use Rattle.format_resp.proofs.FirstBytes.{mark_splits, one_mark}
 use Rattle.format_resp.proofs.LineTexts.{line_plain, one_size, size_plain}
-use Rattle.format_resp.specs.Heads.{AfterMark, HasNumber, HasNumberLine, HeadText, IsLinePrefix}
-use Rattle.format_resp.specs.Heads.{IsNoLine, IsReason, IsRejectedLine, IsSmall, IsWhy, Says}
-use Rattle.format_resp.specs.Heads.{SaysSize, head_after}
+use Rattle.format_resp.specs.Heads.{HasNumber, HasNumberLine, HeadText, IsLinePrefix, IsNoLine}
+use Rattle.format_resp.specs.Heads.{IsReason, IsRejectedLine, IsSmall, IsWhy, Says, head_after}
 use Rattle.format_resp.specs.Lines.{EndsLine, IsOpen}
 use Rattle.format_resp.specs.Numbers.{AreDigits, SizeLine}
-use Rattle.format_resp.specs.Resp.{Ended, InLine, IsIn, MarkText, byte_of, line_end}
+use Rattle.format_resp.specs.Resp.{Ended, InLine, IsIn, MarkText, byte_of, line_end, many}
 use Rattle.format_resp.specs.declared.extent.Reason.{Reason}
 use Rattle.format_resp.specs.declared.extent.Reason.TheVariants.{Malformed, TooDeep, TooLarge}
 use Rattle.format_resp.specs.declared.heads.Head.{Head}
+use Rattle.format_resp.specs.declared.marks.AggregateMark.{AggregateMark}
+use Rattle.format_resp.specs.declared.marks.AggregateMark.TheVariants.{Star}
+use Rattle.format_resp.specs.declared.marks.DataMark.{DataMark}
+use Rattle.format_resp.specs.declared.marks.DataMark.TheVariants.{Dollar}
 use Rattle.format_resp.specs.declared.marks.LineMark.{LineMark}
 use Rattle.format_resp.specs.declared.marks.LineMark.TheVariants.{Colon}
 use Rattle.format_resp.specs.declared.marks.Mark.{Mark}
-use Rattle.format_resp.specs.declared.marks.Mark.TheVariants.{Line}
+use Rattle.format_resp.specs.declared.marks.Mark.TheVariants.{Aggregate, Data, Line}
 use Rattle.format_resp.specs.declared.reply.Protocol.{Protocol}
 
 -- ---- texts at the start of the same tokens
@@ -57,21 +60,47 @@ pub no_number : (mark : LineMark) (line : List ℕ) → (mark ≡ Colon → ⊥)
 no_number Colon line other number = other refl
 no_number mark line other number = number
 
--- a size is digits if it is not that of null
-pub size_why : (size : Option ℕ) (line : List ℕ) (reason : Reason) → SizeLine size line
-    → IsReason (IsSome size) reason → IsReason (AreDigits line) reason
-size_why (Some n) line TooLarge is why = is.0.0
-size_why (Some n) line Malformed digits none = absurd (none refl)
-size_why None line TooLarge e never = true_is_false (sym never)
-size_why None line Malformed e why = λ are.
-    let digits = subst AreDigits e are in omega (arith, digits.0.0.0)
-size_why size line TooDeep is never = never
+-- the size of null
+null_number : (line : List ℕ) → line ≡ 45 ∷ 49 ∷ [] → AreDigits line → ⊥
+null_number line e (all, some) =
+    let P : List ℕ → Type 0 = λ l. AreDigits l in
+    let a = subst P e (all, some) in omega (arith, a.0.0.0)
 
-pub size_none : (mark : Mark) (size : Option ℕ) (line : List ℕ) → SizeLine size line
-    → ((head : Head) → head_after mark size ≡ Some head → IsSmall head → ⊥) → (head : Head)
-    → SaysSize mark head line → ⊥
-size_none mark size line is none head (other, are, e, small) =
-    none head (ap (head_after mark) (one_size size other line is are) ∙ e) small
+-- it is that of a bulk string and of an array only
+pub no_null_data : (mark : DataMark) (line : List ℕ) → line ≡ 45 ∷ 49 ∷ [] → (mark ≡ Dollar → ⊥)
+    → IsRejectedLine (Data mark) line Malformed
+no_null_data mark line e other = (
+  λ head (size, a, is, few). none_is_some (sym (none mark other)
+      ∙ ap (head_after (Data mark)) (sym (one_size size None line a e)) ∙ is),
+  null_number line e,
+)
+  where
+    none : (mark : DataMark) → (mark ≡ Dollar → ⊥) → head_after (Data mark) None ≡ None
+    none Dollar other = absurd (other refl)
+    none mark other = refl
+
+pub no_null_aggregate : (mark : AggregateMark) (line : List ℕ) → line ≡ 45 ∷ 49 ∷ []
+    → (mark ≡ Star → ⊥) → IsRejectedLine (Aggregate mark) line Malformed
+no_null_aggregate mark line e other = (
+  λ head (size, a, is, few). none_is_some (sym (none mark other)
+      ∙ ap (head_after (Aggregate mark)) (sym (one_size size None line a e)) ∙ is),
+  null_number line e,
+)
+  where
+    none : (mark : AggregateMark) → (mark ≡ Star → ⊥) → head_after (Aggregate mark) None ≡ None
+    none Star other = absurd (other refl)
+    none mark other = refl
+
+-- an aggregate of too many replies
+pub too_many : (mark : AggregateMark) (n : ℕ) (line : List ℕ) → SizeLine (Some n) line
+    → 2 ^ 63 ≤ many mark n → IsRejectedLine (Aggregate mark) line TooLarge
+too_many mark n line (digits, small) large = (
+  λ head (size, a, is, few).
+      let same = same_some (ap (head_after (Aggregate mark))
+      (sym (one_size size (Some n) line a (digits, small))) ∙ is) in
+      omega (arith, subst IsSmall (sym same) few, large),
+  digits.0,
+)
 
 module _ (protocol : Protocol) where
   pub head_splits : Splits (HeadText protocol)
@@ -80,25 +109,23 @@ module _ (protocol : Protocol) where
 
   -- ---- what a first line is
 
-  -- a mark, and what follows it
-  pub led_stands : {O : Type 0} (behind : Mark → Text ℕ O) (o : O) (mark : Mark)
-      (tokens text xs rest : List ℕ) → IsIn protocol mark → tokens ≡ byte_of mark ∷ text
-      → behind mark o xs → text ≡ xs ++ rest
-      → First (Led (MarkText protocol) behind) tokens o rest
-  unfolding First Led MarkText
-  led_stands behind o mark tokens text xs rest within split body e = (
-    byte_of mark ∷ xs,
-    (mark, byte_of mark ∷ [], xs, (within, refl), body, refl),
-    split ∙ ap (λ l. byte_of mark ∷ l) e,
+  pub start_stands : (mark : Mark) (head : Head) (byte : ℕ) (tokens text line left : List ℕ)
+      → IsIn protocol mark → byte ≡ byte_of mark → tokens ≡ byte ∷ text → EndsLine text line left
+      → Says mark head line → First (HeadText protocol) tokens head left
+  unfolding First Led MarkText Ended
+  start_stands mark head byte tokens text line left within is split (all, e) says = (
+    byte_of mark ∷ (line ++ line_end),
+    (
+      mark,
+      byte_of mark ∷ [],
+      line ++ line_end,
+      (within, refl),
+      (line, says, refl),
+      refl,
+    ),
+    split ∙ ap (λ b. b ∷ text) is
+        ∙ ap (λ l. byte_of mark ∷ l) (e ∙ sym (append_assoc line line_end left)),
   )
-
-  pub start_stands : (mark : Mark) (head : Head) (tokens line left : List ℕ)
-      → AfterMark protocol tokens mark line left → Says mark head line
-      → First (HeadText protocol) tokens head left
-  unfolding Ended
-  start_stands mark head tokens line left (text, within, split, (all, e)) says =
-      led_stands (λ mark. Ended (Says mark)) head mark tokens text (line ++ line_end) left within
-      split (line, says, refl) (e ∙ sym (append_assoc line line_end left))
 
   start_line : (head : Head) (byte : ℕ) (text rest : List ℕ)
       → First (HeadText protocol) (byte ∷ text) head rest
@@ -172,6 +199,44 @@ module _ (protocol : Protocol) where
         → IsNoLine protocol tokens Malformed
     start_never none = no_line (λ more line rest mark within is ends. none more line rest ends)
 
+    module _ (line left : List ℕ) (mark : Mark) (within : IsIn protocol mark)
+        (is : byte ≡ byte_of mark) (ends : EndsLine text line left) where
+      -- the same line with the same mark
+      same_line : (other : Mark) (back more rest : List ℕ) → byte ≡ byte_of other
+          → EndsLine (text ++ more) back rest → (other ≡ mark) × (back ≡ line)
+      same_line other back more rest are (every, f) = (
+        one_mark other mark (sym are ∙ is),
+        sym (until_end 13 13 line back (10 ∷ left ++ more) (10 ∷ rest) ends.0 every return_ends
+            return_ends (sym (append_assoc line (13 ∷ 10 ∷ left) more)
+            ∙ ap (λ l. l ++ more) (sym ends.1) ∙ f)).0,
+      )
+
+      why_silent : (reason : Reason) → IsReason (HasNumber mark line) reason
+          → IsWhy protocol tokens reason
+      why_silent Malformed none = λ more x.
+          let (other, back, rest, inside, are, begins, number) = number_line more x in
+          let (same, lines) = same_line other back more rest are begins in
+          let P : Mark → Type 0 = λ m. HasNumber m back in
+          let Q : List ℕ → Type 0 = λ l. HasNumber mark l in
+          none (subst Q lines (subst P same number))
+      why_silent TooLarge number = subst (λ l. HasNumberLine protocol l) (sym split)
+          (mark, line, left, within, is, ends, number)
+      why_silent TooDeep never = absurd never
+
+      -- no head starts here if its line is invalid
+      pub start_silent : (reason : Reason) → IsRejectedLine mark line reason
+          → IsNoLine protocol tokens reason
+      start_silent reason (none, why) = record {
+        never = λ more head rest x.
+            let (other, back, inside, are, begins, says) =
+            start_line head byte (text ++ more) rest (rw split at x) in
+            let (same, lines) = same_line other back more rest are begins in
+            let P : Mark → Type 0 = λ m. Says m head back in
+            let Q : List ℕ → Type 0 = λ l. Says mark head l in
+            none head (subst Q lines (subst P same says));
+        why = why_silent reason why;
+      }
+
     -- ---- what is sought after the first byte
 
     pub sought_text : (n : ℕ) → AllByRecursion InLine (take n (drop 1 tokens))
@@ -190,44 +255,3 @@ module _ (protocol : Protocol) where
         begun = begun;
       },
     )
-
-  module _ (tokens text line left : List ℕ) (mark : Mark) (within : IsIn protocol mark)
-      (split : tokens ≡ byte_of mark ∷ text) (ends : EndsLine text line left) where
-    -- the same line with the same mark
-    same_line : (other : Mark) (back more rest : List ℕ) → byte_of mark ≡ byte_of other
-        → EndsLine (text ++ more) back rest → (other ≡ mark) × (back ≡ line)
-    same_line other back more rest are (every, f) = (
-      one_mark other mark (sym are),
-      sym (until_end 13 13 line back (10 ∷ left ++ more) (10 ∷ rest) ends.0 every return_ends
-          return_ends (sym (append_assoc line (13 ∷ 10 ∷ left) more)
-          ∙ ap (λ l. l ++ more) (sym ends.1) ∙ f)).0,
-    )
-
-    -- no head starts here if the line is invalid
-    pub line_silent : ((head : Head) → Says mark head line → ⊥) → (more : List ℕ) (head : Head)
-        (rest : List ℕ) → First (HeadText protocol) (tokens ++ more) head rest → ⊥
-    line_silent none more head rest x =
-        let (other, back, inside, are, begins, says) =
-        start_line head (byte_of mark) (text ++ more) rest (rw split at x) in
-        let (same, lines) = same_line other back more rest are begins in
-        let P : Mark → Type 0 = λ m. Says m head back in
-        let Q : List ℕ → Type 0 = λ l. Says mark head l in
-        none head (subst Q lines (subst P same says))
-
-    why_silent : (reason : Reason) → IsReason (HasNumber mark line) reason
-        → IsWhy protocol tokens reason
-    why_silent Malformed none = λ more x.
-        let (other, back, rest, inside, are, begins, number) =
-        number_line tokens text (byte_of mark) split more x in
-        let (same, lines) = same_line other back more rest are begins in
-        let P : Mark → Type 0 = λ m. HasNumber m back in
-        let Q : List ℕ → Type 0 = λ l. HasNumber mark l in
-        none (subst Q lines (subst P same number))
-    why_silent TooLarge number = subst (λ l. HasNumberLine protocol l) (sym split)
-        (mark, line, left, within, refl, ends, number)
-    why_silent TooDeep never = absurd never
-
-    pub start_silent : (reason : Reason) → IsRejectedLine mark line reason
-        → IsNoLine protocol tokens reason
-    start_silent reason (none, why) =
-        record { never = line_silent none; why = why_silent reason why }

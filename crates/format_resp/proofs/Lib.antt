@@ -1,5 +1,6 @@
 pub mod AfterLines
 pub mod AlikeReplies
+pub mod Bodies
 pub mod Dues
 pub mod Encodings
 pub mod FirstBytes
@@ -12,7 +13,6 @@ pub mod NumberTexts
 pub mod PartsStand
 pub mod Passing
 pub mod ReadBack
-pub mod Reading
 pub mod Refusals
 pub mod Strings
 pub mod Within

@@ -129,6 +129,10 @@ pub size_read : (size : Option ℕ) (xs : List ℕ) → Ended ShortSize size xs 
 unfolding SizeText Ended
 size_read size xs (line, a, e) = (line, short_read size line a, e)
 
+pub size_small : (n : ℕ) (xs : List ℕ) → SizeText (Some n) xs → n < 2 ^ 63
+unfolding SizeText Ended
+size_small n xs (line, (a, small), e) = small
+
 number_plain : (xs : List ℕ) → IsBigNumber xs → Plainly xs
 unfolding IsBigNumber
 number_plain xs a = unsigned_plain xs (digits_plain (unsigned xs) a.0)

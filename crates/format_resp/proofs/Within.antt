@@ -139,7 +139,7 @@ module _ (protocol : Protocol) where
       (bytes : Bor (List ℕ)) × First (StringText bulk) tokens bytes rest
 
   -- what follows this first line
-  pub head_behind : (level : ℕ) (head : Head) (tokens rest more left : List ℕ)
+  head_behind : (level : ℕ) (head : Head) (tokens rest more left : List ℕ)
       → First (HeadText protocol) tokens head rest → Within protocol level (tokens ++ more) left
       → Behind (Inner ⊤ protocol level) head (rest ++ more) left
   head_behind level head tokens rest more left first found =
@@ -161,7 +161,7 @@ module _ (protocol : Protocol) where
       head_behind level (heads.Data bulk) tokens rest more left head found
 
   -- one of several replies, after those before it
-  pub next : (level k count : ℕ) (left between more last : List ℕ) → k < count
+  next : (level k count : ℕ) (left between more last : List ℕ) → k < count
       → AreAfter protocol level k left between → AreAfter protocol level count (left ++ more) last
       → (other : List ℕ) × Within protocol level (between ++ more) other
   unfolding Times

@@ -13,29 +13,25 @@ use Rattle.std.proofs.lemmas.Fmt.{decimal_digit, decimal_step}
 use Rattle.std.proofs.lemmas.List.{append-nil, drop_all, drop_more}
 use Rattle.std.proofs.lemmas.Result.{err_from_is_err_and}
 use Rattle.grammars.specs.Texts.{EachText, Text}
-use Rattle.format_resp.proofs.Encodings.{shown_is}
-use Rattle.format_resp.proofs.Made.{mark_is}
-use Rattle.format_resp.proofs.WrittenTexts.{aggregate_text, body_as, data_text, led_text}
-use Rattle.format_resp.proofs.WrittenTexts.{written_text}
-use Rattle.format_resp.specs.Resp.{Body, Bytes, ElementsIn, Ended, Fits, IsIn, IsLineOf, LineSays}
-use Rattle.format_resp.specs.Resp.{Number, Replies, ReplyText, Shortest, WrittenText, byte_of}
-use Rattle.format_resp.specs.Resp.{first_mark, formatted, line_end, many, shape_of}
-use Rattle.format_resp.specs.Written.{Adds, HasBytes, IsBroken, IsDeeper, IsForeign, IsListOf, IsOf}
-use Rattle.format_resp.specs.Written.{IsOrHas, IsRefused, IsRefusedAmong, IsRefusedAs, IsShape}
-use Rattle.format_resp.specs.Written.{IsUnpaired, Keeps, data_of, error_of, marked, shape_mark}
+use Rattle.format_resp.proofs.Made.{gathered_is, integer_is, mark_is, shaped}
+use Rattle.format_resp.proofs.WrittenTexts.{aggregate_text, data_text, line_text, null_array_text}
+use Rattle.format_resp.proofs.WrittenTexts.{null_bulk_text, written_text}
+use Rattle.format_resp.specs.Resp.{Bytes, ElementsIn, Fits, IsIn, LineSays, Nothing, Replies}
+use Rattle.format_resp.specs.Resp.{ReplyText, Shortest, WrittenText, byte_of, first_mark, formatted}
+use Rattle.format_resp.specs.Resp.{gathered, many, shape_of}
+use Rattle.format_resp.specs.Written.{Adds, IsDeeper, IsForeign, IsOrHas, IsRefused, IsRefusedAmong}
+use Rattle.format_resp.specs.Written.{IsRefusedAs, IsUnpaired, Keeps, data_of, marked}
 use Rattle.format_resp.specs.declared.marks.AggregateMark.{AggregateMark}
+use Rattle.format_resp.specs.declared.marks.AggregateMark.TheVariants.{Star}
 use Rattle.format_resp.specs.declared.marks.DataMark.{DataMark}
-use Rattle.format_resp.specs.declared.marks.DataMark.TheVariants.{Equals}
+use Rattle.format_resp.specs.declared.marks.DataMark.TheVariants.{Dollar}
 use Rattle.format_resp.specs.declared.marks.LineMark.{LineMark}
-use Rattle.format_resp.specs.declared.marks.LineMark.TheVariants.{Colon, Comma, Hash, Minus}
-use Rattle.format_resp.specs.declared.marks.LineMark.TheVariants.{Parenthesis, Plus, Underscore}
-use Rattle.format_resp.specs.declared.marks.Mark.{Mark}
+use Rattle.format_resp.specs.declared.marks.LineMark.TheVariants.{Colon}
 use Rattle.format_resp.specs.declared.marks.Mark.TheVariants.{Aggregate, Data, Line}
 use Rattle.format_resp.specs.declared.reply.Protocol.{Protocol}
-use Rattle.format_resp.specs.declared.write.Shape.{Shape}
-use Rattle.format_resp.specs.declared.write.Shape.TheVariants as shapes
+use Rattle.format_resp.specs.declared.reply.Reply as made
 use Rattle.format_resp.specs.declared.write.WriteError.{WriteError}
-use Rattle.format_resp.specs.declared.write.WriteError.TheVariants.{Foreign, Format, Level, NoParts}
+use Rattle.format_resp.specs.declared.write.WriteError.TheVariants.{Foreign, Level, NoParts}
 use Rattle.format_resp.specs.declared.write.WriteError.TheVariants.{OutOfMemory, Pairs}
 
 pub keeps_trans : {before between after : List ℕ} → Keeps before between → Keeps between after
@@ -111,59 +107,19 @@ cut_back {n} {before} {after} kept many e =
 
 -- ---- what is put
 
--- the mark of a reply, by what is written for it
-shape_first : {A : Type 0} (reply : Replies A) (shape : Shape A) → IsShape reply shape
-    → first_mark reply ≡ shape_mark shape
-shape_first reply (shapes.Text mark text) (has, is) = mark_is reply is
-shape_first reply (shapes.Fixed mark line) (is, body) = is
-shape_first reply (shapes.Integer n) is = mark_is reply is
-shape_first reply (shapes.Data mark bytes) is = mark_is reply is
-shape_first reply (shapes.List mark items) (list, is, same) = mark_is reply is
-
-pub shape_within : {A : Type 0} (protocol : Protocol) (reply : Replies A) (shape : Shape A)
-    {mark : Mark} → IsShape reply shape → mark ≡ shape_mark shape → IsIn protocol mark
-    → IsIn protocol (first_mark reply)
-shape_within protocol reply shape is e =
-    subst (IsIn protocol) (e ∙ sym (shape_first reply shape is))
-
 module _ {A : Type 0} (protocol : Protocol) (level : ℕ) {reply : Replies A}
     (within : IsIn protocol (first_mark reply)) {before after : List ℕ} where
-  body_put : (mark : Mark) (tokens : List ℕ) → first_mark reply ≡ mark
-      → Body Shortest (ElementsIn Shortest protocol level) mark reply tokens
-      → after ≡ before ++ byte_of mark ∷ tokens
+  pub line_put : (mark : LineMark) (line : List ℕ) → LineSays Shortest mark reply line
+      → after ≡ before ++ marked (byte_of (Line mark)) line
       → Adds (WrittenText protocol level) reply before after
-  body_put mark tokens is body = adds (byte_of mark ∷ tokens)
-      (led_text protocol (ElementsIn Shortest protocol level) reply within mark tokens is body)
-
-  pub text_put : (mark : LineMark) (text : Bor (List ℕ))
-      → HasBytes mark × (shape_of reply ≡ (Line mark, Bytes text)) → IsLineOf mark text.now
-      → after ≡ before ++ marked (byte_of (Line mark)) text.now
-      → Adds (WrittenText protocol level) reply before after
-  unfolding Ended
-  text_put mark text (has, is) valid = body_put (Line mark) (text.now ++ line_end)
-      (mark_is reply is) (text.now, says mark has is valid, refl)
-    where
-      says : (mark : LineMark) → HasBytes mark → shape_of reply ≡ (Line mark, Bytes text)
-          → IsLineOf mark text.now → LineSays Shortest mark reply text.now
-      says Colon has is valid = absurd has
-      says Underscore has is valid = absurd has
-      says Hash has is valid = absurd has
-      says mark has is valid = (text, is, shown_is (IsLineOf mark) text valid)
-
-  pub fixed_put : (mark : Mark) (line : List ℕ) → first_mark reply ≡ mark
-      → Body Shortest (λ elements tokens. ⊥) mark reply (line ++ line_end)
-      → after ≡ before ++ marked (byte_of mark) line
-      → Adds (WrittenText protocol level) reply before after
-  fixed_put mark line is body = body_put mark (line ++ line_end) is
-      (body_as Shortest Shortest protocol (λ n xs x. x) (λ size xs x. x) _ _
-      (λ os xs never. absurd never) mark reply (line ++ line_end) body)
+  line_put mark line says = adds (marked (byte_of (Line mark)) line)
+      (line_text protocol (ElementsIn Shortest protocol level) reply within mark line says)
 
   pub integer_put : {n : ℤ} → after ≡ before ++ marked 58 (signed_decimal n)
-      → shape_of reply ≡ (Line Colon, Number n) → FitsSigned w64 n
+      → reply ≡ made.Integer n → FitsSigned w64 n
       → Adds (WrittenText protocol level) reply before after
-  unfolding Ended
-  integer_put {n} e is fits = body_put (Line Colon) (signed_decimal n ++ line_end)
-      (mark_is reply is) (signed_decimal n, (n, is, (fits, refl)), refl) e
+  integer_put {n} e is fits =
+      line_put Colon (signed_decimal n) (n, shaped is (integer_is n), (fits, refl)) e
 
   pub data_put : (mark : DataMark) (bytes : Bor (List ℕ))
       → shape_of reply ≡ (Data mark, Bytes bytes) → Fits (formatted mark) bytes.now
@@ -173,27 +129,50 @@ module _ {A : Type 0} (protocol : Protocol) (level : ℕ) {reply : Replies A}
       (data_text protocol (ElementsIn Shortest protocol level) reply within mark bytes is fits
       small)
 
+  pub null_bulk_put : shape_of reply ≡ (Data Dollar, Nothing)
+      → after ≡ before ++ marked 36 (45 ∷ 49 ∷ [])
+      → Adds (WrittenText protocol level) reply before after
+  null_bulk_put is = adds (marked 36 (45 ∷ 49 ∷ []))
+      (null_bulk_text protocol (ElementsIn Shortest protocol level) reply within is)
+
+  pub null_array_put : shape_of reply ≡ (Aggregate Star, Nothing)
+      → after ≡ before ++ marked 42 (45 ∷ 49 ∷ [])
+      → Adds (WrittenText protocol level) reply before after
+  null_array_put is = adds (marked 42 (45 ∷ 49 ∷ []))
+      (null_array_text protocol (ElementsIn Shortest protocol level) reply within is)
+
 -- the size of an aggregate, and its elements
 pub aggregate_put : {A : Type 0} (protocol : Protocol) (mark : AggregateMark) (size below : ℕ)
-    {level : ℕ} {items : List (Replies A)} {byte : ℕ} {before between after : List ℕ}
-    → length items ≡ many mark size → level ≡ below + 1 → byte ≡ byte_of (Aggregate mark)
+    {level : ℕ} (list : Vec (Replies A) A) {items : List (Replies A)} {byte : ℕ}
+    {before between after : List ℕ} → IsIn protocol (Aggregate mark) → items ≡ list.items
+    → length list.items ≡ many mark size → level ≡ below + 1 → byte ≡ byte_of (Aggregate mark)
     → between ≡ before ++ marked byte (decimal size)
-    → Adds (EachText (WrittenText protocol below)) items between after → (reply : Replies A)
-    → IsListOf mark items reply → IsIn protocol (Aggregate mark)
-    → Adds (WrittenText protocol level) reply before after
+    → Adds (EachText (WrittenText protocol below)) items between after
+    → Adds (WrittenText protocol level) (gathered mark list) before after
 unfolding ElementsIn
-aggregate_put {A} protocol mark size below {level} {items} {before = before} {after = after} count
-    is first e added reply (list, shape, same) within =
-    let P : ℕ → Type 0 = λ l. Adds (WrittenText protocol l) reply before after in
+aggregate_put {A} protocol mark size below {level} list {before = before} {after = after} within
+    same count is first e added =
+    let P : ℕ → Type 0 = λ l. Adds (WrittenText protocol l) (gathered mark list) before after in
     let Q : List (Replies A) → Type 0 = λ l. EachText (WrittenText protocol below) l added.tokens in
     let f : level ≡ suc below = omega (arith, is) in
     let head = marked (byte_of (Aggregate mark)) (decimal size) in
+    let shape = gathered_is mark list refl in
     subst P (sym f) (adds (head ++ added.tokens)
-    (aggregate_text protocol (ElementsIn Shortest protocol (suc below)) reply
-    (subst (IsIn protocol) (sym (mark_is _ shape)) within) mark size list added.tokens shape
-    (ap (λ l. length l) (sym same) ∙ count) (subst Q same added.is))
-    (put_two before head added.tokens
+    (aggregate_text protocol (ElementsIn Shortest protocol (suc below)) (gathered mark list)
+    (subst (IsIn protocol) (sym (mark_is _ shape)) within) mark size list added.tokens shape count
+    (subst Q same added.is)) (put_two before head added.tokens
     (e ∙ ap (λ b. before ++ marked b (decimal size)) first) added.behind))
+
+-- what was appended for an aggregate of the version, for the reply that is this aggregate
+pub list_put : {A : Type 0} (protocol : Protocol) (level : ℕ) (mark : AggregateMark)
+    {reply : Replies A} (list : Vec (Replies A) A) {before after : List ℕ}
+    → reply ≡ gathered mark list → IsIn protocol (first_mark reply)
+    → (IsIn protocol (Aggregate mark)
+    → Adds (WrittenText protocol level) (gathered mark list) before after)
+    → Adds (WrittenText protocol level) reply before after
+list_put protocol level mark {reply} list {before} {after} is within told =
+    subst (λ r. Adds (WrittenText protocol level) r before after) (sym is)
+    (told (subst (IsIn protocol) (mark_is reply (gathered_is mark list is)) within))
 
 pub adds_text : {A : Type 0} (protocol : Protocol) (level : ℕ) {reply : Replies A}
     {before after : List ℕ}
@@ -214,6 +193,13 @@ module _ {A : Type 0} where
   or_itself such zero is = is
   or_itself such (suc level) is = inl is
 
+  or_within : (such : Replies A → Type 0) (below : ℕ) (mark : AggregateMark)
+      (list : Vec (Replies A) A) (element : Replies A) → Contains list.items element
+      → IsOrHas such below element → IsOrHas such (suc below) (gathered mark list)
+  unfolding IsOrHas
+  or_within such below mark list element among is =
+      inr (mark, list, gathered_is mark list refl, element, among, is)
+
 module _ {A : Type 0} (protocol : Protocol) where
   -- an error with its reason
   pub as_error : (level : ℕ) (reply : Replies A) (error : WriteError) (P : Type 0)
@@ -224,62 +210,51 @@ module _ {A : Type 0} (protocol : Protocol) where
   as_error level reply error P why e (inr (is, not)) =
       subst (IsRefused protocol level reply) (sym is) (why not)
 
-  pub refused_foreign : (level : ℕ) (reply : Replies A) (shape : Shape A) {mark : Mark}
-      → IsShape reply shape → mark ≡ shape_mark shape → (IsIn protocol mark → ⊥)
+  pub refused_foreign : (level : ℕ) (reply : Replies A) → IsForeign protocol reply
       → IsRefused protocol level reply Foreign
-  refused_foreign level reply shape is e none = or_itself (IsForeign protocol) level
-      (λ within. none (subst (IsIn protocol) (shape_first reply shape is ∙ sym e) within))
+  refused_foreign level reply = or_itself (IsForeign protocol) level
 
-  -- the bytes of a line, or the data of a string, are not valid
-  pub refused_text : (level : ℕ) (reply : Replies A) (mark : LineMark) (text : Bor (List ℕ))
-      → HasBytes mark × (shape_of reply ≡ (Line mark, Bytes text))
-      → (IsLineOf mark text.now → ⊥) → IsRefused protocol level reply (error_of mark)
-  refused_text level reply Plus text (has, is) not = or_itself IsBroken level (inl (text, is, not))
-  refused_text level reply Minus text (has, is) not = or_itself IsBroken level (inr (text, is, not))
-  refused_text level reply Comma text (has, is) not = or_itself _ level (text, is, not)
-  refused_text level reply Parenthesis text (has, is) not = or_itself _ level (text, is, not)
-  refused_text level reply mark text (has, is) not = absurd has
-
-  pub refused_string : (level : ℕ) (reply : Replies A) (mark : DataMark) (bytes : Bor (List ℕ))
-      → shape_of reply ≡ (Data mark, Bytes bytes) → (Fits (formatted mark) bytes.now → ⊥)
-      → IsRefused protocol level reply Format
-  refused_string level reply Equals bytes is not = or_itself _ level (bytes, is, not)
-  refused_string level reply mark bytes is not = absurd (not tt)
+  -- an error of another reply, which it is
+  pub refused_form : (level : ℕ) {reply form : Replies A} → reply ≡ form → (e : WriteError)
+      → IsRefused protocol level form e → IsRefused protocol level reply e
+  refused_form level is e = subst (λ r. IsRefused protocol level r e) (sym is)
 
   -- ---- aggregates
 
   -- no aggregate has as many replies
-  pub refused_count : (level : ℕ) (mark : AggregateMark) {items : List (Replies A)} {count : ℕ}
-      → count ≡ length items → ((size : ℕ) → count ≡ many mark size → ⊥) → (reply : Replies A)
-      → IsListOf mark items reply → IsRefused protocol level reply Pairs
-  refused_count level mark many_are none reply (list, is, same) = or_itself IsUnpaired level
-      (mark, list, is, (λ size e. none size (many_are ∙ ap (λ l. length l) same ∙ e)))
+  pub refused_count : (level : ℕ) (mark : AggregateMark) (list : Vec (Replies A) A) {count : ℕ}
+      → count ≡ length list.items → ((size : ℕ) → count ≡ many mark size → ⊥)
+      → IsRefused protocol level (gathered mark list) Pairs
+  refused_count level mark list many_are none =
+      or_itself IsUnpaired level
+      (mark, list, gathered_is mark list refl, (λ size e. none size (many_are ∙ e)))
 
   -- at level 0 each aggregate is too deep
-  pub deep_aggregate : {level : ℕ} (mark : AggregateMark) {items : List (Replies A)} → level ≡ 0
-      → (reply : Replies A) → IsListOf mark items reply → IsRefused protocol level reply Level
+  pub deep_aggregate : {level : ℕ} (mark : AggregateMark) (list : Vec (Replies A) A) → level ≡ 0
+      → IsRefused protocol level (gathered mark list) Level
   unfolding IsDeeper
-  deep_aggregate mark flat reply (list, is, same) =
-      subst (λ l. IsDeeper l reply) (sym flat) (mark, list, is)
+  deep_aggregate mark list is =
+      subst (λ l. IsDeeper l (gathered mark list)) (sym is)
+      (mark, list, gathered_is mark list refl)
 
-  in_element : (below : ℕ) (mark : AggregateMark) (list : Vec (Replies A) A) (reply : Replies A)
-      → IsOf mark list reply → (e : WriteError) → IsRefusedAmong protocol below list.items e
-      → IsRefused protocol (suc below) reply e
-  unfolding IsDeeper IsOrHas
-  in_element below mark list reply is e (inl memory) =
-      subst (IsRefused protocol (suc below) reply) (sym memory) tt
-  in_element below mark list reply is NoParts (inr (element, among, not)) = absurd not
-  in_element below mark list reply is Level (inr (element, among, not)) =
-      (mark, list, is, element, among, not)
-  in_element below mark list reply is OutOfMemory (inr (element, among, not)) = tt
-  in_element below mark list reply is e (inr (element, among, not)) =
-      inr (mark, list, is, element, among, not)
+  in_element : (below : ℕ) (mark : AggregateMark) (list : Vec (Replies A) A) (e : WriteError)
+      → IsRefusedAmong protocol below list.items e
+      → IsRefused protocol (suc below) (gathered mark list) e
+  unfolding IsDeeper
+  in_element below mark list e (inl memory) =
+      subst (IsRefused protocol (suc below) (gathered mark list)) (sym memory) tt
+  in_element below mark list NoParts (inr (reply, among, is)) = absurd is
+  in_element below mark list Level (inr (reply, among, is)) =
+      (mark, list, gathered_is mark list refl, reply, among, is)
+  in_element below mark list OutOfMemory (inr (reply, among, is)) = tt
+  in_element below mark list e (inr (reply, among, is)) =
+      or_within _ below mark list reply among is
 
   -- an aggregate cannot be written if one of its elements cannot be written
-  pub refused_within : (below : ℕ) {level : ℕ} (mark : AggregateMark) {items : List (Replies A)}
-      (e : WriteError) → level ≡ below + 1 → IsRefusedAmong protocol below items e
-      → (reply : Replies A) → IsListOf mark items reply → IsRefused protocol level reply e
-  refused_within below {level} mark e deeper among reply (list, is, same) =
-      let f : level ≡ suc below = omega (arith, deeper) in
-      subst (λ l. IsRefused protocol l reply e) (sym f)
-      (in_element below mark list reply is e (rw same at among))
+  pub refused_within : (below : ℕ) {level : ℕ} (mark : AggregateMark) (list : Vec (Replies A) A)
+      {items : List (Replies A)} (e : WriteError) → items ≡ list.items → level ≡ below + 1
+      → IsRefusedAmong protocol below items e → IsRefused protocol level (gathered mark list) e
+  refused_within below {level} mark list e same is among =
+      let f : level ≡ suc below = omega (arith, is) in
+      subst (λ l. IsRefused protocol l (gathered mark list) e) (sym f)
+      (in_element below mark list e (rw same at among))

@@ -10,16 +10,17 @@ use Rattle.std.proofs.Common.{refl, subst, arith}
 use Rattle.winnow_grammar.specs.InTurn.{Led}
 use Rattle.grammars.specs.Texts.{CountedText, EachText, Text}
 use Rattle.format_resp.proofs.LineTexts.{integer_read, size_read}
-use Rattle.format_resp.proofs.Made.{mark_is}
+use Rattle.format_resp.proofs.Made.{line_mark, mark_is}
 use Rattle.format_resp.specs.Resp.{AggregateBehind, Any, Body, Bytes, DataText, Elements}
 use Rattle.format_resp.specs.Resp.{ElementsIn}
 use Rattle.format_resp.specs.Resp.{Ended, Fits, Form, IntegerText, IsIn, Items, LineSays, MarkText}
-use Rattle.format_resp.specs.Resp.{Replies, ReplyText, Shortest, SizeIn, WrittenText}
+use Rattle.format_resp.specs.Resp.{Nothing, Replies, ReplyText, Shortest, SizeIn, WrittenText}
 use Rattle.format_resp.specs.Resp.{byte_of, first_mark, formatted, line_end, many, shape_of}
 use Rattle.format_resp.specs.Written.{data_of, marked}
 use Rattle.format_resp.specs.declared.marks.AggregateMark.{AggregateMark}
 use Rattle.format_resp.specs.declared.marks.AggregateMark.TheVariants.{Star}
 use Rattle.format_resp.specs.declared.marks.DataMark.{DataMark}
+use Rattle.format_resp.specs.declared.marks.DataMark.TheVariants.{Dollar}
 use Rattle.format_resp.specs.declared.marks.LineMark.{LineMark}
 use Rattle.format_resp.specs.declared.marks.LineMark.TheVariants.{Colon, Hash, Underscore}
 use Rattle.format_resp.specs.declared.marks.Mark.{Mark}
@@ -55,7 +56,7 @@ module _ (f g : Form) {A : Type 0} (protocol : Protocol)
   behind_as Star None reply xs x = x
   behind_as mark None reply xs x = x
 
-  pub body_as : (mark : Mark) (reply : Replies A) (xs : List ℕ) → Body f these mark reply xs
+  body_as : (mark : Mark) (reply : Replies A) (xs : List ℕ) → Body f these mark reply xs
       → Body g those mark reply xs
   unfolding Led Ended
   body_as (Line mark) reply xs (line, a, e) = (line, line_as mark reply line a, e)
@@ -143,7 +144,7 @@ module _ {A : Type 0} (protocol : Protocol) (elements : Text ℕ (List (Replies 
   abbrev IsText : List ℕ → Type 0
   IsText = Led (MarkText protocol) (Body Shortest elements) reply
 
-  pub led_text : (mark : Mark) (tokens : List ℕ) → first_mark reply ≡ mark
+  led_text : (mark : Mark) (tokens : List ℕ) → first_mark reply ≡ mark
       → Body Shortest elements mark reply tokens → IsText (byte_of mark ∷ tokens)
   unfolding Led MarkText
   led_text mark tokens is body = (
@@ -154,6 +155,12 @@ module _ {A : Type 0} (protocol : Protocol) (elements : Text ℕ (List (Replies 
     body,
     refl,
   )
+
+  pub line_text : (mark : LineMark) (line : List ℕ) → LineSays Shortest mark reply line
+      → IsText (marked (byte_of (Line mark)) line)
+  unfolding Ended
+  line_text mark line says = led_text (Line mark) (line ++ line_end)
+      (line_mark Shortest mark reply line says) (line, says, refl)
 
   pub data_text : (mark : DataMark) (bytes : Bor (List ℕ))
       → shape_of reply ≡ (Data mark, Bytes bytes) → Fits (formatted mark) bytes.now
@@ -184,3 +191,15 @@ module _ {A : Type 0} (protocol : Protocol) (elements : Text ℕ (List (Replies 
         (list, is, (count, are)),
         refl,
       )
+
+  pub null_bulk_text : shape_of reply ≡ (Data Dollar, Nothing)
+      → IsText (marked 36 (45 ∷ 49 ∷ []))
+  unfolding Led Ended
+  null_bulk_text is = led_text (Data Dollar) (45 ∷ 49 ∷ line_end) (mark_is reply is)
+      (None, 45 ∷ 49 ∷ line_end, [], (45 ∷ 49 ∷ [], refl, refl), (is, refl), refl)
+
+  pub null_array_text : shape_of reply ≡ (Aggregate Star, Nothing)
+      → IsText (marked 42 (45 ∷ 49 ∷ []))
+  unfolding Led Ended
+  null_array_text is = led_text (Aggregate Star) (45 ∷ 49 ∷ line_end) (mark_is reply is)
+      (None, 45 ∷ 49 ∷ line_end, [], (45 ∷ 49 ∷ [], refl, refl), (is, refl), refl)

@@ -13,8 +13,6 @@ use Rattle.format_resp.specs.declared.extent.Reason.{Reason}
 use Rattle.format_resp.specs.declared.extent.Reason.TheVariants.{Malformed, TooDeep, TooLarge}
 use Rattle.format_resp.specs.declared.heads.Head.{Head}
 use Rattle.format_resp.specs.declared.heads.Head.TheVariants.{Data, Ends, Replies}
-use Rattle.format_resp.specs.declared.heads.Marked.{Marked}
-use Rattle.format_resp.specs.declared.heads.Marked.TheVariants as found
 use Rattle.format_resp.specs.declared.heads.Start.{Start}
 use Rattle.format_resp.specs.declared.heads.Start.TheVariants.{Never, Open, Whole}
 use Rattle.format_resp.specs.declared.marks.AggregateMark.TheVariants.{Star}
@@ -39,16 +37,12 @@ abbrev pub IsSmall : Head → Type 0
 IsSmall (Replies n) = n < 2 ^ 63
 IsSmall head = ⊤
 
--- the line of a size after this first byte, by its meaning
-abbrev pub SaysSize : Mark → Text ℕ Head
-SaysSize mark head line =
-    (size : Option ℕ) × SizeLine size line × (head_after mark size ≡ Some head) × IsSmall head
-
 -- the line after the first byte of a reply, by its meaning
 abbrev pub Says : Mark → Text ℕ Head
 Says (marks.Line mark) head line =
     (head ≡ Ends) × ((reply : resp.Replies ⊤) × LineSays Any mark reply line)
-Says mark head line = SaysSize mark head line
+Says mark head line =
+    (size : Option ℕ) × SizeLine size line × (head_after mark size ≡ Some head) × IsSmall head
 
 -- the first line of a reply, by its meaning
 abbrev pub HeadText : Protocol → Text ℕ Head
@@ -99,29 +93,6 @@ pub record IsLinePrefix (protocol : Protocol) (tokens : List ℕ) : Type 0 where
   pub marked : (byte : ℕ) (text : List ℕ) → tokens ≡ byte ∷ text
       → (mark : Mark) × IsIn protocol mark × (byte ≡ byte_of mark)
   pub begun : IsOpen (drop 1 tokens)
-
--- The tokens start with the first byte of a reply and a line, followed by `rest`.
-abbrev pub AfterMark : Protocol → List ℕ → Mark → List ℕ → List ℕ → Type 0
-AfterMark protocol tokens mark line rest =
-    (text : List ℕ) × IsIn protocol mark × (tokens ≡ byte_of mark ∷ text)
-    × EndsLine text line rest
-
--- The contract of the search for them: both, and the rest; or `Open n`, if the line is incomplete
--- and `n` bytes after the first have no byte of a line ending; or `Never`, if no continuation
--- starts with them.
-abbrev pub IsMarked : Protocol → List ℕ → Marked → Type 0
-IsMarked protocol tokens (found.Whole mark line left) =
-    AfterMark protocol tokens mark line.now left.now
-IsMarked protocol tokens (found.Open n) =
-    (n ≤ length (drop 1 tokens)) × AllByRecursion InLine (take n (drop 1 tokens))
-    × IsLinePrefix protocol tokens
-IsMarked protocol tokens found.Never = IsNoLine protocol tokens Malformed
-
--- The rest after them is shorter than `n` bytes.
-abbrev pub IsLessMarked : ℕ → Marked → Type 0
-IsLessMarked n (found.Whole mark line left) = length left.now < n
-IsLessMarked n (found.Open m) = ⊤
-IsLessMarked n found.Never = ⊤
 
 -- The contract of a first line: a complete line; or `Open n`, if it is incomplete and `n` bytes
 -- after the first have no byte of a line ending; or `Never`, if no continuation starts with one.

@@ -6,6 +6,5 @@ pub mod Heads
 pub mod Lines
 pub mod Numbers
 pub mod Parts
-pub mod Reading
 pub mod Resp
 pub mod Written

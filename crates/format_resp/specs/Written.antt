@@ -1,4 +1,4 @@
--- The encoding of a command, the shapes of replies, and the replies that are not written.
+-- What is written for a command, and which replies are not written.
 use Rattle.std.specs.Prelude.{◌≡◌, ◌⊎◌, ⊤, ℕ, zero, suc, List, [], ◌∷◌, ◌++◌, length, Contains}
 use Rattle.std.specs.Borrow.{Bor}
 use Rattle.std.specs.Fmt.{decimal}
@@ -6,18 +6,14 @@ use Rattle.std.specs.List.{AllByRecursion}
 use Rattle.std.specs.declared.vec.Vec.{Vec}
 use Rattle.grammars.specs.Texts.{Text}
 use Rattle.format_resp.specs.Numbers.{IsBigNumber, IsDouble}
-use Rattle.format_resp.specs.Resp.{Body, Bytes, InLine, IsIn, IsVerbatim, Items, Number, Replies}
-use Rattle.format_resp.specs.Resp.{Shortest, first_mark, line_end, many, shape_of}
+use Rattle.format_resp.specs.Resp.{Bytes, InLine, IsIn, IsVerbatim, Items, Replies, first_mark}
+use Rattle.format_resp.specs.Resp.{line_end, many, shape_of}
 use Rattle.format_resp.specs.declared.marks.AggregateMark.{AggregateMark}
 use Rattle.format_resp.specs.declared.marks.DataMark.TheVariants.{Equals}
-use Rattle.format_resp.specs.declared.marks.LineMark.{LineMark}
-use Rattle.format_resp.specs.declared.marks.LineMark.TheVariants.{Colon, Comma, Hash, Minus}
-use Rattle.format_resp.specs.declared.marks.LineMark.TheVariants.{Parenthesis, Plus, Underscore}
+use Rattle.format_resp.specs.declared.marks.LineMark.TheVariants.{Comma, Minus, Parenthesis, Plus}
 use Rattle.format_resp.specs.declared.marks.Mark.{Mark}
 use Rattle.format_resp.specs.declared.marks.Mark.TheVariants.{Aggregate, Data, Line}
 use Rattle.format_resp.specs.declared.reply.Protocol.{Protocol}
-use Rattle.format_resp.specs.declared.write.Shape.{Shape}
-use Rattle.format_resp.specs.declared.write.Shape.TheVariants as shapes
 use Rattle.format_resp.specs.declared.write.WriteError.{WriteError}
 use Rattle.format_resp.specs.declared.write.WriteError.TheVariants.{BigNumber, Double, Foreign}
 use Rattle.format_resp.specs.declared.write.WriteError.TheVariants.{Format, Level, LineBreak}
@@ -55,19 +51,6 @@ bulks_of (part ∷ parts) = bulk_of part.now ++ bulks_of parts
 abbrev pub command_of : List (Bor (List ℕ)) → List ℕ
 command_of parts = marked 42 (decimal (length parts)) ++ bulks_of parts
 
--- the marks of replies whose line is the bytes that they hold
-abbrev pub HasBytes : LineMark → Type 0
-HasBytes Colon = ⊥
-HasBytes Underscore = ⊥
-HasBytes Hash = ⊥
-HasBytes mark = ⊤
-
--- the error if these are not valid
-abbrev pub error_of : LineMark → WriteError
-error_of Comma = Double
-error_of Parenthesis = BigNumber
-error_of mark = LineBreak
-
 module _ {A : Type 0} where
   -- ---- what is not written
 
@@ -81,15 +64,10 @@ module _ {A : Type 0} where
       (mark : AggregateMark) × (list : Vec (Replies A) A) × IsOf mark list reply
       × (element : Replies A) × Contains list.items element × such element
 
-  -- such a reply, or one that contains such a reply within at most `level` aggregates
+  -- such a reply, or one in which such a one is, within no more than that many aggregates
   unfoldable pub IsOrHas : (Replies A → Type 0) → ℕ → Replies A → Type 0
   IsOrHas such zero reply = such reply
   IsOrHas such (suc level) reply = such reply ⊎ HasElement (IsOrHas such level) reply
-
-  -- an aggregate of these elements
-  abbrev pub IsListOf : AggregateMark → List (Replies A) → Replies A → Type 0
-  IsListOf mark items reply =
-      (list : Vec (Replies A) A) × IsOf mark list reply × (items ≡ list.items)
 
   -- the aggregates of the reply are nested deeper than this number
   unfoldable pub IsDeeper : ℕ → Replies A → Type 0
@@ -117,26 +95,6 @@ module _ {A : Type 0} where
   -- a reply of a kind that the version of the protocol does not have
   abbrev pub IsForeign : Protocol → Replies A → Type 0
   IsForeign protocol reply = IsIn protocol (first_mark reply) → ⊥
-
-  -- ---- what is written, by the mark
-
-  abbrev pub shape_mark : Shape A → Mark
-  shape_mark (shapes.Text mark text) = Line mark
-  shape_mark (shapes.Fixed mark line) = mark
-  shape_mark (shapes.Integer n) = Line Colon
-  shape_mark (shapes.Data mark bytes) = Data mark
-  shape_mark (shapes.List mark items) = Aggregate mark
-
-  -- the reply is of this mark, and holds these bytes, this number or these elements
-  abbrev pub IsShape : Replies A → Shape A → Type 0
-  IsShape reply (shapes.Text mark text) =
-      HasBytes mark × (shape_of reply ≡ (Line mark, Bytes text))
-  IsShape reply (shapes.Fixed mark line) =
-      (first_mark reply ≡ mark)
-      × Body Shortest (λ elements tokens. ⊥) mark reply (line.now ++ line_end)
-  IsShape reply (shapes.Integer n) = shape_of reply ≡ (Line Colon, Number n)
-  IsShape reply (shapes.Data mark bytes) = shape_of reply ≡ (Data mark, Bytes bytes)
-  IsShape reply (shapes.List mark items) = IsListOf mark items.now reply
 
 module _ {A : Type 0} (protocol : Protocol) where
   -- the reason why a reply is not written: an invalid part; aggregates nested deeper than `level`;

@@ -103,10 +103,7 @@ pub struct Extent {
 
 /// Returns data of `size` bytes, and the rest after their line ending.
 #[inline(always)]
-pub(crate) fn split_data<'i>(
-    size: usize,
-    bytes: &'i [u8],
-) -> Result<Option<(&'i [u8], &'i [u8])>, Reason>
+fn split_data<'i>(size: usize, bytes: &'i [u8]) -> Result<Option<(&'i [u8], &'i [u8])>, Reason>
     ensures { IsDataEnd size bytes.now result }
 {
     match bytes.split_at_checked(size) {
@@ -121,7 +118,7 @@ pub(crate) fn split_data<'i>(
 
 /// Whether the bytes are those of such a string.
 #[inline(always)]
-pub(crate) fn fits(verbatim: bool, bytes: &[u8]) -> bool
+fn fits(verbatim: bool, bytes: &[u8]) -> bool
     ensures { MatchBool result (Fits verbatim bytes.now) (Fits verbatim bytes.now → ⊥) }
 {
     if verbatim { is_verbatim(bytes) } else { true }
@@ -175,18 +172,6 @@ impl Extent {
         }
     }
 
-    /// Returns the error for the part after the bytes passed.
-    #[inline(always)]
-    fn rejected(&self, reason: Reason) -> Invalid
-        ensures reason { result.reason ≡ reason }
-        ensures offset { result.offset ≡ self.now.passed }
-    {
-        Invalid {
-            reason,
-            offset: self.passed,
-        }
-    }
-
     /// Passes the data of a string.
     #[inline(always)]
     fn pass_data<'i>(
@@ -203,7 +188,10 @@ impl Extent {
         ensures less { IsLessPart (length rest.now) result }
     {
         match skip_string(bulk, rest) {
-            Err(reason) => Err(self.rejected(reason)),
+            Err(reason) => Err(Invalid {
+                reason,
+                offset: self.passed,
+            }),
             Ok(None) => Ok(None),
             Ok(Some(left)) => {
                 *self = Extent {
@@ -234,13 +222,19 @@ impl Extent {
         ensures less { IsLessPart (length rest.now) result }
     {
         match start_of(protocol, rest, self.sought) {
-            Start::Never(reason) => Err(self.rejected(reason)),
+            Start::Never(reason) => Err(Invalid {
+                reason,
+                offset: self.passed,
+            }),
             Start::Open(sought) => {
                 self.sought = sought;
                 Ok(None)
             }
             Start::Whole(head, left) => match due_behind(head, others) {
-                None => Err(self.rejected(Reason::TooLarge)),
+                None => Err(Invalid {
+                    reason: Reason::TooLarge,
+                    offset: self.passed,
+                }),
                 Some((bulk, replies)) => {
                     *self = Extent {
                         passed: bytes.len() - left.len(),

@@ -1,15 +1,12 @@
 //! The first lines of replies, and their information about the bytes after them.
-ghost use Rattle.format_resp.specs.Heads.{HasNumber, IsLessMarked, IsLessStart, IsMarked};
-ghost use Rattle.format_resp.specs.Heads.{IsReason, IsRejectedLine, IsSmall, IsStart, Says};
-ghost use Rattle.format_resp.specs.Heads.{SaysSize, head_after};
+ghost use Rattle.format_resp.specs.Heads.{HasNumber, IsLessStart, IsReason, IsRejectedLine};
+ghost use Rattle.format_resp.specs.Heads.{IsStart, Says};
 ghost use Rattle.format_resp.specs.Numbers.{AreDigits};
-ghost use Rattle.format_resp.specs.Resp.{InLine, formatted, many};
-ghost use Rattle.format_resp.specs.declared.heads.Head.{Head};
+ghost use Rattle.format_resp.specs.Resp.{InLine, formatted};
 ghost use Rattle.format_resp.specs.declared.heads.Head.TheVariants.{Ends};
 ghost use Rattle.format_resp.specs.declared.marks.Mark.TheVariants as marks;
 ghost use Rattle.std.specs.List.{AllByRecursion};
-ghost use Rattle.std.specs.Prelude.{◌≡◌, ◌≤◌, ◌<◌, ◌^◌, IfErr, IfOk, IfSome, IsSome, MatchBool};
-ghost use Rattle.std.specs.Prelude.{None, Some, drop, length, take};
+ghost use Rattle.std.specs.Prelude.{◌≡◌, IfErr, IfOk, drop, length, take};
 
 use crate::extent::{Bulk, Reason};
 use crate::kinds::{count_of, line_reply};
@@ -27,16 +24,6 @@ pub(crate) enum Head {
     Data(Bulk),
     /// This number of replies.
     Replies(usize),
-}
-
-/// The result of the search for the first byte of a reply and the line after it.
-pub(crate) enum Marked<'i> {
-    /// The mark, the complete line, and the rest after it.
-    Whole(Mark, &'i [u8], &'i [u8]),
-    /// The line is incomplete: this number of bytes after the first have no part of a line ending.
-    Open(usize),
-    /// No continuation starts with one.
-    Never,
 }
 
 /// The result of the search for the first line of a reply.
@@ -80,7 +67,7 @@ fn size_reason(line: &[u8]) -> Reason
 
 /// Whether the data after a mark start with a format.
 #[inline(always)]
-pub(crate) fn is_formatted(mark: DataMark) -> bool
+fn is_formatted(mark: DataMark) -> bool
     ensures { result ≡ formatted mark }
 {
     match mark {
@@ -111,80 +98,46 @@ fn line_head(mark: LineMark, line: &[u8]) -> Result<Head, Reason>
     }
 }
 
-/// Returns whether the size after a mark may be that of null.
+/// Returns the meaning of a line after the mark of a reply with a number of bytes.
 #[inline(always)]
-pub(crate) fn has_null(mark: Mark) -> bool
-    ensures { MatchBool result (head_after mark None ≡ Some Ends) (head_after mark None ≡ None) }
-{
-    match mark {
-        Mark::Line(_) => false,
-        Mark::Data(mark) => match mark {
-            DataMark::Dollar => true,
-            DataMark::Exclamation => false,
-            DataMark::Equals => false,
-        },
-        Mark::Aggregate(mark) => match mark {
-            AggregateMark::Star => true,
-            AggregateMark::Percent => false,
-            AggregateMark::Tilde => false,
-            AggregateMark::Greater => false,
-            AggregateMark::Bar => false,
-        },
-    }
-}
-
-/// Returns the number of replies in an aggregate of this size, if it is less than 2^63.
-#[inline(always)]
-pub(crate) fn small_count(mark: AggregateMark, size: usize) -> Option<usize>
-    ensures some { IfSome result (λ count. (count ≡ many mark size) × (count < 2 ^ 63)) }
-    ensures none { result ≡ None → 2 ^ 63 ≤ many mark size }
-{
-    let count = count_of(mark, size)?;
-    if count as u64 <= MOST {
-        Some(count)
-    } else {
-        None
-    }
-}
-
-/// Returns the meaning of a size after a mark.
-#[inline(always)]
-fn sized_head(mark: Mark, size: Option<usize>) -> Result<Head, Reason>
-    ensures head { IfOk result (λ head. (head_after mark size ≡ Some head) × IsSmall head) }
-    ensures rejected { IfErr result (λ reason. ((head : Head) → head_after mark size ≡ Some head
-        → IsSmall head → ⊥) × IsReason (IsSome size) reason) }
-{
-    match size {
-        None => {
-            if has_null(mark) {
-                Ok(Head::Ends)
-            } else {
-                Err(Reason::Malformed)
-            }
-        }
-        Some(size) => match mark {
-            Mark::Line(_) => Err(Reason::TooLarge),
-            Mark::Data(mark) => Ok(Head::Data(Bulk {
-                size,
-                verbatim: is_formatted(mark),
-            })),
-            Mark::Aggregate(mark) => match small_count(mark, size) {
-                Some(count) => Ok(Head::Replies(count)),
-                None => Err(Reason::TooLarge),
-            },
-        },
-    }
-}
-
-/// Returns the meaning of a line after a mark with a size.
-#[inline(always)]
-fn size_head(mark: Mark, line: &[u8]) -> Result<Head, Reason>
-    ensures head { IfOk result (λ head. SaysSize mark head line.now) }
-    ensures rejected { IfErr result (λ reason. ((head : Head) → SaysSize mark head line.now → ⊥)
-        × IsReason (AreDigits line.now) reason) }
+fn data_head(mark: DataMark, line: &[u8]) -> Result<Head, Reason>
+    ensures head { IfOk result (λ head. Says (marks.Data mark) head line.now) }
+    ensures rejected { IfErr result (IsRejectedLine (marks.Data mark) line.now) }
 {
     match size_line(line) {
-        Some(size) => sized_head(mark, size),
+        Some(Some(size)) => Ok(Head::Data(Bulk {
+            size,
+            verbatim: is_formatted(mark),
+        })),
+        Some(None) => match mark {
+            DataMark::Dollar => Ok(Head::Ends),
+            _ => Err(Reason::Malformed),
+        },
+        None => Err(size_reason(line)),
+    }
+}
+
+/// Returns the meaning of a line after the mark of an aggregate.
+#[inline(always)]
+fn aggregate_head(mark: AggregateMark, line: &[u8]) -> Result<Head, Reason>
+    ensures head { IfOk result (λ head. Says (marks.Aggregate mark) head line.now) }
+    ensures rejected { IfErr result (IsRejectedLine (marks.Aggregate mark) line.now) }
+{
+    match size_line(line) {
+        Some(Some(size)) => match count_of(mark, size) {
+            Some(count) => {
+                if count as u64 <= MOST {
+                    Ok(Head::Replies(count))
+                } else {
+                    Err(Reason::TooLarge)
+                }
+            }
+            None => Err(Reason::TooLarge),
+        },
+        Some(None) => match mark {
+            AggregateMark::Star => Ok(Head::Ends),
+            _ => Err(Reason::Malformed),
+        },
         None => Err(size_reason(line)),
     }
 }
@@ -197,30 +150,9 @@ fn head_of(mark: Mark, line: &[u8]) -> Result<Head, Reason>
     ensures rejected { IfErr result (IsRejectedLine mark line.now) }
 {
     match mark {
-        Mark::Line(line_mark) => line_head(line_mark, line),
-        Mark::Data(_) => size_head(mark, line),
-        Mark::Aggregate(_) => size_head(mark, line),
-    }
-}
-
-/// Searches for the first byte of a reply at the start of the bytes, and for the line after it. The
-/// first `sought` bytes after the mark must have no part of a line ending.
-#[inline(always)]
-pub(crate) fn marked_line<'i>(protocol: Protocol, bytes: &'i [u8], sought: usize) -> Marked<'i>
-    ensures told { AllByRecursion InLine (take sought (drop 1 bytes.now))
-        → IsMarked protocol bytes.now result }
-    ensures less { IsLessMarked (length bytes.now) result }
-{
-    match bytes.split_first() {
-        None => Marked::Open(0),
-        Some((byte, text)) => match mark_of(protocol, *byte) {
-            None => Marked::Never,
-            Some(mark) => match line_of(text, sought) {
-                Line::Open(behind) => Marked::Open(behind),
-                Line::Never => Marked::Never,
-                Line::Whole(line, left) => Marked::Whole(mark, line, left),
-            },
-        },
+        Mark::Line(mark) => line_head(mark, line),
+        Mark::Data(mark) => data_head(mark, line),
+        Mark::Aggregate(mark) => aggregate_head(mark, line),
     }
 }
 
@@ -232,12 +164,18 @@ pub(crate) fn start_of<'i>(protocol: Protocol, bytes: &'i [u8], sought: usize) -
         → IsStart protocol bytes.now result }
     ensures less { IsLessStart (length bytes.now) result }
 {
-    match marked_line(protocol, bytes, sought) {
-        Marked::Open(behind) => Start::Open(behind),
-        Marked::Never => Start::Never(Reason::Malformed),
-        Marked::Whole(mark, line, left) => match head_of(mark, line) {
-            Ok(head) => Start::Whole(head, left),
-            Err(reason) => Start::Never(reason),
+    match bytes.split_first() {
+        None => Start::Open(0),
+        Some((byte, text)) => match mark_of(protocol, *byte) {
+            None => Start::Never(Reason::Malformed),
+            Some(mark) => match line_of(text, sought) {
+                Line::Open(behind) => Start::Open(behind),
+                Line::Never => Start::Never(Reason::Malformed),
+                Line::Whole(line, left) => match head_of(mark, line) {
+                    Ok(head) => Start::Whole(head, left),
+                    Err(reason) => Start::Never(reason),
+                },
+            },
         },
     }
 }

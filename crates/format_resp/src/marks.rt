@@ -1,11 +1,26 @@
 //! The first bytes of replies.
 
 ghost use Rattle.std.specs.Prelude.{◌≡◌, None, IfSome, MatchBool};
-ghost use Rattle.format_resp.specs.Resp.{IsIn, byte_of};
+ghost use Rattle.streams.specs.Bytes.{bytes_follow, bytes_reading};
+ghost use Rattle.winnow_grammar.specs.Cut.{ReadsOrAsks};
+ghost use Rattle.winnow_grammar.specs.InTurn.{First};
+ghost use Rattle.format_resp.specs.Resp.{IsIn, MarkText, byte_of};
 ghost use Rattle.format_resp.specs.declared.marks.Mark.{Mark};
+ghost use Rattle.format_resp.specs.declared.marks.Mark.TheVariants.{Aggregate};
 ghost use Rattle.format_resp.specs.declared.reply.Protocol.TheVariants.{Resp2};
 
+use crate::pieces::token;
 use crate::reply::Protocol;
+use stream_errors::empty::EmptyError;
+use stream_errors::has_kind::HasKind;
+use stream_errors::mode::ErrMode;
+use stream_errors::parser_error::ParserError;
+use streams::partial::Partial;
+use streams::stream::Stream;
+
+type Bytes = Partial<&'static [u8]>;
+
+type Error = ErrMode<EmptyError>;
 
 /// The first byte of a reply that is a line.
 #[derive(Clone, Copy)]
@@ -52,6 +67,21 @@ pub(crate) enum AggregateMark {
     Bar,
 }
 
+impl AggregateMark {
+    /// The byte.
+    pub(crate) fn byte(self) -> u8
+        ensures { result ≡ byte_of (Aggregate self) }
+    {
+        match self {
+            AggregateMark::Star => b'*',
+            AggregateMark::Percent => b'%',
+            AggregateMark::Tilde => b'~',
+            AggregateMark::Greater => b'>',
+            AggregateMark::Bar => b'|',
+        }
+    }
+}
+
 /// The first byte of a reply, which determines its kind.
 #[derive(Clone, Copy)]
 pub(crate) enum Mark {
@@ -61,38 +91,6 @@ pub(crate) enum Mark {
     Data(DataMark),
     /// A reply with a number of replies.
     Aggregate(AggregateMark),
-}
-
-impl Mark {
-    /// The byte.
-    #[inline(always)]
-    pub(crate) fn byte(self) -> u8
-        ensures { result ≡ byte_of self }
-    {
-        match self {
-            Mark::Line(mark) => match mark {
-                LineMark::Plus => b'+',
-                LineMark::Minus => b'-',
-                LineMark::Colon => b':',
-                LineMark::Underscore => b'_',
-                LineMark::Hash => b'#',
-                LineMark::Comma => b',',
-                LineMark::Parenthesis => b'(',
-            },
-            Mark::Data(mark) => match mark {
-                DataMark::Dollar => b'$',
-                DataMark::Exclamation => b'!',
-                DataMark::Equals => b'=',
-            },
-            Mark::Aggregate(mark) => match mark {
-                AggregateMark::Star => b'*',
-                AggregateMark::Percent => b'%',
-                AggregateMark::Tilde => b'~',
-                AggregateMark::Greater => b'>',
-                AggregateMark::Bar => b'|',
-            },
-        }
-    }
 }
 
 /// Returns the mark of a byte, if it starts a reply.
@@ -173,5 +171,22 @@ pub(crate) fn mark_of(protocol: Protocol, byte: u8) -> Option<Mark>
         Some(mark)
     } else {
         None
+    }
+}
+
+/// The first byte of a reply.
+#[inline(always)]
+pub(crate) fn read_mark<'i>(
+    protocol: Protocol,
+    input: &mut Partial<&'i [u8]>,
+) -> Result<Mark, ErrMode<EmptyError>>
+    ensures { ReadsOrAsks bytes_reading bytes_follow ⟦<Error as HasKind>⟧.kind
+        (First (MarkText protocol)) (⟦<Bytes as Stream>⟧.view input.old) result
+        (⟦<Bytes as Stream>⟧.view input.new) }
+{
+    let byte = token(input)?;
+    match mark_of(protocol, byte) {
+        Some(mark) => Ok(mark),
+        None => Err(ErrMode::from_input(input)),
     }
 }

@@ -5,7 +5,7 @@ ghost use Rattle.stream_sets.specs.Range.{from_to};
 ghost use Rattle.winnow_grammar.specs.Cut.{ReadsOrAsks};
 ghost use Rattle.winnow_core.specs.Literal.Laws.{SpellsByText};
 ghost use Rattle.stream_sets.specs.Once.{TokenEqInjective};
-ghost use Rattle.grammars.specs.Grammar.{Both, Counted, Longest};
+ghost use Rattle.grammars.specs.Grammar.{Both, Counted, Longest, Token};
 ghost use Rattle.stream_sets.specs.Once.{Others};
 ghost use Rattle.grammars.specs.Grammar.Searches.{LiterallyBytes};
 
@@ -18,7 +18,18 @@ use streams::stream::StreamIsPartial;
 use winnow_ascii::ascii::impls::Crlf;
 use winnow_comb::combinator::terminated;
 use winnow_grammar::pieces::ReadsPieces;
+use winnow_token::token::impls::Any;
 use winnow_token::token::{take, take_till};
+
+/// A token.
+#[inline(always)]
+pub(crate) fn token<I: StreamIsPartial, E: ParserError<I>>(input: &mut I) -> Result<I::Token, E>
+    requires modal { E.form ≡ modal }
+    ensures { ReadsOrAsks I.reading I.following E.kind (Token I.seen_as) (I.view input.old) result
+        (I.view input.new) }
+{
+    Any.read_cut(input)
+}
 
 /// Parses the bytes up to a carriage return and a line feed. Neither of these occurs in them.
 #[inline(always)]

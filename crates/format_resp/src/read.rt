@@ -1,70 +1,68 @@
 //! The reader of replies.
 
-ghost use Rattle.std.specs.Prelude.{IfErr, List, ℕ};
+ghost use Rattle.std.specs.Prelude.{ℕ};
 ghost use Rattle.streams.specs.Bytes.{bytes_follow, bytes_reading};
-ghost use Rattle.winnow_grammar.specs.Cut.{Asks, ReadsOrAsks};
-ghost use Rattle.winnow_grammar.specs.InTurn.{First};
-ghost use Rattle.format_resp.specs.Bounded.{IsWantingWithin};
-ghost use Rattle.format_resp.specs.Heads.{AfterMark};
-ghost use Rattle.format_resp.specs.Reading.{AreRead, IsRead};
-ghost use Rattle.format_resp.specs.Resp.{ReplyText};
-ghost use Rattle.format_resp.specs.declared.marks.Mark.TheVariants as marks;
-ghost use Rattle.format_resp.specs.declared.reply.Protocol.{Protocol};
+ghost use Rattle.winnow_grammar.specs.Cut.{ReadsOrAsks};
+ghost use Rattle.winnow_grammar.specs.InTurn.{First, Led};
+ghost use Rattle.format_resp.specs.Resp.{AggregateBehind, Any, DataBehind, Elements, Ended};
+ghost use Rattle.format_resp.specs.Resp.{LineSays, ReplyText, SizeText};
 
-use crate::extent::split_data;
-use crate::heads::{Marked, marked_line, small_count};
-use crate::kinds::{aggregate_reply, data_reply, line_reply};
-use crate::marks::{AggregateMark, DataMark, Mark};
-use crate::numbers::size_line;
+use crate::kinds::{aggregate_reply, count_of, data_reply, line_reply};
+use crate::leaves::{read_data, read_line, read_size};
+use crate::marks::{AggregateMark, DataMark, LineMark, Mark, read_mark};
 use crate::reply::{Protocol, Reply};
 use std::alloc::Allocator;
 use stream_errors::empty::EmptyError;
+use stream_errors::growth::OrNoMemory;
 use stream_errors::has_kind::HasKind;
 use stream_errors::mode::ErrMode;
 use stream_errors::parser_error::ParserError;
-use streams::needed::Needed;
 use streams::partial::Partial;
-use streams::stream::{Stream, StreamIsPartial};
+use streams::stream::Stream;
 
 type Bytes = Partial<&'static [u8]>;
 
 type Error = ErrMode<EmptyError>;
 
-/// Why no reply is read.
-pub(crate) enum Unread {
-    /// The reply is incomplete: at least this number of bytes is missing.
-    Incomplete(usize),
-    /// No continuation starts with one.
-    Invalid,
-    /// Memory allocation failed.
-    NoMemory,
+/// Parses the rest of a reply that consists of one line, after its first byte.
+#[inline(always)]
+fn read_on_line<'i, A: Allocator>(
+    mark: LineMark,
+    input: &mut Partial<&'i [u8]>,
+) -> Result<Reply<&'i [u8], A>, ErrMode<EmptyError>>
+    ensures { ReadsOrAsks bytes_reading bytes_follow ⟦<Error as HasKind>⟧.kind
+        (First (Ended (LineSays Any mark))) (⟦<Bytes as Stream>⟧.view input.old) result
+        (⟦<Bytes as Stream>⟧.view input.new) }
+{
+    let line = read_line(input)?;
+    match line_reply(mark, line) {
+        Some(reply) => Ok(reply),
+        None => Err(ErrMode::from_input(input)),
+    }
 }
 
-/// Reads a string, after its first line.
+/// Parses the rest of a reply whose line gives a number of bytes, after its first byte.
 #[inline(always)]
-fn read_string<'i, A: Allocator>(
+fn read_bytes<'i, A: Allocator>(
     mark: DataMark,
-    line: &[u8],
-    left: &'i [u8],
-) -> Result<(Reply<&'i [u8], A>, &'i [u8]), Unread>
-    ensures { (protocol : Protocol) (level : ℕ) (tokens : List ℕ)
-        → AfterMark protocol tokens (marks.Data mark) line.now left.now
-        → IsRead protocol level tokens result }
+    input: &mut Partial<&'i [u8]>,
+) -> Result<Reply<&'i [u8], A>, ErrMode<EmptyError>>
+    ensures { ReadsOrAsks bytes_reading bytes_follow ⟦<Error as HasKind>⟧.kind
+        (First (Led SizeText (DataBehind mark))) (⟦<Bytes as Stream>⟧.view input.old) result
+        (⟦<Bytes as Stream>⟧.view input.new) }
 {
-    match size_line(line) {
-        None => Err(Unread::Invalid),
-        Some(None) => match mark {
-            DataMark::Dollar => Ok((Reply::NullBulk, left)),
-            _ => Err(Unread::Invalid),
+    match read_size(input)? {
+        None => match mark {
+            DataMark::Dollar => Ok(Reply::NullBulk),
+            _ => Err(ErrMode::from_input(input)),
         },
-        Some(Some(size)) => match split_data(size, left) {
-            Err(_) => Err(Unread::Invalid),
-            Ok(None) => Err(Unread::Incomplete(size.saturating_sub(left.len()).max(1))),
-            Ok(Some((bytes, rest))) => match data_reply(mark, bytes) {
-                Some(reply) => Ok((reply, rest)),
-                None => Err(Unread::Invalid),
-            },
-        },
+        Some(size) => {
+            let bytes = read_data(size, input)?;
+            match data_reply(mark, bytes) {
+                Some(reply) => Ok(reply),
+                None => Err(ErrMode::from_input(input)),
+            }
+        }
     }
 }
 
@@ -86,89 +84,38 @@ pub const SAFE_DEPTH: usize = 128;
 /// bytes say, and they may state one that they do not have.
 const ROOM_AT_FIRST: usize = 64;
 
-/// Reads this number of replies.
-#[cycle(read)]
-fn read_replies<'i, A: Allocator + Copy>(
-    alloc: A,
-    protocol: Protocol,
-    level: usize,
-    count: usize,
-    bytes: &'i [u8],
-) -> Result<(Vec<Reply<&'i [u8], A>, A>, &'i [u8]), Unread>
-    ensures { AreRead protocol level count bytes.now result }
-{
-    let mut rest = bytes;
-    let mut replies = match Vec::with_capacity(alloc, count.min(ROOM_AT_FIRST)) {
-        Ok(replies) => replies,
-        Err(_) => return Err(Unread::NoMemory),
-    };
-    for _ in 0..count {
-        match read_bytes(alloc, protocol, level, rest) {
-            Err(unread) => return Err(unread),
-            Ok((reply, left)) => {
-                match replies.push(reply) {
-                    Ok(()) => rest = left,
-                    Err(_) => return Err(Unread::NoMemory),
-                }
-            }
-        }
-    }
-    Ok((replies, rest))
-}
-
-/// Reads an aggregate, after its first line.
+/// Parses the rest of an aggregate, after its first byte.
 #[cycle(read)]
 fn read_aggregate<'i, A: Allocator + Copy>(
     alloc: A,
     protocol: Protocol,
     level: usize,
     mark: AggregateMark,
-    line: &[u8],
-    left: &'i [u8],
-) -> Result<(Reply<&'i [u8], A>, &'i [u8]), Unread>
-    ensures { (tokens : List ℕ)
-        → AfterMark protocol tokens (marks.Aggregate mark) line.now left.now
-        → IsRead protocol level tokens result }
+    input: &mut Partial<&'i [u8]>,
+) -> Result<Reply<&'i [u8], A>, ErrMode<EmptyError>>
+    ensures { ReadsOrAsks bytes_reading bytes_follow ⟦<Error as HasKind>⟧.kind
+        (First (Led SizeText (AggregateBehind (Elements protocol level) mark)))
+        (⟦<Bytes as Stream>⟧.view input.old) result (⟦<Bytes as Stream>⟧.view input.new) }
 {
-    match size_line(line) {
-        None => Err(Unread::Invalid),
-        Some(None) => match mark {
-            AggregateMark::Star => Ok((Reply::NullArray, left)),
-            _ => Err(Unread::Invalid),
+    match read_size(input)? {
+        None => match mark {
+            AggregateMark::Star => Ok(Reply::NullArray),
+            _ => Err(ErrMode::from_input(input)),
         },
-        Some(Some(size)) => match small_count(mark, size) {
-            None => Err(Unread::Invalid),
-            Some(count) => match level.checked_sub(1) {
-                None => Err(Unread::Invalid),
-                Some(inner) => match read_replies(alloc, protocol, inner, count, left) {
-                    Err(unread) => Err(unread),
-                    Ok((replies, rest)) => Ok((aggregate_reply(mark, replies), rest)),
-                },
-            },
-        },
-    }
-}
-
-/// Reads a reply.
-#[cycle(read)]
-fn read_bytes<'i, A: Allocator + Copy>(
-    alloc: A,
-    protocol: Protocol,
-    level: usize,
-    bytes: &'i [u8],
-) -> Result<(Reply<&'i [u8], A>, &'i [u8]), Unread>
-    ensures { IsRead protocol level bytes.now result }
-{
-    match marked_line(protocol, bytes, 0) {
-        Marked::Never => Err(Unread::Invalid),
-        Marked::Open(_) => Err(Unread::Incomplete(1)),
-        Marked::Whole(mark, line, left) => match mark {
-            Mark::Line(mark) => match line_reply(mark, line) {
-                Some(reply) => Ok((reply, left)),
-                None => Err(Unread::Invalid),
-            },
-            Mark::Data(mark) => read_string(mark, line, left),
-            Mark::Aggregate(mark) => read_aggregate(alloc, protocol, level, mark, line, left),
+        Some(size) => match level.checked_sub(1) {
+            None => Err(ErrMode::from_input(input)),
+            Some(inner) => {
+                let Some(count) = count_of(mark, size) else {
+                    return Err(ErrMode::from_input(input));
+                };
+                let room = count.min(ROOM_AT_FIRST);
+                let mut replies = Vec::with_capacity(alloc, room).or_no_memory(input)?;
+                for _ in 0..count {
+                    let reply = read_reply(alloc, protocol, inner, input)?;
+                    replies.push(reply).or_no_memory(input)?;
+                }
+                Ok(aggregate_reply(mark, replies))
+            }
         },
     }
 }
@@ -179,10 +126,10 @@ fn read_bytes<'i, A: Allocator + Copy>(
 ///
 /// On complete input (a stream that is marked complete) it succeeds if and only if the input starts
 /// with such a reply, unless an allocation fails: the only errors are a backtrack and out of
-/// memory. On partial input a result holds for any continuation, and so does a backtrack. It
-/// returns `Incomplete` only if the part after the complete ones is an incomplete line or string;
-/// then the input must be read again, with more bytes. After an error the input is unchanged. That
-/// some continuation of incomplete input starts with a reply is tested.
+/// memory. On partial input a result holds for any continuation, and so does a backtrack; otherwise
+/// it returns `Incomplete`, and the input must be read again from its start, with more bytes. No
+/// clause specifies `Incomplete` further: that it is returned only if some continuation starts with
+/// a reply is tested.
 ///
 /// ```
 /// use format_resp::read::{SAFE_DEPTH, read_reply};
@@ -196,34 +143,20 @@ fn read_bytes<'i, A: Allocator + Copy>(
 /// let mut map = Partial::new(b"%1\r\n".as_slice());
 /// assert!(rt; read_reply(alloc, Protocol::Resp2, SAFE_DEPTH, &mut map).is_err());
 /// ```
+#[cycle(read)]
 pub fn read_reply<'i, A: Allocator + Copy>(
     alloc: A,
     protocol: Protocol,
     level: usize,
     input: &mut Partial<&'i [u8]>,
 ) -> Result<Reply<&'i [u8], A>, ErrMode<EmptyError>>
-    ensures reads { ReadsOrAsks bytes_reading bytes_follow ⟦<Error as HasKind>⟧.kind
+    ensures { ReadsOrAsks bytes_reading bytes_follow ⟦<Error as HasKind>⟧.kind
         (First (ReplyText protocol level)) (⟦<Bytes as Stream>⟧.view input.old) result
         (⟦<Bytes as Stream>⟧.view input.new) }
-    ensures asks { IfErr result (λ e. Asks (⟦<Error as HasKind>⟧.kind e)
-        → IsWantingWithin protocol level (⟦<Bytes as Stream>⟧.view input.old).left.tokens) }
 {
-    let bytes = *input.as_inner();
-    let partial = input.is_partial();
-    match read_bytes(alloc, protocol, level, bytes) {
-        Ok((reply, left)) => {
-            *input = Partial::new(left);
-            input.restore_partial(partial);
-            Ok(reply)
-        }
-        Err(Unread::Incomplete(need)) => {
-            if partial {
-                Err(ErrMode::Incomplete(Needed::new(need)))
-            } else {
-                Err(ErrMode::from_input(input))
-            }
-        }
-        Err(Unread::Invalid) => Err(ErrMode::from_input(input)),
-        Err(Unread::NoMemory) => Err(ErrMode::no_memory(input)),
+    match read_mark(protocol, input)? {
+        Mark::Line(mark) => read_on_line(mark, input),
+        Mark::Data(mark) => read_bytes(mark, input),
+        Mark::Aggregate(mark) => read_aggregate(alloc, protocol, level, mark, input),
     }
 }

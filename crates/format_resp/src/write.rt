@@ -1,21 +1,21 @@
 //! Replies and commands as bytes.
+ghost use Rattle.std.specs.List.{AllByRecursion};
 ghost use Rattle.std.specs.Prelude.{◌≡◌, ◌⊎◌, ◌++◌, [], IfErr, MatchBool, OnErr, OnOk};
 ghost use Rattle.grammars.specs.Texts.{EachText};
-ghost use Rattle.format_resp.specs.Resp.{BooleanText, Fits, IsIn, IsLineOf, Replies, ReplyText};
-ghost use Rattle.format_resp.specs.Resp.{WrittenText, byte_of, formatted};
-ghost use Rattle.format_resp.specs.Written.{Adds, IsListOf, IsRefused, IsRefusedAmong};
-ghost use Rattle.format_resp.specs.Written.{IsRefusedAs, IsShape, Keeps, bulks_of, command_of};
-ghost use Rattle.format_resp.specs.Written.{data_of, error_of, marked, shape_mark};
-ghost use Rattle.format_resp.specs.declared.marks.Mark.TheVariants.{Aggregate, Data, Line};
+ghost use Rattle.format_resp.specs.Numbers.{IsBigNumber, IsDouble};
+ghost use Rattle.format_resp.specs.Resp.{BooleanText, InLine, IsIn, IsVerbatim, ReplyText};
+ghost use Rattle.format_resp.specs.Resp.{WrittenText, first_mark, gathered};
+ghost use Rattle.format_resp.specs.Written.{Adds, IsForeign, IsRefused, IsRefusedAmong};
+ghost use Rattle.format_resp.specs.Written.{IsRefusedAs};
+ghost use Rattle.format_resp.specs.Written.{Keeps, bulks_of, command_of, data_of, marked};
+ghost use Rattle.format_resp.specs.declared.marks.Mark.TheVariants.{Aggregate};
 ghost use Rattle.format_resp.specs.declared.write.WriteError.TheVariants as errors;
 
-use crate::extent::fits;
-use crate::heads::is_formatted;
 use crate::kinds::size_of;
 use crate::marks::{AggregateMark, DataMark, LineMark, Mark, is_in};
 use crate::numbers::{is_big_number, is_double};
 use crate::parts::{is_line, write_data, write_integer, write_line, write_size};
-use crate::reply::{Protocol, Reply};
+use crate::reply::{Protocol, Reply, is_verbatim};
 use std::alloc::{AllocError, Allocator};
 
 /// Why a reply or a command was not written.
@@ -60,19 +60,19 @@ impl From<AllocError> for WriteError {
     }
 }
 
-/// A reply by what is written for it.
-#[derive(Drop)]
-pub(crate) enum Shape<'r, 'b, A: Allocator> {
-    /// A line of the reply's bytes, which may be invalid.
-    Text(LineMark, &'b [u8]),
-    /// A line that is valid.
-    Fixed(Mark, &'static [u8]),
-    /// The line of an integer.
-    Integer(i64),
-    /// The data of a string.
-    Data(DataMark, &'b [u8]),
-    /// The elements of an aggregate.
-    List(AggregateMark, &'r [Reply<&'b [u8], A>]),
+/// Appends a simple string or an error.
+fn write_text<B: Allocator>(mark: u8, text: &[u8], into: &mut Vec<u8, B>) -> Result<(), WriteError>
+    ensures written { OnOk result (AllByRecursion InLine text.now
+        × (into.new.items ≡ into.old.items ++ marked mark text.now)) }
+    ensures refused { IfErr result (IsRefusedAs errors.LineBreak
+        (AllByRecursion InLine text.now)) }
+    ensures kept { Keeps into.old.items into.new.items }
+{
+    if !is_line(text) {
+        return Err(WriteError::LineBreak);
+    }
+    write_line(mark, text, into)?;
+    Ok(())
 }
 
 /// The text of a boolean.
@@ -82,108 +82,83 @@ fn boolean_text(boolean: bool) -> &'static [u8]
     if boolean { b"t" } else { b"f" }
 }
 
-/// Returns the shape of a reply.
-fn shape_of<'r, 'b, A: Allocator>(reply: &'r Reply<&'b [u8], A>) -> Shape<'r, 'b, A>
-    ensures { IsShape reply.now result }
-{
-    match reply {
-        Reply::Simple(text) => Shape::Text(LineMark::Plus, *text),
-        Reply::Error(text) => Shape::Text(LineMark::Minus, *text),
-        Reply::Integer(number) => Shape::Integer(*number),
-        Reply::Null => Shape::Fixed(Mark::Line(LineMark::Underscore), b""),
-        Reply::Boolean(boolean) => {
-            Shape::Fixed(Mark::Line(LineMark::Hash), boolean_text(*boolean))
-        }
-        Reply::Double(text) => Shape::Text(LineMark::Comma, *text),
-        Reply::BigNumber(text) => Shape::Text(LineMark::Parenthesis, *text),
-        Reply::Bulk(bytes) => Shape::Data(DataMark::Dollar, *bytes),
-        Reply::NullBulk => Shape::Fixed(Mark::Data(DataMark::Dollar), b"-1"),
-        Reply::BulkError(bytes) => Shape::Data(DataMark::Exclamation, *bytes),
-        Reply::Verbatim(bytes) => Shape::Data(DataMark::Equals, *bytes),
-        Reply::Array(list) => Shape::List(AggregateMark::Star, list.as_slice()),
-        Reply::NullArray => Shape::Fixed(Mark::Aggregate(AggregateMark::Star), b"-1"),
-        Reply::Map(list) => Shape::List(AggregateMark::Percent, list.as_slice()),
-        Reply::Set(list) => Shape::List(AggregateMark::Tilde, list.as_slice()),
-        Reply::Push(list) => Shape::List(AggregateMark::Greater, list.as_slice()),
-        Reply::Attributed(list) => Shape::List(AggregateMark::Bar, list.as_slice()),
-    }
-}
-
-/// Returns the mark of a reply by its shape.
-fn mark_in<A: Allocator>(shape: &Shape<'_, '_, A>) -> Mark
-    ensures { result ≡ shape_mark shape.now }
-{
-    match shape {
-        Shape::Text(mark, _) => Mark::Line(*mark),
-        Shape::Fixed(mark, _) => *mark,
-        Shape::Integer(_) => Mark::Line(LineMark::Colon),
-        Shape::Data(mark, _) => Mark::Data(*mark),
-        Shape::List(mark, _) => Mark::Aggregate(*mark),
-    }
-}
-
-/// Returns whether the bytes of a reply are valid as its line.
-fn is_line_of(mark: LineMark, text: &[u8]) -> bool
-    ensures { MatchBool result (IsLineOf mark text.now) (IsLineOf mark text.now → ⊥) }
-{
-    match mark {
-        LineMark::Plus => is_line(text),
-        LineMark::Minus => is_line(text),
-        LineMark::Colon => is_line(text),
-        LineMark::Underscore => is_line(text),
-        LineMark::Hash => is_line(text),
-        LineMark::Comma => is_double(text),
-        LineMark::Parenthesis => is_big_number(text),
-    }
-}
-
-/// Returns the error if they are not.
-fn line_error(mark: LineMark) -> WriteError
-    ensures { result ≡ error_of mark }
-{
-    match mark {
-        LineMark::Plus => WriteError::LineBreak,
-        LineMark::Minus => WriteError::LineBreak,
-        LineMark::Colon => WriteError::LineBreak,
-        LineMark::Underscore => WriteError::LineBreak,
-        LineMark::Hash => WriteError::LineBreak,
-        LineMark::Comma => WriteError::Double,
-        LineMark::Parenthesis => WriteError::BigNumber,
-    }
-}
-
-/// Appends a line of the bytes of a reply.
-fn write_text<B: Allocator>(
-    mark: LineMark,
-    text: &[u8],
-    into: &mut Vec<u8, B>,
-) -> Result<(), WriteError>
-    ensures written { OnOk result (IsLineOf mark text.now
-        × (into.new.items ≡ into.old.items ++ marked (byte_of (Line mark)) text.now)) }
-    ensures refused { IfErr result (IsRefusedAs (error_of mark) (IsLineOf mark text.now)) }
+/// Appends a double.
+fn write_double<B: Allocator>(text: &[u8], into: &mut Vec<u8, B>) -> Result<(), WriteError>
+    ensures written { OnOk result (IsDouble text.now
+        × (into.new.items ≡ into.old.items ++ marked 44 text.now)) }
+    ensures refused { IfErr result (IsRefusedAs errors.Double (IsDouble text.now)) }
     ensures kept { Keeps into.old.items into.new.items }
 {
-    if !is_line_of(mark, text) {
-        return Err(line_error(mark));
+    if !is_double(text) {
+        return Err(WriteError::Double);
     }
-    Ok(write_line(Mark::Line(mark).byte(), text, into)?)
+    write_line(b',', text, into)?;
+    Ok(())
 }
 
-/// Appends the data of a string.
-fn write_string<B: Allocator>(
-    mark: DataMark,
-    bytes: &[u8],
-    into: &mut Vec<u8, B>,
-) -> Result<(), WriteError>
-    ensures written { OnOk result (Fits (formatted mark) bytes.now
-        × (into.new.items ≡ into.old.items ++ data_of (byte_of (Data mark)) bytes.now)) }
-    ensures refused { IfErr result (IsRefusedAs errors.Format (Fits (formatted mark) bytes.now)) }
+/// Appends a big number.
+fn write_big_number<B: Allocator>(text: &[u8], into: &mut Vec<u8, B>) -> Result<(), WriteError>
+    ensures written { OnOk result (IsBigNumber text.now
+        × (into.new.items ≡ into.old.items ++ marked 40 text.now)) }
+    ensures refused { IfErr result (IsRefusedAs errors.BigNumber (IsBigNumber text.now)) }
     ensures kept { Keeps into.old.items into.new.items }
 {
-    if !fits(is_formatted(mark), bytes) {
+    if !is_big_number(text) {
+        return Err(WriteError::BigNumber);
+    }
+    write_line(b'(', text, into)?;
+    Ok(())
+}
+
+/// Appends a verbatim string.
+fn write_verbatim<B: Allocator>(bytes: &[u8], into: &mut Vec<u8, B>) -> Result<(), WriteError>
+    ensures written { OnOk result (IsVerbatim bytes.now
+        × (into.new.items ≡ into.old.items ++ data_of 61 bytes.now)) }
+    ensures refused { IfErr result (IsRefusedAs errors.Format (IsVerbatim bytes.now)) }
+    ensures kept { Keeps into.old.items into.new.items }
+{
+    if !is_verbatim(bytes) {
         return Err(WriteError::Format);
     }
-    Ok(write_data(Mark::Data(mark).byte(), bytes, into)?)
+    write_data(b'=', bytes, into)?;
+    Ok(())
+}
+
+/// Returns the mark that encodings of a reply start with.
+fn begins<A: Allocator>(reply: &Reply<&[u8], A>) -> Mark
+    ensures { result ≡ first_mark reply.now }
+{
+    match reply {
+        Reply::Simple(_) => Mark::Line(LineMark::Plus),
+        Reply::Error(_) => Mark::Line(LineMark::Minus),
+        Reply::Integer(_) => Mark::Line(LineMark::Colon),
+        Reply::Bulk(_) => Mark::Data(DataMark::Dollar),
+        Reply::NullBulk => Mark::Data(DataMark::Dollar),
+        Reply::Array(_) => Mark::Aggregate(AggregateMark::Star),
+        Reply::NullArray => Mark::Aggregate(AggregateMark::Star),
+        Reply::Null => Mark::Line(LineMark::Underscore),
+        Reply::Boolean(_) => Mark::Line(LineMark::Hash),
+        Reply::Double(_) => Mark::Line(LineMark::Comma),
+        Reply::BigNumber(_) => Mark::Line(LineMark::Parenthesis),
+        Reply::BulkError(_) => Mark::Data(DataMark::Exclamation),
+        Reply::Verbatim(_) => Mark::Data(DataMark::Equals),
+        Reply::Map(_) => Mark::Aggregate(AggregateMark::Percent),
+        Reply::Set(_) => Mark::Aggregate(AggregateMark::Tilde),
+        Reply::Push(_) => Mark::Aggregate(AggregateMark::Greater),
+        Reply::Attributed(_) => Mark::Aggregate(AggregateMark::Bar),
+    }
+}
+
+/// Whether a reply is of a kind that the version of the protocol does not have.
+fn is_foreign<A: Allocator>(protocol: Protocol, reply: &Reply<&[u8], A>) -> bool
+    ensures { MatchBool result (IsForeign protocol reply.now)
+        (IsIn protocol (first_mark reply.now)) }
+{
+    if is_in(protocol, begins(reply)) {
+        false
+    } else {
+        true
+    }
 }
 
 /// Appends replies.
@@ -212,14 +187,13 @@ fn write_list<A: Allocator, B: Allocator>(
     protocol: Protocol,
     level: usize,
     mark: AggregateMark,
-    replies: &[Reply<&[u8], A>],
+    replies: &Vec<Reply<&[u8], A>, A>,
     into: &mut Vec<u8, B>,
 ) -> Result<(), WriteError>
-    ensures written { OnOk result ((reply : Replies A) → IsListOf mark replies.now reply
-        → IsIn protocol (Aggregate mark)
-        → Adds (WrittenText protocol level) reply into.old.items into.new.items) }
-    ensures refused { IfErr result (λ e. (reply : Replies A) → IsListOf mark replies.now reply
-        → IsRefused protocol level reply e) }
+    ensures written { OnOk result (IsIn protocol (Aggregate mark)
+        → Adds (WrittenText protocol level) (gathered mark replies.now)
+        into.old.items into.new.items) }
+    ensures refused { IfErr result (IsRefused protocol level (gathered mark replies.now)) }
     ensures kept { Keeps into.old.items into.new.items }
 {
     if level == 0 {
@@ -227,8 +201,8 @@ fn write_list<A: Allocator, B: Allocator>(
     }
     match size_of(mark, replies.len()) {
         Some(size) => {
-            write_size(Mark::Aggregate(mark).byte(), size, into)?;
-            write_elements(protocol, level - 1, replies, into)
+            write_size(mark.byte(), size, into)?;
+            write_elements(protocol, level - 1, replies.as_slice(), into)
         }
         None => Err(WriteError::Pairs),
     }
@@ -247,16 +221,33 @@ fn write_nested<A: Allocator, B: Allocator>(
     ensures refused { IfErr result (IsRefused protocol level reply.now) }
     ensures kept { Keeps into.old.items into.new.items }
 {
-    let shape = shape_of(reply);
-    if !is_in(protocol, mark_in(&shape)) {
+    if is_foreign(protocol, reply) {
         return Err(WriteError::Foreign);
     }
-    match shape {
-        Shape::Text(mark, text) => write_text(mark, text, into),
-        Shape::Fixed(mark, line) => Ok(write_line(mark.byte(), line, into)?),
-        Shape::Integer(number) => Ok(write_integer(number, into)?),
-        Shape::Data(mark, bytes) => write_string(mark, bytes, into),
-        Shape::List(mark, replies) => write_list(protocol, level, mark, replies, into),
+    match reply {
+        Reply::Simple(text) => write_text(b'+', text, into),
+        Reply::Error(text) => write_text(b'-', text, into),
+        Reply::Integer(number) => Ok(write_integer(*number, into)?),
+        Reply::Null => Ok(write_line(b'_', b"", into)?),
+        Reply::Boolean(boolean) => Ok(write_line(b'#', boolean_text(*boolean), into)?),
+        Reply::Double(text) => write_double(text, into),
+        Reply::BigNumber(text) => write_big_number(text, into),
+        Reply::Bulk(bytes) => Ok(write_data(b'$', bytes, into)?),
+        Reply::NullBulk => Ok(write_line(b'$', b"-1", into)?),
+        Reply::BulkError(bytes) => Ok(write_data(b'!', bytes, into)?),
+        Reply::Verbatim(bytes) => write_verbatim(bytes, into),
+        Reply::Array(replies) => write_list(protocol, level, AggregateMark::Star, replies, into),
+        Reply::NullArray => Ok(write_line(b'*', b"-1", into)?),
+        Reply::Map(replies) => write_list(protocol, level, AggregateMark::Percent, replies, into),
+        Reply::Set(replies) => write_list(protocol, level, AggregateMark::Tilde, replies, into),
+        Reply::Push(replies) => write_list(protocol, level, AggregateMark::Greater, replies, into),
+        Reply::Attributed(replies) => write_list(
+            protocol,
+            level,
+            AggregateMark::Bar,
+            replies,
+            into,
+        ),
     }
 }
 

@@ -1,123 +1,127 @@
-use Rattle.std.specs.Prelude.{drop, length, ◌∷◌, []}
-use Rattle.std.proofs.Common.{ap, arith, length-append, refl, subst}
-use Rattle.format_resp.specs.Bounded.{AreAfter}
-use Rattle.format_resp.proofs.Made.{gathered_is}
-use Rattle.format_resp.proofs.Passing.{all_none}
-use Rattle.format_resp.proofs.Reading.{aggregate_read, element_unread, line_never, line_read}
-use Rattle.format_resp.proofs.Reading.{line_wanting, no_null_array, null_array_read, row_after}
-use Rattle.format_resp.proofs.Reading.{row_none, row_one, row_unread, too_deep, too_many}
-use Rattle.format_resp.proofs.Reading.{unread_line, unsaid_never}
-use Rattle.format_resp.specs.declared.marks.Mark.TheVariants.{Aggregate}
+use Rattle.std.proofs.Common.{ap, arith, refl, ◌≡◌, ◌++◌, ◌∷◌, [], suc}
+use Rattle.streams.specs.Input.{is_end_of_trans3}
+use Rattle.winnow_grammar.specs.InTurn.{failed, led_failed, led_none, led_stood, led_told, passed}
+use Rattle.winnow_grammar.specs.InTurn.{stood}
+use Rattle.winnow_grammar.specs.InTurn.{told_err, told_ok, wanting}
+use Rattle.winnow_grammar.specs.InTurn.Rows.{more_failed, more_stood, none_stood}
+use Rattle.format_resp.proofs.LineTexts.{size_splits}
+use Rattle.format_resp.proofs.Encodings.{alone_stood, pushed, roomy}
+use Rattle.format_resp.proofs.Bodies.{aggregate_failed, aggregate_stood, no_null_aggregate}
+use Rattle.format_resp.proofs.Bodies.{too_deep, too_many}
+use Rattle.format_resp.proofs.AlikeReplies.{reply_unique}
+use Rattle.format_resp.proofs.FirstBytes.{mark_splits}
+use Rattle.format_resp.proofs.Made.{gathered_is, null_array_is}
+use Rattle.format_resp.specs.Resp.{Elements, MarkText, ReplyText, SizeText, shape}
+use Rattle.format_resp.specs.declared.reply.Reply as made
 use Rattle.format_resp.proofs.read.+read.Goals as goal
 
--- ---- elements
+pub read_aggregate-returns-in_err-read_size : goal.read_aggregate-returns-in_err-read_size
+read_aggregate-returns-in_err-read_size g t c =
+    passed _ c.from_residual.result c.from_residual.ensures.1
+    (led_none SizeText _ (failed c.in_err-read_size.ensures))
 
-pub read_replies-loop-init : goal.read_replies-loop-init
-read_replies-loop-init g t c =
-    let none = c.in-Ok.ensures.items in
-    (ap (λ l. length l) none, row_none c.args.protocol c.args.level c.args.bytes.now _ none)
+pub read_aggregate-loop-init : goal.read_aggregate-loop-init
+read_aggregate-loop-init g t c =
+    rw (roomy c.with_capacity.result c.with_capacity.ensures.items
+    c.in_ok-replies-in-Some-checked_sub.ensures) (none_stood (ReplyText _ _))
 
-pub read_replies-loop-preserved : goal.read_replies-loop-preserved
-read_replies-loop-preserved g t c =
-    let (many, row) = c.loop.invariant in
-    let is = c.in-Ok-push.ensures.items in (
-      omega (
-        arith,
-        many,
-        ap (λ l. length l) is,
-        length-append c.loop.replies.items (c.in-Ok-read_bytes.reply ∷ []),
-      ),
-      row_one c.args.protocol c.args.level c.args.bytes.now c.loop.replies.items
-          c.in-Ok-read_bytes.reply c.loop.rest.now c.in-Ok-read_bytes.left.now is row
-          c.in-Ok-read_bytes.ensures,
-    )
+pub read_aggregate-returns-in_err-replies-in-Some-checked_sub :
+    goal.read_aggregate-returns-in_err-replies-in-Some-checked_sub
+read_aggregate-returns-in_err-replies-in-Some-checked_sub g t c =
+    passed _ c.from_residual-in_err-replies-in-Some-checked_sub.result
+    c.from_residual-in_err-replies-in-Some-checked_sub.ensures.1
+    (wanting c.in_ok-read_size.ensures.whole.ends
+    c.in_err-replies-in-Some-checked_sub.ensures.1)
 
-pub read_replies-returns-in-Err-read_bytes : goal.read_replies-returns-in-Err-read_bytes
-read_replies-returns-in-Err-read_bytes g t c =
-    let (many, row) = c.loop.invariant in
-    row_unread c.args.protocol c.args.level c.args.bytes.now c.args.count c.loop.counter
-    c.loop.rest.now c.in-Err-read_bytes.unread c.loop-test.true
-    (subst (λ k. AreAfter c.args.protocol c.args.level k c.args.bytes.now c.loop.rest.now) many
-    (row_after c.args.protocol c.args.level c.args.bytes.now _ c.loop.rest.now row))
-    c.in-Err-read_bytes.ensures
+pub read_aggregate-returns-in_err-reply-in-Some-checked_sub :
+    goal.read_aggregate-returns-in_err-reply-in-Some-checked_sub
+read_aggregate-returns-in_err-reply-in-Some-checked_sub g t c =
+    let inner = c.in-Some-checked_sub.inner in
+    let deep : c.args.level ≡ suc inner = omega (arith, c.in-Some-checked_sub.ensures) in
+    passed _ c.from_residual-in_err-reply-in-Some-checked_sub.result
+    c.from_residual-in_err-reply-in-Some-checked_sub.ensures.1
+    (led_failed SizeText _ size_splits (stood c.in_ok-read_size.ensures)
+    (rw c.in-Some.is (aggregate_failed c.args.protocol c.args.level c.args.mark c.in-Some.size inner
+    c.in-Some-count_of.count deep c.in-Some-count_of.ensures.some
+    (more_failed (ReplyText c.args.protocol inner) c.loop.counter c.in-Some-count_of.count
+    (reply_unique c.args.protocol inner)
+    c.loop.invariant (failed c.in_err-reply-in-Some-checked_sub.ensures) c.loop-test.true))))
 
--- ---- aggregates
+pub read_aggregate-returns-in_err-or_no_memory-in-Some-checked_sub :
+    goal.read_aggregate-returns-in_err-or_no_memory-in-Some-checked_sub
+read_aggregate-returns-in_err-or_no_memory-in-Some-checked_sub g t c =
+    passed _ c.from_residual-in_err-or_no_memory-in-Some-checked_sub.result
+    c.from_residual-in_err-or_no_memory-in-Some-checked_sub.ensures.1
+    (wanting (is_end_of_trans3 c.in_ok-reply-in-Some-checked_sub.ensures.whole.ends
+    c.loop.invariant.ends
+    c.in_ok-read_size.ensures.whole.ends) c.in_err-or_no_memory-in-Some-checked_sub.ensures.1)
 
-pub read_aggregate-returns-in-None : goal.read_aggregate-returns-in-None
-read_aggregate-returns-in-None g t c tokens at =
-    unsaid_never c.args.protocol c.args.level tokens _ _ (Aggregate c.args.mark) at
-    (λ head (size, a, is, small). c.in-None.ensures.none refl size a)
+pub read_aggregate-loop-preserved : goal.read_aggregate-loop-preserved
+read_aggregate-loop-preserved g t c =
+    let items : c.push.new.self.items
+    ≡ c.loop.replies.items ++ c.in_ok-reply-in-Some-checked_sub.reply ∷ [] =
+    pushed _ c.push.result c.push.ensures.items
+    c.in_ok-or_no_memory-in-Some-checked_sub.ensures in
+    rw items (more_stood (ReplyText c.args.protocol c.in-Some-checked_sub.inner) c.loop.counter
+    c.loop.invariant
+    (stood c.in_ok-reply-in-Some-checked_sub.ensures))
 
 pub read_aggregate-returns-in-Star : goal.read_aggregate-returns-in-Star
-read_aggregate-returns-in-Star g t c tokens at =
-    null_array_read c.args.protocol c.args.level tokens _ _ c.args.mark at _ c.in-Star.is
-    (rw c.in-Some-None.field-0-is at c.in-Some-None.ensures.some)
+read_aggregate-returns-in-Star g t c =
+    told_ok (led_stood SizeText _ (stood c.in_ok-read_size.ensures)
+    (rw (c.in-None.is, c.in-Star.is) (alone_stood _ made.NullArray (ap shape null_array_is))))
 
 pub read_aggregate-returns-in_default : goal.read_aggregate-returns-in_default
-read_aggregate-returns-in_default g t c tokens at =
-    no_null_array c.args.protocol c.args.level tokens _ _ c.args.mark at c.in_default.not-Star
-    (rw c.in-Some-None.field-0-is at c.in-Some-None.ensures.some)
-
-pub read_aggregate-returns-in-None-small_count : goal.read_aggregate-returns-in-None-small_count
-read_aggregate-returns-in-None-small_count g t c tokens at =
-    too_many c.args.protocol c.args.level tokens _ _ c.args.mark at c.in-Some-Some.size
-    (rw c.in-Some-Some.field-0-is at c.in-Some-Some.ensures.some)
-    (c.in-None-small_count.ensures.none refl)
+read_aggregate-returns-in_default g t c =
+    told_err (led_failed SizeText _ size_splits (stood c.in_ok-read_size.ensures) (rw c.in-None.is
+    (no_null_aggregate (Elements c.args.protocol c.args.level) c.args.mark
+    c.in_default.not-Star
+    c.from_input.ensures)))
 
 pub read_aggregate-returns-in-None-checked_sub : goal.read_aggregate-returns-in-None-checked_sub
-read_aggregate-returns-in-None-checked_sub g t c tokens at =
-    let (is, few) = c.in-Some.ensures.some in
-    too_deep c.args.protocol c.args.level tokens _ _ c.args.mark at c.in-Some-Some.size
-    (rw c.in-Some-Some.field-0-is at c.in-Some-Some.ensures.some) c.in-Some.count is few
-    (omega (arith, c.in-None-checked_sub.ensures))
+read_aggregate-returns-in-None-checked_sub g t c =
+    let flat : c.args.level ≡ 0 = omega (arith, c.in-None-checked_sub.ensures) in
+    told_err (led_failed SizeText _ size_splits (stood c.in_ok-read_size.ensures)
+    (rw c.in-Some.is (too_deep c.args.protocol c.args.level c.args.mark c.in-Some.size flat
+    c.from_input-in-None-checked_sub.ensures)))
 
-pub read_aggregate-returns-in-Err : goal.read_aggregate-returns-in-Err
-read_aggregate-returns-in-Err g t c tokens at =
-    let (is, few) = c.in-Some.ensures.some in
-    element_unread c.args.protocol c.args.level tokens _ _ c.args.mark at c.in-Some-Some.size
-    (rw c.in-Some-Some.field-0-is at c.in-Some-Some.ensures.some) c.in-Some-checked_sub.inner
-    c.in-Some.count is few (omega (arith, c.in-Some-checked_sub.ensures)) c.in-Err.unread
-    c.in-Err.ensures
+pub read_aggregate-returns-in_default-count_of : goal.read_aggregate-returns-in_default-count_of
+read_aggregate-returns-in_default-count_of g t c =
+    told_err (too_many (Elements c.args.protocol c.args.level) c.args.mark c.in-Some.size
+    (c.in_default-count_of.ensures.none refl) c.from_input-in_default-count_of.ensures
+    (rw (← c.in-Some.is) (stood c.in_ok-read_size.ensures)))
 
-pub read_aggregate-returns-in-Ok : goal.read_aggregate-returns-in-Ok
-read_aggregate-returns-in-Ok g t c tokens at =
-    let (many, row) = c.in-Ok.ensures in
-    aggregate_read c.args.protocol c.args.level tokens _ _ c.args.mark at c.in-Some-Some.size
-    (rw c.in-Some-Some.field-0-is at c.in-Some-Some.ensures.some) c.in-Some-checked_sub.inner
-    c.in-Some.count c.in-Some.ensures.some.0 (omega (arith, c.in-Some-checked_sub.ensures))
-    c.in-Ok.replies c.aggregate_reply.result c.in-Ok.rest.now
-    (gathered_is c.args.mark c.in-Ok.replies c.aggregate_reply.ensures) many row
+pub read_aggregate-returns-after-loop : goal.read_aggregate-returns-after-loop
+read_aggregate-returns-after-loop g t c =
+    let inner = c.in-Some-checked_sub.inner in
+    let deep : c.args.level ≡ suc inner = omega (arith, c.in-Some-checked_sub.ensures) in
+    told_ok (led_stood SizeText _ (stood c.in_ok-read_size.ensures) (rw c.in-Some.is
+    (aggregate_stood c.args.protocol c.args.level c.args.mark c.in-Some.size inner
+    c.loop.counter
+    deep (omega (
+      arith,
+      c.loop-test.false,
+      c.loop.auto.counter-end,
+      c.in-Some-count_of.ensures.some,
+    )) c.loop.replies c.aggregate_reply.result
+    (gathered_is c.args.mark c.loop.replies c.aggregate_reply.ensures) c.loop.invariant)))
 
--- ---- replies
+pub read_reply-returns-in_err-mark : goal.read_reply-returns-in_err-mark
+read_reply-returns-in_err-mark g t c =
+    passed _ c.from_residual.result c.from_residual.ensures.1
+    (led_none (MarkText c.args.protocol) _ (failed c.in_err-mark.ensures))
 
-pub read_bytes-returns-in-Never : goal.read_bytes-returns-in-Never
-read_bytes-returns-in-Never g t c =
-    line_never c.args.protocol c.args.level c.args.bytes.now
-    (c.in-Never.ensures.told (all_none (drop 1 c.args.bytes.now)))
+pub read_reply-returns-in-Line : goal.read_reply-returns-in-Line
+read_reply-returns-in-Line g t c =
+    led_told (MarkText c.args.protocol) _ (mark_splits c.args.protocol)
+    (stood c.in_ok-mark.ensures) (rw c.in-Line.is c.read_on_line.ensures)
 
-pub read_bytes-returns-in-Open : goal.read_bytes-returns-in-Open
-read_bytes-returns-in-Open g t c =
-    let (enough, all, begun) = c.in-Open.ensures.told (all_none (drop 1 c.args.bytes.now)) in
-    line_wanting c.args.protocol c.args.level c.args.bytes.now begun
+pub read_reply-returns-in-Data : goal.read_reply-returns-in-Data
+read_reply-returns-in-Data g t c =
+    led_told (MarkText c.args.protocol) _ (mark_splits c.args.protocol)
+    (stood c.in_ok-mark.ensures) (rw c.in-Data.is c.read_bytes.ensures)
 
-pub read_bytes-returns-in-Some : goal.read_bytes-returns-in-Some
-read_bytes-returns-in-Some g t c =
-    line_read c.args.protocol c.args.level c.args.bytes.now _ _ c.in-Line.mark c.in-Some.reply
-    (rw c.in-Line.is at (c.in-Whole.ensures.told (all_none (drop 1 c.args.bytes.now))))
-    c.in-Some.ensures.some
-
-pub read_bytes-returns-in-None : goal.read_bytes-returns-in-None
-read_bytes-returns-in-None g t c =
-    unread_line c.args.protocol c.args.level c.args.bytes.now _ _ c.in-Line.mark
-    (rw c.in-Line.is at (c.in-Whole.ensures.told (all_none (drop 1 c.args.bytes.now))))
-    (c.in-None.ensures.none refl)
-
-pub read_bytes-returns-in-Data : goal.read_bytes-returns-in-Data
-read_bytes-returns-in-Data g t c =
-    c.read_string.ensures c.args.protocol c.args.level c.args.bytes.now
-    (rw c.in-Data.is at (c.in-Whole.ensures.told (all_none (drop 1 c.args.bytes.now))))
-
-pub read_bytes-returns-in-Aggregate : goal.read_bytes-returns-in-Aggregate
-read_bytes-returns-in-Aggregate g t c =
-    c.read_aggregate.ensures c.args.bytes.now
-    (rw c.in-Aggregate.is at (c.in-Whole.ensures.told (all_none (drop 1 c.args.bytes.now))))
+pub read_reply-returns-in-Aggregate : goal.read_reply-returns-in-Aggregate
+read_reply-returns-in-Aggregate g t c =
+    led_told (MarkText c.args.protocol) _ (mark_splits c.args.protocol)
+    (stood c.in_ok-mark.ensures) (rw c.in-Aggregate.is c.read_aggregate.ensures)

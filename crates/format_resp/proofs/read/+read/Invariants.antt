@@ -1,22 +1,22 @@
-use Rattle.std.specs.Prelude.{◌≡◌, length}
-use Rattle.std.proofs.Common.{◌+◌, ◌*◌}
-use Rattle.grammars.specs.Texts.{EachText}
-use Rattle.winnow_grammar.specs.InTurn.{First}
+use Rattle.std.proofs.Common.{◌+◌}
+use Rattle.streams.specs.Bytes.{bytes_follow, bytes_input, bytes_reading}
+use Rattle.streams.specs.Partial.{with_flag}
+use Rattle.winnow_grammar.specs.InTurn.{First, MatchesEachCompletion}
+use Rattle.winnow_grammar.specs.InTurn.Rows.{RowOf}
 use Rattle.format_resp.specs.Resp.{ReplyText}
 use Rattle.format_resp.proofs.read.+read.Given as goal
 
 -- a reply calls an aggregate at its own depth, and an aggregate calls replies at a smaller one
-abbrev pub decreases-read_replies : goal.decreases-read_replies
-decreases-read_replies g l = 3 * l.level + 3
-
 abbrev pub decreases-read_aggregate : goal.decreases-read_aggregate
-decreases-read_aggregate g l = 3 * l.level + 1
+decreases-read_aggregate g l = l.level + l.level
 
-abbrev pub decreases-read_bytes : goal.decreases-read_bytes
-decreases-read_bytes g l = 3 * l.level + 2
+abbrev pub decreases-read_reply : goal.decreases-read_reply
+decreases-read_reply g l = l.level + l.level + 1
 
--- the replies are those before the rest
-abbrev pub invariant-read_replies-loop : goal.invariant-read_replies-loop
-invariant-read_replies-loop g l =
-    (length l.replies.items ≡ l.counter)
-    × First (EachText (ReplyText l.protocol l.level)) l.bytes l.replies.items l.rest
+-- this number of replies follows the size
+abbrev pub invariant-read_aggregate-loop : goal.invariant-read_aggregate-loop
+invariant-read_aggregate-loop g l =
+    MatchesEachCompletion bytes_reading bytes_follow
+    (First (RowOf (ReplyText l.protocol l.inner) l.counter))
+    (with_flag (bytes_input l.initial.input.input.now) l.initial.input.partial) l.replies.items
+    (with_flag (bytes_input l.input.input.now) l.input.partial)

@@ -1,11 +1,26 @@
-use Rattle.std.proofs.Common.{◌-◌, arith, inr, refl, rules, subst}
+use Rattle.std.specs.Prelude.{[]}
+use Rattle.std.specs.List.{AllByRecursion}
+use Rattle.std.proofs.Common.{◌-◌, ◌∙◌, arith, inl, inr, refl, rules, sym}
 use Rattle.std.proofs.lemmas.Result.{IfErr-weaker, on_ok_weaker}
-use Rattle.format_resp.proofs.Writing.{aggregate_put, among, as_error, data_put}
-use Rattle.format_resp.proofs.Writing.{deep_aggregate, fixed_put, if_error, integer_put}
-use Rattle.format_resp.proofs.Writing.{keeps_trans}
-use Rattle.format_resp.proofs.Writing.{refused_count, refused_foreign, refused_string, refused_text}
-use Rattle.format_resp.proofs.Writing.{refused_within, row_end, row_more, shape_within, text_put}
-use Rattle.format_resp.specs.Resp.{IsIn}
+use Rattle.format_resp.proofs.Encodings.{shown_is}
+use Rattle.format_resp.proofs.Made.{big_number_is, boolean_is, bulk_error_is, bulk_is, double_is}
+use Rattle.format_resp.proofs.Made.{error_is, null_array_is, null_bulk_is, null_is}
+use Rattle.format_resp.proofs.Made.{shaped, simple_is, verbatim_is}
+use Rattle.format_resp.proofs.Writing.{aggregate_put, among, as_error, data_put, deep_aggregate}
+use Rattle.format_resp.proofs.Writing.{if_error, integer_put, keeps_trans, line_put, list_put}
+use Rattle.format_resp.proofs.Writing.{null_array_put}
+use Rattle.format_resp.proofs.Writing.{null_bulk_put, or_itself, refused_count, refused_foreign}
+use Rattle.format_resp.proofs.Writing.{refused_form, refused_within, row_end, row_more}
+use Rattle.format_resp.specs.Numbers.{IsBigNumber, IsDouble}
+use Rattle.format_resp.specs.Resp.{InLine}
+use Rattle.format_resp.specs.Written.{IsBroken}
+use Rattle.format_resp.specs.declared.marks.AggregateMark.TheVariants.{Bar, Greater, Percent, Star}
+use Rattle.format_resp.specs.declared.marks.AggregateMark.TheVariants.{Tilde}
+use Rattle.format_resp.specs.declared.marks.DataMark.TheVariants.{Dollar, Equals, Exclamation}
+use Rattle.format_resp.specs.declared.marks.LineMark.TheVariants.{Comma, Hash, Minus}
+use Rattle.format_resp.specs.declared.marks.LineMark.TheVariants.{Parenthesis, Plus, Underscore}
+use Rattle.format_resp.specs.declared.write.WriteError.TheVariants.{BigNumber, Double, Format}
+use Rattle.format_resp.specs.declared.write.WriteError.TheVariants.{LineBreak}
 use Rattle.format_resp.proofs.write.+write.Goals as goal
 
 -- ---- elements
@@ -43,28 +58,31 @@ write_elements-returns-in_err-write_nested-clause-kept g t c =
 pub write_list-returns-then-level-eq0-clause-refused :
     goal.write_list-returns-then-level-eq0-clause-refused
 write_list-returns-then-level-eq0-clause-refused g t c =
-    deep_aggregate c.args.protocol c.args.mark (omega arith)
+    deep_aggregate c.args.protocol c.args.mark c.args.replies.now (omega arith)
 
 pub write_list-returns-in-None-clause-refused :
     goal.write_list-returns-in-None-clause-refused
 write_list-returns-in-None-clause-refused g t c =
-    refused_count c.args.protocol c.args.level c.args.mark refl (c.in-None.ensures.none refl)
+    refused_count c.args.protocol c.args.level c.args.mark c.args.replies.now
+    (c.len.ensures ∙ c.args.replies.now.ok.0)
+    (c.in-None.ensures.none refl)
 
 pub write_list-returns-in_ok-write_size-in-Some-clause-written :
     goal.write_list-returns-in_ok-write_size-in-Some-clause-written
 write_list-returns-in_ok-write_size-in-Some-clause-written g t c =
     on_ok_weaker c.write_elements.result
-    (aggregate_put c.args.protocol c.args.mark c.in-Some.size (c.args.level - 1)
-    c.in-Some.ensures.some (omega arith) c.byte.ensures
-    c.in_ok-write_size-in-Some.ensures.written)
+    (λ added within. aggregate_put c.args.protocol c.args.mark c.in-Some.size (c.args.level - 1)
+    c.args.replies.now within c.as_slice.ensures.value
+    (sym (c.len.ensures ∙ c.args.replies.now.ok.0) ∙ c.in-Some.ensures.some) (omega arith)
+    c.byte.ensures c.in_ok-write_size-in-Some.ensures.written added)
     c.write_elements.ensures.written
 
 pub write_list-returns-in_ok-write_size-in-Some-clause-refused :
     goal.write_list-returns-in_ok-write_size-in-Some-clause-refused
 write_list-returns-in_ok-write_size-in-Some-clause-refused g t c =
     IfErr-weaker c.write_elements.result _ _
-    (λ e. refused_within c.args.protocol (c.args.level - 1) c.args.mark e (omega arith))
-    c.write_elements.ensures.refused
+    (λ e. refused_within c.args.protocol (c.args.level - 1) c.args.mark c.args.replies.now e
+    c.as_slice.ensures.value (omega arith)) c.write_elements.ensures.refused
 
 pub write_list-returns-in_ok-write_size-in-Some-clause-kept :
     goal.write_list-returns-in_ok-write_size-in-Some-clause-kept
@@ -73,70 +91,204 @@ write_list-returns-in_ok-write_size-in-Some-clause-kept g t c =
 
 -- ---- replies
 
-pub write_nested-returns-then-not-is_in-clause-refused :
-    goal.write_nested-returns-then-not-is_in-clause-refused
-write_nested-returns-then-not-is_in-clause-refused g t c =
-    refused_foreign c.args.protocol c.args.level c.args.reply.now _ c.shape_of-shape.ensures
-    c.mark_in.ensures c.if-not-is_in.ensures
+pub write_nested-returns-then-is_foreign-clause-refused :
+    goal.write_nested-returns-then-is_foreign-clause-refused
+write_nested-returns-then-is_foreign-clause-refused g t c =
+    refused_foreign c.args.protocol c.args.level c.args.reply.now c.if-is_foreign.ensures
 
-pub write_nested-returns-in-Text-clause-written : goal.write_nested-returns-in-Text-clause-written
-write_nested-returns-in-Text-clause-written g t c =
+pub write_nested-returns-in-Simple-clause-written :
+    goal.write_nested-returns-in-Simple-clause-written
+write_nested-returns-in-Simple-clause-written g t c =
     on_ok_weaker c.write_text.result
-    (λ told. text_put c.args.protocol c.args.level
-    (shape_within c.args.protocol c.args.reply.now _ c.shape_of-shape.ensures c.mark_in.ensures
-    c.if-not-is_in.ensures) c.in-Text.mark c.in-Text.text
-    (rw c.in-Text.is at c.shape_of-shape.ensures) told.0 told.1)
+    (λ told. line_put c.args.protocol c.args.level c.if-is_foreign.ensures Plus _
+    (_, shaped c.in-Simple.is (simple_is _), shown_is (AllByRecursion InLine) _ told.0) told.1)
     c.write_text.ensures.written
 
-pub write_nested-returns-in-Text-clause-refused : goal.write_nested-returns-in-Text-clause-refused
-write_nested-returns-in-Text-clause-refused g t c =
+pub write_nested-returns-in-Simple-clause-refused :
+    goal.write_nested-returns-in-Simple-clause-refused
+write_nested-returns-in-Simple-clause-refused g t c =
     IfErr-weaker c.write_text.result _ _
-    (as_error c.args.protocol c.args.level _ _ _ (refused_text c.args.protocol c.args.level
-    c.args.reply.now c.in-Text.mark c.in-Text.text (rw c.in-Text.is at c.shape_of-shape.ensures)))
+    (as_error c.args.protocol c.args.level _ LineBreak _
+    (λ not. or_itself IsBroken _ (inl (_, shaped c.in-Simple.is (simple_is _), not))))
     c.write_text.ensures.refused
 
-pub write_nested-returns-in_ok-write_line-in-Fixed-clause-written :
-    goal.write_nested-returns-in_ok-write_line-in-Fixed-clause-written
-write_nested-returns-in_ok-write_line-in-Fixed-clause-written g t c =
-    let (is, body) = rw c.in-Fixed.is at c.shape_of-shape.ensures in
-    fixed_put c.args.protocol c.args.level
-    (shape_within c.args.protocol c.args.reply.now _ c.shape_of-shape.ensures c.mark_in.ensures
-    c.if-not-is_in.ensures) c.in-Fixed.mark _ is body
-    (rw (← c.byte.ensures) c.in_ok-write_line-in-Fixed.ensures.written)
+pub write_nested-returns-in-Error-clause-written :
+    goal.write_nested-returns-in-Error-clause-written
+write_nested-returns-in-Error-clause-written g t c =
+    on_ok_weaker c.write_text-in-Error.result
+    (λ told. line_put c.args.protocol c.args.level c.if-is_foreign.ensures Minus _
+    (_, shaped c.in-Error.is (error_is _), shown_is (AllByRecursion InLine) _ told.0) told.1)
+    c.write_text-in-Error.ensures.written
+
+pub write_nested-returns-in-Error-clause-refused :
+    goal.write_nested-returns-in-Error-clause-refused
+write_nested-returns-in-Error-clause-refused g t c =
+    IfErr-weaker c.write_text-in-Error.result _ _
+    (as_error c.args.protocol c.args.level _ LineBreak _
+    (λ not. or_itself IsBroken _ (inr (_, shaped c.in-Error.is (error_is _), not))))
+    c.write_text-in-Error.ensures.refused
+
+pub write_nested-returns-in-Double-clause-written :
+    goal.write_nested-returns-in-Double-clause-written
+write_nested-returns-in-Double-clause-written g t c =
+    on_ok_weaker c.write_double.result
+    (λ told. line_put c.args.protocol c.args.level c.if-is_foreign.ensures Comma _
+    (_, shaped c.in-Double.is (double_is _), shown_is IsDouble _ told.0) told.1)
+    c.write_double.ensures.written
+
+pub write_nested-returns-in-Double-clause-refused :
+    goal.write_nested-returns-in-Double-clause-refused
+write_nested-returns-in-Double-clause-refused g t c =
+    IfErr-weaker c.write_double.result _ _
+    (as_error c.args.protocol c.args.level _ Double _
+    (λ not. or_itself _ _ (_, shaped c.in-Double.is (double_is _), not)))
+    c.write_double.ensures.refused
+
+pub write_nested-returns-in-BigNumber-clause-written :
+    goal.write_nested-returns-in-BigNumber-clause-written
+write_nested-returns-in-BigNumber-clause-written g t c =
+    on_ok_weaker c.write_big_number.result
+    (λ told. line_put c.args.protocol c.args.level c.if-is_foreign.ensures Parenthesis _
+    (_, shaped c.in-BigNumber.is (big_number_is _), shown_is IsBigNumber _ told.0) told.1)
+    c.write_big_number.ensures.written
+
+pub write_nested-returns-in-BigNumber-clause-refused :
+    goal.write_nested-returns-in-BigNumber-clause-refused
+write_nested-returns-in-BigNumber-clause-refused g t c =
+    IfErr-weaker c.write_big_number.result _ _
+    (as_error c.args.protocol c.args.level _ BigNumber _
+    (λ not. or_itself _ _ (_, shaped c.in-BigNumber.is (big_number_is _), not)))
+    c.write_big_number.ensures.refused
+
+pub write_nested-returns-in-Verbatim-clause-written :
+    goal.write_nested-returns-in-Verbatim-clause-written
+write_nested-returns-in-Verbatim-clause-written g t c =
+    on_ok_weaker c.write_verbatim.result
+    (λ told. data_put c.args.protocol c.args.level c.if-is_foreign.ensures Equals _
+    (shaped c.in-Verbatim.is (verbatim_is _)) told.0 (search rules) told.1)
+    c.write_verbatim.ensures.written
+
+pub write_nested-returns-in-Verbatim-clause-refused :
+    goal.write_nested-returns-in-Verbatim-clause-refused
+write_nested-returns-in-Verbatim-clause-refused g t c =
+    IfErr-weaker c.write_verbatim.result _ _
+    (as_error c.args.protocol c.args.level _ Format _
+    (λ not. or_itself _ _ (_, shaped c.in-Verbatim.is (verbatim_is _), not)))
+    c.write_verbatim.ensures.refused
+
+pub write_nested-returns-in-Array-clause-written :
+    goal.write_nested-returns-in-Array-clause-written
+write_nested-returns-in-Array-clause-written g t c =
+    on_ok_weaker c.write_list.result
+    (list_put c.args.protocol c.args.level Star _ c.in-Array.is c.if-is_foreign.ensures)
+    c.write_list.ensures.written
+
+pub write_nested-returns-in-Array-clause-refused :
+    goal.write_nested-returns-in-Array-clause-refused
+write_nested-returns-in-Array-clause-refused g t c =
+    IfErr-weaker c.write_list.result _ _ (refused_form c.args.protocol c.args.level c.in-Array.is)
+    c.write_list.ensures.refused
+
+pub write_nested-returns-in-Map-clause-written :
+    goal.write_nested-returns-in-Map-clause-written
+write_nested-returns-in-Map-clause-written g t c =
+    on_ok_weaker c.write_list-in-Map.result
+    (list_put c.args.protocol c.args.level Percent _ c.in-Map.is c.if-is_foreign.ensures)
+    c.write_list-in-Map.ensures.written
+
+pub write_nested-returns-in-Map-clause-refused :
+    goal.write_nested-returns-in-Map-clause-refused
+write_nested-returns-in-Map-clause-refused g t c =
+    IfErr-weaker c.write_list-in-Map.result _ _
+    (refused_form c.args.protocol c.args.level c.in-Map.is)
+    c.write_list-in-Map.ensures.refused
+
+pub write_nested-returns-in-Set-clause-written :
+    goal.write_nested-returns-in-Set-clause-written
+write_nested-returns-in-Set-clause-written g t c =
+    on_ok_weaker c.write_list-in-Set.result
+    (list_put c.args.protocol c.args.level Tilde _ c.in-Set.is c.if-is_foreign.ensures)
+    c.write_list-in-Set.ensures.written
+
+pub write_nested-returns-in-Set-clause-refused :
+    goal.write_nested-returns-in-Set-clause-refused
+write_nested-returns-in-Set-clause-refused g t c =
+    IfErr-weaker c.write_list-in-Set.result _ _
+    (refused_form c.args.protocol c.args.level c.in-Set.is)
+    c.write_list-in-Set.ensures.refused
+
+pub write_nested-returns-in-Push-clause-written :
+    goal.write_nested-returns-in-Push-clause-written
+write_nested-returns-in-Push-clause-written g t c =
+    on_ok_weaker c.write_list-in-Push.result
+    (list_put c.args.protocol c.args.level Greater _ c.in-Push.is c.if-is_foreign.ensures)
+    c.write_list-in-Push.ensures.written
+
+pub write_nested-returns-in-Push-clause-refused :
+    goal.write_nested-returns-in-Push-clause-refused
+write_nested-returns-in-Push-clause-refused g t c =
+    IfErr-weaker c.write_list-in-Push.result _ _
+    (refused_form c.args.protocol c.args.level c.in-Push.is)
+    c.write_list-in-Push.ensures.refused
+
+pub write_nested-returns-in-Attributed-clause-written :
+    goal.write_nested-returns-in-Attributed-clause-written
+write_nested-returns-in-Attributed-clause-written g t c =
+    on_ok_weaker c.write_list-in-Attributed.result
+    (list_put c.args.protocol c.args.level Bar _ c.in-Attributed.is c.if-is_foreign.ensures)
+    c.write_list-in-Attributed.ensures.written
+
+pub write_nested-returns-in-Attributed-clause-refused :
+    goal.write_nested-returns-in-Attributed-clause-refused
+write_nested-returns-in-Attributed-clause-refused g t c =
+    IfErr-weaker c.write_list-in-Attributed.result _ _
+    (refused_form c.args.protocol c.args.level c.in-Attributed.is)
+    c.write_list-in-Attributed.ensures.refused
 
 pub write_nested-returns-in_ok-write_integer-in-Integer-clause-written :
     goal.write_nested-returns-in_ok-write_integer-in-Integer-clause-written
 write_nested-returns-in_ok-write_integer-in-Integer-clause-written g t c =
-    integer_put c.args.protocol c.args.level
-    (shape_within c.args.protocol c.args.reply.now _ c.shape_of-shape.ensures c.mark_in.ensures
-    c.if-not-is_in.ensures) c.in_ok-write_integer-in-Integer.ensures.written
-    (search (rules, rw c.in-Integer.is at c.shape_of-shape.ensures)) (search rules)
+    integer_put c.args.protocol c.args.level c.if-is_foreign.ensures
+    c.in_ok-write_integer-in-Integer.ensures.written
+    (search (rules, c.in-Integer.is)) (search rules)
 
-pub write_nested-returns-in-Data-clause-written : goal.write_nested-returns-in-Data-clause-written
-write_nested-returns-in-Data-clause-written g t c =
-    on_ok_weaker c.write_string.result
-    (λ told. data_put c.args.protocol c.args.level
-    (shape_within c.args.protocol c.args.reply.now _ c.shape_of-shape.ensures c.mark_in.ensures
-    c.if-not-is_in.ensures) c.in-Data.mark c.in-Data.bytes
-    (rw c.in-Data.is at c.shape_of-shape.ensures) told.0 (search rules) told.1)
-    c.write_string.ensures.written
+pub write_nested-returns-in_ok-write_line-in-Null-clause-written :
+    goal.write_nested-returns-in_ok-write_line-in-Null-clause-written
+write_nested-returns-in_ok-write_line-in-Null-clause-written g t c =
+    line_put c.args.protocol c.args.level c.if-is_foreign.ensures Underscore []
+    (shaped c.in-Null.is null_is, refl) c.in_ok-write_line-in-Null.ensures.written
 
-pub write_nested-returns-in-Data-clause-refused : goal.write_nested-returns-in-Data-clause-refused
-write_nested-returns-in-Data-clause-refused g t c =
-    IfErr-weaker c.write_string.result _ _
-    (as_error c.args.protocol c.args.level _ _ _ (refused_string c.args.protocol c.args.level
-    c.args.reply.now c.in-Data.mark c.in-Data.bytes (rw c.in-Data.is at c.shape_of-shape.ensures)))
-    c.write_string.ensures.refused
+pub write_nested-returns-in_ok-write_line-in-Boolean-clause-written :
+    goal.write_nested-returns-in_ok-write_line-in-Boolean-clause-written
+write_nested-returns-in_ok-write_line-in-Boolean-clause-written g t c =
+    line_put c.args.protocol c.args.level c.if-is_foreign.ensures Hash _
+    (_, shaped c.in-Boolean.is (boolean_is _), c.boolean_text.ensures)
+    c.in_ok-write_line-in-Boolean.ensures.written
 
-pub write_nested-returns-in-List-clause-written : goal.write_nested-returns-in-List-clause-written
-write_nested-returns-in-List-clause-written g t c =
-    on_ok_weaker c.write_list.result
-    (λ told. told c.args.reply.now (rw c.in-List.is at c.shape_of-shape.ensures)
-    (subst (IsIn c.args.protocol) (rw c.in-List.is at c.mark_in.ensures) c.if-not-is_in.ensures))
-    c.write_list.ensures.written
+pub write_nested-returns-in_ok-write_data-in-BulkError-clause-written :
+    goal.write_nested-returns-in_ok-write_data-in-BulkError-clause-written
+write_nested-returns-in_ok-write_data-in-BulkError-clause-written g t c =
+    data_put c.args.protocol c.args.level c.if-is_foreign.ensures Exclamation _
+    (shaped c.in-BulkError.is (bulk_error_is _)) tt (search rules)
+    c.in_ok-write_data-in-BulkError.ensures.written
 
-pub write_nested-returns-in-List-clause-refused : goal.write_nested-returns-in-List-clause-refused
-write_nested-returns-in-List-clause-refused g t c =
-    IfErr-weaker c.write_list.result _ _
-    (λ e told. told c.args.reply.now (rw c.in-List.is at c.shape_of-shape.ensures))
-    c.write_list.ensures.refused
+pub write_nested-returns-in_ok-write_data-in-Bulk-clause-written :
+    goal.write_nested-returns-in_ok-write_data-in-Bulk-clause-written
+write_nested-returns-in_ok-write_data-in-Bulk-clause-written g t c =
+    data_put c.args.protocol c.args.level c.if-is_foreign.ensures Dollar _
+    (shaped c.in-Bulk.is (bulk_is _)) tt (search rules)
+    c.in_ok-write_data-in-Bulk.ensures.written
+
+pub write_nested-returns-in_ok-write_line-in-NullBulk-clause-written :
+    goal.write_nested-returns-in_ok-write_line-in-NullBulk-clause-written
+write_nested-returns-in_ok-write_line-in-NullBulk-clause-written g t c =
+    null_bulk_put c.args.protocol c.args.level c.if-is_foreign.ensures
+    (shaped c.in-NullBulk.is null_bulk_is)
+    c.in_ok-write_line-in-NullBulk.ensures.written
+
+pub write_nested-returns-in_ok-write_line-in-NullArray-clause-written :
+    goal.write_nested-returns-in_ok-write_line-in-NullArray-clause-written
+write_nested-returns-in_ok-write_line-in-NullArray-clause-written g t c =
+    null_array_put c.args.protocol c.args.level c.if-is_foreign.ensures
+    (shaped c.in-NullArray.is null_array_is)
+    c.in_ok-write_line-in-NullArray.ensures.written

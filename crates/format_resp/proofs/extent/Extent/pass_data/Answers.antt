@@ -1,4 +1,4 @@
-use Rattle.std.proofs.Common.{refl, ◌∙◌}
+use Rattle.std.proofs.Common.{refl}
 use Rattle.format_resp.proofs.Passing.{string_never, string_open, string_part}
 use Rattle.format_resp.proofs.Strings.{part_none}
 use Rattle.format_resp.proofs.extent.Extent.pass_data.Goals as goal
@@ -6,8 +6,7 @@ use Rattle.format_resp.proofs.extent.Extent.pass_data.Goals as goal
 pub returns-in-Err-clause-told : goal.returns-in-Err-clause-told
 returns-in-Err-clause-told c p =
     let (is, none) = c.in-Err.ensures.told in
-    string_never c.args.protocol _ _ _ p c.args.bulk _ c.requires.due c.rejected.ensures.offset
-    (c.rejected.ensures.reason ∙ is) none
+    string_never c.args.protocol _ _ _ p c.args.bulk _ c.requires.due refl is none
 
 pub returns-in-Ok-None-clause-told : goal.returns-in-Ok-None-clause-told
 returns-in-Ok-None-clause-told c p =

@@ -1,16 +1,14 @@
 use Rattle.std.specs.Prelude.{Option, ℕ}
-use Rattle.std.proofs.Common.{ap, arith, refl, subst, sym}
+use Rattle.std.proofs.Common.{ap, arith, refl}
 use Rattle.format_resp.proofs.FirstLines.{begun_none}
 use Rattle.format_resp.proofs.Passing.{line_never, line_open, line_part, never_more}
-use Rattle.format_resp.specs.Heads.{IsNoLine}
 use Rattle.format_resp.specs.declared.extent.Bulk.{Bulk}
 use Rattle.format_resp.proofs.extent.Extent.pass_line.Goals as goal
 
 pub returns-in-Never-clause-told : goal.returns-in-Never-clause-told
 returns-in-Never-clause-told c p =
-    line_never c.args.protocol _ _ _ p c.args.others _ c.requires.due c.requires.one
-    c.rejected.ensures.offset (subst (IsNoLine c.args.protocol c.args.rest.now)
-    (sym c.rejected.ensures.reason) (c.in-Never.ensures.told p.plain))
+    line_never c.args.protocol _ _ _ p c.args.others _ c.requires.due c.requires.one refl
+    (c.in-Never.ensures.told p.plain)
 
 pub returns-in-Open-clause-told : goal.returns-in-Open-clause-told
 returns-in-Open-clause-told c p =

@@ -1,0 +1,129 @@
+-- Lemmas about the bodies of replies, which follow the first byte.
+use Rattle.std.specs.Prelude.{◌≡◌, ◌<◌, ◌≤◌, ◌^◌, ℕ, List, ◌++◌, Some, None, suc}
+use Rattle.std.specs.Borrow.{Bor}
+use Rattle.std.specs.declared.vec.Vec.{Vec}
+use Rattle.std.proofs.Common.{refl, sym, subst, inr, ◌∙◌, arith}
+use Rattle.streams.specs.Bytes.{bytes_follow, bytes_reading}
+use Rattle.winnow_grammar.specs.InTurn.{Failed, First, Led, MatchesEachCompletion, failed_as}
+use Rattle.winnow_grammar.specs.InTurn.{refused}
+use Rattle.winnow_grammar.specs.InTurn.{stood_as}
+use Rattle.winnow_grammar.specs.InTurn.Rows.{RowOf}
+use Rattle.streams.specs.Input.{Input}
+use Rattle.streams.specs.Kind.{Kind, backtrack}
+use Rattle.grammars.specs.Texts.{Text}
+use Rattle.format_resp.proofs.Encodings.{data_determined}
+use Rattle.format_resp.proofs.LineTexts.{size_small}
+use Rattle.format_resp.specs.Resp.{AggregateBehind, Bytes, DataBehind, DataText, Elements}
+use Rattle.format_resp.specs.Resp.{ElementsIn, Fits, Items, Replies, ReplyText, SizeText, formatted}
+use Rattle.format_resp.specs.Resp.{many, shape_of}
+use Rattle.format_resp.specs.declared.marks.AggregateMark.{AggregateMark}
+use Rattle.format_resp.specs.declared.marks.AggregateMark.TheVariants.{Star}
+use Rattle.format_resp.specs.declared.marks.DataMark.{DataMark}
+use Rattle.format_resp.specs.declared.marks.DataMark.TheVariants.{Dollar}
+use Rattle.format_resp.specs.declared.marks.Mark.TheVariants.{Aggregate, Data}
+use Rattle.format_resp.specs.declared.reply.Protocol.{Protocol}
+
+-- ---- bytes
+
+module _ {A : Type 0} {i j : Input ℕ} (mark : DataMark) (n : ℕ) where
+  pub data_stood : (bytes : Bor (List ℕ)) (reply : Replies A)
+      → shape_of reply ≡ (Data mark, Bytes bytes) → Fits (formatted mark) bytes.now
+      → MatchesEachCompletion bytes_reading bytes_follow (First (DataText n)) i bytes j
+      → MatchesEachCompletion bytes_reading bytes_follow (First (DataBehind mark (Some n))) i reply
+      j
+  unfolding First
+  data_stood bytes reply is fits =
+      stood_as (λ tokens rest (front, a, e). (front, (bytes, is, (fits, a)), e))
+
+  pub data_none : {k : Kind} → Failed bytes_reading bytes_follow (First (DataText n)) i k j
+      → Failed bytes_reading bytes_follow (First (DataBehind {A = A} mark (Some n))) i k j
+  unfolding First
+  data_none = failed_as (λ tokens none reply rest (front, (bytes, is, (fits, a)), e).
+      none bytes rest (front, a, e))
+
+  -- bytes that are no such reply
+  pub data_failed : {k : Kind} (bytes : Bor (List ℕ)) → k ≡ backtrack
+      → (Fits (formatted mark) bytes.now → ⊥)
+      → MatchesEachCompletion bytes_reading bytes_follow (First (DataText n)) i bytes j
+      → Failed bytes_reading bytes_follow (First (DataBehind {A = A} mark (Some n))) i k j
+  unfolding First
+  data_failed bytes b never s = record {
+    ends = s.ends;
+    none = inr (inr (λ more c. (
+      b,
+      λ reply rest (front, (other, is, (fits, a)), e).
+          never (subst (Fits (formatted mark)) (data_determined n other bytes
+          (i.left.tokens ++ more) rest (j.left.tokens ++ more) (front, a, e)
+          (s.stands more c)).0 fits),
+    )));
+  }
+
+-- no null is of these
+pub no_null_data : {A : Type 0} {i : Input ℕ} {k : Kind} (mark : DataMark)
+    → (mark ≡ Dollar → ⊥) → k ≡ backtrack
+    → Failed bytes_reading bytes_follow (First (DataBehind {A = A} mark None)) i k i
+unfolding First
+no_null_data Dollar other b = absurd (other refl)
+no_null_data mark other b = refused b (λ tokens reply rest (front, never, e). never)
+
+-- ---- aggregates
+
+pub no_null_aggregate : {A : Type 0} {i : Input ℕ} {k : Kind}
+    (elements : Text ℕ (List (Replies A))) (mark : AggregateMark)
+    → (mark ≡ Star → ⊥) → k ≡ backtrack
+    → Failed bytes_reading bytes_follow (First (AggregateBehind elements mark None)) i k i
+unfolding First
+no_null_aggregate elements Star other b = absurd (other refl)
+no_null_aggregate elements mark other b =
+    refused b (λ tokens reply rest (front, never, e). never)
+
+module _ {A : Type 0} {i : Input ℕ} (protocol : Protocol) (level : ℕ) (mark : AggregateMark)
+    (n : ℕ) where
+  pub aggregate_stood : {j : Input ℕ} (inner count : ℕ) → level ≡ suc inner → count ≡ many mark n
+      → (list : Vec (Replies A) A) (reply : Replies A)
+      → shape_of reply ≡ (Aggregate mark, Items list)
+      → MatchesEachCompletion bytes_reading bytes_follow
+      (First (RowOf (ReplyText protocol inner) count)) i
+      list.items j
+      → MatchesEachCompletion bytes_reading bytes_follow
+      (First (AggregateBehind (Elements protocol level) mark (Some n))) i
+      reply j
+  unfolding First ElementsIn
+  aggregate_stood inner count e m list reply is = rw e (stood_as (λ tokens rest
+      (front, (k, a), split). (front, (list, is, (k ∙ m, a)), split)))
+
+  pub aggregate_failed : {j : Input ℕ} {k : Kind} (inner count : ℕ) → level ≡ suc inner
+      → count ≡ many mark n
+      → Failed bytes_reading bytes_follow
+      (First (RowOf (ReplyText {A = A} protocol inner) count)) i k j
+      → Failed bytes_reading bytes_follow
+      (First (AggregateBehind (Elements {A = A} protocol level) mark (Some n))) i k j
+  unfolding First ElementsIn
+  aggregate_failed inner count e m = rw e (failed_as (λ tokens none o rest
+      (front, (list, is, (k, a)), split). none list.items rest (front, (k ∙ sym m, a), split)))
+
+  -- an aggregate within too many
+  pub too_deep : {k : Kind} → level ≡ 0 → k ≡ backtrack
+      → Failed bytes_reading bytes_follow
+      (First (AggregateBehind (Elements {A = A} protocol level) mark (Some n))) i k i
+  unfolding First ElementsIn
+  too_deep e b = rw e (refused b (λ tokens o rest (front, (list, is, (many, never)), split). never))
+
+-- ---- sizes
+
+-- a size that gives an aggregate too many replies is not valid
+pub too_many : {A : Type 0} {i j : Input ℕ} {k : Kind} (elements : Text ℕ (List (Replies A)))
+    (mark : AggregateMark) (n : ℕ) → 2 ^ 64 ≤ many mark n → k ≡ backtrack
+    → MatchesEachCompletion bytes_reading bytes_follow (First SizeText) i (Some n) j
+    → Failed bytes_reading bytes_follow (First (Led SizeText (AggregateBehind elements mark))) i k j
+unfolding First
+too_many elements mark n much b s = record {
+  ends = s.ends;
+  none = inr (inr (λ more c.
+      let (front, size, e) = s.stands more c in
+      absurd (no mark (size_small n front size) much)));
+}
+  where
+    no : (mark : AggregateMark) → n < 2 ^ 63 → 2 ^ 64 ≤ many mark n → ⊥
+    no Star small large = omega (arith, small, large)
+    no mark small large = omega (arith, small, large)
