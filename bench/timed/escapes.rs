@@ -2,7 +2,7 @@
 #![tactic(auto, using(winnow::specs::Rules::ends_follow))]
 
 ghost use Rattle.winnow.specs.Claim.{no_claim, nothing_claimed};
-ghost use Rattle.winnow.specs.Says.{nothing_done, nothing_said};
+ghost use Rattle.winnow.specs.Says.{Is, nothing_done, nothing_said};
 ghost use Rattle.std.specs.Prelude.{⊤};
 ghost use Rattle.winnow.specs.Input.{IsEndOf};
 ghost use Rattle.winnow.specs.Text.{text_input, text_reading};
@@ -63,6 +63,8 @@ impl<'i> Parser<&'i str, String, ErrMode<EmptyError>> for TextReader {
     ghost State = { ⊤ };
 
     ghost state = { λ _. tt };
+
+    ghost states = { Is };
 
     ghost meaning = { λ _ _ i _ _ j. IsEndOf text_reading j i };
 

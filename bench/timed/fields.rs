@@ -2,7 +2,7 @@
 #![tactic(auto, using(winnow::specs::Rules::ends_follow))]
 
 ghost use Rattle.winnow.specs.Claim.{no_claim, nothing_claimed};
-ghost use Rattle.winnow.specs.Says.{nothing_done, nothing_said};
+ghost use Rattle.winnow.specs.Says.{Is, nothing_done, nothing_said};
 ghost use Rattle.std.specs.Prelude.{⊤};
 ghost use Rattle.winnow.specs.Text.{text_input, text_reading};
 ghost use Rattle.winnow.specs.Input.{IsEndOf};
@@ -62,6 +62,8 @@ impl<'i> Parser<&'i str, Row<'i>, ErrMode<InputError<&'i str>>> for RowReader {
     ghost State = { ⊤ };
 
     ghost state = { λ _. tt };
+
+    ghost states = { Is };
 
     ghost meaning = { λ _ _ i _ _ j. IsEndOf text_reading j i };
 

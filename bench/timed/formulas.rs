@@ -2,7 +2,7 @@
 #![tactic(auto, using(winnow::specs::Rules::ends_follow))]
 
 ghost use Rattle.winnow.specs.Claim.{no_claim, nothing_claimed};
-ghost use Rattle.winnow.specs.Says.{nothing_done, nothing_said};
+ghost use Rattle.winnow.specs.Says.{Is, nothing_done, nothing_said};
 ghost use Rattle.std.specs.Prelude.{⊤};
 ghost use Rattle.winnow.specs.Bytes.{bytes_input, bytes_reading};
 ghost use Rattle.winnow.specs.Input.{IsEndOf};
@@ -67,6 +67,8 @@ impl<'i> Parser<&'i [u8], u64, EmptyError> for Digit {
 
     ghost state = { λ _. tt };
 
+    ghost states = { Is };
+
     ghost meaning = { λ _ _ i _ _ j. IsEndOf bytes_reading j i };
 
     ghost says = { λ _. nothing_said };
@@ -105,6 +107,8 @@ impl<'i> Parser<&'i [u8], Infix<Operator>, EmptyError> for Between {
     ghost State = { ⊤ };
 
     ghost state = { λ _. tt };
+
+    ghost states = { Is };
 
     ghost meaning = { λ _ _ i _ _ j. IsEndOf bytes_reading j i };
 

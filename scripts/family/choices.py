@@ -37,14 +37,14 @@ def place(n, k):
     return ".1" * (k - 1) + (".0" if k < n else "")
 
 
-def of_branches(n, member):
-    """Returns the member `claim`, `claimed`, `says` or `said` of a choice between n branches."""
+def of_branches(n, member, both=None):
+    """Returns the member `claim`, `claimed`, `says`, `said` or `states` of a choice between n branches."""
     if n == 1:
         return "P1.%s" % member
     made = nested(
         lambda k: "(P%d.%s s%s)" % (k, member, place(n, k)),
         n,
-        lambda first, rest: "(or_else_%s %s %s)" % (member, first, rest),
+        lambda first, rest: "(%s %s %s)" % (both or "or_else_" + member, first, rest),
     )
     return "λ s. %s" % made[1:-1]
 
@@ -61,6 +61,8 @@ def choice_impl(n):
         "    ghost State = { %s };" % nested(lambda k: "P%d.State" % k, n, product),
         "",
         "    ghost state = { λ s. %s };" % state,
+        "",
+        "    ghost states = { %s };" % of_branches(n, "states", "Both"),
         "",
         "    ghost meaning = { %s };" % meaning,
         "",
@@ -96,6 +98,7 @@ ghost use Rattle.winnow_comb.specs.Alt.{{OrElse}};
 ghost use Rattle.winnow_comb.specs.Alt.Claim.{{or_else_claim, or_else_claimed}};
 ghost use Rattle.winnow_comb.specs.Alt.Laws.{{or_else_ends}};
 ghost use Rattle.winnow_comb.specs.Alt.Says.{{or_else_said, or_else_says}};
+ghost use Rattle.winnow_core.specs.Says.{{Both}};
 
 use crate::combinator::impls::alt::{{Alt, attempt}};
 use stream_errors::parser_error::ParserError;

@@ -102,6 +102,7 @@ ghost use Rattle.winnow_ascii.specs.Class.{{ClassRuns}};
 ghost use Rattle.winnow_ascii.specs.Class.Laws.{{class_claim, class_claimed, class_leaves{laws}}};
 ghost use Rattle.winnow_ascii.specs.Class.Says.{{class_said, class_says}};
 ghost use Rattle.winnow_core.specs.Runs.{{Keeps}};
+ghost use Rattle.winnow_core.specs.Says.{{Is}};
 ghost use Rattle.winnow_core.specs.Stable.Grows.{{leaf_stays}};
 ghost use Rattle.winnow_token.specs.TakeWhile.Laws.{{take_while_stays}};
 
@@ -127,6 +128,8 @@ where
     ghost State = {{ ⊤ }};
 
     ghost state = {{ λ _. tt }};
+
+    ghost states = {{ Is }};
 
     ghost meaning = {{ λ form. Keeps (λ _. ClassRuns {member} {least} I.Token.code I.seen_as I.reading form) }};
 

@@ -142,6 +142,7 @@ ghost use Rattle.winnow_integers.specs.Integer.Laws.{{integer_leaves, integer_st
 ghost use Rattle.winnow_integers.specs.Integer.Says.{{integer_said, integer_says}};
 ghost use Rattle.winnow_integers.specs.declared.binary.endianness.Endianness.TheVariants.{{{constructor}}};
 ghost use Rattle.winnow_core.specs.Runs.{{Keeps}};
+ghost use Rattle.winnow_core.specs.Says.{{Is}};
 ghost use Rattle.winnow_core.specs.Stable.Grows.{{leaf_stays}};
 
 use crate::binary::{name};
@@ -161,6 +162,8 @@ impl<I: StreamIsPartial + ByteStream, E: ParserError<I>> Parser<I, {type}, E> fo
     ghost State = {{ ⊤ }};
 
     ghost state = {{ λ _. tt }};
+
+    ghost states = {{ Is }};
 
     ghost meaning = {{ λ form. Keeps (λ _. IntegerRuns {width} ({value} {constructor}) I.reading form) }};
 

@@ -82,6 +82,15 @@ ONE_CLAIMS = {
 }
 
 
+# The states of two to six members.
+STATES = ["Both", "Three", "Four", "Five", "Six"]
+
+
+def states(n):
+    """Returns the states in which calls of a tuple of n parsers end."""
+    return "λ s t. P1.states s.0 t.0" if n == 1 else "λ s. %s %s" % (STATES[n - 2], spaced("(P#.states s.@)", n))
+
+
 def laws(n):
     """Returns the ghost members of a tuple of n parsers that its meaning determines."""
     name = "one" if n == 1 else "sequence%d" % n
@@ -111,6 +120,8 @@ def sequence_impl(n):
         "",
         "    ghost state = { λ s. %s };" % tuple_value(numbered("P#.state s.@", n)),
         "",
+        "    ghost states = { %s };" % states(n),
+        "",
         "    ghost meaning = { λ form. SequenceRuns%d %s };" % (n, spaced("(P#.meaning form)", n)),
         "",
         *("%s\n" % member for member in laws(n).values()),
@@ -136,8 +147,11 @@ ghost use Rattle.winnow_core.specs.Exact.Nothing.{{unit_exact, unit_fails}};
 ghost use Rattle.winnow_core.specs.InOrder.Claim.{{both_claim, both_claimed, claimed_by, three_claim, three_claimed}};
 ghost use Rattle.winnow_core.specs.InOrder.Exact.{{OneTuple, tuple1_exact, tuple1_fails}};
 ghost use Rattle.winnow_core.specs.InOrder.Laws.{{both_ends, ends_by, three_ends}};
+ghost use Rattle.winnow_core.specs.InOrder.Says.{{Three}};
+ghost use Rattle.winnow_core.specs.Says.{{Both, Is}};
 ghost use Rattle.winnow_core.specs.Sequence.{{{runs}}};
 ghost use Rattle.winnow_core.specs.Sequence.{{same4, same5, same6, split4, split5, split6}};
+ghost use Rattle.winnow_core.specs.Sequence.Says.{{Five, Four, Six}};
 ghost use Rattle.winnow_core.specs.Sequence.Says.{{{said}}};
 ghost use Rattle.winnow_core.specs.Sequence.Says.{{{says}}};
 ghost use Rattle.winnow_core.specs.Sequence.Small.{{one_said, one_says, sequence1_ends, unit_said, unit_says}};
@@ -153,6 +167,8 @@ impl<I: Stream, E: ParserError<I>> Parser<I, (), E> for () {{
     ghost State = {{ ⊤ }};
 
     ghost state = {{ λ _. tt }};
+
+    ghost states = {{ Is }};
 
     ghost meaning = {{ λ _. SequenceRuns0 }};
 

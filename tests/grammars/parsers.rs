@@ -1,7 +1,7 @@
 //! Compositions as parsers: at each node the library's own combinator runs, over references to the
 //! parts.
 ghost use Rattle.winnow_core.specs.Claim.{no_claim, nothing_claimed};
-ghost use Rattle.winnow_core.specs.Says.{nothing_done, nothing_said};
+ghost use Rattle.winnow_core.specs.Says.{Is, nothing_done, nothing_said};
 ghost use Rattle.std.specs.Prelude.{⊤};
 ghost use Rattle.streams.specs.Input.{IsEndOf};
 
@@ -26,6 +26,8 @@ impl<'i, I: Bytes<'i>> Parser<I, Shown, Modal> for Tree {
     ghost State = { ⊤ };
 
     ghost state = { λ _. tt };
+
+    ghost states = { Is };
 
     ghost meaning = { λ _ _ i _ _ j. IsEndOf I.reading j i };
 

@@ -1,6 +1,6 @@
 //! Common helpers: a child that counts its calls, and a child with a plan.
 ghost use Rattle.winnow_core.specs.Claim.{no_claim, nothing_claimed};
-ghost use Rattle.winnow_core.specs.Says.{nothing_done, nothing_said};
+ghost use Rattle.winnow_core.specs.Says.{Is, nothing_done, nothing_said};
 ghost use Rattle.std.specs.Prelude.{⊤};
 ghost use Rattle.streams.specs.Input.{IsEndOf};
 
@@ -33,6 +33,8 @@ impl<I: Stream, O, E: ParserError<I>, P: Parser<I, O, E>> Parser<I, O, E> for Co
     ghost State = { P.State };
 
     ghost state = { λ s. P.state s.parser };
+
+    ghost states = { Is };
 
     ghost meaning = { P.meaning };
 
@@ -102,6 +104,8 @@ impl<I: Stream, E: ParserError<I>> Parser<I, usize, E> for Planned {
     ghost State = { ⊤ };
 
     ghost state = { λ _. tt };
+
+    ghost states = { Is };
 
     ghost meaning = { λ _ _ i _ _ j. IsEndOf I.reading j i };
 

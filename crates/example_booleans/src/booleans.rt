@@ -14,7 +14,7 @@ ghost use Rattle.winnow_expression_trees.specs.Items.Premises.{gives_ends};
 ghost use Rattle.example_booleans.specs.Booleans.{ByteItem, LacksOperand, infix_at, logic_value};
 ghost use Rattle.example_booleans.specs.Booleans.{not_value, operand_at, postfix_at, prefix_at};
 ghost use Rattle.example_booleans.specs.Booleans.Laws.{byte_ends};
-ghost use Rattle.winnow_core.specs.Says.{nothing_done, nothing_said};
+ghost use Rattle.winnow_core.specs.Says.{Is, nothing_done, nothing_said};
 
 use std::alloc::Allocator;
 use stream_errors::empty::EmptyError;
@@ -126,6 +126,8 @@ impl<'i> Parser<&'i [u8], bool, EmptyError> for Part {
 
     ghost state = { λ _. tt };
 
+    ghost states = { Is };
+
     ghost meaning = { λ _. Keeps (λ _. ItemRuns (ByteItem operand_at)) };
 
     ghost says = { λ _. nothing_said };
@@ -157,6 +159,8 @@ impl<'i> Parser<&'i [u8], Prefix<Not>, EmptyError> for Part {
     ghost State = { ⊤ };
 
     ghost state = { λ _. tt };
+
+    ghost states = { Is };
 
     ghost meaning = { λ _. Keeps (λ _. ItemRuns (ByteItem prefix_at)) };
 
@@ -190,6 +194,8 @@ impl<'i> Parser<&'i [u8], Postfix<Not>, EmptyError> for Part {
 
     ghost state = { λ _. tt };
 
+    ghost states = { Is };
+
     ghost meaning = { λ _. Keeps (λ _. ItemRuns (ByteItem postfix_at)) };
 
     ghost says = { λ _. nothing_said };
@@ -221,6 +227,8 @@ impl<'i> Parser<&'i [u8], Infix<Logic>, EmptyError> for Part {
     ghost State = { ⊤ };
 
     ghost state = { λ _. tt };
+
+    ghost states = { Is };
 
     ghost meaning = { λ _. Keeps (λ _. ItemRuns (ByteItem infix_at)) };
 

@@ -2,21 +2,24 @@
 //! complete and of partial input.
 #![tactic(auto)]
 
-ghost use Rattle.std.specs.Prelude.{◌≡◌, ℕ, List, OnErr};
+ghost use Rattle.std.specs.Prelude.{◌≡◌, ⊤, ℕ, List, OnErr};
 ghost use Rattle.example_callers.specs.Times.{TimeText};
 ghost use Rattle.grammar_prefixes.specs.Prefixes.{IsFirstInvalid};
 ghost use Rattle.winnow.specs.BitsOfBytes.Says.{bits_says};
 ghost use Rattle.winnow.specs.BitsOfBytes.{BitsOfBytesRuns};
 ghost use Rattle.winnow.specs.Class.Says.{CharIsFunction};
+ghost use Rattle.winnow.specs.Fill.{Buffer, FillRuns};
+ghost use Rattle.winnow.specs.Fill.Says.{FillStates};
 ghost use Rattle.winnow.specs.Form.{answer_by, modal};
 ghost use Rattle.winnow.specs.Longer.{NoOtherOnLonger};
 ghost use Rattle.winnow.specs.Outcome.{outcome_of};
-ghost use Rattle.winnow.specs.Says.{Tells};
+ghost use Rattle.winnow.specs.Says.{Is, Tells};
 
 use winnow::Parser;
 use winnow::ascii::impls::Digit1;
 use winnow::binary::bits::impls::{Bits, BitsParser, Bool, Bytes};
 use winnow::binary::bits::{bits, bytes};
+use winnow::combinator::impls::Fill;
 use winnow::error::{EmptyError, ErrMode, ErrorConvert, ParserError};
 use winnow::laws::longer_inputs_get_partial_results;
 use winnow::stream::{AsChar, ByteStream, Compare, Partial, Stream, StreamIsPartial};
@@ -48,11 +51,27 @@ where
     requires seen { CharIsFunction I.seen_as I.Token.code }
     requires mode { E.form ≡ modal }
     ensures { NoOtherOnLonger I.following (tt, 58, tt)
+        (⟦<(Digit1, u8, Digit1) as Parser<I, (I::Slice, u8, I::Slice), E>>⟧.states (tt, 58, tt))
         (⟦<(Digit1, u8, Digit1) as Parser<I, (I::Slice, u8, I::Slice), E>>⟧.meaning E.form)
         (⟦<(Digit1, u8, Digit1) as Parser<I, (I::Slice, u8, I::Slice), E>>⟧.says
         (tt, 58, tt)).alike }
 {
     longer_inputs_get_partial_results::<(Digit1, u8, Digit1), I, (I::Slice, u8, I::Slice), E>();
+}
+
+/// States that results of filling a buffer from partial input are final. The state has the buffer,
+/// which each call overwrites.
+pub fn block_is_for_good<'b, I, E>()
+where
+    I: StreamIsPartial,
+    I::Token: Drop,
+    E: ParserError<I>,
+    requires mode { E.form ≡ modal }
+    ensures { (buffer : Buffer I.Token) → NoOtherOnLonger I.following (tt, buffer)
+        (FillStates (Is tt) buffer)
+        (FillRuns (⟦<Any as Parser<I, I::Token, E>>⟧.meaning E.form)) (λ (_ _ : ⊤). ⊤) }
+{
+    longer_inputs_get_partial_results::<Fill<'b, Any, I, I::Token, E>, I, (), E>();
 }
 
 /// Parses a time from bytes. An error leaves the input at the first byte with which no time
@@ -100,6 +119,7 @@ where
     F: ParserError<I>,
     requires mode { F.form ≡ modal }
     ensures { NoOtherOnLonger I.following (tt, tt)
+        (⟦<Flags as Parser<Bits<I>, (bool, bool), E>>⟧.states (tt, tt))
         (BitsOfBytesRuns I.reading F.form
         (⟦<Flags as Parser<Bits<I>, (bool, bool), E>>⟧.meaning F.form))
         (⟦<Flags as Parser<Bits<I>, (bool, bool), E>>⟧.says (tt, tt)).alike }

@@ -8,19 +8,21 @@ ghost use Rattle.std.specs.Fn.{CalledAtMut};
 ghost use Rattle.winnow.specs.Bytes.{bytes_follow, bytes_reading};
 ghost use Rattle.winnow.specs.Claim.{CanRead};
 ghost use Rattle.winnow.specs.Cut.{ReadsOrAsks};
-ghost use Rattle.winnow.specs.Form.{modal};
+ghost use Rattle.winnow.specs.Form.{answer_by, modal};
 ghost use Rattle.winnow.specs.Grammar.{Gathered, Many, Three};
 ghost use Rattle.winnow.specs.Range.{from_to};
-ghost use Rattle.winnow.specs.RulePieces.{CallsReadOrAsk, Joins};
+ghost use Rattle.winnow.specs.RulePieces.{CallsReadOrAsk, CallsTell, HasOutcome, Joins};
 ghost use Rattle.examples.specs.Brackets.Brackets.{AreBrackets, brackets_take, brackets_unique};
 ghost use Rattle.examples.specs.Brackets.Brackets.{piece_input};
+ghost use Rattle.examples.specs.Brackets.Outcomes.{between_says, brackets_alike, brackets_do};
+ghost use Rattle.examples.specs.Brackets.Outcomes.{brackets_law};
 ghost use Rattle.examples.specs.Nested.Trees.{no_memory_kind};
 
 use std::alloc::Allocator;
 use winnow::combinator::impls::Repeat;
 use winnow::combinator::{delimited, repeat};
 use winnow::error::{EmptyError, ErrMode, HasKind, ParserError};
-use winnow::exact::{ByPieces, ReadsPieces, Rule};
+use winnow::exact::{ByPieces, ReadsPieces, Rule, RuleInPieces};
 use winnow::stable::Stable;
 use winnow::stream::{Partial, Range, Stream};
 
@@ -49,7 +51,7 @@ where
     E: ParserError<I>,
     O: Drop,
     A: Allocator + Copy,
-    R: Rule<I, O> + Drop,
+    R: RuleInPieces<I, O> + Drop,
     F: FnMut(&mut I) -> Result<O, E> + Drop,
     B: Stable<I, u8, E> + Drop,
     requires modal { E.form ≡ modal }
@@ -57,14 +59,19 @@ where
     requires callable { F.IsAlwaysCallable item }
     requires reads { CallsReadOrAsk I.reading I.following I.view E.kind (CalledAtMut F.FnMut)
         (R.grammar rule) item }
+    requires tells { CallsTell I.view E.kind E.form (CalledAtMut F.FnMut) (R.does rule) item }
     requires takes { R.consumes rule }
     requires opening { CanRead (B.can_parse opening) (B.claim (B.state opening)) }
     requires closing { CanRead (B.can_parse closing) (B.claim (B.state closing)) }
-    ensures { ReadsOrAsks I.reading I.following E.kind
+    requires known { (B.says (B.state opening)).premise × (B.says (B.state closing)).premise }
+    ensures reads { ReadsOrAsks I.reading I.following E.kind
         (Three (λ _ o _. o) (B.claim (B.state opening)).grammar
         (Gathered (λ (list : Vec O A) os. list.items ≡ os)
         (Many (R.grammar rule) (from_to 0 None))) (B.claim (B.state closing)).grammar)
         (I.view input.old) result (I.view input.new) }
+    ensures outcome { HasOutcome (between_says (B.says (B.state opening))
+        (B.says (B.state closing)) (R.does rule) (R.alike rule)).does E.form
+        (I.view input.old) (answer_by E.kind result) (I.view input.new) }
 {
     let items: Repeat<ByPieces<R, F>, I, O, Vec<O, A>, E, A> = repeat(
         alloc,
@@ -90,6 +97,16 @@ impl<'i, A: Allocator> Rule<Partial<&'i [u8]>, Brackets<A>> for AnyBrackets<A> {
     ghost takes = { λ r _. brackets_take r.1 };
 }
 
+impl<'i, A: Allocator> RuleInPieces<Partial<&'i [u8]>, Brackets<A>> for AnyBrackets<A> {
+    ghost does = { λ r. brackets_do r.1 };
+
+    ghost alike = { λ r. brackets_alike r.1 };
+
+    fn pieces() {}
+
+    ghost lawful = { λ r. brackets_law r.1 };
+}
+
 /// Parses brackets nested at most `level` deep.
 ///
 /// On partial input a result is the same for any continuation, unless it is `Incomplete` or out of
@@ -109,16 +126,21 @@ pub fn read_brackets<'i, A: Allocator + Copy>(
     level: usize,
     input: &mut Partial<&'i [u8]>,
 ) -> Result<Brackets<A>, ErrMode<EmptyError>>
-    ensures { ReadsOrAsks bytes_reading bytes_follow ⟦<Error as HasKind>⟧.kind (AreBrackets level)
-        (⟦<Bytes as Stream>⟧.view input.old) result (⟦<Bytes as Stream>⟧.view input.new) }
+    ensures reads { ReadsOrAsks bytes_reading bytes_follow ⟦<Error as HasKind>⟧.kind
+        (AreBrackets level) (⟦<Bytes as Stream>⟧.view input.old) result
+        (⟦<Bytes as Stream>⟧.view input.new) }
+    ensures outcome { HasOutcome (brackets_do level) modal (⟦<Bytes as Stream>⟧.view input.old)
+        (answer_by ⟦<Error as HasKind>⟧.kind result) (⟦<Bytes as Stream>⟧.view input.new) }
 {
     if level == 0 {
         return Err(ErrMode::from_input(input));
     }
     let below = level - 1;
     let item = |input: &mut Partial<&[u8]>|
-        ensures { ReadsOrAsks bytes_reading bytes_follow no_memory_kind (AreBrackets below)
+        ensures reads { ReadsOrAsks bytes_reading bytes_follow no_memory_kind (AreBrackets below)
             (piece_input input.old) result (piece_input input.new) }
+        ensures outcome { HasOutcome (brackets_do below) modal (piece_input input.old)
+            (answer_by no_memory_kind result) (piece_input input.new) }
     { read_brackets(alloc, below, input) };
     match read_between(alloc, AnyBrackets(alloc, below), item, b'[', b']', input) {
         Ok(inner) => Ok(Brackets { inner }),

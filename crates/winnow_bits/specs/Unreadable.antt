@@ -24,8 +24,9 @@ misused_at_law {alike = alike} still = record {
 }
 
 -- what a run in the second case does
-pub did_other : {S T O : Type 0} {first other : Does T O} {at : Setting} {s t : S} {i j : Input T}
-    {answer : Answer O} → Did other at s i answer t j → Did (OneCase first other) at s i answer t j
+pub did_other : {S T O : Type 0} {first other : Does T O} {at : Setting} {states : S → Type 0}
+    {t : S} {i j : Input T} {answer : Answer O} → Did other at states i answer t j
+    → Did (OneCase first other) at states i answer t j
 did_other d = record {
   kept = d.kept;
   status = d.status;

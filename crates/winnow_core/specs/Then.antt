@@ -151,13 +151,14 @@ hands_on next at tokens rest cut b c a e = c _ refl (gave rest e)
 hands_on next at tokens rest (incomplete need) b c a e = a _ need refl (gave rest e)
 hands_on next at tokens rest memory b c a e = gave rest e
 
-module _ {S T O U : Type 0} {does : Does T O} {next : Next T O U} {at : Setting} {s t : S}
-    {i j : Input T} {a : Answer O} where
+module _ {S T O U : Type 0} {does : Does T O} {next : Next T O U} {at : Setting}
+    {states : S → Type 0} {t : S} {i j : Input T} {a : Answer O} where
   -- a call of the child and its continuation, in a combinator with a state of its own
-  pub did_in : {P : Type 0} {answer : Answer U} (p q : P) → q ≡ p → Did does at s i a t j
+  pub did_in : {P : Type 0} {answer : Answer U} {held : P → Type 0} {q : P} → held q
+      → Did does at states i a t j
       → ComesOf next at i.left.tokens (outcome_of a j.left.tokens)
-      (outcome_of answer j.left.tokens) → Did (Then does next) at p i answer q j
-  did_in p q kept did came = record {
+      (outcome_of answer j.left.tokens) → Did (Then does next) at held i answer q j
+  did_in kept did came = record {
     kept = kept;
     status = did.status;
     possible = did.possible;
@@ -165,17 +166,17 @@ module _ {S T O U : Type 0} {does : Does T O} {next : Next T O U} {at : Setting}
   }
 
   -- the same in a whole with the state of the part
-  pub did_then : {answer : Answer U} → Did does at s i a t j
+  pub did_then : {answer : Answer U} → Did does at states i a t j
       → ComesOf next at i.left.tokens (outcome_of a j.left.tokens)
-      (outcome_of answer j.left.tokens) → Did (Then does next) at s i answer t j
-  did_then did came = did_in s t did.kept did came
+      (outcome_of answer j.left.tokens) → Did (Then does next) at states i answer t j
+  did_then did came = did_in did.kept did came
 
   -- the same, back where the part began
-  pub back_in : {P : Type 0} {answer : Answer U} {k : Input T} (p q : P) → q ≡ p
-      → Did does at s i a t j → k ≡ back_at i.left j
+  pub back_in : {P : Type 0} {answer : Answer U} {k : Input T} {held : P → Type 0} {q : P}
+      → held q → Did does at states i a t j → k ≡ back_at i.left j
       → ComesOf next at i.left.tokens (outcome_of a j.left.tokens)
-      (outcome_of answer i.left.tokens) → Did (Then does next) at p i answer q k
-  back_in {answer = answer} p q kept did same came =
+      (outcome_of answer i.left.tokens) → Did (Then does next) at held i answer q k
+  back_in {answer = answer} kept did same came =
       let P : List T → Type 0 = λ l. ComesOf next at i.left.tokens
       (outcome_of a j.left.tokens) (outcome_of answer l) in record {
         kept = kept;
@@ -184,8 +185,8 @@ module _ {S T O U : Type 0} {does : Does T O} {next : Next T O U} {at : Setting}
         done = (_, did.done, subst P (sym (ap (λ z. z.left.tokens) same)) came);
       }
 
-  pub back_then : {answer : Answer U} {k : Input T} → Did does at s i a t j
+  pub back_then : {answer : Answer U} {k : Input T} → Did does at states i a t j
       → k ≡ back_at i.left j
       → ComesOf next at i.left.tokens (outcome_of a j.left.tokens)
-      (outcome_of answer i.left.tokens) → Did (Then does next) at s i answer t k
-  back_then did same came = back_in s t did.kept did same came
+      (outcome_of answer i.left.tokens) → Did (Then does next) at states i answer t k
+  back_then did same came = back_in did.kept did same came

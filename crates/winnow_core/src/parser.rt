@@ -14,7 +14,7 @@ ghost use Rattle.winnow_core.specs.ParseIter.{IsReached, parse_iter_name, parse_
 ghost use Rattle.winnow_core.specs.ParseIter.{parse_iter_standing, reads};
 ghost use Rattle.winnow_core.specs.ParsePeek.{PeekAnswers};
 ghost use Rattle.winnow_core.specs.Runs.{LeaveEnds, Meaning};
-ghost use Rattle.winnow_core.specs.Says.{Said, Says, Tells};
+ghost use Rattle.winnow_core.specs.Says.{SaidAmong, Says, Tells};
 ghost use Rattle.winnow_core.specs.Says.Whole.{TellsAll};
 ghost use Rattle.winnow_core.specs.Take.{take_parser};
 ghost use Rattle.winnow_core.specs.Value.{value_kept, value_parser};
@@ -58,6 +58,9 @@ pub trait Parser<I: Stream, O, E: ParserError<I>>: Sized {
 
     // The current state of a parser.
     ghost state: { Self → State };
+
+    // The states in which calls from a state end. `Is` is that state alone.
+    ghost states: { State → State → Type 0 };
 
     // The parser's semantics: for each form of errors, a relation between a state, an input, a
     // result, the new state and the remaining input.
@@ -132,7 +135,7 @@ pub trait Parser<I: Stream, O, E: ParserError<I>>: Sized {
         ensures ran { meaning E.form (state self.old) (I.view input.old)
             (answer_by E.kind result) (state self.new) (I.view input.new) }
         ensures ends { IsEndOf I.reading (I.view input.new) (I.view input.old) }
-        ensures kept { state self.new ≡ state self.old }
+        ensures kept { (says (state self.old)).keeps → state self.new ≡ state self.old }
         ensures tells { Tells (says (state self.old)) E.form (I.view input.old)
             (outcome_of (answer_by E.kind result) (I.view input.new).left.tokens) }
     {
@@ -502,7 +505,7 @@ pub trait Parser<I: Stream, O, E: ParserError<I>>: Sized {
     ghost leaves_ends: { (form : ErrorForm) → LeaveEnds I.reading (meaning form) };
 
     // The semantics satisfy `says`.
-    ghost said: { (s : State) → Said (says s) s meaning };
+    ghost said: { (s : State) → SaidAmong (states s) (says s) s meaning };
 
     // The semantics satisfy `claim`.
     ghost claimed: { (s : State) → Claimed (claim s) s meaning };

@@ -1,5 +1,5 @@
 -- Rules with functions that parse incremental input. As a parser, such a function has the results
--- that its grammar allows, on the input and on every longer one.
+-- that its grammar and its outcomes allow, on the input and on every longer one.
 use Rattle.std.specs.Prelude.{◌≡◌, ◌⊎◌, ⊤, Bool, true, false, List, [], ◌∷◌, ◌++◌}
 use Rattle.std.specs.Prelude.{Result, Ok, Err}
 use Rattle.std.specs.Prelude.{◌<◌, ◌≤◌, length}
@@ -9,13 +9,19 @@ use Rattle.std.proofs.Common.{arith, length-append}
 use Rattle.std.proofs.lemmas.List.Elements.{All-append}
 use Rattle.streams.specs.Bytes.{bytes_follow}
 use Rattle.streams.specs.Following.{Following, Follows}
-use Rattle.streams.specs.Input.{Input, IsEndOf, with_more}
-use Rattle.streams.specs.Kind.{Kind, backtrack, incomplete, memory}
+use Rattle.streams.specs.Input.{Input, IsEndOf, Status, with_more}
+use Rattle.streams.specs.Kind.{Kind, backtrack, cut, incomplete, memory}
 use Rattle.streams.specs.Reading.{Reading}
 use Rattle.streams.specs.Text.{text_follows}
-use Rattle.stream_errors.specs.Form.{Answer, answer_by}
+use Rattle.stream_errors.specs.Form.{Answer, ErrorForm, answer_by, modal}
 use Rattle.winnow_core.specs.Exact.{FailsBy, IsExact}
 use Rattle.winnow_core.specs.Exact.Allowed.{Allowed, back_allowed, memory_allowed}
+use Rattle.winnow_core.specs.Outcome as outcome
+use Rattle.winnow_core.specs.Outcome.{Does, Outcome, grown, longer, outcome_of}
+use Rattle.winnow_core.specs.Outcome.Errors.{kind_longer}
+use Rattle.winnow_core.specs.Runs.{Meaning}
+use Rattle.winnow_core.specs.Says.{Lawful, Said, SaidAmong, Says, here, setting_of}
+use Rattle.winnow_core.specs.Says.Leaf.{each_keeps}
 use Rattle.winnow_core.specs.Stable.{IsFinal, IsStable}
 use Rattle.grammars.specs.Grammar.{Grammar, IsUnique, NoMatch}
 use Rattle.winnow_grammar.specs.Cut.{ReadsCut, ReadsOrAsks}
@@ -38,6 +44,28 @@ pub record CallsReadOrAsk {F I T L O E : Type 0} (reading : Reading T L) (follow
   pub reads : (x : I) (r : Result O E) (g : F) (y : I) → called f x r g y
       → ReadsOrAsks reading following kind grammar (view x) r (view y)
 
+-- The outcome of a call, which changes nothing of the input but the remaining tokens.
+pub record HasOutcome {T O : Type 0} (does : Does T O) (form : ErrorForm) (i : Input T)
+    (answer : Answer O) (j : Input T) : Type 0 where
+  pub status : j.status ≡ i.status
+  pub outcome : does (setting_of form i) i.left.tokens (outcome_of answer j.left.tokens)
+
+-- the outcome of a call of a parser
+pub has_outcome : {S T O : Type 0} {states : S → Type 0} {says : Says T O} {s : S}
+    {meaning : Meaning S T O} → SaidAmong states says s meaning → says.premise
+    → (form : ErrorForm) (i : Input T) (answer : Answer O) (t : S) (j : Input T)
+    → meaning form s i answer t j → HasOutcome says.does form i answer j
+has_outcome {s = s} said is form i answer t j ran =
+    let did = (said.runs is).did (setting_of form i) s said.held i answer t j (here form i) ran in
+    record { status = did.status; outcome = did.done }
+
+-- Every call of the function has an outcome.
+abbrev pub CallsTell : {F I T O E : Type 0} → (I → Input T) → (E → Kind) → ErrorForm
+    → (F → I → Result O E → F → I → Type 0) → Does T O → F → Type 0
+CallsTell {F} {I} {T} {O} {E} view kind form called does f =
+    (x : I) (r : Result O E) (g : F) (y : I) → called f x r g y
+    → HasOutcome does form (view x) (answer_by kind r) (view y)
+
 -- the same for the function after a call
 pub asks_again : {F I T L O E : Type 0} (reading : Reading T L) (following : Following T)
     (view : I → Input T) (kind : E → Kind) (called : F → I → Result O E → F → I → Type 0)
@@ -47,6 +75,15 @@ pub asks_again : {F I T L O E : Type 0} (reading : Reading T L) (following : Fol
 asks_again reading following view kind called grammar f x r g y reads call =
     subst (CallsReadOrAsk reading following view kind called grammar)
     (sym (reads.kept x r g y call)) reads
+
+pub tells_again : {F I T L O E : Type 0} {reading : Reading T L} {following : Following T}
+    {view : I → Input T} {kind : E → Kind} {form : ErrorForm}
+    {called : F → I → Result O E → F → I → Type 0} {grammar : Grammar T O} {does : Does T O}
+    {f : F} {x : I} {r : Result O E} {g : F} {y : I}
+    → CallsReadOrAsk reading following view kind called grammar f → called f x r g y
+    → CallsTell view kind form called does f → CallsTell view kind form called does g
+tells_again {view = view} {kind} {form} {called} {does = does} {x = x} {r} {g} {y} reads call tells =
+    subst (CallsTell view kind form called does) (sym (reads.kept x r g y call)) tells
 
 -- ---- what may come in several pieces
 
@@ -123,11 +160,22 @@ pub record RunsInPieces {T L O : Type 0} (reading : Reading T L) (following : Fo
       → PartialResult grammar (i.left.tokens ++ (more ++ joined others)) answer
       (j.left.tokens ++ (more ++ joined others))
 
--- those of a rule, which stays as it is
-abbrev pub PiecesRuns : {N T L O : Type 0} → Reading T L → Following T → (N → Grammar T O) → N
-    → Input T → Answer O → N → Input T → Type 0
-PiecesRuns reading following grammar s i answer t j =
+-- those of a rule, which stays as it is, with an outcome
+abbrev pub PiecesRuns : {N T L O : Type 0} → Reading T L → Following T → (N → Grammar T O)
+    → (N → Does T O) → Meaning N T O
+PiecesRuns reading following grammar does form s i answer t j =
     RunsInPieces reading following (grammar s) i answer j × (t ≡ s)
+    × HasOutcome (does s) form i answer j
+
+-- The specification by these outcomes.
+abbrev pub pieces_says : {T O : Type 0} → Does T O → (O → O → Type 0) → Says T O
+pieces_says does alike = record {
+  premise = ⊤;
+  stable = ⊤;
+  keeps = ⊤;
+  does = does;
+  alike = alike;
+}
 
 -- ---- a call is such a run
 
@@ -172,8 +220,22 @@ call_runs joins i r j told = record {
 
 -- ---- the laws of a parser
 
+-- the same outcome where more tokens follow
+longer_of : {T O : Type 0} (more : List T) (answer : Answer O) (rest : List T)
+    → longer more (outcome_of answer rest) ≡ outcome_of answer (rest ++ more)
+longer_of more (Ok o) rest = refl
+longer_of more (Err k) rest = kind_longer rest more k
+
+final_outcome : {T O : Type 0} (answer : Answer O) (rest : List T) → IsFinal answer
+    → outcome.IsFinal (outcome_of answer rest)
+final_outcome (Ok o) rest final = tt
+final_outcome (Err backtrack) rest final = tt
+final_outcome (Err cut) rest final = tt
+final_outcome (Err (incomplete need)) rest final = final
+final_outcome (Err memory) rest final = final
+
 module _ {N T L O : Type 0} (reading : Reading T L) (following : Following T)
-    (grammar : N → Grammar T O) where
+    (grammar : N → Grammar T O) (does : N → Does T O) where
   -- a result for equal lists of tokens
   moved : (s : N) (answer : Answer O) {tokens these rest others : List T} → tokens ≡ these
       → rest ≡ others → PartialResult (grammar s) tokens answer rest
@@ -203,9 +265,30 @@ module _ {N T L O : Type 0} (reading : Reading T L) (following : Following T)
     cut = refl;
   }
 
-  pub pieces_stay : IsStable following (PiecesRuns reading following grammar)
+  -- a final result has an outcome on longer input
+  outcome_stays : {alike : O → O → Type 0} (s : N) → Lawful ⊤ alike (does s) → (more : List T)
+      (flag : Bool) (i : Input T) (answer : Answer O) (j : Input T) → i.status.cut ≡ true
+      → i.left.possible ≡ true → IsFinal answer → HasOutcome (does s) modal i answer j
+      → HasOutcome (does s) modal (with_more i more flag) answer (with_more j more flag)
+  outcome_stays s law more flag i answer j is_cut possible final has =
+      let P : Bool → Bool → Type 0 = λ m p. does s (record { form = modal; more = m; possible = p })
+      i.left.tokens (outcome_of answer j.left.tokens) in
+      let Q : Bool → Type 0 = λ p. does s (record { form = modal; more = flag; possible = p })
+      (i.left.tokens ++ more) (outcome_of answer (j.left.tokens ++ more)) in
+      let R : Outcome T O → Type 0 = λ x. does s (grown flag) (i.left.tokens ++ more) x in
+      record {
+        status = ap (λ (z : Status). record z { cut = flag }) has.status;
+        outcome = subst Q (sym possible) (subst R (longer_of more answer j.left.tokens)
+            (law.stays tt more flag i.left.tokens (outcome_of answer j.left.tokens)
+            (final_outcome answer j.left.tokens final)
+            (subst (λ p. P true p) possible
+            (subst (λ m. P m i.left.possible) is_cut has.outcome))));
+      }
+
+  pub pieces_stay : {alike : N → O → O → Type 0} → ((s : N) → Lawful ⊤ (alike s) (does s))
+      → IsStable following (PiecesRuns reading following grammar does modal)
   unfolding joined AllFollow
-  pieces_stay more flag s i answer t j is_cut follows final (r, same) = (
+  pieces_stay law more flag s i answer t j is_cut follows final (r, same, has) = (
     record {
       ends = ends_more more flag i j r.ends;
       whole = λ is. wholly s answer (i.left.tokens ++ more) (j.left.tokens ++ more)
@@ -218,27 +301,47 @@ module _ {N T L O : Type 0} (reading : Reading T L) (following : Following T)
           (r.cut is_cut final more (next ∷ others) follows (behind.tokens, all));
     },
     same,
+    outcome_stays s (law s) more flag i answer j is_cut follows.possible final has,
   )
 
-  pub pieces_exact : (s : N) → IsUnique (grammar s)
-      → IsExact s (PiecesRuns reading following grammar) (grammar s)
-  pieces_exact s unique = record {
-    kept = λ i answer t j is (r, same). (same, r.ends.cut ∙ is);
-    stands = λ i o t j is (r, same). r.whole is;
-    none = λ i k t j is (r, same). elim (r.whole is) [
+  pub pieces_exact : (form : ErrorForm) (s : N) → IsUnique (grammar s)
+      → IsExact s (PiecesRuns reading following grammar does form) (grammar s)
+  pieces_exact form s unique = record {
+    kept = λ i answer t j is (r, same, has). (same, r.ends.cut ∙ is);
+    stands = λ i o t j is (r, same, has). r.whole is;
+    none = λ i k t j is (r, same, has). elim (r.whole is) [
       | inl m ↦ inl m
       | inr (b, nothing) ↦ inr nothing
     ];
     unique = unique;
   }
 
-  pub pieces_fail : {b : Type 0} (s : N)
-      → FailsBy (Allowed b ⊥) s (PiecesRuns reading following grammar)
-  pieces_fail s = record {
-    fails = λ i k t j is (r, same). elim (r.whole is) [
+  pub pieces_fail : {b : Type 0} (form : ErrorForm) (s : N)
+      → FailsBy (Allowed b ⊥) s (PiecesRuns reading following grammar does form)
+  pieces_fail form s = record {
+    fails = λ i k t j is (r, same, has). elim (r.whole is) [
       | inl m ↦ memory_allowed (λ never. never) m
       | inr (b, nothing) ↦ back_allowed b
     ];
+  }
+
+  -- its runs have these outcomes
+  pub pieces_said : {alike : O → O → Type 0} (s : N) → Lawful ⊤ alike (does s)
+      → Said (pieces_says (does s) alike) s (PiecesRuns reading following grammar does)
+  pieces_said s law = record {
+    held = refl;
+    kept = λ is t same. same;
+    runs = λ is. each_keeps (λ at i answer t j here (r, same, has).
+        let P : Bool → Bool → Type 0 =
+        λ m p. does s (record { form = at.form; more = m; possible = p }) i.left.tokens
+        (outcome_of answer j.left.tokens) in record {
+          kept = same;
+          status = has.status;
+          possible = r.ends.ends.possible;
+          done = subst (λ p. P at.more p) here.possible
+              (subst (λ m. P m i.left.possible) here.more has.outcome);
+        });
+    law = λ is. law;
   }
 
 -- ---- a parser that is a rule and its function
@@ -263,3 +366,13 @@ asked_as_rule {N} {F} {I} {T} {L} {O} {E} {reading} {following} {view} {kind} {c
     λ h. CallsReadOrAsk reading following view kind called (grammar (pieces_rule p)) h in
     subst Q (sym (ap (λ x. pieces_run x) same ∙ run))
     (subst P (sym (ap (λ x. pieces_rule x) same ∙ rule)) is)
+
+-- and have the outcomes of the parser's rule
+pub tells_as_rule : {N F I T O E : Type 0} {view : I → Input T} {kind : E → Kind}
+    {form : ErrorForm} {called : F → I → Result O E → F → I → Type 0} (does : N → Does T O)
+    {p q : ByPieces N F} {n : N} {f : F} → p ≡ q → pieces_rule q ≡ n → pieces_run q ≡ f
+    → CallsTell view kind form called (does n) f
+    → CallsTell view kind form called (does (pieces_rule p)) (pieces_run p)
+tells_as_rule does same rule run is =
+    pieces_run_as (λ f. CallsTell _ _ _ _ (does (pieces_rule _)) f) same run
+    (rw (ap (λ x. pieces_rule x) same ∙ rule) at is)

@@ -1,6 +1,6 @@
 //! Rules by functions with an argument.
 ghost use Rattle.std.specs.Prelude.{◌≡◌, ⊤};
-ghost use Rattle.winnow_core.specs.Says.{nothing_done, nothing_said};
+ghost use Rattle.winnow_core.specs.Says.{Is, nothing_done, nothing_said};
 ghost use Rattle.winnow_grammar.specs.FuncCalls.{CalledAtPair};
 ghost use Rattle.winnow_grammar.specs.Rule.{ByRuns, CallsRead, CallsSpared, by_exact, by_fails};
 
@@ -46,6 +46,8 @@ impl<
     ghost State = { N × (A × F) };
 
     ghost state = { λ s. (s.rule, (s.argument, s.run)) };
+
+    ghost states = { Is };
 
     ghost meaning = { λ _. ByRuns I.reading I.view E.kind (CalledAtPair F.FnMut) };
 

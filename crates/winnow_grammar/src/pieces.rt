@@ -4,6 +4,7 @@ ghost use Rattle.stream_errors.specs.Form.{answer_by, modal};
 ghost use Rattle.winnow_core.specs.Outcome.{outcome_of};
 ghost use Rattle.winnow_core.specs.Says.{Tells};
 ghost use Rattle.winnow_grammar.specs.Cut.{ReadsOrAsks};
+ghost use Rattle.winnow_grammar.specs.RulePieces.{HasOutcome};
 
 use stream_errors::parser_error::ParserError;
 use streams::stream::Stream;
@@ -32,8 +33,8 @@ pub trait ReadsPieces<I: Stream, O, E: ParserError<I>>: Stable<I, O, E> {
     ///
     /// On partial input, an output is a match of the completed input, for every continuation, with
     /// the rest and the continuation remaining. A backtrack means that no completed input starts
-    /// with a match. Otherwise it returns `Incomplete`, or is out of memory. Requires errors with a
-    /// mode.
+    /// with a match. Otherwise it returns `Incomplete`, or is out of memory. If the parser's
+    /// outcomes are specified, the call has one of them. Requires errors with a mode.
     #[inline(always)]
     final fn read_cut(&mut self, input: &mut I) -> Result<O, E>
         requires callable { Self.can_parse self.old }
@@ -49,6 +50,9 @@ pub trait ReadsPieces<I: Stream, O, E: ParserError<I>>: Stable<I, O, E> {
         ensures tells { (Self.says (Self.state self.old)).premise
             → Tells (Self.says (Self.state self.old)) E.form (I.view input.old)
             (outcome_of (answer_by E.kind result) (I.view input.new).left.tokens) }
+        ensures outcome { (Self.says (Self.state self.old)).premise
+            → HasOutcome (Self.says (Self.state self.old)).does E.form (I.view input.old)
+            (answer_by E.kind result) (I.view input.new) }
     {
         self.parse_next(input)
     }

@@ -6,7 +6,7 @@ ghost use Rattle.winnow_grammar.specs.Rule.{by_rule, by_run};
 ghost use Rattle.winnow_grammar.specs.Rule.{ByRuns, CallsRead, CallsSpared, by_exact, by_fails};
 ghost use Rattle.winnow_grammar.specs.RulePieces.{pieces_rule, pieces_run};
 ghost use Rattle.winnow_grammar.specs.RuleWith.{with_argument, with_rule, with_run};
-ghost use Rattle.winnow_core.specs.Says.{nothing_done, nothing_said};
+ghost use Rattle.winnow_core.specs.Says.{Is, nothing_done, nothing_said};
 
 use crate::by_pieces::ByPieces;
 use crate::by_with::ByWith;
@@ -53,7 +53,8 @@ pub trait Rule<I: Stream, O>: Sized {
         ByWith::new(self, argument, run)
     }
 
-    /// Like [`by`](Rule::by), for a function whose contract also covers partial input. The parser
+    /// Like [`by`](Rule::by), for a function whose contract also covers partial input, by a rule
+    /// that specifies its outcomes ([`RuleInPieces`](crate::by_pieces::RuleInPieces)). The parser
     /// is stable, so [`read_cut`](crate::pieces::ReadsPieces::read_cut) accepts it, and its
     /// combinations.
     ///
@@ -86,6 +87,8 @@ impl<N: Rule<I, O>, F: FnMut(&mut I) -> Result<O, E>, I: Stream, O, E: ParserErr
     ghost State = { N × F };
 
     ghost state = { λ s. (s.rule, s.run) };
+
+    ghost states = { Is };
 
     ghost meaning = { λ _. ByRuns I.reading I.view E.kind (CalledAtMut F.FnMut) };
 

@@ -17,6 +17,10 @@ pub record Recovery : Type 0 where
 abbrev pub recovery_of : Bool → Bool → Recovery
 recovery_of recovers grows = record { recovers = recovers; grows = grows }
 
+-- the states of a parser, where the one that recovers and these properties stay
+abbrev pub WhereNoneRecovers : {S W R : Type 0} → (S → Type 0) → W → R → S × W × R → Type 0
+WhereNoneRecovers mine w r t = mine t.0 × (t.1 ≡ w) × (t.2 ≡ r)
+
 -- A parser may recover from an error that backtracks or cuts.
 abbrev pub CanRecover : Kind → Type 0
 CanRecover backtrack = ⊤

@@ -7,6 +7,7 @@ use Rattle.winnow_core.specs.Runs.{Runs}
 use Rattle.winnow_repeat.specs.Chain.{Successes}
 use Rattle.winnow_repeat.specs.declared.combinator.impls.fill.Fill.{Fill}
 pub mod Laws
+pub mod Says
 
 -- A buffer after a reference: its elements, and which reference it is.
 pub record Buffer (O : Type 0) : Type 0 where

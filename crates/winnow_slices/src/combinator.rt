@@ -59,7 +59,7 @@ where
         (P.state parser.new) (I.view input.new) }
     ensures ends { IsEndOf I.reading (I.view input.new) (I.view input.old) }
     ensures tells { (P.says (P.state parser.old)).premise
-        → (P.state parser.new ≡ P.state parser.old)
+        → ((P.says (P.state parser.old)).keeps → P.state parser.new ≡ P.state parser.old)
         × Tells (into_slice_says (TooManyKind E.external_gives) (length slice.old)
         (P.says (P.state parser.old))) E.form (I.view input.old)
         (outcome_of (listed slice.new (answer_by E.kind result))

@@ -6,7 +6,7 @@ ghost use Rattle.winnow_expression_trees.specs.Items.{ItemRuns};
 ghost use Rattle.format_calculator.specs.Calculator.{CharItem, NumberItem, mark_at, pair_at};
 ghost use Rattle.format_calculator.specs.Calculator.{sign_at};
 ghost use Rattle.format_calculator.specs.Calculator.Laws.{char_ends, number_ends};
-ghost use Rattle.winnow_core.specs.Says.{nothing_done, nothing_said};
+ghost use Rattle.winnow_core.specs.Says.{Is, nothing_done, nothing_said};
 
 use crate::calc::items::{read_mark, read_number, read_pair, read_sign};
 use crate::calc::operators::{Mark, Pair, Sign};
@@ -23,6 +23,8 @@ impl<'i> Parser<&'i str, i64, EmptyError> for Number {
     ghost State = { ⊤ };
 
     ghost state = { λ _. tt };
+
+    ghost states = { Is };
 
     ghost meaning = { λ _. Keeps (λ _. ItemRuns NumberItem) };
 
@@ -53,6 +55,8 @@ impl<'i> Parser<&'i str, Prefix<Sign>, EmptyError> for BeforeIt {
 
     ghost state = { λ _. tt };
 
+    ghost states = { Is };
+
     ghost meaning = { λ _. Keeps (λ _. ItemRuns (CharItem sign_at)) };
 
     ghost says = { λ _. nothing_said };
@@ -82,6 +86,8 @@ impl<'i> Parser<&'i str, Postfix<Mark>, EmptyError> for BehindIt {
 
     ghost state = { λ _. tt };
 
+    ghost states = { Is };
+
     ghost meaning = { λ _. Keeps (λ _. ItemRuns (CharItem mark_at)) };
 
     ghost says = { λ _. nothing_said };
@@ -110,6 +116,8 @@ impl<'i> Parser<&'i str, Infix<Pair>, EmptyError> for BetweenThem {
     ghost State = { ⊤ };
 
     ghost state = { λ _. tt };
+
+    ghost states = { Is };
 
     ghost meaning = { λ _. Keeps (λ _. ItemRuns (CharItem pair_at)) };
 

@@ -19,6 +19,7 @@ abbrev pub text_says : {T L : Type 0} → Reading T L → (Bor (List ℕ) → Li
 text_says reading spells bytes = record {
   premise = SpellsByText spells;
   stable = ⊤;
+  keeps = ⊤;
   does = LiteralDoes reading (SpelledBy spells bytes) (λ slice. slice);
   alike = ShowSame reading;
 }
@@ -55,6 +56,6 @@ module _ {T L : Type 0} (reading : Reading T L) (spells : Bor (List ℕ) → Lis
   pub text_said : Said (text_says reading spells bytes) tt
       (λ form. Keeps (λ (_ : ⊤). TextRuns reading spells bytes form))
   text_said = leaf_said (λ form _. TextRuns reading spells bytes form)
-      (λ alike at i answer j here r. ((one_text alike).runs tt).did at i answer tt j here
+      (λ alike at i answer j here r. ((one_text alike).runs tt).did at tt refl i answer tt j here
       (by_bytes alike at.form i answer j r, refl))
       (λ alike. (one_text alike).law tt)

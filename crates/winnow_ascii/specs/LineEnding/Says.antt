@@ -9,7 +9,7 @@ use Rattle.stream_errors.specs.Form.{Answer}
 use Rattle.winnow_core.specs.Literal.Laws.{ShowSame, SpellsByText}
 use Rattle.winnow_core.specs.Outcome.{Does, Setting, backs, outcome_of}
 use Rattle.winnow_core.specs.Runs.{Keeps}
-use Rattle.winnow_core.specs.Says.{Did, IsAt, Lawful, Said, Says}
+use Rattle.winnow_core.specs.Says.{Did, Is, IsAt, Lawful, Said, Says}
 use Rattle.winnow_core.specs.Says.Leaf.{leaf_said}
 use Rattle.winnow_core.specs.Then.{ComesOf, Next, Then, did_then, then_law}
 use Rattle.winnow_core.specs.Then.Steps.{asks_later, asks_meet, asks_on, cuts_hold, cuts_meet}
@@ -29,6 +29,7 @@ abbrev pub line_ending_says : {T L : Type 0} → (Bor (List ℕ) → List T → 
 line_ending_says spells reading = record {
   premise = SpellsByText spells;
   stable = ⊤;
+  keeps = ⊤;
   does = Then (text_says reading spells (10 ∷ [])).does
       (or_other (text_says reading spells (13 ∷ 10 ∷ [])).does);
   alike = ShowSame reading;
@@ -71,17 +72,17 @@ module _ {T L : Type 0} (spells : Bor (List ℕ) → List T → Type 0) (reading
     where
       did : SpellsByText spells → (at : Setting) (i : Input T) (answer : Answer L) (j : Input T)
           → IsAt at i → LineEndingRuns spells reading at.form i answer j
-          → Did {S = ⊤} (line_ending_says spells reading).does at tt i answer tt j
+          → Did {S = ⊤} (line_ending_says spells reading).does at (Is tt) i answer tt j
       did is at i answer j here (inl (text, bytes, r, stays)) =
-          did_then (((text_said reading spells same_units (10 ∷ [])).runs is).did at i answer tt j
-          here ((text, bytes, r), refl))
+          did_then (((text_said reading spells same_units (10 ∷ [])).runs is).did at tt refl i
+          answer tt j here ((text, bytes, r), refl))
           (came (text_says reading spells (13 ∷ 10 ∷ [])).does at i.left.tokens j.left.tokens
           answer stays)
       did is at i answer j here (inr (text, bytes, first, r)) =
-          let one = ((text_said reading spells same_units (10 ∷ [])).runs is).did at i
+          let one = ((text_said reading spells same_units (10 ∷ [])).runs is).did at tt refl i
           (Err backtrack) tt i here ((text, bytes, first), refl) in
-          let two = ((text_said reading spells same_units (13 ∷ 10 ∷ [])).runs is).did at i answer
-          tt j here (r, refl) in record {
+          let two = ((text_said reading spells same_units (13 ∷ 10 ∷ [])).runs is).did at tt refl
+          i answer tt j here (r, refl) in record {
             kept = refl;
             status = two.status;
             possible = two.possible;

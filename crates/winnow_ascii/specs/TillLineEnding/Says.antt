@@ -18,7 +18,7 @@ use Rattle.winnow_core.specs.Literal.Laws.{ShowSame, SpellsByText, still_not_fir
 use Rattle.winnow_core.specs.Literal.Laws.{still_not_short}
 use Rattle.winnow_core.specs.Outcome.{Outcome, Setting, gave, grown, on_cut}
 use Rattle.winnow_core.specs.Runs.{Keeps}
-use Rattle.winnow_core.specs.Says.{Did, IsAt, Lawful, Said, Says}
+use Rattle.winnow_core.specs.Says.{Did, Is, IsAt, Lawful, Said, Says}
 use Rattle.winnow_core.specs.Says.Cases.{BacksWhere, Case, LacksAfter, LacksWhere, OneCase}
 use Rattle.winnow_core.specs.Says.Cases.{TakesWhere, after_law, backs_law, cases_law, lacks_law}
 use Rattle.winnow_core.specs.Says.Cases.{takes_law}
@@ -84,6 +84,7 @@ abbrev pub till_line_ending_says : {T L : Type 0} → (Bor (List ℕ) → List T
 till_line_ending_says spells sought reading = record {
   premise = SpellsByText spells;
   stable = SeeksSome sought × SpellsOne spells;
+  keeps = ⊤;
   does = OneCase (LacksWhere (λ tokens. None) (LacksEnd sought))
       (OneCase (TakesWhere (IsWholeLine spells sought reading))
       (OneCase (LacksAfter None (IsOpenLine spells sought))
@@ -263,7 +264,8 @@ module _ {T L : Type 0} (spells : Bor (List ℕ) → List T → Type 0)
     where
       did : SpellsByText spells → (at : Setting) (i : Input T) (answer : Answer L) (j : Input T)
           → IsAt at i → TillLineEndingRuns spells sought reading at.form i answer j
-          → Did {S = ⊤} (till_line_ending_says spells sought reading).does at tt i answer tt j
+          → Did {S = ⊤} (till_line_ending_says spells sought reading).does at (Is tt) i answer tt
+          j
       did alike at i answer j here (inl (slice, return, it, ran, none, e)) =
           let (front, line, takes) = line_taken here slice j ran in
           let other : HasReturn spells j.left.tokens → ⊥ =

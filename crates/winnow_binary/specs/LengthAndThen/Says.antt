@@ -14,7 +14,7 @@ use Rattle.winnow_core.specs.Outcome.{as_longer}
 use Rattle.winnow_core.specs.Outcome.{asks, backs, both, by_alike, cuts, longer}
 use Rattle.winnow_core.specs.Outcome.{outcome_of, took, wants}
 use Rattle.winnow_core.specs.Runs.{Meaning}
-use Rattle.winnow_core.specs.Says.{Did, EachDoes, IsAt, Lawful, Said, Says, did_as}
+use Rattle.winnow_core.specs.Says.{Both, Did, EachDoes, IsAt, Lawful, SaidAmong, Says, did_as}
 use Rattle.winnow_core.specs.Says.Cases.{LacksWhere, OneCase, cases_law, lacks_law}
 use Rattle.winnow_core.specs.Says.Lacks.{short_outcome}
 use Rattle.winnow_core.specs.Says.Leaf.{here_did}
@@ -49,7 +49,7 @@ abbrev pub length_and_then_says : {T N O : Type 0} → (N → ℕ) → Bool → 
     → Says T O
 length_and_then_says number counts p q =
     length_says number (TakenDo counts (complete_err_says q).does)
-    (p.premise × OneLength number p.alike × q.premise) (Unit {0}) q.alike p
+    (p.premise × OneLength number p.alike × q.premise) (Unit {0}) (p.keeps × q.keeps) q.alike p
 
 module _ {T O : Type 0} {alike : O → O → Type 0} {stable : Type 0} {does : Does T O} (counts : Bool)
     (law : Lawful stable alike does) (n : ℕ) where
@@ -112,19 +112,20 @@ answered (Err cut) rest end none = refl
 answered (Err (incomplete need)) rest end none = absurd (none need refl)
 answered (Err memory) rest end none = refl
 
-module _ {S T L O : Type 0} (reading : Reading T L) (counts : Bool) {q : Says T O} {s : S}
-    {run : Meaning S T O} (part : Said q s run) where
-  taken_did : q.premise → (n : ℕ) → EachDoes (TakenDo counts (complete_err_says q).does n) s
+module _ {S T L O : Type 0} (reading : Reading T L) (counts : Bool) {mine : S → Type 0}
+    {q : Says T O} {s : S} {run : Meaning S T O} (part : SaidAmong mine q s run) where
+  taken_did : q.premise → (n : ℕ) → EachDoes (TakenDo counts (complete_err_says q).does n) mine
       (λ form. TakenRuns reading form counts (run form) n)
   taken_did is n = record { did = did }
     where
-      did : (at : Setting) (i : Input T) (answer : Answer O) (t : S) (j : Input T) → IsAt at i
-          → TakenRuns reading at.form counts (run at.form) n s i answer t j
-          → Did (TakenDo counts (complete_err_says q).does n) at s i answer t j
-      did at i answer t j here (inl (taken, rest, many, passes, r)) =
+      did : (at : Setting) (v : S) → mine v → (i : Input T) (answer : Answer O) (t : S)
+          (j : Input T) → IsAt at i
+          → TakenRuns reading at.form counts (run at.form) n v i answer t j
+          → Did (TakenDo counts (complete_err_says q).does n) at mine i answer t j
+      did at v held i answer t j here (inl (taken, rest, many, passes, r)) =
           let own = on_their_own at in
-          let inner = ((complete_err_said part).runs is).did own (only_first taken i) answer t rest
-          (record { more = refl; possible = here.possible }) r in
+          let inner = ((complete_err_said part).runs is).did own v held (only_first taken i)
+          answer t rest (record { more = refl; possible = here.possible }) r in
           let P : Answer O → Type 0 =
           λ a. (complete_err_says q).does own taken (outcome_of a rest.left.tokens) in record {
             kept = inner.kept;
@@ -142,16 +143,17 @@ module _ {S T L O : Type 0} (reading : Reading T L) (counts : Bool) {q : Says T 
                   (subst P e inner.done)),
             );
           }
-      did at i answer t j here (inr (k, few, short, e, kept, same)) =
-          did_as s t kept (here_did {s = s} same
+      did at v held i answer t j here (inr (k, few, short, e, kept, same)) =
+          did_as (subst mine (sym kept) held) (here_did {s = v} same
           (inr (few, short_outcome at i _ k i.left.tokens here short e)))
 
 pub length_and_then_said : {S V T N L O : Type 0} (number : N → ℕ) (reading : Reading T L)
-    (counts : Bool) {p : Says T N} {q : Says T O} {s : S × V} {count : Meaning S T N}
-    {run : Meaning V T O} → Said p s.0 count → Said q s.1 run
-    → Said (length_and_then_says number counts p q) s
+    (counts : Bool) {mine : S → Type 0} {theirs : V → Type 0} {p : Says T N} {q : Says T O}
+    {s : S × V} {count : Meaning S T N} {run : Meaning V T O} → SaidAmong mine p s.0 count
+    → SaidAmong theirs q s.1 run
+    → SaidAmong (Both mine theirs) (length_and_then_says number counts p q) s
     (λ form. LengthAndThenRuns number reading form counts (count form) (run form))
 length_and_then_said number reading counts {q = q} part each =
     length_said number (TakenDo counts (complete_err_says q).does) (λ is. is.0) (λ is. is.1) part
-    (λ is n. taken_did reading counts each is.2 n)
+    each.held (λ is. (is.0, each.kept is.1)) (λ is n. taken_did reading counts each is.2 n)
     (λ is n. taken_law counts ((complete_err_said each).law is.2) n)

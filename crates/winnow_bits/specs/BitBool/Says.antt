@@ -7,7 +7,7 @@ use Rattle.streams.specs.Reading.{Reading}
 use Rattle.stream_errors.specs.Form.{Answer}
 use Rattle.winnow_core.specs.Outcome.{Does, Outcome, Setting, gave}
 use Rattle.winnow_core.specs.Runs.{Keeps}
-use Rattle.winnow_core.specs.Says.{Did, IsAt, Lawful, Said, Says}
+use Rattle.winnow_core.specs.Says.{Did, Is, IsAt, Lawful, Said, Says}
 use Rattle.winnow_core.specs.Says.Cases.{Case, LacksWhere, OneCase, TakesWhere}
 use Rattle.winnow_core.specs.Says.Cases.{cases_law, lacks_law, takes_law}
 use Rattle.winnow_core.specs.Says.Lacks.{misused_outcome, short_outcome}
@@ -29,6 +29,7 @@ abbrev pub bit_bool_says : Says Bool Bool
 bit_bool_says = record {
   premise = ⊤;
   stable = ⊤;
+  keeps = ⊤;
   does = OneCase (TakesWhere IsFirstBit) BoolFails;
   alike = λ b c. b ≡ c;
 }
@@ -54,7 +55,7 @@ bit_bool_said {L} reading = leaf_said (λ form (s : ⊤). BitBoolRuns reading fo
   where
     did : (at : Setting) (i : Input Bool) (answer : Answer Bool) (j : Input Bool) → IsAt at i
         → BitBoolRuns reading at.form i answer j
-        → Did {S = ⊤} bit_bool_says.does at tt i answer tt j
+        → Did {S = ⊤} bit_bool_says.does at (Is tt) i answer tt j
     did at i answer j here (inl (b, can, passes, e)) =
         passes_did passes
         (inl (b, j.left.tokens, (sym here.possible ∙ can, passes.tokens), gave j.left.tokens e))

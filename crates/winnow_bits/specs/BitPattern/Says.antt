@@ -7,7 +7,7 @@ use Rattle.stream_errors.specs.Form.{Answer}
 use Rattle.stream_errors.specs.Form.Inversion.{ok_is_err, same_ok}
 use Rattle.winnow_core.specs.Outcome.{Does, Outcome, Setting, gave}
 use Rattle.winnow_core.specs.Runs.{Keeps}
-use Rattle.winnow_core.specs.Says.{Did, IsAt, Lawful, Said, Says}
+use Rattle.winnow_core.specs.Says.{Did, Is, IsAt, Lawful, Said, Says}
 use Rattle.winnow_core.specs.Says.Cases.{Case, FailsWhere, OneCase, TakesWhere}
 use Rattle.winnow_core.specs.Says.Cases.{cases_law, fails_law, takes_law}
 use Rattle.winnow_core.specs.Says.Leaf.{here_did, leaf_said, passes_did}
@@ -34,6 +34,7 @@ abbrev pub bit_pattern_says : {O : Type 0} → (O → ℕ) → ℕ → ℕ → �
 bit_pattern_says number width wanted n = record {
   premise = ⊤;
   stable = ⊤;
+  keeps = ⊤;
   does = OneCase (TakesWhere (AreWantedBits number width wanted n))
       (OneCase (FailsWhere (AreOtherBits number width wanted n)) (TakeFails width n));
   alike = λ o p. number o ≡ number p;
@@ -76,7 +77,7 @@ module _ {O L : Type 0} (number : O → ℕ) (width : ℕ) (reading : Reading Bo
 
         did : (at : Setting) (i : Input Bool) (answer : Answer O) (j : Input Bool) → IsAt at i
             → BitPatternRuns number width reading at.form wanted n i answer j
-            → Did {S = ℕ × ℕ} does at (wanted, n) i answer (wanted, n) j
+            → Did {S = ℕ × ℕ} does at (Is (wanted, n)) i answer (wanted, n) j
         did at i answer j here (inl (o, inl (p, fits, can, reads, f), is, e)) =
             passes_did reads.passes (inl (
               p,

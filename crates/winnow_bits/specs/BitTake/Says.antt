@@ -9,7 +9,7 @@ use Rattle.stream_bits.specs.BitList.{number_of}
 use Rattle.stream_bits.specs.Within.{ReadsNumber}
 use Rattle.winnow_core.specs.Outcome.{Does, Outcome, Setting, gave, grown, on_cut}
 use Rattle.winnow_core.specs.Runs.{Keeps}
-use Rattle.winnow_core.specs.Says.{Did, IsAt, Lawful, Said, Says}
+use Rattle.winnow_core.specs.Says.{Did, Is, IsAt, Lawful, Said, Says}
 use Rattle.winnow_core.specs.Says.Cases.{Case, LacksWhere, OneCase, TakesWhere}
 use Rattle.winnow_core.specs.Says.Cases.{cases_law, lacks_law, takes_law}
 use Rattle.winnow_core.specs.Says.Lacks.{misused_outcome, short_outcome}
@@ -42,6 +42,7 @@ abbrev pub bit_take_says : {O : Type 0} → (O → ℕ) → ℕ → ℕ → Says
 bit_take_says number width n = record {
   premise = ⊤;
   stable = ⊤;
+  keeps = ⊤;
   does = OneCase (TakesWhere (AreFirstBits number width n)) (TakeFails width n);
   alike = λ o p. number o ≡ number p;
 }
@@ -93,7 +94,7 @@ module _ {O : Type 0} (number : O → ℕ) (width n : ℕ) where
 -- what a run that fails does
 pub fails_did : {S O : Type 0} {s : S} (width n : ℕ) (at : Setting) (i : Input Bool)
     (answer : Answer O) (j : Input Bool) → IsAt at i → BitTakeFails width at.form n i answer j
-    → Did (TakeFails width n) at s i answer s j
+    → Did (TakeFails width n) at (Is s) i answer s j
 fails_did width n at i answer j here (inl ((some, cannot), e, same)) =
     here_did same (inl ((some, now cannot), misused_outcome at i.left.tokens e))
   where
@@ -125,7 +126,7 @@ module _ {O L : Type 0} (number : O → ℕ) (width : ℕ) (reading : Reading Bo
     where
       did : (at : Setting) (i : Input Bool) (answer : Answer O) (j : Input Bool) → IsAt at i
           → BitTakeRuns number width reading at.form n i answer j
-          → Did (bit_take_says number width n).does at n i answer n j
+          → Did (bit_take_says number width n).does at (Is n) i answer n j
       did at i answer j here (inl (o, fits, can, reads, e)) =
           passes_did reads.passes (inl (
             o,

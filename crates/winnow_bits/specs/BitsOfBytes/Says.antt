@@ -14,7 +14,7 @@ use Rattle.stream_bits.specs.BitList.{bits_of}
 use Rattle.winnow_core.specs.Outcome.{Alike, Does, Outcome, Setting, alike_wants, both, by_alike}
 use Rattle.winnow_core.specs.Outcome.{asks, backs, cuts, gave, outcome_of, took, wants}
 use Rattle.winnow_core.specs.Runs.{Meaning}
-use Rattle.winnow_core.specs.Says.{Did, IsAt, Lawful, Said, Says}
+use Rattle.winnow_core.specs.Says.{Did, IsAt, Lawful, SaidAmong, Says, did_as, said_of}
 use Rattle.winnow_core.specs.Says.Cases.{OneCase, cases_law}
 use Rattle.winnow_core.specs.Says.Lacks.{misused_outcome}
 use Rattle.winnow_core.specs.Says.Leaf.{here_did}
@@ -46,6 +46,7 @@ abbrev pub bits_says : {O : Type 0} → Says Bool O → Says ℕ O
 bits_says says = record {
   premise = says.premise;
   stable = ⊥;
+  keeps = says.keeps;
   does = OneCase (OnBits says.does) (MisusedAt (λ at tokens. most_bytes < length tokens));
   alike = says.alike;
 }
@@ -104,21 +105,23 @@ whole_rest reading i k j leaves =
     ) in
     sym (ap (λ l. drop n l) tokens ∙ drop_at leaves.begun j.left.tokens n long)
 
-pub bits_said : {S L O : Type 0} {says : Says Bool O} {s : S} {meaning : Meaning S Bool O}
-    (reading : Reading ℕ L) → Said says s meaning
-    → Said (bits_says says) s (λ form. BitsOfBytesRuns reading form (meaning form))
-bits_said {S} {L} {O} {says} {s} {meaning} reading p =
-    record { runs = λ is. record { did = did is }; law = λ is. bits_law (p.law is) }
+pub bits_said : {S L O : Type 0} {mine : S → Type 0} {says : Says Bool O} {s : S}
+    {meaning : Meaning S Bool O} (reading : Reading ℕ L) → SaidAmong mine says s meaning
+    → SaidAmong mine (bits_says says) s (λ form. BitsOfBytesRuns reading form (meaning form))
+bits_said {S} {L} {O} {mine} {says} {s} {meaning} reading p =
+    said_of (λ is. is) (λ is. record { did = did is }) (λ is. bits_law (p.law is)) p
   where
     readable : (i : Input ℕ) → length i.left.tokens ≤ most_bytes
         → can_be_read i.left.tokens 0 ≡ true
     readable i few = readable_is i.left.tokens 0
         (record { inside = omega arith; there = omega arith; counted = few })
 
-    child : says.premise → (at : Setting) (i : Input ℕ) (a : Answer O) (t : S) (k : Input Bool)
-        → IsAt at i → length i.left.tokens ≤ most_bytes → meaning at.form s (bits_input i 0) a t k
-        → Did says.does (inside at) s (bits_input i 0) a t k
-    child is at i a t k here few ran = (p.runs is).did (inside at) (bits_input i 0) a t k
+    child : says.premise → (at : Setting) (v : S) → mine v → (i : Input ℕ) (a : Answer O) (t : S)
+        (k : Input Bool) → IsAt at i → length i.left.tokens ≤ most_bytes
+        → meaning at.form v (bits_input i 0) a t k
+        → Did says.does (inside at) mine (bits_input i 0) a t k
+    child is at v held i a t k here few ran =
+        (p.runs is).did (inside at) v held (bits_input i 0) a t k
         (record { more = here.more; possible = readable i few }) ran
 
     on_bits : (at : Setting) (i : Input ℕ) (x : Outcome Bool O) → length i.left.tokens ≤ most_bytes
@@ -128,11 +131,12 @@ bits_said {S} {L} {O} {says} {s} {meaning} reading p =
         let P : List Bool → Type 0 = λ l. says.does (inside at) l x in
         subst P (bits_readable i.left.tokens 0 (readable i few)) d
 
-    did : says.premise → (at : Setting) (i : Input ℕ) (answer : Answer O) (t : S) (j : Input ℕ)
-        → IsAt at i → BitsOfBytesRuns reading at.form (meaning at.form) s i answer t j
-        → Did (bits_says says).does at s i answer t j
-    did is at i answer t j here (inl (o, k, few, ran, can, leaves, e)) =
-        let c = child is at i (Ok o) t k here few ran in record {
+    did : says.premise → (at : Setting) (v : S) → mine v → (i : Input ℕ) (answer : Answer O)
+        (t : S) (j : Input ℕ) → IsAt at i
+        → BitsOfBytesRuns reading at.form (meaning at.form) v i answer t j
+        → Did (bits_says says).does at mine i answer t j
+    did is at v held i answer t j here (inl (o, k, few, ran, can, leaves, e)) =
+        let c = child is at v held i (Ok o) t k here few ran in record {
           kept = c.kept;
           status = leaves.passes.status ∙ c.status;
           possible = leaves.passes.possible;
@@ -143,18 +147,17 @@ bits_said {S} {L} {O} {says} {s} {meaning} reading p =
             gave j.left.tokens e ∙ ap (λ l. took o l) (whole_rest reading i k j leaves),
           );
         }
-    did is at i answer t j here (inr (inl (x, k, few, ran, e, same))) =
-        let c = child is at i (Err x) t k here few ran in
-        let P : S → Type 0 = λ u. Did (bits_says says).does at s i answer u j in
-        subst P (sym c.kept) (here_did same (inl (
+    did is at v held i answer t j here (inr (inl (x, k, few, ran, e, same))) =
+        let c = child is at v held i (Err x) t k here few ran in
+        did_as c.kept (here_did {s = t} same (inl (
           few,
           outcome_of (Err x) k.left.tokens,
           on_bits at i (outcome_of (Err x) k.left.tokens) few c.done,
           gave i.left.tokens e ∙ failed i.left.tokens k.left.tokens x,
         )))
-    did is at i answer t j here (inr (inr (inl (o, k, few, ran, cannot, e, same)))) =
-        let c = child is at i (Ok o) t k here few ran in
+    did is at v held i answer t j here (inr (inr (inl (o, k, few, ran, cannot, e, same)))) =
+        let c = child is at v held i (Ok o) t k here few ran in
         true_is_false (sym (readable i few) ∙ sym c.possible ∙ cannot)
-    did is at i answer t j here (inr (inr (inr (many, kept, e, same)))) =
-        let P : S → Type 0 = λ u. Did (bits_says says).does at s i answer u j in
-        subst P (sym kept) (here_did same (inr (many, misused_outcome at i.left.tokens e)))
+    did is at v held i answer t j here (inr (inr (inr (many, kept, e, same)))) =
+        did_as (subst mine (sym kept) held)
+        (here_did {s = t} same (inr (many, misused_outcome at i.left.tokens e)))

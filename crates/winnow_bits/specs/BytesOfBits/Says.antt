@@ -15,7 +15,7 @@ use Rattle.stream_bits.specs.BitReading.{bits_reading}
 use Rattle.winnow_core.specs.Outcome.{Alike, Does, Outcome, Setting, alike_wants, both, by_alike}
 use Rattle.winnow_core.specs.Outcome.{asks, backs, cuts, gave, outcome_of, took, wants}
 use Rattle.winnow_core.specs.Runs.{LeaveEnds, Meaning}
-use Rattle.winnow_core.specs.Says.{Did, IsAt, Lawful, Said, Says}
+use Rattle.winnow_core.specs.Says.{Did, IsAt, Lawful, SaidAmong, Says, did_as, said_of}
 use Rattle.winnow_core.specs.Says.Cases.{OneCase, cases_law}
 use Rattle.winnow_core.specs.Says.Lacks.{misused_outcome}
 use Rattle.winnow_core.specs.Says.Leaf.{here_did}
@@ -53,6 +53,7 @@ abbrev pub bytes_says : {O : Type 0} → Says ℕ O → Says Bool O
 bytes_says says = record {
   premise = says.premise;
   stable = ⊥;
+  keeps = says.keeps;
   does = OneCase (OnBytes says.does) (MisusedAt (λ at tokens. at.possible ≡ false));
   alike = says.alike;
 }
@@ -126,29 +127,32 @@ whole_bytes reading i k whole = record {
   splits = whole.tokens;
 }
 
-pub bytes_said : {S L O : Type 0} {says : Says ℕ O} {s : S} {meaning : Meaning S ℕ O}
-    (reading : Reading ℕ L) → CountsBytes reading
-    → ((form : ErrorForm) → LeaveEnds reading (meaning form)) → Said says s meaning
-    → Said (bytes_says says) s (λ form. BytesOfBitsRuns (bits_reading reading) form (meaning form))
-bytes_said {S} {L} {O} {says} {s} {meaning} reading counts ends p =
-    record { runs = λ is. record { did = did is }; law = λ is. bytes_law (p.law is) }
+pub bytes_said : {S L O : Type 0} {mine : S → Type 0} {says : Says ℕ O} {s : S}
+    {meaning : Meaning S ℕ O} (reading : Reading ℕ L) → CountsBytes reading
+    → ((form : ErrorForm) → LeaveEnds reading (meaning form)) → SaidAmong mine says s meaning
+    → SaidAmong mine (bytes_says says) s
+    (λ form. BytesOfBitsRuns (bits_reading reading) form (meaning form))
+bytes_said {S} {L} {O} {mine} {says} {s} {meaning} reading counts ends p =
+    said_of (λ is. is) (λ is. record { did = did is }) (λ is. bytes_law (p.law is)) p
   where
-    child : says.premise → (at : Setting) (i : Input Bool) (k : Input ℕ) (a : Answer O) (t : S)
-        (m : Input ℕ) → IsAt at i → WholeBytesOf (bits_reading reading) i k
-        → meaning at.form s k a t m → Did says.does (inside at) s k a t m
-    child is at i k a t m here whole ran = (p.runs is).did (inside at) k a t m (record {
-      more = ap (λ z. z.cut) whole.status ∙ here.more;
-      possible = whole.possible;
-    }) ran
+    child : says.premise → (at : Setting) (v : S) → mine v → (i : Input Bool) (k : Input ℕ)
+        (a : Answer O) (t : S) (m : Input ℕ) → IsAt at i
+        → WholeBytesOf (bits_reading reading) i k → meaning at.form v k a t m
+        → Did says.does (inside at) mine k a t m
+    child is at v held i k a t m here whole ran =
+        (p.runs is).did (inside at) v held k a t m (record {
+          more = ap (λ z. z.cut) whole.status ∙ here.more;
+          possible = whole.possible;
+        }) ran
 
-    did : says.premise → (at : Setting) (i : Input Bool) (answer : Answer O) (t : S)
-        (j : Input Bool) → IsAt at i
-        → BytesOfBitsRuns (bits_reading reading) at.form (meaning at.form) s i answer t j
-        → Did (bytes_says says).does at s i answer t j
-    did is at i answer t j here (inl (o, k, m, whole, ran, e, rest)) =
-        let c = child is at i k (Ok o) t m here whole ran in
-        let end = bits_of_end reading counts i k m whole (ends at.form s k (Ok o) t m ran) in
-        let P : Input Bool → Type 0 = λ x. Did (bytes_says says).does at s i answer t x in
+    did : says.premise → (at : Setting) (v : S) → mine v → (i : Input Bool) (answer : Answer O)
+        (t : S) (j : Input Bool) → IsAt at i
+        → BytesOfBitsRuns (bits_reading reading) at.form (meaning at.form) v i answer t j
+        → Did (bytes_says says).does at mine i answer t j
+    did is at v held i answer t j here (inl (o, k, m, whole, ran, e, rest)) =
+        let c = child is at v held i k (Ok o) t m here whole ran in
+        let end = bits_of_end reading counts i k m whole (ends at.form v k (Ok o) t m ran) in
+        let P : Input Bool → Type 0 = λ x. Did (bytes_says says).does at mine i answer t x in
         subst P (sym rest) (record {
           kept = c.kept;
           status = c.status ∙ whole.status;
@@ -163,10 +167,9 @@ bytes_said {S} {L} {O} {says} {s} {meaning} reading counts ends p =
                 (bits_readable m.left.tokens 0 (end.ends.possible ∙ whole.from)),
           );
         })
-    did is at i answer t j here (inr (inl (x, k, m, whole, ran, e, same))) =
-        let c = child is at i k (Err x) t m here whole ran in
-        let P : S → Type 0 = λ u. Did (bytes_says says).does at s i answer u j in
-        subst P (sym c.kept) (here_did same (inl (
+    did is at v held i answer t j here (inr (inl (x, k, m, whole, ran, e, same))) =
+        let c = child is at v held i k (Err x) t m here whole ran in
+        did_as c.kept (here_did {s = t} same (inl (
           sym here.possible ∙ whole.from,
           k.left.tokens,
           whole_bytes (bits_reading reading) i k whole,
@@ -174,7 +177,6 @@ bytes_said {S} {L} {O} {says} {s} {meaning} reading counts ends p =
           c.done,
           gave i.left.tokens e ∙ failed i.left.tokens m.left.tokens x,
         )))
-    did is at i answer t j here (inr (inr (cannot, kept, e, same))) =
-        let P : S → Type 0 = λ u. Did (bytes_says says).does at s i answer u j in
-        subst P (sym kept) (here_did same
+    did is at v held i answer t j here (inr (inr (cannot, kept, e, same))) =
+        did_as (subst mine (sym kept) held) (here_did {s = t} same
         (inr (sym here.possible ∙ cannot, misused_outcome at i.left.tokens e)))

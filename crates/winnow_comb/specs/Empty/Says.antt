@@ -8,8 +8,13 @@ use Rattle.winnow_core.specs.Then.Steps.{at_start, at_start_law, takes, takes_ho
 use Rattle.winnow_comb.specs.Empty.{EmptyRuns}
 
 abbrev pub empty_says : {T : Type 0} → Says T ⊤
-empty_says =
-    record { premise = ⊤; stable = ⊤; does = at_start (takes tt); alike = λ (_ _ : ⊤). ⊤ }
+empty_says = record {
+  premise = ⊤;
+  stable = ⊤;
+  keeps = ⊤;
+  does = at_start (takes tt);
+  alike = λ (_ _ : ⊤). ⊤;
+}
 
 pub empty_said : {T : Type 0} → Said (empty_says {T = T}) tt (λ form. Keeps (λ (_ : ⊤). EmptyRuns))
 empty_said = leaf_said (λ form (_ : ⊤). EmptyRuns)

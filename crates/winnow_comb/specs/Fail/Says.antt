@@ -8,7 +8,13 @@ use Rattle.winnow_core.specs.Then.Steps.{at_start, at_start_law, backs_hold, bac
 use Rattle.winnow_comb.specs.Fail.{FailRuns}
 
 abbrev pub fail_says : {T O : Type 0} → Says T O
-fail_says = record { premise = ⊤; stable = ⊤; does = at_start backs_on; alike = λ o p. o ≡ p }
+fail_says = record {
+  premise = ⊤;
+  stable = ⊤;
+  keeps = ⊤;
+  does = at_start backs_on;
+  alike = λ o p. o ≡ p;
+}
 
 pub fail_said : {T O : Type 0}
     → Said (fail_says {T = T} {O = O}) tt (λ form. Keeps (λ (_ : ⊤). FailRuns))

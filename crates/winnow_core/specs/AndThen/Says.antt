@@ -8,8 +8,8 @@ use Rattle.winnow_core.specs.AndThen.{AndThenRuns, AndThenSettles, completed}
 use Rattle.winnow_core.specs.Outcome.{Alike, Does, Setting, outcome_of}
 use Rattle.winnow_core.specs.Outcome.Errors.{OneKind}
 use Rattle.winnow_core.specs.Runs.{Meaning}
-use Rattle.winnow_core.specs.Says.{Lawful, Said, Says}
-use Rattle.winnow_core.specs.Settles.Says.{SettlesOne, settle_says, settles_said}
+use Rattle.winnow_core.specs.Says.{Both, Lawful, SaidAmong, Says}
+use Rattle.winnow_core.specs.Settles.Says.{SettlesOne, settle_says, settles_among}
 
 -- Equal outputs are the same input.
 abbrev pub OneInput : {O V : Type 0} → (O → Input V) → (O → O → Type 0) → Type 0
@@ -26,9 +26,9 @@ WithinDoes {V} view does form o answer =
     (end : List V) × does (whole_of form (view o)) (view o).left.tokens (outcome_of answer end)
 
 abbrev pub and_then_says : {T V O U : Type 0} → (O → Input V) → Says T O → Says V U → Says T U
-and_then_says view p q = settle_says (λ form o u. WithinDoes view q.does form o (Ok u))
+and_then_says view p q = record (settle_says (λ form o u. WithinDoes view q.does form o (Ok u))
     (λ form o k. WithinDoes view q.does form o (Err k))
-    (p.premise × OneInput view p.alike × q.premise) q.alike p
+    (p.premise × OneInput view p.alike × q.premise) q.alike p) { keeps = p.keeps × q.keeps }
 
 -- if an error and an output are both possible, the error is out of memory
 ok_err : {T O : Type 0} (also : O → O → Type 0) (o : O) (k : Kind) (rest end : List T)
@@ -89,22 +89,26 @@ module _ {V O U : Type 0} {stable : Type 0} {alike : O → O → Type 0} {also :
     whole = λ form o need x. none form o (incomplete need) x need refl;
   }
 
-pub and_then_said : {S W T V O U : Type 0} {says : Says T O} {inner : Says V U} {s : S × W}
-    {meaning : Meaning S T O} {also : Meaning W V U} (view : O → Input V) → Said says s.0 meaning
-    → Said inner s.1 also
-    → Said (and_then_says view says inner) s (λ form. AndThenRuns view (meaning form) (also form))
-and_then_said {W = W} {V = V} {O = O} {U = U} {inner = inner} {s = s} {also = also} view p q =
-    settles_said (λ form o u. WithinDoes view inner.does form o (Ok u))
+pub and_then_said : {S W T V O U : Type 0} {mine : S → Type 0} {theirs : W → Type 0}
+    {says : Says T O} {inner : Says V U} {s : S × W}
+    {meaning : Meaning S T O} {also : Meaning W V U} (view : O → Input V)
+    → SaidAmong mine says s.0 meaning → SaidAmong theirs inner s.1 also
+    → SaidAmong (Both mine theirs) (and_then_says view says inner) s
+    (λ form. AndThenRuns view (meaning form) (also form))
+and_then_said {W = W} {V = V} {O = O} {U = U} {theirs = theirs} {inner = inner} {also = also} view
+    p q =
+    settles_among (λ form o u. WithinDoes view inner.does form o (Ok u))
     (λ form o k. WithinDoes view inner.does form o (Err k))
-    (λ form. AndThenSettles view (also form)) (λ is. is.0)
-    (λ is form o u h it. told is.2 form o (Ok u) h it)
-    (λ is form o k h it. told is.2 form o (Err k) h it)
+    (λ form. AndThenSettles view (also form)) theirs q.held (λ is. (is.0, q.kept is.1))
+    (λ is. is.0)
+    (λ is form o u g h held it. told is.2 form o (Ok u) g h held it)
+    (λ is form o k g h held it. told is.2 form o (Err k) g h held it)
     (λ is. within_one view is.1 (q.law is.2)) p
   where
-    told : inner.premise → (form : ErrorForm) (o : O) (a : Answer U) (h : W)
-        → AndThenSettles view (also form) s.1 o a h
-        → (h ≡ s.1) × WithinDoes view inner.does form o a
-    told is form o a h (rest, r) =
-        let did = (q.runs is).did (whole_of form (view o)) (completed (view o)) a h rest
+    told : inner.premise → (form : ErrorForm) (o : O) (a : Answer U) (g h : W) → theirs g
+        → AndThenSettles view (also form) g o a h
+        → theirs h × WithinDoes view inner.does form o a
+    told is form o a g h held (rest, r) =
+        let did = (q.runs is).did (whole_of form (view o)) g held (completed (view o)) a h rest
         (record { more = refl; possible = refl }) r in
         (did.kept, (rest.left.tokens, did.done))

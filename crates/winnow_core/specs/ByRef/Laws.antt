@@ -4,7 +4,7 @@ use Rattle.streams.specs.Reading.{Reading}
 use Rattle.streams.specs.Following.{Following}
 use Rattle.winnow_core.specs.ByRef.{ByRefRuns}
 use Rattle.winnow_core.specs.Runs.{Meaning, Runs, LeaveEnds}
-use Rattle.winnow_core.specs.Says.{Said, Says, did_as}
+use Rattle.winnow_core.specs.Says.{SaidAmong, Says, With, did_as, said_with}
 use Rattle.winnow_core.specs.Stable.Grows.{Grows}
 use Rattle.std.specs.Prelude.{ℕ}
 use Rattle.grammars.specs.Grammar.{Grammar}
@@ -43,13 +43,10 @@ module _ {S T O : Type 0} {run : Runs S T O} where
 
 -- ---- what it says
 
-pub by_ref_said : {S T O : Type 0} {says : Says T O} {s : S × ℕ} {meaning : Meaning S T O}
-    → Said says s.0 meaning → Said says s (λ form. ByRefRuns (meaning form))
-by_ref_said {s = s} p = record {
-  runs = λ is. record {
-    did = λ at i answer t j here (r, kept).
-        let did = (p.runs is).did at i answer t.0 j here r in
-        did_as s t (pair_is did.kept kept) did;
-  };
-  law = p.law;
-}
+pub by_ref_said : {S T O : Type 0} {mine : S → Type 0} {says : Says T O} {s : S × ℕ}
+    {meaning : Meaning S T O} → SaidAmong mine says s.0 meaning
+    → SaidAmong (With mine s.1) says s (λ form. ByRefRuns (meaning form))
+by_ref_said p = said_with (λ is. is)
+    (λ is at v held i answer t j here (r, kept).
+    let did = (p.runs is).did at v held i answer t.0 j here r in did_as (did.kept, kept) did)
+    p.law p

@@ -6,8 +6,8 @@ use Rattle.winnow_core.specs.CompleteErr.{CompleteErrBecomes, CompleteErrRuns, c
 use Rattle.winnow_core.specs.MakesError.Says.{errors_said}
 use Rattle.winnow_core.specs.Outcome.{Outcome, Setting, outcome_of}
 use Rattle.winnow_core.specs.Runs.{Meaning}
-use Rattle.winnow_core.specs.Says.{Said, Says}
-use Rattle.winnow_core.specs.Says.Along.{said_along}
+use Rattle.winnow_core.specs.Says.{SaidAmong, Says}
+use Rattle.winnow_core.specs.Says.Along.{said_alone}
 use Rattle.winnow_core.specs.Then.{ComesOf, Next, Then, then_law}
 use Rattle.winnow_core.specs.Then.Steps.{backs_hold, backs_meet, backs_on, cuts_hold, cuts_meet}
 use Rattle.winnow_core.specs.Then.Steps.{cuts_on, takes, takes_hold, takes_meet}
@@ -26,6 +26,7 @@ abbrev pub complete_err_says : {T O : Type 0} → Says T O → Says T O
 complete_err_says p = record {
   premise = p.premise;
   stable = ⊥;
+  keeps = p.keeps;
   does = Then p.does completes;
   alike = p.alike;
 }
@@ -38,11 +39,12 @@ comes at tokens rest cut l y is e = e ∙ ap (λ n. outcome_of (Err n) rest) is
 comes at tokens rest (incomplete need) l y is e = e ∙ ap (λ n. outcome_of (Err n) rest) is
 comes at tokens rest memory l y is e = e ∙ ap (λ n. outcome_of (Err n) rest) is
 
-pub complete_err_said : {S T O : Type 0} {says : Says T O} {s : S} {meaning : Meaning S T O}
-    → Said says s meaning
-    → Said (complete_err_says says) s (λ form. CompleteErrRuns (meaning form))
+pub complete_err_said : {S T O : Type 0} {mine : S → Type 0} {says : Says T O} {s : S}
+    {meaning : Meaning S T O}
+    → SaidAmong mine says s meaning
+    → SaidAmong mine (complete_err_says says) s (λ form. CompleteErrRuns (meaning form))
 complete_err_said {s = s} p =
-    said_along (λ t. (t, tt)) (λ t e. ap (λ x. x.0) e) (λ form i answer t j r. r)
+    said_alone (λ form v i answer t j r. r)
     (errors_said {s = (s, tt)} CompleteErrBecomes (λ is. is)
     (λ is. then_law (p.law is) (record {
       took = λ o p like. takes_meet like;

@@ -8,7 +8,7 @@ use Rattle.winnow_core.specs.Eof.{EofRuns}
 use Rattle.winnow_core.specs.Literal.Laws.{ShowSame}
 use Rattle.winnow_core.specs.Outcome.{Does, Setting, gave}
 use Rattle.winnow_core.specs.Runs.{Keeps}
-use Rattle.winnow_core.specs.Says.{Did, Said, Says}
+use Rattle.winnow_core.specs.Says.{Did, Is, Said, Says}
 use Rattle.winnow_core.specs.Says.Cases.{FailsWhere, OneCase, TakesWhere, cases_law, fails_law}
 use Rattle.winnow_core.specs.Says.Cases.{takes_law}
 use Rattle.winnow_core.specs.Says.Leaf.{here_did, leaf_said, takes_did}
@@ -24,13 +24,14 @@ abbrev pub eof_says : {T L : Type 0} → Reading T L → Says T L
 eof_says reading = record {
   premise = ⊤;
   stable = ⊥;
+  keeps = ⊤;
   does = EofDoes reading;
   alike = ShowSame reading;
 }
 
 did : {T L : Type 0} (reading : Reading T L) (at : Setting) (s : ⊤) (i : Input T)
     (answer : Answer L) (j : Input T) → EofRuns reading i answer j
-    → Did (EofDoes reading) at s i answer s j
+    → Did (EofDoes reading) at (Is s) i answer s j
 did reading at s i answer j (inl (slice, nothing, takes, e)) = takes_did takes (inl (
   slice,
   j.left.tokens,

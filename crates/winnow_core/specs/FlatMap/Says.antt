@@ -8,8 +8,7 @@ use Rattle.winnow_core.specs.Closures.{Gives, Stays}
 use Rattle.winnow_core.specs.FlatMap.{FlatMapRuns}
 use Rattle.winnow_core.specs.Outcome.{Setting, alike_wider}
 use Rattle.winnow_core.specs.Runs.{Meaning}
-use Rattle.winnow_core.specs.Says.{Did, EachDoes, IsAt, Said, Says, still_at}
-use Rattle.winnow_core.specs.States.{pair_is}
+use Rattle.winnow_core.specs.Says.{Did, EachDoes, IsAt, SaidAmong, Says, With, said_with, still_at}
 use Rattle.winnow_core.specs.Then.{Comes, Then, did_in, then_law}
 use Rattle.winnow_core.specs.Then.Steps.{fails_on, holds_where, meets_where, where_took}
 
@@ -34,53 +33,58 @@ flat_map_says step f state says p = record {
   premise = p.premise × Stays step f × MakesOne step f state p.alike
       × EachMade (Gives step) f (λ m. (says (state m)).premise);
   stable = p.stable × EachMade (Gives step) f (λ m. (says (state m)).stable);
+  keeps = p.keeps;
   does = Then p.does (where_took (made_next (Gives step f) (λ m. says (state m))));
   alike = AlikeByMade step f (λ m. (says (state m)).alike);
 }
 
-pub flat_map_said : {S G T O U H V : Type 0} {says : Says T O} {s : S × G} {meaning : Meaning S T O}
+pub flat_map_said : {S G T O U H V : Type 0} {mine : S → Type 0}
+    {theirs : V → V → Type 0} {says : Says T O} {s : S × G} {meaning : Meaning S T O}
     {second : Meaning V T U} (step : G → O → H → G → Type 0) (state : H → V)
-    (next : V → Says T U) → Said says s.0 meaning → ((v : V) → Said (next v) v second)
-    → Said (flat_map_says step s.1 state next says) s
+    (next : V → Says T U) → SaidAmong mine says s.0 meaning →
+    ((v : V) → SaidAmong (theirs v) (next v) v second)
+    → SaidAmong (With mine s.1) (flat_map_says step s.1 state next says) s
     (λ form. FlatMapRuns step state (meaning form) (second form))
-flat_map_said {S} {G} {T} {O} {U} {H} {V} {says} {s} {meaning} {second} step state next p q =
-    record {
-      runs = λ is. record { did = did is (p.runs is.0) };
-      law = λ is. then_law (p.law is.0)
-          (meets_where (λ o r like. record {
-            one = λ at tokens mid y z (m, x, d) (n, w, e).
-                alike_wider (λ u v like. (o, m, x, like)) y z
-                (((q (state m)).law (is.3 o m x)).one at mid y z d
-                (subst (λ v. (next v).does at mid z) (sym (is.2 o r m n like x w)) e));
-          }))
-          (holds_where (λ o. record {
-            whole = λ at tokens mid need end whole (m, x, d).
-                ((q (state m)).law (is.3 o m x)).whole at mid need end whole d;
-            stays = λ stable more flag tokens mid y final (m, x, d). (
-              m,
-              x,
-              ((q (state m)).law (is.3 o m x)).stays (stable.1 o m x) more flag mid y final d,
-            );
-          })) (λ stable. stable.0);
-    }
+flat_map_said {S} {G} {T} {O} {U} {H} {V} {mine} {theirs} {says} {s} {meaning}
+    {second} step state next p q =
+    said_with (λ is. is) (λ is. did is (p.runs is.0))
+    (λ is. then_law (p.law is.0)
+    (meets_where (λ o r like. record {
+      one = λ at tokens mid y z (m, x, d) (n, w, e).
+          alike_wider (λ u v like. (o, m, x, like)) y z
+          (((q (state m)).law (is.3 o m x)).one at mid y z d
+          (subst (λ v. (next v).does at mid z) (sym (is.2 o r m n like x w)) e));
+    }))
+    (holds_where (λ o. record {
+      whole = λ at tokens mid need end whole (m, x, d).
+          ((q (state m)).law (is.3 o m x)).whole at mid need end whole d;
+      stays = λ stable more flag tokens mid y final (m, x, d). (
+        m,
+        x,
+        ((q (state m)).law (is.3 o m x)).stays (stable.1 o m x) more flag mid y final d,
+      );
+    })) (λ stable. stable.0)) p
   where
-    did : (flat_map_says step s.1 state next says).premise → EachDoes says.does s.0 meaning
-        → (at : Setting) (i : Input T) (answer : Answer U) (t : S × G) (j : Input T) → IsAt at i
-        → FlatMapRuns step state (meaning at.form) (second at.form) s i answer t j
-        → Did (flat_map_says step s.1 state next says).does at s i answer t j
-    did is each at i answer t j here (inl (o, a, m, v, r, called, x)) =
-        let did = each.did at i (Ok o) t.0 a here r in
+    did : (flat_map_says step s.1 state next says).premise → EachDoes says.does mine meaning
+        → (at : Setting) (w : S) → mine w → (i : Input T) (answer : Answer U) (t : S × G)
+        (j : Input T) → IsAt at i
+        → FlatMapRuns step state (meaning at.form) (second at.form) (w, s.1) i answer t j
+        → Did (flat_map_says step s.1 state next says).does at (With mine s.1) i answer t j
+    did is each at w held i answer t j here (inl (o, a, m, v, r, called, x)) =
+        let did = each.did at w held i (Ok o) t.0 a here r in
         let same = is.1 o m t.1 called in
         let made = subst (λ h. step s.1 o m h) same called in
-        let then = (((q (state m)).runs (is.3 o m made)).did at a answer v j (still_at did here) x)
+        let child = q (state m) in
+        let then =
+        (child.runs (is.3 o m made)).did at (state m) child.held a answer v j (still_at did here) x
         in record {
-          kept = pair_is did.kept same;
+          kept = (did.kept, same);
           status = then.status ∙ did.status;
           possible = then.possible ∙ did.possible;
           done = (_, did.done, (m, made, then.done));
         }
-    did is each at i answer t j here (inr (k, r, kept, e)) =
-        let did = each.did at i (Err k) t.0 j here r in
-        did_in s t (pair_is did.kept kept) did
+    did is each at w held i answer t j here (inr (k, r, kept, e)) =
+        let did = each.did at w held i (Err k) t.0 j here r in
+        did_in (did.kept, kept) did
         (fails_on (made_next (Gives step s.1) (λ m. next (state m))) at i.left.tokens
         j.left.tokens k e)

@@ -1,13 +1,13 @@
 -- The specification of sequences whose outputs are combined into one.
 use Rattle.std.specs.Prelude.{◌≡◌, ◌⊎◌, Ok, Err}
-use Rattle.std.proofs.Common.{ap, ◌∙◌, inl, inr}
+use Rattle.std.proofs.Common.{sym, subst, ap, ◌∙◌, inl, inr}
 use Rattle.stream_errors.specs.Form.{Answer, ErrorForm}
 use Rattle.streams.specs.Input.{Input}
 use Rattle.streams.specs.Kind.{Kind}
 use Rattle.winnow_core.specs.InOrder.{BothRuns, ThreeRuns}
 use Rattle.winnow_core.specs.Outcome.{Does, Setting, gave}
 use Rattle.winnow_core.specs.Runs.{Meaning, Runs}
-use Rattle.winnow_core.specs.Says.{Did, EachDoes, IsAt, Said, Says, still_at}
+use Rattle.winnow_core.specs.Says.{Both, Did, EachDoes, IsAt, SaidAmong, Says, did_as, still_at}
 use Rattle.winnow_core.specs.States.{pair_is}
 use Rattle.winnow_core.specs.Then.{Next, Then, did_in, did_then, then_law}
 use Rattle.winnow_core.specs.Then.Steps.{and_then, fails_on, holds_where, meets_where, takes}
@@ -27,62 +27,59 @@ LastRuns {S} {T} {O} last output s i answer t j =
     ((o : O) × last s i (Ok o) t j × (answer ≡ Ok (output o)))
     ⊎ ((k : Kind) × last s i (Err k) t j × (answer ≡ Err k))
 
-pub last_does : {S T O U : Type 0} {does : Does T O} {s : S} {last : Meaning S T O}
-    (output : O → U) → EachDoes does s last
-    → EachDoes (Then does (where_took (λ o. takes (output o)))) s
+pub last_does : {S T O U : Type 0} {does : Does T O} {states : S → Type 0} {last : Meaning S T O}
+    (output : O → U) → EachDoes does states last
+    → EachDoes (Then does (where_took (λ o. takes (output o)))) states
     (λ form. LastRuns (last form) output)
-last_does {T = T} {O} {U} {does} {s} {last} output part = record { did = did }
+last_does {S} {T} {O} {U} {does} {states} {last} output part = record { did = did }
   where
-    did : (at : Setting) (i : Input T) (answer : Answer U) (t : _) (j : Input T) → IsAt at i
-        → LastRuns (last at.form) output s i answer t j
-        → Did (Then does (where_took (λ o. takes (output o)))) at s i answer t j
-    did at i answer t j is (inl (o, r, e)) =
-        did_then (part.did at i (Ok o) t j is r) (gave j.left.tokens e)
-    did at i answer t j is (inr (k, r, e)) =
-        did_then (part.did at i (Err k) t j is r)
+    did : (at : Setting) (s : S) → states s → (i : Input T) (answer : Answer U) (t : S)
+        (j : Input T) → IsAt at i → LastRuns (last at.form) output s i answer t j
+        → Did (Then does (where_took (λ o. takes (output o)))) at states i answer t j
+    did at s held i answer t j is (inl (o, r, e)) =
+        did_then (part.did at s held i (Ok o) t j is r) (gave j.left.tokens e)
+    did at s held i answer t j is (inr (k, r, e)) =
+        did_then (part.did at s held i (Err k) t j is r)
         (fails_on (λ o. takes (output o)) at i.left.tokens j.left.tokens k e)
 
 pub turn_does : {S R T O P U : Type 0} {does : Does T O} {second : Does T P}
-    {next : O → Next T P U} {s : S × R} {first : Meaning S T O} {others : O → Meaning R T U}
-    → EachDoes does s.0 first
-    → ((o : O) → EachDoes (Then second (next o)) s.1 (others o))
-    → EachDoes (Then does (where_took (λ o. and_then second (next o)))) s
+    {next : O → Next T P U} {ones : S → Type 0} {twos : R → Type 0} {first : Meaning S T O}
+    {others : O → Meaning R T U} → EachDoes does ones first
+    → ((o : O) → EachDoes (Then second (next o)) twos (others o))
+    → EachDoes (Then does (where_took (λ o. and_then second (next o)))) (Both ones twos)
     (λ form. TurnRuns (first form) (λ o. others o form))
-turn_does {S} {R} {T} {U = U} {does} {second} {next} {s} {first} {others} part rest =
+turn_does {S} {R} {T} {U = U} {does} {second} {next} {ones} {twos} {first} {others} part rest =
     record { did = did }
   where
-    did : (at : Setting) (i : Input T) (answer : Answer U) (t : S × R) (j : Input T) → IsAt at i
+    did : (at : Setting) (s : S × R) → Both ones twos s → (i : Input T) (answer : Answer U)
+        (t : S × R) (j : Input T) → IsAt at i
         → TurnRuns (first at.form) (λ o. others o at.form) s i answer t j
-        → Did (Then does (where_took (λ o. and_then second (next o)))) at s i answer t j
-    did at i answer t j is (inl (o, a, r, q)) =
-        let one = part.did at i (Ok o) t.0 a is r in
-        let two = (rest o).did at a answer t.1 j (still_at one is) q in
+        → Did (Then does (where_took (λ o. and_then second (next o)))) at (Both ones twos) i
+        answer t j
+    did at s held i answer t j is (inl (o, a, r, q)) =
+        let one = part.did at s.0 held.0 i (Ok o) t.0 a is r in
+        let two = (rest o).did at s.1 held.1 a answer t.1 j (still_at one is) q in
         record {
-          kept = pair_is one.kept two.kept;
+          kept = (one.kept, two.kept);
           status = two.status ∙ one.status;
           possible = two.possible ∙ one.possible;
           done = (_, one.done, two.done);
         }
-    did at i answer t j is (inr (k, r, same, e)) =
-        let one = part.did at i (Err k) t.0 j is r in
-        did_in s t (pair_is one.kept same) one
+    did at s held i answer t j is (inr (k, r, same, e)) =
+        let one = part.did at s.0 held.0 i (Err k) t.0 j is r in
+        did_in (one.kept, subst twos (sym same) held.1) one
         (fails_on (λ o. and_then second (next o)) at i.left.tokens j.left.tokens k e)
 
 -- the same for calls over other states
-pub does_along : {A B T O : Type 0} {does : Does T O} {s : A} {runs : Meaning A T O}
-    {others : Meaning B T O} (of : A → B) → ((t : A) → of t ≡ of s → t ≡ s)
-    → ((form : ErrorForm) (i : Input T) (answer : Answer O) (t : A) (j : Input T)
+pub does_along : {A B T O : Type 0} {does : Does T O} {states : B → Type 0}
+    {runs : Meaning A T O} {others : Meaning B T O} (of : A → B)
+    → ((form : ErrorForm) (s : A) (i : Input T) (answer : Answer O) (t : A) (j : Input T)
     → runs form s i answer t j → others form (of s) i answer (of t) j)
-    → EachDoes does (of s) others → EachDoes does s runs
-does_along of back there part = record {
-  did = λ at i answer t j is r.
-      let did = part.did at i answer (of t) j is (there at.form i answer t j r) in
-      record {
-        kept = back t did.kept;
-        status = did.status;
-        possible = did.possible;
-        done = did.done;
-      };
+    → EachDoes does states others → EachDoes does (λ t. states (of t)) runs
+does_along of there part = record {
+  did = λ at s held i answer t j is r.
+      let did = part.did at (of s) held i answer (of t) j is (there at.form s i answer t j r) in
+      did_as did.kept did;
 }
 
 -- ---- two children
@@ -93,6 +90,7 @@ abbrev pub both_says : {T O1 O2 O : Type 0} → (O1 → O2 → O) → (O → O �
 both_says output alike p1 p2 = record {
   premise = p1.premise × p2.premise;
   stable = p1.stable × p2.stable;
+  keeps = p1.keeps × p2.keeps;
   does = Then p1.does
       (where_took (λ o1. and_then p2.does (where_took (λ o2. takes (output o1 o2)))));
   alike = alike;
@@ -108,13 +106,17 @@ both_turns output run1 run2 s i answer t j (inr (inl (k, r1, same2, e))) = inr (
 both_turns output run1 run2 s i answer t j (inr (inr (o1, k, a, r1, r2, e))) =
     inl (o1, a, r1, inr (k, r2, e))
 
-pub both_said : {S1 S2 T O1 O2 O : Type 0} {p1 : Says T O1} {p2 : Says T O2} {s : S1 × S2}
+pub both_said : {S1 S2 T O1 O2 O : Type 0} {a1 : S1 → Type 0} {a2 : S2 → Type 0}
+    {p1 : Says T O1} {p2 : Says T O2} {s : S1 × S2}
     {m1 : Meaning S1 T O1} {m2 : Meaning S2 T O2} {output : O1 → O2 → O} {alike : O → O → Type 0}
     → ((o p : O1) (q r : O2) → p1.alike o p → p2.alike q r → alike (output o q) (output p r))
-    → Said p1 s.0 m1 → Said p2 s.1 m2
-    → Said (both_says output alike p1 p2) s (λ form. BothRuns output (m1 form) (m2 form))
+    → SaidAmong a1 p1 s.0 m1 → SaidAmong a2 p2 s.1 m2
+    → SaidAmong (Both a1 a2) (both_says output alike p1 p2) s
+    (λ form. BothRuns output (m1 form) (m2 form))
 both_said {s = s} {m1} {m2} {output} made d1 d2 = record {
-  runs = λ is. does_along (λ t. t) (λ t e. e) (λ form. both_turns output (m1 form) (m2 form) s)
+  held = (d1.held, d2.held);
+  kept = λ keeps t held. pair_is (d1.kept keeps.0 t.0 held.0) (d2.kept keeps.1 t.1 held.1);
+  runs = λ is. does_along (λ t. t) (λ form. both_turns output (m1 form) (m2 form))
       (turn_does (d1.runs is.0) (λ o1. last_does (λ o2. output o1 o2) (d2.runs is.1)));
   law = λ is. then_law (d1.law is.0)
       (meets_where (λ o p a. then_meets (d2.law is.1)
@@ -131,6 +133,7 @@ abbrev pub three_says : {T O1 O2 O3 O : Type 0} → (O1 → O2 → O3 → O) →
 three_says output alike p1 p2 p3 = record {
   premise = p1.premise × p2.premise × p3.premise;
   stable = p1.stable × p2.stable × p3.stable;
+  keeps = p1.keeps × p2.keeps × p3.keeps;
   does = Then p1.does (where_took (λ o1. and_then p2.does
       (where_took (λ o2. and_then p3.does (where_took (λ o3. takes (output o1 o2 o3)))))));
   alike = alike;
@@ -152,17 +155,28 @@ three_turns output run1 run2 run3 s i answer t j
     (inr (inr (inr (o1, o2, k, a, b, r1, r2, r3, e)))) =
     inl (o1, a, r1, inl (o2, b, r2, inr (k, r3, e)))
 
-pub three_said : {S1 S2 S3 T O1 O2 O3 O : Type 0} {p1 : Says T O1} {p2 : Says T O2}
+-- states of three parts
+abbrev pub Three : {S1 S2 S3 : Type 0} → (S1 → Type 0) → (S2 → Type 0) → (S3 → Type 0)
+    → S1 × S2 × S3 → Type 0
+Three first second third s = Both first (Both second third) (s.0, (s.1, s.2))
+
+pub three_said : {S1 S2 S3 T O1 O2 O3 O : Type 0} {a1 : S1 → Type 0} {a2 : S2 → Type 0}
+    {a3 : S3 → Type 0} {p1 : Says T O1} {p2 : Says T O2}
     {p3 : Says T O3} {s : S1 × S2 × S3} {m1 : Meaning S1 T O1} {m2 : Meaning S2 T O2}
     {m3 : Meaning S3 T O3} {output : O1 → O2 → O3 → O} {alike : O → O → Type 0}
     → ((o p : O1) (q r : O2) (x y : O3) → p1.alike o p → p2.alike q r → p3.alike x y
-    → alike (output o q x) (output p r y)) → Said p1 s.0 m1 → Said p2 s.1 m2 → Said p3 s.2 m3
-    → Said (three_says output alike p1 p2 p3) s
+    → alike (output o q x) (output p r y)) → SaidAmong a1 p1 s.0 m1 → SaidAmong a2 p2 s.1 m2
+    → SaidAmong a3 p3 s.2 m3 → SaidAmong (Three a1 a2 a3) (three_says output alike p1 p2 p3) s
     (λ form. ThreeRuns output (m1 form) (m2 form) (m3 form))
 three_said {S1} {S2} {S3} {s = s} {m1} {m2} {m3} {output} made d1 d2 d3 = record {
+  held = (d1.held, (d2.held, d3.held));
+  kept = λ keeps t held. ap (λ (x : S1 × (S2 × S3)). (x.0, x.1.0, x.1.1))
+      (pair_is {t = (t.0, (t.1, t.2))} {s = (s.0, (s.1, s.2))}
+      (d1.kept keeps.0 t.0 held.0)
+      (pair_is {t = (t.1, t.2)} {s = (s.1, s.2)} (d2.kept keeps.1 t.1 held.1.0)
+      (d3.kept keeps.2 t.2 held.1.1)));
   runs = λ is. does_along (λ (t : S1 × S2 × S3). (t.0, (t.1, t.2)))
-      (λ t e. ap (λ (x : S1 × (S2 × S3)). (x.0, x.1.0, x.1.1)) e)
-      (λ form. three_turns output (m1 form) (m2 form) (m3 form) s)
+      (λ form. three_turns output (m1 form) (m2 form) (m3 form))
       (turn_does (d1.runs is.0) (λ o1. turn_does (d2.runs is.1)
       (λ o2. last_does (λ o3. output o1 o2 o3) (d3.runs is.2))));
   law = λ is. then_law (d1.law is.0)

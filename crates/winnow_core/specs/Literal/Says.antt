@@ -12,7 +12,7 @@ use Rattle.winnow_core.specs.Literal.{LiteralRuns}
 use Rattle.winnow_core.specs.Literal.Laws.{ShowSame, not_longer, still_not_first, still_not_short}
 use Rattle.winnow_core.specs.Outcome.{Does, Outcome, Setting, gave}
 use Rattle.winnow_core.specs.Runs.{Keeps}
-use Rattle.winnow_core.specs.Says.{Did, IsAt, Lawful, Said, Says}
+use Rattle.winnow_core.specs.Says.{Did, Is, IsAt, Lawful, Said, Says}
 use Rattle.winnow_core.specs.Says.Cases.{FailsWhere, LacksWhere, OneCase, TakesWhere, cases_law}
 use Rattle.winnow_core.specs.Says.Cases.{fails_law, lacks_law, takes_law}
 use Rattle.winnow_core.specs.Says.Lacks.{short_outcome}
@@ -33,6 +33,7 @@ abbrev pub literal_says : {T L O : Type 0} → Reading T L → (List T → Type 
 literal_says reading spelled output alike = record {
   premise = ⊤;
   stable = ⊤;
+  keeps = ⊤;
   does = LiteralDoes reading spelled output;
   alike = alike;
 }
@@ -84,7 +85,7 @@ module _ {T L O : Type 0} (reading : Reading T L) (spelled : List T → Type 0) 
 did : {S T L O : Type 0} (reading : Reading T L) (spelled : List T → Type 0) (output : L → O)
     (at : Setting) (s : S) (i : Input T) (answer : Answer O) (j : Input T) → IsAt at i
     → LiteralRuns reading at.form spelled output i answer j
-    → Did (LiteralDoes reading spelled output) at s i answer s j
+    → Did (LiteralDoes reading spelled output) at (Is s) i answer s j
 did reading spelled output at s i answer j here (inl (front, slice, is, takes, e)) =
     takes_did takes (inl (
       output slice,

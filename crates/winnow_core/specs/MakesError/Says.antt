@@ -10,8 +10,7 @@ use Rattle.winnow_core.specs.Outcome.{Does, Outcome, Setting, as_longer, both, g
 use Rattle.winnow_core.specs.Outcome.Errors.{OneKind, asking, kind_longer, kinds_alike, not_final}
 use Rattle.winnow_core.specs.Outcome.Errors.{wants_by}
 use Rattle.winnow_core.specs.Runs.{Meaning}
-use Rattle.winnow_core.specs.Says.{Did, EachDoes, IsAt, Lawful, Said, Says}
-use Rattle.winnow_core.specs.States.{pair_is}
+use Rattle.winnow_core.specs.Says.{Did, EachDoes, IsAt, Lawful, SaidAmong, Says, With, said_with}
 use Rattle.winnow_core.specs.Then.{Comes, ComesOf, Holds, Meets, Next, Then, did_in, then_law}
 use Rattle.winnow_core.specs.Then.Steps.{takes, takes_hold, takes_meet}
 
@@ -29,35 +28,37 @@ turned becomes = record {
 }
 
 -- the specification of each call, by that of the errors
-pub errors_said : {S G T O : Type 0} {says : Says T O} {s : S × G} {meaning : Meaning S T O}
+pub errors_said : {S G T O : Type 0} {mine : S → Type 0} {says : Says T O} {s : S × G}
+    {meaning : Meaning S T O}
     {premise stable : Type 0} {next : Next T O O} (becomes : G → Kind → Kind → G → Type 0)
     → (premise → says.premise) → (premise → Lawful stable says.alike (Then says.does next))
     → ((at : Setting) (tokens rest : List T) (o : O) (y : Outcome T O) → y ≡ outcome_of (Ok o) rest
     → next.on_took o at tokens rest y)
     → (premise → (k l : Kind) (h : G) → becomes s.1 k l h → (h ≡ s.1)
     × ((at : Setting) (tokens rest : List T) (y : Outcome T O) → y ≡ outcome_of (Err l) rest
-    → ComesOf next at tokens (outcome_of (Err k) rest) y)) → Said says s.0 meaning
-    → Said (record {
+    → ComesOf next at tokens (outcome_of (Err k) rest) y)) → SaidAmong mine says s.0 meaning
+    → SaidAmong (With mine s.1) (record {
       premise = premise;
       stable = stable;
+      keeps = says.keeps;
       does = Then says.does next;
       alike = says.alike;
     }) s (λ form. MakesError becomes (meaning form))
-errors_said {S} {G} {T} {O} {says} {s} {meaning} {premise} {stable} {next} becomes of law took came
-    p = record { runs = λ is. record { did = did is (p.runs (of is)) }; law = law }
+errors_said {S} {G} {T} {O} {mine} {says} {s} {meaning} {premise} {stable}
+    {next} becomes of law took came
+    p = said_with (λ is. is) (λ is. did is (p.runs (of is))) law p
   where
-    did : premise → EachDoes says.does s.0 meaning → (at : Setting) (i : Input T)
-        (answer : Answer O) (t : S × G) (j : Input T) → IsAt at i
-        → MakesError becomes (meaning at.form) s i answer t j
-        → Did (Then says.does next) at s i answer t j
-    did is each at i answer t j here (inl (o, r, kept, e)) =
-        let did = each.did at i (Ok o) t.0 j here r in
-        did_in s t (pair_is did.kept kept) did
-        (took at i.left.tokens j.left.tokens o _ (gave j.left.tokens e))
-    did is each at i answer t j here (inr (k, l, r, x, e)) =
-        let did = each.did at i (Err k) t.0 j here r in
+    did : premise → EachDoes says.does mine meaning → (at : Setting) (v : S) → mine v
+        → (i : Input T) (answer : Answer O) (t : S × G) (j : Input T) → IsAt at i
+        → MakesError becomes (meaning at.form) (v, s.1) i answer t j
+        → Did (Then says.does next) at (With mine s.1) i answer t j
+    did is each at v held i answer t j here (inl (o, r, kept, e)) =
+        let did = each.did at v held i (Ok o) t.0 j here r in
+        did_in (did.kept, kept) did (took at i.left.tokens j.left.tokens o _ (gave j.left.tokens e))
+    did is each at v held i answer t j here (inr (k, l, r, x, e)) =
+        let did = each.did at v held i (Err k) t.0 j here r in
         let (kept, comes) = came is k l t.1 x in
-        did_in s t (pair_is did.kept kept) did
+        did_in (did.kept, kept) did
         (comes at i.left.tokens j.left.tokens _ (gave j.left.tokens e))
 
 -- ---- kinds that stay, or become out of memory
@@ -122,15 +123,18 @@ abbrev pub turned_says : {G T O : Type 0} → (G → Kind → Kind → G → Typ
 turned_says becomes f premise p = record {
   premise = premise;
   stable = p.stable;
+  keeps = p.keeps;
   does = Then p.does (turned (λ k l. becomes f k l f));
   alike = p.alike;
 }
 
 -- So with each run, where kinds are kept.
-pub turned_said : {S G T O : Type 0} {says : Says T O} {s : S × G} {meaning : Meaning S T O}
+pub turned_said : {S G T O : Type 0} {mine : S → Type 0} {says : Says T O} {s : S × G}
+    {meaning : Meaning S T O}
     {premise : Type 0} (becomes : G → Kind → Kind → G → Type 0) → (premise → says.premise)
-    → (premise → KeepsKinds becomes s.1) → Said says s.0 meaning
-    → Said (turned_says becomes s.1 premise says) s (λ form. MakesError becomes (meaning form))
+    → (premise → KeepsKinds becomes s.1) → SaidAmong mine says s.0 meaning
+    → SaidAmong (With mine s.1) (turned_says becomes s.1 premise says) s
+    (λ form. MakesError becomes (meaning form))
 turned_said {s = s} becomes of keeps p = errors_said becomes of
     (λ is. turned_law (keeps is) (p.law (of is)))
     (λ at tokens rest o y e. e)

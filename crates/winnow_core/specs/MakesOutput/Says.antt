@@ -6,7 +6,7 @@ use Rattle.stream_errors.specs.Form.{Answer}
 use Rattle.winnow_core.specs.MakesOutput.{MakesOutput}
 use Rattle.winnow_core.specs.Outcome.{Does, Setting, as_longer, both, gave, took}
 use Rattle.winnow_core.specs.Runs.{Meaning}
-use Rattle.winnow_core.specs.Says.{Did, EachDoes, IsAt, Lawful, Said, Says}
+use Rattle.winnow_core.specs.Says.{Did, EachDoes, IsAt, Lawful, SaidAmong, Says, said_of}
 use Rattle.winnow_core.specs.Then.{Comes, Next, Then, did_then, then_law}
 use Rattle.winnow_core.specs.Then.Steps.{fails_on, holds_where, meets_where, where_took}
 
@@ -44,6 +44,7 @@ abbrev pub output_says : {T O U : Type 0} → (List T → O → List T → U →
 output_says gives also p = record {
   premise = p.premise;
   stable = p.stable;
+  keeps = p.keeps;
   does = Then p.does (made gives);
   alike = also;
 }
@@ -64,25 +65,26 @@ made_law {also = also} makes law = then_law law
     })) (λ is. is)
 
 -- So with each run, where what it makes is given by the tokens.
-pub output_said : {S T O U : Type 0} {says : Says T O} {s : S} {meaning : Meaning S T O}
+pub output_said : {S T O U : Type 0} {mine : S → Type 0} {says : Says T O} {s : S}
+    {meaning : Meaning S T O}
     {also : U → U → Type 0} (gives : List T → O → List T → U → Type 0)
     {makes : Input T → O → Input T → U → Type 0}
     → ((i : Input T) (o : O) (j : Input T) (u : U) → makes i o j u
     → gives i.left.tokens o j.left.tokens u) → MakesAlike gives says.alike also
-    → Said says s meaning
-    → Said (output_says gives also says) s (λ form. MakesOutput makes (meaning form))
-output_said {S} {T} {O} {U} {says} {s} {meaning} gives {makes} given alike p = record {
-  runs = λ is. record { did = did (p.runs is) };
-  law = λ is. made_law alike (p.law is);
-}
+    → SaidAmong mine says s meaning
+    → SaidAmong mine (output_says gives also says) s (λ form. MakesOutput makes (meaning form))
+output_said {S} {T} {O} {U} {mine} {says} {s} {meaning} gives {makes} given alike p =
+    said_of (λ is. is) (λ is. record { did = did (p.runs is) }) (λ is. made_law alike (p.law is)) p
   where
-    did : EachDoes says.does s meaning → (at : Setting) (i : Input T) (answer : Answer U) (t : S)
-        (j : Input T) → IsAt at i → MakesOutput makes (meaning at.form) s i answer t j
-        → Did (Then says.does (made gives)) at s i answer t j
-    did each at i answer t j is (inl (o, u, r, x, e)) =
-        did_then (each.did at i (Ok o) t j is r) (u, given i o j u x, gave j.left.tokens e)
-    did each at i answer t j is (inr (k, r, e)) =
-        did_then (each.did at i (Err k) t j is r)
+    did : EachDoes says.does mine meaning → (at : Setting) (v : S) → mine v
+        → (i : Input T) (answer : Answer U) (t : S) (j : Input T) → IsAt at i
+        → MakesOutput makes (meaning at.form) v i answer t j
+        → Did (Then says.does (made gives)) at mine i answer t j
+    did each at v held i answer t j is (inl (o, u, r, x, e)) =
+        did_then (each.did at v held i (Ok o) t j is r)
+        (u, given i o j u x, gave j.left.tokens e)
+    did each at v held i answer t j is (inr (k, r, e)) =
+        did_then (each.did at v held i (Err k) t j is r)
         (fails_on (gives_one gives) at i.left.tokens j.left.tokens k e)
 
 -- ---- outputs made of no more than an output
@@ -91,11 +93,12 @@ abbrev pub of_output_says : {T O U : Type 0} → (O → U → Type 0) → (U →
     → Says T U
 of_output_says makes also p = output_says (λ tokens o rest u. makes o u) also p
 
-pub of_output_said : {S T O U : Type 0} {says : Says T O} {s : S} {meaning : Meaning S T O}
+pub of_output_said : {S T O U : Type 0} {mine : S → Type 0} {says : Says T O} {s : S}
+    {meaning : Meaning S T O}
     {also : U → U → Type 0} (makes : O → U → Type 0)
     → ((o p : O) (u v : U) → says.alike o p → makes o u → makes p v → also u v)
-    → Said says s meaning
-    → Said (of_output_says makes also says) s
+    → SaidAmong mine says s meaning
+    → SaidAmong mine (of_output_says makes also says) s
     (λ form. MakesOutput (λ i o j u. makes o u) (meaning form))
 of_output_said makes one p =
     output_said (λ tokens o rest u. makes o u) (λ i o j u x. x) (made_of makes one) p

@@ -1,12 +1,12 @@
 -- The specification of `parse_to`.
 use Rattle.std.specs.Prelude.{Option, Some, None}
-use Rattle.std.proofs.Common.{refl, ap, inl, inr}
+use Rattle.std.proofs.Common.{refl, inl, inr}
 use Rattle.stream_errors.specs.Form.Inversion.{at_output, ok_is_err, same_kind}
 use Rattle.winnow_core.specs.ParseTo.{ParseToRuns, ParseToSettles}
 use Rattle.winnow_core.specs.MakesOutput.Says.{OutputsMadeAlike}
 use Rattle.winnow_core.specs.Runs.{Meaning}
-use Rattle.winnow_core.specs.Says.{Said, Says}
-use Rattle.winnow_core.specs.Says.Along.{said_along}
+use Rattle.winnow_core.specs.Says.{SaidAmong, Says}
+use Rattle.winnow_core.specs.Says.Along.{said_alone}
 use Rattle.winnow_core.specs.Settles.Says.{RejectedWith, backtracks_one, settle_says, settles_said}
 
 -- Of equal outputs both convert or neither does.
@@ -22,11 +22,12 @@ parse_to_says reads p = settle_says (λ form o u. reads o (Some u))
     (p.premise × ReadsSame reads p.alike)
     (OutputsMadeAlike p.alike (λ o u. reads o (Some u))) p
 
-pub parse_to_said : {S T O U : Type 0} {says : Says T O} {s : S} {meaning : Meaning S T O}
-    (reads : O → Option U → Type 0) → Said says s meaning
-    → Said (parse_to_says reads says) s (λ form. ParseToRuns reads (meaning form))
+pub parse_to_said : {S T O U : Type 0} {mine : S → Type 0} {says : Says T O} {s : S}
+    {meaning : Meaning S T O}
+    (reads : O → Option U → Type 0) → SaidAmong mine says s meaning
+    → SaidAmong mine (parse_to_says reads says) s (λ form. ParseToRuns reads (meaning form))
 parse_to_said {s = s} reads p =
-    said_along (λ t. (t, tt)) (λ t e. ap (λ x. x.0) e) (λ form i answer t j r. r)
+    said_alone (λ form v i answer t j r. r)
     (settles_said {s = (s, tt)} (λ form o u. reads o (Some u))
     (λ form. RejectedWith (λ o. reads o None)) (λ form. ParseToSettles reads) (λ is. is.0)
     (λ is form o u h it. elim it [

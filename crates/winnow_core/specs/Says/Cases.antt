@@ -5,7 +5,7 @@ use Rattle.winnow_core.specs.Outcome.{Outcome, took, backs, asks, Setting, on_cu
 use Rattle.winnow_core.specs.Outcome.{Alike, IsFinal, as_longer, both, final_by, lacks, longer}
 use Rattle.winnow_core.specs.Outcome.{misused}
 use Rattle.winnow_core.specs.Runs.{Meaning}
-use Rattle.winnow_core.specs.Says.{Lawful, Said, Says}
+use Rattle.winnow_core.specs.Says.{Lawful, SaidAmong, Says}
 use Rattle.winnow_core.specs.Says.Lacks.{lacks_alike, lacks_whole, misused_alike, misused_whole}
 
 -- A case: whether it applies, and the remaining tokens.
@@ -155,7 +155,13 @@ module _ {T O : Type 0} {stable : Type 0} {alike : O → O → Type 0} where
       stays is more flag tokens x final (inr b) = inr (q.stays is more flag tokens x final b)
 
 -- a premise may be replaced by a stronger one
-pub under : {S T O : Type 0} {says : Says T O} {s : S} {meaning : Meaning S T O} {also : Type 0}
-    → (also → says.premise) → Said says s meaning
-    → Said (record says { premise = also }) s meaning
-under by said = record { runs = λ is. said.runs (by is); law = λ is. said.law (by is) }
+pub under : {S T O : Type 0} {states : S → Type 0} {says : Says T O} {s : S}
+    {meaning : Meaning S T O} {also : Type 0} → (also → says.premise)
+    → SaidAmong states says s meaning
+    → SaidAmong states (record says { premise = also }) s meaning
+under by said = record {
+  held = said.held;
+  kept = said.kept;
+  runs = λ is. said.runs (by is);
+  law = λ is. said.law (by is);
+}

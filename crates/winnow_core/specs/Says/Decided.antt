@@ -9,7 +9,7 @@ use Rattle.stream_errors.specs.Form.{Answer, ErrorForm}
 use Rattle.winnow_core.specs.Decided.{EqualResults, IsDecided, NotMemory}
 use Rattle.winnow_core.specs.Outcome.{Alike, outcome_of}
 use Rattle.winnow_core.specs.Runs.{LeaveEnds, Meaning}
-use Rattle.winnow_core.specs.Says.{Said, Says, here, setting_of}
+use Rattle.winnow_core.specs.Says.{SaidAmong, Says, here, setting_of}
 
 -- the results of equal outcomes, neither of which is out of memory
 pub answers : {T O : Type 0} (alike : O → O → Type 0) (a b : Answer O) (rest end : List T)
@@ -45,23 +45,31 @@ same_end reading i j k e f tokens status =
     (e.ends.place ∙ ap (λ d. reading.advance i.left.place (reading.units d)) dropped
     ∙ sym f.ends.place) (e.ends.possible ∙ sym f.ends.possible) status
 
-pub decided_of : {S T L O : Type 0} {says : Says T O} {s : S} {meaning : Meaning S T O}
-    (reading : Reading T L) → ((form : ErrorForm) → LeaveEnds reading (meaning form))
-    → Said says s meaning → (form : ErrorForm) → says.premise
-    → IsDecided s (meaning form) says.alike
-decided_of {says = says} {s} reading ends said form is =
-    let each = said.runs is in record {
-      kept = λ i answer t j free ran.
-          let did = each.did (setting_of form i) i answer t j
-          (here form i) ran in (did.kept, did.status);
-      decided = λ i a b t u j k na nb ran also.
-          let at = setting_of form i in
-          let one = each.did at i a t j (here form i) ran in
-          let two = each.did at i b u k (here form i) also in
-          let both = answers says.alike a b j.left.tokens k.left.tokens na nb
-          ((said.law is).one at i.left.tokens _ _ one.done two.done) in (
-            both.0,
-            same_end reading i j k (ends form s i a t j ran) (ends form s i b u k also) both.1
-                (one.status ∙ sym two.status),
-          );
-    }
+-- two calls from the state have one result and one rest
+pub one_result : {S T L O : Type 0} {states : S → Type 0} {says : Says T O} {s : S}
+    {meaning : Meaning S T O} (reading : Reading T L)
+    → ((form : ErrorForm) → LeaveEnds reading (meaning form)) → SaidAmong states says s meaning
+    → (form : ErrorForm) → says.premise → (i : Input T) (a b : Answer O) (t u : S)
+    (j k : Input T) → NotMemory a → NotMemory b → meaning form s i a t j
+    → meaning form s i b u k → EqualResults says.alike a b × (j ≡ k)
+one_result {says = says} {s} reading ends said form is i a b t u j k na nb ran also =
+    let at = setting_of form i in
+    let one = (said.runs is).did at s said.held i a t j (here form i) ran in
+    let two = (said.runs is).did at s said.held i b u k (here form i) also in
+    let both = answers says.alike a b j.left.tokens k.left.tokens na nb
+    ((said.law is).one at i.left.tokens _ _ one.done two.done) in (
+      both.0,
+      same_end reading i j k (ends form s i a t j ran) (ends form s i b u k also) both.1
+          (one.status ∙ sym two.status),
+    )
+
+pub decided_of : {S T L O : Type 0} {states : S → Type 0} {says : Says T O} {s : S}
+    {meaning : Meaning S T O} (reading : Reading T L)
+    → ((form : ErrorForm) → LeaveEnds reading (meaning form)) → SaidAmong states says s meaning
+    → (form : ErrorForm) → says.premise → says.keeps → IsDecided s (meaning form) says.alike
+decided_of {s = s} reading ends said form is keeps = record {
+  kept = λ i answer t j free ran.
+      let did = (said.runs is).did (setting_of form i) s said.held i answer t j (here form i) ran in
+      (said.kept keeps t did.kept, did.status);
+  decided = one_result reading ends said form is;
+}

@@ -1,9 +1,9 @@
 -- Inputs that are too short, and parsers that were made wrongly: what is done there.
-use Rattle.std.specs.Prelude.{◌≡◌, ◌⊎◌, Bool, true, false, List, ◌++◌, ℕ, Option, Err}
+use Rattle.std.specs.Prelude.{◌≡◌, Bool, true, false, List, ℕ, Option, Err}
 use Rattle.std.proofs.Common.{refl, sym, ap, ◌∙◌, inl, inr}
 use Rattle.streams.specs.Equal.{true_is_false}
 use Rattle.streams.specs.Input.{Input}
-use Rattle.streams.specs.Kind.{Kind, backtrack, cut, incomplete}
+use Rattle.streams.specs.Kind.{Kind, backtrack}
 use Rattle.stream_errors.specs.Form.{Answer, ErrorForm, assert_kind, incomplete_kind, modal, plain}
 use Rattle.winnow_core.specs.Outcome.{Alike, Outcome, Setting, asks, gave, lacks}
 use Rattle.winnow_core.specs.Outcome.{lacks_by, misused, misused_by, outcome_of}

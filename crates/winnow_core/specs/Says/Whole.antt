@@ -13,7 +13,7 @@ use Rattle.winnow_core.specs.Exact.Whole.{IsWant}
 use Rattle.winnow_core.specs.Outcome.{Outcome, took, backs, cuts, asks, wants, outcome_of}
 use Rattle.winnow_core.specs.Parse.{ParsesWhole}
 use Rattle.winnow_core.specs.Runs.{Meaning}
-use Rattle.winnow_core.specs.Says.{Said, Says, Tells, setting_of, told}
+use Rattle.winnow_core.specs.Says.{SaidAmong, Says, Tells, setting_of, told}
 
 -- `fault` is at the offset in `tokens` at which `rest` begins, in units; its inner error is a
 -- backtrack.
@@ -66,8 +66,9 @@ module _ {I T X : Type 0} (view : I → Input T) (units : List T → ℕ) (inner
   out_of_memory (Invalid e) (at, kinds, back) = sym (same_some kinds)
   out_of_memory (Incomplete needed) at = absurd (cc)
 
-  failed : {S O : Type 0} {says : Says T O} {s t : S} {meaning : Meaning S T O}
-      → Said says s meaning → says.premise → (form : ErrorForm) → i.status.cut ≡ false
+  failed : {S O : Type 0} {states : S → Type 0} {says : Says T O} {s t : S}
+      {meaning : Meaning S T O} → SaidAmong states says s meaning → says.premise →
+      (form : ErrorForm) → i.status.cut ≡ false
       → (k : Kind) (fault : ParseFault I X Needed) → meaning form s i (Err k) t j
       → IsFaultAt view units inner_kind i.left j k fault
       → TellsAll units inner_kind says form i (Err fault)
@@ -90,8 +91,9 @@ module _ {I T X : Type 0} (view : I → Input T) (units : List T → ℕ) (inner
     parsed = out_of_memory fault at;
   }
 
-pub all_outcome : {S I T O X : Type 0} {says : Says T O} {s : S} {meaning : Meaning S T O}
-    → Said says s meaning → says.premise → (view : I → Input T) (units : List T → ℕ)
+pub all_outcome : {S I T O X : Type 0} {states : S → Type 0} {says : Says T O} {s : S}
+    {meaning : Meaning S T O} → SaidAmong states says s meaning → says.premise →
+    (view : I → Input T) (units : List T → ℕ)
     (inner_kind : X → Kind) (form : ErrorForm) (t : S) (i : Input T)
     (result : Result O (ParseFault I X Needed)) → i.status.cut ≡ false
     → ParsesWhole view units inner_kind i.left (λ answer j. meaning form s i answer t j) result

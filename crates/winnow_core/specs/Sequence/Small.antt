@@ -7,8 +7,8 @@ use Rattle.winnow_core.specs.InOrder.Decided.{AlikeOne}
 use Rattle.winnow_core.specs.InOrder.Says.{does_along, last_does}
 use Rattle.winnow_core.specs.Outcome.{as_longer, both, gave, took}
 use Rattle.winnow_core.specs.Runs.{LeaveEnds, Meaning, Runs}
-use Rattle.winnow_core.specs.Says.{Said, Says}
-use Rattle.winnow_core.specs.Says.Leaf.{here_did}
+use Rattle.winnow_core.specs.Says.{Said, SaidAmong, Says}
+use Rattle.winnow_core.specs.Says.Leaf.{each_keeps, here_did}
 use Rattle.winnow_core.specs.Sequence.{SequenceRuns0, SequenceRuns1}
 use Rattle.winnow_core.specs.Stable.Grows.{Grows, final_by}
 use Rattle.winnow_core.specs.Stable.Longer.{same_grows}
@@ -39,15 +39,17 @@ abbrev pub unit_says : {T : Type 0} → Says T ⊤
 unit_says = record {
   premise = ⊤;
   stable = ⊤;
+  keeps = ⊤;
   does = λ at tokens x. x ≡ took tt tokens;
   alike = λ (_ _ : ⊤). ⊤;
 }
 
 pub unit_said : {T : Type 0} → Said unit_says tt (λ form. SequenceRuns0 {T = T})
 unit_said = record {
-  runs = λ is. record {
-    did = λ at i answer t j here (e, same). here_did same (gave i.left.tokens e);
-  };
+  held = refl;
+  kept = λ is t same. same;
+  runs = λ is.
+      each_keeps (λ at i answer t j here (e, same). here_did same (gave i.left.tokens e));
   law = λ is. record {
     one = λ at tokens x y e f. both (λ (_ _ : ⊤). ⊤) e f (tt, refl);
     whole = λ at tokens need place is e. absurd (cc);
@@ -60,15 +62,18 @@ abbrev pub one_says : {T O : Type 0} → Says T O → Says T (record { 0 : O })
 one_says p = record {
   premise = p.premise;
   stable = p.stable;
+  keeps = p.keeps;
   does = Then p.does (where_took (λ o. takes (record { 0 = o })));
   alike = AlikeOne p.alike;
 }
 
-pub one_said : {S T O : Type 0} {p : Says T O} {s : record { 0 : S }} {meaning : Meaning S T O}
-    → Said p s.0 meaning → Said (one_says p) s (λ form. SequenceRuns1 (meaning form))
+pub one_said : {S T O : Type 0} {mine : S → Type 0} {p : Says T O} {s : record { 0 : S }}
+    {meaning : Meaning S T O} → SaidAmong mine p s.0 meaning
+    → SaidAmong (λ t. mine t.0) (one_says p) s (λ form. SequenceRuns1 (meaning form))
 one_said {S} d = record {
-  runs = λ is. does_along (λ (t : record { 0 : S }). t.0)
-      (λ t e. ap (λ (m : S). record { 0 = m }) e) (λ form i answer t j r. r)
+  held = d.held;
+  kept = λ is t held. ap (λ (m : S). record { 0 = m }) (d.kept is t.0 held);
+  runs = λ is. does_along (λ (t : record { 0 : S }). t.0) (λ form v i answer t j r. r)
       (last_does (λ o. record { 0 = o }) (d.runs is));
   law = λ is. then_law (d.law is) (meets_where (λ o p a. takes_meet a))
       (holds_where (λ o. takes_hold)) (λ stable. stable);

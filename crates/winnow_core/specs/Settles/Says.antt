@@ -8,9 +8,9 @@ use Rattle.winnow_core.specs.Outcome.{Does, Setting, alike_wants, as_longer, bot
 use Rattle.winnow_core.specs.Outcome.{took, wants}
 use Rattle.winnow_core.specs.Outcome.Errors.{OneKind, asking, kind_longer, kinds_alike, wants_by}
 use Rattle.winnow_core.specs.Runs.{Meaning}
-use Rattle.winnow_core.specs.Says.{Did, EachDoes, IsAt, Lawful, Said, Says}
-use Rattle.winnow_core.specs.Settles.{Settles}
+use Rattle.winnow_core.specs.Says.{Both, Did, EachDoes, IsAt, Lawful, SaidAmong, Says, With}
 use Rattle.winnow_core.specs.States.{pair_is}
+use Rattle.winnow_core.specs.Settles.{Settles}
 use Rattle.winnow_core.specs.Then.{Comes, Next, Then, back_in, did_in, then_law}
 use Rattle.winnow_core.specs.Then.Steps.{fails_on, holds_where, meets_where, where_took}
 
@@ -47,6 +47,7 @@ abbrev pub settle_says : {T O U : Type 0} → Accepts O U → Accepts O Kind →
 settle_says accepts rejects premise also p = record {
   premise = premise;
   stable = p.stable;
+  keeps = p.keeps;
   does = Then p.does (settled accepts rejects);
   alike = also;
 }
@@ -83,39 +84,65 @@ settled_law {also = also} {rejects = rejects} is_one law = then_law law
       ];
     })) (λ is. is)
 
--- So with each run of what settles by a state that stays.
-pub settles_said : {S G T O U : Type 0} {says : Says T O} {s : S × G} {meaning : Meaning S T O}
+-- So with each run of what settles, from states that it does not leave.
+pub settles_among : {S G T O U : Type 0} {mine : S → Type 0} {says : Says T O}
+    {s : S × G} {meaning : Meaning S T O}
+    {premise keeps : Type 0} {also : U → U → Type 0} (accepts : Accepts O U)
+    (rejects : Accepts O Kind) (settle : ErrorForm → G → O → Answer U → G → Type 0)
+    (owns : G → Type 0) → owns s.1 → (keeps → says.keeps × ((h : G) → owns h → h ≡ s.1))
+    → (premise → says.premise)
+    → (premise → (form : ErrorForm) (o : O) (u : U) (g h : G) → owns g
+    → settle form g o (Ok u) h → owns h × accepts form o u)
+    → (premise → (form : ErrorForm) (o : O) (k : Kind) (g h : G) → owns g
+    → settle form g o (Err k) h → owns h × rejects form o k)
+    → (premise → SettlesOne accepts rejects says.alike also) → SaidAmong mine says s.0 meaning
+    → SaidAmong (Both mine owns)
+    (record (settle_says accepts rejects premise also says) { keeps = keeps }) s
+    (λ form. Settles (settle form) (meaning form))
+settles_among {S} {G} {T} {O} {U} {mine} {says} {s} {meaning}
+    {premise} accepts rejects settle owns held
+    kept of accepted rejected one p = record {
+      held = (p.held, held);
+      kept = λ is t held. pair_is (p.kept (kept is).0 t.0 held.0) ((kept is).1 t.1 held.1);
+      runs = λ is. record { did = did is (p.runs (of is)) };
+      law = λ is. settled_law (one is) (p.law (of is));
+    }
+  where
+    did : premise → EachDoes says.does mine meaning → (at : Setting) (v : S × G)
+        → Both mine owns v → (i : Input T) (answer : Answer U) (t : S × G) (j : Input T)
+        → IsAt at i → Settles (settle at.form) (meaning at.form) v i answer t j
+        → Did (Then says.does (settled accepts rejects)) at (Both mine owns) i answer t j
+    did is each at v held i answer t j here (inl (o, u, r, x, e)) =
+        let did = each.did at v.0 held.0 i (Ok o) t.0 j here r in
+        let (kept, y) = accepted is at.form o u v.1 t.1 held.1 x in
+        did_in (did.kept, kept) did (inl (u, y, gave j.left.tokens e))
+    did is each at v held i answer t j here (inr (inl (o, k, a, r, x, e, back))) =
+        let did = each.did at v.0 held.0 i (Ok o) t.0 a here r in
+        let (kept, y) = rejected is at.form o k v.1 t.1 held.1 x in
+        back_in (did.kept, kept) did back (inr (k, y, gave i.left.tokens e))
+    did is each at v held i answer t j here (inr (inr (k, r, kept, e))) =
+        let did = each.did at v.0 held.0 i (Err k) t.0 j here r in
+        did_in (did.kept, subst owns (sym kept) held.1) did
+        (fails_on (settled_to accepts rejects) at i.left.tokens j.left.tokens k e)
+
+-- the same of what settles by a state that stays
+pub settles_said : {S G T O U : Type 0} {mine : S → Type 0} {says : Says T O}
+    {s : S × G} {meaning : Meaning S T O}
     {premise : Type 0} {also : U → U → Type 0} (accepts : Accepts O U) (rejects : Accepts O Kind)
     (settle : ErrorForm → G → O → Answer U → G → Type 0) → (premise → says.premise)
     → (premise → (form : ErrorForm) (o : O) (u : U) (h : G) → settle form s.1 o (Ok u) h
     → (h ≡ s.1) × accepts form o u)
     → (premise → (form : ErrorForm) (o : O) (k : Kind) (h : G) → settle form s.1 o (Err k) h
     → (h ≡ s.1) × rejects form o k)
-    → (premise → SettlesOne accepts rejects says.alike also) → Said says s.0 meaning
-    → Said (settle_says accepts rejects premise also says) s
+    → (premise → SettlesOne accepts rejects says.alike also) → SaidAmong mine says s.0 meaning
+    → SaidAmong (With mine s.1) (settle_says accepts rejects premise also says) s
     (λ form. Settles (settle form) (meaning form))
-settles_said {S} {G} {T} {O} {U} {says} {s} {meaning} {premise} accepts rejects settle of accepted
-    rejected one p = record {
-      runs = λ is. record { did = did is (p.runs (of is)) };
-      law = λ is. settled_law (one is) (p.law (of is));
-    }
-  where
-    did : premise → EachDoes says.does s.0 meaning → (at : Setting) (i : Input T)
-        (answer : Answer U) (t : S × G) (j : Input T) → IsAt at i
-        → Settles (settle at.form) (meaning at.form) s i answer t j
-        → Did (Then says.does (settled accepts rejects)) at s i answer t j
-    did is each at i answer t j here (inl (o, u, r, x, e)) =
-        let did = each.did at i (Ok o) t.0 j here r in
-        let (kept, y) = accepted is at.form o u t.1 x in
-        did_in s t (pair_is did.kept kept) did (inl (u, y, gave j.left.tokens e))
-    did is each at i answer t j here (inr (inl (o, k, a, r, x, e, back))) =
-        let did = each.did at i (Ok o) t.0 a here r in
-        let (kept, y) = rejected is at.form o k t.1 x in
-        back_in s t (pair_is did.kept kept) did back (inr (k, y, gave i.left.tokens e))
-    did is each at i answer t j here (inr (inr (k, r, kept, e))) =
-        let did = each.did at i (Err k) t.0 j here r in
-        did_in s t (pair_is did.kept kept) did
-        (fails_on (settled_to accepts rejects) at i.left.tokens j.left.tokens k e)
+settles_said {s = s} accepts rejects settle of accepted rejected one p =
+    settles_among accepts rejects settle (λ h. h ≡ s.1) refl (λ is. (is, λ h same. same)) of
+    (λ is form o u g h same x.
+    accepted is form o u h (subst (λ g. settle form g o (Ok u) h) same x))
+    (λ is form o k g h same x.
+    rejected is form o k h (subst (λ g. settle form g o (Err k) h) same x)) one p
 
 -- ---- rejection is a backtrack
 

@@ -6,8 +6,8 @@ use Rattle.streams.specs.Reading.{Reading}
 use Rattle.winnow_core.specs.Literal.Laws.{ShowSame}
 use Rattle.winnow_core.specs.MakesOutput.Says.{output_said, output_says}
 use Rattle.winnow_core.specs.Runs.{Meaning}
-use Rattle.winnow_core.specs.Says.{Said, Says}
-use Rattle.winnow_core.specs.Says.Along.{said_along}
+use Rattle.winnow_core.specs.Says.{SaidAmong, Says}
+use Rattle.winnow_core.specs.Says.Along.{said_same}
 use Rattle.winnow_core.specs.Take.{TakeRuns}
 
 -- A slice shows the consumed tokens.
@@ -33,11 +33,12 @@ abbrev pub take_says : {T L O : Type 0} → Reading T L → Says T O → Says T 
 take_says {O = O} reading p = output_says (λ tokens (o : O) rest slice.
     ShowsTaken reading tokens rest slice) (ShowSame reading) p
 
-pub take_said : {S T L O : Type 0} {says : Says T O} {s : S} {meaning : Meaning S T O}
-    (reading : Reading T L) → Said says s meaning
-    → Said (take_says reading says) s (λ form. TakeRuns reading (meaning form))
+pub take_said : {S T L O : Type 0} {mine : S → Type 0} {says : Says T O} {s : S}
+    {meaning : Meaning S T O}
+    (reading : Reading T L) → SaidAmong mine says s meaning
+    → SaidAmong mine (take_says reading says) s (λ form. TakeRuns reading (meaning form))
 take_said {O = O} reading p =
-    said_along (λ t. t) (λ t e. e) (λ form i answer t j ran. elim ran [
+    said_same (λ form v i answer t j ran. elim ran [
       | inl (o, front, slice, r, e, shown, is) ↦ inl (o, slice, r, (front, e, shown), is)
       | inr failed ↦ inr failed
     ])

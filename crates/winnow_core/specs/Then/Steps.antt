@@ -1,11 +1,11 @@
 -- The continuations of most combinators.
-use Rattle.std.specs.Prelude.{◌≡◌, Bool, List, ◌++◌, ℕ, Option, Err}
+use Rattle.std.specs.Prelude.{◌≡◌, List, ℕ, Option, Err}
 use Rattle.std.proofs.Common.{refl}
 use Rattle.streams.specs.Kind.{Kind}
 use Rattle.stream_errors.specs.Form.{Answer}
 use Rattle.winnow_core.specs.Outcome.{Outcome, took, backs, cuts, asks, Setting, Does, longer, both}
 use Rattle.winnow_core.specs.Outcome.{IsFinal}
-use Rattle.winnow_core.specs.Outcome.{alike_wider, as_longer, final_by, gave, outcome_of}
+use Rattle.winnow_core.specs.Outcome.{alike_wider, as_longer, final_by, outcome_of}
 use Rattle.winnow_core.specs.Says.{Lawful}
 use Rattle.winnow_core.specs.Then.{Comes, ComesOf, Holds, Meets, Next, NextHolds, NextMeets, Then}
 use Rattle.winnow_core.specs.Then.{final_comes, hands_on, one_comes, stays_comes, whole_comes}

@@ -9,7 +9,7 @@ use Rattle.winnow_core.specs.Exact.Settled.{GivesOk}
 use Rattle.winnow_core.specs.Outcome.Errors.{OneKind}
 use Rattle.winnow_core.specs.MakesOutput.Says.{OutputsMadeAlike}
 use Rattle.winnow_core.specs.Runs.{Meaning}
-use Rattle.winnow_core.specs.Says.{Said, Says}
+use Rattle.winnow_core.specs.Says.{SaidAmong, Says, With}
 use Rattle.winnow_core.specs.Settles.Says.{SettlesOne, settle_says, settles_said}
 use Rattle.winnow_core.specs.States.{pair_is}
 use Rattle.winnow_core.specs.TryMap.{TryMapRuns, TryMapSettles}
@@ -55,9 +55,12 @@ module _ {G O U R : Type 0} (step : G → O → Result U R → G → Type 0) (f 
     ];
   }
 
-pub try_map_said : {S G T O U R : Type 0} {says : Says T O} {s : S × (G × (R → Keeping))}
-    {meaning : Meaning S T O} (step : G → O → Result U R → G → Type 0) → Said says s.0 meaning
-    → Said (try_map_says step s.1 says) s (λ form. TryMapRuns step (meaning form))
+pub try_map_said : {S G T O U R : Type 0} {mine : S → Type 0} {says : Says T O}
+    {s : S × (G × (R → Keeping))}
+    {meaning : Meaning S T O} (step : G → O → Result U R → G → Type 0)
+    → SaidAmong mine says s.0 meaning
+    → SaidAmong (With mine s.1) (try_map_says step s.1 says) s
+    (λ form. TryMapRuns step (meaning form))
 try_map_said {G = G} {O = O} {U = U} {R = R} {says = says} {s = s} step p =
     settles_said (λ form. GivesOk step s.1.0) (λ form. FailsBy step s.1)
     (λ form. TryMapSettles step) (λ is. is.0)

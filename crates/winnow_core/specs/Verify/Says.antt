@@ -4,7 +4,7 @@ use Rattle.std.proofs.Common.{refl, sym, subst, inl, inr}
 use Rattle.stream_errors.specs.Form.Inversion.{ok_is_err, same_kind, same_output}
 use Rattle.winnow_core.specs.Closures.{Finds, Stays}
 use Rattle.winnow_core.specs.Runs.{Meaning}
-use Rattle.winnow_core.specs.Says.{Said, Says}
+use Rattle.winnow_core.specs.Says.{SaidAmong, Says, With}
 use Rattle.winnow_core.specs.Settles.Says.{RejectedWith, backtracks_one, settle_says, settles_said}
 use Rattle.winnow_core.specs.Verify.{VerifyRuns, VerifySettles}
 
@@ -20,9 +20,11 @@ verify_says tests f p = settle_says (λ form. Finds tests f)
     (λ form. RejectedWith (λ o. tests f o false f))
     (p.premise × Stays tests f × FindsSame tests f p.alike) p.alike p
 
-pub verify_said : {S G T O : Type 0} {says : Says T O} {s : S × G} {meaning : Meaning S T O}
-    (tests : G → O → Bool → G → Type 0) → Said says s.0 meaning
-    → Said (verify_says tests s.1 says) s (λ form. VerifyRuns tests (meaning form))
+pub verify_said : {S G T O : Type 0} {mine : S → Type 0} {says : Says T O} {s : S × G}
+    {meaning : Meaning S T O}
+    (tests : G → O → Bool → G → Type 0) → SaidAmong mine says s.0 meaning
+    → SaidAmong (With mine s.1) (verify_says tests s.1 says) s
+    (λ form. VerifyRuns tests (meaning form))
 verify_said {G = G} {O = O} {says = says} {s = s} tests p =
     settles_said (λ form. Finds tests s.1) (λ form. RejectedWith (λ o. tests s.1 o false s.1))
     (λ form. VerifySettles tests) (λ is. is.0)

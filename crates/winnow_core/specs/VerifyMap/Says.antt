@@ -7,8 +7,8 @@ use Rattle.stream_errors.specs.Form.Inversion.{at_output, ok_is_err, same_kind}
 use Rattle.winnow_core.specs.Closures.{GivesSome, Stays}
 use Rattle.winnow_core.specs.MakesOutput.Says.{OutputsMadeAlike}
 use Rattle.winnow_core.specs.Runs.{Meaning}
-use Rattle.winnow_core.specs.Says.{Said, Says}
-use Rattle.winnow_core.specs.Says.Along.{said_along}
+use Rattle.winnow_core.specs.Says.{SaidAmong, Says, With}
+use Rattle.winnow_core.specs.Says.Along.{said_same}
 use Rattle.winnow_core.specs.Settles.Says.{RejectedWith, backtracks_one, settle_says, settles_said}
 use Rattle.winnow_core.specs.VerifyMap.{VerifyMapRuns}
 
@@ -31,11 +31,13 @@ abbrev Settles : {G O U : Type 0} → (G → O → Option U → G → Type 0) �
 Settles {U = U} step g o answer h = ((u : U) × step g o (Some u) h × (answer ≡ Ok u))
     ⊎ (step g o None h × (answer ≡ Err backtrack))
 
-pub verify_map_said : {S G T O U : Type 0} {says : Says T O} {s : S × G} {meaning : Meaning S T O}
-    (step : G → O → Option U → G → Type 0) → Said says s.0 meaning
-    → Said (verify_map_says step s.1 says) s (λ form. VerifyMapRuns (meaning form) step)
+pub verify_map_said : {S G T O U : Type 0} {mine : S → Type 0} {says : Says T O} {s : S × G}
+    {meaning : Meaning S T O}
+    (step : G → O → Option U → G → Type 0) → SaidAmong mine says s.0 meaning
+    → SaidAmong (With mine s.1) (verify_map_says step s.1 says) s
+    (λ form. VerifyMapRuns (meaning form) step)
 verify_map_said {G = G} {O = O} {U = U} {s = s} step p =
-    said_along (λ t. t) (λ t e. e) (λ form i answer t j ran. elim ran [
+    said_same (λ form v i answer t j ran. elim ran [
       | inl (o, u, r, gives, e) ↦ inl (o, u, r, inl (u, gives, refl), e)
       | inr (inl (o, a, r, gives, e, back)) ↦
           inr (inl (o, backtrack, a, r, inr (gives, refl), e, back))

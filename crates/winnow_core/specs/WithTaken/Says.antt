@@ -6,7 +6,7 @@ use Rattle.winnow_core.specs.InOrder.Decided.{AlikePairs}
 use Rattle.winnow_core.specs.Literal.Laws.{ShowSame}
 use Rattle.winnow_core.specs.MakesOutput.Says.{output_said, output_says}
 use Rattle.winnow_core.specs.Runs.{Meaning}
-use Rattle.winnow_core.specs.Says.{Said, Says}
+use Rattle.winnow_core.specs.Says.{SaidAmong, Says}
 use Rattle.winnow_core.specs.Take.Says.{ShowsTaken, shows_longer, shows_same}
 use Rattle.winnow_core.specs.WithTaken.{WithTakenRuns}
 
@@ -18,9 +18,10 @@ abbrev pub with_taken_says : {T L O : Type 0} → Reading T L → Says T O → S
 with_taken_says reading p =
     output_says (WithSliceTaken reading) (AlikePairs p.alike (ShowSame reading)) p
 
-pub with_taken_said : {S T L O : Type 0} {says : Says T O} {s : S} {meaning : Meaning S T O}
-    (reading : Reading T L) → Said says s meaning
-    → Said (with_taken_says reading says) s (λ form. WithTakenRuns reading (meaning form))
+pub with_taken_said : {S T L O : Type 0} {mine : S → Type 0} {says : Says T O} {s : S}
+    {meaning : Meaning S T O}
+    (reading : Reading T L) → SaidAmong mine says s meaning
+    → SaidAmong mine (with_taken_says reading says) s (λ form. WithTakenRuns reading (meaning form))
 with_taken_said {says = says} reading p =
     output_said (WithSliceTaken reading) (λ i o j both x. x) (record {
       one = λ tokens rest o p u v like x w. (

@@ -2,7 +2,7 @@
 ghost use Rattle.std.specs.Fn.{CalledAtMut};
 ghost use Rattle.winnow_core.specs.Func.{CalledWithMut, FuncRuns, FuncWithRuns, LeavesEndsFrom};
 ghost use Rattle.winnow_core.specs.Claim.{no_claim, nothing_claimed};
-ghost use Rattle.winnow_core.specs.Says.{nothing_done, nothing_said};
+ghost use Rattle.winnow_core.specs.Says.{Is, nothing_done, nothing_said};
 
 use crate::parser::Parser;
 use stream_errors::parser_error::ParserError;
@@ -52,6 +52,8 @@ impl<F: FnMut(&mut I) -> Result<O, E>, I: Stream, O, E: ParserError<I>> Parser<I
 
     ghost state = { λ s. s.0 };
 
+    ghost states = { Is };
+
     ghost meaning = { λ _. FuncRuns I.reading I.view E.kind (CalledAtMut F.FnMut) };
 
     ghost says = { λ _. nothing_said };
@@ -99,6 +101,8 @@ impl<A: Copy, F: FnMut(A, &mut I) -> Result<O, E>, I: Stream, O, E: ParserError<
     ghost State = { A × F };
 
     ghost state = { λ s. (s.0, s.1) };
+
+    ghost states = { Is };
 
     ghost meaning = { λ _. FuncWithRuns I.reading I.view E.kind (CalledWithMut F.FnMut) };
 

@@ -7,6 +7,7 @@ ghost use Rattle.winnow_core.specs.Literal.Laws.{ShowSame, literal_ends};
 ghost use Rattle.winnow_core.specs.Literal.Laws.{literal_stays};
 ghost use Rattle.winnow_core.specs.Literal.Says.{literal_said, literal_says};
 ghost use Rattle.winnow_core.specs.Runs.{Keeps};
+ghost use Rattle.winnow_core.specs.Says.{Is};
 ghost use Rattle.winnow_core.specs.Stable.Grows.{leaf_stays};
 
 use crate::literal::take_literal;
@@ -25,6 +26,8 @@ impl<I: StreamIsPartial + Compare<u8>, E: ParserError<I>> Parser<I, u8, E> for u
     ghost State = { Self };
 
     ghost state = { λ s. s };
+
+    ghost states = { Is };
 
     ghost meaning = { λ form. Keeps (λ s. LiteralRuns I.reading form (I.spells s) (λ _. s)) };
 
@@ -60,6 +63,8 @@ impl<'t, I: StreamIsPartial + Compare<&'t [u8]>, E: ParserError<I>> Parser<I, I:
     ghost State = { Self };
 
     ghost state = { λ s. s };
+
+    ghost states = { Is };
 
     ghost meaning = { λ form. Keeps
         (λ s. LiteralRuns I.reading form (I.spells s) (λ slice. slice)) };
@@ -101,6 +106,8 @@ impl<'t, const N: usize, I: StreamIsPartial + Compare<&'t [u8; N]>, E: ParserErr
     ghost State = { Self };
 
     ghost state = { λ s. s };
+
+    ghost states = { Is };
 
     ghost meaning = { λ form. Keeps
         (λ s. LiteralRuns I.reading form (I.spells s) (λ slice. slice)) };
@@ -145,6 +152,8 @@ impl<I: StreamIsPartial + Compare<char>, E: ParserError<I>> Parser<I, char, E> f
 
     ghost state = { λ s. s };
 
+    ghost states = { Is };
+
     ghost meaning = { λ form. Keeps (λ s. LiteralRuns I.reading form (I.spells s) (λ _. s)) };
 
     ghost says = { λ s. literal_says I.reading (I.spells s) (λ _. s) (λ o q. o ≡ q) };
@@ -179,6 +188,8 @@ impl<'t, I: StreamIsPartial + Compare<&'t str>, E: ParserError<I>> Parser<I, I::
     ghost State = { Self };
 
     ghost state = { λ s. s };
+
+    ghost states = { Is };
 
     ghost meaning = { λ form. Keeps
         (λ s. LiteralRuns I.reading form (I.spells s) (λ slice. slice)) };
@@ -217,6 +228,8 @@ impl<'t, I: StreamIsPartial + Compare<Caseless<&'t [u8]>>, E: ParserError<I>> Pa
     ghost State = { Self };
 
     ghost state = { λ s. s };
+
+    ghost states = { Is };
 
     ghost meaning = { λ form. Keeps
         (λ s. LiteralRuns I.reading form (I.spells s) (λ slice. slice)) };
@@ -260,6 +273,8 @@ impl<
 
     ghost state = { λ s. s };
 
+    ghost states = { Is };
+
     ghost meaning = { λ form. Keeps
         (λ s. LiteralRuns I.reading form (I.spells s) (λ slice. slice)) };
 
@@ -301,6 +316,8 @@ impl<'t, I: StreamIsPartial + Compare<Caseless<&'t str>>, E: ParserError<I>> Par
     ghost State = { Self };
 
     ghost state = { λ s. s };
+
+    ghost states = { Is };
 
     ghost meaning = { λ form. Keeps
         (λ s. LiteralRuns I.reading form (I.spells s) (λ slice. slice)) };

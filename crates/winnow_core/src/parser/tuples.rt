@@ -12,10 +12,13 @@ ghost use Rattle.winnow_core.specs.InOrder.Claim.{both_claim, both_claimed, clai
 ghost use Rattle.winnow_core.specs.InOrder.Claim.{three_claim, three_claimed};
 ghost use Rattle.winnow_core.specs.InOrder.Exact.{OneTuple, tuple1_exact, tuple1_fails};
 ghost use Rattle.winnow_core.specs.InOrder.Laws.{both_ends, ends_by, three_ends};
+ghost use Rattle.winnow_core.specs.InOrder.Says.{Three};
+ghost use Rattle.winnow_core.specs.Says.{Both, Is};
 ghost use Rattle.winnow_core.specs.Sequence.{SequenceRuns0, SequenceRuns1, SequenceRuns2};
 ghost use Rattle.winnow_core.specs.Sequence.{SequenceRuns3, SequenceRuns4, SequenceRuns5};
 ghost use Rattle.winnow_core.specs.Sequence.{SequenceRuns6};
 ghost use Rattle.winnow_core.specs.Sequence.{same4, same5, same6, split4, split5, split6};
+ghost use Rattle.winnow_core.specs.Sequence.Says.{Five, Four, Six};
 ghost use Rattle.winnow_core.specs.Sequence.Says.{sequence2_said, sequence3_said, sequence4_said};
 ghost use Rattle.winnow_core.specs.Sequence.Says.{sequence5_said, sequence6_said};
 ghost use Rattle.winnow_core.specs.Sequence.Says.{sequence2_says, sequence3_says, sequence4_says};
@@ -34,6 +37,8 @@ impl<I: Stream, E: ParserError<I>> Parser<I, (), E> for () {
     ghost State = { ⊤ };
 
     ghost state = { λ _. tt };
+
+    ghost states = { Is };
 
     ghost meaning = { λ _. SequenceRuns0 };
 
@@ -69,6 +74,8 @@ impl<I: Stream, O1, E: ParserError<I>, P1: Parser<I, O1, E>> Parser<I, (O1,), E>
     ghost State = { record { 0 : P1.State } };
 
     ghost state = { λ s. record { 0 = P1.state s.0 } };
+
+    ghost states = { λ s t. P1.states s.0 t.0 };
 
     ghost meaning = { λ form. SequenceRuns1 (P1.meaning form) };
 
@@ -112,6 +119,8 @@ impl<I: Stream, O1: Drop, O2, E: ParserError<I>, P1: Parser<I, O1, E>, P2: Parse
 
     ghost state = { λ s. (P1.state s.0, P2.state s.1) };
 
+    ghost states = { λ s. Both (P1.states s.0) (P2.states s.1) };
+
     ghost meaning = { λ form. SequenceRuns2 (P1.meaning form) (P2.meaning form) };
 
     ghost says = { λ s. sequence2_says (P1.says s.0) (P2.says s.1) };
@@ -148,6 +157,8 @@ impl<
     ghost State = { P1.State × P2.State × P3.State };
 
     ghost state = { λ s. (P1.state s.0, P2.state s.1, P3.state s.2) };
+
+    ghost states = { λ s. Three (P1.states s.0) (P2.states s.1) (P3.states s.2) };
 
     ghost meaning = { λ form. SequenceRuns3 (P1.meaning form) (P2.meaning form) (P3.meaning form) };
 
@@ -192,6 +203,8 @@ impl<
     ghost State = { P1.State × P2.State × P3.State × P4.State };
 
     ghost state = { λ s. (P1.state s.0, P2.state s.1, P3.state s.2, P4.state s.3) };
+
+    ghost states = { λ s. Four (P1.states s.0) (P2.states s.1) (P3.states s.2) (P4.states s.3) };
 
     ghost meaning = { λ form. SequenceRuns4 (P1.meaning form) (P2.meaning form)
         (P3.meaning form) (P4.meaning form) };
@@ -245,6 +258,9 @@ impl<
     ghost State = { P1.State × P2.State × P3.State × P4.State × P5.State };
 
     ghost state = { λ s. (P1.state s.0, P2.state s.1, P3.state s.2, P4.state s.3, P5.state s.4) };
+
+    ghost states = { λ s. Five (P1.states s.0) (P2.states s.1) (P3.states s.2) (P4.states s.3)
+        (P5.states s.4) };
 
     ghost meaning = { λ form. SequenceRuns5 (P1.meaning form) (P2.meaning form)
         (P3.meaning form) (P4.meaning form) (P5.meaning form) };
@@ -313,6 +329,9 @@ impl<
       P5.state s.4,
       P6.state s.5,
     ) };
+
+    ghost states = { λ s. Six (P1.states s.0) (P2.states s.1) (P3.states s.2) (P4.states s.3)
+        (P5.states s.4) (P6.states s.5) };
 
     ghost meaning = { λ form. SequenceRuns6 (P1.meaning form) (P2.meaning form)
         (P3.meaning form) (P4.meaning form) (P5.meaning form) (P6.meaning form) };

@@ -6,7 +6,7 @@ use Rattle.stream_errors.specs.Form.{Answer}
 use Rattle.winnow_core.specs.Outcome.{Alike, Does, Outcome, Setting, alike_wants, as_longer}
 use Rattle.winnow_core.specs.Outcome.{both, final_by, gave, took, wants}
 use Rattle.winnow_core.specs.Runs.{Keeps}
-use Rattle.winnow_core.specs.Says.{Did, IsAt, Lawful, Said, Says}
+use Rattle.winnow_core.specs.Says.{Did, Is, IsAt, Lawful, Said, Says}
 use Rattle.winnow_core.specs.Says.Leaf.{here_did, leaf_said}
 use Rattle.winnow_core.specs.Value.Says.{BothClones}
 use Rattle.winnow_expression.specs.Operators.{OperatorRuns}
@@ -20,6 +20,7 @@ abbrev pub operator_says : {T O : Type 0} → (O → O → Type 0) → (O → Ty
 operator_says IsClone ClonesAlways s = record {
   premise = ⊤;
   stable = ⊤;
+  keeps = ⊤;
   does = ClonedOr IsClone (¬ (ClonesAlways s)) s;
   alike = BothClones IsClone s;
 }
@@ -54,7 +55,7 @@ module _ {T O : Type 0} (IsClone : O → O → Type 0) (ClonesAlways : O → Typ
     where
       did : (at : Setting) (i : Input T) (answer : Answer O) (j : Input T) → IsAt at i
           → OperatorRuns IsClone ClonesAlways s i answer j
-          → Did (ClonedOr IsClone (¬ (ClonesAlways s)) s) at s i answer s j
+          → Did (ClonedOr IsClone (¬ (ClonesAlways s)) s) at (Is s) i answer s j
       did at i answer j here (inl (o, is, e, same)) =
           here_did same (inl (o, is, gave i.left.tokens e))
       did at i answer j here (inr (refused, e, same)) =

@@ -1,14 +1,14 @@
 -- The outcomes where operands and operators are expected.
 use Rattle.std.specs.Prelude.{◌≡◌, ◌⊎◌, ◌<◌, ℕ, List, Ok, Err}
-use Rattle.std.proofs.Common.{refl, sym, subst, arith, inl, inr, ◌∙◌}
+use Rattle.std.proofs.Common.{refl, sym, subst, ap, arith, inl, inr, ◌∙◌}
 use Rattle.streams.specs.Input.{Input, back_at}
 use Rattle.streams.specs.Kind.{backtrack}
 use Rattle.stream_errors.specs.Form.{Answer}
 use Rattle.winnow_core.specs.Outcome.{Does, Setting, both as alike_both, gave, took}
 use Rattle.winnow_core.specs.Runs.{Meaning}
-use Rattle.winnow_core.specs.Says.{Did, EachDoes, IsAt, Lawful, Said, Says, still_at}
+use Rattle.winnow_core.specs.Says.{Both, Did, EachDoes, IsAt, Lawful, SaidAmong, Says}
+use Rattle.winnow_core.specs.Says.{still_at}
 use Rattle.winnow_core.specs.Says.Cases.{OneCase, cases_law}
-use Rattle.winnow_core.specs.Says.Leaf.{here_did}
 use Rattle.winnow_core.specs.States.{pair_is}
 use Rattle.winnow_core.specs.Then.{Next as After, Then, did_in, hands_on, then_law}
 use Rattle.winnow_core.specs.Then.Steps.{asks_later, asks_meet, asks_on, cuts_hold, cuts_meet}
@@ -49,8 +49,9 @@ AlikeNext {G} {H} alike also x y =
     ⊎ ((o : Infix H) × (p : Infix H) × (x ≡ infix_read o) × (y ≡ infix_read p) × also o p))
 
 -- the second part is run as the first was
-back_here : {S T O : Type 0} {does : Does T O} {at : Setting} {s t : S} {i m : Input T}
-    {answer : Answer O} → Did does at s i answer t m → IsAt at i → IsAt at (back_at i.left m)
+back_here : {S T O : Type 0} {does : Does T O} {at : Setting} {states : S → Type 0} {t : S}
+    {i m : Input T} {answer : Answer O} → Did does at states i answer t m → IsAt at i
+    → IsAt at (back_at i.left m)
 back_here did here = record { more = (still_at did here).more; possible = here.possible }
 
 -- ---- operands
@@ -71,36 +72,41 @@ abbrev pub first_says : {T V F : Type 0} → Says T V → Says T (Prefix F) → 
 first_says operand prefix = record {
   premise = operand.premise × prefix.premise;
   stable = operand.stable × prefix.stable;
+  keeps = operand.keeps × prefix.keeps;
   does = Then operand.does (or_prefix prefix.does);
   alike = AlikeFirst operand.alike prefix.alike;
 }
 
-module _ {S W T V F : Type 0} {operand : Does T V} {prefix : Does T (Prefix F)} {s : S × W}
-    {m1 : Meaning S T V} {m2 : Meaning W T (Prefix F)} where
-  first_did : EachDoes operand s.0 m1 → EachDoes prefix s.1 m2 → (at : Setting)
-      (i : Input T) (answer : Answer (First V F)) (t : S × W) (j : Input T) → IsAt at i
+module _ {S W T V F : Type 0} {operand : Does T V} {prefix : Does T (Prefix F)}
+    {mine : S → Type 0} {theirs : W → Type 0} {m1 : Meaning S T V}
+    {m2 : Meaning W T (Prefix F)} where
+  first_did : EachDoes operand mine m1 → EachDoes prefix theirs m2 → (at : Setting)
+      (s : S × W) → Both mine theirs s → (i : Input T) (answer : Answer (First V F))
+      (t : S × W) (j : Input T) → IsAt at i
       → FirstRuns (m1 at.form) (m2 at.form) s i answer t j
-      → Did (Then operand (or_prefix prefix)) at s i answer t j
-  first_did p q at i answer t j here (inl (v, r, kept, e)) =
-      let one = p.did at i (Ok v) t.0 j here r in
-      did_in s t (pair_is one.kept kept) one (gave j.left.tokens e)
-  first_did p q at i answer t j here (inr (inl (k, r, other, kept, e))) =
-      let one = p.did at i (Err k) t.0 j here r in
-      did_in s t (pair_is one.kept kept) one
+      → Did (Then operand (or_prefix prefix)) at (Both mine theirs) i answer t j
+  first_did p q at s held i answer t j here (inl (v, r, kept, e)) =
+      let one = p.did at s.0 held.0 i (Ok v) t.0 j here r in
+      did_in (one.kept, subst theirs (sym kept) held.1) one (gave j.left.tokens e)
+  first_did p q at s held i answer t j here (inr (inl (k, r, other, kept, e))) =
+      let one = p.did at s.0 held.0 i (Err k) t.0 j here r in
+      did_in (one.kept, subst theirs (sym kept) held.1) one
       (hands_on (or_prefix prefix) at i.left.tokens j.left.tokens k
       (λ y is e. absurd (other is)) (λ y is e. e) (λ y need is e. e) e)
-  first_did p q at i answer t j here (inr (inr (inl (m, o, r, r2, e)))) =
-      let one = p.did at i (Err backtrack) t.0 m here r in
-      let two = q.did at (back_at i.left m) (Ok o) t.1 j (back_here one here) r2 in record {
-        kept = pair_is one.kept two.kept;
+  first_did p q at s held i answer t j here (inr (inr (inl (m, o, r, r2, e)))) =
+      let one = p.did at s.0 held.0 i (Err backtrack) t.0 m here r in
+      let two = q.did at s.1 held.1 (back_at i.left m) (Ok o) t.1 j (back_here one here) r2
+      in record {
+        kept = (one.kept, two.kept);
         status = two.status ∙ one.status;
         possible = two.possible;
         done = (_, one.done, (_, two.done, gave j.left.tokens e));
       }
-  first_did p q at i answer t j here (inr (inr (inr (m, k, r, r2, e)))) =
-      let one = p.did at i (Err backtrack) t.0 m here r in
-      let two = q.did at (back_at i.left m) (Err k) t.1 j (back_here one here) r2 in record {
-        kept = pair_is one.kept two.kept;
+  first_did p q at s held i answer t j here (inr (inr (inr (m, k, r, r2, e)))) =
+      let one = p.did at s.0 held.0 i (Err backtrack) t.0 m here r in
+      let two = q.did at s.1 held.1 (back_at i.left m) (Err k) t.1 j (back_here one here) r2
+      in record {
+        kept = (one.kept, two.kept);
         status = two.status ∙ one.status;
         possible = two.possible;
         done = (
@@ -137,10 +143,14 @@ first_law {T} {V} {F} {p} {q} {alike} {also} {operand} {prefix} one two =
     }) (λ is. is.0)
 
 pub first_said : {S W T V F : Type 0} {operand : Says T V} {prefix : Says T (Prefix F)}
-    {s : S × W} {m1 : Meaning S T V} {m2 : Meaning W T (Prefix F)} → Said operand s.0 m1
-    → Said prefix s.1 m2
-    → Said (first_says operand prefix) s (λ form. FirstRuns (m1 form) (m2 form))
+    {mine : S → Type 0} {theirs : W → Type 0} {s : S × W} {m1 : Meaning S T V}
+    {m2 : Meaning W T (Prefix F)} → SaidAmong mine operand s.0 m1
+    → SaidAmong theirs prefix s.1 m2
+    → SaidAmong (Both mine theirs) (first_says operand prefix) s
+    (λ form. FirstRuns (m1 form) (m2 form))
 first_said p q = record {
+  held = (p.held, q.held);
+  kept = λ is t held. pair_is (p.kept is.0 t.0 held.0) (q.kept is.1 t.1 held.1);
   runs = λ is. record { did = first_did (p.runs is.0) (q.runs is.1) };
   law = λ is. first_law (p.law is.0) (q.law is.1);
 }
@@ -181,36 +191,41 @@ abbrev pub next_says : {T G H : Type 0} → (List T → ℕ) → Says T (Postfix
 next_says units postfix infix_ = record {
   premise = postfix.premise × infix_.premise;
   stable = ⊥;
+  keeps = postfix.keeps × infix_.keeps;
   does = OneCase (NothingLeft units) (SomeLeft units postfix.does infix_.does);
   alike = AlikeNext postfix.alike infix_.alike;
 }
 
 module _ {S W T G H : Type 0} {postfix : Does T (Postfix G)} {infix_ : Does T (Infix H)}
-    {s : S × W} {m1 : Meaning S T (Postfix G)} {m2 : Meaning W T (Infix H)} where
-  some_did : EachDoes postfix s.0 m1 → EachDoes infix_ s.1 m2 → (at : Setting)
-      (i : Input T) (answer : Answer (Next G H)) (t : S × W) (j : Input T) → IsAt at i
+    {mine : S → Type 0} {theirs : W → Type 0} {m1 : Meaning S T (Postfix G)}
+    {m2 : Meaning W T (Infix H)} where
+  some_did : EachDoes postfix mine m1 → EachDoes infix_ theirs m2 → (at : Setting)
+      (s : S × W) → Both mine theirs s → (i : Input T) (answer : Answer (Next G H))
+      (t : S × W) (j : Input T) → IsAt at i
       → SomeRuns (m1 at.form) (m2 at.form) s i answer t j
-      → Did (Then postfix (or_infix infix_)) at s i answer t j
-  some_did p q at i answer t j here (inl (o, r, kept, e)) =
-      let one = p.did at i (Ok o) t.0 j here r in
-      did_in s t (pair_is one.kept kept) one (gave j.left.tokens e)
-  some_did p q at i answer t j here (inr (inl (k, r, other, kept, e))) =
-      let one = p.did at i (Err k) t.0 j here r in
-      did_in s t (pair_is one.kept kept) one
+      → Did (Then postfix (or_infix infix_)) at (Both mine theirs) i answer t j
+  some_did p q at s held i answer t j here (inl (o, r, kept, e)) =
+      let one = p.did at s.0 held.0 i (Ok o) t.0 j here r in
+      did_in (one.kept, subst theirs (sym kept) held.1) one (gave j.left.tokens e)
+  some_did p q at s held i answer t j here (inr (inl (k, r, other, kept, e))) =
+      let one = p.did at s.0 held.0 i (Err k) t.0 j here r in
+      did_in (one.kept, subst theirs (sym kept) held.1) one
       (hands_on (or_infix infix_) at i.left.tokens j.left.tokens k
       (λ y is e. absurd (other is)) (λ y is e. e) (λ y need is e. e) e)
-  some_did p q at i answer t j here (inr (inr (m, r, inl (o, r2, e)))) =
-      let one = p.did at i (Err backtrack) t.0 m here r in
-      let two = q.did at (back_at i.left m) (Ok o) t.1 j (back_here one here) r2 in record {
-        kept = pair_is one.kept two.kept;
+  some_did p q at s held i answer t j here (inr (inr (m, r, inl (o, r2, e)))) =
+      let one = p.did at s.0 held.0 i (Err backtrack) t.0 m here r in
+      let two = q.did at s.1 held.1 (back_at i.left m) (Ok o) t.1 j (back_here one here) r2
+      in record {
+        kept = (one.kept, two.kept);
         status = two.status ∙ one.status;
         possible = two.possible;
         done = (_, one.done, (_, two.done, gave j.left.tokens e));
       }
-  some_did p q at i answer t j here (inr (inr (m, r, inr (inl (k, r2, other, e))))) =
-      let one = p.did at i (Err backtrack) t.0 m here r in
-      let two = q.did at (back_at i.left m) (Err k) t.1 j (back_here one here) r2 in record {
-        kept = pair_is one.kept two.kept;
+  some_did p q at s held i answer t j here (inr (inr (m, r, inr (inl (k, r2, other, e))))) =
+      let one = p.did at s.0 held.0 i (Err backtrack) t.0 m here r in
+      let two = q.did at s.1 held.1 (back_at i.left m) (Err k) t.1 j (back_here one here) r2
+      in record {
+        kept = (one.kept, two.kept);
         status = two.status ∙ one.status;
         possible = two.possible;
         done = (
@@ -224,28 +239,33 @@ module _ {S W T G H : Type 0} {postfix : Does T (Postfix G)} {infix_ : Does T (I
           ),
         );
       }
-  some_did p q at i answer t j here (inr (inr (m, r, inr (inr (n, r2, same, e))))) =
-      let one = p.did at i (Err backtrack) t.0 m here r in
-      let two = q.did at (back_at i.left m) (Err backtrack) t.1 n (back_here one here) r2 in
+  some_did p q at s held i answer t j here (inr (inr (m, r, inr (inr (n, r2, same, e))))) =
+      let one = p.did at s.0 held.0 i (Err backtrack) t.0 m here r in
+      let two = q.did at s.1 held.1 (back_at i.left m) (Err backtrack) t.1 n (back_here one here) r2
+      in
       let P : Input T → Type 0 =
-      λ x. Did (Then postfix (or_infix infix_)) at s i answer t x in
+      λ x. Did (Then postfix (or_infix infix_)) at (Both mine theirs) i answer t x in
       subst P (sym same) (record {
-        kept = pair_is one.kept two.kept;
+        kept = (one.kept, two.kept);
         status = two.status ∙ one.status;
         possible = refl;
         done = (_, one.done, (_, two.done, gave i.left.tokens e));
       })
 
-  next_did : (units : List T → ℕ) → EachDoes postfix s.0 m1 → EachDoes infix_ s.1 m2
-      → (at : Setting) (i : Input T) (answer : Answer (Next G H)) (t : S × W) (j : Input T)
-      → IsAt at i → NextRuns units (m1 at.form) (m2 at.form) s i answer t j
-      → Did (OneCase (NothingLeft units) (SomeLeft units postfix infix_)) at s i answer t j
-  next_did units p q at i answer t j here (inl (none, e, kept, same)) =
-      let P : S × W → Type 0 = λ u.
-      Did (OneCase (NothingLeft units) (SomeLeft units postfix infix_)) at s i answer u j in
-      subst P (sym kept) (here_did same (inl (none, gave i.left.tokens e)))
-  next_did units p q at i answer t j here (inr (some, r)) =
-      let did = some_did p q at i answer t j here r in record {
+  next_did : (units : List T → ℕ) → EachDoes postfix mine m1 → EachDoes infix_ theirs m2
+      → (at : Setting) (s : S × W) → Both mine theirs s → (i : Input T)
+      (answer : Answer (Next G H)) (t : S × W) (j : Input T) → IsAt at i
+      → NextRuns units (m1 at.form) (m2 at.form) s i answer t j
+      → Did (OneCase (NothingLeft units) (SomeLeft units postfix infix_)) at
+      (Both mine theirs) i answer t j
+  next_did units p q at s held i answer t j here (inl (none, e, kept, same)) = record {
+    kept = subst (Both mine theirs) (sym kept) held;
+    status = ap (λ z. z.status) same;
+    possible = ap (λ z. z.left.possible) same;
+    done = inl (none, gave j.left.tokens e ∙ ap (λ z. took Nothing z.left.tokens) same);
+  }
+  next_did units p q at s held i answer t j here (inr (some, r)) =
+      let did = some_did p q at s held i answer t j here r in record {
         kept = did.kept;
         status = did.status;
         possible = did.possible;
@@ -294,10 +314,14 @@ next_law {T} {G} {H} units {alike = alike} {also} {postfix} {infix_} p q =
     }) (λ at tokens x y (none, e) (some, a). absurd (omega (arith, none, some)))
 
 pub next_said : {S W T G H : Type 0} (units : List T → ℕ) {postfix : Says T (Postfix G)}
-    {infix_ : Says T (Infix H)} {s : S × W} {m1 : Meaning S T (Postfix G)}
-    {m2 : Meaning W T (Infix H)} → Said postfix s.0 m1 → Said infix_ s.1 m2
-    → Said (next_says units postfix infix_) s (λ form. NextRuns units (m1 form) (m2 form))
+    {infix_ : Says T (Infix H)} {mine : S → Type 0} {theirs : W → Type 0} {s : S × W}
+    {m1 : Meaning S T (Postfix G)} {m2 : Meaning W T (Infix H)}
+    → SaidAmong mine postfix s.0 m1 → SaidAmong theirs infix_ s.1 m2
+    → SaidAmong (Both mine theirs) (next_says units postfix infix_) s
+    (λ form. NextRuns units (m1 form) (m2 form))
 next_said units p q = record {
+  held = (p.held, q.held);
+  kept = λ is t held. pair_is (p.kept is.0 t.0 held.0) (q.kept is.1 t.1 held.1);
   runs = λ is. record { did = next_did units (p.runs is.0) (q.runs is.1) };
   law = λ is. next_law units (p.law is.0) (q.law is.1);
 }

@@ -1,6 +1,7 @@
 //! Operators, as their parsers answer them.
 ghost use Rattle.std.specs.Prelude.{◌≡◌, ◌+ℤ◌, pos, MatchOption};
 ghost use Rattle.winnow_core.specs.Runs.{Keeps};
+ghost use Rattle.winnow_core.specs.Says.{Is};
 ghost use Rattle.winnow_core.specs.Stable.Grows.{leaf_stays};
 ghost use Rattle.winnow_expression.specs.Calls.{asked};
 ghost use Rattle.winnow_expression.specs.Operators.{IsInfixClone, IsPostfixClone, IsPrefixClone};
@@ -122,6 +123,8 @@ impl<I: Stream, F: Clone, E: ParserError<I>> Parser<I, Prefix<F>, E> for Prefix<
 
     ghost state = { λ s. s };
 
+    ghost states = { Is };
+
     ghost meaning = { λ _. Keeps
         (OperatorRuns (IsPrefixClone F.is_clone) (λ s. F.is_infallible s.1)) };
 
@@ -151,6 +154,8 @@ impl<I: Stream, F: Clone, E: ParserError<I>> Parser<I, Postfix<F>, E> for Postfi
 
     ghost state = { λ s. s };
 
+    ghost states = { Is };
+
     ghost meaning = { λ _. Keeps
         (OperatorRuns (IsPostfixClone F.is_clone) (λ s. F.is_infallible s.1)) };
 
@@ -179,6 +184,8 @@ impl<I: Stream, F: Clone, E: ParserError<I>> Parser<I, Infix<F>, E> for Infix<F>
     ghost State = { Self };
 
     ghost state = { λ s. s };
+
+    ghost states = { Is };
 
     ghost meaning = { λ _. Keeps
         (OperatorRuns (IsInfixClone F.is_clone) (λ s. F.is_infallible (fold_of s))) };

@@ -3,6 +3,7 @@ ghost use Rattle.winnow_expression.specs.Places.{FirstRuns, NextRuns};
 ghost use Rattle.winnow_expression.specs.Places.Laws.{first_ends, next_ends};
 ghost use Rattle.winnow_expression.specs.Places.Says.{first_said, first_says, next_said, next_says};
 ghost use Rattle.winnow_core.specs.Claim.{no_claim, nothing_claimed};
+ghost use Rattle.winnow_core.specs.Says.{Both};
 
 use crate::combinator::operators::{Infix, Postfix, Prefix};
 use stream_errors::parser_error::ParserError;
@@ -49,6 +50,8 @@ impl<I: Stream, O, E: ParserError<I>, F, P: Parser<I, O, E>, R: Parser<I, Prefix
 
     ghost state = { λ s. (P.state s.operand, R.state s.prefix) };
 
+    ghost states = { λ s. Both (P.states s.0) (R.states s.1) };
+
     ghost meaning = { λ form. FirstRuns (P.meaning form) (R.meaning form) };
 
     ghost says = { λ s. first_says (P.says s.0) (R.says s.1) };
@@ -92,6 +95,8 @@ impl<
     ghost State = { P.State × R.State };
 
     ghost state = { λ s. (P.state s.postfix, R.state s.«infix») };
+
+    ghost states = { λ s. Both (P.states s.0) (R.states s.1) };
 
     ghost meaning = { λ form. NextRuns I.reading.units (P.meaning form) (R.meaning form) };
 

@@ -16,8 +16,8 @@ use winnow_core::parser::Parser;
 /// The stream of bytes.
 type Bytes = &'static [u8];
 
-/// States that a parser with specified outcomes meets the requirements of the laws of trees, up to
-/// equivalent outputs.
+/// States that a parser with specified outcomes whose calls keep the state, as all parsers' but
+/// `fill`'s do, meets the requirements of the laws of trees, up to equivalent outputs.
 ///
 /// ```
 /// use winnow_expression_trees::laws::parts::deterministic_parts_are_stateless;
@@ -26,7 +26,7 @@ type Bytes = &'static [u8];
 /// deterministic_parts_are_stateless::<Digit1, &[u8], &[u8], EmptyError>();
 /// ```
 pub fn deterministic_parts_are_stateless<P: Parser<I, O, E>, I: Stream, O, E: ParserError<I>>()
-    ensures { (s : P.State) → (P.says s).premise
+    ensures { (s : P.State) → (P.says s).premise → (P.says s).keeps
         → IsStateless (P.says s).alike (P.meaning E.form) s }
 {}
 

@@ -10,7 +10,7 @@ use Rattle.grammars.specs.Grammar.Lengths.{same_beginnings}
 use Rattle.winnow_core.specs.Outcome.{Alike, Does, IsFinal, Outcome, Setting, as_longer, asks, both}
 use Rattle.winnow_core.specs.Outcome.{final_by, gave, grown, lacks, longer, on_cut, took}
 use Rattle.winnow_core.specs.Runs.{Keeps}
-use Rattle.winnow_core.specs.Says.{Did, IsAt, Said, Says}
+use Rattle.winnow_core.specs.Says.{Did, Is, IsAt, Said, Says}
 use Rattle.winnow_core.specs.Says.Lacks.{lacks_alike, lacks_whole, short_outcome}
 use Rattle.winnow_core.specs.Says.Leaf.{here_did, leaf_said, passes_did}
 use Rattle.winnow_integers.specs.Integer.{AreBytes, IntegerRuns}
@@ -27,6 +27,7 @@ module _ {O : Type 0} (width : ℕ) (value : List ℕ → O) where
   integer_says = record {
     premise = ⊤;
     stable = ⊤;
+    keeps = ⊤;
     does = IntegerDoes;
     alike = λ o p. o ≡ p;
   }
@@ -77,7 +78,7 @@ integer_said {O = O} width value reading x =
   where
     did : (at : Setting) (i : Input ℕ) (answer : Answer O) (j : Input ℕ) → IsAt at i
         → IntegerRuns width (value x) reading at.form i answer j
-        → Did (IntegerDoes width (value x)) at x i answer x j
+        → Did (IntegerDoes width (value x)) at (Is x) i answer x j
     did at i answer j is (inl (bytes, many, are, passes, e)) = passes_did passes
         (inl (bytes, j.left.tokens, passes.tokens, many, are, gave j.left.tokens e))
     did at i answer j is (inr (k, few, short, e, same)) = here_did same

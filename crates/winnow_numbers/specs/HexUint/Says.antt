@@ -48,6 +48,7 @@ abbrev pub hex_uint_says : {N K T : Type 0} → (N → ℕ) → ℕ → (K → T
 hex_uint_says number most seen code = record {
   premise = ⊤;
   stable = ⊤;
+  keeps = ⊤;
   does = OneCase (TakesWhere (IsHexadecimal number most seen code))
       (OneCase (LacksWhere (λ tokens. Some 1) (AreDigitsSoFar most seen code))
       (FailsWhere (HasNoneOrMany most seen code)));

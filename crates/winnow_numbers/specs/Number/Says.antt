@@ -35,6 +35,7 @@ abbrev pub number_says : {N V K T : Type 0} → Numbers N V → (K → T) → (K
 number_says g seen code = record {
   premise = ⊤;
   stable = ⊤;
+  keeps = ⊤;
   does = OneCase (TakesWhere (IsNumber g seen code))
       (OneCase (FailsWhere (IsMisfit g seen code)) (NoNumeralDoes seen code g.signed));
   alike = OneNumber g.number;

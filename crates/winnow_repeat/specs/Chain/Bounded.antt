@@ -110,9 +110,9 @@ module _ {T O C U : Type 0} (into : Accumulator C O) (bounds : Bounds) (inner : 
   }
 
   -- runs do so: the two that never come to the first, and what follows
-  pub bounded_did : {S : Type 0} {s t : S} {at : Setting} {i j : Input T} {answer : Answer U}
-      (ran : C → Type 0)
-      → ((empty : C) → ran empty → Did (inner empty) at s i answer t j)
+  pub bounded_did : {S : Type 0} {mine : S → Type 0} {s t : S} {at : Setting} {i j : Input T}
+      {answer : Answer U} (ran : C → Type 0) → mine s
+      → ((empty : C) → ran empty → Did (inner empty) at mine i answer t j)
       → ((most : ℕ) × (bounds.greatest ≡ Some most) × (most < bounds.least)
       × (answer ≡ Err (assert_kind at.form)) × (t ≡ s) × (j ≡ i))
       ⊎ ((IsWithin bounds.greatest bounds.least
@@ -120,11 +120,11 @@ module _ {T O C U : Type 0} (into : Accumulator C O) (bounds : Bounds) (inner : 
       × (answer ≡ Err memory) × (t ≡ s) × (j ≡ i))
       ⊎ ((empty : C) × IsWithin bounds.greatest bounds.least
       × into.starts (capacity_of bounds.least bounds.greatest) empty × ran empty))
-      → Did (Bounded into bounds inner) at s i answer t j
-  bounded_did {at = at} {i = i} ran did (inl (most, full, less, e, kept, same)) =
-      with_state kept (here_did same
+      → Did (Bounded into bounds inner) at mine i answer t j
+  bounded_did {at = at} {i = i} ran held did (inl (most, full, less, e, kept, same)) =
+      with_state held kept (here_did same
       (inl (most, full, less, misused_outcome at i.left.tokens e)))
-  bounded_did {i = i} ran did (inr (inl (within, grows, e, kept, same))) =
-      with_state kept (here_did same (inr (inl (within, grows, gave i.left.tokens e))))
-  bounded_did ran did (inr (inr (empty, within, starts, r))) =
+  bounded_did {i = i} ran held did (inr (inl (within, grows, e, kept, same))) =
+      with_state held kept (here_did same (inr (inl (within, grows, gave i.left.tokens e))))
+  bounded_did ran held did (inr (inr (empty, within, starts, r))) =
       did_wider (λ y d. inr (inr (empty, within, starts, d))) (did empty r)

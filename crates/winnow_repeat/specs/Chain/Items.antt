@@ -12,7 +12,7 @@ use Rattle.winnow_core.specs.Outcome.{Outcome, took, backs, cuts, asks, wants, S
 use Rattle.winnow_core.specs.Outcome.{Alike, IsFinal, as_longer, both, gave, longer, misused}
 use Rattle.winnow_core.specs.Outcome.{on_cut}
 use Rattle.winnow_core.specs.Runs.{Meaning}
-use Rattle.winnow_core.specs.Says.{Did, EachDoes, IsAt, Lawful}
+use Rattle.winnow_core.specs.Says.{Did, EachDoes, Is, IsAt, Lawful, did_as}
 use Rattle.winnow_core.specs.Says.Lacks.{misused_alike, misused_outcome, misused_whole}
 use Rattle.winnow_core.specs.Says.Leaf.{here_did}
 use Rattle.winnow_core.specs.Then.{Comes, Holds, Meets, ComesOf, Next, NextHolds, NextMeets, Then}
@@ -230,59 +230,59 @@ module _ {T O C : Type 0} {stable : Type 0} {alike : O → O → Type 0} {does :
 
 -- ---- runs do so
 
--- the state is kept
-pub with_state : {S T U : Type 0} {does : Does T U} {at : Setting} {s t : S} {i j : Input T}
-    {answer : Answer U} → t ≡ s → Did does at s i answer s j → Did does at s i answer t j
-with_state {does = does} {at} {s} {i = i} {j} {answer} kept did =
-    let P : _ → Type 0 = λ x. Did does at s i answer x j in subst P (sym kept) did
+-- what was done by a call that left the state as it was
+pub with_state : {S T U : Type 0} {does : Does T U} {at : Setting} {mine : S → Type 0} {s t : S}
+    {i j : Input T} {answer : Answer U} → mine s → t ≡ s → Did does at (Is s) i answer s j
+    → Did does at mine i answer t j
+with_state {mine = mine} held kept did = did_as (subst mine (sym kept) held) did
 
-module _ {S T O C : Type 0} {does : Does T O} {s : S} {meaning : Meaning S T O}
-    (part : EachDoes does s meaning) (into : Accumulator C O) (at : Setting) where
+module _ {S T O C : Type 0} {does : Does T O} {mine : S → Type 0} {meaning : Meaning S T O}
+    (part : EachDoes does mine meaning) (into : Accumulator C O) (at : Setting) where
   module _ (bounds : Bounds) (before : C) where
-    pub ends_did : (outputs : List O) (m : Input T) (answer : Answer C) (t : S) (j : Input T)
-        → IsAt at m
+    pub ends_did : (outputs : List O) (s : S) → mine s → (m : Input T) (answer : Answer C) (t : S)
+        (j : Input T) → IsAt at m
         → RepeatEnds (meaning at.form) into (assert_kind at.form) bounds before outputs s m answer
         t j
         → Did (Ends bounds.greatest (Gives into before)
-        (λ os. Then does (last_item into bounds.least before os)) outputs) at s m answer t j
-    ends_did outputs m answer t j is (inl (all, full, taken, e, kept, same)) =
-        with_state kept (here_did same (inl (full, (all, taken, gave m.left.tokens e))))
-    ends_did outputs m answer t j is (inr (inl (all, x, below, enough, r, taken, e, same))) =
+        (λ os. Then does (last_item into bounds.least before os)) outputs) at mine m answer t j
+    ends_did outputs s held m answer t j is (inl (all, full, taken, e, kept, same)) =
+        with_state held kept (here_did same (inl (full, (all, taken, gave m.left.tokens e))))
+    ends_did outputs s held m answer t j is
+        (inr (inl (all, x, below, enough, r, taken, e, same))) =
         did_wider (λ y d. inr (below, d))
         (back_then {next = last_item into bounds.least before outputs}
-        (part.did at m (Err backtrack) t x is r) same
+        (part.did at s held m (Err backtrack) t x is r) same
         (inl (enough, (all, taken, gave m.left.tokens e))))
-    ends_did outputs m answer t j is (inr (inr (inl (k, some, below, r, few, taken, e)))) =
+    ends_did outputs s held m answer t j is
+        (inr (inr (inl (k, some, below, r, few, taken, e)))) =
         did_wider (λ y d. inr (below, d))
         (did_then {next = last_item into bounds.least before outputs}
-        (part.did at m (Err k) t j is r)
+        (part.did at s held m (Err k) t j is r)
         (hands_on (last_item into bounds.least before outputs) at m.left.tokens j.left.tokens k
         (λ y is e. inr (few is, e)) (λ y is e. e) (λ y need is e. e) e))
-    ends_did outputs m answer t j is
+    ends_did outputs s held m answer t j is
         (inr (inr (inr (inl (o, some, below, r, nothing, taken, e))))) =
         let as_many = ap length nothing in
         did_wider (λ y d. inr (below, d))
         (did_then {next = last_item into bounds.least before outputs}
-        (part.did at m (Ok o) t j is r)
+        (part.did at s held m (Ok o) t j is r)
         (inl (
           λ less. absurd (omega (arith, as_many, less)),
           misused_outcome at j.left.tokens e,
         )))
-    ends_did outputs m answer t j is
+    ends_did outputs s held m answer t j is
         (inr (inr (inr (inr (o, some, below, r, less, taken, grows, e))))) =
         did_wider (λ y d. inr (below, d))
         (did_then {next = last_item into bounds.least before outputs}
-        (part.did at m (Ok o) t j is r)
+        (part.did at s held m (Ok o) t j is r)
         (inr (less, (some, taken, grows), gave j.left.tokens e)))
 
-    pub items_run_did : (i : Input T) (answer : Answer C) (t : S) (j : Input T) → IsAt at i
+    pub items_run_did : (s : S) → mine s → (i : Input T) (answer : Answer C) (t : S) (j : Input T)
+        → IsAt at i
         → ItemsRun (meaning at.form) into (assert_kind at.form) bounds before s i answer t j
-        → Did (ItemsDo does into bounds before) at s i answer t j
-    items_run_did i answer t j is (outputs, u, m, chain, ends) =
-        let did = items_did (meaning at.form) at
-        (λ i answer t j is r. part.did at i answer t j is r)
-        outputs i u m is chain.runs in
-        let P : S → Type 0 = λ x. RepeatEnds (meaning at.form) into (assert_kind at.form) bounds
-        before outputs x m answer t j in
+        → Did (ItemsDo does into bounds before) at mine i answer t j
+    items_run_did s held i answer t j is (outputs, u, m, chain, ends) =
+        let did = items_did (meaning at.form) at (part.did at) outputs s held i u m is
+        chain.runs in
         chained_did outputs did
-        (ends_did outputs m answer t j (chain_at did is) (subst P did.kept ends))
+        (ends_did outputs u did.kept m answer t j (chain_at did is) ends)

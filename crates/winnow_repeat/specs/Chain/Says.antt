@@ -255,41 +255,41 @@ chained_whole step greatest full last fulls lasts at tokens need place is
 
 -- ---- what chains of runs do
 
--- Consecutive calls keep the state, and change nothing of the input except the remaining tokens.
-pub record ChainDid {S T O : Type 0} (step : Step T O) (at : Setting) (s : S) (i : Input T)
-    (outputs : List O) (t : S) (j : Input T) : Type 0 where
-  pub kept : t ≡ s
+-- Consecutive calls end in one of these states, and change nothing of the input except the
+-- remaining tokens.
+pub record ChainDid {S T O : Type 0} (step : Step T O) (at : Setting) (states : S → Type 0)
+    (i : Input T) (outputs : List O) (t : S) (j : Input T) : Type 0 where
+  pub kept : states t
   pub status : j.status ≡ i.status
   pub possible : j.left.possible ≡ i.left.possible
   pub steps : FoldsTo (λ a o b. step at a o b) i.left.tokens outputs j.left.tokens
 
 -- what follows is run as the chain was
-pub chain_at : {S T O : Type 0} {step : Step T O} {at : Setting} {s t : S} {i j : Input T}
-    {outputs : List O} → ChainDid step at s i outputs t j → IsAt at i → IsAt at j
+pub chain_at : {S T O : Type 0} {step : Step T O} {at : Setting} {mine : S → Type 0} {t : S}
+    {i j : Input T} {outputs : List O} → ChainDid step at mine i outputs t j → IsAt at i → IsAt at j
 chain_at did is = record {
   more = ap (λ z. z.cut) did.status ∙ is.more;
   possible = did.possible ∙ is.possible;
 }
 
 -- consecutive calls that are steps
-pub steps_did : {S T O : Type 0} (step : Step T O) (ran : S × Input T → O → S × Input T → Type 0)
-    (at : Setting) (s : S)
-    → ((i : Input T) (o : O) (p : S × Input T) → IsAt at i → ran (s, i) o p
-    → (p.0 ≡ s) × (p.1.status ≡ i.status) × (p.1.left.possible ≡ i.left.possible)
+pub steps_did : {S T O : Type 0} {mine : S → Type 0} (step : Step T O)
+    (ran : S × Input T → O → S × Input T → Type 0) (at : Setting)
+    → ((s : S) → mine s → (i : Input T) (o : O) (p : S × Input T) → IsAt at i → ran (s, i) o p
+    → mine p.0 × (p.1.status ≡ i.status) × (p.1.left.possible ≡ i.left.possible)
     × step at i.left.tokens o p.1.left.tokens)
-    → (outputs : List O) (i : Input T) (u : S) (m : Input T) → IsAt at i
-    → FoldsTo (λ p o q. ran p o q) (s, i) outputs (u, m) → ChainDid step at s i outputs u m
-steps_did step ran at s each [] i u m is e =
-    let P : _ → Type 0 = λ p. ChainDid step at s i [] p.0 p.1 in
-    subst P e (record { kept = refl; status = refl; possible = refl; steps = refl })
-steps_did step ran at s each (o ∷ os) i u m is (p, r, rest) =
-    let (kept, status, possible, done) = each i o p is r in
-    let P : _ → Type 0 = λ x. FoldsTo (λ a b q. ran a b q) (x, p.1) os (u, m) in
+    → (outputs : List O) (s : S) → mine s → (i : Input T) (u : S) (m : Input T) → IsAt at i
+    → FoldsTo (λ p o q. ran p o q) (s, i) outputs (u, m) → ChainDid step at mine i outputs u m
+steps_did {mine = mine} step ran at each [] s held i u m is e =
+    let P : _ → Type 0 = λ p. ChainDid step at mine i [] p.0 p.1 in
+    subst P e (record { kept = held; status = refl; possible = refl; steps = refl })
+steps_did step ran at each (o ∷ os) s held i u m is (p, r, rest) =
+    let (kept, status, possible, done) = each s held i o p is r in
     let here : IsAt at p.1 = record {
       more = ap (λ z. z.cut) status ∙ is.more;
       possible = possible ∙ is.possible;
     } in
-    let then = steps_did step ran at s each os p.1 u m here (subst P kept rest) in
+    let then = steps_did step ran at each os p.0 kept p.1 u m here rest in
     record {
       kept = then.kept;
       status = then.status ∙ status;
@@ -297,27 +297,29 @@ steps_did step ran at s each (o ∷ os) i u m is (p, r, rest) =
       steps = (p.1.left.tokens, done, then.steps);
     }
 
--- The outcomes of calls of a child, in this setting.
-abbrev pub RunsDo : {S T O : Type 0} → Does T O → Runs S T O → Setting → S → Type 0
-RunsDo {S} {T} {O} does run at s =
-    (i : Input T) (answer : Answer O) (t : S) (j : Input T) → IsAt at i → run s i answer t j
-    → Did does at s i answer t j
+-- The outcomes of calls of a child from one of these states, in this setting.
+abbrev pub RunsDo : {S T O : Type 0} → Does T O → Runs S T O → Setting → (S → Type 0) → Type 0
+RunsDo {S} {T} {O} does run at mine =
+    (s : S) → mine s → (i : Input T) (answer : Answer O) (t : S) (j : Input T) → IsAt at i
+    → run s i answer t j → Did does at mine i answer t j
 
-pub items_did : {S T O : Type 0} {does : Does T O} {s : S} (run : Runs S T O) (at : Setting)
-    → RunsDo does run at s → (outputs : List O) (i : Input T) (u : S) (m : Input T) → IsAt at i
+pub items_did : {S T O : Type 0} {does : Does T O} {mine : S → Type 0} (run : Runs S T O)
+    (at : Setting) → RunsDo does run at mine → (outputs : List O) (s : S) → mine s
+    → (i : Input T) (u : S) (m : Input T) → IsAt at i
     → FoldsTo (λ p o q. IsItem run p o q) (s, i) outputs (u, m)
-    → ChainDid (ItemOf does) at s i outputs u m
-items_did {does = does} {s} run at part =
-    steps_did (ItemOf does) (λ p o q. IsItem run p o q) at s (λ i o p is (r, less).
-    let did = part i (Ok o) p.0 p.1 is r in
+    → ChainDid (ItemOf does) at mine i outputs u m
+items_did {does = does} run at part =
+    steps_did (ItemOf does) (λ p o q. IsItem run p o q) at (λ s held i o p is (r, less).
+    let did = part s held i (Ok o) p.0 p.1 is r in
     (did.kept, did.status, did.possible, (did.done, less)))
 
 -- a chain, and what ended it
 pub chained_did : {R S T O U : Type 0} {step : Step T O} {greatest : Option ℕ}
-    {full last : List O → Does T U} {at : Setting} {r u : R} {s t : S} {i m j : Input T}
-    {answer : Answer U} (outputs : List O) → ChainDid step at r i outputs u m
-    → Did (Ends greatest full last outputs) at s m answer t j
-    → Did (Chained step greatest full last) at s i answer t j
+    {full last : List O → Does T U} {at : Setting} {mine : R → Type 0} {theirs : S → Type 0}
+    {u : R} {t : S} {i m j : Input T} {answer : Answer U} (outputs : List O)
+    → ChainDid step at mine i outputs u m
+    → Did (Ends greatest full last outputs) at theirs m answer t j
+    → Did (Chained step greatest full last) at theirs i answer t j
 chained_did outputs chain did = record {
   kept = did.kept;
   status = did.status ∙ chain.status;
@@ -326,23 +328,12 @@ chained_did outputs chain did = record {
 }
 
 -- what did a thing did one that has it as a case
-pub did_wider : {S T U : Type 0} {does also : Does T U} {at : Setting} {s t : S}
+pub did_wider : {S T U : Type 0} {does also : Does T U} {at : Setting} {mine : S → Type 0} {t : S}
     {i j : Input T} {answer : Answer U} (wider : (y : Outcome T U) → does at i.left.tokens y
-    → also at i.left.tokens y) → Did does at s i answer t j → Did also at s i answer t j
+    → also at i.left.tokens y) → Did does at mine i answer t j → Did also at mine i answer t j
 did_wider wider did = record {
   kept = did.kept;
   status = did.status;
   possible = did.possible;
   done = wider _ did.done;
-}
-
--- what a thing did in a whole that has other parts of its state too
-pub did_beside : {P S T U : Type 0} {does : Does T U} {at : Setting} {s t : S} {i j : Input T}
-    {answer : Answer U} (p q : P) → q ≡ p → Did does at s i answer t j
-    → Did does at p i answer q j
-did_beside p q kept did = record {
-  kept = kept;
-  status = did.status;
-  possible = did.possible;
-  done = did.done;
 }

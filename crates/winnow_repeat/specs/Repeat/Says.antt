@@ -1,6 +1,6 @@
 -- The specification of repetitions.
 use Rattle.std.specs.Prelude.{◌≡◌, ◌⊎◌, ℕ, Bool, List, ◌∷◌, ◌++◌, Option, None, false, Ok, Err}
-use Rattle.std.proofs.Common.{refl, subst, inl, inr, ◌∙◌}
+use Rattle.std.proofs.Common.{refl, inl, inr, ◌∙◌}
 use Rattle.streams.specs.Input.{Input}
 use Rattle.stream_errors.specs.Form.{Answer, assert_kind}
 use Rattle.stream_sets.specs.Accumulator.{Accumulator}
@@ -10,15 +10,15 @@ use Rattle.stream_sets.specs.declared.range.Range.{Range}
 use Rattle.winnow_core.specs.Outcome.{Outcome, asks, wants, Setting, grown, Does, Alike, IsFinal}
 use Rattle.winnow_core.specs.Outcome.{alike_wants, both, final_by, gave, longer, on_cut}
 use Rattle.winnow_core.specs.Runs.{Meaning}
-use Rattle.winnow_core.specs.Says.{Did, EachDoes, IsAt, Lawful, Said, Says, still_at}
-use Rattle.winnow_core.specs.States.{pair_is}
+use Rattle.winnow_core.specs.Says.{Did, EachDoes, IsAt, Lawful, SaidAmong, Says, With, did_as}
+use Rattle.winnow_core.specs.Says.{said_of, said_with, still_at}
 use Rattle.winnow_core.specs.Then.{Then, did_then, then_law}
 use Rattle.winnow_core.specs.Then.Steps.{fails_on, holds_where, meets_where, where_took}
 use Rattle.winnow_repeat.specs.Chain.Bounded.{Bounded, HeldAlike, bounded_did, bounded_law}
 use Rattle.winnow_repeat.specs.Chain.Bounded.{held_alike}
 use Rattle.winnow_repeat.specs.Chain.Items.{ItemsDo, items_meet, items_run_did, items_stay}
 use Rattle.winnow_repeat.specs.Chain.Items.{items_whole}
-use Rattle.winnow_repeat.specs.Chain.Says.{Meet, Stay, Whole, did_beside, did_wider}
+use Rattle.winnow_repeat.specs.Chain.Says.{Meet, Stay, Whole, did_wider}
 use Rattle.winnow_repeat.specs.Repeat.{ItemsRun, RangedRuns, RepeatManyRuns, RepeatOneRuns}
 use Rattle.winnow_repeat.specs.Repeat.{RepeatRuns, capacity_of}
 
@@ -52,6 +52,7 @@ abbrev pub repeat_says : {T O C : Type 0} → Accumulator C O → (C → List O 
 repeat_says into holds bounds p = record {
   premise = p.premise;
   stable = p.stable;
+  keeps = p.keeps;
   does = RepeatDo p.does into bounds;
   alike = HeldAlike holds p.alike;
 }
@@ -62,6 +63,7 @@ abbrev pub repeat_many_says : {T O C : Type 0} → Accumulator C O → (C → Li
 repeat_many_says into holds bounds p = record {
   premise = p.premise;
   stable = p.stable;
+  keeps = p.keeps;
   does = RepeatManyDo p.does into bounds;
   alike = HeldAlike holds p.alike;
 }
@@ -159,71 +161,68 @@ module _ {T O C : Type 0} {stable : Type 0} {alike : O → O → Type 0} {does :
 
 -- ---- runs do so
 
-module _ {S T O C : Type 0} {does : Does T O} {s : S} {meaning : Meaning S T O}
-    (part : EachDoes does s meaning) (into : Accumulator C O) (at : Setting) where
-  one_did : (i : Input T) (answer : Answer C) (t : S) (j : Input T) → IsAt at i
+module _ {S T O C : Type 0} {does : Does T O} {mine : S → Type 0} {meaning : Meaning S T O}
+    (part : EachDoes does mine meaning) (into : Accumulator C O) (at : Setting) where
+  one_did : (s : S) → mine s → (i : Input T) (answer : Answer C) (t : S) (j : Input T) → IsAt at i
       → RepeatOneRuns (meaning at.form) into (assert_kind at.form) s i answer t j
-      → Did (RepeatOneDo does into) at s i answer t j
-  one_did i answer t j is (inl (k, r, e)) =
-      did_then (part.did at i (Err k) t j is r)
+      → Did (RepeatOneDo does into) at mine i answer t j
+  one_did s held i answer t j is (inl (k, r, e)) =
+      did_then (part.did at s held i (Err k) t j is r)
       (fails_on (λ o at tokens rest y. FirstItem does into o rest at tokens y) at i.left.tokens
       j.left.tokens k e)
-  one_did i answer t j is (inr (inl (o, v, n, empty, one, r, starts, kept1, items))) =
-      let did = part.did at i (Ok o) v n is r in
-      let P : S → Type 0 = λ x. ItemsRun (meaning at.form) into (assert_kind at.form)
-      (from_to 0 None) one x n answer t j in
-      let then = items_run_did part into at (from_to 0 None) one n answer t j (still_at did is)
-      (subst P did.kept items) in
+  one_did s held i answer t j is (inr (inl (o, v, n, empty, one, r, starts, kept1, items))) =
+      let did = part.did at s held i (Ok o) v n is r in
+      let then = items_run_did part into at (from_to 0 None) one v did.kept n answer t j
+      (still_at did is) items in
       record {
         kept = then.kept;
         status = then.status ∙ did.status;
         possible = then.possible ∙ did.possible;
         done = (_, did.done, inl (empty, one, starts, kept1, then.done));
       }
-  one_did i answer t j is (inr (inr (o, r, grows, e))) =
+  one_did s held i answer t j is (inr (inr (o, r, grows, e))) =
       did_then {next = where_took (λ o at tokens rest y. FirstItem does into o rest at tokens y)}
-      (part.did at i (Ok o) t j is r) (inr (grows, gave j.left.tokens e))
+      (part.did at s held i (Ok o) t j is r) (inr (grows, gave j.left.tokens e))
 
-  pub many_did : (bounds : Bounds) (i : Input T) (answer : Answer C) (t : S) (j : Input T)
-      → IsAt at i
+  pub many_did : (bounds : Bounds) (s : S) → mine s → (i : Input T) (answer : Answer C) (t : S)
+      (j : Input T) → IsAt at i
       → RepeatManyRuns (meaning at.form) into (assert_kind at.form) bounds s i answer t j
-      → Did (RepeatManyDo does into bounds) at s i answer t j
-  many_did bounds i answer t j is r =
+      → Did (RepeatManyDo does into bounds) at mine i answer t j
+  many_did bounds s held i answer t j is r =
       bounded_did into bounds (ItemsDo does into bounds)
       (λ empty. ItemsRun (meaning at.form) into (assert_kind at.form) bounds empty s i answer t j)
-      (λ empty items. items_run_did part into at bounds empty i answer t j is items) r
+      held
+      (λ empty items. items_run_did part into at bounds empty s held i answer t j is items) r
 
-  repeat_did : (bounds : Bounds) (i : Input T) (answer : Answer C) (t : S) (j : Input T)
-      → IsAt at i
+  repeat_did : (bounds : Bounds) (s : S) → mine s → (i : Input T) (answer : Answer C) (t : S)
+      (j : Input T) → IsAt at i
       → RepeatRuns (meaning at.form) into (assert_kind at.form) bounds s i answer t j
-      → Did (RepeatDo does into bounds) at s i answer t j
-  repeat_did bounds i answer t j is (inl (least, most, r)) =
-      did_wider (λ y d. inl (least, most, d)) (one_did i answer t j is r)
-  repeat_did bounds i answer t j is (inr (other, r)) =
-      did_wider (λ y d. inr (other, d)) (many_did bounds i answer t j is r)
+      → Did (RepeatDo does into bounds) at mine i answer t j
+  repeat_did bounds s held i answer t j is (inl (least, most, r)) =
+      did_wider (λ y d. inl (least, most, d)) (one_did s held i answer t j is r)
+  repeat_did bounds s held i answer t j is (inr (other, r)) =
+      did_wider (λ y d. inr (other, d)) (many_did bounds s held i answer t j is r)
 
-pub repeat_said : {S T O C : Type 0} {says : Says T O} {meaning : Meaning S T O}
-    (into : Accumulator C O) (holds : C → List O → Type 0) → Holds into holds
-    → (s : S × Range) → Said says s.0 meaning
-    → Said (repeat_says into holds (bounds_of s.1) says) s
+pub repeat_said : {S T O C : Type 0} {mine : S → Type 0} {says : Says T O}
+    {meaning : Meaning S T O} (into : Accumulator C O) (holds : C → List O → Type 0)
+    → Holds into holds → (s : S × Range) → SaidAmong mine says s.0 meaning
+    → SaidAmong (With mine s.1) (repeat_says into holds (bounds_of s.1) says) s
     (λ form. RangedRuns (meaning form) into (assert_kind form))
-repeat_said into holds keeps s p = record {
-  runs = λ is. record {
-    did = λ at i answer t j here (r, kept).
-        let did = repeat_did (p.runs is) into at (bounds_of s.1) i answer t.0 j here r in
-        did_beside s t (pair_is did.kept kept) did;
-  };
-  law = λ is. repeat_law (p.law is) into holds keeps (bounds_of s.1);
-}
+repeat_said into holds keeps s p =
+    said_with (λ is. is)
+    (λ is at v held i answer t j here (r, same).
+    let did = repeat_did (p.runs is) into at (bounds_of s.1) v held i answer t.0 j here r in
+    did_as (did.kept, same) did)
+    (λ is. repeat_law (p.law is) into holds keeps (bounds_of s.1)) p
 
-pub repeat_many_said : {S T O C : Type 0} {says : Says T O} {s : S} {meaning : Meaning S T O}
-    (into : Accumulator C O) (holds : C → List O → Type 0) → Holds into holds
-    → (bounds : Bounds) → Said says s meaning
-    → Said (repeat_many_says into holds bounds says) s
+pub repeat_many_said : {S T O C : Type 0} {mine : S → Type 0} {says : Says T O} {s : S}
+    {meaning : Meaning S T O} (into : Accumulator C O) (holds : C → List O → Type 0)
+    → Holds into holds → (bounds : Bounds) → SaidAmong mine says s meaning
+    → SaidAmong mine (repeat_many_says into holds bounds says) s
     (λ form. RepeatManyRuns (meaning form) into (assert_kind form) bounds)
-repeat_many_said into holds keeps bounds p = record {
-  runs = λ is. record {
-    did = λ at i answer t j here r. many_did (p.runs is) into at bounds i answer t j here r;
-  };
-  law = λ is. many_law (p.law is) into holds keeps bounds;
-}
+repeat_many_said into holds keeps bounds p =
+    said_of (λ is. is) (λ is. record {
+      did = λ at s held i answer t j here r.
+          many_did (p.runs is) into at bounds s held i answer t j here r;
+    })
+    (λ is. many_law (p.law is) into holds keeps bounds) p

@@ -7,7 +7,7 @@ use Rattle.stream_errors.specs.Form.Inversion.{at_kind, at_output, ok_is_err}
 use Rattle.stream_errors.specs.Given.{Keeping, KindGiven}
 use Rattle.stream_sets.specs.declared.range.Range.{Range}
 use Rattle.winnow_core.specs.Runs.{Meaning}
-use Rattle.winnow_core.specs.Says.{Said, Says}
+use Rattle.winnow_core.specs.Says.{SaidAmong, Says, With}
 use Rattle.winnow_core.specs.States.{pair_is}
 use Rattle.winnow_core.specs.TryMap.Says.{one_given}
 use Rattle.winnow_repeat.specs.Fold.Tries.Says.{FoldsOne, tried_said, tried_says}
@@ -73,10 +73,11 @@ module _ {H R O X : Type 0} (step : H → R → O → Result R X → H → Type 
       };
     }
 
-pub try_fold_said : {S G H T O R X : Type 0} {says : Says T O} {meaning : Meaning S T O}
-    (starts : G → R → G → Type 0) (step : H → R → O → Result R X → H → Type 0)
-    (s : S × (Range × (G × (H × (X → Keeping))))) → Said says s.0 meaning
-    → Said (try_fold_says starts step s.1 says) s
+pub try_fold_said : {S G H T O R X : Type 0} {mine : S → Type 0} {says : Says T O}
+    {meaning : Meaning S T O} (starts : G → R → G → Type 0)
+    (step : H → R → O → Result R X → H → Type 0) (s : S × (Range × (G × (H × (X → Keeping)))))
+    → SaidAmong mine says s.0 meaning
+    → SaidAmong (With mine s.1) (try_fold_says starts step s.1 says) s
     (λ form. TryFoldRuns starts step (meaning form) (assert_kind form))
 try_fold_said {says = says} starts step s p =
     tried_said starts (TryFoldTakes step) (TriesOne step s.1.1.1.0 says.alike) s

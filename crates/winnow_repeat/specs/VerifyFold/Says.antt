@@ -7,7 +7,7 @@ use Rattle.stream_errors.specs.Form.{assert_kind}
 use Rattle.stream_errors.specs.Form.Inversion.{at_output, ok_is_err, same_kind}
 use Rattle.stream_sets.specs.declared.range.Range.{Range}
 use Rattle.winnow_core.specs.Runs.{Meaning}
-use Rattle.winnow_core.specs.Says.{Said, Says}
+use Rattle.winnow_core.specs.Says.{SaidAmong, Says, With}
 use Rattle.winnow_repeat.specs.Fold.Tries.Says.{FoldsOne, tried_said, tried_says}
 use Rattle.winnow_repeat.specs.VerifyFold.{VerifyFoldRuns, VerifyFoldTakes}
 
@@ -59,10 +59,11 @@ module _ {H R O : Type 0} (step : H → R → O → Option R → H → Type 0) (
     };
   }
 
-pub verify_fold_said : {S G H T O R : Type 0} {says : Says T O} {meaning : Meaning S T O}
-    (starts : G → R → G → Type 0) (step : H → R → O → Option R → H → Type 0)
-    (s : S × (Range × (G × H))) → Said says s.0 meaning
-    → Said (verify_fold_says starts step s.1 says) s
+pub verify_fold_said : {S G H T O R : Type 0} {mine : S → Type 0} {says : Says T O}
+    {meaning : Meaning S T O} (starts : G → R → G → Type 0)
+    (step : H → R → O → Option R → H → Type 0) (s : S × (Range × (G × H)))
+    → SaidAmong mine says s.0 meaning
+    → SaidAmong (With mine s.1) (verify_fold_says starts step s.1 says) s
     (λ form. VerifyFoldRuns starts step (meaning form) (assert_kind form))
 verify_fold_said {says = says} starts step s p =
     tried_said starts (VerifyFoldTakes step) (VerifiesOne step s.1.1.1 says.alike) s

@@ -11,8 +11,8 @@ use Rattle.stream_sets.specs.Range.{from_to}
 use Rattle.winnow_core.specs.InOrder.Decided.{AlikePairs}
 use Rattle.winnow_core.specs.Outcome.{Does, Setting, gave}
 use Rattle.winnow_core.specs.Runs.{Meaning}
-use Rattle.winnow_core.specs.Says.{Did, EachDoes, IsAt, Lawful, Said, Says, still_at}
-use Rattle.winnow_core.specs.States.{pair_is}
+use Rattle.winnow_core.specs.Says.{Both, Did, EachDoes, IsAt, Lawful, SaidAmong, Says}
+use Rattle.winnow_core.specs.Says.{still_at}
 use Rattle.winnow_core.specs.Then.{Then, back_then, did_in, did_then, hands_on, then_law}
 use Rattle.winnow_core.specs.Then.Steps.{fails_on, holds_where, meets_where, takes, where_took}
 use Rattle.winnow_repeat.specs.Chain.Items.{last_item}
@@ -22,7 +22,7 @@ use Rattle.winnow_separated.specs.Separated.Does.{LastLink, LinksDo, PairLinkDoe
 use Rattle.winnow_separated.specs.Separated.Does.Laws.{links_meet, links_stay, links_whole, no_link}
 use Rattle.winnow_separated.specs.Separated.Does.Laws.{pair_law}
 use Rattle.winnow_separated.specs.Separated.Does.Runs.{nothing_did, pair_each}
-use Rattle.winnow_separated.specs.Separated.Says.{triple_is}
+use Rattle.winnow_separated.specs.Separated.Says.{BothWith, said_beside}
 use Rattle.winnow_separated.specs.SeparatedFoldl1.{FoldsLeft, JoinedLinksRun, LinksEnd}
 use Rattle.winnow_separated.specs.SeparatedFoldl1.{SeparatedFoldl1Runs}
 
@@ -63,6 +63,7 @@ abbrev pub foldl1_says : {Q O D T : Type 0} → (Q → O → D → O → O → Q
 foldl1_says step op p q = record {
   premise = p.premise × q.premise × StaysJoining step op;
   stable = p.stable × q.stable;
+  keeps = p.keeps × q.keeps;
   does = Foldl1Does step op p.does q.does;
   alike = AlikeJoined step op p.alike q.alike;
 }
@@ -104,80 +105,74 @@ joined {Q} step op again (link ∷ links) first value p (more, c, r, rest) =
     (kept, (more, subst F same r, others))
 
 module _ {S W Q T O D : Type 0} {element : Does T O} {separator : Does T D}
-    (step : Q → O → D → O → O → Q → Type 0) {s : S × W} (op : Q) (again : StaysJoining step op)
-    {meaning : Meaning S T O} {between : Meaning W T D} (part : EachDoes element s.0 meaning)
-    (mid : EachDoes separator s.1 between) (at : Setting) where
-  last_link : (first value : O) (links : List (D × O)) (m : Input T) (answer : Answer O)
-      (t : S × W) (j : Input T) → IsAt at m
+    (step : Q → O → D → O → O → Q → Type 0) {mine : S → Type 0} {theirs : W → Type 0} (op : Q)
+    (again : StaysJoining step op) {meaning : Meaning S T O} {between : Meaning W T D}
+    (part : EachDoes element mine meaning) (mid : EachDoes separator theirs between)
+    (at : Setting) where
+  last_link : (first value : O) (links : List (D × O)) (s : S × W) → Both mine theirs s
+      → (m : Input T) (answer : Answer O) (t : S × W) (j : Input T) → IsAt at m
       → Accumulates (join_kept step op).takes first links value
       → LinksEnd (meaning at.form) (between at.form) (assert_kind at.form) value s m answer t j
       → Did (LastLink (PairLinkDoes element separator) separator (join_kept step op) 0 first links)
-      at s m answer t j
-  last_link first value links m answer t j is taken (inl (x, r, e, same)) =
+      at (Both mine theirs) m answer t j
+  last_link first value links s held m answer t j is taken (inl (x, r, e, same)) =
       did_wider (λ y d. inl d)
       (back_then {next = last_item (join_kept step op) 0 first links}
-      ((pair_each part mid).did at m (Err backtrack) t x is r) same
+      ((pair_each part mid).did at s held m (Err backtrack) t x is r) same
       (inl (omega arith, (value, taken, gave m.left.tokens e))))
-  last_link first value links m answer t j is taken (inr (inl (k, r, other, e))) =
+  last_link first value links s held m answer t j is taken (inr (inl (k, r, other, e))) =
       did_wider (λ y d. inl d)
       (did_then {next = last_item (join_kept step op) 0 first links}
-      ((pair_each part mid).did at m (Err k) t j is r)
+      ((pair_each part mid).did at s held m (Err k) t j is r)
       (hands_on (last_item (join_kept step op) 0 first links) at m.left.tokens j.left.tokens k
       (λ y is e. absurd (other is)) (λ y is e. e) (λ y need is e. e) e))
-  last_link first value links m answer t j is taken (inr (inr (nothing, e))) =
-      did_wider (λ y d. inr d) (nothing_did part mid at m answer t j is nothing e)
+  last_link first value links s held m answer t j is taken (inr (inr (nothing, e))) =
+      did_wider (λ y d. inr d) (nothing_did part mid at s held m answer t j is nothing e)
 
-  joins_did : (first : O) (i : Input T) (answer : Answer O) (t : S × W × Q) (j : Input T)
-      → IsAt at i
+  joins_did : (first : O) (s : S × W) → Both mine theirs s → (i : Input T) (answer : Answer O)
+      (t : S × W × Q) (j : Input T) → IsAt at i
       → JoinedLinksRun step (meaning at.form) (between at.form) (assert_kind at.form) first
       (s.0, s.1, op) i answer t j
       → (t.2 ≡ op) × Did (LinksDo (PairLinkDoes element separator) separator (join_kept step op)
-      (from_to 0 None) first) at s i answer (t.0, t.1) j
-  joins_did first i answer t j is (links, u, m, value, chain, folds, ends) =
-      let (kept, held) = joined step op again links first value t.2 folds in
+      (from_to 0 None) first) at (Both mine theirs) i answer (t.0, t.1) j
+  joins_did first s held i answer t j is (links, u, m, value, chain, folds, ends) =
+      let (kept, joins) = joined step op again links first value t.2 folds in
       let did = items_did (PairLinkRuns (meaning at.form) (between at.form)) at
-      (λ i answer t j is r. (pair_each part mid).did at i answer t j is r) links i u m is
-      chain.runs in
-      let P : S × W → Type 0 = λ x. LinksEnd (meaning at.form) (between at.form)
-      (assert_kind at.form) value x m answer (t.0, t.1) j in (
+      ((pair_each part mid).did at) links s held i u m is chain.runs in (
         kept,
         chained_did links did (did_wider (λ y d. inr (tt, d))
-            (last_link first value links m answer (t.0, t.1) j (chain_at did is)
-            (record { taken = held }) (subst P did.kept ends))),
+            (last_link first value links u did.kept m answer (t.0, t.1) j (chain_at did is)
+            (record { taken = joins }) ends)),
       )
 
-  foldl1_did : (i : Input T) (answer : Answer O) (t : S × W × Q) (j : Input T) → IsAt at i
+  foldl1_did : (s : S × W) → Both mine theirs s → (i : Input T) (answer : Answer O)
+      (t : S × W × Q) (j : Input T) → IsAt at i
       → SeparatedFoldl1Runs step (meaning at.form) (between at.form) (assert_kind at.form)
       (s.0, s.1, op) i answer t j
-      → Did (Foldl1Does step op element separator) at (s.0, s.1, op) i answer t j
-  foldl1_did i answer t j is (inl (k, r, same, kept, e)) =
-      let did = part.did at i (Err k) t.0 j is r in
-      did_in (s.0, s.1, op) t (triple_is (pair_is did.kept same) kept) did
+      → Did (Foldl1Does step op element separator) at (BothWith mine theirs op) i answer t j
+  foldl1_did s held i answer t j is (inl (k, r, same, kept, e)) =
+      let did = part.did at s.0 held.0 i (Err k) t.0 j is r in
+      did_in ((did.kept, subst theirs (sym same) held.1), kept) did
       (fails_on (λ first at tokens rest y. LinksDo (PairLinkDoes element separator) separator
       (join_kept step op) (from_to 0 None) first at rest y) at i.left.tokens j.left.tokens k e)
-  foldl1_did i answer t j is (inr (first, v, n, r, links)) =
-      let did = part.did at i (Ok first) v n is r in
-      let P : S → Type 0 = λ x. JoinedLinksRun step (meaning at.form) (between at.form)
-      (assert_kind at.form) first (x, s.1, op) n answer t j in
-      let (kept, then) = joins_did first n answer t j (still_at did is) (subst P did.kept links) in
+  foldl1_did s held i answer t j is (inr (first, v, n, r, links)) =
+      let did = part.did at s.0 held.0 i (Ok first) v n is r in
+      let (kept, then) = joins_did first (v, s.1) (did.kept, held.1) n answer t j
+      (still_at did is) links in
       record {
-        kept = triple_is then.kept kept;
+        kept = (then.kept, kept);
         status = then.status ∙ did.status;
         possible = then.possible ∙ did.possible;
         done = (_, did.done, then.done);
       }
 
-pub foldl1_said : {S W Q T O D : Type 0} {says : Says T O} {also : Says T D}
-    {meaning : Meaning S T O} {between : Meaning W T D}
-    (step : Q → O → D → O → O → Q → Type 0) (s : S × W × Q) → Said says s.0 meaning
-    → Said also s.1 between
-    → Said (foldl1_says step s.2 says also) s
+pub foldl1_said : {S W Q T O D : Type 0} {mine : S → Type 0} {theirs : W → Type 0}
+    {says : Says T O} {also : Says T D} {meaning : Meaning S T O} {between : Meaning W T D}
+    (step : Q → O → D → O → O → Q → Type 0) (s : S × W × Q) → SaidAmong mine says s.0 meaning
+    → SaidAmong theirs also s.1 between
+    → SaidAmong (BothWith mine theirs s.2) (foldl1_says step s.2 says also) s
     (λ form. SeparatedFoldl1Runs step (meaning form) (between form) (assert_kind form))
-foldl1_said {S} {W} step s p q = record {
-  runs = λ is. record {
-    did = λ at i answer t j here r.
-        let both : S × W = (s.0, s.1) in
-        foldl1_did step {s = both} s.2 is.2 (p.runs is.0) (q.runs is.1) at i answer t j here r;
-  };
-  law = λ is. foldl1_law step s.2 (p.law is.0) (q.law is.1);
-}
+foldl1_said step s p q =
+    said_beside (λ is. is)
+    (λ is at. foldl1_did step s.2 is.2 (p.runs is.0) (q.runs is.1) at)
+    (λ is. foldl1_law step s.2 (p.law is.0) (q.law is.1)) p q

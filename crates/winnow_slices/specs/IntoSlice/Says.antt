@@ -13,7 +13,7 @@ use Rattle.winnow_core.specs.Outcome.{on_cut}
 use Rattle.winnow_core.specs.Outcome.{Does, IsFinal, as_longer, both, gave, longer, misused}
 use Rattle.winnow_core.specs.Outcome.{Alike, alike_wants}
 use Rattle.winnow_core.specs.Runs.{Meaning}
-use Rattle.winnow_core.specs.Says.{Did, EachDoes, IsAt, Lawful, Said, Says}
+use Rattle.winnow_core.specs.Says.{Did, EachDoes, IsAt, Lawful, SaidAmong, Says, said_of}
 use Rattle.winnow_core.specs.Says.Lacks.{misused_alike, misused_outcome, misused_whole}
 use Rattle.winnow_core.specs.Then.{Comes, ComesOf, Holds, Meets, Next, NextHolds, NextMeets, Then}
 use Rattle.winnow_core.specs.Then.{back_then, did_then, hands_on}
@@ -60,6 +60,7 @@ abbrev pub into_slice_says : {T O : Type 0} → (ℕ → Kind → Type 0) → �
 into_slice_says too_many limit p = record {
   premise = p.premise;
   stable = p.stable;
+  keeps = p.keeps;
   does = IntoSliceDo p.does too_many limit;
   alike = AlikeLists p.alike;
 }
@@ -176,8 +177,8 @@ soft_kind : (keeping : TooMany → Keeping) (limit : ℕ) (k : Kind) → TooMany
 soft_kind keeping limit k (inl (kept, e)) = inl e
 soft_kind keeping limit k (inr (refused, e)) = inr e
 
-module _ {S T O : Type 0} {does : Does T O} {s : S} {meaning : Meaning S T O}
-    (part : EachDoes does s meaning) (keeping : TooMany → Keeping) (at : Setting)
+module _ {S T O : Type 0} {does : Does T O} {mine : S → Type 0} {meaning : Meaning S T O}
+    (part : EachDoes does mine meaning) (keeping : TooMany → Keeping) (at : Setting)
     (old new os : List O) (written : Overwrites os old new) where
   abbrev limit : ℕ
   limit = length old
@@ -189,44 +190,45 @@ module _ {S T O : Type 0} {does : Does T O} {s : S} {meaning : Meaning S T O}
   -- the item after the last, where `many` has the kinds of the error for it
   item_did : (many : Kind → Type 0)
       → (length os ≡ limit → (k : Kind) → TooManyKind keeping limit k → many k)
-      → (m : Input T) (answer : Answer ℕ) (t : S) (j : Input T) → IsAt at m
-      → ItemEnds s m answer t j
-      → Did (Then does (after_items many os)) at s m (listed new answer) t j
-  item_did many which m answer t j is (inl (x, r, e, same)) =
+      → (u : S) → mine u → (m : Input T) (answer : Answer ℕ) (t : S) (j : Input T) → IsAt at m
+      → ItemEnds u m answer t j
+      → Did (Then does (after_items many os)) at mine m (listed new answer) t j
+  item_did many which u held m answer t j is (inl (x, r, e, same)) =
       let first = ap (take (length os)) written.is ∙ take-append_seam os written.rest in
-      back_then {next = after_items many os} (part.did at m (Err backtrack) t x is r) same
+      back_then {next = after_items many os} (part.did at u held m (Err backtrack) t x is r) same
       (gave m.left.tokens (ap (listed new) e ∙ ap Ok first))
-  item_did many which m answer t j is (inr (inl (k, r, other, e))) =
-      did_then {next = after_items many os} (part.did at m (Err k) t j is r)
+  item_did many which u held m answer t j is (inr (inl (k, r, other, e))) =
+      did_then {next = after_items many os} (part.did at u held m (Err k) t j is r)
       (hands_on (after_items many os) at m.left.tokens j.left.tokens k
       (λ y is e. absurd (other is)) (λ y is e. e) (λ y need is e. e) (ap (listed new) e))
-  item_did many which m answer t j is (inr (inr (inl (o, r, nothing, e)))) =
+  item_did many which u held m answer t j is (inr (inr (inl (o, r, nothing, e)))) =
       let as_many = ap length nothing in
-      did_then {next = after_items many os} (part.did at m (Ok o) t j is r)
+      did_then {next = after_items many os} (part.did at u held m (Ok o) t j is r)
       (inl (
         λ less. absurd (omega (arith, as_many, less)),
         misused_outcome at j.left.tokens (ap (listed new) e),
       ))
-  item_did many which m answer t j is
+  item_did many which u held m answer t j is
       (inr (inr (inr (o, x, k, full, r, less, same, kind, e)))) =
       let may = which full k kind in
       let out = ap (listed new) e in
-      back_then {next = after_items many os} (part.did at m (Ok o) t x is r) same
+      back_then {next = after_items many os} (part.did at u held m (Ok o) t x is r) same
       (inr (elim (soft_kind keeping limit k kind) [
         | inl b ↦ inl (less, subst many b may, gave m.left.tokens (out ∙ ap Err b))
         | inr w ↦ inr (less, subst many w may, gave m.left.tokens (out ∙ ap Err w))
       ]))
 
-  ends_did : (m : Input T) (answer : Answer ℕ) (t : S) (j : Input T) → IsAt at m
-      → ItemEnds s m answer t j
+  ends_did : (u : S) → mine u → (m : Input T) (answer : Answer ℕ) (t : S) (j : Input T)
+      → IsAt at m → ItemEnds u m answer t j
       → Did (Ends (Some limit) (λ os. Then does (after_items (TooManyKind keeping limit) os))
-      (λ os. Then does (after_items (λ k. ⊥) os)) os) at s m (listed new answer) t j
-  ends_did m answer t j is ends = elim (eq-or-lt_of_le (within_slice written)) [
+      (λ os. Then does (after_items (λ k. ⊥) os)) os) at mine m (listed new answer) t j
+  ends_did u held m answer t j is ends = elim (eq-or-lt_of_le (within_slice written)) [
     | inl full ↦ did_wider (λ y d. inl (ap Some (sym full), d))
-        (item_did (TooManyKind keeping limit) (λ same k kind. kind) m answer t j is ends)
-    | inr below ↦ did_wider (λ y d. inr (below, d))
-        (item_did (λ k. ⊥) (λ same k kind. absurd (omega (arith, same, below))) m answer t j is
+        (item_did (TooManyKind keeping limit) (λ same k kind. kind) u held m answer t j is
         ends)
+    | inr below ↦ did_wider (λ y d. inr (below, d))
+        (item_did (λ k. ⊥) (λ same k kind. absurd (omega (arith, same, below))) u held m answer
+        t j is ends)
   ]
 
 -- calls with the outputs as result
@@ -237,22 +239,20 @@ ListRuns meaning keeping old new form s i a t j =
     × IntoSlice (meaning form) (TooManyKind keeping) (assert_kind form) old s i answer new t j
 
 -- the clause of a call
-pub into_slice_said : {S T O : Type 0} {says : Says T O} {s : S} {meaning : Meaning S T O}
-    → Said says s meaning → (keeping : TooMany → Keeping) (old new : List O)
-    → Said (into_slice_says (TooManyKind keeping) (length old) says) s
+pub into_slice_said : {S T O : Type 0} {mine : S → Type 0} {says : Says T O} {s : S}
+    {meaning : Meaning S T O} → SaidAmong mine says s meaning → (keeping : TooMany → Keeping)
+    (old new : List O)
+    → SaidAmong mine (into_slice_says (TooManyKind keeping) (length old) says) s
     (ListRuns meaning keeping old new)
-into_slice_said {S} {T} {O} {says} {s} {meaning} p keeping old new = record {
-  runs = λ is. record {
-    did = λ at i a t j here (answer, e, (os, u, m, chain, written, ends)).
-        let P : S → Type 0 = λ x. IntoSliceEnds (meaning at.form) (TooManyKind keeping)
-        (assert_kind at.form) (length old) os x m answer t j in
-        let Q : Answer (List O) → Type 0 =
-        λ b. Did (IntoSliceDo says.does (TooManyKind keeping) (length old)) at s i b t j in
-        let did = items_did (meaning at.form) at
-        (λ i answer t j is2 r. (p.runs is).did at i answer t j is2 r) os i u m here chain.runs in
-        subst Q (sym e) (chained_did os did
-        (ends_did (p.runs is) keeping at old new os written m answer t j (chain_at did here)
-        (subst P did.kept ends)));
-  };
-  law = λ is. into_slice_law (p.law is) (TooManyKind keeping) (length old);
-}
+into_slice_said {mine = mine} {says} {meaning = meaning} p keeping old new =
+    said_of (λ is. is) (λ is. record {
+      did = λ at v held i a t j here (answer, e, (os, u, m, chain, written, ends)).
+          let Q : Answer (List _) → Type 0 =
+          λ b. Did (IntoSliceDo says.does (TooManyKind keeping) (length old)) at mine i b t j in
+          let did = items_did (meaning at.form) at ((p.runs is).did at) os v held i u m here
+          chain.runs in
+          subst Q (sym e) (chained_did os did
+          (ends_did (p.runs is) keeping at old new os written u did.kept m answer t j
+          (chain_at did here) ends));
+    })
+    (λ is. into_slice_law (p.law is) (TooManyKind keeping) (length old)) p

@@ -7,7 +7,7 @@ use Rattle.streams.specs.Reading.{Reading}
 use Rattle.stream_errors.specs.Form.{Answer}
 use Rattle.winnow_core.specs.Outcome.{Does, Setting, gave}
 use Rattle.winnow_core.specs.Runs.{Keeps}
-use Rattle.winnow_core.specs.Says.{Did, IsAt, Lawful, Said, Says}
+use Rattle.winnow_core.specs.Says.{Did, Is, IsAt, Lawful, Said, Says}
 use Rattle.winnow_core.specs.Says.Cases.{Case, LacksWhere, OneCase, TakesWhere}
 use Rattle.winnow_core.specs.Says.Cases.{cases_law, lacks_law, takes_law}
 use Rattle.winnow_core.specs.Says.Lacks.{short_outcome}
@@ -28,6 +28,7 @@ abbrev pub any_says : {K T : Type 0} → (K → T) → Says T K
 any_says seen = record {
   premise = ⊤;
   stable = ⊤;
+  keeps = ⊤;
   does = OneCase (TakesWhere (IsFirst seen)) LacksToken;
   alike = SeenSame seen;
 }
@@ -39,7 +40,7 @@ any_said {K} {T} seen reading =
   where
     did : (at : Setting) (i : Input T) (answer : Answer K) (j : Input T) → IsAt at i
         → AnyRuns seen reading at.form i answer j
-        → Did {S = ⊤} (any_says seen).does at tt i answer tt j
+        → Did {S = ⊤} (any_says seen).does at (Is tt) i answer tt j
     did at i answer j here (inl (k, passes, e)) =
         passes_did passes (inl (k, j.left.tokens, passes.tokens, gave j.left.tokens e))
     did at i answer j here (inr (k, none, short, e, same)) =

@@ -9,7 +9,7 @@ use Rattle.stream_sets.specs.Once.{SetIsFunction}
 use Rattle.stream_errors.specs.Form.{Answer}
 use Rattle.winnow_core.specs.Outcome.{Outcome, Setting, gave}
 use Rattle.winnow_core.specs.Runs.{Keeps}
-use Rattle.winnow_core.specs.Says.{Did, IsAt, Lawful, Said, Says}
+use Rattle.winnow_core.specs.Says.{Did, Is, IsAt, Lawful, Said, Says}
 use Rattle.winnow_core.specs.Says.Cases.{Case, FailsWhere, OneCase, TakesWhere}
 use Rattle.winnow_core.specs.Says.Cases.{cases_law, fails_law, lacks_law, takes_law}
 use Rattle.winnow_core.specs.Says.Lacks.{short_outcome}
@@ -32,6 +32,7 @@ abbrev pub one_of_says : {K T : Type 0} → (K → T) → (K → Bool → Type 0
 one_of_says seen tells = record {
   premise = SetIsFunction (AnswersSeen seen tells);
   stable = ⊤;
+  keeps = ⊤;
   does = OneCase (TakesWhere (IsMember seen tells))
       (OneCase (FailsWhere (IsNonMember seen tells)) LacksToken);
   alike = SeenSame seen;
@@ -67,7 +68,7 @@ module _ {X K T L : Type 0} (seen : K → T) (reading : Reading T L) (tells : X 
     where
       did : (at : Setting) (i : Input T) (answer : Answer K) (j : Input T) → IsAt at i
           → OneOfRuns seen reading at.form (tells set) i answer j
-          → Did (one_of_says seen (tells set)).does at set i answer set j
+          → Did (one_of_says seen (tells set)).does at (Is set) i answer set j
       did at i answer j here (inl (k, passes, has, e)) =
           passes_did passes (inl (k, j.left.tokens, (passes.tokens, has), gave j.left.tokens e))
       did at i answer j here (inr (inl (k, rest, is, lacks, e, same))) =

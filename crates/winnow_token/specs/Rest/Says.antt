@@ -15,6 +15,7 @@ abbrev pub rest_says : {T L : Type 0} → Reading T L → Says T L
 rest_says reading = record {
   premise = ⊤;
   stable = ⊥;
+  keeps = ⊤;
   does = TakesWhere (λ slice at tokens rest. reading.shows slice tokens × (rest ≡ []));
   alike = ShowSame reading;
 }
@@ -24,6 +25,7 @@ abbrev pub rest_len_says : {T L : Type 0} → Reading T L → Says T ℕ
 rest_len_says reading = record {
   premise = ⊤;
   stable = ⊥;
+  keeps = ⊤;
   does = TakesWhere (λ n at tokens rest. (n ≡ reading.units tokens) × (rest ≡ tokens));
   alike = λ m n. m ≡ n;
 }

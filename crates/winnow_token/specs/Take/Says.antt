@@ -9,7 +9,7 @@ use Rattle.stream_errors.specs.Form.{Answer}
 use Rattle.winnow_core.specs.Literal.Laws.{ShowSame}
 use Rattle.winnow_core.specs.Outcome.{Setting, gave}
 use Rattle.winnow_core.specs.Runs.{Keeps}
-use Rattle.winnow_core.specs.Says.{Did, IsAt, Lawful, Said, Says}
+use Rattle.winnow_core.specs.Says.{Did, Is, IsAt, Lawful, Said, Says}
 use Rattle.winnow_core.specs.Says.Cases.{Case, LacksWhere, OneCase, TakesWhere}
 use Rattle.winnow_core.specs.Says.Cases.{cases_law, lacks_law, takes_law}
 use Rattle.winnow_core.specs.Says.Lacks.{short_outcome}
@@ -30,6 +30,7 @@ abbrev pub take_says : {T L : Type 0} → Reading T L → Bool → ℕ → Says 
 take_says reading counts n = record {
   premise = ⊤;
   stable = ⊤;
+  keeps = ⊤;
   does = OneCase (TakesWhere (AreCounted reading n))
       (LacksWhere (missing_from counts n) (λ at tokens. length tokens < n));
   alike = ShowSame reading;
@@ -62,7 +63,7 @@ module _ {T L : Type 0} (reading : Reading T L) (counts : Bool) (n : ℕ) where
     where
       did : (at : Setting) (i : Input T) (answer : Answer L) (j : Input T) → IsAt at i
           → TakeRuns reading at.form counts n i answer j
-          → Did (take_says reading counts n).does at n i answer n j
+          → Did (take_says reading counts n).does at (Is n) i answer n j
       did at i answer j here (inl (front, slice, many, takes, e)) =
           takes_did takes (inl (
             slice,

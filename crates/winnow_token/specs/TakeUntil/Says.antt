@@ -17,7 +17,7 @@ use Rattle.stream_errors.specs.Form.{Answer}
 use Rattle.winnow_core.specs.Literal.Laws.{ShowSame}
 use Rattle.winnow_core.specs.Outcome.{Outcome, Setting, gave}
 use Rattle.winnow_core.specs.Runs.{Keeps}
-use Rattle.winnow_core.specs.Says.{Did, IsAt, Lawful, Said, Says}
+use Rattle.winnow_core.specs.Says.{Did, Is, IsAt, Lawful, Said, Says}
 use Rattle.winnow_core.specs.Says.Cases.{Case, FailsWhere, LacksWhere, OneCase, TakesWhere}
 use Rattle.winnow_core.specs.Says.Cases.{cases_law, fails_law, lacks_law}
 use Rattle.winnow_core.specs.Says.Cases.{takes_law}
@@ -52,6 +52,7 @@ abbrev pub take_until_says : {T L : Type 0} → Reading T L → (List T → Type
 take_until_says reading sought bounds = record {
   premise = ⊤;
   stable = ⊤;
+  keeps = ⊤;
   does = InBounds bounds (OneCase (LacksWhere (λ tokens. None) (LacksMatch sought bounds))
       (OneCase (TakesWhere (PrecedesMatch reading sought bounds))
       (FailsWhere (IsOutOfBounds sought bounds))));
@@ -158,7 +159,7 @@ module _ {X T L : Type 0} (reading : Reading T L) (sought : X → List T → Typ
     where
       did : (at : Setting) (i : Input T) (answer : Answer L) (j : Input T) → IsAt at i
           → TakeUntilRuns reading at.form (sought x) (bounds x) i answer j
-          → Did (take_until_says reading (sought x) (bounds x)).does at x i answer x j
+          → Did (take_until_says reading (sought x) (bounds x)).does at (Is x) i answer x j
       did at i answer j here (inl (most, is, below, e, same)) =
           here_did same (inl ((most, is, below), misused_outcome at i.left.tokens e))
       did at i answer j here (inr (inl (k, within, nowhere, short, e, same))) =

@@ -1,5 +1,5 @@
 -- The specification of `take_while`.
-use Rattle.std.specs.Prelude.{◌≡◌, ◌⊎◌, ◌<◌, ◌≤◌, ◌+◌, ⊤, ℕ, Bool, true, false, List, [], ◌∷◌}
+use Rattle.std.specs.Prelude.{◌≡◌, ◌⊎◌, ◌<◌, ◌≤◌, ⊤, ℕ, Bool, true, false, List, [], ◌∷◌}
 use Rattle.std.specs.Prelude.{◌++◌, length, Option, Some}
 use Rattle.std.specs.List.{All}
 use Rattle.std.proofs.Common.{refl, sym, ap, subst, inl, inr, ◌∙◌, arith, length-append}
@@ -15,7 +15,7 @@ use Rattle.stream_errors.specs.Form.{Answer}
 use Rattle.winnow_core.specs.Literal.Laws.{ShowSame}
 use Rattle.winnow_core.specs.Outcome.{Does, Outcome, Setting, gave, grown, on_cut, took}
 use Rattle.winnow_core.specs.Runs.{Keeps}
-use Rattle.winnow_core.specs.Says.{Did, IsAt, Lawful, Said, Says}
+use Rattle.winnow_core.specs.Says.{Did, Is, IsAt, Lawful, Said, Says}
 use Rattle.winnow_core.specs.Says.Cases.{Case, FailsWhere, Given, LacksWhere, MisusedIf, OneCase}
 use Rattle.winnow_core.specs.Says.Cases.{TakesWhere, cases_law, fails_law, given_law}
 use Rattle.winnow_core.specs.Says.Cases.{lacks_law, misused_law, takes_law}
@@ -77,6 +77,7 @@ abbrev pub take_while_says : {T L : Type 0} → Reading T L → (T → Bool → 
 take_while_says reading member bounds = record {
   premise = SetIsFunction member;
   stable = ⊤;
+  keeps = ⊤;
   does = InBounds bounds (TakeWhileDoes reading member bounds);
   alike = ShowSame reading;
 }
@@ -201,7 +202,7 @@ module _ {X T L : Type 0} (reading : Reading T L) (member : X → T → Bool →
 
       did : (at : Setting) (i : Input T) (answer : Answer L) (j : Input T) → IsAt at i
           → TakeWhileRuns reading at.form (member x) (bounds x) i answer j
-          → Did (take_while_says reading (member x) (bounds x)).does at x i answer x j
+          → Did (take_while_says reading (member x) (bounds x)).does at (Is x) i answer x j
       did at i answer j here (inl (most, is, below, e, same)) =
           here_did same (inl ((most, is, below), misused_outcome at i.left.tokens e))
       did at i answer j here (inr (inl (within, all, cut, e, same))) =

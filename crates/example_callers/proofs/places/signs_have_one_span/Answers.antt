@@ -2,4 +2,4 @@ use Rattle.example_callers.proofs.places.signs_have_one_span.Goals as goal
 
 pub returns : goal.returns
 returns g c =
-    c.spans_are_stateless.ensures.span 43 (c.deterministic_parts_are_stateless.ensures 43 tt)
+    c.spans_are_stateless.ensures.span 43 (c.deterministic_parts_are_stateless.ensures 43 tt tt)

@@ -21,16 +21,16 @@ returns-clause-reads g c =
     (c.expression_is_unambiguous.ensures.exact (states.0, states.1, parser.level)
     (record {
       operands = stateless_wider (λ o p like. like)
-          (c.deterministic_parts_are_stateless.ensures _ tt);
+          (c.deterministic_parts_are_stateless.ensures _ tt tt);
       prefixes = keeps_stateless _ _ tt (fail_plain _);
       postfixes = stateless_wider (λ o p like. same_units o p (elim like [
         | inl (a, b) ↦ search rules
         | inr (a, b) ↦ search rules
-      ])) (c.deterministic_parts_are_stateless-2.ensures _ (tt, tt));
+      ])) (c.deterministic_parts_are_stateless-2.ensures _ (tt, tt) (tt, tt));
       infixes = stateless_wider (λ o p like. same_signs o p (elim like [
         | inl (a, b) ↦ search rules
         | inr (a, b) ↦ search rules
-      ])) (c.deterministic_parts_are_stateless-3.ensures _ (tt, tt));
+      ])) (c.deterministic_parts_are_stateless-3.ensures _ (tt, tt) (tt, tt));
       neither_moves = λ i j o p t r e. c.a_choice_consumes.ensures _ _
           (c.a_value_consumes.ensures _ _ (c.a_byte_consumes.ensures _))
           (c.a_value_consumes.ensures _ _ (c.a_byte_consumes.ensures _)) i j o t r;

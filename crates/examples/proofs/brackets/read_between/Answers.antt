@@ -16,12 +16,14 @@ read_cut-requires-clause-callable g c =
         asked_as_rule g.R.Rule.grammar same c.by_pieces.ensures.rule c.by_pieces.ensures.run
             c.requires.reads,
         c.requires.joins,
+        tells_as_rule g.R.RuleInPieces.does same c.by_pieces.ensures.rule c.by_pieces.ensures.run
+            c.requires.tells,
       ),
       search rules,
     )
 
-pub returns : goal.returns
-returns g c = told_by c.read_cut.ensures.reads (rw (
+pub returns-clause-reads : goal.returns-clause-reads
+returns-clause-reads g c = told_by c.read_cut.ensures.reads (rw (
   c.delimited.ensures.ignored1,
   c.delimited.ensures.parser,
   c.delimited.ensures.ignored2,

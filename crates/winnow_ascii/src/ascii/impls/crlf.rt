@@ -6,6 +6,7 @@ ghost use Rattle.grammars.specs.Grammar.Unique.{literally_takes};
 ghost use Rattle.winnow_core.specs.Exact.Allowed.{backs};
 ghost use Rattle.winnow_core.specs.Literal.Laws.{SpellsByText, text_exact, text_fails};
 ghost use Rattle.winnow_core.specs.Runs.{Keeps};
+ghost use Rattle.winnow_core.specs.Says.{Is};
 ghost use Rattle.winnow_core.specs.Stable.Grows.{leaf_stays};
 ghost use Rattle.winnow_ascii.specs.Crlf.{CrlfRuns};
 ghost use Rattle.winnow_ascii.specs.Crlf.Laws.{crlf_ends, crlf_stays};
@@ -31,6 +32,8 @@ impl<I: StreamIsPartial + Compare<&'static str>, E: ParserError<I>> Parser<I, I:
     ghost State = { ⊤ };
 
     ghost state = { λ _. tt };
+
+    ghost states = { Is };
 
     ghost meaning = { λ form. Keeps (λ _. CrlfRuns I.spells I.reading form) };
 

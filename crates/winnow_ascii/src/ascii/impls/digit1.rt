@@ -9,6 +9,7 @@ ghost use Rattle.winnow_ascii.specs.Class.Laws.{class_claim, class_claimed, clas
 ghost use Rattle.winnow_ascii.specs.Class.Laws.{one_is_some};
 ghost use Rattle.winnow_ascii.specs.Class.Says.{class_said, class_says};
 ghost use Rattle.winnow_core.specs.Runs.{Keeps};
+ghost use Rattle.winnow_core.specs.Says.{Is};
 ghost use Rattle.winnow_core.specs.Stable.Grows.{leaf_stays};
 ghost use Rattle.winnow_token.specs.TakeWhile.Laws.{take_while_stays};
 
@@ -34,6 +35,8 @@ where
     ghost State = { ⊤ };
 
     ghost state = { λ _. tt };
+
+    ghost states = { Is };
 
     ghost meaning = { λ form. Keeps
         (λ _. ClassRuns IsDecDigit 1 I.Token.code I.seen_as I.reading form) };

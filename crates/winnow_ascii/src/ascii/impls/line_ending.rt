@@ -6,6 +6,7 @@ ghost use Rattle.grammars.specs.Grammar.Unique.{either_takes, literally_takes};
 ghost use Rattle.winnow_core.specs.Exact.Allowed.{backs};
 ghost use Rattle.winnow_core.specs.Literal.Laws.{SpellsByText};
 ghost use Rattle.winnow_core.specs.Runs.{Keeps};
+ghost use Rattle.winnow_core.specs.Says.{Is};
 ghost use Rattle.winnow_core.specs.Stable.Grows.{leaf_stays};
 ghost use Rattle.winnow_ascii.specs.LineEnding.{LineEndingRuns};
 ghost use Rattle.winnow_ascii.specs.LineEnding.Laws.{line_ending_exact, line_ending_fails};
@@ -34,6 +35,8 @@ impl<I: StreamIsPartial + Compare<&'static str>, E: ParserError<I>> Parser<I, I:
     ghost State = { ⊤ };
 
     ghost state = { λ _. tt };
+
+    ghost states = { Is };
 
     ghost meaning = { λ form. Keeps (λ _. LineEndingRuns I.spells I.reading form) };
 

@@ -8,6 +8,7 @@ ghost use Rattle.winnow_ascii.specs.Class.{ClassRuns};
 ghost use Rattle.winnow_ascii.specs.Class.Laws.{class_claim, class_claimed, class_leaves};
 ghost use Rattle.winnow_ascii.specs.Class.Says.{class_said, class_says};
 ghost use Rattle.winnow_core.specs.Runs.{Keeps};
+ghost use Rattle.winnow_core.specs.Says.{Is};
 ghost use Rattle.winnow_core.specs.Stable.Grows.{leaf_stays};
 ghost use Rattle.winnow_token.specs.TakeWhile.Laws.{take_while_stays};
 
@@ -33,6 +34,8 @@ where
     ghost State = { ⊤ };
 
     ghost state = { λ _. tt };
+
+    ghost states = { Is };
 
     ghost meaning = { λ form. Keeps
         (λ _. ClassRuns IsSpace 0 I.Token.code I.seen_as I.reading form) };

@@ -9,6 +9,7 @@ ghost use Rattle.winnow_integers.specs.Integer.Laws.{integer_leaves, integer_sta
 ghost use Rattle.winnow_integers.specs.Integer.Laws.{some_bytes};
 ghost use Rattle.winnow_integers.specs.Integer.Says.{integer_said, integer_says};
 ghost use Rattle.winnow_integers.specs.declared.binary.endianness.Endianness.{Endianness};
+ghost use Rattle.winnow_core.specs.Says.{Is};
 ghost use Rattle.winnow_core.specs.Stable.Grows.{leaf_stays};
 
 use std::marker::PhantomData;
@@ -37,6 +38,8 @@ impl<I: StreamIsPartial + ByteStream, E: ParserError<I>> Parser<I, i16, E> for I
     ghost State = { Endianness };
 
     ghost state = { λ s. s.endian };
+
+    ghost states = { Is };
 
     ghost meaning = { λ form. ChosenRuns 2 signed_value I.reading form };
 

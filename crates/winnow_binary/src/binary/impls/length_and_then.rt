@@ -4,6 +4,7 @@ ghost use Rattle.grammars.specs.Grammar.Lengths.{Inside, SaysOne, Sized, sized_i
 ghost use Rattle.stream_errors.specs.Form.{answer_by, modal};
 ghost use Rattle.winnow_core.specs.CompleteErr.{CompleteErrRuns};
 ghost use Rattle.winnow_core.specs.Exact.Allowed.{fails_as};
+ghost use Rattle.winnow_core.specs.Says.{Both};
 ghost use Rattle.winnow_core.specs.Stable.Grows.{grows, stays};
 ghost use Rattle.winnow_binary.specs.LengthAndThen.{LengthAndThenRuns, TakenRuns};
 ghost use Rattle.winnow_binary.specs.LengthAndThen.Laws.{length_and_then_exact};
@@ -48,6 +49,8 @@ impl<
     ghost State = { P.State × G.State };
 
     ghost state = { λ s. (P.state s.count, G.state s.parser) };
+
+    ghost states = { λ s. Both (P.states s.0) (G.states s.1) };
 
     ghost meaning = { λ form. LengthAndThenRuns N.number I.reading form I.counts_missing
         (P.meaning form) (G.meaning form) };

@@ -2,6 +2,7 @@
 ghost use Rattle.grammars.specs.Grammar.Lengths.{SaysOne, Sized, Times, sized_times_takes};
 ghost use Rattle.stream_errors.specs.Form.{assert_kind, modal};
 ghost use Rattle.winnow_core.specs.Exact.Allowed.{fails_as, wanted, softly};
+ghost use Rattle.winnow_core.specs.Says.{Both};
 ghost use Rattle.winnow_core.specs.Stable.Grows.{grows, stays};
 ghost use Rattle.winnow_binary.specs.LengthRepeat.{LengthRepeatRuns};
 ghost use Rattle.winnow_binary.specs.LengthRepeat.Laws.{length_repeat_exact, length_repeat_fails};
@@ -49,6 +50,8 @@ impl<
     ghost State = { P.State × G.State };
 
     ghost state = { λ s. (P.state s.count, G.state s.parser) };
+
+    ghost states = { λ s. Both (P.states s.0) (G.states s.1) };
 
     ghost meaning = { λ form. LengthRepeatRuns N.number C.accumulator (assert_kind form)
         (P.meaning form) (G.meaning form) };

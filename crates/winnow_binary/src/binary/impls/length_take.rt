@@ -41,6 +41,8 @@ impl<P: Parser<I, N, E>, I: StreamIsPartial, N: ToUsize + Drop, E: ParserError<I
 
     ghost state = { λ s. P.state s.count };
 
+    ghost states = { P.states };
+
     ghost meaning = { λ form. LengthTakeRuns N.number I.reading form I.counts_missing
         (P.meaning form) };
 

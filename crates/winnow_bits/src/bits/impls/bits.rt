@@ -44,6 +44,8 @@ impl<
 
     ghost state = { λ s. P.state s.parser };
 
+    ghost states = { P.states };
+
     ghost meaning = { λ form. BitsOfBytesRuns I.reading form (P.meaning form) };
 
     ghost says = { λ s. bits_says (P.says s) };

@@ -6,6 +6,7 @@ ghost use Rattle.winnow_bits.specs.BitBool.{BitBoolRuns};
 ghost use Rattle.winnow_bits.specs.BitBool.Laws.{bit_bool_ends, bit_bool_stays};
 ghost use Rattle.winnow_bits.specs.BitBool.Says.{bit_bool_said, bit_bool_says};
 ghost use Rattle.winnow_core.specs.Runs.{Keeps};
+ghost use Rattle.winnow_core.specs.Says.{Is};
 ghost use Rattle.winnow_core.specs.Stable.Grows.{leaf_stays};
 ghost use Rattle.winnow_core.specs.Claim.{no_claim, nothing_claimed};
 
@@ -32,6 +33,8 @@ impl<I: ByteStream + StreamIsPartial, E: ParserError<Bits<I>>> Parser<Bits<I>, b
     ghost State = { ⊤ };
 
     ghost state = { λ _. tt };
+
+    ghost states = { Is };
 
     ghost meaning = { λ form. Keeps (λ _. BitBoolRuns (bits_reading I.reading) form) };
 

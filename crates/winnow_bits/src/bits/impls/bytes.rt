@@ -44,6 +44,8 @@ impl<
 
     ghost state = { λ s. P.state s.parser };
 
+    ghost states = { P.states };
+
     ghost meaning = { λ form. BytesOfBitsRuns (bits_reading I.reading) form (P.meaning form) };
 
     ghost says = { λ s. bytes_says (P.says s) };

@@ -7,6 +7,7 @@ ghost use Rattle.winnow_bits.specs.BitPattern.Laws.{bit_pattern_ends};
 ghost use Rattle.winnow_bits.specs.BitPattern.Laws.{bit_pattern_stays};
 ghost use Rattle.winnow_bits.specs.BitPattern.Says.{bit_pattern_said, bit_pattern_says};
 ghost use Rattle.winnow_core.specs.Runs.{Keeps};
+ghost use Rattle.winnow_core.specs.Says.{Is};
 ghost use Rattle.winnow_core.specs.Stable.Grows.{leaf_stays};
 ghost use Rattle.winnow_core.specs.Claim.{no_claim, nothing_claimed};
 
@@ -43,6 +44,8 @@ impl<I: ByteStream + StreamIsPartial, O: BitOutput, E: ParserError<Bits<I>>> Par
     ghost State = { ℕ × ℕ };
 
     ghost state = { λ s. (O.number s.value, s.count) };
+
+    ghost states = { Is };
 
     ghost meaning = { λ form. Keeps
         (λ s. BitPatternRuns O.number O.WIDTH (bits_reading I.reading) form s.0 s.1) };

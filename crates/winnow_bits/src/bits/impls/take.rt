@@ -6,6 +6,7 @@ ghost use Rattle.winnow_bits.specs.BitTake.{BitTakeRuns};
 ghost use Rattle.winnow_bits.specs.BitTake.Laws.{bit_take_ends, bit_take_stays};
 ghost use Rattle.winnow_bits.specs.BitTake.Says.{bit_take_said, bit_take_says};
 ghost use Rattle.winnow_core.specs.Runs.{Keeps};
+ghost use Rattle.winnow_core.specs.Says.{Is};
 ghost use Rattle.winnow_core.specs.Stable.Grows.{leaf_stays};
 ghost use Rattle.winnow_core.specs.Claim.{no_claim, nothing_claimed};
 
@@ -42,6 +43,8 @@ impl<I: ByteStream + StreamIsPartial, O: BitOutput, E: ParserError<Bits<I>>> Par
     ghost State = { ℕ };
 
     ghost state = { λ s. s.count };
+
+    ghost states = { Is };
 
     ghost meaning = { λ form. Keeps
         (λ n. BitTakeRuns O.number O.WIDTH (bits_reading I.reading) form n) };

@@ -5,7 +5,7 @@ ghost use Rattle.streams.specs.Input.{IsEndOf};
 ghost use Rattle.winnow_comb.specs.Attempt.{AttemptRuns};
 ghost use Rattle.winnow_core.specs.Claim.{Claim, Claimed};
 ghost use Rattle.winnow_core.specs.Runs.{LeaveEnds, Meaning};
-ghost use Rattle.winnow_core.specs.Says.{Said, Says};
+ghost use Rattle.winnow_core.specs.Says.{SaidAmong, Says};
 
 mod slices;
 mod stable;
@@ -34,6 +34,9 @@ pub trait Alt<I: Stream, O, E: ParserError<I>> {
     // The state that they are in.
     ghost state: { Self → State };
 
+    // The states in which calls from a state end.
+    ghost states: { State → State → Type 0 };
+
     // The semantics of the choice, by the form of errors.
     ghost meaning: { Meaning State I.Seen O };
 
@@ -56,7 +59,7 @@ pub trait Alt<I: Stream, O, E: ParserError<I>> {
     ghost leaves_ends: { (form : ErrorForm) → LeaveEnds I.reading (meaning form) };
 
     // The semantics satisfy `says`.
-    ghost said: { (s : State) → Said (says s) s meaning };
+    ghost said: { (s : State) → SaidAmong (states s) (says s) s meaning };
 
     // The semantics satisfy `claim`.
     ghost claimed: { (s : State) → Claimed (claim s) s meaning };
@@ -82,6 +85,8 @@ impl<A: Alt<I, O, E>, I: Stream, O, E: ParserError<I>> Parser<I, O, E> for AltPa
     ghost State = { A.State };
 
     ghost state = { λ s. A.state s.alternatives };
+
+    ghost states = { A.states };
 
     ghost meaning = { A.meaning };
 

@@ -35,6 +35,8 @@ impl<P: Parser<I, O, E>, I: Stream, O, E: ParserError<I> + ModalError> Parser<I,
 
     ghost state = { λ s. P.state s.parser };
 
+    ghost states = { P.states };
+
     ghost meaning = { λ form. BacktrackErrRuns (P.meaning form) };
 
     ghost says = { λ s. backtrack_err_says (P.says s) };

@@ -2,6 +2,7 @@
 ghost use Rattle.std.specs.Prelude.{Bool};
 ghost use Rattle.grammars.specs.Grammar.{When};
 ghost use Rattle.stream_errors.specs.Form.{modal};
+ghost use Rattle.winnow_core.specs.Says.{With};
 ghost use Rattle.winnow_core.specs.Stable.Grows.{grows, stays};
 ghost use Rattle.winnow_comb.specs.Cond.{CondRuns};
 ghost use Rattle.winnow_comb.specs.Cond.Laws.{cond_exact, cond_fails, cond_ends, cond_grows};
@@ -35,6 +36,8 @@ impl<P: Parser<I, O, E>, I: Stream, O, E: ParserError<I>> Parser<I, Option<O>, E
     ghost State = { P.State × Bool };
 
     ghost state = { λ s. (P.state s.parser, s.condition) };
+
+    ghost states = { λ s. With (P.states s.0) s.1 };
 
     ghost meaning = { λ form. CondRuns (P.meaning form) };
 

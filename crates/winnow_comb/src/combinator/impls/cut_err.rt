@@ -36,6 +36,8 @@ impl<P: Parser<I, O, E>, I: Stream, O, E: ParserError<I> + ModalError> Parser<I,
 
     ghost state = { λ s. P.state s.parser };
 
+    ghost states = { P.states };
+
     ghost meaning = { λ form. CutErrRuns (P.meaning form) };
 
     ghost says = { λ s. cut_err_says (P.says s) };

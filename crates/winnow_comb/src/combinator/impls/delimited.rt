@@ -2,7 +2,7 @@
 ghost use Rattle.stream_errors.specs.Form.{modal};
 ghost use Rattle.winnow_core.specs.InOrder.Claim.{three_claim, three_claimed};
 ghost use Rattle.winnow_core.specs.InOrder.Laws.{three_ends, three_grow};
-ghost use Rattle.winnow_core.specs.InOrder.Says.{three_said, three_says};
+ghost use Rattle.winnow_core.specs.InOrder.Says.{Three, three_said, three_says};
 ghost use Rattle.winnow_core.specs.Stable.Grows.{grows, stays};
 ghost use Rattle.winnow_comb.specs.Delimited.{DelimitedRuns};
 
@@ -46,6 +46,8 @@ impl<
     ghost State = { P1.State × P2.State × P3.State };
 
     ghost state = { λ s. (P1.state s.ignored1, P2.state s.parser, P3.state s.ignored2) };
+
+    ghost states = { λ s. Three (P1.states s.0) (P2.states s.1) (P3.states s.2) };
 
     ghost meaning = { λ form. DelimitedRuns (P1.meaning form) (P2.meaning form) (P3.meaning form) };
 

@@ -4,6 +4,7 @@ ghost use Rattle.grammars.specs.Grammar.{Nothing};
 ghost use Rattle.winnow_core.specs.Ends.{same_ends};
 ghost use Rattle.winnow_core.specs.Exact.Allowed.{backs};
 ghost use Rattle.winnow_core.specs.Runs.{Keeps};
+ghost use Rattle.winnow_core.specs.Says.{Is};
 ghost use Rattle.winnow_core.specs.Stable.Grows.{leaf_stays};
 ghost use Rattle.winnow_comb.specs.Empty.{EmptyRuns};
 ghost use Rattle.winnow_comb.specs.Empty.Laws.{empty_exact, empty_fails, empty_stays};
@@ -28,6 +29,8 @@ impl<I: Stream, E: ParserError<I>> Parser<I, (), E> for Empty {
     ghost State = { ⊤ };
 
     ghost state = { λ _. tt };
+
+    ghost states = { Is };
 
     ghost meaning = { λ _. Keeps (λ _. EmptyRuns) };
 

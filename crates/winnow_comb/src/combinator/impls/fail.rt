@@ -4,6 +4,7 @@ ghost use Rattle.grammars.specs.Grammar.{Never};
 ghost use Rattle.winnow_core.specs.Ends.{same_ends};
 ghost use Rattle.winnow_core.specs.Exact.Allowed.{backs};
 ghost use Rattle.winnow_core.specs.Runs.{Keeps};
+ghost use Rattle.winnow_core.specs.Says.{Is};
 ghost use Rattle.winnow_core.specs.Stable.Grows.{leaf_stays};
 ghost use Rattle.winnow_comb.specs.Fail.{FailRuns};
 ghost use Rattle.winnow_comb.specs.Fail.Laws.{fail_exact, fail_backs, never_takes, fail_stays};
@@ -28,6 +29,8 @@ impl<I: Stream, O, E: ParserError<I>> Parser<I, O, E> for Fail {
     ghost State = { ⊤ };
 
     ghost state = { λ _. tt };
+
+    ghost states = { Is };
 
     ghost meaning = { λ _. Keeps (λ _. FailRuns) };
 

@@ -37,6 +37,8 @@ impl<P: Parser<I, O, E>, I: Stream, O: Drop, E: ParserError<I>> Parser<I, (), E>
 
     ghost state = { λ s. P.state s.parser };
 
+    ghost states = { P.states };
+
     ghost meaning = { λ form. NotRuns (P.meaning form) };
 
     ghost says = { λ s. not_says (P.says s) };

@@ -37,6 +37,8 @@ impl<P: Parser<I, O, E>, I: Stream, O, E: ParserError<I>> Parser<I, Option<O>, E
 
     ghost state = { λ s. P.state s.parser };
 
+    ghost states = { P.states };
+
     ghost meaning = { λ form. OptRuns (P.meaning form) };
 
     ghost says = { λ s. opt_says (P.says s) };

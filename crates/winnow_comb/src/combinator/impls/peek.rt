@@ -34,6 +34,8 @@ impl<P: Parser<I, O, E>, I: Stream, O, E: ParserError<I>> Parser<I, O, E> for Pe
 
     ghost state = { λ s. P.state s.parser };
 
+    ghost states = { P.states };
+
     ghost meaning = { λ form. PeekRuns (P.meaning form) };
 
     ghost says = { λ s. peek_says (P.says s) };

@@ -3,6 +3,7 @@ ghost use Rattle.stream_errors.specs.Form.{modal};
 ghost use Rattle.winnow_core.specs.InOrder.Claim.{both_claim, both_claimed};
 ghost use Rattle.winnow_core.specs.InOrder.Laws.{both_ends, both_grows};
 ghost use Rattle.winnow_core.specs.InOrder.Says.{both_said, both_says};
+ghost use Rattle.winnow_core.specs.Says.{Both};
 ghost use Rattle.winnow_core.specs.Stable.Grows.{grows, stays};
 ghost use Rattle.winnow_comb.specs.Terminated.{TerminatedRuns};
 
@@ -41,6 +42,8 @@ impl<
     ghost State = { P1.State × P2.State };
 
     ghost state = { λ s. (P1.state s.parser, P2.state s.ignored) };
+
+    ghost states = { λ s. Both (P1.states s.0) (P2.states s.1) };
 
     ghost meaning = { λ form. TerminatedRuns (P1.meaning form) (P2.meaning form) };
 

@@ -8,6 +8,7 @@ ghost use Rattle.winnow_core.specs.AndThen.{AndThenSettles, AndThenRuns};
 ghost use Rattle.winnow_core.specs.Exact.Allowed.{fails_as, softly};
 ghost use Rattle.winnow_core.specs.Exact.Settled.{NoneWithin, ReadsWithin, and_then_exact};
 ghost use Rattle.winnow_core.specs.Exact.Settled.{and_then_fails};
+ghost use Rattle.winnow_core.specs.Says.{Both};
 ghost use Rattle.winnow_core.specs.Settles.Laws.{settles_ends, settles_grows};
 ghost use Rattle.winnow_core.specs.Stable.Grows.{grows, stays};
 ghost use Rattle.winnow_core.specs.AndThen.Says.{and_then_said, and_then_says};
@@ -58,6 +59,8 @@ impl<
     ghost State = { F.State × G.State };
 
     ghost state = { λ s. (F.state s.outer, G.state s.inner) };
+
+    ghost states = { λ s. Both (F.states s.0) (G.states s.1) };
 
     ghost meaning = { λ form. AndThenRuns O.view (F.meaning form) (G.meaning form) };
 

@@ -4,6 +4,7 @@ ghost use Rattle.stream_errors.specs.Form.{modal};
 ghost use Rattle.winnow_core.specs.ByRef.{ByRefRuns};
 ghost use Rattle.winnow_core.specs.ByRef.Laws.{by_ref_exact, by_ref_fails, by_ref_grows};
 ghost use Rattle.winnow_core.specs.ByRef.Laws.{by_ref_said};
+ghost use Rattle.winnow_core.specs.Says.{With};
 ghost use Rattle.winnow_core.specs.Stable.Grows.{grows, stays};
 
 use crate::parser::Parser;
@@ -32,6 +33,8 @@ impl<'p, P: Parser<I, O, E>, I: Stream, O, E: ParserError<I>> Parser<I, O, E>
     ghost State = { P.State × ℕ };
 
     ghost state = { λ s. (P.state s.parser.now, s.parser.ghost_name) };
+
+    ghost states = { λ s. With (P.states s.0) s.1 };
 
     ghost meaning = { λ form. ByRefRuns (P.meaning form) };
 

@@ -43,6 +43,8 @@ impl<F: Parser<I, O, E>, I: Stream, O, E: ParserError<I>> Parser<I, O, E>
 
     ghost state = { λ s. F.state s.parser };
 
+    ghost states = { F.states };
+
     ghost meaning = { λ form. CompleteErrRuns (F.meaning form) };
 
     ghost says = { λ s. complete_err_says (F.says s) };

@@ -8,6 +8,7 @@ ghost use Rattle.winnow_core.specs.Exact.Allowed.{fails_as, wanted};
 ghost use Rattle.winnow_core.specs.Exact.Errors.{NeverRefused, context_fails};
 ghost use Rattle.winnow_core.specs.Exact.Errors.{context_keeps_kinds, errors_exact};
 ghost use Rattle.winnow_core.specs.MakesError.Laws.{makes_error_ends, makes_error_grows};
+ghost use Rattle.winnow_core.specs.Says.{With};
 ghost use Rattle.winnow_core.specs.Stable.Grows.{grows, stays};
 ghost use Rattle.winnow_core.specs.MakesError.Says.{turned_said, turned_says};
 
@@ -65,6 +66,8 @@ impl<
     ghost State = { F.State × (C × (C → Keeping)) };
 
     ghost state = { λ s. (F.state s.parser, (s.context, E.context_gives)) };
+
+    ghost states = { λ s. With (F.states s.0) s.1 };
 
     ghost meaning = { λ form. ContextRuns C.is_clone C.is_infallible (F.meaning form) };
 

@@ -6,6 +6,7 @@ ghost use Rattle.stream_errors.specs.Given.{Keeping};
 ghost use Rattle.winnow_core.specs.ContextWith.{ContextWithBecomes, ContextWithRuns};
 ghost use Rattle.winnow_core.specs.ContextWith.Laws.{context_with_keeps};
 ghost use Rattle.winnow_core.specs.MakesError.Laws.{makes_error_ends, makes_error_grows};
+ghost use Rattle.winnow_core.specs.Says.{With};
 ghost use Rattle.winnow_core.specs.Stable.Grows.{grows, stays};
 ghost use Rattle.winnow_core.specs.Claim.{no_claim, nothing_claimed};
 ghost use Rattle.winnow_core.specs.MakesError.Says.{turned_said, turned_says};
@@ -69,6 +70,8 @@ impl<
     ghost State = { P.State × (F × (C → Keeping)) };
 
     ghost state = { λ s. (P.state s.parser, (s.context, E.context_gives)) };
+
+    ghost states = { λ s. With (P.states s.0) s.1 };
 
     ghost meaning = { λ form. ContextWithRuns F.post FI.next_gives (P.meaning form) };
 

@@ -48,6 +48,8 @@ impl<F: Parser<I, O, E>, I: Stream, O: Drop, O2: Default, E: ParserError<I>> Par
 
     ghost state = { λ s. F.state s.parser };
 
+    ghost states = { F.states };
+
     ghost meaning = { λ form. DefaultValueRuns O2.is_default (F.meaning form) };
 
     ghost says = { λ s. of_output_says (λ o u. O2.is_default u)

@@ -6,6 +6,7 @@ ghost use Rattle.winnow_core.specs.Eof.Laws.{eof_ends, eof_exact, eof_fails};
 ghost use Rattle.winnow_core.specs.Eof.Says.{eof_said, eof_says};
 ghost use Rattle.winnow_core.specs.Exact.Allowed.{backs};
 ghost use Rattle.winnow_core.specs.Runs.{Keeps};
+ghost use Rattle.winnow_core.specs.Says.{Is};
 
 use crate::combinator::eof;
 use crate::parser::Parser;
@@ -25,6 +26,8 @@ impl<I: Stream, E: ParserError<I>> Parser<I, I::Slice, E> for Eof {
     ghost State = { ⊤ };
 
     ghost state = { λ _. tt };
+
+    ghost states = { Is };
 
     ghost meaning = { λ _. Keeps (λ _. EofRuns I.reading) };
 

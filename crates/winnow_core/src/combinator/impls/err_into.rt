@@ -49,6 +49,8 @@ impl<F: Parser<I, O, E>, I: Stream, O, E: ParserError<I>, E2: ParserError<I> + F
 
     ghost state = { λ s. F.state s.parser };
 
+    ghost states = { F.states };
+
     ghost meaning = { λ _. ErrIntoRuns E.kind E2.kind E2.from_gives (F.meaning E.form) };
 
     ghost says = { λ s. err_into_says E.form E.kind E2.kind E2.from_gives (F.says s) };

@@ -9,6 +9,7 @@ ghost use Rattle.winnow_core.specs.Exact.Along.{either_way};
 ghost use Rattle.winnow_core.specs.FlatMap.{FlatMapRuns, MakesParsers};
 ghost use Rattle.winnow_core.specs.FlatMap.Laws.{flat_map_exact, flat_map_fails, flat_map_ends};
 ghost use Rattle.winnow_core.specs.FlatMap.Laws.{flat_map_grows};
+ghost use Rattle.winnow_core.specs.Says.{With};
 ghost use Rattle.winnow_core.specs.Stable.Grows.{grows, stays};
 ghost use Rattle.winnow_core.specs.FlatMap.Says.{flat_map_said};
 ghost use Rattle.winnow_core.specs.FlatMap.Says.{flat_map_says};
@@ -62,6 +63,8 @@ impl<
     ghost State = { F.State × G };
 
     ghost state = { λ s. (F.state s.parser, s.map) };
+
+    ghost states = { λ s. With (F.states s.0) s.1 };
 
     ghost meaning = { λ form. FlatMapRuns G.step H.state (F.meaning form) (H.meaning form) };
 

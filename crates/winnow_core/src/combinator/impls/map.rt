@@ -7,6 +7,7 @@ ghost use Rattle.winnow_core.specs.Closures.{Gives, Stays};
 ghost use Rattle.winnow_core.specs.Exact.Adapters.{map_exact, map_fails};
 ghost use Rattle.winnow_core.specs.Map.{MapRuns};
 ghost use Rattle.winnow_core.specs.Map.Laws.{map_ends, map_grows};
+ghost use Rattle.winnow_core.specs.Says.{With};
 ghost use Rattle.winnow_core.specs.Stable.Grows.{grows, stays};
 ghost use Rattle.winnow_core.specs.Map.Says.{map_said, map_says};
 
@@ -50,6 +51,8 @@ impl<F: Parser<I, O, E>, G: FnMut(O) -> O2, I: Stream, O, O2, E: ParserError<I>>
     ghost State = { F.State × G };
 
     ghost state = { λ s. (F.state s.parser, s.map) };
+
+    ghost states = { λ s. With (F.states s.0) s.1 };
 
     ghost meaning = { λ form. MapRuns (F.meaning form) G.step };
 

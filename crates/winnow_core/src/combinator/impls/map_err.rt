@@ -8,6 +8,7 @@ ghost use Rattle.winnow_core.specs.MapErrKept.{KeepsEachKind};
 ghost use Rattle.winnow_core.specs.MakesError.Says.{turned_said, turned_says};
 ghost use Rattle.winnow_core.specs.Exact.Errors.{map_err_keeps};
 ghost use Rattle.winnow_core.specs.Says.Along.{in_form, in_form_said};
+ghost use Rattle.winnow_core.specs.Says.{With};
 
 use crate::parser::Parser;
 use std::marker::PhantomData;
@@ -55,6 +56,8 @@ impl<
     ghost State = { F.State × G };
 
     ghost state = { λ s. (F.state s.parser, s.map) };
+
+    ghost states = { λ s. With (F.states s.0) s.1 };
 
     ghost meaning = { λ _. MapErrRuns E.kind E2.kind G.step (F.meaning E.form) };
 

@@ -6,6 +6,7 @@ ghost use Rattle.winnow_core.specs.Exact.Errors.{map_err_kept_exact, map_err_kep
 ghost use Rattle.winnow_core.specs.MakesError.Laws.{makes_error_ends, makes_error_grows};
 ghost use Rattle.winnow_core.specs.MapErrKept.{KeepsEachKind, MapErrKeptBecomes, MapErrKeptRuns};
 ghost use Rattle.winnow_core.specs.MapErrKept.{map_err_kept_keeps};
+ghost use Rattle.winnow_core.specs.Says.{With};
 ghost use Rattle.winnow_core.specs.Stable.Grows.{grows, stays};
 ghost use Rattle.winnow_core.specs.MakesError.Says.{turned_said, turned_says};
 ghost use Rattle.winnow_core.specs.Exact.Errors.{map_err_kept_keeps as kinds_stay};
@@ -61,6 +62,8 @@ impl<
     ghost State = { F.State × G };
 
     ghost state = { λ s. (F.state s.parser, s.map) };
+
+    ghost states = { λ s. With (F.states s.0) s.1 };
 
     ghost meaning = { λ form. MapErrKeptRuns E.kind E2.kind G.step (F.meaning form) };
 

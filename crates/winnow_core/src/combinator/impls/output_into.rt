@@ -49,6 +49,8 @@ impl<F: Parser<I, O, E>, I: Stream, O, O2: From<O>, E: ParserError<I>> Parser<I,
 
     ghost state = { λ s. F.state s.parser };
 
+    ghost states = { F.states };
+
     ghost meaning = { λ form. OutputIntoRuns O2.from_gives (F.meaning form) };
 
     ghost says = { λ s. of_output_says (λ o u. O2.from_gives o u)

@@ -53,6 +53,8 @@ impl<F: Parser<I, O, E>, I: Stream, O: ParseSlice<O2> + Drop, O2, E: ParserError
 
     ghost state = { λ s. F.state s.parser };
 
+    ghost states = { F.states };
+
     ghost meaning = { λ form. ParseToRuns O.reads (F.meaning form) };
 
     ghost says = { λ s. parse_to_says O.reads (F.says s) };

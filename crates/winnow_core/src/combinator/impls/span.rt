@@ -49,6 +49,8 @@ impl<F: Parser<I, O, E>, I: Location, O: Drop, E: ParserError<I>> Parser<I, Rang
 
     ghost state = { λ s. F.state s.parser };
 
+    ghost states = { F.states };
+
     ghost meaning = { λ form. SpanRuns (F.meaning form) };
 
     ghost says = { λ s. span_says (F.says s) };

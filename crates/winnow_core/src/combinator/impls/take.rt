@@ -47,6 +47,8 @@ impl<F: Parser<I, O, E>, I: Stream, O: Drop, E: ParserError<I>> Parser<I, I::Sli
 
     ghost state = { λ s. F.state s.parser };
 
+    ghost states = { F.states };
+
     ghost meaning = { λ form. TakeRuns I.reading (F.meaning form) };
 
     ghost says = { λ s. take_says I.reading (F.says s) };

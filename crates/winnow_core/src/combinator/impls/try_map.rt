@@ -9,6 +9,7 @@ ghost use Rattle.winnow_core.specs.Closures.{Stays};
 ghost use Rattle.winnow_core.specs.Exact.Allowed.{fails_as};
 ghost use Rattle.winnow_core.specs.Exact.Settled.{ErrorsKept, GivesErr, GivesOk, try_map_exact};
 ghost use Rattle.winnow_core.specs.Exact.Settled.{try_map_fails};
+ghost use Rattle.winnow_core.specs.Says.{With};
 ghost use Rattle.winnow_core.specs.Settles.Laws.{settles_ends, settles_grows};
 ghost use Rattle.winnow_core.specs.Stable.Grows.{grows, stays};
 ghost use Rattle.winnow_core.specs.TryMap.{TryMapSettles, TryMapRuns};
@@ -62,6 +63,8 @@ impl<
     ghost State = { F.State × (G × (E2 → Keeping)) };
 
     ghost state = { λ s. (F.state s.parser, (s.map, E.external_gives)) };
+
+    ghost states = { λ s. With (F.states s.0) s.1 };
 
     ghost meaning = { λ form. TryMapRuns G.step (F.meaning form) };
 

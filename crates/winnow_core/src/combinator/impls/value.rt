@@ -5,6 +5,7 @@ ghost use Rattle.grammars.specs.Grammar.Unique.{made_of_takes};
 ghost use Rattle.stream_errors.specs.Form.{modal};
 ghost use Rattle.winnow_core.specs.Exact.Adapters.{value_exact, value_fails};
 ghost use Rattle.winnow_core.specs.Exact.Allowed.{fails_as, wanted};
+ghost use Rattle.winnow_core.specs.Says.{With};
 ghost use Rattle.winnow_core.specs.Stable.Grows.{grows, stays};
 ghost use Rattle.winnow_core.specs.Value.{ValueRuns, value_kept, value_parser};
 ghost use Rattle.winnow_core.specs.Value.Laws.{value_ends, value_grows};
@@ -49,6 +50,8 @@ impl<F: Parser<I, O, E>, I: Stream, O: Drop, O2: Clone, E: ParserError<I>> Parse
     ghost State = { F.State × O2 };
 
     ghost state = { λ s. (F.state s.parser, s.value) };
+
+    ghost states = { λ s. With (F.states s.0) s.1 };
 
     ghost meaning = { λ form. ValueRuns O2.is_clone O2.is_infallible (F.meaning form) };
 

@@ -8,6 +8,7 @@ ghost use Rattle.stream_errors.specs.Form.{modal};
 ghost use Rattle.winnow_core.specs.Closures.{Stays, Finds};
 ghost use Rattle.winnow_core.specs.Exact.Settled.{Misses, settled_exact, verify_fails};
 ghost use Rattle.winnow_core.specs.Exact.Settled.{verify_settler};
+ghost use Rattle.winnow_core.specs.Says.{With};
 ghost use Rattle.winnow_core.specs.Settles.Laws.{settles_ends, settles_grows};
 ghost use Rattle.winnow_core.specs.Stable.Grows.{grows, stays};
 ghost use Rattle.winnow_core.specs.Verify.{VerifySettles, VerifyRuns};
@@ -56,6 +57,8 @@ impl<F: Parser<I, O, E>, G: FnMut(&O) -> bool, I: Stream, O: Drop, E: ParserErro
     ghost State = { F.State × G };
 
     ghost state = { λ s. (F.state s.parser, s.filter) };
+
+    ghost states = { λ s. With (F.states s.0) s.1 };
 
     ghost meaning = { λ form. VerifyRuns (CalledAt G.FnMut) (F.meaning form) };
 

@@ -46,6 +46,8 @@ impl<F: Parser<I, O, E>, I: Stream, O: Drop, E: ParserError<I>> Parser<I, (), E>
 
     ghost state = { λ s. F.state s.parser };
 
+    ghost states = { F.states };
+
     ghost meaning = { λ form. VoidRuns (F.meaning form) };
 
     ghost says = { λ s. void_says (F.says s) };

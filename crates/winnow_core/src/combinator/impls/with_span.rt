@@ -50,6 +50,8 @@ impl<F: Parser<I, O, E>, I: Location, O, E: ParserError<I>> Parser<I, (O, Range<
 
     ghost state = { λ s. F.state s.parser };
 
+    ghost states = { F.states };
+
     ghost meaning = { λ form. WithSpanRuns (F.meaning form) };
 
     ghost says = { λ s. with_span_says (F.says s) };

@@ -49,6 +49,8 @@ impl<F: Parser<I, O, E>, I: Stream, O, E: ParserError<I>> Parser<I, (O, I::Slice
 
     ghost state = { λ s. F.state s.parser };
 
+    ghost states = { F.states };
+
     ghost meaning = { λ form. WithTakenRuns I.reading (F.meaning form) };
 
     ghost says = { λ s. with_taken_says I.reading (F.says s) };

@@ -1,6 +1,7 @@
 //! Text with escapes, and its unescaped value.
 ghost use Rattle.std.specs.Prelude.{◌≡◌, None};
 ghost use Rattle.stream_errors.specs.Form.{assert_kind, incomplete_kind, plain, modal};
+ghost use Rattle.winnow_core.specs.InOrder.Says.{Three};
 ghost use Rattle.winnow_core.specs.Stable.Grows.{grows, stays};
 ghost use Rattle.winnow_escapes.specs.Controls.{grows_on_some};
 ghost use Rattle.winnow_escapes.specs.Escaped.{EscapedRuns, escaped_control, escaped_escape};
@@ -74,6 +75,8 @@ impl<
     ghost State = { N.State × K.State × X.State };
 
     ghost state = { λ s. (N.state s.normal, K.state s.control, X.state s.escape) };
+
+    ghost states = { λ s. Three (N.states s.0) (K.states s.1) (X.states s.2) };
 
     ghost meaning = { λ form. EscapedRuns (N.meaning form) (K.meaning plain) (X.meaning form)
         (turns_kept ⟦<C as Accumulate<O, A>>⟧.accumulator ⟦<C as Accumulate<P, A>>⟧.accumulator)

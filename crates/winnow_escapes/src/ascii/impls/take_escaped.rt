@@ -1,6 +1,7 @@
 //! Text with escapes, as it stands.
 ghost use Rattle.std.specs.Prelude.{◌≡◌, None};
 ghost use Rattle.stream_errors.specs.Form.{assert_kind, incomplete_kind, plain, modal};
+ghost use Rattle.winnow_core.specs.InOrder.Says.{Three};
 ghost use Rattle.winnow_core.specs.Stable.Grows.{grows, stays};
 ghost use Rattle.winnow_core.specs.Take.Laws.{take_adapter_grows};
 ghost use Rattle.winnow_escapes.specs.Controls.{grows_on_some};
@@ -82,6 +83,8 @@ impl<
       K.state (take_escaped_control s),
       X.state (take_escaped_escapable s),
     ) };
+
+    ghost states = { λ s. Three (N.states s.0) (K.states s.1) (X.states s.2) };
 
     ghost meaning = { λ form. TakeEscapedRuns I.reading (N.meaning form) (K.meaning plain)
         (X.meaning form) (assert_kind form) (incomplete_kind form None) };

@@ -7,7 +7,7 @@ ghost use Rattle.winnow_expression.specs.Expression.Laws.{leveled_leaves};
 ghost use Rattle.winnow_expression.specs.Parts.{parts_grammar};
 ghost use Rattle.winnow_expression.specs.Places.Laws.{first_ends, next_ends};
 ghost use Rattle.winnow_core.specs.Claim.{no_claim, nothing_claimed};
-ghost use Rattle.winnow_core.specs.Says.{nothing_done, nothing_said};
+ghost use Rattle.winnow_core.specs.Says.{Is, nothing_done, nothing_said};
 
 use crate::combinator::folds::{FoldBinary, FoldUnary};
 use crate::combinator::machine::expression_from;
@@ -210,6 +210,8 @@ impl<
       (Post.state s.next.postfix, Pix.state s.next.«infix»),
       s.level,
     ) };
+
+    ghost states = { Is };
 
     ghost meaning = { λ form. LeveledRuns (parts_grammar I.reading.units (assert_kind form)
         (P.meaning form) (Pre.meaning form) (Post.meaning form) (Pix.meaning form) (F.folds form)

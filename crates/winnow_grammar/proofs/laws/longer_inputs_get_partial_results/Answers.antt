@@ -1,9 +1,6 @@
-use Rattle.winnow_core.specs.Says.Decided.{decided_of}
 use Rattle.winnow_grammar.specs.Longer.{no_other_on_longer}
 use Rattle.winnow_grammar.proofs.laws.longer_inputs_get_partial_results.Goals as goal
 
 pub returns : goal.returns
-returns g c = λ is s premise. no_other_on_longer g.P.Parser.meaning g.E.HasKind.form is
-    g.met.P.Stable.stable
-    (decided_of g.I.Stream.reading g.met.P.Parser.leaves_ends (g.met.P.Parser.said s)
-    g.E.HasKind.form premise)
+returns g c = λ is s premise. no_other_on_longer g.I.Stream.reading g.met.P.Parser.leaves_ends
+    (g.met.P.Parser.said s) g.E.HasKind.form is g.met.P.Stable.stable premise

@@ -8,6 +8,7 @@ ghost use Rattle.winnow_integers.specs.Integer.Laws.{integer_leaves, integer_sta
 ghost use Rattle.winnow_integers.specs.Integer.Says.{integer_said, integer_says};
 ghost use Rattle.winnow_integers.specs.declared.binary.endianness.Endianness.TheVariants.{Big};
 ghost use Rattle.winnow_core.specs.Runs.{Keeps};
+ghost use Rattle.winnow_core.specs.Says.{Is};
 ghost use Rattle.winnow_core.specs.Stable.Grows.{leaf_stays};
 
 use crate::binary::be_i8;
@@ -30,6 +31,8 @@ impl<I: StreamIsPartial + ByteStream, E: ParserError<I>> Parser<I, i8, E> for Be
     ghost State = { ⊤ };
 
     ghost state = { λ _. tt };
+
+    ghost states = { Is };
 
     ghost meaning = { λ form. Keeps (λ _. IntegerRuns 1 (signed_value Big) I.reading form) };
 

@@ -4,7 +4,7 @@
 ghost use Rattle.std.specs.Prelude.{◌≡◌, true};
 ghost use Rattle.stream_errors.specs.Form.{answer_by};
 ghost use Rattle.streams.specs.Input.{IsEndOf};
-ghost use Rattle.winnow_recovery.specs.Recovery.{Recovery, recovery_of};
+ghost use Rattle.winnow_recovery.specs.Recovery.{Recovery, WhereNoneRecovers, recovery_of};
 ghost use Rattle.winnow_recovery.specs.ResumeAfter.Laws.{resume_after_ends};
 ghost use Rattle.winnow_recovery.specs.ResumeAfter.{ResumeAfterRuns, ResumeRuns};
 ghost use Rattle.winnow_recovery.specs.ResumeAfter.{resume_after_parser, resume_after_recover};
@@ -77,6 +77,8 @@ impl<
       R.state s.recover,
       recovery_of I.supports_recovery E.recoverable_grows,
     ) };
+
+    ghost states = { λ s. WhereNoneRecovers (P.states s.0) s.1 s.2 };
 
     ghost meaning = { λ form. ResumeAfterRuns (P.meaning form) (R.meaning form) };
 

@@ -4,7 +4,7 @@
 ghost use Rattle.std.specs.Prelude.{◌≡◌, true};
 ghost use Rattle.stream_errors.specs.Form.{answer_by};
 ghost use Rattle.streams.specs.Input.{IsEndOf};
-ghost use Rattle.winnow_recovery.specs.Recovery.{Recovery, recovery_of};
+ghost use Rattle.winnow_recovery.specs.Recovery.{Recovery, WhereNoneRecovers, recovery_of};
 ghost use Rattle.winnow_recovery.specs.RetryAfter.Laws.{retry_after_ends};
 ghost use Rattle.winnow_recovery.specs.RetryAfter.{RetryAfterRuns, RetryRuns, retry_after_parser};
 ghost use Rattle.winnow_recovery.specs.RetryAfter.{retry_after_recover};
@@ -76,6 +76,8 @@ impl<
       R.state s.recover,
       recovery_of I.supports_recovery E.recoverable_grows,
     ) };
+
+    ghost states = { λ s. WhereNoneRecovers (P.states s.0) s.1 s.2 };
 
     ghost meaning = { λ form. RetryAfterRuns (P.meaning form) (R.meaning form) };
 

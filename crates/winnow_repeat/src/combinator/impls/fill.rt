@@ -1,11 +1,12 @@
 //! A buffer that is filled.
+ghost use Rattle.std.specs.Prelude.{length};
 ghost use Rattle.stream_errors.specs.Form.{answer_by, modal};
 ghost use Rattle.streams.specs.Input.{IsEndOf};
 ghost use Rattle.winnow_core.specs.Stable.Grows.{grows, stays};
 ghost use Rattle.winnow_repeat.specs.Fill.{Buffer, FillRuns, FillsElements, fill_buffer};
 ghost use Rattle.winnow_repeat.specs.Fill.Laws.{fill_ends, fill_grows};
 ghost use Rattle.winnow_core.specs.Claim.{no_claim, nothing_claimed};
-ghost use Rattle.winnow_core.specs.Says.{nothing_done, nothing_said};
+ghost use Rattle.winnow_repeat.specs.Fill.Says.{FillStates, fill_said, fill_says};
 
 use std::marker::PhantomData;
 use stream_errors::parser_error::ParserError;
@@ -35,15 +36,17 @@ impl<'b, P: Parser<I, O, E>, I: Stream, O: Drop, E: ParserError<I>> Parser<I, ()
 
     ghost state = { λ s. (P.state s.parser, fill_buffer s) };
 
+    ghost states = { λ s. FillStates (P.states s.0) s.1 };
+
     ghost meaning = { λ form. FillRuns (P.meaning form) };
 
-    ghost says = { λ _. nothing_said };
+    ghost says = { λ s. fill_says (length s.1.elements) (P.says s.0) };
 
     ghost claim = { λ _. no_claim };
 
     ghost leaves_ends = { λ form. fill_ends I.reading (P.meaning form) (P.leaves_ends form) };
 
-    ghost said = { λ _. nothing_done };
+    ghost said = { λ s. fill_said (P.said s.0) };
 
     ghost claimed = { λ _. nothing_claimed };
 

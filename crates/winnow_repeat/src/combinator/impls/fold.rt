@@ -8,6 +8,7 @@ ghost use Rattle.grammars.specs.Grammar.Folded.{FoldOf, Folded, StaysFolding, St
 ghost use Rattle.grammars.specs.Grammar.Unique.{repeated_take};
 ghost use Rattle.stream_errors.specs.Form.{answer_by, assert_kind, modal};
 ghost use Rattle.winnow_core.specs.Exact.Allowed.{fails_as, softly};
+ghost use Rattle.winnow_core.specs.Says.{With};
 ghost use Rattle.winnow_core.specs.Stable.Grows.{grows, stays};
 ghost use Rattle.winnow_repeat.specs.Fold.{FoldOneRuns, FoldTakes, RangedFolds, fold_closure};
 ghost use Rattle.winnow_repeat.specs.Fold.Exact.{fold_exact, fold_fails};
@@ -106,6 +107,8 @@ impl<
     ghost State = { P.State × (Range × (G × H)) };
 
     ghost state = { λ s. (P.state s.parser, (s.occurrences, (s.init, s.op.closure))) };
+
+    ghost states = { λ s. With (P.states s.0) s.1 };
 
     ghost meaning = { λ form. RangedFolds G.step H.step (P.meaning form) (assert_kind form) };
 

@@ -6,6 +6,8 @@ ghost use Rattle.stream_sets.specs.declared.range.Range.{Range};
 ghost use Rattle.grammars.specs.Grammar.Till.{Till, till_takes};
 ghost use Rattle.stream_errors.specs.Form.{answer_by, assert_kind, modal};
 ghost use Rattle.winnow_core.specs.Exact.Allowed.{fails_as, wanted, softly};
+ghost use Rattle.winnow_core.specs.InOrder.Says.{Three};
+ghost use Rattle.winnow_core.specs.Says.{Is};
 ghost use Rattle.winnow_core.specs.Stable.Grows.{grows, stays};
 ghost use Rattle.winnow_repeat.specs.RepeatTill.{LeastItemsRun, RangedTillRuns, TurnsRun};
 ghost use Rattle.winnow_repeat.specs.RepeatTill.Errors.{repeat_till_fails};
@@ -53,6 +55,8 @@ impl<
     ghost State = { P.State × G.State × Range };
 
     ghost state = { λ s. (P.state s.parser, G.state s.terminator, s.occurrences) };
+
+    ghost states = { λ s. Three (P.states s.0) (G.states s.1) (Is s.2) };
 
     ghost meaning = { λ form. RangedTillRuns (P.meaning form) (G.meaning form) C.accumulator
         (assert_kind form) };

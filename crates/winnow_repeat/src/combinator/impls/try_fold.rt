@@ -4,6 +4,7 @@ ghost use Rattle.stream_errors.specs.Form.{assert_kind, modal};
 ghost use Rattle.stream_errors.specs.Given.{Keeping, KindGiven};
 ghost use Rattle.stream_sets.specs.declared.range.Range.{Range};
 ghost use Rattle.streams.specs.Kind.{backtrack};
+ghost use Rattle.winnow_core.specs.Says.{With};
 ghost use Rattle.winnow_core.specs.Stable.Grows.{grows, stays};
 ghost use Rattle.winnow_repeat.specs.Fold.Laws.{ranged_fold_many_ends, fold_any_grows};
 ghost use Rattle.winnow_repeat.specs.TryFold.{TryFoldRuns, TryFoldTakes, try_fold_closure};
@@ -119,6 +120,8 @@ impl<
 
     ghost state = { λ s.
         (P.state s.parser, (s.occurrences, (s.init, (s.op.closure, E.external_gives)))) };
+
+    ghost states = { λ s. With (P.states s.0) s.1 };
 
     ghost meaning = { λ form. TryFoldRuns G.step H.step (P.meaning form) (assert_kind form) };
 

@@ -3,6 +3,7 @@ ghost use Rattle.std.specs.Prelude.{◌≡◌};
 ghost use Rattle.stream_errors.specs.Form.{assert_kind, modal};
 ghost use Rattle.stream_sets.specs.declared.range.Range.{Range};
 ghost use Rattle.streams.specs.Kind.{backtrack};
+ghost use Rattle.winnow_core.specs.Says.{With};
 ghost use Rattle.winnow_core.specs.Stable.Grows.{grows, stays};
 ghost use Rattle.winnow_repeat.specs.Fold.Laws.{ranged_fold_many_ends, fold_any_grows};
 ghost use Rattle.winnow_repeat.specs.VerifyFold.{VerifyFoldRuns, VerifyFoldTakes};
@@ -106,6 +107,8 @@ impl<
     ghost State = { P.State × (Range × (G × H)) };
 
     ghost state = { λ s. (P.state s.parser, (s.occurrences, (s.init, s.op.closure))) };
+
+    ghost states = { λ s. With (P.states s.0) s.1 };
 
     ghost meaning = { λ form. VerifyFoldRuns G.step H.step (P.meaning form) (assert_kind form) };
 

@@ -13,9 +13,9 @@ pub returns-clause-of_outcomes : goal.returns-clause-of_outcomes
 returns-clause-of_outcomes g c s premise between consumes =
     let form = g.E.HasKind.form in
     let element = decided_of g.I.Stream.reading g.met.P.Parser.leaves_ends
-    (g.met.P.Parser.said s.0) form premise in
+    (g.met.P.Parser.said s.0) form premise.0 premise.1 in
     let separator = decided_of g.I.Stream.reading g.met.S.Parser.leaves_ends
-    (g.met.S.Parser.said s.1) form between in
+    (g.met.S.Parser.said s.1) form between.0 between.1 in
     fold_the_same g.row.A.Denot _ (g.P.Parser.meaning form) (g.S.Parser.meaning form)
     (assert_kind form) s (decided_decides element) (decided_decides separator)
     (decided_consumes separator consumes)

@@ -12,7 +12,8 @@ ghost use Rattle.winnow_separated.specs.Separated.{SeparatedRuns};
 ghost use Rattle.winnow_separated.specs.Separated.Exact.{separated_exact, separated_fails};
 ghost use Rattle.winnow_separated.specs.Separated.Exact.{separated_takes};
 ghost use Rattle.winnow_separated.specs.Separated.Laws.{separated_ends, separated_grows};
-ghost use Rattle.winnow_separated.specs.Separated.Says.{separated_said, separated_says};
+ghost use Rattle.winnow_separated.specs.Separated.Says.{BothWith, separated_said};
+ghost use Rattle.winnow_separated.specs.Separated.Says.{separated_says};
 
 use crate::combinator::impls::link::Link;
 use std::alloc::Allocator;
@@ -54,6 +55,8 @@ impl<
     ghost State = { P.State × S.State × Range };
 
     ghost state = { λ s. (P.state s.link.parser, S.state s.link.separator, s.occurrences) };
+
+    ghost states = { λ s. BothWith (P.states s.0) (S.states s.1) s.2 };
 
     ghost meaning = { λ form. RangedElements (P.meaning form) (S.meaning form) C.accumulator
         (assert_kind form) };

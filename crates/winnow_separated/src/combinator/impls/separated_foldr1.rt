@@ -2,6 +2,7 @@
 ghost use Rattle.std.specs.Prelude.{◌≡◌};
 ghost use Rattle.stream_errors.specs.Form.{assert_kind, modal};
 ghost use Rattle.winnow_core.specs.Stable.Grows.{grows, stays};
+ghost use Rattle.winnow_separated.specs.Separated.Says.{BothWith};
 ghost use Rattle.winnow_separated.specs.SeparatedFoldr1.{FoldsRight, SeparatedFoldr1Runs};
 ghost use Rattle.winnow_separated.specs.SeparatedFoldr1.{foldr1_parser};
 ghost use Rattle.winnow_separated.specs.SeparatedFoldr1.{foldr1_separator};
@@ -70,6 +71,8 @@ impl<
     ghost State = { P.State × S.State × H };
 
     ghost state = { λ s. (P.state s.pair.1, S.state s.pair.0, s.op) };
+
+    ghost states = { λ s. BothWith (P.states s.0) (S.states s.1) s.2 };
 
     ghost meaning = { λ form. SeparatedFoldr1Runs A H.step (P.meaning form)
         (S.meaning form) (assert_kind form) };

@@ -10,7 +10,8 @@ pub returns-clause-tells : goal.returns-clause-tells
 returns-clause-tells g c is =
     let said = into_slice_said (g.met.P.Parser.said (g.P.Parser.state c.args.parser.now))
     g.E.FromExternalError.external_gives c.args.slice.now c.write_items.new.slice in (
-      kept_by said is g.E.HasKind.form _ _ _ _ (_, refl, c.write_items.ensures.ran),
+      (λ keeps. kept_by said is keeps g.E.HasKind.form _ _ _ _
+          (_, refl, c.write_items.ensures.ran)),
       told said is g.E.HasKind.form _ _ _ _ (_, refl, c.write_items.ensures.ran),
     )
 

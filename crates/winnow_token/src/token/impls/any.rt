@@ -3,6 +3,7 @@ ghost use Rattle.std.specs.Prelude.{⊤};
 ghost use Rattle.grammars.specs.Grammar.{Token};
 ghost use Rattle.winnow_core.specs.Exact.Allowed.{backs};
 ghost use Rattle.winnow_core.specs.Runs.{Keeps};
+ghost use Rattle.winnow_core.specs.Says.{Is};
 ghost use Rattle.winnow_core.specs.Stable.Grows.{leaf_stays};
 ghost use Rattle.winnow_token.specs.Any.{AnyRuns};
 ghost use Rattle.winnow_token.specs.Any.Laws.{any_exact, any_fails, token_takes};
@@ -28,6 +29,8 @@ impl<I: StreamIsPartial, E: ParserError<I>> Parser<I, I::Token, E> for Any {
     ghost State = { ⊤ };
 
     ghost state = { λ _. tt };
+
+    ghost states = { Is };
 
     ghost meaning = { λ form. Keeps (λ _. AnyRuns I.seen_as I.reading form) };
 

@@ -8,6 +8,7 @@ ghost use Rattle.winnow_core.specs.Literal.Laws.{ShowSame, literal_exact};
 ghost use Rattle.winnow_core.specs.Literal.Laws.{literal_fails, literal_ends};
 ghost use Rattle.winnow_core.specs.Literal.Laws.{literal_stays};
 ghost use Rattle.winnow_core.specs.Runs.{Keeps};
+ghost use Rattle.winnow_core.specs.Says.{Is};
 ghost use Rattle.winnow_core.specs.Stable.Grows.{leaf_stays};
 ghost use Rattle.winnow_core.specs.Literal.Says.{literal_said, literal_says};
 
@@ -37,6 +38,8 @@ impl<T: Copy, I: StreamIsPartial + Compare<T>, E: ParserError<I>> Parser<I, I::S
     ghost State = { T };
 
     ghost state = { λ s. s.literal };
+
+    ghost states = { Is };
 
     ghost meaning = { λ form. Keeps
         (λ x. LiteralRuns I.reading form (I.spells x) (λ slice. slice)) };

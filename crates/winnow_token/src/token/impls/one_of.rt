@@ -5,6 +5,7 @@ ghost use Rattle.stream_sets.specs.Once.{SetIsFunction};
 ghost use Rattle.grammars.specs.Grammar.{Token, TokenOf};
 ghost use Rattle.winnow_core.specs.Exact.Allowed.{backs};
 ghost use Rattle.winnow_core.specs.Runs.{Keeps};
+ghost use Rattle.winnow_core.specs.Says.{Is};
 ghost use Rattle.winnow_core.specs.Stable.Grows.{leaf_stays};
 ghost use Rattle.winnow_token.specs.OneOf.{OneOfRuns};
 ghost use Rattle.winnow_token.specs.OneOf.Laws.{one_of_exact, one_of_fails};
@@ -43,6 +44,8 @@ where
     ghost State = { S };
 
     ghost state = { λ s. s.set };
+
+    ghost states = { Is };
 
     ghost meaning = { λ form. Keeps (λ x. OneOfRuns I.seen_as I.reading form (S.tells x)) };
 

@@ -3,6 +3,7 @@ ghost use Rattle.std.specs.Prelude.{⊤};
 ghost use Rattle.grammars.specs.Grammar.{AllTokens};
 ghost use Rattle.winnow_core.specs.Exact.Allowed.{backs};
 ghost use Rattle.winnow_core.specs.Runs.{Keeps};
+ghost use Rattle.winnow_core.specs.Says.{Is};
 ghost use Rattle.winnow_token.specs.Rest.{RestRuns};
 ghost use Rattle.winnow_token.specs.Rest.Laws.{rest_ends};
 ghost use Rattle.winnow_token.specs.Rest.Laws.{rest_exact, rest_fails};
@@ -26,6 +27,8 @@ impl<I: Stream, E: ParserError<I>> Parser<I, I::Slice, E> for Rest {
     ghost State = { ⊤ };
 
     ghost state = { λ _. tt };
+
+    ghost states = { Is };
 
     ghost meaning = { λ _. Keeps (λ _. RestRuns I.reading) };
 

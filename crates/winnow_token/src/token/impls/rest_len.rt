@@ -4,6 +4,7 @@ ghost use Rattle.grammars.specs.Grammar.{UnitsLeft};
 ghost use Rattle.winnow_core.specs.Ends.{same_ends};
 ghost use Rattle.winnow_core.specs.Exact.Allowed.{backs};
 ghost use Rattle.winnow_core.specs.Runs.{Keeps};
+ghost use Rattle.winnow_core.specs.Says.{Is};
 ghost use Rattle.winnow_token.specs.Rest.{RestLenRuns};
 ghost use Rattle.winnow_token.specs.Rest.Laws.{rest_len_exact, rest_len_fails};
 ghost use Rattle.winnow_token.specs.Rest.Says.{rest_len_said, rest_len_says};
@@ -26,6 +27,8 @@ impl<I: Stream, E: ParserError<I>> Parser<I, usize, E> for RestLen {
     ghost State = { ⊤ };
 
     ghost state = { λ _. tt };
+
+    ghost states = { Is };
 
     ghost meaning = { λ _. Keeps (λ _. RestLenRuns I.reading) };
 

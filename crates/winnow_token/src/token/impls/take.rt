@@ -3,6 +3,7 @@ ghost use Rattle.std.specs.Prelude.{ℕ, ◌<◌, ⊤};
 ghost use Rattle.grammars.specs.Grammar.{Counted};
 ghost use Rattle.winnow_core.specs.Exact.Allowed.{backs};
 ghost use Rattle.winnow_core.specs.Runs.{Keeps};
+ghost use Rattle.winnow_core.specs.Says.{Is};
 ghost use Rattle.winnow_core.specs.Stable.Grows.{leaf_stays};
 ghost use Rattle.winnow_token.specs.Take.{TakeRuns};
 ghost use Rattle.winnow_token.specs.Take.Laws.{counted_takes, take_exact};
@@ -33,6 +34,8 @@ impl<I: StreamIsPartial, E: ParserError<I>> Parser<I, I::Slice, E> for Take<I, E
     ghost State = { ℕ };
 
     ghost state = { λ s. s.count };
+
+    ghost states = { Is };
 
     ghost meaning = { λ form. Keeps (λ x. TakeRuns I.reading form I.counts_missing x) };
 

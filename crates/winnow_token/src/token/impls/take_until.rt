@@ -6,6 +6,7 @@ ghost use Rattle.grammars.specs.Grammar.Searches.{Before};
 ghost use Rattle.grammars.specs.Grammar.Searches.Unique.{before_takes};
 ghost use Rattle.winnow_core.specs.Exact.Allowed.{backs};
 ghost use Rattle.winnow_core.specs.Runs.{Keeps};
+ghost use Rattle.winnow_core.specs.Says.{Is};
 ghost use Rattle.winnow_core.specs.Stable.Grows.{leaf_stays};
 ghost use Rattle.winnow_token.specs.TakeUntil.{TakeUntilRuns};
 ghost use Rattle.winnow_token.specs.TakeUntil.Laws.{take_until_exact, take_until_fails};
@@ -42,6 +43,8 @@ impl<T: Copy, I: StreamIsPartial + FindSlice<T>, E: ParserError<I>> Parser<I, I:
     ghost State = { Range × T };
 
     ghost state = { λ s. (s.occurrences, s.literal) };
+
+    ghost states = { Is };
 
     ghost meaning = { λ form. Keeps
         (λ x. TakeUntilRuns I.reading form (I.sought x.1) (bounds_of x.0)) };

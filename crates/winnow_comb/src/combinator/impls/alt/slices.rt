@@ -1,6 +1,6 @@
 //! Arrays and slices as branches.
 ghost use Rattle.std.specs.Prelude.{◌≡◌, List, map, ℕ, []};
-ghost use Rattle.std.specs.List.{All};
+ghost use Rattle.std.specs.List.{All, AllZip};
 ghost use Rattle.streams.specs.Input.{IsEndOf};
 ghost use Rattle.grammars.specs.Grammar.FirstOf.{FirstOf, first_of_takes};
 ghost use Rattle.stream_errors.specs.Form.{answer_by, assert_kind, modal};
@@ -8,6 +8,7 @@ ghost use Rattle.winnow_core.specs.ByRef.{ByRefRuns};
 ghost use Rattle.winnow_core.specs.ByRef.Laws.{by_ref_exact, by_ref_fails, by_ref_ends};
 ghost use Rattle.winnow_core.specs.ByRef.Laws.{by_ref_grows, by_ref_said};
 ghost use Rattle.winnow_core.specs.Exact.Allowed.{fails_as};
+ghost use Rattle.winnow_core.specs.Says.{With};
 ghost use Rattle.winnow_core.specs.Stable.Grows.{grows, stays};
 ghost use Rattle.winnow_comb.specs.Alt.FirstOf.{asserts, first_of_exact, first_of_fails};
 ghost use Rattle.winnow_comb.specs.Alt.Slice.{AltSliceRuns};
@@ -26,6 +27,8 @@ impl<const N: usize, I: Stream, O, E: ParserError<I>, P: Parser<I, O, E>> Alt<I,
     ghost State = { List P.State };
 
     ghost state = { λ s. map P.state s };
+
+    ghost states = { AllZip P.states };
 
     ghost meaning = { λ form. AltSliceRuns (P.meaning form) (assert_kind form) };
 
@@ -90,6 +93,8 @@ impl<'a, I: Stream, O, E: ParserError<I>, P: Parser<I, O, E>> Alt<I, O, E> for &
     ghost State = { List P.State × ℕ };
 
     ghost state = { λ s. (map P.state s.now, s.ghost_name) };
+
+    ghost states = { λ s. With (AllZip P.states s.0) s.1 };
 
     ghost meaning = { λ form. ByRefRuns (AltSliceRuns (P.meaning form) (assert_kind form)) };
 

@@ -5,6 +5,7 @@ ghost use Rattle.winnow_comb.specs.Alt.{OrElse};
 ghost use Rattle.winnow_comb.specs.Alt.Claim.{or_else_claim, or_else_claimed};
 ghost use Rattle.winnow_comb.specs.Alt.Laws.{or_else_ends};
 ghost use Rattle.winnow_comb.specs.Alt.Says.{or_else_said, or_else_says};
+ghost use Rattle.winnow_core.specs.Says.{Both};
 
 use crate::combinator::impls::alt::{Alt, attempt};
 use stream_errors::parser_error::ParserError;
@@ -17,6 +18,8 @@ impl<I: Stream, O, E: ParserError<I>, P1: Parser<I, O, E>> Alt<I, O, E> for (P1,
     ghost State = { P1.State };
 
     ghost state = { λ s. P1.state s.0 };
+
+    ghost states = { P1.states };
 
     ghost meaning = { P1.meaning };
 
@@ -43,6 +46,8 @@ impl<I: Stream, O, E: ParserError<I>, P1: Parser<I, O, E>, P2: Parser<I, O, E>> 
     ghost State = { P1.State × P2.State };
 
     ghost state = { λ s. (P1.state s.0, P2.state s.1) };
+
+    ghost states = { λ s. Both (P1.states s.0) (P2.states s.1) };
 
     ghost meaning = { λ form. OrElse (P1.meaning form) (P2.meaning form) };
 
@@ -80,6 +85,8 @@ impl<
     ghost State = { P1.State × (P2.State × P3.State) };
 
     ghost state = { λ s. (P1.state s.0, (P2.state s.1, P3.state s.2)) };
+
+    ghost states = { λ s. Both (P1.states s.0) (Both (P2.states s.1.0) (P3.states s.1.1)) };
 
     ghost meaning = { λ form. OrElse (P1.meaning form)
         (OrElse (P2.meaning form) (P3.meaning form)) };
@@ -127,6 +134,9 @@ impl<
     ghost State = { P1.State × (P2.State × (P3.State × P4.State)) };
 
     ghost state = { λ s. (P1.state s.0, (P2.state s.1, (P3.state s.2, P4.state s.3))) };
+
+    ghost states = { λ s. Both (P1.states s.0)
+        (Both (P2.states s.1.0) (Both (P3.states s.1.1.0) (P4.states s.1.1.1))) };
 
     ghost meaning = { λ form. OrElse (P1.meaning form)
         (OrElse (P2.meaning form) (OrElse (P3.meaning form) (P4.meaning form))) };
@@ -186,6 +196,10 @@ impl<
 
     ghost state = { λ s.
         (P1.state s.0, (P2.state s.1, (P3.state s.2, (P4.state s.3, P5.state s.4)))) };
+
+    ghost states = { λ s. Both (P1.states s.0)
+        (Both (P2.states s.1.0)
+        (Both (P3.states s.1.1.0) (Both (P4.states s.1.1.1.0) (P5.states s.1.1.1.1)))) };
 
     ghost meaning = { λ form. OrElse (P1.meaning form)
         (OrElse (P2.meaning form)
@@ -265,6 +279,12 @@ impl<
         (P3.state s.2, (P4.state s.3, (P5.state s.4, P6.state s.5))),
       ),
     ) };
+
+    ghost states = { λ s. Both (P1.states s.0)
+        (Both (P2.states s.1.0)
+        (Both (P3.states s.1.1.0)
+        (Both (P4.states s.1.1.1.0)
+        (Both (P5.states s.1.1.1.1.0) (P6.states s.1.1.1.1.1))))) };
 
     ghost meaning = { λ form. OrElse (P1.meaning form)
         (OrElse (P2.meaning form)

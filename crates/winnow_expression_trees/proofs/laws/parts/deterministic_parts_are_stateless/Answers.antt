@@ -3,7 +3,7 @@ use Rattle.winnow_expression_trees.specs.Premises.Decided.{decided_stateless}
 use Rattle.winnow_expression_trees.proofs.laws.parts.deterministic_parts_are_stateless.Goals as goal
 
 pub returns : goal.returns
-returns g c s premise =
+returns g c s premise keeps =
     decided_stateless
     (decided_of g.I.Stream.reading g.met.P.Parser.leaves_ends (g.met.P.Parser.said s)
-    g.E.HasKind.form premise)
+    g.E.HasKind.form premise keeps)

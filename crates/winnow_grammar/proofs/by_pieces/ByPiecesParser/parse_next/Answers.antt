@@ -1,6 +1,6 @@
 use denote.Param.Always.{mut_next}
 use Rattle.std.proofs.Common.{refl}
-use Rattle.winnow_grammar.specs.RulePieces.{asks_again, call_runs}
+use Rattle.winnow_grammar.specs.RulePieces.{asks_again, call_runs, tells_again}
 use Rattle.winnow_grammar.proofs.by_pieces.ByPiecesParser.parse_next.Goals as goal
 
 pub returns-clause-again : goal.returns-clause-again
@@ -9,6 +9,9 @@ returns-clause-again g c = (
   asks_again _ _ _ _ _ _ _ _ _ _ _ c.requires.1
       (record { shown = _; shows = refl; left = _; called = c.run.ensures; leaves = refl }),
   c.requires.2,
+  tells_again c.requires.1
+      (record { shown = _; shows = refl; left = _; called = c.run.ensures; leaves = refl })
+      c.requires.3,
 )
 
 pub returns-clause-ran : goal.returns-clause-ran
@@ -16,6 +19,8 @@ returns-clause-ran g c = (
   call_runs c.requires.2 _ _ _ (c.requires.1.reads _ _ _ _
       (record { shown = _; shows = refl; left = _; called = c.run.ensures; leaves = refl })),
   refl,
+  c.requires.3 _ _ _ _
+      (record { shown = _; shows = refl; left = _; called = c.run.ensures; leaves = refl }),
 )
 
 pub returns-clause-ends : goal.returns-clause-ends

@@ -1,6 +1,7 @@
 use Rattle.winnow_core.specs.Exact.Allowed.{softly}
 use Rattle.winnow_core.specs.Says.{told}
 use Rattle.winnow_grammar.specs.Cut.{told_or_asked}
+use Rattle.winnow_grammar.specs.RulePieces.{has_outcome}
 use Rattle.winnow_grammar.proofs.pieces.ReadsPieces.read_cut.Goals as goal
 
 pub returns-clause-reads : goal.returns-clause-reads
@@ -17,3 +18,8 @@ pub returns-clause-tells : goal.returns-clause-tells
 returns-clause-tells g c is =
     told (g.met.Self.Parser.said (g.Self.Parser.state c.args.self.now)) is g.E.HasKind.form _ _ _ _
     c.parse_next.ensures.ran
+
+pub returns-clause-outcome : goal.returns-clause-outcome
+returns-clause-outcome g c is =
+    has_outcome (g.met.Self.Parser.said (g.Self.Parser.state c.args.self.now)) is g.E.HasKind.form
+    _ _ _ _ c.parse_next.ensures.ran

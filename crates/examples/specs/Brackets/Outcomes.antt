@@ -1,0 +1,130 @@
+-- The outcomes of brackets in brackets.
+use Rattle.std.specs.Prelude.{◌≡◌, ⊤, ⊥, ℕ, zero, suc, [], ◌∷◌, None, Ok, Err}
+use Rattle.std.specs.declared.vec.Vec.{Vec}
+use Rattle.std.proofs.Common.{refl, sym, subst, ap, ◌∙◌}
+use Rattle.winnow.specs.Accumulator.{list_kept}
+use Rattle.winnow.specs.Accumulator.Holds.{list_holds}
+use Rattle.winnow.specs.Bytes.{bytes_reading}
+use Rattle.winnow.specs.Form.{ErrorForm}
+use Rattle.winnow.specs.InOrder.Says.{three_said, three_says}
+use Rattle.winnow.specs.Literal.Says.{literal_said, literal_says}
+use Rattle.winnow.specs.MakesOutput.Says.{OutputsMadeAlike, gives_one, made, made_law}
+use Rattle.winnow.specs.MakesOutput.Says.{made_of}
+use Rattle.winnow.specs.Outcome.{Does, as_longer, backs, both}
+use Rattle.winnow.specs.Input.{Input}
+use Rattle.winnow.specs.Kind.{Kind, backtrack}
+use Rattle.winnow.specs.Range.{from_to}
+use Rattle.winnow.specs.Repeat.Says.{repeat_law, repeat_says}
+use Rattle.winnow.specs.RulePieces.{HasOutcome, pieces_says}
+use Rattle.winnow.specs.Says.{Is, Lawful, Said, Says}
+use Rattle.winnow.specs.Then.{Then}
+use Rattle.winnow.specs.Then.Steps.{fails_on}
+use Rattle.examples.specs.Brackets.Brackets.{AreOf}
+use Rattle.examples.specs.declared.brackets.Brackets.{Brackets}
+
+-- zero or more items between two parts, by what each does
+abbrev pub between_says : {A T O P Q : Type 0} → Says T P → Says T Q → Does T O
+    → (O → O → Type 0) → Says T (Vec O A)
+between_says opening closing does alike =
+    let items = repeat_says list_kept (λ list os. list.items ≡ os) (from_to 0 None)
+    (pieces_says does alike) in
+    three_says (λ _ list _. list) items.alike opening items closing
+
+abbrev byte_says : ℕ → Says ℕ ℕ
+byte_says b = literal_says bytes_reading (λ xs. xs ≡ b ∷ []) (λ _. b) (λ o q. o ≡ q)
+
+module _ {A : Type 0} where
+  abbrev items_says : Does ℕ (Brackets A) → (Brackets A → Brackets A → Type 0)
+      → Says ℕ (Vec (Brackets A) A)
+  items_says = between_says (byte_says 91) (byte_says 93)
+
+  -- equal brackets: with equal brackets in them
+  unfoldable pub brackets_alike : ℕ → Brackets A → Brackets A → Type 0
+
+  -- `brackets_do n`: what a parser of brackets nested at most `n` deep does.
+  unfoldable pub brackets_do : ℕ → Does ℕ (Brackets A)
+  brackets_do zero at tokens y = y ≡ backs tokens
+  brackets_do (suc level) = Then (items_says (brackets_do level) (λ o p. ⊤)).does
+      (made (λ tokens inner rest brackets. AreOf inner brackets))
+  brackets_alike zero o p = o ≡ p
+  brackets_alike (suc level) = OutputsMadeAlike
+      (items_says (brackets_do level) (brackets_alike level)).alike AreOf
+
+  -- ---- the tokens determine the outcome, and a final one stays where more follow
+
+  -- a law as that of calls that nobody makes
+  by_law : {T O : Type 0} {says : Says T O}
+      → (says.premise → Lawful says.stable says.alike says.does)
+      → Said says tt (λ form s i answer t j. ⊥)
+  by_law law = record {
+    held = refl;
+    kept = λ is t same. same;
+    runs = λ is. record { did = λ at s held i answer t j here never. absurd never };
+    law = law;
+  }
+
+  byte_said : (b : ℕ) → Said (byte_says b) b _
+  byte_said b = literal_said bytes_reading (λ b xs. xs ≡ b ∷ []) (λ b _. b) (λ o q. o ≡ q) b
+      (λ xs ys e f. ap (λ l. bytes_reading.units l) (e ∙ sym f)) (λ slice other shown. refl)
+
+  items_law : {does : Does ℕ (Brackets A)} {alike : Brackets A → Brackets A → Type 0}
+      → Lawful ⊤ alike does
+      → Lawful ⊤ (items_says does alike).alike (items_says does alike).does
+  items_law law =
+      let items = by_law (λ is. repeat_law law list_kept (λ list os. list.items ≡ os) list_holds
+      (from_to 0 None)) in
+      let whole = (three_said {s = (91, tt, 93)} (λ o p q r x y first second third. second)
+      (byte_said 91) items (byte_said 93)).law (tt, tt, tt) in record {
+        one = whole.one;
+        whole = whole.whole;
+        stays = λ is. whole.stays (tt, tt, tt);
+      }
+
+  pub brackets_law : (level : ℕ) → Lawful ⊤ (brackets_alike level) (brackets_do level)
+  unfolding brackets_alike brackets_do
+  brackets_law zero = record {
+    one = λ at tokens x y e f. both (λ (o p : Brackets A). o ≡ p) e f refl;
+    whole = λ at tokens need place is e. absurd (cc);
+    stays = λ is more flag tokens x final e. as_longer more e;
+  }
+  brackets_law (suc level) = made_law
+      (made_of AreOf (λ o p u v like x w. (o, p, like, x, w))) (items_law (brackets_law level))
+
+  -- ---- a call at one depth has the outcome that the call below it allows
+
+  module _ {form : ErrorForm} {i j : Input ℕ} {level : ℕ} where
+    pub brackets_did : {below : ℕ} {alike : Brackets A → Brackets A → Type 0}
+        {inner : Vec (Brackets A) A} {brackets : Brackets A} → level ≡ suc below
+        → AreOf inner brackets
+        → HasOutcome (items_says (brackets_do below) alike).does form i (Ok inner) j
+        → HasOutcome (brackets_do level) form i (Ok brackets) j
+    unfolding brackets_do
+    brackets_did {brackets = brackets} is same did =
+        let P : ℕ → Type 0 = λ l. HasOutcome (brackets_do l) form i (Ok brackets) j in
+        subst P (sym is)
+        (record { status = did.status; outcome = (_, did.outcome, (brackets, same, refl)) })
+
+    pub no_brackets_did : {below : ℕ} {alike : Brackets A → Brackets A → Type 0} {k : Kind}
+        → level ≡ suc below
+        → HasOutcome (items_says (brackets_do below) alike).does form i (Err k) j
+        → HasOutcome (brackets_do level) form i (Err k) j
+    unfolding brackets_do
+    no_brackets_did {k = k} is did =
+        let P : ℕ → Type 0 = λ l. HasOutcome (brackets_do l) form i (Err k) j in
+        subst P (sym is) (record {
+          status = did.status;
+          outcome = (
+            _,
+            did.outcome,
+            fails_on (gives_one (λ tokens inner rest brackets. AreOf inner brackets)) _
+                i.left.tokens j.left.tokens k refl,
+          );
+        })
+
+  pub no_level_did : {form : ErrorForm} {i : Input ℕ} {level : ℕ} {k : Kind} → level ≡ zero
+      → k ≡ backtrack → HasOutcome (brackets_do level) form i (Err k) i
+  unfolding brackets_do
+  no_level_did {form} {i} {level} {k} is b =
+      let P : ℕ → Type 0 = λ l. HasOutcome (brackets_do l) form i (Err k) i in
+      let Q : Kind → Type 0 = λ n. HasOutcome (brackets_do zero) form i (Err n) i in
+      subst P (sym is) (subst Q (sym b) (record { status = refl; outcome = refl }))
