@@ -2,7 +2,7 @@
 -- that its grammar and its outcomes allow, on the input and on every longer one.
 use Rattle.std.specs.Prelude.{◌≡◌, ◌⊎◌, ⊤, Bool, true, false, List, [], ◌∷◌, ◌++◌}
 use Rattle.std.specs.Prelude.{Result, Ok, Err}
-use Rattle.std.specs.Prelude.{◌<◌, ◌≤◌, length}
+use Rattle.std.specs.Prelude.{◌<◌}
 use Rattle.std.specs.Char.{IsScalar}
 use Rattle.std.proofs.Common.{refl, sym, ap, subst, inl, inr, ◌∙◌, append_assoc, append-nil}
 use Rattle.std.proofs.Common.{arith, length-append}
@@ -60,11 +60,11 @@ has_outcome {s = s} said is form i answer t j ran =
     record { status = did.status; outcome = did.done }
 
 -- Every call of the function has an outcome.
-abbrev pub CallsTell : {F I T O E : Type 0} → (I → Input T) → (E → Kind) → ErrorForm
-    → (F → I → Result O E → F → I → Type 0) → Does T O → F → Type 0
-CallsTell {F} {I} {T} {O} {E} view kind form called does f =
-    (x : I) (r : Result O E) (g : F) (y : I) → called f x r g y
-    → HasOutcome does form (view x) (answer_by kind r) (view y)
+pub record CallsTell {F I T O E : Type 0} (view : I → Input T) (kind : E → Kind)
+    (form : ErrorForm) (called : F → I → Result O E → F → I → Type 0) (does : Does T O) (f : F)
+    : Type 0 where
+  pub tells : (x : I) (r : Result O E) (g : F) (y : I) → called f x r g y
+      → HasOutcome does form (view x) (answer_by kind r) (view y)
 
 -- the same for the function after a call
 pub asks_again : {F I T L O E : Type 0} (reading : Reading T L) (following : Following T)
@@ -373,6 +373,8 @@ pub tells_as_rule : {N F I T O E : Type 0} {view : I → Input T} {kind : E → 
     {p q : ByPieces N F} {n : N} {f : F} → p ≡ q → pieces_rule q ≡ n → pieces_run q ≡ f
     → CallsTell view kind form called (does n) f
     → CallsTell view kind form called (does (pieces_rule p)) (pieces_run p)
-tells_as_rule does same rule run is =
-    pieces_run_as (λ f. CallsTell _ _ _ _ (does (pieces_rule _)) f) same run
-    (rw (ap (λ x. pieces_rule x) same ∙ rule) at is)
+tells_as_rule {N} {F} {view = view} {kind} {form} {called} does {p} {q} {n} {f} same rule run is =
+    let P : N → Type 0 = λ m. CallsTell view kind form called (does m) f in
+    let Q : F → Type 0 = λ h. CallsTell view kind form called (does (pieces_rule p)) h in
+    subst Q (sym (ap (λ x. pieces_run x) same ∙ run))
+    (subst P (sym (ap (λ x. pieces_rule x) same ∙ rule)) is)

@@ -14,7 +14,7 @@ use Rattle.stream_bits.specs.BitList.{bits_of}
 use Rattle.winnow_core.specs.Outcome.{Alike, Does, Outcome, Setting, alike_wants, both, by_alike}
 use Rattle.winnow_core.specs.Outcome.{asks, backs, cuts, gave, outcome_of, took, wants}
 use Rattle.winnow_core.specs.Runs.{Meaning}
-use Rattle.winnow_core.specs.Says.{Did, IsAt, Lawful, SaidAmong, Says, did_as, said_of}
+use Rattle.winnow_core.specs.Says.{Did, IsAt, Lawful, SaidAmong, Says, did_as}
 use Rattle.winnow_core.specs.Says.Cases.{OneCase, cases_law}
 use Rattle.winnow_core.specs.Says.Lacks.{misused_outcome}
 use Rattle.winnow_core.specs.Says.Leaf.{here_did}
@@ -109,7 +109,12 @@ pub bits_said : {S L O : Type 0} {mine : S → Type 0} {says : Says Bool O} {s :
     {meaning : Meaning S Bool O} (reading : Reading ℕ L) → SaidAmong mine says s meaning
     → SaidAmong mine (bits_says says) s (λ form. BitsOfBytesRuns reading form (meaning form))
 bits_said {S} {L} {O} {mine} {says} {s} {meaning} reading p =
-    said_of (λ is. is) (λ is. record { did = did is }) (λ is. bits_law (p.law is)) p
+    record {
+      held = p.held;
+      kept = p.kept;
+      runs = λ is. record { did = did is };
+      law = λ is. bits_law (p.law is);
+    }
   where
     readable : (i : Input ℕ) → length i.left.tokens ≤ most_bytes
         → can_be_read i.left.tokens 0 ≡ true

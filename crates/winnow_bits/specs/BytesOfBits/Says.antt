@@ -15,7 +15,7 @@ use Rattle.stream_bits.specs.BitReading.{bits_reading}
 use Rattle.winnow_core.specs.Outcome.{Alike, Does, Outcome, Setting, alike_wants, both, by_alike}
 use Rattle.winnow_core.specs.Outcome.{asks, backs, cuts, gave, outcome_of, took, wants}
 use Rattle.winnow_core.specs.Runs.{LeaveEnds, Meaning}
-use Rattle.winnow_core.specs.Says.{Did, IsAt, Lawful, SaidAmong, Says, did_as, said_of}
+use Rattle.winnow_core.specs.Says.{Did, IsAt, Lawful, SaidAmong, Says, did_as}
 use Rattle.winnow_core.specs.Says.Cases.{OneCase, cases_law}
 use Rattle.winnow_core.specs.Says.Lacks.{misused_outcome}
 use Rattle.winnow_core.specs.Says.Leaf.{here_did}
@@ -133,7 +133,12 @@ pub bytes_said : {S L O : Type 0} {mine : S → Type 0} {says : Says ℕ O} {s :
     → SaidAmong mine (bytes_says says) s
     (λ form. BytesOfBitsRuns (bits_reading reading) form (meaning form))
 bytes_said {S} {L} {O} {mine} {says} {s} {meaning} reading counts ends p =
-    said_of (λ is. is) (λ is. record { did = did is }) (λ is. bytes_law (p.law is)) p
+    record {
+      held = p.held;
+      kept = p.kept;
+      runs = λ is. record { did = did is };
+      law = λ is. bytes_law (p.law is);
+    }
   where
     child : says.premise → (at : Setting) (v : S) → mine v → (i : Input Bool) (k : Input ℕ)
         (a : Answer O) (t : S) (m : Input ℕ) → IsAt at i

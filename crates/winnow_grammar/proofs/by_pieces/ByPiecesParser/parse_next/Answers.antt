@@ -19,7 +19,7 @@ returns-clause-ran g c = (
   call_runs c.requires.2 _ _ _ (c.requires.1.reads _ _ _ _
       (record { shown = _; shows = refl; left = _; called = c.run.ensures; leaves = refl })),
   refl,
-  c.requires.3 _ _ _ _
+  c.requires.3.tells _ _ _ _
       (record { shown = _; shows = refl; left = _; called = c.run.ensures; leaves = refl }),
 )
 
