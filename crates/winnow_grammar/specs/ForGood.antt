@@ -11,10 +11,11 @@ use Rattle.winnow_core.specs.Decided.Inputs.{widened}
 use Rattle.winnow_grammar.specs.Longer.{NoOtherOnLonger}
 
 -- If the result is neither `Incomplete` nor out of memory, every longer input, partial or complete,
--- has an equal result from the same state, unless out of memory. It ends in one of these states, and
--- the rest is followed by the added tokens.
+-- has an equal result from the same state, unless out of memory. It ends in one of these states,
+-- and the rest is followed by the added tokens.
 pub record HasFinalResults {S T O : Type 0} (following : Following T) (s : S)
-    (states : S → Type 0) (run : Runs S T O) (alike : O → O → Type 0) (i : Input T) (answer : Answer O) (j : Input T) : Type 0 where
+    (states : S → Type 0) (run : Runs S T O) (alike : O → O → Type 0) (i : Input T)
+    (answer : Answer O) (j : Input T) : Type 0 where
   pub same : IsFinal answer → (more : List T) (flag : Bool) (other : Answer O) (u : S) (k : Input T)
       → Follows following i.left more → NotMemory other → run s (with_more i more flag) other u k
       → EqualResults alike answer other × states u × (k ≡ with_more j more flag)

@@ -82,7 +82,8 @@ pub tells_again : {F I T L O E : Type 0} {reading : Reading T L} {following : Fo
     {f : F} {x : I} {r : Result O E} {g : F} {y : I}
     → CallsReadOrAsk reading following view kind called grammar f → called f x r g y
     → CallsTell view kind form called does f → CallsTell view kind form called does g
-tells_again {view = view} {kind} {form} {called} {does = does} {x = x} {r} {g} {y} reads call tells =
+tells_again {view = view} {kind} {form} {called} {does = does} {x = x} {r} {g} {y} reads call
+    tells =
     subst (CallsTell view kind form called does) (sym (reads.kept x r g y call)) tells
 
 -- ---- what may come in several pieces

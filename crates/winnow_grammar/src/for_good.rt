@@ -27,8 +27,8 @@ pub fn parse_for_good<P: Stable<I, O, E>, I: Stream, O, E: ParserError<I>>(
     ensures ran { P.meaning E.form (P.state parser.old) (I.view input.old)
         (answer_by E.kind result) (P.state parser.new) (I.view input.new) }
     ensures for_good { HasFinalResults I.following (P.state parser.old)
-        (P.states (P.state parser.old)) (P.meaning E.form) (P.says (P.state parser.old)).alike (I.view input.old) (answer_by E.kind result)
-        (I.view input.new) }
+        (P.states (P.state parser.old)) (P.meaning E.form) (P.says (P.state parser.old)).alike
+        (I.view input.old) (answer_by E.kind result) (I.view input.new) }
 {
     longer_inputs_get_partial_results::<P, I, O, E>();
     parser.parse_next(input)

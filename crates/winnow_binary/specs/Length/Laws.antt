@@ -7,7 +7,7 @@ use Rattle.streams.specs.Following.{Following}
 use Rattle.winnow_core.specs.Runs.{LeaveEnds, Runs}
 use Rattle.winnow_binary.specs.Length.{LengthRuns}
 use Rattle.winnow_core.specs.Stable.Grows.{Grows, final_by}
-use Rattle.streams.specs.Kind.{Kind, backtrack, memory}
+use Rattle.streams.specs.Kind.{Kind, memory}
 use Rattle.grammars.specs.Grammar.{Grammar, NoMatch}
 use Rattle.grammars.specs.Grammar.Lengths.{SaysOne, Sized, sized_unique}
 use Rattle.stream_errors.specs.Form.{Answer}

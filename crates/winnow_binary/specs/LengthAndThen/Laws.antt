@@ -14,7 +14,7 @@ use Rattle.winnow_binary.specs.Length.Laws.{length_ends, length_grows}
 use Rattle.winnow_binary.specs.LengthAndThen.{LengthAndThenRuns, TakenRuns, only_first}
 use Rattle.winnow_core.specs.Stable.Grows.{Grows, final_by}
 use Rattle.winnow_core.specs.Stable.Longer.{passes_cut, passes_more, short_final}
-use Rattle.streams.specs.Kind.{Kind, backtrack, memory}
+use Rattle.streams.specs.Kind.{Kind, memory}
 use Rattle.grammars.specs.Grammar.{Grammar, NoMatch}
 use Rattle.grammars.specs.Grammar.Lengths.{Inside, SaysOne, Sized, inside_unique, same_beginnings}
 use Rattle.stream_errors.specs.Form.Inversion.{at_output, ok_is_err, same_kind}

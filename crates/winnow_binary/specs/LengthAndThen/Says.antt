@@ -1,5 +1,5 @@
 -- The specification of `length_and_then`.
-use Rattle.std.specs.Prelude.{◌≡◌, ◌<◌, ◌-◌, ℕ, Bool, false, List, ◌++◌, length, Option}
+use Rattle.std.specs.Prelude.{◌≡◌, ◌<◌, ℕ, Bool, false, List, ◌++◌, length, Option}
 use Rattle.std.specs.Prelude.{Err, Ok}
 use Rattle.std.proofs.Common.{append_assoc, arith, inl, inr, length-append, refl, sym, ap, subst}
 use Rattle.std.proofs.Common.{◌∙◌}

@@ -3,7 +3,7 @@ use Rattle.std.specs.Prelude.{ℕ, Some, ◌≡◌, ◌⊎◌, false, List, Ok, 
 use Rattle.std.proofs.Common.{inr, sym, refl, ap, inl, ◌∙◌, arith}
 use Rattle.streams.specs.Equal.{same_some}
 use Rattle.streams.specs.Input.{Input}
-use Rattle.streams.specs.Kind.{Kind, backtrack, memory}
+use Rattle.streams.specs.Kind.{Kind, memory}
 use Rattle.streams.specs.Reading.{Reading}
 use Rattle.stream_errors.specs.Form.{Answer}
 use Rattle.stream_sets.specs.Accumulator.{Accumulator, Wants}

@@ -9,7 +9,7 @@ use Rattle.stream_sets.specs.Accumulator.{Accumulator}
 use Rattle.stream_sets.specs.Accumulator.Holds.{Holds}
 use Rattle.stream_sets.specs.Range.{Bounds, bounds_of}
 use Rattle.stream_sets.specs.declared.range.Range.{Range}
-use Rattle.winnow_core.specs.Outcome.{Outcome, Setting, Does, both, gave}
+use Rattle.winnow_core.specs.Outcome.{Outcome, Setting, Does, gave}
 use Rattle.winnow_core.specs.Runs.{Meaning}
 use Rattle.winnow_core.specs.Says.{Both, Did, EachDoes, IsAt, Lawful, SaidAmong, Says}
 use Rattle.winnow_core.specs.Says.{did_as, still_at}
