@@ -76,7 +76,8 @@ def lines(place, part, ending):
     files = [it for it in sorted(top.rglob(f"*{ending}")) if it.name != "Lib.antt"]
     if module:
         name = module.title().replace("_", "")
-        of_module = {module, module + ending, name, name + ending, f"{name}Lemmas"}
+        of_module = {module, module + ending, name, name + ending}
+        of_module |= {f"{name}Lemmas", f"{name}Lemmas{ending}"}
         files = [it for it in files if it.relative_to(top).parts[0] in of_module]
     return sum(len(read(it).splitlines()) for it in files)
 

@@ -1,1 +1,4 @@
+pub mod Answered
+pub mod One
 pub mod Reading
+pub mod Tables

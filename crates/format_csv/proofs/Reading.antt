@@ -1,5 +1,5 @@
 -- Results of calls, from those of `format_csv_records` with commas and double quotes.
-use Rattle.std.specs.Prelude.{◌≡◌, ◌<◌, ℕ, List, Err, Ok, drop, length, true}
+use Rattle.std.specs.Prelude.{◌≡◌, ◌<◌, ℕ, List, Err, Ok, drop, length, true, None, Result}
 use Rattle.std.specs.declared.vec.Vec.{Vec}
 use Rattle.std.proofs.Common.{arith, inr, refl}
 use Rattle.format_csv_records.proofs.One.{fields_one, fields_split, refused_none}
@@ -10,7 +10,7 @@ use Rattle.format_csv_records.specs.Early.{IsPrefixOfNone}
 use Rattle.format_csv_records.specs.Refused.{IsRefused}
 use Rattle.format_csv_records.specs.declared.buffers.RecordSize.{RecordSize}
 use Rattle.format_csv_records.specs.declared.read.InvalidRecord.{InvalidRecord}
-use Rattle.format_csv.specs.Csv.{IsRecord, bytes_of, commas}
+use Rattle.format_csv.specs.Csv.{IsRecord, bytes_of, commas, AreRecords}
 use Rattle.format_csv.specs.declared.LineEnd.{LineEnd}
 use Rattle.streams.specs.Bytes.{bytes_follow, bytes_input, bytes_reading}
 use Rattle.winnow_grammar.specs.Cut.{ReadsOrAsks}
@@ -19,6 +19,12 @@ use Rattle.winnow_core.specs.Exact.{Reads}
 use Rattle.streams.specs.Input.{Input, IsEndOf, is_end_of_refl}
 use Rattle.streams.specs.Kind.{Kind, backtrack}
 use Rattle.streams.specs.Partial.{with_flag}
+use Rattle.winnow_core.specs.Exact.Whole.{ReadsAll, reads_all_as}
+use Rattle.grammars.specs.Grammar.{Gathered, Grammar, Many}
+use Rattle.grammars.specs.Grammar.Inversion.{repeated_list}
+use Rattle.streams.specs.declared.needed.Needed.{Needed}
+use Rattle.stream_errors.specs.declared.fault.ParseFault.{ParseFault}
+use Rattle.stream_sets.specs.Range.{from_to}
 
 module _ {A : Type 0} (ends : LineEnd) (bytes : List ℕ) where
   module _ (fields : Vec (Vec ℕ A) A) (rest : List ℕ)
@@ -100,3 +106,15 @@ module _ {A : Type 0} (ends : LineEnd) (bytes : List ℕ) where
         )));
       };
     })
+
+-- by `repeat(alloc, Range::from(0..), ..)`
+abbrev RecordsRead : {A : Type 0} → LineEnd → Grammar ℕ (Vec (Vec (Vec ℕ A) A) A)
+RecordsRead ends = Gathered (λ list os. list.items ≡ os) (Many (IsRecord ends) (from_to 0 None))
+
+module _ {A I X : Type 0} (ends : LineEnd) {inner_kind : X → Kind} {tokens : List ℕ} where
+  pub reads_document : {g : Grammar ℕ (Vec (Vec (Vec ℕ A) A) A)}
+      {result : Result (Vec (Vec (Vec ℕ A) A) A) (ParseFault I X Needed)}
+      → ReadsAll inner_kind g tokens result → g ≡ RecordsRead ends
+      → ReadsAll inner_kind (AreRecords ends) tokens result
+  reads_document {g} {result} r e = reads_all_as (repeated_list (IsRecord ends) 0
+      (record { start_inclusive = 0; end_inclusive = None }) refl) (rw e at r)

@@ -1,20 +1,16 @@
 -- Properties of bytes that are items.
-use Rattle.std.specs.Prelude.{◌≡◌, ℕ, pos, Bool, true, false, if◌then◌else◌}
-use Rattle.std.specs.Prelude.{[], ◌∷◌, length, Option, Some}
+use Rattle.std.specs.Prelude.{◌≡◌, ℕ, pos, [], ◌∷◌, length, Option, Some}
 use Rattle.std.proofs.Common.{refl, sym, ◌∙◌, ap, subst, arith}
 use Rattle.streams.specs.Bytes.{bytes_reading}
 use Rattle.streams.specs.Equal.{same_first, same_others}
 use Rattle.streams.specs.Input.{Input, IsEndOf}
 use Rattle.stream_errors.specs.Form.{Answer}
-use Rattle.winnow_expression_trees.specs.Items.{AreItems, GivesOne, ItemRuns}
+use Rattle.winnow_expression_trees.specs.Items.{AreItems, ItemRuns}
 use Rattle.winnow_expression_trees.specs.Items.Premises.{item_ends}
 use Rattle.grammars.specs.Grammar.{IsUnique, TakesTokens}
 use Rattle.winnow_expression_trees.specs.Items.Grammar.{IsFront, tree_takes, tree_unique}
 use Rattle.example_booleans.specs.Booleans.{ByteItem, IsFormula, infix_at, logic_value, not_value}
 use Rattle.example_booleans.specs.Booleans.{operand_at, postfix_at, prefix_at}
-use Rattle.example_booleans.specs.declared.booleans.Logic.{Logic}
-use Rattle.example_booleans.specs.declared.booleans.Logic.TheVariants.{And, Or, Same}
-use Rattle.example_booleans.specs.declared.booleans.Not.{Not}
 
 -- every call leaves a suffix
 pub byte_ends : {O : Type 0} (meant : ℕ → Option O) (i j : Input ℕ) (a : Answer O)
@@ -35,24 +31,6 @@ byte_items meant = record {
       );
   some = λ tokens o r (b, splits, is). omega (arith, ap (λ l. length l) splits);
 }
-
--- an operator gives one value
-pub one_not : (f : Not) (v : Bool) → GivesOne (not_value f v)
-one_not f v x y e g = e ∙ sym g
-
-pub one_logic : (f : Logic) (v w : Bool) → GivesOne (logic_value f v w)
-one_logic And v w x y e g = e ∙ sym g
-one_logic Or v w x y e g = e ∙ sym g
-one_logic Same v w x y e g = e ∙ sym g
-
--- and it always gives one
-pub some_not : (f : Not) (v : Bool) → (x : Bool) × not_value f v x
-some_not f v = (if v then false else true, refl)
-
-pub some_logic : (f : Logic) (v w : Bool) → (x : Bool) × logic_value f v w x
-some_logic And v w = (if v then w else false, refl)
-some_logic Or v w = (if v then true else w, refl)
-some_logic Same v w = (if v then w else (if w then false else true), refl)
 
 -- ---- formulas, as a grammar
 

@@ -1,24 +1,19 @@
 -- The outcomes of brackets in brackets.
-use Rattle.std.specs.Prelude.{◌≡◌, ⊤, ⊥, ℕ, zero, suc, [], ◌∷◌, None, Ok, Err}
+use Rattle.std.specs.Prelude.{◌≡◌, ⊤, ⊥, ℕ, zero, suc, [], ◌∷◌, None}
 use Rattle.std.specs.declared.vec.Vec.{Vec}
-use Rattle.std.proofs.Common.{refl, sym, subst, ap, ◌∙◌}
+use Rattle.std.proofs.Common.{refl, sym, ap, ◌∙◌}
 use Rattle.winnow.specs.Accumulator.{list_kept}
 use Rattle.winnow.specs.Accumulator.Holds.{list_holds}
 use Rattle.winnow.specs.Bytes.{bytes_reading}
-use Rattle.winnow.specs.Form.{ErrorForm}
 use Rattle.winnow.specs.InOrder.Says.{three_said, three_says}
 use Rattle.winnow.specs.Literal.Says.{literal_said, literal_says}
-use Rattle.winnow.specs.MakesOutput.Says.{OutputsMadeAlike, gives_one, made, made_law}
-use Rattle.winnow.specs.MakesOutput.Says.{made_of}
+use Rattle.winnow.specs.MakesOutput.Says.{OutputsMadeAlike, made, made_law, made_of}
 use Rattle.winnow.specs.Outcome.{Does, as_longer, backs, both}
-use Rattle.winnow.specs.Input.{Input}
-use Rattle.winnow.specs.Kind.{Kind, backtrack}
 use Rattle.winnow.specs.Range.{from_to}
 use Rattle.winnow.specs.Repeat.Says.{repeat_law, repeat_says}
-use Rattle.winnow.specs.RulePieces.{HasOutcome, pieces_says}
-use Rattle.winnow.specs.Says.{Is, Lawful, Said, Says}
+use Rattle.winnow.specs.RulePieces.{pieces_says}
+use Rattle.winnow.specs.Says.{Lawful, Said, Says}
 use Rattle.winnow.specs.Then.{Then}
-use Rattle.winnow.specs.Then.Steps.{fails_on}
 use Rattle.examples.specs.Brackets.Brackets.{AreOf}
 use Rattle.examples.specs.declared.brackets.Brackets.{Brackets}
 
@@ -89,42 +84,3 @@ module _ {A : Type 0} where
   }
   brackets_law (suc level) = made_law
       (made_of AreOf (λ o p u v like x w. (o, p, like, x, w))) (items_law (brackets_law level))
-
-  -- ---- a call at one depth has the outcome that the call below it allows
-
-  module _ {form : ErrorForm} {i j : Input ℕ} {level : ℕ} where
-    pub brackets_did : {below : ℕ} {alike : Brackets A → Brackets A → Type 0}
-        {inner : Vec (Brackets A) A} {brackets : Brackets A} → level ≡ suc below
-        → AreOf inner brackets
-        → HasOutcome (items_says (brackets_do below) alike).does form i (Ok inner) j
-        → HasOutcome (brackets_do level) form i (Ok brackets) j
-    unfolding brackets_do
-    brackets_did {brackets = brackets} is same did =
-        let P : ℕ → Type 0 = λ l. HasOutcome (brackets_do l) form i (Ok brackets) j in
-        subst P (sym is)
-        (record { status = did.status; outcome = (_, did.outcome, (brackets, same, refl)) })
-
-    pub no_brackets_did : {below : ℕ} {alike : Brackets A → Brackets A → Type 0} {k : Kind}
-        → level ≡ suc below
-        → HasOutcome (items_says (brackets_do below) alike).does form i (Err k) j
-        → HasOutcome (brackets_do level) form i (Err k) j
-    unfolding brackets_do
-    no_brackets_did {k = k} is did =
-        let P : ℕ → Type 0 = λ l. HasOutcome (brackets_do l) form i (Err k) j in
-        subst P (sym is) (record {
-          status = did.status;
-          outcome = (
-            _,
-            did.outcome,
-            fails_on (gives_one (λ tokens inner rest brackets. AreOf inner brackets)) _
-                i.left.tokens j.left.tokens k refl,
-          );
-        })
-
-  pub no_level_did : {form : ErrorForm} {i : Input ℕ} {level : ℕ} {k : Kind} → level ≡ zero
-      → k ≡ backtrack → HasOutcome (brackets_do level) form i (Err k) i
-  unfolding brackets_do
-  no_level_did {form} {i} {level} {k} is b =
-      let P : ℕ → Type 0 = λ l. HasOutcome (brackets_do l) form i (Err k) i in
-      let Q : Kind → Type 0 = λ n. HasOutcome (brackets_do zero) form i (Err n) i in
-      subst P (sym is) (subst Q (sym b) (record { status = refl; outcome = refl }))

@@ -1,19 +1,12 @@
 -- Lines of one letter: what they are, and that the grammar of the reader is that.
-use Rattle.std.specs.Prelude.{◌≡◌, ◌⊎◌, ℕ, List, ◌∷◌, Result, None}
+use Rattle.std.specs.Prelude.{◌≡◌, ◌⊎◌, ℕ, List, ◌∷◌}
 use Rattle.std.specs.declared.vec.Vec.{Vec}
 use Rattle.std.proofs.Common.{refl, sym, ap, inl, inr, ◌∙◌, arith}
-use Rattle.winnow.specs.Counted.{counted_reading}
 use Rattle.winnow.specs.Equal.{same_first}
-use Rattle.winnow.specs.Input.{Input}
-use Rattle.winnow.specs.Kind.{Kind}
-use Rattle.winnow.specs.Range.{bounds_of, from_to}
-use Rattle.winnow.specs.{Range}
-use Rattle.winnow.specs.Exact.{Reads}
 use Rattle.winnow.specs.Grammar.Same.{Same, takes_as, unique_as}
-use Rattle.winnow.specs.Exact.Same.{reads_as}
-use Rattle.winnow.specs.Grammar.{Both, Either, Grammar, IsUnique, Repeated, TakesTokens}
+use Rattle.winnow.specs.Grammar.{Both, Either, Grammar, IsUnique, TakesTokens}
 use Rattle.winnow.specs.Grammar.Inversion.{Byte, Listed, byte_stands, byte_takes, byte_unique}
-use Rattle.winnow.specs.Grammar.Inversion.{repeated_list, stands_byte}
+use Rattle.winnow.specs.Grammar.Inversion.{stands_byte}
 use Rattle.winnow.specs.Grammar.Unique.{both_take, both_unique, either_unique}
 
 -- a line: a `y` or an `n`, and a line feed
@@ -67,13 +60,6 @@ stands_line bytes b rest (inr is, e) =
 pub same_line : Same Line IsLine
 same_line = record { there = line_stands; back = stands_line }
 
--- what reads by a grammar that is that of a line reads lines
-pub reads_line : {E : Type 0} {kind : E → Kind} {g : Grammar ℕ ℕ} {i j : Input ℕ}
-    {result : Result ℕ E} → Reads counted_reading kind g i result j → g ≡ Line
-    → Reads counted_reading kind IsLine i result j
-reads_line {E} {kind} {g} {i} {j} {result} r e =
-    reads_as same_line (rw e at r)
-
 pub letter_unique : IsUnique (Either (Byte 121) (Byte 110))
 letter_unique = either_unique (byte_unique 121) (byte_unique 110)
 
@@ -87,8 +73,3 @@ line_takes = takes_as same_line
 -- A list of consecutive lines that no further line follows.
 unfoldable pub AreLines : {A : Type 0} → Grammar ℕ (Vec ℕ A)
 AreLines = Listed IsLine 0
-
-pub same_lines : {A : Type 0} (range : Range) → bounds_of range ≡ from_to 0 None
-    → Same (Repeated (λ (list : Vec ℕ A) os. list.items ≡ os) range IsLine) AreLines
-unfolding AreLines
-same_lines = repeated_list IsLine 0

@@ -1,4 +1,4 @@
-use Rattle.format_csv.specs.Read.{reads_document}
+use Rattle.format_csv.proofs.Reading.{reads_document}
 use Rattle.format_csv.proofs.parse_document.Goals as goal
 
 pub returns : goal.returns

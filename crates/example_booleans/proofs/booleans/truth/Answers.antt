@@ -7,10 +7,9 @@ use Rattle.winnow_expression_trees.specs.Items.{ReadsItems}
 use Rattle.winnow_expression_trees.specs.Items.Laws.{items_exact, items_premises}
 use Rattle.example_booleans.proofs.Failures.{fails_at_items, told_of_err}
 use Rattle.example_booleans.specs.Booleans.{ByteItem, LacksOperand, infix_at, logic_value}
-use Rattle.example_booleans.specs.Booleans.{not_value}
-use Rattle.example_booleans.specs.Booleans.{operand_at, postfix_at, prefix_at}
-use Rattle.example_booleans.specs.Booleans.Laws.{byte_items, one_logic, one_not, some_logic}
-use Rattle.example_booleans.specs.Booleans.Laws.{some_not}
+use Rattle.example_booleans.specs.Booleans.{not_value, operand_at, postfix_at, prefix_at}
+use Rattle.example_booleans.specs.Booleans.Laws.{byte_items}
+use Rattle.example_booleans.proofs.Values.{one_logic, one_not, some_logic, some_not}
 use Rattle.example_booleans.proofs.booleans.truth.Goals as goal
 
 pub returns-clause-reads : goal.returns-clause-reads

@@ -2,8 +2,8 @@ use Rattle.std.proofs.Common.{◌≡◌, ◌∙◌, ap, inl, inr, pos, rules}
 use Rattle.winnow.specs.Expression.{infix_of, postfix_of}
 use Rattle.winnow.specs.Premises.Laws.{fail_plain, keeps_stateless}
 use Rattle.winnow.specs.Premises.Decided.{stateless_wider}
-use Rattle.example_formulas.specs.Sizes.{SizeStates, exact_at, marks_of, same_signs, same_units}
-use Rattle.example_formulas.specs.Sizes.{sign_marks, unit_marks}
+use Rattle.example_formulas.specs.Sizes.{SizeStates, marks_of, sign_marks, unit_marks}
+use Rattle.example_formulas.proofs.Results.{exact_at, same_signs, same_units}
 use Rattle.example_formulas.proofs.sizes.read_size.Goals as goal
 
 pub returns-clause-reads : goal.returns-clause-reads

@@ -1,4 +1,4 @@
-use Rattle.examples.specs.Color.Read.{color_of}
+use Rattle.examples.proofs.ColorLemmas.{color_of}
 use Rattle.winnow.specs.Told.{texts_told}
 use Rattle.examples.proofs.color.parse_color.Goals as goal
 

@@ -1,7 +1,6 @@
 use Rattle.std.proofs.Common.{ap, ◌∙◌}
 use Rattle.winnow.specs.Range.{bounds_of}
-use Rattle.examples.specs.Lines.InWords.{lines_of, lines_one}
-use Rattle.examples.specs.Lines.Lines.{same_lines}
+use Rattle.examples.proofs.LinesLemmas.{lines_of, lines_one, same_lines}
 use Rattle.winnow.specs.Exact.Whole.{reads_all_as}
 use Rattle.winnow.specs.Back.{reads_back}
 use Rattle.winnow.specs.Told.{texts_told}

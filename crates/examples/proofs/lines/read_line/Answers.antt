@@ -1,4 +1,4 @@
-use Rattle.examples.specs.Lines.Lines.{reads_line}
+use Rattle.examples.proofs.LinesLemmas.{reads_line}
 use Rattle.examples.proofs.lines.read_line.Goals as goal
 
 pub returns : goal.returns

@@ -1,7 +1,6 @@
 use Rattle.std.proofs.Common.{ap, ◌∙◌}
 use Rattle.winnow.specs.Range.{bounds_of}
-use Rattle.examples.specs.Lines.InWords.{lines_of}
-use Rattle.examples.specs.Lines.Lines.{same_lines}
+use Rattle.examples.proofs.LinesLemmas.{lines_of, same_lines}
 use Rattle.winnow.specs.Exact.Same.{reads_as}
 use Rattle.winnow.specs.Told.{text_told}
 use Rattle.examples.proofs.lines.read_lines.Goals as goal

@@ -1,5 +1,6 @@
 use Rattle.std.proofs.Common.{refl, rules, arith}
-use Rattle.examples.specs.Nested.Trees.{IsBranchOf, node_is_branch, node_is_leaf}
+use Rattle.examples.specs.Nested.Trees.{IsBranchOf}
+use Rattle.examples.proofs.NestedLemmas.{node_is_branch, node_is_leaf}
 use Rattle.winnow.specs.Read.{reads_meaning, reads_no_meaning}
 use Rattle.examples.proofs.nested.+fn-read_tree-element+read_tree.Goals as goal
 

@@ -1,5 +1,5 @@
 use Rattle.std.proofs.Common.{refl}
-use Rattle.examples.specs.Version.Read.{version_of}
+use Rattle.examples.proofs.VersionLemmas.{version_of}
 use Rattle.winnow.specs.Told.{texts_told}
 use Rattle.examples.proofs.version.parse_version.Goals as goal
 

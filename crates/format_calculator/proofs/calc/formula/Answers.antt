@@ -6,10 +6,9 @@ use Rattle.stream_errors.specs.Form.{answer_by, marked_kind}
 use Rattle.winnow_expression_trees.specs.Items.{ReadsItems}
 use Rattle.winnow_expression_trees.specs.Items.Laws.{items_exact, items_premises}
 use Rattle.format_calculator.specs.Calculator.{CharItem, NumberItem, mark_at, mark_value, pair_at}
-use Rattle.format_calculator.specs.Calculator.{pair_value}
-use Rattle.format_calculator.specs.Calculator.{sign_at, sign_value}
-use Rattle.format_calculator.specs.Calculator.Laws.{char_items, number_items, one_mark, one_pair}
-use Rattle.format_calculator.specs.Calculator.Laws.{one_sign}
+use Rattle.format_calculator.specs.Calculator.{pair_value, sign_at, sign_value}
+use Rattle.format_calculator.proofs.Items.{char_items, number_items}
+use Rattle.format_calculator.proofs.Values.{one_mark, one_pair, one_sign}
 use Rattle.format_calculator.proofs.calc.formula.Goals as goal
 
 pub returns-clause-reads : goal.returns-clause-reads

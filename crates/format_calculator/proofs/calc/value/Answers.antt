@@ -1,8 +1,8 @@
 use Rattle.std.proofs.Common.{rules, arith, refl, Ok, Err}
 use Rattle.streams.specs.Text.{text_input}
 use Rattle.stream_errors.specs.Form.{marked_kind}
-use Rattle.format_calculator.specs.Calculator.Laws.{left_boundary, no_output, value_as, value_none}
-use Rattle.format_calculator.specs.Calculator.Laws.{value_ok}
+use Rattle.format_calculator.proofs.Formulas.{left_boundary, no_output, value_as, value_none}
+use Rattle.format_calculator.proofs.Formulas.{value_ok}
 use Rattle.format_calculator.proofs.calc.value.Goals as goal
 
 pub returns-then-left-eq0-clause-ok : goal.returns-then-left-eq0-clause-ok

@@ -1,5 +1,6 @@
 use Rattle.std.proofs.Common.{rules}
-use Rattle.format_csv.specs.Table.{all_of, first_at, one_more, OtherName}
+use Rattle.format_csv.proofs.Tables.{all_of, first_at, one_more}
+use Rattle.format_csv.specs.Table.{OtherName}
 use Rattle.format_csv.proofs.table.column_of.Goals as goal
 
 pub returns-then-eq : goal.returns-then-eq

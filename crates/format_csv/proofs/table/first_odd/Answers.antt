@@ -1,5 +1,6 @@
 use Rattle.std.proofs.Common.{refl, rules}
-use Rattle.format_csv.specs.Table.{all_of, first_at, one_more, HasWidth}
+use Rattle.format_csv.proofs.Tables.{all_of, first_at, one_more}
+use Rattle.format_csv.specs.Table.{HasWidth}
 use Rattle.format_csv.proofs.table.first_odd.Goals as goal
 
 pub returns-then-has-wants : goal.returns-then-has-wants

@@ -1,5 +1,5 @@
-use Rattle.format_csv.specs.Answered.{table_answers}
-use Rattle.format_csv.specs.Table.{table_told}
+use Rattle.format_csv.proofs.Answered.{table_answers}
+use Rattle.format_csv.proofs.Tables.{table_told}
 use Rattle.format_csv.proofs.table.parse_table.Goals as goal
 
 pub returns-in-Ok-clause-told : goal.returns-in-Ok-clause-told

@@ -1,6 +1,6 @@
 use Rattle.std.proofs.Common.{rules, arith, ap, ◌∙◌, ◌≡◌}
 use Rattle.format_calculator.specs.Calculator.{factorial}
-use Rattle.format_calculator.specs.Calculator.Laws.{factorial_none}
+use Rattle.format_calculator.proofs.Values.{factorial_none}
 use Rattle.format_calculator.proofs.calc.numbers.factorial_within.Goals as goal
 
 pub returns-in-None : goal.returns-in-None

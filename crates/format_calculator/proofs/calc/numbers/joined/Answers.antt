@@ -1,6 +1,6 @@
 use Rattle.std.proofs.Common.{rules, subst, sym}
 use Rattle.format_calculator.specs.Calculator.{GivesOption, pair_value}
-use Rattle.format_calculator.specs.Calculator.Laws.{power_as}
+use Rattle.format_calculator.proofs.Values.{power_as}
 use Rattle.format_calculator.proofs.calc.numbers.joined.Goals as goal
 
 pub returns-in-Power : goal.returns-in-Power

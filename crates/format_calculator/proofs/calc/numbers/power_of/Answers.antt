@@ -1,5 +1,5 @@
 use Rattle.std.proofs.Common.{rules, arith}
-use Rattle.format_calculator.specs.Calculator.Laws.{unit_as}
+use Rattle.format_calculator.proofs.Values.{unit_as}
 use Rattle.format_calculator.proofs.calc.numbers.power_of.Goals as goal
 
 pub returns-in-Err-try_from : goal.returns-in-Err-try_from

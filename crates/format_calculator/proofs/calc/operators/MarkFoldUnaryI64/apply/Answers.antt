@@ -1,5 +1,5 @@
 use Rattle.std.proofs.Common.{rules}
-use Rattle.format_calculator.specs.Calculator.Laws.{mark_as, mark_only}
+use Rattle.format_calculator.proofs.Values.{mark_as, mark_only}
 use Rattle.format_calculator.proofs.calc.operators.MarkFoldUnaryI64.apply.Goals as goal
 
 pub returns-in-None-clause-folded : goal.returns-in-None-clause-folded

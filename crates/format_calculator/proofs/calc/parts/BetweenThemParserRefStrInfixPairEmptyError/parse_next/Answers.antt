@@ -2,7 +2,8 @@ use Rattle.std.proofs.Common.{Ok}
 use Rattle.std.specs.Str.{chars}
 use Rattle.streams.specs.Text.{text_input}
 use Rattle.format_calculator.specs.Calculator.{CharItem, pair_at}
-use Rattle.format_calculator.specs.Calculator.Laws.{char_ends, item_some}
+use Rattle.format_calculator.specs.Calculator.Laws.{char_ends}
+use Rattle.format_calculator.proofs.Items.{item_some}
 use Rattle.format_calculator.proofs.calc.parts.BetweenThemParserRefStrInfixPairEmptyError.parse_next.Goals as goal
 
 pub returns-in-Some-clause-ends : goal.returns-in-Some-clause-ends

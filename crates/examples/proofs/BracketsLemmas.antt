@@ -1,7 +1,8 @@
--- Lemmas that derive the specification of a call at one depth from that at the depth below.
+-- Lemmas that derive the specification of a call at one depth, and its outcome, from those at the
+-- depth below.
 use Rattle.std.specs.Prelude.{◌≡◌, ℕ, zero, suc, Ok, Err}
 use Rattle.std.specs.declared.vec.Vec.{Vec}
-use Rattle.std.proofs.Common.{sym, subst}
+use Rattle.std.proofs.Common.{sym, subst, refl}
 use Rattle.winnow.specs.Cut.{ReadsOrAsks}
 use Rattle.winnow.specs.Following.{Following}
 use Rattle.winnow.specs.Grammar.{Made, Never}
@@ -11,6 +12,11 @@ use Rattle.winnow.specs.Kind.{Kind, backtrack}
 use Rattle.winnow.specs.Reading.{Reading}
 use Rattle.examples.specs.Brackets.Brackets.{InBrackets, AreBrackets, AreOf}
 use Rattle.examples.specs.declared.brackets.Brackets.{Brackets}
+use Rattle.winnow.specs.Form.{ErrorForm}
+use Rattle.winnow.specs.MakesOutput.Says.{gives_one}
+use Rattle.winnow.specs.RulePieces.{HasOutcome}
+use Rattle.winnow.specs.Then.Steps.{fails_on}
+use Rattle.examples.specs.Brackets.Outcomes.{brackets_do, items_says}
 
 module _ {A L E : Type 0} {reading : Reading ℕ L} {following : Following ℕ} {kind : E → Kind}
     {i : Input ℕ} {level : ℕ} where
@@ -46,3 +52,41 @@ module _ {A L E : Type 0} {reading : Reading ℕ L} {following : Following ℕ} 
       λ l. ReadsOrAsks reading following kind (AreBrackets {A = A} l) i (Err e) i in
       subst P (sym is) (told_err {i = i} {j = i}
       (refused {g = AreBrackets {A = A} zero} b (λ tokens brackets rest never. absurd never)))
+
+module _ {A : Type 0} where
+  module _ {form : ErrorForm} {i j : Input ℕ} {level : ℕ} where
+    pub brackets_did : {below : ℕ} {alike : Brackets A → Brackets A → Type 0}
+        {inner : Vec (Brackets A) A} {brackets : Brackets A} → level ≡ suc below
+        → AreOf inner brackets
+        → HasOutcome (items_says (brackets_do below) alike).does form i (Ok inner) j
+        → HasOutcome (brackets_do level) form i (Ok brackets) j
+    unfolding brackets_do
+    brackets_did {brackets = brackets} is same did =
+        let P : ℕ → Type 0 = λ l. HasOutcome (brackets_do l) form i (Ok brackets) j in
+        subst P (sym is)
+        (record { status = did.status; outcome = (_, did.outcome, (brackets, same, refl)) })
+
+    pub no_brackets_did : {below : ℕ} {alike : Brackets A → Brackets A → Type 0} {k : Kind}
+        → level ≡ suc below
+        → HasOutcome (items_says (brackets_do below) alike).does form i (Err k) j
+        → HasOutcome (brackets_do level) form i (Err k) j
+    unfolding brackets_do
+    no_brackets_did {k = k} is did =
+        let P : ℕ → Type 0 = λ l. HasOutcome (brackets_do l) form i (Err k) j in
+        subst P (sym is) (record {
+          status = did.status;
+          outcome = (
+            _,
+            did.outcome,
+            fails_on (gives_one (λ tokens inner rest brackets. AreOf inner brackets)) _
+                i.left.tokens j.left.tokens k refl,
+          );
+        })
+
+  pub no_level_did : {form : ErrorForm} {i : Input ℕ} {level : ℕ} {k : Kind} → level ≡ zero
+      → k ≡ backtrack → HasOutcome (brackets_do level) form i (Err k) i
+  unfolding brackets_do
+  no_level_did {form} {i} {level} {k} is b =
+      let P : ℕ → Type 0 = λ l. HasOutcome (brackets_do l) form i (Err k) i in
+      let Q : Kind → Type 0 = λ n. HasOutcome (brackets_do zero) form i (Err n) i in
+      subst P (sym is) (subst Q (sym b) (record { status = refl; outcome = refl }))

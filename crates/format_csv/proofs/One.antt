@@ -10,12 +10,9 @@ use Rattle.format_csv.specs.Csv.{AreRecords, IsRecord, bytes_of, commas}
 use Rattle.format_csv.specs.declared.LineEnd.{LineEnd}
 use Rattle.grammars.specs.Grammar.{Each}
 use Rattle.grammars.specs.Grammar.Inversion.{Listed}
+use Rattle.format_csv.specs.Answered.{SameFields}
 
 module _ {A : Type 0} where
-  -- fields of the same bytes
-  abbrev pub SameFields : Vec (Vec ℕ A) A → Vec (Vec ℕ A) A → Type 0
-  SameFields fields others = bytes_of fields.items ≡ bytes_of others.items
-
   pub same_width : (fields others : Vec (Vec ℕ A) A) → SameFields fields others
       → length fields.items ≡ length others.items
   same_width fields others same = sym (length-map fields.items (λ (v : Vec ℕ A). v.items))

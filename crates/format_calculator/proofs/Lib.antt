@@ -1,0 +1,3 @@
+pub mod Formulas
+pub mod Items
+pub mod Values
