@@ -3,7 +3,7 @@ ghost use Rattle.format_parts.specs.Hexadecimal.{CodeUnit, Digit, IsHex, IsNumbe
 ghost use Rattle.format_parts.specs.Hexadecimal.{digit_unique, unit_takes, unit_unique};
 ghost use Rattle.std.specs.Prelude.{◌≡◌, ℕ, ⊤, MatchOption};
 ghost use Rattle.streams.specs.Text.{text_input, text_reading};
-ghost use Rattle.winnow_core.specs.Exact.{Reads};
+ghost use Rattle.winnow_core.specs.Exact.{IsSpared, Reads};
 
 use crate::turns::read_four_of;
 use stream_errors::empty::EmptyError;
@@ -43,8 +43,10 @@ impl<'i> Rule<&'i str, u8> for HexDigit {
 
 /// A hexadecimal digit: its value.
 fn read_digit<'i>(input: &mut &'i str) -> Result<u8, ErrMode<EmptyError>>
-    ensures { Reads text_reading ⟦<ErrMode<EmptyError> as HasKind>⟧.kind Digit
+    ensures reads { Reads text_reading ⟦<ErrMode<EmptyError> as HasKind>⟧.kind Digit
         (text_input input.old.now) result (text_input input.new.now) }
+    ensures spared { IsSpared ⟦<ErrMode<EmptyError> as HasKind>⟧.kind (text_input input.old.now)
+        result }
 {
     Any.verify_map(hex_value).read(input)
 }
@@ -73,10 +75,12 @@ impl<'i> Rule<&'i str, u32> for Unit {
     ghost takes = { λ _ _. unit_takes };
 }
 
-/// Four hexadecimal digits: their number.
+/// Four hexadecimal digits: their number. Never fails with out of memory.
 pub fn read_unit<'i>(input: &mut &'i str) -> Result<u32, ErrMode<EmptyError>>
-    ensures { Reads text_reading ⟦<ErrMode<EmptyError> as HasKind>⟧.kind CodeUnit
+    ensures reads { Reads text_reading ⟦<ErrMode<EmptyError> as HasKind>⟧.kind CodeUnit
         (text_input input.old.now) result (text_input input.new.now) }
+    ensures spared { IsSpared ⟦<ErrMode<EmptyError> as HasKind>⟧.kind (text_input input.old.now)
+        result }
 {
     let digit = HexDigit.by(read_digit);
     match read_four_of(digit, digit, digit, digit, input) {

@@ -3,6 +3,8 @@
 ghost use Rattle.format_parts.specs.Marks.{FirstItem, Items};
 ghost use Rattle.format_parts.specs.Words.{former};
 ghost use Rattle.std.specs.Fn.{CalledAtMut};
+ghost use Rattle.stream_errors.specs.Form.{answer_by};
+ghost use Rattle.winnow_comb.specs.Delimited.{DelimitedRuns};
 ghost use Rattle.winnow_core.specs.Claim.{CanRead};
 ghost use Rattle.winnow_core.specs.Exact.{IsSpared, Reads};
 ghost use Rattle.grammars.specs.Grammar.{Both, NoMatch, Three};
@@ -38,6 +40,10 @@ where
     requires first { CanRead (P.can_parse first) (P.claim (P.state first)) }
     requires second { CanRead (Q.can_parse second) (Q.claim (Q.state second)) }
     requires third { CanRead (R.can_parse third) (R.claim (R.state third)) }
+    ensures ran { (t : P.State × Q.State × R.State)
+        × DelimitedRuns (P.meaning E.form) (Q.meaning E.form) (R.meaning E.form)
+        (P.state first, Q.state second, R.state third) (I.view input.old)
+        (answer_by E.kind result) t (I.view input.new) }
     ensures reads { Reads I.reading E.kind
         (Three (λ _ o _. o) (P.claim (P.state first)).grammar
         (Q.claim (Q.state second)).grammar (R.claim (R.state third)).grammar)

@@ -3,8 +3,10 @@
 ghost use Rattle.format_parts.specs.Words.{pair};
 ghost use Rattle.winnow_core.specs.Claim.{CanRead};
 ghost use Rattle.winnow_core.specs.Exact.{IsSpared, Reads};
+ghost use Rattle.winnow_core.specs.Sequence.{SequenceRuns2, SequenceRuns4};
 ghost use Rattle.grammars.specs.Grammar.{Both};
 ghost use Rattle.grammars.specs.Grammar.Tuples.{Four};
+ghost use Rattle.stream_errors.specs.Form.{answer_by};
 
 use stream_errors::parser_error::ParserError;
 use streams::stream::Stream;
@@ -21,6 +23,9 @@ where
     Q: Parser<I, O2, E> + Drop,
     requires first { CanRead (P.can_parse first) (P.claim (P.state first)) }
     requires second { CanRead (Q.can_parse second) (Q.claim (Q.state second)) }
+    ensures ran { (t : P.State × Q.State) × SequenceRuns2 (P.meaning E.form) (Q.meaning E.form)
+        (P.state first, Q.state second) (I.view input.old) (answer_by E.kind result) t
+        (I.view input.new) }
     ensures reads { Reads I.reading E.kind
         (Both pair (P.claim (P.state first)).grammar (Q.claim (Q.state second)).grammar)
         (I.view input.old) result (I.view input.new) }
@@ -53,6 +58,10 @@ where
     requires second { CanRead (Q.can_parse second) (Q.claim (Q.state second)) }
     requires third { CanRead (R.can_parse third) (R.claim (R.state third)) }
     requires fourth { CanRead (S.can_parse fourth) (S.claim (S.state fourth)) }
+    ensures ran { (t : P.State × Q.State × R.State × S.State)
+        × SequenceRuns4 (P.meaning E.form) (Q.meaning E.form) (R.meaning E.form) (S.meaning E.form)
+        (P.state first, Q.state second, R.state third, S.state fourth) (I.view input.old)
+        (answer_by E.kind result) t (I.view input.new) }
     ensures reads { Reads I.reading E.kind
         (Four (P.claim (P.state first)).grammar (Q.claim (Q.state second)).grammar
         (R.claim (R.state third)).grammar (S.claim (S.state fourth)).grammar)
