@@ -12,11 +12,18 @@ use Rattle.winnow.specs.Kind.{Kind, backtrack}
 use Rattle.winnow.specs.Reading.{Reading}
 use Rattle.examples.specs.Brackets.Brackets.{InBrackets, AreBrackets, AreOf}
 use Rattle.examples.specs.declared.brackets.Brackets.{Brackets}
-use Rattle.winnow.specs.Form.{ErrorForm}
+use Rattle.winnow.specs.Form.{Answer, ErrorForm}
 use Rattle.winnow.specs.MakesOutput.Says.{gives_one}
 use Rattle.winnow.specs.RulePieces.{HasOutcome}
+use Rattle.winnow.specs.Says.{Says}
 use Rattle.winnow.specs.Then.Steps.{fails_on}
 use Rattle.examples.specs.Brackets.Outcomes.{brackets_do, items_says}
+
+-- the outcome of a call, by another name of its specification
+pub has_by : {T O : Type 0} {says also : Says T O} {form : ErrorForm} {i j : Input T}
+    {answer : Answer O} → (says.premise → HasOutcome says.does form i answer j) → says ≡ also
+    → also.premise → HasOutcome also.does form i answer j
+has_by {T} {O} {says} {also} {form} {i} {j} {answer} has e is = (rw e at has) is
 
 module _ {A L E : Type 0} {reading : Reading ℕ L} {following : Following ℕ} {kind : E → Kind}
     {i : Input ℕ} {level : ℕ} where

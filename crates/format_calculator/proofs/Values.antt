@@ -1,7 +1,7 @@
 -- The results of operators are unique, and those of factorials and powers are known from their
 -- parts.
-use Rattle.std.specs.Prelude.{◌≡◌, ◌+◌, ◌-◌, ◌*◌, ◌<◌, ◌≤◌, ℕ, ℤ, pos, neg_ℤ, ◌^◌, Option, Some}
-use Rattle.std.specs.Prelude.{None}
+use Rattle.std.specs.Prelude.{◌≡◌, ◌+◌, ◌-◌, ◌*◌, ◌<◌, ◌≤◌, ◌^◌, ℕ, ℤ, pos, neg_ℤ}
+use Rattle.std.specs.Prelude.{None, Option, Some}
 use Rattle.std.specs.Int.{int_pow}
 use Rattle.std.proofs.Math.Nat.{mul-suc}
 use Rattle.std.proofs.Common.{suc, zero, refl, sym, ◌∙◌, ap, subst, inl, inr, arith}

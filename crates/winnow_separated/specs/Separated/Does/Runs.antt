@@ -79,8 +79,9 @@ module _ {S W T O D : Type 0} {element : Does T O} {separator : Does T D}
           behind_did (λ d. Then element (where_took (λ o. takes (d, o)))) at s held i
           (Ok link.1) (Ok link) t m j link.0 is r less x (λ l e. (_, e, refl))
       did at s held i (Err k) t j is (inr (d, m, r, less, x)) =
-          behind_did (λ d. Then element (where_took (λ o. takes (d, o)))) at s held i (Err k) (Err k)
-          t m j d is r less x (λ l e. (_, e, fails_on (λ o. takes (d, o)) at m.left.tokens l k refl))
+          behind_did (λ d. Then element (where_took (λ o. takes (d, o)))) at s held i
+          (Err k) (Err k) t m j d is r less x
+          (λ l e. (_, e, fails_on (λ o. takes (d, o)) at m.left.tokens l k refl))
       did at s held i (Err k) t j is (inl (r, same)) =
           separator_failed (λ d. Then element (where_took (λ o. takes (d, o)))) at s held i k t j is
           r same
