@@ -37,8 +37,8 @@ read_items-requires-clause-item g c =
       search rules,
     )
 
-pub returns-clause-reads : goal.returns-clause-reads
-returns-clause-reads g c = items_by _ _ _ _ c.read_items.ensures.reads (three_by _
+pub returns : goal.returns
+returns g c = items_by _ _ _ _ c.read_items.ensures.reads (three_by _
     (rw (
       c.separated_pair.ensures.first,
       c.terminated-name.ensures.parser,
@@ -52,20 +52,3 @@ returns-clause-reads g c = items_by _ _ _ _ c.read_items.ensures.reads (three_by
       c.terminated-value.ensures.ignored,
       c.by-2.ensures.rule,
     )))
-
-pub returns-clause-spared : goal.returns-clause-spared
-returns-clause-spared g c name value colon opening closing gap none =
-    (rw (
-      c.separated_pair.ensures.first,
-      c.terminated-name.ensures.parser,
-      c.terminated-name.ensures.ignored,
-      c.by.ensures.rule,
-      c.by.ensures.run,
-      c.separated_pair.ensures.separator,
-      c.separated_pair.ensures.second,
-      c.terminated-value.ensures.parser,
-      c.terminated-value.ensures.ignored,
-      c.by-2.ensures.rule,
-      c.by-2.ensures.run,
-    ) at c.read_items.ensures.spared) ((name, gap), (colon, gap), (value, gap)) opening closing gap
-    none
