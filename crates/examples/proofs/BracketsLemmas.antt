@@ -12,18 +12,12 @@ use Rattle.winnow.specs.Kind.{Kind, backtrack}
 use Rattle.winnow.specs.Reading.{Reading}
 use Rattle.examples.specs.Brackets.Brackets.{InBrackets, AreBrackets, AreOf}
 use Rattle.examples.specs.declared.brackets.Brackets.{Brackets}
-use Rattle.winnow.specs.Form.{Answer, ErrorForm}
+use Rattle.winnow.specs.Form.{ErrorForm}
 use Rattle.winnow.specs.MakesOutput.Says.{gives_one}
 use Rattle.winnow.specs.RulePieces.{HasOutcome}
-use Rattle.winnow.specs.Says.{Says}
+use Rattle.winnow.specs.Says.{setting_of}
 use Rattle.winnow.specs.Then.Steps.{fails_on}
-use Rattle.examples.specs.Brackets.Outcomes.{brackets_do, items_says}
-
--- the outcome of a call, by another name of its specification
-pub has_by : {T O : Type 0} {says also : Says T O} {form : ErrorForm} {i j : Input T}
-    {answer : Answer O} → (says.premise → HasOutcome says.does form i answer j) → says ≡ also
-    → also.premise → HasOutcome also.does form i answer j
-has_by {T} {O} {says} {also} {form} {i} {j} {answer} has e is = (rw e at has) is
+use Rattle.examples.specs.Brackets.Outcomes.{brackets_do, items_do}
 
 module _ {A L E : Type 0} {reading : Reading ℕ L} {following : Following ℕ} {kind : E → Kind}
     {i : Input ℕ} {level : ℕ} where
@@ -60,40 +54,37 @@ module _ {A L E : Type 0} {reading : Reading ℕ L} {following : Following ℕ} 
       subst P (sym is) (told_err {i = i} {j = i}
       (refused {g = AreBrackets {A = A} zero} b (λ tokens brackets rest never. absurd never)))
 
-module _ {A : Type 0} where
-  module _ {form : ErrorForm} {i j : Input ℕ} {level : ℕ} where
-    pub brackets_did : {below : ℕ} {alike : Brackets A → Brackets A → Type 0}
-        {inner : Vec (Brackets A) A} {brackets : Brackets A} → level ≡ suc below
-        → AreOf inner brackets
-        → HasOutcome (items_says (brackets_do below) alike).does form i (Ok inner) j
-        → HasOutcome (brackets_do level) form i (Ok brackets) j
-    unfolding brackets_do
-    brackets_did {brackets = brackets} is same did =
-        let P : ℕ → Type 0 = λ l. HasOutcome (brackets_do l) form i (Ok brackets) j in
-        subst P (sym is)
-        (record { status = did.status; outcome = (_, did.outcome, (brackets, same, refl)) })
-
-    pub no_brackets_did : {below : ℕ} {alike : Brackets A → Brackets A → Type 0} {k : Kind}
-        → level ≡ suc below
-        → HasOutcome (items_says (brackets_do below) alike).does form i (Err k) j
-        → HasOutcome (brackets_do level) form i (Err k) j
-    unfolding brackets_do
-    no_brackets_did {k = k} is did =
-        let P : ℕ → Type 0 = λ l. HasOutcome (brackets_do l) form i (Err k) j in
-        subst P (sym is) (record {
-          status = did.status;
-          outcome = (
-            _,
-            did.outcome,
-            fails_on (gives_one (λ tokens inner rest brackets. AreOf inner brackets)) _
-                i.left.tokens j.left.tokens k refl,
-          );
-        })
-
-  pub no_level_did : {form : ErrorForm} {i : Input ℕ} {level : ℕ} {k : Kind} → level ≡ zero
-      → k ≡ backtrack → HasOutcome (brackets_do level) form i (Err k) i
+module _ {A : Type 0} {form : ErrorForm} {i : Input ℕ} {level : ℕ} where
+  pub brackets_did : {j : Input ℕ} {below : ℕ} {inner : Vec (Brackets A) A}
+      {brackets : Brackets A} → level ≡ suc below → AreOf inner brackets
+      → HasOutcome (items_do (brackets_do below)) form i (Ok inner) j
+      → HasOutcome (brackets_do level) form i (Ok brackets) j
   unfolding brackets_do
-  no_level_did {form} {i} {level} {k} is b =
-      let P : ℕ → Type 0 = λ l. HasOutcome (brackets_do l) form i (Err k) i in
-      let Q : Kind → Type 0 = λ n. HasOutcome (brackets_do zero) form i (Err n) i in
+  brackets_did {j} {brackets = brackets} is same did =
+      let P : ℕ → Type 0 = λ l. HasOutcome (brackets_do l) form i (Ok brackets) j in
+      subst P (sym is)
+      (record { status = did.status; outcome = (_, did.outcome, (brackets, same, refl)) })
+
+  pub no_brackets_did : {j : Input ℕ} {below : ℕ} {k : Kind} → level ≡ suc below
+      → HasOutcome (items_do (brackets_do {A = A} below)) form i (Err k) j
+      → HasOutcome (brackets_do {A = A} level) form i (Err k) j
+  unfolding brackets_do
+  no_brackets_did {j} {k = k} is did =
+      let P : ℕ → Type 0 = λ l. HasOutcome (brackets_do {A = A} l) form i (Err k) j in
+      subst P (sym is) (record {
+        status = did.status;
+        outcome = (
+          _,
+          did.outcome,
+          fails_on (gives_one (λ tokens inner rest brackets. AreOf inner brackets))
+              (setting_of form i) i.left.tokens j.left.tokens k refl,
+        );
+      })
+
+  pub no_level_did : {k : Kind} → level ≡ zero → k ≡ backtrack
+      → HasOutcome (brackets_do {A = A} level) form i (Err k) i
+  unfolding brackets_do
+  no_level_did {k} is b =
+      let P : ℕ → Type 0 = λ l. HasOutcome (brackets_do {A = A} l) form i (Err k) i in
+      let Q : Kind → Type 0 = λ n. HasOutcome (brackets_do {A = A} zero) form i (Err n) i in
       subst P (sym is) (subst Q (sym b) (record { status = refl; outcome = refl }))

@@ -39,6 +39,7 @@ pub fn read_setting<'i>(
 ) -> Result<(&'i [u8], u8, &'i [u8]), ErrMode<EmptyError>>
     requires is_cut { (⟦<Bytes as Stream>⟧.view input.old).status.cut ≡ true }
     ensures for_good { HasFinalResults ⟦<Bytes as Stream>⟧.following (tt, 61, tt)
+        (⟦<(Alpha1, u8, Digit1) as Parser<Bytes, Setting, Error>>⟧.states (tt, 61, tt))
         (⟦<(Alpha1, u8, Digit1) as Parser<Bytes, Setting, Error>>⟧.meaning modal) SameSettings
         (⟦<Bytes as Stream>⟧.view input.old) (answer_by ⟦<Error as HasKind>⟧.kind result)
         (⟦<Bytes as Stream>⟧.view input.new) }

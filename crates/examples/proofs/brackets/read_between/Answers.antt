@@ -2,7 +2,6 @@ use Rattle.std.proofs.Common.{rules, ap, ◌∙◌}
 use Rattle.winnow.specs.Repeat.{repeat_parser}
 use Rattle.winnow.specs.InTurn.{told_by}
 use Rattle.winnow.specs.RulePieces.{asked_as_rule, pieces_run_as, tells_as_rule}
-use Rattle.examples.proofs.BracketsLemmas.{has_by}
 use Rattle.examples.proofs.brackets.read_between.Given as given
 use Rattle.examples.proofs.brackets.read_between.Goals as goal
 
@@ -35,7 +34,7 @@ returns-clause-reads g c = told_by c.read_cut.ensures.reads (rw (
 ))
 
 pub returns-clause-outcome : goal.returns-clause-outcome
-returns-clause-outcome g c = has_by c.read_cut.ensures.outcome (rw (
+returns-clause-outcome g c = (rw (
   c.delimited.ensures.ignored1,
   c.delimited.ensures.parser,
   c.delimited.ensures.ignored2,
@@ -43,4 +42,4 @@ returns-clause-outcome g c = has_by c.read_cut.ensures.outcome (rw (
   c.repeat-items.ensures.parser,
   c.by_pieces.ensures.rule,
   c.from.ensures,
-)) (c.requires.known.0, tt, c.requires.known.1)
+) at c.read_cut.ensures.outcome) (c.requires.known.0, tt, c.requires.known.1)
