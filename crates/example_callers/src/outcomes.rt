@@ -64,7 +64,7 @@ where
 pub fn block_is_for_good<'b, I, E>()
 where
     I: StreamIsPartial,
-    I::Token: Drop,
+    I::Token: Drop + 'b,
     E: ParserError<I>,
     requires mode { E.form ≡ modal }
     ensures { (buffer : Buffer I.Token) → NoOtherOnLonger I.following (tt, buffer)
