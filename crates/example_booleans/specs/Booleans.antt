@@ -1,5 +1,5 @@
 -- Boolean formulas: which bytes are operands and operators, and what operators compute.
-use Rattle.std.specs.Prelude.{◌≡◌, ℕ, ℤ, pos, Bool, true, false, List, ◌∷◌, Option, Some, None}
+use Rattle.std.specs.Prelude.{◌≡◌, ℕ, pos, Bool, true, false, List, ◌∷◌, Option, Some, None}
 use Rattle.std.specs.Prelude.{nat_eq, if◌then◌else◌}
 use Rattle.example_booleans.specs.declared.booleans.Logic.{Logic}
 use Rattle.example_booleans.specs.declared.booleans.Logic.TheVariants.{And, Or, Same}

@@ -1,5 +1,5 @@
 -- Premises of the callers in `premises`, and their grammars in definitions of their own.
-use Rattle.std.specs.Prelude.{◌≡◌, ◌↔◌, ◌++◌, ℕ, List, [], ◌∷◌, None, length, max}
+use Rattle.std.specs.Prelude.{◌≡◌, ◌↔◌, ℕ, List, [], ◌∷◌, None, max}
 use Rattle.std.specs.Borrow.{Bor}
 use Rattle.std.specs.List.{FoldsTo, fold}
 use Rattle.std.specs.Str.{encode_utf8_all}
@@ -10,7 +10,7 @@ use Rattle.winnow.specs.Counted.{counted_reading}
 use Rattle.winnow.specs.EndiannessCases.{Big}
 use Rattle.winnow.specs.Grammar.{Counted, Gathered, Grammar, Many}
 use Rattle.winnow.specs.Grammar.Decided.{FlatMapped}
-use Rattle.winnow.specs.Grammar.Folded.{FoldOf, Folded}
+use Rattle.winnow.specs.Grammar.Folded.{Folded}
 use Rattle.winnow.specs.Grammar.Lengths.{SaysOne, same_beginnings}
 use Rattle.winnow.specs.Grammar.Outputs.{IsAlike, token_alike}
 use Rattle.winnow.specs.Grammar.Same.{Same}

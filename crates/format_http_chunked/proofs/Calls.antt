@@ -1,8 +1,8 @@
 -- Lemmas about the results of a decoder, for equivalent states and after consumed bytes.
-use Rattle.std.specs.Prelude.{◌≡◌, ◌↔◌, ◌<◌, ◌++◌, ℕ, List, [], ◌∷◌, length, Option, Some, None}
-use Rattle.std.specs.Prelude.{Err, IfErr, Ok, Result}
+use Rattle.std.specs.Prelude.{◌≡◌, ◌↔◌, ◌++◌, ℕ, List, [], ◌∷◌, length, Option, Some, None}
+use Rattle.std.specs.Prelude.{Err, Ok, Result}
 use Rattle.std.proofs.Common.{ap, arith, refl, subst, sym, ◌∙◌}
-use Rattle.format_http_chunked.proofs.Taking.{data_zero, taken_byte, taken_from, taken_none}
+use Rattle.format_http_chunked.proofs.Taking.{data_zero, taken_byte, taken_from}
 use Rattle.format_http_chunked.proofs.Taking.{taken_then}
 use Rattle.format_http_chunked.proofs.Turns.{both_ways}
 use Rattle.format_http_chunked.proofs.Begun.{can_go_on, fields_due}

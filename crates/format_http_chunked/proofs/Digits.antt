@@ -1,19 +1,18 @@
 -- Lemmas about sizes, and about the bytes after size lines.
-use Rattle.std.specs.Prelude.{◌≡◌, ◌⊎◌, ◌↔◌, ◌<◌, ◌≤◌, ◌+◌, ◌*◌, ◌^◌, ◌++◌, ℕ, zero}
+use Rattle.std.specs.Prelude.{◌≡◌, ◌↔◌, ◌≤◌, ◌+◌, ◌*◌, ◌^◌, ◌++◌, ℕ, zero}
 use Rattle.std.specs.Prelude.{suc, List, []}
 use Rattle.std.specs.Prelude.{◌∷◌, length}
-use Rattle.std.proofs.Common.{inl, inr, arith, refl, sym, subst, ap, ◌∙◌, length-append}
+use Rattle.std.proofs.Common.{arith, refl, sym, subst, ap, ◌∙◌, length-append}
 use Rattle.format_http_chunked.proofs.Lists.{same_first, same_others}
 use Rattle.std.specs.Char.{digit_value}
-use Rattle.std.specs.List.{AllByRecursion}
-use Rattle.std.specs.Str.Parse.{digits_value, digits_value_after}
+use Rattle.std.specs.Str.Parse.{digits_value_after}
 use Rattle.format_http_chunked.proofs.Splits.{extension, line_end, star, then}
 use Rattle.format_http_chunked.proofs.Turns.{counted, extended_none}
 use Rattle.format_http_chunked.specs.Bodies.{AreFields, ChunkData, ChunksAfterSize, Extended}
 use Rattle.format_http_chunked.specs.Bodies.{Extension}
 use Rattle.format_http_chunked.specs.Bodies.{IsBody, IsHexDigit, IsWhite, LineEnd, SizeLine}
 use Rattle.format_http_chunked.specs.Dues.{DueDigits}
-use Rattle.format_http_chunked.specs.Words.{Byte, Star}
+use Rattle.format_http_chunked.specs.Words.{Star}
 
 -- ---- after a size line
 

@@ -1,5 +1,5 @@
 -- Lemmas about size lines that are consumed at once.
-use Rattle.std.specs.Prelude.{◌≡◌, ◌↔◌, ◌<◌, ◌≤◌, ◌++◌, ℕ, List, [], ◌∷◌, length}
+use Rattle.std.specs.Prelude.{◌≡◌, ◌↔◌, ◌<◌, ◌≤◌, ℕ, List, [], ◌∷◌, length}
 use Rattle.std.specs.Char.{digit_value}
 use Rattle.std.proofs.Common.{ap, arith, length-append, refl, subst, sym}
 use Rattle.format_http_chunked.proofs.Calls.{taken_alike, zero_alike}

@@ -4,15 +4,13 @@ use Rattle.std.specs.Prelude.{◌∷◌}
 use Rattle.std.specs.Prelude.{length, take}
 use Rattle.std.proofs.Common.{inl, inr, arith, refl, sym, subst, ap, ◌∙◌, append_assoc}
 use Rattle.std.proofs.Common.{length-append}
-use Rattle.std.proofs.lemmas.List.{append-nil}
 use Rattle.format_http_chunked.proofs.Lists.{front_is, front_splits, same_first, same_others}
 use Rattle.format_http_chunked.proofs.Splits.{field_line, opens}
 use Rattle.format_http_chunked.proofs.Turns.{both_ways, right_only, token_plain}
-use Rattle.format_http_chunked.specs.Bodies.{AreFields, ChunkData, FieldLine, IsBody, IsTokenByte}
-use Rattle.format_http_chunked.specs.Bodies.{IsValueByte, LineEnd}
+use Rattle.format_http_chunked.specs.Bodies.{AreFields, FieldLine, IsBody, IsTokenByte}
+use Rattle.format_http_chunked.specs.Bodies.{LineEnd}
 use Rattle.format_http_chunked.specs.Dues.{DueFields, IsDue, IsFramingDue}
 use Rattle.format_http_chunked.specs.Steps.{ArePassed, IsNever, IsTaken}
-use Rattle.format_http_chunked.specs.Words.{Byte, Many}
 use Rattle.format_http_chunked.specs.declared.places.Framing.TheVariants as framing
 use Rattle.format_http_chunked.specs.declared.places.InField.{InField}
 use Rattle.format_http_chunked.specs.declared.places.InField.TheVariants as field

@@ -6,7 +6,7 @@ use Rattle.format_http_chunked.specs.Bodies.{Extended, Extension, Given}
 use Rattle.format_http_chunked.specs.Bodies.{IsQuotedByte}
 use Rattle.format_http_chunked.specs.Bodies.{IsTokenByte, IsValueByte, IsWhite, LineEnd, QuotedByte}
 use Rattle.format_http_chunked.specs.Bodies.{Spaced, Value}
-use Rattle.format_http_chunked.specs.Dues.{DueInLine, IsFramingDue}
+use Rattle.format_http_chunked.specs.Dues.{IsFramingDue}
 use Rattle.format_http_chunked.specs.Steps.{IsTurn}
 use Rattle.format_http_chunked.specs.Words.{Byte, Many, One, Some, Star}
 use Rattle.format_http_chunked.specs.declared.lines.Turn.{Turn}

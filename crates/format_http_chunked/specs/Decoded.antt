@@ -1,5 +1,5 @@
 -- The results of a decoder for a chunked body that arrives in chunks.
-use Rattle.std.specs.Prelude.{◌≡◌, ◌≤◌, ◌<◌, ◌^◌, ◌↔◌, ◌++◌, ⊤, ℕ, List, [], ◌∷◌, length}
+use Rattle.std.specs.Prelude.{◌≡◌, ◌≤◌, ◌<◌, ◌^◌, ◌↔◌, ◌++◌, ℕ, List, [], ◌∷◌, length}
 use Rattle.std.specs.Prelude.{Err, Ok, Result}
 use Rattle.format_http_chunked.specs.Bodies.{IsBody}
 use Rattle.format_http_chunked.specs.Dues.{IsDue}

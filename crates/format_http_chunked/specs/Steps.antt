@@ -3,7 +3,7 @@ use Rattle.std.specs.Prelude.{◌≡◌, ◌⊎◌, ◌≤◌, ◌<◌, ◌^◌,
 use Rattle.std.specs.Prelude.{◌∷◌, length}
 use Rattle.std.specs.Prelude.{Err, None, Ok, Option, Result, Some}
 use Rattle.format_http_chunked.specs.Bodies.{ChunksAfterSize, IsHexDigit}
-use Rattle.format_http_chunked.specs.Dues.{DueFields, IsDue, IsFramingDue}
+use Rattle.format_http_chunked.specs.Dues.{IsDue, IsFramingDue}
 use Rattle.format_http_chunked.specs.declared.decoder.Decoder.{Decoder}
 use Rattle.format_http_chunked.specs.declared.decoder.ChunkError.{ChunkError}
 use Rattle.format_http_chunked.specs.declared.decoder.ChunkError.TheVariants as fault

@@ -1,5 +1,5 @@
 -- Texts of a set in front of others, and the bytes that they are in front of.
-use Rattle.std.proofs.Common.{◌++◌, ◌<◌, ◌∙◌, ◌∷◌, ◌≡◌, ◌⊎◌, [], ℕ, List, ap, append_assoc}
+use Rattle.std.proofs.Common.{◌++◌, ◌<◌, ◌∙◌, ◌∷◌, ◌≡◌, [], ℕ, List, ap, append_assoc}
 use Rattle.std.proofs.Common.{arith, inl, inr, subst, sym, true}
 use Rattle.std.specs.List.{All, AllByRecursion}
 use Rattle.std.specs.Str.{all_scalars, encode_utf8_all}

@@ -1,5 +1,5 @@
 -- Which of two is read, by the character that is first.
-use Rattle.std.specs.Prelude.{◌≡◌, ◌⊎◌, ◌<◌, ℕ, List, [], ◌∷◌, Option, Some, None, Result, Ok, Err}
+use Rattle.std.specs.Prelude.{◌≡◌, ◌⊎◌, ◌<◌, ℕ, List, [], ◌∷◌, Option, Some, None, Result}
 use Rattle.std.specs.Prelude.{Bool, false, true}
 use Rattle.std.proofs.Common.{arith, inl, inr, refl, subst}
 use Rattle.std.specs.Str.{chars}

@@ -1,11 +1,11 @@
 -- The parts of numbers: what they read, and that it is one, and takes characters.
-use Rattle.std.specs.Prelude.{ℕ, ◌↔◌}
+use Rattle.std.specs.Prelude.{ℕ}
 use Rattle.std.proofs.Common.{inl, inr, refl}
 use Rattle.streams.specs.Text.{text_reading}
 use Rattle.stream_sets.specs.AsChar.{IsDecDigit}
 use Rattle.format_json_scalars.specs.Alike.{class_same, four_second, taken_same}
 use Rattle.format_parts.specs.Unique.{char_takes, char_unique, run_unique}
-use Rattle.format_parts.specs.Words.{Char, RunOf, latter, pair}
+use Rattle.format_parts.specs.Words.{Char, latter, pair}
 use Rattle.format_json_scalars.specs.declared.number.LeadingDigits.{LeadingDigits}
 use Rattle.format_json_texts.specs.Number as texts
 use Rattle.format_json_texts.specs.Number.{IsLeading}

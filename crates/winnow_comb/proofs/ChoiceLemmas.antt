@@ -3,8 +3,7 @@ use Rattle.std.proofs.Common.{◌≡◌, ℕ, ◌+◌, ◌<◌, List, [], ◌∷
 use Rattle.std.proofs.Common.{◌∙◌, subst, append_assoc, arith, inl, inr, Err, length-append}
 use Rattle.std.specs.Prelude.{slice_set, map}
 use mathlib.Core.List.{map-append}
-use Rattle.std.proofs.lemmas.List.{get_or_at, length_push}
-use Rattle.std.proofs.Math.Seq.{set-append_seam}
+use Rattle.std.proofs.lemmas.List.{length_push}
 use Rattle.streams.specs.Input.{Input, Remaining, back_at}
 use Rattle.streams.specs.Kind.{Kind, backtrack}
 use Rattle.stream_errors.specs.Form.{Answer}

@@ -1,8 +1,6 @@
 -- An error made of another: what the adapters that change errors have in common.
 use Rattle.std.specs.Prelude.{◌≡◌, Ok, Err, ◌⊎◌}
-use Rattle.streams.specs.Input.{Input}
 use Rattle.streams.specs.Kind.{Kind}
-use Rattle.stream_errors.specs.Form.{Answer}
 use Rattle.winnow_core.specs.Runs.{Runs}
 pub mod Inversion
 pub mod Laws

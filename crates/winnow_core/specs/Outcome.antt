@@ -1,7 +1,6 @@
 -- The outcomes of a parser on a list of tokens.
 use Rattle.std.specs.Prelude.{◌≡◌, ⊤, ℕ, Bool, true, false, List, ◌++◌, Option, Ok, Err}
 use Rattle.std.proofs.Common.{refl, sym, subst, ap}
-use Rattle.streams.specs.Input.{Input}
 use Rattle.streams.specs.Kind.{backtrack, cut, incomplete, memory}
 use Rattle.stream_errors.specs.Form.{Answer, ErrorForm, plain, modal}
 pub mod Errors

@@ -1,5 +1,5 @@
 -- The outcome of a combinator, computed from the outcome of a child.
-use Rattle.std.specs.Prelude.{◌≡◌, true, false, Bool, List, ◌++◌, ℕ, Option, Err}
+use Rattle.std.specs.Prelude.{◌≡◌, false, Bool, List, ◌++◌, ℕ, Option, Err}
 use Rattle.std.proofs.Common.{refl, sym, subst, ap, ◌∙◌}
 use Rattle.streams.specs.Input.{Input, back_at}
 use Rattle.streams.specs.Kind.{Kind, backtrack, cut, incomplete, memory}

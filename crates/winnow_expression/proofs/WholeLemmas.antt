@@ -1,36 +1,23 @@
 -- The start of the loop, and the result of the whole at its end.
-use Rattle.std.proofs.Common.{◌≡◌, ◌∙◌, ◌≤◌, ◌<◌, ◌⊎◌, ℕ, ℤ, Option, Some, None, Ok, Err, Bool}
-use Rattle.std.proofs.Common.{true, false, List, [], ◌∷◌, ◌++◌, reverse, length, ap, subst, sym}
+use Rattle.std.proofs.Common.{◌≡◌, ◌∙◌, ◌≤◌, ◌<◌, ℕ, ℤ, Option, Some, None, Ok, Err, Bool}
+use Rattle.std.proofs.Common.{false, List, [], ◌∷◌, ◌++◌, reverse, ap, subst, sym}
 use Rattle.std.proofs.Common.{inl, inr, refl, arith}
-use Rattle.std.proofs.lemmas.Bool.{cases_lt}
 use Rattle.stream_errors.specs.Form.{Answer}
 use Rattle.streams.specs.Input.{Input}
 use Rattle.streams.specs.Kind.{Kind}
 use Rattle.winnow_core.specs.Runs.{Runs}
 use Rattle.winnow_expression.specs.Units.{units_left}
-use Rattle.winnow_expression.specs.Calls.{Call, Calls, Interrupts, Open, call_at}
+use Rattle.winnow_expression.specs.Calls.{Call, Calls, Open, call_at}
 use Rattle.winnow_expression.specs.Expression.{CallRuns, ExpressionRuns}
-use Rattle.winnow_expression.specs.Grammar.{Folding, Grammar, CallEnds, Closes, Infixes, Postfixes}
-use Rattle.winnow_expression.specs.Grammar.{TurnEnds}
+use Rattle.winnow_expression.specs.Grammar.{Grammar, CallEnds, Closes}
 use Rattle.winnow_expression.specs.Machine.{AllEnd, OperandStep, TurnStep}
-use Rattle.winnow_expression.specs.Loop.{Continues, Nested, RightOperandStarts, Invariant, rank}
-use Rattle.winnow_expression.proofs.EndLemmas.{popped}
-use Rattle.winnow_expression.proofs.LeadsLemmas.{leads_operand, leads_prefix, leads_infix}
-use Rattle.winnow_expression.proofs.LeadsLemmas.{leads_postfix, leads_close, call_fails, turn_fails}
+use Rattle.winnow_expression.specs.Loop.{Continues, Nested, Invariant, rank}
+use Rattle.winnow_expression.proofs.LeadsLemmas.{call_fails, turn_fails}
 use Rattle.winnow_expression.proofs.LeadsLemmas.{close_fails, call_done, all_done, expression_all}
 use Rattle.winnow_expression.proofs.LeadsLemmas.{expression_fails, of_all}
-use Rattle.winnow_expression.proofs.RankLemmas.{rank_consumed, rank_operand, rank_infix, rank_close}
 use Rattle.winnow_expression.specs.declared.combinator.places.Next.{Next}
-use Rattle.winnow_expression.specs.declared.combinator.calls.Operator.{Operator}
-use Rattle.winnow_expression.specs.declared.combinator.calls.Operator.TheVariants.{
-  Prefix as prefix_open,
-}
-use Rattle.winnow_expression.specs.declared.combinator.calls.Operator.TheVariants.{
-  Infix as infix_open,
-}
 use Rattle.winnow_expression.specs.declared.combinator.machine.Turn.{Turn}
 use Rattle.winnow_expression.specs.declared.combinator.machine.Turn.TheVariants.{Ends, EndsAll}
-use Rattle.winnow_expression.specs.declared.combinator.machine.Turn.TheVariants.{Goes, Interrupted}
 use Rattle.winnow_expression.proofs.StepLemmas.{all_of, ends_of, failure_of}
 use Rattle.winnow_expression.proofs.StandsLemmas.{above_last}
 

@@ -2,7 +2,6 @@
 use Rattle.std.specs.Prelude.{◌≡◌, ◌⊎◌, Bool, true, false, Option, Some, None, Ok, Err}
 use Rattle.streams.specs.Input.{Input}
 use Rattle.streams.specs.Kind.{Kind}
-use Rattle.stream_errors.specs.Form.{Answer}
 use Rattle.winnow_core.specs.Runs.{Runs}
 use Rattle.winnow_recovery.specs.Recovery.{CanRecover, IsNotRecovered, IsRecovered, Recovery}
 use Rattle.winnow_recovery.specs.declared.combinator.impls.resume_after.ResumeAfter.{ResumeAfter}

@@ -1,16 +1,14 @@
 -- Invariants of the loop that repeats items.
-use Rattle.std.proofs.Common.{◌≡◌, ◌≤◌, ◌<◌, ◌+◌, ◌-◌, ◌∙◌, ℕ, List, [], ◌∷◌, ◌++◌}
+use Rattle.std.proofs.Common.{◌≡◌, ◌≤◌, ◌<◌, ◌+◌, ◌-◌, ℕ, List, [], ◌∷◌, ◌++◌}
 use Rattle.std.proofs.Common.{length, Option}
-use Rattle.std.proofs.Common.{Some, None, Ok, refl, sym, ap, subst, inr, arith, length-append}
-use Rattle.std.specs.Prelude.{MatchOption}
+use Rattle.std.proofs.Common.{Some, None, Ok, refl, ap, subst, inr, arith}
 use Rattle.std.specs.List.{FoldsTo}
 use Rattle.std.proofs.lemmas.Fn.{FoldsTo-push}
-use Rattle.streams.specs.Input.{Input, IsEndOf, ends-length}
-use Rattle.streams.specs.Reading.{Reading, units-zero}
+use Rattle.streams.specs.Input.{Input}
+use Rattle.streams.specs.Reading.{Reading}
 use Rattle.winnow_core.specs.Runs.{Runs}
-use Rattle.stream_sets.specs.Range.{IsBelow, from_to}
+use Rattle.stream_sets.specs.Range.{from_to}
 use Rattle.streams.specs.Kind.{Kind}
-use Rattle.streams.specs.Equal.{same_some, none_is_some}
 use Rattle.stream_errors.specs.Form.{Answer}
 use Rattle.stream_sets.specs.Accumulator.Holds.{Accumulates}
 use Rattle.winnow_repeat.specs.Chain.{Chain, IsItem, IsSuccess, Successes}

@@ -1,9 +1,9 @@
 -- The grammar of `till_line_ending`.
-use Rattle.std.specs.Prelude.{◌≡◌, ◌⊎◌, ℕ, None, false, List, [], ◌∷◌, Ok, Err, ⊤}
+use Rattle.std.specs.Prelude.{◌≡◌, ℕ, None, false, List, [], ◌∷◌, Ok, Err, ⊤}
 use Rattle.std.specs.Borrow.{Bor}
 use Rattle.std.proofs.Common.{refl, sym, ap, subst, inl, inr, ◌∙◌}
 use Rattle.streams.specs.Input.{Input, Takes}
-use Rattle.streams.specs.Kind.{Kind, backtrack, memory}
+use Rattle.streams.specs.Kind.{Kind, backtrack}
 use Rattle.streams.specs.Reading.{Reading}
 use Rattle.grammars.specs.Grammar.{NoMatch, SpelledBy}
 use Rattle.grammars.specs.Grammar.Searches.{IsLineOf, Line}

@@ -1,5 +1,5 @@
 -- Properties of the results of calls.
-use Rattle.std.specs.Prelude.{◌≡◌, ℕ, ℤ, Bool, Ok, Err, List}
+use Rattle.std.specs.Prelude.{ℕ, ℤ, Bool, Ok, Err, List}
 use Rattle.std.proofs.Common.{inl, inr}
 use Rattle.stream_errors.specs.Form.{Answer}
 use Rattle.streams.specs.Input.{Input, IsEndOf, is_end_of_trans}

@@ -1,8 +1,6 @@
 -- Properties of calls where operands and operators are expected.
-use Rattle.std.specs.Prelude.{Ok, Err}
 use Rattle.std.proofs.Common.{inl, inr}
 use Rattle.streams.specs.Input.{back_at, is_end_of_trans}
-use Rattle.streams.specs.Kind.{backtrack}
 use Rattle.streams.specs.Reading.{Reading}
 use Rattle.std.proofs.Common.{refl}
 use Rattle.winnow_core.specs.Ends.{back_ends, same_ends}

@@ -3,8 +3,8 @@ use Rattle.std.specs.Prelude.{◌≡◌, ◌⊎◌, ◌<◌, ◌≤◌, ◌+◌,
 use Rattle.std.specs.Prelude.{Option}
 use Rattle.std.specs.Prelude.{Some, Ok, Err, false}
 use Rattle.std.specs.List.{FoldsTo}
-use Rattle.std.proofs.Common.{refl, sym, subst, ap, inl, inr, ◌∙◌, arith}
-use Rattle.streams.specs.Kind.{Kind, incomplete}
+use Rattle.std.proofs.Common.{refl, sym, subst, inl, inr, ◌∙◌, arith}
+use Rattle.streams.specs.Kind.{Kind}
 use Rattle.stream_errors.specs.Form.{Answer, plain}
 use Rattle.stream_sets.specs.Range.{Bounds, IsBelow}
 use Rattle.winnow_core.specs.Outcome.{Outcome, took, backs, cuts, asks, wants, Setting, on_cut}
@@ -14,7 +14,7 @@ use Rattle.winnow_core.specs.Outcome.Errors.{asking, kind_longer, kinds_alike, w
 use Rattle.winnow_core.specs.Says.{Lawful}
 use Rattle.winnow_core.specs.Says.Lacks.{misused_alike, misused_whole}
 use Rattle.winnow_core.specs.Settles.Says.{SettlesOne}
-use Rattle.winnow_core.specs.Then.{Comes, ComesOf, Holds, Meets, Next, NextHolds, NextMeets, Then}
+use Rattle.winnow_core.specs.Then.{ComesOf, Next, NextHolds, NextMeets, Then}
 use Rattle.winnow_core.specs.Then.Steps.{asks_later, asks_meet, asks_on, cuts_hold, cuts_meet}
 use Rattle.winnow_core.specs.Then.Steps.{cuts_on}
 use Rattle.winnow_repeat.specs.Chain.Items.{then_meet, then_stay, then_whole}

@@ -1,20 +1,18 @@
 -- Lemmas for callers about one call of `separated`: the first element, the consecutive links after
 -- it, and the call that ended them.
-use Rattle.std.specs.Prelude.{◌≡◌, ◌<◌, ◌≤◌, ◌-◌, ℕ, List, Option, None, Ok, Err, ◌⊎◌}
+use Rattle.std.specs.Prelude.{◌≡◌, ◌-◌, ℕ, List, None, Ok, Err, ◌⊎◌}
 use Rattle.std.specs.List.{FoldsTo}
-use Rattle.std.proofs.Common.{refl, subst, inl, inr, arith}
+use Rattle.std.proofs.Common.{refl, inl, inr}
 use Rattle.streams.specs.Equal.{none_is_some}
 use Rattle.streams.specs.Input.{Input, back_at}
-use Rattle.streams.specs.Kind.{Kind, backtrack, memory}
-use Rattle.stream_errors.specs.Form.{Answer}
-use Rattle.stream_errors.specs.Form.Inversion.{at_kind, at_output, ok_is_err, same_kind}
+use Rattle.streams.specs.Kind.{Kind, backtrack}
+use Rattle.stream_errors.specs.Form.Inversion.{at_output, ok_is_err}
 use Rattle.stream_sets.specs.Accumulator.{Accumulator}
-use Rattle.stream_sets.specs.Range.{bounds_of, from_to, greatest_of}
-use Rattle.stream_sets.specs.declared.range.Range.{Range}
+use Rattle.stream_sets.specs.Range.{from_to}
 use Rattle.winnow_core.specs.Runs.{Runs}
 use Rattle.winnow_repeat.specs.Repeat.{RepeatEnds}
 use Rattle.winnow_repeat.specs.Repeat.Inversion.{Items}
-use Rattle.winnow_separated.specs.Link.{LinkFails, LinkRuns, SeparatesNothing}
+use Rattle.winnow_separated.specs.Link.{LinkFails, LinkRuns}
 use Rattle.winnow_separated.specs.Separated.{ElementsRun, SeparatedRuns}
 
 -- No element: the first backtracked, and the input is back before it.

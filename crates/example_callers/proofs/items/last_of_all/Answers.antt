@@ -1,4 +1,4 @@
-use Rattle.std.proofs.Common.{rules, [], ◌∷◌, ◌++◌, refl}
+use Rattle.std.proofs.Common.{[], ◌∷◌, ◌++◌, refl}
 use Rattle.winnow.specs.Form.{assert_kind}
 use Rattle.winnow.specs.Fault.{IsFaultAt}
 use Rattle.winnow.specs.ParseIter.{parse_iter_state}

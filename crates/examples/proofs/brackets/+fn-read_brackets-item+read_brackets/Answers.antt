@@ -1,4 +1,4 @@
-use Rattle.std.proofs.Common.{refl, rules, arith}
+use Rattle.std.proofs.Common.{refl, arith}
 use Rattle.examples.proofs.BracketsLemmas.{brackets_did, no_brackets_did, no_level_did}
 use Rattle.examples.proofs.BracketsLemmas.{brackets_told, no_brackets_told, no_level_told}
 use Rattle.examples.proofs.brackets.+fn-read_brackets-item+read_brackets.Goals as goal

@@ -1,4 +1,4 @@
-use Rattle.std.proofs.Common.{◌≡◌, ◌∙◌, ℤ, pos, subst, ap}
+use Rattle.std.proofs.Common.{◌≡◌, ◌∙◌, ℤ, pos, subst}
 use Rattle.std.specs.Prelude.{⊤}
 use Rattle.streams.specs.Text.{text_input, text_reading}
 use Rattle.streams.specs.Kind.{backtrack}

@@ -1,4 +1,4 @@
-use Rattle.std.proofs.Common.{◌∙◌, ◌++◌, ◌∷◌, [], ap, map, rules, sym}
+use Rattle.std.proofs.Common.{◌∙◌, ap, map, rules, sym}
 use Rattle.std.proofs.lemmas.List.{map_push}
 use Rattle.format_ini.specs.Lines.{said_in}
 use Rattle.format_ini.proofs.Reading.{so_far_all, so_far_err, so_far_from, so_far_more}

@@ -1,4 +1,3 @@
-use Rattle.std.specs.Prelude.{◌≡◌}
 use Rattle.std.proofs.Common.{subst}
 use Rattle.stream_errors.specs.Form.{assert_kind}
 use Rattle.winnow_core.specs.SameMeaning.{SameMeaning, same_refl}

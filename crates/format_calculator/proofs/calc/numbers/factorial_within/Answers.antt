@@ -1,4 +1,4 @@
-use Rattle.std.proofs.Common.{rules, arith, ap, ◌∙◌, ◌≡◌}
+use Rattle.std.proofs.Common.{arith, ap, ◌∙◌, ◌≡◌}
 use Rattle.format_calculator.specs.Calculator.{factorial}
 use Rattle.format_calculator.proofs.Values.{factorial_none}
 use Rattle.format_calculator.proofs.calc.numbers.factorial_within.Goals as goal

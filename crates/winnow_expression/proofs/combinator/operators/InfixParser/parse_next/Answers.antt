@@ -1,4 +1,4 @@
-use Rattle.std.proofs.Common.{rules, refl}
+use Rattle.std.proofs.Common.{refl}
 use Rattle.winnow_expression.specs.Operators.{IsInfixClone, fold_of}
 use Rattle.winnow_expression.specs.Operators.Laws.{operator_answers}
 use Rattle.winnow_expression.proofs.combinator.operators.InfixParser.parse_next.Goals as goal
