@@ -24,19 +24,29 @@ LINES = re.compile(r"(file: .+\n|old: .+\n|new:.*\n)+")
 Written = namedtuple("Written", "crate name text")
 
 
-def edits_of(crate):
-    """Returns the edits of a crate, sorted by name."""
-    file, found = CRATES / crate / "edits.txt", {}
-    text = file.read_text(encoding="utf-8") if file.is_file() else ""
+def blocks_of(file):
+    """Returns the edits of a file by name, each with the lines after its name."""
+    text, found = file.read_text(encoding="utf-8") if file.is_file() else "", {}
     for block in filter(None, re.split(r"\n\n+", text.strip("\n"))):
         first, _, lines = f"{block}\n".partition("\n")
         name = first.removeprefix(NAME)
         if not first.startswith(NAME) or not LINES.fullmatch(lines):
-            sys.exit(f"crates/{crate}/edits.txt: not an edit:\n{block}")
+            sys.exit(f"{file}: not an edit:\n{block}")
         if name in found:
-            sys.exit(f"crates/{crate}/edits.txt has two edits {name}")
-        found[name] = Written(crate, name, lines)
-    return [found[name] for name in sorted(found)]
+            sys.exit(f"{file} has two edits {name}")
+        found[name] = lines
+    return found
+
+
+def edits_of(crate):
+    """Returns the edits of a crate, sorted by name."""
+    found = blocks_of(CRATES / crate / "edits.txt")
+    return [Written(crate, name, found[name]) for name in sorted(found)]
+
+
+def right_of(file):
+    """Returns the edits of a file in which each name has its crate before it."""
+    return [Written(*name.split("/"), lines) for name, lines in blocks_of(file).items()]
 
 
 def must_fail_of(crate):
