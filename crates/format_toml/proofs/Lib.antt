@@ -1,0 +1,5 @@
+pub mod Keys
+pub mod Lines
+pub mod Nested
+pub mod Rows
+pub mod Words
