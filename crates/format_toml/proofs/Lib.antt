@@ -1,5 +1,5 @@
-pub mod Keys
-pub mod Lines
+pub mod KeyTexts
+pub mod LineTexts
 pub mod Nested
 pub mod Rows
 pub mod Words
