@@ -1,13 +1,13 @@
 #!/usr/bin/env python3
-"""Reports errors in documentation comments:
+"""Reports errors in documentation comments, and unused imports of proofs:
 
     python3 scripts/lint.py
 
 The comment of each public item, `///` in a crate's `src/`, must begin with a capital letter or a
 code span, end its first paragraph as a sentence, and mention each other name of the item once
 ("Known as `tag` in nom"). Every public item of the library must have one. README.md may have at
-most 700 words outside of its code blocks, and at most 25 nonempty lines of code. It fails if there
-is an error.
+most 700 words outside of its code blocks, and at most 25 nonempty lines of code. A file of specs or
+proofs may import only names that it uses. It fails if there is an error.
 """
 import pathlib
 import re
@@ -18,6 +18,8 @@ from registry.common import CRATES, TOP, below_winnow, read  # noqa: E402
 
 ITEM = re.compile(r"\s*(?:pub |final )+(?:const fn|fn|struct|trait|enum|const|type)\s+(\w+)")
 ATTRIBUTE = re.compile(r"\s*#\[")
+IMPORT = re.compile(r"^use Rattle[^;{}\n]*\{([^}=]*)\}\n", re.M)
+PROOFS = "specs", "proofs"
 MOST_WORDS, MOST_CODE = 700, 25
 
 
@@ -69,6 +71,19 @@ def faults_of_readme():
         yield f"{code} lines of code, more than {MOST_CODE}"
 
 
+def unused(path):
+    """Returns the names that a file of specs or proofs imports and does not use."""
+    text = read(path)
+    rest = IMPORT.sub("", text)
+    for names in IMPORT.findall(text):
+        for name in filter(None, (it.split(" as ")[-1].strip() for it in names.split(","))):
+            parts = [re.escape(it) for it in name.split("◌") if it]
+            if "◌" not in name:
+                parts = [rf"(?<![\w-]){parts[0]}(?![\w-])"]
+            if not all(re.search(it, rest) for it in parts):
+                yield name
+
+
 def main():
     wrong = 0
     for fault in faults_of_readme():
@@ -82,7 +97,11 @@ def main():
             for fault in found:
                 wrong += 1
                 print(f"{path.relative_to(TOP)}:{number}: {item} {fault}")
-    print(f"{wrong} errors of documentation")
+    for path in sorted(it for part in PROOFS for it in CRATES.glob(f"*/{part}/**/*.antt")):
+        for name in unused(path):
+            wrong += 1
+            print(f"{path.relative_to(TOP)}: it imports {name}, and does not use it")
+    print(f"{wrong} errors of documentation and imports")
     return 1 if wrong else 0
 
 

@@ -2,4 +2,5 @@ pub mod Opened
 pub mod Passes
 pub mod Passing
 pub mod Placed
+pub mod Read
 pub mod Walks

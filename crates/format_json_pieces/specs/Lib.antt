@@ -2,6 +2,5 @@
 pub mod Begun
 pub mod Inside
 pub mod Place
-pub mod Read
 pub mod Results
 pub mod Value

@@ -22,12 +22,12 @@ use Rattle.format_json_texts.specs.Values.{Punctuation, Scalar, SpacedOut}
 use Rattle.format_json_texts.specs.Values.Texts.{json_of}
 use Rattle.format_json_texts.specs.declared.value.Value.{Value}
 use Rattle.format_json_values.specs.Unique.{value_unique}
-use Rattle.format_json_writer.specs.Alike.{AreAlike, AreAlikeBy, AreAlikeMembers, ArePairwise}
-use Rattle.format_json_writer.specs.Alike.{HaveSameBytes}
-use Rattle.format_json_writer.proofs.Agreed.{Agrees, between_agrees, either_agrees}
-use Rattle.format_json_writer.proofs.Agreed.{former_agrees, gathered_agree, latter_agrees}
-use Rattle.format_json_writer.proofs.Agreed.{many_agree}
-use Rattle.format_json_writer.proofs.Agreed.{means_agree, one_beginning, parted_agree}
+use Rattle.format_json_writer.specs.Alike.{AreAlike, AreAlikeBy, AreAlikeMembers}
+use Rattle.grammar_outputs.specs.Pairwise.{ArePairwise, HaveSameBytes}
+use Rattle.grammar_outputs.specs.Agreed.{Agrees, between_agrees, either_agrees}
+use Rattle.grammar_outputs.specs.Agreed.{former_agrees, gathered_agree, latter_agrees}
+use Rattle.grammar_outputs.specs.Agreed.{many_agree}
+use Rattle.grammar_outputs.specs.Agreed.{means_agree, one_beginning, parted_agree}
 use Rattle.grammars.specs.Grammar.{Gathered, Grammar, InClass, IsUnique, Taken, Three, Token}
 use Rattle.grammars.specs.Grammar.Meaning.{Meaning}
 use Rattle.grammars.specs.Grammar.Outputs.{IsAlike, either_alike, made_alike, second_alike}
@@ -115,7 +115,7 @@ module _ {A : Type 0} where
       between_agrees _ (char_unique 34) (record {
         one = λ tokens s t rest other (os, e, x) (ps, f, y).
             e ∙ ap (λ l. encode_utf8_all l) (same_list os ps
-            ((many_agree character_unique (record { one = character_one.alike })).one tokens os ps
+            ((many_agree 0 character_unique (record { one = character_one.alike })).one tokens os ps
             rest other x y)) ∙ sym f;
       })
 
@@ -143,7 +143,7 @@ module _ {A : Type 0} where
     module _ {g : Grammar ℕ (Value A)} (unique : IsUnique g) (agree : Agrees alike g) where
       items_agree : Agrees (AreAlikeBy alike) (Meaning IsArray (Array HasCharacters g))
       items_agree =
-          means_agree IsArray (between_agrees _ (mark_unique 91) (gathered_agree (parted_agree
+          means_agree IsArray (between_agrees _ (mark_unique 91) (gathered_agree (parted_agree 0
           (both_unique former unique gap_unique) (mark_unique 44) (former_agrees Gap agree))))
           (λ l m v w e is was. inr (inr (inr (inl (l, m, is, was, e)))))
 
@@ -171,7 +171,7 @@ module _ {A : Type 0} where
 
       members_agree : Agrees (AreAlikeBy alike) (Meaning IsObject (Object HasCharacters g))
       members_agree =
-          means_agree IsObject (between_agrees _ (mark_unique 123) (gathered_agree (parted_agree
+          means_agree IsObject (between_agrees _ (mark_unique 123) (gathered_agree (parted_agree 0
           member_unique (mark_unique 44) member_agrees)))
           (λ l m v w e is was. inr (inr (inr (inr (l, m, is, was, e)))))
 

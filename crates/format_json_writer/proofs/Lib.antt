@@ -1,5 +1,4 @@
 pub mod Adding
-pub mod Agreed
 pub mod Back
 pub mod Built
 pub mod Canonical

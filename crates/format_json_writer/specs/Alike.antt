@@ -1,20 +1,10 @@
 -- When two values are equivalent.
-use Rattle.std.specs.Prelude.{◌≡◌, ◌⊎◌, ⊤, ℕ, zero, suc, List, [], ◌∷◌, string_bytes}
+use Rattle.std.specs.Prelude.{◌≡◌, ◌⊎◌, ℕ, zero, suc}
 use Rattle.std.specs.declared.string.String.{String}
 use Rattle.std.specs.declared.vec.Vec.{Vec}
+use Rattle.grammar_outputs.specs.Pairwise.{ArePairwise, HaveSameBytes}
 use Rattle.format_json_texts.specs.declared.value.Value.{Value}
 use Rattle.format_json_texts.specs.declared.value.Value as values
-
--- lists of the same length whose items are pairwise equivalent
-abbrev pub ArePairwise : {O : Type 0} → (O → O → Type 0) → List O → List O → Type 0
-ArePairwise alike [] [] = ⊤
-ArePairwise alike [] (p ∷ ps) = ⊥
-ArePairwise alike (o ∷ os) [] = ⊥
-ArePairwise alike (o ∷ os) (p ∷ ps) = alike o p × ArePairwise alike os ps
-
--- strings of the same bytes, wherever these lie
-abbrev pub HaveSameBytes : {A : Type 0} → String A → String A → Type 0
-HaveSameBytes s t = string_bytes s ≡ string_bytes t
 
 module _ {A : Type 0} where
   -- the same name, and equivalent values

@@ -1,11 +1,13 @@
 -- Runs of items between marks: where they are out of memory, an item was read.
-use Rattle.std.specs.Prelude.{◌≡◌, false, ℕ, Option, Result, Ok, Err}
+use Rattle.std.specs.Prelude.{◌≡◌, false, ℕ, Option, None, Result, Ok, Err}
+use Rattle.std.specs.declared.vec.Vec.{Vec}
 use Rattle.std.proofs.Common.{refl, sym, subst, inl, inr, ◌∙◌}
+use Rattle.format_parts.specs.Marks.{ItemsRan}
 use Rattle.format_parts.specs.Words.{latter}
 use Rattle.grammars.specs.Grammar.{Both, Grammar, NoMatch}
-use Rattle.stream_errors.specs.Form.{ErrorForm, answer_by, assert_kind, modal, plain}
+use Rattle.stream_errors.specs.Form.{Answer, ErrorForm, answer_by, assert_kind, modal, plain}
 use Rattle.stream_errors.specs.Form.Inversion.{ok_is_err, same_kind}
-use Rattle.stream_sets.specs.Accumulator.{Accumulator}
+use Rattle.stream_sets.specs.Accumulator.{Accumulator, list_kept}
 use Rattle.stream_sets.specs.Range.{bounds_of}
 use Rattle.stream_sets.specs.declared.range.Range.{Range}
 use Rattle.streams.specs.Input.{Input}
@@ -15,6 +17,7 @@ use Rattle.winnow_comb.specs.Delimited.{DelimitedRuns}
 use Rattle.winnow_core.specs.Exact.{Backtracks, IsExact, IsSpared, Reads}
 use Rattle.winnow_core.specs.Exact.Failed.{not_memory}
 use Rattle.winnow_core.specs.Runs.{Runs}
+use Rattle.winnow_core.specs.Sequence.{SequenceRuns2}
 use Rattle.winnow_separated.specs.Separated.{ElementsRun, RangedElements}
 
 -- behind the first part there is no match of the second, if there is none of both
@@ -23,6 +26,20 @@ none_after : {T O1 O2 : Type 0} (g1 : Grammar T O1) (g2 : Grammar T O2) (i a : I
     → NoMatch g2 a.left.tokens
 unfolding Both
 none_after g1 g2 i a o1 there none o rest x = none o rest (o1, o, a.left.tokens, there, x, refl)
+
+-- a call from equal states
+pub items_ran : {S M W T O N D A : Type 0} {form : ErrorForm} {item : Runs S T O}
+    {mark : Runs M T N} {gap : Runs W T D} {s : S × M × M × M × W} {i : Input T}
+    {answer : Answer (Vec O A)} {j : Input T} (u t : (M × W) × (S × (M × W) × Range) × M)
+    → DelimitedRuns (SequenceRuns2 mark gap)
+    (RangedElements item (SequenceRuns2 mark gap) list_kept (assert_kind form)) mark u i answer t j
+    → u ≡ ((s.1, s.4), (s.0, (s.2, s.4), record { start_inclusive = 0; end_inclusive = None }), s.3)
+    → ItemsRan form item mark gap s i answer j
+items_ran {S} {M} {W} {form = form} {item} {mark} {gap} {i = i} {answer} {j} u t ran same =
+    let P : (M × W) × (S × (M × W) × Range) × M → Type 0 = λ z. DelimitedRuns
+    (SequenceRuns2 mark gap)
+    (RangedElements item (SequenceRuns2 mark gap) list_kept (assert_kind form)) mark z i answer t j
+    in record { after = t; ran = subst P same ran }
 
 -- the error of a parser that was made wrongly is not out of memory
 pub never_asserted : (form : ErrorForm) → assert_kind form ≡ memory → ⊥
@@ -74,16 +91,15 @@ module _ {S1 S2 S3 W T O1 O2 O3 D C : Type 0} {run1 : Runs S1 T O1} {run2 : Runs
 
     -- so a call is not out of memory where there is none
     pub items_spared : {L E : Type 0} {reading : Reading T L} (kind : E → Kind) {h : Grammar T C}
-        {u : S1 × (S2 × W × Range) × S3} (i : Input T) (result : Result C E)
-        (t : S1 × (S2 × W × Range) × S3) (j : Input T)
-        → DelimitedRuns run1 (RangedElements run2 between into asserted) run3 u i
-        (answer_by kind result) t j → u ≡ s → Reads reading kind h i result j
+        (i : Input T) (result : Result C E) (t : S1 × (S2 × W × Range) × S3) (j : Input T)
+        → DelimitedRuns run1 (RangedElements run2 between into asserted) run3 s i
+        (answer_by kind result) t j → Reads reading kind h i result j
         → NoMatch (Both latter g1 g2) i.left.tokens → IsSpared kind i result
-    items_spared kind i (Ok o) t j ran same reads none is = tt
-    items_spared kind i (Err e) t j ran same reads none is = elim (reads.none is) [
+    items_spared kind i (Ok o) t j ran reads none is = tt
+    items_spared kind i (Err e) t j ran reads none is = elim (reads.none is) [
       | inl m ↦
-          let P : S1 × (S2 × W × Range) × S3 → Kind → Type 0 = λ z k. DelimitedRuns run1
-          (RangedElements run2 between into asserted) run3 z i (Err k) t j in
-          absurd (not_wanting i t j is none (subst (P s) m (subst (λ z. P z (kind e)) same ran)))
+          let P : Kind → Type 0 = λ k. DelimitedRuns run1
+          (RangedElements run2 between into asserted) run3 s i (Err k) t j in
+          absurd (not_wanting i t j is none (subst P m ran))
       | inr (back, nothing) ↦ back
     ]

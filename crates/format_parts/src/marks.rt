@@ -1,14 +1,15 @@
 //! Items between marks, as the values of an array. The contracts are in terms of the grammars of
 //! the parts, for any parsers and over any stream.
-ghost use Rattle.format_parts.specs.Marks.{FirstItem, Items};
+ghost use Rattle.format_parts.specs.Marks.{FirstItem, Items, ItemsRan};
 ghost use Rattle.format_parts.specs.Words.{former};
 ghost use Rattle.std.specs.Fn.{CalledAtMut};
 ghost use Rattle.stream_errors.specs.Form.{answer_by};
 ghost use Rattle.winnow_comb.specs.Delimited.{DelimitedRuns};
+ghost use Rattle.winnow_comb.specs.Terminated.{TerminatedRuns};
 ghost use Rattle.winnow_core.specs.Claim.{CanRead};
 ghost use Rattle.winnow_core.specs.Exact.{IsSpared, Reads};
 ghost use Rattle.grammars.specs.Grammar.{Both, NoMatch, Three};
-ghost use Rattle.winnow_grammar.specs.Rule.{CallsRead, CallsSpared};
+ghost use Rattle.winnow_grammar.specs.Rule.{ByRuns, CallsRead, CallsSpared};
 
 use std::alloc::Allocator;
 use stream_errors::parser_error::ParserError;
@@ -93,6 +94,13 @@ where
         × (B.claim (B.state marks.comma)).consumes }
     requires closing { CanRead (B.can_parse marks.closing) (B.claim (B.state marks.closing)) }
     requires gap { CanRead (G.can_parse marks.gap) (G.claim (G.state marks.gap)) }
+    ensures ran { ItemsRan E.form (P.meaning E.form) (B.meaning E.form) (G.meaning E.form) (
+      P.state item,
+      B.state marks.opening,
+      B.state marks.comma,
+      B.state marks.closing,
+      G.state marks.gap,
+    ) (I.view input.old) (answer_by E.kind result) (I.view input.new) }
     ensures reads { Reads I.reading E.kind
         (Items (P.claim (P.state item)).grammar (B.claim (B.state marks.opening)).grammar
         (B.claim (B.state marks.comma)).grammar (B.claim (B.state marks.closing)).grammar
@@ -143,6 +151,16 @@ where
         × (B.claim (B.state marks.comma)).consumes }
     requires closing { CanRead (B.can_parse marks.closing) (B.claim (B.state marks.closing)) }
     requires gap { CanRead (G.can_parse marks.gap) (G.claim (G.state marks.gap)) }
+    ensures ran { ItemsRan E.form
+        (TerminatedRuns (ByRuns I.reading I.view E.kind (CalledAtMut F.FnMut)) (G.meaning E.form))
+        (B.meaning E.form) (G.meaning E.form) (
+          ((rule, value), G.state marks.gap),
+          B.state marks.opening,
+          B.state marks.comma,
+          B.state marks.closing,
+          G.state marks.gap,
+        )
+        (I.view input.old) (answer_by E.kind result) (I.view input.new) }
     ensures reads { Reads I.reading E.kind
         (Items (Both former (R.grammar rule) (G.claim (G.state marks.gap)).grammar)
         (B.claim (B.state marks.opening)).grammar (B.claim (B.state marks.comma)).grammar

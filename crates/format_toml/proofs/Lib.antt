@@ -1,0 +1,5 @@
+pub mod KeyTexts
+pub mod LineTexts
+pub mod Nested
+pub mod Rows
+pub mod Words

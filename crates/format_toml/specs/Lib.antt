@@ -6,19 +6,15 @@ pub mod FloatFronts
 pub mod Floats
 pub mod Grammars
 pub mod Integers
-pub mod Keys
 pub mod Led
-pub mod Lines
 pub mod LongGrammars
 pub mod LongKinds
 pub mod LongQuotes
 pub mod LongStrings
 pub mod LongTexts
 pub mod LongWhole
-pub mod Nested
 pub mod Numbers
 pub mod Plain
-pub mod Rows
 pub mod Scalars
 pub mod Spaces
 pub mod Starts
@@ -26,4 +22,3 @@ pub mod Strings
 pub mod Times
 pub mod Toml
 pub mod Unique
-pub mod Words

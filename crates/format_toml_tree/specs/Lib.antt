@@ -2,17 +2,13 @@
 pub mod Added
 pub mod Answer
 pub mod Calls
-pub mod DateParts
-pub mod DateTimeParts
 pub mod Dates
 pub mod Filled
 pub mod Holds
 pub mod Keys
 pub mod Kinds
-pub mod Lines
 pub mod Nodes
 pub mod Once
-pub mod Opened
 pub mod Parts
 pub mod Paths
 pub mod Places

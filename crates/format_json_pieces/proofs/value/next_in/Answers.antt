@@ -1,8 +1,8 @@
 use Rattle.std.proofs.Common.{arith, sym}
 use Rattle.std.proofs.lemmas.Bool.{eqb-false, eqb-true}
 use Rattle.format_json_pieces.proofs.Passing.{asks_next, asks_white}
-use Rattle.format_json_pieces.specs.Read.{gap_of, next_fails, next_numerals, next_stands, none_next}
-use Rattle.format_json_pieces.specs.Read.{white_numerals}
+use Rattle.format_json_pieces.proofs.Read.{gap_of, next_fails, next_numerals, next_stands}
+use Rattle.format_json_pieces.proofs.Read.{none_next, white_numerals}
 use Rattle.format_json_pieces.proofs.value.next_in.Goals as goal
 
 pub returns-else-cut-clause-value : goal.returns-else-cut-clause-value

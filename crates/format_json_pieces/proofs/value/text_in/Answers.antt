@@ -1,4 +1,4 @@
-use Rattle.format_json_pieces.specs.Read.{none_final}
+use Rattle.format_json_pieces.proofs.Read.{none_final}
 use Rattle.format_json_pieces.proofs.value.text_in.Goals as goal
 
 pub returns-then-not-is_ended-clause-none : goal.returns-then-not-is_ended-clause-none

@@ -1,7 +1,7 @@
 use Rattle.std.proofs.Common.{arith, inl, inr, refl}
 use Rattle.format_json_pieces.proofs.Passing.{none_begun}
-use Rattle.format_json_pieces.specs.Read.{final_read, final_stands, none_in_gap, none_whole}
-use Rattle.format_json_pieces.specs.Read.{open_number}
+use Rattle.format_json_pieces.proofs.Read.{final_read, final_stands, none_in_gap, none_whole}
+use Rattle.format_json_pieces.proofs.Read.{open_number}
 use Rattle.format_json_pieces.proofs.value.value_in.Goals as goal
 use Rattle.format_json_pieces.proofs.value.value_in.Goals.{then-not-cut-via-then-not-cut}
 use Rattle.format_json_pieces.proofs.value.value_in.Goals.{

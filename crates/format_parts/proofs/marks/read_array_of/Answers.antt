@@ -17,6 +17,14 @@ read_items-requires-clause-item g c =
       search rules,
     )
 
+pub returns-clause-ran : goal.returns-clause-ran
+returns-clause-ran g c = rw (
+  c.terminated-item.ensures.parser,
+  c.terminated-item.ensures.ignored,
+  c.by.ensures.rule,
+  c.by.ensures.run,
+) at c.read_items.ensures.ran
+
 pub returns-clause-reads : goal.returns-clause-reads
 returns-clause-reads g c = reads_by c.read_items.ensures.reads (rw (
   c.terminated-item.ensures.parser,

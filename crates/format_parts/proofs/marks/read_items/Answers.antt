@@ -1,6 +1,6 @@
 use Rattle.std.specs.Prelude.{None}
 use Rattle.std.proofs.Common.{◌≡◌, inl}
-use Rattle.format_parts.proofs.MarkRuns.{items_spared, never_asserted}
+use Rattle.format_parts.proofs.MarkRuns.{items_ran, items_spared, never_asserted}
 use Rattle.format_parts.specs.Words.{pair}
 use Rattle.stream_errors.specs.Form.{assert_kind}
 use Rattle.stream_sets.specs.Accumulator.{list_kept}
@@ -12,6 +12,17 @@ use Rattle.winnow_core.specs.InOrder.Claim.{both_claimed}
 use Rattle.winnow_grammar.specs.Read.{reads_by}
 use Rattle.winnow_separated.specs.Separated.Exact.{separated_exact}
 use Rattle.format_parts.proofs.marks.read_items.Goals as goal
+
+pub returns-clause-ran : goal.returns-clause-ran
+returns-clause-ran g c = items_ran _ _ c.read.ensures.ran (rw (
+  c.delimited.ensures.ignored1,
+  c.delimited.ensures.parser,
+  c.delimited.ensures.ignored2,
+  c.separated-items.ensures.occurrences,
+  c.separated-items.ensures.parser,
+  c.separated-items.ensures.separator,
+  c.from.ensures,
+))
 
 pub returns-clause-reads : goal.returns-clause-reads
 returns-clause-reads g c = reads_by c.read.ensures.reads (rw (
@@ -58,14 +69,4 @@ returns-clause-spared g c item opening closing gap none =
     list_holds (softly item_backs (of_item.fails form item_premise))
     (softly (comma_backs, gap_backs) (between.fails form (comma_premise, gap_premise))) tt)
     (spared closing_backs closing (last.fails form closing_premise)) g.E.HasKind.kind _
-    c.read.result _ _ c.read.ensures.ran
-    (rw (
-      c.delimited.ensures.ignored1,
-      c.delimited.ensures.parser,
-      c.delimited.ensures.ignored2,
-      c.separated-items.ensures.occurrences,
-      c.separated-items.ensures.parser,
-      c.separated-items.ensures.separator,
-      c.from.ensures,
-    ))
-    (returns-clause-reads g c) none
+    c.read.result _ _ (returns-clause-ran g c).ran (returns-clause-reads g c) none

@@ -1,5 +1,5 @@
 use Rattle.std.proofs.Common.{refl}
-use Rattle.format_toml.specs.Lines.{document_of}
+use Rattle.format_toml.proofs.LineTexts.{document_of}
 use Rattle.format_parts.specs.Marks.{reads_all_by}
 use Rattle.winnow_grammar.specs.Told.{texts_told}
 use Rattle.format_toml.proofs.lines.parse_lines.Goals as goal

@@ -1,7 +1,7 @@
 use Rattle.std.proofs.Common.{refl, rules, arith}
-use Rattle.format_toml.specs.Nested.{value_array, value_inline, value_last, value_scalar}
+use Rattle.format_toml.proofs.Nested.{value_array, value_inline, value_last, value_scalar}
 use Rattle.format_toml.specs.Toml.{IsArray, IsInline}
-use Rattle.format_toml.specs.Lines.{value_of}
+use Rattle.format_toml.proofs.LineTexts.{value_of}
 use Rattle.winnow_grammar.specs.Read.{reads_meaning, reads_no_meaning}
 use Rattle.winnow_grammar.specs.Told.{text_told}
 use Rattle.format_toml.proofs.values.+value.Goals as goal

@@ -2,8 +2,8 @@ use Rattle.format_toml_tree.specs.Keys.{err_is}
 use Rattle.std.proofs.Common.{[], ◌≡◌, Result, Err, refl, subst, sym, ◌+◌, ap}
 use Rattle.format_toml_tree.specs.Answer.{answers_fault, no_memory, answers_tree}
 use Rattle.format_toml_tree.specs.Holds.{AddsLine}
-use Rattle.format_toml_tree.specs.Lines.{LeftToAdd, all_added, left_added, left_blank, left_first}
-use Rattle.format_toml_tree.specs.Lines.{line_refused, none_of, some_place, stands}
+use Rattle.format_toml_tree.proofs.Lines.{LeftToAdd, all_added, left_added, left_blank, left_first}
+use Rattle.format_toml_tree.proofs.Lines.{line_refused, none_of, some_place, stands}
 use Rattle.format_toml_tree.specs.Runs.{Gives, empty}
 use Rattle.format_toml_tree.specs.declared.build.TreeError.{TreeError}
 use Rattle.format_toml_tree.proofs.build.build.Goals as goal

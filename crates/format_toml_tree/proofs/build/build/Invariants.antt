@@ -1,4 +1,4 @@
-use Rattle.format_toml_tree.specs.Lines.{LeftToAdd}
+use Rattle.format_toml_tree.proofs.Lines.{LeftToAdd}
 use Rattle.format_toml_tree.proofs.build.build.Given as goal
 
 -- the lines from this one on are left to add

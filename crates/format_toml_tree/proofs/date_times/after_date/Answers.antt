@@ -1,7 +1,7 @@
 use Rattle.std.proofs.lemmas.List.{nil_from_length}
 use Rattle.std.proofs.Common.{inl, inr, refl}
 use Rattle.format_toml_tree.specs.Dates.{FindsTime, FoundResult, IsBehind, IsDelimiter, TimeText}
-use Rattle.format_toml_tree.specs.DateTimeParts.{behind_none, timed_digits}
+use Rattle.format_toml_tree.proofs.DateTimeParts.{behind_none, timed_digits}
 use Rattle.format_toml_tree.proofs.date_times.after_date.Goals as goal
 use Rattle.format_toml_tree.proofs.date_times.after_date.Goals.{
   else-delimiter-ne84-via-then-delimiter-ne84+then-delimiter-ne116+else-delimiter-ne32,

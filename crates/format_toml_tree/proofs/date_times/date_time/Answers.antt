@@ -1,6 +1,6 @@
 use Rattle.std.proofs.lemmas.Result.{IfOk-weaker}
 use Rattle.format_toml_tree.specs.Dates.{Finds}
-use Rattle.format_toml_tree.specs.DateTimeParts.{dated, undated}
+use Rattle.format_toml_tree.proofs.DateTimeParts.{dated, undated}
 use Rattle.format_toml_tree.proofs.date_times.date_time.Goals as goal
 
 pub returns-in-Some : goal.returns-in-Some

@@ -1,6 +1,6 @@
 use Rattle.std.proofs.Common.{refl}
 use Rattle.format_toml_tree.specs.Dates.{FindsTime, FoundResult, IsAlone, TimeText}
-use Rattle.format_toml_tree.specs.DateTimeParts.{offset_or_none, timed_digits}
+use Rattle.format_toml_tree.proofs.DateTimeParts.{offset_or_none, timed_digits}
 use Rattle.format_toml_tree.proofs.date_times.time_alone.Goals as goal
 
 pub returns-in_default : goal.returns-in_default

@@ -1,8 +1,8 @@
 use Rattle.std.proofs.Common.{arith, subst, sym}
 use Rattle.std.specs.Prelude.{◌≤◌, ℕ}
 use Rattle.format_toml_tree.specs.Dates.{Finds}
-use Rattle.format_toml_tree.specs.DateParts.{date_joins, four_one, marked_one, none_first}
-use Rattle.format_toml_tree.specs.DateParts.{none_fits, none_second, turn_joins, turn_one}
+use Rattle.format_toml_tree.proofs.DateParts.{date_joins, four_one, marked_one, none_first}
+use Rattle.format_toml_tree.proofs.DateParts.{none_fits, none_second, turn_joins, turn_one}
 use Rattle.format_toml_tree.proofs.dates.date.Goals as goal
 use Rattle.format_toml_tree.proofs.dates.date.Goals.{then-day-eq0-via-then-day-eq0}
 use Rattle.format_toml_tree.proofs.dates.date.Goals.{then-day-eq0-via-else-day-eq0+then-day-days_in}

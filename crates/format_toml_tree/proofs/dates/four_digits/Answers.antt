@@ -1,5 +1,5 @@
 use Rattle.format_toml_tree.specs.Dates.{Finds}
-use Rattle.format_toml_tree.specs.DateParts.{four_joins, none_first, none_second, two_one}
+use Rattle.format_toml_tree.proofs.DateParts.{four_joins, none_first, none_second, two_one}
 use Rattle.format_toml_tree.proofs.dates.four_digits.Goals as goal
 
 pub returns-in_err-hundreds : goal.returns-in_err-hundreds

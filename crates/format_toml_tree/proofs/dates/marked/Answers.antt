@@ -1,7 +1,7 @@
 use Rattle.std.proofs.Common.{arith, ap, sym, ◌∙◌}
 use Rattle.std.specs.Prelude.{length}
 use Rattle.format_toml_tree.specs.Dates.{Finds, Marked}
-use Rattle.format_toml_tree.specs.DateParts.{marked_by, same_first}
+use Rattle.format_toml_tree.proofs.DateParts.{marked_by, same_first}
 use Rattle.format_toml_tree.proofs.dates.marked.Goals as goal
 
 pub returns-in_err-first : goal.returns-in_err-first

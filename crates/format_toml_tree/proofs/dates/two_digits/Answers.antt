@@ -1,7 +1,7 @@
 use Rattle.std.proofs.Common.{arith, ap, refl, sym, ◌∙◌}
 use Rattle.std.specs.Prelude.{◌∷◌, length}
 use Rattle.format_toml_tree.specs.Dates.{Finds, FoundResult, TwoDigits}
-use Rattle.format_toml_tree.specs.DateParts.{same_first, same_others}
+use Rattle.format_toml_tree.proofs.DateParts.{same_first, same_others}
 use Rattle.format_toml_tree.proofs.dates.two_digits.Goals as goal
 
 pub returns-in_err-tens : goal.returns-in_err-tens

@@ -1,7 +1,7 @@
 use Rattle.std.proofs.Common.{arith}
 use Rattle.format_toml_tree.specs.Dates.{Finds}
-use Rattle.format_toml_tree.specs.DateParts.{clock_joins, marked_one, none_first, none_fits}
-use Rattle.format_toml_tree.specs.DateParts.{none_second, turn_joins, turn_one, two_one}
+use Rattle.format_toml_tree.proofs.DateParts.{clock_joins, marked_one, none_first, none_fits}
+use Rattle.format_toml_tree.proofs.DateParts.{none_second, turn_joins, turn_one, two_one}
 use Rattle.format_toml_tree.proofs.times.clock.Goals as goal
 use Rattle.format_toml_tree.proofs.times.clock.Goals.{then-hour-gt23-via-then-hour-gt23}
 use Rattle.format_toml_tree.proofs.times.clock.Goals.{

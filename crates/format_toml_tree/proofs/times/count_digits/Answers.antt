@@ -1,6 +1,6 @@
 use Rattle.std.proofs.lemmas.List.Elements.{All-more}
 use Rattle.format_toml_tree.specs.Dates.{IsDigit}
-use Rattle.format_toml_tree.specs.DateTimeParts.{count_all, count_here}
+use Rattle.format_toml_tree.proofs.DateTimeParts.{count_all, count_here}
 use Rattle.format_toml_tree.proofs.times.count_digits.Goals as goal
 
 pub returns-then-not-is_ascii_digit : goal.returns-then-not-is_ascii_digit

@@ -1,5 +1,5 @@
-use Rattle.format_toml_tree.specs.DateTimeParts.{count_least, frac_empty, frac_other, frac_some}
-use Rattle.format_toml_tree.specs.DateTimeParts.{frac_zero}
+use Rattle.format_toml_tree.proofs.DateTimeParts.{count_least, frac_empty, frac_other, frac_some}
+use Rattle.format_toml_tree.proofs.DateTimeParts.{frac_zero}
 use Rattle.format_toml_tree.proofs.times.fraction.Goals as goal
 
 pub returns-in_default : goal.returns-in_default

@@ -1,7 +1,7 @@
 use Rattle.std.proofs.Common.{arith}
 use Rattle.format_toml_tree.specs.Dates.{Finds}
-use Rattle.format_toml_tree.specs.DateParts.{marked_one, minute_joins, none_first, none_fits}
-use Rattle.format_toml_tree.specs.DateParts.{none_second, two_one}
+use Rattle.format_toml_tree.proofs.DateParts.{marked_one, minute_joins, none_first, none_fits}
+use Rattle.format_toml_tree.proofs.DateParts.{none_second, two_one}
 use Rattle.format_toml_tree.proofs.times.hour_and_minute.Goals as goal
 use Rattle.format_toml_tree.proofs.times.hour_and_minute.Goals.{then-hour-gt23-via-then-hour-gt23}
 use Rattle.format_toml_tree.proofs.times.hour_and_minute.Goals.{

@@ -1,6 +1,6 @@
 use Rattle.std.proofs.Common.{refl}
 use Rattle.format_toml_tree.specs.Dates.{Finds}
-use Rattle.format_toml_tree.specs.DateTimeParts.{time_first, time_none, time_some}
+use Rattle.format_toml_tree.proofs.DateTimeParts.{time_first, time_none, time_some}
 use Rattle.format_toml_tree.proofs.times.parts.Goals as goal
 
 pub returns-in_err-clock : goal.returns-in_err-clock

@@ -5,8 +5,8 @@ use Rattle.std.specs.Prelude.{[]}
 use Rattle.std.proofs.lemmas.Bool.Decides.{nat_tests}
 use Rattle.std.proofs.lemmas.Int.{to_z-of_z}
 use Rattle.format_toml_tree.specs.Dates.{Finds, HourAndMinute}
-use Rattle.format_toml_tree.specs.DateParts.{joins_one, marked_one, minute_joins, two_one}
-use Rattle.format_toml_tree.specs.DateTimeParts.{signed_none, signed_some}
+use Rattle.format_toml_tree.proofs.DateParts.{joins_one, marked_one, minute_joins, two_one}
+use Rattle.format_toml_tree.proofs.DateTimeParts.{signed_none, signed_some}
 use Rattle.format_toml_tree.proofs.times.signed.Goals as goal
 
 pub returns-in_err-hour : goal.returns-in_err-hour

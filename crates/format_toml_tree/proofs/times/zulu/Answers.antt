@@ -1,7 +1,7 @@
 use Rattle.std.proofs.Common.{ap, inl, inr}
 use Rattle.std.specs.Prelude.{[], ◌∷◌}
 use Rattle.format_toml_tree.specs.Dates.{FoundResult, IsOffset, MaybeOffset}
-use Rattle.format_toml_tree.specs.DateTimeParts.{zulu_none}
+use Rattle.format_toml_tree.proofs.DateTimeParts.{zulu_none}
 use Rattle.format_toml_tree.proofs.times.zulu.Goals as goal
 use Rattle.format_toml_tree.proofs.times.zulu.Goals.{then-letter-eq90-via-then-letter-eq90}
 use Rattle.format_toml_tree.proofs.times.zulu.Goals.{

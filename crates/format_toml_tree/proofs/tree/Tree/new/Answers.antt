@@ -1,6 +1,6 @@
 use Rattle.std.proofs.Common.{subst}
 use Rattle.format_toml_tree.specs.Holds.{Pushes}
-use Rattle.format_toml_tree.specs.Lines.{starts_empty}
+use Rattle.format_toml_tree.proofs.Lines.{starts_empty}
 use Rattle.format_toml_tree.specs.declared.tree.Kind.TheVariants.{Header}
 use Rattle.format_toml_tree.proofs.tree.Tree.new.Goals as goal
 

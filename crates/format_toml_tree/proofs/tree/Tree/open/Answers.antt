@@ -2,7 +2,7 @@ use Rattle.std.proofs.lemmas.Result.{IfOk-weaker}
 use Rattle.std.proofs.Common.{refl}
 use Rattle.std.proofs.lemmas.Option.{slice_get_read}
 use Rattle.format_toml_tree.specs.Added.{some_there}
-use Rattle.format_toml_tree.specs.Opened.{opens_inside, opens_new, opens_none}
+use Rattle.format_toml_tree.proofs.Opened.{opens_inside, opens_new, opens_none}
 use Rattle.format_toml_tree.proofs.tree.Tree.open.Goals as goal
 
 pub returns-in-Tables-kind : goal.returns-in-Tables-kind

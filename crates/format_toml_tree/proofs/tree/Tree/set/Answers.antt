@@ -1,7 +1,7 @@
 use Rattle.std.proofs.Common.{◌<◌, ◌≡◌, Err, refl, sym, ap, subst, ◌∙◌}
 use Rattle.std.proofs.lemmas.Option.{slice_get_read}
 use Rattle.format_toml_tree.specs.Holds.{says_of}
-use Rattle.format_toml_tree.specs.Opened.{set_found, set_new, set_refused}
+use Rattle.format_toml_tree.proofs.Opened.{set_found, set_new, set_refused}
 use Rattle.format_toml_tree.proofs.tree.Tree.set.Goals as goal
 
 pub index_mut-slot-requires : goal.index_mut-slot-requires

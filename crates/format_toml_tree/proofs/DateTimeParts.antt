@@ -14,8 +14,8 @@ use Rattle.format_toml_tree.specs.Dates.{HourAndMinute, IsDigit, IsOffset, IsTim
 use Rattle.format_toml_tree.specs.Dates.{FoundResult, NoDigit, SplitsFraction, TwoDigits}
 use Rattle.format_toml_tree.specs.Dates.{FourDigits, FullDate, InTurn, IsAlone, IsBehind}
 use Rattle.format_toml_tree.specs.Dates.{IsDateTime, IsDelimiter, Marked, TimeText}
-use Rattle.format_toml_tree.specs.DateParts.{clock_one, no_cons, same_first, same_others, date_one}
-use Rattle.format_toml_tree.specs.DateParts.{two_one}
+use Rattle.format_toml_tree.proofs.DateParts.{clock_one, no_cons, same_first, same_others, date_one}
+use Rattle.format_toml_tree.proofs.DateParts.{two_one}
 use Rattle.format_toml_tree.specs.declared.value.Offset.{Offset}
 use Rattle.format_toml_tree.specs.declared.value.Offset.TheVariants.{Minutes, Zulu}
 use Rattle.format_toml_tree.specs.declared.value.Date.{Date}

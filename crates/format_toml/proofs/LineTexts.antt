@@ -7,9 +7,9 @@ use Rattle.format_parts.specs.Words.{For, between_of, char_of, for_front, for_of
 use Rattle.format_parts.specs.Words.{pair}
 use Rattle.format_toml.specs.Grammars.{AnyValue, Array, ArrayValues, GappedOut, Inline, Pair}
 use Rattle.format_toml.specs.Grammars.{SpacedOut, WideMark, AnyItem, Document, Line}
-use Rattle.format_toml.specs.Keys.{OpensKey, pair_begins, pair_of, table_of}
+use Rattle.format_toml.proofs.KeyTexts.{OpensKey, pair_begins, pair_of, table_of}
 use Rattle.format_toml.specs.Led.{led_of}
-use Rattle.format_toml.specs.Rows.{joined_begins, parted_ends_of}
+use Rattle.format_toml.proofs.Rows.{joined_begins, parted_ends_of}
 use Rattle.format_toml.specs.Scalars.{ContinuesScalar, Goes, scalar_begins, scalar_of, white_front}
 use Rattle.format_toml.specs.Scalars.{wide_front}
 use Rattle.format_toml.specs.Spaces.{OpensGap, Past, WidePast, gapped_begins, gapped_of}

@@ -4,8 +4,7 @@ use Rattle.std.specs.declared.vec.Vec.{Vec}
 use Rattle.std.proofs.Common.{sym, subst, inl, inr, ◌∙◌}
 use Rattle.std.proofs.lemmas.List.{append_cancel_right}
 use Rattle.stream_sets.specs.Range.{from_to}
-use Rattle.format_parts.specs.Words.{former, latter}
-use Rattle.format_json_writer.specs.Alike.{ArePairwise}
+use Rattle.grammar_outputs.specs.Pairwise.{ArePairwise}
 use Rattle.grammars.specs.Grammar.{Both, Each, Either, Gathered, Grammar, IsUnique, Made}
 use Rattle.grammars.specs.Grammar.{Many, NoMatch, Parted, Stops, Three}
 use Rattle.grammars.specs.Grammar.Meaning.{Meaning}
@@ -53,7 +52,7 @@ module _ {O : Type 0} {alike : O → O → Type 0} where
 
   -- the former of two
   pub former_agrees : {D : Type 0} {g : Grammar ℕ O} (gap : Grammar ℕ D) → Agrees alike g
-      → Agrees alike (Both former g gap)
+      → Agrees alike (Both (λ o1 o2. o1) g gap)
   unfolding Both
   former_agrees gap agree = record {
     one = λ tokens o p rest other (o1, o2, a, x, y, e) (p1, p2, b, z, w, f).
@@ -64,7 +63,7 @@ module _ {O : Type 0} {alike : O → O → Type 0} where
 
   -- the latter
   pub latter_agrees : {D : Type 0} {gap : Grammar ℕ D} {g : Grammar ℕ O} → IsUnique gap
-      → Agrees alike g → Agrees alike (Both latter gap g)
+      → Agrees alike g → Agrees alike (Both (λ o1 o2. o2) gap g)
   unfolding Both
   latter_agrees {gap = gap} {g} unique agree = record {
     one = λ tokens o p rest other (o1, o2, a, x, y, e) (p1, p2, b, z, w, f).
@@ -107,37 +106,39 @@ module _ {O : Type 0} {alike : O → O → Type 0} where
             (subst P (unique.one tokens o p mid end x y) more) others none n,
       )
 
-  -- zero or more
-  pub many_agree : {g : Grammar ℕ O} → IsUnique g → Agrees alike g
-      → Agrees (ArePairwise alike) (Many g (from_to 0 None))
+  -- at least so many
+  pub many_agree : (least : ℕ) {g : Grammar ℕ O} → IsUnique g → Agrees alike g
+      → Agrees (ArePairwise alike) (Many g (from_to least None))
   unfolding Many
-  many_agree {g} unique agree = record {
-    one = λ tokens os ps rest other (a, least, s) (b, most, t).
+  many_agree least {g} unique agree = record {
+    one = λ tokens os ps rest other (a, enough, s) (b, also, t).
         each_agrees unique agree os ps tokens rest other a b (none_more g _ rest s)
         (none_more g _ other t);
   }
 
-  -- zero or more, with a separator between each two of them
-  pub parted_agree : {D : Type 0} {g : Grammar ℕ O} {mark : Grammar ℕ D} → IsUnique g
-      → IsUnique mark → Agrees alike g → Agrees (ArePairwise alike) (Parted g mark (from_to 0 None))
+  -- at least so many, with a separator between each two of them
+  pub parted_agree : (least : ℕ) {D : Type 0} {g : Grammar ℕ O} {mark : Grammar ℕ D}
+      → IsUnique g → IsUnique mark → Agrees alike g
+      → Agrees (ArePairwise alike) (Parted g mark (from_to least None))
   unfolding Parted
-  parted_agree {D} {g} {mark} unique marks agree = record { one = all }
+  parted_agree least {D} {g} {mark} unique marks agree = record { one = all }
     where
       all : (tokens : List ℕ) (os ps : List O) (rest other : List ℕ)
-          → Parted g mark (from_to 0 None) tokens os rest
-          → Parted g mark (from_to 0 None) tokens ps other → ArePairwise alike os ps
+          → Parted g mark (from_to least None) tokens os rest
+          → Parted g mark (from_to least None) tokens ps other → ArePairwise alike os ps
       all tokens [] [] rest other x y = tt
-      all tokens [] (p ∷ ps) rest other (e, least, s) (mid, y, more, most, t) =
+      all tokens [] (p ∷ ps) rest other (e, enough, s) (mid, y, more, also, t) =
           absurd (none_more g 0 tokens s p mid y)
-      all tokens (o ∷ os) [] rest other (mid, x, more, most, t) (e, least, s) =
+      all tokens (o ∷ os) [] rest other (mid, x, more, also, t) (e, enough, s) =
           absurd (none_more g 0 tokens s o mid x)
-      all tokens (o ∷ os) (p ∷ ps) rest other (mid, x, more, least, s) (end, y, others, most, t) =
-          let P : List ℕ → Type 0 = λ l. Each (Both latter mark g) l os rest in (
+      all tokens (o ∷ os) (p ∷ ps) rest other (mid, x, more, enough, s)
+          (end, y, others, also, t) =
+          let P : List ℕ → Type 0 = λ l. Each (Both (λ o1 o2. o2) mark g) l os rest in (
             agree.one tokens o p mid end x y,
-            each_agrees (both_unique latter marks unique) (latter_agrees marks agree) os ps end
-                rest other (subst P (unique.one tokens o p mid end x y) more) others
-                (none_more (Both latter mark g) _ rest s)
-                (none_more (Both latter mark g) _ other t),
+            each_agrees (both_unique (λ o1 o2. o2) marks unique) (latter_agrees marks agree) os ps
+                end rest other (subst P (unique.one tokens o p mid end x y) more) others
+                (none_more (Both (λ o1 o2. o2) mark g) _ rest s)
+                (none_more (Both (λ o1 o2. o2) mark g) _ other t),
           )
 
 -- what is gathered in a list

@@ -8,7 +8,7 @@ use Rattle.format_parts.specs.Words.{latter, pair}
 use Rattle.format_toml.specs.Grammars.{AnyCharacters, AnyKey, DoubleHeader, Header, LiteralString}
 use Rattle.format_toml.specs.Grammars.{Name, Names, Pair, Table}
 use Rattle.format_toml.specs.Led.{Led, led_of}
-use Rattle.format_toml.specs.Rows.{joined_begins}
+use Rattle.format_toml.proofs.Rows.{joined_begins}
 use Rattle.format_toml.specs.Spaces.{Past, mark_begins, mark_of, spaced_begins, spaced_of, ws_front}
 use Rattle.format_toml.specs.Spaces.{ws_of}
 use Rattle.format_toml.specs.Strings.{basic_string_begins, basic_string_of, characters_begin}
