@@ -13,8 +13,9 @@
  * that a function allocates with malloc is freed before it returns.
  *
  * After PERGIDAU_DONE, what follows the results in a buffer may be overwritten, unless the
- * function documents that it is unchanged. After any other code, buffers are unchanged and
- * results are zeros, unless the function documents otherwise.
+ * function documents that it is unchanged. After any other code but PERGIDAU_NULL and
+ * PERGIDAU_TOO_LONG, buffers are unchanged and results are zeros, unless the function
+ * documents otherwise.
  *
  * Memory and stack of calls are measured on inputs made to be expensive
  * (bindings/tests/cost.c), not proved. Memory is the maximum held at once, two blocks while
@@ -1509,6 +1510,8 @@ enum pergidau_code pergidau_http_head(
  *
  * PERGIDAU_BUFFER_TOO_SMALL: as for complete input.
  *
+ * After any code but PERGIDAU_DONE, the contents of the buffer are unspecified.
+ *
  * # Safety
  *
  * bytes must be valid for reads of bytes_length bytes, which must not change during the call.
@@ -1791,6 +1794,8 @@ enum pergidau_code pergidau_http_response_head(
  * prefix of a head, and together with the byte there they are not.
  *
  * PERGIDAU_BUFFER_TOO_SMALL: as for complete input.
+ *
+ * After any code but PERGIDAU_DONE, the contents of the buffer are unspecified.
  *
  * # Safety
  *

@@ -1495,6 +1495,8 @@ extern "C" {
     ///
     /// `BUFFER_TOO_SMALL`: as for complete input.
     ///
+    /// After any code but `DONE`, the contents of the buffer are unspecified.
+    ///
     /// # Safety
     ///
     /// `bytes` must be valid for reads of `bytes_length` bytes, which must not change during the call.
@@ -1760,6 +1762,8 @@ extern "C" {
     /// head, and together with the byte there they are not.
     ///
     /// `BUFFER_TOO_SMALL`: as for complete input.
+    ///
+    /// After any code but `DONE`, the contents of the buffer are unspecified.
     ///
     /// # Safety
     ///

@@ -160,6 +160,8 @@ pub extern "C" fn exported_http_head(bytes: &[u8], fields: &mut [Field], out: &m
 ///
 /// `BUFFER_TOO_SMALL`: as for complete input.
 ///
+/// After any code but `DONE`, the contents of the buffer are unspecified.
+///
 /// # Safety
 ///
 /// `bytes` must be valid for reads of `bytes_length` bytes, which must not change during the call.

@@ -157,6 +157,8 @@ pub extern "C" fn exported_http_response_head(
 ///
 /// `BUFFER_TOO_SMALL`: as for complete input.
 ///
+/// After any code but `DONE`, the contents of the buffer are unspecified.
+///
 /// # Safety
 ///
 /// `bytes` must be valid for reads of `bytes_length` bytes, which must not change during the call.
