@@ -22,7 +22,7 @@ returns-in-Ok c =
     let bytes = c.args.bytes.now in
     let is = stands_whole (First (ReplyText protocol level)) bytes _ _ c.in-Ok.found
     (c.complete.ensures.complete ∙ ap (λ (i : Input ℕ). with_flag i false) c.new-whole.ensures)
-    c.in-Ok.ensures in
+    c.in-Ok.ensures.reads in
     let left = sym (ap (λ (i : Input ℕ). length i.left.tokens) c.into_inner.ensures) in
     let P : Protocol → Type 0 = λ p. TellsReply p level bytes 0 c.reply_at.result in
     subst P c.version-protocol.ensures
@@ -67,4 +67,5 @@ unreachable-requires c =
     (rw c.in-Ok-Some.field-0-is at c.in-Ok-Some.ensures)
     (none_whole (First (ReplyText protocol level)) bytes _ _ c.in-Err.error
     (c.complete.ensures.complete ∙ ap (λ (i : Input ℕ). with_flag i false) c.new-whole.ensures)
-    (λ m. true≢false (sym (c.is_memory.ensures.1 m) ∙ c.if-is_memory.false)) c.in-Err.ensures)
+    (λ m. true≢false (sym (c.is_memory.ensures.1 m) ∙ c.if-is_memory.false))
+    c.in-Err.ensures.reads)

@@ -14,11 +14,11 @@ returns-clause-reads g c =
     First (ReplyText c.args.protocol c.args.level) c.args.bytes.now c.in-Ok.reply l in
     subst P left (whole_stands (ReplyText c.args.protocol c.args.level) c.args.bytes.now
     (c.complete.ensures.complete ∙ ap (λ (i : Input ℕ). with_flag i false) c.new-whole.ensures)
-    c.in-Ok.reply c.in-Ok.ensures)
+    c.in-Ok.reply c.in-Ok.ensures.reads)
 
 pub unreachable-requires : goal.unreachable-requires
 unreachable-requires g c =
     whole_wants (ReplyText c.args.protocol c.args.level) c.args.bytes.now
     (c.complete.ensures.complete ∙ ap (λ (i : Input ℕ). with_flag i false) c.new-whole.ensures)
     c.in-Err.error (λ m. true≢false (sym (c.is_memory.ensures.1 m) ∙ c.if-is_memory.false))
-    c.requires.stands c.in-Err.ensures
+    c.requires.stands c.in-Err.ensures.reads
