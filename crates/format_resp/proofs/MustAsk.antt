@@ -1,17 +1,17 @@
 -- Lemmas about results that are `Incomplete` only if the tokens do not start with a match. On
 -- complete input of the same tokens they are results whose errors backtrack, so lemmas about
 -- successive calls apply to both.
-use Rattle.std.specs.Prelude.{◌≡◌, ◌⊎◌, Bool, true, false, List, [], ◌∷◌, Result, Ok, Err}
-use Rattle.std.proofs.Common.{refl, sym, ap, subst, inl, inr, ◌∙◌}
+use Rattle.std.specs.Prelude.{◌≡◌, ◌⊎◌, Bool, true, false, Result, Ok, Err}
+use Rattle.std.proofs.Common.{refl, sym, ap, inl, inr}
 use Rattle.streams.specs.Equal.{true_is_false}
 use Rattle.streams.specs.Following.{Following}
 use Rattle.streams.specs.Input.{Input}
 use Rattle.streams.specs.Kind.{Kind, backtrack, cut, incomplete, memory}
 use Rattle.streams.specs.Partial.{with_flag}
 use Rattle.streams.specs.Reading.{Reading}
-use Rattle.grammars.specs.Grammar.{Grammar, NoMatch}
+use Rattle.grammars.specs.Grammar.{Grammar}
 use Rattle.winnow_grammar.specs.Cut.{ReadsOrAsks}
-use Rattle.format_resp.specs.MustAsk.{ReadsFirst, ReadsOrMustAsk}
+use Rattle.format_resp.specs.MustAsk.{ReadsOrMustAsk}
 
 -- the input as it is, or its tokens as complete input
 abbrev pub input_if : {T : Type 0} → Bool → Input T → Input T

@@ -25,8 +25,8 @@ use winnow_token::token::{take, take_till};
 #[inline(always)]
 pub(crate) fn token<I: StreamIsPartial, E: ParserError<I>>(input: &mut I) -> Result<I::Token, E>
     requires modal { E.form ≡ modal }
-    ensures { ReadsOrMustAsk I.reading I.following E.kind (Token I.seen_as) (I.view input.old) result
-        (I.view input.new) }
+    ensures { ReadsOrMustAsk I.reading I.following E.kind (Token I.seen_as) (I.view input.old)
+        result (I.view input.new) }
 {
     Any.read_cut(input)
 }

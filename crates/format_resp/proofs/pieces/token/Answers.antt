@@ -1,8 +1,12 @@
-use Rattle.std.proofs.Common.{refl}
-use Rattle.format_resp.proofs.PieceResults.{must_ask, token_allowed, token_given}
+use Rattle.std.proofs.Common.{inl, refl}
+use Rattle.grammars.specs.Grammar.{Token}
+use Rattle.winnow_token.specs.Any.Inversion.{any_ok}
+use Rattle.format_resp.proofs.PieceResults.{must_ask}
 use Rattle.format_resp.proofs.pieces.token.Goals as goal
 
 pub returns : goal.returns
+unfolding Token
 returns g c =
-    must_ask refl c.read_cut.ensures.reads (token_given g.I.Stream.seen_as g.I.Stream.reading _)
-    (token_allowed g.I.Stream.seen_as) c.read_cut.ensures.ran (c.read_cut.ensures.tells tt)
+    must_ask refl c.read_cut.ensures.reads (c.read_cut.ensures.tells tt)
+    (λ o e. (any_ok _ g.I.Stream.reading _ _ o _ (rw e at c.read_cut.ensures.ran).0).tokens)
+    (λ o rest e. inl (o, rest, e, refl))
