@@ -224,7 +224,8 @@ def header(codes, constants, structs, exports):
         "that a function allocates with malloc is freed before it returns.",
         "",
         "After `DONE`, what follows the results in a buffer may be overwritten, unless the function",
-        "documents that it is unchanged.",
+        "documents that it is unchanged. After any other code, buffers are unchanged and results are",
+        "zeros, unless the function documents otherwise.",
         "",
         *COST,
     ], names)

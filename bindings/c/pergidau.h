@@ -13,7 +13,8 @@
  * that a function allocates with malloc is freed before it returns.
  *
  * After PERGIDAU_DONE, what follows the results in a buffer may be overwritten, unless the
- * function documents that it is unchanged.
+ * function documents that it is unchanged. After any other code, buffers are unchanged and
+ * results are zeros, unless the function documents otherwise.
  *
  * Memory and stack of calls are measured on inputs made to be expensive
  * (bindings/tests/cost.c), not proved. Memory is the maximum held at once, two blocks while
@@ -1180,11 +1181,11 @@ enum pergidau_code pergidau_calc_value(
  * byte there they are not.
  *
  * PERGIDAU_BUFFER_TOO_SMALL: the record has more fields or more bytes than the buffers. The
- * required numbers of both are written.
+ * required numbers of both are written, and the length of the record.
  *
- * PERGIDAU_INVALID_DIALECT: there is no such dialect. Zeros are written.
+ * PERGIDAU_INVALID_DIALECT: there is no such dialect.
  *
- * After an error the buffers are unchanged.
+ * After an error the buffers are unchanged, and all else is 0.
  *
  * # Safety
  *
@@ -1210,7 +1211,7 @@ enum pergidau_code pergidau_csv_record(
  * PERGIDAU_DONE: as for complete input.
  *
  * PERGIDAU_INCOMPLETE: bytes contains no record with its line ending, and at most three more
- * bytes can complete one.
+ * bytes can complete one. Zeros are written.
  *
  * A quoted field without a closing quote never ends, so the caller must limit how many bytes
  * are buffered. The last record may have no line ending: at the end of the input, parse it
@@ -1258,9 +1259,9 @@ enum pergidau_code pergidau_csv_record_partial(
  * Reset the state to zeros for the next record.
  *
  * PERGIDAU_INCOMPLETE: bytes contains no record with its line ending, and at most three more
- * bytes can complete one. A quoted field without a closing quote never ends, so the caller
- * must limit how many bytes are buffered. The last record may have no line ending: at the end
- * of the input, parse it with pergidau_csv_record.
+ * bytes can complete one. Zeros are written. A quoted field without a closing quote never
+ * ends, so the caller must limit how many bytes are buffered. The last record may have no line
+ * ending: at the end of the input, parse it with pergidau_csv_record.
  *
  * If state belongs to other bytes or was modified, the result may be wrong, but nothing
  * outside bytes is read.
@@ -1268,7 +1269,7 @@ enum pergidau_code pergidau_csv_record_partial(
  * # Errors
  *
  * PERGIDAU_INVALID: bytes does not start with a record, regardless of what follows. This is
- * returned as soon as the first invalid byte is there, and its offset is written.
+ * returned as soon as the first invalid byte is there. Its offset is written, and zeros.
  *
  * PERGIDAU_INVALID_DIALECT: there is no such dialect. The state is unchanged, and zeros are
  * written.
@@ -2299,7 +2300,7 @@ enum pergidau_code pergidau_pair_line(
  *
  * PERGIDAU_NO_MEMORY.
  *
- * After an error the buffers are unchanged.
+ * After an error the buffers are unchanged, and all else is 0.
  *
  * # Safety
  *
@@ -2421,7 +2422,7 @@ enum pergidau_code pergidau_resp_reply_partial(
  *
  * bytes does not start with a reply, regardless of what follows. An invalid line is rejected
  * at its end. The offset of the first part that is rejected is written, as by
- * pergidau_resp_reply.
+ * pergidau_resp_reply. The state is unspecified.
  *
  * PERGIDAU_INVALID: that part is malformed.
  *
@@ -2476,9 +2477,9 @@ enum pergidau_code pergidau_resp_command(
  * Computes the line and the column of the position after the first offset bytes. Bytes after
  * it are not read.
  *
- * This is proved for UTF-8 and an offset on a character boundary, and otherwise only tested.
- * Bytes that are not UTF-8 count as the replacement characters that are printed for them, and
- * an offset after the end counts as the end.
+ * This is proved if those bytes are UTF-8, and otherwise only tested. Bytes that are not UTF-8
+ * count as the replacement characters that are printed for them, and an offset after the end
+ * counts as the end.
  *
  * # Safety
  *
@@ -2526,7 +2527,7 @@ enum pergidau_code pergidau_text_position(
  *
  * PERGIDAU_NO_MEMORY.
  *
- * After an error the buffers are unchanged.
+ * After an error the buffers are unchanged, and all else is 0.
  *
  * # Safety
  *

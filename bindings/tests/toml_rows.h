@@ -236,6 +236,7 @@ static void test_toml(void)
     same("the error offset", "[a]", (long long)it.found.error_offset, 10);
     same("the depth limit", "512", read_toml("a = 1", 512, 64, 8, &it), PERGIDAU_DONE);
     same("the depth limit", "513", read_toml("a = 1", 513, 64, 8, &it), PERGIDAU_MAX_DEPTH_TOO_LARGE);
+    same("the nodes", "513", it.found.nodes == 0 && it.found.text == 0, 1);
     const uint8_t *a = (const uint8_t *)"a=1";
     same("null", "bytes", pergidau_toml_document(NULL, 3, 1, NULL, 0, NULL, 0, &it.found),
          PERGIDAU_NULL);

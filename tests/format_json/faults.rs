@@ -70,9 +70,11 @@ fn faults_of_texts(rt: HostRuntime) {
 
 #[test]
 fn bytes_that_are_no_utf8(rt: HostRuntime) {
-    let rows: [(&[u8], usize, &str); 5] = [
+    let rows: [(&[u8], usize, &str); 7] = [
         (b"\"ab\xff\"", 3, "line 1, column 4: invalid UTF-8"),
         (b"[\n\"\xc3\"]", 3, "line 2, column 2: invalid UTF-8"),
+        (b"[\n\"\xc3\xa9\xe9\n\"]", 5, "line 2, column 3: invalid UTF-8"),
+        (b"[\"\xc3\xa9\",\n 2 3, \"\xff\"]", 10, "line 2, column 4: expected a comma or `]`"),
         (b"\"\xed\xa0\x80\"", 1, "line 1, column 2: invalid UTF-8"),
         (b"x\xff", 0, "line 1, column 1: expected a value"),
         (b"\xff", 0, "line 1, column 1: invalid UTF-8"),

@@ -1184,11 +1184,11 @@ extern "C" {
     /// there they are not.
     ///
     /// `BUFFER_TOO_SMALL`: the record has more fields or more bytes than the buffers. The required
-    /// numbers of both are written.
+    /// numbers of both are written, and the length of the record.
     ///
-    /// `INVALID_DIALECT`: there is no such dialect. Zeros are written.
+    /// `INVALID_DIALECT`: there is no such dialect.
     ///
-    /// After an error the buffers are unchanged.
+    /// After an error the buffers are unchanged, and all else is 0.
     ///
     /// # Safety
     ///
@@ -1213,7 +1213,7 @@ extern "C" {
     /// `DONE`: as for complete input.
     ///
     /// `INCOMPLETE`: `bytes` contains no record with its line ending, and at most three more bytes can
-    /// complete one.
+    /// complete one. Zeros are written.
     ///
     /// A quoted field without a closing quote never ends, so the caller must limit how many bytes are
     /// buffered. The last record may have no line ending: at the end of the input, parse it with the
@@ -1259,9 +1259,9 @@ extern "C" {
     /// zeros for the next record.
     ///
     /// `INCOMPLETE`: `bytes` contains no record with its line ending, and at most three more bytes can
-    /// complete one. A quoted field without a closing quote never ends, so the caller must limit how
-    /// many bytes are buffered. The last record may have no line ending: at the end of the input, parse
-    /// it with `exported_csv_record`.
+    /// complete one. Zeros are written. A quoted field without a closing quote never ends, so the
+    /// caller must limit how many bytes are buffered. The last record may have no line ending: at the
+    /// end of the input, parse it with `exported_csv_record`.
     ///
     /// If `state` belongs to other bytes or was modified, the result may be wrong, but nothing outside
     /// `bytes` is read.
@@ -1269,7 +1269,7 @@ extern "C" {
     /// # Errors
     ///
     /// `INVALID`: `bytes` does not start with a record, regardless of what follows. This is returned as
-    /// soon as the first invalid byte is there, and its offset is written.
+    /// soon as the first invalid byte is there. Its offset is written, and zeros.
     ///
     /// `INVALID_DIALECT`: there is no such dialect. The state is unchanged, and zeros are written.
     ///
@@ -2245,7 +2245,7 @@ extern "C" {
     ///
     /// `NO_MEMORY`.
     ///
-    /// After an error the buffers are unchanged.
+    /// After an error the buffers are unchanged, and all else is 0.
     ///
     /// # Safety
     ///
@@ -2362,6 +2362,7 @@ extern "C" {
     ///
     /// `bytes` does not start with a reply, regardless of what follows. An invalid line is rejected at
     /// its end. The offset of the first part that is rejected is written, as by `exported_resp_reply`.
+    /// The state is unspecified.
     ///
     /// `INVALID`: that part is malformed.
     ///
@@ -2413,9 +2414,9 @@ extern "C" {
     /// Computes the line and the column of the position after the first `offset` bytes. Bytes after it
     /// are not read.
     ///
-    /// This is proved for UTF-8 and an offset on a character boundary, and otherwise only tested. Bytes
-    /// that are not UTF-8 count as the replacement characters that are printed for them, and an offset
-    /// after the end counts as the end.
+    /// This is proved if those bytes are UTF-8, and otherwise only tested. Bytes that are not UTF-8
+    /// count as the replacement characters that are printed for them, and an offset after the end
+    /// counts as the end.
     ///
     /// # Safety
     ///
@@ -2460,7 +2461,7 @@ extern "C" {
     ///
     /// `NO_MEMORY`.
     ///
-    /// After an error the buffers are unchanged.
+    /// After an error the buffers are unchanged, and all else is 0.
     ///
     /// # Safety
     ///

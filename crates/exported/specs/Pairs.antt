@@ -47,6 +47,10 @@ pub record AreEntries (text : List ℕ) (places : List Entry) (entries : List En
         → ShowsEntry text (slice_index_or places k p) (slice_index_or entries k e)
         (drop (k + 1) entries)
 
+-- No entries, and no bytes of theirs.
+abbrev pub HasNoSizes : Document → Type 0
+HasNoSizes found = (found.entries ≡ 0) × (found.text ≡ 0)
+
 -- The input is a document with these sections, which has that many entries and bytes of these.
 pub record CountsDocument (input : List ℕ) (found : Document) (sections : List SectionText) : Type 0
   where

@@ -51,6 +51,10 @@ code_of (faults.Invalid at why) = invalid
 code_of (faults.NotUtf8 at) = invalid_utf8
 code_of faults.OutOfMemory = no_memory
 
+-- No nodes, and no bytes of theirs.
+abbrev pub HasNoSizes : TomlResult → Type 0
+HasNoSizes out = (out.nodes ≡ 0) × (out.text ≡ 0)
+
 abbrev pub HasNoError : TomlResult → Type 0
 HasNoError out = (out.error_offset ≡ 0) × (out.unclosed_offset ≡ 0) × (out.error ≡ 0)
 

@@ -102,7 +102,7 @@ fn read_record(
     ensures refused { result ≡ invalid → NoRecord dialect bytes.now
         × IsRefusedAt dialect bytes.now out.new.error_offset }
     ensures nowhere { (result ≡ invalid → ⊥) → out.new.error_offset ≡ 0 }
-    ensures sizes { result ≡ invalid → HasNoSizes out.new }
+    ensures sizes { (result ≡ done → ⊥) → (result ≡ buffer_too_small → ⊥) → HasNoSizes out.new }
     ensures codes { (result ≡ done) ⊎ ((result ≡ buffer_too_small) ⊎ (result ≡ invalid)) }
 {
     *out = none_at(0);
@@ -137,11 +137,11 @@ fn read_record(
 /// there they are not.
 ///
 /// `BUFFER_TOO_SMALL`: the record has more fields or more bytes than the buffers. The required
-/// numbers of both are written.
+/// numbers of both are written, and the length of the record.
 ///
-/// `INVALID_DIALECT`: there is no such dialect. Zeros are written.
+/// `INVALID_DIALECT`: there is no such dialect.
 ///
-/// After an error the buffers are unchanged.
+/// After an error the buffers are unchanged, and all else is 0.
 ///
 /// # Safety
 ///
@@ -169,8 +169,7 @@ pub extern "C" fn exported_csv_record(
         → NoRecord d bytes.now × IsRefusedAt d bytes.now out.new.error_offset }
     ensures impossible { (result ≡ invalid_dialect) ↔ (HasDialect dialect.now → ⊥) }
     ensures nowhere { (result ≡ invalid → ⊥) → out.new.error_offset ≡ 0 }
-    ensures sizes { (result ≡ invalid → HasNoSizes out.new)
-        × (result ≡ invalid_dialect → HasNoSizes out.new) }
+    ensures sizes { (result ≡ done → ⊥) → (result ≡ buffer_too_small → ⊥) → HasNoSizes out.new }
     ensures codes { (result ≡ done) ⊎ ((result ≡ buffer_too_small) ⊎ ((result ≡ invalid)
         ⊎ (result ≡ invalid_dialect))) }
 {
@@ -203,8 +202,7 @@ fn read_partial(
         × IsRefusedAt dialect bytes.now out.new.error_offset
         × (out.new.error_offset < length bytes.now) }
     ensures nowhere { (result ≡ invalid → ⊥) → out.new.error_offset ≡ 0 }
-    ensures sizes { (result ≡ invalid → HasNoSizes out.new)
-        × (result ≡ incomplete → HasNoSizes out.new) }
+    ensures sizes { (result ≡ done → ⊥) → (result ≡ buffer_too_small → ⊥) → HasNoSizes out.new }
     ensures incomplete { result ≡ incomplete → NoneForGood dialect bytes.now
         × IsViablePrefix dialect bytes.now }
     ensures codes { (result ≡ done) ⊎ ((result ≡ buffer_too_small) ⊎ ((result ≡ invalid)
@@ -236,7 +234,7 @@ fn read_partial(
 /// `DONE`: as for complete input.
 ///
 /// `INCOMPLETE`: `bytes` contains no record with its line ending, and at most three more bytes can
-/// complete one.
+/// complete one. Zeros are written.
 ///
 /// A quoted field without a closing quote never ends, so the caller must limit how many bytes are
 /// buffered. The last record may have no line ending: at the end of the input, parse it with the
@@ -276,9 +274,7 @@ pub extern "C" fn exported_csv_record_partial(
     ensures within { result ≡ invalid → out.new.error_offset < length bytes.now }
     ensures impossible { (result ≡ invalid_dialect) ↔ (HasDialect dialect.now → ⊥) }
     ensures nowhere { (result ≡ invalid → ⊥) → out.new.error_offset ≡ 0 }
-    ensures sizes { (result ≡ invalid → HasNoSizes out.new)
-        × ((result ≡ incomplete → HasNoSizes out.new)
-        × (result ≡ invalid_dialect → HasNoSizes out.new)) }
+    ensures sizes { (result ≡ done → ⊥) → (result ≡ buffer_too_small → ⊥) → HasNoSizes out.new }
     ensures incomplete { result ≡ incomplete → (d : Dialect) → IsDialect dialect.now d
         → NoneForGood d bytes.now × IsViablePrefix d bytes.now }
     ensures codes { (result ≡ done) ⊎ ((result ≡ buffer_too_small) ⊎ ((result ≡ invalid)

@@ -5,8 +5,8 @@ ghost use Rattle.readers.specs.Document.{IsRefusedDocument};
 ghost use Rattle.readers.specs.Pair.{IsRefusedPair};
 ghost use Rattle.readers.specs.Sections.{pair_text};
 ghost use Rattle.exported.specs.Code.{buffer_too_small, done, invalid, no_memory};
-ghost use Rattle.exported.specs.Pairs.{AreEntries, ShowsDocument, ShowsPair, WantsDocument};
-ghost use Rattle.exported.specs.Pairs.{text_of};
+ghost use Rattle.exported.specs.Pairs.{AreEntries, HasNoSizes, ShowsDocument, ShowsPair};
+ghost use Rattle.exported.specs.Pairs.{WantsDocument, text_of};
 ghost use Rattle.exported.specs.Span.{nowhere};
 
 pub mod entries;
@@ -172,7 +172,7 @@ fn write_entries(
 ///
 /// `NO_MEMORY`.
 ///
-/// After an error the buffers are unchanged.
+/// After an error the buffers are unchanged, and all else is 0.
 ///
 /// # Safety
 ///
@@ -193,7 +193,7 @@ pub extern "C" fn exported_pair_document(
     ensures small { result ≡ buffer_too_small → WantsDocument bytes.now out.new
         × ((length entries.old < out.new.entries) ⊎ (length text.old < out.new.text)) }
     ensures kept { (result ≡ done → ⊥) → (entries.new ≡ entries.old) × (text.new ≡ text.old) }
-    ensures sizes { result ≡ invalid → (out.new.entries ≡ 0) × (out.new.text ≡ 0) }
+    ensures sizes { (result ≡ done → ⊥) → (result ≡ buffer_too_small → ⊥) → HasNoSizes out.new }
     ensures refused { result ≡ invalid → IsRefusedDocument bytes.now out.new.error_offset }
     ensures nowhere { (result ≡ invalid → ⊥) → out.new.error_offset ≡ 0 }
     ensures codes { (result ≡ done) ⊎ ((result ≡ buffer_too_small) ⊎ ((result ≡ invalid)

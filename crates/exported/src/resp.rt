@@ -333,6 +333,7 @@ pub extern "C" fn exported_resp_reply_partial(
 ///
 /// `bytes` does not start with a reply, regardless of what follows. An invalid line is rejected at
 /// its end. The offset of the first part that is rejected is written, as by `exported_resp_reply`.
+/// The state is unspecified.
 ///
 /// `INVALID`: that part is malformed.
 ///

@@ -1,7 +1,7 @@
 //! Lines and columns.
 
 ghost use Rattle.std.specs.Prelude.{◌≡◌, take};
-ghost use Rattle.std.specs.Str.{IsCharBoundary, IsUtf8, chars};
+ghost use Rattle.std.specs.Str.{IsUtf8, chars};
 ghost use Rattle.winnow.specs.Position.{IsPosition};
 ghost use Rattle.exported.specs.Code.{done};
 
@@ -28,9 +28,9 @@ fn before(bytes: &[u8], offset: usize) -> &[u8]
 /// Computes the line and the column of the position after the first `offset` bytes. Bytes after it
 /// are not read.
 ///
-/// This is proved for UTF-8 and an offset on a character boundary, and otherwise only tested. Bytes
-/// that are not UTF-8 count as the replacement characters that are printed for them, and an offset
-/// after the end counts as the end.
+/// This is proved if those bytes are UTF-8, and otherwise only tested. Bytes that are not UTF-8
+/// count as the replacement characters that are printed for them, and an offset after the end
+/// counts as the end.
 ///
 /// # Safety
 ///
@@ -39,7 +39,7 @@ fn before(bytes: &[u8], offset: usize) -> &[u8]
 /// of stack.
 #[unsafe(no_mangle)]
 pub extern "C" fn exported_text_position(bytes: &[u8], offset: usize, out: &mut Position) -> u32
-    ensures place { IsUtf8 bytes.now → IsCharBoundary bytes.now offset
+    ensures place { IsUtf8 (take offset bytes.now)
         → IsPosition (chars (take offset bytes.now)) out.new.line out.new.column }
     ensures codes { result ≡ done }
 {

@@ -4,9 +4,9 @@ ghost use Rattle.std.specs.Prelude.{◌≡◌, ◌<◌, ◌≤◌, ◌⊎◌, �
 ghost use Rattle.exported.specs.Code.{done, invalid, invalid_utf8, max_depth_too_large, no_memory};
 ghost use Rattle.exported.specs.Code.{supported_depth};
 ghost use Rattle.exported.specs.Code.{buffer_too_small};
-ghost use Rattle.exported.specs.Toml.{HasNoError, IsNoText, IsRefusedDocument, ShowsDocument};
-ghost use Rattle.exported.specs.Toml.{ShowsTree, WantsDocument, WantsTree, code_of, fault_of};
-ghost use Rattle.exported.specs.Toml.{place_of, start_or, unclosed_of};
+ghost use Rattle.exported.specs.Toml.{HasNoError, HasNoSizes, IsNoText, IsRefusedDocument};
+ghost use Rattle.exported.specs.Toml.{ShowsDocument, ShowsTree, WantsDocument, WantsTree, code_of};
+ghost use Rattle.exported.specs.Toml.{fault_of, place_of, start_or, unclosed_of};
 
 pub mod errors;
 
@@ -65,7 +65,7 @@ fn write_fault(fault: TomlError, out: &mut TomlResult) -> u32
     ensures unclosed { out.new.unclosed_offset ≡ unclosed_of fault }
     ensures fault { out.new.error ≡ fault_of fault }
     ensures nowhere { result ≡ no_memory → HasNoError out.new }
-    ensures sizes { (out.new.nodes ≡ 0) × (out.new.text ≡ 0) }
+    ensures sizes { HasNoSizes out.new }
 {
     let (place, start, number, code) = match fault {
         TomlError::Unexpected {
@@ -155,7 +155,7 @@ fn write_tree<'t>(
 ///
 /// `NO_MEMORY`.
 ///
-/// After an error the buffers are unchanged.
+/// After an error the buffers are unchanged, and all else is 0.
 ///
 /// # Safety
 ///
@@ -184,8 +184,7 @@ pub extern "C" fn exported_toml_document(
     ensures kept { (result ≡ done → ⊥) → (nodes.new ≡ nodes.old) × (text.new ≡ text.old) }
     ensures nowhere { (result ≡ invalid → ⊥) → (result ≡ invalid_utf8 → ⊥)
         → HasNoError out.new }
-    ensures sizes { (result ≡ invalid → (out.new.nodes ≡ 0) × (out.new.text ≡ 0))
-        × (result ≡ invalid_utf8 → (out.new.nodes ≡ 0) × (out.new.text ≡ 0)) }
+    ensures sizes { (result ≡ done → ⊥) → (result ≡ buffer_too_small → ⊥) → HasNoSizes out.new }
     ensures refused { result ≡ invalid → IsRefusedDocument max_depth bytes.now out.new }
     ensures text { result ≡ invalid_utf8 → IsNoText max_depth bytes.now out.new }
     ensures deep { (result ≡ max_depth_too_large) ↔ (supported_depth < max_depth) }

@@ -2,7 +2,8 @@
 use Rattle.std.specs.Prelude.{◌≡◌, ◌⊎◌, ◌≤◌, ℕ, suc, List, [], ◌∷◌, drop, length, take}
 use Rattle.std.proofs.Common.{ap, arith, inl, inr, subst, sym, ◌∙◌}
 use Rattle.std.proofs.lemmas.List.{take-append-drop, take-append-le}
-use Rattle.std.specs.Str.{IsUtf8}
+use Rattle.std.proofs.lemmas.Str.{utf8_valid_len-IsValidUpTo}
+use Rattle.std.specs.Str.{IsUtf8, IsValidUpTo, chars}
 use Rattle.std.specs.Str.Lossy.{utf8_valid_len}
 use Rattle.format_json.specs.Fault.{IsErrorOf, IsLocation, write_fault}
 use Rattle.format_json.specs.declared.fault.JsonError.TheVariants as faults
@@ -17,6 +18,7 @@ use Rattle.format_json_pieces.specs.declared.begun.Mode.TheVariants.{Value}
 use Rattle.format_json_pieces.specs.declared.expected.Expected.{Expected}
 use Rattle.format_json_writer.specs.declared.error.WriteError.{WriteError}
 use Rattle.format_json_writer.specs.declared.error.WriteError.TheVariants as errors
+use Rattle.text_positions.specs.Position.{IsPosition}
 
 module _ (level : ℕ) where
   -- fewer bytes may begin a text too
@@ -33,14 +35,18 @@ module _ (level : ℕ) where
       (sym (ap (λ l. take m l) e ∙ take-append-le m front rest le)) (fewer front m x)
 
   pub told_utf8 : (bytes : List ℕ) (at : Location) (valid n : ℕ) (expected : Expected)
-      → (IsUtf8 bytes → ⊥) → valid ≡ utf8_valid_len bytes → IsLocation bytes valid at
+      → (IsUtf8 bytes → ⊥) → IsValidUpTo bytes valid → IsLocation bytes valid at
       → IsPlace level bytes n expected → valid ≤ n → IsErrorOf level bytes (faults.NotUtf8 at)
-  told_utf8 bytes at valid n expected broken is location place before =
+  told_utf8 bytes at valid n expected broken longest location place before =
       let P : ℕ → Type 0 = λ m.
       (IsUtf8 bytes → ⊥) × (m ≡ utf8_valid_len bytes) × MayBegin level (take m bytes)
-      × IsLocation bytes m at in
-      subst P (sym location.0)
-      (broken, is, before_place bytes n expected valid place before, location)
+      × IsPosition (chars (take m bytes)) at.line at.column in
+      subst P (sym location.0) (
+        broken,
+        sym (utf8_valid_len-IsValidUpTo bytes valid longest),
+        before_place bytes n expected valid place before,
+        location.1 longest.front,
+      )
 
 -- ---- what is not written
 

@@ -1,6 +1,6 @@
 -- The specification of `JsonError`: why bytes are not a JSON text.
 use Rattle.std.specs.Prelude.{◌≡◌, ◌⊎◌, ◌<◌, ◌≤◌, ℕ, List, Option, Some, None, length, take, ⊤}
-use Rattle.std.specs.Str.{IsCharBoundary, IsUtf8, chars}
+use Rattle.std.specs.Str.{IsUtf8, chars}
 use Rattle.std.specs.Str.Lossy.{utf8_valid_len}
 use Rattle.format_json.specs.declared.fault.JsonError.{JsonError}
 use Rattle.format_json.specs.declared.fault.JsonError.TheVariants as faults
@@ -14,11 +14,12 @@ use Rattle.format_json_writer.specs.declared.error.WriteError.{WriteError}
 use Rattle.format_json_writer.specs.declared.error.WriteError.TheVariants as errors
 use Rattle.text_positions.specs.Position.{IsPosition}
 
--- The place is this byte, with the line and the column after the text before it.
+-- `IsLocation bytes offset at`: `at` has this offset. If the bytes before it are UTF-8, it has the
+-- line and the column of their end.
 abbrev pub IsLocation : List ℕ → ℕ → Location → Type 0
 IsLocation bytes offset at =
-    (at.offset ≡ offset) × (IsUtf8 bytes → IsCharBoundary bytes offset
-    → IsPosition (chars (take offset bytes)) at.line at.column)
+    (at.offset ≡ offset)
+    × (IsUtf8 (take offset bytes) → IsPosition (chars (take offset bytes)) at.line at.column)
 
 -- `IsLocated bytes at`: the line and column of `at` are those of its offset in `bytes`.
 abbrev pub IsLocated : List ℕ → Location → Type 0
@@ -43,7 +44,8 @@ IsErrorOf level bytes (faults.TooDeep at most) =
     × IsLocated bytes at
 IsErrorOf level bytes (faults.NotUtf8 at) =
     (IsUtf8 bytes → ⊥) × (at.offset ≡ utf8_valid_len bytes)
-    × MayBegin level (take at.offset bytes) × IsLocated bytes at
+    × MayBegin level (take at.offset bytes)
+    × IsPosition (chars (take at.offset bytes)) at.line at.column
 IsErrorOf level bytes faults.NoMemory = ⊤
 
 abbrev pub location_of : JsonError → Option Location

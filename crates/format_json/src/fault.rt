@@ -169,11 +169,12 @@ impl Display for JsonWriteError {
 
 impl Error for JsonWriteError {}
 
-/// A place, with its line and its column.
+/// Returns the line and the column of `offset`. Bytes after it are not read: they may not be UTF-8.
 fn located(bytes: &[u8], offset: usize) -> Location
     ensures { IsLocation bytes.now offset result }
 {
-    let position = position_in(bytes, offset);
+    let before = bytes.get(..offset).unwrap_or(bytes);
+    let position = position_in(before, before.len());
     Location {
         offset,
         line: position.line,

@@ -89,6 +89,7 @@ fn find_end(dialect: Dialect, state: &mut CsvRecordState, bytes: &[u8], out: &mu
     ensures told { IsOf dialect (record_extent_of state.old) bytes.now
         → TellsRecord dialect bytes.now result out.new state.new }
     ensures nowhere { (result ≡ invalid → ⊥) → out.new.error_offset ≡ 0 }
+    ensures sizes { (result ≡ done → ⊥) → HasNoSizes out.new }
     ensures codes { (result ≡ done) ⊎ ((result ≡ incomplete) ⊎ (result ≡ invalid)) }
 {
     let mut extent = extent_at(*state);
@@ -131,9 +132,9 @@ fn find_end(dialect: Dialect, state: &mut CsvRecordState, bytes: &[u8], out: &mu
 /// zeros for the next record.
 ///
 /// `INCOMPLETE`: `bytes` contains no record with its line ending, and at most three more bytes can
-/// complete one. A quoted field without a closing quote never ends, so the caller must limit how
-/// many bytes are buffered. The last record may have no line ending: at the end of the input, parse
-/// it with `exported_csv_record`.
+/// complete one. Zeros are written. A quoted field without a closing quote never ends, so the
+/// caller must limit how many bytes are buffered. The last record may have no line ending: at the
+/// end of the input, parse it with `exported_csv_record`.
 ///
 /// If `state` belongs to other bytes or was modified, the result may be wrong, but nothing outside
 /// `bytes` is read.
@@ -141,7 +142,7 @@ fn find_end(dialect: Dialect, state: &mut CsvRecordState, bytes: &[u8], out: &mu
 /// # Errors
 ///
 /// `INVALID`: `bytes` does not start with a record, regardless of what follows. This is returned as
-/// soon as the first invalid byte is there, and its offset is written.
+/// soon as the first invalid byte is there. Its offset is written, and zeros.
 ///
 /// `INVALID_DIALECT`: there is no such dialect. The state is unchanged, and zeros are written.
 ///
@@ -162,8 +163,9 @@ pub extern "C" fn exported_csv_record_extent(
         → IsOf d (record_extent_of state.old) bytes.now
         → TellsRecord d bytes.now result out.new state.new }
     ensures impossible { (result ≡ invalid_dialect) ↔ (HasDialect dialect.now → ⊥) }
-    ensures kept { result ≡ invalid_dialect → (state.new ≡ state.old) × HasNoSizes out.new }
+    ensures kept { result ≡ invalid_dialect → state.new ≡ state.old }
     ensures nowhere { (result ≡ invalid → ⊥) → out.new.error_offset ≡ 0 }
+    ensures sizes { (result ≡ done → ⊥) → HasNoSizes out.new }
     ensures codes { (result ≡ done) ⊎ ((result ≡ incomplete) ⊎ ((result ≡ invalid)
         ⊎ (result ≡ invalid_dialect))) }
 {
