@@ -212,8 +212,8 @@ def header(codes, constants, structs, exports):
     names = [*codes, *constants]
     text = f"/* {WRITTEN} */\n"
     text += comment([
-        "Proved parsers: each function does what its documentation states, for all inputs. They are",
-        "written in Rattle; `crates/exported` has the proved contracts.",
+        "Proved parsers, written in Rattle. `crates/exported` has the contract of each function, proved",
+        "for all inputs; `bindings/README.md` lists what is only tested.",
         "",
         "The requirements for callers are in the last paragraph of each function. They are not checked,",
         "with two exceptions: if a pointer to be read or written is null, the function returns `NULL`,",

@@ -35,7 +35,7 @@ READERS = [
         "where a value ends, and whether bytes are JSON"),
     ("JSON: nodes", "format_json_nodes", "no", "all values of a text, if it is JSON"),
     ("JSON: by one entry", "format_json", "no", "exactly; error offsets"),
-    ("TOML 1.0", "format_toml", "yes", "exactly; error positions"),
+    ("TOML 1.0: lines", "format_toml", "yes", "exactly"),
     ("TOML: trees", "format_toml_tree", "no", "the tree, or the first rejected line"),
     ("TOML: by one entry", "format_toml_document", "no",
         "the tree, or an error's position and reason"),
@@ -56,15 +56,19 @@ READERS = [
 ]
 # The table of README.md: formats, their crates, and the proved properties, in its words.
 BRIEF = [
-    ("CSV (RFC 4180)", ["format_csv", "format_csv_records"], "exactly; first, incremental"),
+    ("CSV (RFC 4180)", ["format_csv", "format_csv_records", "format_csv_reader"],
+        "exactly; first, incremental"),
     ("DNS", ["format_dns"], "messages"),
     ("formulas", ["format_calculator"], "exactly"),
-    ("HTTP/1.1 heads, chunked bodies", ["format_http", "format_http_chunked"], "first, incremental"),
+    ("HTTP/1.1 heads, chunked bodies", ["format_http", "format_http_places", "format_http_chunked"],
+        "first, incremental"),
     ("INI", ["readers", "format_ini"], "exactly"),
-    ("JSON", ["format_json"], "exactly; first, incremental; written values read back"),
+    ("JSON", ["format_json", "format_json_pieces", "format_json_writer"],
+        "exactly; first, incremental; written values read back"),
     ("JSON extents", ["format_json_extents"], "where the first value ends"),
     ("RESP2, RESP3", ["format_resp"], "first, incremental"),
-    ("TOML 1.0", ["format_toml_document", "format_toml", "format_toml_tree"], "exactly"),
+    ("TOML 1.0", ["format_toml_document", "format_toml", "format_toml_tree"],
+        "exactly, if lines are unambiguous"),
 ]
 
 
@@ -88,11 +92,6 @@ def exported():
     return {*names[1].split()}
 
 
-def page(crate):
-    """The link to the theorems of a crate, on its page."""
-    return f"[theorems](crates/{crate}/README.md#theorems)"
-
-
 def put(path, heads, rows):
     """Writes a table where a document has its marks."""
     before, mark, rest = read(path).partition(FIRST)
@@ -114,9 +113,9 @@ def write_readers():
         link = f"[{crate.replace('/', '::')}](../crates/{crate.partition('/')[0]})"
         counted.append([what, link, is_by_grammars, *(f"{it:,}" for it in counts), proved])
     for what, crates, proved in BRIEF:
-        links = ", ".join(f"[{it}](crates/{it})" for it in crates)
+        links = ", ".join(f"[{it}](crates/{it}/README.md#theorems)" for it in crates)
         is_exported = "yes" if {*crates} & of_library else "no"
-        brief.append([what, links, is_exported, proved, page(crates[0])])
+        brief.append([what, links, is_exported, proved])
     heads = ["Format", "Crate", "By grammars", "Source", "Specs", "Proofs", "Proved"]
     put(COUNTED, heads, counted)
-    put(README, ["Format", "Crate", "From Rust and C", "Proved", "Page"], brief)
+    put(README, ["Format", "Theorems", "From Rust and C", "Proved"], brief)

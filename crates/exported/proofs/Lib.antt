@@ -15,7 +15,6 @@ pub mod JsonDiagnostics
 pub mod JsonIntegers
 pub mod JsonTexts
 pub mod Nodes
-pub mod Pieces
 pub mod Putting
 pub mod RecordExtent
 pub mod Records

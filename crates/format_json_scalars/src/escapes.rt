@@ -8,7 +8,7 @@ ghost use Rattle.format_json_texts.specs.Strings.{ArePair, Escape, StandsFor};
 ghost use Rattle.format_json_texts.specs.Strings.{Unicode};
 ghost use Rattle.std.specs.Prelude.{◌≡◌, ℕ, ⊤, MatchOption};
 ghost use Rattle.streams.specs.Text.{text_input, text_reading};
-ghost use Rattle.winnow_core.specs.Exact.{Reads};
+ghost use Rattle.winnow_core.specs.Exact.{IsSpared, Reads};
 ghost use Rattle.grammars.specs.Grammar.{Token};
 ghost use Rattle.grammars.specs.Grammar.Meaning.{Meaning};
 
@@ -47,8 +47,11 @@ impl<'i> Rule<&'i str, char> for LoneUnit {
 
 /// A unit that is a character by itself.
 fn read_alone<'i>(input: &mut &'i str) -> Result<char, ErrMode<EmptyError>>
-    ensures { Reads text_reading ⟦<ErrMode<EmptyError> as HasKind>⟧.kind (Meaning IsAlone CodeUnit)
+    ensures reads { Reads text_reading ⟦<ErrMode<EmptyError> as HasKind>⟧.kind
+        (Meaning IsAlone CodeUnit)
         (text_input input.old.now) result (text_input input.new.now) }
+    ensures spared { IsSpared ⟦<ErrMode<EmptyError> as HasKind>⟧.kind (text_input input.old.now)
+        result }
 {
     Unit.by(read_unit).verify_map(alone).read(input)
 }
@@ -84,8 +87,11 @@ impl<'i> Rule<&'i str, char> for UnitPair {
 
 /// Two units that are a character.
 fn read_pair<'i>(input: &mut &'i str) -> Result<char, ErrMode<EmptyError>>
-    ensures { Reads text_reading ⟦<ErrMode<EmptyError> as HasKind>⟧.kind (Meaning ArePair Units)
+    ensures reads { Reads text_reading ⟦<ErrMode<EmptyError> as HasKind>⟧.kind
+        (Meaning ArePair Units)
         (text_input input.old.now) result (text_input input.new.now) }
+    ensures spared { IsSpared ⟦<ErrMode<EmptyError> as HasKind>⟧.kind (text_input input.old.now)
+        result }
 {
     TwoUnits.by(read_units).verify_map(paired).read(input)
 }
@@ -108,8 +114,10 @@ impl<'i> Rule<&'i str, char> for LongEscape {
 
 /// A unit alone, or two of them.
 fn read_unicode<'i>(input: &mut &'i str) -> Result<char, ErrMode<EmptyError>>
-    ensures { Reads text_reading ⟦<ErrMode<EmptyError> as HasKind>⟧.kind Unicode
+    ensures reads { Reads text_reading ⟦<ErrMode<EmptyError> as HasKind>⟧.kind Unicode
         (text_input input.old.now) result (text_input input.new.now) }
+    ensures spared { IsSpared ⟦<ErrMode<EmptyError> as HasKind>⟧.kind (text_input input.old.now)
+        result }
 {
     read_either(LoneUnit.by(read_alone), UnitPair.by(read_pair), input)
 }
@@ -148,9 +156,11 @@ impl<'i> Rule<&'i str, char> for ShortEscape {
 /// Parses a character that a backslash escapes by itself, and returns the character that the escape
 /// denotes.
 fn read_short<'i>(input: &mut &'i str) -> Result<char, ErrMode<EmptyError>>
-    ensures { Reads text_reading ⟦<ErrMode<EmptyError> as HasKind>⟧.kind
+    ensures reads { Reads text_reading ⟦<ErrMode<EmptyError> as HasKind>⟧.kind
         (Meaning StandsFor (Token (λ c. c)))
         (text_input input.old.now) result (text_input input.new.now) }
+    ensures spared { IsSpared ⟦<ErrMode<EmptyError> as HasKind>⟧.kind (text_input input.old.now)
+        result }
 {
     Any.verify_map(unescaped).read(input)
 }
@@ -173,8 +183,10 @@ impl<'i> Rule<&'i str, char> for AnyEscape {
 
 /// Parses a backslash and the characters that it escapes.
 pub fn read_escape<'i>(input: &mut &'i str) -> Result<char, ErrMode<EmptyError>>
-    ensures { Reads text_reading ⟦<ErrMode<EmptyError> as HasKind>⟧.kind Escape
+    ensures reads { Reads text_reading ⟦<ErrMode<EmptyError> as HasKind>⟧.kind Escape
         (text_input input.old.now) result (text_input input.new.now) }
+    ensures spared { IsSpared ⟦<ErrMode<EmptyError> as HasKind>⟧.kind (text_input input.old.now)
+        result }
 {
     let short = ShortEscape.by(read_short);
     let unicode = LongEscape.by(read_unicode);

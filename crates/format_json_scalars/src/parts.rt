@@ -1,12 +1,13 @@
-//! Rules made of parts: they are specified by the grammars of the parts, for any parsers.
+//! Rules made of parts: they are specified by the grammars of the parts, for any parsers. They are
+//! out of memory only if a part is.
 ghost use Rattle.format_parts.specs.Words.{latter, pair};
 ghost use Rattle.winnow_core.specs.Claim.{CanRead};
-ghost use Rattle.winnow_core.specs.Exact.{Reads};
+ghost use Rattle.winnow_core.specs.Exact.{IsSpared, Reads};
 ghost use Rattle.grammars.specs.Grammar.{Both, Either};
 
 use stream_errors::parser_error::ParserError;
 use streams::stream::Stream;
-use winnow_comb::combinator::{alt, opt, preceded};
+use winnow_comb::combinator::{alt, preceded};
 use winnow_core::parser::Parser;
 
 /// Parses the first, or the second if the first does not match.
@@ -18,9 +19,11 @@ where
     Q: Parser<I, O, E> + Drop,
     requires first { CanRead (P.can_parse first) (P.claim (P.state first)) }
     requires second { CanRead (Q.can_parse second) (Q.claim (Q.state second)) }
-    ensures { Reads I.reading E.kind
+    ensures reads { Reads I.reading E.kind
         (Either (P.claim (P.state first)).grammar (Q.claim (Q.state second)).grammar)
         (I.view input.old) result (I.view input.new) }
+    ensures spared { (P.claim (P.state first)).spares_memory
+        → (Q.claim (Q.state second)).spares_memory → IsSpared E.kind (I.view input.old) result }
 {
     alt((first, second)).read(input)
 }
@@ -46,12 +49,15 @@ where
     requires short { CanRead (Q.can_parse short) (Q.claim (Q.state short)) }
     requires letter { CanRead (R.can_parse letter) (R.claim (R.state letter)) }
     requires unicode { CanRead (S.can_parse unicode) (S.claim (S.state unicode)) }
-    ensures { Reads I.reading E.kind
+    ensures reads { Reads I.reading E.kind
         (Both latter (P.claim (P.state backslash)).grammar
         (Either (Q.claim (Q.state short)).grammar
         (Both latter (R.claim (R.state letter)).grammar
         (S.claim (S.state unicode)).grammar))) (I.view input.old) result
         (I.view input.new) }
+    ensures spared { (P.claim (P.state backslash)).spares_memory
+        → (Q.claim (Q.state short)).spares_memory → (R.claim (R.state letter)).spares_memory
+        → (S.claim (S.state unicode)).spares_memory → IsSpared E.kind (I.view input.old) result }
 {
     preceded(backslash, alt((short, preceded(letter, unicode)))).read(input)
 }
@@ -78,11 +84,14 @@ where
     requires backslash { CanRead (Q.can_parse backslash) (Q.claim (Q.state backslash)) }
     requires letter { CanRead (R.can_parse letter) (R.claim (R.state letter)) }
     requires second { CanRead (S.can_parse second) (S.claim (S.state second)) }
-    ensures { Reads I.reading E.kind
+    ensures reads { Reads I.reading E.kind
         (Both pair (P.claim (P.state first)).grammar
         (Both latter (Both pair (Q.claim (Q.state backslash)).grammar
         (R.claim (R.state letter)).grammar) (S.claim (S.state second)).grammar))
         (I.view input.old) result (I.view input.new) }
+    ensures spared { (P.claim (P.state first)).spares_memory
+        → (Q.claim (Q.state backslash)).spares_memory → (R.claim (R.state letter)).spares_memory
+        → (S.claim (S.state second)).spares_memory → IsSpared E.kind (I.view input.old) result }
 {
     (first, preceded((backslash, letter), second)).read(input)
 }

@@ -70,10 +70,8 @@ fn read_characters<'i, A: Allocator + Copy>(
                 Ok(()) => (),
                 Err(_) => return Err(ParserError::<&'i str>::no_memory(input)),
             },
-            Err(error) => {
-                if ParserError::<&'i str>::is_memory(&error) {
-                    return Err(error);
-                }
+            // Escapes are never out of memory, so the characters end here.
+            Err(_) => {
                 *input = here;
                 return Ok(text);
             }

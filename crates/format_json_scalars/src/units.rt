@@ -2,7 +2,7 @@
 ghost use Rattle.format_json_scalars.specs.Escapes.{Units, units_takes, units_unique};
 ghost use Rattle.std.specs.Prelude.{⊤};
 ghost use Rattle.streams.specs.Text.{text_input, text_reading};
-ghost use Rattle.winnow_core.specs.Exact.{Reads};
+ghost use Rattle.winnow_core.specs.Exact.{IsSpared, Reads};
 
 use crate::parts::read_units_of;
 use format_parts::hexadecimal::{Unit, read_unit};
@@ -29,8 +29,10 @@ impl<'i> Rule<&'i str, (u32, u32)> for TwoUnits {
 
 /// Two units, the second after another backslash and u.
 pub fn read_units<'i>(input: &mut &'i str) -> Result<(u32, u32), ErrMode<EmptyError>>
-    ensures { Reads text_reading ⟦<ErrMode<EmptyError> as HasKind>⟧.kind Units
+    ensures reads { Reads text_reading ⟦<ErrMode<EmptyError> as HasKind>⟧.kind Units
         (text_input input.old.now) result (text_input input.new.now) }
+    ensures spared { IsSpared ⟦<ErrMode<EmptyError> as HasKind>⟧.kind (text_input input.old.now)
+        result }
 {
     read_units_of(Unit.by(read_unit), '\\', 'u', Unit.by(read_unit), input)
 }

@@ -1,15 +1,15 @@
 //! Rules made of parts: they are specified by the grammars of the parts, for any parsers and over
 //! any stream.
-ghost use Rattle.format_parts.specs.Marks.{Items};
+ghost use Rattle.format_parts.specs.Marks.{FirstItem, Items};
 ghost use Rattle.format_parts.specs.Words.{former, latter};
 ghost use Rattle.format_json_values.specs.Pairs.{Pair};
 ghost use Rattle.std.specs.Fn.{CalledAtMut};
 ghost use Rattle.std.specs.Prelude.{◌≡◌, false};
 ghost use Rattle.winnow_core.specs.Claim.{CanRead};
-ghost use Rattle.winnow_core.specs.Exact.{Reads};
+ghost use Rattle.winnow_core.specs.Exact.{IsSpared, Reads};
 ghost use Rattle.winnow_core.specs.Exact.Whole.{ReadsAll};
-ghost use Rattle.grammars.specs.Grammar.{Both};
-ghost use Rattle.winnow_grammar.specs.Rule.{CallsRead};
+ghost use Rattle.grammars.specs.Grammar.{Both, NoMatch};
+ghost use Rattle.winnow_grammar.specs.Rule.{CallsRead, CallsSpared};
 
 use format_parts::marks::{Marks, read_items};
 use std::alloc::Allocator;
@@ -21,7 +21,8 @@ use winnow_core::parser::Parser;
 use winnow_grammar::rule::Rule;
 
 /// Reads members between marks, each a name, a mark and a value, with whitespace after each of
-/// them. A function reads a name by a rule, and another a value.
+/// them. A function reads a name by a rule, and another a value. It is out of memory where
+/// [`read_items`] is.
 pub fn read_object_of<I, E, K, O, M, W, A, S, H, R, F, B, G>(
     alloc: A,
     names: S,
@@ -58,21 +59,27 @@ where
         × (B.claim (B.state marks.comma)).consumes }
     requires closing { CanRead (B.can_parse marks.closing) (B.claim (B.state marks.closing)) }
     requires gap { CanRead (G.can_parse marks.gap) (G.claim (G.state marks.gap)) }
-    ensures { Reads I.reading E.kind
+    ensures reads { Reads I.reading E.kind
         (Items (Pair (S.grammar names) (B.claim (B.state colon)).grammar (R.grammar rule)
         (G.claim (G.state marks.gap)).grammar) (B.claim (B.state marks.opening)).grammar
         (B.claim (B.state marks.comma)).grammar (B.claim (B.state marks.closing)).grammar
         (G.claim (G.state marks.gap)).grammar) (I.view input.old) result
         (I.view input.new) }
+    ensures spared { CallsSpared I.view E.kind (CalledAtMut H.FnMut) name
+        → CallsSpared I.view E.kind (CalledAtMut F.FnMut) value
+        → (B.claim (B.state colon)).spares_memory
+        → (B.claim (B.state marks.opening)).spares_memory
+        → (B.claim (B.state marks.closing)).spares_memory
+        → (G.claim (G.state marks.gap)).spares_memory
+        → NoMatch (FirstItem (Pair (S.grammar names) (B.claim (B.state colon)).grammar
+        (R.grammar rule) (G.claim (G.state marks.gap)).grammar)
+        (B.claim (B.state marks.opening)).grammar (G.claim (G.state marks.gap)).grammar)
+        (I.view input.old).left.tokens → IsSpared E.kind (I.view input.old) result }
 {
     let name = terminated(names.by(name), marks.gap);
     let value = terminated(rule.by(value), marks.gap);
-    read_items(
-        alloc,
-        separated_pair(name, (colon, marks.gap), value),
-        marks,
-        input,
-    )
+    let member = separated_pair(name, (colon, marks.gap), value);
+    read_items(alloc, member, marks, input)
 }
 
 /// Reads all of an input as a value, with whitespace before it and after it.

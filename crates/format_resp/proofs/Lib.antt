@@ -9,9 +9,11 @@ pub mod LeafTexts
 pub mod LineEnds
 pub mod LineTexts
 pub mod Made
+pub mod MustAsk
 pub mod NumberTexts
 pub mod PartsStand
 pub mod Passing
+pub mod PieceResults
 pub mod ReadBack
 pub mod Refusals
 pub mod Strings

@@ -1,16 +1,10 @@
 -- Lemmas that reading a written reply returns an equivalent one.
-use Rattle.std.specs.Prelude.{◌≡◌, ◌<◌, ◌≤◌, ◌^◌, ℕ, suc, List, [], ◌∷◌, ◌++◌, length, false}
-use Rattle.std.specs.Prelude.{Err, Ok}
+use Rattle.std.specs.Prelude.{◌≡◌, ◌<◌, ◌≤◌, ◌^◌, ℕ, suc, List, [], ◌∷◌, ◌++◌, length}
 use Rattle.std.specs.Borrow.{Bor}
 use Rattle.std.specs.Fmt.{decimal}
 use Rattle.std.specs.declared.vec.Vec.{Vec}
-use Rattle.std.proofs.Common.{refl, sym, ap, subst, inl, inr, ◌∙◌, arith, length-append}
-use Rattle.streams.specs.Bytes.{bytes_follow, bytes_input, bytes_reading}
-use Rattle.winnow_grammar.specs.Cut.{ReadsOrAsks}
+use Rattle.std.proofs.Common.{refl, sym, ap, subst, ◌∙◌, arith, length-append}
 use Rattle.winnow_grammar.specs.InTurn.{First}
-use Rattle.streams.specs.Input.{Input}
-use Rattle.streams.specs.Kind.{Kind, memory}
-use Rattle.streams.specs.Partial.{with_flag}
 use Rattle.grammars.specs.Texts.{EachText, Text}
 use Rattle.format_resp.proofs.AlikeReplies.{replies_alike}
 use Rattle.format_resp.proofs.Made.{array_is, bulk_is, mark_is}
@@ -56,24 +50,6 @@ put_first text more none added e same = (
   same ∙ e
       ∙ ap (λ l. l ++ more) (added.behind ∙ ap (λ l. l ++ added.tokens) none),
 )
-
--- results on complete input
-module _ {O E : Type 0} (text : Text ℕ O) (bytes : List ℕ) {i j : Input ℕ} {kind : E → Kind}
-    (is : i ≡ with_flag (bytes_input bytes) false) where
-  pub whole_stands : (o : O)
-      → ReadsOrAsks bytes_reading bytes_follow kind (First text) i (Ok o) j
-      → First text bytes o j.left.tokens
-  whole_stands o r = (rw is at r).whole.stands refl
-
-  -- if it matches, the only error is out of memory
-  pub whole_wants : (e : E) → (kind e ≡ memory → ⊥)
-      → (o : O) × (rest : List ℕ) × First text bytes o rest
-      → ReadsOrAsks {O = O} bytes_reading bytes_follow kind (First text) i (Err e) j → ⊥
-  whole_wants e not_memory (o, rest, a) r =
-      elim ((rw is at r).whole.none refl) [
-        | inl m ↦ not_memory m
-        | inr (_, none) ↦ none o rest a
-      ]
 
 -- ---- commands
 

@@ -4,6 +4,7 @@ pub mod Bounded
 pub mod Extents
 pub mod Heads
 pub mod Lines
+pub mod MustAsk
 pub mod Numbers
 pub mod Parts
 pub mod Resp

@@ -1,8 +1,8 @@
 //! The parts of replies.
 
 ghost use Rattle.streams.specs.Bytes.{bytes_follow, bytes_reading};
-ghost use Rattle.winnow_grammar.specs.Cut.{ReadsOrAsks};
 ghost use Rattle.winnow_grammar.specs.InTurn.{First};
+ghost use Rattle.format_resp.specs.MustAsk.{ReadsOrMustAsk};
 ghost use Rattle.format_resp.specs.Resp.{DataText, LineText, SizeText};
 
 use crate::numbers::size_line;
@@ -31,7 +31,7 @@ type Error = ErrMode<EmptyError>;
 /// ```
 #[inline(always)]
 pub fn read_line<'i>(input: &mut Partial<&'i [u8]>) -> Result<&'i [u8], ErrMode<EmptyError>>
-    ensures { ReadsOrAsks bytes_reading bytes_follow ⟦<Error as HasKind>⟧.kind (First LineText)
+    ensures { ReadsOrMustAsk bytes_reading bytes_follow ⟦<Error as HasKind>⟧.kind (First LineText)
         (⟦<Bytes as Stream>⟧.view input.old) result (⟦<Bytes as Stream>⟧.view input.new) }
 {
     line(input)
@@ -50,7 +50,7 @@ pub fn read_line<'i>(input: &mut Partial<&'i [u8]>) -> Result<&'i [u8], ErrMode<
 /// ```
 #[inline(always)]
 pub fn read_size<'i>(input: &mut Partial<&'i [u8]>) -> Result<Option<usize>, ErrMode<EmptyError>>
-    ensures { ReadsOrAsks bytes_reading bytes_follow ⟦<Error as HasKind>⟧.kind (First SizeText)
+    ensures { ReadsOrMustAsk bytes_reading bytes_follow ⟦<Error as HasKind>⟧.kind (First SizeText)
         (⟦<Bytes as Stream>⟧.view input.old) result (⟦<Bytes as Stream>⟧.view input.new) }
 {
     let line = read_line(input)?;
@@ -76,7 +76,7 @@ pub fn read_data<'i>(
     size: usize,
     input: &mut Partial<&'i [u8]>,
 ) -> Result<&'i [u8], ErrMode<EmptyError>>
-    ensures { ReadsOrAsks bytes_reading bytes_follow ⟦<Error as HasKind>⟧.kind
+    ensures { ReadsOrMustAsk bytes_reading bytes_follow ⟦<Error as HasKind>⟧.kind
         (First (DataText size)) (⟦<Bytes as Stream>⟧.view input.old) result
         (⟦<Bytes as Stream>⟧.view input.new) }
 {

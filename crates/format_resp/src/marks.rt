@@ -2,8 +2,8 @@
 
 ghost use Rattle.std.specs.Prelude.{◌≡◌, None, IfSome, MatchBool};
 ghost use Rattle.streams.specs.Bytes.{bytes_follow, bytes_reading};
-ghost use Rattle.winnow_grammar.specs.Cut.{ReadsOrAsks};
 ghost use Rattle.winnow_grammar.specs.InTurn.{First};
+ghost use Rattle.format_resp.specs.MustAsk.{ReadsOrMustAsk};
 ghost use Rattle.format_resp.specs.Resp.{IsIn, MarkText, byte_of};
 ghost use Rattle.format_resp.specs.declared.marks.Mark.{Mark};
 ghost use Rattle.format_resp.specs.declared.marks.Mark.TheVariants.{Aggregate};
@@ -180,7 +180,7 @@ pub(crate) fn read_mark<'i>(
     protocol: Protocol,
     input: &mut Partial<&'i [u8]>,
 ) -> Result<Mark, ErrMode<EmptyError>>
-    ensures { ReadsOrAsks bytes_reading bytes_follow ⟦<Error as HasKind>⟧.kind
+    ensures { ReadsOrMustAsk bytes_reading bytes_follow ⟦<Error as HasKind>⟧.kind
         (First (MarkText protocol)) (⟦<Bytes as Stream>⟧.view input.old) result
         (⟦<Bytes as Stream>⟧.view input.new) }
 {

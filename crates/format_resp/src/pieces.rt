@@ -2,11 +2,11 @@
 ghost use Rattle.std.specs.Prelude.{◌≡◌, ◌∷◌, [], None};
 ghost use Rattle.stream_errors.specs.Form.{modal};
 ghost use Rattle.stream_sets.specs.Range.{from_to};
-ghost use Rattle.winnow_grammar.specs.Cut.{ReadsOrAsks};
 ghost use Rattle.winnow_core.specs.Literal.Laws.{SpellsByText};
 ghost use Rattle.stream_sets.specs.Once.{TokenEqInjective};
-ghost use Rattle.grammars.specs.Grammar.{Both, Counted, Longest, Token};
+ghost use Rattle.grammars.specs.Grammar.{Both, Counted, Longest, SpelledBy, Token};
 ghost use Rattle.stream_sets.specs.Once.{Others};
+ghost use Rattle.format_resp.specs.MustAsk.{ReadsOrMustAsk};
 ghost use Rattle.grammars.specs.Grammar.Searches.{LiterallyBytes};
 
 use stream_errors::parser_error::ParserError;
@@ -25,8 +25,8 @@ use winnow_token::token::{take, take_till};
 #[inline(always)]
 pub(crate) fn token<I: StreamIsPartial, E: ParserError<I>>(input: &mut I) -> Result<I::Token, E>
     requires modal { E.form ≡ modal }
-    ensures { ReadsOrAsks I.reading I.following E.kind (Token I.seen_as) (I.view input.old) result
-        (I.view input.new) }
+    ensures { ReadsOrMustAsk I.reading I.following E.kind (Token I.seen_as) (I.view input.old)
+        result (I.view input.new) }
 {
     Any.read_cut(input)
 }
@@ -41,7 +41,8 @@ where
     requires modal { E.form ≡ modal }
     requires seen { TokenEqInjective I.seen_as }
     requires spells { SpellsByText I.spells }
-    ensures { ReadsOrAsks I.reading I.following E.kind (Both (λ o1 o2. o1)
+    requires some { SpelledBy I.spells (13 ∷ 10 ∷ []) [] → ⊥ }
+    ensures { ReadsOrMustAsk I.reading I.following E.kind (Both (λ o1 o2. o1)
         (Longest I.reading I.seen_as (Others ⟦<(u8, u8) as ContainsToken<I::Token>>⟧.tells)
         (13, 10) (from_to 0 None)) (LiterallyBytes I.reading I.spells
         (13 ∷ 10 ∷ []))) (I.view input.old)
@@ -58,7 +59,7 @@ pub(crate) fn tokens<I: StreamIsPartial + Compare<&'static str>, E: ParserError<
 ) -> Result<I::Slice, E>
     requires modal { E.form ≡ modal }
     requires spells { SpellsByText I.spells }
-    ensures { ReadsOrAsks I.reading I.following E.kind (Both (λ o1 o2. o1)
+    ensures { ReadsOrMustAsk I.reading I.following E.kind (Both (λ o1 o2. o1)
         (Counted I.reading count) (LiterallyBytes I.reading I.spells (13 ∷ 10 ∷ []))) (I.view
         input.old)
         result (I.view input.new) }

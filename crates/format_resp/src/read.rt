@@ -2,8 +2,8 @@
 
 ghost use Rattle.std.specs.Prelude.{ℕ};
 ghost use Rattle.streams.specs.Bytes.{bytes_follow, bytes_reading};
-ghost use Rattle.winnow_grammar.specs.Cut.{ReadsOrAsks};
 ghost use Rattle.winnow_grammar.specs.InTurn.{First, Led};
+ghost use Rattle.format_resp.specs.MustAsk.{ReadsOrMustAsk};
 ghost use Rattle.format_resp.specs.Resp.{AggregateBehind, Any, DataBehind, Elements, Ended};
 ghost use Rattle.format_resp.specs.Resp.{LineSays, ReplyText, SizeText};
 
@@ -30,7 +30,7 @@ fn read_on_line<'i, A: Allocator>(
     mark: LineMark,
     input: &mut Partial<&'i [u8]>,
 ) -> Result<Reply<&'i [u8], A>, ErrMode<EmptyError>>
-    ensures { ReadsOrAsks bytes_reading bytes_follow ⟦<Error as HasKind>⟧.kind
+    ensures { ReadsOrMustAsk bytes_reading bytes_follow ⟦<Error as HasKind>⟧.kind
         (First (Ended (LineSays Any mark))) (⟦<Bytes as Stream>⟧.view input.old) result
         (⟦<Bytes as Stream>⟧.view input.new) }
 {
@@ -47,7 +47,7 @@ fn read_bytes<'i, A: Allocator>(
     mark: DataMark,
     input: &mut Partial<&'i [u8]>,
 ) -> Result<Reply<&'i [u8], A>, ErrMode<EmptyError>>
-    ensures { ReadsOrAsks bytes_reading bytes_follow ⟦<Error as HasKind>⟧.kind
+    ensures { ReadsOrMustAsk bytes_reading bytes_follow ⟦<Error as HasKind>⟧.kind
         (First (Led SizeText (DataBehind mark))) (⟦<Bytes as Stream>⟧.view input.old) result
         (⟦<Bytes as Stream>⟧.view input.new) }
 {
@@ -93,7 +93,7 @@ fn read_aggregate<'i, A: Allocator + Copy>(
     mark: AggregateMark,
     input: &mut Partial<&'i [u8]>,
 ) -> Result<Reply<&'i [u8], A>, ErrMode<EmptyError>>
-    ensures { ReadsOrAsks bytes_reading bytes_follow ⟦<Error as HasKind>⟧.kind
+    ensures { ReadsOrMustAsk bytes_reading bytes_follow ⟦<Error as HasKind>⟧.kind
         (First (Led SizeText (AggregateBehind (Elements protocol level) mark)))
         (⟦<Bytes as Stream>⟧.view input.old) result (⟦<Bytes as Stream>⟧.view input.new) }
 {
@@ -124,12 +124,11 @@ fn read_aggregate<'i, A: Allocator + Copy>(
 /// nested at most `level` deep. Attributes and the reply that they belong to count as one
 /// aggregate. Each level takes some of the stack: up to [`SAFE_DEPTH`] two megabytes suffice.
 ///
-/// On complete input (a stream that is marked complete) it succeeds if and only if the input starts
-/// with such a reply, unless an allocation fails: the only errors are a backtrack and out of
-/// memory. On partial input a result holds for any continuation, and so does a backtrack; otherwise
-/// it returns `Incomplete`, and the input must be read again from its start, with more bytes. No
-/// clause specifies `Incomplete` further: that it is returned only if some continuation starts with
-/// a reply is tested.
+/// It succeeds if and only if the bytes start with such a reply, unless an allocation fails. On
+/// complete input (a stream that is marked complete) the only errors are a backtrack and out of
+/// memory. On partial input a reply holds for any continuation, and so does a backtrack; otherwise
+/// it returns `Incomplete`, and the input must be read again from its start, with more bytes. It
+/// may do so even if no continuation starts with a reply: `:abc` is rejected once its line ends.
 ///
 /// ```
 /// use format_resp::read::{SAFE_DEPTH, read_reply};
@@ -150,7 +149,7 @@ pub fn read_reply<'i, A: Allocator + Copy>(
     level: usize,
     input: &mut Partial<&'i [u8]>,
 ) -> Result<Reply<&'i [u8], A>, ErrMode<EmptyError>>
-    ensures { ReadsOrAsks bytes_reading bytes_follow ⟦<Error as HasKind>⟧.kind
+    ensures { ReadsOrMustAsk bytes_reading bytes_follow ⟦<Error as HasKind>⟧.kind
         (First (ReplyText protocol level)) (⟦<Bytes as Stream>⟧.view input.old) result
         (⟦<Bytes as Stream>⟧.view input.new) }
 {

@@ -214,8 +214,8 @@ pub fn the_slice_with_the_output_and_the_rest_are_the_input<
         (⟦<WithTaken<P, I, O, E> as Parser<I, (O, I::Slice), E>>⟧.meaning E.form) }
 {}
 
-/// On partial input a stable parser returns `Incomplete`, is out of memory, or returns the result
-/// of every longer input, partial or complete.
+/// On partial input a stable parser returns `Incomplete`, is out of memory, or has a result that
+/// every longer input has too. That it gets no other is `longer_inputs_get_partial_results`.
 pub fn longer_inputs_have_partial_results<P: Stable<I, O, E>, I: Stream, O, E: ParserError<I>>()
     ensures { E.form ≡ modal → EachSettlesOnCut I.following (P.meaning E.form) }
 {}

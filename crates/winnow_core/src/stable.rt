@@ -13,8 +13,8 @@ pub use crate::stable::one_token::ComparesOneToken;
 use stream_errors::parser_error::ParserError;
 use streams::stream::Stream;
 
-/// A parser that on partial input returns `Incomplete`, or the result that it returns on every
-/// longer input.
+/// A parser that on partial input returns `Incomplete`, or a result that every longer input has
+/// too. That it gets no other follows from outcomes: law `longer_inputs_get_partial_results`.
 ///
 /// The longer input may be partial or complete. It has the same output or kind of error, the same
 /// new state, and the same rest followed by the added tokens. Out of memory is exempt. The stream

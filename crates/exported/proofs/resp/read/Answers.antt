@@ -1,11 +1,8 @@
-use Rattle.std.proofs.Common.{◌∙◌, ap, arith, false, length, subst, sym, ℕ}
+use Rattle.std.proofs.Common.{◌∙◌, ap, arith, false, inl, inr, length, subst, sym, ℕ}
 use Rattle.std.proofs.lemmas.Bool.{true≢false}
 use Rattle.winnow.specs.Input.{Input}
-use Rattle.winnow.specs.InTurn.{First}
 use Rattle.winnow.specs.Partial.{with_flag}
-use Rattle.format_resp.specs.Resp.{ReplyText}
 use Rattle.format_resp.specs.declared.reply.Protocol.{Protocol}
-use Rattle.exported.proofs.Pieces.{none_whole, stands_whole}
 use Rattle.exported.proofs.Replies.{rejects, reply_there, reply_told, tells_deep, tells_done}
 use Rattle.exported.proofs.Replies.{tells_memory, tells_rejected, tells_waits, waits}
 use Rattle.exported.specs.Resp.{TellsReply, no_reply}
@@ -20,9 +17,9 @@ returns-in-Ok c =
     let protocol = c.version-protocol.result in
     let level = c.args.max_depth in
     let bytes = c.args.bytes.now in
-    let is = stands_whole (First (ReplyText protocol level)) bytes _ _ c.in-Ok.found
-    (c.complete.ensures.complete ∙ ap (λ (i : Input ℕ). with_flag i false) c.new-whole.ensures)
-    c.in-Ok.ensures in
+    let start = ap (λ (i : Input ℕ). i.left.tokens)
+    (c.complete.ensures.complete ∙ ap (λ (i : Input ℕ). with_flag i false) c.new-whole.ensures) in
+    let is = rw start at c.in-Ok.ensures.first in
     let left = sym (ap (λ (i : Input ℕ). length i.left.tokens) c.into_inner.ensures) in
     let P : Protocol → Type 0 = λ p. TellsReply p level bytes 0 c.reply_at.result in
     subst P c.version-protocol.ensures
@@ -60,11 +57,11 @@ returns-in-Ok-None c =
 
 pub unreachable-requires : goal.unreachable-requires
 unreachable-requires c =
-    let protocol = c.version-protocol.result in
-    let level = c.args.max_depth in
-    let bytes = c.args.bytes.now in
-    reply_there protocol level bytes c.args.alloc c.in-Ok-Some._length
-    (rw c.in-Ok-Some.field-0-is at c.in-Ok-Some.ensures)
-    (none_whole (First (ReplyText protocol level)) bytes _ _ c.in-Err.error
-    (c.complete.ensures.complete ∙ ap (λ (i : Input ℕ). with_flag i false) c.new-whole.ensures)
-    (λ m. true≢false (sym (c.is_memory.ensures.1 m) ∙ c.if-is_memory.false)) c.in-Err.ensures)
+    let start = ap (λ (i : Input ℕ). i.left.tokens)
+    (c.complete.ensures.complete ∙ ap (λ (i : Input ℕ). with_flag i false) c.new-whole.ensures) in
+    elim c.in-Err.ensures.first [
+      | inl m ↦ true≢false (sym (c.is_memory.ensures.1 m) ∙ c.if-is_memory.false)
+      | inr none ↦ reply_there c.version-protocol.result c.args.max_depth c.args.bytes.now
+          c.args.alloc c.in-Ok-Some._length
+          (rw c.in-Ok-Some.field-0-is at c.in-Ok-Some.ensures) (rw start at none)
+    ]

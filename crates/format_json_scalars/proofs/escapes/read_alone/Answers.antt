@@ -16,7 +16,7 @@ read-requires-clause-premise c = (
       none u (subst P (sym (unit_one.alike tokens o p rest other x y)) some),
 )
 
-pub returns : goal.returns
-returns c =
+pub returns-clause-reads : goal.returns-clause-reads
+returns-clause-reads c =
     reads_as (meaning_same _ _ IsAlone _ (λ o u. (λ m. search rules, λ m. search rules)))
     c.read.ensures.reads

@@ -1,4 +1,4 @@
 use Rattle.format_json_scalars.proofs.escapes.read_escape.Goals as goal
 
-pub returns : goal.returns
-returns c = c.read_escape_of.ensures
+pub returns-clause-reads : goal.returns-clause-reads
+returns-clause-reads c = c.read_escape_of.ensures.reads

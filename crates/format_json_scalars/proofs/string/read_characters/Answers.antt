@@ -1,8 +1,8 @@
 use Rattle.std.proofs.Common.{refl, sym, ◌∙◌}
-use Rattle.streams.specs.Equal.{true_is_false}
 use Rattle.streams.specs.Input.{is_end_of_trans, is_end_of_trans3}
 use Rattle.format_json_scalars.specs.Runs.{all_read, escape_read, fewer_left, run_ends, run_read}
 use Rattle.format_json_scalars.specs.Runs.{run_wants}
+use Rattle.winnow_core.specs.Exact.Failed.{not_memory}
 use Rattle.winnow_grammar.specs.Read.{reads_wanting}
 use Rattle.format_json_scalars.proofs.string.read_characters.Goals as goal
 
@@ -17,7 +17,7 @@ returns-in-Err g c = reads_wanting (run_wants _ _ c.in-Err.ensures)
 pub runs-smaller : goal.runs-smaller
 runs-smaller g c =
     fewer_left _ _ _ c.in-Ok.plain c.in-Ok-read_escape.c (c.in-Ok.ensures.stands refl)
-    (c.in-Ok-read_escape.ensures.stands refl)
+    (c.in-Ok-read_escape.ensures.reads.stands refl)
 
 pub runs-preserved : goal.runs-preserved
 runs-preserved g c = record {
@@ -25,19 +25,14 @@ runs-preserved g c = record {
       (run_read {next = c.push_str.new.self} c.in-Ok.plain c.runs.invariant.read
       (c.in-Ok.ensures.stands refl) c.in-Ok-push_str.ensures.bytes)
       (run_ends c.in-Ok.plain (c.in-Ok.ensures.stands refl))
-      (c.in-Ok-read_escape.ensures.stands refl) c.in-Ok-push.ensures.bytes;
-  ends = is_end_of_trans3 c.in-Ok-read_escape.ensures.ends c.in-Ok.ensures.ends
+      (c.in-Ok-read_escape.ensures.reads.stands refl) c.in-Ok-push.ensures.bytes;
+  ends = is_end_of_trans3 c.in-Ok-read_escape.ensures.reads.ends c.in-Ok.ensures.ends
       c.runs.invariant.ends;
 }
 
 pub returns-in-Err-push : goal.returns-in-Err-push
 returns-in-Err-push g c = reads_wanting c.no_memory-in-Err-push.ensures
-    (is_end_of_trans3 c.in-Ok-read_escape.ensures.ends c.in-Ok.ensures.ends
-    c.runs.invariant.ends)
-
-pub returns-then-is_memory : goal.returns-then-is_memory
-returns-then-is_memory g c = reads_wanting (c.is_memory.ensures.0 c.if-is_memory.true)
-    (is_end_of_trans3 c.in-Err-read_escape.ensures.ends c.in-Ok.ensures.ends
+    (is_end_of_trans3 c.in-Ok-read_escape.ensures.reads.ends c.in-Ok.ensures.ends
     c.runs.invariant.ends)
 
 pub returns-in-Err-read_escape : goal.returns-in-Err-read_escape
@@ -46,5 +41,5 @@ returns-in-Err-read_escape g c = all_read _ _ _ _
     c.in-Ok-push_str.ensures.bytes)
     (is_end_of_trans c.in-Ok.ensures.ends c.runs.invariant.ends)
     (run_ends c.in-Ok.plain (c.in-Ok.ensures.stands refl))
-    (λ want. true_is_false (sym (c.is_memory.ensures.1 want) ∙ c.if-is_memory.false))
-    c.in-Err-read_escape.ensures
+    (λ want. not_memory (sym (c.in-Err-read_escape.ensures.spared refl) ∙ want))
+    c.in-Err-read_escape.ensures.reads

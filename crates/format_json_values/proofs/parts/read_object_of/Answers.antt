@@ -2,15 +2,15 @@ use Rattle.std.proofs.Common.{ap, rules, ◌∙◌}
 use Rattle.winnow_comb.specs.Terminated.{terminated_parser}
 use Rattle.winnow_grammar.specs.Rule.{reads_as_rule, run_as}
 use Rattle.format_parts.specs.Marks.{three_by}
-use Rattle.format_json_values.specs.Pairs.{items_by}
+use Rattle.format_json_values.specs.Pairs.{first_by, items_by}
 use Rattle.format_json_values.proofs.parts.read_object_of.Given as given
 use Rattle.format_json_values.proofs.parts.read_object_of.Goals as goal
 
 pub read_items-requires-clause-item : goal.read_items-requires-clause-item
 read_items-requires-clause-item g c =
-    let first = ap (λ p. terminated_parser p) c.separated_pair.ensures.first
+    let first = ap (λ p. terminated_parser p) c.separated_pair-member.ensures.first
     ∙ c.terminated-name.ensures.parser in
-    let second = ap (λ p. terminated_parser p) c.separated_pair.ensures.second
+    let second = ap (λ p. terminated_parser p) c.separated_pair-member.ensures.second
     ∙ c.terminated-value.ensures.parser in
     let name = reads_as_rule g.S.Rule.grammar first c.by.ensures.rule c.by.ensures.run
     c.requires.name_reads in
@@ -37,18 +37,19 @@ read_items-requires-clause-item g c =
       search rules,
     )
 
-pub returns : goal.returns
-returns g c = items_by _ _ _ _ c.read_items.ensures.reads (three_by _
-    (rw (
-      c.separated_pair.ensures.first,
-      c.terminated-name.ensures.parser,
-      c.terminated-name.ensures.ignored,
-      c.by.ensures.rule,
-    ))
-    (rw c.separated_pair.ensures.separator)
-    (rw (
-      c.separated_pair.ensures.second,
-      c.terminated-value.ensures.parser,
-      c.terminated-value.ensures.ignored,
-      c.by-2.ensures.rule,
-    )))
+pub returns-clause-reads : goal.returns-clause-reads
+returns-clause-reads g c = items_by _ _ _ _ c.read_items.ensures.reads
+    (three_by _ (search rules) (search rules) (search rules))
+
+pub returns-clause-spared : goal.returns-clause-spared
+returns-clause-spared g c name value colon opening closing gap none =
+    let member = c.separated_pair-member.ensures in
+    c.read_items.ensures.spared (
+      (rw (member.first, c.terminated-name.ensures.parser, c.by.ensures.run) name, search rules),
+      search rules,
+      (
+        rw (member.second, c.terminated-value.ensures.parser, c.by-2.ensures.run) value,
+        search rules,
+      ),
+    ) opening closing gap
+    (first_by _ _ _ (three_by _ (search rules) (search rules) (search rules)) none)

@@ -39,7 +39,7 @@ pub returns-in-Ok-read_object_of-clause-grammar : goal.returns-in-Ok-read_object
 returns-in-Ok-read_object_of-clause-grammar g t c =
     let (some, first) = c.opens.ensures.yes (search rules) in
     value_object (omega (arith, some)) first (c.begins_array.ensures.no (search rules))
-    (reads_meaning IsObject c.in-Ok-read_object_of.ensures refl)
+    (reads_meaning IsObject c.in-Ok-read_object_of.ensures.reads refl)
 
 pub returns-in-Ok-read_object_of-clause-text : goal.returns-in-Ok-read_object_of-clause-text
 returns-in-Ok-read_object_of-clause-text g t c =
@@ -51,7 +51,7 @@ pub returns-in-Err-read_object_of-clause-grammar :
 returns-in-Err-read_object_of-clause-grammar g t c =
     let (some, first) = c.opens.ensures.yes (search rules) in
     value_object (omega (arith, some)) first (c.begins_array.ensures.no (search rules))
-    (reads_no_meaning IsObject c.in-Err-read_object_of.ensures)
+    (reads_no_meaning IsObject c.in-Err-read_object_of.ensures.reads)
 
 pub returns-in-Err-read_object_of-clause-text : goal.returns-in-Err-read_object_of-clause-text
 returns-in-Err-read_object_of-clause-text g t c =

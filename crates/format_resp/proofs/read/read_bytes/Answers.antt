@@ -6,42 +6,47 @@ use Rattle.format_resp.proofs.LineTexts.{size_splits}
 use Rattle.format_resp.proofs.Encodings.{alone_stood}
 use Rattle.format_resp.proofs.Bodies.{data_failed, data_none, data_stood, no_null_data}
 use Rattle.format_resp.proofs.Made.{null_bulk_is}
+use Rattle.format_resp.proofs.MustAsk.{backs, both, each}
 use Rattle.format_resp.specs.Resp.{SizeText, shape}
 use Rattle.format_resp.specs.declared.reply.Reply as made
 use Rattle.format_resp.proofs.read.read_bytes.Goals as goal
 
 pub returns-in_err-read_size : goal.returns-in_err-read_size
-returns-in_err-read_size g c = passed _ c.from_residual.result c.from_residual.ensures.1
-    (led_none SizeText _ (failed c.in_err-read_size.ensures))
+returns-in_err-read_size g c =
+    both (λ more. passed _ c.from_residual.result c.from_residual.ensures.1
+    (led_none SizeText _ (failed (each c.in_err-read_size.ensures more))))
 
 pub returns-in-Dollar : goal.returns-in-Dollar
 returns-in-Dollar g c =
-    told_ok (led_stood SizeText _ (stood c.in_ok-read_size.ensures)
-    (rw (c.in-None.is, c.in-Dollar.is) (alone_stood _ made.NullBulk (ap shape null_bulk_is))))
+    both (λ more. told_ok (led_stood SizeText _ (stood (each c.in_ok-read_size.ensures more))
+    (rw (c.in-None.is, c.in-Dollar.is) (alone_stood _ made.NullBulk (ap shape null_bulk_is)))))
 
 pub returns-in_default : goal.returns-in_default
 returns-in_default g c =
-    told_err (led_failed SizeText _ size_splits (stood c.in_ok-read_size.ensures)
-    (rw c.in-None.is (no_null_data c.args.mark c.in_default.not-Dollar c.from_input.ensures)))
+    both (λ more. told_err (led_failed SizeText _ size_splits
+    (stood (each c.in_ok-read_size.ensures more))
+    (rw c.in-None.is (no_null_data c.args.mark c.in_default.not-Dollar
+    (backs more c.from_input.ensures)))))
 
 pub returns-in_err-bytes-in-Some : goal.returns-in_err-bytes-in-Some
 returns-in_err-bytes-in-Some g c =
-    passed _ c.from_residual-in_err-bytes-in-Some.result
+    both (λ more. passed _ c.from_residual-in_err-bytes-in-Some.result
     c.from_residual-in_err-bytes-in-Some.ensures.1
-    (led_failed SizeText _ size_splits (stood c.in_ok-read_size.ensures)
+    (led_failed SizeText _ size_splits (stood (each c.in_ok-read_size.ensures more))
     (rw c.in-Some.is (data_none c.args.mark c.in-Some.size
-    (failed c.in_err-bytes-in-Some.ensures))))
+    (failed (each c.in_err-bytes-in-Some.ensures more))))))
 
 pub returns-in-Some-data_reply : goal.returns-in-Some-data_reply
 returns-in-Some-data_reply g c =
-    told_ok (led_stood SizeText _ (stood c.in_ok-read_size.ensures)
+    both (λ more. told_ok (led_stood SizeText _ (stood (each c.in_ok-read_size.ensures more))
     (rw c.in-Some.is (data_stood c.args.mark c.in-Some.size c.in_ok-bytes-in-Some.bytes
     c.in-Some-data_reply.reply c.in-Some-data_reply.ensures.some.0
-    c.in-Some-data_reply.ensures.some.1 (stood c.in_ok-bytes-in-Some.ensures))))
+    c.in-Some-data_reply.ensures.some.1 (stood (each c.in_ok-bytes-in-Some.ensures more))))))
 
 pub returns-in-None-data_reply : goal.returns-in-None-data_reply
 returns-in-None-data_reply g c =
-    told_err (led_failed SizeText _ size_splits (stood c.in_ok-read_size.ensures)
+    both (λ more. told_err (led_failed SizeText _ size_splits
+    (stood (each c.in_ok-read_size.ensures more))
     (rw c.in-Some.is (data_failed c.args.mark c.in-Some.size c.in_ok-bytes-in-Some.bytes
-    c.from_input-in-None-data_reply.ensures (c.in-None-data_reply.ensures.none refl)
-    (stood c.in_ok-bytes-in-Some.ensures))))
+    (backs more c.from_input-in-None-data_reply.ensures) (c.in-None-data_reply.ensures.none refl)
+    (stood (each c.in_ok-bytes-in-Some.ensures more))))))

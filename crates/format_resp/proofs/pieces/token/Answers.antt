@@ -1,0 +1,12 @@
+use Rattle.std.proofs.Common.{inl, refl}
+use Rattle.grammars.specs.Grammar.{Token}
+use Rattle.winnow_token.specs.Any.Inversion.{any_ok}
+use Rattle.format_resp.proofs.PieceResults.{must_ask}
+use Rattle.format_resp.proofs.pieces.token.Goals as goal
+
+pub returns : goal.returns
+unfolding Token
+returns g c =
+    must_ask refl c.read_cut.ensures.reads (c.read_cut.ensures.tells tt)
+    (λ o e. (any_ok _ g.I.Stream.reading _ _ o _ (rw e at c.read_cut.ensures.ran).0).tokens)
+    (λ o rest e. inl (o, rest, e, refl))
