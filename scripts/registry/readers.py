@@ -68,7 +68,7 @@ BRIEF = [
     ("JSON extents", ["format_json_extents"], "where the first value ends"),
     ("RESP2, RESP3", ["format_resp"], "first, incremental"),
     ("TOML 1.0", ["format_toml_document", "format_toml", "format_toml_tree"],
-        "exactly, if lines are unambiguous"),
+        "exactly"),
 ]
 
 
