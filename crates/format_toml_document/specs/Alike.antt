@@ -6,10 +6,10 @@ use Rattle.std.specs.declared.string.String.{String}
 use Rattle.grammar_outputs.specs.Pairwise.{ArePairwise, HaveSameBytes}
 use Rattle.format_toml_tree.specs.declared.value.Date.{Date}
 use Rattle.format_toml_tree.specs.declared.value.DateTime.{DateTime}
-use Rattle.format_toml_tree.specs.declared.value.DateTime as moments
+use Rattle.format_toml_tree.specs.declared.value.DateTime.TheVariants as moments
 use Rattle.format_toml_tree.specs.declared.value.Float.{Float}
 use Rattle.format_toml_tree.specs.declared.value.Item.{Item}
-use Rattle.format_toml_tree.specs.declared.value.Item as items
+use Rattle.format_toml_tree.specs.declared.value.Item.TheVariants as items
 use Rattle.format_toml_tree.specs.declared.value.Key.{Key}
 use Rattle.format_toml_tree.specs.declared.value.Offset.{Offset}
 use Rattle.format_toml_tree.specs.declared.value.Time.{Time}
