@@ -1,3 +1,6 @@
+pub mod AlikeNodes
+pub mod AlikeRuns
+pub mod AlikeValues
 pub mod Backs
 pub mod Bases
 pub mod Dates
@@ -6,6 +9,7 @@ pub mod Documents
 pub mod ErrorResults
 pub mod Escapes
 pub mod Figures
+pub mod HeldTrees
 pub mod Hexes
 pub mod Long
 pub mod LongBacks
