@@ -1,10 +1,10 @@
 -- Proofs that equivalent lines give equivalent trees, or are rejected alike.
-use Rattle.std.specs.Prelude.{◌≡◌, ℕ, List, [], ◌∷◌, Option, Result}
+use Rattle.std.specs.Prelude.{◌≡◌, ℕ, List, [], ◌∷◌, Option, Result, Ok, Err}
 use Rattle.std.proofs.Common.{refl, sym, ap, subst, inl, inr}
 use Rattle.grammar_outputs.specs.Pairwise.{ArePairwise}
 use Rattle.format_toml_document.specs.Alike.{AreAlikeEntries, AreAlikeItems, AreAlikeKeys}
 use Rattle.format_toml_document.specs.Alike.{AreAlikeLines}
-use Rattle.format_toml_document.specs.AlikeTrees.{AreAlikeTrees, AreAlikeValues}
+use Rattle.format_toml_document.specs.AlikeTrees.{AreAlikeNodes, AreAlikeTrees, AreAlikeValues}
 use Rattle.format_toml_document.proofs.AlikeNodes.{AreAlikeResults, AreAlikeStates}
 use Rattle.format_toml_document.proofs.AlikeNodes.{has_value_alike, has_value_back, key_alike}
 use Rattle.format_toml_document.proofs.AlikeNodes.{next_alike, put_alike, then_alike, within_alike}
@@ -12,12 +12,15 @@ use Rattle.format_toml_document.proofs.AlikeNodes.{within_back}
 use Rattle.format_toml_document.proofs.AlikeValues.{array_across, array_back, array_once}
 use Rattle.format_toml_document.proofs.AlikeValues.{array_or_table, table_across, table_back}
 use Rattle.format_toml_document.proofs.AlikeValues.{table_once}
+use Rattle.format_toml_document.proofs.HeldTrees.{one_held}
+use Rattle.format_toml_tree.specs.Holds.{HoldsTree}
 use Rattle.format_toml_tree.specs.Paths.{Path, placed, put}
-use Rattle.format_toml_tree.specs.Rules.{defines, adds, dots, gives, passes, valued}
+use Rattle.format_toml_tree.specs.Rules.{Node, defines, adds, dots, gives, passes, valued}
 use Rattle.format_toml_tree.specs.Runs.{Fills, FillsEntry, FillsNames, FillsPlaces, Gives, IsNext}
-use Rattle.format_toml_tree.specs.Runs.{Runs, RunsWithin, State, Tree}
+use Rattle.format_toml_tree.specs.Runs.{Runs, RunsWithin, State, Tree, empty}
 use Rattle.format_toml_tree.specs.Runs as runs
 use Rattle.format_toml_tree.specs.declared.roles.Reason.{Reason}
+use Rattle.format_toml_tree.specs.declared.tree.Slot.{Slot}
 use Rattle.format_toml_tree.specs.declared.value.Item.{Item}
 use Rattle.format_toml_tree.specs.declared.value.Item.TheVariants as items
 use Rattle.format_toml_tree.specs.declared.value.Key.{Key}
@@ -233,3 +236,24 @@ module _ {A : Type 0} where
       absurd (line_alike level f g are alike.0)
   gives_alike level {k = k} (runs.refused f) (runs.refused g) are alike =
       ap (λ why. (k, why)) (line_alike level f g are alike.0)
+
+  -- lines that have a tree are not rejected
+  pub tree_or_refusal : {P : Type 0} (level : ℕ) {depth : ℕ} {lines others : List (Option (Item A))}
+      {tree : Tree A} {refusal : ℕ × Reason}
+      → Gives depth (empty, []) 0 lines (Ok tree) → Gives depth (empty, []) 0 others (Err refusal)
+      → ArePairwise (AreAlikeLines level) lines others → P
+  tree_or_refusal level f g alike = absurd (gives_alike level f g ((λ p. inl refl), refl) alike)
+
+  -- what slots hold of the trees of equivalent lines
+  pub held_alike : (level : ℕ) {depth : ℕ} {lines others : List (Option (Item A))}
+      (slots below : List (Slot A)) {tree other given also : Tree A}
+      → Gives depth (empty, []) 0 lines (Ok tree) → Gives depth (empty, []) 0 others (Ok other)
+      → ArePairwise (AreAlikeLines level) lines others
+      → HoldsTree slots tree → HoldsTree below other → HoldsTree slots given
+      → HoldsTree below also → AreAlikeTrees given also
+  held_alike level slots below {tree} {other} {given} {also} f g alike is at has holds p =
+      let P : Node A → Type 0 = λ n. AreAlikeNodes n (also p) in
+      let Q : Node A → Type 0 = λ n. AreAlikeNodes (tree p) n in
+      subst P (one_held slots tree given is has p)
+      (subst Q (one_held below other also at holds p)
+      (gives_alike level f g ((λ q. inl refl), refl) alike p))
