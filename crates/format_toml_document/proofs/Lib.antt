@@ -1,3 +1,8 @@
+pub mod AlikeChoices
+pub mod AlikeDates
+pub mod AlikeLines
+pub mod AlikePlain
+pub mod AlikeStrings
 pub mod Backs
 pub mod Bases
 pub mod Dates
