@@ -1,5 +1,10 @@
+pub mod AlikeChoices
+pub mod AlikeDates
+pub mod AlikeLines
 pub mod AlikeNodes
+pub mod AlikePlain
 pub mod AlikeRuns
+pub mod AlikeStrings
 pub mod AlikeValues
 pub mod Backs
 pub mod Bases

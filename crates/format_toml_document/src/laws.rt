@@ -1,5 +1,6 @@
 //! Laws that follow from the contracts.
 ghost use Rattle.format_toml.specs.Toml.{DocumentText};
+ghost use Rattle.format_toml_document.specs.Alike.{AreAlikeLines};
 ghost use Rattle.format_toml_document.specs.Fault.{IsDocument, IsErrorOf, OneBegins};
 ghost use Rattle.format_toml_document.specs.declared.fault.TomlError.{TomlError};
 ghost use Rattle.format_toml_document.specs.declared.fault.TomlError.TheVariants as faults;
@@ -9,6 +10,7 @@ ghost use Rattle.format_toml_tree.specs.Runs.{Gives, Tree as Given, empty};
 ghost use Rattle.format_toml_tree.specs.declared.roles.Reason.{Reason};
 ghost use Rattle.format_toml_tree.specs.declared.tree.Tree.{Tree};
 ghost use Rattle.format_toml_tree.specs.declared.value.Item.{Item};
+ghost use Rattle.grammar_outputs.specs.Pairwise.{ArePairwise};
 ghost use Rattle.std.specs.Prelude.{◌≡◌, ◌⊎◌, ◌<◌, ◌^◌, ◌++◌, [], ℕ, List, Option, Result};
 ghost use Rattle.std.specs.Prelude.{length, true};
 ghost use Rattle.std.specs.Str.{IsUtf8, all_scalars};
@@ -33,6 +35,23 @@ pub fn a_document_is_lines_of_text<A: Allocator>()
         → IsUtf8 bytes → IsDocument A level bytes tree → IsErrorOf A level bytes fault
         → (fault ≡ faults.OutOfMemory)
         ⊎ ((at : Location) × (why : Reason) × (fault ≡ faults.Invalid at why)) }
+{}
+
+/// A text is one list of lines, whatever allocates them: the lines of the same text are pairwise
+/// equivalent. They differ at most in where their strings and lists lie.
+///
+/// ```
+/// use format_toml_document::laws::a_text_is_one_list_of_lines;
+/// use std::alloc::Allocator;
+///
+/// fn of_an_allocator<A: Allocator>() {
+///     a_text_is_one_list_of_lines::<A>();
+/// }
+/// ```
+pub fn a_text_is_one_list_of_lines<A: Allocator>()
+    ensures { (level : ℕ) (lines other : Vec (Option (Item A)) A) (text : List ℕ)
+        → DocumentText level lines text → DocumentText level other text
+        → ArePairwise (AreAlikeLines level) lines.items other.items }
 {}
 
 /// Lines give one tree, or one of them is rejected first, for one reason, and not both.
