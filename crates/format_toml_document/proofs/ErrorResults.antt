@@ -1,10 +1,10 @@
 -- Lemmas about the position and the contents of a `TomlError`.
-use Rattle.std.specs.Prelude.{◌≡◌, ◌⊎◌, ◌-◌, ℕ, List, [], ◌∷◌, ◌++◌, Option, Some, length, take}
+use Rattle.std.specs.Prelude.{◌≡◌, ◌-◌, ℕ, List, [], ◌∷◌, ◌++◌, Option, Some, length, take}
 use Rattle.std.specs.Prelude.{◌<◌, ◌^◌, Err, IfOk, Ok, Result, true}
 use Rattle.std.specs.Borrow.{Bor}
 use Rattle.std.specs.Str.{IsCharBoundary, IsUtf8, all_scalars, chars, encode_utf8_all}
 use Rattle.std.specs.declared.vec.Vec.{Vec}
-use Rattle.std.proofs.Common.{inl, inr, refl, sym, ap, subst, ◌∙◌, arith, append_assoc}
+use Rattle.std.proofs.Common.{refl, sym, ap, subst, ◌∙◌, arith, append_assoc}
 use Rattle.std.proofs.Common.{length-append}
 use Rattle.std.proofs.Math.Seq.{take-append_seam}
 use Rattle.std.proofs.lemmas.Bool.{and_from, and_parts}
@@ -14,6 +14,8 @@ use Rattle.format_toml.specs.Starts.{IsStart, line_end}
 use Rattle.format_toml.specs.Toml.{DocumentText}
 use Rattle.format_toml_document.specs.Fault.{IsAfter, IsDocument, IsErrorOf, IsLocation, IsOpening}
 use Rattle.format_toml_document.specs.Fault.{IsRefusal, IsUnexpected, NoneBegins, OneBegins}
+use Rattle.format_toml_document.proofs.AlikeLines.{texts_alike}
+use Rattle.format_toml_document.proofs.AlikeRuns.{tree_or_refusal}
 use Rattle.format_toml_document.proofs.Documents.{none_begins}
 use Rattle.format_toml_document.proofs.Thens.{scalars_parts}
 use Rattle.format_toml_document.proofs.Whole.{only_documents}
@@ -145,12 +147,13 @@ module _ (A : Type 0) (level : ℕ) (text : List ℕ) where
       let P : List ℕ → Type 0 = λ l. IsDocument A level l tree in (utf8, subst P e stands)
   document_told bytes (Err fault) utf8 e stands = tt
 
+  -- a text that has a tree has no other error
   pub document_faults : (tree : Tree A) (fault : TomlError) → IsUtf8 text
-      → IsDocument A level text tree → IsErrorOf A level text fault
-      → (fault ≡ faults.OutOfMemory)
-      ⊎ ((at : Location) × (why : Reason) × (fault ≡ faults.Invalid at why))
+      → IsDocument A level text tree → IsErrorOf A level text fault → fault ≡ faults.OutOfMemory
   document_faults tree (faults.Unexpected at what start) utf8 (lines, stands, given) told =
       absurd (told.0 lines stands)
-  document_faults tree (faults.Invalid at why) utf8 is told = inr (at, why, refl)
+  document_faults tree (faults.Invalid at why) utf8 (lines, stands, (given, f, held, within))
+      (other, has, (n, g, place)) =
+      tree_or_refusal level f g (texts_alike level lines other (chars text) stands has)
   document_faults tree (faults.NotUtf8 at) utf8 is told = absurd (told.0 utf8)
-  document_faults tree faults.OutOfMemory utf8 is told = inl refl
+  document_faults tree faults.OutOfMemory utf8 is told = refl

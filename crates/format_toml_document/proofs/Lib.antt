@@ -1,3 +1,11 @@
+pub mod AlikeChoices
+pub mod AlikeDates
+pub mod AlikeLines
+pub mod AlikeNodes
+pub mod AlikePlain
+pub mod AlikeRuns
+pub mod AlikeStrings
+pub mod AlikeValues
 pub mod Backs
 pub mod Bases
 pub mod Dates
@@ -6,6 +14,7 @@ pub mod Documents
 pub mod ErrorResults
 pub mod Escapes
 pub mod Figures
+pub mod HeldTrees
 pub mod Hexes
 pub mod Long
 pub mod LongBacks

@@ -1,15 +1,18 @@
 //! Laws that follow from the contracts.
 ghost use Rattle.format_toml.specs.Toml.{DocumentText};
+ghost use Rattle.format_toml_document.specs.Alike.{AreAlikeLines};
+ghost use Rattle.format_toml_document.specs.AlikeTrees.{AreAlikeTrees};
 ghost use Rattle.format_toml_document.specs.Fault.{IsDocument, IsErrorOf, OneBegins};
 ghost use Rattle.format_toml_document.specs.declared.fault.TomlError.{TomlError};
 ghost use Rattle.format_toml_document.specs.declared.fault.TomlError.TheVariants as faults;
-ghost use Rattle.format_toml_document.specs.declared.fault.Location.{Location};
 ghost use Rattle.format_toml_errors.specs.Stop.{IsAccepted, MayBegin};
+ghost use Rattle.format_toml_tree.specs.Holds.{HoldsTree};
 ghost use Rattle.format_toml_tree.specs.Runs.{Gives, Tree as Given, empty};
 ghost use Rattle.format_toml_tree.specs.declared.roles.Reason.{Reason};
 ghost use Rattle.format_toml_tree.specs.declared.tree.Tree.{Tree};
 ghost use Rattle.format_toml_tree.specs.declared.value.Item.{Item};
-ghost use Rattle.std.specs.Prelude.{◌≡◌, ◌⊎◌, ◌<◌, ◌^◌, ◌++◌, [], ℕ, List, Option, Result};
+ghost use Rattle.grammar_outputs.specs.Pairwise.{ArePairwise};
+ghost use Rattle.std.specs.Prelude.{◌≡◌, ◌<◌, ◌^◌, ◌++◌, [], ℕ, List, Option, Result};
 ghost use Rattle.std.specs.Prelude.{length, true};
 ghost use Rattle.std.specs.Str.{IsUtf8, all_scalars};
 ghost use Rattle.std.specs.declared.vec.Vec.{Vec};
@@ -17,8 +20,8 @@ ghost use Rattle.std.specs.declared.vec.Vec.{Vec};
 use format_toml_errors::laws::each_prefix_is_completable;
 use std::alloc::Allocator;
 
-/// If bytes have a tree, no [`TomlError`] for them is that they are not lines, or not UTF-8. It can
-/// only be that a line is rejected, or that memory allocation failed.
+/// If valid UTF-8 has a tree, the only [`TomlError`] for it is that memory allocation failed: it is
+/// lines, and no line is rejected.
 ///
 /// ```
 /// use format_toml_document::laws::a_document_is_lines_of_text;
@@ -31,8 +34,42 @@ use std::alloc::Allocator;
 pub fn a_document_is_lines_of_text<A: Allocator>()
     ensures { (level : ℕ) (bytes : List ℕ) (tree : Tree A) (fault : TomlError)
         → IsUtf8 bytes → IsDocument A level bytes tree → IsErrorOf A level bytes fault
-        → (fault ≡ faults.OutOfMemory)
-        ⊎ ((at : Location) × (why : Reason) × (fault ≡ faults.Invalid at why)) }
+        → fault ≡ faults.OutOfMemory }
+{}
+
+/// A text is one list of lines, whatever allocates them: the lines of the same text are pairwise
+/// equivalent. They differ at most in where their strings and lists lie.
+///
+/// ```
+/// use format_toml_document::laws::a_text_is_one_list_of_lines;
+/// use std::alloc::Allocator;
+///
+/// fn of_an_allocator<A: Allocator>() {
+///     a_text_is_one_list_of_lines::<A>();
+/// }
+/// ```
+pub fn a_text_is_one_list_of_lines<A: Allocator>()
+    ensures { (level : ℕ) (lines other : Vec (Option (Item A)) A) (text : List ℕ)
+        → DocumentText level lines text → DocumentText level other text
+        → ArePairwise (AreAlikeLines level) lines.items other.items }
+{}
+
+/// Bytes have one tree: two trees of the same bytes have equivalent contents at each path. They
+/// differ at most in where their strings and lists lie.
+///
+/// ```
+/// use format_toml_document::laws::a_text_has_one_tree;
+/// use std::alloc::Allocator;
+///
+/// fn of_an_allocator<A: Allocator>() {
+///     a_text_has_one_tree::<A>();
+/// }
+/// ```
+pub fn a_text_has_one_tree<A: Allocator>()
+    ensures { (level : ℕ) (bytes : List ℕ) (tree other : Tree A) (given also : Given A)
+        → IsDocument A level bytes tree → IsDocument A level bytes other
+        → HoldsTree tree.slots.items given → HoldsTree other.slots.items also
+        → AreAlikeTrees given also }
 {}
 
 /// Lines give one tree, or one of them is rejected first, for one reason, and not both.
