@@ -12,3 +12,6 @@ mod lexed;
 
 #[cfg(test)]
 mod outcomes;
+
+#[cfg(test)]
+mod slices;

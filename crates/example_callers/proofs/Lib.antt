@@ -1,7 +1,10 @@
 pub mod FoldLemmas
 pub mod ItemLemmas
+pub mod ListLemmas
 pub mod MovedRuns
 pub mod PlaceLemmas
+pub mod PrefixLemmas
 pub mod PremiseLemmas
+pub mod SliceLemmas
 pub mod TimeLemmas
 pub mod WordRuns

@@ -3,10 +3,10 @@ use Rattle.std.specs.Prelude.{◌≡◌, ◌<◌, ℕ, Bool, true, false, List, 
 use Rattle.std.specs.Prelude.{length, None, ⊤, OnErr, Result, Ok, Err}
 use Rattle.std.specs.List.{All}
 use Rattle.std.specs.Borrow.{Bor}
-use Rattle.std.proofs.Common.{refl, sym, ap, subst, inl, inr, ◌∙◌, arith, length-append}
-use Rattle.std.proofs.lemmas.List.Elements.{All-cons, All-nil, All-weaker}
+use Rattle.std.proofs.Common.{refl, sym, ap, subst, inl, inr, ◌∙◌, arith}
+use Rattle.std.proofs.lemmas.List.Elements.{All-weaker}
 use Rattle.winnow.specs.Counted.{counted_reading}
-use Rattle.winnow.specs.Equal.{none_is_some, same_first, true_is_false}
+use Rattle.winnow.specs.Equal.{none_is_some, true_is_false}
 use Rattle.winnow.specs.Stream.{AnswersSeen}
 use Rattle.winnow.specs.AsChar.{IsDecDigit}
 use Rattle.winnow.specs.Longest.{IsLongest}
@@ -19,7 +19,6 @@ use Rattle.winnow.specs.Texts.Tokens.{divides_seen, divides_where}
 use Rattle.grammar_prefixes.specs.Prefixes.{IsDelimitedBy, IsFirstInvalid, IsNonempty}
 use Rattle.grammar_prefixes.specs.Prefixes.First.{both_stops_in_first, both_stops_in_second}
 use Rattle.grammar_prefixes.specs.Prefixes.First.{itself_ends, itself_stops, members_stop}
-use Rattle.grammar_prefixes.specs.Prefixes.Parts.{between_of, members_prefix}
 use Rattle.winnow.specs.Kind.{Kind, backtrack, cut, incomplete, memory}
 use Rattle.winnow.specs.Form.{answer_by}
 use Rattle.winnow.specs.Class.Says.{class_says}
@@ -30,7 +29,9 @@ use Rattle.winnow.specs.Outcome.{Does, Outcome, Setting, asks, backs, cuts, outc
 use Rattle.winnow.specs.Then.{Comes, ComesOf, Then}
 use Rattle.winnow.specs.Then.Steps.{and_then, takes, where_took}
 use Rattle.winnow.specs.TakeWhile.Says.{InBounds, TakeWhileDoes}
-use Rattle.example_callers.specs.Times.{Digits, Minutes, TimeText}
+use Rattle.example_callers.proofs.PrefixLemmas.{digits_delimit, mark_delimits, some_digits}
+use Rattle.example_callers.proofs.PrefixLemmas.{some_marked}
+use Rattle.example_callers.specs.Times.{Digits, TimeText}
 
 -- ---- outcomes and first invalid tokens
 
@@ -182,43 +183,6 @@ colon_read at whole tokens x (inr (inr ((none, told), q))) =
 
 -- ---- the sequence
 
-some_digits : IsNonempty Digits
-unfolding Members
-some_digits =
-    let (slice, shown) = slice_for (48 ∷ []) in
-    let digit : IsDecDigit 48 = omega arith in
-    (slice, 48 ∷ [], (All-cons IsDecDigit 48 [] digit (All-nil IsDecDigit), omega arith, shown))
-
-some_minutes : IsNonempty Minutes
-unfolding BothText Spelled
-some_minutes =
-    let (slice, digits, a) = some_digits in
-    (slice, 58 ∷ digits, (58, slice, 58 ∷ [], digits, (refl, refl), a, refl, refl))
-
--- a colon is no digit
-colon_delimits : IsDelimitedBy Digits Minutes
-unfolding BothText Spelled
-colon_delimits = record {
-  apart = λ o xs t a longer (p, more, (q, r, ys, zs, (is, e), b, d, out)).
-      let (all, any) = (members_prefix counted_reading IsDecDigit 1 slice_for (xs ++ t ∷ [])).0
-      longer in
-      let digit : IsDecDigit t = between_of IsDecDigit xs t [] all in
-      omega (arith, digit, same_first (d ∙ ap (λ l. l ++ zs) e));
-}
-
--- nothing continues a colon
-digit_delimits : IsDelimitedBy (Itself 58) Digits
-unfolding Spelled
-digit_delimits = record {
-  apart = λ o xs t (is, e) (p, more, (was, f)) starts. omega (
-    arith,
-    ap (λ l. length l) e,
-    ap (λ l. length l) f,
-    length-append (xs ++ t ∷ []) more,
-    length-append xs (t ∷ []),
-  );
-}
-
 abbrev digits_says : Says ℕ (Bor (List ℕ))
 digits_says = class_says IsDecDigit 1 (λ b. b) (λ b. b) counted_reading
 
@@ -238,10 +202,12 @@ colon_comes o = and_then colon_says.does (where_took (minutes_come o))
 time_stops : (at : Setting) → at.more ≡ false → (tokens : List ℕ) (y : Outcome ℕ Found)
     → (sequence3_says digits_says colon_says digits_says).does at tokens y
     → Stops TimeText tokens y
-time_stops at whole = first_stops (λ hours minutes. (hours, minutes)) colon_delimits some_minutes at
-    digits_says.does colon_comes (digits_read at whole)
-    (λ o _. first_stops (λ colon minutes. minutes) digit_delimits some_digits at colon_says.does
-    (minutes_come o) (colon_read at whole)
+time_stops at whole =
+    let by = mark_delimits 58 (λ is. omega (arith, is)) in
+    first_stops (λ hours minutes. (hours, minutes)) by (some_marked 58) at digits_says.does
+    colon_comes (digits_read at whole)
+    (λ o _. first_stops (λ colon minutes. minutes) (digits_delimit 58) some_digits at
+    colon_says.does (minutes_come o) (colon_read at whole)
     (λ p _. last_stops digits_says.does at (digits_read at whole) (λ q. (o, p, q))))
 
 error_stops : (k : Kind) (tokens rest : List ℕ)

@@ -4,6 +4,7 @@ pub mod Items
 pub mod Lexed
 pub mod Numerals
 pub mod Places
+pub mod Prefixes
 pub mod Premises
 pub mod Times
 pub mod Words

@@ -9,9 +9,13 @@ use Rattle.winnow.specs.Texts.{BothText, Itself, Members, Text}
 abbrev pub Digits : Text ℕ (Bor (List ℕ))
 Digits = Members counted_reading IsDecDigit 1
 
+-- a mark and digits
+abbrev pub MarkedText : ℕ → Text ℕ (Bor (List ℕ))
+MarkedText mark = BothText (λ mark digits. digits) (Itself mark) Digits
+
 -- a colon and digits
 abbrev pub Minutes : Text ℕ (Bor (List ℕ))
-Minutes = BothText (λ colon minutes. minutes) (Itself 58) Digits
+Minutes = MarkedText 58
 
 -- digits, a colon and digits
 abbrev pub TimeText : Text ℕ (Bor (List ℕ) × Bor (List ℕ))

@@ -16,5 +16,7 @@ pub mod outcomes;
 pub mod percentages;
 pub mod pieces;
 pub mod places;
+pub mod prefixes;
 pub mod premises;
+pub mod slices;
 pub mod words;

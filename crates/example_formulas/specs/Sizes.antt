@@ -1,9 +1,13 @@
 -- Sizes: what their units and signs compute, and the states of their parsers.
-use Rattle.std.specs.Prelude.{◌≡◌, ◌+◌, ◌*◌, ◌^◌, ◌<◌, ℕ, pos, ⊤}
+use Rattle.std.specs.Prelude.{◌≡◌, ◌+◌, ◌*◌, ◌^◌, ◌<◌, ℕ, ℤ, pos, ⊤, Bool}
 use Rattle.winnow.specs.Alt.{alt_alternatives}
 use Rattle.winnow.specs.{AltParser, Value, Infix, Postfix}
 use Rattle.winnow.specs.Value.{value_kept, value_parser}
 use Rattle.winnow.specs.InfixCases.{Left}
+use Rattle.winnow.specs.Input.{Input}
+use Rattle.winnow.specs.OneTree.{KeepsOver}
+use Rattle.winnow.specs.OperatorGrammar.{Grammar}
+use Rattle.winnow.specs.Tree.{Tree}
 use Rattle.example_formulas.specs.declared.sizes.Sign.{Sign}
 use Rattle.example_formulas.specs.declared.sizes.Sign.TheVariants.{Plus, Times}
 use Rattle.example_formulas.specs.declared.sizes.Scale.{Scale}
@@ -48,3 +52,9 @@ SizeStates = (⊤ × ⊤) × (Marks (Postfix Scale) × Marks (Infix Sign))
 
 abbrev pub size_states : SizeStates
 size_states = ((tt, tt), (unit_marks, sign_marks))
+
+-- At each input and level, at most one tree respects precedence, and it has one end.
+abbrev pub HasOneTree : {S W T V F G H : Type 0} → Grammar S W T V F G H → S × W → Type 0
+HasOneTree {T = T} {V} {F} {G} {H} g s =
+    (level : ℤ) (i : Input T) (r u : Tree V F G H) (m n : Input T) (b c : Bool)
+    → KeepsOver g s level i r m b → KeepsOver g s level i u n c → (r ≡ u) × (m ≡ n)

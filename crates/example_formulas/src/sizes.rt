@@ -6,8 +6,8 @@ ghost use Rattle.winnow.specs.Form.{answer_by, plain};
 ghost use Rattle.winnow.specs.Bytes.{bytes_input, bytes_reading};
 ghost use Rattle.winnow.specs.Input.{IsEndOf};
 ghost use Rattle.winnow.specs.Kind.{backtrack};
-ghost use Rattle.example_formulas.specs.Sizes.{SizeStates, marks_of, sign_marks, sign_value};
-ghost use Rattle.example_formulas.specs.Sizes.{size_states, unit_marks, unit_value};
+ghost use Rattle.example_formulas.specs.Sizes.{HasOneTree, SizeStates, marks_of, sign_marks};
+ghost use Rattle.example_formulas.specs.Sizes.{sign_value, size_states, unit_marks, unit_value};
 ghost use Rattle.winnow.specs.Parts.{parts_grammar};
 ghost use Rattle.winnow.specs.Items.{Gives};
 ghost use Rattle.winnow.specs.Items.Premises.{gives_ends};
@@ -21,7 +21,7 @@ use winnow::combinator::{FoldBinary, FoldUnary, Infix, NoFold, Postfix, Prefix, 
 use winnow::error::{EmptyError, HasKind, ParserError};
 use winnow::laws::{
     Likeness, a_byte_consumes, a_choice_consumes, a_value_consumes,
-    deterministic_parts_are_stateless, expression_is_unambiguous,
+    deterministic_parts_are_stateless, expression_is_unambiguous, tree_is_unique,
 };
 use winnow::stream::Stream;
 
@@ -43,10 +43,10 @@ pub enum Sign {
     Times,
 }
 
-/// Equality of numbers.
+/// Equality.
 struct Equal;
 
-impl Likeness<u32> for Equal {
+impl<O> Likeness<O> for Equal {
     ghost alike = { λ v w. v ≡ w };
 }
 
@@ -191,4 +191,49 @@ pub fn read_size<'i, A: Allocator + Copy>(alloc: A, input: &mut &'i [u8]) -> Res
     >();
     let mut parser = expression(alloc, DecUint).postfix(units()).infix(signs());
     parser.parse_next(input)
+}
+
+/// States that sizes are unambiguous: at most one tree of the numbers, units and signs at the
+/// start of the input respects precedence at a given least power, and it ends at one position.
+/// This holds also if the value does not fit in 32 bits.
+pub fn a_size_has_one_tree()
+    ensures one { HasOneTree (parts_grammar bytes_reading.units backtrack
+        (⟦<DecUint as Parser<Bytes, u32, EmptyError>>⟧.meaning plain)
+        (⟦<Fail as Parser<Bytes, Prefix<NoFold>, EmptyError>>⟧.meaning plain)
+        (⟦<Marks<Bytes, Postfix<Scale>> as Parser<Bytes, Postfix<Scale>, EmptyError>>⟧.meaning
+        plain)
+        (⟦<Marks<Bytes, Infix<Sign>> as Parser<Bytes, Infix<Sign>, EmptyError>>⟧.meaning plain)
+        (⟦<NoFold as FoldUnary<Bytes, u32, EmptyError>>⟧.folds plain)
+        (⟦<Scale as FoldUnary<Bytes, u32, EmptyError>>⟧.folds plain)
+        (⟦<Sign as FoldBinary<Bytes, u32, EmptyError>>⟧.folds plain)) size_states }
+{
+    deterministic_parts_are_stateless::<DecUint, Bytes, u32, EmptyError>();
+    deterministic_parts_are_stateless::<
+        Marks<Bytes, Postfix<Scale>>,
+        Bytes,
+        Postfix<Scale>,
+        EmptyError,
+    >();
+    deterministic_parts_are_stateless::<
+        Marks<Bytes, Infix<Sign>>,
+        Bytes,
+        Infix<Sign>,
+        EmptyError,
+    >();
+    tree_is_unique::<
+        Bytes,
+        u32,
+        DecUint,
+        Fail,
+        Marks<Bytes, Postfix<Scale>>,
+        Marks<Bytes, Infix<Sign>>,
+        NoFold,
+        Scale,
+        Sign,
+        EmptyError,
+        Equal,
+        Equal,
+        Equal,
+        Equal,
+    >();
 }
