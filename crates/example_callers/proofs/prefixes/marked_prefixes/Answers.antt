@@ -1,4 +1,4 @@
-use Rattle.std.specs.Prelude.{◌≡◌, ℕ, [], ◌∷◌}
+use Rattle.std.specs.Prelude.{◌≡◌, ℕ, []}
 use Rattle.std.proofs.Common.{refl}
 use Rattle.winnow.specs.Texts.{Spelled}
 use Rattle.example_callers.proofs.PrefixLemmas.{digits_delimit, marked_back, marked_there}
