@@ -1,13 +1,13 @@
 -- How a stream of bits moves, by how the stream of bytes inside does.
 use Rattle.std.specs.Prelude.{◌≡◌, ℕ, zero, suc, ◌+◌, ◌*◌, ◌/◌, ◌%◌, ◌≤◌, Bool, true}
 use Rattle.std.specs.Prelude.{List, [], ◌∷◌, ◌++◌, length, take, drop}
-use Rattle.std.proofs.Common.{refl, sym, ap, subst, ◌∙◌, arith, length-append}
+use Rattle.std.proofs.Common.{refl, sym, ap, ◌∙◌, arith, length-append}
 use Rattle.std.proofs.Math.Seq.{drop-append-add, take-append-add}
 use Rattle.std.proofs.lemmas.Bool.{lt-ltb}
 use Rattle.std.proofs.lemmas.List.{drop-drop, drop-take, take-append-drop}
-use Rattle.std.proofs.lemmas.List.{length-take-le, take-append-le, take_at}
+use Rattle.std.proofs.lemmas.List.{length-take-le, take-append-le}
 use Rattle.streams.specs.ByteStream.{CountsBytes}
-use Rattle.streams.specs.Input.{Input, Passes, Takes}
+use Rattle.streams.specs.Input.{Input, Passes}
 use Rattle.streams.specs.Place.{Place, further, no_place, same_place}
 use Rattle.streams.specs.Reading.{Reading}
 use Rattle.stream_bits.specs.BitInput.{bits_from, bits_input, bits_readable}
@@ -181,23 +181,3 @@ module _ {S : Type 0} (reading : Reading ℕ S) (i j : Input ℕ) (offset bits :
             ∙ ap (λ l. drop offset l) (before m.front j.left.tokens ((offset + bits) % 8))
             ∙ ap (λ l. drop offset (bits_of m.front ++ l)) begun.1;
       }
-
-pub cut_bits : {S : Type 0} (reading : Reading ℕ S) (i j : Input ℕ) (offset bits : ℕ)
-    → Moves reading i j offset bits → (slice : S)
-    → ((front : List ℕ) → length front ≡ (offset + bits) / 8 → (rest : List ℕ)
-    → i.left.tokens ≡ front ++ rest → reading.shows slice front)
-    → (front rest : List Bool) → bits_from i.left.tokens offset ≡ front ++ rest
-    → bits ≡ length front
-    → Takes (bits_reading reading) front (bits_input i offset)
-    (slice, offset, (offset + bits) % 8) (bits_input j ((offset + bits) % 8))
-cut_bits reading i j offset bits m slice shown front rest splits at =
-    let first : passed_bits reading i j offset bits m ≡ front =
-    ap (λ l. take bits l) splits ∙ take_at front rest bits (sym at) in
-    let P : List Bool → Type 0 =
-    λ l. Takes (bits_reading reading) l (bits_input i offset)
-    (slice, offset, (offset + bits) % 8) (bits_input j ((offset + bits) % 8)) in
-    subst P first (record {
-      shown = moves_show reading i j offset bits m slice
-          (shown m.front m.whole j.left.tokens m.passes.tokens);
-      passed = moves_pass reading i j offset bits m;
-    })

@@ -1,44 +1,17 @@
 -- Bits within one byte, and bits with nothing passed.
-use Rattle.std.specs.Prelude.{◌≡◌, ℕ, ◌+◌, ◌*◌, ◌/◌, ◌%◌, ◌≤◌, ◌^◌, Bool, true, false}
+use Rattle.std.specs.Prelude.{◌≡◌, ℕ, ◌+◌, ◌*◌, ◌/◌, ◌%◌, ◌≤◌, ◌^◌, Bool, true}
 use Rattle.std.specs.Prelude.{List, [], ◌∷◌, ◌++◌, length, take, drop, ◌==◌}
 use Rattle.std.proofs.Common.{refl, sym, ap, subst, ◌∙◌, arith, length-append, length-drop}
 use Rattle.std.proofs.lemmas.List.{drop_at, take_at, take-append-le, drop-append-le}
-use Rattle.std.proofs.lemmas.List.{nil_from_length, length-take}
-use Rattle.streams.specs.Input.{Input, IsEndOf, Passes, back_at, passed_again}
+use Rattle.streams.specs.Input.{Input, Passes}
 use Rattle.streams.specs.Reading.{Reading, units-nil}
-use Rattle.std.proofs.Common.{mod-eq_of_lt}
-use Rattle.std.proofs.Math.Pow.{pow_mono}
-use Rattle.std.proofs.lemmas.Bool.{eq-eqb, ne_eqb}
 use Rattle.streams.specs.ByteStream.{CountsBytes}
 use Rattle.stream_bits.specs.BitInput.{bits_from, bits_input, bits_readable, can_be_read}
-use Rattle.stream_bits.specs.BitInput.{length_from}
 use Rattle.stream_bits.specs.Moves.{Moves, moves_pass, passed_bits, passed_length}
-use Rattle.stream_bits.specs.BitList.{bit_number, bits_cons, bits_nil, bits_of, length_low}
+use Rattle.stream_bits.specs.BitList.{bits_cons, bits_of, length_low}
 use Rattle.stream_bits.specs.BitList.{low_bits}
 use Rattle.stream_bits.specs.BitList.{low_split, number_low, number_of}
-use Rattle.stream_bits.specs.BitReading.{ShowsBits, bits_reading}
-
--- An input from which no token is passed stays.
-pub none_passed : {T S : Type 0} (reading : Reading T S) (i j : Input T) → Passes reading [] i j
-    → j ≡ i
-none_passed reading i j p =
-    let e : IsEndOf reading i i = record {
-      ends = record {
-        dropped = [];
-        tokens = refl;
-        place = sym (ap (λ n. reading.advance i.left.place n) (units-nil reading)
-            ∙ reading.advance_none i.left.place);
-        possible = refl;
-      };
-      cut = refl;
-    } in
-    passed_again e p
-
--- no token is passed by going back to where a token was taken
-pub back_passes : {T S : Type 0} (reading : Reading T S) (front : List T) (i a j : Input T)
-    → Passes reading front i a → j ≡ back_at i.left a → j ≡ i
-back_passes reading front i a j p back =
-    back ∙ ap (λ (s : _). record i { status = s }) p.status
+use Rattle.stream_bits.specs.BitReading.{bits_reading}
 
 -- and an input that stays passes none
 pub passes_none : {T S : Type 0} (reading : Reading T S) (i j : Input T) → j ≡ i
@@ -52,24 +25,6 @@ passes_none reading i j same =
       possible = refl;
       status = refl;
     })
-
--- an empty slice of bits shows none
-pub shows_none : {S : Type 0} (reading : Reading ℕ S) (slice : S) (offset : ℕ)
-    → reading.shows slice [] → ShowsBits reading (slice, offset, offset) []
-shows_none reading slice offset shown = record {
-  bytes = [];
-  begun = 0;
-  passed = shown;
-  counted = units-nil reading;
-  bits = sym (nil_from_length (drop offset (bits_of [] ++ take offset (low_bits 8 0)))
-      (omega (
-        arith,
-        ap (λ l. length l) bits_nil,
-        length-drop offset (bits_of [] ++ take offset (low_bits 8 0)),
-        length-append (bits_of []) (take offset (low_bits 8 0)),
-        length-take offset (low_bits 8 0),
-      )));
-}
 
 pub within : (x offset count least : ℕ) → offset + count + least ≡ 8
     → take count (drop offset (low_bits 8 x)) ≡ low_bits count (x / 2 ^ least)
@@ -112,12 +67,6 @@ pub record ReadsNumber {S : Type 0} (reading : Reading Bool S) (count : ℕ) (i 
   pub as_many : length bits ≡ count
   pub number : n ≡ number_of bits
   pub passes : Passes reading bits i j
-
-pub one_shifted : (count : ℕ) → count ≤ 8 → 1 * 2 ^ count % 65536 ≡ 2 ^ count
-one_shifted count few =
-    let small = pow_mono few in
-    let one : 1 * 2 ^ count ≡ 2 ^ count = omega arith in
-    ap (λ n. n % 65536) one ∙ mod-eq_of_lt (omega (arith, small))
 
 module _ {S : Type 0} (reading : Reading ℕ S) (counts : CountsBytes reading) (i j : Input ℕ)
     (x offset count least n : ℕ) (between : i.left.place.bits_read ≡ 0)
@@ -182,25 +131,3 @@ module _ {S : Type 0} (reading : Reading ℕ S) (counts : CountsBytes reading) (
         number = number;
         passes = subst P behind (moves_pass reading i k offset count m);
       }
-
-pub no_byte : (bytes : List ℕ) (offset : ℕ) → can_be_read bytes offset ≡ true → bytes ≡ []
-    → bits_from bytes offset ≡ []
-no_byte bytes offset readable none =
-    nil_from_length (bits_from bytes offset)
-    (omega (arith, length_from bytes offset readable, ap (λ l. length l) none))
-
--- one bit as a number
-pub one_bit_number : (bits : List Bool) (n : ℕ) → length bits ≡ 1 → n ≡ number_of bits
-    → bits ≡ (n == 1) ∷ []
-unfolding number_of
-one_bit_number [] n one is = absurd (omega arith)
-one_bit_number (b ∷ []) n one is = ap (λ x. x ∷ []) (bit b n (omega (arith, is)))
-  where
-    bit : (b : Bool) (n : ℕ) → n ≡ bit_number b → b ≡ (n == 1)
-    bit true n is = sym (eq-eqb n 1 is)
-    bit false n is = sym (ne_eqb n 1 (λ e. omega (arith, is, e)))
-one_bit_number (b ∷ c ∷ bits) n one is = absurd (omega arith)
-
-pub nothing_behind : {T : Type 0} (all later : List T) → all ≡ all ++ later → later ≡ []
-nothing_behind all later e =
-    nil_from_length later (omega (arith, ap (λ l. length l) e, length-append all later))

@@ -1,6 +1,7 @@
+pub mod CaselessLemmas
 pub mod CompareLemmas
 pub mod FindLemmas
-pub mod TextFindLemmas
-pub mod SeveralLemmas
-pub mod CaselessLemmas
 pub mod PlaceLemmas
+pub mod SeveralLemmas
+pub mod TextCompareLemmas
+pub mod TextFindLemmas

@@ -242,7 +242,6 @@ pub use Rattle.winnow_bits.specs.Unreadable
 pub use Rattle.winnow_expression.specs.Calls
 pub use Rattle.winnow_expression.specs.Expression
 pub use Rattle.winnow_expression.specs.Folds
-pub use Rattle.winnow_expression.specs.Loop
 pub use Rattle.winnow_expression.specs.Machine
 pub use Rattle.winnow_expression.specs.Operators
 pub use Rattle.winnow_expression.specs.Parts

@@ -1,16 +1,11 @@
 -- Numbers that are read in parts.
-use Rattle.std.specs.Prelude.{◌≡◌, ◌<◌, ◌≤◌, ◌+◌, ◌*◌, ◌%◌, ◌^◌, ℕ, Bool, List, [], ◌++◌}
+use Rattle.std.specs.Prelude.{◌≡◌, ◌<◌, ◌+◌, ◌*◌, ◌^◌, ℕ, Bool, List, ◌++◌}
 use Rattle.std.specs.Prelude.{length}
-use Rattle.std.proofs.Common.{refl, sym, ap, ◌∙◌, arith, append_assoc, length-append}
-use Rattle.std.proofs.Math.Pow.{pow_mono}
-use Rattle.std.proofs.lemmas.Bool.{lt-ltb}
+use Rattle.std.proofs.Common.{sym, ap, ◌∙◌, arith, append_assoc, length-append}
 use Rattle.streams.specs.Input.{Input, Passes}
-use Rattle.streams.specs.Place.{Place}
 use Rattle.streams.specs.Reading.{Reading}
-use Rattle.stream_bits.specs.BitInput.{bits_input}
-use Rattle.stream_bits.specs.BitReading.{bits_reading, moved}
-use Rattle.stream_bits.specs.BitList.{number_append, number_below, number_nil, number_of}
-use Rattle.stream_bits.specs.Within.{ReadsNumber, passes_none}
+use Rattle.stream_bits.specs.BitList.{number_append, number_below, number_of}
+use Rattle.stream_bits.specs.Within.{ReadsNumber}
 
 -- what is passed, and then more
 pub passes_both : {T S : Type 0} (reading : Reading T S) (front more : List T) (i j k : Input T)
@@ -22,16 +17,6 @@ passes_both reading front more i j k p q = record {
       ∙ ap (λ n. reading.advance i.left.place n) (sym (reading.units_add front more));
   possible = q.possible ∙ p.possible;
   status = q.status ∙ p.status;
-}
-
--- no bits are the number 0
-pub reads_none : {S : Type 0} (reading : Reading Bool S) (count : ℕ) (i : Input Bool) (n : ℕ)
-    → count ≡ 0 → n ≡ 0 → ReadsNumber reading count i n i
-reads_none reading count i n none zero = record {
-  bits = [];
-  as_many = sym none;
-  number = zero ∙ sym number_nil;
-  passes = passes_none reading i i refl;
 }
 
 -- the number of some bits and then more
@@ -56,13 +41,6 @@ reads_below reading count i n j r =
     let places : 2 ^ length r.bits ≡ 2 ^ count = ap (λ l. 2 ^ l) r.as_many in
     omega (arith, below, places, r.number)
 
-pub reads_within : {S : Type 0} (reading : Reading Bool S) (count width : ℕ) (i : Input Bool)
-    (n : ℕ) (j : Input Bool) → ReadsNumber reading count i n j → count ≤ width → n < 2 ^ width
-reads_within reading count width i n j r fits =
-    let below = reads_below reading count i n j r in
-    let more = pow_mono fits in
-    omega (arith, below, more)
-
 pub reads_fewer : {S : Type 0} (reading : Reading Bool S) (count : ℕ) (i : Input Bool) (n : ℕ)
     (j : Input Bool) → ReadsNumber reading count i n j
     → length i.left.tokens ≡ count + length j.left.tokens
@@ -73,24 +51,3 @@ reads_fewer reading count i n j r =
       length-append r.bits j.left.tokens,
       r.as_many,
     )
-
--- as many bits, counted in another way
-pub reads_as_many : {S : Type 0} (reading : Reading Bool S) (count other : ℕ) (i : Input Bool)
-    (n : ℕ) (j : Input Bool) → ReadsNumber reading count i n j → other ≡ count
-    → ReadsNumber reading other i n j
-reads_as_many reading count other i n j r same = record {
-  bits = r.bits;
-  as_many = r.as_many ∙ sym same;
-  number = r.number;
-  passes = r.passes;
-}
-
--- how many bits of their byte are read where bits end
-pub reads_to : {S : Type 0} (reading : Reading ℕ S) (count : ℕ) (i j : Input ℕ) (from to n : ℕ)
-    → from < 8 → ReadsNumber (bits_reading reading) count (bits_input i from) n (bits_input j to)
-    → to ≡ (from + count) % 8
-reads_to reading count i j from to n inside r =
-    ap (λ (p : Place). p.bits_read) r.passes.place
-    ∙ ap (λ b. (moved reading b (bits_input i from).left.place (length r.bits)).bits_read)
-    (lt-ltb from 8 inside)
-    ∙ ap (λ m. (from + m) % 8) r.as_many

@@ -8,7 +8,6 @@ use Rattle.winnow_core.specs.Runs.{Runs}
 use Rattle.winnow_core.specs.declared.combinator.impls.parse_iter.ParseIter.{ParseIter}
 use Rattle.winnow_core.specs.declared.combinator.impls.parse_iter.Unread.{Unread}
 pub mod Inversion
-pub mod Laws
 
 -- The position of an iterator: the start of its input and the unread input, or ended.
 pub data IterPosition (T : Type 0) : Type 0 where

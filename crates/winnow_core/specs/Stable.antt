@@ -6,7 +6,6 @@ use Rattle.streams.specs.Kind.{Kind, backtrack, cut, incomplete, memory}
 use Rattle.stream_errors.specs.Form.{Answer}
 use Rattle.winnow_core.specs.Runs.{Runs}
 pub mod Grows
-pub mod Inversion
 pub mod Longer
 pub mod Unstable
 

@@ -9,12 +9,12 @@ use Rattle.winnow_expression.specs.Calls.{Call, Open, call_at}
 use Rattle.winnow_expression.specs.Expression.{ExpressionRuns}
 use Rattle.winnow_expression.specs.Grammar.{Grammar, CallEnds, Closes, Infixes, Postfixes, Prefixes}
 use Rattle.winnow_expression.specs.Grammar.{TurnEnds}
-use Rattle.winnow_expression.specs.Expression.{CallRuns, call_ends, call_operand, call_prefix}
+use Rattle.winnow_expression.specs.Expression.{TreeRuns, call_ends, call_operand, call_prefix}
 use Rattle.winnow_expression.specs.Expression.{turn_ends, turn_postfix, turn_infix, resume_ends}
 use Rattle.winnow_expression.specs.Expression.{resume_goes}
 use Rattle.winnow_expression.specs.Machine.{AllEnd}
-use Rattle.winnow_expression.specs.Loop.{Continues, Resumed}
 use Rattle.winnow_expression.specs.declared.combinator.places.First.TheVariants.{Operand}
+use Rattle.winnow_expression.proofs.Loop.{Continues, Resumed}
 
 resumed_failure : {S W T V F G H : Type 0} (g : Grammar S W T V F G H) (xs : List (Open V F H))
     (kind : Kind) (s : S × W) (i : Input T) → Resumed g xs (Err kind) s i (Err kind) s i
@@ -110,7 +110,7 @@ pub call_fails : {S W T V F G H : Type 0} (g : Grammar S W T V F G H) (whole cal
     (z : S × W) (o : Input T) (xs : List (Open V F H)) (kind : Kind) (s : S × W) (t : S)
     (i j : Input T) → Continues g whole z o call None xs s i
     → CallEnds H g.folding.units g.first g.folding.refusal call s.0 i kind t j
-    → CallRuns g whole z o (Err kind) (t, s.1) j
+    → TreeRuns g whole z o (Err kind) (t, s.1) j
 call_fails g whole call z o xs kind s t i j known ends =
     known.leads (Err kind) (Err kind) (t, s.1) (t, s.1) j j
     (call_ends call s (t, s.1) i j kind (Err kind) ends refl refl)
@@ -121,7 +121,7 @@ pub turn_fails : {S W T V F G H : Type 0} (g : Grammar S W T V F G H) (whole cal
     (z : S × W) (o : Input T) (left : V) (xs : List (Open V F H)) (kind : Kind) (s : S × W)
     (t : W) (i j : Input T) → Continues g whole z o call (Some left) xs s i
     → TurnEnds F g.folding.units g.next g.behind g.folding.refusal call left s.1 i (Err kind) t j
-    → CallRuns g whole z o (Err kind) (s.0, t) j
+    → TreeRuns g whole z o (Err kind) (s.0, t) j
 turn_fails g whole call z o left xs kind s t i j known ends =
     known.leads (Err kind) (Err kind) (s.0, t) (s.0, t) j j
     (turn_ends call left s (s.0, t) i j (Err kind) ends refl) (resumed_failure g xs kind (s.0, t) j)
@@ -134,7 +134,7 @@ pub close_fails : {S W T V F G H : Type 0} (g : Grammar S W T V F G H) (whole ca
     → TurnEnds F g.folding.units g.next g.behind g.folding.refusal call left s.1 i
     (Ok (v, false)) t m
     → Closes g.folding x.operator x.call.turn m v (Err kind) j
-    → CallRuns g whole z o (Err kind) (s.0, t) j
+    → TreeRuns g whole z o (Err kind) (s.0, t) j
 close_fails g whole call z o left v x xs kind s t i m j known ends closes =
     known.leads (Ok (v, false)) (Err kind) (s.0, t) (s.0, t) m j
     (turn_ends call left s (s.0, t) i m (Ok (v, false)) ends refl) (
@@ -152,7 +152,7 @@ pub call_done : {S W T V F G H : Type 0} (g : Grammar S W T V F G H) (whole call
     → Continues g whole z o call (Some left) [] s i
     → TurnEnds F g.folding.units g.next g.behind g.folding.refusal call left s.1 i
     (Ok (v, false)) t j
-    → CallRuns g whole z o (Ok (v, false)) (s.0, t) j
+    → TreeRuns g whole z o (Ok (v, false)) (s.0, t) j
 call_done g whole call z o left v s t i j known ends =
     known.leads (Ok (v, false)) (Ok (v, false)) (s.0, t) (s.0, t) j j
     (turn_ends call left s (s.0, t) i j (Ok (v, false)) ends refl) (refl, refl, refl)
@@ -164,7 +164,7 @@ pub all_done : {S W T V F G H : Type 0} (g : Grammar S W T V F G H) (whole call 
     → TurnEnds F g.folding.units g.next g.behind g.folding.refusal call left s.1 i
     (Ok (v, true)) t m
     → AllEnd g.folding xs v m answer j
-    → CallRuns g whole z o (of_all answer) (s.0, t) j
+    → TreeRuns g whole z o (of_all answer) (s.0, t) j
 all_done g whole call z o left v xs s t i m j answer known ends ended =
     known.leads (Ok (v, true)) (of_all answer) (s.0, t) (s.0, t) m j
     (turn_ends call left s (s.0, t) i m (Ok (v, true)) ends refl)
@@ -173,7 +173,7 @@ all_done g whole call z o left v xs s t i m j answer known ends ended =
 -- as an expression's answer
 pub expression_all : {S W T V F G H : Type 0} (g : Grammar S W T V F G H) (level : ℤ) (z : S × W)
     (o : Input T) (answer : Answer V) (t : S × W) (j : Input T)
-    → CallRuns g (call_at level (units_left g.folding.units o)) z o (of_all answer) t j
+    → TreeRuns g (call_at level (units_left g.folding.units o)) z o (of_all answer) t j
     → ExpressionRuns g level z o answer t j
 expression_all g level z o (Ok v) t j runs = (true, runs)
 expression_all g level z o (Err kind) t j runs = runs
@@ -181,7 +181,7 @@ expression_all g level z o (Err kind) t j runs = runs
 pub expression_fails : {S W T V F G H : Type 0} (g : Grammar S W T V F G H) (level : ℤ) (z : S × W)
     (o : Input T) (answer : Answer V) (kind : Kind) (t : S × W) (j : Input T)
     → answer ≡ Err kind
-    → CallRuns g (call_at level (units_left g.folding.units o)) z o (Err kind) t j
+    → TreeRuns g (call_at level (units_left g.folding.units o)) z o (Err kind) t j
     → ExpressionRuns g level z o answer t j
 expression_fails g level z o answer kind t j e runs =
     let P : Answer _ → Type 0 = λ a. ExpressionRuns g level z o a t j in subst P (sym e) runs

@@ -2,10 +2,11 @@
 use Rattle.std.proofs.Common.{◌≡◌, ◌≤◌, ◌<◌, ◌+◌, ◌⊎◌, ℕ, Option, Some, None, List, [], ◌∷◌}
 use Rattle.std.proofs.Common.{length}
 use Rattle.std.proofs.Common.{arith, inl, inr, refl, suc, subst, sym}
-use Rattle.winnow_expression.specs.Loop.{RightOperandStarts, Nested, above, live, operand_due, rank}
 use Rattle.winnow_expression.specs.Calls.{Call, Open}
 use Rattle.winnow_expression.specs.declared.combinator.calls.Operator.{Operator}
 use Rattle.winnow_expression.specs.declared.combinator.calls.Operator.TheVariants.{Prefix, Infix}
+use Rattle.winnow_expression.proofs.Loop.{RightOperandStarts, Nested, above, live}
+use Rattle.winnow_expression.proofs.Loop.{operand_due, rank}
 
 live_low : {V F H : Type 0} (units : ℕ) (xs : List (Open V F H)) → length xs ≤ live units xs + 1
 live_low units [] = omega arith

@@ -8,7 +8,6 @@ use Rattle.winnow_expression.specs.Units.{units_left}
 use Rattle.winnow_expression.specs.Calls.{Call, Calls, Interrupts, Open, call_at}
 use Rattle.winnow_expression.specs.Grammar.{Folding, Grammar, Closes}
 use Rattle.winnow_expression.specs.Machine.{OperandStep, TurnStep}
-use Rattle.winnow_expression.specs.Loop.{Continues, Nested, RightOperandStarts, Invariant, rank}
 use Rattle.winnow_expression.proofs.EndLemmas.{popped}
 use Rattle.winnow_expression.proofs.LeadsLemmas.{leads_operand, leads_prefix, leads_infix}
 use Rattle.winnow_expression.proofs.LeadsLemmas.{leads_postfix, leads_close}
@@ -23,6 +22,8 @@ use Rattle.winnow_expression.specs.declared.combinator.calls.Operator.TheVariant
 use Rattle.winnow_expression.specs.declared.combinator.machine.Turn.TheVariants.{Ends}
 use Rattle.winnow_expression.specs.declared.combinator.machine.Turn.TheVariants.{Goes, Interrupted}
 use Rattle.winnow_expression.proofs.StepLemmas.{ends_of, goes_of, interrupted_of}
+use Rattle.winnow_expression.proofs.Loop.{Continues, Nested, RightOperandStarts, Invariant}
+use Rattle.winnow_expression.proofs.Loop.{rank}
 
 -- fewer units, or as many
 pub fewer_or_same : (m n : ℕ) → m ≤ n → (m < n) ⊎ (m ≡ n)

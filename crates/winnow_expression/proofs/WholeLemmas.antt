@@ -8,10 +8,9 @@ use Rattle.streams.specs.Kind.{Kind}
 use Rattle.winnow_core.specs.Runs.{Runs}
 use Rattle.winnow_expression.specs.Units.{units_left}
 use Rattle.winnow_expression.specs.Calls.{Call, Calls, Open, call_at}
-use Rattle.winnow_expression.specs.Expression.{CallRuns, ExpressionRuns}
+use Rattle.winnow_expression.specs.Expression.{TreeRuns, ExpressionRuns}
 use Rattle.winnow_expression.specs.Grammar.{Grammar, CallEnds, Closes}
 use Rattle.winnow_expression.specs.Machine.{AllEnd, OperandStep, TurnStep}
-use Rattle.winnow_expression.specs.Loop.{Continues, Nested, Invariant, rank}
 use Rattle.winnow_expression.proofs.LeadsLemmas.{call_fails, turn_fails}
 use Rattle.winnow_expression.proofs.LeadsLemmas.{close_fails, call_done, all_done, expression_all}
 use Rattle.winnow_expression.proofs.LeadsLemmas.{expression_fails, of_all}
@@ -20,14 +19,15 @@ use Rattle.winnow_expression.specs.declared.combinator.machine.Turn.{Turn}
 use Rattle.winnow_expression.specs.declared.combinator.machine.Turn.TheVariants.{Ends, EndsAll}
 use Rattle.winnow_expression.proofs.StepLemmas.{all_of, ends_of, failure_of}
 use Rattle.winnow_expression.proofs.StandsLemmas.{above_last}
+use Rattle.winnow_expression.proofs.Loop.{Continues, Nested, Invariant, rank}
 
 at_level : {S W T V F G H : Type 0} (g : Grammar S W T V F G H) (level given : ℤ) (z : S × W)
     (o : Input T) (a : Answer (V × Bool)) (t : S × W) (j : Input T) → given ≡ level
-    → CallRuns g (call_at given (units_left g.folding.units o)) z o a t j
-    → CallRuns g (call_at level (units_left g.folding.units o)) z o a t j
+    → TreeRuns g (call_at given (units_left g.folding.units o)) z o a t j
+    → TreeRuns g (call_at level (units_left g.folding.units o)) z o a t j
 at_level g level given z o a t j is runs =
     let P : ℤ → Type 0 =
-    λ l. CallRuns g (call_at l (units_left g.folding.units o)) z o a t j in subst P is runs
+    λ l. TreeRuns g (call_at l (units_left g.folding.units o)) z o a t j in subst P is runs
 
 pub operand_ends : {S W T V F G H : Type 0} (g : Grammar S W T V F G H) (level given : ℤ)
     (z : S × W) (o : Input T) (calls after : Calls V F H) (before : Option V) (answer : Answer V)
@@ -183,11 +183,11 @@ stands_start {V = V} {F = F} {H = H} g level given here z o calls same is presen
   where
     leads_same : {S W T V F G H : Type 0} (g : Grammar S W T V F G H) (level : ℤ) (z : S × W)
         (o : Input T) (b a : Answer (V × Bool)) (u w : S × W) (m n : Input T)
-        → CallRuns g (call_at level (units_left g.folding.units o)) z o b u m
+        → TreeRuns g (call_at level (units_left g.folding.units o)) z o b u m
         → (a ≡ b) × (w ≡ u) × (n ≡ m)
-        → CallRuns g (call_at level (units_left g.folding.units o)) z o a w n
+        → TreeRuns g (call_at level (units_left g.folding.units o)) z o a w n
     leads_same g level z o b a u w m n runs (e, f, h) =
         let C : Answer _ → _ × _ → Input _ → Type 0 =
-        λ x y k. CallRuns g (call_at level (units_left g.folding.units o)) z o x y k in
+        λ x y k. TreeRuns g (call_at level (units_left g.folding.units o)) z o x y k in
         subst (λ x. C x w n) (sym e)
         (subst (λ y. C b y n) (sym f) (subst (λ k. C b u k) (sym h) runs))

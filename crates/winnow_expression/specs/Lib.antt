@@ -3,7 +3,6 @@ pub mod Calls
 pub mod Expression
 pub mod Folds
 pub mod Grammar
-pub mod Loop
 pub mod Machine
 pub mod Operators
 pub mod Parts

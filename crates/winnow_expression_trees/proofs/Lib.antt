@@ -4,6 +4,8 @@ pub mod Left
 pub mod Opened
 pub mod Over
 pub mod Plain
+pub mod PremisesDecidedLemmas
+pub mod PremisesLemmas
 pub mod Told
 pub mod Whole
 pub mod Within

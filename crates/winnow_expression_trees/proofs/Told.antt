@@ -10,7 +10,7 @@ use Rattle.winnow_expression.specs.Units.{units_left}
 use Rattle.winnow_expression.specs.Calls.{Call, Open, call_at}
 use Rattle.winnow_expression.specs.Operators.{left_power, right_power}
 use Rattle.winnow_expression.specs.Grammar.{Grammar, TurnEnds}
-use Rattle.winnow_expression.specs.Expression.{CallRuns, TurnRuns, ResumeRuns, call_ends}
+use Rattle.winnow_expression.specs.Expression.{TreeRuns, TailRuns, JoinedRuns, call_ends}
 use Rattle.winnow_expression.specs.Expression.{call_operand, call_prefix, resume_goes}
 use Rattle.winnow_expression.specs.Expression.{turn_ends, turn_postfix, turn_infix, resume_ends}
 use Rattle.winnow_expression.specs.declared.combinator.places.First.{First}
@@ -189,7 +189,7 @@ module _ {S W T V F G H : Type 0} {g : Grammar S W T V F G H} {alike : V → V �
 
   mutual
     pub call_told : (call : Call) (s : S × W) (i : Input T) (a : Answer (V × Bool)) (t : S × W)
-        (j : Input T) → CallRuns g call s i a t j → Kept pr s → call.neither ≡ None
+        (j : Input T) → TreeRuns g call s i a t j → Kept pr s → call.neither ≡ None
         → call.began ≡ units_left g.folding.units i
         → StartsOperand g s0 level start call.least i → Told pr level start call.least i a t j
     call_told _ _ _ _ _ _ (call_ends call s t i j kind a (inl run) kept e) es none began begins =
@@ -245,7 +245,7 @@ module _ {S W T V F G H : Type 0} {g : Grammar S W T V F G H} {alike : V → V �
         (opened_prefix pr level start call fold power i m read begins began none)))
 
     turn_told : (call : Call) (left : V) (s : S × W) (i : Input T) (a : Answer (V × Bool))
-        (t : S × W) (j : Input T) → TurnRuns g call left s i a t j → Kept pr s → (at : Input T)
+        (t : S × W) (j : Input T) → TailRuns g call left s i a t j → Kept pr s → (at : Input T)
         → IsLeft pr level start call at left i → Told pr level start call.least at a t j
     turn_told _ _ _ _ _ _ _ (turn_ends call left s t i j a ended kept) es at known =
         turn_ends_told call at left s t i j a ended kept es known
@@ -302,7 +302,7 @@ module _ {S W T V F G H : Type 0} {g : Grammar S W T V F G H} {alike : V → V �
         (opened_infix pr level start call at left i o m known own.1 reaches free_)))
 
     resume_told : (x : Open V F H) (b : Answer (V × Bool)) (s : S × W) (i : Input T)
-        (a : Answer (V × Bool)) (t : S × W) (j : Input T) → ResumeRuns g x b s i a t j
+        (a : Answer (V × Bool)) (t : S × W) (j : Input T) → JoinedRuns g x b s i a t j
         → (p : ℤ) (m at : Input T)
         → Told pr level start p m b s i → Opened pr level start x p m at
         → Told pr level start x.call.least at a t j

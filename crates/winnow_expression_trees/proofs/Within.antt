@@ -7,7 +7,7 @@ use Rattle.streams.specs.Input.{Input}
 use Rattle.streams.specs.Kind.{Kind, memory}
 use Rattle.winnow_core.specs.Runs.{Runs}
 use Rattle.winnow_expression.specs.Calls.{Call, Open, call_at}
-use Rattle.winnow_expression.specs.Expression.{CallRuns, TurnRuns, ResumeRuns, call_ends}
+use Rattle.winnow_expression.specs.Expression.{TreeRuns, TailRuns, JoinedRuns, call_ends}
 use Rattle.winnow_expression.specs.Expression.{LeveledRuns}
 use Rattle.winnow_expression.specs.Expression.{call_operand, call_prefix}
 use Rattle.winnow_expression.specs.Expression.{turn_ends, turn_postfix, turn_infix, resume_ends}
@@ -152,7 +152,7 @@ module _ {S W T V F G H : Type 0} (g : Grammar S W T V F G H) (first : Runs S T 
 
     -- where the right operand fails otherwise, so does the call that waits for it
     resume_by : (x : Open V F H) (b : Answer (V × Bool)) (s : S × W) (i : Input T)
-        (a : Answer (V × Bool)) (t : S × W) (j : Input T) → ResumeRuns g x b s i a t j → Ends b i
+        (a : Answer (V × Bool)) (t : S × W) (j : Input T) → JoinedRuns g x b s i a t j → Ends b i
         → Ends a j
     resume_by _ _ _ _ _ _ _ (resume_ends x b a s t i j (inl (kind, e, failed, same)) kept)
         (k, is, refused) = (
@@ -172,8 +172,8 @@ module _ {S W T V F G H : Type 0} (g : Grammar S W T V F G H) (first : Runs S T 
 
     mutual
       call_maps : (call : Call) (s : S × W) (i : Input T) (a : Answer (V × Bool)) (t : S × W)
-          (j : Input T) → CallRuns g call s i a t j
-          → (CallRuns other call s i a t j × Fine a) ⊎ Ends a j
+          (j : Input T) → TreeRuns g call s i a t j
+          → (TreeRuns other call s i a t j × Fine a) ⊎ Ends a j
       call_maps _ _ _ _ _ _ (call_ends call s t i j kind a (inl r) kept e) =
           let (more, told) = up.firsts s.0 i (Err kind) t.0 j r in
           inl (call_ends call s t i j kind a (inl more) kept e, by e (told kind refl))
@@ -214,8 +214,8 @@ module _ {S W T V F G H : Type 0} (g : Grammar S W T V F G H) (first : Runs S T 
           ]
 
       turn_maps : (call : Call) (left : V) (s : S × W) (i : Input T) (a : Answer (V × Bool))
-          (t : S × W) (j : Input T) → TurnRuns g call left s i a t j
-          → (TurnRuns other call left s i a t j × Fine a) ⊎ Ends a j
+          (t : S × W) (j : Input T) → TailRuns g call left s i a t j
+          → (TailRuns other call left s i a t j × Fine a) ⊎ Ends a j
       turn_maps _ _ _ _ _ _ _ (turn_ends call left s t i j a ended kept) =
           elim (turn_ends_maps call left s.1 t.1 i j a ended) [
             | inl (more, told) ↦ inl (turn_ends call left s t i j a more kept, told)
@@ -253,8 +253,8 @@ module _ {S W T V F G H : Type 0} (g : Grammar S W T V F G H) (first : Runs S T 
           ]
 
       resume_maps : (x : Open V F H) (b : Answer (V × Bool)) (s : S × W) (i : Input T)
-          (a : Answer (V × Bool)) (t : S × W) (j : Input T) → ResumeRuns g x b s i a t j → Fine b
-          → (ResumeRuns other x b s i a t j × Fine a) ⊎ Ends a j
+          (a : Answer (V × Bool)) (t : S × W) (j : Input T) → JoinedRuns g x b s i a t j → Fine b
+          → (JoinedRuns other x b s i a t j × Fine a) ⊎ Ends a j
       resume_maps _ _ _ _ _ _ _
           (resume_ends x b a s t i j (inl (kind, e, failed, same)) kept) told =
           inl (

@@ -1,0 +1,3 @@
+mod CutLemmas
+mod LongerLemmas
+mod RulePiecesLemmas

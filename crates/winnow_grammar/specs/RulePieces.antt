@@ -20,11 +20,11 @@ use Rattle.winnow_core.specs.Outcome as outcome
 use Rattle.winnow_core.specs.Outcome.{Does, Outcome, grown, longer, outcome_of}
 use Rattle.winnow_core.specs.Outcome.Errors.{kind_longer}
 use Rattle.winnow_core.specs.Runs.{Meaning}
-use Rattle.winnow_core.specs.Says.{Lawful, Said, SaidAmong, Says, here, setting_of}
+use Rattle.winnow_core.specs.Says.{Lawful, Said, Says, here, setting_of}
 use Rattle.winnow_core.specs.Says.Leaf.{each_keeps}
 use Rattle.winnow_core.specs.Stable.{IsFinal, IsStable}
 use Rattle.grammars.specs.Grammar.{Grammar, IsUnique, NoMatch}
-use Rattle.winnow_grammar.specs.Cut.{ReadsCut, ReadsOrAsks}
+use Rattle.winnow_grammar.specs.Cut.{ReadsOrAsks}
 use Rattle.winnow_grammar.specs.declared.by_pieces.ByPieces.{ByPieces}
 
 -- the name of what is read
@@ -50,41 +50,12 @@ pub record HasOutcome {T O : Type 0} (does : Does T O) (form : ErrorForm) (i : I
   pub status : j.status ≡ i.status
   pub outcome : does (setting_of form i) i.left.tokens (outcome_of answer j.left.tokens)
 
--- the outcome of a call of a parser
-pub has_outcome : {S T O : Type 0} {states : S → Type 0} {says : Says T O} {s : S}
-    {meaning : Meaning S T O} → SaidAmong states says s meaning → says.premise
-    → (form : ErrorForm) (i : Input T) (answer : Answer O) (t : S) (j : Input T)
-    → meaning form s i answer t j → HasOutcome says.does form i answer j
-has_outcome {s = s} said is form i answer t j ran =
-    let did = (said.runs is).did (setting_of form i) s said.held i answer t j (here form i) ran in
-    record { status = did.status; outcome = did.done }
-
 -- Every call of the function has an outcome.
 pub record CallsTell {F I T O E : Type 0} (view : I → Input T) (kind : E → Kind)
     (form : ErrorForm) (called : F → I → Result O E → F → I → Type 0) (does : Does T O) (f : F)
     : Type 0 where
   pub tells : (x : I) (r : Result O E) (g : F) (y : I) → called f x r g y
       → HasOutcome does form (view x) (answer_by kind r) (view y)
-
--- the same for the function after a call
-pub asks_again : {F I T L O E : Type 0} (reading : Reading T L) (following : Following T)
-    (view : I → Input T) (kind : E → Kind) (called : F → I → Result O E → F → I → Type 0)
-    (grammar : Grammar T O) (f : F) (x : I) (r : Result O E) (g : F) (y : I)
-    → CallsReadOrAsk reading following view kind called grammar f → called f x r g y
-    → CallsReadOrAsk reading following view kind called grammar g
-asks_again reading following view kind called grammar f x r g y reads call =
-    subst (CallsReadOrAsk reading following view kind called grammar)
-    (sym (reads.kept x r g y call)) reads
-
-pub tells_again : {F I T L O E : Type 0} {reading : Reading T L} {following : Following T}
-    {view : I → Input T} {kind : E → Kind} {form : ErrorForm}
-    {called : F → I → Result O E → F → I → Type 0} {grammar : Grammar T O} {does : Does T O}
-    {f : F} {x : I} {r : Result O E} {g : F} {y : I}
-    → CallsReadOrAsk reading following view kind called grammar f → called f x r g y
-    → CallsTell view kind form called does f → CallsTell view kind form called does g
-tells_again {view = view} {kind} {form} {called} {does = does} {x = x} {r} {g} {y} reads call
-    tells =
-    subst (CallsTell view kind form called does) (sym (reads.kept x r g y call)) tells
 
 -- ---- what may come in several pieces
 
@@ -118,22 +89,6 @@ AllFollow following left (more ∷ others) =
 pub joined : {T : Type 0} → List (List T) → List T
 joined [] = []
 joined (more ∷ others) = more ++ joined others
-
--- chunks that may follow in sequence may follow as one
-all_follow : {T : Type 0} {following : Following T} → Joins following → (left more : List T)
-    (others : List (List T)) → following.can_follow left more
-    → AllFollow following (left ++ more) others
-    → following.can_follow left (more ++ joined others)
-unfolding joined AllFollow
-all_follow {following = following} joins left more [] first all =
-    let P : List _ → Type 0 = λ l. following.can_follow left l in
-    subst P (sym (append-nil more)) first
-all_follow {following = following} joins left more (next ∷ others) first (second, all) =
-    let P : List _ → Type 0 = λ l. following.can_follow left l in
-    let Q : List _ → Type 0 = λ l. AllFollow following l others in
-    subst P (append_assoc more next (joined others))
-    (all_follow joins left (more ++ next) others (joins.join left more next first second)
-    (subst Q (append_assoc left more next) all))
 
 -- ---- the runs that a grammar allows
 
@@ -176,47 +131,6 @@ pieces_says does alike = record {
   keeps = ⊤;
   does = does;
   alike = alike;
-}
-
--- ---- a call is such a run
-
--- the result of a call on complete input
-whole_told : {T L O E : Type 0} {reading : Reading T L} {following : Following T}
-    {kind : E → Kind} {grammar : Grammar T O} (i : Input T) (r : Result O E) (j : Input T)
-    → ReadsOrAsks reading following kind grammar i r j → i.status.cut ≡ false
-    → CompleteResult grammar i.left.tokens (answer_by kind r) j.left.tokens
-whole_told i (Ok o) j told is = told.whole.stands is
-whole_told i (Err e) j told is = told.whole.none is
-
-final_none : (P : Type 0) {Q : Type 0} (k : Kind) → IsFinal {O = P} (Err k)
-    → (k ≡ memory) ⊎ (((need : _) × (k ≡ incomplete need)) ⊎ Q) → Q
-final_none P k final (inl is) =
-    let R : Kind → Type 0 = λ l. IsFinal {O = P} (Err l) in absurd (subst R is final)
-final_none P k final (inr (inl (need, is))) =
-    let R : Kind → Type 0 = λ l. IsFinal {O = P} (Err l) in absurd (subst R is final)
-final_none P k final (inr (inr q)) = q
-
--- and on partial input
-cut_told : {T O E : Type 0} {following : Following T} {kind : E → Kind} {grammar : Grammar T O}
-    (i : Input T) (r : Result O E) (j : Input T) → ReadsCut following kind grammar i r j
-    → IsFinal (answer_by kind r) → (more : List T) → Follows following i.left more
-    → PartialResult grammar (i.left.tokens ++ more) (answer_by kind r) (j.left.tokens ++ more)
-cut_told i (Ok o) j told final more follows = told.stands more follows
-cut_told {O = O} {kind = kind} i (Err e) j told final more follows =
-    final_none O (kind e) final told.none more follows
-
-pub call_runs : {T L O E : Type 0} {reading : Reading T L} {following : Following T}
-    {kind : E → Kind} {grammar : Grammar T O} → Joins following → (i : Input T)
-    (r : Result O E) (j : Input T) → ReadsOrAsks reading following kind grammar i r j
-    → RunsInPieces reading following grammar i (answer_by kind r) j
-call_runs joins i r j told = record {
-  ends = told.whole.ends;
-  whole = λ is. whole_told i r j told is;
-  cut = λ is final more others follows all.
-      cut_told i r j (told.cut is) final (more ++ joined others) (record {
-        possible = follows.possible;
-        tokens = all_follow joins i.left.tokens more others follows.tokens all;
-      });
 }
 
 -- ---- the laws of a parser

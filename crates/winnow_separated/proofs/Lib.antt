@@ -1,3 +1,5 @@
 mod FoldLaw
+mod FoldsLemmas
+mod SeparatedInversion
 mod SeparatedLaw
 mod SeparatedLemmas

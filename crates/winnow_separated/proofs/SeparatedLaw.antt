@@ -5,8 +5,8 @@ use Rattle.stream_sets.specs.Range.{from_to, greatest_of, greatest_of-few}
 use Rattle.winnow_core.specs.Runs.{Runs}
 use Rattle.winnow_separated.specs.SeparatedLaws.{LeavesTheSeparator}
 use Rattle.winnow_separated.specs.Separated.{RangedElements, SeparatedRuns}
-use Rattle.winnow_separated.specs.Separated.Inversion.{separated_any_ok}
 use Rattle.streams.specs.Kind.{Kind}
+use Rattle.winnow_separated.proofs.SeparatedInversion.{separated_any_ok}
 
 pub leaves_the_separator : {S W T O D C : Type 0} (run : Runs S T O) (separator : Runs W T D)
     (into : Accumulator C O) (assert_kind : Kind)

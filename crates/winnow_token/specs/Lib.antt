@@ -10,4 +10,3 @@ pub mod Take
 pub mod TakeTill
 pub mod TakeUntil
 pub mod TakeWhile
-pub mod Unstable

@@ -1,13 +1,10 @@
 -- Laws of `length_and_then`.
 use Rattle.std.specs.Prelude.{◌≡◌, ℕ, Bool, false, List, Err, ◌⊎◌, ◌++◌, length, Ok}
 use Rattle.std.proofs.Common.{ap, subst, ◌∙◌, inl, inr, refl, sym, arith, length-append}
-use Rattle.streams.specs.Input.{Input, Status, Takes, passes_end}
-use Rattle.streams.specs.Place.{Place}
-use Rattle.streams.specs.Reading.{Reading, ShowsOneList}
-use Rattle.streams.specs.Stream.{IsUpdate, update_begins, update_tokens}
+use Rattle.streams.specs.Input.{Input, passes_end}
+use Rattle.streams.specs.Reading.{Reading}
 use Rattle.stream_errors.specs.Form.{ErrorForm, modal, Answer}
 use Rattle.streams.specs.Following.{Following, follows_end}
-use Rattle.winnow_core.specs.AndThen.{completed}
 use Rattle.winnow_core.specs.Ends.{same_ends}
 use Rattle.winnow_core.specs.Runs.{LeaveEnds, Runs}
 use Rattle.winnow_binary.specs.Length.Laws.{length_ends, length_grows}
@@ -41,32 +38,6 @@ length_and_then_ends number reading form counts count run ends =
     length_ends reading number count (TakenRuns reading form counts run) ends
     (λ n. taken_ends reading form counts run n)
 
--- an input that has these parts is made of them
-made_of : {T : Type 0} (now : Input T) (tokens : List T) (place : Place) (possible : Bool)
-    (status : Status) → now.left.tokens ≡ tokens → now.left.place ≡ place
-    → now.left.possible ≡ possible → now.status ≡ status
-    → now ≡ record {
-      left = record { tokens = tokens; place = place; possible = possible };
-      status = status;
-    }
-made_of {T} now tokens place possible status a b c d =
-    let make : List T → Place → Bool → Status → Input T =
-    λ t p q s. record { left = record { tokens = t; place = p; possible = q }; status = s } in
-    ap (λ t. make t now.left.place now.left.possible now.status) a
-    ∙ ap (λ p. make tokens p now.left.possible now.status) b
-    ∙ ap (λ q. make tokens place q now.status) c ∙ ap (λ s. make tokens place possible s) d
-
--- A stream over the slice of the taken tokens, marked complete, is the input of only these tokens.
-pub only_first_is : {T S : Type 0} {reading : Reading T S} {taken : List T}
-    {earlier later now : Input T} {slice : S} → ShowsOneList reading
-    → Takes reading taken earlier slice later → IsUpdate reading later slice now
-    → completed now ≡ only_first taken earlier
-only_first_is {taken = taken} {earlier = earlier} {later = later} {now = now} one takes update =
-    made_of (completed now) taken earlier.left.place earlier.left.possible
-    (record earlier.status { cut = false }) (update_tokens one takes.shown update)
-    (update_begins takes update) (update.possible ∙ takes.passed.possible)
-    (ap (λ (s : Status). record s { cut = false }) (update.status ∙ takes.passed.status))
-
 module _ {T : Type 0} {following : Following T} where
   module _ {L : Type 0} (reading : Reading T L) (counts : Bool) where
     -- the `n` tokens are an input of their own, so more input does not change the result, whatever
@@ -88,8 +59,6 @@ module _ {T : Type 0} {following : Following T} where
         → Grows following (LengthAndThenRuns number reading modal counts count run)
     length_and_then_grows number run reads =
         length_grows number (TakenRuns reading modal counts run) reads (taken_grows run)
-
--- ---- what it reads
 
 -- ---- a parser of `n` tokens
 

@@ -10,7 +10,7 @@ use Rattle.winnow_core.specs.Runs.{LeaveEnds, Runs}
 use Rattle.winnow_expression.specs.Units.{units_left}
 use Rattle.winnow_expression.specs.Expression.{ExpressionRuns, LeveledRuns}
 use Rattle.winnow_expression.specs.Grammar.{Grammar, CallEnds, Closes, ResumeEnds, TurnEnds}
-use Rattle.winnow_expression.specs.Expression.{CallRuns, TurnRuns, ResumeRuns, call_ends}
+use Rattle.winnow_expression.specs.Expression.{TreeRuns, TailRuns, JoinedRuns, call_ends}
 use Rattle.winnow_expression.specs.Expression.{call_operand, call_prefix}
 use Rattle.winnow_expression.specs.Expression.{turn_ends, turn_postfix, turn_infix, resume_ends}
 use Rattle.winnow_expression.specs.Expression.{resume_goes}
@@ -112,7 +112,7 @@ mutual
   pub call_leaves : {S W T L V F G H : Type 0} (reading : Reading T L)
       (g : Grammar S W T V F G H) → LeavesEnds reading g
       → (call : Call) (s : S × W) (i : Input T) (a : Answer (V × Bool)) (t : S × W) (j : Input T)
-      → CallRuns g call s i a t j → IsEndOf reading j i
+      → TreeRuns g call s i a t j → IsEndOf reading j i
   call_leaves {H = H} reading g ends _ _ _ _ _ _ (call_ends call s t i j kind a ended kept e) =
       call_ends_end reading H g.folding.units g.first g.folding.refusal call s.0 t.0 i j kind
       ends.first ended
@@ -130,7 +130,7 @@ mutual
   pub turn_leaves : {S W T L V F G H : Type 0} (reading : Reading T L)
       (g : Grammar S W T V F G H) → LeavesEnds reading g
       → (call : Call) (left : V) (s : S × W) (i : Input T) (a : Answer (V × Bool)) (t : S × W)
-      (j : Input T) → TurnRuns g call left s i a t j → IsEndOf reading j i
+      (j : Input T) → TailRuns g call left s i a t j → IsEndOf reading j i
   turn_leaves {F = F} reading g ends _ _ _ _ _ _ _ (turn_ends call left s t i j a ended kept) =
       turn_ends_end reading F g.folding.units g.next g.behind g.folding.refusal call left s.1
       t.1 i j a ends.next ends.behind ended
@@ -149,7 +149,7 @@ mutual
   pub resume_leaves : {S W T L V F G H : Type 0} (reading : Reading T L)
       (g : Grammar S W T V F G H) → LeavesEnds reading g
       → (x : Open V F H) (b : Answer (V × Bool)) (s : S × W) (i : Input T) (a : Answer (V × Bool))
-      (t : S × W) (j : Input T) → ResumeRuns g x b s i a t j → IsEndOf reading j i
+      (t : S × W) (j : Input T) → JoinedRuns g x b s i a t j → IsEndOf reading j i
   resume_leaves reading g ends _ _ _ _ _ _ _ (resume_ends x b a s t i j ended kept) =
       resume_ends_end reading g ends x b a i j ended
   resume_leaves reading g ends _ _ _ _ _ _ _ (resume_goes x b a s t i j m v goes turn) =

@@ -1,4 +1,5 @@
-use Rattle.grammar_prefixes.specs.Prefixes.Parts.{either_prefix, optional_prefix}
+use Rattle.grammar_prefixes.specs.Prefixes.Parts.{either_prefix}
+use Rattle.grammar_prefixes.proofs.PrefixesPartsLemmas.{optional_prefix}
 use Rattle.grammar_prefixes.proofs.laws.prefixes_of_choices.Goals as goal
 
 pub returns : goal.returns

@@ -1,6 +1,6 @@
 use Rattle.std.specs.Prelude.{◌≡◌}
 use Rattle.std.proofs.Common.{refl}
-use Rattle.grammar_prefixes.specs.Prefixes.Parts.{made_prefix}
+use Rattle.grammar_prefixes.proofs.PrefixesPartsLemmas.{made_prefix}
 use Rattle.grammar_prefixes.proofs.laws.prefixes_of_mapped_outputs.Goals as goal
 
 pub returns : goal.returns

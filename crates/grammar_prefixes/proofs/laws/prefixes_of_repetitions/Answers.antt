@@ -1,5 +1,6 @@
-use Rattle.grammar_prefixes.specs.Prefixes.Rows.{NextText, any_prefix, each_prefix, each_row}
-use Rattle.grammar_prefixes.specs.Prefixes.Rows.{each_some, parted_row, some_prefix}
+use Rattle.grammar_prefixes.specs.Prefixes.Rows.{NextText}
+use Rattle.grammar_prefixes.proofs.PrefixesRowsLemmas.{any_prefix, each_prefix, each_row, each_some}
+use Rattle.grammar_prefixes.proofs.PrefixesRowsLemmas.{parted_row, some_prefix}
 use Rattle.grammar_prefixes.proofs.laws.prefixes_of_repetitions.Goals as goal
 
 pub returns : goal.returns

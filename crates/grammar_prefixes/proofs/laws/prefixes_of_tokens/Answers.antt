@@ -1,4 +1,5 @@
-use Rattle.grammar_prefixes.specs.Prefixes.Parts.{members_prefix, spelled_prefix, token_of_prefix}
+use Rattle.grammar_prefixes.specs.Prefixes.Parts.{members_prefix, spelled_prefix}
+use Rattle.grammar_prefixes.proofs.PrefixesPartsLemmas.{token_of_prefix}
 use Rattle.grammar_prefixes.proofs.laws.prefixes_of_tokens.Goals as goal
 
 pub returns : goal.returns

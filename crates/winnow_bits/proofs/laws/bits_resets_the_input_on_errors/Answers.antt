@@ -1,4 +1,4 @@
-use Rattle.winnow_bits.specs.BitLaws.{bits_stay}
+use Rattle.winnow_bits.proofs.BitLemmas.{bits_stay}
 use Rattle.winnow_bits.proofs.laws.bits_resets_the_input_on_errors.Goals as goal
 
 pub returns : goal.returns

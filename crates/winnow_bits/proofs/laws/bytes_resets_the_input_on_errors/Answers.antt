@@ -1,5 +1,5 @@
 use Rattle.stream_bits.specs.BitReading.{bits_reading}
-use Rattle.winnow_bits.specs.BitLaws.{bytes_stay}
+use Rattle.winnow_bits.proofs.BitLemmas.{bytes_stay}
 use Rattle.winnow_bits.proofs.laws.bytes_resets_the_input_on_errors.Goals as goal
 
 pub returns : goal.returns

@@ -1,5 +1,5 @@
 use Rattle.stream_bits.specs.BitReading.{bits_reading}
-use Rattle.winnow_bits.specs.BitLaws.{first_bits}
+use Rattle.winnow_bits.proofs.BitLemmas.{first_bits}
 use Rattle.winnow_bits.proofs.laws.taken_bits_and_the_rest_are_the_input.Goals as goal
 
 pub returns : goal.returns

@@ -1,4 +1,4 @@
-use Rattle.winnow_core.specs.Stable.Inversion.{each_settles}
+use Rattle.winnow_core.proofs.StableInversion.{each_settles}
 use Rattle.winnow_core.proofs.laws.longer_inputs_have_partial_results.Goals as goal
 
 pub returns : goal.returns

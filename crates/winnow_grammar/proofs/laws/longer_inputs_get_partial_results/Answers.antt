@@ -1,4 +1,4 @@
-use Rattle.winnow_grammar.specs.Longer.{no_other_on_longer}
+use Rattle.winnow_grammar.proofs.LongerLemmas.{no_other_on_longer}
 use Rattle.winnow_grammar.proofs.laws.longer_inputs_get_partial_results.Goals as goal
 
 pub returns : goal.returns

@@ -1,7 +1,7 @@
 use Rattle.stream_errors.specs.Form.{assert_kind}
 use Rattle.winnow_core.specs.Says.Decided.{decided_of}
-use Rattle.winnow_separated.specs.FoldLaws.{decided_consumes, decided_decides}
 use Rattle.winnow_separated.proofs.FoldLaw.{fold_the_same}
+use Rattle.winnow_separated.proofs.FoldsLemmas.{decided_consumes, decided_decides}
 use Rattle.winnow_separated.proofs.laws.separated_folds_agree.Goals as goal
 
 pub returns-clause-of_runs : goal.returns-clause-of_runs

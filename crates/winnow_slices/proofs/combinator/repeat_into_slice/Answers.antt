@@ -2,8 +2,8 @@ use Rattle.std.proofs.Common.{refl}
 use Rattle.stream_errors.specs.Form.{assert_kind}
 use Rattle.winnow_core.specs.Says.{kept_by, told}
 use Rattle.winnow_slices.specs.IntoSlice.{TooManyKind}
-use Rattle.winnow_slices.specs.IntoSlice.Exact.{into_slice_reads}
 use Rattle.winnow_slices.specs.IntoSlice.Says.{into_slice_said}
+use Rattle.winnow_slices.proofs.IntoSliceExactLemmas.{into_slice_reads}
 use Rattle.winnow_slices.proofs.combinator.repeat_into_slice.Goals as goal
 
 pub returns-clause-tells : goal.returns-clause-tells

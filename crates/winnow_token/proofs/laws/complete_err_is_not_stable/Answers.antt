@@ -1,4 +1,4 @@
-use Rattle.winnow_token.specs.Unstable.{complete_err_unstable}
+use Rattle.winnow_token.proofs.UnstableLemmas.{complete_err_unstable}
 use Rattle.winnow_token.proofs.laws.complete_err_is_not_stable.Goals as goal
 
 pub returns : goal.returns

@@ -1,4 +1,4 @@
-use Rattle.winnow_token.specs.Unstable.{rest_unstable}
+use Rattle.winnow_token.proofs.UnstableLemmas.{rest_unstable}
 use Rattle.winnow_token.proofs.laws.rest_is_not_stable.Goals as goal
 
 pub returns : goal.returns

@@ -1,5 +1,5 @@
 use Rattle.grammar_prefixes.specs.Prefixes.First.{either_stops_in_first, either_stops_in_second}
-use Rattle.grammar_prefixes.specs.Prefixes.First.{optional_stops}
+use Rattle.grammar_prefixes.proofs.PrefixesFirstLemmas.{optional_stops}
 use Rattle.grammar_prefixes.proofs.laws.first.first_invalid_in_choices.Goals as goal
 
 pub returns : goal.returns

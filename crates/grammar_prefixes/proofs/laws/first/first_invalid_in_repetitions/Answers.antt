@@ -1,6 +1,7 @@
-use Rattle.grammar_prefixes.specs.Prefixes.First.{any_stops, each_delimits, none_invalid}
-use Rattle.grammar_prefixes.specs.Prefixes.First.{stops_after_one, stops_in_one}
-use Rattle.grammar_prefixes.specs.Prefixes.Rows.{NextText, each_row, each_some, parted_row}
+use Rattle.grammar_prefixes.specs.Prefixes.Rows.{NextText}
+use Rattle.grammar_prefixes.proofs.PrefixesFirstLemmas.{any_stops, each_delimits, none_invalid}
+use Rattle.grammar_prefixes.proofs.PrefixesFirstLemmas.{stops_after_one, stops_in_one}
+use Rattle.grammar_prefixes.proofs.PrefixesRowsLemmas.{each_row, each_some, parted_row}
 use Rattle.grammar_prefixes.proofs.laws.first.first_invalid_in_repetitions.Goals as goal
 
 pub returns : goal.returns

@@ -1,8 +1,9 @@
 use Rattle.std.proofs.Common.{sym, ap, ◌∙◌, ◌-◌, ◌*◌, ◌/◌, ◌%◌, ◌^◌, ◌∷◌, [], arith}
 use Rattle.stream_bits.specs.BitInput.{bits_input}
 use Rattle.streams.specs.Input.{back_at}
-use Rattle.stream_bits.specs.Within.{back_passes, no_byte, one_shifted, reads_inside}
+use Rattle.stream_bits.specs.Within.{reads_inside}
 use Rattle.stream_bits.specs.Within.{reads_last}
+use Rattle.stream_bits.proofs.WithinLemmas.{back_passes, no_byte, one_shifted}
 use Rattle.stream_bits.proofs.bits.Bits.next_of_byte.Goals as goal
 
 pub returns-in_err-byte : goal.returns-in_err-byte

@@ -2,7 +2,7 @@ use Rattle.std.proofs.lemmas.List.{append-nil}
 use Rattle.stream_bits.specs.BitInput.{bits_from}
 use Rattle.std.proofs.Common.{subst, sym, [], ℕ}
 use Rattle.stream_bits.specs.BitReading.{IsBitPosition}
-use Rattle.stream_bits.specs.Within.{nothing_behind}
+use Rattle.stream_bits.proofs.WithinLemmas.{nothing_behind}
 use Rattle.stream_bits.proofs.bits.BitsStream.finish.Goals as goal
 
 pub returns-clause-takes : goal.returns-clause-takes

@@ -2,7 +2,8 @@ use Rattle.std.proofs.Common.{sym, ap, ◌∙◌, ◌≡◌, arith, length, drop
 use Rattle.streams.specs.Stream.{length-with_offsets, with_offsets}
 use Rattle.stream_bits.specs.BitInput.{bits_from, bits_readable, readable_says}
 use Rattle.stream_bits.specs.BitList.{bits_of}
-use Rattle.stream_bits.specs.Offsets.{bytes_to_come, bytes_with_offsets, same_from_start}
+use Rattle.stream_bits.specs.Offsets.{bytes_to_come}
+use Rattle.stream_bits.proofs.OffsetsLemmas.{bytes_with_offsets, same_from_start}
 use Rattle.stream_bits.proofs.bits.BitsStream.iter_offsets.Goals as goal
 
 counted : (units : List ℕ → ℕ) (bytes : List ℕ) (given : List (ℕ × ℕ))

@@ -5,8 +5,10 @@ use Rattle.streams.specs.Input.{Takes, takes_end}
 use Rattle.streams.specs.Reading.{units-nil}
 use Rattle.stream_bits.specs.BitInput.{bits_input, readable_says, some_readable}
 use Rattle.stream_bits.specs.BitReading.{bits_reading}
-use Rattle.stream_bits.specs.Moves.{Moves, cut_bits}
-use Rattle.stream_bits.specs.Within.{none_passed, passes_none, shows_none}
+use Rattle.stream_bits.specs.Moves.{Moves}
+use Rattle.stream_bits.specs.Within.{passes_none}
+use Rattle.stream_bits.proofs.MovesLemmas.{cut_bits}
+use Rattle.stream_bits.proofs.WithinLemmas.{none_passed, shows_none}
 use Rattle.stream_bits.proofs.bits.BitsStream.next_slice.Goals as goal
 
 pub returns-then-offset-eq0-clause-cuts : goal.returns-then-offset-eq0-clause-cuts

@@ -2,7 +2,7 @@ use Rattle.std.proofs.Common.{subst, List, Bool}
 use Rattle.streams.specs.Input.{Passes}
 use Rattle.stream_bits.specs.BitInput.{bits_input}
 use Rattle.stream_bits.specs.BitReading.{bits_reading}
-use Rattle.stream_bits.specs.Within.{one_bit_number}
+use Rattle.stream_bits.proofs.WithinLemmas.{one_bit_number}
 use Rattle.stream_bits.proofs.bits.BitsStream.next_token.Goals as goal
 
 pub returns-in_ok-number-clause-passes : goal.returns-in_ok-number-clause-passes

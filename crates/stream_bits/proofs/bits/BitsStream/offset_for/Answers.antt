@@ -5,7 +5,7 @@ use Rattle.std.proofs.lemmas.List.{append-nil, map-append}
 use Rattle.std.proofs.lemmas.List.Elements.{All-push}
 use Rattle.streams.specs.Stream.{AnswersSeen}
 use Rattle.stream_bits.specs.BitInput.{bits_from}
-use Rattle.stream_bits.specs.Offsets.{given_more, stands_at, tokens_given}
+use Rattle.stream_bits.proofs.OffsetsLemmas.{given_more, stands_at, tokens_given}
 use Rattle.stream_bits.proofs.bits.BitsStream.offset_for.Goals as goal
 
 pub returns-then-test : goal.returns-then-test

@@ -1,7 +1,7 @@
 use Rattle.std.proofs.Common.{sym, ap, ◌∙◌, ◌-◌, arith, true, drop, length}
 use Rattle.stream_bits.specs.BitList.{bits_of}
-use Rattle.stream_bits.specs.Offsets.{byte_given, bytes_to_come, first_begun, length_to_come}
-use Rattle.stream_bits.specs.Offsets.{none_ahead}
+use Rattle.stream_bits.specs.Offsets.{bytes_to_come}
+use Rattle.stream_bits.proofs.OffsetsLemmas.{byte_given, first_begun, length_to_come, none_ahead}
 use Rattle.stream_bits.proofs.offsets.BitOffsets.new.Goals as goal
 
 pub invariant_of-result : goal.invariant_of-result

@@ -1,6 +1,7 @@
 use Rattle.std.proofs.Common.{ap, ◌≡◌, arith, length, ◌==◌, ◌∷◌, ◌/◌, ◌%◌, ◌^◌}
 use Rattle.streams.specs.Stream.{with_offsets}
-use Rattle.stream_bits.specs.Offsets.{bits_to_come, byte_given, last_bit, next_bit, next_byte}
+use Rattle.stream_bits.specs.Offsets.{bits_to_come}
+use Rattle.stream_bits.proofs.OffsetsLemmas.{byte_given, last_bit, next_bit, next_byte}
 use Rattle.stream_bits.proofs.offsets.BitOffsetsIterator.next.Goals as goal
 
 -- the bits before and after the first one of a byte

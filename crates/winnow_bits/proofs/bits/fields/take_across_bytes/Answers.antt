@@ -1,8 +1,8 @@
 use Rattle.std.proofs.Common.{◌+◌, ◌*◌, ◌-◌, ◌^◌, ◌∙◌, arith, refl}
 use Rattle.stream_bits.specs.BitInput.{readable_says}
 use Rattle.stream_bits.specs.BitReading.{bits_reading}
-use Rattle.winnow_bits.specs.InParts.{reads_as_many, reads_below, reads_both, reads_fewer, reads_to}
-use Rattle.winnow_bits.specs.InParts.{reads_within}
+use Rattle.winnow_bits.specs.InParts.{reads_below, reads_both, reads_fewer}
+use Rattle.winnow_bits.proofs.InPartsLemmas.{reads_as_many, reads_to, reads_within}
 use Rattle.winnow_bits.proofs.bits.fields.take_across_bytes.Goals as goal
 
 pub loop-missing-init : goal.loop-missing-init

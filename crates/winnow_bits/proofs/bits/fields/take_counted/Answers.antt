@@ -1,7 +1,7 @@
 use Rattle.std.proofs.Common.{refl, inl, arith}
 use Rattle.stream_bits.specs.BitInput.{bits_input}
 use Rattle.stream_bits.specs.BitReading.{bits_reading}
-use Rattle.winnow_bits.specs.InParts.{reads_none}
+use Rattle.winnow_bits.proofs.InPartsLemmas.{reads_none}
 use Rattle.winnow_bits.proofs.bits.fields.take_counted.Goals as goal
 
 pub returns-then-count-eq0-clause-ran : goal.returns-then-count-eq0-clause-ran

@@ -1,6 +1,7 @@
 use Rattle.std.proofs.Common.{◌+◌, ◌*◌, ◌-◌, ◌^◌, arith, refl}
 use Rattle.stream_bits.specs.BitReading.{bits_reading}
-use Rattle.winnow_bits.specs.InParts.{reads_below, reads_both, reads_within}
+use Rattle.winnow_bits.specs.InParts.{reads_below, reads_both}
+use Rattle.winnow_bits.proofs.InPartsLemmas.{reads_within}
 use Rattle.winnow_bits.proofs.bits.fields.take_of_two_bytes.Goals as goal
 
 pub push_bits-requires-clause-below : goal.push_bits-requires-clause-below

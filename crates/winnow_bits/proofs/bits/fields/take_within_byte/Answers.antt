@@ -1,6 +1,7 @@
 use Rattle.std.proofs.Common.{◌≡◌, ◌+◌, ◌*◌, ◌^◌, ◌<◌, arith, sym, subst}
 use Rattle.stream_bits.specs.BitReading.{bits_reading}
-use Rattle.winnow_bits.specs.InParts.{reads_below, reads_within}
+use Rattle.winnow_bits.specs.InParts.{reads_below}
+use Rattle.winnow_bits.proofs.InPartsLemmas.{reads_within}
 use Rattle.winnow_bits.proofs.bits.fields.take_within_byte.Goals as goal
 
 pub push_bits-requires-clause-below : goal.push_bits-requires-clause-below

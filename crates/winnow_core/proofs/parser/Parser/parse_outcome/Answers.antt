@@ -1,4 +1,4 @@
-use Rattle.winnow_core.specs.Says.Whole.{all_outcome}
+use Rattle.winnow_core.proofs.SaysWholeLemmas.{all_outcome}
 use Rattle.winnow_core.proofs.parser.Parser.parse_outcome.Goals as goal
 
 pub returns-clause-tells : goal.returns-clause-tells

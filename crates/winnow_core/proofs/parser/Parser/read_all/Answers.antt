@@ -1,4 +1,4 @@
-use Rattle.winnow_core.specs.Exact.Whole.{all_spared, all_told}
+use Rattle.winnow_core.proofs.ExactWholeLemmas.{all_spared, all_told}
 use Rattle.winnow_core.proofs.parser.Parser.read_all.Goals as goal
 
 pub returns-clause-reads : goal.returns-clause-reads

@@ -1,4 +1,4 @@
-use Rattle.winnow_core.specs.Stable.Inversion.{each_settles}
+use Rattle.winnow_core.proofs.StableInversion.{each_settles}
 use Rattle.winnow_core.proofs.stable.Stable.parse_cut.Goals as goal
 
 pub returns-clause-settles : goal.returns-clause-settles

@@ -4,7 +4,7 @@ use Rattle.streams.specs.Input.{IsEndOf}
 use Rattle.stream_errors.specs.Form.{assert_kind}
 use Rattle.winnow_expression.specs.Units.{units_left}
 use Rattle.winnow_expression.specs.Calls.{call_at, call_of, calls_of, opens_of}
-use Rattle.winnow_expression.specs.Loop.{Invariant, rank}
+use Rattle.winnow_expression.proofs.Loop.{Invariant, rank}
 use Rattle.winnow_expression.proofs.combinator.machine.expression_from.Given as goal
 
 abbrev pub invariant-places : goal.invariant-places

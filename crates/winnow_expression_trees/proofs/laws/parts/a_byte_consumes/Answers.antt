@@ -1,4 +1,4 @@
-use Rattle.winnow_expression_trees.specs.Premises.Decided.{byte_moves}
+use Rattle.winnow_expression_trees.proofs.PremisesDecidedLemmas.{byte_moves}
 use Rattle.winnow_expression_trees.proofs.laws.parts.a_byte_consumes.Goals as goal
 
 pub returns : goal.returns

@@ -1,4 +1,4 @@
-use Rattle.winnow_expression_trees.specs.Premises.Decided.{choice_moves}
+use Rattle.winnow_expression_trees.proofs.PremisesDecidedLemmas.{choice_moves}
 use Rattle.winnow_expression_trees.proofs.laws.parts.a_choice_consumes.Goals as goal
 
 pub returns : goal.returns

@@ -1,4 +1,4 @@
-use Rattle.winnow_expression_trees.specs.Premises.Decided.{value_moves}
+use Rattle.winnow_expression_trees.proofs.PremisesDecidedLemmas.{value_moves}
 use Rattle.winnow_expression_trees.proofs.laws.parts.a_value_consumes.Goals as goal
 
 pub returns : goal.returns

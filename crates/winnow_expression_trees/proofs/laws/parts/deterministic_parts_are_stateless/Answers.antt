@@ -1,5 +1,5 @@
 use Rattle.winnow_core.specs.Says.Decided.{decided_of}
-use Rattle.winnow_expression_trees.specs.Premises.Decided.{decided_stateless}
+use Rattle.winnow_expression_trees.proofs.PremisesDecidedLemmas.{decided_stateless}
 use Rattle.winnow_expression_trees.proofs.laws.parts.deterministic_parts_are_stateless.Goals as goal
 
 pub returns : goal.returns

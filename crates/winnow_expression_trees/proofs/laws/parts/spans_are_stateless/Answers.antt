@@ -1,4 +1,4 @@
-use Rattle.winnow_expression_trees.specs.Premises.Laws.{span_stateless, with_span_stateless}
+use Rattle.winnow_expression_trees.proofs.PremisesLemmas.{span_stateless, with_span_stateless}
 use Rattle.winnow_expression_trees.proofs.laws.parts.spans_are_stateless.Goals as goal
 
 pub returns : goal.returns

@@ -1,6 +1,6 @@
 use denote.Param.Always.{mut_next}
 use Rattle.std.proofs.Common.{refl}
-use Rattle.winnow_grammar.specs.RulePieces.{asks_again, call_runs, tells_again}
+use Rattle.winnow_grammar.proofs.RulePiecesLemmas.{asks_again, call_runs, tells_again}
 use Rattle.winnow_grammar.proofs.by_pieces.ByPiecesParser.parse_next.Goals as goal
 
 pub returns-clause-again : goal.returns-clause-again

@@ -1,7 +1,7 @@
 use Rattle.winnow_core.specs.Exact.Allowed.{softly}
 use Rattle.winnow_core.specs.Says.{told}
-use Rattle.winnow_grammar.specs.Cut.{told_or_asked}
-use Rattle.winnow_grammar.specs.RulePieces.{has_outcome}
+use Rattle.winnow_grammar.proofs.CutLemmas.{told_or_asked}
+use Rattle.winnow_grammar.proofs.RulePiecesLemmas.{has_outcome}
 use Rattle.winnow_grammar.proofs.pieces.ReadsPieces.read_cut.Goals as goal
 
 pub returns-clause-reads : goal.returns-clause-reads

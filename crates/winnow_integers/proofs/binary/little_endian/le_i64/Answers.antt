@@ -2,7 +2,7 @@
 use Rattle.std.proofs.Common.{rules}
 use Rattle.std.specs.Int.{w64}
 use Rattle.winnow_integers.specs.Integer.Laws.{integer_made}
-use Rattle.winnow_integers.specs.Integer.Std.{signed_le}
+use Rattle.winnow_integers.proofs.IntegerStdLemmas.{signed_le}
 use Rattle.winnow_integers.proofs.binary.little_endian.le_i64.Goals as goal
 
 pub returns-clause-ran : goal.returns-clause-ran

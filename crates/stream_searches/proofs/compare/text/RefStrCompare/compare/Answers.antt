@@ -2,7 +2,7 @@ use Rattle.std.proofs.Common.{List, ℕ, subst}
 use Rattle.std.specs.Str.{chars}
 use Rattle.streams.specs.Text.{width}
 use Rattle.stream_searches.specs.Compare.{ComparesAs}
-use Rattle.stream_searches.specs.TextCompare.{IsList, text_compares}
+use Rattle.stream_searches.proofs.TextCompareLemmas.{IsList, text_compares}
 use Rattle.stream_searches.proofs.compare.text.RefStrCompare.compare.Goals as goal
 
 pub returns : goal.returns

@@ -1,6 +1,6 @@
 use Rattle.std.proofs.Common.{◌∙◌}
 use Rattle.std.specs.Str.{chars}
-use Rattle.stream_searches.specs.TextCompare.{none_compares, same_compares, other_compares}
+use Rattle.stream_searches.proofs.TextCompareLemmas.{none_compares, same_compares, other_compares}
 use Rattle.stream_searches.proofs.compare.text.RefStrCompareChar.compare.Goals as goal
 
 pub returns-in-None : goal.returns-in-None

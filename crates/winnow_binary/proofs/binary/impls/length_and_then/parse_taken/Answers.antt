@@ -2,7 +2,7 @@ use Rattle.std.proofs.Common.{take, drop, sym, subst, inl, ◌∙◌}
 use Rattle.std.proofs.lemmas.List.{take-append-drop, length-take-le}
 use Rattle.stream_errors.specs.Form.{answer_by}
 use Rattle.winnow_core.specs.CompleteErr.{CompleteErrRuns}
-use Rattle.winnow_binary.specs.LengthAndThen.Laws.{only_first_is}
+use Rattle.winnow_binary.proofs.LengthAndThenLemmas.{only_first_is}
 use Rattle.winnow_binary.proofs.binary.impls.length_and_then.parse_taken.Goals as goal
 
 pub next_slice-taken-requires : goal.next_slice-taken-requires

@@ -1,8 +1,8 @@
 use Rattle.std.proofs.Common.{rules, refl, inl, inr, arith, sym, ◌∙◌}
 use Rattle.streams.specs.Reading.{units-zero}
 use Rattle.winnow_core.specs.Ends.{fewer_tokens, same_units}
-use Rattle.winnow_core.specs.ParseIter.Laws.{nothing_to_read, reads_unread, some_to_read}
-use Rattle.winnow_core.specs.ParseIter.Laws.{reached_remains}
+use Rattle.winnow_core.proofs.ParseIterLemmas.{nothing_to_read, reads_unread, some_to_read}
+use Rattle.winnow_core.proofs.ParseIterLemmas.{reached_remains}
 use Rattle.winnow_core.proofs.combinator.impls.parse_iter.ParseIter.run.Goals as goal
 
 pub returns-then-left-eq0-clause-ran : goal.returns-then-left-eq0-clause-ran

@@ -4,7 +4,7 @@ use Rattle.std.specs.Prelude.{[], ◌∷◌, length, reverse}
 use Rattle.stream_errors.specs.Form.{Answer}
 use Rattle.streams.specs.Input.{Input}
 use Rattle.winnow_expression.specs.Units.{units_left}
-use Rattle.winnow_expression.specs.Expression.{CallRuns, TurnRuns, ResumeRuns}
+use Rattle.winnow_expression.specs.Expression.{TreeRuns, TailRuns, JoinedRuns}
 use Rattle.winnow_expression.specs.Grammar.{Grammar}
 use Rattle.winnow_expression.specs.Calls.{Call, Calls, Open}
 use Rattle.winnow_expression.specs.declared.combinator.calls.Operator.{Operator}
@@ -16,21 +16,21 @@ abbrev pub Resumed : {S W T V F G H : Type 0} → Grammar S W T V F G H → List
     → Answer (V × Bool) → S × W → Input T → Answer (V × Bool) → S × W → Input T → Type 0
 Resumed g [] b s i a t j = (a ≡ b) × (t ≡ s) × (j ≡ i)
 Resumed {S} {W} {T} {V} {F} {G} {H} g (x ∷ xs) b s i a t j =
-    (c : Answer (V × Bool)) × (u : S × W) × (m : Input T) × ResumeRuns g x b s i c u m
+    (c : Answer (V × Bool)) × (u : S × W) × (m : Input T) × JoinedRuns g x b s i c u m
     × Resumed g xs c u m a t j
 
 -- The result of the current call: from its start, or after a value.
 abbrev pub PresentRuns : {S W T V F G H : Type 0} → Grammar S W T V F G H → Call → Option V
     → S × W → Input T → Answer (V × Bool) → S × W → Input T → Type 0
-PresentRuns g call None s i a t j = CallRuns g call s i a t j
-PresentRuns g call (Some v) s i a t j = TurnRuns g call v s i a t j
+PresentRuns g call None s i a t j = TreeRuns g call s i a t j
+PresentRuns g call (Some v) s i a t j = TailRuns g call v s i a t j
 
 -- Whatever the present call and the calls above it do from here on is what the whole does.
 pub record Continues {S W T V F G H : Type 0} (g : Grammar S W T V F G H) (whole : Call) (s : S × W)
     (i : Input T) (call : Call) (left : Option V) (open_ : List (Open V F H)) (t : S × W)
     (j : Input T) : Type 0 where
   pub leads : (b a : Answer (V × Bool)) (u w : S × W) (m n : Input T)
-      → PresentRuns g call left t j b u m → Resumed g open_ b u m a w n → CallRuns g whole s i a w n
+      → PresentRuns g call left t j b u m → Resumed g open_ b u m a w n → TreeRuns g whole s i a w n
 
 -- A right operand begins after its operator: that of a prefix after the turn's beginning.
 abbrev pub RightOperandStarts : {V F H : Type 0} → Operator V F H → ℕ → ℕ → Type 0

@@ -1,0 +1,3 @@
+mod MovesLemmas
+mod OffsetsLemmas
+mod WithinLemmas

@@ -1,0 +1,2 @@
+mod BitLemmas
+mod InPartsLemmas
