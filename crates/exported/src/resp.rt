@@ -1,6 +1,6 @@
 //! Replies of Redis.
 
-ghost use Rattle.std.specs.Prelude.{◌≡◌, ◌<◌, ◌⊎◌, ◌↔◌, List, length, ℕ};
+ghost use Rattle.std.specs.Prelude.{◌≡◌, ◌<◌, ◌⊎◌, ◌↔◌, length};
 ghost use Rattle.format_resp.specs.Extents.{IsOf};
 ghost use Rattle.format_resp.specs.declared.extent.Reason.TheVariants as reasons;
 ghost use Rattle.exported.specs.Code.{done, incomplete, invalid, max_depth_too_large, no_memory};

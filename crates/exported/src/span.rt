@@ -1,6 +1,6 @@
 //! Places in the caller's bytes.
 
-ghost use Rattle.std.specs.Prelude.{◌≡◌, ◌≤◌, ◌++◌, List, length, ℕ};
+ghost use Rattle.std.specs.Prelude.{◌≡◌, ◌++◌, List, length, ℕ};
 ghost use Rattle.exported.specs.Span.{EndsWith, StandsAt};
 
 use format_csv_records::buffers::FieldPlace;

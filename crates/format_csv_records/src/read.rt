@@ -3,16 +3,16 @@
 //! These are loops over bytes instead of parsers of the library: each byte of a field is examined
 //! once and copied once, and memory is allocated only if one of the record's two lists grows.
 
-ghost use Rattle.std.specs.Prelude.{◌≡◌, ◌⊎◌, ◌+◌, ◌<◌, ◌++◌, ◌∷◌, [], drop, length, IfOk};
+ghost use Rattle.std.specs.Prelude.{◌≡◌, ◌+◌, ◌<◌, ◌++◌, ◌∷◌, [], drop, length, IfOk};
 ghost use Rattle.std.specs.Prelude.{◌≤◌};
 ghost use Rattle.std.specs.Prelude.{◌^◌, MatchBool, MatchOption, MatchResult};
-ghost use Rattle.std.specs.Prelude.{List, ℕ, OnErr, IsTrue, ◌↔◌, take, IfErr};
+ghost use Rattle.std.specs.Prelude.{List, ℕ, IsTrue, ◌↔◌, take};
 ghost use Rattle.std.specs.List.{All};
 ghost use Rattle.format_csv_records.specs.Dialects.{AreFields, EndsHere, IsLineEnd, IsPlain};
-ghost use Rattle.format_csv_records.specs.Dialects.{IsRecord};
+
 ghost use Rattle.format_csv_records.specs.Parts.{Closed, EndsNowhere, FieldFirst, IsOther};
 ghost use Rattle.format_csv_records.specs.Parts.{NotFirst, OpenFirst, SoMany, Unclosed, WhyNot};
-ghost use Rattle.format_csv_records.specs.Records.{begun_of, fields_of};
+ghost use Rattle.format_csv_records.specs.Records.{fields_of};
 ghost use Rattle.format_csv_records.specs.Refused.{IsNoRecord, ReadsRecord};
 ghost use Rattle.format_csv_records.specs.declared.read.RecordError.TheVariants.{OutOfMemory};
 

@@ -2,7 +2,7 @@
 
 ghost use Rattle.std.specs.Prelude.{◌≡◌, ◌++◌, ◌∷◌, [], ◌<◌, ◌≤◌, ◌^◌, ◌+◌, ◌-◌, ◌↔◌};
 ghost use Rattle.std.specs.Prelude.{List, ℕ, length};
-ghost use Rattle.std.specs.Prelude.{IfSome, IsTrue, OnErr, OnOk, option_map, slice_index};
+ghost use Rattle.std.specs.Prelude.{IfSome, IsTrue, OnOk, option_map, slice_index};
 ghost use Rattle.std.specs.Iterator.{at_most};
 ghost use Rattle.format_csv_records.specs.Records.{begun_of, field_at, fields_of, start_of};
 

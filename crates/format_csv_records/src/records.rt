@@ -3,10 +3,10 @@
 //! One record is held at a time, so the memory needed is that of the longest record: 10 megabytes
 //! of line feeds need that of one empty record.
 
-ghost use Rattle.std.specs.Prelude.{◌≡◌, ◌∷◌, length, ◌-◌, List, ℕ, MatchOption, option_map};
+ghost use Rattle.std.specs.Prelude.{◌≡◌, ◌∷◌, length, ◌-◌, MatchOption, option_map};
 ghost use Rattle.format_csv_records.specs.Named.{FieldNamed, FirstNamed};
 ghost use Rattle.format_csv_records.specs.Parts.{NoMark};
-ghost use Rattle.format_csv_records.specs.Records.{field_at, fields_of};
+ghost use Rattle.format_csv_records.specs.Records.{fields_of};
 ghost use Rattle.format_csv_records.specs.Refused.{ReadsRecord};
 
 use crate::dialect::Dialect;

@@ -1,8 +1,8 @@
 //! Appending records in any dialect, with quotes only for fields that need them.
 
-ghost use Rattle.std.specs.Prelude.{◌≡◌, ◌++◌, ◌∷◌, [], List, ℕ, length, MatchBool, OnOk};
-ghost use Rattle.format_csv_records.specs.Dialects.{IsLineEnd, IsRecord, doubled};
-ghost use Rattle.format_csv_records.specs.Written.{Extends, IsLast, IsLastOf, IsWritten, Writes};
+ghost use Rattle.std.specs.Prelude.{◌≡◌, ◌++◌, ◌∷◌, [], List, ℕ, MatchBool, OnOk};
+ghost use Rattle.format_csv_records.specs.Dialects.{IsLineEnd, doubled};
+ghost use Rattle.format_csv_records.specs.Written.{Extends, IsLastOf, IsWritten, Writes};
 ghost use Rattle.format_csv_records.specs.Written.{WritesRecord, Wrote, bytes_of};
 ghost use Rattle.format_csv_records.specs.declared.write.WriteError.TheVariants.{NoFields};
 ghost use Rattle.format_csv_records.specs.declared.write.WriteError.TheVariants.{OutOfMemory};

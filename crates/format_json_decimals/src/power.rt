@@ -3,7 +3,7 @@
 ghost use Rattle.format_json_decimals.specs.Numbers.{IsExponent};
 ghost use Rattle.std.specs.Int.{w32, w128};
 ghost use Rattle.std.specs.Option.{SomeIff};
-ghost use Rattle.std.specs.Prelude.{◌≡◌, ◌+ℤ◌, ◌-ℤ◌, FitsSigned, MatchOption, pos, ℤ};
+ghost use Rattle.std.specs.Prelude.{◌+ℤ◌, ◌-ℤ◌, FitsSigned, pos, ℤ};
 
 /// The power of ten that an exponent says, from its letter on; none where it does not fit.
 #[inline]

@@ -1,6 +1,6 @@
 //! The values in arrays and objects of JSON, in sequence.
 
-ghost use Rattle.std.specs.Prelude.{◌≡◌, ◌↔◌, ◌∷◌, List, ℕ, IfNone, IfSome, IsTrue};
+ghost use Rattle.std.specs.Prelude.{◌≡◌, ◌↔◌, ℕ, IfNone, IfSome, IsTrue};
 ghost use Rattle.format_json_extents.specs.Texts.{NoneStands, RestAfter, Then};
 ghost use Rattle.format_json_extents.specs.Value.{IsValue};
 ghost use Rattle.format_json_extents.specs.Walk.{EndsItems, IsClosingByte, IsLead, IsLeadByte};

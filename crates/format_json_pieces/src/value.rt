@@ -13,7 +13,7 @@ ghost use Rattle.format_json_texts.specs.Values.Texts.{IsNumeric};
 ghost use Rattle.std.specs.List.{All};
 ghost use Rattle.std.specs.Prelude.{◌≡◌, ◌≤◌, ◌↔◌, ◌++◌, ℕ, List, length, false, true, IfErr};
 ghost use Rattle.std.specs.Prelude.{IfNone, IfOk, IfSome, IsTrue, Some, []};
-ghost use Rattle.std.specs.Str.{IsUtf8, chars};
+ghost use Rattle.std.specs.Str.{IsUtf8};
 ghost use Rattle.std.specs.Str.Lossy.{utf8_valid_len};
 ghost use Rattle.streams.specs.Bytes.{bytes_follow, bytes_reading};
 ghost use Rattle.winnow_grammar.specs.Cut.{Asks, ReadsOrAsks};

@@ -6,7 +6,7 @@ ghost use Rattle.format_json_scalars.specs.Escapes.{short_takes};
 ghost use Rattle.format_json_scalars.specs.Escapes.{short_unique, unicode_takes, unicode_unique};
 ghost use Rattle.format_json_texts.specs.Strings.{ArePair, Escape, StandsFor};
 ghost use Rattle.format_json_texts.specs.Strings.{Unicode};
-ghost use Rattle.std.specs.Prelude.{◌≡◌, ℕ, ⊤, MatchOption};
+ghost use Rattle.std.specs.Prelude.{ℕ, ⊤, MatchOption};
 ghost use Rattle.streams.specs.Text.{text_input, text_reading};
 ghost use Rattle.winnow_core.specs.Exact.{IsSpared, Reads};
 ghost use Rattle.grammars.specs.Grammar.{Token};

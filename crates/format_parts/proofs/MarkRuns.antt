@@ -20,7 +20,7 @@ use Rattle.winnow_core.specs.Runs.{Runs}
 use Rattle.winnow_core.specs.Sequence.{SequenceRuns2}
 use Rattle.winnow_separated.specs.Separated.{ElementsRun, RangedElements}
 
--- behind the first part there is no match of the second, if there is none of both
+-- after the first part there is no match of the second, if there is none of both
 none_after : {T O1 O2 : Type 0} (g1 : Grammar T O1) (g2 : Grammar T O2) (i a : Input T) (o1 : O1)
     → g1 i.left.tokens o1 a.left.tokens → NoMatch (Both latter g1 g2) i.left.tokens
     → NoMatch g2 a.left.tokens
@@ -54,7 +54,7 @@ module _ {S1 S2 S3 W T O1 O2 O3 D C : Type 0} {run1 : Runs S1 T O1} {run2 : Runs
     (f1 : Backtracks s.0 run1) (c2 : IsExact s.1.0 run2 g2) (f2 : Backtracks s.1.0 run2)
     (c : IsExact s.1 (RangedElements run2 between into asserted) g) (f3 : Backtracks s.2 run3)
   where
-    -- the items alone are out of memory only behind the first
+    -- the items alone are out of memory only after the first
     item_there : (a : Input T) (k : Kind) (u : S2 × W × Range) (j : Input T) → k ≡ memory
         → a.status.cut ≡ false → RangedElements run2 between into asserted s.1 a (Err k) u j
         → NoMatch g2 a.left.tokens → ⊥

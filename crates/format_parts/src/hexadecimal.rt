@@ -1,7 +1,7 @@
 //! Hexadecimal digits of escapes, four at a time.
 ghost use Rattle.format_parts.specs.Hexadecimal.{CodeUnit, Digit, IsHex, IsNumberOf, digit_takes};
 ghost use Rattle.format_parts.specs.Hexadecimal.{digit_unique, unit_takes, unit_unique};
-ghost use Rattle.std.specs.Prelude.{◌≡◌, ℕ, ⊤, MatchOption};
+ghost use Rattle.std.specs.Prelude.{ℕ, ⊤, MatchOption};
 ghost use Rattle.streams.specs.Text.{text_input, text_reading};
 ghost use Rattle.winnow_core.specs.Exact.{IsSpared, Reads};
 

@@ -1,6 +1,5 @@
 //! The reader of replies.
 
-ghost use Rattle.std.specs.Prelude.{ℕ};
 ghost use Rattle.streams.specs.Bytes.{bytes_follow, bytes_reading};
 ghost use Rattle.winnow_grammar.specs.InTurn.{First, Led};
 ghost use Rattle.format_resp.specs.MustAsk.{ReadsOrMustAsk};

@@ -1,5 +1,5 @@
 //! Characters of basic strings, and their escapes (TOML 1.0: String).
-ghost use Rattle.std.specs.Prelude.{◌≡◌, ℕ, ⊤, MatchOption};
+ghost use Rattle.std.specs.Prelude.{ℕ, ⊤, MatchOption};
 ghost use Rattle.format_parts.specs.Hexadecimal.{CodeUnit, IsAlone, alone_unique};
 ghost use Rattle.format_parts.specs.Words.{Char, latter};
 ghost use Rattle.streams.specs.Text.{text_input, text_reading};

@@ -1,5 +1,5 @@
 //! Whitespace and comments over several lines (TOML 1.0: Array), and line endings.
-ghost use Rattle.std.specs.Prelude.{◌≡◌, ⊤};
+
 ghost use Rattle.streams.specs.Text.{text_input, text_reading};
 ghost use Rattle.format_toml.specs.Grammars.{Gap};
 ghost use Rattle.format_toml.specs.Unique.{gap_unique};

@@ -1,5 +1,5 @@
 //! Keys and the names of tables (TOML 1.0: Keys, Table).
-ghost use Rattle.std.specs.Prelude.{◌≡◌};
+
 ghost use Rattle.streams.specs.Text.{text_input, text_reading};
 ghost use Rattle.format_toml.specs.Grammars.{AnyCharacters, AnyKey, DoubleHeader, Header};
 ghost use Rattle.format_toml.specs.Grammars.{Name, Names};

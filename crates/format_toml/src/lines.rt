@@ -1,5 +1,5 @@
 //! Lines (TOML 1.0: Key/Value Pair, Table, Array of Tables).
-ghost use Rattle.std.specs.Prelude.{◌≡◌};
+
 ghost use Rattle.std.specs.Str.{chars};
 ghost use Rattle.streams.specs.Text.{text_input, text_reading};
 ghost use Rattle.format_parts.specs.Words.{Char, latter};

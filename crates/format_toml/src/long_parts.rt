@@ -2,7 +2,7 @@
 //! parsers and over any stream.
 ghost use Rattle.format_parts.specs.Words.{latter};
 ghost use Rattle.format_toml.specs.LongGrammars.{LongOf, QuoteOf};
-ghost use Rattle.std.specs.Prelude.{◌≡◌, ⊤, None};
+ghost use Rattle.std.specs.Prelude.{⊤, None};
 ghost use Rattle.winnow_core.specs.Claim.{CanRead};
 ghost use Rattle.winnow_core.specs.Exact.{Reads};
 ghost use Rattle.grammars.specs.Grammar.{Both, Either, Gathered, Many};

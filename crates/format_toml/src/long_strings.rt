@@ -1,7 +1,7 @@
 //! Multi-line strings (TOML 1.0: String): between three quotation marks. A line ending directly
 //! after the first three is dropped. Each other line ending, also of two characters, is a line
 //! feed.
-ghost use Rattle.std.specs.Prelude.{◌≡◌, ⊤};
+ghost use Rattle.std.specs.Prelude.{⊤};
 ghost use Rattle.streams.specs.Text.{text_input, text_reading};
 ghost use Rattle.format_toml.specs.Grammars.{AnyBasic, AnyLiteral, BasicPart, BasicString};
 ghost use Rattle.format_toml.specs.Grammars.{EscapedLine, LiteralPart, LiteralString, LongBasic};

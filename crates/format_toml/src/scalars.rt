@@ -1,5 +1,5 @@
 //! Values that have no others in them (TOML 1.0: String, Integer, Float, Boolean).
-ghost use Rattle.std.specs.Prelude.{◌≡◌};
+
 ghost use Rattle.std.specs.Str.{chars};
 ghost use Rattle.streams.specs.Text.{text_input, text_reading};
 ghost use Rattle.format_toml.specs.Grammars.{AnyBasic, AnyBoolean, AnyLiteral, Scalar};

@@ -1,6 +1,5 @@
 //! Values (TOML 1.0: Array, Inline Table), and keys with them.
-ghost use Rattle.std.specs.Prelude.{◌≡◌};
-ghost use Rattle.std.specs.Str.{chars};
+
 ghost use Rattle.streams.specs.Text.{text_input, text_reading};
 ghost use Rattle.format_toml.specs.Grammars.{AnyValue, Array, Entry, Inline};
 ghost use Rattle.format_toml.specs.Led.{no_memory_kind};

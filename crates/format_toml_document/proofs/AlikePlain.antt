@@ -206,7 +206,7 @@ module _ {A : Type 0} where
   moment_stops d tokens (inr (time, e, (clock, digits, t, x))) =
       timed_stops clock digits None tokens x
 
--- ---- what is an integer is no float and no date, and what is a float is no date
+-- ---- no integer is a float or a date, and no float is a date
 
 -- the letter of a base
 abbrev IsBaseMark : ℕ → Type 0

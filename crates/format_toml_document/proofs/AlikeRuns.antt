@@ -1,4 +1,4 @@
--- Proofs that equivalent lines give equivalent trees, or are rejected alike.
+-- Proofs that equivalent lines give equivalent trees, or are both rejected.
 use Rattle.std.specs.Prelude.{◌≡◌, ℕ, List, [], ◌∷◌, Option, Result, Ok, Err}
 use Rattle.std.proofs.Common.{refl, sym, ap, subst, inl, inr}
 use Rattle.grammar_outputs.specs.Pairwise.{ArePairwise}
@@ -244,7 +244,7 @@ module _ {A : Type 0} where
       → ArePairwise (AreAlikeLines level) lines others → P
   tree_or_refusal level f g alike = absurd (gives_alike level f g ((λ p. inl refl), refl) alike)
 
-  -- what slots hold of the trees of equivalent lines
+  -- the trees of equivalent lines hold equivalent values in their slots
   pub held_alike : (level : ℕ) {depth : ℕ} {lines others : List (Option (Item A))}
       (slots below : List (Slot A)) {tree other given also : Tree A}
       → Gives depth (empty, []) 0 lines (Ok tree) → Gives depth (empty, []) 0 others (Ok other)

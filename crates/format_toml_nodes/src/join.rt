@@ -1,5 +1,5 @@
 //! Links from each node to its first child and to its next sibling.
-ghost use Rattle.std.specs.Prelude.{◌≡◌, ◌+◌, ◌<◌, length};
+ghost use Rattle.std.specs.Prelude.{◌<◌, length};
 ghost use Rattle.format_toml_nodes.specs.Laying.{AreApart, JoinsFrom, JoinsOne};
 
 use crate::node::TomlNode;

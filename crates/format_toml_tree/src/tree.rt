@@ -1,5 +1,5 @@
 //! The tree of a document.
-ghost use Rattle.std.specs.Prelude.{◌≡◌, ◌<◌, ◌≤◌, length, IfOk, slice_get, Some};
+ghost use Rattle.std.specs.Prelude.{◌≡◌, ◌<◌, length, IfOk, slice_get, Some};
 ghost use Rattle.format_toml_tree.specs.Runs.{Fills, FillsEntry, FillsNames, FillsPlaces};
 ghost use Rattle.format_toml_tree.specs.Holds.{AddsElement, AddsEntry, AddsItem, AddsLine, FillsBy};
 ghost use Rattle.format_toml_tree.specs.Holds.{FitResult, IsInside, IsValueAt, Opens};

@@ -106,7 +106,7 @@ module _ {O : Type 0} {alike : O → O → Type 0} where
             (subst P (unique.one tokens o p mid end x y) more) others none n,
       )
 
-  -- at least so many
+  -- at least that number of matches
   pub many_agree : (least : ℕ) {g : Grammar ℕ O} → IsUnique g → Agrees alike g
       → Agrees (ArePairwise alike) (Many g (from_to least None))
   unfolding Many
@@ -116,7 +116,7 @@ module _ {O : Type 0} {alike : O → O → Type 0} where
         (none_more g _ other t);
   }
 
-  -- at least so many, with a separator between each two of them
+  -- at least that number, with a separator between each two of them
   pub parted_agree : (least : ℕ) {D : Type 0} {g : Grammar ℕ O} {mark : Grammar ℕ D}
       → IsUnique g → IsUnique mark → Agrees alike g
       → Agrees (ArePairwise alike) (Parted g mark (from_to least None))

@@ -1,6 +1,6 @@
 //! INI text.
-ghost use Rattle.std.specs.Prelude.{◌≡◌, ◌≢◌, ◌↔◌, IsTrue, IfOk, IfErr};
-ghost use Rattle.readers.specs.Pair.{IsKeyByte, IsPairLine, IsPairFault};
+ghost use Rattle.std.specs.Prelude.{IfOk, IfErr};
+ghost use Rattle.readers.specs.Pair.{IsPairLine, IsPairFault};
 
 mod parts;
 mod sections;

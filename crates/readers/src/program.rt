@@ -1,9 +1,9 @@
 //! The program over any reader and two writers.
 #![tactic(auto, using(crate::proofs::Bytes::known_bytes))]
 
-ghost use Rattle.std.specs.Prelude.{◌≡◌, Bool, ◌≤◌, ◌↔◌, IsTrue, List, ℕ, length, IfOk, IfSome};
+ghost use Rattle.std.specs.Prelude.{◌≡◌, Bool, ◌≤◌, ◌↔◌, IsTrue, length, IfOk, IfSome};
 ghost use Rattle.std.specs.Prelude.{MatchOption, MatchResult, ◌+◌};
-ghost use Rattle.std.specs.Io.KnownBytes.{Keeps, Appends};
+ghost use Rattle.std.specs.Io.KnownBytes.{Keeps};
 ghost use Rattle.readers.specs.Program.{ConsumesAtMost, AppendsSome, Appended, IsAnswerText};
 ghost use Rattle.readers.specs.Program.{StopsAnswer, WritesAnswer, RunOwes, stop_text};
 ghost use Rattle.readers.specs.Program.{refused_line, format_word, IsWord, most_bytes, most_of};

@@ -1,12 +1,12 @@
 //! The bits of bytes as a stream.
 #![tactic(auto, using(streams::specs::Ends::ends_follow))]
 
-ghost use Rattle.std.specs.Prelude.{◌≡◌, ◌<◌, ◌≤◌, ◌+◌, ◌*◌, ◌/◌, ◌%◌, ◌^◌, ◌==◌, List};
-ghost use Rattle.std.specs.Prelude.{Bool, true};
-ghost use Rattle.std.specs.Prelude.{length, [], ℕ, MatchOption};
-ghost use Rattle.streams.specs.Input.{Input, IsEndOf, Remaining, Takes};
+ghost use Rattle.std.specs.Prelude.{◌≡◌, ◌<◌, ◌≤◌, ◌+◌, ◌*◌, ◌/◌, ◌%◌, ◌==◌};
+ghost use Rattle.std.specs.Prelude.{true};
+ghost use Rattle.std.specs.Prelude.{length, [], MatchOption};
+ghost use Rattle.streams.specs.Input.{IsEndOf, Takes};
 ghost use Rattle.stream_bits.specs.BitInput.{bits_follow, bits_from, bits_input, bits_left};
-ghost use Rattle.stream_bits.specs.BitInput.{can_be_read};
+
 ghost use Rattle.stream_bits.specs.BitReading.{IsBitPosition, bits_reading};
 ghost use Rattle.stream_bits.specs.Offsets.{bits_to_come};
 ghost use Rattle.streams.specs.Stream.{Cuts, IsBoundary, with_offsets};

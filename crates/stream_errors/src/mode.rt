@@ -1,8 +1,6 @@
 //! Errors with a mode.
-ghost use Rattle.std.specs.Prelude.{◌≡◌};
-ghost use Rattle.std.proofs.Common.{rules};
-ghost use Rattle.streams.specs.Kind.{Kind};
-ghost use Rattle.stream_errors.specs.Form.{ErrorForm, modal, plain, modal-not_plain};
+
+ghost use Rattle.stream_errors.specs.Form.{modal, modal-not_plain};
 ghost use Rattle.stream_errors.specs.Join.{inner_grows, inner_join_grows};
 ghost use Rattle.stream_errors.specs.Mode.{mode_kind, as_inner, MapsMode};
 

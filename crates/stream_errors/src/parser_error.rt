@@ -1,10 +1,10 @@
 //! The traits of errors.
-ghost use Rattle.std.specs.Prelude.{◌≡◌, ◌↔◌, IsTrue, IsSome, ℕ, Option, None, Some, ◌⊎◌};
+ghost use Rattle.std.specs.Prelude.{◌≡◌, ◌↔◌, IsTrue, IsSome, Option, None, Some, ◌⊎◌};
 ghost use Rattle.std.specs.Prelude.{MatchResult, option_map};
-ghost use Rattle.streams.specs.Kind.{Kind, backtrack, cut, incomplete, memory};
+ghost use Rattle.streams.specs.Kind.{Kind, backtrack, incomplete, memory};
 ghost use Rattle.streams.specs.Needed.{need_of};
 ghost use Rattle.stream_errors.specs.Join.{IsOrMemory, joint_kind};
-ghost use Rattle.stream_errors.specs.Form.{ErrorForm, plain, assert_kind, incomplete_kind};
+ghost use Rattle.stream_errors.specs.Form.{plain, assert_kind, incomplete_kind};
 ghost use Rattle.stream_errors.specs.Form.{inner_kind_of, need_of_kind};
 
 use crate::has_kind::HasKind;

@@ -1,5 +1,5 @@
 //! Literals without regard to ASCII case.
-ghost use Rattle.std.specs.Prelude.{◌≡◌, ℕ, length};
+ghost use Rattle.std.specs.Prelude.{◌≡◌};
 
 /// A literal that is compared without regard to the case of ASCII letters. Other letters differ
 /// from theirs in another case.

@@ -1,11 +1,11 @@
 //! Comparisons of the input with a literal.
 //!
 //! Those of bytes are here, those of other streams in the files below.
-ghost use Rattle.std.specs.Prelude.{◌≡◌, ◌≤◌, ℕ, List, [], ◌∷◌, length};
-ghost use Rattle.std.proofs.Common.{ap, sym, ◌∙◌};
+ghost use Rattle.std.specs.Prelude.{◌≡◌, ◌≤◌, List, [], ◌∷◌, length};
+
 ghost use Rattle.std.specs.Bool.{Decides};
 ghost use Rattle.std.specs.Char.{encode_utf8};
-ghost use Rattle.stream_searches.specs.Compare.{ComparesAs, StartsWithSpelling, IsShort};
+ghost use Rattle.stream_searches.specs.Compare.{ComparesAs, StartsWithSpelling};
 ghost use Rattle.stream_searches.specs.Compare.{same-length};
 
 mod caseless;

@@ -1,5 +1,5 @@
 //! Streams that know their place.
-ghost use Rattle.std.specs.Prelude.{◌≡◌, ◌^◌, ◌+◌, ◌<◌, ◌≤◌, List, ⊤};
+ghost use Rattle.std.specs.Prelude.{◌≡◌, ◌^◌, ◌+◌, ◌<◌, ⊤};
 ghost use Rattle.streams.specs.Located.{located_input, located_left, located_reading};
 
 use crate::needed::Needed;

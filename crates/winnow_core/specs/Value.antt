@@ -20,7 +20,7 @@ abbrev pub ValueRuns : {S T O U : Type 0} → (U → U → Type 0) → (U → Ty
 ValueRuns {S} {T} {O} {U} IsClone ClonesAlways run s i answer t j =
     -- the child succeeds, and the value is cloned
     ((o : O) × (u : U) × run s.0 i (Ok o) t.0 j × (t.1 ≡ s.1) × IsClone s.1 u × (answer ≡ Ok u))
-    -- the child succeeds, and a request for memory was refused to the clone
+    -- the child succeeds, and the clone, which can need memory, is out of it
     ⊎ (((o : O) × run s.0 i (Ok o) t.0 j × (t.1 ≡ s.1) × (¬ (ClonesAlways s.1))
     × (answer ≡ Err memory))
     -- the child fails, and nothing is cloned

@@ -1,11 +1,10 @@
 //! Lines by a parser of one line, and a parser that skips input if that fails.
 #![tactic(auto)]
 
-ghost use Rattle.std.specs.Prelude.{◌≡◌, ◌++◌, List, IfOk, IfSome, IsSome, [], false, true, Ok};
+ghost use Rattle.std.specs.Prelude.{◌≡◌, IfOk, IfSome, IsSome, [], false, true};
 ghost use Rattle.winnow.specs.Accumulator.{list_kept};
 ghost use Rattle.winnow.specs.Form.{answer_by, assert_kind};
-ghost use Rattle.winnow.specs.Input.{Input};
-ghost use Rattle.winnow.specs.Kind.{Kind};
+
 ghost use Rattle.winnow.specs.RecoverableParse.{RecoverableParses};
 ghost use Rattle.winnow.specs.Recovery.{Recovery, recovery_of};
 ghost use Rattle.winnow.specs.Repeat.{RangedRuns};

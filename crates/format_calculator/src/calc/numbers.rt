@@ -1,5 +1,5 @@
 //! The arithmetic of the operators, within 64 bits.
-ghost use Rattle.std.specs.Prelude.{ℕ, ◌<◌, ◌^◌};
+ghost use Rattle.std.specs.Prelude.{◌<◌, ◌^◌};
 ghost use Rattle.std.specs.Option.{SomeIff};
 ghost use Rattle.format_calculator.specs.Calculator.{GivesOption, IsPower, IsUnitPower};
 ghost use Rattle.format_calculator.specs.Calculator.{factorial, mark_value, pair_value, sign_value};

@@ -1,5 +1,5 @@
 //! Documents, section by section.
-ghost use Rattle.std.specs.Prelude.{⊤, ◌≡◌, map, MatchResult};
+ghost use Rattle.std.specs.Prelude.{map, MatchResult};
 ghost use Rattle.readers.specs.Document.{HasSections, IsDocumentFault};
 ghost use Rattle.readers.specs.DocumentRuns.{DocumentRuns, PairsRuns, SectionRuns, SectionsRuns};
 ghost use Rattle.readers.specs.Sections.{pair_text, section_text};

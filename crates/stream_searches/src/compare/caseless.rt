@@ -1,5 +1,5 @@
 //! Comparisons without regard to ASCII case.
-ghost use Rattle.std.specs.Prelude.{◌≡◌, [], ◌∷◌, length};
+ghost use Rattle.std.specs.Prelude.{[], ◌∷◌, length};
 ghost use Rattle.std.specs.Char.{encode_utf8};
 ghost use Rattle.std.specs.Str.{chars};
 ghost use Rattle.stream_searches.specs.Caseless.{IsCaseless, same_lengths, same_widths};
