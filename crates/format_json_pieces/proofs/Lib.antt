@@ -3,4 +3,6 @@ pub mod Passes
 pub mod Passing
 pub mod Placed
 pub mod Read
+pub mod ResultsLemmas
+pub mod ValueLemmas
 pub mod Walks

@@ -19,9 +19,10 @@ use Rattle.format_json_pieces.proofs.Passes.Values.{after_gap, inner_on, space_b
 use Rattle.format_json_pieces.proofs.Passes.Values.{value_here, value_on}
 use Rattle.format_json_pieces.proofs.Walks.{Started, any, begun_front, walked_one}
 use Rattle.format_json_pieces.specs.Begun.{IsViablePrefix, IsWalked, MayBegin}
-use Rattle.format_json_pieces.specs.Value.{InUtf8, IsValueIn, value_ends}
+use Rattle.format_json_pieces.specs.Value.{InUtf8, IsValueIn}
 use Rattle.format_json_pieces.specs.declared.begun.Bracket.TheVariants.{Whole}
 use Rattle.format_json_pieces.specs.declared.begun.Mode.TheVariants as modes
+use Rattle.format_json_pieces.proofs.ValueLemmas.{value_ends}
 
 -- the first byte of a number is its first character
 numeric : (cs : List ℕ) → StartsWith IsNumeric cs → StartsWith IsNumeric (encode_utf8_all cs)

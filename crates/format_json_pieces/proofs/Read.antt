@@ -15,7 +15,7 @@ use Rattle.format_json_extents.specs.Number.{IsNumeral}
 use Rattle.format_json_extents.specs.Value.{IsEnded, IsSpace, IsValue}
 use Rattle.format_json_extents.specs.Texts.{IsLongest, RestAfter}
 use Rattle.format_json_pieces.specs.Results.{Allows, Fails, IsFinal, MatchesAtStart, NoneIsFinal}
-use Rattle.format_json_pieces.specs.Value.{AreNumerals, InUtf8, IsNext, IsValueIn, value_ends}
+use Rattle.format_json_pieces.specs.Value.{AreNumerals, InUtf8, IsNext, IsValueIn}
 use Rattle.format_json_texts.specs.Values.{AnyValue, ValueText}
 use Rattle.format_json_texts.specs.Values.Texts.{IsNumeric, value_of}
 use Rattle.format_json_values.specs.Unique.{value_unique}
@@ -26,6 +26,7 @@ use Rattle.streams.specs.Kind.{Kind}
 use Rattle.grammars.specs.Grammar.{Grammar, NoMatch}
 use Rattle.stream_sets.specs.Accumulator.Holds.{HasCharacters}
 use Rattle.grammars.specs.Texts.{StartsWith, NotFirst}
+use Rattle.format_json_pieces.proofs.ValueLemmas.{value_ends}
 
 -- a number that may continue
 pub none_final : (level : ℕ) (cut : Bool) (bytes found left : List ℕ)

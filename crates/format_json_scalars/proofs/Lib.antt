@@ -1,0 +1,3 @@
+mod AlikeLemmas
+mod FirstLemmas
+mod RunsLemmas

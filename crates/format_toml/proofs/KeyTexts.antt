@@ -7,12 +7,8 @@ use Rattle.format_parts.specs.Words.{Between, One, between_of, char_of, for_fron
 use Rattle.format_parts.specs.Words.{latter, pair}
 use Rattle.format_toml.specs.Grammars.{AnyCharacters, AnyKey, DoubleHeader, Header, LiteralString}
 use Rattle.format_toml.specs.Grammars.{Name, Names, Pair, Table}
-use Rattle.format_toml.specs.Led.{Led, led_of}
+use Rattle.format_toml.specs.Led.{Led}
 use Rattle.format_toml.proofs.Rows.{joined_begins}
-use Rattle.format_toml.specs.Spaces.{Past, mark_begins, mark_of, spaced_begins, spaced_of, ws_front}
-use Rattle.format_toml.specs.Spaces.{ws_of}
-use Rattle.format_toml.specs.Strings.{basic_string_begins, basic_string_of, characters_begin}
-use Rattle.format_toml.specs.Strings.{characters_of, literal_string_begins, literal_string_of}
 use Rattle.format_toml.specs.Toml.{CharactersText, HeaderText, IsBare, IsKey, IsTable, IsTables}
 use Rattle.format_toml.specs.Toml.{KeyText, LiteralText, MarkText, NameText, PairText, Spaced}
 use Rattle.format_toml.specs.Toml.{TableText, WsText}
@@ -26,6 +22,12 @@ use Rattle.grammars.specs.Texts.Fronts.{front_begins, in_list_front, may_begin, 
 use Rattle.grammars.specs.Texts.Fronts.{not_first, spelled_begins}
 use Rattle.grammars.specs.Texts.Parts.{behind_less, three_of}
 use Rattle.grammars.specs.Texts.Rows.{list_of, parted_of}
+use Rattle.format_toml.proofs.LedLemmas.{led_of}
+use Rattle.format_toml.proofs.SpacesLemmas.{Past, mark_begins, mark_of, spaced_begins, spaced_of}
+use Rattle.format_toml.proofs.SpacesLemmas.{ws_front, ws_of}
+use Rattle.format_toml.proofs.StringsLemmas.{basic_string_begins, basic_string_of, characters_begin}
+use Rattle.format_toml.proofs.StringsLemmas.{characters_of, literal_string_begins}
+use Rattle.format_toml.proofs.StringsLemmas.{literal_string_of}
 
 -- ---- names
 

@@ -8,15 +8,8 @@ use Rattle.format_parts.specs.Words.{pair}
 use Rattle.format_toml.specs.Grammars.{AnyValue, Array, ArrayValues, GappedOut, Inline, Pair}
 use Rattle.format_toml.specs.Grammars.{SpacedOut, WideMark, AnyItem, Document, Line}
 use Rattle.format_toml.proofs.KeyTexts.{OpensKey, pair_begins, pair_of, table_of}
-use Rattle.format_toml.specs.Led.{led_of}
 use Rattle.format_toml.proofs.Rows.{joined_begins, parted_ends_of}
-use Rattle.format_toml.specs.Scalars.{ContinuesScalar, Goes, scalar_begins, scalar_of, white_front}
-use Rattle.format_toml.specs.Scalars.{wide_front}
-use Rattle.format_toml.specs.Spaces.{OpensGap, Past, WidePast, gapped_begins, gapped_of}
-use Rattle.format_toml.specs.Spaces.{mark_begins, mark_of, spaced_begins, spaced_of}
-use Rattle.format_toml.specs.Spaces.{wide_mark_begins, wide_mark_of, IsBreak, IsTail}
-use Rattle.format_toml.specs.Spaces.{comment_begins, maybe_comment_of, newline_begins, newline_of}
-use Rattle.format_toml.specs.Spaces.{ws_of}
+use Rattle.format_toml.specs.Scalars.{ContinuesScalar, Goes}
 use Rattle.format_toml.specs.Toml.{ArrayText, ArrayValuesText, Gapped, InlineText, IsArray}
 use Rattle.format_toml.specs.Toml.{IsInline, MarkText, PairText, Spaced, ValueText, WideMarkText}
 use Rattle.format_toml.specs.Toml.{DocumentText, IsEntry, ItemText, LineText}
@@ -31,6 +24,13 @@ use Rattle.grammars.specs.Texts.Fronts.{none_begins, optional_front, spelled_beg
 use Rattle.grammars.specs.Texts.Fronts.{may_begin_none}
 use Rattle.grammars.specs.Texts.Parts.{behind_less, both_of, optional_of}
 use Rattle.grammars.specs.Texts.Rows.{list_of, none_both, parted_of}
+use Rattle.format_toml.proofs.LedLemmas.{led_of}
+use Rattle.format_toml.proofs.ScalarsLemmas.{scalar_begins, scalar_of, white_front, wide_front}
+use Rattle.format_toml.proofs.SpacesLemmas.{OpensGap, Past, WidePast, gapped_begins, gapped_of}
+use Rattle.format_toml.proofs.SpacesLemmas.{mark_begins, mark_of, spaced_begins, spaced_of}
+use Rattle.format_toml.proofs.SpacesLemmas.{wide_mark_begins, wide_mark_of, IsBreak, IsTail}
+use Rattle.format_toml.proofs.SpacesLemmas.{comment_begins, maybe_comment_of, newline_begins}
+use Rattle.format_toml.proofs.SpacesLemmas.{newline_of, ws_of}
 
 -- what a value begins with
 abbrev pub Opens : ℕ → Type 0

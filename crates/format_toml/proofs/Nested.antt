@@ -2,7 +2,6 @@
 use Rattle.std.specs.Prelude.{◌≡◌, ◌<◌, ℕ, zero, suc, Result}
 use Rattle.std.proofs.Common.{sym, subst, arith}
 use Rattle.format_toml.specs.Grammars.{AnyValue, Array, Inline, Scalar}
-use Rattle.format_toml.specs.Led.{reads_led, reads_other}
 use Rattle.format_toml.specs.Toml.{IsArray, IsInline}
 use Rattle.format_toml_tree.specs.declared.value.Value.{Value}
 use Rattle.winnow_core.specs.Exact.{Reads}
@@ -11,6 +10,7 @@ use Rattle.streams.specs.Input.{Input}
 use Rattle.streams.specs.Kind.{Kind}
 use Rattle.streams.specs.Text.{text_reading}
 use Rattle.grammars.specs.Texts.{StartsWith, NotFirst}
+use Rattle.format_toml.proofs.LedLemmas.{reads_led, reads_other}
 
 module _ {A E : Type 0} {kind : E → Kind} {i j : Input ℕ} {result : Result (Value A) E} where
   -- where no level is left it is one that has no others in it

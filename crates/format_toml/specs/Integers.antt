@@ -1,14 +1,14 @@
 -- Integers, by their first character.
-use Rattle.std.specs.Prelude.{◌≡◌, ◌⊎◌, ◌<◌, ◌≤◌, ◌↔◌, ◌^◌, ◌++◌, ℕ, ℤ, zero, suc, pos}
+use Rattle.std.specs.Prelude.{◌≡◌, ◌⊎◌, ◌<◌, ◌≤◌, ◌↔◌, ◌^◌, ◌++◌, ℕ, ℤ, zero, pos}
 use Rattle.std.specs.Prelude.{neg_ℤ}
 use Rattle.std.specs.Prelude.{FitsSigned, List, [], ◌∷◌, Option, Some, None, length}
 use Rattle.std.specs.Int.{w64}
 use Rattle.std.specs.Option.{SomeIff}
 use Rattle.std.proofs.Common.{refl, sym, ap, subst, inl, inr, ◌∙◌, arith}
 use Rattle.std.proofs.lemmas.Str.Parse.{digit_from_value}
-use Rattle.format_toml.specs.Digits.{head_of, no_cons, number_goes, tail_of, true_false}
+use Rattle.format_toml.specs.Digits.{head_of, number_goes, tail_of, true_false}
 use Rattle.format_toml.specs.Numbers.{AfterZero, AnyIntegerText, BasedText, IntegerText, IsBase}
-use Rattle.format_toml.specs.Numbers.{IsIntegerOf, IsLone, IsNumber, NumberText, UnsignedText}
+use Rattle.format_toml.specs.Numbers.{IsIntegerOf, IsNumber, NumberText, UnsignedText}
 use Rattle.grammars.specs.Texts.{BothText, EitherText, MadeText, Spelled, Text}
 
 -- a digit is first
@@ -160,21 +160,9 @@ module _ {tokens rest : List ℕ} {c : ℕ} (is : tokens ≡ c ∷ rest) where
 
 -- ---- the result
 
-pub fits_pos : (m : ℕ) → FitsSigned w64 (pos m) → m < 2 ^ 64
-fits_pos m fits = let small : m < 2 ^ 63 = fits.sfits in omega arith
-
-pub fits_neg : (m : ℕ) → FitsSigned w64 (neg_ℤ (pos m)) → m < 2 ^ 64
-fits_neg zero fits = omega arith
-fits_neg (suc m) fits = let small : m < 2 ^ 63 = fits.sfits in omega arith
-
 module _ {sign : ℕ → ℤ} {text : Text ℕ ℕ} {tail tokens : List ℕ}
     (small : (m : ℕ) → FitsSigned w64 (sign m) → m < 2 ^ 64)
     (reduces : Reduces sign text tail tokens) where
-  pub no_number : IsNumber text tail None → IsIntegerOf tokens None
-  unfolding IsNumber IsIntegerOf IntegerText
-  no_number none n (x, fits) =
-      let (m, is, e) = (reduces.same n).0 x in none m is (small m (rw e at fits))
-
   -- of this number and this sign
   pub by_sign : {x : ℤ} (m : ℕ) (result : Option ℤ) → IsNumber text tail (Some m)
       → SomeIff result (FitsSigned w64 x) x → x ≡ sign m → IsIntegerOf tokens result
@@ -185,30 +173,7 @@ module _ {sign : ℕ → ℤ} {text : Text ℕ ℕ} {tail tokens : List ℕ}
   by_sign m (Some z) (is, only) (fits, e) same =
       ((reduces.same z).1 (m, is, e ∙ same), rw e fits)
 
-pub nothing_there : (text : List ℕ) → length text ≡ 0 → IsIntegerOf text None
-unfolding IsIntegerOf IntegerText UnsignedText
-nothing_there (c ∷ cs) e n x = absurd (omega arith)
-nothing_there [] e n (x, fits) = none n (sort n [] x)
-  where
-    none : (n : ℤ) → Sorted n [] → ⊥
-    none n (inl (m, ys, (number, lone), f, g)) =
-        true_false ((number_goes 10 (omega arith) m []).0 (rw f number)).0
-    none n (inr (inl (m, ys, x, f, g))) = no_cons f
-    none n (inr (inr (inl (m, ys, x, f, g)))) = no_cons f
-    none n (inr (inr (inr (m, ys, x, f, g)))) = no_cons f
-
-pub unsigned_by : {text : List ℕ} (result : Option ℕ) → IsLone text
-    → IsNumber (NumberText 10) text result → IsNumber UnsignedText text result
-unfolding IsNumber UnsignedText
-unsigned_by None lone is = λ n x small. is n x.0 small
-unsigned_by (Some n) lone (is, only) = ((is, lone), λ m x. only m x.0)
-
 -- ---- after a zero
-
-pub nothing_after : (text : List ℕ) → length text ≡ 0 → IsNumber AfterZero text None
-unfolding IsNumber AfterZero
-nothing_after text none m (l, b, ys, is, e, y) small =
-    omega (arith, ap (λ l. length l) e)
 
 pub by_letter : {letter base : ℕ} {text rest : List ℕ} (result : Option ℕ) → IsBase letter base
     → text ≡ letter ∷ rest → IsNumber (NumberText base) rest result

@@ -8,17 +8,11 @@ pub mod Grammars
 pub mod Integers
 pub mod Led
 pub mod LongGrammars
-pub mod LongKinds
-pub mod LongQuotes
-pub mod LongStrings
 pub mod LongTexts
-pub mod LongWhole
 pub mod Numbers
 pub mod Plain
 pub mod Scalars
-pub mod Spaces
 pub mod Starts
-pub mod Strings
 pub mod Times
 pub mod Toml
 pub mod Unique

@@ -1,6 +1,9 @@
 pub mod DateParts
 pub mod DateTimeParts
+pub mod FilledLemmas
+pub mod KeysLemmas
 pub mod Lines
 pub mod Opened
+pub mod PartsLemmas
 pub mod Reached
 pub mod Within

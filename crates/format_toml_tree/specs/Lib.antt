@@ -3,7 +3,6 @@ pub mod Added
 pub mod Answer
 pub mod Calls
 pub mod Dates
-pub mod Filled
 pub mod Holds
 pub mod Keys
 pub mod Kinds

@@ -1,6 +1,6 @@
-use Rattle.format_json_pieces.specs.Results.{broken_told, fault_told, text_told}
 use Rattle.format_json_texts.specs.Values.{JsonText}
 use Rattle.stream_sets.specs.Accumulator.Holds.{HasCharacters}
+use Rattle.format_json_pieces.proofs.ResultsLemmas.{broken_told, fault_told, text_told}
 use Rattle.format_json_pieces.proofs.value.parse_value_of_bytes.Goals as goal
 
 pub returns-in-Err-clause-text : goal.returns-in-Err-clause-text

@@ -1,6 +1,7 @@
 use Rattle.std.proofs.Common.{refl, rules}
-use Rattle.format_json_pieces.specs.Results.{fails_told, stands_told}
-use Rattle.format_json_pieces.specs.Value.{IsNext, next_ends}
+use Rattle.format_json_pieces.specs.Value.{IsNext}
+use Rattle.format_json_pieces.proofs.ResultsLemmas.{fails_told, stands_told}
+use Rattle.format_json_pieces.proofs.ValueLemmas.{next_ends}
 use Rattle.format_json_pieces.proofs.value.read_next_in_pieces.Goals as goal
 
 pub returns-in-Ok-clause-told : goal.returns-in-Ok-clause-told

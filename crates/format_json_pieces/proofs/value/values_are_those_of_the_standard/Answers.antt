@@ -1,4 +1,4 @@
-use Rattle.format_json_pieces.specs.Value.{value_written}
+use Rattle.format_json_pieces.proofs.ValueLemmas.{value_written}
 use Rattle.format_json_pieces.proofs.value.values_are_those_of_the_standard.Goals as goal
 
 pub returns : goal.returns

@@ -1,6 +1,6 @@
 use Rattle.format_json_texts.specs.Values.{HasText}
-use Rattle.format_json_scalars.specs.Alike.{kept_text}
 use Rattle.winnow_grammar.specs.Read.{reads_no_meaning}
+use Rattle.format_json_scalars.proofs.AlikeLemmas.{kept_text}
 use Rattle.format_json_scalars.proofs.scalar.read_number_text.Goals as goal
 
 pub returns-in-Ok : goal.returns-in-Ok

@@ -1,6 +1,7 @@
 use Rattle.std.proofs.Common.{rules}
-use Rattle.format_json_scalars.specs.First.{scalar_number, scalar_of, scalar_string, scalar_word}
+use Rattle.format_json_scalars.specs.First.{scalar_of}
 use Rattle.winnow_grammar.specs.Told.{text_told}
+use Rattle.format_json_scalars.proofs.FirstLemmas.{scalar_number, scalar_string, scalar_word}
 use Rattle.format_json_scalars.proofs.scalar.read_scalar.Goals as goal
 
 pub returns-then-begins_with-clause-grammar : goal.returns-then-begins_with-clause-grammar

@@ -1,5 +1,5 @@
 use Rattle.std.proofs.Common.{rules}
-use Rattle.format_json_scalars.specs.First.{word_false, word_null, word_true}
+use Rattle.format_json_scalars.proofs.FirstLemmas.{word_false, word_null, word_true}
 use Rattle.format_json_scalars.proofs.scalar.read_word.Goals as goal
 
 pub returns-then-begins_with : goal.returns-then-begins_with

@@ -1,9 +1,9 @@
 use Rattle.std.proofs.Common.{refl, sym, ◌∙◌}
 use Rattle.streams.specs.Input.{is_end_of_trans, is_end_of_trans3}
-use Rattle.format_json_scalars.specs.Runs.{all_read, escape_read, fewer_left, run_ends, run_read}
-use Rattle.format_json_scalars.specs.Runs.{run_wants}
 use Rattle.winnow_core.specs.Exact.Failed.{not_memory}
 use Rattle.winnow_grammar.specs.Read.{reads_wanting}
+use Rattle.format_json_scalars.proofs.RunsLemmas.{all_read, escape_read, fewer_left, run_ends}
+use Rattle.format_json_scalars.proofs.RunsLemmas.{run_read, run_wants}
 use Rattle.format_json_scalars.proofs.string.read_characters.Goals as goal
 
 pub returns-in-Err-push_str : goal.returns-in-Err-push_str

@@ -4,7 +4,7 @@ use Rattle.std.proofs.Common.{length}
 use Rattle.std.specs.Str.{chars}
 use Rattle.streams.specs.Input.{IsEndOf}
 use Rattle.streams.specs.Text.{text_input, text_reading}
-use Rattle.format_json_scalars.specs.Runs.{HasRead}
+use Rattle.format_json_scalars.proofs.RunsLemmas.{HasRead}
 use Rattle.format_json_scalars.proofs.string.read_characters.Given as goal
 
 abbrev pub invariant-runs : goal.invariant-runs

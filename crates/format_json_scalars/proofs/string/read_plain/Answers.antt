@@ -3,11 +3,11 @@ use Rattle.std.proofs.Common.{ap, ◌∙◌}
 use Rattle.std.specs.Prelude.{None}
 use Rattle.streams.specs.Text.{text_reading}
 use Rattle.stream_sets.specs.Range.{from_to}
-use Rattle.format_json_scalars.specs.Alike.{RangesTell}
-use Rattle.format_json_scalars.specs.Runs.{run_same}
 use Rattle.grammars.specs.Grammar.{Longest}
 use Rattle.winnow_grammar.specs.Read.{reads_by}
 use Rattle.winnow_core.specs.Exact.Same.{reads_as}
+use Rattle.format_json_scalars.proofs.AlikeLemmas.{RangesTell}
+use Rattle.format_json_scalars.proofs.RunsLemmas.{run_same}
 use Rattle.format_json_scalars.proofs.string.read_plain.Goals as goal
 
 pub returns : goal.returns

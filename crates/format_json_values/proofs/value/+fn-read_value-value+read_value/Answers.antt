@@ -2,9 +2,9 @@ use Rattle.std.proofs.Common.{refl, rules, arith}
 use Rattle.format_json_texts.specs.Values.{IsArray, IsObject}
 use Rattle.format_json_texts.specs.Values.Texts.{value_of}
 use Rattle.winnow_grammar.specs.Read.{reads_meaning, reads_no_meaning}
-use Rattle.format_json_values.specs.First.{value_array, value_object, value_scalar}
 use Rattle.stream_sets.specs.Accumulator.Holds.{HasCharacters}
 use Rattle.winnow_grammar.specs.Told.{text_told}
+use Rattle.format_json_values.proofs.FirstLemmas.{value_array, value_object, value_scalar}
 use Rattle.format_json_values.proofs.value.+fn-read_value-value+read_value.Goals as goal
 
 pub returns-then-not-opens-clause-grammar : goal.returns-then-not-opens-clause-grammar

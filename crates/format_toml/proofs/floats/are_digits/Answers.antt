@@ -1,7 +1,7 @@
 use Rattle.std.proofs.Common.{arith, inl, inr, sym, ◌∙◌}
 use Rattle.std.proofs.lemmas.Bool.{not-true, not_from_false, true≢false}
-use Rattle.format_toml.specs.Digits.{goes_end, goes_next, goes_stop, true_false}
-use Rattle.format_toml.specs.FloatCuts.{are_goes, has_value, no_value}
+use Rattle.format_toml.specs.Digits.{true_false}
+use Rattle.format_toml.specs.FloatCuts.{are_goes}
 use Rattle.format_toml.proofs.floats.are_digits.Goals as goal
 use Rattle.format_toml.proofs.floats.are_digits.Goals.{
   else-byte-eq95-via-then-byte-eq95+else-not-due,
@@ -11,6 +11,8 @@ use Rattle.format_toml.proofs.floats.are_digits.Goals.{then-is_ascii_digit}
 use Rattle.format_toml.proofs.floats.are_digits.Goals.{
   else-is_ascii_digit+then-byte-eq95+then-not-due,
 }
+use Rattle.format_toml.proofs.DigitsLemmas.{goes_end, goes_next, goes_stop}
+use Rattle.format_toml.proofs.FloatCutsLemmas.{has_value, no_value}
 
 pub returns-else-byte-eq95 : goal.returns-else-byte-eq95
 returns-else-byte-eq95 c = (

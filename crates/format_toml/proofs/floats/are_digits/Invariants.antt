@@ -1,4 +1,4 @@
-use Rattle.format_toml.specs.Digits.{DigitsSo}
+use Rattle.format_toml.proofs.DigitsLemmas.{DigitsSo}
 use Rattle.format_toml.proofs.floats.are_digits.Given as goal
 
 abbrev pub invariant-loop-byte : goal.invariant-loop-byte

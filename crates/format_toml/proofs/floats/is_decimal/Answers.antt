@@ -1,6 +1,6 @@
 use Rattle.std.proofs.Common.{sym}
 use Rattle.std.proofs.lemmas.Bool.{both_ways, true≢false}
-use Rattle.format_toml.specs.FloatCuts.{decimal_none, decimal_some}
+use Rattle.format_toml.proofs.FloatCutsLemmas.{decimal_none, decimal_some}
 use Rattle.format_toml.proofs.floats.is_decimal.Goals as goal
 
 pub returns-then-is_whole : goal.returns-then-is_whole

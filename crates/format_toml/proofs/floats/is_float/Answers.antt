@@ -1,9 +1,9 @@
 use Rattle.std.proofs.Common.{inl, inr, refl}
 use Rattle.format_toml.specs.Floats.{Unsigned}
-use Rattle.format_toml.specs.FloatCuts.{signs_off, told_no_word, told_word, unsigned_no_sign}
 use Rattle.format_toml.proofs.floats.is_float.Goals as goal
 use Rattle.format_toml.proofs.floats.is_float.Goals.{then-eq-via-then-eq}
 use Rattle.format_toml.proofs.floats.is_float.Goals.{then-eq-via-else-eq+then-eq-2}
+use Rattle.format_toml.proofs.FloatCutsLemmas.{signs_off, told_no_word, told_word, unsigned_no_sign}
 
 pub returns-then-eq : goal.returns-then-eq
 returns-then-eq c =

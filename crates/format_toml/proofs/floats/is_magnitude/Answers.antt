@@ -1,7 +1,8 @@
 use Rattle.std.proofs.Common.{inl, inr}
 use Rattle.std.proofs.lemmas.Bool.{both_ways}
 use Rattle.format_toml.specs.Floats.{AreDigits}
-use Rattle.format_toml.specs.FloatCuts.{digits_no_sign, magnitude_none, magnitude_some, signs_off}
+use Rattle.format_toml.proofs.FloatCutsLemmas.{digits_no_sign, magnitude_none, magnitude_some}
+use Rattle.format_toml.proofs.FloatCutsLemmas.{signs_off}
 use Rattle.format_toml.proofs.floats.is_magnitude.Goals as goal
 
 pub returns-then-is_whole : goal.returns-then-is_whole

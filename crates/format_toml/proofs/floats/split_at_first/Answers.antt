@@ -1,11 +1,11 @@
 use Rattle.std.proofs.Common.{inl, inr, refl}
 use Rattle.format_toml.specs.Floats.{SplitsAt}
-use Rattle.format_toml.specs.FloatCuts.{split_here, split_none}
 use Rattle.format_toml.proofs.floats.split_at_first.Goals as goal
 use Rattle.format_toml.proofs.floats.split_at_first.Goals.{then-text-place-via-then-text-place}
 use Rattle.format_toml.proofs.floats.split_at_first.Goals.{
   then-text-place-via-else-text-place+then-text-place-2,
 }
+use Rattle.format_toml.proofs.FloatCutsLemmas.{split_here, split_none}
 
 pub returns-then-text-place : goal.returns-then-text-place
 unfolding SplitsAt

@@ -1,10 +1,10 @@
 use Rattle.std.proofs.Common.{inl, inr}
-use Rattle.format_toml.specs.FloatCuts.{no_sign, no_text, some_sign}
 use Rattle.format_toml.proofs.floats.without_sign.Goals as goal
 use Rattle.format_toml.proofs.floats.without_sign.Goals.{then-first-eq43-via-then-first-eq43}
 use Rattle.format_toml.proofs.floats.without_sign.Goals.{
   then-first-eq43-via-else-first-eq43+then-first-eq45,
 }
+use Rattle.format_toml.proofs.FloatCutsLemmas.{no_sign, no_text, some_sign}
 
 pub returns-in_default : goal.returns-in_default
 returns-in_default c = no_text c.args.text.now c.in_default.ensures.cases

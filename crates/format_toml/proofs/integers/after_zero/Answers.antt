@@ -1,5 +1,6 @@
 use Rattle.std.proofs.Common.{inl, inr, refl, arith}
-use Rattle.format_toml.specs.Integers.{by_letter, by_no_letter, nothing_after}
+use Rattle.format_toml.specs.Integers.{by_letter, by_no_letter}
+use Rattle.format_toml.proofs.IntegersLemmas.{nothing_after}
 use Rattle.format_toml.proofs.integers.after_zero.Goals as goal
 
 pub returns-in_err-letter : goal.returns-in_err-letter

@@ -1,11 +1,12 @@
 use lib.IntN.{+ℤ_idl}
-use Rattle.format_toml.specs.Integers.{by_sign, fits_neg, fits_pos, minus, no_number, nothing_there}
+use Rattle.format_toml.specs.Integers.{by_sign, minus}
 use Rattle.format_toml.specs.Integers.{plain, plus, zeroed}
 use Rattle.format_toml.proofs.integers.integer.Goals as goal
 use Rattle.format_toml.proofs.integers.integer.Goals.{
   else-first-eq48-via-then-first-eq48+else-text-gt1,
 }
 use Rattle.format_toml.proofs.integers.integer.Goals.{else-first-eq48-via-else-first-eq48}
+use Rattle.format_toml.proofs.IntegersLemmas.{fits_neg, fits_pos, no_number, nothing_there}
 
 pub returns-in_err-first : goal.returns-in_err-first
 returns-in_err-first c =

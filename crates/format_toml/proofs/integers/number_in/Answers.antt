@@ -1,12 +1,13 @@
 use Rattle.std.proofs.Common.{arith, inl, inr, refl, sym, ◌∙◌}
-use Rattle.format_toml.specs.Digits.{goes_end, goes_next, goes_stop, no_under, number_goes}
-use Rattle.format_toml.specs.Digits.{true_false, value_end, value_next, value_over, value_under}
+use Rattle.format_toml.specs.Digits.{no_under, number_goes}
+use Rattle.format_toml.specs.Digits.{true_false, value_next, value_under}
 use Rattle.format_toml.specs.Numbers.{IsNumber}
 use Rattle.format_toml.proofs.integers.number_in.Goals as goal
 use Rattle.format_toml.proofs.integers.number_in.Goals.{then-byte-eq95+else-due}
 use Rattle.format_toml.proofs.integers.number_in.Goals.{
   else-byte-eq95+else-digit-base+in_ok-checked_mul+in_ok-number,
 }
+use Rattle.format_toml.proofs.DigitsLemmas.{goes_end, goes_next, goes_stop, value_end, value_over}
 
 pub loop-byte-init : goal.loop-byte-init
 loop-byte-init c = (record { same = (λ x. x, λ x. x) }, refl)

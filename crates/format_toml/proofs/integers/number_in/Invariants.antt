@@ -1,5 +1,6 @@
 use Rattle.std.specs.Prelude.{◌≡◌}
-use Rattle.format_toml.specs.Digits.{DigitsSo, so_far}
+use Rattle.format_toml.specs.Digits.{so_far}
+use Rattle.format_toml.proofs.DigitsLemmas.{DigitsSo}
 use Rattle.format_toml.proofs.integers.number_in.Given as goal
 
 abbrev pub invariant-loop-byte : goal.invariant-loop-byte

@@ -1,6 +1,6 @@
-use Rattle.format_toml.specs.Integers.{unsigned_by}
 use Rattle.format_toml.specs.Numbers.{IsNumber, UnsignedText}
 use Rattle.std.proofs.lemmas.Bool.{both_ways}
+use Rattle.format_toml.proofs.IntegersLemmas.{unsigned_by}
 use Rattle.format_toml.proofs.integers.unsigned.Goals as goal
 
 pub returns-then-is_lone : goal.returns-then-is_lone

@@ -1,5 +1,5 @@
 use Rattle.std.proofs.Common.{rules}
-use Rattle.format_toml.specs.Led.{reads_led, reads_other}
+use Rattle.format_toml.proofs.LedLemmas.{reads_led, reads_other}
 use Rattle.format_toml.proofs.lines.read_table.Goals as goal
 
 pub returns-then-begins_with : goal.returns-then-begins_with

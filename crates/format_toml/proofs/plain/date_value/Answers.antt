@@ -1,5 +1,6 @@
 use Rattle.std.proofs.Common.{inl, inr}
-use Rattle.format_toml.specs.Plain.{IsAnswer, date_found, no_date}
+use Rattle.format_toml.specs.Plain.{IsAnswer}
+use Rattle.format_toml.proofs.PlainLemmas.{date_found, no_date}
 use Rattle.format_toml.proofs.plain.date_value.Goals as goal
 
 pub returns-in-Ok-Some : goal.returns-in-Ok-Some

@@ -1,5 +1,5 @@
 use Rattle.std.proofs.lemmas.Bool.{both_ways}
-use Rattle.format_toml.specs.Plain.{date_told, float_told}
+use Rattle.format_toml.proofs.PlainLemmas.{date_told, float_told}
 use Rattle.format_toml.proofs.plain.other_value.Goals as goal
 
 pub float_value-requires : goal.float_value-requires

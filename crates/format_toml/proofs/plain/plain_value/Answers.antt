@@ -1,8 +1,9 @@
 use Rattle.std.specs.Int.{w64}
 use Rattle.std.proofs.Common.{ap}
 use Rattle.std.proofs.lemmas.Int.{to_z-of_z}
-use Rattle.format_toml.specs.Plain.{IsAnswer, integer_told, other_told}
+use Rattle.format_toml.specs.Plain.{IsAnswer}
 use Rattle.format_toml_tree.specs.declared.value.Value as values
+use Rattle.format_toml.proofs.PlainLemmas.{integer_told, other_told}
 use Rattle.format_toml.proofs.plain.plain_value.Goals as goal
 
 pub returns-in-Some : goal.returns-in-Some

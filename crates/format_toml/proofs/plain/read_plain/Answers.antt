@@ -1,6 +1,6 @@
 use Rattle.format_toml.specs.Grammars.{IsPlain}
-use Rattle.format_toml.specs.Plain.{plain_reads}
 use Rattle.winnow_grammar.specs.Read.{reads_no_meaning}
+use Rattle.format_toml.proofs.PlainLemmas.{plain_reads}
 use Rattle.format_toml.proofs.plain.read_plain.Goals as goal
 
 pub returns-in-Ok : goal.returns-in-Ok

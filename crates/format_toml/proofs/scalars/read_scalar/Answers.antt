@@ -1,6 +1,6 @@
 use Rattle.std.proofs.Common.{rules}
 use Rattle.std.specs.Str.{chars}
-use Rattle.format_toml.specs.Led.{reads_led, reads_other}
+use Rattle.format_toml.proofs.LedLemmas.{reads_led, reads_other}
 use Rattle.format_toml.proofs.scalars.read_scalar.Goals as goal
 
 pub returns-then-begins_with : goal.returns-then-begins_with

@@ -1,4 +1,3 @@
-use Rattle.format_toml_tree.specs.Keys.{err_is}
 use Rattle.std.proofs.Common.{[], ◌≡◌, Result, Err, refl, subst, sym, ◌+◌, ap}
 use Rattle.format_toml_tree.specs.Answer.{answers_fault, no_memory, answers_tree}
 use Rattle.format_toml_tree.specs.Holds.{AddsLine}
@@ -8,6 +7,7 @@ use Rattle.format_toml_tree.specs.Runs.{Gives, empty}
 use Rattle.format_toml_tree.specs.declared.build.TreeError.{TreeError}
 use Rattle.format_toml_tree.proofs.build.build.Goals as goal
 use Rattle.format_toml_tree.proofs.build.build.Goals.{in-Some+in-Ok, in_default}
+use Rattle.format_toml_tree.proofs.KeysLemmas.{err_is}
 
 pub loop-line-init : goal.loop-line-init
 loop-line-init g c = left_first _ _ _ c.in_ok-tree.ensures

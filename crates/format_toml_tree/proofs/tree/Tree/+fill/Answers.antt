@@ -1,4 +1,3 @@
-use Rattle.format_toml_tree.specs.Keys.{err_is}
 use Rattle.std.proofs.Common.{◌≡◌, ◌<◌, ◌≤◌, ◌+◌, ◌*◌, ℕ, List, length, get_or, max, refl, ap}
 use Rattle.std.proofs.Common.{◌∙◌}
 use Rattle.std.proofs.Common.{rules, arith}
@@ -7,14 +6,17 @@ use Rattle.std.proofs.lemmas.Option.{slice_get_read}
 use denote.Param.Weighed.{at_most as the_most, most}
 use Rattle.format_toml_tree.specs.Added.{some_there}
 use Rattle.format_toml_tree.specs.Calls.{stays}
-use Rattle.format_toml_tree.specs.Parts.{all_filled, element_filled, element_refused, entry_filled}
-use Rattle.format_toml_tree.specs.Parts.{entry_refused, fills_array, fills_inline, fills_nowhere}
-use Rattle.format_toml_tree.specs.Parts.{fills_single, key_refused, value_at, value_filled}
+use Rattle.format_toml_tree.specs.Parts.{fills_array, fills_inline, fills_nowhere}
+use Rattle.format_toml_tree.specs.Parts.{fills_single}
 use Rattle.format_toml_tree.specs.Runs.{FillsNames, FillsPlaces}
 use Rattle.format_toml_tree.specs.Runs as runs
 use Rattle.format_toml_tree.specs.declared.value.Value.{Value, size-Value, the_lemmas}
 use Rattle.format_toml_tree.specs.declared.value.Value.TheVariants as values
 use Rattle.format_toml_tree.specs.declared.value.Key.{Key}
+use Rattle.format_toml_tree.proofs.KeysLemmas.{err_is}
+use Rattle.format_toml_tree.proofs.PartsLemmas.{all_filled, element_filled, element_refused}
+use Rattle.format_toml_tree.proofs.PartsLemmas.{entry_filled, entry_refused, key_refused, value_at}
+use Rattle.format_toml_tree.proofs.PartsLemmas.{value_filled}
 use Rattle.format_toml_tree.proofs.tree.Tree.+fill.Goals as goal
 
 -- ---- parts are not as deep

@@ -1,6 +1,6 @@
 use Rattle.std.proofs.Common.{◌*◌, ◌+◌}
 use Rattle.format_toml_tree.specs.Runs.{FillsNames, FillsPlaces}
-use Rattle.format_toml_tree.specs.Parts.{LeftToFill}
+use Rattle.format_toml_tree.proofs.PartsLemmas.{LeftToFill}
 use Rattle.format_toml_tree.proofs.tree.Tree.+fill.Given as goal
 
 -- loop invariant: the elements from this one on remain

@@ -1,9 +1,9 @@
-use Rattle.format_toml_tree.specs.Keys.{err_is}
 use Rattle.std.proofs.Common.{Err, Ok, subst, sym}
 use Rattle.format_toml_tree.proofs.Lines.{adds_header, adds_refused, adds_value}
-use Rattle.format_toml_tree.specs.Parts.{key_refused, value_filled}
 use Rattle.format_toml_tree.specs.Rules.{adds, defines}
 use Rattle.format_toml_tree.specs.Runs.{Runs}
+use Rattle.format_toml_tree.proofs.KeysLemmas.{err_is}
+use Rattle.format_toml_tree.proofs.PartsLemmas.{key_refused, value_filled}
 use Rattle.format_toml_tree.proofs.tree.Tree.add.Goals as goal
 
 pub returns-in-Table : goal.returns-in-Table

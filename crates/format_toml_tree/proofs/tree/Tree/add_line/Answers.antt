@@ -1,7 +1,7 @@
-use Rattle.format_toml_tree.specs.Keys.{err_is}
 use Rattle.std.proofs.Common.{subst, ◌∙◌}
 use Rattle.format_toml_tree.specs.Holds.{FitResult}
 use Rattle.format_toml_tree.proofs.Within.{line_added, line_deep, line_stopped}
+use Rattle.format_toml_tree.proofs.KeysLemmas.{err_is}
 use Rattle.format_toml_tree.proofs.tree.Tree.add_line.Goals as goal
 
 pub returns-in_err-next : goal.returns-in_err-next

@@ -1,6 +1,6 @@
-use Rattle.format_toml_tree.specs.Keys.{err_is}
 use Rattle.format_toml_tree.specs.Holds.{says_of}
 use Rattle.format_toml_tree.proofs.Opened.{say_done, say_refused, told_stop}
+use Rattle.format_toml_tree.proofs.KeysLemmas.{err_is}
 use Rattle.format_toml_tree.proofs.tree.Tree.say.Goals as goal
 
 pub returns-in_err-place : goal.returns-in_err-place

@@ -1,10 +1,10 @@
 use Rattle.std.proofs.Common.{◌≡◌, ◌<◌, ◌≤◌, ◌+◌, length, Err, Ok, refl, ap, subst, arith}
 use Rattle.format_toml_tree.specs.Calls.{stays}
 use Rattle.format_toml_tree.specs.Holds.{SlotResult, says_of}
-use Rattle.format_toml_tree.specs.Keys.{err_is, all_said, said_more, said_refused}
 use Rattle.format_toml_tree.specs.Runs.{say, say_key}
 use Rattle.format_toml_tree.proofs.tree.Tree.say_key.Goals as goal
 use Rattle.format_toml_tree.proofs.tree.Tree.say_key.Goals.{else-i-names, then-i-names}
+use Rattle.format_toml_tree.proofs.KeysLemmas.{err_is, all_said, said_more, said_refused}
 
 pub loop-i-init : goal.loop-i-init
 loop-i-init g c tree path holds = ((tree, path c.args.table), refl, stays _ holds c.requires.3)

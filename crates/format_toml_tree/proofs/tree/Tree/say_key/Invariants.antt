@@ -1,5 +1,5 @@
 use Rattle.format_toml_tree.specs.Holds.{says_of}
-use Rattle.format_toml_tree.specs.Keys.{LeftToSay}
+use Rattle.format_toml_tree.proofs.KeysLemmas.{LeftToSay}
 use Rattle.format_toml_tree.proofs.tree.Tree.say_key.Given as goal
 
 -- the names from this one on are left to say

@@ -6,13 +6,6 @@ use Rattle.stream_sets.specs.AsChar.{IsSpace}
 use Rattle.format_parts.specs.Words.{One, Run, char_of, latter}
 use Rattle.format_toml.specs.Grammars.{Blank, EscapedLine, Skips, AnyBasic, AnyLiteral}
 use Rattle.format_toml.specs.Grammars.{BasicContent, LiteralContent, NoSkips}
-use Rattle.format_toml.specs.LongStrings.{Skipping}
-use Rattle.format_toml.specs.LongWhole.{Free, none_longer, none_shorter, none_stands, none_written}
-use Rattle.format_toml.specs.LongWhole.{long_begins, long_or_short_of, short_apart}
-use Rattle.format_toml.specs.Spaces.{IsBreak, newline_begins, newline_of, ws_of}
-use Rattle.format_toml.specs.Strings.{Apart, character_apart, one_of_set, set_begins}
-use Rattle.format_toml.specs.Strings.{basic_string_begins, basic_string_of, character_begins}
-use Rattle.format_toml.specs.Strings.{character_of, literal_string_begins, literal_string_of}
 use Rattle.format_toml.specs.Toml.{BlankText, CharacterText, EscapedLineText, EscapedLines}
 use Rattle.format_toml.specs.Toml.{NewlineText, WsText, AnyBasicText, AnyLiteralText, IsOf}
 use Rattle.format_toml.specs.Unique.{skips_unique}
@@ -29,6 +22,14 @@ use Rattle.grammars.specs.Texts.Fronts.{spelled_begins}
 use Rattle.grammars.specs.Texts.Parts.{both_of, either_apart}
 use Rattle.grammars.specs.Texts.Rows.{each_back, each_there, gathered_of, many_of}
 use Rattle.grammars.specs.Grammar.Unique.{unique_nothing}
+use Rattle.format_toml.proofs.LongStringsLemmas.{Skipping}
+use Rattle.format_toml.proofs.LongWholeLemmas.{Free, none_longer, none_shorter, none_stands}
+use Rattle.format_toml.proofs.LongWholeLemmas.{none_written, long_begins, long_or_short_of}
+use Rattle.format_toml.proofs.LongWholeLemmas.{short_apart}
+use Rattle.format_toml.proofs.SpacesLemmas.{IsBreak, newline_begins, newline_of, ws_of}
+use Rattle.format_toml.proofs.StringsLemmas.{Apart, character_apart, one_of_set, set_begins}
+use Rattle.format_toml.proofs.StringsLemmas.{basic_string_begins, basic_string_of, character_begins}
+use Rattle.format_toml.proofs.StringsLemmas.{character_of, literal_string_begins, literal_string_of}
 
 -- ---- what is blank
 

@@ -8,7 +8,6 @@ use Rattle.stream_sets.specs.Range.{from_to}
 use Rattle.format_parts.specs.Words.{Run, char_of, former, latter, pair, run_of}
 use Rattle.format_toml.specs.Grammars.{AnyComment, Gap, GapPart, GappedOut, Mark, Newline}
 use Rattle.format_toml.specs.Grammars.{SpacedOut, WideMark, Ws}
-use Rattle.format_toml.specs.Strings.{one_of_set, set_begins}
 use Rattle.format_toml.specs.Toml.{CommentText, GapPartText, GapText, Gapped, IsOf, MarkText}
 use Rattle.format_toml.specs.Toml.{NewlineText, SetResult, Spaced, WideMarkText, WsText}
 use Rattle.format_toml.specs.declared.characters.Characters.TheVariants.{Comment, White}
@@ -22,6 +21,7 @@ use Rattle.grammars.specs.Texts.Fronts.{spelled_begins}
 use Rattle.grammars.specs.Texts.Parts.{behind_less, both_of, either_apart, optional_of}
 use Rattle.grammars.specs.Texts.Rows.{gathered_of, many_of}
 use Rattle.grammars.specs.Texts.Tokens.{divides_seen, divides_where, longest_of}
+use Rattle.format_toml.proofs.StringsLemmas.{one_of_set, set_begins}
 
 -- ---- whitespace on a line
 

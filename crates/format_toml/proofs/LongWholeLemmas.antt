@@ -5,9 +5,6 @@ use Rattle.std.specs.declared.string.String.{String}
 use Rattle.std.proofs.Common.{refl, sym, ap, subst, inl, inr, ◌∙◌, arith, append_assoc}
 use Rattle.format_parts.specs.Words.{Between, One, between_of, former, latter}
 use Rattle.format_toml.specs.LongGrammars.{Body, Long, Part}
-use Rattle.format_toml.specs.LongQuotes.{NotTwo, delimiter_of, three_is}
-use Rattle.format_toml.specs.LongStrings.{Before, Closes, Skipping, closes_begins, parts_back}
-use Rattle.format_toml.specs.LongStrings.{parts_there}
 use Rattle.format_toml.specs.LongTexts.{BodyText, DelimiterText, LongText, NoneWritten, Trimmed}
 use Rattle.format_toml.specs.LongTexts.{one_and_two}
 use Rattle.stream_sets.specs.Accumulator.Holds.{HasCharacters}
@@ -20,6 +17,9 @@ use Rattle.grammars.specs.Texts.{Text}
 use Rattle.grammars.specs.Texts.Fronts.{both_front, each_front, front_any, front_whole}
 use Rattle.grammars.specs.Texts.Fronts.{gathered_front, spelled_begins}
 use Rattle.grammars.specs.Texts.Parts.{behind_less, either_of}
+use Rattle.format_toml.proofs.LongQuotesLemmas.{NotTwo, delimiter_of, three_is}
+use Rattle.format_toml.proofs.LongStringsLemmas.{Before, Closes, Skipping, closes_begins}
+use Rattle.format_toml.proofs.LongStringsLemmas.{parts_back, parts_there}
 
 -- ---- what is not written
 

@@ -7,7 +7,6 @@ use Rattle.format_parts.specs.Words.{Char, For, One, Whichever, any_of, between_
 use Rattle.format_parts.specs.Words.{four_same, latter, pair, to_four}
 use Rattle.format_toml.specs.Grammars.{AnyCharacters, BasicString, Character, Escape, LiteralString}
 use Rattle.format_toml.specs.Grammars.{WideUnits}
-use Rattle.format_toml.specs.Led.{led_of}
 use Rattle.format_toml.specs.Toml.{BasicText, CharacterText, CharactersText, IsOf, LiteralText}
 use Rattle.format_toml.specs.Toml.{EscapeText, IsWide, SetResult, StandsFor}
 use Rattle.format_toml.specs.declared.characters.Characters.{Characters}
@@ -23,6 +22,7 @@ use Rattle.grammars.specs.Texts.Fronts.{spelled_begins, token_of_begins}
 use Rattle.grammars.specs.Texts.Parts.{both_of, either_apart, same_of}
 use Rattle.grammars.specs.Texts.Rows.{gathered_of, many_of}
 use Rattle.grammars.specs.Texts.Tokens.{divides_where, token_of}
+use Rattle.format_toml.proofs.LedLemmas.{led_of}
 
 -- ---- characters of a set
 

@@ -3,12 +3,12 @@
 use Rattle.std.specs.Prelude.{◌≡◌, ◌⊎◌, ◌≤◌, ⊤, ℕ, zero, suc, List, [], ◌∷◌, ◌++◌}
 use Rattle.std.proofs.Common.{refl, sym, ap, subst, inl, inr, ◌∙◌, arith, append_assoc}
 use Rattle.format_toml.specs.LongGrammars.{Part}
-use Rattle.format_toml.specs.LongQuotes.{Clear, quote_back, quote_there, twice}
 use Rattle.format_toml.specs.LongTexts.{BodyText, room_behind}
 use Rattle.streams.specs.Equal.{same_others}
 use Rattle.grammars.specs.Grammar.{Both, Each, Either, Grammar, IsUnique, NoMatch}
 use Rattle.grammars.specs.Texts.{Anything, StartsWith, TextsStartWith, IsGrammarOf, NotFirst, Text}
 use Rattle.grammars.specs.Texts.Fronts.{none_begins}
+use Rattle.format_toml.proofs.LongQuotesLemmas.{Clear, quote_back, quote_there, twice}
 
 -- The input that may be skipped, by its grammar: `stop` holds where nothing more is skipped.
 pub record Skipping (quote : ℕ) (text : Text ℕ ℕ) (skips : Grammar ℕ ⊤)
