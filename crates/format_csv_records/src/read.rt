@@ -9,7 +9,6 @@ ghost use Rattle.std.specs.Prelude.{◌^◌, MatchBool, MatchOption, MatchResult
 ghost use Rattle.std.specs.Prelude.{List, ℕ, IsTrue, ◌↔◌, take};
 ghost use Rattle.std.specs.List.{All};
 ghost use Rattle.format_csv_records.specs.Dialects.{AreFields, EndsHere, IsLineEnd, IsPlain};
-
 ghost use Rattle.format_csv_records.specs.Parts.{Closed, EndsNowhere, FieldFirst, IsOther};
 ghost use Rattle.format_csv_records.specs.Parts.{NotFirst, OpenFirst, SoMany, Unclosed, WhyNot};
 ghost use Rattle.format_csv_records.specs.Records.{fields_of};

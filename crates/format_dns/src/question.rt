@@ -1,6 +1,5 @@
 //! Questions (RFC 1035, section 4.1.2).
 ghost use Rattle.format_dns.specs.Fields.{AreAsked};
-
 ghost use Rattle.format_dns.specs.Questions.{AreQuestions, FieldsResult, HasNoQuestion, IsQuestion};
 ghost use Rattle.format_dns.specs.Questions.{PartResult, QuestionsLack, QuestionsResult};
 ghost use Rattle.format_dns.specs.Questions.{QuestionsWant};

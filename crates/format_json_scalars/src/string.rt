@@ -2,7 +2,6 @@
 ghost use Rattle.format_json_scalars.specs.Escapes.{characters_unique};
 ghost use Rattle.format_json_scalars.specs.Runs.{Characters, PlainRun};
 ghost use Rattle.format_json_texts.specs.Strings.{Quoted, StringText};
-
 ghost use Rattle.streams.specs.Text.{text_input, text_reading};
 ghost use Rattle.winnow_core.specs.Exact.{Reads};
 ghost use Rattle.stream_sets.specs.Accumulator.Holds.{HasCharacters};

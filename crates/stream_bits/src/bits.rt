@@ -6,7 +6,6 @@ ghost use Rattle.std.specs.Prelude.{true};
 ghost use Rattle.std.specs.Prelude.{length, [], MatchOption};
 ghost use Rattle.streams.specs.Input.{IsEndOf, Takes};
 ghost use Rattle.stream_bits.specs.BitInput.{bits_follow, bits_from, bits_input, bits_left};
-
 ghost use Rattle.stream_bits.specs.BitReading.{IsBitPosition, bits_reading};
 ghost use Rattle.stream_bits.specs.Offsets.{bits_to_come};
 ghost use Rattle.streams.specs.Stream.{Cuts, IsBoundary, with_offsets};

@@ -4,7 +4,6 @@
 ghost use Rattle.std.specs.Prelude.{◌≡◌, ◌<◌, ◌≤◌, ◌+◌, ◌*◌, ◌^◌, length, true, map, drop, []};
 ghost use Rattle.std.specs.Iterator.{at_most};
 ghost use Rattle.streams.specs.Stream.{GivesNext, with_offsets};
-
 ghost use Rattle.stream_bits.specs.BitList.{bits_of};
 ghost use Rattle.stream_bits.specs.Offsets.{bits_to_come};
 

@@ -1,6 +1,5 @@
 //! The error of a control.
 ghost use Rattle.std.specs.Prelude.{◌≡◌, false};
-
 ghost use Rattle.stream_errors.specs.Control.{control_kind, control_kind-cases};
 ghost use Rattle.stream_errors.specs.Form.{plain};
 ghost use Rattle.stream_errors.specs.Given.{always_kept};

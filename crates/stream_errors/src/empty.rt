@@ -1,6 +1,5 @@
 //! An error without information.
 ghost use Rattle.std.specs.Prelude.{◌≡◌, if◌then◌else◌};
-
 ghost use Rattle.stream_errors.specs.Form.{marked_kind, plain};
 ghost use Rattle.stream_errors.specs.Form.{marked_kind-cases};
 

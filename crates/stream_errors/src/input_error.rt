@@ -1,6 +1,5 @@
 //! An error with the input where it occurred.
 ghost use Rattle.std.specs.Prelude.{◌≡◌, false, refl, if◌then◌else◌};
-
 ghost use Rattle.stream_errors.specs.Form.{marked_kind, plain};
 ghost use Rattle.stream_errors.specs.Form.{marked_kind-cases};
 

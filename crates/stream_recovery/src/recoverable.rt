@@ -1,6 +1,5 @@
 //! A stream that records errors.
 ghost use Rattle.std.specs.Prelude.{◌≡◌, ◌++◌, ◌∷◌, [], MatchResult};
-
 ghost use Rattle.stream_recovery.specs.Recorded.{recorded_errors, recorded_input};
 ghost use Rattle.stream_recovery.specs.Recorded.{recoverable_view};
 

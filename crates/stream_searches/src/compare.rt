@@ -2,7 +2,6 @@
 //!
 //! Those of bytes are here, those of other streams in the files below.
 ghost use Rattle.std.specs.Prelude.{◌≡◌, ◌≤◌, List, [], ◌∷◌, length};
-
 ghost use Rattle.std.specs.Bool.{Decides};
 ghost use Rattle.std.specs.Char.{encode_utf8};
 ghost use Rattle.stream_searches.specs.Compare.{ComparesAs, StartsWithSpelling};

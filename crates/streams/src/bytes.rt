@@ -3,7 +3,6 @@ ghost use Rattle.std.specs.Prelude.{◌≡◌, ◌+◌, ◌<◌, ◌^◌, []};
 ghost use Rattle.std.specs.Prelude.{length};
 ghost use Rattle.std.specs.Prelude.{true, false, refl};
 ghost use Rattle.std.specs.Iterator.{at_most};
-
 ghost use Rattle.streams.specs.Counted.{one_counted};
 ghost use Rattle.streams.specs.Input.{at_start};
 ghost use Rattle.streams.specs.Stream.{with_offsets, GivesNext};

@@ -4,7 +4,6 @@
 ghost use Rattle.std.specs.Prelude.{◌≡◌, IfOk, IfSome, IsSome, [], false, true};
 ghost use Rattle.winnow.specs.Accumulator.{list_kept};
 ghost use Rattle.winnow.specs.Form.{answer_by, assert_kind};
-
 ghost use Rattle.winnow.specs.RecoverableParse.{RecoverableParses};
 ghost use Rattle.winnow.specs.Recovery.{Recovery, recovery_of};
 ghost use Rattle.winnow.specs.Repeat.{RangedRuns};

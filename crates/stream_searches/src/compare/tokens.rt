@@ -1,6 +1,5 @@
 //! Comparisons of token lists: a literal stands for the lists whose tokens equal its own.
 ghost use Rattle.std.specs.Prelude.{◌∷◌, [], length};
-
 ghost use Rattle.stream_searches.specs.Compare.{ComparesAs};
 ghost use Rattle.stream_searches.specs.TokenCompare.{EqualsList, same_count};
 
