@@ -3,7 +3,7 @@ use Rattle.std.specs.Prelude.{◌≡◌, ℕ, List}
 use Rattle.format_json.specs.Fault.{IsErrorOf}
 use Rattle.format_json.specs.declared.fault.JsonError.{JsonError}
 use Rattle.format_json.specs.declared.fault.JsonError.TheVariants as faults
-use Rattle.format_json.specs.declared.fault.Location.{Location}
+use Rattle.format_parts.specs.declared.location.Location.{Location}
 use Rattle.format_json_pieces.specs.declared.expected.Expected.{Expected}
 use Rattle.format_json_pieces.specs.declared.expected.Expected.TheVariants as what
 use Rattle.exported.specs.Code.{incomplete, invalid, invalid_utf8, no_memory, too_deep}

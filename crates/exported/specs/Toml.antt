@@ -8,7 +8,7 @@ use Rattle.exported.specs.TomlErrors.{expected_of, reason_of}
 use Rattle.exported.specs.declared.toml.TomlResult.{TomlResult}
 use Rattle.format_toml.specs.Toml.{DocumentText}
 use Rattle.format_toml_document.specs.Fault.{IsBroken, IsDocument, IsErrorOf}
-use Rattle.format_toml_document.specs.declared.fault.Location.{Location}
+use Rattle.format_parts.specs.declared.location.Location.{Location}
 use Rattle.format_toml_document.specs.declared.fault.TomlError.{TomlError}
 use Rattle.format_toml_document.specs.declared.fault.TomlError.TheVariants as faults
 use Rattle.format_toml_nodes.specs.Laying.{IsSizeOf}

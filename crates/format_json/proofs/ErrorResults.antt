@@ -5,9 +5,8 @@ use Rattle.std.proofs.lemmas.List.{take-append-drop, take-append-le}
 use Rattle.std.proofs.lemmas.Str.{utf8_valid_len-IsValidUpTo}
 use Rattle.std.specs.Str.{IsUtf8, IsValidUpTo, chars}
 use Rattle.std.specs.Str.Lossy.{utf8_valid_len}
-use Rattle.format_json.specs.Fault.{IsErrorOf, IsLocation, write_fault}
+use Rattle.format_json.specs.Fault.{IsErrorOf, write_fault}
 use Rattle.format_json.specs.declared.fault.JsonError.TheVariants as faults
-use Rattle.format_json.specs.declared.fault.Location.{Location}
 use Rattle.format_json.specs.declared.fault.JsonWriteError.{JsonWriteError}
 use Rattle.format_json.specs.declared.fault.JsonWriteError.TheVariants as unwritten
 use Rattle.format_json_pieces.specs.Begun.{MayBegin}
@@ -18,6 +17,8 @@ use Rattle.format_json_pieces.specs.declared.begun.Mode.TheVariants.{Value}
 use Rattle.format_json_pieces.specs.declared.expected.Expected.{Expected}
 use Rattle.format_json_writer.specs.declared.error.WriteError.{WriteError}
 use Rattle.format_json_writer.specs.declared.error.WriteError.TheVariants as errors
+use Rattle.format_parts.specs.Location.{IsLocation}
+use Rattle.format_parts.specs.declared.location.Location.{Location}
 use Rattle.text_positions.specs.Position.{IsPosition}
 
 module _ (level : ℕ) where

@@ -4,7 +4,6 @@ use Rattle.std.specs.Str.{IsUtf8, chars}
 use Rattle.std.specs.Str.Lossy.{utf8_valid_len}
 use Rattle.format_json.specs.declared.fault.JsonError.{JsonError}
 use Rattle.format_json.specs.declared.fault.JsonError.TheVariants as faults
-use Rattle.format_json.specs.declared.fault.Location.{Location}
 use Rattle.format_json.specs.declared.fault.JsonWriteError.{JsonWriteError}
 use Rattle.format_json.specs.declared.fault.JsonWriteError.TheVariants as unwritten
 use Rattle.format_json_pieces.specs.Begun.{MayBegin}
@@ -12,14 +11,9 @@ use Rattle.format_json_pieces.specs.Place.{IsPlace}
 use Rattle.format_json_pieces.specs.declared.expected.Expected.TheVariants.{NoDeeper}
 use Rattle.format_json_writer.specs.declared.error.WriteError.{WriteError}
 use Rattle.format_json_writer.specs.declared.error.WriteError.TheVariants as errors
+use Rattle.format_parts.specs.Location.{IsLocation}
+use Rattle.format_parts.specs.declared.location.Location.{Location}
 use Rattle.text_positions.specs.Position.{IsPosition}
-
--- `IsLocation bytes offset at`: `at` has this offset. If the bytes before it are UTF-8, it has the
--- line and the column of their end.
-abbrev pub IsLocation : List ℕ → ℕ → Location → Type 0
-IsLocation bytes offset at =
-    (at.offset ≡ offset)
-    × (IsUtf8 (take offset bytes) → IsPosition (chars (take offset bytes)) at.line at.column)
 
 -- `IsLocated bytes at`: the line and column of `at` are those of its offset in `bytes`.
 abbrev pub IsLocated : List ℕ → Location → Type 0

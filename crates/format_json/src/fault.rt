@@ -1,6 +1,5 @@
 //! Why a text is no JSON, and where; and why a value is not written.
-ghost use Rattle.format_json.specs.Fault.{IsErrorOf, IsLocation, IsReadable, location_of};
-ghost use Rattle.format_json.specs.Fault.{write_fault};
+ghost use Rattle.format_json.specs.Fault.{IsErrorOf, IsReadable, location_of, write_fault};
 ghost use Rattle.format_json_pieces.specs.Place.{IsPlace};
 ghost use Rattle.std.specs.Prelude.{◌≡◌};
 ghost use Rattle.std.specs.Str.{IsUtf8};
@@ -8,36 +7,11 @@ ghost use Rattle.std.specs.Str.{IsUtf8};
 use format_json_pieces::expected::Expected;
 use format_json_pieces::place::{Place, first_place};
 use format_json_writer::error::WriteError;
+use format_parts::location::Location;
 use std::alloc::Allocator;
 use std::error::Error;
 use std::fmt::{Display, Formatter};
 use std::{fmt, str};
-use text_positions::excerpt::position_in;
-
-/// A place in a text.
-///
-/// ```
-/// use format_json::{JsonError, from_text};
-///
-/// if let Err(JsonError::Unexpected { at, .. }) = from_text(alloc, 1, "[1,\n 2 3]") {
-///     assert_eq!(rt; (at.offset, at.line, at.column), (7, 2, 4));
-/// }
-/// ```
-#[derive(Clone, Copy, Debug, PartialEq, Eq, Drop)]
-pub struct Location {
-    /// The number of bytes before it.
-    pub offset: usize,
-    /// The line, counted from 1. Lines end with a line feed.
-    pub line: usize,
-    /// The column, counted from 1, in characters.
-    pub column: usize,
-}
-
-impl Display for Location {
-    fn fmt<W: fmt::Write>(&self, f: &mut Formatter<W>) -> fmt::Result {
-        write!(f, "line {}, column {}", self.line, self.column)
-    }
-}
 
 /// Why a text is no JSON, and where.
 ///
@@ -169,25 +143,12 @@ impl Display for JsonWriteError {
 
 impl Error for JsonWriteError {}
 
-/// Returns the line and the column of `offset`. Bytes after it are not read: they may not be UTF-8.
-fn located(bytes: &[u8], offset: usize) -> Location
-    ensures { IsLocation bytes.now offset result }
-{
-    let before = bytes.get(..offset).unwrap_or(bytes);
-    let position = position_in(before, before.len());
-    Location {
-        offset,
-        line: position.line,
-        column: position.column,
-    }
-}
-
 /// Returns the [`JsonError`] for `place` in `text`.
 fn fault_at(level: usize, text: &[u8], place: Place) -> JsonError
     ensures { IsPlace level text.now place.offset place.expected
         → IsReadable text.now place.offset → IsErrorOf level text.now result }
 {
-    let at = located(text, place.offset);
+    let at = Location::new(text, place.offset);
     match place.expected {
         Expected::NoDeeper => JsonError::TooDeep { at, level },
         expected if place.offset < text.len() => JsonError::Unexpected { at, expected },
@@ -228,7 +189,7 @@ pub fn error_of<A: Allocator>(alloc: A, level: usize, bytes: &[u8]) -> JsonError
     match first_place(alloc, level, bytes) {
         Ok(place) if place.offset < valid => fault_at(level, bytes, place),
         Ok(_) => JsonError::NotUtf8 {
-            at: located(bytes, valid),
+            at: Location::new(bytes, valid),
         },
         Err(_) => JsonError::NoMemory,
     }

@@ -38,13 +38,14 @@ pub mod number;
 pub mod read;
 pub mod write;
 
-pub use fault::{JsonError, JsonWriteError, Location};
+pub use fault::{JsonError, JsonWriteError};
 pub use format_json_decimals::decimal::{Decimal, DecimalError};
 pub use format_json_pieces::expected::Expected;
 pub use format_json_pieces::value::{read_next_in_pieces, read_value_in_pieces};
 pub use format_json_texts::path::Step;
 pub use format_json_texts::value::Value;
 pub use format_json_values::value::SAFE_DEPTH;
+pub use format_parts::location::Location;
 pub use number::as_decimal;
 pub use read::{from_bytes, from_text};
 pub use write::{to_text, to_text_pretty};

@@ -1,9 +1,8 @@
 -- The results of parsers, in the terms of JSON.
-use Rattle.std.specs.Prelude.{◌≡◌, ◌↔◌, ◌≤◌, ◌++◌, ℕ, Bool, true, IsTrue, Result}
+use Rattle.std.specs.Prelude.{◌≡◌, ◌↔◌, ◌≤◌, ℕ, Bool, true, IsTrue, Result}
 use Rattle.std.specs.Prelude.{Ok, Err, Some, None, IfOk, MatchResult, string_bytes}
 use Rattle.std.specs.declared.string.String.{String}
 use Rattle.std.specs.Range.{range_inclusive_end, range_inclusive_start}
-use Rattle.std.specs.Str.{chars, encode_utf8_all}
 use Rattle.std.specs.declared.ops.RangeInclusive.{RangeInclusive}
 use Rattle.std.proofs.Common.{refl, sym, ap, ◌∙◌, arith}
 use Rattle.streams.specs.Equal.{none_is_some, same_some}
@@ -12,11 +11,11 @@ use Rattle.streams.specs.Kind.{Kind, memory}
 use Rattle.streams.specs.Text.{text_reading}
 use Rattle.stream_errors.specs.Growth.{grown}
 use Rattle.stream_sets.specs.Sets.{InEither}
-use Rattle.format_parts.specs.Words.{Slice, Word}
+use Rattle.format_parts.specs.Words.{Slice}
 use Rattle.format_json_texts.specs.Values.{HasText}
 use Rattle.winnow_core.specs.Exact.{Reads}
-use Rattle.winnow_grammar.specs.Read.{err_as, ok_as, reads_meaning, reads_wanting}
-use Rattle.grammars.specs.Grammar.{Grammar, Literally, Made}
+use Rattle.winnow_grammar.specs.Read.{reads_meaning, reads_wanting}
+use Rattle.grammars.specs.Grammar.{Grammar, Made}
 use Rattle.grammars.specs.Grammar.Meaning.{Meaning}
 
 -- what a range of characters tells
@@ -35,24 +34,6 @@ module _ (set : RangeInclusive ℕ) (low high : ℕ) (start : range_inclusive_st
 -- what three of them tell
 abbrev pub RangesTell : RangeInclusive ℕ × RangeInclusive ℕ × RangeInclusive ℕ → ℕ → Bool → Type 0
 RangesTell s = InEither (RangeTells s.0) (InEither (RangeTells s.1) (RangeTells s.2))
-
--- a text that is read
-abbrev pub Spelling : Slice → Grammar ℕ Slice
-Spelling = Literally text_reading (λ s xs. xs ≡ chars s.now) (λ _ slice. slice)
-
-module _ {O E : Type 0} (word : Slice) (value : O) {kind : E → Kind} {i j : Input ℕ} where
-  pub spelled : {slice : Slice} → Reads text_reading kind (Spelling word) i (Ok slice) j
-      → Reads text_reading kind (Word (chars word.now) value) i (Ok value) j
-  unfolding Literally Word
-  spelled {slice} r = ok_as r (λ tokens rest (front, shows, is, shown, e, same).
-      (refl, e ∙ ap (λ l. l ++ rest) is))
-
-  pub spelled_none : {e : E} → Reads text_reading kind (Spelling word) i (Err e) j
-      → Reads text_reading kind (Word (chars word.now) value) i (Err e) j
-  unfolding Literally Word
-  spelled_none r = err_as r (λ tokens o rest (is, e).
-      let slice : Slice = record { ref_ptr = (0, 0); now = encode_utf8_all (chars word.now) } in
-      (slice, (chars word.now, slice, refl, refl, e, refl)))
 
 pub kept_text : {A X E : Type 0} {kind : E → Kind} {g : Grammar ℕ Slice} {slice : Slice}
     {i j : Input ℕ} (made : Result (String A) X) (r : Result (String A) E)

@@ -1,12 +1,13 @@
 -- Characters and words of texts: what parsers read of them, and what is written.
-use Rattle.std.specs.Prelude.{◌≡◌, ◌≤◌, ℕ, true, false, List, [], ◌∷◌, ◌++◌}
-use Rattle.std.specs.Prelude.{length}
+use Rattle.std.specs.Prelude.{◌≡◌, ◌≤◌, ℕ, true, false, List, [], ◌∷◌, ◌++◌, length, Ok, Err}
 use Rattle.std.specs.Borrow.{Bor}
 use Rattle.std.specs.List.{All}
-use Rattle.std.specs.Str.{encode_utf8_all}
+use Rattle.std.specs.Str.{chars, encode_utf8_all}
 use Rattle.std.proofs.Common.{refl, sym, ap, subst, inl, ◌∙◌, arith}
 use Rattle.std.proofs.lemmas.List.Elements.{All-weaker}
 use Rattle.streams.specs.Equal.{true_is_false}
+use Rattle.streams.specs.Input.{Input}
+use Rattle.streams.specs.Kind.{Kind}
 use Rattle.streams.specs.Stream.{AnswersSeen}
 use Rattle.streams.specs.Text.{text_reading}
 use Rattle.grammars.specs.Grammar.Same.{Same}
@@ -20,6 +21,8 @@ use Rattle.grammars.specs.Texts.{MadeText}
 use Rattle.grammars.specs.Texts.{NotFirst, Spelled, Text}
 use Rattle.grammars.specs.Texts.Fronts.{both_front, of_front}
 use Rattle.grammars.specs.Texts.Parts.{both_of, made_of, same_of}
+use Rattle.winnow_core.specs.Exact.{Reads}
+use Rattle.winnow_grammar.specs.Read.{err_as, ok_as}
 
 -- a slice of a text
 abbrev pub Slice : Type 0
@@ -217,3 +220,23 @@ pub between_of : {O1 O2 O3 : Type 0} {g1 : Grammar ℕ O1} {g2 : Grammar ℕ O2}
 between_of {g1 = g1} {g2} {g3} one two three before between =
     same_of (between_same g1 g2 g3)
     (both_of latter one (both_of former two three between) (both_front former before between))
+
+-- ---- a text as a word
+
+-- a text that is read
+abbrev pub Spelling : Slice → Grammar ℕ Slice
+Spelling = Literally text_reading (λ s xs. xs ≡ chars s.now) (λ _ slice. slice)
+
+module _ {O E : Type 0} (word : Slice) (value : O) {kind : E → Kind} {i j : Input ℕ} where
+  pub spelled : {slice : Slice} → Reads text_reading kind (Spelling word) i (Ok slice) j
+      → Reads text_reading kind (Word (chars word.now) value) i (Ok value) j
+  unfolding Literally Word
+  spelled {slice} r = ok_as r (λ tokens rest (front, shows, is, shown, e, same).
+      (refl, e ∙ ap (λ l. l ++ rest) is))
+
+  pub spelled_none : {e : E} → Reads text_reading kind (Spelling word) i (Err e) j
+      → Reads text_reading kind (Word (chars word.now) value) i (Err e) j
+  unfolding Literally Word
+  spelled_none r = err_as r (λ tokens o rest (is, e).
+      let slice : Slice = record { ref_ptr = (0, 0); now = encode_utf8_all (chars word.now) } in
+      (slice, (chars word.now, slice, refl, refl, e, refl)))

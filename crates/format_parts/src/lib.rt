@@ -4,5 +4,6 @@
 
 pub mod faults;
 pub mod hexadecimal;
+pub mod location;
 pub mod marks;
 pub mod turns;

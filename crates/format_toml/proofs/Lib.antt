@@ -16,4 +16,3 @@ pub mod ScalarsLemmas
 pub mod SpacesLemmas
 pub mod StringsLemmas
 pub mod TimesLemmas
-pub mod Words

@@ -10,9 +10,11 @@ use Rattle.std.proofs.Math.Seq.{take-append_seam}
 use Rattle.std.proofs.lemmas.Bool.{and_from, and_parts}
 use Rattle.std.proofs.lemmas.Str.{IsCharBoundary-at_seam, IsUtf8-take, encodes-append}
 use Rattle.std.proofs.lemmas.Str.{encodes-chars, scalars-chars}
+use Rattle.format_parts.specs.Location.{IsLocation}
+use Rattle.format_parts.specs.declared.location.Location.{Location}
 use Rattle.format_toml.specs.Starts.{IsStart, line_end}
 use Rattle.format_toml.specs.Toml.{DocumentText}
-use Rattle.format_toml_document.specs.Fault.{IsAfter, IsDocument, IsErrorOf, IsLocation, IsOpening}
+use Rattle.format_toml_document.specs.Fault.{IsAfter, IsDocument, IsErrorOf, IsOpening}
 use Rattle.format_toml_document.specs.Fault.{IsRefusal, IsUnexpected, NoneBegins, OneBegins}
 use Rattle.format_toml_document.proofs.AlikeLines.{texts_alike}
 use Rattle.format_toml_document.proofs.AlikeRuns.{tree_or_refusal}
@@ -21,7 +23,6 @@ use Rattle.format_toml_document.proofs.Thens.{scalars_parts}
 use Rattle.format_toml_document.proofs.Whole.{only_documents}
 use Rattle.format_toml_document.specs.declared.fault.TomlError.{TomlError}
 use Rattle.format_toml_document.specs.declared.fault.TomlError.TheVariants as faults
-use Rattle.format_toml_document.specs.declared.fault.Location.{Location}
 use Rattle.format_toml_errors.specs.Stop.{IsCompletable, IsStopIn, IsStopped}
 use Rattle.format_toml_errors.specs.Unclosed.{IsUnclosed, text_of, unclosed_is_end}
 use Rattle.format_toml_errors.specs.declared.walk.Stop.{Stop}
@@ -49,12 +50,13 @@ after_of text rest front offset at utf8 too e size location =
     let B : ℕ → Type 0 = λ n. IsCharBoundary text n in
     let boundary : IsCharBoundary text offset =
     subst B (sym place) (IsCharBoundary-at_seam text bytes rest split too) in
+    let front_is : IsUtf8 (take offset text) = IsUtf8-take text offset utf8 boundary in
     let P : List ℕ → Type 0 = λ l. IsPosition (chars l) at.line at.column in (
       bytes,
       split,
-      subst (λ l. IsUtf8 l) is (IsUtf8-take text offset utf8 boundary),
+      subst (λ l. IsUtf8 l) is front_is,
       location.0 ∙ place,
-      subst P is (location.1 utf8 boundary),
+      subst P is (location.1 front_is),
     )
 
 pub opening_told : (text : List ℕ) (stop : Stop) (start : Bor (List ℕ)) (at : Location)

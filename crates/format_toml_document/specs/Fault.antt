@@ -1,14 +1,14 @@
 -- The definition of a document, and of the `TomlError` of a text.
 use Rattle.std.specs.Prelude.{◌≡◌, ◌<◌, ◌^◌, ◌++◌, ℕ, List, [], ◌∷◌, Option, Some, None, Ok, Err}
 use Rattle.std.specs.Prelude.{length, take, ⊤}
-use Rattle.std.specs.Str.{IsCharBoundary, IsUtf8, chars}
+use Rattle.std.specs.Str.{IsUtf8, chars}
 use Rattle.std.specs.Str.Lossy.{utf8_valid_len}
 use Rattle.std.specs.declared.vec.Vec.{Vec}
+use Rattle.format_parts.specs.declared.location.Location.{Location}
 use Rattle.format_toml.specs.Starts.{LinesBefore}
 use Rattle.format_toml.specs.Toml.{DocumentText}
 use Rattle.format_toml_document.specs.declared.fault.TomlError.{TomlError}
 use Rattle.format_toml_document.specs.declared.fault.TomlError.TheVariants as faults
-use Rattle.format_toml_document.specs.declared.fault.Location.{Location}
 use Rattle.format_toml_errors.specs.Stop.{StopsAt}
 use Rattle.format_toml_errors.specs.Unclosed.{IsUnclosed}
 use Rattle.format_toml_tree.specs.Holds.{HoldsTree}
@@ -18,12 +18,6 @@ use Rattle.format_toml_tree.specs.declared.build.TreeError.TheVariants as built
 use Rattle.format_toml_tree.specs.declared.tree.Tree.{Tree}
 use Rattle.format_toml_tree.specs.declared.value.Item.{Item}
 use Rattle.text_positions.specs.Position.{IsPosition}
-
--- The place is this byte, with the line and the column after the text before it.
-abbrev pub IsLocation : List ℕ → ℕ → Location → Type 0
-IsLocation bytes offset at =
-    (at.offset ≡ offset) × (IsUtf8 bytes → IsCharBoundary bytes offset
-    → IsPosition (chars (take offset bytes)) at.line at.column)
 
 -- `IsAfter text rest at`: `rest` is a suffix of `text` after UTF-8, and `at` has the offset, the
 -- line and the column of its start.

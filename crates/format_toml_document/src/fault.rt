@@ -1,10 +1,11 @@
 //! Errors: why a text is not a TOML document, and where.
 ghost use Rattle.std.specs.Prelude.{◌≡◌, ◌++◌, ℕ, List};
 ghost use Rattle.std.specs.Str.{IsUtf8, IsValidUpTo, chars};
-ghost use Rattle.format_toml_document.specs.Fault.{IsAfter, IsBroken, IsLocation, IsOpening};
-ghost use Rattle.format_toml_document.specs.Fault.{IsRefusal, IsUnexpected, location_of};
+ghost use Rattle.format_toml_document.specs.Fault.{IsAfter, IsBroken, IsOpening, IsRefusal};
+ghost use Rattle.format_toml_document.specs.Fault.{IsUnexpected, location_of};
 ghost use Rattle.format_toml_errors.specs.Unclosed.{IsUnclosed, text_of};
 
+use format_parts::location::Location;
 use format_toml::starts::line_start;
 use format_toml_errors::expected::Expected;
 use format_toml_errors::walk::{Stop, first_stop};
@@ -14,33 +15,7 @@ use std::alloc::Allocator;
 use std::error::Error;
 use std::fmt;
 use std::fmt::{Display, Formatter};
-use text_positions::excerpt::{Excerpt, position_in};
-
-/// A place in a text.
-///
-/// ```
-/// use format_toml_document::{Document, TomlError, from_text};
-///
-/// let mut document = Document::new(alloc);
-/// if let Err(TomlError::Unexpected { at, .. }) = from_text(alloc, 1, "a = 1\nb 2", &mut document)
-/// {     assert_eq!(rt; (at.offset, at.line, at.column), (8, 2, 3));
-/// }
-/// ```
-#[derive(Clone, Copy, Debug, PartialEq, Eq, Drop)]
-pub struct Location {
-    /// The number of bytes before it.
-    pub offset: usize,
-    /// The line of the text, counted from 1. Lines end with a line feed.
-    pub line: usize,
-    /// The column, counted from 1, in characters.
-    pub column: usize,
-}
-
-impl Display for Location {
-    fn fmt<W: fmt::Write>(&self, f: &mut Formatter<W>) -> fmt::Result {
-        write!(f, "line {}, column {}", self.line, self.column)
-    }
-}
+use text_positions::excerpt::Excerpt;
 
 /// The reason why a text is not a TOML document, and the position.
 ///
@@ -190,19 +165,7 @@ fn located(text: &str, rest: &str) -> Location
     ensures { (front : List ℕ) → chars text.now ≡ front ++ chars rest.now
         → IsAfter text.now rest.now result }
 {
-    located_at(text.as_bytes(), text.len().saturating_sub(rest.len()))
-}
-
-/// A place, with its line and its column.
-fn located_at(bytes: &[u8], offset: usize) -> Location
-    ensures { IsLocation bytes.now offset result }
-{
-    let position = position_in(bytes, offset);
-    Location {
-        offset,
-        line: position.line,
-        column: position.column,
-    }
+    Location::new(text.as_bytes(), text.len().saturating_sub(rest.len()))
 }
 
 /// Returns where the innermost string, array or inline table begins that is not closed.
@@ -257,12 +220,7 @@ pub(crate) fn fault_of_bytes(bytes: &[u8], valid: usize) -> TomlError
     requires place { IsValidUpTo bytes.now valid }
     ensures { IsBroken bytes.now result }
 {
-    let position = position_in(&bytes[..valid], valid);
     TomlError::NotUtf8 {
-        at: Location {
-            offset: valid,
-            line: position.line,
-            column: position.column,
-        },
+        at: Location::new(bytes, valid),
     }
 }

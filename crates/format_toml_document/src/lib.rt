@@ -27,7 +27,8 @@ pub mod fault;
 pub mod laws;
 pub mod read;
 
-pub use fault::{Location, Shown, TomlError};
+pub use fault::{Shown, TomlError};
+pub use format_parts::location::Location;
 pub use format_toml::values::SAFE_DEPTH;
 pub use format_toml_errors::expected::Expected;
 pub use format_toml_errors::figures::Base;

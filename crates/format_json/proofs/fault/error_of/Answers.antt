@@ -8,7 +8,7 @@ returns-in-Ok-first_place g c =
 
 pub returns-in-Ok-2 : goal.returns-in-Ok-2
 returns-in-Ok-2 g c =
-    told_utf8 c.args.level c.args.bytes.now c.located.result c.valid_up_to-valid.result
+    told_utf8 c.args.level c.args.bytes.now c.new.result c.valid_up_to-valid.result
     c.in-Ok-first_place.place.offset c.in-Ok-first_place.place.expected c.in-Err.ensures.cases.0
-    (search rules) c.located.ensures c.in-Ok-first_place.ensures
+    (search rules) c.new.ensures c.in-Ok-first_place.ensures
     (omega (arith, c.if-place-valid.false))

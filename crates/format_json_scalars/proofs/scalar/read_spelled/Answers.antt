@@ -1,4 +1,4 @@
-use Rattle.format_json_scalars.proofs.AlikeLemmas.{spelled, spelled_none}
+use Rattle.format_parts.specs.Words.{spelled, spelled_none}
 use Rattle.format_json_scalars.proofs.scalar.read_spelled.Goals as goal
 
 pub returns-in-Ok : goal.returns-in-Ok

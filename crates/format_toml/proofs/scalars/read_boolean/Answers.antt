@@ -1,5 +1,5 @@
 use Rattle.std.proofs.Common.{refl}
-use Rattle.format_toml.proofs.Words.{spelled, spelled_none}
+use Rattle.format_parts.specs.Words.{spelled, spelled_none}
 use Rattle.format_toml.specs.Toml.{IsBoolean}
 use Rattle.winnow_grammar.specs.Read.{reads_meaning, reads_no_meaning}
 use Rattle.format_toml.proofs.scalars.read_boolean.Goals as goal

@@ -1,7 +1,7 @@
 use Rattle.std.specs.Prelude.{◌≡◌, ℕ, take}
 use Rattle.std.specs.Str.{chars}
 use Rattle.std.specs.Str.Lossy.{utf8_valid_len}
-use Rattle.std.proofs.Common.{arith, length-take-le, subst, sym}
+use Rattle.std.proofs.Common.{subst, sym, ◌∙◌}
 use Rattle.std.proofs.lemmas.Str.{utf8_valid_len-IsValidUpTo}
 use Rattle.text_positions.specs.Position.{IsPosition}
 use Rattle.format_toml_document.proofs.fault.fault_of_bytes.Goals as goal
@@ -11,9 +11,9 @@ returns c =
     let bytes = c.args.bytes.now in
     let is : utf8_valid_len bytes ≡ c.args.valid =
     utf8_valid_len-IsValidUpTo bytes c.args.valid c.requires.place in
-    let at = c.position_in-position.result in
-    let P : ℕ → Type 0 = λ n. IsPosition (chars (take n bytes)) at.line at.column in
-    let position : P c.args.valid =
-    c.position_in-position.ensures.end c.requires.place.front
-    (omega (arith, length-take-le c.args.valid bytes (omega (arith, c.requires.place.short)))) in
-    (c.requires.broken, sym is, subst P (sym is) position)
+    let at = c.new.result in
+    let P : ℕ → Type 0 = λ n. IsPosition (chars (take n bytes)) at.line at.column in (
+      c.requires.broken,
+      c.new.ensures.0 ∙ sym is,
+      subst P (sym is) (c.new.ensures.1 c.requires.place.front),
+    )
