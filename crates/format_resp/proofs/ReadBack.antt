@@ -9,7 +9,7 @@ use Rattle.grammars.specs.Texts.{EachText, Text}
 use Rattle.format_resp.proofs.AlikeReplies.{replies_alike}
 use Rattle.format_resp.proofs.Made.{array_is, bulk_is, mark_is}
 use Rattle.format_resp.proofs.WrittenTexts.{aggregate_text, data_text, list_for, written_text}
-use Rattle.format_resp.specs.Alike.{AreAlike, AreAlikeBy, ArePairwise, HoldAlike, IsCommand}
+use Rattle.format_resp.specs.Alike.{AreAlike, AreAlikeBy, HoldAlike, IsCommand}
 use Rattle.format_resp.specs.Resp.{Bytes, Content, ElementsIn, IsIn, Items, Replies, ReplyText}
 use Rattle.format_resp.specs.Resp.{Shortest, WrittenText, first_mark, line_end, shape, shape_of}
 use Rattle.format_resp.specs.Written.{Adds, bulk_of, bulks_of, command_of, marked}
@@ -20,6 +20,7 @@ use Rattle.format_resp.specs.declared.marks.Mark.TheVariants.{Aggregate, Data}
 use Rattle.format_resp.specs.declared.reply.Protocol.{Protocol}
 use Rattle.format_resp.specs.declared.reply.Protocol.TheVariants.{Resp2}
 use Rattle.format_resp.specs.declared.reply.Reply as made
+use Rattle.grammar_outputs.specs.Pairwise.{ArePairwise}
 
 module _ {A : Type 0} (protocol : Protocol) (level : ℕ) where
   -- two replies at the start of the same tokens are equivalent, and their rests are equal

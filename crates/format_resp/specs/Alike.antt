@@ -1,5 +1,5 @@
 -- Replies that differ at most in where their bytes and lists lie.
-use Rattle.std.specs.Prelude.{◌≡◌, ⊤, ℕ, zero, suc, List, [], ◌∷◌}
+use Rattle.std.specs.Prelude.{◌≡◌, ⊤, ℕ, zero, suc, List}
 use Rattle.std.specs.Borrow.{Bor}
 use Rattle.std.specs.declared.vec.Vec.{Vec}
 use Rattle.format_resp.specs.Resp.{Bytes, Content, Items, Nothing, Number, Replies, Truth}
@@ -7,13 +7,7 @@ use Rattle.format_resp.specs.Resp.{first_mark, shape_of}
 use Rattle.format_resp.specs.declared.marks.AggregateMark.TheVariants.{Star}
 use Rattle.format_resp.specs.declared.marks.DataMark.TheVariants.{Dollar}
 use Rattle.format_resp.specs.declared.marks.Mark.TheVariants.{Aggregate, Data}
-
--- as many of both, and each two in their places are so
-abbrev pub ArePairwise : {O P : Type 0} → (O → P → Type 0) → List O → List P → Type 0
-ArePairwise alike [] [] = ⊤
-ArePairwise alike [] (p ∷ ps) = ⊥
-ArePairwise alike (o ∷ os) [] = ⊥
-ArePairwise alike (o ∷ os) (p ∷ ps) = alike o p × ArePairwise alike os ps
+use Rattle.grammar_outputs.specs.Pairwise.{ArePairwise}
 
 module _ {A : Type 0} where
   -- the same bytes, number or boolean, or as many elements, pairwise equivalent

@@ -14,8 +14,7 @@ use Rattle.format_toml.specs.Toml.{IsTables, IsText, PlainText, false_word, true
 use Rattle.format_toml.specs.Unique.{gap_unique, key_unique, line_unique}
 use Rattle.format_toml.specs.Unique.{newline_unique, unquoteds_unique, value_unique}
 use Rattle.format_toml.specs.Unique.{wide_mark_unique}
-use Rattle.format_toml_document.proofs.AlikeChoices.{led_agrees, optional_agrees, sides_agree}
-use Rattle.format_toml_document.proofs.AlikeChoices.{taken_agrees}
+use Rattle.format_toml_document.proofs.AlikeChoices.{led_agrees}
 use Rattle.format_toml_document.proofs.AlikePlain.{plain_alike}
 use Rattle.format_toml_document.proofs.AlikeStrings.{any_basic_agrees, any_literal_agrees}
 use Rattle.format_toml_document.proofs.AlikeStrings.{key_agrees}
@@ -25,8 +24,10 @@ use Rattle.format_toml_tree.specs.declared.value.Item.{Item}
 use Rattle.format_toml_tree.specs.declared.value.Value.{Value}
 use Rattle.format_toml_tree.specs.declared.value.Value as values
 use Rattle.grammar_outputs.specs.Agreed.{Agrees, between_agrees, former_agrees, gathered_agree}
-use Rattle.grammar_outputs.specs.Agreed.{latter_agrees, means_agree, parted_agree}
+use Rattle.grammar_outputs.specs.Agreed.{latter_agrees, means_agree, optional_agrees, parted_agree}
+use Rattle.grammar_outputs.specs.Agreed.{sides_agree}
 use Rattle.grammar_outputs.specs.Pairwise.{ArePairwise}
+use Rattle.grammar_outputs.specs.Strings.{taken_agrees}
 use Rattle.grammars.specs.Grammar.{Grammar, IsUnique}
 use Rattle.grammars.specs.Grammar.Meaning.{Meaning}
 use Rattle.grammars.specs.Grammar.Sequences.{three_unique}
@@ -41,35 +42,24 @@ unfolding Word
 word_agrees word o = record { one = λ tokens a b rest other (is, e) (was, f). is ∙ sym was }
 
 module _ {A : Type 0} where
-  boolean_agrees : (word : List ℕ) (is : Bool)
-      → Agrees (λ (v w : Value A). v ≡ w) (AnyBoolean word is)
-  boolean_agrees word is =
-      means_agree IsBoolean (word_agrees word is)
-      (λ o p v w e x y. x ∙ ap (λ b. values.Boolean b) e ∙ sym y)
-
-  plain_agrees : Agrees (λ (v w : Value A). (v ≡ w) ⊎ AreAlikeSingles v w) Plain
-  plain_agrees =
-      means_agree IsPlain (taken_agrees _ unquoteds_unique)
-      (λ s t v w e x y.
-      let P : List ℕ → Type 0 = λ l. PlainText w l in
-      plain_alike v w s.now x (subst P (sym e) y))
-
   -- ---- values
 
   module _ (alike : Value A → Value A → Type 0) where
-    equal_agrees : {g : Grammar ℕ (Value A)} → Agrees (λ v w. v ≡ w) g → Agrees (AreAlikeBy alike) g
-    equal_agrees agree = record {
-      one = λ tokens v w rest other x y. inl (agree.one tokens v w rest other x y);
-    }
+    boolean_agrees : (word : List ℕ) (is : Bool) → Agrees (AreAlikeBy alike) (AnyBoolean word is)
+    boolean_agrees word is =
+        means_agree IsBoolean (word_agrees word is)
+        (λ o p v w e x y. inl (x ∙ ap (λ b. values.Boolean b) e ∙ sym y))
 
     single : (v w : Value A) → (v ≡ w) ⊎ AreAlikeSingles v w → AreAlikeBy alike v w
     single v w (inl e) = inl e
     single v w (inr is) = inr (inl is)
 
-    plain_by : Agrees (AreAlikeBy alike) Plain
-    plain_by = record {
-      one = λ tokens v w rest other x y. single v w (plain_agrees.one tokens v w rest other x y);
-    }
+    plain_agrees : Agrees (AreAlikeBy alike) Plain
+    plain_agrees =
+        means_agree IsPlain (taken_agrees _ unquoteds_unique)
+        (λ s t v w e x y.
+        let P : List ℕ → Type 0 = λ l. PlainText w l in
+        single v w (plain_alike v w s.now x (subst P (sym e) y)))
 
     scalar_agrees : Agrees (AreAlikeBy alike) Scalar
     scalar_agrees =
@@ -79,9 +69,8 @@ module _ {A : Type 0} where
         (led_agrees (λ c. c ≡ 39)
         (means_agree IsText any_literal_agrees
         (λ s t v w e is was. inr (inl (inl (s, t, is, was, e)))))
-        (led_agrees (λ c. c ≡ 116) (equal_agrees (boolean_agrees true_word true))
-        (led_agrees (λ c. c ≡ 102) (equal_agrees (boolean_agrees false_word false))
-        plain_by)))
+        (led_agrees (λ c. c ≡ 116) (boolean_agrees true_word true)
+        (led_agrees (λ c. c ≡ 102) (boolean_agrees false_word false) plain_agrees)))
 
     -- the values of an array, where there are some
     abbrev AreAlikeLists : Option (Vec (Value A) A) → Option (Vec (Value A) A) → Type 0

@@ -1,8 +1,8 @@
 -- Strings and keys of the same text are equivalent.
-use Rattle.std.specs.Prelude.{◌≡◌, ◌==◌, ◌+◌, ◌*◌, if◌then◌else◌, ℕ}
+use Rattle.std.specs.Prelude.{◌≡◌, ◌+◌, ◌*◌, ℕ, [], ◌∷◌}
 use Rattle.std.specs.declared.string.String.{String}
 use Rattle.std.specs.declared.vec.Vec.{Vec}
-use Rattle.std.proofs.Common.{sym, ap, subst, inl, inr, ◌∙◌}
+use Rattle.std.proofs.Common.{sym, ap, subst, ◌∙◌, arith}
 use Rattle.format_parts.specs.Hexadecimal.{IsAlone, unit_one}
 use Rattle.format_parts.specs.Unique.{char_unique, run_unique, token_one}
 use Rattle.format_parts.specs.Words.{Char, former, pair}
@@ -15,17 +15,20 @@ use Rattle.format_toml.specs.Unique.{basic_part_unique, character_unique, litera
 use Rattle.format_toml.specs.Unique.{name_unique, newline_unique, skips_unique, wide_one}
 use Rattle.format_toml.specs.declared.characters.Characters.{Characters}
 use Rattle.format_toml.specs.declared.characters.Characters.TheVariants.{Bare, Basic, Literal}
-use Rattle.format_toml_document.proofs.AlikeChoices.{characters_agree, led_agrees, same_agrees}
+use Rattle.format_toml_document.proofs.AlikeChoices.{led_agrees}
 use Rattle.format_toml_document.specs.Alike.{AreAlikeKeys}
 use Rattle.grammar_outputs.specs.Agreed.{Agrees, between_agrees, either_agrees, former_agrees}
 use Rattle.grammar_outputs.specs.Agreed.{gathered_agree, latter_agrees, means_agree, parted_agree}
+use Rattle.grammar_outputs.specs.Agreed.{same_agrees}
 use Rattle.grammar_outputs.specs.Pairwise.{ArePairwise, HaveSameBytes}
-use Rattle.grammars.specs.Grammar.{Grammar, IsUnique, Literally, TokenOf}
-use Rattle.grammars.specs.Grammar.Outputs.{token_of_alike}
+use Rattle.grammar_outputs.specs.Strings.{characters_agree}
+use Rattle.grammars.specs.Grammar.{Grammar, IsUnique, TokenOf}
+use Rattle.grammars.specs.Grammar.Outputs.{literal_alike, token_of_alike}
 use Rattle.grammars.specs.Grammar.Sequences.{three_unique}
 use Rattle.grammars.specs.Grammar.Unique.{both_unique, optional_unique, token_of_unique}
 use Rattle.grammars.specs.Grammar.Unique.{unique_nothing}
 use Rattle.stream_sets.specs.AsChar.{IsSpace}
+use Rattle.streams.specs.Text.{text_reading}
 
 -- ---- characters
 
@@ -34,31 +37,13 @@ abbrev Same : Grammar ℕ ℕ → Type 0
 Same grammar = Agrees (λ o p. o ≡ p) grammar
 
 char_agrees : (c : ℕ) → Same (Char c)
-unfolding Literally
-char_agrees c = record {
-  one = λ tokens o p rest other (f, s, is, shown, e, a) (g, t, was, shows, d, b). a ∙ sym b;
-}
+char_agrees c = same_agrees (literal_alike text_reading (λ c xs. xs ≡ c ∷ []) c)
 
 set_agrees : (set : Characters) → Same (TokenOf (λ c. c) SetResult set)
 set_agrees set = same_agrees (token_of_alike (λ c. c) SetResult set (λ c d e. e))
 
 newline_agrees : Same Newline
 newline_agrees = either_agrees (char_agrees 10) (latter_agrees (char_unique 13) (char_agrees 10))
-
--- what a character stands for after a backslash
-abbrev escaped : ℕ → ℕ
-escaped c =
-    if c == 98 then 8 else if c == 116 then 9 else if c == 110 then 10 else if c == 102 then 12
-    else if c == 114 then 13 else c
-
-stands_for : (c k : ℕ) → StandsFor c k → k ≡ escaped c
-stands_for c k (inl (e, f)) = f ∙ sym (ap escaped e)
-stands_for c k (inr (inl (e, f))) = f ∙ sym (ap escaped e)
-stands_for c k (inr (inr (inl (e, f)))) = f ∙ sym (ap escaped e)
-stands_for c k (inr (inr (inr (inl (e, f))))) = f ∙ sym (ap escaped e)
-stands_for c k (inr (inr (inr (inr (inl (e, f)))))) = f ∙ sym (ap escaped e)
-stands_for c k (inr (inr (inr (inr (inr (inl (e, f))))))) = f ∙ sym (ap escaped e)
-stands_for c k (inr (inr (inr (inr (inr (inr (e, f))))))) = f ∙ sym (ap escaped e)
 
 escape_agrees : Same Escape
 escape_agrees =
@@ -68,8 +53,7 @@ escape_agrees =
     (led_agrees (λ c. c ≡ 85) (latter_agrees (char_unique 85)
     (means_agree IsWide (same_agrees wide_one)
     (λ o p u v e x y. x.0 ∙ ap (λ (q : ℕ × ℕ). q.0 * 65536 + q.1) e ∙ sym y.0)))
-    (means_agree StandsFor (same_agrees token_one)
-    (λ o p u v e x y. stands_for o u x ∙ ap escaped e ∙ sym (stands_for p v y))))
+    (means_agree StandsFor (same_agrees token_one) (λ o p u v e x y. omega (arith, e, x, y))))
 
 character_agrees : Same Character
 character_agrees =

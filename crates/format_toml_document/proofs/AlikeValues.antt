@@ -1,8 +1,8 @@
 -- Lemmas about equivalent values: they are of one kind, and have equivalent parts.
-use Rattle.std.specs.Prelude.{◌≡◌, ℕ, zero, suc, List, [], ◌∷◌}
+use Rattle.std.specs.Prelude.{◌≡◌, ℕ, zero, suc}
 use Rattle.std.specs.declared.vec.Vec.{Vec}
 use Rattle.std.proofs.Common.{refl, sym, ap, subst, inl, inr, ◌∙◌, arith}
-use Rattle.grammar_outputs.specs.Pairwise.{ArePairwise}
+use Rattle.grammar_outputs.specs.Pairwise.{ArePairwise, itself_pairwise, more_pairwise}
 use Rattle.format_toml_document.specs.Alike.{AreAlike, AreAlikeBy, AreAlikeEntries}
 use Rattle.format_toml_document.specs.Alike.{AreAlikeSingles}
 use Rattle.format_toml_document.specs.AlikeTrees.{AreAlikeValues}
@@ -14,22 +14,6 @@ use Rattle.format_toml_tree.specs.declared.value.Value.{Value, out-Value}
 use Rattle.format_toml_tree.specs.declared.value.Value.TheOpen as forms
 use Rattle.format_toml_tree.specs.declared.value.Value.TheOpen.{Value-F}
 use Rattle.format_toml_tree.specs.declared.value.Value.TheVariants as values
-
--- ---- lists
-
-pub itself_pairwise : {O : Type 0} (alike : O → O → Type 0) → ((o : O) → alike o o) → (l : List O)
-    → ArePairwise alike l l
-itself_pairwise alike same [] = tt
-itself_pairwise alike same (o ∷ l) = (same o, itself_pairwise alike same l)
-
-pub more_pairwise : {O : Type 0} (alike like : O → O → Type 0)
-    → ((o p : O) → alike o p → like o p) → (l m : List O) → ArePairwise alike l m
-    → ArePairwise like l m
-more_pairwise alike like more [] [] are = tt
-more_pairwise alike like more [] (p ∷ m) are = absurd are
-more_pairwise alike like more (o ∷ l) [] are = absurd are
-more_pairwise alike like more (o ∷ l) (p ∷ m) (x, are) =
-    (more o p x, more_pairwise alike like more l m are)
 
 -- ---- kinds
 

@@ -1,13 +1,13 @@
 -- Grammars whose outputs for the same tokens are equivalent.
-use Rattle.std.specs.Prelude.{◌≡◌, ℕ, List, [], ◌∷◌, ◌++◌, None}
+use Rattle.std.specs.Prelude.{◌≡◌, ℕ, List, [], ◌∷◌, Option, Some, None}
 use Rattle.std.specs.declared.vec.Vec.{Vec}
-use Rattle.std.proofs.Common.{sym, subst, inl, inr, ◌∙◌}
-use Rattle.std.proofs.lemmas.List.{append_cancel_right}
+use Rattle.std.proofs.Common.{sym, subst, inl, inr}
 use Rattle.stream_sets.specs.Range.{from_to}
 use Rattle.grammar_outputs.specs.Pairwise.{ArePairwise}
 use Rattle.grammars.specs.Grammar.{Both, Each, Either, Gathered, Grammar, IsUnique, Made}
-use Rattle.grammars.specs.Grammar.{Many, NoMatch, Parted, Stops, Three}
+use Rattle.grammars.specs.Grammar.{Many, NoMatch, Optional, Parted, Stops, Three}
 use Rattle.grammars.specs.Grammar.Meaning.{Meaning}
+use Rattle.grammars.specs.Grammar.Outputs.{IsAlike}
 use Rattle.grammars.specs.Grammar.Unique.{both_unique}
 
 -- `Agrees alike grammar`: outputs of `grammar` at the start of the same tokens are equivalent.
@@ -15,11 +15,8 @@ pub record Agrees {O : Type 0} (alike : O → O → Type 0) (grammar : Grammar �
   pub one : (tokens : List ℕ) (o p : O) (rest other : List ℕ) → grammar tokens o rest
       → grammar tokens p other → alike o p
 
-pub one_beginning : {tokens : List ℕ} (f g rest more : List ℕ) → tokens ≡ f ++ rest
-    → tokens ≡ g ++ more → rest ≡ more → f ≡ g
-one_beginning {tokens} f g rest more a b e =
-    let P : List ℕ → Type 0 = λ l. tokens ≡ g ++ l in
-    append_cancel_right f g rest (sym a ∙ subst P (sym e) b)
+pub same_agrees : {O : Type 0} {g : Grammar ℕ O} → IsAlike (λ o. o) g → Agrees (λ o p. o ≡ p) g
+same_agrees same = record { one = same.alike }
 
 none_more : {O : Type 0} (g : Grammar ℕ O) (n : ℕ) (rest : List ℕ) → Stops g None n rest
     → NoMatch g rest
@@ -36,6 +33,25 @@ module _ {O U : Type 0} {alike : O → O → Type 0} {like : U → U → Type 0}
         made o p u v (agree.one tokens o p rest other x y) m n;
   }
 
+-- the first and the third of three, from which the output is made
+pub sides_agree : {O D P R : Type 0} {alike : O → O → Type 0} {like : P → P → Type 0}
+    {both : R → R → Type 0} (output : O → D → P → R) {g : Grammar ℕ O} {gap : Grammar ℕ D}
+    {h : Grammar ℕ P} → IsUnique g → IsUnique gap → Agrees alike g → Agrees like h
+    → ((o p : O) (m n : D) (q r : P) → alike o p → like q r → both (output o m q) (output p n r))
+    → Agrees both (Three output g gap h)
+unfolding Three
+sides_agree {R = R} {both = both} output {g} {gap} {h} unique between first second made = record {
+  one = λ tokens o p rest other (o1, o2, o3, a, b, x, y, z, e) (p1, p2, p3, c, d, u, v, w, f).
+      let P : R → Type 0 = λ q. both q p in
+      let Q : R → Type 0 = λ q. both (output o1 o2 o3) q in
+      let S : List ℕ → Type 0 = λ l. gap l o2 b in
+      let T : List ℕ → Type 0 = λ l. h l o3 rest in
+      let same = unique.one tokens o1 p1 a c x u in
+      let next = between.one c o2 p2 b d (subst S same y) v in
+      subst P (sym e) (subst Q (sym f) (made o1 p1 o2 p2 o3 p3
+      (first.one tokens o1 p1 a c x u) (second.one d o3 p3 rest other (subst T next z) w)));
+}
+
 module _ {O : Type 0} {alike : O → O → Type 0} where
   pub either_agrees : {g h : Grammar ℕ O} → Agrees alike g → Agrees alike h
       → Agrees alike (Either g h)
@@ -49,6 +65,27 @@ module _ {O : Type 0} {alike : O → O → Type 0} where
       told tokens o p rest other (inr (none, x)) (inl y) = absurd (none p other y)
       told tokens o p rest other (inr (none, x)) (inr (n, y)) =
           second.one tokens o p rest other x y
+
+  pub optional_agrees : {like : Option O → Option O → Type 0} → like None None
+      → ((o p : O) → alike o p → like (Some o) (Some p)) → {g : Grammar ℕ O} → Agrees alike g
+      → Agrees like (Optional g)
+  unfolding Optional
+  optional_agrees {like} nothing some {g} agree = record { one = told }
+    where
+      by : (o p q r : Option O) → o ≡ q → p ≡ r → like q r → like o p
+      by o p q r e f is =
+          let P : Option O → Type 0 = λ x. like x p in
+          let Q : Option O → Type 0 = λ x. like q x in
+          subst P (sym e) (subst Q (sym f) is)
+
+      told : (tokens : List ℕ) (o p : Option O) (rest other : List ℕ)
+          → Optional g tokens o rest → Optional g tokens p other → like o p
+      told tokens o p rest other (inl (x, e, a)) (inl (y, f, b)) =
+          by o p (Some x) (Some y) e f (some x y (agree.one tokens x y rest other a b))
+      told tokens o p rest other (inl (x, e, a)) (inr (f, none, all)) = absurd (none x rest a)
+      told tokens o p rest other (inr (e, none, all)) (inl (y, f, b)) = absurd (none y other b)
+      told tokens o p rest other (inr (e, none, all)) (inr (f, never, too)) =
+          by o p None None e f nothing
 
   -- the former of two
   pub former_agrees : {D : Type 0} {g : Grammar ℕ O} (gap : Grammar ℕ D) → Agrees alike g
