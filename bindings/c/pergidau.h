@@ -1763,7 +1763,7 @@ enum pergidau_code pergidau_http_field(
  * of fields is written.
  *
  * After an error the contents of the buffer are unspecified, because the fields are written
- * during parsing.
+ * during parsing, and all other parts of the head are 0.
  *
  * # Safety
  *

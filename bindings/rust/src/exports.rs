@@ -1732,7 +1732,7 @@ extern "C" {
     /// is written.
     ///
     /// After an error the contents of the buffer are unspecified, because the fields are written during
-    /// parsing.
+    /// parsing, and all other parts of the head are 0.
     ///
     /// # Safety
     ///

@@ -96,7 +96,7 @@ fn head_of(found: places::ResponseHead) -> ResponseHead
 /// is written.
 ///
 /// After an error the contents of the buffer are unspecified, because the fields are written during
-/// parsing.
+/// parsing, and all other parts of the head are 0.
 ///
 /// # Safety
 ///
