@@ -14,7 +14,7 @@ use Rattle.format_resp.proofs.FirstBytes.{mark_splits}
 use Rattle.format_resp.specs.Alike.{AreAlike, AreAlikeBy, HoldAlike}
 use Rattle.format_resp.specs.Resp.{AggregateBehind, Any, Body, BooleanText, Content, DataBehind}
 use Rattle.format_resp.specs.Resp.{Elements, ElementsIn, Ended, LineSays, MarkText, Replies}
-use Rattle.format_resp.specs.Resp.{ReplyText, Shown, SizeText, first_mark, shape_of}
+use Rattle.format_resp.specs.Resp.{ReplyText, Shown, SizeText, shape_of}
 use Rattle.format_resp.specs.declared.marks.AggregateMark.{AggregateMark}
 use Rattle.format_resp.specs.declared.marks.AggregateMark.TheVariants.{Star}
 use Rattle.format_resp.specs.declared.marks.DataMark.{DataMark}
@@ -41,11 +41,9 @@ one_boolean false false line a b = refl
 module _ {A : Type 0} (alike : Replies A → Replies A → Type 0) where
   alike_as : (v w : Replies A) {mark : Mark} {c d : Content A} → shape_of v ≡ (mark, c)
       → shape_of w ≡ (mark, d) → HoldAlike alike c d → AreAlikeBy alike v w
-  alike_as v w {mark} {c} e f a =
-      let P : Mark × Content A → Type 0 = λ s.
-      (s.0 ≡ first_mark w) × HoldAlike alike s.1 (shape_of w).1 in
-      let Q : Mark × Content A → Type 0 = λ s. (mark ≡ s.0) × HoldAlike alike c s.1 in
-      subst P (sym e) (subst Q (sym f) (refl, a))
+  alike_as v w e f a =
+      subst₂ (λ (s t : Mark × Content A). (s.0 ≡ t.0) × HoldAlike alike s.1 t.1) (sym e) (sym f)
+      (refl, a)
 
   -- of lines that say the same
   line_alike : (mark : LineMark) (v w : Replies A) (line : List ℕ) → LineSays Any mark v line

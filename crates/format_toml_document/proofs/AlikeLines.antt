@@ -2,7 +2,7 @@
 use Rattle.std.specs.Prelude.{◌≡◌, ◌⊎◌, ℕ, ⊤, zero, suc, Bool, true, false, List, [], ◌++◌}
 use Rattle.std.specs.Prelude.{Option, Some, None}
 use Rattle.std.specs.declared.vec.Vec.{Vec}
-use Rattle.std.proofs.Common.{refl, sym, ap, subst, inl, inr, ◌∙◌}
+use Rattle.std.proofs.Common.{refl, sym, ap, subst, subst₂, inl, inr, ◌∙◌}
 use Rattle.format_parts.specs.Unique.{char_unique, run_unique}
 use Rattle.format_parts.specs.Words.{Word, former, pair}
 use Rattle.format_toml.proofs.LineTexts.{document_of}
@@ -82,9 +82,7 @@ module _ {A : Type 0} where
     arrays : (o p : Option (Vec (Value A) A)) (v w : Value A) → AreAlikeLists o p → IsArray o v
         → IsArray p w → AreAlikeBy alike v w
     arrays None None v w any (l, e, is) (m, f, was) =
-        let P : List (Value A) → Type 0 = λ k. ArePairwise alike k m.items in
-        let Q : List (Value A) → Type 0 = λ k. ArePairwise alike [] k in
-        inr (inr (inl (l, m, is, was, subst P (sym e) (subst Q (sym f) tt))))
+        inr (inr (inl (l, m, is, was, subst₂ (ArePairwise alike) (sym e) (sym f) tt)))
     arrays None (Some m) v w never x y = absurd never
     arrays (Some l) None v w never x y = absurd never
     arrays (Some l) (Some m) v w are is was = inr (inr (inl (l, m, is, was, are)))

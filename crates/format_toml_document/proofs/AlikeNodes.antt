@@ -2,7 +2,7 @@
 use Rattle.std.specs.Prelude.{◌≡◌, ◌⊎◌, ℕ, zero, suc, ◌+◌, Bool, true, false, cond, List, [], ◌∷◌}
 use Rattle.std.specs.Prelude.{Result, Ok, Err, string_bytes}
 use Rattle.std.specs.declared.string.String.{String}
-use Rattle.std.proofs.Common.{refl, sym, ap, subst, inl, inr, ◌∙◌, arith}
+use Rattle.std.proofs.Common.{refl, sym, ap, subst, subst₂, inl, inr, ◌∙◌, arith}
 use Rattle.std.proofs.lemmas.Bool.{cases_lt}
 use Rattle.grammar_outputs.specs.Pairwise.{ArePairwise, HaveSameBytes}
 use Rattle.format_toml_document.specs.AlikeTrees.{AreAlikeNodes, AreAlikeTrees, AreAlikeValues}
@@ -134,9 +134,7 @@ module _ {A : Type 0} where
         same header = (are, refl)
         same dotted = (are, refl)
     entered_alike q m n (inr (v, w, e, f, alike)) =
-        let P : Node A → Type 0 = λ k. AreAlikeStates (entered k t q) (entered n u q) in
-        let Q : Node A → Type 0 = λ k. AreAlikeStates (t, q) (entered k u q) in
-        subst P (sym e) (subst Q (sym f) (are, refl))
+        subst₂ (λ j k. AreAlikeStates (entered j t q) (entered k u q)) (sym e) (sym f) (are, refl)
 
   module _ (t u : Tree A) (are : AreAlikeTrees t u) where
     grown_alike : (q : Path) (m n : Node A) → AreAlikeNodes m n
@@ -158,9 +156,7 @@ module _ {A : Type 0} where
         same header = (are, refl)
         same dotted = (are, refl)
     grown_alike q m n (inr (v, w, e, f, alike)) =
-        let P : Node A → Type 0 = λ k. AreAlikeStates (grown k t q) (grown n u q) in
-        let Q : Node A → Type 0 = λ k. AreAlikeStates (t, q) (grown k u q) in
-        subst P (sym e) (subst Q (sym f) (are, refl))
+        subst₂ (λ j k. AreAlikeStates (grown j t q) (grown k u q)) (sym e) (sym f) (are, refl)
 
     opened_same : (says : Says A) (q : Path) (m n : Node A) → AreAlikeNodes m n
         → AreAlikeStates (opened says m t q) (opened says n u q)
@@ -176,9 +172,8 @@ module _ {A : Type 0} where
         let P : Says A → Type 0 = λ k. AreAlikeStates (opened says m t q) (opened k n u q) in
         subst P e (opened_same says q m n alike)
     opened_alike says also (inr (v, w, e, f, given)) q m n alike =
-        let P : Says A → Type 0 = λ k. AreAlikeStates (opened k m t q) (opened also n u q) in
-        let Q : Says A → Type 0 = λ k. AreAlikeStates (entered m t q) (opened k n u q) in
-        subst P (sym e) (subst Q (sym f) (entered_alike t u are q m n alike))
+        subst₂ (λ j k. AreAlikeStates (opened j m t q) (opened k n u q)) (sym e) (sym f)
+        (entered_alike t u are q m n alike)
 
   -- ---- statements
 
@@ -210,26 +205,20 @@ module _ {A : Type 0} where
       same dotted = refl
       same (tables i) = refl
   given_ruled v w alike m n (inr (a, b, e, f, are)) =
-      let P : Node A → Type 0 = λ k. Rules (gives v) k (gives w) n in
-      let Q : Node A → Type 0 = λ k. Rules (gives v) (valued a) (gives w) k in
-      subst P (sym e) (subst Q (sym f) refl)
+      subst₂ (λ j k. Rules (gives v) j (gives w) k) (sym e) (sym f) refl
 
   same_ruled : (says : Says A) (m n : Node A) → AreAlikeNodes m n → Rules says m says n
   same_ruled says m n (inl e) =
       let P : Node A → Type 0 = λ k. Rules says m says k in subst P e (itself_ruled (ruled says m))
   same_ruled says m n (inr (a, b, e, f, are)) =
-      let P : Node A → Type 0 = λ k. Rules says k says n in
-      let Q : Node A → Type 0 = λ k. Rules says (valued a) says k in
-      subst P (sym e) (subst Q (sym f) (value_ruled says a b are))
+      subst₂ (λ j k. Rules says j says k) (sym e) (sym f) (value_ruled says a b are)
 
   ruled_alike : (says also : Says A) → AreAlikeSays says also → (m n : Node A)
       → AreAlikeNodes m n → Rules says m also n
   ruled_alike says also (inl e) m n alike =
       let P : Says A → Type 0 = λ k. Rules says m k n in subst P e (same_ruled says m n alike)
   ruled_alike says also (inr (v, w, e, f, given)) m n alike =
-      let P : Says A → Type 0 = λ k. Rules k m also n in
-      let Q : Says A → Type 0 = λ k. Rules (gives v) m k n in
-      subst P (sym e) (subst Q (sym f) (given_ruled v w given m n alike))
+      subst₂ (λ j k. Rules j m k n) (sym e) (sym f) (given_ruled v w given m n alike)
 
   -- a statement about a path
   abbrev said_at : Says A → Tree A → Path → Result (State A) Reason

@@ -1,6 +1,6 @@
 -- Proofs that equivalent lines give equivalent trees, or are both rejected.
-use Rattle.std.specs.Prelude.{◌≡◌, ℕ, List, [], ◌∷◌, Option, Result, Ok, Err}
-use Rattle.std.proofs.Common.{refl, sym, ap, subst, inl, inr}
+use Rattle.std.specs.Prelude.{ℕ, List, [], ◌∷◌, Option, Result, Ok, Err}
+use Rattle.std.proofs.Common.{refl, sym, ap, subst, subst₂, inl, inr}
 use Rattle.grammar_outputs.specs.Pairwise.{ArePairwise}
 use Rattle.format_toml_document.specs.Alike.{AreAlikeEntries, AreAlikeItems, AreAlikeKeys}
 use Rattle.format_toml_document.specs.Alike.{AreAlikeLines}
@@ -15,7 +15,7 @@ use Rattle.format_toml_document.proofs.AlikeValues.{table_once}
 use Rattle.format_toml_document.proofs.HeldTrees.{one_held}
 use Rattle.format_toml_tree.specs.Holds.{HoldsTree}
 use Rattle.format_toml_tree.specs.Paths.{Path, placed, put}
-use Rattle.format_toml_tree.specs.Rules.{Node, defines, adds, dots, gives, passes, valued}
+use Rattle.format_toml_tree.specs.Rules.{defines, adds, dots, gives, passes, valued}
 use Rattle.format_toml_tree.specs.Runs.{Fills, FillsEntry, FillsNames, FillsPlaces, Gives, IsNext}
 use Rattle.format_toml_tree.specs.Runs.{Runs, RunsWithin, State, Tree, empty}
 use Rattle.format_toml_tree.specs.Runs as runs
@@ -25,13 +25,6 @@ use Rattle.format_toml_tree.specs.declared.value.Item.{Item}
 use Rattle.format_toml_tree.specs.declared.value.Item.TheVariants as items
 use Rattle.format_toml_tree.specs.declared.value.Key.{Key}
 use Rattle.format_toml_tree.specs.declared.value.Value.{Value}
-
-results_at : {X E : Type 0} (alike : X → X → Type 0) {q r s t : Result X E} → q ≡ r → s ≡ t
-    → AreAlikeResults alike q s → AreAlikeResults alike r t
-results_at {X} {E} alike {q} {r} {s} {t} e f are =
-    let P : Result X E → Type 0 = λ x. AreAlikeResults alike x t in
-    let Q : Result X E → Type 0 = λ x. AreAlikeResults alike q x in
-    subst P e (subst Q f are)
 
 module _ {A : Type 0} where
   -- what fills the next place fills it by either number
@@ -146,17 +139,19 @@ module _ {A : Type 0} where
         → AreAlikeValues v w → AreAlikeResults AreAlikeTrees r s
     entry_alike {t = t} {u = u} {q = q} {k = k} {l = l} {v = v} {w = w} (runs.entry_refused e)
         (runs.entry_refused f) are names alike =
-        results_at AreAlikeStates e f (entry_said t u are q k l names v w alike)
+        subst₂ (AreAlikeResults AreAlikeStates) e f (entry_said t u are q k l names v w alike)
     entry_alike {t = t} {u = u} {q = q} {k = k} {l = l} {v = v} {w = w} (runs.entry_refused e)
         (runs.entry b f g) are names alike =
-        absurd (results_at AreAlikeStates e f (entry_said t u are q k l names v w alike))
+        absurd (subst₂ (AreAlikeResults AreAlikeStates) e f
+        (entry_said t u are q k l names v w alike))
     entry_alike {t = t} {u = u} {q = q} {k = k} {l = l} {v = v} {w = w} (runs.entry a e f)
         (runs.entry_refused g) are names alike =
-        absurd (results_at AreAlikeStates e g (entry_said t u are q k l names v w alike))
+        absurd (subst₂ (AreAlikeResults AreAlikeStates) e g
+        (entry_said t u are q k l names v w alike))
     entry_alike {t = t} {u = u} {q = q} {k = k} {l = l} {v = v} {w = w} {s = s} (runs.entry a e f)
         (runs.entry b g h) are names alike =
         let (trees, path) =
-        results_at AreAlikeStates e g (entry_said t u are q k l names v w alike) in
+        subst₂ (AreAlikeResults AreAlikeStates) e g (entry_said t u are q k l names v w alike) in
         fills_alike f (subst (λ p. Fills b.0 p w s) (sym path) h) trees alike
 
   runs_alike : (level : ℕ) (s t : State A) (i j : Item A) (r x : Result (State A) Reason)
@@ -165,13 +160,13 @@ module _ {A : Type 0} where
   runs_alike level s t i j r x f g are (inl (k, l, e, d, names)) =
       let one : Runs s (items.Table k) r = subst (λ y. Runs s y r) e f in
       let other : Runs t (items.Table l) x = subst (λ y. Runs t y x) d g in
-      results_at AreAlikeStates (sym one) (sym other)
+      subst₂ (AreAlikeResults AreAlikeStates) (sym one) (sym other)
       (key_alike passes defines defines (inl refl) (s.0, []) (t.0, []) (are.0, refl) k.names.items
       l.names.items names)
   runs_alike level s t i j r x f g are (inr (inl (k, l, e, d, names))) =
       let one : Runs s (items.Tables k) r = subst (λ y. Runs s y r) e f in
       let other : Runs t (items.Tables l) x = subst (λ y. Runs t y x) d g in
-      results_at AreAlikeStates (sym one) (sym other)
+      subst₂ (AreAlikeResults AreAlikeStates) (sym one) (sym other)
       (key_alike passes adds adds (inl refl) (s.0, []) (t.0, []) (are.0, refl) k.names.items
       l.names.items names)
   runs_alike level s t i j r x f g are (inr (inr (k, l, v, w, e, d, (names, alike)))) =
@@ -179,7 +174,7 @@ module _ {A : Type 0} where
       let other : Runs t (items.Entry l w) x = subst (λ y. Runs t y x) d g in
       let (a, filled, is) = one in
       let (b, fills, at) = other in
-      results_at AreAlikeStates (sym is) (sym at)
+      subst₂ (AreAlikeResults AreAlikeStates) (sym is) (sym at)
       (then_alike AreAlikeTrees AreAlikeStates a b _ _
       (entry_alike filled (subst (λ p. FillsEntry t.0 p l w b) (sym are.1) fills) are.0 names
       (level, alike)) (λ m n trees. (trees, are.1)))
@@ -252,8 +247,6 @@ module _ {A : Type 0} where
       → HoldsTree slots tree → HoldsTree below other → HoldsTree slots given
       → HoldsTree below also → AreAlikeTrees given also
   held_alike level slots below {tree} {other} {given} {also} f g alike is at has holds p =
-      let P : Node A → Type 0 = λ n. AreAlikeNodes n (also p) in
-      let Q : Node A → Type 0 = λ n. AreAlikeNodes (tree p) n in
-      subst P (one_held slots tree given is has p)
-      (subst Q (one_held below other also at holds p)
-      (gives_alike level f g ((λ q. inl refl), refl) alike p))
+      subst₂ AreAlikeNodes (one_held slots tree given is has p)
+      (one_held below other also at holds p)
+      (gives_alike level f g ((λ q. inl refl), refl) alike p)

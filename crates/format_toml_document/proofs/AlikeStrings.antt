@@ -2,7 +2,7 @@
 use Rattle.std.specs.Prelude.{◌≡◌, ◌+◌, ◌*◌, ℕ, [], ◌∷◌}
 use Rattle.std.specs.declared.string.String.{String}
 use Rattle.std.specs.declared.vec.Vec.{Vec}
-use Rattle.std.proofs.Common.{sym, ap, subst, ◌∙◌, arith}
+use Rattle.std.proofs.Common.{sym, ap, subst₂, ◌∙◌, arith}
 use Rattle.format_parts.specs.Hexadecimal.{IsAlone, unit_one}
 use Rattle.format_parts.specs.Unique.{char_unique, run_unique, token_one}
 use Rattle.format_parts.specs.Words.{Char, former, pair}
@@ -121,6 +121,5 @@ module _ {A : Type 0} where
       (both_unique former name_unique (run_unique IsSpace 0))
       (both_unique pair (char_unique 46) (run_unique IsSpace 0)) (former_agrees _ name_agrees)))
       (λ o p k l are e f.
-      let P : Vec (String A) A → Type 0 = λ v. ArePairwise HaveSameBytes v.items l.names.items in
-      let Q : Vec (String A) A → Type 0 = λ v. ArePairwise HaveSameBytes o.items v.items in
-      subst P (sym e) (subst Q (sym f) are))
+      subst₂ (λ (v w : Vec (String A) A). ArePairwise HaveSameBytes v.items w.items) (sym e) (sym f)
+      are)

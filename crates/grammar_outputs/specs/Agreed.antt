@@ -1,7 +1,7 @@
 -- Grammars whose outputs for the same tokens are equivalent.
 use Rattle.std.specs.Prelude.{◌≡◌, ℕ, List, [], ◌∷◌, Option, Some, None}
 use Rattle.std.specs.declared.vec.Vec.{Vec}
-use Rattle.std.proofs.Common.{sym, subst, inl, inr}
+use Rattle.std.proofs.Common.{sym, subst, subst₂, inl, inr}
 use Rattle.stream_sets.specs.Range.{from_to}
 use Rattle.grammar_outputs.specs.Pairwise.{ArePairwise}
 use Rattle.grammars.specs.Grammar.{Both, Each, Either, Gathered, Grammar, IsUnique, Made}
@@ -40,16 +40,14 @@ pub sides_agree : {O D P R : Type 0} {alike : O → O → Type 0} {like : P → 
     → ((o p : O) (m n : D) (q r : P) → alike o p → like q r → both (output o m q) (output p n r))
     → Agrees both (Three output g gap h)
 unfolding Three
-sides_agree {R = R} {both = both} output {g} {gap} {h} unique between first second made = record {
+sides_agree {both = both} output {g} {gap} {h} unique between first second made = record {
   one = λ tokens o p rest other (o1, o2, o3, a, b, x, y, z, e) (p1, p2, p3, c, d, u, v, w, f).
-      let P : R → Type 0 = λ q. both q p in
-      let Q : R → Type 0 = λ q. both (output o1 o2 o3) q in
-      let S : List ℕ → Type 0 = λ l. gap l o2 b in
-      let T : List ℕ → Type 0 = λ l. h l o3 rest in
+      let P : List ℕ → Type 0 = λ l. gap l o2 b in
+      let Q : List ℕ → Type 0 = λ l. h l o3 rest in
       let same = unique.one tokens o1 p1 a c x u in
-      let next = between.one c o2 p2 b d (subst S same y) v in
-      subst P (sym e) (subst Q (sym f) (made o1 p1 o2 p2 o3 p3
-      (first.one tokens o1 p1 a c x u) (second.one d o3 p3 rest other (subst T next z) w)));
+      let next = between.one c o2 p2 b d (subst P same y) v in
+      subst₂ both (sym e) (sym f) (made o1 p1 o2 p2 o3 p3 (first.one tokens o1 p1 a c x u)
+      (second.one d o3 p3 rest other (subst Q next z) w));
 }
 
 module _ {O : Type 0} {alike : O → O → Type 0} where
@@ -72,20 +70,14 @@ module _ {O : Type 0} {alike : O → O → Type 0} where
   unfolding Optional
   optional_agrees {like} nothing some {g} agree = record { one = told }
     where
-      by : (o p q r : Option O) → o ≡ q → p ≡ r → like q r → like o p
-      by o p q r e f is =
-          let P : Option O → Type 0 = λ x. like x p in
-          let Q : Option O → Type 0 = λ x. like q x in
-          subst P (sym e) (subst Q (sym f) is)
-
       told : (tokens : List ℕ) (o p : Option O) (rest other : List ℕ)
           → Optional g tokens o rest → Optional g tokens p other → like o p
       told tokens o p rest other (inl (x, e, a)) (inl (y, f, b)) =
-          by o p (Some x) (Some y) e f (some x y (agree.one tokens x y rest other a b))
+          subst₂ like (sym e) (sym f) (some x y (agree.one tokens x y rest other a b))
       told tokens o p rest other (inl (x, e, a)) (inr (f, none, all)) = absurd (none x rest a)
       told tokens o p rest other (inr (e, none, all)) (inl (y, f, b)) = absurd (none y other b)
       told tokens o p rest other (inr (e, none, all)) (inr (f, never, too)) =
-          by o p None None e f nothing
+          subst₂ like (sym e) (sym f) nothing
 
   -- the former of two
   pub former_agrees : {D : Type 0} {g : Grammar ℕ O} (gap : Grammar ℕ D) → Agrees alike g
@@ -93,9 +85,7 @@ module _ {O : Type 0} {alike : O → O → Type 0} where
   unfolding Both
   former_agrees gap agree = record {
     one = λ tokens o p rest other (o1, o2, a, x, y, e) (p1, p2, b, z, w, f).
-        let P : O → Type 0 = λ q. alike q p in
-        let Q : O → Type 0 = λ q. alike o1 q in
-        subst P (sym e) (subst Q (sym f) (agree.one tokens o1 p1 a b x z));
+        subst₂ alike (sym e) (sym f) (agree.one tokens o1 p1 a b x z);
   }
 
   -- the latter
@@ -104,11 +94,9 @@ module _ {O : Type 0} {alike : O → O → Type 0} where
   unfolding Both
   latter_agrees {gap = gap} {g} unique agree = record {
     one = λ tokens o p rest other (o1, o2, a, x, y, e) (p1, p2, b, z, w, f).
-        let P : O → Type 0 = λ q. alike q p in
-        let Q : O → Type 0 = λ q. alike o2 q in
-        let R : List ℕ → Type 0 = λ l. g l o2 rest in
-        subst P (sym e) (subst Q (sym f) (agree.one b o2 p2 rest other
-        (subst R (unique.one tokens o1 p1 a b x z) y) w));
+        let P : List ℕ → Type 0 = λ l. g l o2 rest in
+        let same = unique.one tokens o1 p1 a b x z in
+        subst₂ alike (sym e) (sym f) (agree.one b o2 p2 rest other (subst P same y) w);
   }
 
   -- what is between two others
@@ -118,11 +106,9 @@ module _ {O : Type 0} {alike : O → O → Type 0} where
   unfolding Three
   between_agrees {opening = opening} {g} closing unique agree = record {
     one = λ tokens o p rest other (o1, o2, o3, a, b, x, y, z, e) (p1, p2, p3, c, d, u, v, w, f).
-        let P : O → Type 0 = λ q. alike q p in
-        let Q : O → Type 0 = λ q. alike o2 q in
-        let R : List ℕ → Type 0 = λ l. g l o2 b in
-        subst P (sym e) (subst Q (sym f) (agree.one c o2 p2 b d
-        (subst R (unique.one tokens o1 p1 a c x u) y) v));
+        let P : List ℕ → Type 0 = λ l. g l o2 b in
+        let same = unique.one tokens o1 p1 a c x u in
+        subst₂ alike (sym e) (sym f) (agree.one c o2 p2 b d (subst P same y) v);
   }
 
   -- ---- lists
@@ -183,9 +169,7 @@ pub gathered_agree : {O A : Type 0} {alike : List O → List O → Type 0} {g : 
     → Agrees alike g
     → Agrees (λ (l m : Vec O A). alike l.items m.items) (Gathered (λ list os. list.items ≡ os) g)
 unfolding Gathered
-gathered_agree {O} {alike = alike} agree = record {
+gathered_agree {alike = alike} agree = record {
   one = λ tokens l m rest other (os, e, x) (ps, f, y).
-      let P : List O → Type 0 = λ k. alike k m.items in
-      let Q : List O → Type 0 = λ k. alike os k in
-      subst P (sym e) (subst Q (sym f) (agree.one tokens os ps rest other x y));
+      subst₂ alike (sym e) (sym f) (agree.one tokens os ps rest other x y);
 }

@@ -1,7 +1,7 @@
 -- Slices and strings that have the same bytes for the same tokens.
 use Rattle.std.specs.Prelude.{◌≡◌, ℕ, List, ◌++◌, None, encode_utf8_all}
 use Rattle.std.specs.Borrow.{Bor}
-use Rattle.std.proofs.Common.{sym, ap, subst, ◌∙◌}
+use Rattle.std.proofs.Common.{sym, ap, ◌∙◌}
 use Rattle.std.proofs.lemmas.List.{append_cancel_right}
 use Rattle.streams.specs.Text.{text_reading}
 use Rattle.stream_sets.specs.Accumulator.Holds.{HasCharacters}
@@ -10,26 +10,16 @@ use Rattle.grammar_outputs.specs.Agreed.{Agrees, many_agree}
 use Rattle.grammar_outputs.specs.Pairwise.{HaveSameBytes, same_list}
 use Rattle.grammars.specs.Grammar.{Gathered, Grammar, IsUnique, Many, Taken}
 
-one_beginning : {tokens : List ℕ} (f g rest more : List ℕ) → tokens ≡ f ++ rest
-    → tokens ≡ g ++ more → rest ≡ more → f ≡ g
-one_beginning {tokens} f g rest more a b e =
-    let P : List ℕ → Type 0 = λ l. tokens ≡ g ++ l in
-    append_cancel_right f g rest (sym a ∙ subst P (sym e) b)
-
 -- what shows the same tokens has the same bytes
 pub taken_agrees : {O : Type 0} (g : Grammar ℕ O) → IsUnique (Taken text_reading g)
     → Agrees (λ (s t : Bor (List ℕ)). s.now ≡ t.now) (Taken text_reading g)
 unfolding Taken
 taken_agrees g unique = record {
-  one = λ tokens s t rest other x y. told tokens s t rest other x y
-      (unique.one tokens s t rest other x y);
+  one = λ tokens s t rest other (o, x, (f, e, shown)) (p, y, (h, d, shows)).
+      let same = unique.one tokens s t rest other (o, x, (f, e, shown)) (p, y, (h, d, shows)) in
+      let ends = sym e ∙ d ∙ ap (λ l. h ++ l) (sym same) in
+      shown ∙ ap (λ l. encode_utf8_all l) (append_cancel_right f h rest ends) ∙ sym shows;
 }
-  where
-    told : (tokens : List ℕ) (s t : Bor (List ℕ)) (rest other : List ℕ)
-        → Taken text_reading g tokens s rest → Taken text_reading g tokens t other
-        → rest ≡ other → s.now ≡ t.now
-    told tokens s t rest other (o, x, (f, e, shown)) (p, y, (h, d, shows)) same =
-        shown ∙ ap (λ l. encode_utf8_all l) (one_beginning f h rest other e d same) ∙ sym shows
 
 -- strings of the same characters
 pub characters_agree : {A : Type 0} (least : ℕ) {g : Grammar ℕ ℕ} → IsUnique g
