@@ -1,3 +1,4 @@
+mod CallLemmas
 mod CutLemmas
 mod LongerLemmas
 mod RulePiecesLemmas

@@ -80,13 +80,13 @@ text_joins = record {
 }
 
 -- These lists may follow in sequence.
-pub AllFollow : {T : Type 0} → Following T → List T → List (List T) → Type 0
+unfoldable pub AllFollow : {T : Type 0} → Following T → List T → List (List T) → Type 0
 AllFollow following left [] = ⊤
 AllFollow following left (more ∷ others) =
     following.can_follow left more × AllFollow following (left ++ more) others
 
 -- the lists, joined
-pub joined : {T : Type 0} → List (List T) → List T
+unfoldable pub joined : {T : Type 0} → List (List T) → List T
 joined [] = []
 joined (more ∷ others) = more ++ joined others
 
