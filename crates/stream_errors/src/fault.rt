@@ -91,7 +91,7 @@ impl<I, E> ParseError<I, E> {
 /// Why a whole parse gives no output. `N` is [`Needed`] wherever it is used.
 #[derive(Debug, PartialEq, Drop)]
 pub enum ParseFault<I, E, N = Needed> {
-    /// The input is invalid at an offset.
+    /// The input is invalid at an offset, or an allocation failed there.
     Invalid(ParseError<I, E>),
     /// A parser needed more input, although the input is complete.
     Incomplete(N),

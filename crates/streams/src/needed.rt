@@ -18,7 +18,7 @@ use std::num::NonZeroUsize;
 pub enum Needed {
     /// More is needed, and how much is not known.
     Unknown,
-    /// At least this number of further units is needed.
+    /// The parser asks for this number of further units; fewer may be enough.
     Size(NonZeroUsize),
 }
 

@@ -148,8 +148,8 @@ impl Int for isize {
     }
 }
 
-/// Parses a decimal signed number: one `0`, or a digit from 1 to 9 and all digits after it,
-/// optionally after a `+` or a `-`.
+/// Parses a decimal signed number: one `0`; or a digit from 1 to 9 and all digits after it, which a
+/// `+` or a `-` may precede.
 ///
 /// Backtracks without consuming input if the input does not start with such digits, or if the
 /// number does not fit the type.
