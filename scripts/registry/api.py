@@ -305,7 +305,8 @@ ABOUT_INDEX = f"""<!-- {HEAD} -->
 The public items of the crate `winnow`, by module. Each is linked to its file, which has its
 signature, documentation and contract. [PARSERS.md](PARSERS.md) lists parsers by purpose. The
 modules `impls`, at the end, have the structs of the parsers: pass the struct `Alpha1` where a parser
-is expected. `winnow::parsers` has those without arguments under winnow's names, as `alpha1`.
+is expected. `winnow::parsers` has those without arguments under winnow's names, as `alpha1`, but
+for `u8`, `i8` and `bool`, which are types.
 
 `python3 scripts/api.py` generates reference pages with signatures, documentation and clauses in
 `docs/api/`.
