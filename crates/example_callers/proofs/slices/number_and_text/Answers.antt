@@ -7,4 +7,8 @@ pub returns : goal.returns
 returns c =
     let law = c.the_slice_with_the_output_and_the_rest_are_the_input.ensures
     (λ slice. chars slice.now) shown_chars in
-    if_ok _ c.parse_next.result (λ both is. law _ _ both _ _ (rw is at c.parse_next.ensures.ran))
+    record {
+      ran = c.parse_next.ensures.ran;
+      splits = if_ok _ c.parse_next.result (λ both is.
+          law _ _ both _ _ (rw is at c.parse_next.ensures.ran));
+    }
