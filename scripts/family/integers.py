@@ -108,7 +108,7 @@ ANSWERS = """-- {head}
 use Rattle.std.proofs.Common.{{{rules}}}
 use Rattle.std.specs.Int.{{w{bits}}}
 use Rattle.winnow_integers.specs.Integer.Laws.{{integer_made}}
-use Rattle.winnow_integers.specs.Integer.Std.{{{lemma}}}
+use Rattle.winnow_integers.{lemmas}.{{{lemma}}}
 use Rattle.winnow_integers.proofs.binary.{file}.{name}.Goals as goal
 
 pub returns-clause-ran : goal.returns-clause-ran
@@ -122,6 +122,7 @@ VALUES = {
     "i": "{lemma} w{bits} bytes _ c.from_{order}_bytes.ensures (search rules) (search rules)",
 }
 LEMMAS = {"u": "from_%s", "i": "signed_%s"}
+FILES_OF_LEMMAS = {"u": "specs.Integer.Std", "i": "proofs.IntegerStdLemmas"}
 RULES = {"u": "rules, ◌∙◌", "i": "rules"}
 
 IMPORTS = """use stream_errors::parser_error::ParserError;
@@ -223,7 +224,7 @@ def law_clause(one):
 
 LAW_ANSWERS = """-- {head}
 use Rattle.winnow_integers.specs.Integer.{{signed_of, value_of}}
-use Rattle.winnow_integers.specs.IntegerLaws.{{reads_reversed}}
+use Rattle.winnow_integers.proofs.IntegerLemmas.{{reads_reversed}}
 use Rattle.winnow_integers.proofs.laws.{law}.Goals as goal
 
 {answers}
@@ -285,6 +286,7 @@ def write_fixed():
             lemma = LEMMAS[one.sign] % one.order
             value = VALUES[one.sign].format(lemma=lemma, order=one.order, bits=one.bits)
             parts = {"rules": RULES[one.sign], "lemma": lemma, "value": value}
+            parts["lemmas"] = FILES_OF_LEMMAS[one.sign]
             answers = FIXED + "proofs/binary/%s/%s/Answers.antt" % (FILES[one.order], name)
             write(answers, ANSWERS, file=FILES[one.order], name=name, bits=one.bits, width=one.width, **parts)
 
