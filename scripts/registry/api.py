@@ -282,7 +282,8 @@ class Reference:
             yield f"- {link(it, f'`{self.title(it)}`')}{': ' * bool(about)}{about}\n"
 
     def index(self, head, link):
-        """A line for each item, by the modules of `winnow`; structs of parsers share one."""
+        """A line for each item, by the modules of `winnow`; structs of parsers without methods share
+        one."""
         text, done = head, set()
         for name in sorted(self.modules, key=lambda it: (it == "prelude", "impls" in it, it)):
             items = [it for it in self.modules[name] if id(it) not in done]
@@ -290,6 +291,7 @@ class Reference:
             text += f"\n## winnow{'::' * bool(name)}{name}\n\n{about_of(name)}\n\n"
             again = [it for it in self.modules[name] if it not in items]
             structs = [it for it in items if name.endswith("impls") and it.kind == "struct"]
+            structs = [it for it in structs if all(of.kind != "method" for of in it.inside)]
             for before, several in (("Also", again), ("Structs:", structs)):
                 links = ", ".join(link(it, f"`{it.name}`") for it in several)
                 text += f"{before} {links}.\n\n" if several else ""
