@@ -1,15 +1,11 @@
--- The definitions of `flat_map` and of functions over streams. The closure may change.
-use Rattle.std.specs.Prelude.{◌≡◌, ⊤, ℕ, Bool, true, false, List, Option, Result}
-use Rattle.std.proofs.Common.{refl, sym, subst, ap, ◌∙◌}
-use Rattle.streams.specs.Input.{Input}
-use Rattle.streams.specs.Kind.{Kind}
-use Rattle.stream_errors.specs.Form.{Answer, answer_by}
+-- The definition of `flat_map`. The closure may change.
+use Rattle.std.specs.Prelude.{◌≡◌}
+use Rattle.std.proofs.Common.{sym, subst, ap, ◌∙◌}
 use Rattle.parser_definitions.specs.Does.{Lawful}
-use Rattle.parser_definitions.specs.Left.{End, Left, extend, left_of}
+use Rattle.parser_definitions.specs.Left.{End}
 use Rattle.parser_definitions.specs.Moved.{in_state, moved_alike, moved_asks, moved_final}
 use Rattle.parser_definitions.specs.Moved.{state_longer}
-use Rattle.parser_definitions.specs.Outcome.{Alike, Does, IsFinal, Outcome, as_longer, asks, both}
-use Rattle.parser_definitions.specs.Outcome.{final_by, longer, outcome_of}
+use Rattle.parser_definitions.specs.Outcome.{Does, Outcome, as_longer, both, final_by, longer}
 use Rattle.parser_definitions.specs.Then.{Comes, Then, then_law}
 use Rattle.parser_definitions.specs.Then.Steps.{first, holds_where, meets_where, where_took}
 use Rattle.parser_definitions.specs.Then.Steps.{with_first}
@@ -63,30 +59,3 @@ flat_map_law {S} {G} {H} {V} {T} {O} {U} {also = also} {other = other} step stat
         as_longer more e ∙ state_longer more (λ v. (end.0, g)) x,
       );
     })) (λ is. is.0)
-
--- ---- functions over streams
-
--- `called f x r g z`: the function in state `f` is called on the stream `x`, returns `r`, and leaves
--- the state `g` and the stream `z`.
-abbrev pub Calls : Type 0 → Type 0 → Type 0 → Type 0 → Type 1
-Calls F I O E = F → I → Result O E → F → I → Type 0
-
--- One call of the function, on a stream with this input.
-abbrev pub FuncDoes : {F I T O E : Type 0} → (I → Input T) → (E → Kind) → Calls F I O E
-    → Does F T O
-FuncDoes {F} {I} {T} {O} {E} view kind called at f w y =
-    (x : I) × (r : Result O E) × (g : F) × (z : I) × called f x r g z × (left_of (view x) ≡ w)
-    × ((view x).status.cut ≡ at.more) × ((view x).left.possible ≡ at.possible)
-    × (y ≡ outcome_of (answer_by kind r) (g, left_of (view z)))
-
--- The function is one of its state and its input. On complete input it is not incomplete. A final
--- result is unchanged if more tokens follow.
-pub record FuncLaws {F I T O E : Type 0} (stable : Type 0) (alike : O → O → Type 0)
-    (view : I → Input T) (kind : E → Kind) (called : Calls F I O E) : Type 0 where
-  pub law : Lawful stable alike (FuncDoes view kind called)
-
--- A function of an argument, which stays, and a stream.
-abbrev pub FuncWithDoes : {A F I T O E : Type 0} → (I → Input T) → (E → Kind)
-    → (A → Calls F I O E) → Does (A × F) T O
-FuncWithDoes view kind called =
-    FuncDoes view kind (λ s x r t z. called s.0 s.1 x r t.1 z × (t.0 ≡ s.0))
