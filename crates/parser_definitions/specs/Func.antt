@@ -8,8 +8,8 @@ use Rattle.parser_definitions.specs.Does.{Lawful}
 use Rattle.parser_definitions.specs.Left.{End, Left, extend, left_of}
 use Rattle.parser_definitions.specs.Moved.{in_state, moved_alike, moved_asks, moved_final}
 use Rattle.parser_definitions.specs.Moved.{state_longer}
-use Rattle.parser_definitions.specs.Outcome.{Alike, Does, IsFinal, Outcome, Setting, alike_wider}
-use Rattle.parser_definitions.specs.Outcome.{as_longer, asks, both, final_by, grown, longer, on_cut}
+use Rattle.parser_definitions.specs.Outcome.{Alike, Does, IsFinal, Outcome, alike_wider}
+use Rattle.parser_definitions.specs.Outcome.{as_longer, asks, both, final_by, longer}
 use Rattle.parser_definitions.specs.Outcome.{outcome_of}
 
 -- `called f x r g z`: the function in state `f` is called on the stream `x`, returns `r`, and leaves

@@ -6,9 +6,9 @@ use Rattle.parser_definitions.specs.Cases.{Case, Given, OneCase, TakesWhere, cas
 use Rattle.parser_definitions.specs.Cases.{takes_law}
 use Rattle.parser_definitions.specs.Does.{Lawful}
 use Rattle.parser_definitions.specs.Equal.{AlikeOptions}
-use Rattle.parser_definitions.specs.Left.{End, Left, back, extend}
-use Rattle.parser_definitions.specs.Outcome.{Does, IsFinal, Outcome, Setting, asks, final_by}
-use Rattle.parser_definitions.specs.Then.{Next, NextHolds, NextMeets, Then, then_law}
+use Rattle.parser_definitions.specs.Left.{back, extend}
+use Rattle.parser_definitions.specs.Outcome.{Does, asks, final_by}
+use Rattle.parser_definitions.specs.Then.{Next, Then, then_law}
 use Rattle.parser_definitions.specs.Then.Steps.{asks_later, asks_meet, asks_meet_start, asks_on}
 use Rattle.parser_definitions.specs.Then.Steps.{asks_to_start, backs_hold, backs_meet, backs_on}
 use Rattle.parser_definitions.specs.Then.Steps.{backs_to_start, cuts_hold, cuts_hold_start, cuts_meet}

@@ -1,14 +1,13 @@
 -- The definitions of tuples of up to six children, of sequences of three with an output, and of
 -- `preceded` and `terminated`.
 use Rattle.std.specs.Prelude.{⊤}
-use Rattle.grammars.specs.Grammar.Tuples.{join4, join5, join6}
-use Rattle.parser_definitions.specs.Both.{BothDo, both_law, pair_law}
+use Rattle.parser_definitions.specs.Both.{BothDo, both_law}
 use Rattle.parser_definitions.specs.Does.{Lawful}
 use Rattle.parser_definitions.specs.Eof.{EmptyDoes}
 use Rattle.parser_definitions.specs.Equal.{AlikePairs}
 use Rattle.parser_definitions.specs.Outcome.{Does}
 use Rattle.parser_definitions.specs.Then.{Then, then_law}
-use Rattle.parser_definitions.specs.Then.Steps.{In, holds_where, in_law, meets_where, takes}
+use Rattle.parser_definitions.specs.Then.Steps.{holds_where, meets_where, takes}
 use Rattle.parser_definitions.specs.Then.Steps.{takes_hold, takes_meet, then_holds, then_meets}
 use Rattle.parser_definitions.specs.Then.Steps.{then_next, where_took}
 

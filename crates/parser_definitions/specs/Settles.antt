@@ -1,9 +1,9 @@
 -- The definition of adapters that accept or reject an output.
-use Rattle.std.specs.Prelude.{◌≡◌, ⊤, ℕ, List, Option}
+use Rattle.std.specs.Prelude.{◌≡◌, ⊤, ℕ, Option}
 use Rattle.std.proofs.Common.{subst, ◌∙◌}
 use Rattle.stream_errors.specs.Form.{ErrorForm}
 use Rattle.parser_definitions.specs.Does.{Lawful}
-use Rattle.parser_definitions.specs.Left.{End, Left, back, extend}
+use Rattle.parser_definitions.specs.Left.{back}
 use Rattle.parser_definitions.specs.Moved.{moved, moved_alike, moved_asks, moved_longer}
 use Rattle.parser_definitions.specs.Outcome.{Alike, Does, Outcome, as_longer, asks, both}
 use Rattle.parser_definitions.specs.Then.{Comes, Then, then_law}
