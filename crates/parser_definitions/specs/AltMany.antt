@@ -9,13 +9,12 @@ use Rattle.parser_definitions.specs.Equal.{AlikeEither}
 use Rattle.parser_definitions.specs.Left.{End, Left, back, extend}
 use Rattle.parser_definitions.specs.Moved.{in_state, moved_alike, moved_asks, moved_final}
 use Rattle.parser_definitions.specs.Moved.{state_longer}
-use Rattle.parser_definitions.specs.Outcome.{Alike, Does, IsFinal, Outcome, Setting}
-use Rattle.parser_definitions.specs.Outcome.{as_longer, asks, both, final_by, grown, longer, misused}
-use Rattle.parser_definitions.specs.Outcome.{on_cut}
-use Rattle.parser_definitions.specs.Then.{Next, NextHolds, NextMeets, Then}
-use Rattle.parser_definitions.specs.Then.{final_comes, one_comes, stays_comes, whole_comes}
-use Rattle.parser_definitions.specs.Then.Steps.{asks_later, asks_meet, asks_on, cuts_hold, cuts_meet}
-use Rattle.parser_definitions.specs.Then.Steps.{cuts_on, takes, takes_hold, takes_meet}
+use Rattle.parser_definitions.specs.Outcome.{Alike, Does, IsFinal, Outcome, Setting, as_longer}
+use Rattle.parser_definitions.specs.Outcome.{asks, both, final_by, grown, longer, misused, on_cut}
+use Rattle.parser_definitions.specs.Then.{Next, NextHolds, NextMeets, Then, final_comes, one_comes}
+use Rattle.parser_definitions.specs.Then.{stays_comes, whole_comes}
+use Rattle.parser_definitions.specs.Then.Steps.{asks_later, asks_meet, asks_on, cuts_hold}
+use Rattle.parser_definitions.specs.Then.Steps.{cuts_meet, cuts_on, takes, takes_hold, takes_meet}
 
 -- ---- tuples
 

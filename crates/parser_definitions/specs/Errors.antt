@@ -7,11 +7,11 @@ use Rattle.parser_definitions.specs.Left.{End, extend_end}
 use Rattle.parser_definitions.specs.Outcome.{Alike, Does, IsFinal, Outcome, as_longer, asks, both}
 use Rattle.parser_definitions.specs.Outcome.{final_by, longer, outcome_of}
 use Rattle.parser_definitions.specs.Then.{Comes, Holds, Meets, Next, Then, then_law}
-use Rattle.parser_definitions.specs.Then.Steps.{first, same, takes, takes_hold}
-use Rattle.parser_definitions.specs.Then.Steps.{takes_meet, with_first}
+use Rattle.parser_definitions.specs.Then.Steps.{first, same, takes, takes_hold, takes_meet}
+use Rattle.parser_definitions.specs.Then.Steps.{with_first}
 
--- `becomes f k l g`: from state `f` an error of kind `k` becomes one of kind `l`, and the next state
--- is `g`.
+-- `becomes f k l g`: from state `f` an error of kind `k` becomes one of kind `l`, and the next
+-- state is `g`.
 abbrev pub Becomes : Type 0 → Type 1
 Becomes G = G → Kind → Kind → G → Type 0
 
@@ -35,8 +35,8 @@ ErrorDoes becomes does = Then first does (turned becomes)
 abbrev pub error_of : {G : Type 0} → Kind → G → Outcome G ⊤
 error_of k g = outcome_of (Err k) g
 
--- In one state a kind becomes one kind, with one next state. A kind that is not incomplete becomes no
--- incomplete kind, and an incomplete one stays incomplete. Each may be out of memory.
+-- In one state a kind becomes one kind, with one next state. A kind that is not incomplete becomes
+-- no incomplete kind, and an incomplete one stays incomplete. Each may be out of memory.
 pub record BecomesAlike {G : Type 0} (becomes : Becomes G) : Type 0 where
   pub one : (f : G) (k l m : Kind) (g h : G) → becomes f k l g → becomes f k m h
       → Alike (λ o p. ⊤) (error_of l g) (error_of m h)

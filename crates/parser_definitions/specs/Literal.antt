@@ -34,8 +34,8 @@ module _ {T S L O : Type 0} (reading : Reading T L) (spells : S → List T → T
   LiteralDoes = OneCase (TakesWhere is_literal)
       (OneCase (LacksWhere (λ s w. None) (is_short spells)) (FailsWhere (is_other spells)))
 
--- Spellings of one literal have one number of units, and slices that show the same tokens give equal
--- outputs.
+-- Spellings of one literal have one number of units, and slices that show the same tokens give
+-- equal outputs.
 module _ {T S L O : Type 0} (reading : Reading T L) (spells : S → List T → Type 0)
     (output : S → L → O) (alike : O → O → Type 0)
     (same_units : (s : S) (xs ys : List T) → spells s xs → spells s ys

@@ -1,18 +1,17 @@
 -- The call of a recovering parser after an error.
-use Rattle.std.specs.Prelude.{◌≡◌, ◌⊎◌, ◌<◌, ⊤, ℕ, Bool, IsTrue, true, List, [], ◌∷◌, ◌++◌}
-use Rattle.std.specs.Prelude.{length, Option, Err}
+use Rattle.std.specs.Prelude.{◌≡◌, ◌⊎◌, ◌<◌, ⊤, ℕ, Bool, IsTrue, true, List, [], ◌∷◌, ◌++◌, length}
+use Rattle.std.specs.Prelude.{Option, Err}
 use Rattle.std.proofs.Common.{refl, ap, ◌∙◌, inl, inr, arith, length-append}
 use Rattle.streams.specs.Kind.{Kind, backtrack, cut, incomplete, memory}
 use Rattle.parser_definitions.specs.Does.{Lawful}
 use Rattle.parser_definitions.specs.Errors.{error_longer}
 use Rattle.parser_definitions.specs.Left.{End, Left, back, extend}
 use Rattle.parser_definitions.specs.MapErr.{CompleteErrDoes, complete_err_law, completes}
-use Rattle.parser_definitions.specs.Outcome.{Alike, Does, IsFinal, Outcome, alike_wants}
-use Rattle.parser_definitions.specs.Outcome.{as_longer, asks, backs, both, cuts, final_by, grown}
-use Rattle.parser_definitions.specs.Outcome.{longer, on_cut, outcome_of, took, wants}
+use Rattle.parser_definitions.specs.Outcome.{Alike, Does, IsFinal, Outcome, alike_wants, as_longer}
+use Rattle.parser_definitions.specs.Outcome.{asks, backs, both, cuts, final_by, grown, longer}
+use Rattle.parser_definitions.specs.Outcome.{on_cut, outcome_of, took, wants}
 use Rattle.parser_definitions.specs.Then.{Comes, ComesOf, Holds, Meets, Next, NextHolds, NextMeets}
-use Rattle.parser_definitions.specs.Then.Steps.{asks_later, asks_meet, asks_on}
-use Rattle.parser_definitions.specs.Then.Steps.{second, then_holds}
+use Rattle.parser_definitions.specs.Then.Steps.{asks_later, asks_meet, asks_on, second, then_holds}
 use Rattle.parser_definitions.specs.Then.Steps.{then_meets, then_next, with_first, with_second}
 
 -- Whether a stream records errors, and whether an error may be out of memory after recovery failed.
@@ -190,7 +189,8 @@ module _ {S W T U : Type 0} (must_consume grows : Bool) where
     asks = asks_later with_second;
   }
 
-  pub recovers_meet : {stable : Type 0} {beside : U → U → Type 0} {recover : Does W T ⊤} {resumed : Comes W (S × W) T U}
+  pub recovers_meet : {stable : Type 0} {beside : U → U → Type 0} {recover : Does W T ⊤}
+      {resumed : Comes W (S × W) T U}
       (k : Kind) → Lawful stable (λ o p. o ≡ p) recover → Meets beside resumed resumed
       → Meets beside (recovers_by must_consume grows recover resumed k)
       (recovers_by must_consume grows recover resumed k)

@@ -11,9 +11,9 @@ use Rattle.parser_definitions.specs.MapErr.{complete_err_law}
 use Rattle.parser_definitions.specs.Outcome.{Alike, Does, IsFinal, Outcome, Setting, alike_wants}
 use Rattle.parser_definitions.specs.Outcome.{asks, backs, both, cuts, grown, longer, on_cut}
 use Rattle.parser_definitions.specs.Outcome.{outcome_of, took, wants}
-use Rattle.parser_definitions.specs.Recover.{CanRecover, NeverAsks, Recovery, not_less, record_error}
-use Rattle.parser_definitions.specs.Recover.{recovers_by, recovers_hold, recovers_meet, recovery}
-use Rattle.parser_definitions.specs.Recover.{still_less}
+use Rattle.parser_definitions.specs.Recover.{CanRecover, NeverAsks, Recovery, not_less}
+use Rattle.parser_definitions.specs.Recover.{record_error, recovers_by, recovers_hold}
+use Rattle.parser_definitions.specs.Recover.{recovers_meet, recovery, still_less}
 use Rattle.parser_definitions.specs.Resume.{child, children, with_child, with_children}
 use Rattle.parser_definitions.specs.Then.{Comes, ComesOf, Holds, Meets, Next, Then, then_law}
 use Rattle.parser_definitions.specs.Then.Steps.{In, asks_later, asks_meet, asks_on, first, in_law}

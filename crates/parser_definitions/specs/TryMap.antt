@@ -2,8 +2,7 @@
 use Rattle.std.specs.Prelude.{◌≡◌, ◌⊎◌, ⊤, false, Result, Ok, Err}
 use Rattle.std.proofs.Common.{refl, sym, subst, ap, inl, inr}
 use Rattle.stream_errors.specs.Form.{ErrorForm}
-use Rattle.stream_errors.specs.Given.{KindGiven}
-use Rattle.stream_errors.specs.Given.{Keeping, KindGiven}
+use Rattle.stream_errors.specs.Given.{KindGiven, Keeping, KindGiven}
 use Rattle.streams.specs.Input.{Input}
 use Rattle.streams.specs.Kind.{Kind, backtrack}
 use Rattle.parser_definitions.specs.Does.{Lawful}
