@@ -16,8 +16,8 @@ use Rattle.parser_definitions.specs.Sequence.{SequenceDoes1, SequenceDoes3, Term
 use Rattle.parser_definitions.specs.Sequence.{first3, one_with, second3, third3, with_first3}
 use Rattle.parser_definitions.specs.Sequence.{with_second3, with_third3}
 use Rattle.parser_definitions.specs.Then.{Comes, ComesOf, Next, Then}
-use Rattle.parser_definitions.specs.Then.Steps.{and_then, second, then_next}
-use Rattle.parser_definitions.specs.Then.Steps.{with_first, with_second}
+use Rattle.parser_definitions.specs.Then.Steps.{and_then, second, then_next, with_first}
+use Rattle.parser_definitions.specs.Then.Steps.{with_second}
 use Rattle.parser_definitions.specs.Tuples.{JoinedDo, SequenceDoes4, SequenceDoes5, SequenceDoes6}
 use Rattle.parser_definitions.specs.Tuples.{split4, split5, split6}
 
