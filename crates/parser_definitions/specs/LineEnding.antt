@@ -1,0 +1,70 @@
+-- The definitions of `crlf`, `newline`, `tab` and `line_ending`.
+use Rattle.std.specs.Prelude.{◌≡◌, ⊤, ℕ, List, [], ◌∷◌}
+use Rattle.std.specs.Borrow.{Bor}
+use Rattle.std.proofs.Common.{refl}
+use Rattle.streams.specs.Reading.{Reading}
+use Rattle.parser_definitions.specs.Does.{Lawful}
+use Rattle.parser_definitions.specs.Literal.{LiteralDoes, SpellsAsMany, SpellsByText, TextDoes}
+use Rattle.parser_definitions.specs.Literal.{literal_law, text_law}
+use Rattle.parser_definitions.specs.Outcome.{Does}
+use Rattle.parser_definitions.specs.Shown.{ShowSame}
+use Rattle.parser_definitions.specs.Then.{Next, Then, then_law}
+use Rattle.parser_definitions.specs.Then.Steps.{asks_later, asks_meet, asks_on, cuts_hold}
+use Rattle.parser_definitions.specs.Then.Steps.{cuts_meet, cuts_on, else_holds, else_meets, instead}
+use Rattle.parser_definitions.specs.Then.Steps.{or_else, same, takes, takes_hold, takes_meet}
+
+-- The literal of the character `c`, which is the output; `spells` gives the lists that a character
+-- spells.
+abbrev pub CharacterDoes : {S T L : Type 0} → Reading T L → (ℕ → List T → Type 0) → ℕ → Does S T ℕ
+CharacterDoes reading spells c = LiteralDoes reading (λ s. spells c) (λ s slice. c)
+
+-- "\n" and "\t"
+abbrev pub NewlineDoes : {S T L : Type 0} → Reading T L → (ℕ → List T → Type 0) → Does S T ℕ
+NewlineDoes reading spells = CharacterDoes reading spells 10
+
+abbrev pub TabDoes : {S T L : Type 0} → Reading T L → (ℕ → List T → Type 0) → Does S T ℕ
+TabDoes reading spells = CharacterDoes reading spells 9
+
+pub character_law : {S T L : Type 0} (reading : Reading T L) (spells : ℕ → List T → Type 0) (c : ℕ)
+    → SpellsAsMany reading (spells c)
+    → Lawful {S = S} ⊤ (λ m n. m ≡ n) (CharacterDoes reading spells c)
+character_law reading spells c as_many =
+    literal_law reading (λ s. spells c) (λ s slice. c) (λ m n. m ≡ n) (λ s. as_many)
+    (λ s u v same. refl)
+
+-- If the first definition backtracks, the other applies at the start. Both have one state.
+abbrev pub or_other : {S T O : Type 0} → Does S T O → Next S S T O O
+or_other other = record {
+  on_took = λ o. takes instead o;
+  on_backs = or_else instead other;
+  on_cuts = cuts_on instead;
+  on_asks = asks_on instead;
+}
+
+-- `spells` gives the lists that a text spells.
+module _ {S T L : Type 0} (reading : Reading T L) (spells : Bor (List ℕ) → List T → Type 0) where
+  -- "\r\n"
+  abbrev pub CrlfDoes : Does S T L
+  CrlfDoes = TextDoes reading spells (13 ∷ 10 ∷ [])
+
+  -- "\n", or "\r\n" if "\n" backtracks.
+  abbrev pub LineEndingDoes : Does S T L
+  LineEndingDoes = Then same (TextDoes reading spells (10 ∷ [])) (or_other CrlfDoes)
+
+  module _ (as_many : (text : Bor (List ℕ)) → SpellsAsMany reading (spells text))
+      (by_text : SpellsByText spells) where
+    pub crlf_law : Lawful ⊤ (ShowSame reading) CrlfDoes
+    crlf_law = text_law reading spells (13 ∷ 10 ∷ []) as_many by_text
+
+    pub line_ending_law : Lawful ⊤ (ShowSame reading) LineEndingDoes
+    line_ending_law = then_law (text_law reading spells (10 ∷ []) as_many by_text) (record {
+      took = λ o p like. takes_meet instead like;
+      backs = else_meets instead (λ o p like. like) crlf_law;
+      cuts = cuts_meet instead;
+      asks = asks_meet instead;
+    }) (record {
+      took = λ o. takes_hold instead;
+      backs = else_holds instead (λ is. is) crlf_law;
+      cuts = cuts_hold instead;
+      asks = asks_later instead;
+    }) (λ is. is)
