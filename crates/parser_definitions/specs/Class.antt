@@ -8,7 +8,7 @@ use Rattle.stream_sets.specs.Once.{SetIsFunction}
 use Rattle.stream_sets.specs.Range.{from_to}
 use Rattle.parser_definitions.specs.Does.{Lawful}
 use Rattle.parser_definitions.specs.Outcome.{Does}
-use Rattle.parser_definitions.specs.Shown.{ShowSame}
+use Rattle.parser_definitions.specs.Spelled.{ShowSame}
 use Rattle.parser_definitions.specs.TakeWhile.{TakeWhileDoes, take_while_law}
 
 -- Tokens with the same view are one character; `code` gives its number.

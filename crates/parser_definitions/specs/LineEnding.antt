@@ -1,17 +1,43 @@
--- The definitions of `crlf`, `newline`, `tab` and `line_ending`.
+-- The definitions of literals of characters and texts: `newline`, `tab`, `crlf`, and of
+-- `line_ending`.
 use Rattle.std.specs.Prelude.{◌≡◌, ⊤, ℕ, List, [], ◌∷◌}
 use Rattle.std.specs.Borrow.{Bor}
-use Rattle.std.proofs.Common.{refl}
+use Rattle.std.proofs.Common.{refl, sym, ◌∙◌}
 use Rattle.streams.specs.Reading.{Reading}
+use Rattle.grammars.specs.Grammar.{SpelledBy}
 use Rattle.parser_definitions.specs.Does.{Lawful}
-use Rattle.parser_definitions.specs.Literal.{LiteralDoes, SpellsAsMany, SpellsByText, TextDoes}
-use Rattle.parser_definitions.specs.Literal.{literal_law, text_law}
+use Rattle.parser_definitions.specs.Literal.{LiteralDoes, literal_law}
 use Rattle.parser_definitions.specs.Outcome.{Does}
-use Rattle.parser_definitions.specs.Shown.{ShowSame}
+use Rattle.parser_definitions.specs.Spelled.{ShowSame}
 use Rattle.parser_definitions.specs.Then.{Next, Then, then_law}
 use Rattle.parser_definitions.specs.Then.Steps.{asks_later, asks_meet, asks_on, cuts_hold}
 use Rattle.parser_definitions.specs.Then.Steps.{cuts_meet, cuts_on, else_holds, else_meets, instead}
 use Rattle.parser_definitions.specs.Then.Steps.{or_else, same, takes, takes_hold, takes_meet}
+
+-- All lists that a literal spells have as many units.
+abbrev pub SpellsAsMany : {T L : Type 0} → Reading T L → (List T → Type 0) → Type 0
+SpellsAsMany {T} reading spelled =
+    (xs ys : List T) → spelled xs → spelled ys → reading.units xs ≡ reading.units ys
+
+-- Two texts with the same bytes spell the same lists.
+abbrev pub SpellsByText : {T : Type 0} → (Bor (List ℕ) → List T → Type 0) → Type 0
+SpellsByText {T} spells = (s t : Bor (List ℕ)) (xs : List T) → s.now ≡ t.now → spells s xs
+    → spells t xs
+
+-- The literal of a text with these bytes; `spells` gives the lists that a text spells.
+abbrev pub TextDoes : {S T L : Type 0} → Reading T L → (Bor (List ℕ) → List T → Type 0) → List ℕ
+    → Does S T L
+TextDoes reading spells bytes =
+    LiteralDoes reading (λ s. SpelledBy spells bytes) (λ s slice. slice)
+
+pub text_law : {S T L : Type 0} (reading : Reading T L) (spells : Bor (List ℕ) → List T → Type 0)
+    (bytes : List ℕ) → ((text : Bor (List ℕ)) → SpellsAsMany reading (spells text))
+    → SpellsByText spells
+    → Lawful {S = S} ⊤ (ShowSame reading) (TextDoes reading spells bytes)
+text_law reading spells bytes as_many by_text =
+    literal_law reading (λ s. SpelledBy spells bytes) (λ s slice. slice) (ShowSame reading)
+    (λ s xs ys (t, is, a) (u, was, b). as_many t xs ys a (by_text u t ys (was ∙ sym is) b))
+    (λ s u v same. same)
 
 -- The literal of the character `c`, which is the output; `spells` gives the lists that a character
 -- spells.

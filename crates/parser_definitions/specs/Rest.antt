@@ -6,7 +6,7 @@ use Rattle.parser_definitions.specs.Cases.{Case, TakesWhere, takes_law}
 use Rattle.parser_definitions.specs.Does.{Lawful}
 use Rattle.parser_definitions.specs.Outcome.{Does}
 use Rattle.parser_definitions.specs.Passed.{Passed, same_passed}
-use Rattle.parser_definitions.specs.Shown.{ShowSame}
+use Rattle.parser_definitions.specs.Spelled.{ShowSame}
 
 module _ {S T L : Type 0} (reading : Reading T L) where
   -- All tokens are passed, and a slice shows them.

@@ -9,7 +9,8 @@ use Rattle.parser_definitions.specs.Does.{Lawful}
 use Rattle.parser_definitions.specs.Left.{Left}
 use Rattle.parser_definitions.specs.Outcome.{Does}
 use Rattle.parser_definitions.specs.Passed.{Passed, passed_longer}
-use Rattle.parser_definitions.specs.Shown.{ShowSame, passed_as_many, show_same}
+use Rattle.parser_definitions.specs.Shown.{passed_as_many, show_same}
+use Rattle.parser_definitions.specs.Spelled.{ShowSame}
 
 -- Enough tokens remain: the first `n` are passed, and a slice shows them.
 abbrev pub AreCounted : {T L : Type 0} → Reading T L → ℕ → L → Case T

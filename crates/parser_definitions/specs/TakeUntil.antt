@@ -17,7 +17,9 @@ use Rattle.parser_definitions.specs.Does.{Lawful}
 use Rattle.parser_definitions.specs.Left.{End, Left}
 use Rattle.parser_definitions.specs.Outcome.{Does, Outcome, Setting}
 use Rattle.parser_definitions.specs.Passed.{Passed, passed_longer}
-use Rattle.parser_definitions.specs.Shown.{ShowSame, passed_as_many, same_by_units, show_same}
+use Rattle.parser_definitions.specs.Shown.{passed_as_many, show_same}
+use Rattle.parser_definitions.specs.Spelled.{ShowSame}
+use Rattle.parser_definitions.specs.Spelled
 
 -- No list that `sought` accepts occurs.
 abbrev pub OccursNowhere : {T : Type 0} → (List T → Type 0) → List T → Type 0
@@ -45,7 +47,7 @@ before_more {T} reading sought stays more tokens front rest before =
     let split : front ++ ((hit ++ behind) ++ more) ≡ n.front ++ (n.found ++ n.rest) =
     sym (append_assoc front (hit ++ behind) more) ∙ ap (λ l. l ++ more) (sym there.splits)
     ∙ n.stands.splits in
-    let same = same_by_units reading front n.front _ (n.found ++ n.rest) split n.starts in
+    let same = Spelled.same_front reading front n.front _ (n.found ++ n.rest) split n.starts in
     let P : List T → Type 0 = λ l. IsBefore sought (tokens ++ more) l (rest ++ more) in
     subst P (sym same) (match_before reading n (rest ++ more)
     (ap (λ l. l ++ more) before.splits ∙ append_assoc front rest more

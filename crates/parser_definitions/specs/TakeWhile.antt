@@ -16,7 +16,8 @@ use Rattle.parser_definitions.specs.Does.{Lawful}
 use Rattle.parser_definitions.specs.Left.{End, Left}
 use Rattle.parser_definitions.specs.Outcome.{Does, Outcome, Setting, grown, on_cut}
 use Rattle.parser_definitions.specs.Passed.{Passed, passed_longer, same_passed}
-use Rattle.parser_definitions.specs.Shown.{ShowSame, show_same}
+use Rattle.parser_definitions.specs.Shown.{show_same}
+use Rattle.parser_definitions.specs.Spelled.{ShowSame}
 
 -- More input cannot extend the prefix, or the input is complete.
 abbrev pub IsOver : {T : Type 0} → (T → Bool → Type 0) → Option ℕ → Setting → List T → List T

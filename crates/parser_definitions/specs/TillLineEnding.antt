@@ -17,10 +17,11 @@ use Rattle.parser_definitions.specs.Cases.{TakesWhere, after_law, backs_law, cas
 use Rattle.parser_definitions.specs.Cases.{takes_law}
 use Rattle.parser_definitions.specs.Does.{Lawful}
 use Rattle.parser_definitions.specs.Left.{End, Left}
-use Rattle.parser_definitions.specs.Literal.{still_not_first, still_not_short}
 use Rattle.parser_definitions.specs.Outcome.{Does, Outcome, Setting, grown, on_cut}
 use Rattle.parser_definitions.specs.Passed.{Passed, passed_longer, same_passed}
-use Rattle.parser_definitions.specs.Shown.{ShowSame, one_beginning, show_same}
+use Rattle.parser_definitions.specs.Shown.{show_same}
+use Rattle.parser_definitions.specs.Spelled.{ShowSame, one_beginning, still_not_first}
+use Rattle.parser_definitions.specs.Spelled.{still_not_short}
 use Rattle.parser_definitions.specs.TakeUntil.{before_more}
 
 -- `Incomplete` is not returned: the input is complete, or errors have no kind for it.
