@@ -10,7 +10,7 @@ use Rattle.stream_searches.specs.FindSlice.{IsFirstMatch, Occurs}
 use Rattle.stream_searches.specs.FirstMatch.{StaysFirst}
 use Rattle.stream_sets.specs.Longest.{within_is}
 use Rattle.stream_sets.specs.Range.{Bounds, IsWithin}
-use Rattle.parser_definitions.specs.Bounded.{InBounds, bounds_law}
+use Rattle.parser_definitions.specs.Members.{InBounds, bounds_law}
 use Rattle.parser_definitions.specs.Cases.{Case, FailsWhere, LacksWhere, OneCase, TakesWhere}
 use Rattle.parser_definitions.specs.Cases.{cases_law, fails_law, lacks_law, takes_law}
 use Rattle.parser_definitions.specs.Does.{Lawful}

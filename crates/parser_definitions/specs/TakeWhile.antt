@@ -8,8 +8,8 @@ use Rattle.streams.specs.Stream.{AnswersSeen}
 use Rattle.stream_sets.specs.Longest.{IsLongest}
 use Rattle.stream_sets.specs.Once.{Others, SetIsFunction}
 use Rattle.stream_sets.specs.Range.{Bounds}
-use Rattle.parser_definitions.specs.Bounded.{InBounds, IsEnded, IsOpen, bounds_law, ended_more}
-use Rattle.parser_definitions.specs.Bounded.{longest_more, missing_of, one_prefix, open_ends}
+use Rattle.parser_definitions.specs.Members.{InBounds, IsEnded, IsOpen, bounds_law, ended_more}
+use Rattle.parser_definitions.specs.Members.{longest_more, missing_of, one_prefix, open_ends}
 use Rattle.parser_definitions.specs.Cases.{Case, FailsWhere, LacksWhere, OneCase, TakesWhere}
 use Rattle.parser_definitions.specs.Cases.{cases_law, fails_law, lacks_law, takes_law}
 use Rattle.parser_definitions.specs.Does.{Lawful}
