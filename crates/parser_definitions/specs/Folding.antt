@@ -1,9 +1,10 @@
 -- The outputs of a repetition are collected: in an accumulator, or in a value by closures.
-use Rattle.std.specs.Prelude.{◌≡◌, ◌⊎◌, ℕ, Bool, false, List, Option}
+use Rattle.std.specs.Prelude.{◌≡◌, ◌⊎◌, ⊤, ℕ, Bool, false, List, Option}
 use Rattle.std.proofs.Common.{refl, sym, subst, ap, ◌∙◌, inl, inr}
 use Rattle.stream_sets.specs.Accumulator.{Accumulator}
+use Rattle.parser_definitions.specs.Does.{Lawful}
 use Rattle.parser_definitions.specs.Left.{End, Left, back, extend, extend_end}
-use Rattle.parser_definitions.specs.Loop.{Family}
+use Rattle.parser_definitions.specs.Loop.{Family, member}
 use Rattle.parser_definitions.specs.Outcome.{Alike, Does, IsFinal, Outcome, Setting, alike_wants}
 use Rattle.parser_definitions.specs.Outcome.{as_longer, asks, backs, both, final_by, grown, longer}
 use Rattle.parser_definitions.specs.Outcome.{on_cut, took, wants}
@@ -118,6 +119,22 @@ module _ {Q T C O U X : Type 0} {f : Folding Q C O} {alike : O → O → Type 0}
           inl (c, u, starts, h.stays is (c, x) more flag u w y final a)
       stays is x more flag q w y final (inr (grows, e)) =
           absurd (final_by {y = wants} e final)
+
+-- the same with nothing but the value
+pub started_law : {Q T C O U : Type 0} {f : Folding Q C O} {alike : O → O → Type 0}
+    {stable : Type 0} {beside : U → U → Type 0} → FoldsOne f alike → (n : Option ℕ)
+    {inner : C → Does Q T U} → Family stable (Built f alike) beside inner
+    → Lawful stable beside (Started f n inner)
+started_law {f = f} {alike} {stable} {beside} p n {inner} h =
+    let any : ⊤ → ⊤ → Type 0 = λ x y. ⊤ in
+    let each : Family stable (λ a b. Built f alike a.0 b.0 × any a.1 b.1) beside
+    (λ x. inner x.0) = record {
+      one = λ c d is. h.one c.0 d.0 is.0;
+      whole = λ c. h.whole c.0;
+      stays = λ is c. h.stays is c.0;
+    } in
+    let all : Family stable any beside (λ (x : ⊤). Started f n inner) = started_family p n each in
+    member all tt tt
 
 module _ {Q T C O U : Type 0} {f : Folding Q C O} {alike : O → O → Type 0}
     (p : FoldsOne f alike) {stable : Type 0} {beside : U → U → Type 0} where

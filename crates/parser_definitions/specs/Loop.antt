@@ -8,8 +8,8 @@ use Rattle.parser_definitions.specs.Outcome.{asks, backs, both, cuts, grown, lon
 use Rattle.parser_definitions.specs.Outcome.{wants}
 use Rattle.parser_definitions.specs.Then.{Comes, ComesOf, Holds, Meets, Next, NextHolds, NextMeets}
 use Rattle.parser_definitions.specs.Then.{Then, final_comes, one_comes, stays_comes, whole_comes}
-use Rattle.parser_definitions.specs.Then.Steps.{holds_where, instead, meets_where, same, takes}
-use Rattle.parser_definitions.specs.Then.Steps.{takes_hold, takes_meet, where_took}
+use Rattle.parser_definitions.specs.Then.Steps.{and_then, holds_where, instead, meets_where, same}
+use Rattle.parser_definitions.specs.Then.Steps.{takes, takes_hold, takes_meet, where_took}
 
 -- The output of a turn: a value with which the loop continues, or the output of the loop.
 pub data Turn (C R : Type 0) : Type 0 where
@@ -82,6 +82,23 @@ then_family {get = get} {does} {next} p m h with_child = record {
     p.stays (with_child is) c more flag (get q) w x (final_comes (h c) is q w x y final e) a,
     stays_comes (h c) is more flag q w x y final e,
   );
+}
+
+-- a definition with a parameter is called where the child ended
+pub family_meets : {S Q T C U : Type 0} (put : Q → S → Q) {stable : Type 0}
+    {related : C → C → Type 0} {beside : U → U → Type 0} {does : C → Does Q T U}
+    → Family stable related beside does → (c d : C) → related c d
+    → Meets beside (and_then put (does c)) (and_then put (does d))
+family_meets put p c d is =
+    record { one = λ at q w end y z a b. p.one c d is at (put q end.0) end.1 y z a b }
+
+pub family_holds : {S Q T C U : Type 0} (put : Q → S → Q) {stable : Type 0}
+    {related : C → C → Type 0} {beside : U → U → Type 0} {does : C → Does Q T U}
+    → Family stable related beside does → (c : C) → Holds stable (and_then put (does c))
+family_holds put p c = record {
+  whole = λ at q w end need place is a. p.whole c at (put q end.0) end.1 need place is a;
+  stays = λ is more flag q w end y final a.
+      p.stays is c more flag (put q end.0) end.1 y final a;
 }
 
 -- Both continue with related values, or both return equal outputs.
