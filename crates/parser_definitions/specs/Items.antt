@@ -24,8 +24,8 @@ enough put least x at q w end y =
     ⊎ ((x.1 < least) × (y ≡ backs (put q end.0, end.1)))
 
 -- An item that consumed nothing is a misuse; the output of another is collected.
-abbrev pub item_comes : {S Q T C O : Type 0} → (Q → S → Q) → Folding Q C O → C × ℕ → Option O
-    → Comes S Q T (Turn (C × ℕ) C)
+abbrev pub item_comes : {S Q T C O R : Type 0} → (Q → S → Q) → Folding Q C O → C × ℕ → Option O
+    → Comes S Q T (Turn (C × ℕ) R)
 item_comes put f x None at q w end y = misused_on put at q w end y
 item_comes put f x (Some o) at q w end y =
     folded put f (λ d. continues (d, x.1 + 1)) x.0 o at q w end y
@@ -53,17 +53,34 @@ Items get put f bounds item c = Loop (ItemsTurn get put f bounds item) (c, 0)
 
 -- ---- laws
 
+-- equal values after as many items
+abbrev pub Counted : {Q C O : Type 0} → Folding Q C O → (O → O → Type 0) → C × ℕ → C × ℕ → Type 0
+Counted f alike x y = Built f alike x.0 y.0 × (x.1 ≡ y.1)
+
+pub item_meets : {S Q T C O R : Type 0} (put : Q → S → Q) {f : Folding Q C O}
+    {alike : O → O → Type 0} (returned : R → R → Type 0) → FoldsOne f alike → (x z : C × ℕ)
+    → Counted f alike x z → (o r : Option O) → AlikeOptions alike o r
+    → Meets {T = T} (AlikeTurns (Counted f alike) returned) (item_comes put f x o)
+    (item_comes put f z r)
+item_meets put returned p x z is None None like = misused_meets put
+item_meets put returned p x z is None (Some r) like = absurd like
+item_meets put returned p x z is (Some o) None like = absurd like
+item_meets put returned p x z is (Some o) (Some r) like =
+    folded_meets put (λ d. continues (d, x.1 + 1)) (λ d. continues (d, z.1 + 1)) p
+    (λ c d held. (held, ap (λ n. n + 1) is.1)) x.0 z.0 is.0 o r like
+
+pub item_holds : {S Q T C O R : Type 0} (put : Q → S → Q) (f : Folding Q C O) {stable : Type 0}
+    (x : C × ℕ) (o : Option O) → Holds {T = T} {U = Turn (C × ℕ) R} stable (item_comes put f x o)
+item_holds put f x None = misused_holds put
+item_holds put f x (Some o) = folded_holds put f (λ d. continues (d, x.1 + 1)) x.0 o
+
 module _ {S Q T C O : Type 0} (get : Q → S) (put : Q → S → Q) {f : Folding Q C O}
     {stable : Type 0} {alike : O → O → Type 0} {item : Does S T (Option O)} (p : FoldsOne f alike)
     (law : Lawful stable (AlikeOptions alike) item) (bounds : Bounds) where
-  -- equal values after as many items
-  abbrev Counted : C × ℕ → C × ℕ → Type 0
-  Counted x y = Built f alike x.0 y.0 × (x.1 ≡ y.1)
-
   abbrev Same : Turn (C × ℕ) C → Turn (C × ℕ) C → Type 0
-  Same = AlikeTurns Counted (Built f alike)
+  Same = AlikeTurns (Counted f alike) (Built f alike)
 
-  enough_meets : (x z : C × ℕ) → Counted x z
+  enough_meets : (x z : C × ℕ) → Counted f alike x z
       → Meets {T = T} Same (enough put bounds.least x) (enough put bounds.least z)
   enough_meets x z is = record { one = one }
     where
@@ -76,15 +93,6 @@ module _ {S Q T C O : Type 0} (get : Q → S) (put : Q → S → Q) {f : Folding
       one at q w end y v (inr (few, e)) (inl (many, g)) =
           absurd (omega (arith, many, few, is.1))
       one at q w end y v (inr (few, e)) (inr (also, g)) = both Same e g refl
-
-  item_meets : (x z : C × ℕ) → Counted x z → (o r : Option O) → AlikeOptions alike o r
-      → Meets {T = T} Same (item_comes put f x o) (item_comes put f z r)
-  item_meets x z is None None like = misused_meets put
-  item_meets x z is None (Some r) like = absurd like
-  item_meets x z is (Some o) None like = absurd like
-  item_meets x z is (Some o) (Some r) like =
-      folded_meets put (λ d. continues (d, x.1 + 1)) (λ d. continues (d, z.1 + 1)) p
-      (λ c d held. (held, ap (λ n. n + 1) is.1)) x.0 z.0 is.0 o r like
 
   enough_holds : (x : C × ℕ) → Holds {T = T} stable (enough put bounds.least x)
   enough_holds x = record { whole = whole; stays = stays }
@@ -103,27 +111,23 @@ module _ {S Q T C O : Type 0} (get : Q → S) (put : Q → S → Q) {f : Folding
       stays is more flag q w end y final (inl (many, e)) = inl (many, as_longer more e)
       stays is more flag q w end y final (inr (few, e)) = inr (few, as_longer more e)
 
-  item_holds : (x : C × ℕ) (o : Option O) → Holds {T = T} stable (item_comes put f x o)
-  item_holds x None = misused_holds put
-  item_holds x (Some o) = folded_holds put f (λ d. continues (d, x.1 + 1)) x.0 o
-
-  called : Family stable Counted Same (λ x. Then get item (items_next put f bounds.least x))
+  called : Family stable (Counted f alike) Same (λ x. Then get item (items_next put f bounds.least x))
   called = then_family (always law) (λ x z is. record {
-    took = item_meets x z is;
+    took = item_meets put (Built f alike) p x z is;
     backs = enough_meets x z is;
     cuts = cuts_meet put;
     asks = asks_meet put;
   }) (λ x. record {
-    took = item_holds x;
+    took = item_holds put f x;
     backs = enough_holds x;
     cuts = cuts_hold put;
     asks = asks_later put;
   }) (λ is. is)
 
-  turn_family : Family stable Counted Same (ItemsTurn get put f bounds item)
+  turn_family : Family stable (Counted f alike) Same (ItemsTurn get put f bounds item)
   turn_family = record { one = one; whole = whole; stays = stays }
     where
-      one : (x z : C × ℕ) → Counted x z → (at : Setting) (q : Q) (w : Left T)
+      one : (x z : C × ℕ) → Counted f alike x z → (at : Setting) (q : Q) (w : Left T)
           (y v : Outcome (End Q T) (Turn (C × ℕ) C)) → ItemsTurn get put f bounds item x at q w y
           → ItemsTurn get put f bounds item z at q w v → Alike Same y v
       one x z is at q w y v (inl (full, e)) (inl (also, g)) = both Same e g (is.0, refl)

@@ -2,14 +2,14 @@
 use Rattle.std.specs.Prelude.{◌≡◌, ℕ, Bool, true, false, List, Option}
 use Rattle.std.proofs.Common.{refl, sym, subst}
 use Rattle.parser_definitions.specs.Does.{Lawful}
-use Rattle.parser_definitions.specs.Left.{End, Left, extend}
+use Rattle.parser_definitions.specs.Left.{End, Left, back, extend}
 use Rattle.parser_definitions.specs.Outcome.{Alike, Does, IsFinal, Outcome, Setting, alike_wants}
 use Rattle.parser_definitions.specs.Outcome.{asks, backs, both, cuts, grown, longer, on_cut, took}
 use Rattle.parser_definitions.specs.Outcome.{wants}
 use Rattle.parser_definitions.specs.Then.{Comes, ComesOf, Holds, Meets, Next, NextHolds, NextMeets}
 use Rattle.parser_definitions.specs.Then.{Then, final_comes, one_comes, stays_comes, whole_comes}
-use Rattle.parser_definitions.specs.Then.Steps.{and_then, holds_where, instead, meets_where, same}
-use Rattle.parser_definitions.specs.Then.Steps.{takes, takes_hold, takes_meet, where_took}
+use Rattle.parser_definitions.specs.Then.Steps.{and_then, holds_where, instead, meets_where, or_else}
+use Rattle.parser_definitions.specs.Then.Steps.{same, takes, takes_hold, takes_meet, where_took}
 
 -- The output of a turn: a value with which the loop continues, or the output of the loop.
 pub data Turn (C R : Type 0) : Type 0 where
@@ -99,6 +99,24 @@ family_holds put p c = record {
   whole = λ at q w end need place is a. p.whole c at (put q end.0) end.1 need place is a;
   stays = λ is more flag q w end y final a.
       p.stays is c more flag (put q end.0) end.1 y final a;
+}
+
+-- ... or from where the child started
+pub family_meets_else : {S Q T C U : Type 0} (put : Q → S → Q) {stable : Type 0}
+    {related : C → C → Type 0} {beside : U → U → Type 0} {does : C → Does Q T U}
+    → Family stable related beside does → (c d : C) → related c d
+    → Meets beside (or_else put (does c)) (or_else put (does d))
+family_meets_else put p c d is = record {
+  one = λ at q w end y z a b. p.one c d is at (put q end.0) (back w end.1) y z a b;
+}
+
+pub family_holds_else : {S Q T C U : Type 0} (put : Q → S → Q) {stable : Type 0}
+    {related : C → C → Type 0} {beside : U → U → Type 0} {does : C → Does Q T U}
+    → Family stable related beside does → (c : C) → Holds stable (or_else put (does c))
+family_holds_else put p c = record {
+  whole = λ at q w end need place is a. p.whole c at (put q end.0) (back w end.1) need place is a;
+  stays = λ is more flag q w end y final a.
+      p.stays is c more flag (put q end.0) (back w end.1) y final a;
 }
 
 -- Both continue with related values, or both return equal outputs.
