@@ -59,12 +59,14 @@ pub closures_one : {G H R O : Type 0} (starts : G → R → G → Type 0)
     → FoldsOne (by_closures starts takes rejects grows) alike
 closures_one starts takes rejects grows alike p = record {
   start = λ q n c d u v (a, e) (b, f). pair_is (p.start q.0 c d u.0 v.0 a b) (e ∙ sym f);
-  next = λ q b c o r d e u v is like (a, x) (g, y).
-      pair_is (x ∙ sym y) (p.next q.1 b c o r d e u.1 v.1 is like a g);
-  apart = λ q b c o r d u v is like (a, x) (g, y). p.apart q.1 b c o r d u.1 v.1 is like a g;
-  other = λ q b c o r e u v is like (a, x) (g, y). p.other q.1 b c o r e u.1 v.1 is like a g;
-  rejected = λ q b c o r u v is like (a, x) (g, y).
-      pair_is (x ∙ sym y) (p.rejected q.1 b c o r u.1 v.1 is like a g);
+  folds = record {
+    next = λ q b c o r d e u v is like (a, x) (g, y).
+        pair_is (x ∙ sym y) (p.next q.1 b c o r d e u.1 v.1 is like a g);
+    apart = λ q b c o r d u v is like (a, x) (g, y). p.apart q.1 b c o r d u.1 v.1 is like a g;
+    other = λ q b c o r e u v is like (a, x) (g, y). p.other q.1 b c o r e u.1 v.1 is like a g;
+    rejected = λ q b c o r u v is like (a, x) (g, y).
+        pair_is (x ∙ sym y) (p.rejected q.1 b c o r u.1 v.1 is like a g);
+  };
 }
 
 -- ---- in the state of the whole
@@ -82,7 +84,7 @@ folding_in {P = P} get put f = record {
 module _ {Q P C O : Type 0} (get : Q → P) (put : Q → P → Q) (f : Folding P C O)
     (alike : O → O → Type 0) where
   pub built_in : (c d : C) → Built (folding_in get put f) alike c d → Built f alike c d
-  built_in c d (begun q u v n (a, x, e) (b, y, g)) = begun (get q) a b n x y
+  built_in c d (begun (q, u, v, n, (a, x, e), (b, y, g))) = begun (get q, a, b, n, x, y)
   built_in c d (added {b = b0} {c = c0} o p q u v is like (a, x, e) (b, y, g)) =
       added o p (get q) a b (built_in b0 c0 is) like x y
 
@@ -90,13 +92,15 @@ module _ {Q P C O : Type 0} (get : Q → P) (put : Q → P → Q) (f : Folding P
   folds_in h = record {
     start = λ q n c d u v (a, x, e) (b, y, g).
         e ∙ ap (λ p. put q p) (h.start (get q) n c d a b x y) ∙ sym g;
-    next = λ q b c o r d e u v is like (a, x, i) (z, y, j).
-        i ∙ ap (λ p. put q p) (h.next (get q) b c o r d e a z (built_in b c is) like x y) ∙ sym j;
-    apart = λ q b c o r d u v is like (a, x, i) (z, y, j).
-        h.apart (get q) b c o r d a z (built_in b c is) like x y;
-    other = λ q b c o r e u v is like (a, x, i) (z, y, j).
-        h.other (get q) b c o r e a z (built_in b c is) like x y;
-    rejected = λ q b c o r u v is like (a, x, i) (z, y, j).
-        i ∙ ap (λ p. put q p) (h.rejected (get q) b c o r a z (built_in b c is) like x y)
-        ∙ sym j;
+    folds = record {
+      next = λ q b c o r d e u v is like (a, x, i) (z, y, j).
+          i ∙ ap (λ p. put q p) (h.folds.next (get q) b c o r d e a z (built_in b c is) like x y) ∙ sym j;
+      apart = λ q b c o r d u v is like (a, x, i) (z, y, j).
+          h.folds.apart (get q) b c o r d a z (built_in b c is) like x y;
+      other = λ q b c o r e u v is like (a, x, i) (z, y, j).
+          h.folds.other (get q) b c o r e a z (built_in b c is) like x y;
+      rejected = λ q b c o r u v is like (a, x, i) (z, y, j).
+          i ∙ ap (λ p. put q p) (h.folds.rejected (get q) b c o r a z (built_in b c is) like x y)
+          ∙ sym j;
+    };
   }

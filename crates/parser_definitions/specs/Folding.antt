@@ -33,34 +33,53 @@ gathering into = record {
   grows = λ q c o. into.grows c o;
 }
 
--- Values that collected equal outputs.
-pub data Built {Q C O : Type 0} (f : Folding Q C O) (alike : O → O → Type 0) : C → C → Type 0 where
-  begun : {c d : C} (q u v : Q) (n : Option ℕ) → f.starts q n c u → f.starts q n d v
-      → Built f alike c d
-  added : {b c d e : C} (o p : O) (q u v : Q) → Built f alike b c → alike o p
-      → f.takes q b o d u → f.takes q c p e v → Built f alike d e
+-- Values that collected equal outputs, from related initial values on.
+pub data BuiltFrom {Q C O : Type 0} (f : Folding Q C O) (begins : C → C → Type 0)
+    (alike : O → O → Type 0) : C → C → Type 0 where
+  begun : {c d : C} → begins c d → BuiltFrom f begins alike c d
+  added : {b c d e : C} (o p : O) (q u v : Q) → BuiltFrom f begins alike b c → alike o p
+      → f.takes q b o d u → f.takes q c p e v → BuiltFrom f begins alike d e
+
+-- Both are initial values, made in one state.
+abbrev pub Begun : {Q C O : Type 0} → Folding Q C O → C → C → Type 0
+Begun {Q} f c d = (q : Q) × (u : Q) × (v : Q) × (n : Option ℕ) × f.starts q n c u × f.starts q n d v
+
+-- values that collected equal outputs
+abbrev pub Built : {Q C O : Type 0} → Folding Q C O → (O → O → Type 0) → C → C → Type 0
+Built f alike = BuiltFrom f (Begun f) alike
+
+-- The initial value is made in one way, in that the next state is one.
+abbrev pub StartsOne : {Q C O : Type 0} → Folding Q C O → Type 0
+StartsOne {Q} {C} f = (q : Q) (n : Option ℕ) (c d : C) (u v : Q) → f.starts q n c u
+    → f.starts q n d v → u ≡ v
 
 -- For equal outputs in one state there is one next state, and both are added or both rejected.
+pub record FoldsFrom {Q C O : Type 0} (f : Folding Q C O) (begins : C → C → Type 0)
+    (alike : O → O → Type 0) : Type 0 where
+  pub next : (q : Q) (b c : C) (o p : O) (d e : C) (u v : Q) → BuiltFrom f begins alike b c
+      → alike o p → f.takes q b o d u → f.takes q c p e v → u ≡ v
+  pub apart : (q : Q) (b c : C) (o p : O) (d : C) (u v : Q) → BuiltFrom f begins alike b c
+      → alike o p → f.takes q b o d u → f.rejects q c p v → ⊥
+  pub other : (q : Q) (b c : C) (o p : O) (e : C) (u v : Q) → BuiltFrom f begins alike b c
+      → alike o p → f.rejects q b o u → f.takes q c p e v → ⊥
+  pub rejected : (q : Q) (b c : C) (o p : O) (u v : Q) → BuiltFrom f begins alike b c
+      → alike o p → f.rejects q b o u → f.rejects q c p v → u ≡ v
+
+-- the same from the initial values on
 pub record FoldsOne {Q C O : Type 0} (f : Folding Q C O) (alike : O → O → Type 0) : Type 0 where
-  pub start : (q : Q) (n : Option ℕ) (c d : C) (u v : Q) → f.starts q n c u → f.starts q n d v
-      → u ≡ v
-  pub next : (q : Q) (b c : C) (o p : O) (d e : C) (u v : Q) → Built f alike b c → alike o p
-      → f.takes q b o d u → f.takes q c p e v → u ≡ v
-  pub apart : (q : Q) (b c : C) (o p : O) (d : C) (u v : Q) → Built f alike b c → alike o p
-      → f.takes q b o d u → f.rejects q c p v → ⊥
-  pub other : (q : Q) (b c : C) (o p : O) (e : C) (u v : Q) → Built f alike b c → alike o p
-      → f.rejects q b o u → f.takes q c p e v → ⊥
-  pub rejected : (q : Q) (b c : C) (o p : O) (u v : Q) → Built f alike b c → alike o p
-      → f.rejects q b o u → f.rejects q c p v → u ≡ v
+  pub start : StartsOne f
+  pub folds : FoldsFrom f (Begun f) alike
 
 pub gathers_one : {Q C O : Type 0} (into : Accumulator C O) (alike : O → O → Type 0)
     → FoldsOne (gathering {Q = Q} into) alike
 gathers_one into alike = record {
   start = λ q n c d u v (a, e) (b, f). e ∙ sym f;
-  next = λ q b c o p d e u v is like (g, x) (h, y). x ∙ sym y;
-  apart = λ q b c o p d u v is like g none. none;
-  other = λ q b c o p d u v is like none h. none;
-  rejected = λ q b c o p u v is like none h. absurd none;
+  folds = record {
+    next = λ q b c o p d e u v is like (g, x) (h, y). x ∙ sym y;
+    apart = λ q b c o p d u v is like g none. none;
+    other = λ q b c o p e u v is like none h. none;
+    rejected = λ q b c o p u v is like none h. absurd none;
+  };
 }
 
 -- ---- steps
@@ -100,10 +119,10 @@ module _ {Q T C O U X : Type 0} {f : Folding Q C O} {alike : O → O → Type 0}
       one : (x z : X) → related x z → (at : Setting) (q : Q) (w : Left T)
           (y v : Outcome (End Q T) U) → Started f n (λ c. inner (c, x)) at q w y
           → Started f n (λ c. inner (c, z)) at q w v → Alike beside y v
-      one x z is at q w y v (inl (c, u, starts, a)) (inl (d, r, begins, b)) =
+      one x z is at q w y v (inl (c, u, starts, a)) (inl (d, r, also, b)) =
           let P : Q → Type 0 = λ s. inner (d, z) at s w v in
-          h.one (c, x) (d, z) (begun q u r n starts begins, is) at u w y v a
-          (subst P (sym (p.start q n c d u r starts begins)) b)
+          h.one (c, x) (d, z) (begun (q, u, r, n, starts, also), is) at u w y v a
+          (subst P (sym (p.start q n c d u r starts also)) b)
       one x z is at q w y v a (inr (grows, e)) = both beside refl e (alike_wants beside y)
       one x z is at q w y v (inr (grows, e)) b = both beside {v = v} e refl tt
 
@@ -136,13 +155,13 @@ started_law {f = f} {alike} {stable} {beside} p n {inner} h =
     let all : Family stable any beside (λ (x : ⊤). Started f n inner) = started_family p n each in
     member all tt tt
 
-module _ {Q T C O U : Type 0} {f : Folding Q C O} {alike : O → O → Type 0}
-    (p : FoldsOne f alike) {stable : Type 0} {beside : U → U → Type 0} where
-  pub adds_family : {inner : C → Does Q T U} → Family stable (Built f alike) beside inner
-      → Family stable (λ a b. Built f alike a.0 b.0 × alike a.1 b.1) beside (Adds f inner)
+module _ {Q T C O U : Type 0} {f : Folding Q C O} {begins : C → C → Type 0}
+    {alike : O → O → Type 0} (p : FoldsFrom f begins alike) {stable : Type 0} {beside : U → U → Type 0} where
+  pub adds_family : {inner : C → Does Q T U} → Family stable (BuiltFrom f begins alike) beside inner
+      → Family stable (λ a b. BuiltFrom f begins alike a.0 b.0 × alike a.1 b.1) beside (Adds f inner)
   adds_family {inner} h = record { one = one; whole = whole; stays = stays }
     where
-      one : (x z : C × O) → Built f alike x.0 z.0 × alike x.1 z.1 → (at : Setting) (q : Q)
+      one : (x z : C × O) → BuiltFrom f begins alike x.0 z.0 × alike x.1 z.1 → (at : Setting) (q : Q)
           (w : Left T) (y v : Outcome (End Q T) U) → Adds f inner x at q w y
           → Adds f inner z at q w v → Alike beside y v
       one x z is at q w y v (inl (c, u, takes, a)) (inl (d, r, also, b)) =
@@ -165,11 +184,11 @@ module _ {Q T C O U : Type 0} {f : Folding Q C O} {alike : O → O → Type 0}
       stays is x more flag q w y final (inr (grows, e)) =
           absurd (final_by {y = wants} e final)
 
-module _ {S Q T C O U : Type 0} (put : Q → S → Q) {f : Folding Q C O} {alike : O → O → Type 0}
-    {beside : U → U → Type 0} (output also : C → U) where
-  pub folded_meets : FoldsOne f alike
-      → ((c d : C) → Built f alike c d → beside (output c) (also d)) → (c d : C)
-      → Built f alike c d → (o r : O) → alike o r
+module _ {S Q T C O U : Type 0} (put : Q → S → Q) {f : Folding Q C O}
+    {begins : C → C → Type 0} {alike : O → O → Type 0} {beside : U → U → Type 0} (output also : C → U) where
+  pub folded_meets : FoldsFrom f begins alike
+      → ((c d : C) → BuiltFrom f begins alike c d → beside (output c) (also d)) → (c d : C)
+      → BuiltFrom f begins alike c d → (o r : O) → alike o r
       → Meets {T = T} beside (folded put f output c o) (folded put f also d r)
   folded_meets p made c d held o r like = record { one = one }
     where

@@ -6,7 +6,7 @@ use Rattle.parser_definitions.specs.Bounded.{full_is_below}
 use Rattle.parser_definitions.specs.Consumes.{misused_holds, misused_meets, misused_on}
 use Rattle.parser_definitions.specs.Does.{Lawful}
 use Rattle.parser_definitions.specs.Equal.{AlikeOptions}
-use Rattle.parser_definitions.specs.Folding.{Built, FoldsOne, Folding, folded, folded_holds}
+use Rattle.parser_definitions.specs.Folding.{BuiltFrom, FoldsFrom, Folding, folded, folded_holds}
 use Rattle.parser_definitions.specs.Folding.{folded_meets}
 use Rattle.parser_definitions.specs.Left.{End, Left, back, extend, extend_end}
 use Rattle.parser_definitions.specs.Loop.{AlikeTurns, Family, Loop, Turn, always, continues, loop_law}
@@ -18,9 +18,9 @@ use Rattle.parser_definitions.specs.Then.Steps.{asks_later, asks_meet, asks_on, 
 use Rattle.parser_definitions.specs.Then.Steps.{cuts_on}
 
 -- If the item after `n` others backtracks, they are enough, or too few.
-abbrev pub enough : {S Q T C : Type 0} → (Q → S → Q) → ℕ → C × ℕ → Comes S Q T (Turn (C × ℕ) C)
-enough put least x at q w end y =
-    ((least ≤ x.1) × (y ≡ took (returns x.0) (put q end.0, back w end.1)))
+abbrev pub enough : {S Q T C U : Type 0} → (Q → S → Q) → ℕ → (C → U) → C × ℕ → Comes S Q T U
+enough put least output x at q w end y =
+    ((least ≤ x.1) × (y ≡ took (output x.0) (put q end.0, back w end.1)))
     ⊎ ((x.1 < least) × (y ≡ backs (put q end.0, end.1)))
 
 -- An item that consumed nothing is a misuse; the output of another is collected.
@@ -34,7 +34,7 @@ abbrev pub items_next : {S Q T C O : Type 0} → (Q → S → Q) → Folding Q C
     → Next S Q T (Option O) (Turn (C × ℕ) C)
 items_next put f least x = record {
   on_took = item_comes put f x;
-  on_backs = enough put least x;
+  on_backs = enough put least (λ c. returns c) x;
   on_cuts = cuts_on put;
   on_asks = asks_on put;
 }
@@ -54,13 +54,13 @@ Items get put f bounds item c = Loop (ItemsTurn get put f bounds item) (c, 0)
 -- ---- laws
 
 -- equal values after as many items
-abbrev pub Counted : {Q C O : Type 0} → Folding Q C O → (O → O → Type 0) → C × ℕ → C × ℕ → Type 0
-Counted f alike x y = Built f alike x.0 y.0 × (x.1 ≡ y.1)
+abbrev pub Counted : {C : Type 0} → (C → C → Type 0) → C × ℕ → C × ℕ → Type 0
+Counted built x y = built x.0 y.0 × (x.1 ≡ y.1)
 
 pub item_meets : {S Q T C O R : Type 0} (put : Q → S → Q) {f : Folding Q C O}
-    {alike : O → O → Type 0} (returned : R → R → Type 0) → FoldsOne f alike → (x z : C × ℕ)
-    → Counted f alike x z → (o r : Option O) → AlikeOptions alike o r
-    → Meets {T = T} (AlikeTurns (Counted f alike) returned) (item_comes put f x o)
+    {begins : C → C → Type 0} {alike : O → O → Type 0} (returned : R → R → Type 0) → FoldsFrom f begins alike → (x z : C × ℕ)
+    → Counted (BuiltFrom f begins alike) x z → (o r : Option O) → AlikeOptions alike o r
+    → Meets {T = T} (AlikeTurns (Counted (BuiltFrom f begins alike)) returned) (item_comes put f x o)
     (item_comes put f z r)
 item_meets put returned p x z is None None like = misused_meets put
 item_meets put returned p x z is None (Some r) like = absurd like
@@ -74,60 +74,65 @@ pub item_holds : {S Q T C O R : Type 0} (put : Q → S → Q) (f : Folding Q C O
 item_holds put f x None = misused_holds put
 item_holds put f x (Some o) = folded_holds put f (λ d. continues (d, x.1 + 1)) x.0 o
 
-module _ {S Q T C O : Type 0} (get : Q → S) (put : Q → S → Q) {f : Folding Q C O}
-    {stable : Type 0} {alike : O → O → Type 0} {item : Does S T (Option O)} (p : FoldsOne f alike)
-    (law : Lawful stable (AlikeOptions alike) item) (bounds : Bounds) where
-  abbrev Same : Turn (C × ℕ) C → Turn (C × ℕ) C → Type 0
-  Same = AlikeTurns (Counted f alike) (Built f alike)
-
-  enough_meets : (x z : C × ℕ) → Counted f alike x z
-      → Meets {T = T} Same (enough put bounds.least x) (enough put bounds.least z)
-  enough_meets x z is = record { one = one }
+module _ {S Q T C U : Type 0} (put : Q → S → Q) (least : ℕ) (output : C → U) where
+  pub enough_meets : (built : C → C → Type 0) {beside : U → U → Type 0}
+      → ((c d : C) → built c d → beside (output c) (output d)) → (x z : C × ℕ)
+      → Counted built x z
+      → Meets {T = T} beside (enough put least output x) (enough put least output z)
+  enough_meets built {beside} made x z is = record { one = one }
     where
-      one : (at : Setting) (q : Q) (w : Left T) (end : End S T)
-          (y v : Outcome (End Q T) (Turn (C × ℕ) C)) → enough put bounds.least x at q w end y
-          → enough put bounds.least z at q w end v → Alike Same y v
-      one at q w end y v (inl (many, e)) (inl (also, g)) = both Same e g (is.0, refl)
+      one : (at : Setting) (q : Q) (w : Left T) (end : End S T) (y v : Outcome (End Q T) U)
+          → enough put least output x at q w end y → enough put least output z at q w end v
+          → Alike beside y v
+      one at q w end y v (inl (many, e)) (inl (also, g)) =
+          both beside e g (made x.0 z.0 is.0, refl)
       one at q w end y v (inl (many, e)) (inr (few, g)) =
           absurd (omega (arith, many, few, is.1))
       one at q w end y v (inr (few, e)) (inl (many, g)) =
           absurd (omega (arith, many, few, is.1))
-      one at q w end y v (inr (few, e)) (inr (also, g)) = both Same e g refl
+      one at q w end y v (inr (few, e)) (inr (also, g)) = both beside e g refl
 
-  enough_holds : (x : C × ℕ) → Holds {T = T} stable (enough put bounds.least x)
-  enough_holds x = record { whole = whole; stays = stays }
+  pub enough_holds : {stable : Type 0} (x : C × ℕ)
+      → Holds {T = T} stable (enough put least output x)
+  enough_holds {stable} x = record { whole = whole; stays = stays }
     where
       whole : (at : Setting) (q : Q) (w : Left T) (end : End S T) (need : Option ℕ)
           (place : End Q T) → at.more ≡ false
-          → enough put bounds.least x at q w end (asks need place) → ⊥
+          → enough put least output x at q w end (asks need place) → ⊥
       whole at q w end need place is (inl (many, e)) = absurd (cc)
       whole at q w end need place is (inr (few, e)) = absurd (cc)
 
       stays : stable → (more : List T) (flag : Bool) (q : Q) (w : Left T) (end : End S T)
-          (y : Outcome (End Q T) (Turn (C × ℕ) C)) → IsFinal y
-          → enough put bounds.least x on_cut q w end y
-          → enough put bounds.least x (grown flag) q (extend more w) (extend_end more end)
+          (y : Outcome (End Q T) U) → IsFinal y → enough put least output x on_cut q w end y
+          → enough put least output x (grown flag) q (extend more w) (extend_end more end)
           (longer more y)
       stays is more flag q w end y final (inl (many, e)) = inl (many, as_longer more e)
       stays is more flag q w end y final (inr (few, e)) = inr (few, as_longer more e)
 
-  called : Family stable (Counted f alike) Same (λ x. Then get item (items_next put f bounds.least x))
+module _ {S Q T C O : Type 0} (get : Q → S) (put : Q → S → Q) {f : Folding Q C O}
+    {stable : Type 0} {begins : C → C → Type 0} {alike : O → O → Type 0} {item : Does S T (Option O)} (p : FoldsFrom f begins alike)
+    (law : Lawful stable (AlikeOptions alike) item) (bounds : Bounds) where
+  abbrev Same : Turn (C × ℕ) C → Turn (C × ℕ) C → Type 0
+  Same = AlikeTurns (Counted (BuiltFrom f begins alike)) (BuiltFrom f begins alike)
+
+  called : Family stable (Counted (BuiltFrom f begins alike)) Same (λ x. Then get item (items_next put f bounds.least x))
   called = then_family (always law) (λ x z is. record {
-    took = item_meets put (Built f alike) p x z is;
-    backs = enough_meets x z is;
+    took = item_meets put (BuiltFrom f begins alike) p x z is;
+    backs = enough_meets put bounds.least (λ c. returns c) (BuiltFrom f begins alike)
+        (λ c d held. held) x z is;
     cuts = cuts_meet put;
     asks = asks_meet put;
   }) (λ x. record {
     took = item_holds put f x;
-    backs = enough_holds x;
+    backs = enough_holds put bounds.least (λ c. returns c) x;
     cuts = cuts_hold put;
     asks = asks_later put;
   }) (λ is. is)
 
-  turn_family : Family stable (Counted f alike) Same (ItemsTurn get put f bounds item)
+  turn_family : Family stable (Counted (BuiltFrom f begins alike)) Same (ItemsTurn get put f bounds item)
   turn_family = record { one = one; whole = whole; stays = stays }
     where
-      one : (x z : C × ℕ) → Counted f alike x z → (at : Setting) (q : Q) (w : Left T)
+      one : (x z : C × ℕ) → Counted (BuiltFrom f begins alike) x z → (at : Setting) (q : Q) (w : Left T)
           (y v : Outcome (End Q T) (Turn (C × ℕ) C)) → ItemsTurn get put f bounds item x at q w y
           → ItemsTurn get put f bounds item z at q w v → Alike Same y v
       one x z is at q w y v (inl (full, e)) (inl (also, g)) = both Same e g (is.0, refl)
@@ -151,7 +156,7 @@ module _ {S Q T C O : Type 0} (get : Q → S) (put : Q → S → Q) {f : Folding
       stays is x more flag q w y final (inr (below, a)) =
           inr (below, called.stays is x more flag q w y final a)
 
-  pub items_law : Family stable (Built f alike) (Built f alike) (Items get put f bounds item)
+  pub items_law : Family stable (BuiltFrom f begins alike) (BuiltFrom f begins alike) (Items get put f bounds item)
   items_law =
       let law = loop_law turn_family in record {
         one = λ c d is. law.one (c, 0) (d, 0) (is, refl);

@@ -49,14 +49,14 @@ module _ {S Q T C O : Type 0} (get : Q → S) (put : Q → S → Q) {f : Folding
   pub one_or_more_law : Lawful stable (Built f alike) (OneOrMore get put f does)
   one_or_more_law =
       let after = started_family p None
-      (adds_family p (items_law get put p (item_law law) (from_to 0 None))) in
+      (adds_family p.folds (items_law get put p.folds (item_law law) (from_to 0 None))) in
       then_law law (meets_where put (λ o r like. family_meets put after o r like))
       (holds_where put (λ o. family_holds put after o)) (λ is. is)
 
   pub many_law : (bounds : Bounds) → Lawful stable (Built f alike) (Many get put f does bounds)
   many_law bounds = bounded_law bounds
       (started_law p (capacity_of bounds.least bounds.greatest)
-      (items_law get put p (item_law law) bounds))
+      (items_law get put p.folds (item_law law) bounds))
 
   pub repeated_law : (bounds : Bounds)
       → Lawful stable (Built f alike) (Repeated get put f does bounds)

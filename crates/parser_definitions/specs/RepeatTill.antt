@@ -82,8 +82,8 @@ every_law law = then_law law (meets_where instead (λ o p like. takes_meet inste
 
 module _ {S Q T C U : Type 0} (put : Q → S → Q) (built : C → C → Type 0) {stable : Type 0}
     {beside : U → U → Type 0} {item : C × ℕ → Does Q T U}
-    (p : Family stable (λ x z. built x.0 z.0 × (x.1 ≡ z.1)) beside item) (room : Option ℕ) where
-  room_meets : (x z : C × ℕ) → built x.0 z.0 × (x.1 ≡ z.1)
+    (p : Family stable (Counted built) beside item) (room : Option ℕ) where
+  room_meets : (x z : C × ℕ) → Counted built x z
       → Meets beside (if_room put room item x) (if_room put room item z)
   room_meets x z is = record { one = one }
     where
@@ -124,14 +124,14 @@ module _ {S W Q T C O D : Type 0} (get : Q → S) (put : Q → S → Q) (pick : 
   abbrev Output : C × D → C × D → Type 0
   Output = AlikePairs (Built f alike) ends
 
-  turn_item : Family (sure × also) (Counted f alike) (AlikeTurns (Counted f alike) Output)
+  turn_item : Family (sure × also) (Counted (Built f alike)) (AlikeTurns (Counted (Built f alike)) Output)
       (TurnItem get put pick keep f does till)
   turn_item = then_family (always (item_law law)) (λ x z is.
-      meets_where put (item_meets put Output p x z is)) (λ x.
+      meets_where put (item_meets put Output p.folds x z is)) (λ x.
       holds_where put (item_holds put f x)) (λ is. is.0)
 
   till_turn : (room : Option ℕ)
-      → Family (sure × also) (Counted f alike) (AlikeTurns (Counted f alike) Output)
+      → Family (sure × also) (Counted (Built f alike)) (AlikeTurns (Counted (Built f alike)) Output)
       (TillTurn get put pick keep f does till room)
   till_turn room = then_family (always stop) (λ x z is. record {
     took = λ o r like. takes_meet keep (is.0, like);
@@ -158,7 +158,7 @@ module _ {S W Q T C O D : Type 0} (get : Q → S) (put : Q → S → Q) (pick : 
       (ItemsTill get put pick keep f does till bounds)
   items_till_law bounds =
       let turns = turns_law (room_behind bounds.least bounds.greatest) in
-      then_family (items_law get put p (every_law law) (from_to bounds.least (Some bounds.least)))
+      then_family (items_law get put p.folds (every_law law) (from_to bounds.least (Some bounds.least)))
       (λ c d is. meets_where instead (λ a b held. family_meets instead turns a b held))
       (λ c. holds_where instead (λ a. family_holds instead turns a)) (λ is. is.0)
 
