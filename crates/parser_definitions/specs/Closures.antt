@@ -2,7 +2,8 @@
 use Rattle.std.specs.Prelude.{◌≡◌, ℕ, IsTrue, Option, Some, None, Result, Ok, Err}
 use Rattle.std.proofs.Common.{ap, ◌∙◌, sym}
 use Rattle.stream_errors.specs.Given.{Keeping}
-use Rattle.parser_definitions.specs.Folding.{Built, FoldsOne, Folding, added, begun}
+use Rattle.parser_definitions.specs.Folding.{Begun, Built, BuiltFrom, FoldsFrom, FoldsOne, Folding}
+use Rattle.parser_definitions.specs.Folding.{added, begun}
 
 -- One closure makes the initial value; the other adds an output, rejects it, or is out of memory.
 abbrev pub by_closures : {G H R O : Type 0} → (G → R → G → Type 0) → (H → R → O → R → H → Type 0)
@@ -81,26 +82,40 @@ folding_in {P = P} get put f = record {
   grows = λ q c o. f.grows (get q) c o;
 }
 
+pub begun_in : {Q P C O : Type 0} (get : Q → P) (put : Q → P → Q) (f : Folding P C O) (c d : C)
+    → Begun (folding_in get put f) c d → Begun f c d
+begun_in get put f c d (q, u, v, n, (a, x, e), (b, y, g)) = (get q, a, b, n, x, y)
+
 module _ {Q P C O : Type 0} (get : Q → P) (put : Q → P → Q) (f : Folding P C O)
-    (alike : O → O → Type 0) where
+    {alike : O → O → Type 0} where
+  pub built_from_in : {begins also : C → C → Type 0} → ((c d : C) → begins c d → also c d)
+      → (c d : C) → BuiltFrom (folding_in get put f) begins alike c d
+      → BuiltFrom f also alike c d
+  built_from_in move c d (begun is) = begun (move c d is)
+  built_from_in move c d (added {b = b0} {c = c0} o p q u v is like (a, x, e) (b, y, g)) =
+      added o p (get q) a b (built_from_in move b0 c0 is) like x y
+
   pub built_in : (c d : C) → Built (folding_in get put f) alike c d → Built f alike c d
-  built_in c d (begun (q, u, v, n, (a, x, e), (b, y, g))) = begun (get q, a, b, n, x, y)
-  built_in c d (added {b = b0} {c = c0} o p q u v is like (a, x, e) (b, y, g)) =
-      added o p (get q) a b (built_in b0 c0 is) like x y
+  built_in c d is = built_from_in (begun_in get put f) c d is
+
+  pub folds_from_in : {begins also : C → C → Type 0} → ((c d : C) → begins c d → also c d)
+      → FoldsFrom f also alike → FoldsFrom (folding_in get put f) begins alike
+  folds_from_in move h = record {
+    next = λ q b c o r d e u v is like (a, x, i) (z, y, j).
+        i ∙ ap (λ p. put q p) (h.next (get q) b c o r d e a z (built_from_in move b c is) like x y)
+        ∙ sym j;
+    apart = λ q b c o r d u v is like (a, x, i) (z, y, j).
+        h.apart (get q) b c o r d a z (built_from_in move b c is) like x y;
+    other = λ q b c o r e u v is like (a, x, i) (z, y, j).
+        h.other (get q) b c o r e a z (built_from_in move b c is) like x y;
+    rejected = λ q b c o r u v is like (a, x, i) (z, y, j).
+        i ∙ ap (λ p. put q p) (h.rejected (get q) b c o r a z (built_from_in move b c is) like x y)
+        ∙ sym j;
+  }
 
   pub folds_in : FoldsOne f alike → FoldsOne (folding_in get put f) alike
   folds_in h = record {
     start = λ q n c d u v (a, x, e) (b, y, g).
         e ∙ ap (λ p. put q p) (h.start (get q) n c d a b x y) ∙ sym g;
-    folds = record {
-      next = λ q b c o r d e u v is like (a, x, i) (z, y, j).
-          i ∙ ap (λ p. put q p) (h.folds.next (get q) b c o r d e a z (built_in b c is) like x y) ∙ sym j;
-      apart = λ q b c o r d u v is like (a, x, i) (z, y, j).
-          h.folds.apart (get q) b c o r d a z (built_in b c is) like x y;
-      other = λ q b c o r e u v is like (a, x, i) (z, y, j).
-          h.folds.other (get q) b c o r e a z (built_in b c is) like x y;
-      rejected = λ q b c o r u v is like (a, x, i) (z, y, j).
-          i ∙ ap (λ p. put q p) (h.folds.rejected (get q) b c o r a z (built_in b c is) like x y)
-          ∙ sym j;
-    };
+    folds = folds_from_in (begun_in get put f) h.folds;
   }

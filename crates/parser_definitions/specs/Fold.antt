@@ -50,9 +50,9 @@ TryFoldDoes starts step does = FoldManyDo (trying starts step) does
 pub fold_many_law : {S P T R O : Type 0} {stable : Type 0} {alike : O → O → Type 0}
     {does : Does S T O} (f : Folding P R O) → FoldsOne f alike → Lawful stable alike does
     → Lawful stable (Built f alike) (FoldManyDo f does)
-fold_many_law {alike = alike} f p law = wider_law (built_in closures with_closures f alike)
+fold_many_law {alike = alike} f p law = wider_law (built_in closures with_closures f)
     (keyed_law (λ q. bounds_of q.1.0)
-    (many_law first with_first (folds_in closures with_closures f alike p) law))
+    (many_law first with_first (folds_in closures with_closures f p) law))
 
 -- A closure that makes the initial value has one next state.
 abbrev pub MakesOne : {G R : Type 0} → (G → R → G → Type 0) → Type 0
@@ -92,10 +92,10 @@ fold_law {alike = alike} starts step made one law =
       other = λ h r q o p e k l is like none b. none;
       rejected = λ h r q o p k l is like none b. absurd none;
     }) in
-    wider_law (built_in closures with_closures (folding starts step) alike)
+    wider_law (built_in closures with_closures (folding starts step))
     (keyed_law (λ q. bounds_of q.1.0)
     (repeated_law first with_first
-    (folds_in closures with_closures (folding starts step) alike p) law))
+    (folds_in closures with_closures (folding starts step) p) law))
 
 pub verify_fold_law : {S G H T R O : Type 0} {stable : Type 0} {alike : O → O → Type 0}
     {does : Does S T O} (starts : G → R → G → Type 0)
