@@ -26,14 +26,30 @@ abbrev pub OccursNowhere : {T : Type 0} → (List T → Type 0) → List T → T
 OccursNowhere {T} sought tokens =
     (front hit rest : List T) → Occurs sought tokens front hit rest → ⊥
 
+-- the first match starts after the same tokens if more follow
+same_start : {T L : Type 0} (reading : Reading T L) (sought : List T → Type 0)
+    (more tokens front rest : List T) (end : ℕ) → tokens ≡ front ++ rest
+    → IsFirstMatch reading.units sought (tokens ++ more) (reading.units front) end
+    → IsBefore sought (tokens ++ more) front (rest ++ more)
+same_start {T} reading sought more tokens front rest end e n =
+    let split : tokens ++ more ≡ front ++ (rest ++ more) =
+    ap (λ l. l ++ more) e ∙ append_assoc front rest more in
+    let same : front ≡ n.front =
+    Spelled.same_front reading front n.front (rest ++ more) (n.found ++ n.rest)
+    (sym split ∙ n.stands.splits) n.starts in
+    let P : List T → Type 0 = λ l. IsBefore sought (tokens ++ more) l (rest ++ more) in
+    subst P (sym same) (match_before reading n (rest ++ more)
+    (split ∙ ap (λ l. l ++ (rest ++ more)) same))
+
 -- the tokens up to the first match are the same if more follow
 pub before_more : {T L : Type 0} (reading : Reading T L) (sought : List T → Type 0)
     → StaysFirst reading.units sought → (more tokens front rest : List T)
     → IsBefore sought tokens front rest → IsBefore sought (tokens ++ more) front (rest ++ more)
 before_more {T} reading sought stays more tokens front rest before =
     let (hit, behind, there) = stands_behind before in
-    let m : IsFirstMatch reading.units sought tokens (reading.units front)
-    (reading.units front + reading.units hit) = record {
+    same_start reading sought more tokens front rest (reading.units front + reading.units hit)
+    before.splits (stays tokens more (reading.units front)
+    (reading.units front + reading.units hit) (record {
       front = front;
       found = hit;
       rest = behind;
@@ -42,16 +58,7 @@ before_more {T} reading sought stays more tokens front rest before =
       ends = refl;
       least = λ other also end s. no_more other (also ++ end) (sym before.splits ∙ s.splits)
           (before.first other also end s) (cases_order (length front) (length other));
-    } in
-    let n = stays tokens more (reading.units front) (reading.units front + reading.units hit) m in
-    let split : front ++ ((hit ++ behind) ++ more) ≡ n.front ++ (n.found ++ n.rest) =
-    sym (append_assoc front (hit ++ behind) more) ∙ ap (λ l. l ++ more) (sym there.splits)
-    ∙ n.stands.splits in
-    let same = Spelled.same_front reading front n.front _ (n.found ++ n.rest) split n.starts in
-    let P : List T → Type 0 = λ l. IsBefore sought (tokens ++ more) l (rest ++ more) in
-    subst P (sym same) (match_before reading n (rest ++ more)
-    (ap (λ l. l ++ more) before.splits ∙ append_assoc front rest more
-    ∙ ap (λ l. l ++ (rest ++ more)) same))
+    }))
   where
     no_more : (other end : List T) → front ++ rest ≡ other ++ end → length front ≤ length other
         → (length front ≡ length other)
