@@ -1,14 +1,15 @@
 -- Grammars of combinators, given those of their children.
-use Rattle.std.specs.Prelude.{ℕ, Option}
+use Rattle.std.specs.Prelude.{ℕ, List, Option}
 use Rattle.std.proofs.Common.{sym, subst}
 use Rattle.grammars.specs.Grammar.{Grammar, NoMatch}
 use Rattle.stream_errors.specs.Form.{ErrorForm}
-use Rattle.parser_definitions.specs.Left.{End, Left}
+use Rattle.parser_definitions.specs.Left.{End, Left, back}
 use Rattle.parser_definitions.specs.Outcome.{Does, Outcome, asks, backs, cuts, took, wants}
 use Rattle.parser_definitions.specs.Projects.{Reads, complete, same_left, same_taken}
 use Rattle.parser_definitions.specs.Then.{Comes, ComesOf, Next, Then}
-use Rattle.parser_definitions.specs.Then.Steps.{asks_on, backs_on, backs_to_start, cuts_on}
-use Rattle.parser_definitions.specs.Then.Steps.{cuts_to_start, takes, takes_none, where_took}
+use Rattle.parser_definitions.specs.Then.Steps.{In, asks_on, backs_on, backs_to_start, cuts_on}
+use Rattle.parser_definitions.specs.Then.Steps.{cuts_to_start, or_else, takes, takes_none}
+use Rattle.parser_definitions.specs.Then.Steps.{where_took}
 
 -- What comes of a child that started at `w` and left `end`: an output is a match of the whole's
 -- grammar, and if the whole backtracks, there is none.
@@ -115,3 +116,22 @@ where_reads put none step = record {
   cuts = λ w end. cuts_read put w end;
   asks = λ need w end. asks_read put w end need;
 }
+
+-- The whole's outcome is the child's.
+pub in_reads : {S Q T O : Type 0} (get : Q → S) (put : Q → S → Q) {does : Does S T O}
+    {form : ErrorForm} {q : Q} {g : Grammar T O} → Reads does form (get q) g
+    → Reads (In get put does) form q g
+in_reads get put p = then_reads p
+    (where_reads put (λ w none. none) (λ w o end is_match. takes_reads put w end is_match))
+
+module _ {S Q T U : Type 0} (put : Q → S → Q) {form : ErrorForm} {q : Q} (w : Left T)
+    (end : End S T) where
+  -- another definition from where the child began, in the state that it leaves
+  pub else_reads : {other : Does Q T U} {g h : Grammar T U}
+      → ((u : U) (rest : List T) → g w.tokens u rest → h w.tokens u rest)
+      → (NoMatch g w.tokens → NoMatch h w.tokens) → Reads other form (put q end.0) g
+      → ComesReads (or_else put other) form q h w end
+  else_reads same none p = record {
+    takes = λ u last d. same u last.1.tokens (p.takes (back w end.1) u last d);
+    fails = λ last d. none (p.fails (back w end.1) last d);
+  }
