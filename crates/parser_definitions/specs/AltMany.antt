@@ -1,20 +1,20 @@
 -- The definitions of `alt` over tuples of up to six branches, and over the items of an array or a
 -- slice.
-use Rattle.std.specs.Prelude.{◌≡◌, ◌⊎◌, ⊤, ℕ, Bool, false, List, [], ◌∷◌, Option}
-use Rattle.std.proofs.Common.{refl, sym, subst, ap, ◌∙◌, inl, inr}
-use Rattle.parser_definitions.specs.Alt.{AltDoes}
+use Rattle.std.specs.Prelude.{◌≡◌, ℕ, Bool, false, List, [], ◌∷◌, Option}
+use Rattle.std.proofs.Common.{subst, ◌∙◌}
+use Rattle.parser_definitions.specs.Alt.{AltDoes, alt_law}
 use Rattle.parser_definitions.specs.Cases.{misused_alike, misused_whole}
 use Rattle.parser_definitions.specs.Does.{Lawful}
+use Rattle.parser_definitions.specs.Equal.{AlikeEither}
 use Rattle.parser_definitions.specs.Left.{End, Left, back, extend}
 use Rattle.parser_definitions.specs.Moved.{in_state, moved_alike, moved_asks, moved_final}
 use Rattle.parser_definitions.specs.Moved.{state_longer}
-use Rattle.parser_definitions.specs.Outcome.{Alike, Does, IsFinal, Outcome, Setting, alike_wider}
-use Rattle.parser_definitions.specs.Outcome.{as_longer, asks, both, final_by, grown, longer, misused}
-use Rattle.parser_definitions.specs.Outcome.{on_cut}
-use Rattle.parser_definitions.specs.Then.{Comes, Holds, Meets, Next, NextHolds, NextMeets, Then}
-use Rattle.parser_definitions.specs.Then.{final_comes, one_comes, stays_comes, whole_comes}
-use Rattle.parser_definitions.specs.Then.Steps.{asks_later, asks_meet, asks_on, cuts_hold, cuts_meet}
-use Rattle.parser_definitions.specs.Then.Steps.{cuts_on, takes, takes_hold, takes_meet}
+use Rattle.parser_definitions.specs.Outcome.{Alike, Does, IsFinal, Outcome, Setting, as_longer}
+use Rattle.parser_definitions.specs.Outcome.{asks, both, final_by, grown, longer, misused, on_cut}
+use Rattle.parser_definitions.specs.Then.{Next, NextHolds, NextMeets, Then, final_comes, one_comes}
+use Rattle.parser_definitions.specs.Then.{stays_comes, whole_comes}
+use Rattle.parser_definitions.specs.Then.Steps.{asks_later, asks_meet, asks_on, cuts_hold}
+use Rattle.parser_definitions.specs.Then.Steps.{cuts_meet, cuts_on, takes, takes_hold, takes_meet}
 
 -- ---- tuples
 
@@ -33,6 +33,33 @@ AltDoes5 a b c d e = AltDoes a (AltDoes4 b c d e)
 abbrev pub AltDoes6 : {S1 S2 S3 S4 S5 S6 T O : Type 0} → Does S1 T O → Does S2 T O → Does S3 T O
     → Does S4 T O → Does S5 T O → Does S6 T O → Does (S1 × (S2 × (S3 × (S4 × (S5 × S6))))) T O
 AltDoes6 a b c d e f = AltDoes a (AltDoes5 b c d e f)
+
+module _ {S1 S2 S3 T O : Type 0} {sure1 sure2 sure3 : Type 0} {one two three : O → O → Type 0}
+    {a : Does S1 T O} {b : Does S2 T O} {c : Does S3 T O} (law1 : Lawful sure1 one a)
+    (law2 : Lawful sure2 two b) (law3 : Lawful sure3 three c) where
+  pub alt3_law : Lawful (sure1 × (sure2 × sure3)) (AlikeEither one (AlikeEither two three))
+      (AltDoes3 a b c)
+  alt3_law = alt_law law1 (alt_law law2 law3)
+
+  module _ {S4 : Type 0} {sure4 : Type 0} {four : O → O → Type 0} {d : Does S4 T O}
+      (law4 : Lawful sure4 four d) where
+    pub alt4_law : Lawful (sure1 × (sure2 × (sure3 × sure4)))
+        (AlikeEither one (AlikeEither two (AlikeEither three four))) (AltDoes4 a b c d)
+    alt4_law = alt_law law1 (alt_law law2 (alt_law law3 law4))
+
+    module _ {S5 : Type 0} {sure5 : Type 0} {five : O → O → Type 0} {e : Does S5 T O}
+        (law5 : Lawful sure5 five e) where
+      pub alt5_law : Lawful (sure1 × (sure2 × (sure3 × (sure4 × sure5))))
+          (AlikeEither one (AlikeEither two (AlikeEither three (AlikeEither four five))))
+          (AltDoes5 a b c d e)
+      alt5_law = alt_law law1 (alt_law law2 (alt_law law3 (alt_law law4 law5)))
+
+      pub alt6_law : {S6 : Type 0} {sure6 : Type 0} {six : O → O → Type 0} {f : Does S6 T O}
+          → Lawful sure6 six f → Lawful (sure1 × (sure2 × (sure3 × (sure4 × (sure5 × sure6)))))
+          (AlikeEither one (AlikeEither two (AlikeEither three (AlikeEither four
+          (AlikeEither five six))))) (AltDoes6 a b c d e f)
+      alt6_law law6 =
+          alt_law law1 (alt_law law2 (alt_law law3 (alt_law law4 (alt_law law5 law6))))
 
 -- ---- arrays and slices
 

@@ -26,7 +26,7 @@ module _ {S K T L : Type 0} (class : ℕ → Type 0) (least : ℕ) (code : K →
   abbrev pub ClassDoes : Does S T L
   ClassDoes = TakeWhileDoes reading IsInClass (λ s. from_to least None)
 
-  class_once : CharIsFunction seen code → (s : S) → SetIsFunction (IsInClass s)
+  pub class_once : CharIsFunction seen code → (s : S) → SetIsFunction (IsInClass s)
   class_once once s x (k, is, has) (l, was, lacks) =
       let P : ℕ → Type 0 = λ n. class n in
       true_is_false (sym (lacks.1 (subst P (once k l (is ∙ sym was)) (has.0 refl))))

@@ -1,5 +1,5 @@
 -- The definitions of `eof`, `empty` and `fail`.
-use Rattle.std.specs.Prelude.{◌≡◌, ⊤, List, []}
+use Rattle.std.specs.Prelude.{◌≡◌, ⊤, []}
 use Rattle.std.proofs.Common.{refl, sym, ap, ◌∙◌}
 use Rattle.streams.specs.Reading.{Reading}
 use Rattle.parser_definitions.specs.Cases.{Case, FailsWhere, OneCase, TakesWhere, cases_law}

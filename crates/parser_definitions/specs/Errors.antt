@@ -1,21 +1,17 @@
 -- The definition of adapters that change the kind of an error.
-use Rattle.std.specs.Prelude.{◌≡◌, ◌⊎◌, ⊤, ℕ, List, [], ◌∷◌, Option, IsSome, None, Err}
-use Rattle.std.proofs.Common.{refl, sym, subst, ap, ◌∙◌, inl, inr}
+use Rattle.std.specs.Prelude.{◌≡◌, ⊤, ℕ, List, Option, Err}
+use Rattle.std.proofs.Common.{refl, subst, ap, ◌∙◌}
 use Rattle.streams.specs.Kind.{Kind, backtrack, cut, incomplete, memory}
-use Rattle.stream_errors.specs.Form.{ErrorForm}
 use Rattle.parser_definitions.specs.Does.{Lawful}
-use Rattle.parser_definitions.specs.Left.{End, Left, extend_end}
-use Rattle.parser_definitions.specs.Moved.{moved, moved_alike, moved_asks, moved_final, moved_longer}
+use Rattle.parser_definitions.specs.Left.{End, extend_end}
 use Rattle.parser_definitions.specs.Outcome.{Alike, Does, IsFinal, Outcome, as_longer, asks, both}
 use Rattle.parser_definitions.specs.Outcome.{final_by, longer, outcome_of}
-use Rattle.parser_definitions.specs.Settles.{Alone, alone_law}
 use Rattle.parser_definitions.specs.Then.{Comes, Holds, Meets, Next, Then, then_law}
-use Rattle.parser_definitions.specs.Then.Steps.{backs_hold, backs_meet, backs_on, cuts_hold, cuts_meet}
-use Rattle.parser_definitions.specs.Then.Steps.{cuts_on, first, instead, same, takes, takes_hold}
-use Rattle.parser_definitions.specs.Then.Steps.{takes_meet, with_first}
+use Rattle.parser_definitions.specs.Then.Steps.{first, same, takes, takes_hold, takes_meet}
+use Rattle.parser_definitions.specs.Then.Steps.{with_first}
 
--- `becomes f k l g`: from state `f` an error of kind `k` becomes one of kind `l`, and the next state
--- is `g`.
+-- `becomes f k l g`: from state `f` an error of kind `k` becomes one of kind `l`, and the next
+-- state is `g`.
 abbrev pub Becomes : Type 0 → Type 1
 Becomes G = G → Kind → Kind → G → Type 0
 
@@ -39,8 +35,8 @@ ErrorDoes becomes does = Then first does (turned becomes)
 abbrev pub error_of : {G : Type 0} → Kind → G → Outcome G ⊤
 error_of k g = outcome_of (Err k) g
 
--- In one state a kind becomes one kind, with one next state. A kind that is not incomplete becomes no
--- incomplete kind, and an incomplete one stays incomplete. Each may be out of memory.
+-- In one state a kind becomes one kind, with one next state. A kind that is not incomplete becomes
+-- no incomplete kind, and an incomplete one stays incomplete. Each may be out of memory.
 pub record BecomesAlike {G : Type 0} (becomes : Becomes G) : Type 0 where
   pub one : (f : G) (k l m : Kind) (g h : G) → becomes f k l g → becomes f k m h
       → Alike (λ o p. ⊤) (error_of l g) (error_of m h)
@@ -51,7 +47,7 @@ pub record BecomesAlike {G : Type 0} (becomes : Becomes G) : Type 0 where
 
 -- ---- lemmas
 
-errors_alike : {G M O : Type 0} (alike : O → O → Type 0) (place : G → M) (l m : Kind) (g h : G)
+pub errors_alike : {G M O : Type 0} (alike : O → O → Type 0) (place : G → M) (l m : Kind) (g h : G)
     → Alike (λ o p. ⊤) (error_of l g) (error_of m h)
     → Alike alike (outcome_of (Err l) (place g)) (outcome_of (Err m) (place h))
 errors_alike alike place backtrack backtrack g h is = ap place is
@@ -70,7 +66,7 @@ errors_alike alike place (incomplete need) memory g h is = tt
 errors_alike alike place memory m g h is = tt
 
 -- an incomplete outcome has an incomplete kind
-asking : {L O : Type 0} (l : Kind) (need : Option ℕ) (last end : L)
+pub asking : {L O : Type 0} (l : Kind) (need : Option ℕ) (last end : L)
     → ◌≡◌ {A = Outcome L O} (asks need last) (outcome_of (Err l) end) → l ≡ incomplete need
 asking backtrack need last end e = absurd (cc)
 asking cut need last end e = absurd (cc)
@@ -84,7 +80,7 @@ error_final O cut g end final = tt
 error_final O (incomplete need) g end final = final
 error_final O memory g end final = final
 
-error_longer : {S T O : Type 0} (more : List T) (l : Kind) (end : End S T)
+pub error_longer : {S T O : Type 0} (more : List T) (l : Kind) (end : End S T)
     → longer {O = O} more (outcome_of (Err l) end) ≡ outcome_of (Err l) (extend_end more end)
 error_longer more backtrack end = refl
 error_longer more cut end = refl

@@ -10,8 +10,8 @@ use Rattle.parser_definitions.specs.Then.{Comes, Then, then_law}
 use Rattle.parser_definitions.specs.Then.Steps.{first, holds_where, meets_where, where_took}
 use Rattle.parser_definitions.specs.Then.Steps.{with_first}
 
--- The parser that the closure returns for the output is called where the child ended, from the state
--- that it has.
+-- The parser that the closure returns for the output is called where the child ended, from the
+-- state that it has.
 abbrev pub made_next : {S G H V T O U : Type 0} → (G → O → H → G → Type 0) → (H → V) → Does V T U
     → O → Comes S (S × G) T U
 made_next {G = G} {H} {V} {T} {U = U} step state other o at q w end y =

@@ -8,12 +8,11 @@ use Rattle.parser_definitions.specs.Does.{Lawful}
 use Rattle.parser_definitions.specs.Left.{End, Left, extend, left_of}
 use Rattle.parser_definitions.specs.Moved.{in_state, moved_alike, moved_asks, moved_final}
 use Rattle.parser_definitions.specs.Moved.{state_longer}
-use Rattle.parser_definitions.specs.Outcome.{Alike, Does, IsFinal, Outcome, Setting, alike_wider}
-use Rattle.parser_definitions.specs.Outcome.{as_longer, asks, both, final_by, grown, longer, on_cut}
-use Rattle.parser_definitions.specs.Outcome.{outcome_of}
+use Rattle.parser_definitions.specs.Outcome.{Alike, Does, IsFinal, Outcome, alike_wider, as_longer}
+use Rattle.parser_definitions.specs.Outcome.{asks, both, final_by, longer, outcome_of}
 
--- `called f x r g z`: the function in state `f` is called on the stream `x`, returns `r`, and leaves
--- the state `g` and the stream `z`.
+-- `called f x r g z`: the function in state `f` is called on the stream `x`, returns `r`, and
+-- leaves the state `g` and the stream `z`.
 abbrev pub Calls : Type 0 → Type 0 → Type 0 → Type 0 → Type 1
 Calls F I O E = F → I → Result O E → F → I → Type 0
 
@@ -62,9 +61,11 @@ pub func_law : {F I T O E : Type 0} {stable : Type 0} {alike : O → O → Type 
     {view : I → Input T} {kind : E → Kind} {called : Calls F I O E}
     → FuncLaws stable alike view kind called → Lawful stable alike (FuncDoes view kind called)
 func_law {F} {I} {T} {O} {E} {stable} {alike} {view} {kind} {called} m = record {
-  one = λ at f w x y (a, r, g, z, call, left, more_comes, may, e) (b, q, h, u, also, rest, end, can, d).
+  one = λ at f w x y (a, r, g, z, call, left, more_comes, may, e)
+      (b, q, h, u, also, rest, end, can, d).
       both alike e d (m.one f a b r q g h z u
-      (same_input (view a) (view b) (left ∙ sym rest) (more_comes ∙ sym end) (may ∙ sym can)) call also);
+      (same_input (view a) (view b) (left ∙ sym rest) (more_comes ∙ sym end) (may ∙ sym can))
+      call also);
   whole = λ at f w need last is (a, r, g, z, call, left, more_comes, may, e).
       m.whole f a r g z need last (more_comes ∙ is) call e;
   stays = λ is more flag f w x final (a, r, g, z, call, left, more_comes, may, e).
@@ -103,7 +104,8 @@ abbrev beside_state : {A F : Type 0} → A → F → A × F
 beside_state a f = (a, f)
 
 outcome_in : {A F T O : Type 0} (answer : Answer O) (a : A) (g : F) (left : Left T)
-    → outcome_of answer (beside_state a g, left) ≡ in_state (beside_state a) (outcome_of answer (g, left))
+    → outcome_of answer (beside_state a g, left)
+    ≡ in_state (beside_state a) (outcome_of answer (g, left))
 outcome_in (Ok o) a g left = refl
 outcome_in (Err backtrack) a g left = refl
 outcome_in (Err cut) a g left = refl

@@ -7,6 +7,7 @@ pub mod BitTake
 pub mod BitsOfBytes
 pub mod Both
 pub mod Bounded
+pub mod ByRef
 pub mod BytesOfBits
 pub mod Cases
 pub mod Class
@@ -45,9 +46,12 @@ pub mod Outputs
 pub mod Passed
 pub mod Peek
 pub mod Projects
+pub mod Recover
 pub mod Repeat
 pub mod RepeatTill
 pub mod Rest
+pub mod Resume
+pub mod Retry
 pub mod Separated
 pub mod SeparatedFold
 pub mod Sequence

@@ -1,6 +1,6 @@
 -- The definition of literals. The state is the literal.
 use Rattle.std.specs.Prelude.{◌≡◌, ⊤, Bool, true, false, List, ◌∷◌, ◌++◌, None}
-use Rattle.std.proofs.Common.{sym, ap, subst, ◌∙◌, inl, inr}
+use Rattle.std.proofs.Common.{sym, subst, ◌∙◌, inl, inr}
 use Rattle.streams.specs.Equal.{true_is_false}
 use Rattle.streams.specs.Reading.{Reading}
 use Rattle.stream_searches.specs.Compare.{IsShort, StartsWithSpelling}
@@ -13,6 +13,15 @@ use Rattle.parser_definitions.specs.Passed.{Passed, passed_longer, same_passed}
 use Rattle.parser_definitions.specs.Spelled.{ShowSame, not_longer, same_front, still_not_first}
 use Rattle.parser_definitions.specs.Spelled.{still_not_short}
 
+-- Partial input is a proper prefix of a spelling.
+abbrev pub is_short : {T S : Type 0} → (S → List T → Type 0) → S → Setting → Left T → Type 0
+is_short spells s at w = IsShort (spells s) w.tokens × (at.more ≡ true)
+
+-- The input does not start with a spelling, and more input cannot change that.
+abbrev pub is_other : {T S : Type 0} → (S → List T → Type 0) → S → Setting → Left T → Type 0
+is_other spells s at w = (StartsWithSpelling (spells s) w.tokens → ⊥)
+    × (IsShort (spells s) w.tokens → at.more ≡ false)
+
 module _ {T S L O : Type 0} (reading : Reading T L) (spells : S → List T → Type 0)
     (output : S → L → O) where
   -- The input starts with a spelling, and the output is made of a slice that shows it.
@@ -21,21 +30,12 @@ module _ {T S L O : Type 0} (reading : Reading T L) (spells : S → List T → T
       (front : List T) × (slice : L) × spells s front × reading.shows slice front
       × Passed reading front w rest × (o ≡ output s slice)
 
-  -- Partial input is a proper prefix of a spelling.
-  abbrev pub is_short : S → Setting → Left T → Type 0
-  is_short s at w = IsShort (spells s) w.tokens × (at.more ≡ true)
-
-  -- The input does not start with a spelling, and more input cannot change that.
-  abbrev pub is_other : S → Setting → Left T → Type 0
-  is_other s at w = (StartsWithSpelling (spells s) w.tokens → ⊥)
-      × (IsShort (spells s) w.tokens → at.more ≡ false)
-
   abbrev pub LiteralDoes : Does S T O
   LiteralDoes = OneCase (TakesWhere is_literal)
-      (OneCase (LacksWhere (λ s w. None) is_short) (FailsWhere is_other))
+      (OneCase (LacksWhere (λ s w. None) (is_short spells)) (FailsWhere (is_other spells)))
 
--- Spellings of one literal have one number of units, and slices that show the same tokens give equal
--- outputs.
+-- Spellings of one literal have one number of units, and slices that show the same tokens give
+-- equal outputs.
 module _ {T S L O : Type 0} (reading : Reading T L) (spells : S → List T → Type 0)
     (output : S → L → O) (alike : O → O → Type 0)
     (same_units : (s : S) (xs ys : List T) → spells s xs → spells s ys
@@ -62,8 +62,8 @@ module _ {T S L O : Type 0} (reading : Reading T L) (spells : S → List T → T
       (f, v, is, there, passed_longer more e, a)
 
   still_other : (more : List T) (flag : Bool) (s : S) (w : Left T)
-      → is_other reading spells output s on_cut w
-      → is_other reading spells output s (grown flag) (extend more w)
+      → is_other spells s on_cut w
+      → is_other spells s (grown flag) (extend more w)
   still_other more flag s w (none, told) =
       let not_short : IsShort (spells s) w.tokens → ⊥ = λ short. true_is_false (told short) in (
         still_not_first (spells s) w.tokens more none not_short,
@@ -72,8 +72,8 @@ module _ {T S L O : Type 0} (reading : Reading T L) (spells : S → List T → T
 
   apart : (at : Setting) (s : S) (w : Left T) (x y : Outcome (End S T) O)
       → TakesWhere IsLiteral at s w x
-      → OneCase (LacksWhere (λ s w. None) (is_short reading spells output))
-      (FailsWhere (is_other reading spells output)) at s w y
+      → OneCase (LacksWhere (λ s w. None) (is_short spells))
+      (FailsWhere (is_other spells)) at s w y
       → ⊥
   apart at s w x y (o, rest, (f, v, is, there, e, a), q) (inl (((z, more, other), cut), p)) =
       not_longer reading w.tokens f rest.tokens more z e.tokens
@@ -83,7 +83,7 @@ module _ {T S L O : Type 0} (reading : Reading T L) (spells : S → List T → T
 
   pub literal_law : Lawful ⊤ alike (LiteralDoes reading spells output)
   literal_law = cases_law (takes_law IsLiteral taken (λ is. still_taken))
-      (cases_law (lacks_law (λ s w. None) (is_short reading spells output))
-      (fails_law (is_other reading spells output) (λ is. still_other))
+      (cases_law (lacks_law (λ s w. None) (is_short spells))
+      (fails_law (is_other spells) (λ is. still_other))
       (λ at s w x y ((short, cut), e) ((none, told), f). true_is_false (sym cut ∙ told short)))
       apart

@@ -6,17 +6,17 @@ use Rattle.parser_definitions.specs.Cases.{Case, Given, OneCase, TakesWhere, cas
 use Rattle.parser_definitions.specs.Cases.{takes_law}
 use Rattle.parser_definitions.specs.Does.{Lawful}
 use Rattle.parser_definitions.specs.Equal.{AlikeOptions}
-use Rattle.parser_definitions.specs.Left.{End, Left, back, extend}
-use Rattle.parser_definitions.specs.Outcome.{Does, IsFinal, Outcome, Setting, asks, final_by}
-use Rattle.parser_definitions.specs.Then.{Next, NextHolds, NextMeets, Then, then_law}
+use Rattle.parser_definitions.specs.Left.{back, extend}
+use Rattle.parser_definitions.specs.Outcome.{Does, asks, final_by}
+use Rattle.parser_definitions.specs.Then.{Next, Then, then_law}
 use Rattle.parser_definitions.specs.Then.Steps.{asks_later, asks_meet, asks_meet_start, asks_on}
 use Rattle.parser_definitions.specs.Then.Steps.{asks_to_start, backs_hold, backs_meet, backs_on}
-use Rattle.parser_definitions.specs.Then.Steps.{backs_to_start, cuts_hold, cuts_hold_start, cuts_meet}
-use Rattle.parser_definitions.specs.Then.Steps.{cuts_meet_start, cuts_on, cuts_to_start, first}
-use Rattle.parser_definitions.specs.Then.Steps.{holds_where, instead, meets_where, same, start_holds}
-use Rattle.parser_definitions.specs.Then.Steps.{start_meets, takes, takes_hold, takes_meet}
-use Rattle.parser_definitions.specs.Then.Steps.{takes_none, takes_none_hold, takes_none_meet}
-use Rattle.parser_definitions.specs.Then.Steps.{where_took, with_first}
+use Rattle.parser_definitions.specs.Then.Steps.{backs_to_start, cuts_hold, cuts_hold_start}
+use Rattle.parser_definitions.specs.Then.Steps.{cuts_meet, cuts_meet_start, cuts_on, cuts_to_start}
+use Rattle.parser_definitions.specs.Then.Steps.{first, holds_where, instead, meets_where, same}
+use Rattle.parser_definitions.specs.Then.Steps.{start_holds, start_meets, takes, takes_hold}
+use Rattle.parser_definitions.specs.Then.Steps.{takes_meet, takes_none, takes_none_hold}
+use Rattle.parser_definitions.specs.Then.Steps.{takes_none_meet, where_took, with_first}
 
 -- ---- `peek` and `not`
 
@@ -150,7 +150,8 @@ cond_law {S} {T} {O} {alike = alike} law = cases_law
     (holds_where with_first (λ o. takes_hold with_first)) (λ is. is)))
     (takes_law not_called
     (λ at q w o p rest end (off, e, a) (not, f, b). (
-      subst (λ z. AlikeOptions alike z p) (sym e) (subst (λ z. AlikeOptions alike None z) (sym f) tt),
+      subst (λ z. AlikeOptions alike z p) (sym e)
+          (subst (λ z. AlikeOptions alike None z) (sym f) tt),
       a ∙ sym b,
     ))
     (λ is more flag q w o rest (off, e, a). (off, e, ap (λ l. extend more l) a)))

@@ -1,16 +1,15 @@
 -- The definitions of tuples of up to six children, of sequences of three with an output, and of
 -- `preceded` and `terminated`.
 use Rattle.std.specs.Prelude.{⊤}
-use Rattle.grammars.specs.Grammar.Tuples.{join4, join5, join6}
-use Rattle.parser_definitions.specs.Both.{BothDo, both_law, pair_law}
+use Rattle.parser_definitions.specs.Both.{BothDo, both_law}
 use Rattle.parser_definitions.specs.Does.{Lawful}
 use Rattle.parser_definitions.specs.Eof.{EmptyDoes}
 use Rattle.parser_definitions.specs.Equal.{AlikePairs}
 use Rattle.parser_definitions.specs.Outcome.{Does}
 use Rattle.parser_definitions.specs.Then.{Then, then_law}
-use Rattle.parser_definitions.specs.Then.Steps.{In, holds_where, in_law, meets_where, takes}
-use Rattle.parser_definitions.specs.Then.Steps.{takes_hold, takes_meet, then_holds, then_meets}
-use Rattle.parser_definitions.specs.Then.Steps.{then_next, where_took}
+use Rattle.parser_definitions.specs.Then.Steps.{holds_where, meets_where, takes, takes_hold}
+use Rattle.parser_definitions.specs.Then.Steps.{takes_meet, then_holds, then_meets, then_next}
+use Rattle.parser_definitions.specs.Then.Steps.{where_took}
 
 -- ---- two children
 
@@ -118,7 +117,8 @@ one_with q s = record { 0 = s }
 
 abbrev pub SequenceDoes1 : {S T O : Type 0} → Does S T O
     → Does (record { 0 : S }) T (record { 0 : O })
-SequenceDoes1 does = Then one_first does (where_took one_with (λ o. takes one_with (record { 0 = o })))
+SequenceDoes1 does =
+    Then one_first does (where_took one_with (λ o. takes one_with (record { 0 = o })))
 
 -- Its component is equal.
 abbrev pub AlikeOne : {O : Type 0} → (O → O → Type 0) → record { 0 : O } → record { 0 : O }

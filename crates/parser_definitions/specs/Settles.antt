@@ -1,9 +1,9 @@
 -- The definition of adapters that accept or reject an output.
-use Rattle.std.specs.Prelude.{◌≡◌, ⊤, ℕ, List, Option}
+use Rattle.std.specs.Prelude.{◌≡◌, ⊤, ℕ, Option}
 use Rattle.std.proofs.Common.{subst, ◌∙◌}
 use Rattle.stream_errors.specs.Form.{ErrorForm}
 use Rattle.parser_definitions.specs.Does.{Lawful}
-use Rattle.parser_definitions.specs.Left.{End, Left, back, extend}
+use Rattle.parser_definitions.specs.Left.{back}
 use Rattle.parser_definitions.specs.Moved.{moved, moved_alike, moved_asks, moved_longer}
 use Rattle.parser_definitions.specs.Outcome.{Alike, Does, Outcome, as_longer, asks, both}
 use Rattle.parser_definitions.specs.Then.{Comes, Then, then_law}
@@ -23,7 +23,8 @@ settled {G = G} {U = U} settle o at q w end y = (x : Outcome G U) × settle at.f
 abbrev pub SettlesDo : {S G T O U : Type 0} → Settle G O U → Does S T O → Does (S × G) T U
 SettlesDo settle does = Then first does (where_took with_first (settled settle))
 
--- In one state equal outputs are settled to equal outcomes, with one next state. None is incomplete.
+-- In one state equal outputs are settled to equal outcomes, with one next state. No outcome is
+-- incomplete.
 pub record SettlesAlike {G O U : Type 0} (settle : Settle G O U) (alike : O → O → Type 0)
     (also : U → U → Type 0) : Type 0 where
   pub one : (form : ErrorForm) (f : G) (o p : O) (x y : Outcome G U) → alike o p

@@ -68,7 +68,7 @@ module _ {T L : Type 0} (reading : Reading T L) (spells : Bor (List ℕ) → Lis
   abbrev pub IsShortOfBoth : List T → Type 0
   IsShortOfBoth = IsShort (SpelledBy spells (13 ∷ 10 ∷ []))
 
-  as_line : (at : Setting) {tokens : List T} (front rest : List T)
+  pub as_line : (at : Setting) {tokens : List T} (front rest : List T)
       → IsLine front at tokens rest → IsLineOf sought tokens front rest
   as_line at front rest (inl before) = inl before
   as_line at front rest (inr (none, ends, all, nothing)) = inr (none, all, nothing)

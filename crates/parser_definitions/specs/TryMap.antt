@@ -1,16 +1,15 @@
 -- The definitions of `try_map`, `value` and `and_then`. Closures may change.
-use Rattle.std.specs.Prelude.{◌≡◌, ◌⊎◌, ⊤, ℕ, false, Option, Result, Ok, Err}
-use Rattle.std.proofs.Common.{refl, sym, subst, ap, ◌∙◌, inl, inr}
+use Rattle.std.specs.Prelude.{◌≡◌, ◌⊎◌, ⊤, false, Result, Ok, Err}
+use Rattle.std.proofs.Common.{refl, sym, subst, ap, inl, inr}
 use Rattle.stream_errors.specs.Form.{ErrorForm}
-use Rattle.stream_errors.specs.Given.{KindGiven}
-use Rattle.stream_errors.specs.Given.{Keeping, KindGiven}
+use Rattle.stream_errors.specs.Given.{KindGiven, Keeping, KindGiven}
 use Rattle.streams.specs.Input.{Input}
-use Rattle.streams.specs.Kind.{Kind, backtrack, cut, incomplete, memory}
+use Rattle.streams.specs.Kind.{Kind, backtrack}
 use Rattle.parser_definitions.specs.Does.{Lawful}
 use Rattle.parser_definitions.specs.Equal.{MadeAlike}
 use Rattle.parser_definitions.specs.Left.{End, left_of}
 use Rattle.parser_definitions.specs.Moved.{moved, moved_alike, moved_asks}
-use Rattle.parser_definitions.specs.Outcome.{Alike, Does, Outcome, Setting, alike_wants, asks, backs}
+use Rattle.parser_definitions.specs.Outcome.{Alike, Does, Outcome, Setting, alike_wants, backs}
 use Rattle.parser_definitions.specs.Outcome.{both, outcome_of, took, wants}
 use Rattle.parser_definitions.specs.Settles.{Settle, SettlesAlike, SettlesDo, settles_law}
 

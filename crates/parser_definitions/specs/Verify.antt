@@ -5,8 +5,8 @@ use Rattle.streams.specs.Equal.{true_is_false}
 use Rattle.parser_definitions.specs.Does.{Lawful}
 use Rattle.parser_definitions.specs.Equal.{AlikeOptions, MadeAlike}
 use Rattle.parser_definitions.specs.Outcome.{Does, backs, both, took}
-use Rattle.parser_definitions.specs.Settles.{Settle, SettlesAlike, SettlesDo, settles_law}
-use Rattle.parser_definitions.specs.Settles.{Alone, alone_law}
+use Rattle.parser_definitions.specs.Settles.{Alone, Settle, SettlesAlike, SettlesDo, alone_law}
+use Rattle.parser_definitions.specs.Settles.{settles_law}
 
 -- ---- closures that give an output or none
 
