@@ -38,6 +38,7 @@ pub mod MapErr
 pub mod Members
 pub mod Moved
 pub mod Number
+pub mod NumberGrammar
 pub mod Numeral
 pub mod OneOf
 pub mod Opt
