@@ -89,7 +89,8 @@ cond_projects {S} {T} {O} {does} {form} {q} {g} p = with_one (reads_cases
 
     one : (tokens : List T) (o r : Option O) (rest end : List T) → When q.1 g tokens o rest
         → When q.1 g tokens r end → rest ≡ end
-    one tokens o r rest end (inl (on, x, e, a)) (inl (also, y, f, b)) = p.one tokens x y rest end a b
+    one tokens o r rest end (inl (on, x, e, a)) (inl (also, y, f, b)) =
+        p.one tokens x y rest end a b
     one tokens o r rest end (inl (on, x, e, a)) (inr (off, f, b)) = true_is_false (sym on ∙ off)
     one tokens o r rest end (inr (off, e, a)) (inl (on, y, f, b)) = true_is_false (sym on ∙ off)
     one tokens o r rest end (inr (off, e, a)) (inr (also, f, b)) = a ∙ sym b

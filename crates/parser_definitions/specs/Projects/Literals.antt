@@ -22,7 +22,8 @@ module _ {T S L O : Type 0} (reading : Reading T L) (spells : S → List T → T
   unfolding Literally
   literal_projects same_units = projects (literally_unique reading spells output s same_units)
       (reads_cases (reads_takes (IsLiteral reading spells output)
-      (λ w o rest (front, slice, is, shown, passed, e). (front, slice, is, shown, passed.tokens, e)))
+      (λ w o rest (front, slice, is, shown, passed, e).
+      (front, slice, is, shown, passed.tokens, e)))
       (reads_cases (reads_lacks (λ s w. None) (IsPartial spells)
       (λ w (short, more). true_is_false (sym more)))
       (reads_fails (IsOther spells)

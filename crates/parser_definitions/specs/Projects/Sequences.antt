@@ -60,7 +60,8 @@ module _ {S1 S2 T O1 O2 O : Type 0} {does1 : Does S1 T O1} {does2 : Does S2 T O2
   unfolding Both
   both_projects p1 p2 = with_one (then_reads (reads_of p1) (where_reads with_first
       (λ w none o rest (o1, o2, mid, x, y, e). none o1 mid x)
-      (λ w o1 end x. next_comes with_first second {h = Both output g1 g2} {k = After (output o1) g2} w end
+      (λ w o1 end x. next_comes with_first second {h = Both output g1 g2}
+      {k = After (output o1) g2} w end
       (λ o rest (o2, y, e). (o1, o2, end.1.tokens, x, y, e))
       (λ none o rest (p1', p2', mid, x', y', e').
       none (output o1 p2') rest
@@ -81,7 +82,8 @@ module _ {S1 S2 S3 T O1 O2 O3 O : Type 0} {does1 : Does S1 T O1} {does2 : Does S
   unfolding Three
   three_projects r1 r2 r3 = with_one (then_reads (reads_of r1) (where_reads with_first3
       (λ w none o rest (o1, o2, o3, a, b, x, y, z, e). none o1 a x)
-      (λ w o1 end x. next_comes with_first3 second3 {h = Three output g1 g2 g3} {k = AfterTwo (output o1) g2 g3} w end
+      (λ w o1 end x. next_comes with_first3 second3 {h = Three output g1 g2 g3}
+      {k = AfterTwo (output o1) g2 g3} w end
       (λ o rest (o2, o3, b, y, z, e). (o1, o2, o3, end.1.tokens, b, x, y, z, e))
       (λ none o rest (u1, u2, u3, a, b, x', y', z', e').
       none (output o1 u2 u3) rest

@@ -80,8 +80,8 @@ pub and_then_projects : {S W T V O U : Type 0} {does : Does S T O} {inner : Does
     → Projects (AndThenDoes view does inner) form q (Made (ReadsWithin view h) tt g)
 unfolding Made
 and_then_projects {S} {W} {T} {V} {O} {U} {inner = inner} {form} {q} {h = h} view may all p r =
-    settles_projects {settle = within view inner} {accepts = λ (_ : W) o u. ReadsWithin view h tt o u}
-    {rejects = λ (_ : W) o. NoneWithin view h tt o} q
+    settles_projects {settle = within view inner}
+    {accepts = λ (_ : W) o u. ReadsWithin view h tt o u} {rejects = λ (_ : W) o. NoneWithin view h tt o} q
     (record { accepted = accepted; rejected = rejected }) all p
   where
     on_complete : (o : O) (y : Outcome (End W V) U)
