@@ -1,28 +1,22 @@
 -- Grammars of `alt`, `opt`, `cond`, `peek`, `not` and `cut_err`.
-use Rattle.std.specs.Prelude.{◌≡◌, ⊤, Bool, true, false, List, [], ◌∷◌, Option, Some, None}
-use Rattle.std.proofs.Common.{refl, sym, subst, ap, ◌∙◌, inl, inr}
-use Rattle.std.specs.List.{All}
-use Rattle.std.proofs.lemmas.List.Elements.{All-head, All-tail}
+use Rattle.std.specs.Prelude.{◌≡◌, Bool, true, List, Option}
+use Rattle.std.proofs.Common.{refl, sym, ap, ◌∙◌, inl, inr}
 use Rattle.streams.specs.Equal.{true_is_false}
-use Rattle.stream_errors.specs.Form.{ErrorForm, modal, plain}
-use Rattle.grammars.specs.Grammar.{Ahead, Either, Grammar, Never, NoMatch, NotAhead, Optional, When}
-use Rattle.grammars.specs.Grammar.FirstOf.{FirstFrom, FirstOf}
+use Rattle.stream_errors.specs.Form.{ErrorForm}
+use Rattle.grammars.specs.Grammar.{Ahead, Either, Grammar, NoMatch, NotAhead, Optional, When}
 use Rattle.parser_definitions.specs.Alt.{AltDoes}
-use Rattle.parser_definitions.specs.AltMany.{ChoiceDoes, or_rest, with_head}
-use Rattle.parser_definitions.specs.Left.{End, Left, back}
-use Rattle.parser_definitions.specs.Moved.{in_state}
 use Rattle.parser_definitions.specs.Opt.{OptDoes}
-use Rattle.parser_definitions.specs.Outcome.{Does, Outcome, asks, backs, cuts, misused, took, wants}
-use Rattle.parser_definitions.specs.Peek.{CalledIf, CondDoes, CutErrDoes, IsNotCalled, NotDoes}
+use Rattle.parser_definitions.specs.Outcome.{Does}
+use Rattle.parser_definitions.specs.Peek.{CondDoes, CutErrDoes, IsNotCalled, NotDoes}
 use Rattle.parser_definitions.specs.Peek.{PeekDoes}
-use Rattle.parser_definitions.specs.Projects.{Projects, Reads, complete, reads_cases, reads_given}
-use Rattle.parser_definitions.specs.Projects.{reads_of, reads_takes, same_left, same_taken}
-use Rattle.parser_definitions.specs.Projects.Once.{carried, with_one}
-use Rattle.parser_definitions.specs.Projects.Then.{ComesReads, asks_read, backs_reads, cuts_read}
+use Rattle.parser_definitions.specs.Projects.{Projects, reads_cases, reads_given}
+use Rattle.parser_definitions.specs.Projects.{reads_of, reads_takes}
+use Rattle.parser_definitions.specs.Projects.Once.{with_one}
+use Rattle.parser_definitions.specs.Projects.Then.{asks_read, cuts_read}
 use Rattle.parser_definitions.specs.Projects.Then.{cuts_read_start, else_reads, in_reads}
 use Rattle.parser_definitions.specs.Projects.Then.{start_reads, takes_none_reads, takes_reads}
 use Rattle.parser_definitions.specs.Projects.Then.{then_reads, where_reads}
-use Rattle.parser_definitions.specs.Then.Steps.{asks_to_start, first, instead, second, with_first}
+use Rattle.parser_definitions.specs.Then.Steps.{instead, second, with_first}
 use Rattle.parser_definitions.specs.Then.Steps.{with_second}
 
 -- ---- `opt`, `peek`, `not` and `cut_err`

@@ -1,28 +1,27 @@
 -- Grammars of adapters that change errors, of `flat_map`, `by_ref` and of functions.
-use Rattle.std.specs.Prelude.{◌≡◌, ◌⊎◌, ⊤, ℕ, Bool, true, false, List, Option, Result, Ok, Err}
-use Rattle.std.proofs.Common.{refl, sym, subst, ap, ◌∙◌, inl, inr}
+use Rattle.std.specs.Prelude.{◌≡◌, ⊤, ℕ, false, List, Option, Ok, Err}
+use Rattle.std.proofs.Common.{refl, sym, subst, ◌∙◌}
 use Rattle.streams.specs.Input.{Input}
 use Rattle.streams.specs.Kind.{Kind, backtrack, cut, incomplete, memory}
-use Rattle.stream_errors.specs.Form.{Answer, ErrorForm, answer_by}
+use Rattle.stream_errors.specs.Form.{ErrorForm}
 use Rattle.grammars.specs.Grammar.{Grammar, IsUnique, NoMatch}
 use Rattle.grammars.specs.Grammar.Decided.{FlatMapped, MadeAlike}
 use Rattle.parser_definitions.specs.ByRef.{ByRefDoes}
-use Rattle.parser_definitions.specs.Errors.{Becomes, ErrorDoes, turned, turns}
-use Rattle.parser_definitions.specs.FlatMap.{FlatMapDoes, made_next}
-use Rattle.parser_definitions.specs.Func.{Calls, FuncDoes, beside, call_outcome}
+use Rattle.parser_definitions.specs.Errors.{Becomes, ErrorDoes, turns}
+use Rattle.parser_definitions.specs.FlatMap.{FlatMapDoes}
+use Rattle.parser_definitions.specs.Func.{Calls, FuncDoes, beside}
 use Rattle.parser_definitions.specs.Left.{End, Left, left_of}
-use Rattle.parser_definitions.specs.MapErr.{CompleteErrDoes, ErrIntoDoes, InForm, completes}
+use Rattle.parser_definitions.specs.MapErr.{CompleteErrDoes, ErrIntoDoes, InForm}
 use Rattle.parser_definitions.specs.MapErr.{err_into_becomes}
 use Rattle.parser_definitions.specs.Moved.{in_state}
 use Rattle.parser_definitions.specs.Outcome.{Does, Outcome, asks, backs, cuts, outcome_of, took}
 use Rattle.parser_definitions.specs.Outcome.{wants}
-use Rattle.parser_definitions.specs.Projects.{Projects, Reads, complete, reads_of}
+use Rattle.parser_definitions.specs.Projects.{Projects, complete, reads_of}
 use Rattle.parser_definitions.specs.Projects.Once.{carried, with_one}
 use Rattle.parser_definitions.specs.Projects.Outputs.{Gives}
-use Rattle.parser_definitions.specs.Projects.Then.{ComesReads, asks_read, backs_reads, cuts_read}
+use Rattle.parser_definitions.specs.Projects.Then.{ComesReads}
 use Rattle.parser_definitions.specs.Projects.Then.{in_reads, takes_reads, then_reads, where_reads}
-use Rattle.parser_definitions.specs.Settles.{Alone}
-use Rattle.parser_definitions.specs.Then.Steps.{first, instead, with_first}
+use Rattle.parser_definitions.specs.Then.Steps.{first, with_first}
 
 -- ---- adapters of errors
 

@@ -1,6 +1,6 @@
 -- The grammar of `alt` over an array or a slice.
 use Rattle.std.specs.List.{All}
-use Rattle.std.specs.Prelude.{◌≡◌, List, [], ◌∷◌, Option}
+use Rattle.std.specs.Prelude.{◌≡◌, List, [], ◌∷◌}
 use Rattle.std.proofs.Common.{inl, inr}
 use Rattle.std.proofs.lemmas.List.Elements.{All-head, All-tail}
 use Rattle.stream_errors.specs.Form.{ErrorForm, modal, plain}
@@ -12,7 +12,7 @@ use Rattle.parser_definitions.specs.Moved.{in_state}
 use Rattle.parser_definitions.specs.Outcome.{Does, Outcome, asks, backs, cuts, misused, took, wants}
 use Rattle.parser_definitions.specs.Projects.{Projects, Reads, complete, reads_of}
 use Rattle.parser_definitions.specs.Projects.Choices.{either_one}
-use Rattle.parser_definitions.specs.Projects.Once.{carried, with_one}
+use Rattle.parser_definitions.specs.Projects.Once.{carried}
 use Rattle.parser_definitions.specs.Projects.Then.{asks_read, cuts_read, takes_reads, then_reads}
 use Rattle.parser_definitions.specs.Then.{Then}
 

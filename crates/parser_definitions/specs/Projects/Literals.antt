@@ -1,9 +1,8 @@
 -- Grammars of literals, `eof`, `empty` and `fail`.
-use Rattle.std.specs.Prelude.{◌≡◌, ⊤, List, [], ◌++◌, None}
+use Rattle.std.specs.Prelude.{◌≡◌, ⊤, List, None}
 use Rattle.std.proofs.Common.{refl, sym, ap, ◌∙◌}
 use Rattle.streams.specs.Reading.{Reading}
 use Rattle.stream_errors.specs.Form.{ErrorForm}
-use Rattle.stream_searches.specs.Compare.{IsShort}
 use Rattle.streams.specs.Equal.{true_is_false}
 use Rattle.grammars.specs.Grammar.{Literally, Never, NoTokens, Nothing}
 use Rattle.grammars.specs.Grammar.Unique.{literally_unique}

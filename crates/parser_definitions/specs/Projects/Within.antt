@@ -1,35 +1,26 @@
 -- Grammars of `try_map`, `and_then`, adapters that keep the kind of an error, and rules in
 -- chunks.
-use Rattle.std.specs.Iterator.{Drains}
-use Rattle.std.specs.List.{All, FoldsTo}
-use Rattle.std.specs.Prelude.{◌≡◌, ◌⊎◌, ⊤, Bool, true, false, List, [], ◌∷◌, Option, Result, Ok}
+use Rattle.std.specs.Prelude.{◌≡◌, ⊤, true, false, List, Result, Ok}
 use Rattle.std.specs.Prelude.{Err}
-use Rattle.std.proofs.Common.{refl, sym, subst, ap, ◌∙◌, inl, inr}
-use Rattle.std.proofs.lemmas.List.Elements.{All-head, All-tail}
+use Rattle.std.proofs.Common.{sym, subst, ◌∙◌, inl, inr}
 use Rattle.streams.specs.Input.{Input}
-use Rattle.streams.specs.Kind.{Kind, backtrack, cut, incomplete, memory}
-use Rattle.stream_errors.specs.Form.{Answer, ErrorForm, modal, plain}
-use Rattle.stream_errors.specs.Given.{Keeping, KindGiven}
-use Rattle.grammars.specs.Grammar.{Either, Grammar, Made, Never, NoMatch}
-use Rattle.grammars.specs.Grammar.FirstOf.{FirstFrom, FirstOf}
+use Rattle.streams.specs.Kind.{Kind, backtrack}
+use Rattle.stream_errors.specs.Form.{ErrorForm}
+use Rattle.stream_errors.specs.Given.{Keeping}
+use Rattle.grammars.specs.Grammar.{Grammar, Made, NoMatch}
 use Rattle.grammars.specs.Grammar.Outputs.{RejectsAll}
-use Rattle.parser_definitions.specs.AltMany.{ChoiceDoes, or_rest, with_head}
 use Rattle.parser_definitions.specs.Errors.{Becomes}
 use Rattle.parser_definitions.specs.Func.{ByPiecesDoes}
-use Rattle.parser_definitions.specs.Left.{End, Left, back, left_of}
-use Rattle.parser_definitions.specs.MapErr.{KeepsKinds, MapsErrors, map_err_becomes}
+use Rattle.parser_definitions.specs.Left.{End, Left, left_of}
+use Rattle.parser_definitions.specs.MapErr.{KeepsKinds, map_err_becomes}
 use Rattle.parser_definitions.specs.MapErr.{map_err_kept_becomes}
-use Rattle.parser_definitions.specs.Moved.{in_state, moved}
-use Rattle.parser_definitions.specs.Outcome.{Does, Outcome, asks, backs, cuts, misused, outcome_of}
+use Rattle.parser_definitions.specs.Outcome.{Does, Outcome, asks, backs, cuts}
 use Rattle.parser_definitions.specs.Outcome.{took, wants}
-use Rattle.parser_definitions.specs.Projects.{Projects, Reads, complete, reads_of}
-use Rattle.parser_definitions.specs.Projects.Choices.{either_one}
+use Rattle.parser_definitions.specs.Projects.{Projects, complete}
 use Rattle.parser_definitions.specs.Projects.Errors.{BacktracksKept, takes_no_error}
-use Rattle.parser_definitions.specs.Projects.Once.{carried, with_one}
+use Rattle.parser_definitions.specs.Projects.Once.{carried}
 use Rattle.parser_definitions.specs.Projects.Outputs.{Gives}
-use Rattle.parser_definitions.specs.Projects.Settled.{Settles, settles_projects}
-use Rattle.parser_definitions.specs.Projects.Then.{ComesReads, asks_read, cuts_read, takes_reads}
-use Rattle.parser_definitions.specs.Projects.Then.{then_reads}
+use Rattle.parser_definitions.specs.Projects.Settled.{settles_projects}
 use Rattle.parser_definitions.specs.TryMap.{AndThenDoes, TryMapDoes, completed, tries, within}
 
 -- ---- `try_map`
@@ -81,7 +72,8 @@ pub and_then_projects : {S W T V O U : Type 0} {does : Does S T O} {inner : Does
 unfolding Made
 and_then_projects {S} {W} {T} {V} {O} {U} {inner = inner} {form} {q} {h = h} view may all p r =
     settles_projects {settle = within view inner}
-    {accepts = λ (_ : W) o u. ReadsWithin view h tt o u} {rejects = λ (_ : W) o. NoneWithin view h tt o} q
+    {accepts = λ (_ : W) o u. ReadsWithin view h tt o u}
+    {rejects = λ (_ : W) o. NoneWithin view h tt o} q
     (record { accepted = accepted; rejected = rejected }) all p
   where
     on_complete : (o : O) (y : Outcome (End W V) U)
