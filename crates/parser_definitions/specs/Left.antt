@@ -1,15 +1,15 @@
 -- What a call leaves.
-use Rattle.std.specs.Prelude.{Bool, List, ◌++◌}
+use Rattle.std.specs.Prelude.{◌≡◌, List, ◌++◌, [], length, ◌≤◌}
+use Rattle.std.proofs.Common.{refl, arith, length-append}
 use Rattle.streams.specs.Input.{Input}
 use Rattle.streams.specs.Kind.{Kind}
 use Rattle.streams.specs.Place.{Place}
 
--- The remaining tokens, the offset at which they start, whether they can be read at all, and the
--- kinds of the errors that were recorded so far.
+-- The remaining tokens, the offset at which they start, and the kinds of the errors that were
+-- recorded so far.
 pub record Left (T : Type 0) : Type 0 where
   pub tokens : List T
   pub place : Place
-  pub possible : Bool
   pub recorded : List Kind
 
 -- A state and what is left.
@@ -20,7 +20,6 @@ abbrev pub left_of : {T : Type 0} → Input T → Left T
 left_of i = record {
   tokens = i.left.tokens;
   place = i.left.place;
-  possible = i.left.possible;
   recorded = i.status.recorded;
 }
 

@@ -15,21 +15,23 @@ pub data Outcome (L O : Type 0) : Type 0 where
   asks : Option ℕ → L → Outcome L O
   wants : Outcome L O
 
--- How a parser is called: the form of its errors, and whether more input may come.
+-- How a parser is called: the form of its errors, whether more input may come, and whether the
+-- remaining tokens can be read at all.
 pub record Setting : Type 0 where
   pub form : ErrorForm
   pub more : Bool
+  pub possible : Bool
 
 -- where more input may come
 abbrev pub on_cut : Setting
-on_cut = record { form = modal; more = true }
+on_cut = record { form = modal; more = true; possible = true }
 
 -- where more input has come, and still more may
 abbrev pub grown : Bool → Setting
-grown flag = record { form = modal; more = flag }
+grown flag = record { form = modal; more = flag; possible = true }
 
 abbrev pub setting_of : {T : Type 0} → ErrorForm → Input T → Setting
-setting_of form i = record { form = form; more = i.status.cut }
+setting_of form i = record { form = form; more = i.status.cut; possible = i.left.possible }
 
 -- The definition of a parser: from a state and an input to an outcome.
 abbrev pub Does : Type 0 → Type 0 → Type 0 → Type 1

@@ -1,5 +1,5 @@
 -- Tokens that a call passes.
-use Rattle.std.specs.Prelude.{◌≡◌, Bool, List, ◌++◌}
+use Rattle.std.specs.Prelude.{◌≡◌, List, ◌++◌}
 use Rattle.std.proofs.Common.{refl, sym, ap, ◌∙◌, append_assoc}
 use Rattle.streams.specs.Equal.{same_rest}
 use Rattle.streams.specs.Kind.{Kind}
@@ -12,18 +12,15 @@ pub record Passed {T L : Type 0} (reading : Reading T L) (front : List T) (start
     : Type 0 where
   pub tokens : start.tokens ≡ front ++ rest.tokens
   pub place : rest.place ≡ reading.advance start.place (reading.units front)
-  pub possible : rest.possible ≡ start.possible
   pub recorded : rest.recorded ≡ start.recorded
 
 pub same_left : {T : Type 0} (a b : Left T) → a.tokens ≡ b.tokens → a.place ≡ b.place
-    → a.possible ≡ b.possible → a.recorded ≡ b.recorded → a ≡ b
-same_left {T} a b tokens place possible recorded =
-    let make : List T → Place → Bool → List Kind → Left T =
-    λ t p q r. record { tokens = t; place = p; possible = q; recorded = r } in
-    ap (λ t. make t a.place a.possible a.recorded) tokens
-    ∙ ap (λ p. make b.tokens p a.possible a.recorded) place
-    ∙ ap (λ q. make b.tokens b.place q a.recorded) possible
-    ∙ ap (λ r. make b.tokens b.place b.possible r) recorded
+    → a.recorded ≡ b.recorded → a ≡ b
+same_left {T} a b tokens place recorded =
+    let make : List T → Place → List Kind → Left T =
+    λ t p r. record { tokens = t; place = p; recorded = r } in
+    ap (λ t. make t a.place a.recorded) tokens ∙ ap (λ p. make b.tokens p a.recorded) place
+    ∙ ap (λ r. make b.tokens b.place r) recorded
 
 -- calls that pass the same tokens leave the same
 pub same_passed : {T L : Type 0} {reading : Reading T L} {front other : List T}
@@ -34,7 +31,7 @@ same_passed {reading = reading} {front} {start = start} {rest} {end} same p q =
     (same_rest front rest.tokens end.tokens
     (sym p.tokens ∙ q.tokens ∙ ap (λ f. f ++ end.tokens) (sym same)))
     (p.place ∙ ap (λ f. reading.advance start.place (reading.units f)) same ∙ sym q.place)
-    (p.possible ∙ sym q.possible) (p.recorded ∙ sym q.recorded)
+    (p.recorded ∙ sym q.recorded)
 
 -- the same tokens are passed if more follow
 pub passed_longer : {T L : Type 0} {reading : Reading T L} {front : List T} {start rest : Left T}
@@ -43,6 +40,5 @@ pub passed_longer : {T L : Type 0} {reading : Reading T L} {front : List T} {sta
 passed_longer {front = front} {rest = rest} more p = record {
   tokens = ap (λ l. l ++ more) p.tokens ∙ append_assoc front rest.tokens more;
   place = p.place;
-  possible = p.possible;
   recorded = p.recorded;
 }
