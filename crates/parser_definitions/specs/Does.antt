@@ -8,11 +8,13 @@ use Rattle.parser_definitions.specs.Left.{End, Left, extend, left_of}
 use Rattle.parser_definitions.specs.Outcome.{Alike, Does, IsFinal, Outcome, Setting, alike_wider}
 use Rattle.parser_definitions.specs.Outcome.{asks, grown, longer, on_cut, outcome_of, setting_of}
 
--- A call leaves a suffix of its input, and has an outcome that the definition allows.
+-- A call leaves a suffix of its input, keeps the flag for partial input, and has an outcome that the
+-- definition allows.
 abbrev pub Ran : {S T L O : Type 0} → Reading T L → Does S T O → ErrorForm → S → Input T
     → Answer O → S → Input T → Type 0
 Ran reading does form s i answer t j =
-    IsEndOf reading j i × does (setting_of form i) s (left_of i) (outcome_of answer (t, left_of j))
+    IsEndOf reading j i × (j.status.cut ≡ i.status.cut) × (j.left.possible ≡ i.left.possible)
+    × does (setting_of form i) s (left_of i) (outcome_of answer (t, left_of j))
 
 -- State and input determine the outcome: the result, the new state and what is left. On complete
 -- input no outcome is incomplete. A final outcome is unchanged if more tokens follow, whether the
@@ -46,7 +48,7 @@ pub gets_of : {S T L O : Type 0} (reading : Reading T L) {stable : Type 0} {alik
     → i.left.possible ≡ true → Ran reading does form s i answer t j
     → Gets alike does s (left_of i) (outcome_of answer (t, left_of j))
 gets_of {S} {T} {O = O} reading {stable} {alike} {does} law is {form} has s i answer t j cut may
-    (ends, ran) =
+    (ends, flag, readable, ran) =
     let x : Outcome (End S T) O = outcome_of answer (t, left_of j) in
     let P : ErrorForm → Bool → Bool → Type 0 =
     λ f b p. does (record { form = f; more = b; possible = p }) s (left_of i) x in
