@@ -48,7 +48,8 @@ module _ {K T : Type 0} (seen : K → T) (code : K → ℕ) where
 
     digits_at : (zero : Bool) (at : Setting) (w : Left T) (digits : List ℕ) (rest : Left T)
         → HasDigits seen code reading zero at w digits rest
-        → (front : List T) × (w.tokens ≡ front ++ rest.tokens) × AreCharacters seen code front digits
+        → (front : List T) × (w.tokens ≡ front ++ rest.tokens)
+        × AreCharacters seen code front digits
         × (((zero ≡ true) × (digits ≡ 48 ∷ [])) ⊎ IsLeading digits)
         × ((digits ≡ 48 ∷ []) ⊎ NoneFirst seen code IsDecDigit rest.tokens)
     digits_at zero at w digits rest (inl (x, may, is, p, e)) = (
