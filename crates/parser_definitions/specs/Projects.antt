@@ -8,7 +8,23 @@ use Rattle.parser_definitions.specs.Cases.{LacksWhere, MisusedWhere, OneCase, Ta
 use Rattle.parser_definitions.specs.Left.{End, Left}
 use Rattle.parser_definitions.specs.Outcome.{Does, Outcome, Setting, asks, backs, cuts, lacks}
 use Rattle.parser_definitions.specs.Outcome.{misused, took, wants}
+pub mod Choices
+pub mod Decimals
+pub mod Errors
+pub mod Integers
+pub mod Items
+pub mod Length
+pub mod Lines
+pub mod Literals
+pub mod Numbers
+pub mod Numerals
+pub mod Once
+pub mod Outputs
+pub mod Sequences
+pub mod Settled
 pub mod Then
+pub mod Tokens
+pub mod Within
 
 -- complete input, which can be read
 abbrev pub complete : ErrorForm → Setting

@@ -1,9 +1,8 @@
 -- Grammars of literals, `eof`, `empty` and `fail`.
-use Rattle.std.specs.Prelude.{◌≡◌, ⊤, List, [], ◌++◌, None}
+use Rattle.std.specs.Prelude.{◌≡◌, ⊤, List, None}
 use Rattle.std.proofs.Common.{refl, sym, ap, ◌∙◌}
 use Rattle.streams.specs.Reading.{Reading}
 use Rattle.stream_errors.specs.Form.{ErrorForm}
-use Rattle.stream_searches.specs.Compare.{IsShort}
 use Rattle.streams.specs.Equal.{true_is_false}
 use Rattle.grammars.specs.Grammar.{Literally, Never, NoTokens, Nothing}
 use Rattle.grammars.specs.Grammar.Unique.{literally_unique}
@@ -22,7 +21,8 @@ module _ {T S L O : Type 0} (reading : Reading T L) (spells : S → List T → T
   unfolding Literally
   literal_projects same_units = projects (literally_unique reading spells output s same_units)
       (reads_cases (reads_takes (IsLiteral reading spells output)
-      (λ w o rest (front, slice, is, shown, passed, e). (front, slice, is, shown, passed.tokens, e)))
+      (λ w o rest (front, slice, is, shown, passed, e).
+      (front, slice, is, shown, passed.tokens, e)))
       (reads_cases (reads_lacks (λ s w. None) (IsPartial spells)
       (λ w (short, more). true_is_false (sym more)))
       (reads_fails (IsOther spells)

@@ -1,16 +1,15 @@
 -- Grammars of adapters that compute an output.
-use Rattle.std.specs.Prelude.{◌≡◌, ⊤, ℕ, List, Option, Some}
-use Rattle.std.proofs.Common.{refl}
+use Rattle.std.specs.Prelude.{◌≡◌, ⊤, ℕ, Some}
 use Rattle.std.specs.declared.ops.Range.{Range}
 use Rattle.streams.specs.Reading.{Reading}
 use Rattle.stream_errors.specs.Form.{ErrorForm}
 use Rattle.grammars.specs.Grammar.{AndTaken, Grammar, Made, NoMatch, Taken}
 use Rattle.parser_definitions.specs.Left.{Left}
-use Rattle.parser_definitions.specs.Map.{MapDoes, mapped}
+use Rattle.parser_definitions.specs.Map.{MapDoes}
 use Rattle.parser_definitions.specs.Outcome.{Does}
 use Rattle.parser_definitions.specs.Outputs.{DefaultValueDoes, Makes, OutputDoes, OutputIntoDoes}
 use Rattle.parser_definitions.specs.Outputs.{ShowsTaken, SomeDoes, SpanDoes, TakeDoes, VoidDoes}
-use Rattle.parser_definitions.specs.Outputs.{WithSpanDoes, WithTakenDoes, span_of}
+use Rattle.parser_definitions.specs.Outputs.{WithSpanDoes, WithTakenDoes}
 use Rattle.parser_definitions.specs.Projects.{Projects, Reads, reads_of}
 use Rattle.parser_definitions.specs.Projects.Once.{carried, with_one}
 use Rattle.parser_definitions.specs.Projects.Then.{then_reads, where_reads}

@@ -1,23 +1,23 @@
 -- Grammars of sequences.
 use Rattle.std.specs.Prelude.{◌≡◌, ⊤, List}
-use Rattle.std.proofs.Common.{refl, sym, subst, ap, ◌∙◌}
+use Rattle.std.proofs.Common.{refl, subst}
 use Rattle.stream_errors.specs.Form.{ErrorForm}
 use Rattle.grammars.specs.Grammar.{Both, Grammar, Made, NoMatch, Three}
 use Rattle.grammars.specs.Grammar.Tuples.{Five, Four, Six, join4, join5, join6}
 use Rattle.parser_definitions.specs.Both.{BothDo}
 use Rattle.parser_definitions.specs.Left.{End, Left}
-use Rattle.parser_definitions.specs.Outcome.{Does, Outcome, asks, backs, cuts, took, wants}
-use Rattle.parser_definitions.specs.Projects.{Projects, Reads, complete, reads_of}
-use Rattle.parser_definitions.specs.Projects.Once.{carried, with_one}
+use Rattle.parser_definitions.specs.Outcome.{Does}
+use Rattle.parser_definitions.specs.Projects.{Projects, Reads, reads_of}
+use Rattle.parser_definitions.specs.Projects.Once.{with_one}
 use Rattle.parser_definitions.specs.Projects.Then.{ComesReads, NextReads, in_reads, takes_reads}
 use Rattle.parser_definitions.specs.Projects.Then.{then_reads, where_reads}
 use Rattle.parser_definitions.specs.Sequence.{DelimitedDoes, PrecededDoes, SeparatedPairDoes}
-use Rattle.parser_definitions.specs.Sequence.{SequenceDoes1, SequenceDoes3, TerminatedDoes, ThreeDo}
-use Rattle.parser_definitions.specs.Sequence.{first3, one_with, second3, third3, with_first3}
-use Rattle.parser_definitions.specs.Sequence.{with_second3, with_third3}
-use Rattle.parser_definitions.specs.Then.{Comes, ComesOf, Next, Then}
-use Rattle.parser_definitions.specs.Then.Steps.{and_then, second, then_next}
-use Rattle.parser_definitions.specs.Then.Steps.{with_first, with_second}
+use Rattle.parser_definitions.specs.Sequence.{SequenceDoes1, TerminatedDoes, ThreeDo, one_with}
+use Rattle.parser_definitions.specs.Sequence.{second3, third3, with_first3, with_second3}
+use Rattle.parser_definitions.specs.Sequence.{with_third3}
+use Rattle.parser_definitions.specs.Then.{Next, Then}
+use Rattle.parser_definitions.specs.Then.Steps.{and_then, second, then_next, with_first}
+use Rattle.parser_definitions.specs.Then.Steps.{with_second}
 use Rattle.parser_definitions.specs.Tuples.{JoinedDo, SequenceDoes4, SequenceDoes5, SequenceDoes6}
 use Rattle.parser_definitions.specs.Tuples.{split4, split5, split6}
 
@@ -60,7 +60,8 @@ module _ {S1 S2 T O1 O2 O : Type 0} {does1 : Does S1 T O1} {does2 : Does S2 T O2
   unfolding Both
   both_projects p1 p2 = with_one (then_reads (reads_of p1) (where_reads with_first
       (λ w none o rest (o1, o2, mid, x, y, e). none o1 mid x)
-      (λ w o1 end x. next_comes with_first second {h = Both output g1 g2} {k = After (output o1) g2} w end
+      (λ w o1 end x. next_comes with_first second {h = Both output g1 g2}
+      {k = After (output o1) g2} w end
       (λ o rest (o2, y, e). (o1, o2, end.1.tokens, x, y, e))
       (λ none o rest (p1', p2', mid, x', y', e').
       none (output o1 p2') rest
@@ -81,7 +82,8 @@ module _ {S1 S2 S3 T O1 O2 O3 O : Type 0} {does1 : Does S1 T O1} {does2 : Does S
   unfolding Three
   three_projects r1 r2 r3 = with_one (then_reads (reads_of r1) (where_reads with_first3
       (λ w none o rest (o1, o2, o3, a, b, x, y, z, e). none o1 a x)
-      (λ w o1 end x. next_comes with_first3 second3 {h = Three output g1 g2 g3} {k = AfterTwo (output o1) g2 g3} w end
+      (λ w o1 end x. next_comes with_first3 second3 {h = Three output g1 g2 g3}
+      {k = AfterTwo (output o1) g2 g3} w end
       (λ o rest (o2, o3, b, y, z, e). (o1, o2, o3, end.1.tokens, b, x, y, z, e))
       (λ none o rest (u1, u2, u3, a, b, x', y', z', e').
       none (output o1 u2 u3) rest
@@ -101,6 +103,29 @@ module _ {S1 S2 S3 T O1 O2 O3 O : Type 0} {does1 : Does S1 T O1} {does2 : Does S
       let one = r1.one tokens x1 y1 a c m1 n1 in
       let two = r2.one c x2 y2 b d (subst (λ l. g2 l x2 b) one m2) n2 in
       r3.one d x3 y3 rest end (subst (λ l. g3 l x3 rest) two m3) n3)
+
+-- ---- with an output
+
+module _ {S1 S2 T O1 O2 : Type 0} {does1 : Does S1 T O1} {does2 : Does S2 T O2}
+    {form : ErrorForm} {q : S1 × S2} {g1 : Grammar T O1} {g2 : Grammar T O2}
+    (p1 : Projects does1 form q.0 g1) (p2 : Projects does2 form q.1 g2) where
+  pub preceded_projects : Projects (PrecededDoes does1 does2) form q (Both (λ o1 o2. o2) g1 g2)
+  preceded_projects = both_projects (λ o1 o2. o2) p1 p2
+
+  pub terminated_projects : Projects (TerminatedDoes does1 does2) form q (Both (λ o1 o2. o1) g1 g2)
+  terminated_projects = both_projects (λ o1 o2. o1) p1 p2
+
+module _ {S1 S2 S3 T O1 O2 O3 : Type 0} {does1 : Does S1 T O1} {does2 : Does S2 T O2}
+    {does3 : Does S3 T O3} {form : ErrorForm} {q : S1 × S2 × S3} {g1 : Grammar T O1}
+    {g2 : Grammar T O2} {g3 : Grammar T O3} (p1 : Projects does1 form q.0 g1)
+    (p2 : Projects does2 form q.1 g2) (p3 : Projects does3 form q.2 g3) where
+  pub delimited_projects : Projects (DelimitedDoes does1 does2 does3) form q
+      (Three (λ o1 o2 o3. o2) g1 g2 g3)
+  delimited_projects = three_projects (λ o1 o2 o3. o2) p1 p2 p3
+
+  pub separated_pair_projects : Projects (SeparatedPairDoes does1 does2 does3) form q
+      (Three (λ o1 o2 o3. (o1, o3)) g1 g2 g3)
+  separated_pair_projects = three_projects (λ o1 o2 o3. (o1, o3)) p1 p2 p3
 
 -- ---- tuples
 

@@ -1,9 +1,7 @@
 -- Grammars of adapters that accept or reject an output.
-use Rattle.std.specs.Prelude.{◌≡◌, ⊤, ℕ, Bool, true, false, Option, Some, None, Result, Ok, Err}
-use Rattle.std.proofs.Common.{refl, sym, subst, ap, ◌∙◌, inl, inr}
-use Rattle.streams.specs.Input.{Input}
+use Rattle.std.specs.Prelude.{◌≡◌, ⊤, Bool, true, false, Option, Some, None}
+use Rattle.std.proofs.Common.{subst, inl, inr}
 use Rattle.stream_errors.specs.Form.{ErrorForm}
-use Rattle.stream_errors.specs.Given.{Keeping}
 use Rattle.grammars.specs.Grammar.{Grammar, Made, NoMatch}
 use Rattle.grammars.specs.Grammar.Outputs.{RejectsAll}
 use Rattle.parser_definitions.specs.Left.{End, Left, back}
@@ -13,7 +11,7 @@ use Rattle.parser_definitions.specs.Projects.{Projects, reads_of}
 use Rattle.parser_definitions.specs.Projects.Once.{carried, with_one}
 use Rattle.parser_definitions.specs.Projects.Outputs.{Gives}
 use Rattle.parser_definitions.specs.Projects.Then.{in_reads, then_reads, where_reads}
-use Rattle.parser_definitions.specs.Settles.{Alone, Settle, SettlesDo, settled}
+use Rattle.parser_definitions.specs.Settles.{Settle, SettlesDo}
 use Rattle.parser_definitions.specs.Then.Steps.{with_first}
 use Rattle.parser_definitions.specs.TryMap.{ValueDoes, clones}
 use Rattle.parser_definitions.specs.Verify.{ParseToDoes, VerifyDoes, VerifyMapDoes, finds}
