@@ -22,9 +22,9 @@ use Rattle.parser_definitions.specs.Outcome.{grown, longer, on_cut}
 use Rattle.parser_definitions.specs.Then.{Comes, Holds, Meets, Next, Then, then_law}
 use Rattle.parser_definitions.specs.Then.Steps.{and_then, asks_later, asks_meet, asks_on, backs_meet}
 use Rattle.parser_definitions.specs.Then.Steps.{backs_on, cuts_hold, cuts_meet, cuts_on}
-use Rattle.parser_definitions.specs.Then.Steps.{first, holds_where, instead, meets_where, or_else}
+use Rattle.parser_definitions.specs.Then.Steps.{holds_where, instead, meets_where, or_else}
 use Rattle.parser_definitions.specs.Then.Steps.{same, takes, takes_hold, takes_meet, where_took}
-use Rattle.parser_definitions.specs.Then.Steps.{with_first}
+use Rattle.parser_definitions.specs.Threes.{one_of, two_of, with_one, with_two}
 
 -- how many items may follow the least, if there is a greatest number
 abbrev pub room_behind : ℕ → Option ℕ → Option ℕ
@@ -67,11 +67,10 @@ module _ {S W Q T C O D : Type 0} (get : Q → S) (put : Q → S → Q) (pick : 
 
 -- Items within a range and a terminator.
 abbrev pub RepeatTillDoes : {S W T C O D : Type 0} → Accumulator C O → Does S T O → Does W T D
-    → Does (S × (W × Range)) T (C × D)
-RepeatTillDoes into does till = Keyed (λ q. bounds_of q.1.1) (λ bounds.
+    → Does (S × W × Range) T (C × D)
+RepeatTillDoes into does till = Keyed (λ q. bounds_of q.2) (λ bounds.
     Bounded bounds (Started (gathering into) (capacity_of bounds.least bounds.greatest)
-    (ItemsTill first with_first (λ q. q.1.0) (λ q v. (q.0, (v, q.1.1))) (gathering into) does till
-    bounds)))
+    (ItemsTill one_of with_one two_of with_two (gathering into) does till bounds)))
 
 -- ---- laws
 
@@ -166,10 +165,10 @@ pub repeat_till_law : {S W T C O D : Type 0} {sure also : Type 0} {alike : O →
     {ends : D → D → Type 0} (into : Accumulator C O) {does : Does S T O} {till : Does W T D}
     → Lawful sure alike does → Lawful also ends till
     → Lawful (sure × also)
-    (AlikePairs (Built (gathering {Q = S × (W × Range)} into) alike) ends)
+    (AlikePairs (Built (gathering {Q = S × W × Range} into) alike) ends)
     (RepeatTillDoes into does till)
-repeat_till_law {S} {W} {alike = alike} into law stop = keyed_law (λ q. bounds_of q.1.1) (λ bounds.
+repeat_till_law {S} {W} {alike = alike} into law stop = keyed_law (λ q. bounds_of q.2) (λ bounds.
     bounded_law bounds (started_law (gathers_one into alike)
     (capacity_of bounds.least bounds.greatest)
-    (items_till_law first with_first (λ q. q.1.0) (λ q v. (q.0, (v, q.1.1)))
+    (items_till_law one_of with_one two_of with_two
     (gathers_one into alike) law stop bounds)))
