@@ -9,7 +9,9 @@ use Rattle.parser_definitions.specs.Outcome.{took, wants}
 use Rattle.parser_definitions.specs.Places.{FirstDoes, NextDoes}
 use Rattle.parser_definitions.specs.Then.{Comes, Next, Then}
 use Rattle.parser_definitions.specs.Then.Steps.{In, instead, same, takes, takes_none, where_took}
+pub mod Laws
 pub mod One
+pub mod Trees
 
 -- Folds of one operand and of two: an outcome and the remaining input, from where they are called.
 abbrev pub Unary : Type 0 → Type 0 → Type 0 → Type 1
