@@ -1,6 +1,6 @@
 -- The definition of `escaped`: text with escapes.
-use Rattle.std.specs.Prelude.{◌≡◌, ◌⊎◌, ◌<◌, ℕ, Bool, true, false, List, [], ◌∷◌, ◌++◌, length}
-use Rattle.std.specs.Prelude.{Option, Some, None}
+use Rattle.std.specs.Prelude.{◌≡◌, ◌⊎◌, ℕ, Bool, true, false, List, [], ◌∷◌, ◌++◌, length, Option}
+use Rattle.std.specs.Prelude.{Some, None}
 use Rattle.std.proofs.Common.{refl, sym, ap, inl, inr, ◌∙◌, arith, length-append}
 use Rattle.streams.specs.Equal.{true_is_false}
 use Rattle.stream_errors.specs.Form.{plain}
@@ -10,20 +10,22 @@ use Rattle.parser_definitions.specs.Consumes.{by_consuming, consuming_holds, con
 use Rattle.parser_definitions.specs.Consumes.{misused_holds, misused_meets, misused_on}
 use Rattle.parser_definitions.specs.Does.{Lawful}
 use Rattle.parser_definitions.specs.Equal.{AlikeOptions}
-use Rattle.parser_definitions.specs.Folding.{Built, FoldsOne, Folding, Started, folded, folded_holds}
-use Rattle.parser_definitions.specs.Folding.{folded_meets, gathering, gathers_one, started_law}
+use Rattle.parser_definitions.specs.Folding.{Built, FoldsOne, Folding, Started, folded}
+use Rattle.parser_definitions.specs.Folding.{folded_holds, folded_meets, gathering, gathers_one}
+use Rattle.parser_definitions.specs.Folding.{started_law}
 use Rattle.parser_definitions.specs.Left.{End, Left, extend}
-use Rattle.parser_definitions.specs.Loop.{AlikeTurns, Family, Loop, Turn, always, continues, loop_law}
-use Rattle.parser_definitions.specs.Loop.{returns, then_family}
+use Rattle.parser_definitions.specs.Loop.{AlikeTurns, Family, Loop, Turn, always, continues}
+use Rattle.parser_definitions.specs.Loop.{loop_law, returns, then_family}
 use Rattle.parser_definitions.specs.Outcome.{Alike, Does, IsFinal, Outcome, Setting, asks, both}
 use Rattle.parser_definitions.specs.Outcome.{final_by, grown, lacks, longer, on_cut, took}
 use Rattle.parser_definitions.specs.Then.{Comes, Holds, Meets, Next, Then, then_law}
-use Rattle.parser_definitions.specs.Then.Steps.{asks_later, asks_meet, asks_on, cuts_hold, cuts_meet}
-use Rattle.parser_definitions.specs.Then.Steps.{cuts_on, else_holds, else_meets, holds_where}
-use Rattle.parser_definitions.specs.Then.Steps.{instead, meets_where, or_else, same, takes}
-use Rattle.parser_definitions.specs.Then.Steps.{takes_hold, takes_meet, then_holds, then_meets}
-use Rattle.parser_definitions.specs.Then.Steps.{then_next, where_took}
-use Rattle.parser_definitions.specs.Threes.{one_of, three_of, two_of, with_one, with_three, with_two}
+use Rattle.parser_definitions.specs.Then.Steps.{asks_later, asks_meet, asks_on, cuts_hold}
+use Rattle.parser_definitions.specs.Then.Steps.{cuts_meet, cuts_on, else_holds, else_meets}
+use Rattle.parser_definitions.specs.Then.Steps.{holds_where, instead, meets_where, or_else, same}
+use Rattle.parser_definitions.specs.Then.Steps.{takes, takes_hold, takes_meet, then_holds}
+use Rattle.parser_definitions.specs.Then.Steps.{then_meets, then_next, where_took}
+use Rattle.parser_definitions.specs.Threes.{one_of, three_of, two_of, with_one, with_three}
+use Rattle.parser_definitions.specs.Threes.{with_two}
 
 -- ---- a control
 

@@ -3,12 +3,13 @@ use Rattle.std.specs.Prelude.{◌≡◌, ◌⊎◌, ◌<◌, ◌≤ℤ◌, ◌<�
 use Rattle.std.specs.Prelude.{Some, None}
 use Rattle.std.proofs.Common.{inl, inr}
 use Rattle.parser_definitions.specs.Consumes.{misused_on}
-use Rattle.parser_definitions.specs.Left.{End, Left, back}
+use Rattle.parser_definitions.specs.Left.{End, Left}
 use Rattle.parser_definitions.specs.Outcome.{Does, Outcome, Setting, asks, backs, cuts, misused}
 use Rattle.parser_definitions.specs.Outcome.{took, wants}
 use Rattle.parser_definitions.specs.Places.{FirstDoes, NextDoes}
 use Rattle.parser_definitions.specs.Then.{Comes, Next, Then}
 use Rattle.parser_definitions.specs.Then.Steps.{In, instead, same, takes, takes_none, where_took}
+pub mod Continues
 pub mod Laws
 pub mod One
 pub mod Trees
@@ -109,8 +110,8 @@ by_either so other some none at q w end y =
 abbrev pub wants_on : {S Q T U : Type 0} → Comes S Q T U
 wants_on at q w end y = y ≡ wants
 
--- A call ends at its beginning: the operand fails, or the prefix. A prefix that consumes nothing is a
--- misuse; there may be no memory for another.
+-- A call ends at its beginning: the operand fails, or the prefix. A prefix that consumes nothing is
+-- a misuse; there may be no memory for another.
 abbrev pub first_last : {Q T V X : Type 0} → (List T → ℕ) → V ⊎ X → Comes Q Q T (V × Bool)
 first_last units (inl v) at q w end y = ⊥
 first_last units (inr x) at q w end y =
@@ -188,7 +189,8 @@ mutual
         → JoinDoes g one two at (record { operator = inl x; call = call }) z y
         → TreeDoes g one two at call q w y
     tree_ends : {call : Call} {q : Q} {w : Left T} {y : Outcome (End Q T) (V × Bool)}
-        → Then same one (where_took instead (first_last g.units)) at q w y → TreeDoes g one two at call q w y
+        → Then same one (where_took instead (first_last g.units)) at q w y
+        → TreeDoes g one two at call q w y
 
   -- The tail of a tree after a value: postfixes, and infixes with their right operands.
   pub data TailDoes {Q T V X Y Z : Type 0} (g : Operators T V X Y Z) (one : Does Q T (V ⊎ X))

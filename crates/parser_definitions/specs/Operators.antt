@@ -7,8 +7,8 @@ use Rattle.parser_definitions.specs.Outcome.{Alike, Does, IsFinal, Outcome, Sett
 use Rattle.parser_definitions.specs.Outcome.{as_longer, asks, both, final_by, grown, longer, on_cut}
 use Rattle.parser_definitions.specs.Outcome.{took, wants}
 
--- Returns a clone of the operator and consumes no input. If it cannot always be cloned, there may be
--- no memory for the clone.
+-- Returns a clone of the operator and consumes no input. If it cannot always be cloned, there may
+-- be no memory for the clone.
 abbrev pub OperatorDoes : {T O : Type 0} → (O → O → Type 0) → (O → Type 0) → Does O T O
 OperatorDoes {O = O} IsClone ClonesAlways at s w y =
     ((o : O) × IsClone s o × (y ≡ took o (s, w))) ⊎ ((ClonesAlways s → ⊥) × (y ≡ wants))

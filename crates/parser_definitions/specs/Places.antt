@@ -1,17 +1,18 @@
--- The definitions of the two parts of `expression`: operands and prefixes, and postfixes and infixes.
+-- The definitions of the two parts of `expression`: operands and prefixes, and postfixes and
+-- infixes.
 use Rattle.std.specs.Prelude.{◌≡◌, ◌⊎◌, ◌<◌, ℕ, List, Option, Some, None}
 use Rattle.std.proofs.Common.{refl, inl, inr, arith}
 use Rattle.parser_definitions.specs.Does.{Lawful}
 use Rattle.parser_definitions.specs.Equal.{AlikeOptions}
 use Rattle.parser_definitions.specs.Escaped.{AlikeSides}
-use Rattle.parser_definitions.specs.Left.{Left}
 use Rattle.parser_definitions.specs.Outcome.{Does, both, took}
 use Rattle.parser_definitions.specs.Then.{Next, Then, then_law}
-use Rattle.parser_definitions.specs.Then.Steps.{asks_later, asks_meet, asks_on, cuts_hold, cuts_meet}
-use Rattle.parser_definitions.specs.Then.Steps.{cuts_on, else_holds, else_meets, first, holds_where}
-use Rattle.parser_definitions.specs.Then.Steps.{meets_where, or_else, second, takes, takes_hold}
-use Rattle.parser_definitions.specs.Then.Steps.{takes_meet, takes_none, takes_none_hold}
-use Rattle.parser_definitions.specs.Then.Steps.{takes_none_meet, where_took, with_first, with_second}
+use Rattle.parser_definitions.specs.Then.Steps.{asks_later, asks_meet, asks_on, cuts_hold}
+use Rattle.parser_definitions.specs.Then.Steps.{cuts_meet, cuts_on, else_holds, else_meets, first}
+use Rattle.parser_definitions.specs.Then.Steps.{holds_where, meets_where, or_else, second, takes}
+use Rattle.parser_definitions.specs.Then.Steps.{takes_hold, takes_meet, takes_none, takes_none_hold}
+use Rattle.parser_definitions.specs.Then.Steps.{takes_none_meet, where_took, with_first}
+use Rattle.parser_definitions.specs.Then.Steps.{with_second}
 
 -- ---- where an operand is expected
 

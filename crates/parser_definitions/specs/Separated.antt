@@ -4,8 +4,8 @@ use Rattle.std.proofs.Common.{refl, inl, inr}
 use Rattle.stream_sets.specs.Accumulator.{Accumulator}
 use Rattle.stream_sets.specs.Range.{Bounds, IsBelow, bounds_of, from_to}
 use Rattle.stream_sets.specs.declared.range.Range.{Range}
-use Rattle.parser_definitions.specs.Bounded.{Bounded, Keyed, bounded_law, capacity_of, full_is_below}
-use Rattle.parser_definitions.specs.Bounded.{keyed_law}
+use Rattle.parser_definitions.specs.Bounded.{Bounded, Keyed, bounded_law, capacity_of}
+use Rattle.parser_definitions.specs.Bounded.{full_is_below, keyed_law}
 use Rattle.parser_definitions.specs.Does.{Lawful}
 use Rattle.parser_definitions.specs.Folding.{Adds, Built, FoldsOne, Folding, Started, adds_family}
 use Rattle.parser_definitions.specs.Folding.{gathering, gathers_one, started_law}
@@ -13,8 +13,8 @@ use Rattle.parser_definitions.specs.Items.{Items, enough, enough_holds, enough_m
 use Rattle.parser_definitions.specs.Left.{End, Left, extend}
 use Rattle.parser_definitions.specs.Link.{Link, link_law}
 use Rattle.parser_definitions.specs.Loop.{Family, always, family_holds, family_meets, then_family}
-use Rattle.parser_definitions.specs.Outcome.{Alike, Does, IsFinal, Outcome, Setting, as_longer, asks}
-use Rattle.parser_definitions.specs.Outcome.{both, grown, longer, on_cut, took}
+use Rattle.parser_definitions.specs.Outcome.{Alike, Does, IsFinal, Outcome, Setting, as_longer}
+use Rattle.parser_definitions.specs.Outcome.{asks, both, grown, longer, on_cut, took}
 use Rattle.parser_definitions.specs.Then.{Then}
 use Rattle.parser_definitions.specs.Then.Steps.{and_then, asks_later, asks_meet, asks_on, cuts_hold}
 use Rattle.parser_definitions.specs.Then.Steps.{cuts_meet, cuts_on}

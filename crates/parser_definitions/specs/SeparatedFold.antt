@@ -1,7 +1,7 @@
 -- The definitions of `separated_foldl1` and `separated_foldr1`.
-use Rattle.std.specs.Prelude.{◌≡◌, ⊤, List, [], ◌∷◌, ◌++◌, Option, None}
+use Rattle.std.specs.Prelude.{◌≡◌, ⊤, List, [], ◌∷◌, ◌++◌, None}
 use Rattle.std.specs.declared.vec.Vec.{Vec}
-use Rattle.std.proofs.Common.{refl, sym, subst, ap, ◌∙◌}
+use Rattle.std.proofs.Common.{sym, subst, ap, ◌∙◌}
 use Rattle.stream_sets.specs.Accumulator.{list_kept}
 use Rattle.stream_sets.specs.Range.{from_to}
 use Rattle.parser_definitions.specs.Both.{BothDo, pair_law}
@@ -16,8 +16,8 @@ use Rattle.parser_definitions.specs.Loop.{family_holds, family_meets}
 use Rattle.parser_definitions.specs.Outcome.{Does, as_longer, both, took}
 use Rattle.parser_definitions.specs.Repeat.{Many, many_law}
 use Rattle.parser_definitions.specs.Then.{Comes, Then, then_law}
-use Rattle.parser_definitions.specs.Then.Steps.{and_then, holds_where, instead, meets_where}
-use Rattle.parser_definitions.specs.Then.Steps.{same, then_holds, then_meets, then_next, where_took}
+use Rattle.parser_definitions.specs.Then.Steps.{and_then, holds_where, instead, meets_where, same}
+use Rattle.parser_definitions.specs.Then.Steps.{then_holds, then_meets, then_next, where_took}
 use Rattle.parser_definitions.specs.Threes.{one_of, pair_of, three_of, turned_of, with_one}
 use Rattle.parser_definitions.specs.Threes.{with_pair, with_three, with_turned}
 

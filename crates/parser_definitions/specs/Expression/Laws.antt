@@ -2,26 +2,25 @@
 use Rattle.std.specs.Prelude.{◌≡◌, ◌⊎◌, ℕ, ℤ, Bool, true, false, List, Option, Some, None}
 use Rattle.std.proofs.Common.{refl, subst, inl, inr}
 use Rattle.parser_definitions.specs.Cases.{misused_whole}
-use Rattle.parser_definitions.specs.Consumes.{misused_holds, misused_on}
+use Rattle.parser_definitions.specs.Consumes.{misused_holds}
 use Rattle.parser_definitions.specs.Does.{Lawful}
 use Rattle.parser_definitions.specs.Equal.{AlikeOptions}
 use Rattle.parser_definitions.specs.Escaped.{AlikeSides}
 use Rattle.parser_definitions.specs.Expression.{Call, ExpressionDoes, FoldsOpen, FoldsPostfix}
 use Rattle.parser_definitions.specs.Expression.{JoinDoes, JoinEnds, Open, Operators, TailDoes}
 use Rattle.parser_definitions.specs.Expression.{TreeDoes, TreesDo, all_end, by_either, call_at}
-use Rattle.parser_definitions.specs.Expression.{checked, fails_as, first_last, infix_last, join_ends}
-use Rattle.parser_definitions.specs.Expression.{join_goes, next_last, opened, postfix_last, tail_ends}
-use Rattle.parser_definitions.specs.Expression.{tail_infix, tail_postfix, tree_ends, tree_operand}
-use Rattle.parser_definitions.specs.Expression.{tree_prefix, tree_value, wants_on}
+use Rattle.parser_definitions.specs.Expression.{checked, fails_as, first_last, join_ends, join_goes}
+use Rattle.parser_definitions.specs.Expression.{next_last, opened, tail_ends, tail_infix}
+use Rattle.parser_definitions.specs.Expression.{tail_postfix, tree_ends, tree_operand, tree_prefix}
+use Rattle.parser_definitions.specs.Expression.{wants_on}
 use Rattle.parser_definitions.specs.Expression.One.{EndsAlike, OperatorsOne}
 use Rattle.parser_definitions.specs.Expression.Trees.{tree_one}
 use Rattle.parser_definitions.specs.Left.{End, Left}
 use Rattle.parser_definitions.specs.Outcome.{Does, Outcome, Setting, asks, backs, cuts, took, wants}
-use Rattle.parser_definitions.specs.Places.{FirstDoes, NextDoes}
 use Rattle.parser_definitions.specs.Places.{first_law as operands_law, next_law as operators_law}
 use Rattle.parser_definitions.specs.Then.{Comes, ComesOf, Holds, then_law, whole_comes}
-use Rattle.parser_definitions.specs.Then.Steps.{holds_where, in_law, instead, meets_where, takes_hold}
-use Rattle.parser_definitions.specs.Then.Steps.{takes_meet, takes_none_hold, where_took}
+use Rattle.parser_definitions.specs.Then.Steps.{holds_where, in_law, instead, meets_where}
+use Rattle.parser_definitions.specs.Then.Steps.{takes_hold, takes_meet, takes_none_hold, where_took}
 
 -- On complete input no fold is incomplete.
 pub record OperatorsWhole {T V X Y Z : Type 0} (g : Operators T V X Y Z) : Type 0 where

@@ -1,21 +1,18 @@
 -- State and input determine the outcome of an expression.
-use Rattle.std.specs.Prelude.{◌≡◌, ◌⊎◌, ◌<◌, ◌≤ℤ◌, ◌<ℤ◌, ℕ, ℤ, pos, negsuc, Bool, true, false, List}
-use Rattle.std.specs.Prelude.{Option, Some, None}
-use Rattle.std.proofs.Common.{refl, sym, subst, ap, inl, inr, ◌∙◌, arith}
+use Rattle.std.specs.Prelude.{◌≡◌, ◌⊎◌, ◌<◌, ◌≤ℤ◌, ◌<ℤ◌, ℕ, ℤ, Bool, true, false, List, Option}
+use Rattle.std.specs.Prelude.{Some, None}
+use Rattle.std.proofs.Common.{refl, subst, inl, inr, arith}
 use Rattle.std.proofs.lemmas.Int.{ints}
 use Rattle.parser_definitions.specs.Cases.{misused_alike}
-use Rattle.parser_definitions.specs.Consumes.{misused_meets, misused_on}
-use Rattle.parser_definitions.specs.Does.{Lawful}
+use Rattle.parser_definitions.specs.Consumes.{misused_meets}
 use Rattle.parser_definitions.specs.Equal.{AlikeOptions, AlikePairs}
 use Rattle.parser_definitions.specs.Escaped.{AlikeSides}
-use Rattle.parser_definitions.specs.Expression.{Binary, Call, FoldsOpen, FoldsPostfix, JoinDoes}
-use Rattle.parser_definitions.specs.Expression.{JoinEnds, Open, Operators, TailDoes, TreeDoes, Unary}
-use Rattle.parser_definitions.specs.Expression.{all_end, by_either, call_at, checked, fails_as}
-use Rattle.parser_definitions.specs.Expression.{first_last, infix_last, next_last, opened, postfix_last}
-use Rattle.parser_definitions.specs.Expression.{wants_on}
-use Rattle.parser_definitions.specs.Left.{End, Left, back}
-use Rattle.parser_definitions.specs.Outcome.{Alike, Does, Outcome, Setting, alike_wants, asks, backs}
-use Rattle.parser_definitions.specs.Outcome.{both, by_alike, cuts, misused, took, wants}
+use Rattle.parser_definitions.specs.Expression.{Call, FoldsOpen, FoldsPostfix, Operators, all_end}
+use Rattle.parser_definitions.specs.Expression.{by_either, checked, fails_as, first_last}
+use Rattle.parser_definitions.specs.Expression.{infix_last, next_last, postfix_last, wants_on}
+use Rattle.parser_definitions.specs.Left.{End, Left}
+use Rattle.parser_definitions.specs.Outcome.{Alike, Outcome, Setting, alike_wants, both, by_alike}
+use Rattle.parser_definitions.specs.Outcome.{took, wants}
 use Rattle.parser_definitions.specs.Then.{Comes, Meets}
 use Rattle.parser_definitions.specs.Then.Steps.{instead, takes_meet, takes_none_meet}
 
@@ -93,23 +90,27 @@ module _ {T V : Type 0} (values : V → V → Type 0) where
       (y z : Outcome (End Q T) (V × Bool)) → Alike values u v → fails_as q u y → fails_as q v z
       → Alike (EndsAlike values) y z
   fails_one q u v y z like =
-      by_alike {alike = values} (λ u v. fails_as q u y → fails_as q v z → Alike (EndsAlike values) y z)
+      by_alike {alike = values}
+      (λ u v. fails_as q u y → fails_as q v z → Alike (EndsAlike values) y z)
       (λ o p left is none nor. absurd none)
       (λ left e f. both (EndsAlike values) e f refl) (λ left e f. both (EndsAlike values) e f refl)
       (λ need left e f. both (EndsAlike values) e f (refl, refl))
       (λ v e k. both (EndsAlike values) {u = wants} {v = z} e refl tt)
-      (λ x k e. both (EndsAlike values) {u = y} {v = wants} refl e (alike_wants (EndsAlike values) y)) u v like
+      (λ x k e. both (EndsAlike values) {u = y} {v = wants} refl e
+      (alike_wants (EndsAlike values) y)) u v like
 
   pub all_one : {Q : Type 0} (q : Q) (all : Bool) (u v : Outcome (Left T) V)
       (y z : Outcome (End Q T) (V × Bool)) → Alike values u v → all_end q all u y
       → all_end q all v z → Alike (EndsAlike values) y z
   all_one {Q} q all u v y z like =
-      by_alike {alike = values} (λ u v. all_end q all u y → all_end q all v z → Alike (EndsAlike values) y z)
+      by_alike {alike = values}
+      (λ u v. all_end q all u y → all_end q all v z → Alike (EndsAlike values) y z)
       (λ o p left is. took_one all o p left is)
       (λ left e f. both (EndsAlike values) e f refl) (λ left e f. both (EndsAlike values) e f refl)
       (λ need left e f. both (EndsAlike values) e f (refl, refl))
       (λ v e k. both (EndsAlike values) {u = wants} {v = z} e refl tt)
-      (λ x k e. both (EndsAlike values) {u = y} {v = wants} refl e (alike_wants (EndsAlike values) y)) u v like
+      (λ x k e. both (EndsAlike values) {u = y} {v = wants} refl e
+      (alike_wants (EndsAlike values) y)) u v like
     where
       took_one : (all : Bool) (o p : V) (left : Left T) → values o p → all_end q all (took o left) y
           → all_end q all (took p left) z → Alike (EndsAlike values) y z
@@ -123,8 +124,8 @@ module _ {T V X Y Z : Type 0} (g : Operators T V X Y Z) {values : V → V → Ty
       → postfixes x z → values v r → FoldsPostfix g at x w m v y → FoldsPostfix g at z w m r u
       → Alike values y u
   postfix_one at x z w m v r y u like is (a, fold, c) (b, also, d) =
-      checked_one values g.units (g.units w.tokens) at a b y u (p.behind at x z m v r a b like is fold also)
-      c d
+      checked_one values g.units (g.units w.tokens) at a b y u
+      (p.behind at x z m v r a b like is fold also) c d
 
   pub open_one : (at : Setting) (x z : X ⊎ (V × Z)) (turn : ℕ) (m : Left T) (v r : V)
       (y u : Outcome (Left T) V) → AlikeSides prefixes (AlikePairs values infixes) x z
@@ -162,7 +163,8 @@ module _ {T V X Y Z : Type 0} (g : Operators T V X Y Z) {values : V → V → Ty
       either_meets (λ w end less not. less_not power call.least less not)
       (takes_none_meet instead (is, refl)) (record {
         one = λ at q w end y u (a, fold, c) (b, also, d).
-            fails_one values end.0 a b y u (postfix_one at x z w end.1 v r a b like is fold also) c d;
+            fails_one values end.0 a b y u
+            (postfix_one at x z w end.1 v r a b like is fold also) c d;
       })
 
   pub next_meets : {Q : Type 0} (call : Call) (v r : V) → values v r → (o u : Option (Y ⊎ Z))
@@ -173,11 +175,13 @@ module _ {T V X Y Z : Type 0} (g : Operators T V X Y Z) {values : V → V → Ty
   next_meets {Q} call v r is None (Some u) like = absurd like
   next_meets {Q} call v r is (Some o) None like = absurd like
   next_meets {Q} call v r is (Some (inl x)) (Some (inl z)) like =
-      subst (λ n. Meets {S = Q} {Q = Q} {T = T} (EndsAlike values) (postfix_last g call (g.postfix_power x) v x) (postfix_last g call n r z))
+      subst (λ n. Meets {S = Q} {Q = Q} {T = T} (EndsAlike values)
+      (postfix_last g call (g.postfix_power x) v x) (postfix_last g call n r z))
       (p.postfix_power x z like) (postfix_meets call (g.postfix_power x) v r x z is like)
   next_meets {Q} call v r is (Some (inl x)) (Some (inr z)) like = absurd like
   next_meets {Q} call v r is (Some (inr x)) (Some (inl z)) like = absurd like
   next_meets {Q} call v r is (Some (inr x)) (Some (inr z)) like =
-      subst (λ n. Meets {S = Q} {Q = Q} {T = T} (EndsAlike values) (infix_last g.units call (g.left_power x) v)
+      subst (λ n. Meets {S = Q} {Q = Q} {T = T} (EndsAlike values)
+      (infix_last g.units call (g.left_power x) v)
       (infix_last g.units call n r)) (p.left_power x z like)
       (infix_meets call (g.left_power x) v r is)
