@@ -11,35 +11,35 @@ use Rattle.parser_definitions.specs.Passed.{Passed, same_passed}
 use Rattle.parser_definitions.specs.Spelled.{ShowSame}
 
 -- No tokens remain, and the output is an empty slice.
-abbrev pub is_end : {S T L : Type 0} → Reading T L → S → L → Case T
-is_end reading s slice at w rest =
+abbrev pub IsAtEnd : {S T L : Type 0} → Reading T L → S → L → Case T
+IsAtEnd reading s slice at w rest =
     (w.tokens ≡ []) × Passed reading [] w rest × reading.shows slice []
 
 -- Tokens remain.
-abbrev pub some_remain : {S T : Type 0} → S → Setting → Left T → Type 0
-some_remain s at w = w.tokens ≡ [] → ⊥
+abbrev pub SomeRemain : {S T : Type 0} → S → Setting → Left T → Type 0
+SomeRemain s at w = w.tokens ≡ [] → ⊥
 
 abbrev pub EofDoes : {S T L : Type 0} → Reading T L → Does S T L
-EofDoes reading = OneCase (TakesWhere (is_end reading)) (FailsWhere some_remain)
+EofDoes reading = OneCase (TakesWhere (IsAtEnd reading)) (FailsWhere SomeRemain)
 
 -- It is not stable: the end of partial input need not be the end of longer input.
 pub eof_law : {S T L : Type 0} (reading : Reading T L)
     → Lawful {S = S} ⊥ (ShowSame reading) (EofDoes reading)
 eof_law reading = cases_law
-    (takes_law (is_end reading) (λ at s w o p rest end (nothing, a, shown) (none, b, too).
+    (takes_law (IsAtEnd reading) (λ at s w o p rest end (nothing, a, shown) (none, b, too).
     (([], shown, too), same_passed refl a b)) (λ never. absurd never))
-    (fails_law some_remain (λ never. absurd never))
+    (fails_law SomeRemain (λ never. absurd never))
     (λ at s w x y (o, rest, (nothing, a, shown), e) (some, f). some nothing)
 
 -- Consumes no input.
-abbrev pub consumes_none : {S T : Type 0} → S → ⊤ → Case T
-consumes_none s o at w rest = rest ≡ w
+abbrev pub ConsumesNone : {S T : Type 0} → S → ⊤ → Case T
+ConsumesNone s o at w rest = rest ≡ w
 
 abbrev pub EmptyDoes : {S T : Type 0} → Does S T ⊤
-EmptyDoes = TakesWhere consumes_none
+EmptyDoes = TakesWhere ConsumesNone
 
 pub empty_law : {S T : Type 0} → Lawful {S = S} {T = T} ⊤ (λ o p. ⊤) EmptyDoes
-empty_law = takes_law consumes_none (λ at s w o p rest end a b. (tt, a ∙ sym b))
+empty_law = takes_law ConsumesNone (λ at s w o p rest end a b. (tt, a ∙ sym b))
     (λ is more flag s w o rest a. ap (λ l. extend more l) a)
 
 abbrev pub FailDoes : {S T O : Type 0} → Does S T O

@@ -136,11 +136,11 @@ CalledIf does = Given (λ q. q.1 ≡ true)
     (Then first does (where_took with_first (λ o. takes with_first (Some o))))
 
 -- Otherwise the output is `None`, and no input is consumed.
-abbrev pub not_called : {S T O : Type 0} → S × Bool → Option O → Case T
-not_called q o at w rest = (q.1 ≡ false) × (o ≡ None) × (rest ≡ w)
+abbrev pub IsNotCalled : {S T O : Type 0} → S × Bool → Option O → Case T
+IsNotCalled q o at w rest = (q.1 ≡ false) × (o ≡ None) × (rest ≡ w)
 
 abbrev pub CondDoes : {S T O : Type 0} → Does S T O → Does (S × Bool) T (Option O)
-CondDoes does = OneCase (CalledIf does) (TakesWhere not_called)
+CondDoes does = OneCase (CalledIf does) (TakesWhere IsNotCalled)
 
 pub cond_law : {S T O : Type 0} {stable : Type 0} {alike : O → O → Type 0} {does : Does S T O}
     → Lawful stable alike does → Lawful stable (AlikeOptions alike) (CondDoes does)
@@ -148,7 +148,7 @@ cond_law {S} {T} {O} {alike = alike} law = cases_law
     (given_law (λ q. q.1 ≡ true) (then_law law
     (meets_where with_first (λ o p like. takes_meet with_first like))
     (holds_where with_first (λ o. takes_hold with_first)) (λ is. is)))
-    (takes_law not_called
+    (takes_law IsNotCalled
     (λ at q w o p rest end (off, e, a) (not, f, b). (
       subst (λ z. AlikeOptions alike z p) (sym e)
           (subst (λ z. AlikeOptions alike None z) (sym f) tt),
