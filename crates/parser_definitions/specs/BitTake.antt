@@ -75,7 +75,7 @@ module _ {O L : Type 0} (number : O → ℕ) (width : ℕ) (reading : Reading Bo
       apart at n fits can (inl wide) = absurd (omega (arith, fits, wide))
       apart at n fits can (inr cannot) = true_is_false (sym can ∙ cannot)
 
-  -- it does not fail where it takes bits
+  -- a `take` does not both return bits and fail
   takes_or_fails : (at : Setting) (n : ℕ) (w : Left Bool) (o : O) (rest : Left Bool)
       (y : Outcome (End ℕ Bool) O) → AreFirstBits n o at w rest → TakeFails at n w y → ⊥
   takes_or_fails at n w o rest y (fits, can, f, many, is, q) (inl ((some, inl wide), d)) =

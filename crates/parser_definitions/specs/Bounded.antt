@@ -1,5 +1,5 @@
 -- Counts within bounds.
-use Rattle.std.specs.Prelude.{◌≡◌, ◌⊎◌, ◌<◌, ◌≤◌, ℕ, Option, Some, None}
+use Rattle.std.specs.Prelude.{◌≡◌, ◌<◌, ◌≤◌, ℕ, Option, Some, None}
 use Rattle.std.proofs.Common.{subst, arith}
 use Rattle.stream_sets.specs.Range.{Bounds, IsBelow, IsWithin}
 use Rattle.parser_definitions.specs.Cases.{Given, MisusedWhere, OneCase, cases_law, given_law}

@@ -1,5 +1,5 @@
 -- Closures that collect the outputs of a repetition in a value.
-use Rattle.std.specs.Prelude.{◌≡◌, ℕ, IsTrue, Option, Some, None, Result, Ok, Err}
+use Rattle.std.specs.Prelude.{◌≡◌, IsTrue, Option, Some, None, Result, Ok, Err}
 use Rattle.std.proofs.Common.{ap, ◌∙◌, sym}
 use Rattle.stream_errors.specs.Given.{Keeping}
 use Rattle.parser_definitions.specs.Folding.{Begun, Built, BuiltFrom, FoldsFrom, FoldsOne, Folding}

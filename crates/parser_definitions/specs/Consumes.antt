@@ -5,8 +5,8 @@ use Rattle.parser_definitions.specs.Cases.{misused_alike, misused_whole}
 use Rattle.parser_definitions.specs.Does.{Lawful}
 use Rattle.parser_definitions.specs.Equal.{AlikeOptions}
 use Rattle.parser_definitions.specs.Left.{End, Left, extend, extend_end}
-use Rattle.parser_definitions.specs.Outcome.{Alike, Does, IsFinal, Outcome, Setting, as_longer, asks}
-use Rattle.parser_definitions.specs.Outcome.{both, grown, longer, misused, on_cut}
+use Rattle.parser_definitions.specs.Outcome.{Alike, Does, IsFinal, Outcome, Setting, as_longer}
+use Rattle.parser_definitions.specs.Outcome.{asks, both, grown, longer, misused, on_cut}
 use Rattle.parser_definitions.specs.Then.{Comes, Holds, Meets, Then, then_law}
 use Rattle.parser_definitions.specs.Then.Steps.{holds_where, instead, meets_where, same, takes}
 use Rattle.parser_definitions.specs.Then.Steps.{takes_hold, takes_meet, where_took}

@@ -1,5 +1,5 @@
--- The definitions of `fill` and `repeat_into_slice`: outputs overwrite the elements of a slice, which
--- are part of the state.
+-- The definitions of `fill` and `repeat_into_slice`: outputs overwrite the elements of a slice,
+-- which are part of the state.
 use Rattle.std.specs.Prelude.{◌≡◌, ◌⊎◌, ◌<◌, ◌+◌, ⊤, ℕ, zero, suc, Bool, false, List, [], ◌∷◌}
 use Rattle.std.specs.Prelude.{length, Option, Some, None}
 use Rattle.std.proofs.Common.{refl, subst, ap, inl, inr, arith}
@@ -10,16 +10,16 @@ use Rattle.parser_definitions.specs.Consumes.{misused_on}
 use Rattle.parser_definitions.specs.Does.{Lawful}
 use Rattle.parser_definitions.specs.Equal.{AlikeOptions}
 use Rattle.parser_definitions.specs.Left.{End, Left, back, extend, extend_end}
-use Rattle.parser_definitions.specs.Loop.{AlikeTurns, Family, Loop, Turn, continues, loop_law, member}
-use Rattle.parser_definitions.specs.Loop.{returns}
+use Rattle.parser_definitions.specs.Loop.{AlikeTurns, Family, Loop, Turn, continues, loop_law}
+use Rattle.parser_definitions.specs.Loop.{member, returns}
 use Rattle.parser_definitions.specs.Outcome.{Alike, Does, IsFinal, Outcome, Setting, alike_wants}
 use Rattle.parser_definitions.specs.Outcome.{as_longer, asks, backs, both, final_by, grown, longer}
 use Rattle.parser_definitions.specs.Outcome.{on_cut, took, wants}
-use Rattle.parser_definitions.specs.Then.{Comes, Holds, Meets, Next, Then, then_law}
-use Rattle.parser_definitions.specs.Then.Steps.{asks_later, asks_meet, asks_on, cuts_hold, cuts_meet}
-use Rattle.parser_definitions.specs.Then.Steps.{cuts_on, first, holds_where, meets_where, takes_none}
-use Rattle.parser_definitions.specs.Then.Steps.{takes_none_hold, takes_none_meet, where_took}
-use Rattle.parser_definitions.specs.Then.Steps.{with_first}
+use Rattle.parser_definitions.specs.Then.{Comes, Holds, Meets, Then, then_law}
+use Rattle.parser_definitions.specs.Then.Steps.{asks_later, asks_meet, asks_on, cuts_hold}
+use Rattle.parser_definitions.specs.Then.Steps.{cuts_meet, cuts_on, first, holds_where, meets_where}
+use Rattle.parser_definitions.specs.Then.Steps.{takes_none, takes_none_hold, takes_none_meet}
+use Rattle.parser_definitions.specs.Then.Steps.{where_took, with_first}
 
 -- the list with this element at an index, if it is long enough
 pub overwrite : {O : Type 0} → ℕ → O → List O → List O
@@ -43,7 +43,8 @@ fills n o at q w end y = y ≡ took (continues (n + 1))
 abbrev pub FillTurn : {S T O : Type 0} → Does S T O → ℕ → Does (S × Buffer O) T (Turn ℕ ⊤)
 FillTurn does n = OneCase
     (Given (λ q. length q.1.elements ≡ n) (λ at q w y. y ≡ took (returns tt) (q, w)))
-    (Given (λ q. n < length q.1.elements) (Then first does (where_took with_first (λ o. fills n o))))
+    (Given (λ q. n < length q.1.elements)
+    (Then first does (where_took with_first (λ o. fills n o))))
 
 abbrev pub FillDoes : {S T O : Type 0} → Does S T O → Does (S × Buffer O) T ⊤
 FillDoes does = Loop (FillTurn does) 0

@@ -1,13 +1,13 @@
 -- The definitions of `fold`, `verify_fold` and `try_fold`: closures make an initial value, and add
 -- each output to it.
 use Rattle.std.specs.Prelude.{◌≡◌, ⊤, IsTrue, Option, Some, None, Result, Ok, Err}
-use Rattle.std.proofs.Common.{ap, ◌∙◌, sym}
+use Rattle.std.proofs.Common.{◌∙◌, sym}
 use Rattle.stream_errors.specs.Given.{Keeping}
 use Rattle.stream_sets.specs.Range.{bounds_of}
 use Rattle.stream_sets.specs.declared.range.Range.{Range}
 use Rattle.parser_definitions.specs.Bounded.{Keyed, keyed_law}
-use Rattle.parser_definitions.specs.Closures.{ClosuresOne, built_in, closures_one, folding}
-use Rattle.parser_definitions.specs.Closures.{folding_in, folds_in, pair_is, trying, verifying}
+use Rattle.parser_definitions.specs.Closures.{built_in, closures_one, folding, folding_in, folds_in}
+use Rattle.parser_definitions.specs.Closures.{pair_is, trying, verifying}
 use Rattle.parser_definitions.specs.Does.{Lawful, wider_law}
 use Rattle.parser_definitions.specs.Equal.{AlikeOptions}
 use Rattle.parser_definitions.specs.Folding.{Built, FoldsOne, Folding}

@@ -156,13 +156,15 @@ started_law {f = f} {alike} {stable} {beside} p n {inner} h =
     member all tt tt
 
 module _ {Q T C O U : Type 0} {f : Folding Q C O} {begins : C → C → Type 0}
-    {alike : O → O → Type 0} (p : FoldsFrom f begins alike) {stable : Type 0} {beside : U → U → Type 0} where
+    {alike : O → O → Type 0} (p : FoldsFrom f begins alike) {stable : Type 0}
+    {beside : U → U → Type 0} where
   pub adds_family : {inner : C → Does Q T U} → Family stable (BuiltFrom f begins alike) beside inner
-      → Family stable (λ a b. BuiltFrom f begins alike a.0 b.0 × alike a.1 b.1) beside (Adds f inner)
+      → Family stable (λ a b. BuiltFrom f begins alike a.0 b.0 × alike a.1 b.1) beside
+      (Adds f inner)
   adds_family {inner} h = record { one = one; whole = whole; stays = stays }
     where
-      one : (x z : C × O) → BuiltFrom f begins alike x.0 z.0 × alike x.1 z.1 → (at : Setting) (q : Q)
-          (w : Left T) (y v : Outcome (End Q T) U) → Adds f inner x at q w y
+      one : (x z : C × O) → BuiltFrom f begins alike x.0 z.0 × alike x.1 z.1 → (at : Setting)
+          (q : Q) (w : Left T) (y v : Outcome (End Q T) U) → Adds f inner x at q w y
           → Adds f inner z at q w v → Alike beside y v
       one x z is at q w y v (inl (c, u, takes, a)) (inl (d, r, also, b)) =
           let P : Q → Type 0 = λ s. inner d at s w v in
@@ -185,7 +187,8 @@ module _ {Q T C O U : Type 0} {f : Folding Q C O} {begins : C → C → Type 0}
           absurd (final_by {y = wants} e final)
 
 module _ {S Q T C O U : Type 0} (put : Q → S → Q) {f : Folding Q C O}
-    {begins : C → C → Type 0} {alike : O → O → Type 0} {beside : U → U → Type 0} (output also : C → U) where
+    {begins : C → C → Type 0} {alike : O → O → Type 0} {beside : U → U → Type 0}
+    (output also : C → U) where
   pub folded_meets : FoldsFrom f begins alike
       → ((c d : C) → BuiltFrom f begins alike c d → beside (output c) (also d)) → (c d : C)
       → BuiltFrom f begins alike c d → (o r : O) → alike o r

@@ -127,7 +127,8 @@ module _ {S N K T L : Type 0} (number : N → ℕ) (most : ℕ) (seen : K → T)
     number_or_not at s w x y
         (n, rest, (f, xs, p, chars, are, some, few, stops, ended, is), e)
         (inr (inl (none, whole), d)) =
-        first_or_none seen code once IsHexDigit f xs w.tokens rest.tokens p.tokens chars are some none
+        first_or_none seen code once IsHexDigit f xs w.tokens rest.tokens p.tokens chars are some
+        none
     number_or_not at s w x y
         (n, rest, (f, xs, p, chars, are, some, few, stops, ended, is), e)
         (inr (inr (g, t, end, split, all, many, member), d)) =

@@ -9,13 +9,13 @@ use Rattle.parser_definitions.specs.Equal.{AlikeOptions}
 use Rattle.parser_definitions.specs.Folding.{BuiltFrom, FoldsFrom, Folding, folded, folded_holds}
 use Rattle.parser_definitions.specs.Folding.{folded_meets}
 use Rattle.parser_definitions.specs.Left.{End, Left, back, extend, extend_end}
-use Rattle.parser_definitions.specs.Loop.{AlikeTurns, Family, Loop, Turn, always, continues, loop_law}
-use Rattle.parser_definitions.specs.Loop.{returns, then_family}
-use Rattle.parser_definitions.specs.Outcome.{Alike, Does, IsFinal, Outcome, Setting, as_longer, asks}
-use Rattle.parser_definitions.specs.Outcome.{backs, both, grown, longer, on_cut, took}
-use Rattle.parser_definitions.specs.Then.{Comes, Holds, Meets, Next, NextHolds, NextMeets, Then}
-use Rattle.parser_definitions.specs.Then.Steps.{asks_later, asks_meet, asks_on, cuts_hold, cuts_meet}
-use Rattle.parser_definitions.specs.Then.Steps.{cuts_on}
+use Rattle.parser_definitions.specs.Loop.{AlikeTurns, Family, Loop, Turn, always, continues}
+use Rattle.parser_definitions.specs.Loop.{loop_law, returns, then_family}
+use Rattle.parser_definitions.specs.Outcome.{Alike, Does, IsFinal, Outcome, Setting, as_longer}
+use Rattle.parser_definitions.specs.Outcome.{asks, backs, both, grown, longer, on_cut, took}
+use Rattle.parser_definitions.specs.Then.{Comes, Holds, Meets, Next, Then}
+use Rattle.parser_definitions.specs.Then.Steps.{asks_later, asks_meet, asks_on, cuts_hold}
+use Rattle.parser_definitions.specs.Then.Steps.{cuts_meet, cuts_on}
 
 -- If the item after `n` others backtracks, they are enough, or too few.
 abbrev pub enough : {S Q T C U : Type 0} → (Q → S → Q) → ℕ → (C → U) → C × ℕ → Comes S Q T U
@@ -58,10 +58,11 @@ abbrev pub Counted : {C : Type 0} → (C → C → Type 0) → C × ℕ → C ×
 Counted built x y = built x.0 y.0 × (x.1 ≡ y.1)
 
 pub item_meets : {S Q T C O R : Type 0} (put : Q → S → Q) {f : Folding Q C O}
-    {begins : C → C → Type 0} {alike : O → O → Type 0} (returned : R → R → Type 0) → FoldsFrom f begins alike → (x z : C × ℕ)
+    {begins : C → C → Type 0} {alike : O → O → Type 0} (returned : R → R → Type 0)
+    → FoldsFrom f begins alike → (x z : C × ℕ)
     → Counted (BuiltFrom f begins alike) x z → (o r : Option O) → AlikeOptions alike o r
-    → Meets {T = T} (AlikeTurns (Counted (BuiltFrom f begins alike)) returned) (item_comes put f x o)
-    (item_comes put f z r)
+    → Meets {T = T} (AlikeTurns (Counted (BuiltFrom f begins alike)) returned)
+    (item_comes put f x o) (item_comes put f z r)
 item_meets put returned p x z is None None like = misused_meets put
 item_meets put returned p x z is None (Some r) like = absurd like
 item_meets put returned p x z is (Some o) None like = absurd like
@@ -110,12 +111,14 @@ module _ {S Q T C U : Type 0} (put : Q → S → Q) (least : ℕ) (output : C �
       stays is more flag q w end y final (inr (few, e)) = inr (few, as_longer more e)
 
 module _ {S Q T C O : Type 0} (get : Q → S) (put : Q → S → Q) {f : Folding Q C O}
-    {stable : Type 0} {begins : C → C → Type 0} {alike : O → O → Type 0} {item : Does S T (Option O)} (p : FoldsFrom f begins alike)
+    {stable : Type 0} {begins : C → C → Type 0} {alike : O → O → Type 0}
+    {item : Does S T (Option O)} (p : FoldsFrom f begins alike)
     (law : Lawful stable (AlikeOptions alike) item) (bounds : Bounds) where
   abbrev Same : Turn (C × ℕ) C → Turn (C × ℕ) C → Type 0
   Same = AlikeTurns (Counted (BuiltFrom f begins alike)) (BuiltFrom f begins alike)
 
-  called : Family stable (Counted (BuiltFrom f begins alike)) Same (λ x. Then get item (items_next put f bounds.least x))
+  called : Family stable (Counted (BuiltFrom f begins alike)) Same
+      (λ x. Then get item (items_next put f bounds.least x))
   called = then_family (always law) (λ x z is. record {
     took = item_meets put (BuiltFrom f begins alike) p x z is;
     backs = enough_meets put bounds.least (λ c. returns c) (BuiltFrom f begins alike)
@@ -129,10 +132,12 @@ module _ {S Q T C O : Type 0} (get : Q → S) (put : Q → S → Q) {f : Folding
     asks = asks_later put;
   }) (λ is. is)
 
-  turn_family : Family stable (Counted (BuiltFrom f begins alike)) Same (ItemsTurn get put f bounds item)
+  turn_family : Family stable (Counted (BuiltFrom f begins alike)) Same
+      (ItemsTurn get put f bounds item)
   turn_family = record { one = one; whole = whole; stays = stays }
     where
-      one : (x z : C × ℕ) → Counted (BuiltFrom f begins alike) x z → (at : Setting) (q : Q) (w : Left T)
+      one : (x z : C × ℕ) → Counted (BuiltFrom f begins alike) x z → (at : Setting) (q : Q)
+          (w : Left T)
           (y v : Outcome (End Q T) (Turn (C × ℕ) C)) → ItemsTurn get put f bounds item x at q w y
           → ItemsTurn get put f bounds item z at q w v → Alike Same y v
       one x z is at q w y v (inl (full, e)) (inl (also, g)) = both Same e g (is.0, refl)
@@ -156,7 +161,8 @@ module _ {S Q T C O : Type 0} (get : Q → S) (put : Q → S → Q) {f : Folding
       stays is x more flag q w y final (inr (below, a)) =
           inr (below, called.stays is x more flag q w y final a)
 
-  pub items_law : Family stable (BuiltFrom f begins alike) (BuiltFrom f begins alike) (Items get put f bounds item)
+  pub items_law : Family stable (BuiltFrom f begins alike) (BuiltFrom f begins alike)
+      (Items get put f bounds item)
   items_law =
       let law = loop_law turn_family in record {
         one = λ c d is. law.one (c, 0) (d, 0) (is, refl);

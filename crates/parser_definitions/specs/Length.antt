@@ -46,7 +46,7 @@ length_law get put number following one law each = then_law law
 
 -- ---- `length_take`
 
--- A length, and that many tokens.
+-- A length, and as many tokens as it says.
 abbrev pub LengthTakeDoes : {S T N L : Type 0} → (N → ℕ) → Reading T L → Bool → Does S T N
     → Does S T L
 LengthTakeDoes number reading counts count =
@@ -70,7 +70,7 @@ on_their_own at = record { form = at.form; more = false; possible = at.possible 
 abbrev pub only : {T : Type 0} → List T → Left T → Left T
 only taken w = record w { tokens = taken }
 
--- the outcome with `rest` as what is left: the tokens that the child leaves are discarded, and
+-- the outcome with the rest `rest`: the tokens after the child's match are discarded, and
 -- `Incomplete` is a backtrack
 abbrev pub leaving : {S T O : Type 0} → Left T → Outcome (End S T) O → Outcome (End S T) O
 leaving rest (took o end) = took o (end.0, rest)
@@ -151,7 +151,7 @@ module _ {S T L O : Type 0} (reading : Reading T L) where
           length-append f rest.tokens,
         )))
 
-  -- A length, and a child on that many tokens, as an input of their own.
+  -- A length, and a child on `n` tokens as a complete input, where `n` is the number of the length.
   abbrev pub LengthAndThenDoes : {V N : Type 0} → (N → ℕ) → Bool → Does V T N → Does S T O
       → Does (V × S) T O
   LengthAndThenDoes number counts count does =

@@ -13,7 +13,7 @@ use Rattle.parser_definitions.specs.Then.Steps.{first, second, with_first, with_
 abbrev pub times : ℕ → Bounds
 times n = from_to n (Some n)
 
--- A length, and that many items into an accumulator.
+-- A length, and as many items as it says, into an accumulator.
 abbrev pub LengthRepeatDoes : {V S T N C O : Type 0} → (N → ℕ) → Accumulator C O → Does V T N
     → Does S T O → Does (V × S) T C
 LengthRepeatDoes number into count does =

@@ -18,6 +18,8 @@ pub mod Does
 pub mod Eof
 pub mod Equal
 pub mod Errors
+pub mod Escaped
+pub mod Expression
 pub mod Fill
 pub mod FlatMap
 pub mod Fold
@@ -41,11 +43,13 @@ pub mod Number
 pub mod NumberGrammar
 pub mod Numeral
 pub mod OneOf
+pub mod Operators
 pub mod Opt
 pub mod Outcome
 pub mod Outputs
 pub mod Passed
 pub mod Peek
+pub mod Places
 pub mod Projects
 pub mod Recover
 pub mod Repeat
@@ -60,9 +64,11 @@ pub mod Settles
 pub mod Shown
 pub mod Spelled
 pub mod Take
+pub mod TakeEscaped
 pub mod TakeUntil
 pub mod TakeWhile
 pub mod Then
+pub mod Threes
 pub mod TillLineEnding
 pub mod TryMap
 pub mod Tuples

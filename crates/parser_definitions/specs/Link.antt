@@ -2,7 +2,7 @@
 use Rattle.std.specs.Prelude.{Option, Some, None}
 use Rattle.parser_definitions.specs.Consumes.{by_consuming, consuming_holds, consuming_meets}
 use Rattle.parser_definitions.specs.Does.{Lawful}
-use Rattle.parser_definitions.specs.Equal.{AlikeOptions, AlikePairs}
+use Rattle.parser_definitions.specs.Equal.{AlikeOptions}
 use Rattle.parser_definitions.specs.Outcome.{Does}
 use Rattle.parser_definitions.specs.Then.{Comes, Then, then_law}
 use Rattle.parser_definitions.specs.Then.Steps.{first, holds_where, meets_where, second, takes}

@@ -1,5 +1,5 @@
 -- Loops: a turn is called until it returns or fails.
-use Rattle.std.specs.Prelude.{◌≡◌, ℕ, Bool, true, false, List, Option}
+use Rattle.std.specs.Prelude.{◌≡◌, ℕ, Bool, false, List, Option}
 use Rattle.std.proofs.Common.{refl, sym, subst}
 use Rattle.parser_definitions.specs.Does.{Lawful}
 use Rattle.parser_definitions.specs.Left.{End, Left, back, extend}
@@ -8,8 +8,9 @@ use Rattle.parser_definitions.specs.Outcome.{asks, backs, both, cuts, grown, lon
 use Rattle.parser_definitions.specs.Outcome.{wants}
 use Rattle.parser_definitions.specs.Then.{Comes, ComesOf, Holds, Meets, Next, NextHolds, NextMeets}
 use Rattle.parser_definitions.specs.Then.{Then, final_comes, one_comes, stays_comes, whole_comes}
-use Rattle.parser_definitions.specs.Then.Steps.{and_then, holds_where, instead, meets_where, or_else}
-use Rattle.parser_definitions.specs.Then.Steps.{same, takes, takes_hold, takes_meet, where_took}
+use Rattle.parser_definitions.specs.Then.Steps.{and_then, holds_where, instead, meets_where}
+use Rattle.parser_definitions.specs.Then.Steps.{or_else, same, takes, takes_hold, takes_meet}
+use Rattle.parser_definitions.specs.Then.Steps.{where_took}
 
 -- The output of a turn: a value with which the loop continues, or the output of the loop.
 pub data Turn (C R : Type 0) : Type 0 where

@@ -25,7 +25,7 @@ abbrev pub is_none : List ℕ → Bool
 is_none [] = true
 is_none (c ∷ cs) = false
 
--- what is left after an incomplete numeral: for plain errors, no input is consumed
+-- the rest after an incomplete numeral: for plain errors, no input is consumed
 abbrev pub left_for : {T : Type 0} → ErrorForm → Left T → Left T → Left T
 left_for plain w passed = w
 left_for modal w passed = passed

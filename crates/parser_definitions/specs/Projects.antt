@@ -11,18 +11,23 @@ use Rattle.parser_definitions.specs.Outcome.{misused, took, wants}
 pub mod Choices
 pub mod Decimals
 pub mod Errors
+pub mod Gathers
 pub mod Integers
 pub mod Items
 pub mod Length
+pub mod LengthRepeat
 pub mod Lines
 pub mod Literals
 pub mod Numbers
 pub mod Numerals
 pub mod Once
 pub mod Outputs
+pub mod Repeats
+pub mod Separates
 pub mod Sequences
 pub mod Settled
 pub mod Then
+pub mod Throughout
 pub mod Tokens
 pub mod Within
 

@@ -1,10 +1,10 @@
 -- The definition of `repeat`.
-use Rattle.std.specs.Prelude.{◌≡◌, List, Option, None}
+use Rattle.std.specs.Prelude.{◌≡◌, None}
 use Rattle.stream_sets.specs.Accumulator.{Accumulator}
 use Rattle.stream_sets.specs.Range.{Bounds, bounds_of, from_to}
 use Rattle.stream_sets.specs.declared.range.Range.{Range}
-use Rattle.parser_definitions.specs.Bounded.{Bounded, IfElse, Keyed, bounded_law, capacity_of, if_law}
-use Rattle.parser_definitions.specs.Bounded.{keyed_law}
+use Rattle.parser_definitions.specs.Bounded.{Bounded, IfElse, Keyed, bounded_law, capacity_of}
+use Rattle.parser_definitions.specs.Bounded.{if_law, keyed_law}
 use Rattle.parser_definitions.specs.Consumes.{Item, item_law}
 use Rattle.parser_definitions.specs.Does.{Lawful}
 use Rattle.parser_definitions.specs.Folding.{Adds, Built, FoldsOne, Folding, Started, adds_family}
@@ -13,8 +13,8 @@ use Rattle.parser_definitions.specs.Items.{Items, items_law}
 use Rattle.parser_definitions.specs.Loop.{family_holds, family_meets}
 use Rattle.parser_definitions.specs.Outcome.{Does}
 use Rattle.parser_definitions.specs.Then.{Then, then_law}
-use Rattle.parser_definitions.specs.Then.Steps.{and_then, first, holds_where, meets_where, where_took}
-use Rattle.parser_definitions.specs.Then.Steps.{with_first}
+use Rattle.parser_definitions.specs.Then.Steps.{and_then, first, holds_where, meets_where}
+use Rattle.parser_definitions.specs.Then.Steps.{where_took, with_first}
 
 module _ {S Q T C O : Type 0} (get : Q → S) (put : Q → S → Q) (f : Folding Q C O)
     (does : Does S T O) where

@@ -1,30 +1,30 @@
 -- The definition of `repeat_till`.
-use Rattle.std.specs.Prelude.{◌≡◌, ◌⊎◌, ◌-◌, ◌+◌, ℕ, Bool, false, List, Option, Some, None}
+use Rattle.std.specs.Prelude.{◌≡◌, ◌⊎◌, ◌-◌, ℕ, Bool, false, List, Option, Some, None}
 use Rattle.std.proofs.Common.{refl, sym, subst, inl, inr}
 use Rattle.stream_sets.specs.Accumulator.{Accumulator}
 use Rattle.stream_sets.specs.Range.{Bounds, IsBelow, bounds_of, from_to}
 use Rattle.stream_sets.specs.declared.range.Range.{Range}
-use Rattle.parser_definitions.specs.Bounded.{Bounded, Keyed, bounded_law, capacity_of, full_is_below}
-use Rattle.parser_definitions.specs.Bounded.{keyed_law}
+use Rattle.parser_definitions.specs.Bounded.{Bounded, Keyed, bounded_law, capacity_of}
+use Rattle.parser_definitions.specs.Bounded.{full_is_below, keyed_law}
 use Rattle.parser_definitions.specs.Consumes.{Item, item_law}
 use Rattle.parser_definitions.specs.Does.{Lawful}
 use Rattle.parser_definitions.specs.Equal.{AlikeOptions, AlikePairs}
-use Rattle.parser_definitions.specs.Folding.{Built, FoldsOne, Folding, Started, gathering, gathers_one}
-use Rattle.parser_definitions.specs.Folding.{started_law}
+use Rattle.parser_definitions.specs.Folding.{Built, FoldsOne, Folding, Started, gathering}
+use Rattle.parser_definitions.specs.Folding.{gathers_one, started_law}
 use Rattle.parser_definitions.specs.Items.{Counted, Items, item_comes, item_holds, item_meets}
 use Rattle.parser_definitions.specs.Items.{items_law}
 use Rattle.parser_definitions.specs.Left.{End, Left, extend, extend_end}
-use Rattle.parser_definitions.specs.Loop.{AlikeTurns, Family, Loop, Turn, always, continues}
-use Rattle.parser_definitions.specs.Loop.{family_holds, family_holds_else, family_meets}
-use Rattle.parser_definitions.specs.Loop.{family_meets_else, loop_law, returns, then_family}
-use Rattle.parser_definitions.specs.Outcome.{Alike, Does, IsFinal, Outcome, Setting, as_longer, asks}
-use Rattle.parser_definitions.specs.Outcome.{grown, longer, on_cut}
-use Rattle.parser_definitions.specs.Then.{Comes, Holds, Meets, Next, Then, then_law}
-use Rattle.parser_definitions.specs.Then.Steps.{and_then, asks_later, asks_meet, asks_on, backs_meet}
-use Rattle.parser_definitions.specs.Then.Steps.{backs_on, cuts_hold, cuts_meet, cuts_on}
-use Rattle.parser_definitions.specs.Then.Steps.{first, holds_where, instead, meets_where, or_else}
-use Rattle.parser_definitions.specs.Then.Steps.{same, takes, takes_hold, takes_meet, where_took}
-use Rattle.parser_definitions.specs.Then.Steps.{with_first}
+use Rattle.parser_definitions.specs.Loop.{AlikeTurns, Family, Loop, Turn, always, family_holds}
+use Rattle.parser_definitions.specs.Loop.{family_holds_else, family_meets, family_meets_else}
+use Rattle.parser_definitions.specs.Loop.{loop_law, returns, then_family}
+use Rattle.parser_definitions.specs.Outcome.{Alike, Does, IsFinal, Outcome, Setting, as_longer}
+use Rattle.parser_definitions.specs.Outcome.{asks, grown, longer, on_cut}
+use Rattle.parser_definitions.specs.Then.{Comes, Holds, Meets, Then, then_law}
+use Rattle.parser_definitions.specs.Then.Steps.{and_then, asks_later, asks_meet, asks_on}
+use Rattle.parser_definitions.specs.Then.Steps.{backs_meet, backs_on, cuts_hold, cuts_meet, cuts_on}
+use Rattle.parser_definitions.specs.Then.Steps.{holds_where, instead, meets_where, or_else, same}
+use Rattle.parser_definitions.specs.Then.Steps.{takes, takes_hold, takes_meet, where_took}
+use Rattle.parser_definitions.specs.Threes.{one_of, two_of, with_one, with_two}
 
 -- how many items may follow the least, if there is a greatest number
 abbrev pub room_behind : ℕ → Option ℕ → Option ℕ
@@ -67,11 +67,10 @@ module _ {S W Q T C O D : Type 0} (get : Q → S) (put : Q → S → Q) (pick : 
 
 -- Items within a range and a terminator.
 abbrev pub RepeatTillDoes : {S W T C O D : Type 0} → Accumulator C O → Does S T O → Does W T D
-    → Does (S × (W × Range)) T (C × D)
-RepeatTillDoes into does till = Keyed (λ q. bounds_of q.1.1) (λ bounds.
+    → Does (S × W × Range) T (C × D)
+RepeatTillDoes into does till = Keyed (λ q. bounds_of q.2) (λ bounds.
     Bounded bounds (Started (gathering into) (capacity_of bounds.least bounds.greatest)
-    (ItemsTill first with_first (λ q. q.1.0) (λ q v. (q.0, (v, q.1.1))) (gathering into) does till
-    bounds)))
+    (ItemsTill one_of with_one two_of with_two (gathering into) does till bounds)))
 
 -- ---- laws
 
@@ -124,7 +123,8 @@ module _ {S W Q T C O D : Type 0} (get : Q → S) (put : Q → S → Q) (pick : 
   abbrev Output : C × D → C × D → Type 0
   Output = AlikePairs (Built f alike) ends
 
-  turn_item : Family (sure × also) (Counted (Built f alike)) (AlikeTurns (Counted (Built f alike)) Output)
+  turn_item : Family (sure × also) (Counted (Built f alike))
+      (AlikeTurns (Counted (Built f alike)) Output)
       (TurnItem get put pick keep f does till)
   turn_item = then_family (always (item_law law)) (λ x z is.
       meets_where put (item_meets put Output p.folds x z is)) (λ x.
@@ -158,7 +158,8 @@ module _ {S W Q T C O D : Type 0} (get : Q → S) (put : Q → S → Q) (pick : 
       (ItemsTill get put pick keep f does till bounds)
   items_till_law bounds =
       let turns = turns_law (room_behind bounds.least bounds.greatest) in
-      then_family (items_law get put p.folds (every_law law) (from_to bounds.least (Some bounds.least)))
+      then_family
+      (items_law get put p.folds (every_law law) (from_to bounds.least (Some bounds.least)))
       (λ c d is. meets_where instead (λ a b held. family_meets instead turns a b held))
       (λ c. holds_where instead (λ a. family_holds instead turns a)) (λ is. is.0)
 
@@ -166,10 +167,10 @@ pub repeat_till_law : {S W T C O D : Type 0} {sure also : Type 0} {alike : O →
     {ends : D → D → Type 0} (into : Accumulator C O) {does : Does S T O} {till : Does W T D}
     → Lawful sure alike does → Lawful also ends till
     → Lawful (sure × also)
-    (AlikePairs (Built (gathering {Q = S × (W × Range)} into) alike) ends)
+    (AlikePairs (Built (gathering {Q = S × W × Range} into) alike) ends)
     (RepeatTillDoes into does till)
-repeat_till_law {S} {W} {alike = alike} into law stop = keyed_law (λ q. bounds_of q.1.1) (λ bounds.
+repeat_till_law {S} {W} {alike = alike} into law stop = keyed_law (λ q. bounds_of q.2) (λ bounds.
     bounded_law bounds (started_law (gathers_one into alike)
     (capacity_of bounds.least bounds.greatest)
-    (items_till_law first with_first (λ q. q.1.0) (λ q v. (q.0, (v, q.1.1)))
+    (items_till_law one_of with_one two_of with_two
     (gathers_one into alike) law stop bounds)))

@@ -4,8 +4,8 @@ use Rattle.std.proofs.Common.{refl, inl, inr}
 use Rattle.stream_sets.specs.Accumulator.{Accumulator}
 use Rattle.stream_sets.specs.Range.{Bounds, IsBelow, bounds_of, from_to}
 use Rattle.stream_sets.specs.declared.range.Range.{Range}
-use Rattle.parser_definitions.specs.Bounded.{Bounded, Keyed, bounded_law, capacity_of, full_is_below}
-use Rattle.parser_definitions.specs.Bounded.{keyed_law}
+use Rattle.parser_definitions.specs.Bounded.{Bounded, Keyed, bounded_law, capacity_of}
+use Rattle.parser_definitions.specs.Bounded.{full_is_below, keyed_law}
 use Rattle.parser_definitions.specs.Does.{Lawful}
 use Rattle.parser_definitions.specs.Folding.{Adds, Built, FoldsOne, Folding, Started, adds_family}
 use Rattle.parser_definitions.specs.Folding.{gathering, gathers_one, started_law}
@@ -13,11 +13,12 @@ use Rattle.parser_definitions.specs.Items.{Items, enough, enough_holds, enough_m
 use Rattle.parser_definitions.specs.Left.{End, Left, extend}
 use Rattle.parser_definitions.specs.Link.{Link, link_law}
 use Rattle.parser_definitions.specs.Loop.{Family, always, family_holds, family_meets, then_family}
-use Rattle.parser_definitions.specs.Outcome.{Alike, Does, IsFinal, Outcome, Setting, as_longer, asks}
-use Rattle.parser_definitions.specs.Outcome.{both, grown, longer, on_cut, took}
+use Rattle.parser_definitions.specs.Outcome.{Alike, Does, IsFinal, Outcome, Setting, as_longer}
+use Rattle.parser_definitions.specs.Outcome.{asks, both, grown, longer, on_cut, took}
 use Rattle.parser_definitions.specs.Then.{Then}
 use Rattle.parser_definitions.specs.Then.Steps.{and_then, asks_later, asks_meet, asks_on, cuts_hold}
-use Rattle.parser_definitions.specs.Then.Steps.{cuts_meet, cuts_on, first, with_first}
+use Rattle.parser_definitions.specs.Then.Steps.{cuts_meet, cuts_on}
+use Rattle.parser_definitions.specs.Threes.{one_of, pair_of, with_one, with_pair}
 
 -- the greatest number of links, by that of elements
 abbrev pub one_less : Option ℕ → Option ℕ
@@ -52,10 +53,10 @@ module _ {S W Q T C O D : Type 0} (get : Q → S) (put : Q → S → Q) (pick : 
 
 -- Elements within a range with separators between them, into an accumulator.
 abbrev pub SeparatedDoes : {S W T C O D : Type 0} → Accumulator C O → Does S T O → Does W T D
-    → Does (S × (W × Range)) T C
-SeparatedDoes into element separator = Keyed (λ q. bounds_of q.1.1) (λ bounds.
+    → Does (S × W × Range) T C
+SeparatedDoes into element separator = Keyed (λ q. bounds_of q.2) (λ bounds.
     Bounded bounds (Started (gathering into) (capacity_of bounds.least bounds.greatest)
-    (Elements first with_first (λ q. (q.0, q.1.0)) (λ q l. (l.0, (l.1, q.1.1))) (gathering into)
+    (Elements one_of with_one pair_of with_pair (gathering into)
     element separator bounds)))
 
 -- ---- laws
@@ -119,10 +120,10 @@ module _ {S W Q T C O D : Type 0} (get : Q → S) (put : Q → S → Q) (pick : 
 pub separated_law : {S W T C O D : Type 0} {sure also : Type 0} {alike : O → O → Type 0}
     {marks : D → D → Type 0} (into : Accumulator C O) {element : Does S T O}
     {separator : Does W T D} → Lawful sure alike element → Lawful also marks separator
-    → Lawful (sure × also) (Built (gathering {Q = S × (W × Range)} into) alike)
+    → Lawful (sure × also) (Built (gathering {Q = S × W × Range} into) alike)
     (SeparatedDoes into element separator)
-separated_law {S} {W} {alike = alike} into law mark = keyed_law (λ q. bounds_of q.1.1) (λ bounds.
+separated_law {S} {W} {alike = alike} into law mark = keyed_law (λ q. bounds_of q.2) (λ bounds.
     bounded_law bounds (started_law (gathers_one into alike)
     (capacity_of bounds.least bounds.greatest)
-    (elements_law first with_first (λ q. (q.0, q.1.0)) (λ q l. (l.0, (l.1, q.1.1)))
+    (elements_law one_of with_one pair_of with_pair
     (gathers_one into alike) law mark bounds)))

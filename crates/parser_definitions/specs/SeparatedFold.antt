@@ -1,7 +1,7 @@
 -- The definitions of `separated_foldl1` and `separated_foldr1`.
-use Rattle.std.specs.Prelude.{◌≡◌, ⊤, List, [], ◌∷◌, ◌++◌, Option, None}
+use Rattle.std.specs.Prelude.{◌≡◌, ⊤, List, [], ◌∷◌, ◌++◌, None}
 use Rattle.std.specs.declared.vec.Vec.{Vec}
-use Rattle.std.proofs.Common.{refl, sym, subst, ap, ◌∙◌}
+use Rattle.std.proofs.Common.{sym, subst, ap, ◌∙◌}
 use Rattle.stream_sets.specs.Accumulator.{list_kept}
 use Rattle.stream_sets.specs.Range.{from_to}
 use Rattle.parser_definitions.specs.Both.{BothDo, pair_law}
@@ -16,16 +16,10 @@ use Rattle.parser_definitions.specs.Loop.{family_holds, family_meets}
 use Rattle.parser_definitions.specs.Outcome.{Does, as_longer, both, took}
 use Rattle.parser_definitions.specs.Repeat.{Many, many_law}
 use Rattle.parser_definitions.specs.Then.{Comes, Then, then_law}
-use Rattle.parser_definitions.specs.Then.Steps.{and_then, first, holds_where, instead, meets_where}
-use Rattle.parser_definitions.specs.Then.Steps.{same, then_holds, then_meets, then_next, where_took}
-use Rattle.parser_definitions.specs.Then.Steps.{with_first}
-
--- the closure, beside the element and the separator
-abbrev pub closure : {S W H : Type 0} → S × (W × H) → H
-closure q = q.1.1
-
-abbrev pub with_closure : {S W H : Type 0} → S × (W × H) → H → S × (W × H)
-with_closure q h = (q.0, (q.1.0, h))
+use Rattle.parser_definitions.specs.Then.Steps.{and_then, holds_where, instead, meets_where, same}
+use Rattle.parser_definitions.specs.Then.Steps.{then_holds, then_meets, then_next, where_took}
+use Rattle.parser_definitions.specs.Threes.{one_of, pair_of, three_of, turned_of, with_one}
+use Rattle.parser_definitions.specs.Threes.{with_pair, with_three, with_turned}
 
 -- ---- to the left
 
@@ -41,17 +35,17 @@ joining step = record {
 
 -- links after the first element, any number of them
 abbrev pub JoinsLinks : {S W H T O D : Type 0} → (H → O → D → O → O → H → Type 0) → Does S T O
-    → Does W T D → O → Does (S × (W × H)) T O
+    → Does W T D → O → Does (S × W × H) T O
 JoinsLinks step element separator =
-    Items (λ q. (q.0, q.1.0)) (λ q l. (l.0, (l.1, q.1.1)))
-    (folding_in closure with_closure (joining step)) (from_to 0 None)
+    Items pair_of with_pair
+    (folding_in three_of with_three (joining step)) (from_to 0 None)
     (Link (λ d o. (d, o)) element separator)
 
 -- The first element, to which each link is joined when it is parsed.
 abbrev pub SeparatedFoldl1Does : {S W H T O D : Type 0} → (H → O → D → O → O → H → Type 0)
-    → Does S T O → Does W T D → Does (S × (W × H)) T O
-SeparatedFoldl1Does step element separator = Then first element
-    (where_took with_first (λ o. and_then with_first (JoinsLinks step element separator o)))
+    → Does S T O → Does W T D → Does (S × W × H) T O
+SeparatedFoldl1Does step element separator = Then one_of element
+    (where_took with_one (λ o. and_then with_one (JoinsLinks step element separator o)))
 
 -- Equal elements, or values that a closure in one state joined from equal ones.
 abbrev pub AlikeLeft : {H O D : Type 0} → (H → O → D → O → O → H → Type 0) → (O → O → Type 0)
@@ -80,13 +74,13 @@ separated_foldl1_law {S} {W} {H} {T} {O} {D} {alike = alike} {marks} {element} {
       other = λ h b c o p e u v is like none y. none;
       rejected = λ h b c o p u v is like none y. absurd none;
     } in
-    let links = items_law (λ (q : S × (W × H)). (q.0, q.1.0)) (λ q l. (l.0, (l.1, q.1.1)))
-    (folds_from_in closure with_closure (joining step) {begins = alike} (λ c d is. is) joins)
+    let links = items_law (pair_of {X = S} {Y = W} {Z = H}) with_pair
+    (folds_from_in three_of with_three (joining step) {begins = alike} (λ c d is. is) joins)
     (link_law (λ d o. (d, o)) (λ d e o p m like. (m, like)) law mark) (from_to 0 None) in
-    wider_law (built_from_in closure with_closure (joining step) (λ c d is. is))
+    wider_law (built_from_in three_of with_three (joining step) (λ c d is. is))
     (then_law law
-    (meets_where with_first (λ o p like. family_meets with_first links o p (begun like)))
-    (holds_where with_first (λ o. family_holds with_first links o)) (λ is. is.0))
+    (meets_where with_one (λ o p like. family_meets with_one links o p (begun like)))
+    (holds_where with_one (λ o. family_holds with_one links o)) (λ is. is.0))
 
 -- ---- to the right
 
@@ -100,23 +94,23 @@ FoldsRight {H} {O} step h o (link ∷ links) v k =
 
 -- all links are folded
 abbrev pub folds_links : {S W H T O D A : Type 0} → (H → O → D → O → O → H → Type 0) → O
-    → Vec (D × O) A → Comes (S × (W × H)) (S × (W × H)) T O
+    → Vec (D × O) A → Comes (S × W × H) (S × W × H) T O
 folds_links {H = H} {O = O} step o links at q w end y =
-    (v : O) × (k : H) × FoldsRight step (closure end.0) o links.items v k
-    × (y ≡ took v (with_closure end.0 k, end.1))
+    (v : O) × (k : H) × FoldsRight step (three_of end.0) o links.items v k
+    × (y ≡ took v (with_three end.0 k, end.1))
 
 -- pairs of a separator and an element, any number of them, in a list with an allocator of type A
 abbrev pub PairsDo : {S W H T O D : Type 0} (A : Type 0) → Does S T O → Does W T D
-    → Does (S × (W × H)) T (Vec (D × O) A)
+    → Does (S × W × H) T (Vec (D × O) A)
 PairsDo A element separator =
-    Many (λ q. (q.1.0, q.0)) (λ q l. (l.1, (l.0, q.1.1))) (gathering (list_kept {A = A}))
+    Many turned_of with_turned (gathering (list_kept {A = A}))
     (BothDo (λ d o. (d, o)) separator element) (from_to 0 None)
 
 -- The first element, and pairs, which are folded when all are parsed.
 abbrev pub SeparatedFoldr1Does : {S W H T O D : Type 0} (A : Type 0)
-    → (H → O → D → O → O → H → Type 0) → Does S T O → Does W T D → Does (S × (W × H)) T O
-SeparatedFoldr1Does A step element separator = Then first element (where_took with_first (λ o.
-    then_next with_first same (PairsDo A element separator)
+    → (H → O → D → O → O → H → Type 0) → Does S T O → Does W T D → Does (S × W × H) T O
+SeparatedFoldr1Does A step element separator = Then one_of element (where_took with_one (λ o.
+    then_next with_one same (PairsDo A element separator)
     (where_took instead (λ links. folds_links step o links))))
 
 -- Equal elements, or values that a closure in one state joined from equal ones.
@@ -180,21 +174,21 @@ pub separated_foldr1_law : {S W H T O D : Type 0} (A : Type 0) {sure also : Type
 separated_foldr1_law {S} {W} {H} {T} {O} {D} A {sure} {also} {alike} {marks} {element} {separator}
     step one law mark =
     let pairs : Lawful (also × sure)
-    (Built (gathering {Q = S × (W × H)} (list_kept {A = A})) (AlikePairs marks alike))
+    (Built (gathering {Q = S × W × H} (list_kept {A = A})) (AlikePairs marks alike))
     (PairsDo A element separator) =
-    many_law (λ (q : S × (W × H)). (q.1.0, q.0)) (λ q l. (l.1, (l.0, q.1.1)))
+    many_law (turned_of {X = S} {Y = W} {Z = H}) with_turned
     (gathers_one list_kept (AlikePairs marks alike)) (pair_law mark law) (from_to 0 None) in
     then_law law
-    (meets_where with_first (λ o p like. then_meets with_first same pairs
+    (meets_where with_one (λ o p like. then_meets with_one same pairs
     (meets_where instead {came = λ links. folds_links step o links}
     {also = λ links. folds_links step p links} (λ c d is. record {
       one = λ at q w end y z (u, k, a, e) (v, l, b, f).
-          let (values, state) = folds_alike step one (closure end.0) o p c.items d.items u v k l
+          let (values, state) = folds_alike step one (three_of end.0) o p c.items d.items u v k l
           like (alike_items (AlikePairs marks alike) c d is) a b in
           both (AlikeRight step alike marks) e f
-          (values, ap (λ h. (with_closure end.0 h, end.1)) state);
+          (values, ap (λ h. (with_three end.0 h, end.1)) state);
     }))))
-    (holds_where with_first (λ o. then_holds with_first same (λ is. (is.1, is.0)) pairs
+    (holds_where with_one (λ o. then_holds with_one same (λ is. (is.1, is.0)) pairs
     (holds_where instead {came = λ links. folds_links step o links} (λ c. record {
       whole = λ at q w end need place is (u, k, a, e). absurd (cc);
       stays = λ is more flag q w end y final (u, k, a, e). (u, k, a, as_longer more e);

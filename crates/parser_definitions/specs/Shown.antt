@@ -17,7 +17,7 @@ pub first_of_none : {P T : Type 0} {x : T} {tokens rest : List T} → tokens ≡
 first_of_none e f = absurd (cc)
 
 module _ {T L : Type 0} {reading : Reading T L} where
-  -- calls that pass as many tokens pass the same ones
+  -- calls that pass equally many tokens pass the same ones
   pub passed_as_many : {f g : List T} {start rest end : Left T} → length f ≡ length g
       → Passed reading f start rest → Passed reading g start end → (f ≡ g) × (rest ≡ end)
   passed_as_many {f} {g} {rest = rest} {end} many p q =

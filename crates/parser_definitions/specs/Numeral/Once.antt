@@ -46,7 +46,7 @@ module _ {K T L : Type 0} (seen : K → T) (code : K → ℕ) (reading : Reading
   one_sign signed w sign other a b (inr (none, e, same)) (inr (never, f, stays)) =
       (e ∙ sym f, same ∙ sym stays)
 
-  -- the first of characters that are spelled by some numbers
+  -- the first character of some digits
   abbrev FirstIs : List T → ℕ → List ℕ → Type 0
   FirstIs front first others =
       (t : T) × (ts : List T) × (front ≡ t ∷ ts) × IsOf seen code once t first

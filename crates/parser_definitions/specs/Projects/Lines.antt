@@ -86,7 +86,8 @@ module _ {S T L : Type 0} (reading : Reading T L) (spells : Bor (List ℕ) → L
       ])
       (reads_of (crlf_projects reading spells as_many by_text form end.0))
 
-  pub line_ending_projects : Projects (LineEndingDoes reading spells) form s (LineEnd reading spells)
+  pub line_ending_projects : Projects (LineEndingDoes reading spells) form s
+      (LineEnd reading spells)
   line_ending_projects = projects
       (either_unique (text_unique reading spells as_many by_text (10 ∷ []))
       (text_unique reading spells as_many by_text (13 ∷ 10 ∷ [])))

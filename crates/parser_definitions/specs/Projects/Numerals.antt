@@ -13,7 +13,7 @@ use Rattle.parser_definitions.specs.Outcome.{Setting}
 use Rattle.parser_definitions.specs.Passed.{Passed}
 use Rattle.parser_definitions.specs.Projects.{complete}
 
--- what is left after some tokens
+-- the rest after the tokens `front`
 abbrev pub after : {T L : Type 0} → Reading T L → List T → List T → Left T → Left T
 after reading front rest w = record {
   tokens = rest;
@@ -48,7 +48,8 @@ module _ {K T : Type 0} (seen : K → T) (code : K → ℕ) where
 
     digits_at : (zero : Bool) (at : Setting) (w : Left T) (digits : List ℕ) (rest : Left T)
         → HasDigits seen code reading zero at w digits rest
-        → (front : List T) × (w.tokens ≡ front ++ rest.tokens) × AreCharacters seen code front digits
+        → (front : List T) × (w.tokens ≡ front ++ rest.tokens)
+        × AreCharacters seen code front digits
         × (((zero ≡ true) × (digits ≡ 48 ∷ [])) ⊎ IsLeading digits)
         × ((digits ≡ 48 ∷ []) ⊎ NoneFirst seen code IsDecDigit rest.tokens)
     digits_at zero at w digits rest (inl (x, may, is, p, e)) = (
@@ -170,7 +171,7 @@ module _ {K T : Type 0} (seen : K → T) (code : K → ℕ) where
         (subst (λ l. AreCharacters seen code front l) is chars)
         (omega (arith, leads.0), leads.1) e
 
-    -- what is left after the numeral has these tokens
+    -- a numeral is passed, and `rest` is the tokens after it
     abbrev IsPassed : Bool → ErrorForm → Left T → List ℕ → List ℕ → List T → Type 0
     IsPassed signed form w sign digits rest =
         (b : Left T) × HasNumeral seen code reading signed (complete form) w sign digits b

@@ -11,8 +11,8 @@ use Rattle.parser_definitions.specs.Then.Steps.{In, asks_on, backs_on, backs_to_
 use Rattle.parser_definitions.specs.Then.Steps.{cuts_to_start, or_else, takes, takes_none}
 use Rattle.parser_definitions.specs.Then.Steps.{where_took}
 
--- What comes of a child that started at `w` and left `end`: an output is a match of the whole's
--- grammar, and if the whole backtracks, there is none.
+-- The outcomes of the whole if a child started at `w` and left `end`: an output is a match of the
+-- whole's grammar, and if the whole backtracks, there is none.
 pub record ComesReads {S Q T U : Type 0} (came : Comes S Q T U) (form : ErrorForm) (q : Q)
     (grammar : Grammar T U) (w : Left T) (end : End S T) : Type 0 where
   pub takes : (u : U) (last : End Q T) → came (complete form) q w end (took u last)
@@ -61,7 +61,7 @@ then_reads {S} {Q} {T} {O} {U} {get} {does} {next} {form} {q} {g} {h} p n = reco
 
 module _ {S Q T U : Type 0} (put : Q → S → Q) {form : ErrorForm} {q : Q} {h : Grammar T U}
     (w : Left T) (end : End S T) where
-  -- an output where the child ended
+  -- returns an output where the child ended
   pub takes_reads : {u : U} → h w.tokens u end.1.tokens → ComesReads (takes put u) form q h w end
   takes_reads {u} is_match = record {
     takes = λ v last e.
@@ -71,7 +71,7 @@ module _ {S Q T U : Type 0} (put : Q → S → Q) {form : ErrorForm} {q : Q} {h 
     fails = λ last e. absurd (cc);
   }
 
-  -- an output where it began
+  -- returns an output and consumes no input
   pub takes_none_reads : {u : U} → h w.tokens u w.tokens
       → ComesReads (takes_none put u) form q h w end
   takes_none_reads {u} is_match = record {
