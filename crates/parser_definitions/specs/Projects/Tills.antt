@@ -80,20 +80,23 @@ every_reads {S} {T} {O} {does} {form} {holds} {g} p = record {
 
 -- ---- one rest
 
-module _ {T O D : Type 0} {g : Grammar T O} {h : Grammar T D}
+-- as many items leave the same
+each_same : {T O : Type 0} {g : Grammar T O}
+    → ((tokens : List T) (o u : O) (rest end : List T) → g tokens o rest → g tokens u end
+    → rest ≡ end)
+    → (os ps : List O) (tokens rest end : List T) → length os ≡ length ps → Each g tokens os rest
+    → Each g tokens ps end → rest ≡ end
+each_same one [] [] tokens rest end n e f = e ∙ sym f
+each_same one [] (u ∷ ps) tokens rest end n e f = absurd (omega (arith, n))
+each_same one (o ∷ os) [] tokens rest end n e f = absurd (omega (arith, n))
+each_same {T} {O} {g} one (o ∷ os) (u ∷ ps) tokens rest end n (mid, x, more) (last, y, others) =
+    let P : List T → Type 0 = λ l. Each g l os rest in
+    each_same one os ps last rest end (omega (arith, n))
+    (subst P (one tokens o u mid last x y) more) others
+
+module _ {T O D : Type 0} {g : Grammar T O} (h : Grammar T D)
     (one : (tokens : List T) (o u : O) (rest end : List T) → g tokens o rest → g tokens u end
     → rest ≡ end) where
-  -- as many items leave the same
-  each_same : (os ps : List O) (tokens rest end : List T) → length os ≡ length ps
-      → Each g tokens os rest → Each g tokens ps end → rest ≡ end
-  each_same [] [] tokens rest end n e f = e ∙ sym f
-  each_same [] (u ∷ ps) tokens rest end n e f = absurd (omega (arith, n))
-  each_same (o ∷ os) [] tokens rest end n e f = absurd (omega (arith, n))
-  each_same (o ∷ os) (u ∷ ps) tokens rest end n (mid, x, more) (last, y, others) =
-      let P : List T → Type 0 = λ l. Each g l os rest in
-      each_same os ps last rest end (omega (arith, n))
-      (subst P (one tokens o u mid last x y) more) others
-
   -- turns up to a terminator are more than turns that no terminator follows; and an item follows
   -- those
   more_turns : (os ps : List O) (tokens rest mid end : List T) (d : D)
@@ -125,10 +128,10 @@ module _ {T O D : Type 0} {g : Grammar T O} {h : Grammar T D}
       let P : List T → Type 0 = λ l. Each (TurnOf g h) l os rest in
       turns_same os ps n rest mid end last d e (subst P (one tokens o u m n z v) more) x others y
 
-folds_append : {C X : Type 0} {step : C → X → C → Type 0} (os ps : List X) (a b c : C)
+folds_append : {C X : Type 0} (step : C → X → C → Type 0) (os ps : List X) (a b c : C)
     → FoldsTo step a os b → FoldsTo step b ps c → FoldsTo step a (os ++ ps) c
-folds_append {step = step} [] ps a b c e more = subst (λ x. FoldsTo step x ps c) (sym e) more
-folds_append (o ∷ os) ps a b c (d, x, folds) more = (d, x, folds_append os ps d b c folds more)
+folds_append step [] ps a b c e more = subst (λ x. FoldsTo step x ps c) (sym e) more
+folds_append step (o ∷ os) ps a b c (d, x, folds) more = (d, x, folds_append step os ps d b c folds more)
 
 all_within : (least : ℕ) (greatest : Option ℕ) (n m : ℕ) → n ≡ least → IsWithin greatest least
     → IsWithin (room_behind least greatest) m → IsWithin greatest (n + m)
@@ -173,7 +176,7 @@ module _ {S W T O D C : Type 0} {item : Does S T O} {till : Does W T D} {form : 
     never = λ u c x v so none. none;
   }
 
-  exactly : Bounds
+  abbrev exactly : Bounds
   exactly = from_to bounds.least (Some bounds.least)
 
   as_many : (os : List O) (tokens rest : List T) → Many g exactly tokens os rest
@@ -203,7 +206,7 @@ module _ {S W T O D C : Type 0} {item : Does S T O} {till : Does W T D} {form : 
       (
         os ++ ps,
         keeps.held (capacity_of bounds.least bounds.greatest) c all.0 (os ++ ps) starts (record {
-          taken = folds_append os ps c b all.0
+          taken = folds_append into.takes os ps c b all.0
               (folds_map (λ c x d (m, n, so, (takes, same)). takes) os c b folds)
               (folds_map (λ c x d (m, n, so, (takes, same)). takes) ps b all.0 others);
         }),
@@ -239,9 +242,9 @@ module _ {S W T O D C : Type 0} {item : Does S T O} {till : Does W T D} {form : 
       (room_behind bounds.least bounds.greatest) (b, 0) place.0 place.1 end there loop in
       λ all rest (ns, held, (ms, ks, x, y, made, least, before, after, fit, ends)).
       let one = (p.projects q.0 is.0).one in
-      let same = each_same {h = h} one ms os w.tokens x place.1.tokens (least ∙ sym number) before
+      let same = each_same one ms os w.tokens x place.1.tokens (least ∙ sym number) before
       each in
-      let (more, nothing) = more_turns {h = h} one ps ks place.1.tokens mid y rest all.1 turns none
+      let (more, nothing) = more_turns h one ps ks place.1.tokens mid y rest all.1 turns none
       (subst (λ l. Each (TurnOf g h) l ks y) same after) ends in
       reached ps ks ms mid more nothing least fit why
     where
@@ -269,8 +272,8 @@ module _ {S W T O D C : Type 0} {item : Does S T O} {till : Does W T D} {form : 
       (os, held, (ms, ks, x, y, made, least, before, after, fit, ends))
       (ps, also, (ns, ls, a, b, made2, least2, before2, after2, fit2, ends2)) =
       let one = (p.projects q.0 is.0).one in
-      let same = each_same {h = h} one ms ns tokens x a (least ∙ sym least2) before before2 in
-      let last = turns_same {h = h} one ks ls a y b rest end o.1 u.1
+      let same = each_same one ms ns tokens x a (least ∙ sym least2) before before2 in
+      let last = turns_same h one ks ls a y b rest end o.1 u.1
       (subst (λ l. Each (TurnOf g h) l ks y) same after) ends after2 ends2 in
       (r.projects q.1 is.1).one b o.1 u.1 rest end (subst (λ l. h l o.1 rest) last ends) ends2
 
