@@ -212,7 +212,7 @@ module _ {S Q T C O : Type 0} (get : Q → S) (put : Q → S → Q) (f : Folding
     one = many_one (p.projects (get q) (k.here q is)).one holds bounds;
   }
 
-folds_map : {C X : Type 0} {one other : C → X → C → Type 0}
+pub folds_map : {C X : Type 0} {one other : C → X → C → Type 0}
     → ((c : C) (x : X) (d : C) → one c x d → other c x d) → (os : List X) (c d : C)
     → FoldsTo one c os d → FoldsTo other c os d
 folds_map to [] c d e = e

@@ -65,7 +65,7 @@ module _ {S Q T C X : Type 0} (get : Q → S) (put : Q → S → Q) {f : Folding
 
   -- a turn that returns: the greatest number is reached, or no item follows
   abbrev Returned : C × ℕ → Left T → C → End Q T → Type 0
-  Returned x w c end = (c ≡ x.0) × (end.1.tokens ≡ w.tokens) × Stops g bounds.greatest x.1 w.tokens
+  Returned x w c end = states end.0 × (c ≡ x.0) × (end.1.tokens ≡ w.tokens) × Stops g bounds.greatest x.1 w.tokens
       × ((bounds.greatest ≡ Some x.1) ⊎ (bounds.least ≤ x.1))
 
   goes : (q : Q) → states q → (w : Left T) (x z : C × ℕ) (end : End Q T)
@@ -105,6 +105,7 @@ module _ {S Q T C X : Type 0} (get : Q → S) (put : Q → S → Q) {f : Folding
       → ItemsTurn get put f bounds item x (complete form) q w (took (returns c) end)
       → Returned x w c end
   stops q is w x c end (inl (full, e)) = (
+    subst (λ l. states l.0) (sym (same_left e)) is,
     same_returned (same_taken e),
     ap (λ l. l.1.tokens) (same_left e),
     inl full,
@@ -120,9 +121,11 @@ module _ {S Q T C X : Type 0} (get : Q → S) (put : Q → S → Q) {f : Folding
       by (took (Some o) place) d (inr (inl (u, none, e))) = absurd (cc)
       by (took (Some o) place) d (inr (inr (grows, e))) = absurd (cc)
       by (backs place) d (inl (many, e)) = (
+        subst (λ l. states l.0) (sym (same_left e))
+            (k.moved q place.0 is (r.fails (get q) w place (k.here q is) d).0),
         same_returned (same_taken e),
         ap (λ l. l.1.tokens) (same_left e),
-        inr (below, r.fails (get q) w place (k.here q is) d),
+        inr (below, (r.fails (get q) w place (k.here q is) d).1),
         inr many,
       )
       by (backs place) d (inr (few, e)) = absurd (cc)
@@ -146,7 +149,7 @@ module _ {S Q T C X : Type 0} (get : Q → S) (put : Q → S → Q) {f : Folding
           (k.moved q place.0 is (r.some (get q) w o place (k.here q is) d).0) none)
       by (took (Some o) place) d (inr (inr (grows, e))) = absurd (cc)
       by (backs place) d (inl (many, e)) = absurd (cc)
-      by (backs place) d (inr (few, e)) = (r.fails (get q) w place (k.here q is) d, few)
+      by (backs place) d (inr (few, e)) = ((r.fails (get q) w place (k.here q is) d).1, few)
       by (cuts place) d e = absurd (cc)
       by (asks need place) d e = absurd (cc)
       by wants d e = absurd (cc)
@@ -154,10 +157,10 @@ module _ {S Q T C X : Type 0} (get : Q → S) (put : Q → S → Q) {f : Folding
   -- ---- all turns
 
   -- Items from a value and a number of items on.
-  abbrev Taken : C × ℕ → List T → C → List T → Type 0
-  Taken x tokens all rest = (os : List X) × FoldsTo (λ c o d. AddsIn f states c o d) x.0 os all
+  abbrev Taken : C × ℕ → List T → C → Q → List T → Type 0
+  Taken x tokens all u rest = states u × ((os : List X) × FoldsTo (λ c o d. AddsIn f states c o d) x.0 os all
       × Each g tokens os rest × Stops g bounds.greatest (x.1 + length os) rest
-      × ((bounds.greatest ≡ Some (x.1 + length os)) ⊎ (bounds.least ≤ x.1 + length os))
+      × ((bounds.greatest ≡ Some (x.1 + length os)) ⊎ (bounds.least ≤ x.1 + length os)))
 
   -- Too few items, and no other.
   abbrev TooFew : C × ℕ → List T → Type 0
@@ -166,29 +169,30 @@ module _ {S Q T C X : Type 0} (get : Q → S) (put : Q → S → Q) {f : Folding
 
   turns_take : (x : C × ℕ) (q : Q) (w : Left T) (all : C) (end : End Q T) → states q
       → LoopDoes (ItemsTurn get put f bounds item) (complete form) x q w (took all end)
-      → Taken x w.tokens all end.1.tokens
+      → Taken x w.tokens all end.0 end.1.tokens
   turns_take x q w all end is (again {d = z} {u = u} {m = m} a loop) =
       let (next, count, (o, adds, is_match)) = goes q is w x z (u, m) a in
-      let (os, folds, each, stop, enough) = turns_take z u m all end next loop in
-      let number : z.1 + length os ≡ x.1 + length (o ∷ os) = omega (arith, count) in (
+      let (after, (os, folds, each, stop, enough)) = turns_take z u m all end next loop in
+      let number : z.1 + length os ≡ x.1 + length (o ∷ os) = omega (arith, count) in (after, (
         o ∷ os,
         (z.0, adds, folds),
         (m.tokens, is_match, each),
         subst (λ n. Stops g bounds.greatest n end.1.tokens) number stop,
         subst (λ n. (bounds.greatest ≡ Some n) ⊎ (bounds.least ≤ n)) number enough,
-      )
+      ))
   turns_take x q w all end is (last (took (continues z) place, d, e)) = absurd e
   turns_take x q w all end is (last (took (returns c) place, d, e)) =
-      let (same, left, stop, enough) = stops q is w x c place d in
+      let (after, same, left, stop, enough) = stops q is w x c place d in
       let number : x.1 ≡ x.1 + 0 = omega arith in
-      let rest : end.1.tokens ≡ w.tokens = ap (λ l. l.1.tokens) (same_left e) ∙ left in (
+      let rest : end.1.tokens ≡ w.tokens = ap (λ l. l.1.tokens) (same_left e) ∙ left in
+      (subst (λ l. states l.0) (sym (same_left e)) after, (
         [],
         sym (same_taken e ∙ same),
         rest,
         subst (λ l. Stops g bounds.greatest (x.1 + 0) l) (sym rest)
             (subst (λ n. Stops g bounds.greatest n w.tokens) number stop),
         subst (λ n. (bounds.greatest ≡ Some n) ⊎ (bounds.least ≤ n)) number enough,
-      )
+      ))
   turns_take x q w all end is (last (backs place, d, e)) = absurd (cc)
   turns_take x q w all end is (last (cuts place, d, e)) = absurd (cc)
   turns_take x q w all end is (last (asks need place, d, e)) = absurd (cc)
@@ -219,7 +223,7 @@ module _ {S Q T C X : Type 0} (get : Q → S) (put : Q → S → Q) {f : Folding
       × Many g bounds w.tokens os end.1.tokens
   unfolding Many
   items_take within c q w all end is a =
-      let (os, folds, each, stop, enough) = turns_take (c, 0) q w all end is a in
+      let (after, (os, folds, each, stop, enough)) = turns_take (c, 0) q w all end is a in
       let number : 0 + length os ≡ length os = omega arith in
       (os, folds, (
         each,
@@ -232,6 +236,11 @@ module _ {S Q T C X : Type 0} (get : Q → S) (put : Q → S → Q) {f : Folding
       reached n (inl full) =
           let P : Option ℕ → Type 0 = λ m. IsWithin m bounds.least in subst P full within
       reached n (inr many) = many
+
+  -- ... and the state is one of those
+  pub items_after : (c : C) (q : Q) (w : Left T) (all : C) (end : End Q T) → states q
+      → Items get put f bounds item c (complete form) q w (took all end) → states end.0
+  items_after c q w all end is a = (turns_take (c, 0) q w all end is a).0
 
   pub items_fail : (c : C) (q : Q) (w : Left T) (end : End Q T) → states q
       → Items get put f bounds item c (complete form) q w (backs end)

@@ -21,7 +21,7 @@ use Rattle.parser_definitions.specs.Outcome.{Does, Outcome, asks, backs, cuts, t
 use Rattle.parser_definitions.specs.Projects.{Projects, complete, same_left, same_taken}
 use Rattle.parser_definitions.specs.Projects.Gathers.{each_one, folds_map, no_more, takes_no_misuse}
 use Rattle.parser_definitions.specs.Projects.Repeats.{AddsIn, Carries, items_fail, items_take}
-use Rattle.parser_definitions.specs.Projects.Throughout.{ItemReads, Throughout, same_value}
+use Rattle.parser_definitions.specs.Projects.Throughout.{ItemReads, Throughout, same_backed, same_value}
 use Rattle.parser_definitions.specs.Separated.{Elements, FirstElement, SeparatedDoes, links_within}
 use Rattle.parser_definitions.specs.Separated.{one_less}
 use Rattle.parser_definitions.specs.Then.{ComesOf}
@@ -37,15 +37,15 @@ within_links least None within = tt
 within_links least (Some most) within =
     let enough : least ≤ most = within in omega (arith, enough)
 
-links_stop : {T O : Type 0} {g : Grammar T O} (greatest : Option ℕ) (n : ℕ) (rest : List T)
+links_stop : {T O : Type 0} (g : Grammar T O) (greatest : Option ℕ) (n : ℕ) (rest : List T)
     → IsBelow greatest 0 → Stops g (one_less greatest) n rest → Stops g greatest (n + 1) rest
-links_stop None n rest below (inl full) = none_is_some full
-links_stop None n rest below (inr (fits, none)) = inr (tt, none)
-links_stop (Some most) n rest below (inl full) =
+links_stop g None n rest below (inl full) = none_is_some full
+links_stop g None n rest below (inr (fits, none)) = inr (tt, none)
+links_stop g (Some most) n rest below (inl full) =
     let some : 0 < most = below in
     let same : most - 1 ≡ n = same_some full in
     inl (ap Some (omega (arith, some, same)))
-links_stop (Some most) n rest below (inr (fits, none)) =
+links_stop g (Some most) n rest below (inr (fits, none)) =
     let less : n < most - 1 = fits in
     inr (omega (arith, less), none)
 
@@ -114,20 +114,28 @@ module _ {S W T O D : Type 0} {element : Does S T O} {separator : Does W T D} {f
 
   link_fails : (q : S × W) (w : Left T) (end : End (S × W) T) → Links q
       → (y : Outcome (End W T) D) → separator (complete form) q.1 w y
-      → LinkComes q w y (backs end) → NoMatch Pairs w.tokens
+      → LinkComes q w y (backs end) → Links end.0 × NoMatch Pairs w.tokens
   unfolding Both
   link_fails q w end is (took d place) a (inl (less, (took o last, b, e))) = absurd (cc)
   link_fails q w end is (took d place) a (inl (less, (backs last, b, e))) =
-      λ u rest (c, o, mid, x, y, f).
-      let same = (r.projects q.1 is.1).one w.tokens c d mid place.1.tokens x
-      ((r.projects q.1 is.1).takes w d place a) in
-      (p.projects q.0 is.0).fails place.1 last b o rest (subst (λ l. g l o rest) same y)
+      let P : End (S × W) T → Type 0 = λ l. Links l.0 × NoMatch Pairs w.tokens in
+      subst P (sym (same_backed e)) (
+        (p.after_backs q.0 place.1 last is.0 b, r.after_took q.1 w d place is.1 a),
+        (λ u rest (c, o, mid, x, y, f).
+        let same = (r.projects q.1 is.1).one w.tokens c d mid place.1.tokens x
+        ((r.projects q.1 is.1).takes w d place a) in
+        (p.projects q.0 is.0).fails place.1 last b o rest (subst (λ l. g l o rest) same y)),
+      )
   link_fails q w end is (took d place) a (inl (less, (cuts last, b, e))) = absurd (cc)
   link_fails q w end is (took d place) a (inl (less, (asks need last, b, e))) = absurd (cc)
   link_fails q w end is (took d place) a (inl (less, (wants, b, e))) = absurd (cc)
   link_fails q w end is (took d place) a (inr (not, e)) = absurd (cc)
   link_fails q w end is (backs place) a e =
-      λ u rest (c, o, mid, x, y, f). (r.projects q.1 is.1).fails w place a c mid x
+      let P : End (S × W) T → Type 0 = λ l. Links l.0 × NoMatch Pairs w.tokens in
+      subst P (sym (same_backed e)) (
+        (is.0, r.after_backs q.1 w place is.1 a),
+        (λ u rest (c, o, mid, x, y, f). (r.projects q.1 is.1).fails w place a c mid x),
+      )
   link_fails q w end is (cuts place) a e = absurd (cc)
   link_fails q w end is (asks need place) a e = absurd (cc)
   link_fails q w end is wants a e = absurd (cc)
@@ -200,7 +208,7 @@ module _ {S W T O D : Type 0} {element : Does S T O} {separator : Does W T D} {f
         → Elements one_of with_one pair_of with_pair Into element separator bounds c (complete form)
         q w (took all end)
         → Gathered holds (Parted g h bounds) w.tokens all end.1.tokens
-    unfolding Gathered Parted
+    unfolding Gathered Parted Many
     element_takes c starts w all end (inl (full, e)) =
         let least : bounds.least ≤ 0 = subst (λ m. IsWithin m bounds.least) full fits in
         ([], held_none c starts all (same_taken e),
@@ -227,7 +235,7 @@ module _ {S W T O D : Type 0} {element : Does S T O} {separator : Does W T D} {f
             each,
             omega (arith, least),
             subst (λ n. Stops Pairs bounds.greatest n end.1.tokens) (omega arith)
-                (links_stop bounds.greatest (length os) end.1.tokens below stop),
+                (links_stop Pairs bounds.greatest (length os) end.1.tokens below stop),
           ),
         )
     element_takes c starts w all end (inr (below, (took o place, d, inr (grows, e)))) = absurd (cc)

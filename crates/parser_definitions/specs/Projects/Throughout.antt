@@ -28,7 +28,7 @@ pub record ItemReads {S T X : Type 0} (item : Does S T (Option X)) (form : Error
   pub none : (s : S) (w : Left T) (end : End S T) → holds s
       → item (complete form) s w (took None end) → ⊥
   pub fails : (s : S) (w : Left T) (end : End S T) → holds s
-      → item (complete form) s w (backs end) → NoMatch grammar w.tokens
+      → item (complete form) s w (backs end) → holds end.0 × NoMatch grammar w.tokens
 
 -- the value of an option
 abbrev value_of : {X : Type 0} → X → Option X → X
@@ -37,6 +37,16 @@ value_of other (Some x) = x
 
 pub same_value : {X : Type 0} {x z : X} → Some x ≡ Some z → x ≡ z
 same_value {x = x} e = ap (λ o. value_of x o) e
+
+abbrev backed_of : {L O : Type 0} → L → Outcome L O → L
+backed_of other (took o left) = other
+backed_of other (backs left) = left
+backed_of other (cuts left) = other
+backed_of other (asks need left) = other
+backed_of other wants = other
+
+pub same_backed : {L O : Type 0} {l m : L} → ◌≡◌ {A = Outcome L O} (backs l) (backs m) → l ≡ m
+same_backed {l = l} e = ap (λ x. backed_of l x) e
 
 module _ {S T O : Type 0} {does : Does S T O} {form : ErrorForm} {holds : S → Type 0}
     {g : Grammar T O} (p : Throughout does form holds g) where
@@ -76,10 +86,13 @@ module _ {S T O : Type 0} {does : Does S T O} {form : ErrorForm} {holds : S → 
 
       fails : (s : S) (w : Left T) (end : End S T) → holds s → (y : Outcome (End S T) O)
           → does (complete form) s w y → ComesOf (where_took instead (λ o. by_consuming (takes instead (Some o))
-          (takes instead None))) (complete form) s w y (backs end) → NoMatch g w.tokens
+          (takes instead None))) (complete form) s w y (backs end) → holds end.0 × NoMatch g w.tokens
       fails s w end is (took o place) d (inl (less, e)) = absurd (cc)
       fails s w end is (took o place) d (inr (not, e)) = absurd (cc)
-      fails s w end is (backs place) d e = (p.projects s is).fails w place d
+      fails s w end is (backs place) d e =
+          let P : End S T → Type 0 = λ l. holds l.0 × NoMatch g w.tokens in
+          subst P (sym (same_backed e))
+          (p.after_backs s w place is d, (p.projects s is).fails w place d)
       fails s w end is (cuts place) d e = absurd (cc)
       fails s w end is (asks need place) d e = absurd (cc)
       fails s w end is wants d e = absurd (cc)
