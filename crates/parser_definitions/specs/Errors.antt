@@ -28,6 +28,7 @@ turned becomes = record {
   on_asks = λ need. turns becomes (incomplete need);
 }
 
+-- If the child is out of memory, so is the whole: an error that is out of memory must stay so.
 abbrev pub ErrorDoes : {S G T O : Type 0} → Becomes G → Does S T O → Does (S × G) T O
 ErrorDoes becomes does = Then first does (turned becomes)
 
