@@ -28,7 +28,9 @@ pub mod Sequences
 pub mod Settled
 pub mod Then
 pub mod Throughout
+pub mod Tills
 pub mod Tokens
+pub mod Turns
 pub mod Within
 
 -- complete input, which can be read

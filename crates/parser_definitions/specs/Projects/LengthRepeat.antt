@@ -1,6 +1,5 @@
 -- The grammar of `length_repeat`.
-use Rattle.std.specs.Prelude.{ℕ, List, [], ◌∷◌, Some}
-use Rattle.std.specs.List.{FoldsTo}
+use Rattle.std.specs.Prelude.{ℕ, List, Some}
 use Rattle.std.proofs.Common.{sym, ap, subst, inl, inr, arith}
 use Rattle.streams.specs.Equal.{none_is_some, same_some}
 use Rattle.stream_errors.specs.Form.{ErrorForm}
@@ -13,18 +12,11 @@ use Rattle.parser_definitions.specs.LengthRepeat.{LengthRepeatDoes, times}
 use Rattle.parser_definitions.specs.Outcome.{Does}
 use Rattle.parser_definitions.specs.Projects.{Projects}
 use Rattle.parser_definitions.specs.Projects.Decimals.{projects_as}
-use Rattle.parser_definitions.specs.Projects.Gathers.{repeated_projects}
+use Rattle.parser_definitions.specs.Projects.Gathers.{folds_map, repeated_projects}
 use Rattle.parser_definitions.specs.Projects.Length.{length_projects}
 use Rattle.parser_definitions.specs.Projects.Throughout.{Throughout}
 use Rattle.parser_definitions.specs.Repeat
 use Rattle.parser_definitions.specs.Then.Steps.{first, second, with_first, with_second}
-
--- values that were added one way were added the other
-folds_as : {C X : Type 0} {one other : C → X → C → Type 0}
-    → ((c : C) (x : X) (d : C) → one c x d → other c x d) → (os : List X) (c d : C)
-    → FoldsTo one c os d → FoldsTo other c os d
-folds_as to [] c d e = e
-folds_as to (x ∷ os) c d (b, step, more) = (b, to c x b step, folds_as to os b d more)
 
 -- as many matches as there are, but exactly `n`, are `n` matches
 module _ {T C O : Type 0} (holds : C → List O → Type 0) (g : Grammar T O) (n : ℕ) where
@@ -60,7 +52,7 @@ module _ {V S T C O : Type 0} (into : Accumulator C O) (holds : C → List O →
         never = λ r c x u so none. none;
       }) (record {
         held = λ r u k c all os so (starts, e) folds. keeps.held k c all os starts (record {
-          taken = folds_as (λ c x d (a, b, there, (takes, same)). takes) os c all folds;
+          taken = folds_map (λ c x d (a, b, there, (takes, same)). takes) os c all folds;
         });
         started = λ r u k c so (starts, e). subst states (sym e) so;
       }) takes q is (times n) (omega arith) in
