@@ -18,6 +18,7 @@ pub mod FlatMap
 pub mod Fold
 pub mod Folding
 pub mod Func
+pub mod Held
 pub mod Items
 pub mod Left
 pub mod Link
@@ -33,6 +34,7 @@ pub mod Outputs
 pub mod Passed
 pub mod Peek
 pub mod Places
+pub mod Projects
 pub mod Recover
 pub mod Repeat
 pub mod RepeatTill

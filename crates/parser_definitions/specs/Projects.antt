@@ -8,7 +8,14 @@ use Rattle.parser_definitions.specs.Cases.{LacksWhere, MisusedWhere, OneCase, Ta
 use Rattle.parser_definitions.specs.Left.{End, Left}
 use Rattle.parser_definitions.specs.Outcome.{Does, Outcome, Setting, asks, backs, cuts, lacks}
 use Rattle.parser_definitions.specs.Outcome.{misused, took, wants}
+pub mod Gathers
+pub mod Links
+pub mod Repeats
+pub mod Separates
 pub mod Then
+pub mod Throughout
+pub mod Tills
+pub mod Turns
 
 -- complete input, which can be read
 abbrev pub complete : ErrorForm → Setting
