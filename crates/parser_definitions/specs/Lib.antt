@@ -25,6 +25,7 @@ pub mod FlatMap
 pub mod Fold
 pub mod Folding
 pub mod Func
+pub mod Held
 pub mod HexUint
 pub mod Integer
 pub mod Items

@@ -17,6 +17,7 @@ pub mod Items
 pub mod Length
 pub mod LengthRepeat
 pub mod Lines
+pub mod Links
 pub mod Literals
 pub mod Numbers
 pub mod Numerals

@@ -1,5 +1,5 @@
 -- Grammars of `repeat` and `fold`.
-use Rattle.std.specs.Prelude.{◌≡◌, ◌⊎◌, ◌<◌, ◌≤◌, ◌+◌, ℕ, List, [], ◌∷◌, length, Option, Some, None}
+use Rattle.std.specs.Prelude.{◌≡◌, ◌<◌, ◌≤◌, ◌+◌, ℕ, List, [], ◌∷◌, length, Option, Some, None}
 use Rattle.std.specs.List.{FoldsTo}
 use Rattle.std.proofs.Common.{refl, sym, subst, ap, inl, inr, ◌∙◌, arith}
 use Rattle.streams.specs.Equal.{none_is_some, same_some}
@@ -11,21 +11,18 @@ use Rattle.grammars.specs.Grammar.{Each, Gathered, Grammar, Many, NoMatch, Repea
 use Rattle.grammars.specs.Grammar.{TakesTokens}
 use Rattle.grammars.specs.Grammar.Folded.{FoldOf, Folded, StaysFolding, StaysMaking}
 use Rattle.stream_errors.specs.Form.{ErrorForm, modal, plain}
-use Rattle.parser_definitions.specs.Bounded.{Bounded, capacity_of, not_empty}
+use Rattle.parser_definitions.specs.Bounded.{capacity_of, not_empty}
 use Rattle.parser_definitions.specs.Closures.{folding, folding_in, pair_is}
-use Rattle.parser_definitions.specs.Consumes.{Item}
 use Rattle.parser_definitions.specs.Fold.{FoldDoes, closures, with_closures}
-use Rattle.parser_definitions.specs.Folding.{Folding, Started, gathering}
-use Rattle.parser_definitions.specs.Items.{Items}
+use Rattle.parser_definitions.specs.Folding.{Folding, gathering}
 use Rattle.parser_definitions.specs.Left.{End, Left}
 use Rattle.parser_definitions.specs.Outcome.{Does, Outcome, asks, backs, cuts, misused, took, wants}
-use Rattle.parser_definitions.specs.Projects.{Projects, complete, same_left, same_taken}
+use Rattle.parser_definitions.specs.Projects.{Projects, complete}
 use Rattle.parser_definitions.specs.Projects.Repeats.{AddsIn, Carries, items_fail, items_take}
-use Rattle.parser_definitions.specs.Projects.Throughout.{ItemReads, Throughout, item_reads}
-use Rattle.parser_definitions.specs.Repeat.{AfterFirst, Many as ManyDo, OneOrMore, RepeatDoes}
+use Rattle.parser_definitions.specs.Projects.Throughout.{Throughout, item_reads}
+use Rattle.parser_definitions.specs.Repeat.{Many as ManyDo, OneOrMore, RepeatDoes}
 use Rattle.parser_definitions.specs.Repeat.{Repeated as RepeatedDoes}
-use Rattle.parser_definitions.specs.Then.{ComesOf}
-use Rattle.parser_definitions.specs.Then.Steps.{and_then, first, where_took, with_first}
+use Rattle.parser_definitions.specs.Then.Steps.{first, with_first}
 
 -- ---- one rest
 

@@ -2,8 +2,8 @@
 use Rattle.std.specs.Prelude.{◌≡◌, ◌⊎◌, ◌<◌, ◌≤◌, ◌+◌, ℕ, List, [], ◌∷◌, length, Option, Some, None}
 use Rattle.std.specs.List.{FoldsTo}
 use Rattle.std.proofs.Common.{refl, sym, subst, ap, inl, inr, ◌∙◌, arith}
-use Rattle.stream_sets.specs.Range.{Bounds, IsBelow, IsWithin}
-use Rattle.grammars.specs.Grammar.{Each, Gathered, Grammar, Many, NoMatch, Stops}
+use Rattle.stream_sets.specs.Range.{Bounds, IsWithin}
+use Rattle.grammars.specs.Grammar.{Each, Grammar, Many, NoMatch, Stops}
 use Rattle.stream_errors.specs.Form.{ErrorForm}
 use Rattle.parser_definitions.specs.Folding.{Folding}
 use Rattle.parser_definitions.specs.Items.{Items, ItemsTurn, items_next}
@@ -65,7 +65,8 @@ module _ {S Q T C X : Type 0} (get : Q → S) (put : Q → S → Q) {f : Folding
 
   -- a turn that returns: the greatest number is reached, or no item follows
   abbrev Returned : C × ℕ → Left T → C → End Q T → Type 0
-  Returned x w c end = states end.0 × (c ≡ x.0) × (end.1.tokens ≡ w.tokens) × Stops g bounds.greatest x.1 w.tokens
+  Returned x w c end = states end.0 × (c ≡ x.0) × (end.1.tokens ≡ w.tokens)
+      × Stops g bounds.greatest x.1 w.tokens
       × ((bounds.greatest ≡ Some x.1) ⊎ (bounds.least ≤ x.1))
 
   goes : (q : Q) → states q → (w : Left T) (x z : C × ℕ) (end : End Q T)
@@ -158,7 +159,8 @@ module _ {S Q T C X : Type 0} (get : Q → S) (put : Q → S → Q) {f : Folding
 
   -- Items from a value and a number of items on.
   abbrev Taken : C × ℕ → List T → C → Q → List T → Type 0
-  Taken x tokens all u rest = states u × ((os : List X) × FoldsTo (λ c o d. AddsIn f states c o d) x.0 os all
+  Taken x tokens all u rest = states u
+      × ((os : List X) × FoldsTo (λ c o d. AddsIn f states c o d) x.0 os all
       × Each g tokens os rest × Stops g bounds.greatest (x.1 + length os) rest
       × ((bounds.greatest ≡ Some (x.1 + length os)) ⊎ (bounds.least ≤ x.1 + length os)))
 

@@ -1,32 +1,26 @@
 -- The grammar of `separated`.
-use Rattle.std.specs.Prelude.{◌≡◌, ◌⊎◌, ◌<◌, ◌≤◌, ◌+◌, ◌-◌, ℕ, List, [], ◌∷◌, length, Option, Some}
-use Rattle.std.specs.Prelude.{None}
-use Rattle.std.specs.List.{FoldsTo}
-use Rattle.std.proofs.Common.{refl, sym, subst, ap, inl, inr, ◌∙◌, arith}
+use Rattle.std.specs.Prelude.{◌≡◌, ◌<◌, ◌≤◌, ◌+◌, ◌-◌, ℕ, List, [], ◌∷◌, length, Option, Some, None}
+use Rattle.std.proofs.Common.{sym, subst, ap, inl, inr, ◌∙◌, arith}
 use Rattle.streams.specs.Equal.{none_is_some, same_some}
 use Rattle.stream_sets.specs.Accumulator.{Accumulator}
 use Rattle.stream_sets.specs.Accumulator.Holds.{Holds}
-use Rattle.stream_sets.specs.Range.{Bounds, IsBelow, IsWithin, bounds_of, from_to}
+use Rattle.stream_sets.specs.Range.{Bounds, IsBelow, IsWithin, bounds_of}
 use Rattle.stream_sets.specs.declared.range.Range.{Range}
-use Rattle.grammars.specs.Grammar.{Both, Each, Gathered, Grammar, Many, NoMatch, Parted, SeparatedBy}
-use Rattle.grammars.specs.Grammar.{Stops, TakesTokens}
+use Rattle.grammars.specs.Grammar.{Both, Each, Gathered, Grammar, Many, NoMatch, Parted}
+use Rattle.grammars.specs.Grammar.{SeparatedBy, Stops, TakesTokens}
 use Rattle.stream_errors.specs.Form.{ErrorForm}
 use Rattle.parser_definitions.specs.Bounded.{Bounded, capacity_of, not_empty}
-use Rattle.parser_definitions.specs.Consumes.{by_consuming}
 use Rattle.parser_definitions.specs.Folding.{Folding, Started, gathering}
 use Rattle.parser_definitions.specs.Items.{enough}
 use Rattle.parser_definitions.specs.Left.{End, Left}
-use Rattle.parser_definitions.specs.Link.{Link, after_separator}
 use Rattle.parser_definitions.specs.Outcome.{Does, Outcome, asks, backs, cuts, took, wants}
 use Rattle.parser_definitions.specs.Projects.{Projects, complete, same_left, same_taken}
 use Rattle.parser_definitions.specs.Projects.Gathers.{each_one, folds_map, no_more, takes_no_misuse}
-use Rattle.parser_definitions.specs.Projects.Repeats.{AddsIn, Carries, items_fail, items_take}
-use Rattle.parser_definitions.specs.Projects.Throughout.{ItemReads, Throughout, same_backed, same_value}
-use Rattle.parser_definitions.specs.Separated.{Elements, FirstElement, SeparatedDoes, links_within}
-use Rattle.parser_definitions.specs.Separated.{one_less}
-use Rattle.parser_definitions.specs.Then.{ComesOf}
-use Rattle.parser_definitions.specs.Then.Steps.{first, second, takes, where_took, with_first}
-use Rattle.parser_definitions.specs.Then.Steps.{with_second}
+use Rattle.parser_definitions.specs.Projects.Links.{link_reads}
+use Rattle.parser_definitions.specs.Projects.Repeats.{Carries, items_fail, items_take}
+use Rattle.parser_definitions.specs.Projects.Throughout.{Throughout}
+use Rattle.parser_definitions.specs.Separated.{Elements, SeparatedDoes, links_within, one_less}
+use Rattle.parser_definitions.specs.Then.Steps.{takes}
 use Rattle.parser_definitions.specs.Threes.{one_of, pair_of, with_one, with_pair}
 
 -- ---- bounds of links
@@ -60,92 +54,6 @@ module _ {S W T O D : Type 0} {element : Does S T O} {separator : Does W T D} {f
   -- a separator and an element
   abbrev Pairs : Grammar T O
   Pairs = Both (λ d o. o) h g
-
-  abbrev LinkComes : (q : S × W) (w : Left T) → Outcome (End W T) D
-      → Outcome (End (S × W) T) (Option O) → Type 0
-  LinkComes q w x y =
-      ComesOf (where_took with_second (λ d. after_separator (λ d o. o) element d)) (complete form) q
-      w x y
-
-  -- ---- a link
-
-  link_some : (q : S × W) (w : Left T) (x : O) (end : End (S × W) T) → Links q
-      → (y : Outcome (End W T) D) → separator (complete form) q.1 w y
-      → LinkComes q w y (took (Some x) end) → Links end.0 × Pairs w.tokens x end.1.tokens
-  unfolding Both
-  link_some q w x end is (took d place) a (inl (less, (took o last, b, e))) =
-      let P : End (S × W) T → Type 0 = λ l. Links l.0 × Pairs w.tokens x l.1.tokens in
-      let R : O → Type 0 = λ u. Links (last.0, place.0) × Pairs w.tokens u last.1.tokens in
-      subst P (sym (same_left e)) (subst R (sym (same_value (same_taken e))) (
-        (p.after_took q.0 place.1 o last is.0 b, r.after_took q.1 w d place is.1 a),
-        (
-          d,
-          o,
-          place.1.tokens,
-          (r.projects q.1 is.1).takes w d place a,
-          (p.projects q.0 is.0).takes place.1 o last b,
-          refl,
-        ),
-      ))
-  link_some q w x end is (took d place) a (inl (less, (backs last, b, e))) = absurd (cc)
-  link_some q w x end is (took d place) a (inl (less, (cuts last, b, e))) = absurd (cc)
-  link_some q w x end is (took d place) a (inl (less, (asks need last, b, e))) = absurd (cc)
-  link_some q w x end is (took d place) a (inl (less, (wants, b, e))) = absurd (cc)
-  link_some q w x end is (took d place) a (inr (not, e)) = absurd (cc)
-  link_some q w x end is (backs place) a e = absurd (cc)
-  link_some q w x end is (cuts place) a e = absurd (cc)
-  link_some q w x end is (asks need place) a e = absurd (cc)
-  link_some q w x end is wants a e = absurd (cc)
-
-  link_none : (q : S × W) (w : Left T) (end : End (S × W) T) → Links q
-      → (y : Outcome (End W T) D) → separator (complete form) q.1 w y
-      → LinkComes q w y (took None end) → ⊥
-  link_none q w end is (took d place) a (inl (less, (took o last, b, e))) = absurd (cc)
-  link_none q w end is (took d place) a (inl (less, (backs last, b, e))) = absurd (cc)
-  link_none q w end is (took d place) a (inl (less, (cuts last, b, e))) = absurd (cc)
-  link_none q w end is (took d place) a (inl (less, (asks need last, b, e))) = absurd (cc)
-  link_none q w end is (took d place) a (inl (less, (wants, b, e))) = absurd (cc)
-  link_none q w end is (took d place) a (inr (not, e)) =
-      not (takes_some.fewer w.tokens d place.1.tokens ((r.projects q.1 is.1).takes w d place a))
-  link_none q w end is (backs place) a e = absurd (cc)
-  link_none q w end is (cuts place) a e = absurd (cc)
-  link_none q w end is (asks need place) a e = absurd (cc)
-  link_none q w end is wants a e = absurd (cc)
-
-  link_fails : (q : S × W) (w : Left T) (end : End (S × W) T) → Links q
-      → (y : Outcome (End W T) D) → separator (complete form) q.1 w y
-      → LinkComes q w y (backs end) → Links end.0 × NoMatch Pairs w.tokens
-  unfolding Both
-  link_fails q w end is (took d place) a (inl (less, (took o last, b, e))) = absurd (cc)
-  link_fails q w end is (took d place) a (inl (less, (backs last, b, e))) =
-      let P : End (S × W) T → Type 0 = λ l. Links l.0 × NoMatch Pairs w.tokens in
-      subst P (sym (same_backed e)) (
-        (p.after_backs q.0 place.1 last is.0 b, r.after_took q.1 w d place is.1 a),
-        (λ u rest (c, o, mid, x, y, f).
-        let same = (r.projects q.1 is.1).one w.tokens c d mid place.1.tokens x
-        ((r.projects q.1 is.1).takes w d place a) in
-        (p.projects q.0 is.0).fails place.1 last b o rest (subst (λ l. g l o rest) same y)),
-      )
-  link_fails q w end is (took d place) a (inl (less, (cuts last, b, e))) = absurd (cc)
-  link_fails q w end is (took d place) a (inl (less, (asks need last, b, e))) = absurd (cc)
-  link_fails q w end is (took d place) a (inl (less, (wants, b, e))) = absurd (cc)
-  link_fails q w end is (took d place) a (inr (not, e)) = absurd (cc)
-  link_fails q w end is (backs place) a e =
-      let P : End (S × W) T → Type 0 = λ l. Links l.0 × NoMatch Pairs w.tokens in
-      subst P (sym (same_backed e)) (
-        (is.0, r.after_backs q.1 w place is.1 a),
-        (λ u rest (c, o, mid, x, y, f). (r.projects q.1 is.1).fails w place a c mid x),
-      )
-  link_fails q w end is (cuts place) a e = absurd (cc)
-  link_fails q w end is (asks need place) a e = absurd (cc)
-  link_fails q w end is wants a e = absurd (cc)
-
-  link_reads : ItemReads (Link (λ d o. o) element separator) form Links Pairs
-  link_reads = record {
-    some = λ q w x end is (y, a, e). link_some q w x end is y a e;
-    none = λ q w end is (y, a, e). link_none q w end is y a e;
-    fails = λ q w end is (y, a, e). link_fails q w end is y a e;
-  }
 
   -- ---- elements
 
@@ -221,8 +129,8 @@ module _ {S W T O D : Type 0} {element : Does S T O} {separator : Does W T D} {f
             (record { taken = sym e })
     element_takes c starts w all end (inr (below, (took o place, d, inl (b, u, (adds, e), a)))) =
         let there : States u = subst States (sym e) (after w o place d) in
-        let (os, folds, (each, least, stop)) = items_take pair_of with_pair link_reads carries
-        (links_within bounds) (within_links bounds.least bounds.greatest fits) b u place.1 all end
+        let (os, folds, (each, least, stop)) = items_take pair_of with_pair
+        (link_reads p r takes_some) carries (links_within bounds) (within_links bounds.least bounds.greatest fits) b u place.1 all end
         there a in
         (
           o ∷ os,
@@ -263,8 +171,8 @@ module _ {S W T O D : Type 0} {element : Does S T O} {separator : Does W T D} {f
     element_fails c w end (inl (full, e)) = absurd (cc)
     element_fails c w end (inr (below, (took o place, d, inl (b, u, (adds, e), a)))) =
         let there : States u = subst States (sym e) (after w o place d) in
-        let (os, rest, each, none, few) = items_fail pair_of with_pair link_reads carries
-        (links_within bounds) b u place.1 end there a in
+        let (os, rest, each, none, few) = items_fail pair_of with_pair
+        (link_reads p r takes_some) carries (links_within bounds) b u place.1 end there a in
         λ all last (ps, held, match_). by os rest each none few ps last match_
       where
         by : (os : List O) (rest : List T) → Each Pairs place.1.tokens os rest → NoMatch Pairs rest

@@ -1,6 +1,6 @@
 -- Grammars of a child in each state that a repetition leaves it in.
-use Rattle.std.specs.Prelude.{◌≡◌, ◌<◌, ℕ, List, length, Option, Some, None}
-use Rattle.std.proofs.Common.{refl, sym, subst, ap, inl, inr, arith}
+use Rattle.std.specs.Prelude.{◌≡◌, Option, Some, None}
+use Rattle.std.proofs.Common.{sym, subst, ap, inl, inr}
 use Rattle.grammars.specs.Grammar.{Grammar, NoMatch, TakesTokens}
 use Rattle.stream_errors.specs.Form.{ErrorForm}
 use Rattle.parser_definitions.specs.Consumes.{Item, by_consuming}
@@ -50,6 +50,11 @@ same_backed {l = l} e = ap (λ x. backed_of l x) e
 
 module _ {S T O : Type 0} {does : Does S T O} {form : ErrorForm} {holds : S → Type 0}
     {g : Grammar T O} (p : Throughout does form holds g) where
+  -- the outcome of an item, given that of the child
+  abbrev ItemComes : S → Left T → Outcome (End S T) O → Outcome (End S T) (Option O) → Type 0
+  ItemComes s w y z = ComesOf (where_took instead (λ o. by_consuming (takes instead (Some o))
+      (takes instead None))) (complete form) s w y z
+
   -- every match of the grammar consumes a token
   pub item_reads : TakesTokens g → ItemReads (Item does) form holds g
   item_reads less = record {
@@ -59,8 +64,7 @@ module _ {S T O : Type 0} {does : Does S T O} {form : ErrorForm} {holds : S → 
   }
     where
       some : (s : S) (w : Left T) (x : O) (end : End S T) → holds s → (y : Outcome (End S T) O)
-          → does (complete form) s w y → ComesOf (where_took instead (λ o. by_consuming (takes instead (Some o))
-          (takes instead None))) (complete form) s w y (took (Some x) end)
+          → does (complete form) s w y → ItemComes s w y (took (Some x) end)
           → holds end.0 × g w.tokens x end.1.tokens
       some s w x end is (took o place) d (inl (less, e)) =
           let P : End S T → Type 0 = λ l. holds l.0 × g w.tokens x l.1.tokens in
@@ -74,8 +78,7 @@ module _ {S T O : Type 0} {does : Does S T O} {form : ErrorForm} {holds : S → 
       some s w x end is wants d e = absurd (cc)
 
       none : (s : S) (w : Left T) (end : End S T) → holds s → (y : Outcome (End S T) O)
-          → does (complete form) s w y → ComesOf (where_took instead (λ o. by_consuming (takes instead (Some o))
-          (takes instead None))) (complete form) s w y (took None end) → ⊥
+          → does (complete form) s w y → ItemComes s w y (took None end) → ⊥
       none s w end is (took o place) d (inl (less, e)) = absurd (cc)
       none s w end is (took o place) d (inr (not, e)) =
           not (less.fewer w.tokens o place.1.tokens ((p.projects s is).takes w o place d))
@@ -85,8 +88,8 @@ module _ {S T O : Type 0} {does : Does S T O} {form : ErrorForm} {holds : S → 
       none s w end is wants d e = absurd (cc)
 
       fails : (s : S) (w : Left T) (end : End S T) → holds s → (y : Outcome (End S T) O)
-          → does (complete form) s w y → ComesOf (where_took instead (λ o. by_consuming (takes instead (Some o))
-          (takes instead None))) (complete form) s w y (backs end) → holds end.0 × NoMatch g w.tokens
+          → does (complete form) s w y → ItemComes s w y (backs end)
+          → holds end.0 × NoMatch g w.tokens
       fails s w end is (took o place) d (inl (less, e)) = absurd (cc)
       fails s w end is (took o place) d (inr (not, e)) = absurd (cc)
       fails s w end is (backs place) d e =

@@ -2,27 +2,25 @@
 use Rattle.std.specs.Prelude.{◌≡◌, ◌⊎◌, ◌<◌, ◌≤◌, ◌+◌, ◌-◌, ℕ, List, [], ◌∷◌, ◌++◌, length, Option}
 use Rattle.std.specs.Prelude.{Some, None}
 use Rattle.std.specs.List.{FoldsTo}
-use Rattle.std.proofs.Common.{refl, sym, subst, ap, inl, inr, ◌∙◌, arith}
+use Rattle.std.proofs.Common.{refl, sym, subst, inl, inr, ◌∙◌, arith}
 use Rattle.streams.specs.Equal.{none_is_some, same_some}
 use Rattle.stream_sets.specs.Accumulator.{Accumulator}
 use Rattle.stream_sets.specs.Accumulator.Holds.{Holds}
-use Rattle.stream_sets.specs.Range.{Bounds, IsBelow, IsWithin, bounds_of, from_to}
+use Rattle.stream_sets.specs.Range.{Bounds, IsWithin, bounds_of, from_to}
 use Rattle.stream_sets.specs.declared.range.Range.{Range}
-use Rattle.grammars.specs.Grammar.{Each, Grammar, Many, NoMatch, Stops, TakesTokens}
+use Rattle.grammars.specs.Grammar.{Each, Grammar, Many, NoMatch, TakesTokens}
 use Rattle.grammars.specs.Grammar.Till.{Till, Turn as TurnOf, UpTo}
 use Rattle.stream_errors.specs.Form.{ErrorForm}
 use Rattle.parser_definitions.specs.Bounded.{capacity_of, not_empty}
 use Rattle.parser_definitions.specs.Folding.{Folding, gathering}
-use Rattle.parser_definitions.specs.Items.{Items}
 use Rattle.parser_definitions.specs.Left.{End, Left}
 use Rattle.parser_definitions.specs.Outcome.{Does, Outcome, asks, backs, cuts, took, wants}
 use Rattle.parser_definitions.specs.Projects.{Projects, complete, same_left, same_taken}
 use Rattle.parser_definitions.specs.Projects.Gathers.{folds_map, no_more, takes_no_misuse}
-use Rattle.parser_definitions.specs.Projects.Repeats.{AddsIn, Carries, items_after, items_fail}
-use Rattle.parser_definitions.specs.Projects.Repeats.{items_take}
+use Rattle.parser_definitions.specs.Projects.Repeats.{Carries, items_after, items_fail, items_take}
 use Rattle.parser_definitions.specs.Projects.Throughout.{ItemReads, Throughout, same_backed}
 use Rattle.parser_definitions.specs.Projects.Throughout.{same_value}
-use Rattle.parser_definitions.specs.Projects.Turns.{TurnStates, turns_fail, turns_take}
+use Rattle.parser_definitions.specs.Projects.Turns.{turns_fail, turns_take}
 use Rattle.parser_definitions.specs.RepeatTill.{Every, ItemsTill, RepeatTillDoes, room_behind}
 use Rattle.parser_definitions.specs.Then.{ComesOf}
 use Rattle.parser_definitions.specs.Then.Steps.{instead, takes, where_took}
@@ -131,7 +129,8 @@ module _ {T O D : Type 0} {g : Grammar T O} (h : Grammar T D)
 folds_append : {C X : Type 0} (step : C → X → C → Type 0) (os ps : List X) (a b c : C)
     → FoldsTo step a os b → FoldsTo step b ps c → FoldsTo step a (os ++ ps) c
 folds_append step [] ps a b c e more = subst (λ x. FoldsTo step x ps c) (sym e) more
-folds_append step (o ∷ os) ps a b c (d, x, folds) more = (d, x, folds_append step os ps d b c folds more)
+folds_append step (o ∷ os) ps a b c (d, x, folds) more =
+    (d, x, folds_append step os ps d b c folds more)
 
 all_within : (least : ℕ) (greatest : Option ℕ) (n m : ℕ) → n ≡ least → IsWithin greatest least
     → IsWithin (room_behind least greatest) m → IsWithin greatest (n + m)
@@ -252,8 +251,8 @@ module _ {S W T O D C : Type 0} {item : Does S T O} {till : Does W T D} {form : 
           → length ms ≡ bounds.least → IsWithin bounds.greatest (length ms + length ks)
           → (room_behind bounds.least bounds.greatest ≡ Some (0 + length ps)) ⊎ NoMatch g mid → ⊥
       reached ps ks ms mid more nothing least fit (inl full) =
-          beyond bounds.least bounds.greatest (length ms) (length ks) (0 + length ps) least fits full
-          (omega (arith, more)) fit
+          beyond bounds.least bounds.greatest (length ms) (length ks) (0 + length ps) least fits
+          full (omega (arith, more)) fit
       reached ps ks ms mid more nothing least fit (inr lacks) = nothing lacks
   inner_fails c w end (backs place, items, e) =
       let (os, rest, each, none, few) = items_fail one_of with_one (every_reads p) carries exactly c
