@@ -12,6 +12,7 @@ pub mod Gathers
 pub mod Links
 pub mod Repeats
 pub mod Separates
+pub mod Slices
 pub mod Then
 pub mod Throughout
 pub mod Tills
