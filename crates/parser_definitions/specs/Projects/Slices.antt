@@ -39,11 +39,13 @@ overwrite_next : {O : Type 0} (done : List O) (x o : O) (rest : List O)
 overwrite_next [] x o rest = refl
 overwrite_next (y ∷ ys) x o rest = ap (λ l. y ∷ l) (overwrite_next ys x o rest)
 
-each_append : {T O : Type 0} (g : Grammar T O) (os : List O) (o : O) (tokens mid rest : List T)
-    → Each g tokens os mid → g mid o rest → Each g tokens (os ++ o ∷ []) rest
-each_append g [] o tokens mid rest e x = (rest, subst (λ l. g l o rest) e x, refl)
-each_append g (p ∷ os) o tokens mid rest (m, y, more) x =
-    (m, y, each_append g os o m mid rest more x)
+one_longer : {O : Type 0} {l : List O} (done os : List O) (o : O) → l ≡ (done ++ o ∷ []) ++ os
+    → l ≡ done ++ (o ∷ os)
+one_longer done os o e = e ∙ append_assoc done (o ∷ []) os
+
+one_before : {O : Type 0} {l rest : List O} (x : O) (before others : List O) → l ≡ x ∷ rest
+    → rest ≡ before ++ others → l ≡ (x ∷ before) ++ others
+one_before x before others e f = e ∙ ap (λ l. x ∷ l) f
 
 module _ {S T O : Type 0} (too_many : ℕ → Kind → Type 0) {does : Does S T O} {form : ErrorForm}
     {holds : S → Type 0} {g : Grammar T O} (p : Throughout does form holds g)
@@ -153,8 +155,8 @@ module _ {S T O : Type 0} (too_many : ℕ → Kind → Type 0) {does : Does S T 
         others,
         omega (arith, number, next),
         ap suc long,
-        more ∙ ap (λ l. x ∷ l) parts,
-        new ∙ append_assoc done (o ∷ []) (os ++ others),
+        one_before x before others more parts,
+        one_longer done (os ++ others) o new,
         (v.tokens, is_match, each),
         none,
       )
@@ -193,7 +195,7 @@ module _ {S T O : Type 0} (too_many : ℕ → Kind → Type 0) {does : Does S T 
         o ∷ os,
         subst (λ k. too_many k backtrack) number many,
         ap (λ l. length l) more ∙ ap suc long,
-        new ∙ append_assoc done (o ∷ []) os,
+        one_longer done os o new,
         (v.tokens, is_match, each),
         some,
       )
