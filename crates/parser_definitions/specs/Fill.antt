@@ -22,7 +22,7 @@ use Rattle.parser_definitions.specs.Then.Steps.{takes_none, takes_none_hold, tak
 use Rattle.parser_definitions.specs.Then.Steps.{where_took, with_first}
 
 -- the list with this element at an index, if it is long enough
-pub overwrite : {O : Type 0} → ℕ → O → List O → List O
+abbrev pub overwrite : {O : Type 0} → ℕ → O → List O → List O
 overwrite n o [] = []
 overwrite zero o (x ∷ xs) = o ∷ xs
 overwrite (suc n) o (x ∷ xs) = x ∷ overwrite n o xs

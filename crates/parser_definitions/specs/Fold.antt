@@ -17,7 +17,7 @@ use Rattle.parser_definitions.specs.Then.Steps.{first, with_first}
 
 -- ---- the parsers
 
--- the closures, beside the child and the range
+-- the states of the closures, in the state of the whole
 abbrev pub closures : {S X Y : Type 0} → S × (X × Y) → Y
 closures q = q.1.1
 

@@ -139,7 +139,7 @@ module _ {Q T C O U X : Type 0} {f : Folding Q C O} {alike : O → O → Type 0}
       stays is x more flag q w y final (inr (grows, e)) =
           absurd (final_by {y = wants} e final)
 
--- the same with nothing but the value
+-- the same without a parameter
 pub started_law : {Q T C O U : Type 0} {f : Folding Q C O} {alike : O → O → Type 0}
     {stable : Type 0} {beside : U → U → Type 0} → FoldsOne f alike → (n : Option ℕ)
     {inner : C → Does Q T U} → Family stable (Built f alike) beside inner

@@ -17,7 +17,7 @@ pub data Turn (C R : Type 0) : Type 0 where
   continues : C → Turn C R
   returns : R → Turn C R
 
--- what follows the last turn
+-- the continuation of the last turn
 abbrev pub last_comes : {Q T C R : Type 0} → Turn C R → Comes Q Q T R
 last_comes (continues c) at q w end y = ⊥
 last_comes (returns r) at q w end y = takes instead r at q w end y
@@ -66,7 +66,7 @@ pub member : {S T C O : Type 0} {stable : Type 0} {related : C → C → Type 0}
     → (c : C) → related c c → Lawful stable alike (does c)
 member p c is = record { one = p.one c c is; whole = p.whole c; stays = λ so. p.stays so c }
 
--- a child with a parameter, and what follows it with the same
+-- a child with a parameter, and a continuation with the same parameter
 pub then_family : {S Q T C O U : Type 0} {stable sure : Type 0} {related : C → C → Type 0}
     {alike : O → O → Type 0} {beside : U → U → Type 0} {get : Q → S} {does : C → Does S T O}
     {next : C → Next S Q T O U} → Family sure related alike does

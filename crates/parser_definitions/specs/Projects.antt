@@ -27,6 +27,7 @@ pub mod Repeats
 pub mod Separates
 pub mod Sequences
 pub mod Settled
+pub mod Slices
 pub mod Then
 pub mod Throughout
 pub mod Tills

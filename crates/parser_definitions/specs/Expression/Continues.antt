@@ -62,7 +62,7 @@ pub turn_open : {V X Z : Type 0} (values : V → V → Type 0) (prefixes : X →
 turn_open values prefixes infixes x z (like, same) =
     (turn_sides prefixes (AlikePairs values infixes) x.operator z.operator like, sym same)
 
--- ---- what continues is not the last
+-- ---- a call that continues does not end
 
 module _ {Q T V X Y Z : Type 0} (g : Operators T V X Y Z) {values : V → V → Type 0}
     {prefixes : X → X → Type 0} {postfixes : Y → Y → Type 0} {infixes : Z → Z → Type 0}

@@ -31,7 +31,7 @@ pub record OperatorsWhole {T V X Y Z : Type 0} (g : Operators T V X Y Z) : Type 
   pub between : (at : Setting) (x : Z) (m : Left T) (a v : V) (need : Option ℕ) (k : Left T)
       → at.more ≡ false → g.between at x m a v (asks need k) → ⊥
 
--- nothing is known of longer inputs
+-- a continuation whose outcomes on longer inputs are not covered
 whole_holds : {S Q T U : Type 0} {came : Comes S Q T U}
     → ((at : Setting) (q : Q) (w : Left T) (end : End S T) (need : Option ℕ) (last : End Q T)
     → at.more ≡ false → came at q w end (asks need last) → ⊥)

@@ -29,7 +29,7 @@ use Rattle.parser_definitions.specs.Then.Steps.{first, with_first}
 module _ {T O : Type 0} {g : Grammar T O}
     (one : (tokens : List T) (o p : O) (rest end : List T) → g tokens o rest → g tokens p end
     → rest ≡ end) where
-  -- matches up to one after which there is none are as many as there are
+  -- no sequence of matches is longer than one that no match follows
   pub no_more : (os ps : List O) (tokens rest end : List T) → Each g tokens os rest → NoMatch g rest
       → Each g tokens ps end → length ps ≤ length os
   no_more [] [] tokens rest end e none f = omega arith
@@ -90,7 +90,7 @@ takes_no_misuse plain o end last e = absurd (cc)
 
 -- ---- the values
 
--- The initial value, and each value to which an output is added, give what the value holds.
+-- `holds` relates each value to the outputs that were added to it since it was made.
 pub record Values {Q C X : Type 0} (f : Folding Q C X) (states : Q → Type 0)
     (holds : C → List X → Type 0) : Type 0 where
   pub held : (q u : Q) (n : Option ℕ) (c all : C) (os : List X) → states q → f.starts q n c u
