@@ -110,34 +110,34 @@ folded {Q = Q} {C = C} put f output c o at q w end y =
 
 module _ {Q T C O U X : Type 0} {f : Folding Q C O} {alike : O → O → Type 0}
     (p : FoldsOne f alike) {stable : Type 0} {related : X → X → Type 0} {beside : U → U → Type 0}
-    where
-  pub started_family : (n : Option ℕ) {inner : C × X → Does Q T U}
-      → Family stable (λ a b. Built f alike a.0 b.0 × related a.1 b.1) beside inner
-      → Family stable related beside (λ x. Started f n (λ c. inner (c, x)))
-  started_family n {inner} h = record { one = one; whole = whole; stays = stays }
-    where
-      one : (x z : X) → related x z → (at : Setting) (q : Q) (w : Left T)
-          (y v : Outcome (End Q T) U) → Started f n (λ c. inner (c, x)) at q w y
-          → Started f n (λ c. inner (c, z)) at q w v → Alike beside y v
-      one x z is at q w y v (inl (c, u, starts, a)) (inl (d, r, also, b)) =
-          let P : Q → Type 0 = λ s. inner (d, z) at s w v in
-          h.one (c, x) (d, z) (begun (q, u, r, n, starts, also), is) at u w y v a
-          (subst P (sym (p.start q n c d u r starts also)) b)
-      one x z is at q w y v a (inr (grows, e)) = both beside refl e (alike_wants beside y)
-      one x z is at q w y v (inr (grows, e)) b = both beside {v = v} e refl tt
+  where
+    pub started_family : (n : Option ℕ) {inner : C × X → Does Q T U}
+        → Family stable (λ a b. Built f alike a.0 b.0 × related a.1 b.1) beside inner
+        → Family stable related beside (λ x. Started f n (λ c. inner (c, x)))
+    started_family n {inner} h = record { one = one; whole = whole; stays = stays }
+      where
+        one : (x z : X) → related x z → (at : Setting) (q : Q) (w : Left T)
+            (y v : Outcome (End Q T) U) → Started f n (λ c. inner (c, x)) at q w y
+            → Started f n (λ c. inner (c, z)) at q w v → Alike beside y v
+        one x z is at q w y v (inl (c, u, starts, a)) (inl (d, r, also, b)) =
+            let P : Q → Type 0 = λ s. inner (d, z) at s w v in
+            h.one (c, x) (d, z) (begun (q, u, r, n, starts, also), is) at u w y v a
+            (subst P (sym (p.start q n c d u r starts also)) b)
+        one x z is at q w y v a (inr (grows, e)) = both beside refl e (alike_wants beside y)
+        one x z is at q w y v (inr (grows, e)) b = both beside {v = v} e refl tt
 
-      whole : (x : X) (at : Setting) (q : Q) (w : Left T) (need : Option ℕ) (end : End Q T)
-          → at.more ≡ false → Started f n (λ c. inner (c, x)) at q w (asks need end) → ⊥
-      whole x at q w need end is (inl (c, u, starts, a)) = h.whole (c, x) at u w need end is a
-      whole x at q w need end is (inr (grows, e)) = absurd (cc)
+        whole : (x : X) (at : Setting) (q : Q) (w : Left T) (need : Option ℕ) (end : End Q T)
+            → at.more ≡ false → Started f n (λ c. inner (c, x)) at q w (asks need end) → ⊥
+        whole x at q w need end is (inl (c, u, starts, a)) = h.whole (c, x) at u w need end is a
+        whole x at q w need end is (inr (grows, e)) = absurd (cc)
 
-      stays : stable → (x : X) (more : List T) (flag : Bool) (q : Q) (w : Left T)
-          (y : Outcome (End Q T) U) → IsFinal y → Started f n (λ c. inner (c, x)) on_cut q w y
-          → Started f n (λ c. inner (c, x)) (grown flag) q (extend more w) (longer more y)
-      stays is x more flag q w y final (inl (c, u, starts, a)) =
-          inl (c, u, starts, h.stays is (c, x) more flag u w y final a)
-      stays is x more flag q w y final (inr (grows, e)) =
-          absurd (final_by {y = wants} e final)
+        stays : stable → (x : X) (more : List T) (flag : Bool) (q : Q) (w : Left T)
+            (y : Outcome (End Q T) U) → IsFinal y → Started f n (λ c. inner (c, x)) on_cut q w y
+            → Started f n (λ c. inner (c, x)) (grown flag) q (extend more w) (longer more y)
+        stays is x more flag q w y final (inl (c, u, starts, a)) =
+            inl (c, u, starts, h.stays is (c, x) more flag u w y final a)
+        stays is x more flag q w y final (inr (grows, e)) =
+            absurd (final_by {y = wants} e final)
 
 -- the same without a parameter
 pub started_law : {Q T C O U : Type 0} {f : Folding Q C O} {alike : O → O → Type 0}

@@ -1,6 +1,5 @@
 -- What a call leaves.
-use Rattle.std.specs.Prelude.{◌≡◌, List, ◌++◌, [], length, ◌≤◌}
-use Rattle.std.proofs.Common.{refl, arith, length-append}
+use Rattle.std.specs.Prelude.{List, ◌++◌}
 use Rattle.streams.specs.Input.{Input}
 use Rattle.streams.specs.Kind.{Kind}
 use Rattle.streams.specs.Place.{Place}

@@ -1,6 +1,6 @@
 -- The definition of `map`. The closure may change.
 use Rattle.std.specs.Prelude.{◌≡◌}
-use Rattle.std.proofs.Common.{refl, ap}
+use Rattle.std.proofs.Common.{ap}
 use Rattle.parser_definitions.specs.Does.{Lawful}
 use Rattle.parser_definitions.specs.Equal.{MadeAlike, StepsAlike}
 use Rattle.parser_definitions.specs.Outcome.{Does, as_longer, both, took}

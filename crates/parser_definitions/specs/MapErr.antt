@@ -193,11 +193,14 @@ pub context_law : {S C T O : Type 0} {stable : Type 0} {alike : O → O → Type
     → Lawful stable alike does → Lawful stable alike (ContextDoes is_clone always does)
 context_law is_clone always law = error_law {becomes = context_becomes is_clone always}
     (kept_alike (record {
-      keeps = λ f k l g (stays, a). (stays, elim a [
-        | inl (some, is) ↦ inl is
-        | inr (inl (copy, none, clone, given)) ↦ given_kind (f.1 copy) k l given
-        | inr (inr (none, refused, is)) ↦ inr is
-      ]);
+      keeps = λ f k l g (stays, a). (
+        stays,
+        elim a [
+          | inl (some, is) ↦ inl is
+          | inr (inl (copy, none, clone, given)) ↦ given_kind (f.1 copy) k l given
+          | inr (inr (none, refused, is)) ↦ inr is
+        ],
+      );
     })) law
 
 -- One context is stored, or there is no memory for it.

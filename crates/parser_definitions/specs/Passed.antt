@@ -1,6 +1,6 @@
 -- Tokens that a call passes.
 use Rattle.std.specs.Prelude.{◌≡◌, List, ◌++◌}
-use Rattle.std.proofs.Common.{refl, sym, ap, ◌∙◌, append_assoc}
+use Rattle.std.proofs.Common.{sym, ap, ◌∙◌, append_assoc}
 use Rattle.streams.specs.Equal.{same_rest}
 use Rattle.streams.specs.Kind.{Kind}
 use Rattle.streams.specs.Place.{Place}

@@ -132,13 +132,13 @@ module _ {X T L : Type 0} (reading : Reading T L) (member : X → T → Bool →
 
 -- `tells y k b`: whether the token `k`, whose view is `seen k`, is a member of the set of `y`.
 module _ {X K T L : Type 0} (seen : K → T) (reading : Reading T L) (tells : X → K → Bool → Type 0)
-    where
-  -- `take_till` is `take_while` of the tokens outside the set.
-  abbrev pub TakeTillDoes : (X → Bounds) → Does X T L
-  TakeTillDoes bounds = TakeWhileDoes reading (λ x. AnswersSeen seen (Others tells x)) bounds
+  where
+    -- `take_till` is `take_while` of the tokens outside the set.
+    abbrev pub TakeTillDoes : (X → Bounds) → Does X T L
+    TakeTillDoes bounds = TakeWhileDoes reading (λ x. AnswersSeen seen (Others tells x)) bounds
 
-  pub take_till_law : (bounds : X → Bounds)
-      → ((x : X) → SetIsFunction (AnswersSeen seen (Others tells x)))
-      → Lawful ⊤ (ShowSame reading) (TakeTillDoes bounds)
-  take_till_law bounds once =
-      take_while_law reading (λ x. AnswersSeen seen (Others tells x)) bounds once
+    pub take_till_law : (bounds : X → Bounds)
+        → ((x : X) → SetIsFunction (AnswersSeen seen (Others tells x)))
+        → Lawful ⊤ (ShowSame reading) (TakeTillDoes bounds)
+    take_till_law bounds once =
+        take_while_law reading (λ x. AnswersSeen seen (Others tells x)) bounds once

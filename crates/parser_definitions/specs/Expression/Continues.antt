@@ -1,5 +1,5 @@
 -- Trees of an expression that continue do not end.
-use Rattle.std.specs.Prelude.{◌≡◌, ◌⊎◌, ⊤, ◌≤ℤ◌, ℤ, Bool, false, Option, Some, None}
+use Rattle.std.specs.Prelude.{◌≡◌, ◌⊎◌, ⊤, ◌≤ℤ◌, Bool, false, Option, Some, None}
 use Rattle.std.proofs.Common.{refl, sym, subst, inl, inr}
 use Rattle.parser_definitions.specs.Equal.{AlikeOptions, AlikePairs}
 use Rattle.parser_definitions.specs.Escaped.{AlikeSides}

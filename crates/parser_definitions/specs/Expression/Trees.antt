@@ -153,10 +153,11 @@ module _ {Q T V X Y Z : Type 0} (g : Operators T V X Y Z) {values : V → V → 
         l.1 b) (sym like.1)
         (subst (λ l. TreeDoes g one two at (call_at l (g.units n.tokens)) s n b)
         (sym (p.right_power o o2 like.0)) k) in
-        join_one (opened g call v o w) (opened g call r o2 w)
-        ((is, like.0),
-        ap (λ n. record call { turn = g.units w.tokens; neither = n })
-        (p.neither_power o o2 like.0))
+        join_one (opened g call v o w) (opened g call r o2 w) (
+          (is, like.0),
+          ap (λ n. record call { turn = g.units w.tokens; neither = n })
+              (p.neither_power o o2 like.0),
+        )
         a b (tree_one (call_at (g.right_power o) (g.units m.tokens)) u m a b t inner) y z j i
     tail_one call v r is q w y z (tail_infix {u = u} {m = m} o d accepts t j)
         (tail_ends (x, e, c)) =

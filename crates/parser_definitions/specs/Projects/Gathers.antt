@@ -146,8 +146,7 @@ module _ {S Q T C O : Type 0} (get : Q → S) (put : Q → S → Q) (f : Folding
       let next = v.started (put q place.0) u None c there starts in
       let after = k.added u c o b r next adds in
       let (os, folds, (each, least, stop)) = items_take get put (item_reads p takes) k
-      (from_to 0 None) tt b r place.1 all end after a in
-      (
+      (from_to 0 None) tt b r place.1 all end after a in (
         o ∷ os,
         v.held (put q place.0) u None c all (o ∷ os) there starts
             (b, (u, r, next, adds), folds),

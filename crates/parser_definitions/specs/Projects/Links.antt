@@ -85,9 +85,9 @@ module _ {S W T O D : Type 0} {element : Does S T O} {separator : Does W T D} {f
       subst P (sym (same_backed e)) (
         (p.after_backs q.0 place.1 last is.0 b, r.after_took q.1 w d place is.1 a),
         (λ u rest (c, o, mid, x, y, f).
-        let same = (r.projects q.1 is.1).one w.tokens c d mid place.1.tokens x
-        ((r.projects q.1 is.1).takes w d place a) in
-        (p.projects q.0 is.0).fails place.1 last b o rest (subst (λ l. g l o rest) same y)),
+            let same = (r.projects q.1 is.1).one w.tokens c d mid place.1.tokens x
+            ((r.projects q.1 is.1).takes w d place a) in
+            (p.projects q.0 is.0).fails place.1 last b o rest (subst (λ l. g l o rest) same y)),
       )
   link_fails q w end is (took d place) a (inl (less, (cuts last, b, e))) = absurd (cc)
   link_fails q w end is (took d place) a (inl (less, (asks need last, b, e))) = absurd (cc)

@@ -74,10 +74,16 @@ module _ {K T : Type 0} (seen : K → T) (code : K → ℕ) where
           (
             p.tokens ∙ ap (λ l. seen x ∷ l) split,
             more_characters x front sign digits e chars,
-            inr (may, code x, is, e, elim which [
-              | inl (never, lone) ↦ true_is_false (sym never)
-              | inr leads ↦ leads
-            ]),
+            inr (
+              may,
+              code x,
+              is,
+              e,
+              elim which [
+                | inl (never, lone) ↦ true_is_false (sym never)
+                | inr leads ↦ leads
+              ],
+            ),
             stops,
           ),
         )
@@ -88,10 +94,13 @@ module _ {K T : Type 0} (seen : K → T) (code : K → ℕ) where
           (
             ap (λ l. l.tokens) (sym same) ∙ split,
             unsigned_characters front sign digits e chars,
-            inl (e, elim which [
-              | inl (may, lone) ↦ inl lone
-              | inr leads ↦ inr leads
-            ]),
+            inl (
+              e,
+              elim which [
+                | inl (may, lone) ↦ inl lone
+                | inr leads ↦ inr leads
+              ],
+            ),
             stops,
           ),
         )
@@ -154,10 +163,14 @@ module _ {K T : Type 0} (seen : K → T) (code : K → ℕ) where
           seen x,
           others ++ rest,
           e ∙ ap (λ l. l ++ rest) is,
-          (x, refl, λ sign. elim sign [
-            | inl plus ↦ omega (arith, same, plus, digit.0)
-            | inr minus ↦ omega (arith, same, minus, digit.0)
-          ]),
+          (
+            x,
+            refl,
+            λ sign. elim sign [
+              | inl plus ↦ omega (arith, same, plus, digit.0)
+              | inr minus ↦ omega (arith, same, minus, digit.0)
+            ],
+          ),
         )
 
     no_sign : (front rest tokens : List T) (digits : List ℕ)

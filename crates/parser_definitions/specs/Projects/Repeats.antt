@@ -175,26 +175,31 @@ module _ {S Q T C X : Type 0} (get : Q → S) (put : Q → S → Q) {f : Folding
   turns_take x q w all end is (again {d = z} {u = u} {m = m} a loop) =
       let (next, count, (o, adds, is_match)) = goes q is w x z (u, m) a in
       let (after, (os, folds, each, stop, enough)) = turns_take z u m all end next loop in
-      let number : z.1 + length os ≡ x.1 + length (o ∷ os) = omega (arith, count) in (after, (
-        o ∷ os,
-        (z.0, adds, folds),
-        (m.tokens, is_match, each),
-        subst (λ n. Stops g bounds.greatest n end.1.tokens) number stop,
-        subst (λ n. (bounds.greatest ≡ Some n) ⊎ (bounds.least ≤ n)) number enough,
-      ))
+      let number : z.1 + length os ≡ x.1 + length (o ∷ os) = omega (arith, count) in (
+        after,
+        (
+          o ∷ os,
+          (z.0, adds, folds),
+          (m.tokens, is_match, each),
+          subst (λ n. Stops g bounds.greatest n end.1.tokens) number stop,
+          subst (λ n. (bounds.greatest ≡ Some n) ⊎ (bounds.least ≤ n)) number enough,
+        ),
+      )
   turns_take x q w all end is (last (took (continues z) place, d, e)) = absurd e
   turns_take x q w all end is (last (took (returns c) place, d, e)) =
       let (after, same, left, stop, enough) = stops q is w x c place d in
       let number : x.1 ≡ x.1 + 0 = omega arith in
-      let rest : end.1.tokens ≡ w.tokens = ap (λ l. l.1.tokens) (same_left e) ∙ left in
-      (subst (λ l. states l.0) (sym (same_left e)) after, (
-        [],
-        sym (same_taken e ∙ same),
-        rest,
-        subst (λ l. Stops g bounds.greatest (x.1 + 0) l) (sym rest)
-            (subst (λ n. Stops g bounds.greatest n w.tokens) number stop),
-        subst (λ n. (bounds.greatest ≡ Some n) ⊎ (bounds.least ≤ n)) number enough,
-      ))
+      let rest : end.1.tokens ≡ w.tokens = ap (λ l. l.1.tokens) (same_left e) ∙ left in (
+        subst (λ l. states l.0) (sym (same_left e)) after,
+        (
+          [],
+          sym (same_taken e ∙ same),
+          rest,
+          subst (λ l. Stops g bounds.greatest (x.1 + 0) l) (sym rest)
+              (subst (λ n. Stops g bounds.greatest n w.tokens) number stop),
+          subst (λ n. (bounds.greatest ≡ Some n) ⊎ (bounds.least ≤ n)) number enough,
+        ),
+      )
   turns_take x q w all end is (last (backs place, d, e)) = absurd (cc)
   turns_take x q w all end is (last (cuts place, d, e)) = absurd (cc)
   turns_take x q w all end is (last (asks need place, d, e)) = absurd (cc)
@@ -226,13 +231,16 @@ module _ {S Q T C X : Type 0} (get : Q → S) (put : Q → S → Q) {f : Folding
   unfolding Many
   items_take within c q w all end is a =
       let (after, (os, folds, each, stop, enough)) = turns_take (c, 0) q w all end is a in
-      let number : 0 + length os ≡ length os = omega arith in
-      (os, folds, (
-        each,
-        reached (length os)
-            (subst (λ n. (bounds.greatest ≡ Some n) ⊎ (bounds.least ≤ n)) number enough),
-        subst (λ n. Stops g bounds.greatest n end.1.tokens) number stop,
-      ))
+      let number : 0 + length os ≡ length os = omega arith in (
+        os,
+        folds,
+        (
+          each,
+          reached (length os)
+              (subst (λ n. (bounds.greatest ≡ Some n) ⊎ (bounds.least ≤ n)) number enough),
+          subst (λ n. Stops g bounds.greatest n end.1.tokens) number stop,
+        ),
+      )
     where
       reached : (n : ℕ) → (bounds.greatest ≡ Some n) ⊎ (bounds.least ≤ n) → bounds.least ≤ n
       reached n (inl full) =

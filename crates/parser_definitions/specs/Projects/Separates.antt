@@ -118,9 +118,11 @@ module _ {S W T O D : Type 0} {element : Does S T O} {separator : Does W T D} {f
         → Gathered holds (Parted g h bounds) w.tokens all end.1.tokens
     unfolding Gathered Parted Many
     element_takes c starts w all end (inl (full, e)) =
-        let least : bounds.least ≤ 0 = subst (λ m. IsWithin m bounds.least) full fits in
-        ([], held_none c starts all (same_taken e),
-        (ap (λ l. l.1.tokens) (same_left e), omega (arith, least), inl full))
+        let least : bounds.least ≤ 0 = subst (λ m. IsWithin m bounds.least) full fits in (
+          [],
+          held_none c starts all (same_taken e),
+          (ap (λ l. l.1.tokens) (same_left e), omega (arith, least), inl full),
+        )
       where
         held_none : (c : C) → into.starts (capacity_of bounds.least bounds.greatest) c → (all : C)
             → all ≡ c → holds all []
@@ -131,8 +133,7 @@ module _ {S W T O D : Type 0} {element : Does S T O} {separator : Does W T D} {f
         let there : States u = subst States (sym e) (after w o place d) in
         let (os, folds, (each, least, stop)) = items_take pair_of with_pair
         (link_reads p r takes_some) carries (links_within bounds) (within_links bounds.least bounds.greatest fits) b u place.1 all end
-        there a in
-        (
+        there a in (
           o ∷ os,
           keeps.held (capacity_of bounds.least bounds.greatest) c all (o ∷ os) starts (record {
             taken = (b, adds, folds_map (λ c x d (m, n, so, (takes, same)). takes) os b all folds);
@@ -147,17 +148,16 @@ module _ {S W T O D : Type 0} {element : Does S T O} {separator : Does W T D} {f
           ),
         )
     element_takes c starts w all end (inr (below, (took o place, d, inr (grows, e)))) = absurd (cc)
-    element_takes c starts w all end (inr (below, (backs place, d, inl (many, e)))) =
-        (
-          [],
-          keeps.held (capacity_of bounds.least bounds.greatest) c all [] starts
-              (record { taken = sym (same_taken e) }),
-          (
-            ap (λ l. l.1.tokens) (same_left e),
-            omega (arith, many),
-            inr (below, (p.projects q.0 is.0).fails w place d),
-          ),
-        )
+    element_takes c starts w all end (inr (below, (backs place, d, inl (many, e)))) = (
+      [],
+      keeps.held (capacity_of bounds.least bounds.greatest) c all [] starts
+          (record { taken = sym (same_taken e) }),
+      (
+        ap (λ l. l.1.tokens) (same_left e),
+        omega (arith, many),
+        inr (below, (p.projects q.0 is.0).fails w place d),
+      ),
+    )
     element_takes c starts w all end (inr (below, (backs place, d, inr (few, e)))) = absurd (cc)
     element_takes c starts w all end (inr (below, (cuts place, d, e))) = absurd (cc)
     element_takes c starts w all end (inr (below, (asks need place, d, e))) = absurd (cc)

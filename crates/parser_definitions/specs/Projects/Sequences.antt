@@ -54,24 +54,24 @@ AfterTwo {T} {A} {B} output g h tokens o rest =
 
 module _ {S1 S2 T O1 O2 O : Type 0} {does1 : Does S1 T O1} {does2 : Does S2 T O2}
     {form : ErrorForm} {q : S1 × S2} {g1 : Grammar T O1} {g2 : Grammar T O2} (output : O1 → O2 → O)
-    where
-  pub both_projects : Projects does1 form q.0 g1 → Projects does2 form q.1 g2
-      → Projects (BothDo output does1 does2) form q (Both output g1 g2)
-  unfolding Both
-  both_projects p1 p2 = with_one (then_reads (reads_of p1) (where_reads with_first
-      (λ w none o rest (o1, o2, mid, x, y, e). none o1 mid x)
-      (λ w o1 end x. next_comes with_first second {h = Both output g1 g2}
-      {k = After (output o1) g2} w end
-      (λ o rest (o2, y, e). (o1, o2, end.1.tokens, x, y, e))
-      (λ none o rest (p1', p2', mid, x', y', e').
-      none (output o1 p2') rest
-      (p2', subst (λ l. g2 l p2' rest) (p1.one w.tokens p1' o1 mid end.1.tokens x' x) y', refl))
-      (reads_of p2) (where_reads with_second
-      (λ v none o rest (o2, y, e). none o2 rest y)
-      (λ v o2 last y. takes_reads with_second v last (o2, y, refl))))))
-      (λ tokens o p rest end (x, y, m, a, b, e) (u, v, n, c, d, f).
-      p2.one n y v rest end
-      (subst (λ l. g2 l y rest) (p1.one tokens x u m n a c) b) d)
+  where
+    pub both_projects : Projects does1 form q.0 g1 → Projects does2 form q.1 g2
+        → Projects (BothDo output does1 does2) form q (Both output g1 g2)
+    unfolding Both
+    both_projects p1 p2 = with_one (then_reads (reads_of p1) (where_reads with_first
+        (λ w none o rest (o1, o2, mid, x, y, e). none o1 mid x)
+        (λ w o1 end x. next_comes with_first second {h = Both output g1 g2}
+        {k = After (output o1) g2} w end
+        (λ o rest (o2, y, e). (o1, o2, end.1.tokens, x, y, e))
+        (λ none o rest (p1', p2', mid, x', y', e').
+        none (output o1 p2') rest
+        (p2', subst (λ l. g2 l p2' rest) (p1.one w.tokens p1' o1 mid end.1.tokens x' x) y', refl))
+        (reads_of p2) (where_reads with_second
+        (λ v none o rest (o2, y, e). none o2 rest y)
+        (λ v o2 last y. takes_reads with_second v last (o2, y, refl))))))
+        (λ tokens o p rest end (x, y, m, a, b, e) (u, v, n, c, d, f).
+        p2.one n y v rest end
+        (subst (λ l. g2 l y rest) (p1.one tokens x u m n a c) b) d)
 
 module _ {S1 S2 S3 T O1 O2 O3 O : Type 0} {does1 : Does S1 T O1} {does2 : Does S2 T O2}
     {does3 : Does S3 T O3} {form : ErrorForm} {q : S1 × S2 × S3} {g1 : Grammar T O1}

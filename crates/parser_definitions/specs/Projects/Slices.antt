@@ -102,8 +102,7 @@ module _ {S T O : Type 0} (too_many : ℕ → Kind → Type 0) {does : Does S T 
   fails n q w end is (took (Some o) place, d, inl (less, e)) = absurd (cc)
   fails n q w end is (took (Some o) place, d, inr (inl (full, k, e))) =
       let (next, is_match) = (item_reads p takes_some).some q.0 w o place is d in
-      let left = same_backed e in
-      (
+      let left = same_backed e in (
         full,
         k,
         ap (λ l. l.0.1) left,
@@ -227,9 +226,12 @@ module _ {S T O : Type 0} (too_many : ℕ → Kind → Type 0) {does : Does S T 
   slice_stores q so = record {
     takes = λ w n end a.
         let (os, before, rest, number, long, parts, new, each, none) =
-        slice_takes 0 q w n end [] q.1 so refl refl a in
-        (os, omega (arith, number), (before, rest, long, parts, new),
-        (each, omega arith, inr (tt, none)));
+        slice_takes 0 q w n end [] q.1 so refl refl a in (
+          os,
+          omega (arith, number),
+          (before, rest, long, parts, new),
+          (each, omega arith, inr (tt, none)),
+        );
     fails = λ w end a.
         let (os, many, long, new, each, some) = slice_fails 0 q w end [] q.1 so refl refl a in
         let number : 0 + length os ≡ length q.1 = omega (arith, long) in (

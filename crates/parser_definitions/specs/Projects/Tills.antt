@@ -201,8 +201,7 @@ module _ {S W T O D C : Type 0} {item : Does S T O} {till : Does W T D} {form : 
       let (ps, mid, others, turns, room, ends) = turns_take p r takes_some into
       (room_behind bounds.least bounds.greatest) (b, 0) place.0 place.1 all end there
       (no_room_start (room_behind bounds.least bounds.greatest)) loop in
-      let count : 0 + length ps ≡ length ps = omega arith in
-      (
+      let count : 0 + length ps ≡ length ps = omega arith in (
         os ++ ps,
         keeps.held (capacity_of bounds.least bounds.greatest) c all.0 (os ++ ps) starts (record {
           taken = folds_append into.takes os ps c b all.0

@@ -132,27 +132,27 @@ reads_bounds bounds {x = x} possible r = reads_cases
 -- The set and the bounds of a state.
 module _ {X S K T L : Type 0} (reading : Reading T L) (seen : K → T)
     (tells : S → K → Bool → Type 0) (set : X → S) (bounds : X → Bounds) (form : ErrorForm) (x : X)
-    where
-  abbrev Members : X → T → Bool → Type 0
-  Members y = AnswersSeen seen (tells (set y))
+  where
+    abbrev Members : X → T → Bool → Type 0
+    Members y = AnswersSeen seen (tells (set y))
 
-  pub take_while_projects : SetIsFunction (AnswersSeen seen (tells (set x)))
-      → IsWithin (bounds x).greatest (bounds x).least
-      → Projects (TakeWhileDoes reading (λ y. AnswersSeen seen (tells (set y))) bounds) form x
-      (Longest reading seen tells (set x) (bounds x))
-  unfolding Longest
-  take_while_projects once possible =
-      projects (longest_unique reading seen tells (set x) (bounds x) once)
-      (reads_bounds bounds possible (reads_cases
-      (reads_lacks (missing_members reading Members bounds) (MayContinue reading Members bounds)
-      (λ w (all, more). true_is_false (sym more)))
-      (reads_cases
-      (reads_takes (HasEnough reading Members bounds)
-      (λ w v rest (f, (longest, over), enough, shown, p). (f, longest, enough, shown)))
-      (reads_fails (HasTooFew reading Members bounds)
-      (λ w (f, rest, (longest, over), few) v other (g, too, enough, shown).
-      let left = one_longest (Members x) (bounds x).greatest once longest too in
-      absurd (omega (arith, as_many f g longest.splits too.splits left, few, enough)))))))
+    pub take_while_projects : SetIsFunction (AnswersSeen seen (tells (set x)))
+        → IsWithin (bounds x).greatest (bounds x).least
+        → Projects (TakeWhileDoes reading (λ y. AnswersSeen seen (tells (set y))) bounds) form x
+        (Longest reading seen tells (set x) (bounds x))
+    unfolding Longest
+    take_while_projects once possible =
+        projects (longest_unique reading seen tells (set x) (bounds x) once)
+        (reads_bounds bounds possible (reads_cases
+        (reads_lacks (missing_members reading Members bounds) (MayContinue reading Members bounds)
+        (λ w (all, more). true_is_false (sym more)))
+        (reads_cases
+        (reads_takes (HasEnough reading Members bounds)
+        (λ w v rest (f, (longest, over), enough, shown, p). (f, longest, enough, shown)))
+        (reads_fails (HasTooFew reading Members bounds)
+        (λ w (f, rest, (longest, over), few) v other (g, too, enough, shown).
+        let left = one_longest (Members x) (bounds x).greatest once longest too in
+        absurd (omega (arith, as_many f g longest.splits too.splits left, few, enough)))))))
 
 pub take_till_projects : {X S K T L : Type 0} (reading : Reading T L) (seen : K → T)
     (tells : S → K → Bool → Type 0) (set : X → S) (bounds : X → Bounds) (form : ErrorForm) (x : X)

@@ -85,9 +85,11 @@ and_then_projects {S} {W} {T} {V} {O} {U} {inner = inner} {form} {q} {h = h} vie
     accepted : (o : O) (u : U) (f : W) → within view inner form q.1 o (took u f)
         → ReadsWithin view h tt o u
     accepted o u f (took v end, d, e) =
-        let same : v ≡ u = cc in
-        (end.1.tokens, subst (λ z. h (view o).left.tokens z end.1.tokens) same
-        (r.takes (left_of (view o)) v end (on_complete o (took v end) d)))
+        let same : v ≡ u = cc in (
+          end.1.tokens,
+          subst (λ z. h (view o).left.tokens z end.1.tokens) same
+              (r.takes (left_of (view o)) v end (on_complete o (took v end) d)),
+        )
     accepted o u f (backs end, d, e) = absurd (cc)
     accepted o u f (cuts end, d, e) = absurd (cc)
     accepted o u f (asks need end, d, e) = absurd (cc)
