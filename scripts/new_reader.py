@@ -8,9 +8,9 @@ import re
 import subprocess
 import sys
 
-from edits_read import Written, edits_of, text_of
 from formats import FORMATS
 from registry.common import CRATES, HEAD, TOP, read
+from registry.edits import FOLDER, Written, edits_of, text_of
 from vendor_beside import taken_names
 from wrap import wrapped
 
@@ -84,7 +84,7 @@ NEXT = """{crate} is created. Now change, in this order (docs/FIRST_PROOF.md exp
   {at}/specs/SettingsRead.antt: the grammar of each part, with a lemma
   tests/{crate}/lib.rs: its results, with expected values from another source
   {at}/proofs: the two answers
-  {at}/edits.txt: a wrong line for each definition
+  edits/{crate}.txt: a wrong line for each definition
   {at}/README.md: the page of the crate, with its theorem
   scripts/registry/readers.py, docs/ARCHITECTURE.md, crates.txt, changes/{crate}.md: the format
   CONTRIBUTING.md: the cost of its proof
@@ -118,7 +118,7 @@ def files(crate):
         yield CRATES / crate / new, text
     of = {it.name: renamed(it.text, crate) for it in edits_of("examples")}
     edits = [Written(crate, f"parse_file_{it}", of[f"settings_file_{it}"]) for it in EDITS]
-    yield CRATES / crate / "edits.txt", text_of(edits)
+    yield FOLDER / f"{crate}.txt", text_of(edits)
     yield CRATES / crate / "src/lib.rt", ROOT
     yield CRATES / crate / "specs/Lib.antt", f"-- {HEAD}\npub mod Settings\npub mod SettingsRead\n"
     yield CRATES / crate / "README.md", PAGE.format(crate=crate, what=WHAT)

@@ -5,8 +5,8 @@
 
 Each crate of `crates.txt` has a page, `crates/NAME/README.md`, of at most 2,000 words: its name as
 the title, what it is, each crate that it depends on, where to begin, and its theorems. ARCHITECTURE.md
-links each page. The links of the pages, of the documents in `docs/` and `bindings/` and of those at
-the top lead to existing files and headings. It fails if any of this is not so.
+links each page. The links of the pages, of the documents in `docs/`, `bindings/` and `edits/` and
+of those at the top lead to existing files and headings. It fails if any of this is not so.
 """
 import pathlib
 import re
@@ -81,7 +81,8 @@ def faults_of_page(name, others):
 
 
 def main():
-    documents = [it for folder in (".", "docs", "bindings") for it in sorted((TOP / folder).glob("*.md"))]
+    folders = [TOP / it for it in (".", "docs", "bindings", "edits")]
+    documents = [it for folder in folders for it in sorted(folder.glob("*.md"))]
     found = []
     for name, others in crates().items():
         page = CRATES / name / "README.md"
