@@ -14,8 +14,6 @@ READERS = [
     ("colors", "examples/color", "yes", "exactly"),
     ("lines of one letter", "examples/lines", "yes", "exactly; reads back"),
     ("trees of numbers in brackets", "examples/nested", "yes", "the first tree"),
-    ("options in brackets", "examples/options", "yes", "the first options; `Incomplete`"),
-    ("lines of settings and flags", "examples/assignments", "yes", "exactly; error offsets"),
     ("CSV (RFC 4180)", "format_csv", "no", "exactly, also for tables"),
     ("CSV in any dialect", "format_csv_records", "no",
         "the first record or invalid byte; written records read back"),
