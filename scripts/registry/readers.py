@@ -68,6 +68,13 @@ BRIEF = [
     ("TOML 1.0", ["format_toml_document", "format_toml", "format_toml_tree"],
         "exactly"),
 ]
+# What the static library has of a format, if not all of its theorems.
+EXPORTED = {
+    "CSV (RFC 4180)": "records",
+    "DNS": "entries",
+    "JSON": "complete texts",
+    "RESP2, RESP3": "replies, commands",
+}
 
 
 def lines(place, part, ending):
@@ -112,7 +119,7 @@ def write_readers():
         counted.append([what, link, is_by_grammars, *(f"{it:,}" for it in counts), proved])
     for what, crates, proved in BRIEF:
         links = ", ".join(f"[{it}](crates/{it}/README.md#theorems)" for it in crates)
-        is_exported = "yes" if {*crates} & of_library else "no"
+        is_exported = EXPORTED.get(what, "yes") if {*crates} & of_library else "no"
         brief.append([what, links, is_exported, proved])
     heads = ["Format", "Crate", "By grammars", "Source", "Specs", "Proofs", "Proved"]
     put(COUNTED, heads, counted)
