@@ -30,7 +30,6 @@ pub mod Parse
 pub mod ParseIter
 pub mod ParsePeek
 pub mod ParseTo
-pub mod Reads
 pub mod Runs
 pub mod SameMeaning
 pub mod Says
