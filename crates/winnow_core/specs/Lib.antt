@@ -30,6 +30,7 @@ pub mod Parse
 pub mod ParseIter
 pub mod ParsePeek
 pub mod ParseTo
+pub mod Reads
 pub mod Runs
 pub mod SameMeaning
 pub mod Says
