@@ -1,0 +1,10 @@
+-- Bytes are below 256.
+use Rattle.std.proofs.Common.{◌≡◌, ◌<◌, ℕ, zero, suc, List, [], ◌∷◌, get_or, Fits, w8, arith}
+use Rattle.machines.specs.Languages.{AreBytes}
+
+pub fits_low : (b : ℕ) → Fits w8 b → b < 256
+fits_low b fits = omega arith
+
+pub below : (bytes : List ℕ) → ((k : ℕ) → Fits w8 (get_or bytes k 0)) → AreBytes bytes
+below [] fit = tt
+below (b ∷ bytes) fit = (fits_low b (fit zero), below bytes (λ k. fit (suc k)))

@@ -1,0 +1,3 @@
+-- Lemmas.
+pub mod Bytes
+pub mod Extents
