@@ -1,3 +1,4 @@
 -- Lemmas.
 pub mod Bytes
 pub mod Extents
+pub mod Results

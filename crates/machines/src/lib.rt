@@ -8,6 +8,7 @@
 
 pub mod alt;
 pub mod extent;
+pub mod laws;
 pub mod machine;
 pub mod seq;
 pub mod sets;
