@@ -5,7 +5,7 @@ use Rattle.std.proofs.lemmas.Bool.{or_cases}
 use Rattle.machines.specs.Grammar.{AreDisjoint, HasEnded, Grammar, IsStopped, Lawful, Reaches, Path, Passes}
 use Rattle.machines.specs.Languages.{Derivative, AreBytes, HasNonEmpty, Language, NeverStarts}
 use Rattle.machines.specs.Bounds.{and_both, disjoint_by, or_left, or_right}
-use Rattle.machines.specs.Paths.{below_front, here}
+use Rattle.machines.specs.Paths.{below_front, here, stuck}
 use Rattle.machines.specs.declared.alt.Branch.{Branch}
 use Rattle.machines.specs.declared.alt.Branch.TheVariants.{Left, Neither, Right}
 
@@ -116,26 +116,6 @@ module _ {A B : Type 0} (a : Grammar A) (b : Grammar B) (la : Lawful a) (lb : La
       by [] splits path low = absurd (more (sym (ap (λ l. length l) splits)))
       by (x ∷ front) splits (next, goes, path) (first, lows) =
           (Right next, take_right x first next goes, lift_right next v front path)
-
-  -- where a machine passes nothing, its start goes on with nothing
-  stuck : {S : Type 0} (g : Grammar S) (u v : S) (bytes rest : List ℕ) → u ≡ g.start
-      → Passes g u bytes v rest → length rest ≡ length bytes → IsStopped (g.residual g.start) bytes
-  stuck {S = S} g u v bytes rest f (starts, ends) same =
-      let Q : S → Type 0 = λ p. Reaches g p bytes v rest in
-      let begun = subst Q f starts in by begun.front begun.splits begun.path
-    where
-      by : (front : List ℕ) → bytes ≡ front ++ rest → Path g g.start front v
-          → IsStopped (g.residual g.start) bytes
-      by [] splits e =
-          let R : List ℕ → Type 0 = λ l. IsStopped (g.residual v) l in
-          let T : S → Type 0 = λ p. IsStopped (g.residual p) bytes in
-          subst T (sym e) (subst R (sym splits) ends)
-      by (x ∷ front) splits path = absurd (omega (
-        arith,
-        same,
-        ap (λ l. length l) splits,
-        length-append (x ∷ front) rest,
-      ))
 
   pub alt_none : (at : Branch A B) (u v : A) (s t : B) (bytes rest left : List ℕ)
       → at ≡ Neither → u ≡ a.start → s ≡ b.start → Passes a u bytes v rest

@@ -8,4 +8,9 @@ pub mod Sets
 pub mod Seqs
 pub mod Stars
 pub mod Alts
+pub mod Numbers
+pub mod Counts
+pub mod Digits
+pub mod Radixes
+pub mod Marks
 pub mod Extents

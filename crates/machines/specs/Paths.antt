@@ -16,6 +16,13 @@ below_front front left bytes e low = by front (subst AreBytes e low)
     by [] low = tt
     by (b ∷ front) (here, low) = (here, by front low)
 
+pub below_back : (front left bytes : List ℕ) → bytes ≡ front ++ left → AreBytes bytes → AreBytes left
+below_back front left bytes e low = by front (subst AreBytes e low)
+  where
+    by : (front : List ℕ) → AreBytes (front ++ left) → AreBytes left
+    by [] low = low
+    by (b ∷ front) (here, low) = by front low
+
 module _ {S : Type 0} (g : Grammar S) where
   pub path_both : (from mid to : S) (front end : List ℕ) → Path g from front mid
       → Path g mid end to → Path g from (front ++ end) to
@@ -50,3 +57,23 @@ module _ {S : Type 0} (g : Grammar S) where
   pub shorter : {from to : S} {bytes left : List ℕ} (it : Reaches g from bytes to left)
       → length bytes ≡ length it.front + length left
   shorter {left = left} it = ap (λ l. length l) it.splits ∙ length-append it.front left
+
+-- if a machine passes nothing, no word starts with the next byte
+pub stuck : {S : Type 0} (g : Grammar S) (u v : S) (bytes rest : List ℕ) → u ≡ g.start
+    → Passes g u bytes v rest → length rest ≡ length bytes → IsStopped (g.residual g.start) bytes
+stuck {S = S} g u v bytes rest f (starts, ends) same =
+    let Q : S → Type 0 = λ p. Reaches g p bytes v rest in
+    let begun = subst Q f starts in by begun.front begun.splits begun.path
+  where
+    by : (front : List ℕ) → bytes ≡ front ++ rest → Path g g.start front v
+        → IsStopped (g.residual g.start) bytes
+    by [] splits e =
+        let R : List ℕ → Type 0 = λ l. IsStopped (g.residual v) l in
+        let T : S → Type 0 = λ p. IsStopped (g.residual p) bytes in
+        subst T (sym e) (subst R (sym splits) ends)
+    by (x ∷ front) splits path = absurd (omega (
+      arith,
+      same,
+      ap (λ l. length l) splits,
+      length-append (x ∷ front) rest,
+    ))

@@ -7,9 +7,12 @@
 #![tactic(auto)]
 
 pub mod alt;
+pub mod counted;
+pub mod digits;
 pub mod extent;
 pub mod laws;
 pub mod machine;
+pub mod number;
 pub mod seq;
 pub mod sets;
 pub mod star;

@@ -1,18 +1,10 @@
-use Rattle.std.proofs.Common.{◌≡◌, ◌∙◌, ◌++◌, ◌∷◌, [], ℕ, List, inl, inr, length, subst, sym, arith}
-use Rattle.machines.specs.Languages.{AreBytes}
+use Rattle.std.proofs.Common.{◌∙◌, inl, inr, length, sym, arith}
 use Rattle.std.proofs.lemmas.Bool.{eqb-true, iff_false}
-use Rattle.machines.specs.Paths.{here}
+use Rattle.machines.specs.Paths.{below_back, here}
 use Rattle.machines.specs.Stars.{star_ends, star_grammar, star_stops, star_turns}
 use Rattle.machines.proofs.Bytes.{below}
 use Rattle.machines.proofs.Extents.{fewer}
 use Rattle.machines.proofs.star.pass_words.Goals as goal
-
-below_back : (front left bytes : List ℕ) → bytes ≡ front ++ left → AreBytes bytes → AreBytes left
-below_back front left bytes e low = by front (subst AreBytes e low)
-  where
-    by : (front : List ℕ) → AreBytes (front ++ left) → AreBytes left
-    by [] low = low
-    by (b ∷ front) (here, low) = by front low
 
 pub turns-init : goal.turns-init
 turns-init g c = (
