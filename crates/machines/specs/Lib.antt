@@ -13,4 +13,7 @@ pub mod Counts
 pub mod Digits
 pub mod Radixes
 pub mod Marks
+pub mod Nests
+pub mod Items
+pub mod Turns
 pub mod Extents

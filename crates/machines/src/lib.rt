@@ -12,6 +12,7 @@ pub mod digits;
 pub mod extent;
 pub mod laws;
 pub mod machine;
+pub mod nested;
 pub mod number;
 pub mod seq;
 pub mod sets;
