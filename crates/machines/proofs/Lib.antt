@@ -2,3 +2,4 @@
 pub mod Bytes
 pub mod Extents
 pub mod Results
+pub mod Stacks

@@ -3,6 +3,7 @@ use Rattle.std.specs.Prelude.{◌≡◌, ◌≤◌, ◌<◌, ◌⊎◌, ◌-◌,
 use Rattle.machines.specs.Grammar.{AreDisjoint, Grammar}
 use Rattle.machines.specs.Languages.{Concat, Language, Repeated}
 use Rattle.machines.specs.declared.nested.Nest.{Nest}
+use Rattle.machines.specs.declared.nested.Pair.{Pair}
 
 -- Brackets of two kinds.
 pub record Brackets : Type 0 where
@@ -93,3 +94,39 @@ IsTurn b limit depth kinds x (Some to) =
     ((j : Bool) × (x ≡ b.opener j) × (depth < limit)
     × (stack to.0 to.1 ≡ j ∷ stack depth kinds))
     ⊎ ((k : Bool) × (x ≡ b.closer k) × (stack depth kinds ≡ k ∷ stack to.0 to.1))
+
+-- The brackets of two pairs, of which the second may be missing: 256 is not a byte.
+abbrev pub opener_of : Pair → Option Pair → Bool → ℕ
+opener_of one other false = one.opener
+opener_of one None true = 256
+opener_of one (Some other) true = other.opener
+
+abbrev pub closer_of : Pair → Option Pair → Bool → ℕ
+closer_of one other false = one.closer
+closer_of one None true = 256
+closer_of one (Some other) true = other.closer
+
+abbrev pub brackets_of : Pair → Option Pair → Brackets
+brackets_of one other = record { opener = opener_of one other; closer = closer_of one other }
+
+abbrev pub bit_of : Bool → ℕ
+bit_of false = 0
+bit_of true = 1
+
+-- the kind of an opening bracket, if it is one
+abbrev pub IsOpening : Brackets → ℕ → Option Bool → Type 0
+IsOpening b x None = (j : Bool) → x ≡ b.opener j → ⊥
+IsOpening b x (Some j) = x ≡ b.opener j
+
+-- the stack after a closing bracket, if it may come next
+abbrev pub IsClosing : Brackets → ℕ → ℕ → ℕ → Option (ℕ × ℕ) → Type 0
+IsClosing b depth kinds x None =
+    (k : Bool) (ks : List Bool) → stack depth kinds ≡ k ∷ ks → x ≡ b.closer k → ⊥
+IsClosing b depth kinds x (Some to) =
+    (k : Bool) × (x ≡ b.closer k) × (stack depth kinds ≡ k ∷ stack to.0 to.1)
+
+-- a bit below the 63 low ones
+abbrev pub IsPushed : ℕ → Bool → ℕ → Type 0
+IsPushed kinds kind result = ((result % 2 == 1) ≡ kind)
+    × ((result / 2 ≡ kinds) ⊎ ((9223372036854775808 ≤ kinds)
+    × (result / 2 ≡ kinds - 9223372036854775808)))
