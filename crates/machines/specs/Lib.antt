@@ -7,6 +7,9 @@ pub mod Paths
 pub mod Sets
 pub mod Seqs
 pub mod Stars
+pub mod Opts
+pub mod Texts
+pub mod Ranges
 pub mod Alts
 pub mod Numbers
 pub mod Counts

@@ -81,11 +81,6 @@ pub record AreApart {A : Type 0} (b : Brackets) (a : Grammar A) : Type 0 where
   pub brackets : AreDisjoint (is_open b) (is_close b)
   pub kinds : (b.opener false == b.opener true) ≡ false
 
--- the word that a state is in is whole
-abbrev pub InnerDone : {A : Type 0} → Grammar A → Option A → Type 0
-InnerDone a None = ⊤
-InnerDone a (Some s) = a.residual s []
-
 -- a bracket leads from one stack to another, if it may come next
 abbrev pub IsTurn : Brackets → ℕ → ℕ → ℕ → ℕ → Option (ℕ × ℕ) → Type 0
 IsTurn b limit depth kinds x None = ((j : Bool) → x ≡ b.opener j → limit ≤ depth)

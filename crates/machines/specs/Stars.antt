@@ -89,6 +89,21 @@ abbrev pub InnerStopped : {A : Type 0} → Grammar A → Option A → List ℕ �
 InnerStopped a None left = ⊤
 InnerStopped a (Some s) left = IsStopped (a.residual s) left
 
+-- the word that a state is in is whole
+abbrev pub InnerDone : {A : Type 0} → Grammar A → Option A → Type 0
+InnerDone a None = ⊤
+InnerDone a (Some s) = a.residual s []
+
+-- no word in a state continues with the byte
+abbrev pub Stays : {A : Type 0} → Grammar A → Option A → ℕ → Type 0
+Stays a None x = ⊤
+Stays a (Some s) x = NeverStarts (a.residual s) x
+
+pub stays : {A : Type 0} (a : Grammar A) (inner : Option A) (x : ℕ) (rest : List ℕ)
+    → InnerStopped a inner (x ∷ rest) → Stays a inner x
+stays a None x rest stopped = tt
+stays a (Some s) x rest never = never
+
 module _ {A : Type 0} (a : Grammar A) where
   pub star_done : (at : Option A) (s : A) → at ≡ Some s → (p : Bool) → IsTrue p ↔ a.residual s []
       → IsTrue p ↔ StarResidual a at []

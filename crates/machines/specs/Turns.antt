@@ -11,26 +11,16 @@ use Rattle.machines.specs.Items.{enclosed_step, item_first, item_leaf, item_neve
 use Rattle.machines.specs.Items.{item_solid, opener_is}
 use Rattle.machines.specs.Languages.{AreBytes, Concat, Derivative, HasNonEmpty, Language}
 use Rattle.machines.specs.Languages.{NeverStarts, Repeated}
-use Rattle.machines.specs.Nests.{AreApart, Balanced, Brackets, Enclosed, InnerDone, Item, IsTurn}
+use Rattle.machines.specs.Nests.{AreApart, Balanced, Brackets, Enclosed, Item, IsTurn}
 use Rattle.machines.specs.Nests.{LevelResidual, NestAt, NestResidual, OneByte, is_bracket, is_close}
 use Rattle.machines.specs.Nests.{is_open, nested_grammar, room, stack}
 use Rattle.machines.specs.Paths.{below_front, reaches_both, stuck}
-use Rattle.machines.specs.Stars.{InnerStopped, none_yet, once_more, repeated_byte, repeated_cases}
-use Rattle.machines.specs.Stars.{repeated_never}
+use Rattle.machines.specs.Stars.{InnerDone, InnerStopped, Stays, none_yet, once_more, repeated_byte}
+use Rattle.machines.specs.Stars.{repeated_cases, repeated_never, stays}
 use Rattle.machines.specs.declared.nested.Nest.{Nest}
 
 abbrev nest : {A : Type 0} → ℕ → ℕ → Option A → Nest A
 nest depth kinds inner = record { depth = depth; kinds = kinds; inner = inner }
-
--- no word in a state continues with the byte
-abbrev Stays : {A : Type 0} → Grammar A → Option A → ℕ → Type 0
-Stays a None x = ⊤
-Stays a (Some s) x = NeverStarts (a.residual s) x
-
-stays : {A : Type 0} (a : Grammar A) (inner : Option A) (x : ℕ) (rest : List ℕ)
-    → InnerStopped a inner (x ∷ rest) → Stays a inner x
-stays a None x rest stopped = tt
-stays a (Some s) x rest never = never
 
 stack_length : (depth kinds : ℕ) → length (stack depth kinds) ≡ depth
 stack_length zero kinds = refl

@@ -1,12 +1,13 @@
 //! Machines of nested brackets.
 ghost use Rattle.std.specs.Prelude.{◌≡◌, ◌≤◌, ◌↔◌, IsTrue};
 ghost use Rattle.machines.specs.Grammar.{Passes};
-ghost use Rattle.machines.specs.Nests.{AreApart, InnerDone, IsClosing, IsPushed, IsOpening};
+ghost use Rattle.machines.specs.Nests.{AreApart, IsClosing, IsPushed, IsOpening};
 ghost use Rattle.machines.specs.Nests.{IsTurn, bit_of, brackets_of, nested_grammar};
 ghost use Rattle.machines.specs.Stars.{InnerStopped};
 ghost use Rattle.machines.specs.Turns.{nested_lawful};
 
 use crate::machine::Machine;
+use crate::star::is_inner_done;
 
 /// An opening bracket, and the closing bracket that matches it.
 #[derive(Clone, Copy)]
@@ -22,17 +23,6 @@ pub struct Nest<S> {
     pub depth: usize,
     pub kinds: u64,
     pub inner: Option<S>,
-}
-
-#[inline(always)]
-fn is_inner_done<A: Machine>(machine: &A, at: Option<A::State>) -> bool
-    requires sound { A.sound machine.now }
-    ensures { IsTrue result ↔ InnerDone (A.grammar machine.now) at }
-{
-    match at {
-        None => true,
-        Some(inner) => machine.is_done(inner),
-    }
 }
 
 #[inline(always)]

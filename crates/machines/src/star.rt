@@ -1,10 +1,21 @@
 //! Machines of repeated words.
 ghost use Rattle.std.specs.Prelude.{◌≡◌, ◌↔◌, IsTrue, false, []};
 ghost use Rattle.machines.specs.Grammar.{AreDisjoint, Passes};
-ghost use Rattle.machines.specs.Stars.{InnerStopped, StarResidual, some_grammar, some_lawful};
-ghost use Rattle.machines.specs.Stars.{star_grammar, star_lawful};
+ghost use Rattle.machines.specs.Stars.{InnerDone, InnerStopped, StarResidual, some_grammar};
+ghost use Rattle.machines.specs.Stars.{some_lawful, star_grammar, star_lawful};
 
 use crate::machine::Machine;
+
+#[inline(always)]
+pub(crate) fn is_inner_done<A: Machine>(machine: &A, at: Option<A::State>) -> bool
+    requires sound { A.sound machine.now }
+    ensures { IsTrue result ↔ InnerDone (A.grammar machine.now) at }
+{
+    match at {
+        None => true,
+        Some(inner) => machine.is_done(inner),
+    }
+}
 
 #[inline(always)]
 fn is_whole<A: Machine>(machine: &A, at: Option<A::State>) -> bool
