@@ -20,3 +20,4 @@ pub mod Nests
 pub mod Items
 pub mod Turns
 pub mod Extents
+pub mod Examples

@@ -9,6 +9,7 @@
 pub mod alt;
 pub mod counted;
 pub mod digits;
+pub mod examples;
 pub mod extent;
 pub mod laws;
 pub mod machine;
