@@ -1,12 +1,14 @@
 -- The words of the examples.
-use Rattle.std.specs.Prelude.{ℕ, Bool, not, ◌&&◌, ◌==◌}
+use Rattle.std.specs.Prelude.{ℕ, List, [], ◌∷◌, Bool, not, ◌&&◌, ◌==◌, Some}
 use Rattle.std.proofs.Common.{refl}
 use Rattle.machines.specs.Alts.{Either}
 use Rattle.machines.specs.Digits.{MarkedNumeral}
 use Rattle.machines.specs.Languages.{AllOf, Concat, Language, OneOfThese, Repeated}
+use Rattle.machines.specs.Nests.{Balanced, Brackets, brackets_of}
 use Rattle.machines.specs.Numbers.{WithCount}
 use Rattle.machines.specs.Radixes.{decimal}
 use Rattle.machines.specs.Sets.{IsSet, only}
+use Rattle.machines.specs.Texts.{TextResidual}
 
 abbrev pub ByteText : ℕ → Language
 ByteText wanted = OneOfThese (only wanted)
@@ -32,3 +34,13 @@ some_not_quote = (97, refl)
 abbrev pub LineText : Language
 LineText = Concat (Repeated (Either (OneOfThese plain)
     (Concat (ByteText 34) (Concat (AllOf not_quote) (ByteText 34))))) (ByteText 10)
+
+-- Round brackets, and square ones.
+abbrev pub round_or_square : Brackets
+round_or_square = brackets_of (record { opener = 40; closer = 41 })
+    (Some (record { opener = 91; closer = 93 }))
+
+-- `list`, and then round brackets around dots and brackets.
+abbrev pub ListText : Language
+ListText = Concat (TextResidual (108 ∷ 105 ∷ 115 ∷ 116 ∷ []) 0) (Concat (ByteText 40)
+    (Concat (Balanced round_or_square (ByteText 46) 7) (ByteText 41)))

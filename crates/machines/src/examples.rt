@@ -1,16 +1,18 @@
-//! Machines in use: frames with a length, and lines with quotes.
+//! Machines in use: frames with a length, lines with quotes, and lists with brackets.
 ghost use Rattle.std.specs.Prelude.{ℕ, Bool};
-ghost use Rattle.machines.specs.Examples.{FrameText, LineText, not_quote, plain, some_not_quote};
-ghost use Rattle.machines.specs.Examples.{some_plain};
+ghost use Rattle.machines.specs.Examples.{FrameText, LineText, ListText, not_quote, plain};
+ghost use Rattle.machines.specs.Examples.{some_not_quote, some_plain};
 ghost use Rattle.machines.specs.Grammar.{Scanned};
 
 use crate::alt::Alt;
 use crate::counted::Counted;
 use crate::digits::{Decimal, Numeral};
 use crate::extent::{advance, begin};
+use crate::nested::{Nested, Pair};
 use crate::seq::Seq;
 use crate::sets::{Byte, ByteSet, OneOf, Run};
 use crate::star::Star;
+use crate::text::Text;
 
 /// Returns the length in bytes of the frame at the start of `bytes`: the length of its data in
 /// decimal digits, at most 4096, a colon, the data, and a comma. Returns `Ok(None)` if more bytes
@@ -84,6 +86,32 @@ pub fn line_len(bytes: &[u8]) -> Result<Option<usize>, usize>
 {
     let quoted = Seq(Byte(b'"'), Seq(Run(NotQuote), Byte(b'"')));
     let machine = Seq(Star(Alt(OneOf(Plain), quoted)), Byte(b'\n'));
+    let mut extent = begin(&machine);
+    advance(&machine, &mut extent, bytes)
+}
+
+/// Returns the length in bytes of the list at the start of `bytes`: the word `list`, and brackets
+/// that are balanced and nested at most 8 times, with dots between them. Returns `Ok(None)` if more
+/// bytes are needed.
+///
+/// # Errors
+///
+/// The offset of the first byte with which no list starts.
+///
+/// ```
+/// use machines::examples::list_len;
+///
+/// assert_eq!(rt; list_len(b"list(.[.].).".as_slice()), Ok(Some(11)));
+/// assert_eq!(rt; list_len(b"list([".as_slice()), Ok(None));
+/// assert_eq!(rt; list_len(b"list([)".as_slice()), Err(6));
+/// ```
+pub fn list_len(bytes: &[u8]) -> Result<Option<usize>, usize>
+    ensures { Scanned ListText bytes.now result }
+{
+    let round = Pair { opener: b'(', closer: b')' };
+    let square = Pair { opener: b'[', closer: b']' };
+    let items = Nested { word: Byte(b'.'), first: round, second: Some(square), limit: 7 };
+    let machine = Seq(Text(*b"list"), Seq(Byte(b'('), Seq(items, Byte(b')'))));
     let mut extent = begin(&machine);
     advance(&machine, &mut extent, bytes)
 }
