@@ -1,16 +1,19 @@
 -- Lemmas on scans.
-use Rattle.std.proofs.Common.{◌≡◌, ◌∙◌, ◌<◌, ◌≤◌, ◌-◌, ◌+◌, ◌++◌, ◌∷◌, [], ap, ℕ, List, length, append_assoc, arith, drop, take, length-append, refl, subst, sym, Bool, true}
+use Rattle.std.proofs.Common.{◌≡◌, ◌∙◌, ◌≤◌, ◌-◌, ◌++◌, ◌∷◌, [], ap, ℕ, List, length}
+use Rattle.std.proofs.Common.{append_assoc, arith, drop, take, length-append, refl, subst, sym}
+use Rattle.std.proofs.Common.{Bool, true}
 use Rattle.std.proofs.lemmas.List.{append-nil, drop_at, length-drop, take_all}
 use Rattle.std.specs.Prelude.{Err, None, Ok, Option, Result, Some}
-use Rattle.machines.specs.Grammar.{Scanned, HasEnded, Grammar, IsStopped, Lawful, Reaches, NoneLonger}
-use Rattle.machines.specs.Grammar.{FirstInvalid, Passes, LongestWord}
-use Rattle.machines.specs.Languages.{Derivative, HasNonEmpty, Language, NeverStarts}
-use Rattle.machines.specs.Paths.{here, reaches_both, path_after, shorter}
+use Rattle.machines.specs.Grammar.{Scanned, HasEnded, Grammar, IsStopped, Lawful, Reaches}
+use Rattle.machines.specs.Grammar.{NoneLonger}
+use Rattle.machines.specs.Grammar.{Passes}
+use Rattle.machines.specs.Languages.{Derivative}
+use Rattle.machines.specs.Paths.{reaches_both, path_after, shorter}
 use Rattle.machines.specs.Extents.{IsFinal, Continues, IsExtentOf, Reports}
 use Rattle.machines.specs.declared.extent.Extent.{Extent}
 
 module _ {S : Type 0} (g : Grammar S) (laws : Lawful g) where
-  -- a state with no longer word has the empty one
+  -- if no nonempty word completes a state, the empty one does
   empty_final : (at : S) (left : List ℕ) → IsFinal g at left → g.residual at []
   empty_final at [] ends = let (word, residual) = laws.live at in by word residual
     where
@@ -19,7 +22,7 @@ module _ {S : Type 0} (g : Grammar S) (laws : Lawful g) where
       by (b ∷ word) residual = absurd (ends b word residual)
   empty_final at (b ∷ left) residual = residual
 
-  -- what a state says of all bytes
+  -- the result for all bytes, by the state
   pub tells : (at : S) (n : ℕ) (bytes left front : List ℕ) → bytes ≡ front ++ left
       → Derivative (g.residual g.start) front (g.residual at) → length front ≡ n
       → IsStopped (g.residual at) left → (result : Result (Option ℕ) ℕ) → Reports g at n left result
@@ -129,12 +132,13 @@ module _ {S : Type 0} (g : Grammar S) where
         says = says;
       }
 
-  -- no more is left than there was
+  -- the rest is not longer than the input
   pub fewer : {from to : S} {bytes left : List ℕ} → Passes g from bytes to left
       → length left ≤ length bytes
   fewer it = omega (arith, shorter g it.0)
 
-  pub final_end : (at : S) (left : List ℕ) → length left ≡ 0 → HasEnded g at true → IsFinal g at left
+  pub final_end : (at : S) (left : List ℕ) → length left ≡ 0 → HasEnded g at true
+      → IsFinal g at left
   final_end at [] size ends = ends
   final_end at (b ∷ left) size ends = absurd (omega (arith, size))
 

@@ -1,12 +1,13 @@
 -- The results of a scan exclude each other.
-use Rattle.std.proofs.Common.{◌≡◌, ◌⊎◌, ◌∙◌, ◌++◌, ◌∷◌, [], ap, inl, inr, ℕ, List, length, append_assoc, refl, subst, sym}
+use Rattle.std.proofs.Common.{◌≡◌, ◌⊎◌, ◌∙◌, ◌++◌, ◌∷◌, [], ap, inl, inr, ℕ, List, length}
+use Rattle.std.proofs.Common.{append_assoc, refl, subst, sym}
 use Rattle.std.proofs.lemmas.List.{append-nil}
 use Rattle.std.specs.Prelude.{Err, None, Ok, Option, Result, Some}
 use Rattle.machines.specs.Concats.{first_same, others_same}
 use Rattle.machines.specs.Grammar.{FirstInvalid, LongestWord, NoneLonger, Scanned}
 use Rattle.machines.specs.Languages.{Language}
 
--- `long` is `short` and more, and the bytes after `short` start with what is more.
+-- `long` is `short` and more bytes, and `rest` starts with the first of these.
 record Longer (short rest long : List ℕ) : Type 0 where
   byte : ℕ
   word : List ℕ
@@ -14,7 +15,7 @@ record Longer (short rest long : List ℕ) : Type 0 where
   grown : long ≡ short ++ byte ∷ word
   begins : rest ≡ byte ∷ more
 
--- two prefixes of the same bytes
+-- of two prefixes of the same bytes, one is a prefix of the other
 compare : (one two rest more : List ℕ) → one ++ rest ≡ two ++ more
     → (one ≡ two) ⊎ Longer one rest two ⊎ Longer two more one
 compare [] [] rest more e = inl refl

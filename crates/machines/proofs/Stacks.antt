@@ -1,12 +1,13 @@
 -- Lemmas on stacks of bits.
-use Rattle.std.proofs.Common.{◌≡◌, ◌∙◌, ◌<◌, ◌≤◌, ◌+◌, ◌-◌, ◌/◌, ◌%◌, ◌==◌, ◌⊎◌, ℕ, zero, suc, List, ◌∷◌, Bool, add-one, ap, arith, inl, inr, refl, subst, sym}
+use Rattle.std.proofs.Common.{◌≡◌, ◌∙◌, ◌<◌, ◌≤◌, ◌+◌, ◌-◌, ◌/◌, ◌%◌, ◌==◌, ◌⊎◌}
+use Rattle.std.proofs.Common.{ℕ, zero, suc, ◌∷◌, Bool, ap, arith, inl, inr, refl, subst}
 use Rattle.machines.specs.Nests.{Brackets, IsPushed, stack}
 
 doubled : ℕ → ℕ
 doubled zero = 1
 doubled (suc m) = doubled m + doubled m
 
--- a bit above the stack does not matter
+-- a bit above the stack does not change it
 stack_minus : (d m kinds : ℕ) → d ≤ m → doubled m ≤ kinds
     → stack d (kinds - doubled m) ≡ stack d kinds
 unfolding doubled
@@ -15,12 +16,12 @@ stack_minus (suc d) zero kinds low large = absurd (omega (arith, low))
 stack_minus (suc d) (suc m) kinds low large =
     let bit : (kinds - (doubled m + doubled m)) % 2 ≡ kinds % 2 = omega (arith, large) in
     let half : (kinds - (doubled m + doubled m)) / 2 ≡ kinds / 2 - doubled m =
-        omega (arith, large) in
+    omega (arith, large) in
     let rest : stack d (kinds / 2 - doubled m) ≡ stack d (kinds / 2) =
-        stack_minus d m (kinds / 2) (omega (arith, low)) (omega (arith, large)) in
+    stack_minus d m (kinds / 2) (omega (arith, low)) (omega (arith, large)) in
     ap (λ n. (n == 1) ∷ stack d ((kinds - (doubled m + doubled m)) / 2)) bit
-        ∙ ap (λ n. (kinds % 2 == 1) ∷ stack d n) half
-        ∙ ap (λ l. (kinds % 2 == 1) ∷ l) rest
+    ∙ ap (λ n. (kinds % 2 == 1) ∷ stack d n) half
+    ∙ ap (λ l. (kinds % 2 == 1) ∷ l) rest
 
 doubled_63 : doubled 63 ≡ 9223372036854775808
 unfolding doubled

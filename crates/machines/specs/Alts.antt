@@ -1,15 +1,16 @@
--- A choice by the first byte.
-use Rattle.std.specs.Prelude.{◌≡◌, ◌⊎◌, ◌<◌, ℕ, List, [], ◌∷◌, ◌++◌, Bool, true, false, IsTrue, ◌&&◌, ◌||◌, ◌↔◌, length}
-use Rattle.std.proofs.Common.{◌∙◌, inl, inr, refl, sym, subst, ap, length-append, arith}
-use Rattle.std.proofs.lemmas.Bool.{or_cases}
-use Rattle.machines.specs.Grammar.{AreDisjoint, HasEnded, Grammar, IsStopped, Lawful, Reaches, Path, Passes}
-use Rattle.machines.specs.Languages.{Derivative, AreBytes, HasNonEmpty, Language, NeverStarts}
+-- The grammar of a choice that the first byte decides.
+use Rattle.std.specs.Prelude.{◌≡◌, ◌⊎◌, ◌<◌, ℕ, List, [], ◌∷◌, ◌++◌, Bool, true, false, IsTrue}
+use Rattle.std.specs.Prelude.{◌&&◌, ◌||◌, ◌↔◌, length}
+use Rattle.std.proofs.Common.{inl, inr, sym, subst, ap}
+use Rattle.machines.specs.Grammar.{AreDisjoint, HasEnded, Grammar, IsStopped, Lawful, Reaches, Path}
+use Rattle.machines.specs.Grammar.{Passes}
+use Rattle.machines.specs.Languages.{Derivative, AreBytes, Language}
 use Rattle.machines.specs.Bounds.{and_both, disjoint_by, or_left, or_right}
 use Rattle.machines.specs.Paths.{below_front, here, stuck}
 use Rattle.machines.specs.declared.alt.Branch.{Branch}
 use Rattle.machines.specs.declared.alt.Branch.TheVariants.{Left, Neither, Right}
 
--- A word of the one or of the other.
+-- `Either L K`: a word of `L` or of `K`.
 abbrev pub Either : Language → Language → Language
 Either L K bytes = L bytes ⊎ K bytes
 
@@ -41,11 +42,15 @@ module _ {A B : Type 0} (a : Grammar A) (b : Grammar B) (la : Lawful a) (lb : La
   lift_right s t (x ∷ front) (next, goes, path) =
       (Right next, goes, lift_right next t front path)
 
-  first_left : (x : ℕ) (s : A) → Derivative (a.residual a.start) (x ∷ []) (a.residual s) → IsTrue (a.firsts x)
-  first_left x s goes = let (word, residual) = la.live s in la.first x word (goes.there word residual)
+  first_left : (x : ℕ) (s : A) → Derivative (a.residual a.start) (x ∷ []) (a.residual s)
+      → IsTrue (a.firsts x)
+  first_left x s goes =
+      let (word, residual) = la.live s in la.first x word (goes.there word residual)
 
-  first_right : (x : ℕ) (s : B) → Derivative (b.residual b.start) (x ∷ []) (b.residual s) → IsTrue (b.firsts x)
-  first_right x s goes = let (word, residual) = lb.live s in lb.first x word (goes.there word residual)
+  first_right : (x : ℕ) (s : B) → Derivative (b.residual b.start) (x ∷ []) (b.residual s)
+      → IsTrue (b.firsts x)
+  first_right x s goes =
+      let (word, residual) = lb.live s in lb.first x word (goes.there word residual)
 
   take_left : (x : ℕ) → x < 256 → (s : A) → Derivative (a.residual a.start) (x ∷ []) (a.residual s)
       → Derivative (AltResidual a b Neither) (x ∷ []) (a.residual s)
@@ -54,7 +59,8 @@ module _ {A B : Type 0} (a : Grammar A) (b : Grammar B) (la : Lawful a) (lb : La
     back = λ word it. by word it;
   }
     where
-      by : (word : List ℕ) → Either (a.residual a.start) (b.residual b.start) (x ∷ word) → a.residual s word
+      by : (word : List ℕ) → Either (a.residual a.start) (b.residual b.start) (x ∷ word)
+          → a.residual s word
       by word (inl it) = goes.back word it
       by word (inr it) = absurd (disjoint_by a.firsts b.firsts disjoint x low (first_left x s goes)
           (lb.first x word it))
@@ -66,7 +72,8 @@ module _ {A B : Type 0} (a : Grammar A) (b : Grammar B) (la : Lawful a) (lb : La
     back = λ word it. by word it;
   }
     where
-      by : (word : List ℕ) → Either (a.residual a.start) (b.residual b.start) (x ∷ word) → b.residual s word
+      by : (word : List ℕ) → Either (a.residual a.start) (b.residual b.start) (x ∷ word)
+          → b.residual s word
       by word (inl it) = absurd (disjoint_by a.firsts b.firsts disjoint x low (la.first x word it)
           (first_right x s goes))
       by word (inr it) = goes.back word it
@@ -128,7 +135,8 @@ module _ {A B : Type 0} (a : Grammar A) (b : Grammar B) (la : Lawful a) (lb : La
         by bytes (stuck a u v bytes rest f one same) (stuck b s t bytes left h two also),
       )
     where
-      by : (bytes : List ℕ) → IsStopped (a.residual a.start) bytes → IsStopped (b.residual b.start) bytes
+      by : (bytes : List ℕ) → IsStopped (a.residual a.start) bytes
+          → IsStopped (b.residual b.start) bytes
           → IsStopped (AltResidual a b Neither) bytes
       by [] one two = tt
       by (x ∷ bytes) one two = never
@@ -171,7 +179,8 @@ module _ {A B : Type 0} (a : Grammar A) (b : Grammar B) (la : Lawful a) (lb : La
       subst P (sym e) (λ is. inl (subst Q f residual), λ it. on)
 
   pub alt_other : (at : Branch A B) (s : A) (t : B) → at ≡ Neither → s ≡ a.start → t ≡ b.start
-      → (q : Bool) → (a.residual s [] → ⊥) → IsTrue q ↔ b.residual t [] → IsTrue q ↔ AltResidual a b at []
+      → (q : Bool) → (a.residual s [] → ⊥) → IsTrue q ↔ b.residual t []
+      → IsTrue q ↔ AltResidual a b at []
   alt_other at s t e f h q not two =
       let P : Branch A B → Type 0 = λ x. IsTrue q ↔ AltResidual a b x [] in
       let Q : A → Type 0 = λ x. a.residual x [] → ⊥ in
@@ -197,7 +206,8 @@ module _ {A B : Type 0} (a : Grammar A) (b : Grammar B) (la : Lawful a) (lb : La
           → HasEnded (alt_grammar a b) Neither q
       by true one two = never
         where
-          never : (x : ℕ) (word : List ℕ) → Either (a.residual a.start) (b.residual b.start) (x ∷ word) → ⊥
+          never : (x : ℕ) (word : List ℕ)
+              → Either (a.residual a.start) (b.residual b.start) (x ∷ word) → ⊥
           never x word (inl it) = one x word it
           never x word (inr it) = two x word it
       by false one two = (two.0, two.1, inr two.2)
@@ -216,7 +226,8 @@ module _ {A B : Type 0} (a : Grammar A) (b : Grammar B) (la : Lawful a) (lb : La
   pub left_over : (at : Branch A B) (s : A) → at ≡ Left s → (p : Bool) → HasEnded a s p
       → HasEnded (alt_grammar a b) at p
   left_over at s e p one =
-      let P : Branch A B → Type 0 = λ x. HasEnded (alt_grammar a b) x p in subst P (sym e) (by p one)
+      let P : Branch A B → Type 0 =
+      λ x. HasEnded (alt_grammar a b) x p in subst P (sym e) (by p one)
     where
       by : (p : Bool) → HasEnded a s p → HasEnded (alt_grammar a b) (Left s) p
       by true one = one
@@ -225,7 +236,8 @@ module _ {A B : Type 0} (a : Grammar A) (b : Grammar B) (la : Lawful a) (lb : La
   pub right_over : (at : Branch A B) (s : B) → at ≡ Right s → (p : Bool) → HasEnded b s p
       → HasEnded (alt_grammar a b) at p
   right_over at s e p one =
-      let P : Branch A B → Type 0 = λ x. HasEnded (alt_grammar a b) x p in subst P (sym e) (by p one)
+      let P : Branch A B → Type 0 =
+      λ x. HasEnded (alt_grammar a b) x p in subst P (sym e) (by p one)
     where
       by : (p : Bool) → HasEnded b s p → HasEnded (alt_grammar a b) (Right s) p
       by true one = one
@@ -238,18 +250,22 @@ module _ {A B : Type 0} (a : Grammar A) (b : Grammar B) (la : Lawful a) (lb : La
           → IsTrue (a.firsts x || b.firsts x)
       first x word (inl it) = or_left (a.firsts x) (b.firsts x) (la.first x word it)
       first x word (inr it) = or_right (a.firsts x) (b.firsts x) (lb.first x word it)
+
       null : Either (a.residual a.start) (b.residual b.start) [] → IsTrue (a.nullable || b.nullable)
       null (inl it) = or_left a.nullable b.nullable (la.null it)
       null (inr it) = or_right a.nullable b.nullable (lb.null it)
+
       near : (x : ℕ) → IsTrue (a.nexts x || b.nexts x) → IsTrue ((a.nexts x || b.nexts x)
           || ((a.nullable && b.firsts x) || (b.nullable && a.firsts x)))
       near x it = or_left (a.nexts x || b.nexts x)
           ((a.nullable && b.firsts x) || (b.nullable && a.firsts x)) it
+
       far : (x : ℕ) → IsTrue ((a.nullable && b.firsts x) || (b.nullable && a.firsts x))
           → IsTrue ((a.nexts x || b.nexts x)
           || ((a.nullable && b.firsts x) || (b.nullable && a.firsts x)))
       far x it = or_right (a.nexts x || b.nexts x)
           ((a.nullable && b.firsts x) || (b.nullable && a.firsts x)) it
+
       next : (at : Branch A B) (x : ℕ) (word : List ℕ) → AltResidual a b at []
           → AltResidual a b at (x ∷ word) → IsTrue ((a.nexts x || b.nexts x)
           || ((a.nullable && b.firsts x) || (b.nullable && a.firsts x)))
@@ -267,6 +283,7 @@ module _ {A B : Type 0} (a : Grammar A) (b : Grammar B) (la : Lawful a) (lb : La
           near x (or_left (a.nexts x) (b.nexts x) (la.next s x word it more))
       next (Right s) x word it more =
           near x (or_right (a.nexts x) (b.nexts x) (lb.next s x word it more))
+
       live : (at : Branch A B) → (word : List ℕ) × AltResidual a b at word
       live Neither = let (word, residual) = la.live a.start in (word, inl residual)
       live (Left s) = la.live s

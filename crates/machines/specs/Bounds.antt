@@ -1,6 +1,7 @@
 -- Lemmas on bounds.
-use Rattle.std.proofs.Common.{◌≡◌, ◌⊎◌, ◌<◌, ap, inl, inr, subst, sym, refl, ℕ, zero, suc, Bool, true, false, not, ◌&&◌, ◌||◌, IsTrue, arith}
-use Rattle.std.proofs.lemmas.Bool.{and_parts, cases_Bool}
+use Rattle.std.proofs.Common.{◌≡◌, ◌⊎◌, ◌<◌, inl, inr, subst, refl, ℕ, zero, suc, Bool, true, false}
+use Rattle.std.proofs.Common.{not, ◌&&◌, ◌||◌, IsTrue, arith}
+use Rattle.std.proofs.lemmas.Bool.{and_parts}
 use Rattle.machines.specs.Grammar.{Disjoint, AreDisjoint, disjoint_below}
 
 pub or_left : (p q : Bool) → IsTrue p → IsTrue (p || q)
@@ -35,7 +36,7 @@ below (suc n) f g is b low one two =
     cases_lt_or : (b n : ℕ) → b < suc n → (b ≡ n) ⊎ (b < n)
     cases_lt_or b n low = grind arith
 
--- what the test tells
+-- the test implies that no byte is in both sets
 pub disjoint_by : (f g : ℕ → Bool) → AreDisjoint f g → Disjoint f g
 unfolding AreDisjoint
 disjoint_by f g it b low one two = below 256 f g it b low one two

@@ -1,5 +1,5 @@
--- Lemmas on joined languages.
-use Rattle.std.proofs.Common.{◌≡◌, ◌⊎◌, ◌∙◌, ap, inl, inr, subst, sym, refl, ℕ, suc, List, [], ◌∷◌, ◌++◌, append_assoc}
+-- Lemmas on concatenations.
+use Rattle.std.proofs.Common.{◌≡◌, ◌⊎◌, ap, inl, inr, subst, sym, refl, ℕ, List, [], ◌∷◌, ◌++◌}
 use Rattle.machines.specs.Languages.{Derivative, HasNonEmpty, Concat, Language, NeverStarts}
 
 pub first_same : {x y : ℕ} {xs ys : List ℕ} → x ∷ xs ≡ y ∷ ys → x ≡ y
@@ -8,12 +8,12 @@ first_same e = cc
 pub others_same : {x y : ℕ} {xs ys : List ℕ} → x ∷ xs ≡ y ∷ ys → xs ≡ ys
 others_same e = cc
 
--- the head of a word, by another name
+-- replaces the first byte of a word by an equal one
 pub renamed : (L : Language) {x b : ℕ} {word : List ℕ} → b ≡ x → L (x ∷ word) → L (b ∷ word)
 renamed L {word = word} e it = let P : ℕ → Type 0 = λ y. L (y ∷ word) in subst P (sym e) it
 
 module _ {L K : Language} where
-  -- a joined word that is not empty: the first is empty, or it starts it
+  -- a nonempty word of a concatenation: its first part is empty, or has the first byte
   pub concat_cases : {b : ℕ} {word : List ℕ} → Concat L K (b ∷ word)
       → (L [] × K (b ∷ word))
       ⊎ ((left : List ℕ) × (right : List ℕ) × (word ≡ left ++ right) × L (b ∷ left) × K right)
@@ -30,7 +30,7 @@ module _ {L K : Language} where
   concat left right one two =
       record { left = left; right = right; splits = refl; first = one; second = two }
 
-  -- a byte in the first
+  -- the derivative by a byte of the first part
   pub concat_first : {L' : Language} (b : ℕ) → Derivative L (b ∷ []) L' → (L [] → NeverStarts K b)
       → Derivative (Concat L K) (b ∷ []) (Concat L' K)
   concat_first {L' = L'} b goes disjoint = record {
@@ -56,7 +56,7 @@ module _ {L K : Language} where
         second = two;
       }
 
-  -- a byte in the second, after the first
+  -- the derivative by a byte of the second part
   pub concat_second : {K' : Language} (b : ℕ) → NeverStarts L b → L [] → Derivative K (b ∷ []) K'
       → Derivative (Concat L K) (b ∷ []) K'
   concat_second {K' = K'} b never empty goes = record {
@@ -70,8 +70,9 @@ module _ {L K : Language} where
       by word (inl (one, two)) = goes.back word two
       by word (inr (left, right, e, one, two)) = absurd (never left one)
 
-  -- a byte in neither
-  pub concat_never : (b : ℕ) → NeverStarts L b → (L [] → NeverStarts K b) → NeverStarts (Concat L K) b
+  -- no word starts with a byte of neither part
+  pub concat_never : (b : ℕ) → NeverStarts L b → (L [] → NeverStarts K b)
+      → NeverStarts (Concat L K) b
   concat_never b never disjoint word it = by (concat_cases it)
     where
       by : (L [] × K (b ∷ word))

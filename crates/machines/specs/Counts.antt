@@ -1,5 +1,6 @@
 -- The grammar of data after their length.
-use Rattle.std.specs.Prelude.{◌≡◌, ◌+◌, ◌⊎◌, ℕ, zero, suc, List, [], ◌∷◌, ◌++◌, Bool, true, false, IsTrue, ⊤, Option, Some, None, ◌↔◌, ◌==◌, length}
+use Rattle.std.specs.Prelude.{◌≡◌, ◌+◌, ◌⊎◌, ℕ, zero, suc, List, [], ◌∷◌, ◌++◌, Bool, true, false}
+use Rattle.std.specs.Prelude.{IsTrue, None, ◌↔◌, ◌==◌, length}
 use Rattle.std.proofs.Common.{◌∙◌, inl, inr, refl, sym, subst, ap, append_assoc, arith}
 use Rattle.std.proofs.lemmas.Bool.{eq-eqb, eqb-false, eqb-true}
 use Rattle.machines.specs.Concats.{concat, concat_cases, concat_empty, concat_first}
@@ -24,7 +25,7 @@ counted_grammar g = record {
   nullable = false;
 }
 
--- `n` zero bytes
+-- the word of `n` zero bytes
 abbrev zeros : ℕ → List ℕ
 zeros zero = []
 zeros (suc n) = 0 ∷ zeros n
@@ -74,7 +75,7 @@ module _ {S : Type 0} (g : Numerals S) where
       )
 
 module _ {S : Type 0} (g : Numerals S) (laws : AreNumerals g) where
-  -- a byte of the numeral
+  -- the derivative by a byte of the numeral
   numeral_step : (s t : S) (x : ℕ)
       → ((n : ℕ) → Derivative (g.spells s n) (x ∷ []) (g.spells t n))
       → Derivative (WithCount (g.spells s)) (x ∷ []) (WithCount (g.spells t))
@@ -94,7 +95,7 @@ module _ {S : Type 0} (g : Numerals S) (laws : AreNumerals g) where
   lift s t (x ∷ front) (next, goes, steps) =
       (Numeral next, numeral_step s next x goes, lift next t front steps)
 
-  -- the first byte of the data
+  -- the derivative by the first byte of the data
   whole_step : (s : S) (n x : ℕ) → g.spells s (suc n) []
       → Derivative (WithCount (g.spells s)) (x ∷ []) (OfLength n)
   whole_step s n x empty = record {
@@ -114,7 +115,7 @@ module _ {S : Type 0} (g : Numerals S) (laws : AreNumerals g) where
   in_numeral s t bytes left it =
       record { front = it.front; splits = it.splits; path = lift s t it.front it.steps }
 
-  -- the numeral is not whole
+  -- the numeral is incomplete
   pub counted_waits : (at : Count S) (s t : S) (bytes left : List ℕ) → at ≡ Numeral s
       → Reads g s bytes t left → HasValue g t None
       → Passes (counted_grammar g) at bytes (Numeral t) left
@@ -132,7 +133,7 @@ module _ {S : Type 0} (g : Numerals S) (laws : AreNumerals g) where
           never word n (inl (one, size)) = none n one
           never word n (inr (left, right, e, one, size)) = stopped n left one
 
-  -- a whole numeral of no data
+  -- after the numeral of zero, no byte may come
   no_longer : (s : S) (n : ℕ) → g.spells s n [] → 0 ≡ n → (x : ℕ)
       → NeverStarts (WithCount (g.spells s)) x
   no_longer s n value none x word in_it = never in_it.0 (concat_cases in_it.1)
@@ -143,7 +144,7 @@ module _ {S : Type 0} (g : Numerals S) (laws : AreNumerals g) where
       never m (inl (one, size)) = omega (arith, size, none, laws.one s m n one value)
       never m (inr (left, right, e, one, size)) = laws.ended s n m x value left one
 
-  -- no data, or no bytes
+  -- the numeral is complete, and no byte of data is next
   pub counted_stays : (at : Count S) (s t : S) (bytes left : List ℕ) (n : ℕ) → at ≡ Numeral s
       → Reads g s bytes t left → g.spells t n [] → (n ≡ 0) ⊎ (length left ≡ 0)
       → Passes (counted_grammar g) at bytes (Numeral t) left
@@ -157,7 +158,7 @@ module _ {S : Type 0} (g : Numerals S) (laws : AreNumerals g) where
       by (x ∷ left) (inr none) = absurd (omega (arith, none))
       by (x ∷ left) (inl none) = no_longer t n value (sym none) x
 
-  -- the data start
+  -- the first byte of the data is next
   pub counted_turns : (at : Count S) (s t : S) (bytes left : List ℕ) (n more : ℕ)
       (rest : List ℕ) → at ≡ Numeral s → Reads g s bytes t left → g.spells t n []
       → (n ≡ 0 → ⊥) → (length left ≡ 0 → ⊥) → PassesData n left more rest
@@ -184,13 +185,13 @@ module _ {S : Type 0} (g : Numerals S) (laws : AreNumerals g) where
                 ∙ sym (append_assoc it.front (x ∷ front) rest);
             path = path_both (counted_grammar g) (Numeral s) (Numeral t) (Data more) it.front
                 (x ∷ front) (lift s t it.front it.steps) (
-              Data (length front + more),
-              whole_step t (length front + more) x (subst R size value),
-              data_path g (length front + more) more front refl,
-            );
+                  Data (length front + more),
+                  whole_step t (length front + more) x (subst R size value),
+                  data_path g (length front + more) more front refl,
+                );
           }
 
-  -- ---- whole words
+  -- ---- complete words
 
   pub counted_done : (at : Count S) (s : S) (n : ℕ) → at ≡ Numeral s → g.spells s n []
       → IsTrue (n == 0) ↔ CountedResidual g at []
@@ -254,7 +255,8 @@ module _ {S : Type 0} (g : Numerals S) (laws : AreNumerals g) where
     where
       by : (n : ℕ) (word : List ℕ) → g.spells s n word → HasNonEmpty (WithCount (g.spells s))
       by n [] due = absurd (none n due)
-      by n (x ∷ word) due = (x, word ++ zeros n, (n, concat (x ∷ word) (zeros n) due (zeros_length n)))
+      by n (x ∷ word) due =
+          (x, word ++ zeros n, (n, concat (x ∷ word) (zeros n) due (zeros_length n)))
 
   pub counted_lawful : Lawful (counted_grammar g)
   counted_lawful = record {
@@ -269,11 +271,13 @@ module _ {S : Type 0} (g : Numerals S) (laws : AreNumerals g) where
           × g.spells g.start n (x ∷ left) × OfLength n right) → IsTrue (g.firsts x)
       first x word n (inl (one, size)) = absurd (laws.filled n one)
       first x word n (inr (left, right, e, one, size)) = laws.first n x left one
+
       next : (at : Count S) (x : ℕ) (word : List ℕ) → CountedResidual g at []
           → CountedResidual g at (x ∷ word) → IsTrue false
       next (Data n) x word it more = absurd (omega (arith, it, more))
       next (Numeral s) x word it more = let (value, size) = concat_empty it.1 in
           absurd (no_longer s it.0 value size x word more)
+
       live : (at : Count S) → (word : List ℕ) × CountedResidual g at word
       live (Data n) = (zeros n, zeros_length n)
       live (Numeral s) = let (n, word, due) = laws.live s in

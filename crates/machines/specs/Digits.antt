@@ -1,58 +1,58 @@
 -- Numerals of digits, with a mark after them.
-use Rattle.std.specs.Prelude.{◌≡◌, ◌≤◌, ◌<◌, ◌+◌, ◌*◌, ◌⊎◌, ℕ, zero, suc, List, [], ◌∷◌, ◌++◌, Bool, true, false, IsTrue, ⊤, Option, Some, None, length}
-use Rattle.std.proofs.Common.{◌∙◌, inl, inr, refl, sym, subst, ap, append_assoc, length-append, arith}
-use Rattle.machines.specs.Bounds.{disjoint_by}
-use Rattle.machines.specs.Concats.{concat, concat_cases, concat_empty, concat_first}
-use Rattle.machines.specs.Grammar.{AreDisjoint, Grammar, IsStopped, Lawful, Passes, Path, Reaches}
-use Rattle.machines.specs.Languages.{AreBytes, Concat, Derivative, Language, NeverStarts}
-use Rattle.machines.specs.Numbers.{AreNumerals, HasNoNext, HasValue, Numerals, Reads, Steps}
+use Rattle.std.specs.Prelude.{◌≡◌, ◌≤◌, ◌<◌, ◌+◌, ◌*◌, ◌⊎◌, ℕ, zero, suc, List, [], ◌∷◌}
+use Rattle.std.specs.Prelude.{◌++◌, Bool, IsTrue, ⊤, Option, Some, None}
+use Rattle.std.proofs.Common.{inl, inr, arith}
+use Rattle.machines.specs.Grammar.{Grammar}
+use Rattle.machines.specs.Languages.{Concat, Language}
+use Rattle.machines.specs.Numbers.{Numerals, Steps}
 use Rattle.machines.specs.declared.digits.Stage.{Stage}
 use Rattle.machines.specs.declared.digits.Stage.TheVariants.{Digits, Mark, Start}
 
--- The digits of a radix: which bytes are one, and their values.
+-- The digits of a radix: the bytes that are digits, and their values.
 pub record DigitSet : Type 0 where
   pub radix : ℕ
   pub has : ℕ → Bool
   pub value : ℕ → ℕ
 
--- The radix is at least two, and there is a zero.
+-- `AreDigits d`: the radix is at least two, and some byte is the digit zero.
 pub record AreDigits (d : DigitSet) : Type 0 where
   pub two : 2 ≤ d.radix
   pub zero_digit : ℕ
   pub is_digit : IsTrue (d.has zero_digit)
   pub is_zero : d.value zero_digit ≡ 0
 
--- The digits that continue the number `from` to `n`.
+-- `DigitsOf d from n`: the digits that continue the number `from` to `n`.
 abbrev pub DigitsOf : DigitSet → ℕ → ℕ → Language
 DigitsOf d from n [] = from ≡ n
 DigitsOf d from n (b ∷ bytes) = IsTrue (d.has b) × DigitsOf d (from * d.radix + d.value b) n bytes
 
--- One or more digits of the number `n`.
+-- `NumeralOf d n`: one or more digits of the number `n`.
 abbrev pub NumeralOf : DigitSet → ℕ → Language
 NumeralOf d n [] = ⊥
 NumeralOf d n (b ∷ bytes) = DigitsOf d 0 n (b ∷ bytes)
 
--- A numeral of `n`, at most `limit`, and the mark.
+-- A numeral of `n` and then a word of `mark`, if `n` is at most `limit`.
 abbrev pub MarkedNumeral : DigitSet → ℕ → Language → ℕ → Language
 MarkedNumeral d limit mark n bytes = (n ≤ limit) × Concat (NumeralOf d n) mark bytes
 
--- the digit of a byte, if it is one
+-- the value of the byte `b`, if it is a digit
 abbrev pub IsDigitOf : DigitSet → ℕ → Option ℕ → Type 0
 IsDigitOf d b None = IsTrue (d.has b) → ⊥
 IsDigitOf d b (Some n) = IsTrue (d.has b) × (n ≡ d.value b)
 
--- the number with one more digit, if it is at most `limit`
+-- the number `from` with the digit `b`, if it is at most `limit`
 abbrev pub IsNumberWith : DigitSet → ℕ → ℕ → ℕ → Option ℕ → Type 0
 IsNumberWith d limit from b None = IsTrue (d.has b) → limit < from * d.radix + d.value b
 IsNumberWith d limit from b (Some n) =
     IsTrue (d.has b) × (from * d.radix + d.value b ≡ n) × (n ≤ limit)
 
--- no digit is next with which the number is at most `limit`
+-- with the next digit, if there is one, the number is over `limit`
 abbrev pub HasNoDigit : DigitSet → ℕ → ℕ → List ℕ → Type 0
 HasNoDigit d limit from [] = ⊤
 HasNoDigit d limit from (b ∷ bytes) = IsTrue (d.has b) → limit < from * d.radix + d.value b
 
--- In a state with a number that is more than the limit, only the mark may follow.
+-- The words that complete a numeral of `n`. If the number of a state is over the limit, only the
+-- mark may follow.
 abbrev pub Spells : {S : Type 0} → DigitSet → ℕ → Grammar S → Stage S → ℕ → Language
 Spells d limit g Start n bytes = MarkedNumeral d limit (g.residual g.start) n bytes
 Spells d limit g (Digits v) n bytes =
@@ -81,6 +81,7 @@ keeps v (suc (suc k)) d two = by (times_two v k)
   where
     times_two : (v k : ℕ) → v * suc (suc k) ≡ v + v + v * k
     times_two v k = grind arith
+
     by : v * suc (suc k) ≡ v + v + v * k → v ≤ v * suc (suc k) + d
     by e = omega (arith, e)
 keeps v (suc zero) d two = omega (arith, two)
@@ -91,6 +92,7 @@ grows v (suc (suc k)) d two some = by (times_two v k)
   where
     times_two : (v k : ℕ) → v * suc (suc k) ≡ v + v + v * k
     times_two v k = grind arith
+
     by : v * suc (suc k) ≡ v + v + v * k → v < v * suc (suc k) + d
     by e = omega (arith, e, some)
 grows v (suc zero) d two some = omega (arith, two)
@@ -106,7 +108,7 @@ module _ (d : DigitSet) (ld : AreDigits d) where
     at_least (from * d.radix + d.value b) n bytes it.1,
   )
 
-  -- a number over the limit
+  -- no numeral continues with a digit with which it is over the limit
   pub too_large : (limit v n b : ℕ) (word : List ℕ) → limit < v * d.radix + d.value b
       → (n ≤ limit) ⊎ (n ≤ v) → DigitsOf d v n (b ∷ word) → ⊥
   too_large limit v n b word over (inl low) it =

@@ -1,5 +1,5 @@
 -- The words of the examples.
-use Rattle.std.specs.Prelude.{ℕ, List, [], ◌∷◌, Bool, not, ◌&&◌, ◌==◌, Some}
+use Rattle.std.specs.Prelude.{ℕ, [], ◌∷◌, Bool, not, ◌&&◌, ◌==◌, Some}
 use Rattle.std.proofs.Common.{refl}
 use Rattle.machines.specs.Alts.{Either}
 use Rattle.machines.specs.Digits.{MarkedNumeral}
@@ -13,11 +13,11 @@ use Rattle.machines.specs.Texts.{TextResidual}
 abbrev pub ByteText : ℕ → Language
 ByteText wanted = OneOfThese (only wanted)
 
--- A number of at most 4096 in decimal digits, a colon, so many bytes, and a comma.
+-- A length of at most 4096 in decimal digits, a colon, data of this length, and a comma.
 abbrev pub FrameText : Language
 FrameText = Concat (WithCount (MarkedNumeral decimal 4096 (ByteText 58))) (ByteText 44)
 
--- all except the newline and the quote
+-- all bytes except newlines and quotes
 abbrev pub plain : ℕ → Bool
 plain b = not (b == 34) && not (b == 10)
 
@@ -30,12 +30,12 @@ some_plain = (97, refl)
 pub some_not_quote : IsSet not_quote
 some_not_quote = (97, refl)
 
--- Plain bytes and quoted texts, and a newline.
+-- Plain bytes and quoted texts, and then a newline.
 abbrev pub LineText : Language
 LineText = Concat (Repeated (Either (OneOfThese plain)
     (Concat (ByteText 34) (Concat (AllOf not_quote) (ByteText 34))))) (ByteText 10)
 
--- Round brackets, and square ones.
+-- Round and square brackets.
 abbrev pub round_or_square : Brackets
 round_or_square = brackets_of (record { opener = 40; closer = 41 })
     (Some (record { opener = 91; closer = 93 }))

@@ -1,9 +1,11 @@
--- What a machine reads, and its laws.
-use Rattle.std.specs.Prelude.{◌≡◌, ◌⊎◌, ◌<◌, ◌+◌, ℕ, zero, suc, List, [], ◌∷◌, ◌++◌, length, Bool, true, false, IsTrue, ⊤, Option, Some, None, Result, Ok, Err, ◌&&◌, not}
+-- Grammars of machines, their laws, and results of scans.
+use Rattle.std.specs.Prelude.{◌≡◌, ◌<◌, ℕ, zero, suc, List, [], ◌∷◌, ◌++◌, length, Bool, true}
+use Rattle.std.specs.Prelude.{false, IsTrue, ⊤, Option, Some, None, Result, Ok, Err, ◌&&◌, not}
 use Rattle.machines.specs.Languages.{Derivative, HasNonEmpty, Language, NeverStarts}
 
--- The language that is residual in each state; and bounds: on the first bytes of words, on the bytes
--- that may follow a whole word, and on whether the empty word is one.
+-- The residual language of each state: the words that complete the bytes before it. Bounds on the
+-- first bytes of words, on the bytes that continue a word to a longer one, and on whether the empty
+-- word is one.
 pub record Grammar (S : Type 0) : Type 1 where
   pub start : S
   pub residual : S → Language
@@ -11,34 +13,35 @@ pub record Grammar (S : Type 0) : Type 1 where
   pub nexts : ℕ → Bool
   pub nullable : Bool
 
--- Whether a word that is not empty is residual.
+-- Whether the residual language has no word except the empty one.
 abbrev pub HasEnded : {S : Type 0} → Grammar S → S → Bool → Type 0
 HasEnded g at true = (b : ℕ) → NeverStarts (g.residual at) b
 HasEnded g at false = HasNonEmpty (g.residual at)
 
--- The bytes lead from a state to a state, each to one of which what is residual is what was left.
+-- The bytes lead from one state to another: each byte to a state whose residual language is the
+-- derivative by it.
 abbrev pub Path : {S : Type 0} → Grammar S → S → List ℕ → S → Type 0
 Path {S} g from [] to = from ≡ to
 Path {S} g from (b ∷ bytes) to =
     (next : S) × Derivative (g.residual from) (b ∷ []) (g.residual next) × Path g next bytes to
 
--- nothing follows, or a byte that no word residual starts with
+-- no byte follows, or one with which no word of `K` starts
 abbrev pub IsStopped : Language → List ℕ → Type 0
 IsStopped K [] = ⊤
 IsStopped K (b ∷ bytes) = NeverStarts K b
 
--- First bytes lead from a state to a state, and `left` is the rest.
+-- A prefix of `bytes` leads from one state to another, and `left` is the rest.
 pub record Reaches {S : Type 0} (g : Grammar S) (from : S) (bytes : List ℕ) (to : S)
     (left : List ℕ) : Type 0 where
   pub front : List ℕ
   pub splits : bytes ≡ front ++ left
   pub path : Path g from front to
 
--- The longest possible front is passed.
+-- The longest prefix of `bytes` that some word continues leads from `from` to `to`.
 abbrev pub Passes : {S : Type 0} → Grammar S → S → List ℕ → S → List ℕ → Type 0
 Passes g from bytes to left = Reaches g from bytes to left × IsStopped (g.residual to) left
 
--- The bounds hold, and each state can be completed.
+-- `Lawful g`: the bounds hold, and each state can be completed.
 pub record Lawful {S : Type 0} (g : Grammar S) : Type 0 where
   pub first : (b : ℕ) (word : List ℕ) → g.residual g.start (b ∷ word) → IsTrue (g.firsts b)
   pub next : (at : S) (b : ℕ) (word : List ℕ) → g.residual at [] → g.residual at (b ∷ word)
@@ -46,27 +49,27 @@ pub record Lawful {S : Type 0} (g : Grammar S) : Type 0 where
   pub null : g.residual g.start [] → IsTrue g.nullable
   pub live : (at : S) → (word : List ℕ) × g.residual at word
 
--- no byte below `n` is in both
+-- no byte below `n` is in both sets
 unfoldable pub disjoint_below : ℕ → (ℕ → Bool) → (ℕ → Bool) → Bool
 disjoint_below zero f g = true
 disjoint_below (suc n) f g = not (f n && g n) && disjoint_below n f g
 
--- No byte is in both.
+-- No byte is in both sets.
 abbrev pub Disjoint : (ℕ → Bool) → (ℕ → Bool) → Type 0
 Disjoint f g = (b : ℕ) → b < 256 → IsTrue (f b) → IsTrue (g b) → ⊥
 
--- the same, by a test
+-- the same by a test, which computes at sets without variables
 unfoldable pub AreDisjoint : (ℕ → Bool) → (ℕ → Bool) → Type 0
 AreDisjoint f g = IsTrue (disjoint_below 256 f g)
 
 -- ---- a scan
 
--- no word is longer by the next byte, or by any if there is none
+-- no word starts with `front` and the next byte; at the end of the input, with any byte
 abbrev pub NoneLonger : Language → List ℕ → List ℕ → Type 0
 NoneLonger L front [] = (b : ℕ) (word : List ℕ) → L (front ++ b ∷ word) → ⊥
 NoneLonger L front (b ∷ bytes) = (word : List ℕ) → L (front ++ b ∷ word) → ⊥
 
--- `n` first bytes are a word, and none is longer.
+-- The first `n` bytes are a word, and no longer word starts with them and the next byte.
 pub record LongestWord (L : Language) (bytes : List ℕ) (n : ℕ) : Type 0 where
   pub front : List ℕ
   pub left : List ℕ
@@ -75,7 +78,8 @@ pub record LongestWord (L : Language) (bytes : List ℕ) (n : ℕ) : Type 0 wher
   pub word : L front
   pub longest : NoneLonger L front left
 
--- `n` first bytes are no word, some word starts with them, and none with them and the next.
+-- The first `n` bytes are not a word. Some word starts with them, and none with them and the next
+-- byte.
 pub record FirstInvalid (L : Language) (bytes : List ℕ) (n : ℕ) : Type 0 where
   pub front : List ℕ
   pub byte : ℕ
@@ -87,8 +91,8 @@ pub record FirstInvalid (L : Language) (bytes : List ℕ) (n : ℕ) : Type 0 whe
   pub live : L (front ++ more)
   pub never : (word : List ℕ) → L (front ++ byte ∷ word) → ⊥
 
--- The length of the longest word at the start; or some longer input is a word; or the first offset
--- at which no word goes on.
+-- The length of the longest word at the start of the bytes; or some longer input is a word; or the
+-- offset of the first byte with which no word starts.
 abbrev pub Scanned : Language → List ℕ → Result (Option ℕ) ℕ → Type 0
 Scanned L bytes (Ok (Some n)) = LongestWord L bytes n
 Scanned L bytes (Ok None) = (b : ℕ) × (word : List ℕ) × L (bytes ++ b ∷ word)

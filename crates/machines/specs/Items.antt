@@ -1,15 +1,27 @@
 -- Lemmas on items in brackets.
-use Rattle.std.specs.Prelude.{◌≡◌, ◌≤◌, ◌<◌, ◌⊎◌, ◌-◌, ℕ, zero, suc, List, [], ◌∷◌, ◌++◌, length, Bool, true, false, IsTrue, ⊤, ◌||◌, ◌==◌}
+use Rattle.std.specs.Prelude.{◌≡◌, ◌<◌, ◌⊎◌, ◌-◌, ◌/◌, ℕ, zero, suc, List, [], ◌∷◌, ◌++◌}
+use Rattle.std.specs.Prelude.{Bool, true, false}
+use Rattle.std.specs.Prelude.{length, IsTrue, ⊤, ◌||◌, ◌==◌}
 use Rattle.std.proofs.Common.{◌∙◌, inl, inr, refl, sym, subst, ap, append_assoc, arith}
 use Rattle.std.proofs.lemmas.Bool.{eq-eqb}
 use Rattle.machines.specs.Bounds.{disjoint_by, or_left, or_right}
 use Rattle.machines.specs.Concats.{concat, concat_cases, concat_empty, concat_first, concat_never}
 use Rattle.machines.specs.Concats.{concat_second, first_same, nonempty_second, others_same}
 use Rattle.machines.specs.Grammar.{Grammar, Lawful}
-use Rattle.machines.specs.Languages.{Concat, Derivative, HasNonEmpty, Language, NeverStarts, Repeated}
+use Rattle.machines.specs.Languages.{Concat, Derivative, HasNonEmpty, Language, NeverStarts}
 use Rattle.machines.specs.Nests.{AreApart, Balanced, Brackets, Enclosed, Item, OneByte, is_bracket}
-use Rattle.machines.specs.Nests.{is_close, is_open, room}
-use Rattle.machines.specs.Stars.{none_yet, repeated_byte, repeated_cases, repeated_never}
+use Rattle.machines.specs.Nests.{is_close, is_open, room, stack}
+use Rattle.machines.specs.Stars.{none_yet}
+
+-- ---- stacks
+
+pub stack_length : (depth kinds : ℕ) → length (stack depth kinds) ≡ depth
+stack_length zero kinds = refl
+stack_length (suc depth) kinds = ap (λ n. suc n) (stack_length depth (kinds / 2))
+
+pub room_is : (limit : ℕ) (ks : List Bool) → room limit ks ≡ limit - length ks
+room_is limit [] = omega arith
+room_is limit (k ∷ ks) = refl
 
 -- ---- the word of one byte
 
@@ -73,7 +85,7 @@ closer_is b false x e = or_left (x == b.closer false) (x == b.closer true)
 closer_is b true x e = or_right (x == b.closer false) (x == b.closer true)
     (eq-eqb x (b.closer true) e)
 
--- no closing bracket of the innermost open one
+-- the byte does not close the innermost open bracket
 abbrev pub NoCloser : Brackets → List Bool → ℕ → Type 0
 NoCloser b [] x = ⊤
 NoCloser b (k ∷ ks) x = x ≡ b.closer k → ⊥
@@ -119,7 +131,7 @@ module _ {A : Type 0} (b : Brackets) (a : Grammar A) (la : Lawful a) (apart : Ar
   not_first_open x low one two = disjoint_by a.firsts (is_bracket b) apart.first x low one
       (or_left (is_open b x) (is_close b x) two)
 
-  -- the first byte of a word
+  -- the derivative by the first byte of a word
   pub item_leaf : (depth x : ℕ) (t : A) → x < 256
       → Derivative (a.residual a.start) (x ∷ []) (a.residual t)
       → Derivative (Item b (a.residual a.start) depth) (x ∷ []) (a.residual t)
@@ -131,12 +143,13 @@ module _ {A : Type 0} (b : Brackets) (a : Grammar A) (la : Lawful a) (apart : Ar
     where
       first : IsTrue (a.firsts x)
       first = let (word, it) = la.live t in la.first x word (goes.there word it)
+
       by : (word : List ℕ) → Item b (a.residual a.start) (suc depth) (x ∷ word) → a.residual t word
       by word (inl it) = goes.back word it
       by word (inr (k, it)) = absurd (not_first_open x low first
           (opener_is b k x (opened depth x word k it)))
 
-  -- an opening bracket
+  -- the derivative by an opening bracket
   pub item_open : (depth x : ℕ) (j : Bool) → x < 256 → x ≡ b.opener j
       → Derivative (Item b (a.residual a.start) (suc depth)) (x ∷ [])
       (Concat (Balanced b (a.residual a.start) depth) (OneByte (b.closer j)))
@@ -147,19 +160,21 @@ module _ {A : Type 0} (b : Brackets) (a : Grammar A) (la : Lawful a) (apart : Ar
     where
       Inside : Bool → Language
       Inside k = Concat (Balanced b (a.residual a.start) depth) (OneByte (b.closer k))
+
       by : (word : List ℕ) → Item b (a.residual a.start) (suc depth) (x ∷ word)
           → Concat (Balanced b (a.residual a.start) depth) (OneByte (b.closer j)) word
       by word (inl it) = absurd (not_first_open x low (la.first x word it) (opener_is b j x e))
       by word (inr (k, it)) =
           let same : k ≡ j = same_kind k j (sym (opened depth x word k it) ∙ e) in
           let P : Bool → Type 0 = λ i. Concat (Balanced b (a.residual a.start) depth)
-              (OneByte (b.closer i)) word in
+          (OneByte (b.closer i)) word in
           subst P same ((byte_first x (b.opener k) (Concat (Balanced b (a.residual a.start) depth)
           (OneByte (b.closer k))) (opened depth x word k it)).back word it)
 
-  -- neither a word nor a bracket
+  -- no item starts with a byte of neither a word nor an opening bracket
   pub item_never : (depth x : ℕ) → NeverStarts (a.residual a.start) x
-      → ((j : Bool) → x ≡ b.opener j → depth ≡ 0) → NeverStarts (Item b (a.residual a.start) depth) x
+      → ((j : Bool) → x ≡ b.opener j → depth ≡ 0)
+      → NeverStarts (Item b (a.residual a.start) depth) x
   item_never zero x never shut word it = never word it
   item_never (suc depth) x never shut word (inl it) = never word it
   item_never (suc depth) x never shut word (inr (k, it)) =
@@ -196,7 +211,7 @@ module _ {A : Type 0} (b : Brackets) (a : Grammar A) (la : Lawful a) (apart : Ar
   enclosed_live limit [] K word it = (word, it)
   enclosed_live limit (k ∷ ks) K word it =
       let (rest, enclosed) = enclosed_live limit ks
-          (Balanced b (a.residual a.start) (room limit ks)) [] none_yet in (
+      (Balanced b (a.residual a.start) (room limit ks)) [] none_yet in (
         word ++ b.closer k ∷ rest,
         concat word (b.closer k ∷ rest) it (concat (b.closer k ∷ []) rest refl enclosed),
       )
@@ -206,9 +221,9 @@ module _ {A : Type 0} (b : Brackets) (a : Grammar A) (la : Lawful a) (apart : Ar
   enclosed_more limit [] K word it more = more
   enclosed_more limit (k ∷ ks) K word it more =
       let (rest, enclosed) = enclosed_live limit ks
-          (Balanced b (a.residual a.start) (room limit ks)) [] none_yet in
+      (Balanced b (a.residual a.start) (room limit ks)) [] none_yet in
       nonempty_second word it
-          (b.closer k, rest, concat (b.closer k ∷ []) rest refl enclosed)
+      (b.closer k, rest, concat (b.closer k ∷ []) rest refl enclosed)
 
   pub enclosed_empty : (limit : ℕ) (ks : List Bool) (K : Language)
       → Enclosed b (a.residual a.start) limit ks K [] → (ks ≡ []) × K []

@@ -1,9 +1,11 @@
 -- Lemmas on numerals of digits, with a mark after them.
-use Rattle.std.specs.Prelude.{◌≡◌, ◌≤◌, ◌<◌, ◌+◌, ◌*◌, ◌⊎◌, ℕ, List, [], ◌∷◌, ◌++◌, Bool, true, false, IsTrue, Option, Some, None, ◌↔◌, length}
-use Rattle.std.proofs.Common.{◌∙◌, inl, inr, refl, sym, subst, ap, append_assoc, length-append, arith}
+use Rattle.std.specs.Prelude.{◌≡◌, ◌≤◌, ◌<◌, ◌+◌, ◌*◌, ◌⊎◌, ℕ, List, [], ◌∷◌, ◌++◌}
+use Rattle.std.specs.Prelude.{false, IsTrue, Some, None, length}
+use Rattle.std.proofs.Common.{◌∙◌, inl, inr, refl, sym, subst, ap, append_assoc, arith}
 use Rattle.machines.specs.Bounds.{disjoint_by}
 use Rattle.machines.specs.Concats.{concat, concat_cases, concat_empty, concat_first}
-use Rattle.machines.specs.Digits.{AreDigits, DigitSet, DigitsOf, HasNoDigit, IsNumberWith, NumeralOf}
+use Rattle.machines.specs.Digits.{AreDigits, DigitSet, DigitsOf, HasNoDigit, IsNumberWith}
+use Rattle.machines.specs.Digits.{NumeralOf}
 use Rattle.machines.specs.Digits.{ReadsDigits, Spells, digit_numerals, keeps, too_large}
 use Rattle.machines.specs.Grammar.{AreDisjoint, Grammar, IsStopped, Lawful, Passes, Path}
 use Rattle.machines.specs.Languages.{AreBytes, Concat, Derivative, NeverStarts}
@@ -36,9 +38,10 @@ module _ {S : Type 0} (d : DigitSet) (limit : ℕ) (g : Grammar S) (ld : AreDigi
   no_mark : (x : ℕ) → x < 256 → IsTrue (d.has x) → NeverStarts (g.residual g.start) x
   no_mark x low is word it = disjoint_by d.has g.firsts disjoint x low is (lg.first x word it)
 
-  -- one more digit
+  -- the derivative by a digit after others
   in_digits : (v w x : ℕ) → x < 256 → IsTrue (d.has x) → v * d.radix + d.value x ≡ w → w ≤ limit
-      → (n : ℕ) → Derivative (Spells d limit g (Digits v) n) (x ∷ []) (Spells d limit g (Digits w) n)
+      → (n : ℕ) → Derivative (Spells d limit g (Digits v) n) (x ∷ [])
+      (Spells d limit g (Digits w) n)
   in_digits v w x low is e small n = record {
     there = λ word it. (allowed it.0, step.there word it.1);
     back = λ word it. (kept it.0, step.back word it.1);
@@ -47,14 +50,16 @@ module _ {S : Type 0} (d : DigitSet) (limit : ℕ) (g : Grammar S) (ld : AreDigi
       step : Derivative (Concat (DigitsOf d v n) (g.residual g.start)) (x ∷ [])
           (Concat (DigitsOf d w n) (g.residual g.start))
       step = concat_first x (digit_step v w x n is e) (λ empty. no_mark x low is)
+
       allowed : (n ≤ limit) ⊎ (n ≤ w) → (n ≤ limit) ⊎ (n ≤ v)
       allowed (inl it) = inl it
       allowed (inr it) = inl (omega (arith, it, small))
+
       kept : (n ≤ limit) ⊎ (n ≤ v) → (n ≤ limit) ⊎ (n ≤ w)
       kept (inl it) = inl it
       kept (inr it) = inr (omega (arith, it, e, keeps v d.radix (d.value x) ld.two))
 
-  -- the first digit
+  -- the derivative by the first digit
   at_digit : (w x : ℕ) → x < 256 → IsTrue (d.has x) → 0 * d.radix + d.value x ≡ w → w ≤ limit
       → (n : ℕ) → Derivative (Spells d limit g Start n) (x ∷ []) (Spells d limit g (Digits w) n)
   at_digit w x low is e small n = record {
@@ -65,16 +70,19 @@ module _ {S : Type 0} (d : DigitSet) (limit : ℕ) (g : Grammar S) (ld : AreDigi
       first : Derivative (NumeralOf d n) (x ∷ []) (DigitsOf d w n)
       first = let step = digit_step 0 w x n is e in
           record { there = λ word it. step.there word it; back = λ word it. step.back word it }
+
       step : Derivative (Concat (NumeralOf d n) (g.residual g.start)) (x ∷ [])
           (Concat (DigitsOf d w n) (g.residual g.start))
       step = concat_first x first (λ empty. absurd empty)
+
       allowed : (n ≤ limit) ⊎ (n ≤ w) → n ≤ limit
       allowed (inl it) = it
       allowed (inr it) = omega (arith, it, small)
 
-  -- the first byte of the mark
+  -- the derivative by the first byte of the mark
   at_mark : (v x : ℕ) (t : S) → x < 256 → Derivative (g.residual g.start) (x ∷ []) (g.residual t)
-      → (n : ℕ) → Derivative (Spells d limit g (Digits v) n) (x ∷ []) (Spells d limit g (Mark v t) n)
+      → (n : ℕ) → Derivative (Spells d limit g (Digits v) n) (x ∷ [])
+      (Spells d limit g (Mark v t) n)
   at_mark v x t low goes n = record {
     there = λ word it. (
       inr (omega (arith, it.0)),
@@ -85,6 +93,7 @@ module _ {S : Type 0} (d : DigitSet) (limit : ℕ) (g : Grammar S) (ld : AreDigi
     where
       first : IsTrue (g.firsts x)
       first = let (word, rest) = lg.live t in lg.first x word (goes.there word rest)
+
       by : (word : List ℕ) → (DigitsOf d v n [] × g.residual g.start (x ∷ word))
           ⊎ ((left : List ℕ) × (right : List ℕ) × (word ≡ left ++ right)
           × DigitsOf d v n (x ∷ left) × g.residual g.start right)
@@ -122,7 +131,7 @@ module _ {S : Type 0} (d : DigitSet) (limit : ℕ) (g : Grammar S) (ld : AreDigi
         stopped = mark_stops v t left stopped;
       })
 
-  -- neither a digit nor the mark
+  -- no numeral continues with a byte of neither a digit nor the mark
   digits_stop : (v : ℕ) (left : List ℕ) → HasNoDigit d limit v left
       → IsStopped (g.residual g.start) left
       → HasNoNext (digit_numerals d limit g) (Digits v) left
@@ -182,11 +191,6 @@ module _ {S : Type 0} (d : DigitSet) (limit : ℕ) (g : Grammar S) (ld : AreDigi
 
   -- ---- the digits
 
-  pub no_digits : (v : ℕ) (bytes : List ℕ) → HasNoDigit d limit v bytes
-      → ReadsDigits d limit g v bytes v bytes
-  no_digits v bytes none =
-      record { front = []; splits = refl; steps = refl; stopped = none }
-
   -- one more digit in a loop
   pub more_digits : (u v w x : ℕ) (bytes front rest others : List ℕ) → bytes ≡ front ++ rest
       → rest ≡ x ∷ others → AreBytes bytes
@@ -237,7 +241,7 @@ module _ {S : Type 0} (d : DigitSet) (limit : ℕ) (g : Grammar S) (ld : AreDigi
   reads_nothing at bytes e none =
       let P : Stage S → Type 0 = λ p. Reads (digit_numerals d limit g) p bytes p bytes in
       subst P (sym e)
-          (record { front = []; splits = refl; steps = refl; stopped = start_stops bytes none })
+      (record { front = []; splits = refl; steps = refl; stopped = start_stops bytes none })
 
   -- ---- the number
 
@@ -249,18 +253,6 @@ module _ {S : Type 0} (d : DigitSet) (limit : ℕ) (g : Grammar S) (ld : AreDigi
   no_value at (inr (v, e)) =
       let P : Stage S → Type 0 = λ p. HasValue (digit_numerals d limit g) p None in
       subst P (sym e) (λ n it. solid (concat_empty it.1).1)
-
-  pub a_value : (at : Stage S) (v : ℕ) (s : S) → at ≡ Mark v s → g.residual s []
-      → HasValue (digit_numerals d limit g) at (Some v)
-  a_value at v s e it =
-      let P : Stage S → Type 0 = λ p. HasValue (digit_numerals d limit g) p (Some v) in
-      subst P (sym e) (refl, it)
-
-  pub mark_value : (at : Stage S) (v : ℕ) (s : S) → at ≡ Mark v s → (g.residual s [] → ⊥)
-      → HasValue (digit_numerals d limit g) at None
-  mark_value at v s e not =
-      let P : Stage S → Type 0 = λ p. HasValue (digit_numerals d limit g) p None in
-      subst P (sym e) (λ n it. not it.1)
 
   pub digit_lawful : ((b : ℕ) → g.nexts b ≡ false) → AreNumerals (digit_numerals d limit g)
   digit_lawful ended = record {
@@ -276,10 +268,12 @@ module _ {S : Type 0} (d : DigitSet) (limit : ℕ) (g : Grammar S) (ld : AreDigi
           × NumeralOf d n (b ∷ left) × g.residual g.start right) → IsTrue (d.has b)
       first n b word (inl (none, it)) = absurd none
       first n b word (inr (left, right, e, it, two)) = it.0
+
       one : (at : Stage S) (n m : ℕ) → Spells d limit g at n [] → Spells d limit g at m [] → n ≡ m
       one Start n m it also = absurd (concat_empty it.1).0
       one (Digits v) n m it also = absurd (solid (concat_empty it.1).1)
       one (Mark v s) n m it also = sym it.0 ∙ also.0
+
       ends : (at : Stage S) (n m b : ℕ) → Spells d limit g at n []
           → NeverStarts (Spells d limit g at m) b
       ends Start n m b it word also = (concat_empty it.1).0
@@ -287,6 +281,7 @@ module _ {S : Type 0} (d : DigitSet) (limit : ℕ) (g : Grammar S) (ld : AreDigi
       ends (Mark v s) n m b it word also =
           let next = lg.next s b word it.1 also.1 in
           let none = ended b in cc
+
       live : (at : Stage S) → (n : ℕ) × (word : List ℕ) × Spells d limit g at n word
       live Start =
           let (mark, it) = lg.live g.start in

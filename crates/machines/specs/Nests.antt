@@ -1,5 +1,6 @@
 -- Brackets in brackets, with words of a machine between them.
-use Rattle.std.specs.Prelude.{◌≡◌, ◌≤◌, ◌<◌, ◌⊎◌, ◌-◌, ◌%◌, ◌/◌, ℕ, zero, suc, List, [], ◌∷◌, length, Bool, true, false, IsTrue, ⊤, Option, Some, None, ◌||◌, ◌==◌}
+use Rattle.std.specs.Prelude.{◌≡◌, ◌≤◌, ◌<◌, ◌⊎◌, ◌-◌, ◌%◌, ◌/◌, ℕ, zero, suc, List, []}
+use Rattle.std.specs.Prelude.{◌∷◌, length, Bool, true, false, Option, Some, None, ◌||◌, ◌==◌}
 use Rattle.machines.specs.Grammar.{AreDisjoint, Grammar}
 use Rattle.machines.specs.Languages.{Concat, Language, Repeated}
 use Rattle.machines.specs.declared.nested.Nest.{Nest}
@@ -19,29 +20,31 @@ OneByte x bytes = bytes ≡ x ∷ []
 abbrev pub Item : Brackets → Language → ℕ → Language
 Item b L zero bytes = L bytes
 Item b L (suc depth) bytes = L bytes ⊎ ((k : Bool)
-    × Concat (OneByte (b.opener k)) (Concat (Repeated (Item b L depth)) (OneByte (b.closer k))) bytes)
+    × Concat (OneByte (b.opener k)) (Concat (Repeated (Item b L depth)) (OneByte (b.closer k)))
+    bytes)
 
 -- Items, zero or more, with brackets nested at most `depth` times.
 abbrev pub Balanced : Brackets → Language → ℕ → Language
 Balanced b L depth = Repeated (Item b L depth)
 
--- How many more brackets may be opened in open ones.
+-- The number of brackets that may still be opened inside of the open ones `ks`.
 abbrev pub room : ℕ → List Bool → ℕ
 room limit [] = limit
 room limit (k ∷ ks) = limit - suc (length ks)
 
--- A word of `K`, and then the closing brackets of `open_ones`, each with items after it.
+-- `Enclosed b L limit ks K`: a word of `K`, and then the closing brackets of the open ones `ks`,
+-- each with items after it.
 abbrev pub Enclosed : Brackets → Language → ℕ → List Bool → Language → Language
 Enclosed b L limit [] K = K
 Enclosed b L limit (k ∷ ks) K = Concat K
     (Concat (OneByte (b.closer k)) (Enclosed b L limit ks (Balanced b L (room limit ks))))
 
--- The kinds of the open brackets, the innermost first: the low bits of a number.
+-- The kinds of `depth` open brackets, the innermost first: the low bits of `kinds`.
 abbrev pub stack : ℕ → ℕ → List Bool
 stack zero kinds = []
 stack (suc depth) kinds = (kinds % 2 == 1) ∷ stack depth (kinds / 2)
 
--- After a bracket, or in a word.
+-- The words that complete a level: after a bracket, or in a word.
 abbrev pub LevelResidual : {A : Type 0} → Brackets → Grammar A → ℕ → Option A → Language
 LevelResidual b a depth None = Balanced b (a.residual a.start) depth
 LevelResidual b a depth (Some s) = Concat (a.residual s) (Balanced b (a.residual a.start) depth)
@@ -71,8 +74,9 @@ nested_grammar b a limit = record {
   nullable = true;
 }
 
--- The next byte decides each choice: no word is empty, words start with bytes that neither continue
--- words nor are brackets, and all brackets differ.
+-- `AreApart b a`: the next byte decides each choice. No word is empty. Bytes that start words are
+-- not brackets, and do not continue words. Bytes that continue words are not brackets. Opening
+-- brackets differ from each other and from closing ones.
 pub record AreApart {A : Type 0} (b : Brackets) (a : Grammar A) : Type 0 where
   pub filled : a.nullable ≡ false
   pub words : AreDisjoint a.nexts a.firsts
@@ -90,7 +94,7 @@ IsTurn b limit depth kinds x (Some to) =
     × (stack to.0 to.1 ≡ j ∷ stack depth kinds))
     ⊎ ((k : Bool) × (x ≡ b.closer k) × (stack depth kinds ≡ k ∷ stack to.0 to.1))
 
--- The brackets of two pairs, of which the second may be missing: 256 is not a byte.
+-- The brackets of two pairs. If the second is missing, its brackets are 256, which is not a byte.
 abbrev pub opener_of : Pair → Option Pair → Bool → ℕ
 opener_of one other false = one.opener
 opener_of one None true = 256
@@ -108,7 +112,7 @@ abbrev pub bit_of : Bool → ℕ
 bit_of false = 0
 bit_of true = 1
 
--- the kind of an opening bracket, if it is one
+-- the kind of the byte, if it is an opening bracket
 abbrev pub IsOpening : Brackets → ℕ → Option Bool → Type 0
 IsOpening b x None = (j : Bool) → x ≡ b.opener j → ⊥
 IsOpening b x (Some j) = x ≡ b.opener j
@@ -120,7 +124,7 @@ IsClosing b depth kinds x None =
 IsClosing b depth kinds x (Some to) =
     (k : Bool) × (x ≡ b.closer k) × (stack depth kinds ≡ k ∷ stack to.0 to.1)
 
--- a bit below the 63 low ones
+-- the bit `kind` below the 63 low bits of `kinds`
 abbrev pub IsPushed : ℕ → Bool → ℕ → Type 0
 IsPushed kinds kind result = ((result % 2 == 1) ≡ kind)
     × ((result / 2 ≡ kinds) ⊎ ((9223372036854775808 ≤ kinds)

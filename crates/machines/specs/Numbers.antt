@@ -1,5 +1,6 @@
--- Numerals, and bytes after their number.
-use Rattle.std.specs.Prelude.{◌≡◌, ◌+◌, ◌⊎◌, ℕ, List, [], ◌∷◌, ◌++◌, length, Bool, IsTrue, ⊤, Option, Some, None}
+-- Numerals, and data after them.
+use Rattle.std.specs.Prelude.{◌≡◌, ◌+◌, ◌⊎◌, ℕ, List, [], ◌∷◌, ◌++◌, length, Bool, IsTrue, ⊤}
+use Rattle.std.specs.Prelude.{Option, Some, None}
 use Rattle.machines.specs.Languages.{Concat, Derivative, Language, NeverStarts}
 
 -- `spells at n`: the words that complete a numeral of `n` in the state `at`; and a bound on the
@@ -9,7 +10,7 @@ pub record Numerals (S : Type 0) : Type 1 where
   pub spells : S → ℕ → Language
   pub firsts : ℕ → Bool
 
--- The bytes lead from one state to another, for each number.
+-- The bytes lead from one state to another, by derivatives for each number.
 abbrev pub Steps : {S : Type 0} → Numerals S → S → List ℕ → S → Type 0
 Steps g from [] to = from ≡ to
 Steps {S} g from (b ∷ bytes) to = (next : S)
@@ -28,12 +29,12 @@ pub record Reads {S : Type 0} (g : Numerals S) (from : S) (bytes : List ℕ) (to
   pub steps : Steps g from front to
   pub stopped : HasNoNext g to left
 
--- The number whose numeral ends in the state.
+-- The number of a numeral that is complete in the state, if one is.
 abbrev pub HasValue : {S : Type 0} → Numerals S → S → Option ℕ → Type 0
 HasValue g at None = (n : ℕ) → g.spells at n [] → ⊥
 HasValue g at (Some n) = g.spells at n []
 
--- No numeral is empty or a proper prefix of another, each has one number, and each state can be
+-- No numeral is empty or a proper prefix of another. Each has one number, and each state can be
 -- completed.
 pub record AreNumerals {S : Type 0} (g : Numerals S) : Type 0 where
   pub first : (n b : ℕ) (word : List ℕ) → g.spells g.start n (b ∷ word) → IsTrue (g.firsts b)
@@ -42,7 +43,7 @@ pub record AreNumerals {S : Type 0} (g : Numerals S) : Type 0 where
   pub ended : (at : S) (n m b : ℕ) → g.spells at n [] → NeverStarts (g.spells at m) b
   pub live : (at : S) → (n : ℕ) × (word : List ℕ) × g.spells at n word
 
--- `n` bytes.
+-- The words of `n` bytes.
 abbrev pub OfLength : ℕ → Language
 OfLength n bytes = length bytes ≡ n
 

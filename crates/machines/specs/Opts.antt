@@ -1,12 +1,13 @@
 -- The grammar of a machine that may be left out.
-use Rattle.std.specs.Prelude.{◌≡◌, ◌⊎◌, ℕ, List, [], ◌∷◌, ◌++◌, Bool, true, false, IsTrue, Option, Some, None, ◌||◌, ◌↔◌, length}
+use Rattle.std.specs.Prelude.{◌≡◌, ◌⊎◌, ℕ, List, [], ◌∷◌, ◌++◌, Bool, true, false, IsTrue, Option}
+use Rattle.std.specs.Prelude.{Some, None, ◌||◌, ◌↔◌, length}
 use Rattle.std.proofs.Common.{inl, inr, refl, sym, subst, ap}
 use Rattle.machines.specs.Bounds.{or_left, or_right}
 use Rattle.machines.specs.Grammar.{Grammar, HasEnded, IsStopped, Lawful, Passes, Path, Reaches}
-use Rattle.machines.specs.Languages.{Derivative, Language, NeverStarts}
+use Rattle.machines.specs.Languages.{Derivative, Language}
 use Rattle.machines.specs.Paths.{here, stuck}
 
--- A word of the language, or the empty word.
+-- `OrNothing L`: a word of `L`, or the empty word.
 abbrev pub OrNothing : Language → Language
 OrNothing L bytes = (bytes ≡ []) ⊎ L bytes
 
@@ -128,6 +129,7 @@ module _ {A : Type 0} (a : Grammar A) where
       next None x word it more = or_right (a.nexts x) (a.firsts x)
           (la.first x word (nonempty (a.residual a.start) x word more))
       next (Some s) x word it more = or_left (a.nexts x) (a.firsts x) (la.next s x word it more)
+
       live : (at : Option A) → (word : List ℕ) × OptResidual a at word
       live None = ([], inl refl)
       live (Some s) = la.live s

@@ -1,22 +1,20 @@
 -- Lemmas on paths.
-use Rattle.std.specs.Prelude.{◌≡◌, ◌<◌, ◌+◌, ℕ, List, [], ◌∷◌, ◌++◌, length}
+use Rattle.std.specs.Prelude.{◌≡◌, ◌+◌, ℕ, List, [], ◌∷◌, ◌++◌, length}
 use Rattle.std.proofs.Common.{◌∙◌, refl, sym, subst, ap, append_assoc, length-append, arith}
 use Rattle.machines.specs.Grammar.{Grammar, IsStopped, Reaches, Path, Passes}
-use Rattle.machines.specs.Languages.{Derivative, AreBytes, Language, NeverStarts}
+use Rattle.machines.specs.Languages.{Derivative, AreBytes}
 
-pub stopped_at_end : (K : Language) (left : List ℕ) → length left ≡ 0 → IsStopped K left
-stopped_at_end K [] none = tt
-stopped_at_end K (b ∷ left) none = absurd (omega arith)
-
--- the bytes before and after
-pub below_front : (front left bytes : List ℕ) → bytes ≡ front ++ left → AreBytes bytes → AreBytes front
+-- all parts of bytes are bytes
+pub below_front : (front left bytes : List ℕ) → bytes ≡ front ++ left → AreBytes bytes
+    → AreBytes front
 below_front front left bytes e low = by front (subst AreBytes e low)
   where
     by : (front : List ℕ) → AreBytes (front ++ left) → AreBytes front
     by [] low = tt
     by (b ∷ front) (here, low) = (here, by front low)
 
-pub below_back : (front left bytes : List ℕ) → bytes ≡ front ++ left → AreBytes bytes → AreBytes left
+pub below_back : (front left bytes : List ℕ) → bytes ≡ front ++ left → AreBytes bytes
+    → AreBytes left
 below_back front left bytes e low = by front (subst AreBytes e low)
   where
     by : (front : List ℕ) → AreBytes (front ++ left) → AreBytes left
@@ -34,7 +32,8 @@ module _ {S : Type 0} (g : Grammar S) where
   pub here : (at : S) (bytes : List ℕ) → Reaches g at bytes at bytes
   here at bytes = record { front = []; splits = refl; path = refl }
 
-  abbrev pub reaches_both : (from mid to : S) (bytes middle left : List ℕ) → Reaches g from bytes mid middle
+  abbrev pub reaches_both : (from mid to : S) (bytes middle left : List ℕ)
+      → Reaches g from bytes mid middle
       → Reaches g mid middle to left → Reaches g from bytes to left
   reaches_both from mid to bytes middle left one two = record {
     front = one.front ++ two.front;

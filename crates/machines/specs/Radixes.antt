@@ -1,5 +1,5 @@
 -- The digits of numerals in radix 10 and 16.
-use Rattle.std.specs.Prelude.{◌≡◌, ◌+◌, ◌-◌, ℕ, Bool, true, false, ◌&&◌, ◌||◌, leb}
+use Rattle.std.specs.Prelude.{◌+◌, ◌-◌, ℕ, Bool, true, false, ◌&&◌, ◌||◌, leb}
 use Rattle.std.proofs.Common.{refl, arith}
 use Rattle.machines.specs.Digits.{AreDigits, DigitSet}
 

@@ -1,6 +1,8 @@
 -- The grammar of words in a range of counts.
-use Rattle.std.specs.Prelude.{◌≡◌, ◌≤◌, ◌⊎◌, ◌+◌, ◌<◌, ℕ, zero, suc, List, [], ◌∷◌, ◌++◌, Bool, true, false, IsTrue, Option, Some, None, ◌||◌, ◌==◌, ◌↔◌, length, ⊤}
-use Rattle.std.proofs.Common.{◌∙◌, inl, inr, refl, sym, subst, ap, arith}
+use Rattle.std.specs.Prelude.{◌≡◌, ◌≤◌, ◌⊎◌, ◌+◌, ◌<◌, ℕ, zero, suc, List, [], ◌∷◌, ◌++◌}
+use Rattle.std.specs.Prelude.{Bool, true, false, IsTrue, Option, Some, None, ◌||◌, ◌==◌, ◌↔◌}
+use Rattle.std.specs.Prelude.{length}
+use Rattle.std.proofs.Common.{inl, inr, refl, sym, subst, ap, arith}
 use Rattle.std.proofs.lemmas.Bool.{eq-eqb}
 use Rattle.machines.specs.Bounds.{disjoint_by, or_left, or_right}
 use Rattle.machines.specs.Concats.{concat, concat_cases, concat_empty, concat_first, concat_never}
@@ -13,7 +15,7 @@ use Rattle.machines.specs.Paths.{below_front, reaches_both, stuck}
 use Rattle.machines.specs.Stars.{InnerDone, InnerStopped, Stays, stays}
 use Rattle.machines.specs.declared.times.Turn.{Turn}
 
--- At least `least` words in sequence, and at most `extra` more than these.
+-- `Between L least extra`: at least `least` words of `L` in sequence, and at most `extra` more.
 abbrev pub Between : Language → ℕ → ℕ → Language
 Between L least extra bytes = (n : ℕ) × (least ≤ n) × (n ≤ least + extra) × Power L n bytes
 
@@ -31,7 +33,7 @@ times_grammar a least extra = record {
   nullable = least == 0;
 }
 
--- the counts after one more word
+-- the counts after one more word, if it may come
 abbrev pub IsOneLess : ℕ → ℕ → Option (ℕ × ℕ) → Type 0
 IsOneLess least extra None = (least ≡ 0) × (extra ≡ 0)
 IsOneLess least extra (Some to) = ((least ≡ suc to.0) × (extra ≡ to.1))
@@ -45,7 +47,7 @@ module _ {A : Type 0} (a : Grammar A) (la : Lawful a) (filled : a.nullable ≡ f
   solid : a.residual a.start [] → ⊥
   solid it = let e = la.null it in cc
 
-  -- the first word of some
+  -- a nonempty word: its first word, and the others
   abbrev FirstOf : ℕ → ℕ → ℕ → List ℕ → Type 0
   FirstOf least extra x word = (m : ℕ) × (least ≤ suc m) × (suc m ≤ least + extra)
       × (left : List ℕ) × (right : List ℕ) × (word ≡ left ++ right)
@@ -81,13 +83,23 @@ module _ {A : Type 0} (a : Grammar A) (la : Lawful a) (filled : a.nullable ≡ f
         first = goes.there it.left it.first;
         second = it.second.3;
       }
+
       there : (word : List ℕ) → Concat K (Between (a.residual a.start) l e) word
           → IsOneLess least extra (Some (l, e))
           → Between (a.residual a.start) least extra (x ∷ word)
-      there word it (inl (one, same)) = (suc it.second.0,
-          omega (arith, one, it.second.1), omega (arith, one, same, it.second.2), more word it)
-      there word it (inr (none, zeros, one)) = (suc it.second.0,
-          omega (arith, none), omega (arith, zeros, one, it.second.2), more word it)
+      there word it (inl (one, same)) = (
+        suc it.second.0,
+        omega (arith, one, it.second.1),
+        omega (arith, one, same, it.second.2),
+        more word it,
+      )
+      there word it (inr (none, zeros, one)) = (
+        suc it.second.0,
+        omega (arith, none),
+        omega (arith, zeros, one, it.second.2),
+        more word it,
+      )
+
       back : (word : List ℕ) → FirstOf least extra x word → IsOneLess least extra (Some (l, e))
           → Concat K (Between (a.residual a.start) l e) word
       back word (m, low, high, left, right, splits, one, two) (inl (first, same)) = record {
@@ -151,6 +163,7 @@ module _ {A : Type 0} (a : Grammar A) (la : Lawful a) (filled : a.nullable ≡ f
       low : IsOneLess least extra (Some (l, e)) → least ≤ suc l
       low (inl (one, same)) = omega (arith, one)
       low (inr (none, zeros, one)) = omega (arith, none)
+
       high : IsOneLess least extra (Some (l, e)) → suc l ≤ least + extra
       high (inl (one, same)) = omega (arith, one)
       high (inr (none, zeros, one)) = omega (arith, zeros, one)
@@ -199,7 +212,7 @@ module _ {A : Type 0} (a : Grammar A) (la : Lawful a) (filled : a.nullable ≡ f
       let Q : A → Type 0 = λ p. Reaches a p rest v left in
       let entered = subst Q f starts in
       reaches_both (times_grammar a start_least start_extra) from at (turn l e (Some v)) bytes rest
-          left led (record {
+      left led (record {
         front = entered.front;
         splits = entered.splits;
         path = by entered.front entered.splits entered.path
@@ -224,15 +237,15 @@ module _ {A : Type 0} (a : Grammar A) (la : Lawful a) (filled : a.nullable ≡ f
       rest → Passes (times_grammar a start_least start_extra) at bytes to rest
   times_goes at s t to bytes left rest e low (it, stopped) (two, ends) =
       let P : Option A → Type 0 = λ i. Passes (times_grammar a start_least start_extra)
-          (turn at.least at.extra i) bytes to rest in
+      (turn at.least at.extra i) bytes to rest in
       subst P (sym e) (
         reaches_both (times_grammar a start_least start_extra) (turn at.least at.extra (Some s))
             (turn at.least at.extra (Some t)) to bytes left rest (record {
-          front = it.front;
-          splits = it.splits;
-          path = lift at.least at.extra s t it.front
-              (below_front it.front left bytes it.splits low) it.path;
-        }) two,
+              front = it.front;
+              splits = it.splits;
+              path = lift at.least at.extra s t it.front
+                  (below_front it.front left bytes it.splits low) it.path;
+            }) two,
         ends,
       )
 
@@ -256,7 +269,8 @@ module _ {A : Type 0} (a : Grammar A) (la : Lawful a) (filled : a.nullable ≡ f
       (stays a at.inner x rest stopped) (λ whole. absurd (not whole))
 
   pub times_over : (at : Turn A) (rest : List ℕ) → InnerStopped a at.inner rest
-      → IsOneLess at.least at.extra None → IsStopped (TurnResidual a at.least at.extra at.inner) rest
+      → IsOneLess at.least at.extra None
+      → IsStopped (TurnResidual a at.least at.extra at.inner) rest
   times_over at [] stopped none = tt
   times_over at (x ∷ rest) stopped none = never_in at.least at.extra at.inner x
       (stays a at.inner x rest stopped) (λ whole. between_over at.least at.extra x none)
@@ -313,7 +327,7 @@ module _ {A : Type 0} (a : Grammar A) (la : Lawful a) (filled : a.nullable ≡ f
       → (p : Bool) → HasEnded a s p → HasEnded (times_grammar a start_least start_extra) at p
   times_last at s none e p it =
       let P : Option A → Type 0 = λ i.
-          HasEnded (times_grammar a start_least start_extra) (turn at.least at.extra i) p in
+      HasEnded (times_grammar a start_least start_extra) (turn at.least at.extra i) p in
       subst P (sym e) (by p it)
     where
       by : (p : Bool) → HasEnded a s p
@@ -325,7 +339,7 @@ module _ {A : Type 0} (a : Grammar A) (la : Lawful a) (filled : a.nullable ≡ f
       → HasEnded (times_grammar a start_least start_extra) at true
   times_none at none e =
       let P : Option A → Type 0 = λ i.
-          HasEnded (times_grammar a start_least start_extra) (turn at.least at.extra i) true in
+      HasEnded (times_grammar a start_least start_extra) (turn at.least at.extra i) true in
       subst P (sym e) (λ x. between_over at.least at.extra x none)
 
   pub times_lawful : Lawful (times_grammar a start_least start_extra)
@@ -341,6 +355,7 @@ module _ {A : Type 0} (a : Grammar A) (la : Lawful a) (filled : a.nullable ≡ f
       first least extra x word it =
           let (m, low, high, left, right, e, one, two) = between_cases least extra x word it in
           la.first x left one
+
       next : (least extra : ℕ) (inner : Option A) (x : ℕ) (word : List ℕ)
           → TurnResidual a least extra inner [] → TurnResidual a least extra inner (x ∷ word)
           → IsTrue (a.nexts x || a.firsts x)
@@ -355,6 +370,7 @@ module _ {A : Type 0} (a : Grammar A) (la : Lawful a) (filled : a.nullable ≡ f
           by (inl (one, two)) = or_right (a.nexts x) (a.firsts x) (first least extra x word two)
           by (inr (left, right, e, one, two)) =
               or_left (a.nexts x) (a.firsts x) (la.next s x left (concat_empty it).0 one)
+
       live : (least extra : ℕ) (inner : Option A)
           → (word : List ℕ) × TurnResidual a least extra inner word
       live least extra None = between_live least extra

@@ -1,12 +1,13 @@
--- One machine after another.
-use Rattle.std.specs.Prelude.{◌≡◌, ◌⊎◌, ◌<◌, ℕ, List, [], ◌∷◌, ◌++◌, Bool, true, false, IsTrue, ⊤, Option, Some, None, ◌&&◌, ◌||◌, ◌↔◌, length}
-use Rattle.std.proofs.Common.{◌∙◌, inl, inr, refl, sym, subst, ap, length-append, arith}
-use Rattle.machines.specs.Grammar.{Disjoint, AreDisjoint, HasEnded, Grammar, IsStopped, Lawful, Reaches, Path}
+-- The grammar of two machines in sequence.
+use Rattle.std.specs.Prelude.{◌≡◌, ◌⊎◌, ◌<◌, ℕ, List, [], ◌∷◌, ◌++◌, Bool, true, false, IsTrue}
+use Rattle.std.specs.Prelude.{◌&&◌, ◌||◌, ◌↔◌, length}
+use Rattle.std.proofs.Common.{◌∙◌, inl, inr, sym, subst, ap, arith}
+use Rattle.machines.specs.Grammar.{AreDisjoint, HasEnded, Grammar, IsStopped, Lawful, Reaches, Path}
 use Rattle.machines.specs.Grammar.{Passes}
-use Rattle.machines.specs.Paths.{below_front, reaches_both}
+use Rattle.machines.specs.Paths.{below_front, reaches_both, stuck}
 use Rattle.machines.specs.Concats.{empty_concat, concat, concat_cases, concat_empty, concat_first}
 use Rattle.machines.specs.Concats.{concat_never, concat_second, nonempty_first, nonempty_second}
-use Rattle.machines.specs.Languages.{Derivative, AreBytes, HasNonEmpty, Concat, Language, NeverStarts}
+use Rattle.machines.specs.Languages.{Derivative, AreBytes, Concat, Language, NeverStarts}
 use Rattle.machines.specs.Bounds.{and_both, disjoint_by, or_left, or_right}
 use Rattle.machines.specs.declared.seq.Stage.{Stage}
 use Rattle.machines.specs.declared.seq.Stage.TheVariants.{First, Second}
@@ -26,12 +27,14 @@ seq_grammar a b = record {
 
 module _ {A B : Type 0} (a : Grammar A) (b : Grammar B) (la : Lawful a) (lb : Lawful b)
     (disjoint : AreDisjoint a.nexts b.firsts) where
-  -- where the first goes on, the second does not start
-  only_first : (x : ℕ) → x < 256 → (s t : A) → Derivative (a.residual s) (x ∷ []) (a.residual t) → a.residual s []
+  -- a byte that continues a word of the first does not start one of the second
+  only_first : (x : ℕ) → x < 256 → (s t : A) → Derivative (a.residual s) (x ∷ []) (a.residual t)
+      → a.residual s []
       → NeverStarts (b.residual b.start) x
   only_first x low s t goes empty word it =
       let (rest, residual) = la.live t in
-      disjoint_by a.nexts b.firsts disjoint x low (la.next s x rest empty (goes.there rest residual)) (lb.first x word it)
+      disjoint_by a.nexts b.firsts disjoint x low
+      (la.next s x rest empty (goes.there rest residual)) (lb.first x word it)
 
   lift_first : (s t : A) (front : List ℕ) → AreBytes front → Path a s front t
       → Path (seq_grammar a b) (First s) front (First t)
@@ -56,7 +59,7 @@ module _ {A B : Type 0} (a : Grammar A) (b : Grammar B) (la : Lawful a) (lb : La
     path = lift_first s t it.front (below_front it.front left bytes it.splits low) it.path;
   }
 
-  -- the first is not whole, or nothing follows
+  -- the first is incomplete, or no byte follows
   pub seq_waits : (at : Stage A B) (s t : A) (bytes left : List ℕ) → at ≡ First s → AreBytes bytes
       → Passes a s bytes t left → (length left ≡ 0) ⊎ (a.residual t [] → ⊥)
       → Passes (seq_grammar a b) at bytes (First t) left
@@ -64,7 +67,8 @@ module _ {A B : Type 0} (a : Grammar A) (b : Grammar B) (la : Lawful a) (lb : La
       let P : Stage A B → Type 0 = λ p. Passes (seq_grammar a b) p bytes (First t) left in
       subst P (sym e) (in_first s t bytes left low reaches, by left stopped why)
     where
-      by : (left : List ℕ) → IsStopped (a.residual t) left → (length left ≡ 0) ⊎ (a.residual t [] → ⊥)
+      by : (left : List ℕ) → IsStopped (a.residual t) left
+          → (length left ≡ 0) ⊎ (a.residual t [] → ⊥)
           → IsStopped (SeqResidual a b (First t)) left
       by [] stopped why = tt
       by (x ∷ left) never (inl none) = absurd (omega (arith, none))
@@ -74,34 +78,22 @@ module _ {A B : Type 0} (a : Grammar A) (b : Grammar B) (la : Lawful a) (lb : La
   pub seq_stays : (at : Stage A B) (s t : A) (u v : B) (bytes left rest : List ℕ) → at ≡ First s
       → u ≡ b.start → AreBytes bytes → Passes a s bytes t left → Passes b u left v rest
       → length rest ≡ length left → Passes (seq_grammar a b) at bytes (First t) left
-  seq_stays at s t u v bytes left rest e f low (reaches, stopped) (starts, ends) same =
+  seq_stays at s t u v bytes left rest e f low (reaches, stopped) passes same =
       let P : Stage A B → Type 0 = λ p. Passes (seq_grammar a b) p bytes (First t) left in
-      let Q : B → Type 0 = λ p. Reaches b p left v rest in
-      subst P (sym e) (in_first s t bytes left low reaches, by left stopped (subst Q f starts) ends same)
+      subst P (sym e) (
+        in_first s t bytes left low reaches,
+        by left stopped (stuck b u v left rest f passes same),
+      )
     where
-      by : (left : List ℕ) → IsStopped (a.residual t) left → Reaches b b.start left v rest
-          → IsStopped (b.residual v) rest → length rest ≡ length left
+      by : (left : List ℕ) → IsStopped (a.residual t) left → IsStopped (b.residual b.start) left
           → IsStopped (SeqResidual a b (First t)) left
-      by [] stopped starts ends same = tt
-      by (x ∷ left) never starts ends same =
-          concat_never x never (λ empty. none starts.front starts.splits starts.path)
-        where
-          none : (front : List ℕ) → x ∷ left ≡ front ++ rest → Path b b.start front v
-              → NeverStarts (b.residual b.start) x
-          none [] splits same_state =
-              let R : List ℕ → Type 0 = λ l. IsStopped (b.residual v) l in
-              let T : B → Type 0 = λ p. NeverStarts (b.residual p) x in
-              subst T (sym same_state) (subst R (sym splits) ends)
-          none (y ∷ front) splits path = absurd (omega (
-            arith,
-            same,
-            ap (λ l. length l) splits,
-            length-append (y ∷ front) rest,
-          ))
+      by [] stopped none = tt
+      by (x ∷ left) never none = concat_never x never (λ empty. none)
 
   -- the second starts
   pub seq_turns : (at : Stage A B) (s t : A) (u v : B) (bytes left rest : List ℕ) → at ≡ First s
-      → u ≡ b.start → AreBytes bytes → Passes a s bytes t left → a.residual t [] → Passes b u left v rest
+      → u ≡ b.start → AreBytes bytes → Passes a s bytes t left → a.residual t []
+      → Passes b u left v rest
       → (length rest ≡ length left → ⊥) → Passes (seq_grammar a b) at bytes (Second v) rest
   seq_turns at s t u v bytes left rest e f low (reaches, stopped) empty (starts, ends) more =
       let P : Stage A B → Type 0 = λ p. Passes (seq_grammar a b) p bytes (Second v) rest in
@@ -122,9 +114,11 @@ module _ {A B : Type 0} (a : Grammar A) (b : Grammar B) (la : Lawful a) (lb : La
           → Path (seq_grammar a b) (First t) front (Second v)
       by [] splits path = absurd (more (sym (ap (λ l. length l) splits)))
       by (x ∷ front) splits (next, goes, path) =
-          let R : List ℕ → Type 0 = λ l. IsStopped (a.residual t) l in
-          (Second next, concat_second x (subst R splits stopped) empty goes,
-          lift_second next v front path)
+          let R : List ℕ → Type 0 = λ l. IsStopped (a.residual t) l in (
+            Second next,
+            concat_second x (subst R splits stopped) empty goes,
+            lift_second next v front path,
+          )
 
   pub seq_second : (at : Stage A B) (s t : B) (bytes left : List ℕ) → at ≡ Second s
       → Passes b s bytes t left → Passes (seq_grammar a b) at bytes (Second t) left
@@ -167,7 +161,8 @@ module _ {A B : Type 0} (a : Grammar A) (b : Grammar B) (la : Lawful a) (lb : La
       let R : Bool → Type 0 = λ x. HasEnded a s x in
       subst P (sym e) (by q (subst R on one) (subst Q f two))
     where
-      by : (q : Bool) → HasEnded a s true → HasEnded b b.start q → HasEnded (seq_grammar a b) (First s) q
+      by : (q : Bool) → HasEnded a s true → HasEnded b b.start q
+          → HasEnded (seq_grammar a b) (First s) q
       by true one two = λ x. concat_never x (one x) (λ empty. two x)
       by false one two = let (word, residual) = la.live s in nonempty_second word residual two
 
@@ -208,7 +203,9 @@ module _ {A B : Type 0} (a : Grammar A) (b : Grammar B) (la : Lawful a) (lb : La
           (and_both a.nullable (b.firsts x) (la.null one) (lb.first x word two))
       first x (inr (left, right, e, one, two)) =
           or_left (a.firsts x) (a.nullable && b.firsts x) (la.first x left one)
-      either : (x : ℕ) (s : A) {word : List ℕ} → a.residual s [] → (a.residual s [] × b.residual b.start (x ∷ word))
+
+      either : (x : ℕ) (s : A) {word : List ℕ} → a.residual s []
+          → (a.residual s [] × b.residual b.start (x ∷ word))
           ⊎ ((left : List ℕ) × (right : List ℕ) × (word ≡ left ++ right)
           × a.residual s (x ∷ left) × b.residual b.start right)
           → IsTrue (a.nexts x || b.firsts x)
@@ -216,7 +213,9 @@ module _ {A B : Type 0} (a : Grammar A) (b : Grammar B) (la : Lawful a) (lb : La
           or_right (a.nexts x) (b.firsts x) (lb.first x word two)
       either x s empty (inr (left, right, e, one, two)) =
           or_left (a.nexts x) (b.firsts x) (la.next s x left empty one)
-      next : (at : Stage A B) (x : ℕ) (word : List ℕ) → SeqResidual a b at [] → SeqResidual a b at (x ∷ word)
+
+      next : (at : Stage A B) (x : ℕ) (word : List ℕ) → SeqResidual a b at []
+          → SeqResidual a b at (x ∷ word)
           → IsTrue (b.nexts x || (b.nullable && (a.nexts x || b.firsts x)))
       next (First s) x word it more = let (one, two) = concat_empty it in
           or_right (b.nexts x) (b.nullable && (a.nexts x || b.firsts x))
@@ -224,6 +223,7 @@ module _ {A B : Type 0} (a : Grammar A) (b : Grammar B) (la : Lawful a) (lb : La
           (either x s one (concat_cases more)))
       next (Second s) x word it more =
           or_left (b.nexts x) (b.nullable && (a.nexts x || b.firsts x)) (lb.next s x word it more)
+
       live : (at : Stage A B) → (word : List ℕ) × SeqResidual a b at word
       live (First s) =
           let (left, one) = la.live s in

@@ -1,11 +1,12 @@
--- One byte of a set, and a run of them.
-use Rattle.std.specs.Prelude.{◌≡◌, ℕ, List, [], ◌∷◌, ◌++◌, Bool, true, false, IsTrue, ⊤, Option, Some, None, ◌↔◌, ◌==◌}
+-- The grammars of one byte of a set, and of a run.
+use Rattle.std.specs.Prelude.{◌≡◌, ℕ, List, [], ◌∷◌, ◌++◌, Bool, true, false, IsTrue, ⊤, ◌↔◌, ◌==◌}
 use Rattle.std.proofs.Common.{◌∙◌, refl, sym, subst, ap, take, drop}
 use Rattle.std.proofs.lemmas.List.{take-append-drop}
-use Rattle.machines.specs.Grammar.{HasEnded, Grammar, IsStopped, Lawful, Reaches, Path, Passes}
+use Rattle.machines.specs.Grammar.{HasEnded, Grammar, IsStopped, Lawful, Path, Passes}
 use Rattle.machines.specs.Concats.{first_same, others_same}
 use Rattle.machines.specs.Paths.{here}
-use Rattle.machines.specs.Languages.{Derivative, AllOf, HasNonEmpty, Language, NeverStarts, OneOfThese}
+use Rattle.machines.specs.Languages.{Derivative, AllOf, HasNonEmpty, Language, NeverStarts}
+use Rattle.machines.specs.Languages.{OneOfThese}
 
 -- The set of one byte.
 abbrev pub only : ℕ → ℕ → Bool
@@ -26,11 +27,11 @@ one_grammar these = record {
   nullable = false;
 }
 
--- some byte is in it
+-- some byte is in the set
 abbrev pub IsSet : (ℕ → Bool) → Type 0
 IsSet these = (b : ℕ) × IsTrue (these b)
 
--- the bytes do not start with one of these
+-- the bytes do not start with a byte of the set
 abbrev pub NotFirst : (ℕ → Bool) → List ℕ → Type 0
 NotFirst these [] = ⊤
 NotFirst these (b ∷ bytes) = IsTrue (these b) → ⊥
@@ -99,6 +100,7 @@ module _ (these : ℕ → Bool) where
     where
       untrue : IsTrue false → ⊥
       untrue is = cc
+
       nothing : OneOfThese these [] → ⊥
       nothing (b, is, e) = cc
   one_done true = (λ is. refl, λ it. refl)
@@ -116,10 +118,12 @@ module _ (these : ℕ → Bool) where
     live = live;
   }
     where
-      next : (at : Bool) (b : ℕ) (word : List ℕ) → OneResidual these at [] → OneResidual these at (b ∷ word)
+      next : (at : Bool) (b : ℕ) (word : List ℕ) → OneResidual these at []
+          → OneResidual these at (b ∷ word)
           → IsTrue false
       next false b word it more = let e : [] ≡ it.0 ∷ [] = it.2 in cc
       next true b word it more = cc
+
       live : (at : Bool) → (word : List ℕ) × OneResidual these at word
       live false = (x ∷ [], (x, is, refl))
       live true = ([], refl)
@@ -154,6 +158,7 @@ module _ (these : ℕ → Bool) where
       path : (front : List ℕ) → AllOf these front → Path (run_grammar these) at front at
       path [] all = refl
       path (b ∷ front) (is, all) = (at, run_takes b is, path front all)
+
       stops : (left : List ℕ) → NotFirst these left → IsStopped (AllOf these) left
       stops [] not = tt
       stops (b ∷ left) not = λ word it. not it.0

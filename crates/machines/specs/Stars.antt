@@ -1,15 +1,17 @@
--- A machine some count, or none.
-use Rattle.std.specs.Prelude.{◌≡◌, ◌⊎◌, ◌<◌, ℕ, zero, suc, List, [], ◌∷◌, ◌++◌, Bool, true, false, IsTrue, Option, Some, None, ◌||◌, ◌↔◌, length, ⊤}
-use Rattle.std.proofs.Common.{inl, inr, refl, sym, subst, ap, length-append, arith}
+-- The grammar of repeated words.
+use Rattle.std.specs.Prelude.{◌≡◌, ◌⊎◌, ◌<◌, ℕ, zero, suc, List, [], ◌∷◌, ◌++◌, Bool, true, false}
+use Rattle.std.specs.Prelude.{IsTrue, Option, Some, None, ◌||◌, ◌↔◌, length, ⊤}
+use Rattle.std.proofs.Common.{inl, inr, refl, sym, subst, ap, arith}
 use Rattle.machines.specs.Grammar.{AreDisjoint, HasEnded, Grammar, IsStopped, Lawful, Reaches, Path}
 use Rattle.machines.specs.Grammar.{Passes}
-use Rattle.machines.specs.Paths.{below_front, reaches_both}
+use Rattle.machines.specs.Paths.{below_front, reaches_both, stuck}
 use Rattle.machines.specs.Concats.{empty_concat, concat, concat_cases, concat_empty, concat_first}
-use Rattle.machines.specs.Concats.{concat_never, concat_second, nonempty_first, nonempty_second}
-use Rattle.machines.specs.Languages.{Derivative, AreBytes, HasNonEmpty, Concat, Language, NeverStarts, Repeated, Power}
+use Rattle.machines.specs.Concats.{concat_never, concat_second, nonempty_second}
+use Rattle.machines.specs.Languages.{Derivative, AreBytes, HasNonEmpty, Concat, Language}
+use Rattle.machines.specs.Languages.{NeverStarts, Repeated, Power}
 use Rattle.machines.specs.Bounds.{disjoint_by, or_left, or_right}
 
--- ---- words in turn
+-- ---- words in sequence
 
 module _ {L : Language} where
   pub none_yet : Repeated L []
@@ -40,6 +42,7 @@ module _ {L : Language} where
       behind n (inl (empty, more)) = absurd (solid empty)
       behind n (inr (left, right, e, one, two)) =
           (left, right, e, one, record { count = n; words = two })
+
       by : (n : ℕ) → Power L n (b ∷ word)
           → (left : List ℕ) × (right : List ℕ) × (word ≡ left ++ right) × L (b ∷ left)
           × Repeated L right
@@ -84,12 +87,12 @@ star_grammar a = record {
   nullable = true;
 }
 
--- no byte goes on in the word that a state is in
+-- no byte continues the word that a state is in
 abbrev pub InnerStopped : {A : Type 0} → Grammar A → Option A → List ℕ → Type 0
 InnerStopped a None left = ⊤
 InnerStopped a (Some s) left = IsStopped (a.residual s) left
 
--- the word that a state is in is whole
+-- the word that a state is in is complete
 abbrev pub InnerDone : {A : Type 0} → Grammar A → Option A → Type 0
 InnerDone a None = ⊤
 InnerDone a (Some s) = a.residual s []
@@ -129,11 +132,13 @@ module _ {A : Type 0} (a : Grammar A) (la : Lawful a) (filled : a.nullable ≡ f
   rest_first x word it = let (left, right, e, one, two) = repeated_cases solid x word it in
       la.first x left one
 
-  only_first : (x : ℕ) → x < 256 → (s t : A) → Derivative (a.residual s) (x ∷ []) (a.residual t) → a.residual s []
+  only_first : (x : ℕ) → x < 256 → (s t : A) → Derivative (a.residual s) (x ∷ []) (a.residual t)
+      → a.residual s []
       → NeverStarts (Repeated (a.residual a.start)) x
   only_first x low s t goes empty word it =
       let (rest, residual) = la.live t in
-      disjoint_by a.nexts a.firsts disjoint x low (la.next s x rest empty (goes.there rest residual))
+      disjoint_by a.nexts a.firsts disjoint x low
+      (la.next s x rest empty (goes.there rest residual))
       (rest_first x word it)
 
   lift : (s t : A) (front : List ℕ) → AreBytes front → Path a s front t
@@ -156,7 +161,7 @@ module _ {A : Type 0} (a : Grammar A) (la : Lawful a) (filled : a.nullable ≡ f
         path = lift s t it.front (below_front it.front left bytes it.splits low) it.path;
       })
 
-  -- in a word, and then on
+  -- in a word, and then in what follows it
   pub star_goes : (at : Option A) (s t : A) (to : Option A) (bytes left rest : List ℕ)
       → at ≡ Some s → AreBytes bytes → Passes a s bytes t left
       → Passes (star_grammar a) (Some t) left to rest
@@ -173,7 +178,7 @@ module _ {A : Type 0} (a : Grammar A) (la : Lawful a) (filled : a.nullable ≡ f
       let P : Option A → Type 0 = λ p. Passes (star_grammar a) p bytes to rest in
       subst P (sym e) it
 
-  -- the word is not whole, or nothing follows
+  -- the word is incomplete, or no byte follows
   pub star_ends : (at : Option A) (left : List ℕ) → InnerStopped a at left
       → (length left ≡ 0) ⊎ (StarResidual a at [] → ⊥) → IsStopped (StarResidual a at) left
   star_ends at [] stopped why = tt
@@ -186,32 +191,19 @@ module _ {A : Type 0} (a : Grammar A) (la : Lawful a) (filled : a.nullable ≡ f
   pub star_stops : (at : Option A) (u v : A) (left rest : List ℕ) → u ≡ a.start
       → InnerStopped a at left → Passes a u left v rest → length rest ≡ length left
       → IsStopped (StarResidual a at) left
-  star_stops at u v left rest f stopped (starts, ends) same =
-      let Q : A → Type 0 = λ p. Reaches a p left v rest in
-      by at left stopped (subst Q f starts) same
+  star_stops at u v left rest f stopped passes same =
+      by at left stopped (stuck a u v left rest f passes same)
     where
       after : (x : ℕ) → NeverStarts (a.residual a.start) x → (at : Option A) (left : List ℕ)
           → InnerStopped a at (x ∷ left) → NeverStarts (StarResidual a at) x
       after x none None left stopped = repeated_never solid x none
-      after x none (Some s) left never = concat_never x never (λ empty. repeated_never solid x none)
-      by : (at : Option A) (left : List ℕ) → InnerStopped a at left → Reaches a a.start left v rest
-          → length rest ≡ length left → IsStopped (StarResidual a at) left
-      by at [] stopped starts same = tt
-      by at (x ∷ left) stopped starts same =
-          after x (none starts.front starts.splits starts.path) at left stopped
-        where
-          none : (front : List ℕ) → x ∷ left ≡ front ++ rest → Path a a.start front v
-              → NeverStarts (a.residual a.start) x
-          none [] splits same_state =
-              let R : List ℕ → Type 0 = λ l. IsStopped (a.residual v) l in
-              let T : A → Type 0 = λ p. NeverStarts (a.residual p) x in
-              subst T (sym same_state) (subst R (sym splits) ends)
-          none (y ∷ front) splits path = absurd (omega (
-            arith,
-            same,
-            ap (λ l. length l) splits,
-            length-append (y ∷ front) rest,
-          ))
+      after x none (Some s) left never =
+          concat_never x never (λ empty. repeated_never solid x none)
+
+      by : (at : Option A) (left : List ℕ) → InnerStopped a at left
+          → IsStopped (a.residual a.start) left → IsStopped (StarResidual a at) left
+      by at [] stopped none = tt
+      by at (x ∷ left) stopped none = after x none at left stopped
 
   -- another word starts
   pub star_turns : (from at : Option A) (u v : A) (bytes left rest : List ℕ) → u ≡ a.start
@@ -234,6 +226,7 @@ module _ {A : Type 0} (a : Grammar A) (la : Lawful a) (filled : a.nullable ≡ f
       after x next goes None left stopped whole = repeated_byte solid x goes
       after x next goes (Some s) left never whole =
           concat_second x never (concat_empty whole).0 (repeated_byte solid x goes)
+
       by : (front : List ℕ) → left ≡ front ++ rest → Path a a.start front v → AreBytes front
           → Path (star_grammar a) at front (Some v)
       by [] splits path low = absurd (more (sym (ap (λ l. length l) splits)))
@@ -263,7 +256,8 @@ module _ {A : Type 0} (a : Grammar A) (la : Lawful a) (filled : a.nullable ≡ f
     live = live;
   }
     where
-      next : (at : Option A) (x : ℕ) (word : List ℕ) → StarResidual a at [] → StarResidual a at (x ∷ word)
+      next : (at : Option A) (x : ℕ) (word : List ℕ) → StarResidual a at []
+          → StarResidual a at (x ∷ word)
           → IsTrue (a.firsts x || a.nexts x)
       next None x word it more = or_left (a.firsts x) (a.nexts x) (rest_first x word more)
       next (Some s) x word it more = by (concat_cases more)
@@ -275,6 +269,7 @@ module _ {A : Type 0} (a : Grammar A) (la : Lawful a) (filled : a.nullable ≡ f
           by (inl (one, two)) = or_left (a.firsts x) (a.nexts x) (rest_first x word two)
           by (inr (left, right, e, one, two)) = or_right (a.firsts x) (a.nexts x)
               (la.next s x left (concat_empty it).0 one)
+
       live : (at : Option A) → (word : List ℕ) × StarResidual a at word
       live None = ([], none_yet)
       live (Some s) = let (left, one) = la.live s in (left ++ [], concat left [] one none_yet)
@@ -317,9 +312,11 @@ module _ {A : Type 0} (a : Grammar A) (la : Lawful a) (filled : a.nullable ≡ f
     where
       laws : Lawful (star_grammar a)
       laws = star_lawful a la filled disjoint
-      by : (x : ℕ) (word : List ℕ) → (a.residual a.start [] × Repeated (a.residual a.start) (x ∷ word))
+
+      by : (x : ℕ) (word : List ℕ)
+          → (a.residual a.start [] × Repeated (a.residual a.start) (x ∷ word))
           ⊎ ((left : List ℕ) × (right : List ℕ) × (word ≡ left ++ right)
           × a.residual a.start (x ∷ left) × Repeated (a.residual a.start) right)
           → IsTrue (a.firsts x)
-      by x word (inl (empty, more)) = absurd (solid a la filled disjoint empty)
+      by x word (inl (empty, _)) = absurd (solid a la filled disjoint empty)
       by x word (inr (left, right, e, one, two)) = la.first x left one

@@ -1,13 +1,14 @@
 -- The grammar of a fixed text.
-use Rattle.std.specs.Prelude.{◌≡◌, ◌≤◌, ◌<◌, ℕ, zero, suc, List, [], ◌∷◌, ◌++◌, Bool, true, false, IsTrue, length, leb, ◌==◌, ◌↔◌}
-use Rattle.std.proofs.Common.{◌∙◌, refl, sym, subst, ap, drop, get_or, arith}
+use Rattle.std.specs.Prelude.{◌≡◌, ◌≤◌, ◌<◌, ℕ, zero, suc, List, [], ◌∷◌, Bool, true, false, IsTrue}
+use Rattle.std.specs.Prelude.{length, leb, ◌==◌, ◌↔◌}
+use Rattle.std.proofs.Common.{◌∙◌, refl, sym, ap, drop, get_or, arith}
 use Rattle.std.proofs.lemmas.Bool.{eq-eqb, le-leb, leb-false, leb-true}
 use Rattle.machines.specs.Concats.{first_same, others_same}
-use Rattle.machines.specs.Grammar.{Grammar, HasEnded, IsStopped, Lawful, Path, Reaches}
-use Rattle.machines.specs.Languages.{Derivative, HasNonEmpty, Language, NeverStarts}
+use Rattle.machines.specs.Grammar.{Grammar, HasEnded, Lawful, Reaches}
+use Rattle.machines.specs.Languages.{Derivative, Language, NeverStarts}
 use Rattle.machines.specs.Paths.{reaches_both}
 
--- The bytes after the first `passed`.
+-- The text without its first `passed` bytes.
 abbrev pub TextResidual : List ℕ → ℕ → Language
 TextResidual text passed bytes = bytes ≡ drop passed text
 
@@ -63,17 +64,6 @@ module _ (text : List ℕ) where
   nothing : (n : ℕ) → length text ≤ n → (x : ℕ) → NeverStarts (TextResidual text n) x
   nothing n low x word it = let e = it ∙ drop_none text n low in cc
 
-  pub text_whole : (n : ℕ) (rest : List ℕ) → length text ≤ n
-      → IsStopped (TextResidual text n) rest
-  text_whole n [] low = tt
-  text_whole n (x ∷ rest) low = nothing n low x
-
-  pub text_other : (n : ℕ) (rest others : List ℕ) (x : ℕ) → rest ≡ x ∷ others → n < length text
-      → (x ≡ get_or text n 0 → ⊥) → IsStopped (TextResidual text n) rest
-  text_other n rest others x e low other =
-      let P : List ℕ → Type 0 = λ l. IsStopped (TextResidual text n) l in
-      subst P (sym e) (λ word it. other (first_same (it ∙ drop_one text n low)))
-
   undone : (n : ℕ) → [] ≡ drop n text → length text ≤ n
   undone n it = by text n it
     where
@@ -109,9 +99,11 @@ module _ (text : List ℕ) where
     where
       none : {b : ℕ} {word : List ℕ} → [] ≡ b ∷ word → ⊥
       none e = cc
+
       first : (b : ℕ) (word text : List ℕ) → b ∷ word ≡ drop 0 text → IsTrue (starts_with text b)
       first b word [] it = cc
       first b word (x ∷ text) it = eq-eqb b x (first_same it)
+
       null : (text : List ℕ) → [] ≡ drop 0 text → IsTrue (is_empty_text text)
       null [] it = refl
       null (x ∷ text) it = cc

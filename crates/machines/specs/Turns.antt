@@ -1,16 +1,17 @@
 -- Lemmas on the states of nested brackets.
-use Rattle.std.specs.Prelude.{◌≡◌, ◌≤◌, ◌<◌, ◌+◌, ◌-◌, ◌*◌, ◌/◌, ◌%◌, ◌⊎◌, ℕ, zero, suc, List, [], ◌∷◌, ◌++◌, length, Bool, true, false, IsTrue, ⊤, Option, Some, None, ◌||◌, ◌==◌, ◌↔◌}
-use Rattle.std.proofs.Common.{◌∙◌, inl, inr, refl, sym, subst, ap, append_assoc, length-append, arith}
+use Rattle.std.specs.Prelude.{◌≡◌, ◌<◌, ◌⊎◌, ℕ, zero, suc, List, [], ◌∷◌, ◌++◌}
+use Rattle.std.specs.Prelude.{length, Bool, true, false, IsTrue, Option, Some, None, ◌||◌, ◌↔◌}
+use Rattle.std.proofs.Common.{◌∙◌, inl, inr, refl, sym, subst, ap, arith}
 use Rattle.machines.specs.Bounds.{disjoint_by, or_left, or_right}
 use Rattle.machines.specs.Concats.{concat, concat_cases, concat_empty, concat_first, concat_never}
-use Rattle.machines.specs.Concats.{concat_second, empty_concat, nonempty_first, nonempty_second}
+use Rattle.machines.specs.Concats.{concat_second, empty_concat, nonempty_second}
 use Rattle.machines.specs.Grammar.{Grammar, HasEnded, IsStopped, Lawful, Passes, Path, Reaches}
 use Rattle.machines.specs.Items.{NoCloser, closer_is, enclosed_close, enclosed_empty, enclosed_left}
 use Rattle.machines.specs.Items.{enclosed_live, enclosed_more, enclosed_never, enclosed_right}
 use Rattle.machines.specs.Items.{enclosed_step, item_first, item_leaf, item_never, item_open}
-use Rattle.machines.specs.Items.{item_solid, opener_is}
+use Rattle.machines.specs.Items.{item_solid, opener_is, room_is, stack_length}
 use Rattle.machines.specs.Languages.{AreBytes, Concat, Derivative, HasNonEmpty, Language}
-use Rattle.machines.specs.Languages.{NeverStarts, Repeated}
+use Rattle.machines.specs.Languages.{NeverStarts}
 use Rattle.machines.specs.Nests.{AreApart, Balanced, Brackets, Enclosed, Item, IsTurn}
 use Rattle.machines.specs.Nests.{LevelResidual, NestAt, NestResidual, OneByte, is_bracket, is_close}
 use Rattle.machines.specs.Nests.{is_open, nested_grammar, room, stack}
@@ -22,22 +23,12 @@ use Rattle.machines.specs.declared.nested.Nest.{Nest}
 abbrev nest : {A : Type 0} → ℕ → ℕ → Option A → Nest A
 nest depth kinds inner = record { depth = depth; kinds = kinds; inner = inner }
 
-stack_length : (depth kinds : ℕ) → length (stack depth kinds) ≡ depth
-stack_length zero kinds = refl
-stack_length (suc depth) kinds = ap (λ n. suc n) (stack_length depth (kinds / 2))
-
-room_is : (limit : ℕ) (ks : List Bool) → room limit ks ≡ limit - length ks
-room_is limit [] = omega arith
-room_is limit (k ∷ ks) = refl
-
 module _ {A : Type 0} (b : Brackets) (a : Grammar A) (la : Lawful a) (apart : AreApart b a)
     (limit : ℕ) where
-  L : Language
-  L = a.residual a.start
-
   -- ---- the language of a level
 
-  level_empty : (depth : ℕ) (inner : Option A) → InnerDone a inner → LevelResidual b a depth inner []
+  level_empty : (depth : ℕ) (inner : Option A) → InnerDone a inner
+      → LevelResidual b a depth inner []
   level_empty depth None whole = none_yet
   level_empty depth (Some s) whole = empty_concat whole none_yet
 
@@ -123,7 +114,8 @@ module _ {A : Type 0} (b : Brackets) (a : Grammar A) (la : Lawful a) (apart : Ar
       → x ≡ b.opener j → length ks < limit → Stays a inner x → InnerDone a inner
       → Derivative (NestAt b a limit ks inner) (x ∷ []) (NestAt b a limit (j ∷ ks) None)
   open_turn ks inner j x low e less never whole = record {
-    there = λ word it. step.there word (enclosed_left b a la apart limit ks Inside (OneByte (b.closer j))
+    there = λ word it. step.there word
+        (enclosed_left b a la apart limit ks Inside (OneByte (b.closer j))
         (Balanced b (a.residual a.start) (room limit ks)) word it);
     back = λ word it. enclosed_right b a la apart limit ks Inside (OneByte (b.closer j))
         (Balanced b (a.residual a.start) (room limit ks)) word (step.back word it);
@@ -131,18 +123,21 @@ module _ {A : Type 0} (b : Brackets) (a : Grammar A) (la : Lawful a) (apart : Ar
     where
       Inside : Language
       Inside = Balanced b (a.residual a.start) (room limit (j ∷ ks))
+
       one_less : room limit ks ≡ suc (room limit (j ∷ ks))
       one_less = omega (arith, less, room_is limit ks)
+
       opens : Derivative (Balanced b (a.residual a.start) (room limit ks)) (x ∷ [])
           (Concat (Concat Inside (OneByte (b.closer j)))
           (Balanced b (a.residual a.start) (room limit ks)))
       opens =
           let P : ℕ → Type 0 = λ n. Derivative (Balanced b (a.residual a.start) n) (x ∷ [])
-              (Concat (Concat Inside (OneByte (b.closer j)))
-              (Balanced b (a.residual a.start) n)) in
+          (Concat (Concat Inside (OneByte (b.closer j)))
+          (Balanced b (a.residual a.start) n)) in
           subst P (sym one_less)
-              (repeated_byte (item_solid b a la apart (suc (room limit (j ∷ ks)))) x
-              (item_open b a la apart (room limit (j ∷ ks)) x j low e))
+          (repeated_byte (item_solid b a la apart (suc (room limit (j ∷ ks)))) x
+          (item_open b a la apart (room limit (j ∷ ks)) x j low e))
+
       step : Derivative (NestAt b a limit ks inner) (x ∷ [])
           (Enclosed b (a.residual a.start) limit ks (Concat (Concat Inside (OneByte (b.closer j)))
           (Balanced b (a.residual a.start) (room limit ks))))
@@ -168,13 +163,13 @@ module _ {A : Type 0} (b : Brackets) (a : Grammar A) (la : Lawful a) (apart : Ar
       → Derivative (NestResidual b a limit at) (x ∷ []) (NestResidual b a limit (nest d k None))
   turn_step at x d k low never whole (inl (j, e, less, is)) =
       let P : List Bool → Type 0 = λ ks. Derivative (NestResidual b a limit at) (x ∷ [])
-          (NestAt b a limit ks None) in
+      (NestAt b a limit ks None) in
       let size = stack_length at.depth at.kinds in
       subst P (sym is) (open_turn (stack at.depth at.kinds) at.inner j x low e
       (omega (arith, less, size)) never whole)
   turn_step at x d k low never whole (inr (j, e, is)) =
       let P : List Bool → Type 0 = λ ks. Derivative (NestAt b a limit ks at.inner) (x ∷ [])
-          (NestResidual b a limit (nest d k None)) in
+      (NestResidual b a limit (nest d k None)) in
       subst P (sym is) (close_turn j (stack d k) at.inner x low e never whole)
 
   -- ---- the steps of the loop
@@ -187,7 +182,8 @@ module _ {A : Type 0} (b : Brackets) (a : Grammar A) (la : Lawful a) (apart : Ar
   nest_turn from at bytes rest others x d k led e low stopped whole turn =
       let R : List ℕ → Type 0 = λ l. InnerStopped a at.inner l in
       let (here, lows) = subst AreBytes e low in
-      reaches_both (nested_grammar b a limit) from at (nest d k None) bytes rest others led (record {
+      reaches_both (nested_grammar b a limit) from at (nest d k None) bytes rest others led
+      (record {
         front = x ∷ [];
         splits = e;
         path = (
@@ -215,7 +211,7 @@ module _ {A : Type 0} (b : Brackets) (a : Grammar A) (la : Lawful a) (apart : Ar
       let Q : A → Type 0 = λ p. Reaches a p rest v left in
       let entered = subst Q f starts in
       reaches_both (nested_grammar b a limit) from at (nest at.depth at.kinds (Some v)) bytes rest
-          left led (record {
+      left led (record {
         front = entered.front;
         splits = entered.splits;
         path = by entered.front entered.splits entered.path
@@ -240,24 +236,19 @@ module _ {A : Type 0} (b : Brackets) (a : Grammar A) (la : Lawful a) (apart : Ar
       → Passes (nested_grammar b a limit) at bytes to rest
   nest_goes at s t to bytes left rest e low (it, stopped) (two, ends) =
       let P : Option A → Type 0 = λ i. Passes (nested_grammar b a limit)
-          (nest at.depth at.kinds i) bytes to rest in
+      (nest at.depth at.kinds i) bytes to rest in
       subst P (sym e) (
         reaches_both (nested_grammar b a limit) (nest at.depth at.kinds (Some s))
             (nest at.depth at.kinds (Some t)) to bytes left rest (record {
-          front = it.front;
-          splits = it.splits;
-          path = lift at.depth at.kinds s t it.front
-              (below_front it.front left bytes it.splits low) it.path;
-        }) two,
+              front = it.front;
+              splits = it.splits;
+              path = lift at.depth at.kinds s t it.front
+                  (below_front it.front left bytes it.splits low) it.path;
+            }) two,
         ends,
       )
 
   -- ---- where the loop stops
-
-  pub nest_end : (at : Nest A) (rest : List ℕ) → rest ≡ []
-      → IsStopped (NestResidual b a limit at) rest
-  nest_end at rest e = let R : List ℕ → Type 0 = λ l. IsStopped (NestResidual b a limit at) l in
-      subst R (sym e) tt
 
   pub nest_undone : (at : Nest A) (rest : List ℕ) → InnerStopped a at.inner rest
       → (InnerDone a at.inner → ⊥) → IsStopped (NestResidual b a limit at) rest
@@ -285,9 +276,11 @@ module _ {A : Type 0} (b : Brackets) (a : Grammar A) (la : Lawful a) (apart : Ar
     where
       size : length (stack at.depth at.kinds) ≡ at.depth
       size = stack_length at.depth at.kinds
+
       closed : (ks : List Bool) → stack at.depth at.kinds ≡ ks → NoCloser b ks x
       closed [] is = tt
       closed (k ∷ ks) is = none k ks is
+
       by : InnerStopped a at.inner (x ∷ others) → NeverStarts (a.residual a.start) x
           → NeverStarts (NestResidual b a limit at) x
       by stopped never = enclosed_never b a la apart limit (stack at.depth at.kinds)
@@ -315,9 +308,10 @@ module _ {A : Type 0} (b : Brackets) (a : Grammar A) (la : Lawful a) (apart : Ar
     where
       untrue : IsTrue false → ⊥
       untrue is = cc
+
       by : NestResidual b a limit at [] → at.depth ≡ 0
       by it = let (none, inner) = enclosed_empty b a la apart limit (stack at.depth at.kinds)
-              (LevelResidual b a (room limit (stack at.depth at.kinds)) at.inner) it in
+          (LevelResidual b a (room limit (stack at.depth at.kinds)) at.inner) it in
           sym (stack_length at.depth at.kinds) ∙ ap (λ l. length l) none
 
   level_live : (depth : ℕ) (inner : Option A) → (word : List ℕ) × LevelResidual b a depth inner word
@@ -336,8 +330,12 @@ module _ {A : Type 0} (b : Brackets) (a : Grammar A) (la : Lawful a) (apart : Ar
       by : (word : List ℕ) → a.residual a.start word
           → HasNonEmpty (Balanced b (a.residual a.start) depth)
       by [] it = absurd (item_solid b a la apart depth (item_of depth [] it))
-      by (x ∷ word) it = (x, word ++ [], once_more (concat (x ∷ word) [] (item_of depth (x ∷ word) it)
-          none_yet))
+      by (x ∷ word) it = (
+        x,
+        word ++ [],
+        once_more (concat (x ∷ word) [] (item_of depth (x ∷ word) it)
+            none_yet),
+      )
 
   level_more : (depth : ℕ) (inner : Option A) → HasNonEmpty (LevelResidual b a depth inner)
   level_more depth None = balanced_more depth
@@ -349,7 +347,7 @@ module _ {A : Type 0} (b : Brackets) (a : Grammar A) (la : Lawful a) (apart : Ar
       let depth : ℕ = room limit (stack at.depth at.kinds) in
       let (word, it) = level_live depth at.inner in
       enclosed_more b a la apart limit (stack at.depth at.kinds)
-          (LevelResidual b a depth at.inner) word it (level_more depth at.inner)
+      (LevelResidual b a depth at.inner) word it (level_more depth at.inner)
 
   pub nested_lawful : Lawful (nested_grammar b a limit)
   nested_lawful = record {
@@ -366,8 +364,9 @@ module _ {A : Type 0} (b : Brackets) (a : Grammar A) (la : Lawful a) (apart : Ar
           → Balanced b (a.residual a.start) depth (x ∷ word) → IsTrue (a.firsts x || is_open b x)
       balanced_first depth x word it =
           let (left, right, e, one, two) =
-              repeated_cases (item_solid b a la apart depth) x word it in
+          repeated_cases (item_solid b a la apart depth) x word it in
           item_first b a la apart depth x left one
+
       level_next : (depth : ℕ) (inner : Option A) (x : ℕ) (word : List ℕ)
           → LevelResidual b a depth inner [] → LevelResidual b a depth inner (x ∷ word)
           → IsTrue (a.nexts x || (a.firsts x || is_open b x))
@@ -383,6 +382,7 @@ module _ {A : Type 0} (b : Brackets) (a : Grammar A) (la : Lawful a) (apart : Ar
               (balanced_first depth x word two)
           by (inr (left, right, e, one, two)) = or_left (a.nexts x) (a.firsts x || is_open b x)
               (la.next s x left (concat_empty it).0 one)
+
       next : (at : Nest A) (x : ℕ) (word : List ℕ) → NestResidual b a limit at []
           → NestResidual b a limit at (x ∷ word)
           → IsTrue (a.nexts x || (a.firsts x || is_open b x))
@@ -393,4 +393,4 @@ module _ {A : Type 0} (b : Brackets) (a : Grammar A) (la : Lawful a) (apart : Ar
               → IsTrue (a.nexts x || (a.firsts x || is_open b x))
           by [] it also = level_next limit at.inner x word it also
           by (k ∷ ks) it also = let (none, inner) = enclosed_empty b a la apart limit (k ∷ ks)
-                  (LevelResidual b a (room limit (k ∷ ks)) at.inner) it in cc
+              (LevelResidual b a (room limit (k ∷ ks)) at.inner) it in cc

@@ -67,9 +67,7 @@ impl<A: Machine, B: Machine> Machine for Alt<A, B> {
         match at {
             Branch::Left(left) => self.0.is_done(left),
             Branch::Right(right) => self.1.is_done(right),
-            Branch::Neither => {
-                self.0.is_done(self.0.start()) || self.1.is_done(self.1.start())
-            }
+            Branch::Neither => { self.0.is_done(self.0.start()) || self.1.is_done(self.1.start()) }
         }
     }
 
@@ -78,9 +76,7 @@ impl<A: Machine, B: Machine> Machine for Alt<A, B> {
         match at {
             Branch::Left(left) => self.0.is_over(left),
             Branch::Right(right) => self.1.is_over(right),
-            Branch::Neither => {
-                self.0.is_over(self.0.start()) && self.1.is_over(self.1.start())
-            }
+            Branch::Neither => { self.0.is_over(self.0.start()) && self.1.is_over(self.1.start()) }
         }
     }
 }

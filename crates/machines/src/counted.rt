@@ -94,7 +94,7 @@ impl<N: Number> Machine for Counted<N> {
     #[inline(always)]
     fn is_over(&self, at: Count<N::State>) -> bool {
         match at {
-            Count::Data(size) => size == 0,
+            Count::Data(more) => more == 0,
             Count::Numeral(inner) => match self.0.value(inner) {
                 None => false,
                 Some(size) => size == 0,

@@ -43,7 +43,11 @@ impl Radix for Decimal {
 
     #[inline(always)]
     fn digit(&self, byte: u8) -> Option<usize> {
-        if b'0' <= byte && byte <= b'9' { Some((byte - b'0') as usize) } else { None }
+        if b'0' <= byte && byte <= b'9' {
+            Some((byte - b'0') as usize)
+        } else {
+            None
+        }
     }
 }
 
@@ -204,7 +208,11 @@ impl<R: Radix, T: Machine> Number for Numeral<R, T> {
     fn value(&self, at: Stage<T::State>) -> Option<usize> {
         match at {
             Stage::Mark(number, inner) => {
-                if self.mark.is_done(inner) { Some(number) } else { None }
+                if self.mark.is_done(inner) {
+                    Some(number)
+                } else {
+                    None
+                }
             }
             Stage::Digits(_) => None,
             Stage::Start => None,

@@ -32,7 +32,11 @@ use crate::text::Text;
 pub fn frame_len(bytes: &[u8]) -> Result<Option<usize>, usize>
     ensures { Scanned FrameText bytes.now result }
 {
-    let length = Numeral { radix: Decimal, limit: 4096, mark: Byte(b':') };
+    let length = Numeral {
+        radix: Decimal,
+        limit: 4096,
+        mark: Byte(b':'),
+    };
     let machine = Seq(Counted(length), Byte(b','));
     let mut extent = begin(&machine);
     advance(&machine, &mut extent, bytes)
@@ -108,9 +112,20 @@ pub fn line_len(bytes: &[u8]) -> Result<Option<usize>, usize>
 pub fn list_len(bytes: &[u8]) -> Result<Option<usize>, usize>
     ensures { Scanned ListText bytes.now result }
 {
-    let round = Pair { opener: b'(', closer: b')' };
-    let square = Pair { opener: b'[', closer: b']' };
-    let items = Nested { word: Byte(b'.'), first: round, second: Some(square), limit: 7 };
+    let round = Pair {
+        opener: b'(',
+        closer: b')',
+    };
+    let square = Pair {
+        opener: b'[',
+        closer: b']',
+    };
+    let items = Nested {
+        word: Byte(b'.'),
+        first: round,
+        second: Some(square),
+        limit: 7,
+    };
     let machine = Seq(Text(*b"list"), Seq(Byte(b'('), Seq(items, Byte(b')'))));
     let mut extent = begin(&machine);
     advance(&machine, &mut extent, bytes)

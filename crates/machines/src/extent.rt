@@ -23,7 +23,11 @@ fn report<M: Machine>(
     ensures { Reports (M.grammar machine.now) state passed left.now result }
 {
     if left.is_empty() {
-        if machine.is_over(state) { Ok(Some(passed)) } else { Ok(None) }
+        if machine.is_over(state) {
+            Ok(Some(passed))
+        } else {
+            Ok(None)
+        }
     } else if machine.is_done(state) {
         Ok(Some(passed))
     } else {

@@ -47,8 +47,9 @@ fn push(kinds: u64, kind: bool) -> u64
 /// Words of a machine, zero or more, with balanced brackets of one or two kinds between them, which
 /// are nested at most `limit` times. `limit` must be at most 64.
 ///
-/// No word may be empty, and no byte that starts a word or is a bracket may also continue a whole
-/// word. All brackets must differ from each other and from the bytes that start words; only the two
+/// No word may be empty, and no byte that starts a word or is a bracket may also continue a
+/// complete word. All brackets must differ from each other and from the bytes that start words;
+/// only the two
 /// closing brackets may be equal.
 ///
 /// ```
@@ -85,7 +86,11 @@ impl<A: Machine> Nested<A> {
         }
         match self.second {
             None => None,
-            Some(pair) => if byte == pair.opener { Some(true) } else { None },
+            Some(pair) => if byte == pair.opener {
+                Some(true)
+            } else {
+                None
+            },
         }
     }
 
@@ -111,7 +116,11 @@ impl<A: Machine> Nested<A> {
         if depth == 0 {
             return None;
         }
-        if self.is_closer(kinds % 2 == 1, byte) { Some((depth - 1, kinds / 2)) } else { None }
+        if self.is_closer(kinds % 2 == 1, byte) {
+            Some((depth - 1, kinds / 2))
+        } else {
+            None
+        }
     }
 
     // The stack after a bracket, if it may come next.
@@ -133,11 +142,7 @@ impl<A: Machine> Nested<A> {
 
     // Passes items, from a state in which no byte continues the word before.
     #[inline(always)]
-    fn pass_items<'i>(
-        &self,
-        from: Nest<A::State>,
-        bytes: &'i [u8],
-    ) -> (Nest<A::State>, &'i [u8])
+    fn pass_items<'i>(&self, from: Nest<A::State>, bytes: &'i [u8]) -> (Nest<A::State>, &'i [u8])
         requires sound { A.sound self.now.word }
         requires apart { AreApart (brackets_of self.now.first self.now.second)
             (A.grammar self.now.word) }
@@ -157,7 +162,11 @@ impl<A: Machine> Nested<A> {
                     }
                     match self.turn(state.depth, state.kinds, *byte) {
                         Some((depth, kinds)) => {
-                            state = Nest { depth, kinds, inner: None };
+                            state = Nest {
+                                depth,
+                                kinds,
+                                inner: None,
+                            };
                             rest = others;
                         }
                         None => {
@@ -193,7 +202,11 @@ impl<A: Machine> Machine for Nested<A> {
 
     #[inline(always)]
     fn start(&self) -> Nest<A::State> {
-        Nest { depth: 0, kinds: 0, inner: None }
+        Nest {
+            depth: 0,
+            kinds: 0,
+            inner: None,
+        }
     }
 
     #[inline(always)]
@@ -202,7 +215,11 @@ impl<A: Machine> Machine for Nested<A> {
             None => self.pass_items(at, bytes),
             Some(from) => {
                 let (to, left) = self.word.pass(from, bytes);
-                let inner = Nest { depth: at.depth, kinds: at.kinds, inner: Some(to) };
+                let inner = Nest {
+                    depth: at.depth,
+                    kinds: at.kinds,
+                    inner: Some(to),
+                };
                 self.pass_items(inner, left)
             }
         }

@@ -34,11 +34,7 @@ impl<A: Machine> Machine for Opt<A> {
     }
 
     #[inline(always)]
-    fn pass<'i>(
-        &self,
-        at: Option<A::State>,
-        bytes: &'i [u8],
-    ) -> (Option<A::State>, &'i [u8]) {
+    fn pass<'i>(&self, at: Option<A::State>, bytes: &'i [u8]) -> (Option<A::State>, &'i [u8]) {
         match at {
             Some(from) => {
                 let (to, left) = self.0.pass(from, bytes);

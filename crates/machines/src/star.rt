@@ -82,7 +82,7 @@ fn pass_all<'i, A: Machine>(
 
 /// Words of a machine, zero or more.
 ///
-/// No word may be empty, and no byte that starts a word may also continue a whole one.
+/// No word may be empty, and no byte that starts a word may also continue a word that is complete.
 ///
 /// ```
 /// use machines::extent::{advance, begin};
@@ -113,11 +113,7 @@ impl<A: Machine> Machine for Star<A> {
     }
 
     #[inline(always)]
-    fn pass<'i>(
-        &self,
-        at: Option<A::State>,
-        bytes: &'i [u8],
-    ) -> (Option<A::State>, &'i [u8]) {
+    fn pass<'i>(&self, at: Option<A::State>, bytes: &'i [u8]) -> (Option<A::State>, &'i [u8]) {
         pass_all(&self.0, at, bytes)
     }
 
@@ -134,7 +130,7 @@ impl<A: Machine> Machine for Star<A> {
 
 /// Words of a machine, one or more.
 ///
-/// No word may be empty, and no byte that starts a word may also continue a whole one.
+/// No word may be empty, and no byte that starts a word may also continue a word that is complete.
 ///
 /// ```
 /// use machines::extent::{advance, begin};
@@ -165,11 +161,7 @@ impl<A: Machine> Machine for SomeOf<A> {
     }
 
     #[inline(always)]
-    fn pass<'i>(
-        &self,
-        at: Option<A::State>,
-        bytes: &'i [u8],
-    ) -> (Option<A::State>, &'i [u8]) {
+    fn pass<'i>(&self, at: Option<A::State>, bytes: &'i [u8]) -> (Option<A::State>, &'i [u8]) {
         pass_all(&self.0, at, bytes)
     }
 

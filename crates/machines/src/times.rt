@@ -24,12 +24,16 @@ fn one_less(least: usize, extra: usize) -> Option<(usize, usize)>
     if least > 0 {
         return Some((least - 1, extra));
     }
-    if extra > 0 { Some((0, extra - 1)) } else { None }
+    if extra > 0 {
+        Some((0, extra - 1))
+    } else {
+        None
+    }
 }
 
 /// Words of a machine: at least `least`, and at most `extra` more than these.
 ///
-/// No word may be empty, and no byte that starts a word may also continue a whole one.
+/// No word may be empty, and no byte that starts a word may also continue a word that is complete.
 ///
 /// ```
 /// use machines::extent::{advance, begin};
@@ -51,11 +55,7 @@ pub struct Times<A> {
 impl<A: Machine> Times<A> {
     // Passes words, from a state in which no byte continues the word before.
     #[inline(always)]
-    fn pass_words<'i>(
-        &self,
-        from: Turn<A::State>,
-        bytes: &'i [u8],
-    ) -> (Turn<A::State>, &'i [u8])
+    fn pass_words<'i>(&self, from: Turn<A::State>, bytes: &'i [u8]) -> (Turn<A::State>, &'i [u8])
         requires sound { A.sound self.now.word }
         requires filled { (A.grammar self.now.word).nullable ≡ false }
         requires disjoint { AreDisjoint (A.grammar self.now.word).nexts
@@ -80,7 +80,11 @@ impl<A: Machine> Times<A> {
                     if left.len() == rest.len() {
                         return (state, rest);
                     }
-                    state = Turn { least, extra, inner: Some(to) };
+                    state = Turn {
+                        least,
+                        extra,
+                        inner: Some(to),
+                    };
                     rest = left;
                 }
             }
@@ -101,7 +105,11 @@ impl<A: Machine> Machine for Times<A> {
 
     #[inline(always)]
     fn start(&self) -> Turn<A::State> {
-        Turn { least: self.least, extra: self.extra, inner: None }
+        Turn {
+            least: self.least,
+            extra: self.extra,
+            inner: None,
+        }
     }
 
     #[inline(always)]
@@ -110,7 +118,11 @@ impl<A: Machine> Machine for Times<A> {
             None => self.pass_words(at, bytes),
             Some(from) => {
                 let (to, left) = self.word.pass(from, bytes);
-                let inner = Turn { least: at.least, extra: at.extra, inner: Some(to) };
+                let inner = Turn {
+                    least: at.least,
+                    extra: at.extra,
+                    inner: Some(to),
+                };
                 self.pass_words(inner, left)
             }
         }

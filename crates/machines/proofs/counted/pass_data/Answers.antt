@@ -1,4 +1,4 @@
-use Rattle.std.proofs.Common.{◌∙◌, ◌++◌, ap, arith, drop, inl, length, length-take, refl, sym, take}
+use Rattle.std.proofs.Common.{◌∙◌, ◌++◌, ap, arith, inl, length-take, refl, sym, take}
 use Rattle.std.proofs.lemmas.List.{take-append-drop}
 use Rattle.machines.proofs.counted.pass_data.Goals as goal
 

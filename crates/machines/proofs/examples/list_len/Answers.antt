@@ -4,22 +4,30 @@ use Rattle.machines.proofs.examples.list_len.Goals as goal
 
 pub advance-requires : goal.advance-requires
 unfolding AreDisjoint disjoint_below
-advance-requires c = (tt, (tt, (
+advance-requires c = (
+  tt,
   (
     tt,
-    record {
-      filled = refl;
-      words = refl;
-      first = refl;
-      next = refl;
-      brackets = refl;
-      kinds = refl;
-    },
-    omega arith,
+    (
+      (
+        tt,
+        record {
+          filled = refl;
+          words = refl;
+          first = refl;
+          next = refl;
+          brackets = refl;
+          kinds = refl;
+        },
+        omega arith,
+      ),
+      tt,
+      refl,
+    ),
+    refl,
   ),
-  tt,
   refl,
-), refl), refl)
+)
 
 pub returns : goal.returns
 returns c = c.advance.ensures.scanned (c.begin-extent.ensures c.args.bytes.now)

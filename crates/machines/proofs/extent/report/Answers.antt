@@ -32,7 +32,7 @@ returns-then-is_done g c = (
 pub returns-else-is_done : goal.returns-else-is_done
 returns-else-is_done g c =
     let some = eqb-false (length c.args.left.now) 0
-        (sym c.is_empty.ensures ∙ c.if-is_empty.false) in (
+    (sym c.is_empty.ensures ∙ c.if-is_empty.false) in (
       refl,
       omega (arith, some),
       iff_false c.is_done.ensures c.if-is_done.false,

@@ -1,4 +1,3 @@
-use Rattle.std.proofs.Common.{length}
 use Rattle.machines.specs.Texts.{text_past, text_past_ended}
 use Rattle.machines.proofs.text.is_past.Goals as goal
 

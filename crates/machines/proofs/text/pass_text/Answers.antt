@@ -1,5 +1,5 @@
 use Rattle.std.proofs.Common.{add-one}
-use Rattle.machines.specs.Texts.{text_other, text_turn, text_whole}
+use Rattle.machines.specs.Texts.{text_turn}
 use Rattle.machines.proofs.text.pass_text.Goals as goal
 
 pub bytes-preserved : goal.bytes-preserved

@@ -3,7 +3,7 @@ use Rattle.machines.proofs.counted.CountedMachine.is_over.Goals as goal
 
 pub returns-in-Data : goal.returns-in-Data
 returns-in-Data g c = data_over (g.N.Number.numerals c.args.self.now.0)
-    (g.met.N.Number.lawful c.args.self.now.0 c.requires) c.args.at c.in-Data.size c.in-Data.is
+    (g.met.N.Number.lawful c.args.self.now.0 c.requires) c.args.at c.in-Data.more c.in-Data.is
 
 pub returns-in-None : goal.returns-in-None
 returns-in-None g c = counted_open (g.N.Number.numerals c.args.self.now.0)

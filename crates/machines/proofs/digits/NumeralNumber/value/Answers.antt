@@ -1,6 +1,5 @@
-use Rattle.std.proofs.Common.{inl, inr}
-use Rattle.std.proofs.lemmas.Bool.{iff_false}
-use Rattle.machines.specs.Marks.{a_value, mark_value, no_value}
+use Rattle.std.proofs.Common.{inr}
+use Rattle.machines.specs.Marks.{no_value}
 use Rattle.machines.proofs.digits.NumeralNumber.value.Goals as goal
 
 pub returns-in-Digits : goal.returns-in-Digits

@@ -1,6 +1,4 @@
-use Rattle.std.proofs.Common.{subst, sym}
 use Rattle.machines.specs.Nests.{brackets_of}
-use Rattle.machines.specs.Stars.{InnerStopped}
 use Rattle.machines.specs.Turns.{nest_goes}
 use Rattle.machines.proofs.Bytes.{below}
 use Rattle.machines.proofs.nested.NestedMachine.pass.Goals as goal

@@ -1,4 +1,5 @@
-use Rattle.std.proofs.Common.{◌≡◌, ◌<◌, ℕ, zero, suc, List, [], ◌∷◌, length, take, get_or, Bool, IsTrue, add-one, arith}
+use Rattle.std.proofs.Common.{◌<◌, ℕ, zero, suc, List, [], ◌∷◌, length, take, get_or, Bool, IsTrue}
+use Rattle.std.proofs.Common.{add-one, arith}
 use Rattle.machines.specs.Languages.{AllOf}
 use Rattle.machines.proofs.sets.ByteSet.run.Goals as goal
 
