@@ -49,8 +49,7 @@ fn push(kinds: u64, kind: bool) -> u64
 ///
 /// No word may be empty, and no byte that starts a word or is a bracket may also continue a
 /// complete word. All brackets must differ from each other and from the bytes that start words;
-/// only the two
-/// closing brackets may be equal.
+/// only the two closing brackets may be equal.
 ///
 /// ```
 /// use machines::extent::{advance, begin};
