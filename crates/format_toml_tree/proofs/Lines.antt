@@ -13,8 +13,8 @@ use Rattle.format_toml_tree.specs.Order.{HoldsInOrder}
 use Rattle.format_toml_tree.specs.Runs.{State, FillsEntry, Gives, IsWithin, Runs, RunsWithin}
 use Rattle.format_toml_tree.specs.Runs.{Tree, empty, say_key}
 use Rattle.format_toml_tree.specs.Runs as runs
-use Rattle.format_toml_tree.specs.Holds.{AddsItem, AddsLine, FillsBy, Holds, IsTreeAt, Lists, Pushes}
-use Rattle.format_toml_tree.specs.Holds.{SaysKey, StartsEmpty, find, node_at}
+use Rattle.format_toml_tree.specs.Holds.{AddsItem, AddsLine, FillsBy, Holds, IsTreeAt, Lists}
+use Rattle.format_toml_tree.specs.Holds.{Pushes, SaysKey, StartsEmpty, find, node_at}
 use Rattle.format_toml_tree.specs.Calls.{fresh_node, fresh_none}
 use Rattle.format_toml_tree.specs.Entries.{lists_none}
 use Rattle.format_toml_tree.specs.Keys.{drop_here, drop_past}
@@ -214,8 +214,8 @@ module _ {A : Type 0} where
                   let ended = then_left front full (Ok tree)
                   (subst (λ l. Gives level (tree, at) (k + 1) l (Ok tree))
                   (sym (drop_past front (k + 1) most)) runs.ended) in
-                  subst (λ u. IsEarlier path (length new) u) (same_tree refl (gives_once ended gives))
-                  (earlier_now holds some)
+                  subst (λ u. IsEarlier path (length new) u)
+                  (same_tree refl (gives_once ended gives)) (earlier_now holds some)
               | inr fewer ↦ still t (left.earlier front t of fewer gives)
             ]
 

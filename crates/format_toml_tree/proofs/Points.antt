@@ -49,6 +49,7 @@ pub time_point : (clock : ℕ × ℕ × ℕ) (digits : List ℕ) (offset : Optio
 unfolding IsTimed Clock InTurn Fraction
 time_point clock digits offset tokens (a, b, ((x, y, h, m, s), p, q, r), inl (none, e), o) some =
     absurd (some none)
-time_point clock digits offset tokens (a, b, ((x, y, h, m, s), p, q, r), inr (more, all, e), o) some =
+time_point clock digits offset tokens
+    (a, b, ((x, y, h, m, s), p, q, r), inr (more, all, e), o) some =
     two_point tokens clock.0 x h (marked_point 58 x clock.1 y m (marked_point 58 y clock.2 a s
     ([], digits ++ b, e)))

@@ -143,18 +143,9 @@ module _ {A : Type 0} where
           subst (λ l. FindsAlong node l (Some found)) front
           (λ tree path p is. more tree path (named name.now ∷ p) (finds tree path p is).0)
 
-  -- ---- a name
-
   module _ (node : Node A) where
     abbrev slots : List (Slot A)
     slots = node.tree.now.slots.items
-
-    pub name_here : (s : Slot A) → slice_get slots node.place ≡ Some s → IsNameOf node s.name.now
-    name_here s g tree path p is =
-        is.holds.called node.place s g ∙ ap (λ q. last_name q) is.at
-
-    pub name_nowhere : length slots ≤ node.place → IsNameOf node []
-    name_nowhere past tree path p is = absurd (omega (arith, past, is.within))
 
     -- ---- entries and elements
 

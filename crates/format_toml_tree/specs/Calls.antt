@@ -106,7 +106,8 @@ module _ {A : Type 0} where
       omega (arith, same, sum, small, less)
 
   module _ (old mid : List (Slot A)) (above depth place : ℕ) (label : List ℕ) (kind : Kind A)
-      (was now : Slot A) (pushed : Pushes old depth label kind place mid) (within : above < length old)
+      (was now : Slot A) (pushed : Pushes old depth label kind place mid)
+      (within : above < length old)
       (deep : (s : Slot A) → slice_get old above ≡ Some s → s.depth < length old
       → depth ≡ s.depth + 1)
       (read : was ≡ get_or mid above was) (kinds : now.kind ≡ was.kind)

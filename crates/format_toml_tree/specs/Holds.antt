@@ -130,7 +130,8 @@ module _ {A : Type 0} where
   -- one more place, below none
   abbrev pub Pushes : List (Slot A) → ℕ → List ℕ → Kind A → ℕ → List (Slot A) → Type 0
   Pushes old depth name kind j new =
-      (fresh : Slot A) × IsFresh depth name kind fresh × (new ≡ old ++ fresh ∷ []) × (j ≡ length old)
+      (fresh : Slot A) × IsFresh depth name kind fresh × (new ≡ old ++ fresh ∷ [])
+      × (j ≡ length old)
 
   -- an entry is added where there is nothing
   abbrev pub AddsEntry : List (Slot A) → ℕ → List ℕ → Kind A → ℕ → List (Slot A) → Type 0

@@ -122,8 +122,8 @@ impl<'d, 't, A: Allocator + Copy> Node<'d, 't, A> {
         self.len() == 0
     }
 
-    /// Returns the entry of a table, or the element of an array, with this index. Entries are in the
-    /// order in which the lines first name them.
+    /// Returns the entry of a table, or the element of an array, with this index. Entries are in
+    /// the order in which the lines first name them.
     pub fn at(&self, index: usize) -> Option<Node<'d, 't, A>>
         ensures { FindsAt self.now index result }
     {

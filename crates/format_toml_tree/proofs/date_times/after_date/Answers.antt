@@ -16,7 +16,8 @@ use Rattle.format_toml_tree.proofs.date_times.after_date.Goals.{
 
 pub returns-in_default-clause-found : goal.returns-in_default-clause-found
 unfolding FoundResult IsBehind
-returns-in_default-clause-found g c = (refl, nil_from_length c.args.text.now c.in_default.ensures.cases)
+returns-in_default-clause-found g c =
+    (refl, nil_from_length c.args.text.now c.in_default.ensures.cases)
 
 pub returns-then-delimiter-ne32-clause-found : goal.returns-then-delimiter-ne32-clause-found
 returns-then-delimiter-ne32-clause-found g c =

@@ -10,7 +10,8 @@ returns-in-Some-clause-found g c =
     IfOk-weaker _ _ _ (λ o. dated _ _ _ _ _ c.in-Some.ensures) c.after_date.ensures.found
 
 pub returns-in-None-clause-found : goal.returns-in-None-clause-found
-returns-in-None-clause-found g c = IfOk-weaker _ _ _ (λ o. undated _ _ _ c.in-None.ensures) c.time_alone.ensures.found
+returns-in-None-clause-found g c =
+    IfOk-weaker _ _ _ (λ o. undated _ _ _ c.in-None.ensures) c.time_alone.ensures.found
 
 pub returns-in-Some-clause-full : goal.returns-in-Some-clause-full
 unfolding Finds
