@@ -35,7 +35,7 @@ fn report<M: Machine>(
     }
 }
 
-/// Returns the extent before the first byte.
+/// Returns the extent before the first byte. It is one of all bytes.
 #[inline(always)]
 pub fn begin<M: Machine>(machine: &M) -> Extent<M::State>
     ensures { (bytes : List ℕ) → IsExtentOf (M.grammar machine.now) result bytes }
