@@ -24,15 +24,14 @@ fn report<M: Machine>(
 {
     if left.is_empty() {
         if machine.is_over(state) {
-            Ok(Some(passed))
-        } else {
-            Ok(None)
+            return Ok(Some(passed));
         }
-    } else if machine.is_done(state) {
-        Ok(Some(passed))
-    } else {
-        Err(passed)
+        return Ok(None);
     }
+    if machine.is_done(state) {
+        return Ok(Some(passed));
+    }
+    Err(passed)
 }
 
 /// Returns the extent before the first byte. It is one of all bytes.
