@@ -5,7 +5,7 @@ ghost use Rattle.machines.specs.Alts.{alt_grammar, alt_lawful};
 
 use crate::machine::Machine;
 
-/// Which of two was chosen, if one was.
+/// A state of [`Alt`]: before the first byte, or in one of the two machines.
 #[derive(Clone, Copy)]
 pub enum Branch<A, B> {
     Neither,
@@ -13,7 +13,17 @@ pub enum Branch<A, B> {
     Right(B),
 }
 
-/// One or the other, by the first byte.
+/// A word of either machine. No byte may start words of both.
+///
+/// ```
+/// use machines::alt::Alt;
+/// use machines::extent::{advance, begin};
+/// use machines::text::Text;
+///
+/// let machine = Alt(Text(*b"on"), Text(*b"yes"));
+/// assert_eq!(rt; advance(&machine, &mut begin(&machine), b"yes".as_slice()), Ok(Some(3)));
+/// assert_eq!(rt; advance(&machine, &mut begin(&machine), b"oyes".as_slice()), Err(1));
+/// ```
 #[derive(Clone, Copy)]
 pub struct Alt<A, B>(pub A, pub B);
 

@@ -6,7 +6,7 @@ use crate::machine::Machine;
 use crate::number::Number;
 use crate::sets::rest_after;
 
-/// In the numeral, or in the data, with the number of missing bytes.
+/// A state of [`Counted`]: in the numeral, or in the data with the number of missing bytes.
 #[derive(Clone, Copy)]
 pub enum Count<S> {
     Numeral(S),

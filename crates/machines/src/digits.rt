@@ -76,7 +76,7 @@ impl Radix for Hexadecimal {
     }
 }
 
-/// Before the digits, after some, or in the mark.
+/// A state of [`Numeral`]: before the digits, after some with their number, or in the mark.
 #[derive(Clone, Copy)]
 pub enum Stage<S> {
     Start,
@@ -88,6 +88,18 @@ pub enum Stage<S> {
 ///
 /// Leading zeros are allowed. No word of `mark` may be empty, start with a digit, or be a prefix of
 /// another.
+///
+/// ```
+/// use machines::counted::Counted;
+/// use machines::digits::{Hexadecimal, Numeral};
+/// use machines::extent::{advance, begin};
+/// use machines::text::Text;
+///
+/// let size = Numeral { radix: Hexadecimal, limit: 0xff, mark: Text(*b"\r\n") };
+/// let machine = Counted(size);
+/// assert_eq!(rt; advance(&machine, &mut begin(&machine), b"2\r\nab".as_slice()), Ok(Some(5)));
+/// assert_eq!(rt; advance(&machine, &mut begin(&machine), b"100\r\n".as_slice()), Err(2));
+/// ```
 #[derive(Clone, Copy)]
 pub struct Numeral<R, T> {
     pub radix: R,

@@ -24,18 +24,17 @@ fn report<M: Machine>(
 {
     if left.is_empty() {
         if machine.is_over(state) {
-            Ok(Some(passed))
-        } else {
-            Ok(None)
+            return Ok(Some(passed));
         }
-    } else if machine.is_done(state) {
-        Ok(Some(passed))
-    } else {
-        Err(passed)
+        return Ok(None);
     }
+    if machine.is_done(state) {
+        return Ok(Some(passed));
+    }
+    Err(passed)
 }
 
-/// Returns the extent before the first byte.
+/// Returns the extent before the first byte. It is one of all bytes.
 #[inline(always)]
 pub fn begin<M: Machine>(machine: &M) -> Extent<M::State>
     ensures { (bytes : List ℕ) → IsExtentOf (M.grammar machine.now) result bytes }

@@ -5,14 +5,26 @@ ghost use Rattle.machines.specs.Seqs.{seq_grammar, seq_lawful};
 
 use crate::machine::Machine;
 
-/// Which of two is at work.
+/// A state of [`Seq`]: in the first machine, or in the second.
 #[derive(Clone, Copy)]
 pub enum Stage<A, B> {
     First(A),
     Second(B),
 }
 
-/// One after another.
+/// A word of the first machine, and then one of the second. No byte that continues a complete word
+/// of the first may also start a word of the second.
+///
+/// ```
+/// use machines::extent::{advance, begin};
+/// use machines::seq::Seq;
+/// use machines::sets::Byte;
+///
+/// let machine = Seq(Byte(b'a'), Seq(Byte(b'b'), Byte(b'c')));
+/// let mut extent = begin(&machine);
+/// assert_eq!(rt; advance(&machine, &mut extent, b"ab".as_slice()), Ok(None));
+/// assert_eq!(rt; advance(&machine, &mut extent, b"abx".as_slice()), Err(2));
+/// ```
 #[derive(Clone, Copy)]
 pub struct Seq<A, B>(pub A, pub B);
 

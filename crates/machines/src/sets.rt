@@ -7,7 +7,7 @@ ghost use Rattle.machines.specs.Sets.{run_grammar, run_lawful};
 
 use crate::machine::Machine;
 
-/// A set of bytes that is not empty.
+/// A set of bytes that is not empty. See [`Plain`](crate::examples::Plain) for one.
 pub trait ByteSet {
     // Whether a byte is in the set.
     ghost within: { Self → ℕ → Bool };
@@ -68,6 +68,15 @@ pub(crate) fn rest_after(bytes: &[u8], size: usize) -> &[u8]
 }
 
 /// One byte of a set.
+///
+/// ```
+/// use machines::examples::NotQuote;
+/// use machines::extent::{advance, begin};
+/// use machines::sets::OneOf;
+///
+/// let machine = OneOf(NotQuote);
+/// assert_eq!(rt; advance(&machine, &mut begin(&machine), b"ab".as_slice()), Ok(Some(1)));
+/// ```
 #[derive(Clone, Copy)]
 pub struct OneOf<S>(pub S);
 
@@ -113,7 +122,18 @@ impl<S: ByteSet> Machine for OneOf<S> {
     }
 }
 
-/// Bytes of a set, as many as there are.
+/// Bytes of a set, zero or more: as many as there are.
+///
+/// ```
+/// use machines::examples::NotQuote;
+/// use machines::extent::{advance, begin};
+/// use machines::sets::Run;
+///
+/// let machine = Run(NotQuote);
+/// let mut extent = begin(&machine);
+/// assert_eq!(rt; advance(&machine, &mut extent, b"ab".as_slice()), Ok(None));
+/// assert_eq!(rt; advance(&machine, &mut extent, b"abc\"".as_slice()), Ok(Some(3)));
+/// ```
 #[derive(Clone, Copy)]
 pub struct Run<S>(pub S);
 

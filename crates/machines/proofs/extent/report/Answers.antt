@@ -13,8 +13,8 @@ returns-then-is_over g c = (
       c.is_over.ensures),
 )
 
-pub returns-else-is_over : goal.returns-else-is_over
-returns-else-is_over g c = (
+pub returns-then-is_empty : goal.returns-then-is_empty
+returns-then-is_empty g c = (
   nil_from_length c.args.left.now
       (eqb-true (length c.args.left.now) 0 (sym c.is_empty.ensures ∙ c.if-is_empty.true)),
   ends_at (g.M.Machine.grammar c.args.machine.now) c.args.state c.if-is_over.false
@@ -29,8 +29,8 @@ returns-then-is_done g c = (
       (c.is_done.ensures.0 c.if-is_done.true),
 )
 
-pub returns-else-is_done : goal.returns-else-is_done
-returns-else-is_done g c =
+pub returns : goal.returns
+returns g c =
     let some = eqb-false (length c.args.left.now) 0
     (sym c.is_empty.ensures ∙ c.if-is_empty.false) in (
       refl,
