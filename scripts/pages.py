@@ -104,7 +104,7 @@ def faults_of_differences():
 
 
 def main():
-    folders = [TOP / it for it in (".", "docs", "bindings", "edits")]
+    folders = [TOP / it for it in (".", "docs", "docs/generated", "bindings", "edits")]
     documents = [it for folder in folders for it in sorted(folder.glob("*.md"))]
     found = []
     for name, others in crates().items():
