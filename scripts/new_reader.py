@@ -69,15 +69,14 @@ LINES = [
     (
         TOP / "scripts/registry/readers.py",
         '    ("INI", "readers", ',
-        '    ("{name}: settings, a line each", "{crate}", "yes",\n'
-        '        "exactly"),\n',
+        '    ("{name}: settings, a line each", "{crate}", "yes"),\n',
     ),
     (TOP / "scripts/formats.py", "}}\n\n\ndef lines_of", '    "{name}": ["{crate}"],\n'),
 ]
 # The table of CONTRIBUTING.md, with two crates per row, and its last row.
 COSTS = TOP / "CONTRIBUTING.md"
-HALF = re.compile(r"^(\| `\w+` \| \d+ \| (?:\d+|new) \|) \| \| \|\n", re.MULTILINE)
-FULL = re.compile(r"(?:^\| `\w+` \| \d+ \| (?:\d+|new) \| `\w+` \| \d+ \| (?:\d+|new) \|\n)+", re.MULTILINE)
+HALF = re.compile(r"^(\| `\w+` \| \d+ \|) \| \|\n", re.MULTILINE)
+FULL = re.compile(r"(?:^\| `\w+` \| \d+ \| `\w+` \| \d+ \|\n)+", re.MULTILINE)
 NEXT = """{crate} is created. Now change, in this order (docs/FIRST_PROOF.md explains the steps):
   {at}/specs/Settings.antt: the definition of the format
   {at}/src/reader.rt: the sets and the parser, with its documentation
@@ -137,12 +136,12 @@ def put(path, mark, lines):
 
 def put_cost(crate):
     """Adds the cost of the crate's proof to the table of CONTRIBUTING.md."""
-    text, cell = read(COSTS), f"| `{crate}` | {SECONDS} | new |"
+    text, cell = read(COSTS), f"| `{crate}` | {SECONDS} |"
     if half := HALF.search(text):
         text = text.replace(half[0], f"{half[1]}{cell[1:]}\n")
     else:
         end = FULL.search(text).end()
-        text = f"{text[:end]}{cell} | | |\n{text[end:]}"
+        text = f"{text[:end]}{cell} | |\n{text[end:]}"
     COSTS.write_text(text, encoding="utf-8")
 
 

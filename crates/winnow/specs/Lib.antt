@@ -134,6 +134,7 @@ pub use Rattle.winnow_core.specs.Parse
 pub use Rattle.winnow_core.specs.ParseIter
 pub use Rattle.winnow_core.specs.ParsePeek
 pub use Rattle.winnow_core.specs.ParseTo
+pub use Rattle.winnow_core.specs.Reads
 pub use Rattle.winnow_core.specs.Runs
 pub use Rattle.winnow_core.specs.SameMeaning
 pub use Rattle.winnow_core.specs.Says

@@ -1,0 +1,52 @@
+//! Operator expressions.
+use std::alloc::Global;
+use winnow::ascii::impls::DecUint;
+use winnow::combinator::impls::Empty;
+use winnow::combinator::{FoldBinary, Infix, expression};
+use winnow::error::{EmptyError, ErrMode};
+use winnow::prelude::*;
+
+type Fails = ErrMode<EmptyError>;
+
+/// An operator: its fold is a value, and writes brackets as decimal digits.
+#[derive(Clone, Copy)]
+struct Pair;
+
+impl<I: Stream, E: ParserError<I>> FoldBinary<I, i64, E> for Pair {
+    ghost folds = { tt };
+
+    ghost leaves_ends = { tt };
+
+    fn apply(&self, _input: &mut I, left: i64, right: i64) -> Result<i64, E> {
+        Ok(left.saturating_sub(right))
+    }
+}
+
+/// Subtracts, with an operator of the given kind.
+fn value(alloc: Global, infix: Infix<Pair>, text: &str) -> Option<(&str, i64)> {
+    let operand = DecUint.map(|n: u32| n as i64);
+    let mut whole = expression(alloc, operand).infix('-'.value(infix));
+    let read: Result<(&str, i64), Fails> = whole.parse_peek(text);
+    read.ok()
+}
+
+#[test]
+fn expressions_allocate(rt: HostRuntime) {
+    let alloc = rt.alloc();
+    assert_eq!(rt; value(alloc, Infix::Left(1, Pair), "9-3-2"), Some(("", 4)));
+    assert_eq!(rt; value(alloc, Infix::Right(1, Pair), "9-3-2"), Some(("", 8)));
+}
+
+#[test]
+fn neither_ends_every_call(rt: HostRuntime) {
+    let read = value(rt.alloc(), Infix::Neither(1, Pair), "9-3-2");
+    assert_eq!(rt; read, Some(("-2", 6)));
+}
+
+#[test]
+fn expressions_need_progress(rt: HostRuntime) {
+    let operand = Empty.value(1_i64);
+    let mut whole = expression(rt.alloc(), operand).infix(Empty.value(Infix::Left(1, Pair)));
+    let read: Result<(&str, i64), Fails> = whole.parse_peek("ab");
+    assert!(rt; matches!(read, Err(ErrMode::Cut(_))));
+}
