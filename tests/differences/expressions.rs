@@ -44,6 +44,16 @@ fn neither_ends_every_call(rt: HostRuntime) {
 }
 
 #[test]
+fn powers_are_kept(rt: HostRuntime) {
+    let alloc = rt.alloc();
+    assert_eq!(rt; value(alloc, Infix::Left(i64::MAX, Pair), "9-3-2"), Some(("", 4)));
+    match Infix::Right(i64::MAX, Pair).clone() {
+        Ok(infix) => assert_eq!(rt; value(alloc, infix, "9-3-2"), Some(("", 8))),
+        Err(_) => assert!(rt; false, "no memory"),
+    }
+}
+
+#[test]
 fn expressions_need_progress(rt: HostRuntime) {
     let operand = Empty.value(1_i64);
     let mut whole = expression(rt.alloc(), operand).infix(Empty.value(Infix::Left(1, Pair)));
