@@ -1,12 +1,12 @@
 //! Streams and recovery.
 use std::alloc::Global;
-use winnow::{Func, RecoverableParser};
 use winnow::ascii::impls::Digit1;
 use winnow::error::{EmptyError, ErrMode, Needed};
 use winnow::prelude::*;
 use winnow::stream::{LocatingSlice, Pred, Recoverable, TokenSlice};
 use winnow::token::impls::Rest;
 use winnow::token::one_of;
+use winnow::{Func, RecoverableParser};
 
 type Fails = ErrMode<EmptyError>;
 
