@@ -1,9 +1,10 @@
 //! Bytes and bits.
+use winnow::Func;
 use winnow::binary::bits;
 use winnow::binary::bits::impls::Bits;
 use winnow::binary::impls::U8;
 use winnow::binary::{Endianness, length_and_then, u16};
-use winnow::error::{EmptyError, ErrMode};
+use winnow::error::{EmptyError, ErrMode, Needed};
 use winnow::prelude::*;
 use winnow::token::impls::Rest;
 
@@ -25,6 +26,18 @@ fn impossible_bits_are_an_error(rt: HostRuntime) {
     assert!(rt; !input.is_possible());
     let read: Result<u8, Fails> = bits::take(1_usize).parse_next(&mut input);
     assert!(rt; matches!(read, Err(ErrMode::Cut(_))));
+}
+
+fn asking(_input: &mut &[u8]) -> Result<u8, Fails> {
+    Err(ErrMode::Incomplete(Needed::new(usize::MAX)))
+}
+
+#[test]
+fn large_needs_are_unknown(rt: HostRuntime) {
+    let mut input = Bits(b"ab".as_slice(), 4);
+    let mut byte = bits::bytes::<_, u8, Fails, _, _>(Func(asking));
+    let read: Result<u8, Fails> = byte.parse_next(&mut input);
+    assert_eq!(rt; read, Err(ErrMode::Incomplete(Needed::Unknown)));
 }
 
 #[test]

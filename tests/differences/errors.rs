@@ -5,6 +5,7 @@ use winnow::ascii::impls::{Alpha1, DecUint, Digit1};
 use winnow::combinator::{alt, cut_err, opt, repeat};
 use winnow::error::{ContextError, EmptyError, ErrMode, InputError, OrNoMemory, ParseFault};
 use winnow::prelude::*;
+use winnow::stream::position_of;
 use winnow::token::impls::Any;
 
 type Fails = ErrMode<EmptyError>;
@@ -91,6 +92,18 @@ fn contexts_are_printed(rt: HostRuntime) {
             Err(_) => assert!(rt; false, "no memory"),
         },
         Ok(_) => assert!(rt; false, "it is parsed"),
+    }
+}
+
+#[test]
+fn errors_have_offsets(rt: HostRuntime) {
+    let text = "é\nab";
+    match Parser::<_, _, Fails>::parse(&mut ("é\n", 'a', 'c'), text) {
+        Err(ParseFault::Invalid(error)) => match position_of(text, error.offset()) {
+            Some(at) => assert_eq!(rt; (at.line, at.column), (2, 2)),
+            None => assert!(rt; false, "no position"),
+        },
+        _ => assert!(rt; false, "another result"),
     }
 }
 

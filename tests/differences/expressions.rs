@@ -2,13 +2,13 @@
 use std::alloc::Global;
 use winnow::ascii::impls::DecUint;
 use winnow::combinator::impls::Empty;
-use winnow::combinator::{FoldBinary, Infix, expression};
+use winnow::combinator::{FoldBinary, Infix, alt, expression};
 use winnow::error::{EmptyError, ErrMode};
 use winnow::prelude::*;
 
 type Fails = ErrMode<EmptyError>;
 
-/// An operator: its fold is a value, and writes brackets as decimal digits.
+/// An operator: its fold is a value, and subtracts.
 #[derive(Clone, Copy)]
 struct Pair;
 
@@ -37,10 +37,37 @@ fn expressions_allocate(rt: HostRuntime) {
     assert_eq!(rt; value(alloc, Infix::Right(1, Pair), "9-3-2"), Some(("", 8)));
 }
 
+/// Subtracts, with `-` of power 1 and another operator `=`.
+fn mixed(alloc: Global, infix: Infix<Pair>, text: &str) -> Option<(&str, i64)> {
+    let operand = DecUint.map(|n: u32| n as i64);
+    let minus = '-'.value(Infix::Left(1, Pair));
+    let mut whole = expression(alloc, operand).infix(alt((minus, '='.value(infix))));
+    let read: Result<(&str, i64), Fails> = whole.parse_peek(text);
+    read.ok()
+}
+
+#[test]
+fn right_keeps_its_power(rt: HostRuntime) {
+    // Not `9=(3-2)`, which is 8.
+    let read = mixed(rt.alloc(), Infix::Right(2, Pair), "9=3-2");
+    assert_eq!(rt; read, Some(("", 4)));
+}
+
 #[test]
 fn neither_ends_every_call(rt: HostRuntime) {
-    let read = value(rt.alloc(), Infix::Neither(1, Pair), "9-3-2");
-    assert_eq!(rt; read, Some(("-2", 6)));
+    // Not `(8-(9=3))=2`, which is 0.
+    let read = mixed(rt.alloc(), Infix::Neither(2, Pair), "8-9=3=2");
+    assert_eq!(rt; read, Some(("=2", 2)));
+}
+
+#[test]
+fn powers_are_kept(rt: HostRuntime) {
+    let alloc = rt.alloc();
+    assert_eq!(rt; value(alloc, Infix::Left(i64::MAX, Pair), "9-3-2"), Some(("", 4)));
+    match Infix::Right(i64::MAX, Pair).clone() {
+        Ok(infix) => assert_eq!(rt; value(alloc, infix, "9-3-2"), Some(("", 8))),
+        Err(_) => assert!(rt; false, "no memory"),
+    }
 }
 
 #[test]

@@ -41,6 +41,14 @@ fn ranges_print_their_fields(rt: HostRuntime) {
 }
 
 #[test]
+fn inputs_are_copied(rt: HostRuntime) {
+    let mut input = "ab";
+    let kept = input;
+    assert_eq!(rt; input.next_token(), Some('a'));
+    assert_eq!(rt; (kept, input), ("ab", "b"));
+}
+
+#[test]
 fn structs_are_in_impls(rt: HostRuntime) {
     let mut all: Repeat<_, &str, _, (), Fails, _> = repeat(rt.alloc(), Range::from(0..), 'a');
     assert_eq!(rt; all.parse_peek("aab").ok(), Some(("b", ())));

@@ -1,8 +1,10 @@
 //! Sequence, choice and repetition.
+use std::collections::BTreeMap;
+use winnow::ascii::impls::DecUint;
 use winnow::combinator::{ParserIterator, alt, iterator, repeat};
 use winnow::error::{EmptyError, ErrMode};
 use winnow::prelude::*;
-use winnow::token::take;
+use winnow::token::{one_of, take};
 
 type Fails = ErrMode<EmptyError>;
 
@@ -23,6 +25,14 @@ fn slices_are_counted_by_fold(rt: HostRuntime) {
     let mut lengths = pairs.fold(|| 0, |sum: usize, slice: &str| sum + slice.len());
     let read: Result<usize, Fails> = lengths.parse_next(&mut "abcde");
     assert_eq!(rt; read.ok(), Some(4));
+}
+
+#[test]
+fn maps_are_ordered(rt: HostRuntime) {
+    let pair = (one_of('a'..='z'), DecUint);
+    let mut pairs = repeat(rt.alloc(), Range::from(1..), pair);
+    let read: Result<BTreeMap<char, u32>, Fails> = pairs.parse_next(&mut "b2a1b3");
+    assert_eq!(rt; read.ok().map(|it| it.len()), Some(2));
 }
 
 #[test]

@@ -1,11 +1,12 @@
 //! Streams and recovery.
 use std::alloc::Global;
-use winnow::RecoverableParser;
 use winnow::ascii::impls::Digit1;
-use winnow::error::{EmptyError, ErrMode};
+use winnow::error::{EmptyError, ErrMode, Needed};
 use winnow::prelude::*;
 use winnow::stream::{LocatingSlice, Pred, Recoverable, TokenSlice};
+use winnow::token::impls::Rest;
 use winnow::token::one_of;
+use winnow::{Func, RecoverableParser};
 
 type Fails = ErrMode<EmptyError>;
 
@@ -52,4 +53,39 @@ fn recovery_allocates(rt: HostRuntime) {
     }
     let stream: Recoverable<&str, EmptyError> = Recoverable::new(rt.alloc(), "ab");
     assert_eq!(rt; *stream.as_inner(), "ab");
+}
+
+fn asking(_input: &mut Recoverable<&str, Fails>) -> Result<char, Fails> {
+    Err(ErrMode::Incomplete(Needed::new(2)))
+}
+
+#[test]
+fn needs_become_backtracks(rt: HostRuntime) {
+    let read = RecoverableParser::<&str, char, Fails, Fails, Global>::recoverable_parse(
+        &mut Func(asking),
+        rt.alloc(),
+        "ab",
+    );
+    match read {
+        Ok((_, None, errors)) => {
+            assert!(rt; matches!(errors.as_slice(), [ErrMode::Backtrack(_)]));
+        }
+        _ => assert!(rt; false, "another result"),
+    }
+}
+
+#[test]
+fn recovery_is_a_trait(rt: HostRuntime) {
+    let read = RecoverableParser::<&str, Option<&str>, Fails, Fails, Global>::recoverable_parse(
+        &mut Digit1.resume_after(Rest.void()),
+        rt.alloc(),
+        "ab",
+    );
+    match read {
+        Ok((_, output, errors)) => {
+            assert_eq!(rt; output, Some(None));
+            assert_eq!(rt; errors.len(), 1);
+        }
+        Err(_) => assert!(rt; false, "no memory"),
+    }
 }
