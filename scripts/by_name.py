@@ -10,8 +10,8 @@ A public parser is a struct in a file of its own under `src/*/impls/` of a libra
 
 - a row in `docs/PARSERS.md` with a link to its definition, a file of `specs/`;
 - a test: a function of `tests/` whose name starts with the parser's, or a row labelled with it;
-- an edit that the prover must reject, in `edits.txt` or `must-fail/` of its crate or of a
-  dependency. The edit's name starts with the parser's, and not with a longer parser's;
+- an edit that the prover must reject, in `edits/` or `must-fail/`, of its crate or of a dependency.
+  The edit's name starts with the parser's, and not with a longer parser's;
 - a call in a test, so that it is type-checked at a concrete type. Adapters of `Parser` and methods
   of streams need a call too.
 
@@ -20,8 +20,8 @@ It fails if one of these is missing.
 import re
 import sys
 
-from edits_read import edits_of, must_fail_of
 from registry.common import CRATES, TOP, crates
+from registry.edits import edits_of, must_fail_of
 
 
 def parsers():

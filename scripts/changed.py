@@ -10,10 +10,11 @@ from registry.common import TOP, crates
 
 def main(words):
     said = subprocess.run(
-        ["git", "status", "--porcelain", "--untracked-files=all", "crates"],
+        ["git", "status", "--porcelain", "--untracked-files=all", "crates", "edits"],
         cwd=TOP, check=True, capture_output=True, text=True,
     ).stdout
-    own = set(re.findall(r"crates/(\w+)/(?:(?:src|specs|proofs|must-fail)/|edits\.txt)", said))
+    own = set(re.findall(r"crates/(\w+)/(?:src|specs|proofs|must-fail)/", said))
+    own |= set(re.findall(r"edits/(\w+)\.txt", said))
     reached = set(own)
     for name, on in crates().items():
         if reached & set(on):

@@ -31,7 +31,7 @@ def lines_of(formats):
 
 def seconds():
     """Returns the CPU seconds of each crate's proof, from CONTRIBUTING.md."""
-    rows = re.findall(r"`(\w+)` \| (\d+) \| (?:\d+|new) \|", read(TOP / "CONTRIBUTING.md"))
+    rows = re.findall(r"`(\w+)` \| (\d+) \|", read(TOP / "CONTRIBUTING.md"))
     return {name: int(took) for name, took in rows}
 
 

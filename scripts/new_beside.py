@@ -1,8 +1,8 @@
 """The test, the edit and the note that `scripts/new.py` creates for a parser."""
 import re
 
-from edits_read import Written, edits_of, text_of
 from registry.common import TOP, camel, read
+from registry.edits import FOLDER, Written, edits_of, right_of, text_of
 
 # The tests of a crate's parsers, one file each: the folder, and the file that declares the modules.
 TESTS = {
@@ -121,11 +121,12 @@ def beside(kind, place):
     file = place.impls.relative_to(place.crate)
     lines = f"file: {file}\nold: {old}\nnew: {new}\n".format(name=place.name)
     edit = Written(place.crate.name, f"{place.name}_{what}", lines)
+    edits = text_of([*edits_of(place.crate.name), edit], right_of(place.crate.name))
     note = TOP / "changes" / f"{place.name}.md"
     notes = read(note) if note.is_file() else ""
     return {
         test: text,
-        place.crate / "edits.txt": text_of([*edits_of(place.crate.name), edit]),
+        FOLDER / f"{place.crate.name}.txt": edits,
         note: f"{notes}- `{place.name}`: {summary(place)}\n",
         root: named,
     }

@@ -8,9 +8,9 @@ import re
 import subprocess
 import sys
 
-from edits_read import Written, edits_of, text_of
 from formats import FORMATS
 from registry.common import CRATES, HEAD, TOP, read
+from registry.edits import FOLDER, Written, edits_of, text_of
 from vendor_beside import taken_names
 from wrap import wrapped
 
@@ -69,22 +69,21 @@ LINES = [
     (
         TOP / "scripts/registry/readers.py",
         '    ("INI", "readers", ',
-        '    ("{name}: settings, a line each", "{crate}", "yes",\n'
-        '        "exactly"),\n',
+        '    ("{name}: settings, a line each", "{crate}", "yes"),\n',
     ),
     (TOP / "scripts/formats.py", "}}\n\n\ndef lines_of", '    "{name}": ["{crate}"],\n'),
 ]
 # The table of CONTRIBUTING.md, with two crates per row, and its last row.
 COSTS = TOP / "CONTRIBUTING.md"
-HALF = re.compile(r"^(\| `\w+` \| \d+ \| (?:\d+|new) \|) \| \| \|\n", re.MULTILINE)
-FULL = re.compile(r"(?:^\| `\w+` \| \d+ \| (?:\d+|new) \| `\w+` \| \d+ \| (?:\d+|new) \|\n)+", re.MULTILINE)
+HALF = re.compile(r"^(\| `\w+` \| \d+ \|) \| \|\n", re.MULTILINE)
+FULL = re.compile(r"(?:^\| `\w+` \| \d+ \| `\w+` \| \d+ \|\n)+", re.MULTILINE)
 NEXT = """{crate} is created. Now change, in this order (docs/FIRST_PROOF.md explains the steps):
   {at}/specs/Settings.antt: the definition of the format
   {at}/src/reader.rt: the sets and the parser, with its documentation
   {at}/specs/SettingsRead.antt: the grammar of each part, with a lemma
   tests/{crate}/lib.rs: its results, with expected values from another source
   {at}/proofs: the two answers
-  {at}/edits.txt: a wrong line for each definition
+  edits/{crate}.txt: a wrong line for each definition
   {at}/README.md: the page of the crate, with its theorem
   scripts/registry/readers.py, docs/ARCHITECTURE.md, crates.txt, changes/{crate}.md: the format
   CONTRIBUTING.md: the cost of its proof
@@ -118,7 +117,7 @@ def files(crate):
         yield CRATES / crate / new, text
     of = {it.name: renamed(it.text, crate) for it in edits_of("examples")}
     edits = [Written(crate, f"parse_file_{it}", of[f"settings_file_{it}"]) for it in EDITS]
-    yield CRATES / crate / "edits.txt", text_of(edits)
+    yield FOLDER / f"{crate}.txt", text_of(edits)
     yield CRATES / crate / "src/lib.rt", ROOT
     yield CRATES / crate / "specs/Lib.antt", f"-- {HEAD}\npub mod Settings\npub mod SettingsRead\n"
     yield CRATES / crate / "README.md", PAGE.format(crate=crate, what=WHAT)
@@ -137,12 +136,12 @@ def put(path, mark, lines):
 
 def put_cost(crate):
     """Adds the cost of the crate's proof to the table of CONTRIBUTING.md."""
-    text, cell = read(COSTS), f"| `{crate}` | {SECONDS} | new |"
+    text, cell = read(COSTS), f"| `{crate}` | {SECONDS} |"
     if half := HALF.search(text):
         text = text.replace(half[0], f"{half[1]}{cell[1:]}\n")
     else:
         end = FULL.search(text).end()
-        text = f"{text[:end]}{cell} | | |\n{text[end:]}"
+        text = f"{text[:end]}{cell} | |\n{text[end:]}"
     COSTS.write_text(text, encoding="utf-8")
 
 

@@ -5,8 +5,9 @@
 
 Each crate of `crates.txt` has a page, `crates/NAME/README.md`, of at most 2,000 words: its name as
 the title, what it is, each crate that it depends on, where to begin, and its theorems. ARCHITECTURE.md
-links each page. The links of the pages, of the documents in `docs/` and `bindings/` and of those at
-the top lead to existing files and headings. It fails if any of this is not so.
+links each page. The links of the pages, of the documents in `docs/`, `bindings/` and `edits/` and
+of those at the top lead to existing files and headings. Each row of DIFFERENCES.md has a reason, and
+its test exists; each test of `tests/differences` has a row. It fails if any of this is not so.
 """
 import pathlib
 import re
@@ -15,6 +16,9 @@ import sys
 sys.path.insert(0, str(pathlib.Path(__file__).resolve().parent))
 from registry.common import CRATES, TOP, crates, read  # noqa: E402
 
+DIFFERENCES = TOP / "docs/DIFFERENCES.md"
+# The end of a row there: its reason and its test.
+ROW = re.compile(r" \| (?:proof|kit|memory|code|open) \| (?:`(\w+)` )?\|$")
 MOST_WORDS = 2000
 ARCHITECTURE = TOP / "docs/ARCHITECTURE.md"
 # The text of the page of `winnow`, instead of a long list.
@@ -80,8 +84,28 @@ def faults_of_page(name, others):
         yield "1: docs/ARCHITECTURE.md does not link it"
 
 
+def faults_of_differences():
+    """Returns the rows of DIFFERENCES.md without a reason, or whose test does not exist, and the
+    tests that no row names."""
+    text = "\n".join(read(it) for it in sorted((TOP / "tests/differences").glob("*.rs")))
+    tests, named = {*re.findall(r"#\[test\]\nfn (\w+)", text)}, set()
+    for number, line in enumerate(read(DIFFERENCES).splitlines(), 1):
+        if not line.startswith("| ") or line.startswith("| winnow |"):
+            continue
+        cells = ROW.search(line)
+        if not cells:
+            yield f"{number}: the row has no reason"
+        elif cells[1]:
+            named.add(cells[1])
+            if cells[1] not in tests:
+                yield f"{number}: tests/differences has no test {cells[1]}"
+    for name in sorted(tests - named):
+        yield f"1: no row names the test {name}"
+
+
 def main():
-    documents = [it for folder in (".", "docs", "bindings") for it in sorted((TOP / folder).glob("*.md"))]
+    folders = [TOP / it for it in (".", "docs", "docs/generated", "bindings", "edits")]
+    documents = [it for folder in folders for it in sorted(folder.glob("*.md"))]
     found = []
     for name, others in crates().items():
         page = CRATES / name / "README.md"
@@ -89,6 +113,7 @@ def main():
         documents += [page] if page.is_file() else []
     for path in documents:
         found += [(path, it) for it in faults_of_links(path)]
+    found += [(DIFFERENCES, it) for it in faults_of_differences()]
     for path, fault in found:
         print(f"{path.relative_to(TOP)}:{fault}")
     print(f"{len(found)} faults of the pages of crates and of links")

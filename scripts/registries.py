@@ -7,8 +7,8 @@ Run it at the top of the repository, and then `rt fmt` in the crates whose files
 
 From the files and the comments of the items it generates each `impls.rt`, each `specs/Lib.antt`,
 the marked modules of the crate `winnow`, its specs, the tables of `docs/PARSERS.md` and
-`docs/API.md`, the tables of readers in `README.md` and `docs/READERS.md`, and the numbers of
-definitions in `docs/GUARANTEES.md`. In a file with a part by hand, that part is above a line that
+`docs/generated/API.md`, the tables of readers in `README.md` and `docs/READERS.md`, and the numbers
+of definitions in `docs/GUARANTEES.md`. In a file with a part by hand, that part is above a line that
 marks the start of the generated one. It prints the files that it changed.
 """
 from registry.api import Reference, write_index

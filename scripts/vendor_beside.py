@@ -4,39 +4,24 @@ import hashlib
 import os
 import shutil
 import subprocess
+import textwrap
 
 from registry.common import TOP, read
 from toolchain import toolchain
 
-# The CPU minutes of the first proof of the library: of only the part text, and of all parts. These
-# numbers are in no other file.
-MINUTES = {"text": 35, "all": 56}
+# The document with the table of costs.
+COSTS = TOP / "docs/TUTORIAL.md"
 # Files that are copied unchanged: the path in the copy, and here.
 COMMANDS = ("check", "prove", "run")
 FILES = {it: f"scripts/{it}" for it in COMMANDS} | {"crates/LICENSE-PERGIDAU": "LICENSE"}
 ORIGIN = "crates/ORIGIN"
 IGNORED = "out/"
-COST = """
-Next steps, and their costs:
-  ./check NAME here: checks names, types and borrows of the crate NAME in 5 to 12 CPU seconds
-  rt try       in your crate's folder: runs it, unproved and checked, in about 17 CPU seconds,
-               mostly for reading std and the library
-  ./run NAME   here: builds the program of the crate NAME, optimized and unproved, in the same time,
-               and runs it with the shell's input; without building if nothing changed
-"""
-UNPROVED = """\
-  ./prove F    here: proves your function F and the functions that it calls, in two to five CPU
-               minutes at first and in one or two after an edit, without proving the library first
-  rt check     in your crate's folder, last: proves the crate. The first time it proves the library,
-               which takes {minutes} CPU minutes; `rt ci` proves everything each time
-"""
-PROVED = """\
-  ./prove F    here: proves your function F and those of yours that it calls, in half a CPU minute,
-               since the library is proved already
-  rt check     in your crate's folder, last: proves the crate
+STEPS = """
+Next steps, with their CPU times; {proved}. `rt` runs in your crate's
+folder, the other commands here:
 """
 MORE = """\
-               (the parser of a format is proved if your crate depends on it: all that were
+               (rt check also proves the parsers of formats that your crate depends on: all that were
                copied here take about {minutes} more CPU minutes)
 """
 LESSON = "\ndocs/FIRST_PROOF.md of the library explains a parser and its proof, file by file.\n"
@@ -114,20 +99,20 @@ def write_beside(dest, lines, parts, formats):
         print(".gitignore has out/, where rt keeps proofs")
 
 
-def minutes(parts, all_parts):
-    """Returns a description of the time of the first proof of these parts."""
-    text, whole = MINUTES["text"], MINUTES["all"]
-    if set(parts) == set(all_parts):
-        return f"about {whole}"
-    return f"about {text}" if set(parts) <= {"text"} else f"{text} to {whole}"
+def costs():
+    """Returns the rows of the table of costs: command, purpose and CPU time."""
+    text = read(COSTS).partition("\n## Costs\n")[2].partition("\n## ")[0]
+    rows = (it.replace("`", "") for it in text.splitlines() if it.startswith("| `"))
+    return [[cell.strip() for cell in row.strip("|").split("|")] for row in rows]
 
 
-def cost(library, formats, is_proved):
-    """Returns a description of the costs of the first proofs."""
-    if is_proved:
-        return COST + PROVED + LESSON
-    more = MORE.format(minutes=formats) if formats else ""
-    return COST + UNPROVED.format(minutes=library) + more + LESSON
+def cost(formats, is_proved):
+    """Returns a description of the next steps and their costs."""
+    proved = "the library is proved" if is_proved else "the library is not proved yet"
+    wrap = textwrap.TextWrapper(98, initial_indent="  ", subsequent_indent=" " * 15)
+    lines = [wrap.fill(f"{command:12} {does}: {time}") + "\n" for command, does, time in costs()]
+    more = MORE.format(minutes=formats) if formats and not is_proved else ""
+    return STEPS.format(proved=proved) + "".join(lines) + more + LESSON
 
 
 def taken_names():

@@ -257,7 +257,7 @@ _Static_assert(sizeof(enum pergidau_resp_kind) == sizeof(uint32_t), "the size of
 _Static_assert(sizeof(enum pergidau_toml_error) == sizeof(uint32_t), "the size of an enum");
 _Static_assert(sizeof(enum pergidau_toml_kind) == sizeof(uint32_t), "the size of an enum");
 
-const char pergidau_declared_e422ca0d = 0;
+const char pergidau_declared_37f0163a = 0;
 
 const char *pergidau_version(void)
 {

@@ -45,10 +45,10 @@ extern "C" {
  * header refers to it, so that it links with no other library. For a file that is not linked
  * with the library, define PERGIDAU_NO_LINK_CHECK before the header.
  */
-extern const char pergidau_declared_e422ca0d;
+extern const char pergidau_declared_37f0163a;
 #if defined(__GNUC__) && !defined(PERGIDAU_NO_LINK_CHECK)
 __attribute__((__used__, __unused__)) static const char *const pergidau_linked =
-    &pergidau_declared_e422ca0d;
+    &pergidau_declared_37f0163a;
 #endif
 
 /* Returns the version of the linked library, in the form of PERGIDAU_VERSION. */
@@ -532,17 +532,23 @@ enum pergidau_ini_dialect {
     /* Pairs may precede the first section; otherwise they are an error. */
     PERGIDAU_INI_DIALECT_BEFORE_SECTIONS = 512,
     /*
-     * The default dialect of Python's configparser: = and :, # and ; at the start of lines,
-     * continued lines with empty lines within.
+     * The name of a section ends at the last ] of its line, and text after that is ignored. A
+     * line that starts with [ and has no such name is a pair. Otherwise the name ends at the
+     * first ], and such lines are errors.
      */
-    PERGIDAU_INI_DIALECT_PYTHON = 143,
+    PERGIDAU_INI_DIALECT_LOOSE_SECTIONS = 1024,
+    /*
+     * The default dialect of Python's configparser: = and :, # and ; at the start of lines,
+     * continued lines with empty lines within, loose sections.
+     */
+    PERGIDAU_INI_DIALECT_PYTHON = 1167,
     /* The dialect of desktop entries: =, # at the start of lines, a line for each pair. */
     PERGIDAU_INI_DIALECT_DESKTOP = 5,
     /*
      * The dialect that reads most: = and :, comments after whitespace too, keys without
-     * values, pairs before the first section, a line for each pair.
+     * values, pairs before the first section, loose sections, a line for each pair.
      */
-    PERGIDAU_INI_DIALECT_LENIENT = 831
+    PERGIDAU_INI_DIALECT_LENIENT = 1855
 };
 
 /* Why a part of a DNS message is invalid. */
@@ -1821,7 +1827,7 @@ enum pergidau_code pergidau_http_response_head_partial(
  *
  * dialect is a sum of flags: PERGIDAU_INI_DIALECT_PYTHON, PERGIDAU_INI_DIALECT_DESKTOP,
  * PERGIDAU_INI_DIALECT_LENIENT, or others from PERGIDAU_INI_DIALECT_EQUALS to
- * PERGIDAU_INI_DIALECT_BEFORE_SECTIONS. Other bits are ignored.
+ * PERGIDAU_INI_DIALECT_LOOSE_SECTIONS. Other bits are ignored.
  *
  * For the first call, state must be all zeros. Each further call must have the state that the
  * previous call left, with the same bytes, which are the complete document, and the same
@@ -2024,9 +2030,9 @@ enum pergidau_code pergidau_json_decimal(
  * Checks a text as pergidau_json_check does, and reports the first error: its offset, line and
  * column, and the input that is expected there.
  *
- * The bytes before the offset can continue to a text. With the byte at the offset they cannot,
- * for any continuation. Nothing is allocated for a text that is JSON; for others, one byte for
- * each open bracket.
+ * With the byte at the offset no text continues, for any continuation. That the bytes before
+ * it can continue to a text is only tested. Nothing is allocated for a text that is JSON; for
+ * others, one byte for each open bracket.
  *
  * PERGIDAU_DONE: the text is a JSON text. Zeros are written.
  *

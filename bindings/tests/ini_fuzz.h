@@ -56,7 +56,19 @@ static enum pergidau_code own_by_hand(const uint8_t *bytes, struct pergidau_span
                                       struct pergidau_ini_entry *out)
 {
     size_t end = text.offset + text.length, at = text.offset;
-    if (bytes[at] == '[') {
+    bool loose = dialect & PERGIDAU_INI_DIALECT_LOOSE_SECTIONS;
+    if (bytes[at] == '[' && loose) {
+        size_t last = end - 1;
+        while (last > at && bytes[last] != ']') {
+            last--;
+        }
+        if (last > at + 1) {
+            *before = (struct before){true, -1};
+            out->kind = PERGIDAU_INI_SECTION;
+            out->key = (struct pergidau_span){at + 1, last - at - 1};
+            return PERGIDAU_DONE;
+        }
+    } else if (bytes[at] == '[') {
         const uint8_t *closed = memchr(bytes + at, ']', text.length);
         size_t name = closed ? (size_t)(closed - bytes) - at - 1 : 0;
         if (closed == NULL || name == 0 || at + name + 2 < end) {
@@ -186,7 +198,7 @@ static void read_ini(const uint8_t *bytes, size_t length)
     static const size_t known[] = {
         PERGIDAU_INI_DIALECT_PYTHON, PERGIDAU_INI_DIALECT_DESKTOP, PERGIDAU_INI_DIALECT_LENIENT,
     };
-    size_t dialect = below(2) ? known[below(3)] : below(2048);
+    size_t dialect = below(2) ? known[below(3)] : below(4096);
     struct pergidau_ini_state ours = {0};
     struct pergidau_ini_entry out, want;
     struct before before = {false, -1};

@@ -30,9 +30,9 @@ static const struct {
     {PYTHON, "\xef\xbb\xbf# a\nb = c\n", "", PERGIDAU_INVALID, 7, PERGIDAU_INI_ERROR_MISSING_SECTION},
     {PYTHON, "[s]\n\nabc\n", "[s]|", PERGIDAU_INVALID, 5, PERGIDAU_INI_ERROR_MISSING_DELIMITER},
     {PYTHON, "[s]\n = b\n", "[s]|", PERGIDAU_INVALID, 4, PERGIDAU_INI_ERROR_MISSING_KEY},
-    {PYTHON, "[s", "", PERGIDAU_INVALID, 0, PERGIDAU_INI_ERROR_UNCLOSED_SECTION},
-    {PYTHON, "[s]\n[]\n", "[s]|", PERGIDAU_INVALID, 4, PERGIDAU_INI_ERROR_EMPTY_SECTION},
-    {PYTHON, "[s] x\n", "", PERGIDAU_INVALID, 0, PERGIDAU_INI_ERROR_TRAILING_TEXT},
+    {PYTHON, "[s", "", PERGIDAU_INVALID, 0, PERGIDAU_INI_ERROR_MISSING_SECTION},
+    {PYTHON, "[s]\n[]\n", "[s]|", PERGIDAU_INVALID, 4, PERGIDAU_INI_ERROR_MISSING_DELIMITER},
+    {PYTHON, "[s]:\na=b\n[a]b]\n[q=1\n[]: c\n", "[s]|a=b|[a]b]|[q=1|[]=c|", PERGIDAU_END, 0, 0},
     {PYTHON, "[s]\na = \xff\nb = c\n", "[s]|", PERGIDAU_INVALID_UTF8, 4, 0},
     {PYTHON, "[s]\n# \xff\n", "[s]|", PERGIDAU_INVALID_UTF8, 4, 0},
     {PYTHON, "[s]\na\xff = \n", "[s]|", PERGIDAU_INVALID_UTF8, 4, 0},
@@ -57,7 +57,11 @@ static const struct {
      "[s]|a=b|+c|+|+d|", PERGIDAU_END, 0, 0},
     {PERGIDAU_INI_DIALECT_VALUELESS, "[s]\na\n", "[s]|a|", PERGIDAU_END, 0, 0},
     {PERGIDAU_INI_DIALECT_BEFORE_SECTIONS, "a=b\n", "a=b|", PERGIDAU_END, 0, 0},
-    {PYTHON | 1024, "[s]\na=b\n", "[s]|a=b|", PERGIDAU_END, 0, 0},
+    {PERGIDAU_INI_DIALECT_LOOSE_SECTIONS, "[s] x\n[]a]\n", "[s]|[]a]|", PERGIDAU_END, 0, 0},
+    {0, "[s", "", PERGIDAU_INVALID, 0, PERGIDAU_INI_ERROR_UNCLOSED_SECTION},
+    {0, "[s]\n[]\n", "[s]|", PERGIDAU_INVALID, 4, PERGIDAU_INI_ERROR_EMPTY_SECTION},
+    {0, "[s] x\n", "", PERGIDAU_INVALID, 0, PERGIDAU_INI_ERROR_TRAILING_TEXT},
+    {PYTHON | 2048, "[s]\na=b\n", "[s]|a=b|", PERGIDAU_END, 0, 0},
 };
 
 /* Appends an entry. */

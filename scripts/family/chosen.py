@@ -35,8 +35,7 @@ def chosen_function(name, one):
             "{",
             "    %s {" % own,
             "        endian,",
-            "        input: PhantomData,",
-            "        error: PhantomData,",
+            "        marker: PhantomData,",
             "    }",
             "}",
         ]
@@ -88,8 +87,7 @@ use std::marker::PhantomData;
 #[derive(Drop)]
 pub struct {kind}<I, E> {{
     pub(crate) endian: Endianness,
-    pub(crate) input: PhantomData<I>,
-    pub(crate) error: PhantomData<E>,
+    pub(crate) marker: PhantomData<(I, E)>,
 }}
 
 impl<I: StreamIsPartial + ByteStream, E: ParserError<I>> Parser<I, {type}, E> for {own} {{

@@ -44,9 +44,9 @@ def line(rng, delimiters, marks, inline):
 
 
 def texts(rng, count):
-    """Returns dialects, as six small numbers, and documents of a few lines."""
+    """Returns dialects, as seven small numbers, and documents of a few lines."""
     for _ in range(count):
-        flags = [rng.randrange(it) for it in (3, 4, 4, 3, 2)] + [0]
+        flags = [rng.randrange(it) for it in (3, 4, 4, 3, 2)] + [0, 1]
         marks = DELIMITERS[flags[0]], MARKS[flags[1]], MARKS[flags[2]]
         end = rng.choice(("\n", "\n", "\r\n"))
         first = "" if rng.random() < 0.1 else "[" + rng.choice("ab") + "]" + end
@@ -74,8 +74,8 @@ def files(rng, count):
                 found[text_of(path)] = path
     found.pop(None, None)
     for text in list(found)[:FILES]:
-        yield [2, 3, 0, 2, 0, 0], text
-        yield [2, 3, 3, 2, 1, 0], text
+        yield [2, 3, 0, 2, 0, 0, 1], text
+        yield [2, 3, 3, 2, 1, 0, 1], text
 
 
 def told(row):
@@ -135,8 +135,6 @@ def judge(row, answer, python):
         return "whitespace outside of ASCII"
     if flags[2] == 3 and any("#" in it and ";" in it for it in text.split("\n")):
         return "two inline comments in a line"
-    if ours in ("TextBehindSection", "OpenSection", "EmptySection"):
-        return ours
     return "a continued key without a value" if python == "AttributeError" else False
 
 

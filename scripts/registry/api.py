@@ -1,4 +1,4 @@
-"""The index of all public items, `docs/API.md`, and the API reference, `docs/api/`, which is not in
+"""The index of all public items, `docs/generated/API.md`, and the API reference, `docs/api/`, which is not in
 git: one or more pages per module, and an index. On the pages each item has its signature, its
 documentation and the names of its clauses."""
 import re
@@ -10,7 +10,7 @@ from registry.items import find, module, sources
 from registry.pages import NOTES, PAGES
 from registry.parsers import header, sentence
 
-INDEX, FOLDER = TOP / "docs/API.md", TOP / "docs/api"
+INDEX, FOLDER = TOP / "docs/generated/API.md", TOP / "docs/api"
 WIDTH = 100
 # The modules of the crate `winnow` that are modules of another crate.
 MODULES = {"token": ("winnow_token", ["token"]), "binary::bits": ("winnow_bits", ["bits"])}
@@ -305,7 +305,7 @@ ABOUT_INDEX = f"""<!-- {HEAD} -->
 # Index
 
 The public items of the crate `winnow`, by module. Each is linked to its file, which has its
-signature, documentation and contract. [PARSERS.md](PARSERS.md) lists parsers by purpose. The
+signature, documentation and contract. [PARSERS.md](../PARSERS.md) lists parsers by purpose. The
 modules `impls`, at the end, have the structs of the parsers: pass the struct `Alpha1` where a parser
 is expected. `winnow::parsers` has those without arguments under winnow's names, as `alpha1`, but
 for `u8`, `i8` and `bool`, which are types.
@@ -324,6 +324,11 @@ definitions in `specs/` of the same crate. [PARSERS.md](../PARSERS.md) lists par
 def file_link(item, label):
     """A link to the file of an item from `docs/`."""
     return f"[{label}](../{item.path.relative_to(TOP)})"
+
+
+def index_link(item, label):
+    """A link to the file of an item from the folder of the index."""
+    return f"[{label}](../../{item.path.relative_to(TOP)})"
 
 
 def sentence_of(doc):
@@ -348,7 +353,7 @@ def about_of(name):
 
 
 def write_index(reference):
-    write(INDEX, reference.index(ABOUT_INDEX, file_link))
+    write(INDEX, reference.index(ABOUT_INDEX, index_link))
 
 
 def write_api(reference):

@@ -1,5 +1,5 @@
 """Writes two tables of the parsers of formats: the short one of README.md, and the one of
-docs/READERS.md, with their lengths and what is proved."""
+docs/READERS.md, with their lengths."""
 import re
 
 from .common import CRATES, HEAD, TOP, read, write
@@ -7,52 +7,39 @@ from .common import CRATES, HEAD, TOP, read, write
 FIRST = f"<!-- {HEAD} -->\n"
 LAST = "<!-- End. -->\n"
 README, COUNTED = TOP / "README.md", TOP / "docs/READERS.md"
-# Formats, the crate of the parser, whether it is made of grammars, and what is proved, in 12 words.
+# Formats, the crate of the parser, and whether it is made of grammars.
 READERS = [
-    ("settings, a line each", "examples/settings_file", "yes", "exactly"),
-    ("versions", "examples/version", "yes", "exactly"),
-    ("colors", "examples/color", "yes", "exactly"),
-    ("lines of one letter", "examples/lines", "yes", "exactly; reads back"),
-    ("trees of numbers in brackets", "examples/nested", "yes", "the first tree"),
-    ("options in brackets", "examples/options", "yes", "the first options; `Incomplete`"),
-    ("lines of settings and flags", "examples/assignments", "yes", "exactly; error offsets"),
-    ("CSV (RFC 4180)", "format_csv", "no", "exactly, also for tables"),
-    ("CSV in any dialect", "format_csv_records", "no",
-        "the first record or invalid byte; written records read back"),
-    ("CSV from a reader", "format_csv_reader", "no", "each record, or the first invalid byte"),
-    ("INI files, in any dialect", "format_ini", "no",
-        "all lines, if valid, or the first invalid one"),
-    ("RESP2, RESP3", "format_resp", "yes", "the first reply; written replies read back"),
-    ("JSON (RFC 8259): numbers, strings, words", "format_json_scalars", "yes",
-        "the first number, string or word, unescaped"),
-    ("JSON: values", "format_json_values", "yes", "exactly"),
-    ("JSON: values from bytes", "format_json_pieces", "no",
-        "the first value, or that of all bytes"),
-    ("JSON: written", "format_json_writer", "no", "the text of a value; reads back"),
-    ("JSON: numbers as decimals", "format_json_decimals", "no",
-        "the only decimal of a number, if it fits"),
-    ("JSON: extents", "format_json_extents", "no",
-        "where a value ends, and whether bytes are JSON"),
-    ("JSON: nodes", "format_json_nodes", "no", "all values of a text, if it is JSON"),
-    ("JSON: by one entry", "format_json", "no", "exactly; error offsets"),
-    ("TOML 1.0: lines", "format_toml", "yes", "exactly"),
-    ("TOML: trees", "format_toml_tree", "no", "the tree, or the first rejected line"),
-    ("TOML: by one entry", "format_toml_document", "no",
-        "the tree, or an error's position and reason"),
-    ("TOML: errors", "format_toml_errors", "no", "where a walk over the characters stops"),
-    ("TOML: nodes", "format_toml_nodes", "no", "one node for each path"),
-    ("HTTP/1.1 heads (RFC 9112)", "format_http/heads", "yes",
-        "the first request line, field line or head"),
-    ("HTTP/1.1 lengths of bodies", "format_http/bodies", "no", "the length, or why it is rejected"),
-    ("HTTP/1.1 heads of responses", "format_http/responses", "yes",
-        "the first status line or head"),
-    ("HTTP/1.1 chunked bodies, partial input", "format_http_chunked", "no",
-        "content, trailers, or the first invalid byte"),
-    ("HTTP/1.1 heads, as offsets", "format_http_places", "no",
-        "offsets of a head's parts, or the first invalid byte; incremental"),
-    ("DNS messages", "format_dns", "names", "the message, or the invalid entry and the reason"),
-    ("INI", "readers", "no", "exactly"),
-    ("formulas", "format_calculator", "no", "exactly"),
+    ("settings, a line each", "examples/settings_file", "yes"),
+    ("versions", "examples/version", "yes"),
+    ("colors", "examples/color", "yes"),
+    ("lines of one letter", "examples/lines", "yes"),
+    ("trees of numbers in brackets", "examples/nested", "yes"),
+    ("CSV (RFC 4180)", "format_csv", "no"),
+    ("CSV in any dialect", "format_csv_records", "no"),
+    ("CSV from a reader", "format_csv_reader", "no"),
+    ("INI files, in any dialect", "format_ini", "no"),
+    ("RESP2, RESP3", "format_resp", "yes"),
+    ("JSON (RFC 8259): numbers, strings, words", "format_json_scalars", "yes"),
+    ("JSON: values", "format_json_values", "yes"),
+    ("JSON: values from bytes", "format_json_pieces", "no"),
+    ("JSON: written", "format_json_writer", "no"),
+    ("JSON: numbers as decimals", "format_json_decimals", "no"),
+    ("JSON: extents", "format_json_extents", "no"),
+    ("JSON: nodes", "format_json_nodes", "no"),
+    ("JSON: by one entry", "format_json", "no"),
+    ("TOML 1.0: lines", "format_toml", "yes"),
+    ("TOML: trees", "format_toml_tree", "no"),
+    ("TOML: by one entry", "format_toml_document", "no"),
+    ("TOML: errors", "format_toml_errors", "no"),
+    ("TOML: nodes", "format_toml_nodes", "no"),
+    ("HTTP/1.1 heads (RFC 9112)", "format_http/heads", "yes"),
+    ("HTTP/1.1 lengths of bodies", "format_http/bodies", "no"),
+    ("HTTP/1.1 heads of responses", "format_http/responses", "yes"),
+    ("HTTP/1.1 chunked bodies, partial input", "format_http_chunked", "no"),
+    ("HTTP/1.1 heads, as offsets", "format_http_places", "no"),
+    ("DNS messages", "format_dns", "names"),
+    ("INI", "readers", "no"),
+    ("formulas", "format_calculator", "no"),
 ]
 # The table of README.md: formats, their crates, and the proved properties, in its words.
 BRIEF = [
@@ -70,6 +57,13 @@ BRIEF = [
     ("TOML 1.0", ["format_toml_document", "format_toml", "format_toml_tree"],
         "exactly"),
 ]
+# What the static library has of a format, if not all of its theorems.
+EXPORTED = {
+    "CSV (RFC 4180)": "records",
+    "DNS": "entries",
+    "JSON": "complete texts",
+    "RESP2, RESP3": "replies, commands",
+}
 
 
 def lines(place, part, ending):
@@ -104,18 +98,18 @@ def put(path, heads, rows):
 def write_readers():
     """Writes both tables."""
     counted, brief, of_library = [], [], exported()
-    for what, crate, is_by_grammars, proved in READERS:
+    for what, crate, is_by_grammars in READERS:
         counts = [
             lines(crate, "src", ".rt"),
             lines(crate, "specs", ".antt"),
             lines(crate, "proofs", ".antt"),
         ]
         link = f"[{crate.replace('/', '::')}](../crates/{crate.partition('/')[0]})"
-        counted.append([what, link, is_by_grammars, *(f"{it:,}" for it in counts), proved])
+        counted.append([what, link, is_by_grammars, *(f"{it:,}" for it in counts)])
     for what, crates, proved in BRIEF:
         links = ", ".join(f"[{it}](crates/{it}/README.md#theorems)" for it in crates)
-        is_exported = "yes" if {*crates} & of_library else "no"
+        is_exported = EXPORTED.get(what, "yes") if {*crates} & of_library else "no"
         brief.append([what, links, is_exported, proved])
-    heads = ["Format", "Crate", "By grammars", "Source", "Specs", "Proofs", "Proved"]
+    heads = ["Format", "Crate", "By grammars", "Source", "Specs", "Proofs"]
     put(COUNTED, heads, counted)
     put(README, ["Format", "Theorems", "From Rust and C", "Proved"], brief)

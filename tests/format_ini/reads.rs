@@ -74,6 +74,18 @@ const PYTHON: &[(&str, &str)] = &[
     ("[s]\na = one\n  # not told\n  two\n", "[s]\na=one\n+two\n"),
     ("[s]\na = one\n  [t]\n  b = c\n", "[s]\na=one\n+[t]\n+b = c\n"),
     ("[s]\n  a = one\n  b = c\n    two\n a = d\n", "[s]\na=one\nb=c\n+two\na=d\n"),
+    ("[s]:\na = b\n", "[s]\na=b\n"),
+    ("[s] t\na = 1\n", "[s]\na=1\n"),
+    ("[s]=1\nb = 2\n", "[s]\nb=2\n"),
+    ("[a]b]\nc = d\n", "[a]b]\nc=d\n"),
+    ("[a][b]\nc = 1\n", "[a][b]\nc=1\n"),
+    ("[]]\na = 1\n", "[]]\na=1\n"),
+    ("[]x]\na = 1\n", "[]x]\na=1\n"),
+    ("[s]\n[q=1\n", "[s]\n[q=1\n"),
+    ("[s]\n[]: c\n", "[s]\n[]=c\n"),
+    ("[s]\n[ = 1\n", "[s]\n[=1\n"),
+    ("[s]\n[t: c] d\n", "[s]\n[t: c]\n"),
+    ("[s]\na = b\n[t = c\n", "[s]\na=b\n[t=c\n"),
 ];
 
 #[test]
@@ -101,6 +113,7 @@ fn dialects_that_differ_in_one_thing(rt: HostRuntime) {
         ..Dialect::python()
     };
     says(&rt, rt.alloc(), valueless, "[s]\nskip-bdb\na = b\nc\n", "[s]\nskip-bdb\na=b\nc\n");
+    says(&rt, rt.alloc(), valueless, "[s]\n[]\n[a\n", "[s]\n[]\n[a\n");
     let semicolon = Dialect {
         comments: Marks::Semicolon,
         ..Dialect::python()
@@ -140,7 +153,8 @@ fn a_desktop_entry(rt: HostRuntime) {
 
 #[test]
 fn the_dialect_that_reads_most(rt: HostRuntime) {
-    let text = "top\nuser = me # here\n[s];t = u\n";
+    let text = "top\nuser = me # here\n[s];t = u\n= v\n";
     says(&rt, rt.alloc(), Dialect::lenient(), "top\nuser = me # here\n[s] ; t\n  u\n", "top\nuser=me\n[s]\nu\n");
+    says(&rt, rt.alloc(), Dialect::lenient(), "[s];t\n[a]b] # c\n[d\n", "[s]\n[a]b]\n[d\n");
     assert!(rt; read_document(rt.alloc(), Dialect::lenient(), text).is_err());
 }

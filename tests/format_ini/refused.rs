@@ -4,8 +4,8 @@ use format_ini::documents::{Entries, InvalidLine, IniError, read_document};
 use format_ini::lines::{Entry, Reason};
 use text_positions::Position;
 
-/// A text, the number of bytes before the invalid line, and the reason. Python's `configparser`
-/// rejects the same lines, except for text after a section, and `[` at the start of a key.
+/// A text, the number of bytes before the invalid line, and the reason, in the dialect of Python.
+/// Python's `configparser` rejects the same lines.
 const REFUSED: &[(&str, usize, Reason)] = &[
     ("a = b\n", 0, Reason::NoSection),
     ("\n# c\na\n", 5, Reason::NoSection),
@@ -14,6 +14,15 @@ const REFUSED: &[(&str, usize, Reason)] = &[
     ("[s]\na = b\nc\n", 10, Reason::NoDelimiter),
     ("[s]\n= b\n", 4, Reason::NoKey),
     ("[s]\n  : b\n", 4, Reason::NoKey),
+    ("[s\na = b\n", 0, Reason::NoSection),
+    ("[q=1\n", 0, Reason::NoSection),
+    ("[]\n", 0, Reason::NoSection),
+    ("[s]\n[]\n", 4, Reason::NoDelimiter),
+    ("[s]\n[a\n", 4, Reason::NoDelimiter),
+];
+
+/// The same for section headers of a dialect whose sections are not loose.
+const STRICT: &[(&str, usize, Reason)] = &[
     ("[s\na = b\n", 0, Reason::OpenSection),
     ("[s]\na = b\n[t = c\n", 10, Reason::OpenSection),
     ("[]\n", 0, Reason::EmptySection),
@@ -23,12 +32,14 @@ const REFUSED: &[(&str, usize, Reason)] = &[
 
 #[test]
 fn lines_that_are_refused(rt: HostRuntime) {
-    for (text, offset, why) in REFUSED {
-        match read_document(rt.alloc(), Dialect::python(), text) {
-            Err(IniError::Invalid(fault)) => {
-                assert_eq!(rt; fault, InvalidLine { offset: *offset, why: *why });
+    for (dialect, rows) in [(Dialect::python(), REFUSED), (Dialect::desktop(), STRICT)] {
+        for (text, offset, why) in rows {
+            match read_document(rt.alloc(), dialect, text) {
+                Err(IniError::Invalid(fault)) => {
+                    assert_eq!(rt; fault, InvalidLine { offset: *offset, why: *why });
+                }
+                _ => assert!(rt; false),
             }
-            _ => assert!(rt; false),
         }
     }
 }

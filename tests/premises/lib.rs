@@ -11,7 +11,4 @@ mod functions;
 mod lexed;
 
 #[cfg(test)]
-mod outcomes;
-
-#[cfg(test)]
 mod slices;

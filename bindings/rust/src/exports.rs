@@ -257,16 +257,21 @@ pub const INI_DIALECT_VALUELESS: usize = 256;
 /// Pairs may precede the first section; otherwise they are an error.
 pub const INI_DIALECT_BEFORE_SECTIONS: usize = 512;
 
+/// The name of a section ends at the last `]` of its line, and text after that is ignored. A line
+/// that starts with `[` and has no such name is a pair. Otherwise the name ends at the first `]`,
+/// and such lines are errors.
+pub const INI_DIALECT_LOOSE_SECTIONS: usize = 1024;
+
 /// The default dialect of Python's `configparser`: `=` and `:`, `#` and `;` at the start of lines,
-/// continued lines with empty lines within.
-pub const INI_DIALECT_PYTHON: usize = 143;
+/// continued lines with empty lines within, loose sections.
+pub const INI_DIALECT_PYTHON: usize = 1167;
 
 /// The dialect of desktop entries: `=`, `#` at the start of lines, a line for each pair.
 pub const INI_DIALECT_DESKTOP: usize = 5;
 
 /// The dialect that reads most: `=` and `:`, comments after whitespace too, keys without values,
-/// pairs before the first section, a line for each pair.
-pub const INI_DIALECT_LENIENT: usize = 831;
+/// pairs before the first section, loose sections, a line for each pair.
+pub const INI_DIALECT_LENIENT: usize = 1855;
 
 /// The largest supported depth limit for nested arrays and objects. Each level takes some stack.
 pub const MAX_DEPTH: usize = 512;
@@ -1121,7 +1126,7 @@ pub struct TomlResult {
 
 extern "C" {
     /// A symbol that only a library with these declarations has.
-    #[link_name = "pergidau_declared_e422ca0d"]
+    #[link_name = "pergidau_declared_37f0163a"]
     static VERSION_LINKED: c_char;
 
     /// Returns the version of the linked library.
@@ -1787,7 +1792,7 @@ extern "C" {
     /// and keys and sections may be repeated.
     ///
     /// `dialect` is a sum of flags: `INI_DIALECT_PYTHON`, `INI_DIALECT_DESKTOP`, `INI_DIALECT_LENIENT`,
-    /// or others from `INI_DIALECT_EQUALS` to `INI_DIALECT_BEFORE_SECTIONS`. Other bits are ignored.
+    /// or others from `INI_DIALECT_EQUALS` to `INI_DIALECT_LOOSE_SECTIONS`. Other bits are ignored.
     ///
     /// For the first call, `state` must be all zeros. Each further call must have the state that the
     /// previous call left, with the same bytes, which are the complete document, and the same dialect.
@@ -1980,9 +1985,9 @@ extern "C" {
     /// Checks a text as `exported_json_check` does, and reports the first error: its offset, line and
     /// column, and the input that is expected there.
     ///
-    /// The bytes before the offset can continue to a text. With the byte at the offset they cannot, for
-    /// any continuation. Nothing is allocated for a text that is JSON; for others, one byte for each
-    /// open bracket.
+    /// With the byte at the offset no text continues, for any continuation. That the bytes before it
+    /// can continue to a text is only tested. Nothing is allocated for a text that is JSON; for others,
+    /// one byte for each open bracket.
     ///
     /// `DONE`: the text is a JSON text. Zeros are written.
     ///

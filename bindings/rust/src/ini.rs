@@ -80,11 +80,15 @@ pub struct Dialect {
     pub valueless: bool,
     /// Whether pairs may precede the first section; otherwise they are an error.
     pub before_sections: bool,
+    /// Whether the name of a section ends at the last `]` of its line, and text after that is
+    /// ignored. Then a line that starts with `[` and has no such name is a pair. Otherwise the name
+    /// ends at the first `]`, and such lines are errors.
+    pub loose_sections: bool,
 }
 
 impl Dialect {
     /// The default dialect of Python's `configparser`: `=` and `:`, `#` and `;` at the start of
-    /// lines, continued lines with empty lines within.
+    /// lines, continued lines with empty lines within, loose sections.
     pub const PYTHON: Dialect = Dialect {
         delimiters: Delimiters::Either,
         comments: Marks::Either,
@@ -92,6 +96,7 @@ impl Dialect {
         continued: Continued::PastEmpty,
         valueless: false,
         before_sections: false,
+        loose_sections: true,
     };
 
     /// The dialect of desktop entries: `=`, `#` at the start of lines, a line for each pair.
@@ -102,10 +107,11 @@ impl Dialect {
         continued: Continued::Never,
         valueless: false,
         before_sections: false,
+        loose_sections: false,
     };
 
     /// The dialect that reads most: `=` and `:`, comments after whitespace too, keys without
-    /// values, pairs before the first section, a line for each pair.
+    /// values, pairs before the first section, loose sections, a line for each pair.
     pub const LENIENT: Dialect = Dialect {
         delimiters: Delimiters::Either,
         comments: Marks::Either,
@@ -113,6 +119,7 @@ impl Dialect {
         continued: Continued::Never,
         valueless: true,
         before_sections: true,
+        loose_sections: true,
     };
 
     /// The sum of its flags.
@@ -137,7 +144,8 @@ impl Dialect {
         };
         let valueless = if self.valueless { exports::INI_DIALECT_VALUELESS } else { 0 };
         let before = if self.before_sections { exports::INI_DIALECT_BEFORE_SECTIONS } else { 0 };
-        delimiters | comments | inline_comments | continued | valueless | before
+        let loose = if self.loose_sections { exports::INI_DIALECT_LOOSE_SECTIONS } else { 0 };
+        delimiters | comments | inline_comments | continued | valueless | before | loose
     }
 }
 

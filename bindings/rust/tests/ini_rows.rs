@@ -27,6 +27,7 @@ const BARE: Dialect = Dialect {
     continued: Continued::Never,
     valueless: false,
     before_sections: false,
+    loose_sections: false,
 };
 
 #[test]
@@ -67,6 +68,7 @@ fn entries_of_other_dialects() {
         ),
         (Dialect { valueless: true, ..BARE }, "[s]\na\n", "[s]|a|"),
         (Dialect { before_sections: true, ..BARE }, "a=b\n", "a=b|"),
+        (Dialect { loose_sections: true, ..BARE }, "[a]b]: c\n[d=e\n", "[a]b]|[d=e|"),
     ];
     for (dialect, text, want) in rows {
         assert_eq!(told(text, dialect), want, "{text}");
@@ -79,12 +81,19 @@ fn refused_lines() {
         ("\u{feff}a = b\n", "MissingSection 1 2"),
         ("[s]\n\n  abc\nd=e\n", "[s]|MissingDelimiter 3 1"),
         ("[s]\n = b\n", "[s]|MissingKey 2 1"),
+        ("[s]\né=f\n[s", "[s]|é=f|MissingDelimiter 3 1"),
+        ("[]\n", "MissingSection 1 1"),
+    ];
+    for (text, want) in rows {
+        assert_eq!(told(text, Dialect::PYTHON), want, "{text}");
+    }
+    let rows = [
         ("[s]\né=f\n[s", "[s]|é=f|UnclosedSection 3 1"),
         ("[]\n", "EmptySection 1 1"),
         ("[s] x\n", "TrailingText 1 1"),
     ];
     for (text, want) in rows {
-        assert_eq!(told(text, Dialect::PYTHON), want, "{text}");
+        assert_eq!(told(text, BARE), want, "{text}");
     }
     let mut found = entries("[s]\na\nb=c\n", Dialect::PYTHON);
     let refused = found.nth(1).unwrap().unwrap_err();

@@ -6,5 +6,4 @@ pub mod PlaceLemmas
 pub mod PrefixLemmas
 pub mod PremiseLemmas
 pub mod SliceLemmas
-pub mod TimeLemmas
 pub mod WordRuns

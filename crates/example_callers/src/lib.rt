@@ -12,7 +12,6 @@ pub mod lexed;
 pub mod looks;
 pub mod numbers;
 pub mod numerals;
-pub mod outcomes;
 pub mod percentages;
 pub mod pieces;
 pub mod places;

@@ -1,9 +1,4 @@
-pub mod AssignmentsLemmas
-pub mod BracketsLemmas
 pub mod ColorLemmas
-pub mod ErrorsLemmas
-pub mod FramesLemmas
 pub mod LinesLemmas
 pub mod NestedLemmas
-pub mod SettingsLemmas
 pub mod VersionLemmas

@@ -3,8 +3,9 @@ use Rattle.std.specs.Prelude.{◌≡◌, ◌≤◌, ◌<◌, ◌+◌, ◌-◌, �
 use Rattle.std.specs.Prelude.{take}
 use Rattle.std.proofs.Common.{refl, sym, ap, subst, inl, inr, ◌∙◌, arith, get_or}
 use Rattle.std.proofs.lemmas.List.{same_from_push, take_all, take_more}
-use Rattle.format_csv_records.specs.Dialects.{IsLineEnd, doubled}
+use Rattle.format_csv_records.specs.Dialects.{doubled}
 use Rattle.format_csv_records.specs.Written.{IsLast, IsWritten, ReadsBack, Writes, Wrote}
+use Rattle.format_csv_records.specs.Written.{written_end}
 use Rattle.format_csv_records.specs.declared.dialect.Dialect.{Dialect}
 use Rattle.format_csv_records.specs.declared.dialect.LineEnds.{LineEnds}
 use Rattle.format_csv_records.specs.declared.dialect.LineEnds.TheVariants.{CrLf, Either, Lf}
@@ -182,10 +183,10 @@ line_one d fields t u it that =
 
 -- ---- back
 
-is_line_end : (ends : LineEnds) → IsLineEnd ends (line_end ends)
+is_line_end : (ends : LineEnds) → line_end ends ≡ written_end ends
 is_line_end CrLf = refl
 is_line_end Lf = refl
-is_line_end Either = inl refl
+is_line_end Either = refl
 
 writes : (d : Dialect) (fields : List (List ℕ)) (text : List ℕ) → IsLine d fields text
     → Writes d fields [] text

@@ -59,6 +59,7 @@ dialect_of flags = record {
   continued = continued_of (has flags 64) (has flags 128);
   valueless = has flags 256;
   before_sections = has flags 512;
+  loose_sections = has flags 1024;
 }
 
 -- ---- states

@@ -85,16 +85,21 @@ pub const INI_DIALECT_VALUELESS: usize = 256;
 /// Pairs may precede the first section; otherwise they are an error.
 pub const INI_DIALECT_BEFORE_SECTIONS: usize = 512;
 
+/// The name of a section ends at the last `]` of its line, and text after that is ignored. A line
+/// that starts with `[` and has no such name is a pair. Otherwise the name ends at the first `]`,
+/// and such lines are errors.
+pub const INI_DIALECT_LOOSE_SECTIONS: usize = 1024;
+
 /// The default dialect of Python's `configparser`: `=` and `:`, `#` and `;` at the start of lines,
-/// continued lines with empty lines within.
-pub const INI_DIALECT_PYTHON: usize = 143;
+/// continued lines with empty lines within, loose sections.
+pub const INI_DIALECT_PYTHON: usize = 1167;
 
 /// The dialect of desktop entries: `=`, `#` at the start of lines, a line for each pair.
 pub const INI_DIALECT_DESKTOP: usize = 5;
 
 /// The dialect that reads most: `=` and `:`, comments after whitespace too, keys without values,
-/// pairs before the first section, a line for each pair.
-pub const INI_DIALECT_LENIENT: usize = 831;
+/// pairs before the first section, loose sections, a line for each pair.
+pub const INI_DIALECT_LENIENT: usize = 1855;
 
 /// The state of parsing an INI file. Only the functions of this library may interpret its fields.
 /// All zeros is the initial state; start from it for each file.
@@ -196,6 +201,7 @@ pub(crate) fn dialect_of(flags: usize) -> Dialect
         ),
         valueless: has(flags, INI_DIALECT_VALUELESS),
         before_sections: has(flags, INI_DIALECT_BEFORE_SECTIONS),
+        loose_sections: has(flags, INI_DIALECT_LOOSE_SECTIONS),
     }
 }
 
@@ -330,7 +336,7 @@ pub(crate) fn told_of(found: Result<Option<Placed<'_>>, Stop>, offset: usize) ->
 /// and keys and sections may be repeated.
 ///
 /// `dialect` is a sum of flags: `INI_DIALECT_PYTHON`, `INI_DIALECT_DESKTOP`, `INI_DIALECT_LENIENT`,
-/// or others from `INI_DIALECT_EQUALS` to `INI_DIALECT_BEFORE_SECTIONS`. Other bits are ignored.
+/// or others from `INI_DIALECT_EQUALS` to `INI_DIALECT_LOOSE_SECTIONS`. Other bits are ignored.
 ///
 /// For the first call, `state` must be all zeros. Each further call must have the state that the
 /// previous call left, with the same bytes, which are the complete document, and the same dialect.

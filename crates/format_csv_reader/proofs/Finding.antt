@@ -1,7 +1,7 @@
 -- Lemmas about the search for a record in the bytes held, about the capacity and the contents of
 -- the buffer, and about a byte order mark.
 use Rattle.std.specs.Prelude.{◌≡◌, ◌⊎◌, ◌≤◌, ◌+◌, ◌*◌, ℕ, List, [], ◌++◌, drop, length, max}
-use Rattle.std.specs.Prelude.{Err, Ok, Option, false, true, ◌<◌, ◌^◌, ◌∷◌}
+use Rattle.std.specs.Prelude.{Err, Ok, Option, Result, false, true, ◌<◌, ◌^◌, ◌∷◌}
 use Rattle.std.proofs.KnownBytes.{Consumes-nil, Consumes-trans}
 use Rattle.std.proofs.Common.{◌∙◌, ap, append_assoc, append-nil, arith, inl, inr, refl, sym}
 use Rattle.std.proofs.Common.{take, drop_at, length-take-le, take_at}
@@ -148,3 +148,12 @@ behind_front a n xs ys zs within fits =
     ∙ ap (λ l. take a xs ++ take n l)
     (drop_at (take a xs) (ys ++ zs) a (length-take-le a xs within))
     ∙ ap (λ l. take a xs ++ l) (take-append-le n ys zs fits)
+
+-- ---- out of memory
+
+pub no_err : {X E P : Type 0} {x : X} {e : E} → Ok x ≡ Err e → P
+no_err e = absurd (cc)
+
+pub err_in : {X Y E P : Type 0} (r : Result X E) (s : Result Y E) (a b : E) → r ≡ Err a → s ≡ Err a
+    → s ≡ Err b → (r ≡ Err b → P) → P
+err_in r s a b e f g more = more (cc)

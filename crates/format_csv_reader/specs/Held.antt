@@ -1,5 +1,5 @@
 -- Bytes that were read and are not let go.
-use Rattle.std.specs.Prelude.{◌≡◌, ◌≤◌, ◌++◌, ℕ, List, drop, length, take, Option}
+use Rattle.std.specs.Prelude.{◌≡◌, ◌≤◌, ◌*◌, ◌++◌, ℕ, List, drop, length, take, Option}
 use Rattle.std.specs.Io.KnownBytes.{Consumes}
 use Rattle.format_csv_reader.specs.declared.buffer.Buffer.TheInside.{Inside}
 
@@ -16,6 +16,11 @@ held_of it = record {
 
 abbrev pub IsHeld : {A : Type 0} → Inside A → Type 0
 IsHeld it = (it.start ≤ it.filled) × (it.filled ≤ length it.bytes.items)
+
+-- The bytes that are held are at least half of those that there is room for. Otherwise a read needs
+-- no memory.
+abbrev pub IsFull : Held → Type 0
+IsFull held = held.size ≤ 2 * length held.bytes
 
 -- `Grew old new before after`: `new` is `old` followed by the bytes that the reader gave.
 pub record Grew (old new : List ℕ) (before after : Option (List ℕ)) : Type 0 where

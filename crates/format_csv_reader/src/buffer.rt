@@ -1,10 +1,10 @@
 //! Bytes that were read and are not let go, in one buffer.
 
 ghost use Rattle.std.specs.Prelude.{◌≡◌, ◌⊎◌, ◌≤◌, ◌<◌, ◌+◌, ◌*◌, ◌^◌, [], drop, length};
-ghost use Rattle.std.specs.Prelude.{MatchResult, max};
+ghost use Rattle.std.specs.Prelude.{Err, MatchResult, max};
 ghost use Rattle.std.specs.Io.KnownBytes.{IsAtEnd};
 ghost use Rattle.format_csv_reader.specs.Finds.{IsOfReader};
-ghost use Rattle.format_csv_reader.specs.Held.{Grew};
+ghost use Rattle.format_csv_reader.specs.Held.{Grew, IsFull};
 
 use crate::error::ReadError;
 use crate::refill::{make_room, read_behind};
@@ -69,6 +69,7 @@ impl<A: Allocator> Buffer<A> {
     }
 
     /// Reads once and returns the number of bytes read, which is 0 only at the end of the source.
+    /// It allocates only if the bytes held are at least half of the buffer.
     pub(crate) fn fill<R: Read>(&mut self, source: &mut R) -> Result<usize, ReadError>
         ensures grew { Grew self.old.bytes self.new.bytes (R.remaining source.old)
             (R.remaining source.new) }
@@ -79,6 +80,7 @@ impl<A: Allocator> Buffer<A> {
         ensures few { length self.new.bytes < 2 ^ 63 }
         ensures size { (self.new.size ≡ self.old.size)
             ⊎ (self.new.size ≤ max 8192 (4 * length self.old.bytes)) }
+        ensures full { result ≡ Err ReadError.OutOfMemory → IsFull self.new }
     {
         if make_room(&mut self.bytes, &mut self.start, &mut self.filled).is_err() {
             return Err(ReadError::OutOfMemory);

@@ -1,10 +1,10 @@
 //! The search for a record at the start of bytes that arrive in chunks.
 
-ghost use Rattle.std.specs.Prelude.{◌++◌, List, ℕ, MatchOption, MatchResult};
+ghost use Rattle.std.specs.Prelude.{◌≡◌, ◌++◌, Err, List, ℕ, MatchOption, MatchResult};
 ghost use Rattle.std.specs.Io.KnownBytes.{IsAtEnd};
 ghost use Rattle.format_csv_records.specs.Extents.{IsOf};
 ghost use Rattle.format_csv_reader.specs.Finds.{IsFound, IsOfReader, IsSmall, WantsMore};
-ghost use Rattle.format_csv_reader.specs.Held.{Grew};
+ghost use Rattle.format_csv_reader.specs.Held.{Grew, IsFull};
 
 use crate::buffer::Buffer;
 use crate::error::ReadError;
@@ -54,6 +54,7 @@ pub(crate) fn find<R: Read, A: Allocator>(
         (λ found. IsFound dialect buffer.new.bytes (IsAtEnd (R.remaining source.new)) found)
         (λ error. IsOfReader error × WantsMore dialect buffer.new.bytes) }
     ensures small { IsSmall dialect buffer.old.size buffer.new.size buffer.new.bytes }
+    ensures full { result ≡ Err ReadError.OutOfMemory → IsFull buffer.new }
 {
     loop {
         match look(dialect, buffer.held(), extent) {

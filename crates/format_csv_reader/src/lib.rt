@@ -4,6 +4,7 @@
 mod buffer;
 pub mod error;
 mod finds;
+pub mod laws;
 mod mark;
 pub mod reader;
 mod refill;

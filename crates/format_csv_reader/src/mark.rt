@@ -1,9 +1,9 @@
 //! The search for a byte order mark at the start of a table.
 
-ghost use Rattle.std.specs.Prelude.{◌⊎◌, ◌≤◌, length, MatchResult};
+ghost use Rattle.std.specs.Prelude.{◌≡◌, ◌⊎◌, ◌≤◌, length, Err, MatchResult};
 ghost use Rattle.std.specs.Io.KnownBytes.{IsAtEnd};
 ghost use Rattle.format_csv_reader.specs.Finds.{IsOfReader};
-ghost use Rattle.format_csv_reader.specs.Held.{Grew};
+ghost use Rattle.format_csv_reader.specs.Held.{Grew, IsFull};
 
 use crate::buffer::Buffer;
 use crate::error::ReadError;
@@ -22,6 +22,7 @@ pub(crate) fn fill_to<R: Read, A: Allocator>(
     ensures told { MatchResult result
         (λ _. (count ≤ length buffer.new.bytes) ⊎ IsAtEnd (R.remaining source.new))
         (λ error. IsOfReader error) }
+    ensures full { result ≡ Err ReadError.OutOfMemory → IsFull buffer.new }
 {
     loop {
         if buffer.held().len() >= count {

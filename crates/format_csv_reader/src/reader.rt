@@ -14,9 +14,10 @@
 //! assert!(rt; matches!(table.next_record(&mut fields), Ok(false)));
 //! ```
 
-ghost use Rattle.std.specs.Prelude.{◌≡◌, []};
+ghost use Rattle.std.specs.Prelude.{◌≡◌, ◌⊎◌, ◌<◌, [], length, Err};
 ghost use Rattle.std.specs.Io.KnownBytes.{prepend_known};
 ghost use Rattle.format_csv_records.specs.Records.{fields_of};
+ghost use Rattle.format_csv_reader.specs.Held.{IsFull};
 ghost use Rattle.format_csv_reader.specs.Marks.{ReadsMark};
 ghost use Rattle.format_csv_reader.specs.Results.{Reads, ReadsOfAll};
 
@@ -119,9 +120,10 @@ impl<R: Read, A: Allocator> Reader<R, A> {
     /// ```
     #[tactic(none)]
     pub fn pass_mark(&mut self) -> Result<bool, ReadError>
-        ensures { ReadsMark self.old.buffer.bytes self.new.buffer.bytes
+        ensures reads { ReadsMark self.old.buffer.bytes self.new.buffer.bytes
             (R.remaining self.old.source) (R.remaining self.new.source) self.old.offset
             self.new.offset result }
+        ensures full { result ≡ Err ReadError.OutOfMemory → IsFull self.new.buffer }
     {
         let start = self.offset;
         let filled = fill_to(&mut self.source, &mut self.buffer, 3);
@@ -153,8 +155,9 @@ impl<R: Read, A: Allocator> Reader<R, A> {
     ///   reason. The next call returns the same error if no bytes arrived.
     /// - [`ReadError::Failed`]: the reader failed while more bytes were needed. The next call reads
     ///   again and resumes. Interrupted reads are retried.
-    /// - [`ReadError::OutOfMemory`]: the buffer or the fields could not be allocated. The next call
-    ///   resumes.
+    /// - [`ReadError::OutOfMemory`]: the buffer or the fields could not be allocated. The buffer
+    ///   grows only if the bytes held are at least half of it, and the fields only if there are
+    ///   such bytes. The next call resumes.
     #[tactic(none)]
     pub fn next_record<B: Allocator>(
         &mut self,
@@ -169,6 +172,8 @@ impl<R: Read, A: Allocator> Reader<R, A> {
             (prepend_known self.new.buffer.bytes (R.remaining self.new.source))
             self.old.offset result (fields_of fields.new) }
         ensures same { self.new.dialect ≡ self.old.dialect }
+        ensures full { result ≡ Err ReadError.OutOfMemory → IsFull self.new.buffer
+            ⊎ (0 < length self.new.buffer.bytes) }
     {
         let start = self.offset;
         fields.clear();

@@ -2,7 +2,7 @@
 
 ghost use Rattle.std.specs.Prelude.{◌≡◌, ◌⊎◌, ◌≤◌, ◌<◌, ◌+◌, ◌-◌, ◌*◌, ◌++◌, [], List, ℕ};
 ghost use Rattle.std.specs.Prelude.{◌≢◌, drop};
-ghost use Rattle.std.specs.Prelude.{IfErr, IfOk, MatchResult, OnOk, length, max, take};
+ghost use Rattle.std.specs.Prelude.{IfErr, IfOk, MatchResult, OnErr, OnOk, length, max, take};
 ghost use Rattle.std.specs.IoError.{error_kind};
 ghost use Rattle.std.specs.Io.KnownBytes.{Consumes, IsAtEnd};
 
@@ -83,6 +83,7 @@ pub(crate) fn make_room<A: Allocator>(
     ensures room { OnOk result (filled.new < length bytes.new.items) }
     ensures size { (length bytes.new.items ≡ length bytes.old.items)
         ⊎ (length bytes.new.items ≤ max 8192 (4 * (filled.old - start.old))) }
+    ensures full { OnErr result (length bytes.new.items ≤ 2 * (filled.new - start.new)) }
 {
     move_to_front(bytes, start, filled);
     if *filled < bytes.len() {

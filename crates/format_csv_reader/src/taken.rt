@@ -1,6 +1,6 @@
 //! Removal of the record at the start of the bytes held.
 
-ghost use Rattle.std.specs.Prelude.{◌≡◌, ◌≤◌, ◌-◌, length};
+ghost use Rattle.std.specs.Prelude.{◌≡◌, ◌≤◌, ◌<◌, ◌-◌, length, Err, OnErr};
 ghost use Rattle.format_csv_records.specs.Extents.{IsOf};
 ghost use Rattle.format_csv_records.specs.Records.{fields_of};
 ghost use Rattle.format_csv_records.specs.Refused.{ReadsRecord};
@@ -35,6 +35,7 @@ fn read_held<A: Allocator, B: Allocator>(
         buffer.new.bytes }
     ensures less { length buffer.new.bytes ≤ length buffer.old.bytes }
     ensures size { buffer.new.size ≡ buffer.old.size }
+    ensures full { OnErr result (0 < length buffer.old.bytes) }
 {
     let held = buffer.held();
     let mut rest = held;
@@ -59,6 +60,7 @@ pub(crate) fn take_record<A: Allocator, B: Allocator>(
     ensures moved { offset.new ≡ offset_after offset.old
         (length buffer.old.bytes - length buffer.new.bytes) }
     ensures size { buffer.new.size ≡ buffer.old.size }
+    ensures full { result ≡ Err ReadError.OutOfMemory → 0 < length buffer.new.bytes }
 {
     let (start, before) = (*offset, buffer.held().len());
     match read_held(dialect, buffer, fields) {

@@ -4,16 +4,18 @@ use Rattle.std.specs.Prelude.{◌-◌, Bool, true, false, MatchBool, if◌then�
 use Rattle.std.specs.Prelude.{Result, Ok, Err}
 use Rattle.std.specs.List.{All}
 use Rattle.std.specs.Borrow.{Bor}
-use Rattle.std.proofs.Common.{refl, sym, ap, inl, inr, ◌∙◌, arith, append_assoc, get_or}
+use Rattle.std.proofs.Common.{refl, sym, ap, subst, inl, inr, ◌∙◌, arith, append_assoc, get_or}
 use Rattle.std.proofs.Common.{length-append}
 use Rattle.std.proofs.lemmas.List.{append-nil, drop_more, map_more}
 use Rattle.std.proofs.lemmas.List.{take-append-drop, take-append-le, take_all}
-use Rattle.format_csv_records.specs.Dialects.{IsFieldText}
+use Rattle.format_csv_records.specs.Dialects.{IsFieldText, IsLineEnd}
 use Rattle.format_csv_records.specs.Dialects.{doubled}
 use Rattle.format_csv_records.specs.Parts.{Done, IsOther, SoMany}
 use Rattle.format_csv_records.specs.Written.{Extends, IsLast, IsLastOf, IsWritten, ReadsBack}
-use Rattle.format_csv_records.specs.Written.{Writes, Wrote, bytes_of}
+use Rattle.format_csv_records.specs.Written.{Writes, Wrote, bytes_of, written_end}
 use Rattle.format_csv_records.specs.declared.dialect.Dialect.{Dialect}
+use Rattle.format_csv_records.specs.declared.dialect.LineEnds.{LineEnds}
+use Rattle.format_csv_records.specs.declared.dialect.LineEnds.TheVariants.{CrLf, Lf, Either}
 use Rattle.format_csv_records.proofs.Alone.{doubled_behind, doubled_none, doubled_two, end_some}
 use Rattle.format_csv_records.proofs.Alone.{take_quote}
 use Rattle.format_csv_records.proofs.Whole.{done_fields, last_field}
@@ -124,29 +126,36 @@ wrote_done d [] before e = e
 wrote_done d (field ∷ fields) before (text, more, t, e, others) =
     (text, more, is_text d field text t, e, wrote_done d fields more others)
 
+ends_line : (ends : LineEnds) → IsLineEnd ends (written_end ends)
+ends_line CrLf = refl
+ends_line Lf = refl
+ends_line Either = inl refl
+
 pub reads_back : (d : Dialect) (fields : List (List ℕ)) (old new : List ℕ)
     → Writes d fields old new → ReadsBack d fields old new
-reads_back d fields old new it = (
-  it.before ++ (it.text ++ it.end),
-  it.behind,
-  λ rest.
-      let tidy : (it.before ++ (it.text ++ it.end)) ++ rest
-      ≡ it.before ++ (it.text ++ (it.end ++ rest)) = simp append_assoc in (
-        omega (
-          arith,
-          length-append (it.before ++ (it.text ++ it.end)) rest,
-          length-append it.before (it.text ++ it.end),
-          length-append it.text it.end,
-          end_some d.ends it.end it.is_end,
-        ),
-        rw (it.all, tidy) (done_fields d it.others it.before
-            (it.text ++ (it.end ++ rest)) (it.last ∷ []) rest
-            (wrote_done d it.others it.before it.wrote)
-            (last_field d it.last it.text (it.end ++ rest) rest
-            (last_is_text d it.others it.last it.text it.is_last)
-            (inl (it.end, it.is_end, refl)))),
-      ),
-)
+reads_back d fields old new it =
+    let P : List ℕ → Type 0 = λ l. IsLineEnd d.ends l in
+    let ended : IsLineEnd d.ends it.end = subst P (sym it.is_end) (ends_line d.ends) in (
+      it.before ++ (it.text ++ it.end),
+      it.behind,
+      λ rest.
+          let tidy : (it.before ++ (it.text ++ it.end)) ++ rest
+          ≡ it.before ++ (it.text ++ (it.end ++ rest)) = simp append_assoc in (
+            omega (
+              arith,
+              length-append (it.before ++ (it.text ++ it.end)) rest,
+              length-append it.before (it.text ++ it.end),
+              length-append it.text it.end,
+              end_some d.ends it.end ended,
+            ),
+            rw (it.all, tidy) (done_fields d it.others it.before
+                (it.text ++ (it.end ++ rest)) (it.last ∷ []) rest
+                (wrote_done d it.others it.before it.wrote)
+                (last_field d it.last it.text (it.end ++ rest) rest
+                (last_is_text d it.others it.last it.text it.is_last)
+                (inl (it.end, ended, refl)))),
+          ),
+    )
 
 -- the text of the last field, with a test for whether it is the only one
 pub last_by : (d : Dialect) (others : List (Bor (List ℕ))) (alone : Bool) (last text : List ℕ)

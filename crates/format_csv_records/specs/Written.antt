@@ -3,10 +3,18 @@ use Rattle.std.specs.Prelude.{◌≡◌, ◌⊎◌, ℕ, List, [], ◌∷◌, �
 use Rattle.std.specs.Prelude.{Result, Ok, Err}
 use Rattle.std.specs.Borrow.{Bor}
 use Rattle.std.specs.List.{All}
-use Rattle.format_csv_records.specs.Dialects.{IsLineEnd, IsPlain, IsRecord, doubled}
+use Rattle.format_csv_records.specs.Dialects.{IsPlain, IsRecord, doubled}
 use Rattle.format_csv_records.specs.declared.dialect.Dialect.{Dialect}
+use Rattle.format_csv_records.specs.declared.dialect.LineEnds.{LineEnds}
+use Rattle.format_csv_records.specs.declared.dialect.LineEnds.TheVariants.{CrLf, Lf, Either}
 use Rattle.format_csv_records.specs.declared.write.WriteError.{WriteError}
 use Rattle.format_csv_records.specs.declared.write.WriteError.TheVariants.{NoFields, OutOfMemory}
+
+-- The line ending that is written: a carriage return and a line feed where either is accepted.
+abbrev pub written_end : LineEnds → List ℕ
+written_end CrLf = 13 ∷ 10 ∷ []
+written_end Lf = 10 ∷ []
+written_end Either = 13 ∷ 10 ∷ []
 
 -- The text that is written for a field: unchanged if all its bytes are plain, in quotes otherwise.
 abbrev pub IsWritten : Dialect → List ℕ → List ℕ → Type 0
@@ -25,7 +33,7 @@ IsLast d others last text =
     ((others ≡ []) × (last ≡ []) × (text ≡ d.quote ∷ d.quote ∷ []))
     ⊎ (((others ≡ []) × (last ≡ []) → ⊥) × IsWritten d last text)
 
--- A record is appended to the old bytes: its fields separated by delimiters, and a line ending.
+-- A record is appended to the old bytes: its fields separated by delimiters, and the line ending.
 pub record Writes (d : Dialect) (fields : List (List ℕ)) (old new : List ℕ) : Type 0 where
   pub others : List (List ℕ)
   pub last : List ℕ
@@ -35,7 +43,7 @@ pub record Writes (d : Dialect) (fields : List (List ℕ)) (old new : List ℕ) 
   pub all : fields ≡ others ++ last ∷ []
   pub wrote : Wrote d others before
   pub is_last : IsLast d others last text
-  pub is_end : IsLineEnd d.ends end
+  pub is_end : end ≡ written_end d.ends
   pub behind : new ≡ old ++ (before ++ (text ++ end))
 
 -- `Extends old new`: `new` is `old`, followed by more bytes or none.

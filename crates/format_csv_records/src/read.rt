@@ -5,7 +5,7 @@
 
 ghost use Rattle.std.specs.Prelude.{◌≡◌, ◌+◌, ◌<◌, ◌++◌, ◌∷◌, [], drop, length, IfOk};
 ghost use Rattle.std.specs.Prelude.{◌≤◌};
-ghost use Rattle.std.specs.Prelude.{◌^◌, MatchBool, MatchOption, MatchResult};
+ghost use Rattle.std.specs.Prelude.{◌^◌, MatchBool, MatchOption, MatchResult, OnErr};
 ghost use Rattle.std.specs.Prelude.{List, ℕ, IsTrue, ◌↔◌, take};
 ghost use Rattle.std.specs.List.{All};
 ghost use Rattle.format_csv_records.specs.Dialects.{AreFields, EndsHere, IsLineEnd, IsPlain};
@@ -359,7 +359,7 @@ pub fn read_fields<'i, S: FieldSink>(
 ///
 /// - `Invalid`: the bytes do not start with a record. It holds the offset at which no record can
 ///   continue, and the reason.
-/// - `OutOfMemory`: memory allocation failed.
+/// - `OutOfMemory`: memory allocation failed. If there are no bytes, nothing is allocated.
 ///
 /// ```
 /// use format_csv_records::dialect::Dialect;
@@ -379,7 +379,8 @@ pub fn read_record_into<A: Allocator>(
     fields: &mut ByteRecord<A>,
     input: &mut &[u8],
 ) -> Result<bool, RecordError>
-    ensures { ReadsRecord dialect input.old.now result (fields_of fields.new) input.new.now }
+    ensures reads { ReadsRecord dialect input.old.now result (fields_of fields.new) input.new.now }
+    ensures full { OnErr result (0 < length input.old.now) }
 {
     fields.clear();
     if input.is_empty() {

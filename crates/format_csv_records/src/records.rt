@@ -3,7 +3,7 @@
 //! One record is held at a time, so the memory needed is that of the longest record: 10 megabytes
 //! of line feeds need that of one empty record.
 
-ghost use Rattle.std.specs.Prelude.{◌≡◌, ◌∷◌, length, ◌-◌, MatchOption, option_map};
+ghost use Rattle.std.specs.Prelude.{◌≡◌, ◌∷◌, ◌<◌, length, ◌-◌, MatchOption, OnErr, option_map};
 ghost use Rattle.format_csv_records.specs.Named.{FieldNamed, FirstNamed};
 ghost use Rattle.format_csv_records.specs.Parts.{NoMark};
 ghost use Rattle.format_csv_records.specs.Records.{fields_of};
@@ -64,6 +64,7 @@ impl<'i> Records<'i> {
             (fields_of fields.new) self.new.rest.now }
         ensures same { (self.new.dialect ≡ self.old.dialect)
             × (self.new.bytes.now ≡ self.old.bytes.now) }
+        ensures full { OnErr result (0 < length self.old.rest.now) }
     {
         read_record_into(self.dialect, fields, &mut self.rest)
     }

@@ -1,9 +1,9 @@
 //! Appending records in any dialect, with quotes only for fields that need them.
 
 ghost use Rattle.std.specs.Prelude.{◌≡◌, ◌++◌, ◌∷◌, [], List, ℕ, MatchBool, OnOk};
-ghost use Rattle.format_csv_records.specs.Dialects.{IsLineEnd, doubled};
+ghost use Rattle.format_csv_records.specs.Dialects.{doubled};
 ghost use Rattle.format_csv_records.specs.Written.{Extends, IsLastOf, IsWritten, Writes};
-ghost use Rattle.format_csv_records.specs.Written.{WritesRecord, Wrote, bytes_of};
+ghost use Rattle.format_csv_records.specs.Written.{WritesRecord, Wrote, bytes_of, written_end};
 ghost use Rattle.format_csv_records.specs.declared.write.WriteError.TheVariants.{NoFields};
 ghost use Rattle.format_csv_records.specs.declared.write.WriteError.TheVariants.{OutOfMemory};
 
@@ -21,7 +21,7 @@ pub enum WriteError {
 }
 
 fn line_end(ends: LineEnds) -> &'static [u8]
-    ensures { IsLineEnd ends result.now }
+    ensures { result.now ≡ written_end ends }
 {
     match ends {
         LineEnds::CrLf | LineEnds::Either => b"\r\n".as_slice(),

@@ -28,8 +28,8 @@ use crate::framing::{pass_line, place_after, taken_of};
 use crate::places::{Framing, InField, Place};
 use crate::state::{ChunkedState, numbers_of, place_of};
 
-/// The limits on bytes that a sender could repeat forever: zeros before a size, extensions, fields.
-/// Data have no limit here except that of a chunk, 2<sup>64</sup> - 1 bytes.
+/// The limits on bytes that a sender could repeat forever in a chunk: zeros, extensions, fields.
+/// All extensions together have no limit, and data only that of a chunk, 2<sup>64</sup> - 1 bytes.
 ///
 /// ```
 /// use format_http_chunked::decoder::{Decoder, ChunkError, Limits};

@@ -1,12 +1,13 @@
 -- A line says one thing, and a text one document.
-use Rattle.std.specs.Prelude.{◌≡◌, ◌⊎◌, ℕ, List, [], ◌∷◌, ◌++◌, length, Bool, true, false}
+use Rattle.std.specs.Prelude.{◌≡◌, ℕ, List, [], ◌∷◌, ◌++◌, length, Bool, true, false}
 use Rattle.std.specs.Prelude.{None, Option, Some}
 use Rattle.std.specs.List.{All}
 use Rattle.std.proofs.Common.{refl, sym, ap, subst, inl, inr, ◌∙◌, arith}
-use Rattle.std.proofs.lemmas.List.Elements.{All-head, All-tail}
+use Rattle.std.proofs.lemmas.List.Elements.{All-head}
 use Rattle.format_ini.specs.Documents.{AreLines, BehindMark, IsDocument, IsRefused, LinesSay}
 use Rattle.format_ini.specs.Documents.{start}
-use Rattle.format_ini.specs.Front.{FirstLine, IsKept, NotFirst, StartsWith, indent_of, trimmed}
+use Rattle.format_ini.specs.Front.{FirstLine, IsKept, StartsWith, indent_of}
+use Rattle.format_ini.specs.Front.{trimmed}
 use Rattle.format_ini.specs.Lines.{ContinuesPair, IdleSays, IsEmpty, IsIdle, IsPair, IsSection}
 use Rattle.format_ini.specs.Lines.{Lacks}
 use Rattle.format_ini.specs.Lines.{LacksOwn, NoPair, NoSection, OwnSays, Said, Step, StepOf}
@@ -20,47 +21,9 @@ use Rattle.format_ini.specs.declared.documents.InvalidLine.{InvalidLine}
 use Rattle.format_ini.specs.declared.lines.Reason.{Reason}
 use Rattle.format_ini.specs.declared.lines.Reason.TheVariants as why
 use Rattle.format_ini.specs.declared.lines.State.{State}
+use Rattle.format_ini.proofs.Heads.{both_first, either_first, head_one, no_head, no_stop}
+use Rattle.format_ini.proofs.Heads.{parts_one, unlike}
 use Rattle.format_ini.proofs.Runs.{line_less}
-
--- ---- where a list is cut
-
--- at the first of these it is cut in one way
-pub parts_one : (P : ℕ → Type 0) (a b : List ℕ) (m n : ℕ) (r s : List ℕ)
-    → All (λ x. P x → ⊥) a → All (λ x. P x → ⊥) b → P m → P n
-    → a ++ (m ∷ r) ≡ b ++ (n ∷ s) → (a ≡ b) × (m ≡ n) × (r ≡ s)
-parts_one P [] [] m n r s p q is too e = (refl, cc, cc)
-parts_one P [] (y ∷ ys) m n r s p q is too e =
-    let h : m ≡ y = cc in absurd (All-head (λ x. P x → ⊥) y ys q (subst P h is))
-parts_one P (x ∷ xs) [] m n r s p q is too e =
-    let h : n ≡ x = cc in absurd (All-head (λ x. P x → ⊥) x xs p (subst P h too))
-parts_one P (x ∷ xs) (y ∷ ys) m n r s p q is too e =
-    let it = parts_one P xs ys m n r s (All-tail (λ x. P x → ⊥) x xs p)
-    (All-tail (λ x. P x → ⊥) y ys q) is too cc in
-    let h : x ≡ y = cc in
-    (ap (λ b. b ∷ xs) h ∙ ap (λ l. y ∷ l) it.0, it.1, it.2)
-
--- what has none of these is cut at none
-pub no_stop : (P : ℕ → Type 0) (a b : List ℕ) (m : ℕ) (r : List ℕ) → All (λ x. P x → ⊥) a → P m
-    → a ≡ b ++ (m ∷ r) → ⊥
-no_stop P [] [] m r p is e = cc
-no_stop P [] (y ∷ ys) m r p is e = cc
-no_stop P (x ∷ xs) [] m r p is e =
-    let h : m ≡ x = cc in All-head (λ x. P x → ⊥) x xs p (subst P h is)
-no_stop P (x ∷ xs) (y ∷ ys) m r p is e =
-    no_stop P xs ys m r (All-tail (λ x. P x → ⊥) x xs p) is cc
-
-either_first : (a b : List ℕ) (m n : ℕ) (r s : List ℕ) → a ++ (m ∷ r) ≡ b ++ (n ∷ s)
-    → (a ≡ b) ⊎ (((c : List ℕ) × (a ≡ b ++ (n ∷ c))) ⊎ ((c : List ℕ) × (b ≡ a ++ (m ∷ c))))
-either_first [] [] m n r s e = inl refl
-either_first [] (y ∷ ys) m n r s e = inr (inr (ys, cc))
-either_first (x ∷ xs) [] m n r s e = inr (inl (xs, cc))
-either_first (x ∷ xs) (y ∷ ys) m n r s e =
-    let h : x ≡ y = cc in
-    elim (either_first xs ys m n r s cc) [
-      | inl it ↦ inl (ap (λ b. b ∷ xs) h ∙ ap (λ l. y ∷ l) it)
-      | inr (inl it) ↦ inr (inl (it.0, ap (λ b. b ∷ xs) h ∙ ap (λ l. y ∷ l) it.1))
-      | inr (inr it) ↦ inr (inr (it.0, ap (λ b. b ∷ ys) (sym h) ∙ ap (λ l. x ∷ l) it.1))
-    ]
 
 -- ---- one line
 
@@ -91,12 +54,6 @@ kept_one marks line kept other (none, inr (m, r, e, is, opens))
       | inr (inr it) ↦ absurd (never kept m it.0 it.1 is opens)
     ]
 
-section_one : (text name other : List ℕ) → IsSection text name → IsSection text other
-    → name ≡ other
-section_one text name other (e, all, some) (f, too, more) =
-    let h : name ++ 93 ∷ [] ≡ other ++ 93 ∷ [] = cc in
-    (parts_one (λ b. b ≡ 93) name other 93 93 [] [] all too refl refl h).0
-
 pair_one : (d : Dialect) (text key other : List ℕ) (value less : Option (List ℕ))
     → IsPair d text key value → IsPair d text other less → (key ≡ other) × (value ≡ less)
 pair_one d text key other value less (inl (a, m, r, e, is, all, some, k, v))
@@ -112,36 +69,24 @@ pair_one d text key other value less (inr (none, may, k, v))
 pair_one d text key other value less (inr (none, may, k, v)) (inr (none', may', k', v')) =
     (k ∙ sym k', v ∙ sym v')
 
--- what begins so does not begin otherwise
-both_first : (P : ℕ → Type 0) (text : List ℕ) → StartsWith P text → NotFirst P text → ⊥
-both_first P [] is not = is
-both_first P (b ∷ bs) is not = not is
-
-section_first : (text name : List ℕ) → IsSection text name → StartsWith (λ b. b ≡ 91) text
-section_first text name (e, all, some) =
-    let P : List ℕ → Type 0 = λ l. StartsWith (λ b. b ≡ 91) l in subst P (sym e) refl
-
 own_one : (d : Dialect) (s : State) (depth : ℕ) (text : List ℕ) (said other : List Said)
     (next left : State) → OwnSays d s depth text said next → OwnSays d s depth text other left
     → (said ≡ other) × (next ≡ left)
 own_one d s depth text said other next left (inl (name, is, e, n)) (inl (same, too, f, m)) =
-    let h = section_one text name same is too in
+    let h = head_one d text name same is too in
     (e ∙ ap (λ l. section l ∷ []) h ∙ sym f, n ∙ sym m)
 own_one d s depth text said other next left (inl (name, is, e, n))
     (inr (k, v, not, may, too, f, m)) =
-    absurd (both_first (λ b. b ≡ 91) text (section_first text name is) not)
+    absurd (no_head d text name is not)
 own_one d s depth text said other next left (inr (k, v, not, may, too, f, m))
     (inl (name, is, e, n)) =
-    absurd (both_first (λ b. b ≡ 91) text (section_first text name is) not)
+    absurd (no_head d text name is not)
 own_one d s depth text said other next left (inr (k, v, not, may, is, e, n))
     (inr (k', v', not', may', too, f, m)) =
     let (hk, hv) = pair_one d text k k' v v' is too in (
       e ∙ ap (λ l. pair l v ∷ []) hk ∙ ap (λ l. pair k' l ∷ []) hv ∙ sym f,
       n ∙ ap (λ l. record { section = s.section; pair = pair_at d.continued depth l }) hv ∙ sym m,
     )
-
-unlike : {b : Bool} → b ≡ false → b ≡ true → ⊥
-unlike {b} e f = cc
 
 idle_one : (c : Continued) (s : State) (empty : Bool) (said other : List Said) (next left : State)
     → IdleSays c s empty said next → IdleSays c s empty other left
@@ -251,15 +196,19 @@ no_pair d text key value why.NoDelimiter (all, never) (inr (too, may, k, v)) = u
 
 none_own : (d : Dialect) (s : State) (depth : ℕ) (text : List ℕ) (said : List Said) (next : State)
     (reason : Reason) → LacksOwn d s text reason → OwnSays d s depth text said next → ⊥
-none_own d s depth text said next reason (inl (first, lacks))
-    (inl (name, is, e, n)) =
+none_own d s depth text said next reason (inl (first, so, lacks))
+    (inl (name, inl (so', is), e, n)) =
     no_section text name reason lacks is
-none_own d s depth text said next reason (inl (first, lacks))
-    (inr (k, v, not, may, is, e, n)) =
+none_own d s depth text said next reason (inl (first, so, lacks))
+    (inl (name, inr (so', is), e, n)) = unlike so so'
+none_own d s depth text said next reason (inl (first, so, lacks))
+    (inr (k, v, inl not, may, is, e, n)) =
     both_first (λ b. b ≡ 91) text first not
+none_own d s depth text said next reason (inl (first, so, lacks))
+    (inr (k, v, inr (so', not), may, is, e, n)) = unlike so so'
 none_own d s depth text said next reason (inr (not, lacks))
     (inl (name, is, e, n)) =
-    both_first (λ b. b ≡ 91) text (section_first text name is) not
+    no_head d text name is not
 none_own d s depth text said next reason (inr (not, inl (same, never)))
     (inr (k, v, first, may, is, e, n)) = never may
 none_own d s depth text said next reason (inr (not, inr (may, lacks)))

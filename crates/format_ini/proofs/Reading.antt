@@ -2,8 +2,9 @@
 use Rattle.std.specs.Prelude.{◌≡◌, ◌≤◌, ◌+◌, ℕ, List, [], ◌∷◌, ◌++◌, length}
 use Rattle.std.specs.Prelude.{Err, None, Ok, Option, Some}
 use Rattle.std.proofs.Common.{refl, sym, ap, subst, inl, inr, ◌∙◌, arith, append_assoc}
-use Rattle.std.proofs.lemmas.List.{append-nil}
-use Rattle.format_ini.specs.Documents.{AreLines, BehindMark, IsDocument, IsRefused, LinesSay}
+use Rattle.std.proofs.lemmas.List.{append-nil, length-append}
+use Rattle.format_ini.specs.Documents.{AreLines, BehindMark, HasEntry, IsDocument, IsRefused}
+use Rattle.format_ini.specs.Documents.{LinesSay}
 use Rattle.format_ini.specs.Documents.{NextEntry, ReadsLines, start}
 use Rattle.format_ini.specs.Front.{FirstLine}
 use Rattle.format_ini.specs.Lines.{Lacks, Said, Step, said_in, said_of}
@@ -129,6 +130,20 @@ module _ (d d' : Dialect) (same : d' ≡ d) (text : List ℕ) (said : List Said)
         it.1,
         reads_more d start s next it.0 here rest said (said_in entry ∷ []) it.2
             (subst P same on),
+      )
+
+  -- where there is an entry, there is one in the text
+  pub so_far_some : (entry : Entry) (next : State) (rest : List ℕ)
+      → NextEntry d' s here (Ok (Some entry)) next rest → HasEntry d text
+  so_far_some entry next rest more =
+      let (lines, mark, reads) = so_far_more entry next rest more in (
+        lines,
+        said ++ said_in entry ∷ [],
+        next,
+        rest,
+        mark,
+        reads,
+        omega (arith, length-append said (said_in entry ∷ [])),
       )
 
   pub so_far_all : (next : State) (rest : List ℕ) → NextEntry d' s here (Ok None) next rest

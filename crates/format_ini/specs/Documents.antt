@@ -46,6 +46,11 @@ abbrev pub IsDocument : Dialect → List ℕ → List Said → Type 0
 IsDocument d text said = (lines : List ℕ) × (next : State) × BehindMark text lines
     × ReadsLines d start lines said next []
 
+-- The text starts with lines of this dialect that have an entry.
+abbrev pub HasEntry : Dialect → List ℕ → Type 0
+HasEntry d text = (lines : List ℕ) × (said : List Said) × (next : State) × (rest : List ℕ)
+    × BehindMark text lines × ReadsLines d start lines said next rest × (0 < length said)
+
 -- `StopsBy d s text said next rest why`: `text` starts with lines that mean `said`, followed by
 -- `rest`, which starts with a line that is invalid in this dialect.
 abbrev pub StopsBy : Dialect → State → List ℕ → List Said → State → List ℕ → Reason → Type 0

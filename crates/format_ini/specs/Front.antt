@@ -45,6 +45,11 @@ abbrev pub CutAt : Stop → List ℕ → List ℕ → List ℕ → Type 0
 CutAt stop text before behind = (mark : ℕ) × (text ≡ before ++ (mark ∷ behind))
     × IsStop stop mark × All (λ b. IsStop stop b → ⊥) before
 
+-- `CutAtLast text before behind`: `text` is `before`, its last `]`, and `behind`.
+abbrev pub CutAtLast : List ℕ → List ℕ → List ℕ → Type 0
+CutAtLast text before behind =
+    (text ≡ before ++ (93 ∷ behind)) × All (λ b. b ≡ 93 → ⊥) behind
+
 -- `FirstLine text line rest`: `text` starts with `line`, followed by `rest`. A line feed ends the
 -- line, or the end of `text`.
 abbrev pub FirstLine : List ℕ → List ℕ → List ℕ → Type 0

@@ -1,7 +1,7 @@
 -- The meaning of a line, by its text: the line without an inline comment, and without the blanks at
 -- both ends.
 use Rattle.std.specs.Prelude.{◌≡◌, ◌⊎◌, ◌<◌, ℕ, List, [], ◌∷◌, ◌++◌, length, Bool, true, false}
-use Rattle.std.specs.Prelude.{None, Option, Some, nat_lt, option_map}
+use Rattle.std.specs.Prelude.{None, Option, Some, drop, nat_lt, option_map}
 use Rattle.std.specs.Borrow.{Bor}
 use Rattle.std.specs.List.{All}
 use Rattle.format_ini.specs.Front.{IsKept, IsOther, NotFirst, StartsWith, indent_of, trimmed}
@@ -39,6 +39,26 @@ said_of (Some entry) = said_in entry ∷ []
 abbrev pub IsSection : List ℕ → List ℕ → Type 0
 IsSection text name = (text ≡ 91 ∷ (name ++ 93 ∷ [])) × All (IsOther 93) name × (0 < length name)
 
+-- The text is the name of a section in brackets, which ends at the last `]`, of one byte or more.
+-- The text after the `]` is ignored.
+abbrev pub IsLooseSection : List ℕ → List ℕ → Type 0
+IsLooseSection text name = (behind : List ℕ) × (text ≡ 91 ∷ (name ++ 93 ∷ behind))
+    × All (IsOther 93) behind × (0 < length name)
+
+-- `IsHead d text name`: `text` begins a section of this name.
+abbrev pub IsHead : Dialect → List ℕ → List ℕ → Type 0
+IsHead d text name = ((d.loose_sections ≡ false) × IsSection text name)
+    ⊎ ((d.loose_sections ≡ true) × IsLooseSection text name)
+
+-- A text that starts with `[` has no `]` after a name of one byte or more.
+abbrev pub NoLoose : List ℕ → Type 0
+NoLoose text = StartsWith (λ b. b ≡ 91) text × All (IsOther 93) (drop 2 text)
+
+-- `NoHead d text`: `text` is not meant as the head of a section. It does not start with `[`, or the
+-- dialect has loose sections, and `text` is not one.
+abbrev pub NoHead : Dialect → List ℕ → Type 0
+NoHead d text = NotFirst (λ b. b ≡ 91) text ⊎ ((d.loose_sections ≡ true) × NoLoose text)
+
 -- `IsPair d text key value`: `text` is a pair. The key is the text before its first delimiter,
 -- without trailing blanks, and the value is the text after it, without blanks at both ends. Without
 -- a delimiter the key is all of `text`, if the dialect allows keys without values. A text does not
@@ -51,7 +71,7 @@ IsPair d text key value =
     ⊎ (All (λ b. IsDelimiter d.delimiters b → ⊥) text × (d.valueless ≡ true) × (key ≡ text)
     × (value ≡ None))
 
--- The reason why a text that begins with `[` is not a section.
+-- The reason why a text that begins with `[` is not a section, where sections are not loose.
 abbrev pub NoSection : List ℕ → Reason → Type 0
 NoSection text why.OpenSection = (inside : List ℕ) × (text ≡ 91 ∷ inside) × All (IsOther 93) inside
 NoSection text why.EmptySection = (behind : List ℕ) × (text ≡ 91 ∷ 93 ∷ behind)
@@ -83,21 +103,20 @@ pair_at PastEmpty indent (Some v) = Some indent
 abbrev pub MayPair : Dialect → State → Type 0
 MayPair d s = (s.section ≡ true) ⊎ (d.before_sections ≡ true)
 
--- The meaning of a line of its own, and the state after it: `[` begins a section, anything else a
--- pair.
+-- The meaning of a line of its own, and the state after it: a section, or else a pair.
 abbrev pub OwnSays : Dialect → State → ℕ → List ℕ → List Said → State → Type 0
 OwnSays d s indent text said next =
-    ((name : List ℕ) × IsSection text name × (said ≡ section name ∷ [])
+    ((name : List ℕ) × IsHead d text name × (said ≡ section name ∷ [])
     × (next ≡ record { section = true; pair = None }))
-    ⊎ ((key : List ℕ) × (value : Option (List ℕ)) × NotFirst (λ b. b ≡ 91) text × MayPair d s
+    ⊎ ((key : List ℕ) × (value : Option (List ℕ)) × NoHead d text × MayPair d s
     × IsPair d text key value × (said ≡ pair key value ∷ [])
     × (next ≡ record { section = s.section; pair = pair_at d.continued indent value }))
 
 -- Why it is none.
 abbrev pub LacksOwn : Dialect → State → List ℕ → Reason → Type 0
 LacksOwn d s text reason =
-    (StartsWith (λ b. b ≡ 91) text × NoSection text reason)
-    ⊎ (NotFirst (λ b. b ≡ 91) text × (((reason ≡ why.NoSection) × (MayPair d s → ⊥))
+    (StartsWith (λ b. b ≡ 91) text × (d.loose_sections ≡ false) × NoSection text reason)
+    ⊎ (NoHead d text × (((reason ≡ why.NoSection) × (MayPair d s → ⊥))
     ⊎ (MayPair d s × NoPair d text reason)))
 
 -- The meaning of a line that is empty or a comment, and the state after it. Only an empty line

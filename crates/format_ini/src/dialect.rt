@@ -64,11 +64,15 @@ pub struct Dialect {
     pub valueless: bool,
     /// Whether pairs may precede the first section; otherwise they are an error.
     pub before_sections: bool,
+    /// Whether the name of a section ends at the last `]` of its line, and text after that is
+    /// ignored. Then a line that starts with `[` and has no such name is a pair. Otherwise the name
+    /// ends at the first `]`, and such lines are errors.
+    pub loose_sections: bool,
 }
 
 impl Dialect {
     /// The default dialect of Python's `configparser`: `=` and `:`, `#` and `;` at the start of
-    /// lines, continued lines with empty lines within.
+    /// lines, continued lines with empty lines within, loose sections.
     ///
     /// ```
     /// use format_ini::dialect::{Dialect, Marks};
@@ -79,7 +83,8 @@ impl Dialect {
         ensures { (result.delimiters ≡ Delimiters.Either) × (result.comments ≡ Marks.Either)
             × (result.inline_comments ≡ Marks.Neither)
             × (result.continued ≡ Continued.PastEmpty)
-            × (result.valueless ≡ false) × (result.before_sections ≡ false) }
+            × (result.valueless ≡ false) × (result.before_sections ≡ false)
+            × (result.loose_sections ≡ true) }
     {
         Dialect {
             delimiters: Delimiters::Either,
@@ -88,6 +93,7 @@ impl Dialect {
             continued: Continued::PastEmpty,
             valueless: false,
             before_sections: false,
+            loose_sections: true,
         }
     }
 
@@ -102,7 +108,8 @@ impl Dialect {
     pub fn desktop() -> Dialect
         ensures { (result.delimiters ≡ Delimiters.Equals) × (result.comments ≡ Marks.NumberSign)
             × (result.inline_comments ≡ Marks.Neither) × (result.continued ≡ Continued.Never)
-            × (result.valueless ≡ false) × (result.before_sections ≡ false) }
+            × (result.valueless ≡ false) × (result.before_sections ≡ false)
+            × (result.loose_sections ≡ false) }
     {
         Dialect {
             delimiters: Delimiters::Equals,
@@ -111,11 +118,12 @@ impl Dialect {
             continued: Continued::Never,
             valueless: false,
             before_sections: false,
+            loose_sections: false,
         }
     }
 
     /// The dialect that reads most: `=` and `:`, comments after whitespace too, keys without
-    /// values, pairs before the first section, a line for each pair.
+    /// values, pairs before the first section, loose sections, a line for each pair.
     ///
     /// ```
     /// use format_ini::dialect::Dialect;
@@ -125,7 +133,8 @@ impl Dialect {
     pub fn lenient() -> Dialect
         ensures { (result.delimiters ≡ Delimiters.Either) × (result.comments ≡ Marks.Either)
             × (result.inline_comments ≡ Marks.Either) × (result.continued ≡ Continued.Never)
-            × (result.valueless ≡ true) × (result.before_sections ≡ true) }
+            × (result.valueless ≡ true) × (result.before_sections ≡ true)
+            × (result.loose_sections ≡ true) }
     {
         Dialect {
             delimiters: Delimiters::Either,
@@ -134,6 +143,7 @@ impl Dialect {
             continued: Continued::Never,
             valueless: true,
             before_sections: true,
+            loose_sections: true,
         }
     }
 }

@@ -1,8 +1,8 @@
 //! Documents, entry by entry and as lists.
 
-ghost use Rattle.std.specs.Prelude.{◌≡◌, ◌+◌, ◌≤◌, length, map, MatchResult};
-ghost use Rattle.format_ini.specs.Documents.{BehindMark, IsDocument, IsNoDocument, NextEntry};
-ghost use Rattle.format_ini.specs.Documents.{start};
+ghost use Rattle.std.specs.Prelude.{◌≡◌, ◌+◌, ◌≤◌, length, map, Err, MatchResult};
+ghost use Rattle.format_ini.specs.Documents.{BehindMark, HasEntry, IsDocument, IsNoDocument};
+ghost use Rattle.format_ini.specs.Documents.{NextEntry, start};
 ghost use Rattle.format_ini.specs.Lines.{said_in};
 
 use crate::dialect::Dialect;
@@ -112,7 +112,8 @@ fn fault_at(text: &str, rest: &str, why: Reason) -> InvalidLine
 /// lines of the dialect. A byte order mark at the start is skipped.
 ///
 /// `Invalid` holds the offset in bytes of the first line that is invalid in the dialect, and the
-/// reason. `OutOfMemory` means that the list could not grow.
+/// reason. `OutOfMemory` means that the list could not grow: a text without an entry, as one of
+/// comments only, needs no memory.
 ///
 /// ```
 /// use format_ini::dialect::Dialect;
@@ -134,9 +135,10 @@ pub fn read_document<'i, A: Allocator>(
     dialect: Dialect,
     text: &'i str,
 ) -> Result<Vec<Entry<'i>, A>, IniError>
-    ensures { MatchResult result
+    ensures document { MatchResult result
         (λ entries. IsDocument dialect text.now (map said_in entries.items))
         (λ error. IsNoDocument dialect text.now error) }
+    ensures full { result ≡ Err IniError.OutOfMemory → HasEntry dialect text.now }
 {
     let mut entries = Vec::new(alloc);
     let mut left = Entries::new(dialect, text);

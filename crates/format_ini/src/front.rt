@@ -3,7 +3,8 @@
 ghost use Rattle.std.specs.Prelude.{◌≡◌, ◌<◌, ◌+◌, ◌∷◌, [], true, length, take, drop, slice_index};
 ghost use Rattle.std.specs.Prelude.{MatchBool, MatchOption};
 ghost use Rattle.std.specs.List.{All};
-ghost use Rattle.format_ini.specs.Front.{CutAt, FirstLine, IsKept, IsStop, KeepsSoMany, StartsWith};
+ghost use Rattle.format_ini.specs.Front.{CutAt, CutAtLast, FirstLine, IsKept, IsStop};
+ghost use Rattle.format_ini.specs.Front.{KeepsSoMany, StartsWith};
 ghost use Rattle.format_ini.specs.Front.{NotFirst, StopsAt, indent_of, trimmed};
 ghost use Rattle.format_ini.specs.Marks.{IsMark};
 
@@ -69,6 +70,33 @@ pub(crate) fn cut(stop: Stop, text: &str) -> Option<(&str, &str)>
         Some(around(text, size))
     } else {
         None
+    }
+}
+
+// Returns the offset of the last `]`.
+fn last_bracket(bytes: &[u8]) -> Option<usize>
+    ensures { MatchOption result (All (λ b. b ≡ 93 → ⊥) bytes.now)
+        (λ n. (n < length bytes.now) × (slice_index bytes.now n ≡ 93)
+        × All (λ b. b ≡ 93 → ⊥) (drop (n + 1) bytes.now)) }
+{
+    let mut left = bytes.len();
+    while left > 0 {
+        left -= 1;
+        if bytes[left] == b']' {
+            return Some(left);
+        }
+    }
+    None
+}
+
+// Splits `text` at its last `]`. Returns `None` if there is none.
+pub(crate) fn cut_last(text: &str) -> Option<(&str, &str)>
+    ensures { MatchOption result (All (λ b. b ≡ 93 → ⊥) text.now)
+        (λ it. CutAtLast text.now it.0.now it.1.now) }
+{
+    match last_bracket(text.as_bytes()) {
+        Some(place) => Some(around(text, place)),
+        None => None,
     }
 }
 

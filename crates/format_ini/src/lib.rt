@@ -5,9 +5,11 @@
 //! form feed, carriage return, space; so a carriage return before a line feed is skipped.
 //!
 //! - A line that is empty, or that begins with a comment mark, has no meaning.
-//! - `[name]` begins a section. The name has one or more characters other than `]`.
-//! - Any other line is a pair. The key ends at the first delimiter, and does not begin with `[`;
-//!   the value extends to the end of the line. Neither has whitespace at its ends. Quotes are kept.
+//! - `[name]` begins a section. The name has one or more characters other than `]`. In a dialect
+//!   with loose sections the name ends at the last `]`, and text after that is ignored.
+//! - Any other line is a pair. The key ends at the first delimiter, and the value extends to the
+//!   end of the line. Neither has whitespace at its ends. Quotes are kept. Only with loose sections
+//!   can a key begin with `[`.
 //!
 //! Keys and sections may occur twice; the caller decides what that means. With
 //! [`python`](dialect::Dialect::python), texts have the same meaning as in Python's `configparser`
@@ -15,8 +17,6 @@
 //!
 //! | Text | Here | In Python |
 //! |---|---|---|
-//! | `[a] b`, `[a]b]` | rejected | the sections `a` and `a]b` |
-//! | `[a = b`, `[] = c` | rejected | pairs, after a section |
 //! | whitespace of Python only: 11, 28 to 31, past ASCII | characters | whitespace |
 //! | a line that continues a key without a value | a line of its own | an exception |
 //! | two marks of inline comments in a line | the first counts | at times a later one |

@@ -1,16 +1,17 @@
 //! The meaning of one line.
 
 ghost use Rattle.std.specs.Prelude.{◌≡◌, ◌⊎◌, ◌≤◌, ◌<◌, ◌+◌, ◌^◌, [], List, ℕ};
-ghost use Rattle.std.specs.Prelude.{IfOk, MatchResult, length};
+ghost use Rattle.std.specs.Prelude.{IfOk, MatchOption, MatchResult, false, length};
 ghost use Rattle.format_ini.specs.Front.{StartsWith};
-ghost use Rattle.format_ini.specs.Lines.{IdleSays, IsPair, IsSection, Lacks, LacksOwn, NoPair};
+ghost use Rattle.format_ini.specs.Lines.{IdleSays, IsHead, IsLooseSection, IsPair, IsSection};
+ghost use Rattle.format_ini.specs.Lines.{Lacks, LacksOwn, NoHead, NoLoose, NoPair};
 ghost use Rattle.format_ini.specs.Lines.{NoSection, OwnSays, Step, is_deeper, pair_at, said_of};
 ghost use Rattle.format_ini.specs.Lines.{value_of};
 ghost use Rattle.format_ini.specs.Places.{BehindBlanks, SaidAt, ValueAt};
 ghost use Rattle.format_ini.specs.declared.dialect.Dialect.{Dialect};
 
 use crate::dialect::{Continued, Dialect};
-use crate::front::{Stop, around, cut, first_is, is_comment, trim, without_comment};
+use crate::front::{Stop, around, cut, cut_last, first_is, is_comment, trim, without_comment};
 
 /// The content of a line.
 #[derive(Clone, Copy, Debug, PartialEq, Eq)]
@@ -32,7 +33,7 @@ pub enum Entry<'i> {
 /// Why a line is none of the dialect.
 #[derive(Clone, Copy, Debug, PartialEq, Eq)]
 pub enum Reason {
-    /// The line starts with `[` and has no `]`.
+    /// The line starts with `[` and has no `]`. Sections are not loose, also of the next two.
     OpenSection,
     /// There is nothing between `[` and `]`.
     EmptySection,
@@ -107,6 +108,40 @@ fn read_section(text: &str) -> Result<&str, Reason>
     }
 }
 
+// Returns the name of the section that begins, up to the last `]`, or `None` if there is none.
+fn read_loose(text: &str) -> Option<&str>
+    requires { StartsWith (λ b. b ≡ 91) text.now }
+    ensures { MatchOption result (NoLoose text.now)
+        (λ name. IsLooseSection text.now name.now) }
+{
+    let (_, inside) = around(text, 0);
+    match cut_last(inside) {
+        None => None,
+        Some((name, _)) => if name.is_empty() { None } else { Some(name) },
+    }
+}
+
+// Returns the name of the section that begins, or `None` if the text is to be a pair.
+fn read_head(dialect: Dialect, text: &str) -> Result<Option<&str>, Reason>
+    requires { 0 < length text.now }
+    ensures { MatchResult result
+        (λ head. MatchOption head (NoHead dialect text.now)
+        (λ name. IsHead dialect text.now name.now))
+        (λ why. StartsWith (λ b. b ≡ 91) text.now × (dialect.loose_sections ≡ false)
+        × NoSection text.now why) }
+{
+    if !first_is(text, b'[') {
+        return Ok(None);
+    }
+    if dialect.loose_sections {
+        return Ok(read_loose(text));
+    }
+    match read_section(text) {
+        Ok(name) => Ok(Some(name)),
+        Err(why) => Err(why),
+    }
+}
+
 // Returns the number of blanks before a value. An empty value is before all of them.
 fn gap_before(blanks: usize, value: &str) -> usize
     ensures few { result ≤ blanks }
@@ -177,8 +212,7 @@ fn read_own<'i>(
         (λ why. LacksOwn dialect state text.now why) }
     ensures at { IfOk result (λ line. SaidAt dialect place text.now line.entry line.at) }
 {
-    if first_is(text, b'[') {
-        let name = read_section(text)?;
+    if let Some(name) = read_head(dialect, text)? {
         let next = State {
             section: true,
             pair: None,

@@ -18,8 +18,8 @@ use std::alloc::Allocator;
 /// most `level` deep. Each level uses some of the stack: up to [`SAFE_DEPTH`](crate::SAFE_DEPTH)
 /// two megabytes suffice.
 ///
-/// If the text is invalid, the [`JsonError`] gives the first offset at which it cannot continue a
-/// JSON text, and the input that is expected there. Otherwise the text ends too early, is nested
+/// If the text is invalid, the [`JsonError`] gives an offset with whose byte no JSON text
+/// continues, and the input that is expected there. Otherwise the text ends too early, is nested
 /// too deeply, or memory allocation failed. A second pass over the text finds the offset.
 ///
 /// ```

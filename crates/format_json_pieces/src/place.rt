@@ -1,4 +1,4 @@
-//! The first offset at which bytes are no longer a prefix of a JSON text.
+//! The first offset at which a scan of a JSON text rejects a byte.
 ghost use Rattle.format_json_pieces.specs.Begun.{MayBegin};
 ghost use Rattle.format_json_pieces.specs.Place.{IsPlace, IsPlaceIn};
 ghost use Rattle.format_json_pieces.specs.Value.{InUtf8};
@@ -30,10 +30,10 @@ pub struct Place {
     pub expected: Expected,
 }
 
-/// Returns the first offset at which the bytes are not a prefix of a JSON text whose arrays and
-/// objects are nested at most `level` deep. The bytes before the offset can continue to such a
-/// text. With the byte at the offset they cannot, regardless of what follows. If all of the bytes
-/// can continue to a text, or are one, the offset is their end.
+/// Returns the first offset at which the scan of a JSON text, whose arrays and objects are nested
+/// at most `level` deep, rejects a byte. With this byte no text continues, regardless of what
+/// follows. That the bytes before it can continue to a text is only tested. If the scan accepts all
+/// of the bytes, the offset is their end.
 ///
 /// Fails if memory allocation fails: one byte is held for each open bracket.
 ///

@@ -21,7 +21,6 @@ use Rattle.format_toml_tree.specs.declared.value.Offset.TheVariants.{Minutes, Zu
 use Rattle.format_toml_tree.specs.declared.value.Date.{Date}
 use Rattle.format_toml_tree.specs.declared.value.DateTime.{DateTime}
 use Rattle.format_toml_tree.specs.declared.value.DateTime.TheVariants as dates
-use Rattle.format_toml_tree.specs.declared.value.Time.{Time}
 
 -- ---- fractions
 

@@ -1,9 +1,11 @@
 pub mod DateParts
 pub mod DateTimeParts
+pub mod Earlier
 pub mod FilledLemmas
 pub mod KeysLemmas
 pub mod Lines
 pub mod Opened
 pub mod PartsLemmas
+pub mod Points
 pub mod Reached
 pub mod Within

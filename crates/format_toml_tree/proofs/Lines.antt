@@ -4,12 +4,19 @@ use Rattle.std.specs.Prelude.{None, Ok, Option, Result, Some, get_or, slice_get}
 use Rattle.std.proofs.Common.{refl, sym, ap, subst, inl, inr, ◌∙◌, arith}
 use Rattle.format_toml_tree.specs.Paths.{Path, Step}
 use Rattle.format_toml_tree.specs.Rules.{Says, nothing, passes}
-use Rattle.format_toml_tree.specs.Runs.{State, FillsEntry, Gives, IsWithin, Runs, Tree, empty}
-use Rattle.format_toml_tree.specs.Runs.{say_key}
+use Rattle.std.proofs.lemmas.Bool.{cases_lt}
+use Rattle.std.proofs.lemmas.List.{append-nil, get_or_append_left, length-append}
+use Rattle.format_toml_tree.proofs.Earlier.{IsEarlier, IsFront, earlier_now, earlier_still}
+use Rattle.format_toml_tree.proofs.Earlier.{in_order}
+use Rattle.format_toml_tree.specs.Once.{gives_once}
+use Rattle.format_toml_tree.specs.Order.{HoldsInOrder}
+use Rattle.format_toml_tree.specs.Runs.{State, FillsEntry, Gives, IsWithin, Runs, RunsWithin}
+use Rattle.format_toml_tree.specs.Runs.{Tree, empty, say_key}
 use Rattle.format_toml_tree.specs.Runs as runs
-use Rattle.format_toml_tree.specs.Holds.{AddsItem, AddsLine, FillsBy, Holds, IsTreeAt, Pushes}
-use Rattle.format_toml_tree.specs.Holds.{SaysKey, StartsEmpty, find, node_at}
+use Rattle.format_toml_tree.specs.Holds.{AddsItem, AddsLine, FillsBy, Holds, IsTreeAt, Lists}
+use Rattle.format_toml_tree.specs.Holds.{Pushes, SaysKey, StartsEmpty, find, node_at}
 use Rattle.format_toml_tree.specs.Calls.{fresh_node, fresh_none}
+use Rattle.format_toml_tree.specs.Entries.{lists_none}
 use Rattle.format_toml_tree.specs.Keys.{drop_here, drop_past}
 use Rattle.format_toml_tree.specs.declared.roles.Reason.{Reason}
 use Rattle.format_toml_tree.specs.declared.tree.Kind.TheVariants as kinds
@@ -41,7 +48,7 @@ module _ {A : Type 0} where
   only s t zero e = (refl, (cc))
   only s t (suc i) e = absurd (none_some t e)
 
-  pub starts_empty : (slots : List (Slot A)) (place : ℕ) → Pushes [] 0 kinds.Header place slots
+  pub starts_empty : (slots : List (Slot A)) (place : ℕ) → Pushes [] 0 [] kinds.Header place slots
       → StartsEmpty slots
   starts_empty slots place (s, is, e, j) =
       subst (λ l. StartsEmpty l) (sym e) (
@@ -61,6 +68,9 @@ module _ {A : Type 0} where
           deeper = λ a b e v w f. absurd (cc);
           rising = λ a b k m p v w f g less. absurd (cc);
           depth = λ i t g. one_depth i t (only s t i g);
+          called = λ i t g. ap (λ x. x.name.now) (only s t i g).1 ∙ is.name_is;
+          lists = λ i t g. subst (λ x. Lists x) (sym (only s t i g).1)
+              (lists_none is (fresh_none is));
         },
         omega arith,
       )
@@ -124,8 +134,24 @@ module _ {A : Type 0} where
       pub holds : Holds slots tree path
       pub within : table < length slots
       pub nested : IsWithin level tree
-      pub left : (r : Result (Tree A) (ℕ × Reason))
-          → Gives level (tree, path table) k (drop k lines) r → Gives level (empty, []) 0 lines r
+      pub left : (front : List (Option (Item A))) → IsFront front lines k
+          → (r : Result (Tree A) (ℕ × Reason))
+          → Gives level (tree, path table) k (drop k front) r → Gives level (empty, []) 0 front r
+      pub earlier : (front : List (Option (Item A))) (t : Tree A) → IsFront front lines 0
+          → length front ≤ k → Gives level (empty, []) 0 front (Ok t)
+          → IsEarlier path (length slots) t
+
+  same_tree : {t u : Tree A} {r : Result (Tree A) (ℕ × Reason)} → r ≡ Ok t → r ≡ Ok u → t ≡ u
+  same_tree e f = cc
+
+  no_lines : (front : List (Option (Item A))) → length front ≤ 0 → front ≡ []
+  no_lines [] none = refl
+  no_lines (line ∷ front) none = absurd (omega (arith, none))
+
+  none_given : (level : ℕ) (front : List (Option (Item A))) → front ≡ []
+      → Gives level (empty, []) 0 front (Ok empty)
+  none_given level front e =
+      subst (λ l. Gives level (empty, []) 0 l (Ok empty)) (sym e) runs.ended
 
   pub left_first : (level : ℕ) (lines : List (Option (Item A))) (slots : List (Slot A))
       → StartsEmpty slots
@@ -136,7 +162,17 @@ module _ {A : Type 0} where
     holds = holds;
     within = within;
     nested = top_within A level;
-    left = λ r by. subst (λ p. Gives level (empty, p) 0 lines r) holds.top by;
+    left = λ front is r by. subst (λ p. Gives level (empty, p) 0 front r) holds.top by;
+    earlier = λ front t is none gives. subst (λ u. IsEarlier path (length slots) u)
+        (same_tree refl (gives_once (none_given level front (no_lines front none)) gives))
+        (earlier_now holds within);
+  }
+
+  whole : (lines : List (Option (Item A))) (k : ℕ) → k ≤ length lines → IsFront lines lines k
+  whole lines k most = record {
+    rest = [];
+    are = sym (append-nil lines);
+    least = most;
   }
 
   module _ (level : ℕ) (lines : List (Option (Item A))) (k table : ℕ) (slots : List (Slot A))
@@ -146,8 +182,42 @@ module _ {A : Type 0} where
 
     module _ (line : Option (Item A)) (within : k < length lines) (is : line ≡ get_or lines k line)
       where
-        here : drop k lines ≡ line ∷ drop (k + 1) lines
-        here = drop_here lines k line within is
+        here : (front : List (Option (Item A))) → IsFront front lines (k + 1)
+            → drop k front ≡ line ∷ drop (k + 1) front
+        here front of =
+            let less : k < length front = omega (arith, of.least) in
+            drop_here front k line less (is ∙ ap (λ l. get_or l k line) of.are
+            ∙ get_or_append_left front of.rest line k less)
+
+        shorter : (front : List (Option (Item A))) → IsFront front lines (k + 1)
+            → IsFront front lines k
+        shorter front of =
+            record { rest = of.rest; are = of.are; least = omega (arith, of.least) }
+
+        -- the trees of the first lines, from those of fewer lines and that of all until here
+        earlier_then : (tree : Tree A) (path : ℕ → Path) (new : List (Slot A)) (at : Path)
+            → Holds new tree path → 0 < length new
+            → ((t : Tree A) → IsEarlier left.path (length slots) t
+            → IsEarlier path (length new) t)
+            → ((front : List (Option (Item A))) → IsFront front lines (k + 1)
+            → (r : Result (Tree A) (ℕ × Reason))
+            → Gives level (tree, at) (k + 1) (drop (k + 1) front) r
+            → Gives level (empty, []) 0 front r)
+            → (front : List (Option (Item A))) (t : Tree A) → IsFront front lines 0
+            → length front ≤ k + 1 → Gives level (empty, []) 0 front (Ok t)
+            → IsEarlier path (length new) t
+        earlier_then tree path new at holds some still then_left front t of most gives =
+            elim (cases_lt k (length front)) [
+              | inl more ↦
+                  let full : IsFront front lines (k + 1) =
+                  record { rest = of.rest; are = of.are; least = omega (arith, more) } in
+                  let ended = then_left front full (Ok tree)
+                  (subst (λ l. Gives level (tree, at) (k + 1) l (Ok tree))
+                  (sym (drop_past front (k + 1) most)) runs.ended) in
+                  subst (λ u. IsEarlier path (length new) u)
+                  (same_tree refl (gives_once ended gives)) (earlier_now holds some)
+              | inr fewer ↦ still t (left.earlier front t of fewer gives)
+            ]
 
         pub left_blank : line ≡ None → LeftToAdd level lines (k + 1) table slots
         left_blank none = record {
@@ -156,42 +226,84 @@ module _ {A : Type 0} where
           holds = left.holds;
           within = left.within;
           nested = left.nested;
-          left = λ r by. left.left r (subst (λ l. Gives level (left.tree, left.path table) k l r)
-              (sym (here ∙ ap (λ x. x ∷ drop (k + 1) lines) none)) (runs.blank by));
+          left = then_left;
+          earlier = earlier_then left.tree left.path slots (left.path table) left.holds
+              (omega (arith, left.within)) (λ t was. was) then_left;
         }
+          where
+            then_left : (front : List (Option (Item A))) → IsFront front lines (k + 1)
+                → (r : Result (Tree A) (ℕ × Reason))
+                → Gives level (left.tree, left.path table) (k + 1) (drop (k + 1) front) r
+                → Gives level (empty, []) 0 front r
+            then_left front of r by = left.left front (shorter front of) r
+                (subst (λ l. Gives level (left.tree, left.path table) k l r)
+                (sym (here front of ∙ ap (λ x. x ∷ drop (k + 1) front) none)) (runs.blank by))
 
         module _ (item : Item A) (some : line ≡ Some item) where
-          abbrev then_lines : drop k lines ≡ Some item ∷ drop (k + 1) lines
-          then_lines = here ∙ ap (λ x. x ∷ drop (k + 1) lines) some
+          abbrev then_lines : (front : List (Option (Item A))) → IsFront front lines (k + 1)
+              → drop k front ≡ Some item ∷ drop (k + 1) front
+          then_lines front of = here front of ∙ ap (λ x. x ∷ drop (k + 1) front) some
 
           pub left_added : (j : ℕ) (new : List (Slot A))
               → AddsLine level slots table item (Ok j) new
               → LeftToAdd level lines (k + 1) j new
           left_added j new added =
-              let (s, ran, is, goes) = added left.tree left.path left.holds left.nested in record {
+              let (s, ran, is, goes) = added left.tree left.path left.holds left.nested in
+              let then_left = more s j ran in record {
                 tree = s.0;
                 path = goes.paths;
                 holds = goes.holds;
                 within = goes.within;
                 nested = is;
-                left = λ r by. left.left r
-                    (subst (λ l. Gives level (left.tree, left.path table) k l r) (sym then_lines)
-                    (runs.accepted ran (subst (λ p. Gives level (s.0, p) (k + 1)
-                    (drop (k + 1) lines) r) goes.at by)));
+                left = λ front of r by. then_left front of r
+                    (subst (λ p. Gives level (s.0, p) (k + 1) (drop (k + 1) front) r) goes.at by);
+                earlier = earlier_then s.0 goes.paths new s.1 goes.holds
+                    (omega (arith, goes.within)) (λ t was. earlier_still goes was) then_left;
               }
+            where
+              more : (s : State A) (j : ℕ)
+                  → RunsWithin level (left.tree, left.path table) item (Ok s)
+                  → (front : List (Option (Item A))) → IsFront front lines (k + 1)
+                  → (r : Result (Tree A) (ℕ × Reason))
+                  → Gives level s (k + 1) (drop (k + 1) front) r
+                  → Gives level (empty, []) 0 front r
+              more s j ran front of r by = left.left front (shorter front of) r
+                  (subst (λ l. Gives level (left.tree, left.path table) k l r)
+                  (sym (then_lines front of)) (runs.accepted ran by))
 
           pub line_refused : (why : Reason) (new : List (Slot A))
               → AddsLine level slots table item (Err (Invalid why)) new
               → Gives level (empty, []) 0 lines (Err (k, why))
           line_refused why new added =
-              left.left (Err (k, why)) (subst (λ l. Gives level (left.tree, left.path table) k l
-              (Err (k, why))) (sym then_lines)
+              left.left lines (whole lines k (omega (arith, within))) (Err (k, why))
+              (subst (λ l. Gives level (left.tree, left.path table) k l (Err (k, why)))
+              (sym (then_lines lines (whole lines (k + 1) (omega (arith, within)))))
               (runs.refused (added left.tree left.path left.holds)))
 
-    pub all_added : length lines ≤ k → Gives level (empty, []) 0 lines (Ok left.tree)
-    all_added past =
-        left.left (Ok left.tree) (subst (λ l. Gives level (left.tree, left.path table) k l
-        (Ok left.tree)) (sym (drop_past lines k past)) runs.ended)
+    module _ (past : length lines ≤ k) (most : k ≤ length lines) where
+      pub all_added : Gives level (empty, []) 0 lines (Ok left.tree)
+      all_added =
+          left.left lines (whole lines k most) (Ok left.tree)
+          (subst (λ l. Gives level (left.tree, left.path table) k l (Ok left.tree))
+          (sym (drop_past lines k past)) runs.ended)
+
+      pub all_in_order : HoldsInOrder level lines slots
+      all_in_order = (
+        left.tree,
+        left.path,
+        all_added,
+        left.holds,
+        omega (arith, left.within),
+        in_order level lines left.holds (λ front t of gives. left.earlier front t of
+            (front_within front of) gives),
+      )
+        where
+          front_within : (front : List (Option (Item A))) → IsFront front lines 0
+              → length front ≤ k
+          front_within front of =
+              let count : length lines ≡ length front + length of.rest =
+              ap (λ l. length l) of.are ∙ length-append front of.rest in
+              omega (arith, count, past)
 
     pub some_place : 0 < length slots
     some_place = omega (arith, left.within)

@@ -166,7 +166,7 @@ module _ {A : Type 0} where
                 (set slots place now)) here
                 (record {
                   paths = path;
-                  holds = altered holds place was now is refl refl refl;
+                  holds = altered holds place was now is refl refl refl refl refl;
                   within = omega (arith, count, inside);
                   at = refl;
                   kept = λ i w. refl;

@@ -22,7 +22,6 @@ use Rattle.format_toml_tree.specs.declared.tree.Stop.{Stop}
 use Rattle.format_toml_tree.specs.declared.tree.Stop.TheVariants.{OutOfMemory, Invalid}
 use Rattle.format_toml_tree.specs.declared.value.Key.{Key}
 use Rattle.format_toml_tree.specs.declared.value.Value.{Value}
-use Rattle.format_toml_tree.specs.declared.value.Value.TheVariants as values
 use Rattle.format_toml_tree.proofs.FilledLemmas.{keeps_put, keeps_then, key_keeps, no_value}
 
 module _ {A : Type 0} where

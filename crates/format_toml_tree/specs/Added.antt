@@ -7,11 +7,11 @@ use Rattle.std.proofs.lemmas.Bool.{cases_eq}
 use Rattle.std.proofs.lemmas.Bool.Decides.{Decides-eqb}
 use Rattle.std.proofs.lemmas.List.{length-append, length-set}
 use Rattle.std.proofs.lemmas.Option.{slice_get_within}
-use Rattle.format_toml_tree.specs.Paths.{Path, Step, named, placed, put, put_here, put_apart}
-use Rattle.format_toml_tree.specs.Paths.{first_same, others_same, same_place}
+use Rattle.format_toml_tree.specs.Paths.{Path, Step, last_name, named, placed, put, put_here}
+use Rattle.format_toml_tree.specs.Paths.{first_same, others_same, put_apart, same_place}
 use Rattle.format_toml_tree.specs.Rules.{Node, nothing}
 use Rattle.format_toml_tree.specs.Runs.{Tree}
-use Rattle.format_toml_tree.specs.Holds.{Contains, Goes, Holds, find, node_at}
+use Rattle.format_toml_tree.specs.Holds.{Contains, Goes, Holds, Lists, find, node_at}
 use Rattle.format_toml_tree.specs.Places.{get_push, get_set, longer, nowhere, some_node}
 use Rattle.format_toml_tree.specs.declared.tree.Slot.{Slot}
 
@@ -61,6 +61,10 @@ module _ {A : Type 0} where
     pub kind : now.kind ≡ was.kind
     pub depth : now.depth ≡ was.depth
     pub depth_below : fresh.depth ≡ was.depth + 1
+    pub name : now.name ≡ was.name
+    pub name_below : fresh.name.now ≡ last_name (e ∷ [])
+    pub lists : Lists now
+    pub lists_below : Lists fresh
 
   module _ {slots : List (Slot A)} {tree : Tree A} {path : ℕ → Path}
       (is : Holds slots tree path) (above : ℕ) (e : Step) (was now fresh : Slot A)
@@ -301,6 +305,28 @@ module _ {A : Type 0} where
         let here : length (paths i) ≡ length q = ap (λ p. length p) (more_here n q path i a) in
         (omega (arith, e, same, here), omega (arith, most, same, a, above_within))
 
+    called_fresh : (f : Step) → fresh.name.now ≡ last_name (f ∷ [])
+        → fresh.name.now ≡ last_name (f ∷ path above)
+    called_fresh (named name) a = a
+    called_fresh (placed k) a = a
+
+    called_then : (i : ℕ) (s : Slot A) → Which i s → s.name.now ≡ last_name (paths i)
+    called_then i s (older a g) =
+        is.called i s g
+        ∙ ap (λ p. last_name p) (sym (old_path i (slice_get_within slots i s g)))
+    called_then i s (upper a b) =
+        ap (λ t. t.name.now) b ∙ ap (λ n. n.now) adds.name ∙ is.called above was at
+        ∙ ap (λ p. last_name p) (sym (old_path above above_within))
+        ∙ ap (λ k. last_name (paths k)) (sym a)
+    called_then i s (newest a b) =
+        ap (λ t. t.name.now) b ∙ called_fresh e adds.name_below
+        ∙ ap (λ p. last_name p) (sym (more_here n q path i a))
+
+    lists_then : (i : ℕ) (s : Slot A) → Which i s → Lists s
+    lists_then i s (older a g) = is.lists i s g
+    lists_then i s (upper a b) = subst (λ t. Lists t) (sym b) adds.lists
+    lists_then i s (newest a b) = subst (λ t. Lists t) (sym b) adds.lists_below
+
     contains_then : (i : ℕ) (s t : Slot A) → slice_get slots i ≡ Some s → Which i t
         → Contains t.kind → Contains s.kind
     contains_then i s t g (older a h) has =
@@ -328,6 +354,8 @@ module _ {A : Type 0} where
         deeper = λ i j e v w f. deeper_then i j e (inside i v) (inside j w) f;
         rising = λ i j a b p v w f g. rising_then i j a b p (inside i v) (inside j w) f g;
         depth = λ i s g. depth_then i s (which i s g);
+        called = λ i s g. called_then i s (which i s g);
+        lists = λ i s g. lists_then i s (which i s g);
       };
       within = omega (arith, count);
       at = more_here n q path n refl;

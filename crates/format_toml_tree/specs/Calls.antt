@@ -1,6 +1,6 @@
 -- The effects of calls on slots: a slot is unchanged, one is set, an entry or an element is added.
 use Rattle.std.specs.Prelude.{◌≡◌, ◌⊎◌, ℕ, zero, suc, ◌+◌, ◌<◌, ◌≤◌, Bool, true, false, cond, List}
-use Rattle.std.specs.Prelude.{[], ◌∷◌, ◌++◌, length, set, get_or, Some, None, slice_get}
+use Rattle.std.specs.Prelude.{[], ◌∷◌, ◌++◌, length, set, get_or, Option, Some, None, slice_get}
 use Rattle.std.specs.Borrow.{Bor}
 use Rattle.std.specs.BTreeMap.{UpdatesBy, is_at}
 use Rattle.std.specs.Cmp.Lexicographic.{slice_cmp}
@@ -15,10 +15,12 @@ use Rattle.std.proofs.lemmas.Option.{slice_get_read, slice_get_within}
 use Rattle.std.proofs.lemmas.Slice.Eq.{bytes_eq-Decides}
 use Rattle.format_toml_tree.specs.Paths.{Path, named, no_place, placed, put, same_name, put_same}
 use Rattle.format_toml_tree.specs.Paths.{same_place}
+use Rattle.format_toml_tree.specs.Rules.{nothing}
 use Rattle.format_toml_tree.specs.Runs.{State, Tree}
 use Rattle.format_toml_tree.specs.Holds.{AddsElement, AddsEntry, Contains, Goes, Holds, IsFresh}
 use Rattle.format_toml_tree.specs.Holds.{Pushes, find, node_at, node_of}
-use Rattle.format_toml_tree.specs.Places.{get_push}
+use Rattle.format_toml_tree.specs.Places.{get_push, some_node}
+use Rattle.format_toml_tree.specs.Entries.{lists_more, lists_none, lists_same}
 use Rattle.format_toml_tree.specs.Added.{added, get_once, some_there}
 use Rattle.format_toml_tree.specs.declared.tree.Kind.{Kind}
 use Rattle.format_toml_tree.specs.declared.tree.Slot.{Slot}
@@ -69,17 +71,29 @@ module _ {A : Type 0} where
     contains = λ i s t g h has. subst (λ x. Contains x.kind) (get_once (slice_get slots i) h g) has;
   }
 
-  pub fresh_node : {depth : ℕ} {kind : Kind A} {s : Slot A} → IsFresh depth kind s
-      → node_at s ≡ node_of kind 0
+  pub fresh_node : {depth : ℕ} {label : List ℕ} {kind : Kind A} {s : Slot A}
+      → IsFresh depth label kind s → node_at s ≡ node_of kind 0
   fresh_node {kind = kind} {s = s} is =
       ap (λ k. node_of k (length s.elements.items)) is.kind_is
       ∙ ap (λ (xs : List ℕ). node_of kind (length xs)) is.no_elements
 
-  pub fresh_none : {depth : ℕ} {kind : Kind A} {s : Slot A} → IsFresh depth kind s
-      → (name : List ℕ)
+  pub fresh_none : {depth : ℕ} {label : List ℕ} {kind : Kind A} {s : Slot A}
+      → IsFresh depth label kind s → (name : List ℕ)
       → find s.places name ≡ None
   fresh_none is name =
       ap (λ es. lookup (is_at (λ (k : Bor (List ℕ)). slice_cmp nat_cmp name k.now)) es) is.no_places
+
+  -- where there is nothing at a name, the map has nothing
+  not_found : {slots : List (Slot A)} {tree : Tree A} {path : ℕ → Path} → Holds slots tree path
+      → (i : ℕ) (s : Slot A) → slice_get slots i ≡ Some s → (name : List ℕ)
+      → tree (named name ∷ path i) ≡ nothing → (r : Option ℕ) → find s.places name ≡ r
+      → find s.places name ≡ None
+  not_found holds i s g name none None f = f
+  not_found {slots = slots} {tree = tree} holds i s g name none (Some j) f =
+      let (w, at) = holds.found i s g name j f in
+      let (t, h) = some_there slots j w in
+      absurd (some_node t.kind (length t.elements.items)
+      (sym (holds.there j t h) ∙ ap tree at ∙ none))
 
   -- the depth below a slot, where depths are less than the number of slots
   pub depth_added : (slots : List (Slot A)) (above depth : ℕ) (was : Slot A)
@@ -91,12 +105,13 @@ module _ {A : Type 0} where
       ap (λ t. t.depth) (get_once (slice_get slots above) is at) in
       omega (arith, same, sum, small, less)
 
-  module _ (old mid : List (Slot A)) (above depth place : ℕ) (kind : Kind A) (was now : Slot A)
-      (pushed : Pushes old depth kind place mid) (within : above < length old)
+  module _ (old mid : List (Slot A)) (above depth place : ℕ) (label : List ℕ) (kind : Kind A)
+      (was now : Slot A) (pushed : Pushes old depth label kind place mid)
+      (within : above < length old)
       (deep : (s : Slot A) → slice_get old above ≡ Some s → s.depth < length old
       → depth ≡ s.depth + 1)
       (read : was ≡ get_or mid above was) (kinds : now.kind ≡ was.kind)
-      (depths : now.depth ≡ was.depth) where
+      (depths : now.depth ≡ was.depth) (labels : now.name ≡ was.name) where
     -- the place above was there before
     abbrev is_old : (fresh : Slot A) → mid ≡ old ++ fresh ∷ [] → slice_get old above ≡ Some was
     is_old fresh e = elim (get_push old fresh was above
@@ -113,7 +128,7 @@ module _ {A : Type 0} where
             omega (arith, within, count)
 
     depth_next : {tree : Tree A} {path : ℕ → Path} (s fresh : Slot A) → Holds old tree path
-        → slice_get old above ≡ Some s → IsFresh depth kind fresh → fresh.depth ≡ s.depth + 1
+        → slice_get old above ≡ Some s → IsFresh depth label kind fresh → fresh.depth ≡ s.depth + 1
     depth_next s fresh holds at is =
         is.depth_is ∙ deep s at (omega (arith, (holds.depth above s at).1, within))
 
@@ -122,11 +137,18 @@ module _ {A : Type 0} where
         → UpdatesBy (λ x y. slice_cmp nat_cmp x.now y.now) (λ k. slice_cmp nat_cmp name.now k.now)
         was.places now.places (Some place)
         → now.elements ≡ was.elements
+        → now.entries.items ≡ was.entries.items ++ place ∷ [] → label ≡ name.now
         → AddsEntry old above name.now kind place (set mid above now)
-    entry_added name updates elements tree path holds none =
+    entry_added name updates elements entries here tree path holds none =
         let (fresh, is, e, j) = pushed in
         let at = is_old fresh e in
         let q : Path = named name.now ∷ path above in
+        let empty : find was.places name.now ≡ None =
+        not_found holds above was at name.now none (find was.places name.now) refl in
+        let updated : UpdatesBy (λ x y. slice_cmp nat_cmp x.now y.now)
+        (λ k. slice_cmp nat_cmp name.now k.now) was.places now.places (Some (length old)) =
+        subst (λ n. UpdatesBy (λ x y. slice_cmp nat_cmp x.now y.now)
+        (λ k. slice_cmp nat_cmp name.now k.now) was.places now.places (Some n)) j updates in
         let same : node_at now ≡ tree (path above) =
         ap (λ k. node_of k (length now.elements.items)) kinds
         ∙ ap (λ v. node_of was.kind (length v.items)) elements
@@ -134,9 +156,7 @@ module _ {A : Type 0} where
         let goes = added holds above (named name.now) was now fresh at none (record {
           none_found = fresh_none is;
           no_elements = is.no_elements;
-          finds = λ other. finds_by other (length old) (bytes_eq name.now other) refl
-              (subst (λ n. UpdatesBy (λ x y. slice_cmp nat_cmp x.now y.now)
-              (λ k. slice_cmp nat_cmp name.now k.now) was.places now.places (Some n)) j updates);
+          finds = λ other. finds_by other (length old) (bytes_eq name.now other) refl updated;
           gets = λ k. inr
               (λ f. no_place name.now k (sym f), ap (λ v. slice_get v.items k) elements);
           beyond = λ k f. (
@@ -147,6 +167,15 @@ module _ {A : Type 0} where
           kind = kinds;
           depth = depths;
           depth_below = depth_next was fresh holds at is;
+          name = labels;
+          name_below = is.name_is ∙ here;
+          lists = lists_more now (holds.lists above was at) name.now (length old) empty
+              (λ n k f. (holds.found above was at n k f).0)
+              (λ n. elim (finds_by n (length old) (bytes_eq name.now n) refl updated) [
+                | inl (a, b) ↦ inl (same_name a, b)
+                | inr (a, b) ↦ inr (λ f. a (ap (λ x. named x) f), b)
+              ]) (entries ∙ ap (λ n. was.entries.items ++ n ∷ []) j);
+          lists_below = lists_none is (fresh_none is);
         }) in
         rw (e, j) (subst (λ t. Goes old path (t, q) (length old)
         (set (old ++ fresh ∷ []) above now))
@@ -174,8 +203,9 @@ module _ {A : Type 0} where
     -- an element is added below the place above
     pub element_added : now.places ≡ was.places
         → now.elements.items ≡ was.elements.items ++ place ∷ []
+        → now.entries ≡ was.entries → label ≡ []
         → AddsElement old above kind place (set mid above now)
-    element_added places elements tree path before holds at =
+    element_added places elements entries none tree path before holds at =
         let (fresh, is, e, j) = pushed in
         let was_at = is_old fresh e in
         let same : before ≡ was = cc in
@@ -217,6 +247,11 @@ module _ {A : Type 0} where
           kind = kinds ∙ ap (λ s. s.kind) (sym same);
           depth = depths ∙ ap (λ s. s.depth) (sym same);
           depth_below = depth_next before fresh holds at is;
+          name = labels ∙ ap (λ s. s.name) (sym same);
+          name_below = is.name_is ∙ none;
+          lists = lists_same now (holds.lists above before at)
+              (places ∙ ap (λ s. s.places) (sym same)) (entries ∙ ap (λ s. s.entries) (sym same));
+          lists_below = lists_none is (fresh_none is);
         }) in
         rw (e, j) (subst (λ t. Goes old path (t, q) (length old)
         (set (old ++ fresh ∷ []) above now))

@@ -109,6 +109,10 @@ unfoldable pub IsTimed : ℕ × ℕ × ℕ → List ℕ → Option Offset → Li
 IsTimed clock digits offset tokens =
     (a : List ℕ) × (b : List ℕ) × Clock tokens clock a × Fraction a digits b × MaybeOffset offset b
 
+-- There is a full stop in the bytes, as before the digits of a fraction.
+abbrev pub HasPoint : List ℕ → Type 0
+HasPoint tokens = (front : List ℕ) × (rest : List ℕ) × (tokens ≡ front ++ (46 ∷ rest))
+
 -- ---- both
 
 -- time-delim = "T" / %x20 ; T, t, or space

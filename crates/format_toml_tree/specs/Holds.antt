@@ -7,7 +7,7 @@ use Rattle.std.specs.Borrow.{Bor}
 use Rattle.std.specs.BTreeMap.{BTreeMap, get_by}
 use Rattle.std.specs.Cmp.Lexicographic.{slice_cmp}
 use Rattle.std.specs.Ordering.{nat_cmp}
-use Rattle.format_toml_tree.specs.Paths.{Path, Step, named, placed, put}
+use Rattle.format_toml_tree.specs.Paths.{Path, Step, last_name, named, placed, put}
 use Rattle.format_toml_tree.specs.Rules.{Node, Says, dotted, header, nothing, super, tables, valued}
 use Rattle.format_toml_tree.specs.Rules.{IsContainer, adds, defines, dots, gives, passes, ruled}
 use Rattle.format_toml_tree.specs.Runs.{IsWithin, Runs, RunsWithin, State, Tree, empty, opened}
@@ -55,6 +55,16 @@ module _ {A : Type 0} where
   abbrev pub node_at : Slot A → Node A
   node_at s = node_of s.kind (length s.elements.items)
 
+  -- The entries of a slot are those that its map has, each once, in the order in which they were
+  -- added.
+  pub record Lists (s : Slot A) : Type 0 where
+    pub entry : (k j : ℕ) → slice_get s.entries.items k ≡ Some j
+        → (name : List ℕ) × (find s.places name ≡ Some j)
+    pub listed : (name : List ℕ) (j : ℕ) → find s.places name ≡ Some j
+        → (k : ℕ) × (slice_get s.entries.items k ≡ Some j)
+    pub in_order : (k m a b : ℕ) → k < m → slice_get s.entries.items k ≡ Some a
+        → slice_get s.entries.items m ≡ Some b → a < b
+
   -- Places have a path each, and hold what the tree has there; there is nothing else in the tree.
   pub record Holds (slots : List (Slot A)) (tree : Tree A) (path : ℕ → Path) : Type 0 where
     pub top : path 0 ≡ []
@@ -77,6 +87,9 @@ module _ {A : Type 0} where
         → path i ≡ placed a ∷ p → path j ≡ placed b ∷ p → a < b → i < j
     pub depth : (i : ℕ) (s : Slot A) → slice_get slots i ≡ Some s
         → (s.depth ≡ length (path i)) × (s.depth ≤ i)
+    pub called : (i : ℕ) (s : Slot A) → slice_get slots i ≡ Some s
+        → s.name.now ≡ last_name (path i)
+    pub lists : (i : ℕ) (s : Slot A) → slice_get slots i ≡ Some s → Lists s
 
   -- Places hold a tree, and one of them is within.
   abbrev pub IsTreeAt : List (Slot A) → ℕ → Type 0
@@ -106,16 +119,19 @@ module _ {A : Type 0} where
   -- ---- what calls do
 
   -- a place with nothing below it
-  pub record IsFresh (depth : ℕ) (kind : Kind A) (s : Slot A) : Type 0 where
+  pub record IsFresh (depth : ℕ) (name : List ℕ) (kind : Kind A) (s : Slot A) : Type 0 where
     pub depth_is : s.depth ≡ depth
+    pub name_is : s.name.now ≡ name
     pub kind_is : s.kind ≡ kind
     pub no_places : s.places.entries ≡ []
+    pub no_entries : s.entries.items ≡ []
     pub no_elements : s.elements.items ≡ []
 
   -- one more place, below none
-  abbrev pub Pushes : List (Slot A) → ℕ → Kind A → ℕ → List (Slot A) → Type 0
-  Pushes old depth kind j new =
-      (fresh : Slot A) × IsFresh depth kind fresh × (new ≡ old ++ fresh ∷ []) × (j ≡ length old)
+  abbrev pub Pushes : List (Slot A) → ℕ → List ℕ → Kind A → ℕ → List (Slot A) → Type 0
+  Pushes old depth name kind j new =
+      (fresh : Slot A) × IsFresh depth name kind fresh × (new ≡ old ++ fresh ∷ [])
+      × (j ≡ length old)
 
   -- an entry is added where there is nothing
   abbrev pub AddsEntry : List (Slot A) → ℕ → List ℕ → Kind A → ℕ → List (Slot A) → Type 0

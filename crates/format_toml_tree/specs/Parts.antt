@@ -6,7 +6,7 @@ use Rattle.std.specs.Borrow.{Bor}
 use Rattle.std.proofs.Common.{refl, sym, ap, subst, ◌∙◌}
 use Rattle.std.proofs.lemmas.Option.{slice_get_within}
 use Rattle.format_toml_tree.specs.Paths.{Path}
-use Rattle.format_toml_tree.specs.Rules.{nothing, valued}
+use Rattle.format_toml_tree.specs.Rules.{valued}
 use Rattle.format_toml_tree.specs.Runs.{Fills, FillsNames, FillsPlaces, HasValue}
 use Rattle.format_toml_tree.specs.Runs.{Tree}
 use Rattle.format_toml_tree.specs.Runs as runs

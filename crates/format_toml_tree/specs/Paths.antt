@@ -15,6 +15,12 @@ pub data Step : Type 0 where
 abbrev pub Path : Type 0
 Path = List Step
 
+-- The name of the last step, and no bytes after an index and at the top.
+abbrev pub last_name : Path → List ℕ
+last_name [] = []
+last_name (named name ∷ p) = name
+last_name (placed k ∷ p) = []
+
 abbrev pub same_step : Step → Step → Bool
 same_step (named a) (named b) = bytes_eq a b
 same_step (named a) (placed k) = false

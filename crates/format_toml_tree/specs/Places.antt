@@ -63,7 +63,8 @@ module _ {A : Type 0} where
 
     module _ (j : ℕ) (was now : Slot A) (at : slice_get slots j ≡ Some was)
         (places : now.places ≡ was.places) (elements : now.elements ≡ was.elements)
-        (depth : now.depth ≡ was.depth) where
+        (depth : now.depth ≡ was.depth) (entries : now.entries ≡ was.entries)
+        (name : now.name ≡ was.name) where
       abbrev then_tree : Tree A
       then_tree = put tree (path j) (node_at now)
 
@@ -85,15 +86,17 @@ module _ {A : Type 0} where
       -- a place and what it was before
       before : (i : ℕ) (s : Slot A) → slice_get (set slots j now) i ≡ Some s
           → (t : Slot A) × (slice_get slots i ≡ Some t) × (s.places ≡ t.places)
-          × (s.elements ≡ t.elements)
+          × (s.elements ≡ t.elements) × (s.entries ≡ t.entries) × (s.name ≡ t.name)
       before i s g = elim (get_set slots j now s i g) [
         | inl (a, b) ↦ (
           was,
           ap (λ n. slice_get slots n) a ∙ at,
           ap (λ t. t.places) b ∙ places,
           ap (λ t. t.elements) b ∙ elements,
+          ap (λ t. t.entries) b ∙ entries,
+          ap (λ t. t.name) b ∙ name,
         )
-        | inr (a, b) ↦ (s, b, refl, refl)
+        | inr (a, b) ↦ (s, b, refl, refl, refl, refl)
       ]
 
       within : (i : ℕ) → i < length (set slots j now) → i < length slots
@@ -105,19 +108,19 @@ module _ {A : Type 0} where
         there = there_then;
         apart = λ a b v w e. is.apart a b (within a v) (within b w) e;
         found = λ i s g name k f.
-            let (t, h, p, q) = before i s g in
+            let (t, h, p, q, _, _) = before i s g in
             let (w, e) = is.found i t h name k (ap (λ m. find m name) (sym p) ∙ f) in
             (subst (λ n. k < n) (sym (length-set slots j now)) w, e);
         missing = λ i s g name f.
-            let (t, h, p, q) = before i s g in
+            let (t, h, p, q, _, _) = before i s g in
             still_none (named name ∷ path i)
             (is.missing i t h name (ap (λ m. find m name) (sym p) ∙ f));
         elements = λ i s g k m f.
-            let (t, h, p, q) = before i s g in
+            let (t, h, p, q, _, _) = before i s g in
             let (w, e) = is.elements i t h k m (ap (λ v. slice_get v.items k) (sym q) ∙ f) in
             (subst (λ n. m < n) (sym (length-set slots j now)) w, e);
         beyond = λ i s g k f.
-            let (t, h, p, q) = before i s g in
+            let (t, h, p, q, _, _) = before i s g in
             still_none (placed k ∷ path i)
             (is.beyond i t h k (subst (λ v. length v.items ≤ k) q f));
         below = λ p e none.
@@ -131,4 +134,20 @@ module _ {A : Type 0} where
           | inl (a, b) ↦ rw (a, b, depth) (is.depth j was at)
           | inr (a, b) ↦ is.depth i s b
         ];
+        called = λ i s g.
+            let (t, h, p, q, r, n) = before i s g in
+            ap (λ x. x.now) n ∙ is.called i t h;
+        lists = λ i s g.
+            let (t, h, p, q, r, n) = before i s g in
+            let old = is.lists i t h in record {
+              entry = λ k m f.
+                  let (x, y) = old.entry k m (ap (λ v. slice_get v.items k) (sym r) ∙ f) in
+                  (x, ap (λ m. find m x) p ∙ y);
+              listed = λ x m f.
+                  let (k, y) = old.listed x m (ap (λ m. find m x) (sym p) ∙ f) in
+                  (k, ap (λ v. slice_get v.items k) r ∙ y);
+              in_order = λ k m a b w f o. old.in_order k m a b w
+                  (ap (λ v. slice_get v.items k) (sym r) ∙ f)
+                  (ap (λ v. slice_get v.items m) (sym r) ∙ o);
+            };
       }

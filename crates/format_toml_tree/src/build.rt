@@ -3,6 +3,7 @@ ghost use Rattle.std.specs.Prelude.{◌≡◌, ℕ, [], IfOk, Ok, Err};
 ghost use Rattle.format_toml_tree.specs.Runs.{Gives, IsWithin, Tree as Given, empty};
 ghost use Rattle.format_toml_tree.specs.Answer.{Answers};
 ghost use Rattle.format_toml_tree.specs.Holds.{HoldsTree};
+ghost use Rattle.format_toml_tree.specs.Order.{HoldsInOrder};
 ghost use Rattle.format_toml_tree.specs.declared.build.TreeError.TheVariants.{Invalid};
 ghost use Rattle.format_toml_tree.specs.declared.roles.Reason.{Reason};
 ghost use Rattle.format_toml_tree.specs.declared.tree.Stop.TheVariants.{Invalid as StoppedBy};
@@ -108,6 +109,7 @@ pub fn build<'t, A: Allocator + Copy>(
     ensures accepted { IfOk result
         (λ tree. (given : Given A) × Gives level (empty, []) 0 lines.now (Ok given)
         × HoldsTree tree.slots.items given × IsWithin level given) }
+    ensures order { IfOk result (λ tree. HoldsInOrder level lines.now tree.slots.items) }
     ensures refused { (line : ℕ) (why : Reason) → result ≡ Err (Invalid line why)
         → Gives level (empty, []) 0 lines.now (Err (line, why)) }
 {

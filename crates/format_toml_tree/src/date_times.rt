@@ -1,9 +1,9 @@
 //! Dates, times and both (TOML 1.0: Offset Date-Time, Local Date-Time, Local Date, Local Time),
 //! from their bytes.
 ghost use Rattle.std.specs.List.{All};
-ghost use Rattle.std.specs.Prelude.{◌≡◌, IfOk, string_bytes};
+ghost use Rattle.std.specs.Prelude.{◌≡◌, [], IfOk, OnErr, string_bytes};
 ghost use Rattle.format_toml_tree.specs.Dates.{IsAlone, IsBehind, IsDateTime, IsDigit};
-ghost use Rattle.format_toml_tree.specs.Dates.{FoundResult, IsTimeOf};
+ghost use Rattle.format_toml_tree.specs.Dates.{FoundResult, HasPoint, IsTimeOf};
 
 use crate::dates::date;
 use crate::times::parts;
@@ -13,7 +13,8 @@ use std::alloc::{AllocError, Allocator};
 /// The text of some digits.
 fn text_of<A: Allocator>(alloc: A, digits: &[u8]) -> Result<String<A>, AllocError>
     requires { All IsDigit digits.now }
-    ensures { IfOk result (λ s. string_bytes s ≡ digits.now) }
+    ensures bytes { IfOk result (λ s. string_bytes s ≡ digits.now) }
+    ensures full { OnErr result (digits.now ≡ [] → ⊥) }
 {
     let mut text = String::new(alloc);
     for digit in digits {
@@ -29,7 +30,8 @@ fn time_of<A: Allocator>(
     digits: &[u8],
 ) -> Result<Time<A>, AllocError>
     requires { All IsDigit digits.now }
-    ensures { IfOk result (λ t. IsTimeOf t clock digits.now) }
+    ensures time { IfOk result (λ t. IsTimeOf t clock digits.now) }
+    ensures full { OnErr result (digits.now ≡ [] → ⊥) }
 {
     let (hour, minute, second) = clock;
     let fraction = text_of(alloc, digits)?;
@@ -47,7 +49,8 @@ fn after_date<A: Allocator>(
     date: Date,
     text: &[u8],
 ) -> Result<Option<DateTime<A>>, AllocError>
-    ensures { IfOk result (λ o. FoundResult (λ d. IsBehind date d text.now) o) }
+    ensures found { IfOk result (λ o. FoundResult (λ d. IsBehind date d text.now) o) }
+    ensures full { OnErr result (HasPoint text.now) }
 {
     let Some((delimiter, rest)) = text.split_first() else {
         return Ok(Some(DateTime::Date(date)));
@@ -68,7 +71,8 @@ fn after_date<A: Allocator>(
 
 /// The time with no date that a text is.
 fn time_alone<A: Allocator>(alloc: A, text: &[u8]) -> Result<Option<DateTime<A>>, AllocError>
-    ensures { IfOk result (λ o. FoundResult (λ d. IsAlone d text.now) o) }
+    ensures found { IfOk result (λ o. FoundResult (λ d. IsAlone d text.now) o) }
+    ensures full { OnErr result (HasPoint text.now) }
 {
     let Some((clock, digits, offset)) = parts(text) else {
         return Ok(None);
@@ -89,7 +93,8 @@ fn time_alone<A: Allocator>(alloc: A, text: &[u8]) -> Result<Option<DateTime<A>>
 /// second of 60 is accepted in each minute: leap seconds are announced half a year before, so no
 /// grammar can specify them. An offset of `-00:00` is that of `+00:00`.
 ///
-/// Fails with out of memory if the digits of a fraction cannot be allocated.
+/// Fails with out of memory if the digits of a fraction cannot be allocated. A text without a full
+/// stop needs no memory.
 ///
 /// ```
 /// use format_toml_tree::date_times::date_time;
@@ -103,7 +108,8 @@ fn time_alone<A: Allocator>(alloc: A, text: &[u8]) -> Result<Option<DateTime<A>>
 /// assert!(rt; matches!(both, Ok(Some(DateTime::Offset(_, time, _))) if time.hour == 7));
 /// ```
 pub fn date_time<A: Allocator>(alloc: A, text: &[u8]) -> Result<Option<DateTime<A>>, AllocError>
-    ensures { IfOk result (λ o. FoundResult (λ d. IsDateTime d text.now) o) }
+    ensures found { IfOk result (λ o. FoundResult (λ d. IsDateTime d text.now) o) }
+    ensures full { OnErr result (HasPoint text.now) }
 {
     match date(text) {
         Some((date, rest)) => after_date(alloc, date, rest),

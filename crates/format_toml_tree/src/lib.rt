@@ -14,8 +14,10 @@
 //!   are proved to return its kind.
 //! - `date_time` is proved to return the parts of a date, a time or both by `specs/Dates.antt`, and
 //!   `None` if and only if the bytes are none of these, unless an allocation fails.
-//! - The rest of `Node` is only tested, and proved to be safe: `at`, `len` and `name`, so the order
-//!   of entries, and `get_path`.
+//! - `get_path` is proved to find the contents along names. `at`, `len`, `is_empty` and `name` are
+//!   proved to list the entries of a table, each once, and the elements of an array. An entry that
+//!   earlier lines name comes before one that only later lines name. The order of the entries of
+//!   one inline table is only tested.
 //!
 //! Choices where the standard leaves room, or gives only examples:
 //!

@@ -6,8 +6,9 @@ ghost use Rattle.format_toml_tree.specs.declared.value.Value.TheVariants as valu
 ghost use Rattle.format_toml_tree.specs.Holds.{Contains, node_of};
 ghost use Rattle.format_toml_tree.specs.Kinds.{AnswersItself, IsSlot, KindResult};
 ghost use Rattle.format_toml_tree.specs.Rules.{IsArray, IsTable};
+ghost use Rattle.format_toml_tree.specs.Access.{AreBelow, FindsAlong, FindsAt, IsLength, IsNameOf};
 ghost use Rattle.std.specs.Borrow.{Bor};
-ghost use Rattle.std.specs.Prelude.{◌↔◌, ℕ, IsTrue};
+ghost use Rattle.std.specs.Prelude.{◌↔◌, ◌≡◌, ℕ, IsTrue};
 
 use crate::tree::{Kind, Slot, Tree};
 use crate::value::{DateTime, Float, Value};
@@ -85,7 +86,9 @@ impl<'d, 't, A: Allocator + Copy> Node<'d, 't, A> {
     }
 
     /// Returns the node along a path: an entry of this table, an entry of that, and so on.
-    pub fn get_path(&self, names: &[&str]) -> Option<Node<'d, 't, A>> {
+    pub fn get_path(&self, names: &[&str]) -> Option<Node<'d, 't, A>>
+        ensures { FindsAlong self.now names.now result }
+    {
         let mut node = *self;
         for name in names {
             node = node.get(*name)?;
@@ -93,38 +96,51 @@ impl<'d, 't, A: Allocator + Copy> Node<'d, 't, A> {
         Some(node)
     }
 
-    /// Returns the number of entries of a table, or of elements of an array. Another value has 0.
-    pub fn len(&self) -> usize {
+    /// Returns the slots of the entries of a table, or of the elements of anything else.
+    fn below(&self) -> &'d [usize]
+        ensures { AreBelow self.now result.now }
+    {
         match self.slot() {
-            None => 0,
-            Some(slot) if slot.entries.is_empty() => slot.elements.len(),
-            Some(slot) => slot.entries.len(),
+            None => &[],
+            Some(slot) if shows_table(slot.kind) => slot.entries.as_slice(),
+            Some(slot) => slot.elements.as_slice(),
         }
     }
 
-    /// Whether it has no entry and no element.
-    pub fn is_empty(&self) -> bool {
+    /// Returns the number of entries of a table, or of elements of an array, and 0 for any other
+    /// value.
+    pub fn len(&self) -> usize
+        ensures { IsLength self.now result }
+    {
+        self.below().len()
+    }
+
+    /// Returns whether the node has no entries and no elements.
+    pub fn is_empty(&self) -> bool
+        ensures { (n : ℕ) × IsLength self.now n × (IsTrue result ↔ n ≡ 0) }
+    {
         self.len() == 0
     }
 
-    /// The entry of a table, or the element of an array, with that many before it. Entries are in
-    /// the order in which they were first named.
-    pub fn at(&self, index: usize) -> Option<Node<'d, 't, A>> {
-        let slot = self.tree.slots.as_slice().get(self.place)?;
-        let places = if slot.entries.is_empty() {
-            slot.elements.as_slice()
-        } else {
-            slot.entries.as_slice()
-        };
-        let place = places.get(index).copied()?;
-        Some(Node {
-            tree: self.tree,
-            place,
-        })
+    /// Returns the entry of a table, or the element of an array, with this index. Entries are in
+    /// the order in which the lines first name them.
+    pub fn at(&self, index: usize) -> Option<Node<'d, 't, A>>
+        ensures { FindsAt self.now index result }
+    {
+        match self.below().get(index).copied() {
+            Some(place) => Some(Node {
+                tree: self.tree,
+                place,
+            }),
+            None => None,
+        }
     }
 
-    /// Its name in the table that it is in, or no bytes where it is in an array.
-    pub fn name(&self) -> &'t str {
+    /// Returns the name of the node in its table. The name of the root and of an element of an
+    /// array is empty.
+    pub fn name(&self) -> &'t str
+        ensures { IsNameOf self.now result.now }
+    {
         match self.slot() {
             Some(slot) => slot.name,
             None => "",

@@ -91,7 +91,7 @@ impl<'t, A: Allocator + Copy> Tree<'t, A> {
         name: &'t str,
         kind: Kind<'t, A>,
     ) -> Result<usize, AllocError>
-        ensures { IfOk result (λ j. Pushes self.old.slots.items depth kind.entry j
+        ensures { IfOk result (λ j. Pushes self.old.slots.items depth name.now kind.entry j
             self.new.slots.items) }
     {
         let place = self.slots.len();

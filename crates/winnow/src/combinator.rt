@@ -10,7 +10,7 @@ pub use winnow_comb::combinator::{
 };
 pub use winnow_core::combinator::eof;
 pub use winnow_expression::combinator::{
-    FoldBinary, FoldUnary, Infix, NoFold, Postfix, Prefix, expression,
+    Binding, FoldBinary, FoldUnary, Infix, NoFold, Postfix, Prefix, expression,
 };
 pub use winnow_repeat::combinator::{ParserIterator, fill, iterator, repeat, repeat_till};
 pub use winnow_separated::combinator::{separated, separated_foldl1, separated_foldr1};

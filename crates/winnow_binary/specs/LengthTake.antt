@@ -7,7 +7,6 @@ use Rattle.winnow_core.specs.Runs.{Keeps, Runs}
 use Rattle.winnow_token.specs.Take.{TakeRuns}
 pub mod Says
 pub mod Laws
-pub mod Reads
 
 -- A call of the parser of the length, and a `take` of `n` tokens.
 abbrev pub LengthTakeRuns : {S T N L : Type 0} → (N → ℕ) → Reading T L → ErrorForm → Bool

@@ -50,9 +50,7 @@ where
 {
     Take {
         count: count.to_usize(),
-        input: PhantomData,
-        output: PhantomData,
-        error: PhantomData,
+        marker: PhantomData,
     }
 }
 
@@ -87,8 +85,7 @@ where
     Pattern {
         value: pattern,
         count: count.to_usize(),
-        input: PhantomData,
-        error: PhantomData,
+        marker: PhantomData,
     }
 }
 

@@ -10,5 +10,5 @@ pub mod places;
 pub mod precedence;
 
 pub use crate::combinator::folds::{FoldBinary, FoldUnary, NoFold};
-pub use crate::combinator::operators::{Infix, Postfix, Prefix};
+pub use crate::combinator::operators::{Binding, Infix, Postfix, Prefix};
 pub use crate::combinator::precedence::expression;

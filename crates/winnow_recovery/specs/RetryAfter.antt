@@ -6,7 +6,6 @@ use Rattle.streams.specs.Kind.{Kind}
 use Rattle.winnow_core.specs.Runs.{Runs}
 use Rattle.winnow_recovery.specs.Recovery.{CanRecover, IsNotRecovered, IsRecovered, Recovery}
 use Rattle.winnow_recovery.specs.declared.combinator.impls.retry_after.RetryAfter.{RetryAfter}
-pub mod Inversion
 pub mod Laws
 pub mod Says
 

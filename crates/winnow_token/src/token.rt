@@ -51,8 +51,7 @@ where
 {
     Literal {
         literal,
-        input: PhantomData,
-        error: PhantomData,
+        marker: PhantomData,
     }
 }
 
@@ -82,8 +81,7 @@ where
     TakeWhile {
         occurrences,
         set,
-        input: PhantomData,
-        error: PhantomData,
+        marker: PhantomData,
     }
 }
 
@@ -111,8 +109,7 @@ where
     TakeTill {
         occurrences,
         set,
-        input: PhantomData,
-        error: PhantomData,
+        marker: PhantomData,
     }
 }
 
@@ -162,8 +159,7 @@ where
 {
     OneOf {
         set,
-        input: PhantomData,
-        error: PhantomData,
+        marker: PhantomData,
     }
 }
 
@@ -186,8 +182,7 @@ where
 {
     NoneOf {
         set,
-        input: PhantomData,
-        error: PhantomData,
+        marker: PhantomData,
     }
 }
 
@@ -210,8 +205,7 @@ where
 {
     Take {
         count: token_count.to_usize(),
-        input: PhantomData,
-        error: PhantomData,
+        marker: PhantomData,
     }
 }
 
@@ -251,8 +245,7 @@ where
     TakeUntil {
         occurrences,
         literal,
-        input: PhantomData,
-        error: PhantomData,
+        marker: PhantomData,
     }
 }
 

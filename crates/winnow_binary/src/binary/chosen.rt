@@ -29,8 +29,7 @@ where
 {
     U16 {
         endian,
-        input: PhantomData,
-        error: PhantomData,
+        marker: PhantomData,
     }
 }
 
@@ -53,8 +52,7 @@ where
 {
     U24 {
         endian,
-        input: PhantomData,
-        error: PhantomData,
+        marker: PhantomData,
     }
 }
 
@@ -77,8 +75,7 @@ where
 {
     U32 {
         endian,
-        input: PhantomData,
-        error: PhantomData,
+        marker: PhantomData,
     }
 }
 
@@ -101,8 +98,7 @@ where
 {
     U64 {
         endian,
-        input: PhantomData,
-        error: PhantomData,
+        marker: PhantomData,
     }
 }
 
@@ -125,8 +121,7 @@ where
 {
     U128 {
         endian,
-        input: PhantomData,
-        error: PhantomData,
+        marker: PhantomData,
     }
 }
 
@@ -149,8 +144,7 @@ where
 {
     I16 {
         endian,
-        input: PhantomData,
-        error: PhantomData,
+        marker: PhantomData,
     }
 }
 
@@ -173,8 +167,7 @@ where
 {
     I24 {
         endian,
-        input: PhantomData,
-        error: PhantomData,
+        marker: PhantomData,
     }
 }
 
@@ -197,8 +190,7 @@ where
 {
     I32 {
         endian,
-        input: PhantomData,
-        error: PhantomData,
+        marker: PhantomData,
     }
 }
 
@@ -221,8 +213,7 @@ where
 {
     I64 {
         endian,
-        input: PhantomData,
-        error: PhantomData,
+        marker: PhantomData,
     }
 }
 
@@ -245,7 +236,6 @@ where
 {
     I128 {
         endian,
-        input: PhantomData,
-        error: PhantomData,
+        marker: PhantomData,
     }
 }

@@ -27,9 +27,7 @@ pub fn opt<Input, Output, Error, ParseNext>(
 {
     Opt {
         parser,
-        input: PhantomData,
-        output: PhantomData,
-        error: PhantomData,
+        marker: PhantomData,
     }
 }
 
@@ -54,9 +52,7 @@ pub fn cond<Input, Output, Error, ParseNext>(
     Cond {
         condition,
         parser,
-        input: PhantomData,
-        output: PhantomData,
-        error: PhantomData,
+        marker: PhantomData,
     }
 }
 
@@ -75,9 +71,7 @@ pub fn peek<Input, Output, Error, ParseNext>(
 {
     Peek {
         parser,
-        input: PhantomData,
-        output: PhantomData,
-        error: PhantomData,
+        marker: PhantomData,
     }
 }
 
@@ -102,9 +96,7 @@ pub fn not<Input, Output, Error, ParseNext>(
 {
     Not {
         parser,
-        input: PhantomData,
-        output: PhantomData,
-        error: PhantomData,
+        marker: PhantomData,
     }
 }
 
@@ -129,9 +121,7 @@ pub fn cut_err<Input, Output, Error, ParseNext>(
 {
     CutErr {
         parser,
-        input: PhantomData,
-        output: PhantomData,
-        error: PhantomData,
+        marker: PhantomData,
     }
 }
 
@@ -154,9 +144,7 @@ pub fn backtrack_err<Input, Output, Error, ParseNext>(
 {
     BacktrackErr {
         parser,
-        input: PhantomData,
-        output: PhantomData,
-        error: PhantomData,
+        marker: PhantomData,
     }
 }
 

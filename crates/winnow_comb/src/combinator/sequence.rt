@@ -27,10 +27,7 @@ pub fn preceded<Input, Ignored, Output, Error, IgnoredParser, ParseNext>(
     Preceded {
         ignored,
         parser,
-        input: PhantomData,
-        output1: PhantomData,
-        output2: PhantomData,
-        error: PhantomData,
+        marker: PhantomData,
     }
 }
 
@@ -56,10 +53,7 @@ pub fn terminated<Input, Output, Ignored, Error, ParseNext, IgnoredParser>(
     Terminated {
         parser,
         ignored,
-        input: PhantomData,
-        output1: PhantomData,
-        output2: PhantomData,
-        error: PhantomData,
+        marker: PhantomData,
     }
 }
 
@@ -87,11 +81,7 @@ pub fn separated_pair<Input, Output1, Sep, Output2, Error, Parser1, SepParser, P
         first,
         separator,
         second,
-        input: PhantomData,
-        output1: PhantomData,
-        output2: PhantomData,
-        output3: PhantomData,
-        error: PhantomData,
+        marker: PhantomData,
     }
 }
 
@@ -131,10 +121,6 @@ pub fn delimited<
         ignored1,
         parser,
         ignored2,
-        input: PhantomData,
-        output1: PhantomData,
-        output2: PhantomData,
-        output3: PhantomData,
-        error: PhantomData,
+        marker: PhantomData,
     }
 }

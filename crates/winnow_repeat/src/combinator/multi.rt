@@ -80,10 +80,7 @@ pub fn repeat<P, I, O, C, E, A>(alloc: A, occurrences: Range, parser: P) -> Repe
         alloc,
         occurrences,
         parser,
-        input: PhantomData,
-        output: PhantomData,
-        accumulator: PhantomData,
-        error: PhantomData,
+        marker: PhantomData,
     }
 }
 

@@ -1,6 +1,8 @@
-use Rattle.std.proofs.Common.{◌∙◌, arith, inr, sym}
+use Rattle.std.proofs.Common.{◌∙◌, arith, inr, refl, sym}
 use Rattle.format_csv_reader.proofs.Finding.{found_over, grew_more, grew_none, of_more, of_same}
 use Rattle.format_csv_reader.proofs.Finding.{small_more, small_none}
+use Rattle.format_csv_reader.proofs.Finding.{err_in, no_err}
+use Rattle.format_csv_reader.specs.declared.error.ReadError.TheVariants.{OutOfMemory}
 use Rattle.format_csv_reader.proofs.finds.find.Goals as goal
 
 pub loop-found-init : goal.loop-found-init
@@ -74,3 +76,13 @@ returns-in-Err-clause-small g c =
     small_more _ _ _ _ _ _ _ c.in-Err.ensures.grew.grew
     (rw c.held.ensures at c.in-None.ensures.found).1 c.loop-found.invariant.small
     c.in-Err.ensures.size
+
+pub returns-in-Some-clause-full : goal.returns-in-Some-clause-full
+returns-in-Some-clause-full g c = λ e. no_err e
+
+pub returns-then-count-eq0-clause-full : goal.returns-then-count-eq0-clause-full
+returns-then-count-eq0-clause-full g c = λ e. no_err e
+
+pub returns-in-Err-clause-full : goal.returns-in-Err-clause-full
+returns-in-Err-clause-full g c = λ e.
+    err_in _ _ c.in-Err.error OutOfMemory refl refl e c.in-Err.ensures.full

@@ -1,7 +1,8 @@
-use Rattle.std.proofs.Common.{[], ◌≡◌, Result, Err, refl, subst, sym, ◌+◌, ap}
+use Rattle.std.proofs.Common.{[], ◌≡◌, Result, Err, refl, subst, sym, ◌+◌, ap, arith}
 use Rattle.format_toml_tree.specs.Answer.{answers_fault, no_memory, answers_tree}
 use Rattle.format_toml_tree.specs.Holds.{AddsLine}
-use Rattle.format_toml_tree.proofs.Lines.{LeftToAdd, all_added, left_added, left_blank, left_first}
+use Rattle.format_toml_tree.proofs.Lines.{LeftToAdd, all_added, all_in_order, left_added}
+use Rattle.format_toml_tree.proofs.Lines.{left_blank, left_first}
 use Rattle.format_toml_tree.proofs.Lines.{line_refused, none_of, some_place, stands}
 use Rattle.format_toml_tree.specs.Runs.{Gives, empty}
 use Rattle.format_toml_tree.specs.declared.build.TreeError.{TreeError}
@@ -51,7 +52,7 @@ loop-line-preserved g c =
 pub returns-clause-accepted : goal.returns-clause-accepted
 returns-clause-accepted g c = (
   c.loop-line.invariant.tree,
-  all_added _ _ _ _ _ c.loop-line.invariant c.loop-line-test.false,
+  all_added _ _ _ _ _ c.loop-line.invariant c.loop-line-test.false (omega arith),
   (
     c.loop-line.invariant.path,
     c.loop-line.invariant.holds,
@@ -59,6 +60,10 @@ returns-clause-accepted g c = (
   ),
   c.loop-line.invariant.nested,
 )
+
+pub returns-clause-order : goal.returns-clause-order
+returns-clause-order g c =
+    all_in_order _ _ _ _ _ c.loop-line.invariant c.loop-line-test.false (omega arith)
 
 pub returns-in_err-tree-clause-answers : goal.returns-in_err-tree-clause-answers
 returns-in_err-tree-clause-answers g c =

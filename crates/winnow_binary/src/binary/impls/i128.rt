@@ -30,8 +30,7 @@ use winnow_integers::binary::{Endianness, be_i128, le_i128};
 #[derive(Drop)]
 pub struct I128<I, E> {
     pub(crate) endian: Endianness,
-    pub(crate) input: PhantomData<I>,
-    pub(crate) error: PhantomData<E>,
+    pub(crate) marker: PhantomData<(I, E)>,
 }
 
 impl<I: StreamIsPartial + ByteStream, E: ParserError<I>> Parser<I, i128, E> for I128<I, E> {

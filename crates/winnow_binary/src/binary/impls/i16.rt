@@ -30,8 +30,7 @@ use winnow_integers::binary::{Endianness, be_i16, le_i16};
 #[derive(Drop)]
 pub struct I16<I, E> {
     pub(crate) endian: Endianness,
-    pub(crate) input: PhantomData<I>,
-    pub(crate) error: PhantomData<E>,
+    pub(crate) marker: PhantomData<(I, E)>,
 }
 
 impl<I: StreamIsPartial + ByteStream, E: ParserError<I>> Parser<I, i16, E> for I16<I, E> {

@@ -30,8 +30,7 @@ use winnow_integers::binary::{Endianness, be_i32, le_i32};
 #[derive(Drop)]
 pub struct I32<I, E> {
     pub(crate) endian: Endianness,
-    pub(crate) input: PhantomData<I>,
-    pub(crate) error: PhantomData<E>,
+    pub(crate) marker: PhantomData<(I, E)>,
 }
 
 impl<I: StreamIsPartial + ByteStream, E: ParserError<I>> Parser<I, i32, E> for I32<I, E> {

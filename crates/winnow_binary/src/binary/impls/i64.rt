@@ -30,8 +30,7 @@ use winnow_integers::binary::{Endianness, be_i64, le_i64};
 #[derive(Drop)]
 pub struct I64<I, E> {
     pub(crate) endian: Endianness,
-    pub(crate) input: PhantomData<I>,
-    pub(crate) error: PhantomData<E>,
+    pub(crate) marker: PhantomData<(I, E)>,
 }
 
 impl<I: StreamIsPartial + ByteStream, E: ParserError<I>> Parser<I, i64, E> for I64<I, E> {

@@ -30,8 +30,7 @@ use winnow_integers::binary::{Endianness, be_u128, le_u128};
 #[derive(Drop)]
 pub struct U128<I, E> {
     pub(crate) endian: Endianness,
-    pub(crate) input: PhantomData<I>,
-    pub(crate) error: PhantomData<E>,
+    pub(crate) marker: PhantomData<(I, E)>,
 }
 
 impl<I: StreamIsPartial + ByteStream, E: ParserError<I>> Parser<I, u128, E> for U128<I, E> {

@@ -30,8 +30,7 @@ use winnow_integers::binary::{Endianness, be_u16, le_u16};
 #[derive(Drop)]
 pub struct U16<I, E> {
     pub(crate) endian: Endianness,
-    pub(crate) input: PhantomData<I>,
-    pub(crate) error: PhantomData<E>,
+    pub(crate) marker: PhantomData<(I, E)>,
 }
 
 impl<I: StreamIsPartial + ByteStream, E: ParserError<I>> Parser<I, u16, E> for U16<I, E> {

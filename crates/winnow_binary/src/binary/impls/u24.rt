@@ -30,8 +30,7 @@ use winnow_integers::binary::{Endianness, be_u24, le_u24};
 #[derive(Drop)]
 pub struct U24<I, E> {
     pub(crate) endian: Endianness,
-    pub(crate) input: PhantomData<I>,
-    pub(crate) error: PhantomData<E>,
+    pub(crate) marker: PhantomData<(I, E)>,
 }
 
 impl<I: StreamIsPartial + ByteStream, E: ParserError<I>> Parser<I, u32, E> for U24<I, E> {

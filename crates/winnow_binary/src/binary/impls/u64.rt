@@ -30,8 +30,7 @@ use winnow_integers::binary::{Endianness, be_u64, le_u64};
 #[derive(Drop)]
 pub struct U64<I, E> {
     pub(crate) endian: Endianness,
-    pub(crate) input: PhantomData<I>,
-    pub(crate) error: PhantomData<E>,
+    pub(crate) marker: PhantomData<(I, E)>,
 }
 
 impl<I: StreamIsPartial + ByteStream, E: ParserError<I>> Parser<I, u64, E> for U64<I, E> {

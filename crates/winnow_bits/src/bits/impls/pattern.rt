@@ -35,8 +35,7 @@ use winnow_core::stable::Stable;
 pub struct Pattern<I, O, E> {
     pub(crate) value: O,
     pub(crate) count: usize,
-    pub(crate) input: PhantomData<I>,
-    pub(crate) error: PhantomData<E>,
+    pub(crate) marker: PhantomData<(I, E)>,
 }
 
 impl<I: ByteStream + StreamIsPartial, O: BitOutput, E: ParserError<Bits<I>>> Parser<Bits<I>, O, E>

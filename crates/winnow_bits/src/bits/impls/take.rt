@@ -33,9 +33,7 @@ use winnow_core::stable::Stable;
 #[derive(Drop)]
 pub struct Take<I, O, E> {
     pub(crate) count: usize,
-    pub(crate) input: PhantomData<I>,
-    pub(crate) output: PhantomData<O>,
-    pub(crate) error: PhantomData<E>,
+    pub(crate) marker: PhantomData<(I, O, E)>,
 }
 
 impl<I: ByteStream + StreamIsPartial, O: BitOutput, E: ParserError<Bits<I>>> Parser<Bits<I>, O, E>

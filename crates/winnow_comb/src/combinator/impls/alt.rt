@@ -74,9 +74,7 @@ pub trait Alt<I: Stream, O, E: ParserError<I>> {
 #[derive(Drop)]
 pub struct AltParser<A, I, O, E> {
     pub(crate) alternatives: A,
-    pub(crate) input: PhantomData<I>,
-    pub(crate) output: PhantomData<O>,
-    pub(crate) error: PhantomData<E>,
+    pub(crate) marker: PhantomData<(I, O, E)>,
 }
 
 impl<A: Alt<I, O, E>, I: Stream, O, E: ParserError<I>> Parser<I, O, E> for AltParser<A, I, O, E> {

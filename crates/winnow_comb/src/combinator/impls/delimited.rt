@@ -23,11 +23,7 @@ pub struct Delimited<P1, P2, P3, I, O1, O2, O3, E> {
     pub(crate) ignored1: P1,
     pub(crate) parser: P2,
     pub(crate) ignored2: P3,
-    pub(crate) input: PhantomData<I>,
-    pub(crate) output1: PhantomData<O1>,
-    pub(crate) output2: PhantomData<O2>,
-    pub(crate) output3: PhantomData<O3>,
-    pub(crate) error: PhantomData<E>,
+    pub(crate) marker: PhantomData<(I, O1, O2, O3, E)>,
 }
 
 impl<

@@ -24,9 +24,7 @@ use winnow_core::stable::Stable;
 #[derive(Drop)]
 pub struct Opt<P, I, O, E> {
     pub(crate) parser: P,
-    pub(crate) input: PhantomData<I>,
-    pub(crate) output: PhantomData<O>,
-    pub(crate) error: PhantomData<E>,
+    pub(crate) marker: PhantomData<(I, O, E)>,
 }
 
 impl<P: Parser<I, O, E>, I: Stream, O, E: ParserError<I>> Parser<I, Option<O>, E>

@@ -23,10 +23,7 @@ use winnow_core::stable::Stable;
 pub struct Preceded<P1, P2, I, O1, O2, E> {
     pub(crate) ignored: P1,
     pub(crate) parser: P2,
-    pub(crate) input: PhantomData<I>,
-    pub(crate) output1: PhantomData<O1>,
-    pub(crate) output2: PhantomData<O2>,
-    pub(crate) error: PhantomData<E>,
+    pub(crate) marker: PhantomData<(I, O1, O2, E)>,
 }
 
 impl<P1: Parser<I, O1, E>, P2: Parser<I, O2, E>, I: Stream, O1: Drop, O2, E: ParserError<I>> Parser<

@@ -24,11 +24,7 @@ pub struct SeparatedPair<P1, P2, P3, I, O1, O2, O3, E> {
     pub(crate) first: P1,
     pub(crate) separator: P2,
     pub(crate) second: P3,
-    pub(crate) input: PhantomData<I>,
-    pub(crate) output1: PhantomData<O1>,
-    pub(crate) output2: PhantomData<O2>,
-    pub(crate) output3: PhantomData<O3>,
-    pub(crate) error: PhantomData<E>,
+    pub(crate) marker: PhantomData<(I, O1, O2, O3, E)>,
 }
 
 impl<

@@ -23,10 +23,7 @@ use winnow_core::stable::Stable;
 pub struct Terminated<P1, P2, I, O1, O2, E> {
     pub(crate) parser: P1,
     pub(crate) ignored: P2,
-    pub(crate) input: PhantomData<I>,
-    pub(crate) output1: PhantomData<O1>,
-    pub(crate) output2: PhantomData<O2>,
-    pub(crate) error: PhantomData<E>,
+    pub(crate) marker: PhantomData<(I, O1, O2, E)>,
 }
 
 impl<

@@ -40,10 +40,7 @@ pub struct Repeat<P, I, O, C, E, A> {
     pub(crate) alloc: A,
     pub(crate) occurrences: Range,
     pub(crate) parser: P,
-    pub(crate) input: PhantomData<I>,
-    pub(crate) output: PhantomData<O>,
-    pub(crate) accumulator: PhantomData<C>,
-    pub(crate) error: PhantomData<E>,
+    pub(crate) marker: PhantomData<(I, O, C, E)>,
 }
 
 impl<P: Parser<I, O, E>, I: Stream, O, E: ParserError<I>, A: Drop> Repeat<P, I, O, (), E, A> {

@@ -29,8 +29,7 @@ use winnow_core::stable::Stable;
 #[derive(Drop)]
 pub struct Literal<T, I, E> {
     pub(crate) literal: T,
-    pub(crate) input: PhantomData<I>,
-    pub(crate) error: PhantomData<E>,
+    pub(crate) marker: PhantomData<(I, E)>,
 }
 
 impl<T: Copy, I: StreamIsPartial + Compare<T>, E: ParserError<I>> Parser<I, I::Slice, E>

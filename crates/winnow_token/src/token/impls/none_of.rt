@@ -31,8 +31,7 @@ use winnow_core::stable::Stable;
 #[derive(Drop)]
 pub struct NoneOf<S, I, E> {
     pub(crate) set: S,
-    pub(crate) input: PhantomData<I>,
-    pub(crate) error: PhantomData<E>,
+    pub(crate) marker: PhantomData<(I, E)>,
 }
 
 impl<S: ContainsToken<I::Token>, I: StreamIsPartial, E: ParserError<I>> Parser<I, I::Token, E>

@@ -30,8 +30,7 @@ use winnow_core::stable::Stable;
 #[derive(Drop)]
 pub struct OneOf<S, I, E> {
     pub(crate) set: S,
-    pub(crate) input: PhantomData<I>,
-    pub(crate) error: PhantomData<E>,
+    pub(crate) marker: PhantomData<(I, E)>,
 }
 
 impl<S: ContainsToken<I::Token>, I: StreamIsPartial, E: ParserError<I>> Parser<I, I::Token, E>

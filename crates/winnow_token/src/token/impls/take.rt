@@ -26,8 +26,7 @@ use winnow_core::stable::Stable;
 #[derive(Drop)]
 pub struct Take<I, E> {
     pub(crate) count: usize,
-    pub(crate) input: PhantomData<I>,
-    pub(crate) error: PhantomData<E>,
+    pub(crate) marker: PhantomData<(I, E)>,
 }
 
 impl<I: StreamIsPartial, E: ParserError<I>> Parser<I, I::Slice, E> for Take<I, E> {

@@ -34,8 +34,7 @@ use winnow_core::stable::Stable;
 pub struct TakeUntil<T, I, E> {
     pub(crate) occurrences: Range,
     pub(crate) literal: T,
-    pub(crate) input: PhantomData<I>,
-    pub(crate) error: PhantomData<E>,
+    pub(crate) marker: PhantomData<(I, E)>,
 }
 
 impl<T: Copy, I: StreamIsPartial + FindSlice<T>, E: ParserError<I>> Parser<I, I::Slice, E>

@@ -36,8 +36,7 @@ use winnow_core::stable::Stable;
 pub struct TakeWhile<S, I, E> {
     pub(crate) occurrences: Range,
     pub(crate) set: S,
-    pub(crate) input: PhantomData<I>,
-    pub(crate) error: PhantomData<E>,
+    pub(crate) marker: PhantomData<(I, E)>,
 }
 
 impl<S: ContainsToken<I::Token>, I: StreamIsPartial, E: ParserError<I>> Parser<I, I::Slice, E>

@@ -1,5 +1,7 @@
-use Rattle.std.proofs.Common.{ap, arith, inl, refl}
+use Rattle.std.proofs.Common.{ap, arith, inl, inr, refl}
 use Rattle.format_csv_reader.proofs.Telling.{all_of_reads, answer_taken, failed, reads}
+use Rattle.format_csv_reader.proofs.Finding.{err_in}
+use Rattle.format_csv_reader.specs.declared.error.ReadError.TheVariants.{OutOfMemory}
 use Rattle.format_csv_reader.proofs.reader.Reader.next_record.Goals as goal
 
 pub find-requires : goal.find-requires
@@ -60,3 +62,14 @@ returns-in-Err-clause-of_all g c =
 
 pub returns-in-Err-clause-same : goal.returns-in-Err-clause-same
 returns-in-Err-clause-same g c = ap (λ t. t.dialect) c.self.view_is
+
+pub returns-in-Ok-Enough-clause-full : goal.returns-in-Ok-Enough-clause-full
+returns-in-Ok-Enough-clause-full g c = λ e.
+    inr (c.take_record.ensures.full e)
+
+pub returns-in-Ok-Never-clause-full : goal.returns-in-Ok-Never-clause-full
+returns-in-Ok-Never-clause-full g c = λ e. absurd (cc)
+
+pub returns-in-Err-clause-full : goal.returns-in-Err-clause-full
+returns-in-Err-clause-full g c = λ e.
+    inl (err_in _ _ c.in-Err.error OutOfMemory refl refl e c.in-Err.ensures.full)

@@ -10,7 +10,7 @@ returns g c =
     c.index.ensures in
     let small : length slots.items < 18446744073709551616 =
     omega (arith, slots.ok.0, slots.ok.1, slots.small) in
-    element_added _ _ _ _ _ _ _ _ c.in_ok-place.ensures c.requires
+    element_added _ _ _ _ _ _ _ _ _ c.in_ok-place.ensures c.requires
     (depth_added slots.items c.args.array _ c.index.result.now at
     c.saturating_add-depth.ensures small)
-    c.index_mut-slot.ensures.value refl refl refl c.in_ok-push.ensures.items
+    c.index_mut-slot.ensures.value refl refl refl refl c.in_ok-push.ensures.items refl refl

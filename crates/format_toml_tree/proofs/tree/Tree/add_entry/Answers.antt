@@ -10,7 +10,8 @@ returns g c =
     c.index.ensures in
     let small : length slots.items < 18446744073709551616 =
     omega (arith, slots.ok.0, slots.ok.1, slots.small) in
-    entry_added _ _ _ _ _ _ _ _ c.in_ok-place.ensures c.requires
+    entry_added _ _ _ _ _ _ _ _ _ c.in_ok-place.ensures c.requires
     (depth_added slots.items c.args.table _ c.index.result.now at
     c.saturating_add-depth.ensures small)
-    c.index_mut-slot.ensures.value refl refl c.args.name c.in_ok-insert.ensures.updates refl
+    c.index_mut-slot.ensures.value refl refl refl c.args.name c.in_ok-insert.ensures.updates refl
+    c.in_ok-push.ensures.items refl

@@ -13,8 +13,10 @@ returns g c = (
   },
   record {
     depth_is = refl;
+    name_is = refl;
     kind_is = refl;
     no_places = c.new.ensures.empty;
+    no_entries = c.new-2.ensures.items;
     no_elements = c.new-3.ensures.items;
   },
   c.in_ok-push.ensures.items,

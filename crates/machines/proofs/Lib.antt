@@ -1,0 +1,5 @@
+-- Lemmas.
+pub mod Bytes
+pub mod Extents
+pub mod Results
+pub mod Stacks

@@ -1,0 +1,74 @@
+//! Tokens and sets; text, numbers and escapes.
+use winnow::ascii::impls::{Alpha1, HexUintParser};
+use winnow::ascii::{Uint, take_escaped};
+use winnow::combinator::impls::Empty;
+use winnow::error::{ControlError, EmptyError, ErrMode, Needed};
+use winnow::prelude::*;
+use winnow::stream::{Partial, Pred};
+use winnow::token::{one_of, take_until, take_while};
+
+type Fails = ErrMode<EmptyError>;
+
+#[test]
+fn closures_are_wrapped(rt: HostRuntime) {
+    let mut input = "12a";
+    let set = Pred(|c: char| c.is_ascii_digit());
+    let read: Result<&str, Fails> = take_while(Range::from(1..), set).parse_next(&mut input);
+    assert_eq!(rt; read.ok(), Some("12"));
+}
+
+#[test]
+fn sets_nest(rt: HostRuntime) {
+    let mut input = "hg-";
+    let set = ('a', 'b', 'c', 'd', 'e', ('f', 'g', 'h'));
+    let read: Result<&str, Fails> = take_while(Range::from(1..), set).parse_next(&mut input);
+    assert_eq!(rt; read.ok(), Some("hg"));
+}
+
+#[test]
+fn tokens_are_literals(rt: HostRuntime) {
+    let mut input = Partial::new("");
+    let read: Result<char, Fails> = 'a'.parse_next(&mut input);
+    assert_eq!(rt; read, Err(ErrMode::Incomplete(Needed::Unknown)));
+}
+
+#[test]
+fn take_until_searches_once(rt: HostRuntime) {
+    let mut input = "ax..x";
+    let read: Result<&str, Fails> = take_until(Range::from(2..), 'x').parse_next(&mut input);
+    assert!(rt; matches!(read, Err(ErrMode::Backtrack(_))));
+}
+
+#[test]
+fn hex_digits_of_partial_input(rt: HostRuntime) {
+    let mut input = Partial::new("FF");
+    let read: Result<u8, Fails> = HexUintParser.parse_next(&mut input);
+    assert!(rt; matches!(read, Err(ErrMode::Incomplete(_))));
+    let mut input = "FF";
+    let read: Result<u8, Fails> = HexUintParser.parse_next(&mut input);
+    assert_eq!(rt; read.ok(), Some(255));
+}
+
+#[test]
+fn numbers_are_converted(rt: HostRuntime) {
+    assert_eq!(rt; <u8 as Uint>::try_from_number(255), Some(255));
+    assert_eq!(rt; <u8 as Uint>::try_from_number(256), None);
+}
+
+#[test]
+fn controls_have_their_error(rt: HostRuntime) {
+    let mut control = '\\';
+    let read: Result<char, ControlError> = control.parse_next(&mut "a");
+    assert_eq!(rt; read, Err(ControlError::Invalid));
+}
+
+#[test]
+fn escapes_need_progress(rt: HostRuntime) {
+    let mut input = "ab;";
+    let read: Result<&str, Fails> = take_escaped(Alpha1, Empty, Empty).parse_next(&mut input);
+    assert!(rt; matches!(read, Err(ErrMode::Cut(_))));
+    let mut input = "a\\n";
+    let read: Result<&str, Fails> =
+        take_escaped(Alpha1, '\\', one_of(['n'])).parse_next(&mut input);
+    assert_eq!(rt; read.ok(), Some("a\\n"));
+}

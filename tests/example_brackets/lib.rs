@@ -1,5 +1,0 @@
-//! The tests of brackets in brackets.
-#![tactic(auto)]
-
-#[cfg(test)]
-mod brackets;

@@ -1,5 +1,0 @@
-//! The tests of the refill loop.
-#![tactic(auto)]
-
-#[cfg(test)]
-mod frames;
