@@ -5,7 +5,8 @@ use Rattle.streams.specs.Equal.{true_is_false}
 use Rattle.stream_errors.specs.Form.{ErrorForm, modal, plain}
 use Rattle.parser_definitions.specs.Does.{Lawful}
 use Rattle.parser_definitions.specs.Left.{End, Left, extend}
-use Rattle.parser_definitions.specs.Outcome.{Alike, Does, IsFinal, Outcome, Setting, as_longer, asks}
+use Rattle.parser_definitions.specs.Outcome.{Alike, Does, IsFinal}
+use Rattle.parser_definitions.specs.Outcome.{Outcome, Setting, as_longer, asks}
 use Rattle.parser_definitions.specs.Outcome.{backs, both, final_by, grown, lacks, lacks_by, longer}
 use Rattle.parser_definitions.specs.Outcome.{misused, misused_by, on_cut, took}
 

@@ -1,5 +1,6 @@
 -- Characters of digits, and the number that they denote.
-use Rattle.std.specs.Prelude.{◌≡◌, ◌+◌, ◌*◌, ◌^◌, ⊤, ℕ, List, [], ◌∷◌, ◌++◌, length, ◌⊎◌, ◌≤◌, ◌<◌}
+use Rattle.std.specs.Prelude.{◌≡◌, ◌+◌, ◌*◌, ◌^◌, ⊤, ℕ, List}
+use Rattle.std.specs.Prelude.{[], ◌∷◌, ◌++◌, length, ◌⊎◌, ◌≤◌, ◌<◌}
 use Rattle.std.specs.Prelude.{Bool, true, false}
 use Rattle.std.specs.Char.{digit_value}
 use Rattle.std.specs.List.{All, AllByRecursion}

@@ -106,12 +106,12 @@ abbrev pub by_either : {S Q T U : Type 0} → (Left T → End S T → Type 0)
 by_either so other some none at q w end y =
     (so w end × some at q w end y) ⊎ (other w end × none at q w end y)
 
--- there may be no memory
+-- out of memory
 abbrev pub wants_on : {S Q T U : Type 0} → Comes S Q T U
 wants_on at q w end y = y ≡ wants
 
 -- A call ends at its beginning: the operand fails, or the prefix. A prefix that consumes nothing is
--- a misuse; there may be no memory for another.
+-- a misuse. For another an allocation may fail.
 abbrev pub first_last : {Q T V X : Type 0} → (List T → ℕ) → V ⊎ X → Comes Q Q T (V × Bool)
 first_last units (inl v) at q w end y = ⊥
 first_last units (inr x) at q w end y =
@@ -128,8 +128,8 @@ postfix_last {T = T} {V} g call power v p =
     × fails_as end.0 z y)
 
 -- An infix that binds too weakly, or meets a neither of its power, is put back; in the second case
--- every open call ends. It is a misuse if its right operand would begin where the call began, and
--- there may be no memory for another.
+-- every open call ends. It is a misuse if its right operand would begin where the call began. For
+-- another an allocation may fail.
 abbrev pub infix_last : {Q T V : Type 0} → (List T → ℕ) → Call → ℤ → V → Comes Q Q T (V × Bool)
 infix_last units call power v =
     by_either (λ w end. power <ℤ call.least) (λ w end. call.least ≤ℤ power)

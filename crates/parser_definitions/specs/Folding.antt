@@ -18,9 +18,9 @@ pub record Folding (Q C O : Type 0) : Type 1 where
   pub takes : Q → C → O → C → Q → Type 0
   -- an output is rejected
   pub rejects : Q → C → O → Q → Type 0
-  -- there may be no memory for the initial value
+  -- the allocation of the initial value may fail
   pub start_grows : Q → Option ℕ → Type 0
-  -- there may be no memory for an output
+  -- an allocation for an output may fail
   pub grows : Q → C → O → Type 0
 
 -- into an accumulator, which does not depend on the state
@@ -84,21 +84,21 @@ gathers_one into alike = record {
 
 -- ---- steps
 
--- The initial value is made, and a definition with it follows; or there is no memory for it.
+-- The initial value is made, and a definition with it follows; or an allocation fails.
 abbrev pub Started : {Q T C O U : Type 0} → Folding Q C O → Option ℕ → (C → Does Q T U)
     → Does Q T U
 Started {Q = Q} {C = C} f n inner at q w y =
     ((c : C) × (u : Q) × f.starts q n c u × inner c at u w y)
     ⊎ (f.start_grows q n × (y ≡ wants))
 
--- An output is added, and a definition with the new value follows; or there is no memory for it.
+-- An output is added, and a definition with the new value follows; or an allocation fails.
 abbrev pub Adds : {Q T C O U : Type 0} → Folding Q C O → (C → Does Q T U) → C × O → Does Q T U
 Adds {Q = Q} {C = C} f inner x at q w y =
     ((d : C) × (u : Q) × f.takes q x.0 x.1 d u × inner d at u w y)
     ⊎ (f.grows q x.0 x.1 × (y ≡ wants))
 
 -- An output is added, and the new value gives the outcome; it is rejected, and the outcome is a
--- backtrack at the start; or there is no memory for it.
+-- backtrack at the start; or an allocation fails.
 abbrev pub folded : {S Q T C O U : Type 0} → (Q → S → Q) → Folding Q C O → (C → U) → C → O
     → Comes S Q T U
 folded {Q = Q} {C = C} put f output c o at q w end y =

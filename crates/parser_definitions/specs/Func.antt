@@ -83,9 +83,9 @@ func_law {F} {I} {T} {O} {E} {stable} {alike} {view} {kind} {called} m = record 
       );
 }
 
--- ---- with a value beside the function
+-- ---- with a value and the function
 
--- A value beside the function is unchanged.
+-- A value that comes with the function is unchanged.
 abbrev pub beside : {A F I O E : Type 0} → (A → Calls F I O E) → Calls (A × F) I O E
 beside called s x r t z = called s.0 s.1 x r t.1 z × (t.0 ≡ s.0)
 
@@ -99,7 +99,7 @@ abbrev pub ByDoes : {N F I T O E : Type 0} → (I → Input T) → (E → Kind) 
     → Does (N × F) T O
 ByDoes view kind called = FuncDoes view kind (beside (λ n. called))
 
--- the state is put beside the value
+-- the state with the value
 abbrev beside_state : {A F : Type 0} → A → F → A × F
 beside_state a f = (a, f)
 

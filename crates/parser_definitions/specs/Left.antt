@@ -1,4 +1,4 @@
--- What a call leaves.
+-- The remaining input.
 use Rattle.std.specs.Prelude.{List, ◌++◌}
 use Rattle.streams.specs.Input.{Input}
 use Rattle.streams.specs.Kind.{Kind}
@@ -11,7 +11,7 @@ pub record Left (T : Type 0) : Type 0 where
   pub place : Place
   pub recorded : List Kind
 
--- A state and what is left.
+-- A state and the remaining input.
 abbrev pub End : Type 0 → Type 0 → Type 0
 End S T = S × Left T
 

@@ -4,7 +4,8 @@ use Rattle.parser_definitions.specs.Does.{Lawful}
 use Rattle.parser_definitions.specs.Equal.{AlikeOptions}
 use Rattle.parser_definitions.specs.Outcome.{Does}
 use Rattle.parser_definitions.specs.Then.{Next, Then, then_law}
-use Rattle.parser_definitions.specs.Then.Steps.{asks_later, asks_meet, asks_on, cuts_hold, cuts_meet}
+use Rattle.parser_definitions.specs.Then.Steps.{asks_later, asks_meet}
+use Rattle.parser_definitions.specs.Then.Steps.{asks_on, cuts_hold, cuts_meet}
 use Rattle.parser_definitions.specs.Then.Steps.{cuts_on, instead, same, takes, takes_hold}
 use Rattle.parser_definitions.specs.Then.Steps.{takes_meet, takes_none, takes_none_hold}
 use Rattle.parser_definitions.specs.Then.Steps.{takes_none_meet}

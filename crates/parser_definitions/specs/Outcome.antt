@@ -7,7 +7,7 @@ use Rattle.stream_errors.specs.Form.{Answer, ErrorForm, plain, modal}
 use Rattle.parser_definitions.specs.Left.{End, Left, extend_end}
 
 -- The outcome: it returns an output; it backtracks; it cuts; it is incomplete, with a need if that
--- is known; or it is out of memory. `L` is what is left: the new state and the remaining input.
+-- is known; or it is out of memory. `L` has the new state and the remaining input.
 pub data Outcome (L O : Type 0) : Type 0 where
   took : O → L → Outcome L O
   backs : L → Outcome L O
@@ -37,7 +37,7 @@ setting_of form i = record { form = form; more = i.status.cut; possible = i.left
 abbrev pub Does : Type 0 → Type 0 → Type 0 → Type 1
 Does S T O = Setting → S → Left T → Outcome (End S T) O → Type 0
 
--- the outcome of a result and what is left
+-- the outcome of a result and the remaining input
 abbrev pub outcome_of : {L O : Type 0} → Answer O → L → Outcome L O
 outcome_of (Ok o) left = took o left
 outcome_of (Err backtrack) left = backs left
@@ -78,8 +78,8 @@ longer more (cuts left) = cuts (extend_end more left)
 longer more (asks need left) = asks need (extend_end more left)
 longer more wants = wants
 
--- Two outcomes of the same call: equal outputs or the same error, and the same is left. Out of
--- memory is equal to every outcome.
+-- Two outcomes of the same call: equal outputs or the same error, and the same end. Out of memory
+-- is equal to every outcome.
 abbrev pub Alike : {L O : Type 0} → (O → O → Type 0) → Outcome L O → Outcome L O → Type 0
 Alike alike (took o rest) (took p end) = alike o p × (rest ≡ end)
 Alike alike (took o rest) (backs end) = ⊥

@@ -48,7 +48,7 @@ pub record Reads {S T O : Type 0} (does : Does S T O) (form : ErrorForm) (s : S)
   pub fails : (w : Left T) (end : End S T) → does (complete form) s w (backs end)
       → NoMatch grammar w.tokens
 
--- And the tokens determine the rest after a match. Nothing is said of cuts and want of memory.
+-- And the tokens determine the rest after a match. Cuts and out of memory are not specified.
 pub record Projects {S T O : Type 0} (does : Does S T O) (form : ErrorForm) (s : S)
     (grammar : Grammar T O) : Type 0 where
   pub takes : (w : Left T) (o : O) (end : End S T) → does (complete form) s w (took o end)

@@ -1,5 +1,6 @@
 -- The grammar of `separated`.
-use Rattle.std.specs.Prelude.{◌≡◌, ◌<◌, ◌≤◌, ◌+◌, ◌-◌, ℕ, List, [], ◌∷◌, length, Option, Some, None}
+use Rattle.std.specs.Prelude.{◌≡◌, ◌<◌, ◌≤◌, ◌+◌, ◌-◌, ℕ}
+use Rattle.std.specs.Prelude.{List, [], ◌∷◌, length, Option, Some, None}
 use Rattle.std.proofs.Common.{sym, subst, ap, inl, inr, ◌∙◌, arith}
 use Rattle.streams.specs.Equal.{none_is_some, same_some}
 use Rattle.stream_sets.specs.Accumulator.{Accumulator}
@@ -132,7 +133,8 @@ module _ {S W T O D : Type 0} {element : Does S T O} {separator : Does W T D} {f
     element_takes c starts w all end (inr (below, (took o place, d, inl (b, u, (adds, e), a)))) =
         let there : States u = subst States (sym e) (after w o place d) in
         let (os, folds, (each, least, stop)) = items_take pair_of with_pair
-        (link_reads p r takes_some) carries (links_within bounds) (within_links bounds.least bounds.greatest fits) b u place.1 all end
+        (link_reads p r takes_some) carries (links_within bounds)
+        (within_links bounds.least bounds.greatest fits) b u place.1 all end
         there a in (
           o ∷ os,
           keeps.held (capacity_of bounds.least bounds.greatest) c all (o ∷ os) starts (record {

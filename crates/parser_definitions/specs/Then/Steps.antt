@@ -6,7 +6,8 @@ use Rattle.parser_definitions.specs.Left.{End, Left, back}
 use Rattle.parser_definitions.specs.Outcome.{Does, IsFinal, Outcome, alike_wider, as_longer, asks}
 use Rattle.parser_definitions.specs.Outcome.{backs, both, cuts, final_by, longer, took}
 use Rattle.parser_definitions.specs.Then.{Comes, Holds, Meets, Next, NextHolds, NextMeets, Then}
-use Rattle.parser_definitions.specs.Then.{final_comes, one_comes, stays_comes, then_law, whole_comes}
+use Rattle.parser_definitions.specs.Then.{final_comes, one_comes, stays_comes, then_law}
+use Rattle.parser_definitions.specs.Then.{whole_comes}
 
 -- ---- states of children in the state of the whole
 
