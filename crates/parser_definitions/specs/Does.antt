@@ -8,8 +8,8 @@ use Rattle.parser_definitions.specs.Left.{End, Left, extend, left_of}
 use Rattle.parser_definitions.specs.Outcome.{Alike, Does, IsFinal, Outcome, Setting, alike_wider}
 use Rattle.parser_definitions.specs.Outcome.{asks, grown, longer, on_cut, outcome_of, setting_of}
 
--- A call leaves a suffix of its input, keeps the flag for partial input, and has an outcome that the
--- definition allows.
+-- A call leaves a suffix of its input, keeps the flag for partial input, and has an outcome that
+-- the definition allows.
 abbrev pub Ran : {S T L O : Type 0} → Reading T L → Does S T O → ErrorForm → S → Input T
     → Answer O → S → Input T → Type 0
 Ran reading does form s i answer t j =

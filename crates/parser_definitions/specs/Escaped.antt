@@ -157,7 +157,8 @@ turn_law {S} {W} {V} {T} {O} {D} {P} {sure} {kept} {third} {alike} {marks} {also
     (Then (two_of {X = S} {Z = V}) (Control control) (after_control {O = O} escape)) =
     then_law (control_law mark) (record {
       took = λ d e like. then_meets with_two three_of last (meets_where with_three
-          {came = λ p. takes with_three (Some (inr p))} {also = λ p. takes with_three (Some (inr p))}
+          {came = λ p. takes with_three (Some (inr p))}
+          {also = λ p. takes with_three (Some (inr p))}
           (λ o p like. takes_meet with_three like));
       backs = takes_meet with_two tt;
       cuts = cuts_meet with_two;

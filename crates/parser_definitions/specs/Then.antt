@@ -8,8 +8,8 @@ use Rattle.parser_definitions.specs.Outcome.{asks, backs, both, by_alike, cuts, 
 use Rattle.parser_definitions.specs.Outcome.{longer, on_cut, took, wants}
 pub mod Steps
 
--- `came at q start end y`: a whole in state `q` called a child at `start`; the child left `end`, and
--- the outcome of the whole is `y`.
+-- `came at q start end y`: a whole in state `q` called a child at `start`; the child left `end`,
+-- and the outcome of the whole is `y`.
 abbrev pub Comes : Type 0 → Type 0 → Type 0 → Type 0 → Type 1
 Comes S Q T U = Setting → Q → Left T → End S T → Outcome (End Q T) U → Type 0
 
