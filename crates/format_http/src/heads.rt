@@ -11,3 +11,5 @@ pub mod laws;
 pub mod named;
 pub mod request_line;
 pub mod sets;
+pub mod targets;
+mod uris;
