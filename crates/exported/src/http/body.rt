@@ -162,10 +162,10 @@ fn error_of(fault: FramingError) -> u32
 /// empty element. Names of fields and codings are compared ignoring ASCII case. Codings other than
 /// `chunked` are not distinguished.
 ///
-/// So is a request whose target is in none of the four forms that its method may have (section
-/// 3.2), one whose Host field is not a host with an optional port, and one whose Transfer-Encoding
-/// is not a list of codings (RFC 9110, section 10.1.4). Whether the bytes of a host in brackets are
-/// an address is not examined.
+/// A request is also rejected if its target is in none of the forms that its method may have
+/// (section 3.2), if its Host field is not a host with an optional port, or if its
+/// Transfer-Encoding is not a list of codings (RFC 9110, section 10.1.4). Whether the bytes of a
+/// host in brackets are an address is not examined.
 ///
 /// `DONE`: the kind is written, and the length of a body of the kind `HTTP_BODY_LENGTH`. The kind
 /// is `HTTP_BODY_NONE`, `HTTP_BODY_CHUNKED` or `HTTP_BODY_LENGTH`.

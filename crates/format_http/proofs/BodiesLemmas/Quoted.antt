@@ -2,7 +2,7 @@
 use Rattle.std.specs.Prelude.{◌≡◌, ◌<◌, ◌≤◌, ◌+◌, ◌-◌, ◌++◌, ℕ, List, [], ◌∷◌, length}
 use Rattle.std.specs.Prelude.{Bool, cond, false, true}
 use Rattle.std.specs.List.{onto_first}
-use Rattle.std.proofs.Common.{refl, sym, ap, ◌∙◌, append_assoc, append-nil, arith, drop, get_or}
+use Rattle.std.proofs.Common.{sym, ap, ◌∙◌, append_assoc, append-nil, arith, drop, get_or}
 use Rattle.std.proofs.Common.{length-drop, take}
 use Rattle.std.proofs.lemmas.List.{drop_all, drop_more, take_all, take_more}
 use Rattle.format_http.specs.Bodies.Lists.{after, parts_from, quoted_parts_of, separates}
@@ -10,7 +10,7 @@ use Rattle.format_http.specs.declared.bodies.lists.Quoting.{Quoting}
 use Rattle.format_http.specs.declared.bodies.lists.Quoting.TheVariants.{Outside}
 
 module _ (at : Quoting) (b : ℕ) (more : List ℕ) where
-  Split : Bool → List (List ℕ)
+  abbrev Split : Bool → List (List ℕ)
   Split ends = cond ends ([] ∷ parts_from Outside more)
       (onto_first b (parts_from (after at b) more))
 
@@ -28,9 +28,6 @@ abbrev pub IsRest : List ℕ → Quoting → ℕ → Type 0
 IsRest xs at i = (part : List ℕ) (parts : List (List ℕ)) → parts_from at (drop i xs) ≡ part ∷ parts
     → quoted_parts_of xs ≡ (take i xs ++ part) ∷ parts
 
-pub rest_first : (xs : List ℕ) → IsRest xs Outside 0
-rest_first xs part parts e = e
-
 pub rest_last : (xs : List ℕ) (at : Quoting) (i : ℕ) → IsRest xs at i → length xs ≤ i
     → quoted_parts_of xs ≡ xs ∷ []
 rest_last xs at i is all =
@@ -43,7 +40,8 @@ module _ (xs : List ℕ) (at : Quoting) (i d : ℕ) (is : IsRest xs at i) (below
   rest_more goes part parts e =
       let b = get_or xs i d in
       is (b ∷ part) parts
-      (ap (parts_from at) (drop_more xs i d below) ∙ goes_on at b (drop (i + 1) xs) part parts goes e)
+      (ap (parts_from at) (drop_more xs i d below)
+      ∙ goes_on at b (drop (i + 1) xs) part parts goes e)
       ∙ ap (λ l. l ∷ parts) (sym (append_assoc (take i xs) (b ∷ []) part)
       ∙ ap (λ l. l ++ part) (sym (take_more xs i d below)))
 

@@ -1,19 +1,19 @@
 -- Lemmas about the state in a transfer coding after a byte.
 use Rattle.std.specs.Prelude.{◌≡◌, ◌⊎◌, ◌↔◌, ℕ, zero, suc, List, [], ◌∷◌, Option, Some, None}
-use Rattle.std.proofs.Common.{arith, inl, inr, refl, subst, sym}
+use Rattle.std.proofs.Common.{arith, inl, inr, subst, sym}
 use Rattle.format_http.specs.Bodies.Codings.{AtEnd, Parameter}
 use Rattle.format_http.specs.Bodies.Dues.{IsDue, IsStep, Others}
 use Rattle.format_http.specs.Heads.Bytes.{IsTokenByte, IsWhite}
 use Rattle.format_http.specs.declared.bodies.coding.Place.{Place}
 use Rattle.format_http_chunked.proofs.Splits.{opens, quoted_byte, some, spaced, then, value}
 use Rattle.format_http_chunked.proofs.Splits.{Splits}
-use Rattle.format_http_chunked.proofs.Turns.{bare, behind_byte, both_ways, goes_in, goes_out}
+use Rattle.format_http_chunked.proofs.Turns.{bare, behind_byte, both_ways, goes_in}
 use Rattle.format_http_chunked.proofs.Turns.{left_only, quoted_plain, right_only, spaced_mark}
 use Rattle.format_http_chunked.proofs.Turns.{spaced_none, spaced_white, token_plain, white_most}
 use Rattle.format_http_chunked.proofs.Turns.{white_no_token}
 use Rattle.format_http_chunked.specs.Bodies.{IsQuotedByte, IsValueByte, QuotedByte, Spaced, Value}
 use Rattle.format_http_chunked.specs.Words as words
-use Rattle.format_http_chunked.specs.Words.{Byte, Many, One, Star, Times}
+use Rattle.format_http_chunked.specs.Words.{Byte, Many, One, Star}
 
 parameter : Splits (λ next. Spaced 59 (Parameter next))
 parameter = then (Spaced 59) Parameter (spaced 59)
@@ -81,20 +81,7 @@ module _ (b : ℕ) (bytes : List ℕ) where
       none (inl x) = (quoted_plain b x.0).0 e
       none (inr x) = omega (arith, e, x.0)
 
-  pub quotes_none : (IsQuotedByte b → ⊥) → (b ≡ 34 → ⊥) → (b ≡ 92 → ⊥)
-      → Star QuotedByte (Byte 34 Others) (b ∷ bytes) → ⊥
-  quotes_none plain end escape x = none (quotes.0 x)
-    where
-      none : Byte 34 Others (b ∷ bytes)
-          ⊎ QuotedByte (Star QuotedByte (Byte 34 Others)) (b ∷ bytes) → ⊥
-      none (inl y) = end y.0
-      none (inr (inl y)) = plain y.0
-      none (inr (inr y)) = escape y.0
-
 -- ---- the end
-
-pub others_end : Others []
-others_end = (0, refl)
 
 pub quotes_not_end : Star QuotedByte (Byte 34 Others) [] → ⊥
 quotes_not_end (zero, x) = x

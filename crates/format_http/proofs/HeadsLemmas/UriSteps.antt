@@ -1,11 +1,12 @@
 -- Lemmas about the state in a host or a request target after a byte.
-use Rattle.std.specs.Prelude.{◌≡◌, ◌⊎◌, ◌↔◌, ℕ, zero, suc, List, [], ◌∷◌, Option, None, Some}
-use Rattle.std.proofs.Common.{arith, inl, inr, refl, subst, sym}
+use Rattle.std.specs.Prelude.{◌≡◌, ◌⊎◌, ◌↔◌, ℕ, zero, suc, List, [], ◌∷◌, Option, None}
+use Rattle.std.specs.Prelude.{Some}
+use Rattle.std.proofs.Common.{arith, inl, inr, subst, sym}
 use Rattle.format_http.specs.Heads.Bytes.{IsDigit}
 use Rattle.format_http.specs.Heads.Targets.{BeginsWithoutSlash, Hierarchy}
 use Rattle.format_http.specs.Heads.UriDues.{AfterHost, AfterPort, IsDue, IsStep, StartsPath}
 use Rattle.format_http.specs.Heads.Uris.{AtEnd, Encoded, Host, IsAddressByte, IsNameByte}
-use Rattle.format_http.specs.Heads.Uris.{IsPathByte, IsSchemeByte, Path, PathAfterHost}
+use Rattle.format_http.specs.Heads.Uris.{IsPathByte, IsSchemeByte, Path}
 use Rattle.format_http.specs.declared.heads.uris.Kind.{Kind}
 use Rattle.format_http.specs.declared.heads.uris.Kind.TheVariants as kind
 use Rattle.format_http.specs.declared.heads.uris.Place.{Place}
@@ -18,7 +19,8 @@ use Rattle.format_http_chunked.specs.Words.{Byte, Many, One, Star}
 -- ---- bytes
 
 pub name_plain : (b : ℕ) → IsNameByte b
-    → (b ≡ 37 → ⊥) × (b ≡ 58 → ⊥) × (b ≡ 47 → ⊥) × (b ≡ 63 → ⊥) × (b ≡ 91 → ⊥) × (b ≡ 93 → ⊥)
+    → (b ≡ 37 → ⊥) × (b ≡ 58 → ⊥) × (b ≡ 47 → ⊥) × (b ≡ 63 → ⊥) × (b ≡ 91 → ⊥)
+    × (b ≡ 93 → ⊥)
 name_plain b t = grind arith
 
 pub path_plain : (b : ℕ) → IsPathByte b → b ≡ 37 → ⊥
@@ -230,6 +232,23 @@ module _ (b : ℕ) (bytes : List ℕ) where
         → (Byte 47 host (b ∷ bytes) ⊎ (BeginsWithoutSlash (b ∷ bytes) × Path (b ∷ bytes)))
         ↔ Path (b ∷ bytes)
     slash_path not = right_only (λ x. not x.0) (λ x. x.1, λ x. (not, x))
+
+-- ---- the end
+
+pub name_end : (of : Kind) → AfterHost of [] ↔ Star (Encoded IsNameByte) (AfterHost of) []
+name_end of = (λ x. (zero, x), back)
+  where
+    back : Star (Encoded IsNameByte) (AfterHost of) [] → AfterHost of []
+    back (zero, x) = x
+    back (suc n, inl x) = absurd x
+    back (suc n, inr x) = absurd x
+
+pub start_end : (of : Kind) → AfterHost of [] ↔ Host (AfterHost of) []
+start_end of = both_ways (name_end of) (λ x. inr x, back)
+  where
+    back : Host (AfterHost of) [] → Star (Encoded IsNameByte) (AfterHost of) []
+    back (inl x) = absurd x
+    back (inr x) = x
 
 -- ---- steps
 

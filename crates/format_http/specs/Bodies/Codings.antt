@@ -105,7 +105,8 @@ abbrev pub ChunkedIsFollowed : List Pair → Type 0
 ChunkedIsFollowed [] = ⊥
 ChunkedIsFollowed (field ∷ fields) =
     (IsNamed transfer_encoding field.0
-    × (IsFollowed (quoted_parts_of field.1) ⊎ (HasChunked (quoted_parts_of field.1) × HaveCoding fields)))
+    × (IsFollowed (quoted_parts_of field.1)
+    ⊎ (HasChunked (quoted_parts_of field.1) × HaveCoding fields)))
     ⊎ ChunkedIsFollowed fields
 
 -- The last coding of all fields is `chunked`, without parameters.

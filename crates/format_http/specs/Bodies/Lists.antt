@@ -14,8 +14,8 @@ parts_of = slice_split (λ b. b == 44)
 
 -- ---- lists whose elements may have quoted strings (RFC 9110, section 5.6.4)
 
--- where the byte after this one stands: a quoted string begins and ends with quotes, and in it a
--- backslash quotes the byte after it
+-- the state after this byte: a quoted string begins and ends with quotes, and in it a backslash
+-- quotes the byte after it
 abbrev pub after : Quoting → ℕ → Quoting
 after Outside b = cond (b == 34) Inside Outside
 after Inside b = cond (b == 34) Outside (cond (b == 92) Escaped Inside)
@@ -27,7 +27,7 @@ separates Outside b = b == 44
 separates Inside b = false
 separates Escaped b = false
 
--- the parts of the rest of a list, whose first byte stands there
+-- the parts of the rest of a list, from this state
 abbrev pub parts_from : Quoting → List ℕ → List (List ℕ)
 parts_from at [] = [] ∷ []
 parts_from at (b ∷ more) =

@@ -35,7 +35,7 @@ MayHave line hosts = (hosts ≡ 1) ⊎ ((hosts ≡ 0) × (NeedsHost line → ⊥
 abbrev pub IsHostError : RequestLine → ℕ → Type 0 → Option HostError → Type 0
 IsHostError line hosts invalid (Some Missing) = NeedsHost line × (hosts ≡ 0)
 IsHostError line hosts invalid (Some Many) = 1 < hosts
-IsHostError line hosts invalid (Some Invalid) = (hosts ≡ 1) × invalid
+IsHostError line hosts invalid (Some Invalid) = MayHave line hosts × invalid
 IsHostError line hosts invalid None = MayHave line hosts × (invalid → ⊥)
 
 -- These fields have that error in a request of this line, or none.

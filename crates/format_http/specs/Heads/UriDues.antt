@@ -3,8 +3,8 @@ use Rattle.std.specs.Prelude.{◌↔◌, ◌⊎◌, ℕ, List, ◌∷◌, Option
 use Rattle.format_http.specs.Heads.Bytes.{IsDigit}
 use Rattle.format_http.specs.Heads.Targets.{BeginsWithoutSlash, Hierarchy, SchemeAnd}
 use Rattle.format_http.specs.Heads.Uris.{AtEnd, Encoded, Host, IsAddressByte, IsNameByte}
-use Rattle.format_http.specs.Heads.Uris.{IsPathStart, IsSchemeByte, OptionalPort, Path, PathAfterHost}
-use Rattle.format_http.specs.Heads.Uris.{Port}
+use Rattle.format_http.specs.Heads.Uris.{IsPathStart, IsSchemeByte, OptionalPort, Path}
+use Rattle.format_http.specs.Heads.Uris.{PathAfterHost, Port}
 use Rattle.format_http.specs.declared.heads.uris.Kind.{Kind}
 use Rattle.format_http.specs.declared.heads.uris.Kind.TheVariants as kind
 use Rattle.format_http.specs.declared.heads.uris.Place.{Place}

@@ -1,7 +1,7 @@
 -- The parts of URIs that requests have (RFC 3986): hosts, ports, paths and queries. `A next bytes`
 -- holds if `bytes` starts with a match of `A`, and `next` holds for the rest, as in the combinators
 -- of format_http_chunked.
-use Rattle.std.specs.Prelude.{◌≡◌, ◌⊎◌, ⊤, ℕ, List, [], ◌∷◌}
+use Rattle.std.specs.Prelude.{◌≡◌, ◌⊎◌, ℕ, List, []}
 use Rattle.format_http.specs.Heads.Bytes.{IsBetween, IsDigit}
 use Rattle.format_http_chunked.specs.Bodies.{IsHexDigit}
 use Rattle.format_http_chunked.specs.Words.{Byte, Many, One, Some, Star}

@@ -8,7 +8,7 @@ ghost use Rattle.format_http.specs.declared.bodies.coding.Place.TheVariants as p
 ghost use Rattle.format_http_chunked.specs.Bodies.{IsQuotedByte, IsValueByte};
 ghost use Rattle.std.specs.Prelude.{◌↔◌, [], IsTrue};
 
-/// Where the next byte of a coding stands.
+/// A state in a coding, before the next byte.
 #[derive(Clone, Copy, Drop)]
 pub(crate) enum Place {
     /// At its start.

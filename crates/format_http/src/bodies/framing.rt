@@ -163,8 +163,8 @@ fn undeclared_length(message: Message<'_>) -> Result<BodyLength, FramingError>
 /// 3. A Transfer-Encoding field in a version before 1.1, or together with a Content-Length field,
 ///    is an error.
 /// 4. An element that is not a transfer coding (RFC 9110, section 10.1.4), and a coding after
-///    `chunked`, including `chunked` again (section 6.1), are errors. If the last transfer coding is
-///    `chunked`, the body is chunks. If it is another, a request is rejected, and the body of a
+///    `chunked`, including `chunked` again (section 6.1), are errors. If the last transfer coding
+///    is `chunked`, the body is chunks. If it is another, a request is rejected, and the body of a
 ///    response ends with the connection.
 /// 5. Content-Length fields must consist of one numeral, possibly repeated, in a list or in several
 ///    fields. Empty elements are not allowed.

@@ -25,7 +25,7 @@ pub(crate) fn next_part<'i>(list: &'i [u8]) -> (&'i [u8], Option<&'i [u8]>)
     }
 }
 
-/// Where a byte of a list stands.
+/// A state in a list, before the next byte.
 #[derive(Clone, Copy, Drop)]
 pub(crate) enum Quoting {
     /// Outside quoted strings.
@@ -36,7 +36,7 @@ pub(crate) enum Quoting {
     Escaped,
 }
 
-/// Returns where the byte after this one stands.
+/// Returns the state after a byte.
 fn quoting_after(quoting: Quoting, byte: u8) -> Quoting
     ensures { result ≡ after quoting byte }
 {

@@ -65,7 +65,7 @@ fn error_of(line: &RequestLine<'_>, hosts: usize, invalid: bool) -> Option<HostE
     if hosts == 0 && line.major == 1 && line.minor >= 1 {
         return Some(HostError::Missing);
     }
-    if hosts == 1 && invalid {
+    if invalid {
         return Some(HostError::Invalid);
     }
     None

@@ -1,6 +1,7 @@
 //! Hosts and request targets (RFC 3986, and RFC 9112, section 3.2), byte by byte.
 #![tactic(auto)]
 
+ghost use Rattle.format_http.specs.Heads.Bytes.{IsDigit};
 ghost use Rattle.format_http.specs.Heads.Targets.{IsAbsoluteForm, IsAuthorityForm};
 ghost use Rattle.format_http.specs.Heads.UriDues.{AfterHost, IsDue, IsStep, StartsPath};
 ghost use Rattle.format_http.specs.Heads.Uris.{IsAddressByte, IsHost, IsLetter, IsNameByte};
@@ -9,7 +10,7 @@ ghost use Rattle.format_http.specs.declared.heads.uris.Place.TheVariants as plac
 ghost use Rattle.format_http_chunked.specs.Bodies.{IsHexDigit};
 ghost use Rattle.std.specs.Prelude.{◌↔◌, [], IsTrue};
 
-/// What bytes are to be.
+/// A grammar of bytes.
 #[derive(Clone, Copy, Drop)]
 pub(crate) enum Kind {
     /// A host, and a port if there is one.
@@ -20,7 +21,7 @@ pub(crate) enum Kind {
     Absolute,
 }
 
-/// Where the next byte stands.
+/// A state in these bytes, before the next one.
 #[derive(Clone, Copy, Drop)]
 pub(crate) enum Place {
     /// At the start of a host.
@@ -60,6 +61,13 @@ fn is_letter(byte: u8) -> bool
     ensures { IsTrue result ↔ IsLetter byte }
 {
     byte.is_ascii_uppercase() || byte.is_ascii_lowercase()
+}
+
+/// Whether a byte is a digit.
+fn is_digit(byte: u8) -> bool
+    ensures { IsTrue result ↔ IsDigit byte }
+{
+    byte.is_ascii_digit()
 }
 
 /// Whether a byte is one of a scheme.
@@ -103,9 +111,7 @@ fn is_path(byte: u8) -> bool
 fn is_hex(byte: u8) -> bool
     ensures { IsTrue result ↔ IsHexDigit byte }
 {
-    byte.is_ascii_digit()
-        || (b'A' <= byte && byte <= b'F')
-        || (b'a' <= byte && byte <= b'f')
+    byte.is_ascii_digit() || (b'A' <= byte && byte <= b'F') || (b'a' <= byte && byte <= b'f')
 }
 
 /// Returns the state after a byte in a path or a query.
@@ -155,7 +161,7 @@ fn is_start(of: Kind, byte: u8) -> bool
 fn step_port(of: Kind, byte: u8) -> Option<Place>
     ensures { IsStep of place.Port byte result }
 {
-    if byte.is_ascii_digit() {
+    if is_digit(byte) {
         return Some(Place::Port);
     }
     if is_start(of, byte) {
@@ -324,7 +330,9 @@ fn may_end(of: Kind, at: Place) -> bool
     ensures { IsTrue result ↔ IsDue of at [] }
 {
     match at {
-        Place::Start | Place::Name | Place::AfterHost => may_lack_port(of),
+        Place::Start => may_lack_port(of),
+        Place::Name => may_lack_port(of),
+        Place::AfterHost => may_lack_port(of),
         Place::Port | Place::Colon | Place::Slash | Place::Path => true,
         Place::NameHigh | Place::NameLow | Place::Bracket | Place::Address => false,
         Place::SchemeStart | Place::Scheme | Place::PathHigh | Place::PathLow => false,
