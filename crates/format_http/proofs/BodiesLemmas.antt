@@ -1,5 +1,6 @@
 pub mod Codings
 pub mod Declared
+pub mod Divided
 pub mod Elements
 pub mod Invalid
 pub mod Lengths
