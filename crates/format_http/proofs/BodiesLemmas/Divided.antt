@@ -8,13 +8,13 @@ use Rattle.std.proofs.lemmas.Grind.{common_steps}
 use Rattle.std.proofs.lemmas.List.Elements.{All-head, All-tail}
 use Rattle.format_http.specs.Bodies.Codings.{AreParts, AtEnd, IsCoding, IsPart, Parameter}
 use Rattle.format_http.specs.Bodies.Codings.{Parameters}
-use Rattle.format_http.specs.Bodies.Lists.{IsElement, after, parts_from, quoted_parts_of, separates}
+use Rattle.format_http.specs.Bodies.Lists.{after, parts_from, quoted_parts_of, separates}
 use Rattle.format_http.specs.Heads.Bytes.{IsTokenByte, IsWhite}
 use Rattle.format_http.specs.declared.bodies.lists.Quoting.{Quoting}
 use Rattle.format_http.specs.declared.bodies.lists.Quoting.TheVariants.{Escaped, Inside, Outside}
-use Rattle.format_http_chunked.specs.Bodies.{IsQuotedByte, IsValueByte, QuotedByte, Spaced, Value}
+use Rattle.format_http_chunked.specs.Bodies.{QuotedByte, Spaced, Value}
 use Rattle.format_http_chunked.specs.Words as words
-use Rattle.format_http_chunked.specs.Words.{Byte, Many, One, Star, Times}
+use Rattle.format_http_chunked.specs.Words.{Byte, Many, One, Times}
 
 -- ---- the division at commas
 
@@ -36,18 +36,21 @@ is_comma Outside b e = grind (arith, nat_tests, e)
 is_comma Inside b e = absurd (cc)
 is_comma Escaped b e = absurd (cc)
 
+module _ (at : Quoting) (b : ℕ) (more : List ℕ)
+    (outside : AreParts (parts_from Outside more) more)
+    (others : AreParts (parts_from (after at b) more) more) where
+  by_test : (here : Bool) → separates at b ≡ here
+      → AreParts (cond here ([] ∷ parts_from Outside more)
+      (onto_first b (parts_from (after at b) more))) (b ∷ more)
+  by_test true e =
+      let P : ℕ → Type 0 = λ c. AreParts ([] ∷ parts_from Outside more) (c ∷ more) in
+      subst P (sym (is_comma at b e)) (comma_parts more (parts_from Outside more) outside)
+  by_test false e = onto_parts b more (parts_from (after at b) more) others
+
 divided : (at : Quoting) (list : List ℕ) → AreParts (parts_from at list) list
 divided at [] = refl
-divided at (b ∷ more) = by (separates at b) refl
-  where
-    by : (here : Bool) → separates at b ≡ here
-        → AreParts (cond here ([] ∷ parts_from Outside more)
-        (onto_first b (parts_from (after at b) more))) (b ∷ more)
-    by true e =
-        let P : ℕ → Type 0 = λ c. AreParts ([] ∷ parts_from Outside more) (c ∷ more) in
-        subst P (sym (is_comma at b e))
-        (comma_parts more (parts_from Outside more) (divided Outside more))
-    by false e = onto_parts b more (parts_from (after at b) more) (divided (after at b) more)
+divided at (b ∷ more) = by_test at b more (divided Outside more) (divided (after at b) more)
+    (separates at b) refl
 
 pub list_divides : (list : List ℕ) → AreParts (quoted_parts_of list) list
 list_divides list = divided Outside list

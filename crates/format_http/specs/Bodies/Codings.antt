@@ -28,6 +28,20 @@ Parameters = Star (λ next. Spaced 59 (Parameter next))
 abbrev pub IsCoding : List ℕ → Type 0
 IsCoding = Some IsTokenByte (Parameters AtEnd)
 
+-- ---- a list: #element = [ element ] *( OWS "," OWS [ element ] )
+
+-- [ transfer-coding ], and whitespace around it
+abbrev pub IsPart : List ℕ → Type 0
+IsPart part =
+    (element : List ℕ) × IsElement element part × ((length element ≡ 0) ⊎ IsCoding element)
+
+-- The list is these parts, with commas between them.
+abbrev pub AreParts : List (List ℕ) → List ℕ → Type 0
+AreParts [] list = ⊥
+AreParts (part ∷ []) list = list ≡ part
+AreParts (part ∷ (next ∷ parts)) list =
+    (rest : List ℕ) × (list ≡ part ++ 44 ∷ rest) × AreParts (next ∷ parts) rest
+
 -- ---- a coding: a name, and parameters after semicolons, with optional whitespace
 
 -- `EndsName rest`: the name of a coding ends before `rest`.
