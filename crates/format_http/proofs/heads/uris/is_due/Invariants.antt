@@ -5,4 +5,5 @@ use Rattle.format_http.specs.Heads.UriDues.{IsDue}
 use Rattle.format_http.proofs.heads.uris.is_due.Given as goal
 
 abbrev pub invariant-loop-byte : goal.invariant-loop-byte
-invariant-loop-byte l = IsDue l.fn.of l.at (drop l.byte-index l.text) ↔ IsDue l.fn.of l.fn.start l.text
+invariant-loop-byte l =
+    IsDue l.fn.of l.at (drop l.byte-index l.text) ↔ IsDue l.fn.of l.fn.start l.text
