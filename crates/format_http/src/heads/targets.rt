@@ -33,8 +33,11 @@ fn is_asterisk_form(target: &[u8]) -> bool
 ///
 /// Their bytes are those of the grammar of URIs (RFC 3986), with two digits after each percent
 /// sign. A URI with user information in its authority is not accepted: a recipient should treat it
-/// as an error (RFC 9110, section 4.2.4). Whether the bytes of a host in brackets are an address is
-/// not examined. It does not allocate.
+/// as an error (RFC 9110, section 4.2.4). It does not allocate.
+///
+/// Whether the bytes of a host in brackets are an address is not examined. A host and a port may be
+/// empty, as the grammar allows: a server must itself reject an `http` URI without a host, and an
+/// empty port with CONNECT (RFC 9110, sections 4.2.1 and 9.3.6).
 ///
 /// ```
 /// use format_http::heads::request_line::RequestLine;
