@@ -1,4 +1,5 @@
-use Rattle.std.proofs.Common.{◌∙◌, inl, inr, refl, subst}
+use mathlib.Core.Bool.{false≢true}
+use Rattle.std.proofs.Common.{◌∙◌, inl, inr, refl, subst, sym}
 use Rattle.std.specs.Prelude.{Option}
 use Rattle.exported.specs.HttpBody.{fields_of}
 use Rattle.format_http.specs.Heads.Hosts.{HasHostError}
@@ -11,8 +12,8 @@ returns-then-not-has_valid_target-clause-refused c _ = inr (inl (record {
   head = c.in-Ok.head;
   rest = c.read_head.new.input.now;
   stands = c.in-Ok.ensures.head.stands refl;
-  no_target = λ is. true_is_false (sym (c.if-not-has_valid_target.ensures.1 is)
-      ∙ not-true _ c.if-not-has_valid_target.true);
+  no_target = λ is. false≢true (sym c.if-not-has_valid_target.true
+      ∙ c.has_valid_target.ensures.1 is);
   is_error = c.rejected.ensures;
 }))
 
@@ -25,7 +26,7 @@ returns-in-Some-clause-refused c _ =
       head = c.in-Ok.head;
       rest = c.read_head.new.input.now;
       stands = c.in-Ok.ensures.head.stands refl;
-      target = c.if-not-has_valid_target.ensures.0 (not-false _ c.if-not-has_valid_target.false);
+      target = c.has_valid_target.ensures.0 c.if-not-has_valid_target.false;
       error = c.in-Some.error;
       has_hosts = subst P c.in-Some.is c.host_error.ensures;
       is_error = (error.0, error.1 ∙ c.number_of.ensures, error.2);
@@ -36,7 +37,7 @@ returns-in_default-clause-body c _ = record {
   head = c.in-Ok.head;
   rest = c.read_head.new.input.now;
   stands = c.in-Ok.ensures.head.stands refl;
-  target = c.if-not-has_valid_target.ensures.0 (not-false _ c.if-not-has_valid_target.false);
+  target = c.has_valid_target.ensures.0 c.if-not-has_valid_target.false;
   may_have = subst (HasHostError c.in-Ok.head.line (fields_of c.in-Ok.head)) c.in_default.is
       c.host_error.ensures;
   answer = c.request_body_length.result;
@@ -50,7 +51,7 @@ returns-in_default-clause-refused c _ = inr (inr (inr (
       head = c.in-Ok.head;
       rest = c.read_head.new.input.now;
       stands = c.in-Ok.ensures.head.stands refl;
-      target = c.if-not-has_valid_target.ensures.0 (not-false _ c.if-not-has_valid_target.false);
+      target = c.has_valid_target.ensures.0 c.if-not-has_valid_target.false;
       may_have = subst (HasHostError c.in-Ok.head.line (fields_of c.in-Ok.head)) c.in_default.is
           c.host_error.ensures;
       answer = c.request_body_length.result;
