@@ -257,7 +257,7 @@ _Static_assert(sizeof(enum pergidau_resp_kind) == sizeof(uint32_t), "the size of
 _Static_assert(sizeof(enum pergidau_toml_error) == sizeof(uint32_t), "the size of an enum");
 _Static_assert(sizeof(enum pergidau_toml_kind) == sizeof(uint32_t), "the size of an enum");
 
-const char pergidau_declared_37f0163a = 0;
+const char pergidau_declared_554ab3fe = 0;
 
 const char *pergidau_version(void)
 {
@@ -527,6 +527,12 @@ const char *pergidau_http_error_message(enum pergidau_http_error error)
         return "Content-Length is not a number";
     case PERGIDAU_HTTP_ERROR_LENGTH_TOO_LARGE:
         return "Content-Length too large";
+    case PERGIDAU_HTTP_ERROR_INVALID_HOST:
+        return "invalid Host field";
+    case PERGIDAU_HTTP_ERROR_INVALID_TARGET:
+        return "invalid request target";
+    case PERGIDAU_HTTP_ERROR_INVALID_CODING:
+        return "invalid transfer coding";
     }
     return "unknown error";
 }

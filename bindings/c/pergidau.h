@@ -45,10 +45,10 @@ extern "C" {
  * header refers to it, so that it links with no other library. For a file that is not linked
  * with the library, define PERGIDAU_NO_LINK_CHECK before the header.
  */
-extern const char pergidau_declared_37f0163a;
+extern const char pergidau_declared_554ab3fe;
 #if defined(__GNUC__) && !defined(PERGIDAU_NO_LINK_CHECK)
 __attribute__((__used__, __unused__)) static const char *const pergidau_linked =
-    &pergidau_declared_37f0163a;
+    &pergidau_declared_554ab3fe;
 #endif
 
 /* Returns the version of the linked library, in the form of PERGIDAU_VERSION. */
@@ -472,7 +472,13 @@ enum pergidau_http_error {
     /* Content-Length is not a number. */
     PERGIDAU_HTTP_ERROR_LENGTH_NOT_A_NUMBER = 9,
     /* Content-Length too large. It is 2^64 or more. */
-    PERGIDAU_HTTP_ERROR_LENGTH_TOO_LARGE = 10
+    PERGIDAU_HTTP_ERROR_LENGTH_TOO_LARGE = 10,
+    /* Invalid Host field. Its value is not a host with an optional port. */
+    PERGIDAU_HTTP_ERROR_INVALID_HOST = 11,
+    /* Invalid request target. It is in no form that the method may have. */
+    PERGIDAU_HTTP_ERROR_INVALID_TARGET = 12,
+    /* Invalid transfer coding. An element of Transfer-Encoding is not a token with parameters. */
+    PERGIDAU_HTTP_ERROR_INVALID_CODING = 13
 };
 
 /* The end of a record of comma-separated values. */
@@ -1538,8 +1544,12 @@ enum pergidau_code pergidau_http_head_partial(
  * A request with both Transfer-Encoding and Content-Length, or with Transfer-Encoding in a
  * version before 1.1, is rejected. Content-Length fields must have one numeral, possibly
  * repeated, and no empty element. Names of fields and codings are compared ignoring ASCII
- * case. Codings other than chunked are not distinguished, and the value of a Host field is not
- * examined.
+ * case. Codings other than chunked are not distinguished.
+ *
+ * A request is also rejected if its target is in none of the forms that its method may have
+ * (section 3.2), if its Host field is not a host with an optional port, or if its Transfer-
+ * Encoding is not a list of codings (RFC 9110, section 10.1.4). Whether the bytes of a host in
+ * brackets are an address is not examined.
  *
  * PERGIDAU_DONE: the kind is written, and the length of a body of the kind
  * PERGIDAU_HTTP_BODY_LENGTH. The kind is PERGIDAU_HTTP_BODY_NONE, PERGIDAU_HTTP_BODY_CHUNKED

@@ -3,22 +3,30 @@
 #ifndef BODIES_FUZZ_H
 #define BODIES_FUZZ_H
 
+#include <ctype.h>
 #include <strings.h>
+
+#include "requests_fuzz.h"
 
 static bool is_word(const uint8_t *bytes, struct pergidau_span at, const char *word)
 {
     return at.length == strlen(word) && !strncasecmp((const char *)bytes + at.offset, word, at.length);
 }
 
-/* Takes the next element of a list, without the whitespace around it. Returns false at the end. */
-static bool next_element(const uint8_t *bytes, struct pergidau_span *list, struct pergidau_span *element)
+/* Takes the next element of a list, without the whitespace around it. Commas in quoted strings do not
+ * end one if there may be such strings. Returns false at the end. */
+static bool next_element(const uint8_t *bytes, struct pergidau_span *list, struct pergidau_span *element,
+                         bool has_quotes)
 {
     size_t end = list->offset + list->length, at = list->offset;
+    bool quoted = false;
     if (list->length == SIZE_MAX) {
         return false;
     }
-    while (at < end && bytes[at] != ',') {
-        at++;
+    while (at < end && (quoted || bytes[at] != ',')) {
+        size_t step = quoted && bytes[at] == '\\' ? 2 : 1;
+        quoted ^= has_quotes && bytes[at] == '"';
+        at = end - at < step ? end : at + step;
     }
     *element = (struct pergidau_span){list->offset, at - list->offset};
     list->offset = at + (at < end);
@@ -41,7 +49,7 @@ static enum pergidau_http_error length_by_hand(const uint8_t *bytes, const struc
     bool found = false;
     for (size_t i = 0; i < count; i++) {
         struct pergidau_span list = fields[i].value;
-        while (is_word(bytes, fields[i].name, "content-length") && next_element(bytes, &list, &element)) {
+        while (is_word(bytes, fields[i].name, "content-length") && next_element(bytes, &list, &element, false)) {
             if (found && (element.length != first.length
                           || memcmp(bytes + element.offset, bytes + first.offset, first.length))) {
                 return PERGIDAU_HTTP_ERROR_LENGTHS_DIFFER;
@@ -64,19 +72,21 @@ static enum pergidau_http_error length_by_hand(const uint8_t *bytes, const struc
                              : PERGIDAU_HTTP_ERROR_NONE;
 }
 
-/* Whether the codings end with `chunked`, and whether one comes after a `chunked`, possibly with
- * parameters. */
+/* Whether the codings are valid and end with `chunked`, and whether one comes after a `chunked`,
+ * possibly with parameters. */
 static void codings_by_hand(const uint8_t *bytes, const struct pergidau_field *fields, size_t count,
-                            bool *last, bool *followed)
+                            bool *valid, bool *last, bool *followed)
 {
     bool seen = false;
     *last = *followed = false;
+    *valid = true;
     for (size_t i = 0; i < count; i++) {
         struct pergidau_span list = fields[i].value, element;
-        while (is_word(bytes, fields[i].name, "transfer-encoding") && next_element(bytes, &list, &element)) {
+        while (is_word(bytes, fields[i].name, "transfer-encoding") && next_element(bytes, &list, &element, true)) {
             if (element.length == 0) {
                 continue;
             }
+            *valid &= is_coding(bytes, element);
             *followed |= seen;
             *last = is_word(bytes, element, "chunked");
             struct pergidau_span name = element;
@@ -93,22 +103,28 @@ static void body_by_hand(const uint8_t *bytes, const struct pergidau_head *head,
                          const struct pergidau_field *fields, struct pergidau_http_body *want)
 {
     size_t hosts = 0, lengths = 0, codings = 0;
-    bool last, followed;
+    bool valid, last, followed, has_host = true;
     for (size_t i = 0; i < head->fields; i++) {
         hosts += is_word(bytes, fields[i].name, "host");
+        has_host &= !is_word(bytes, fields[i].name, "host") || is_host(bytes, fields[i].value);
         lengths += is_word(bytes, fields[i].name, "content-length");
         codings += is_word(bytes, fields[i].name, "transfer-encoding");
     }
-    codings_by_hand(bytes, fields, head->fields, &last, &followed);
+    codings_by_hand(bytes, fields, head->fields, &valid, &last, &followed);
     *want = (struct pergidau_http_body){PERGIDAU_HTTP_BODY_NONE, PERGIDAU_HTTP_ERROR_NONE, 0};
-    if (hosts > 1) {
+    if (!is_target(bytes, head)) {
+        want->error = PERGIDAU_HTTP_ERROR_INVALID_TARGET;
+    } else if (hosts > 1) {
         want->error = PERGIDAU_HTTP_ERROR_MANY_HOSTS;
     } else if (hosts == 0 && head->major == 1 && head->minor >= 1) {
         want->error = PERGIDAU_HTTP_ERROR_MISSING_HOST;
+    } else if (!has_host) {
+        want->error = PERGIDAU_HTTP_ERROR_INVALID_HOST;
     } else if (codings > 0) {
         want->error = head->major == 0 || (head->major == 1 && head->minor == 0)
             ? PERGIDAU_HTTP_ERROR_CODING_BEFORE_VERSION
             : lengths > 0 ? PERGIDAU_HTTP_ERROR_LENGTH_AND_CODING
+            : !valid      ? PERGIDAU_HTTP_ERROR_INVALID_CODING
             : followed    ? PERGIDAU_HTTP_ERROR_CHUNKED_NOT_LAST
             : last        ? PERGIDAU_HTTP_ERROR_NONE
                           : PERGIDAU_HTTP_ERROR_NOT_CHUNKED;

@@ -29,6 +29,10 @@ static const struct {
     {"Transfer-Encoding: chunked\r\nTransfer-Encoding: chunked\r\n", PERGIDAU_HTTP_BODY_NONE,
      PERGIDAU_HTTP_ERROR_CHUNKED_NOT_LAST, 0},
     {"Transfer-Encoding: gzip\r\n", PERGIDAU_HTTP_BODY_NONE, PERGIDAU_HTTP_ERROR_NOT_CHUNKED, 0},
+    {"Transfer-Encoding: a;b=\",\", chunked\r\n", PERGIDAU_HTTP_BODY_CHUNKED, PERGIDAU_HTTP_ERROR_NONE,
+     0},
+    {"Transfer-Encoding: a b, chunked\r\n", PERGIDAU_HTTP_BODY_NONE,
+     PERGIDAU_HTTP_ERROR_INVALID_CODING, 0},
     {"Transfer-Encoding:\r\n", PERGIDAU_HTTP_BODY_NONE, PERGIDAU_HTTP_ERROR_NOT_CHUNKED, 0},
     {"Content-Length: 5, 6\r\n", PERGIDAU_HTTP_BODY_NONE, PERGIDAU_HTTP_ERROR_LENGTHS_DIFFER, 0},
     {"Content-Length: 5\r\nContent-Length: 05\r\n", PERGIDAU_HTTP_BODY_NONE,
@@ -39,6 +43,21 @@ static const struct {
     {"Content-Length: 18446744073709551616\r\n", PERGIDAU_HTTP_BODY_NONE,
      PERGIDAU_HTTP_ERROR_LENGTH_TOO_LARGE, 0},
     {"Content-Length : 5\r\n", PERGIDAU_HTTP_BODY_NONE, PERGIDAU_HTTP_ERROR_HEAD, 0},
+};
+
+/* Heads of requests, and the error. */
+static const struct {
+    const char *head;
+    enum pergidau_http_error error;
+} request_heads[] = {
+    {"GET / HTTP/1.1\r\nHost: a:80\r\n\r\n", PERGIDAU_HTTP_ERROR_NONE},
+    {"GET / HTTP/1.1\r\nHost: a, b\r\n\r\n", PERGIDAU_HTTP_ERROR_INVALID_HOST},
+    {"GET / HTTP/1.0\r\nHost: a/b@c d\r\n\r\n", PERGIDAU_HTTP_ERROR_INVALID_HOST},
+    {"GET /a#b HTTP/1.1\r\nHost: a\r\n\r\n", PERGIDAU_HTTP_ERROR_INVALID_TARGET},
+    {"GET d HTTP/1.1\r\n\r\n", PERGIDAU_HTTP_ERROR_INVALID_TARGET},
+    {"CONNECT / HTTP/1.1\r\nHost: a\r\n\r\n", PERGIDAU_HTTP_ERROR_INVALID_TARGET},
+    {"OPTIONS * HTTP/1.1\r\nHost: a\r\n\r\n", PERGIDAU_HTTP_ERROR_NONE},
+    {"CONNECT a:80 HTTP/1.1\r\nHost: a\r\n\r\n", PERGIDAU_HTTP_ERROR_NONE},
 };
 
 /* Responses, each with the method of its request. */
@@ -87,6 +106,13 @@ static void test_body_lengths(void)
                   request_bodies[i].kind, request_bodies[i].error, request_bodies[i].length);
         same_body(fields, pergidau_http_request_body(bytes, length - 1, &out), &out,
                   PERGIDAU_HTTP_BODY_NONE, PERGIDAU_HTTP_ERROR_HEAD, 0);
+        free(bytes);
+    }
+    for (size_t i = 0; i < sizeof request_heads / sizeof *request_heads; i++) {
+        const char *head = request_heads[i].head;
+        uint8_t *bytes = copied(head, strlen(head));
+        same_body(head, pergidau_http_request_body(bytes, strlen(head), &out), &out,
+                  PERGIDAU_HTTP_BODY_NONE, request_heads[i].error, 0);
         free(bytes);
     }
     for (size_t i = 0; i < sizeof response_bodies / sizeof *response_bodies; i++) {

@@ -60,6 +60,8 @@ ROWS = {
         RESPONSE, "HTTP/1.1 200 OK\r\nTransfer-Encoding: chunked,\r\n\r\n", "yyy"),
     "Transfer-Encoding without a coding": (
         REQUEST, "GET / HTTP/1.1\r\nTransfer-Encoding:\r\n\r\n", "nyy"),
+    "an element of Transfer-Encoding that is no coding": (
+        RESPONSE, "HTTP/1.1 200 OK\r\nTransfer-Encoding: a b\r\n\r\n", "nyy"),
     "a space before the method": (REQUEST, " GET / HTTP/1.1\r\n\r\n", "nyn"),
     "Transfer-Encoding before version 1.1": (
         REQUEST, "POST / HTTP/1.0\r\nTransfer-Encoding: chunked\r\n\r\n", "nyy"),
@@ -81,6 +83,18 @@ def lengths_of(text):
 def codings_of(text):
     """Returns the values of the Transfer-Encoding fields."""
     return [value for name, value in fields_of(text) if name == b"transfer-encoding"]
+
+
+TOKEN = rb"[!#$%&'*+\-.^_`|~0-9A-Za-z]+"
+QUOTED = rb'"(?:[\t !#-\[\]-~\x80-\xff]|\\[\t -~\x80-\xff])*"'
+CODING = rb"%b(?:[ \t]*;[ \t]*%b[ \t]*=[ \t]*(?:%b|%b))*" % (TOKEN, TOKEN, TOKEN, QUOTED)
+CODINGS = re.compile(rb"[ \t]*(?:%b)?[ \t]*(?:,[ \t]*(?:%b)?[ \t]*)*" % (CODING, CODING))
+
+
+def has_no_coding(text):
+    """Returns whether a Transfer-Encoding field is not a list of transfer codings (RFC 9110, section
+    10.1.4)."""
+    return any(not CODINGS.fullmatch(value) for value in codings_of(text))
 
 
 def follows_chunked(text):
@@ -149,6 +163,7 @@ OLD_CODING = {
         bool(codings_of(text)) and version_of(text) < b"1.1",
     "Transfer-Encoding without a coding": lambda text: b"" in codings_of(text),
     "chunked before another coding": follows_chunked,
+    "an element that is no coding": has_no_coding,
 }
 LLHTTP_TAKES = {
     REQUEST: EMPTY_LINES | OLD_CODING | {

@@ -27,6 +27,8 @@ const NOT_CHUNKED: Answer = Err(FramingError::NotChunked);
 
 const NOT_LAST: Answer = Err(FramingError::ChunkedNotLast);
 
+const NO_CODING: Answer = Err(FramingError::InvalidCoding);
+
 const BEFORE: Answer = Err(FramingError::CodingBeforeVersion);
 
 /// Field lines of an HTTP/1.1 message, and the body lengths of a request and of a response to GET
@@ -87,10 +89,29 @@ const FIELDS: &[(&[u8], Answer, Answer)] = &[
     (b"Transfer-Encoding: chunked, xchunked\r\n", NOT_LAST, NOT_LAST),
     (b"Transfer-Encoding: chunked, identity\r\n", NOT_LAST, NOT_LAST),
     (b"Transfer-Encoding: chunked;a=b, chunked\r\n", NOT_LAST, NOT_LAST),
-    (b"Transfer-Encoding: chunked\t;a, chunked\r\n", NOT_LAST, NOT_LAST),
+    (b"Transfer-Encoding: chunked\t;a=b, chunked\r\n", NOT_LAST, NOT_LAST),
+    (b"Transfer-Encoding: chunked\t;a, chunked\r\n", NO_CODING, NO_CODING),
     (b"Transfer-Encoding: chunked, chunked;a=b\r\n", NOT_LAST, NOT_LAST),
-    (b"Transfer-Encoding: a;b=\"c, chunked, d\", chunked\r\n", NOT_LAST, NOT_LAST),
+    (b"Transfer-Encoding: a;b=\"c, chunked, d\", chunked\r\n", CHUNKED, CHUNKED),
     (b"Transfer-Encoding: a;b=\"c, d\", chunked\r\n", CHUNKED, CHUNKED),
+    (b"Transfer-Encoding: a;b=\",chunked,\", chunked\r\n", CHUNKED, CHUNKED),
+    (b"Transfer-Encoding: a;b=\"\\\",\\\\\" ,chunked\r\n", CHUNKED, CHUNKED),
+    (b"Transfer-Encoding: a ; b\t=\tc;d=\"\", chunked\r\n", CHUNKED, CHUNKED),
+    (b"Transfer-Encoding: a;b=\"c, chunked\"\r\n", NOT_CHUNKED, CLOSE),
+    (b"Transfer-Encoding: chunked, a;b=\"c,\"\r\n", NOT_LAST, NOT_LAST),
+    (b"Transfer-Encoding: x;a=\"b,chunked\r\n", NO_CODING, NO_CODING),
+    (b"Transfer-Encoding: \", chunked\r\n", NO_CODING, NO_CODING),
+    (b"Transfer-Encoding: @, chunked\r\n", NO_CODING, NO_CODING),
+    (b"Transfer-Encoding: a b, chunked\r\n", NO_CODING, NO_CODING),
+    (b"Transfer-Encoding: a;, chunked\r\n", NO_CODING, NO_CODING),
+    (b"Transfer-Encoding: a;b=, chunked\r\n", NO_CODING, NO_CODING),
+    (b"Transfer-Encoding: a;=b, chunked\r\n", NO_CODING, NO_CODING),
+    (b"Transfer-Encoding: ;a=b, chunked\r\n", NO_CODING, NO_CODING),
+    (b"Transfer-Encoding: a;b=\"c\"d, chunked\r\n", NO_CODING, NO_CODING),
+    (b"Transfer-Encoding: a;b=\"\\\", chunked\r\n", NO_CODING, NO_CODING),
+    (b"Transfer-Encoding: \"chunked\"\r\n", NO_CODING, NO_CODING),
+    (b"Transfer-Encoding: chunked, chunked, a b\r\n", NO_CODING, NO_CODING),
+    (b"Transfer-Encoding: chunked\r\nTransfer-Encoding: \"\r\n", NO_CODING, NO_CODING),
     (b"Transfer-Encoding: gzip\r\n", NOT_CHUNKED, CLOSE),
     (b"Transfer-Encoding: xchunked\r\n", NOT_CHUNKED, CLOSE),
     (b"Transfer-Encoding: chunked;a=b\r\n", NOT_CHUNKED, CLOSE),

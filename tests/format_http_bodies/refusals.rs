@@ -11,6 +11,10 @@ const NO_HOST: Option<Reason> = Some(Reason::Host(HostError::Missing));
 
 const MANY_HOSTS: Option<Reason> = Some(Reason::Host(HostError::Many));
 
+const WRONG_HOST: Option<Reason> = Some(Reason::Host(HostError::Invalid));
+
+const TARGET: Option<Reason> = Some(Reason::Target);
+
 /// Heads, and why each is rejected (RFC 9112, section 3.2, whose examples are the first rows).
 const HEADS: &[(&[u8], Option<Reason>)] = &[
     (b"GET /where?q=now HTTP/1.1\r\nHost: www.example.org\r\n\r\n", None),
@@ -28,6 +32,87 @@ const HEADS: &[(&[u8], Option<Reason>)] = &[
     (b"GET / HTTP/1.1\r\nHost: a\r\nHost: a\r\n\r\n", MANY_HOSTS),
     (b"GET / HTTP/1.1\r\nHost: a\r\nX: y\r\nHOST: b\r\n\r\n", MANY_HOSTS),
     (b"GET / HTTP/1.0\r\nhost: a\r\nHost: b\r\nhosT:\r\n\r\n", MANY_HOSTS),
+    (b"GET / HTTP/1.1\r\nHost: a/\r\nHost: a\r\n\r\n", MANY_HOSTS),
+    (b"GET / HTTP/1.0\r\nHost: a/\r\n\r\n", WRONG_HOST),
+    (b"GET a HTTP/1.1\r\n\r\n", TARGET),
+];
+
+/// Values of a Host field: a host, and an optional port (RFC 3986, section 3.2).
+const HOSTS: &[(&[u8], Option<Reason>)] = &[
+    (b"", None),
+    (b"a", None),
+    (b"example.com:8080", None),
+    (b"a:", None),
+    (b":80", None),
+    (b"127.0.0.1", None),
+    (b"a_b~!$&'()*+,;=-.", None),
+    (b"%41%7f:0", None),
+    (b"[::1]", None),
+    (b"[2001:db8::7]:443", None),
+    (b"[v1.a:b]", None),
+    (b"a, b", WRONG_HOST),
+    (b"a/b@c d", WRONG_HOST),
+    (b"a b", WRONG_HOST),
+    (b"a@b", WRONG_HOST),
+    (b"a/", WRONG_HOST),
+    (b"a?", WRONG_HOST),
+    (b"a#", WRONG_HOST),
+    (b"a:b", WRONG_HOST),
+    (b"a:80:80", WRONG_HOST),
+    (b"%4", WRONG_HOST),
+    (b"%4g", WRONG_HOST),
+    (b"%", WRONG_HOST),
+    (b"[::1", WRONG_HOST),
+    (b"[]", WRONG_HOST),
+    (b"::1", WRONG_HOST),
+    (b"[::1]a", WRONG_HOST),
+    (b"a[::1]", WRONG_HOST),
+    (b"\xc3\xa9", WRONG_HOST),
+];
+
+/// Methods, targets, and whether the target is of a form that the method may have (RFC 9112, section
+/// 3.2).
+const TARGETS: &[(&[u8], Option<Reason>)] = &[
+    (b"GET /", None),
+    (b"GET /a//b;c=d/@:?e=/?f", None),
+    (b"GET /?", None),
+    (b"GET //a", None),
+    (b"GET /%c3%A9", None),
+    (b"GET http://www.example.org/pub/WWW/TheProject.html", None),
+    (b"GET http://a:80?b", None),
+    (b"GET HTTP://[::1]:80/", None),
+    (b"GET http://", None),
+    (b"GET urn:a:b", None),
+    (b"GET a+b-c.d1:", None),
+    (b"GET a:/b", None),
+    (b"OPTIONS *", None),
+    (b"OPTIONS /", None),
+    (b"OPTIONS http://a", None),
+    (b"CONNECT www.example.com:80", None),
+    (b"CONNECT [::1]:", None),
+    (b"GET /a#b", TARGET),
+    (b"GET d", TARGET),
+    (b"GET *", TARGET),
+    (b"OPTIONS **", TARGET),
+    (b"options *", TARGET),
+    (b"GET ?a", TARGET),
+    (b"GET /<", TARGET),
+    (b"GET /[", TARGET),
+    (b"GET /%c", TARGET),
+    (b"GET /%cg", TARGET),
+    (b"GET 1a:b", TARGET),
+    (b"GET :b", TARGET),
+    (b"GET a:#b", TARGET),
+    (b"GET http://a@b/", TARGET),
+    (b"GET http://a:b/", TARGET),
+    (b"GET http://a#b", TARGET),
+    (b"GET http://[::1", TARGET),
+    (b"GET www.example.com", TARGET),
+    (b"CONNECT www.example.com", TARGET),
+    (b"CONNECT /", TARGET),
+    (b"CONNECT http://a:80", TARGET),
+    (b"CONNECT a:80/", TARGET),
+    (b"CONNECT *", TARGET),
 ];
 
 const BESIDE: Option<Reason> = Some(Reason::Body(FramingError::LengthBesideCoding));
@@ -35,6 +120,8 @@ const BESIDE: Option<Reason> = Some(Reason::Body(FramingError::LengthBesideCodin
 const NOT_CHUNKED: Option<Reason> = Some(Reason::Body(FramingError::NotChunked));
 
 const NOT_LAST: Option<Reason> = Some(Reason::Body(FramingError::ChunkedNotLast));
+
+const NO_CODING: Option<Reason> = Some(Reason::Body(FramingError::InvalidCoding));
 
 const DIFFER: Option<Reason> = Some(Reason::Body(FramingError::LengthsDiffer));
 
@@ -77,10 +164,11 @@ const FRAMINGS: &[(&[u8], Option<Reason>)] = &[
     (b"Transfer-Encoding: chunked, gzip\r\n", NOT_LAST),
     (b"Transfer-Encoding: chunked, gzip, chunked\r\n", NOT_LAST),
     (b"Transfer-Encoding: chunked ; a=b, chunked\r\n", NOT_LAST),
+    (b"Transfer-Encoding: a b, chunked\r\n", NO_CODING),
     (b"Transfer-Encoding: chunked\r\nX: y\r\nTransfer-Encoding: gzip\r\n", NOT_LAST),
     (b"Transfer-Encoding: identity\r\n", NOT_CHUNKED),
     (b"Transfer-Encoding: xchunked\r\n", NOT_CHUNKED),
-    (b"Transfer-Encoding: x chunked\r\n", NOT_CHUNKED),
+    (b"Transfer-Encoding: x chunked\r\n", NO_CODING),
     (b"Transfer-Encoding: chunke\r\n", NOT_CHUNKED),
     (b"Transfer-Encoding: chunked;a=b\r\n", NOT_CHUNKED),
     (b"Transfer-Encoding: a;b=\"c, chunked\"\r\n", NOT_CHUNKED),
@@ -119,14 +207,36 @@ fn refuses(rt: &impl Abort, alloc: Global, text: &[u8], want: Option<Reason>) {
     assert!(rt; head.is_ok_and(|it| refusal_of(&it) == want), "{text:?}");
 }
 
+/// Checks the reason for which the request of a head in parts is rejected.
+fn refuses_parts(rt: &impl Abort, alloc: Global, parts: [&[u8]; 3], want: Option<Reason>) {
+    let mut text = Vec::new(alloc);
+    for part in parts {
+        assert!(rt; text.extend_from_slice(part).is_ok());
+    }
+    refuses(rt, alloc, &text, want);
+}
+
+#[test]
+fn refusal_of_hosts(rt: HostRuntime) {
+    for (host, want) in HOSTS {
+        let parts = [b"GET / HTTP/1.1\r\nHost: ".as_slice(), *host, b"\r\n\r\n".as_slice()];
+        refuses_parts(&rt, rt.alloc(), parts, *want);
+    }
+}
+
+#[test]
+fn refusal_of_targets(rt: HostRuntime) {
+    for (line, want) in TARGETS {
+        let parts = [*line, b" HTTP/1.1\r\nHost: a".as_slice(), b"\r\n\r\n".as_slice()];
+        refuses_parts(&rt, rt.alloc(), parts, *want);
+    }
+}
+
 #[test]
 fn refusal_of_framings(rt: HostRuntime) {
     for (fields, want) in FRAMINGS {
-        let mut text = Vec::new(rt.alloc());
-        assert!(rt; text.extend_from_slice(b"POST / HTTP/1.1\r\nHost: a\r\n").is_ok());
-        assert!(rt; text.extend_from_slice(fields).is_ok());
-        assert!(rt; text.extend_from_slice(b"\r\n").is_ok());
-        refuses(&rt, rt.alloc(), &text, *want);
+        let parts = [b"POST / HTTP/1.1\r\nHost: a\r\n".as_slice(), *fields, b"\r\n".as_slice()];
+        refuses_parts(&rt, rt.alloc(), parts, *want);
     }
 }
 

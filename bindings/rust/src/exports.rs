@@ -129,6 +129,15 @@ pub const HTTP_ERROR_LENGTH_NOT_A_NUMBER: u32 = 9;
 /// Content-Length too large. It is 2^64 or more.
 pub const HTTP_ERROR_LENGTH_TOO_LARGE: u32 = 10;
 
+/// Invalid Host field. Its value is not a host with an optional port.
+pub const HTTP_ERROR_INVALID_HOST: u32 = 11;
+
+/// Invalid request target. It is in no form that the method may have.
+pub const HTTP_ERROR_INVALID_TARGET: u32 = 12;
+
+/// Invalid transfer coding. An element of Transfer-Encoding is not a token with parameters.
+pub const HTTP_ERROR_INVALID_CODING: u32 = 13;
+
 /// Data of a chunk, one byte or more.
 pub const CHUNKED_DATA: u32 = 0;
 
@@ -1126,7 +1135,7 @@ pub struct TomlResult {
 
 extern "C" {
     /// A symbol that only a library with these declarations has.
-    #[link_name = "pergidau_declared_37f0163a"]
+    #[link_name = "pergidau_declared_554ab3fe"]
     static VERSION_LINKED: c_char;
 
     /// Returns the version of the linked library.
@@ -1521,7 +1530,12 @@ extern "C" {
     /// A request with both Transfer-Encoding and Content-Length, or with Transfer-Encoding in a version
     /// before 1.1, is rejected. Content-Length fields must have one numeral, possibly repeated, and no
     /// empty element. Names of fields and codings are compared ignoring ASCII case. Codings other than
-    /// `chunked` are not distinguished, and the value of a Host field is not examined.
+    /// `chunked` are not distinguished.
+    ///
+    /// A request is also rejected if its target is in none of the forms that its method may have
+    /// (section 3.2), if its Host field is not a host with an optional port, or if its
+    /// Transfer-Encoding is not a list of codings (RFC 9110, section 10.1.4). Whether the bytes of a
+    /// host in brackets are an address is not examined.
     ///
     /// `DONE`: the kind is written, and the length of a body of the kind `HTTP_BODY_LENGTH`. The kind
     /// is `HTTP_BODY_NONE`, `HTTP_BODY_CHUNKED` or `HTTP_BODY_LENGTH`.

@@ -189,6 +189,8 @@ fn http_bodies_of_messages() {
         ("Content-Length: 1\r\nTransfer-Encoding: chunked\r\n", Err(BodyError::LengthAndCoding)),
         ("Transfer-Encoding: chunked, gzip\r\n", Err(BodyError::ChunkedNotLast)),
         ("Transfer-Encoding: gzip\r\n", Err(BodyError::NotChunked)),
+        ("Transfer-Encoding: a;b=\",\", chunked\r\n", Ok(Body::Chunked)),
+        ("Transfer-Encoding: a b, chunked\r\n", Err(BodyError::InvalidCoding)),
         ("Host: a\r\n", Err(BodyError::ManyHosts)),
     ];
     for (fields, want) in rows {
@@ -196,6 +198,10 @@ fn http_bodies_of_messages() {
     }
     assert_eq!(http::request_body(b"GET / HTTP/1.1\r\n\r\n"), Err(BodyError::MissingHost));
     assert_eq!(http::request_body(b"GET / HTTP/1.0\r\n\r\n"), Ok(Body::None));
+    let host = b"GET / HTTP/1.1\r\nHost: a, b\r\n\r\n";
+    assert_eq!(http::request_body(host), Err(BodyError::InvalidHost));
+    let target = b"GET /a#b HTTP/1.1\r\nHost: a\r\n\r\n";
+    assert_eq!(http::request_body(target), Err(BodyError::InvalidTarget));
     let old = b"GET / HTTP/1.0\r\nTransfer-Encoding: chunked\r\n\r\n";
     assert_eq!(http::request_body(old), Err(BodyError::CodingBeforeVersion));
     assert_eq!(http::request_body(b"GET / HTTP/1.1\r\nHost : a\r\n\r\n"), Err(BodyError::Head));

@@ -2,6 +2,7 @@
 use Rattle.std.specs.Prelude.{◌≡◌, ◌⊎◌, ℕ, List, map, Some, None, Ok, Err}
 use Rattle.std.specs.declared.alloc.Global.{Global}
 use Rattle.format_http.specs.Bodies.Framing.{Answer, IsBodyLength}
+use Rattle.format_http.specs.Bodies.Refusals.{HasTarget}
 use Rattle.format_http.specs.Heads.Head.{HeadStands, Pair, pair}
 use Rattle.format_http.specs.Heads.Hosts.{HasHostError}
 use Rattle.format_http.specs.Responses.Head.{ResponseStands, response_to}
@@ -11,7 +12,7 @@ use Rattle.format_http.specs.declared.bodies.framing.FramingError.TheVariants as
 use Rattle.format_http.specs.declared.bodies.framing.Message.TheVariants.{Request}
 use Rattle.format_http.specs.declared.heads.head.Head.{Head}
 use Rattle.format_http.specs.declared.heads.hosts.HostError.{HostError}
-use Rattle.format_http.specs.declared.heads.hosts.HostError.TheVariants.{Many, Missing}
+use Rattle.format_http.specs.declared.heads.hosts.HostError.TheVariants.{Invalid, Many, Missing}
 use Rattle.format_http.specs.declared.responses.head.ResponseHead.{ResponseHead}
 use Rattle.exported.specs.Code.{done, invalid}
 use Rattle.exported.specs.declared.http.body.HttpBody.{HttpBody}
@@ -27,11 +28,13 @@ fault_number fault.NotChunked = 7
 fault_number fault.LengthsDiffer = 8
 fault_number fault.LengthIsNoNumber = 9
 fault_number fault.LengthTooLarge = 10
+fault_number fault.InvalidCoding = 13
 
 -- the number of an error of the Host fields
 abbrev pub host_number : HostError → ℕ
 host_number Missing = 2
 host_number Many = 3
+host_number Invalid = 11
 
 -- no length and no error
 abbrev pub no_body : HttpBody
@@ -59,22 +62,32 @@ Writes (Err why) code out = (code ≡ invalid) × HasError out (fault_number why
 abbrev pub fields_of : Head Global → List Pair
 fields_of head = map pair head.fields.items
 
--- `FramesRequest bytes code out`: `bytes` starts with the head of a request, which has as many Host
--- fields as it may have. `code` and `out` report the length of its body, or the error.
+-- `FramesRequest bytes code out`: `bytes` starts with the head of a request, whose target and Host
+-- fields are valid. `code` and `out` report the length of its body, or the error.
 pub record FramesRequest (bytes : List ℕ) (code : ℕ) (out : HttpBody) : Type 0 where
   pub head : Head Global
   pub rest : List ℕ
   pub stands : HeadStands bytes head rest
+  pub target : HasTarget head.line
   pub may_have : HasHostError head.line (fields_of head) None
   pub answer : Answer
   pub is_answer : IsBodyLength Request head.line.major head.line.minor (fields_of head) answer
   pub writes : Writes answer code out
 
--- The bytes start with the head of a request whose number of Host fields is an error.
+-- The bytes start with the head of a request whose target is in no form of its method.
+pub record HasWrongTarget (bytes : List ℕ) (out : HttpBody) : Type 0 where
+  pub head : Head Global
+  pub rest : List ℕ
+  pub stands : HeadStands bytes head rest
+  pub no_target : HasTarget head.line → ⊥
+  pub is_error : HasError out 12
+
+-- The bytes start with the head of a request whose Host fields are an error.
 pub record HasWrongHosts (bytes : List ℕ) (out : HttpBody) : Type 0 where
   pub head : Head Global
   pub rest : List ℕ
   pub stands : HeadStands bytes head rest
+  pub target : HasTarget head.line
   pub error : HostError
   pub has_hosts : HasHostError head.line (fields_of head) (Some error)
   pub is_error : HasError out (host_number error)
@@ -86,7 +99,8 @@ NoRequest bytes = (head : Head Global) (rest : List ℕ) → HeadStands bytes he
 -- `RejectsRequest bytes code out`: `out` has the reason to reject the request.
 abbrev pub RejectsRequest : List ℕ → ℕ → HttpBody → Type 0
 RejectsRequest bytes code out =
-    (NoRequest bytes × HasError out 1) ⊎ (HasWrongHosts bytes out ⊎ FramesRequest bytes code out)
+    (NoRequest bytes × HasError out 1)
+    ⊎ (HasWrongTarget bytes out ⊎ (HasWrongHosts bytes out ⊎ FramesRequest bytes code out))
 
 -- ---- responses
 

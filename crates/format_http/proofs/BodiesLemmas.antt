@@ -1,7 +1,11 @@
 pub mod Codings
 pub mod Declared
+pub mod Divided
 pub mod Elements
+pub mod Invalid
 pub mod Lengths
 pub mod Numbers
 pub mod Parts
+pub mod Quoted
+pub mod Steps
 pub mod Unique

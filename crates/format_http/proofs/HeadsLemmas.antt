@@ -11,3 +11,4 @@ pub mod StatusRead
 pub mod Tokens
 pub mod Trailers
 pub mod Trimmed
+pub mod UriSteps

@@ -6,3 +6,6 @@ pub mod Hosts
 pub mod Named
 pub mod Parts
 pub mod RequestLine
+pub mod Targets
+pub mod UriDues
+pub mod Uris

@@ -1,4 +1,5 @@
--- Parsers without children, by cases: the outcome of each case, and its laws. They keep their state.
+-- Parsers without children, by cases: the outcome of each case, and its laws. They keep their
+-- state.
 use Rattle.std.specs.Prelude.{◌≡◌, ◌⊎◌, ℕ, Bool, true, false, List, Option}
 use Rattle.std.proofs.Common.{refl, sym, ap, ◌∙◌, inl, inr}
 use Rattle.streams.specs.Equal.{true_is_false}

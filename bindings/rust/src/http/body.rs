@@ -42,6 +42,12 @@ pub enum BodyError {
     LengthNotANumber,
     /// The Content-Length is 2<sup>64</sup> or more.
     LengthTooLarge,
+    /// The value of the Host field is not a host with an optional port.
+    InvalidHost,
+    /// The target of a request is in no form that its method may have.
+    InvalidTarget,
+    /// An element of Transfer-Encoding is not a token with parameters.
+    InvalidCoding,
     /// Memory allocation failed.
     NoMemory,
     /// A number that this crate does not know, from another version of the library.
@@ -61,6 +67,9 @@ impl fmt::Display for BodyError {
             BodyError::LengthsDiffer => "Content-Length values differ",
             BodyError::LengthNotANumber => "Content-Length is not a number",
             BodyError::LengthTooLarge => "Content-Length too large",
+            BodyError::InvalidHost => "invalid Host field",
+            BodyError::InvalidTarget => "invalid request target",
+            BodyError::InvalidCoding => "invalid transfer coding",
             BodyError::NoMemory => "memory allocation failed",
             BodyError::Unknown(number) => {
                 return write!(f, "unknown number {number} from the library");
@@ -99,6 +108,9 @@ fn reason_of(number: u32) -> BodyError {
         exports::HTTP_ERROR_LENGTHS_DIFFER => BodyError::LengthsDiffer,
         exports::HTTP_ERROR_LENGTH_NOT_A_NUMBER => BodyError::LengthNotANumber,
         exports::HTTP_ERROR_LENGTH_TOO_LARGE => BodyError::LengthTooLarge,
+        exports::HTTP_ERROR_INVALID_HOST => BodyError::InvalidHost,
+        exports::HTTP_ERROR_INVALID_TARGET => BodyError::InvalidTarget,
+        exports::HTTP_ERROR_INVALID_CODING => BodyError::InvalidCoding,
         number => BodyError::Unknown(number),
     }
 }

@@ -11,6 +11,7 @@ use crate::code::{DONE, INVALID, NO_MEMORY};
 use format_http::bodies::framing::{BodyLength, FramingError, request_body_length};
 use format_http::heads::head::read_head;
 use format_http::heads::hosts::{HostError, host_error};
+use format_http::heads::targets::has_valid_target;
 use format_http::responses::head::{read_response_head, response_body_length};
 use std::alloc::Global;
 use winnow::error::ParserError;
@@ -64,6 +65,15 @@ pub const HTTP_ERROR_LENGTH_NOT_A_NUMBER: u32 = 9;
 /// Content-Length too large. It is 2^64 or more.
 pub const HTTP_ERROR_LENGTH_TOO_LARGE: u32 = 10;
 
+/// Invalid Host field. Its value is not a host with an optional port.
+pub const HTTP_ERROR_INVALID_HOST: u32 = 11;
+
+/// Invalid request target. It is in no form that the method may have.
+pub const HTTP_ERROR_INVALID_TARGET: u32 = 12;
+
+/// Invalid transfer coding. An element of Transfer-Encoding is not a token with parameters.
+pub const HTTP_ERROR_INVALID_CODING: u32 = 13;
+
 /// The length of the body of a message, or why the message must be rejected.
 #[repr(C)]
 #[derive(Clone, Copy, Drop)]
@@ -96,6 +106,7 @@ fn number_of(error: HostError) -> u32
     match error {
         HostError::Missing => HTTP_ERROR_MISSING_HOST,
         HostError::Many => HTTP_ERROR_MANY_HOSTS,
+        HostError::Invalid => HTTP_ERROR_INVALID_HOST,
     }
 }
 
@@ -134,6 +145,7 @@ fn error_of(fault: FramingError) -> u32
     match fault {
         FramingError::CodingBeforeVersion => HTTP_ERROR_CODING_BEFORE_VERSION,
         FramingError::LengthBesideCoding => HTTP_ERROR_LENGTH_AND_CODING,
+        FramingError::InvalidCoding => HTTP_ERROR_INVALID_CODING,
         FramingError::ChunkedNotLast => HTTP_ERROR_CHUNKED_NOT_LAST,
         FramingError::NotChunked => HTTP_ERROR_NOT_CHUNKED,
         FramingError::LengthsDiffer => HTTP_ERROR_LENGTHS_DIFFER,
@@ -148,7 +160,12 @@ fn error_of(fault: FramingError) -> u32
 /// A request with both Transfer-Encoding and Content-Length, or with Transfer-Encoding in a version
 /// before 1.1, is rejected. Content-Length fields must have one numeral, possibly repeated, and no
 /// empty element. Names of fields and codings are compared ignoring ASCII case. Codings other than
-/// `chunked` are not distinguished, and the value of a Host field is not examined.
+/// `chunked` are not distinguished.
+///
+/// A request is also rejected if its target is in none of the forms that its method may have
+/// (section 3.2), if its Host field is not a host with an optional port, or if its
+/// Transfer-Encoding is not a list of codings (RFC 9110, section 10.1.4). Whether the bytes of a
+/// host in brackets are an address is not examined.
 ///
 /// `DONE`: the kind is written, and the length of a body of the kind `HTTP_BODY_LENGTH`. The kind
 /// is `HTTP_BODY_NONE`, `HTTP_BODY_CHUNKED` or `HTTP_BODY_LENGTH`.
@@ -179,6 +196,10 @@ pub extern "C" fn exported_http_request_body(alloc: Global, bytes: &[u8], out: &
     let mut input = bytes;
     match read_head(alloc, &mut input) {
         Ok(head) => {
+            if !has_valid_target(&head.line) {
+                *out = rejected(HTTP_ERROR_INVALID_TARGET);
+                return INVALID;
+            }
             if let Some(error) = host_error(&head) {
                 *out = rejected(number_of(error));
                 return INVALID;

@@ -5,7 +5,7 @@ use Rattle.std.specs.Char.{to_ascii_lowercase}
 use Rattle.std.proofs.Common.{refl, sym, ap, subst, inl, inr, ◌∙◌, arith, length-append}
 use Rattle.std.proofs.lemmas.List.{length-map}
 use Rattle.format_http.proofs.BodiesLemmas.Lengths.{both_ways}
-use Rattle.format_http.specs.Bodies.Lists.{IsElement, parts_of}
+use Rattle.format_http.specs.Bodies.Lists.{IsElement, quoted_parts_of}
 use Rattle.format_http.specs.Bodies.Codings.{ChunkedIsFollowed, EndChunked, EndsName, EndsSo}
 use Rattle.format_http.specs.Bodies.Codings.{FollowsSo, HasChunked, HasCoding, HaveCoding}
 use Rattle.format_http.specs.Bodies.Codings.{IsChunked, NamesChunked}
@@ -237,15 +237,15 @@ module _ (chunked plain : Bool) (field : Pair) (fields all : List Pair)
 
   -- none in this field
   pub same_field : (now bare : Bool) → IsNamed transfer_encoding field.0
-      → (FollowsSo chunked (parts_of field.1) → ⊥)
-      → (IsTrue now ↔ Has chunked (parts_of field.1))
-      → (IsTrue bare ↔ EndsSo plain (parts_of field.1)) → AreSame now bare fields all
+      → (FollowsSo chunked (quoted_parts_of field.1) → ⊥)
+      → (IsTrue now ↔ Has chunked (quoted_parts_of field.1))
+      → (IsTrue bare ↔ EndsSo plain (quoted_parts_of field.1)) → AreSame now bare fields all
   same_field now bare named none is is_bare = record {
     follows = both_ways (follows_there, follows_back) so_far.follows;
     ends = both_ways (ends_there, ends_back) so_far.ends;
   }
     where
-      put : Has chunked (parts_of field.1) → HaveCoding fields
+      put : Has chunked (quoted_parts_of field.1) → HaveCoding fields
           → (IsTrue chunked × HaveCoding (field ∷ fields)) ⊎ ChunkedIsFollowed (field ∷ fields)
       put (inl c) h = inl (c, inr h)
       put (inr x) h = inr (inl (named, inr (x, h)))
@@ -264,7 +264,7 @@ module _ (chunked plain : Bool) (field : Pair) (fields all : List Pair)
       follows_back (inr (inl (same, inr (x, h)))) = inl (is.1 (inr x), h)
       follows_back (inr (inr x)) = inr x
 
-      put_end : EndsSo plain (parts_of field.1) → (HaveCoding fields → ⊥)
+      put_end : EndsSo plain (quoted_parts_of field.1) → (HaveCoding fields → ⊥)
           → (IsTrue plain × (HaveCoding (field ∷ fields) → ⊥)) ⊎ EndChunked (field ∷ fields)
       put_end (inl (p, lacks)) last = inl (p, λ h. elim h [ inl x ↦ lacks x.1 | inr y ↦ last y ])
       put_end (inr x) last = inr (inl (named, x, last))

@@ -42,7 +42,8 @@ one_length message major minor fields one other x y =
     one_rule x y same (λ x y.
     one_rule x y same (λ x y.
     one_rule x y (λ x y.
-    one_rule x y same (λ x y. one_rule x y same (λ x y. one_rule x y same same))) (λ x y.
+    one_rule x y same (λ x y.
+    one_rule x y same (λ x y. one_rule x y same (λ x y. one_rule x y same same)))) (λ x y.
     one_rule x y (λ x y. declared x y) (λ x y. one_rule x y same same))))))
   where
     same : {answer : Answer} → one ≡ answer → other ≡ answer → one ≡ other

@@ -1,7 +1,7 @@
 -- How long the body of a message is (RFC 9112, section 6.3), by the rules of the standard in order.
 use Rattle.std.specs.Prelude.{◌≡◌, ◌<◌, ◌≤◌, ◌⊎◌, ◌^◌, ℕ, List, Result, Ok, Err, codes}
 use Rattle.format_http.specs.Bodies.Lengths.{AreOne, IsLength}
-use Rattle.format_http.specs.Bodies.Codings.{ChunkedIsFollowed, EndChunked}
+use Rattle.format_http.specs.Bodies.Codings.{ChunkedIsFollowed, EndChunked, HaveInvalid}
 use Rattle.format_http.specs.Bodies.Fields.{HasOne, IsNumber, content_length}
 use Rattle.format_http.specs.Bodies.Fields.{transfer_encoding}
 use Rattle.format_http.specs.Heads.Head.{Pair}
@@ -13,6 +13,7 @@ use Rattle.format_http.specs.declared.bodies.framing.BodyLength.TheVariants.{Unt
 use Rattle.format_http.specs.declared.bodies.framing.FramingError.{FramingError}
 use Rattle.format_http.specs.declared.bodies.framing.FramingError.TheVariants.{ChunkedNotLast}
 use Rattle.format_http.specs.declared.bodies.framing.FramingError.TheVariants.{CodingBeforeVersion}
+use Rattle.format_http.specs.declared.bodies.framing.FramingError.TheVariants.{InvalidCoding}
 use Rattle.format_http.specs.declared.bodies.framing.FramingError.TheVariants.{LengthBesideCoding}
 use Rattle.format_http.specs.declared.bodies.framing.FramingError.TheVariants.{LengthIsNoNumber}
 use Rattle.format_http.specs.declared.bodies.framing.FramingError.TheVariants.{LengthTooLarge}
@@ -58,14 +59,16 @@ IsBefore major minor = (major < 1) ⊎ ((major ≡ 1) × (minor < 1))
 -- 4. A Transfer-Encoding header field is present.
 abbrev pub IsCodedLength : Message → List Pair → Answer → Type 0
 IsCodedLength message fields answer =
+    -- RFC 9110, section 10.1.4: an element of the list is not a transfer-coding
+    Rule (HaveInvalid fields) (answer ≡ Err InvalidCoding)
     -- section 6.1: the chunked transfer coding is applied twice, or is not the last of the codings
-    Rule (ChunkedIsFollowed fields) (answer ≡ Err ChunkedNotLast)
+    (Rule (ChunkedIsFollowed fields) (answer ≡ Err ChunkedNotLast)
     -- the chunked transfer coding is the final encoding
     (Rule (EndChunked fields) (answer ≡ Ok Chunked)
     -- it is not, in a response
     (Rule (IsResponse message) (answer ≡ Ok UntilClose)
     -- it is not, in a request
-    (answer ≡ Err NotChunked)))
+    (answer ≡ Err NotChunked))))
 
 -- The length is this number, which 64 bits hold or not.
 abbrev pub IsNumbered : ℕ → Answer → Type 0

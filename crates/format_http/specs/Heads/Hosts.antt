@@ -3,8 +3,9 @@ use Rattle.std.specs.Prelude.{◌≡◌, ◌<◌, ◌≤◌, ◌⊎◌, ℕ, Lis
 use Rattle.std.specs.Prelude.{suc}
 use Rattle.format_http.specs.Heads.Head.{Pair}
 use Rattle.format_http.specs.Heads.Named.{IsNamed}
+use Rattle.format_http.specs.Heads.Uris.{IsHost}
 use Rattle.format_http.specs.declared.heads.hosts.HostError.{HostError}
-use Rattle.format_http.specs.declared.heads.hosts.HostError.TheVariants.{Many, Missing}
+use Rattle.format_http.specs.declared.heads.hosts.HostError.TheVariants.{Invalid, Many, Missing}
 use Rattle.format_http.specs.declared.heads.request_line.RequestLine.{RequestLine}
 
 -- That many of the fields are named Host.
@@ -15,6 +16,12 @@ AreHosts (field ∷ fields) hosts =
     × AreHosts fields others)
     ⊎ ((IsNamed (codes "host") field.0 → ⊥) × AreHosts fields hosts)
 
+-- A Host field has an invalid value: one that is not uri-host [ ":" port ].
+abbrev pub HasInvalidHost : List Pair → Type 0
+HasInvalidHost [] = ⊥
+HasInvalidHost (field ∷ fields) =
+    (IsNamed (codes "host") field.0 × (IsHost field.1 → ⊥)) ⊎ HasInvalidHost fields
+
 -- The version is 1.1, or a later one that begins with 1.
 abbrev pub NeedsHost : RequestLine → Type 0
 NeedsHost line = (line.major ≡ 1) × (1 ≤ line.minor)
@@ -23,13 +30,15 @@ NeedsHost line = (line.major ≡ 1) × (1 ≤ line.minor)
 abbrev pub MayHave : RequestLine → ℕ → Type 0
 MayHave line hosts = (hosts ≡ 1) ⊎ ((hosts ≡ 0) × (NeedsHost line → ⊥))
 
--- The error of a request of this line with this number of Host fields, or none.
-abbrev pub IsHostError : RequestLine → ℕ → Option HostError → Type 0
-IsHostError line hosts (Some Missing) = NeedsHost line × (hosts ≡ 0)
-IsHostError line hosts (Some Many) = 1 < hosts
-IsHostError line hosts None = MayHave line hosts
+-- The error of a request of this line with this number of Host fields, or none. `invalid` says that
+-- one has an invalid value.
+abbrev pub IsHostError : RequestLine → ℕ → Type 0 → Option HostError → Type 0
+IsHostError line hosts invalid (Some Missing) = NeedsHost line × (hosts ≡ 0)
+IsHostError line hosts invalid (Some Many) = 1 < hosts
+IsHostError line hosts invalid (Some Invalid) = MayHave line hosts × invalid
+IsHostError line hosts invalid None = MayHave line hosts × (invalid → ⊥)
 
 -- These fields have that error in a request of this line, or none.
 abbrev pub HasHostError : RequestLine → List Pair → Option HostError → Type 0
 HasHostError line fields error =
-    (hosts : ℕ) × AreHosts fields hosts × IsHostError line hosts error
+    (hosts : ℕ) × AreHosts fields hosts × IsHostError line hosts (HasInvalidHost fields) error

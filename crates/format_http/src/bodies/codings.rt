@@ -3,12 +3,12 @@
 
 ghost use Rattle.format_http.specs.Bodies.Codings.{ChunkedIsFollowed, EndChunked, EndsName};
 ghost use Rattle.format_http.specs.Bodies.Codings.{EndsSo, FollowsSo, HasChunked, NamesChunked};
-ghost use Rattle.format_http.specs.Bodies.Lists.{parts_of};
+ghost use Rattle.format_http.specs.Bodies.Lists.{quoted_parts_of};
 ghost use Rattle.format_http.specs.Heads.Head.{pair};
 ghost use Rattle.format_http.specs.Heads.Named.{IsNamed};
 ghost use Rattle.std.specs.Prelude.{◌≡◌, ◌↔◌, ◌⊎◌, IfSome, IsTrue, None, codes, map};
 
-use crate::bodies::lists::{element_of, next_part};
+use crate::bodies::lists::{element_of, next_quoted_part};
 use crate::heads::field_line::Field;
 
 /// The last of the codings so far.
@@ -51,15 +51,15 @@ fn is_chunked(coding: &[u8]) -> bool
 /// Returns the last of the codings so far and of those in this list, or `None` if a coding of the
 /// list comes after `chunked`. `before` is the last of those so far.
 fn codings_so_far(before: Codings, list: &[u8]) -> Option<Codings>
-    ensures followed { result ≡ None → FollowsSo before.chunked (parts_of list.now) }
-    ensures last { IfSome result (λ now. (FollowsSo before.chunked (parts_of list.now) → ⊥)
-        × (IsTrue now.chunked ↔ (IsTrue before.chunked ⊎ HasChunked (parts_of list.now)))
-        × (IsTrue now.plain ↔ EndsSo before.plain (parts_of list.now))) }
+    ensures followed { result ≡ None → FollowsSo before.chunked (quoted_parts_of list.now) }
+    ensures last { IfSome result (λ now. (FollowsSo before.chunked (quoted_parts_of list.now) → ⊥)
+        × (IsTrue now.chunked ↔ (IsTrue before.chunked ⊎ HasChunked (quoted_parts_of list.now)))
+        × (IsTrue now.plain ↔ EndsSo before.plain (quoted_parts_of list.now))) }
 {
     let mut now = before;
     let mut left = Some(list);
     'parts: while let Some(here) = left {
-        let (part, more) = next_part(here);
+        let (part, more) = next_quoted_part(here);
         let coding = element_of(part);
         if !coding.is_empty() {
             if now.chunked {

@@ -10,6 +10,7 @@ ghost use Rattle.std.specs.Prelude.{◌↔◌, IsTrue, map};
 
 use crate::bodies::codings::end_chunked;
 use crate::bodies::fields::has;
+use crate::bodies::invalid::have_invalid;
 use crate::bodies::lengths::declared_length;
 use crate::heads::field_line::Field;
 use crate::heads::head::Head;
@@ -75,6 +76,9 @@ pub enum FramingError {
     /// A message has both a Transfer-Encoding and a Content-Length field, by which two recipients
     /// may take different bytes for its body (rule 3).
     LengthBesideCoding,
+    /// An element of the Transfer-Encoding fields is not a transfer coding: a token, and parameters
+    /// after semicolons (RFC 9110, section 10.1.4).
+    InvalidCoding,
     /// A transfer coding comes after `chunked`, possibly `chunked` again (section 6.1).
     ChunkedNotLast,
     /// The last transfer coding of a request is not `chunked`, or its Transfer-Encoding fields have
@@ -128,6 +132,9 @@ fn is_before(major: u8, minor: u8) -> bool
 fn coded_length(message: Message<'_>, fields: &[Field<'_>]) -> Result<BodyLength, FramingError>
     ensures { IsCodedLength message.entry (map pair fields.now) result }
 {
+    if have_invalid(fields) {
+        return Err(FramingError::InvalidCoding);
+    }
     match end_chunked(fields) {
         None => Err(FramingError::ChunkedNotLast),
         Some(true) => Ok(BodyLength::Chunked),
@@ -155,9 +162,10 @@ fn undeclared_length(message: Message<'_>) -> Result<BodyLength, FramingError>
 /// 2. A response of status 2xx to CONNECT makes the connection a tunnel.
 /// 3. A Transfer-Encoding field in a version before 1.1, or together with a Content-Length field,
 ///    is an error.
-/// 4. A coding after `chunked`, including `chunked` again, is an error (section 6.1). If the last
-///    transfer coding is `chunked`, the body is chunks. If it is another, a request is rejected,
-///    and the body of a response ends with the connection.
+/// 4. An element that is not a transfer coding (RFC 9110, section 10.1.4), and a coding after
+///    `chunked`, including `chunked` again (section 6.1), are errors. If the last transfer coding
+///    is `chunked`, the body is chunks. If it is another, a request is rejected, and the body of a
+///    response ends with the connection.
 /// 5. Content-Length fields must consist of one numeral, possibly repeated, in a list or in several
 ///    fields. Empty elements are not allowed.
 /// 6. Its number is the length.

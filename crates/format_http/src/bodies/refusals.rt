@@ -1,6 +1,6 @@
-//! The requests with a valid head that a server must reject: because of their Host fields (RFC
-//! 9112, section 3.2), or because of the fields that determine the length of their body (section
-//! 6.3).
+//! The requests with a valid head that a server must reject: because of their target or their Host
+//! fields (RFC 9112, section 3.2), or because of the fields that determine the length of their body
+//! (section 6.3).
 //!
 //! Whitespace between the name of a field and its colon (RFC 9112, section 5.1), and a carriage
 //! return in a name or a value (section 2.2), do not occur in a head that
@@ -16,6 +16,7 @@ ghost use Rattle.std.specs.Prelude.{map};
 use crate::bodies::framing::{FramingError, request_body_length};
 use crate::heads::head::Head;
 use crate::heads::hosts::{HostError, host_error};
+use crate::heads::targets::has_valid_target;
 use std::alloc::Allocator;
 
 /// The reason why a server must respond to a request with status 400, from its head.
@@ -28,13 +29,16 @@ use std::alloc::Allocator;
 /// ```
 #[derive(Clone, Copy, Debug, PartialEq, Eq, Drop)]
 pub enum Reason {
+    /// Its target: no form of its method.
+    Target,
     /// Its Host fields.
     Host(HostError),
     /// The fields that determine the length of its body.
     Body(FramingError),
 }
 
-/// Returns the reason why a server must reject the request of this head, or `None`: that of
+/// Returns the reason why a server must reject the request of this head, or `None`: a target that
+/// is not [valid](crate::heads::targets::has_valid_target), or otherwise the reason of
 /// [`host_error`], or otherwise that of [`request_body_length`]. It does not allocate.
 ///
 /// ```
@@ -52,6 +56,9 @@ pub enum Reason {
 pub fn refusal_of<A: Allocator>(head: &Head<'_, A>) -> Option<Reason>
     ensures { IsRefusal head.now.line (map pair head.now.fields.items) result }
 {
+    if !has_valid_target(&head.line) {
+        return Some(Reason::Target);
+    }
     if let Some(error) = host_error(head) {
         return Some(Reason::Host(error));
     }

@@ -2,8 +2,9 @@
 //! separated by one space, and a line ending (a carriage return and a line feed).
 //!
 //! Section 3.2 defines four forms of a target by the grammar of URIs. Here a target is one or more
-//! visible ASCII bytes, which includes each target of that grammar; it contains no space. The
-//! version is two digits; the caller must check whether it is supported.
+//! visible ASCII bytes, which includes each target of that grammar; it contains no space.
+//! [`targets`](crate::heads::targets) decides whether it is in one of these forms. The version is
+//! two digits; the caller must check whether it is supported.
 #![tactic(auto)]
 
 ghost use Rattle.streams.specs.Bytes.{bytes_input, bytes_reading};
