@@ -96,8 +96,8 @@ CODINGS = re.compile(rb"[ \t]*(?:%b)?[ \t]*(?:,[ \t]*(?:%b)?[ \t]*)*" % (CODING,
 
 
 def has_no_coding(text):
-    """Returns whether a Transfer-Encoding field is not a list of transfer codings (RFC 9110, section
-    10.1.4)."""
+    """Returns whether a Transfer-Encoding field is not a list of transfer codings (RFC 9110,
+    section 10.1.4)."""
     return any(not CODINGS.fullmatch(value) for value in codings_of(text))
 
 
