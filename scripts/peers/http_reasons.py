@@ -61,7 +61,11 @@ ROWS = {
     "Transfer-Encoding without a coding": (
         REQUEST, "GET / HTTP/1.1\r\nTransfer-Encoding:\r\n\r\n", "nyy"),
     "an element of Transfer-Encoding that is no coding": (
+        REQUEST, "POST / HTTP/1.1\r\nTransfer-Encoding: a b, chunked\r\n\r\n", "nyy"),
+    "an element of Transfer-Encoding that is no coding, in a response": (
         RESPONSE, "HTTP/1.1 200 OK\r\nTransfer-Encoding: a b\r\n\r\n", "nyy"),
+    "chunked in a quoted string": (
+        REQUEST, 'POST / HTTP/1.1\r\nTransfer-Encoding: x;a=",chunked,", chunked\r\n\r\n', "yyn"),
     "a space before the method": (REQUEST, " GET / HTTP/1.1\r\n\r\n", "nyn"),
     "Transfer-Encoding before version 1.1": (
         REQUEST, "POST / HTTP/1.0\r\nTransfer-Encoding: chunked\r\n\r\n", "nyy"),
@@ -92,8 +96,8 @@ CODINGS = re.compile(rb"[ \t]*(?:%b)?[ \t]*(?:,[ \t]*(?:%b)?[ \t]*)*" % (CODING,
 
 
 def has_no_coding(text):
-    """Returns whether a Transfer-Encoding field is not a list of transfer codings (RFC 9110, section
-    10.1.4)."""
+    """Returns whether a Transfer-Encoding field is not a list of transfer codings (RFC 9110,
+    section 10.1.4)."""
     return any(not CODINGS.fullmatch(value) for value in codings_of(text))
 
 
@@ -148,6 +152,7 @@ COUNTED = {
 AFTER_CHUNKED = {"a tab or a comma after chunked": ends_oddly}
 LLHTTP_REFUSES = {
     REQUEST: COUNTED | AFTER_CHUNKED | {
+        "chunked in a quoted string": lambda text: any(b'"' in it for it in codings_of(text)),
         "the method": lambda text: words(text)[0].decode("latin-1") not in methods(),
         "the target": lambda text: not re.match(rb"/|\*|[A-Za-z]+://", words(text)[1]),
         "the version": lambda text: version_of(text) not in (b"0.9", b"1.0", b"1.1", b"2.0"),
