@@ -40,6 +40,6 @@ fn excerpts_of_far_lines(rt: HostRuntime) {
         assert!(rt; bytes.push(b'x').is_ok(), "memory is there");
         let shown = Excerpt::new(bytes.as_slice(), lines);
         let text = format!(in rt.alloc(); "{shown}").unwrap();
-        assert_eq!(rt; text.as_str(), wanted, "line {lines}");
+        assert_eq!(rt; text.as_str(), wanted, "after {lines} lines");
     }
 }
