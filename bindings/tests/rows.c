@@ -1067,6 +1067,34 @@ static void test_positions(void)
          PERGIDAU_TOO_LONG);
     same("nothing", "position", pergidau_text_position(NULL, 0, 1, &out), PERGIDAU_DONE);
     same("the line", "nothing", (long long)out.line, 1);
+    /* Bytes that are not UTF-8, with the line and the column that Python counts in the bytes before
+       the offset, decoded with a replacement character for each invalid sequence. */
+    static const struct {
+        const char *bytes;
+        size_t length, offset;
+        long long line, column;
+    } invalid[] = {
+        {"\xff", 1, 0, 1, 1},
+        {"\xff", 1, 1, 1, 2},
+        {"\xff", 1, 9, 1, 2},
+        {"a\n\xff\n\nb", 6, 2, 2, 1},
+        {"a\n\xff\n\nb", 6, 3, 2, 2},
+        {"a\n\xff\n\nb", 6, 4, 3, 1},
+        {"a\n\xff\n\nb", 6, 5, 4, 1},
+        {"a\n\xff\n\nb", 6, 6, 4, 2},
+        {"\xc3\xa9\xff", 3, 1, 1, 2},
+        {"\xc3\xa9\xff", 3, 2, 1, 2},
+        {"\xc3\xa9\xff", 3, 3, 1, 3},
+        {"\xf0\x9d\x84\x9e", 4, 3, 1, 2},
+        {"\xed\xa0\x80", 3, 3, 1, 4},
+    };
+    for (size_t i = 0; i < sizeof invalid / sizeof *invalid; i++) {
+        same("text_position", "no UTF-8",
+             pergidau_text_position((const uint8_t *)invalid[i].bytes, invalid[i].length,
+                                    invalid[i].offset, &out), PERGIDAU_DONE);
+        same("the line", "no UTF-8", (long long)out.line, invalid[i].line);
+        same("the column", "no UTF-8", (long long)out.column, invalid[i].column);
+    }
 }
 
 static void test_wrong_records(void)

@@ -5,3 +5,5 @@
 mod growth;
 #[cfg(test)]
 mod rendered;
+#[cfg(test)]
+mod texts;

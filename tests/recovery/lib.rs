@@ -7,6 +7,8 @@ mod common;
 #[cfg(test)]
 mod memory;
 #[cfg(test)]
+mod places;
+#[cfg(test)]
 mod recoverable_parse;
 #[cfg(test)]
 mod resume_after;

@@ -1,5 +1,7 @@
-//! The tests of lines and columns.
+//! The tests of lines and columns, and of the excerpts that messages show.
 #![tactic(auto)]
 
+#[cfg(test)]
+mod excerpts;
 #[cfg(test)]
 mod places;

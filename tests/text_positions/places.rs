@@ -1,6 +1,7 @@
 //! Places of texts.
 use std::fmt::Debug;
 use std::process::Abort;
+use text_positions::excerpt::position_in;
 use text_positions::{Position, one_position, position_of};
 
 /// A text, an offset in bytes, and the line and the column of Python's `json.JSONDecodeError` for
@@ -102,6 +103,42 @@ const NO_PLACES: &[(&str, usize)] = &[
     ("日本\n語", 12),
 ];
 
+/// Bytes, an offset, and the line and the column that Python counts in the bytes before it, decoded
+/// with a replacement character for each invalid sequence (`errors="replace"`).
+const INVALID: &[(&[u8], usize, usize, usize)] = &[
+    (b"\xFF", 0, 1, 1),
+    (b"\xFF", 1, 1, 2),
+    (b"\xFF", 9, 1, 2),
+    (b"\xFF\xFF", 2, 1, 3),
+    (b"a\n\xFF", 0, 1, 1),
+    (b"a\n\xFF", 1, 1, 2),
+    (b"a\n\xFF", 2, 2, 1),
+    (b"a\n\xFF", 3, 2, 2),
+    (b"a\n\xFF", 7, 2, 2),
+    (b"\n\n\xFF", 1, 2, 1),
+    (b"\n\n\xFF", 2, 3, 1),
+    (b"\n\n\xFF", 3, 3, 2),
+    (b"\xFF\n", 2, 2, 1),
+    (b"\xFF\n\n", 3, 3, 1),
+    (b"\xFF\nab\n\nc", 4, 2, 3),
+    (b"\xFF\nab\n\nc", 5, 3, 1),
+    (b"\xFF\nab\n\nc", 6, 4, 1),
+    (b"\xFF\nab\n\nc", 7, 4, 2),
+    (b"\xFF\r\nb", 2, 1, 3),
+    (b"\xFF\r\nb", 3, 2, 1),
+    (b"\xC3\xA9\xFF", 2, 1, 2),
+    (b"\xC3\xA9\xFF", 3, 1, 3),
+    (b"\xFF\xC3\xA9\xE2\x82\xAC\xF0\x9D\x84\x9Ex", 11, 1, 6),
+    // A character that is cut counts as one, also where its bytes are valid.
+    (b"\xC3\xA9", 1, 1, 2),
+    (b"a\n\xC3\xA9", 3, 2, 2),
+    (b"\xF0\x9D\x84\x9E", 3, 1, 2),
+    (b"\xE2\x82x", 3, 1, 3),
+    // An overlong encoding, and a surrogate: each byte counts.
+    (b"\xC0\x80", 2, 1, 3),
+    (b"\xED\xA0\x80", 3, 1, 4),
+];
+
 fn same<T: PartialEq + Debug + Drop>(rt: &impl Abort, text: &str, at: usize, got: T, want: T) {
     assert_eq!(rt; got, want, "{text:?} at {at}");
 }
@@ -120,6 +157,28 @@ fn position_of_no_places(rt: HostRuntime) {
         same(&rt, text, *at, position_of(text, *at), None);
     }
     same(&rt, "a", usize::MAX, position_of("a", usize::MAX), None);
+}
+
+/// Bytes that are not UTF-8 after the offset do not change its line and its column.
+#[test]
+fn position_in_before_invalid_bytes(rt: HostRuntime) {
+    for (text, at, line, column) in PLACES {
+        let mut bytes = Vec::new(rt.alloc());
+        for byte in text.as_bytes() {
+            assert!(rt; bytes.push(*byte).is_ok(), "memory is there");
+        }
+        assert!(rt; bytes.push(0xFF).is_ok(), "memory is there");
+        let want = Position { line: *line, column: *column };
+        same(&rt, text, *at, position_in(bytes.as_slice(), *at), want);
+    }
+}
+
+#[test]
+fn position_in_invalid_bytes(rt: HostRuntime) {
+    for (bytes, at, line, column) in INVALID {
+        let want = Position { line: *line, column: *column };
+        assert_eq!(rt; position_in(*bytes, *at), want, "{bytes:?} at {at}");
+    }
 }
 
 #[test]

@@ -2,9 +2,12 @@
 use std::alloc::Global;
 use std::fmt::Debug;
 use std::process::Abort;
+use stream_errors::context::AddContext;
+use stream_errors::context_error::ContextError;
 use stream_errors::empty::EmptyError;
 use stream_errors::fault::ParseFault;
 use stream_errors::input_error::InputError;
+use stream_errors::mode::ErrMode;
 use stream_errors::parser_error::ParserError;
 use stream_searches::caseless::Caseless;
 use stream_searches::compare::Compare;
@@ -214,6 +217,56 @@ fn parse_under_errors_with_a_mode(rt: HostRuntime) {
             _ => assert!(rt; false, "digit1.parse at {text:?} is not refused"),
         }
     }
+}
+
+/// Checks the offset and the contexts of the error of a whole parse.
+fn invalid<O, E, P>(
+    rt: &impl Abort,
+    parser: &mut P,
+    text: &'static str,
+    offset: usize,
+    contexts: &[char],
+)
+where
+    O: Drop,
+    E: ParserError<&'static str, Inner = ContextError<char>>,
+    P: Parser<&'static str, O, E>,
+{
+    match parser.parse(text) {
+        Err(ParseFault::Invalid(error)) => {
+            same(rt, "parse", text, error.offset(), offset);
+            same(rt, "parse", text, error.inner().context(), contexts);
+        }
+        _ => assert!(rt; false, "parse at {text:?} is not invalid"),
+    }
+}
+
+/// The contexts of the error of a whole parse. Only the error for remaining input has none.
+fn with_contexts<E>(rt: &impl Abort, alloc: Global)
+where
+    E: ParserError<&'static str, Inner = ContextError<char>>
+        + AddContext<&'static str, char, Global>,
+{
+    let second = Digit1.context(alloc, 'm');
+    let mut pair = (Digit1.context(alloc, 'n'), ',', second).context(alloc, 'p');
+    let rows: [(&str, usize, &[char]); 5] = [
+        ("a", 0, &['n', 'p']),
+        ("12;3", 2, &['p']),
+        ("12,a", 3, &['m', 'p']),
+        ("12,", 3, &['m', 'p']),
+        ("12,3;", 4, &[]),
+    ];
+    for (text, offset, contexts) in rows {
+        invalid::<_, E, _>(rt, &mut pair, text, offset, contexts);
+    }
+}
+
+#[test]
+fn parse_keeps_contexts(rt: HostRuntime) {
+    with_contexts::<ContextError<char>>(&rt, rt.alloc());
+    with_contexts::<ErrMode<ContextError<char>>>(&rt, rt.alloc());
+    let mut cut = (Digit1, combinator::cut_err(','.context(rt.alloc(), 'n')));
+    invalid::<_, ErrMode<ContextError<char>>, _>(&rt, &mut cut, "12a", 2, &['n']);
 }
 
 /// Runs any parser under errors with a mode.

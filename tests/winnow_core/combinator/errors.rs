@@ -10,9 +10,10 @@ use streams::needed::Needed;
 use streams::partial::Partial;
 use test_support::outcomes::Kind::{self, Backtrack, Cut, Incomplete, Memory};
 use test_support::outcomes::{kind_of, outcome_of};
+use test_support::placed::Placed;
 use test_support::refusing::Refusing;
 use test_support::rows::{Modal, answers_on_cut, same, slices_each};
-use winnow_ascii::ascii::impls::Digit1;
+use winnow_ascii::ascii::impls::{Alpha1, Digit1};
 use winnow_comb::combinator;
 use winnow_core::combinator::impls::{CompleteErr, ErrInto};
 use winnow_core::parser::Parser;
@@ -111,6 +112,43 @@ fn context_with(rt: HostRuntime) {
     keeps(&rt, name, digits, "a", (Backtrack, &["n"]), "a");
     let digits = Digit1.context_with(rt.alloc(), || ["n", "m"].into_iter());
     keeps(&rt, name, digits, "a", (Backtrack, &["n", "m"]), "a");
+}
+
+/// The error of a run on a text has its last context from a parser that began at this rest.
+fn begins<O, P>(rt: &impl Abort, name: &str, mut parser: P, text: &'static str, begun: &str)
+where
+    O: Drop,
+    P: Parser<&'static str, O, ErrMode<Placed>> + Drop,
+{
+    let mut input = text;
+    match parser.parse_next(&mut input) {
+        Err(ErrMode::Backtrack(error) | ErrMode::Cut(error)) => {
+            same(rt, name, text, error.begun, Some(begun));
+        }
+        _ => assert!(rt; false, "{name} at {text:?} is no error"),
+    }
+}
+
+/// A context is added with the start of its parser, not with the position of the error.
+#[test]
+fn context_begins_with_its_parser(rt: HostRuntime) {
+    let name = "context";
+    let word = || (Alpha1, Digit1).context(rt.alloc(), 'n');
+    begins(&rt, name, word(), "ab;", "ab;");
+    begins(&rt, name, ('(', word()), "(ab;", "ab;");
+    begins(&rt, name, ('(', word()).context(rt.alloc(), 'm'), "(ab;", "(ab;");
+    begins(&rt, name, combinator::cut_err(word()), "ab;", "ab;");
+    let cut = combinator::cut_err((Alpha1, Digit1));
+    begins(&rt, name, ('(', cut.context(rt.alloc(), 'n')), "(ab;", "ab;");
+}
+
+#[test]
+fn context_with_begins_with_its_parser(rt: HostRuntime) {
+    let name = "context_with";
+    let one = (Alpha1, Digit1).context_with(rt.alloc(), || ['n'].into_iter());
+    begins(&rt, name, ('(', one), "(ab;", "ab;");
+    let two = (Alpha1, Digit1).context_with(rt.alloc(), || ['n', 'm'].into_iter());
+    begins(&rt, name, ('(', two), "(ab;", "ab;");
 }
 
 /// The list of contexts cannot grow, and then it can. A run that succeeds keeps nothing.
