@@ -1,0 +1,8 @@
+-- The modules of this crate.
+pub mod Adapters
+pub mod Choices
+pub mod Covers
+pub mod Longer
+pub mod Outputs
+pub mod Sequences
+pub mod Tokens
