@@ -3,6 +3,7 @@ pub mod Adapters
 pub mod Choices
 pub mod Covers
 pub mod Longer
+pub mod Marks
 pub mod Outputs
 pub mod Sequences
 pub mod Tokens

@@ -1,19 +1,23 @@
 -- A byte of which a closure is told, and another byte.
 use Rattle.std.specs.Prelude.{◌≡◌, ◌⊎◌, ⊤, ℕ, Bool, List, [], ◌∷◌, Ok, Err}
 use Rattle.std.proofs.Common.{refl, sym, subst, ap, ◌∙◌, inl, inr}
+use Rattle.std.specs.declared.ops.Range.{Range}
 use Rattle.streams.specs.Reading.{Reading}
 use Rattle.stream_errors.specs.Form.{Answer, ErrorForm}
 use Rattle.winnow_core.specs.InOrder.{BothRuns}
 use Rattle.winnow_core.specs.Map.{MapRuns}
 use Rattle.winnow_core.specs.Runs.{Keeps, Meaning, Runs}
+use Rattle.winnow_core.specs.WithSpan.{WithSpanRuns}
 use Rattle.winnow_token.specs.Any.{AnyRuns}
 use Rattle.parser_definitions.specs.Any.{AnyDoes, any_law}
 use Rattle.parser_definitions.specs.Both.{BothDo, pair_law}
 use Rattle.parser_definitions.specs.Does.{Lawful, wider_law}
 use Rattle.parser_definitions.specs.Map.{MapDoes, map_law}
 use Rattle.parser_definitions.specs.Outcome.{Does}
+use Rattle.parser_definitions.specs.Outputs.{WithSpanDoes, with_span_law}
 use Rattle.winnow_definitions.specs.Adapters.{map_covered}
 use Rattle.winnow_definitions.specs.Covers.{Covers, CoversEach}
+use Rattle.winnow_definitions.specs.Outputs.{with_span_covered}
 use Rattle.winnow_definitions.specs.Sequences.{both_covered}
 use Rattle.winnow_definitions.specs.Tokens.{any_covered}
 
@@ -65,3 +69,24 @@ module _ {G L : Type 0} (step : G → ℕ → ℕ → G → Type 0) (reading : R
       (pair_law (map_law step (λ f o p u v g h same a b.
       (once f p u v g h (subst (λ z. step f z u g) same a) b).1) (any_law (λ k. k) reading))
       (any_law (λ k. k) reading))
+
+  -- ---- the first byte with its span
+
+  abbrev pub SpannedRun : Meaning (⊤ × G) ℕ (ℕ × Range ℕ)
+  SpannedRun form = WithSpanRuns (MapRuns (Bytes form) step)
+
+  abbrev pub SpannedDo : Does (⊤ × G) ℕ (ℕ × Range ℕ)
+  SpannedDo = WithSpanDoes (MapDoes step Byte)
+
+  pub spanned_covered : CoversEach SpannedRun SpannedDo
+  spanned_covered = record {
+    each = λ at. with_span_covered (map_covered step (any_covered (λ k. k) reading));
+  }
+
+  pub spanned_law : StepsOnce step → Lawful ⊤ (λ o p. o ≡ p) SpannedDo
+  spanned_law once = wider_law
+      (λ o p ((f, k, l, g, h, same, a, b), e).
+      ap (λ x. (x, o.1)) (once f l o.0 p.0 g h (subst (λ z. step f z o.0 g) same a) b).0
+      ∙ ap (λ y. (p.0, y)) e)
+      (with_span_law (map_law step (λ f o p u v g h same a b.
+      (once f p u v g h (subst (λ z. step f z u g) same a) b).1) (any_law (λ k. k) reading)))

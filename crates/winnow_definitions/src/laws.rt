@@ -1,62 +1,84 @@
-//! Which definitions cover the parsers of the library, and what follows for longer input.
+//! Which definitions cover parsers of the library, and what follows for longer input.
+ghost use Rattle.std.specs.Fn.{CalledAt};
 ghost use Rattle.std.specs.Prelude.{◌≡◌, true};
 ghost use Rattle.streams.specs.Input.{Input};
 ghost use Rattle.stream_errors.specs.Form.{Answer, modal};
 ghost use Rattle.parser_definitions.specs.Alt.{AltDoes};
 ghost use Rattle.parser_definitions.specs.Any.{AnyDoes};
 ghost use Rattle.parser_definitions.specs.Both.{BothDo};
-ghost use Rattle.parser_definitions.specs.Does.{Lawful};
+ghost use Rattle.parser_definitions.specs.Equal.{MadeAlike, StepsAlike};
 ghost use Rattle.parser_definitions.specs.Map.{MapDoes};
 ghost use Rattle.parser_definitions.specs.OneOf.{OneOfDoes};
 ghost use Rattle.parser_definitions.specs.Opt.{OptDoes};
-ghost use Rattle.parser_definitions.specs.Outcome.{Does};
-ghost use Rattle.parser_definitions.specs.Outputs.{TakeDoes, WithSpanDoes, WithTakenDoes};
+ghost use Rattle.parser_definitions.specs.Outputs.{TakeDoes, VoidDoes, WithSpanDoes};
+ghost use Rattle.parser_definitions.specs.Shown.{SeenSame};
 ghost use Rattle.parser_definitions.specs.Verify.{VerifyDoes};
 ghost use Rattle.winnow_definitions.specs.Covers.{CoversEach};
 ghost use Rattle.winnow_definitions.specs.Longer.{SameOnLonger};
 
 use stream_errors::parser_error::ParserError;
-use stream_sets::contains_token::ContainsToken;
-use streams::stream::{Location, Stream, StreamIsPartial};
+use stream_sets::sets::ContainsToken;
+use streams::stream::{Location, StreamIsPartial};
 use winnow_comb::combinator::impls::{AltParser, Opt};
-use winnow_core::combinator::impls::{Map, Take, Verify, WithSpan, WithTaken};
+use winnow_core::combinator::impls::{Map, Take, Verify, Void, WithSpan};
 use winnow_core::parser::Parser;
 use winnow_token::token::impls::{Any, OneOf};
 
-/// Take a parser that a lawful, stable definition covers, and a final result on partial input. Every
-/// call on longer input from the same state, partial or complete, has an equal result and the same
-/// new state, and leaves the rest followed by the added tokens, unless it is out of memory. The
-/// parser's closures may change from call to call.
-pub fn covered_parsers_keep_results<P: Parser<I, O, E>, I: Stream, O, E: ParserError<I>>()
-    ensures { (does : Does P.State I.Seen O) → CoversEach P.meaning does → (stable : Type 0)
-        → (alike : O → O → Type 0) → Lawful stable alike does → stable → E.form ≡ modal
-        → (s : P.State) (i : Input I.Seen) (answer : Answer O) (t : P.State) (j : Input I.Seen)
-        → i.status.cut ≡ true → i.left.possible ≡ true → P.meaning E.form s i answer t j
-        → SameOnLonger (P.meaning E.form) alike s i answer t j }
+/// `any` and `one_of` are covered by their definitions.
+pub fn tokens_are_covered<S: ContainsToken<I::Token>, I: StreamIsPartial, E: ParserError<I>>()
+where
+    I::Token: Copy,
+    ensures any { CoversEach ⟦<Any as Parser<I, I::Token, E>>⟧.meaning
+        (AnyDoes I.seen_as I.reading) }
+    ensures one_of { CoversEach ⟦<OneOf<S, I, E> as Parser<I, I::Token, E>>⟧.meaning
+        (OneOfDoes I.seen_as I.reading S.tells) }
 {}
 
-/// `any` is covered by its definition.
-pub fn any_is_covered<I: StreamIsPartial, E: ParserError<I>>()
-    ensures { CoversEach ⟦<Any as Parser<I, I::Token, E>>⟧.meaning (AnyDoes I.seen_as I.reading) }
-{}
-
-/// A child that is covered is so with `map`.
-pub fn map_is_covered<F: Parser<I, O, E>, G: FnMut(O) -> O2, I: Stream, O, O2, E: ParserError<I>>()
-    ensures { (does : Does F.State I.Seen O) → CoversEach F.meaning does
-        → CoversEach ⟦<Map<F, G, I, O, O2, E> as Parser<I, O2, E>>⟧.meaning (MapDoes G.step does) }
-{}
-
-/// Two children that are covered are so as a tuple.
-pub fn pair_is_covered<
-    P1: Parser<I, O1, E>,
-    P2: Parser<I, O2, E>,
-    I: Stream,
-    O1: Drop,
-    O2,
+/// So are adapters of `any`, with closures that may change, and a choice.
+pub fn adapters_are_covered<
+    G: FnMut(I::Token) -> O,
+    H: FnMut(&I::Token) -> bool,
+    I: Location + StreamIsPartial,
+    O,
     E: ParserError<I>,
 >()
-    ensures { (does1 : Does P1.State I.Seen O1) → (does2 : Does P2.State I.Seen O2)
-        → CoversEach P1.meaning does1 → CoversEach P2.meaning does2
-        → CoversEach ⟦<(P1, P2) as Parser<I, (O1, O2), E>>⟧.meaning
-        (BothDo (λ o1 o2. (o1, o2)) does1 does2) }
+where
+    I::Token: Drop,
+    ensures map { CoversEach ⟦<Map<Any, G, I, I::Token, O, E> as Parser<I, O, E>>⟧.meaning
+        (MapDoes G.step (AnyDoes I.seen_as I.reading)) }
+    ensures verify { CoversEach
+        ⟦<Verify<Any, H, I, I::Token, E> as Parser<I, I::Token, E>>⟧.meaning
+        (VerifyDoes (CalledAt H.FnMut) (AnyDoes I.seen_as I.reading)) }
+    ensures opt { CoversEach ⟦<Opt<Any, I, I::Token, E> as Parser<I, Option<I::Token>, E>>⟧.meaning
+        (OptDoes (AnyDoes I.seen_as I.reading)) }
+    ensures void { CoversEach ⟦<Void<Any, I, I::Token, E> as Parser<I, (), E>>⟧.meaning
+        (VoidDoes (AnyDoes I.seen_as I.reading)) }
+    ensures take { CoversEach ⟦<Take<Any, I, I::Token, E> as Parser<I, I::Slice, E>>⟧.meaning
+        (TakeDoes I.reading (AnyDoes I.seen_as I.reading)) }
+    ensures pair { CoversEach ⟦<(Any, Any) as Parser<I, (I::Token, I::Token), E>>⟧.meaning
+        (BothDo (λ o1 o2. (o1, o2)) (AnyDoes I.seen_as I.reading)
+        (AnyDoes I.seen_as I.reading)) }
+    ensures alt { CoversEach
+        ⟦<AltParser<(Verify<Any, H, I, I::Token, E>, Any), I, I::Token, E> as Parser<
+            I,
+            I::Token,
+            E,
+        >>⟧.meaning
+        (AltDoes (VerifyDoes (CalledAt H.FnMut) (AnyDoes I.seen_as I.reading))
+        (AnyDoes I.seen_as I.reading)) }
+{}
+
+/// Take `any` with `map`, whose closure may change, but for tokens that are seen as equal has one
+/// next state. A final result on partial input is the result on every longer input, partial or
+/// complete, unless out of memory: an equal output or an error of the same kind, the same state of
+/// the closure, and the rest followed by the added tokens.
+pub fn mapped_tokens_keep_results<G: FnMut(I::Token) -> O, I: StreamIsPartial, O, E: ParserError<I>>()
+    ensures { E.form ≡ modal → StepsAlike (SeenSame I.seen_as) G.step
+        → (s : ⟦<Map<Any, G, I, I::Token, O, E> as Parser<I, O, E>>⟧.State) → (i : Input I.Seen)
+        → (answer : Answer O)
+        → (t : ⟦<Map<Any, G, I, I::Token, O, E> as Parser<I, O, E>>⟧.State) → (j : Input I.Seen)
+        → i.status.cut ≡ true → i.left.possible ≡ true
+        → ⟦<Map<Any, G, I, I::Token, O, E> as Parser<I, O, E>>⟧.meaning E.form s i answer t j
+        → SameOnLonger (⟦<Map<Any, G, I, I::Token, O, E> as Parser<I, O, E>>⟧.meaning E.form)
+        (MadeAlike (SeenSame I.seen_as) G.step) s i answer t j }
 {}

@@ -3,3 +3,4 @@
 
 pub mod laws;
 pub mod marks;
+pub mod spans;
