@@ -1,48 +1,45 @@
-//! A byte of which a closure is told, with its span.
+//! A token of which a closure is told, with its span.
 ghost use Rattle.std.specs.Prelude.{◌≡◌, true};
 ghost use Rattle.stream_errors.specs.Form.{answer_by, modal};
+ghost use Rattle.parser_definitions.specs.Equal.{AlikePairs, MadeAlike, StepsAlike};
+ghost use Rattle.parser_definitions.specs.Shown.{SeenSame};
 ghost use Rattle.winnow_definitions.specs.Longer.{SameOnLonger};
-ghost use Rattle.winnow_definitions.specs.Marks.{StepsOnce};
 
 use std::ops::Range;
-use stream_errors::empty::EmptyError;
-use stream_errors::has_kind::HasKind;
-use stream_errors::mode::ErrMode;
-use streams::locating::LocatingSlice;
-use streams::partial::Partial;
-use streams::stream::Stream;
+use stream_errors::parser_error::ParserError;
+use streams::stream::{Location, StreamIsPartial};
 use winnow_core::combinator::impls::{Map, WithSpan};
 use winnow_core::parser::Parser;
 use winnow_token::token::impls::Any;
 
-/// Bytes of which more may come, with their offset.
-pub type Bytes = LocatingSlice<Partial<&'static [u8]>>;
+/// A token of which a closure is told, with its span.
+pub type Spanned<G, I, T, O, E> = WithSpan<Map<Any, G, I, T, O, E>, I, O, E>;
 
-/// Errors with a mode.
-pub type Error = ErrMode<EmptyError>;
-
-/// A byte of which a closure is told, with its span.
-pub type Spanned<G> = WithSpan<Map<Any, G, Bytes, u8, u64, Error>, Bytes, u64, Error>;
-
-/// Parses a byte, calls the closure with it, and returns its output with the byte's span.
+/// Parses a token, calls the closure with it, and returns its output with the token's span.
 ///
-/// If the result is final, the same parser has this output, this span and this rest, followed by
-/// the added bytes, on every longer input, partial or complete, from the same state of the closure;
-/// and then the closure has this new state.
-pub fn read_spanned<G: FnMut(u8) -> u64>(
-    parser: &mut Spanned<G>,
-    input: &mut Bytes,
-) -> Result<(u64, Range<usize>), Error>
-    requires callable { ⟦<Spanned<G> as Parser<Bytes, (u64, Range<usize>), Error>>⟧.can_parse
-        parser.old }
-    requires once { StepsOnce G.step }
-    requires is_partial { (⟦<Bytes as Stream>⟧.view input.old).status.cut ≡ true }
+/// If the result is final, the same parser has an equal output, this span and this rest, followed by
+/// the added tokens, on every longer input, partial or complete, from the same state of the closure.
+/// Then the closure has the same new state.
+pub fn read_spanned<G: FnMut(I::Token) -> O, I: Location + StreamIsPartial, O, E: ParserError<I>>(
+    parser: &mut Spanned<G, I, I::Token, O, E>,
+    input: &mut I,
+) -> Result<(O, Range<usize>), E>
+    requires callable { ⟦<Spanned<G, I, I::Token, O, E> as Parser<
+        I,
+        (O, Range<usize>),
+        E,
+    >>⟧.can_parse parser.old }
+    requires once { StepsAlike (SeenSame I.seen_as) G.step }
+    requires modal { E.form ≡ modal }
+    requires is_partial { (I.view input.old).status.cut ≡ true }
+    requires readable { (I.view input.old).left.possible ≡ true }
     ensures gets { SameOnLonger
-        (⟦<Spanned<G> as Parser<Bytes, (u64, Range<usize>), Error>>⟧.meaning modal) (λ o p. o ≡ p)
-        (⟦<Spanned<G> as Parser<Bytes, (u64, Range<usize>), Error>>⟧.state parser.old)
-        (⟦<Bytes as Stream>⟧.view input.old) (answer_by ⟦<Error as HasKind>⟧.kind result)
-        (⟦<Spanned<G> as Parser<Bytes, (u64, Range<usize>), Error>>⟧.state parser.new)
-        (⟦<Bytes as Stream>⟧.view input.new) }
+        (⟦<Spanned<G, I, I::Token, O, E> as Parser<I, (O, Range<usize>), E>>⟧.meaning E.form)
+        (AlikePairs (MadeAlike (SeenSame I.seen_as) G.step) (λ u v. u ≡ v))
+        (⟦<Spanned<G, I, I::Token, O, E> as Parser<I, (O, Range<usize>), E>>⟧.state parser.old)
+        (I.view input.old) (answer_by E.kind result)
+        (⟦<Spanned<G, I, I::Token, O, E> as Parser<I, (O, Range<usize>), E>>⟧.state parser.new)
+        (I.view input.new) }
 {
     parser.parse_next(input)
 }
