@@ -206,40 +206,40 @@ module _ {S T O : Type 0} {at : Setting} {run : Runs S T O} {does : Does S T O}
 -- A branch and the others; of more than two branches the others are a choice.
 module _ {S1 S2 T O : Type 0} {at : Setting} {run : Runs S1 T O} {others : Runs S2 T O}
     {one : Does S1 T O} {two : Does S2 T O} (h1 : Covers at run one) (h2 : Covers at others two)
-    where
-  alt_calls : Calls at (OrElse run others) (AltDoes one two)
-  alt_calls s i a t j here (inl (r, stays, kept)) =
-      let d = h1.covers s.0 i a t.0 j here r in
-      let P : S1 × S2 → Type 0 = λ z. ComesOf (or_others two) at s (left_of i)
-      (outcome_of a (t.0, left_of j)) (outcome_of a (z, left_of j)) in
-      ((outcome_of a (t.0, left_of j), d.0, subst P (sym (pair_is t s.1 kept)) (by a stays)), d.1)
-    where
-      by : (a : Answer O) → (a ≡ Err backtrack → ⊥)
-          → ComesOf (or_others two) at s (left_of i) (outcome_of a (t.0, left_of j))
-          (outcome_of a ((t.0, s.1), left_of j))
-      by (Ok o) stays = refl
-      by (Err backtrack) stays = absurd (stays refl)
-      by (Err cut) stays = refl
-      by (Err (incomplete need)) stays = refl
-      by (Err memory) stays = refl
-  alt_calls s i a t j here (inr (m, r, x)) =
-      let d = h1.covers s.0 i (Err backtrack) t.0 m here r in
-      let c = h2.covers s.1 (back_at i.left m) a t.1 j (at_back here d.1) x in (
-        (
-          backs (t.0, left_of m),
-          d.0,
+  where
+    alt_calls : Calls at (OrElse run others) (AltDoes one two)
+    alt_calls s i a t j here (inl (r, stays, kept)) =
+        let d = h1.covers s.0 i a t.0 j here r in
+        let P : S1 × S2 → Type 0 = λ z. ComesOf (or_others two) at s (left_of i)
+        (outcome_of a (t.0, left_of j)) (outcome_of a (z, left_of j)) in
+        ((outcome_of a (t.0, left_of j), d.0, subst P (sym (pair_is t s.1 kept)) (by a stays)), d.1)
+      where
+        by : (a : Answer O) → (a ≡ Err backtrack → ⊥)
+            → ComesOf (or_others two) at s (left_of i) (outcome_of a (t.0, left_of j))
+            (outcome_of a ((t.0, s.1), left_of j))
+        by (Ok o) stays = refl
+        by (Err backtrack) stays = absurd (stays refl)
+        by (Err cut) stays = refl
+        by (Err (incomplete need)) stays = refl
+        by (Err memory) stays = refl
+    alt_calls s i a t j here (inr (m, r, x)) =
+        let d = h1.covers s.0 i (Err backtrack) t.0 m here r in
+        let c = h2.covers s.1 (back_at i.left m) a t.1 j (at_back here d.1) x in (
           (
-            outcome_of a (t.1, left_of j),
-            c.0,
-            handed with_second at (with_first s t.0) (back (left_of i) (left_of m)) a t.1
-                (left_of j),
+            backs (t.0, left_of m),
+            d.0,
+            (
+              outcome_of a (t.1, left_of j),
+              c.0,
+              handed with_second at (with_first s t.0) (back (left_of i) (left_of m)) a t.1
+                  (left_of j),
+            ),
           ),
-        ),
-        c.1,
-      )
+          c.1,
+        )
 
-  pub alt_covered : Covers at (OrElse run others) (AltDoes one two)
-  alt_covered = record { covers = alt_calls }
+    pub alt_covered : Covers at (OrElse run others) (AltDoes one two)
+    alt_covered = record { covers = alt_calls }
 
 -- ---- `alt` over arrays and slices
 
@@ -302,14 +302,29 @@ module _ {S T O : Type 0} {at : Setting} {run : Runs S T O} {does : Does S T O}
             let Q : List S → Type 0 = λ l. ChoiceDoes does at (s ∷ r ∷ others) (left_of i)
             (outcome_of a (y ∷ l, left_of j)) × At at j in
             let c = child.covers s i a y j here one in
-            subst Q (sym kept) ((outcome_of a (y, left_of j), c.0,
-            ends_here at (r ∷ others) (λ at v x. ChoiceDoes does at (r ∷ others) v x)
-            (s ∷ r ∷ others) (left_of i) a y (left_of j) not), c.1)
+            subst Q (sym kept) (
+              (
+                outcome_of a (y, left_of j),
+                c.0,
+                ends_here at (r ∷ others) (λ at v x. ChoiceDoes does at (r ∷ others) v x)
+                    (s ∷ r ∷ others) (left_of i) a y (left_of j) not,
+              ),
+              c.1,
+            )
         | inr (m, one, more) ↦
             let c = child.covers s i (Err backtrack) y m here one in
-            let l = choice_calls (r ∷ others) (back_at i.left m) a ts j (at_back here c.1) more in
-            ((backs (y, left_of m), c.0, (outcome_of a (ts, left_of j), l.0,
-            with_others a y ts (left_of j))), l.1)
+            let l = choice_calls (r ∷ others) (back_at i.left m) a ts j (at_back here c.1) more in (
+              (
+                backs (y, left_of m),
+                c.0,
+                (
+                  outcome_of a (ts, left_of j),
+                  l.0,
+                  with_others a y ts (left_of j),
+                ),
+              ),
+              l.1,
+            )
       ])
 
   pub choice_covered : Covers at (AltSliceRuns run (assert_kind at.form)) (ChoiceDoes does)

@@ -1,4 +1,4 @@
--- A byte of which a closure is told, and another byte.
+-- A byte, with which a closure is called, and another byte.
 use Rattle.std.specs.Prelude.{◌≡◌, ◌⊎◌, ⊤, ℕ, Bool, List, [], ◌∷◌, Ok, Err}
 use Rattle.std.proofs.Common.{refl, sym, subst, ap, ◌∙◌, inl, inr}
 use Rattle.std.specs.declared.ops.Range.{Range}
@@ -26,8 +26,8 @@ abbrev pub StepsOnce : {G U : Type 0} → (G → ℕ → U → G → Type 0) →
 StepsOnce {G} {U} step = (f : G) (k : ℕ) (u v : U) (g h : G) → step f k u g → step f k v h
     → (u ≡ v) × (g ≡ h)
 
--- The result of a call, and what becomes of the closure: two bytes are there, and the closure is
--- told of the first; or none is; or only the first, of which the closure is told.
+-- The result of a call, and the closure's new state: the input has two bytes, and the closure is
+-- called with the first; or it is empty; or it has one byte, with which the closure is called.
 abbrev pub ReadsMarks : {G : Type 0} → (G → ℕ → ℕ → G → Type 0) → G → List ℕ → Answer (ℕ × ℕ)
     → G → List ℕ → Type 0
 ReadsMarks step f tokens (Ok o) g rest =

@@ -59,11 +59,7 @@ where
         (BothDo (λ o1 o2. (o1, o2)) (AnyDoes I.seen_as I.reading)
         (AnyDoes I.seen_as I.reading)) }
     ensures alt { CoversEach
-        ⟦<AltParser<(Verify<Any, H, I, I::Token, E>, Any), I, I::Token, E> as Parser<
-            I,
-            I::Token,
-            E,
-        >>⟧.meaning
+        ⟦<AltParser<(Verify<Any, H, I, I::Token, E>, Any), I, I::Token, E> as Parser<I, I::Token, E>>⟧.meaning
         (AltDoes (VerifyDoes (CalledAt H.FnMut) (AnyDoes I.seen_as I.reading))
         (AnyDoes I.seen_as I.reading)) }
 {}
@@ -72,7 +68,12 @@ where
 /// next state. A final result on partial input is the result on every longer input, partial or
 /// complete, unless out of memory: an equal output or an error of the same kind, the same state of
 /// the closure, and the rest followed by the added tokens.
-pub fn mapped_tokens_keep_results<G: FnMut(I::Token) -> O, I: StreamIsPartial, O, E: ParserError<I>>()
+pub fn mapped_tokens_keep_results<
+    G: FnMut(I::Token) -> O,
+    I: StreamIsPartial,
+    O,
+    E: ParserError<I>,
+>()
     ensures { E.form ≡ modal → StepsAlike (SeenSame I.seen_as) G.step
         → (s : ⟦<Map<Any, G, I, I::Token, O, E> as Parser<I, O, E>>⟧.State) → (i : Input I.Seen)
         → (answer : Answer O)

@@ -1,4 +1,4 @@
-//! A byte of which a closure is told, and another byte: the closure may change.
+//! A byte, with which a closure that may change is called, and another byte.
 ghost use Rattle.std.specs.Prelude.{◌≡◌, true};
 ghost use Rattle.stream_errors.specs.Form.{answer_by, modal};
 ghost use Rattle.winnow_definitions.specs.Longer.{SameOnLonger};
@@ -19,7 +19,7 @@ pub type Bytes = Partial<&'static [u8]>;
 /// Errors with a mode.
 pub type Error = ErrMode<EmptyError>;
 
-/// A byte of which a closure is told, and another byte.
+/// A byte, with which a closure is called, and another byte.
 pub type Marks<G> = (Map<Any, G, Bytes, u8, u64, Error>, Any);
 
 /// Parses a byte, calls the closure with it, and parses another byte.

@@ -1,4 +1,4 @@
-//! A token of which a closure is told, with its span.
+//! A token, with which a closure is called, and its span.
 ghost use Rattle.std.specs.Prelude.{◌≡◌, true};
 ghost use Rattle.stream_errors.specs.Form.{answer_by, modal};
 ghost use Rattle.parser_definitions.specs.Equal.{AlikePairs, MadeAlike, StepsAlike};
@@ -12,23 +12,19 @@ use winnow_core::combinator::impls::{Map, WithSpan};
 use winnow_core::parser::Parser;
 use winnow_token::token::impls::Any;
 
-/// A token of which a closure is told, with its span.
+/// A token, with which a closure is called, and its span.
 pub type Spanned<G, I, T, O, E> = WithSpan<Map<Any, G, I, T, O, E>, I, O, E>;
 
 /// Parses a token, calls the closure with it, and returns its output with the token's span.
 ///
-/// If the result is final, the same parser has an equal output, this span and this rest, followed by
-/// the added tokens, on every longer input, partial or complete, from the same state of the closure.
-/// Then the closure has the same new state.
+/// If the result is final, the same parser has an equal result on every longer input, partial or
+/// complete, from the same state of the closure: an equal output, and this span. Then the closure
+/// has the same new state, and the rest is followed by the added tokens.
 pub fn read_spanned<G: FnMut(I::Token) -> O, I: Location + StreamIsPartial, O, E: ParserError<I>>(
     parser: &mut Spanned<G, I, I::Token, O, E>,
     input: &mut I,
 ) -> Result<(O, Range<usize>), E>
-    requires callable { ⟦<Spanned<G, I, I::Token, O, E> as Parser<
-        I,
-        (O, Range<usize>),
-        E,
-    >>⟧.can_parse parser.old }
+    requires callable { ⟦<Spanned<G, I, I::Token, O, E> as Parser<I, (O, Range<usize>), E>>⟧.can_parse parser.old }
     requires once { StepsAlike (SeenSame I.seen_as) G.step }
     requires modal { E.form ≡ modal }
     requires is_partial { (I.view input.old).status.cut ≡ true }
