@@ -1,9 +1,8 @@
 -- Adapters of a covered child are covered: closures may change.
-use Rattle.std.specs.Prelude.{◌≡◌, ◌⊎◌, Ok, Err, Option, Some, None, Bool, true, false, Result}
+use Rattle.std.specs.Prelude.{◌≡◌, ◌⊎◌, Ok, Err, Option, Some, None, Bool, Result}
 use Rattle.std.proofs.Common.{refl, sym, subst, ap, ◌∙◌, inl, inr}
 use Rattle.streams.specs.Input.{Input}
 use Rattle.streams.specs.Kind.{Kind, backtrack, cut, incomplete, memory}
-use Rattle.streams.specs.Reading.{Reading}
 use Rattle.stream_errors.specs.Form.{Answer, ErrorForm}
 use Rattle.stream_errors.specs.Given.{Keeping}
 use Rattle.winnow_core.specs.AndThen as inner
@@ -22,7 +21,7 @@ use Rattle.parser_definitions.specs.FlatMap.{FlatMapDoes, made_next}
 use Rattle.parser_definitions.specs.Left.{End, Left, back, left_of}
 use Rattle.parser_definitions.specs.Map.{MapDoes, mapped}
 use Rattle.parser_definitions.specs.Moved.{in_state, moved}
-use Rattle.parser_definitions.specs.Outcome.{Does, Outcome, Setting, asks, backs, cuts, outcome_of}
+use Rattle.parser_definitions.specs.Outcome.{Does, Setting, asks, backs, cuts, outcome_of}
 use Rattle.parser_definitions.specs.Outcome.{took, wants}
 use Rattle.parser_definitions.specs.Settles.{Settle, SettlesDo, settled}
 use Rattle.parser_definitions.specs.Then.Steps.{with_first}

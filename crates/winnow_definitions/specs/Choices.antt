@@ -20,13 +20,14 @@ use Rattle.parser_definitions.specs.AltMany.{ChoiceDoes, or_rest}
 use Rattle.parser_definitions.specs.Left.{End, Left, back, left_of}
 use Rattle.parser_definitions.specs.Moved.{in_state}
 use Rattle.parser_definitions.specs.Opt.{OptDoes, left_out}
-use Rattle.parser_definitions.specs.Outcome.{Does, Outcome, Setting, asks, backs, cuts, misused}
-use Rattle.parser_definitions.specs.Outcome.{outcome_of, took, wants}
+use Rattle.parser_definitions.specs.Outcome.{Does, Outcome, Setting, backs, misused}
+use Rattle.parser_definitions.specs.Outcome.{outcome_of, took}
 use Rattle.parser_definitions.specs.Peek.{BacktrackErrDoes, CondDoes, CutErrDoes, NotDoes, PeekDoes}
 use Rattle.parser_definitions.specs.Peek.{for_good, let_go, looked_at, negated}
 use Rattle.parser_definitions.specs.Then.{ComesOf}
 use Rattle.parser_definitions.specs.Then.Steps.{takes, with_first, with_second}
-use Rattle.winnow_definitions.specs.Covers.{At, Calls, Covers, at_back, at_same, failed, gave, handed}
+use Rattle.winnow_definitions.specs.Covers.{At, Calls, Covers, at_back, at_same, failed, gave}
+use Rattle.winnow_definitions.specs.Covers.{handed}
 use Rattle.winnow_definitions.specs.Covers.{left_at, pair_is}
 
 -- ---- `opt`

@@ -4,15 +4,15 @@ use Rattle.std.proofs.Common.{refl, sym, subst, ap, ◌∙◌}
 use Rattle.streams.specs.Input.{Input, IsEndOf, back_at}
 use Rattle.streams.specs.Kind.{Kind, backtrack, cut, incomplete, memory}
 use Rattle.streams.specs.Reading.{Reading}
-use Rattle.stream_errors.specs.Form.{Answer, ErrorForm}
+use Rattle.stream_errors.specs.Form.{Answer}
 use Rattle.winnow_core.specs.Runs.{Keeps, Meaning, Runs}
 use Rattle.parser_definitions.specs.Left.{End, Left, left_of}
 use Rattle.parser_definitions.specs.Outcome.{Does, Outcome, Setting, outcome_of, setting_of}
 use Rattle.parser_definitions.specs.Then.{Comes, ComesOf}
 use Rattle.parser_definitions.specs.Then.Steps.{hands_on, where_took}
 
--- The input has the setting's flag for partial input, and its tokens can be read if the setting
--- says so.
+-- The input has the setting's flag for partial input, and whether its tokens can be read is that of
+-- the setting.
 pub record At {T : Type 0} (at : Setting) (i : Input T) : Type 0 where
   pub more : i.status.cut ≡ at.more
   pub possible : i.left.possible ≡ at.possible
@@ -61,7 +61,7 @@ at_same {at = at} e here = subst (λ z. At at z) (sym e) here
 pub gave : {L O : Type 0} {a b : Answer O} (l : L) → a ≡ b → outcome_of a l ≡ outcome_of b l
 gave l e = ap (λ a. outcome_of a l) e
 
--- so have equal inputs that are left
+-- so have equal remaining inputs
 pub left_at : {S T O : Type 0} {i j : Input T} (s : S) (answer : Answer O) → j ≡ i
     → ◌≡◌ {A = Outcome (End S T) O} (outcome_of answer (s, left_of j))
     (outcome_of answer (s, left_of i))

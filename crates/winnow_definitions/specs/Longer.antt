@@ -1,6 +1,6 @@
 -- Final results on partial input are those on every longer input, of parsers whose closures change.
 use Rattle.std.specs.Prelude.{◌≡◌, Bool, true, List, Ok, Err}
-use Rattle.std.proofs.Common.{refl, sym, subst, ap, ◌∙◌}
+use Rattle.std.proofs.Common.{refl, subst}
 use Rattle.streams.specs.Input.{Input, with_more}
 use Rattle.streams.specs.Kind.{backtrack, cut, incomplete, memory}
 use Rattle.stream_errors.specs.Form.{Answer, ErrorForm, modal}
@@ -11,7 +11,7 @@ use Rattle.parser_definitions.specs.Left.{End, extend, left_of}
 use Rattle.parser_definitions.specs.Outcome.{Alike, Does, Outcome, grown, longer, on_cut}
 use Rattle.parser_definitions.specs.Outcome.{outcome_of}
 use Rattle.parser_definitions.specs.Outcome as outcomes
-use Rattle.winnow_definitions.specs.Covers.{At, Covers, CoversEach}
+use Rattle.winnow_definitions.specs.Covers.{CoversEach}
 
 -- Take a call on partial input, whose tokens can be read, with a final result. Every call on longer
 -- input, partial or complete, from the same state has an equal result and the same new state, and

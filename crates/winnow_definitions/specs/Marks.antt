@@ -1,6 +1,6 @@
 -- A byte, with which a closure is called, and another byte.
-use Rattle.std.specs.Prelude.{◌≡◌, ◌⊎◌, ⊤, ℕ, Bool, List, [], ◌∷◌, Ok, Err}
-use Rattle.std.proofs.Common.{refl, sym, subst, ap, ◌∙◌, inl, inr}
+use Rattle.std.specs.Prelude.{◌≡◌, ◌⊎◌, ⊤, ℕ, List, [], ◌∷◌, Ok, Err}
+use Rattle.std.proofs.Common.{subst, ap, ◌∙◌}
 use Rattle.std.specs.declared.ops.Range.{Range}
 use Rattle.streams.specs.Reading.{Reading}
 use Rattle.stream_errors.specs.Form.{Answer, ErrorForm}
@@ -16,7 +16,7 @@ use Rattle.parser_definitions.specs.Map.{MapDoes, map_law}
 use Rattle.parser_definitions.specs.Outcome.{Does}
 use Rattle.parser_definitions.specs.Outputs.{WithSpanDoes, with_span_law}
 use Rattle.winnow_definitions.specs.Adapters.{map_covered}
-use Rattle.winnow_definitions.specs.Covers.{Covers, CoversEach}
+use Rattle.winnow_definitions.specs.Covers.{CoversEach}
 use Rattle.winnow_definitions.specs.Outputs.{with_span_covered}
 use Rattle.winnow_definitions.specs.Sequences.{both_covered}
 use Rattle.winnow_definitions.specs.Tokens.{any_covered}

@@ -3,7 +3,6 @@ use Rattle.std.specs.Prelude.{◌≡◌, ⊤, Ok, Err}
 use Rattle.std.proofs.Common.{refl, inl, inr}
 use Rattle.streams.specs.Input.{Input}
 use Rattle.streams.specs.Reading.{Reading}
-use Rattle.stream_errors.specs.Form.{Answer}
 use Rattle.winnow_core.specs.DefaultValue.{DefaultValueRuns}
 use Rattle.winnow_core.specs.MakesOutput.{MakesOutput}
 use Rattle.winnow_core.specs.OutputInto.{OutputIntoRuns}

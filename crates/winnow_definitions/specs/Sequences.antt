@@ -1,7 +1,6 @@
 -- Sequences of covered children are covered.
-use Rattle.std.specs.Prelude.{◌≡◌, ⊤, Ok, Err}
+use Rattle.std.specs.Prelude.{Ok, Err}
 use Rattle.std.proofs.Common.{refl, ap, ◌∙◌, inl, inr}
-use Rattle.streams.specs.Kind.{Kind}
 use Rattle.winnow_core.specs.InOrder.{BothRuns, ThreeRuns}
 use Rattle.winnow_core.specs.Runs.{Runs}
 use Rattle.parser_definitions.specs.Both.{BothDo}

@@ -1,13 +1,12 @@
 -- Parsers of tokens are covered.
-use Rattle.std.specs.Prelude.{◌≡◌, ◌⊎◌, ⊤, ◌<◌, ◌≤◌, ◌-◌, ℕ, Bool, true, false, List, [], ◌∷◌, ◌++◌, length, Option, Some, None, Ok, Err}
-use Rattle.std.specs.Prelude.{if◌then◌else◌}
+use Rattle.std.specs.Prelude.{◌≡◌, ◌⊎◌, ◌≤◌, ℕ, Bool, true, false, List, ◌∷◌}
+use Rattle.std.specs.Prelude.{◌++◌, length, Option, Some, None, Err}
 use Rattle.std.proofs.Common.{refl, sym, ap, subst, inl, inr, ◌∙◌, arith}
-use Rattle.streams.specs.Equal.{same_rest, true_is_false}
-use Rattle.streams.specs.Input.{Input, Passes, Takes}
-use Rattle.streams.specs.Kind.{Kind, backtrack, cut, incomplete}
+use Rattle.streams.specs.Equal.{same_rest}
+use Rattle.streams.specs.Input.{Input, Passes}
+use Rattle.streams.specs.Kind.{Kind, backtrack}
 use Rattle.streams.specs.Reading.{Reading}
 use Rattle.stream_errors.specs.Form.{Answer, ErrorForm, assert_kind, incomplete_kind, modal, plain}
-use Rattle.stream_searches.specs.Compare.{IsShort, StartsWithSpelling}
 use Rattle.stream_sets.specs.Range.{Bounds, IsWithin}
 use Rattle.stream_sets.specs.Longest.{IsLongest}
 use Rattle.grammars.specs.Grammar.Searches.Unique.{match_before}
@@ -26,8 +25,9 @@ use Rattle.parser_definitions.specs.TakeWhile.{TakeWhileDoes}
 use Rattle.parser_definitions.specs.TakeUntil.{TakeUntilDoes}
 use Rattle.parser_definitions.specs.Rest.{RestDoes, RestLenDoes}
 use Rattle.parser_definitions.specs.HexUint.{HexUintDoes}
-use Rattle.parser_definitions.specs.Left.{End, Left, left_of}
-use Rattle.parser_definitions.specs.Outcome.{Outcome, Setting, backs, lacks, misused, outcome_of, setting_of, took}
+use Rattle.parser_definitions.specs.Left.{left_of}
+use Rattle.parser_definitions.specs.Outcome.{Outcome, Setting, lacks, misused, outcome_of}
+use Rattle.parser_definitions.specs.Outcome.{setting_of}
 use Rattle.parser_definitions.specs.Passed.{Passed}
 use Rattle.parser_definitions.specs.Members.{missing_of}
 use Rattle.winnow_core.specs.Ends.{same_ends}
@@ -44,23 +44,32 @@ use Rattle.winnow_numbers.specs.HexUint.Laws.{hex_uint_ends}
 use Rattle.parser_definitions.specs.Literal.{LiteralDoes}
 use Rattle.winnow_definitions.specs.Covers.{Covers, gave, kept_covered, left_at}
 
-passed_of : {T L : Type 0} {reading : Reading T L} {front : List T} {i j : Input T} → Passes reading front i j
+passed_of : {T L : Type 0} {reading : Reading T L} {front : List T} {i j : Input T}
+    → Passes reading front i j
     → Passed reading front (left_of i) (left_of j)
-passed_of p = record { tokens = p.tokens; place = p.place; recorded = ap (λ z. z.recorded) p.status }
+passed_of p = record {
+  tokens = p.tokens;
+  place = p.place;
+  recorded = ap (λ z. z.recorded) p.status;
+}
 
-short : {L T O : Type 0} (form : ErrorForm) (need : Option ℕ) (i : Input T) (k : Kind) (l : L) → ShortKind form need i k
+short : {L T O : Type 0} (form : ErrorForm) (need : Option ℕ) (i : Input T) (k : Kind) (l : L)
+    → ShortKind form need i k
     → ◌≡◌ {A = Outcome L O} (outcome_of (Err k) l) (lacks (setting_of form i) need l)
 short {L} {O = O} form need i k l (inl (more, kind)) =
     gave {O = O} l (ap Err kind) ∙ by form i.status.cut more
   where
-    by : (form : ErrorForm) (more : Bool) → more ≡ true → ◌≡◌ {A = Outcome L O} (outcome_of (Err (incomplete_kind form need)) l)
+    by : (form : ErrorForm) (more : Bool) → more ≡ true
+        → ◌≡◌ {A = Outcome L O} (outcome_of (Err (incomplete_kind form need)) l)
         (lacks (record { form = form; more = more; possible = i.left.possible }) need l)
     by plain more e = refl
     by modal true e = refl
     by modal false e = absurd (cc)
-short {L} {O = O} form need i k l (inr (whole, kind)) = gave {O = O} l (ap Err kind) ∙ by form i.status.cut whole
+short {L} {O = O} form need i k l (inr (whole, kind)) = gave {O = O} l (ap Err kind)
+    ∙ by form i.status.cut whole
   where
-    by : (form : ErrorForm) (more : Bool) → more ≡ false → ◌≡◌ {A = Outcome L O} (outcome_of (Err backtrack) l)
+    by : (form : ErrorForm) (more : Bool) → more ≡ false
+        → ◌≡◌ {A = Outcome L O} (outcome_of (Err backtrack) l)
         (lacks (record { form = form; more = more; possible = i.left.possible }) need l)
     by plain more e = refl
     by modal false e = refl
@@ -72,20 +81,32 @@ misuse plain i l = refl
 misuse modal i l = refl
 
 module _ {S : Type 0} (s : S) (form : ErrorForm) where
-  any_ran : {K T L : Type 0} (seen : K → T) (reading : Reading T L) (i : Input T) (answer : Answer K) (j : Input T)
+  any_ran : {K T L : Type 0} (seen : K → T) (reading : Reading T L) (i : Input T)
+      (answer : Answer K) (j : Input T)
       → AnyRuns seen reading form i answer j
       → AnyDoes seen reading (setting_of form i) s (left_of i) (outcome_of answer (s, left_of j))
-  any_ran seen reading i answer j (inl (k, p, e)) = inl (k, left_of j, passed_of p, gave (s, left_of j) e)
+  any_ran seen reading i answer j (inl (k, p, e)) =
+      inl (k, left_of j, passed_of p, gave (s, left_of j) e)
   any_ran seen reading i answer j (inr (k, none, kind, e, same)) =
-      inr (none, gave (s, left_of j) e ∙ left_at s (Err k) same ∙ short form (Some 1) i k (s, left_of i) kind)
+      inr (
+        none,
+        gave (s, left_of j) e ∙ left_at s (Err k) same
+            ∙ short form (Some 1) i k (s, left_of i) kind,
+      )
 
-  take_ran : {T L : Type 0} (reading : Reading T L) (counts : Bool) (count : S → ℕ) (i : Input T) (answer : Answer L) (j : Input T)
+  take_ran : {T L : Type 0} (reading : Reading T L) (counts : Bool) (count : S → ℕ)
+      (i : Input T) (answer : Answer L) (j : Input T)
       → TakeRuns reading form counts (count s) i answer j
-      → TakeDoes reading counts count (setting_of form i) s (left_of i) (outcome_of answer (s, left_of j))
+      → TakeDoes reading counts count (setting_of form i) s (left_of i)
+      (outcome_of answer (s, left_of j))
   take_ran reading counts count i answer j (inl (f, v, many, t, e)) =
       inl (v, left_of j, (f, many, t.shown, passed_of t.passed), gave (s, left_of j) e)
   take_ran reading counts count i answer j (inr (k, few, kind, e, same)) =
-      inr (few, gave (s, left_of j) e ∙ left_at s (Err k) same ∙ short form _ i k (s, left_of i) kind)
+      inr (
+        few,
+        gave (s, left_of j) e ∙ left_at s (Err k) same
+            ∙ short form _ i k (s, left_of i) kind,
+      )
 
   rest_ran : {T L : Type 0} (reading : Reading T L) (i : Input T) (answer : Answer L) (j : Input T)
       → RestRuns reading i answer j
@@ -93,79 +114,238 @@ module _ {S : Type 0} (s : S) (form : ErrorForm) where
   rest_ran reading i answer j (v, t, none, e) =
       (v, left_of j, (t.shown, passed_of t.passed, none), gave (s, left_of j) e)
 
-  rest_len_ran : {T L : Type 0} (reading : Reading T L) (i : Input T) (answer : Answer ℕ) (j : Input T)
+  rest_len_ran : {T L : Type 0} (reading : Reading T L) (i : Input T) (answer : Answer ℕ)
+      (j : Input T)
       → RestLenRuns reading i answer j
       → RestLenDoes reading (setting_of form i) s (left_of i) (outcome_of answer (s, left_of j))
   rest_len_ran reading i answer j (e, same) =
       (reading.units i.left.tokens, left_of j, (refl, ap left_of same), gave (s, left_of j) e)
 
-  one_of_ran : {K T L : Type 0} (seen : K → T) (reading : Reading T L) (tells : S → K → Bool → Type 0) (i : Input T) (answer : Answer K) (j : Input T)
+  one_of_ran : {K T L : Type 0} (seen : K → T) (reading : Reading T L)
+      (tells : S → K → Bool → Type 0) (i : Input T) (answer : Answer K) (j : Input T)
       → OneOfRuns seen reading form (tells s) i answer j
-      → OneOfDoes seen reading tells (setting_of form i) s (left_of i) (outcome_of answer (s, left_of j))
-  one_of_ran seen reading tells i answer j (inl (k, p, has, e)) = inl (k, left_of j, (passed_of p, has), gave (s, left_of j) e)
+      → OneOfDoes seen reading tells (setting_of form i) s (left_of i)
+      (outcome_of answer (s, left_of j))
+  one_of_ran seen reading tells i answer j (inl (k, p, has, e)) =
+      inl (k, left_of j, (passed_of p, has), gave (s, left_of j) e)
   one_of_ran seen reading tells i answer j (inr (inl (k, rest, split, lacks, e, same))) =
       inr (inl ((k, rest, split, lacks), gave (s, left_of j) e ∙ left_at s (Err backtrack) same))
   one_of_ran seen reading tells i answer j (inr (inr (k, none, kind, e, same))) =
-      inr (inr (none, gave (s, left_of j) e ∙ left_at s (Err k) same ∙ short form (Some 1) i k (s, left_of i) kind))
+      inr (inr (
+        none,
+        gave (s, left_of j) e ∙ left_at s (Err k) same
+            ∙ short form (Some 1) i k (s, left_of i) kind,
+      ))
 
-  take_while_ran : {T L : Type 0} (reading : Reading T L) (member : S → T → Bool → Type 0) (bounds : S → Bounds) (i : Input T) (answer : Answer L) (j : Input T)
+  take_while_ran : {T L : Type 0} (reading : Reading T L) (member : S → T → Bool → Type 0)
+      (bounds : S → Bounds) (i : Input T) (answer : Answer L) (j : Input T)
       → TakeWhileRuns reading form (member s) (bounds s) i answer j
-      → TakeWhileDoes reading member bounds (setting_of form i) s (left_of i) (outcome_of answer (s, left_of j))
+      → TakeWhileDoes reading member bounds (setting_of form i) s (left_of i)
+      (outcome_of answer (s, left_of j))
   take_while_ran reading member bounds i answer j (inl (most, is, below, e, same)) =
-      inl ((most, is, below), gave (s, left_of j) e ∙ left_at s (Err (assert_kind form)) same ∙ misuse form i (s, left_of i))
+      inl (
+        (most, is, below),
+        gave (s, left_of j) e ∙ left_at s (Err (assert_kind form)) same
+            ∙ misuse form i (s, left_of i),
+      )
   take_while_ran reading member bounds i answer j (inr (inl (within, all, more, e, same))) =
-      inr (within, inl ((all, more), gave (s, left_of j) e ∙ left_at s (Err (incomplete_kind form (Some (missing_of (bounds s).least (reading.units i.left.tokens))))) same ∙ short form _ i _ (s, left_of i) (inl (more, refl))))
-  take_while_ran {T} reading member bounds i answer j (inr (inr (inl (f, rest, v, within, longest, ended, enough, t, e)))) =
-      let left : rest ≡ j.left.tokens = same_rest f rest j.left.tokens (sym longest.splits ∙ t.passed.tokens) in
+      inr (
+        within,
+        inl (
+          (all, more),
+          gave (s, left_of j) e
+              ∙ left_at s (Err (incomplete_kind form
+              (Some (missing_of (bounds s).least (reading.units i.left.tokens))))) same
+              ∙ short form _ i _ (s, left_of i) (inl (more, refl)),
+        ),
+      )
+  take_while_ran {T} reading member bounds i answer j
+      (inr (inr (inl (f, rest, v, within, longest, ended, enough, t, e)))) =
+      let left : rest ≡ j.left.tokens =
+      same_rest f rest j.left.tokens (sym longest.splits ∙ t.passed.tokens) in
       let P : List T → Type 0 = λ l. IsLongest (member s) (bounds s).greatest i.left.tokens f l in
       let Q : List T → Type 0 = λ l. Over f l in
-      inr (within, inr (inl (v, left_of j, (f, (subst P left longest, subst Q left ended), enough, t.shown, passed_of t.passed), gave (s, left_of j) e)))
+      inr (
+        within,
+        inr
+            (inl (
+              v,
+              left_of j,
+              (
+                f,
+                (subst P left longest, subst Q left ended),
+                enough,
+                t.shown,
+                passed_of t.passed,
+              ),
+              gave (s, left_of j) e,
+            )),
+      )
     where
       Over : List T → List T → Type 0
-      Over front rest = (((x : T) × (more : List T) × (rest ≡ x ∷ more) × member s x false) ⊎ ((bounds s).greatest ≡ Some (length front))) ⊎ (i.status.cut ≡ false)
-  take_while_ran reading member bounds i answer j (inr (inr (inr (f, rest, within, longest, ended, few, e, same)))) =
-      inr (within, inr (inr ((f, rest, (longest, ended), few), gave (s, left_of j) e ∙ left_at s (Err backtrack) same)))
+      Over front rest =
+          (((x : T) × (more : List T) × (rest ≡ x ∷ more) × member s x false)
+          ⊎ ((bounds s).greatest ≡ Some (length front))) ⊎ (i.status.cut ≡ false)
+  take_while_ran reading member bounds i answer j
+      (inr (inr (inr (f, rest, within, longest, ended, few, e, same)))) =
+      inr (
+        within,
+        inr
+            (inr (
+              (f, rest, (longest, ended), few),
+              gave (s, left_of j) e ∙ left_at s (Err backtrack) same,
+            )),
+      )
 
-  take_until_ran : {T L : Type 0} (reading : Reading T L) (sought : S → List T → Type 0) (bounds : S → Bounds) (i : Input T) (answer : Answer L) (j : Input T)
+  take_until_ran : {T L : Type 0} (reading : Reading T L) (sought : S → List T → Type 0)
+      (bounds : S → Bounds) (i : Input T) (answer : Answer L) (j : Input T)
       → TakeUntilRuns reading form (sought s) (bounds s) i answer j
-      → TakeUntilDoes reading sought bounds (setting_of form i) s (left_of i) (outcome_of answer (s, left_of j))
+      → TakeUntilDoes reading sought bounds (setting_of form i) s (left_of i)
+      (outcome_of answer (s, left_of j))
   take_until_ran reading sought bounds i answer j (inl (most, is, below, e, same)) =
-      inl ((most, is, below), gave (s, left_of j) e ∙ left_at s (Err (assert_kind form)) same ∙ misuse form i (s, left_of i))
+      inl (
+        (most, is, below),
+        gave (s, left_of j) e ∙ left_at s (Err (assert_kind form)) same
+            ∙ misuse form i (s, left_of i),
+      )
   take_until_ran reading sought bounds i answer j (inr (inl (k, within, nowhere, kind, e, same))) =
-      inr (within, inl (inl nowhere, gave (s, left_of j) e ∙ left_at s (Err k) same ∙ short form None i k (s, left_of i) kind))
-  take_until_ran reading sought bounds i answer j (inr (inr (inl (start, end, m, v, enough, fits, t, e)))) =
-      inr (fewer (bounds s).greatest (bounds s).least (length m.front) enough fits, inr (inl (v, left_of j, (m.front, match_before reading m j.left.tokens t.passed.tokens, enough, fits, t.shown, passed_of t.passed), gave (s, left_of j) e)))
+      inr (
+        within,
+        inl (
+          inl nowhere,
+          gave (s, left_of j) e ∙ left_at s (Err k) same
+              ∙ short form None i k (s, left_of i) kind,
+        ),
+      )
+  take_until_ran reading sought bounds i answer j
+      (inr (inr (inl (start, end, m, v, enough, fits, t, e)))) =
+      inr (
+        fewer (bounds s).greatest (bounds s).least (length m.front) enough fits,
+        inr (inl (
+          v,
+          left_of j,
+          (
+            m.front,
+            match_before reading m j.left.tokens t.passed.tokens,
+            enough,
+            fits,
+            t.shown,
+            passed_of t.passed,
+          ),
+          gave (s, left_of j) e,
+        )),
+      )
     where
-      fewer : (greatest : Option ℕ) (least n : ℕ) → least ≤ n → IsWithin greatest n → IsWithin greatest least
+      fewer : (greatest : Option ℕ) (least n : ℕ) → least ≤ n → IsWithin greatest n
+          → IsWithin greatest least
       fewer None least n le within = tt
       fewer (Some most) least n le within = omega (arith, le, within)
-  take_until_ran reading sought bounds i answer j (inr (inr (inr (inl (start, end, m, k, within, few, inl (none, kind), e, same))))) =
-      inr (within, inr (inr ((m.front, m.found ++ m.rest, match_before reading m (m.found ++ m.rest) m.stands.splits, inl (few, none)), gave (s, left_of j) (e ∙ ap Err kind) ∙ left_at s (Err backtrack) same)))
-  take_until_ran reading sought bounds i answer j (inr (inr (inr (inl (start, end, m, k, within, few, inr (most, is, kind), e, same))))) =
-      inr (within, inl (inr (m.front, m.found ++ m.rest, match_before reading m (m.found ++ m.rest) m.stands.splits, few, most, is), gave (s, left_of j) e ∙ left_at s (Err k) same ∙ short form None i k (s, left_of i) kind))
-  take_until_ran reading sought bounds i answer j (inr (inr (inr (inr (start, end, m, most, is, le, much, e, same))))) =
+  take_until_ran reading sought bounds i answer j
+      (inr (inr (inr (inl (start, end, m, k, within, few, inl (none, kind), e, same))))) =
+      inr (
+        within,
+        inr
+            (inr (
+              (
+                m.front,
+                m.found ++ m.rest,
+                match_before reading m (m.found ++ m.rest) m.stands.splits,
+                inl (few, none),
+              ),
+              gave (s, left_of j) (e ∙ ap Err kind) ∙ left_at s (Err backtrack) same,
+            )),
+      )
+  take_until_ran reading sought bounds i answer j
+      (inr (inr (inr (inl (start, end, m, k, within, few, inr (most, is, kind), e, same))))) =
+      inr (
+        within,
+        inl (
+          inr (
+            m.front,
+            m.found ++ m.rest,
+            match_before reading m (m.found ++ m.rest) m.stands.splits,
+            few,
+            most,
+            is,
+          ),
+          gave (s, left_of j) e ∙ left_at s (Err k) same
+              ∙ short form None i k (s, left_of i) kind,
+        ),
+      )
+  take_until_ran reading sought bounds i answer j
+      (inr (inr (inr (inr (start, end, m, most, is, le, much, e, same))))) =
       let P : Option ℕ → Type 0 = λ g. IsWithin g (bounds s).least in
-      inr (subst P (sym is) le, inr (inr ((m.front, m.found ++ m.rest, match_before reading m (m.found ++ m.rest) m.stands.splits, inr (most, is, le, much)), gave (s, left_of j) e ∙ left_at s (Err backtrack) same)))
+      inr (
+        subst P (sym is) le,
+        inr (inr (
+          (
+            m.front,
+            m.found ++ m.rest,
+            match_before reading m (m.found ++ m.rest) m.stands.splits,
+            inr (most, is, le, much),
+          ),
+          gave (s, left_of j) e ∙ left_at s (Err backtrack) same,
+        )),
+      )
 
-  hex_ran : {N K T L : Type 0} (number : N → ℕ) (most : ℕ) (seen : K → T) (code : K → ℕ) (reading : Reading T L) (i : Input T) (answer : Answer N) (j : Input T)
+  hex_ran : {N K T L : Type 0} (number : N → ℕ) (most : ℕ) (seen : K → T) (code : K → ℕ)
+      (reading : Reading T L) (i : Input T) (answer : Answer N) (j : Input T)
       → HexUintRuns number most seen code reading form i answer j
-      → HexUintDoes number most seen code reading (setting_of form i) s (left_of i) (outcome_of answer (s, left_of j))
-  hex_ran number most seen code reading i answer j (inl (f, ds, n, p, chars, are, some, few, stops, ended, is, e)) =
-      inl (n, left_of j, (f, ds, passed_of p, chars, are, some, few, stops, (λ none. ap (λ z. z.cut) (sym p.status) ∙ ended none), is), gave (s, left_of j) e)
+      → HexUintDoes number most seen code reading (setting_of form i) s (left_of i)
+      (outcome_of answer (s, left_of j))
+  hex_ran number most seen code reading i answer j
+      (inl (f, ds, n, p, chars, are, some, few, stops, ended, is, e)) =
+      inl (
+        n,
+        left_of j,
+        (
+          f,
+          ds,
+          passed_of p,
+          chars,
+          are,
+          some,
+          few,
+          stops,
+          (λ none. ap (λ z. z.cut) (sym p.status) ∙ ended none),
+          is,
+        ),
+        gave (s, left_of j) e,
+      )
   hex_ran number most seen code reading i answer j (inr (inl (all, few, more, e, same))) =
-      inr (inl ((all, few, more), gave (s, left_of j) e ∙ left_at s (Err (incomplete_kind form (Some 1))) same ∙ short form _ i _ (s, left_of i) (inl (more, refl))))
+      inr (inl (
+        (all, few, more),
+        gave (s, left_of j) e ∙ left_at s (Err (incomplete_kind form (Some 1))) same
+            ∙ short form _ i _ (s, left_of i) (inl (more, refl)),
+      ))
   hex_ran number most seen code reading i answer j (inr (inr (inl (none, whole, e, same)))) =
       inr (inr (inl (none, whole), gave (s, left_of j) e ∙ left_at s (Err backtrack) same))
-  hex_ran number most seen code reading i answer j (inr (inr (inr (f, t, rest, split, are, many, is, e, same)))) =
-      inr (inr (inr (f, t, rest, split, are, many, is), gave (s, left_of j) e ∙ left_at s (Err backtrack) same))
+  hex_ran number most seen code reading i answer j
+      (inr (inr (inr (f, t, rest, split, are, many, is, e, same)))) =
+      inr (inr (
+        inr (f, t, rest, split, are, many, is),
+        gave (s, left_of j) e ∙ left_at s (Err backtrack) same,
+      ))
 
-  literal_ran : {T L O : Type 0} (reading : Reading T L) (spelled : S → List T → Type 0) (output : S → L → O) (i : Input T) (answer : Answer O) (j : Input T)
+  literal_ran : {T L O : Type 0} (reading : Reading T L) (spelled : S → List T → Type 0)
+      (output : S → L → O) (i : Input T) (answer : Answer O) (j : Input T)
       → LiteralRuns reading form (spelled s) (output s) i answer j
-      → LiteralDoes reading spelled output (setting_of form i) s (left_of i) (outcome_of answer (s, left_of j))
+      → LiteralDoes reading spelled output (setting_of form i) s (left_of i)
+      (outcome_of answer (s, left_of j))
   literal_ran reading spelled output i answer j (inl (f, v, is, t, e)) =
-      inl (output s v, left_of j, (f, v, is, t.shown, passed_of t.passed, refl), gave (s, left_of j) e)
+      inl (
+        output s v,
+        left_of j,
+        (f, v, is, t.shown, passed_of t.passed, refl),
+        gave (s, left_of j) e,
+      )
   literal_ran reading spelled output i answer j (inr (inl (few, more, e, same))) =
-      inr (inl ((few, more), gave (s, left_of j) e ∙ left_at s (Err (incomplete_kind form None)) same ∙ short form None i (incomplete_kind form None) (s, left_of i) (inl (more, refl))))
+      inr (inl (
+        (few, more),
+        gave (s, left_of j) e ∙ left_at s (Err (incomplete_kind form None)) same
+            ∙ short form None i (incomplete_kind form None) (s, left_of i)
+            (inl (more, refl)),
+      ))
   literal_ran reading spelled output i answer j (inr (inr (none, whole, e, same))) =
       inr (inr ((none, whole), gave (s, left_of j) e ∙ left_at s (Err backtrack) same))
 

@@ -10,7 +10,8 @@ pub returns-clause-map : goal.returns-clause-map
 returns-clause-map g c = record { each = λ at. map_covered _ (any_covered _ _) }
 
 pub returns-clause-verify : goal.returns-clause-verify
-returns-clause-verify g c = record { each = λ at. verify_covered (CalledAt g.H.FnMut) (any_covered _ _) }
+returns-clause-verify g c =
+    record { each = λ at. verify_covered (CalledAt g.H.FnMut) (any_covered _ _) }
 
 pub returns-clause-opt : goal.returns-clause-opt
 returns-clause-opt g c = record { each = λ at. opt_covered (any_covered _ _) }
@@ -27,5 +28,6 @@ returns-clause-pair g c =
 
 pub returns-clause-alt : goal.returns-clause-alt
 returns-clause-alt g c = record {
-  each = λ at. alt_covered (verify_covered (CalledAt g.H.FnMut) (any_covered _ _)) (any_covered _ _);
+  each = λ at. alt_covered (verify_covered (CalledAt g.H.FnMut) (any_covered _ _))
+      (any_covered _ _);
 }
