@@ -16,6 +16,7 @@ ghost use Rattle.parser_definitions.specs.Verify.{VerifyDoes};
 ghost use Rattle.winnow_definitions.specs.Covers.{CoversEach};
 ghost use Rattle.winnow_definitions.specs.Longer.{SameOnLonger};
 
+use std::ops::Range;
 use stream_errors::parser_error::ParserError;
 use stream_sets::sets::ContainsToken;
 use streams::stream::{Location, StreamIsPartial};
@@ -33,6 +34,9 @@ where
     ensures one_of { CoversEach ⟦<OneOf<S, I, E> as Parser<I, I::Token, E>>⟧.meaning
         (OneOfDoes I.seen_as I.reading S.tells) }
 {}
+
+/// A token that a closure accepts, or any.
+pub type TokenOrAny<H, I, T, E> = AltParser<(Verify<Any, H, I, T, E>, Any), I, T, E>;
 
 /// So are adapters of `any`, with closures that may change, and a choice.
 pub fn adapters_are_covered<
@@ -55,11 +59,14 @@ where
         (VoidDoes (AnyDoes I.seen_as I.reading)) }
     ensures take { CoversEach ⟦<Take<Any, I, I::Token, E> as Parser<I, I::Slice, E>>⟧.meaning
         (TakeDoes I.reading (AnyDoes I.seen_as I.reading)) }
+    ensures with_span { CoversEach
+        ⟦<WithSpan<Any, I, I::Token, E> as Parser<I, (I::Token, Range<usize>), E>>⟧.meaning
+        (WithSpanDoes (AnyDoes I.seen_as I.reading)) }
     ensures pair { CoversEach ⟦<(Any, Any) as Parser<I, (I::Token, I::Token), E>>⟧.meaning
         (BothDo (λ o1 o2. (o1, o2)) (AnyDoes I.seen_as I.reading)
         (AnyDoes I.seen_as I.reading)) }
     ensures alt { CoversEach
-        ⟦<AltParser<(Verify<Any, H, I, I::Token, E>, Any), I, I::Token, E> as Parser<I, I::Token, E>>⟧.meaning
+        ⟦<TokenOrAny<H, I, I::Token, E> as Parser<I, I::Token, E>>⟧.meaning
         (AltDoes (VerifyDoes (CalledAt H.FnMut) (AnyDoes I.seen_as I.reading))
         (AnyDoes I.seen_as I.reading)) }
 {}

@@ -1,7 +1,7 @@
 use Rattle.std.specs.Fn.{CalledAt}
 use Rattle.winnow_definitions.specs.Adapters.{map_covered, verify_covered}
 use Rattle.winnow_definitions.specs.Choices.{alt_covered, opt_covered}
-use Rattle.winnow_definitions.specs.Outputs.{take_covered, void_covered}
+use Rattle.winnow_definitions.specs.Outputs.{take_covered, void_covered, with_span_covered}
 use Rattle.winnow_definitions.specs.Sequences.{both_covered}
 use Rattle.winnow_definitions.specs.Tokens.{any_covered}
 use Rattle.winnow_definitions.proofs.laws.adapters_are_covered.Goals as goal
@@ -21,6 +21,9 @@ returns-clause-void g c = record { each = λ at. void_covered (any_covered _ _) 
 
 pub returns-clause-take : goal.returns-clause-take
 returns-clause-take g c = record { each = λ at. take_covered (any_covered _ _) g.I.Stream.reading }
+
+pub returns-clause-with_span : goal.returns-clause-with_span
+returns-clause-with_span g c = record { each = λ at. with_span_covered (any_covered _ _) }
 
 pub returns-clause-pair : goal.returns-clause-pair
 returns-clause-pair g c =
