@@ -5,5 +5,6 @@ pub mod Covers
 pub mod Longer
 pub mod Marks
 pub mod Outputs
+pub mod Repeats
 pub mod Sequences
 pub mod Tokens

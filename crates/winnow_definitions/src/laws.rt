@@ -11,18 +11,22 @@ ghost use Rattle.parser_definitions.specs.Map.{MapDoes};
 ghost use Rattle.parser_definitions.specs.OneOf.{OneOfDoes};
 ghost use Rattle.parser_definitions.specs.Opt.{OptDoes};
 ghost use Rattle.parser_definitions.specs.Outputs.{TakeDoes, VoidDoes, WithSpanDoes};
+ghost use Rattle.parser_definitions.specs.Repeat.{RepeatDoes};
 ghost use Rattle.parser_definitions.specs.Shown.{SeenSame};
 ghost use Rattle.parser_definitions.specs.Verify.{VerifyDoes};
 ghost use Rattle.winnow_definitions.specs.Covers.{CoversEach};
 ghost use Rattle.winnow_definitions.specs.Longer.{SameOnLonger};
 
+use std::alloc::Allocator;
 use std::ops::Range;
 use stream_errors::parser_error::ParserError;
+use stream_sets::accumulate::Accumulate;
 use stream_sets::sets::ContainsToken;
 use streams::stream::{Location, StreamIsPartial};
 use winnow_comb::combinator::impls::{AltParser, Opt};
 use winnow_core::combinator::impls::{Map, Take, Verify, Void, WithSpan};
 use winnow_core::parser::Parser;
+use winnow_repeat::combinator::impls::Repeat;
 use winnow_token::token::impls::{Any, OneOf};
 
 /// `any` and `one_of` are covered by their definitions.
@@ -34,6 +38,9 @@ where
     ensures one_of { CoversEach ⟦<OneOf<S, I, E> as Parser<I, I::Token, E>>⟧.meaning
         (OneOfDoes I.seen_as I.reading S.tells) }
 {}
+
+/// A repetition of `any` with `map`.
+pub type RepeatMapped<G, I, T, O, C, E, A> = Repeat<Map<Any, G, I, T, O, E>, I, O, C, E, A>;
 
 /// A token that a closure accepts, or any.
 pub type TokenOrAny<H, I, T, E> = AltParser<(Verify<Any, H, I, T, E>, Any), I, T, E>;
@@ -69,6 +76,20 @@ where
         ⟦<TokenOrAny<H, I, I::Token, E> as Parser<I, I::Token, E>>⟧.meaning
         (AltDoes (VerifyDoes (CalledAt H.FnMut) (AnyDoes I.seen_as I.reading))
         (AnyDoes I.seen_as I.reading)) }
+{}
+
+/// So is a repetition into an accumulator, of `any` with a closure that may change.
+pub fn repeats_are_covered<
+    G: FnMut(I::Token) -> O,
+    I: StreamIsPartial,
+    O: Drop,
+    C: Accumulate<O, A>,
+    E: ParserError<I>,
+    A: Allocator + Copy,
+>()
+    ensures { CoversEach
+        ⟦<RepeatMapped<G, I, I::Token, O, C, E, A> as Parser<I, C, E>>⟧.meaning
+        (RepeatDoes C.accumulator (MapDoes G.step (AnyDoes I.seen_as I.reading))) }
 {}
 
 /// Take `any` with `map`, whose closure may change, but for tokens that are seen as equal has one
