@@ -1,6 +1,7 @@
 -- Repetitions of a covered child into an accumulator are covered.
 use Rattle.std.specs.List.{FoldsTo}
-use Rattle.std.specs.Prelude.{◌≡◌, ◌⊎◌, ⊤, ◌<◌, ◌≤◌, ◌+◌, ℕ, List, [], ◌∷◌, length, Option, Some}
+use Rattle.std.specs.Prelude.{◌≡◌, ◌⊎◌, ◌<◌, ◌≤◌, ◌+◌, ℕ, List, [], ◌∷◌, length, Option}
+use Rattle.std.specs.Prelude.{Some}
 use Rattle.std.specs.Prelude.{None, Ok, Err}
 use Rattle.std.proofs.Common.{refl, sym, subst, ap, ◌∙◌, inl, inr, arith}
 use Rattle.streams.specs.Input.{Input, back_at}
@@ -17,9 +18,10 @@ use Rattle.winnow_repeat.specs.Repeat.{RepeatOneRuns, RepeatRuns}
 use Rattle.parser_definitions.specs.Bounded.{capacity_of}
 use Rattle.parser_definitions.specs.Consumes.{Item}
 use Rattle.parser_definitions.specs.Folding.{gathering}
-use Rattle.parser_definitions.specs.Items.{Items, ItemsTurn, items_next}
-use Rattle.parser_definitions.specs.Left.{End, Left, left_of}
-use Rattle.parser_definitions.specs.Loop.{LoopDoes, Turn, again, continues, last, last_turn, returns}
+use Rattle.parser_definitions.specs.Items.{Items, ItemsTurn}
+use Rattle.parser_definitions.specs.Left.{End, left_of}
+use Rattle.parser_definitions.specs.Loop.{LoopDoes, Turn, again, last, last_turn}
+use Rattle.parser_definitions.specs.Loop.{returns}
 use Rattle.parser_definitions.specs.Outcome.{Does, Outcome, Setting, asks, backs, cuts, misused}
 use Rattle.parser_definitions.specs.Outcome.{outcome_of, took, wants}
 use Rattle.parser_definitions.specs.Repeat.{AfterFirst, Many, OneOrMore, RepeatDoes, Repeated}
@@ -122,8 +124,14 @@ module _ {S R T O C : Type 0} {at : Setting} {run : Runs S T O} {does : Does S T
       let d = child.covers u m (Err backtrack) t j here ran in (
         (
           backs ((t, r), left_of j),
-          inr (less, (backs (t, left_of j), (backs (t, left_of j), d.0, refl),
-              inr (few refl, refl))),
+          inr (
+            less,
+            (
+              backs (t, left_of j),
+              (backs (t, left_of j), d.0, refl),
+              inr (few refl, refl),
+            ),
+          ),
           gave ((t, r), left_of j) e,
         ),
         d.1,
@@ -155,18 +163,26 @@ module _ {S R T O C : Type 0} {at : Setting} {run : Runs S T O} {does : Does S T
       λ fewer. absurd (omega (arith, fewer, ap (λ l. length l) is)) in
       let y : Outcome (End (S × R) T) (Turn (C × ℕ) C) =
       outcome_of (Err (assert_kind at.form)) ((t, r), left_of j) in
-      let P : Answer C → Type 0 = λ z. ComesOf {S = S × R} {T = T} (last_turn {C = C × ℕ} {R = C}) at
+      let P : Answer C → Type 0 =
+      λ z. ComesOf {S = S × R} {T = T} (last_turn {C = C × ℕ} {R = C}) at
       (u, r) (left_of m) y (outcome_of z ((t, r), left_of j)) in (
         (
           y,
-          inr (less, (took None (t, left_of j), (took o (t, left_of j), d.0, inr (not, refl)),
-              misuse at ((t, r), left_of j))),
+          inr (
+            less,
+            (
+              took None (t, left_of j),
+              (took o (t, left_of j), d.0, inr (not, refl)),
+              misuse at ((t, r), left_of j),
+            ),
+          ),
           subst P (sym e) (by at.form),
         ),
         d.1,
       )
     where
-      by : (form : ErrorForm) → ComesOf {S = S × R} {T = T} (last_turn {C = C × ℕ} {R = C}) at (u, r) (left_of m)
+      by : (form : ErrorForm)
+          → ComesOf {S = S × R} {T = T} (last_turn {C = C × ℕ} {R = C}) at (u, r) (left_of m)
           (outcome_of (Err (assert_kind form)) ((t, r), left_of j))
           (outcome_of (Err (assert_kind form)) ((t, r), left_of j))
       by modal = refl
@@ -175,8 +191,18 @@ module _ {S R T O C : Type 0} {at : Setting} {run : Runs S T O} {does : Does S T
       let d = child.covers u m (Ok o) t j here ran in (
         (
           wants,
-          inr (less, (took (Some o) (t, left_of j), (took o (t, left_of j), d.0,
-              inl (fewer, refl)), inr (inr (grows, refl)))),
+          inr (
+            less,
+            (
+              took (Some o) (t, left_of j),
+              (
+                took o (t, left_of j),
+                d.0,
+                inl (fewer, refl),
+              ),
+              inr (inr (grows, refl)),
+            ),
+          ),
           gave ((t, r), left_of j) e,
         ),
         d.1,
@@ -197,11 +223,22 @@ module _ {S R T O C : Type 0} {at : Setting} {run : Runs S T O} {does : Does S T
       (subst (λ x. P most all x) (sym went) (last l.0, l.1)))
   turns (o ∷ os) n most is c all s u r i m a t j here (d, taken, made) (to, (ran, less), went) e =
       let did = child.covers s i (Ok o) to.0 to.1 here ran in
-      let rest = turns os (n + 1) most (is ∙ omega arith) d all to.0 u r to.1 m a t j did.1 made went
+      let rest = turns os (n + 1) most (is ∙ omega arith) d all to.0 u r to.1 m a t j did.1 made
+      went
       e in (
-        again (inr (below bounds.greatest n most (omega (arith, is)) (limit at run into bounds most all u m a t j e),
-        (took (Some o) (to.0, left_of to.1), (took o (to.0, left_of to.1), did.0,
-        inl (less, refl)), inl (d, (to.0, r), (taken, refl), refl)))) rest.0,
+        again (inr (
+          below bounds.greatest n most (omega (arith, is))
+              (limit at run into bounds most all u m a t j e),
+          (
+            took (Some o) (to.0, left_of to.1),
+            (
+              took o (to.0, left_of to.1),
+              did.0,
+              inl (less, refl),
+            ),
+            inl (d, (to.0, r), (taken, refl), refl),
+          ),
+        )) rest.0,
         rest.1,
       )
 
@@ -211,7 +248,8 @@ module _ {S R T O C : Type 0} {at : Setting} {run : Runs S T O} {does : Does S T
       (outcome_of a ((t, r), left_of j)) × At at j
   items before s r i a t j here (outputs, u, m, chain, ended) =
       let (all, made, e) = after at run into bounds before outputs u m a t j ended in
-      turns outputs 0 (length outputs) (omega arith) before all s u r i m a t j here made chain.runs e
+      turns outputs 0 (length outputs) (omega arith) before all s u r i m a t j here made
+      chain.runs e
 
   many : (s : S) (r : R) (i : Input T) (a : Answer C) (t : S) (j : Input T) → At at i
       → RepeatManyRuns run into (assert_kind at.form) bounds s i a t j
