@@ -21,7 +21,7 @@ pub returns-in-Some-clause-refused : goal.returns-in-Some-clause-refused
 returns-in-Some-clause-refused c _ =
     let P : Option HostError → Type 0 =
     λ found. HasHostError c.in-Ok.head.line (fields_of c.in-Ok.head) found in
-    let error = c.rejected.ensures in
+    let error = c.rejected-in-Some.ensures in
     inr (inr (inl (record {
       head = c.in-Ok.head;
       rest = c.read_head.new.input.now;
