@@ -107,13 +107,16 @@ def unread(status, said):
     errors = [it for it in said if ERROR.match(it)]
     bad = [it for it in errors if not it.startswith("./proofs/") and BAD_CLAUSE.search(it)]
     if status == 0:
-        return "it is still proved"
+        return STILL_PROVED
     if bad or BAD_TEXT.search("\n".join(said)):
         return f"it does not compile: {(bad or said)[0]}"
     if not said[-1].startswith(("only=", "logic=not-proved")):
         return f"its check did not finish: {said[-1]}"
     return None
 
+
+# Why an accepted edit is not rejected.
+STILL_PROVED = "it is still proved"
 
 # The maximum number of edits in one check.
 SIZE = 12
@@ -243,6 +246,8 @@ class Trial:
         # The names of the edits that are not rejected, of those that only a stored answer rejects,
         # and of those that were not tried as the time was over.
         self.missed, self.by_answer, self.untried = [], [], []
+        # The names of those that the prover accepts.
+        self.proved = []
         # Files of proofs that are left out of a check.
         self.without = ()
 
@@ -311,6 +316,8 @@ class Trial:
 
     def miss(self, edit, why):
         self.missed.append(edit.name)
+        if why == STILL_PROVED:
+            self.proved.append(edit.name)
         self.say(edit, f"NOT REJECTED: {why}")
 
     def in_groups(self, edits):
