@@ -1236,9 +1236,9 @@ static void test_messages_of_errors(void)
                      parts[part]);
     }
     test_message(pergidau_http_error_message(PERGIDAU_HTTP_ERROR_HEAD), "invalid head");
-    test_message(pergidau_http_error_message(PERGIDAU_HTTP_ERROR_LENGTH_TOO_LARGE),
-                 "Content-Length too large");
-    test_message(pergidau_http_error_message((enum pergidau_http_error)11), "unknown error");
+    test_message(pergidau_http_error_message(PERGIDAU_HTTP_ERROR_INVALID_CODING),
+                 "invalid transfer coding");
+    test_message(pergidau_http_error_message((enum pergidau_http_error)14), "unknown error");
 }
 
 /* The version of the library, whether it is proved, and the message of each code. */
