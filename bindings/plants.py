@@ -95,6 +95,7 @@ FAULTS = [
         ("a null DNS header is written", "enum pergidau_code pergidau_dns_message_header", "out == NULL", "0"),
         ("one more level of TOML is read", "enum pergidau_code pergidau_toml_document", "bytes_length, max_depth, text", "bytes_length, max_depth + 1, text"),
         ("the version is wrong", "pergidau_version(void)", "PERGIDAU_VERSION", '"9.9.9"'),
+        ("the number of the ABI is wrong", "pergidau_abi_version(void)", "PERGIDAU_ABI_VERSION", "99"),
         ("an unproved library is reported as proved", "pergidau_is_proved(void)", "return 0", "return 1"),
         ("a proved library is reported as unproved", "pergidau_is_proved(void)", "return 1", "return 0"),
         ("null bytes of a body are read", "enum pergidau_code pergidau_http_request_body", "bytes == NULL &&", "0 &&"),

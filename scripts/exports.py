@@ -9,6 +9,27 @@ EXPORT = re.compile(r'pub extern "C" fn exported_(\w+)\(\s*(.*?)\s*\)\s*->\s*u32
 CONSTANT = re.compile(r"pub const (\w+): (u32|usize) = (\d+);")
 TAKEN = re.compile(r"pub use (\w+)::(\w+)::\{?([\w,\s]+)\}?;")
 STRUCT = re.compile(r"pub struct (\w+)(?:<'\w+>)? \{\n(.*?)\n\}", re.DOTALL)
+# The constants that are cases of an enum in C: the prefix of their names, the enum's name and
+# description, and the structs with a field of its values, followed by the field's name.
+KINDS = {
+    "JSON_ERROR_": ("json_error", "The errors of JSON texts.", ("JsonDiagnostic", "error")),
+    "JSON_": ("json_kind", "The kinds of JSON items.", ("JsonItem", "JsonNode", "kind")),
+    "RESP_": ("resp_kind", "The kinds of Redis replies.", ("Reply", "kind")),
+    "TOML_ERROR_": ("toml_error", "The errors of TOML documents.", ("TomlResult", "error")),
+    "TOML_": ("toml_kind", "The kinds of TOML nodes.", ("TomlValue", "kind")),
+    "CHUNKED_ERROR_": ("chunked_error", "The errors of chunked bodies.", ("ChunkedStep", "error")),
+    "CHUNKED_": ("chunked_kind", "The parts of chunked bodies.", ("ChunkedStep", "kind")),
+    "HTTP_BODY_": ("http_body_kind", "How the length of a body is determined.", ("HttpBody", "kind")),
+    "HTTP_HEAD_ERROR_": ("http_head_error", "Why a byte of a head is invalid.", ("Head", "ResponseHead", "error")),
+    "HTTP_ERROR_": ("http_error", "Why an HTTP message must be rejected.", ("HttpBody", "error")),
+    "CSV_": ("csv_line_end", "The end of a record of comma-separated values.", ("CsvDialect", "line_ends")),
+    "INI_ERROR_": ("ini_error", "The errors of INI lines.", ("IniEntry", "error")),
+    "INI_DIALECT_": ("ini_dialect", "The dialects of INI: flags, whose sum is a dialect, and three dialects.", None),
+    "DNS_ERROR_": ("dns_error", "Why a part of a DNS message is invalid.", ("DnsFault", "error")),
+    "INI_": ("ini_kind", "The kinds of INI entries.", ("IniEntry", "kind")),
+}
+ENUMS = {(struct, fields[-1]): name
+         for name, _, fields in KINDS.values() if fields for struct in fields[:-1]}
 
 
 @dataclasses.dataclass
@@ -73,6 +94,11 @@ def modules(path):
     for name in re.findall(r"pub mod (\w+);", path.read_text(encoding="utf-8")):
         yield str((inside / name).relative_to(SOURCE))
         yield from modules(inside / f"{name}.rt")
+
+
+def kind(name):
+    """Returns the prefix of the enum that a constant belongs to, or None."""
+    return next((it for it in KINDS if name.startswith(it)), None)
 
 
 def snake(name):

@@ -241,23 +241,12 @@ uint32_t exported_toml_document(
     size_t nodes_length,
     struct pergidau_toml_result *out);
 
-/* The exports write enums as 32 bits. */
-_Static_assert(sizeof(enum pergidau_chunked_error) == sizeof(uint32_t), "the size of an enum");
-_Static_assert(sizeof(enum pergidau_chunked_kind) == sizeof(uint32_t), "the size of an enum");
-_Static_assert(sizeof(enum pergidau_csv_line_end) == sizeof(uint32_t), "the size of an enum");
-_Static_assert(sizeof(enum pergidau_dns_error) == sizeof(uint32_t), "the size of an enum");
-_Static_assert(sizeof(enum pergidau_http_body_kind) == sizeof(uint32_t), "the size of an enum");
-_Static_assert(sizeof(enum pergidau_http_error) == sizeof(uint32_t), "the size of an enum");
-_Static_assert(sizeof(enum pergidau_http_head_error) == sizeof(uint32_t), "the size of an enum");
-_Static_assert(sizeof(enum pergidau_ini_error) == sizeof(uint32_t), "the size of an enum");
-_Static_assert(sizeof(enum pergidau_ini_kind) == sizeof(uint32_t), "the size of an enum");
-_Static_assert(sizeof(enum pergidau_json_error) == sizeof(uint32_t), "the size of an enum");
-_Static_assert(sizeof(enum pergidau_json_kind) == sizeof(uint32_t), "the size of an enum");
-_Static_assert(sizeof(enum pergidau_resp_kind) == sizeof(uint32_t), "the size of an enum");
-_Static_assert(sizeof(enum pergidau_toml_error) == sizeof(uint32_t), "the size of an enum");
-_Static_assert(sizeof(enum pergidau_toml_kind) == sizeof(uint32_t), "the size of an enum");
+const char pergidau_abi_1 = 0;
 
-const char pergidau_declared_554ab3fe = 0;
+int pergidau_abi_version(void)
+{
+    return PERGIDAU_ABI_VERSION;
+}
 
 const char *pergidau_version(void)
 {

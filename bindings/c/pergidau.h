@@ -36,20 +36,29 @@
 #define PERGIDAU_VERSION_PATCH 0
 #define PERGIDAU_VERSION "0.1.0"
 
+/*
+ * The number of the ABI. A program runs with each library of this number that is not older
+ * than its header: later ones only add functions, structs, and cases of enums.
+ */
+#define PERGIDAU_ABI_VERSION 1
+
 #ifdef __cplusplus
 extern "C" {
 #endif
 
 /*
- * Only a library with these declarations defines this symbol. Each file that includes this
- * header refers to it, so that it links with no other library. For a file that is not linked
- * with the library, define PERGIDAU_NO_LINK_CHECK before the header.
+ * Only a library of this ABI defines this symbol. Each file that includes this header refers
+ * to it, so that it links with no other library. For a file that is not linked with the
+ * library, define PERGIDAU_NO_LINK_CHECK before the header.
  */
-extern const char pergidau_declared_554ab3fe;
+extern const char pergidau_abi_1;
 #if defined(__GNUC__) && !defined(PERGIDAU_NO_LINK_CHECK)
 __attribute__((__used__, __unused__)) static const char *const pergidau_linked =
-    &pergidau_declared_554ab3fe;
+    &pergidau_abi_1;
 #endif
+
+/* Returns PERGIDAU_ABI_VERSION of the linked library. */
+int pergidau_abi_version(void);
 
 /* Returns the version of the linked library, in the form of PERGIDAU_VERSION. */
 const char *pergidau_version(void);
@@ -100,6 +109,9 @@ enum pergidau_code {
      */
     PERGIDAU_INVALID_DIALECT = 13
 };
+
+/* The library writes enums as 32 bits: -fshort-enums is not supported. */
+typedef char pergidau_enums_have_32_bits[sizeof(enum pergidau_code) == 4 ? 1 : -1];
 
 /* Returns the message for a code, in English, without a full stop. Do not free it. */
 const char *pergidau_message(enum pergidau_code code);

@@ -79,7 +79,7 @@ fn main() {
     eprintln!("then set PERGIDAU_LIB to its folder bindings/out, or install it and set PKG_CONFIG_PATH:");
     eprintln!("    make -C bindings install PREFIX=/usr/local");
     if !is_unproved {
-        eprintln!("To try it without proofs (half a minute), run bindings/build --unproved, and set");
+        eprintln!("To try it without proofs (a minute or two), run bindings/build --unproved, and set");
         eprintln!("PERGIDAU_UNPROVED=1 here.");
     }
     std::process::exit(1);

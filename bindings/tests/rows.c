@@ -1249,6 +1249,7 @@ static void test_library(void)
              PERGIDAU_VERSION_PATCH);
     same("the version", PERGIDAU_VERSION, strcmp(version, PERGIDAU_VERSION), 0);
     same("the version", pergidau_version(), strcmp(version, pergidau_version()), 0);
+    same("the number", "the ABI", pergidau_abi_version(), PERGIDAU_ABI_VERSION);
 #ifdef IS_PROVED
     same("is proved", "the library", pergidau_is_proved(), IS_PROVED);
 #endif

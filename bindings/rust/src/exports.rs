@@ -1134,9 +1134,9 @@ pub struct TomlResult {
 }
 
 extern "C" {
-    /// A symbol that only a library with these declarations has.
-    #[link_name = "pergidau_declared_554ab3fe"]
-    static VERSION_LINKED: c_char;
+    /// A symbol that only a library of this ABI has.
+    #[link_name = "pergidau_abi_1"]
+    static ABI_LINKED: c_char;
 
     /// Returns the version of the linked library.
     pub fn pergidau_version() -> *const c_char;
@@ -2511,8 +2511,8 @@ pub struct Linked(*const c_char);
 // SAFETY: the pointer is never dereferenced.
 unsafe impl Sync for Linked {}
 
-/// Makes programs with this crate link only with a library that has these declarations.
+/// Makes programs with this crate link only with a library of this ABI.
 #[used]
 // SAFETY: it is not dereferenced. Compilers before 1.82 require the block.
 #[allow(unused_unsafe)]
-pub static LINKED: Linked = Linked(unsafe { core::ptr::addr_of!(VERSION_LINKED) });
+pub static LINKED: Linked = Linked(unsafe { core::ptr::addr_of!(ABI_LINKED) });

@@ -34,8 +34,8 @@
 //!
 //! `build.rs` links the library from the folder that `PERGIDAU_LIB` names; otherwise as
 //! `pkg-config` reports; otherwise from `bindings/out` next to this crate. If none of these has it,
-//! the error message gives the command to run. A program links only with a library of this crate's
-//! version, because it refers to a symbol that contains the version. For a trial,
+//! the error message gives the command to run. A program links only with a library of
+//! the same ABI, because it refers to a symbol that contains its number. For a trial,
 //! `PERGIDAU_UNPROVED=1` selects a library that was built without proofs; [`is_proved`] reports
 //! which one is linked.
 #![cfg_attr(not(feature = "std"), no_std)]
