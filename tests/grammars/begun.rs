@@ -1,5 +1,5 @@
 //! The tokens of partial input on which `Incomplete` is returned, as each parser specifies it
-//! (`X/Says.antt`), evaluated by lists and by the grammars of the parts. This module uses no
+//! (`XDoes` of `parser_definitions`), evaluated by lists and by the grammars of the parts. This module uses no
 //! parser.
 use crate::closures::{LENGTHS, decided, said};
 use crate::standing::{Ambiguous, Found, Standing, both, standing};

@@ -1,5 +1,5 @@
 //! Compositions on every prefix of texts, compared with each longer prefix.
-use crate::settling::{Bytes, Text, settles};
+use crate::settling::{Bytes, Lines, Text, settles};
 use std::alloc::Global;
 use std::fmt::Debug;
 use std::process::Abort;
@@ -13,7 +13,6 @@ use streams::locating::LocatingSlice;
 use test_support::rows::Modal;
 use test_support::texts::OfText;
 use winnow_ascii::ascii::impls::{Alpha1, Digit1, LineEnding, TillLineEnding};
-use winnow_ascii::stable::LineEnds;
 use winnow_comb::combinator::impls::{
     Cond, CutErr, Delimited, Not, Opt, Peek, Preceded, SeparatedPair, Terminated,
 };
@@ -35,7 +34,7 @@ use winnow_token::token::{literal, take, take_till, take_until, take_while};
 /// Leaves.
 fn leaves<I>(rt: &impl Abort)
 where
-    I: OfText + LineEnds + SlicesAsBytes + Compare<char> + FindSlice<&'static str>,
+    I: Lines + SlicesAsBytes + Compare<char> + FindSlice<&'static str>,
     I::Token: AsChar + Copy + PartialEq + Debug,
     I::Slice: AsBStr + PartialEq + Debug,
 {
@@ -58,7 +57,7 @@ where
 /// Choices and options, and leaves in order.
 fn choices<I>(rt: &impl Abort)
 where
-    I: OfText + LineEnds + SlicesAsBytes + Compare<char>,
+    I: Lines + SlicesAsBytes + Compare<char>,
     I::Token: AsChar + Copy,
     I::Slice: AsBStr + PartialEq + Debug,
 {
@@ -93,7 +92,7 @@ where
 /// Repetitions, folds and separation.
 fn repetitions<I>(rt: &impl Abort, alloc: Global)
 where
-    I: OfText + LineEnds + SlicesAsBytes + Compare<char>,
+    I: Lines + SlicesAsBytes + Compare<char>,
     I::Token: AsChar + Copy,
     I::Slice: AsBStr + PartialEq + Debug,
 {

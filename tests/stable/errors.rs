@@ -12,7 +12,6 @@ use winnow_comb::combinator::cut_err;
 use winnow_comb::combinator::impls::CutErr;
 use winnow_core::combinator::impls::{ErrInto, MapErrKept};
 use winnow_core::parser::Parser;
-use winnow_core::stable::Stable;
 
 /// Another error of the same mode.
 fn forget(error: ErrMode<InputError<Text>>) -> Modal {

@@ -8,10 +8,9 @@ use stream_sets::as_char::AsChar;
 use test_support::rows::Modal;
 use test_support::texts::OfText;
 use winnow_ascii::ascii::impls::Alpha1;
-use winnow_core::stable::Stable;
+use winnow_core::parser::Parser;
 use winnow_escapes::ascii;
 use winnow_escapes::ascii::impls::{Escaped, TakeEscaped};
-use winnow_escapes::stable::SettledControl;
 use winnow_token::token::impls::{Any, NoneOf, OneOf};
 use winnow_token::token::{none_of, one_of};
 
@@ -23,7 +22,7 @@ fn asks<I, O, P>(rt: &impl Abort, name: &str, mut parser: P, want: usize)
 where
     I: OfText,
     O: PartialEq + Debug + Drop,
-    P: Stable<I, O, Modal> + Drop,
+    P: Parser<I, O, Modal> + Drop,
 {
     let mut asking = 0;
     for count in 0..=ESCAPED.len() {
@@ -40,7 +39,7 @@ where
     I: OfText,
     I::Token: AsChar,
     I::Slice: PartialEq + Debug,
-    K: SettledControl<I, D> + Drop,
+    K: Parser<I, D, ControlError> + Drop,
     D: Drop,
 {
     let text: TakeEscaped<Alpha1, K, Any, I, I::Slice, D, I::Token, Modal> =

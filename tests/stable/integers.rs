@@ -6,7 +6,7 @@ use std::fmt::Debug;
 use std::process::Abort;
 use test_support::rows::Modal;
 use winnow_binary::binary as chosen;
-use winnow_core::stable::Stable;
+use winnow_core::parser::Parser;
 use winnow_integers::binary::Endianness::{Big, Little, Native};
 use winnow_integers::binary::impls::{
     BeI128, BeI16, BeI24, BeI32, BeI64, BeI8, BeU128, BeU16, BeU24, BeU32, BeU64, BeU8, I8, LeI128,
@@ -23,7 +23,7 @@ const DOWN: &[u8] = b"\xFF\xFE\xFD\xFC\xFB\xFA\xF9\xF8\xF7\xF6\xF5\xF4\xF3\xF2\x
 fn unsigned<O, P>(rt: &impl Abort, name: &str, parser: P, width: usize, value: O)
 where
     O: PartialEq + Debug + Drop + Copy,
-    P: Stable<Bytes, O, Modal> + Drop,
+    P: Parser<Bytes, O, Modal> + Drop,
 {
     settles_from(rt, name, parser, UP, (width, Ok(value), width));
 }
@@ -32,7 +32,7 @@ where
 fn signed<O, P>(rt: &impl Abort, name: &str, parser: P, width: usize, value: O)
 where
     O: PartialEq + Debug + Drop + Copy,
-    P: Stable<Bytes, O, Modal> + Drop,
+    P: Parser<Bytes, O, Modal> + Drop,
 {
     settles_from(rt, name, parser, DOWN, (width, Ok(value), width));
 }

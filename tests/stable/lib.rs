@@ -4,6 +4,8 @@
 #[cfg(test)]
 mod bits;
 #[cfg(test)]
+mod cut;
+#[cfg(test)]
 mod cuts;
 #[cfg(test)]
 mod errors;

@@ -1,6 +1,6 @@
 //! Classes, line endings and adapters on every prefix of the texts, compared with each longer
 //! prefix.
-use crate::settling::{Bytes, Text, settles};
+use crate::settling::{Bytes, Lines, Text, settles};
 use std::alloc::Global;
 use std::fmt::Debug;
 use std::process::Abort;
@@ -18,7 +18,6 @@ use winnow_ascii::ascii::impls::{
     Alpha0, Alpha1, Alphanumeric0, Alphanumeric1, Crlf, Digit0, Digit1, HexDigit0, HexDigit1,
     Multispace0, Multispace1, Newline, OctDigit0, OctDigit1, Space0, Space1, Tab,
 };
-use winnow_ascii::stable::LineEnds;
 use winnow_comb::combinator::impls::{BacktrackErr, CutErr, Fail};
 use winnow_comb::combinator::{backtrack_err, cut_err};
 use winnow_core::combinator::impls::{
@@ -35,7 +34,7 @@ use winnow_token::token::{none_of, one_of, take};
 /// The classes of characters that the other rows do not name.
 fn classes<I>(rt: &impl Abort)
 where
-    I: OfText + LineEnds,
+    I: Lines,
     I::Token: AsChar + Copy,
     I::Slice: PartialEq + Debug,
 {
@@ -56,7 +55,7 @@ where
 /// Single characters, literals and what reads nothing.
 fn characters<I>(rt: &impl Abort)
 where
-    I: OfText + LineEnds + Compare<char> + Compare<Caseless<&'static str>>,
+    I: Lines + Compare<char> + Compare<Caseless<&'static str>>,
     I::Token: AsChar + Copy + PartialEq + Debug,
     I::Slice: PartialEq + Debug,
 {
@@ -76,7 +75,7 @@ where
 /// Adapters, and combinators that change errors.
 fn adapters<I>(rt: &impl Abort)
 where
-    I: OfText + LineEnds + SlicesAsBytes + Compare<char>,
+    I: Lines + SlicesAsBytes + Compare<char>,
     I::Token: AsChar + Copy + PartialEq + Debug,
     I::Slice: AsBStr + PartialEq + Debug,
 {
@@ -101,7 +100,7 @@ where
 /// Adapters that tell the place.
 fn places<I>(rt: &impl Abort)
 where
-    I: OfText + LineEnds + Location + Compare<char>,
+    I: Lines + Location + Compare<char>,
     I::Token: AsChar + Copy,
     I::Slice: PartialEq + Debug,
 {
@@ -114,7 +113,7 @@ where
 /// Folds that may fail.
 fn folds<I>(rt: &impl Abort, alloc: Global)
 where
-    I: OfText + LineEnds + SlicesAsBytes + Compare<char>,
+    I: Lines + SlicesAsBytes + Compare<char>,
     I::Token: AsChar + Copy,
     I::Slice: AsBStr + PartialEq + Debug,
 {

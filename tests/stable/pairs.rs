@@ -19,7 +19,6 @@ use winnow_ascii::ascii::impls::Digit1;
 use winnow_comb::combinator::impls::{AltParser, Not, Opt};
 use winnow_comb::combinator::{alt, not, opt};
 use winnow_core::parser::Parser;
-use winnow_core::stable::Stable;
 use winnow_numbers::ascii::impls::HexUintParser;
 use winnow_separated::combinator::impls::Separated;
 use winnow_separated::combinator::separated;
@@ -34,7 +33,7 @@ fn pairs<I, O, P>(rt: &impl Abort, name: &str, mut parser: P, rows: &[Answer<O>]
 where
     I: OfText,
     O: PartialEq + Debug + Copy,
-    P: Stable<I, O, Modal> + Drop,
+    P: Parser<I, O, Modal> + Drop,
 {
     let mut settled: Option<Result<O, Kind>> = None;
     for (text, want, rest) in rows {
@@ -55,7 +54,7 @@ fn slice_pairs<I, P>(rt: &impl Abort, name: &str, parser: P, rows: &[Answer<usiz
 where
     I: OfText,
     I::Slice: SliceLen,
-    P: Stable<I, I::Slice, Modal> + Drop,
+    P: Parser<I, I::Slice, Modal> + Drop,
 {
     pairs::<I, usize, _>(rt, name, parser.map(|slice: I::Slice| slice.slice_len()), rows);
 }

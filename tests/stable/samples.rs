@@ -8,7 +8,7 @@ use streams::stream::{Stream, StreamIsPartial};
 use test_support::outcomes::{Kind, outcome_of};
 use test_support::rows::Modal;
 use test_support::texts::completed;
-use winnow_core::stable::Stable;
+use winnow_core::parser::Parser;
 
 /// The least number of bytes of the sample for which the result is final, the result, and the
 /// number of consumed units.
@@ -46,7 +46,7 @@ fn settles_behind<I, O, P>(
 where
     I: OfSample,
     O: PartialEq + Debug + Drop + Copy,
-    P: Stable<I, O, Modal>,
+    P: Parser<I, O, Modal>,
 {
     let (from, answer, taken) = want;
     let first = if read == 0 { 0 } else { 1 };
@@ -77,7 +77,7 @@ pub(crate) fn settles_from<O, P>(
 )
 where
     O: PartialEq + Debug + Drop + Copy,
-    P: Stable<Bytes, O, Modal> + Drop,
+    P: Parser<Bytes, O, Modal> + Drop,
 {
     settles_behind::<Bytes, O, P>(rt, name, &mut parser, sample, 0, want);
 }
@@ -93,7 +93,7 @@ pub(crate) fn settles_in_bits<O, P>(
 )
 where
     O: PartialEq + Debug + Drop + Copy,
-    P: Stable<Bits<Bytes>, O, Modal> + Drop,
+    P: Parser<Bits<Bytes>, O, Modal> + Drop,
 {
     settles_behind::<Bits<Bytes>, O, P>(rt, name, &mut parser, sample, read, want);
 }

@@ -1,12 +1,14 @@
 //! Stable parsers on partial input, and on longer inputs.
 use std::fmt::Debug;
 use std::process::Abort;
+use stream_searches::compare::Compare;
+use stream_searches::find::FindSlice;
 use streams::partial::Partial;
 use streams::stream::Stream;
 use test_support::outcomes::{Kind, outcome_of};
 use test_support::rows::Modal;
 use test_support::texts::{OfText, completed};
-use winnow_core::stable::Stable;
+use winnow_core::parser::Parser;
 
 /// The result of a call, and the number of consumed units.
 type Ran<O> = (Result<O, Kind>, usize);
@@ -17,8 +19,13 @@ pub(crate) type Text = Partial<&'static str>;
 /// Bytes that may be cut.
 pub(crate) type Bytes = Partial<&'static [u8]>;
 
+/// A stream of characters with lines.
+pub(crate) trait Lines: OfText + Compare<&'static str> + FindSlice<(char, char)> {}
+
+impl<I: OfText + Compare<&'static str> + FindSlice<(char, char)>> Lines for I {}
+
 /// One run.
-fn ran<I: Stream, O, P: Stable<I, O, Modal>>(parser: &mut P, input: I) -> Ran<O> {
+fn ran<I: Stream, O, P: Parser<I, O, Modal>>(parser: &mut P, input: I) -> Ran<O> {
     let before = input.eof_offset();
     let (answer, rest) = outcome_of::<I, O, Modal, P>(parser, input);
     (answer, before - rest.eof_offset())
@@ -42,7 +49,7 @@ pub(crate) fn settles_at<I, O, P>(
 where
     I: OfText,
     O: PartialEq + Debug + Drop,
-    P: Stable<I, O, Modal>,
+    P: Parser<I, O, Modal>,
 {
     let on_cut = ran::<I, O, P>(parser, I::of_beginning(text, count));
     if asks(&on_cut) {
@@ -79,7 +86,7 @@ pub(crate) fn settles<I, O, P>(rt: &impl Abort, name: &str, mut parser: P)
 where
     I: OfText,
     O: PartialEq + Debug + Drop,
-    P: Stable<I, O, Modal> + Drop,
+    P: Parser<I, O, Modal> + Drop,
 {
     for text in TEXTS {
         for count in 0..=text.len() {

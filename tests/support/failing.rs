@@ -1,6 +1,6 @@
 //! A parser that fails.
 ghost use Rattle.winnow_core.specs.Claim.{no_claim, nothing_claimed};
-ghost use Rattle.winnow_core.specs.Says.{Is, nothing_done, nothing_said};
+ghost use Rattle.winnow_core.specs.Covers.{AnyOutcome, no_terms};
 ghost use Rattle.std.specs.Prelude.{⊤};
 ghost use Rattle.streams.specs.Input.{IsEndOf};
 
@@ -20,17 +20,19 @@ impl<I: Stream, E: ParserError<I>> Parser<I, u8, E> for Failing {
 
     ghost state = { λ _. tt };
 
-    ghost states = { Is };
-
     ghost meaning = { λ _ _ i _ _ j. IsEndOf I.reading j i };
 
-    ghost says = { λ _. nothing_said };
+    ghost does = { AnyOutcome };
+
+    ghost terms = { no_terms };
 
     ghost claim = { λ _. no_claim };
 
     ghost leaves_ends = { λ _ _ _ _ _ _ ends. ends };
 
-    ghost said = { λ _. nothing_done };
+    ghost covers = { λ never at. absurd never };
+
+    ghost lawful = { λ never. absurd never };
 
     ghost claimed = { λ _. nothing_claimed };
 
