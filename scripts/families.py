@@ -12,27 +12,24 @@ It generates:
 - in `winnow_comb`, those of choices between one to six branches, with their laws;
 - in `winnow_ascii`, the parsers of character classes;
 - in `winnow_integers` and `winnow_binary`, the parsers of integers;
-- the claims of all of these, and their impls of `Stable`;
-- the laws that each parser has the same meaning over a partial stream.
+- the claims and the definitions of all of these.
 
 It prints the crates whose files it writes.
 """
 from family.choices import write_choices
 from family.chosen import write_chosen
 from family.classes import write_classes
-from family.complete import CRATES_OF_PARSERS, write_complete
 from family.integers import write_integers
 from family.sequences import write_sequences
 from family.sets import write_sets
-from family.stable import write_stable
+
+CRATES_OF_PARSERS = "winnow_core winnow_comb winnow_ascii winnow_integers winnow_binary".split()
 
 if __name__ == "__main__":
     write_sets()
     write_sequences()
     write_choices()
     write_classes()
-    write_stable()
     write_integers()
     write_chosen()
-    write_complete()
     print("stream_sets grammars", *CRATES_OF_PARSERS)

@@ -17,7 +17,6 @@ import subprocess
 import sys
 
 sys.path.insert(0, str(pathlib.Path(__file__).resolve().parent))
-from family.complete import write_laws  # noqa: E402
 from new_beside import beside  # noqa: E402
 from new_names import fault_of_name, fault_of_place  # noqa: E402
 from new_reader import lay_reader  # noqa: E402
@@ -29,11 +28,13 @@ MODELS = {
     "combinator": ("opt", CRATES / "winnow_comb/src/combinator/basic.rt"),
 }
 NEXT = """Now change, in this order:
-  {spec}: the definition, `{kind}Runs`, a line per case
+  {spec}: the semantics, `{kind}Runs`, a line per case
   {file}: the clauses, the documentation and the body of `{name}`
-  {impls}: the struct `{kind}`, its impl of `Parser` with the claim, and its impl of `Stable`
-  {laws}: the lemmas: it leaves a suffix, is stable, and satisfies its claim (it is
-    deterministic, and parses by its grammar)
+  {does}: the definition `{kind}Does`, with its law
+  {covers}: the lemma `{name}_covered`: each run has an outcome of the definition
+  {impls}: the struct `{kind}`, and its impl of `Parser`: with the model's definition, law and
+    lemma until then, and with the claim
+  {laws}: the lemmas: it leaves a suffix, and satisfies its claim (it parses by its grammar)
   {test}: its results, with expected values from another source
   {edit}, `{name}_..`: a line of the code, and a wrong replacement
   {note}: a line for the release notes
@@ -58,6 +59,10 @@ def renamed(text, of, to):
     """Returns the model's text with the new names, in code and in code spans of comments. First it
     writes placeholders, since the new names may begin with the model's."""
     kind, new, name = camel(of.name), "\0", "\1"
+    # The model's definition, its law and its lemma stay.
+    kept = [f"parser_definitions.specs.{kind}.", f"{kind}Does", f"{of.name}_law", f"{of.name}_covered"]
+    for place, it in enumerate(kept):
+        text = text.replace(it, chr(2 + place))
     text = text.replace(f"Rattle.{of.crate.name}.specs.{kind}", f"Rattle.{to.crate.name}.specs.{new}")
     text = text.replace(f"specs.declared.{of.module}.impls.{of.name}.", f"specs.declared.{to.module}.impls.{name}.")
     text = text.replace(f"Rattle.{of.crate.name}.specs.declared", f"Rattle.{to.crate.name}.specs.declared")
@@ -75,7 +80,10 @@ def renamed(text, of, to):
             line = re.sub(rf"\b{kind}(?=[A-Z]|\b)", new, line)
             line = re.sub(rf"\b{of.name}(?=_|\b)", name, line)
         lines.append(line)
-    return "\n".join(lines).replace(new, camel(to.name)).replace(name, to.name)
+    text = "\n".join(lines).replace(new, camel(to.name)).replace(name, to.name)
+    for place, it in enumerate(kept):
+        text = text.replace(chr(2 + place), it)
+    return text
 
 
 def function(of):
@@ -173,12 +181,13 @@ def main(words):
     for path, text in more.items():
         path.parent.mkdir(parents=True, exist_ok=True)
         path.write_text(text, encoding="utf-8")
-    write_laws(to.crate.name)
     for crate in sorted({to.crate, *written()}):
         subprocess.run(["rt", "fmt"], cwd=crate, check=False, stdout=subprocess.DEVNULL)
     shown = {"file": to.file, "impls": to.impls, "spec": to.spec}
     shown |= dict(zip(("test", "edit", "note"), more))
     shown["laws"] = to.spec.with_suffix("") / "Laws.antt"
+    shown["does"] = CRATES / "parser_definitions/specs" / to.spec.name
+    shown["covers"] = to.crate / "specs/Covers.antt"
     shown = {key: path.relative_to(TOP) for key, path in shown.items()}
     print(NEXT.format(**shown, name=to.name, kind=camel(to.name)))
 

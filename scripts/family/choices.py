@@ -1,6 +1,5 @@
 """Choices between the members of a tuple, with their laws, in the crate `winnow_comb`."""
 from family.common import MOST, NUMBER, conjunction, documented, rust_tuple, upto, write
-from family.stable import choice_block
 
 
 def nested(of, n, pair):
@@ -37,16 +36,39 @@ def place(n, k):
     return ".1" * (k - 1) + (".0" if k < n else "")
 
 
-def of_branches(n, member, both=None):
-    """Returns the member `claim`, `claimed`, `says`, `said` or `states` of a choice between n branches."""
+def of_branches(n, member):
+    """Returns the member `claim` or `claimed` of a choice between n branches."""
     if n == 1:
         return "P1.%s" % member
     made = nested(
         lambda k: "(P%d.%s s%s)" % (k, member, place(n, k)),
         n,
-        lambda first, rest: "(%s %s %s)" % (both or "or_else_" + member, first, rest),
+        lambda first, rest: "(or_else_%s %s %s)" % (member, first, rest),
     )
     return "λ s. %s" % made[1:-1]
+
+
+def definition(n):
+    """Returns the definition of a choice between n branches, when it is lawful and stable, which
+    outputs are equal, and the proofs."""
+    if n == 1:
+        return ["    ghost %s = { P1.%s };\n" % (it, it) for it in ("does", "terms", "covers", "lawful")]
+
+    def chosen(name, part):
+        return nested(part, n, lambda first, rest: "(%s %s %s)" % (name, first, rest))[1:-1]
+
+    terms = ["    ghost terms = { record {"]
+    for it in ("premise", "stable"):
+        terms.append("      %s = %s;" % (it, nested(lambda k: "P%d.terms.%s" % (k, it), n, product)))
+    terms += ["      alike = %s;" % chosen("AlikeEither", lambda k: "P%d.terms.alike" % k), "    } };", ""]
+    covers = chosen("alt_covered", lambda k: "(P%d.covers is%s at)" % (k, place(n, k)))
+    lawful = chosen("alt_law", lambda k: "(P%d.lawful is%s)" % (k, place(n, k)))
+    return [
+        "    ghost does = { %s };\n" % chosen("AltDoes", lambda k: "P%d.does" % k),
+        "\n".join(terms),
+        "    ghost covers = { λ is at. %s };\n" % covers,
+        "    ghost lawful = { λ is. %s };\n" % lawful,
+    ]
 
 
 def choice_impl(n):
@@ -54,6 +76,7 @@ def choice_impl(n):
     meaning = "P1.meaning" if n == 1 else "λ form. %s" % choice_meaning(n)[1:-1]
     ends = "P1.leaves_ends" if n == 1 else "λ form. %s" % choice_ends(n)
     bounds = ", ".join("P%d: Parser<I, O, E>" % k for k in upto(n))
+    does, terms, covers, lawful = definition(n)
     lines = [
         "impl<I: Stream, O, E: ParserError<I>, %s> Alt<I, O, E> for %s {" % (bounds, rust_tuple(["P%d" % k for k in upto(n)])),
         "    ghost can_choose = { λ s. %s };" % conjunction(["P%d.can_parse s.%d" % (k, k - 1) for k in upto(n)]),
@@ -62,18 +85,16 @@ def choice_impl(n):
         "",
         "    ghost state = { λ s. %s };" % state,
         "",
-        "    ghost states = { %s };" % of_branches(n, "states", "Both"),
-        "",
         "    ghost meaning = { %s };" % meaning,
         "",
-        "    ghost says = { %s };" % of_branches(n, "says"),
-        "",
+        does,
+        terms,
         "    ghost claim = { %s };" % of_branches(n, "claim"),
         "",
         "    ghost leaves_ends = { %s };" % ends,
         "",
-        "    ghost said = { %s };" % of_branches(n, "said"),
-        "",
+        covers,
+        lawful,
         "    ghost claimed = { %s };" % of_branches(n, "claimed"),
         "",
         "    #[inline(always)]",
@@ -97,8 +118,9 @@ CHOICE_IMPLS = """//! Tuples as the branches of `alt`.
 ghost use Rattle.winnow_comb.specs.Alt.{{OrElse}};
 ghost use Rattle.winnow_comb.specs.Alt.Claim.{{or_else_claim, or_else_claimed}};
 ghost use Rattle.winnow_comb.specs.Alt.Laws.{{or_else_ends}};
-ghost use Rattle.winnow_comb.specs.Alt.Says.{{or_else_said, or_else_says}};
-ghost use Rattle.winnow_core.specs.Says.{{Both}};
+ghost use Rattle.winnow_comb.specs.Covers.{{alt_covered}};
+ghost use Rattle.parser_definitions.specs.Alt.{{AltDoes, alt_law}};
+ghost use Rattle.parser_definitions.specs.Equal.{{AlikeEither}};
 
 use crate::combinator::impls::alt::{{Alt, attempt}};
 use stream_errors::parser_error::ParserError;
@@ -107,22 +129,6 @@ use winnow_core::parser::Parser;
 
 {family}
 """
-
-CHOICE_BLOCKS = """//! Stability of `alt` over tuples.
-//!
-//! {head}
-ghost use Rattle.stream_errors.specs.Form.{{modal}};
-ghost use Rattle.winnow_comb.specs.Alt.Laws.{{or_else_grows}};
-ghost use Rattle.winnow_core.specs.Stable.Grows.{{grows, stays}};
-
-use crate::combinator::impls::alt::AltParser;
-use stream_errors::parser_error::ParserError;
-use streams::stream::Stream;
-use winnow_core::stable::Stable;
-
-{family}
-"""
-
 
 def law_run(n, k):
     """Returns the runs of branch k of n, between its states in the nested pairs."""
@@ -262,7 +268,6 @@ def write_choices():
     sizes = range(2, MOST + 1)
     impls = comb + "src/combinator/impls/alt/"
     write(impls + "tuples.rt", CHOICE_IMPLS, family="\n\n".join(choice_impl(n) for n in upto(MOST)))
-    write(impls + "stable.rt", CHOICE_BLOCKS, family="\n\n".join(choice_block(n) for n in upto(MOST)))
     # Proofs that the prover does not find: results after three branches that backtracked.
     for n in range(4, MOST + 1):
         answers = "\n\n".join(choice_answer(n, k) for k in range(4, n + 1))

@@ -2,7 +2,6 @@
 from family.common import camel, documented, write
 from family.integer_claims import chosen_claims
 from family.integers import FAILS, IMPORTS, WIDTHS, Integer
-from family.stable import integer_block
 
 CHOSEN = "crates/winnow_binary/"
 
@@ -62,15 +61,14 @@ CHOSEN_STRUCT = (
 //!
 //! {head}
 
+ghost use Rattle.std.specs.Prelude.{{◌≡◌, ⊤}};
+ghost use Rattle.parser_definitions.specs.Integer.{{IntegerDoes, integer_law}};
 ghost use Rattle.winnow_binary.specs.Chosen.{{ChosenRuns}};
+ghost use Rattle.winnow_integers.specs.Covers.{{integer_covered}};
 ghost use Rattle.winnow_integers.specs.Integer.{{{value}}};
 ghost use Rattle.winnow_integers.specs.Integer.Laws.{{integer_claim, integer_claimed}};
-ghost use Rattle.winnow_integers.specs.Integer.Laws.{{integer_leaves, integer_stays}};
-ghost use Rattle.winnow_integers.specs.Integer.Laws.{{some_bytes}};
-ghost use Rattle.winnow_integers.specs.Integer.Says.{{integer_said, integer_says}};
+ghost use Rattle.winnow_integers.specs.Integer.Laws.{{integer_leaves, some_bytes}};
 ghost use Rattle.winnow_integers.specs.declared.binary.endianness.Endianness.{{Endianness}};
-ghost use Rattle.winnow_core.specs.Says.{{Is}};
-ghost use Rattle.winnow_core.specs.Stable.Grows.{{leaf_stays}};
 
 use std::marker::PhantomData;
 """
@@ -95,17 +93,19 @@ impl<I: StreamIsPartial + ByteStream, E: ParserError<I>> Parser<I, {type}, E> fo
 
     ghost state = {{ λ s. s.endian }};
 
-    ghost states = {{ Is }};
-
     ghost meaning = {{ λ form. ChosenRuns {width} {value} I.reading form }};
 
-{says}
+{does}
+
+{terms}
 
 {claim}
 
 {ends}
 
-{said}
+{covers}
+
+{lawful}
 
 {claimed}
 
@@ -117,8 +117,6 @@ impl<I: StreamIsPartial + ByteStream, E: ParserError<I>> Parser<I, {type}, E> fo
         }}
     }}
 }}
-
-{stable}
 """
 )
 
@@ -149,7 +147,6 @@ def write_chosen():
         row, number = one.sample()
         kind = camel(name)
         text = "%s in a byte order that is an argument." % (one.words()[0].upper() + one.words()[1:])
-        stable = integer_block(one, kind + "<I, E>", "x", "(%s x)" % one.value)
-        parts = {"kind": kind, "own": kind + "<I, E>", "stable": stable}
+        parts = {"kind": kind, "own": kind + "<I, E>"}
         parts |= chosen_claims(one) | vars(one)
         write(CHOSEN + "src/binary/impls/%s.rt" % name, CHOSEN_STRUCT, about=text, name=name, row=row, number=number, **parts)

@@ -1,6 +1,5 @@
 """The parsers of ASCII character classes, in the crate `winnow_ascii`."""
 from family.common import camel, documented, write
-from family.stable import class_block
 
 CLASSES = [
     ("alpha", "ASCII letters", "a letter", "Letters", "IsAlpha", "ab", "1"),
@@ -95,23 +94,20 @@ def class_claims(is_member, least):
 CLASS_STRUCT = """//! {about}
 //!
 //! {head}
-ghost use Rattle.std.specs.Prelude.{{None, ⊤}};
+ghost use Rattle.std.specs.Prelude.{{⊤}};
 ghost use Rattle.stream_sets.specs.AsChar.{{{member}}};
-ghost use Rattle.stream_sets.specs.Range.{{from_to}};
+ghost use Rattle.parser_definitions.specs.Class.{{CharIsFunction, ClassDoes, class_law}};
+ghost use Rattle.parser_definitions.specs.Spelled.{{ShowSame}};
+ghost use Rattle.winnow_core.specs.Runs.{{Keeps}};
 ghost use Rattle.winnow_ascii.specs.Class.{{ClassRuns}};
 ghost use Rattle.winnow_ascii.specs.Class.Laws.{{class_claim, class_claimed, class_leaves{laws}}};
-ghost use Rattle.winnow_ascii.specs.Class.Says.{{class_said, class_says}};
-ghost use Rattle.winnow_core.specs.Runs.{{Keeps}};
-ghost use Rattle.winnow_core.specs.Says.{{Is}};
-ghost use Rattle.winnow_core.specs.Stable.Grows.{{leaf_stays}};
-ghost use Rattle.winnow_token.specs.TakeWhile.Laws.{{take_while_stays}};
+ghost use Rattle.winnow_ascii.specs.Covers.{{class_covered}};
 
 use crate::ascii::{call};
 use stream_errors::parser_error::ParserError;
 use stream_sets::as_char::AsChar;
 use streams::stream::StreamIsPartial;
 use winnow_core::parser::Parser;
-use winnow_core::stable::Stable;
 
 /// The parser [`{call}`](crate::ascii::{call}).
 ///
@@ -129,17 +125,19 @@ where
 
     ghost state = {{ λ _. tt }};
 
-    ghost states = {{ Is }};
-
     ghost meaning = {{ λ form. Keeps (λ _. ClassRuns {member} {least} I.Token.code I.seen_as I.reading form) }};
 
-    ghost says = {{ λ _. class_says {member} {least} I.Token.code I.seen_as I.reading }};
+    ghost does = {{ ClassDoes {member} {least} I.Token.code I.seen_as I.reading }};
+
+    ghost terms = {{ record {{ premise = CharIsFunction I.seen_as I.Token.code; stable = ⊤; alike = ShowSame I.reading }} }};
 
 {claim}
 
     ghost leaves_ends = {{ class_leaves {member} {least} I.Token.code I.seen_as I.reading }};
 
-    ghost said = {{ λ _. class_said {member} {least} I.Token.code I.seen_as I.reading }};
+    ghost covers = {{ λ _ at. class_covered {member} {least} I.Token.code I.seen_as I.reading }};
+
+    ghost lawful = {{ λ is. class_law {member} {least} I.Token.code I.seen_as I.reading is }};
 
 {claimed}
 
@@ -148,8 +146,6 @@ where
         {call}(input)
     }}
 }}
-
-{stable}
 """
 
 def write_classes():
@@ -165,7 +161,6 @@ def write_classes():
         call = "%s%d" % (name, least)
         about = "%s %s." % ("One or more" if least else "Zero or more", members)
         blocks = {
-            "stable": class_block(camel(call), least),
             "laws": ", one_is_some" if least else "",
             **class_claims(is_member, least),
         }

@@ -1,17 +1,19 @@
-"""The claims of the parsers of integers as bytes."""
+"""The definitions and claims of the parsers of integers as bytes."""
 
 
 def integer_claims(one, order, by, state):
-    """Returns what the parser of an integer in a byte order says and claims, with the proofs. `by`
-    computes its value from a state, and `state` is the state."""
+    """Returns the definition and the claim of the parser of an integer in a byte order, with the
+    proofs. `by` computes its value from a state, and `state` is the state."""
     value = "%d (%s %s)" % (one.width, one.value, order)
     laws = "%d %s I.reading" % (one.width, by)
     claimed = "integer_claimed %s %s (some_bytes %d)" % (laws, state, one.width - 1)
     return {
-        "says": "    ghost says = { λ s. integer_says %s };" % value,
+        "does": "    ghost does = { IntegerDoes %s };" % laws,
+        "terms": "    ghost terms = { record { premise = ⊤; stable = ⊤; alike = λ o p. o ≡ p } };",
         "claim": "    ghost claim = { λ s. integer_claim %s };" % value,
         "ends": "    ghost leaves_ends = { integer_leaves %s };" % laws,
-        "said": "    ghost said = { integer_said %s };" % laws,
+        "covers": "    ghost covers = { λ is at. integer_covered %s };" % laws,
+        "lawful": "    ghost lawful = { λ is. integer_law %s };" % laws,
         "claimed": "    ghost claimed = { λ s. %s };" % claimed,
     }
 

@@ -1,7 +1,6 @@
 """The parsers of integers as bytes, in the crate `winnow_integers`."""
 from family.common import camel, documented, write
 from family.integer_claims import fixed_claims
-from family.stable import integer_block
 
 FIXED = "crates/winnow_integers/"
 WIDTHS = {8: 1, 16: 2, 24: 3, 32: 4, 64: 8, 128: 16}
@@ -129,22 +128,20 @@ IMPORTS = """use stream_errors::parser_error::ParserError;
 use streams::byte_stream::ByteStream;
 use streams::stream::StreamIsPartial;
 use winnow_core::parser::Parser;
-use winnow_core::stable::Stable;
 """
 
 STRUCT = (
     """//! {about}
 //!
 //! {head}
-ghost use Rattle.std.specs.Prelude.{{⊤}};
+ghost use Rattle.std.specs.Prelude.{{◌≡◌, ⊤}};
+ghost use Rattle.parser_definitions.specs.Integer.{{IntegerDoes, integer_law}};
+ghost use Rattle.winnow_integers.specs.Covers.{{integer_covered}};
 ghost use Rattle.winnow_integers.specs.Integer.{{IntegerRuns, {value}}};
 ghost use Rattle.winnow_integers.specs.Integer.Laws.{{integer_claim, integer_claimed}};
-ghost use Rattle.winnow_integers.specs.Integer.Laws.{{integer_leaves, integer_stays, some_bytes}};
-ghost use Rattle.winnow_integers.specs.Integer.Says.{{integer_said, integer_says}};
+ghost use Rattle.winnow_integers.specs.Integer.Laws.{{integer_leaves, some_bytes}};
 ghost use Rattle.winnow_integers.specs.declared.binary.endianness.Endianness.TheVariants.{{{constructor}}};
 ghost use Rattle.winnow_core.specs.Runs.{{Keeps}};
-ghost use Rattle.winnow_core.specs.Says.{{Is}};
-ghost use Rattle.winnow_core.specs.Stable.Grows.{{leaf_stays}};
 
 use crate::binary::{name};
 """
@@ -164,17 +161,19 @@ impl<I: StreamIsPartial + ByteStream, E: ParserError<I>> Parser<I, {type}, E> fo
 
     ghost state = {{ λ _. tt }};
 
-    ghost states = {{ Is }};
-
     ghost meaning = {{ λ form. Keeps (λ _. IntegerRuns {width} ({value} {constructor}) I.reading form) }};
 
-{says}
+{does}
+
+{terms}
 
 {claim}
 
 {ends}
 
-{said}
+{covers}
+
+{lawful}
 
 {claimed}
 
@@ -183,8 +182,6 @@ impl<I: StreamIsPartial + ByteStream, E: ParserError<I>> Parser<I, {type}, E> fo
         {name}(input)
     }}
 }}
-
-{stable}
 """
 )
 
@@ -193,8 +190,6 @@ LAWS = """//! Laws of integers, each the contract of a function with an empty bo
 //!
 //! {head}
 ghost use Rattle.winnow_integers.specs.IntegerLaws.{{ReadsReversed}};
-
-pub mod complete;
 
 use crate::binary::impls::{{{structs}}};
 use stream_errors::parser_error::ParserError;
@@ -274,8 +269,7 @@ def write_fixed():
     for name, one in rows.items():
         row, number = one.sample()
         own = camel(name)
-        stable = integer_block(one, own, "_", "(%s %s)" % (one.value, one.constructor))
-        parts = {"own": own, "stable": stable}
+        parts = {"own": own}
         parts |= fixed_claims(one) | vars(one)
         text = about(one)[0].upper() + about(one)[1:] + "."
         write(FIXED + "src/binary/impls/%s.rt" % name, STRUCT, about=text, name=name, row=row, number=number, **parts)

@@ -1,4 +1,6 @@
 """Sequences: tuples of one to six parsers, in the crate `winnow_core`."""
+import re
+
 from family.common import MOST, NEVER_TAKES, ORDINAL
 from family.common import conjunction, record, rust_tuple, tuple_type, tuple_value, upto, write
 
@@ -82,24 +84,45 @@ ONE_CLAIMS = {
 }
 
 
-# The states of two to six members.
-STATES = ["Both", "Three", "Four", "Five", "Six"]
+# For one to six members: the equality of outputs, the lemma that calls are covered, and the law.
+ALIKE = ["AlikeOne", "AlikePairs", "AlikeTriples", "AlikeFour", "AlikeFive", "AlikeSix"]
+COVERED = ["sequence1_covered", "both_covered %s" % whole(2), "three_covered %s" % whole(3)] + ["sequence%d_covered" % n for n in (4, 5, 6)]
+LAW = ["sequence1_law", "pair_law"] + ["sequence%d_law" % n for n in (3, 4, 5, 6)]
 
 
-def states(n):
-    """Returns the states in which calls of a tuple of n parsers end."""
-    return "λ s t. P1.states s.0 t.0" if n == 1 else "λ s. %s %s" % (STATES[n - 2], spaced("(P#.states s.@)", n))
+def stable(n):
+    """Returns when a tuple of n is stable, in the form of its law."""
+    return conjunction(numbered("P#.terms.stable", n)) if n < 4 else "(%s) × P%d.terms.stable" % (stable(n - 1), n)
+
+
+def terms(premise, stable, alike):
+    lines = ["      %s = %s;" % it for it in {"premise": premise, "stable": stable, "alike": alike}.items()]
+    return "\n".join(["    ghost terms = { record {", *lines, "    } };"])
+
+
+def definition(n):
+    """Returns the ghost members of a tuple of n parsers for its definition."""
+    given = "is" if n == 1 else "is.@"
+    children = spaced("P#.does", n)
+    does = "BothDo %s %s" % (whole(2), children) if n == 2 else "SequenceDoes%d %s" % (n, children)
+    return {
+        "does": "    ghost does = { %s };" % does,
+        "terms": terms(conjunction(numbered("P#.terms.premise", n)), stable(n), "%s %s" % (ALIKE[n - 1], spaced("P#.terms.alike", n))),
+        "covers": "    ghost covers = { λ is at. %s %s };" % (COVERED[n - 1], spaced("(P#.covers %s at)" % given, n)),
+        "lawful": "    ghost lawful = { λ is. %s %s };" % (LAW[n - 1], spaced("(P#.lawful %s)" % given, n)),
+    }
 
 
 def laws(n):
     """Returns the ghost members of a tuple of n parsers that its meaning determines."""
-    name = "one" if n == 1 else "sequence%d" % n
-    says, said = ("%s_%s %s" % (name, it, spaced("(P#.%s s.@)" % it, n)) for it in ("says", "said"))
     ends = "sequence1_ends (P1.leaves_ends form)" if n == 1 else leaves_ends(n)
-    members = {"says": says, "claim": claim(n) if n > 1 else "", "leaves_ends": ends, "said": said, "claimed": claimed(n) if n > 1 else ""}
-    variable = {"leaves_ends": "form"}
-    texts = {it: "    ghost %s = { λ %s. %s };" % (it, variable.get(it, "s"), text) for it, text in members.items()}
-    return texts | (ONE_CLAIMS if n == 1 else {})
+    texts = {"leaves_ends": "    ghost leaves_ends = { λ form. %s };" % ends}
+    if n == 1:
+        texts |= ONE_CLAIMS
+    else:
+        texts |= {it: "    ghost %s = { λ s. %s };" % (it, text) for it, text in (("claim", claim(n)), ("claimed", claimed(n)))}
+    texts |= definition(n)
+    return [texts[it] for it in ("does", "terms", "claim", "leaves_ends", "covers", "lawful", "claimed")]
 
 
 def output_name(n, k):
@@ -120,11 +143,9 @@ def sequence_impl(n):
         "",
         "    ghost state = { λ s. %s };" % tuple_value(numbered("P#.state s.@", n)),
         "",
-        "    ghost states = { %s };" % states(n),
-        "",
         "    ghost meaning = { λ form. SequenceRuns%d %s };" % (n, spaced("(P#.meaning form)", n)),
         "",
-        *("%s\n" % member for member in laws(n).values()),
+        *("%s\n" % member for member in laws(n)),
         "    #[inline(always)]",
         "    fn parse_next(&mut self, input: &mut I) -> Result<%s, E> {" % outputs,
     ]
@@ -134,51 +155,55 @@ def sequence_impl(n):
     return "\n".join(lines)
 
 
-SEQUENCE_IMPLS = """//! Tuples as parsers: their members run in order, and the first error is returned unchanged.
+HEADER = """//! Tuples {which}as parsers: their members run in order, and the first error is returned unchanged.
 //!
-//! {head}
-ghost use Rattle.std.specs.Prelude.{{⊤}};
-ghost use Rattle.grammars.specs.Grammar.{{Made, Nothing}};
-ghost use Rattle.grammars.specs.Grammar.Tuples.{{join4, join5, join6}};
-ghost use Rattle.grammars.specs.Grammar.Unique.{{made_of_takes}};
-ghost use Rattle.winnow_core.specs.Ends.{{same_ends}};
-ghost use Rattle.winnow_core.specs.Exact.Allowed.{{backs}};
-ghost use Rattle.winnow_core.specs.Exact.Nothing.{{unit_exact, unit_fails}};
-ghost use Rattle.winnow_core.specs.InOrder.Claim.{{both_claim, both_claimed, claimed_by, three_claim, three_claimed}};
-ghost use Rattle.winnow_core.specs.InOrder.Exact.{{OneTuple, tuple1_exact, tuple1_fails}};
-ghost use Rattle.winnow_core.specs.InOrder.Laws.{{both_ends, ends_by, three_ends}};
-ghost use Rattle.winnow_core.specs.InOrder.Says.{{Three}};
-ghost use Rattle.winnow_core.specs.Says.{{Both, Is}};
-ghost use Rattle.winnow_core.specs.Sequence.{{{runs}}};
-ghost use Rattle.winnow_core.specs.Sequence.{{same4, same5, same6, split4, split5, split6}};
-ghost use Rattle.winnow_core.specs.Sequence.Says.{{Five, Four, Six}};
-ghost use Rattle.winnow_core.specs.Sequence.Says.{{{said}}};
-ghost use Rattle.winnow_core.specs.Sequence.Says.{{{says}}};
-ghost use Rattle.winnow_core.specs.Sequence.Small.{{one_said, one_says, sequence1_ends, unit_said, unit_says}};
-
-mod stable;
-
+//! {{head}}
+{imports}
+{mods}
 use crate::parser::Parser;
 use stream_errors::parser_error::ParserError;
 use streams::stream::Stream;
-
-/// Succeeds without consuming input.
+"""
+IMPORTS = {
+    "std.specs.Prelude": "⊤",
+    "grammars.specs.Grammar": "Made, Nothing",
+    "grammars.specs.Grammar.Tuples": "join4, join5, join6",
+    "grammars.specs.Grammar.Unique": "made_of_takes",
+    "parser_definitions.specs.Both": "BothDo, pair_law",
+    "parser_definitions.specs.Eof": "empty_law",
+    "parser_definitions.specs.Equal": "AlikePairs",
+    "parser_definitions.specs.Sequence": "AlikeOne, AlikeTriples, SequenceDoes0, SequenceDoes1, SequenceDoes3, sequence1_law, sequence3_law",
+    "parser_definitions.specs.Tuples": "AlikeFive, AlikeFour, AlikeSix, SequenceDoes4, SequenceDoes5, SequenceDoes6, sequence4_law, sequence5_law, sequence6_law",
+    "winnow_core.specs.Covers.Sequences": "both_covered, three_covered",
+    "winnow_core.specs.Covers.Tuples": ", ".join("sequence%d_covered" % n for n in range(MOST + 1) if n not in (2, 3)),
+    "winnow_core.specs.Ends": "same_ends",
+    "winnow_core.specs.Exact.Allowed": "backs",
+    "winnow_core.specs.Exact.Nothing": "unit_exact, unit_fails",
+    "winnow_core.specs.InOrder.Claim": "both_claim, both_claimed, claimed_by, three_claim, three_claimed",
+    "winnow_core.specs.InOrder.Exact": "OneTuple, tuple1_exact, tuple1_fails",
+    "winnow_core.specs.InOrder.Laws": "both_ends, ends_by, three_ends",
+    "winnow_core.specs.Sequence": ", ".join("SequenceRuns%d" % n for n in range(MOST + 1)) + ", same4, same5, same6, split4, split5, split6",
+    "winnow_core.specs.Sequence.Small": "sequence1_ends",
+}
+NOTHING = """/// Succeeds without consuming input.
 impl<I: Stream, E: ParserError<I>> Parser<I, (), E> for () {{
     ghost State = {{ ⊤ }};
 
     ghost state = {{ λ _. tt }};
 
-    ghost states = {{ Is }};
-
     ghost meaning = {{ λ _. SequenceRuns0 }};
 
-    ghost says = {{ λ _. unit_says }};
+    ghost does = {{ SequenceDoes0 }};
+
+{nothing_terms}
 
 {nothing_claim}
 
     ghost leaves_ends = {{ λ form s i answer t j r. same_ends I.reading i j r.1 }};
 
-    ghost said = {{ λ _. unit_said }};
+    ghost covers = {{ λ is at. sequence0_covered }};
+
+    ghost lawful = {{ λ is. empty_law }};
 
 {nothing_claimed}
 
@@ -187,9 +212,18 @@ impl<I: Stream, E: ParserError<I>> Parser<I, (), E> for () {{
         Ok(())
     }}
 }}
-
-{family}
 """
+LONG = 5
+
+
+def imports(body):
+    """Returns the imports of the names that the blocks use."""
+    lines = []
+    for module, names in IMPORTS.items():
+        used = [name for name in names.split(", ") if re.search(r"(?<!\w)%s(?!\w)" % name, body)]
+        if used:
+            lines.append("ghost use Rattle.%s.{{%s}};" % (module, ", ".join(used)))
+    return "\n".join(lines).replace("{", "{{").replace("}", "}}").replace("{{{{", "{{").replace("}}}}", "}}")
 
 
 def injected(case, cases, term):
@@ -252,27 +286,31 @@ def sequence_answers(n):
 
 SEQUENCE_ANSWERS = """-- {head}
 use Rattle.std.proofs.Common.{{rules, refl, inl, inr}}
-{ends}use Rattle.winnow_core.proofs.parser.tuples.Tuple{n}Parser.parse_next.Goals as goal
+{ends}use Rattle.winnow_core.proofs.parser.tuples.{long}Tuple{n}Parser.parse_next.Goals as goal
 
 {answers}
 """
 
 
+def write_blocks(path, which, mods, blocks):
+    header = HEADER.format(which=which, imports=imports(blocks), mods=mods)
+    write(path, header + "\n{blocks}", blocks=blocks)
+
+
 def write_sequences():
     core = "crates/winnow_core/"
-    every = upto(MOST)
-    write(
-        core + "src/parser/tuples.rt",
-        SEQUENCE_IMPLS,
-        runs=", ".join("SequenceRuns%d" % n for n in range(MOST + 1)),
-        said=", ".join("sequence%d_said" % n for n in every if n > 1),
-        says=", ".join("sequence%d_says" % n for n in every if n > 1),
+    nothing = NOTHING.format(
+        nothing_terms=terms("⊤", "⊤", "λ o p. ⊤"),
         nothing_claim=NOTHING_CLAIMS["claim"],
         nothing_claimed=NOTHING_CLAIMS["claimed"],
-        family="\n\n".join(sequence_impl(n) for n in every),
     )
-    for n in every:
+    short = [nothing] + [sequence_impl(n) + "\n" for n in upto(LONG - 1)]
+    write_blocks(core + "src/parser/tuples.rt", "", "\nmod long;\n", "\n".join(short))
+    long = [sequence_impl(n) + "\n" for n in range(LONG, MOST + 1)]
+    write_blocks(core + "src/parser/tuples/long.rt", "of five and six ", "", "\n".join(long))
+    for n in upto(MOST):
         chains = ", ".join(trans(k) for k in range(2, n + 1))
         ends = "use Rattle.streams.specs.Input.{%s}\n" % chains if chains else ""
-        path = core + "proofs/parser/tuples/Tuple%dParser/parse_next/Answers.antt" % n
-        write(path, SEQUENCE_ANSWERS, n=n, ends=ends, answers="\n\n".join(sequence_answers(n)))
+        folder = core + "proofs/parser/tuples/" + ("long/" if n >= LONG else "")
+        path = folder + "Tuple%dParser/parse_next/Answers.antt" % n
+        write(path, SEQUENCE_ANSWERS, n=n, long="long." if n >= LONG else "", ends=ends, answers="\n\n".join(sequence_answers(n)))

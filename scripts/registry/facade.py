@@ -6,10 +6,12 @@ from registry.common import CRATES, WIDTH, below_winnow, by_hand, has_mark, impo
 from registry.common import in_order, items_of, read, write
 
 FACADE = CRATES / "winnow"
-# The laws of one parser each, which a caller proves of its own composition in a line.
-OF_A_PARSER = "_over_a_complete_stream"
 # The names of parsers that are also those of types.
 TYPES = {"bool", "i8", "u8"}
+# The crate whose modules are exported as `NameDefinition` where a crate above has a module `Name`.
+DEFINITIONS = "parser_definitions"
+# The module of lemmas that each crate has: calls of its parsers have outcomes of their definitions.
+LEMMAS = "Covers"
 # The modules whose items are in other modules, with their paths.
 PLACES = {"error": ("stream_errors", "*"), "laws": ("", "laws/**/*")}
 
@@ -34,7 +36,7 @@ def write_module(path):
     lines = []
     for crate in sorted(below_winnow()):
         for name, file in modules_of(crate, module):
-            items = [it for it in items_of(file) if it not in known and not it.endswith(OF_A_PARSER)]
+            items = [it for it in items_of(file) if it not in known]
             if items:
                 lines.append(imports(f"{crate}::{name}", items))
     write(path, text + "".join(sorted(lines)))
@@ -60,18 +62,28 @@ def title(crate):
     return re.match(r".*?\.(?= |$)", about)[0]
 
 
+def specs_of(crate):
+    """The modules of a crate's specs."""
+    names = {it.stem for it in (CRATES / crate / "specs").glob("*.antt")}
+    return sorted(names - {"Lib", LEMMAS})
+
+
 def write_specs():
     """Writes the specs that clauses cite: each module of the crates' specs, except those that the
     handwritten part names."""
     path = FACADE / "specs/Lib.antt"
     text = by_hand(path, "--")
-    lines = []
-    for crate in below_winnow():
-        names = sorted(it.stem for it in (CRATES / crate / "specs").glob("*.antt"))
-        modules = [f"Rattle.{crate}.specs.{it}" for it in names if it != "Lib"]
-        modules = [it for it in modules if not re.search(rf"{re.escape(it)}(?![\w.])", text)]
+    lines, modules = [], {crate: specs_of(crate) for crate in below_winnow()}
+    others = {name for crate, names in modules.items() if crate != DEFINITIONS for name in names}
+    for crate, names in modules.items():
+        uses = []
+        for name in names:
+            module = f"Rattle.{crate}.specs.{name}"
+            if not re.search(rf"{re.escape(module)}(?![\w.])", text):
+                also = f" as {name}Definition" if crate == DEFINITIONS and name in others else ""
+                uses.append(f"pub use {module}{also}\n")
         about = textwrap.wrap(title(crate), WIDTH - 3)
-        lines += [f"-- {it}\n" for it in about if modules] + [f"pub use {it}\n" for it in modules]
+        lines += [f"-- {it}\n" for it in about if uses] + uses
     write(path, text + "".join(lines))
 
 

@@ -104,9 +104,7 @@ PAGES = [
         "AddContext FromExternalError OrNoMemory ErrorConvert ConvertInput FromRecoverableError",
     ),
     ("error_types", "Error types", "error", "*"),
-    ("stable", "Partial input", "stable", "*"),
     ("exact", "Functions as parsers with a grammar", "exact", "*"),
-    ("decided", "Final results", "decided", "*"),
     ("laws", "Laws of all parsers and streams", "laws", "@winnow_core"),
     ("laws_meanings", "Laws of compositions", "laws", "@winnow_laws"),
     (

@@ -1,5 +1,6 @@
 -- Takes of the characters of a class.
 use Rattle.std.specs.Prelude.{◌↔◌, ℕ, IsTrue, None}
+pub use Rattle.parser_definitions.specs.Class.{CharIsFunction, class_once}
 use Rattle.stream_sets.specs.Range.{from_to}
 use Rattle.streams.specs.Input.{Input}
 use Rattle.streams.specs.Reading.{Reading}
@@ -7,7 +8,6 @@ use Rattle.streams.specs.Stream.{AnswersSeen}
 use Rattle.stream_errors.specs.Form.{ErrorForm, Answer}
 use Rattle.winnow_token.specs.TakeWhile.{TakeWhileRuns}
 pub mod Laws
-pub mod Says
 
 -- A run of a take of the characters of a class, of at least `least` and with no greatest number.
 -- The tokens have the numbers `code`, and are seen by `seen`.

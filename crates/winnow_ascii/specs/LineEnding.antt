@@ -10,7 +10,6 @@ use Rattle.winnow_ascii.specs.Crlf.{CrlfRuns}
 pub mod Grammar
 pub mod Inversion
 pub mod Laws
-pub mod Says
 
 -- A run of the literal "\n", or, where that backtracks, of the literal "\r\n". A text stands for
 -- the lists that `spells` says.

@@ -1,5 +1,5 @@
 -- The semantics of `till_line_ending`.
-use Rattle.std.specs.Prelude.{◌≡◌, ℕ, List, [], ◌∷◌, None, Ok, Err, ◌⊎◌, length}
+use Rattle.std.specs.Prelude.{◌≡◌, ℕ, List, [], ◌∷◌, None, Ok, Err, ◌⊎◌}
 use Rattle.std.specs.Borrow.{Bor}
 use Rattle.streams.specs.Input.{Input, Takes}
 use Rattle.streams.specs.Kind.{Kind, backtrack}
@@ -12,7 +12,6 @@ use Rattle.winnow_core.specs.Short.{ShortKind}
 pub mod Exact
 pub mod Inversion
 pub mod Laws
-pub mod Says
 
 -- Takes a line: the input up to the first carriage return or line feed; or all remaining input, if
 -- neither occurs and the error for missing input is a backtrack.
@@ -61,12 +60,3 @@ TillLineEndingRuns {T} {S} spells sought reading form i answer j =
     × (StartsWithSpelling (spells both) j.left.tokens → ⊥) × (answer ≡ Err backtrack))
     -- no line is taken
     ⊎ ((k : Kind) × LacksLineEnd sought form i k j × (answer ≡ Err k)))))
-
--- The search for the two characters that end a line never matches an empty list.
-abbrev pub SeeksSome : {T : Type 0} → (ℕ × ℕ → List T → Type 0) → Type 0
-SeeksSome {T} sought = (xs : List T) → sought (13, 10) xs → xs ≡ [] → ⊥
-
--- A text that is one carriage return spells one token.
-abbrev pub SpellsOne : {T : Type 0} → (Bor (List ℕ) → List T → Type 0) → Type 0
-SpellsOne {T} spells =
-    (text : Bor (List ℕ)) (xs : List T) → text.now ≡ 13 ∷ [] → spells text xs → length xs ≡ 1

@@ -6,5 +6,3 @@
 #![tactic(auto)]
 
 pub mod ascii;
-pub mod laws;
-pub mod stable;

@@ -9,7 +9,6 @@ use Rattle.winnow_binary.specs.Length.{LengthRuns}
 use Rattle.winnow_core.specs.CompleteErr.{CompleteErrRuns}
 use Rattle.winnow_core.specs.Runs.{Runs}
 use Rattle.winnow_core.specs.Short.{ShortKind}
-pub mod Says
 pub mod Laws
 
 -- the tokens `taken` as a complete input at the same position

@@ -6,7 +6,6 @@ use Rattle.stream_sets.specs.Range.{from_to}
 use Rattle.winnow_binary.specs.Length.{LengthRuns}
 use Rattle.winnow_core.specs.Runs.{Runs}
 use Rattle.winnow_repeat.specs.Repeat.{RepeatManyRuns}
-pub mod Says
 pub mod Laws
 
 -- `n` items: a repetition of exactly `n` times.

@@ -5,7 +5,6 @@ use Rattle.stream_errors.specs.Form.{ErrorForm}
 use Rattle.winnow_binary.specs.Length.{LengthRuns}
 use Rattle.winnow_core.specs.Runs.{Keeps, Runs}
 use Rattle.winnow_token.specs.Take.{TakeRuns}
-pub mod Says
 pub mod Laws
 
 -- A call of the parser of the length, and a `take` of `n` tokens.

@@ -6,7 +6,6 @@ use Rattle.streams.specs.Reading.{Reading}
 use Rattle.stream_errors.specs.Form.{Answer, ErrorForm, assert_kind}
 use Rattle.winnow_core.specs.Short.{ShortKind}
 pub mod Laws
-pub mod Says
 
 -- A run of the parser of one bit.
 abbrev pub BitBoolRuns : {S : Type 0} → Reading Bool S → ErrorForm → Input Bool → Answer Bool

@@ -6,7 +6,6 @@ use Rattle.streams.specs.Reading.{Reading}
 use Rattle.stream_errors.specs.Form.{Answer, ErrorForm}
 use Rattle.winnow_bits.specs.BitTake.{BitTakeRuns}
 pub mod Laws
-pub mod Says
 
 -- A run of a take of n bits, as an output of `width` bits whose number is `number`, that must be
 -- the number `wanted`.

@@ -9,7 +9,6 @@ use Rattle.winnow_core.specs.Short.{ShortKind}
 use Rattle.winnow_bits.specs.declared.bits.impls.take.Take.{Take}
 pub mod Inversion
 pub mod Laws
-pub mod Says
 
 -- how many bits are taken
 abbrev pub bit_take_count : {I O E : Type 0} → Take I O E → ℕ

@@ -8,10 +8,10 @@ use Rattle.streams.specs.Reading.{Reading}
 use Rattle.stream_errors.specs.Form.{ErrorForm, assert_kind}
 use Rattle.stream_bits.specs.BitInput.{bits_input}
 use Rattle.winnow_core.specs.Runs.{Runs}
-use Rattle.winnow_bits.specs.Needs.{need_in_bytes, with_need}
+use Rattle.parser_definitions.specs.BitsOfBytes.{need_in_bytes}
+use Rattle.winnow_bits.specs.Needs.{with_need}
 pub mod Inversion
 pub mod Laws
-pub mod Says
 
 -- an input with the status of another
 abbrev pub with_status : {T V : Type 0} → Input T → Input V → Input T

@@ -10,9 +10,9 @@ use Rattle.stream_errors.specs.Form.{ErrorForm, assert_kind}
 use Rattle.stream_bits.specs.BitInput.{bits_input}
 use Rattle.stream_bits.specs.BitList.{bits_of}
 use Rattle.winnow_core.specs.Runs.{Runs}
-use Rattle.winnow_bits.specs.Needs.{need_in_bits, with_need}
+use Rattle.parser_definitions.specs.BytesOfBits.{need_in_bits}
+use Rattle.winnow_bits.specs.Needs.{with_need}
 pub mod Laws
-pub mod Says
 
 -- `k` is the input of the remaining whole bytes: the remaining bits of a partly consumed byte are
 -- skipped.

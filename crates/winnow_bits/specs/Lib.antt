@@ -5,7 +5,7 @@ pub mod BitPattern
 pub mod BitTake
 pub mod BitsOfBytes
 pub mod BytesOfBits
+pub mod Covers
 pub mod InParts
-pub mod LongerBits
+pub mod Longer
 pub mod Needs
-pub mod Unreadable

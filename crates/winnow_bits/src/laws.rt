@@ -1,8 +1,9 @@
 //! Laws of the parsers of bits, each proved by a function that does nothing.
+ghost use Rattle.std.specs.Prelude.{◌≡◌};
 ghost use Rattle.stream_bits.specs.BitReading.{bits_reading};
+ghost use Rattle.stream_errors.specs.Form.{modal};
 ghost use Rattle.winnow_bits.specs.BitLaws.{StaysOnError, TakesFirstBits};
-
-pub mod complete;
+ghost use Rattle.winnow_bits.specs.Longer.{BytesCounted, EachSameOnLongerBy, WholeBytesCounted};
 
 use crate::bits::BitOutput;
 use crate::bits::impls::{BitsParser, Bytes, Take};
@@ -33,6 +34,38 @@ pub fn bytes_resets_the_input_on_errors<
     F: ParserError<Bits<I>>,
 >()
     ensures { StaysOnError (⟦<Bytes<P, I, O, E, F> as Parser<Bits<I>, O, F>>⟧.meaning F.form) }
+{}
+
+/// A final result of [`bits`](crate::bits::bits) on partial input, around a stable parser, is also
+/// the result on every longer input of at most `usize::MAX / 8` bytes, whose bits can be counted,
+/// partial or complete, unless out of memory: an equal output or an error of the same kind, the
+/// same new state, and the rest followed by the added bytes.
+pub fn longer_inputs_get_partial_results_of_bits<
+    I: ByteStream + Copy,
+    P: Parser<Bits<I>, O, E>,
+    O: Drop,
+    E: ParserError<Bits<I>> + ErrorConvert<F>,
+    F: ParserError<I>,
+>()
+    ensures { F.form ≡ modal → P.terms.premise → P.terms.stable
+        → EachSameOnLongerBy BytesCounted
+        (⟦<BitsParser<P, I, O, E, F> as Parser<I, O, F>>⟧.meaning F.form) P.terms.alike }
+{}
+
+/// A final result of [`bytes`](crate::bits::bytes) on partial input, around a stable parser, is
+/// also the result on every longer input, partial or complete, unless out of memory, if the added
+/// bits are those of whole bytes, and all bits can be counted: an equal output or an error of the
+/// same kind, the same new state, and the rest followed by the added bits.
+pub fn longer_inputs_get_partial_results_of_bytes<
+    I: ByteStream + Copy,
+    P: Parser<I, O, E>,
+    O,
+    E: ParserError<I> + ErrorConvert<F>,
+    F: ParserError<Bits<I>>,
+>()
+    ensures { F.form ≡ modal → P.terms.premise → P.terms.stable
+        → EachSameOnLongerBy WholeBytesCounted
+        (⟦<Bytes<P, I, O, E, F> as Parser<Bits<I>, O, F>>⟧.meaning F.form) P.terms.alike }
 {}
 
 /// [`take`](crate::bits::take) returns the number of the first bits, as many as requested; these

@@ -8,7 +8,6 @@ pub mod Claim
 pub mod FirstOf
 pub mod Inversion
 pub mod Laws
-pub mod Says
 pub mod Slice
 
 -- the branches

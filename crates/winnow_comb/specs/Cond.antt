@@ -3,7 +3,6 @@ use Rattle.std.specs.Prelude.{◌≡◌, Bool, true, false, Option, Some, None, 
 use Rattle.streams.specs.Kind.{Kind}
 use Rattle.winnow_core.specs.Runs.{Runs}
 pub mod Laws
-pub mod Says
 
 -- A run of a child on a condition, which stays as it is.
 abbrev pub CondRuns : {S T O : Type 0} → Runs S T O → Runs (S × Bool) T (Option O)

@@ -4,7 +4,6 @@ use Rattle.streams.specs.Kind.{Kind}
 use Rattle.stream_errors.specs.Mode.{cut_of}
 use Rattle.winnow_core.specs.Runs.{Runs}
 pub mod Laws
-pub mod Says
 
 -- A run of a child whose errors cut where they backtracked.
 abbrev pub CutErrRuns : {S T O : Type 0} → Runs S T O → Runs S T O

@@ -4,7 +4,6 @@ use Rattle.streams.specs.Input.{Input}
 use Rattle.streams.specs.Kind.{backtrack}
 use Rattle.stream_errors.specs.Form.{Answer}
 pub mod Laws
-pub mod Says
 
 -- A call that backtracks without consuming input.
 abbrev pub FailRuns : {T O : Type 0} → Input T → Answer O → Input T → Type 0

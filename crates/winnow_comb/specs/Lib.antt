@@ -4,6 +4,7 @@ pub mod Attempt
 pub mod BacktrackErr
 pub mod ChoiceLaws
 pub mod Cond
+pub mod Covers
 pub mod CutErr
 pub mod Delimited
 pub mod Empty

@@ -2,7 +2,6 @@
 ghost use Rattle.winnow_comb.specs.Laws.{ResetsInput, GoesBackOnNone};
 
 pub mod choices;
-pub mod complete;
 pub mod items;
 
 use crate::combinator::impls::{Not, Opt, Peek};
@@ -10,12 +9,12 @@ use stream_errors::parser_error::ParserError;
 use streams::stream::Stream;
 use winnow_core::parser::Parser;
 
-/// [`peek`](crate::combinator::peek) resets the input, whatever it returns.
+/// [`peek`](crate::combinator::peek) resets the input, for every result.
 pub fn peek_resets_the_input<P: Parser<I, O, E>, I: Stream, O, E: ParserError<I>>()
     ensures { ResetsInput (⟦<Peek<P, I, O, E> as Parser<I, O, E>>⟧.meaning E.form) }
 {}
 
-/// [`not`](crate::combinator::not) resets the input, whatever it returns.
+/// [`not`](crate::combinator::not) resets the input, for every result.
 pub fn not_resets_the_input<P: Parser<I, O, E>, I: Stream, O: Drop, E: ParserError<I>>()
     ensures { ResetsInput (⟦<Not<P, I, O, E> as Parser<I, (), E>>⟧.meaning E.form) }
 {}

@@ -1,10 +1,9 @@
 -- An output that another parser reads.
-use Rattle.std.specs.Prelude.{false}
+use Rattle.std.specs.Prelude.{◌≡◌, false}
 use Rattle.streams.specs.Input.{Input}
 use Rattle.stream_errors.specs.Form.{Answer}
 use Rattle.winnow_core.specs.Settles.{Settles}
 use Rattle.winnow_core.specs.Runs.{Runs}
-pub mod Says
 
 -- an input to which no more comes
 abbrev pub completed : {T : Type 0} → Input T → Input T
@@ -21,3 +20,7 @@ AndThenSettles {W} {V} {O} {U} view inner g o answer h =
 abbrev pub AndThenRuns : {S W T V O U : Type 0} → (O → Input V) → Runs S T O → Runs W V U
     → Runs (S × W) T U
 AndThenRuns view run inner = Settles (AndThenSettles view inner) run
+
+-- Equal outputs are the same input.
+abbrev pub OneInput : {V O : Type 0} → (O → Input V) → (O → O → Type 0) → Type 0
+OneInput {O = O} view alike = (o p : O) → alike o p → view o ≡ view p

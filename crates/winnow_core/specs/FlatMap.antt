@@ -4,7 +4,6 @@ use Rattle.streams.specs.Input.{Input}
 use Rattle.streams.specs.Kind.{Kind}
 use Rattle.winnow_core.specs.Runs.{Runs}
 pub mod Laws
-pub mod Says
 
 -- each parser that the closure makes, in whatever state, may be run
 abbrev pub MakesParsers : {G O H : Type 0} → (G → O → H → G → Type 0) → (H → Type 0) → Type 0

@@ -4,11 +4,9 @@ use Rattle.streams.specs.Input.{Input}
 use Rattle.streams.specs.Kind.{Kind}
 use Rattle.winnow_core.specs.Runs.{Runs}
 pub mod Claim
-pub mod Decided
 pub mod Exact
 pub mod Inversion
 pub mod Laws
-pub mod Says
 pub mod Three
 
 -- A run of two children, the second where the first ended, to the first failure.

@@ -4,7 +4,6 @@ use Rattle.streams.specs.Kind.{Kind}
 use Rattle.winnow_core.specs.Runs.{Runs}
 pub mod Inversion
 pub mod Laws
-pub mod Says
 
 -- A call of the child. If it fails, `becomes` changes the kind, and the input is unchanged.
 -- `becomes` may have a state.

@@ -3,7 +3,6 @@ use Rattle.std.specs.Prelude.{◌≡◌, Ok, Err, ◌⊎◌}
 use Rattle.streams.specs.Kind.{Kind}
 use Rattle.winnow_core.specs.Runs.{Runs}
 pub mod Laws
-pub mod Says
 
 -- A run of the child, and one of the closure on its output.
 abbrev pub MapRuns : {S G T O U : Type 0} → Runs S T O → (G → O → U → G → Type 0) → Runs (S × G) T U

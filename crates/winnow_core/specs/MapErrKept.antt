@@ -1,12 +1,9 @@
 -- An error made of another of its kind by a closure.
 use Rattle.std.specs.Prelude.{◌≡◌}
-use Rattle.std.proofs.Common.{subst}
 use Rattle.streams.specs.Kind.{Kind}
 use Rattle.winnow_core.specs.MakesError.{MakesError}
-use Rattle.winnow_core.specs.MakesError.Laws.{KeepsFinal}
 use Rattle.winnow_core.specs.MapErr.{MapErrBecomes}
 use Rattle.winnow_core.specs.Runs.{Runs}
-use Rattle.winnow_core.specs.Stable.{IsFinalKind}
 
 -- Each call of the closure makes of an error one of its kind.
 abbrev pub KeepsEachKind : {G E D : Type 0} → (E → Kind) → (D → Kind) → (G → E → D → G → Type 0)
@@ -27,8 +24,8 @@ abbrev pub MapErrKeptRuns : {S G T O E D : Type 0} → (E → Kind) → (D → K
 MapErrKeptRuns kind new_kind step run =
     MakesError (MapErrKeptBecomes kind new_kind step) run
 
--- what stays of a kind is final where that was
-pub map_err_kept_keeps : {G E D : Type 0} (kind : E → Kind) (new_kind : D → Kind)
-    (step : G → E → D → G → Type 0) → KeepsFinal (MapErrKeptBecomes kind new_kind step)
-map_err_kept_keeps kind new_kind step g k l h (became, same) final =
-    subst IsFinalKind same final
+-- For errors of one kind in one state the closure has one next state.
+abbrev pub OneNext : {G E D : Type 0} → (E → Kind) → (G → E → D → G → Type 0) → Type 0
+OneNext {G} {E} {D} kind step =
+    (f : G) (old also : E) (new other : D) (g h : G) → kind old ≡ kind also → step f old new g
+    → step f also other h → g ≡ h

@@ -4,7 +4,6 @@ use Rattle.streams.specs.Kind.{backtrack}
 use Rattle.stream_errors.specs.Form.{Answer}
 use Rattle.winnow_core.specs.Settles.{Settles}
 use Rattle.winnow_core.specs.Runs.{Runs}
-pub mod Says
 
 -- Converts the output by `reads`, and backtracks if that is `None`.
 abbrev pub ParseToSettles : {O U : Type 0} → (O → Option U → Type 0) → Unit {0} → O → Answer U

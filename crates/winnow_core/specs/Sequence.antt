@@ -7,7 +7,6 @@ use Rattle.streams.specs.Kind.{Kind}
 use Rattle.winnow_core.specs.InOrder.{BothRuns, ThreeRuns}
 use Rattle.winnow_core.specs.Runs.{By, Runs}
 pub mod Inversion
-pub mod Says
 pub mod Small
 
 -- The runs of an empty sequence, which consumes no input.

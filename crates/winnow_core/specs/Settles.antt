@@ -6,7 +6,6 @@ use Rattle.stream_errors.specs.Form.{Answer}
 use Rattle.winnow_core.specs.Runs.{Runs}
 pub mod Inversion
 pub mod Laws
-pub mod Says
 
 -- A call of the child, and the result of `settle` for its output: an output, or an error of some
 -- kind with the input reset. `settle` may have a state.

@@ -5,7 +5,6 @@ use Rattle.streams.specs.Reading.{Reading}
 use Rattle.winnow_core.specs.Runs.{Runs}
 use Rattle.winnow_core.specs.declared.combinator.impls.take.Take.{Take}
 pub mod Laws
-pub mod Says
 
 -- the parser whose slice is returned
 abbrev pub take_parser : {F I O E : Type 0} → Take F I O E → F

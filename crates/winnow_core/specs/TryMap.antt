@@ -6,7 +6,6 @@ use Rattle.stream_errors.specs.Given.{Keeping, KindGiven}
 use Rattle.winnow_core.specs.Settles.{Settles}
 use Rattle.winnow_core.specs.Runs.{Runs}
 pub mod Inversion
-pub mod Says
 
 -- One call of the closure settles an output; where it fails, the error is the one that is made of
 -- the closure's: it backtracks, or is out of memory, each where the type of errors says that it

@@ -4,7 +4,6 @@ use Rattle.streams.specs.Kind.{Kind, memory}
 use Rattle.winnow_core.specs.Runs.{Runs}
 use Rattle.winnow_core.specs.declared.combinator.impls.value.Value.{Value}
 pub mod Laws
-pub mod Says
 
 -- the parser whose output is replaced
 abbrev pub value_parser : {F I O U E : Type 0} → Value F I O U E → F
@@ -25,3 +24,7 @@ ValueRuns {S} {T} {O} {U} IsClone ClonesAlways run s i answer t j =
     × (answer ≡ Err memory))
     -- the child fails, and nothing is cloned
     ⊎ ((k : Kind) × run s.0 i (Err k) t.0 j × (t.1 ≡ s.1) × (answer ≡ Err k)))
+
+-- Clones of one value.
+abbrev pub AlikeClones : {U : Type 0} → (U → U → Type 0) → U → U → Type 0
+AlikeClones {U} IsClone u v = (value : U) × IsClone value u × IsClone value v

@@ -4,7 +4,6 @@ use Rattle.streams.specs.Kind.{backtrack}
 use Rattle.stream_errors.specs.Form.{Answer}
 use Rattle.winnow_core.specs.Settles.{Settles}
 use Rattle.winnow_core.specs.Runs.{Runs}
-pub mod Says
 
 -- One call of the closure settles an output: found true it stays, and found false it backtracks.
 abbrev pub VerifySettles : {G O : Type 0} → (G → O → Bool → G → Type 0) → G → O → Answer O → G

@@ -4,7 +4,6 @@ use Rattle.streams.specs.Input.{Input, back_at}
 use Rattle.streams.specs.Kind.{Kind, backtrack}
 use Rattle.winnow_core.specs.Runs.{Runs}
 pub mod Laws
-pub mod Says
 
 -- A run of the child, and one of the closure on its output.
 abbrev pub VerifyMapRuns : {S G T O U : Type 0} → Runs S T O → (G → O → Option U → G → Type 0)

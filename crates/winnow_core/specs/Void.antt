@@ -4,7 +4,6 @@ use Rattle.streams.specs.Kind.{Kind}
 use Rattle.winnow_core.specs.Runs.{Runs}
 pub mod Inversion
 pub mod Laws
-pub mod Says
 
 -- A run of the child.
 abbrev pub VoidRuns : {S T O : Type 0} → Runs S T O → Runs S T (Unit {0})

@@ -4,7 +4,6 @@ use Rattle.std.specs.declared.ops.Range.{Range}
 use Rattle.winnow_core.specs.MakesOutput.{MakesOutput}
 use Rattle.winnow_core.specs.Runs.{Runs}
 use Rattle.winnow_core.specs.Span.{places}
-pub mod Says
 
 -- The output is the child's, and where it began and ended.
 abbrev pub WithSpanRuns : {S T O : Type 0} → Runs S T O → Runs S T (O × Range ℕ)

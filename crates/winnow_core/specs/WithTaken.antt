@@ -4,7 +4,6 @@ use Rattle.streams.specs.Reading.{Reading}
 use Rattle.winnow_core.specs.MakesOutput.{MakesOutput}
 use Rattle.winnow_core.specs.Runs.{Runs}
 pub mod Laws
-pub mod Says
 
 -- The output is the child's, and a slice of the tokens between its start and its end.
 abbrev pub WithTakenRuns : {S T L O : Type 0} → Reading T L → Runs S T O → Runs S T (O × L)

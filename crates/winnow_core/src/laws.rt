@@ -1,23 +1,17 @@
 //! Laws of the parsers, for those that build on them.
-ghost use Rattle.std.specs.Prelude.{◌≡◌, List, [], ◌∷◌};
+ghost use Rattle.std.specs.Prelude.{List, []};
 ghost use Rattle.std.specs.Str.{chars};
 ghost use Rattle.stream_errors.specs.Form.{modal};
-ghost use Rattle.winnow_core.specs.Laws.{SameRunsAlong, GoesBackOnFailure, ShowsOne};
+ghost use Rattle.winnow_core.specs.Laws.{GoesBackOnFailure, ShowsOne};
 ghost use Rattle.winnow_core.specs.Laws.{TakesFromTheFront};
+ghost use Rattle.winnow_core.specs.Longer.{EachSameOnLonger};
 ghost use Rattle.winnow_core.specs.Runs.{LeaveEnds};
-ghost use Rattle.winnow_core.specs.SameMeaning.{SameMeaning};
-ghost use Rattle.winnow_core.specs.Stable.{EachSettlesOnCut, IsStable};
-
-pub mod complete;
-pub mod complete_values;
 
 use crate::combinator::impls::{AndThen, Eof, ParseTo, Take, TryMap, Verify, VerifyMap, WithTaken};
 use crate::parser::Parser;
-use crate::stable::Stable;
 use stream_errors::external::FromExternalError;
 use stream_errors::parser_error::ParserError;
 use stream_sets::parse_slice::ParseSlice;
-use streams::partial::Partial;
 use streams::stream::{Stream, StreamIsPartial};
 use streams::token_slice::TokenSlice as Tokens;
 
@@ -93,22 +87,6 @@ pub fn and_then_resets_the_input<
 >()
     ensures { GoesBackOnFailure (λ s. s.0) (P.meaning E.form)
         (⟦<AndThen<P, G, I, O, O2, E> as Parser<I, O2, E>>⟧.meaning E.form) }
-{}
-
-/// If a parser over a partial stream has the semantics of another over the plain stream, both give
-/// the same results, for instance on a partial stream that is marked complete. The laws of
-/// [`complete`](crate::laws::complete) and similar modules prove the premise for every parser of
-/// the library.
-pub fn complete_streams_give_plain_results<
-    P: Parser<I, O, E>,
-    Q: Parser<Partial<I>, O, F>,
-    I: Stream,
-    O,
-    E: ParserError<I>,
-    F: ParserError<Partial<I>>,
->()
-    ensures { (along : P.State → Q.State) → SameMeaning along P.meaning Q.meaning → E.form ≡ F.form
-        → SameRunsAlong along (P.meaning E.form) (Q.meaning F.form) }
 {}
 
 /// Over bytes, the slice that [`take`](crate::parser::Parser::take) returns, followed by the rest,
@@ -214,16 +192,10 @@ pub fn the_slice_with_the_output_and_the_rest_are_the_input<
         (⟦<WithTaken<P, I, O, E> as Parser<I, (O, I::Slice), E>>⟧.meaning E.form) }
 {}
 
-/// On partial input a stable parser returns `Incomplete`, is out of memory, or has a result that
-/// every longer input has too. That it gets no other is `longer_inputs_get_partial_results`.
-pub fn longer_inputs_have_partial_results<P: Stable<I, O, E>, I: Stream, O, E: ParserError<I>>()
-    ensures { E.form ≡ modal → EachSettlesOnCut I.following (P.meaning E.form) }
-{}
-
-/// [`Eof`](crate::combinator::impls::Eof) is not stable, and cannot implement `Stable`: it matches
-/// at the end of partial input, but not if a token follows.
+/// [`Eof`](crate::combinator::impls::Eof) is not stable: it matches at the end of partial input,
+/// but not if a token follows.
 pub fn eof_is_not_stable<I: Stream, E: ParserError<I>>()
     ensures { (slice : I.Slice) (x : I.Seen) → I.reading.shows slice []
-        → I.following.can_follow [] (x ∷ [])
-        → IsStable I.following (⟦<Eof as Parser<I, I::Slice, E>>⟧.meaning modal) → ⊥ }
+        → EachSameOnLonger (⟦<Eof as Parser<I, I::Slice, E>>⟧.meaning modal)
+        ⟦<Eof as Parser<I, I::Slice, E>>⟧.terms.alike → ⊥ }
 {}

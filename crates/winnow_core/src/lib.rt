@@ -10,6 +10,5 @@ pub mod laws;
 pub mod literal;
 pub mod parser;
 pub mod short;
-pub mod stable;
 
 pub use crate::parser::Parser;

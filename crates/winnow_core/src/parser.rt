@@ -1,21 +1,24 @@
 //! The `Parser` trait.
 #![tactic(auto, using(streams::specs::Ends::ends_follow))]
 
-ghost use Rattle.std.specs.Prelude.{⊤, ◌≡◌, false, IfErr};
-ghost use Rattle.stream_errors.specs.Form.{ErrorForm, answer_by};
+ghost use Rattle.std.specs.Prelude.{⊤, ◌≡◌, true, false, IfErr};
+ghost use Rattle.stream_errors.specs.Form.{ErrorForm, answer_by, modal};
 ghost use Rattle.streams.specs.Input.{IsEndOf};
+ghost use Rattle.parser_definitions.specs.Does.{Gets, Lawful, Terms};
+ghost use Rattle.parser_definitions.specs.Left.{left_of};
+ghost use Rattle.parser_definitions.specs.Outcome.{Does, Setting, outcome_of};
 ghost use Rattle.winnow_core.specs.ByRef.{by_ref_name, by_ref_parser};
 ghost use Rattle.winnow_core.specs.Claim.{Claim, Claimed};
+ghost use Rattle.winnow_core.specs.Covers.{Covers};
 ghost use Rattle.winnow_core.specs.Exact.{IsSpared, Reads};
 ghost use Rattle.winnow_core.specs.Exact.Whole.{IsWant, ReadsAll};
-ghost use Rattle.winnow_core.specs.Outcome.{outcome_of};
+ghost use Rattle.winnow_core.specs.Longer.{SameOnLonger};
 ghost use Rattle.winnow_core.specs.Parse.{ParsesWhole};
 ghost use Rattle.winnow_core.specs.ParseIter.{IsReached, parse_iter_name, parse_iter_parser};
 ghost use Rattle.winnow_core.specs.ParseIter.{parse_iter_standing, reads};
 ghost use Rattle.winnow_core.specs.ParsePeek.{PeekAnswers};
 ghost use Rattle.winnow_core.specs.Runs.{LeaveEnds, Meaning};
-ghost use Rattle.winnow_core.specs.Says.{SaidAmong, Says, Tells};
-ghost use Rattle.winnow_core.specs.Says.Whole.{TellsAll};
+ghost use Rattle.winnow_core.specs.Tells.{Tells, TellsAll};
 ghost use Rattle.winnow_core.specs.Take.{take_parser};
 ghost use Rattle.winnow_core.specs.Value.{value_kept, value_parser};
 
@@ -26,8 +29,8 @@ mod tuples;
 
 use crate::combinator::impls::{
     AndThen, ByRef, CompleteErr, Context, ContextWith, DefaultValue, ErrInto, FlatMap, Map, MapErr,
-    OutputInto, ParseIter, ParseTo, Span, Take, TryMap, Value, Verify, VerifyMap, Void, WithSpan,
-    WithTaken,
+    MapErrKept, OutputInto, ParseIter, ParseTo, Span, Take, TryMap, Value, Verify, VerifyMap, Void,
+    WithSpan, WithTaken,
 };
 pub use crate::parser::func::{Func, FuncWith};
 pub use crate::parser::modal::ModalParser;
@@ -59,15 +62,17 @@ pub trait Parser<I: Stream, O, E: ParserError<I>>: Sized {
     // The current state of a parser.
     ghost state: { Self → State };
 
-    // The states in which calls from a state end. `Is` is that state alone.
-    ghost states: { State → State → Type 0 };
-
     // The parser's semantics: for each form of errors, a relation between a state, an input, a
     // result, the new state and the remaining input.
     ghost meaning: { Meaning State I.Seen O };
 
-    // The parser's specified outcomes, for a state. `nothing_said` specifies nothing.
-    ghost says: { State → Says I.Seen O };
+    // The parser's definition: its outcomes for a state and an input. `AnyOutcome` specifies
+    // nothing.
+    ghost does: { Does State I.Seen O };
+
+    // When the definition is lawful, when it is stable, and which outputs are equal. `no_terms`:
+    // never.
+    ghost terms: { Terms O };
 
     // The parser's specification by a grammar, for a state. `no_claim` specifies nothing.
     ghost claim: { State → Claim I.Seen O };
@@ -119,25 +124,23 @@ pub trait Parser<I: Stream, O, E: ParserError<I>>: Sized {
         }
     }
 
-    /// Like [`parse_next`](Parser::parse_next), with a contract in terms of the parser's specified
-    /// outcomes.
+    /// Like [`parse_next`](Parser::parse_next), with a contract in terms of the parser's
+    /// definition.
     ///
-    /// The outcome is the output and the rest, the kind of the error and the input after it, or the
-    /// need. It is the only outcome for these tokens. On partial input, if the parser is stable,
-    /// every longer input has the same outcome.
+    /// The call has an outcome of the definition: the output and the rest, the kind of the error
+    /// and the input after it, or the need; and the parser's new state. It is the only outcome for
+    /// this state and input.
     ///
     /// Requires the parser's precondition (`premise`).
     #[inline(always)]
     final fn read_outcome(&mut self, input: &mut I) -> Result<O, E>
         requires callable { can_parse self.old }
-        requires premise { (says (state self.old)).premise }
+        requires premise { terms.premise }
         ensures again { can_parse self.new }
         ensures ran { meaning E.form (state self.old) (I.view input.old)
             (answer_by E.kind result) (state self.new) (I.view input.new) }
-        ensures ends { IsEndOf I.reading (I.view input.new) (I.view input.old) }
-        ensures kept { (says (state self.old)).keeps → state self.new ≡ state self.old }
-        ensures tells { Tells (says (state self.old)) E.form (I.view input.old)
-            (outcome_of (answer_by E.kind result) (I.view input.new).left.tokens) }
+        ensures tells { Tells I.reading terms.alike does E.form (state self.old)
+            (I.view input.old) (answer_by E.kind result) (state self.new) (I.view input.new) }
     {
         Self::parse_next(self, input)
     }
@@ -153,16 +156,47 @@ pub trait Parser<I: Stream, O, E: ParserError<I>>: Sized {
         I: StreamIsPartial,
         O: Drop,
         requires callable { can_parse self.old }
-        requires premise { (says (state self.old)).premise }
+        requires premise { terms.premise }
         requires whole { I.supports_partial ≡ false }
         ensures again { can_parse self.new }
         ensures ran { ParsesWhole I.view I.reading.units E.inner_kind (I.view input).left
             (λ answer j. meaning E.form (state self.old) (I.view input) answer
             (state self.new) j) result }
-        ensures tells { TellsAll I.reading.units E.inner_kind (says (state self.old)) E.form
-            (I.view input) result }
+        ensures tells { TellsAll I.reading.units E.inner_kind terms.alike does E.form
+            (state self.old) (I.view input) (state self.new) result }
     {
         self.parse(input)
+    }
+
+    /// Like [`parse_next`](Parser::parse_next) on partial input, for a stable parser.
+    ///
+    /// If the result is neither `Incomplete` nor out of memory, every longer input, partial or
+    /// complete, has an equal result (`alike`), after which the parser has the same state and the
+    /// rest is followed by the added tokens. Requires errors with a mode, partial input that can be
+    /// read, and the parser's precondition (`premise`).
+    ///
+    /// ```
+    /// let mut input = Partial::new("12;");
+    /// assert_eq!(rt; Digit1.parse_cut(&mut input), Ok::<_, ErrMode<EmptyError>>("12"));
+    /// assert_eq!(rt; *input.as_inner(), ";");
+    /// ```
+    #[inline(always)]
+    final fn parse_cut(&mut self, input: &mut I) -> Result<O, E>
+        requires callable { can_parse self.old }
+        requires premise { terms.premise }
+        requires stable { terms.stable }
+        requires modal { E.form ≡ modal }
+        requires is_cut { (I.view input.old).status.cut ≡ true }
+        requires readable { (I.view input.old).left.possible ≡ true }
+        ensures again { can_parse self.new }
+        ensures ran { meaning E.form (state self.old) (I.view input.old)
+            (answer_by E.kind result) (state self.new) (I.view input.new) }
+        ensures gets { Gets terms.alike does (state self.old) (left_of (I.view input.old))
+            (outcome_of (answer_by E.kind result) (state self.new, left_of (I.view input.new))) }
+        ensures same { SameOnLonger (meaning E.form) terms.alike (state self.old)
+            (I.view input.old) (answer_by E.kind result) (state self.new) (I.view input.new) }
+    {
+        self.read_outcome(input)
     }
 
     /// Like [`parse_next`](Parser::parse_next), with a contract in terms of the parser's grammar.
@@ -485,6 +519,24 @@ pub trait Parser<I: Stream, O, E: ParserError<I>>: Sized {
         MapErr::new(self, map)
     }
 
+    /// Applies `map` to errors. The input is not reset. To call the parser, `map` must keep the
+    /// kind of every error, and both error types must have a mode or neither.
+    ///
+    /// ```
+    /// let mut digits = Digit1.map_err_kept(|error: ErrMode<EmptyError>| error);
+    /// let mut input = Partial::new("12;");
+    /// assert_eq!(rt; digits.parse_next(&mut input), Ok::<_, ErrMode<EmptyError>>("12"));
+    /// ```
+    #[inline(always)]
+    final fn map_err_kept<G, E2>(self, map: G) -> MapErrKept<Self, G, I, O, E, E2>
+    where
+        G: FnMut(E) -> E2,
+        ensures parser { result.parser ≡ self }
+        ensures map { result.map ≡ map }
+    {
+        MapErrKept::new(self, map)
+    }
+
     /// Turns `Incomplete` into a backtrack.
     #[inline(always)]
     final fn complete_err(self) -> CompleteErr<Self, I, O, E>
@@ -504,8 +556,12 @@ pub trait Parser<I: Stream, O, E: ParserError<I>>: Sized {
     // Every call leaves a suffix of its input.
     ghost leaves_ends: { (form : ErrorForm) → LeaveEnds I.reading (meaning form) };
 
-    // The semantics satisfy `says`.
-    ghost said: { (s : State) → SaidAmong (states s) (says s) s meaning };
+    // Every call has an outcome of the definition.
+    ghost covers: { terms.premise → (at : Setting) → Covers at (meaning at.form) does };
+
+    // State and input determine the outcome; if the parser is stable, a final outcome on partial
+    // input is the outcome of every longer input.
+    ghost lawful: { terms.premise → Lawful terms.stable terms.alike does };
 
     // The semantics satisfy `claim`.
     ghost claimed: { (s : State) → Claimed (claim s) s meaning };

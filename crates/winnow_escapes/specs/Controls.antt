@@ -1,93 +1,52 @@
--- Controls of text with escapes whose result the first token determines.
-use Rattle.std.specs.Prelude.{◌≡◌, Bool, true, List, [], ◌∷◌, ◌++◌, length}
-use Rattle.std.proofs.Common.{◌∙◌, ap, arith, length-append, refl, inl, inr}
-use Rattle.streams.specs.Following.{Following, Follows, follows_end}
-use Rattle.streams.specs.Input.{Input, with_more}
-use Rattle.stream_errors.specs.Form.{Answer, ErrorForm}
+-- Controls of text with escapes whose outcome the first token determines.
+use Rattle.std.specs.Prelude.{◌≡◌, Bool, List, [], ◌++◌}
+use Rattle.std.proofs.Common.{ap, inl, inr}
 use Rattle.streams.specs.Reading.{Reading}
-use Rattle.winnow_core.specs.Runs.{Runs, LeaveEnds, Keeps}
-use Rattle.winnow_core.specs.Stable.{IsFinal}
-use Rattle.winnow_core.specs.Stable.Grows.{MayGrow}
-use Rattle.winnow_core.specs.Literal.{LiteralRuns, IsOneToken}
-use Rattle.winnow_core.specs.Literal.Laws.{still_not_first, never_short}
-use Rattle.winnow_core.specs.Stable.Longer.{same_more, takes_more, passes_more}
-use Rattle.winnow_token.specs.Any.{AnyRuns}
-use Rattle.winnow_token.specs.OneOf.{OneOfRuns}
+use Rattle.stream_searches.specs.Compare.{IsShort}
+use Rattle.parser_definitions.specs.Any.{AnyDoes}
+use Rattle.parser_definitions.specs.Escaped.{Settled}
+use Rattle.parser_definitions.specs.Left.{extend}
+use Rattle.parser_definitions.specs.Literal.{LiteralDoes}
+use Rattle.parser_definitions.specs.OneOf.{OneOfDoes}
+use Rattle.parser_definitions.specs.Outcome.{as_longer}
+use Rattle.parser_definitions.specs.Passed.{passed_longer}
+use Rattle.parser_definitions.specs.Spelled.{still_not_first, still_not_short}
 
--- Like `IsStable`, for an input with remaining tokens.
-abbrev pub IsSettled : {S T O : Type 0} → Following T → Runs S T O → Type 0
-IsSettled {S} {T} {O} following run =
-    (more : List T) (flag : Bool) (s : S) (i : Input T) (answer : Answer O) (t : S) (j : Input T)
-    → i.status.cut ≡ true → Follows following i.left more → IsFinal answer
-    → (i.left.tokens ≡ [] → ⊥) → run s i answer t j
-    → run s (with_more i more flag) answer t (with_more j more flag)
+-- No tokens are a proper prefix of a spelling, except none: each spelling is one token.
+abbrev pub NeverShort : {S T : Type 0} → (S → List T → Type 0) → Type 0
+NeverShort {S} {T} spells =
+    (s : S) (tokens : List T) → (tokens ≡ [] → ⊥) → IsShort (spells s) tokens → ⊥
 
--- Like `Grows`, for an input with remaining tokens.
-abbrev pub GrowsOnSome : {S T O : Type 0} → Following T → Runs S T O → Type 0
-GrowsOnSome {S} {T} {O} following run =
-    (more : List T) (flag : Bool) (s : S) (i : Input T) (answer : Answer O) (t : S) (j : Input T)
-    → MayGrow following more i → IsFinal answer → (i.left.tokens ≡ [] → ⊥) → run s i answer t j
-    → run s (with_more i more flag) answer t (with_more j more flag) × MayGrow following more j
+pub literal_settles : {S T L O : Type 0} (reading : Reading T L) (spells : S → List T → Type 0)
+    (output : S → L → O) → NeverShort spells → Settled (LiteralDoes reading spells output)
+literal_settles reading spells output never more flag s w x some final
+    (inl (o, rest, (f, v, is, there, p, made), e)) =
+    inl (o, extend more rest, (f, v, is, there, passed_longer more p, made), as_longer more e)
+literal_settles reading spells output never more flag s w x some final
+    (inr (inl ((short, cut), e))) = absurd (never s w.tokens some short)
+literal_settles reading spells output never more flag s w x some final
+    (inr (inr ((none, told), e))) =
+    let not = never s w.tokens some in
+    inr (inr (
+      (
+        still_not_first (spells s) w.tokens more none not,
+        λ short. absurd (still_not_short (spells s) w.tokens more not short),
+      ),
+      as_longer more e,
+    ))
 
--- what a combinator takes of a control
-pub grows_on_some : {S T L O : Type 0} {reading : Reading T L} {following : Following T}
-    {run : Runs S T O} → LeaveEnds reading run → IsSettled following run
-    → GrowsOnSome following run
-grows_on_some {following = following} ends settled more flag s i answer t j (is_cut, follows)
-    final some r =
-    let e = ends s i answer t j r in (
-      settled more flag s i answer t j is_cut follows final some r,
-      (e.cut ∙ is_cut, follows_end following more e follows),
-    )
+pub any_settles : {S K T L : Type 0} (seen : K → T) (reading : Reading T L)
+    → Settled (AnyDoes {S = S} seen reading)
+any_settles seen reading more flag s w x some final (inl (k, rest, p, e)) =
+    inl (k, extend more rest, passed_longer more p, as_longer more e)
+any_settles seen reading more flag s w x some final (inr (none, e)) = absurd (some none)
 
-pub still_some : {T : Type 0} (xs more : List T) → (xs ≡ [] → ⊥) → xs ++ more ≡ [] → ⊥
-still_some xs more some none =
-    some (no_tokens xs (omega (arith, ap (λ l. length l) none, length-append xs more)))
-  where
-    no_tokens : {T : Type 0} (xs : List T) → length xs ≡ 0 → xs ≡ []
-    no_tokens [] e = refl
-    no_tokens (x ∷ xs) e = absurd (omega (arith, e))
-
-pub literal_settles : {S T L O : Type 0} (following : Following T) (reading : Reading T L)
-    (form : ErrorForm) (spelled : S → List T → Type 0) (output : S → L → O)
-    → ((s : S) → IsOneToken (spelled s))
-    → IsSettled following (Keeps (λ s. LiteralRuns reading form (spelled s) (output s)))
-literal_settles following reading form spelled output one more flag s i answer t j is_cut follows
-    final some (inl (front, slice, spells, takes, e), kept) =
-    (inl (front, slice, spells, takes_more more flag takes, e), kept)
-literal_settles following reading form spelled output one more flag s i answer t j is_cut follows
-    final some (inr (inl (short, cuts, e, same)), kept) =
-    absurd (never_short (spelled s) i.left.tokens (one s) some short)
-literal_settles following reading form spelled output one more flag s i answer t j is_cut follows
-    final some (inr (inr (other, whole, e, same)), kept) =
-    let again = still_some i.left.tokens more some in (
-      inr (inr (
-        still_not_first (spelled s) i.left.tokens more other
-            (never_short (spelled s) i.left.tokens (one s) some),
-        (λ short. absurd (never_short (spelled s) (i.left.tokens ++ more) (one s) again short)),
-        e,
-        same_more more flag same,
-      )),
-      kept,
-    )
-
-pub any_settles : {S K T L : Type 0} (following : Following T) (seen : K → T)
-    (reading : Reading T L) (form : ErrorForm)
-    → IsSettled following (Keeps (λ (s : S). AnyRuns seen reading form))
-any_settles following seen reading form more flag s i answer t j is_cut follows final some
-    (inl (x, passes, e), kept) = (inl (x, passes_more more flag passes, e), kept)
-any_settles following seen reading form more flag s i answer t j is_cut follows final some
-    (inr (k, none, short, e, same), kept) = absurd (some none)
-
-pub one_of_settles : {S K T L : Type 0} (following : Following T) (seen : K → T)
-    (reading : Reading T L) (form : ErrorForm) (member : S → K → Bool → Type 0)
-    → IsSettled following (Keeps (λ s. OneOfRuns seen reading form (member s)))
-one_of_settles following seen reading form member more flag s i answer t j is_cut follows final
-    some (inl (x, passes, is, e), kept) =
-    (inl (x, passes_more more flag passes, is, e), kept)
-one_of_settles following seen reading form member more flag s i answer t j is_cut follows final
-    some (inr (inl (x, rest, first, is, e, same)), kept) =
-    let longer = ap (λ l. l ++ more) first in
-    (inr (inl (x, rest ++ more, longer, is, e, same_more more flag same)), kept)
-one_of_settles following seen reading form member more flag s i answer t j is_cut follows final
-    some (inr (inr (k, none, short, e, same)), kept) = absurd (some none)
+pub one_of_settles : {S K T L : Type 0} (seen : K → T) (reading : Reading T L)
+    (tells : S → K → Bool → Type 0) → Settled (OneOfDoes seen reading tells)
+one_of_settles seen reading tells more flag s w x some final (inl (k, rest, (p, has), e)) =
+    inl (k, extend more rest, (passed_longer more p, has), as_longer more e)
+one_of_settles seen reading tells more flag s w x some final
+    (inr (inl ((k, rest, first, lacks), e))) =
+    inr (inl ((k, rest ++ more, ap (λ l. l ++ more) first, lacks), as_longer more e))
+one_of_settles seen reading tells more flag s w x some final (inr (inr (none, e))) =
+    absurd (some none)

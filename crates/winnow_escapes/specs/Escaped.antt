@@ -11,9 +11,7 @@ use Rattle.winnow_repeat.specs.Chain.{Chain}
 use Rattle.winnow_escapes.specs.declared.ascii.impls.escaped.Escaped.{Escaped}
 use Rattle.winnow_escapes.specs.declared.ascii.turns.Turn.{Turn}
 use Rattle.winnow_escapes.specs.declared.ascii.turns.Turn.TheVariants.{Normal, Escape}
-pub mod Does
 pub mod Laws
-pub mod Says
 
 -- the parser of literal text
 abbrev pub escaped_normal : {N K X I O D P C E A : Type 0} → Escaped N K X I O D P C E A → N

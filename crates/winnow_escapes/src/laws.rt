@@ -1,15 +1,18 @@
 //! Laws of text with escapes, each proved by a function that does nothing.
 ghost use Rattle.std.specs.Prelude.{List};
 ghost use Rattle.std.specs.Str.{chars};
+ghost use Rattle.parser_definitions.specs.Escaped.{Settled};
 ghost use Rattle.winnow_core.specs.Laws.{ShowsOne, TakesFromTheFront};
-
-pub mod complete;
+ghost use Rattle.winnow_escapes.specs.Controls.{NeverShort};
 
 use crate::ascii::impls::TakeEscaped;
 use stream_errors::control::ControlError;
 use stream_errors::parser_error::ParserError;
+use stream_searches::compare::Compare;
+use stream_sets::sets::ContainsToken;
 use streams::stream::StreamIsPartial;
 use winnow_core::parser::Parser;
+use winnow_token::token::impls::{Any, NoneOf, OneOf};
 
 /// States that over bytes the slice of [`take_escaped`](crate::ascii::take_escaped) followed by the
 /// rest is the original input.
@@ -61,4 +64,25 @@ pub fn the_escaped_slice_and_the_rest_are_the_input<
     ensures { (tokens_of : I.Slice → List I.Seen) → ShowsOne I.reading tokens_of
         → TakesFromTheFront tokens_of
         (⟦<TakeEscaped<N, K, X, I, O, D, P, E> as Parser<I, I::Slice, E>>⟧.meaning E.form) }
+{}
+
+/// States that the first token determines the outcome of a control that is one token:
+/// [`Any`], [`OneOf`] or [`NoneOf`]. So text with escapes is stable for these.
+///
+/// The error of a control cannot be incomplete. One that is cut off does not match, and the text
+/// would end there. A control of one token is never cut off, since a turn begins only if input
+/// remains.
+pub fn controls_of_one_token_are_settled<S: ContainsToken<I::Token>, I: StreamIsPartial>()
+where
+    I::Token: Copy,
+    ensures any { Settled ⟦<Any as Parser<I, I::Token, ControlError>>⟧.does }
+    ensures one_of { Settled
+        ⟦<OneOf<S, I, ControlError> as Parser<I, I::Token, ControlError>>⟧.does }
+    ensures none_of { Settled
+        ⟦<NoneOf<S, I, ControlError> as Parser<I, I::Token, ControlError>>⟧.does }
+{}
+
+/// States the same of a byte, if its spellings are one token each.
+pub fn a_byte_control_is_settled<I: StreamIsPartial + Compare<u8>>()
+    ensures { NeverShort I.spells → Settled ⟦<u8 as Parser<I, u8, ControlError>>⟧.does }
 {}

@@ -5,4 +5,3 @@
 
 pub mod ascii;
 pub mod laws;
-pub mod stable;

@@ -9,7 +9,6 @@ use Rattle.winnow_expression.specs.declared.combinator.operators.Infix.TheVarian
 use Rattle.winnow_expression.specs.declared.combinator.operators.Postfix.{Postfix}
 use Rattle.winnow_expression.specs.declared.combinator.operators.Prefix.{Prefix}
 pub mod Laws
-pub mod Says
 
 -- how strong an infix binds its left operand
 abbrev pub left_power : {F : Type 0} → Infix F → ℤ

@@ -19,7 +19,6 @@ use Rattle.winnow_expression.specs.declared.combinator.places.Next.TheVariants.{
 }
 use Rattle.winnow_expression.specs.declared.combinator.places.Next.TheVariants.{Infix as infix_read}
 pub mod Laws
-pub mod Says
 
 -- An operand, and where that backtracks, back at its beginning, a prefix.
 abbrev pub FirstRuns : {S W T V F : Type 0} → Runs S T V → Runs W T (Prefix F)

@@ -7,4 +7,3 @@
 #![tactic(auto)]
 
 pub mod combinator;
-pub mod laws;

@@ -15,7 +15,6 @@ pub mod Grammar
 pub mod Inversion
 pub mod Laws
 pub mod Reads
-pub mod Says
 pub mod Std
 pub mod Values
 pub mod Written

@@ -10,7 +10,6 @@ use Rattle.stream_sets.specs.AsChar.{IsHexDigit}
 use Rattle.winnow_numbers.specs.Digits.{AreCharacters, IsIn, NoneFirst, value_in}
 pub mod Inversion
 pub mod Laws
-pub mod Says
 
 -- A run of the parser of a hexadecimal number. Values of its type have the numbers `number`, and
 -- the type holds at most `most` digits.

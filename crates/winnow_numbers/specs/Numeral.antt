@@ -13,7 +13,6 @@ pub mod Grammar
 pub mod Inversion
 pub mod Laws
 pub mod Once
-pub mod Says
 pub mod Texts
 
 -- a sign: '+' or '-'

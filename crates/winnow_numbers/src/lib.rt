@@ -5,4 +5,3 @@
 #![tactic(auto)]
 
 pub mod ascii;
-pub mod laws;

@@ -8,7 +8,8 @@ use Rattle.streams.specs.Kind.{Kind}
 use Rattle.streams.specs.Reading.{Reading}
 use Rattle.winnow_core.specs.Ends.{same_units, units_fall}
 use Rattle.winnow_core.specs.Runs.{Runs}
-use Rattle.winnow_recovery.specs.Recovery.{CanRecover, IsRecovered}
+use Rattle.parser_definitions.specs.Recover.{CanRecover}
+use Rattle.winnow_recovery.specs.Recovery.{IsRecovered}
 use Rattle.winnow_recovery.specs.RetryAfter.{IsTry}
 
 -- Tries that were recovered from, so far.

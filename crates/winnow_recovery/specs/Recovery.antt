@@ -1,32 +1,17 @@
 -- Recovery from an error: what the adapters that recover have in common.
-use Rattle.std.specs.Prelude.{◌≡◌, ◌⊎◌, ◌<◌, ⊤, Bool, IsTrue, true, length, Ok, Err}
+use Rattle.std.specs.Prelude.{◌≡◌, ◌⊎◌, ◌<◌, Bool, IsTrue, true, length, Ok, Err}
+use Rattle.parser_definitions.specs.Recover.{Recovery}
 use Rattle.streams.specs.Input.{Input, back_at}
-use Rattle.streams.specs.Kind.{Kind, backtrack, cut, incomplete, memory}
+use Rattle.streams.specs.Kind.{Kind, memory}
 use Rattle.stream_errors.specs.Join.{IsOrMemory}
 use Rattle.stream_errors.specs.Recover.{with_recorded}
 use Rattle.winnow_core.specs.Runs.{Runs}
 pub mod Laws
 
--- The properties of the stream and the errors that recovery depends on: whether errors are
--- recorded, and whether the error after a failed recovery may be out of memory.
-pub record Recovery : Type 0 where
-  pub recovers : Bool
-  pub grows : Bool
-
--- what they say, of both
+-- whether the stream records errors, and whether an error may be out of memory after a failed
+-- recovery
 abbrev pub recovery_of : Bool → Bool → Recovery
 recovery_of recovers grows = record { recovers = recovers; grows = grows }
-
--- the states of a parser, where the one that recovers and these properties stay
-abbrev pub WhereNoneRecovers : {S W R : Type 0} → (S → Type 0) → W → R → S × W × R → Type 0
-WhereNoneRecovers mine w r t = mine t.0 × (t.1 ≡ w) × (t.2 ≡ r)
-
--- A parser may recover from an error that backtracks or cuts.
-abbrev pub CanRecover : Kind → Type 0
-CanRecover backtrack = ⊤
-CanRecover cut = ⊤
-CanRecover (incomplete need) = ⊥
-CanRecover memory = ⊥
 
 -- Fewer tokens remain.
 abbrev pub Consumes : {T : Type 0} → Input T → Input T → Type 0

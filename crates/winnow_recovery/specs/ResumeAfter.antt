@@ -3,10 +3,10 @@ use Rattle.std.specs.Prelude.{◌≡◌, ◌⊎◌, Bool, true, false, Option, S
 use Rattle.streams.specs.Input.{Input}
 use Rattle.streams.specs.Kind.{Kind}
 use Rattle.winnow_core.specs.Runs.{Runs}
-use Rattle.winnow_recovery.specs.Recovery.{CanRecover, IsNotRecovered, IsRecovered, Recovery}
+use Rattle.parser_definitions.specs.Recover.{CanRecover, Recovery}
+use Rattle.winnow_recovery.specs.Recovery.{IsNotRecovered, IsRecovered}
 use Rattle.winnow_recovery.specs.declared.combinator.impls.resume_after.ResumeAfter.{ResumeAfter}
 pub mod Laws
-pub mod Says
 
 -- the parser that is run
 abbrev pub resume_after_parser : {P R I O E : Type 0} → ResumeAfter P R I O E → P

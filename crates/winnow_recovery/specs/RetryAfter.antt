@@ -4,10 +4,10 @@ use Rattle.std.specs.List.{FoldsTo}
 use Rattle.streams.specs.Input.{Input}
 use Rattle.streams.specs.Kind.{Kind}
 use Rattle.winnow_core.specs.Runs.{Runs}
-use Rattle.winnow_recovery.specs.Recovery.{CanRecover, IsNotRecovered, IsRecovered, Recovery}
+use Rattle.parser_definitions.specs.Recover.{CanRecover, Recovery}
+use Rattle.winnow_recovery.specs.Recovery.{IsNotRecovered, IsRecovered}
 use Rattle.winnow_recovery.specs.declared.combinator.impls.retry_after.RetryAfter.{RetryAfter}
 pub mod Laws
-pub mod Says
 
 -- the parser that is tried
 abbrev pub retry_after_parser : {P R I O E : Type 0} → RetryAfter P R I O E → P

@@ -3,7 +3,8 @@
 
 ghost use Rattle.std.specs.Prelude.{◌≡◌, MatchBool, MatchResult, true};
 ghost use Rattle.streams.specs.Input.{IsEndOf};
-ghost use Rattle.winnow_recovery.specs.Recovery.{CanRecover, IsNotRecovered, IsRecovered};
+ghost use Rattle.parser_definitions.specs.Recover.{CanRecover};
+ghost use Rattle.winnow_recovery.specs.Recovery.{IsNotRecovered, IsRecovered};
 
 pub mod impls;
 

@@ -2,8 +2,6 @@
 ghost use Rattle.winnow_core.specs.Runs.{LeaveEnds};
 ghost use Rattle.winnow_recovery.specs.RecoveryLaws.{NoErrorIsAWholeParse};
 
-pub mod complete;
-
 use crate::combinator::impls::{ResumeAfter, RetryAfter};
 use std::alloc::Allocator;
 use stream_errors::parser_error::ParserError;

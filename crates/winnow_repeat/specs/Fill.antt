@@ -1,18 +1,13 @@
 -- A buffer that is filled.
-use Rattle.std.specs.Prelude.{◌≡◌, ℕ, List, [], ◌++◌, length, Ok, Err, ◌⊎◌, ⊤}
+use Rattle.std.specs.Prelude.{◌≡◌, List, [], ◌++◌, length, Ok, Err, ◌⊎◌, ⊤}
 use Rattle.streams.specs.Input.{Input}
 use Rattle.streams.specs.Kind.{Kind}
 use Rattle.stream_errors.specs.Form.{Answer}
 use Rattle.winnow_core.specs.Runs.{Runs}
 use Rattle.winnow_repeat.specs.Chain.{Successes}
 use Rattle.winnow_repeat.specs.declared.combinator.impls.fill.Fill.{Fill}
+pub use Rattle.parser_definitions.specs.Fill.{Buffer}
 pub mod Laws
-pub mod Says
-
--- A buffer after a reference: its elements, and which reference it is.
-pub record Buffer (O : Type 0) : Type 0 where
-  pub elements : List O
-  pub name : ℕ
 
 -- the buffer
 abbrev pub fill_buffer : {P I O E : Type 0} → Fill P I O E → Buffer O

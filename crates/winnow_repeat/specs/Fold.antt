@@ -12,8 +12,6 @@ use Rattle.winnow_repeat.specs.Repeat.{ItemsRun}
 use Rattle.winnow_repeat.specs.declared.combinator.impls.fold.RepeatFold.{RepeatFold}
 pub mod Exact
 pub mod Laws
-pub mod Says
-pub mod Tries
 
 -- the closure that folds an output into the value
 abbrev pub fold_closure : {P G H I O R E : Type 0} → RepeatFold P G H I O R E → H

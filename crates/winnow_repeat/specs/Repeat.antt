@@ -13,7 +13,6 @@ use Rattle.winnow_repeat.specs.declared.combinator.impls.repeat.Repeat.{Repeat}
 pub mod Exact
 pub mod Inversion
 pub mod Laws
-pub mod Says
 
 -- how often the parser is run
 abbrev pub repeat_occurrences : {P I O C E A : Type 0} → Repeat P I O C E A → Range

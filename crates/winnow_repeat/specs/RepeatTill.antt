@@ -11,11 +11,9 @@ use Rattle.winnow_core.specs.Runs.{Runs}
 use Rattle.stream_sets.specs.Accumulator.Holds.{Accumulates}
 use Rattle.winnow_repeat.specs.Chain.{Chain, Successes}
 use Rattle.winnow_repeat.specs.Repeat.{capacity_of}
-pub mod Does
 pub mod Errors
 pub mod Exact
 pub mod Laws
-pub mod Says
 
 -- how many items there is room for after the least, if there is a greatest number
 abbrev pub room_behind : ℕ → Option ℕ → Option ℕ

@@ -8,7 +8,6 @@ use Rattle.winnow_core.specs.Runs.{Runs}
 use Rattle.winnow_core.specs.TryMap.{TryMapSettles}
 use Rattle.winnow_repeat.specs.Fold.{RangedFoldMany}
 use Rattle.winnow_repeat.specs.declared.combinator.impls.try_fold.RepeatTryFold.{RepeatTryFold}
-pub mod Says
 
 -- the closure that folds an output into the value, or fails
 abbrev pub try_fold_closure : {P G H I O R E X : Type 0} → RepeatTryFold P G H I O R E X → H

@@ -8,7 +8,6 @@ use Rattle.winnow_repeat.specs.Fold.{RangedFoldMany}
 use Rattle.winnow_repeat.specs.declared.combinator.impls.verify_fold.RepeatVerifyFold.{
   RepeatVerifyFold,
 }
-pub mod Says
 
 -- the closure that folds an output into the value, or rejects it
 abbrev pub verify_fold_closure : {P G H I O R E : Type 0} → RepeatVerifyFold P G H I O R E → H

@@ -2,8 +2,6 @@
 ghost use Rattle.stream_errors.specs.Form.{assert_kind};
 ghost use Rattle.winnow_repeat.specs.RepeatLaws.{RunsAtMostOnceAUnit};
 
-pub mod complete;
-
 use crate::combinator::impls::Repeat;
 use std::alloc::Allocator;
 use stream_errors::parser_error::ParserError;

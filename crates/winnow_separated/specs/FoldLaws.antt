@@ -80,10 +80,11 @@ FoldTheSame {S} {W} {Q} step run separator to_left to_right =
     (s : S × W × Q) → Decides run s.0 → Decides separator s.1 → Consumes separator s.1
     → SameFolds step run separator to_left to_right s
 
--- From a state with these premises of its element and its separator, if that consumes.
-abbrev pub FoldTheSameIf : {S W Q T O D : Type 0} → (S → Type 0) → (W → Type 0)
+-- The same under premises of the definitions of its element and its separator, by which state and
+-- input determine the runs of both.
+abbrev pub FoldTheSameIf : {S W Q T O D : Type 0} → Type 0 → Type 0
     → (Q → O → D → O → O → Q → Type 0) → Runs S T O → Runs W T D → Runs (S × W × Q) T O
     → Runs (S × W × Q) T O → Type 0
 FoldTheSameIf {S} {W} {Q} premise between step run separator to_left to_right =
-    (s : S × W × Q) → premise s.0 → between s.1 → ConsumesFrom separator s.1
+    premise → between → (s : S × W × Q) → Consumes separator s.1
     → SameFolds step run separator to_left to_right s

@@ -10,7 +10,6 @@ use Rattle.winnow_separated.specs.declared.combinator.impls.separated_foldl1.Sep
   SeparatedFoldl1,
 }
 pub mod Laws
-pub mod Says
 
 -- the parser of the elements
 abbrev pub foldl1_parser : {P S H I O D E : Type 0} → SeparatedFoldl1 P S H I O D E → P

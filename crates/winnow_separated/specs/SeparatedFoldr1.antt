@@ -12,7 +12,6 @@ use Rattle.winnow_separated.specs.declared.combinator.impls.separated_foldr1.Sep
   SeparatedFoldr1,
 }
 pub mod Laws
-pub mod Says
 
 -- the parser of the elements
 abbrev pub foldr1_parser : {P S H I O D E A : Type 0} → SeparatedFoldr1 P S H I O D E A → P

@@ -2,8 +2,6 @@
 ghost use Rattle.winnow_separated.specs.FoldLaws.{FoldTheSame, FoldTheSameIf};
 ghost use Rattle.winnow_separated.specs.SeparatedLaws.{LeavesTheSeparator};
 
-pub mod complete;
-
 use crate::combinator::impls::{Separated, SeparatedFoldl1, SeparatedFoldr1};
 use std::alloc::Allocator;
 use stream_errors::parser_error::ParserError;
@@ -34,8 +32,7 @@ pub fn separated_leaves_a_separator_without_an_element<
 /// [`separated_foldr1`](crate::combinator::separated_foldr1) fold the same elements. From one state
 /// and input, if both succeed, these are the outputs of one list of calls, and both leave the same
 /// rest. Both conditions are only on the states that this element and this separator reach
-/// (`of_runs`). Parsers with specified outcomes whose calls keep the state, as all parsers' but
-/// `fill`'s do, meet the second one (`of_outcomes`).
+/// (`of_runs`). Parsers whose definitions are lawful meet the second one (`of_outcomes`).
 pub fn separated_folds_agree<
     P: Parser<I, O, E>,
     S: Parser<I, D, E>,
@@ -49,8 +46,7 @@ pub fn separated_folds_agree<
     ensures of_runs { FoldTheSame H.step (P.meaning E.form) (S.meaning E.form)
         (⟦<SeparatedFoldl1<P, S, H, I, O, D, E> as Parser<I, O, E>>⟧.meaning E.form)
         (⟦<SeparatedFoldr1<P, S, H, I, O, D, E, A> as Parser<I, O, E>>⟧.meaning E.form) }
-    ensures of_outcomes { FoldTheSameIf (λ s. (P.says s).premise × (P.says s).keeps)
-        (λ s. (S.says s).premise × (S.says s).keeps)
+    ensures of_outcomes { FoldTheSameIf P.terms.premise S.terms.premise
         H.step (P.meaning E.form) (S.meaning E.form)
         (⟦<SeparatedFoldl1<P, S, H, I, O, D, E> as Parser<I, O, E>>⟧.meaning E.form)
         (⟦<SeparatedFoldr1<P, S, H, I, O, D, E, A> as Parser<I, O, E>>⟧.meaning E.form) }

@@ -1,15 +1,24 @@
 -- Invariants of the loop that stores items in a slice.
 use Rattle.std.proofs.Common.{◌≡◌, ◌<◌, ◌+◌, ◌∙◌, ℕ, List, [], ◌∷◌, ◌++◌, length, Ok, refl}
-use Rattle.std.proofs.Common.{sym, ap, arith, get_or, append_assoc, length-append}
+use Rattle.std.proofs.Common.{◌⊎◌, inl, inr, sym, ap, arith, get_or, append_assoc, length-append}
 use Rattle.std.specs.Prelude.{slice_set}
 use Rattle.std.proofs.lemmas.Fn.{FoldsTo-push}
 use Rattle.std.proofs.lemmas.List.{length_push}
 use Rattle.streams.specs.Input.{Input}
+use Rattle.streams.specs.Kind.{Kind, backtrack, memory}
+use Rattle.stream_errors.specs.Given.{Keeping}
 use Rattle.winnow_core.specs.Chain.{IsItem}
 use Rattle.winnow_core.specs.Elements.{rest_of, set_at}
 use Rattle.winnow_core.specs.Runs.{Runs}
 use Rattle.winnow_repeat.specs.Chain.{Chain}
-use Rattle.winnow_slices.specs.IntoSlice.{Overwrites}
+use Rattle.winnow_slices.specs.IntoSlice.{Overwrites, TooManyKind}
+use Rattle.winnow_slices.specs.declared.combinator.TooMany.{TooMany}
+
+-- the error for an output without an element backtracks, or is out of memory
+pub too_many_by_kind : (keeping : TooMany → Keeping) (n : ℕ) (k : Kind)
+    → TooManyKind keeping n k → (k ≡ backtrack) ⊎ (k ≡ memory)
+too_many_by_kind keeping n k (inl (kept, is)) = inl is
+too_many_by_kind keeping n k (inr (refused, is)) = inr is
 
 -- The first `count` elements are the outputs of items.
 pub record Stored {S T O : Type 0} (run : Runs S T O) (old now : List O) (s : S) (i : Input T)

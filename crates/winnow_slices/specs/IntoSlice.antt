@@ -9,7 +9,6 @@ use Rattle.winnow_core.specs.Runs.{Runs}
 use Rattle.winnow_repeat.specs.Chain.{Chain}
 use Rattle.winnow_slices.specs.declared.combinator.TooMany.{TooMany}
 pub mod Exact
-pub mod Says
 
 -- The kinds of the error for an output without an element, in a slice of `limit` elements.
 abbrev pub TooManyKind : (TooMany → Keeping) → ℕ → Kind → Type 0

@@ -1,14 +1,13 @@
 //! Combinators, as in winnow's documentation: repetition into a slice.
 #![tactic(auto, using(streams::specs::Ends::ends_follow))]
 
-ghost use Rattle.std.specs.Prelude.{◌≡◌, false, length};
+ghost use Rattle.std.specs.Prelude.{◌≡◌, false};
 ghost use Rattle.stream_errors.specs.Form.{answer_by, assert_kind};
 ghost use Rattle.streams.specs.Input.{IsEndOf};
+ghost use Rattle.parser_definitions.specs.Fill.{IntoSliceDoes};
 ghost use Rattle.winnow_slices.specs.IntoSlice.{IntoSlice, TooManyKind};
 ghost use Rattle.winnow_slices.specs.IntoSlice.Exact.{ReadsIntoSlice};
-ghost use Rattle.winnow_core.specs.Outcome.{outcome_of};
-ghost use Rattle.winnow_core.specs.Says.{Tells};
-ghost use Rattle.winnow_slices.specs.IntoSlice.Says.{into_slice_says, listed};
+ghost use Rattle.winnow_core.specs.Tells.{Tells};
 
 use stream_errors::external::FromExternalError;
 use stream_errors::parser_error::ParserError;
@@ -58,12 +57,11 @@ where
         slice.old (P.state parser.old) (I.view input.old) (answer_by E.kind result) slice.new
         (P.state parser.new) (I.view input.new) }
     ensures ends { IsEndOf I.reading (I.view input.new) (I.view input.old) }
-    ensures tells { (P.says (P.state parser.old)).premise
-        → ((P.says (P.state parser.old)).keeps → P.state parser.new ≡ P.state parser.old)
-        × Tells (into_slice_says (TooManyKind E.external_gives) (length slice.old)
-        (P.says (P.state parser.old))) E.form (I.view input.old)
-        (outcome_of (listed slice.new (answer_by E.kind result))
-        (I.view input.new).left.tokens) }
+    ensures tells { P.terms.premise → ((o p : O) → P.terms.alike o p → o ≡ p)
+        → Tells I.reading (λ n m. n ≡ m)
+        (IntoSliceDoes (TooManyKind E.external_gives) P.does) E.form
+        (P.state parser.old, slice.old) (I.view input.old) (answer_by E.kind result)
+        (P.state parser.new, slice.new) (I.view input.new) }
     ensures reads { (P.claim (P.state parser.old)).premise
         → (P.claim (P.state parser.old)).backtracks → (P.claim (P.state parser.old)).consumes
         → (I.view input.old).status.cut ≡ false

@@ -7,7 +7,6 @@ use Rattle.stream_errors.specs.Form.{ErrorForm, Answer}
 use Rattle.winnow_core.specs.Short.{ShortKind}
 pub mod Inversion
 pub mod Laws
-pub mod Says
 
 -- A call on empty input: an error, or `Incomplete` with a need of 1 unit on partial input.
 abbrev pub NoTokenRuns : {T O : Type 0} → ErrorForm → Input T → Answer O → Input T → Type 0

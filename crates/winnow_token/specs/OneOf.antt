@@ -7,7 +7,6 @@ use Rattle.stream_errors.specs.Form.{ErrorForm, Answer}
 use Rattle.winnow_token.specs.Any.{NoTokenRuns}
 use Rattle.winnow_token.specs.declared.token.impls.one_of.OneOf.{OneOf}
 pub mod Laws
-pub mod Says
 
 -- the set that the token must belong to
 abbrev pub one_of_set : {S I E : Type 0} → OneOf S I E → S

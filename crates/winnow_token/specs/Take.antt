@@ -9,7 +9,6 @@ use Rattle.winnow_core.specs.Short.{ShortKind}
 use Rattle.winnow_token.specs.declared.token.impls.take.Take.{Take}
 pub mod Inversion
 pub mod Laws
-pub mod Says
 
 -- how many tokens are taken
 abbrev pub take_count : {I E : Type 0} → Take I E → ℕ

@@ -11,7 +11,6 @@ use Rattle.stream_sets.specs.declared.range.Range.{Range}
 use Rattle.winnow_token.specs.declared.token.impls.take_until.TakeUntil.{TakeUntil}
 pub mod Inversion
 pub mod Laws
-pub mod Says
 
 -- how many tokens may precede the literal
 abbrev pub take_until_occurrences : {T I E : Type 0} → TakeUntil T I E → Range

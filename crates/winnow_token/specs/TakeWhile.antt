@@ -13,7 +13,6 @@ use Rattle.winnow_token.specs.declared.token.impls.take_while.TakeWhile.{TakeWhi
 pub mod Exact
 pub mod Inversion
 pub mod Laws
-pub mod Says
 
 -- how many tokens are taken
 abbrev pub take_while_occurrences : {S I E : Type 0} → TakeWhile S I E → Range

@@ -8,7 +8,7 @@ use Rattle.winnow_core.specs.Claim.{Claim, Claimed}
 use Rattle.winnow_core.specs.Exact.Allowed.{backs}
 use Rattle.winnow_core.specs.Runs.{Keeps, LeaveEnds}
 use Rattle.winnow_ascii.specs.Class.{ClassRuns}
-use Rattle.winnow_ascii.specs.Class.Says.{CharIsFunction, class_once}
+use Rattle.parser_definitions.specs.Class.{CharIsFunction, class_once}
 use Rattle.winnow_token.specs.TakeWhile.Laws.{take_while_ends}
 use Rattle.std.proofs.Common.{arith}
 use Rattle.grammars.specs.Grammar.{Class, InClass, IsUnique, TakesTokens}
@@ -30,7 +30,7 @@ pub class_unique : {K T L : Type 0} (class : ℕ → Type 0) (least : ℕ) (code
     → IsUnique (Class class least code seen reading)
 class_unique class least code seen reading once =
     longest_unique reading seen (InClass class code) tt (from_to least None)
-    (class_once class code seen once)
+    (class_once {S = ⊤} class least code seen reading once tt)
 
 pub class_takes : {K T L : Type 0} (class : ℕ → Type 0) (least : ℕ) (code : K → ℕ) (seen : K → T)
     (reading : Reading T L) → 0 < least → TakesTokens (Class class least code seen reading)
@@ -58,7 +58,7 @@ pub class_claimed : {K T L : Type 0} {consumes : Type 0} (class : ℕ → Type 0
     (λ form. Keeps (λ (_ : ⊤). ClassRuns class least code seen reading form))
 class_claimed class least code seen reading some = record {
   exact = λ form once. take_while_exact reading form seen (InClass class code) (λ s. s)
-      (λ _. from_to least None) tt tt (class_once class code seen once);
+      (λ _. from_to least None) tt tt (class_once {S = ⊤} class least code seen reading once tt);
   fails = λ form once. backs (take_while_fails reading form seen (InClass class code) (λ s. s)
       (λ _. from_to least None) tt tt);
   takes = λ once consumes. class_takes class least code seen reading (some consumes);

@@ -4,13 +4,12 @@ use Rattle.std.specs.Borrow.{Bor}
 use Rattle.std.proofs.Common.{inl, inr, refl, ap}
 use Rattle.streams.specs.Input.{Input, IsEndOf}
 use Rattle.streams.specs.Reading.{Reading}
-use Rattle.stream_errors.specs.Form.{Answer, ErrorForm, modal}
+use Rattle.stream_errors.specs.Form.{Answer, ErrorForm}
 use Rattle.streams.specs.Kind.{backtrack, Kind, memory}
-use Rattle.winnow_core.specs.Literal.Laws.{literal_ends, literal_stays}
+use Rattle.winnow_core.specs.Literal.Laws.{literal_ends}
 use Rattle.winnow_core.specs.Runs.{Keeps}
-use Rattle.winnow_ascii.specs.Crlf.Laws.{crlf_ends, crlf_stays}
+use Rattle.winnow_ascii.specs.Crlf.Laws.{crlf_ends}
 use Rattle.winnow_ascii.specs.LineEnding.{LineEndingRuns}
-use Rattle.winnow_core.specs.Stable.Grows.{Stays}
 use Rattle.grammars.specs.Grammar.{Either, NoMatch}
 use Rattle.grammars.specs.Grammar.Searches.{LineEnd, LiterallyBytes}
 use Rattle.grammars.specs.Grammar.Unique.{either_unique}
@@ -28,21 +27,7 @@ line_ending_ends spells reading form i answer j (inl (text, is, r, stays)) =
 line_ending_ends spells reading form i answer j (inr (text, is, first, r)) =
     crlf_ends spells reading form i answer j r
 
-module _ {T L : Type 0} (spells : Bor (List ℕ) → List T → Type 0) (reading : Reading T L) where
-  -- a final result on partial input is also a result on every longer input
-  pub line_ending_stays : Stays (LineEndingRuns spells reading modal)
-  line_ending_stays more flag i answer j is_cut final (inl (text, is, r, other)) =
-      let q = literal_stays reading (spells text) (λ slice. slice) more flag i answer j is_cut
-      final r
-      in inl (text, is, q, other)
-  line_ending_stays more flag i answer j is_cut final (inr (text, is, r, both)) =
-      let q =
-      literal_stays reading (spells text) (λ slice. slice) more flag i (Err backtrack) i is_cut tt r
-      in inr (text, is, q, crlf_stays spells reading more flag i answer j is_cut final both)
-
 -- ---- what it reads
-
--- ---- lines
 
 module _ {T L : Type 0} (reading : Reading T L) (form : ErrorForm)
     (spells : Bor (List ℕ) → List T → Type 0) (alike : SpellsByText spells)

@@ -21,12 +21,12 @@ module _ {T L : Type 0} (reading : Reading T L) (form : ErrorForm)
     (spells : Bor (List ℕ) → List T → Type 0) (alike : SpellsByText spells)
     (sought : ℕ × ℕ → List T → Type 0) where
   -- tokens that start with the spelling of some text with these bytes start with that of `text`
-  this_text : (text : Bor (List ℕ)) (bytes : List ℕ) (tokens : List T) → text.now ≡ bytes
+  pub this_text : (text : Bor (List ℕ)) (bytes : List ℕ) (tokens : List T) → text.now ≡ bytes
       → StartsWithSpelling (SpelledBy spells bytes) tokens → StartsWithSpelling (spells text) tokens
   this_text text bytes tokens here (front, rest, (other, was, spelled), e) =
       (front, rest, alike other text front (was ∙ sym here) spelled, e)
 
-  some_text : (text : Bor (List ℕ)) (bytes : List ℕ) (tokens : List T) → text.now ≡ bytes
+  pub some_text : (text : Bor (List ℕ)) (bytes : List ℕ) (tokens : List T) → text.now ≡ bytes
       → StartsWithSpelling (spells text) tokens → StartsWithSpelling (SpelledBy spells bytes) tokens
   some_text text bytes tokens here (front, rest, spelled, e) =
       (front, rest, (text, here, spelled), e)

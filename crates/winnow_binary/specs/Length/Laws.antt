@@ -1,12 +1,10 @@
 -- Laws of length-prefixed parsers.
 use Rattle.std.specs.Prelude.{ℕ, Ok, Err, ◌≡◌, ◌⊎◌, false, List}
 use Rattle.std.proofs.Common.{inl, inr, refl, subst}
-use Rattle.streams.specs.Input.{is_end_of_trans, with_more, Input}
+use Rattle.streams.specs.Input.{is_end_of_trans, Input}
 use Rattle.streams.specs.Reading.{Reading}
-use Rattle.streams.specs.Following.{Following}
 use Rattle.winnow_core.specs.Runs.{LeaveEnds, Runs}
 use Rattle.winnow_binary.specs.Length.{LengthRuns}
-use Rattle.winnow_core.specs.Stable.Grows.{Grows, final_by}
 use Rattle.streams.specs.Kind.{Kind, memory}
 use Rattle.grammars.specs.Grammar.{Grammar, NoMatch}
 use Rattle.grammars.specs.Grammar.Lengths.{SaysOne, Sized, sized_unique}
@@ -24,21 +22,6 @@ length_ends reading number count following first second s i answer t j (inl (n, 
     is_end_of_trans (second (number n) s.1 a answer t.1 j q) (first s.0 i (Ok n) t.0 a r)
 length_ends reading number count following first second s i answer t j (inr (k, r, same, e)) =
     first s.0 i (Err k) t.0 j r
-
-module _ {T : Type 0} {following : Following T} where
-  -- a length, and what grows after each number
-  pub length_grows : {S V N O : Type 0} (number : N → ℕ) (behind : ℕ → Runs V T O)
-      {count : Runs S T N} → Grows following count
-      → ((n : ℕ) → Grows following (behind n)) → Grows following (LengthRuns number count behind)
-  length_grows number behind reads grow more flag s i answer t j may final
-      (inl (n, a, r, ran)) =
-      let (q, still) = reads more flag s.0 i (Ok n) t.0 a may tt r in
-      let (again, last) = grow (number n) more flag s.1 a answer t.1 j still final ran in
-      (inl (n, with_more a more flag, q, again), last)
-  length_grows number behind reads grow more flag s i answer t j may final
-      (inr (k, r, kept, e)) =
-      let (q, last) = reads more flag s.0 i (Err k) t.0 j may (final_by (Err k) e final) r in
-      (inr (k, q, kept, e), last)
 
 -- ---- what it reads
 

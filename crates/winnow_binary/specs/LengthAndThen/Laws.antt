@@ -3,14 +3,11 @@ use Rattle.std.specs.Prelude.{◌≡◌, ℕ, Bool, false, List, Err, ◌⊎◌,
 use Rattle.std.proofs.Common.{ap, subst, ◌∙◌, inl, inr, refl, sym, arith, length-append}
 use Rattle.streams.specs.Input.{Input, passes_end}
 use Rattle.streams.specs.Reading.{Reading}
-use Rattle.stream_errors.specs.Form.{ErrorForm, modal, Answer}
-use Rattle.streams.specs.Following.{Following, follows_end}
+use Rattle.stream_errors.specs.Form.{ErrorForm, Answer}
 use Rattle.winnow_core.specs.Ends.{same_ends}
 use Rattle.winnow_core.specs.Runs.{LeaveEnds, Runs}
-use Rattle.winnow_binary.specs.Length.Laws.{length_ends, length_grows}
+use Rattle.winnow_binary.specs.Length.Laws.{length_ends}
 use Rattle.winnow_binary.specs.LengthAndThen.{LengthAndThenRuns, TakenRuns, only_first}
-use Rattle.winnow_core.specs.Stable.Grows.{Grows, final_by}
-use Rattle.winnow_core.specs.Stable.Longer.{passes_cut, passes_more, short_final}
 use Rattle.streams.specs.Kind.{Kind, memory}
 use Rattle.grammars.specs.Grammar.{Grammar, NoMatch}
 use Rattle.grammars.specs.Grammar.Lengths.{Inside, SaysOne, Sized, inside_unique, same_beginnings}
@@ -37,28 +34,6 @@ pub length_and_then_ends : {S V T N L O : Type 0} (number : N → ℕ) (reading 
 length_and_then_ends number reading form counts count run ends =
     length_ends reading number count (TakenRuns reading form counts run) ends
     (λ n. taken_ends reading form counts run n)
-
-module _ {T : Type 0} {following : Following T} where
-  module _ {L : Type 0} (reading : Reading T L) (counts : Bool) where
-    -- the `n` tokens are an input of their own, so more input does not change the result, whatever
-    -- the parser is
-    taken_grows : {V O : Type 0} (run : Runs V T O) (n : ℕ)
-        → Grows following (TakenRuns reading modal counts run n)
-    taken_grows run n more flag s i answer t j may final
-        (inl (taken, rest, many, passes, ran)) = (
-          inl (taken, rest, many, passes_more more flag passes, ran),
-          (passes_cut passes may.0, follows_end following more (passes_end passes) may.1),
-        )
-    taken_grows run n more flag s i answer t j may final
-        (inr (k, few, short, e, kept, same)) =
-        short_final i may.0 short (final_by (Err k) e final)
-
-    -- stable under longer input, if the parser of the length is, for every other parser
-    pub length_and_then_grows : {S V N O : Type 0} (number : N → ℕ) {count : Runs S T N}
-        (run : Runs V T O) → Grows following count
-        → Grows following (LengthAndThenRuns number reading modal counts count run)
-    length_and_then_grows number run reads =
-        length_grows number (TakenRuns reading modal counts run) reads (taken_grows run)
 
 -- ---- a parser of `n` tokens
 

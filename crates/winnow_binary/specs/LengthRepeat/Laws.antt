@@ -8,12 +8,10 @@ use Rattle.streams.specs.Reading.{Reading}
 use Rattle.stream_errors.specs.Form.{Answer}
 use Rattle.stream_sets.specs.Accumulator.{Accumulator, Wants}
 use Rattle.stream_sets.specs.Range.{from_to}
-use Rattle.streams.specs.Following.{Following}
 use Rattle.winnow_core.specs.Runs.{LeaveEnds, Runs}
-use Rattle.winnow_repeat.specs.Repeat.Laws.{many_ends, many_grow}
-use Rattle.winnow_binary.specs.Length.Laws.{length_ends, length_grows}
+use Rattle.winnow_repeat.specs.Repeat.Laws.{many_ends}
+use Rattle.winnow_binary.specs.Length.Laws.{length_ends}
 use Rattle.winnow_binary.specs.LengthRepeat.{CountedItems, LengthRepeatRuns}
-use Rattle.winnow_core.specs.Stable.Grows.{Grows}
 use Rattle.stream_sets.specs.Accumulator.Holds.{Holds}
 use Rattle.grammars.specs.Grammar.{Grammar, Many, NoMatch, TakesTokens}
 use Rattle.grammars.specs.Grammar.Lengths.{SaysOne, Sized, Times, times_unique}
@@ -31,13 +29,6 @@ pub length_repeat_ends : {S V T N L O C : Type 0} (reading : Reading T L) (numbe
 length_repeat_ends reading number into assert_kind count run first second =
     length_ends reading number count (CountedItems run into assert_kind) first
     (λ n. many_ends reading run into assert_kind (from_to n (Some n)) second)
-
-module _ {T : Type 0} {following : Following T} where
-  pub length_repeat_grows : {S V N O C : Type 0} (number : N → ℕ) (into : Accumulator C O)
-      (asserted : Kind) {count : Runs S T N} (run : Runs V T O) → Grows following count
-      → Grows following run → Grows following (LengthRepeatRuns number into asserted count run)
-  length_repeat_grows number into asserted run reads items =
-      length_grows number _ reads (λ n. many_grow run into asserted (from_to n (Some n)) items)
 
 -- ---- `n` items
 

@@ -3,14 +3,11 @@ use Rattle.std.specs.Prelude.{ℕ, Bool, ⊤, false}
 use Rattle.std.proofs.Common.{refl, ap}
 use Rattle.streams.specs.Reading.{Reading}
 use Rattle.stream_errors.specs.Form.{ErrorForm, modal}
-use Rattle.streams.specs.Following.{Following}
 use Rattle.winnow_core.specs.Runs.{Keeps, LeaveEnds, Runs}
 use Rattle.winnow_token.specs.Take.{TakeRuns}
-use Rattle.winnow_token.specs.Take.Laws.{take_ends, take_stays}
-use Rattle.winnow_binary.specs.Length.Laws.{length_ends, length_grows}
+use Rattle.winnow_token.specs.Take.Laws.{take_ends}
+use Rattle.winnow_binary.specs.Length.Laws.{length_ends}
 use Rattle.winnow_binary.specs.LengthTake.{LengthTakeRuns}
-use Rattle.winnow_core.specs.Stable.Grows.{Grows, grows, leaf_stays, stays_beside}
-use Rattle.winnow_core.specs.Stable.{IsStable}
 use Rattle.grammars.specs.Grammar.{Counted, Grammar, TakesTokens}
 use Rattle.grammars.specs.Grammar.Lengths.{SaysOne, Sized, sized_takes}
 use Rattle.winnow_core.specs.Exact.{FailsBy, IsExact}
@@ -26,20 +23,6 @@ pub length_take_ends : {S T N L : Type 0} (number : N → ℕ) (reading : Readin
 length_take_ends number reading form counts count ends s i answer t j ran =
     length_ends reading number count (λ n. Keeps (λ _. TakeRuns reading form counts n)) ends
     (λ n x a y u k r. take_ends reading form counts n a y k r.0) (s, tt) i answer (t, tt) j ran
-
-module _ {T : Type 0} {following : Following T} where
-  module _ {L : Type 0} (reading : Reading T L) (counts : Bool) where
-    -- `n` tokens
-    take_grows : (n : ℕ)
-        → Grows following (Keeps {S = ⊤} (λ _. TakeRuns reading modal counts n))
-    take_grows n = grows (λ s i answer t j r. take_ends reading modal counts n i answer j r.0)
-        (leaf_stays following _ (λ _. take_stays reading counts n))
-
-    -- no longer input changes them, where those of the length grow
-    pub length_take_stays : {S N : Type 0} (number : N → ℕ) {count : Runs S T N}
-        → Grows following count
-        → IsStable following (LengthTakeRuns number reading modal counts count)
-    length_take_stays number reads = stays_beside tt (length_grows number _ reads take_grows)
 
 -- ---- what it reads
 

@@ -1,33 +1,25 @@
 -- Laws of `bits`.
 use Rattle.std.specs.Prelude.{◌≡◌, ◌+◌, ◌*◌, ◌-◌, ◌<◌, ◌≤◌, ℕ, suc, Bool, true, List, [], ◌∷◌}
 use Rattle.std.specs.Prelude.{◌++◌}
-use Rattle.std.specs.Prelude.{length, take, drop, Ok, Err}
+use Rattle.std.specs.Prelude.{length, take, drop, Ok}
 use Rattle.std.specs.List.{All}
 use Rattle.std.proofs.Common.{refl, sym, ap, ◌∙◌, arith, inl, inr, append_assoc, length-append}
-use Rattle.std.proofs.Common.{subst}
 use Rattle.std.proofs.lemmas.List.Elements.{All-drop}
 use Rattle.std.proofs.lemmas.List.{drop_at, length-take-le, take-append-drop, take_at}
-use Rattle.streams.specs.ByteStream.{CountsBytes, FollowedByBytes}
-use Rattle.streams.specs.Input.{Input, IsEndOf, with_more}
+use Rattle.streams.specs.ByteStream.{CountsBytes}
+use Rattle.streams.specs.Input.{Input, IsEndOf}
 use Rattle.streams.specs.Place.{Place, same_place}
 use Rattle.streams.specs.Reading.{Reading}
-use Rattle.stream_errors.specs.Form.{ErrorForm, Answer, modal}
-use Rattle.stream_bits.specs.BitInput.{bits_input, bits_readable, can_be_read, bits_follow}
-use Rattle.stream_bits.specs.BitInput.{bits_from, length_from, readable_is}
+use Rattle.stream_errors.specs.Form.{ErrorForm}
+use Rattle.stream_bits.specs.BitInput.{bits_input, bits_readable, can_be_read}
 use Rattle.stream_bits.specs.BitList.{bits_append, bits_cons, bits_of, length_bits, length_low}
 use Rattle.stream_bits.specs.BitList.{low_bits, same_byte}
 use Rattle.stream_bits.specs.BitReading.{advance_bits, bits_reading, byte_step}
 use Rattle.stream_bits.specs.Moves.{bytes_move}
-use Rattle.streams.specs.Following.{FitsAfter, most_bytes, Following, Follows}
 use Rattle.winnow_core.specs.Ends.{same_ends}
 use Rattle.winnow_core.specs.Runs.{LeaveEnds, Runs}
 use Rattle.winnow_bits.specs.BitsOfBytes.{BitsOfBytesRuns, LeavesWholeBytes}
 use Rattle.winnow_bits.specs.BytesOfBits.{WholeBytesOf}
-use Rattle.winnow_core.specs.Stable.Longer.{passes_more, same_more}
-use Rattle.winnow_bits.specs.Needs.{need_in_bytes, with_need}
-use Rattle.winnow_core.specs.Stable.{IsFinal, IsStable}
-use Rattle.winnow_core.specs.Stable.Grows.{final_by}
-use Rattle.winnow_bits.specs.LongerBits.{longer_bits, need_final}
 
 -- every call leaves a suffix, if the parser of bits does
 pub bits_of_bytes_ends : {S L O : Type 0} (reading : Reading ℕ L) (form : ErrorForm)
@@ -155,102 +147,3 @@ module _ {L : Type 0} (reading : Reading ℕ L) (counts : CountsBytes reading) (
       length_bits j.left.tokens,
     );
   }
-
--- bytes that may follow bytes have bits that may follow their bits
-bits_may : {L : Type 0} (reading : Reading ℕ L) (bytes more : List ℕ)
-    → FitsAfter (All (λ b. b < 256)) length most_bytes bytes more
-    → (bits_follow reading).can_follow (bits_from bytes 0) (bits_of more)
-bits_may reading bytes more f =
-    let readable : can_be_read bytes 0 ≡ true = readable_is bytes 0 (record {
-      inside = omega arith;
-      there = omega arith;
-      counted = omega (arith, f.fits);
-    }) in
-    record {
-      known = (more, f.known, refl);
-      fits = omega (arith, f.fits, length_from bytes 0 readable, length_bits more);
-    }
-
-leaves_more : {L : Type 0} (reading : Reading ℕ L) (more : List ℕ) (flag : Bool) (i : Input ℕ)
-    (k : Input Bool) (j : Input ℕ) → LeavesWholeBytes reading i k j
-    → LeavesWholeBytes reading (with_more i more flag) (with_more k (bits_of more) flag)
-    (with_more j more flag)
-leaves_more reading more flag i k j l = record {
-  begun = l.begun;
-  passes = passes_more more flag l.passes;
-  whole = omega (
-    arith,
-    l.whole,
-    length-append j.left.tokens more,
-    length-append k.left.tokens (bits_of more),
-    length_bits more,
-  );
-}
-
-module _ {L S O : Type 0} (reading : Reading ℕ L) (following : Following ℕ)
-    (followed : FollowedByBytes following) where
-  -- no longer input changes them, where it changes no run of the child
-  pub bits_of_bytes_stays : (run : Runs S Bool O) → IsStable (bits_follow reading) run
-      → IsStable following (BitsOfBytesRuns reading modal run)
-  bits_of_bytes_stays run child more flag s i answer t j is_cut follows final r = by r
-    where
-      behind : FitsAfter (All (λ b. b < 256)) length most_bytes i.left.tokens more
-      behind = followed.only i.left.tokens more follows.tokens
-
-      counted : length (i.left.tokens ++ more) ≤ most_bytes
-      counted = let fits = behind.fits in
-          omega (arith, fits, length-append i.left.tokens more)
-
-      may : Follows (bits_follow reading) (bits_input i 0).left (bits_of more)
-      may = record {
-        possible = readable_is i.left.tokens 0 (record {
-          inside = omega arith;
-          there = omega arith;
-          counted = let fits = behind.fits in omega (arith, fits);
-        });
-        tokens = bits_may reading i.left.tokens more behind;
-      }
-
-      again : (a : Answer O) (k : Input Bool) → IsFinal a → run s (bits_input i 0) a t k
-          → run s (bits_input (with_more i more flag) 0) a t (with_more k (bits_of more) flag)
-      again a k fin ran =
-          let P : Input Bool → Type 0 = λ x. run s x a t (with_more k (bits_of more) flag) in
-          subst P (sym (longer_bits i more flag counted))
-          (child (bits_of more) flag s (bits_input i 0) a t k is_cut may fin ran)
-
-      by : BitsOfBytesRuns reading modal run s i answer t j
-          → BitsOfBytesRuns reading modal run s (with_more i more flag) answer t
-          (with_more j more flag)
-      by (inl (o, k, few, ran, possible, leaves, e)) =
-          inl (
-            o,
-            with_more k (bits_of more) flag,
-            counted,
-            again (Ok o) k tt ran,
-            possible,
-            leaves_more reading more flag i k j leaves,
-            e,
-          )
-      by (inr (inl (x, k, few, ran, e, same))) =
-          let fin = need_final need_in_bytes x
-          (final_by (Err (with_need need_in_bytes x)) e final) in
-          inr (inl (
-            x,
-            with_more k (bits_of more) flag,
-            counted,
-            again (Err x) k fin ran,
-            e,
-            same_more more flag same,
-          ))
-      by (inr (inr (inl (o, k, few, ran, cannot, e, same)))) =
-          inr (inr (inl (
-            o,
-            with_more k (bits_of more) flag,
-            counted,
-            again (Ok o) k tt ran,
-            cannot,
-            e,
-            same_more more flag same,
-          )))
-      by (inr (inr (inr (many, kept, e, same)))) =
-          let fits = behind.fits in absurd (omega (arith, fits, many))

@@ -1,31 +1,23 @@
 -- Laws of `bytes`.
 use Rattle.std.specs.Prelude.{◌≡◌, ◌+◌, ◌*◌, ◌/◌, ◌%◌, ◌<◌, ℕ, Bool, true, ◌++◌, length, Ok}
 use Rattle.std.specs.Prelude.{nat_lt}
-use Rattle.std.specs.Prelude.{◌≤◌, List, Err}
 use Rattle.std.specs.List.{All}
 use Rattle.std.proofs.Common.{refl, sym, ap, subst, ◌∙◌, arith, inl, inr, append_assoc}
 use Rattle.std.proofs.Common.{length-append}
-use Rattle.std.proofs.lemmas.List.Elements.{All-append}
-use Rattle.streams.specs.ByteStream.{CountsBytes, FollowedByBytes}
-use Rattle.streams.specs.Input.{Input, IsEndOf, Status, with_more, ends-length}
+use Rattle.streams.specs.ByteStream.{CountsBytes}
+use Rattle.streams.specs.Input.{Input, IsEndOf}
 use Rattle.streams.specs.Place.{Place, same_place}
 use Rattle.streams.specs.Reading.{Reading}
-use Rattle.stream_errors.specs.Form.{ErrorForm, Answer, modal}
+use Rattle.stream_errors.specs.Form.{ErrorForm}
 use Rattle.stream_bits.specs.BitInput.{bits_from, bits_input, bits_readable, can_be_read}
-use Rattle.stream_bits.specs.BitInput.{readable_is, readable_says, bits_follow}
+use Rattle.stream_bits.specs.BitInput.{readable_is, readable_says}
 use Rattle.stream_bits.specs.BitList.{bits_append, bits_of, length_bits}
 use Rattle.stream_bits.specs.BitReading.{advance_bits, bits_reading, byte_step, moved}
 use Rattle.stream_bits.specs.Moves.{Moves, bytes_move, moves_pass, passed_bits, passed_length}
 use Rattle.stream_bits.specs.Moves.{still_readable}
-use Rattle.streams.specs.Following.{most_bytes, Following, Follows}
 use Rattle.winnow_core.specs.Ends.{same_ends}
 use Rattle.winnow_core.specs.Runs.{LeaveEnds, Runs}
 use Rattle.winnow_bits.specs.BytesOfBits.{BytesOfBitsRuns, WholeBytesOf}
-use Rattle.winnow_core.specs.Stable.{IsFinal, IsStable}
-use Rattle.winnow_bits.specs.Needs.{need_in_bits, with_need}
-use Rattle.winnow_core.specs.Stable.Grows.{final_by}
-use Rattle.winnow_core.specs.Stable.Longer.{same_more}
-use Rattle.winnow_bits.specs.LongerBits.{longer_bits, need_final}
 
 module _ {L : Type 0} (reading : Reading ℕ L) (counts : CountsBytes reading) (i : Input Bool)
     (k m : Input ℕ) (whole : WholeBytesOf (bits_reading reading) i k)
@@ -117,107 +109,3 @@ whole_behind reading i j offset bits m at few bytes between possible =
       possible = possible;
       status = passes.status;
     }
-
--- the bytes of bits and of those of more
-whole_more : {L : Type 0} (reading : Reading ℕ L) (bytes : List ℕ)
-    → All (λ b. b < 256) bytes → (flag : Bool) (i : Input Bool) (k : Input ℕ)
-    → length i.left.tokens + length (bits_of bytes) ≤ 8 * most_bytes
-    → WholeBytesOf (bits_reading reading) i k
-    → WholeBytesOf (bits_reading reading) (with_more i (bits_of bytes) flag)
-    (with_more k bytes flag)
-whole_more reading bytes are flag i k fits w = record {
-  begun = w.begun;
-  tokens = ap (λ l. l ++ bits_of bytes) w.tokens
-      ∙ append_assoc w.begun (bits_of k.left.tokens) (bits_of bytes)
-      ∙ ap (λ l. w.begun ++ l) (sym (bits_append k.left.tokens bytes));
-  short = w.short;
-  place = w.place;
-  between = w.between;
-  bytes = All-append (λ b. b < 256) k.left.tokens bytes w.bytes are;
-  counted = omega (
-    arith,
-    fits,
-    ap (λ l. length l) w.tokens,
-    length-append w.begun (bits_of k.left.tokens),
-    length_bits k.left.tokens,
-    length_bits bytes,
-    length-append k.left.tokens bytes,
-  );
-  from = w.from;
-  possible = w.possible;
-  status = ap (λ (x : Status). record x { cut = flag }) w.status;
-}
-
-module _ {L S O : Type 0} (reading : Reading ℕ L) (following : Following ℕ)
-    (followed : FollowedByBytes following) where
-  -- a run on the bytes of bits, on those of longer bits too
-  again_on : (run : Runs S ℕ O) → IsStable following run → (bytes : List ℕ)
-      → All (λ b. b < 256) bytes → (flag : Bool) (s : S) (i : Input Bool) (k : Input ℕ)
-      (a : Answer O) (t : S) (m : Input ℕ) → i.status.cut ≡ true
-      → length i.left.tokens + length (bits_of bytes) ≤ 8 * most_bytes
-      → WholeBytesOf (bits_reading reading) i k → IsFinal a → run s k a t m
-      → run s (with_more k bytes flag) a t (with_more m bytes flag)
-  again_on run child bytes are flag s i k a t m is_cut fits w fin ran =
-      let longer = whole_more reading bytes are flag i k fits w in
-      let counted = longer.counted in
-      let may : Follows following k.left bytes = record {
-        possible = w.possible;
-        tokens = followed.may k.left.tokens bytes (record {
-          known = are;
-          fits = omega (arith, counted, length-append k.left.tokens bytes);
-        });
-      } in
-      child bytes flag s k a t m (ap (λ x. x.cut) w.status ∙ is_cut) may fin ran
-
-  -- no longer input changes them, where it changes no run of the child
-  pub bytes_of_bits_stays : (run : Runs S ℕ O) → LeaveEnds reading run → IsStable following run
-      → IsStable (bits_follow reading) (BytesOfBitsRuns (bits_reading reading) modal run)
-  bytes_of_bits_stays run ends child more flag s i answer t j is_cut follows final r =
-      let (bytes, are, is) = follows.tokens.known in
-      let P : List Bool → Type 0 =
-      λ l. BytesOfBitsRuns (bits_reading reading) modal run s (with_more i l flag) answer t
-      (with_more j l flag) in
-      let fits = follows.tokens.fits in
-      let of_bytes : length i.left.tokens + length (bits_of bytes) ≤ 8 * most_bytes =
-      omega (arith, fits, ap (λ l. length l) is) in
-      subst P (sym is) (by bytes are of_bytes r)
-    where
-      by : (bytes : List ℕ) → All (λ b. b < 256) bytes
-          → length i.left.tokens + length (bits_of bytes) ≤ 8 * most_bytes
-          → BytesOfBitsRuns (bits_reading reading) modal run s i answer t j
-          → BytesOfBitsRuns (bits_reading reading) modal run s
-          (with_more i (bits_of bytes) flag) answer t (with_more j (bits_of bytes) flag)
-      by bytes are fits (inl (o, k, m, w, ran, e, is)) =
-          let longer = whole_more reading bytes are flag i k fits w in
-          let fewer = ends-length (ends s k (Ok o) t m ran).ends in
-          let counted : length (m.left.tokens ++ bytes) ≤ most_bytes = omega (
-            arith,
-            fewer,
-            longer.counted,
-            length-append k.left.tokens bytes,
-            length-append m.left.tokens bytes,
-          ) in
-          inl (
-            o,
-            with_more k bytes flag,
-            with_more m bytes flag,
-            longer,
-            again_on run child bytes are flag s i k (Ok o) t m is_cut fits w tt ran,
-            e,
-            same_more (bits_of bytes) flag is ∙ sym (longer_bits m bytes flag counted),
-          )
-      by bytes are fits (inr (inl (x, k, m, w, ran, e, same))) =
-          let fin = need_final need_in_bits x
-          (final_by (Err (with_need need_in_bits x)) e final) in
-          let longer = whole_more reading bytes are flag i k fits w in
-          inr (inl (
-            x,
-            with_more k bytes flag,
-            with_more m bytes flag,
-            longer,
-            again_on run child bytes are flag s i k (Err x) t m is_cut fits w fin ran,
-            e,
-            same_more (bits_of bytes) flag same,
-          ))
-      by bytes are fits (inr (inr (cannot, kept, e, same))) =
-          inr (inr (cannot, kept, e, same_more (bits_of bytes) flag same))

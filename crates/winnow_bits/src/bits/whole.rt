@@ -5,7 +5,9 @@ ghost use Rattle.std.specs.Prelude.{◌≡◌, true};
 ghost use Rattle.stream_bits.specs.BitReading.{bits_reading};
 ghost use Rattle.streams.specs.Needed.{need_of};
 ghost use Rattle.winnow_bits.specs.BytesOfBits.{WholeBytesOf};
-ghost use Rattle.winnow_bits.specs.Needs.{need_in_bits, need_in_bytes, with_need};
+ghost use Rattle.parser_definitions.specs.BitsOfBytes.{need_in_bytes};
+ghost use Rattle.parser_definitions.specs.BytesOfBits.{need_in_bits};
+ghost use Rattle.winnow_bits.specs.Needs.{with_need};
 
 use stream_bits::bits::Bits;
 use stream_errors::convert::ErrorConvert;

@@ -4,7 +4,6 @@ use Rattle.std.proofs.Common.{ap, inl, inr}
 use Rattle.streams.specs.Input.{Input}
 use Rattle.streams.specs.Kind.{Kind, backtrack}
 use Rattle.stream_errors.specs.Form.{Answer}
-use Rattle.winnow_comb.specs.Alt.{OrElse}
 
 -- the runs of OrElse that answer so, by what those of the branch relate, and of the others from the
 -- start

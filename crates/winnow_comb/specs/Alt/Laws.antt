@@ -2,14 +2,11 @@
 use Rattle.std.specs.Prelude.{◌≡◌, Err, ◌⊎◌, Ok, false}
 use Rattle.std.proofs.Common.{refl, subst, ap, ◌∙◌, inl, inr}
 use Rattle.streams.specs.Input.{Input, Remaining, back_at, is_end_of_back, is_end_of_trans}
-use Rattle.streams.specs.Input.{with_more}
 use Rattle.streams.specs.Kind.{backtrack, Kind, memory}
 use Rattle.streams.specs.Reading.{Reading}
 use Rattle.stream_errors.specs.Form.{Answer}
-use Rattle.streams.specs.Following.{Following}
 use Rattle.winnow_core.specs.Runs.{Runs, LeaveEnds}
 use Rattle.winnow_comb.specs.Alt.{OrElse}
-use Rattle.winnow_core.specs.Stable.Grows.{Grows}
 use Rattle.winnow_core.specs.States.{pair_is}
 use Rattle.grammars.specs.Grammar.{Either, Grammar, NoMatch}
 use Rattle.grammars.specs.Grammar.Unique.{either_unique}
@@ -34,23 +31,6 @@ pub or_else_next : {S1 S2 T O : Type 0} (run : Runs S1 T O) (others : Runs S2 T 
 or_else_next run others s i answer t j m start at (a, r, same) q =
     let P : Input _ → Type 0 = λ x. others s.1 x answer t.1 j in
     inr (a, r, subst P (same ∙ ap (λ x. back_at x a) at) q)
-
-module _ {T : Type 0} {following : Following T} where
-  -- a choice grows where its branches do
-  pub or_else_grows : {S1 S2 O : Type 0} {run : Runs S1 T O} {others : Runs S2 T O}
-      → Grows following run → Grows following others → Grows following (OrElse run others)
-  or_else_grows child rest more flag s i answer t j may final (inl (r, other, kept)) =
-      let (q, still) = child more flag s.0 i answer t.0 j may final r in
-      (inl (q, other, kept), still)
-  or_else_grows child rest more flag s i answer t j may final (inr (a, r, others)) =
-      let (q, still) = child more flag s.0 i (Err backtrack) t.0 a may tt r in
-      let (p, last) =
-      rest more flag s.1 (back_at i.left a) answer t.1 j (still.0, may.1) final others in
-      (inr (with_more a more flag, q, p), last)
-
--- Alike in one way or in the other.
-abbrev pub EitherAlike : {O : Type 0} → (O → O → Type 0) → (O → O → Type 0) → O → O → Type 0
-EitherAlike first others o p = first o p ⊎ others o p
 
 -- ---- what it reads
 

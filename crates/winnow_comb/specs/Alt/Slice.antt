@@ -4,7 +4,6 @@ use Rattle.streams.specs.Input.{Input, Remaining, back_at}
 use Rattle.streams.specs.Kind.{Kind, backtrack}
 use Rattle.winnow_core.specs.Runs.{Runs}
 pub mod Laws
-pub mod Says
 
 -- Each of these branches backtracked, and the input went back to the start after it.
 abbrev pub Backtracked : {S T O : Type 0} → Runs S T O → Remaining T → List S → Input T → List S

@@ -4,11 +4,8 @@ use Rattle.std.proofs.Common.{inl, inr, refl, ap, ◌∙◌}
 use Rattle.streams.specs.Reading.{Reading}
 use Rattle.streams.specs.Kind.{Kind, backtrack, cut, incomplete, memory}
 use Rattle.stream_errors.specs.Mode.{cut_of}
-use Rattle.streams.specs.Following.{Following}
 use Rattle.winnow_core.specs.Runs.{Runs, LeaveEnds}
 use Rattle.winnow_comb.specs.CutErr.{CutErrRuns}
-use Rattle.winnow_core.specs.Stable.{IsFinalKind}
-use Rattle.winnow_core.specs.Stable.Grows.{Grows, final_by}
 use Rattle.streams.specs.Input.{Input}
 use Rattle.stream_errors.specs.Form.{Answer}
 use Rattle.grammars.specs.Grammar.{Grammar, NoMatch}
@@ -21,23 +18,6 @@ pub cut_err_ends : {S T L O : Type 0} (reading : Reading T L) (run : Runs S T O)
     → LeaveEnds reading run → LeaveEnds reading (CutErrRuns run)
 cut_err_ends reading run ends s i answer t j (inl (o, r, e)) = ends s i (Ok o) t j r
 cut_err_ends reading run ends s i answer t j (inr (k, r, e)) = ends s i (Err k) t j r
-
--- what cuts or backtracks once it was made to was of a final kind
-cut_of_final : (k : Kind) → IsFinalKind (cut_of k) → IsFinalKind k
-cut_of_final backtrack final = tt
-cut_of_final cut final = tt
-cut_of_final (incomplete need) final = final
-cut_of_final memory final = final
-
-module _ {T : Type 0} {following : Following T} where
-  -- stable under longer input, if the child is
-  pub cut_err_grows : {S O : Type 0} {run : Runs S T O} → Grows following run
-      → Grows following (CutErrRuns run)
-  cut_err_grows child more flag s i answer t j may final (inl (o, r, e)) =
-      let (q, still) = child more flag s i (Ok o) t j may tt r in (inl (o, q, e), still)
-  cut_err_grows child more flag s i answer t j may final (inr (k, r, e)) =
-      let was = cut_of_final k (final_by (Err (cut_of k)) e final) in
-      let (q, still) = child more flag s i (Err k) t j may was r in (inr (k, q, e), still)
 
 -- ---- what it reads
 

@@ -1,7 +1,5 @@
 -- Laws of `empty`.
 use Rattle.winnow_comb.specs.Empty.{EmptyRuns}
-use Rattle.winnow_core.specs.Stable.Longer.{same_more}
-use Rattle.winnow_core.specs.Stable.Grows.{Stays}
 use Rattle.std.specs.Prelude.{⊤}
 use Rattle.std.proofs.Common.{refl, ap, ◌∙◌}
 use Rattle.grammars.specs.Grammar.{Nothing}
@@ -9,10 +7,6 @@ use Rattle.grammars.specs.Grammar.Unique.{unique_nothing}
 use Rattle.stream_errors.specs.Form.Inversion.{ok_is_err, same_ok}
 use Rattle.winnow_core.specs.Exact.{Backtracks, IsExact}
 use Rattle.winnow_core.specs.Runs.{Keeps}
-
--- a final result on partial input is also a result on every longer input
-pub empty_stays : {T : Type 0} → Stays (EmptyRuns {T = T})
-empty_stays more flag i answer j is_cut final (e, same) = (e, same_more more flag same)
 
 -- ---- what it reads
 

@@ -1,17 +1,11 @@
 -- Laws of `fail`.
 use Rattle.winnow_comb.specs.Fail.{FailRuns}
-use Rattle.winnow_core.specs.Stable.Longer.{same_more}
-use Rattle.winnow_core.specs.Stable.Grows.{Stays}
 use Rattle.std.specs.Prelude.{⊤}
 use Rattle.std.proofs.Common.{refl, ap, inr, ◌∙◌}
 use Rattle.grammars.specs.Grammar.{Never, TakesTokens}
 use Rattle.stream_errors.specs.Form.Inversion.{ok_is_err, same_kind}
 use Rattle.winnow_core.specs.Exact.{Backtracks, IsExact}
 use Rattle.winnow_core.specs.Runs.{Keeps}
-
--- a final result on partial input is also a result on every longer input
-pub fail_stays : {T O : Type 0} → Stays (FailRuns {T = T} {O = O})
-fail_stays more flag i answer j is_cut final (e, same) = (e, same_more more flag same)
 
 -- ---- what it reads
 

@@ -1,15 +1,12 @@
 -- Laws of `opt`.
-use Rattle.std.specs.Prelude.{Ok, Err, ◌≡◌, ◌⊎◌, Option, Some, None, ⊤, false}
+use Rattle.std.specs.Prelude.{Ok, Err, ◌≡◌, ◌⊎◌, Option, false}
 use Rattle.std.proofs.Common.{inl, inr, refl, ap, ◌∙◌}
 use Rattle.streams.specs.Kind.{backtrack, Kind, memory}
 use Rattle.streams.specs.Reading.{Reading}
-use Rattle.streams.specs.Following.{Following}
-use Rattle.streams.specs.Input.{with_more, Input}
+use Rattle.streams.specs.Input.{Input}
 use Rattle.winnow_core.specs.Ends.{back_ends}
 use Rattle.winnow_core.specs.Runs.{Runs, LeaveEnds}
 use Rattle.winnow_comb.specs.Opt.{OptRuns}
-use Rattle.winnow_core.specs.Stable.Longer.{back_grows}
-use Rattle.winnow_core.specs.Stable.Grows.{Grows, final_by}
 use Rattle.stream_errors.specs.Form.{Answer}
 use Rattle.grammars.specs.Grammar.{Grammar, NoMatch, Optional}
 use Rattle.grammars.specs.Grammar.Unique.{optional_unique}
@@ -24,27 +21,6 @@ opt_ends reading run ends s i answer t j (inl (o, r, e)) = ends s i (Ok o) t j r
 opt_ends reading run ends s i answer t j (inr (inl (m, r, e, same))) =
     back_ends reading i m j same (ends s i (Err backtrack) t m r)
 opt_ends reading run ends s i answer t j (inr (inr (k, r, other, e))) = ends s i (Err k) t j r
-
-module _ {T : Type 0} {following : Following T} where
-  -- stable under longer input, if the child is
-  pub opt_grows : {S O : Type 0} {run : Runs S T O} → Grows following run
-      → Grows following (OptRuns run)
-  opt_grows child more flag s i answer t j may final (inl (o, r, e)) =
-      let (q, still) = child more flag s i (Ok o) t j may tt r in (inl (o, q, e), still)
-  opt_grows child more flag s i answer t j may final (inr (inl (m, r, e, same))) =
-      let (q, still) = child more flag s i (Err backtrack) t m may tt r in
-      let (back, last) = back_grows flag i m may still same in
-      (inr (inl (with_more m more flag, q, e, back)), last)
-  opt_grows child more flag s i answer t j may final (inr (inr (k, r, other, e))) =
-      let (q, still) = child more flag s i (Err k) t j may (final_by (Err k) e final) r in
-      (inr (inr (k, q, other, e)), still)
-
--- Both are `None`, or both are `Some` of equal outputs.
-abbrev pub AlikeOptions : {O : Type 0} → (O → O → Type 0) → Option O → Option O → Type 0
-AlikeOptions alike None None = ⊤
-AlikeOptions alike None (Some p) = ⊥
-AlikeOptions alike (Some o) None = ⊥
-AlikeOptions alike (Some o) (Some p) = alike o p
 
 -- ---- what it reads
 

@@ -1,12 +1,10 @@
 -- Lemmas about the kind of an error after a context is added.
 use Rattle.std.specs.Prelude.{◌≡◌, ◌⊎◌, IsSome, None}
-use Rattle.std.proofs.Common.{inl, inr, refl, subst}
+use Rattle.std.proofs.Common.{inl, inr, refl}
 use Rattle.streams.specs.Kind.{ErrorForm, Kind}
 use Rattle.stream_errors.specs.Form.{need_of_kind}
 use Rattle.stream_errors.specs.Given.{Keeping, KeepsContext, KindGiven}
 use Rattle.winnow_core.specs.Context.{ContextBecomes}
-use Rattle.winnow_core.specs.Stable.{IsFinalKind}
-use Rattle.winnow_core.specs.MakesError.Laws.{KeepsFinal}
 
 -- `Incomplete` stores no context and is unchanged. Other kinds store it, or their allocation
 -- failed.
@@ -29,19 +27,3 @@ becomes_told IsClone ClonesAlways context gives copy k l is (inl (some, same)) =
     (refl, inl (some, same))
 becomes_told IsClone ClonesAlways context gives copy k l is (inr (none, given)) =
     (refl, inr (inl (copy, none, is, given)))
-
--- kinds that are kept where something is kept in the error, or are memory
-pub given_final : (keeping : Keeping) (k l : Kind) → KindGiven keeping k l → IsFinalKind l
-    → IsFinalKind k
-given_final keeping k l (inl (kept, is)) final = subst IsFinalKind is final
-given_final keeping k l (inr (refused, is)) final = absurd (subst IsFinalKind is final)
-
--- if the kind with a context is final, so is the kind without
-pub context_keeps : {C : Type 0} (IsClone : C → C → Type 0) (ClonesAlways : C → Type 0)
-    → KeepsFinal (ContextBecomes IsClone ClonesAlways)
-context_keeps IsClone ClonesAlways c k l d (same, inl (some, is)) final =
-    subst IsFinalKind is final
-context_keeps IsClone ClonesAlways c k l d (same, inr (inl (copy, none, clone, given))) final =
-    given_final (c.1 copy) k l given final
-context_keeps IsClone ClonesAlways c k l d (same, inr (inr (none, refused, is))) final =
-    absurd (subst IsFinalKind is final)

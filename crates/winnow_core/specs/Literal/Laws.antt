@@ -1,17 +1,14 @@
 -- Laws of literals.
-use Rattle.std.specs.Prelude.{List, ◌++◌, [], ◌∷◌, None, Err, ◌≡◌, ℕ, false, Ok, ⊤}
-use Rattle.std.proofs.Common.{inl, inr, subst, append_assoc, arith, length-append, refl, sym, ap}
+use Rattle.std.specs.Prelude.{List, Err, ◌≡◌, ℕ, false, Ok, ⊤}
+use Rattle.std.proofs.Common.{inl, inr, refl, sym, ap}
 use Rattle.std.proofs.Common.{◌∙◌}
 use Rattle.streams.specs.Input.{Input, IsEndOf, takes_end}
 use Rattle.streams.specs.Reading.{Reading}
-use Rattle.stream_errors.specs.Form.{Answer, ErrorForm, modal}
-use Rattle.stream_searches.specs.Compare.{StartsWithSpelling, IsShort}
-use Rattle.streams.specs.Kind.{incomplete, Kind, backtrack}
+use Rattle.stream_errors.specs.Form.{Answer, ErrorForm}
+use Rattle.streams.specs.Kind.{Kind, backtrack}
 use Rattle.winnow_core.specs.Ends.{same_ends}
-use Rattle.winnow_core.specs.Literal.{LiteralRuns, IsOneToken}
+use Rattle.winnow_core.specs.Literal.{LiteralRuns}
 use Rattle.winnow_core.specs.Runs.{Keeps}
-use Rattle.winnow_core.specs.Stable.Longer.{one_beginning, same_more, takes_more}
-use Rattle.winnow_core.specs.Stable.Grows.{Stays, final_by, not_whole}
 use Rattle.streams.specs.Equal.{true_is_false}
 use Rattle.std.specs.Borrow.{Bor}
 use Rattle.grammars.specs.Grammar.{Literally, NoMatch}
@@ -29,70 +26,6 @@ literal_ends reading form spelled output i answer j (inr (inl (short, is_cut, e,
     same_ends reading i j same
 literal_ends reading form spelled output i answer j (inr (inr (other, whole, e, same))) =
     same_ends reading i j same
-
--- if tokens do not start with a spelling and are not a proper prefix of one, neither does longer
--- input, nor is it
-pub still_not_first : {T : Type 0} (spelled : List T → Type 0) (tokens more : List T)
-    → (StartsWithSpelling spelled tokens → ⊥) → (IsShort spelled tokens → ⊥)
-    → StartsWithSpelling spelled (tokens ++ more) → ⊥
-still_not_first spelled tokens more none short (front, rest, spells, split) =
-    elim (one_beginning tokens more front rest split) [
-      | inl (others, is) ↦ none (front, others, spells, is)
-      | inr (x, others, is) ↦ short (x, others, subst spelled is spells)
-    ]
-
-pub still_not_short : {T : Type 0} (spelled : List T → Type 0) (tokens more : List T)
-    → (IsShort spelled tokens → ⊥) → IsShort spelled (tokens ++ more) → ⊥
-still_not_short spelled tokens [] short (x, others, spells) =
-    short (x, others, subst spelled (append_assoc tokens [] (x ∷ others)) spells)
-still_not_short spelled tokens (y ∷ ys) short (x, others, spells) =
-    short (y, ys ++ x ∷ others, subst spelled (append_assoc tokens (y ∷ ys) (x ∷ others)) spells)
-
--- a final result on partial input is also a result on every longer input
-pub literal_stays : {T L O : Type 0} (reading : Reading T L) (spelled : List T → Type 0)
-    (output : L → O) → Stays (LiteralRuns reading modal spelled output)
-literal_stays reading spelled output more flag i answer j is_cut final
-    (inl (front, slice, spells, takes, e)) =
-    inl (front, slice, spells, takes_more more flag takes, e)
-literal_stays reading spelled output more flag i answer j is_cut final
-    (inr (inl (short, cuts, e, same))) = absurd (final_by (Err (incomplete None)) e final)
-literal_stays reading spelled output more flag i answer j is_cut final
-    (inr (inr (other, whole, e, same))) =
-    let not_short : IsShort spelled i.left.tokens → ⊥ =
-    λ short. not_whole is_cut (whole short) in
-    inr (inr (
-      still_not_first spelled i.left.tokens more other not_short,
-      (λ short. absurd (still_not_short spelled i.left.tokens more not_short short)),
-      e,
-      same_more more flag same,
-    ))
-
--- nonempty tokens are not a proper prefix of one token
-pub never_short : {T : Type 0} (spelled : List T → Type 0) (tokens : List T) → IsOneToken spelled
-    → (tokens ≡ [] → ⊥) → IsShort spelled tokens → ⊥
-never_short spelled [] one some short = some refl
-never_short spelled (t ∷ ts) one some (x, more, spells) =
-    absurd (omega (arith, one (t ∷ ts ++ x ∷ more) spells, length-append ts (x ∷ more)))
-
--- ---- one state and one input decide it
-
--- Slices that show the same tokens.
-abbrev pub ShowSame : {T L : Type 0} → Reading T L → L → L → Type 0
-ShowSame {T} reading slice other =
-    (front : List T) × reading.shows slice front × reading.shows other front
-
-pub not_longer : {P T L : Type 0} (reading : Reading T L) (tokens front rest more : List T) (x : T)
-    → tokens ≡ front ++ rest → reading.units front ≡ reading.units (tokens ++ x ∷ more) → P
-not_longer reading tokens front rest more x e u =
-    let whole = ap reading.units e in
-    absurd (omega (
-      arith,
-      u,
-      whole,
-      reading.units_add front rest,
-      reading.units_add tokens (x ∷ more),
-      reading.units_positive x more,
-    ))
 
 -- ---- what it reads
 

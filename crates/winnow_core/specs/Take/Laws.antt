@@ -1,12 +1,10 @@
 -- Laws of the adapter `take`.
 use Rattle.std.specs.Prelude.{◌≡◌, List, ◌++◌, Ok, Err}
-use Rattle.std.proofs.Common.{ap, sym, ◌∙◌, inl, inr, append_assoc}
+use Rattle.std.proofs.Common.{ap, sym, ◌∙◌, inl, inr}
 use Rattle.streams.specs.Reading.{Reading}
-use Rattle.streams.specs.Following.{Following}
 use Rattle.winnow_core.specs.Laws.{TakesFromTheFront}
 use Rattle.winnow_core.specs.Take.{TakeRuns}
 use Rattle.winnow_core.specs.Runs.{Runs, LeaveEnds}
-use Rattle.winnow_core.specs.Stable.Grows.{Grows, final_by}
 
 -- every call leaves a suffix, if the child does
 pub take_ends : {S T L O : Type 0} (reading : Reading T L) (run : Runs S T O)
@@ -26,17 +24,3 @@ taken_from_the_front reading run tokens_of told s i slice t j
     split ∙ ap (λ l. l ++ j.left.tokens) (sym (told x front shown))
     ∙ ap (λ y. tokens_of y ++ j.left.tokens) (sym same)
 taken_from_the_front reading run tokens_of told s i slice t j (inr (k, r, e)) = cc
-
-module _ {T : Type 0} {following : Following T} where
-  -- stable under longer input, if the child is
-  pub take_adapter_grows : {S L O : Type 0} {run : Runs S T O} (reading : Reading T L)
-      → Grows following run → Grows following (TakeRuns reading run)
-  take_adapter_grows reading child more flag s i answer t j may final
-      (inl (o, front, slice, r, splits, shown, e)) =
-      let (q, still) = child more flag s i (Ok o) t j may tt r in
-      let split =
-      ap (λ l. l ++ more) splits ∙ append_assoc front j.left.tokens more in
-      (inl (o, front, slice, q, split, shown, e), still)
-  take_adapter_grows reading child more flag s i answer t j may final (inr (k, r, e)) =
-      let (q, still) = child more flag s i (Err k) t j may (final_by (Err k) e final) r in
-      (inr (k, q, e), still)

@@ -1,11 +1,10 @@
 -- Laws of `with_taken`.
 use Rattle.std.specs.Prelude.{◌≡◌, List, ◌++◌}
-use Rattle.std.proofs.Common.{ap, sym, ◌∙◌, inl, inr, append_assoc}
+use Rattle.std.proofs.Common.{ap, sym, ◌∙◌, inl, inr}
 use Rattle.streams.specs.Reading.{Reading}
 use Rattle.winnow_core.specs.Laws.{TakesFromTheFront}
 use Rattle.winnow_core.specs.Runs.{Runs}
 use Rattle.winnow_core.specs.WithTaken.{WithTakenRuns}
-use Rattle.winnow_core.specs.MakesOutput.Laws.{MakesMore}
 
 -- if a slice determines its tokens, then those of the returned slice, followed by the rest, are the
 -- original input
@@ -18,10 +17,3 @@ with_taken_from_the_front reading run tokens_of told s i both t j
     split ∙ ap (λ l. l ++ j.left.tokens) (sym (told x.1 front shown))
     ∙ ap (λ y. tokens_of y.1 ++ j.left.tokens) (sym same)
 with_taken_from_the_front reading run tokens_of told s i both t j (inr (k, r, e)) = cc
-
--- what is made of the tokens between is made of them in a longer input
-pub made_with_taken : {T L O : Type 0} (reading : Reading T L)
-    → MakesMore {T = T} {O = O} {U = O × L} (λ i o j both. (both.0 ≡ o) × ((front : List T)
-    × (i.left.tokens ≡ front ++ j.left.tokens) × reading.shows both.1 front))
-made_with_taken reading more flag i o j both (is, (front, splits, shown)) =
-    (is, (front, ap (λ l. l ++ more) splits ∙ append_assoc front j.left.tokens more, shown))

@@ -1,8 +1,10 @@
 //! Closures as parsers.
 ghost use Rattle.std.specs.Fn.{CalledAtMut};
-ghost use Rattle.winnow_core.specs.Func.{CalledWithMut, FuncRuns, FuncWithRuns, LeavesEndsFrom};
+ghost use Rattle.parser_definitions.specs.Func.{FuncDoes, FuncWithDoes, beside};
 ghost use Rattle.winnow_core.specs.Claim.{no_claim, nothing_claimed};
-ghost use Rattle.winnow_core.specs.Says.{Is, nothing_done, nothing_said};
+ghost use Rattle.winnow_core.specs.Covers.Functions.{func_covered, func_lawful, func_terms};
+ghost use Rattle.winnow_core.specs.Covers.Functions.{func_with_covered};
+ghost use Rattle.winnow_core.specs.Func.{CalledWithMut, FuncRuns, FuncWithRuns, LeavesEndsFrom};
 
 use crate::parser::Parser;
 use stream_errors::parser_error::ParserError;
@@ -14,6 +16,10 @@ use streams::stream::Stream;
 /// every state that its calls lead to (`LeavesEndsFrom`). Any further requirement is in the
 /// caller's own clause. `leaves_always` and `leaves_within` in `specs/Func.antt` prove this for
 /// closures that leave a suffix in every state, and for a set of states that calls preserve.
+///
+/// Its definition allows the outcomes of the calls. The premise is that state and input determine
+/// each call, and that none on complete input is incomplete. It is stable if longer inputs keep
+/// final results. Both are in `specs/Covers/Functions.antt`.
 ///
 /// A plain function needs one clause, over bytes, or over any stream if it is used at one:
 ///
@@ -52,17 +58,19 @@ impl<F: FnMut(&mut I) -> Result<O, E>, I: Stream, O, E: ParserError<I>> Parser<I
 
     ghost state = { λ s. s.0 };
 
-    ghost states = { Is };
-
     ghost meaning = { λ _. FuncRuns I.reading I.view E.kind (CalledAtMut F.FnMut) };
 
-    ghost says = { λ _. nothing_said };
+    ghost does = { FuncDoes I.view E.kind (CalledAtMut F.FnMut) };
+
+    ghost terms = { func_terms I.view E.kind (CalledAtMut F.FnMut) };
 
     ghost claim = { λ _. no_claim };
 
     ghost leaves_ends = { λ form s i answer t j r. r.1 };
 
-    ghost said = { λ _. nothing_done };
+    ghost covers = { λ is at. func_covered I.view E.kind I.reading (CalledAtMut F.FnMut) };
+
+    ghost lawful = { λ is. func_lawful I.view E.kind is };
 
     ghost claimed = { λ _. nothing_claimed };
 
@@ -102,17 +110,19 @@ impl<A: Copy, F: FnMut(A, &mut I) -> Result<O, E>, I: Stream, O, E: ParserError<
 
     ghost state = { λ s. (s.0, s.1) };
 
-    ghost states = { Is };
-
     ghost meaning = { λ _. FuncWithRuns I.reading I.view E.kind (CalledWithMut F.FnMut) };
 
-    ghost says = { λ _. nothing_said };
+    ghost does = { FuncWithDoes I.view E.kind (CalledWithMut F.FnMut) };
+
+    ghost terms = { func_terms I.view E.kind (beside (CalledWithMut F.FnMut)) };
 
     ghost claim = { λ _. no_claim };
 
     ghost leaves_ends = { λ form s i answer t j r. r.0.1 };
 
-    ghost said = { λ _. nothing_done };
+    ghost covers = { λ is at. func_with_covered I.view E.kind I.reading (CalledWithMut F.FnMut) };
+
+    ghost lawful = { λ is. func_lawful I.view E.kind is };
 
     ghost claimed = { λ _. nothing_claimed };
 

@@ -1,18 +1,16 @@
 //! Values that are parsers of themselves.
-ghost use Rattle.std.specs.Prelude.{◌≡◌};
+ghost use Rattle.std.specs.Prelude.{◌≡◌, ⊤};
 ghost use Rattle.std.proofs.Common.{refl};
+ghost use Rattle.parser_definitions.specs.Literal.{LiteralDoes, literal_law};
+ghost use Rattle.parser_definitions.specs.Spelled.{ShowSame};
+ghost use Rattle.winnow_core.specs.Covers.Leaves.{literal_covered};
 ghost use Rattle.winnow_core.specs.Literal.{LiteralRuns};
 ghost use Rattle.winnow_core.specs.Literal.Claim.{literal_claim, literal_claimed};
-ghost use Rattle.winnow_core.specs.Literal.Laws.{ShowSame, literal_ends};
-ghost use Rattle.winnow_core.specs.Literal.Laws.{literal_stays};
-ghost use Rattle.winnow_core.specs.Literal.Says.{literal_said, literal_says};
+ghost use Rattle.winnow_core.specs.Literal.Laws.{literal_ends};
 ghost use Rattle.winnow_core.specs.Runs.{Keeps};
-ghost use Rattle.winnow_core.specs.Says.{Is};
-ghost use Rattle.winnow_core.specs.Stable.Grows.{leaf_stays};
 
 use crate::literal::take_literal;
 use crate::parser::Parser;
-use crate::stable::Stable;
 use stream_errors::parser_error::ParserError;
 use stream_searches::caseless::Caseless;
 use stream_searches::compare::Compare;
@@ -27,19 +25,21 @@ impl<I: StreamIsPartial + Compare<u8>, E: ParserError<I>> Parser<I, u8, E> for u
 
     ghost state = { λ s. s };
 
-    ghost states = { Is };
-
     ghost meaning = { λ form. Keeps (λ s. LiteralRuns I.reading form (I.spells s) (λ _. s)) };
 
-    ghost says = { λ s. literal_says I.reading (I.spells s) (λ _. s) (λ o q. o ≡ q) };
+    ghost does = { LiteralDoes I.reading I.spells (λ s _. s) };
+
+    ghost terms = { record { premise = ⊤; stable = ⊤; alike = λ o p. o ≡ p } };
 
     ghost claim = { literal_claim I.reading I.spells (λ s _. s) };
 
     ghost leaves_ends = { λ form s i answer t j r. literal_ends I.reading form (I.spells s)
         (λ _. s) i answer j r.0 };
 
-    ghost said = { λ s. literal_said I.reading I.spells (λ s _. s) (λ o q. o ≡ q) s
-        (I.same_units s) (λ slice other shown. refl) };
+    ghost covers = { λ is at. literal_covered I.reading I.spells (λ s _. s) };
+
+    ghost lawful = { λ is. literal_law I.reading I.spells (λ s _. s)
+        (λ o p. o ≡ p) I.same_units (λ s v w x. refl) };
 
     ghost claimed = { λ s. literal_claimed I.reading I.spells (λ s _. s) s (I.same_units s) };
 
@@ -50,13 +50,6 @@ impl<I: StreamIsPartial + Compare<u8>, E: ParserError<I>> Parser<I, u8, E> for u
     }
 }
 
-impl<I: StreamIsPartial + Compare<u8>, E: ParserError<I>> Stable<I, u8, E> for u8 {
-    ghost stable = { leaf_stays I.following _
-        (λ s. literal_stays I.reading (I.spells s) (λ _. s)) };
-
-    fn stay() {}
-}
-
 /// Matches the bytes, and returns the slice of the input.
 impl<'t, I: StreamIsPartial + Compare<&'t [u8]>, E: ParserError<I>> Parser<I, I::Slice, E>
     for &'t [u8] {
@@ -64,21 +57,22 @@ impl<'t, I: StreamIsPartial + Compare<&'t [u8]>, E: ParserError<I>> Parser<I, I:
 
     ghost state = { λ s. s };
 
-    ghost states = { Is };
-
     ghost meaning = { λ form. Keeps
         (λ s. LiteralRuns I.reading form (I.spells s) (λ slice. slice)) };
 
-    ghost says = { λ s. literal_says I.reading (I.spells s) (λ slice. slice)
-        (ShowSame I.reading) };
+    ghost does = { LiteralDoes I.reading I.spells (λ _ slice. slice) };
+
+    ghost terms = { record { premise = ⊤; stable = ⊤; alike = ShowSame I.reading } };
 
     ghost claim = { literal_claim I.reading I.spells (λ _ slice. slice) };
 
     ghost leaves_ends = { λ form s i answer t j r. literal_ends I.reading form (I.spells s)
         (λ slice. slice) i answer j r.0 };
 
-    ghost said = { λ s. literal_said I.reading I.spells (λ _ slice. slice)
-        (ShowSame I.reading) s (I.same_units s) (λ slice other shown. shown) };
+    ghost covers = { λ is at. literal_covered I.reading I.spells (λ _ slice. slice) };
+
+    ghost lawful = { λ is. literal_law I.reading I.spells (λ _ slice. slice)
+        (ShowSame I.reading) I.same_units (λ s v w x. x) };
 
     ghost claimed = { λ s. literal_claimed I.reading I.spells (λ _ slice. slice) s
         (I.same_units s) };
@@ -87,14 +81,6 @@ impl<'t, I: StreamIsPartial + Compare<&'t [u8]>, E: ParserError<I>> Parser<I, I:
     fn parse_next(&mut self, input: &mut I) -> Result<I::Slice, E> {
         take_literal(input, *self)
     }
-}
-
-impl<'t, I: StreamIsPartial + Compare<&'t [u8]>, E: ParserError<I>> Stable<I, I::Slice, E>
-    for &'t [u8] {
-    ghost stable = { leaf_stays I.following _
-        (λ s. literal_stays I.reading (I.spells s) (λ slice. slice)) };
-
-    fn stay() {}
 }
 
 /// Matches the bytes, and returns the slice of the input.
@@ -107,21 +93,22 @@ impl<'t, const N: usize, I: StreamIsPartial + Compare<&'t [u8; N]>, E: ParserErr
 
     ghost state = { λ s. s };
 
-    ghost states = { Is };
-
     ghost meaning = { λ form. Keeps
         (λ s. LiteralRuns I.reading form (I.spells s) (λ slice. slice)) };
 
-    ghost says = { λ s. literal_says I.reading (I.spells s) (λ slice. slice)
-        (ShowSame I.reading) };
+    ghost does = { LiteralDoes I.reading I.spells (λ _ slice. slice) };
+
+    ghost terms = { record { premise = ⊤; stable = ⊤; alike = ShowSame I.reading } };
 
     ghost claim = { literal_claim I.reading I.spells (λ _ slice. slice) };
 
     ghost leaves_ends = { λ form s i answer t j r. literal_ends I.reading form (I.spells s)
         (λ slice. slice) i answer j r.0 };
 
-    ghost said = { λ s. literal_said I.reading I.spells (λ _ slice. slice)
-        (ShowSame I.reading) s (I.same_units s) (λ slice other shown. shown) };
+    ghost covers = { λ is at. literal_covered I.reading I.spells (λ _ slice. slice) };
+
+    ghost lawful = { λ is. literal_law I.reading I.spells (λ _ slice. slice)
+        (ShowSame I.reading) I.same_units (λ s v w x. x) };
 
     ghost claimed = { λ s. literal_claimed I.reading I.spells (λ _ slice. slice) s
         (I.same_units s) };
@@ -130,17 +117,6 @@ impl<'t, const N: usize, I: StreamIsPartial + Compare<&'t [u8; N]>, E: ParserErr
     fn parse_next(&mut self, input: &mut I) -> Result<I::Slice, E> {
         take_literal(input, *self)
     }
-}
-
-impl<'t, const N: usize, I: StreamIsPartial + Compare<&'t [u8; N]>, E: ParserError<I>> Stable<
-    I,
-    I::Slice,
-    E,
-> for &'t [u8; N] {
-    ghost stable = { leaf_stays I.following _
-        (λ s. literal_stays I.reading (I.spells s) (λ slice. slice)) };
-
-    fn stay() {}
 }
 
 /// Matches the character, and returns it.
@@ -152,19 +128,21 @@ impl<I: StreamIsPartial + Compare<char>, E: ParserError<I>> Parser<I, char, E> f
 
     ghost state = { λ s. s };
 
-    ghost states = { Is };
-
     ghost meaning = { λ form. Keeps (λ s. LiteralRuns I.reading form (I.spells s) (λ _. s)) };
 
-    ghost says = { λ s. literal_says I.reading (I.spells s) (λ _. s) (λ o q. o ≡ q) };
+    ghost does = { LiteralDoes I.reading I.spells (λ s _. s) };
+
+    ghost terms = { record { premise = ⊤; stable = ⊤; alike = λ o p. o ≡ p } };
 
     ghost claim = { literal_claim I.reading I.spells (λ s _. s) };
 
     ghost leaves_ends = { λ form s i answer t j r. literal_ends I.reading form (I.spells s)
         (λ _. s) i answer j r.0 };
 
-    ghost said = { λ s. literal_said I.reading I.spells (λ s _. s) (λ o q. o ≡ q) s
-        (I.same_units s) (λ slice other shown. refl) };
+    ghost covers = { λ is at. literal_covered I.reading I.spells (λ s _. s) };
+
+    ghost lawful = { λ is. literal_law I.reading I.spells (λ s _. s)
+        (λ o p. o ≡ p) I.same_units (λ s v w x. refl) };
 
     ghost claimed = { λ s. literal_claimed I.reading I.spells (λ s _. s) s (I.same_units s) };
 
@@ -175,13 +153,6 @@ impl<I: StreamIsPartial + Compare<char>, E: ParserError<I>> Parser<I, char, E> f
     }
 }
 
-impl<I: StreamIsPartial + Compare<char>, E: ParserError<I>> Stable<I, char, E> for char {
-    ghost stable = { leaf_stays I.following _
-        (λ s. literal_stays I.reading (I.spells s) (λ _. s)) };
-
-    fn stay() {}
-}
-
 /// Matches the text, and returns the slice of the input.
 impl<'t, I: StreamIsPartial + Compare<&'t str>, E: ParserError<I>> Parser<I, I::Slice, E>
     for &'t str {
@@ -189,21 +160,22 @@ impl<'t, I: StreamIsPartial + Compare<&'t str>, E: ParserError<I>> Parser<I, I::
 
     ghost state = { λ s. s };
 
-    ghost states = { Is };
-
     ghost meaning = { λ form. Keeps
         (λ s. LiteralRuns I.reading form (I.spells s) (λ slice. slice)) };
 
-    ghost says = { λ s. literal_says I.reading (I.spells s) (λ slice. slice)
-        (ShowSame I.reading) };
+    ghost does = { LiteralDoes I.reading I.spells (λ _ slice. slice) };
+
+    ghost terms = { record { premise = ⊤; stable = ⊤; alike = ShowSame I.reading } };
 
     ghost claim = { literal_claim I.reading I.spells (λ _ slice. slice) };
 
     ghost leaves_ends = { λ form s i answer t j r. literal_ends I.reading form (I.spells s)
         (λ slice. slice) i answer j r.0 };
 
-    ghost said = { λ s. literal_said I.reading I.spells (λ _ slice. slice)
-        (ShowSame I.reading) s (I.same_units s) (λ slice other shown. shown) };
+    ghost covers = { λ is at. literal_covered I.reading I.spells (λ _ slice. slice) };
+
+    ghost lawful = { λ is. literal_law I.reading I.spells (λ _ slice. slice)
+        (ShowSame I.reading) I.same_units (λ s v w x. x) };
 
     ghost claimed = { λ s. literal_claimed I.reading I.spells (λ _ slice. slice) s
         (I.same_units s) };
@@ -212,14 +184,6 @@ impl<'t, I: StreamIsPartial + Compare<&'t str>, E: ParserError<I>> Parser<I, I::
     fn parse_next(&mut self, input: &mut I) -> Result<I::Slice, E> {
         take_literal(input, *self)
     }
-}
-
-impl<'t, I: StreamIsPartial + Compare<&'t str>, E: ParserError<I>> Stable<I, I::Slice, E>
-    for &'t str {
-    ghost stable = { leaf_stays I.following _
-        (λ s. literal_stays I.reading (I.spells s) (λ slice. slice)) };
-
-    fn stay() {}
 }
 
 /// Matches the bytes regardless of ASCII case, and returns the slice of the input.
@@ -229,21 +193,22 @@ impl<'t, I: StreamIsPartial + Compare<Caseless<&'t [u8]>>, E: ParserError<I>> Pa
 
     ghost state = { λ s. s };
 
-    ghost states = { Is };
-
     ghost meaning = { λ form. Keeps
         (λ s. LiteralRuns I.reading form (I.spells s) (λ slice. slice)) };
 
-    ghost says = { λ s. literal_says I.reading (I.spells s) (λ slice. slice)
-        (ShowSame I.reading) };
+    ghost does = { LiteralDoes I.reading I.spells (λ _ slice. slice) };
+
+    ghost terms = { record { premise = ⊤; stable = ⊤; alike = ShowSame I.reading } };
 
     ghost claim = { literal_claim I.reading I.spells (λ _ slice. slice) };
 
     ghost leaves_ends = { λ form s i answer t j r. literal_ends I.reading form (I.spells s)
         (λ slice. slice) i answer j r.0 };
 
-    ghost said = { λ s. literal_said I.reading I.spells (λ _ slice. slice)
-        (ShowSame I.reading) s (I.same_units s) (λ slice other shown. shown) };
+    ghost covers = { λ is at. literal_covered I.reading I.spells (λ _ slice. slice) };
+
+    ghost lawful = { λ is. literal_law I.reading I.spells (λ _ slice. slice)
+        (ShowSame I.reading) I.same_units (λ s v w x. x) };
 
     ghost claimed = { λ s. literal_claimed I.reading I.spells (λ _ slice. slice) s
         (I.same_units s) };
@@ -252,14 +217,6 @@ impl<'t, I: StreamIsPartial + Compare<Caseless<&'t [u8]>>, E: ParserError<I>> Pa
     fn parse_next(&mut self, input: &mut I) -> Result<I::Slice, E> {
         take_literal(input, *self)
     }
-}
-
-impl<'t, I: StreamIsPartial + Compare<Caseless<&'t [u8]>>, E: ParserError<I>> Stable<I, I::Slice, E>
-    for Caseless<&'t [u8]> {
-    ghost stable = { leaf_stays I.following _
-        (λ s. literal_stays I.reading (I.spells s) (λ slice. slice)) };
-
-    fn stay() {}
 }
 
 /// Matches the bytes regardless of ASCII case, and returns the slice of the input.
@@ -273,21 +230,22 @@ impl<
 
     ghost state = { λ s. s };
 
-    ghost states = { Is };
-
     ghost meaning = { λ form. Keeps
         (λ s. LiteralRuns I.reading form (I.spells s) (λ slice. slice)) };
 
-    ghost says = { λ s. literal_says I.reading (I.spells s) (λ slice. slice)
-        (ShowSame I.reading) };
+    ghost does = { LiteralDoes I.reading I.spells (λ _ slice. slice) };
+
+    ghost terms = { record { premise = ⊤; stable = ⊤; alike = ShowSame I.reading } };
 
     ghost claim = { literal_claim I.reading I.spells (λ _ slice. slice) };
 
     ghost leaves_ends = { λ form s i answer t j r. literal_ends I.reading form (I.spells s)
         (λ slice. slice) i answer j r.0 };
 
-    ghost said = { λ s. literal_said I.reading I.spells (λ _ slice. slice)
-        (ShowSame I.reading) s (I.same_units s) (λ slice other shown. shown) };
+    ghost covers = { λ is at. literal_covered I.reading I.spells (λ _ slice. slice) };
+
+    ghost lawful = { λ is. literal_law I.reading I.spells (λ _ slice. slice)
+        (ShowSame I.reading) I.same_units (λ s v w x. x) };
 
     ghost claimed = { λ s. literal_claimed I.reading I.spells (λ _ slice. slice) s
         (I.same_units s) };
@@ -296,18 +254,6 @@ impl<
     fn parse_next(&mut self, input: &mut I) -> Result<I::Slice, E> {
         take_literal(input, *self)
     }
-}
-
-impl<
-    't,
-    const N: usize,
-    I: StreamIsPartial + Compare<Caseless<&'t [u8; N]>>,
-    E: ParserError<I>,
-> Stable<I, I::Slice, E> for Caseless<&'t [u8; N]> {
-    ghost stable = { leaf_stays I.following _
-        (λ s. literal_stays I.reading (I.spells s) (λ slice. slice)) };
-
-    fn stay() {}
 }
 
 /// Matches the text regardless of ASCII case, and returns the slice of the input.
@@ -317,21 +263,22 @@ impl<'t, I: StreamIsPartial + Compare<Caseless<&'t str>>, E: ParserError<I>> Par
 
     ghost state = { λ s. s };
 
-    ghost states = { Is };
-
     ghost meaning = { λ form. Keeps
         (λ s. LiteralRuns I.reading form (I.spells s) (λ slice. slice)) };
 
-    ghost says = { λ s. literal_says I.reading (I.spells s) (λ slice. slice)
-        (ShowSame I.reading) };
+    ghost does = { LiteralDoes I.reading I.spells (λ _ slice. slice) };
+
+    ghost terms = { record { premise = ⊤; stable = ⊤; alike = ShowSame I.reading } };
 
     ghost claim = { literal_claim I.reading I.spells (λ _ slice. slice) };
 
     ghost leaves_ends = { λ form s i answer t j r. literal_ends I.reading form (I.spells s)
         (λ slice. slice) i answer j r.0 };
 
-    ghost said = { λ s. literal_said I.reading I.spells (λ _ slice. slice)
-        (ShowSame I.reading) s (I.same_units s) (λ slice other shown. shown) };
+    ghost covers = { λ is at. literal_covered I.reading I.spells (λ _ slice. slice) };
+
+    ghost lawful = { λ is. literal_law I.reading I.spells (λ _ slice. slice)
+        (ShowSame I.reading) I.same_units (λ s v w x. x) };
 
     ghost claimed = { λ s. literal_claimed I.reading I.spells (λ _ slice. slice) s
         (I.same_units s) };
@@ -340,12 +287,4 @@ impl<'t, I: StreamIsPartial + Compare<Caseless<&'t str>>, E: ParserError<I>> Par
     fn parse_next(&mut self, input: &mut I) -> Result<I::Slice, E> {
         take_literal(input, *self)
     }
-}
-
-impl<'t, I: StreamIsPartial + Compare<Caseless<&'t str>>, E: ParserError<I>> Stable<I, I::Slice, E>
-    for Caseless<&'t str> {
-    ghost stable = { leaf_stays I.following _
-        (λ s. literal_stays I.reading (I.spells s) (λ slice. slice)) };
-
-    fn stay() {}
 }

@@ -1,20 +1,18 @@
 //! Operators, as their parsers answer them.
-ghost use Rattle.std.specs.Prelude.{◌≡◌, ◌+ℤ◌, pos, MatchOption};
+ghost use Rattle.parser_definitions.specs.Operators.{ClonesOfOne, OperatorDoes, operator_law};
+ghost use Rattle.std.specs.Prelude.{◌≡◌, ◌+ℤ◌, ⊤, pos, MatchOption};
 ghost use Rattle.winnow_core.specs.Runs.{Keeps};
-ghost use Rattle.winnow_core.specs.Says.{Is};
-ghost use Rattle.winnow_core.specs.Stable.Grows.{leaf_stays};
 ghost use Rattle.winnow_expression.specs.Calls.{asked};
+ghost use Rattle.winnow_expression.specs.Covers.Parts.{operator_covered};
 ghost use Rattle.winnow_expression.specs.Operators.{IsInfixClone, IsPostfixClone, IsPrefixClone};
 ghost use Rattle.winnow_expression.specs.Operators.{OperatorRuns, fold_of, left_power};
 ghost use Rattle.winnow_expression.specs.Operators.{neither_power, right_power};
-ghost use Rattle.winnow_expression.specs.Operators.Laws.{operator_ends, operator_stays};
-ghost use Rattle.winnow_expression.specs.Operators.Says.{operator_said, operator_says};
+ghost use Rattle.winnow_expression.specs.Operators.Laws.{operator_ends};
 ghost use Rattle.winnow_core.specs.Claim.{no_claim, nothing_claimed};
 
 use stream_errors::parser_error::ParserError;
 use streams::stream::Stream;
 use winnow_core::parser::Parser;
-use winnow_core::stable::Stable;
 
 /// A prefix operator: its power and its fold.
 ///
@@ -123,12 +121,16 @@ impl<I: Stream, F: Clone, E: ParserError<I>> Parser<I, Prefix<F>, E> for Prefix<
 
     ghost state = { λ s. s };
 
-    ghost states = { Is };
-
     ghost meaning = { λ _. Keeps
         (OperatorRuns (IsPrefixClone F.is_clone) (λ s. F.is_infallible s.1)) };
 
-    ghost says = { operator_says (IsPrefixClone F.is_clone) (λ s. F.is_infallible s.1) };
+    ghost does = { OperatorDoes (IsPrefixClone F.is_clone) (λ s. F.is_infallible s.1) };
+
+    ghost terms = { record {
+      premise = ⊤;
+      stable = ⊤;
+      alike = ClonesOfOne (IsPrefixClone F.is_clone);
+    } };
 
     ghost claim = { λ _. no_claim };
 
@@ -136,7 +138,10 @@ impl<I: Stream, F: Clone, E: ParserError<I>> Parser<I, Prefix<F>, E> for Prefix<
         (IsPrefixClone F.is_clone)
         (λ s. F.is_infallible s.1) s i answer j r.0 };
 
-    ghost said = { operator_said (IsPrefixClone F.is_clone) (λ s. F.is_infallible s.1) };
+    ghost covers = { λ is at. operator_covered I.reading (IsPrefixClone F.is_clone)
+        (λ s. F.is_infallible s.1) at };
+
+    ghost lawful = { λ is. operator_law (IsPrefixClone F.is_clone) (λ s. F.is_infallible s.1) };
 
     ghost claimed = { λ _. nothing_claimed };
 
@@ -154,12 +159,16 @@ impl<I: Stream, F: Clone, E: ParserError<I>> Parser<I, Postfix<F>, E> for Postfi
 
     ghost state = { λ s. s };
 
-    ghost states = { Is };
-
     ghost meaning = { λ _. Keeps
         (OperatorRuns (IsPostfixClone F.is_clone) (λ s. F.is_infallible s.1)) };
 
-    ghost says = { operator_says (IsPostfixClone F.is_clone) (λ s. F.is_infallible s.1) };
+    ghost does = { OperatorDoes (IsPostfixClone F.is_clone) (λ s. F.is_infallible s.1) };
+
+    ghost terms = { record {
+      premise = ⊤;
+      stable = ⊤;
+      alike = ClonesOfOne (IsPostfixClone F.is_clone);
+    } };
 
     ghost claim = { λ _. no_claim };
 
@@ -167,7 +176,10 @@ impl<I: Stream, F: Clone, E: ParserError<I>> Parser<I, Postfix<F>, E> for Postfi
         (IsPostfixClone F.is_clone)
         (λ s. F.is_infallible s.1) s i answer j r.0 };
 
-    ghost said = { operator_said (IsPostfixClone F.is_clone) (λ s. F.is_infallible s.1) };
+    ghost covers = { λ is at. operator_covered I.reading (IsPostfixClone F.is_clone)
+        (λ s. F.is_infallible s.1) at };
+
+    ghost lawful = { λ is. operator_law (IsPostfixClone F.is_clone) (λ s. F.is_infallible s.1) };
 
     ghost claimed = { λ _. nothing_claimed };
 
@@ -185,19 +197,27 @@ impl<I: Stream, F: Clone, E: ParserError<I>> Parser<I, Infix<F>, E> for Infix<F>
 
     ghost state = { λ s. s };
 
-    ghost states = { Is };
-
     ghost meaning = { λ _. Keeps
         (OperatorRuns (IsInfixClone F.is_clone) (λ s. F.is_infallible (fold_of s))) };
 
-    ghost says = { operator_says (IsInfixClone F.is_clone) (λ s. F.is_infallible (fold_of s)) };
+    ghost does = { OperatorDoes (IsInfixClone F.is_clone) (λ s. F.is_infallible (fold_of s)) };
+
+    ghost terms = { record {
+      premise = ⊤;
+      stable = ⊤;
+      alike = ClonesOfOne (IsInfixClone F.is_clone);
+    } };
 
     ghost claim = { λ _. no_claim };
 
     ghost leaves_ends = { λ form s i answer t j r. operator_ends I.reading (IsInfixClone F.is_clone)
         (λ s. F.is_infallible (fold_of s)) s i answer j r.0 };
 
-    ghost said = { operator_said (IsInfixClone F.is_clone) (λ s. F.is_infallible (fold_of s)) };
+    ghost covers = { λ is at. operator_covered I.reading (IsInfixClone F.is_clone)
+        (λ s. F.is_infallible (fold_of s)) at };
+
+    ghost lawful = { λ is. operator_law (IsInfixClone F.is_clone)
+        (λ s. F.is_infallible (fold_of s)) };
 
     ghost claimed = { λ _. nothing_claimed };
 
@@ -208,27 +228,6 @@ impl<I: Stream, F: Clone, E: ParserError<I>> Parser<I, Infix<F>, E> for Infix<F>
             None => Err(E::no_memory(input)),
         }
     }
-}
-
-impl<I: Stream, F: Clone, E: ParserError<I>> Stable<I, Prefix<F>, E> for Prefix<F> {
-    ghost stable = { leaf_stays I.following _
-        (operator_stays (IsPrefixClone F.is_clone) (λ s. F.is_infallible s.1)) };
-
-    fn stay() {}
-}
-
-impl<I: Stream, F: Clone, E: ParserError<I>> Stable<I, Postfix<F>, E> for Postfix<F> {
-    ghost stable = { leaf_stays I.following _
-        (operator_stays (IsPostfixClone F.is_clone) (λ s. F.is_infallible s.1)) };
-
-    fn stay() {}
-}
-
-impl<I: Stream, F: Clone, E: ParserError<I>> Stable<I, Infix<F>, E> for Infix<F> {
-    ghost stable = { leaf_stays I.following _
-        (operator_stays (IsInfixClone F.is_clone) (λ s. F.is_infallible (fold_of s))) };
-
-    fn stay() {}
 }
 
 /// Clones an operator. Returns `None` if cloning its fold fails to allocate.

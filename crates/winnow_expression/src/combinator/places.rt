@@ -1,9 +1,12 @@
 //! The places of operands and of operators.
+ghost use Rattle.parser_definitions.specs.Equal.{AlikeOptions};
+ghost use Rattle.parser_definitions.specs.Escaped.{AlikeSides};
+ghost use Rattle.parser_definitions.specs.Places.{FirstDoes, NextDoes, first_law, next_law};
+ghost use Rattle.winnow_expression.specs.Covers.Parts.{as_law, first_covered, next_covered};
+ghost use Rattle.winnow_expression.specs.Definition.{OutputAs, first_side, next_side};
 ghost use Rattle.winnow_expression.specs.Places.{FirstRuns, NextRuns};
 ghost use Rattle.winnow_expression.specs.Places.Laws.{first_ends, next_ends};
-ghost use Rattle.winnow_expression.specs.Places.Says.{first_said, first_says, next_said, next_says};
 ghost use Rattle.winnow_core.specs.Claim.{no_claim, nothing_claimed};
-ghost use Rattle.winnow_core.specs.Says.{Both};
 
 use crate::combinator::operators::{Infix, Postfix, Prefix};
 use stream_errors::parser_error::ParserError;
@@ -50,18 +53,25 @@ impl<I: Stream, O, E: ParserError<I>, F, P: Parser<I, O, E>, R: Parser<I, Prefix
 
     ghost state = { λ s. (P.state s.operand, R.state s.prefix) };
 
-    ghost states = { λ s. Both (P.states s.0) (R.states s.1) };
-
     ghost meaning = { λ form. FirstRuns (P.meaning form) (R.meaning form) };
 
-    ghost says = { λ s. first_says (P.says s.0) (R.says s.1) };
+    ghost does = { OutputAs first_side (FirstDoes P.does R.does) };
+
+    ghost terms = { record {
+      premise = P.terms.premise × R.terms.premise;
+      stable = P.terms.stable × R.terms.stable;
+      alike = λ x y. AlikeSides P.terms.alike R.terms.alike (first_side x) (first_side y);
+    } };
 
     ghost claim = { λ _. no_claim };
 
     ghost leaves_ends = { λ form. first_ends I.reading (P.meaning form) (R.meaning form)
         (P.leaves_ends form) (R.leaves_ends form) };
 
-    ghost said = { λ s. first_said (P.said s.0) (R.said s.1) };
+    ghost covers = { λ is at. first_covered (P.covers is.0 at) (R.covers is.1 at) };
+
+    ghost lawful = { λ is. as_law first_side (AlikeSides P.terms.alike R.terms.alike)
+        (first_law (P.lawful is.0) (R.lawful is.1)) };
 
     ghost claimed = { λ _. nothing_claimed };
 
@@ -96,18 +106,28 @@ impl<
 
     ghost state = { λ s. (P.state s.postfix, R.state s.«infix») };
 
-    ghost states = { λ s. Both (P.states s.0) (R.states s.1) };
-
     ghost meaning = { λ form. NextRuns I.reading.units (P.meaning form) (R.meaning form) };
 
-    ghost says = { λ s. next_says I.reading.units (P.says s.0) (R.says s.1) };
+    ghost does = { OutputAs next_side (NextDoes I.reading.units P.does R.does) };
+
+    ghost terms = { record {
+      premise = P.terms.premise × R.terms.premise;
+      stable = ⊥;
+      alike = λ x y. AlikeOptions (AlikeSides P.terms.alike R.terms.alike) (next_side x)
+          (next_side y);
+    } };
 
     ghost claim = { λ _. no_claim };
 
     ghost leaves_ends = { λ form. next_ends I.reading (P.meaning form) (R.meaning form)
         (P.leaves_ends form) (R.leaves_ends form) };
 
-    ghost said = { λ s. next_said I.reading.units (P.said s.0) (R.said s.1) };
+    ghost covers = { λ is at. next_covered I.reading.units (P.covers is.0 at)
+        (R.covers is.1 at) };
+
+    ghost lawful = { λ is. as_law next_side
+        (AlikeOptions (AlikeSides P.terms.alike R.terms.alike))
+        (next_law I.reading.units (P.lawful is.0) (R.lawful is.1)) };
 
     ghost claimed = { λ _. nothing_claimed };
 

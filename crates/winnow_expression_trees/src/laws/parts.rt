@@ -2,7 +2,7 @@
 ghost use Rattle.std.specs.Prelude.{◌≡◌, ℕ};
 ghost use Rattle.streams.specs.Bytes.{bytes_reading};
 ghost use Rattle.winnow_expression_trees.specs.Premises.{IsStateless};
-ghost use Rattle.winnow_expression_trees.specs.Premises.Decided.{Moves};
+ghost use Rattle.winnow_expression_trees.specs.Premises.Decided.{Moves, Stays};
 ghost use Rattle.winnow_expression_trees.specs.Premises.Laws.{AlikeWithSpan};
 
 use crate::laws::Likeness;
@@ -16,8 +16,8 @@ use winnow_core::parser::Parser;
 /// The stream of bytes.
 type Bytes = &'static [u8];
 
-/// States that a parser with specified outcomes whose calls keep the state, as all parsers' but
-/// `fill`'s do, meets the requirements of the laws of trees, up to equivalent outputs.
+/// States that a parser with a lawful definition, in a state that its calls keep, meets the
+/// requirements of the laws of trees, up to equivalent outputs. Its calls must record no errors.
 ///
 /// ```
 /// use winnow_expression_trees::laws::parts::deterministic_parts_are_stateless;
@@ -26,8 +26,8 @@ type Bytes = &'static [u8];
 /// deterministic_parts_are_stateless::<Digit1, &[u8], &[u8], EmptyError>();
 /// ```
 pub fn deterministic_parts_are_stateless<P: Parser<I, O, E>, I: Stream, O, E: ParserError<I>>()
-    ensures { (s : P.State) → (P.says s).premise → (P.says s).keeps
-        → IsStateless (P.says s).alike (P.meaning E.form) s }
+    ensures { (s : P.State) → P.terms.premise → Stays (P.meaning E.form) s
+        → IsStateless P.terms.alike (P.meaning E.form) s }
 {}
 
 /// States that the span of a stateless part is stateless, alone and with the output: calls on one

@@ -4,15 +4,13 @@ use Rattle.std.proofs.Common.{refl, ap, ◌∙◌, inl, inr, arith, length-appen
 use Rattle.streams.specs.Input.{Input, IsEndOf, passes_end}
 use Rattle.streams.specs.Kind.{Kind, backtrack}
 use Rattle.streams.specs.Reading.{Reading}
-use Rattle.stream_errors.specs.Form.{Answer, ErrorForm, modal}
+use Rattle.stream_errors.specs.Form.{Answer, ErrorForm}
 use Rattle.stream_errors.specs.Form.Inversion.{ok_is_err, same_kind, same_ok, same_output}
 use Rattle.winnow_core.specs.Claim.{Claim, Claimed}
 use Rattle.winnow_core.specs.Ends.{same_ends}
 use Rattle.winnow_core.specs.Exact.Allowed.{backs}
 use Rattle.winnow_core.specs.Runs.{Keeps, LeaveEnds}
 use Rattle.winnow_integers.specs.Integer.{IntegerRuns}
-use Rattle.winnow_core.specs.Stable.Grows.{Stays, final_by}
-use Rattle.winnow_core.specs.Stable.Longer.{passes_more, short_final}
 use Rattle.grammars.specs.Grammar.{NoMatch}
 use Rattle.winnow_core.specs.Exact.{Backtracks, IsExact}
 use Rattle.winnow_core.specs.Exact.Failed.{short_backtracks}
@@ -51,16 +49,6 @@ integer_missing width value reading form i k j (inl (taken, as_many, are, passes
     ok_is_err e refl
 integer_missing width value reading form i k j (inr (l, few, kind, e, same)) =
     inr (l, few, kind, ap Err (same_kind e), same)
-
--- of each width, whatever value each list of bytes has
-pub integer_stays : {L O : Type 0} (width : ℕ) (value : List ℕ → O) (reading : Reading ℕ L)
-    → Stays (IntegerRuns width value reading modal)
-integer_stays width value reading more flag i answer j is_cut final
-    (inl (bytes, many, are, passes, e)) =
-    inl (bytes, many, are, passes_more more flag passes, e)
-integer_stays width value reading more flag i answer j is_cut final
-    (inr (k, few, short, e, same)) =
-    short_final i is_cut short (final_by (Err k) e final)
 
 -- ---- what it reads
 

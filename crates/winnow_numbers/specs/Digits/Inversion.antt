@@ -7,7 +7,7 @@ use Rattle.std.proofs.Common.{refl, sym, ap, subst, ◌∙◌, inl, inr, suc, ar
 use Rattle.std.proofs.Math.Nat.{pow-suc, pow-zero}
 use Rattle.std.proofs.lemmas.List.Elements.{All-head, All-tail}
 use Rattle.streams.specs.Equal.{same_first, same_others}
-use Rattle.winnow_ascii.specs.Class.Says.{CharIsFunction}
+use Rattle.parser_definitions.specs.Class.{CharIsFunction}
 use Rattle.winnow_numbers.specs.Digits.{AreCharacters, IsIn, NoneFirst, value_in}
 
 -- ---- the number that digits stand for, as std reads it

@@ -9,7 +9,7 @@ use Rattle.streams.specs.Input.{Input, Passes}
 use Rattle.streams.specs.Reading.{Reading}
 use Rattle.stream_errors.specs.Form.{Answer, ErrorForm}
 use Rattle.stream_sets.specs.AsChar.{IsHexDigit}
-use Rattle.winnow_ascii.specs.Class.Says.{CharIsFunction}
+use Rattle.parser_definitions.specs.Class.{CharIsFunction}
 use Rattle.winnow_numbers.specs.Digits.{AreCharacters, IsIn, NoneFirst, value_in}
 use Rattle.winnow_numbers.specs.Digits.Inversion.{characters_length, member_of, none_behind}
 use Rattle.winnow_numbers.specs.Digits.Inversion.{one_first}

@@ -15,17 +15,16 @@ use Rattle.winnow_numbers.specs.DecInt.Inversion.{dec_int_ok, numeral_run}
 use Rattle.winnow_numbers.specs.DecUint.{DecUintRuns}
 use Rattle.winnow_numbers.specs.DecUint.Inversion.{dec_uint_ok}
 use Rattle.winnow_numbers.specs.Decimal.{IsDecimalOf, IsSignedDecimalOf}
-use Rattle.winnow_numbers.specs.DecimalText.{signed_value}
-use Rattle.winnow_ascii.specs.Class.Says.{CharIsFunction}
+use Rattle.parser_definitions.specs.Class.{CharIsFunction}
 use Rattle.winnow_numbers.specs.Digits.{AreCharacters, NoneFirst, value_in}
 use Rattle.winnow_numbers.specs.Digits.Inversion.{characters_length}
 use Rattle.winnow_numbers.specs.Numeral.{DigitsRuns, IsSign, NumeralRuns}
 use Rattle.winnow_numbers.specs.Numeral.Grammar.{Decimal, SignedDecimal}
 use Rattle.winnow_numbers.specs.Numeral.Inversion.{behind, digits_run, leads_behind}
 use Rattle.winnow_numbers.specs.Numeral.Once.{one_numeral}
-use Rattle.winnow_numbers.specs.Number.{signed_numbers, unsigned_numbers}
-use Rattle.winnow_numbers.specs.Number.Laws.{number_none, number_status, signed_apart}
-use Rattle.winnow_numbers.specs.Number.Laws.{unsigned_apart}
+use Rattle.parser_definitions.specs.Number.{signed_apart, signed_numbers, signed_value}
+use Rattle.parser_definitions.specs.Number.{unsigned_apart, unsigned_numbers}
+use Rattle.winnow_numbers.specs.Number.Laws.{number_none, number_status}
 
 -- complete input of these tokens
 abbrev whole : {T : Type 0} → List T → Input T
@@ -141,7 +140,7 @@ module _ {K T L : Type 0} (seen : K → T) (code : K → ℕ) (reading : Reading
         none = λ i k t j is (r, kept). inr (λ n rest x.
             let (digits, b, p, left, value, fits) = numeral i n rest is x in
             number_none (unsigned_numbers number bound) seen code reading once
-            (unsigned_apart bound) form i k j r [] digits b p (omega (arith, value, fits)));
+            (unsigned_apart number bound) form i k j r [] digits b p (omega (arith, value, fits)));
         unique = decimal_unique once;
       }
 
@@ -280,7 +279,7 @@ module _ {K T L : Type 0} (seen : K → T) (code : K → ℕ) (reading : Reading
             );
         none = λ i k t j is (r, kept). inr (λ n rest x.
             let (sign, digits, b, p, left, value, fit) = signed_numeral i n rest is x in
-            number_none (signed_numbers number fits) seen code reading once (signed_apart fits) form
-            i k j r sign digits b p (subst fits (sym value) fit));
+            number_none (signed_numbers number fits) seen code reading once
+            (signed_apart number fits) form i k j r sign digits b p (subst fits (sym value) fit));
         unique = signed_unique once;
       }

@@ -9,11 +9,11 @@ use Rattle.streams.specs.Kind.{Kind}
 use Rattle.streams.specs.Reading.{Reading}
 use Rattle.stream_errors.specs.Form.{ErrorForm}
 use Rattle.stream_sets.specs.AsChar.{IsDecDigit}
-use Rattle.winnow_ascii.specs.Class.Says.{CharIsFunction}
+use Rattle.parser_definitions.specs.Class.{CharIsFunction}
 use Rattle.winnow_numbers.specs.Digits.{AreCharacters}
 use Rattle.winnow_numbers.specs.Digits.Inversion.{IsOf, none_behind, one_first, one_front}
 use Rattle.winnow_numbers.specs.Numeral.{DigitsRuns, IsLeadingDigit, IsSign, LacksDigits, NoDigits}
-use Rattle.winnow_numbers.specs.Numeral.{NoNumeral, NumeralRuns, SignRuns, is_none, left_by}
+use Rattle.winnow_numbers.specs.Numeral.{NoNumeral, NumeralRuns, SignRuns, is_none}
 use Rattle.winnow_numbers.specs.Numeral.Inversion.{sign_status}
 
 -- from one input the same tokens lead to one input
@@ -172,25 +172,6 @@ module _ {K T S : Type 0} (seen : K → T) (code : K → ℕ) (reading : Reading
       let P : ℕ → Type 0 = λ c. IsLeadingDigit c in
       other (subst P (sym (once y z (same_first (sym f ∙ tokens) ∙ sym is) ∙ same)) leads)
 
-  one_lack : (i a b : Input T) → LacksDigits seen code reading i a
-      → LacksDigits seen code reading i b → a ≡ b
-  one_lack i a b (inl (none, same)) (inl (never, stays)) = same ∙ sym stays
-  one_lack i a b (inl (none, same)) (inr (y, leading, q, are)) = nothing_first none q.tokens
-  one_lack i a b (inr (x, leads, p, all)) (inl (none, same)) = nothing_first none p.tokens
-  one_lack i a b (inr (x, leads, p, all)) (inr (y, leading, q, are)) = (one_token x y i a b p q).1
-
-  lack_or_none : (naught : Bool) (i b : Input T) → LacksDigits seen code reading i b
-      → i.status.cut ≡ true → NoDigits seen code naught i → ⊥
-  lack_or_none naught i b (inl (none, same)) cut (inl (never, whole)) =
-      true_is_false (sym cut ∙ whole)
-  lack_or_none naught i b (inl (none, same)) cut (inr (y, rest, f, other, never)) =
-      nothing_first none f
-  lack_or_none naught i b (inr (x, leads, p, all)) cut (inl (none, whole)) =
-      nothing_first none p.tokens
-  lack_or_none naught i b (inr (x, leads, p, all)) cut (inr (y, rest, f, other, never)) =
-      let P : ℕ → Type 0 = λ c. IsLeadingDigit c in
-      other (subst P (once x y (same_first (sym p.tokens ∙ f))) leads)
-
   lacks_there : (signed : Bool) (i m n b : Input T) (sign other : List ℕ)
       → SignRuns seen code reading signed i sign m → SignRuns seen code reading signed i other n
       → LacksDigits seen code reading n b → LacksDigits seen code reading m b
@@ -225,22 +206,3 @@ module _ {K T S : Type 0} (seen : K → T) (code : K → ℕ) (reading : Reading
       (other, n, before, inr (none, kind, at)) =
       digits_or_none (is_none sign) m digits j r
       (none_there signed i m n sign other first before none)
-
-  pub one_miss : (form : ErrorForm) (signed : Bool) (i : Input T) (k l : Kind) (a b : Input T)
-      → NoNumeral seen code reading form signed i k a
-      → NoNumeral seen code reading form signed i l b → (k ≡ l) × (a ≡ b)
-  one_miss form signed i k l a b (sign, m, first, inl (x, lacks, cut, kind, at))
-      (other, n, before, inl (y, short, open_too, is, there)) =
-      let same = one_lack m x y lacks (lacks_there signed i m n y sign other first before short) in
-      (kind ∙ sym is, at ∙ ap (λ z. left_by form i z) same ∙ sym there)
-  one_miss form signed i k l a b (sign, m, first, inl (x, lacks, cut, kind, at))
-      (other, n, before, inr (none, is, there)) =
-      absurd (lack_or_none (is_none sign) m x lacks (cut_there signed i m sign first cut)
-      (none_there signed i m n sign other first before none))
-  one_miss form signed i k l a b (sign, m, first, inr (none, kind, at))
-      (other, n, before, inl (y, short, open_too, is, there)) =
-      absurd (lack_or_none (is_none sign) m y
-      (lacks_there signed i m n y sign other first before short)
-      (cut_there signed i m sign first open_too) none)
-  one_miss form signed i k l a b (sign, m, first, inr (none, kind, at))
-      (other, n, before, inr (never, is, there)) = (kind ∙ sym is, at ∙ sym there)

@@ -1,6 +1,6 @@
 -- Lemmas for callers about one call of `separated`: the first element, the consecutive links after
 -- it, and the call that ended them.
-use Rattle.std.specs.Prelude.{◌≡◌, ◌-◌, List, None, Ok, Err}
+use Rattle.std.specs.Prelude.{◌≡◌, List, None, Ok, Err}
 use Rattle.std.specs.List.{FoldsTo}
 use Rattle.streams.specs.Input.{Input, back_at}
 use Rattle.streams.specs.Kind.{backtrack}

@@ -1,21 +1,16 @@
 -- Laws of `separated_foldl1`.
 use Rattle.std.specs.Prelude.{Ok, Err}
 use Rattle.std.proofs.Common.{inl, inr}
-use Rattle.streams.specs.Input.{Input, IsEndOf, is_end_of_trans, with_more}
+use Rattle.streams.specs.Input.{Input, IsEndOf, is_end_of_trans}
 use Rattle.streams.specs.Kind.{Kind, backtrack}
 use Rattle.streams.specs.Reading.{Reading}
 use Rattle.stream_errors.specs.Form.{Answer}
-use Rattle.streams.specs.Following.{Following}
 use Rattle.winnow_core.specs.Ends.{back_ends}
 use Rattle.winnow_core.specs.Runs.{Runs, LeaveEnds}
 use Rattle.winnow_repeat.specs.Repeat.Laws.{chain_ends}
 use Rattle.winnow_separated.specs.Link.{PairLinkRuns}
-use Rattle.winnow_separated.specs.Link.Laws.{link_fails_end, pair_link_ends, pair_link_grows}
+use Rattle.winnow_separated.specs.Link.Laws.{link_fails_end, pair_link_ends}
 use Rattle.winnow_separated.specs.SeparatedFoldl1.{LinksEnd, SeparatedFoldl1Runs}
-use Rattle.winnow_core.specs.Stable.Grows.{Grows, final_by}
-use Rattle.winnow_core.specs.Stable.Longer.{back_grows}
-use Rattle.winnow_separated.specs.Separated.Laws.{nothing_grows}
-use Rattle.winnow_repeat.specs.Chain.Laws.{chain_grows}
 
 -- the end of links leaves a suffix, if separators and elements do
 links_end : {S W T L O D : Type 0} (reading : Reading T L) (run : Runs S T O)
@@ -45,53 +40,3 @@ foldl1_ends reading step run separator assert_kind ends between s i answer t j
     (t.0, t.1) j ended) (is_end_of_trans (chain_ends reading (PairLinkRuns run separator)
     (pair_link_ends reading run separator ends between) links (v, s.1) n u m chain.runs)
     (ends s.0 i (Ok first) v n r))
-
-module _ {T : Type 0} {following : Following T} where
-  -- what ends links that are joined
-  links_end_grow : {S W O D : Type 0} (run : Runs S T O) (separator : Runs W T D) (asserted : Kind)
-      (value : O) → Grows following run → Grows following separator
-      → Grows following (LinksEnd run separator asserted value)
-  links_end_grow run separator asserted value child between more flag u m answer t j may final
-      (inl (x, r, e, same)) =
-      let pairs = pair_link_grows run separator child between in
-      let (q, behind) = pairs more flag u m (Err backtrack) t x may tt r in
-      let (back, last) = back_grows flag m x may behind same in
-      (inl (with_more x more flag, q, e, back), last)
-  links_end_grow run separator asserted value child between more flag u m answer t j may final
-      (inr (inl (k, r, other, e))) =
-      let pairs = pair_link_grows run separator child between in
-      let (q, last) = pairs more flag u m (Err k) t j may (final_by (Err k) e final) r in
-      (inr (inl (k, q, other, e)), last)
-  links_end_grow run separator asserted value child between more flag u m answer t j may final
-      (inr (inr (none, e))) =
-      let (q, last) = nothing_grows separator between more flag u m t j may none in
-      (inr (inr (q, e)), last)
-
-  -- stable under longer input, if the parsers of elements and separators are
-  pub foldl1_grows : {S W Q O D : Type 0} (step : Q → O → D → O → O → Q → Type 0)
-      (run : Runs S T O) (separator : Runs W T D) (asserted : Kind) → Grows following run
-      → Grows following separator
-      → Grows following (SeparatedFoldl1Runs step run separator asserted)
-  foldl1_grows step run separator asserted child between more flag s i answer t j may final
-      (inl (k, r, kept, stay, e)) =
-      let (q, last) = child more flag s.0 i (Err k) t.0 j may (final_by (Err k) e final) r in
-      (inl (k, q, kept, stay, e), last)
-  foldl1_grows step run separator asserted child between more flag s i answer t j may final
-      (inr (first, v, n, r, (links, u, m, value, chain, folds, ended))) =
-      let (q, still) = child more flag s.0 i (Ok first) v n may tt r in
-      let pairs = pair_link_grows run separator child between in
-      let (items, behind) =
-      chain_grows (PairLinkRuns run separator) pairs more flag links (v, s.1) n u m still chain.runs
-      in
-      let (end, last) =
-      links_end_grow run separator asserted value child between more flag u m answer (t.0, t.1) j
-      behind final ended in (
-        inr (
-          first,
-          v,
-          with_more n more flag,
-          q,
-          (links, u, with_more m more flag, value, record { runs = items }, folds, end),
-        ),
-        last,
-      )

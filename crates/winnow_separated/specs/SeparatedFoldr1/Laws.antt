@@ -1,18 +1,16 @@
 -- Laws of `separated_foldr1`.
 use Rattle.std.specs.Prelude.{None, Ok, Err}
 use Rattle.std.proofs.Common.{inl, inr}
-use Rattle.streams.specs.Input.{is_end_of_trans, with_more}
+use Rattle.streams.specs.Input.{is_end_of_trans}
 use Rattle.streams.specs.Kind.{Kind}
 use Rattle.streams.specs.Reading.{Reading}
 use Rattle.stream_sets.specs.Accumulator.{list_kept}
 use Rattle.stream_sets.specs.Range.{from_to}
-use Rattle.streams.specs.Following.{Following}
-use Rattle.winnow_core.specs.InOrder.Laws.{both_ends, both_grows}
+use Rattle.winnow_core.specs.InOrder.Laws.{both_ends}
 use Rattle.winnow_core.specs.Runs.{Runs, LeaveEnds}
 use Rattle.winnow_core.specs.Sequence.{SequenceRuns2}
-use Rattle.winnow_repeat.specs.Repeat.Laws.{many_ends, many_grow}
+use Rattle.winnow_repeat.specs.Repeat.Laws.{many_ends}
 use Rattle.winnow_separated.specs.SeparatedFoldr1.{SeparatedFoldr1Runs}
-use Rattle.winnow_core.specs.Stable.Grows.{Grows, final_by}
 
 -- every call leaves a suffix, if elements and separators do
 pub foldr1_ends : {S W Q T L O D : Type 0} (A : Type 0) (reading : Reading T L)
@@ -31,30 +29,3 @@ foldr1_ends A reading step run separator assert_kind ends between s i answer t j
     is_end_of_trans (many_ends reading (SequenceRuns2 separator run) (list_kept {A = A})
     assert_kind (from_to 0 None) (both_ends reading (λ d o. (d, o)) separator run between ends)
     (s.1, v) n (Ok all) (t.1, t.0) j links) (ends s.0 i (Ok first) v n r)
-
-module _ {T : Type 0} {following : Following T} where
-  -- stable under longer input, if the parsers of elements and separators are
-  pub foldr1_grows : {S W Q O D : Type 0} (A : Type 0) (step : Q → O → D → O → O → Q → Type 0)
-      (run : Runs S T O) (separator : Runs W T D) (asserted : Kind) → Grows following run
-      → Grows following separator
-      → Grows following (SeparatedFoldr1Runs A step run separator asserted)
-  foldr1_grows A step run separator asserted child between more flag s i answer t j may final
-      (inl (k, r, kept, stay, e)) =
-      let (q, last) = child more flag s.0 i (Err k) t.0 j may (final_by (Err k) e final) r in
-      (inl (k, q, kept, stay, e), last)
-  foldr1_grows A step run separator asserted child between more flag s i answer t j may final
-      (inr (inl (first, v, n, k, r, items, kept, e))) =
-      let (q, still) = child more flag s.0 i (Ok first) v n may tt r in
-      let pairs = both_grows (λ d o. (d, o)) between child in
-      let (p, last) =
-      many_grow (SequenceRuns2 separator run) (list_kept {A = A}) asserted (from_to 0 None) pairs
-      more flag (s.1, v) n (Err k) (t.1, t.0) j still (final_by (Err k) e final) items in
-      (inr (inl (first, v, with_more n more flag, k, q, p, kept, e)), last)
-  foldr1_grows A step run separator asserted child between more flag s i answer t j may final
-      (inr (inr (first, v, n, links, value, r, items, folds, e))) =
-      let (q, still) = child more flag s.0 i (Ok first) v n may tt r in
-      let pairs = both_grows (λ d o. (d, o)) between child in
-      let (p, last) =
-      many_grow (SequenceRuns2 separator run) (list_kept {A = A}) asserted (from_to 0 None) pairs
-      more flag (s.1, v) n (Ok links) (t.1, t.0) j still tt items in
-      (inr (inr (first, v, with_more n more flag, links, value, q, p, folds, e)), last)

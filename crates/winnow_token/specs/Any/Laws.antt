@@ -1,16 +1,13 @@
 -- Laws of `any`.
-use Rattle.std.specs.Prelude.{◌≡◌, ⊤, true, Err, List, [], ◌∷◌, false, length}
+use Rattle.std.specs.Prelude.{◌≡◌, ⊤, Err, List, [], ◌∷◌, false, length}
 use Rattle.std.specs.Prelude.{Some, Ok}
 use Rattle.std.proofs.Common.{inl, inr, sym, ap, ◌∙◌, refl, arith}
 use Rattle.streams.specs.Input.{Input, IsEndOf, passes_end}
 use Rattle.streams.specs.Reading.{Reading}
-use Rattle.stream_errors.specs.Form.{Answer, ErrorForm, modal}
+use Rattle.stream_errors.specs.Form.{Answer, ErrorForm}
 use Rattle.winnow_core.specs.Ends.{same_ends}
 use Rattle.winnow_core.specs.Runs.{Keeps}
-use Rattle.winnow_token.specs.Any.{AnyRuns, NoTokenRuns}
-use Rattle.winnow_core.specs.Stable.Longer.{short_final, passes_more}
-use Rattle.winnow_core.specs.Stable.{IsFinal}
-use Rattle.winnow_core.specs.Stable.Grows.{final_by, Stays}
+use Rattle.winnow_token.specs.Any.{AnyRuns}
 use Rattle.streams.specs.Kind.{Kind, backtrack}
 use Rattle.grammars.specs.Grammar.{NoMatch, TakesTokens, Token}
 use Rattle.grammars.specs.Grammar.Unique.{token_unique}
@@ -23,21 +20,6 @@ pub any_ends : {K T L : Type 0} (seen : K → T) (reading : Reading T L) (form :
     → IsEndOf reading j i
 any_ends seen reading form i answer j (inl (x, passes, e)) = passes_end passes
 any_ends seen reading form i answer j (inr (k, none, kind, e, same)) = same_ends reading i j same
-
--- no token remains
-pub no_token_final : {T O P : Type 0} (i : Input T) {j : Input T} {answer : Answer O}
-    → i.status.cut ≡ true
-    → IsFinal answer → NoTokenRuns modal i answer j → P
-no_token_final i is_cut final (k, none, short, e, same) =
-    short_final i is_cut short (final_by (Err k) e final)
-
--- a final result on partial input is also a result on every longer input
-pub any_stays : {K T L : Type 0} (seen : K → T) (reading : Reading T L)
-    → Stays (AnyRuns seen reading modal)
-any_stays seen reading more flag i answer j is_cut final (inl (x, passes, e)) =
-    inl (x, passes_more more flag passes, e)
-any_stays seen reading more flag i answer j is_cut final (inr none) =
-    no_token_final i is_cut final none
 
 -- ---- what it reads
 
@@ -84,7 +66,3 @@ module _ {K T L : Type 0} (seen : K → T) (reading : Reading T L) (form : Error
 pub token_takes : {K T : Type 0} (seen : K → T) → TakesTokens (Token seen)
 unfolding Token
 token_takes seen = record { fewer = λ tokens k rest e. omega (arith, ap (λ l. length l) e) }
-
--- Tokens that are seen as the same.
-abbrev pub SeenSame : {K T : Type 0} → (K → T) → K → K → Type 0
-SeenSame seen k l = seen k ≡ seen l

@@ -1,15 +1,12 @@
 -- Laws of `one_of`.
-use Rattle.std.specs.Prelude.{◌≡◌, Bool, ◌++◌, true, false, ◌∷◌, length, Some, Ok, Err}
+use Rattle.std.specs.Prelude.{◌≡◌, Bool, true, false, ◌∷◌, length, Some, Ok, Err}
 use Rattle.std.proofs.Common.{inl, inr, ap, refl, sym, ◌∙◌, subst, arith}
 use Rattle.streams.specs.Input.{Input, IsEndOf, passes_end}
 use Rattle.streams.specs.Reading.{Reading}
-use Rattle.stream_errors.specs.Form.{Answer, ErrorForm, modal}
+use Rattle.stream_errors.specs.Form.{Answer, ErrorForm}
 use Rattle.winnow_core.specs.Ends.{same_ends}
 use Rattle.winnow_core.specs.Runs.{Keeps}
 use Rattle.winnow_token.specs.OneOf.{OneOfRuns}
-use Rattle.winnow_core.specs.Stable.Longer.{same_more, passes_more}
-use Rattle.winnow_core.specs.Stable.Grows.{Stays}
-use Rattle.winnow_token.specs.Any.Laws.{no_token_final}
 use Rattle.streams.specs.Equal.{same_first}
 use Rattle.streams.specs.Stream.{AnswersSeen}
 use Rattle.stream_sets.specs.Once.{SetIsFunction}
@@ -29,17 +26,6 @@ one_of_ends seen reading form member i answer j
     (inr (inl (x, rest, split, stranger, e, same))) = same_ends reading i j same
 one_of_ends seen reading form member i answer j (inr (inr (k, none, kind, e, same))) =
     same_ends reading i j same
-
--- a final result on partial input is also a result on every longer input
-pub one_of_stays : {K T L : Type 0} (seen : K → T) (reading : Reading T L)
-    (member : K → Bool → Type 0) → Stays (OneOfRuns seen reading modal member)
-one_of_stays seen reading member more flag i answer j is_cut final (inl (x, passes, is, e)) =
-    inl (x, passes_more more flag passes, is, e)
-one_of_stays seen reading member more flag i answer j is_cut final
-    (inr (inl (x, rest, first, is, e, same))) =
-    inr (inl (x, rest ++ more, ap (λ l. l ++ more) first, is, e, same_more more flag same))
-one_of_stays seen reading member more flag i answer j is_cut final (inr (inr none)) =
-    no_token_final i is_cut final none
 
 -- ---- what it reads
 

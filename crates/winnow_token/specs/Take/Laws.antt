@@ -3,12 +3,10 @@ use Rattle.std.specs.Prelude.{◌≡◌, ℕ, Bool, Err, ◌<◌, length, false,
 use Rattle.std.proofs.Common.{inl, inr, sym, ap, subst, ◌∙◌, arith, length-append, refl}
 use Rattle.streams.specs.Input.{Input, IsEndOf, takes_end}
 use Rattle.streams.specs.Reading.{Reading}
-use Rattle.stream_errors.specs.Form.{Answer, ErrorForm, modal}
+use Rattle.stream_errors.specs.Form.{Answer, ErrorForm}
 use Rattle.winnow_core.specs.Ends.{same_ends}
 use Rattle.winnow_core.specs.Runs.{Keeps}
 use Rattle.winnow_token.specs.Take.{TakeRuns}
-use Rattle.winnow_core.specs.Stable.Longer.{takes_more, short_final}
-use Rattle.winnow_core.specs.Stable.Grows.{Stays, final_by}
 use Rattle.streams.specs.Equal.{same_behind}
 use Rattle.streams.specs.Kind.{Kind, backtrack}
 use Rattle.grammars.specs.Grammar.{Counted, NoMatch, TakesTokens as TakesSome}
@@ -23,14 +21,6 @@ pub take_ends : {T L : Type 0} (reading : Reading T L) (form : ErrorForm) (count
 take_ends reading form counts n i answer j (inl (front, slice, count, takes, e)) = takes_end takes
 take_ends reading form counts n i answer j (inr (k, few, kind, e, same)) =
     same_ends reading i j same
-
--- a final result on partial input is also a result on every longer input
-pub take_stays : {T L : Type 0} (reading : Reading T L) (counts : Bool) (n : ℕ)
-    → Stays (TakeRuns reading modal counts n)
-take_stays reading counts n more flag i answer j is_cut final (inl (front, slice, is, takes, e)) =
-    inl (front, slice, is, takes_more more flag takes, e)
-take_stays reading counts n more flag i answer j is_cut final (inr (k, few, short, e, same)) =
-    short_final i is_cut short (final_by (Err k) e final)
 
 -- ---- what it reads
 

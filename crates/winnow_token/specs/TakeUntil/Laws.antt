@@ -1,18 +1,15 @@
 -- Laws of `take_until`.
-use Rattle.std.specs.Prelude.{List, ◌≡◌, ◌∷◌, ◌++◌, [], ℕ, ◌<◌, ◌≤◌, length, Err, Some, None}
+use Rattle.std.specs.Prelude.{List, ◌≡◌, ◌++◌, ℕ, ◌<◌, Err, Some, None}
 use Rattle.std.specs.Prelude.{false, Ok}
-use Rattle.std.proofs.Common.{inl, inr, arith, refl, sym, ap, ◌∙◌, append_assoc, subst}
-use Rattle.streams.specs.Input.{Input, IsEndOf, takes_end, Takes, with_more}
+use Rattle.std.proofs.Common.{inl, inr, arith, refl, sym, ap, ◌∙◌, subst}
+use Rattle.streams.specs.Input.{Input, IsEndOf, takes_end}
 use Rattle.streams.specs.Reading.{Reading}
-use Rattle.stream_errors.specs.Form.{Answer, ErrorForm, modal}
+use Rattle.stream_errors.specs.Form.{Answer, ErrorForm}
 use Rattle.stream_sets.specs.Range.{Bounds, IsWithin}
 use Rattle.stream_searches.specs.FindSlice.{IsFirstMatch}
-use Rattle.stream_searches.specs.FirstMatch.{StaysFirst}
 use Rattle.winnow_core.specs.Ends.{same_ends}
 use Rattle.winnow_core.specs.Runs.{Keeps}
 use Rattle.winnow_token.specs.TakeUntil.{TakeUntilRuns}
-use Rattle.winnow_core.specs.Stable.Longer.{one_beginning, same_more, takes_more, short_final}
-use Rattle.winnow_core.specs.Stable.Grows.{Stays, final_by}
 use Rattle.streams.specs.Kind.{Kind, backtrack}
 use Rattle.stream_sets.specs.Longest.{within_is}
 use Rattle.grammars.specs.Grammar.{NoMatch}
@@ -41,99 +38,7 @@ take_until_ends reading form sought bounds i answer j
     (inr (inr (inr (inr (start, end, m, most, is, le, many, e, same))))) =
     same_ends reading i j same
 
--- beginnings of as many units are the same
-no_more_units : {T L P : Type 0} (reading : Reading T L) (xs : List T) (y : T) (ys : List T)
-    → reading.units xs ≡ reading.units (xs ++ y ∷ ys) → P
-no_more_units reading xs y ys e =
-    absurd (omega (arith, e, reading.units_add xs (y ∷ ys), reading.units_positive y ys))
-
-one_front : {T L : Type 0} (reading : Reading T L) (xs behind ys rest : List T)
-    → xs ++ behind ≡ ys ++ rest → reading.units xs ≡ reading.units ys → xs ≡ ys
-one_front reading xs behind ys rest same units =
-    elim (one_beginning xs behind ys rest same) [
-      | inl ([], is) ↦ is ∙ append_assoc_nil ys
-      | inl (z ∷ zs, is) ↦ no_more_units reading ys z zs (sym units ∙ ap reading.units is)
-      | inr (z, zs, is) ↦ no_more_units reading xs z zs (units ∙ ap reading.units is)
-    ]
-  where
-    append_assoc_nil : {T : Type 0} (ys : List T) → ys ++ [] ≡ ys
-    append_assoc_nil [] = refl
-    append_assoc_nil (y ∷ ys) = ap (λ l. y ∷ l) (append_assoc_nil ys)
-
-module _ {T L : Type 0} (reading : Reading T L) (sought : List T → Type 0)
-    (stays_first : StaysFirst reading.units sought) where
-  pub match_more : (tokens more : List T) (start end : ℕ)
-      (m : IsFirstMatch reading.units sought tokens start end)
-      → (n : IsFirstMatch reading.units sought (tokens ++ more) start end)
-      × (m.front ≡ n.front)
-  match_more tokens more start end m =
-      let n = stays_first tokens more start end m in
-      let split : m.front ++ ((m.found ++ m.rest) ++ more) ≡ n.front ++ (n.found ++ n.rest) =
-      sym (append_assoc m.front (m.found ++ m.rest) more)
-      ∙ ap (λ l. l ++ more) (sym m.stands.splits) ∙ n.stands.splits in
-      (n, one_front reading m.front _ n.front _ split (sym m.starts ∙ n.starts))
-
-  -- a final result on partial input is also a result on every longer input
-  pub take_until_stays : (bounds : Bounds) → Stays (TakeUntilRuns reading modal sought bounds)
-  take_until_stays bounds more flag i answer j is_cut final (inl (most, is, below, e, same)) =
-      inl (most, is, below, e, same_more more flag same)
-  take_until_stays bounds more flag i answer j is_cut final
-      (inr (inl (k, within, none, short, e, same))) =
-      short_final i is_cut short (final_by (Err k) e final)
-  take_until_stays bounds more flag i answer j is_cut final
-      (inr (inr (inl (start, end, m, slice, enough, within, takes, e)))) =
-      let (n, front) = match_more i.left.tokens more start end m in
-      let Enough : List T → Type 0 = λ l. bounds.least ≤ length l in
-      let Within : List T → Type 0 = λ l. IsWithin bounds.greatest (length l) in
-      let Taken : List T → Type 0 =
-      λ l. Takes reading l (with_more i more flag) slice (with_more j more flag) in
-      inr (inr (inl (
-        start,
-        end,
-        n,
-        slice,
-        subst Enough front enough,
-        subst Within front within,
-        subst Taken front (takes_more more flag takes),
-        e,
-      )))
-  take_until_stays bounds more flag i answer j is_cut final
-      (inr (inr (inr (inl (start, end, m, k, within, few, why, e, same))))) =
-      let (n, front) = match_more i.left.tokens more start end m in
-      let Few : List T → Type 0 = λ l. length l < bounds.least in
-      elim why [
-        | inl endless ↦ inr (inr (inr (inl (
-          start,
-          end,
-          n,
-          k,
-          within,
-          subst Few front few,
-          inl endless,
-          e,
-          same_more more flag same,
-        ))))
-        | inr (most, is, short) ↦ short_final i is_cut short (final_by (Err k) e final)
-      ]
-  take_until_stays bounds more flag i answer j is_cut final
-      (inr (inr (inr (inr (start, end, m, most, is, within, many, e, same))))) =
-      let (n, front) = match_more i.left.tokens more start end m in
-      let Many : List T → Type 0 = λ l. most < length l in
-      inr (inr (inr (inr (
-        start,
-        end,
-        n,
-        most,
-        is,
-        within,
-        subst Many front many,
-        e,
-        same_more more flag same,
-      ))))
-
 -- ---- what it reads
-
--- ---- takes up to a literal
 
 -- The literal and the bounds of a state.
 module _ {X T L : Type 0} (reading : Reading T L) (form : ErrorForm)

@@ -6,18 +6,17 @@ ghost use Rattle.grammars.specs.Grammar.Unique.{literally_takes};
 ghost use Rattle.winnow_core.specs.Exact.Allowed.{backs};
 ghost use Rattle.winnow_core.specs.Literal.Laws.{SpellsByText, text_exact, text_fails};
 ghost use Rattle.winnow_core.specs.Runs.{Keeps};
-ghost use Rattle.winnow_core.specs.Says.{Is};
-ghost use Rattle.winnow_core.specs.Stable.Grows.{leaf_stays};
 ghost use Rattle.winnow_ascii.specs.Crlf.{CrlfRuns};
-ghost use Rattle.winnow_ascii.specs.Crlf.Laws.{crlf_ends, crlf_stays};
-ghost use Rattle.winnow_ascii.specs.Crlf.Says.{text_said, text_says};
+ghost use Rattle.winnow_ascii.specs.Crlf.Laws.{crlf_ends};
+ghost use Rattle.parser_definitions.specs.LineEnding.{CrlfDoes, crlf_law};
+ghost use Rattle.parser_definitions.specs.Spelled.{ShowSame};
+ghost use Rattle.winnow_ascii.specs.Covers.{text_covered};
 
 use crate::ascii::crlf;
 use stream_errors::parser_error::ParserError;
 use stream_searches::compare::Compare;
 use streams::stream::StreamIsPartial;
 use winnow_core::parser::Parser;
-use winnow_core::stable::Stable;
 
 /// The parser [`crlf`](crate::ascii::crlf).
 ///
@@ -33,11 +32,15 @@ impl<I: StreamIsPartial + Compare<&'static str>, E: ParserError<I>> Parser<I, I:
 
     ghost state = { λ _. tt };
 
-    ghost states = { Is };
-
     ghost meaning = { λ form. Keeps (λ _. CrlfRuns I.spells I.reading form) };
 
-    ghost says = { λ _. text_says I.reading I.spells (13 ∷ 10 ∷ []) };
+    ghost does = { CrlfDoes I.reading I.spells };
+
+    ghost terms = { record {
+      premise = SpellsByText I.spells;
+      stable = ⊤;
+      alike = ShowSame I.reading;
+    } };
 
     ghost claim = { λ s. record {
       premise = SpellsByText I.spells;
@@ -50,7 +53,9 @@ impl<I: StreamIsPartial + Compare<&'static str>, E: ParserError<I>> Parser<I, I:
     ghost leaves_ends = { λ form x i answer y j r. crlf_ends I.spells I.reading form i answer j
         r.0 };
 
-    ghost said = { λ _. text_said I.reading I.spells I.same_units (13 ∷ 10 ∷ []) };
+    ghost covers = { λ is at. text_covered I.reading I.spells (13 ∷ 10 ∷ []) is };
+
+    ghost lawful = { λ is. crlf_law I.reading I.spells I.same_units is };
 
     ghost claimed = { λ s. record {
       exact = λ form is. text_exact I.reading form I.spells is I.same_units (13 ∷ 10 ∷ []);
@@ -63,11 +68,4 @@ impl<I: StreamIsPartial + Compare<&'static str>, E: ParserError<I>> Parser<I, I:
     fn parse_next(&mut self, input: &mut I) -> Result<I::Slice, E> {
         crlf(input)
     }
-}
-
-impl<I: StreamIsPartial + Compare<&'static str>, E: ParserError<I>> Stable<I, I::Slice, E>
-    for Crlf {
-    ghost stable = { leaf_stays I.following _ (λ _. crlf_stays I.spells I.reading) };
-
-    fn stay() {}
 }

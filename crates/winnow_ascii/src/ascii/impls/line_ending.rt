@@ -6,21 +6,18 @@ ghost use Rattle.grammars.specs.Grammar.Unique.{either_takes, literally_takes};
 ghost use Rattle.winnow_core.specs.Exact.Allowed.{backs};
 ghost use Rattle.winnow_core.specs.Literal.Laws.{SpellsByText};
 ghost use Rattle.winnow_core.specs.Runs.{Keeps};
-ghost use Rattle.winnow_core.specs.Says.{Is};
-ghost use Rattle.winnow_core.specs.Stable.Grows.{leaf_stays};
 ghost use Rattle.winnow_ascii.specs.LineEnding.{LineEndingRuns};
 ghost use Rattle.winnow_ascii.specs.LineEnding.Laws.{line_ending_exact, line_ending_fails};
 ghost use Rattle.winnow_ascii.specs.LineEnding.Laws.{line_ending_ends};
-ghost use Rattle.winnow_ascii.specs.LineEnding.Laws.{line_ending_stays};
-ghost use Rattle.winnow_ascii.specs.LineEnding.Says.{line_ending_said};
-ghost use Rattle.winnow_ascii.specs.LineEnding.Says.{line_ending_says};
+ghost use Rattle.parser_definitions.specs.LineEnding.{LineEndingDoes, line_ending_law};
+ghost use Rattle.parser_definitions.specs.Spelled.{ShowSame};
+ghost use Rattle.winnow_ascii.specs.Covers.{line_ending_covered};
 
 use crate::ascii::line_ending;
 use stream_errors::parser_error::ParserError;
 use stream_searches::compare::Compare;
 use streams::stream::StreamIsPartial;
 use winnow_core::parser::Parser;
-use winnow_core::stable::Stable;
 
 /// The parser [`line_ending`](crate::ascii::line_ending).
 ///
@@ -36,11 +33,15 @@ impl<I: StreamIsPartial + Compare<&'static str>, E: ParserError<I>> Parser<I, I:
 
     ghost state = { λ _. tt };
 
-    ghost states = { Is };
-
     ghost meaning = { λ form. Keeps (λ _. LineEndingRuns I.spells I.reading form) };
 
-    ghost says = { λ _. line_ending_says I.spells I.reading };
+    ghost does = { LineEndingDoes I.reading I.spells };
+
+    ghost terms = { record {
+      premise = SpellsByText I.spells;
+      stable = ⊤;
+      alike = ShowSame I.reading;
+    } };
 
     ghost claim = { λ s. record {
       premise = SpellsByText I.spells;
@@ -54,7 +55,9 @@ impl<I: StreamIsPartial + Compare<&'static str>, E: ParserError<I>> Parser<I, I:
     ghost leaves_ends = { λ form x i answer y j r. line_ending_ends I.spells I.reading form i
         answer j r.0 };
 
-    ghost said = { λ _. line_ending_said I.spells I.reading I.same_units };
+    ghost covers = { λ is at. line_ending_covered I.reading I.spells is };
+
+    ghost lawful = { λ is. line_ending_law I.reading I.spells I.same_units is };
 
     ghost claimed = { λ s. record {
       exact = λ form is. line_ending_exact I.reading form I.spells is I.same_units;
@@ -69,11 +72,4 @@ impl<I: StreamIsPartial + Compare<&'static str>, E: ParserError<I>> Parser<I, I:
     fn parse_next(&mut self, input: &mut I) -> Result<I::Slice, E> {
         line_ending(input)
     }
-}
-
-impl<I: StreamIsPartial + Compare<&'static str>, E: ParserError<I>> Stable<I, I::Slice, E>
-    for LineEnding {
-    ghost stable = { leaf_stays I.following _ (λ _. line_ending_stays I.spells I.reading) };
-
-    fn stay() {}
 }

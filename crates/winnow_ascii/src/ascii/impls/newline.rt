@@ -1,24 +1,20 @@
 //! A line feed.
 ghost use Rattle.std.specs.Prelude.{⊤, [], ◌≡◌};
-ghost use Rattle.std.proofs.Common.{refl};
 ghost use Rattle.grammars.specs.Grammar.{Literally};
 ghost use Rattle.grammars.specs.Grammar.Unique.{literally_takes};
 ghost use Rattle.winnow_core.specs.Exact.Allowed.{backs};
 ghost use Rattle.winnow_core.specs.Literal.Laws.{literal_exact, literal_fails};
-ghost use Rattle.winnow_core.specs.Literal.Laws.{literal_stays};
 ghost use Rattle.winnow_core.specs.Runs.{Keeps};
-ghost use Rattle.winnow_core.specs.Says.{Is};
-ghost use Rattle.winnow_core.specs.Stable.Grows.{leaf_stays};
 ghost use Rattle.winnow_ascii.specs.Newline.{NewlineRuns};
 ghost use Rattle.winnow_ascii.specs.Newline.Laws.{newline_ends};
-ghost use Rattle.winnow_core.specs.Literal.Says.{literal_said, literal_says};
+ghost use Rattle.parser_definitions.specs.LineEnding.{NewlineDoes, character_law};
+ghost use Rattle.winnow_core.specs.Covers.Leaves.{literal_covered};
 
 use crate::ascii::newline;
 use stream_errors::parser_error::ParserError;
 use stream_searches::compare::Compare;
 use streams::stream::StreamIsPartial;
 use winnow_core::parser::Parser;
-use winnow_core::stable::Stable;
 
 /// The parser [`newline`](crate::ascii::newline).
 ///
@@ -33,11 +29,11 @@ impl<I: StreamIsPartial + Compare<char>, E: ParserError<I>> Parser<I, char, E> f
 
     ghost state = { λ _. tt };
 
-    ghost states = { Is };
-
     ghost meaning = { λ form. Keeps (λ _. NewlineRuns I.spells I.reading form) };
 
-    ghost says = { λ _. literal_says I.reading (I.spells 10) (λ _. 10) (λ o p. o ≡ p) };
+    ghost does = { NewlineDoes I.reading I.spells };
+
+    ghost terms = { record { premise = ⊤; stable = ⊤; alike = λ m n. m ≡ n } };
 
     ghost claim = { λ s. record {
       premise = ⊤;
@@ -50,8 +46,9 @@ impl<I: StreamIsPartial + Compare<char>, E: ParserError<I>> Parser<I, char, E> f
     ghost leaves_ends = { λ form x i answer y j r. newline_ends I.spells I.reading form i answer
         j r.0 };
 
-    ghost said = { λ s. literal_said I.reading (λ (_ : ⊤). I.spells 10) (λ _ _. 10) (λ o p. o ≡ p)
-        s (I.same_units 10) (λ slice other shown. refl) };
+    ghost covers = { λ _ at. literal_covered I.reading (λ _. I.spells 10) (λ _ slice. 10) };
+
+    ghost lawful = { λ _. character_law I.reading I.spells 10 (I.same_units 10) };
 
     ghost claimed = { λ s. record {
       exact = λ form is. literal_exact I.reading form I.spells (λ s _. s) (λ _. 10) tt
@@ -64,11 +61,4 @@ impl<I: StreamIsPartial + Compare<char>, E: ParserError<I>> Parser<I, char, E> f
     fn parse_next(&mut self, input: &mut I) -> Result<char, E> {
         newline(input)
     }
-}
-
-impl<I: StreamIsPartial + Compare<char>, E: ParserError<I>> Stable<I, char, E> for Newline {
-    ghost stable = { leaf_stays I.following _
-        (λ _. literal_stays I.reading (I.spells 10) (λ _. 10)) };
-
-    fn stay() {}
 }

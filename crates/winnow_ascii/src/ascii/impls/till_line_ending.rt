@@ -4,24 +4,21 @@ ghost use Rattle.grammars.specs.Grammar.Searches.{Line};
 ghost use Rattle.winnow_core.specs.Exact.Allowed.{backs};
 ghost use Rattle.winnow_core.specs.Literal.Laws.{SpellsByText};
 ghost use Rattle.winnow_core.specs.Runs.{Keeps};
-ghost use Rattle.winnow_core.specs.Says.{Is};
-ghost use Rattle.winnow_core.specs.Stable.Grows.{leaf_stays};
 ghost use Rattle.winnow_ascii.specs.TillLineEnding.{TillLineEndingRuns};
 ghost use Rattle.winnow_ascii.specs.TillLineEnding.Exact.{till_line_ending_exact};
 ghost use Rattle.winnow_ascii.specs.TillLineEnding.Exact.{till_line_ending_fails};
 ghost use Rattle.winnow_ascii.specs.TillLineEnding.Laws.{till_line_ending_ends};
-ghost use Rattle.winnow_ascii.specs.TillLineEnding.Laws.{till_line_ending_stays};
-ghost use Rattle.winnow_ascii.specs.TillLineEnding.Says.{till_line_ending_said};
-ghost use Rattle.winnow_ascii.specs.TillLineEnding.Says.{till_line_ending_says};
+ghost use Rattle.parser_definitions.specs.TillLineEnding.{SeeksSome, SpellsOne, TillLineEndingDoes};
+ghost use Rattle.parser_definitions.specs.TillLineEnding.{till_line_ending_law};
+ghost use Rattle.parser_definitions.specs.Spelled.{ShowSame};
+ghost use Rattle.winnow_ascii.specs.Covers.{till_line_ending_covered};
 
 use crate::ascii::till_line_ending;
-use crate::stable::LineEnds;
 use stream_errors::parser_error::ParserError;
 use stream_searches::compare::Compare;
 use stream_searches::find::FindSlice;
 use streams::stream::StreamIsPartial;
 use winnow_core::parser::Parser;
-use winnow_core::stable::Stable;
 
 /// The parser [`till_line_ending`](crate::ascii::till_line_ending).
 ///
@@ -39,11 +36,15 @@ impl<
 
     ghost state = { λ _. tt };
 
-    ghost states = { Is };
-
     ghost meaning = { λ form. Keeps (λ _. TillLineEndingRuns I.spells I.sought I.reading form) };
 
-    ghost says = { λ _. till_line_ending_says I.spells I.sought I.reading };
+    ghost does = { TillLineEndingDoes I.reading I.spells I.sought };
+
+    ghost terms = { record {
+      premise = SpellsByText I.spells;
+      stable = SeeksSome I.sought × SpellsOne I.spells;
+      alike = ShowSame I.reading;
+    } };
 
     ghost claim = { λ s. record {
       premise = SpellsByText I.spells;
@@ -56,7 +57,9 @@ impl<
     ghost leaves_ends = { λ form x i answer y j r. till_line_ending_ends I.spells I.sought
         I.reading form i answer j r.0 };
 
-    ghost said = { λ _. till_line_ending_said I.spells I.sought I.reading
+    ghost covers = { λ is at. till_line_ending_covered I.reading I.spells I.sought is };
+
+    ghost lawful = { λ _. till_line_ending_law I.reading I.spells I.sought
         (I.stays_first (13, 10)) };
 
     ghost claimed = { λ s. record {
@@ -69,12 +72,4 @@ impl<
     fn parse_next(&mut self, input: &mut I) -> Result<I::Slice, E> {
         till_line_ending(input)
     }
-}
-
-impl<I: LineEnds, E: ParserError<I>> Stable<I, I::Slice, E> for TillLineEnding {
-    ghost stable = { leaf_stays I.following _
-        (λ _. till_line_ending_stays I.spells I.sought I.reading (I.stays_first (13, 10))
-        I.seeks_some I.spells_one) };
-
-    fn stay() {}
 }

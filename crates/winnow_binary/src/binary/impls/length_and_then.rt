@@ -1,18 +1,17 @@
 //! The implementation of `length_and_then`.
+ghost use Rattle.std.specs.Prelude.{⊤};
 ghost use Rattle.streams.specs.Input.{IsEndOf};
 ghost use Rattle.grammars.specs.Grammar.Lengths.{Inside, SaysOne, Sized, sized_inside_takes};
 ghost use Rattle.stream_errors.specs.Form.{answer_by, modal};
 ghost use Rattle.winnow_core.specs.CompleteErr.{CompleteErrRuns};
 ghost use Rattle.winnow_core.specs.Exact.Allowed.{fails_as};
-ghost use Rattle.winnow_core.specs.Says.{Both};
-ghost use Rattle.winnow_core.specs.Stable.Grows.{grows, stays};
+ghost use Rattle.parser_definitions.specs.Length.{LengthAndThenDoes, OneLength};
+ghost use Rattle.parser_definitions.specs.Length.{length_and_then_law, on_their_own};
+ghost use Rattle.winnow_binary.specs.Covers.{length_and_then_covered};
 ghost use Rattle.winnow_binary.specs.LengthAndThen.{LengthAndThenRuns, TakenRuns};
+ghost use Rattle.winnow_binary.specs.LengthAndThen.Laws.{length_and_then_ends};
 ghost use Rattle.winnow_binary.specs.LengthAndThen.Laws.{length_and_then_exact};
 ghost use Rattle.winnow_binary.specs.LengthAndThen.Laws.{length_and_then_fails};
-ghost use Rattle.winnow_binary.specs.LengthAndThen.Laws.{length_and_then_ends};
-ghost use Rattle.winnow_binary.specs.LengthAndThen.Laws.{length_and_then_grows};
-ghost use Rattle.winnow_binary.specs.LengthAndThen.Says.{length_and_then_said};
-ghost use Rattle.winnow_binary.specs.LengthAndThen.Says.{length_and_then_says};
 
 use std::marker::PhantomData;
 use stream_errors::parser_error::ParserError;
@@ -20,7 +19,6 @@ use stream_sets::numbers::ToUsize;
 use streams::stream::{Stream, StreamIsPartial, UpdateSlice};
 use winnow_core::parser::Parser;
 use winnow_core::short::short;
-use winnow_core::stable::Stable;
 
 /// The parser that [`length_and_then`](crate::binary::length_and_then) makes.
 ///
@@ -50,12 +48,16 @@ impl<
 
     ghost state = { λ s. (P.state s.count, G.state s.parser) };
 
-    ghost states = { λ s. Both (P.states s.0) (G.states s.1) };
-
     ghost meaning = { λ form. LengthAndThenRuns N.number I.reading form I.counts_missing
         (P.meaning form) (G.meaning form) };
 
-    ghost says = { λ s. length_and_then_says N.number I.counts_missing (P.says s.0) (G.says s.1) };
+    ghost does = { LengthAndThenDoes I.reading N.number I.counts_missing P.does G.does };
+
+    ghost terms = { record {
+      premise = P.terms.premise × OneLength N.number P.terms.alike × G.terms.premise;
+      stable = P.terms.stable × ⊤;
+      alike = G.terms.alike;
+    } };
 
     ghost claim = { λ s. record {
       premise = (P.claim s.0).premise × SaysOne N.number (P.claim s.0).grammar
@@ -69,8 +71,11 @@ impl<
     ghost leaves_ends = { λ form. length_and_then_ends N.number I.reading form I.counts_missing
         (P.meaning form) (G.meaning form) (P.leaves_ends form) };
 
-    ghost said = { λ s. length_and_then_said N.number I.reading I.counts_missing (P.said s.0)
-        (G.said s.1) };
+    ghost covers = { λ is at. length_and_then_covered N.number I.reading I.counts_missing
+        (P.covers is.0 at) (G.covers is.2 (on_their_own at)) };
+
+    ghost lawful = { λ is. length_and_then_law I.reading N.number I.counts_missing is.1
+        (P.lawful is.0) (G.lawful is.2) };
 
     ghost claimed = { λ s. record {
       exact = λ form is. length_and_then_exact N.number I.reading form I.counts_missing is.1
@@ -136,19 +141,4 @@ fn parse_complete<P: Parser<I, O, E>, I: Stream, O, E: ParserError<I>>(
             }
         }
     }
-}
-
-impl<
-    P: Stable<I, N, E>,
-    G: Parser<I, O, E>,
-    I: StreamIsPartial + UpdateSlice + Copy,
-    N: ToUsize + Drop,
-    O,
-    E: ParserError<I>,
-> Stable<I, O, E> for LengthAndThen<P, G, I, N, O, E> {
-    ghost stable = { stays
-        (length_and_then_grows I.reading I.counts_missing N.number (G.meaning modal)
-        (grows (P.leaves_ends modal) P.stable)) };
-
-    fn stay() {}
 }

@@ -2,13 +2,13 @@
 ghost use Rattle.grammars.specs.Grammar.Lengths.{SaysOne, Sized, Times, sized_times_takes};
 ghost use Rattle.stream_errors.specs.Form.{assert_kind, modal};
 ghost use Rattle.winnow_core.specs.Exact.Allowed.{fails_as, wanted, softly};
-ghost use Rattle.winnow_core.specs.Says.{Both};
-ghost use Rattle.winnow_core.specs.Stable.Grows.{grows, stays};
+ghost use Rattle.parser_definitions.specs.Folding.{Built, gathering};
+ghost use Rattle.parser_definitions.specs.Length.{OneLength};
+ghost use Rattle.parser_definitions.specs.LengthRepeat.{LengthRepeatDoes, length_repeat_law};
+ghost use Rattle.winnow_binary.specs.Covers.{length_repeat_covered};
 ghost use Rattle.winnow_binary.specs.LengthRepeat.{LengthRepeatRuns};
-ghost use Rattle.winnow_binary.specs.LengthRepeat.Laws.{length_repeat_exact, length_repeat_fails};
-ghost use Rattle.winnow_binary.specs.LengthRepeat.Laws.{length_repeat_ends, length_repeat_grows};
-ghost use Rattle.winnow_binary.specs.LengthRepeat.Says.{length_repeat_said};
-ghost use Rattle.winnow_binary.specs.LengthRepeat.Says.{length_repeat_says};
+ghost use Rattle.winnow_binary.specs.LengthRepeat.Laws.{length_repeat_ends, length_repeat_exact};
+ghost use Rattle.winnow_binary.specs.LengthRepeat.Laws.{length_repeat_fails};
 
 use std::alloc::Allocator;
 use std::marker::PhantomData;
@@ -17,7 +17,6 @@ use stream_sets::accumulate::Accumulate;
 use stream_sets::numbers::ToUsize;
 use streams::stream::Stream;
 use winnow_core::parser::Parser;
-use winnow_core::stable::Stable;
 use winnow_repeat::combinator::items::repeat_many;
 
 /// The parser that [`length_repeat`](crate::binary::length_repeat) makes.
@@ -51,13 +50,16 @@ impl<
 
     ghost state = { λ s. (P.state s.count, G.state s.parser) };
 
-    ghost states = { λ s. Both (P.states s.0) (G.states s.1) };
-
     ghost meaning = { λ form. LengthRepeatRuns N.number C.accumulator (assert_kind form)
         (P.meaning form) (G.meaning form) };
 
-    ghost says = { λ s. length_repeat_says N.number C.accumulator C.holds (P.says s.0)
-        (G.says s.1) };
+    ghost does = { LengthRepeatDoes N.number C.accumulator P.does G.does };
+
+    ghost terms = { record {
+      premise = P.terms.premise × OneLength N.number P.terms.alike × G.terms.premise;
+      stable = P.terms.stable × G.terms.stable;
+      alike = Built (gathering {Q = P.State × G.State} C.accumulator) G.terms.alike;
+    } };
 
     ghost claim = { λ s. record {
       premise = (P.claim s.0).premise × SaysOne N.number (P.claim s.0).grammar
@@ -73,8 +75,11 @@ impl<
         (assert_kind form) (P.meaning form) (G.meaning form) (P.leaves_ends form)
         (G.leaves_ends form) };
 
-    ghost said = { λ s. length_repeat_said N.number C.accumulator C.holds C.gathers (P.said s.0)
-        (G.said s.1) };
+    ghost covers = { λ is at. length_repeat_covered N.number C.accumulator (P.covers is.0 at)
+        (G.covers is.2 at) };
+
+    ghost lawful = { λ is. length_repeat_law N.number C.accumulator is.1 (P.lawful is.0)
+        (G.lawful is.2) };
 
     ghost claimed = { λ s. record {
       exact = λ form is. length_repeat_exact N.number C.accumulator (assert_kind form) s
@@ -96,21 +101,4 @@ impl<
         let count = self.count.parse_next(input)?.to_usize();
         repeat_many(self.alloc, count, Some(count), &mut self.parser, input)
     }
-}
-
-impl<
-    P: Stable<I, N, E>,
-    G: Stable<I, O, E>,
-    I: Stream,
-    N: ToUsize + Drop,
-    O: Drop,
-    C: Accumulate<O, A>,
-    E: ParserError<I>,
-    A: Allocator + Copy,
-> Stable<I, C, E> for LengthRepeat<P, G, I, N, O, C, E, A> {
-    ghost stable = { stays
-        (length_repeat_grows N.number C.accumulator (assert_kind modal) (G.meaning modal)
-        (grows (P.leaves_ends modal) P.stable) (grows (G.leaves_ends modal) G.stable)) };
-
-    fn stay() {}
 }

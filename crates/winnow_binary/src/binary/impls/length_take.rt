@@ -1,20 +1,20 @@
 //! The implementation of `length_take`.
+ghost use Rattle.std.specs.Prelude.{⊤};
 ghost use Rattle.grammars.specs.Grammar.{Counted};
 ghost use Rattle.grammars.specs.Grammar.Lengths.{SaysOne, Sized};
 ghost use Rattle.stream_errors.specs.Form.{modal};
-ghost use Rattle.winnow_core.specs.Stable.Grows.{grows};
+ghost use Rattle.parser_definitions.specs.Length.{LengthTakeDoes, OneLength, length_take_law};
+ghost use Rattle.parser_definitions.specs.Spelled.{ShowSame};
+ghost use Rattle.winnow_binary.specs.Covers.{length_take_covered};
 ghost use Rattle.winnow_binary.specs.LengthTake.{LengthTakeRuns};
-ghost use Rattle.winnow_binary.specs.LengthTake.Laws.{length_take_exact, length_take_fails};
-ghost use Rattle.winnow_binary.specs.LengthTake.Laws.{length_take_takes};
-ghost use Rattle.winnow_binary.specs.LengthTake.Laws.{length_take_ends, length_take_stays};
-ghost use Rattle.winnow_binary.specs.LengthTake.Says.{length_take_said, length_take_says};
+ghost use Rattle.winnow_binary.specs.LengthTake.Laws.{length_take_ends, length_take_exact};
+ghost use Rattle.winnow_binary.specs.LengthTake.Laws.{length_take_fails, length_take_takes};
 
 use std::marker::PhantomData;
 use stream_errors::parser_error::ParserError;
 use stream_sets::numbers::ToUsize;
 use streams::stream::StreamIsPartial;
 use winnow_core::parser::Parser;
-use winnow_core::stable::Stable;
 use winnow_token::token::take;
 
 /// The parser that [`length_take`](crate::binary::length_take) makes.
@@ -41,12 +41,16 @@ impl<P: Parser<I, N, E>, I: StreamIsPartial, N: ToUsize + Drop, E: ParserError<I
 
     ghost state = { λ s. P.state s.count };
 
-    ghost states = { P.states };
-
     ghost meaning = { λ form. LengthTakeRuns N.number I.reading form I.counts_missing
         (P.meaning form) };
 
-    ghost says = { λ s. length_take_says N.number I.reading I.counts_missing (P.says s) };
+    ghost does = { LengthTakeDoes N.number I.reading I.counts_missing P.does };
+
+    ghost terms = { record {
+      premise = P.terms.premise × OneLength N.number P.terms.alike;
+      stable = P.terms.stable × ⊤;
+      alike = ShowSame I.reading;
+    } };
 
     ghost claim = { λ s. record {
       premise = (P.claim s).premise × SaysOne N.number (P.claim s).grammar;
@@ -59,7 +63,11 @@ impl<P: Parser<I, N, E>, I: StreamIsPartial, N: ToUsize + Drop, E: ParserError<I
     ghost leaves_ends = { λ form. length_take_ends N.number I.reading form I.counts_missing
         (P.meaning form) (P.leaves_ends form) };
 
-    ghost said = { λ s. length_take_said N.number I.reading I.counts_missing (P.said s) };
+    ghost covers = { λ is at. length_take_covered N.number I.reading I.counts_missing
+        (P.covers is.0 at) };
+
+    ghost lawful = { λ is. length_take_law N.number I.reading I.counts_missing is.1
+        (P.lawful is.0) };
 
     ghost claimed = { λ s. record {
       exact = λ form is. length_take_exact N.number I.reading form I.counts_missing is.1
@@ -75,15 +83,4 @@ impl<P: Parser<I, N, E>, I: StreamIsPartial, N: ToUsize + Drop, E: ParserError<I
         let count = self.count.parse_next(input)?;
         take(count).parse_next(input)
     }
-}
-
-impl<P: Stable<I, N, E>, I: StreamIsPartial, N: ToUsize + Drop, E: ParserError<I>> Stable<
-    I,
-    I::Slice,
-    E,
-> for LengthTake<P, I, N, E> {
-    ghost stable = { length_take_stays I.reading I.counts_missing N.number
-        (grows (P.leaves_ends modal) P.stable) };
-
-    fn stay() {}
 }

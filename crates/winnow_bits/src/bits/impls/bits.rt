@@ -1,8 +1,8 @@
 //! A parser of bits, run on bytes.
-ghost use Rattle.stream_errors.specs.Form.{modal};
+ghost use Rattle.parser_definitions.specs.BitsOfBytes.{BitsOfBytesDoes, bits_of_bytes_law, inside};
 ghost use Rattle.winnow_bits.specs.BitsOfBytes.{BitsOfBytesRuns};
-ghost use Rattle.winnow_bits.specs.BitsOfBytes.Laws.{bits_of_bytes_ends, bits_of_bytes_stays};
-ghost use Rattle.winnow_bits.specs.BitsOfBytes.Says.{bits_said, bits_says};
+ghost use Rattle.winnow_bits.specs.BitsOfBytes.Laws.{bits_of_bytes_ends};
+ghost use Rattle.winnow_bits.specs.Covers.{bits_of_bytes_covered};
 ghost use Rattle.winnow_core.specs.Claim.{no_claim, nothing_claimed};
 
 use crate::bits::whole::{in_bytes, whole_bytes};
@@ -13,7 +13,6 @@ use stream_errors::convert::ErrorConvert;
 use stream_errors::parser_error::ParserError;
 use streams::byte_stream::ByteStream;
 use winnow_core::parser::Parser;
-use winnow_core::stable::Stable;
 
 /// The parser that [`bits`](crate::bits::bits) makes.
 ///
@@ -44,18 +43,20 @@ impl<
 
     ghost state = { λ s. P.state s.parser };
 
-    ghost states = { P.states };
-
     ghost meaning = { λ form. BitsOfBytesRuns I.reading form (P.meaning form) };
 
-    ghost says = { λ s. bits_says (P.says s) };
+    ghost does = { BitsOfBytesDoes I.reading P.does };
+
+    ghost terms = { record { premise = P.terms.premise; stable = ⊥; alike = P.terms.alike } };
 
     ghost claim = { λ _. no_claim };
 
     ghost leaves_ends = { λ form. bits_of_bytes_ends I.reading form (P.meaning form)
         (P.leaves_ends form) };
 
-    ghost said = { λ s. bits_said I.reading (P.said s) };
+    ghost covers = { λ is at. bits_of_bytes_covered I.reading (P.covers is (inside at)) };
+
+    ghost lawful = { λ is. bits_of_bytes_law I.reading (P.lawful is) };
 
     ghost claimed = { λ _. nothing_claimed };
 
@@ -77,17 +78,4 @@ impl<
             Err(error) => Err(in_bytes(input, error)),
         }
     }
-}
-
-impl<
-    I: ByteStream + Copy,
-    P: Stable<Bits<I>, O, E>,
-    O: Drop,
-    E: ParserError<Bits<I>> + ErrorConvert<F>,
-    F: ParserError<I>,
-> Stable<I, O, F> for BitsParser<P, I, O, E, F> {
-    ghost stable = { bits_of_bytes_stays I.reading I.following I.followed_by_bytes
-        (P.meaning modal) P.stable };
-
-    fn stay() {}
 }

@@ -1,13 +1,11 @@
 //! One bit.
-ghost use Rattle.std.specs.Prelude.{⊤};
-ghost use Rattle.stream_bits.specs.BitInput.{bits_follow};
+ghost use Rattle.std.specs.Prelude.{◌≡◌, ⊤};
+ghost use Rattle.parser_definitions.specs.BitBool.{BitBoolDoes, bit_bool_law};
 ghost use Rattle.stream_bits.specs.BitReading.{bits_reading};
 ghost use Rattle.winnow_bits.specs.BitBool.{BitBoolRuns};
-ghost use Rattle.winnow_bits.specs.BitBool.Laws.{bit_bool_ends, bit_bool_stays};
-ghost use Rattle.winnow_bits.specs.BitBool.Says.{bit_bool_said, bit_bool_says};
+ghost use Rattle.winnow_bits.specs.BitBool.Laws.{bit_bool_ends};
+ghost use Rattle.winnow_bits.specs.Covers.{bit_bool_covered};
 ghost use Rattle.winnow_core.specs.Runs.{Keeps};
-ghost use Rattle.winnow_core.specs.Says.{Is};
-ghost use Rattle.winnow_core.specs.Stable.Grows.{leaf_stays};
 ghost use Rattle.winnow_core.specs.Claim.{no_claim, nothing_claimed};
 
 use crate::bits;
@@ -16,7 +14,6 @@ use stream_errors::parser_error::ParserError;
 use streams::byte_stream::ByteStream;
 use streams::stream::StreamIsPartial;
 use winnow_core::parser::Parser;
-use winnow_core::stable::Stable;
 
 /// The parser [`bool`](crate::bits::bool).
 ///
@@ -34,18 +31,20 @@ impl<I: ByteStream + StreamIsPartial, E: ParserError<Bits<I>>> Parser<Bits<I>, b
 
     ghost state = { λ _. tt };
 
-    ghost states = { Is };
-
     ghost meaning = { λ form. Keeps (λ _. BitBoolRuns (bits_reading I.reading) form) };
 
-    ghost says = { λ _. bit_bool_says };
+    ghost does = { BitBoolDoes (bits_reading I.reading) };
+
+    ghost terms = { record { premise = ⊤; stable = ⊤; alike = λ o p. o ≡ p } };
 
     ghost claim = { λ _. no_claim };
 
     ghost leaves_ends = { λ form x i answer y j r.
         bit_bool_ends (bits_reading I.reading) form i answer j r.0 };
 
-    ghost said = { λ _. bit_bool_said (bits_reading I.reading) };
+    ghost covers = { λ is at. bit_bool_covered (bits_reading I.reading) };
+
+    ghost lawful = { λ is. bit_bool_law (bits_reading I.reading) };
 
     ghost claimed = { λ _. nothing_claimed };
 
@@ -53,11 +52,4 @@ impl<I: ByteStream + StreamIsPartial, E: ParserError<Bits<I>>> Parser<Bits<I>, b
     fn parse_next(&mut self, input: &mut Bits<I>) -> Result<bool, E> {
         bits::bool(input)
     }
-}
-
-impl<I: ByteStream + StreamIsPartial, E: ParserError<Bits<I>>> Stable<Bits<I>, bool, E> for Bool {
-    ghost stable = { leaf_stays (bits_follow I.reading) _
-        (λ _. bit_bool_stays (bits_reading I.reading)) };
-
-    fn stay() {}
 }

@@ -1,9 +1,10 @@
 //! A parser of bytes, run on bits.
+ghost use Rattle.parser_definitions.specs.BitsOfBytes.{inside};
+ghost use Rattle.parser_definitions.specs.BytesOfBits.{BytesOfBitsDoes, bytes_of_bits_law};
 ghost use Rattle.stream_bits.specs.BitReading.{bits_reading};
-ghost use Rattle.stream_errors.specs.Form.{modal};
 ghost use Rattle.winnow_bits.specs.BytesOfBits.{BytesOfBitsRuns};
-ghost use Rattle.winnow_bits.specs.BytesOfBits.Laws.{bytes_of_bits_ends, bytes_of_bits_stays};
-ghost use Rattle.winnow_bits.specs.BytesOfBits.Says.{bytes_said, bytes_says};
+ghost use Rattle.winnow_bits.specs.BytesOfBits.Laws.{bytes_of_bits_ends};
+ghost use Rattle.winnow_bits.specs.Covers.{bytes_of_bits_covered};
 ghost use Rattle.winnow_core.specs.Claim.{no_claim, nothing_claimed};
 
 use crate::bits::whole::{in_bits, whole_bytes};
@@ -13,7 +14,6 @@ use stream_errors::convert::ErrorConvert;
 use stream_errors::parser_error::ParserError;
 use streams::byte_stream::ByteStream;
 use winnow_core::parser::Parser;
-use winnow_core::stable::Stable;
 
 /// The parser that [`bytes`](crate::bits::bytes) makes.
 ///
@@ -44,19 +44,21 @@ impl<
 
     ghost state = { λ s. P.state s.parser };
 
-    ghost states = { P.states };
-
     ghost meaning = { λ form. BytesOfBitsRuns (bits_reading I.reading) form (P.meaning form) };
 
-    ghost says = { λ s. bytes_says (P.says s) };
+    ghost does = { BytesOfBitsDoes (bits_reading I.reading) P.does };
+
+    ghost terms = { record { premise = P.terms.premise; stable = ⊥; alike = P.terms.alike } };
 
     ghost claim = { λ _. no_claim };
 
     ghost leaves_ends = { λ form. bytes_of_bits_ends I.reading I.counts_bytes form
         (P.meaning form) (P.leaves_ends form) };
 
-    ghost said = { λ s.
-        bytes_said I.reading I.counts_bytes P.leaves_ends (P.said s) };
+    ghost covers = { λ is at. bytes_of_bits_covered I.reading (P.leaves_ends at.form)
+        (P.covers is (inside at)) };
+
+    ghost lawful = { λ is. bytes_of_bits_law (bits_reading I.reading) (P.lawful is) };
 
     ghost claimed = { λ _. nothing_claimed };
 
@@ -74,17 +76,4 @@ impl<
             Err(error) => Err(in_bits(input, error)),
         }
     }
-}
-
-impl<
-    P: Stable<I, O, E>,
-    I: ByteStream + Copy,
-    O,
-    E: ParserError<I> + ErrorConvert<F>,
-    F: ParserError<Bits<I>>,
-> Stable<Bits<I>, O, F> for Bytes<P, I, O, E, F> {
-    ghost stable = { bytes_of_bits_stays I.reading I.following I.followed_by_bytes
-        (P.meaning modal) (P.leaves_ends modal) P.stable };
-
-    fn stay() {}
 }

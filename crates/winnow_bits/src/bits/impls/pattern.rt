@@ -1,14 +1,11 @@
 //! That many bits, which must be a number.
-ghost use Rattle.std.specs.Prelude.{ℕ};
-ghost use Rattle.stream_bits.specs.BitInput.{bits_follow};
+ghost use Rattle.std.specs.Prelude.{◌≡◌, ⊤, ℕ};
+ghost use Rattle.parser_definitions.specs.BitTake.{BitPatternDoes, bit_pattern_law};
 ghost use Rattle.stream_bits.specs.BitReading.{bits_reading};
 ghost use Rattle.winnow_bits.specs.BitPattern.{BitPatternRuns};
 ghost use Rattle.winnow_bits.specs.BitPattern.Laws.{bit_pattern_ends};
-ghost use Rattle.winnow_bits.specs.BitPattern.Laws.{bit_pattern_stays};
-ghost use Rattle.winnow_bits.specs.BitPattern.Says.{bit_pattern_said, bit_pattern_says};
+ghost use Rattle.winnow_bits.specs.Covers.{bit_pattern_covered};
 ghost use Rattle.winnow_core.specs.Runs.{Keeps};
-ghost use Rattle.winnow_core.specs.Says.{Is};
-ghost use Rattle.winnow_core.specs.Stable.Grows.{leaf_stays};
 ghost use Rattle.winnow_core.specs.Claim.{no_claim, nothing_claimed};
 
 use crate::bits::fields::take_counted;
@@ -19,7 +16,6 @@ use stream_errors::parser_error::ParserError;
 use streams::byte_stream::ByteStream;
 use streams::stream::{Stream, StreamIsPartial};
 use winnow_core::parser::Parser;
-use winnow_core::stable::Stable;
 
 /// The parser that [`pattern`](crate::bits::pattern) makes.
 ///
@@ -44,20 +40,21 @@ impl<I: ByteStream + StreamIsPartial, O: BitOutput, E: ParserError<Bits<I>>> Par
 
     ghost state = { λ s. (O.number s.value, s.count) };
 
-    ghost states = { Is };
-
     ghost meaning = { λ form. Keeps
         (λ s. BitPatternRuns O.number O.WIDTH (bits_reading I.reading) form s.0 s.1) };
 
-    ghost says = { λ s. bit_pattern_says O.number O.WIDTH s.0 s.1 };
+    ghost does = { BitPatternDoes O.number O.WIDTH (bits_reading I.reading) };
+
+    ghost terms = { record { premise = ⊤; stable = ⊤; alike = λ o p. O.number o ≡ O.number p } };
 
     ghost claim = { λ _. no_claim };
 
     ghost leaves_ends = { λ form s i answer m j r.
         bit_pattern_ends O.number O.WIDTH (bits_reading I.reading) form s.0 s.1 i answer j r.0 };
 
-    ghost said = { λ s.
-        bit_pattern_said O.number O.WIDTH (bits_reading I.reading) s.0 s.1 };
+    ghost covers = { λ is at. bit_pattern_covered (bits_reading I.reading) O.number O.WIDTH };
+
+    ghost lawful = { λ is. bit_pattern_law O.number O.WIDTH (bits_reading I.reading) };
 
     ghost claimed = { λ _. nothing_claimed };
 
@@ -76,12 +73,4 @@ impl<I: ByteStream + StreamIsPartial, O: BitOutput, E: ParserError<Bits<I>>> Par
             Err(error) => Err(error),
         }
     }
-}
-
-impl<I: ByteStream + StreamIsPartial, O: BitOutput, E: ParserError<Bits<I>>> Stable<Bits<I>, O, E>
-    for Pattern<I, O, E> {
-    ghost stable = { leaf_stays (bits_follow I.reading) _
-        (λ x. bit_pattern_stays (bits_reading I.reading) O.number O.WIDTH x.0 x.1) };
-
-    fn stay() {}
 }

@@ -1,13 +1,11 @@
 //! That many bits, as a number.
-ghost use Rattle.std.specs.Prelude.{ℕ};
-ghost use Rattle.stream_bits.specs.BitInput.{bits_follow};
+ghost use Rattle.std.specs.Prelude.{◌≡◌, ⊤, ℕ};
+ghost use Rattle.parser_definitions.specs.BitTake.{BitTakeDoes, bit_take_law};
 ghost use Rattle.stream_bits.specs.BitReading.{bits_reading};
 ghost use Rattle.winnow_bits.specs.BitTake.{BitTakeRuns};
-ghost use Rattle.winnow_bits.specs.BitTake.Laws.{bit_take_ends, bit_take_stays};
-ghost use Rattle.winnow_bits.specs.BitTake.Says.{bit_take_said, bit_take_says};
+ghost use Rattle.winnow_bits.specs.BitTake.Laws.{bit_take_ends};
+ghost use Rattle.winnow_bits.specs.Covers.{bit_take_covered};
 ghost use Rattle.winnow_core.specs.Runs.{Keeps};
-ghost use Rattle.winnow_core.specs.Says.{Is};
-ghost use Rattle.winnow_core.specs.Stable.Grows.{leaf_stays};
 ghost use Rattle.winnow_core.specs.Claim.{no_claim, nothing_claimed};
 
 use crate::bits::fields::take_counted;
@@ -18,7 +16,6 @@ use stream_errors::parser_error::ParserError;
 use streams::byte_stream::ByteStream;
 use streams::stream::StreamIsPartial;
 use winnow_core::parser::Parser;
-use winnow_core::stable::Stable;
 
 /// The parser that [`take`](crate::bits::take) makes.
 ///
@@ -42,19 +39,21 @@ impl<I: ByteStream + StreamIsPartial, O: BitOutput, E: ParserError<Bits<I>>> Par
 
     ghost state = { λ s. s.count };
 
-    ghost states = { Is };
-
     ghost meaning = { λ form. Keeps
         (λ n. BitTakeRuns O.number O.WIDTH (bits_reading I.reading) form n) };
 
-    ghost says = { λ n. bit_take_says O.number O.WIDTH n };
+    ghost does = { BitTakeDoes O.number O.WIDTH (bits_reading I.reading) };
+
+    ghost terms = { record { premise = ⊤; stable = ⊤; alike = λ o p. O.number o ≡ O.number p } };
 
     ghost claim = { λ _. no_claim };
 
     ghost leaves_ends = { λ form n i answer m j r.
         bit_take_ends O.number O.WIDTH (bits_reading I.reading) form n i answer j r.0 };
 
-    ghost said = { λ n. bit_take_said O.number O.WIDTH (bits_reading I.reading) n };
+    ghost covers = { λ is at. bit_take_covered (bits_reading I.reading) O.number O.WIDTH };
+
+    ghost lawful = { λ is. bit_take_law O.number O.WIDTH (bits_reading I.reading) };
 
     ghost claimed = { λ _. nothing_claimed };
 
@@ -62,12 +61,4 @@ impl<I: ByteStream + StreamIsPartial, O: BitOutput, E: ParserError<Bits<I>>> Par
     fn parse_next(&mut self, input: &mut Bits<I>) -> Result<O, E> {
         take_counted(input, self.count)
     }
-}
-
-impl<I: ByteStream + StreamIsPartial, O: BitOutput, E: ParserError<Bits<I>>> Stable<Bits<I>, O, E>
-    for Take<I, O, E> {
-    ghost stable = { leaf_stays (bits_follow I.reading) _
-        (bit_take_stays (bits_reading I.reading) O.number O.WIDTH) };
-
-    fn stay() {}
 }

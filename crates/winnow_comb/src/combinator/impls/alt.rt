@@ -2,13 +2,14 @@
 ghost use Rattle.std.specs.Prelude.{⊤, ◌≡◌};
 ghost use Rattle.stream_errors.specs.Form.{ErrorForm, answer_by};
 ghost use Rattle.streams.specs.Input.{IsEndOf};
+ghost use Rattle.parser_definitions.specs.Does.{Lawful, Terms};
+ghost use Rattle.parser_definitions.specs.Outcome.{Does, Setting};
 ghost use Rattle.winnow_comb.specs.Attempt.{AttemptRuns};
 ghost use Rattle.winnow_core.specs.Claim.{Claim, Claimed};
+ghost use Rattle.winnow_core.specs.Covers.{Covers};
 ghost use Rattle.winnow_core.specs.Runs.{LeaveEnds, Meaning};
-ghost use Rattle.winnow_core.specs.Says.{SaidAmong, Says};
 
 mod slices;
-mod stable;
 mod tuples;
 
 use std::marker::PhantomData;
@@ -34,14 +35,14 @@ pub trait Alt<I: Stream, O, E: ParserError<I>> {
     // The state that they are in.
     ghost state: { Self → State };
 
-    // The states in which calls from a state end.
-    ghost states: { State → State → Type 0 };
-
     // The semantics of the choice, by the form of errors.
     ghost meaning: { Meaning State I.Seen O };
 
-    // The specified outcomes of the choice, from a state.
-    ghost says: { State → Says I.Seen O };
+    // The definition of the choice.
+    ghost does: { Does State I.Seen O };
+
+    // When the definition is lawful, when it is stable, and which outputs are equal.
+    ghost terms: { Terms O };
 
     // The specification of the choice by grammars, from a state.
     ghost claim: { State → Claim I.Seen O };
@@ -58,8 +59,11 @@ pub trait Alt<I: Stream, O, E: ParserError<I>> {
     // Every call leaves a suffix of its input.
     ghost leaves_ends: { (form : ErrorForm) → LeaveEnds I.reading (meaning form) };
 
-    // The semantics satisfy `says`.
-    ghost said: { (s : State) → SaidAmong (states s) (says s) s meaning };
+    // Every call has an outcome of the definition.
+    ghost covers: { terms.premise → (at : Setting) → Covers at (meaning at.form) does };
+
+    // The laws of the definition.
+    ghost lawful: { terms.premise → Lawful terms.stable terms.alike does };
 
     // The semantics satisfy `claim`.
     ghost claimed: { (s : State) → Claimed (claim s) s meaning };
@@ -84,17 +88,19 @@ impl<A: Alt<I, O, E>, I: Stream, O, E: ParserError<I>> Parser<I, O, E> for AltPa
 
     ghost state = { λ s. A.state s.alternatives };
 
-    ghost states = { A.states };
-
     ghost meaning = { A.meaning };
 
-    ghost says = { A.says };
+    ghost does = { A.does };
+
+    ghost terms = { A.terms };
 
     ghost claim = { A.claim };
 
     ghost leaves_ends = { A.leaves_ends };
 
-    ghost said = { A.said };
+    ghost covers = { A.covers };
+
+    ghost lawful = { A.lawful };
 
     ghost claimed = { A.claimed };
 

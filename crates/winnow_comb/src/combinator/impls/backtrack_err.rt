@@ -1,17 +1,15 @@
 //! A child whose errors backtrack.
-ghost use Rattle.stream_errors.specs.Form.{modal};
 ghost use Rattle.winnow_comb.specs.BacktrackErr.{BacktrackErrRuns};
-ghost use Rattle.winnow_comb.specs.BacktrackErr.Laws.{backtrack_err_ends, backtrack_err_grows};
-ghost use Rattle.winnow_core.specs.Stable.Grows.{grows, stays};
+ghost use Rattle.winnow_comb.specs.BacktrackErr.Laws.{backtrack_err_ends};
 ghost use Rattle.winnow_core.specs.Claim.{no_claim, nothing_claimed};
-ghost use Rattle.winnow_comb.specs.BacktrackErr.Says.{backtrack_err_said, backtrack_err_says};
+ghost use Rattle.parser_definitions.specs.Peek.{BacktrackErrDoes, backtrack_err_law};
+ghost use Rattle.winnow_comb.specs.Covers.{backtrack_err_covered};
 
 use std::marker::PhantomData;
 use stream_errors::modal::ModalError;
 use stream_errors::parser_error::ParserError;
 use streams::stream::Stream;
 use winnow_core::parser::Parser;
-use winnow_core::stable::Stable;
 
 /// The parser that [`backtrack_err`](crate::combinator::backtrack_err) makes.
 ///
@@ -33,18 +31,24 @@ impl<P: Parser<I, O, E>, I: Stream, O, E: ParserError<I> + ModalError> Parser<I,
 
     ghost state = { λ s. P.state s.parser };
 
-    ghost states = { P.states };
-
     ghost meaning = { λ form. BacktrackErrRuns (P.meaning form) };
 
-    ghost says = { λ s. backtrack_err_says (P.says s) };
+    ghost does = { BacktrackErrDoes P.does };
+
+    ghost terms = { record {
+      premise = P.terms.premise;
+      stable = P.terms.stable;
+      alike = P.terms.alike;
+    } };
 
     ghost claim = { λ _. no_claim };
 
     ghost leaves_ends = { λ form. backtrack_err_ends I.reading (P.meaning form)
         (P.leaves_ends form) };
 
-    ghost said = { λ s. backtrack_err_said (P.said s) };
+    ghost covers = { λ is at. backtrack_err_covered (P.covers is at) };
+
+    ghost lawful = { λ is. backtrack_err_law (P.lawful is) };
 
     ghost claimed = { λ _. nothing_claimed };
 
@@ -55,11 +59,4 @@ impl<P: Parser<I, O, E>, I: Stream, O, E: ParserError<I> + ModalError> Parser<I,
             Err(error) => Err(error.backtrack()),
         }
     }
-}
-
-impl<P: Stable<I, O, E>, I: Stream, O, E: ParserError<I> + ModalError> Stable<I, O, E>
-    for BacktrackErr<P, I, O, E> {
-    ghost stable = { stays (backtrack_err_grows (grows (P.leaves_ends modal) P.stable)) };
-
-    fn stay() {}
 }

@@ -1,18 +1,16 @@
 //! A child that is run on a condition.
 ghost use Rattle.std.specs.Prelude.{Bool};
 ghost use Rattle.grammars.specs.Grammar.{When};
-ghost use Rattle.stream_errors.specs.Form.{modal};
-ghost use Rattle.winnow_core.specs.Says.{With};
-ghost use Rattle.winnow_core.specs.Stable.Grows.{grows, stays};
 ghost use Rattle.winnow_comb.specs.Cond.{CondRuns};
-ghost use Rattle.winnow_comb.specs.Cond.Laws.{cond_exact, cond_fails, cond_ends, cond_grows};
-ghost use Rattle.winnow_comb.specs.Cond.Says.{cond_said, cond_says};
+ghost use Rattle.winnow_comb.specs.Cond.Laws.{cond_exact, cond_fails, cond_ends};
+ghost use Rattle.parser_definitions.specs.Peek.{CondDoes, cond_law};
+ghost use Rattle.parser_definitions.specs.Equal.{AlikeOptions};
+ghost use Rattle.winnow_comb.specs.Covers.{cond_covered};
 
 use std::marker::PhantomData;
 use stream_errors::parser_error::ParserError;
 use streams::stream::Stream;
 use winnow_core::parser::Parser;
-use winnow_core::stable::Stable;
 
 /// The parser that [`cond`](crate::combinator::cond) makes.
 ///
@@ -35,11 +33,15 @@ impl<P: Parser<I, O, E>, I: Stream, O, E: ParserError<I>> Parser<I, Option<O>, E
 
     ghost state = { λ s. (P.state s.parser, s.condition) };
 
-    ghost states = { λ s. With (P.states s.0) s.1 };
-
     ghost meaning = { λ form. CondRuns (P.meaning form) };
 
-    ghost says = { λ s. cond_says s.1 (P.says s.0) };
+    ghost does = { CondDoes P.does };
+
+    ghost terms = { record {
+      premise = P.terms.premise;
+      stable = P.terms.stable;
+      alike = AlikeOptions P.terms.alike;
+    } };
 
     ghost claim = { λ s. record {
       premise = (P.claim s.0).premise;
@@ -51,7 +53,9 @@ impl<P: Parser<I, O, E>, I: Stream, O, E: ParserError<I>> Parser<I, Option<O>, E
 
     ghost leaves_ends = { λ form. cond_ends I.reading (P.meaning form) (P.leaves_ends form) };
 
-    ghost said = { λ s. cond_said (P.said s.0) };
+    ghost covers = { λ is at. cond_covered (P.covers is at) };
+
+    ghost lawful = { λ is. cond_law (P.lawful is) };
 
     ghost claimed = { λ s. record {
       exact = λ form is. cond_exact ((P.claimed s.0).exact form is);
@@ -68,11 +72,4 @@ impl<P: Parser<I, O, E>, I: Stream, O, E: ParserError<I>> Parser<I, Option<O>, E
             Ok(None)
         }
     }
-}
-
-impl<I: Stream, O, E: ParserError<I>, P: Stable<I, O, E>> Stable<I, Option<O>, E>
-    for Cond<P, I, O, E> {
-    ghost stable = { stays (cond_grows (grows (P.leaves_ends modal) P.stable)) };
-
-    fn stay() {}
 }

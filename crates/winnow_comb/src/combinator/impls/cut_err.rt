@@ -1,18 +1,15 @@
 //! A child whose errors cut.
-ghost use Rattle.stream_errors.specs.Form.{modal};
-ghost use Rattle.winnow_core.specs.Stable.Grows.{grows, stays};
 ghost use Rattle.winnow_comb.specs.CutErr.{CutErrRuns};
 ghost use Rattle.winnow_comb.specs.CutErr.Laws.{cut_err_exact, cut_err_fails};
 ghost use Rattle.winnow_comb.specs.CutErr.Laws.{cut_err_ends};
-ghost use Rattle.winnow_comb.specs.CutErr.Laws.{cut_err_grows};
-ghost use Rattle.winnow_comb.specs.CutErr.Says.{cut_err_said, cut_err_says};
+ghost use Rattle.parser_definitions.specs.Peek.{CutErrDoes, cut_err_law};
+ghost use Rattle.winnow_comb.specs.Covers.{cut_err_covered};
 
 use std::marker::PhantomData;
 use stream_errors::modal::ModalError;
 use stream_errors::parser_error::ParserError;
 use streams::stream::Stream;
 use winnow_core::parser::Parser;
-use winnow_core::stable::Stable;
 
 /// The parser that [`cut_err`](crate::combinator::cut_err) makes.
 ///
@@ -34,11 +31,15 @@ impl<P: Parser<I, O, E>, I: Stream, O, E: ParserError<I> + ModalError> Parser<I,
 
     ghost state = { λ s. P.state s.parser };
 
-    ghost states = { P.states };
-
     ghost meaning = { λ form. CutErrRuns (P.meaning form) };
 
-    ghost says = { λ s. cut_err_says (P.says s) };
+    ghost does = { CutErrDoes P.does };
+
+    ghost terms = { record {
+      premise = P.terms.premise;
+      stable = P.terms.stable;
+      alike = P.terms.alike;
+    } };
 
     ghost claim = { λ s. record {
       premise = (P.claim s).premise;
@@ -50,7 +51,9 @@ impl<P: Parser<I, O, E>, I: Stream, O, E: ParserError<I> + ModalError> Parser<I,
 
     ghost leaves_ends = { λ form. cut_err_ends I.reading (P.meaning form) (P.leaves_ends form) };
 
-    ghost said = { λ s. cut_err_said (P.said s) };
+    ghost covers = { λ is at. cut_err_covered (P.covers is at) };
+
+    ghost lawful = { λ is. cut_err_law (P.lawful is) };
 
     ghost claimed = { λ s. record {
       exact = λ form is. cut_err_exact ((P.claimed s).exact form is);
@@ -65,11 +68,4 @@ impl<P: Parser<I, O, E>, I: Stream, O, E: ParserError<I> + ModalError> Parser<I,
             Err(error) => Err(error.cut()),
         }
     }
-}
-
-impl<P: Stable<I, O, E>, I: Stream, O, E: ParserError<I> + ModalError> Stable<I, O, E>
-    for CutErr<P, I, O, E> {
-    ghost stable = { stays (cut_err_grows (grows (P.leaves_ends modal) P.stable)) };
-
-    fn stay() {}
 }

@@ -4,17 +4,15 @@ ghost use Rattle.grammars.specs.Grammar.{Nothing};
 ghost use Rattle.winnow_core.specs.Ends.{same_ends};
 ghost use Rattle.winnow_core.specs.Exact.Allowed.{backs};
 ghost use Rattle.winnow_core.specs.Runs.{Keeps};
-ghost use Rattle.winnow_core.specs.Says.{Is};
-ghost use Rattle.winnow_core.specs.Stable.Grows.{leaf_stays};
 ghost use Rattle.winnow_comb.specs.Empty.{EmptyRuns};
-ghost use Rattle.winnow_comb.specs.Empty.Laws.{empty_exact, empty_fails, empty_stays};
-ghost use Rattle.winnow_comb.specs.Empty.Says.{empty_said, empty_says};
+ghost use Rattle.winnow_comb.specs.Empty.Laws.{empty_exact, empty_fails};
+ghost use Rattle.parser_definitions.specs.Eof.{EmptyDoes, empty_law};
+ghost use Rattle.winnow_comb.specs.Covers.Leaves.{empty_covered};
 
 use crate::combinator::basic::empty;
 use stream_errors::parser_error::ParserError;
 use streams::stream::Stream;
 use winnow_core::parser::Parser;
-use winnow_core::stable::Stable;
 
 /// The parser [`empty`](crate::combinator::empty).
 ///
@@ -30,11 +28,15 @@ impl<I: Stream, E: ParserError<I>> Parser<I, (), E> for Empty {
 
     ghost state = { λ _. tt };
 
-    ghost states = { Is };
-
     ghost meaning = { λ _. Keeps (λ _. EmptyRuns) };
 
-    ghost says = { λ _. empty_says };
+    ghost does = { EmptyDoes };
+
+    ghost terms = { record {
+      premise = ⊤;
+      stable = ⊤;
+      alike = λ o p. ⊤;
+    } };
 
     ghost claim = { λ s. record {
       premise = ⊤;
@@ -46,7 +48,9 @@ impl<I: Stream, E: ParserError<I>> Parser<I, (), E> for Empty {
 
     ghost leaves_ends = { λ form x i answer y j r. same_ends I.reading i j r.0.1 };
 
-    ghost said = { λ _. empty_said };
+    ghost covers = { λ is at. empty_covered };
+
+    ghost lawful = { λ is. empty_law };
 
     ghost claimed = { λ s. record {
       exact = λ form is. empty_exact;
@@ -58,10 +62,4 @@ impl<I: Stream, E: ParserError<I>> Parser<I, (), E> for Empty {
     fn parse_next(&mut self, input: &mut I) -> Result<(), E> {
         empty(input)
     }
-}
-
-impl<I: Stream, E: ParserError<I>> Stable<I, (), E> for Empty {
-    ghost stable = { leaf_stays I.following _ (λ _. empty_stays) };
-
-    fn stay() {}
 }

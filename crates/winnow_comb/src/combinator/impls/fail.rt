@@ -1,20 +1,18 @@
 //! The parser that fails.
-ghost use Rattle.std.specs.Prelude.{⊤, ◌<◌};
+ghost use Rattle.std.specs.Prelude.{⊤, ◌≡◌};
 ghost use Rattle.grammars.specs.Grammar.{Never};
 ghost use Rattle.winnow_core.specs.Ends.{same_ends};
 ghost use Rattle.winnow_core.specs.Exact.Allowed.{backs};
 ghost use Rattle.winnow_core.specs.Runs.{Keeps};
-ghost use Rattle.winnow_core.specs.Says.{Is};
-ghost use Rattle.winnow_core.specs.Stable.Grows.{leaf_stays};
 ghost use Rattle.winnow_comb.specs.Fail.{FailRuns};
-ghost use Rattle.winnow_comb.specs.Fail.Laws.{fail_exact, fail_backs, never_takes, fail_stays};
-ghost use Rattle.winnow_comb.specs.Fail.Says.{fail_said, fail_says};
+ghost use Rattle.winnow_comb.specs.Fail.Laws.{fail_exact, fail_backs, never_takes};
+ghost use Rattle.parser_definitions.specs.Eof.{FailDoes, fail_law};
+ghost use Rattle.winnow_comb.specs.Covers.Leaves.{fail_covered};
 
 use crate::combinator::basic::fail;
 use stream_errors::parser_error::ParserError;
 use streams::stream::Stream;
 use winnow_core::parser::Parser;
-use winnow_core::stable::Stable;
 
 /// The parser [`fail`](crate::combinator::fail).
 ///
@@ -30,11 +28,15 @@ impl<I: Stream, O, E: ParserError<I>> Parser<I, O, E> for Fail {
 
     ghost state = { λ _. tt };
 
-    ghost states = { Is };
-
     ghost meaning = { λ _. Keeps (λ _. FailRuns) };
 
-    ghost says = { λ _. fail_says };
+    ghost does = { FailDoes };
+
+    ghost terms = { record {
+      premise = ⊤;
+      stable = ⊤;
+      alike = λ o p. o ≡ p;
+    } };
 
     ghost claim = { λ s. record {
       premise = ⊤;
@@ -46,7 +48,9 @@ impl<I: Stream, O, E: ParserError<I>> Parser<I, O, E> for Fail {
 
     ghost leaves_ends = { λ form x i answer y j r. same_ends I.reading i j r.0.1 };
 
-    ghost said = { λ _. fail_said };
+    ghost covers = { λ is at. fail_covered };
+
+    ghost lawful = { λ is. fail_law };
 
     ghost claimed = { λ s. record {
       exact = λ form is. fail_exact;
@@ -58,10 +62,4 @@ impl<I: Stream, O, E: ParserError<I>> Parser<I, O, E> for Fail {
     fn parse_next(&mut self, input: &mut I) -> Result<O, E> {
         fail(input)
     }
-}
-
-impl<I: Stream, O, E: ParserError<I>> Stable<I, O, E> for Fail {
-    ghost stable = { leaf_stays I.following _ (λ _. fail_stays) };
-
-    fn stay() {}
 }

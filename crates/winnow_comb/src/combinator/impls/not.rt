@@ -1,19 +1,16 @@
 //! A child that is not to succeed.
 ghost use Rattle.std.specs.Prelude.{⊤};
 ghost use Rattle.grammars.specs.Grammar.{NotAhead};
-ghost use Rattle.stream_errors.specs.Form.{modal};
 ghost use Rattle.winnow_core.specs.Exact.Allowed.{fails_as, softly};
-ghost use Rattle.winnow_core.specs.Stable.Grows.{grows, stays};
 ghost use Rattle.winnow_comb.specs.Not.{NotRuns};
 ghost use Rattle.winnow_comb.specs.Not.Laws.{not_exact, not_fails, not_ends};
-ghost use Rattle.winnow_comb.specs.Not.Laws.{not_grows};
-ghost use Rattle.winnow_comb.specs.Not.Says.{not_said, not_says};
+ghost use Rattle.parser_definitions.specs.Peek.{NotDoes, not_law};
+ghost use Rattle.winnow_comb.specs.Covers.{not_covered};
 
 use std::marker::PhantomData;
 use stream_errors::parser_error::ParserError;
 use streams::stream::Stream;
 use winnow_core::parser::Parser;
-use winnow_core::stable::Stable;
 
 /// The parser that [`not`](crate::combinator::not) makes.
 ///
@@ -35,11 +32,15 @@ impl<P: Parser<I, O, E>, I: Stream, O: Drop, E: ParserError<I>> Parser<I, (), E>
 
     ghost state = { λ s. P.state s.parser };
 
-    ghost states = { P.states };
-
     ghost meaning = { λ form. NotRuns (P.meaning form) };
 
-    ghost says = { λ s. not_says (P.says s) };
+    ghost does = { NotDoes P.does };
+
+    ghost terms = { record {
+      premise = P.terms.premise;
+      stable = P.terms.stable;
+      alike = λ o p. ⊤;
+    } };
 
     ghost claim = { λ s. record {
       premise = (P.claim s).premise × (P.claim s).backtracks;
@@ -51,7 +52,9 @@ impl<P: Parser<I, O, E>, I: Stream, O: Drop, E: ParserError<I>> Parser<I, (), E>
 
     ghost leaves_ends = { λ form. not_ends I.reading (P.meaning form) (P.leaves_ends form) };
 
-    ghost said = { λ s. not_said (P.said s) };
+    ghost covers = { λ is at. not_covered (P.covers is at) };
+
+    ghost lawful = { λ is. not_law (P.lawful is) };
 
     ghost claimed = { λ s. record {
       exact = λ form is. not_exact ((P.claimed s).exact form is.0)
@@ -76,11 +79,4 @@ impl<P: Parser<I, O, E>, I: Stream, O: Drop, E: ParserError<I>> Parser<I, (), E>
             }
         }
     }
-}
-
-impl<P: Stable<I, O, E>, I: Stream, O: Drop, E: ParserError<I>> Stable<I, (), E>
-    for Not<P, I, O, E> {
-    ghost stable = { stays (not_grows (grows (P.leaves_ends modal) P.stable)) };
-
-    fn stay() {}
 }

@@ -1,19 +1,18 @@
 //! A child that may be left out.
 ghost use Rattle.grammars.specs.Grammar.{Optional};
-ghost use Rattle.stream_errors.specs.Form.{modal};
 ghost use Rattle.winnow_core.specs.Exact.Allowed.{fails_as, softly};
-ghost use Rattle.winnow_core.specs.Stable.Grows.{grows, stays};
 ghost use Rattle.winnow_comb.specs.Opt.{OptRuns};
 ghost use Rattle.winnow_comb.specs.Opt.Laws.{opt_exact, opt_fails};
-ghost use Rattle.winnow_comb.specs.Opt.Laws.{opt_ends, opt_grows};
+ghost use Rattle.winnow_comb.specs.Opt.Laws.{opt_ends};
 ghost use Rattle.std.specs.Prelude.{⊤};
-ghost use Rattle.winnow_comb.specs.Opt.Says.{opt_said, opt_says};
+ghost use Rattle.parser_definitions.specs.Opt.{OptDoes, opt_law};
+ghost use Rattle.parser_definitions.specs.Equal.{AlikeOptions};
+ghost use Rattle.winnow_comb.specs.Covers.{opt_covered};
 
 use std::marker::PhantomData;
 use stream_errors::parser_error::ParserError;
 use streams::stream::Stream;
 use winnow_core::parser::Parser;
-use winnow_core::stable::Stable;
 
 /// The parser that [`opt`](crate::combinator::opt) makes.
 ///
@@ -35,11 +34,15 @@ impl<P: Parser<I, O, E>, I: Stream, O, E: ParserError<I>> Parser<I, Option<O>, E
 
     ghost state = { λ s. P.state s.parser };
 
-    ghost states = { P.states };
-
     ghost meaning = { λ form. OptRuns (P.meaning form) };
 
-    ghost says = { λ s. opt_says (P.says s) };
+    ghost does = { OptDoes P.does };
+
+    ghost terms = { record {
+      premise = P.terms.premise;
+      stable = P.terms.stable;
+      alike = AlikeOptions P.terms.alike;
+    } };
 
     ghost claim = { λ s. record {
       premise = (P.claim s).premise × (P.claim s).backtracks;
@@ -51,7 +54,9 @@ impl<P: Parser<I, O, E>, I: Stream, O, E: ParserError<I>> Parser<I, Option<O>, E
 
     ghost leaves_ends = { λ form. opt_ends I.reading (P.meaning form) (P.leaves_ends form) };
 
-    ghost said = { λ s. opt_said (P.said s) };
+    ghost covers = { λ is at. opt_covered (P.covers is at) };
+
+    ghost lawful = { λ is. opt_law (P.lawful is) };
 
     ghost claimed = { λ s. record {
       exact = λ form is. opt_exact ((P.claimed s).exact form is.0)
@@ -75,11 +80,4 @@ impl<P: Parser<I, O, E>, I: Stream, O, E: ParserError<I>> Parser<I, Option<O>, E
             }
         }
     }
-}
-
-impl<P: Stable<I, O, E>, I: Stream, O, E: ParserError<I>> Stable<I, Option<O>, E>
-    for Opt<P, I, O, E> {
-    ghost stable = { stays (opt_grows (grows (P.leaves_ends modal) P.stable)) };
-
-    fn stay() {}
 }

@@ -1,17 +1,14 @@
 //! A child whose run consumes nothing.
 ghost use Rattle.grammars.specs.Grammar.{Ahead};
-ghost use Rattle.stream_errors.specs.Form.{modal};
-ghost use Rattle.winnow_core.specs.Stable.Grows.{grows, stays};
 ghost use Rattle.winnow_comb.specs.Peek.{PeekRuns};
 ghost use Rattle.winnow_comb.specs.Peek.Laws.{peek_exact, peek_fails, peek_ends};
-ghost use Rattle.winnow_comb.specs.Peek.Laws.{peek_grows};
-ghost use Rattle.winnow_comb.specs.Peek.Says.{peek_said, peek_says};
+ghost use Rattle.parser_definitions.specs.Peek.{PeekDoes, peek_law};
+ghost use Rattle.winnow_comb.specs.Covers.{peek_covered};
 
 use std::marker::PhantomData;
 use stream_errors::parser_error::ParserError;
 use streams::stream::Stream;
 use winnow_core::parser::Parser;
-use winnow_core::stable::Stable;
 
 /// The parser that [`peek`](crate::combinator::peek) makes.
 ///
@@ -32,11 +29,15 @@ impl<P: Parser<I, O, E>, I: Stream, O, E: ParserError<I>> Parser<I, O, E> for Pe
 
     ghost state = { λ s. P.state s.parser };
 
-    ghost states = { P.states };
-
     ghost meaning = { λ form. PeekRuns (P.meaning form) };
 
-    ghost says = { λ s. peek_says (P.says s) };
+    ghost does = { PeekDoes P.does };
+
+    ghost terms = { record {
+      premise = P.terms.premise;
+      stable = P.terms.stable;
+      alike = P.terms.alike;
+    } };
 
     ghost claim = { λ s. record {
       premise = (P.claim s).premise;
@@ -48,7 +49,9 @@ impl<P: Parser<I, O, E>, I: Stream, O, E: ParserError<I>> Parser<I, O, E> for Pe
 
     ghost leaves_ends = { λ form. peek_ends I.reading (P.meaning form) (P.leaves_ends form) };
 
-    ghost said = { λ s. peek_said (P.said s) };
+    ghost covers = { λ is at. peek_covered (P.covers is at) };
+
+    ghost lawful = { λ is. peek_law (P.lawful is) };
 
     ghost claimed = { λ s. record {
       exact = λ form is. peek_exact ((P.claimed s).exact form is);
@@ -63,10 +66,4 @@ impl<P: Parser<I, O, E>, I: Stream, O, E: ParserError<I>> Parser<I, O, E> for Pe
         input.reset(&start);
         seen
     }
-}
-
-impl<P: Stable<I, O, E>, I: Stream, O, E: ParserError<I>> Stable<I, O, E> for Peek<P, I, O, E> {
-    ghost stable = { stays (peek_grows (grows (P.leaves_ends modal) P.stable)) };
-
-    fn stay() {}
 }

@@ -3,18 +3,15 @@ ghost use Rattle.std.specs.Prelude.{◌≡◌};
 ghost use Rattle.grammars.specs.Grammar.{Made};
 ghost use Rattle.grammars.specs.Grammar.Outputs.{RejectsAll};
 ghost use Rattle.grammars.specs.Grammar.Unique.{made_of_takes};
-ghost use Rattle.stream_errors.specs.Form.{modal};
-ghost use Rattle.winnow_core.specs.AndThen.{AndThenSettles, AndThenRuns};
+ghost use Rattle.parser_definitions.specs.TryMap.{AndThenDoes, and_then_law, completed};
+ghost use Rattle.winnow_core.specs.AndThen.{AndThenRuns, AndThenSettles, OneInput};
+ghost use Rattle.winnow_core.specs.Covers.Adapters.{and_then_covered};
 ghost use Rattle.winnow_core.specs.Exact.Allowed.{fails_as, softly};
 ghost use Rattle.winnow_core.specs.Exact.Settled.{NoneWithin, ReadsWithin, and_then_exact};
 ghost use Rattle.winnow_core.specs.Exact.Settled.{and_then_fails};
-ghost use Rattle.winnow_core.specs.Says.{Both};
-ghost use Rattle.winnow_core.specs.Settles.Laws.{settles_ends, settles_grows};
-ghost use Rattle.winnow_core.specs.Stable.Grows.{grows, stays};
-ghost use Rattle.winnow_core.specs.AndThen.Says.{and_then_said, and_then_says};
+ghost use Rattle.winnow_core.specs.Settles.Laws.{settles_ends};
 
 use crate::parser::Parser;
-use crate::stable::Stable;
 use std::marker::PhantomData;
 use stream_errors::parser_error::ParserError;
 use streams::stream::{Stream, StreamIsPartial};
@@ -60,11 +57,15 @@ impl<
 
     ghost state = { λ s. (F.state s.outer, G.state s.inner) };
 
-    ghost states = { λ s. Both (F.states s.0) (G.states s.1) };
-
     ghost meaning = { λ form. AndThenRuns O.view (F.meaning form) (G.meaning form) };
 
-    ghost says = { λ s. and_then_says O.view (F.says s.0) (G.says s.1) };
+    ghost does = { AndThenDoes O.view F.does G.does };
+
+    ghost terms = { record {
+      premise = F.terms.premise × G.terms.premise × OneInput O.view F.terms.alike;
+      stable = F.terms.stable;
+      alike = G.terms.alike;
+    } };
 
     ghost claim = { λ s. record {
       premise = (F.claim s.0).premise × (G.claim s.1).premise × (G.claim s.1).backtracks
@@ -80,7 +81,10 @@ impl<
         (AndThenSettles O.view (G.meaning form)) (F.meaning form)
         (F.leaves_ends form) };
 
-    ghost said = { λ s. and_then_said O.view (F.said s.0) (G.said s.1) };
+    ghost covers = { λ is at. and_then_covered O.view (F.covers is.0 at)
+        (λ i. G.covers is.1 (completed at.form i)) };
+
+    ghost lawful = { λ is. and_then_law O.view is.2 (F.lawful is.0) (G.lawful is.1) };
 
     ghost claimed = { λ s. record {
       exact = λ form is. and_then_exact O.view is.3 ((F.claimed s.0).exact form is.0)
@@ -106,22 +110,4 @@ impl<
             }
         }
     }
-}
-
-// The inner parser reads the same stream in both, an output; so it is one parser under one type of
-// errors.
-
-impl<
-    F: Stable<I, O, E>,
-    G: Parser<O, O2, E>,
-    I: Stream,
-    O: StreamIsPartial + Drop,
-    O2,
-    E: ParserError<I> + ParserError<O>,
-> Stable<I, O2, E> for AndThen<F, G, I, O, O2, E> {
-    ghost stable = { stays
-        (settles_grows (AndThenSettles O.view (G.meaning modal))
-        (grows (F.leaves_ends modal) F.stable)) };
-
-    fn stay() {}
 }

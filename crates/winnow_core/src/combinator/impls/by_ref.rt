@@ -1,14 +1,11 @@
 //! The parser after a reference.
 ghost use Rattle.std.specs.Prelude.{ℕ};
-ghost use Rattle.stream_errors.specs.Form.{modal};
+ghost use Rattle.parser_definitions.specs.ByRef.{ByRefDoes, by_ref_law};
 ghost use Rattle.winnow_core.specs.ByRef.{ByRefRuns};
-ghost use Rattle.winnow_core.specs.ByRef.Laws.{by_ref_exact, by_ref_fails, by_ref_grows};
-ghost use Rattle.winnow_core.specs.ByRef.Laws.{by_ref_said};
-ghost use Rattle.winnow_core.specs.Says.{With};
-ghost use Rattle.winnow_core.specs.Stable.Grows.{grows, stays};
+ghost use Rattle.winnow_core.specs.ByRef.Laws.{by_ref_exact, by_ref_fails};
+ghost use Rattle.winnow_core.specs.Covers.Functions.{by_ref_covered};
 
 use crate::parser::Parser;
-use crate::stable::Stable;
 use std::marker::PhantomData;
 use stream_errors::parser_error::ParserError;
 use streams::stream::Stream;
@@ -34,11 +31,11 @@ impl<'p, P: Parser<I, O, E>, I: Stream, O, E: ParserError<I>> Parser<I, O, E>
 
     ghost state = { λ s. (P.state s.parser.now, s.parser.ghost_name) };
 
-    ghost states = { λ s. With (P.states s.0) s.1 };
-
     ghost meaning = { λ form. ByRefRuns (P.meaning form) };
 
-    ghost says = { λ s. P.says s.0 };
+    ghost does = { ByRefDoes P.does };
+
+    ghost terms = { P.terms };
 
     ghost claim = { λ s. record {
       premise = (P.claim s.0).premise;
@@ -50,7 +47,9 @@ impl<'p, P: Parser<I, O, E>, I: Stream, O, E: ParserError<I>> Parser<I, O, E>
 
     ghost leaves_ends = { λ form s i answer t j r. P.leaves_ends form s.0 i answer t.0 j r.0 };
 
-    ghost said = { λ s. by_ref_said (P.said s.0) };
+    ghost covers = { λ is at. by_ref_covered (P.covers is at) };
+
+    ghost lawful = { λ is. by_ref_law (P.lawful is) };
 
     ghost claimed = { λ s. record {
       exact = λ form is. by_ref_exact ((P.claimed s.0).exact form is);
@@ -62,11 +61,4 @@ impl<'p, P: Parser<I, O, E>, I: Stream, O, E: ParserError<I>> Parser<I, O, E>
     fn parse_next(&mut self, input: &mut I) -> Result<O, E> {
         self.parser.parse_next(input)
     }
-}
-
-impl<'p, P: Stable<I, O, E>, I: Stream, O, E: ParserError<I>> Stable<I, O, E>
-    for ByRef<'p, P, I, O, E> {
-    ghost stable = { stays (by_ref_grows (grows (P.leaves_ends modal) P.stable)) };
-
-    fn stay() {}
 }

@@ -1,9 +1,10 @@
 //! Errors that do not ask for more input.
 ghost use Rattle.std.specs.Prelude.{◌≡◌};
+ghost use Rattle.parser_definitions.specs.MapErr.{CompleteErrDoes, complete_err_law};
 ghost use Rattle.winnow_core.specs.CompleteErr.{CompleteErrBecomes, CompleteErrRuns};
+ghost use Rattle.winnow_core.specs.Covers.Errors.{complete_err_covered};
 ghost use Rattle.winnow_core.specs.Exact.Errors.{complete_err_exact, complete_err_fails};
 ghost use Rattle.winnow_core.specs.MakesError.Laws.{makes_error_ends};
-ghost use Rattle.winnow_core.specs.CompleteErr.Says.{complete_err_said, complete_err_says};
 
 use crate::parser::Parser;
 use std::marker::PhantomData;
@@ -43,11 +44,15 @@ impl<F: Parser<I, O, E>, I: Stream, O, E: ParserError<I>> Parser<I, O, E>
 
     ghost state = { λ s. F.state s.parser };
 
-    ghost states = { F.states };
-
     ghost meaning = { λ form. CompleteErrRuns (F.meaning form) };
 
-    ghost says = { λ s. complete_err_says (F.says s) };
+    ghost does = { CompleteErrDoes F.does };
+
+    ghost terms = { record {
+      premise = F.terms.premise;
+      stable = ⊥;
+      alike = F.terms.alike;
+    } };
 
     ghost claim = { λ s. record {
       premise = (F.claim s).premise;
@@ -61,7 +66,9 @@ impl<F: Parser<I, O, E>, I: Stream, O, E: ParserError<I>> Parser<I, O, E>
         CompleteErrBecomes (F.meaning form)
         (F.leaves_ends form) _ i answer _ j ran };
 
-    ghost said = { λ s. complete_err_said (F.said s) };
+    ghost covers = { λ is at. complete_err_covered (F.covers is at) };
+
+    ghost lawful = { λ is. complete_err_law (F.lawful is) };
 
     ghost claimed = { λ s. record {
       exact = λ form is. complete_err_exact ((F.claimed s).exact form is);

@@ -1,19 +1,15 @@
 //! The implementation of `context`.
 ghost use Rattle.std.specs.Prelude.{◌≡◌};
-ghost use Rattle.stream_errors.specs.Form.{modal};
 ghost use Rattle.stream_errors.specs.Given.{Keeping};
+ghost use Rattle.parser_definitions.specs.MapErr.{ContextDoes, context_law};
 ghost use Rattle.winnow_core.specs.Context.{ContextBecomes, ContextRuns};
-ghost use Rattle.winnow_core.specs.Context.Laws.{context_keeps};
+ghost use Rattle.winnow_core.specs.Covers.Errors.{context_covered};
 ghost use Rattle.winnow_core.specs.Exact.Allowed.{fails_as, wanted};
 ghost use Rattle.winnow_core.specs.Exact.Errors.{NeverRefused, context_fails};
 ghost use Rattle.winnow_core.specs.Exact.Errors.{context_keeps_kinds, errors_exact};
-ghost use Rattle.winnow_core.specs.MakesError.Laws.{makes_error_ends, makes_error_grows};
-ghost use Rattle.winnow_core.specs.Says.{With};
-ghost use Rattle.winnow_core.specs.Stable.Grows.{grows, stays};
-ghost use Rattle.winnow_core.specs.MakesError.Says.{turned_said, turned_says};
+ghost use Rattle.winnow_core.specs.MakesError.Laws.{makes_error_ends};
 
 use crate::parser::Parser;
-use crate::stable::Stable;
 use std::alloc::Allocator;
 use std::marker::PhantomData;
 use stream_errors::context::AddContext;
@@ -67,12 +63,11 @@ impl<
 
     ghost state = { λ s. (F.state s.parser, (s.context, E.context_gives)) };
 
-    ghost states = { λ s. With (F.states s.0) s.1 };
-
     ghost meaning = { λ form. ContextRuns C.is_clone C.is_infallible (F.meaning form) };
 
-    ghost says = { λ s. turned_says (ContextBecomes C.is_clone C.is_infallible) s.1
-        (F.says s.0).premise (F.says s.0) };
+    ghost does = { ContextDoes C.is_clone C.is_infallible F.does };
+
+    ghost terms = { F.terms };
 
     ghost claim = { λ s. record {
       premise = (F.claim s.0).premise;
@@ -87,8 +82,9 @@ impl<
         (ContextBecomes C.is_clone C.is_infallible) (F.meaning form)
         (F.leaves_ends form) };
 
-    ghost said = { λ s. turned_said (ContextBecomes C.is_clone C.is_infallible) (λ is. is)
-        (λ is. context_keeps_kinds C.is_clone C.is_infallible) (F.said s.0) };
+    ghost covers = { λ is at. context_covered C.is_clone C.is_infallible (F.covers is at) };
+
+    ghost lawful = { λ is. context_law C.is_clone C.is_infallible (F.lawful is) };
 
     ghost claimed = { λ s. record {
       exact = λ form is. errors_exact (context_keeps_kinds C.is_clone C.is_infallible)
@@ -117,20 +113,4 @@ impl<
             }
         }
     }
-}
-
-impl<
-    F: Stable<I, O, E>,
-    I: Stream,
-    O,
-    E: ParserError<I> + AddContext<I, C, A>,
-    C: Clone,
-    A: Allocator + Copy,
-> Stable<I, O, E> for Context<F, I, O, E, C, A> {
-    ghost stable = { stays
-        (makes_error_grows (ContextBecomes C.is_clone C.is_infallible)
-        (context_keeps C.is_clone C.is_infallible)
-        (grows (F.leaves_ends modal) F.stable)) };
-
-    fn stay() {}
 }

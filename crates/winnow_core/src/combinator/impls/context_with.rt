@@ -1,19 +1,14 @@
 //! The implementation of `context_with`.
 ghost use Rattle.std.specs.Iterator.{IsFinite};
 ghost use Rattle.std.specs.Prelude.{◌≡◌};
-ghost use Rattle.stream_errors.specs.Form.{modal};
 ghost use Rattle.stream_errors.specs.Given.{Keeping};
-ghost use Rattle.winnow_core.specs.ContextWith.{ContextWithBecomes, ContextWithRuns};
-ghost use Rattle.winnow_core.specs.ContextWith.Laws.{context_with_keeps};
-ghost use Rattle.winnow_core.specs.MakesError.Laws.{makes_error_ends, makes_error_grows};
-ghost use Rattle.winnow_core.specs.Says.{With};
-ghost use Rattle.winnow_core.specs.Stable.Grows.{grows, stays};
+ghost use Rattle.parser_definitions.specs.MapErr.{ContextWithDoes, context_with_law};
 ghost use Rattle.winnow_core.specs.Claim.{no_claim, nothing_claimed};
-ghost use Rattle.winnow_core.specs.MakesError.Says.{turned_said, turned_says};
-ghost use Rattle.winnow_core.specs.ContextWith.Says.{context_with_kinds};
+ghost use Rattle.winnow_core.specs.ContextWith.{ContextWithBecomes, ContextWithRuns};
+ghost use Rattle.winnow_core.specs.Covers.Errors.{context_with_covered};
+ghost use Rattle.winnow_core.specs.MakesError.Laws.{makes_error_ends};
 
 use crate::parser::Parser;
-use crate::stable::Stable;
 use std::alloc::Allocator;
 use std::marker::PhantomData;
 use stream_errors::context::AddContext;
@@ -71,12 +66,11 @@ impl<
 
     ghost state = { λ s. (P.state s.parser, (s.context, E.context_gives)) };
 
-    ghost states = { λ s. With (P.states s.0) s.1 };
-
     ghost meaning = { λ form. ContextWithRuns F.post FI.next_gives (P.meaning form) };
 
-    ghost says = { λ s. turned_says (ContextWithBecomes F.post FI.next_gives) s.1
-        (P.says s.0).premise (P.says s.0) };
+    ghost does = { ContextWithDoes F.post FI.next_gives P.does };
+
+    ghost terms = { P.terms };
 
     ghost claim = { λ _. no_claim };
 
@@ -84,8 +78,9 @@ impl<
         (ContextWithBecomes F.post FI.next_gives) (P.meaning form)
         (P.leaves_ends form) };
 
-    ghost said = { λ s. turned_said (ContextWithBecomes F.post FI.next_gives) (λ is. is)
-        (λ is. context_with_kinds F.post FI.next_gives) (P.said s.0) };
+    ghost covers = { λ is at. context_with_covered F.post FI.next_gives (P.covers is at) };
+
+    ghost lawful = { λ is. context_with_law F.post FI.next_gives (P.lawful is) };
 
     ghost claimed = { λ _. nothing_claimed };
 
@@ -103,22 +98,4 @@ impl<
             }
         }
     }
-}
-
-impl<
-    P: Stable<I, O, E>,
-    I: Stream,
-    O,
-    E: ParserError<I> + AddContext<I, C, A>,
-    F: Fn() -> FI,
-    C,
-    FI: Iterator<Item = C>,
-    A: Allocator + Copy,
-> Stable<I, O, E> for ContextWith<P, I, O, E, F, C, FI, A> {
-    ghost stable = { stays
-        (makes_error_grows (ContextWithBecomes F.post FI.next_gives)
-        (context_with_keeps F.post FI.next_gives)
-        (grows (P.leaves_ends modal) P.stable)) };
-
-    fn stay() {}
 }

@@ -2,16 +2,13 @@
 ghost use Rattle.std.specs.Prelude.{◌≡◌};
 ghost use Rattle.grammars.specs.Grammar.{Made};
 ghost use Rattle.grammars.specs.Grammar.Unique.{made_of_takes};
-ghost use Rattle.stream_errors.specs.Form.{modal};
+ghost use Rattle.parser_definitions.specs.Outputs.{DefaultValueDoes, default_value_law};
+ghost use Rattle.winnow_core.specs.Covers.Outputs.{default_value_covered};
 ghost use Rattle.winnow_core.specs.DefaultValue.{DefaultValueRuns};
 ghost use Rattle.winnow_core.specs.Exact.Adapters.{output_exact, output_fails};
-ghost use Rattle.winnow_core.specs.MakesOutput.Laws.{makes_output_ends, made_of_output};
-ghost use Rattle.winnow_core.specs.MakesOutput.Laws.{makes_output_grows};
-ghost use Rattle.winnow_core.specs.Stable.Grows.{grows, stays};
-ghost use Rattle.winnow_core.specs.MakesOutput.Says.{of_output_said, of_output_says};
+ghost use Rattle.winnow_core.specs.MakesOutput.Laws.{makes_output_ends};
 
 use crate::parser::Parser;
-use crate::stable::Stable;
 use std::marker::PhantomData;
 use stream_errors::parser_error::ParserError;
 use streams::stream::Stream;
@@ -48,12 +45,15 @@ impl<F: Parser<I, O, E>, I: Stream, O: Drop, O2: Default, E: ParserError<I>> Par
 
     ghost state = { λ s. F.state s.parser };
 
-    ghost states = { F.states };
-
     ghost meaning = { λ form. DefaultValueRuns O2.is_default (F.meaning form) };
 
-    ghost says = { λ s. of_output_says (λ o u. O2.is_default u)
-        (λ u v. O2.is_default u × O2.is_default v) (F.says s) };
+    ghost does = { DefaultValueDoes O2.is_default F.does };
+
+    ghost terms = { record {
+      premise = F.terms.premise;
+      stable = F.terms.stable;
+      alike = λ u v. O2.is_default u × O2.is_default v;
+    } };
 
     ghost claim = { λ s. record {
       premise = (F.claim s).premise;
@@ -66,8 +66,9 @@ impl<F: Parser<I, O, E>, I: Stream, O: Drop, O2: Default, E: ParserError<I>> Par
     ghost leaves_ends = { λ form. makes_output_ends I.reading _ (F.meaning form)
         (F.leaves_ends form) };
 
-    ghost said = { λ s. of_output_said (λ o u. O2.is_default u) (λ o p u v like x y. (x, y))
-        (F.said s) };
+    ghost covers = { λ is at. default_value_covered (F.covers is at) O2.is_default };
+
+    ghost lawful = { λ is. default_value_law O2.is_default (λ u v x y. (x, y)) (F.lawful is) };
 
     ghost claimed = { λ s. record {
       exact = λ form is. output_exact (λ (_ : Unit {0}) o u. O2.is_default u) tt
@@ -83,13 +84,4 @@ impl<F: Parser<I, O, E>, I: Stream, O: Drop, O2: Default, E: ParserError<I>> Par
         let _output = self.parser.parse_next(input)?;
         Ok(O2::default())
     }
-}
-
-impl<F: Stable<I, O, E>, I: Stream, O: Drop, O2: Default, E: ParserError<I>> Stable<I, O2, E>
-    for DefaultValue<F, I, O, O2, E> {
-    ghost stable = { stays
-        (makes_output_grows (λ i o j u. O2.is_default u) (made_of_output _)
-        (grows (F.leaves_ends modal) F.stable)) };
-
-    fn stay() {}
 }

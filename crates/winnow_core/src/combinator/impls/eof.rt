@@ -1,12 +1,13 @@
 //! The end of the input.
 ghost use Rattle.std.specs.Prelude.{⊤, ◌<◌};
 ghost use Rattle.grammars.specs.Grammar.{NoTokens};
+ghost use Rattle.parser_definitions.specs.Eof.{EofDoes, eof_law};
+ghost use Rattle.parser_definitions.specs.Spelled.{ShowSame};
+ghost use Rattle.winnow_core.specs.Covers.Functions.{eof_covered};
 ghost use Rattle.winnow_core.specs.Eof.{EofRuns};
 ghost use Rattle.winnow_core.specs.Eof.Laws.{eof_ends, eof_exact, eof_fails};
-ghost use Rattle.winnow_core.specs.Eof.Says.{eof_said, eof_says};
 ghost use Rattle.winnow_core.specs.Exact.Allowed.{backs};
 ghost use Rattle.winnow_core.specs.Runs.{Keeps};
-ghost use Rattle.winnow_core.specs.Says.{Is};
 
 use crate::combinator::eof;
 use crate::parser::Parser;
@@ -27,11 +28,15 @@ impl<I: Stream, E: ParserError<I>> Parser<I, I::Slice, E> for Eof {
 
     ghost state = { λ _. tt };
 
-    ghost states = { Is };
-
     ghost meaning = { λ _. Keeps (λ _. EofRuns I.reading) };
 
-    ghost says = { λ _. eof_says I.reading };
+    ghost does = { EofDoes I.reading };
+
+    ghost terms = { record {
+      premise = ⊤;
+      stable = ⊥;
+      alike = ShowSame I.reading;
+    } };
 
     ghost claim = { λ s. record {
       premise = ⊤;
@@ -43,7 +48,9 @@ impl<I: Stream, E: ParserError<I>> Parser<I, I::Slice, E> for Eof {
 
     ghost leaves_ends = { λ form x i answer y j r. eof_ends I.reading i answer j r.0 };
 
-    ghost said = { λ _. eof_said I.reading };
+    ghost covers = { λ is at. eof_covered I.reading };
+
+    ghost lawful = { λ is. eof_law I.reading };
 
     ghost claimed = { λ s. record {
       exact = λ form is. eof_exact I.reading;

@@ -1,15 +1,14 @@
 //! Errors that are converted.
 ghost use Rattle.std.specs.Prelude.{◌≡◌};
-ghost use Rattle.winnow_core.specs.ErrInto.{ErrIntoBecomes, ErrIntoRuns};
-ghost use Rattle.winnow_core.specs.ErrInto.Laws.{err_into_keeps};
+ghost use Rattle.stream_errors.specs.Form.{modal};
+ghost use Rattle.parser_definitions.specs.MapErr.{ErrIntoDoes, err_into_law};
+ghost use Rattle.winnow_core.specs.Covers.Errors.{err_into_covered, in_form};
+ghost use Rattle.winnow_core.specs.ErrInto.{ConvertsKinds, ErrIntoBecomes, ErrIntoRuns};
 ghost use Rattle.winnow_core.specs.Exact.Errors.{ConvertsSparing, SameKinds, err_into_exact};
 ghost use Rattle.winnow_core.specs.Exact.Errors.{err_into_fails};
-ghost use Rattle.winnow_core.specs.MakesError.Laws.{makes_error_ends, makes_error_grows};
-ghost use Rattle.winnow_core.specs.Stable.Grows.{grows_at, stays_beside};
-ghost use Rattle.winnow_core.specs.ErrInto.Says.{err_into_said, err_into_says};
+ghost use Rattle.winnow_core.specs.MakesError.Laws.{makes_error_ends};
 
 use crate::parser::Parser;
-use crate::stable::{KeepsKinds, Stable};
 use std::marker::PhantomData;
 use stream_errors::parser_error::ParserError;
 use streams::stream::Stream;
@@ -49,11 +48,15 @@ impl<F: Parser<I, O, E>, I: Stream, O, E: ParserError<I>, E2: ParserError<I> + F
 
     ghost state = { λ s. F.state s.parser };
 
-    ghost states = { F.states };
-
     ghost meaning = { λ _. ErrIntoRuns E.kind E2.kind E2.from_gives (F.meaning E.form) };
 
-    ghost says = { λ s. err_into_says E.form E.kind E2.kind E2.from_gives (F.says s) };
+    ghost does = { ErrIntoDoes E.form E.kind E2.kind E2.from_gives F.does };
+
+    ghost terms = { record {
+      premise = F.terms.premise × ConvertsKinds E.kind E2.kind E2.from_gives;
+      stable = F.terms.stable × (E.form ≡ modal);
+      alike = F.terms.alike;
+    } };
 
     ghost claim = { λ s. record {
       premise = (F.claim s).premise × SameKinds E.kind E2.kind E2.from_gives;
@@ -68,7 +71,11 @@ impl<F: Parser<I, O, E>, I: Stream, O, E: ParserError<I>, E2: ParserError<I> + F
         (ErrIntoBecomes E.kind E2.kind E2.from_gives) (F.meaning E.form)
         (F.leaves_ends E.form) _ i answer _ j ran };
 
-    ghost said = { λ s. err_into_said E.form E.kind E2.kind E2.from_gives (F.said s) };
+    ghost covers = { λ is at. err_into_covered E.form E.kind E2.kind E2.from_gives is.1
+        (F.covers is.0 (in_form E.form at)) };
+
+    ghost lawful = { λ is. err_into_law E.form E.kind E2.kind E2.from_gives is.1
+        (F.lawful is.0) };
 
     ghost claimed = { λ s. record {
       exact = λ form is. err_into_exact E.kind E2.kind E2.from_gives is.1
@@ -85,19 +92,4 @@ impl<F: Parser<I, O, E>, I: Stream, O, E: ParserError<I>, E2: ParserError<I> + F
             Err(error) => Err(E2::from(error)),
         }
     }
-}
-
-impl<
-    F: Stable<I, O, E>,
-    I: Stream,
-    O,
-    E: ParserError<I>,
-    E2: ParserError<I> + KeepsKinds<E>,
-> Stable<I, O, E2> for ErrInto<F, I, O, E, E2> {
-    ghost stable = { stays_beside tt
-        (makes_error_grows (ErrIntoBecomes E.kind E2.kind E2.from_gives)
-        (err_into_keeps E.kind E2.kind E2.from_gives E2.keeps)
-        (grows_at F.meaning E.form E2.from_modal F.leaves_ends F.stable)) };
-
-    fn stay() {}
 }

@@ -3,19 +3,15 @@ ghost use Rattle.std.specs.Prelude.{◌≡◌, ◌⊎◌};
 ghost use Rattle.grammars.specs.Grammar.Decided.{EachMade, FlatMapped, MadeAlike};
 ghost use Rattle.grammars.specs.Grammar.Decided.{flat_mapped_takes};
 ghost use Rattle.stream_errors.specs.Form.{modal};
+ghost use Rattle.parser_definitions.specs.FlatMap.{FlatMapDoes, MakesOne, flat_map_law};
 ghost use Rattle.winnow_core.specs.Closures.{Gives, Stays};
+ghost use Rattle.winnow_core.specs.Covers.Adapters.{flat_map_covered};
 ghost use Rattle.winnow_core.specs.Exact.Allowed.{fails_as};
 ghost use Rattle.winnow_core.specs.Exact.Along.{either_way};
 ghost use Rattle.winnow_core.specs.FlatMap.{FlatMapRuns, MakesParsers};
 ghost use Rattle.winnow_core.specs.FlatMap.Laws.{flat_map_exact, flat_map_fails, flat_map_ends};
-ghost use Rattle.winnow_core.specs.FlatMap.Laws.{flat_map_grows};
-ghost use Rattle.winnow_core.specs.Says.{With};
-ghost use Rattle.winnow_core.specs.Stable.Grows.{grows, stays};
-ghost use Rattle.winnow_core.specs.FlatMap.Says.{flat_map_said};
-ghost use Rattle.winnow_core.specs.FlatMap.Says.{flat_map_says};
 
 use crate::parser::Parser;
-use crate::stable::Stable;
 use std::marker::PhantomData;
 use stream_errors::parser_error::ParserError;
 use streams::stream::Stream;
@@ -64,11 +60,15 @@ impl<
 
     ghost state = { λ s. (F.state s.parser, s.map) };
 
-    ghost states = { λ s. With (F.states s.0) s.1 };
-
     ghost meaning = { λ form. FlatMapRuns G.step H.state (F.meaning form) (H.meaning form) };
 
-    ghost says = { λ s. flat_map_says G.step s.1 H.state H.says (F.says s.0) };
+    ghost does = { FlatMapDoes G.step H.state F.does H.does };
+
+    ghost terms = { record {
+      premise = F.terms.premise × H.terms.premise × MakesOne F.terms.alike G.step H.state;
+      stable = F.terms.stable × H.terms.stable;
+      alike = H.terms.alike;
+    } };
 
     ghost claim = { λ s. record {
       premise = (F.claim s.0).premise × Stays G.step s.1
@@ -90,7 +90,11 @@ impl<
     ghost leaves_ends = { λ form. flat_map_ends I.reading G.step H.state (F.meaning form)
         (H.meaning form) (F.leaves_ends form) (H.leaves_ends form) };
 
-    ghost said = { λ s. flat_map_said G.step H.state H.says (F.said s.0) H.said };
+    ghost covers = { λ is at. flat_map_covered G.step H.state (F.covers is.0 at)
+        (H.covers is.1 at) };
+
+    ghost lawful = { λ is. flat_map_law G.step H.state is.2 (F.lawful is.0)
+        (H.lawful is.1) };
 
     ghost claimed = { λ s. record {
       exact = λ form is. flat_map_exact G.step H.state (λ m. (H.claim (H.state m)).grammar)
@@ -115,20 +119,4 @@ impl<
         let mut second = (self.map)(output);
         second.parse_next(input)
     }
-}
-
-impl<
-    F: Stable<I, O, E>,
-    G: FnMut(O) -> H,
-    H: Stable<I, O2, E> + Drop,
-    I: Stream,
-    O,
-    O2,
-    E: ParserError<I>,
-> Stable<I, O2, E> for FlatMap<F, G, H, I, O, O2, E> {
-    ghost stable = { stays
-        (flat_map_grows G.step H.state (grows (F.leaves_ends modal) F.stable)
-        (grows (H.leaves_ends modal) H.stable)) };
-
-    fn stay() {}
 }

@@ -2,17 +2,15 @@
 ghost use Rattle.std.specs.Prelude.{◌≡◌};
 ghost use Rattle.grammars.specs.Grammar.{Made};
 ghost use Rattle.grammars.specs.Grammar.Unique.{made_of_takes};
-ghost use Rattle.stream_errors.specs.Form.{modal};
+ghost use Rattle.parser_definitions.specs.Equal.{MadeAlike, StepsAlike};
+ghost use Rattle.parser_definitions.specs.Map.{MapDoes, map_law};
 ghost use Rattle.winnow_core.specs.Closures.{Gives, Stays};
+ghost use Rattle.winnow_core.specs.Covers.Adapters.{map_covered};
 ghost use Rattle.winnow_core.specs.Exact.Adapters.{map_exact, map_fails};
 ghost use Rattle.winnow_core.specs.Map.{MapRuns};
-ghost use Rattle.winnow_core.specs.Map.Laws.{map_ends, map_grows};
-ghost use Rattle.winnow_core.specs.Says.{With};
-ghost use Rattle.winnow_core.specs.Stable.Grows.{grows, stays};
-ghost use Rattle.winnow_core.specs.Map.Says.{map_said, map_says};
+ghost use Rattle.winnow_core.specs.Map.Laws.{map_ends};
 
 use crate::parser::Parser;
-use crate::stable::Stable;
 use std::marker::PhantomData;
 use stream_errors::parser_error::ParserError;
 use streams::stream::Stream;
@@ -52,11 +50,15 @@ impl<F: Parser<I, O, E>, G: FnMut(O) -> O2, I: Stream, O, O2, E: ParserError<I>>
 
     ghost state = { λ s. (F.state s.parser, s.map) };
 
-    ghost states = { λ s. With (F.states s.0) s.1 };
-
     ghost meaning = { λ form. MapRuns (F.meaning form) G.step };
 
-    ghost says = { λ s. map_says G.step s.1 (F.says s.0) };
+    ghost does = { MapDoes G.step F.does };
+
+    ghost terms = { record {
+      premise = F.terms.premise × StepsAlike F.terms.alike G.step;
+      stable = F.terms.stable;
+      alike = MadeAlike F.terms.alike G.step;
+    } };
 
     ghost claim = { λ s. record {
       premise = (F.claim s.0).premise × Stays G.step s.1;
@@ -68,7 +70,9 @@ impl<F: Parser<I, O, E>, G: FnMut(O) -> O2, I: Stream, O, O2, E: ParserError<I>>
 
     ghost leaves_ends = { λ form. map_ends I.reading (F.meaning form) G.step (F.leaves_ends form) };
 
-    ghost said = { λ s. map_said G.step (F.said s.0) };
+    ghost covers = { λ is at. map_covered G.step (F.covers is.0 at) };
+
+    ghost lawful = { λ is. map_law G.step is.1 (F.lawful is.0) };
 
     ghost claimed = { λ s. record {
       exact = λ form is. map_exact G.step is.1 ((F.claimed s.0).exact form is.0);
@@ -81,11 +85,4 @@ impl<F: Parser<I, O, E>, G: FnMut(O) -> O2, I: Stream, O, O2, E: ParserError<I>>
         let output = self.parser.parse_next(input)?;
         Ok((self.map)(output))
     }
-}
-
-impl<F: Stable<I, O, E>, G: FnMut(O) -> O2, I: Stream, O, O2, E: ParserError<I>> Stable<I, O2, E>
-    for Map<F, G, I, O, O2, E> {
-    ghost stable = { stays (map_grows G.step (grows (F.leaves_ends modal) F.stable)) };
-
-    fn stay() {}
 }

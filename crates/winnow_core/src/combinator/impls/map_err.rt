@@ -1,14 +1,14 @@
 //! Errors made of errors by a closure.
 ghost use Rattle.std.specs.Prelude.{◌≡◌};
+ghost use Rattle.stream_errors.specs.Form.{modal};
+ghost use Rattle.parser_definitions.specs.MapErr.{InForm, MapErrDoes, MapsErrors, form_law};
+ghost use Rattle.parser_definitions.specs.MapErr.{map_err_law};
 ghost use Rattle.winnow_core.specs.Closures.{Stays};
+ghost use Rattle.winnow_core.specs.Covers.Errors.{in_form, map_err_covered};
 ghost use Rattle.winnow_core.specs.Exact.Errors.{map_err_exact, map_err_fails};
 ghost use Rattle.winnow_core.specs.MakesError.Laws.{makes_error_ends};
-ghost use Rattle.winnow_core.specs.MapErr.{MapErrBecomes, MapErrRuns};
+ghost use Rattle.winnow_core.specs.MapErr.{KeepsMemory, MapErrBecomes, MapErrRuns};
 ghost use Rattle.winnow_core.specs.MapErrKept.{KeepsEachKind};
-ghost use Rattle.winnow_core.specs.MakesError.Says.{turned_said, turned_says};
-ghost use Rattle.winnow_core.specs.Exact.Errors.{map_err_keeps};
-ghost use Rattle.winnow_core.specs.Says.Along.{in_form, in_form_said};
-ghost use Rattle.winnow_core.specs.Says.{With};
 
 use crate::parser::Parser;
 use std::marker::PhantomData;
@@ -57,13 +57,16 @@ impl<
 
     ghost state = { λ s. (F.state s.parser, s.map) };
 
-    ghost states = { λ s. With (F.states s.0) s.1 };
-
     ghost meaning = { λ _. MapErrRuns E.kind E2.kind G.step (F.meaning E.form) };
 
-    ghost says = { λ s. turned_says (MapErrBecomes E.kind E2.kind G.step) s.1
-        ((F.says s.0).premise × Stays G.step s.1 × KeepsEachKind E.kind E2.kind G.step)
-        (in_form E.form (F.says s.0)) };
+    ghost does = { MapErrDoes E.kind E2.kind G.step (InForm E.form F.does) };
+
+    ghost terms = { record {
+      premise = F.terms.premise × MapsErrors E.kind E2.kind G.step
+          × KeepsMemory E.kind E2.kind G.step;
+      stable = F.terms.stable × (E.form ≡ modal);
+      alike = F.terms.alike;
+    } };
 
     ghost claim = { λ s. record {
       premise = (F.claim s.0).premise × Stays G.step s.1 × KeepsEachKind E.kind E2.kind G.step;
@@ -77,9 +80,11 @@ impl<
         (F.meaning E.form)
         (F.leaves_ends E.form) };
 
-    ghost said = { λ s. turned_said (MapErrBecomes E.kind E2.kind G.step) (λ is. is.0)
-        (λ is. map_err_keeps E.kind E2.kind G.step is.2 is.1)
-        (in_form_said E.form (F.said s.0)) };
+    ghost covers = { λ is at. map_err_covered E.kind E2.kind G.step E.form is.2
+        (F.covers is.0 (in_form E.form at)) };
+
+    ghost lawful = { λ is. map_err_law E.kind E2.kind G.step is.1
+        (form_law E.form (F.lawful is.0)) };
 
     ghost claimed = { λ s. record {
       exact = λ form is. map_err_exact E.kind E2.kind G.step is.2 is.1

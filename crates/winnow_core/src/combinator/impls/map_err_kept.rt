@@ -1,26 +1,22 @@
 //! Errors made of errors of their kind by a closure.
 ghost use Rattle.std.specs.Prelude.{◌≡◌};
-ghost use Rattle.stream_errors.specs.Form.{modal};
+ghost use Rattle.parser_definitions.specs.MapErr.{MapErrKeptDoes, map_err_kept_law};
 ghost use Rattle.winnow_core.specs.Closures.{Stays};
+ghost use Rattle.winnow_core.specs.Covers.Errors.{map_err_kept_covered};
 ghost use Rattle.winnow_core.specs.Exact.Errors.{map_err_kept_exact, map_err_kept_fails};
-ghost use Rattle.winnow_core.specs.MakesError.Laws.{makes_error_ends, makes_error_grows};
+ghost use Rattle.winnow_core.specs.MakesError.Laws.{makes_error_ends};
 ghost use Rattle.winnow_core.specs.MapErrKept.{KeepsEachKind, MapErrKeptBecomes, MapErrKeptRuns};
-ghost use Rattle.winnow_core.specs.MapErrKept.{map_err_kept_keeps};
-ghost use Rattle.winnow_core.specs.Says.{With};
-ghost use Rattle.winnow_core.specs.Stable.Grows.{grows, stays};
-ghost use Rattle.winnow_core.specs.MakesError.Says.{turned_said, turned_says};
-ghost use Rattle.winnow_core.specs.Exact.Errors.{map_err_kept_keeps as kinds_stay};
+ghost use Rattle.winnow_core.specs.MapErrKept.{OneNext};
 
 use crate::parser::Parser;
-use crate::stable::Stable;
 use std::marker::PhantomData;
 use stream_errors::parser_error::ParserError;
 use streams::stream::Stream;
 
-/// The parser that [`Stable::map_err_kept`](crate::stable::Stable::map_err_kept) makes.
+/// The parser that [`Parser::map_err_kept`](crate::parser::Parser::map_err_kept) makes.
 ///
-/// It is stable if its child is. [`MapErr`](crate::combinator::impls::MapErr) is not: its closure
-/// may turn `Incomplete` into a failure.
+/// It is stable if its child is. [`MapErr`](crate::combinator::impls::MapErr) is so only if its
+/// closure keeps `Incomplete`.
 ///
 /// ```
 /// let mut digits = Digit1.map_err_kept(|error: ErrMode<EmptyError>| error);
@@ -63,12 +59,15 @@ impl<
 
     ghost state = { λ s. (F.state s.parser, s.map) };
 
-    ghost states = { λ s. With (F.states s.0) s.1 };
-
     ghost meaning = { λ form. MapErrKeptRuns E.kind E2.kind G.step (F.meaning form) };
 
-    ghost says = { λ s. turned_says (MapErrKeptBecomes E.kind E2.kind G.step) s.1
-        ((F.says s.0).premise × Stays G.step s.1) (F.says s.0) };
+    ghost does = { MapErrKeptDoes E.kind E2.kind G.step F.does };
+
+    ghost terms = { record {
+      premise = F.terms.premise × OneNext E.kind G.step;
+      stable = F.terms.stable;
+      alike = F.terms.alike;
+    } };
 
     ghost claim = { λ s. record {
       premise = (F.claim s.0).premise × Stays G.step s.1;
@@ -81,8 +80,9 @@ impl<
     ghost leaves_ends = { λ form. makes_error_ends I.reading
         (MapErrKeptBecomes E.kind E2.kind G.step) (F.meaning form) (F.leaves_ends form) };
 
-    ghost said = { λ s. turned_said (MapErrKeptBecomes E.kind E2.kind G.step) (λ is. is.0)
-        (λ is. kinds_stay E.kind E2.kind G.step is.1) (F.said s.0) };
+    ghost covers = { λ is at. map_err_kept_covered E.kind E2.kind G.step (F.covers is.0 at) };
+
+    ghost lawful = { λ is. map_err_kept_law E.kind E2.kind G.step is.1 (F.lawful is.0) };
 
     ghost claimed = { λ s. record {
       exact = λ form is. map_err_kept_exact E.kind E2.kind G.step is.1
@@ -99,18 +99,4 @@ impl<
             Err(error) => Err((self.map)(error)),
         }
     }
-}
-
-impl<
-    F: Stable<I, O, E>,
-    G: FnMut(E) -> E2,
-    I: Stream,
-    O,
-    E: ParserError<I>,
-    E2: ParserError<I>,
-> Stable<I, O, E2> for MapErrKept<F, G, I, O, E, E2> {
-    ghost stable = { stays (makes_error_grows (MapErrKeptBecomes E.kind E2.kind G.step)
-        (map_err_kept_keeps E.kind E2.kind G.step) (grows (F.leaves_ends modal) F.stable)) };
-
-    fn stay() {}
 }

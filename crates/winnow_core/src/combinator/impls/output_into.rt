@@ -2,17 +2,14 @@
 ghost use Rattle.std.specs.Prelude.{◌≡◌};
 ghost use Rattle.grammars.specs.Grammar.{Made};
 ghost use Rattle.grammars.specs.Grammar.Unique.{made_of_takes};
-ghost use Rattle.stream_errors.specs.Form.{modal};
+ghost use Rattle.parser_definitions.specs.Outputs.{OutputIntoDoes, OutputsMadeAlike};
+ghost use Rattle.parser_definitions.specs.Outputs.{output_into_law};
+ghost use Rattle.winnow_core.specs.Covers.Outputs.{output_into_covered};
 ghost use Rattle.winnow_core.specs.Exact.Adapters.{output_exact, output_fails};
-ghost use Rattle.winnow_core.specs.MakesOutput.Laws.{makes_output_ends, made_of_output};
-ghost use Rattle.winnow_core.specs.MakesOutput.Laws.{makes_output_grows};
+ghost use Rattle.winnow_core.specs.MakesOutput.Laws.{makes_output_ends};
 ghost use Rattle.winnow_core.specs.OutputInto.{OutputIntoRuns};
-ghost use Rattle.winnow_core.specs.Stable.Grows.{grows, stays};
-ghost use Rattle.winnow_core.specs.MakesOutput.Says.{OutputsMadeAlike, of_output_said};
-ghost use Rattle.winnow_core.specs.MakesOutput.Says.{of_output_says};
 
 use crate::parser::Parser;
-use crate::stable::Stable;
 use std::marker::PhantomData;
 use stream_errors::parser_error::ParserError;
 use streams::stream::Stream;
@@ -49,12 +46,15 @@ impl<F: Parser<I, O, E>, I: Stream, O, O2: From<O>, E: ParserError<I>> Parser<I,
 
     ghost state = { λ s. F.state s.parser };
 
-    ghost states = { F.states };
-
     ghost meaning = { λ form. OutputIntoRuns O2.from_gives (F.meaning form) };
 
-    ghost says = { λ s. of_output_says (λ o u. O2.from_gives o u)
-        (OutputsMadeAlike (F.says s).alike (λ o u. O2.from_gives o u)) (F.says s) };
+    ghost does = { OutputIntoDoes O2.from_gives F.does };
+
+    ghost terms = { record {
+      premise = F.terms.premise;
+      stable = F.terms.stable;
+      alike = OutputsMadeAlike F.terms.alike O2.from_gives;
+    } };
 
     ghost claim = { λ s. record {
       premise = (F.claim s).premise;
@@ -67,8 +67,9 @@ impl<F: Parser<I, O, E>, I: Stream, O, O2: From<O>, E: ParserError<I>> Parser<I,
     ghost leaves_ends = { λ form. makes_output_ends I.reading _ (F.meaning form)
         (F.leaves_ends form) };
 
-    ghost said = { λ s. of_output_said (λ o u. O2.from_gives o u)
-        (λ o p u v like x y. (o, p, like, x, y)) (F.said s) };
+    ghost covers = { λ is at. output_into_covered (F.covers is at) O2.from_gives };
+
+    ghost lawful = { λ is. output_into_law O2.from_gives (F.lawful is) };
 
     ghost claimed = { λ s. record {
       exact = λ form is. output_exact (λ (_ : Unit {0}) o u. O2.from_gives o u) tt
@@ -84,13 +85,4 @@ impl<F: Parser<I, O, E>, I: Stream, O, O2: From<O>, E: ParserError<I>> Parser<I,
         let output = self.parser.parse_next(input)?;
         Ok(O2::from(output))
     }
-}
-
-impl<F: Stable<I, O, E>, I: Stream, O, O2: From<O>, E: ParserError<I>> Stable<I, O2, E>
-    for OutputInto<F, I, O, O2, E> {
-    ghost stable = { stays
-        (makes_output_grows (λ i o j u. O2.from_gives o u) (made_of_output _)
-        (grows (F.leaves_ends modal) F.stable)) };
-
-    fn stay() {}
 }

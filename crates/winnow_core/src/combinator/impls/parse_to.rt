@@ -3,16 +3,15 @@ ghost use Rattle.std.specs.Prelude.{◌≡◌, Some};
 ghost use Rattle.grammars.specs.Grammar.{Made};
 ghost use Rattle.grammars.specs.Grammar.Outputs.{RejectsAll};
 ghost use Rattle.grammars.specs.Grammar.Unique.{made_of_takes};
-ghost use Rattle.stream_errors.specs.Form.{modal};
+ghost use Rattle.parser_definitions.specs.Verify.{ParseToDoes, parse_to_law};
+ghost use Rattle.winnow_core.specs.Covers.Outputs.{AlikeRead, ReadsAlike, parse_to_covered};
+ghost use Rattle.winnow_core.specs.Covers.Outputs.{read_alike};
 ghost use Rattle.winnow_core.specs.Exact.Settled.{ReadsNone, ReadsSome, parse_to_exact};
 ghost use Rattle.winnow_core.specs.Exact.Settled.{parse_to_fails};
 ghost use Rattle.winnow_core.specs.ParseTo.{ParseToSettles, ParseToRuns};
-ghost use Rattle.winnow_core.specs.Settles.Laws.{settles_ends, settles_grows};
-ghost use Rattle.winnow_core.specs.Stable.Grows.{grows, stays_beside};
-ghost use Rattle.winnow_core.specs.ParseTo.Says.{parse_to_said, parse_to_says};
+ghost use Rattle.winnow_core.specs.Settles.Laws.{settles_ends};
 
 use crate::parser::Parser;
-use crate::stable::Stable;
 use std::marker::PhantomData;
 use stream_errors::parser_error::ParserError;
 use stream_sets::parse_slice::ParseSlice;
@@ -53,11 +52,15 @@ impl<F: Parser<I, O, E>, I: Stream, O: ParseSlice<O2> + Drop, O2, E: ParserError
 
     ghost state = { λ s. F.state s.parser };
 
-    ghost states = { F.states };
-
     ghost meaning = { λ form. ParseToRuns O.reads (F.meaning form) };
 
-    ghost says = { λ s. parse_to_says O.reads (F.says s) };
+    ghost does = { ParseToDoes O.reads F.does };
+
+    ghost terms = { record {
+      premise = F.terms.premise × ReadsAlike F.terms.alike O.reads;
+      stable = F.terms.stable;
+      alike = AlikeRead F.terms.alike O.reads;
+    } };
 
     ghost claim = { λ s. record {
       premise = (F.claim s).premise
@@ -72,7 +75,9 @@ impl<F: Parser<I, O, E>, I: Stream, O: ParseSlice<O2> + Drop, O2, E: ParserError
         (ParseToSettles O.reads) (F.meaning form)
         (F.leaves_ends form) _ i answer _ j ran };
 
-    ghost said = { λ s. parse_to_said O.reads (F.said s) };
+    ghost covers = { λ is at. parse_to_covered O.reads (F.covers is.0 at) };
+
+    ghost lawful = { λ is. parse_to_law O.reads (read_alike O.reads is.1) (F.lawful is.0) };
 
     ghost claimed = { λ s. record {
       exact = λ form is. parse_to_exact O.reads is.1 ((F.claimed s).exact form is.0);
@@ -92,15 +97,4 @@ impl<F: Parser<I, O, E>, I: Stream, O: ParseSlice<O2> + Drop, O2, E: ParserError
             }
         }
     }
-}
-
-impl<F: Stable<I, O, E>, I: Stream, O: ParseSlice<O2> + Drop, O2, E: ParserError<I>> Stable<
-    I,
-    O2,
-    E,
-> for ParseTo<F, I, O, O2, E> {
-    ghost stable = { stays_beside tt
-        (settles_grows (ParseToSettles O.reads) (grows (F.leaves_ends modal) F.stable)) };
-
-    fn stay() {}
 }

@@ -2,15 +2,13 @@
 ghost use Rattle.std.specs.Prelude.{◌≡◌};
 ghost use Rattle.grammars.specs.Grammar.{Made};
 ghost use Rattle.grammars.specs.Grammar.Unique.{made_of_takes};
-ghost use Rattle.stream_errors.specs.Form.{modal};
+ghost use Rattle.parser_definitions.specs.Outputs.{SpanDoes, span_law};
+ghost use Rattle.winnow_core.specs.Covers.Outputs.{span_covered};
 ghost use Rattle.winnow_core.specs.Exact.Adapters.{AnyPlaces, span_exact, span_fails};
-ghost use Rattle.winnow_core.specs.MakesOutput.Laws.{makes_output_ends, makes_output_grows};
+ghost use Rattle.winnow_core.specs.MakesOutput.Laws.{makes_output_ends};
 ghost use Rattle.winnow_core.specs.Span.{SpanRuns, places};
-ghost use Rattle.winnow_core.specs.Stable.Grows.{grows, stays};
-ghost use Rattle.winnow_core.specs.WithSpan.Says.{span_said, span_says};
 
 use crate::parser::Parser;
-use crate::stable::Stable;
 use std::marker::PhantomData;
 use std::ops::Range;
 use stream_errors::parser_error::ParserError;
@@ -49,11 +47,15 @@ impl<F: Parser<I, O, E>, I: Location, O: Drop, E: ParserError<I>> Parser<I, Rang
 
     ghost state = { λ s. F.state s.parser };
 
-    ghost states = { F.states };
-
     ghost meaning = { λ form. SpanRuns (F.meaning form) };
 
-    ghost says = { λ s. span_says (F.says s) };
+    ghost does = { SpanDoes F.does };
+
+    ghost terms = { record {
+      premise = F.terms.premise;
+      stable = F.terms.stable;
+      alike = λ u v. u ≡ v;
+    } };
 
     ghost claim = { λ s. record {
       premise = (F.claim s).premise;
@@ -66,7 +68,9 @@ impl<F: Parser<I, O, E>, I: Location, O: Drop, E: ParserError<I>> Parser<I, Rang
     ghost leaves_ends = { λ form. makes_output_ends I.reading _ (F.meaning form)
         (F.leaves_ends form) };
 
-    ghost said = { λ s. span_said (F.said s) };
+    ghost covers = { λ is at. span_covered (F.covers is at) };
+
+    ghost lawful = { λ is. span_law (F.lawful is) };
 
     ghost claimed = { λ s. record {
       exact = λ form is. span_exact (F.meaning form) (s) ((F.claimed s).exact form is);
@@ -81,13 +85,4 @@ impl<F: Parser<I, O, E>, I: Location, O: Drop, E: ParserError<I>> Parser<I, Rang
         let end = input.previous_token_end();
         Ok(start..end)
     }
-}
-
-impl<F: Stable<I, O, E>, I: Location, O: Drop, E: ParserError<I>> Stable<I, Range<usize>, E>
-    for Span<F, I, O, E> {
-    ghost stable = { stays
-        (makes_output_grows (λ i o j span. span ≡ places i j) (λ more flag i o j span is. is)
-        (grows (F.leaves_ends modal) F.stable)) };
-
-    fn stay() {}
 }

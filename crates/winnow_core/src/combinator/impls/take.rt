@@ -2,15 +2,14 @@
 ghost use Rattle.std.specs.Prelude.{◌≡◌, List, ◌++◌};
 ghost use Rattle.streams.specs.Input.{Ends};
 ghost use Rattle.grammars.specs.Grammar.{Taken};
-ghost use Rattle.stream_errors.specs.Form.{modal};
+ghost use Rattle.parser_definitions.specs.Outputs.{TakeDoes, take_law};
+ghost use Rattle.parser_definitions.specs.Spelled.{ShowSame};
+ghost use Rattle.winnow_core.specs.Covers.Outputs.{take_covered};
 ghost use Rattle.winnow_core.specs.Exact.Adapters.{take_exact, take_fails, taken_takes};
-ghost use Rattle.winnow_core.specs.Stable.Grows.{grows, stays};
 ghost use Rattle.winnow_core.specs.Take.{TakeRuns, take_parser};
-ghost use Rattle.winnow_core.specs.Take.Laws.{take_ends, take_adapter_grows};
-ghost use Rattle.winnow_core.specs.Take.Says.{take_said, take_says};
+ghost use Rattle.winnow_core.specs.Take.Laws.{take_ends};
 
 use crate::parser::Parser;
-use crate::stable::Stable;
 use std::marker::PhantomData;
 use stream_errors::parser_error::ParserError;
 use streams::stream::Stream;
@@ -47,11 +46,15 @@ impl<F: Parser<I, O, E>, I: Stream, O: Drop, E: ParserError<I>> Parser<I, I::Sli
 
     ghost state = { λ s. F.state s.parser };
 
-    ghost states = { F.states };
-
     ghost meaning = { λ form. TakeRuns I.reading (F.meaning form) };
 
-    ghost says = { λ s. take_says I.reading (F.says s) };
+    ghost does = { TakeDoes I.reading F.does };
+
+    ghost terms = { record {
+      premise = F.terms.premise;
+      stable = F.terms.stable;
+      alike = ShowSame I.reading;
+    } };
 
     ghost claim = { λ s. record {
       premise = (F.claim s).premise;
@@ -63,7 +66,9 @@ impl<F: Parser<I, O, E>, I: Stream, O: Drop, E: ParserError<I>> Parser<I, I::Sli
 
     ghost leaves_ends = { λ form. take_ends I.reading (F.meaning form) (F.leaves_ends form) };
 
-    ghost said = { λ s. take_said I.reading (F.said s) };
+    ghost covers = { λ is at. take_covered (F.covers is at) I.reading };
+
+    ghost lawful = { λ is. take_law I.reading (F.lawful is) };
 
     ghost claimed = { λ s. record {
       exact = λ form is. take_exact I.reading ((F.claimed s).exact form is);
@@ -91,11 +96,4 @@ pub(crate) fn slice_from<I: Stream>(start: &I::Checkpoint, input: &mut I) -> I::
     let offset = input.offset_from(start);
     input.reset(start);
     input.next_slice(offset)
-}
-
-impl<F: Stable<I, O, E>, I: Stream, O: Drop, E: ParserError<I>> Stable<I, I::Slice, E>
-    for Take<F, I, O, E> {
-    ghost stable = { stays (take_adapter_grows I.reading (grows (F.leaves_ends modal) F.stable)) };
-
-    fn stay() {}
 }

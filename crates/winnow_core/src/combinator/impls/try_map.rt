@@ -1,22 +1,20 @@
 //! Outputs made of outputs by a closure that may fail.
-ghost use Rattle.std.specs.Prelude.{◌≡◌};
+ghost use Rattle.std.specs.Prelude.{◌≡◌, Ok};
 ghost use Rattle.grammars.specs.Grammar.{Made};
 ghost use Rattle.grammars.specs.Grammar.Outputs.{RejectsAll};
 ghost use Rattle.grammars.specs.Grammar.Unique.{made_of_takes};
-ghost use Rattle.stream_errors.specs.Form.{modal};
 ghost use Rattle.stream_errors.specs.Given.{Keeping};
+ghost use Rattle.parser_definitions.specs.Equal.{MadeAlike};
+ghost use Rattle.parser_definitions.specs.TryMap.{TriesAlike, TryMapDoes, try_map_law};
 ghost use Rattle.winnow_core.specs.Closures.{Stays};
+ghost use Rattle.winnow_core.specs.Covers.Adapters.{try_map_covered};
 ghost use Rattle.winnow_core.specs.Exact.Allowed.{fails_as};
 ghost use Rattle.winnow_core.specs.Exact.Settled.{ErrorsKept, GivesErr, GivesOk, try_map_exact};
 ghost use Rattle.winnow_core.specs.Exact.Settled.{try_map_fails};
-ghost use Rattle.winnow_core.specs.Says.{With};
-ghost use Rattle.winnow_core.specs.Settles.Laws.{settles_ends, settles_grows};
-ghost use Rattle.winnow_core.specs.Stable.Grows.{grows, stays};
+ghost use Rattle.winnow_core.specs.Settles.Laws.{settles_ends};
 ghost use Rattle.winnow_core.specs.TryMap.{TryMapSettles, TryMapRuns};
-ghost use Rattle.winnow_core.specs.TryMap.Says.{try_map_said, try_map_says};
 
 use crate::parser::Parser;
-use crate::stable::Stable;
 use std::marker::PhantomData;
 use stream_errors::external::FromExternalError;
 use stream_errors::parser_error::ParserError;
@@ -64,11 +62,15 @@ impl<
 
     ghost state = { λ s. (F.state s.parser, (s.map, E.external_gives)) };
 
-    ghost states = { λ s. With (F.states s.0) s.1 };
-
     ghost meaning = { λ form. TryMapRuns G.step (F.meaning form) };
 
-    ghost says = { λ s. try_map_says G.step s.1 (F.says s.0) };
+    ghost does = { TryMapDoes G.step F.does };
+
+    ghost terms = { record {
+      premise = F.terms.premise × TriesAlike F.terms.alike G.step;
+      stable = F.terms.stable;
+      alike = MadeAlike F.terms.alike (λ f o u g. G.step f o (Ok u) g);
+    } };
 
     ghost claim = { λ s. record {
       premise = (F.claim s.0).premise × Stays G.step s.1.0
@@ -83,7 +85,9 @@ impl<
         (TryMapSettles G.step) (F.meaning form)
         (F.leaves_ends form) };
 
-    ghost said = { λ s. try_map_said G.step (F.said s.0) };
+    ghost covers = { λ is at. try_map_covered G.step (F.covers is.0 at) };
+
+    ghost lawful = { λ is. try_map_law F.terms.alike G.step is.1 (F.lawful is.0) };
 
     ghost claimed = { λ s. record {
       exact = λ form is. try_map_exact G.step is.1 is.2 ((F.claimed s.0).exact form is.0);
@@ -104,19 +108,4 @@ impl<
             }
         }
     }
-}
-
-impl<
-    F: Stable<I, O, E>,
-    G: FnMut(O) -> Result<O2, E2>,
-    I: Stream,
-    O,
-    O2,
-    E: ParserError<I> + FromExternalError<I, E2>,
-    E2,
-> Stable<I, O2, E> for TryMap<F, G, I, O, O2, E, E2> {
-    ghost stable = { stays
-        (settles_grows (TryMapSettles G.step) (grows (F.leaves_ends modal) F.stable)) };
-
-    fn stay() {}
 }

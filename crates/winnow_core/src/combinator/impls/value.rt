@@ -2,17 +2,14 @@
 ghost use Rattle.std.specs.Prelude.{◌≡◌};
 ghost use Rattle.grammars.specs.Grammar.{Made};
 ghost use Rattle.grammars.specs.Grammar.Unique.{made_of_takes};
-ghost use Rattle.stream_errors.specs.Form.{modal};
+ghost use Rattle.parser_definitions.specs.TryMap.{ValueDoes, value_law};
+ghost use Rattle.winnow_core.specs.Covers.Adapters.{value_covered};
 ghost use Rattle.winnow_core.specs.Exact.Adapters.{value_exact, value_fails};
 ghost use Rattle.winnow_core.specs.Exact.Allowed.{fails_as, wanted};
-ghost use Rattle.winnow_core.specs.Says.{With};
-ghost use Rattle.winnow_core.specs.Stable.Grows.{grows, stays};
-ghost use Rattle.winnow_core.specs.Value.{ValueRuns, value_kept, value_parser};
-ghost use Rattle.winnow_core.specs.Value.Laws.{value_ends, value_grows};
-ghost use Rattle.winnow_core.specs.Value.Says.{value_said, value_says};
+ghost use Rattle.winnow_core.specs.Value.{AlikeClones, ValueRuns, value_kept, value_parser};
+ghost use Rattle.winnow_core.specs.Value.Laws.{value_ends};
 
 use crate::parser::Parser;
-use crate::stable::Stable;
 use std::marker::PhantomData;
 use stream_errors::parser_error::ParserError;
 use streams::stream::Stream;
@@ -51,11 +48,15 @@ impl<F: Parser<I, O, E>, I: Stream, O: Drop, O2: Clone, E: ParserError<I>> Parse
 
     ghost state = { λ s. (F.state s.parser, s.value) };
 
-    ghost states = { λ s. With (F.states s.0) s.1 };
-
     ghost meaning = { λ form. ValueRuns O2.is_clone O2.is_infallible (F.meaning form) };
 
-    ghost says = { λ s. value_says O2.is_clone O2.is_infallible s.1 (F.says s.0) };
+    ghost does = { ValueDoes O2.is_clone O2.is_infallible F.does };
+
+    ghost terms = { record {
+      premise = F.terms.premise;
+      stable = F.terms.stable;
+      alike = AlikeClones O2.is_clone;
+    } };
 
     ghost claim = { λ s. record {
       premise = (F.claim s.0).premise;
@@ -68,7 +69,10 @@ impl<F: Parser<I, O, E>, I: Stream, O: Drop, O2: Clone, E: ParserError<I>> Parse
     ghost leaves_ends = { λ form. value_ends I.reading O2.is_clone O2.is_infallible
         (F.meaning form) (F.leaves_ends form) };
 
-    ghost said = { λ s. value_said O2.is_clone O2.is_infallible (F.said s.0) };
+    ghost covers = { λ is at. value_covered O2.is_clone O2.is_infallible (F.covers is at) };
+
+    ghost lawful = { λ is. value_law O2.is_clone O2.is_infallible (λ value u v x y. (value, x, y))
+        (F.lawful is) };
 
     ghost claimed = { λ s. record {
       exact = λ form is. value_exact O2.is_clone O2.is_infallible ((F.claimed s.0).exact form is);
@@ -87,12 +91,4 @@ impl<F: Parser<I, O, E>, I: Stream, O: Drop, O2: Clone, E: ParserError<I>> Parse
             Err(_) => Err(E::no_memory(input)),
         }
     }
-}
-
-impl<F: Stable<I, O, E>, I: Stream, O: Drop, O2: Clone, E: ParserError<I>> Stable<I, O2, E>
-    for Value<F, I, O, O2, E> {
-    ghost stable = { stays
-        (value_grows O2.is_clone O2.is_infallible (grows (F.leaves_ends modal) F.stable)) };
-
-    fn stay() {}
 }

@@ -4,18 +4,15 @@ ghost use Rattle.std.specs.Fn.{CalledAt};
 ghost use Rattle.grammars.specs.Grammar.{Made};
 ghost use Rattle.grammars.specs.Grammar.Outputs.{RejectsAll};
 ghost use Rattle.grammars.specs.Grammar.Unique.{made_of_takes};
-ghost use Rattle.stream_errors.specs.Form.{modal};
+ghost use Rattle.parser_definitions.specs.Verify.{FindsAlike, VerifyDoes, verify_law};
 ghost use Rattle.winnow_core.specs.Closures.{Stays, Finds};
+ghost use Rattle.winnow_core.specs.Covers.Adapters.{verify_covered};
 ghost use Rattle.winnow_core.specs.Exact.Settled.{Misses, settled_exact, verify_fails};
 ghost use Rattle.winnow_core.specs.Exact.Settled.{verify_settler};
-ghost use Rattle.winnow_core.specs.Says.{With};
-ghost use Rattle.winnow_core.specs.Settles.Laws.{settles_ends, settles_grows};
-ghost use Rattle.winnow_core.specs.Stable.Grows.{grows, stays};
+ghost use Rattle.winnow_core.specs.Settles.Laws.{settles_ends};
 ghost use Rattle.winnow_core.specs.Verify.{VerifySettles, VerifyRuns};
-ghost use Rattle.winnow_core.specs.Verify.Says.{verify_said, verify_says};
 
 use crate::parser::Parser;
-use crate::stable::Stable;
 use std::marker::PhantomData;
 use stream_errors::parser_error::ParserError;
 use streams::stream::Stream;
@@ -58,11 +55,15 @@ impl<F: Parser<I, O, E>, G: FnMut(&O) -> bool, I: Stream, O: Drop, E: ParserErro
 
     ghost state = { λ s. (F.state s.parser, s.filter) };
 
-    ghost states = { λ s. With (F.states s.0) s.1 };
-
     ghost meaning = { λ form. VerifyRuns (CalledAt G.FnMut) (F.meaning form) };
 
-    ghost says = { λ s. verify_says (CalledAt G.FnMut) s.1 (F.says s.0) };
+    ghost does = { VerifyDoes (CalledAt G.FnMut) F.does };
+
+    ghost terms = { record {
+      premise = F.terms.premise × FindsAlike F.terms.alike (CalledAt G.FnMut);
+      stable = F.terms.stable;
+      alike = F.terms.alike;
+    } };
 
     ghost claim = { λ s. record {
       premise = (F.claim s.0).premise × Stays (CalledAt G.FnMut) s.1
@@ -78,7 +79,9 @@ impl<F: Parser<I, O, E>, G: FnMut(&O) -> bool, I: Stream, O: Drop, E: ParserErro
         (F.meaning form)
         (F.leaves_ends form) };
 
-    ghost said = { λ s. verify_said (CalledAt G.FnMut) (F.said s.0) };
+    ghost covers = { λ is at. verify_covered (CalledAt G.FnMut) (F.covers is.0 at) };
+
+    ghost lawful = { λ is. verify_law (CalledAt G.FnMut) is.1 (F.lawful is.0) };
 
     ghost claimed = { λ s. record {
       exact = λ form is. settled_exact (verify_settler (CalledAt G.FnMut) is.1) is.2
@@ -100,16 +103,4 @@ impl<F: Parser<I, O, E>, G: FnMut(&O) -> bool, I: Stream, O: Drop, E: ParserErro
             Err(E::from_input(input))
         }
     }
-}
-
-impl<F: Stable<I, O, E>, G: FnMut(&O) -> bool, I: Stream, O: Drop, E: ParserError<I>> Stable<
-    I,
-    O,
-    E,
-> for Verify<F, G, I, O, E> {
-    ghost stable = { stays
-        (settles_grows (VerifySettles (CalledAt G.FnMut))
-        (grows (F.leaves_ends modal) F.stable)) };
-
-    fn stay() {}
 }

@@ -1,19 +1,17 @@
 //! The implementation of `verify_map`.
-ghost use Rattle.std.specs.Prelude.{◌≡◌};
+ghost use Rattle.std.specs.Prelude.{◌≡◌, Some};
 ghost use Rattle.grammars.specs.Grammar.{Made};
 ghost use Rattle.grammars.specs.Grammar.Outputs.{RejectsAll};
 ghost use Rattle.grammars.specs.Grammar.Unique.{made_of_takes};
-ghost use Rattle.stream_errors.specs.Form.{modal};
+ghost use Rattle.parser_definitions.specs.Equal.{MadeAlike};
+ghost use Rattle.parser_definitions.specs.Verify.{RejectsAlike, VerifyMapDoes, verify_map_law};
 ghost use Rattle.winnow_core.specs.Closures.{Stays, GivesSome};
+ghost use Rattle.winnow_core.specs.Covers.Adapters.{verify_map_covered};
 ghost use Rattle.winnow_core.specs.Exact.Settled.{GivesNone, verify_map_exact, verify_map_fails};
-ghost use Rattle.winnow_core.specs.Says.{With};
-ghost use Rattle.winnow_core.specs.Stable.Grows.{grows, stays};
 ghost use Rattle.winnow_core.specs.VerifyMap.{VerifyMapRuns};
-ghost use Rattle.winnow_core.specs.VerifyMap.Laws.{verify_map_ends, verify_map_grows};
-ghost use Rattle.winnow_core.specs.VerifyMap.Says.{verify_map_said, verify_map_says};
+ghost use Rattle.winnow_core.specs.VerifyMap.Laws.{verify_map_ends};
 
 use crate::parser::Parser;
-use crate::stable::Stable;
 use std::marker::PhantomData;
 use stream_errors::parser_error::ParserError;
 use streams::stream::Stream;
@@ -56,11 +54,15 @@ impl<F: Parser<I, O, E>, G: FnMut(O) -> Option<O2>, I: Stream, O, O2, E: ParserE
 
     ghost state = { λ s. (F.state s.parser, s.filter) };
 
-    ghost states = { λ s. With (F.states s.0) s.1 };
-
     ghost meaning = { λ form. VerifyMapRuns (F.meaning form) G.step };
 
-    ghost says = { λ s. verify_map_says G.step s.1 (F.says s.0) };
+    ghost does = { VerifyMapDoes G.step F.does };
+
+    ghost terms = { record {
+      premise = F.terms.premise × RejectsAlike F.terms.alike G.step;
+      stable = F.terms.stable;
+      alike = MadeAlike F.terms.alike (λ f o u g. G.step f o (Some u) g);
+    } };
 
     ghost claim = { λ s. record {
       premise = (F.claim s.0).premise × Stays G.step s.1
@@ -74,7 +76,9 @@ impl<F: Parser<I, O, E>, G: FnMut(O) -> Option<O2>, I: Stream, O, O2, E: ParserE
     ghost leaves_ends = { λ form. verify_map_ends I.reading (F.meaning form) G.step
         (F.leaves_ends form) };
 
-    ghost said = { λ s. verify_map_said G.step (F.said s.0) };
+    ghost covers = { λ is at. verify_map_covered G.step (F.covers is.0 at) };
+
+    ghost lawful = { λ is. verify_map_law G.step is.1 (F.lawful is.0) };
 
     ghost claimed = { λ s. record {
       exact = λ form is. verify_map_exact G.step is.1 is.2 ((F.claimed s.0).exact form is.0);
@@ -94,14 +98,4 @@ impl<F: Parser<I, O, E>, G: FnMut(O) -> Option<O2>, I: Stream, O, O2, E: ParserE
             }
         }
     }
-}
-
-impl<F: Stable<I, O, E>, G: FnMut(O) -> Option<O2>, I: Stream, O, O2, E: ParserError<I>> Stable<
-    I,
-    O2,
-    E,
-> for VerifyMap<F, G, I, O, O2, E> {
-    ghost stable = { stays (verify_map_grows G.step (grows (F.leaves_ends modal) F.stable)) };
-
-    fn stay() {}
 }

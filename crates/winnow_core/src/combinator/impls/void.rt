@@ -2,15 +2,13 @@
 ghost use Rattle.std.specs.Prelude.{◌≡◌, ⊤};
 ghost use Rattle.grammars.specs.Grammar.{Made};
 ghost use Rattle.grammars.specs.Grammar.Unique.{made_of_takes};
-ghost use Rattle.stream_errors.specs.Form.{modal};
+ghost use Rattle.parser_definitions.specs.Outputs.{VoidDoes, void_law};
+ghost use Rattle.winnow_core.specs.Covers.Outputs.{void_covered};
 ghost use Rattle.winnow_core.specs.Exact.Adapters.{void_exact, void_fails};
-ghost use Rattle.winnow_core.specs.Stable.Grows.{grows, stays};
 ghost use Rattle.winnow_core.specs.Void.{VoidRuns};
-ghost use Rattle.winnow_core.specs.Void.Laws.{void_ends, void_grows};
-ghost use Rattle.winnow_core.specs.Void.Says.{void_said, void_says};
+ghost use Rattle.winnow_core.specs.Void.Laws.{void_ends};
 
 use crate::parser::Parser;
-use crate::stable::Stable;
 use std::marker::PhantomData;
 use stream_errors::parser_error::ParserError;
 use streams::stream::Stream;
@@ -46,11 +44,15 @@ impl<F: Parser<I, O, E>, I: Stream, O: Drop, E: ParserError<I>> Parser<I, (), E>
 
     ghost state = { λ s. F.state s.parser };
 
-    ghost states = { F.states };
-
     ghost meaning = { λ form. VoidRuns (F.meaning form) };
 
-    ghost says = { λ s. void_says (F.says s) };
+    ghost does = { VoidDoes F.does };
+
+    ghost terms = { record {
+      premise = F.terms.premise;
+      stable = F.terms.stable;
+      alike = λ u v. u ≡ v;
+    } };
 
     ghost claim = { λ s. record {
       premise = (F.claim s).premise;
@@ -62,7 +64,9 @@ impl<F: Parser<I, O, E>, I: Stream, O: Drop, E: ParserError<I>> Parser<I, (), E>
 
     ghost leaves_ends = { λ form. void_ends I.reading (F.meaning form) (F.leaves_ends form) };
 
-    ghost said = { λ s. void_said (F.said s) };
+    ghost covers = { λ is at. void_covered (F.covers is at) };
+
+    ghost lawful = { λ is. void_law (F.lawful is) };
 
     ghost claimed = { λ s. record {
       exact = λ form is. void_exact ((F.claimed s).exact form is);
@@ -76,11 +80,4 @@ impl<F: Parser<I, O, E>, I: Stream, O: Drop, E: ParserError<I>> Parser<I, (), E>
         let _output = self.parser.parse_next(input)?;
         Ok(())
     }
-}
-
-impl<F: Stable<I, O, E>, I: Stream, O: Drop, E: ParserError<I>> Stable<I, (), E>
-    for Void<F, I, O, E> {
-    ghost stable = { stays (void_grows (grows (F.leaves_ends modal) F.stable)) };
-
-    fn stay() {}
 }

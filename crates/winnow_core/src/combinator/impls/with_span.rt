@@ -2,16 +2,14 @@
 ghost use Rattle.std.specs.Prelude.{◌≡◌};
 ghost use Rattle.grammars.specs.Grammar.{Made};
 ghost use Rattle.grammars.specs.Grammar.Unique.{made_of_takes};
-ghost use Rattle.stream_errors.specs.Form.{modal};
+ghost use Rattle.parser_definitions.specs.Equal.{AlikePairs};
+ghost use Rattle.parser_definitions.specs.Outputs.{WithSpanDoes, with_span_law};
+ghost use Rattle.winnow_core.specs.Covers.Outputs.{with_span_covered};
 ghost use Rattle.winnow_core.specs.Exact.Adapters.{WithPlaces, with_span_exact, with_span_fails};
-ghost use Rattle.winnow_core.specs.MakesOutput.Laws.{makes_output_ends, makes_output_grows};
-ghost use Rattle.winnow_core.specs.Span.{places};
-ghost use Rattle.winnow_core.specs.Stable.Grows.{grows, stays};
+ghost use Rattle.winnow_core.specs.MakesOutput.Laws.{makes_output_ends};
 ghost use Rattle.winnow_core.specs.WithSpan.{WithSpanRuns};
-ghost use Rattle.winnow_core.specs.WithSpan.Says.{with_span_said, with_span_says};
 
 use crate::parser::Parser;
-use crate::stable::Stable;
 use std::marker::PhantomData;
 use std::ops::Range;
 use stream_errors::parser_error::ParserError;
@@ -50,11 +48,15 @@ impl<F: Parser<I, O, E>, I: Location, O, E: ParserError<I>> Parser<I, (O, Range<
 
     ghost state = { λ s. F.state s.parser };
 
-    ghost states = { F.states };
-
     ghost meaning = { λ form. WithSpanRuns (F.meaning form) };
 
-    ghost says = { λ s. with_span_says (F.says s) };
+    ghost does = { WithSpanDoes F.does };
+
+    ghost terms = { record {
+      premise = F.terms.premise;
+      stable = F.terms.stable;
+      alike = AlikePairs F.terms.alike (λ u v. u ≡ v);
+    } };
 
     ghost claim = { λ s. record {
       premise = (F.claim s).premise;
@@ -67,7 +69,9 @@ impl<F: Parser<I, O, E>, I: Location, O, E: ParserError<I>> Parser<I, (O, Range<
     ghost leaves_ends = { λ form. makes_output_ends I.reading _ (F.meaning form)
         (F.leaves_ends form) };
 
-    ghost said = { λ s. with_span_said (F.said s) };
+    ghost covers = { λ is at. with_span_covered (F.covers is at) };
+
+    ghost lawful = { λ is. with_span_law (F.lawful is) };
 
     ghost claimed = { λ s. record {
       exact = λ form is. with_span_exact (F.meaning form) (s) ((F.claimed s).exact form is);
@@ -83,13 +87,4 @@ impl<F: Parser<I, O, E>, I: Location, O, E: ParserError<I>> Parser<I, (O, Range<
         let end = input.previous_token_end();
         Ok((output, start..end))
     }
-}
-
-impl<F: Stable<I, O, E>, I: Location, O, E: ParserError<I>> Stable<I, (O, Range<usize>), E>
-    for WithSpan<F, I, O, E> {
-    ghost stable = { stays
-        (makes_output_grows (λ i o j both. (both.0 ≡ o) × (both.1 ≡ places i j))
-        (λ more flag i o j both is. is) (grows (F.leaves_ends modal) F.stable)) };
-
-    fn stay() {}
 }

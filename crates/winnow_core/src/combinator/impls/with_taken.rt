@@ -1,18 +1,17 @@
 //! Outputs with the slices that were read.
 ghost use Rattle.std.specs.Prelude.{◌≡◌};
 ghost use Rattle.grammars.specs.Grammar.{AndTaken};
-ghost use Rattle.stream_errors.specs.Form.{modal};
+ghost use Rattle.parser_definitions.specs.Equal.{AlikePairs};
+ghost use Rattle.parser_definitions.specs.Outputs.{WithTakenDoes, with_taken_law};
+ghost use Rattle.parser_definitions.specs.Spelled.{ShowSame};
+ghost use Rattle.winnow_core.specs.Covers.Outputs.{with_taken_covered};
 ghost use Rattle.winnow_core.specs.Exact.Adapters.{and_taken_takes, with_taken_exact};
 ghost use Rattle.winnow_core.specs.Exact.Adapters.{with_taken_fails};
-ghost use Rattle.winnow_core.specs.MakesOutput.Laws.{makes_output_ends, makes_output_grows};
-ghost use Rattle.winnow_core.specs.Stable.Grows.{grows, stays};
+ghost use Rattle.winnow_core.specs.MakesOutput.Laws.{makes_output_ends};
 ghost use Rattle.winnow_core.specs.WithTaken.{WithTakenRuns};
-ghost use Rattle.winnow_core.specs.WithTaken.Laws.{made_with_taken};
-ghost use Rattle.winnow_core.specs.WithTaken.Says.{with_taken_said, with_taken_says};
 
 use crate::combinator::impls::take::slice_from;
 use crate::parser::Parser;
-use crate::stable::Stable;
 use std::marker::PhantomData;
 use stream_errors::parser_error::ParserError;
 use streams::stream::Stream;
@@ -49,11 +48,15 @@ impl<F: Parser<I, O, E>, I: Stream, O, E: ParserError<I>> Parser<I, (O, I::Slice
 
     ghost state = { λ s. F.state s.parser };
 
-    ghost states = { F.states };
-
     ghost meaning = { λ form. WithTakenRuns I.reading (F.meaning form) };
 
-    ghost says = { λ s. with_taken_says I.reading (F.says s) };
+    ghost does = { WithTakenDoes I.reading F.does };
+
+    ghost terms = { record {
+      premise = F.terms.premise;
+      stable = F.terms.stable;
+      alike = AlikePairs F.terms.alike (ShowSame I.reading);
+    } };
 
     ghost claim = { λ s. record {
       premise = (F.claim s).premise;
@@ -66,7 +69,9 @@ impl<F: Parser<I, O, E>, I: Stream, O, E: ParserError<I>> Parser<I, (O, I::Slice
     ghost leaves_ends = { λ form. makes_output_ends I.reading _ (F.meaning form)
         (F.leaves_ends form) };
 
-    ghost said = { λ s. with_taken_said I.reading (F.said s) };
+    ghost covers = { λ is at. with_taken_covered (F.covers is at) I.reading };
+
+    ghost lawful = { λ is. with_taken_law I.reading (F.lawful is) };
 
     ghost claimed = { λ s. record {
       exact = λ form is. with_taken_exact I.reading ((F.claimed s).exact form is);
@@ -80,13 +85,4 @@ impl<F: Parser<I, O, E>, I: Stream, O, E: ParserError<I>> Parser<I, (O, I::Slice
         let output = self.parser.parse_next(input)?;
         Ok((output, slice_from(&start, input)))
     }
-}
-
-impl<F: Stable<I, O, E>, I: Stream, O, E: ParserError<I>> Stable<I, (O, I::Slice), E>
-    for WithTaken<F, I, O, E> {
-    ghost stable = { stays
-        (makes_output_grows _ (made_with_taken I.reading)
-        (grows (F.leaves_ends modal) F.stable)) };
-
-    fn stay() {}
 }

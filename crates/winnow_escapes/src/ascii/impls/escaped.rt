@@ -1,24 +1,22 @@
 //! Text with escapes, and its unescaped value.
 ghost use Rattle.std.specs.Prelude.{◌≡◌, None};
-ghost use Rattle.stream_errors.specs.Form.{assert_kind, incomplete_kind, plain, modal};
-ghost use Rattle.winnow_core.specs.InOrder.Says.{Three};
-ghost use Rattle.winnow_core.specs.Stable.Grows.{grows, stays};
-ghost use Rattle.winnow_escapes.specs.Controls.{grows_on_some};
+ghost use Rattle.stream_errors.specs.Form.{assert_kind, incomplete_kind, plain};
+ghost use Rattle.parser_definitions.specs.Escaped.{AlikeSides, EscapedDoes, Settled, either_kept};
+ghost use Rattle.parser_definitions.specs.Escaped.{escaped_law, plainly};
+ghost use Rattle.parser_definitions.specs.Folding.{Built, gathering};
+ghost use Rattle.winnow_escapes.specs.Covers.{escaped_covered};
 ghost use Rattle.winnow_escapes.specs.Escaped.{EscapedRuns, escaped_control, escaped_escape};
 ghost use Rattle.winnow_escapes.specs.Escaped.{escaped_normal, turns_kept};
-ghost use Rattle.winnow_escapes.specs.Escaped.Laws.{escaped_ends, escaped_grows};
+ghost use Rattle.winnow_escapes.specs.Escaped.Laws.{escaped_ends};
 ghost use Rattle.winnow_core.specs.Claim.{no_claim, nothing_claimed};
-ghost use Rattle.winnow_escapes.specs.Escaped.Says.{escaped_said, escaped_says};
 
 use crate::ascii::turns::read_turns;
-use crate::stable::SettledControl;
 use std::marker::PhantomData;
 use stream_errors::control::ControlError;
 use stream_errors::parser_error::ParserError;
 use stream_sets::accumulate::Accumulate;
 use streams::stream::StreamIsPartial;
 use winnow_core::parser::Parser;
-use winnow_core::stable::Stable;
 
 /// The parser that [`escaped`](crate::ascii::escaped) makes.
 ///
@@ -76,15 +74,20 @@ impl<
 
     ghost state = { λ s. (N.state s.normal, K.state s.control, X.state s.escape) };
 
-    ghost states = { λ s. Three (N.states s.0) (K.states s.1) (X.states s.2) };
-
     ghost meaning = { λ form. EscapedRuns (N.meaning form) (K.meaning plain) (X.meaning form)
         (turns_kept ⟦<C as Accumulate<O, A>>⟧.accumulator ⟦<C as Accumulate<P, A>>⟧.accumulator)
         (assert_kind form) (incomplete_kind form None) };
 
-    ghost says = { λ s. escaped_says
-        (turns_kept ⟦<C as Accumulate<O, A>>⟧.accumulator ⟦<C as Accumulate<P, A>>⟧.accumulator)
-        (N.says s.0) (K.says s.1) (X.says s.2) };
+    ghost does = { EscapedDoes ⟦<C as Accumulate<O, A>>⟧.accumulator
+        ⟦<C as Accumulate<P, A>>⟧.accumulator N.does K.does X.does };
+
+    ghost terms = { record {
+      premise = N.terms.premise × K.terms.premise × X.terms.premise;
+      stable = N.terms.stable × (Settled K.does × X.terms.stable);
+      alike = Built (gathering {Q = N.State × K.State × X.State}
+          (either_kept ⟦<C as Accumulate<O, A>>⟧.accumulator
+          ⟦<C as Accumulate<P, A>>⟧.accumulator)) (AlikeSides N.terms.alike X.terms.alike);
+    } };
 
     ghost claim = { λ _. no_claim };
 
@@ -94,9 +97,12 @@ impl<
         (assert_kind form) (incomplete_kind form None) (N.leaves_ends form)
         (K.leaves_ends plain) (X.leaves_ends form) };
 
-    ghost said = { λ s. escaped_said
-        (turns_kept ⟦<C as Accumulate<O, A>>⟧.accumulator ⟦<C as Accumulate<P, A>>⟧.accumulator)
-        s (N.said s.0) (K.said s.1) (X.said s.2) };
+    ghost covers = { λ is at. escaped_covered ⟦<C as Accumulate<O, A>>⟧.accumulator
+        ⟦<C as Accumulate<P, A>>⟧.accumulator (N.covers is.0 at) (K.covers is.1 (plainly at))
+        (X.covers is.2 at) };
+
+    ghost lawful = { λ is. escaped_law ⟦<C as Accumulate<O, A>>⟧.accumulator
+        ⟦<C as Accumulate<P, A>>⟧.accumulator (N.lawful is.0) (K.lawful is.1) (X.lawful is.2) };
 
     ghost claimed = { λ _. nothing_claimed };
 
@@ -112,27 +118,4 @@ impl<
             Err(_) => Err(E::no_memory(input)),
         }
     }
-}
-
-impl<
-    N: Stable<I, O, E>,
-    K: SettledControl<I, D>,
-    X: Stable<I, P, E>,
-    I: StreamIsPartial,
-    O: Drop,
-    D: Drop,
-    P: Drop,
-    C: Accumulate<O, A> + Accumulate<P, A>,
-    E: ParserError<I>,
-    A: Copy,
-> Stable<I, C, E> for Escaped<N, K, X, I, O, D, P, C, E, A> {
-    ghost stable = { stays
-        (escaped_grows (N.meaning modal) (K.meaning plain) (X.meaning modal)
-        (grows (N.leaves_ends modal) N.stable)
-        (grows_on_some (K.leaves_ends plain) K.settled)
-        (grows (X.leaves_ends modal) X.stable)
-        (turns_kept ⟦<C as Accumulate<O, A>>⟧.accumulator ⟦<C as Accumulate<P, A>>⟧.accumulator)
-        (assert_kind modal)) };
-
-    fn stay() {}
 }

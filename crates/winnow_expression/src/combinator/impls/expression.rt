@@ -1,13 +1,17 @@
 //! Operator expressions.
 ghost use Rattle.std.specs.Prelude.{◌≡◌, ℤ, pos};
 ghost use Rattle.stream_errors.specs.Form.{assert_kind};
+ghost use Rattle.parser_definitions.specs.Expression.{ExpressionDoes};
+ghost use Rattle.parser_definitions.specs.Expression.Laws.{OperatorsWhole, expression_law};
+ghost use Rattle.parser_definitions.specs.Expression.One.{OperatorsOne};
+ghost use Rattle.winnow_expression.specs.Covers.Trees.{expression_covered};
+ghost use Rattle.winnow_expression.specs.Definition.{operators};
 ghost use Rattle.winnow_expression.specs.Expression.{LeveledRuns, infix_of, level_of, operand_of};
 ghost use Rattle.winnow_expression.specs.Expression.{postfix_of, prefix_of};
 ghost use Rattle.winnow_expression.specs.Expression.Laws.{leveled_leaves};
 ghost use Rattle.winnow_expression.specs.Parts.{parts_grammar};
 ghost use Rattle.winnow_expression.specs.Places.Laws.{first_ends, next_ends};
 ghost use Rattle.winnow_core.specs.Claim.{no_claim, nothing_claimed};
-ghost use Rattle.winnow_core.specs.Says.{Is, nothing_done, nothing_said};
 
 use crate::combinator::folds::{FoldBinary, FoldUnary};
 use crate::combinator::machine::expression_from;
@@ -211,13 +215,23 @@ impl<
       s.level,
     ) };
 
-    ghost states = { Is };
-
     ghost meaning = { λ form. LeveledRuns (parts_grammar I.reading.units (assert_kind form)
         (P.meaning form) (Pre.meaning form) (Post.meaning form) (Pix.meaning form) (F.folds form)
         (G.folds form) (H.folds form)) };
 
-    ghost says = { λ _. nothing_said };
+    ghost does = { ExpressionDoes (operators I.reading.units F.folds G.folds H.folds) P.does
+        Pre.does Post.does Pix.does };
+
+    // Equal operators have equal powers and folds with equal outcomes, and no fold is incomplete
+    // on complete input. An expression is not stable, since an operator may follow.
+    ghost terms = { record {
+      premise = (P.terms.premise × Pre.terms.premise × Post.terms.premise × Pix.terms.premise)
+          × OperatorsOne (operators I.reading.units F.folds G.folds H.folds) P.terms.alike
+          Pre.terms.alike Post.terms.alike Pix.terms.alike
+          × OperatorsWhole (operators I.reading.units F.folds G.folds H.folds);
+      stable = ⊥;
+      alike = P.terms.alike;
+    } };
 
     ghost claim = { λ _. no_claim };
 
@@ -233,7 +247,12 @@ impl<
           between = H.leaves_ends form;
         }) };
 
-    ghost said = { λ _. nothing_done };
+    ghost covers = { λ is at. expression_covered I.reading F.folds G.folds H.folds F.leaves_ends
+        G.leaves_ends H.leaves_ends (P.covers is.0.0 at) (Pre.covers is.0.1 at)
+        (Post.covers is.0.2 at) (Pix.covers is.0.3 at) };
+
+    ghost lawful = { λ is. expression_law (operators I.reading.units F.folds G.folds H.folds) is.1
+        is.2 (P.lawful is.0.0) (Pre.lawful is.0.1) (Post.lawful is.0.2) (Pix.lawful is.0.3) };
 
     ghost claimed = { λ _. nothing_claimed };
 

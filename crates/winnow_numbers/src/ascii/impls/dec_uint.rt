@@ -2,15 +2,14 @@
 ghost use Rattle.std.specs.Prelude.{⊤};
 ghost use Rattle.winnow_core.specs.Exact.Allowed.{backs};
 ghost use Rattle.winnow_core.specs.Runs.{Keeps};
-ghost use Rattle.winnow_core.specs.Says.{Is};
-ghost use Rattle.winnow_core.specs.Stable.Grows.{leaf_stays};
 ghost use Rattle.winnow_numbers.specs.DecUint.{DecUintRuns};
-ghost use Rattle.winnow_numbers.specs.Number.{unsigned_numbers};
-ghost use Rattle.winnow_numbers.specs.Number.Laws.{number_ends, number_fails, number_stays};
-ghost use Rattle.winnow_numbers.specs.Number.Laws.{unsigned_apart};
-ghost use Rattle.winnow_numbers.specs.Number.Says.{number_said, number_says};
+ghost use Rattle.winnow_numbers.specs.Number.Laws.{number_ends, number_fails};
 ghost use Rattle.winnow_numbers.specs.Numeral.Exact.{dec_uint_exact, decimal_takes};
 ghost use Rattle.winnow_numbers.specs.Numeral.Grammar.{Decimal};
+ghost use Rattle.parser_definitions.specs.HexUint.{OneNumber};
+ghost use Rattle.parser_definitions.specs.Number.{DecUintDoes, number_law, unsigned_apart};
+ghost use Rattle.parser_definitions.specs.Number.{unsigned_numbers};
+ghost use Rattle.winnow_numbers.specs.Covers.{number_covered};
 
 use crate::ascii::{Uint, dec_uint};
 use stream_errors::parser_error::ParserError;
@@ -18,7 +17,6 @@ use stream_sets::as_bstr::{AsBStr, SlicesAsBytes};
 use stream_sets::as_char::AsChar;
 use streams::stream::StreamIsPartial;
 use winnow_core::parser::Parser;
-use winnow_core::stable::Stable;
 
 /// The parser [`dec_uint`](crate::ascii::dec_uint), of each type of output.
 ///
@@ -37,12 +35,12 @@ where
 
     ghost state = { λ _. tt };
 
-    ghost states = { Is };
-
     ghost meaning = { λ form. Keeps
         (λ _. DecUintRuns O.number O.bound I.seen_as I.Token.code I.reading form) };
 
-    ghost says = { λ _. number_says (unsigned_numbers O.number O.bound) I.seen_as I.Token.code };
+    ghost does = { DecUintDoes O.number O.bound I.seen_as I.Token.code I.reading };
+
+    ghost terms = { record { premise = ⊤; stable = ⊤; alike = OneNumber O.number } };
 
     ghost claim = { λ s. record {
       premise = ⊤;
@@ -55,8 +53,11 @@ where
     ghost leaves_ends = { λ form x i answer y j r. number_ends
         (unsigned_numbers O.number O.bound) I.seen_as I.Token.code I.reading form i answer j r.0 };
 
-    ghost said = { λ _. number_said (unsigned_numbers O.number O.bound) I.seen_as I.Token.code
-        I.reading I.one_code (unsigned_apart O.bound) };
+    ghost covers = { λ _ at. number_covered (unsigned_numbers O.number O.bound) I.seen_as
+        I.Token.code I.reading };
+
+    ghost lawful = { λ _. number_law (unsigned_numbers O.number O.bound) I.seen_as I.Token.code
+        I.reading I.one_code (unsigned_apart O.number O.bound) };
 
     ghost claimed = { λ s. record {
       exact = λ form is. dec_uint_exact I.seen_as I.Token.code I.reading O.number O.bound form
@@ -70,15 +71,4 @@ where
     fn parse_next(&mut self, input: &mut I) -> Result<O, E> {
         dec_uint(input)
     }
-}
-
-impl<I: StreamIsPartial + SlicesAsBytes, O: Uint, E: ParserError<I>> Stable<I, O, E> for DecUint
-where
-    I::Token: AsChar,
-    I::Slice: AsBStr,
-{
-    ghost stable = { leaf_stays I.following _
-        (λ _. number_stays (unsigned_numbers O.number O.bound) I.seen_as I.Token.code I.reading) };
-
-    fn stay() {}
 }

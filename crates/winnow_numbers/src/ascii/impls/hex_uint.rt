@@ -3,14 +3,13 @@ ghost use Rattle.std.specs.Prelude.{◌≡◌, ◌+◌, ◌*◌, ◌^◌, ◌<�
 ghost use Rattle.std.proofs.Common.{arith};
 ghost use Rattle.winnow_core.specs.Exact.Allowed.{backs};
 ghost use Rattle.winnow_core.specs.Runs.{Keeps};
-ghost use Rattle.winnow_core.specs.Says.{Is};
-ghost use Rattle.winnow_core.specs.Stable.Grows.{leaf_stays};
 ghost use Rattle.winnow_numbers.specs.HexUint.{HexUintRuns};
 ghost use Rattle.winnow_numbers.specs.HexUint.Laws.{hex_uint_exact, hex_uint_fails};
 ghost use Rattle.winnow_numbers.specs.HexUint.Laws.{hexadecimal_takes};
-ghost use Rattle.winnow_numbers.specs.HexUint.Laws.{hex_uint_ends, hex_uint_stays};
+ghost use Rattle.winnow_numbers.specs.HexUint.Laws.{hex_uint_ends};
 ghost use Rattle.winnow_numbers.specs.Numeral.Grammar.{Hexadecimal};
-ghost use Rattle.winnow_numbers.specs.HexUint.Says.{hex_uint_said, hex_uint_says};
+ghost use Rattle.parser_definitions.specs.HexUint.{HexUintDoes, OneNumber, hex_uint_law};
+ghost use Rattle.winnow_numbers.specs.Covers.{hex_uint_covered};
 
 use crate::ascii::hex_uint;
 use crate::ascii::impls::hex_uint::sealed::SealedMarker;
@@ -19,7 +18,6 @@ use stream_sets::as_bstr::{AsBStr, SlicesAsBytes};
 use stream_sets::as_char::AsChar;
 use streams::stream::StreamIsPartial;
 use winnow_core::parser::Parser;
-use winnow_core::stable::Stable;
 
 pub(crate) mod sealed {
     /// A value that only this crate can pass to
@@ -196,12 +194,12 @@ where
 
     ghost state = { λ _. tt };
 
-    ghost states = { Is };
-
     ghost meaning = { λ form. Keeps
         (λ _. HexUintRuns O.number O.nibbles I.seen_as I.Token.code I.reading form) };
 
-    ghost says = { λ _. hex_uint_says O.number O.nibbles I.seen_as I.Token.code };
+    ghost does = { HexUintDoes O.number O.nibbles I.seen_as I.Token.code I.reading };
+
+    ghost terms = { record { premise = ⊤; stable = ⊤; alike = OneNumber O.number } };
 
     ghost claim = { λ s. record {
       premise = ⊤;
@@ -214,7 +212,9 @@ where
     ghost leaves_ends = { λ form x i answer y j r. hex_uint_ends O.number O.nibbles I.seen_as
         I.Token.code I.reading form i answer j r.0 };
 
-    ghost said = { λ _. hex_uint_said O.number O.nibbles I.seen_as I.Token.code I.reading
+    ghost covers = { λ _ at. hex_uint_covered O.number O.nibbles I.seen_as I.Token.code I.reading };
+
+    ghost lawful = { λ _. hex_uint_law O.number O.nibbles I.seen_as I.Token.code I.reading
         I.one_code };
 
     ghost claimed = { λ s. record {
@@ -229,16 +229,4 @@ where
     fn parse_next(&mut self, input: &mut I) -> Result<O, E> {
         hex_uint(input)
     }
-}
-
-impl<I: StreamIsPartial + SlicesAsBytes, O: HexUint, E: ParserError<I>> Stable<I, O, E>
-    for HexUintParser
-where
-    I::Token: AsChar,
-    I::Slice: AsBStr,
-{
-    ghost stable = { leaf_stays I.following _
-        (λ _. hex_uint_stays I.seen_as I.Token.code I.reading O.number O.nibbles) };
-
-    fn stay() {}
 }

@@ -4,12 +4,16 @@
 ghost use Rattle.std.specs.Prelude.{◌≡◌, true};
 ghost use Rattle.stream_errors.specs.Form.{answer_by};
 ghost use Rattle.streams.specs.Input.{IsEndOf};
-ghost use Rattle.winnow_recovery.specs.Recovery.{Recovery, WhereNoneRecovers, recovery_of};
+ghost use Rattle.winnow_recovery.specs.Recovery.{recovery_of};
 ghost use Rattle.winnow_recovery.specs.RetryAfter.Laws.{retry_after_ends};
 ghost use Rattle.winnow_recovery.specs.RetryAfter.{RetryAfterRuns, RetryRuns, retry_after_parser};
 ghost use Rattle.winnow_recovery.specs.RetryAfter.{retry_after_recover};
 ghost use Rattle.winnow_core.specs.Claim.{no_claim, nothing_claimed};
-ghost use Rattle.winnow_recovery.specs.RetryAfter.Says.{retry_after_said, retry_after_says};
+ghost use Rattle.std.proofs.Common.{refl};
+ghost use Rattle.parser_definitions.specs.Does.{wider_law};
+ghost use Rattle.parser_definitions.specs.Recover.{NeverAsks, Recovery};
+ghost use Rattle.parser_definitions.specs.Retry.{RetryAfterDoes, retry_after_law};
+ghost use Rattle.winnow_recovery.specs.Covers.{retry_after_covered};
 
 use crate::combinator::{can_recover, recover_from};
 use std::marker::PhantomData;
@@ -77,18 +81,25 @@ impl<
       recovery_of I.supports_recovery E.recoverable_grows,
     ) };
 
-    ghost states = { λ s. WhereNoneRecovers (P.states s.0) s.1 s.2 };
-
     ghost meaning = { λ form. RetryAfterRuns (P.meaning form) (R.meaning form) };
 
-    ghost says = { λ s. retry_after_says s.2 (P.says s.0) };
+    ghost does = { RetryAfterDoes P.does R.does };
+
+    ghost terms = { record {
+      premise = P.terms.premise × R.terms.premise;
+      stable = P.terms.stable × (R.terms.stable × NeverAsks R.does);
+      alike = P.terms.alike;
+    } };
 
     ghost claim = { λ _. no_claim };
 
     ghost leaves_ends = { λ form. retry_after_ends I.reading (P.meaning form) (R.meaning form)
         (P.leaves_ends form) (R.leaves_ends form) };
 
-    ghost said = { λ s. retry_after_said R.meaning s (P.said s.0) };
+    ghost covers = { λ is at. retry_after_covered (P.covers is.0 at) (R.covers is.1 at) };
+
+    ghost lawful = { λ is. retry_after_law (P.lawful is.0)
+        (wider_law (λ o p like. refl) (R.lawful is.1)) };
 
     ghost claimed = { λ _. nothing_claimed };
 

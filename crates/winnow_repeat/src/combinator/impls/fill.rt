@@ -1,18 +1,17 @@
 //! A buffer that is filled.
-ghost use Rattle.std.specs.Prelude.{length};
-ghost use Rattle.stream_errors.specs.Form.{answer_by, modal};
+ghost use Rattle.stream_errors.specs.Form.{answer_by};
 ghost use Rattle.streams.specs.Input.{IsEndOf};
-ghost use Rattle.winnow_core.specs.Stable.Grows.{grows, stays};
-ghost use Rattle.winnow_repeat.specs.Fill.{Buffer, FillRuns, FillsElements, fill_buffer};
-ghost use Rattle.winnow_repeat.specs.Fill.Laws.{fill_ends, fill_grows};
+ghost use Rattle.winnow_repeat.specs.Fill.{FillRuns, FillsElements, fill_buffer};
+ghost use Rattle.winnow_repeat.specs.Fill.Laws.{fill_ends};
 ghost use Rattle.winnow_core.specs.Claim.{no_claim, nothing_claimed};
-ghost use Rattle.winnow_repeat.specs.Fill.Says.{FillStates, fill_said, fill_says};
+ghost use Rattle.std.specs.Prelude.{◌≡◌};
+ghost use Rattle.parser_definitions.specs.Fill.{Buffer, FillDoes, fill_law};
+ghost use Rattle.winnow_repeat.specs.Covers.Fill.{fill_covered};
 
 use std::marker::PhantomData;
 use stream_errors::parser_error::ParserError;
 use streams::stream::Stream;
 use winnow_core::parser::Parser;
-use winnow_core::stable::Stable;
 
 /// The parser that [`fill`](crate::combinator::fill) makes.
 ///
@@ -36,30 +35,29 @@ impl<'b, P: Parser<I, O, E>, I: Stream, O: Drop, E: ParserError<I>> Parser<I, ()
 
     ghost state = { λ s. (P.state s.parser, fill_buffer s) };
 
-    ghost states = { λ s. FillStates (P.states s.0) s.1 };
-
     ghost meaning = { λ form. FillRuns (P.meaning form) };
 
-    ghost says = { λ s. fill_says (length s.1.elements) (P.says s.0) };
+    ghost does = { FillDoes P.does };
+
+    ghost terms = { record {
+      premise = P.terms.premise × ((o p : O) → P.terms.alike o p → o ≡ p);
+      stable = P.terms.stable;
+      alike = λ o p. o ≡ p;
+    } };
 
     ghost claim = { λ _. no_claim };
 
     ghost leaves_ends = { λ form. fill_ends I.reading (P.meaning form) (P.leaves_ends form) };
 
-    ghost said = { λ s. fill_said (P.said s.0) };
+    ghost covers = { λ is at. fill_covered (P.covers is.0 at) };
+
+    ghost lawful = { λ is. fill_law (P.lawful is.0) is.1 };
 
     ghost claimed = { λ _. nothing_claimed };
 
     fn parse_next(&mut self, input: &mut I) -> Result<(), E> {
         fill_each(&mut self.parser, self.buffer, input)
     }
-}
-
-impl<'b, P: Stable<I, O, E>, I: Stream, O: Drop, E: ParserError<I>> Stable<I, (), E>
-    for Fill<'b, P, I, O, E> {
-    ghost stable = { stays (fill_grows (P.meaning modal) (grows (P.leaves_ends modal) P.stable)) };
-
-    fn stay() {}
 }
 
 /// Overwrites each element of a buffer with the output of a call.

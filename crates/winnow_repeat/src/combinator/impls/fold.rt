@@ -8,12 +8,13 @@ ghost use Rattle.grammars.specs.Grammar.Folded.{FoldOf, Folded, StaysFolding, St
 ghost use Rattle.grammars.specs.Grammar.Unique.{repeated_take};
 ghost use Rattle.stream_errors.specs.Form.{answer_by, assert_kind, modal};
 ghost use Rattle.winnow_core.specs.Exact.Allowed.{fails_as, softly};
-ghost use Rattle.winnow_core.specs.Says.{With};
-ghost use Rattle.winnow_core.specs.Stable.Grows.{grows, stays};
 ghost use Rattle.winnow_repeat.specs.Fold.{FoldOneRuns, FoldTakes, RangedFolds, fold_closure};
 ghost use Rattle.winnow_repeat.specs.Fold.Exact.{fold_exact, fold_fails};
-ghost use Rattle.winnow_repeat.specs.Fold.Laws.{ranged_folds_end, fold_grows};
-ghost use Rattle.winnow_repeat.specs.Fold.Says.{fold_said, fold_says};
+ghost use Rattle.winnow_repeat.specs.Fold.Laws.{ranged_folds_end};
+ghost use Rattle.parser_definitions.specs.Closures.{folding};
+ghost use Rattle.parser_definitions.specs.Fold.{FoldDoes, FoldsAlike, MakesOne, fold_law};
+ghost use Rattle.parser_definitions.specs.Folding.{Built};
+ghost use Rattle.winnow_repeat.specs.Covers.Fold.{fold_covered};
 
 use crate::combinator::folding::{Folding, fold_items, fold_range};
 use std::marker::PhantomData;
@@ -21,7 +22,6 @@ use stream_errors::parser_error::ParserError;
 use stream_sets::range::Range;
 use streams::stream::Stream;
 use winnow_core::parser::Parser;
-use winnow_core::stable::Stable;
 
 /// A closure that folds each output into a value.
 #[derive(Drop)]
@@ -108,11 +108,17 @@ impl<
 
     ghost state = { λ s. (P.state s.parser, (s.occurrences, (s.init, s.op.closure))) };
 
-    ghost states = { λ s. With (P.states s.0) s.1 };
-
     ghost meaning = { λ form. RangedFolds G.step H.step (P.meaning form) (assert_kind form) };
 
-    ghost says = { λ s. fold_says G.step H.step s.1 (P.says s.0) };
+    ghost does = { FoldDoes G.step H.step P.does };
+
+    ghost terms = { record {
+      premise = P.terms.premise × MakesOne G.step
+          × FoldsAlike (λ _ _. ⊤) (Built (folding G.step H.step) P.terms.alike) P.terms.alike
+          H.step;
+      stable = P.terms.stable;
+      alike = Built (folding G.step H.step) P.terms.alike;
+    } };
 
     ghost claim = { λ s. record {
       premise = (P.claim s.0).premise × (P.claim s.0).backtracks × (P.claim s.0).consumes
@@ -127,7 +133,9 @@ impl<
     ghost leaves_ends = { λ form. ranged_folds_end I.reading G.step H.step (P.meaning form)
         (assert_kind form) (P.leaves_ends form) };
 
-    ghost said = { λ s. fold_said G.step H.step s (P.said s.0) };
+    ghost covers = { λ is at. fold_covered G.step H.step (P.covers is.0 at) };
+
+    ghost lawful = { λ is. fold_law G.step H.step is.1 is.2 (P.lawful is.0) };
 
     ghost claimed = { λ s. record {
       exact = λ form is. fold_exact (P.meaning form) G.step s.1.1.0 is.4 H.step s.1.1.1 is.5
@@ -155,22 +163,6 @@ impl<
             )
         }
     }
-}
-
-impl<
-    P: Stable<I, O, E>,
-    G: FnMut() -> R,
-    H: FnMut(R, O) -> R,
-    I: Stream,
-    O: Drop,
-    R: Drop,
-    E: ParserError<I>,
-> Stable<I, R, E> for RepeatFold<P, G, H, I, O, R, E> {
-    ghost stable = { stays
-        (fold_grows G.step H.step (P.meaning modal) (assert_kind modal)
-        (grows (P.leaves_ends modal) P.stable)) };
-
-    fn stay() {}
 }
 
 /// Folds one or more items: the value is created after the first.

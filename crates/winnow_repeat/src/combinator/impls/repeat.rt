@@ -6,16 +6,16 @@ ghost use Rattle.stream_sets.specs.declared.range.Range.{Range};
 ghost use Rattle.grammars.specs.Grammar.{Repeated};
 ghost use Rattle.stream_errors.specs.Form.{answer_by, assert_kind, modal};
 ghost use Rattle.winnow_core.specs.Exact.Allowed.{fails_as, wanted, softly};
-ghost use Rattle.winnow_core.specs.Says.{With};
-ghost use Rattle.winnow_core.specs.Stable.Grows.{grows, stays};
 ghost use Rattle.winnow_repeat.specs.Fold.{fold_closure};
 ghost use Rattle.winnow_repeat.specs.Repeat.{RangedRuns, RepeatOneRuns, repeat_occurrences};
 ghost use Rattle.winnow_repeat.specs.Repeat.{repeat_parser};
 ghost use Rattle.winnow_repeat.specs.Repeat.Exact.{repeat_exact, repeat_fails, repeat_takes};
-ghost use Rattle.winnow_repeat.specs.Repeat.Laws.{ranged_ends, repeat_grows};
+ghost use Rattle.winnow_repeat.specs.Repeat.Laws.{ranged_ends};
 ghost use Rattle.winnow_repeat.specs.TryFold.{try_fold_closure};
 ghost use Rattle.winnow_repeat.specs.VerifyFold.{verify_fold_closure};
-ghost use Rattle.winnow_repeat.specs.Repeat.Says.{repeat_said, repeat_says};
+ghost use Rattle.parser_definitions.specs.Folding.{Built, gathering};
+ghost use Rattle.parser_definitions.specs.Repeat.{RepeatDoes, repeat_law};
+ghost use Rattle.winnow_repeat.specs.Covers.Repeat.{repeat_covered};
 
 use crate::combinator::impls::{RepeatFold, RepeatTryFold, RepeatVerifyFold};
 use crate::combinator::items::{repeat_items, repeat_many};
@@ -27,7 +27,6 @@ use stream_sets::accumulate::Accumulate;
 use stream_sets::range::Range;
 use streams::stream::Stream;
 use winnow_core::parser::Parser;
-use winnow_core::stable::Stable;
 
 /// The parser that [`repeat`](crate::combinator::repeat) makes.
 ///
@@ -137,11 +136,15 @@ impl<
 
     ghost state = { λ s. (P.state s.parser, s.occurrences) };
 
-    ghost states = { λ s. With (P.states s.0) s.1 };
-
     ghost meaning = { λ form. RangedRuns (P.meaning form) C.accumulator (assert_kind form) };
 
-    ghost says = { λ s. repeat_says C.accumulator C.holds (bounds_of s.1) (P.says s.0) };
+    ghost does = { RepeatDoes C.accumulator P.does };
+
+    ghost terms = { record {
+      premise = P.terms.premise;
+      stable = P.terms.stable;
+      alike = Built (gathering {Q = P.State × Range} C.accumulator) P.terms.alike;
+    } };
 
     ghost claim = { λ s. record {
       premise = (P.claim s.0).premise × (P.claim s.0).backtracks × (P.claim s.0).consumes
@@ -155,7 +158,9 @@ impl<
     ghost leaves_ends = { λ form. ranged_ends I.reading (P.meaning form) C.accumulator
         (assert_kind form) (P.leaves_ends form) };
 
-    ghost said = { λ s. repeat_said C.accumulator C.holds C.gathers s (P.said s.0) };
+    ghost covers = { λ is at. repeat_covered C.accumulator (P.covers is at) };
+
+    ghost lawful = { λ is. repeat_law C.accumulator (P.lawful is) };
 
     ghost claimed = { λ s. record {
       exact = λ form is. repeat_exact C.accumulator (assert_kind form) s C.holds C.gathers
@@ -183,21 +188,6 @@ impl<
             Some(most) => repeat_many(self.alloc, least, Some(most), &mut self.parser, input),
         }
     }
-}
-
-impl<
-    P: Stable<I, O, E>,
-    I: Stream,
-    O: Drop,
-    C: Accumulate<O, A>,
-    E: ParserError<I>,
-    A: Allocator + Copy,
-> Stable<I, C, E> for Repeat<P, I, O, C, E, A> {
-    ghost stable = { stays
-        (repeat_grows (P.meaning modal) C.accumulator (assert_kind modal)
-        (grows (P.leaves_ends modal) P.stable)) };
-
-    fn stay() {}
 }
 
 /// Repeats one or more times: the accumulator is created after the first item.

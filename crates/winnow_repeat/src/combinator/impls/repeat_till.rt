@@ -6,14 +6,14 @@ ghost use Rattle.stream_sets.specs.declared.range.Range.{Range};
 ghost use Rattle.grammars.specs.Grammar.Till.{Till, till_takes};
 ghost use Rattle.stream_errors.specs.Form.{answer_by, assert_kind, modal};
 ghost use Rattle.winnow_core.specs.Exact.Allowed.{fails_as, wanted, softly};
-ghost use Rattle.winnow_core.specs.InOrder.Says.{Three};
-ghost use Rattle.winnow_core.specs.Says.{Is};
-ghost use Rattle.winnow_core.specs.Stable.Grows.{grows, stays};
 ghost use Rattle.winnow_repeat.specs.RepeatTill.{LeastItemsRun, RangedTillRuns, TurnsRun};
 ghost use Rattle.winnow_repeat.specs.RepeatTill.Errors.{repeat_till_fails};
 ghost use Rattle.winnow_repeat.specs.RepeatTill.Exact.{repeat_till_exact};
-ghost use Rattle.winnow_repeat.specs.RepeatTill.Laws.{repeat_till_ends, repeat_till_grows};
-ghost use Rattle.winnow_repeat.specs.RepeatTill.Says.{repeat_till_said, repeat_till_says};
+ghost use Rattle.winnow_repeat.specs.RepeatTill.Laws.{repeat_till_ends};
+ghost use Rattle.parser_definitions.specs.Equal.{AlikePairs};
+ghost use Rattle.parser_definitions.specs.Folding.{Built, gathering};
+ghost use Rattle.parser_definitions.specs.RepeatTill.{RepeatTillDoes, repeat_till_law};
+ghost use Rattle.winnow_repeat.specs.Covers.RepeatTill.{repeat_till_covered};
 
 use crate::combinator::items::is_descending;
 use std::alloc::Allocator;
@@ -23,7 +23,6 @@ use stream_sets::accumulate::Accumulate;
 use stream_sets::range::Range;
 use streams::stream::Stream;
 use winnow_core::parser::Parser;
-use winnow_core::stable::Stable;
 
 /// The parser that [`repeat_till`](crate::combinator::repeat_till) makes.
 ///
@@ -56,13 +55,18 @@ impl<
 
     ghost state = { λ s. (P.state s.parser, G.state s.terminator, s.occurrences) };
 
-    ghost states = { λ s. Three (P.states s.0) (G.states s.1) (Is s.2) };
-
     ghost meaning = { λ form. RangedTillRuns (P.meaning form) (G.meaning form) C.accumulator
         (assert_kind form) };
 
-    ghost says = { λ s. repeat_till_says C.accumulator C.holds (bounds_of s.2) (P.says s.0)
-        (G.says s.1) };
+    ghost does = { RepeatTillDoes C.accumulator P.does G.does };
+
+    ghost terms = { record {
+      premise = P.terms.premise × G.terms.premise;
+      stable = P.terms.stable × G.terms.stable;
+      alike = AlikePairs
+          (Built (gathering {Q = P.State × G.State × Range} C.accumulator) P.terms.alike)
+          G.terms.alike;
+    } };
 
     ghost claim = { λ s. record {
       premise = (P.claim s.0).premise × (P.claim s.0).backtracks × (P.claim s.0).consumes
@@ -78,8 +82,10 @@ impl<
     ghost leaves_ends = { λ form. repeat_till_ends I.reading (P.meaning form) (G.meaning form)
         C.accumulator (assert_kind form) (P.leaves_ends form) (G.leaves_ends form) };
 
-    ghost said = { λ s. repeat_till_said C.accumulator C.holds C.gathers s (P.said s.0)
-        (G.said s.1) };
+    ghost covers = { λ is at. repeat_till_covered C.accumulator (P.covers is.0 at)
+        (G.covers is.1 at) };
+
+    ghost lawful = { λ is. repeat_till_law C.accumulator (P.lawful is.0) (G.lawful is.1) };
 
     ghost claimed = { λ s. record {
       exact = λ form is. repeat_till_exact C.accumulator (assert_kind form) s C.holds
@@ -112,24 +118,6 @@ impl<
             Err(_) => Err(E::no_memory(input)),
         }
     }
-}
-
-impl<
-    P: Stable<I, O, E>,
-    G: Stable<I, D, E>,
-    I: Stream,
-    O: Drop,
-    D,
-    C: Accumulate<O, A>,
-    E: ParserError<I>,
-    A: Allocator + Copy,
-> Stable<I, (C, D), E> for RepeatTill<P, G, I, O, D, C, E, A> {
-    ghost stable = { stays
-        (repeat_till_grows (P.meaning modal) (G.meaning modal) C.accumulator
-        (assert_kind modal) (grows (P.leaves_ends modal) P.stable)
-        (grows (G.leaves_ends modal) G.stable)) };
-
-    fn stay() {}
 }
 
 /// Parses `least` items into an accumulator. They may consume no input.

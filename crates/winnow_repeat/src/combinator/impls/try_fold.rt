@@ -1,15 +1,17 @@
 //! Repetition whose outputs are folded into a value by a closure that may fail.
 ghost use Rattle.std.specs.Prelude.{◌≡◌};
-ghost use Rattle.stream_errors.specs.Form.{assert_kind, modal};
+ghost use Rattle.stream_errors.specs.Form.{assert_kind};
 ghost use Rattle.stream_errors.specs.Given.{Keeping, KindGiven};
 ghost use Rattle.stream_sets.specs.declared.range.Range.{Range};
 ghost use Rattle.streams.specs.Kind.{backtrack};
-ghost use Rattle.winnow_core.specs.Says.{With};
-ghost use Rattle.winnow_core.specs.Stable.Grows.{grows, stays};
-ghost use Rattle.winnow_repeat.specs.Fold.Laws.{ranged_fold_many_ends, fold_any_grows};
+ghost use Rattle.winnow_repeat.specs.Fold.Laws.{ranged_fold_many_ends};
 ghost use Rattle.winnow_repeat.specs.TryFold.{TryFoldRuns, TryFoldTakes, try_fold_closure};
 ghost use Rattle.winnow_core.specs.Claim.{no_claim, nothing_claimed};
-ghost use Rattle.winnow_repeat.specs.TryFold.Says.{try_fold_said, try_fold_says};
+ghost use Rattle.parser_definitions.specs.Closures.{trying};
+ghost use Rattle.parser_definitions.specs.Fold.{BothOrFail, FoldsAlike, MakesOne, TryFoldDoes};
+ghost use Rattle.parser_definitions.specs.Fold.{try_fold_law};
+ghost use Rattle.parser_definitions.specs.Folding.{Built};
+ghost use Rattle.winnow_repeat.specs.Covers.Fold.{try_fold_covered};
 
 use crate::combinator::folding::{Folding, fold_range};
 use std::marker::PhantomData;
@@ -18,7 +20,6 @@ use stream_errors::parser_error::ParserError;
 use stream_sets::range::Range;
 use streams::stream::Stream;
 use winnow_core::parser::Parser;
-use winnow_core::stable::Stable;
 
 /// A closure that folds each output into a value, or fails.
 #[derive(Drop)]
@@ -121,18 +122,26 @@ impl<
     ghost state = { λ s.
         (P.state s.parser, (s.occurrences, (s.init, (s.op.closure, E.external_gives)))) };
 
-    ghost states = { λ s. With (P.states s.0) s.1 };
-
     ghost meaning = { λ form. TryFoldRuns G.step H.step (P.meaning form) (assert_kind form) };
 
-    ghost says = { λ s. try_fold_says G.step H.step s.1 (P.says s.0) };
+    ghost does = { TryFoldDoes G.step H.step P.does };
+
+    ghost terms = { record {
+      premise = P.terms.premise × MakesOne G.step
+          × FoldsAlike BothOrFail (Built (trying G.step H.step) P.terms.alike)
+          P.terms.alike H.step;
+      stable = P.terms.stable;
+      alike = Built (trying G.step H.step) P.terms.alike;
+    } };
 
     ghost claim = { λ _. no_claim };
 
     ghost leaves_ends = { λ form. ranged_fold_many_ends I.reading G.step
         (TryFoldTakes H.step) (P.meaning form) (assert_kind form) (P.leaves_ends form) };
 
-    ghost said = { λ s. try_fold_said G.step H.step s (P.said s.0) };
+    ghost covers = { λ is at. try_fold_covered G.step H.step (P.covers is.0 at) };
+
+    ghost lawful = { λ is. try_fold_law G.step H.step is.1 is.2 (P.lawful is.0) };
 
     ghost claimed = { λ _. nothing_claimed };
 
@@ -145,21 +154,4 @@ impl<
             input,
         )
     }
-}
-
-impl<
-    P: Stable<I, O, E>,
-    G: FnMut() -> R,
-    H: FnMut(R, O) -> Result<R, X>,
-    I: Stream,
-    O: Drop,
-    R: Drop,
-    E: ParserError<I> + FromExternalError<I, X>,
-    X,
-> Stable<I, R, E> for RepeatTryFold<P, G, H, I, O, R, E, X> {
-    ghost stable = { stays
-        (fold_any_grows G.step (TryFoldTakes H.step) (P.meaning modal) (assert_kind modal)
-        (grows (P.leaves_ends modal) P.stable)) };
-
-    fn stay() {}
 }

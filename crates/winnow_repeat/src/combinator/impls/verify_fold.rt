@@ -1,15 +1,17 @@
 //! The implementation of `verify_fold`.
 ghost use Rattle.std.specs.Prelude.{◌≡◌};
-ghost use Rattle.stream_errors.specs.Form.{assert_kind, modal};
+ghost use Rattle.stream_errors.specs.Form.{assert_kind};
 ghost use Rattle.stream_sets.specs.declared.range.Range.{Range};
 ghost use Rattle.streams.specs.Kind.{backtrack};
-ghost use Rattle.winnow_core.specs.Says.{With};
-ghost use Rattle.winnow_core.specs.Stable.Grows.{grows, stays};
-ghost use Rattle.winnow_repeat.specs.Fold.Laws.{ranged_fold_many_ends, fold_any_grows};
+ghost use Rattle.winnow_repeat.specs.Fold.Laws.{ranged_fold_many_ends};
 ghost use Rattle.winnow_repeat.specs.VerifyFold.{VerifyFoldRuns, VerifyFoldTakes};
 ghost use Rattle.winnow_repeat.specs.VerifyFold.{verify_fold_closure};
 ghost use Rattle.winnow_core.specs.Claim.{no_claim, nothing_claimed};
-ghost use Rattle.winnow_repeat.specs.VerifyFold.Says.{verify_fold_said, verify_fold_says};
+ghost use Rattle.parser_definitions.specs.Closures.{verifying};
+ghost use Rattle.parser_definitions.specs.Fold.{BothOrNone, FoldsAlike, MakesOne, VerifyFoldDoes};
+ghost use Rattle.parser_definitions.specs.Fold.{verify_fold_law};
+ghost use Rattle.parser_definitions.specs.Folding.{Built};
+ghost use Rattle.winnow_repeat.specs.Covers.Fold.{verify_fold_covered};
 
 use crate::combinator::folding::{Folding, fold_range};
 use std::marker::PhantomData;
@@ -17,7 +19,6 @@ use stream_errors::parser_error::ParserError;
 use stream_sets::range::Range;
 use streams::stream::Stream;
 use winnow_core::parser::Parser;
-use winnow_core::stable::Stable;
 
 /// A closure that folds each output into a value, or rejects it.
 #[derive(Drop)]
@@ -108,18 +109,26 @@ impl<
 
     ghost state = { λ s. (P.state s.parser, (s.occurrences, (s.init, s.op.closure))) };
 
-    ghost states = { λ s. With (P.states s.0) s.1 };
-
     ghost meaning = { λ form. VerifyFoldRuns G.step H.step (P.meaning form) (assert_kind form) };
 
-    ghost says = { λ s. verify_fold_says G.step H.step s.1 (P.says s.0) };
+    ghost does = { VerifyFoldDoes G.step H.step P.does };
+
+    ghost terms = { record {
+      premise = P.terms.premise × MakesOne G.step
+          × FoldsAlike BothOrNone (Built (verifying G.step H.step) P.terms.alike)
+          P.terms.alike H.step;
+      stable = P.terms.stable;
+      alike = Built (verifying G.step H.step) P.terms.alike;
+    } };
 
     ghost claim = { λ _. no_claim };
 
     ghost leaves_ends = { λ form. ranged_fold_many_ends I.reading G.step
         (VerifyFoldTakes H.step) (P.meaning form) (assert_kind form) (P.leaves_ends form) };
 
-    ghost said = { λ s. verify_fold_said G.step H.step s (P.said s.0) };
+    ghost covers = { λ is at. verify_fold_covered G.step H.step (P.covers is.0 at) };
+
+    ghost lawful = { λ is. verify_fold_law G.step H.step is.1 is.2 (P.lawful is.0) };
 
     ghost claimed = { λ _. nothing_claimed };
 
@@ -132,20 +141,4 @@ impl<
             input,
         )
     }
-}
-
-impl<
-    P: Stable<I, O, E>,
-    G: FnMut() -> R,
-    H: FnMut(R, O) -> Option<R>,
-    I: Stream,
-    O: Drop,
-    R: Drop,
-    E: ParserError<I>,
-> Stable<I, R, E> for RepeatVerifyFold<P, G, H, I, O, R, E> {
-    ghost stable = { stays
-        (fold_any_grows G.step (VerifyFoldTakes H.step) (P.meaning modal) (assert_kind modal)
-        (grows (P.leaves_ends modal) P.stable)) };
-
-    fn stay() {}
 }

@@ -6,14 +6,14 @@ ghost use Rattle.stream_sets.specs.declared.range.Range.{Range};
 ghost use Rattle.grammars.specs.Grammar.{SeparatedBy};
 ghost use Rattle.stream_errors.specs.Form.{answer_by, assert_kind, modal};
 ghost use Rattle.winnow_core.specs.Exact.Allowed.{fails_as, wanted, softly};
-ghost use Rattle.winnow_core.specs.Stable.Grows.{grows, stays};
 ghost use Rattle.winnow_separated.specs.Separated.{ElementsRun, LinksRun, RangedElements};
 ghost use Rattle.winnow_separated.specs.Separated.{SeparatedRuns};
 ghost use Rattle.winnow_separated.specs.Separated.Exact.{separated_exact, separated_fails};
 ghost use Rattle.winnow_separated.specs.Separated.Exact.{separated_takes};
-ghost use Rattle.winnow_separated.specs.Separated.Laws.{separated_ends, separated_grows};
-ghost use Rattle.winnow_separated.specs.Separated.Says.{BothWith, separated_said};
-ghost use Rattle.winnow_separated.specs.Separated.Says.{separated_says};
+ghost use Rattle.winnow_separated.specs.Separated.Laws.{separated_ends};
+ghost use Rattle.parser_definitions.specs.Folding.{Built, gathering};
+ghost use Rattle.parser_definitions.specs.Separated.{SeparatedDoes, separated_law};
+ghost use Rattle.winnow_separated.specs.Covers.{separated_covered};
 
 use crate::combinator::impls::link::Link;
 use std::alloc::Allocator;
@@ -23,7 +23,6 @@ use stream_sets::accumulate::Accumulate;
 use stream_sets::range::Range;
 use streams::stream::Stream;
 use winnow_core::parser::Parser;
-use winnow_core::stable::Stable;
 use winnow_repeat::combinator::items::is_descending;
 
 /// The parser that [`separated`](crate::combinator::separated) makes.
@@ -56,13 +55,16 @@ impl<
 
     ghost state = { λ s. (P.state s.link.parser, S.state s.link.separator, s.occurrences) };
 
-    ghost states = { λ s. BothWith (P.states s.0) (S.states s.1) s.2 };
-
     ghost meaning = { λ form. RangedElements (P.meaning form) (S.meaning form) C.accumulator
         (assert_kind form) };
 
-    ghost says = { λ s. separated_says C.accumulator C.holds (bounds_of s.2) (P.says s.0)
-        (S.says s.1) };
+    ghost does = { SeparatedDoes C.accumulator P.does S.does };
+
+    ghost terms = { record {
+      premise = P.terms.premise × S.terms.premise;
+      stable = P.terms.stable × S.terms.stable;
+      alike = Built (gathering {Q = P.State × S.State × Range} C.accumulator) P.terms.alike;
+    } };
 
     ghost claim = { λ s. record {
       premise = (P.claim s.0).premise × (P.claim s.0).backtracks × (S.claim s.1).premise
@@ -78,8 +80,10 @@ impl<
     ghost leaves_ends = { λ form. separated_ends I.reading (P.meaning form) (S.meaning form)
         C.accumulator (assert_kind form) (P.leaves_ends form) (S.leaves_ends form) };
 
-    ghost said = { λ s. separated_said C.accumulator C.holds C.gathers s (P.said s.0)
-        (S.said s.1) };
+    ghost covers = { λ is at. separated_covered I.reading C.accumulator (P.leaves_ends at.form)
+        (P.covers is.0 at) (S.covers is.1 at) };
+
+    ghost lawful = { λ is. separated_law C.accumulator (P.lawful is.0) (S.lawful is.1) };
 
     ghost claimed = { λ s. record {
       exact = λ form is. separated_exact C.accumulator (assert_kind form) s
@@ -103,23 +107,6 @@ impl<
         let greatest = self.occurrences.greatest();
         separated_many(self.alloc, least, greatest, &mut self.link, input)
     }
-}
-
-impl<
-    P: Stable<I, O, E>,
-    S: Stable<I, D, E>,
-    I: Stream,
-    O: Drop,
-    D: Drop,
-    C: Accumulate<O, A>,
-    E: ParserError<I>,
-    A: Allocator + Copy,
-> Stable<I, C, E> for Separated<P, S, I, O, D, C, E, A> {
-    ghost stable = { stays
-        (separated_grows (P.meaning modal) (S.meaning modal) C.accumulator (assert_kind modal)
-        (grows (P.leaves_ends modal) P.stable) (grows (S.leaves_ends modal) S.stable)) };
-
-    fn stay() {}
 }
 
 /// Parses elements into an accumulator, at least `least`, and at most `greatest` if there is a

@@ -1,22 +1,22 @@
 //! Elements with separators between them, folded to the left.
 ghost use Rattle.std.specs.Prelude.{◌≡◌};
-ghost use Rattle.stream_errors.specs.Form.{answer_by, assert_kind, modal};
+ghost use Rattle.stream_errors.specs.Form.{answer_by, assert_kind};
 ghost use Rattle.streams.specs.Input.{IsEndOf};
-ghost use Rattle.winnow_core.specs.Stable.Grows.{grows, stays};
-ghost use Rattle.winnow_separated.specs.Separated.Says.{BothWith};
 ghost use Rattle.winnow_separated.specs.SeparatedFoldl1.{JoinedLinksRun, SeparatedFoldl1Runs};
 ghost use Rattle.winnow_separated.specs.SeparatedFoldl1.{foldl1_parser};
 ghost use Rattle.winnow_separated.specs.SeparatedFoldl1.{foldl1_separator};
-ghost use Rattle.winnow_separated.specs.SeparatedFoldl1.Laws.{foldl1_ends, foldl1_grows};
+ghost use Rattle.winnow_separated.specs.SeparatedFoldl1.Laws.{foldl1_ends};
 ghost use Rattle.winnow_core.specs.Claim.{no_claim, nothing_claimed};
-ghost use Rattle.winnow_separated.specs.SeparatedFoldl1.Says.{foldl1_said, foldl1_says};
+ghost use Rattle.parser_definitions.specs.SeparatedFold.{AlikeLeft, JoinsAlike};
+ghost use Rattle.parser_definitions.specs.SeparatedFold.{SeparatedFoldl1Does};
+ghost use Rattle.parser_definitions.specs.SeparatedFold.{separated_foldl1_law};
+ghost use Rattle.winnow_separated.specs.Covers.Folds.{separated_foldl1_covered};
 
 use crate::combinator::impls::link::Link;
 use std::marker::PhantomData;
 use stream_errors::parser_error::ParserError;
 use streams::stream::Stream;
 use winnow_core::parser::Parser;
-use winnow_core::stable::Stable;
 
 /// The parser that [`separated_foldl1`](crate::combinator::separated_foldl1) makes.
 ///
@@ -63,19 +63,28 @@ impl<
 
     ghost state = { λ s. (P.state s.link.parser, S.state s.link.separator, s.op) };
 
-    ghost states = { λ s. BothWith (P.states s.0) (S.states s.1) s.2 };
-
     ghost meaning = { λ form. SeparatedFoldl1Runs H.step (P.meaning form) (S.meaning form)
         (assert_kind form) };
 
-    ghost says = { λ s. foldl1_says H.step s.2 (P.says s.0) (S.says s.1) };
+    ghost does = { SeparatedFoldl1Does H.step P.does S.does };
+
+    ghost terms = { record {
+      premise = P.terms.premise × S.terms.premise
+          × JoinsAlike S.terms.alike (AlikeLeft H.step P.terms.alike S.terms.alike)
+          P.terms.alike H.step;
+      stable = P.terms.stable × S.terms.stable;
+      alike = AlikeLeft H.step P.terms.alike S.terms.alike;
+    } };
 
     ghost claim = { λ _. no_claim };
 
     ghost leaves_ends = { λ form. foldl1_ends I.reading H.step (P.meaning form) (S.meaning form)
         (assert_kind form) (P.leaves_ends form) (S.leaves_ends form) };
 
-    ghost said = { λ s. foldl1_said H.step s (P.said s.0) (S.said s.1) };
+    ghost covers = { λ is at. separated_foldl1_covered H.step (P.covers is.0 at)
+        (S.covers is.1 at) };
+
+    ghost lawful = { λ is. separated_foldl1_law H.step is.2 (P.lawful is.0) (S.lawful is.1) };
 
     ghost claimed = { λ _. nothing_claimed };
 
@@ -83,22 +92,6 @@ impl<
         let first = self.link.parser.parse_next(input)?;
         join_left(first, &mut self.link, &mut self.op, input)
     }
-}
-
-impl<
-    P: Stable<I, O, E>,
-    S: Stable<I, D, E>,
-    H: FnMut(O, D, O) -> O,
-    I: Stream,
-    O: Drop,
-    D: Drop,
-    E: ParserError<I>,
-> Stable<I, O, E> for SeparatedFoldl1<P, S, H, I, O, D, E> {
-    ghost stable = { stays
-        (foldl1_grows H.step (P.meaning modal) (S.meaning modal) (assert_kind modal)
-        (grows (P.leaves_ends modal) P.stable) (grows (S.leaves_ends modal) S.stable)) };
-
-    fn stay() {}
 }
 
 /// Joins links to a first element, each as it is parsed, until one backtracks.

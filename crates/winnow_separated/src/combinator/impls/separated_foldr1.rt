@@ -1,21 +1,21 @@
 //! Elements with separators between them, folded to the right.
 ghost use Rattle.std.specs.Prelude.{◌≡◌};
-ghost use Rattle.stream_errors.specs.Form.{assert_kind, modal};
-ghost use Rattle.winnow_core.specs.Stable.Grows.{grows, stays};
-ghost use Rattle.winnow_separated.specs.Separated.Says.{BothWith};
+ghost use Rattle.stream_errors.specs.Form.{assert_kind};
 ghost use Rattle.winnow_separated.specs.SeparatedFoldr1.{FoldsRight, SeparatedFoldr1Runs};
 ghost use Rattle.winnow_separated.specs.SeparatedFoldr1.{foldr1_parser};
 ghost use Rattle.winnow_separated.specs.SeparatedFoldr1.{foldr1_separator};
-ghost use Rattle.winnow_separated.specs.SeparatedFoldr1.Laws.{foldr1_ends, foldr1_grows};
+ghost use Rattle.winnow_separated.specs.SeparatedFoldr1.Laws.{foldr1_ends};
 ghost use Rattle.winnow_core.specs.Claim.{no_claim, nothing_claimed};
-ghost use Rattle.winnow_separated.specs.SeparatedFoldr1.Says.{foldr1_said, foldr1_says};
+ghost use Rattle.parser_definitions.specs.SeparatedFold.{AlikeRight, JoinsAlike};
+ghost use Rattle.parser_definitions.specs.SeparatedFold.{SeparatedFoldr1Does};
+ghost use Rattle.parser_definitions.specs.SeparatedFold.{separated_foldr1_law};
+ghost use Rattle.winnow_separated.specs.Covers.Folds.{separated_foldr1_covered};
 
 use std::alloc::Allocator;
 use std::marker::PhantomData;
 use stream_errors::parser_error::ParserError;
 use streams::stream::Stream;
 use winnow_core::parser::Parser;
-use winnow_core::stable::Stable;
 use winnow_repeat::combinator::items::repeat_many;
 
 /// The parser that [`separated_foldr1`](crate::combinator::separated_foldr1) makes.
@@ -72,19 +72,28 @@ impl<
 
     ghost state = { λ s. (P.state s.pair.1, S.state s.pair.0, s.op) };
 
-    ghost states = { λ s. BothWith (P.states s.0) (S.states s.1) s.2 };
-
     ghost meaning = { λ form. SeparatedFoldr1Runs A H.step (P.meaning form)
         (S.meaning form) (assert_kind form) };
 
-    ghost says = { λ s. foldr1_says A H.step s.2 (P.says s.0) (S.says s.1) };
+    ghost does = { SeparatedFoldr1Does A H.step P.does S.does };
+
+    ghost terms = { record {
+      premise = P.terms.premise × S.terms.premise
+          × JoinsAlike S.terms.alike P.terms.alike
+          (AlikeRight H.step P.terms.alike S.terms.alike) H.step;
+      stable = P.terms.stable × S.terms.stable;
+      alike = AlikeRight H.step P.terms.alike S.terms.alike;
+    } };
 
     ghost claim = { λ _. no_claim };
 
     ghost leaves_ends = { λ form. foldr1_ends A I.reading H.step (P.meaning form) (S.meaning form)
         (assert_kind form) (P.leaves_ends form) (S.leaves_ends form) };
 
-    ghost said = { λ s. foldr1_said A H.step s (P.said s.0) (S.said s.1) };
+    ghost covers = { λ is at. separated_foldr1_covered A H.step (P.covers is.0 at)
+        (S.covers is.1 at) };
+
+    ghost lawful = { λ is. separated_foldr1_law A H.step is.2 (P.lawful is.0) (S.lawful is.1) };
 
     ghost claimed = { λ _. nothing_claimed };
 
@@ -93,23 +102,6 @@ impl<
         let links: Vec<(D, O), A> = repeat_many(self.alloc, 0, None, &mut self.pair, input)?;
         Ok(join_right(first, links, &mut self.op))
     }
-}
-
-impl<
-    P: Stable<I, O, E>,
-    S: Stable<I, D, E>,
-    H: FnMut(O, D, O) -> O,
-    I: Stream,
-    O: Drop,
-    D: Drop,
-    E: ParserError<I>,
-    A: Allocator + Copy,
-> Stable<I, O, E> for SeparatedFoldr1<P, S, H, I, O, D, E, A> {
-    ghost stable = { stays
-        (foldr1_grows A H.step (P.meaning modal) (S.meaning modal) (assert_kind modal)
-        (grows (P.leaves_ends modal) P.stable) (grows (S.leaves_ends modal) S.stable)) };
-
-    fn stay() {}
 }
 
 /// Joins a first element and links after it, from the last one on.

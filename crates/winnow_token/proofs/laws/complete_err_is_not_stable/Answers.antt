@@ -2,5 +2,4 @@ use Rattle.winnow_token.proofs.UnstableLemmas.{complete_err_unstable}
 use Rattle.winnow_token.proofs.laws.complete_err_is_not_stable.Goals as goal
 
 pub returns : goal.returns
-returns g c = λ x follows stable. complete_err_unstable g.I.Stream.seen_as g.I.Stream.reading
-    g.I.Stream.following x follows stable
+returns g c = λ k each. complete_err_unstable g.I.Stream.seen_as g.I.Stream.reading _ k each

@@ -3,18 +3,17 @@ ghost use Rattle.std.specs.Prelude.{⊤};
 ghost use Rattle.grammars.specs.Grammar.{Token};
 ghost use Rattle.winnow_core.specs.Exact.Allowed.{backs};
 ghost use Rattle.winnow_core.specs.Runs.{Keeps};
-ghost use Rattle.winnow_core.specs.Says.{Is};
-ghost use Rattle.winnow_core.specs.Stable.Grows.{leaf_stays};
 ghost use Rattle.winnow_token.specs.Any.{AnyRuns};
 ghost use Rattle.winnow_token.specs.Any.Laws.{any_exact, any_fails, token_takes};
-ghost use Rattle.winnow_token.specs.Any.Laws.{any_ends, any_stays};
-ghost use Rattle.winnow_token.specs.Any.Says.{any_said, any_says};
+ghost use Rattle.winnow_token.specs.Any.Laws.{any_ends};
+ghost use Rattle.parser_definitions.specs.Any.{AnyDoes, any_law};
+ghost use Rattle.parser_definitions.specs.Shown.{SeenSame};
+ghost use Rattle.winnow_token.specs.Covers.{any_covered};
 
 use crate::token::any;
 use stream_errors::parser_error::ParserError;
 use streams::stream::StreamIsPartial;
 use winnow_core::parser::Parser;
-use winnow_core::stable::Stable;
 
 /// The parser [`any`](crate::token::any).
 ///
@@ -30,11 +29,11 @@ impl<I: StreamIsPartial, E: ParserError<I>> Parser<I, I::Token, E> for Any {
 
     ghost state = { λ _. tt };
 
-    ghost states = { Is };
-
     ghost meaning = { λ form. Keeps (λ _. AnyRuns I.seen_as I.reading form) };
 
-    ghost says = { λ _. any_says I.seen_as };
+    ghost does = { AnyDoes I.seen_as I.reading };
+
+    ghost terms = { record { premise = ⊤; stable = ⊤; alike = SeenSame I.seen_as } };
 
     ghost claim = { λ s. record {
       premise = ⊤;
@@ -47,7 +46,9 @@ impl<I: StreamIsPartial, E: ParserError<I>> Parser<I, I::Token, E> for Any {
     ghost leaves_ends = { λ form x i answer y j r. any_ends I.seen_as I.reading form i answer j
         r.0 };
 
-    ghost said = { λ _. any_said I.seen_as I.reading };
+    ghost covers = { λ _ at. any_covered I.seen_as I.reading };
+
+    ghost lawful = { λ _. any_law I.seen_as I.reading };
 
     ghost claimed = { λ s. record {
       exact = λ form is. any_exact I.seen_as I.reading form;
@@ -59,10 +60,4 @@ impl<I: StreamIsPartial, E: ParserError<I>> Parser<I, I::Token, E> for Any {
     fn parse_next(&mut self, input: &mut I) -> Result<I::Token, E> {
         any(input)
     }
-}
-
-impl<I: StreamIsPartial, E: ParserError<I>> Stable<I, I::Token, E> for Any {
-    ghost stable = { leaf_stays I.following _ (λ _. any_stays I.seen_as I.reading) };
-
-    fn stay() {}
 }

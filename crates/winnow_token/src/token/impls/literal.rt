@@ -4,13 +4,12 @@ ghost use Rattle.grammars.specs.Grammar.{Literally};
 ghost use Rattle.grammars.specs.Grammar.Unique.{literally_takes};
 ghost use Rattle.winnow_core.specs.Exact.Allowed.{backs};
 ghost use Rattle.winnow_core.specs.Literal.{LiteralRuns};
-ghost use Rattle.winnow_core.specs.Literal.Laws.{ShowSame, literal_exact};
+ghost use Rattle.winnow_core.specs.Literal.Laws.{literal_exact};
 ghost use Rattle.winnow_core.specs.Literal.Laws.{literal_fails, literal_ends};
-ghost use Rattle.winnow_core.specs.Literal.Laws.{literal_stays};
 ghost use Rattle.winnow_core.specs.Runs.{Keeps};
-ghost use Rattle.winnow_core.specs.Says.{Is};
-ghost use Rattle.winnow_core.specs.Stable.Grows.{leaf_stays};
-ghost use Rattle.winnow_core.specs.Literal.Says.{literal_said, literal_says};
+ghost use Rattle.parser_definitions.specs.Literal.{LiteralDoes, literal_law};
+ghost use Rattle.parser_definitions.specs.Spelled.{ShowSame};
+ghost use Rattle.winnow_core.specs.Covers.Leaves.{literal_covered};
 
 use std::marker::PhantomData;
 use stream_errors::parser_error::ParserError;
@@ -18,7 +17,6 @@ use stream_searches::compare::Compare;
 use streams::stream::StreamIsPartial;
 use winnow_core::literal::take_literal;
 use winnow_core::parser::Parser;
-use winnow_core::stable::Stable;
 
 /// The parser that [`literal`](crate::token::literal) makes.
 ///
@@ -38,12 +36,12 @@ impl<T: Copy, I: StreamIsPartial + Compare<T>, E: ParserError<I>> Parser<I, I::S
 
     ghost state = { λ s. s.literal };
 
-    ghost states = { Is };
-
     ghost meaning = { λ form. Keeps
         (λ x. LiteralRuns I.reading form (I.spells x) (λ slice. slice)) };
 
-    ghost says = { λ s. literal_says I.reading (I.spells s) (λ slice. slice) (ShowSame I.reading) };
+    ghost does = { LiteralDoes I.reading I.spells (λ _ slice. slice) };
+
+    ghost terms = { record { premise = ⊤; stable = ⊤; alike = ShowSame I.reading } };
 
     ghost claim = { λ s. record {
       premise = ⊤;
@@ -56,8 +54,10 @@ impl<T: Copy, I: StreamIsPartial + Compare<T>, E: ParserError<I>> Parser<I, I::S
     ghost leaves_ends = { λ form x i answer y j r. literal_ends I.reading form (I.spells x)
         (λ slice. slice) i answer j r.0 };
 
-    ghost said = { λ s. literal_said I.reading I.spells (λ _ slice. slice) (ShowSame I.reading) s
-        (I.same_units s) (λ slice other shown. shown) };
+    ghost covers = { λ _ at. literal_covered I.reading I.spells (λ _ slice. slice) };
+
+    ghost lawful = { λ _. literal_law I.reading I.spells (λ _ slice. slice) (ShowSame I.reading)
+        I.same_units (λ s slice other shown. shown) };
 
     ghost claimed = { λ s. record {
       exact = λ form is. literal_exact I.reading form I.spells (λ _ slice. slice) (λ s. s) s
@@ -71,12 +71,4 @@ impl<T: Copy, I: StreamIsPartial + Compare<T>, E: ParserError<I>> Parser<I, I::S
     fn parse_next(&mut self, input: &mut I) -> Result<I::Slice, E> {
         take_literal(input, self.literal)
     }
-}
-
-impl<T: Copy, I: StreamIsPartial + Compare<T>, E: ParserError<I>> Stable<I, I::Slice, E>
-    for Literal<T, I, E> {
-    ghost stable = { leaf_stays I.following _
-        (λ x. literal_stays I.reading (I.spells x) (λ slice. slice)) };
-
-    fn stay() {}
 }

@@ -5,13 +5,12 @@ ghost use Rattle.stream_sets.specs.Once.{Others, SetIsFunction};
 ghost use Rattle.grammars.specs.Grammar.{Token, TokenOf};
 ghost use Rattle.winnow_core.specs.Exact.Allowed.{backs};
 ghost use Rattle.winnow_core.specs.Runs.{Keeps};
-ghost use Rattle.winnow_core.specs.Says.{Is};
-ghost use Rattle.winnow_core.specs.Stable.Grows.{leaf_stays};
 ghost use Rattle.winnow_token.specs.OneOf.{OneOfRuns};
 ghost use Rattle.winnow_token.specs.OneOf.Laws.{one_of_exact, one_of_fails};
 ghost use Rattle.winnow_token.specs.OneOf.Laws.{token_of_takes, one_of_ends};
-ghost use Rattle.winnow_token.specs.OneOf.Laws.{one_of_stays};
-ghost use Rattle.winnow_token.specs.OneOf.Says.{one_of_said, one_of_says};
+ghost use Rattle.parser_definitions.specs.OneOf.{NoneOfDoes, none_of_law};
+ghost use Rattle.parser_definitions.specs.Shown.{SeenSame};
+ghost use Rattle.winnow_token.specs.Covers.{one_of_covered};
 
 use crate::token::members::Others;
 use crate::token::one::take_member;
@@ -20,7 +19,6 @@ use stream_errors::parser_error::ParserError;
 use stream_sets::sets::ContainsToken;
 use streams::stream::StreamIsPartial;
 use winnow_core::parser::Parser;
-use winnow_core::stable::Stable;
 
 /// The parser that [`none_of`](crate::token::none_of) makes.
 ///
@@ -45,12 +43,17 @@ where
 
     ghost state = { λ s. s.set };
 
-    ghost states = { Is };
-
     ghost meaning = { λ form. Keeps
         (λ x. OneOfRuns I.seen_as I.reading form (λ k b. S.tells x k (not b))) };
 
-    ghost says = { λ s. one_of_says I.seen_as (Others S.tells s) };
+    ghost does = { NoneOfDoes I.seen_as I.reading S.tells };
+
+    ghost terms = { record {
+      premise = (x : S)
+          → SetIsFunction (AnswersSeen I.seen_as (Others S.tells x));
+      stable = ⊤;
+      alike = SeenSame I.seen_as;
+    } };
 
     ghost claim = { λ s. record {
       premise = SetIsFunction (AnswersSeen I.seen_as (Others S.tells s));
@@ -63,7 +66,9 @@ where
     ghost leaves_ends = { λ form x i answer y j r. one_of_ends I.seen_as I.reading form
         (λ k b. S.tells x k (not b)) i answer j r.0 };
 
-    ghost said = { λ s. one_of_said I.seen_as I.reading (Others S.tells) s };
+    ghost covers = { λ _ at. one_of_covered I.seen_as I.reading (Others S.tells) };
+
+    ghost lawful = { λ is. none_of_law I.seen_as I.reading S.tells is };
 
     ghost claimed = { λ s. record {
       exact = λ form is. one_of_exact I.seen_as I.reading form (Others S.tells) s is;
@@ -75,15 +80,4 @@ where
     fn parse_next(&mut self, input: &mut I) -> Result<I::Token, E> {
         take_member(input, &Others(&self.set))
     }
-}
-
-impl<S: ContainsToken<I::Token>, I: StreamIsPartial, E: ParserError<I>> Stable<I, I::Token, E>
-    for NoneOf<S, I, E>
-where
-    I::Token: Copy,
-{
-    ghost stable = { leaf_stays I.following _
-        (λ x. one_of_stays I.seen_as I.reading (λ k b. S.tells x k (not b))) };
-
-    fn stay() {}
 }

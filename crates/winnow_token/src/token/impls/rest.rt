@@ -3,11 +3,12 @@ ghost use Rattle.std.specs.Prelude.{⊤};
 ghost use Rattle.grammars.specs.Grammar.{AllTokens};
 ghost use Rattle.winnow_core.specs.Exact.Allowed.{backs};
 ghost use Rattle.winnow_core.specs.Runs.{Keeps};
-ghost use Rattle.winnow_core.specs.Says.{Is};
 ghost use Rattle.winnow_token.specs.Rest.{RestRuns};
 ghost use Rattle.winnow_token.specs.Rest.Laws.{rest_ends};
 ghost use Rattle.winnow_token.specs.Rest.Laws.{rest_exact, rest_fails};
-ghost use Rattle.winnow_token.specs.Rest.Says.{rest_said, rest_says};
+ghost use Rattle.parser_definitions.specs.Rest.{RestDoes, rest_law};
+ghost use Rattle.parser_definitions.specs.Spelled.{ShowSame};
+ghost use Rattle.winnow_token.specs.Covers.{rest_covered};
 
 use crate::token::rest;
 use stream_errors::parser_error::ParserError;
@@ -28,11 +29,11 @@ impl<I: Stream, E: ParserError<I>> Parser<I, I::Slice, E> for Rest {
 
     ghost state = { λ _. tt };
 
-    ghost states = { Is };
-
     ghost meaning = { λ _. Keeps (λ _. RestRuns I.reading) };
 
-    ghost says = { λ _. rest_says I.reading };
+    ghost does = { RestDoes I.reading };
+
+    ghost terms = { record { premise = ⊤; stable = ⊥; alike = ShowSame I.reading } };
 
     ghost claim = { λ s. record {
       premise = ⊤;
@@ -44,7 +45,9 @@ impl<I: Stream, E: ParserError<I>> Parser<I, I::Slice, E> for Rest {
 
     ghost leaves_ends = { λ form x i answer y j r. rest_ends I.reading i answer j r.0 };
 
-    ghost said = { λ _. rest_said I.reading };
+    ghost covers = { λ _ at. rest_covered I.reading };
+
+    ghost lawful = { λ _. rest_law I.reading };
 
     ghost claimed = { λ s. record {
       exact = λ form is. rest_exact I.reading;

@@ -1,13 +1,13 @@
 //! The implementation of `rest_len`.
-ghost use Rattle.std.specs.Prelude.{⊤, ◌<◌};
+ghost use Rattle.std.specs.Prelude.{⊤, ◌≡◌};
 ghost use Rattle.grammars.specs.Grammar.{UnitsLeft};
 ghost use Rattle.winnow_core.specs.Ends.{same_ends};
 ghost use Rattle.winnow_core.specs.Exact.Allowed.{backs};
 ghost use Rattle.winnow_core.specs.Runs.{Keeps};
-ghost use Rattle.winnow_core.specs.Says.{Is};
 ghost use Rattle.winnow_token.specs.Rest.{RestLenRuns};
 ghost use Rattle.winnow_token.specs.Rest.Laws.{rest_len_exact, rest_len_fails};
-ghost use Rattle.winnow_token.specs.Rest.Says.{rest_len_said, rest_len_says};
+ghost use Rattle.parser_definitions.specs.Rest.{RestLenDoes, rest_len_law};
+ghost use Rattle.winnow_token.specs.Covers.{rest_len_covered};
 
 use crate::token::rest_len;
 use stream_errors::parser_error::ParserError;
@@ -28,11 +28,11 @@ impl<I: Stream, E: ParserError<I>> Parser<I, usize, E> for RestLen {
 
     ghost state = { λ _. tt };
 
-    ghost states = { Is };
-
     ghost meaning = { λ _. Keeps (λ _. RestLenRuns I.reading) };
 
-    ghost says = { λ _. rest_len_says I.reading };
+    ghost does = { RestLenDoes I.reading };
+
+    ghost terms = { record { premise = ⊤; stable = ⊥; alike = λ m n. m ≡ n } };
 
     ghost claim = { λ s. record {
       premise = ⊤;
@@ -44,7 +44,9 @@ impl<I: Stream, E: ParserError<I>> Parser<I, usize, E> for RestLen {
 
     ghost leaves_ends = { λ form x i answer y j r. same_ends I.reading i j r.0.1 };
 
-    ghost said = { λ _. rest_len_said I.reading };
+    ghost covers = { λ _ at. rest_len_covered I.reading };
+
+    ghost lawful = { λ _. rest_len_law I.reading };
 
     ghost claimed = { λ s. record {
       exact = λ form is. rest_len_exact I.reading;

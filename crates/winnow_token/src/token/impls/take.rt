@@ -3,19 +3,18 @@ ghost use Rattle.std.specs.Prelude.{ℕ, ◌<◌, ⊤};
 ghost use Rattle.grammars.specs.Grammar.{Counted};
 ghost use Rattle.winnow_core.specs.Exact.Allowed.{backs};
 ghost use Rattle.winnow_core.specs.Runs.{Keeps};
-ghost use Rattle.winnow_core.specs.Says.{Is};
-ghost use Rattle.winnow_core.specs.Stable.Grows.{leaf_stays};
 ghost use Rattle.winnow_token.specs.Take.{TakeRuns};
 ghost use Rattle.winnow_token.specs.Take.Laws.{counted_takes, take_exact};
-ghost use Rattle.winnow_token.specs.Take.Laws.{take_fails, take_ends, take_stays};
-ghost use Rattle.winnow_token.specs.Take.Says.{take_said, take_says};
+ghost use Rattle.winnow_token.specs.Take.Laws.{take_fails, take_ends};
+ghost use Rattle.parser_definitions.specs.Take.{TakeDoes, take_law};
+ghost use Rattle.parser_definitions.specs.Spelled.{ShowSame};
+ghost use Rattle.winnow_token.specs.Covers.{take_covered};
 
 use std::marker::PhantomData;
 use stream_errors::parser_error::ParserError;
 use streams::stream::StreamIsPartial;
 use winnow_core::parser::Parser;
 use winnow_core::short::short;
-use winnow_core::stable::Stable;
 
 /// The parser that [`take`](crate::token::take) makes.
 ///
@@ -34,11 +33,11 @@ impl<I: StreamIsPartial, E: ParserError<I>> Parser<I, I::Slice, E> for Take<I, E
 
     ghost state = { λ s. s.count };
 
-    ghost states = { Is };
-
     ghost meaning = { λ form. Keeps (λ x. TakeRuns I.reading form I.counts_missing x) };
 
-    ghost says = { λ s. take_says I.reading I.counts_missing s };
+    ghost does = { TakeDoes I.reading I.counts_missing (λ (n : ℕ). n) };
+
+    ghost terms = { record { premise = ⊤; stable = ⊤; alike = ShowSame I.reading } };
 
     ghost claim = { λ s. record {
       premise = ⊤;
@@ -51,7 +50,9 @@ impl<I: StreamIsPartial, E: ParserError<I>> Parser<I, I::Slice, E> for Take<I, E
     ghost leaves_ends = { λ form x i answer y j r. take_ends I.reading form I.counts_missing x i
         answer j r.0 };
 
-    ghost said = { λ s. take_said I.reading I.counts_missing s };
+    ghost covers = { λ _ at. take_covered I.reading I.counts_missing (λ n. n) };
+
+    ghost lawful = { λ _. take_law I.reading I.counts_missing (λ n. n) };
 
     ghost claimed = { λ s. record {
       exact = λ form is. take_exact I.reading form I.counts_missing s;
@@ -66,10 +67,4 @@ impl<I: StreamIsPartial, E: ParserError<I>> Parser<I, I::Slice, E> for Take<I, E
             Err(needed) => Err(short(input, needed)),
         }
     }
-}
-
-impl<I: StreamIsPartial, E: ParserError<I>> Stable<I, I::Slice, E> for Take<I, E> {
-    ghost stable = { leaf_stays I.following _ (take_stays I.reading I.counts_missing) };
-
-    fn stay() {}
 }

@@ -6,14 +6,12 @@ ghost use Rattle.grammars.specs.Grammar.Searches.{Before};
 ghost use Rattle.grammars.specs.Grammar.Searches.Unique.{before_takes};
 ghost use Rattle.winnow_core.specs.Exact.Allowed.{backs};
 ghost use Rattle.winnow_core.specs.Runs.{Keeps};
-ghost use Rattle.winnow_core.specs.Says.{Is};
-ghost use Rattle.winnow_core.specs.Stable.Grows.{leaf_stays};
 ghost use Rattle.winnow_token.specs.TakeUntil.{TakeUntilRuns};
 ghost use Rattle.winnow_token.specs.TakeUntil.Laws.{take_until_exact, take_until_fails};
 ghost use Rattle.winnow_token.specs.TakeUntil.Laws.{take_until_ends};
-ghost use Rattle.winnow_token.specs.TakeUntil.Laws.{take_until_stays};
-ghost use Rattle.winnow_token.specs.TakeUntil.Says.{take_until_said};
-ghost use Rattle.winnow_token.specs.TakeUntil.Says.{take_until_says};
+ghost use Rattle.parser_definitions.specs.TakeUntil.{TakeUntilDoes, take_until_law};
+ghost use Rattle.parser_definitions.specs.Spelled.{ShowSame};
+ghost use Rattle.winnow_token.specs.Covers.{take_until_covered};
 
 use crate::token::until::take_before;
 use std::marker::PhantomData;
@@ -22,7 +20,6 @@ use stream_searches::find::FindSlice;
 use stream_sets::range::Range;
 use streams::stream::StreamIsPartial;
 use winnow_core::parser::Parser;
-use winnow_core::stable::Stable;
 
 /// The parser that [`take_until`](crate::token::take_until) makes.
 ///
@@ -43,12 +40,12 @@ impl<T: Copy, I: StreamIsPartial + FindSlice<T>, E: ParserError<I>> Parser<I, I:
 
     ghost state = { λ s. (s.occurrences, s.literal) };
 
-    ghost states = { Is };
-
     ghost meaning = { λ form. Keeps
         (λ x. TakeUntilRuns I.reading form (I.sought x.1) (bounds_of x.0)) };
 
-    ghost says = { λ s. take_until_says I.reading (I.sought s.1) (bounds_of s.0) };
+    ghost does = { TakeUntilDoes I.reading (λ x. I.sought x.1) (λ x. bounds_of x.0) };
+
+    ghost terms = { record { premise = ⊤; stable = ⊤; alike = ShowSame I.reading } };
 
     ghost claim = { λ s. record {
       premise = IsWithin (bounds_of s.0).greatest (bounds_of s.0).least;
@@ -62,8 +59,11 @@ impl<T: Copy, I: StreamIsPartial + FindSlice<T>, E: ParserError<I>> Parser<I, I:
         (bounds_of x.0) i answer j
         r.0 };
 
-    ghost said = { λ s. take_until_said I.reading (λ x. I.sought x.1) (λ x. bounds_of x.0) s
-        (I.stays_first s.1) };
+    ghost covers = { λ _ at. take_until_covered I.reading (λ x. I.sought x.1)
+        (λ x. bounds_of x.0) };
+
+    ghost lawful = { λ _. take_until_law I.reading (λ x. I.sought x.1) (λ x. bounds_of x.0)
+        (λ x. I.stays_first x.1) };
 
     ghost claimed = { λ s. record {
       exact = λ form is. take_until_exact I.reading form (λ x. I.sought x.1)
@@ -77,13 +77,4 @@ impl<T: Copy, I: StreamIsPartial + FindSlice<T>, E: ParserError<I>> Parser<I, I:
     fn parse_next(&mut self, input: &mut I) -> Result<I::Slice, E> {
         take_before(input, self.occurrences, self.literal)
     }
-}
-
-impl<T: Copy, I: StreamIsPartial + FindSlice<T>, E: ParserError<I>> Stable<I, I::Slice, E>
-    for TakeUntil<T, I, E> {
-    ghost stable = { leaf_stays I.following _
-        (λ x. take_until_stays I.reading (I.sought x.1) (I.stays_first x.1)
-        (bounds_of x.0)) };
-
-    fn stay() {}
 }

@@ -7,15 +7,13 @@ ghost use Rattle.stream_sets.specs.declared.range.Range.{Range};
 ghost use Rattle.grammars.specs.Grammar.{Longest};
 ghost use Rattle.winnow_core.specs.Exact.Allowed.{backs};
 ghost use Rattle.winnow_core.specs.Runs.{Keeps};
-ghost use Rattle.winnow_core.specs.Says.{Is};
-ghost use Rattle.winnow_core.specs.Stable.Grows.{leaf_stays};
 ghost use Rattle.winnow_token.specs.TakeWhile.{TakeWhileRuns};
 ghost use Rattle.winnow_token.specs.TakeWhile.Exact.{longest_takes, take_while_exact};
 ghost use Rattle.winnow_token.specs.TakeWhile.Exact.{take_while_fails};
 ghost use Rattle.winnow_token.specs.TakeWhile.Laws.{take_while_ends};
-ghost use Rattle.winnow_token.specs.TakeWhile.Laws.{take_while_stays};
-ghost use Rattle.winnow_token.specs.TakeWhile.Says.{take_while_said};
-ghost use Rattle.winnow_token.specs.TakeWhile.Says.{take_while_says};
+ghost use Rattle.parser_definitions.specs.TakeWhile.{TakeWhileDoes, take_while_law};
+ghost use Rattle.parser_definitions.specs.Spelled.{ShowSame};
+ghost use Rattle.winnow_token.specs.Covers.{take_while_covered};
 
 use crate::token::members::take_members;
 use std::marker::PhantomData;
@@ -24,7 +22,6 @@ use stream_sets::range::Range;
 use stream_sets::sets::ContainsToken;
 use streams::stream::StreamIsPartial;
 use winnow_core::parser::Parser;
-use winnow_core::stable::Stable;
 
 /// The parser that [`take_while`](crate::token::take_while) makes.
 ///
@@ -47,14 +44,19 @@ impl<S: ContainsToken<I::Token>, I: StreamIsPartial, E: ParserError<I>> Parser<I
 
     ghost state = { λ s. (s.occurrences, s.set) };
 
-    ghost states = { Is };
-
     ghost meaning = { λ form. Keeps
         (λ x. TakeWhileRuns I.reading form (AnswersSeen I.seen_as (S.tells x.1))
         (bounds_of x.0)) };
 
-    ghost says = { λ s. take_while_says I.reading (AnswersSeen I.seen_as (S.tells s.1))
-        (bounds_of s.0) };
+    ghost does = { TakeWhileDoes I.reading (λ x. AnswersSeen I.seen_as (S.tells x.1))
+        (λ x. bounds_of x.0) };
+
+    ghost terms = { record {
+      premise = (x : S)
+          → SetIsFunction (AnswersSeen I.seen_as (S.tells x));
+      stable = ⊤;
+      alike = ShowSame I.reading;
+    } };
 
     ghost claim = { λ s. record {
       premise = SetIsFunction (AnswersSeen I.seen_as (S.tells s.1))
@@ -68,8 +70,11 @@ impl<S: ContainsToken<I::Token>, I: StreamIsPartial, E: ParserError<I>> Parser<I
     ghost leaves_ends = { λ form x i answer y j r. take_while_ends I.reading form
         (AnswersSeen I.seen_as (S.tells x.1)) (bounds_of x.0) i answer j r.0 };
 
-    ghost said = { λ s. take_while_said I.reading (λ x. AnswersSeen I.seen_as (S.tells x.1))
-        (λ x. bounds_of x.0) s };
+    ghost covers = { λ _ at. take_while_covered I.reading
+        (λ x. AnswersSeen I.seen_as (S.tells x.1)) (λ x. bounds_of x.0) };
+
+    ghost lawful = { λ is. take_while_law I.reading (λ x. AnswersSeen I.seen_as (S.tells x.1))
+        (λ x. bounds_of x.0) (λ x. is x.1) };
 
     ghost claimed = { λ s. record {
       exact = λ form is. take_while_exact I.reading form I.seen_as S.tells (λ x. x.1)
@@ -83,13 +88,4 @@ impl<S: ContainsToken<I::Token>, I: StreamIsPartial, E: ParserError<I>> Parser<I
     fn parse_next(&mut self, input: &mut I) -> Result<I::Slice, E> {
         take_members(input, self.occurrences, &self.set)
     }
-}
-
-impl<S: ContainsToken<I::Token>, I: StreamIsPartial, E: ParserError<I>> Stable<I, I::Slice, E>
-    for TakeWhile<S, I, E> {
-    ghost stable = { leaf_stays I.following _
-        (λ x. take_while_stays I.reading (AnswersSeen I.seen_as (S.tells x.1))
-        (bounds_of x.0)) };
-
-    fn stay() {}
 }

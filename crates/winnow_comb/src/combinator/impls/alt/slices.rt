@@ -1,25 +1,24 @@
 //! Arrays and slices as branches.
 ghost use Rattle.std.specs.Prelude.{◌≡◌, List, map, ℕ, []};
-ghost use Rattle.std.specs.List.{All, AllZip};
+ghost use Rattle.std.specs.List.{All};
 ghost use Rattle.streams.specs.Input.{IsEndOf};
 ghost use Rattle.grammars.specs.Grammar.FirstOf.{FirstOf, first_of_takes};
-ghost use Rattle.stream_errors.specs.Form.{answer_by, assert_kind, modal};
+ghost use Rattle.stream_errors.specs.Form.{answer_by, assert_kind};
 ghost use Rattle.winnow_core.specs.ByRef.{ByRefRuns};
 ghost use Rattle.winnow_core.specs.ByRef.Laws.{by_ref_exact, by_ref_fails, by_ref_ends};
-ghost use Rattle.winnow_core.specs.ByRef.Laws.{by_ref_grows, by_ref_said};
 ghost use Rattle.winnow_core.specs.Exact.Allowed.{fails_as};
-ghost use Rattle.winnow_core.specs.Says.{With};
-ghost use Rattle.winnow_core.specs.Stable.Grows.{grows, stays};
+ghost use Rattle.parser_definitions.specs.AltMany.{ChoiceDoes, choice_law};
+ghost use Rattle.parser_definitions.specs.ByRef.{ByRefDoes, by_ref_law};
+ghost use Rattle.winnow_comb.specs.Covers.{choice_covered};
+ghost use Rattle.winnow_core.specs.Covers.Functions.{by_ref_covered};
 ghost use Rattle.winnow_comb.specs.Alt.FirstOf.{asserts, first_of_exact, first_of_fails};
 ghost use Rattle.winnow_comb.specs.Alt.Slice.{AltSliceRuns};
-ghost use Rattle.winnow_comb.specs.Alt.Slice.Says.{choice_said, choice_says};
-ghost use Rattle.winnow_comb.specs.Alt.Slice.Laws.{alt_slice_ends, alt_slice_grows};
+ghost use Rattle.winnow_comb.specs.Alt.Slice.Laws.{alt_slice_ends};
 
-use crate::combinator::impls::alt::{Alt, AltParser, attempt};
+use crate::combinator::impls::alt::{Alt, attempt};
 use stream_errors::parser_error::ParserError;
 use streams::stream::Stream;
 use winnow_core::parser::Parser;
-use winnow_core::stable::Stable;
 
 impl<const N: usize, I: Stream, O, E: ParserError<I>, P: Parser<I, O, E>> Alt<I, O, E> for [P; N] {
     ghost can_choose = { All P.can_parse };
@@ -28,11 +27,11 @@ impl<const N: usize, I: Stream, O, E: ParserError<I>, P: Parser<I, O, E>> Alt<I,
 
     ghost state = { λ s. map P.state s };
 
-    ghost states = { AllZip P.states };
-
     ghost meaning = { λ form. AltSliceRuns (P.meaning form) (assert_kind form) };
 
-    ghost says = { λ s. choice_says P.says s };
+    ghost does = { ChoiceDoes P.does };
+
+    ghost terms = { P.terms };
 
     ghost claim = { λ s. record {
       premise = All (λ x. (P.claim x).premise × (P.claim x).backtracks) s;
@@ -45,7 +44,9 @@ impl<const N: usize, I: Stream, O, E: ParserError<I>, P: Parser<I, O, E>> Alt<I,
     ghost leaves_ends = { λ form. alt_slice_ends I.reading (P.meaning form) (assert_kind form)
         (P.leaves_ends form) };
 
-    ghost said = { λ s. choice_said P.said s };
+    ghost covers = { λ is at. choice_covered (P.covers is at) };
+
+    ghost lawful = { λ is. choice_law (P.lawful is) };
 
     ghost claimed = { λ s. record {
       exact = λ form is. first_of_exact (P.meaning form) (assert_kind form)
@@ -69,24 +70,6 @@ impl<const N: usize, I: Stream, O, E: ParserError<I>, P: Parser<I, O, E>> Alt<I,
     }
 }
 
-impl<const N: usize, P: Stable<I, O, E>, I: Stream, O, E: ParserError<I>> Stable<I, O, E>
-    for AltParser<[P; N], I, O, E> {
-    ghost stable = { stays
-        (alt_slice_grows (P.meaning modal) (assert_kind modal)
-        (grows (P.leaves_ends modal) P.stable)) };
-
-    fn stay() {}
-}
-
-impl<'a, P: Stable<I, O, E>, I: Stream, O, E: ParserError<I>> Stable<I, O, E>
-    for AltParser<&'a mut [P], I, O, E> {
-    ghost stable = { stays
-        (by_ref_grows (alt_slice_grows (P.meaning modal) (assert_kind modal)
-        (grows (P.leaves_ends modal) P.stable))) };
-
-    fn stay() {}
-}
-
 impl<'a, I: Stream, O, E: ParserError<I>, P: Parser<I, O, E>> Alt<I, O, E> for &'a mut [P] {
     ghost can_choose = { λ s. All P.can_parse s.now };
 
@@ -94,11 +77,11 @@ impl<'a, I: Stream, O, E: ParserError<I>, P: Parser<I, O, E>> Alt<I, O, E> for &
 
     ghost state = { λ s. (map P.state s.now, s.ghost_name) };
 
-    ghost states = { λ s. With (AllZip P.states s.0) s.1 };
-
     ghost meaning = { λ form. ByRefRuns (AltSliceRuns (P.meaning form) (assert_kind form)) };
 
-    ghost says = { λ s. choice_says P.says s.0 };
+    ghost does = { ByRefDoes (ChoiceDoes P.does) };
+
+    ghost terms = { P.terms };
 
     ghost claim = { λ s. record {
       premise = All (λ x. (P.claim x).premise × (P.claim x).backtracks) s.0;
@@ -112,7 +95,9 @@ impl<'a, I: Stream, O, E: ParserError<I>, P: Parser<I, O, E>> Alt<I, O, E> for &
         (AltSliceRuns (P.meaning form) (assert_kind form))
         (alt_slice_ends I.reading (P.meaning form) (assert_kind form) (P.leaves_ends form)) };
 
-    ghost said = { λ s. by_ref_said (choice_said P.said s.0) };
+    ghost covers = { λ is at. by_ref_covered (choice_covered (P.covers is at)) };
+
+    ghost lawful = { λ is. by_ref_law (choice_law (P.lawful is)) };
 
     ghost claimed = { λ s. record {
       exact = λ form is. by_ref_exact (first_of_exact (P.meaning form) (assert_kind form)

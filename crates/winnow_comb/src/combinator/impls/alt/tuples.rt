@@ -4,8 +4,9 @@
 ghost use Rattle.winnow_comb.specs.Alt.{OrElse};
 ghost use Rattle.winnow_comb.specs.Alt.Claim.{or_else_claim, or_else_claimed};
 ghost use Rattle.winnow_comb.specs.Alt.Laws.{or_else_ends};
-ghost use Rattle.winnow_comb.specs.Alt.Says.{or_else_said, or_else_says};
-ghost use Rattle.winnow_core.specs.Says.{Both};
+ghost use Rattle.winnow_comb.specs.Covers.{alt_covered};
+ghost use Rattle.parser_definitions.specs.Alt.{AltDoes, alt_law};
+ghost use Rattle.parser_definitions.specs.Equal.{AlikeEither};
 
 use crate::combinator::impls::alt::{Alt, attempt};
 use stream_errors::parser_error::ParserError;
@@ -19,17 +20,19 @@ impl<I: Stream, O, E: ParserError<I>, P1: Parser<I, O, E>> Alt<I, O, E> for (P1,
 
     ghost state = { λ s. P1.state s.0 };
 
-    ghost states = { P1.states };
-
     ghost meaning = { P1.meaning };
 
-    ghost says = { P1.says };
+    ghost does = { P1.does };
+
+    ghost terms = { P1.terms };
 
     ghost claim = { P1.claim };
 
     ghost leaves_ends = { P1.leaves_ends };
 
-    ghost said = { P1.said };
+    ghost covers = { P1.covers };
+
+    ghost lawful = { P1.lawful };
 
     ghost claimed = { P1.claimed };
 
@@ -47,18 +50,24 @@ impl<I: Stream, O, E: ParserError<I>, P1: Parser<I, O, E>, P2: Parser<I, O, E>> 
 
     ghost state = { λ s. (P1.state s.0, P2.state s.1) };
 
-    ghost states = { λ s. Both (P1.states s.0) (P2.states s.1) };
-
     ghost meaning = { λ form. OrElse (P1.meaning form) (P2.meaning form) };
 
-    ghost says = { λ s. or_else_says (P1.says s.0) (P2.says s.1) };
+    ghost does = { AltDoes P1.does P2.does };
+
+    ghost terms = { record {
+      premise = P1.terms.premise × P2.terms.premise;
+      stable = P1.terms.stable × P2.terms.stable;
+      alike = AlikeEither P1.terms.alike P2.terms.alike;
+    } };
 
     ghost claim = { λ s. or_else_claim (P1.claim s.0) (P2.claim s.1) };
 
     ghost leaves_ends = { λ form. or_else_ends I.reading (P1.meaning form) (P2.meaning form)
         (P1.leaves_ends form) (P2.leaves_ends form) };
 
-    ghost said = { λ s. or_else_said (P1.said s.0) (P2.said s.1) };
+    ghost covers = { λ is at. alt_covered (P1.covers is.0 at) (P2.covers is.1 at) };
+
+    ghost lawful = { λ is. alt_law (P1.lawful is.0) (P2.lawful is.1) };
 
     ghost claimed = { λ s. or_else_claimed (P1.claimed s.0) (P2.claimed s.1) };
 
@@ -86,12 +95,16 @@ impl<
 
     ghost state = { λ s. (P1.state s.0, (P2.state s.1, P3.state s.2)) };
 
-    ghost states = { λ s. Both (P1.states s.0) (Both (P2.states s.1.0) (P3.states s.1.1)) };
-
     ghost meaning = { λ form. OrElse (P1.meaning form)
         (OrElse (P2.meaning form) (P3.meaning form)) };
 
-    ghost says = { λ s. or_else_says (P1.says s.0) (or_else_says (P2.says s.1.0) (P3.says s.1.1)) };
+    ghost does = { AltDoes P1.does (AltDoes P2.does P3.does) };
+
+    ghost terms = { record {
+      premise = P1.terms.premise × (P2.terms.premise × P3.terms.premise);
+      stable = P1.terms.stable × (P2.terms.stable × P3.terms.stable);
+      alike = AlikeEither P1.terms.alike (AlikeEither P2.terms.alike P3.terms.alike);
+    } };
 
     ghost claim = { λ s. or_else_claim (P1.claim s.0)
         (or_else_claim (P2.claim s.1.0) (P3.claim s.1.1)) };
@@ -101,7 +114,11 @@ impl<
         (or_else_ends I.reading (P2.meaning form) (P3.meaning form) (P2.leaves_ends form)
         (P3.leaves_ends form)) };
 
-    ghost said = { λ s. or_else_said (P1.said s.0) (or_else_said (P2.said s.1.0) (P3.said s.1.1)) };
+    ghost covers = { λ is at. alt_covered (P1.covers is.0 at)
+        (alt_covered (P2.covers is.1.0 at) (P3.covers is.1.1 at)) };
+
+    ghost lawful = { λ is. alt_law (P1.lawful is.0)
+        (alt_law (P2.lawful is.1.0) (P3.lawful is.1.1)) };
 
     ghost claimed = { λ s. or_else_claimed (P1.claimed s.0)
         (or_else_claimed (P2.claimed s.1.0) (P3.claimed s.1.1)) };
@@ -135,14 +152,17 @@ impl<
 
     ghost state = { λ s. (P1.state s.0, (P2.state s.1, (P3.state s.2, P4.state s.3))) };
 
-    ghost states = { λ s. Both (P1.states s.0)
-        (Both (P2.states s.1.0) (Both (P3.states s.1.1.0) (P4.states s.1.1.1))) };
-
     ghost meaning = { λ form. OrElse (P1.meaning form)
         (OrElse (P2.meaning form) (OrElse (P3.meaning form) (P4.meaning form))) };
 
-    ghost says = { λ s. or_else_says (P1.says s.0)
-        (or_else_says (P2.says s.1.0) (or_else_says (P3.says s.1.1.0) (P4.says s.1.1.1))) };
+    ghost does = { AltDoes P1.does (AltDoes P2.does (AltDoes P3.does P4.does)) };
+
+    ghost terms = { record {
+      premise = P1.terms.premise × (P2.terms.premise × (P3.terms.premise × P4.terms.premise));
+      stable = P1.terms.stable × (P2.terms.stable × (P3.terms.stable × P4.terms.stable));
+      alike = AlikeEither P1.terms.alike
+          (AlikeEither P2.terms.alike (AlikeEither P3.terms.alike P4.terms.alike));
+    } };
 
     ghost claim = { λ s. or_else_claim (P1.claim s.0)
         (or_else_claim (P2.claim s.1.0)
@@ -156,8 +176,12 @@ impl<
         (or_else_ends I.reading (P3.meaning form) (P4.meaning form) (P3.leaves_ends form)
         (P4.leaves_ends form))) };
 
-    ghost said = { λ s. or_else_said (P1.said s.0)
-        (or_else_said (P2.said s.1.0) (or_else_said (P3.said s.1.1.0) (P4.said s.1.1.1))) };
+    ghost covers = { λ is at. alt_covered (P1.covers is.0 at)
+        (alt_covered (P2.covers is.1.0 at)
+        (alt_covered (P3.covers is.1.1.0 at) (P4.covers is.1.1.1 at))) };
+
+    ghost lawful = { λ is. alt_law (P1.lawful is.0)
+        (alt_law (P2.lawful is.1.0) (alt_law (P3.lawful is.1.1.0) (P4.lawful is.1.1.1))) };
 
     ghost claimed = { λ s. or_else_claimed (P1.claimed s.0)
         (or_else_claimed (P2.claimed s.1.0)
@@ -197,18 +221,21 @@ impl<
     ghost state = { λ s.
         (P1.state s.0, (P2.state s.1, (P3.state s.2, (P4.state s.3, P5.state s.4)))) };
 
-    ghost states = { λ s. Both (P1.states s.0)
-        (Both (P2.states s.1.0)
-        (Both (P3.states s.1.1.0) (Both (P4.states s.1.1.1.0) (P5.states s.1.1.1.1)))) };
-
     ghost meaning = { λ form. OrElse (P1.meaning form)
         (OrElse (P2.meaning form)
         (OrElse (P3.meaning form) (OrElse (P4.meaning form) (P5.meaning form)))) };
 
-    ghost says = { λ s. or_else_says (P1.says s.0)
-        (or_else_says (P2.says s.1.0)
-        (or_else_says (P3.says s.1.1.0)
-        (or_else_says (P4.says s.1.1.1.0) (P5.says s.1.1.1.1)))) };
+    ghost does = { AltDoes P1.does (AltDoes P2.does (AltDoes P3.does (AltDoes P4.does P5.does))) };
+
+    ghost terms = { record {
+      premise = P1.terms.premise
+          × (P2.terms.premise × (P3.terms.premise × (P4.terms.premise × P5.terms.premise)));
+      stable = P1.terms.stable
+          × (P2.terms.stable × (P3.terms.stable × (P4.terms.stable × P5.terms.stable)));
+      alike = AlikeEither P1.terms.alike
+          (AlikeEither P2.terms.alike
+          (AlikeEither P3.terms.alike (AlikeEither P4.terms.alike P5.terms.alike)));
+    } };
 
     ghost claim = { λ s. or_else_claim (P1.claim s.0)
         (or_else_claim (P2.claim s.1.0)
@@ -227,10 +254,15 @@ impl<
         (or_else_ends I.reading (P4.meaning form) (P5.meaning form) (P4.leaves_ends form)
         (P5.leaves_ends form)))) };
 
-    ghost said = { λ s. or_else_said (P1.said s.0)
-        (or_else_said (P2.said s.1.0)
-        (or_else_said (P3.said s.1.1.0)
-        (or_else_said (P4.said s.1.1.1.0) (P5.said s.1.1.1.1)))) };
+    ghost covers = { λ is at. alt_covered (P1.covers is.0 at)
+        (alt_covered (P2.covers is.1.0 at)
+        (alt_covered (P3.covers is.1.1.0 at)
+        (alt_covered (P4.covers is.1.1.1.0 at) (P5.covers is.1.1.1.1 at)))) };
+
+    ghost lawful = { λ is. alt_law (P1.lawful is.0)
+        (alt_law (P2.lawful is.1.0)
+        (alt_law (P3.lawful is.1.1.0)
+        (alt_law (P4.lawful is.1.1.1.0) (P5.lawful is.1.1.1.1)))) };
 
     ghost claimed = { λ s. or_else_claimed (P1.claimed s.0)
         (or_else_claimed (P2.claimed s.1.0)
@@ -280,22 +312,26 @@ impl<
       ),
     ) };
 
-    ghost states = { λ s. Both (P1.states s.0)
-        (Both (P2.states s.1.0)
-        (Both (P3.states s.1.1.0)
-        (Both (P4.states s.1.1.1.0)
-        (Both (P5.states s.1.1.1.1.0) (P6.states s.1.1.1.1.1))))) };
-
     ghost meaning = { λ form. OrElse (P1.meaning form)
         (OrElse (P2.meaning form)
         (OrElse (P3.meaning form)
         (OrElse (P4.meaning form) (OrElse (P5.meaning form) (P6.meaning form))))) };
 
-    ghost says = { λ s. or_else_says (P1.says s.0)
-        (or_else_says (P2.says s.1.0)
-        (or_else_says (P3.says s.1.1.0)
-        (or_else_says (P4.says s.1.1.1.0)
-        (or_else_says (P5.says s.1.1.1.1.0) (P6.says s.1.1.1.1.1))))) };
+    ghost does = { AltDoes P1.does
+        (AltDoes P2.does (AltDoes P3.does (AltDoes P4.does (AltDoes P5.does P6.does)))) };
+
+    ghost terms = { record {
+      premise = P1.terms.premise
+          × (P2.terms.premise
+          × (P3.terms.premise × (P4.terms.premise × (P5.terms.premise × P6.terms.premise))));
+      stable = P1.terms.stable
+          × (P2.terms.stable
+          × (P3.terms.stable × (P4.terms.stable × (P5.terms.stable × P6.terms.stable))));
+      alike = AlikeEither P1.terms.alike
+          (AlikeEither P2.terms.alike
+          (AlikeEither P3.terms.alike
+          (AlikeEither P4.terms.alike (AlikeEither P5.terms.alike P6.terms.alike))));
+    } };
 
     ghost claim = { λ s. or_else_claim (P1.claim s.0)
         (or_else_claim (P2.claim s.1.0)
@@ -320,11 +356,17 @@ impl<
         (or_else_ends I.reading (P5.meaning form) (P6.meaning form)
         (P5.leaves_ends form) (P6.leaves_ends form))))) };
 
-    ghost said = { λ s. or_else_said (P1.said s.0)
-        (or_else_said (P2.said s.1.0)
-        (or_else_said (P3.said s.1.1.0)
-        (or_else_said (P4.said s.1.1.1.0)
-        (or_else_said (P5.said s.1.1.1.1.0) (P6.said s.1.1.1.1.1))))) };
+    ghost covers = { λ is at. alt_covered (P1.covers is.0 at)
+        (alt_covered (P2.covers is.1.0 at)
+        (alt_covered (P3.covers is.1.1.0 at)
+        (alt_covered (P4.covers is.1.1.1.0 at)
+        (alt_covered (P5.covers is.1.1.1.1.0 at) (P6.covers is.1.1.1.1.1 at))))) };
+
+    ghost lawful = { λ is. alt_law (P1.lawful is.0)
+        (alt_law (P2.lawful is.1.0)
+        (alt_law (P3.lawful is.1.1.0)
+        (alt_law (P4.lawful is.1.1.1.0)
+        (alt_law (P5.lawful is.1.1.1.1.0) (P6.lawful is.1.1.1.1.1))))) };
 
     ghost claimed = { λ s. or_else_claimed (P1.claimed s.0)
         (or_else_claimed (P2.claimed s.1.0)

@@ -1,9 +1,7 @@
-use Rattle.winnow_core.specs.Says.Decided.{decided_of}
-use Rattle.winnow_expression_trees.proofs.PremisesDecidedLemmas.{decided_stateless}
+use Rattle.winnow_expression_trees.proofs.PremisesDecidedLemmas.{covered_stateless}
 use Rattle.winnow_expression_trees.proofs.laws.parts.deterministic_parts_are_stateless.Goals as goal
 
 pub returns : goal.returns
-returns g c s premise keeps =
-    decided_stateless
-    (decided_of g.I.Stream.reading g.met.P.Parser.leaves_ends (g.met.P.Parser.said s)
-    g.E.HasKind.form premise keeps)
+returns g c s premise stays =
+    covered_stateless g.P.Parser.meaning (λ at. g.met.P.Parser.covers premise at)
+    (g.met.P.Parser.lawful premise) g.E.HasKind.form s stays

@@ -1,2 +1,0 @@
-//! Laws of the parsers, each proved by a function that does nothing.
-pub mod complete;

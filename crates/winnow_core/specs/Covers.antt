@@ -1,0 +1,134 @@
+-- When a definition covers the calls of a parser, and what the lemmas of combinators share.
+use Rattle.std.specs.Prelude.{◌≡◌, ⊤, Ok, Err}
+use Rattle.std.proofs.Common.{refl, sym, subst, ap, ◌∙◌}
+use Rattle.streams.specs.Input.{Input, IsEndOf, back_at}
+use Rattle.streams.specs.Kind.{Kind, backtrack, cut, incomplete, memory}
+use Rattle.streams.specs.Reading.{Reading}
+use Rattle.stream_errors.specs.Form.{Answer}
+use Rattle.winnow_core.specs.Runs.{Keeps, Runs}
+use Rattle.parser_definitions.specs.Does.{Terms}
+use Rattle.parser_definitions.specs.Left.{End, Left, left_of}
+use Rattle.parser_definitions.specs.Outcome.{Does, Outcome, Setting, outcome_of, setting_of}
+use Rattle.parser_definitions.specs.Then.{Comes, ComesOf}
+use Rattle.parser_definitions.specs.Then.Steps.{hands_on, where_took}
+pub mod Adapters
+pub mod Errors
+pub mod Functions
+pub mod Leaves
+pub mod Outputs
+pub mod Sequences
+pub mod Tuples
+
+-- The input has the setting's flag for partial input, and whether its tokens can be read is that of
+-- the setting.
+pub record At {T : Type 0} (at : Setting) (i : Input T) : Type 0 where
+  pub more : i.status.cut ≡ at.more
+  pub possible : i.left.possible ≡ at.possible
+
+-- Every call in this setting has an outcome that the definition allows, and leaves an input in the
+-- same setting.
+abbrev pub Calls : {S T O : Type 0} → Setting → Runs S T O → Does S T O → Type 0
+Calls {S} {T} {O} at run does = (s : S) (i : Input T) (answer : Answer O) (t : S) (j : Input T)
+    → At at i → run s i answer t j
+    → does at s (left_of i) (outcome_of answer (t, left_of j)) × At at j
+
+-- The definition covers the calls of a parser in this setting.
+pub record Covers {S T O : Type 0} (at : Setting) (run : Runs S T O) (does : Does S T O) : Type 0
+  where
+    pub covers : Calls at run does
+
+-- No definition: every outcome is allowed.
+abbrev pub AnyOutcome : {S T O : Type 0} → Does S T O
+AnyOutcome at s w x = ⊤
+
+-- Of no law: its premise is false.
+abbrev pub no_terms : {O : Type 0} → Terms O
+no_terms = record {
+  premise = ⊥;
+  stable = ⊥;
+  alike = λ o p. o ≡ p;
+}
+
+-- ---- settings
+
+pub at_setting : {T : Type 0} {at : Setting} {i : Input T} → At at i
+    → setting_of at.form i ≡ at
+at_setting {at = at} {i = i} here =
+    ap (λ b. record at { more = b; possible = i.left.possible }) here.more
+    ∙ ap (λ b. record at { possible = b }) here.possible
+
+pub at_end : {T L : Type 0} {reading : Reading T L} {at : Setting} {i j : Input T} → At at i
+    → IsEndOf reading j i → At at j
+at_end here e =
+    record { more = e.cut ∙ here.more; possible = e.ends.possible ∙ here.possible }
+
+-- back at the start of a call
+pub at_back : {T : Type 0} {at : Setting} {i m : Input T} → At at i → At at m
+    → At at (back_at i.left m)
+at_back here there = record { more = there.more; possible = here.possible }
+
+pub at_same : {T : Type 0} {at : Setting} {i j : Input T} → j ≡ i → At at i → At at j
+at_same {at = at} e here = subst (λ z. At at z) (sym e) here
+
+-- ---- outcomes
+
+-- equal results have equal outcomes
+pub gave : {L O : Type 0} {a b : Answer O} (l : L) → a ≡ b → outcome_of a l ≡ outcome_of b l
+gave l e = ap (λ a. outcome_of a l) e
+
+-- so have equal remaining inputs
+pub left_at : {S T O : Type 0} {i j : Input T} (s : S) (answer : Answer O) → j ≡ i
+    → ◌≡◌ {A = Outcome (End S T) O} (outcome_of answer (s, left_of j))
+    (outcome_of answer (s, left_of i))
+left_at s answer same = ap (λ z. outcome_of answer (s, left_of z)) same
+
+pub pair_is : {A B : Type 0} (t : A × B) (b : B) → t.1 ≡ b → t ≡ (t.0, b)
+pair_is {A} {B} t b e = let make : B → A × B = λ y. (t.0, y) in ap make e
+
+-- an error of the child that is the whole's
+pub failed : {S Q T O U : Type 0} (put : Q → S → Q) (came : O → Comes S Q T U) (at : Setting)
+    (q : Q) (w : Left T) (k : Kind) (end : Left T) (s : S) (other : Q) (a : Answer U) → a ≡ Err k
+    → other ≡ put q s
+    → ComesOf (where_took put came) at q w (outcome_of (Err k) (s, end))
+    (outcome_of a (other, end))
+failed {S} {Q} {T} {O} {U} put came at q w k end s other a e f =
+    let P : Answer U → Q → Type 0 = λ b r. ComesOf (where_took put came) at q w
+    (outcome_of (Err k) (s, end)) (outcome_of b (r, end)) in
+    subst (λ b. P b other) (sym e) (subst (λ r. P (Err k) r) (sym f) (plainly k))
+  where
+    plainly : (k : Kind) → ComesOf (where_took put came) at q w
+        (outcome_of (Err k) (s, end)) (outcome_of (Err k) (put q s, end))
+    plainly backtrack = refl
+    plainly cut = refl
+    plainly (incomplete need) = refl
+    plainly memory = refl
+
+-- a result of the child that is the whole's
+pub handed : {S Q T O : Type 0} (put : Q → S → Q) (at : Setting) (q : Q) (w : Left T)
+    (a : Answer O) (s : S) (end : Left T)
+    → ComesOf (hands_on put) at q w (outcome_of a (s, end)) (outcome_of a (put q s, end))
+handed put at q w (Ok o) s end = refl
+handed put at q w (Err backtrack) s end = refl
+handed put at q w (Err cut) s end = refl
+handed put at q w (Err (incomplete need)) s end = refl
+handed put at q w (Err memory) s end = refl
+
+-- ---- parsers without a state that changes
+
+-- Such a parser is covered if each of its calls has an outcome of the definition, and leaves a
+-- suffix of its input.
+pub kept_covered : {S T L O : Type 0} (reading : Reading T L)
+    (runs : S → Input T → Answer O → Input T → Type 0) (does : Does S T O) (at : Setting)
+    → ((s : S) (i : Input T) (a : Answer O) (j : Input T) → runs s i a j
+    → does (setting_of at.form i) s (left_of i) (outcome_of a (s, left_of j)))
+    → ((s : S) (i : Input T) (a : Answer O) (j : Input T) → runs s i a j → IsEndOf reading j i)
+    → Covers at (Keeps runs) does
+kept_covered {S} {T} {O = O} reading runs does at did ends = record { covers = call }
+  where
+    call : Calls at (Keeps runs) does
+    call s i a t j here (r, kept) =
+        let P : S → Type 0 = λ z. does at s (left_of i) (outcome_of a (z, left_of j)) in (
+          subst P (sym kept) (subst (λ z. does z s (left_of i) (outcome_of a (s, left_of j)))
+              (at_setting here) (did s i a j r)),
+          at_end here (ends s i a j r),
+        )

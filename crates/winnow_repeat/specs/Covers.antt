@@ -1,0 +1,202 @@
+-- Repetitions of a covered child are covered: what is the same in each of them.
+use Rattle.std.specs.List.{FoldsTo}
+use Rattle.std.specs.Prelude.{◌≡◌, ◌⊎◌, ◌<◌, ◌≤◌, ◌+◌, ℕ, List, [], ◌∷◌, length, Option, Some}
+use Rattle.std.specs.Prelude.{None, Ok, Err}
+use Rattle.std.proofs.Common.{refl, sym, subst, ap, ◌∙◌, inl, inr, arith}
+use Rattle.streams.specs.Input.{Input}
+use Rattle.streams.specs.Kind.{Kind, backtrack, cut, incomplete, memory}
+use Rattle.stream_errors.specs.Form.{Answer, ErrorForm, assert_kind, modal, plain}
+use Rattle.stream_sets.specs.Range.{Bounds, IsBelow}
+use Rattle.winnow_core.specs.Covers.{At, Covers, failed, gave}
+use Rattle.winnow_core.specs.Runs.{Runs}
+use Rattle.winnow_repeat.specs.Repeat as lib
+use Rattle.parser_definitions.specs.Bounded.{capacity_of}
+use Rattle.parser_definitions.specs.Consumes.{Item, by_consuming}
+use Rattle.parser_definitions.specs.Folding.{Folding}
+use Rattle.parser_definitions.specs.Items.{Items, ItemsTurn, items_next}
+use Rattle.parser_definitions.specs.Left.{End, Left, back, left_of}
+use Rattle.parser_definitions.specs.Loop.{LoopDoes, Turn, again, last, last_comes, last_turn}
+use Rattle.parser_definitions.specs.Loop.{returns}
+use Rattle.parser_definitions.specs.Outcome.{Does, Outcome, Setting, backs, misused, outcome_of}
+use Rattle.parser_definitions.specs.Outcome.{took, wants}
+use Rattle.parser_definitions.specs.Then.{ComesOf, Then}
+use Rattle.parser_definitions.specs.Then.Steps.{instead, same, takes}
+pub mod Fill
+pub mod Fold
+pub mod Repeat
+pub mod RepeatTill
+
+-- a count below the last one is below the greatest
+pub below : (greatest : Option ℕ) (n most : ℕ) → n < most
+    → (greatest ≡ Some most) ⊎ IsBelow greatest most → IsBelow greatest n
+below None n most less is = tt
+below (Some g) n most less (inl e) =
+    let P : Option ℕ → Type 0 = λ z. IsBelow z n in subst P (sym e) less
+below (Some g) n most less (inr is) = omega (arith, less, is)
+
+pub same_capacity : (least : ℕ) (greatest : Option ℕ)
+    → lib.capacity_of least greatest ≡ capacity_of least greatest
+same_capacity least None = refl
+same_capacity least (Some most) = refl
+
+pub misuse : {L O : Type 0} (at : Setting) (l : L)
+    → outcome_of {O = O} (Err (assert_kind at.form)) l ≡ misused at l
+misuse {L} {O} at l = by at.form
+  where
+    by : (form : ErrorForm) → outcome_of {O = O} (Err (assert_kind form)) l
+        ≡ misused (record { form = form; more = at.more; possible = at.possible }) l
+    by modal = refl
+    by plain = refl
+
+-- the same state and the same remaining input
+pub same_end : {Q T : Type 0} {t u : Q} {j m : Input T} → t ≡ u → j ≡ m
+    → ◌≡◌ {A = End Q T} (t, left_of j) (u, left_of m)
+same_end {Q} {T} {t} {u} {j} {m} kept is =
+    let make : Q → Input T → End Q T = λ q i. (q, left_of i) in
+    ap (λ q. make q j) kept ∙ ap (λ i. make u i) is
+
+-- ---- items
+
+module _ {S T O : Type 0} {at : Setting} {run : Runs S T O} {does : Does S T O}
+    (child : Covers at run does) (s : S) (i : Input T) (t : S) (j : Input T) (here : At at i) where
+  pub item_fails : (k : Kind) → run s i (Err k) t j
+      → Item does at s (left_of i) (outcome_of (Err k) (t, left_of j)) × At at j
+  item_fails k ran =
+      let d = child.covers s i (Err k) t j here ran in (
+        (
+          outcome_of (Err k) (t, left_of j),
+          d.0,
+          failed instead (λ o. by_consuming (takes instead (Some o)) (takes instead None)) at s
+              (left_of i) k (left_of j) t t (Err k) refl refl,
+        ),
+        d.1,
+      )
+
+  pub item_consumes : (o : O) → run s i (Ok o) t j
+      → length j.left.tokens < length i.left.tokens
+      → Item does at s (left_of i) (took (Some o) (t, left_of j)) × At at j
+  item_consumes o ran fewer =
+      let d = child.covers s i (Ok o) t j here ran in
+      ((took o (t, left_of j), d.0, inl (fewer, refl)), d.1)
+
+  pub item_stays : (o : O) → run s i (Ok o) t j → j.left.tokens ≡ i.left.tokens
+      → Item does at s (left_of i) (took None (t, left_of j)) × At at j
+  item_stays o ran is =
+      let d = child.covers s i (Ok o) t j here ran in
+      let not : length j.left.tokens < length i.left.tokens → ⊥ =
+      λ fewer. absurd (omega (arith, fewer, ap (λ l. length l) is)) in
+      ((took o (t, left_of j), d.0, inr (not, refl)), d.1)
+
+-- ---- turns
+
+module _ {S Q T C O : Type 0} (get : Q → S) (put : Q → S → Q) (f : Folding Q C O)
+    (bounds : Bounds) (item : Does S T (Option O)) where
+  abbrev Turns : C × ℕ → Does Q T (Turn (C × ℕ) C)
+  Turns = ItemsTurn get put f bounds item
+
+  -- the last turn, after a number of items
+  abbrev pub LastTurn : C × ℕ → Does Q T C
+  LastTurn x = Then same (Turns x) last_turn
+
+  -- an item whose output is added
+  abbrev pub AddsItem : Setting → C × Q × Left T → O → C × Q × Left T → Type 0
+  AddsItem at a o b = (v : S) × item at (get a.1) a.2 (took (Some o) (v, b.2))
+      × f.takes (put a.1 v) a.0 o b.0 b.1
+
+  module _ (at : Setting) (x : C × ℕ) (q : Q) (w : Left T) where
+    -- the greatest number is reached
+    pub ends_full : bounds.greatest ≡ Some x.1 → (a : Answer C) (l : End Q T) → a ≡ Ok x.0
+        → l ≡ (q, w) → LastTurn x at q w (outcome_of a l)
+    ends_full full a l e is = (
+      took (returns x.0) (q, w),
+      inl (full, refl),
+      gave l e ∙ ap (λ l. took x.0 l) is,
+    )
+
+    module _ (less : IsBelow bounds.greatest x.1) (v : S) (end : Left T) where
+      -- an item backtracks, and there are enough
+      pub ends_enough : bounds.least ≤ x.1 → item at (get q) w (backs (v, end)) → (a : Answer C)
+          (l : End Q T) → a ≡ Ok x.0 → l ≡ (put q v, back w end)
+          → LastTurn x at q w (outcome_of a l)
+      ends_enough many d a l e is = (
+        took (returns x.0) (put q v, back w end),
+        inr (less, (backs (v, end), d, inl (many, refl))),
+        gave l e ∙ ap (λ l. took x.0 l) is,
+      )
+
+      comes_failed : (k : Kind) → (k ≡ backtrack → x.1 < bounds.least)
+          → ComesOf (items_next put f bounds.least x) at q w (outcome_of (Err k) (v, end))
+          (outcome_of (Err k) (put q v, end))
+      comes_failed backtrack few = inr (few refl, refl)
+      comes_failed cut few = refl
+      comes_failed (incomplete need) few = refl
+      comes_failed memory few = refl
+
+      -- it fails: by another kind, or too early
+      pub ends_failed : (k : Kind) → (k ≡ backtrack → x.1 < bounds.least)
+          → item at (get q) w (outcome_of (Err k) (v, end)) → (a : Answer C) (t : Q) → a ≡ Err k
+          → t ≡ put q v → LastTurn x at q w (outcome_of a (t, end))
+      ends_failed k few d a t e kept = (
+        outcome_of (Err k) (put q v, end),
+        inr (less, (outcome_of (Err k) (v, end), d, comes_failed k few)),
+        failed instead last_comes at q w k end (put q v) t a e kept,
+      )
+
+      -- it consumes nothing
+      pub ends_stuck : item at (get q) w (took None (v, end)) → (a : Answer C) (t : Q)
+          → a ≡ Err (assert_kind at.form) → t ≡ put q v
+          → LastTurn x at q w (outcome_of a (t, end))
+      ends_stuck d a t e kept = (
+        outcome_of (Err (assert_kind at.form)) (put q v, end),
+        inr (less, (took None (v, end), d, misuse at (put q v, end))),
+        failed instead last_comes at q w (assert_kind at.form) end (put q v) t a e kept,
+      )
+
+      module _ (o : O) (d : item at (get q) w (took (Some o) (v, end))) where
+        -- its output is rejected
+        pub ends_rejected : (u : Q) → f.rejects (put q v) x.0 o u → (a : Answer C) (l : End Q T)
+            → a ≡ Err backtrack → l ≡ (u, back w end) → LastTurn x at q w (outcome_of a l)
+        ends_rejected u none a l e is = (
+          backs (u, back w end),
+          inr (less, (took (Some o) (v, end), d, inr (inl (u, none, refl)))),
+          gave l e ∙ ap (λ l. backs l) is,
+        )
+
+        -- an allocation for its output fails
+        pub ends_wanting : f.grows (put q v) x.0 o → (a : Answer C) (l : End Q T)
+            → a ≡ Err memory → LastTurn x at q w (outcome_of a l)
+        ends_wanting grows a l e =
+            (wants, inr (less, (took (Some o) (v, end), d, inr (inr (grows, refl)))), gave l e)
+
+  limit : {at : Setting} {q : Q} {w : Left T} {y : Outcome (End Q T) C} (x : C × ℕ)
+      → LastTurn x at q w y → (bounds.greatest ≡ Some x.1) ⊎ IsBelow bounds.greatest x.1
+  limit x (z, inl (full, e), c) = inl full
+  limit x (z, inr (less, d), c) = inr less
+
+  turns : {at : Setting} {y : Outcome (End Q T) C} (outputs : List O) (n most : ℕ)
+      → most ≡ n + length outputs → (a b : C × Q × Left T) → FoldsTo (AddsItem at) a outputs b
+      → LastTurn (b.0, most) at b.1 b.2 y → LoopDoes Turns at (a.0, n) a.1 a.2 y
+  turns {at} {y} [] n most is a b went l =
+      let P : C × Q × Left T → Type 0 = λ x. LoopDoes Turns at (x.0, n) x.1 x.2 y in
+      subst P (sym went)
+      (last (subst (λ m. LastTurn (b.0, m) at b.1 b.2 y) (is ∙ omega arith) l))
+  turns {at} {y} (o ∷ os) n most is a b (c, (v, d, takes), went) l =
+      again (inr (
+        below bounds.greatest n most (omega (arith, is)) (limit (b.0, most) l),
+        (took (Some o) (v, c.2), d, inl (c.0, c.1, takes, refl)),
+      )) (turns os (n + 1) most (is ∙ omega arith) c b went l)
+
+  -- items whose outputs are added, and the last turn
+  pub items_do : {at : Setting} {y : Outcome (End Q T) C} (outputs : List O)
+      (a b : C × Q × Left T) → FoldsTo (AddsItem at) a outputs b
+      → LastTurn (b.0, length outputs) at b.1 b.2 y
+      → Items get put f bounds item a.0 at a.1 a.2 y
+  items_do outputs a b went l = turns outputs 0 (length outputs) (omega arith) a b went l
+
+-- bounds that contain no number
+pub misused_bounds : {Q T O : Type 0} (at : Setting) {q t : Q} {i j : Input T} {a : Answer O}
+    → a ≡ Err (assert_kind at.form) → t ≡ q → j ≡ i
+    → ◌≡◌ {A = Outcome (End Q T) O} (outcome_of a (t, left_of j)) (misused at (q, left_of i))
+misused_bounds {Q} {T} {O} at {q} {t} {i} {j} {a} e kept is =
+    gave (t, left_of j) e ∙ misuse at (t, left_of j)
+    ∙ ap (λ l. misused at l) (same_end kept is)
