@@ -14,7 +14,7 @@ ghost use Rattle.winnow_expression_trees.specs.Items.Premises.{gives_ends};
 ghost use Rattle.example_booleans.specs.Booleans.{ByteItem, LacksOperand, infix_at, logic_value};
 ghost use Rattle.example_booleans.specs.Booleans.{not_value, operand_at, postfix_at, prefix_at};
 ghost use Rattle.example_booleans.specs.Booleans.Laws.{byte_ends};
-ghost use Rattle.winnow_core.specs.Says.{Is, nothing_done, nothing_said};
+ghost use Rattle.winnow_core.specs.Covers.{AnyOutcome, no_terms};
 
 use std::alloc::Allocator;
 use stream_errors::empty::EmptyError;
@@ -126,17 +126,19 @@ impl<'i> Parser<&'i [u8], bool, EmptyError> for Part {
 
     ghost state = { λ _. tt };
 
-    ghost states = { Is };
-
     ghost meaning = { λ _. Keeps (λ _. ItemRuns (ByteItem operand_at)) };
 
-    ghost says = { λ _. nothing_said };
+    ghost does = { AnyOutcome };
+
+    ghost terms = { no_terms };
 
     ghost claim = { λ _. no_claim };
 
     ghost leaves_ends = { λ form s i a t j r. byte_ends operand_at i j a r.0 };
 
-    ghost said = { λ _. nothing_done };
+    ghost covers = { λ never at. absurd never };
+
+    ghost lawful = { λ never. absurd never };
 
     ghost claimed = { λ _. nothing_claimed };
 
@@ -160,17 +162,19 @@ impl<'i> Parser<&'i [u8], Prefix<Not>, EmptyError> for Part {
 
     ghost state = { λ _. tt };
 
-    ghost states = { Is };
-
     ghost meaning = { λ _. Keeps (λ _. ItemRuns (ByteItem prefix_at)) };
 
-    ghost says = { λ _. nothing_said };
+    ghost does = { AnyOutcome };
+
+    ghost terms = { no_terms };
 
     ghost claim = { λ _. no_claim };
 
     ghost leaves_ends = { λ form s i a t j r. byte_ends prefix_at i j a r.0 };
 
-    ghost said = { λ _. nothing_done };
+    ghost covers = { λ never at. absurd never };
+
+    ghost lawful = { λ never. absurd never };
 
     ghost claimed = { λ _. nothing_claimed };
 
@@ -194,17 +198,19 @@ impl<'i> Parser<&'i [u8], Postfix<Not>, EmptyError> for Part {
 
     ghost state = { λ _. tt };
 
-    ghost states = { Is };
-
     ghost meaning = { λ _. Keeps (λ _. ItemRuns (ByteItem postfix_at)) };
 
-    ghost says = { λ _. nothing_said };
+    ghost does = { AnyOutcome };
+
+    ghost terms = { no_terms };
 
     ghost claim = { λ _. no_claim };
 
     ghost leaves_ends = { λ form s i a t j r. byte_ends postfix_at i j a r.0 };
 
-    ghost said = { λ _. nothing_done };
+    ghost covers = { λ never at. absurd never };
+
+    ghost lawful = { λ never. absurd never };
 
     ghost claimed = { λ _. nothing_claimed };
 
@@ -228,17 +234,19 @@ impl<'i> Parser<&'i [u8], Infix<Logic>, EmptyError> for Part {
 
     ghost state = { λ _. tt };
 
-    ghost states = { Is };
-
     ghost meaning = { λ _. Keeps (λ _. ItemRuns (ByteItem infix_at)) };
 
-    ghost says = { λ _. nothing_said };
+    ghost does = { AnyOutcome };
+
+    ghost terms = { no_terms };
 
     ghost claim = { λ _. no_claim };
 
     ghost leaves_ends = { λ form s i a t j r. byte_ends infix_at i j a r.0 };
 
-    ghost said = { λ _. nothing_done };
+    ghost covers = { λ never at. absurd never };
+
+    ghost lawful = { λ never. absurd never };
 
     ghost claimed = { λ _. nothing_claimed };
 

@@ -82,8 +82,8 @@ module _ {H : Type 0} (A : Type 0) (step : H → ℕ → ℕ → ℕ → ℕ →
   abbrev to_right : Runs (⊤ × ℕ × H) ℕ ℕ
   to_right = SeparatedFoldr1Runs A step (any_byte plain) (one_byte plain) (assert_kind plain)
 
-  pub folds_both : FoldTheSameIf (λ (_ : ⊤). ⊤ × ⊤) (λ (_ : ℕ). ⊤ × ⊤) step (any_byte plain)
-      (one_byte plain) to_left to_right → (i : Input ℕ) (left right b d : ℕ) (f h : H)
+  pub folds_both : FoldTheSameIf ⊤ ⊤ step (any_byte plain) (one_byte plain) to_left to_right
+      → (i : Input ℕ) (left right b d : ℕ) (f h : H)
       (t u : ⊤ × ℕ × H) (j k : Input ℕ) → b ≡ 44 → f ≡ op → d ≡ 44 → h ≡ op
       → to_left (tt, b, f) i (Ok left) t j → to_right (tt, d, h) i (Ok right) u k
       → (first : ℕ) × (links : List (ℕ × ℕ)) × (p : H) × (q : H)
@@ -94,7 +94,7 @@ module _ {H : Type 0} (A : Type 0) (step : H → ℕ → ℕ → ℕ → ℕ →
       let R : ℕ → Type 0 = λ x. to_right (tt, x, h) i (Ok right) u k in
       let N : H → Type 0 = λ x. to_right (tt, 44, x) i (Ok right) u k in
       let (v, n, places, first, links, one, others, r, turns, ls, w, more, rs, e, g, l, same) =
-      agree (tt, 44, op) (tt, tt) (tt, tt) (one_consumes plain 44) i left right t u j k
+      agree tt tt (tt, 44, op) (λ b reached. one_consumes plain b) i left right t u j k
       (subst M so (subst L is ran)) (subst N too (subst R are also)) in
       let both = same (any_decides plain) (one_decides plain 44) in
       let P : ℕ → Type 0 = λ x. FoldsRight step op x others right u.2 in

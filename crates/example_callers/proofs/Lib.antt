@@ -1,7 +1,8 @@
 pub mod FoldLemmas
 pub mod ItemLemmas
 pub mod ListLemmas
-pub mod MovedRuns
+pub mod MarkLemmas
+mod MovedRuns
 pub mod PlaceLemmas
 pub mod PrefixLemmas
 pub mod PremiseLemmas

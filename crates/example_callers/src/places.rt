@@ -3,7 +3,7 @@ ghost use Rattle.std.specs.Prelude.{false, IfErr, IfOk};
 ghost use Rattle.std.specs.Prelude.{◌≡◌};
 ghost use Rattle.example_callers.specs.Places.{IsPlaced, KeyAndMark};
 ghost use Rattle.winnow.specs.AsChar.{IsAlpha};
-ghost use Rattle.winnow.specs.Class.Says.{CharIsFunction};
+ghost use Rattle.winnow.specs.Class.{CharIsFunction};
 ghost use Rattle.winnow.specs.Exact.{IsSpared, Reads};
 ghost use Rattle.winnow.specs.Kind.{backtrack};
 ghost use Rattle.winnow.specs.Grammar.{Class, Literally};

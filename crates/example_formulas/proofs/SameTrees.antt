@@ -1,6 +1,6 @@
 -- Trees that are equivalent, where equivalent outputs and folds are equal, are equal.
-use Rattle.std.specs.Prelude.{◌≡◌, ◌+ℤ◌, ℤ, pos}
-use Rattle.std.proofs.Common.{refl, sym, ap, subst, arith}
+use Rattle.std.specs.Prelude.{◌≡◌, ◌⊎◌, ◌+ℤ◌, ℤ, pos}
+use Rattle.std.proofs.Common.{refl, sym, ap, subst, arith, inl, inr, ◌∙◌}
 use Rattle.std.proofs.lemmas.Int.{ints}
 use Rattle.winnow.specs.{Infix, Postfix}
 use Rattle.winnow.specs.Alike.{AlikeInfix, AlikeTree}
@@ -54,3 +54,10 @@ pub equal_infixes : {H : Type 0} (o q : Infix H) → o ≡ q → AlikeInfix (λ 
 equal_infixes {H} o q same =
     let P : Infix H → Type 0 = λ z. AlikeInfix (λ f g. f ≡ g) o z in
     subst P same (refl, refl, refl, refl)
+
+-- two clones of one operator, of a choice of two, are equal
+pub clones_equal : {A : Type 0} {IsClone : A → A → Type 0}
+    → ((u o : A) → IsClone u o → u ≡ o) → (o p : A)
+    → ((u : A) × IsClone u o × IsClone u p) ⊎ ((u : A) × IsClone u o × IsClone u p) → o ≡ p
+clones_equal same o p (inl (u, a, b)) = sym (same u o a) ∙ same u p b
+clones_equal same o p (inr (u, a, b)) = sym (same u o a) ∙ same u p b

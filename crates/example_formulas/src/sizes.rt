@@ -12,9 +12,11 @@ ghost use Rattle.winnow.specs.Parts.{parts_grammar};
 ghost use Rattle.winnow.specs.Items.{Gives};
 ghost use Rattle.winnow.specs.Items.Premises.{gives_ends};
 ghost use Rattle.winnow.specs.OneTree.{IsTheOneTree};
+ghost use Rattle.winnow.specs.Premises.Decided.{Stays};
 
 use std::alloc::Allocator;
 use winnow::Parser;
+use winnow::ascii::Uint;
 use winnow::ascii::impls::DecUint;
 use winnow::combinator::impls::{AltParser, Fail, Value};
 use winnow::combinator::{FoldBinary, FoldUnary, Infix, NoFold, Postfix, Prefix, alt, expression};
@@ -107,6 +109,29 @@ type Mark<I, O> = Value<u8, I, u8, O, EmptyError>;
 /// A choice of two such bytes.
 type Marks<I, O> = AltParser<(Mark<I, O>, Mark<I, O>), I, O, EmptyError>;
 
+/// States that a clone of a unit, as its parser returns it, is equal to it.
+fn unit_clones_are_equal()
+    ensures { (u : Postfix Scale) (o : Postfix Scale)
+        → ⟦<Postfix<Scale> as Clone>⟧.is_clone u o → u ≡ o }
+{}
+
+/// States that a clone of a sign, as its parser returns it, is equal to it.
+fn sign_clones_are_equal()
+    ensures { (u : Infix Sign) (o : Infix Sign) → ⟦<Infix<Sign> as Clone>⟧.is_clone u o → u ≡ o }
+{}
+
+/// States that a call of the parser of a number keeps its state and the input's status.
+fn a_number_stays<O: Uint>()
+    ensures { Stays (⟦<DecUint as Parser<Bytes, O, EmptyError>>⟧.meaning plain) tt }
+{}
+
+/// States that so does a call of two marks, unless it is out of memory.
+fn marks_stay<O: Clone>()
+    ensures { (x : ℕ) (y : ℕ) (u : O) (v : O)
+        → Stays (⟦<Marks<Bytes, O> as Parser<Bytes, O, EmptyError>>⟧.meaning plain)
+        ((x, u), (y, v)) }
+{}
+
 /// The parser of units.
 fn units<'i>() -> Marks<&'i [u8], Postfix<Scale>>
     ensures { marks_of result ≡ unit_marks }
@@ -154,6 +179,11 @@ pub fn read_size<'i, A: Allocator + Copy>(alloc: A, input: &mut &'i [u8]) -> Res
         (bytes_input input.new.now) }
     ensures ends { IsEndOf bytes_reading (bytes_input input.new.now) (bytes_input input.old.now) }
 {
+    unit_clones_are_equal();
+    sign_clones_are_equal();
+    a_number_stays::<u32>();
+    marks_stay::<Postfix<Scale>>();
+    marks_stay::<Infix<Sign>>();
     deterministic_parts_are_stateless::<DecUint, &'i [u8], u32, EmptyError>();
     deterministic_parts_are_stateless::<
         Marks<&'i [u8], Postfix<Scale>>,
@@ -207,6 +237,11 @@ pub fn a_size_has_one_tree()
         (⟦<Scale as FoldUnary<Bytes, u32, EmptyError>>⟧.folds plain)
         (⟦<Sign as FoldBinary<Bytes, u32, EmptyError>>⟧.folds plain)) size_states }
 {
+    unit_clones_are_equal();
+    sign_clones_are_equal();
+    a_number_stays::<u32>();
+    marks_stay::<Postfix<Scale>>();
+    marks_stay::<Infix<Sign>>();
     deterministic_parts_are_stateless::<DecUint, Bytes, u32, EmptyError>();
     deterministic_parts_are_stateless::<
         Marks<Bytes, Postfix<Scale>>,

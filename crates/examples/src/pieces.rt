@@ -1,17 +1,15 @@
 //! Readers of partial input whose results are final.
 //!
-//! A result is also that of every longer input, unless it is `Incomplete` or out of memory, as far
-//! as outputs show the same. So it does not matter where the input is split. Each reader is
-//! composed of parsers of the library, with no proof about them.
-ghost use Rattle.std.specs.Prelude.{◌≡◌, true};
+//! A result is also that of every longer input, unless it is `Incomplete` or out of memory. So it
+//! does not matter where the input is split. Each reader is composed of parsers of the library.
+ghost use Rattle.std.specs.Prelude.{◌≡◌, ⊤, true, ℕ};
 ghost use Rattle.winnow.specs.Form.{answer_by, modal};
+ghost use Rattle.winnow.specs.Longer.{SameOnLonger};
 ghost use Rattle.examples.specs.Pieces.Pieces.{SameSettings};
-ghost use Rattle.winnow.specs.ForGood.{HasFinalResults};
 
 use winnow::Parser;
 use winnow::ascii::impls::{Alpha1, Digit1};
-use winnow::decided::parse_for_good;
-use winnow::error::{EmptyError, ErrMode, HasKind, ParserError};
+use winnow::error::{EmptyError, ErrMode, HasKind};
 use winnow::stream::{Partial, Stream};
 
 /// A piece of bytes, as clauses name it.
@@ -38,12 +36,10 @@ pub fn read_setting<'i>(
     input: &mut Partial<&'i [u8]>,
 ) -> Result<(&'i [u8], u8, &'i [u8]), ErrMode<EmptyError>>
     requires is_cut { (⟦<Bytes as Stream>⟧.view input.old).status.cut ≡ true }
-    ensures for_good { HasFinalResults ⟦<Bytes as Stream>⟧.following (tt, 61, tt)
-        (⟦<(Alpha1, u8, Digit1) as Parser<Bytes, Setting, Error>>⟧.states (tt, 61, tt))
+    ensures same { (t : ⊤ × ℕ × ⊤) × SameOnLonger
         (⟦<(Alpha1, u8, Digit1) as Parser<Bytes, Setting, Error>>⟧.meaning modal) SameSettings
-        (⟦<Bytes as Stream>⟧.view input.old) (answer_by ⟦<Error as HasKind>⟧.kind result)
-        (⟦<Bytes as Stream>⟧.view input.new) }
+        (tt, 61, tt) (⟦<Bytes as Stream>⟧.view input.old)
+        (answer_by ⟦<Error as HasKind>⟧.kind result) t (⟦<Bytes as Stream>⟧.view input.new) }
 {
-    let mut setting = (Alpha1, b'=', Digit1);
-    parse_for_good(&mut setting, input)
+    (Alpha1, b'=', Digit1).parse_cut(input)
 }

@@ -4,7 +4,7 @@ use Rattle.std.specs.Prelude.{IsSome}
 use Rattle.std.proofs.lemmas.Bool.{false≢true}
 use Rattle.winnow.specs.Kind.{Kind, backtrack, cut, incomplete, memory}
 use Rattle.winnow.specs.Form.{need_of_kind}
-use Rattle.winnow.specs.Stable.{IsFinalKind}
+use Rattle.winnow.specs.Longer.{IsFinalKind}
 
 pub asked : (k : Kind) → IsSome (need_of_kind k) → (need : Option _) × (k ≡ incomplete need)
 asked backtrack some = absurd (false≢true some)

@@ -1,7 +1,7 @@
 //! Numbers of JSON (RFC 8259, section 6).
 ghost use Rattle.format_json_scalars.specs.Numbers.{NumberOf};
 ghost use Rattle.format_json_texts.specs.Number.{ContinuesNumber, IsLeading, Number, NumberText};
-ghost use Rattle.winnow_ascii.specs.Class.Says.{CharIsFunction};
+ghost use Rattle.winnow_ascii.specs.Class.{CharIsFunction};
 ghost use Rattle.winnow_core.specs.Exact.{IsSpared, Reads};
 ghost use Rattle.grammars.specs.Grammar.{InClass, Literally};
 ghost use Rattle.streams.specs.Text.{text_input, text_reading};

@@ -5,6 +5,7 @@ pub mod Dues
 pub mod Encodings
 pub mod FirstBytes
 pub mod FirstLines
+pub mod Found
 pub mod LeafTexts
 pub mod LineEnds
 pub mod LineTexts

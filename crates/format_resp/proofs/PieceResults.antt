@@ -1,52 +1,50 @@
 -- Results of the parsers of a token, of a line, and of tokens before a line ending.
-use Rattle.std.specs.Prelude.{◌≡◌, ◌⊎◌, Bool, ℕ, List, [], ◌∷◌, ◌++◌, Option, Result, Ok, Err}
+use Rattle.std.specs.Prelude.{◌≡◌, ◌⊎◌, ℕ, List, [], ◌∷◌, Result, Ok, Err}
 use Rattle.std.specs.Borrow.{Bor}
 use Rattle.std.proofs.Common.{inl, inr, refl}
 use Rattle.stream_errors.specs.Form.{ErrorForm, answer_by}
-use Rattle.stream_sets.specs.Longest.{IsLongest}
 use Rattle.streams.specs.Following.{Following}
 use Rattle.streams.specs.Kind.{Kind, backtrack, cut, incomplete, memory}
 use Rattle.streams.specs.Input.{Input}
 use Rattle.streams.specs.Reading.{Reading}
-use Rattle.grammars.specs.Grammar.{Grammar, Literally, NoMatch, SpelledBy}
+use Rattle.grammars.specs.Grammar.{Grammar, Literally, NoMatch}
 use Rattle.grammars.specs.Grammar.Searches.{LiterallyBytes}
+use Rattle.parser_definitions.specs.Left.{left_of}
+use Rattle.parser_definitions.specs.Outcome.{Does, setting_of, took}
 use Rattle.winnow_ascii.specs.Crlf.{CrlfRuns}
 use Rattle.winnow_core.specs.Literal.Inversion.{literal_taken}
-use Rattle.winnow_core.specs.Outcome.{outcome_of, took}
-use Rattle.winnow_core.specs.Says.{Says, Tells, setting_of}
+use Rattle.winnow_core.specs.Tells.{Tells}
 use Rattle.winnow_grammar.specs.Cut.{ReadsOrAsks}
-use Rattle.winnow_token.specs.TakeWhile.{IsEnded}
+use Rattle.format_resp.proofs.Found.{Finds}
 use Rattle.format_resp.specs.MustAsk.{ReadsOrMustAsk}
 
--- If every match is a specified outcome, an error means that there is none: outcomes are unique.
-no_match : {T O : Type 0} {says : Says T O} (grammar : Grammar T O) {form : ErrorForm}
-    {i : Input T} (k : Kind) (place : List T) → Tells says form i (outcome_of (Err k) place)
-    → ((o : O) (rest : List T) → grammar i.left.tokens o rest
-    → says.does (setting_of form i) i.left.tokens (took o rest))
+-- If every match is an outcome, an error means that there is no match: outcomes are unique.
+no_match : {S T L O : Type 0} {reading : Reading T L} {alike : O → O → Type 0} {does : Does S T O}
+    (grammar : Grammar T O) {form : ErrorForm} {s t : S} {i j : Input T} (k : Kind)
+    → Tells reading alike does form s i (Err k) t j
+    → Finds does (setting_of form i) s grammar (left_of i)
     → (k ≡ memory) ⊎ NoMatch grammar i.left.tokens
-no_match grammar memory place told does = inl refl
-no_match grammar backtrack place told does =
-    inr (λ o rest x. told.only (took o rest) (does o rest x))
-no_match grammar cut place told does =
-    inr (λ o rest x. told.only (took o rest) (does o rest x))
-no_match grammar (incomplete need) place told does =
-    inr (λ o rest x. told.only (took o rest) (does o rest x))
+no_match grammar memory told finds = inl refl
+no_match grammar {s = s} backtrack told finds = inr (λ o rest x.
+    let (end, is, d) = finds.found o rest x in told.only (took o (s, end)) d)
+no_match grammar {s = s} cut told finds = inr (λ o rest x.
+    let (end, is, d) = finds.found o rest x in told.only (took o (s, end)) d)
+no_match grammar {s = s} (incomplete need) told finds = inr (λ o rest x.
+    let (end, is, d) = finds.found o rest x in told.only (took o (s, end)) d)
 
 -- a call, by a grammar equal to the parser's: its output is a match, and every match is an outcome
-pub must_ask : {T L O E : Type 0} {reading : Reading T L} {following : Following T}
-    {kind : E → Kind} {says : Says T O} {grammar known : Grammar T O} {form : ErrorForm}
-    {i j : Input T} {result : Result O E} → grammar ≡ known
+pub must_ask : {S T L O E : Type 0} {reading : Reading T L} {following : Following T}
+    {kind : E → Kind} {alike : O → O → Type 0} {does : Does S T O} {grammar known : Grammar T O}
+    {form : ErrorForm} {s t : S} {i j : Input T} {result : Result O E} → grammar ≡ known
     → ReadsOrAsks reading following kind grammar i result j
-    → Tells says form i (outcome_of (answer_by kind result) j.left.tokens)
+    → Tells reading alike does form s i (answer_by kind result) t j
     → ((o : O) → answer_by kind result ≡ Ok o → grammar i.left.tokens o j.left.tokens)
-    → ((o : O) (rest : List T) → grammar i.left.tokens o rest
-    → says.does (setting_of form i) i.left.tokens (took o rest))
+    → Finds does (setting_of form i) s grammar (left_of i)
     → ReadsOrMustAsk reading following kind known i result j
-must_ask {result = Ok o} is reads told matches does =
+must_ask {result = Ok o} is reads told matches finds =
     rw (← is) (record { reads = reads; first = matches o refl })
-must_ask {kind = kind} {grammar = grammar} {j = j} {result = Err e} is reads told matches does =
-    rw (← is)
-    (record { reads = reads; first = no_match grammar (kind e) j.left.tokens told does })
+must_ask {kind = kind} {grammar = grammar} {result = Err e} is reads told matches finds =
+    rw (← is) (record { reads = reads; first = no_match grammar (kind e) told finds })
 
 -- ---- line endings
 
@@ -64,17 +62,3 @@ module _ {T L : Type 0} (reading : Reading T L) (spells : Bor (List ℕ) → Lis
         taken.takes.passed.tokens,
         taken.answers,
       )
-
-  -- a line before one cannot be extended
-  pub line_ended : {member : T → Bool → Type 0} {greatest : Option ℕ}
-      {tokens front mid : List T} (o : L) (rest : List T) → (SpelledBy spells (13 ∷ 10 ∷ []) [] → ⊥)
-      → IsLongest member greatest tokens front mid
-      → LiterallyBytes reading spells (13 ∷ 10 ∷ []) mid o rest
-      → IsEnded member greatest front mid
-  unfolding Literally
-  line_ended o rest some longest ([], slice, spelled, shown, e, same) = absurd (some spelled)
-  line_ended o rest some longest (x ∷ xs, slice, spelled, shown, e, same) =
-      elim (longest.stops x (xs ++ rest) e) [
-        | inl lacks ↦ inl (x, xs ++ rest, e, lacks)
-        | inr full ↦ inr full
-      ]

@@ -2,8 +2,9 @@
 ghost use Rattle.std.specs.Prelude.{◌≡◌, ◌∷◌, [], None};
 ghost use Rattle.stream_errors.specs.Form.{modal};
 ghost use Rattle.stream_sets.specs.Range.{from_to};
+ghost use Rattle.streams.specs.Stream.{AnswersSeen};
 ghost use Rattle.winnow_core.specs.Literal.Laws.{SpellsByText};
-ghost use Rattle.stream_sets.specs.Once.{TokenEqInjective};
+ghost use Rattle.stream_sets.specs.Once.{SetIsFunction, TokenEqInjective};
 ghost use Rattle.grammars.specs.Grammar.{Both, Counted, Longest, SpelledBy, Token};
 ghost use Rattle.stream_sets.specs.Once.{Others};
 ghost use Rattle.format_resp.specs.MustAsk.{ReadsOrMustAsk};
@@ -48,7 +49,27 @@ where
         (13 ∷ 10 ∷ []))) (I.view input.old)
         result (I.view input.new) }
 {
-    terminated(take_till(Range::from(0..), (b'\r', b'\n')), Crlf).read_cut(input)
+    line_up_to((b'\r', b'\n'), input)
+}
+
+/// Parses the tokens up to a member of the set, and a carriage return and a line feed after them.
+#[inline(always)]
+fn line_up_to<
+    S: ContainsToken<I::Token> + Drop,
+    I: StreamIsPartial + Compare<&'static str>,
+    E: ParserError<I>,
+>(set: S, input: &mut I) -> Result<I::Slice, E>
+    requires callable { S.can_test set }
+    requires modal { E.form ≡ modal }
+    requires once { (x : S) → SetIsFunction (AnswersSeen I.seen_as (Others S.tells x)) }
+    requires spells { SpellsByText I.spells }
+    requires some { SpelledBy I.spells (13 ∷ 10 ∷ []) [] → ⊥ }
+    ensures { ReadsOrMustAsk I.reading I.following E.kind (Both (λ o1 o2. o1)
+        (Longest I.reading I.seen_as (Others S.tells) set (from_to 0 None))
+        (LiterallyBytes I.reading I.spells (13 ∷ 10 ∷ []))) (I.view input.old) result
+        (I.view input.new) }
+{
+    terminated(take_till(Range::from(0..), set), Crlf).read_cut(input)
 }
 
 /// That many tokens, and a carriage return and a line feed after them.

@@ -1,5 +1,5 @@
 -- Proofs that grammars leave a unique rest, and that some of them consume characters.
-use Rattle.std.specs.Prelude.{ℕ, zero, suc}
+use Rattle.std.specs.Prelude.{⊤, ℕ, zero, suc}
 use Rattle.std.proofs.Common.{inl, inr}
 use Rattle.format_parts.specs.Hexadecimal.{unit_one, unit_unique}
 use Rattle.format_parts.specs.Unique.{char_takes, char_unique, run_unique, word_unique}
@@ -25,7 +25,7 @@ use Rattle.grammars.specs.Grammar.Unique.{optional_unique, parted_unique, taken_
 use Rattle.grammars.specs.Grammar.Unique.{token_of_unique, token_unique, unique_nothing}
 use Rattle.stream_sets.specs.Range.{Bounds}
 use Rattle.streams.specs.Text.{text_reading}
-use Rattle.winnow_ascii.specs.Class.Says.{class_once}
+use Rattle.winnow_ascii.specs.Class.{class_once}
 use Rattle.winnow_token.specs.OneOf.Laws.{token_of_takes}
 use Rattle.winnow_token.specs.TakeWhile.Exact.{longest_unique}
 
@@ -34,7 +34,7 @@ pub members_unique : (set : Characters) (bounds : Bounds)
     → IsUnique (Longest text_reading (λ c. c) SetResult set bounds)
 members_unique set bounds =
     longest_unique text_reading (λ c. c) SetResult set bounds
-    (class_once (IsOf set) (λ c. c) (λ c. c) (λ c d e. e))
+    (class_once {S = ⊤} (IsOf set) 0 (λ c. c) (λ c. c) text_reading (λ c d e. e) tt)
 
 ruleset uniques = (
   ahead_unique,

@@ -18,13 +18,11 @@
 pub mod ascii;
 pub mod binary;
 pub mod combinator;
-pub mod decided;
 pub mod error;
 pub mod exact;
 pub mod laws;
 pub mod parsers;
 pub mod prelude;
-pub mod stable;
 pub mod stream;
 
 pub use winnow_core::parser::{Func, FuncWith, ModalParser, Parser};

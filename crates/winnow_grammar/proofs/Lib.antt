@@ -1,4 +1,3 @@
 mod CallLemmas
 mod CutLemmas
-mod LongerLemmas
 mod RulePiecesLemmas

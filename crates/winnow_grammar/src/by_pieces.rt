@@ -1,26 +1,25 @@
 //! The parser of a rule with a function that parses incremental input.
 ghost use Rattle.std.specs.Fn.{CalledAtMut};
 ghost use Rattle.std.specs.Prelude.{◌≡◌, ⊤};
-ghost use Rattle.winnow_core.specs.Outcome.{Does};
-ghost use Rattle.winnow_core.specs.Says.{Is, Lawful};
-ghost use Rattle.winnow_grammar.specs.RulePieces.{CallsReadOrAsk, CallsTell, Joins, PiecesRuns};
-ghost use Rattle.winnow_grammar.specs.RulePieces.{pieces_exact, pieces_fail, pieces_said};
-ghost use Rattle.winnow_grammar.specs.RulePieces.{pieces_says, pieces_stay};
+ghost use Rattle.parser_definitions.specs.Does.{Lawful};
+ghost use Rattle.parser_definitions.specs.Outcome.{Does};
+ghost use Rattle.winnow_grammar.specs.Rule.{CallsRead};
+ghost use Rattle.winnow_grammar.specs.RulePieces.{CallsTell, PiecesRuns, pieces_covered};
+ghost use Rattle.winnow_grammar.specs.RulePieces.{pieces_exact, pieces_fail};
 
 use crate::rule::Rule;
 use stream_errors::parser_error::ParserError;
 use streams::stream::Stream;
 use winnow_core::parser::Parser;
-use winnow_core::stable::Stable;
 
-/// A rule whose function also parses incremental input: its calls have the outcomes that the rule
-/// specifies.
+/// A rule whose function also parses incremental input: its calls have the outcomes of the rule's
+/// definition.
 pub trait RuleInPieces<I: Stream, O>: Rule<I, O> {
-    // The outcomes of a call.
-    ghost does: { Self → Does I.Seen O };
+    // The outcomes of a call, from the rule, which stays.
+    ghost does: { Does Self I.Seen O };
 
     // Which outputs are equal.
-    ghost alike: { Self → O → O → Type 0 };
+    ghost alike: { O → O → Type 0 };
 
     /// Does nothing.
     #[doc(hidden)]
@@ -28,7 +27,7 @@ pub trait RuleInPieces<I: Stream, O>: Rule<I, O> {
     fn pieces() {}
 
     // The tokens determine the outcome, and a final outcome stays where more tokens follow.
-    ghost lawful: { (r : Self) → Lawful ⊤ (alike r) (does r) };
+    ghost lawful: { Lawful ⊤ alike does };
 }
 
 /// The parser that [`Rule::by_pieces`] makes.
@@ -49,7 +48,7 @@ impl<N, F> ByPieces<N, F> {
 }
 
 // Its runs are those that the rule allows, and not the calls of the function: no contract says that
-// a longer input could be handed to it, and the rule speaks of each.
+// a longer input could be handed to it, and the rule's definition is about each.
 impl<
     N: RuleInPieces<I, O>,
     F: FnMut(&mut I) -> Result<O, E>,
@@ -57,19 +56,19 @@ impl<
     O,
     E: ParserError<I>,
 > Parser<I, O, E> for ByPieces<N, F> {
-    ghost can_parse = { λ s. F.IsAlwaysCallable s.run × CallsReadOrAsk I.reading I.following I.view
-        E.kind (CalledAtMut F.FnMut) (N.grammar s.rule) s.run × Joins I.following
-        × CallsTell I.view E.kind E.form (CalledAtMut F.FnMut) (N.does s.rule) s.run };
+    ghost can_parse = { λ s. F.IsAlwaysCallable s.run
+        × CallsRead I.reading I.view E.kind (CalledAtMut F.FnMut) (N.grammar s.rule) s.run
+        × CallsTell I.view E.kind E.form (CalledAtMut F.FnMut) N.does s.rule s.run };
 
     ghost State = { N };
 
     ghost state = { λ s. s.rule };
 
-    ghost states = { Is };
+    ghost meaning = { PiecesRuns I.reading N.grammar N.does };
 
-    ghost meaning = { PiecesRuns I.reading I.following N.grammar N.does };
+    ghost does = { N.does };
 
-    ghost says = { λ s. pieces_says (N.does s) (N.alike s) };
+    ghost terms = { record { premise = ⊤; stable = ⊤; alike = N.alike } };
 
     ghost claim = { λ s. record {
       premise = ⊤;
@@ -81,12 +80,13 @@ impl<
 
     ghost leaves_ends = { λ form s i answer t j r. r.0.ends };
 
-    ghost said = { λ s. pieces_said I.reading I.following N.grammar N.does s (N.lawful s) };
+    ghost covers = { λ is. pieces_covered I.reading N.grammar N.does };
+
+    ghost lawful = { λ is. N.lawful };
 
     ghost claimed = { λ s. record {
-      exact = λ form is.
-          pieces_exact I.reading I.following N.grammar N.does form s (N.unique s);
-      fails = λ form is. pieces_fail I.reading I.following N.grammar N.does form s;
+      exact = λ form is. pieces_exact I.reading N.grammar N.does form s (N.unique s);
+      fails = λ form is. pieces_fail I.reading N.grammar N.does form s;
       takes = λ is some. N.takes s some;
     } };
 
@@ -94,16 +94,4 @@ impl<
     fn parse_next(&mut self, input: &mut I) -> Result<O, E> {
         (self.run)(input)
     }
-}
-
-impl<
-    N: RuleInPieces<I, O>,
-    F: FnMut(&mut I) -> Result<O, E>,
-    I: Stream,
-    O,
-    E: ParserError<I>,
-> Stable<I, O, E> for ByPieces<N, F> {
-    fn stay() {}
-
-    ghost stable = { pieces_stay I.reading I.following N.grammar N.does N.lawful };
 }

@@ -1,6 +1,7 @@
 //! Rules by functions with an argument.
 ghost use Rattle.std.specs.Prelude.{◌≡◌, ⊤};
-ghost use Rattle.winnow_core.specs.Says.{Is, nothing_done, nothing_said};
+ghost use Rattle.parser_definitions.specs.Func.{ByDoes, beside};
+ghost use Rattle.winnow_core.specs.Covers.Functions.{func_lawful, func_terms, func_with_covered};
 ghost use Rattle.winnow_grammar.specs.FuncCalls.{CalledAtPair};
 ghost use Rattle.winnow_grammar.specs.Rule.{ByRuns, CallsRead, CallsSpared, by_exact, by_fails};
 
@@ -47,11 +48,11 @@ impl<
 
     ghost state = { λ s. (s.rule, (s.argument, s.run)) };
 
-    ghost states = { Is };
-
     ghost meaning = { λ _. ByRuns I.reading I.view E.kind (CalledAtPair F.FnMut) };
 
-    ghost says = { λ _. nothing_said };
+    ghost does = { ByDoes I.view E.kind (CalledAtPair F.FnMut) };
+
+    ghost terms = { func_terms I.view E.kind (beside (λ (n : N). CalledAtPair F.FnMut)) };
 
     ghost claim = { λ s. record {
       premise = CallsRead I.reading I.view E.kind (CalledAtPair F.FnMut) (N.grammar s.0) s.1;
@@ -63,7 +64,10 @@ impl<
 
     ghost leaves_ends = { λ form s i answer t j r. r.0.1 };
 
-    ghost said = { λ _. nothing_done };
+    ghost covers = { λ is at. func_with_covered I.view E.kind I.reading
+        (λ (n : N). CalledAtPair F.FnMut) };
+
+    ghost lawful = { λ is. func_lawful I.view E.kind is };
 
     ghost claimed = { λ s. record {
       exact = λ form is. by_exact s is (N.unique s.0);

@@ -4,7 +4,6 @@
 
 pub mod by_pieces;
 pub mod by_with;
-pub mod for_good;
 pub mod laws;
 pub mod pieces;
 pub mod rule;

@@ -1,17 +1,16 @@
 //! The trait of parsers of incremental input that are specified by a grammar.
 ghost use Rattle.std.specs.Prelude.{◌≡◌};
 ghost use Rattle.stream_errors.specs.Form.{answer_by, modal};
-ghost use Rattle.winnow_core.specs.Outcome.{outcome_of};
-ghost use Rattle.winnow_core.specs.Says.{Tells};
-ghost use Rattle.winnow_grammar.specs.Cut.{ReadsOrAsks};
-ghost use Rattle.winnow_grammar.specs.RulePieces.{HasOutcome};
+ghost use Rattle.parser_definitions.specs.Projects.{Projects};
+ghost use Rattle.winnow_core.specs.Tells.{Tells};
+ghost use Rattle.winnow_grammar.specs.Cut.{NeverCuts, ReadsOrAsks};
 
 use stream_errors::parser_error::ParserError;
 use streams::stream::Stream;
-use winnow_core::stable::Stable;
+use winnow_core::parser::Parser;
 
-/// A stable parser that is specified by a grammar: its result on partial input is its result on
-/// every longer input. Every parser that is both implements it.
+/// A parser that is specified by a grammar: if it is stable, its result on partial input is its
+/// result on every longer input. Every parser implements it.
 ///
 /// ```
 /// use stream_errors::empty::EmptyError;
@@ -28,18 +27,26 @@ use winnow_core::stable::Stable;
 /// let answer: Result<&[u8], ErrMode<EmptyError>> = Alpha1.read_cut(&mut more);
 /// assert_eq!(rt; answer, Ok(b"ab".as_slice()));
 /// ```
-pub trait ReadsPieces<I: Stream, O, E: ParserError<I>>: Stable<I, O, E> {
+pub trait ReadsPieces<I: Stream, O, E: ParserError<I>>: Parser<I, O, E> {
     /// Like [`read`](winnow_core::parser::Parser::read), with a contract for partial input too.
     ///
     /// On partial input, an output is a match of the completed input, for every continuation, with
     /// the rest and the continuation remaining. A backtrack means that no completed input starts
-    /// with a match. Otherwise it returns `Incomplete`, or is out of memory. If the parser's
-    /// outcomes are specified, the call has one of them. Requires errors with a mode.
+    /// with a match. Otherwise it returns `Incomplete`, or is out of memory. The call has an
+    /// outcome of the parser's definition (`tells`).
+    ///
+    /// Requires errors with a mode, and a stable parser (`lawful`, `stable`) whose definition has
+    /// this grammar (`projects`), with no outcome that is a cut (`never_cuts`).
     #[inline(always)]
     final fn read_cut(&mut self, input: &mut I) -> Result<O, E>
         requires callable { Self.can_parse self.old }
         requires premise { (Self.claim (Self.state self.old)).premise }
         requires backtracks { (Self.claim (Self.state self.old)).backtracks }
+        requires lawful { Self.terms.premise }
+        requires stable { Self.terms.stable }
+        requires projects { Projects Self.does E.form (Self.state self.old)
+            (Self.claim (Self.state self.old)).grammar }
+        requires never_cuts { NeverCuts Self.does (Self.state self.old) }
         requires modal { E.form ≡ modal }
         ensures again { Self.can_parse self.new }
         ensures ran { Self.meaning E.form (Self.state self.old) (I.view input.old)
@@ -47,15 +54,12 @@ pub trait ReadsPieces<I: Stream, O, E: ParserError<I>>: Stable<I, O, E> {
         ensures reads { ReadsOrAsks I.reading I.following E.kind
             (Self.claim (Self.state self.old)).grammar (I.view input.old) result
             (I.view input.new) }
-        ensures tells { (Self.says (Self.state self.old)).premise
-            → Tells (Self.says (Self.state self.old)) E.form (I.view input.old)
-            (outcome_of (answer_by E.kind result) (I.view input.new).left.tokens) }
-        ensures outcome { (Self.says (Self.state self.old)).premise
-            → HasOutcome (Self.says (Self.state self.old)).does E.form (I.view input.old)
-            (answer_by E.kind result) (I.view input.new) }
+        ensures tells { Tells I.reading Self.terms.alike Self.does E.form (Self.state self.old)
+            (I.view input.old) (answer_by E.kind result) (Self.state self.new)
+            (I.view input.new) }
     {
-        self.parse_next(input)
+        self.read_outcome(input)
     }
 }
 
-impl<P: Stable<I, O, E>, I: Stream, O, E: ParserError<I>> ReadsPieces<I, O, E> for P {}
+impl<P: Parser<I, O, E>, I: Stream, O, E: ParserError<I>> ReadsPieces<I, O, E> for P {}

@@ -6,7 +6,8 @@ ghost use Rattle.winnow_grammar.specs.Rule.{by_rule, by_run};
 ghost use Rattle.winnow_grammar.specs.Rule.{ByRuns, CallsRead, CallsSpared, by_exact, by_fails};
 ghost use Rattle.winnow_grammar.specs.RulePieces.{pieces_rule, pieces_run};
 ghost use Rattle.winnow_grammar.specs.RuleWith.{with_argument, with_rule, with_run};
-ghost use Rattle.winnow_core.specs.Says.{Is, nothing_done, nothing_said};
+ghost use Rattle.parser_definitions.specs.Func.{ByDoes, beside};
+ghost use Rattle.winnow_core.specs.Covers.Functions.{func_lawful, func_terms, func_with_covered};
 
 use crate::by_pieces::ByPieces;
 use crate::by_with::ByWith;
@@ -54,12 +55,9 @@ pub trait Rule<I: Stream, O>: Sized {
     }
 
     /// Like [`by`](Rule::by), for a function whose contract also covers partial input, by a rule
-    /// that specifies its outcomes ([`RuleInPieces`](crate::by_pieces::RuleInPieces)). The parser
-    /// is stable, so [`read_cut`](crate::pieces::ReadsPieces::read_cut) accepts it, and its
+    /// that has a definition ([`RuleInPieces`](crate::by_pieces::RuleInPieces)). The parser is
+    /// stable, so [`parse_cut`](winnow_core::parser::Parser::parse_cut) accepts it, and its
     /// combinations.
-    ///
-    /// To call it, chunks that may follow in sequence must be allowed to follow as one (`Joins`).
-    /// This holds for bytes and for text.
     #[inline(always)]
     final fn by_pieces<F>(self, run: F) -> ByPieces<Self, F>
         ensures rule { pieces_rule result ≡ self }
@@ -88,11 +86,11 @@ impl<N: Rule<I, O>, F: FnMut(&mut I) -> Result<O, E>, I: Stream, O, E: ParserErr
 
     ghost state = { λ s. (s.rule, s.run) };
 
-    ghost states = { Is };
-
     ghost meaning = { λ _. ByRuns I.reading I.view E.kind (CalledAtMut F.FnMut) };
 
-    ghost says = { λ _. nothing_said };
+    ghost does = { ByDoes I.view E.kind (CalledAtMut F.FnMut) };
+
+    ghost terms = { func_terms I.view E.kind (beside (λ (n : N). CalledAtMut F.FnMut)) };
 
     ghost claim = { λ s. record {
       premise = CallsRead I.reading I.view E.kind (CalledAtMut F.FnMut) (N.grammar s.0) s.1;
@@ -104,7 +102,10 @@ impl<N: Rule<I, O>, F: FnMut(&mut I) -> Result<O, E>, I: Stream, O, E: ParserErr
 
     ghost leaves_ends = { λ form s i answer t j r. r.0.1 };
 
-    ghost said = { λ _. nothing_done };
+    ghost covers = { λ is at. func_with_covered I.view E.kind I.reading
+        (λ (n : N). CalledAtMut F.FnMut) };
+
+    ghost lawful = { λ is. func_lawful I.view E.kind is };
 
     ghost claimed = { λ s. record {
       exact = λ form is. by_exact s is (N.unique s.0);

@@ -1,6 +1,7 @@
 //! Laws of what parsers mean.
 ghost use Rattle.stream_errors.specs.Form.{answer_by};
 ghost use Rattle.streams.specs.Input.{IsEndOf};
+ghost use Rattle.winnow_core.specs.Tells.{Tells};
 
 pub mod compositions;
 pub mod memory;
@@ -13,8 +14,10 @@ use winnow_core::parser::Parser;
 ///
 /// For every parser, the result, the rest and the kind of an error are those of one call in its
 /// semantics, from its state and this input. The semantics of a composition is defined by those of
-/// its children, as the laws of [`compositions`] show: it is the derivation by ordered choice.
-/// Whatever the result, the call leaves a suffix of the input.
+/// its children, as the laws of [`compositions`] show: it is the derivation by ordered choice. If
+/// the premise of the parser's definition holds, this is the only one for its state and this input:
+/// any other has an equal output or the same error, the same rest and the same new state. Every
+/// call leaves a suffix of the input.
 #[inline]
 pub fn calls_match_their_derivations<P: Parser<I, O, E>, I: Stream, O, E: ParserError<I>>(
     parser: &mut P,
@@ -24,6 +27,9 @@ pub fn calls_match_their_derivations<P: Parser<I, O, E>, I: Stream, O, E: Parser
     ensures again { P.can_parse parser.new }
     ensures derived { P.meaning E.form (P.state parser.old) (I.view input.old)
         (answer_by E.kind result) (P.state parser.new) (I.view input.new) }
+    ensures one { P.terms.premise → Tells I.reading P.terms.alike P.does E.form
+        (P.state parser.old) (I.view input.old) (answer_by E.kind result) (P.state parser.new)
+        (I.view input.new) }
     ensures ends { IsEndOf I.reading (I.view input.new) (I.view input.old) }
 {
     parser.parse_next(input)

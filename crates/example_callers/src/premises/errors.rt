@@ -6,7 +6,6 @@ ghost use Rattle.winnow.specs.Text.{text_input, text_reading};
 
 use winnow::Parser;
 use winnow::error::{EmptyError, ErrMode, HasKind};
-use winnow::stable::Stable;
 use winnow::token::impls::Any;
 
 /// The first byte; `map_err` gives the error a mode. It fails, by a backtrack, where there is none.

@@ -6,7 +6,7 @@ ghost use Rattle.winnow_expression_trees.specs.Items.{ItemRuns};
 ghost use Rattle.format_calculator.specs.Calculator.{CharItem, NumberItem, mark_at, pair_at};
 ghost use Rattle.format_calculator.specs.Calculator.{sign_at};
 ghost use Rattle.format_calculator.specs.Calculator.Laws.{char_ends, number_ends};
-ghost use Rattle.winnow_core.specs.Says.{Is, nothing_done, nothing_said};
+ghost use Rattle.winnow_core.specs.Covers.{AnyOutcome, no_terms};
 
 use crate::calc::items::{read_mark, read_number, read_pair, read_sign};
 use crate::calc::operators::{Mark, Pair, Sign};
@@ -24,17 +24,19 @@ impl<'i> Parser<&'i str, i64, EmptyError> for Number {
 
     ghost state = { λ _. tt };
 
-    ghost states = { Is };
-
     ghost meaning = { λ _. Keeps (λ _. ItemRuns NumberItem) };
 
-    ghost says = { λ _. nothing_said };
+    ghost does = { AnyOutcome };
+
+    ghost terms = { no_terms };
 
     ghost claim = { λ _. no_claim };
 
     ghost leaves_ends = { λ form s i a t j r. number_ends i j a r.0 };
 
-    ghost said = { λ _. nothing_done };
+    ghost covers = { λ never at. absurd never };
+
+    ghost lawful = { λ never. absurd never };
 
     ghost claimed = { λ _. nothing_claimed };
 
@@ -55,17 +57,19 @@ impl<'i> Parser<&'i str, Prefix<Sign>, EmptyError> for BeforeIt {
 
     ghost state = { λ _. tt };
 
-    ghost states = { Is };
-
     ghost meaning = { λ _. Keeps (λ _. ItemRuns (CharItem sign_at)) };
 
-    ghost says = { λ _. nothing_said };
+    ghost does = { AnyOutcome };
+
+    ghost terms = { no_terms };
 
     ghost claim = { λ _. no_claim };
 
     ghost leaves_ends = { λ form s i a t j r. char_ends sign_at i j a r.0 };
 
-    ghost said = { λ _. nothing_done };
+    ghost covers = { λ never at. absurd never };
+
+    ghost lawful = { λ never. absurd never };
 
     ghost claimed = { λ _. nothing_claimed };
 
@@ -86,17 +90,19 @@ impl<'i> Parser<&'i str, Postfix<Mark>, EmptyError> for BehindIt {
 
     ghost state = { λ _. tt };
 
-    ghost states = { Is };
-
     ghost meaning = { λ _. Keeps (λ _. ItemRuns (CharItem mark_at)) };
 
-    ghost says = { λ _. nothing_said };
+    ghost does = { AnyOutcome };
+
+    ghost terms = { no_terms };
 
     ghost claim = { λ _. no_claim };
 
     ghost leaves_ends = { λ form s i a t j r. char_ends mark_at i j a r.0 };
 
-    ghost said = { λ _. nothing_done };
+    ghost covers = { λ never at. absurd never };
+
+    ghost lawful = { λ never. absurd never };
 
     ghost claimed = { λ _. nothing_claimed };
 
@@ -117,17 +123,19 @@ impl<'i> Parser<&'i str, Infix<Pair>, EmptyError> for BetweenThem {
 
     ghost state = { λ _. tt };
 
-    ghost states = { Is };
-
     ghost meaning = { λ _. Keeps (λ _. ItemRuns (CharItem pair_at)) };
 
-    ghost says = { λ _. nothing_said };
+    ghost does = { AnyOutcome };
+
+    ghost terms = { no_terms };
 
     ghost claim = { λ _. no_claim };
 
     ghost leaves_ends = { λ form s i a t j r. char_ends pair_at i j a r.0 };
 
-    ghost said = { λ _. nothing_done };
+    ghost covers = { λ never at. absurd never };
+
+    ghost lawful = { λ never. absurd never };
 
     ghost claimed = { λ _. nothing_claimed };
 

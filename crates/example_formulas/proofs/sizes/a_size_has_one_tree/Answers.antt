@@ -1,10 +1,11 @@
-use Rattle.std.proofs.Common.{◌≡◌, inl, inr, rules}
+use Rattle.std.proofs.Common.{◌≡◌}
 use Rattle.winnow.specs.Fail.{FailRuns}
 use Rattle.winnow.specs.Premises.{AlikePrefix}
 use Rattle.winnow.specs.Premises.Laws.{fail_plain, keeps_stateless}
 use Rattle.winnow.specs.Premises.Decided.{stateless_wider}
 use Rattle.example_formulas.specs.Sizes.{sign_marks, unit_marks}
-use Rattle.example_formulas.proofs.SameTrees.{equal_infixes, equal_postfixes, same_tree}
+use Rattle.example_formulas.proofs.SameTrees.{clones_equal, equal_infixes, equal_postfixes}
+use Rattle.example_formulas.proofs.SameTrees.{same_tree}
 use Rattle.example_formulas.proofs.sizes.a_size_has_one_tree.Goals as goal
 
 pub returns : goal.returns
@@ -12,17 +13,18 @@ returns c = record {
   one = λ level i r u m n b d left right.
       let told = c.tree_is_unique.ensures.one ((tt, tt), (unit_marks, sign_marks))
       (stateless_wider (λ o p like. like)
-      (c.deterministic_parts_are_stateless.ensures _ tt tt)).decided
+      (c.deterministic_parts_are_stateless.ensures _ tt
+      c.a_number_stays.ensures)).decided
       (keeps_stateless (AlikePrefix (λ f g. f ≡ g)) (λ _ i a j. FailRuns i a j) tt
       (fail_plain (AlikePrefix (λ f g. f ≡ g)))).decided
-      (stateless_wider (λ o p like. equal_postfixes o p (elim like [
-        | inl (a, b) ↦ search rules
-        | inr (a, b) ↦ search rules
-      ])) (c.deterministic_parts_are_stateless-2.ensures _ (tt, tt) (tt, tt))).decided
-      (stateless_wider (λ o p like. equal_infixes o p (elim like [
-        | inl (a, b) ↦ search rules
-        | inr (a, b) ↦ search rules
-      ])) (c.deterministic_parts_are_stateless-3.ensures _ (tt, tt) (tt, tt))).decided
+      (stateless_wider (λ o p like. equal_postfixes o p
+      (clones_equal c.unit_clones_are_equal.ensures o p like))
+      (c.deterministic_parts_are_stateless-2.ensures _ (tt, tt)
+      (c.marks_stay.ensures _ _ _ _))).decided
+      (stateless_wider (λ o p like. equal_infixes o p
+      (clones_equal c.sign_clones_are_equal.ensures o p like))
+      (c.deterministic_parts_are_stateless-3.ensures _ (tt, tt)
+      (c.marks_stay-2.ensures _ _ _ _))).decided
       level i r u m n b d left right in
       (same_tree r u told.0, told.1);
 }

@@ -1,9 +1,10 @@
-use Rattle.std.proofs.Common.{◌≡◌, ◌∙◌, ap, inl, inr, pos, rules}
+use Rattle.std.proofs.Common.{◌≡◌, ◌∙◌, ap, pos}
 use Rattle.winnow.specs.Expression.{infix_of, postfix_of}
 use Rattle.winnow.specs.Premises.Laws.{fail_plain, keeps_stateless}
 use Rattle.winnow.specs.Premises.Decided.{stateless_wider}
 use Rattle.example_formulas.specs.Sizes.{SizeStates, marks_of, sign_marks, unit_marks}
 use Rattle.example_formulas.proofs.Results.{exact_at, same_signs, same_units}
+use Rattle.example_formulas.proofs.SameTrees.{clones_equal}
 use Rattle.example_formulas.proofs.sizes.read_size.Goals as goal
 
 pub returns-clause-reads : goal.returns-clause-reads
@@ -21,16 +22,17 @@ returns-clause-reads g c =
     (c.expression_is_unambiguous.ensures.exact (states.0, states.1, parser.level)
     (record {
       operands = stateless_wider (λ o p like. like)
-          (c.deterministic_parts_are_stateless.ensures _ tt tt);
+          (c.deterministic_parts_are_stateless.ensures _ tt
+          c.a_number_stays.ensures);
       prefixes = keeps_stateless _ _ tt (fail_plain _);
-      postfixes = stateless_wider (λ o p like. same_units o p (elim like [
-        | inl (a, b) ↦ search rules
-        | inr (a, b) ↦ search rules
-      ])) (c.deterministic_parts_are_stateless-2.ensures _ (tt, tt) (tt, tt));
-      infixes = stateless_wider (λ o p like. same_signs o p (elim like [
-        | inl (a, b) ↦ search rules
-        | inr (a, b) ↦ search rules
-      ])) (c.deterministic_parts_are_stateless-3.ensures _ (tt, tt) (tt, tt));
+      postfixes = stateless_wider (λ o p like. same_units o p
+          (clones_equal c.unit_clones_are_equal.ensures o p like))
+          (c.deterministic_parts_are_stateless-2.ensures _ (tt, tt)
+          (c.marks_stay.ensures _ _ _ _));
+      infixes = stateless_wider (λ o p like. same_signs o p
+          (clones_equal c.sign_clones_are_equal.ensures o p like))
+          (c.deterministic_parts_are_stateless-3.ensures _ (tt, tt)
+          (c.marks_stay-2.ensures _ _ _ _));
       neither_moves = λ i j o p t r e. c.a_choice_consumes.ensures _ _
           (c.a_value_consumes.ensures _ _ (c.a_byte_consumes.ensures _))
           (c.a_value_consumes.ensures _ _ (c.a_byte_consumes.ensures _)) i j o t r;

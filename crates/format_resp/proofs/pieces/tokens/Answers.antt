@@ -1,16 +1,24 @@
-use Rattle.std.proofs.Common.{ap, inl, refl}
 use Rattle.grammars.specs.Grammar.{Both, Counted, Literally}
+use Rattle.parser_definitions.specs.Projects.Lines.{crlf_projects}
+use Rattle.parser_definitions.specs.Projects.Sequences.{terminated_projects}
+use Rattle.parser_definitions.specs.Projects.Tokens.{take_projects}
 use Rattle.winnow_core.specs.InOrder.Inversion.{both_ok}
-use Rattle.winnow_core.specs.Outcome.{took}
 use Rattle.winnow_token.specs.Take.Inversion.{take_count_ok}
+use Rattle.format_resp.proofs.Found.{counted_ended}
 use Rattle.format_resp.proofs.PieceResults.{ending_taken, must_ask}
 use Rattle.format_resp.proofs.pieces.tokens.Goals as goal
+
+pub read_cut-requires-clause-projects : goal.read_cut-requires-clause-projects
+read_cut-requires-clause-projects g c = terminated_projects
+    (take_projects g.I.Stream.reading g.I.Stream.counts_missing (λ n. n) g.E.HasKind.form _)
+    (crlf_projects g.I.Stream.reading g.I.Compare.spells g.met.I.Compare.same_units
+    c.requires.spells g.E.HasKind.form tt)
 
 pub returns : goal.returns
 unfolding Both Counted Literally
 returns g c =
     must_ask (rw (c.terminated.ensures.parser, c.take.ensures)) c.read_cut.ensures.reads
-    (c.read_cut.ensures.tells (tt, c.requires.spells))
+    c.read_cut.ensures.tells
     (λ o e.
     let (front, end, a, first, last, is) = both_ok o (rw e at c.read_cut.ensures.ran) in
     let it = take_count_ok _ _ _ _ _ front a first.0 in (
@@ -21,8 +29,4 @@ returns g c =
       ending_taken _ _ _ a end _ last.0,
       is,
     ))
-    (λ o rest (front, end, mid, x, y, e). (
-      took front mid,
-      inl (front, mid, x, refl),
-      (took end rest, inl (end, rest, y, refl), ap (λ p. took p rest) e),
-    ))
+    (counted_ended g.I.Stream.reading g.I.Compare.spells g.I.Stream.counts_missing _ _ _)
