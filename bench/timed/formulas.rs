@@ -2,7 +2,7 @@
 #![tactic(auto, using(winnow::specs::Rules::ends_follow))]
 
 ghost use Rattle.winnow.specs.Claim.{no_claim, nothing_claimed};
-ghost use Rattle.winnow.specs.Says.{Is, nothing_done, nothing_said};
+ghost use Rattle.winnow.specs.Covers.{AnyOutcome, no_terms};
 ghost use Rattle.std.specs.Prelude.{⊤};
 ghost use Rattle.winnow.specs.Bytes.{bytes_input, bytes_reading};
 ghost use Rattle.winnow.specs.Input.{IsEndOf};
@@ -67,17 +67,19 @@ impl<'i> Parser<&'i [u8], u64, EmptyError> for Digit {
 
     ghost state = { λ _. tt };
 
-    ghost states = { Is };
-
     ghost meaning = { λ _ _ i _ _ j. IsEndOf bytes_reading j i };
 
-    ghost says = { λ _. nothing_said };
+    ghost does = { AnyOutcome };
+
+    ghost terms = { no_terms };
 
     ghost claim = { λ _. no_claim };
 
     ghost leaves_ends = { λ _ _ _ _ _ _ ends. ends };
 
-    ghost said = { λ _. nothing_done };
+    ghost covers = { λ never at. absurd never };
+
+    ghost lawful = { λ never. absurd never };
 
     ghost claimed = { λ _. nothing_claimed };
 
@@ -108,17 +110,19 @@ impl<'i> Parser<&'i [u8], Infix<Operator>, EmptyError> for Between {
 
     ghost state = { λ _. tt };
 
-    ghost states = { Is };
-
     ghost meaning = { λ _ _ i _ _ j. IsEndOf bytes_reading j i };
 
-    ghost says = { λ _. nothing_said };
+    ghost does = { AnyOutcome };
+
+    ghost terms = { no_terms };
 
     ghost claim = { λ _. no_claim };
 
     ghost leaves_ends = { λ _ _ _ _ _ _ ends. ends };
 
-    ghost said = { λ _. nothing_done };
+    ghost covers = { λ never at. absurd never };
+
+    ghost lawful = { λ never. absurd never };
 
     ghost claimed = { λ _. nothing_claimed };
 
