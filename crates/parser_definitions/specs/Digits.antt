@@ -1,10 +1,11 @@
 -- Characters of digits, and the number that they denote.
-use Rattle.std.specs.Prelude.{◌≡◌, ◌+◌, ◌*◌, ◌^◌, ⊤, ℕ, List}
-use Rattle.std.specs.Prelude.{[], ◌∷◌, ◌++◌, length, ◌⊎◌, ◌≤◌, ◌<◌}
-use Rattle.std.specs.Prelude.{Bool, true, false}
+use Rattle.std.specs.Prelude.{◌≡◌, ◌+◌, ◌*◌, ◌^◌, ⊤, ℕ, List, [], ◌∷◌, ◌++◌, length, ◌⊎◌}
+use Rattle.std.specs.Prelude.{◌≤◌, ◌<◌, Bool, true, false}
 use Rattle.std.specs.Char.{digit_value}
 use Rattle.std.specs.List.{All, AllByRecursion}
+use Rattle.std.specs.Str.Parse.{digits_value, digits_value_after}
 use Rattle.std.proofs.Common.{refl, sym, ap, subst, ◌∙◌, inl, inr, suc, arith}
+use Rattle.std.proofs.Math.Nat.{pow-suc, pow-zero}
 use Rattle.std.proofs.lemmas.List.Elements.{All-head, All-tail}
 use Rattle.streams.specs.Equal.{same_first, same_others, true_is_false}
 use Rattle.parser_definitions.specs.Class.{CharIsFunction}
@@ -23,6 +24,11 @@ NoneFirst {K} {T} seen code class tokens =
     -- they start with another character
     ⊎ ((t : T) × (rest : List T) × (tokens ≡ t ∷ rest) × IsIn seen code (λ c. class c → ⊥) t)
 
+-- The tokens start with a character of the class.
+abbrev pub SomeFirst : {K T : Type 0} → (K → T) → (K → ℕ) → (ℕ → Type 0) → List T → Type 0
+SomeFirst {K} {T} seen code class tokens =
+    (t : T) × (rest : List T) × (tokens ≡ t ∷ rest) × IsIn seen code class t
+
 -- The tokens are characters of these numbers, one by one.
 abbrev pub AreCharacters : {K T : Type 0} → (K → T) → (K → ℕ) → List T → List ℕ → Type 0
 AreCharacters seen code [] [] = ⊤
@@ -38,7 +44,55 @@ abbrev pub value_in : ℕ → List ℕ → ℕ
 value_in base [] = 0
 value_in base (c ∷ cs) = digit_value c * base ^ length cs + value_in base cs
 
+-- ---- the number that digits denote, as std reads it
+
+value_after : (base n : ℕ) (ds : List ℕ)
+    → digits_value_after base n ds ≡ n * base ^ length ds + value_in base ds
+value_after base n [] =
+    let power : base ^ length {A = ℕ} [] ≡ 1 = pow-zero base in
+    let same : digits_value_after base n [] ≡ n = refl in
+    omega (arith, same, ap (λ x. n * x) power)
+value_after base n (d ∷ ds) =
+    let more = value_after base (n * base + digit_value d) ds in
+    let power : base ^ length (d ∷ ds) ≡ base ^ length ds * base = pow-suc base (length ds) in
+    omega (arith, more, ap (λ x. n * x) power)
+
+-- read digit by digit, they are the same number
+pub value_is : (base : ℕ) (ds : List ℕ) → digits_value base ds ≡ value_in base ds
+value_is base ds = value_after base 0 ds ∙ omega arith
+
+-- ---- the characters
+
+-- over bytes and text, where a token is the number of its character, the tokens are these numbers
+pub same_characters : (tokens codes : List ℕ) → AreCharacters (λ x. x) (λ x. x) tokens codes
+    → tokens ≡ codes
+same_characters [] [] chars = refl
+same_characters [] (c ∷ cs) chars = absurd chars
+same_characters (t ∷ ts) [] chars = absurd chars
+same_characters (t ∷ ts) (c ∷ cs) ((x, is, e), chars) =
+    ap (λ y. y ∷ ts) (sym is ∙ e) ∙ ap (λ l. c ∷ l) (same_characters ts cs chars)
+
+-- and tokens are the characters of themselves
+pub own_characters : (tokens : List ℕ) → AreCharacters (λ x. x) (λ x. x) tokens tokens
+own_characters [] = tt
+own_characters (t ∷ ts) = ((t, refl, refl), own_characters ts)
+
 module _ {K T : Type 0} (seen : K → T) (code : K → ℕ) where
+  -- characters, and then more
+  pub characters_two : (xs ys : List T) (cs ds : List ℕ) → AreCharacters seen code xs cs
+      → AreCharacters seen code ys ds → AreCharacters seen code (xs ++ ys) (cs ++ ds)
+  characters_two [] ys [] ds p q = q
+  characters_two [] ys (c ∷ cs) ds p q = absurd p
+  characters_two (x ∷ xs) ys [] ds p q = absurd p
+  characters_two (x ∷ xs) ys (c ∷ cs) ds p q = (p.0, characters_two xs ys cs ds p.1 q)
+
+  -- one character, of a number that is given otherwise
+  pub one_character : (x : K) (cs : List ℕ) → cs ≡ code x ∷ []
+      → AreCharacters seen code (seen x ∷ []) cs
+  one_character x cs e =
+      let P : List ℕ → Type 0 = λ l. AreCharacters seen code (seen x ∷ []) l in
+      subst P (sym e) ((x, refl, refl), tt)
+
   pub characters_length : (ts : List T) (cs : List ℕ) → AreCharacters seen code ts cs
       → length ts ≡ length cs
   characters_length [] [] chars = refl

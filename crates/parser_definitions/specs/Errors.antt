@@ -3,10 +3,11 @@ use Rattle.std.specs.Prelude.{◌≡◌, ⊤, ℕ, List, Option, Err}
 use Rattle.std.proofs.Common.{refl, subst, ap, ◌∙◌}
 use Rattle.streams.specs.Kind.{Kind, backtrack, cut, incomplete, memory}
 use Rattle.parser_definitions.specs.Does.{Lawful}
-use Rattle.parser_definitions.specs.Left.{End, extend_end}
-use Rattle.parser_definitions.specs.Outcome.{Alike, Does, IsFinal, Outcome, as_longer, asks, both}
-use Rattle.parser_definitions.specs.Outcome.{final_by, longer, outcome_of}
-use Rattle.parser_definitions.specs.Then.{Comes, Holds, Meets, Next, Then, then_law}
+use Rattle.parser_definitions.specs.Left.{End, Left, extend, extend_end}
+use Rattle.parser_definitions.specs.Outcome.{Alike, Does, IsFinal, Outcome, Setting, as_longer}
+use Rattle.parser_definitions.specs.Outcome.{asks, backs, both, cuts, final_by, grown, longer}
+use Rattle.parser_definitions.specs.Outcome.{on_cut, outcome_of, took, wants}
+use Rattle.parser_definitions.specs.Then.{Comes, ComesOf, Holds, Meets, Next, Then, then_law}
 use Rattle.parser_definitions.specs.Then.Steps.{first, same, takes, takes_hold, takes_meet}
 use Rattle.parser_definitions.specs.Then.Steps.{with_first}
 
@@ -31,6 +32,20 @@ turned becomes = record {
 -- If the child is out of memory, so is the whole: an error that is out of memory must stay so.
 abbrev pub ErrorDoes : {S G T O : Type 0} → Becomes G → Does S T O → Does (S × G) T O
 ErrorDoes becomes does = Then first does (turned becomes)
+
+-- What comes of the child's outcome where an error that is out of memory may become one of another
+-- kind. Where that leaves the input is not known.
+abbrev pub TurnsAny : {S G T O : Type 0} → Becomes G → Setting → S × G → Left T
+    → Outcome (End S T) O → Outcome (End (S × G) T) O → Type 0
+TurnsAny becomes at q w (took o end) y = takes with_first o at q w end y
+TurnsAny becomes at q w (backs end) y = turns becomes backtrack at q w end y
+TurnsAny becomes at q w (cuts end) y = turns becomes cut at q w end y
+TurnsAny becomes at q w (asks need end) y = turns becomes (incomplete need) at q w end y
+TurnsAny {S} {T = T} becomes at q w wants y = (end : End S T) × turns becomes memory at q w end y
+
+abbrev pub AnyErrorDoes : {S G T O : Type 0} → Becomes G → Does S T O → Does (S × G) T O
+AnyErrorDoes {S} {T = T} {O} becomes does at q w y =
+    (x : Outcome (End S T) O) × does at q.0 w x × TurnsAny becomes at q w x y
 
 -- an error of this kind, where only a state is left
 abbrev pub error_of : {G : Type 0} → Kind → G → Outcome G ⊤
@@ -124,3 +139,61 @@ module _ {S G T O : Type 0} {becomes : Becomes G} (m : BecomesAlike becomes) whe
         (error_final O l g ((end.0, g), end.1)
         (final_by {y = outcome_of (Err l) ((end.0, g), end.1)} e final));
   }) (λ is. is)
+
+-- ---- where out of memory stays so
+
+abbrev pub StaysMemory : {G : Type 0} → Becomes G → G → Type 0
+StaysMemory {G} becomes f = (l : Kind) (g : G) → becomes f memory l g → l ≡ memory
+
+module _ {S G T O : Type 0} (becomes : Becomes G) where
+  kept_turn : (at : Setting) (q : S × G) (w : Left T) (x : Outcome (End S T) O)
+      (y : Outcome (End (S × G) T) O) → StaysMemory becomes q.1 → TurnsAny becomes at q w x y
+      → ComesOf (turned becomes) at q w x y
+  kept_turn at q w (took o end) y keeps c = c
+  kept_turn at q w (backs end) y keeps c = c
+  kept_turn at q w (cuts end) y keeps c = c
+  kept_turn at q w (asks need end) y keeps c = c
+  kept_turn at q w wants y keeps (end, (l, g, a, e)) =
+      e ∙ ap (λ k. outcome_of (Err k) ((end.0, g), end.1)) (keeps l g a)
+
+  any_turn : (at : Setting) (q : S × G) (w : Left T) (x : Outcome (End S T) O)
+      (y : Outcome (End (S × G) T) O) → (y ≡ wants → ⊥) → ComesOf (turned becomes) at q w x y
+      → TurnsAny becomes at q w x y
+  any_turn at q w (took o end) y not c = c
+  any_turn at q w (backs end) y not c = c
+  any_turn at q w (cuts end) y not c = c
+  any_turn at q w (asks need end) y not c = c
+  any_turn at q w wants y not e = absurd (not e)
+
+  pub kept_does : (does : Does S T O) (at : Setting) (q : S × G) (w : Left T)
+      (y : Outcome (End (S × G) T) O) → StaysMemory becomes q.1
+      → AnyErrorDoes becomes does at q w y → ErrorDoes becomes does at q w y
+  kept_does does at q w y keeps (x, d, c) = (x, d, kept_turn at q w x y keeps c)
+
+final_wants : {S T O : Type 0} (more : List T) (x : Outcome (End S T) O) → IsFinal x
+    → longer more x ≡ wants → ⊥
+final_wants more (took o end) final e = absurd (cc)
+final_wants more (backs end) final e = absurd (cc)
+final_wants more (cuts end) final e = absurd (cc)
+final_wants more (asks need end) final e = final
+final_wants more wants final e = final
+
+pub any_error_law : {S G T O : Type 0} {stable : Type 0} {alike : O → O → Type 0}
+    {does : Does S T O} {becomes : Becomes G} → ((f : G) → StaysMemory becomes f)
+    → BecomesAlike becomes → Lawful stable alike does
+    → Lawful stable alike (AnyErrorDoes becomes does)
+any_error_law {does = does} {becomes} keeps m law = let known = error_law m law in record {
+  one = λ at q w x y d e.
+      known.one at q w x y (kept_does becomes does at q w x (keeps q.1) d)
+      (kept_does becomes does at q w y (keeps q.1) e);
+  whole = λ at q w need last is d. known.whole at q w need last is
+      (kept_does becomes does at q w (asks need last) (keeps q.1) d);
+  stays = λ is more flag q w y final d.
+      let (x, did, c) = known.stays is more flag q w y final
+      (kept_does becomes does on_cut q w y (keeps q.1) d) in (
+        x,
+        did,
+        any_turn becomes (grown flag) q (extend more w) x (longer more y)
+            (final_wants more y final) c,
+      );
+}

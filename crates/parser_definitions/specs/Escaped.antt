@@ -133,7 +133,7 @@ abbrev pub EscapedDoes : {S W V T O D P C : Type 0} → Accumulator C O → Accu
     → Does S T O → Does W T D → Does V T P → Does (S × W × V) T C
 EscapedDoes texts escapes text control escape =
     let f = gathering (either_kept texts escapes) in
-    Started f None (Loop (TextTurn f (EscapeTurn text control escape)))
+    Started f (Some 64) (Loop (TextTurn f (EscapeTurn text control escape)))
 
 -- ---- laws
 
@@ -245,8 +245,8 @@ module _ {Q T C X : Type 0} {f : Folding Q C X} {stable : Type 0} {alike : X →
       stays is c more flag q w y final (inr (some, a)) =
           inr (still_some w.tokens more some, called.stays is c more flag q w y final a)
 
-  pub text_law : Lawful stable Value (Started f None (Loop (TextTurn f turn)))
-  text_law = started_law p None (loop_law text_turn)
+  pub text_law : Lawful stable Value (Started f (Some 64) (Loop (TextTurn f turn)))
+  text_law = started_law p (Some 64) (loop_law text_turn)
 
 pub escaped_law : {S W V T O D P C : Type 0} {sure kept third : Type 0} {alike : O → O → Type 0}
     {marks : D → D → Type 0} {also : P → P → Type 0} {text : Does S T O} {control : Does W T D}

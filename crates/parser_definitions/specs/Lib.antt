@@ -10,6 +10,7 @@ pub mod Bounded
 pub mod ByRef
 pub mod BytesOfBits
 pub mod Cases
+pub mod Claim
 pub mod Class
 pub mod Closures
 pub mod Consumes
@@ -28,6 +29,7 @@ pub mod Func
 pub mod Held
 pub mod HexUint
 pub mod Integer
+pub mod IntegerGrammar
 pub mod Items
 pub mod Left
 pub mod Length
@@ -64,6 +66,7 @@ pub mod Sequence
 pub mod Settles
 pub mod Shown
 pub mod Spelled
+pub mod Stays
 pub mod Take
 pub mod TakeEscaped
 pub mod TakeUntil

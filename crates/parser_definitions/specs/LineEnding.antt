@@ -1,13 +1,13 @@
 -- The definitions of literals of characters and texts: `newline`, `tab`, `crlf`, and of
 -- `line_ending`.
-use Rattle.std.specs.Prelude.{◌≡◌, ⊤, ℕ, List, [], ◌∷◌}
+use Rattle.std.specs.Prelude.{◌≡◌, ⊤, ℕ, List, [], ◌∷◌, ◌++◌}
 use Rattle.std.specs.Borrow.{Bor}
-use Rattle.std.proofs.Common.{refl, sym, ◌∙◌}
+use Rattle.std.proofs.Common.{refl, sym, inl, inr, ◌∙◌}
 use Rattle.streams.specs.Reading.{Reading}
-use Rattle.grammars.specs.Grammar.{SpelledBy}
 use Rattle.parser_definitions.specs.Does.{Lawful}
+use Rattle.parser_definitions.specs.Left.{End, Left}
 use Rattle.parser_definitions.specs.Literal.{LiteralDoes, literal_law}
-use Rattle.parser_definitions.specs.Outcome.{Does}
+use Rattle.parser_definitions.specs.Outcome.{Does, Outcome, Setting}
 use Rattle.parser_definitions.specs.Spelled.{ShowSame}
 use Rattle.parser_definitions.specs.Then.{Next, Then, then_law}
 use Rattle.parser_definitions.specs.Then.Steps.{asks_later, asks_meet, asks_on, cuts_hold}
@@ -27,17 +27,43 @@ SpellsByText {T} spells = (s t : Bor (List ℕ)) (xs : List T) → s.now ≡ t.n
 -- The literal of a text with these bytes; `spells` gives the lists that a text spells.
 abbrev pub TextDoes : {S T L : Type 0} → Reading T L → (Bor (List ℕ) → List T → Type 0) → List ℕ
     → Does S T L
-TextDoes reading spells bytes =
-    LiteralDoes reading (λ s. SpelledBy spells bytes) (λ s slice. slice)
+TextDoes reading spells bytes at s w x =
+    (text : Bor (List ℕ)) × (text.now ≡ bytes)
+    × LiteralDoes reading (λ _. spells text) (λ _ slice. slice) at s w x
 
-pub text_law : {S T L : Type 0} (reading : Reading T L) (spells : Bor (List ℕ) → List T → Type 0)
-    (bytes : List ℕ) → ((text : Bor (List ℕ)) → SpellsAsMany reading (spells text))
-    → SpellsByText spells
-    → Lawful {S = S} ⊤ (ShowSame reading) (TextDoes reading spells bytes)
-text_law reading spells bytes as_many by_text =
-    literal_law reading (λ s. SpelledBy spells bytes) (λ s slice. slice) (ShowSame reading)
-    (λ s xs ys (t, is, a) (u, was, b). as_many t xs ys a (by_text u t ys (was ∙ sym is) b))
-    (λ s u v same. same)
+module _ {S T L : Type 0} (reading : Reading T L) (spells : Bor (List ℕ) → List T → Type 0)
+    (bytes : List ℕ) (as_many : (text : Bor (List ℕ)) → SpellsAsMany reading (spells text))
+    (by_text : SpellsByText spells) where
+  abbrev OneText : Bor (List ℕ) → Does S T L
+  OneText text = LiteralDoes reading (λ _. spells text) (λ _ slice. slice)
+
+  one_text : (text : Bor (List ℕ)) → Lawful {S = S} ⊤ (ShowSame reading) (OneText text)
+  one_text text = literal_law reading (λ _. spells text) (λ _ slice. slice) (ShowSame reading)
+      (λ s. as_many text) (λ s u v same. same)
+
+  -- the literal of a text is that of each text with the same bytes
+  by_bytes : (t u : Bor (List ℕ)) → t.now ≡ u.now → (at : Setting) (s : S) (w : Left T)
+      (x : Outcome (End S T) L) → OneText t at s w x → OneText u at s w x
+  by_bytes t u e at s w x (inl (o, rest, (f, v, is, shown, p, a), d)) =
+      inl (o, rest, (f, v, by_text t u f e is, shown, p, a), d)
+  by_bytes t u e at s w x (inr (inl (((y, more, is), part), d))) =
+      inr (inl (((y, more, by_text t u (w.tokens ++ y ∷ more) e is), part), d))
+  by_bytes t u e at s w x (inr (inr ((none, told), d))) = inr (inr (
+    (
+      (λ (f, rest, is, split). none (f, rest, by_text u t f (sym e) is, split)),
+      (λ (y, more, is). told (y, more, by_text u t (w.tokens ++ y ∷ more) (sym e) is)),
+    ),
+    d,
+  ))
+
+  pub text_law : Lawful {S = S} ⊤ (ShowSame reading) (TextDoes reading spells bytes)
+  text_law = record {
+    one = λ at s w x y (t, is, d) (u, was, e).
+        (one_text t).one at s w x y d (by_bytes u t (was ∙ sym is) at s w y e);
+    whole = λ at s w need last is (t, here, d). (one_text t).whole at s w need last is d;
+    stays = λ is more flag s w x final (t, here, d).
+        (t, here, (one_text t).stays is more flag s w x final d);
+  }
 
 -- The literal of the character `c`, which is the output; `spells` gives the lists that a character
 -- spells.

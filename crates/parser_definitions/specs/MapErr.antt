@@ -2,13 +2,15 @@
 -- `complete_err`. Closures may change.
 use Rattle.std.specs.Iterator.{Drains}
 use Rattle.std.specs.List.{FoldsTo}
-use Rattle.std.specs.Prelude.{◌≡◌, ◌⊎◌, ⊤, ℕ, true, List, [], ◌∷◌, Option, IsSome, None}
+use Rattle.std.specs.Prelude.{◌≡◌, ◌⊎◌, ⊤, ℕ, true, IsTrue, List, [], ◌∷◌, Option, IsSome}
+use Rattle.std.specs.Prelude.{None}
 use Rattle.std.proofs.Common.{refl, sym, subst, ap, ◌∙◌, inl, inr}
 use Rattle.streams.specs.Kind.{Kind, backtrack, cut, incomplete, memory}
 use Rattle.stream_errors.specs.Form.{ErrorForm, modal, need_of_kind}
 use Rattle.stream_errors.specs.Given.{Keeping, KindGiven}
 use Rattle.parser_definitions.specs.Does.{Lawful}
-use Rattle.parser_definitions.specs.Errors.{Becomes, BecomesAlike, ErrorDoes, error_law, error_of}
+use Rattle.parser_definitions.specs.Errors.{AnyErrorDoes, Becomes, BecomesAlike, ErrorDoes}
+use Rattle.parser_definitions.specs.Errors.{StaysMemory, any_error_law, error_law, error_of}
 use Rattle.parser_definitions.specs.Left.{extend}
 use Rattle.parser_definitions.specs.Outcome.{Alike, Does, alike_wants, asks, both, final_by, longer}
 use Rattle.parser_definitions.specs.Outcome.{wants}
@@ -20,10 +22,16 @@ use Rattle.parser_definitions.specs.Then.Steps.{takes_hold, takes_meet}
 
 -- ---- kinds that are kept
 
--- A kind that is kept, or out of memory, in a state that stays.
-pub record KeepsKinds {G : Type 0} (becomes : Becomes G) : Type 0 where
-  pub keeps : (f : G) (k l : Kind) (g : G) → becomes f k l g
-      → (g ≡ f) × ((l ≡ k) ⊎ (l ≡ memory))
+-- In state `f`, which stays, each kind is kept or becomes out of memory.
+pub record KeepsKinds {G : Type 0} (becomes : Becomes G) (f : G) : Type 0 where
+  pub keeps : (k l : Kind) (g : G) → becomes f k l g → (g ≡ f) × ((l ≡ k) ⊎ (l ≡ memory))
+
+pub kept_memory : {G : Type 0} {becomes : Becomes G} {f : G} → KeepsKinds becomes f
+    → StaysMemory becomes f
+kept_memory m l g a = elim (m.keeps memory l g a).1 [
+  | inl e ↦ e
+  | inr e ↦ e
+]
 
 kept_errors : {G : Type 0} {k l m : Kind} {f g h : G} → g ≡ f → h ≡ f → (l ≡ k) ⊎ (l ≡ memory)
     → (m ≡ k) ⊎ (m ≡ memory) → Alike (λ o p. ⊤) (error_of l g) (error_of m h)
@@ -43,16 +51,17 @@ kept_errors {G} {k} {l} {m} {f} {g} {h} is also (inl e) (inl d) =
     itself (incomplete need) f = (refl, refl)
     itself memory f = tt
 
-pub kept_alike : {G : Type 0} {becomes : Becomes G} → KeepsKinds becomes → BecomesAlike becomes
+pub kept_alike : {G : Type 0} {becomes : Becomes G} → ((f : G) → KeepsKinds becomes f)
+    → BecomesAlike becomes
 kept_alike m = record {
   one = λ f k l n g h a b.
-      kept_errors (m.keeps f k l g a).0 (m.keeps f k n h b).0 (m.keeps f k l g a).1
-      (m.keeps f k n h b).1;
-  whole = λ f k need g other a. elim (m.keeps f k (incomplete need) g a).1 [
+      let (stays, is) = (m f).keeps k l g a in
+      let (stay, also) = (m f).keeps k n h b in kept_errors stays stay is also;
+  whole = λ f k need g other a. elim ((m f).keeps k (incomplete need) g a).1 [
     | inl e ↦ other need (sym e)
     | inr e ↦ absurd (cc)
   ];
-  later = λ f need l g a final. elim (m.keeps f (incomplete need) l g a).1 [
+  later = λ f need l g a final. elim ((m f).keeps (incomplete need) l g a).1 [
     | inl e ↦ final_by {y = asks need g} (ap (λ z. error_of z g) e) final
     | inr e ↦ final_by {y = wants} (ap (λ z. error_of z g) e) final
   ];
@@ -68,7 +77,20 @@ map_err_becomes {G} {E} {D} kind new_kind step f k l g =
 
 abbrev pub MapErrDoes : {S G T O E D : Type 0} → (E → Kind) → (D → Kind)
     → (G → E → D → G → Type 0) → Does S T O → Does (S × G) T O
-MapErrDoes kind new_kind step = ErrorDoes (map_err_becomes kind new_kind step)
+MapErrDoes kind new_kind step = AnyErrorDoes (map_err_becomes kind new_kind step)
+
+-- The closure makes an error that is out of memory of each that is.
+abbrev pub KeepsMemory : {G E D : Type 0} → (E → Kind) → (D → Kind) → (G → E → D → G → Type 0)
+    → Type 0
+KeepsMemory {G} {E} {D} kind new_kind step =
+    (f : G) (old : E) (new : D) (g : G) → step f old new g → kind old ≡ memory
+    → new_kind new ≡ memory
+
+-- Each call of the closure makes of an error one of its kind.
+abbrev pub KeepsEachKind : {G E D : Type 0} → (E → Kind) → (D → Kind) → (G → E → D → G → Type 0)
+    → Type 0
+KeepsEachKind {G} {E} {D} kind new_kind step =
+    (g : G) (old : E) (new : D) (h : G) → step g old new h → new_kind new ≡ kind old
 
 -- For errors of one kind in one state the closure makes errors of one kind, and has one next state.
 -- An error that it makes is incomplete if and only if the child's is.
@@ -97,9 +119,11 @@ maps_alike {G = G} kind new_kind step m = record {
 
 pub map_err_law : {S G T O E D : Type 0} {stable : Type 0} {alike : O → O → Type 0}
     {does : Does S T O} (kind : E → Kind) (new_kind : D → Kind) (step : G → E → D → G → Type 0)
-    → MapsErrors kind new_kind step → Lawful stable alike does
+    → MapsErrors kind new_kind step → KeepsMemory kind new_kind step → Lawful stable alike does
     → Lawful stable alike (MapErrDoes kind new_kind step does)
-map_err_law kind new_kind step m law = error_law (maps_alike kind new_kind step m) law
+map_err_law kind new_kind step m keeps law = any_error_law
+    (λ f l g (old, new, is, a, e). e ∙ keeps f old new g a is)
+    (maps_alike kind new_kind step m) law
 
 -- The error has the same kind.
 abbrev pub map_err_kept_becomes : {G E D : Type 0} → (E → Kind) → (D → Kind)
@@ -112,11 +136,15 @@ abbrev pub MapErrKeptDoes : {S G T O E D : Type 0} → (E → Kind) → (D → K
 MapErrKeptDoes kind new_kind step = ErrorDoes (map_err_kept_becomes kind new_kind step)
 
 -- For errors of one kind in one state the closure has one next state.
+abbrev pub OneNext : {G E D : Type 0} → (E → Kind) → (G → E → D → G → Type 0) → Type 0
+OneNext {G} {E} {D} kind step =
+    (f : G) (old also : E) (new other : D) (g h : G) → kind old ≡ kind also → step f old new g
+    → step f also other h → g ≡ h
+
 pub map_err_kept_law : {S G T O E D : Type 0} {stable : Type 0} {alike : O → O → Type 0}
     {does : Does S T O} (kind : E → Kind) (new_kind : D → Kind) (step : G → E → D → G → Type 0)
-    → ((f : G) (old also : E) (new other : D) (g h : G) → kind old ≡ kind also
-    → step f old new g → step f also other h → g ≡ h)
-    → Lawful stable alike does → Lawful stable alike (MapErrKeptDoes kind new_kind step does)
+    → OneNext kind step → Lawful stable alike does
+    → Lawful stable alike (MapErrKeptDoes kind new_kind step does)
 map_err_kept_law kind new_kind step once law =
     error_law {becomes = map_err_kept_becomes kind new_kind step} (record {
       one = λ f k l n g h ((old, new, is, a, e), kept) ((also, other, too, b, d), same).
@@ -155,19 +183,46 @@ err_into_becomes kind new_kind converts =
 abbrev pub ErrIntoDoes : {S T O E D : Type 0} → ErrorForm → (E → Kind) → (D → Kind)
     → (E → D → Type 0) → Does S T O → Does S T O
 ErrIntoDoes form kind new_kind converts does =
-    Alone (ErrorDoes (err_into_becomes kind new_kind converts) (InForm form does))
+    Alone (AnyErrorDoes (err_into_becomes kind new_kind converts) (InForm form does))
 
 -- A conversion keeps the kind.
+abbrev pub ConvertsKinds : {E D : Type 0} → (E → Kind) → (D → Kind) → (E → D → Type 0) → Type 0
+ConvertsKinds {E} {D} kind new_kind converts =
+    (old : E) (new : D) → converts old new → new_kind new ≡ kind old
+
+-- An error is converted to one of its kind, or to out of memory.
+abbrev pub SameKinds : {E D : Type 0} → (E → Kind) → (D → Kind) → (E → D → Type 0) → Type 0
+SameKinds {E} {D} kind new_kind converts = (old : E) (new : D) → converts old new
+    → (new_kind new ≡ kind old) ⊎ (new_kind new ≡ memory)
+
+-- The converted error is out of memory only if the original error is.
+abbrev pub ConvertsSparing : {E D : Type 0} → (E → Kind) → (D → Kind) → (E → D → Type 0) → Type 0
+ConvertsSparing {E} {D} kind new_kind converts =
+    (old : E) (new : D) → converts old new → new_kind new ≡ memory → kind old ≡ memory
+
+pub same_kinds : {E D : Type 0} {kind : E → Kind} {new_kind : D → Kind}
+    {converts : E → D → Type 0} → SameKinds kind new_kind converts → (f : ⊤)
+    → KeepsKinds (err_into_becomes kind new_kind converts) f
+same_kinds keeps f = record {
+  keeps = λ k l g (old, new, is, a, e). (
+    refl,
+    elim (keeps old new a) [
+      | inl kept ↦ inl (e ∙ kept ∙ is)
+      | inr wanted ↦ inr (e ∙ wanted)
+    ],
+  );
+}
+
 pub err_into_law : {S T O E D : Type 0} {stable : Type 0} {alike : O → O → Type 0}
     {does : Does S T O} (form : ErrorForm) (kind : E → Kind) (new_kind : D → Kind)
     (converts : E → D → Type 0)
-    → ((old : E) (new : D) → converts old new → new_kind new ≡ kind old)
-    → Lawful stable alike does
+    → ConvertsKinds kind new_kind converts → Lawful stable alike does
     → Lawful (stable × (form ≡ modal)) alike (ErrIntoDoes form kind new_kind converts does)
-err_into_law form kind new_kind converts keeps law = alone_law (error_law
-    {becomes = err_into_becomes kind new_kind converts} (kept_alike (record {
-      keeps = λ f k l g (old, new, is, a, e). (refl, inl (e ∙ keeps old new a ∙ is));
-    })) (form_law form law))
+err_into_law form kind new_kind converts keeps law =
+    let kinds = same_kinds {kind = kind} {new_kind = new_kind} {converts = converts}
+    (λ old new a. inl (keeps old new a)) in
+    alone_law (any_error_law {becomes = err_into_becomes kind new_kind converts}
+    (λ f. kept_memory (kinds f)) (kept_alike kinds) (form_law form law))
 
 -- ---- `context`
 
@@ -188,20 +243,28 @@ given_kind : (keeping : Keeping) (k l : Kind) → KindGiven keeping k l → (l �
 given_kind keeping k l (inl (kept, is)) = inl is
 given_kind keeping k l (inr (refused, is)) = inr is
 
+pub context_keeps : {C : Type 0} (is_clone : C → C → Type 0) (always : C → Type 0)
+    (f : C × (C → Keeping)) → KeepsKinds (context_becomes is_clone always) f
+context_keeps is_clone always f = record {
+  keeps = λ k l g (stays, a). (
+    stays,
+    elim a [
+      | inl (some, is) ↦ inl is
+      | inr (inl (copy, none, clone, given)) ↦ given_kind (f.1 copy) k l given
+      | inr (inr (none, refused, is)) ↦ inr is
+    ],
+  );
+}
+
 pub context_law : {S C T O : Type 0} {stable : Type 0} {alike : O → O → Type 0}
     {does : Does S T O} (is_clone : C → C → Type 0) (always : C → Type 0)
     → Lawful stable alike does → Lawful stable alike (ContextDoes is_clone always does)
 context_law is_clone always law = error_law {becomes = context_becomes is_clone always}
-    (kept_alike (record {
-      keeps = λ f k l g (stays, a). (
-        stays,
-        elim a [
-          | inl (some, is) ↦ inl is
-          | inr (inl (copy, none, clone, given)) ↦ given_kind (f.1 copy) k l given
-          | inr (inr (none, refused, is)) ↦ inr is
-        ],
-      );
-    })) law
+    (kept_alike (context_keeps is_clone always)) law
+
+-- Storing a copy of the context in an error never fails to allocate.
+abbrev pub NeverRefused : {C : Type 0} → (C → C → Type 0) → C × (C → Keeping) → Type 0
+NeverRefused {C} is_clone c = (copy : C) → is_clone c.0 copy → IsTrue (c.1 copy).refused → ⊥
 
 -- One context is stored, or there is no memory for it.
 abbrev pub with_context : Keeping → Kind → Kind → Type 0
@@ -234,14 +297,18 @@ folded_kind gives (c ∷ cs) k l (m, told, rest) = elim (folded_kind gives cs m 
   | inr wanted ↦ inr wanted
 ]
 
+pub contexts_keep : {F C J : Type 0} (makes : F → J → Type 0) (steps : J → Option C → J → Type 0)
+    (f : F × (C → Keeping)) → KeepsKinds (contexts_become makes steps) f
+contexts_keep makes steps f = record {
+  keeps = λ k l g (stays, (items, contexts, made, drains, told)).
+      (stays, folded_kind f.1 contexts k l told);
+}
+
 pub context_with_law : {S F C J T O : Type 0} {stable : Type 0} {alike : O → O → Type 0}
     {does : Does S T O} (makes : F → J → Type 0) (steps : J → Option C → J → Type 0)
     → Lawful stable alike does → Lawful stable alike (ContextWithDoes makes steps does)
 context_with_law makes steps law = error_law {becomes = contexts_become makes steps}
-    (kept_alike (record {
-      keeps = λ f k l g (stays, (items, contexts, made, drains, told)).
-          (stays, folded_kind f.1 contexts k l told);
-    })) law
+    (kept_alike (contexts_keep makes steps)) law
 
 -- ---- `complete_err`
 

@@ -19,7 +19,7 @@ use Rattle.parser_definitions.specs.Loop.{family_holds_else, family_meets, famil
 use Rattle.parser_definitions.specs.Loop.{loop_law, returns, then_family}
 use Rattle.parser_definitions.specs.Outcome.{Alike, Does, IsFinal, Outcome, Setting, as_longer}
 use Rattle.parser_definitions.specs.Outcome.{asks, grown, longer, on_cut}
-use Rattle.parser_definitions.specs.Then.{Comes, Holds, Meets, Then, then_law}
+use Rattle.parser_definitions.specs.Then.{Comes, Holds, Meets, Next, Then, then_law}
 use Rattle.parser_definitions.specs.Then.Steps.{and_then, asks_later, asks_meet, asks_on}
 use Rattle.parser_definitions.specs.Then.Steps.{backs_meet, backs_on, cuts_hold, cuts_meet, cuts_on}
 use Rattle.parser_definitions.specs.Then.Steps.{holds_where, instead, meets_where, or_else, same}
@@ -49,14 +49,17 @@ module _ {S W Q T C O D : Type 0} (get : Q → S) (put : Q → S → Q) (pick : 
   abbrev pub TurnItem : C × ℕ → Does Q T (Turn (C × ℕ) (C × D))
   TurnItem x = Then get (Item does) (where_took put (item_comes put f x))
 
-  -- A turn: the terminator ends the repetition, or an item follows.
-  abbrev pub TillTurn : Option ℕ → C × ℕ → Does Q T (Turn (C × ℕ) (C × D))
-  TillTurn room x = Then pick till (record {
+  -- after the terminator, which ends the repetition; or an item follows
+  abbrev pub till_next : Option ℕ → C × ℕ → Next W Q T D (Turn (C × ℕ) (C × D))
+  till_next room x = record {
     on_took = λ d. takes keep (returns (x.0, d));
     on_backs = if_room keep room TurnItem x;
     on_cuts = cuts_on keep;
     on_asks = asks_on keep;
-  })
+  }
+
+  abbrev pub TillTurn : Option ℕ → C × ℕ → Does Q T (Turn (C × ℕ) (C × D))
+  TillTurn room x = Then pick till (till_next room x)
 
   -- The least number of items, before which the terminator is not called; then turns.
   abbrev pub ItemsTill : Bounds → C → Does Q T (C × D)

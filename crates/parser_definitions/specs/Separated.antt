@@ -15,7 +15,7 @@ use Rattle.parser_definitions.specs.Link.{Link, link_law}
 use Rattle.parser_definitions.specs.Loop.{Family, always, family_holds, family_meets, then_family}
 use Rattle.parser_definitions.specs.Outcome.{Alike, Does, IsFinal, Outcome, Setting, as_longer}
 use Rattle.parser_definitions.specs.Outcome.{asks, both, grown, longer, on_cut, took}
-use Rattle.parser_definitions.specs.Then.{Then}
+use Rattle.parser_definitions.specs.Then.{Next, Then}
 use Rattle.parser_definitions.specs.Then.Steps.{and_then, asks_later, asks_meet, asks_on, cuts_hold}
 use Rattle.parser_definitions.specs.Then.Steps.{cuts_meet, cuts_on}
 use Rattle.parser_definitions.specs.Threes.{one_of, pair_of, with_one, with_pair}
@@ -38,13 +38,16 @@ module _ {S W Q T C O D : Type 0} (get : Q → S) (put : Q → S → Q) (pick : 
 
   -- The first element, which may consume nothing, and links after it. If it backtracks, none may be
   -- required.
-  abbrev pub FirstElement : C → Does Q T C
-  FirstElement c = Then get element (record {
+  abbrev pub first_next : C → Next S Q T O C
+  first_next c = record {
     on_took = λ o. and_then put (Adds f Links (c, o));
     on_backs = enough put bounds.least (λ d. d) (c, 0);
     on_cuts = cuts_on put;
     on_asks = asks_on put;
-  })
+  }
+
+  abbrev pub FirstElement : C → Does Q T C
+  FirstElement c = Then get element (first_next c)
 
   -- The greatest number may be zero.
   abbrev pub Elements : C → Does Q T C

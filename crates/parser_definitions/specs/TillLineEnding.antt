@@ -17,6 +17,7 @@ use Rattle.parser_definitions.specs.Cases.{TakesWhere, after_law, backs_law, cas
 use Rattle.parser_definitions.specs.Cases.{takes_law}
 use Rattle.parser_definitions.specs.Does.{Lawful}
 use Rattle.parser_definitions.specs.Left.{End, Left}
+use Rattle.parser_definitions.specs.LineEnding.{SpellsByText}
 use Rattle.parser_definitions.specs.Outcome.{Does, Outcome, Setting, grown, on_cut}
 use Rattle.parser_definitions.specs.Passed.{Passed, passed_longer, same_passed}
 use Rattle.parser_definitions.specs.Shown.{show_same}
@@ -46,6 +47,56 @@ nothing_first : {T : Type 0} (xs ys : List T) → xs ++ ys ≡ [] → xs ≡ []
 nothing_first [] ys e = refl
 nothing_first (x ∷ xs) ys e = absurd (cc)
 
+-- `spells` gives the lists that a text spells.
+module _ {T : Type 0} (spells : Bor (List ℕ) → List T → Type 0) where
+  -- The tokens start with a carriage return.
+  abbrev pub HasReturn : List T → Type 0
+  HasReturn = StartsWithSpelling (SpelledBy spells (13 ∷ []))
+
+  -- They do not.
+  abbrev pub LacksReturn : List T → Type 0
+  LacksReturn tokens =
+      (text : Bor (List ℕ)) × (text.now ≡ 13 ∷ []) × (StartsWithSpelling (spells text) tokens → ⊥)
+
+  -- The tokens start with a carriage return and a line feed.
+  abbrev pub HasBoth : List T → Type 0
+  HasBoth = StartsWithSpelling (SpelledBy spells (13 ∷ 10 ∷ []))
+
+  -- They do not, but are a proper prefix of "\r\n".
+  abbrev pub IsShortOfBoth : List T → Type 0
+  IsShortOfBoth tokens =
+      (text : Bor (List ℕ)) × (text.now ≡ 13 ∷ 10 ∷ [])
+      × (StartsWithSpelling (spells text) tokens → ⊥) × IsShort (spells text) tokens
+
+  -- They do not, whatever follows.
+  abbrev pub IsNeverBoth : List T → Type 0
+  IsNeverBoth tokens =
+      (text : Bor (List ℕ)) × (text.now ≡ 13 ∷ 10 ∷ [])
+      × (StartsWithSpelling (spells text) tokens → ⊥) × (IsShort (spells text) tokens → ⊥)
+
+  -- If the tokens start with a carriage return, a line feed follows it.
+  abbrev pub EndsWell : List T → Type 0
+  EndsWell tokens = LacksReturn tokens ⊎ HasBoth tokens
+
+  module _ (by_text : SpellsByText spells) (tokens : List T) where
+    pub has_return : HasReturn tokens → LacksReturn tokens → ⊥
+    has_return (front, rest, (t, is, spelled), e) (u, was, none) =
+        none (front, rest, by_text t u front (is ∙ sym was) spelled, e)
+
+    pub has_both : HasBoth tokens → (text : Bor (List ℕ)) → text.now ≡ 13 ∷ 10 ∷ []
+        → (StartsWithSpelling (spells text) tokens → ⊥) → ⊥
+    has_both (front, rest, (t, is, spelled), e) text here none =
+        none (front, rest, by_text t text front (is ∙ sym here) spelled, e)
+
+    ends_well : EndsWell tokens → HasReturn tokens → (text : Bor (List ℕ))
+        → text.now ≡ 13 ∷ 10 ∷ [] → (StartsWithSpelling (spells text) tokens → ⊥) → ⊥
+    ends_well (inl none) first text here lacks = has_return first none
+    ends_well (inr both) first text here lacks = has_both both text here lacks
+
+    short_or_never : IsShortOfBoth tokens → IsNeverBoth tokens → ⊥
+    short_or_never (t, is, none, (x, more, spelled)) (u, was, never, long) =
+        long (x, more, by_text t u (tokens ++ x ∷ more) (is ∙ sym was) spelled)
+
 -- `spells` gives the lists that a text spells, and `sought` those that match one of two characters.
 module _ {T L : Type 0} (reading : Reading T L) (spells : Bor (List ℕ) → List T → Type 0)
     (sought : ℕ × ℕ → List T → Type 0) where
@@ -55,18 +106,6 @@ module _ {T L : Type 0} (reading : Reading T L) (spells : Bor (List ℕ) → Lis
   IsLine front at tokens rest =
       IsBefore (sought (13, 10)) tokens front rest
       ⊎ (HasNoLineEnd sought tokens × NeverIncomplete at × (front ≡ tokens) × (rest ≡ []))
-
-  -- The tokens start with a carriage return.
-  abbrev pub HasReturn : List T → Type 0
-  HasReturn = StartsWithSpelling (SpelledBy spells (13 ∷ []))
-
-  -- The tokens start with a carriage return and a line feed.
-  abbrev pub HasBoth : List T → Type 0
-  HasBoth = StartsWithSpelling (SpelledBy spells (13 ∷ 10 ∷ []))
-
-  -- The tokens are a proper prefix of "\r\n".
-  abbrev pub IsShortOfBoth : List T → Type 0
-  IsShortOfBoth = IsShort (SpelledBy spells (13 ∷ 10 ∷ []))
 
   pub as_line : (at : Setting) {tokens : List T} (front rest : List T)
       → IsLine front at tokens rest → IsLineOf sought tokens front rest
@@ -100,12 +139,13 @@ module _ {T L : Type 0} (reading : Reading T L) (spells : Bor (List ℕ) → Lis
     line_more some more flag tokens front rest (inr (none, inr form, all, nothing)) =
         modal-not_plain form
 
-    return_there : SpellsOne spells → (more rest : List T) → (rest ≡ [] → ⊥)
-        → HasReturn (rest ++ more) → HasReturn rest
-    return_there one more [] some first = absurd (some refl)
-    return_there one more (r ∷ rs) some (front, end, (text, here, is), e) =
+    return_there : SpellsOne spells → (text : Bor (List ℕ)) → text.now ≡ 13 ∷ []
+        → (more rest : List T) → (rest ≡ [] → ⊥)
+        → StartsWithSpelling (spells text) (rest ++ more) → StartsWithSpelling (spells text) rest
+    return_there one text here more [] some first = absurd (some refl)
+    return_there one text here more (r ∷ rs) some (front, end, is, e) =
         elim (one_beginning (r ∷ rs) more front end e) [
-          | inl (others, same) ↦ (front, others, (text, here, is), same)
+          | inl (others, same) ↦ (front, others, is, same)
           | inr (x, others, longer) ↦ absurd (omega (
             arith,
             one text front here is,
@@ -113,6 +153,13 @@ module _ {T L : Type 0} (reading : Reading T L) (spells : Bor (List ℕ) → Lis
             length-append rs (x ∷ others),
           ))
         ]
+
+    ends_more : SpellsOne spells → (more rest : List T) → (rest ≡ [] → ⊥) → EndsWell spells rest
+        → EndsWell spells (rest ++ more)
+    ends_more one more rest some (inl (text, here, none)) =
+        inl (text, here, λ first. none (return_there one text here more rest some first))
+    ends_more one more rest some (inr both) =
+        inr (starts_more (SpelledBy spells (13 ∷ 10 ∷ [])) rest more both)
 
   module _ {S : Type 0} where
     -- No line ending occurs, and `Incomplete` is returned.
@@ -123,19 +170,19 @@ module _ {T L : Type 0} (reading : Reading T L) (spells : Bor (List ℕ) → Lis
     abbrev pub IsWholeLine : S → L → Case T
     IsWholeLine s slice at w rest =
         (front : List T) × IsLine front at w.tokens rest.tokens × reading.shows slice front
-        × Passed reading front w rest × (HasReturn rest.tokens → HasBoth rest.tokens)
+        × Passed reading front w rest × EndsWell spells rest.tokens
 
     -- The line is followed by a carriage return, and the token after it is not yet known.
     abbrev pub IsOpenLine : S → Case T
     IsOpenLine s at w rest =
         (front : List T) × IsLine front at w.tokens rest.tokens × Passed reading front w rest
-        × HasReturn rest.tokens × (HasBoth rest.tokens → ⊥) × IsShortOfBoth rest.tokens
+        × HasReturn spells rest.tokens × IsShortOfBoth spells rest.tokens
 
     -- The line is followed by a carriage return without a line feed.
     abbrev pub IsLone : S → Case T
     IsLone s at w rest =
         (front : List T) × IsLine front at w.tokens rest.tokens × Passed reading front w rest
-        × HasReturn rest.tokens × (HasBoth rest.tokens → ⊥) × (IsShortOfBoth rest.tokens → ⊥)
+        × HasReturn spells rest.tokens × IsNeverBoth spells rest.tokens
 
     abbrev pub TillLineEndingDoes : Does S T L
     TillLineEndingDoes =
@@ -155,64 +202,75 @@ module _ {T L : Type 0} (reading : Reading T L) (spells : Bor (List ℕ) → Lis
         let (hit, behind, there) = stands_behind before in none front hit behind there
     line_or_none s at w front rest (inr (never, ends, all, nothing)) (none, asks) = asks ends
 
-    module _ (stays_first : StaysFirst reading.units (sought (13, 10))) where
+    module _ (stays_first : StaysFirst reading.units (sought (13, 10)))
+        (by_text : SpellsByText spells) where
       pub till_line_ending_law : Lawful (SeeksSome sought × SpellsOne spells) (ShowSame reading)
           TillLineEndingDoes
       till_line_ending_law = cases_law (lacks_law (λ s w. None) LacksEnd)
           (cases_law
           (takes_law IsWholeLine
-          (λ at s w u v rest end (f, line, shown, p, feed) (g, also, shows, q, feeds).
+          (λ at s w u v rest end (f, line, shown, p, well) (g, also, shows, q, too).
           let (same, left) = same_line at f g line also p q in
           (show_same reading same shown shows, left))
-          (λ is more flag s w v rest (f, line, shown, p, feed).
+          (λ is more flag s w v rest (f, line, shown, p, well).
           let (longer, some) = line_more stays_first is.0 more flag w.tokens f rest.tokens line in (
             f,
             longer,
             shown,
             passed_longer more p,
-            λ first. starts_more (SpelledBy spells (13 ∷ 10 ∷ [])) rest.tokens more
-                (feed (return_there stays_first is.1 more rest.tokens some first)),
+            ends_more stays_first is.1 more rest.tokens some well,
           )))
           (cases_law
-          (after_law None IsOpenLine (λ at s w rest end (f, line, p, a, b, c) (g, also, q, x, y, z).
+          (after_law None IsOpenLine (λ at s w rest end (f, line, p, a, b) (g, also, q, c, d).
           (same_line at f g line also p q).1))
           (backs_law IsLone
-          (λ at s w rest end (f, line, p, a, b, c) (g, also, q, x, y, z).
+          (λ at s w rest end (f, line, p, a, b) (g, also, q, c, d).
           (same_line at f g line also p q).1)
-          (λ is more flag s w rest (f, line, p, first, none, long). (
+          (λ is more flag s w rest (f, line, p, first, (text, here, none, long)). (
             f,
             (line_more stays_first is.0 more flag w.tokens f rest.tokens line).0,
             passed_longer more p,
             starts_more (SpelledBy spells (13 ∷ [])) rest.tokens more first,
-            still_not_first (SpelledBy spells (13 ∷ 10 ∷ [])) rest.tokens more none long,
-            still_not_short (SpelledBy spells (13 ∷ 10 ∷ [])) rest.tokens more long,
+            (
+              text,
+              here,
+              still_not_first (spells text) rest.tokens more none long,
+              still_not_short (spells text) rest.tokens more long,
+            ),
           )))
-          (λ at s w x y (rest, (f, line, p, first, none, short), e)
-          (end, (g, also, q, begins, never, long), d).
-          let P : Left T → Type 0 = λ l. IsShortOfBoth l.tokens in
-          long (subst P (same_line at f g line also p q).1 short)))
+          (λ at s w x y (rest, (f, line, p, first, short), e) (end, (g, also, q, begins, never), d).
+          let P : Left T → Type 0 = λ l. IsShortOfBoth spells l.tokens in
+          short_or_never spells by_text end.tokens
+          (subst P (same_line at f g line also p q).1 short) never))
           whole_or_lone)
           none_or_line
         where
+          ends_badly : (at : Setting) {w rest end : Left T} (f g : List T)
+              → IsLine f at w.tokens rest.tokens → IsLine g at w.tokens end.tokens
+              → Passed reading f w rest → Passed reading g w end → EndsWell spells rest.tokens
+              → HasReturn spells end.tokens → (text : Bor (List ℕ)) → text.now ≡ 13 ∷ 10 ∷ []
+              → (StartsWithSpelling (spells text) end.tokens → ⊥) → ⊥
+          ends_badly at {end = end} f g line also p q well =
+              let P : Left T → Type 0 = λ l. EndsWell spells l.tokens in
+              ends_well spells by_text end.tokens (subst P (same_line at f g line also p q).1 well)
+
           whole_or_lone : (at : Setting) (s : S) (w : Left T) (x y : Outcome (End S T) L)
               → TakesWhere IsWholeLine at s w x
               → OneCase (LacksAfter None IsOpenLine) (BacksWhere IsLone) at s w y → ⊥
-          whole_or_lone at s w x y (v, rest, (f, line, shown, p, feed), e)
-              (inl (end, (g, also, q, first, none, short), d)) =
-              let P : Left T → Type 0 = λ l. HasReturn l.tokens → HasBoth l.tokens in
-              none (subst P (same_line at f g line also p q).1 feed first)
-          whole_or_lone at s w x y (v, rest, (f, line, shown, p, feed), e)
-              (inr (end, (g, also, q, first, none, long), d)) =
-              let P : Left T → Type 0 = λ l. HasReturn l.tokens → HasBoth l.tokens in
-              none (subst P (same_line at f g line also p q).1 feed first)
+          whole_or_lone at s w x y (v, rest, (f, line, shown, p, well), e)
+              (inl (end, (g, also, q, first, (text, here, none, short)), d)) =
+              ends_badly at f g line also p q well first text here none
+          whole_or_lone at s w x y (v, rest, (f, line, shown, p, well), e)
+              (inr (end, (g, also, q, first, (text, here, none, long)), d)) =
+              ends_badly at f g line also p q well first text here none
 
           none_or_line : (at : Setting) (s : S) (w : Left T) (x y : Outcome (End S T) L)
               → LacksWhere (λ s w. None) LacksEnd at s w x
               → OneCase (TakesWhere IsWholeLine)
               (OneCase (LacksAfter None IsOpenLine) (BacksWhere IsLone)) at s w y → ⊥
-          none_or_line at s w x y (lacks, e) (inl (v, rest, (f, line, shown, p, feed), d)) =
+          none_or_line at s w x y (lacks, e) (inl (v, rest, (f, line, shown, p, well), d)) =
               line_or_none s at w f rest.tokens line lacks
-          none_or_line at s w x y (lacks, e) (inr (inl (rest, (f, line, p, a, b, c), d))) =
+          none_or_line at s w x y (lacks, e) (inr (inl (rest, (f, line, p, a, b), d))) =
               line_or_none s at w f rest.tokens line lacks
-          none_or_line at s w x y (lacks, e) (inr (inr (rest, (f, line, p, a, b, c), d))) =
+          none_or_line at s w x y (lacks, e) (inr (inr (rest, (f, line, p, a, b), d))) =
               line_or_none s at w f rest.tokens line lacks

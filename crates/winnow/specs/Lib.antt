@@ -117,10 +117,11 @@ pub use Rattle.parser_definitions.specs.Bounded
 pub use Rattle.parser_definitions.specs.ByRef as ByRefDefinition
 pub use Rattle.parser_definitions.specs.BytesOfBits as BytesOfBitsDefinition
 pub use Rattle.parser_definitions.specs.Cases
+pub use Rattle.parser_definitions.specs.Claim
 pub use Rattle.parser_definitions.specs.Class as ClassDefinition
-pub use Rattle.parser_definitions.specs.Closures as ClosuresDefinition
+pub use Rattle.parser_definitions.specs.Closures
 pub use Rattle.parser_definitions.specs.Consumes
-pub use Rattle.parser_definitions.specs.Digits as DigitsDefinition
+pub use Rattle.parser_definitions.specs.Digits
 pub use Rattle.parser_definitions.specs.Does
 pub use Rattle.parser_definitions.specs.Eof as EofDefinition
 pub use Rattle.parser_definitions.specs.Equal as EqualDefinition
@@ -135,6 +136,7 @@ pub use Rattle.parser_definitions.specs.Func as FuncDefinition
 pub use Rattle.parser_definitions.specs.Held
 pub use Rattle.parser_definitions.specs.HexUint as HexUintDefinition
 pub use Rattle.parser_definitions.specs.Integer as IntegerDefinition
+pub use Rattle.parser_definitions.specs.IntegerGrammar
 pub use Rattle.parser_definitions.specs.Items as ItemsDefinition
 pub use Rattle.parser_definitions.specs.Left
 pub use Rattle.parser_definitions.specs.Length as LengthDefinition
@@ -171,6 +173,7 @@ pub use Rattle.parser_definitions.specs.Sequence as SequenceDefinition
 pub use Rattle.parser_definitions.specs.Settles as SettlesDefinition
 pub use Rattle.parser_definitions.specs.Shown
 pub use Rattle.parser_definitions.specs.Spelled
+pub use Rattle.parser_definitions.specs.Stays
 pub use Rattle.parser_definitions.specs.Take as TakeDefinition
 pub use Rattle.parser_definitions.specs.TakeEscaped as TakeEscapedDefinition
 pub use Rattle.parser_definitions.specs.TakeUntil as TakeUntilDefinition
@@ -185,8 +188,6 @@ pub use Rattle.parser_definitions.specs.Verify as VerifyDefinition
 -- The core of the parsers: the trait `Parser` with its adapters, parsers by value, and sequences.
 pub use Rattle.winnow_core.specs.AndThen
 pub use Rattle.winnow_core.specs.ByRef
-pub use Rattle.winnow_core.specs.Claim
-pub use Rattle.winnow_core.specs.Closures
 pub use Rattle.winnow_core.specs.CompleteErr
 pub use Rattle.winnow_core.specs.Context
 pub use Rattle.winnow_core.specs.ContextWith
@@ -248,7 +249,6 @@ pub use Rattle.winnow_numbers.specs.DecInt
 pub use Rattle.winnow_numbers.specs.DecUint
 pub use Rattle.winnow_numbers.specs.Decimal
 pub use Rattle.winnow_numbers.specs.DecimalText
-pub use Rattle.winnow_numbers.specs.Digits
 pub use Rattle.winnow_numbers.specs.HexUint
 pub use Rattle.winnow_numbers.specs.Number
 pub use Rattle.winnow_numbers.specs.Numeral

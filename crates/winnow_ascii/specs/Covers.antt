@@ -1,5 +1,5 @@
 -- Classes of characters and line endings are covered.
-use Rattle.std.specs.Prelude.{◌≡◌, ◌↔◌, ℕ, IsTrue, List, [], ◌∷◌, ◌++◌, None, Ok, Err}
+use Rattle.std.specs.Prelude.{◌≡◌, ◌↔◌, ℕ, IsTrue, List, [], ◌∷◌, None, Ok, Err}
 use Rattle.std.specs.Borrow.{Bor}
 use Rattle.std.proofs.Common.{refl, sym, ap, inl, inr, ◌∙◌}
 use Rattle.streams.specs.Equal.{true_is_false}
@@ -9,7 +9,6 @@ use Rattle.streams.specs.Reading.{Reading}
 use Rattle.streams.specs.Stream.{AnswersSeen}
 use Rattle.stream_errors.specs.Form.{Answer, ErrorForm, incomplete_kind, modal, plain}
 use Rattle.stream_sets.specs.Range.{from_to}
-use Rattle.grammars.specs.Grammar.{SpelledBy}
 use Rattle.grammars.specs.Grammar.Searches.Unique.{match_before}
 use Rattle.parser_definitions.specs.Class.{ClassDoes}
 use Rattle.parser_definitions.specs.Left.{left_of}
@@ -19,15 +18,13 @@ use Rattle.parser_definitions.specs.Then.{ComesOf}
 use Rattle.parser_definitions.specs.TillLineEnding.{IsLine, NeverIncomplete, TillLineEndingDoes}
 use Rattle.winnow_core.specs.Covers.{Calls, Covers, gave, kept_covered, left_at}
 use Rattle.winnow_core.specs.Covers.Leaves.{literal_covered, passed_of, short}
-use Rattle.winnow_core.specs.Literal.{LiteralRuns}
-use Rattle.winnow_core.specs.Literal.Laws.{SpellsByText, TextRuns}
+use Rattle.winnow_core.specs.Literal.Laws.{TextRuns}
 use Rattle.winnow_core.specs.Runs.{Keeps}
 use Rattle.winnow_core.specs.Short.{ShortKind}
 use Rattle.winnow_token.specs.Covers.{take_while_covered}
 use Rattle.winnow_ascii.specs.Class.{ClassRuns}
 use Rattle.winnow_ascii.specs.LineEnding.{LineEndingRuns}
 use Rattle.winnow_ascii.specs.TillLineEnding.{LineRuns, TillLineEndingRuns}
-use Rattle.winnow_ascii.specs.TillLineEnding.Exact.{some_text, this_text}
 use Rattle.winnow_ascii.specs.TillLineEnding.Laws.{till_line_ending_ends}
 
 module _ {S : Type 0} {at : Setting} where
@@ -38,48 +35,28 @@ module _ {S : Type 0} {at : Setting} where
   class_covered class least code seen reading = take_while_covered reading
       (λ s. AnswersSeen seen (λ k b. IsTrue b ↔ class (code k))) (λ s. from_to least None)
 
--- ---- texts of which any with the same bytes spells the same lists
-
--- a literal of one such text is that of all of them
-by_bytes : {T L : Type 0} (reading : Reading T L) (spells : Bor (List ℕ) → List T → Type 0)
-    (bytes : List ℕ) (form : ErrorForm) (i : Input T) (a : Answer L) (j : Input T)
-    → SpellsByText spells → TextRuns reading spells bytes form i a j
-    → LiteralRuns reading form (SpelledBy spells bytes) (λ slice. slice) i a j
-by_bytes reading spells bytes form i a j alike (text, here, inl (f, v, is, t, e)) =
-    inl (f, v, (text, here, is), t, e)
-by_bytes reading spells bytes form i a j alike
-    (text, here, inr (inl ((x, more, is), cuts, e, same))) =
-    inr (inl ((x, more, (text, here, is)), cuts, e, same))
-by_bytes reading spells bytes form i a j alike (text, here, inr (inr (none, whole, e, same))) =
-    inr (inr (
-      (λ (f, rest, (other, was, is), split).
-          none (f, rest, alike other text f (was ∙ sym here) is, split)),
-      (λ (x, more, (other, was, is)).
-          whole (x, more, alike other text (i.left.tokens ++ x ∷ more) (was ∙ sym here) is)),
-      e,
-      same,
-    ))
+-- ---- literals of texts
 
 module _ {S : Type 0} {at : Setting} {T L : Type 0} (reading : Reading T L)
     (spells : Bor (List ℕ) → List T → Type 0) where
-  pub text_covered : (bytes : List ℕ) → SpellsByText spells
+  pub text_covered : (bytes : List ℕ)
       → Covers {S = S} at (Keeps (λ s. TextRuns reading spells bytes at.form))
       (TextDoes reading spells bytes)
-  text_covered bytes alike = record {
-    covers = λ s i a t j here (r, kept).
-        (literal_covered reading (λ s. SpelledBy spells bytes) (λ s slice. slice)).covers s i a t j
-        here (by_bytes reading spells bytes at.form i a j alike r, kept);
+  text_covered bytes = record {
+    covers = λ s i a t j here ((text, is, r), kept).
+        let d = (literal_covered reading (λ s. spells text) (λ s slice. slice)).covers s i a t j
+        here (r, kept) in
+        ((text, is, d.0), d.1);
   }
 
-  pub line_ending_covered : SpellsByText spells
-      → Covers {S = S} at (Keeps (λ s. LineEndingRuns spells reading at.form))
+  pub line_ending_covered : Covers {S = S} at (Keeps (λ s. LineEndingRuns spells reading at.form))
       (LineEndingDoes reading spells)
-  line_ending_covered alike = record { covers = calls }
+  line_ending_covered = record { covers = calls }
     where
       calls : Calls at (Keeps (λ (s : S). LineEndingRuns spells reading at.form))
           (LineEndingDoes reading spells)
       calls s i a t j here (inl (text, is, r, other), kept) =
-          let d = (text_covered (10 ∷ []) alike).covers s i a t j here ((text, is, r), kept) in
+          let d = (text_covered (10 ∷ [])).covers s i a t j here ((text, is, r), kept) in
           ((outcome_of a (t, left_of j), d.0, by a other), d.1)
         where
           by : (b : Answer L) → (b ≡ Err backtrack → ⊥)
@@ -91,9 +68,9 @@ module _ {S : Type 0} {at : Setting} {T L : Type 0} (reading : Reading T L)
           by (Err (incomplete need)) other = refl
           by (Err memory) other = refl
       calls s i a t j here (inr (text, is, first, r), kept) =
-          let d = (text_covered (10 ∷ []) alike).covers s i (Err backtrack) s i here
+          let d = (text_covered (10 ∷ [])).covers s i (Err backtrack) s i here
           ((text, is, first), refl) in
-          let more = (text_covered (13 ∷ 10 ∷ []) alike).covers s i a t j here (r, kept) in
+          let more = (text_covered (13 ∷ 10 ∷ [])).covers s i a t j here (r, kept) in
           ((backs (s, left_of i), d.0, more.0), more.1)
 
 -- ---- lines
@@ -122,7 +99,7 @@ module _ {T L : Type 0} (reading : Reading T L) (spells : Bor (List ℕ) → Lis
   line_taken form i slice j (inr (none, inr (whole, kind), takes, nothing)) =
       (i.left.tokens, inr (none, inl whole, refl, nothing), takes)
 
-  module _ {S : Type 0} (s : S) (form : ErrorForm) (alike : SpellsByText spells) where
+  module _ {S : Type 0} (s : S) (form : ErrorForm) where
     till_line_ending_ran : (i : Input T) (a : Answer L) (j : Input T)
         → TillLineEndingRuns spells sought reading form i a j
         → TillLineEndingDoes reading spells sought (setting_of form i) s (left_of i)
@@ -132,17 +109,11 @@ module _ {T L : Type 0} (reading : Reading T L) (spells : Bor (List ℕ) → Lis
         inr (inl (
           slice,
           left_of j,
-          (
-            front,
-            line,
-            takes.shown,
-            passed_of takes.passed,
-            λ first. absurd (none (this_text reading form spells alike sought return (13 ∷ [])
-                j.left.tokens is first)),
-          ),
+          (front, line, takes.shown, passed_of takes.passed, inl (return, is, none)),
           gave (s, left_of j) e,
         ))
-    till_line_ending_ran i a j (inr (inl (slice, both, are, ran, first, e))) =
+    till_line_ending_ran i a j
+        (inr (inl (slice, both, are, ran, (first, rest, spelled, splits), e))) =
         let (front, line, takes) = line_taken form i slice j ran in
         inr (inl (
           slice,
@@ -152,8 +123,7 @@ module _ {T L : Type 0} (reading : Reading T L) (spells : Bor (List ℕ) → Lis
             line,
             takes.shown,
             passed_of takes.passed,
-            λ _. some_text reading form spells alike sought both (13 ∷ 10 ∷ []) j.left.tokens are
-                first,
+            inr (first, rest, (both, are, spelled), splits),
           ),
           gave (s, left_of j) e,
         ))
@@ -166,8 +136,8 @@ module _ {T L : Type 0} (reading : Reading T L) (spells : Bor (List ℕ) → Lis
           is,
           are,
           ran,
-          first,
-          (x, more, spelled),
+          (first, rest, spelled, splits),
+          short_of,
           none,
           kind,
           e,
@@ -179,16 +149,25 @@ module _ {T L : Type 0} (reading : Reading T L) (spells : Bor (List ℕ) → Lis
             front,
             line,
             passed_of takes.passed,
-            some_text reading form spells alike sought return (13 ∷ []) j.left.tokens is first,
-            (λ feed. none (this_text reading form spells alike sought both (13 ∷ 10 ∷ [])
-                j.left.tokens are feed)),
-            (x, more, (both, are, spelled)),
+            (first, rest, (return, is, spelled), splits),
+            (both, are, none, short_of),
           ),
           gave (s, left_of j) e ∙ short form None j k (s, left_of j) kind
               ∙ ap (λ st. lacks_by form st.cut None (s, left_of j)) takes.passed.status,
         )))
     till_line_ending_ran i a j
-        (inr (inr (inr (inl (slice, return, both, is, are, ran, first, long, none, e))))) =
+        (inr (inr (inr (inl (
+          slice,
+          return,
+          both,
+          is,
+          are,
+          ran,
+          (first, rest, spelled, splits),
+          long,
+          none,
+          e,
+        ))))) =
         let (front, line, takes) = line_taken form i slice j ran in
         inr (inr (inr (
           left_of j,
@@ -196,16 +175,8 @@ module _ {T L : Type 0} (reading : Reading T L) (spells : Bor (List ℕ) → Lis
             front,
             line,
             passed_of takes.passed,
-            some_text reading form spells alike sought return (13 ∷ []) j.left.tokens is first,
-            (λ feed. none (this_text reading form spells alike sought both (13 ∷ 10 ∷ [])
-                j.left.tokens are feed)),
-            (λ (x, more, (other, was, spelled)).
-                long (
-                  x,
-                  more,
-                  alike other both (j.left.tokens ++ x ∷ more) (was ∙ sym are)
-                      spelled,
-                )),
+            (first, rest, (return, is, spelled), splits),
+            (both, are, none, long),
           ),
           gave (s, left_of j) e,
         )))
@@ -216,11 +187,11 @@ module _ {T L : Type 0} (reading : Reading T L) (spells : Bor (List ℕ) → Lis
               ∙ short form None i k (s, left_of i) kind,
         )
 
-  pub till_line_ending_covered : {S : Type 0} {at : Setting} → SpellsByText spells
+  pub till_line_ending_covered : {S : Type 0} {at : Setting}
       → Covers {S = S} at (Keeps (λ s. TillLineEndingRuns spells sought reading at.form))
       (TillLineEndingDoes reading spells sought)
-  till_line_ending_covered {S} {at} alike =
+  till_line_ending_covered {S} {at} =
       kept_covered reading (λ (s : S). TillLineEndingRuns spells sought reading at.form)
       (TillLineEndingDoes reading spells sought) at
-      (λ s i a j r. till_line_ending_ran s at.form alike i a j r)
+      (λ s i a j r. till_line_ending_ran s at.form i a j r)
       (λ s i a j r. till_line_ending_ends spells sought reading at.form i a j r)

@@ -9,7 +9,6 @@ use Rattle.stream_searches.specs.Compare.{IsShort, StartsWithSpelling}
 use Rattle.stream_searches.specs.FindSlice.{IsFirstMatch}
 use Rattle.stream_errors.specs.Form.{ErrorForm, Answer}
 use Rattle.winnow_core.specs.Short.{ShortKind}
-pub mod Exact
 pub mod Inversion
 pub mod Laws
 

@@ -4,7 +4,6 @@ use Rattle.streams.specs.Input.{Input, back_at}
 use Rattle.streams.specs.Kind.{backtrack}
 use Rattle.winnow_core.specs.Runs.{Runs}
 use Rattle.winnow_comb.specs.declared.combinator.impls.alt.AltParser.{AltParser}
-pub mod Claim
 pub mod FirstOf
 pub mod Inversion
 pub mod Laws

@@ -2,7 +2,6 @@
 use Rattle.std.specs.Prelude.{◌≡◌, ⊤, Ok}
 use Rattle.streams.specs.Input.{Input}
 use Rattle.stream_errors.specs.Form.{Answer}
-pub mod Laws
 
 -- A call that succeeds without consuming input.
 abbrev pub EmptyRuns : {T : Type 0} → Input T → Answer ⊤ → Input T → Type 0

@@ -3,7 +3,6 @@ use Rattle.std.specs.Prelude.{◌≡◌, Err}
 use Rattle.streams.specs.Input.{Input}
 use Rattle.streams.specs.Kind.{backtrack}
 use Rattle.stream_errors.specs.Form.{Answer}
-pub mod Laws
 
 -- A call that backtracks without consuming input.
 abbrev pub FailRuns : {T O : Type 0} → Input T → Answer O → Input T → Type 0

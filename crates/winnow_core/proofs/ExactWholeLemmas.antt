@@ -1,95 +1,123 @@
--- The result of `parse`, which parses all of an input.
-use Rattle.std.specs.Prelude.{◌≡◌, ℕ, false, List, [], Some, Result, Ok, Err}
-use Rattle.std.specs.Prelude.{IfErr}
-use Rattle.std.proofs.Common.{refl, subst, sym, inl, inr, ◌∙◌}
+-- The results of calls and of `parse`, in terms of a grammar.
+use Rattle.std.specs.Prelude.{◌≡◌, ℕ, false, List, [], Result, Ok, Err, IfErr}
+use Rattle.std.proofs.Common.{subst, sym, inl, inr, ◌∙◌}
 use Rattle.streams.specs.Equal.{same_some}
-use Rattle.streams.specs.Input.{Input}
+use Rattle.streams.specs.Input.{Input, IsEndOf}
 use Rattle.streams.specs.Kind.{Kind, backtrack, cut, incomplete, memory}
-use Rattle.streams.specs.Needed.{need_of}
+use Rattle.streams.specs.Reading.{Reading}
 use Rattle.streams.specs.declared.needed.Needed.{Needed}
-use Rattle.grammars.specs.Grammar.{Grammar}
-use Rattle.stream_errors.specs.Fault.{IsFaultAt, refused_inner}
+use Rattle.grammars.specs.Grammar.{Grammar, IsUnique}
+use Rattle.stream_errors.specs.Fault.{IsFaultAt}
+use Rattle.stream_errors.specs.Form.{Answer, ErrorForm, answer_by}
 use Rattle.stream_errors.specs.declared.fault.ParseFault.{ParseFault}
 use Rattle.stream_errors.specs.declared.fault.ParseFault.TheVariants.{Invalid, Incomplete}
-use Rattle.winnow_core.specs.Exact.{FailsBy, IsExact}
-use Rattle.winnow_core.specs.Exact.Allowed.{Allowed, back_allowed}
-use Rattle.stream_errors.specs.Form.{inner_kind_of}
-use Rattle.winnow_core.specs.Exact.Failed.{not_memory}
+use Rattle.parser_definitions.specs.Left.{left_of}
+use Rattle.parser_definitions.specs.Outcome.{Does, Setting, outcome_of}
+use Rattle.parser_definitions.specs.Projects.{Agreement, Complete, Projects}
+use Rattle.winnow_core.specs.Covers.{Covers}
+use Rattle.winnow_core.specs.Exact.{IsSpared, Reads, UnlessWanted, agreement_of, kept_told}
+use Rattle.winnow_core.specs.Exact.{reads_told, spared_told}
+use Rattle.winnow_core.specs.Exact.Whole.{IsWant, ReadsAll}
 use Rattle.winnow_core.specs.Parse.{ParsesWhole}
-use Rattle.winnow_core.specs.Runs.{Runs}
-use Rattle.winnow_core.specs.Exact.Whole.{IsWant, IsNotIncomplete, ReadsAll}
+use Rattle.winnow_core.specs.Runs.{Meaning}
 
--- where a run is out of memory, the fault does
-fault_wants : {I T X : Type 0} (view : I → Input T) (units : List T → ℕ) (inner_kind : X → Kind)
-    (i j : Input T) (k : Kind) (fault : ParseFault I X Needed) → k ≡ memory
-    → IsFaultAt view units inner_kind i.left j k fault → IsWant inner_kind fault
-fault_wants view units inner_kind i j k (Invalid e) m is =
-    let P : Kind → Type 0 = λ x. IsFaultAt view units inner_kind i.left j x (Invalid e) in
-    sym (same_some (subst P m is).1)
-fault_wants view units inner_kind i j k (Incomplete needed) m is = absurd (cc)
+never_memory : {P : Type 0} → ◌≡◌ {A = Kind} backtrack memory → P
+never_memory e = absurd (cc)
 
--- an error of an allowed kind is not `Incomplete`
-fault_refuses : {I T X b m : Type 0} (view : I → Input T) (units : List T → ℕ)
-    (inner_kind : X → Kind) (i j : Input T) (k : Kind) (fault : ParseFault I X Needed)
-    → Allowed b m k → IsFaultAt view units inner_kind i.left j k fault → IsNotIncomplete fault
-fault_refuses view units inner_kind i j k (Invalid e) may is = tt
-fault_refuses view units inner_kind i j k (Incomplete needed) may is =
-    absurd (may.asks_no_more (need_of needed) is)
+module _ {I T O X : Type 0} (view : I → Input T) (units : List T → ℕ) (inner_kind : X → Kind)
+    {S : Type 0} (b m : Type 0) (s t : S) (g : Grammar T O) (i j : Input T) where
+  -- a fault of this kind, if the call failed with it
+  pub failed : (k : Kind) (fault : ParseFault I X Needed)
+      → Agreement b m s g i.left.tokens (outcome_of (Err k) (t, left_of j))
+      → IsFaultAt view units inner_kind i.left j k fault
+      → ReadsAll inner_kind g i.left.tokens (Err fault)
+  failed backtrack (Invalid e) (none, kept) at =
+      record { stands = tt; none = inr (λ o x. none o [] x); whole = tt }
+  failed cut (Invalid e) (none, kept, not) at =
+      record { stands = tt; none = inr (λ o x. none o [] x); whole = tt }
+  failed (incomplete need) (Invalid e) never at = absurd never
+  failed memory (Invalid e) not at =
+      record { stands = tt; none = inl (sym (same_some at.1)); whole = tt }
+  failed backtrack (Incomplete needed) a at = absurd (cc)
+  failed cut (Incomplete needed) a at = absurd (cc)
+  failed (incomplete need) (Incomplete needed) never at = absurd never
+  failed memory (Incomplete needed) a at = absurd (cc)
 
--- an error of a parser that does not allocate is not out of memory
-spared_kind : {X b m : Type 0} {P : Type 0} (inner_kind : X → Kind) (x : X) (k : Kind) → m
-    → Allowed b m k → inner_kind_of k ≡ Some (inner_kind x) → inner_kind x ≡ memory → P
-spared_kind inner_kind x backtrack spares may is wanted = not_memory (same_some is ∙ wanted)
-spared_kind inner_kind x cut spares may is wanted = not_memory (same_some is ∙ wanted)
-spared_kind inner_kind x (incomplete need) spares may is wanted =
-    absurd (may.asks_no_more need refl)
-spared_kind inner_kind x memory spares may is wanted = absurd (may.wants_none spares refl)
+  pub spared : m → (k : Kind) (fault : ParseFault I X Needed)
+      → Agreement b m s g i.left.tokens (outcome_of (Err k) (t, left_of j))
+      → IsFaultAt view units inner_kind i.left j k fault → IsWant inner_kind fault → ⊥
+  spared spares backtrack (Invalid e) a at wanted = never_memory (same_some at.1 ∙ wanted)
+  spared spares cut (Invalid e) a at wanted = never_memory (same_some at.1 ∙ wanted)
+  spared spares (incomplete need) (Invalid e) never at wanted = absurd never
+  spared spares memory (Invalid e) not at wanted = not spares
+  spared spares k (Incomplete needed) a at wanted = wanted
 
-fault_spared : {I T X b m : Type 0} (view : I → Input T) (units : List T → ℕ)
-    (inner_kind : X → Kind) (i j : Input T) (k : Kind) (fault : ParseFault I X Needed) → m
-    → Allowed b m k → IsFaultAt view units inner_kind i.left j k fault
-    → IsWant inner_kind fault → ⊥
-fault_spared view units inner_kind i j k (Invalid e) spares may is wanted =
-    spared_kind inner_kind (refused_inner e) k spares may is.1 wanted
-fault_spared view units inner_kind i j k (Incomplete needed) spares may is wanted = wanted
+  -- an output that leaves something: no match leaves nothing
+  pub left_some : IsUnique g → (o : O) (fault : ParseFault I X Needed)
+      → Agreement b m s g i.left.tokens (outcome_of (Ok o) (t, left_of j))
+      → (j.left.tokens ≡ [] → ⊥) → IsFaultAt view units inner_kind i.left j backtrack fault
+      → ReadsAll inner_kind g i.left.tokens (Err fault)
+  left_some unique o (Invalid e) (x, kept) some at = record {
+    stands = tt;
+    none = inr (λ p y. some (unique.one i.left.tokens o p j.left.tokens [] x y));
+    whole = tt;
+  }
+  left_some unique o (Incomplete needed) a some at = absurd (cc)
 
--- `parse` of a parser that does not allocate is never out of memory
-pub all_spared : {S I T O X b m : Type 0} {s : S} {run : Runs S T O} (view : I → Input T)
-    (units : List T → ℕ) (inner_kind : X → Kind) → FailsBy (Allowed b m) s run → m
-    → (t : S) (i : Input T) (result : Result O (ParseFault I X Needed)) → i.status.cut ≡ false
-    → ParsesWhole view units inner_kind i.left (λ answer j. run s i answer t j) result
-    → IfErr result (λ fault. IsWant inner_kind fault → ⊥)
-all_spared view units inner_kind f spares t i (Ok o) is told = tt
-all_spared view units inner_kind f spares t i (Err fault) is (inl (k, j, ran, at)) =
-    fault_spared view units inner_kind i j k fault spares (f.fails i k t j is ran) at
-all_spared {b = b} {m} view units inner_kind f spares t i (Err fault) is
-    (inr (o, j, ran, some, at)) =
-    fault_spared view units inner_kind i j backtrack fault spares
-    (back_allowed {b = b} {m = m} refl) at
+  pub left_spared : (fault : ParseFault I X Needed)
+      → IsFaultAt view units inner_kind i.left j backtrack fault → IsWant inner_kind fault → ⊥
+  left_spared (Invalid e) at wanted = never_memory (same_some at.1 ∙ wanted)
+  left_spared (Incomplete needed) at wanted = wanted
 
--- the result of `parse`, in terms of a grammar
-pub all_told : {S I T O X b m : Type 0} {s : S} {run : Runs S T O} {grammar : Grammar T O}
-    (view : I → Input T) (units : List T → ℕ) (inner_kind : X → Kind) → IsExact s run grammar
-    → FailsBy (Allowed b m) s run
-    → (t : S) (i : Input T) (result : Result O (ParseFault I X Needed)) → i.status.cut ≡ false
-    → ParsesWhole view units inner_kind i.left (λ answer j. run s i answer t j) result
-    → ReadsAll inner_kind grammar i.left.tokens result
-all_told {grammar = grammar} view units inner_kind c f t i (Ok o) is (j, ran, nothing) =
-    let P : List _ → Type 0 = λ l. grammar i.left.tokens o l in
-    record { stands = subst P nothing (c.stands i o t j is ran); none = tt; whole = tt }
-all_told view units inner_kind c f t i (Err fault) is (inl (k, j, ran, at)) = record {
-  stands = tt;
-  none = elim (c.none i k t j is ran) [
-    | inl m ↦ inl (fault_wants view units inner_kind i j k fault m at)
-    | inr nothing ↦ inr (λ o x. nothing o [] x)
-  ];
-  whole = fault_refuses view units inner_kind i j k fault (f.fails i k t j is ran) at;
-}
-all_told {b = b} {m} view units inner_kind c f t i (Err fault) is
-    (inr (o, j, ran, some, at)) = record {
-      stands = tt;
-      none = inr (λ p x. some
-          (c.unique.one i.left.tokens o p j.left.tokens [] (c.stands i o t j is ran) x));
-      whole = fault_refuses view units inner_kind i j backtrack fault
-          (back_allowed {b = b} {m = m} refl) at;
-    }
+-- The result of `parse` of a parser whose definition projects to a grammar.
+module _ {I S T O X : Type 0} (view : I → Input T) (units : List T → ℕ) (inner_kind : X → Kind)
+    (meaning : Meaning S T O) {does : Does S T O}
+    (covers : (at : Setting) → Covers at (meaning at.form) does) (form : ErrorForm)
+    {b m : Type 0} {s : S} {g : Grammar T O}
+    (projects : (at : Complete) → Projects b m does at s g) (t : S) (i : Input T) where
+  agrees : i.status.cut ≡ false → (answer : Answer O) (j : Input T) → meaning form s i answer t j
+      → Agreement b m s g i.left.tokens (outcome_of answer (t, left_of j))
+  agrees is answer j ran = agreement_of meaning covers form projects i t j is answer ran
+
+  pub all_told : (result : Result O (ParseFault I X Needed)) → i.status.cut ≡ false
+      → ParsesWhole view units inner_kind i.left (λ answer j. meaning form s i answer t j) result
+      → ReadsAll inner_kind g i.left.tokens result
+  all_told (Ok o) is (j, r, nothing) =
+      let P : List T → Type 0 = λ l. g i.left.tokens o l in
+      record { stands = subst P nothing (agrees is (Ok o) j r).0; none = tt; whole = tt }
+  all_told (Err fault) is (inl (k, j, r, at)) =
+      failed view units inner_kind b m s t g i j k fault (agrees is (Err k) j r) at
+  all_told (Err fault) is (inr (o, j, r, some, at)) =
+      left_some view units inner_kind b m s t g i j
+      (projects (record { form = form; possible = i.left.possible })).unique o fault
+      (agrees is (Ok o) j r) some at
+
+  pub all_spared : m → (result : Result O (ParseFault I X Needed)) → i.status.cut ≡ false
+      → ParsesWhole view units inner_kind i.left (λ answer j. meaning form s i answer t j) result
+      → IfErr result (λ fault. IsWant inner_kind fault → ⊥)
+  all_spared spares (Ok o) is told = tt
+  all_spared spares (Err fault) is (inl (k, j, r, at)) =
+      spared view units inner_kind b m s t g i j spares k fault (agrees is (Err k) j r) at
+  all_spared spares (Err fault) is (inr (o, j, r, some, at)) =
+      left_spared view units inner_kind b m s t g i j fault at
+
+-- The result of a call.
+module _ {S T O E : Type 0} (meaning : Meaning S T O) {does : Does S T O}
+    (covers : (at : Setting) → Covers at (meaning at.form) does) (form : ErrorForm)
+    {b m : Type 0} {s : S} {g : Grammar T O}
+    (projects : (at : Complete) → Projects b m does at s g) (kind : E → Kind)
+    {t : S} {i j : Input T} (result : Result O E)
+    (ran : meaning form s i (answer_by kind result) t j) where
+  agreed : i.status.cut ≡ false
+      → Agreement b m s g i.left.tokens (outcome_of (answer_by kind result) (t, left_of j))
+  agreed is = agreement_of meaning covers form projects i t j is (answer_by kind result) ran
+
+  pub call_reads : {L : Type 0} (reading : Reading T L) → b → IsEndOf reading j i
+      → Reads reading kind g i result j
+  call_reads reading soft ends = reads_told b m s t g kind i j reading soft result ends agreed
+
+  pub call_spared : b → m → IsSpared kind i result
+  call_spared soft spares = spared_told b m s t g kind i j soft spares result agreed
+
+  pub call_keeps : i.status.cut ≡ false → UnlessWanted kind result (t ≡ s)
+  call_keeps is = kept_told b m s t g kind i j result (agreed is)

@@ -5,7 +5,7 @@ use Rattle.streams.specs.Input.{Input, IsEndOf, back_at}
 use Rattle.streams.specs.Kind.{Kind, backtrack, cut, incomplete, memory}
 use Rattle.streams.specs.Reading.{Reading}
 use Rattle.stream_errors.specs.Form.{Answer}
-use Rattle.winnow_core.specs.Runs.{Keeps, Runs}
+use Rattle.winnow_core.specs.Runs.{Keeps, LeaveEnds, Runs}
 use Rattle.parser_definitions.specs.Does.{Terms}
 use Rattle.parser_definitions.specs.Left.{End, Left, left_of}
 use Rattle.parser_definitions.specs.Outcome.{Does, Outcome, Setting, outcome_of, setting_of}
@@ -61,6 +61,12 @@ pub at_end : {T L : Type 0} {reading : Reading T L} {at : Setting} {i j : Input 
     → IsEndOf reading j i → At at j
 at_end here e =
     record { more = e.cut ∙ here.more; possible = e.ends.possible ∙ here.possible }
+
+-- every call has any outcome
+pub any_covered : {S T L O : Type 0} {reading : Reading T L} {at : Setting} {run : Runs S T O}
+    → LeaveEnds reading run → Covers at run AnyOutcome
+any_covered ends =
+    record { covers = λ s i answer t j here r. (tt, at_end here (ends s i answer t j r)) }
 
 -- back at the start of a call
 pub at_back : {T : Type 0} {at : Setting} {i m : Input T} → At at i → At at m

@@ -15,8 +15,3 @@ abbrev pub ErrIntoRuns : {S T O E D : Type 0} → (E → Kind) → (D → Kind) 
     → Runs S T O → Runs S T O
 ErrIntoRuns kind new_kind converts run s i answer t j =
     MakesError (ErrIntoBecomes kind new_kind converts) run (s, tt) i answer (t, tt) j
-
--- A conversion keeps the kind.
-abbrev pub ConvertsKinds : {E D : Type 0} → (E → Kind) → (D → Kind) → (E → D → Type 0) → Type 0
-ConvertsKinds {E} {D} kind new_kind converts =
-    (old : E) (new : D) → converts old new → new_kind new ≡ kind old

@@ -1,53 +1,19 @@
--- Parsers that read exactly what a grammar says.
-use Rattle.std.specs.Prelude.{◌≡◌, ◌⊎◌, false, Result, Ok, Err, IfOk, IfErr}
-use Rattle.std.proofs.Common.{inl, inr}
+-- The contracts of calls, by the grammar of the parser.
+use Rattle.std.specs.Prelude.{◌≡◌, ◌⊎◌, false, List, Result, Ok, Err, IfOk, IfErr}
+use Rattle.std.specs.Prelude.{MatchResult}
+use Rattle.std.proofs.Common.{refl, inl, inr}
 use Rattle.streams.specs.Input.{Input, IsEndOf}
-use Rattle.streams.specs.Kind.{Kind, backtrack, memory}
+use Rattle.streams.specs.Kind.{Kind, backtrack, cut, incomplete, memory}
 use Rattle.streams.specs.Reading.{Reading}
-use Rattle.grammars.specs.Grammar.{Grammar, IsUnique, NoMatch}
-use Rattle.stream_errors.specs.Form.{Answer, answer_by}
-use Rattle.winnow_core.specs.Runs.{Runs}
-pub mod Adapters
-pub mod Allowed
-pub mod Along
-pub mod Errors
-pub mod Failed
-pub mod Made
-pub mod Nothing
+use Rattle.grammars.specs.Grammar.{Grammar, NoMatch}
+use Rattle.stream_errors.specs.Form.{Answer, ErrorForm, answer_by}
+use Rattle.parser_definitions.specs.Left.{Left, left_of}
+use Rattle.parser_definitions.specs.Outcome.{Does, Setting, outcome_of}
+use Rattle.parser_definitions.specs.Projects.{Agreement, Complete, Projects}
+use Rattle.winnow_core.specs.Covers.{Covers}
+use Rattle.winnow_core.specs.Runs.{Meaning}
 pub mod Same
-pub mod Settled
 pub mod Whole
-
--- On complete input, a parser in this state returns a match of its grammar and keeps the state. It
--- fails only if the input does not start with a match, or with out of memory.
-pub record IsExact {S T O : Type 0} (s : S) (run : Runs S T O)
-    (grammar : Grammar T O) : Type 0 where
-  pub kept : (i : Input T) (answer : Answer O) (t : S) (j : Input T) → i.status.cut ≡ false
-      → run s i answer t j → (t ≡ s) × (j.status.cut ≡ false)
-  pub stands : (i : Input T) (o : O) (t : S) (j : Input T) → i.status.cut ≡ false
-      → run s i (Ok o) t j → grammar i.left.tokens o j.left.tokens
-  pub none : (i : Input T) (k : Kind) (t : S) (j : Input T) → i.status.cut ≡ false
-      → run s i (Err k) t j → (k ≡ memory) ⊎ NoMatch grammar i.left.tokens
-  pub unique : IsUnique grammar
-
--- On complete input all its errors have an allowed kind.
-pub record FailsBy {S T O : Type 0} (allowed : Kind → Type 0) (s : S) (run : Runs S T O) : Type 0
-  where
-    pub fails : (i : Input T) (k : Kind) (t : S) (j : Input T) → i.status.cut ≡ false
-        → run s i (Err k) t j → allowed k
-
--- it fails with those of a wider choice
-pub fails_wider : {S T O : Type 0} {s : S} {run : Runs S T O} {allowed also : Kind → Type 0}
-    → ((k : Kind) → allowed k → also k) → FailsBy allowed s run → FailsBy also s run
-fails_wider wider f = record { fails = λ i k t j is ran. wider k (f.fails i k t j is ran) }
-
--- On complete input all its errors are backtracks or out of memory.
-abbrev pub IsSoft : {S T O : Type 0} → S → Runs S T O → Type 0
-IsSoft s run = FailsBy (λ k. (k ≡ memory) ⊎ (k ≡ backtrack)) s run
-
--- On complete input all its errors are backtracks.
-abbrev pub Backtracks : {S T O : Type 0} → S → Runs S T O → Type 0
-Backtracks s run = FailsBy (λ k. k ≡ backtrack) s run
 
 -- The result of a call, in terms of a grammar. It leaves a suffix of its input. On complete input,
 -- an output is a match with the remaining tokens; an error is out of memory, or a backtrack of an
@@ -63,27 +29,77 @@ pub record Reads {T L O E : Type 0} (reading : Reading T L) (kind : E → Kind)
 abbrev pub IsSpared : {T O E : Type 0} → (E → Kind) → Input T → Result O E → Type 0
 IsSpared kind i result = i.status.cut ≡ false → IfErr result (λ e. kind e ≡ backtrack)
 
-pub spared_told : {S T O E : Type 0} {s : S} {run : Runs S T O} (kind : E → Kind)
-    → Backtracks s run → (i : Input T) (result : Result O E) (t : S) (j : Input T)
-    → run s i (answer_by kind result) t j → IsSpared kind i result
-spared_told kind f i (Ok o) t j ran is = tt
-spared_told kind f i (Err e) t j ran is = f.fails i (kind e) t j is ran
+-- This holds after the call, unless it is out of memory.
+abbrev pub UnlessWanted : {O E : Type 0} → (E → Kind) → Result O E → Type 0 → Type 0
+UnlessWanted kind result P = MatchResult result (λ o. P) (λ e. (kind e ≡ memory) ⊎ P)
 
--- what a call tells
-pub exact_told : {S T L O E : Type 0} {s : S} {run : Runs S T O} {grammar : Grammar T O}
-    (reading : Reading T L) (kind : E → Kind) → IsExact s run grammar → IsSoft s run
-    → (i : Input T) (result : Result O E) (t : S) (j : Input T) → IsEndOf reading j i
-    → run s i (answer_by kind result) t j → Reads reading kind grammar i result j
-exact_told reading kind c f i (Ok o) t j ends ran =
-    record { ends = ends; stands = λ is. c.stands i o t j is ran; none = λ is. tt }
-exact_told reading kind c f i (Err e) t j ends ran = record {
-  ends = ends;
-  stands = λ is. tt;
-  none = λ is. elim (c.none i (kind e) t j is ran) [
-    | inl m ↦ inl m
-    | inr nothing ↦ elim (f.fails i (kind e) t j is ran) [
-      | inl m ↦ inl m
-      | inr b ↦ inr (b, nothing)
-    ]
-  ];
-}
+-- ---- calls of a parser whose definition projects to a grammar
+
+module _ {S T O : Type 0} (meaning : Meaning S T O) {does : Does S T O}
+    (covers : (at : Setting) → Covers at (meaning at.form) does) (form : ErrorForm)
+    {b m : Type 0} {s : S} {g : Grammar T O}
+    (projects : (at : Complete) → Projects b m does at s g) (i : Input T) (t : S) (j : Input T)
+    (is : i.status.cut ≡ false) where
+  -- the outcome of a call on complete input agrees with the grammar
+  pub agreement_of : (answer : Answer O) → meaning form s i answer t j
+      → Agreement b m s g i.left.tokens (outcome_of answer (t, left_of j))
+  agreement_of answer ran =
+      let at : Complete = record { form = form; possible = i.left.possible } in
+      let setting : Setting = record { form = form; more = false; possible = i.left.possible } in
+      let did = ((covers setting).covers s i answer t j (record { more = is; possible = refl })
+      ran).0 in
+      ((projects at).reads.agrees (left_of i) (outcome_of answer (t, left_of j)) did).is
+
+module _ {S T O : Type 0} (b m : Type 0) (s t : S) (g : Grammar T O) (tokens : List T) (l : Left T)
+  where
+    kept_error : (k : Kind) → Agreement b m s g tokens (outcome_of (Err k) (t, l))
+        → (k ≡ memory) ⊎ (t ≡ s)
+    kept_error backtrack (none, kept) = inr kept
+    kept_error cut (none, kept, not) = inr kept
+    kept_error (incomplete need) never = absurd never
+    kept_error memory not = inl refl
+
+    soft_error : b → (k : Kind) → Agreement b m s g tokens (outcome_of (Err k) (t, l))
+        → (k ≡ memory) ⊎ ((k ≡ backtrack) × NoMatch g tokens)
+    soft_error soft backtrack (none, kept) = inr (refl, none)
+    soft_error soft cut (none, kept, not) = absurd (not soft)
+    soft_error soft (incomplete need) never = absurd never
+    soft_error soft memory not = inl refl
+
+    spared_error : b → m → (k : Kind) → Agreement b m s g tokens (outcome_of (Err k) (t, l))
+        → k ≡ backtrack
+    spared_error soft spares backtrack a = refl
+    spared_error soft spares cut (none, kept, not) = absurd (not soft)
+    spared_error soft spares (incomplete need) never = absurd never
+    spared_error soft spares memory not = absurd (not spares)
+
+-- ---- the clauses of a call whose outcome on complete input agrees with a grammar
+
+module _ {S T O E : Type 0} (b m : Type 0) (s t : S) (g : Grammar T O) (kind : E → Kind)
+    (i : Input T) (j : Input T) where
+  pub reads_told : {L : Type 0} (reading : Reading T L) → b → (result : Result O E)
+      → IsEndOf reading j i
+      → (i.status.cut ≡ false
+      → Agreement b m s g i.left.tokens (outcome_of (answer_by kind result) (t, left_of j)))
+      → Reads reading kind g i result j
+  reads_told reading soft (Ok o) ends a =
+      record { ends = ends; stands = λ is. (a is).0; none = λ is. tt }
+  reads_told reading soft (Err e) ends a = record {
+    ends = ends;
+    stands = λ is. tt;
+    none = λ is. soft_error b m s t g i.left.tokens (left_of j) soft (kind e) (a is);
+  }
+
+  pub spared_told : b → m → (result : Result O E)
+      → (i.status.cut ≡ false
+      → Agreement b m s g i.left.tokens (outcome_of (answer_by kind result) (t, left_of j)))
+      → IsSpared kind i result
+  spared_told soft spares (Ok o) a = λ is. tt
+  spared_told soft spares (Err e) a =
+      λ is. spared_error b m s t g i.left.tokens (left_of j) soft spares (kind e) (a is)
+
+  pub kept_told : (result : Result O E)
+      → Agreement b m s g i.left.tokens (outcome_of (answer_by kind result) (t, left_of j))
+      → UnlessWanted kind result (t ≡ s)
+  kept_told (Ok o) a = a.1
+  kept_told (Err e) a = kept_error b m s t g i.left.tokens (left_of j) (kind e) a

@@ -3,11 +3,8 @@ use Rattle.std.specs.Prelude.{◌≡◌, Ok, Err, ◌⊎◌}
 use Rattle.streams.specs.Input.{Input}
 use Rattle.streams.specs.Kind.{Kind}
 use Rattle.winnow_core.specs.Runs.{Runs}
-pub mod Claim
-pub mod Exact
 pub mod Inversion
 pub mod Laws
-pub mod Three
 
 -- A run of two children, the second where the first ended, to the first failure.
 abbrev pub BothRuns : {S1 S2 T O1 O2 O : Type 0} → (O1 → O2 → O) → Runs S1 T O1 → Runs S2 T O2

@@ -2,8 +2,6 @@
 pub mod AndThen
 pub mod ByRef
 pub mod Chain
-pub mod Claim
-pub mod Closures
 pub mod CompleteErr
 pub mod Context
 pub mod ContextWith

@@ -1,6 +1,6 @@
 -- An error made of another by a closure.
 use Rattle.std.specs.Prelude.{◌≡◌}
-use Rattle.streams.specs.Kind.{Kind, memory}
+use Rattle.streams.specs.Kind.{Kind}
 use Rattle.winnow_core.specs.MakesError.{MakesError}
 use Rattle.winnow_core.specs.Runs.{Runs}
 
@@ -14,10 +14,3 @@ MapErrBecomes {G} {E} {D} kind new_kind step g k l h =
 abbrev pub MapErrRuns : {S G T O E D : Type 0} → (E → Kind) → (D → Kind)
     → (G → E → D → G → Type 0) → Runs S T O → Runs (S × G) T O
 MapErrRuns kind new_kind step run = MakesError (MapErrBecomes kind new_kind step) run
-
--- The closure makes an error that is out of memory of each that is.
-abbrev pub KeepsMemory : {G E D : Type 0} → (E → Kind) → (D → Kind) → (G → E → D → G → Type 0)
-    → Type 0
-KeepsMemory {G} {E} {D} kind new_kind step =
-    (f : G) (old : E) (new : D) (g : G) → step f old new g → kind old ≡ memory
-    → new_kind new ≡ memory

@@ -1,9 +1,9 @@
 -- Sequences: each child runs once, in order, on the rest of the one before, up to the first that
 -- fails.
 use Rattle.std.specs.Prelude.{◌≡◌, ⊤, Ok, Err, ◌⊎◌}
-use Rattle.std.proofs.Common.{ap}
 use Rattle.grammars.specs.Grammar.Tuples.{join4, join5, join6}
 use Rattle.streams.specs.Kind.{Kind}
+use Rattle.parser_definitions.specs.Tuples.{split4, split5, split6}
 use Rattle.winnow_core.specs.InOrder.{BothRuns, ThreeRuns}
 use Rattle.winnow_core.specs.Runs.{By, Runs}
 pub mod Inversion
@@ -34,18 +34,6 @@ SequenceRuns3 run1 run2 run3 = ThreeRuns (λ o1 o2 o3. (o1, o2, o3)) run1 run2 r
 
 -- ---- longer sequences: all but the last child, then the last
 
--- The first three members of a tuple, and the last.
-abbrev pub split4 : {A B C D : Type 0} → A × B × C × D → (A × B × C) × D
-split4 s = ((s.0, s.1, s.2), s.3)
-
--- The first four.
-abbrev pub split5 : {A B C D E : Type 0} → A × B × C × D × E → (A × B × C × D) × E
-split5 s = ((s.0, s.1, s.2, s.3), s.4)
-
--- The first five.
-abbrev pub split6 : {A B C D E F : Type 0} → A × B × C × D × E × F → (A × B × C × D × E) × F
-split6 s = ((s.0, s.1, s.2, s.3, s.4), s.5)
-
 -- The runs of a sequence of four.
 abbrev pub SequenceRuns4 : {S1 S2 S3 S4 T O1 O2 O3 O4 : Type 0} → Runs S1 T O1 → Runs S2 T O2
     → Runs S3 T O3 → Runs S4 T O4 → Runs (S1 × S2 × S3 × S4) T (O1 × O2 × O3 × O4)
@@ -64,16 +52,3 @@ abbrev pub SequenceRuns6 : {S1 S2 S3 S4 S5 S6 T O1 O2 O3 O4 O5 O6 : Type 0} → 
     → Runs (S1 × S2 × S3 × S4 × S5 × S6) T (O1 × O2 × O3 × O4 × O5 × O6)
 SequenceRuns6 run1 run2 run3 run4 run5 run6 =
     By split6 (BothRuns join6 (SequenceRuns5 run1 run2 run3 run4 run5) run6)
-
--- ---- a tuple is its first members and the last
-
-pub same4 : {A B C D : Type 0} {s : A × B × C × D} (t : A × B × C × D) → split4 t ≡ split4 s → t ≡ s
-same4 {A} {B} {C} {D} t e = ap (λ (x : (A × B × C) × D). join4 x.0 x.1) e
-
-pub same5 : {A B C D E : Type 0} {s : A × B × C × D × E} (t : A × B × C × D × E)
-    → split5 t ≡ split5 s → t ≡ s
-same5 {A} {B} {C} {D} {E} t e = ap (λ (x : (A × B × C × D) × E). join5 x.0 x.1) e
-
-pub same6 : {A B C D E F : Type 0} {s : A × B × C × D × E × F} (t : A × B × C × D × E × F)
-    → split6 t ≡ split6 s → t ≡ s
-same6 {A} {B} {C} {D} {E} {F} t e = ap (λ (x : (A × B × C × D × E) × F). join6 x.0 x.1) e

@@ -4,13 +4,13 @@
 ghost use Rattle.std.specs.Prelude.{⊤, ◌≡◌, true, false, IfErr};
 ghost use Rattle.stream_errors.specs.Form.{ErrorForm, answer_by, modal};
 ghost use Rattle.streams.specs.Input.{IsEndOf};
+ghost use Rattle.parser_definitions.specs.Claim.{Claim, Claimed};
 ghost use Rattle.parser_definitions.specs.Does.{Gets, Lawful, Terms};
 ghost use Rattle.parser_definitions.specs.Left.{left_of};
 ghost use Rattle.parser_definitions.specs.Outcome.{Does, Setting, outcome_of};
 ghost use Rattle.winnow_core.specs.ByRef.{by_ref_name, by_ref_parser};
-ghost use Rattle.winnow_core.specs.Claim.{Claim, Claimed};
 ghost use Rattle.winnow_core.specs.Covers.{Covers};
-ghost use Rattle.winnow_core.specs.Exact.{IsSpared, Reads};
+ghost use Rattle.winnow_core.specs.Exact.{IsSpared, Reads, UnlessWanted};
 ghost use Rattle.winnow_core.specs.Exact.Whole.{IsWant, ReadsAll};
 ghost use Rattle.winnow_core.specs.Longer.{SameOnLonger};
 ghost use Rattle.winnow_core.specs.Parse.{ParsesWhole};
@@ -215,7 +215,8 @@ pub trait Parser<I: Stream, O, E: ParserError<I>>: Sized {
         ensures again { can_parse self.new }
         ensures ran { meaning E.form (state self.old) (I.view input.old)
             (answer_by E.kind result) (state self.new) (I.view input.new) }
-        ensures kept { (I.view input.old).status.cut ≡ false → state self.new ≡ state self.old }
+        ensures kept { (I.view input.old).status.cut ≡ false
+            → UnlessWanted E.kind result (state self.new ≡ state self.old) }
         ensures reads { Reads I.reading E.kind (claim (state self.old)).grammar
             (I.view input.old) result (I.view input.new) }
         ensures spared { (claim (state self.old)).spares_memory
@@ -557,12 +558,12 @@ pub trait Parser<I: Stream, O, E: ParserError<I>>: Sized {
     ghost leaves_ends: { (form : ErrorForm) → LeaveEnds I.reading (meaning form) };
 
     // Every call has an outcome of the definition.
-    ghost covers: { terms.premise → (at : Setting) → Covers at (meaning at.form) does };
+    ghost covers: { (at : Setting) → Covers at (meaning at.form) does };
 
     // State and input determine the outcome; if the parser is stable, a final outcome on partial
     // input is the outcome of every longer input.
     ghost lawful: { terms.premise → Lawful terms.stable terms.alike does };
 
-    // The semantics satisfy `claim`.
-    ghost claimed: { (s : State) → Claimed (claim s) s meaning };
+    // The definition satisfies `claim`.
+    ghost claimed: { (s : State) → Claimed (claim s) s does };
 }

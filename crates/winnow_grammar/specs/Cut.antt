@@ -8,11 +8,6 @@ use Rattle.streams.specs.Kind.{Kind, backtrack, incomplete, memory}
 use Rattle.streams.specs.Reading.{Reading}
 use Rattle.grammars.specs.Grammar.{Grammar, NoMatch}
 use Rattle.grammars.specs.Grammar.Same.{Same, none_as}
-use Rattle.stream_errors.specs.Form.{modal}
-use Rattle.parser_definitions.specs.Both.{BothDo}
-use Rattle.parser_definitions.specs.Left.{End, Left}
-use Rattle.parser_definitions.specs.Outcome.{Does, asks, backs, cuts, took, wants}
-use Rattle.parser_definitions.specs.Projects.{complete}
 use Rattle.winnow_core.specs.Exact.{Reads}
 use Rattle.winnow_core.specs.Exact.Same.{reads_as}
 
@@ -39,29 +34,6 @@ pub record ReadsOrAsks {T L O E : Type 0} (reading : Reading T L) (following : F
     (j : Input T) : Type 0 where
   pub whole : Reads reading kind grammar i result j
   pub cut : i.status.cut ≡ true → ReadsCut following kind grammar i result j
-
--- From this state, no outcome on complete input is a cut.
-pub record NeverCuts {S T O : Type 0} (does : Does S T O) (s : S) : Type 0 where
-  pub never : (w : Left T) (end : End S T) → does (complete modal) s w (cuts end) → ⊥
-
--- nor of two parsers in sequence
-pub both_never_cut : {S1 S2 T O1 O2 O : Type 0} {does1 : Does S1 T O1} {does2 : Does S2 T O2}
-    (output : O1 → O2 → O) {s : S1 × S2} → NeverCuts does1 s.0 → NeverCuts does2 s.1
-    → NeverCuts (BothDo output does1 does2) s
-both_never_cut {S1} {S2} {T} {does1 = does1} {does2} output {s} first second =
-    record { never = never }
-  where
-    never : (w : Left T) (end : End (S1 × S2) T)
-        → BothDo output does1 does2 (complete modal) s w (cuts end) → ⊥
-    never w end (took o mid, d, (took p rest, d2, e)) = absurd (cc)
-    never w end (took o mid, d, (backs rest, d2, e)) = absurd (cc)
-    never w end (took o mid, d, (cuts rest, d2, e)) = second.never mid.1 rest d2
-    never w end (took o mid, d, (asks need rest, d2, e)) = absurd (cc)
-    never w end (took o mid, d, (wants, d2, e)) = absurd (cc)
-    never w end (backs mid, d, e) = absurd (cc)
-    never w end (cuts mid, d, e) = first.never w mid d
-    never w end (asks need mid, d, e) = absurd (cc)
-    never w end (wants, d, e) = absurd (cc)
 
 pub reads_cut_as : {T O E : Type 0} {following : Following T} {kind : E → Kind}
     {g h : Grammar T O} {i j : Input T} {result : Result O E} → Same g h

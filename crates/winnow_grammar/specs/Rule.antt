@@ -1,17 +1,18 @@
 -- Rules: functions as parsers, specified by a grammar.
-use Rattle.std.specs.Prelude.{◌≡◌, ◌⊎◌, false, Result, Ok, Err}
-use Rattle.std.proofs.Common.{refl, sym, ap, subst, inl, inr, ◌∙◌}
+use Rattle.std.specs.Prelude.{◌≡◌, ◌⊎◌, false, List, Result, Ok, Err}
+use Rattle.std.proofs.Common.{sym, ap, subst, inl, inr, ◌∙◌}
 use Rattle.streams.specs.Input.{Input}
-use Rattle.streams.specs.Kind.{Kind, backtrack, memory}
+use Rattle.streams.specs.Kind.{Kind, backtrack, cut, incomplete, memory}
 use Rattle.streams.specs.Reading.{Reading}
 use Rattle.stream_errors.specs.Form.{Answer, answer_by}
-use Rattle.stream_errors.specs.Form.Inversion.{ok_is_err, same_kind, same_output}
-use Rattle.winnow_core.specs.Func.{FuncRuns}
-use Rattle.winnow_core.specs.Exact.{FailsBy, IsExact, IsSpared, Reads}
-use Rattle.winnow_core.specs.Exact.Allowed.{Allowed, back_allowed, memory_allowed}
-use Rattle.winnow_core.specs.Exact.Failed.{not_memory}
-use Rattle.winnow_core.specs.States.{pair_is}
 use Rattle.grammars.specs.Grammar.{Grammar, IsUnique, NoMatch}
+use Rattle.parser_definitions.specs.Func.{ByDoes, call_outcome}
+use Rattle.parser_definitions.specs.Left.{Left, left_of}
+use Rattle.parser_definitions.specs.Outcome.{outcome_of}
+use Rattle.parser_definitions.specs.Projects.{Agreement, Complete, Projects, agrees_by}
+use Rattle.winnow_core.specs.Func.{FuncRuns}
+use Rattle.winnow_core.specs.Exact.{IsSpared, Reads}
+use Rattle.winnow_core.specs.States.{pair_is}
 use Rattle.winnow_grammar.specs.declared.rule.By.{By}
 
 -- the name of what is read
@@ -52,68 +53,47 @@ abbrev pub ByRuns : {N F I T S O E : Type 0} → Reading T S → (I → Input T)
 ByRuns reading view kind called s i answer t j =
     FuncRuns reading view kind called s.1 i answer t.1 j × (t.0 ≡ s.0)
 
--- the result of a call on complete input
-call_stands : {T L O E : Type 0} {reading : Reading T L} {kind : E → Kind} {g : Grammar T O}
-    (i j : Input T) (o : O) (r : Result O E) → i.status.cut ≡ false → Reads reading kind g i r j
-    → answer_by kind r ≡ Ok o → g i.left.tokens o j.left.tokens
-call_stands {O = O} {g = g} i j o (Ok p) is reads told =
-    let P : O → Type 0 = λ q. g i.left.tokens q j.left.tokens in
-    subst P (same_output told) (reads.stands is)
-call_stands i j o (Err e) is reads told = ok_is_err told refl
+-- ---- calls on complete input
 
--- and its errors
-call_fails : {T L O E : Type 0} {reading : Reading T L} {kind : E → Kind} {g : Grammar T O}
-    (i j : Input T) (k : Kind) (r : Result O E) → i.status.cut ≡ false
-    → Reads reading kind g i r j → answer_by kind r ≡ Err k
-    → (k ≡ memory) ⊎ ((k ≡ backtrack) × NoMatch g i.left.tokens)
-call_fails i j k (Ok p) is reads told = ok_is_err refl told
-call_fails {g = g} i j k (Err e) is reads told =
-    let P : Kind → Type 0 = λ l. (l ≡ memory) ⊎ ((l ≡ backtrack) × NoMatch g i.left.tokens) in
-    subst P (same_kind told) (reads.none is)
+module _ {S T O : Type 0} (b m : Type 0) {s t : S} (g : Grammar T O) (kept : t ≡ s) where
+  error_agrees : (tokens : List T) (l : Left T) (k : Kind)
+      → (k ≡ memory) ⊎ ((k ≡ backtrack) × NoMatch g tokens) → (m → k ≡ backtrack)
+      → Agreement b m s g tokens (outcome_of (Err k) (t, l))
+  error_agrees tokens l backtrack (inl e) spared = absurd (cc)
+  error_agrees tokens l backtrack (inr (e, none)) spared = (none, kept)
+  error_agrees tokens l cut (inl e) spared = absurd (cc)
+  error_agrees tokens l cut (inr (e, none)) spared = absurd (cc)
+  error_agrees tokens l (incomplete need) (inl e) spared = absurd (cc)
+  error_agrees tokens l (incomplete need) (inr (e, none)) spared = absurd (cc)
+  error_agrees tokens l memory fails spared =
+      λ is. let e : memory ≡ backtrack = spared is in absurd (cc)
 
--- a call of a function that does not allocate is not out of memory
-call_spared : {T O E : Type 0} (kind : E → Kind) (i : Input T) (k : Kind) (r : Result O E)
-    → i.status.cut ≡ false → IsSpared kind i r → answer_by kind r ≡ Err k → k ≡ memory → ⊥
-call_spared kind i k (Ok p) is spared told wanted = ok_is_err refl told
-call_spared kind i k (Err e) is spared told wanted =
-    not_memory (sym (spared is) ∙ same_kind told ∙ wanted)
+  -- the outcome of a call that reads by a grammar agrees with it
+  reads_agrees : {L E : Type 0} {reading : Reading T L} {kind : E → Kind} (i j : Input T)
+      (r : Result O E) → i.status.cut ≡ false → Reads reading kind g i r j
+      → (m → IsSpared kind i r)
+      → Agreement b m s g i.left.tokens (outcome_of (answer_by kind r) (t, left_of j))
+  reads_agrees i j (Ok o) is reads spared = (reads.stands is, kept)
+  reads_agrees {kind = kind} i j (Err e) is reads spared =
+      error_agrees i.left.tokens (left_of j) (kind e) (reads.none is) (λ m. spared m is)
 
-module _ {N F I T L O E : Type 0} {reading : Reading T L} {view : I → Input T} {kind : E → Kind}
-    {called : F → I → Result O E → F → I → Type 0} {g : Grammar T O} (s : N × F)
-    (reads : CallsRead reading view kind called g s.1) where
-  -- a call of the parser is a call of the function
-  moved : (i j : Input T) (x : I) (r : Result O E) (h : F) (y : I) → called s.1 x r h y
-      → view x ≡ i → view y ≡ j → Reads reading kind g i r j
-  moved i j x r h y call seen left =
-      let P : Input T → Type 0 = λ m. Reads reading kind g m r (view y) in
-      let Q : Input T → Type 0 = λ m. Reads reading kind g i r m in
-      subst Q left (subst P seen (reads.reads x r h y call))
-
-  pub by_exact : IsUnique g → IsExact s (ByRuns reading view kind called) g
-  by_exact unique = record {
-    kept = λ i answer t j is (((x, r, y, call, seen, told, left), ends), same).
-        (pair_is same (reads.kept x r t.1 y call), ends.cut ∙ is);
-    stands = λ i o t j is (((x, r, y, call, seen, told, left), ends), same).
-        call_stands i j o r is (moved i j x r t.1 y call seen left) told;
-    none = λ i k t j is (((x, r, y, call, seen, told, left), ends), same).
-        elim (call_fails i j k r is (moved i j x r t.1 y call seen left) told) [
-          | inl m ↦ inl m
-          | inr (b, nothing) ↦ inr nothing
-        ];
-    unique = unique;
-  }
-
-  pub by_fails : {b : Type 0}
-      → FailsBy (Allowed b (CallsSpared view kind called s.1)) s (ByRuns reading view kind called)
-  by_fails = record {
-    fails = λ i k t j is (((x, r, y, call, seen, told, left), ends), same).
-        elim (call_fails i j k r is (moved i j x r t.1 y call seen left) told) [
-          | inl m ↦ memory_allowed (λ spared.
-              let P : Input T → Type 0 = λ z. IsSpared kind z r in
-              call_spared kind i k r is (subst P seen (spared x r t.1 y call)) told m) m
-          | inr (b, nothing) ↦ back_allowed b
-        ];
-  }
+pub by_projects : {N F I T L O E : Type 0} {b : Type 0} {reading : Reading T L}
+    {view : I → Input T} {kind : E → Kind} {called : F → I → Result O E → F → I → Type 0}
+    {at : Complete} {g : Grammar T O} (s : N × F) → CallsRead reading view kind called g s.1
+    → IsUnique g
+    → Projects b (CallsSpared view kind called s.1) (ByDoes view kind called) at s g
+by_projects {N} {F} {I} {T} {b = b} {reading} {view} {kind} {called} {g = g} s reads unique =
+    record {
+      reads = record {
+        agrees = λ w y (x, r, t, z, (call, same), left, more, may, e).
+            agrees_by e (subst (λ l. Agreement b (CallsSpared view kind called s.1) s g l.tokens
+            (call_outcome view kind r t z)) left
+            (reads_agrees b (CallsSpared view kind called s.1) g
+            (pair_is same (reads.kept x r t.1 z call)) (view x) (view z) r more
+            (reads.reads x r t.1 z call) (λ spared. spared x r t.1 z call)));
+      };
+      unique = unique;
+    }
 
 -- ---- a parser that is a rule and its function
 

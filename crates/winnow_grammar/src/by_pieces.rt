@@ -1,11 +1,10 @@
 //! The parser of a rule with a function that parses incremental input.
-ghost use Rattle.std.specs.Fn.{CalledAtMut};
-ghost use Rattle.std.specs.Prelude.{◌≡◌, ⊤};
 ghost use Rattle.parser_definitions.specs.Does.{Lawful};
 ghost use Rattle.parser_definitions.specs.Outcome.{Does};
-ghost use Rattle.winnow_grammar.specs.Rule.{CallsRead};
+ghost use Rattle.parser_definitions.specs.Projects.{Complete, Reads};
+ghost use Rattle.std.specs.Fn.{CalledAtMut};
+ghost use Rattle.std.specs.Prelude.{◌≡◌, ⊤};
 ghost use Rattle.winnow_grammar.specs.RulePieces.{CallsTell, PiecesRuns, pieces_covered};
-ghost use Rattle.winnow_grammar.specs.RulePieces.{pieces_exact, pieces_fail};
 
 use crate::rule::Rule;
 use stream_errors::parser_error::ParserError;
@@ -28,6 +27,9 @@ pub trait RuleInPieces<I: Stream, O>: Rule<I, O> {
 
     // The tokens determine the outcome, and a final outcome stays where more tokens follow.
     ghost lawful: { Lawful ⊤ alike does };
+
+    // On complete input an outcome agrees with the grammar, and is no cut.
+    ghost reads: { (at : Complete) → (r : Self) → Reads ⊤ ⊥ does at r (Self.grammar r) };
 }
 
 /// The parser that [`Rule::by_pieces`] makes.
@@ -57,14 +59,13 @@ impl<
     E: ParserError<I>,
 > Parser<I, O, E> for ByPieces<N, F> {
     ghost can_parse = { λ s. F.IsAlwaysCallable s.run
-        × CallsRead I.reading I.view E.kind (CalledAtMut F.FnMut) (N.grammar s.rule) s.run
-        × CallsTell I.view E.kind E.form (CalledAtMut F.FnMut) N.does s.rule s.run };
+        × CallsTell I.reading I.view E.kind E.form (CalledAtMut F.FnMut) N.does s.rule s.run };
 
     ghost State = { N };
 
     ghost state = { λ s. s.rule };
 
-    ghost meaning = { PiecesRuns I.reading N.grammar N.does };
+    ghost meaning = { PiecesRuns I.reading N.does };
 
     ghost does = { N.does };
 
@@ -80,13 +81,12 @@ impl<
 
     ghost leaves_ends = { λ form s i answer t j r. r.0.ends };
 
-    ghost covers = { λ is. pieces_covered I.reading N.grammar N.does };
+    ghost covers = { pieces_covered I.reading N.does };
 
     ghost lawful = { λ is. N.lawful };
 
     ghost claimed = { λ s. record {
-      exact = λ form is. pieces_exact I.reading N.grammar N.does form s (N.unique s);
-      fails = λ form is. pieces_fail I.reading N.grammar N.does form s;
+      projects = λ at is. record { reads = N.reads at s; unique = N.unique s };
       takes = λ is some. N.takes s some;
     } };
 

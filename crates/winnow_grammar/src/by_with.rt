@@ -3,7 +3,7 @@ ghost use Rattle.std.specs.Prelude.{◌≡◌, ⊤};
 ghost use Rattle.parser_definitions.specs.Func.{ByDoes, beside};
 ghost use Rattle.winnow_core.specs.Covers.Functions.{func_lawful, func_terms, func_with_covered};
 ghost use Rattle.winnow_grammar.specs.FuncCalls.{CalledAtPair};
-ghost use Rattle.winnow_grammar.specs.Rule.{ByRuns, CallsRead, CallsSpared, by_exact, by_fails};
+ghost use Rattle.winnow_grammar.specs.Rule.{ByRuns, CallsRead, CallsSpared, by_projects};
 
 use crate::rule::Rule;
 use stream_errors::parser_error::ParserError;
@@ -64,14 +64,13 @@ impl<
 
     ghost leaves_ends = { λ form s i answer t j r. r.0.1 };
 
-    ghost covers = { λ is at. func_with_covered I.view E.kind I.reading
+    ghost covers = { λ at. func_with_covered I.view E.kind I.reading
         (λ (n : N). CalledAtPair F.FnMut) };
 
     ghost lawful = { λ is. func_lawful I.view E.kind is };
 
     ghost claimed = { λ s. record {
-      exact = λ form is. by_exact s is (N.unique s.0);
-      fails = λ form is. by_fails s is;
+      projects = λ at is. by_projects s is (N.unique s.0);
       takes = λ is some. N.takes s.0 some;
     } };
 

@@ -1,9 +1,8 @@
 //! The trait of parsers of incremental input that are specified by a grammar.
 ghost use Rattle.std.specs.Prelude.{◌≡◌};
 ghost use Rattle.stream_errors.specs.Form.{answer_by, modal};
-ghost use Rattle.parser_definitions.specs.Projects.{Projects};
 ghost use Rattle.winnow_core.specs.Tells.{Tells};
-ghost use Rattle.winnow_grammar.specs.Cut.{NeverCuts, ReadsOrAsks};
+ghost use Rattle.winnow_grammar.specs.Cut.{ReadsOrAsks};
 
 use stream_errors::parser_error::ParserError;
 use streams::stream::Stream;
@@ -35,8 +34,7 @@ pub trait ReadsPieces<I: Stream, O, E: ParserError<I>>: Parser<I, O, E> {
     /// with a match. Otherwise it returns `Incomplete`, or is out of memory. The call has an
     /// outcome of the parser's definition (`tells`).
     ///
-    /// Requires errors with a mode, and a stable parser (`lawful`, `stable`) whose definition has
-    /// this grammar (`projects`), with no outcome that is a cut (`never_cuts`).
+    /// Requires what `read` does, errors with a mode, and a stable parser (`lawful`, `stable`).
     #[inline(always)]
     final fn read_cut(&mut self, input: &mut I) -> Result<O, E>
         requires callable { Self.can_parse self.old }
@@ -44,9 +42,6 @@ pub trait ReadsPieces<I: Stream, O, E: ParserError<I>>: Parser<I, O, E> {
         requires backtracks { (Self.claim (Self.state self.old)).backtracks }
         requires lawful { Self.terms.premise }
         requires stable { Self.terms.stable }
-        requires projects { Projects Self.does E.form (Self.state self.old)
-            (Self.claim (Self.state self.old)).grammar }
-        requires never_cuts { NeverCuts Self.does (Self.state self.old) }
         requires modal { E.form ≡ modal }
         ensures again { Self.can_parse self.new }
         ensures ran { Self.meaning E.form (Self.state self.old) (I.view input.old)

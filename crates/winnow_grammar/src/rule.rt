@@ -3,7 +3,7 @@ ghost use Rattle.std.specs.Fn.{CalledAtMut};
 ghost use Rattle.std.specs.Prelude.{◌≡◌, ⊤};
 ghost use Rattle.grammars.specs.Grammar.{Grammar, IsUnique, TakesTokens};
 ghost use Rattle.winnow_grammar.specs.Rule.{by_rule, by_run};
-ghost use Rattle.winnow_grammar.specs.Rule.{ByRuns, CallsRead, CallsSpared, by_exact, by_fails};
+ghost use Rattle.winnow_grammar.specs.Rule.{ByRuns, CallsRead, CallsSpared, by_projects};
 ghost use Rattle.winnow_grammar.specs.RulePieces.{pieces_rule, pieces_run};
 ghost use Rattle.winnow_grammar.specs.RuleWith.{with_argument, with_rule, with_run};
 ghost use Rattle.parser_definitions.specs.Func.{ByDoes, beside};
@@ -102,14 +102,13 @@ impl<N: Rule<I, O>, F: FnMut(&mut I) -> Result<O, E>, I: Stream, O, E: ParserErr
 
     ghost leaves_ends = { λ form s i answer t j r. r.0.1 };
 
-    ghost covers = { λ is at. func_with_covered I.view E.kind I.reading
+    ghost covers = { λ at. func_with_covered I.view E.kind I.reading
         (λ (n : N). CalledAtMut F.FnMut) };
 
     ghost lawful = { λ is. func_lawful I.view E.kind is };
 
     ghost claimed = { λ s. record {
-      exact = λ form is. by_exact s is (N.unique s.0);
-      fails = λ form is. by_fails s is;
+      projects = λ at is. by_projects s is (N.unique s.0);
       takes = λ is some. N.takes s.0 some;
     } };
 

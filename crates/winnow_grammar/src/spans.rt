@@ -1,7 +1,7 @@
 //! The trait of parsers that are specified by a grammar and return spans.
 ghost use Rattle.std.specs.Prelude.{◌≡◌, false};
 ghost use Rattle.stream_errors.specs.Form.{answer_by};
-ghost use Rattle.winnow_core.specs.Exact.{IsSpared, Reads};
+ghost use Rattle.winnow_core.specs.Exact.{IsSpared, Reads, UnlessWanted};
 ghost use Rattle.winnow_grammar.specs.Spans.{IsBetween, output_alone};
 
 use std::ops::Range;
@@ -37,7 +37,7 @@ pub trait ReadsSpanned<I: Location, O, E: ParserError<I>>: Parser<I, O, E> {
         ensures ran { Self.meaning E.form (Self.state self.old) (I.view input.old)
             (answer_by E.kind (output_alone result)) (Self.state self.new) (I.view input.new) }
         ensures kept { (I.view input.old).status.cut ≡ false
-            → Self.state self.new ≡ Self.state self.old }
+            → UnlessWanted E.kind result (Self.state self.new ≡ Self.state self.old) }
         ensures reads { Reads I.reading E.kind (Self.claim (Self.state self.old)).grammar
             (I.view input.old) (output_alone result) (I.view input.new) }
         ensures between { IsBetween (I.view input.old) result (I.view input.new) }

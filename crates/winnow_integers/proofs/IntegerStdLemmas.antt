@@ -10,7 +10,8 @@ use Rattle.std.proofs.lemmas.Int.{ints, of_z-to_z, to_z_pos}
 use Rattle.std.proofs.lemmas.List.{length-reverse}
 use Rattle.std.proofs.lemmas.List.Elements.{All-head, All-tail}
 use Rattle.std.proofs.Math.Nat.{mul-le-mul_right, pow-succ'}
-use Rattle.winnow_integers.specs.Integer.{AreBytes, signed_of, value_of}
+use Rattle.parser_definitions.specs.Integer.{AreBytes}
+use Rattle.winnow_integers.specs.Integer.{signed_of, value_of}
 use Rattle.winnow_integers.specs.Integer.Values.{reverse_are_bytes, value_of_fits}
 use mir.Val.{bits, hbits}
 use Rattle.winnow_integers.specs.Integer.Std.{from_be, from_le}

@@ -2,16 +2,15 @@
 use Rattle.std.specs.Prelude.{◌≡◌, ◌<◌, ◌+◌, ◌-◌, ◌*◌, ◌^◌, ℕ, suc, List, [], ◌∷◌, length}
 use Rattle.std.specs.Prelude.{reverse}
 use Rattle.std.specs.Prelude.{ℤ, pos, ◌-ℤ◌, nat_lt, if◌then◌else◌, Some, Ok, Err, ◌⊎◌}
-use Rattle.std.specs.List.{All}
 use Rattle.streams.specs.Input.{Input, Passes}
 use Rattle.streams.specs.Kind.{Kind}
 use Rattle.streams.specs.Reading.{Reading}
 use Rattle.stream_errors.specs.Form.{ErrorForm, Answer}
+use Rattle.parser_definitions.specs.Integer.{AreBytes}
 use Rattle.winnow_integers.specs.declared.binary.endianness.Endianness.{Endianness}
 use Rattle.winnow_integers.specs.declared.binary.endianness.Endianness.TheVariants.{Big, Little}
 use Rattle.winnow_integers.specs.declared.binary.endianness.Endianness.TheVariants.{Native}
 use Rattle.winnow_core.specs.Short.{ShortKind}
-pub mod Grammar
 pub mod Inversion
 pub mod Laws
 pub mod Reads
@@ -45,10 +44,6 @@ unsigned_value order bytes = value_of (highest_first order bytes)
 
 abbrev pub signed_value : Endianness → List ℕ → ℤ
 signed_value order bytes = signed_of (highest_first order bytes)
-
--- each is a byte
-abbrev pub AreBytes : List ℕ → Type 0
-AreBytes bytes = All (λ b. b < 256) bytes
 
 -- A call of the parser of an integer of `width` bytes, with the value that `value` gives for them.
 abbrev pub IntegerRuns : {S O : Type 0} → ℕ → (List ℕ → O) → Reading ℕ S → ErrorForm → Input ℕ

@@ -13,12 +13,13 @@ use Rattle.std.specs.Str.Parse.{signed_digits_value, starts_with_minus}
 use Rattle.std.specs.Str.Parse.{without_leading_plus, without_leading_sign}
 use mir.Syntax.{Width}
 use Rattle.stream_sets.specs.AsChar.{IsDecDigit}
-use Rattle.winnow_numbers.specs.Decimal.Inversion.{digits_all}
-use Rattle.winnow_numbers.specs.DecimalText.{AreDigits, IsSignedText, IsUnsignedText, ReadsSigned}
-use Rattle.winnow_numbers.specs.DecimalText.{ReadsUnsigned, signed_value}
-use Rattle.winnow_numbers.specs.Digits.{value_in}
-use Rattle.winnow_numbers.specs.Digits.Inversion.{value_is}
-use Rattle.winnow_numbers.specs.Numeral.{IsSign}
+use Rattle.parser_definitions.specs.Digits.{value_in, value_is}
+use Rattle.parser_definitions.specs.Number.{signed_value}
+use Rattle.parser_definitions.specs.NumberGrammar.{AreDigits}
+use Rattle.parser_definitions.specs.Numeral.{IsSign}
+use Rattle.winnow_numbers.specs.Decimal.{digits_all}
+use Rattle.winnow_numbers.specs.DecimalText.{IsSignedText, IsUnsignedText, ReadsSigned}
+use Rattle.winnow_numbers.specs.DecimalText.{ReadsUnsigned}
 
 digit_low : (c : ℕ) → IsDecDigit c → digit_value c < 10
 digit_low c is = grind (arith, nat_tests)

@@ -12,13 +12,14 @@ use Rattle.streams.specs.Kind.{Kind, backtrack}
 use Rattle.streams.specs.Reading.{Reading}
 use Rattle.stream_errors.specs.Form.{Answer, ErrorForm}
 use Rattle.stream_sets.specs.AsChar.{IsDecDigit}
+use Rattle.parser_definitions.specs.Digits.{AreCharacters, value_in}
+use Rattle.parser_definitions.specs.Number.{signed_value}
+use Rattle.parser_definitions.specs.Numeral.{IsSign}
 use Rattle.winnow_numbers.specs.DecInt.{DecIntRuns}
 use Rattle.winnow_numbers.specs.DecUint.{DecUintRuns}
 use Rattle.winnow_numbers.specs.DecimalText.{IsSignedText, IsUnsignedText, ReadsSigned}
-use Rattle.winnow_numbers.specs.DecimalText.{ReadsUnsigned, signed_value}
-use Rattle.winnow_numbers.specs.Digits.{AreCharacters, value_in}
-use Rattle.winnow_numbers.specs.Numeral.{DigitsRuns, IsSign, NumeralRuns, SignRuns, SignedBy}
-use Rattle.winnow_numbers.specs.Numeral.{sign_of}
+use Rattle.winnow_numbers.specs.DecimalText.{ReadsUnsigned}
+use Rattle.winnow_numbers.specs.Numeral.{DigitsRuns, NumeralRuns, SignRuns, SignedBy, sign_of}
 use Rattle.winnow_numbers.specs.Numeral.Inversion.{digits_are, unsigned}
 use Rattle.winnow_numbers.proofs.NumeralLemmas.{TakesNumeral}
 

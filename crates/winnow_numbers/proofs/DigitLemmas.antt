@@ -9,10 +9,11 @@ use Rattle.std.specs.Str.Parse.{digits_value, digits_value_after}
 use Rattle.stream_sets.specs.AsChar.{IsDecDigit}
 use Rattle.streams.specs.Input.{Input, Passes, Remaining, back_at}
 use Rattle.streams.specs.Reading.{Reading}
+use Rattle.parser_definitions.specs.Digits.{AreCharacters, NoneFirst, characters_two, value_in}
+use Rattle.parser_definitions.specs.Digits.{value_is}
+use Rattle.parser_definitions.specs.Numeral.{IsLeadingDigit}
 use Rattle.winnow_numbers.proofs.NumeralLemmas.{back_same}
-use Rattle.winnow_numbers.specs.Digits.{AreCharacters, NoneFirst, value_in}
-use Rattle.winnow_numbers.specs.Digits.Inversion.{characters_two, value_is}
-use Rattle.winnow_numbers.specs.Numeral.{DigitsRuns, IsLeadingDigit}
+use Rattle.winnow_numbers.specs.Numeral.{DigitsRuns}
 use Rattle.winnow_numbers.specs.Numeral.Inversion.{passes_two}
 
 after_more : (n : ℕ) (ds : List ℕ) (d : ℕ) → digits_value_after 10 n (ds ++ d ∷ [])

@@ -13,10 +13,9 @@ use Rattle.std.specs.Str.Parse.{digits_value_after}
 use Rattle.std.specs.Char.{digit_value}
 use Rattle.streams.specs.Equal.{same_first, same_others}
 use Rattle.stream_sets.specs.AsChar.{IsDecDigit}
-use Rattle.winnow_numbers.specs.Digits.{value_in}
-use Rattle.winnow_numbers.specs.Digits.Inversion.{value_is}
+use Rattle.parser_definitions.specs.Digits.{value_in, value_is}
+use Rattle.parser_definitions.specs.Numeral.{IsLeadingDigit}
 use Rattle.winnow_numbers.specs.Lanes.{AreAtMost, StartsWithNumeral, EndsDigits, in_base}
-use Rattle.winnow_numbers.specs.Numeral.{IsLeadingDigit}
 use lib.Count.{count_trailing_zeros}
 use lib.Lanes.{Each1, chunk, mask_l, top, zip2}
 

@@ -9,7 +9,7 @@ use Rattle.streams.specs.Equal.{same_first, same_others, same_rest}
 use Rattle.streams.specs.Input.{Input, Passes}
 use Rattle.streams.specs.Reading.{Reading}
 use Rattle.streams.specs.Stream.{Cuts, IsBoundary}
-use Rattle.winnow_numbers.specs.Digits.{AreCharacters, NoneFirst, value_in}
+use Rattle.parser_definitions.specs.Digits.{AreCharacters, NoneFirst, value_in}
 use Rattle.winnow_numbers.specs.Lanes.{StartsWithNumeral}
 use Rattle.winnow_numbers.specs.Numeral.{DigitsRuns}
 

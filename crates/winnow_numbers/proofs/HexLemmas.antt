@@ -24,11 +24,11 @@ use Rattle.stream_errors.specs.Form.{Answer, ErrorForm, incomplete_kind}
 use Rattle.stream_sets.specs.AsChar.{IsHexDigit}
 use Rattle.stream_sets.specs.declared.range.Range.{Range}
 use Rattle.stream_sets.specs.Range.{bounds_of, from_to}
+use Rattle.parser_definitions.specs.Digits.{AreCharacters, IsIn, NoneFirst, SomeFirst, value_in}
+use Rattle.parser_definitions.specs.Digits.{value_is}
 use Rattle.winnow_token.specs.TakeWhile.{IsEnded, TakeWhileRuns}
 use Rattle.stream_sets.specs.Longest.{IsLongest}
-use Rattle.winnow_numbers.specs.Digits.{AreCharacters, IsIn, NoneFirst, SomeFirst, value_in}
 use Rattle.winnow_numbers.specs.HexUint.{HexUintRuns}
-use Rattle.winnow_numbers.specs.Digits.Inversion.{value_is}
 use Rattle.winnow_numbers.proofs.DecimalRuns.{spelled}
 use Rattle.winnow_numbers.proofs.NumeralLemmas.{numbers_of}
 

@@ -12,12 +12,13 @@ use Rattle.streams.specs.Reading.{Reading}
 use Rattle.streams.specs.Stream.{AnswersSeen, Cuts, IsBoundary}
 use Rattle.stream_errors.specs.Form.{ErrorForm, incomplete_kind, plain, modal}
 use Rattle.stream_sets.specs.AsChar.{IsDecDigit}
+use Rattle.parser_definitions.specs.Digits.{AreCharacters, IsIn, NoneFirst}
+use Rattle.parser_definitions.specs.Numeral.{IsLeadingDigit, IsSign, is_none}
 use Rattle.winnow_token.specs.TakeWhile.{IsEnded}
 use Rattle.stream_sets.specs.Longest.{IsLongest}
 use Rattle.winnow_ascii.specs.Class.{ClassRuns}
-use Rattle.winnow_numbers.specs.Digits.{AreCharacters, IsIn, NoneFirst}
-use Rattle.winnow_numbers.specs.Numeral.{DigitsRuns, IsLeadingDigit, IsSign, LacksDigits, NoDigits}
-use Rattle.winnow_numbers.specs.Numeral.{NoNumeral, NumeralRuns, SignRuns, is_none, left_by}
+use Rattle.winnow_numbers.specs.Numeral.{DigitsRuns, LacksDigits, NoDigits, NoNumeral, NumeralRuns}
+use Rattle.winnow_numbers.specs.Numeral.{SignRuns, left_by}
 use Rattle.winnow_numbers.specs.Numeral.Inversion.{digits_front, numeral_front, passes_two}
 use Rattle.winnow_numbers.specs.Numeral.Inversion.{sign_front}
 use Rattle.winnow_numbers.specs.Numeral.Inversion.{sign_status}

@@ -5,19 +5,19 @@ use Rattle.streams.specs.Input.{Input}
 use Rattle.streams.specs.Kind.{Kind, backtrack}
 use Rattle.streams.specs.Reading.{Reading}
 use Rattle.stream_errors.specs.Form.{Answer, ErrorForm, incomplete_kind, modal, plain}
+use Rattle.parser_definitions.specs.HexUint.{HexUintDoes}
+use Rattle.parser_definitions.specs.Left.{left_of}
+use Rattle.parser_definitions.specs.Number.{NumberDoes, Numbers}
+use Rattle.parser_definitions.specs.Numeral.{HasDigits, HasNoDigits, HasNumeral, HasSign, LacksMore}
+use Rattle.parser_definitions.specs.Numeral.{NoNumeralDoes, is_none, left_for}
+use Rattle.parser_definitions.specs.Outcome.{Setting, outcome_of}
+use Rattle.parser_definitions.specs.Outcome.{setting_of}
 use Rattle.winnow_numbers.specs.HexUint.{HexUintRuns}
 use Rattle.winnow_numbers.specs.Number.{NumberRuns}
 use Rattle.winnow_numbers.specs.Number.Laws.{number_ends}
-use Rattle.winnow_numbers.specs.Numeral.{DigitsRuns, LacksDigits, NoDigits, NoNumeral}
-use Rattle.winnow_numbers.specs.Numeral.{NumeralRuns, SignRuns, is_none, left_by}
+use Rattle.winnow_numbers.specs.Numeral.{DigitsRuns, LacksDigits, NoDigits, NoNumeral, NumeralRuns}
+use Rattle.winnow_numbers.specs.Numeral.{SignRuns, left_by}
 use Rattle.winnow_numbers.specs.Numeral.Inversion.{sign_status}
-use Rattle.parser_definitions.specs.Number.{NumberDoes, Numbers}
-use Rattle.parser_definitions.specs.Numeral.{HasDigits, HasNoDigits, HasNumeral, HasSign}
-use Rattle.parser_definitions.specs.Numeral.{LacksMore, NoNumeralDoes, left_for}
-use Rattle.parser_definitions.specs.HexUint.{HexUintDoes}
-use Rattle.parser_definitions.specs.Left.{left_of}
-use Rattle.parser_definitions.specs.Outcome.{Setting, outcome_of}
-use Rattle.parser_definitions.specs.Outcome.{setting_of}
 use Rattle.winnow_core.specs.Runs.{Keeps}
 use Rattle.winnow_numbers.specs.HexUint.Laws.{hex_uint_ends}
 use Rattle.winnow_core.specs.Covers.{Covers, gave, kept_covered, left_at}

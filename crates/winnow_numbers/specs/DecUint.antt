@@ -5,7 +5,6 @@ use Rattle.streams.specs.Reading.{Reading}
 use Rattle.stream_errors.specs.Form.{ErrorForm, Answer}
 use Rattle.parser_definitions.specs.Number.{unsigned_numbers}
 use Rattle.winnow_numbers.specs.Number.{NumberRuns}
-pub mod Inversion
 
 -- A run of the parser of a decimal unsigned number. Values of its type have the numbers `number`,
 -- all below `bound`.

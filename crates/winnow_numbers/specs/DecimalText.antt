@@ -1,15 +1,10 @@
 -- Texts of decimal numbers, and the numbers of a type that they are read as.
-use Rattle.std.specs.Prelude.{◌≡◌, ◌<◌, ◌≤◌, ℕ, ℤ, pos, neg_ℤ, List, [], ◌∷◌, ◌++◌, length}
-use Rattle.std.specs.Prelude.{Option}
-use Rattle.std.specs.Prelude.{IsSome, MatchOption, if◌then◌else◌, ◌==◌, ◌⊎◌}
-use Rattle.std.specs.List.{AllByRecursion}
-use Rattle.stream_sets.specs.AsChar.{IsDecDigit}
-use Rattle.winnow_numbers.specs.Digits.{value_in}
-use Rattle.winnow_numbers.specs.Numeral.{IsSign}
-
--- digits, at least one
-abbrev pub AreDigits : List ℕ → Type 0
-AreDigits digits = (0 < length digits) × AllByRecursion IsDecDigit digits
+use Rattle.std.specs.Prelude.{◌≡◌, ◌<◌, ◌≤◌, ℕ, ℤ, List, [], ◌∷◌, ◌++◌, Option, IsSome}
+use Rattle.std.specs.Prelude.{MatchOption, ◌⊎◌}
+use Rattle.parser_definitions.specs.Digits.{value_in}
+use Rattle.parser_definitions.specs.Number.{signed_value}
+use Rattle.parser_definitions.specs.NumberGrammar.{AreDigits}
+use Rattle.parser_definitions.specs.Numeral.{IsSign}
 
 -- The text is digits, with '+' before them or nothing.
 abbrev pub IsUnsignedText : List ℕ → List ℕ → Type 0
@@ -29,12 +24,6 @@ abbrev pub IsSignedText : List ℕ → List ℕ → List ℕ → Type 0
 IsSignedText text sign digits =
     AreDigits digits × (text ≡ sign ++ digits)
     × ((sign ≡ []) ⊎ ((c : ℕ) × IsSign c × (sign ≡ c ∷ [])))
-
--- the number that digits after a sign stand for: negative after '-'
-abbrev pub signed_value : List ℕ → List ℕ → ℤ
-signed_value [] digits = pos (value_in 10 digits)
-signed_value (c ∷ cs) digits =
-    if c == 45 then neg_ℤ (pos (value_in 10 digits)) else pos (value_in 10 digits)
 
 -- The number of a type, of those that fit it, that a text is parsed as. It is `None` if and only if
 -- the text is not digits after a sign, or their number does not fit.

@@ -3,7 +3,7 @@ use Rattle.std.specs.Prelude.{◌≡◌, ◌+◌, ◌*◌, ◌<◌, ◌≤◌, �
 use Rattle.std.specs.Prelude.{◌⊎◌}
 use Rattle.std.specs.List.{AllByRecursion}
 use Rattle.stream_sets.specs.AsChar.{IsDecDigit}
-use Rattle.winnow_numbers.specs.Numeral.{IsLeadingDigit}
+use Rattle.parser_definitions.specs.Numeral.{IsLeadingDigit}
 
 -- `StartsWithNumeral bytes digits rest`: `bytes` starts with the digits of a numeral, followed by
 -- `rest`. They are a single '0', or a digit from 1 to 9 and all digits after it, and then another

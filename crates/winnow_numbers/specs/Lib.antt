@@ -4,7 +4,6 @@ pub mod DecInt
 pub mod DecUint
 pub mod Decimal
 pub mod DecimalText
-pub mod Digits
 pub mod HexUint
 pub mod Lanes
 pub mod Number

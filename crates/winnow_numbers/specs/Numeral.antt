@@ -1,5 +1,5 @@
 -- Decimal numerals at the beginning of an input.
-use Rattle.std.specs.Prelude.{◌≡◌, ◌<◌, ◌≤◌, ◌==◌, ℕ, ℤ, pos, neg_ℤ, Bool, true, false, List}
+use Rattle.std.specs.Prelude.{◌≡◌, ◌<◌, ◌==◌, ℕ, ℤ, pos, neg_ℤ, Bool, true, false, List}
 use Rattle.std.specs.Prelude.{[], ◌∷◌, Option, Some, None, if◌then◌else◌, ◌⊎◌}
 use Rattle.std.specs.List.{All, AllByRecursion}
 use Rattle.streams.specs.Input.{Input, Passes}
@@ -7,21 +7,13 @@ use Rattle.streams.specs.Kind.{Kind, backtrack}
 use Rattle.streams.specs.Reading.{Reading}
 use Rattle.stream_errors.specs.Form.{ErrorForm, incomplete_kind, plain, modal}
 use Rattle.stream_sets.specs.AsChar.{IsDecDigit}
-use Rattle.winnow_numbers.specs.Digits.{AreCharacters, IsIn, NoneFirst}
-pub mod Exact
-pub mod Grammar
+use Rattle.parser_definitions.specs.Digits.{AreCharacters, IsIn, NoneFirst}
+use Rattle.parser_definitions.specs.Numeral.{IsLeadingDigit, IsSign, is_none}
 pub mod Inversion
 pub mod Laws
-pub mod Once
+pub mod Signed
 pub mod Texts
-
--- a sign: '+' or '-'
-abbrev pub IsSign : ℕ → Type 0
-IsSign c = (c ≡ 43) ⊎ (c ≡ 45)
-
--- a digit from 1 to 9
-abbrev pub IsLeadingDigit : ℕ → Type 0
-IsLeadingDigit c = (49 ≤ c) × (c ≤ 57)
+pub mod Written
 
 -- If a sign is allowed, one at the start is passed. Otherwise nothing is passed.
 abbrev pub SignRuns : {K T S : Type 0} → (K → T) → (K → ℕ) → Reading T S → Bool → Input T
@@ -66,11 +58,6 @@ NoDigits {K} {T} seen code zero i =
     -- the input starts with another character, or with a '0' that is not allowed
     ⊎ ((x : K) × (rest : List T) × (i.left.tokens ≡ seen x ∷ rest)
     × (IsLeadingDigit (code x) → ⊥) × (zero ≡ true → code x ≡ 48 → ⊥))
-
--- there is no sign
-abbrev pub is_none : List ℕ → Bool
-is_none [] = true
-is_none (c ∷ cs) = false
 
 -- the sign that was passed, if one was
 abbrev pub sign_of : Option ℕ → List ℕ

@@ -27,7 +27,7 @@ use winnow_core::parser::Parser;
 /// ```
 /// let mut input: Recoverable<&str, EmptyError> = Recoverable::new(alloc, "a,b,12");
 /// // It tries again behind each comma, until there are digits.
-/// let mut number = Digit1.retry_after((take_till(Range::from(0..), ','), ',').void());
+/// let mut number = Digit1.retry_after((take_till(0.., ','), ',').void());
 /// assert_eq!(rt; number.parse_next(&mut input), Ok::<_, EmptyError>("12"));
 /// let (_, errors) = input.into_parts();
 /// assert_eq!(rt; errors.len(), 2);

@@ -10,7 +10,6 @@ use Rattle.winnow_core.specs.Runs.{Runs}
 use Rattle.winnow_repeat.specs.Chain.{Chain}
 use Rattle.winnow_repeat.specs.Repeat.{ItemsRun}
 use Rattle.winnow_repeat.specs.declared.combinator.impls.fold.RepeatFold.{RepeatFold}
-pub mod Exact
 pub mod Laws
 
 -- the closure that folds an output into the value

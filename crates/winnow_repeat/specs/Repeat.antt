@@ -10,7 +10,6 @@ use Rattle.winnow_repeat.specs.Chain.{Chain}
 use Rattle.stream_sets.specs.Accumulator.Holds.{Accumulates}
 use Rattle.stream_sets.specs.Accumulator.{Accumulator}
 use Rattle.winnow_repeat.specs.declared.combinator.impls.repeat.Repeat.{Repeat}
-pub mod Exact
 pub mod Inversion
 pub mod Laws
 

@@ -11,8 +11,6 @@ use Rattle.winnow_core.specs.Runs.{Runs}
 use Rattle.stream_sets.specs.Accumulator.Holds.{Accumulates}
 use Rattle.winnow_repeat.specs.Chain.{Chain, Successes}
 use Rattle.winnow_repeat.specs.Repeat.{capacity_of}
-pub mod Errors
-pub mod Exact
 pub mod Laws
 
 -- how many items there is room for after the least, if there is a greatest number

@@ -13,7 +13,6 @@ use Rattle.winnow_repeat.specs.Repeat.{ItemsRun, capacity_of}
 pub use Rattle.winnow_separated.specs.Link.{LinkRuns}
 use Rattle.winnow_separated.specs.Link.{SeparatesNothing}
 use Rattle.winnow_separated.specs.declared.combinator.impls.separated.Separated.{Separated}
-pub mod Exact
 pub mod Inversion
 pub mod Laws
 

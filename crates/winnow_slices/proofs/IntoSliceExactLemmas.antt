@@ -1,20 +1,23 @@
 -- The grammar of a repetition into a slice.
-use Rattle.std.specs.Prelude.{◌≡◌, ℕ, false, List, [], ◌∷◌, ◌++◌, length, Ok, Err}
+use Rattle.std.specs.Prelude.{◌≡◌, ℕ, true, false, List, [], ◌∷◌, ◌++◌, length, Result, Ok, Err}
+use Rattle.std.specs.List.{FoldsTo}
 use Rattle.std.proofs.Common.{refl, sym, ap, subst, inl, inr, ◌∙◌, arith, length-append}
 use Rattle.std.proofs.lemmas.List.{append-nil, length_push}
 use Rattle.streams.specs.Equal.{none_is_some}
 use Rattle.streams.specs.Input.{Input}
-use Rattle.streams.specs.Kind.{Kind, backtrack}
-use Rattle.stream_errors.specs.Form.{Answer, ErrorForm}
+use Rattle.streams.specs.Kind.{Kind, backtrack, cut, incomplete, memory}
+use Rattle.stream_errors.specs.Form.{Answer, ErrorForm, answer_by}
 use Rattle.grammars.specs.Grammar.{Each, Grammar, IsUnique, Many, TakesTokens}
 use Rattle.grammars.specs.Grammar.Unique.{no_more}
-use Rattle.winnow_core.specs.Claim.{Claim, Claimed}
+use Rattle.parser_definitions.specs.Claim.{Claim, Claimed}
+use Rattle.parser_definitions.specs.Left.{left_of}
+use Rattle.parser_definitions.specs.Outcome.{Does, Setting, outcome_of}
+use Rattle.parser_definitions.specs.Projects.{Agreement, Complete, Projects}
+use Rattle.winnow_core.specs.Chain.{IsItem}
+use Rattle.winnow_core.specs.Covers.{Covers}
 use Rattle.winnow_core.specs.Elements.{length-zero}
-use Rattle.winnow_core.specs.Exact.{FailsBy, IsExact}
-use Rattle.winnow_core.specs.Exact.Allowed.{Allowed, softly}
-use Rattle.winnow_core.specs.Exact.Failed.{none_at_backtrack}
-use Rattle.winnow_core.specs.Runs.{Meaning, Runs}
-use Rattle.winnow_repeat.specs.Repeat.Exact.{chain_stands}
+use Rattle.winnow_core.specs.Exact.{UnlessWanted, agreement_of}
+use Rattle.winnow_core.specs.Runs.{Meaning}
 use Rattle.winnow_slices.specs.IntoSlice.{IntoSlice, IntoSliceEnds, Overwrites}
 use Rattle.winnow_slices.specs.IntoSlice.Exact.{AllMatches, HasMore, ReadsIntoSlice}
 
@@ -51,56 +54,87 @@ all_written {os = os} w full =
     (omega (arith, ap length w.was, length-append w.before w.rest, w.as_many, full)) in
     w.is ∙ ap (λ l. os ++ l) none ∙ append-nil os
 
-module _ {S T O : Type 0} (claim : Claim T O) {s : S} {run : Runs S T O}
-    (c : IsExact s run claim.grammar)
-    (f : FailsBy (Allowed claim.backtracks claim.spares_memory) s run) (backs : claim.backtracks)
-    (takes : TakesTokens claim.grammar) (too_many : ℕ → Kind → Type 0) (asserted : Kind)
-    {old new os : List O} (written : Overwrites os old new) (i m : Input T)
-    (whole : m.status.cut ≡ false) (each : Each claim.grammar i.left.tokens os m.left.tokens)
-  where
+-- ---- calls of the parser
+
+module _ {S T O : Type 0} (meaning : Meaning S T O) {does : Does S T O}
+    (covers : (at : Setting) → Covers at (meaning at.form) does) (form : ErrorForm) {b m : Type 0}
+    {s : S} {g : Grammar T O} (projects : (at : Complete) → Projects b m does at s g) where
+  abbrev Agreed : Input T → Answer O → S → Input T → Type 0
+  Agreed i answer t j = Agreement b m s g i.left.tokens (outcome_of answer (t, left_of j))
+
+  called : (i : Input T) (answer : Answer O) (t : S) (j : Input T) → i.status.cut ≡ false
+      → meaning form s i answer t j → Agreed i answer t j
+  called i answer t j whole ran = agreement_of meaning covers form projects i t j whole answer ran
+
+  -- the input is complete after it
+  still : (i : Input T) (answer : Answer O) (t : S) (j : Input T) → i.status.cut ≡ false
+      → meaning form s i answer t j → j.status.cut ≡ false
+  still i answer t j whole ran =
+      let at : Setting = record { form = form; more = false; possible = i.left.possible } in
+      ((covers at).covers s i answer t j (record { more = whole; possible = refl }) ran).1.more
+
+  -- consecutive items match, and do not change the state
+  chain_agrees : (os : List O) (i : Input T) (u : S) (n : Input T) → i.status.cut ≡ false
+      → FoldsTo (λ p o q. IsItem (meaning form) p o q) (s, i) os (u, n)
+      → (u ≡ s) × (n.status.cut ≡ false) × Each g i.left.tokens os n.left.tokens
+  chain_agrees [] i u n whole e =
+      let P : S × Input T → Type 0 =
+      λ p. (p.0 ≡ s) × (p.1.status.cut ≡ false) × (p.1.left.tokens ≡ i.left.tokens) in
+      subst P e (refl, whole, refl)
+  chain_agrees (o ∷ os) i u n whole (p, item, rest) =
+      let P : S → Type 0 = λ x. FoldsTo (λ a b q. IsItem (meaning form) a b q) (x, p.1) os (u, n) in
+      let (is_match, same) = called i (Ok o) p.0 p.1 whole item.0 in
+      let (last, ends, each) = chain_agrees os p.1 u n (still i (Ok o) p.0 p.1 whole item.0)
+      (subst P same rest) in
+      (last, ends, (p.1.left.tokens, is_match, each))
+
+  module _ (backs : b) (takes : TakesTokens g) (too_many : ℕ → Kind → Type 0) (asserted : Kind)
+      {old new os : List O} (written : Overwrites os old new) (i n : Input T)
+      (whole : n.status.cut ≡ false) (each : Each g i.left.tokens os n.left.tokens) where
     abbrev Read : S → Input T → Answer ℕ → Type 0
-    Read t j answer = (t ≡ s) × ReadsIntoSlice claim.grammar claim.spares_memory too_many old
-        i.left.tokens answer new j.left.tokens
+    Read t j answer = UnlessWanted (λ k. k) answer (t ≡ s)
+        × ReadsIntoSlice g m too_many old i.left.tokens answer new j.left.tokens
+
+    -- another error is out of memory
+    wanted : (k : Kind) (t : S) (j : Input T) → (k ≡ backtrack → ⊥) → Agreed n (Err k) t j
+        → (k ≡ memory) × (m → ⊥)
+    wanted backtrack t j other a = absurd (other refl)
+    wanted cut t j other (none, kept, not) = absurd (not backs)
+    wanted (incomplete need) t j other never = absurd never
+    wanted memory t j other not = (refl, not)
 
     ends_read : (answer : Answer ℕ) (t : S) (j : Input T)
-        → IntoSliceEnds run too_many asserted (length old) os s m answer t j → Read t j answer
+        → IntoSliceEnds (meaning form) too_many asserted (length old) os s n answer t j
+        → Read t j answer
     unfolding Many
     ends_read answer t j (inl (x, r, e, same)) =
-        let Q : List T → Type 0 = λ l. AllMatches claim.grammar i.left.tokens os l in
+        let Q : List T → Type 0 = λ l. AllMatches g i.left.tokens os l in
+        let (none, kept) = called n (Err backtrack) t x whole r in
         subst (Read t j) (sym e) (
-          (c.kept m (Err backtrack) t x whole r).0,
+          kept,
           record {
             stands = (
               os,
               refl,
               written,
-              subst Q (sym (ap (λ y. y.left.tokens) same))
-                  (each, omega arith, inr (tt, none_at_backtrack c m t x whole r)),
+              subst Q (sym (ap (λ y. y.left.tokens) same)) (each, omega arith, inr (tt, none)),
             );
             fails = tt;
           },
         )
     ends_read answer t j (inr (inl (k, r, other, e))) =
-        let may = f.fails m k t j whole r in
-        subst (Read t j) (sym e) (
-          (c.kept m (Err k) t j whole r).0,
-          record {
-            stands = tt;
-            fails = elim ((softly backs f).fails m k t j whole r) [
-              | inl is ↦ inr (is, λ spares. may.wants_none spares is)
-              | inr is ↦ absurd (other is)
-            ];
-          },
-        )
+        let (is, not) = wanted k t j other (called n (Err k) t j whole r) in
+        subst (Read t j) (sym e) (inl is, record { stands = tt; fails = inr (is, not) })
     ends_read answer t j (inr (inr (inl (o, r, nothing, e)))) =
-        let fewer = takes.fewer m.left.tokens o j.left.tokens (c.stands m o t j whole r) in
+        let fewer = takes.fewer n.left.tokens o j.left.tokens (called n (Ok o) t j whole r).0 in
         let as_many = ap length nothing in
         absurd (omega (arith, fewer, as_many))
     ends_read answer t j (inr (inr (inr (o, x, k, full, r, less, same, many, e)))) =
-        let P : List O → List T → Type 0 = λ l rest. HasMore claim.grammar l i.left.tokens rest in
+        let P : List O → List T → Type 0 = λ l rest. HasMore g l i.left.tokens rest in
         let is = all_written written full in
+        let (is_match, kept) = called n (Ok o) t x whole r in
         subst (Read t j) (sym e) (
-          (c.kept m (Ok o) t x whole r).0,
+          inr kept,
           record {
             stands = tt;
             fails = inl (
@@ -108,28 +142,37 @@ module _ {S T O : Type 0} (claim : Claim T O) {s : S} {run : Runs S T O}
               ap length is ∙ full,
               subst (λ l. P l j.left.tokens) (sym is)
                   (subst (P os) (sym (ap (λ y. y.left.tokens) same))
-                  (has_more c.unique os i.left.tokens m.left.tokens x.left.tokens o each
-                  (c.stands m o t x whole r))),
+                  (has_more (projects (record { form = form; possible = true })).unique os
+                  i.left.tokens n.left.tokens x.left.tokens o each is_match)),
             );
           },
         )
 
+unless_by : {O E : Type 0} (P : Type 0) (kind : E → Kind) (result : Result O E)
+    → UnlessWanted (λ k. k) (answer_by kind result) P → UnlessWanted kind result P
+unless_by P kind (Ok o) is = is
+unless_by P kind (Err e) is = is
+
 -- the clause of a call
-pub into_slice_reads : {S T O : Type 0} {claim : Claim T O} {s : S} {meaning : Meaning S T O}
-    → Claimed claim s meaning → claim.premise → claim.backtracks → claim.consumes
-    → (too_many : ℕ → Kind → Type 0) (asserted : Kind) (form : ErrorForm) (old : List O)
-    (i : Input T) (answer : Answer ℕ) (new : List O) (t : S) (j : Input T)
+pub into_slice_reads : {S T O E : Type 0} (meaning : Meaning S T O) {does : Does S T O}
+    → ((at : Setting) → Covers at (meaning at.form) does) → {claim : Claim T O} {s : S}
+    → Claimed claim s does → claim.premise → claim.backtracks → claim.consumes
+    → (too_many : ℕ → Kind → Type 0) (asserted : Kind) (form : ErrorForm) (kind : E → Kind)
+    (old : List O) (i : Input T) (result : Result ℕ E) (new : List O) (t : S) (j : Input T)
     → i.status.cut ≡ false
-    → IntoSlice (meaning form) too_many asserted old s i answer new t j
-    → (t ≡ s) × ReadsIntoSlice claim.grammar claim.spares_memory too_many old i.left.tokens answer
-    new j.left.tokens
-into_slice_reads {S} {claim = claim} {s} {meaning} claimed is backs consumes too_many asserted
-    form old i
-    answer new t j whole (os, u, m, chain, written, ends) =
-    let c = claimed.exact form is in
-    let (same, still, each) = chain_stands c os i u m whole chain.runs in
-    let P : S → Type 0 = λ x. IntoSliceEnds (meaning form) too_many asserted (length old) os x m
-    answer t j in
-    ends_read claim c (claimed.fails form is) backs (claimed.takes is consumes) too_many
-    asserted written
-    i m still each answer t j (subst P same ends)
+    → IntoSlice (meaning form) too_many asserted old s i (answer_by kind result) new t j
+    → UnlessWanted kind result (t ≡ s)
+    × ReadsIntoSlice claim.grammar claim.spares_memory too_many old i.left.tokens
+    (answer_by kind result) new j.left.tokens
+into_slice_reads {S} meaning {does} covers {claim} {s} claimed is backs consumes too_many asserted
+    form kind old i result new t j whole (os, u, n, chain, written, ends) =
+    let projects : (at : Complete)
+    → Projects claim.backtracks claim.spares_memory does at s claim.grammar =
+    λ at. claimed.projects at is in
+    let (same, complete, each) = chain_agrees meaning covers form projects os i u n whole
+    chain.runs in
+    let P : S → Type 0 = λ x. IntoSliceEnds (meaning form) too_many asserted (length old) os x n
+    (answer_by kind result) t j in
+    let (kept, reads) = ends_read meaning covers form projects backs (claimed.takes is consumes)
+    too_many asserted written i n complete each (answer_by kind result) t j (subst P same ends) in
+    (unless_by (t ≡ s) kind result kept, reads)

@@ -7,6 +7,7 @@ ghost use Rattle.streams.specs.Input.{IsEndOf};
 ghost use Rattle.parser_definitions.specs.Fill.{IntoSliceDoes};
 ghost use Rattle.winnow_slices.specs.IntoSlice.{IntoSlice, TooManyKind};
 ghost use Rattle.winnow_slices.specs.IntoSlice.Exact.{ReadsIntoSlice};
+ghost use Rattle.winnow_core.specs.Exact.{UnlessWanted};
 ghost use Rattle.winnow_core.specs.Tells.{Tells};
 
 use stream_errors::external::FromExternalError;
@@ -65,7 +66,7 @@ where
     ensures reads { (P.claim (P.state parser.old)).premise
         → (P.claim (P.state parser.old)).backtracks → (P.claim (P.state parser.old)).consumes
         → (I.view input.old).status.cut ≡ false
-        → (P.state parser.new ≡ P.state parser.old)
+        → UnlessWanted E.kind result (P.state parser.new ≡ P.state parser.old)
         × ReadsIntoSlice (P.claim (P.state parser.old)).grammar
         (P.claim (P.state parser.old)).spares_memory (TooManyKind E.external_gives) slice.old
         (I.view input.old).left.tokens (answer_by E.kind result) slice.new

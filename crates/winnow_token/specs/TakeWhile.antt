@@ -2,6 +2,7 @@
 use Rattle.std.specs.Prelude.{◌≡◌, ◌<◌, ◌≤◌, ◌-◌, ℕ, max, Bool, true, false, List, ◌∷◌, length}
 use Rattle.std.specs.Prelude.{Option, Some, Ok, Err, ◌⊎◌}
 use Rattle.std.specs.List.{All}
+pub use Rattle.parser_definitions.specs.Projects.Tokens.{longest_unique}
 use Rattle.streams.specs.Input.{Input, Takes}
 use Rattle.streams.specs.Kind.{backtrack}
 use Rattle.streams.specs.Reading.{Reading}
@@ -10,7 +11,6 @@ use Rattle.stream_sets.specs.Range.{Bounds, IsBelow, IsWithin}
 use Rattle.stream_sets.specs.declared.range.Range.{Range}
 use Rattle.stream_errors.specs.Form.{ErrorForm, Answer, incomplete_kind, assert_kind}
 use Rattle.winnow_token.specs.declared.token.impls.take_while.TakeWhile.{TakeWhile}
-pub mod Exact
 pub mod Inversion
 pub mod Laws
 

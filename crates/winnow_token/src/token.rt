@@ -66,20 +66,22 @@ where
 /// Known as `take_while`, `take_while1`, `take_while_m_n` and `is_a` in nom.
 ///
 /// ```
-/// let mut parser = take_while(Range::from(1..), '0'..='9');
+/// let mut parser = take_while(1.., '0'..='9');
 /// assert_eq!(rt; parser.parse_peek("12;"), Ok::<_, EmptyError>((";", "12")));
 /// ```
 #[inline(always)]
-pub fn take_while<Set, Input, Error>(occurrences: Range, set: Set) -> TakeWhile<Set, Input, Error>
+pub fn take_while<Set, Input, Error, R>(occurrences: R, set: Set) -> TakeWhile<Set, Input, Error>
 where
+    Range: From<R>,
     Input: StreamIsPartial,
     Set: ContainsToken<Input::Token>,
     Error: ParserError<Input>,
-    ensures occurrences { take_while_occurrences result ≡ occurrences }
+    ensures occurrences { ⟦<Range as From<R>>⟧.from_gives occurrences
+        (take_while_occurrences result) }
     ensures set { take_while_set result ≡ set }
 {
     TakeWhile {
-        occurrences,
+        occurrences: Range::from(occurrences),
         set,
         marker: PhantomData,
     }
@@ -94,20 +96,22 @@ where
 /// Known as `take_till`, `take_till1` and `is_not` in nom.
 ///
 /// ```
-/// let mut parser = take_till(Range::from(0..), ';');
+/// let mut parser = take_till(0.., ';');
 /// assert_eq!(rt; parser.parse_peek("ab;c"), Ok::<_, EmptyError>((";c", "ab")));
 /// ```
 #[inline(always)]
-pub fn take_till<Set, Input, Error>(occurrences: Range, set: Set) -> TakeTill<Set, Input, Error>
+pub fn take_till<Set, Input, Error, R>(occurrences: R, set: Set) -> TakeTill<Set, Input, Error>
 where
+    Range: From<R>,
     Input: StreamIsPartial,
     Set: ContainsToken<Input::Token>,
     Error: ParserError<Input>,
-    ensures occurrences { take_till_occurrences result ≡ occurrences }
+    ensures occurrences { ⟦<Range as From<R>>⟧.from_gives occurrences
+        (take_till_occurrences result) }
     ensures set { take_till_set result ≡ set }
 {
     TakeTill {
-        occurrences,
+        occurrences: Range::from(occurrences),
         set,
         marker: PhantomData,
     }
@@ -227,23 +231,25 @@ where
 /// Known as `take_until` and `take_until1` in nom.
 ///
 /// ```
-/// let mut parser = take_until(Range::from(0..), "-->");
+/// let mut parser = take_until(0.., "-->");
 /// assert_eq!(rt; parser.parse_peek("ab-->c"), Ok::<_, EmptyError>(("-->c", "ab")));
 /// ```
 #[inline(always)]
-pub fn take_until<Literal, Input, Error>(
-    occurrences: Range,
+pub fn take_until<Literal, Input, Error, R>(
+    occurrences: R,
     literal: Literal,
 ) -> TakeUntil<Literal, Input, Error>
 where
+    Range: From<R>,
     Literal: Copy,
     Input: StreamIsPartial + FindSlice<Literal>,
     Error: ParserError<Input>,
-    ensures occurrences { take_until_occurrences result ≡ occurrences }
+    ensures occurrences { ⟦<Range as From<R>>⟧.from_gives occurrences
+        (take_until_occurrences result) }
     ensures literal { take_until_literal result ≡ literal }
 {
     TakeUntil {
-        occurrences,
+        occurrences: Range::from(occurrences),
         literal,
         marker: PhantomData,
     }

@@ -1,5 +1,5 @@
 -- Repetitions up to a terminator.
-use Rattle.std.specs.Prelude.{◌≡◌, ◌<◌, ◌+◌, List, [], ◌∷◌, ◌++◌, length}
+use Rattle.std.specs.Prelude.{◌≡◌, ◌+◌, List, [], ◌∷◌, ◌++◌, length}
 use Rattle.std.proofs.Common.{sym, ap, subst, ◌∙◌, arith, length-append}
 use Rattle.stream_sets.specs.Range.{Bounds, IsWithin, bounds_of}
 use Rattle.stream_sets.specs.declared.range.Range.{Range}
@@ -41,26 +41,6 @@ each_same {T} {O} {g} unique (o ∷ os) (p ∷ ps) tokens rest other n (mid, x, 
     (subst P (unique.one tokens o p mid mid2 x y) more) more2
 
 module _ {T O D : Type 0} (item : Grammar T O) (till : Grammar T D) (unique : IsUnique item) where
-  -- if no terminator follows the turns `os`, the turns `ps` up to a terminator are more, and an
-  -- item follows `os`
-  pub more_turns : (os ps : List O) (tokens rest other end : List T) (d : D)
-      → Each (Turn item till) tokens os rest → NoMatch till rest
-      → Each (Turn item till) tokens ps other → till other d end
-      → (length os < length ps) × ((o : O) × (mid : List T) × item rest o mid)
-  more_turns [] [] tokens rest other end d e none f x =
-      let P : List T → Type 0 = λ l. till l d end in absurd (none d end (subst P (f ∙ sym e) x))
-  more_turns [] (p ∷ ps) tokens rest other end d e none (mid, (no_till, x), more) y =
-      let P : List T → Type 0 = λ l. item l p mid in
-      (omega arith, (p, mid, subst P (sym e) x))
-  more_turns (o ∷ os) [] tokens rest other end d (mid, (no_till, x), more) none f y =
-      let P : List T → Type 0 = λ l. till l d end in absurd (no_till d end (subst P f y))
-  more_turns (o ∷ os) (p ∷ ps) tokens rest other end d (mid, (no_till, x), more) none
-      (mid2, (lacks, y), more2) z =
-      let P : List T → Type 0 = λ l. Each (Turn item till) l os rest in
-      let (fewer, next) = more_turns os ps mid2 rest other end d
-      (subst P (unique.one tokens o p mid mid2 x y) more) none more2 z in
-      (omega (arith, fewer), next)
-
   pub turns_same : (os ps : List O) (tokens rest other end last : List T) (d e : D)
       → Each (Turn item till) tokens os rest → till rest d end
       → Each (Turn item till) tokens ps other → till other e last → rest ≡ other

@@ -7,7 +7,7 @@ use Rattle.streams.specs.Equal.{same_first, same_others, same_some}
 use Rattle.streams.specs.Reading.{Reading, units-nil}
 use Rattle.stream_sets.specs.Range.{Bounds, IsBelow, bounds_of}
 use Rattle.stream_sets.specs.declared.range.Range.{Range}
-use Rattle.grammars.specs.Grammar.{Ahead, Both, Each, Either, Gathered, Grammar, IsUnique}
+use Rattle.grammars.specs.Grammar.{Ahead, AndTaken, Both, Each, Either, Gathered, Grammar, IsUnique}
 use Rattle.grammars.specs.Grammar.{Literally, Made, Many, NoMatch, Nothing, Optional, Parted}
 use Rattle.grammars.specs.Grammar.{Repeated, Stops, Taken, TakesTokens, Token, TokenOf}
 
@@ -94,6 +94,11 @@ pub taken_unique : {T L O : Type 0} (reading : Reading T L) {g : Grammar T O} �
     → IsUnique (Taken reading g)
 unfolding Taken
 taken_unique reading = unique_by (λ tokens slice rest (o, x, shown). (o, x))
+
+pub and_taken_unique : {T L O : Type 0} (reading : Reading T L) {g : Grammar T O} → IsUnique g
+    → IsUnique (AndTaken reading g)
+unfolding AndTaken
+and_taken_unique reading = unique_by (λ tokens both rest (o, x, shown). (o, x))
 
 -- what is only looked at leaves all
 pub ahead_unique : {T O : Type 0} (g : Grammar T O) → IsUnique (Ahead g)
@@ -262,11 +267,6 @@ gathered_unique holds unique = record {
       unique.one tokens os ps rest other x y;
 }
 
-pub repeated_unique : {T O C : Type 0} (holds : C → List O → Type 0) (range : Range)
-    {g : Grammar T O} → IsUnique g → IsUnique (Repeated holds range g)
-repeated_unique holds range unique =
-    gathered_unique holds (many_unique unique (bounds_of range))
-
 -- one or more of what takes tokens take some
 pub repeated_take : {T O C : Type 0} (holds : C → List O → Type 0) (range : Range)
     {g : Grammar T O} → IsUnique g → TakesTokens g → ◌<◌ 0 (bounds_of range).least
@@ -344,20 +344,23 @@ gathered_takes holds takes = record {
   fewer = λ tokens all rest (os, held, x). takes.fewer tokens os rest x;
 }
 
--- a match of `grammar` whose output `makes` turns into `u`
-abbrev pub MadeBy : {T O U : Type 0} → (List T → O → List T → U → Type 0) → Grammar T O
-    → Grammar T U
-MadeBy {T} {O} makes grammar tokens u rest =
-    (o : O) × grammar tokens o rest × makes tokens o rest u
-
-pub made_takes : {T O U : Type 0} {g : Grammar T O}
-    (makes : List T → O → List T → U → Type 0) → TakesTokens g → TakesTokens (MadeBy makes g)
-made_takes makes some = record { fewer = λ tokens u rest (o, x, m). some.fewer tokens o rest x }
-
 pub made_of_takes : {F T O U : Type 0} {g : Grammar T O} (makes : F → O → U → Type 0) (f : F)
     → TakesTokens g → TakesTokens (Made makes f g)
 unfolding Made
-made_of_takes makes f some = made_takes (λ tokens o rest u. makes f o u) some
+made_of_takes makes f some =
+    record { fewer = λ tokens u rest (o, x, is_made). some.fewer tokens o rest x }
+
+pub taken_takes : {T L O : Type 0} {g : Grammar T O} (reading : Reading T L) → TakesTokens g
+    → TakesTokens (Taken reading g)
+unfolding Taken
+taken_takes reading some =
+    record { fewer = λ tokens slice rest (o, x, shown). some.fewer tokens o rest x }
+
+pub and_taken_takes : {T L O : Type 0} {g : Grammar T O} (reading : Reading T L) → TakesTokens g
+    → TakesTokens (AndTaken reading g)
+unfolding AndTaken
+and_taken_takes reading some =
+    record { fewer = λ tokens both rest (o, x, shown). some.fewer tokens o rest x }
 
 module _ {T : Type 0} where
   -- nothing leaves what was there

@@ -1,19 +1,20 @@
 -- Grammars of `alt`, `opt`, `cond`, `peek`, `not` and `cut_err`.
-use Rattle.std.specs.Prelude.{◌≡◌, Bool, true, List, Option}
+use Rattle.std.specs.Prelude.{◌≡◌, Bool, true, List, [], Option}
 use Rattle.std.proofs.Common.{refl, sym, ap, ◌∙◌, inl, inr}
 use Rattle.streams.specs.Equal.{true_is_false}
-use Rattle.stream_errors.specs.Form.{ErrorForm}
-use Rattle.grammars.specs.Grammar.{Ahead, Either, Grammar, NoMatch, NotAhead, Optional, When}
+use Rattle.grammars.specs.Grammar.{Ahead, Either, Grammar, IsUnique, NoMatch, NotAhead, Optional}
+use Rattle.grammars.specs.Grammar.{When}
+use Rattle.grammars.specs.Grammar.Unique.{ahead_unique, either_takes, either_unique}
+use Rattle.grammars.specs.Grammar.Unique.{optional_unique}
 use Rattle.parser_definitions.specs.Alt.{AltDoes}
+use Rattle.parser_definitions.specs.Claim.{Claim, Claimed}
 use Rattle.parser_definitions.specs.Opt.{OptDoes}
 use Rattle.parser_definitions.specs.Outcome.{Does}
 use Rattle.parser_definitions.specs.Peek.{CondDoes, CutErrDoes, IsNotCalled, NotDoes}
 use Rattle.parser_definitions.specs.Peek.{PeekDoes}
-use Rattle.parser_definitions.specs.Projects.{Projects, reads_cases, reads_given}
-use Rattle.parser_definitions.specs.Projects.{reads_of, reads_takes}
-use Rattle.parser_definitions.specs.Projects.Once.{with_one}
-use Rattle.parser_definitions.specs.Projects.Then.{asks_read, cuts_read}
-use Rattle.parser_definitions.specs.Projects.Then.{cuts_read_start, else_reads, in_reads}
+use Rattle.parser_definitions.specs.Projects.{Complete, Projects, projects_as, reads_cases}
+use Rattle.parser_definitions.specs.Projects.{reads_given, reads_takes}
+use Rattle.parser_definitions.specs.Projects.Then.{cuts_read, cuts_read_start, else_reads, in_reads}
 use Rattle.parser_definitions.specs.Projects.Then.{start_reads, takes_none_reads, takes_reads}
 use Rattle.parser_definitions.specs.Projects.Then.{then_reads, where_reads}
 use Rattle.parser_definitions.specs.Then.Steps.{instead, second, with_first}
@@ -21,101 +22,139 @@ use Rattle.parser_definitions.specs.Then.Steps.{with_second}
 
 -- ---- `opt`, `peek`, `not` and `cut_err`
 
-module _ {S T O : Type 0} {does : Does S T O} {form : ErrorForm} {s : S} {g : Grammar T O}
-    (p : Projects does form s g) where
-  pub opt_projects : Projects (OptDoes does) form s (Optional g)
+module _ {S T O : Type 0} {b m : Type 0} {does : Does S T O} {at : Complete} {s : S}
+    {g : Grammar T O} (p : Projects b m does at s g) where
+  -- The child does not cut.
+  pub opt_projects : {c : Type 0} → b → Projects c m (OptDoes does) at s (Optional g)
   unfolding Optional
-  opt_projects = with_one (then_reads (reads_of p) (record {
-    took = λ w o end x. takes_reads instead w end (inl (o, refl, x));
-    backs = λ w end none. takes_none_reads instead w end (inr (refl, none, refl));
-    cuts = λ w end. cuts_read instead w end;
-    asks = λ need w end. asks_read instead w end need;
-  })) one
-    where
-      one : (tokens : List T) (o q : Option O) (rest end : List T)
-          → Optional g tokens o rest → Optional g tokens q end → rest ≡ end
-      one tokens o q rest end (inl (x, e, a)) (inl (y, f, b)) = p.one tokens x y rest end a b
-      one tokens o q rest end (inl (x, e, a)) (inr (f, none, b)) = absurd (none x rest a)
-      one tokens o q rest end (inr (e, none, a)) (inl (y, f, b)) = absurd (none y end b)
-      one tokens o q rest end (inr (e, none, a)) (inr (f, other, b)) = a ∙ sym b
+  opt_projects soft = record {
+    reads = then_reads p.reads (record {
+      took = λ w o left x. takes_reads instead w left refl (inl (o, refl, x));
+      backs = λ w left none. takes_none_reads instead w left refl (inr (refl, none, refl));
+      cuts = λ w left none not. absurd (not soft);
+    });
+    unique = optional_unique p.unique;
+  }
 
-  pub peek_projects : Projects (PeekDoes does) form s (Ahead g)
+  pub peek_projects : Projects b m (PeekDoes does) at s (Ahead g)
   unfolding Ahead
-  peek_projects = with_one (then_reads (reads_of p) (record {
-    took = λ w o end x. takes_none_reads instead w end (end.1.tokens, x, refl);
-    backs = λ w end none. start_reads instead w end (λ o rest (last, x, e). none o last x);
-    cuts = λ w end. cuts_read_start instead w end;
-    asks = λ need w end. record { takes = λ u last e. absurd (cc); fails = λ last e. absurd (cc) };
-  })) (λ tokens o q rest end (l, x, e) (m, y, f). e ∙ sym f)
+  peek_projects = record {
+    reads = then_reads p.reads (record {
+      took = λ w o left x. takes_none_reads instead w left refl (left.tokens, x, refl);
+      backs = λ w left none. start_reads instead w left refl (λ o rest (last, x, e). none o last x);
+      cuts = λ w left none not.
+          cuts_read_start instead w left refl (λ o rest (last, x, e). none o last x) not;
+    });
+    unique = ahead_unique g;
+  }
 
-  pub not_projects : Projects (NotDoes does) form s (NotAhead g)
+  -- The child does not cut.
+  pub not_projects : {c : Type 0} → b → Projects c m (NotDoes does) at s (NotAhead g)
   unfolding NotAhead
-  not_projects = with_one (then_reads (reads_of p) (record {
-    took = λ w o end x. start_reads instead w end (λ u rest (none, e). none o end.1.tokens x);
-    backs = λ w end none. takes_none_reads instead w end (none, refl);
-    cuts = λ w end. cuts_read_start instead w end;
-    asks = λ need w end. record { takes = λ u last e. absurd (cc); fails = λ last e. absurd (cc) };
-  })) (λ tokens o q rest end (none, e) (nothing, f). e ∙ sym f)
+  not_projects soft = record {
+    reads = then_reads p.reads (record {
+      took = λ w o left x.
+          start_reads instead w left refl (λ u rest (none, e). none o left.tokens x);
+      backs = λ w left none. takes_none_reads instead w left refl (none, refl);
+      cuts = λ w left none not. absurd (not soft);
+    });
+    unique = record {
+      ends = λ tokens u rest (none, e). ([], sym e);
+      one = λ tokens u v rest other (none, e) (nothing, f). e ∙ sym f;
+    };
+  }
 
-  pub cut_err_projects : Projects (CutErrDoes does) form s g
-  cut_err_projects = with_one (then_reads (reads_of p) (record {
-    took = λ w o end x. takes_reads instead w end x;
-    backs = λ w end none. cuts_read instead w end;
-    cuts = λ w end. cuts_read instead w end;
-    asks = λ need w end. asks_read instead w end need;
-  })) p.one
+  pub cut_err_projects : Projects ⊥ m (CutErrDoes does) at s g
+  cut_err_projects = record {
+    reads = then_reads p.reads (record {
+      took = λ w o left x. takes_reads instead w left refl x;
+      backs = λ w left none. cuts_read instead w left refl none (λ never. never);
+      cuts = λ w left none not. cuts_read instead w left refl none (λ never. never);
+    });
+    unique = p.unique;
+  }
 
 -- ---- `cond`
 
-pub cond_projects : {S T O : Type 0} {does : Does S T O} {form : ErrorForm} {q : S × Bool}
-    {g : Grammar T O} → Projects does form q.0 g
-    → Projects (CondDoes does) form q (When q.1 g)
+when_unique : {T O : Type 0} (condition : Bool) {g : Grammar T O} → IsUnique g
+    → IsUnique (When condition g)
 unfolding When
-cond_projects {S} {T} {O} {does} {form} {q} {g} p = with_one (reads_cases
-    (reads_given (λ q. q.1 ≡ true) (λ on. then_reads (reads_of p) (where_reads with_first
-    (λ w none u rest x. failed on w.tokens none u rest x)
-    (λ w o end x. takes_reads with_first w end (inl (on, o, refl, x))))))
-    (reads_takes IsNotCalled (λ w o rest (off, e, a). inr (off, e, ap (λ l. l.tokens) a)))) one
+when_unique {T} {O} condition {g} unique = record {
+  ends = λ tokens o rest it. elim it [
+    | inl (on, x, e, y) ↦ unique.ends tokens x rest y
+    | inr (off, e, same) ↦ ([], sym same)
+  ];
+  one = λ tokens o p rest other x y. one tokens rest other o p x y;
+}
+  where
+    one : (tokens rest other : List T) (o p : Option O) → When condition g tokens o rest
+        → When condition g tokens p other → rest ≡ other
+    one tokens rest other o p (inl (on, x, e, a)) (inl (also, y, f, b)) =
+        unique.one tokens x y rest other a b
+    one tokens rest other o p (inl (on, x, e, a)) (inr (off, f, b)) =
+        true_is_false (sym on ∙ off)
+    one tokens rest other o p (inr (off, e, a)) (inl (on, y, f, b)) =
+        true_is_false (sym on ∙ off)
+    one tokens rest other o p (inr (off, e, a)) (inr (also, f, b)) = a ∙ sym b
+
+pub cond_projects : {S T O : Type 0} {b m : Type 0} {does : Does S T O} {at : Complete}
+    {q : S × Bool} {g : Grammar T O} → Projects b m does at q.0 g
+    → Projects b m (CondDoes does) at q (When q.1 g)
+unfolding When
+cond_projects {T = T} {q = q} {g} p = record {
+  reads = reads_cases
+      (reads_given (λ q. q.1 ≡ true) (λ on. then_reads p.reads (where_reads with_first refl
+      (λ b. b) (λ w none. failed on w.tokens none)
+      (λ w o left x. takes_reads with_first w left refl (inl (on, o, refl, x))))))
+      (reads_takes IsNotCalled (λ w o rest (off, e, a). inr (off, e, ap (λ l. l.tokens) a)));
+  unique = when_unique q.1 p.unique;
+}
   where
     failed : q.1 ≡ true → (tokens : List T) → NoMatch g tokens → NoMatch (When q.1 g) tokens
     failed on tokens none u rest (inl (also, o, e, y)) = none o rest y
     failed on tokens none u rest (inr (off, e, y)) = true_is_false (sym on ∙ off)
 
-    one : (tokens : List T) (o r : Option O) (rest end : List T) → When q.1 g tokens o rest
-        → When q.1 g tokens r end → rest ≡ end
-    one tokens o r rest end (inl (on, x, e, a)) (inl (also, y, f, b)) =
-        p.one tokens x y rest end a b
-    one tokens o r rest end (inl (on, x, e, a)) (inr (off, f, b)) = true_is_false (sym on ∙ off)
-    one tokens o r rest end (inr (off, e, a)) (inl (on, y, f, b)) = true_is_false (sym on ∙ off)
-    one tokens o r rest end (inr (off, e, a)) (inr (also, f, b)) = a ∙ sym b
-
 -- ---- `alt`
 
-pub either_one : {T O : Type 0} {g h : Grammar T O}
-    → ((tokens : List T) (o p : O) (rest end : List T) → g tokens o rest → g tokens p end
-    → rest ≡ end)
-    → ((tokens : List T) (o p : O) (rest end : List T) → h tokens o rest → h tokens p end
-    → rest ≡ end)
-    → (tokens : List T) (o p : O) (rest end : List T) → Either g h tokens o rest
-    → Either g h tokens p end → rest ≡ end
+pub no_either : {T O : Type 0} (g h : Grammar T O) (tokens : List T) → NoMatch g tokens
+    → NoMatch h tokens → NoMatch (Either g h) tokens
 unfolding Either
-either_one one two tokens o p rest end (inl a) (inl b) = one tokens o p rest end a b
-either_one one two tokens o p rest end (inl a) (inr (none, b)) = absurd (none o rest a)
-either_one one two tokens o p rest end (inr (none, a)) (inl b) = absurd (none p end b)
-either_one one two tokens o p rest end (inr (none, a)) (inr (also, b)) = two tokens o p rest end a b
+no_either g h tokens none nothing o rest (inl x) = none o rest x
+no_either g h tokens none nothing o rest (inr (also, y)) = nothing o rest y
 
-pub alt_projects : {S1 S2 T O : Type 0} {does1 : Does S1 T O} {does2 : Does S2 T O}
-    {form : ErrorForm} {q : S1 × S2} {g h : Grammar T O} → Projects does1 form q.0 g
-    → Projects does2 form q.1 h → Projects (AltDoes does1 does2) form q (Either g h)
+-- The first branch does not cut.
+pub alt_projects : {S1 S2 T O : Type 0} {a b m : Type 0} {does1 : Does S1 T O}
+    {does2 : Does S2 T O} {at : Complete} {q : S1 × S2} {g h : Grammar T O} → a
+    → Projects a m does1 at q.0 g → Projects b m does2 at q.1 h
+    → Projects b m (AltDoes does1 does2) at q (Either g h)
 unfolding Either
-alt_projects {h = h} p1 p2 = with_one (then_reads (reads_of p1) (record {
-  took = λ w o end x. takes_reads with_first w end (inl x);
-  backs = λ w end none. else_reads with_first w end {g = h} (λ u rest y. inr (none, y))
-      (λ nothing u rest x. elim x [
-        | inl y ↦ none u rest y
-        | inr (also, y) ↦ nothing u rest y
-      ])
-      (in_reads second with_second (reads_of p2));
-  cuts = λ w end. cuts_read with_first w end;
-  asks = λ need w end. asks_read with_first w end need;
-})) (either_one p1.one p2.one)
+alt_projects {g = g} {h} soft p1 p2 = record {
+  reads = then_reads p1.reads (record {
+    took = λ w o left x. takes_reads with_first w left refl (inl x);
+    backs = λ w left none. else_reads with_first w left refl {g = h} (λ u rest y. inr (none, y))
+        (λ nothing. no_either g h w.tokens none nothing)
+        (in_reads second with_second refl p2.reads);
+    cuts = λ w left none not. absurd (not soft);
+  });
+  unique = either_unique p1.unique p2.unique;
+}
+
+-- one or the other
+abbrev pub or_else_claim : {T O : Type 0} → Claim T O → Claim T O → Claim T O
+or_else_claim first others = record {
+  premise = first.premise × first.backtracks × others.premise;
+  backtracks = others.backtracks;
+  spares_memory = first.spares_memory × others.spares_memory;
+  consumes = first.consumes × others.consumes;
+  grammar = Either first.grammar others.grammar;
+}
+
+-- that is kept
+pub or_else_claimed : {S1 S2 T O : Type 0} {c1 c2 : Claim T O} {does1 : Does S1 T O}
+    {does2 : Does S2 T O} {s : S1 × S2} → Claimed c1 s.0 does1 → Claimed c2 s.1 does2
+    → Claimed (or_else_claim c1 c2) s (AltDoes does1 does2)
+or_else_claimed first others = record {
+  projects = λ at is. alt_projects is.1 (projects_as (λ b. b) (λ m. m.0) (first.projects at is.0))
+      (projects_as (λ b. b) (λ m. m.1) (others.projects at is.2));
+  takes = λ is some. either_takes (first.takes is.0 some.0) (others.takes is.2 some.1);
+}

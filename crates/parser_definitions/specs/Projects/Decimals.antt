@@ -2,17 +2,18 @@
 use Rattle.std.specs.Prelude.{◌≡◌, ◌⊎◌, ◌<◌, ◌^◌, ℕ, ℤ, pos, neg_ℤ, true, List, [], ◌∷◌, ◌++◌}
 use Rattle.std.specs.Prelude.{length, Some}
 use Rattle.std.specs.Char.{digit_value}
-use Rattle.std.proofs.Common.{refl, sym, ap, subst, inl, inr, ◌∙◌, arith}
+use Rattle.std.proofs.Common.{refl, sym, ap, subst, inl, inr, ◌∙◌, arith, length-append}
 use Rattle.std.proofs.Math.Nat.{mul-le-mul_right, one-le-pow}
 use Rattle.std.proofs.lemmas.Bool.{cases_order}
 use Rattle.std.proofs.lemmas.Str.{digit_value_digit}
 use Rattle.streams.specs.Equal.{same_first, same_others, true_is_false}
 use Rattle.streams.specs.Place.{no_place}
 use Rattle.streams.specs.Reading.{Reading}
-use Rattle.stream_errors.specs.Form.{ErrorForm}
-use Rattle.grammars.specs.Grammar.{Grammar, NoMatch}
+use Rattle.stream_errors.specs.Form.{modal}
+use Rattle.grammars.specs.Grammar.{Grammar, IsUnique, NoMatch, TakesTokens}
+use Rattle.grammars.specs.Grammar.Same.{Same, unique_as}
 use Rattle.parser_definitions.specs.Class.{CharIsFunction}
-use Rattle.parser_definitions.specs.Digits.{AreCharacters, value_in}
+use Rattle.parser_definitions.specs.Digits.{AreCharacters, characters_length, value_in}
 use Rattle.parser_definitions.specs.Left.{Left}
 use Rattle.parser_definitions.specs.Number.{DecIntDoes, DecUintDoes, FitsApart, IsMisfit, IsNumber}
 use Rattle.parser_definitions.specs.Number.{NumberDoes, Numbers, signed_apart, signed_numbers}
@@ -22,63 +23,52 @@ use Rattle.parser_definitions.specs.NumberGrammar.{IsNumeralAt, IsSignedDecimalO
 use Rattle.parser_definitions.specs.NumberGrammar.{SignedDecimal}
 use Rattle.parser_definitions.specs.Numeral.{HasNone, HasNumeral, IsIncomplete}
 use Rattle.parser_definitions.specs.Numeral.Once.{numeral_or_none, one_numeral}
-use Rattle.parser_definitions.specs.Outcome.{Does}
-use Rattle.parser_definitions.specs.Projects.{Projects, Reads, complete, reads_after, reads_cases}
-use Rattle.parser_definitions.specs.Projects.{reads_fails, reads_takes}
+use Rattle.parser_definitions.specs.Projects.{Complete, Projects, Reads, complete, reads_after}
+use Rattle.parser_definitions.specs.Projects.{reads_cases, reads_fails, reads_takes}
 use Rattle.parser_definitions.specs.Projects.Numerals.{numeral_at, numeral_passed}
+use Rattle.parser_definitions.specs.Projects.Same.{same_projects}
 
-module _ {S N V K T L : Type 0} (g : Numbers N V) (seen : K → T) (code : K → ℕ)
-    (reading : Reading T L) (once : CharIsFunction seen code) (fits_apart : FitsApart g)
-    (form : ErrorForm) (s : S) where
-  -- the numeral that a call passes is that of a match
-  one_match : (w : Left T) (sign digits other more : List ℕ) (end : Left T) (front rest : List T)
-      → HasNumeral seen code reading g.signed (complete form) w sign digits end
-      → IsNumeralAt seen code g.signed w.tokens other more front rest
-      → (g.value sign digits ≡ g.value other more) × (end.tokens ≡ rest)
-  one_match w sign digits other more end front rest has is_match =
-      let (b, also, left) = numeral_passed seen code reading g.signed form w other more front rest
-      is_match in
-      let (same, (digit, place)) =
-      one_numeral seen code reading once (complete form) g.signed w sign other digits more end b has
-      also in (
-        ap (λ l. g.value l digits) same ∙ ap (λ l. g.value other l) digit,
-        ap (λ l. l.tokens) place ∙ left,
-      )
+module _ {N V K T L : Type 0} (g : Numbers N V) (seen : K → T) (code : K → ℕ)
+    (reading : Reading T L) (once : CharIsFunction seen code) (fits_apart : FitsApart g) where
+  module _ (at : Complete) where
+    -- the numeral that a call passes is that of a match
+    one_match : (w : Left T) (sign digits other more : List ℕ) (end : Left T) (front rest : List T)
+        → HasNumeral seen code reading g.signed (complete at) w sign digits end
+        → IsNumeralAt seen code g.signed w.tokens other more front rest
+        → (g.value sign digits ≡ g.value other more) × (end.tokens ≡ rest)
+    one_match w sign digits other more end front rest has is_match =
+        let (b, also, left) = numeral_passed seen code reading g.signed at w other more front rest
+        is_match in
+        let (same, (digit, place)) =
+        one_numeral seen code reading once (complete at) g.signed w sign other digits more end b has
+        also in (
+          ap (λ l. g.value l digits) same ∙ ap (λ l. g.value other l) digit,
+          ap (λ l. l.tokens) place ∙ left,
+        )
 
-  misfit : (w : Left T) → IsMisfit g seen code reading s (complete form) w
-      → NoMatch (NumeralOf g seen code) w.tokens
-  unfolding NumeralOf
-  misfit w (sign, digits, end, has, large) n rest (front, other, more, is_match, fit, is) =
-      let (same, left) = one_match w sign digits other more end front rest has is_match in
-      let P : V → Type 0 = λ v. g.misfits v in
-      fits_apart (g.value other more) fit (subst P same large)
+    module _ {S : Type 0} (s : S) where
+      misfit : (w : Left T) → IsMisfit g seen code reading s (complete at) w
+          → NoMatch (NumeralOf g seen code) w.tokens
+      unfolding NumeralOf
+      misfit w (sign, digits, end, has, large) n rest (front, other, more, is_match, fit, is) =
+          let (same, left) = one_match w sign digits other more end front rest has is_match in
+          let P : V → Type 0 = λ v. g.misfits v in
+          fits_apart (g.value other more) fit (subst P same large)
 
-  no_numeral : (w : Left T) → HasNone seen code reading g.signed s (complete form) w
-      → NoMatch (NumeralOf g seen code) w.tokens
-  unfolding NumeralOf
-  no_numeral w none n rest (front, sign, digits, is_match, fit, is) =
-      let (b, has, left) = numeral_passed seen code reading g.signed form w sign digits front rest
-      is_match in
-      numeral_or_none seen code reading once (complete form) g.signed s w sign digits b has none
+      no_numeral : (w : Left T) → HasNone seen code reading g.signed s (complete at) w
+          → NoMatch (NumeralOf g seen code) w.tokens
+      unfolding NumeralOf
+      no_numeral w none n rest (front, sign, digits, is_match, fit, is) =
+          let (b, has, left) = numeral_passed seen code reading g.signed at w sign digits front rest
+          is_match in
+          numeral_or_none seen code reading once (complete at) g.signed s w sign digits b has none
 
-  numeral_one : (tokens : List T) (m n : N) (rest end : List T)
-      → NumeralOf g seen code tokens m rest → NumeralOf g seen code tokens n end → rest ≡ end
-  unfolding NumeralOf
-  numeral_one tokens m n rest end (f, sign, digits, is_match, fit, is)
-      (h, other, more, also, fit2, be) =
-      let w : Left T = record { tokens = tokens; place = no_place; recorded = [] } in
-      let (b, has, left) = numeral_passed seen code reading g.signed form w sign digits f rest
-      is_match in
-      sym left ∙ (one_match w sign digits other more b h end has also).1
-
-  pub number_projects : Projects (NumberDoes g seen code reading) form s (NumeralOf g seen code)
-  unfolding NumeralOf
-  number_projects = record { takes = r.takes; fails = r.fails; one = numeral_one }
-    where
-      r : Reads (NumberDoes g seen code reading) form s (NumeralOf g seen code)
-      r = reads_cases
+      number_reads : {b m : Type 0} → Reads b m (NumberDoes g seen code reading) at s
+          (NumeralOf g seen code)
+      unfolding NumeralOf
+      number_reads = reads_cases
           (reads_takes (IsNumber g seen code reading) (λ w n rest (sign, digits, has, fit, is).
-          let (front, is_match) = numeral_at seen code reading g.signed (complete form) w sign
+          let (front, is_match) = numeral_at seen code reading g.signed (complete at) w sign
           digits rest has in
           (front, sign, digits, is_match, fit, is)))
           (reads_cases
@@ -87,6 +77,23 @@ module _ {S N V K T L : Type 0} (g : Numbers N V) (seen : K → T) (code : K →
           (reads_after (Some 1) (IsIncomplete seen code reading g.signed)
           (λ w place (sign, mid, passed, first, lacks, more, e). true_is_false (sym more)))
           (reads_fails (HasNone seen code reading g.signed) no_numeral)))
+
+  number_unique : IsUnique (NumeralOf g seen code)
+  unfolding NumeralOf
+  number_unique = record {
+    ends = λ tokens n rest (front, sign, digits, is_match, fit, is). (front, is_match.0);
+    one = λ tokens n o rest other (f, sign, digits, is_match, fit, is)
+        (h, others, more, also, fit2, be).
+        let w : Left T = record { tokens = tokens; place = no_place; recorded = [] } in
+        let at : Complete = record { form = modal; possible = true } in
+        let (b, has, left) = numeral_passed seen code reading g.signed at w sign digits f rest
+        is_match in
+        sym left ∙ (one_match at w sign digits others more b h other has also).1;
+  }
+
+  number_projects : {S b m : Type 0} (at : Complete) (s : S)
+      → Projects b m (NumberDoes g seen code reading) at s (NumeralOf g seen code)
+  number_projects at s = record { reads = number_reads at s; unique = number_unique }
 
 -- ---- numerals by their digits
 
@@ -139,21 +146,7 @@ leading_of digits n is some = elim (text_of digits n is) [
   | inr leads ↦ leads
 ]
 
--- a grammar with the same matches
-pub projects_as : {S T O : Type 0} {does : Does S T O} {form : ErrorForm} {s : S}
-    {g h : Grammar T O} → Projects does form s g
-    → ((tokens : List T) (o : O) (rest : List T) → g tokens o rest → h tokens o rest)
-    → ((tokens : List T) (o : O) (rest : List T) → h tokens o rest → g tokens o rest)
-    → Projects does form s h
-projects_as p there back = record {
-  takes = λ w o end d. there w.tokens o end.1.tokens (p.takes w o end d);
-  fails = λ w end d o rest is_match. p.fails w end d o rest (back w.tokens o rest is_match);
-  one = λ tokens o q rest end a b.
-      p.one tokens o q rest end (back tokens o rest a) (back tokens q end b);
-}
-
-module _ {S N K T L : Type 0} (number : N → ℕ) (bound : ℕ) (seen : K → T) (code : K → ℕ)
-    (reading : Reading T L) (once : CharIsFunction seen code) (form : ErrorForm) (s : S) where
+module _ {N K T : Type 0} (number : N → ℕ) (bound : ℕ) (seen : K → T) (code : K → ℕ) where
   Numeral : Grammar T N
   Numeral = NumeralOf (unsigned_numbers number bound) seen code
 
@@ -187,14 +180,37 @@ module _ {S N K T L : Type 0} (number : N → ℕ) (bound : ℕ) (seen : K → T
       (front, sign, digits, (e, chars, inr (may, c, is_sign, one, leads), stops), fits, is) =
       true_is_false (sym may)
 
-  pub dec_uint_projects : Projects (DecUintDoes number bound seen code reading) form s
+  pub decimal_takes : TakesTokens (Decimal number bound seen code)
+  unfolding Decimal
+  decimal_takes = record {
+    fewer = λ tokens n rest (front, digits, e, chars, is, stops, fits). omega (
+      arith,
+      ap (λ l. length l) e,
+      length-append front rest,
+      characters_length seen code front digits chars,
+      is.are.0,
+    );
+  }
+
+  same_decimal : Same Numeral (Decimal number bound seen code)
+  same_decimal = record { there = numeral_decimal; back = decimal_numeral }
+
+  pub decimal_unique : {L : Type 0} → Reading T L → CharIsFunction seen code
+      → IsUnique (Decimal number bound seen code)
+  unfolding Numeral
+  decimal_unique reading once = unique_as same_decimal
+      (number_unique (unsigned_numbers number bound) seen code reading once
+      (unsigned_apart number bound))
+
+  pub dec_uint_projects : {S L b m : Type 0} (reading : Reading T L) → CharIsFunction seen code
+      → (at : Complete) (s : S) → Projects b m (DecUintDoes number bound seen code reading) at s
       (Decimal number bound seen code)
   unfolding Numeral
-  dec_uint_projects = projects_as (number_projects (unsigned_numbers number bound) seen code reading
-      once (unsigned_apart number bound) form s) numeral_decimal decimal_numeral
+  dec_uint_projects reading once at s = same_projects same_decimal
+      (number_projects (unsigned_numbers number bound) seen code reading once
+      (unsigned_apart number bound) at s)
 
-module _ {S N K T L : Type 0} (number : N → ℤ) (fits : ℤ → Type 0) (seen : K → T) (code : K → ℕ)
-    (reading : Reading T L) (once : CharIsFunction seen code) (form : ErrorForm) (s : S) where
+module _ {N K T : Type 0} (number : N → ℤ) (fits : ℤ → Type 0) (seen : K → T) (code : K → ℕ) where
   Signed : Grammar T N
   Signed = NumeralOf (signed_numbers number fits) seen code
 
@@ -255,8 +271,24 @@ module _ {S N K T L : Type 0} (number : N → ℤ) (fits : ℤ → Type 0) (seen
     subst fits (sym value) fit,
   )
 
-  pub dec_int_projects : Projects (DecIntDoes number fits seen code reading) form s
+  pub signed_takes : TakesTokens (SignedDecimal number fits seen code)
+  unfolding SignedDecimal
+  signed_takes = record {
+    fewer = λ tokens n rest (front, sign, digits, e, chars, (v, is, signs), stops, fit). omega (
+      arith,
+      ap (λ l. length l) e,
+      length-append front rest,
+      characters_length seen code front (sign ++ digits) chars,
+      length-append sign digits,
+      is.are.0,
+    );
+  }
+
+  pub dec_int_projects : {S L b m : Type 0} (reading : Reading T L) → CharIsFunction seen code
+      → (at : Complete) (s : S) → Projects b m (DecIntDoes number fits seen code reading) at s
       (SignedDecimal number fits seen code)
   unfolding Signed
-  dec_int_projects = projects_as (number_projects (signed_numbers number fits) seen code reading
-      once (signed_apart number fits) form s) signed_decimal decimal_signed
+  dec_int_projects reading once at s = same_projects
+      (record { there = signed_decimal; back = decimal_signed })
+      (number_projects (signed_numbers number fits) seen code reading once
+      (signed_apart number fits) at s)

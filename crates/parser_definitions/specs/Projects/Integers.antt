@@ -1,45 +1,39 @@
 -- Grammars of parsers of integers.
-use Rattle.std.specs.Prelude.{◌≡◌, ◌<◌, ℕ, List, ◌++◌, length}
-use Rattle.std.proofs.Common.{sym, ap, ◌∙◌, arith, length-append}
+use Rattle.std.specs.Prelude.{⊤, ◌<◌, ℕ, suc, List, length}
+use Rattle.std.proofs.Common.{ap, arith, length-append}
 use Rattle.streams.specs.Reading.{Reading}
-use Rattle.stream_errors.specs.Form.{ErrorForm}
-use Rattle.grammars.specs.Grammar.{Grammar, IsUnique}
-use Rattle.grammars.specs.Grammar.Lengths.{SaysOne, same_beginnings}
-use Rattle.parser_definitions.specs.Integer.{AreBytes, IntegerDoes, IsInteger, missing_bytes}
-use Rattle.parser_definitions.specs.Projects.{Projects, projects, reads_cases, reads_lacks}
-use Rattle.parser_definitions.specs.Projects.{reads_takes}
+use Rattle.parser_definitions.specs.Claim.{Claim, Claimed}
+use Rattle.parser_definitions.specs.Integer.{IntegerDoes, IsInteger, missing_bytes}
+use Rattle.parser_definitions.specs.IntegerGrammar.{Integer, integer_takes, integer_unique}
+use Rattle.parser_definitions.specs.Projects.{reads_cases, reads_lacks, reads_takes}
 
--- The tokens start with `width` bytes, and their value is the output.
-unfoldable pub Integer : {O : Type 0} → ℕ → (List ℕ → O) → Grammar ℕ O
-Integer width value tokens o rest =
-    (bytes : List ℕ) × (length bytes ≡ width) × AreBytes bytes × (tokens ≡ bytes ++ rest)
-    × (o ≡ value bytes)
-
-pub integer_unique : {O : Type 0} (width : ℕ) (value : List ℕ → O)
-    → IsUnique (Integer width value)
-unfolding Integer
-integer_unique width value = record {
-  ends = λ tokens o rest (bytes, many, are, e, is). (bytes, e);
-  one = λ tokens o p rest end (xs, n, are, e, is) (ys, m, are2, f, is2).
-      (same_beginnings xs ys rest end (n ∙ sym m) (sym e ∙ f)).1;
+-- The claim of an integer: its bytes.
+abbrev pub integer_claim : {O : Type 0} → ℕ → (List ℕ → O) → Claim ℕ O
+integer_claim width value = record {
+  premise = ⊤;
+  backtracks = ⊤;
+  spares_memory = ⊤;
+  consumes = ⊤;
+  grammar = Integer width value;
 }
 
--- so an integer is one length
-pub integer_says : {O : Type 0} (width : ℕ) (value : List ℕ → O) (number : O → ℕ)
-    → SaysOne number (Integer width value)
-unfolding Integer
-integer_says width value number tokens o p rest end (xs, n, are, e, is) (ys, m, are2, f, is2) =
-    let same = (same_beginnings xs ys rest end (n ∙ sym m) (sym e ∙ f)).0 in
-    ap number is ∙ ap (λ l. number (value l)) same ∙ sym (ap number is2)
+-- a width is some, as it is written
+pub some_bytes : (n : ℕ) → 0 < suc n
+some_bytes n = omega arith
 
-pub integer_projects : {X L O : Type 0} (width : ℕ) (value : X → List ℕ → O)
-    (reading : Reading ℕ L) (form : ErrorForm) (x : X)
-    → Projects (IntegerDoes width value reading) form x (Integer width (value x))
+pub integer_claimed : {X L O : Type 0} (width : ℕ) (value : X → List ℕ → O) (reading : Reading ℕ L)
+    (x : X) → 0 < width → Claimed (integer_claim width (value x)) x
+    (IntegerDoes width value reading)
 unfolding Integer
-integer_projects width value reading form x = projects (integer_unique width (value x))
-    (reads_cases
-    (reads_takes (IsInteger width value reading) (λ w o rest (f, many, are, p, e).
-    (f, many, are, p.tokens, e)))
-    (reads_lacks (missing_bytes width value reading) (λ x at w. length w.tokens < width)
-    (λ w few o rest (f, many, are, e, is).
-    absurd (omega (arith, few, many, ap (λ l. length l) e, length-append f rest)))))
+integer_claimed width value reading x some = record {
+  projects = λ at is. record {
+    reads = reads_cases
+        (reads_takes (IsInteger width value reading) (λ w o rest (f, many, are, p, e).
+        (f, many, are, p.tokens, e)))
+        (reads_lacks (missing_bytes width value reading) (λ x at w. length w.tokens < width)
+        (λ w few o rest (f, many, are, e, is).
+        absurd (omega (arith, few, many, ap (λ l. length l) e, length-append f rest))));
+    unique = integer_unique width (value x);
+  };
+  takes = λ is consumes. integer_takes width (value x) some;
+}

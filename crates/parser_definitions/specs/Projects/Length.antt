@@ -1,147 +1,119 @@
 -- Grammars of length-prefixed parsers.
-use Rattle.std.specs.Prelude.{◌≡◌, ℕ, Bool, List, ◌++◌, length, Option}
+use Rattle.std.specs.Prelude.{◌≡◌, ⊤, ℕ, Bool, true, List, ◌++◌, length}
 use Rattle.std.proofs.Common.{refl, sym, ap, subst, ◌∙◌, arith, length-append}
 use Rattle.streams.specs.Reading.{Reading}
-use Rattle.stream_errors.specs.Form.{ErrorForm}
-use Rattle.grammars.specs.Grammar.{Counted, Grammar, NoMatch}
-use Rattle.grammars.specs.Grammar.Lengths.{Inside, SaysOne, Sized, same_beginnings}
-use Rattle.parser_definitions.specs.Does.{Lawful}
+use Rattle.stream_errors.specs.Form.{modal}
+use Rattle.grammars.specs.Grammar.{Counted, Grammar, IsUnique, NoMatch, TakesTokens}
+use Rattle.grammars.specs.Grammar.Lengths.{Inside, SaysOne, Sized, inside_unique, same_beginnings}
+use Rattle.grammars.specs.Grammar.Lengths.{sized_takes, sized_unique}
 use Rattle.parser_definitions.specs.Left.{End, Left}
 use Rattle.parser_definitions.specs.Length.{LengthAndThenDoes, LengthDoes, LengthTakeDoes, TakenDo}
-use Rattle.parser_definitions.specs.Length.{WithTaken, leaving, only}
+use Rattle.parser_definitions.specs.Length.{leaving, only}
 use Rattle.parser_definitions.specs.Outcome.{Does, Outcome, asks, backs, cuts, took, wants}
-use Rattle.parser_definitions.specs.Projects.{Projects, Reads, complete, reads_cases, reads_lacks}
-use Rattle.parser_definitions.specs.Projects.{reads_of, same_left, same_taken}
-use Rattle.parser_definitions.specs.Projects.Then.{in_reads, then_reads, where_reads}
+use Rattle.parser_definitions.specs.Projects.{Agreement, Complete, Projects, agrees_by}
+use Rattle.parser_definitions.specs.Projects.{reads_cases, reads_lacks}
+use Rattle.parser_definitions.specs.Projects.Then.{behind_reads, in_reads, then_reads}
+use Rattle.parser_definitions.specs.Projects.Then.{where_reads}
 use Rattle.parser_definitions.specs.Projects.Tokens.{take_projects}
 use Rattle.parser_definitions.specs.Take.{AreTooFew, TakeDoes, missing_from}
 use Rattle.parser_definitions.specs.Then.Steps.{In, first, instead, same, second, with_first}
 use Rattle.parser_definitions.specs.Then.Steps.{with_second}
 
-module _ {S Q T N O : Type 0} (get : Q → S) (put : Q → S → Q) (number : N → ℕ)
-    {count : Does S T N} (following : ℕ → Does Q T O) (form : ErrorForm) (q : Q) {g : Grammar T N}
-    (behind : ℕ → Grammar T O) (p : Projects count form (get q) g)
-    (each : (n : ℕ) (t : S) → Projects (following n) form (put q t) (behind n))
-    (says : SaysOne number g) where
-  pub length_reads : Reads (LengthDoes get put number count following) form q
+module _ {S Q T N O : Type 0} {b m : Type 0} (get : Q → S) (put : Q → S → Q) (number : N → ℕ)
+    {count : Does S T N} (following : ℕ → Does Q T O) {at : Complete} {q : Q} {g : Grammar T N}
+    (behind : ℕ → Grammar T O) (again : put q (get q) ≡ q) (p : Projects b m count at (get q) g)
+    (each : (n : ℕ) → Projects b m (following n) at q (behind n)) (says : SaysOne number g) where
+  -- after a length each match begins with it
+  length_one : (tokens mid : List T) (n : N) → g tokens n mid
+      → NoMatch (behind (number n)) mid → NoMatch (Sized number behind g) tokens
+  unfolding Sized
+  length_one tokens mid n x none o rest (k, other, y, z) =
+      let P : List T → Type 0 = λ l. behind (number k) l o rest in
+      let R : ℕ → Type 0 = λ i. behind i mid o rest in
+      none o rest (subst R (says tokens k n other mid y x)
+      (subst P (p.unique.one tokens k n other mid y x) z))
+
+  pub length_projects : Projects b m (LengthDoes get put number count following) at q
       (Sized number behind g)
   unfolding Sized
-  length_reads = then_reads (reads_of p) (where_reads put
-      (λ w none o rest (n, mid, x, y). none n mid x)
-      (λ w n end is_match. record {
-        takes = λ u last d.
-            (n, end.1.tokens, is_match, (each (number n) end.0).takes end.1 u last d);
-        fails = λ last d o rest (m, mid, x, y).
-            let P : List T → Type 0 = λ l. behind (number m) l o rest in
-            let R : ℕ → Type 0 = λ k. behind k end.1.tokens o rest in
-            (each (number n) end.0).fails end.1 last d o rest
-            (subst R (says w.tokens m n mid end.1.tokens x is_match)
-            (subst P (p.one w.tokens m n mid end.1.tokens x is_match) y));
-      }))
-
-  length_one : (tokens : List T) (o u : O) (rest end : List T)
-      → Sized number behind g tokens o rest → Sized number behind g tokens u end → rest ≡ end
-  unfolding Sized
-  length_one tokens o u rest end (n, mid, x, y) (m, other, z, v) =
-      let P : List T → Type 0 = λ l. behind (number m) l u end in
-      let R : ℕ → Type 0 = λ k. behind k mid u end in
-      let there = subst P (p.one tokens m n other mid z x) v in
-      (each (number n) (get q)).one mid o u rest end y
-      (subst R (says tokens m n other mid z x) there)
-
-  pub length_projects : Projects (LengthDoes get put number count following) form q
-      (Sized number behind g)
-  length_projects =
-      record { takes = length_reads.takes; fails = length_reads.fails; one = length_one }
+  length_projects = record {
+    reads = then_reads p.reads (where_reads put again (λ b. b)
+        (λ w none o rest (n, mid, x, y). none n mid x)
+        (λ w n left x. behind_reads put w left again (λ o rest y. (n, left.tokens, x, y))
+        (length_one w.tokens left.tokens n x) (each (number n)).reads));
+    unique = sized_unique number behind p.unique (λ n. (each n).unique) says;
+  }
 
 -- ---- `length_take`
 
-pub length_take_projects : {S T N L : Type 0} (number : N → ℕ) (reading : Reading T L)
-    (counts : Bool) {count : Does S T N} (form : ErrorForm) (s : S) {g : Grammar T N}
-    → Projects count form s g → SaysOne number g
-    → Projects (LengthTakeDoes number reading counts count) form s
+pub length_take_projects : {S T N L : Type 0} {b m : Type 0} (number : N → ℕ)
+    (reading : Reading T L) (counts : Bool) {count : Does S T N} {at : Complete} {s : S}
+    {g : Grammar T N} → Projects b m count at s g → SaysOne number g
+    → Projects b m (LengthTakeDoes number reading counts count) at s
     (Sized number (Counted reading) g)
-length_take_projects number reading counts form s p says =
-    length_projects same instead number (λ n. TakeDoes reading counts (λ s. n)) form s
-    (Counted reading) p (λ n t. take_projects reading counts (λ s. n) form t) says
+length_take_projects number reading counts p says =
+    length_projects same instead number (λ n. TakeDoes reading counts (λ s. n))
+    (Counted reading) refl p (λ n. take_projects reading counts (λ s. n)) says
+
+-- a length that takes tokens takes some with those after it
+pub length_take_takes : {T N L : Type 0} (number : N → ℕ) (reading : Reading T L)
+    {g : Grammar T N} → IsUnique g → TakesTokens g
+    → TakesTokens (Sized number (Counted reading) g)
+length_take_takes number reading first takes = sized_takes number (Counted reading) first
+    (λ n. (take_projects {b = ⊤} {m = ⊤} {at = record { form = modal; possible = true }} {x = n}
+    reading true (λ k. k)).unique) takes
 
 -- ---- `length_and_then`
 
--- The child is not incomplete on complete input.
-abbrev pub NeverAsks : {S T O : Type 0} → Does S T O → ErrorForm → S → Type 0
-NeverAsks {S} {T} does form s =
-    (w : Left T) (need : Option ℕ) (end : End S T) → does (complete form) s w (asks need end) → ⊥
-
-pub never_asks_of : {S T O : Type 0} {stable : Type 0} {alike : O → O → Type 0}
-    {does : Does S T O} → Lawful stable alike does → (form : ErrorForm) (s : S)
-    → NeverAsks does form s
-never_asks_of law form s w need end d = law.whole (complete form) s w need end refl d
-
-module _ {S T L O : Type 0} (reading : Reading T L) (counts : Bool) {does : Does S T O}
-    (form : ErrorForm) (s : S) {g : Grammar T O} (p : Projects does form s g)
-    (never : NeverAsks does form s) (n : ℕ) where
-  with_takes : (w rest : Left T) (taken : List T) (o : O) (end : End S T)
-      (x : Outcome (End S T) O) → does (complete form) s (only taken w) x
-      → took o end ≡ leaving rest x
-      → (last : List T) × g taken o last × (end.1 ≡ rest)
-  with_takes w rest taken o end (took u last) d e =
-      let P : O → Type 0 = λ z. g taken z last.1.tokens in (
-        last.1.tokens,
-        subst P (sym (same_taken e)) (p.takes (only taken w) u last d),
-        ap (λ l. l.1) (same_left e),
-      )
-  with_takes w rest taken o end (backs last) d e = absurd (cc)
-  with_takes w rest taken o end (cuts last) d e = absurd (cc)
-  with_takes w rest taken o end (asks need last) d e = absurd (cc)
-  with_takes w rest taken o end wants d e = absurd (cc)
-
-  with_fails : (w rest : Left T) (taken : List T) (end : End S T)
-      (x : Outcome (End S T) O) → does (complete form) s (only taken w) x
-      → backs end ≡ leaving rest x → NoMatch g taken
-  with_fails w rest taken end (took u last) d e = absurd (cc)
-  with_fails w rest taken end (backs last) d e = p.fails (only taken w) last d
-  with_fails w rest taken end (cuts last) d e = absurd (cc)
-  with_fails w rest taken end (asks need last) d e = absurd (never (only taken w) need last d)
-  with_fails w rest taken end wants d e = absurd (cc)
-
-  pub taken_projects : Projects (TakenDo reading counts does n) form s (Inside g n)
+module _ {S T L O : Type 0} {b m : Type 0} (reading : Reading T L) (counts : Bool)
+    {does : Does S T O} {at : Complete} {s : S} {g : Grammar T O} (p : Projects b m does at s g)
+    (n : ℕ) where
+  -- the outcome of the child on the first tokens is one of the whole
+  leaving_agrees : (w rest : Left T) (taken : List T) → length taken ≡ n
+      → w.tokens ≡ taken ++ rest.tokens → (x : Outcome (End S T) O)
+      → Agreement b m s g taken x → Agreement b m s (Inside g n) w.tokens (leaving rest x)
   unfolding Inside
-  taken_projects = record { takes = r.takes; fails = r.fails; one = one }
+  leaving_agrees w rest taken many split = by
     where
-      with_reads : Reads (WithTaken reading does n) form s (Inside g n)
-      with_reads = record {
-        takes = λ w o end (f, rest, x, many, q, d, e).
-            let (last, is_match, same) = with_takes w rest f o end x d e in
-            (f, last, many, q.tokens ∙ ap (λ l. f ++ l.tokens) (sym same), is_match);
-        fails = λ w end (f, rest, x, many, q, d, e) o other (h, last, too, split, is_match).
-            let P : List T → Type 0 = λ l. g l o last in
-            with_fails w rest f end x d e o last
-            (subst P (sym (same_beginnings f h rest.tokens other (many ∙ sym too)
-            (sym q.tokens ∙ split)).0) is_match);
-      }
+      none_inside : NoMatch g taken → NoMatch (Inside g n) w.tokens
+      none_inside none o other (front, last, too, parts, y) =
+          let P : List T → Type 0 = λ l. g l o last in
+          none o last (subst P (same_beginnings front taken other rest.tokens (too ∙ sym many)
+          (sym parts ∙ split)).0 y)
 
-      r : Reads (TakenDo reading counts does n) form s (Inside g n)
-      r = reads_cases with_reads
-          (reads_lacks (missing_from reading counts (λ s. n)) (AreTooFew reading counts (λ s. n))
-          (λ w few o rest (f, last, many, split, is_match).
-          absurd (omega (arith, few, many, ap (λ l. length l) split, length-append f rest))))
+      by : (x : Outcome (End S T) O) → Agreement b m s g taken x
+          → Agreement b m s (Inside g n) w.tokens (leaving rest x)
+      by (took o end) (y, kept) = ((taken, end.1.tokens, many, split, y), kept)
+      by (backs end) (none, kept) = (none_inside none, kept)
+      by (cuts end) (none, kept, not) = (none_inside none, kept, not)
+      by (asks need end) never = absurd never
+      by wants not = not
 
-      one : (tokens : List T) (o u : O) (rest end : List T) → Inside g n tokens o rest
-          → Inside g n tokens u end → rest ≡ end
-      one tokens o u rest end (f, last, many, split, is_match) (h, other, too, parts, also) =
-          (same_beginnings f h rest end (many ∙ sym too) (sym split ∙ parts)).1
+  pub taken_projects : Projects b m (TakenDo reading counts does n) at s (Inside g n)
+  unfolding Inside
+  taken_projects = record {
+    reads = reads_cases
+        (record {
+          agrees = λ w y (taken, rest, x, many, passed, d, e). agrees_by e
+              (leaving_agrees w rest taken many passed.tokens x
+              (p.reads.agrees (only taken w) x d).is);
+        })
+        (reads_lacks (missing_from reading counts (λ s. n)) (AreTooFew reading counts (λ s. n))
+        (λ w few o rest (front, last, many, split, y).
+        absurd (omega (arith, few, many, ap (λ l. length l) split, length-append front rest))));
+    unique = inside_unique g n;
+  }
 
-pub length_and_then_projects : {V S T N L O : Type 0} (number : N → ℕ) (reading : Reading T L)
-    (counts : Bool) {count : Does V T N} {does : Does S T O} (form : ErrorForm) (q : V × S)
-    {g : Grammar T N} {h : Grammar T O} → Projects count form q.0 g → SaysOne number g
-    → Projects does form q.1 h → NeverAsks does form q.1
-    → Projects (LengthAndThenDoes reading number counts count does) form q
+pub length_and_then_projects : {V S T N L O : Type 0} {b m : Type 0} (number : N → ℕ)
+    (reading : Reading T L) (counts : Bool) {count : Does V T N} {does : Does S T O}
+    {at : Complete} {q : V × S} {g : Grammar T N} {h : Grammar T O}
+    → Projects b m count at q.0 g → SaysOne number g → Projects b m does at q.1 h
+    → Projects b m (LengthAndThenDoes reading number counts count does) at q
     (Sized number (Inside h) g)
-length_and_then_projects number reading counts {does = does} form q {h = h} p says c never =
+length_and_then_projects number reading counts {does = does} {h = h} p says c =
     length_projects first with_first number
-    (λ n. In second with_second (TakenDo reading counts does n)) form q (Inside h) p
-    (λ n t.
-    let r = taken_projects reading counts form q.1 c never n in
-    let i = in_reads second with_second (reads_of r) in
-    record { takes = i.takes; fails = i.fails; one = r.one })
-    says
+    (λ n. In second with_second (TakenDo reading counts does n)) (Inside h) refl p
+    (λ n. record {
+      reads = in_reads second with_second refl (taken_projects reading counts c n).reads;
+      unique = inside_unique h n;
+    }) says

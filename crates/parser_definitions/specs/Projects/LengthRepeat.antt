@@ -1,21 +1,22 @@
 -- The grammar of `length_repeat`.
 use Rattle.std.specs.Prelude.{ℕ, List, Some}
-use Rattle.std.proofs.Common.{sym, ap, subst, inl, inr, arith}
-use Rattle.streams.specs.Equal.{none_is_some, same_some}
-use Rattle.stream_errors.specs.Form.{ErrorForm}
-use Rattle.stream_sets.specs.Accumulator.{Accumulator}
+use Rattle.std.proofs.Common.{refl, sym, ap, inl, inr, arith}
+use Rattle.streams.specs.Equal.{same_some}
+use Rattle.stream_sets.specs.Accumulator.{Accumulator, Wants}
 use Rattle.stream_sets.specs.Accumulator.Holds.{Holds}
 use Rattle.grammars.specs.Grammar.{Gathered, Grammar, Many, TakesTokens}
 use Rattle.grammars.specs.Grammar.Lengths.{SaysOne, Sized, Times}
+use Rattle.grammars.specs.Grammar.Same.{Same}
+use Rattle.grammars.specs.Grammar.Unique.{gathered_unique, many_unique}
 use Rattle.parser_definitions.specs.Folding.{gathering}
 use Rattle.parser_definitions.specs.LengthRepeat.{LengthRepeatDoes, times}
 use Rattle.parser_definitions.specs.Outcome.{Does}
-use Rattle.parser_definitions.specs.Projects.{Projects}
-use Rattle.parser_definitions.specs.Projects.Decimals.{projects_as}
-use Rattle.parser_definitions.specs.Projects.Gathers.{folds_map, repeated_projects}
+use Rattle.parser_definitions.specs.Projects.{Complete, Projects}
+use Rattle.parser_definitions.specs.Projects.Gathers.{many_reads}
 use Rattle.parser_definitions.specs.Projects.Length.{length_projects}
-use Rattle.parser_definitions.specs.Projects.Throughout.{Throughout}
-use Rattle.parser_definitions.specs.Repeat
+use Rattle.parser_definitions.specs.Projects.Repeats.{gathering_collects}
+use Rattle.parser_definitions.specs.Projects.Same.{same_projects}
+use Rattle.parser_definitions.specs.Repeat.{Many as ManyDo}
 use Rattle.parser_definitions.specs.Then.Steps.{first, second, with_first, with_second}
 
 -- as many matches as there are, but exactly `n`, are `n` matches
@@ -34,42 +35,21 @@ module _ {T C O : Type 0} (holds : C → List O → Type 0) (g : Grammar T O) (n
   times_many tokens all rest (os, held, many, each) =
       (os, held, (each, omega (arith, many), inl (ap (λ k. Some k) (sym many))))
 
-module _ {V S T C O : Type 0} (into : Accumulator C O) (holds : C → List O → Type 0)
-    (keeps : Holds into holds) {does : Does S T O} {form : ErrorForm} {within : S → Type 0}
-    {h : Grammar T O} (p : Throughout does form within h) (takes : TakesTokens h) (q : V × S)
-    (is : within q.1) (n : ℕ) where
-  abbrev Exactly : Does (V × S) T C
-  Exactly = Repeat.Many second with_second (gathering into) does (times n)
+  same_times : Same (Gathered holds (Many g (times n))) (Times holds g n)
+  same_times = record { there = many_times; back = times_many }
 
-  times_projects : Projects Exactly form q (Times holds h n)
-  times_projects =
-      let states : V × S → Type 0 = λ r. within r.1 in
-      let all = repeated_projects second with_second (gathering into) does {holds = holds} p
-      (record {
-        here = λ r so. so;
-        moved = λ r s so there. there;
-        added = λ r c x d u so (a, e). subst states (sym e) so;
-        never = λ r c x u so none. none;
-      }) (record {
-        held = λ r u k c all os so (starts, e) folds. keeps.held k c all os starts (record {
-          taken = folds_map (λ c x d (a, b, there, (takes, same)). takes) os c all folds;
-        });
-        started = λ r u k c so (starts, e). subst states (sym e) so;
-      }) takes q is (times n) (omega arith) in
-      projects_as (record {
-        takes = λ w o end d. all.takes w o end (inr (λ (one, none). none_is_some (sym none), d));
-        fails = λ w end d. all.fails w end (inr (λ (one, none). none_is_some (sym none), d));
-        one = all.one;
-      }) (many_times holds h n) (times_many holds h n)
-
-pub length_repeat_projects : {V S T N C O : Type 0} (number : N → ℕ) (into : Accumulator C O)
-    (holds : C → List O → Type 0) → Holds into holds → {count : Does V T N} {does : Does S T O}
-    (form : ErrorForm) (q : V × S) {g : Grammar T N} {within : S → Type 0} {h : Grammar T O}
-    → Projects count form q.0 g → SaysOne number g → Throughout does form within h
-    → TakesTokens h → within q.1
-    → Projects (LengthRepeatDoes number into count does) form q
-    (Sized number (Times holds h) g)
-length_repeat_projects number into holds keeps {does = does} form q {h = h} c says p takes is =
+-- The items do not cut.
+pub length_repeat_projects : {V S T N C O : Type 0} {b1 b m : Type 0} (number : N → ℕ)
+    (into : Accumulator C O) {holds : C → List O → Type 0} {count : Does V T N} {does : Does S T O}
+    {at : Complete} {q : V × S} {g : Grammar T N} {h : Grammar T O} → Holds into holds
+    → (m → Wants into → ⊥) → Projects b m count at q.0 g → SaysOne number g
+    → Projects b1 m does at q.1 h → b1 → TakesTokens h
+    → Projects b m (LengthRepeatDoes number into count does) at q (Sized number (Times holds h) g)
+length_repeat_projects number into {holds} {does = does} {h = h} keeps spare c says p soft some =
     length_projects first with_first number
-    (λ n. Repeat.Many second with_second (gathering into) does (times n)) form q (Times holds h) c
-    (λ n t. times_projects into holds keeps p takes (with_first q t) is n) says
+    (λ n. ManyDo second with_second (gathering into) does (times n)) (Times holds h) refl c
+    (λ n. same_projects (same_times holds h n) (record {
+      reads = many_reads second with_second p soft some refl
+          (gathering_collects into keeps spare) (times n) (omega arith);
+      unique = gathered_unique holds (many_unique p.unique (times n));
+    })) says

@@ -1,141 +1,140 @@
 -- Grammars of literals of characters and texts, of classes of characters, and of lines.
-use Rattle.std.specs.Prelude.{ℕ, List, [], ◌∷◌, None}
+use Rattle.std.specs.Prelude.{◌≡◌, ⊤, ◌<◌, ℕ, List, [], ◌∷◌, None}
 use Rattle.std.specs.Borrow.{Bor}
-use Rattle.std.proofs.Common.{refl, sym, subst, inl, inr, ◌∙◌}
+use Rattle.std.proofs.Common.{refl, sym, subst, inl, inr, ◌∙◌, arith}
 use Rattle.streams.specs.Reading.{Reading}
-use Rattle.stream_errors.specs.Form.{ErrorForm}
 use Rattle.stream_sets.specs.Range.{from_to}
-use Rattle.grammars.specs.Grammar.{Class, Either, Grammar, InClass, IsUnique, Literally, NoMatch}
-use Rattle.grammars.specs.Grammar.{SpelledBy}
+use Rattle.stream_searches.specs.Compare.{StartsWithSpelling}
+use Rattle.grammars.specs.Grammar.{Class, Either, InClass, Literally, NoMatch, SpelledBy}
 use Rattle.grammars.specs.Grammar.Searches.{Line, LineEnd, LiterallyBytes}
 use Rattle.grammars.specs.Grammar.Searches.Unique.{line_unique, one_line}
 use Rattle.grammars.specs.Grammar.Unique.{either_unique, literally_unique}
+use Rattle.parser_definitions.specs.Claim.{Claim, Claimed}
 use Rattle.parser_definitions.specs.Class.{CharIsFunction, ClassDoes, class_once}
-use Rattle.parser_definitions.specs.Left.{End, Left}
-use Rattle.parser_definitions.specs.LineEnding.{CharacterDoes, CrlfDoes, LineEndingDoes}
-use Rattle.parser_definitions.specs.LineEnding.{SpellsAsMany, SpellsByText, TextDoes}
-use Rattle.parser_definitions.specs.Projects.{Projects, complete, projects, reads_after}
-use Rattle.parser_definitions.specs.Projects.{reads_backs, reads_cases, reads_lacks, reads_of}
-use Rattle.parser_definitions.specs.Projects.{reads_takes}
+use Rattle.parser_definitions.specs.LineEnding.{LineEndingDoes, SpellsAsMany, SpellsByText}
+use Rattle.parser_definitions.specs.LineEnding.{TextDoes}
+use Rattle.parser_definitions.specs.Projects.{Complete, Projects, complete, reads_after}
+use Rattle.parser_definitions.specs.Projects.{reads_backs, reads_cases, reads_lacks, reads_takes}
 use Rattle.parser_definitions.specs.Projects.Literals.{literal_projects}
-use Rattle.parser_definitions.specs.Projects.Then.{ComesReads, asks_read, cuts_read, else_reads}
+use Rattle.parser_definitions.specs.Projects.Then.{else_reads, other_agrees}
 use Rattle.parser_definitions.specs.Projects.Then.{takes_reads, then_reads}
-use Rattle.parser_definitions.specs.Projects.Tokens.{take_while_projects}
-use Rattle.parser_definitions.specs.Then.Steps.{instead, or_else, takes}
-use Rattle.parser_definitions.specs.TillLineEnding.{HasBoth, HasReturn, IsLine, IsLone, IsOpenLine}
-use Rattle.parser_definitions.specs.TillLineEnding.{IsWholeLine, LacksEnd, TillLineEndingDoes}
-use Rattle.parser_definitions.specs.TillLineEnding.{as_line}
+use Rattle.parser_definitions.specs.Projects.Tokens.{longest_takes, take_while_projects}
+use Rattle.parser_definitions.specs.Then.Steps.{instead}
+use Rattle.parser_definitions.specs.TillLineEnding.{HasBoth, HasReturn, IsLine, IsLone}
+use Rattle.parser_definitions.specs.TillLineEnding.{IsOpenLine, IsWholeLine, LacksEnd}
+use Rattle.parser_definitions.specs.TillLineEnding.{TillLineEndingDoes, as_line, has_both}
+use Rattle.parser_definitions.specs.TillLineEnding.{has_return}
 
--- ---- literals
+-- ---- literals of texts, and line endings
 
-pub character_projects : {S T L : Type 0} (reading : Reading T L) (spells : ℕ → List T → Type 0)
-    (c : ℕ) (form : ErrorForm) (s : S) → SpellsAsMany reading (spells c)
-    → Projects (CharacterDoes reading spells c) form s
-    (Literally reading spells (λ c slice. c) c)
-unfolding Literally
-character_projects reading spells c form s as_many =
-    let p = literal_projects reading (λ s. spells c) (λ s slice. c) form s as_many in
-    record { takes = p.takes; fails = p.fails; one = p.one }
-
-pub text_unique : {T L : Type 0} (reading : Reading T L) (spells : Bor (List ℕ) → List T → Type 0)
-    → ((text : Bor (List ℕ)) → SpellsAsMany reading (spells text)) → SpellsByText spells
-    → (bytes : List ℕ) → IsUnique (LiterallyBytes reading spells bytes)
-text_unique reading spells as_many by_text bytes =
-    literally_unique reading (SpelledBy spells) (λ _ slice. slice) bytes
-    (λ xs ys (t, is, a) (u, was, b). as_many t xs ys a (by_text u t ys (was ∙ sym is) b))
-
-module _ {S T L : Type 0} (reading : Reading T L) (spells : Bor (List ℕ) → List T → Type 0)
+module _ {S T L : Type 0} {m : Type 0} {at : Complete} {s : S} (reading : Reading T L)
+    (spells : Bor (List ℕ) → List T → Type 0)
     (as_many : (text : Bor (List ℕ)) → SpellsAsMany reading (spells text))
-    (by_text : SpellsByText spells) (form : ErrorForm) (s : S) where
-  pub text_projects : (bytes : List ℕ)
-      → Projects (TextDoes reading spells bytes) form s (LiterallyBytes reading spells bytes)
+    (by_text : SpellsByText spells) where
+  pub text_projects : {b : Type 0} (bytes : List ℕ)
+      → Projects b m (TextDoes reading spells bytes) at s (LiterallyBytes reading spells bytes)
   unfolding Literally
-  text_projects bytes =
-      let p = literal_projects reading (λ s. SpelledBy spells bytes) (λ s slice. slice) form s
-      (λ xs ys (t, is, a) (u, was, b). as_many t xs ys a (by_text u t ys (was ∙ sym is) b)) in
-      record { takes = p.takes; fails = p.fails; one = p.one }
+  text_projects bytes = record {
+    reads = record {
+      agrees = λ w x (t, here, d). other_agrees {g = Literally reading spells (λ _ slice. slice) t}
+          (λ o rest (f, v, is, shown, e, a). (f, v, (t, here, is), shown, e, a))
+          (λ none o rest (f, v, (u, was, is), shown, e, a).
+          none o rest (f, v, by_text u t f (was ∙ sym here) is, shown, e, a))
+          ((literal_projects reading spells (λ _ slice. slice) (λ _. t) {at = at} s
+          (as_many t)).reads.agrees w x d);
+    };
+    unique = literally_unique reading (SpelledBy spells) (λ _ slice. slice) bytes
+        (λ xs ys (t, is, a) (u, was, c). as_many t xs ys a (by_text u t ys (was ∙ sym is) c));
+  }
 
-  pub crlf_projects : Projects (CrlfDoes reading spells) form s
-      (LiterallyBytes reading spells (13 ∷ 10 ∷ []))
-  crlf_projects = text_projects (13 ∷ 10 ∷ [])
+  pub line_ending_projects : {b : Type 0} → Projects b m (LineEndingDoes reading spells) at s
+      (LineEnd reading spells)
+  unfolding Either
+  line_ending_projects = record {
+    reads = then_reads (text_projects {b = ⊤} (10 ∷ [])).reads (record {
+      took = λ w o left is_match. takes_reads instead w left refl (inl is_match);
+      backs = λ w left none. else_reads instead w left refl
+          (λ o rest is_match. inr (none, is_match))
+          (λ nor o rest it. elim it [
+            | inl is_match ↦ none o rest is_match
+            | inr (n, is_match) ↦ nor o rest is_match
+          ])
+          (text_projects (13 ∷ 10 ∷ [])).reads;
+      cuts = λ w left none not. absurd (not tt);
+    });
+    unique = either_unique (text_projects {b = ⊤} (10 ∷ [])).unique
+        (text_projects {b = ⊤} (13 ∷ 10 ∷ [])).unique;
+  }
 
 -- ---- lines
 
-module _ {S T L : Type 0} (reading : Reading T L) (spells : Bor (List ℕ) → List T → Type 0)
-    (as_many : (text : Bor (List ℕ)) → SpellsAsMany reading (spells text))
-    (by_text : SpellsByText spells) (form : ErrorForm) (s : S) where
-  abbrev Feed : Grammar T L
-  Feed = LiterallyBytes reading spells (10 ∷ [])
-
-  abbrev Both : Grammar T L
-  Both = LiterallyBytes reading spells (13 ∷ 10 ∷ [])
-
-  a_feed : (w : Left T) (o : L) (end : End S T) → Feed w.tokens o end.1.tokens
-      → ComesReads (takes instead o) form s (LineEnd reading spells) w end
-  unfolding Either
-  a_feed w o end is_match = takes_reads instead w end (inl is_match)
-
-  no_feed : (w : Left T) (end : End S T) → NoMatch Feed w.tokens
-      → ComesReads (or_else instead (CrlfDoes reading spells)) form s (LineEnd reading spells) w
-      end
-  unfolding Either
-  no_feed w end none = else_reads instead w end (λ u rest is_match. inr (none, is_match))
-      (λ nor o rest it. elim it [
-        | inl is_match ↦ none o rest is_match
-        | inr (n, is_match) ↦ nor o rest is_match
-      ])
-      (reads_of (crlf_projects reading spells as_many by_text form end.0))
-
-  pub line_ending_projects : Projects (LineEndingDoes reading spells) form s
-      (LineEnd reading spells)
-  line_ending_projects = projects
-      (either_unique (text_unique reading spells as_many by_text (10 ∷ []))
-      (text_unique reading spells as_many by_text (13 ∷ 10 ∷ [])))
-      (then_reads (reads_of (text_projects reading spells as_many by_text form s (10 ∷ [])))
-      (record {
-        took = a_feed;
-        backs = no_feed;
-        cuts = λ w end. cuts_read instead w end;
-        asks = λ need w end. asks_read instead w end need;
-      }))
-
 -- `spells` gives the lists that a text spells, and `sought` those that match one of two characters.
-module _ {S T L : Type 0} (reading : Reading T L) (spells : Bor (List ℕ) → List T → Type 0)
-    (sought : ℕ × ℕ → List T → Type 0) (form : ErrorForm) (s : S) where
-  -- the line is followed by a carriage return without a line feed
-  lone : (w : Left T) (front rest : List T) → IsLine reading spells sought front (complete form)
-      w.tokens rest → HasReturn reading spells sought rest
-      → (HasBoth reading spells sought rest → ⊥)
-      → NoMatch (Line reading spells sought) w.tokens
-  unfolding Line
-  lone w f rest line first none o end (g, also, feed, shown) =
-      let same = one_line reading spells sought also
-      (as_line reading spells sought (complete form) f rest line) in
-      none (subst (λ l. HasReturn reading spells sought l → HasBoth reading spells sought l) same
-      feed first)
-
-  pub till_line_ending_projects : Projects (TillLineEndingDoes reading spells sought) form s
+module _ {S T L : Type 0} {b m : Type 0} {at : Complete} {s : S} (reading : Reading T L)
+    (spells : Bor (List ℕ) → List T → Type 0) (sought : ℕ × ℕ → List T → Type 0)
+    (by_text : SpellsByText spells) where
+  pub till_line_ending_projects : Projects b m (TillLineEndingDoes reading spells sought) at s
       (Line reading spells sought)
   unfolding Line
-  till_line_ending_projects = projects (line_unique reading spells sought) (reads_cases
-      (reads_lacks (λ s w. None) (LacksEnd reading spells sought)
-      (λ w (none, asks) o rest is_match. asks (inl refl)))
-      (reads_cases
-      (reads_takes (IsWholeLine reading spells sought)
-      (λ w v rest (f, line, shown, p, feed).
-      (f, as_line reading spells sought (complete form) f rest.tokens line, feed, shown)))
-      (reads_cases
-      (reads_after None (IsOpenLine reading spells sought)
-      (λ w rest (f, line, p, first, none, short). lone w f rest.tokens line first none))
-      (reads_backs (IsLone reading spells sought)
-      (λ w rest (f, line, p, first, none, long). lone w f rest.tokens line first none)))))
+  till_line_ending_projects = record {
+    reads = reads_cases
+        (reads_lacks (λ s w. None) (LacksEnd reading spells sought)
+        (λ w (none, asks) o rest is_match. asks (inl refl)))
+        (reads_cases
+        (reads_takes (IsWholeLine reading spells sought)
+        (λ w v rest (f, line, shown, p, well). (
+          f,
+          as_line reading spells sought (complete at) f rest.tokens line,
+          λ first. elim well [
+            | inl none ↦ absurd (has_return spells by_text rest.tokens first none)
+            | inr both ↦ both
+          ],
+          shown,
+        )))
+        (reads_cases
+        (reads_after None (IsOpenLine reading spells sought)
+        (λ w rest (f, line, p, first, (text, here, none, short)).
+        lone w.tokens f rest.tokens line first text here none))
+        (reads_backs (IsLone reading spells sought)
+        (λ w rest (f, line, p, first, (text, here, none, long)).
+        lone w.tokens f rest.tokens line first text here none))));
+    unique = line_unique reading spells sought;
+  }
+    where
+      -- the line is followed by a carriage return without a line feed
+      lone : (w : List T) (front rest : List T)
+          → IsLine reading spells sought front (complete at) w rest → HasReturn spells rest
+          → (text : Bor (List ℕ)) → text.now ≡ 13 ∷ 10 ∷ []
+          → (StartsWithSpelling (spells text) rest → ⊥) → NoMatch (Line reading spells sought) w
+      lone w f rest line first text here none o end (g, also, feed, shown) =
+          let P : List T → Type 0 = λ l. HasReturn spells l → HasBoth spells l in
+          let same = one_line reading spells sought also
+          (as_line reading spells sought (complete at) f rest line) in
+          has_both spells by_text rest (subst P same feed first) text here none
 
 -- ---- classes of characters
 
-pub class_projects : {S K T L : Type 0} (class : ℕ → Type 0) (least : ℕ) (code : K → ℕ)
-    (seen : K → T) (reading : Reading T L) (form : ErrorForm) (s : S) → CharIsFunction seen code
-    → Projects (ClassDoes class least code seen reading) form s
-    (Class class least code seen reading)
-class_projects class least code seen reading form s once =
-    take_while_projects reading seen (InClass class code) (λ s. tt) (λ s. from_to least None) form s
-    (class_once class least code seen reading once s) tt
+-- The claim of a class: its longest prefix of at least `least` characters.
+abbrev pub class_claim : {K T L : Type 0} → Type 0 → (ℕ → Type 0) → ℕ → (K → ℕ) → (K → T)
+    → Reading T L → Claim T L
+class_claim consumes class least code seen reading = record {
+  premise = CharIsFunction seen code;
+  backtracks = ⊤;
+  spares_memory = ⊤;
+  consumes = consumes;
+  grammar = Class class least code seen reading;
+}
+
+pub class_claimed : {S K T L : Type 0} {s : S} {consumes : Type 0} (class : ℕ → Type 0)
+    (least : ℕ) (code : K → ℕ) (seen : K → T) (reading : Reading T L) → (consumes → 0 < least)
+    → Claimed (class_claim consumes class least code seen reading) s
+    (ClassDoes class least code seen reading)
+class_claimed {s = s} class least code seen reading some = record {
+  projects = λ at once. take_while_projects reading seen (InClass class code) (λ _. tt)
+      (λ _. from_to least None) (class_once class least code seen reading once s) tt;
+  takes = λ once consumes. longest_takes reading seen (InClass class code) tt
+      (from_to least None) (some consumes);
+}
+
+-- one is at least one
+pub one_is_some : 0 < 1
+one_is_some = omega arith

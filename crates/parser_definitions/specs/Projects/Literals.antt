@@ -1,49 +1,88 @@
--- Grammars of literals, `eof`, `empty` and `fail`.
-use Rattle.std.specs.Prelude.{◌≡◌, ⊤, List, None}
+-- Grammars of literals, `eof`, `empty` and `fail`, and the claim of literals.
+use Rattle.std.specs.Prelude.{◌≡◌, ⊤, List, [], None}
 use Rattle.std.proofs.Common.{refl, sym, ap, ◌∙◌}
-use Rattle.streams.specs.Reading.{Reading}
-use Rattle.stream_errors.specs.Form.{ErrorForm}
 use Rattle.streams.specs.Equal.{true_is_false}
-use Rattle.grammars.specs.Grammar.{Literally, Never, NoTokens, Nothing}
-use Rattle.grammars.specs.Grammar.Unique.{literally_unique}
+use Rattle.streams.specs.Reading.{Reading}
+use Rattle.grammars.specs.Grammar.{Literally, Never, NoTokens, Nothing, TakesTokens}
+use Rattle.grammars.specs.Grammar.Unique.{literally_takes, literally_unique, unique_nothing}
+use Rattle.parser_definitions.specs.Claim.{Claim, Claimed}
 use Rattle.parser_definitions.specs.Eof.{ConsumesNone, EmptyDoes, EofDoes, FailDoes, IsAtEnd}
 use Rattle.parser_definitions.specs.Eof.{SomeRemain}
 use Rattle.parser_definitions.specs.Literal.{IsLiteral, IsOther, IsPartial, LiteralDoes}
-use Rattle.parser_definitions.specs.Projects.{Projects, projects, reads_cases, reads_fails}
+use Rattle.parser_definitions.specs.Projects.{Complete, Projects, reads_cases, reads_fails}
 use Rattle.parser_definitions.specs.Projects.{reads_lacks, reads_takes}
-use Rattle.parser_definitions.specs.Projects.Once.{with_one}
+
+-- A literal with the spellings `spells`; `output` computes its output.
+abbrev pub literal_claim : {S T L O : Type 0} → Reading T L → (S → List T → Type 0)
+    → (S → L → O) → S → Claim T O
+literal_claim reading spells output s = record {
+  premise = ⊤;
+  backtracks = ⊤;
+  spares_memory = ⊤;
+  consumes = spells s [] → ⊥;
+  grammar = Literally reading spells output s;
+}
 
 module _ {T S L O : Type 0} (reading : Reading T L) (spells : S → List T → Type 0)
-    (output : S → L → O) (form : ErrorForm) (s : S) where
-  pub literal_projects : ((xs ys : List T) → spells s xs → spells s ys
+    (output : S → L → O) where
+  -- The literal of a state.
+  pub literal_projects : {X b m : Type 0} (literal : X → S) {at : Complete} (x : X)
+      → ((xs ys : List T) → spells (literal x) xs → spells (literal x) ys
       → reading.units xs ≡ reading.units ys)
-      → Projects (LiteralDoes reading spells output) form s (Literally reading spells output s)
+      → Projects b m (LiteralDoes reading (λ y. spells (literal y)) (λ y. output (literal y))) at x
+      (Literally reading spells output (literal x))
   unfolding Literally
-  literal_projects same_units = projects (literally_unique reading spells output s same_units)
-      (reads_cases (reads_takes (IsLiteral reading spells output)
-      (λ w o rest (front, slice, is, shown, passed, e).
-      (front, slice, is, shown, passed.tokens, e)))
-      (reads_cases (reads_lacks (λ s w. None) (IsPartial spells)
-      (λ w (short, more). true_is_false (sym more)))
-      (reads_fails (IsOther spells)
-      (λ w (none, told) o rest (front, slice, is, shown, e, a). none (front, rest, is, e)))))
+  literal_projects literal x same_units = record {
+    reads = reads_cases
+        (reads_takes (IsLiteral reading (λ y. spells (literal y)) (λ y. output (literal y)))
+        (λ w o rest (front, slice, is, shown, passed, e).
+        (front, slice, is, shown, passed.tokens, e)))
+        (reads_cases (reads_lacks (λ s w. None) (IsPartial (λ y. spells (literal y)))
+        (λ w (short, more). true_is_false (sym more)))
+        (reads_fails (IsOther (λ y. spells (literal y)))
+        (λ w (none, told) o rest (front, slice, is, shown, e, a). none (front, rest, is, e))));
+    unique = literally_unique reading spells output (literal x) same_units;
+  }
 
-module _ {S T : Type 0} (form : ErrorForm) (s : S) where
+  pub literal_claimed : (s : S) → ((xs ys : List T) → spells s xs → spells s ys
+      → reading.units xs ≡ reading.units ys)
+      → Claimed (literal_claim reading spells output s) s (LiteralDoes reading spells output)
+  literal_claimed s same_units = record {
+    projects = λ at is. literal_projects (λ y. y) s same_units;
+    takes = λ is some. literally_takes reading spells output s some;
+  }
+
+module _ {S T b m : Type 0} {at : Complete} {s : S} where
   pub eof_projects : {L : Type 0} (reading : Reading T L)
-      → Projects (EofDoes reading) form s (NoTokens reading)
+      → Projects b m (EofDoes reading) at s (NoTokens reading)
   unfolding NoTokens
-  eof_projects reading = with_one (reads_cases (reads_takes (IsAtEnd reading)
-      (λ w o rest (none, passed, shown). (none, sym passed.tokens ∙ none, shown)))
-      (reads_fails SomeRemain (λ w some o rest (none, e, a). some none)))
-      (λ tokens o p rest end (none, e, a) (nothing, f, b). e ∙ sym f)
+  eof_projects reading = record {
+    reads = reads_cases (reads_takes (IsAtEnd reading)
+        (λ w o rest (none, passed, shown). (none, sym passed.tokens ∙ none, shown)))
+        (reads_fails SomeRemain (λ w some o rest (none, e, a). some none));
+    unique = record {
+      ends = λ tokens o rest (none, e, shown). ([], none ∙ sym e);
+      one = λ tokens o p rest end (none, e, a) (nothing, f, c). e ∙ sym f;
+    };
+  }
 
-  pub empty_projects : Projects {T = T} EmptyDoes form s (Nothing tt)
+  pub empty_projects : Projects {T = T} b m EmptyDoes at s (Nothing tt)
   unfolding Nothing
-  empty_projects = with_one
-      (reads_takes ConsumesNone (λ w o rest e. (refl, ap (λ l. l.tokens) e)))
-      (λ tokens o p rest end (a, e) (b, f). e ∙ sym f)
+  empty_projects = record {
+    reads = reads_takes ConsumesNone (λ w o rest e. (refl, ap (λ l. l.tokens) e));
+    unique = unique_nothing tt;
+  }
 
-  pub fail_projects : {O : Type 0} → Projects {T = T} {O = O} FailDoes form s Never
+  pub fail_projects : {O : Type 0} → Projects {T = T} {O = O} b m FailDoes at s Never
   unfolding Never
-  fail_projects = with_one (reads_fails (λ s at w. ⊤) (λ w is o rest none. none))
-      (λ tokens o p rest end a b. absurd a)
+  fail_projects = record {
+    reads = reads_fails (λ s at w. ⊤) (λ w is o rest none. none);
+    unique = record {
+      ends = λ tokens o rest never. absurd never;
+      one = λ tokens o p rest other never too. absurd never;
+    };
+  }
+
+pub never_takes : {T O : Type 0} → TakesTokens (Never {T = T} {O = O})
+unfolding Never
+never_takes = record { fewer = λ tokens o rest never. absurd never }

@@ -3,15 +3,14 @@ use Rattle.std.specs.Prelude.{◌≡◌, ◌⊎◌, ℕ, Bool, true, false, List
 use Rattle.std.proofs.Common.{refl, sym, ap, subst, inl, inr, ◌∙◌, arith}
 use Rattle.streams.specs.Equal.{same_first, true_is_false}
 use Rattle.streams.specs.Reading.{Reading}
-use Rattle.stream_errors.specs.Form.{ErrorForm}
 use Rattle.stream_sets.specs.AsChar.{IsDecDigit}
-use Rattle.parser_definitions.specs.Digits.{AreCharacters, NoneFirst}
+use Rattle.parser_definitions.specs.Digits.{AreCharacters, NoneFirst, one_character}
 use Rattle.parser_definitions.specs.Left.{Left}
 use Rattle.parser_definitions.specs.NumberGrammar.{IsLeading, IsNumeralAt}
 use Rattle.parser_definitions.specs.Numeral.{HasDigits, HasNumeral, IsSign, is_none}
 use Rattle.parser_definitions.specs.Outcome.{Setting}
 use Rattle.parser_definitions.specs.Passed.{Passed}
-use Rattle.parser_definitions.specs.Projects.{complete}
+use Rattle.parser_definitions.specs.Projects.{Complete, complete}
 
 -- the rest after the tokens `front`
 abbrev pub after : {T L : Type 0} → Reading T L → List T → List T → Left T → Left T
@@ -22,12 +21,6 @@ after reading front rest w = record {
 }
 
 module _ {K T : Type 0} (seen : K → T) (code : K → ℕ) where
-  one_character : (x : K) (cs : List ℕ) → cs ≡ code x ∷ []
-      → AreCharacters seen code (seen x ∷ []) cs
-  one_character x cs e =
-      let P : List ℕ → Type 0 = λ l. AreCharacters seen code (seen x ∷ []) l in
-      subst P (sym e) ((x, refl, refl), tt)
-
   -- a character before others
   more_characters : (x : K) (front : List T) (sign digits : List ℕ) → sign ≡ code x ∷ []
       → AreCharacters seen code front digits
@@ -55,7 +48,7 @@ module _ {K T : Type 0} (seen : K → T) (code : K → ℕ) where
     digits_at zero at w digits rest (inl (x, may, is, p, e)) = (
       seen x ∷ [],
       p.tokens,
-      one_character x digits (e ∙ ap (λ c. c ∷ []) (sym is)),
+      one_character seen code x digits (e ∙ ap (λ c. c ∷ []) (sym is)),
       inl (may, e),
       inl e,
     )
@@ -126,20 +119,20 @@ module _ {K T : Type 0} (seen : K → T) (code : K → ℕ) where
     only_one (t ∷ []) c ((x, is, same), chars) = (x, ap (λ z. z ∷ []) (sym is), same)
     only_one (t ∷ u ∷ ts) c (head, chars) = absurd chars
 
-    digits_pass : (zero : Bool) (form : ErrorForm) (w : Left T) (front rest : List T)
+    digits_pass : (zero : Bool) (at : Complete) (w : Left T) (front rest : List T)
         (digits : List ℕ) → w.tokens ≡ front ++ rest → AreCharacters seen code front digits
         → ((zero ≡ true) × (digits ≡ 48 ∷ [])) ⊎ IsLeading digits
         → ((digits ≡ 48 ∷ []) ⊎ NoneFirst seen code IsDecDigit rest)
-        → HasDigits seen code reading zero (complete form) w digits (after reading front rest w)
-    digits_pass zero form w front rest digits e chars (inl (may, lone)) stops =
+        → HasDigits seen code reading zero (complete at) w digits (after reading front rest w)
+    digits_pass zero at w front rest digits e chars (inl (may, lone)) stops =
         let (x, one, is) = only_one front 48
         (subst (λ l. AreCharacters seen code front l) lone chars) in
         let P : List T → Type 0 = λ l. Passed reading l w (after reading front rest w) in
         inl (x, may, is, subst P one (after_passed front rest w e), lone)
-    digits_pass zero form w front rest digits e chars (inr (first, others, is, leads, are))
+    digits_pass zero at w front rest digits e chars (inr (first, others, is, leads, are))
         (inl lone) =
         absurd (omega (arith, leads.0, same_first (sym is ∙ lone)))
-    digits_pass zero form w front rest digits e chars (inr (first, others, is, leads, are))
+    digits_pass zero at w front rest digits e chars (inr (first, others, is, leads, are))
         (inr stops) = inr (
           front,
           first,
@@ -185,38 +178,38 @@ module _ {K T : Type 0} (seen : K → T) (code : K → ℕ) where
         (omega (arith, leads.0), leads.1) e
 
     -- a numeral is passed, and `rest` is the tokens after it
-    abbrev IsPassed : Bool → ErrorForm → Left T → List ℕ → List ℕ → List T → Type 0
-    IsPassed signed form w sign digits rest =
-        (b : Left T) × HasNumeral seen code reading signed (complete form) w sign digits b
+    abbrev IsPassed : Bool → Complete → Left T → List ℕ → List ℕ → List T → Type 0
+    IsPassed signed at w sign digits rest =
+        (b : Left T) × HasNumeral seen code reading signed (complete at) w sign digits b
         × (b.tokens ≡ rest)
 
-    pub numeral_passed : (signed : Bool) (form : ErrorForm) (w : Left T) (sign digits : List ℕ)
+    pub numeral_passed : (signed : Bool) (at : Complete) (w : Left T) (sign digits : List ℕ)
         (front rest : List T) → IsNumeralAt seen code signed w.tokens sign digits front rest
-        → IsPassed signed form w sign digits rest
-    numeral_passed signed form w sign digits front rest (e, chars, inl (none, which), stops) =
+        → IsPassed signed at w sign digits rest
+    numeral_passed signed at w sign digits front rest (e, chars, inl (none, which), stops) =
         let P : List ℕ → Type 0 = λ l. AreCharacters seen code front (l ++ digits) in
         let D : List ℕ → Type 0 =
-        λ l. HasDigits seen code reading (is_none l) (complete form) w digits
+        λ l. HasDigits seen code reading (is_none l) (complete at) w digits
         (after reading front rest w) in
         let spelled : AreCharacters seen code front digits = subst P none chars in (
           after reading front rest w,
           (
             w,
             inr (λ may. no_sign front rest w.tokens digits spelled which e, none, refl),
-            subst D (sym none) (digits_pass true form w front rest digits e spelled (elim which [
+            subst D (sym none) (digits_pass true at w front rest digits e spelled (elim which [
               | inl lone ↦ inl (refl, lone)
               | inr leads ↦ inr leads
             ]) stops),
           ),
           refl,
         )
-    numeral_passed signed form w sign digits front rest
+    numeral_passed signed at w sign digits front rest
         (e, chars, inr (may, c, is, one, leads), stops) =
         let P : List ℕ → Type 0 = λ l. AreCharacters seen code front (l ++ digits) in
         let (x, others, start, same, more) = first_of front c digits (subst P one chars) in
         let split : w.tokens ≡ seen x ∷ (others ++ rest) = e ∙ ap (λ l. l ++ rest) start in
         let a = after reading (seen x ∷ []) (others ++ rest) w in
-        let D : List ℕ → Type 0 = λ l. HasDigits seen code reading (is_none l) (complete form) a
+        let D : List ℕ → Type 0 = λ l. HasDigits seen code reading (is_none l) (complete at) a
         digits (after reading others rest a) in (
           after reading others rest a,
           (
@@ -228,7 +221,7 @@ module _ {K T : Type 0} (seen : K → T) (code : K → ℕ) where
               after_passed (seen x ∷ []) (others ++ rest) w split,
               one ∙ ap (λ d. d ∷ []) (sym same),
             ),
-            subst D (sym one) (digits_pass false form a others rest digits refl more (inr leads)
+            subst D (sym one) (digits_pass false at a others rest digits refl more (inr leads)
                 stops),
           ),
           refl,

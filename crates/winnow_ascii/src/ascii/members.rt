@@ -7,7 +7,6 @@ ghost use Rattle.streams.specs.Stream.{AnswersSeen};
 ghost use Rattle.winnow_token.specs.TakeWhile.{TakeWhileRuns};
 
 use stream_errors::parser_error::ParserError;
-use stream_sets::range::Range;
 use stream_sets::sets::ContainsToken;
 use streams::stream::StreamIsPartial;
 use winnow_core::parser::Parser;
@@ -25,7 +24,7 @@ pub(crate) fn any_of<S: ContainsToken<I::Token> + Drop, I: StreamIsPartial, E: P
         (I.view input.old) (answer_by E.kind result) (I.view input.new) }
     ensures ends { IsEndOf I.reading (I.view input.new) (I.view input.old) }
 {
-    take_while::<_, I, E>(Range::from(0..), set).parse_next(input)
+    take_while::<_, I, E, _>(0.., set).parse_next(input)
 }
 
 /// Parses one or more members of `set` and returns their slice.
@@ -40,5 +39,5 @@ pub(crate) fn some_of<S: ContainsToken<I::Token> + Drop, I: StreamIsPartial, E: 
         (I.view input.old) (answer_by E.kind result) (I.view input.new) }
     ensures ends { IsEndOf I.reading (I.view input.new) (I.view input.old) }
 {
-    take_while::<_, I, E>(Range::from(1..), set).parse_next(input)
+    take_while::<_, I, E, _>(1.., set).parse_next(input)
 }

@@ -16,7 +16,8 @@ use Rattle.winnow_core.specs.TryMap.{TryMapRuns, TryMapSettles}
 use Rattle.winnow_core.specs.Value.{ValueRuns}
 use Rattle.winnow_core.specs.Verify.{VerifyRuns, VerifySettles}
 use Rattle.winnow_core.specs.VerifyMap.{VerifyMapRuns}
-use Rattle.parser_definitions.specs.Errors.{Becomes, ErrorDoes}
+use Rattle.parser_definitions.specs.Errors.{AnyErrorDoes, Becomes, ErrorDoes, StaysMemory}
+use Rattle.parser_definitions.specs.Errors.{kept_does}
 use Rattle.parser_definitions.specs.FlatMap.{FlatMapDoes, made_next}
 use Rattle.parser_definitions.specs.Left.{End, Left, back, left_of}
 use Rattle.parser_definitions.specs.Map.{MapDoes, mapped}
@@ -271,11 +272,10 @@ module _ {S G H V T O U : Type 0} (step : G → O → H → G → Type 0) (state
 
 -- ---- errors
 
--- Adapters that change errors, if one that is out of memory stays so.
+-- Adapters that change errors; and those where out of memory stays so.
 module _ {S G T O : Type 0} {at : Setting} {run : Runs S T O} {does : Does S T O}
-    (becomes : Becomes G) (keeps : (f : G) (l : Kind) (g : G) → becomes f memory l g → l ≡ memory)
-    (child : Covers at run does) where
-  errors_calls : Calls at (MakesError becomes run) (ErrorDoes becomes does)
+    (becomes : Becomes G) (child : Covers at run does) where
+  errors_calls : Calls at (MakesError becomes run) (AnyErrorDoes becomes does)
   errors_calls s i a t j here (inl (o, r, kept, e)) =
       let d = child.covers s.0 i (Ok o) t.0 j here r in
       let P : G → Type 0 = λ g. outcome_of {L = End (S × G) T} a ((t.0, g), left_of j)
@@ -298,13 +298,19 @@ module _ {S G T O : Type 0} {at : Setting} {run : Runs S T O} {does : Does S T O
       ((asks need (t.0, left_of j), d.0, (l, t.1, x, gave (t, left_of j) e)), d.1)
   errors_calls s i a t j here (inr (memory, l, r, x, e)) =
       let d = child.covers s.0 i (Err memory) t.0 j here r in (
-        (
-          wants,
-          d.0,
-          gave (t, left_of j) e ∙ ap (λ z. outcome_of (Err z) (t, left_of j)) (keeps s.1 l t.1 x),
-        ),
+        (wants, d.0, ((t.0, left_of j), (l, t.1, x, gave (t, left_of j) e))),
         d.1,
       )
 
-  pub errors_covered : Covers at (MakesError becomes run) (ErrorDoes becomes does)
-  errors_covered = record { covers = errors_calls }
+  pub any_errors_covered : Covers at (MakesError becomes run) (AnyErrorDoes becomes does)
+  any_errors_covered = record { covers = errors_calls }
+
+  pub errors_covered : ((f : G) → StaysMemory becomes f)
+      → Covers at (MakesError becomes run) (ErrorDoes becomes does)
+  errors_covered keeps = record {
+    covers = λ s i a t j here r.
+        let d = errors_calls s i a t j here r in (
+          kept_does becomes does at s (left_of i) (outcome_of a (t, left_of j)) (keeps s.1) d.0,
+          d.1,
+        );
+  }

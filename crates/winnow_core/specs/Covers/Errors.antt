@@ -1,27 +1,24 @@
 -- Adapters that change errors of a covered child are covered. Closures may change.
-use Rattle.std.specs.List.{FoldsTo}
-use Rattle.std.specs.Prelude.{◌≡◌, List, [], ◌∷◌, Option, Ok, Err}
-use Rattle.std.proofs.Common.{refl, sym, ap, ◌∙◌, inl, inr}
+use Rattle.std.specs.Prelude.{◌≡◌, Option, Ok, Err}
+use Rattle.std.proofs.Common.{ap, ◌∙◌, inl, inr}
 use Rattle.streams.specs.Kind.{Kind, backtrack, cut, incomplete, memory}
 use Rattle.stream_errors.specs.Form.{ErrorForm}
-use Rattle.stream_errors.specs.Given.{Keeping}
 use Rattle.winnow_core.specs.CompleteErr.{CompleteErrRuns, complete_kind}
 use Rattle.winnow_core.specs.Context.{ContextBecomes, ContextRuns}
-use Rattle.winnow_core.specs.Context.Laws.{WithContext}
 use Rattle.winnow_core.specs.ContextWith.{ContextWithBecomes, ContextWithRuns}
-use Rattle.winnow_core.specs.ErrInto.{ConvertsKinds, ErrIntoBecomes, ErrIntoRuns}
-use Rattle.winnow_core.specs.MapErr.{KeepsMemory, MapErrBecomes, MapErrRuns}
+use Rattle.winnow_core.specs.ErrInto.{ErrIntoBecomes, ErrIntoRuns}
+use Rattle.winnow_core.specs.MapErr.{MapErrBecomes, MapErrRuns}
 use Rattle.winnow_core.specs.MapErrKept.{MapErrKeptBecomes, MapErrKeptRuns}
 use Rattle.winnow_core.specs.Runs.{Runs}
 use Rattle.parser_definitions.specs.Left.{left_of}
 use Rattle.parser_definitions.specs.MapErr.{CompleteErrDoes, ContextDoes, ContextWithDoes}
 use Rattle.parser_definitions.specs.MapErr.{ErrIntoDoes, InForm, MapErrDoes, MapErrKeptDoes}
-use Rattle.parser_definitions.specs.MapErr.{completes}
+use Rattle.parser_definitions.specs.MapErr.{completes, context_keeps, contexts_keep, kept_memory}
 use Rattle.parser_definitions.specs.Outcome.{Does, Setting, outcome_of, took}
 use Rattle.parser_definitions.specs.Settles.{Alone}
 use Rattle.parser_definitions.specs.Then.{ComesOf}
 use Rattle.winnow_core.specs.Covers.{Calls, Covers, gave, handed}
-use Rattle.winnow_core.specs.Covers.Adapters.{errors_covered}
+use Rattle.winnow_core.specs.Covers.Adapters.{any_errors_covered, errors_covered}
 
 -- ---- errors of another form
 
@@ -58,61 +55,38 @@ alone_covered {S = S} {at = at} child = record {
 
 module _ {S G T O E D : Type 0} {at : Setting} {run : Runs S T O} {does : Does S T O}
     (kind : E → Kind) (new_kind : D → Kind) (step : G → E → D → G → Type 0) where
-  pub map_err_covered : (form : ErrorForm) → KeepsMemory kind new_kind step
-      → Covers (in_form form at) run does
+  pub map_err_covered : (form : ErrorForm) → Covers (in_form form at) run does
       → Covers at (MapErrRuns kind new_kind step run)
       (MapErrDoes kind new_kind step (InForm form does))
-  map_err_covered form keeps child = errors_covered (MapErrBecomes kind new_kind step)
-      (λ f l g (old, new, is, call, e). e ∙ keeps f old new g call is)
-      (in_form_covered form child)
+  map_err_covered form child =
+      any_errors_covered (MapErrBecomes kind new_kind step) (in_form_covered form child)
 
   pub map_err_kept_covered : Covers at run does
       → Covers at (MapErrKeptRuns kind new_kind step run) (MapErrKeptDoes kind new_kind step does)
-  map_err_kept_covered child = errors_covered (MapErrKeptBecomes kind new_kind step)
-      (λ f l g (made, same). same) child
+  map_err_kept_covered child = errors_covered (MapErrKeptBecomes kind new_kind step) child
+      (λ f l g (made, same). same)
 
 pub err_into_covered : {S T O E D : Type 0} {at : Setting} {run : Runs S T O} {does : Does S T O}
     (form : ErrorForm) (kind : E → Kind) (new_kind : D → Kind) (converts : E → D → Type 0)
-    → ConvertsKinds kind new_kind converts
     → Covers (in_form form at) run does
     → Covers at (ErrIntoRuns kind new_kind converts run)
     (ErrIntoDoes form kind new_kind converts does)
-err_into_covered form kind new_kind converts keeps child = alone_covered (errors_covered
-    (ErrIntoBecomes kind new_kind converts)
-    (λ f l g (old, new, is, made, e). e ∙ keeps old new made ∙ is) (in_form_covered form child))
+err_into_covered form kind new_kind converts child = alone_covered
+    (any_errors_covered (ErrIntoBecomes kind new_kind converts) (in_form_covered form child))
 
 -- ---- `context`, `context_with`
-
--- An error to which a context is added stays out of memory.
-memory_with : {keeping : Keeping} {k l : Kind} → k ≡ memory → WithContext keeping k l → l ≡ memory
-memory_with is (inl (some, e)) = e ∙ is
-memory_with is (inr (none, inl (kept, e))) = e ∙ is
-memory_with is (inr (none, inr (refused, e))) = e
-
-memory_with_all : {C : Type 0} (gives : C → Keeping) (contexts : List C) (k l : Kind) → k ≡ memory
-    → FoldsTo (λ old context new. WithContext (gives context) old new) k contexts l → l ≡ memory
-memory_with_all gives [] k l is same = sym same ∙ is
-memory_with_all gives (c ∷ cs) k l is (m, told, rest) =
-    memory_with_all gives cs m l (memory_with is told) rest
 
 module _ {S C T O : Type 0} {at : Setting} {run : Runs S T O} {does : Does S T O} where
   pub context_covered : (is_clone : C → C → Type 0) (always : C → Type 0) → Covers at run does
       → Covers at (ContextRuns is_clone always run) (ContextDoes is_clone always does)
-  context_covered is_clone always child =
-      errors_covered (ContextBecomes is_clone always) (λ c l d (same, it). elim it [
-        | inl (some, e) ↦ e
-        | inr (inl (copy, none, clone, inl (kept, e))) ↦ e
-        | inr (inl (copy, none, clone, inr (refused, e))) ↦ e
-        | inr (inr (none, not, e)) ↦ e
-      ]) child
+  context_covered is_clone always child = errors_covered (ContextBecomes is_clone always) child
+      (λ f. kept_memory (context_keeps is_clone always f))
 
   pub context_with_covered : {F J : Type 0} (makes : F → J → Type 0)
       (steps : J → Option C → J → Type 0) → Covers at run does
       → Covers at (ContextWithRuns makes steps run) (ContextWithDoes makes steps does)
-  context_with_covered makes steps child =
-      errors_covered (ContextWithBecomes makes steps)
-      (λ f l g (same, (items, contexts, made, drains, told)).
-      memory_with_all f.1 contexts memory l refl told) child
+  context_with_covered makes steps child = errors_covered (ContextWithBecomes makes steps) child
+      (λ f. kept_memory (contexts_keep makes steps f))
 
 -- ---- `complete_err`
 

@@ -5,22 +5,8 @@ use Rattle.streams.specs.Input.{Input}
 use Rattle.streams.specs.Kind.{Kind}
 use Rattle.streams.specs.Reading.{Reading}
 use Rattle.grammars.specs.Grammar.{Grammar}
-use Rattle.grammars.specs.Grammar.Same.{Same, none_as, unique_as}
-use Rattle.winnow_core.specs.Exact.{IsExact, Reads}
-use Rattle.winnow_core.specs.Runs.{Runs}
-
--- what runs exactly by one runs exactly by the other
-pub exact_as : {S T O : Type 0} {s : S} {run : Runs S T O} {g h : Grammar T O} → Same g h
-    → IsExact s run g → IsExact s run h
-exact_as same c = record {
-  kept = c.kept;
-  stands = λ i o t j is ran. same.there i.left.tokens o j.left.tokens (c.stands i o t j is ran);
-  none = λ i k t j is ran. elim (c.none i k t j is ran) [
-    | inl m ↦ inl m
-    | inr nothing ↦ inr (none_as same i.left.tokens nothing)
-  ];
-  unique = unique_as same c.unique;
-}
+use Rattle.grammars.specs.Grammar.Same.{Same, none_as}
+use Rattle.winnow_core.specs.Exact.{Reads}
 
 -- what is read by one is read by the other
 pub reads_as : {T L O E : Type 0} {reading : Reading T L} {kind : E → Kind} {g h : Grammar T O}

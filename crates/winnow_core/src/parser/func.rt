@@ -1,7 +1,7 @@
 //! Closures as parsers.
 ghost use Rattle.std.specs.Fn.{CalledAtMut};
 ghost use Rattle.parser_definitions.specs.Func.{FuncDoes, FuncWithDoes, beside};
-ghost use Rattle.winnow_core.specs.Claim.{no_claim, nothing_claimed};
+ghost use Rattle.parser_definitions.specs.Claim.{no_claim, nothing_claimed};
 ghost use Rattle.winnow_core.specs.Covers.Functions.{func_covered, func_lawful, func_terms};
 ghost use Rattle.winnow_core.specs.Covers.Functions.{func_with_covered};
 ghost use Rattle.winnow_core.specs.Func.{CalledWithMut, FuncRuns, FuncWithRuns, LeavesEndsFrom};
@@ -68,7 +68,7 @@ impl<F: FnMut(&mut I) -> Result<O, E>, I: Stream, O, E: ParserError<I>> Parser<I
 
     ghost leaves_ends = { λ form s i answer t j r. r.1 };
 
-    ghost covers = { λ is at. func_covered I.view E.kind I.reading (CalledAtMut F.FnMut) };
+    ghost covers = { λ at. func_covered I.view E.kind I.reading (CalledAtMut F.FnMut) };
 
     ghost lawful = { λ is. func_lawful I.view E.kind is };
 
@@ -120,7 +120,7 @@ impl<A: Copy, F: FnMut(A, &mut I) -> Result<O, E>, I: Stream, O, E: ParserError<
 
     ghost leaves_ends = { λ form s i answer t j r. r.0.1 };
 
-    ghost covers = { λ is at. func_with_covered I.view E.kind I.reading (CalledWithMut F.FnMut) };
+    ghost covers = { λ at. func_with_covered I.view E.kind I.reading (CalledWithMut F.FnMut) };
 
     ghost lawful = { λ is. func_lawful I.view E.kind is };
 

@@ -2,10 +2,10 @@
 ghost use Rattle.std.specs.Prelude.{◌≡◌, ⊤};
 ghost use Rattle.std.proofs.Common.{refl};
 ghost use Rattle.parser_definitions.specs.Literal.{LiteralDoes, literal_law};
+ghost use Rattle.parser_definitions.specs.Projects.Literals.{literal_claim, literal_claimed};
 ghost use Rattle.parser_definitions.specs.Spelled.{ShowSame};
 ghost use Rattle.winnow_core.specs.Covers.Leaves.{literal_covered};
 ghost use Rattle.winnow_core.specs.Literal.{LiteralRuns};
-ghost use Rattle.winnow_core.specs.Literal.Claim.{literal_claim, literal_claimed};
 ghost use Rattle.winnow_core.specs.Literal.Laws.{literal_ends};
 ghost use Rattle.winnow_core.specs.Runs.{Keeps};
 
@@ -36,7 +36,7 @@ impl<I: StreamIsPartial + Compare<u8>, E: ParserError<I>> Parser<I, u8, E> for u
     ghost leaves_ends = { λ form s i answer t j r. literal_ends I.reading form (I.spells s)
         (λ _. s) i answer j r.0 };
 
-    ghost covers = { λ is at. literal_covered I.reading I.spells (λ s _. s) };
+    ghost covers = { λ at. literal_covered I.reading I.spells (λ s _. s) };
 
     ghost lawful = { λ is. literal_law I.reading I.spells (λ s _. s)
         (λ o p. o ≡ p) I.same_units (λ s v w x. refl) };
@@ -69,7 +69,7 @@ impl<'t, I: StreamIsPartial + Compare<&'t [u8]>, E: ParserError<I>> Parser<I, I:
     ghost leaves_ends = { λ form s i answer t j r. literal_ends I.reading form (I.spells s)
         (λ slice. slice) i answer j r.0 };
 
-    ghost covers = { λ is at. literal_covered I.reading I.spells (λ _ slice. slice) };
+    ghost covers = { λ at. literal_covered I.reading I.spells (λ _ slice. slice) };
 
     ghost lawful = { λ is. literal_law I.reading I.spells (λ _ slice. slice)
         (ShowSame I.reading) I.same_units (λ s v w x. x) };
@@ -105,7 +105,7 @@ impl<'t, const N: usize, I: StreamIsPartial + Compare<&'t [u8; N]>, E: ParserErr
     ghost leaves_ends = { λ form s i answer t j r. literal_ends I.reading form (I.spells s)
         (λ slice. slice) i answer j r.0 };
 
-    ghost covers = { λ is at. literal_covered I.reading I.spells (λ _ slice. slice) };
+    ghost covers = { λ at. literal_covered I.reading I.spells (λ _ slice. slice) };
 
     ghost lawful = { λ is. literal_law I.reading I.spells (λ _ slice. slice)
         (ShowSame I.reading) I.same_units (λ s v w x. x) };
@@ -139,7 +139,7 @@ impl<I: StreamIsPartial + Compare<char>, E: ParserError<I>> Parser<I, char, E> f
     ghost leaves_ends = { λ form s i answer t j r. literal_ends I.reading form (I.spells s)
         (λ _. s) i answer j r.0 };
 
-    ghost covers = { λ is at. literal_covered I.reading I.spells (λ s _. s) };
+    ghost covers = { λ at. literal_covered I.reading I.spells (λ s _. s) };
 
     ghost lawful = { λ is. literal_law I.reading I.spells (λ s _. s)
         (λ o p. o ≡ p) I.same_units (λ s v w x. refl) };
@@ -172,7 +172,7 @@ impl<'t, I: StreamIsPartial + Compare<&'t str>, E: ParserError<I>> Parser<I, I::
     ghost leaves_ends = { λ form s i answer t j r. literal_ends I.reading form (I.spells s)
         (λ slice. slice) i answer j r.0 };
 
-    ghost covers = { λ is at. literal_covered I.reading I.spells (λ _ slice. slice) };
+    ghost covers = { λ at. literal_covered I.reading I.spells (λ _ slice. slice) };
 
     ghost lawful = { λ is. literal_law I.reading I.spells (λ _ slice. slice)
         (ShowSame I.reading) I.same_units (λ s v w x. x) };
@@ -205,7 +205,7 @@ impl<'t, I: StreamIsPartial + Compare<Caseless<&'t [u8]>>, E: ParserError<I>> Pa
     ghost leaves_ends = { λ form s i answer t j r. literal_ends I.reading form (I.spells s)
         (λ slice. slice) i answer j r.0 };
 
-    ghost covers = { λ is at. literal_covered I.reading I.spells (λ _ slice. slice) };
+    ghost covers = { λ at. literal_covered I.reading I.spells (λ _ slice. slice) };
 
     ghost lawful = { λ is. literal_law I.reading I.spells (λ _ slice. slice)
         (ShowSame I.reading) I.same_units (λ s v w x. x) };
@@ -242,7 +242,7 @@ impl<
     ghost leaves_ends = { λ form s i answer t j r. literal_ends I.reading form (I.spells s)
         (λ slice. slice) i answer j r.0 };
 
-    ghost covers = { λ is at. literal_covered I.reading I.spells (λ _ slice. slice) };
+    ghost covers = { λ at. literal_covered I.reading I.spells (λ _ slice. slice) };
 
     ghost lawful = { λ is. literal_law I.reading I.spells (λ _ slice. slice)
         (ShowSame I.reading) I.same_units (λ s v w x. x) };
@@ -275,7 +275,7 @@ impl<'t, I: StreamIsPartial + Compare<Caseless<&'t str>>, E: ParserError<I>> Par
     ghost leaves_ends = { λ form s i answer t j r. literal_ends I.reading form (I.spells s)
         (λ slice. slice) i answer j r.0 };
 
-    ghost covers = { λ is at. literal_covered I.reading I.spells (λ _ slice. slice) };
+    ghost covers = { λ at. literal_covered I.reading I.spells (λ _ slice. slice) };
 
     ghost lawful = { λ is. literal_law I.reading I.spells (λ _ slice. slice)
         (ShowSame I.reading) I.same_units (λ s v w x. x) };

@@ -8,7 +8,7 @@ ghost use Rattle.winnow_expression.specs.Operators.{IsInfixClone, IsPostfixClone
 ghost use Rattle.winnow_expression.specs.Operators.{OperatorRuns, fold_of, left_power};
 ghost use Rattle.winnow_expression.specs.Operators.{neither_power, right_power};
 ghost use Rattle.winnow_expression.specs.Operators.Laws.{operator_ends};
-ghost use Rattle.winnow_core.specs.Claim.{no_claim, nothing_claimed};
+ghost use Rattle.parser_definitions.specs.Claim.{no_claim, nothing_claimed};
 
 use stream_errors::parser_error::ParserError;
 use streams::stream::Stream;
@@ -138,7 +138,7 @@ impl<I: Stream, F: Clone, E: ParserError<I>> Parser<I, Prefix<F>, E> for Prefix<
         (IsPrefixClone F.is_clone)
         (λ s. F.is_infallible s.1) s i answer j r.0 };
 
-    ghost covers = { λ is at. operator_covered I.reading (IsPrefixClone F.is_clone)
+    ghost covers = { λ at. operator_covered I.reading (IsPrefixClone F.is_clone)
         (λ s. F.is_infallible s.1) at };
 
     ghost lawful = { λ is. operator_law (IsPrefixClone F.is_clone) (λ s. F.is_infallible s.1) };
@@ -176,7 +176,7 @@ impl<I: Stream, F: Clone, E: ParserError<I>> Parser<I, Postfix<F>, E> for Postfi
         (IsPostfixClone F.is_clone)
         (λ s. F.is_infallible s.1) s i answer j r.0 };
 
-    ghost covers = { λ is at. operator_covered I.reading (IsPostfixClone F.is_clone)
+    ghost covers = { λ at. operator_covered I.reading (IsPostfixClone F.is_clone)
         (λ s. F.is_infallible s.1) at };
 
     ghost lawful = { λ is. operator_law (IsPostfixClone F.is_clone) (λ s. F.is_infallible s.1) };
@@ -213,7 +213,7 @@ impl<I: Stream, F: Clone, E: ParserError<I>> Parser<I, Infix<F>, E> for Infix<F>
     ghost leaves_ends = { λ form s i answer t j r. operator_ends I.reading (IsInfixClone F.is_clone)
         (λ s. F.is_infallible (fold_of s)) s i answer j r.0 };
 
-    ghost covers = { λ is at. operator_covered I.reading (IsInfixClone F.is_clone)
+    ghost covers = { λ at. operator_covered I.reading (IsInfixClone F.is_clone)
         (λ s. F.is_infallible (fold_of s)) at };
 
     ghost lawful = { λ is. operator_law (IsInfixClone F.is_clone)

@@ -6,7 +6,7 @@ ghost use Rattle.winnow_expression.specs.Covers.Parts.{as_law, first_covered, ne
 ghost use Rattle.winnow_expression.specs.Definition.{OutputAs, first_side, next_side};
 ghost use Rattle.winnow_expression.specs.Places.{FirstRuns, NextRuns};
 ghost use Rattle.winnow_expression.specs.Places.Laws.{first_ends, next_ends};
-ghost use Rattle.winnow_core.specs.Claim.{no_claim, nothing_claimed};
+ghost use Rattle.parser_definitions.specs.Claim.{no_claim, nothing_claimed};
 
 use crate::combinator::operators::{Infix, Postfix, Prefix};
 use stream_errors::parser_error::ParserError;
@@ -68,7 +68,7 @@ impl<I: Stream, O, E: ParserError<I>, F, P: Parser<I, O, E>, R: Parser<I, Prefix
     ghost leaves_ends = { λ form. first_ends I.reading (P.meaning form) (R.meaning form)
         (P.leaves_ends form) (R.leaves_ends form) };
 
-    ghost covers = { λ is at. first_covered (P.covers is.0 at) (R.covers is.1 at) };
+    ghost covers = { λ at. first_covered (P.covers at) (R.covers at) };
 
     ghost lawful = { λ is. as_law first_side (AlikeSides P.terms.alike R.terms.alike)
         (first_law (P.lawful is.0) (R.lawful is.1)) };
@@ -122,8 +122,8 @@ impl<
     ghost leaves_ends = { λ form. next_ends I.reading (P.meaning form) (R.meaning form)
         (P.leaves_ends form) (R.leaves_ends form) };
 
-    ghost covers = { λ is at. next_covered I.reading.units (P.covers is.0 at)
-        (R.covers is.1 at) };
+    ghost covers = { λ at. next_covered I.reading.units (P.covers at)
+        (R.covers at) };
 
     ghost lawful = { λ is. as_law next_side
         (AlikeOptions (AlikeSides P.terms.alike R.terms.alike))

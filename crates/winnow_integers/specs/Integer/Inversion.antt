@@ -5,7 +5,8 @@ use Rattle.streams.specs.Input.{Input, Passes}
 use Rattle.streams.specs.Reading.{Reading}
 use Rattle.stream_errors.specs.Form.{ErrorForm}
 use Rattle.stream_errors.specs.Form.Inversion.{ok_is_err, same_ok}
-use Rattle.winnow_integers.specs.Integer.{AreBytes, IntegerRuns}
+use Rattle.parser_definitions.specs.Integer.{AreBytes}
+use Rattle.winnow_integers.specs.Integer.{IntegerRuns}
 
 -- An integer was read: `width` bytes were passed, and it is their value.
 pub record IntegerRead {S O : Type 0} (width : ℕ) (value : List ℕ → O) (reading : Reading ℕ S)

@@ -5,7 +5,8 @@ use Rattle.std.proofs.Common.{sym, ap, ◌∙◌, arith}
 use Rattle.std.proofs.lemmas.List.{reverse-append}
 use Rattle.std.proofs.lemmas.List.Elements.{All-head, All-push, All-same, All-tail}
 use Rattle.std.proofs.Math.Nat.{mul-le-mul_right, mul_assoc, add-mul, pow-succ'}
-use Rattle.winnow_integers.specs.Integer.{AreBytes, value_of}
+use Rattle.parser_definitions.specs.Integer.{AreBytes}
+use Rattle.winnow_integers.specs.Integer.{value_of}
 
 -- bytes in front of others stand for that many times 256 to the number of those
 pub value_of_append : (xs ys : List ℕ)

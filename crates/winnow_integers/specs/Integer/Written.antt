@@ -8,7 +8,8 @@ use Rattle.std.proofs.lemmas.Nat.{div-mul-add}
 use Rattle.std.proofs.Math.Nat.{div-add-mod', div-lt_iff_lt-mul, div-one, mod-eq_of_lt, mod-lt}
 use Rattle.std.proofs.Math.Nat.{mul-add-div_right, mul-add-mod_self_right, mul_assoc}
 use Rattle.std.proofs.Math.Nat.{one-le-pow, pow-succ'}
-use Rattle.winnow_integers.specs.Integer.{AreBytes, value_of}
+use Rattle.parser_definitions.specs.Integer.{AreBytes}
+use Rattle.winnow_integers.specs.Integer.{value_of}
 use Rattle.winnow_integers.specs.Integer.Values.{value_of_fits}
 
 positive : (n : ℕ) → 0 < 256 ^ n

@@ -1,17 +1,13 @@
 -- Lemmas about a call of numerals: the tokens that it passes, which are decimal digits.
-use Rattle.std.specs.Prelude.{◌≡◌, ◌<◌, ℕ, Bool, true, false, List, [], ◌∷◌, ◌++◌, ◌⊎◌}
+use Rattle.std.specs.Prelude.{◌≡◌, ℕ, Bool, false, List, [], ◌∷◌, ◌++◌}
 use Rattle.std.proofs.Common.{refl, sym, ap, subst, ◌∙◌, inl, inr, arith, append_assoc}
-use Rattle.std.proofs.lemmas.Bool.{cases_order}
 use Rattle.streams.specs.Equal.{same_first, same_others}
 use Rattle.streams.specs.Input.{Input, Passes}
 use Rattle.streams.specs.Kind.{Kind}
 use Rattle.streams.specs.Reading.{Reading, units-nil}
 use Rattle.stream_errors.specs.Form.{ErrorForm, modal, plain}
-use Rattle.stream_sets.specs.AsChar.{IsDecDigit}
-use Rattle.winnow_numbers.specs.Decimal.{IsDecimalOf}
-use Rattle.winnow_numbers.specs.DecimalText.{AreDigits}
-use Rattle.winnow_numbers.specs.Digits.{AreCharacters, NoneFirst}
-use Rattle.winnow_numbers.specs.Digits.Inversion.{characters_two, one_character}
+use Rattle.parser_definitions.specs.Digits.{AreCharacters, characters_two, one_character}
+use Rattle.parser_definitions.specs.NumberGrammar.{AreDigits}
 use Rattle.winnow_numbers.specs.Numeral.{DigitsRuns, LacksDigits, NoNumeral, NumeralRuns, SignRuns}
 use Rattle.winnow_numbers.specs.Numeral.{left_by}
 
@@ -39,23 +35,6 @@ passes_none reading i j same =
       possible = refl;
       status = refl;
     })
-
--- the input after the tokens `front`, with the remaining tokens `rest`
-abbrev pub behind : {T S : Type 0} → Reading T S → List T → List T → Input T → Input T
-behind reading front rest i =
-    record {
-      left = record {
-        tokens = rest;
-        place = reading.advance i.left.place (reading.units front);
-        possible = i.left.possible;
-      };
-      status = i.status;
-    }
-
-pub leads_behind : {T S : Type 0} (reading : Reading T S) (front rest : List T) (i : Input T)
-    → i.left.tokens ≡ front ++ rest → Passes reading front i (behind reading front rest i)
-leads_behind reading front rest i e =
-    record { tokens = e; place = refl; possible = refl; status = refl }
 
 module _ {K T S : Type 0} (seen : K → T) (code : K → ℕ) (reading : Reading T S) where
   -- what a sign and digits are passed by
@@ -126,59 +105,7 @@ module _ {K T S : Type 0} (seen : K → T) (code : K → ℕ) (reading : Reading
         λ more f. absurd (omega (arith, leads.0, same_first (sym e ∙ f))),
       )
 
-  pub digits_stop : (naught : Bool) (i : Input T) (digits : List ℕ) (j : Input T)
-      → DigitsRuns seen code reading naught i digits j
-      → (digits ≡ 48 ∷ []) ⊎ NoneFirst seen code IsDecDigit j.left.tokens
-  digits_stop naught i digits j (inl (x, may, is, passes, e)) = inl e
-  digits_stop naught i digits j
-      (inr (front, first, others, e, leads, are, passes, chars, stops, whole)) = inr stops
-
   pub unsigned : (i : Input T) (sign : List ℕ) (a : Input T)
       → SignRuns seen code reading false i sign a → (sign ≡ []) × (a ≡ i)
   unsigned i sign a (inl (x, may, is, passes, e)) = absurd cc
   unsigned i sign a (inr (none, e, same)) = (e, same)
-
-  -- The decimal digits of a number are passed, where they may be those of 0.
-  digits_by : (naught : Bool) (i : Input T) (front : List T) (d : ℕ) (ds : List ℕ) (j : Input T)
-      (v : ℕ) → IsDecimalOf (d ∷ ds) v → (d ∷ ds ≡ 48 ∷ [] → naught ≡ true)
-      → AreCharacters seen code front (d ∷ ds) → Passes reading front i j
-      → NoneFirst seen code IsDecDigit j.left.tokens
-      → (j.left.tokens ≡ [] → j.status.cut ≡ false) → (d ≡ 48) ⊎ ((d < 48) ⊎ (48 < d))
-      → DigitsRuns seen code reading naught i (d ∷ ds) j
-  digits_by naught i [] d ds j v is may chars passes stops whole order = absurd chars
-  digits_by naught i (t ∷ []) d ds j v is may ((x, seen_as, same), chars) passes stops whole
-      (inl first) =
-      let alone = is.lone_zero ds (ap (λ c. c ∷ ds) first) in
-      let digits : d ∷ ds ≡ 48 ∷ [] = ap (λ c. c ∷ ds) first ∙ ap (λ l. 48 ∷ l) alone in
-      let P : T → Type 0 = λ y. Passes reading (y ∷ []) i j in
-      inl (x, may digits, same ∙ first, subst P (sym seen_as) passes, digits)
-  digits_by naught i (t ∷ u ∷ ts) d ds j v is may (head, chars) passes stops whole (inl first) =
-      let alone = is.lone_zero ds (ap (λ c. c ∷ ds) first) in
-      let P : List ℕ → Type 0 = λ l. AreCharacters seen code (u ∷ ts) l in
-      absurd (subst P alone chars)
-  digits_by naught i front d ds j v is may chars passes stops whole (inr (inl low)) =
-      absurd (omega (arith, is.are.1.0, low))
-  digits_by naught i front d ds j v is may chars passes stops whole (inr (inr high)) =
-      inr (
-        front,
-        d,
-        ds,
-        refl,
-        (omega (arith, high), is.are.1.0.1),
-        is.are.1.1,
-        passes,
-        chars,
-        stops,
-        whole,
-      )
-
-  pub digits_run : (naught : Bool) (i : Input T) (front : List T) (digits : List ℕ)
-      (j : Input T) (v : ℕ) → IsDecimalOf digits v → (digits ≡ 48 ∷ [] → naught ≡ true)
-      → AreCharacters seen code front digits → Passes reading front i j
-      → NoneFirst seen code IsDecDigit j.left.tokens
-      → (j.left.tokens ≡ [] → j.status.cut ≡ false)
-      → DigitsRuns seen code reading naught i digits j
-  digits_run naught i front [] j v is may chars passes stops whole =
-      absurd (omega (arith, is.are.0))
-  digits_run naught i front (d ∷ ds) j v is may chars passes stops whole =
-      digits_by naught i front d ds j v is may chars passes stops whole (cases_order d 48)

@@ -6,8 +6,8 @@ use Rattle.stream_sets.specs.AsChar.{IsDecDigit}
 use Rattle.grammars.specs.Grammar.Same.{same_sym}
 use Rattle.grammars.specs.Texts.{IsGrammarOf, NotFirst, Text}
 use Rattle.grammars.specs.Texts.Parts.{same_of}
-use Rattle.winnow_numbers.specs.Numeral.Grammar.{Decimal}
-use Rattle.winnow_numbers.specs.Numeral.Grammar.Inversion.{NoDigitFirst, Written, same_written}
+use Rattle.parser_definitions.specs.NumberGrammar.{Decimal}
+use Rattle.winnow_numbers.specs.Numeral.Written.{NoDigitFirst, Written, same_written}
 
 -- the output of `{}` for a number below the bound, as 2 ^ 16 for `u16`
 unfoldable pub NumberText : ℕ → Text ℕ ℕ

@@ -2,7 +2,7 @@
 ghost use Rattle.std.specs.Prelude.{◌≡◌, ◌≤◌, ◌-◌, IfSome, ℕ, List, length, true};
 ghost use Rattle.stream_sets.specs.AsChar.{IsDecDigit};
 ghost use Rattle.streams.specs.Input.{IsEndOf};
-ghost use Rattle.winnow_numbers.specs.Digits.{value_in};
+ghost use Rattle.parser_definitions.specs.Digits.{value_in};
 ghost use Rattle.winnow_numbers.specs.Lanes.{StartsWithNumeral};
 ghost use Rattle.winnow_numbers.specs.Numeral.{DigitsRuns};
 

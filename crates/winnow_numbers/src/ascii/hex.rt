@@ -6,7 +6,7 @@ ghost use Rattle.std.specs.List.{AllByRecursion};
 ghost use Rattle.stream_errors.specs.Form.{answer_by};
 ghost use Rattle.stream_sets.specs.AsChar.{IsHexDigit};
 ghost use Rattle.streams.specs.Input.{IsEndOf};
-ghost use Rattle.winnow_numbers.specs.Digits.{NoneFirst, SomeFirst, value_in};
+ghost use Rattle.parser_definitions.specs.Digits.{NoneFirst, SomeFirst, value_in};
 ghost use Rattle.winnow_numbers.specs.HexUint.{HexUintRuns};
 
 use crate::ascii::impls::hex_uint::HexUint;
@@ -15,7 +15,6 @@ use stream_errors::parser_error::ParserError;
 use stream_sets::as_bstr::{AsBStr, SlicesAsBytes};
 use stream_sets::as_char::AsChar;
 use stream_sets::classes::HexadecimalDigits;
-use stream_sets::range::Range;
 use streams::needed::Needed;
 use streams::stream::{Stream, StreamIsPartial};
 use winnow_core::parser::Parser;
@@ -51,7 +50,7 @@ where
 {
     let start = input.checkpoint();
     let most = Output::max_nibbles(SealedMarker);
-    let mut digits = take_while::<_, Input, Error>(Range::from(1..=most), HexadecimalDigits);
+    let mut digits = take_while::<_, Input, Error, _>(1..=most, HexadecimalDigits);
     match digits.parse_next(input) {
         Ok(slice) => {
             let bytes = slice.as_bstr();

@@ -4,8 +4,9 @@ ghost use Rattle.std.specs.Int.{w8, w16, w32, w64, w128};
 ghost use Rattle.std.specs.Str.{IsUtf8};
 ghost use Rattle.stream_errors.specs.Form.{answer_by};
 ghost use Rattle.streams.specs.Input.{IsEndOf};
+ghost use Rattle.parser_definitions.specs.Number.{signed_value};
 ghost use Rattle.winnow_numbers.specs.DecInt.{DecIntRuns};
-ghost use Rattle.winnow_numbers.specs.DecimalText.{ReadsSigned, signed_value};
+ghost use Rattle.winnow_numbers.specs.DecimalText.{ReadsSigned};
 ghost use Rattle.winnow_numbers.specs.Numeral.{NumeralRuns, SignedBy};
 
 use crate::ascii::digits::small_numeral;

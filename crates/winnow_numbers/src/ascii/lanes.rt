@@ -5,7 +5,7 @@
 ghost use Rattle.std.specs.Prelude.{◌≡◌, ◌≤◌, ◌<◌, ◌+◌, ◌-◌, ◌*◌, ◌++◌, ℕ, List, IfSome};
 ghost use Rattle.std.specs.Prelude.{length};
 ghost use Rattle.std.specs.Prelude.{replicate, take};
-ghost use Rattle.winnow_numbers.specs.Digits.{value_in};
+ghost use Rattle.parser_definitions.specs.Digits.{value_in};
 ghost use Rattle.winnow_numbers.specs.Lanes.{AreAtMost, StartsWithNumeral, EndsDigits, as_words};
 ghost use Rattle.winnow_numbers.specs.Lanes.{in_base, joined};
 

@@ -3,9 +3,10 @@ ghost use Rattle.std.specs.Prelude.{◌≡◌, ◌++◌, ℕ, List, MatchResult,
 ghost use Rattle.streams.specs.Input.{IsEndOf, Takes};
 ghost use Rattle.streams.specs.Kind.{backtrack};
 ghost use Rattle.stream_errors.specs.Form.{incomplete_kind};
-ghost use Rattle.winnow_numbers.specs.Digits.{AreCharacters};
+ghost use Rattle.parser_definitions.specs.Digits.{AreCharacters};
+ghost use Rattle.parser_definitions.specs.Numeral.{is_none};
 ghost use Rattle.winnow_numbers.specs.Numeral.{DigitsRuns, LacksDigits, NoDigits, NoNumeral};
-ghost use Rattle.winnow_numbers.specs.Numeral.{NumeralRuns, SignRuns, is_none, sign_of};
+ghost use Rattle.winnow_numbers.specs.Numeral.{NumeralRuns, SignRuns, sign_of};
 
 use stream_errors::parser_error::ParserError;
 use stream_sets::as_char::AsChar;

@@ -65,20 +65,23 @@ where
 /// Known as `many0`, `many1`, `many_m_n` and `count` in nom.
 ///
 /// ```
-/// let mut parser = repeat(alloc, Range::from(0..), "ab");
+/// let mut parser = repeat(alloc, 0.., "ab");
 /// let mut input = "ababa";
 /// let slices: Result<Vec<&str>, EmptyError> = parser.parse_next(&mut input);
 /// assert_eq!(rt; slices.map(|all| all.len()), Ok(2));
 /// assert_eq!(rt; input, "a");
 /// ```
 #[inline(always)]
-pub fn repeat<P, I, O, C, E, A>(alloc: A, occurrences: Range, parser: P) -> Repeat<P, I, O, C, E, A>
-    ensures occurrences { repeat_occurrences result ≡ occurrences }
+pub fn repeat<P, I, O, C, E, A, R>(alloc: A, occurrences: R, parser: P) -> Repeat<P, I, O, C, E, A>
+where
+    Range: From<R>,
+    ensures occurrences { ⟦<Range as From<R>>⟧.from_gives occurrences
+        (repeat_occurrences result) }
     ensures parser { repeat_parser result ≡ parser }
 {
     Repeat {
         alloc,
-        occurrences,
+        occurrences: Range::from(occurrences),
         parser,
         marker: PhantomData,
     }
@@ -105,26 +108,28 @@ pub fn repeat<P, I, O, C, E, A>(alloc: A, occurrences: Range, parser: P) -> Repe
 /// Known as `many_till` in nom.
 ///
 /// ```
-/// let mut parser = repeat_till(alloc, Range::from(0..), Any, ';');
+/// let mut parser = repeat_till(alloc, 0.., Any, ';');
 /// let mut input = "ab;c";
 /// let answer: Result<(Vec<char>, char), EmptyError> = parser.parse_next(&mut input);
 /// assert!(rt; matches!(answer, Ok((all, ';')) if all.as_slice() == ['a', 'b'].as_slice()));
 /// assert_eq!(rt; input, "c");
 /// ```
 #[inline(always)]
-pub fn repeat_till<P, G, I, O, D, C, E, A>(
+pub fn repeat_till<P, G, I, O, D, C, E, A, R>(
     alloc: A,
-    occurrences: Range,
+    occurrences: R,
     parser: P,
     terminator: G,
 ) -> RepeatTill<P, G, I, O, D, C, E, A>
-    ensures occurrences { result.occurrences ≡ occurrences }
+where
+    Range: From<R>,
+    ensures occurrences { ⟦<Range as From<R>>⟧.from_gives occurrences result.occurrences }
     ensures parser { result.parser ≡ parser }
     ensures terminator { result.terminator ≡ terminator }
 {
     RepeatTill {
         alloc,
-        occurrences,
+        occurrences: Range::from(occurrences),
         parser,
         terminator,
         marker: PhantomData,

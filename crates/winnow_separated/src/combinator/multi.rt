@@ -28,26 +28,29 @@ use stream_sets::range::Range;
 /// Known as `separated_list0` and `separated_list1` in nom.
 ///
 /// ```
-/// let mut parser = separated(alloc, Range::from(0..), Digit1, ',');
+/// let mut parser = separated(alloc, 0.., Digit1, ',');
 /// let mut input = "1,2,";
 /// let slices: Result<Vec<&str>, EmptyError> = parser.parse_next(&mut input);
 /// assert_eq!(rt; slices.map(|all| all.len()), Ok(2));
 /// assert_eq!(rt; input, ",");
 /// ```
 #[inline(always)]
-pub fn separated<P, S, I, O, D, C, E, A>(
+pub fn separated<P, S, I, O, D, C, E, A, R>(
     alloc: A,
-    occurrences: Range,
+    occurrences: R,
     parser: P,
     separator: S,
 ) -> Separated<P, S, I, O, D, C, E, A>
-    ensures occurrences { separated_occurrences result ≡ occurrences }
+where
+    Range: From<R>,
+    ensures occurrences { ⟦<Range as From<R>>⟧.from_gives occurrences
+        (separated_occurrences result) }
     ensures parser { separated_parser result ≡ parser }
     ensures separator { separated_separator result ≡ separator }
 {
     Separated {
         alloc,
-        occurrences,
+        occurrences: Range::from(occurrences),
         link: Link { parser, separator },
         marker: PhantomData,
     }

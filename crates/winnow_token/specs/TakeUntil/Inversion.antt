@@ -4,7 +4,7 @@ use Rattle.std.specs.Prelude.{Option, None, Ok, Err, false}
 use Rattle.std.specs.List.{All}
 use Rattle.std.proofs.Common.{refl, sym, ap, subst, ◌∙◌, inl, inr, arith}
 use Rattle.std.proofs.lemmas.List.Elements.{All-cons, All-nil, All-weaker}
-use Rattle.streams.specs.Equal.{none_is_some, same_rest}
+use Rattle.streams.specs.Equal.{none_is_some, same_rest, true_is_false}
 use Rattle.streams.specs.Input.{Input, Takes}
 use Rattle.streams.specs.Kind.{Kind, backtrack}
 use Rattle.streams.specs.Reading.{Reading}
@@ -13,7 +13,6 @@ use Rattle.stream_sets.specs.Range.{bounds_of, from_to, greatest_of, greatest_of
 use Rattle.stream_sets.specs.declared.range.Range.{Range}
 use Rattle.stream_errors.specs.Form.{ErrorForm}
 use Rattle.stream_errors.specs.Form.Inversion.{ok_is_err, same_err, same_ok}
-use Rattle.winnow_core.specs.Exact.Failed.{short_backtracks}
 use Rattle.winnow_token.specs.TakeUntil.{TakeUntilRuns}
 
 -- no match occurs in the tokens
@@ -88,7 +87,10 @@ nothing_before reading form sought least i k j whole
     (inr (inl (k', within, nowhere, kind, e, same))) =
     record {
       stays = same;
-      kind = same_err refl e ∙ short_backtracks form None i k' whole kind;
+      kind = same_err refl e ∙ elim kind [
+        | inl (cuts, is) ↦ true_is_false (sym cuts ∙ whole)
+        | inr (so, is) ↦ is
+      ];
       why = inl nowhere;
     }
 nothing_before reading form sought least i k j whole

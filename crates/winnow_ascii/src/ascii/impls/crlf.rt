@@ -3,12 +3,11 @@ ghost use Rattle.std.specs.Prelude.{⊤, [], ◌∷◌};
 ghost use Rattle.grammars.specs.Grammar.{SpelledBy};
 ghost use Rattle.grammars.specs.Grammar.Searches.{LiterallyBytes};
 ghost use Rattle.grammars.specs.Grammar.Unique.{literally_takes};
-ghost use Rattle.winnow_core.specs.Exact.Allowed.{backs};
-ghost use Rattle.winnow_core.specs.Literal.Laws.{SpellsByText, text_exact, text_fails};
 ghost use Rattle.winnow_core.specs.Runs.{Keeps};
 ghost use Rattle.winnow_ascii.specs.Crlf.{CrlfRuns};
 ghost use Rattle.winnow_ascii.specs.Crlf.Laws.{crlf_ends};
-ghost use Rattle.parser_definitions.specs.LineEnding.{CrlfDoes, crlf_law};
+ghost use Rattle.parser_definitions.specs.LineEnding.{CrlfDoes, SpellsByText, crlf_law};
+ghost use Rattle.parser_definitions.specs.Projects.Lines.{text_projects};
 ghost use Rattle.parser_definitions.specs.Spelled.{ShowSame};
 ghost use Rattle.winnow_ascii.specs.Covers.{text_covered};
 
@@ -53,13 +52,12 @@ impl<I: StreamIsPartial + Compare<&'static str>, E: ParserError<I>> Parser<I, I:
     ghost leaves_ends = { λ form x i answer y j r. crlf_ends I.spells I.reading form i answer j
         r.0 };
 
-    ghost covers = { λ is at. text_covered I.reading I.spells (13 ∷ 10 ∷ []) is };
+    ghost covers = { λ at. text_covered I.reading I.spells (13 ∷ 10 ∷ []) };
 
     ghost lawful = { λ is. crlf_law I.reading I.spells I.same_units is };
 
     ghost claimed = { λ s. record {
-      exact = λ form is. text_exact I.reading form I.spells is I.same_units (13 ∷ 10 ∷ []);
-      fails = λ form is. backs (text_fails I.reading form I.spells is I.same_units (13 ∷ 10 ∷ []));
+      projects = λ at is. text_projects I.reading I.spells I.same_units is (13 ∷ 10 ∷ []);
       takes = λ is some. literally_takes I.reading (SpelledBy I.spells) (λ _ slice. slice)
           (13 ∷ 10 ∷ []) some;
     } };

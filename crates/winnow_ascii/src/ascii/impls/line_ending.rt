@@ -3,13 +3,12 @@ ghost use Rattle.std.specs.Prelude.{⊤, ◌<◌, ◌∷◌, []};
 ghost use Rattle.grammars.specs.Grammar.{SpelledBy};
 ghost use Rattle.grammars.specs.Grammar.Searches.{LineEnd};
 ghost use Rattle.grammars.specs.Grammar.Unique.{either_takes, literally_takes};
-ghost use Rattle.winnow_core.specs.Exact.Allowed.{backs};
-ghost use Rattle.winnow_core.specs.Literal.Laws.{SpellsByText};
 ghost use Rattle.winnow_core.specs.Runs.{Keeps};
 ghost use Rattle.winnow_ascii.specs.LineEnding.{LineEndingRuns};
-ghost use Rattle.winnow_ascii.specs.LineEnding.Laws.{line_ending_exact, line_ending_fails};
 ghost use Rattle.winnow_ascii.specs.LineEnding.Laws.{line_ending_ends};
-ghost use Rattle.parser_definitions.specs.LineEnding.{LineEndingDoes, line_ending_law};
+ghost use Rattle.parser_definitions.specs.LineEnding.{LineEndingDoes, SpellsByText};
+ghost use Rattle.parser_definitions.specs.LineEnding.{line_ending_law};
+ghost use Rattle.parser_definitions.specs.Projects.Lines.{line_ending_projects};
 ghost use Rattle.parser_definitions.specs.Spelled.{ShowSame};
 ghost use Rattle.winnow_ascii.specs.Covers.{line_ending_covered};
 
@@ -55,13 +54,12 @@ impl<I: StreamIsPartial + Compare<&'static str>, E: ParserError<I>> Parser<I, I:
     ghost leaves_ends = { λ form x i answer y j r. line_ending_ends I.spells I.reading form i
         answer j r.0 };
 
-    ghost covers = { λ is at. line_ending_covered I.reading I.spells is };
+    ghost covers = { λ at. line_ending_covered I.reading I.spells };
 
     ghost lawful = { λ is. line_ending_law I.reading I.spells I.same_units is };
 
     ghost claimed = { λ s. record {
-      exact = λ form is. line_ending_exact I.reading form I.spells is I.same_units;
-      fails = λ form is. backs (line_ending_fails I.reading form I.spells is I.same_units);
+      projects = λ at is. line_ending_projects I.reading I.spells I.same_units is;
       takes = λ is some. either_takes
           (literally_takes I.reading (SpelledBy I.spells) (λ _ slice. slice) (10 ∷ [])
           some.0) (literally_takes I.reading (SpelledBy I.spells) (λ _ slice. slice)

@@ -2,12 +2,11 @@
 ghost use Rattle.std.specs.Prelude.{⊤, [], ◌≡◌};
 ghost use Rattle.grammars.specs.Grammar.{Literally};
 ghost use Rattle.grammars.specs.Grammar.Unique.{literally_takes};
-ghost use Rattle.winnow_core.specs.Exact.Allowed.{backs};
-ghost use Rattle.winnow_core.specs.Literal.Laws.{literal_exact, literal_fails};
 ghost use Rattle.winnow_core.specs.Runs.{Keeps};
 ghost use Rattle.winnow_ascii.specs.Newline.{NewlineRuns};
 ghost use Rattle.winnow_ascii.specs.Newline.Laws.{newline_ends};
 ghost use Rattle.parser_definitions.specs.LineEnding.{NewlineDoes, character_law};
+ghost use Rattle.parser_definitions.specs.Projects.Literals.{literal_projects};
 ghost use Rattle.winnow_core.specs.Covers.Leaves.{literal_covered};
 
 use crate::ascii::newline;
@@ -46,14 +45,13 @@ impl<I: StreamIsPartial + Compare<char>, E: ParserError<I>> Parser<I, char, E> f
     ghost leaves_ends = { λ form x i answer y j r. newline_ends I.spells I.reading form i answer
         j r.0 };
 
-    ghost covers = { λ _ at. literal_covered I.reading (λ _. I.spells 10) (λ _ slice. 10) };
+    ghost covers = { λ at. literal_covered I.reading (λ _. I.spells 10) (λ _ slice. 10) };
 
     ghost lawful = { λ _. character_law I.reading I.spells 10 (I.same_units 10) };
 
     ghost claimed = { λ s. record {
-      exact = λ form is. literal_exact I.reading form I.spells (λ s _. s) (λ _. 10) tt
+      projects = λ at is. literal_projects I.reading I.spells (λ s _. s) (λ _. 10) tt
           (I.same_units 10);
-      fails = λ form is. backs (literal_fails I.reading form I.spells (λ s _. s) (λ _. 10) tt);
       takes = λ is some. literally_takes I.reading I.spells (λ s _. s) 10 some;
     } };
 

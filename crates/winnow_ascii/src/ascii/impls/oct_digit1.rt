@@ -4,11 +4,11 @@
 ghost use Rattle.std.specs.Prelude.{⊤};
 ghost use Rattle.stream_sets.specs.AsChar.{IsOctDigit};
 ghost use Rattle.parser_definitions.specs.Class.{CharIsFunction, ClassDoes, class_law};
+ghost use Rattle.parser_definitions.specs.Projects.Lines.{class_claim, class_claimed, one_is_some};
 ghost use Rattle.parser_definitions.specs.Spelled.{ShowSame};
 ghost use Rattle.winnow_core.specs.Runs.{Keeps};
 ghost use Rattle.winnow_ascii.specs.Class.{ClassRuns};
-ghost use Rattle.winnow_ascii.specs.Class.Laws.{class_claim, class_claimed, class_leaves};
-ghost use Rattle.winnow_ascii.specs.Class.Laws.{one_is_some};
+ghost use Rattle.winnow_ascii.specs.Class.Laws.{class_leaves};
 ghost use Rattle.winnow_ascii.specs.Covers.{class_covered};
 
 use crate::ascii::oct_digit1;
@@ -48,7 +48,7 @@ where
 
     ghost leaves_ends = { class_leaves IsOctDigit 1 I.Token.code I.seen_as I.reading };
 
-    ghost covers = { λ _ at. class_covered IsOctDigit 1 I.Token.code I.seen_as I.reading };
+    ghost covers = { λ at. class_covered IsOctDigit 1 I.Token.code I.seen_as I.reading };
 
     ghost lawful = { λ is. class_law IsOctDigit 1 I.Token.code I.seen_as I.reading is };
 

@@ -1,13 +1,11 @@
 //! The implementation of `till_line_ending`.
 ghost use Rattle.std.specs.Prelude.{⊤};
 ghost use Rattle.grammars.specs.Grammar.Searches.{Line};
-ghost use Rattle.winnow_core.specs.Exact.Allowed.{backs};
-ghost use Rattle.winnow_core.specs.Literal.Laws.{SpellsByText};
 ghost use Rattle.winnow_core.specs.Runs.{Keeps};
 ghost use Rattle.winnow_ascii.specs.TillLineEnding.{TillLineEndingRuns};
-ghost use Rattle.winnow_ascii.specs.TillLineEnding.Exact.{till_line_ending_exact};
-ghost use Rattle.winnow_ascii.specs.TillLineEnding.Exact.{till_line_ending_fails};
 ghost use Rattle.winnow_ascii.specs.TillLineEnding.Laws.{till_line_ending_ends};
+ghost use Rattle.parser_definitions.specs.LineEnding.{SpellsByText};
+ghost use Rattle.parser_definitions.specs.Projects.Lines.{till_line_ending_projects};
 ghost use Rattle.parser_definitions.specs.TillLineEnding.{SeeksSome, SpellsOne, TillLineEndingDoes};
 ghost use Rattle.parser_definitions.specs.TillLineEnding.{till_line_ending_law};
 ghost use Rattle.parser_definitions.specs.Spelled.{ShowSame};
@@ -57,14 +55,13 @@ impl<
     ghost leaves_ends = { λ form x i answer y j r. till_line_ending_ends I.spells I.sought
         I.reading form i answer j r.0 };
 
-    ghost covers = { λ is at. till_line_ending_covered I.reading I.spells I.sought is };
+    ghost covers = { λ at. till_line_ending_covered I.reading I.spells I.sought };
 
-    ghost lawful = { λ _. till_line_ending_law I.reading I.spells I.sought
-        (I.stays_first (13, 10)) };
+    ghost lawful = { λ is. till_line_ending_law I.reading I.spells I.sought
+        (I.stays_first (13, 10)) is };
 
     ghost claimed = { λ s. record {
-      exact = λ form is. till_line_ending_exact I.reading form I.spells is I.sought;
-      fails = λ form is. backs (till_line_ending_fails I.reading form I.spells is I.sought);
+      projects = λ at is. till_line_ending_projects I.reading I.spells I.sought is;
       takes = λ is never. absurd never;
     } };
 

@@ -1,17 +1,16 @@
 //! The implementation of `length_and_then`.
-ghost use Rattle.std.specs.Prelude.{⊤};
+ghost use Rattle.std.specs.Prelude.{⊤, true};
 ghost use Rattle.streams.specs.Input.{IsEndOf};
 ghost use Rattle.grammars.specs.Grammar.Lengths.{Inside, SaysOne, Sized, sized_inside_takes};
 ghost use Rattle.stream_errors.specs.Form.{answer_by, modal};
 ghost use Rattle.winnow_core.specs.CompleteErr.{CompleteErrRuns};
-ghost use Rattle.winnow_core.specs.Exact.Allowed.{fails_as};
 ghost use Rattle.parser_definitions.specs.Length.{LengthAndThenDoes, OneLength};
 ghost use Rattle.parser_definitions.specs.Length.{length_and_then_law, on_their_own};
+ghost use Rattle.parser_definitions.specs.Projects.{projects_as};
+ghost use Rattle.parser_definitions.specs.Projects.Length.{length_and_then_projects};
 ghost use Rattle.winnow_binary.specs.Covers.{length_and_then_covered};
 ghost use Rattle.winnow_binary.specs.LengthAndThen.{LengthAndThenRuns, TakenRuns};
 ghost use Rattle.winnow_binary.specs.LengthAndThen.Laws.{length_and_then_ends};
-ghost use Rattle.winnow_binary.specs.LengthAndThen.Laws.{length_and_then_exact};
-ghost use Rattle.winnow_binary.specs.LengthAndThen.Laws.{length_and_then_fails};
 
 use std::marker::PhantomData;
 use stream_errors::parser_error::ParserError;
@@ -71,21 +70,19 @@ impl<
     ghost leaves_ends = { λ form. length_and_then_ends N.number I.reading form I.counts_missing
         (P.meaning form) (G.meaning form) (P.leaves_ends form) };
 
-    ghost covers = { λ is at. length_and_then_covered N.number I.reading I.counts_missing
-        (P.covers is.0 at) (G.covers is.2 (on_their_own at)) };
+    ghost covers = { λ at. length_and_then_covered N.number I.reading I.counts_missing
+        (P.covers at) (G.covers (on_their_own at)) };
 
     ghost lawful = { λ is. length_and_then_law I.reading N.number I.counts_missing is.1
         (P.lawful is.0) (G.lawful is.2) };
 
     ghost claimed = { λ s. record {
-      exact = λ form is. length_and_then_exact N.number I.reading form I.counts_missing is.1
-          ((P.claimed s.0).exact form is.0) ((G.claimed s.1).exact form is.2);
-      fails = λ form is. length_and_then_fails N.number I.reading form I.counts_missing
-          ((P.claimed s.0).exact form is.0)
-          (fails_as (λ b. b.0) (λ m. m.0) ((P.claimed s.0).fails form is.0))
-          (fails_as (λ b. b.1) (λ m. m.1) ((G.claimed s.1).fails form is.2));
+      projects = λ at is. length_and_then_projects N.number I.reading I.counts_missing
+          (projects_as (λ b. b.0) (λ m. m.0) ((P.claimed s.0).projects at is.0)) is.1
+          (projects_as (λ b. b.1) (λ m. m.1) ((G.claimed s.1).projects at is.2));
       takes = λ is some. sized_inside_takes N.number (G.claim s.1).grammar
-          ((P.claimed s.0).exact modal is.0).unique ((P.claimed s.0).takes is.0 some);
+          ((P.claimed s.0).projects (record { form = modal; possible = true }) is.0).unique
+          ((P.claimed s.0).takes is.0 some);
     } };
 
     #[inline]

@@ -1,14 +1,15 @@
 //! The implementation of `length_repeat`.
+ghost use Rattle.std.specs.Prelude.{true};
 ghost use Rattle.grammars.specs.Grammar.Lengths.{SaysOne, Sized, Times, sized_times_takes};
 ghost use Rattle.stream_errors.specs.Form.{assert_kind, modal};
-ghost use Rattle.winnow_core.specs.Exact.Allowed.{fails_as, wanted, softly};
 ghost use Rattle.parser_definitions.specs.Folding.{Built, gathering};
 ghost use Rattle.parser_definitions.specs.Length.{OneLength};
 ghost use Rattle.parser_definitions.specs.LengthRepeat.{LengthRepeatDoes, length_repeat_law};
+ghost use Rattle.parser_definitions.specs.Projects.{projects_as};
+ghost use Rattle.parser_definitions.specs.Projects.LengthRepeat.{length_repeat_projects};
 ghost use Rattle.winnow_binary.specs.Covers.{length_repeat_covered};
 ghost use Rattle.winnow_binary.specs.LengthRepeat.{LengthRepeatRuns};
-ghost use Rattle.winnow_binary.specs.LengthRepeat.Laws.{length_repeat_ends, length_repeat_exact};
-ghost use Rattle.winnow_binary.specs.LengthRepeat.Laws.{length_repeat_fails};
+ghost use Rattle.winnow_binary.specs.LengthRepeat.Laws.{length_repeat_ends};
 
 use std::alloc::Allocator;
 use std::marker::PhantomData;
@@ -75,26 +76,22 @@ impl<
         (assert_kind form) (P.meaning form) (G.meaning form) (P.leaves_ends form)
         (G.leaves_ends form) };
 
-    ghost covers = { λ is at. length_repeat_covered N.number C.accumulator (P.covers is.0 at)
-        (G.covers is.2 at) };
+    ghost covers = { λ at. length_repeat_covered N.number C.accumulator (P.covers at)
+        (G.covers at) };
 
     ghost lawful = { λ is. length_repeat_law N.number C.accumulator is.1 (P.lawful is.0)
         (G.lawful is.2) };
 
     ghost claimed = { λ s. record {
-      exact = λ form is. length_repeat_exact N.number C.accumulator (assert_kind form) s
-          ((P.claimed s.0).exact form is.0) ((G.claimed s.1).exact form is.2)
-          (softly is.3 ((G.claimed s.1).fails form is.2)) ((G.claimed s.1).takes is.2 is.4) C.holds
-          C.gathers is.1;
-      fails = λ form is. length_repeat_fails N.number C.accumulator (assert_kind form) s
-          ((P.claimed s.0).exact form is.0) ((G.claimed s.1).exact form is.2)
-          (softly is.3 ((G.claimed s.1).fails form is.2)) ((G.claimed s.1).takes is.2 is.4) C.holds
-          C.gathers (fails_as (λ b. b) (λ m. m.0) ((P.claimed s.0).fails form is.0))
-          (fails_as (λ b. is.3) (λ m. m.1) ((G.claimed s.1).fails form is.2))
-          (λ w. wanted (λ m. C.never_wants m.2 w));
+      projects = λ at is. length_repeat_projects N.number C.accumulator C.gathers
+          (λ m. C.never_wants m.2)
+          (projects_as (λ b. b) (λ m. m.0) ((P.claimed s.0).projects at is.0)) is.1
+          (projects_as (λ b. b) (λ m. m.1) ((G.claimed s.1).projects at is.2)) is.3
+          ((G.claimed s.1).takes is.2 is.4);
       takes = λ is some. sized_times_takes N.number C.holds
-          ((G.claimed s.1).exact modal is.2).unique
-          ((P.claimed s.0).exact modal is.0).unique ((P.claimed s.0).takes is.0 some);
+          ((G.claimed s.1).projects (record { form = modal; possible = true }) is.2).unique
+          ((P.claimed s.0).projects (record { form = modal; possible = true }) is.0).unique
+          ((P.claimed s.0).takes is.0 some);
     } };
 
     fn parse_next(&mut self, input: &mut I) -> Result<C, E> {

@@ -1,14 +1,15 @@
 //! The implementation of `length_take`.
-ghost use Rattle.std.specs.Prelude.{⊤};
+ghost use Rattle.std.specs.Prelude.{⊤, true};
 ghost use Rattle.grammars.specs.Grammar.{Counted};
 ghost use Rattle.grammars.specs.Grammar.Lengths.{SaysOne, Sized};
 ghost use Rattle.stream_errors.specs.Form.{modal};
 ghost use Rattle.parser_definitions.specs.Length.{LengthTakeDoes, OneLength, length_take_law};
+ghost use Rattle.parser_definitions.specs.Projects.Length.{length_take_projects};
+ghost use Rattle.parser_definitions.specs.Projects.Length.{length_take_takes};
 ghost use Rattle.parser_definitions.specs.Spelled.{ShowSame};
 ghost use Rattle.winnow_binary.specs.Covers.{length_take_covered};
 ghost use Rattle.winnow_binary.specs.LengthTake.{LengthTakeRuns};
-ghost use Rattle.winnow_binary.specs.LengthTake.Laws.{length_take_ends, length_take_exact};
-ghost use Rattle.winnow_binary.specs.LengthTake.Laws.{length_take_fails, length_take_takes};
+ghost use Rattle.winnow_binary.specs.LengthTake.Laws.{length_take_ends};
 
 use std::marker::PhantomData;
 use stream_errors::parser_error::ParserError;
@@ -63,18 +64,17 @@ impl<P: Parser<I, N, E>, I: StreamIsPartial, N: ToUsize + Drop, E: ParserError<I
     ghost leaves_ends = { λ form. length_take_ends N.number I.reading form I.counts_missing
         (P.meaning form) (P.leaves_ends form) };
 
-    ghost covers = { λ is at. length_take_covered N.number I.reading I.counts_missing
-        (P.covers is.0 at) };
+    ghost covers = { λ at. length_take_covered N.number I.reading I.counts_missing
+        (P.covers at) };
 
     ghost lawful = { λ is. length_take_law N.number I.reading I.counts_missing is.1
         (P.lawful is.0) };
 
     ghost claimed = { λ s. record {
-      exact = λ form is. length_take_exact N.number I.reading form I.counts_missing is.1
-          ((P.claimed s).exact form is.0);
-      fails = λ form is. length_take_fails N.number I.reading form I.counts_missing
-          ((P.claimed s).exact form is.0) ((P.claimed s).fails form is.0);
-      takes = λ is some. length_take_takes N.number I.reading ((P.claimed s).exact modal is.0)
+      projects = λ at is. length_take_projects N.number I.reading I.counts_missing
+          ((P.claimed s).projects at is.0) is.1;
+      takes = λ is some. length_take_takes N.number I.reading
+          ((P.claimed s).projects (record { form = modal; possible = true }) is.0).unique
           ((P.claimed s).takes is.0 some);
     } };
 

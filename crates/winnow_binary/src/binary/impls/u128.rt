@@ -4,11 +4,12 @@
 
 ghost use Rattle.std.specs.Prelude.{◌≡◌, ⊤};
 ghost use Rattle.parser_definitions.specs.Integer.{IntegerDoes, integer_law};
+ghost use Rattle.parser_definitions.specs.Projects.Integers.{integer_claim, integer_claimed};
+ghost use Rattle.parser_definitions.specs.Projects.Integers.{some_bytes};
 ghost use Rattle.winnow_binary.specs.Chosen.{ChosenRuns};
 ghost use Rattle.winnow_integers.specs.Covers.{integer_covered};
 ghost use Rattle.winnow_integers.specs.Integer.{unsigned_value};
-ghost use Rattle.winnow_integers.specs.Integer.Laws.{integer_claim, integer_claimed};
-ghost use Rattle.winnow_integers.specs.Integer.Laws.{integer_leaves, some_bytes};
+ghost use Rattle.winnow_integers.specs.Integer.Laws.{integer_leaves};
 ghost use Rattle.winnow_integers.specs.declared.binary.endianness.Endianness.{Endianness};
 
 use std::marker::PhantomData;
@@ -46,7 +47,7 @@ impl<I: StreamIsPartial + ByteStream, E: ParserError<I>> Parser<I, u128, E> for 
 
     ghost leaves_ends = { integer_leaves 16 unsigned_value I.reading };
 
-    ghost covers = { λ is at. integer_covered 16 unsigned_value I.reading };
+    ghost covers = { λ at. integer_covered 16 unsigned_value I.reading };
 
     ghost lawful = { λ is. integer_law 16 unsigned_value I.reading };
 

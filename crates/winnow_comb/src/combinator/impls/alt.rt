@@ -5,7 +5,7 @@ ghost use Rattle.streams.specs.Input.{IsEndOf};
 ghost use Rattle.parser_definitions.specs.Does.{Lawful, Terms};
 ghost use Rattle.parser_definitions.specs.Outcome.{Does, Setting};
 ghost use Rattle.winnow_comb.specs.Attempt.{AttemptRuns};
-ghost use Rattle.winnow_core.specs.Claim.{Claim, Claimed};
+ghost use Rattle.parser_definitions.specs.Claim.{Claim, Claimed};
 ghost use Rattle.winnow_core.specs.Covers.{Covers};
 ghost use Rattle.winnow_core.specs.Runs.{LeaveEnds, Meaning};
 
@@ -60,13 +60,13 @@ pub trait Alt<I: Stream, O, E: ParserError<I>> {
     ghost leaves_ends: { (form : ErrorForm) → LeaveEnds I.reading (meaning form) };
 
     // Every call has an outcome of the definition.
-    ghost covers: { terms.premise → (at : Setting) → Covers at (meaning at.form) does };
+    ghost covers: { (at : Setting) → Covers at (meaning at.form) does };
 
     // The laws of the definition.
     ghost lawful: { terms.premise → Lawful terms.stable terms.alike does };
 
-    // The semantics satisfy `claim`.
-    ghost claimed: { (s : State) → Claimed (claim s) s meaning };
+    // The definition satisfies `claim`.
+    ghost claimed: { (s : State) → Claimed (claim s) s does };
 }
 
 /// The parser that [`alt`](crate::combinator::alt) makes.

@@ -1,7 +1,7 @@
 //! A child whose errors backtrack.
 ghost use Rattle.winnow_comb.specs.BacktrackErr.{BacktrackErrRuns};
 ghost use Rattle.winnow_comb.specs.BacktrackErr.Laws.{backtrack_err_ends};
-ghost use Rattle.winnow_core.specs.Claim.{no_claim, nothing_claimed};
+ghost use Rattle.parser_definitions.specs.Claim.{no_claim, nothing_claimed};
 ghost use Rattle.parser_definitions.specs.Peek.{BacktrackErrDoes, backtrack_err_law};
 ghost use Rattle.winnow_comb.specs.Covers.{backtrack_err_covered};
 
@@ -46,7 +46,7 @@ impl<P: Parser<I, O, E>, I: Stream, O, E: ParserError<I> + ModalError> Parser<I,
     ghost leaves_ends = { λ form. backtrack_err_ends I.reading (P.meaning form)
         (P.leaves_ends form) };
 
-    ghost covers = { λ is at. backtrack_err_covered (P.covers is at) };
+    ghost covers = { λ at. backtrack_err_covered (P.covers at) };
 
     ghost lawful = { λ is. backtrack_err_law (P.lawful is) };
 

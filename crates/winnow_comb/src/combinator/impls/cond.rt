@@ -1,10 +1,11 @@
 //! A child that is run on a condition.
-ghost use Rattle.std.specs.Prelude.{Bool};
 ghost use Rattle.grammars.specs.Grammar.{When};
-ghost use Rattle.winnow_comb.specs.Cond.{CondRuns};
-ghost use Rattle.winnow_comb.specs.Cond.Laws.{cond_exact, cond_fails, cond_ends};
-ghost use Rattle.parser_definitions.specs.Peek.{CondDoes, cond_law};
 ghost use Rattle.parser_definitions.specs.Equal.{AlikeOptions};
+ghost use Rattle.parser_definitions.specs.Peek.{CondDoes, cond_law};
+ghost use Rattle.parser_definitions.specs.Projects.Choices.{cond_projects};
+ghost use Rattle.std.specs.Prelude.{Bool};
+ghost use Rattle.winnow_comb.specs.Cond.Laws.{cond_ends};
+ghost use Rattle.winnow_comb.specs.Cond.{CondRuns};
 ghost use Rattle.winnow_comb.specs.Covers.{cond_covered};
 
 use std::marker::PhantomData;
@@ -53,13 +54,12 @@ impl<P: Parser<I, O, E>, I: Stream, O, E: ParserError<I>> Parser<I, Option<O>, E
 
     ghost leaves_ends = { λ form. cond_ends I.reading (P.meaning form) (P.leaves_ends form) };
 
-    ghost covers = { λ is at. cond_covered (P.covers is at) };
+    ghost covers = { λ at. cond_covered (P.covers at) };
 
     ghost lawful = { λ is. cond_law (P.lawful is) };
 
     ghost claimed = { λ s. record {
-      exact = λ form is. cond_exact ((P.claimed s.0).exact form is);
-      fails = λ form is. cond_fails ((P.claimed s.0).fails form is);
+      projects = λ at is. cond_projects ((P.claimed s.0).projects at is);
       takes = λ is never. absurd never;
     } };
 

@@ -1,9 +1,9 @@
 //! A child whose errors cut.
-ghost use Rattle.winnow_comb.specs.CutErr.{CutErrRuns};
-ghost use Rattle.winnow_comb.specs.CutErr.Laws.{cut_err_exact, cut_err_fails};
-ghost use Rattle.winnow_comb.specs.CutErr.Laws.{cut_err_ends};
 ghost use Rattle.parser_definitions.specs.Peek.{CutErrDoes, cut_err_law};
+ghost use Rattle.parser_definitions.specs.Projects.Choices.{cut_err_projects};
 ghost use Rattle.winnow_comb.specs.Covers.{cut_err_covered};
+ghost use Rattle.winnow_comb.specs.CutErr.Laws.{cut_err_ends};
+ghost use Rattle.winnow_comb.specs.CutErr.{CutErrRuns};
 
 use std::marker::PhantomData;
 use stream_errors::modal::ModalError;
@@ -51,13 +51,12 @@ impl<P: Parser<I, O, E>, I: Stream, O, E: ParserError<I> + ModalError> Parser<I,
 
     ghost leaves_ends = { λ form. cut_err_ends I.reading (P.meaning form) (P.leaves_ends form) };
 
-    ghost covers = { λ is at. cut_err_covered (P.covers is at) };
+    ghost covers = { λ at. cut_err_covered (P.covers at) };
 
     ghost lawful = { λ is. cut_err_law (P.lawful is) };
 
     ghost claimed = { λ s. record {
-      exact = λ form is. cut_err_exact ((P.claimed s).exact form is);
-      fails = λ form is. cut_err_fails ((P.claimed s).fails form is);
+      projects = λ at is. cut_err_projects ((P.claimed s).projects at is);
       takes = λ is some. (P.claimed s).takes is some;
     } };
 

@@ -1,5 +1,5 @@
 //! A child between two whose outputs are let go.
-ghost use Rattle.winnow_core.specs.InOrder.Claim.{three_claim, three_claimed};
+ghost use Rattle.parser_definitions.specs.Projects.Sequences.{three_claim, three_claimed};
 ghost use Rattle.winnow_core.specs.InOrder.Laws.{three_ends};
 ghost use Rattle.winnow_comb.specs.Delimited.{DelimitedRuns};
 ghost use Rattle.parser_definitions.specs.Sequence.{DelimitedDoes, delimited_law};
@@ -58,8 +58,8 @@ impl<
         (P2.meaning form) (P3.meaning form) (P1.leaves_ends form) (P2.leaves_ends form)
         (P3.leaves_ends form) };
 
-    ghost covers = { λ is at. three_covered (λ o1 o2 o3. o2) (P1.covers is.0 at)
-        (P2.covers is.1 at) (P3.covers is.2 at) };
+    ghost covers = { λ at. three_covered (λ o1 o2 o3. o2) (P1.covers at)
+        (P2.covers at) (P3.covers at) };
 
     ghost lawful = { λ is. delimited_law (P1.lawful is.0) (P2.lawful is.1) (P3.lawful is.2) };
 

@@ -2,11 +2,10 @@
 ghost use Rattle.std.specs.Prelude.{⊤, ◌<◌};
 ghost use Rattle.grammars.specs.Grammar.{Nothing};
 ghost use Rattle.winnow_core.specs.Ends.{same_ends};
-ghost use Rattle.winnow_core.specs.Exact.Allowed.{backs};
 ghost use Rattle.winnow_core.specs.Runs.{Keeps};
 ghost use Rattle.winnow_comb.specs.Empty.{EmptyRuns};
-ghost use Rattle.winnow_comb.specs.Empty.Laws.{empty_exact, empty_fails};
 ghost use Rattle.parser_definitions.specs.Eof.{EmptyDoes, empty_law};
+ghost use Rattle.parser_definitions.specs.Projects.Literals.{empty_projects};
 ghost use Rattle.winnow_comb.specs.Covers.Leaves.{empty_covered};
 
 use crate::combinator::basic::empty;
@@ -48,13 +47,12 @@ impl<I: Stream, E: ParserError<I>> Parser<I, (), E> for Empty {
 
     ghost leaves_ends = { λ form x i answer y j r. same_ends I.reading i j r.0.1 };
 
-    ghost covers = { λ is at. empty_covered };
+    ghost covers = { λ at. empty_covered };
 
     ghost lawful = { λ is. empty_law };
 
     ghost claimed = { λ s. record {
-      exact = λ form is. empty_exact;
-      fails = λ form is. backs (empty_fails);
+      projects = λ at is. empty_projects;
       takes = λ is never. absurd never;
     } };
 

@@ -2,11 +2,10 @@
 ghost use Rattle.std.specs.Prelude.{⊤, ◌≡◌};
 ghost use Rattle.grammars.specs.Grammar.{Never};
 ghost use Rattle.winnow_core.specs.Ends.{same_ends};
-ghost use Rattle.winnow_core.specs.Exact.Allowed.{backs};
 ghost use Rattle.winnow_core.specs.Runs.{Keeps};
 ghost use Rattle.winnow_comb.specs.Fail.{FailRuns};
-ghost use Rattle.winnow_comb.specs.Fail.Laws.{fail_exact, fail_backs, never_takes};
 ghost use Rattle.parser_definitions.specs.Eof.{FailDoes, fail_law};
+ghost use Rattle.parser_definitions.specs.Projects.Literals.{fail_projects, never_takes};
 ghost use Rattle.winnow_comb.specs.Covers.Leaves.{fail_covered};
 
 use crate::combinator::basic::fail;
@@ -48,13 +47,12 @@ impl<I: Stream, O, E: ParserError<I>> Parser<I, O, E> for Fail {
 
     ghost leaves_ends = { λ form x i answer y j r. same_ends I.reading i j r.0.1 };
 
-    ghost covers = { λ is at. fail_covered };
+    ghost covers = { λ at. fail_covered };
 
     ghost lawful = { λ is. fail_law };
 
     ghost claimed = { λ s. record {
-      exact = λ form is. fail_exact;
-      fails = λ form is. backs (fail_backs);
+      projects = λ at is. fail_projects;
       takes = λ is some. never_takes;
     } };
 

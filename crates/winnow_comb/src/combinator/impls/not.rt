@@ -1,11 +1,11 @@
 //! A child that is not to succeed.
-ghost use Rattle.std.specs.Prelude.{⊤};
 ghost use Rattle.grammars.specs.Grammar.{NotAhead};
-ghost use Rattle.winnow_core.specs.Exact.Allowed.{fails_as, softly};
-ghost use Rattle.winnow_comb.specs.Not.{NotRuns};
-ghost use Rattle.winnow_comb.specs.Not.Laws.{not_exact, not_fails, not_ends};
 ghost use Rattle.parser_definitions.specs.Peek.{NotDoes, not_law};
+ghost use Rattle.parser_definitions.specs.Projects.Choices.{not_projects};
+ghost use Rattle.std.specs.Prelude.{⊤};
 ghost use Rattle.winnow_comb.specs.Covers.{not_covered};
+ghost use Rattle.winnow_comb.specs.Not.Laws.{not_ends};
+ghost use Rattle.winnow_comb.specs.Not.{NotRuns};
 
 use std::marker::PhantomData;
 use stream_errors::parser_error::ParserError;
@@ -52,14 +52,12 @@ impl<P: Parser<I, O, E>, I: Stream, O: Drop, E: ParserError<I>> Parser<I, (), E>
 
     ghost leaves_ends = { λ form. not_ends I.reading (P.meaning form) (P.leaves_ends form) };
 
-    ghost covers = { λ is at. not_covered (P.covers is at) };
+    ghost covers = { λ at. not_covered (P.covers at) };
 
     ghost lawful = { λ is. not_law (P.lawful is) };
 
     ghost claimed = { λ s. record {
-      exact = λ form is. not_exact ((P.claimed s).exact form is.0)
-          (softly is.1 ((P.claimed s).fails form is.0));
-      fails = λ form is. not_fails (fails_as (λ b. is.1) (λ m. m) ((P.claimed s).fails form is.0));
+      projects = λ at is. not_projects ((P.claimed s).projects at is.0) is.1;
       takes = λ is never. absurd never;
     } };
 

@@ -1,13 +1,12 @@
 //! A child that may be left out.
 ghost use Rattle.grammars.specs.Grammar.{Optional};
-ghost use Rattle.winnow_core.specs.Exact.Allowed.{fails_as, softly};
-ghost use Rattle.winnow_comb.specs.Opt.{OptRuns};
-ghost use Rattle.winnow_comb.specs.Opt.Laws.{opt_exact, opt_fails};
-ghost use Rattle.winnow_comb.specs.Opt.Laws.{opt_ends};
-ghost use Rattle.std.specs.Prelude.{⊤};
-ghost use Rattle.parser_definitions.specs.Opt.{OptDoes, opt_law};
 ghost use Rattle.parser_definitions.specs.Equal.{AlikeOptions};
+ghost use Rattle.parser_definitions.specs.Opt.{OptDoes, opt_law};
+ghost use Rattle.parser_definitions.specs.Projects.Choices.{opt_projects};
+ghost use Rattle.std.specs.Prelude.{⊤};
 ghost use Rattle.winnow_comb.specs.Covers.{opt_covered};
+ghost use Rattle.winnow_comb.specs.Opt.Laws.{opt_ends};
+ghost use Rattle.winnow_comb.specs.Opt.{OptRuns};
 
 use std::marker::PhantomData;
 use stream_errors::parser_error::ParserError;
@@ -54,14 +53,12 @@ impl<P: Parser<I, O, E>, I: Stream, O, E: ParserError<I>> Parser<I, Option<O>, E
 
     ghost leaves_ends = { λ form. opt_ends I.reading (P.meaning form) (P.leaves_ends form) };
 
-    ghost covers = { λ is at. opt_covered (P.covers is at) };
+    ghost covers = { λ at. opt_covered (P.covers at) };
 
     ghost lawful = { λ is. opt_law (P.lawful is) };
 
     ghost claimed = { λ s. record {
-      exact = λ form is. opt_exact ((P.claimed s).exact form is.0)
-          (softly is.1 ((P.claimed s).fails form is.0));
-      fails = λ form is. opt_fails (fails_as (λ b. is.1) (λ m. m) ((P.claimed s).fails form is.0));
+      projects = λ at is. opt_projects ((P.claimed s).projects at is.0) is.1;
       takes = λ is never. absurd never;
     } };
 

@@ -1,9 +1,10 @@
 //! A child whose run consumes nothing.
 ghost use Rattle.grammars.specs.Grammar.{Ahead};
-ghost use Rattle.winnow_comb.specs.Peek.{PeekRuns};
-ghost use Rattle.winnow_comb.specs.Peek.Laws.{peek_exact, peek_fails, peek_ends};
 ghost use Rattle.parser_definitions.specs.Peek.{PeekDoes, peek_law};
+ghost use Rattle.parser_definitions.specs.Projects.Choices.{peek_projects};
 ghost use Rattle.winnow_comb.specs.Covers.{peek_covered};
+ghost use Rattle.winnow_comb.specs.Peek.Laws.{peek_ends};
+ghost use Rattle.winnow_comb.specs.Peek.{PeekRuns};
 
 use std::marker::PhantomData;
 use stream_errors::parser_error::ParserError;
@@ -49,13 +50,12 @@ impl<P: Parser<I, O, E>, I: Stream, O, E: ParserError<I>> Parser<I, O, E> for Pe
 
     ghost leaves_ends = { λ form. peek_ends I.reading (P.meaning form) (P.leaves_ends form) };
 
-    ghost covers = { λ is at. peek_covered (P.covers is at) };
+    ghost covers = { λ at. peek_covered (P.covers at) };
 
     ghost lawful = { λ is. peek_law (P.lawful is) };
 
     ghost claimed = { λ s. record {
-      exact = λ form is. peek_exact ((P.claimed s).exact form is);
-      fails = λ form is. peek_fails ((P.claimed s).fails form is);
+      projects = λ at is. peek_projects ((P.claimed s).projects at is);
       takes = λ is never. absurd never;
     } };
 

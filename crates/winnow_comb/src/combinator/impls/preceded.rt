@@ -1,5 +1,5 @@
 //! A child after one whose output is let go.
-ghost use Rattle.winnow_core.specs.InOrder.Claim.{both_claim, both_claimed};
+ghost use Rattle.parser_definitions.specs.Projects.Sequences.{both_claim, both_claimed};
 ghost use Rattle.winnow_core.specs.InOrder.Laws.{both_ends};
 ghost use Rattle.winnow_comb.specs.Preceded.{PrecededRuns};
 ghost use Rattle.parser_definitions.specs.Sequence.{PrecededDoes, preceded_law};
@@ -49,7 +49,7 @@ impl<P1: Parser<I, O1, E>, P2: Parser<I, O2, E>, I: Stream, O1: Drop, O2, E: Par
     ghost leaves_ends = { λ form. both_ends I.reading (λ o1 o2. o2) (P1.meaning form)
         (P2.meaning form) (P1.leaves_ends form) (P2.leaves_ends form) };
 
-    ghost covers = { λ is at. both_covered (λ o1 o2. o2) (P1.covers is.0 at) (P2.covers is.1 at) };
+    ghost covers = { λ at. both_covered (λ o1 o2. o2) (P1.covers at) (P2.covers at) };
 
     ghost lawful = { λ is. preceded_law (P1.lawful is.0) (P2.lawful is.1) };
 

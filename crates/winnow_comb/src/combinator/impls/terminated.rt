@@ -1,5 +1,5 @@
 //! A child before one whose output is let go.
-ghost use Rattle.winnow_core.specs.InOrder.Claim.{both_claim, both_claimed};
+ghost use Rattle.parser_definitions.specs.Projects.Sequences.{both_claim, both_claimed};
 ghost use Rattle.winnow_core.specs.InOrder.Laws.{both_ends};
 ghost use Rattle.winnow_comb.specs.Terminated.{TerminatedRuns};
 ghost use Rattle.parser_definitions.specs.Sequence.{TerminatedDoes, terminated_law};
@@ -52,7 +52,7 @@ impl<
     ghost leaves_ends = { λ form. both_ends I.reading (λ o1 o2. o1) (P1.meaning form)
         (P2.meaning form) (P1.leaves_ends form) (P2.leaves_ends form) };
 
-    ghost covers = { λ is at. both_covered (λ o1 o2. o1) (P1.covers is.0 at) (P2.covers is.1 at) };
+    ghost covers = { λ at. both_covered (λ o1 o2. o1) (P1.covers at) (P2.covers at) };
 
     ghost lawful = { λ is. terminated_law (P1.lawful is.0) (P2.lawful is.1) };
 

@@ -3,12 +3,12 @@ ghost use Rattle.std.specs.Prelude.{◌≡◌};
 ghost use Rattle.grammars.specs.Grammar.{Made};
 ghost use Rattle.grammars.specs.Grammar.Outputs.{RejectsAll};
 ghost use Rattle.grammars.specs.Grammar.Unique.{made_of_takes};
+ghost use Rattle.parser_definitions.specs.Projects.{projects_as};
+ghost use Rattle.parser_definitions.specs.Projects.Within.{NoneWithin, ReadsWithin};
+ghost use Rattle.parser_definitions.specs.Projects.Within.{and_then_projects};
 ghost use Rattle.parser_definitions.specs.TryMap.{AndThenDoes, and_then_law, completed};
 ghost use Rattle.winnow_core.specs.AndThen.{AndThenRuns, AndThenSettles, OneInput};
 ghost use Rattle.winnow_core.specs.Covers.Adapters.{and_then_covered};
-ghost use Rattle.winnow_core.specs.Exact.Allowed.{fails_as, softly};
-ghost use Rattle.winnow_core.specs.Exact.Settled.{NoneWithin, ReadsWithin, and_then_exact};
-ghost use Rattle.winnow_core.specs.Exact.Settled.{and_then_fails};
 ghost use Rattle.winnow_core.specs.Settles.Laws.{settles_ends};
 
 use crate::parser::Parser;
@@ -81,18 +81,15 @@ impl<
         (AndThenSettles O.view (G.meaning form)) (F.meaning form)
         (F.leaves_ends form) };
 
-    ghost covers = { λ is at. and_then_covered O.view (F.covers is.0 at)
-        (λ i. G.covers is.1 (completed at.form i)) };
+    ghost covers = { λ at. and_then_covered O.view (F.covers at)
+        (λ i. G.covers (completed at.form i)) };
 
     ghost lawful = { λ is. and_then_law O.view is.2 (F.lawful is.0) (G.lawful is.1) };
 
     ghost claimed = { λ s. record {
-      exact = λ form is. and_then_exact O.view is.3 ((F.claimed s.0).exact form is.0)
-          ((G.claimed s.1).exact form is.1) (softly is.2 ((G.claimed s.1).fails form is.1));
-      fails = λ form is. and_then_fails O.view ((G.claimed s.1).exact form is.1)
-          (softly is.2 ((G.claimed s.1).fails form is.1))
-          (fails_as (λ b. b) (λ m. m.0) ((F.claimed s.0).fails form is.0))
-          (fails_as (λ b. is.2) (λ m. m.1) ((G.claimed s.1).fails form is.1));
+      projects = λ at is. and_then_projects O.view is.2 is.3
+          (projects_as (λ b. b) (λ m. m.0) ((F.claimed s.0).projects at is.0))
+          (λ within. projects_as (λ b. b) (λ m. m.1) ((G.claimed s.1).projects within is.1));
       takes = λ is some. made_of_takes (ReadsWithin O.view (G.claim s.1).grammar) tt
           ((F.claimed s.0).takes is.0 some);
     } };

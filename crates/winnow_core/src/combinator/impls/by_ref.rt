@@ -1,8 +1,8 @@
 //! The parser after a reference.
 ghost use Rattle.std.specs.Prelude.{ℕ};
 ghost use Rattle.parser_definitions.specs.ByRef.{ByRefDoes, by_ref_law};
+ghost use Rattle.parser_definitions.specs.Projects.Functions.{by_ref_projects};
 ghost use Rattle.winnow_core.specs.ByRef.{ByRefRuns};
-ghost use Rattle.winnow_core.specs.ByRef.Laws.{by_ref_exact, by_ref_fails};
 ghost use Rattle.winnow_core.specs.Covers.Functions.{by_ref_covered};
 
 use crate::parser::Parser;
@@ -13,7 +13,7 @@ use streams::stream::Stream;
 /// The parser that [`Parser::by_ref`](crate::parser::Parser::by_ref) makes.
 ///
 /// ```
-/// let mut digits = take_while(Range::from(1..), '0'..='9');
+/// let mut digits = take_while(1.., '0'..='9');
 /// assert_eq!(rt; digits.by_ref().parse_peek("12;"), Ok::<_, EmptyError>((";", "12")));
 /// assert_eq!(rt; digits.parse_peek("3"), Ok::<_, EmptyError>(("", "3")));
 /// ```
@@ -47,13 +47,12 @@ impl<'p, P: Parser<I, O, E>, I: Stream, O, E: ParserError<I>> Parser<I, O, E>
 
     ghost leaves_ends = { λ form s i answer t j r. P.leaves_ends form s.0 i answer t.0 j r.0 };
 
-    ghost covers = { λ is at. by_ref_covered (P.covers is at) };
+    ghost covers = { λ at. by_ref_covered (P.covers at) };
 
     ghost lawful = { λ is. by_ref_law (P.lawful is) };
 
     ghost claimed = { λ s. record {
-      exact = λ form is. by_ref_exact ((P.claimed s.0).exact form is);
-      fails = λ form is. by_ref_fails ((P.claimed s.0).fails form is);
+      projects = λ at is. by_ref_projects ((P.claimed s.0).projects at is);
       takes = λ is some. (P.claimed s.0).takes is some;
     } };
 

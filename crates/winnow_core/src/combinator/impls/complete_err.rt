@@ -1,9 +1,9 @@
 //! Errors that do not ask for more input.
 ghost use Rattle.std.specs.Prelude.{◌≡◌};
 ghost use Rattle.parser_definitions.specs.MapErr.{CompleteErrDoes, complete_err_law};
+ghost use Rattle.parser_definitions.specs.Projects.Errors.{complete_err_projects};
 ghost use Rattle.winnow_core.specs.CompleteErr.{CompleteErrBecomes, CompleteErrRuns};
 ghost use Rattle.winnow_core.specs.Covers.Errors.{complete_err_covered};
-ghost use Rattle.winnow_core.specs.Exact.Errors.{complete_err_exact, complete_err_fails};
 ghost use Rattle.winnow_core.specs.MakesError.Laws.{makes_error_ends};
 
 use crate::parser::Parser;
@@ -66,13 +66,12 @@ impl<F: Parser<I, O, E>, I: Stream, O, E: ParserError<I>> Parser<I, O, E>
         CompleteErrBecomes (F.meaning form)
         (F.leaves_ends form) _ i answer _ j ran };
 
-    ghost covers = { λ is at. complete_err_covered (F.covers is at) };
+    ghost covers = { λ at. complete_err_covered (F.covers at) };
 
     ghost lawful = { λ is. complete_err_law (F.lawful is) };
 
     ghost claimed = { λ s. record {
-      exact = λ form is. complete_err_exact ((F.claimed s).exact form is);
-      fails = λ form is. complete_err_fails ((F.claimed s).fails form is);
+      projects = λ at is. complete_err_projects ((F.claimed s).projects at is);
       takes = λ is some. (F.claimed s).takes is some;
     } };
 

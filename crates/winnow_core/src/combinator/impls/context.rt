@@ -1,12 +1,11 @@
 //! The implementation of `context`.
 ghost use Rattle.std.specs.Prelude.{◌≡◌};
 ghost use Rattle.stream_errors.specs.Given.{Keeping};
-ghost use Rattle.parser_definitions.specs.MapErr.{ContextDoes, context_law};
+ghost use Rattle.parser_definitions.specs.MapErr.{ContextDoes, NeverRefused, context_law};
+ghost use Rattle.parser_definitions.specs.Projects.{projects_as};
+ghost use Rattle.parser_definitions.specs.Projects.Errors.{context_projects};
 ghost use Rattle.winnow_core.specs.Context.{ContextBecomes, ContextRuns};
 ghost use Rattle.winnow_core.specs.Covers.Errors.{context_covered};
-ghost use Rattle.winnow_core.specs.Exact.Allowed.{fails_as, wanted};
-ghost use Rattle.winnow_core.specs.Exact.Errors.{NeverRefused, context_fails};
-ghost use Rattle.winnow_core.specs.Exact.Errors.{context_keeps_kinds, errors_exact};
 ghost use Rattle.winnow_core.specs.MakesError.Laws.{makes_error_ends};
 
 use crate::parser::Parser;
@@ -82,17 +81,13 @@ impl<
         (ContextBecomes C.is_clone C.is_infallible) (F.meaning form)
         (F.leaves_ends form) };
 
-    ghost covers = { λ is at. context_covered C.is_clone C.is_infallible (F.covers is at) };
+    ghost covers = { λ at. context_covered C.is_clone C.is_infallible (F.covers at) };
 
     ghost lawful = { λ is. context_law C.is_clone C.is_infallible (F.lawful is) };
 
     ghost claimed = { λ s. record {
-      exact = λ form is. errors_exact (context_keeps_kinds C.is_clone C.is_infallible)
-          ((F.claimed s.0).exact form is);
-      fails = λ form is. context_fails C.is_clone C.is_infallible
-          (λ not. wanted (λ m. not m.1))
-          (λ copy cloned refused. wanted (λ m. m.2 copy cloned refused))
-          (fails_as (λ b. b) (λ m. m.0) ((F.claimed s.0).fails form is));
+      projects = λ at is. context_projects C.is_clone C.is_infallible (λ m. (m.1, m.2))
+          (projects_as (λ b. b) (λ m. m.0) ((F.claimed s.0).projects at is));
       takes = λ is some. (F.claimed s.0).takes is some;
     } };
 

@@ -3,7 +3,7 @@ ghost use Rattle.std.specs.Iterator.{IsFinite};
 ghost use Rattle.std.specs.Prelude.{◌≡◌};
 ghost use Rattle.stream_errors.specs.Given.{Keeping};
 ghost use Rattle.parser_definitions.specs.MapErr.{ContextWithDoes, context_with_law};
-ghost use Rattle.winnow_core.specs.Claim.{no_claim, nothing_claimed};
+ghost use Rattle.parser_definitions.specs.Claim.{no_claim, nothing_claimed};
 ghost use Rattle.winnow_core.specs.ContextWith.{ContextWithBecomes, ContextWithRuns};
 ghost use Rattle.winnow_core.specs.Covers.Errors.{context_with_covered};
 ghost use Rattle.winnow_core.specs.MakesError.Laws.{makes_error_ends};
@@ -78,7 +78,7 @@ impl<
         (ContextWithBecomes F.post FI.next_gives) (P.meaning form)
         (P.leaves_ends form) };
 
-    ghost covers = { λ is at. context_with_covered F.post FI.next_gives (P.covers is at) };
+    ghost covers = { λ at. context_with_covered F.post FI.next_gives (P.covers at) };
 
     ghost lawful = { λ is. context_with_law F.post FI.next_gives (P.lawful is) };
 

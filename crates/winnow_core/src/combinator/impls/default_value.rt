@@ -3,9 +3,9 @@ ghost use Rattle.std.specs.Prelude.{◌≡◌};
 ghost use Rattle.grammars.specs.Grammar.{Made};
 ghost use Rattle.grammars.specs.Grammar.Unique.{made_of_takes};
 ghost use Rattle.parser_definitions.specs.Outputs.{DefaultValueDoes, default_value_law};
+ghost use Rattle.parser_definitions.specs.Projects.Outputs.{default_value_projects};
 ghost use Rattle.winnow_core.specs.Covers.Outputs.{default_value_covered};
 ghost use Rattle.winnow_core.specs.DefaultValue.{DefaultValueRuns};
-ghost use Rattle.winnow_core.specs.Exact.Adapters.{output_exact, output_fails};
 ghost use Rattle.winnow_core.specs.MakesOutput.Laws.{makes_output_ends};
 
 use crate::parser::Parser;
@@ -66,15 +66,12 @@ impl<F: Parser<I, O, E>, I: Stream, O: Drop, O2: Default, E: ParserError<I>> Par
     ghost leaves_ends = { λ form. makes_output_ends I.reading _ (F.meaning form)
         (F.leaves_ends form) };
 
-    ghost covers = { λ is at. default_value_covered (F.covers is at) O2.is_default };
+    ghost covers = { λ at. default_value_covered (F.covers at) O2.is_default };
 
     ghost lawful = { λ is. default_value_law O2.is_default (λ u v x y. (x, y)) (F.lawful is) };
 
     ghost claimed = { λ s. record {
-      exact = λ form is. output_exact (λ (_ : Unit {0}) o u. O2.is_default u) tt
-          ((F.claimed s).exact form is);
-      fails = λ form is. output_fails (λ o u. O2.is_default u)
-          ((F.claimed s).fails form is);
+      projects = λ at is. default_value_projects ((F.claimed s).projects at is) O2.is_default;
       takes = λ is some. made_of_takes (λ (_ : Unit {0}) o u. O2.is_default u) tt
           ((F.claimed s).takes is some);
     } };

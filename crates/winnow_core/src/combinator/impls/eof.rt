@@ -2,11 +2,11 @@
 ghost use Rattle.std.specs.Prelude.{⊤, ◌<◌};
 ghost use Rattle.grammars.specs.Grammar.{NoTokens};
 ghost use Rattle.parser_definitions.specs.Eof.{EofDoes, eof_law};
+ghost use Rattle.parser_definitions.specs.Projects.Literals.{eof_projects};
 ghost use Rattle.parser_definitions.specs.Spelled.{ShowSame};
 ghost use Rattle.winnow_core.specs.Covers.Functions.{eof_covered};
 ghost use Rattle.winnow_core.specs.Eof.{EofRuns};
-ghost use Rattle.winnow_core.specs.Eof.Laws.{eof_ends, eof_exact, eof_fails};
-ghost use Rattle.winnow_core.specs.Exact.Allowed.{backs};
+ghost use Rattle.winnow_core.specs.Eof.Laws.{eof_ends};
 ghost use Rattle.winnow_core.specs.Runs.{Keeps};
 
 use crate::combinator::eof;
@@ -48,13 +48,12 @@ impl<I: Stream, E: ParserError<I>> Parser<I, I::Slice, E> for Eof {
 
     ghost leaves_ends = { λ form x i answer y j r. eof_ends I.reading i answer j r.0 };
 
-    ghost covers = { λ is at. eof_covered I.reading };
+    ghost covers = { λ at. eof_covered I.reading };
 
     ghost lawful = { λ is. eof_law I.reading };
 
     ghost claimed = { λ s. record {
-      exact = λ form is. eof_exact I.reading;
-      fails = λ form is. backs (eof_fails I.reading);
+      projects = λ at is. eof_projects I.reading;
       takes = λ is never. absurd never;
     } };
 

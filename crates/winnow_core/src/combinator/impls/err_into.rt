@@ -1,11 +1,12 @@
 //! Errors that are converted.
 ghost use Rattle.std.specs.Prelude.{◌≡◌};
 ghost use Rattle.stream_errors.specs.Form.{modal};
-ghost use Rattle.parser_definitions.specs.MapErr.{ErrIntoDoes, err_into_law};
+ghost use Rattle.parser_definitions.specs.MapErr.{ConvertsKinds, ConvertsSparing, ErrIntoDoes};
+ghost use Rattle.parser_definitions.specs.MapErr.{SameKinds, err_into_law};
+ghost use Rattle.parser_definitions.specs.Projects.{projects_as};
+ghost use Rattle.parser_definitions.specs.Projects.Errors.{err_into_projects, formed};
 ghost use Rattle.winnow_core.specs.Covers.Errors.{err_into_covered, in_form};
-ghost use Rattle.winnow_core.specs.ErrInto.{ConvertsKinds, ErrIntoBecomes, ErrIntoRuns};
-ghost use Rattle.winnow_core.specs.Exact.Errors.{ConvertsSparing, SameKinds, err_into_exact};
-ghost use Rattle.winnow_core.specs.Exact.Errors.{err_into_fails};
+ghost use Rattle.winnow_core.specs.ErrInto.{ErrIntoBecomes, ErrIntoRuns};
 ghost use Rattle.winnow_core.specs.MakesError.Laws.{makes_error_ends};
 
 use crate::parser::Parser;
@@ -71,17 +72,15 @@ impl<F: Parser<I, O, E>, I: Stream, O, E: ParserError<I>, E2: ParserError<I> + F
         (ErrIntoBecomes E.kind E2.kind E2.from_gives) (F.meaning E.form)
         (F.leaves_ends E.form) _ i answer _ j ran };
 
-    ghost covers = { λ is at. err_into_covered E.form E.kind E2.kind E2.from_gives is.1
-        (F.covers is.0 (in_form E.form at)) };
+    ghost covers = { λ at. err_into_covered E.form E.kind E2.kind E2.from_gives
+        (F.covers (in_form E.form at)) };
 
     ghost lawful = { λ is. err_into_law E.form E.kind E2.kind E2.from_gives is.1
         (F.lawful is.0) };
 
     ghost claimed = { λ s. record {
-      exact = λ form is. err_into_exact E.kind E2.kind E2.from_gives is.1
-          ((F.claimed s).exact E.form is.0);
-      fails = λ form is. err_into_fails E.kind E2.kind E2.from_gives is.1 (λ m. m.0)
-          (λ m. m.1) ((F.claimed s).fails E.form is.0);
+      projects = λ at is. err_into_projects E.form E.kind E2.kind E2.from_gives is.1 (λ m. m.1)
+          (projects_as (λ b. b) (λ m. m.0) ((F.claimed s).projects (formed E.form at) is.0));
       takes = λ is some. (F.claimed s).takes is.0 some;
     } };
 

@@ -1,15 +1,16 @@
 //! Parsers that outputs decide.
-ghost use Rattle.std.specs.Prelude.{◌≡◌, ◌⊎◌};
+ghost use Rattle.std.specs.Prelude.{◌≡◌, ◌⊎◌, true};
 ghost use Rattle.grammars.specs.Grammar.Decided.{EachMade, FlatMapped, MadeAlike};
 ghost use Rattle.grammars.specs.Grammar.Decided.{flat_mapped_takes};
 ghost use Rattle.stream_errors.specs.Form.{modal};
 ghost use Rattle.parser_definitions.specs.FlatMap.{FlatMapDoes, MakesOne, flat_map_law};
-ghost use Rattle.winnow_core.specs.Closures.{Gives, Stays};
+ghost use Rattle.parser_definitions.specs.Projects.{projects_as};
+ghost use Rattle.parser_definitions.specs.Projects.Functions.{flat_map_projects};
+ghost use Rattle.parser_definitions.specs.Projects.Sequences.{either_way};
+ghost use Rattle.parser_definitions.specs.Stays.{Gives, Stays};
 ghost use Rattle.winnow_core.specs.Covers.Adapters.{flat_map_covered};
-ghost use Rattle.winnow_core.specs.Exact.Allowed.{fails_as};
-ghost use Rattle.winnow_core.specs.Exact.Along.{either_way};
 ghost use Rattle.winnow_core.specs.FlatMap.{FlatMapRuns, MakesParsers};
-ghost use Rattle.winnow_core.specs.FlatMap.Laws.{flat_map_exact, flat_map_fails, flat_map_ends};
+ghost use Rattle.winnow_core.specs.FlatMap.Laws.{flat_map_ends};
 
 use crate::parser::Parser;
 use std::marker::PhantomData;
@@ -90,24 +91,21 @@ impl<
     ghost leaves_ends = { λ form. flat_map_ends I.reading G.step H.state (F.meaning form)
         (H.meaning form) (F.leaves_ends form) (H.leaves_ends form) };
 
-    ghost covers = { λ is at. flat_map_covered G.step H.state (F.covers is.0 at)
-        (H.covers is.1 at) };
+    ghost covers = { λ at. flat_map_covered G.step H.state (F.covers at)
+        (H.covers at) };
 
     ghost lawful = { λ is. flat_map_law G.step H.state is.2 (F.lawful is.0)
         (H.lawful is.1) };
 
     ghost claimed = { λ s. record {
-      exact = λ form is. flat_map_exact G.step H.state (λ m. (H.claim (H.state m)).grammar)
-          is.1 ((F.claimed s.0).exact form is.0)
-          (λ o made m. (H.claimed (H.state made)).exact form (is.2 o made m)) is.3;
-      fails = λ form is. flat_map_fails G.step H.state (λ m. (H.claim (H.state m)).grammar)
-          is.1 ((F.claimed s.0).exact form is.0)
-          (fails_as (λ b. b.0) (λ m. m.0) ((F.claimed s.0).fails form is.0))
-          (λ o made m. fails_as (λ b. b.1 o made m) (λ x. x.1 o made m)
-          ((H.claimed (H.state made)).fails form (is.2 o made m)));
+      projects = λ at is. flat_map_projects G.step H.state (λ m. (H.claim (H.state m)).grammar)
+          is.1 is.3 (projects_as (λ b. b.0) (λ m. m.0) ((F.claimed s.0).projects at is.0))
+          (λ o made m. projects_as (λ b. b.1 o made m) (λ x. x.1 o made m)
+          ((H.claimed (H.state made)).projects at (is.2 o made m)));
       takes = λ is some. flat_mapped_takes (Gives G.step) s.1 (λ m. (H.claim (H.state m)).grammar)
-          ((F.claimed s.0).exact modal is.0).unique
-          (λ o made m. ((H.claimed (H.state made)).exact modal (is.2 o made m)).unique)
+          ((F.claimed s.0).projects (record { form = modal; possible = true }) is.0).unique
+          (λ o made m. ((H.claimed (H.state made)).projects
+          (record { form = modal; possible = true }) (is.2 o made m)).unique)
           (either_way ((F.claimed s.0).takes is.0)
           (λ each o made m. (H.claimed (H.state made)).takes (is.2 o made m)
           (each o made m)) some);

@@ -4,9 +4,9 @@ ghost use Rattle.grammars.specs.Grammar.{Made};
 ghost use Rattle.grammars.specs.Grammar.Unique.{made_of_takes};
 ghost use Rattle.parser_definitions.specs.Equal.{MadeAlike, StepsAlike};
 ghost use Rattle.parser_definitions.specs.Map.{MapDoes, map_law};
-ghost use Rattle.winnow_core.specs.Closures.{Gives, Stays};
+ghost use Rattle.parser_definitions.specs.Projects.Outputs.{map_projects};
+ghost use Rattle.parser_definitions.specs.Stays.{Gives, Stays};
 ghost use Rattle.winnow_core.specs.Covers.Adapters.{map_covered};
-ghost use Rattle.winnow_core.specs.Exact.Adapters.{map_exact, map_fails};
 ghost use Rattle.winnow_core.specs.Map.{MapRuns};
 ghost use Rattle.winnow_core.specs.Map.Laws.{map_ends};
 
@@ -70,13 +70,12 @@ impl<F: Parser<I, O, E>, G: FnMut(O) -> O2, I: Stream, O, O2, E: ParserError<I>>
 
     ghost leaves_ends = { λ form. map_ends I.reading (F.meaning form) G.step (F.leaves_ends form) };
 
-    ghost covers = { λ is at. map_covered G.step (F.covers is.0 at) };
+    ghost covers = { λ at. map_covered G.step (F.covers at) };
 
     ghost lawful = { λ is. map_law G.step is.1 (F.lawful is.0) };
 
     ghost claimed = { λ s. record {
-      exact = λ form is. map_exact G.step is.1 ((F.claimed s.0).exact form is.0);
-      fails = λ form is. map_fails G.step is.1 ((F.claimed s.0).fails form is.0);
+      projects = λ at is. map_projects G.step is.1 ((F.claimed s.0).projects at is.0);
       takes = λ is some. made_of_takes (Gives G.step) s.1 ((F.claimed s.0).takes is.0 some);
     } };
 

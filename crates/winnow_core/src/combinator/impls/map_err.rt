@@ -1,14 +1,13 @@
 //! Errors made of errors by a closure.
 ghost use Rattle.std.specs.Prelude.{◌≡◌};
 ghost use Rattle.stream_errors.specs.Form.{modal};
-ghost use Rattle.parser_definitions.specs.MapErr.{InForm, MapErrDoes, MapsErrors, form_law};
-ghost use Rattle.parser_definitions.specs.MapErr.{map_err_law};
-ghost use Rattle.winnow_core.specs.Closures.{Stays};
+ghost use Rattle.parser_definitions.specs.MapErr.{InForm, KeepsEachKind, KeepsMemory, MapErrDoes};
+ghost use Rattle.parser_definitions.specs.MapErr.{MapsErrors, form_law, map_err_law};
+ghost use Rattle.parser_definitions.specs.Projects.Errors.{formed, map_err_projects};
+ghost use Rattle.parser_definitions.specs.Stays.{Stays};
 ghost use Rattle.winnow_core.specs.Covers.Errors.{in_form, map_err_covered};
-ghost use Rattle.winnow_core.specs.Exact.Errors.{map_err_exact, map_err_fails};
 ghost use Rattle.winnow_core.specs.MakesError.Laws.{makes_error_ends};
-ghost use Rattle.winnow_core.specs.MapErr.{KeepsMemory, MapErrBecomes, MapErrRuns};
-ghost use Rattle.winnow_core.specs.MapErrKept.{KeepsEachKind};
+ghost use Rattle.winnow_core.specs.MapErr.{MapErrBecomes, MapErrRuns};
 
 use crate::parser::Parser;
 use std::marker::PhantomData;
@@ -80,17 +79,15 @@ impl<
         (F.meaning E.form)
         (F.leaves_ends E.form) };
 
-    ghost covers = { λ is at. map_err_covered E.kind E2.kind G.step E.form is.2
-        (F.covers is.0 (in_form E.form at)) };
+    ghost covers = { λ at. map_err_covered E.kind E2.kind G.step E.form
+        (F.covers (in_form E.form at)) };
 
-    ghost lawful = { λ is. map_err_law E.kind E2.kind G.step is.1
+    ghost lawful = { λ is. map_err_law E.kind E2.kind G.step is.1 is.2
         (form_law E.form (F.lawful is.0)) };
 
     ghost claimed = { λ s. record {
-      exact = λ form is. map_err_exact E.kind E2.kind G.step is.2 is.1
-          ((F.claimed s.0).exact E.form is.0);
-      fails = λ form is. map_err_fails E.kind E2.kind G.step is.2
-          ((F.claimed s.0).fails E.form is.0);
+      projects = λ at is. map_err_projects E.kind E2.kind G.step is.1 E.form is.2
+          ((F.claimed s.0).projects (formed E.form at) is.0);
       takes = λ is some. (F.claimed s.0).takes is.0 some;
     } };
 

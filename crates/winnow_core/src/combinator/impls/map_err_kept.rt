@@ -1,12 +1,12 @@
 //! Errors made of errors of their kind by a closure.
 ghost use Rattle.std.specs.Prelude.{◌≡◌};
-ghost use Rattle.parser_definitions.specs.MapErr.{MapErrKeptDoes, map_err_kept_law};
-ghost use Rattle.winnow_core.specs.Closures.{Stays};
+ghost use Rattle.parser_definitions.specs.MapErr.{KeepsEachKind, MapErrKeptDoes, OneNext};
+ghost use Rattle.parser_definitions.specs.MapErr.{map_err_kept_law};
+ghost use Rattle.parser_definitions.specs.Projects.Errors.{map_err_kept_projects};
+ghost use Rattle.parser_definitions.specs.Stays.{Stays};
 ghost use Rattle.winnow_core.specs.Covers.Errors.{map_err_kept_covered};
-ghost use Rattle.winnow_core.specs.Exact.Errors.{map_err_kept_exact, map_err_kept_fails};
 ghost use Rattle.winnow_core.specs.MakesError.Laws.{makes_error_ends};
-ghost use Rattle.winnow_core.specs.MapErrKept.{KeepsEachKind, MapErrKeptBecomes, MapErrKeptRuns};
-ghost use Rattle.winnow_core.specs.MapErrKept.{OneNext};
+ghost use Rattle.winnow_core.specs.MapErrKept.{MapErrKeptBecomes, MapErrKeptRuns};
 
 use crate::parser::Parser;
 use std::marker::PhantomData;
@@ -80,15 +80,13 @@ impl<
     ghost leaves_ends = { λ form. makes_error_ends I.reading
         (MapErrKeptBecomes E.kind E2.kind G.step) (F.meaning form) (F.leaves_ends form) };
 
-    ghost covers = { λ is at. map_err_kept_covered E.kind E2.kind G.step (F.covers is.0 at) };
+    ghost covers = { λ at. map_err_kept_covered E.kind E2.kind G.step (F.covers at) };
 
     ghost lawful = { λ is. map_err_kept_law E.kind E2.kind G.step is.1 (F.lawful is.0) };
 
     ghost claimed = { λ s. record {
-      exact = λ form is. map_err_kept_exact E.kind E2.kind G.step is.1
-          ((F.claimed s.0).exact form is.0);
-      fails = λ form is. map_err_kept_fails E.kind E2.kind G.step
-          ((F.claimed s.0).fails form is.0);
+      projects = λ at is. map_err_kept_projects E.kind E2.kind G.step is.1
+          ((F.claimed s.0).projects at is.0);
       takes = λ is some. (F.claimed s.0).takes is.0 some;
     } };
 

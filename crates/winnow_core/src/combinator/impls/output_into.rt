@@ -4,8 +4,8 @@ ghost use Rattle.grammars.specs.Grammar.{Made};
 ghost use Rattle.grammars.specs.Grammar.Unique.{made_of_takes};
 ghost use Rattle.parser_definitions.specs.Outputs.{OutputIntoDoes, OutputsMadeAlike};
 ghost use Rattle.parser_definitions.specs.Outputs.{output_into_law};
+ghost use Rattle.parser_definitions.specs.Projects.Outputs.{output_into_projects};
 ghost use Rattle.winnow_core.specs.Covers.Outputs.{output_into_covered};
-ghost use Rattle.winnow_core.specs.Exact.Adapters.{output_exact, output_fails};
 ghost use Rattle.winnow_core.specs.MakesOutput.Laws.{makes_output_ends};
 ghost use Rattle.winnow_core.specs.OutputInto.{OutputIntoRuns};
 
@@ -67,15 +67,12 @@ impl<F: Parser<I, O, E>, I: Stream, O, O2: From<O>, E: ParserError<I>> Parser<I,
     ghost leaves_ends = { λ form. makes_output_ends I.reading _ (F.meaning form)
         (F.leaves_ends form) };
 
-    ghost covers = { λ is at. output_into_covered (F.covers is at) O2.from_gives };
+    ghost covers = { λ at. output_into_covered (F.covers at) O2.from_gives };
 
     ghost lawful = { λ is. output_into_law O2.from_gives (F.lawful is) };
 
     ghost claimed = { λ s. record {
-      exact = λ form is. output_exact (λ (_ : Unit {0}) o u. O2.from_gives o u) tt
-          ((F.claimed s).exact form is);
-      fails = λ form is. output_fails (λ o u. O2.from_gives o u)
-          ((F.claimed s).fails form is);
+      projects = λ at is. output_into_projects ((F.claimed s).projects at is) O2.from_gives;
       takes = λ is some. made_of_takes (λ (_ : Unit {0}) o u. O2.from_gives o u) tt
           ((F.claimed s).takes is some);
     } };

@@ -3,11 +3,11 @@ ghost use Rattle.std.specs.Prelude.{◌≡◌, Some};
 ghost use Rattle.grammars.specs.Grammar.{Made};
 ghost use Rattle.grammars.specs.Grammar.Outputs.{RejectsAll};
 ghost use Rattle.grammars.specs.Grammar.Unique.{made_of_takes};
+ghost use Rattle.parser_definitions.specs.Projects.Settled.{ReadsNone, ReadsSome};
+ghost use Rattle.parser_definitions.specs.Projects.Settled.{parse_to_projects};
 ghost use Rattle.parser_definitions.specs.Verify.{ParseToDoes, parse_to_law};
 ghost use Rattle.winnow_core.specs.Covers.Outputs.{AlikeRead, ReadsAlike, parse_to_covered};
 ghost use Rattle.winnow_core.specs.Covers.Outputs.{read_alike};
-ghost use Rattle.winnow_core.specs.Exact.Settled.{ReadsNone, ReadsSome, parse_to_exact};
-ghost use Rattle.winnow_core.specs.Exact.Settled.{parse_to_fails};
 ghost use Rattle.winnow_core.specs.ParseTo.{ParseToSettles, ParseToRuns};
 ghost use Rattle.winnow_core.specs.Settles.Laws.{settles_ends};
 
@@ -75,13 +75,12 @@ impl<F: Parser<I, O, E>, I: Stream, O: ParseSlice<O2> + Drop, O2, E: ParserError
         (ParseToSettles O.reads) (F.meaning form)
         (F.leaves_ends form) _ i answer _ j ran };
 
-    ghost covers = { λ is at. parse_to_covered O.reads (F.covers is.0 at) };
+    ghost covers = { λ at. parse_to_covered O.reads (F.covers at) };
 
     ghost lawful = { λ is. parse_to_law O.reads (read_alike O.reads is.1) (F.lawful is.0) };
 
     ghost claimed = { λ s. record {
-      exact = λ form is. parse_to_exact O.reads is.1 ((F.claimed s).exact form is.0);
-      fails = λ form is. parse_to_fails O.reads ((F.claimed s).fails form is.0);
+      projects = λ at is. parse_to_projects O.reads is.1 ((F.claimed s).projects at is.0);
       takes = λ is some. made_of_takes (ReadsSome O.reads) tt ((F.claimed s).takes is.0 some);
     } };
 

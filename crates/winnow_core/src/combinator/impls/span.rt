@@ -3,8 +3,8 @@ ghost use Rattle.std.specs.Prelude.{◌≡◌};
 ghost use Rattle.grammars.specs.Grammar.{Made};
 ghost use Rattle.grammars.specs.Grammar.Unique.{made_of_takes};
 ghost use Rattle.parser_definitions.specs.Outputs.{SpanDoes, span_law};
+ghost use Rattle.parser_definitions.specs.Projects.Outputs.{AnyPlaces, span_projects};
 ghost use Rattle.winnow_core.specs.Covers.Outputs.{span_covered};
-ghost use Rattle.winnow_core.specs.Exact.Adapters.{AnyPlaces, span_exact, span_fails};
 ghost use Rattle.winnow_core.specs.MakesOutput.Laws.{makes_output_ends};
 ghost use Rattle.winnow_core.specs.Span.{SpanRuns, places};
 
@@ -68,13 +68,12 @@ impl<F: Parser<I, O, E>, I: Location, O: Drop, E: ParserError<I>> Parser<I, Rang
     ghost leaves_ends = { λ form. makes_output_ends I.reading _ (F.meaning form)
         (F.leaves_ends form) };
 
-    ghost covers = { λ is at. span_covered (F.covers is at) };
+    ghost covers = { λ at. span_covered (F.covers at) };
 
     ghost lawful = { λ is. span_law (F.lawful is) };
 
     ghost claimed = { λ s. record {
-      exact = λ form is. span_exact (F.meaning form) (s) ((F.claimed s).exact form is);
-      fails = λ form is. span_fails (F.meaning form) (s) ((F.claimed s).fails form is);
+      projects = λ at is. span_projects ((F.claimed s).projects at is);
       takes = λ is some. made_of_takes AnyPlaces tt ((F.claimed s).takes is some);
     } };
 

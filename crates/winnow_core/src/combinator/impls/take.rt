@@ -2,10 +2,11 @@
 ghost use Rattle.std.specs.Prelude.{◌≡◌, List, ◌++◌};
 ghost use Rattle.streams.specs.Input.{Ends};
 ghost use Rattle.grammars.specs.Grammar.{Taken};
+ghost use Rattle.grammars.specs.Grammar.Unique.{taken_takes};
 ghost use Rattle.parser_definitions.specs.Outputs.{TakeDoes, take_law};
+ghost use Rattle.parser_definitions.specs.Projects.Outputs.{take_projects};
 ghost use Rattle.parser_definitions.specs.Spelled.{ShowSame};
 ghost use Rattle.winnow_core.specs.Covers.Outputs.{take_covered};
-ghost use Rattle.winnow_core.specs.Exact.Adapters.{take_exact, take_fails, taken_takes};
 ghost use Rattle.winnow_core.specs.Take.{TakeRuns, take_parser};
 ghost use Rattle.winnow_core.specs.Take.Laws.{take_ends};
 
@@ -66,13 +67,12 @@ impl<F: Parser<I, O, E>, I: Stream, O: Drop, E: ParserError<I>> Parser<I, I::Sli
 
     ghost leaves_ends = { λ form. take_ends I.reading (F.meaning form) (F.leaves_ends form) };
 
-    ghost covers = { λ is at. take_covered (F.covers is at) I.reading };
+    ghost covers = { λ at. take_covered (F.covers at) I.reading };
 
     ghost lawful = { λ is. take_law I.reading (F.lawful is) };
 
     ghost claimed = { λ s. record {
-      exact = λ form is. take_exact I.reading ((F.claimed s).exact form is);
-      fails = λ form is. take_fails I.reading ((F.claimed s).fails form is);
+      projects = λ at is. take_projects ((F.claimed s).projects at is) I.reading;
       takes = λ is some. taken_takes I.reading ((F.claimed s).takes is some);
     } };
 

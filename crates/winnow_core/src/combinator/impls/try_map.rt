@@ -5,12 +5,12 @@ ghost use Rattle.grammars.specs.Grammar.Outputs.{RejectsAll};
 ghost use Rattle.grammars.specs.Grammar.Unique.{made_of_takes};
 ghost use Rattle.stream_errors.specs.Given.{Keeping};
 ghost use Rattle.parser_definitions.specs.Equal.{MadeAlike};
+ghost use Rattle.parser_definitions.specs.Projects.{projects_as};
+ghost use Rattle.parser_definitions.specs.Projects.Within.{ErrorsKept, GivesErr, GivesOk};
+ghost use Rattle.parser_definitions.specs.Projects.Within.{try_map_projects};
+ghost use Rattle.parser_definitions.specs.Stays.{Stays};
 ghost use Rattle.parser_definitions.specs.TryMap.{TriesAlike, TryMapDoes, try_map_law};
-ghost use Rattle.winnow_core.specs.Closures.{Stays};
 ghost use Rattle.winnow_core.specs.Covers.Adapters.{try_map_covered};
-ghost use Rattle.winnow_core.specs.Exact.Allowed.{fails_as};
-ghost use Rattle.winnow_core.specs.Exact.Settled.{ErrorsKept, GivesErr, GivesOk, try_map_exact};
-ghost use Rattle.winnow_core.specs.Exact.Settled.{try_map_fails};
 ghost use Rattle.winnow_core.specs.Settles.Laws.{settles_ends};
 ghost use Rattle.winnow_core.specs.TryMap.{TryMapSettles, TryMapRuns};
 
@@ -85,14 +85,13 @@ impl<
         (TryMapSettles G.step) (F.meaning form)
         (F.leaves_ends form) };
 
-    ghost covers = { λ is at. try_map_covered G.step (F.covers is.0 at) };
+    ghost covers = { λ at. try_map_covered G.step (F.covers at) };
 
     ghost lawful = { λ is. try_map_law F.terms.alike G.step is.1 (F.lawful is.0) };
 
     ghost claimed = { λ s. record {
-      exact = λ form is. try_map_exact G.step is.1 is.2 ((F.claimed s.0).exact form is.0);
-      fails = λ form is. try_map_fails G.step is.1 (λ m. m.1)
-          (fails_as (λ b. b) (λ m. m.0) ((F.claimed s.0).fails form is.0));
+      projects = λ at is. try_map_projects G.step is.1 (λ m. m.1) is.2
+          (projects_as (λ b. b) (λ m. m.0) ((F.claimed s.0).projects at is.0));
       takes = λ is some. made_of_takes (GivesOk G.step) s.1.0 ((F.claimed s.0).takes is.0 some);
     } };
 

@@ -2,10 +2,10 @@
 ghost use Rattle.std.specs.Prelude.{◌≡◌};
 ghost use Rattle.grammars.specs.Grammar.{Made};
 ghost use Rattle.grammars.specs.Grammar.Unique.{made_of_takes};
+ghost use Rattle.parser_definitions.specs.Projects.{projects_as};
+ghost use Rattle.parser_definitions.specs.Projects.Settled.{value_projects};
 ghost use Rattle.parser_definitions.specs.TryMap.{ValueDoes, value_law};
 ghost use Rattle.winnow_core.specs.Covers.Adapters.{value_covered};
-ghost use Rattle.winnow_core.specs.Exact.Adapters.{value_exact, value_fails};
-ghost use Rattle.winnow_core.specs.Exact.Allowed.{fails_as, wanted};
 ghost use Rattle.winnow_core.specs.Value.{AlikeClones, ValueRuns, value_kept, value_parser};
 ghost use Rattle.winnow_core.specs.Value.Laws.{value_ends};
 
@@ -69,16 +69,14 @@ impl<F: Parser<I, O, E>, I: Stream, O: Drop, O2: Clone, E: ParserError<I>> Parse
     ghost leaves_ends = { λ form. value_ends I.reading O2.is_clone O2.is_infallible
         (F.meaning form) (F.leaves_ends form) };
 
-    ghost covers = { λ is at. value_covered O2.is_clone O2.is_infallible (F.covers is at) };
+    ghost covers = { λ at. value_covered O2.is_clone O2.is_infallible (F.covers at) };
 
     ghost lawful = { λ is. value_law O2.is_clone O2.is_infallible (λ value u v x y. (value, x, y))
         (F.lawful is) };
 
     ghost claimed = { λ s. record {
-      exact = λ form is. value_exact O2.is_clone O2.is_infallible ((F.claimed s.0).exact form is);
-      fails = λ form is. value_fails O2.is_clone O2.is_infallible
-          (λ not. wanted (λ m. not m.1))
-          (fails_as (λ b. b) (λ m. m.0) ((F.claimed s.0).fails form is));
+      projects = λ at is. value_projects O2.is_clone O2.is_infallible (λ m. m.1)
+          (projects_as (λ b. b) (λ m. m.0) ((F.claimed s.0).projects at is));
       takes = λ is some. made_of_takes (λ v o u. O2.is_clone v u) s.1
           ((F.claimed s.0).takes is some);
     } };

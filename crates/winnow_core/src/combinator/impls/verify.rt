@@ -1,14 +1,13 @@
 //! Outputs that a closure tests.
-ghost use Rattle.std.specs.Prelude.{◌≡◌};
 ghost use Rattle.std.specs.Fn.{CalledAt};
+ghost use Rattle.std.specs.Prelude.{◌≡◌};
 ghost use Rattle.grammars.specs.Grammar.{Made};
 ghost use Rattle.grammars.specs.Grammar.Outputs.{RejectsAll};
 ghost use Rattle.grammars.specs.Grammar.Unique.{made_of_takes};
+ghost use Rattle.parser_definitions.specs.Projects.Settled.{verify_projects};
+ghost use Rattle.parser_definitions.specs.Stays.{Finds, Misses, Stays};
 ghost use Rattle.parser_definitions.specs.Verify.{FindsAlike, VerifyDoes, verify_law};
-ghost use Rattle.winnow_core.specs.Closures.{Stays, Finds};
 ghost use Rattle.winnow_core.specs.Covers.Adapters.{verify_covered};
-ghost use Rattle.winnow_core.specs.Exact.Settled.{Misses, settled_exact, verify_fails};
-ghost use Rattle.winnow_core.specs.Exact.Settled.{verify_settler};
 ghost use Rattle.winnow_core.specs.Settles.Laws.{settles_ends};
 ghost use Rattle.winnow_core.specs.Verify.{VerifySettles, VerifyRuns};
 
@@ -79,15 +78,13 @@ impl<F: Parser<I, O, E>, G: FnMut(&O) -> bool, I: Stream, O: Drop, E: ParserErro
         (F.meaning form)
         (F.leaves_ends form) };
 
-    ghost covers = { λ is at. verify_covered (CalledAt G.FnMut) (F.covers is.0 at) };
+    ghost covers = { λ at. verify_covered (CalledAt G.FnMut) (F.covers at) };
 
     ghost lawful = { λ is. verify_law (CalledAt G.FnMut) is.1 (F.lawful is.0) };
 
     ghost claimed = { λ s. record {
-      exact = λ form is. settled_exact (verify_settler (CalledAt G.FnMut) is.1) is.2
-          ((F.claimed s.0).exact form is.0);
-      fails = λ form is. verify_fails (CalledAt G.FnMut) is.1
-          ((F.claimed s.0).fails form is.0);
+      projects = λ at is. verify_projects (CalledAt G.FnMut) is.1 is.2
+          ((F.claimed s.0).projects at is.0);
       takes = λ is some. made_of_takes (Finds (CalledAt G.FnMut)) s.1
           ((F.claimed s.0).takes is.0 some);
     } };

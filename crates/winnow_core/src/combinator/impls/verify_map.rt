@@ -4,10 +4,10 @@ ghost use Rattle.grammars.specs.Grammar.{Made};
 ghost use Rattle.grammars.specs.Grammar.Outputs.{RejectsAll};
 ghost use Rattle.grammars.specs.Grammar.Unique.{made_of_takes};
 ghost use Rattle.parser_definitions.specs.Equal.{MadeAlike};
+ghost use Rattle.parser_definitions.specs.Projects.Settled.{verify_map_projects};
+ghost use Rattle.parser_definitions.specs.Stays.{GivesNone, GivesSome, Stays};
 ghost use Rattle.parser_definitions.specs.Verify.{RejectsAlike, VerifyMapDoes, verify_map_law};
-ghost use Rattle.winnow_core.specs.Closures.{Stays, GivesSome};
 ghost use Rattle.winnow_core.specs.Covers.Adapters.{verify_map_covered};
-ghost use Rattle.winnow_core.specs.Exact.Settled.{GivesNone, verify_map_exact, verify_map_fails};
 ghost use Rattle.winnow_core.specs.VerifyMap.{VerifyMapRuns};
 ghost use Rattle.winnow_core.specs.VerifyMap.Laws.{verify_map_ends};
 
@@ -76,13 +76,12 @@ impl<F: Parser<I, O, E>, G: FnMut(O) -> Option<O2>, I: Stream, O, O2, E: ParserE
     ghost leaves_ends = { λ form. verify_map_ends I.reading (F.meaning form) G.step
         (F.leaves_ends form) };
 
-    ghost covers = { λ is at. verify_map_covered G.step (F.covers is.0 at) };
+    ghost covers = { λ at. verify_map_covered G.step (F.covers at) };
 
     ghost lawful = { λ is. verify_map_law G.step is.1 (F.lawful is.0) };
 
     ghost claimed = { λ s. record {
-      exact = λ form is. verify_map_exact G.step is.1 is.2 ((F.claimed s.0).exact form is.0);
-      fails = λ form is. verify_map_fails G.step is.1 ((F.claimed s.0).fails form is.0);
+      projects = λ at is. verify_map_projects G.step is.1 is.2 ((F.claimed s.0).projects at is.0);
       takes = λ is some. made_of_takes (GivesSome G.step) s.1 ((F.claimed s.0).takes is.0 some);
     } };
 

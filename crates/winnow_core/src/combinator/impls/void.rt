@@ -3,8 +3,8 @@ ghost use Rattle.std.specs.Prelude.{◌≡◌, ⊤};
 ghost use Rattle.grammars.specs.Grammar.{Made};
 ghost use Rattle.grammars.specs.Grammar.Unique.{made_of_takes};
 ghost use Rattle.parser_definitions.specs.Outputs.{VoidDoes, void_law};
+ghost use Rattle.parser_definitions.specs.Projects.Outputs.{void_projects};
 ghost use Rattle.winnow_core.specs.Covers.Outputs.{void_covered};
-ghost use Rattle.winnow_core.specs.Exact.Adapters.{void_exact, void_fails};
 ghost use Rattle.winnow_core.specs.Void.{VoidRuns};
 ghost use Rattle.winnow_core.specs.Void.Laws.{void_ends};
 
@@ -64,13 +64,12 @@ impl<F: Parser<I, O, E>, I: Stream, O: Drop, E: ParserError<I>> Parser<I, (), E>
 
     ghost leaves_ends = { λ form. void_ends I.reading (F.meaning form) (F.leaves_ends form) };
 
-    ghost covers = { λ is at. void_covered (F.covers is at) };
+    ghost covers = { λ at. void_covered (F.covers at) };
 
     ghost lawful = { λ is. void_law (F.lawful is) };
 
     ghost claimed = { λ s. record {
-      exact = λ form is. void_exact ((F.claimed s).exact form is);
-      fails = λ form is. void_fails ((F.claimed s).fails form is);
+      projects = λ at is. void_projects ((F.claimed s).projects at is);
       takes = λ is some. made_of_takes (λ (_ : Unit {0}) o (u : Unit {0}). ⊤) tt
           ((F.claimed s).takes is some);
     } };

@@ -4,8 +4,8 @@ ghost use Rattle.grammars.specs.Grammar.{Made};
 ghost use Rattle.grammars.specs.Grammar.Unique.{made_of_takes};
 ghost use Rattle.parser_definitions.specs.Equal.{AlikePairs};
 ghost use Rattle.parser_definitions.specs.Outputs.{WithSpanDoes, with_span_law};
+ghost use Rattle.parser_definitions.specs.Projects.Outputs.{WithPlaces, with_span_projects};
 ghost use Rattle.winnow_core.specs.Covers.Outputs.{with_span_covered};
-ghost use Rattle.winnow_core.specs.Exact.Adapters.{WithPlaces, with_span_exact, with_span_fails};
 ghost use Rattle.winnow_core.specs.MakesOutput.Laws.{makes_output_ends};
 ghost use Rattle.winnow_core.specs.WithSpan.{WithSpanRuns};
 
@@ -69,14 +69,12 @@ impl<F: Parser<I, O, E>, I: Location, O, E: ParserError<I>> Parser<I, (O, Range<
     ghost leaves_ends = { λ form. makes_output_ends I.reading _ (F.meaning form)
         (F.leaves_ends form) };
 
-    ghost covers = { λ is at. with_span_covered (F.covers is at) };
+    ghost covers = { λ at. with_span_covered (F.covers at) };
 
     ghost lawful = { λ is. with_span_law (F.lawful is) };
 
     ghost claimed = { λ s. record {
-      exact = λ form is. with_span_exact (F.meaning form) (s) ((F.claimed s).exact form is);
-      fails = λ form is. with_span_fails (F.meaning form) (s)
-          ((F.claimed s).fails form is);
+      projects = λ at is. with_span_projects ((F.claimed s).projects at is);
       takes = λ is some. made_of_takes WithPlaces tt ((F.claimed s).takes is some);
     } };
 

@@ -1,12 +1,12 @@
 //! Outputs with the slices that were read.
 ghost use Rattle.std.specs.Prelude.{◌≡◌};
 ghost use Rattle.grammars.specs.Grammar.{AndTaken};
+ghost use Rattle.grammars.specs.Grammar.Unique.{and_taken_takes};
 ghost use Rattle.parser_definitions.specs.Equal.{AlikePairs};
 ghost use Rattle.parser_definitions.specs.Outputs.{WithTakenDoes, with_taken_law};
+ghost use Rattle.parser_definitions.specs.Projects.Outputs.{with_taken_projects};
 ghost use Rattle.parser_definitions.specs.Spelled.{ShowSame};
 ghost use Rattle.winnow_core.specs.Covers.Outputs.{with_taken_covered};
-ghost use Rattle.winnow_core.specs.Exact.Adapters.{and_taken_takes, with_taken_exact};
-ghost use Rattle.winnow_core.specs.Exact.Adapters.{with_taken_fails};
 ghost use Rattle.winnow_core.specs.MakesOutput.Laws.{makes_output_ends};
 ghost use Rattle.winnow_core.specs.WithTaken.{WithTakenRuns};
 
@@ -69,13 +69,12 @@ impl<F: Parser<I, O, E>, I: Stream, O, E: ParserError<I>> Parser<I, (O, I::Slice
     ghost leaves_ends = { λ form. makes_output_ends I.reading _ (F.meaning form)
         (F.leaves_ends form) };
 
-    ghost covers = { λ is at. with_taken_covered (F.covers is at) I.reading };
+    ghost covers = { λ at. with_taken_covered (F.covers at) I.reading };
 
     ghost lawful = { λ is. with_taken_law I.reading (F.lawful is) };
 
     ghost claimed = { λ s. record {
-      exact = λ form is. with_taken_exact I.reading ((F.claimed s).exact form is);
-      fails = λ form is. with_taken_fails I.reading ((F.claimed s).fails form is);
+      projects = λ at is. with_taken_projects ((F.claimed s).projects at is) I.reading;
       takes = λ is some. and_taken_takes I.reading ((F.claimed s).takes is some);
     } };
 

@@ -11,7 +11,7 @@ ghost use Rattle.winnow_expression.specs.Expression.{postfix_of, prefix_of};
 ghost use Rattle.winnow_expression.specs.Expression.Laws.{leveled_leaves};
 ghost use Rattle.winnow_expression.specs.Parts.{parts_grammar};
 ghost use Rattle.winnow_expression.specs.Places.Laws.{first_ends, next_ends};
-ghost use Rattle.winnow_core.specs.Claim.{no_claim, nothing_claimed};
+ghost use Rattle.parser_definitions.specs.Claim.{no_claim, nothing_claimed};
 
 use crate::combinator::folds::{FoldBinary, FoldUnary};
 use crate::combinator::machine::expression_from;
@@ -247,9 +247,9 @@ impl<
           between = H.leaves_ends form;
         }) };
 
-    ghost covers = { λ is at. expression_covered I.reading F.folds G.folds H.folds F.leaves_ends
-        G.leaves_ends H.leaves_ends (P.covers is.0.0 at) (Pre.covers is.0.1 at)
-        (Post.covers is.0.2 at) (Pix.covers is.0.3 at) };
+    ghost covers = { λ at. expression_covered I.reading F.folds G.folds H.folds F.leaves_ends
+        G.leaves_ends H.leaves_ends (P.covers at) (Pre.covers at)
+        (Post.covers at) (Pix.covers at) };
 
     ghost lawful = { λ is. expression_law (operators I.reading.units F.folds G.folds H.folds) is.1
         is.2 (P.lawful is.0.0) (Pre.lawful is.0.1) (Post.lawful is.0.2) (Pix.lawful is.0.3) };

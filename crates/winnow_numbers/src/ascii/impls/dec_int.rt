@@ -1,14 +1,13 @@
 //! Decimal signed numbers.
 ghost use Rattle.std.specs.Prelude.{⊤};
-ghost use Rattle.winnow_core.specs.Exact.Allowed.{backs};
-ghost use Rattle.winnow_core.specs.Runs.{Keeps};
-ghost use Rattle.winnow_numbers.specs.DecInt.{DecIntRuns};
-ghost use Rattle.winnow_numbers.specs.Number.Laws.{number_ends, number_fails};
-ghost use Rattle.winnow_numbers.specs.Numeral.Exact.{dec_int_exact, signed_takes};
-ghost use Rattle.winnow_numbers.specs.Numeral.Grammar.{SignedDecimal};
 ghost use Rattle.parser_definitions.specs.HexUint.{OneNumber};
 ghost use Rattle.parser_definitions.specs.Number.{DecIntDoes, number_law, signed_apart};
 ghost use Rattle.parser_definitions.specs.Number.{signed_numbers};
+ghost use Rattle.parser_definitions.specs.NumberGrammar.{SignedDecimal};
+ghost use Rattle.parser_definitions.specs.Projects.Decimals.{dec_int_projects, signed_takes};
+ghost use Rattle.winnow_core.specs.Runs.{Keeps};
+ghost use Rattle.winnow_numbers.specs.DecInt.{DecIntRuns};
+ghost use Rattle.winnow_numbers.specs.Number.Laws.{number_ends};
 ghost use Rattle.winnow_numbers.specs.Covers.{number_covered};
 
 use crate::ascii::{Int, dec_int};
@@ -53,18 +52,16 @@ where
     ghost leaves_ends = { λ form x i answer y j r. number_ends
         (signed_numbers O.number O.fits) I.seen_as I.Token.code I.reading form i answer j r.0 };
 
-    ghost covers = { λ _ at. number_covered (signed_numbers O.number O.fits) I.seen_as
+    ghost covers = { λ at. number_covered (signed_numbers O.number O.fits) I.seen_as
         I.Token.code I.reading };
 
     ghost lawful = { λ _. number_law (signed_numbers O.number O.fits) I.seen_as I.Token.code
         I.reading I.one_code (signed_apart O.number O.fits) };
 
     ghost claimed = { λ s. record {
-      exact = λ form is. dec_int_exact I.seen_as I.Token.code I.reading O.number O.fits form
-          I.one_code;
-      fails = λ form is. backs
-          (number_fails (signed_numbers O.number O.fits) I.seen_as I.Token.code I.reading form);
-      takes = λ is some. signed_takes I.seen_as I.Token.code I.reading O.number O.fits;
+      projects = λ at is. dec_int_projects O.number O.fits I.seen_as I.Token.code I.reading
+          I.one_code at s;
+      takes = λ is some. signed_takes O.number O.fits I.seen_as I.Token.code;
     } };
 
     #[inline(always)]

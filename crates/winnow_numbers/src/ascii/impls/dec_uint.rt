@@ -1,14 +1,13 @@
 //! Decimal unsigned numbers.
 ghost use Rattle.std.specs.Prelude.{⊤};
-ghost use Rattle.winnow_core.specs.Exact.Allowed.{backs};
-ghost use Rattle.winnow_core.specs.Runs.{Keeps};
-ghost use Rattle.winnow_numbers.specs.DecUint.{DecUintRuns};
-ghost use Rattle.winnow_numbers.specs.Number.Laws.{number_ends, number_fails};
-ghost use Rattle.winnow_numbers.specs.Numeral.Exact.{dec_uint_exact, decimal_takes};
-ghost use Rattle.winnow_numbers.specs.Numeral.Grammar.{Decimal};
 ghost use Rattle.parser_definitions.specs.HexUint.{OneNumber};
 ghost use Rattle.parser_definitions.specs.Number.{DecUintDoes, number_law, unsigned_apart};
 ghost use Rattle.parser_definitions.specs.Number.{unsigned_numbers};
+ghost use Rattle.parser_definitions.specs.NumberGrammar.{Decimal};
+ghost use Rattle.parser_definitions.specs.Projects.Decimals.{dec_uint_projects, decimal_takes};
+ghost use Rattle.winnow_core.specs.Runs.{Keeps};
+ghost use Rattle.winnow_numbers.specs.DecUint.{DecUintRuns};
+ghost use Rattle.winnow_numbers.specs.Number.Laws.{number_ends};
 ghost use Rattle.winnow_numbers.specs.Covers.{number_covered};
 
 use crate::ascii::{Uint, dec_uint};
@@ -53,18 +52,16 @@ where
     ghost leaves_ends = { λ form x i answer y j r. number_ends
         (unsigned_numbers O.number O.bound) I.seen_as I.Token.code I.reading form i answer j r.0 };
 
-    ghost covers = { λ _ at. number_covered (unsigned_numbers O.number O.bound) I.seen_as
+    ghost covers = { λ at. number_covered (unsigned_numbers O.number O.bound) I.seen_as
         I.Token.code I.reading };
 
     ghost lawful = { λ _. number_law (unsigned_numbers O.number O.bound) I.seen_as I.Token.code
         I.reading I.one_code (unsigned_apart O.number O.bound) };
 
     ghost claimed = { λ s. record {
-      exact = λ form is. dec_uint_exact I.seen_as I.Token.code I.reading O.number O.bound form
-          I.one_code;
-      fails = λ form is. backs
-          (number_fails (unsigned_numbers O.number O.bound) I.seen_as I.Token.code I.reading form);
-      takes = λ is some. decimal_takes I.seen_as I.Token.code I.reading O.number O.bound;
+      projects = λ at is. dec_uint_projects O.number O.bound I.seen_as I.Token.code I.reading
+          I.one_code at s;
+      takes = λ is some. decimal_takes O.number O.bound I.seen_as I.Token.code;
     } };
 
     #[inline(always)]

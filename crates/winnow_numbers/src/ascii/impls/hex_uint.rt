@@ -1,14 +1,12 @@
 //! Hexadecimal numbers.
 ghost use Rattle.std.specs.Prelude.{◌≡◌, ◌+◌, ◌*◌, ◌^◌, ◌<◌, ℕ, ⊤};
 ghost use Rattle.std.proofs.Common.{arith};
-ghost use Rattle.winnow_core.specs.Exact.Allowed.{backs};
+ghost use Rattle.parser_definitions.specs.HexUint.{HexUintDoes, OneNumber, hex_uint_law};
+ghost use Rattle.parser_definitions.specs.NumberGrammar.{Hexadecimal};
+ghost use Rattle.parser_definitions.specs.Projects.Numbers.{hex_uint_projects, hexadecimal_takes};
 ghost use Rattle.winnow_core.specs.Runs.{Keeps};
 ghost use Rattle.winnow_numbers.specs.HexUint.{HexUintRuns};
-ghost use Rattle.winnow_numbers.specs.HexUint.Laws.{hex_uint_exact, hex_uint_fails};
-ghost use Rattle.winnow_numbers.specs.HexUint.Laws.{hexadecimal_takes};
 ghost use Rattle.winnow_numbers.specs.HexUint.Laws.{hex_uint_ends};
-ghost use Rattle.winnow_numbers.specs.Numeral.Grammar.{Hexadecimal};
-ghost use Rattle.parser_definitions.specs.HexUint.{HexUintDoes, OneNumber, hex_uint_law};
 ghost use Rattle.winnow_numbers.specs.Covers.{hex_uint_covered};
 
 use crate::ascii::hex_uint;
@@ -212,17 +210,15 @@ where
     ghost leaves_ends = { λ form x i answer y j r. hex_uint_ends O.number O.nibbles I.seen_as
         I.Token.code I.reading form i answer j r.0 };
 
-    ghost covers = { λ _ at. hex_uint_covered O.number O.nibbles I.seen_as I.Token.code I.reading };
+    ghost covers = { λ at. hex_uint_covered O.number O.nibbles I.seen_as I.Token.code I.reading };
 
     ghost lawful = { λ _. hex_uint_law O.number O.nibbles I.seen_as I.Token.code I.reading
         I.one_code };
 
     ghost claimed = { λ s. record {
-      exact = λ form is. hex_uint_exact I.seen_as I.Token.code I.reading O.number O.nibbles
-          form I.one_code;
-      fails = λ form is. backs (hex_uint_fails I.seen_as I.Token.code I.reading O.number O.nibbles
-          form);
-      takes = λ is some. hexadecimal_takes I.seen_as I.Token.code I.reading O.number O.nibbles;
+      projects = λ at is. hex_uint_projects O.number O.nibbles I.seen_as I.Token.code I.reading
+          I.one_code at s;
+      takes = λ is some. hexadecimal_takes O.number O.nibbles I.seen_as I.Token.code;
     } };
 
     #[inline(always)]

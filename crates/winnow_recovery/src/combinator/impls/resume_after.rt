@@ -8,7 +8,7 @@ ghost use Rattle.winnow_recovery.specs.Recovery.{recovery_of};
 ghost use Rattle.winnow_recovery.specs.ResumeAfter.Laws.{resume_after_ends};
 ghost use Rattle.winnow_recovery.specs.ResumeAfter.{ResumeAfterRuns, ResumeRuns};
 ghost use Rattle.winnow_recovery.specs.ResumeAfter.{resume_after_parser, resume_after_recover};
-ghost use Rattle.winnow_core.specs.Claim.{no_claim, nothing_claimed};
+ghost use Rattle.parser_definitions.specs.Claim.{no_claim, nothing_claimed};
 ghost use Rattle.std.proofs.Common.{refl};
 ghost use Rattle.parser_definitions.specs.Does.{wider_law};
 ghost use Rattle.parser_definitions.specs.Equal.{AlikeOptions};
@@ -39,7 +39,7 @@ use winnow_core::parser::Parser;
 ///
 /// ```
 /// let mut input: Recoverable<&str, EmptyError> = Recoverable::new(alloc, "x,2");
-/// let number = Digit1.resume_after(take_till(Range::from(0..), ',').void());
+/// let number = Digit1.resume_after(take_till(0.., ',').void());
 /// let mut numbers = (number, ',', Digit1);
 /// assert_eq!(rt; numbers.parse_next(&mut input), Ok::<_, EmptyError>((None, ',', "2")));
 /// let (_, errors) = input.into_parts();
@@ -98,7 +98,7 @@ impl<
     ghost leaves_ends = { λ form. resume_after_ends I.reading (P.meaning form) (R.meaning form)
         (P.leaves_ends form) (R.leaves_ends form) };
 
-    ghost covers = { λ is at. resume_after_covered (P.covers is.0 at) (R.covers is.1 at) };
+    ghost covers = { λ at. resume_after_covered (P.covers at) (R.covers at) };
 
     ghost lawful = { λ is. resume_after_law (P.lawful is.0)
         (wider_law (λ o p like. refl) (R.lawful is.1)) };

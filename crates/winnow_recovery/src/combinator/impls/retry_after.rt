@@ -8,7 +8,7 @@ ghost use Rattle.winnow_recovery.specs.Recovery.{recovery_of};
 ghost use Rattle.winnow_recovery.specs.RetryAfter.Laws.{retry_after_ends};
 ghost use Rattle.winnow_recovery.specs.RetryAfter.{RetryAfterRuns, RetryRuns, retry_after_parser};
 ghost use Rattle.winnow_recovery.specs.RetryAfter.{retry_after_recover};
-ghost use Rattle.winnow_core.specs.Claim.{no_claim, nothing_claimed};
+ghost use Rattle.parser_definitions.specs.Claim.{no_claim, nothing_claimed};
 ghost use Rattle.std.proofs.Common.{refl};
 ghost use Rattle.parser_definitions.specs.Does.{wider_law};
 ghost use Rattle.parser_definitions.specs.Recover.{NeverAsks, Recovery};
@@ -38,7 +38,7 @@ use winnow_core::parser::Parser;
 ///
 /// ```
 /// let mut input: Recoverable<&str, EmptyError> = Recoverable::new(alloc, "ab,12");
-/// let mut number = Digit1.retry_after((take_till(Range::from(0..), ','), ',').void());
+/// let mut number = Digit1.retry_after((take_till(0.., ','), ',').void());
 /// assert_eq!(rt; number.parse_next(&mut input), Ok::<_, EmptyError>("12"));
 /// let (_, errors) = input.into_parts();
 /// assert_eq!(rt; errors.len(), 1);
@@ -96,7 +96,7 @@ impl<
     ghost leaves_ends = { λ form. retry_after_ends I.reading (P.meaning form) (R.meaning form)
         (P.leaves_ends form) (R.leaves_ends form) };
 
-    ghost covers = { λ is at. retry_after_covered (P.covers is.0 at) (R.covers is.1 at) };
+    ghost covers = { λ at. retry_after_covered (P.covers at) (R.covers at) };
 
     ghost lawful = { λ is. retry_after_law (P.lawful is.0)
         (wider_law (λ o p like. refl) (R.lawful is.1)) };

@@ -3,7 +3,7 @@ ghost use Rattle.stream_errors.specs.Form.{answer_by};
 ghost use Rattle.streams.specs.Input.{IsEndOf};
 ghost use Rattle.winnow_repeat.specs.Fill.{FillRuns, FillsElements, fill_buffer};
 ghost use Rattle.winnow_repeat.specs.Fill.Laws.{fill_ends};
-ghost use Rattle.winnow_core.specs.Claim.{no_claim, nothing_claimed};
+ghost use Rattle.parser_definitions.specs.Claim.{no_claim, nothing_claimed};
 ghost use Rattle.std.specs.Prelude.{◌≡◌};
 ghost use Rattle.parser_definitions.specs.Fill.{Buffer, FillDoes, fill_law};
 ghost use Rattle.winnow_repeat.specs.Covers.Fill.{fill_covered};
@@ -49,7 +49,7 @@ impl<'b, P: Parser<I, O, E>, I: Stream, O: Drop, E: ParserError<I>> Parser<I, ()
 
     ghost leaves_ends = { λ form. fill_ends I.reading (P.meaning form) (P.leaves_ends form) };
 
-    ghost covers = { λ is at. fill_covered (P.covers is.0 at) };
+    ghost covers = { λ at. fill_covered (P.covers at) };
 
     ghost lawful = { λ is. fill_law (P.lawful is.0) is.1 };
 

@@ -1,5 +1,5 @@
 //! Repetition whose outputs a closure folds into a value.
-ghost use Rattle.std.specs.Prelude.{◌≡◌, ⊤, ◌<◌};
+ghost use Rattle.std.specs.Prelude.{◌≡◌, ⊤, ◌<◌, true};
 ghost use Rattle.streams.specs.Input.{IsEndOf};
 ghost use Rattle.streams.specs.Kind.{backtrack};
 ghost use Rattle.stream_sets.specs.Range.{IsWithin, bounds_of};
@@ -7,13 +7,12 @@ ghost use Rattle.stream_sets.specs.declared.range.Range.{Range};
 ghost use Rattle.grammars.specs.Grammar.Folded.{FoldOf, Folded, StaysFolding, StaysMaking};
 ghost use Rattle.grammars.specs.Grammar.Unique.{repeated_take};
 ghost use Rattle.stream_errors.specs.Form.{answer_by, assert_kind, modal};
-ghost use Rattle.winnow_core.specs.Exact.Allowed.{fails_as, softly};
 ghost use Rattle.winnow_repeat.specs.Fold.{FoldOneRuns, FoldTakes, RangedFolds, fold_closure};
-ghost use Rattle.winnow_repeat.specs.Fold.Exact.{fold_exact, fold_fails};
 ghost use Rattle.winnow_repeat.specs.Fold.Laws.{ranged_folds_end};
 ghost use Rattle.parser_definitions.specs.Closures.{folding};
 ghost use Rattle.parser_definitions.specs.Fold.{FoldDoes, FoldsAlike, MakesOne, fold_law};
 ghost use Rattle.parser_definitions.specs.Folding.{Built};
+ghost use Rattle.parser_definitions.specs.Projects.Gathers.{fold_projects};
 ghost use Rattle.winnow_repeat.specs.Covers.Fold.{fold_covered};
 
 use crate::combinator::folding::{Folding, fold_items, fold_range};
@@ -56,7 +55,7 @@ impl<H: FnMut(R, O) -> R, I: Stream, O, R, E: ParserError<I>> Folding<I, O, R, E
 /// The parser that [`Repeat::fold`](crate::combinator::impls::Repeat::fold) makes.
 ///
 /// ```
-/// let letters = repeat(alloc, Range::from(0..), 'a');
+/// let letters = repeat(alloc, 0.., 'a');
 /// let mut count = letters.fold(|| 0_u32, |sum: u32, _: char| sum + 1);
 /// assert_eq!(rt; count.parse_peek("aab"), Ok::<_, EmptyError>(("b", 2)));
 /// ```
@@ -133,20 +132,16 @@ impl<
     ghost leaves_ends = { λ form. ranged_folds_end I.reading G.step H.step (P.meaning form)
         (assert_kind form) (P.leaves_ends form) };
 
-    ghost covers = { λ is at. fold_covered G.step H.step (P.covers is.0 at) };
+    ghost covers = { λ at. fold_covered G.step H.step (P.covers at) };
 
     ghost lawful = { λ is. fold_law G.step H.step is.1 is.2 (P.lawful is.0) };
 
     ghost claimed = { λ s. record {
-      exact = λ form is. fold_exact (P.meaning form) G.step s.1.1.0 is.4 H.step s.1.1.1 is.5
-          (assert_kind form) s.1.0 ((P.claimed s.0).exact form is.0)
-          (softly is.1 ((P.claimed s.0).fails form is.0)) ((P.claimed s.0).takes is.0 is.2) is.3;
-      fails = λ form is. fold_fails (P.meaning form) G.step s.1.1.0 is.4 H.step s.1.1.1
-          is.5 (assert_kind form) s.1.0 ((P.claimed s.0).exact form is.0)
-          (softly is.1 ((P.claimed s.0).fails form is.0)) ((P.claimed s.0).takes is.0 is.2) is.3
-          (fails_as (λ b. is.1) (λ m. m) ((P.claimed s.0).fails form is.0));
+      projects = λ at is. fold_projects G.step H.step ((P.claimed s.0).projects at is.0) is.1
+          ((P.claimed s.0).takes is.0 is.2) is.3 is.4 is.5;
       takes = λ is some. repeated_take (FoldOf G.step s.1.1.0 H.step s.1.1.1) s.1.0
-          ((P.claimed s.0).exact modal is.0).unique ((P.claimed s.0).takes is.0 is.2) some;
+          ((P.claimed s.0).projects (record { form = modal; possible = true }) is.0).unique
+          ((P.claimed s.0).takes is.0 is.2) some;
     } };
 
     #[inline(always)]

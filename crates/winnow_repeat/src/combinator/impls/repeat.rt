@@ -1,19 +1,20 @@
 //! Repetition.
-ghost use Rattle.std.specs.Prelude.{◌≡◌, ◌<◌, ⊤};
+ghost use Rattle.std.specs.Prelude.{◌≡◌, ◌<◌, ⊤, true};
 ghost use Rattle.streams.specs.Input.{IsEndOf};
 ghost use Rattle.stream_sets.specs.Range.{IsWithin, bounds_of};
 ghost use Rattle.stream_sets.specs.declared.range.Range.{Range};
 ghost use Rattle.grammars.specs.Grammar.{Repeated};
+ghost use Rattle.grammars.specs.Grammar.Unique.{repeated_take};
 ghost use Rattle.stream_errors.specs.Form.{answer_by, assert_kind, modal};
-ghost use Rattle.winnow_core.specs.Exact.Allowed.{fails_as, wanted, softly};
 ghost use Rattle.winnow_repeat.specs.Fold.{fold_closure};
 ghost use Rattle.winnow_repeat.specs.Repeat.{RangedRuns, RepeatOneRuns, repeat_occurrences};
 ghost use Rattle.winnow_repeat.specs.Repeat.{repeat_parser};
-ghost use Rattle.winnow_repeat.specs.Repeat.Exact.{repeat_exact, repeat_fails, repeat_takes};
 ghost use Rattle.winnow_repeat.specs.Repeat.Laws.{ranged_ends};
 ghost use Rattle.winnow_repeat.specs.TryFold.{try_fold_closure};
 ghost use Rattle.winnow_repeat.specs.VerifyFold.{verify_fold_closure};
 ghost use Rattle.parser_definitions.specs.Folding.{Built, gathering};
+ghost use Rattle.parser_definitions.specs.Projects.{projects_as};
+ghost use Rattle.parser_definitions.specs.Projects.Gathers.{repeat_projects};
 ghost use Rattle.parser_definitions.specs.Repeat.{RepeatDoes, repeat_law};
 ghost use Rattle.winnow_repeat.specs.Covers.Repeat.{repeat_covered};
 
@@ -31,7 +32,7 @@ use winnow_core::parser::Parser;
 /// The parser that [`repeat`](crate::combinator::repeat) makes.
 ///
 /// ```
-/// let mut letters = repeat(alloc, Range::from(2), 'a');
+/// let mut letters = repeat(alloc, 2, 'a');
 /// assert_eq!(rt; letters.parse_peek("aaa"), Ok::<_, EmptyError>(("a", ())));
 /// ```
 #[derive(Drop)]
@@ -51,7 +52,7 @@ impl<P: Parser<I, O, E>, I: Stream, O, E: ParserError<I>, A: Drop> Repeat<P, I, 
     ///
     /// ```
     /// let digit = Any.verify_map(|letter: char| letter.to_digit(10));
-    /// let digits = repeat(alloc, Range::from(0..), digit);
+    /// let digits = repeat(alloc, 0.., digit);
     /// let mut sum = digits.fold(|| 0_u32, |sum: u32, n: u32| sum + n);
     /// assert_eq!(rt; sum.parse_peek("12a"), Ok::<_, EmptyError>(("a", 3)));
     /// ```
@@ -74,7 +75,7 @@ impl<P: Parser<I, O, E>, I: Stream, O, E: ParserError<I>, A: Drop> Repeat<P, I, 
     ///
     /// ```
     /// let digit = Any.verify_map(|letter: char| letter.to_digit(10));
-    /// let digits = repeat(alloc, Range::from(0..), digit);
+    /// let digits = repeat(alloc, 0.., digit);
     /// let mut sum = digits.verify_fold(|| u32::MAX - 4, |sum: u32, n: u32| sum.checked_add(n));
     /// let mut input = "23";
     /// assert_eq!(rt; sum.parse_next(&mut input), Err(EmptyError::from_input(&"3")));
@@ -98,7 +99,7 @@ impl<P: Parser<I, O, E>, I: Stream, O, E: ParserError<I>, A: Drop> Repeat<P, I, 
     ///
     /// ```
     /// let digit = Any.verify_map(|letter: char| letter.to_digit(10));
-    /// let digits = repeat(alloc, Range::from(0..), digit);
+    /// let digits = repeat(alloc, 0.., digit);
     /// let mut sum = digits.try_fold(|| 0_u32, |sum: u32, n: u32| match n {
     ///     9 => Err("no nine"),
     ///     _ => Ok(sum + n),
@@ -158,21 +159,17 @@ impl<
     ghost leaves_ends = { λ form. ranged_ends I.reading (P.meaning form) C.accumulator
         (assert_kind form) (P.leaves_ends form) };
 
-    ghost covers = { λ is at. repeat_covered C.accumulator (P.covers is at) };
+    ghost covers = { λ at. repeat_covered C.accumulator (P.covers at) };
 
     ghost lawful = { λ is. repeat_law C.accumulator (P.lawful is) };
 
     ghost claimed = { λ s. record {
-      exact = λ form is. repeat_exact C.accumulator (assert_kind form) s C.holds C.gathers
-          ((P.claimed s.0).exact form is.0) (softly is.1 ((P.claimed s.0).fails form is.0))
+      projects = λ at is. repeat_projects C.accumulator C.gathers (λ m. C.never_wants m.1)
+          (projects_as (λ b. b) (λ m. m.0) ((P.claimed s.0).projects at is.0)) is.1
           ((P.claimed s.0).takes is.0 is.2) is.3;
-      fails = λ form is. repeat_fails C.accumulator (assert_kind form) s
-          ((P.claimed s.0).exact form is.0)
-          (fails_as (λ b. is.1) (λ m. m.0) ((P.claimed s.0).fails form is.0))
-          ((P.claimed s.0).takes is.0 is.2) is.3
-          (λ w. wanted (λ m. C.never_wants m.1 w));
-      takes = λ is some. repeat_takes C.accumulator (assert_kind modal) s C.holds
-          ((P.claimed s.0).exact modal is.0) ((P.claimed s.0).takes is.0 is.2) some;
+      takes = λ is some. repeated_take C.holds s.1
+          ((P.claimed s.0).projects (record { form = modal; possible = true }) is.0).unique
+          ((P.claimed s.0).takes is.0 is.2) some;
     } };
 
     fn parse_next(&mut self, input: &mut I) -> Result<C, E> {

@@ -1,17 +1,16 @@
 //! Repetition until a terminator.
-ghost use Rattle.std.specs.Prelude.{◌<◌, ⊤};
+ghost use Rattle.std.specs.Prelude.{◌<◌, ⊤, true};
 ghost use Rattle.streams.specs.Input.{IsEndOf};
 ghost use Rattle.stream_sets.specs.Range.{IsWithin, bounds_of};
 ghost use Rattle.stream_sets.specs.declared.range.Range.{Range};
 ghost use Rattle.grammars.specs.Grammar.Till.{Till, till_takes};
 ghost use Rattle.stream_errors.specs.Form.{answer_by, assert_kind, modal};
-ghost use Rattle.winnow_core.specs.Exact.Allowed.{fails_as, wanted, softly};
 ghost use Rattle.winnow_repeat.specs.RepeatTill.{LeastItemsRun, RangedTillRuns, TurnsRun};
-ghost use Rattle.winnow_repeat.specs.RepeatTill.Errors.{repeat_till_fails};
-ghost use Rattle.winnow_repeat.specs.RepeatTill.Exact.{repeat_till_exact};
 ghost use Rattle.winnow_repeat.specs.RepeatTill.Laws.{repeat_till_ends};
 ghost use Rattle.parser_definitions.specs.Equal.{AlikePairs};
 ghost use Rattle.parser_definitions.specs.Folding.{Built, gathering};
+ghost use Rattle.parser_definitions.specs.Projects.{projects_as};
+ghost use Rattle.parser_definitions.specs.Projects.Tills.{repeat_till_projects};
 ghost use Rattle.parser_definitions.specs.RepeatTill.{RepeatTillDoes, repeat_till_law};
 ghost use Rattle.winnow_repeat.specs.Covers.RepeatTill.{repeat_till_covered};
 
@@ -27,7 +26,7 @@ use winnow_core::parser::Parser;
 /// The parser that [`repeat_till`](crate::combinator::repeat_till) makes.
 ///
 /// ```
-/// let mut letters = repeat_till(alloc, Range::from(0..), Any.void(), ';');
+/// let mut letters = repeat_till(alloc, 0.., Any.void(), ';');
 /// assert_eq!(rt; letters.parse_peek("ab;c"), Ok::<_, EmptyError>(("c", ((), ';'))));
 /// ```
 #[derive(Drop)]
@@ -82,25 +81,20 @@ impl<
     ghost leaves_ends = { λ form. repeat_till_ends I.reading (P.meaning form) (G.meaning form)
         C.accumulator (assert_kind form) (P.leaves_ends form) (G.leaves_ends form) };
 
-    ghost covers = { λ is at. repeat_till_covered C.accumulator (P.covers is.0 at)
-        (G.covers is.1 at) };
+    ghost covers = { λ at. repeat_till_covered C.accumulator (P.covers at)
+        (G.covers at) };
 
     ghost lawful = { λ is. repeat_till_law C.accumulator (P.lawful is.0) (G.lawful is.1) };
 
     ghost claimed = { λ s. record {
-      exact = λ form is. repeat_till_exact C.accumulator (assert_kind form) s C.holds
-          C.gathers is.5 ((P.claimed s.0).exact form is.0)
-          (softly is.1 ((P.claimed s.0).fails form is.0)) ((P.claimed s.0).takes is.0 is.2)
-          ((G.claimed s.1).exact form is.3) (softly is.4 ((G.claimed s.1).fails form is.3));
-      fails = λ form is. repeat_till_fails C.accumulator (assert_kind form) s is.5
-          ((P.claimed s.0).exact form is.0) ((P.claimed s.0).takes is.0 is.2)
-          ((G.claimed s.1).exact form is.3)
-          (fails_as (λ b. is.1) (λ m. m.0) ((P.claimed s.0).fails form is.0))
-          (fails_as (λ b. is.4) (λ m. m.1) ((G.claimed s.1).fails form is.3))
-          (λ w. wanted (λ m. C.never_wants m.2 w));
+      projects = λ at is. repeat_till_projects C.accumulator C.gathers
+          (λ m. C.never_wants m.2)
+          (projects_as (λ b. b) (λ m. m.0) ((P.claimed s.0).projects at is.0)) is.1
+          ((P.claimed s.0).takes is.0 is.2)
+          (projects_as (λ b. b) (λ m. m.1) ((G.claimed s.1).projects at is.3)) is.4 is.5;
       takes = λ is some. till_takes (P.claim s.0).grammar (G.claim s.1).grammar
-          ((P.claimed s.0).exact modal is.0).unique C.holds s.2
-          ((G.claimed s.1).takes is.3 some);
+          ((P.claimed s.0).projects (record { form = modal; possible = true }) is.0).unique
+          C.holds s.2 ((G.claimed s.1).takes is.3 some);
     } };
 
     fn parse_next(&mut self, input: &mut I) -> Result<(C, D), E> {

@@ -6,7 +6,7 @@ ghost use Rattle.stream_sets.specs.declared.range.Range.{Range};
 ghost use Rattle.streams.specs.Kind.{backtrack};
 ghost use Rattle.winnow_repeat.specs.Fold.Laws.{ranged_fold_many_ends};
 ghost use Rattle.winnow_repeat.specs.TryFold.{TryFoldRuns, TryFoldTakes, try_fold_closure};
-ghost use Rattle.winnow_core.specs.Claim.{no_claim, nothing_claimed};
+ghost use Rattle.parser_definitions.specs.Claim.{no_claim, nothing_claimed};
 ghost use Rattle.parser_definitions.specs.Closures.{trying};
 ghost use Rattle.parser_definitions.specs.Fold.{BothOrFail, FoldsAlike, MakesOne, TryFoldDoes};
 ghost use Rattle.parser_definitions.specs.Fold.{try_fold_law};
@@ -62,7 +62,7 @@ impl<
 /// The parser that [`Repeat::try_fold`](crate::combinator::impls::Repeat::try_fold) makes.
 ///
 /// ```
-/// let letters = repeat(alloc, Range::from(0..), 'a');
+/// let letters = repeat(alloc, 0.., 'a');
 /// let mut count = letters.try_fold(|| 0_u32, |sum: u32, _: char| match sum {
 ///     2 => Err("too many"),
 ///     _ => Ok(sum + 1),
@@ -139,7 +139,7 @@ impl<
     ghost leaves_ends = { λ form. ranged_fold_many_ends I.reading G.step
         (TryFoldTakes H.step) (P.meaning form) (assert_kind form) (P.leaves_ends form) };
 
-    ghost covers = { λ is at. try_fold_covered G.step H.step (P.covers is.0 at) };
+    ghost covers = { λ at. try_fold_covered G.step H.step (P.covers at) };
 
     ghost lawful = { λ is. try_fold_law G.step H.step is.1 is.2 (P.lawful is.0) };
 

@@ -6,7 +6,7 @@ ghost use Rattle.streams.specs.Kind.{backtrack};
 ghost use Rattle.winnow_repeat.specs.Fold.Laws.{ranged_fold_many_ends};
 ghost use Rattle.winnow_repeat.specs.VerifyFold.{VerifyFoldRuns, VerifyFoldTakes};
 ghost use Rattle.winnow_repeat.specs.VerifyFold.{verify_fold_closure};
-ghost use Rattle.winnow_core.specs.Claim.{no_claim, nothing_claimed};
+ghost use Rattle.parser_definitions.specs.Claim.{no_claim, nothing_claimed};
 ghost use Rattle.parser_definitions.specs.Closures.{verifying};
 ghost use Rattle.parser_definitions.specs.Fold.{BothOrNone, FoldsAlike, MakesOne, VerifyFoldDoes};
 ghost use Rattle.parser_definitions.specs.Fold.{verify_fold_law};
@@ -57,7 +57,7 @@ impl<H: FnMut(R, O) -> Option<R>, I: Stream, O, R, E: ParserError<I>> Folding<I,
 /// The parser that [`Repeat::verify_fold`](crate::combinator::impls::Repeat::verify_fold) makes.
 ///
 /// ```
-/// let letters = repeat(alloc, Range::from(0..), 'a');
+/// let letters = repeat(alloc, 0.., 'a');
 /// let mut count = letters.verify_fold(|| 0_u32, |sum: u32, _: char| sum.checked_add(1));
 /// assert_eq!(rt; count.parse_peek("aab"), Ok::<_, EmptyError>(("b", 2)));
 /// ```
@@ -126,7 +126,7 @@ impl<
     ghost leaves_ends = { λ form. ranged_fold_many_ends I.reading G.step
         (VerifyFoldTakes H.step) (P.meaning form) (assert_kind form) (P.leaves_ends form) };
 
-    ghost covers = { λ is at. verify_fold_covered G.step H.step (P.covers is.0 at) };
+    ghost covers = { λ at. verify_fold_covered G.step H.step (P.covers at) };
 
     ghost lawful = { λ is. verify_fold_law G.step H.step is.1 is.2 (P.lawful is.0) };
 

@@ -13,7 +13,7 @@ returns-clause-of_outcomes g c premise between s consumes =
     let form = g.E.HasKind.form in
     fold_the_same g.row.A.Denot _ (g.P.Parser.meaning form) (g.S.Parser.meaning form)
     (assert_kind form) s
-    (definition_decides g.P.Parser.meaning (g.met.P.Parser.covers premise)
+    (definition_decides g.P.Parser.meaning g.met.P.Parser.covers
     (g.met.P.Parser.lawful premise) form s.0)
-    (definition_decides g.S.Parser.meaning (g.met.S.Parser.covers between)
+    (definition_decides g.S.Parser.meaning g.met.S.Parser.covers
     (g.met.S.Parser.lawful between) form s.1) consumes

@@ -1,17 +1,16 @@
 //! Elements with separators between them.
-ghost use Rattle.std.specs.Prelude.{◌<◌, ⊤};
+ghost use Rattle.std.specs.Prelude.{◌<◌, ⊤, true};
 ghost use Rattle.streams.specs.Input.{IsEndOf};
 ghost use Rattle.stream_sets.specs.Range.{IsWithin, from_to, bounds_of};
 ghost use Rattle.stream_sets.specs.declared.range.Range.{Range};
 ghost use Rattle.grammars.specs.Grammar.{SeparatedBy};
 ghost use Rattle.stream_errors.specs.Form.{answer_by, assert_kind, modal};
-ghost use Rattle.winnow_core.specs.Exact.Allowed.{fails_as, wanted, softly};
 ghost use Rattle.winnow_separated.specs.Separated.{ElementsRun, LinksRun, RangedElements};
 ghost use Rattle.winnow_separated.specs.Separated.{SeparatedRuns};
-ghost use Rattle.winnow_separated.specs.Separated.Exact.{separated_exact, separated_fails};
-ghost use Rattle.winnow_separated.specs.Separated.Exact.{separated_takes};
 ghost use Rattle.winnow_separated.specs.Separated.Laws.{separated_ends};
 ghost use Rattle.parser_definitions.specs.Folding.{Built, gathering};
+ghost use Rattle.parser_definitions.specs.Projects.{Complete};
+ghost use Rattle.parser_definitions.specs.Projects.Separates.{separated_projects, separated_takes};
 ghost use Rattle.parser_definitions.specs.Separated.{SeparatedDoes, separated_law};
 ghost use Rattle.winnow_separated.specs.Covers.{separated_covered};
 
@@ -28,7 +27,7 @@ use winnow_repeat::combinator::items::is_descending;
 /// The parser that [`separated`](crate::combinator::separated) makes.
 ///
 /// ```
-/// let mut parser = separated(alloc, Range::from(0..), Digit1.void(), ',');
+/// let mut parser = separated(alloc, 0.., Digit1.void(), ',');
 /// assert_eq!(rt; parser.parse_peek("1,2;"), Ok::<_, EmptyError>((";", ())));
 /// ```
 #[derive(Drop)]
@@ -80,26 +79,19 @@ impl<
     ghost leaves_ends = { λ form. separated_ends I.reading (P.meaning form) (S.meaning form)
         C.accumulator (assert_kind form) (P.leaves_ends form) (S.leaves_ends form) };
 
-    ghost covers = { λ is at. separated_covered I.reading C.accumulator (P.leaves_ends at.form)
-        (P.covers is.0 at) (S.covers is.1 at) };
+    ghost covers = { λ at. separated_covered I.reading C.accumulator (P.leaves_ends at.form)
+        (P.covers at) (S.covers at) };
 
     ghost lawful = { λ is. separated_law C.accumulator (P.lawful is.0) (S.lawful is.1) };
 
     ghost claimed = { λ s. record {
-      exact = λ form is. separated_exact C.accumulator (assert_kind form) s
-          ((P.claimed s.0).exact form is.0) ((S.claimed s.1).exact form is.2)
-          ((S.claimed s.1).takes is.2 is.4) C.holds C.gathers
-          (softly is.1 ((P.claimed s.0).fails form is.0))
-          (softly is.3 ((S.claimed s.1).fails form is.2)) is.5;
-      fails = λ form is. separated_fails C.accumulator (assert_kind form) s
-          ((P.claimed s.0).exact form is.0) ((S.claimed s.1).exact form is.2)
-          ((S.claimed s.1).takes is.2 is.4)
-          (fails_as (λ b. is.1) (λ m. m.0) ((P.claimed s.0).fails form is.0))
-          (fails_as (λ b. is.3) (λ m. m.1) ((S.claimed s.1).fails form is.2))
-          (λ w. wanted (λ m. C.never_wants m.2 w)) is.5;
-      takes = λ is some. separated_takes C.holds s.2 ((P.claimed s.0).exact modal is.0).unique
-          ((S.claimed s.1).exact modal is.2).unique ((P.claimed s.0).takes is.0 some.0)
-          some.1;
+      projects = λ at is. separated_projects C.accumulator s C.gathers (λ m. C.never_wants m.2)
+          ((P.claimed s.0).projects at is.0) is.1 (λ m. m.0) ((S.claimed s.1).projects at is.2) is.3
+          (λ m. m.1) ((S.claimed s.1).takes is.2 is.4) is.5;
+      takes = λ is some.
+          let at : Complete = record { form = modal; possible = true } in
+          separated_takes C.holds s.2 ((P.claimed s.0).projects at is.0).unique
+          ((S.claimed s.1).projects at is.2).unique ((P.claimed s.0).takes is.0 some.0) some.1;
     } };
 
     fn parse_next(&mut self, input: &mut I) -> Result<C, E> {

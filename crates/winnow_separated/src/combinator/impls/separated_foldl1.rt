@@ -6,7 +6,7 @@ ghost use Rattle.winnow_separated.specs.SeparatedFoldl1.{JoinedLinksRun, Separat
 ghost use Rattle.winnow_separated.specs.SeparatedFoldl1.{foldl1_parser};
 ghost use Rattle.winnow_separated.specs.SeparatedFoldl1.{foldl1_separator};
 ghost use Rattle.winnow_separated.specs.SeparatedFoldl1.Laws.{foldl1_ends};
-ghost use Rattle.winnow_core.specs.Claim.{no_claim, nothing_claimed};
+ghost use Rattle.parser_definitions.specs.Claim.{no_claim, nothing_claimed};
 ghost use Rattle.parser_definitions.specs.SeparatedFold.{AlikeLeft, JoinsAlike};
 ghost use Rattle.parser_definitions.specs.SeparatedFold.{SeparatedFoldl1Does};
 ghost use Rattle.parser_definitions.specs.SeparatedFold.{separated_foldl1_law};
@@ -81,8 +81,8 @@ impl<
     ghost leaves_ends = { λ form. foldl1_ends I.reading H.step (P.meaning form) (S.meaning form)
         (assert_kind form) (P.leaves_ends form) (S.leaves_ends form) };
 
-    ghost covers = { λ is at. separated_foldl1_covered H.step (P.covers is.0 at)
-        (S.covers is.1 at) };
+    ghost covers = { λ at. separated_foldl1_covered H.step (P.covers at)
+        (S.covers at) };
 
     ghost lawful = { λ is. separated_foldl1_law H.step is.2 (P.lawful is.0) (S.lawful is.1) };
 

@@ -5,7 +5,7 @@ ghost use Rattle.winnow_separated.specs.SeparatedFoldr1.{FoldsRight, SeparatedFo
 ghost use Rattle.winnow_separated.specs.SeparatedFoldr1.{foldr1_parser};
 ghost use Rattle.winnow_separated.specs.SeparatedFoldr1.{foldr1_separator};
 ghost use Rattle.winnow_separated.specs.SeparatedFoldr1.Laws.{foldr1_ends};
-ghost use Rattle.winnow_core.specs.Claim.{no_claim, nothing_claimed};
+ghost use Rattle.parser_definitions.specs.Claim.{no_claim, nothing_claimed};
 ghost use Rattle.parser_definitions.specs.SeparatedFold.{AlikeRight, JoinsAlike};
 ghost use Rattle.parser_definitions.specs.SeparatedFold.{SeparatedFoldr1Does};
 ghost use Rattle.parser_definitions.specs.SeparatedFold.{separated_foldr1_law};
@@ -90,8 +90,8 @@ impl<
     ghost leaves_ends = { λ form. foldr1_ends A I.reading H.step (P.meaning form) (S.meaning form)
         (assert_kind form) (P.leaves_ends form) (S.leaves_ends form) };
 
-    ghost covers = { λ is at. separated_foldr1_covered A H.step (P.covers is.0 at)
-        (S.covers is.1 at) };
+    ghost covers = { λ at. separated_foldr1_covered A H.step (P.covers at)
+        (S.covers at) };
 
     ghost lawful = { λ is. separated_foldr1_law A H.step is.2 (P.lawful is.0) (S.lawful is.1) };
 

@@ -1,12 +1,11 @@
 //! One token.
 ghost use Rattle.std.specs.Prelude.{⊤};
 ghost use Rattle.grammars.specs.Grammar.{Token};
-ghost use Rattle.winnow_core.specs.Exact.Allowed.{backs};
 ghost use Rattle.winnow_core.specs.Runs.{Keeps};
 ghost use Rattle.winnow_token.specs.Any.{AnyRuns};
-ghost use Rattle.winnow_token.specs.Any.Laws.{any_exact, any_fails, token_takes};
-ghost use Rattle.winnow_token.specs.Any.Laws.{any_ends};
+ghost use Rattle.winnow_token.specs.Any.Laws.{any_ends, token_takes};
 ghost use Rattle.parser_definitions.specs.Any.{AnyDoes, any_law};
+ghost use Rattle.parser_definitions.specs.Projects.Tokens.{any_projects};
 ghost use Rattle.parser_definitions.specs.Shown.{SeenSame};
 ghost use Rattle.winnow_token.specs.Covers.{any_covered};
 
@@ -46,13 +45,12 @@ impl<I: StreamIsPartial, E: ParserError<I>> Parser<I, I::Token, E> for Any {
     ghost leaves_ends = { λ form x i answer y j r. any_ends I.seen_as I.reading form i answer j
         r.0 };
 
-    ghost covers = { λ _ at. any_covered I.seen_as I.reading };
+    ghost covers = { λ at. any_covered I.seen_as I.reading };
 
     ghost lawful = { λ _. any_law I.seen_as I.reading };
 
     ghost claimed = { λ s. record {
-      exact = λ form is. any_exact I.seen_as I.reading form;
-      fails = λ form is. backs (any_fails I.seen_as I.reading form);
+      projects = λ at is. any_projects I.seen_as I.reading;
       takes = λ is some. token_takes I.seen_as;
     } };
 

@@ -1,13 +1,11 @@
 //! A literal.
 ghost use Rattle.std.specs.Prelude.{[], ⊤};
 ghost use Rattle.grammars.specs.Grammar.{Literally};
-ghost use Rattle.grammars.specs.Grammar.Unique.{literally_takes};
-ghost use Rattle.winnow_core.specs.Exact.Allowed.{backs};
 ghost use Rattle.winnow_core.specs.Literal.{LiteralRuns};
-ghost use Rattle.winnow_core.specs.Literal.Laws.{literal_exact};
-ghost use Rattle.winnow_core.specs.Literal.Laws.{literal_fails, literal_ends};
+ghost use Rattle.winnow_core.specs.Literal.Laws.{literal_ends};
 ghost use Rattle.winnow_core.specs.Runs.{Keeps};
 ghost use Rattle.parser_definitions.specs.Literal.{LiteralDoes, literal_law};
+ghost use Rattle.parser_definitions.specs.Projects.Literals.{literal_claimed};
 ghost use Rattle.parser_definitions.specs.Spelled.{ShowSame};
 ghost use Rattle.winnow_core.specs.Covers.Leaves.{literal_covered};
 
@@ -54,18 +52,13 @@ impl<T: Copy, I: StreamIsPartial + Compare<T>, E: ParserError<I>> Parser<I, I::S
     ghost leaves_ends = { λ form x i answer y j r. literal_ends I.reading form (I.spells x)
         (λ slice. slice) i answer j r.0 };
 
-    ghost covers = { λ _ at. literal_covered I.reading I.spells (λ _ slice. slice) };
+    ghost covers = { λ at. literal_covered I.reading I.spells (λ _ slice. slice) };
 
     ghost lawful = { λ _. literal_law I.reading I.spells (λ _ slice. slice) (ShowSame I.reading)
         I.same_units (λ s slice other shown. shown) };
 
-    ghost claimed = { λ s. record {
-      exact = λ form is. literal_exact I.reading form I.spells (λ _ slice. slice) (λ s. s) s
-          (I.same_units s);
-      fails = λ form is. backs
-          (literal_fails I.reading form I.spells (λ _ slice. slice) (λ s. s) s);
-      takes = λ is some. literally_takes I.reading I.spells (λ _ slice. slice) s some;
-    } };
+    ghost claimed = { λ s. literal_claimed I.reading I.spells (λ _ slice. slice) s
+        (I.same_units s) };
 
     #[inline(always)]
     fn parse_next(&mut self, input: &mut I) -> Result<I::Slice, E> {

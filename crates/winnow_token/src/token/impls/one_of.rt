@@ -3,12 +3,11 @@ ghost use Rattle.std.specs.Prelude.{⊤};
 ghost use Rattle.streams.specs.Stream.{AnswersSeen};
 ghost use Rattle.stream_sets.specs.Once.{SetIsFunction};
 ghost use Rattle.grammars.specs.Grammar.{Token, TokenOf};
-ghost use Rattle.winnow_core.specs.Exact.Allowed.{backs};
 ghost use Rattle.winnow_core.specs.Runs.{Keeps};
 ghost use Rattle.winnow_token.specs.OneOf.{OneOfRuns};
-ghost use Rattle.winnow_token.specs.OneOf.Laws.{one_of_exact, one_of_fails};
-ghost use Rattle.winnow_token.specs.OneOf.Laws.{token_of_takes, one_of_ends};
+ghost use Rattle.winnow_token.specs.OneOf.Laws.{one_of_ends, token_of_takes};
 ghost use Rattle.parser_definitions.specs.OneOf.{OneOfDoes, one_of_law};
+ghost use Rattle.parser_definitions.specs.Projects.Tokens.{one_of_projects};
 ghost use Rattle.parser_definitions.specs.Shown.{SeenSame};
 ghost use Rattle.winnow_token.specs.Covers.{one_of_covered};
 
@@ -64,13 +63,12 @@ where
     ghost leaves_ends = { λ form x i answer y j r. one_of_ends I.seen_as I.reading form
         (S.tells x) i answer j r.0 };
 
-    ghost covers = { λ _ at. one_of_covered I.seen_as I.reading S.tells };
+    ghost covers = { λ at. one_of_covered I.seen_as I.reading S.tells };
 
     ghost lawful = { λ is. one_of_law I.seen_as I.reading S.tells is };
 
     ghost claimed = { λ s. record {
-      exact = λ form is. one_of_exact I.seen_as I.reading form S.tells s is;
-      fails = λ form is. backs (one_of_fails I.seen_as I.reading form S.tells s);
+      projects = λ at is. one_of_projects I.seen_as I.reading S.tells is;
       takes = λ is some. token_of_takes I.seen_as S.tells s;
     } };
 

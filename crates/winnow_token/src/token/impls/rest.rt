@@ -1,11 +1,10 @@
 //! The implementation of `rest`.
 ghost use Rattle.std.specs.Prelude.{⊤};
 ghost use Rattle.grammars.specs.Grammar.{AllTokens};
-ghost use Rattle.winnow_core.specs.Exact.Allowed.{backs};
 ghost use Rattle.winnow_core.specs.Runs.{Keeps};
 ghost use Rattle.winnow_token.specs.Rest.{RestRuns};
 ghost use Rattle.winnow_token.specs.Rest.Laws.{rest_ends};
-ghost use Rattle.winnow_token.specs.Rest.Laws.{rest_exact, rest_fails};
+ghost use Rattle.parser_definitions.specs.Projects.Tokens.{rest_projects};
 ghost use Rattle.parser_definitions.specs.Rest.{RestDoes, rest_law};
 ghost use Rattle.parser_definitions.specs.Spelled.{ShowSame};
 ghost use Rattle.winnow_token.specs.Covers.{rest_covered};
@@ -45,13 +44,12 @@ impl<I: Stream, E: ParserError<I>> Parser<I, I::Slice, E> for Rest {
 
     ghost leaves_ends = { λ form x i answer y j r. rest_ends I.reading i answer j r.0 };
 
-    ghost covers = { λ _ at. rest_covered I.reading };
+    ghost covers = { λ at. rest_covered I.reading };
 
     ghost lawful = { λ _. rest_law I.reading };
 
     ghost claimed = { λ s. record {
-      exact = λ form is. rest_exact I.reading;
-      fails = λ form is. backs (rest_fails I.reading);
+      projects = λ at is. rest_projects I.reading;
       takes = λ is never. absurd never;
     } };
 

@@ -2,10 +2,9 @@
 ghost use Rattle.std.specs.Prelude.{⊤, ◌≡◌};
 ghost use Rattle.grammars.specs.Grammar.{UnitsLeft};
 ghost use Rattle.winnow_core.specs.Ends.{same_ends};
-ghost use Rattle.winnow_core.specs.Exact.Allowed.{backs};
 ghost use Rattle.winnow_core.specs.Runs.{Keeps};
 ghost use Rattle.winnow_token.specs.Rest.{RestLenRuns};
-ghost use Rattle.winnow_token.specs.Rest.Laws.{rest_len_exact, rest_len_fails};
+ghost use Rattle.parser_definitions.specs.Projects.Tokens.{rest_len_projects};
 ghost use Rattle.parser_definitions.specs.Rest.{RestLenDoes, rest_len_law};
 ghost use Rattle.winnow_token.specs.Covers.{rest_len_covered};
 
@@ -44,13 +43,12 @@ impl<I: Stream, E: ParserError<I>> Parser<I, usize, E> for RestLen {
 
     ghost leaves_ends = { λ form x i answer y j r. same_ends I.reading i j r.0.1 };
 
-    ghost covers = { λ _ at. rest_len_covered I.reading };
+    ghost covers = { λ at. rest_len_covered I.reading };
 
     ghost lawful = { λ _. rest_len_law I.reading };
 
     ghost claimed = { λ s. record {
-      exact = λ form is. rest_len_exact I.reading;
-      fails = λ form is. backs (rest_len_fails I.reading);
+      projects = λ at is. rest_len_projects I.reading;
       takes = λ is never. absurd never;
     } };
 

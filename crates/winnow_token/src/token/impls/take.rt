@@ -1,11 +1,10 @@
 //! That many tokens.
 ghost use Rattle.std.specs.Prelude.{ℕ, ◌<◌, ⊤};
 ghost use Rattle.grammars.specs.Grammar.{Counted};
-ghost use Rattle.winnow_core.specs.Exact.Allowed.{backs};
 ghost use Rattle.winnow_core.specs.Runs.{Keeps};
 ghost use Rattle.winnow_token.specs.Take.{TakeRuns};
-ghost use Rattle.winnow_token.specs.Take.Laws.{counted_takes, take_exact};
-ghost use Rattle.winnow_token.specs.Take.Laws.{take_fails, take_ends};
+ghost use Rattle.winnow_token.specs.Take.Laws.{counted_takes, take_ends};
+ghost use Rattle.parser_definitions.specs.Projects.Tokens.{take_projects};
 ghost use Rattle.parser_definitions.specs.Take.{TakeDoes, take_law};
 ghost use Rattle.parser_definitions.specs.Spelled.{ShowSame};
 ghost use Rattle.winnow_token.specs.Covers.{take_covered};
@@ -50,13 +49,12 @@ impl<I: StreamIsPartial, E: ParserError<I>> Parser<I, I::Slice, E> for Take<I, E
     ghost leaves_ends = { λ form x i answer y j r. take_ends I.reading form I.counts_missing x i
         answer j r.0 };
 
-    ghost covers = { λ _ at. take_covered I.reading I.counts_missing (λ n. n) };
+    ghost covers = { λ at. take_covered I.reading I.counts_missing (λ n. n) };
 
     ghost lawful = { λ _. take_law I.reading I.counts_missing (λ n. n) };
 
     ghost claimed = { λ s. record {
-      exact = λ form is. take_exact I.reading form I.counts_missing s;
-      fails = λ form is. backs (take_fails I.reading form I.counts_missing s);
+      projects = λ at is. take_projects I.reading I.counts_missing (λ n. n);
       takes = λ is some. counted_takes I.reading s some;
     } };
 

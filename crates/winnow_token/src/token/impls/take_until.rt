@@ -4,11 +4,10 @@ ghost use Rattle.stream_sets.specs.Range.{bounds_of, IsWithin};
 ghost use Rattle.stream_sets.specs.declared.range.Range.{Range};
 ghost use Rattle.grammars.specs.Grammar.Searches.{Before};
 ghost use Rattle.grammars.specs.Grammar.Searches.Unique.{before_takes};
-ghost use Rattle.winnow_core.specs.Exact.Allowed.{backs};
 ghost use Rattle.winnow_core.specs.Runs.{Keeps};
 ghost use Rattle.winnow_token.specs.TakeUntil.{TakeUntilRuns};
-ghost use Rattle.winnow_token.specs.TakeUntil.Laws.{take_until_exact, take_until_fails};
 ghost use Rattle.winnow_token.specs.TakeUntil.Laws.{take_until_ends};
+ghost use Rattle.parser_definitions.specs.Projects.Tokens.{take_until_projects};
 ghost use Rattle.parser_definitions.specs.TakeUntil.{TakeUntilDoes, take_until_law};
 ghost use Rattle.parser_definitions.specs.Spelled.{ShowSame};
 ghost use Rattle.winnow_token.specs.Covers.{take_until_covered};
@@ -24,7 +23,7 @@ use winnow_core::parser::Parser;
 /// The parser that [`take_until`](crate::token::take_until) makes.
 ///
 /// ```
-/// let mut parser: TakeUntil<_, _, _> = take_until(Range::from(0..), ';');
+/// let mut parser: TakeUntil<_, _, _> = take_until(0.., ';');
 /// assert_eq!(rt; parser.parse_peek("ab;"), Ok::<_, EmptyError>((";", "ab")));
 /// ```
 #[derive(Drop)]
@@ -59,17 +58,15 @@ impl<T: Copy, I: StreamIsPartial + FindSlice<T>, E: ParserError<I>> Parser<I, I:
         (bounds_of x.0) i answer j
         r.0 };
 
-    ghost covers = { λ _ at. take_until_covered I.reading (λ x. I.sought x.1)
+    ghost covers = { λ at. take_until_covered I.reading (λ x. I.sought x.1)
         (λ x. bounds_of x.0) };
 
     ghost lawful = { λ _. take_until_law I.reading (λ x. I.sought x.1) (λ x. bounds_of x.0)
         (λ x. I.stays_first x.1) };
 
     ghost claimed = { λ s. record {
-      exact = λ form is. take_until_exact I.reading form (λ x. I.sought x.1)
-          (λ x. bounds_of x.0) s is;
-      fails = λ form is. backs (take_until_fails I.reading form (λ x. I.sought x.1)
-          (λ x. bounds_of x.0) s is);
+      projects = λ at is. take_until_projects I.reading (λ x. I.sought x.1) (λ x. bounds_of x.0)
+          is;
       takes = λ is some. before_takes I.reading (I.sought s.1) (bounds_of s.0) some;
     } };
 

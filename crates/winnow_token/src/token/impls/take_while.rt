@@ -5,12 +5,10 @@ ghost use Rattle.stream_sets.specs.Once.{SetIsFunction};
 ghost use Rattle.stream_sets.specs.Range.{bounds_of, IsWithin};
 ghost use Rattle.stream_sets.specs.declared.range.Range.{Range};
 ghost use Rattle.grammars.specs.Grammar.{Longest};
-ghost use Rattle.winnow_core.specs.Exact.Allowed.{backs};
 ghost use Rattle.winnow_core.specs.Runs.{Keeps};
 ghost use Rattle.winnow_token.specs.TakeWhile.{TakeWhileRuns};
-ghost use Rattle.winnow_token.specs.TakeWhile.Exact.{longest_takes, take_while_exact};
-ghost use Rattle.winnow_token.specs.TakeWhile.Exact.{take_while_fails};
 ghost use Rattle.winnow_token.specs.TakeWhile.Laws.{take_while_ends};
+ghost use Rattle.parser_definitions.specs.Projects.Tokens.{longest_takes, take_while_projects};
 ghost use Rattle.parser_definitions.specs.TakeWhile.{TakeWhileDoes, take_while_law};
 ghost use Rattle.parser_definitions.specs.Spelled.{ShowSame};
 ghost use Rattle.winnow_token.specs.Covers.{take_while_covered};
@@ -26,7 +24,7 @@ use winnow_core::parser::Parser;
 /// The parser that [`take_while`](crate::token::take_while) makes.
 ///
 /// ```
-/// let mut parser: TakeWhile<_, _, _> = take_while(Range::from(0..), ' ');
+/// let mut parser: TakeWhile<_, _, _> = take_while(0.., ' ');
 /// assert_eq!(rt; parser.parse_peek("  a"), Ok::<_, EmptyError>(("a", "  ")));
 /// ```
 #[derive(Drop)]
@@ -70,17 +68,15 @@ impl<S: ContainsToken<I::Token>, I: StreamIsPartial, E: ParserError<I>> Parser<I
     ghost leaves_ends = { λ form x i answer y j r. take_while_ends I.reading form
         (AnswersSeen I.seen_as (S.tells x.1)) (bounds_of x.0) i answer j r.0 };
 
-    ghost covers = { λ _ at. take_while_covered I.reading
+    ghost covers = { λ at. take_while_covered I.reading
         (λ x. AnswersSeen I.seen_as (S.tells x.1)) (λ x. bounds_of x.0) };
 
     ghost lawful = { λ is. take_while_law I.reading (λ x. AnswersSeen I.seen_as (S.tells x.1))
         (λ x. bounds_of x.0) (λ x. is x.1) };
 
     ghost claimed = { λ s. record {
-      exact = λ form is. take_while_exact I.reading form I.seen_as S.tells (λ x. x.1)
-          (λ x. bounds_of x.0) s is.1 is.0;
-      fails = λ form is. backs (take_while_fails I.reading form I.seen_as S.tells (λ x. x.1)
-          (λ x. bounds_of x.0) s is.1);
+      projects = λ at is. take_while_projects I.reading I.seen_as S.tells (λ x. x.1)
+          (λ x. bounds_of x.0) is.0 is.1;
       takes = λ is some. longest_takes I.reading I.seen_as S.tells s.1 (bounds_of s.0) some;
     } };
 

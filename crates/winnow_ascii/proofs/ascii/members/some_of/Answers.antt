@@ -1,4 +1,4 @@
-use Rattle.std.proofs.Common.{arith, ◌∙◌}
+use Rattle.std.proofs.Common.{arith}
 use Rattle.winnow_ascii.proofs.ClassLemmas.{least_runs}
 use Rattle.winnow_ascii.proofs.ascii.members.some_of.Goals as goal
 
@@ -6,5 +6,5 @@ pub returns-clause-ran : goal.returns-clause-ran
 returns-clause-ran g c =
     least_runs g.S.ContainsToken.tells 1 g.I.Stream.seen_as g.I.Stream.reading
     g.E.HasKind.form _ _ _ _ _ _ (omega arith)
-    (c.take_while.ensures.occurrences ∙ c.from.ensures) c.take_while.ensures.set
+    c.take_while.ensures.occurrences c.take_while.ensures.set
     c.parse_next.ensures.ran.0

@@ -1,19 +1,19 @@
 //! Arrays and slices as branches.
-ghost use Rattle.std.specs.Prelude.{◌≡◌, List, map, ℕ, []};
-ghost use Rattle.std.specs.List.{All};
-ghost use Rattle.streams.specs.Input.{IsEndOf};
-ghost use Rattle.grammars.specs.Grammar.FirstOf.{FirstOf, first_of_takes};
-ghost use Rattle.stream_errors.specs.Form.{answer_by, assert_kind};
-ghost use Rattle.winnow_core.specs.ByRef.{ByRefRuns};
-ghost use Rattle.winnow_core.specs.ByRef.Laws.{by_ref_exact, by_ref_fails, by_ref_ends};
-ghost use Rattle.winnow_core.specs.Exact.Allowed.{fails_as};
+ghost use Rattle.grammars.specs.Grammar.FirstOf.{FirstOf};
 ghost use Rattle.parser_definitions.specs.AltMany.{ChoiceDoes, choice_law};
 ghost use Rattle.parser_definitions.specs.ByRef.{ByRefDoes, by_ref_law};
-ghost use Rattle.winnow_comb.specs.Covers.{choice_covered};
-ghost use Rattle.winnow_core.specs.Covers.Functions.{by_ref_covered};
-ghost use Rattle.winnow_comb.specs.Alt.FirstOf.{asserts, first_of_exact, first_of_fails};
-ghost use Rattle.winnow_comb.specs.Alt.Slice.{AltSliceRuns};
+ghost use Rattle.parser_definitions.specs.Projects.Functions.{by_ref_projects};
+ghost use Rattle.parser_definitions.specs.Projects.Items.{choice_claimed};
+ghost use Rattle.std.specs.List.{All};
+ghost use Rattle.std.specs.Prelude.{◌≡◌, List, map, ℕ, []};
+ghost use Rattle.stream_errors.specs.Form.{answer_by, assert_kind};
+ghost use Rattle.streams.specs.Input.{IsEndOf};
 ghost use Rattle.winnow_comb.specs.Alt.Slice.Laws.{alt_slice_ends};
+ghost use Rattle.winnow_comb.specs.Alt.Slice.{AltSliceRuns};
+ghost use Rattle.winnow_comb.specs.Covers.{choice_covered};
+ghost use Rattle.winnow_core.specs.ByRef.Laws.{by_ref_ends};
+ghost use Rattle.winnow_core.specs.ByRef.{ByRefRuns};
+ghost use Rattle.winnow_core.specs.Covers.Functions.{by_ref_covered};
 
 use crate::combinator::impls::alt::{Alt, attempt};
 use stream_errors::parser_error::ParserError;
@@ -44,25 +44,11 @@ impl<const N: usize, I: Stream, O, E: ParserError<I>, P: Parser<I, O, E>> Alt<I,
     ghost leaves_ends = { λ form. alt_slice_ends I.reading (P.meaning form) (assert_kind form)
         (P.leaves_ends form) };
 
-    ghost covers = { λ is at. choice_covered (P.covers is at) };
+    ghost covers = { λ at. choice_covered (P.covers at) };
 
     ghost lawful = { λ is. choice_law (P.lawful is) };
 
-    ghost claimed = { λ s. record {
-      exact = λ form is. first_of_exact (P.meaning form) (assert_kind form)
-          (λ x. (P.claim x).grammar)
-          (λ x. (P.claim x).premise × (P.claim x).backtracks) (λ x. (P.claim x).spares_memory)
-          (λ x k. (P.claimed x).exact form k.0)
-          (λ x k. fails_as (λ b. k.1) (λ m. m) ((P.claimed x).fails form k.0)) s is;
-      fails = λ form is. first_of_fails (P.meaning form) (assert_kind form)
-          (λ x. (P.claim x).grammar)
-          (λ x. (P.claim x).premise × (P.claim x).backtracks) (λ x. (P.claim x).spares_memory)
-          (λ x k. (P.claimed x).exact form k.0)
-          (λ x k. fails_as (λ b. k.1) (λ m. m) ((P.claimed x).fails form k.0)) (asserts form) s is;
-      takes = λ is some. first_of_takes (λ x. (P.claim x).grammar)
-          (λ x. (P.claim x).premise) (λ x. (P.claim x).backtracks)
-          (λ x. (P.claim x).consumes) (λ x. (P.claimed x).takes) s is some;
-    } };
+    ghost claimed = { choice_claimed P.claim P.claimed };
 
     #[inline(always)]
     fn choice(&mut self, input: &mut I) -> Result<O, E> {
@@ -95,25 +81,13 @@ impl<'a, I: Stream, O, E: ParserError<I>, P: Parser<I, O, E>> Alt<I, O, E> for &
         (AltSliceRuns (P.meaning form) (assert_kind form))
         (alt_slice_ends I.reading (P.meaning form) (assert_kind form) (P.leaves_ends form)) };
 
-    ghost covers = { λ is at. by_ref_covered (choice_covered (P.covers is at)) };
+    ghost covers = { λ at. by_ref_covered (choice_covered (P.covers at)) };
 
     ghost lawful = { λ is. by_ref_law (choice_law (P.lawful is)) };
 
     ghost claimed = { λ s. record {
-      exact = λ form is. by_ref_exact (first_of_exact (P.meaning form) (assert_kind form)
-          (λ x. (P.claim x).grammar)
-          (λ x. (P.claim x).premise × (P.claim x).backtracks) (λ x. (P.claim x).spares_memory)
-          (λ x k. (P.claimed x).exact form k.0)
-          (λ x k. fails_as (λ b. k.1) (λ m. m) ((P.claimed x).fails form k.0)) s.0 is);
-      fails = λ form is. by_ref_fails (first_of_fails (P.meaning form) (assert_kind form)
-          (λ x. (P.claim x).grammar)
-          (λ x. (P.claim x).premise × (P.claim x).backtracks) (λ x. (P.claim x).spares_memory)
-          (λ x k. (P.claimed x).exact form k.0)
-          (λ x k. fails_as (λ b. k.1) (λ m. m) ((P.claimed x).fails form k.0)) (asserts form)
-          s.0 is);
-      takes = λ is some. first_of_takes (λ x. (P.claim x).grammar)
-          (λ x. (P.claim x).premise) (λ x. (P.claim x).backtracks)
-          (λ x. (P.claim x).consumes) (λ x. (P.claimed x).takes) s.0 is some;
+      projects = λ at is. by_ref_projects ((choice_claimed P.claim P.claimed s.0).projects at is);
+      takes = (choice_claimed P.claim P.claimed s.0).takes;
     } };
 
     #[inline(always)]

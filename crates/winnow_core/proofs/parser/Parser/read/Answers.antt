@@ -1,24 +1,23 @@
-use Rattle.winnow_core.specs.Exact.{exact_told, spared_told}
-use Rattle.winnow_core.specs.Exact.Allowed.{softly, spared}
+use Rattle.winnow_core.proofs.ExactWholeLemmas.{call_keeps, call_reads, call_spared}
 use Rattle.winnow_core.proofs.parser.Parser.read.Goals as goal
 
 pub returns-clause-reads : goal.returns-clause-reads
 returns-clause-reads g c =
-    let form = g.E.HasKind.form in
     let claimed = g.met.Self.Parser.claimed (g.Self.Parser.state c.args.self.now) in
-    exact_told g.I.Stream.reading g.E.HasKind.kind (claimed.exact form c.requires.premise)
-    (softly c.requires.backtracks (claimed.fails form c.requires.premise)) _
-    c.parse_next.result _ _ c.parse_next.ensures.ends c.parse_next.ensures.ran
+    call_reads g.Self.Parser.meaning g.met.Self.Parser.covers g.E.HasKind.form
+    (λ at. claimed.projects at c.requires.premise) g.E.HasKind.kind c.parse_next.result
+    c.parse_next.ensures.ran g.I.Stream.reading c.requires.backtracks c.parse_next.ensures.ends
 
 pub returns-clause-kept : goal.returns-clause-kept
-returns-clause-kept g c is =
+returns-clause-kept g c =
     let claimed = g.met.Self.Parser.claimed (g.Self.Parser.state c.args.self.now) in
-    ((claimed.exact g.E.HasKind.form c.requires.premise).kept _ _ _ _ is
-    c.parse_next.ensures.ran).0
+    call_keeps g.Self.Parser.meaning g.met.Self.Parser.covers g.E.HasKind.form
+    (λ at. claimed.projects at c.requires.premise) g.E.HasKind.kind c.parse_next.result
+    c.parse_next.ensures.ran
 
 pub returns-clause-spared : goal.returns-clause-spared
-returns-clause-spared g c spares =
+returns-clause-spared g c =
     let claimed = g.met.Self.Parser.claimed (g.Self.Parser.state c.args.self.now) in
-    spared_told g.E.HasKind.kind (spared c.requires.backtracks spares
-    (claimed.fails g.E.HasKind.form c.requires.premise)) _ c.parse_next.result _ _
-    c.parse_next.ensures.ran
+    call_spared g.Self.Parser.meaning g.met.Self.Parser.covers g.E.HasKind.form
+    (λ at. claimed.projects at c.requires.premise) g.E.HasKind.kind c.parse_next.result
+    c.parse_next.ensures.ran c.requires.backtracks

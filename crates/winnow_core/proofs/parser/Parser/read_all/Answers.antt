@@ -5,13 +5,14 @@ pub returns-clause-reads : goal.returns-clause-reads
 returns-clause-reads g c =
     let claimed = g.met.Self.Parser.claimed (g.Self.Parser.state c.args.self.now) in
     all_told g.I.Stream.view g.I.Stream.reading.units g.E.ParserError.inner_kind
-    (claimed.exact g.E.HasKind.form c.requires.premise)
-    (claimed.fails g.E.HasKind.form c.requires.premise) _ _ c.parse.result
+    g.Self.Parser.meaning g.met.Self.Parser.covers g.E.HasKind.form
+    (λ at. claimed.projects at c.requires.premise) _ _ c.parse.result
     (g.met.I.StreamIsPartial.whole c.requires.whole c.args.input) c.parse.ensures.ran
 
 pub returns-clause-spared : goal.returns-clause-spared
 returns-clause-spared g c spares =
     let claimed = g.met.Self.Parser.claimed (g.Self.Parser.state c.args.self.now) in
     all_spared g.I.Stream.view g.I.Stream.reading.units g.E.ParserError.inner_kind
-    (claimed.fails g.E.HasKind.form c.requires.premise) spares _ _ c.parse.result
+    g.Self.Parser.meaning g.met.Self.Parser.covers g.E.HasKind.form
+    (λ at. claimed.projects at c.requires.premise) _ _ spares c.parse.result
     (g.met.I.StreamIsPartial.whole c.requires.whole c.args.input) c.parse.ensures.ran

@@ -3,5 +3,5 @@ use Rattle.winnow_expression_trees.proofs.laws.parts.deterministic_parts_are_sta
 
 pub returns : goal.returns
 returns g c s premise stays =
-    covered_stateless g.P.Parser.meaning (λ at. g.met.P.Parser.covers premise at)
+    covered_stateless g.P.Parser.meaning g.met.P.Parser.covers
     (g.met.P.Parser.lawful premise) g.E.HasKind.form s stays

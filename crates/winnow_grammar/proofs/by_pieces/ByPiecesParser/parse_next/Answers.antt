@@ -1,17 +1,13 @@
-use Rattle.winnow_grammar.proofs.CallLemmas.{call_again, call_ends, reads_again}
+use Rattle.winnow_grammar.proofs.CallLemmas.{call_again}
 use Rattle.winnow_grammar.proofs.RulePiecesLemmas.{pieces_ran, tells_again}
 use Rattle.winnow_grammar.proofs.by_pieces.ByPiecesParser.parse_next.Goals as goal
 
 pub returns-clause-again : goal.returns-clause-again
-returns-clause-again g c = (
-  search (call_again, c.requires.0),
-  search (reads_again, c.requires.1),
-  tells_again c.run.ensures c.requires.1 c.requires.2,
-)
+returns-clause-again g c =
+    (search (call_again, c.requires.0), tells_again c.run.ensures c.requires.1)
 
 pub returns-clause-ran : goal.returns-clause-ran
-returns-clause-ran g c =
-    pieces_ran c.run.ensures g.N.Rule.grammar c.requires.1 c.requires.2
+returns-clause-ran g c = pieces_ran c.run.ensures c.requires.1
 
 pub returns-clause-ends : goal.returns-clause-ends
-returns-clause-ends g c = search (call_ends, c.requires.1)
+returns-clause-ends g c = (pieces_ran c.run.ensures c.requires.1).0.ends

@@ -1,8 +1,8 @@
-use Rattle.std.proofs.Common.{ap, eq-eqb, length, sym, ◌∙◌}
+use Rattle.std.proofs.Common.{ap, eq-eqb, length, refl, sym, ◌∙◌}
 use Rattle.std.proofs.lemmas.Bool.{eqb-true}
 use Rattle.streams.specs.Input.{back_at}
 use Rattle.stream_errors.specs.Form.{incomplete_kind}
-use Rattle.winnow_numbers.specs.Digits.{value_in}
+use Rattle.parser_definitions.specs.Digits.{value_in}
 use Rattle.winnow_numbers.proofs.HexLemmas.{bytes_are, hex_bytes, hex_done, hex_missing, hex_open}
 use Rattle.winnow_numbers.proofs.HexLemmas.{hex_over, hex_runs, hex_takes}
 use Rattle.winnow_numbers.proofs.NumeralLemmas.{back_same}
@@ -15,7 +15,7 @@ returns-then-overflows-clause-ran g c =
     g.Error.HasKind.form _ c.in-Ok.slice _
     (hex_runs g.Input.Stream.seen_as g.Input.Token.AsChar.code g.Input.Stream.reading
     g.Error.HasKind.form _ _ _ _ _ _ _ _ _ c.take_while-digits.ensures.occurrences
-    c.from.ensures c.new.ensures.start
+    refl c.new.ensures.start
     c.new.ensures.end c.max_nibbles-most.ensures
     c.in-Ok.ensures.ran.0) in
     let bytes = c.as_bstr-bytes.ensures
@@ -43,7 +43,7 @@ returns-then-may_overflow-clause-ran g c =
     g.Error.HasKind.form _ c.in-Ok.slice _
     (hex_runs g.Input.Stream.seen_as g.Input.Token.AsChar.code g.Input.Stream.reading
     g.Error.HasKind.form _ _ _ _ _ _ _ _ _ c.take_while-digits.ensures.occurrences
-    c.from.ensures c.new.ensures.start
+    refl c.new.ensures.start
     c.new.ensures.end c.max_nibbles-most.ensures
     c.in-Ok.ensures.ran.0) in
     let bytes = c.as_bstr-bytes.ensures
@@ -76,7 +76,7 @@ number_of-requires-clause-digits g c =
     g.Error.HasKind.form _ c.in-Ok.slice _
     (hex_runs g.Input.Stream.seen_as g.Input.Token.AsChar.code g.Input.Stream.reading
     g.Error.HasKind.form _ _ _ _ _ _ _ _ _ c.take_while-digits.ensures.occurrences
-    c.from.ensures c.new.ensures.start
+    refl c.new.ensures.start
     c.new.ensures.end c.max_nibbles-most.ensures
     c.in-Ok.ensures.ran.0) in
     let bytes = c.as_bstr-bytes.ensures
@@ -96,7 +96,7 @@ number_of-requires-clause-few g c =
     g.Error.HasKind.form _ c.in-Ok.slice _
     (hex_runs g.Input.Stream.seen_as g.Input.Token.AsChar.code g.Input.Stream.reading
     g.Error.HasKind.form _ _ _ _ _ _ _ _ _ c.take_while-digits.ensures.occurrences
-    c.from.ensures c.new.ensures.start
+    refl c.new.ensures.start
     c.new.ensures.end c.max_nibbles-most.ensures
     c.in-Ok.ensures.ran.0) in
     let bytes = c.as_bstr-bytes.ensures
@@ -116,7 +116,7 @@ returns-in-Ok-clause-ran g c =
     g.Error.HasKind.form _ c.in-Ok.slice _
     (hex_runs g.Input.Stream.seen_as g.Input.Token.AsChar.code g.Input.Stream.reading
     g.Error.HasKind.form _ _ _ _ _ _ _ _ _ c.take_while-digits.ensures.occurrences
-    c.from.ensures c.new.ensures.start
+    refl c.new.ensures.start
     c.new.ensures.end c.max_nibbles-most.ensures
     c.in-Ok.ensures.ran.0) in
     let bytes = c.as_bstr-bytes.ensures
@@ -144,6 +144,6 @@ returns-clause-ran g c =
     g.Output.HexUint.number g.Error.HasKind.form _ _ _
     (hex_runs g.Input.Stream.seen_as g.Input.Token.AsChar.code g.Input.Stream.reading
     g.Error.HasKind.form _ _ _ _ _ _ _ _ _ c.take_while-digits.ensures.occurrences
-    c.from.ensures c.new.ensures.start
+    refl c.new.ensures.start
     c.new.ensures.end c.max_nibbles-most.ensures
     c.in-Err.ensures.ran.0)

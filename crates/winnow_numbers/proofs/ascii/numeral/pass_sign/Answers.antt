@@ -1,6 +1,7 @@
 use Rattle.std.proofs.Common.{ap, subst, sym}
 use Rattle.std.specs.Prelude.{Bool}
-use Rattle.winnow_numbers.specs.Numeral.{SignRuns, is_none, sign_of}
+use Rattle.parser_definitions.specs.Numeral.{is_none}
+use Rattle.winnow_numbers.specs.Numeral.{SignRuns, sign_of}
 use Rattle.winnow_numbers.proofs.ascii.numeral.pass_sign.Goals as goal
 
 pub returns-in-None-clause-ran : goal.returns-in-None-clause-ran

@@ -10,13 +10,10 @@ use Rattle.std.proofs.Math.Pow.{pow_mono}
 use Rattle.stream_sets.specs.AsChar.{IsDecDigit}
 use Rattle.grammars.specs.Grammar.{Grammar}
 use Rattle.grammars.specs.Grammar.Same.{Same}
-use Rattle.winnow_numbers.specs.Decimal.{IsDecimalOf}
-use Rattle.winnow_numbers.specs.Decimal.Inversion.{decimal_digits, digits_written, one_decimal}
-use Rattle.winnow_numbers.specs.Digits.{NoneFirst, value_in}
-use Rattle.winnow_numbers.specs.Digits.Inversion.{own_characters, same_characters}
-use Rattle.winnow_numbers.specs.Numeral.Grammar.{SignedDecimal}
-use Rattle.winnow_numbers.specs.Numeral.Grammar.Inversion.{NoDigitFirst, first_none, none_first}
-use Rattle.winnow_numbers.specs.Numeral.Grammar.Inversion.{zero_is}
+use Rattle.parser_definitions.specs.Digits.{NoneFirst, own_characters, same_characters, value_in}
+use Rattle.parser_definitions.specs.NumberGrammar.{IsDecimalOf, SignedDecimal}
+use Rattle.winnow_numbers.specs.Decimal.{decimal_digits, digits_written, one_decimal}
+use Rattle.winnow_numbers.specs.Numeral.Written.{NoDigitFirst, first_none, none_first, zero_is}
 
 -- a positive number with a '+' before it
 abbrev pub WithPlus : ℤ → List ℕ → List ℕ → Type 0

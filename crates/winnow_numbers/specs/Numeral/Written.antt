@@ -6,11 +6,9 @@ use Rattle.streams.specs.Equal.{same_first, same_others}
 use Rattle.stream_sets.specs.AsChar.{IsDecDigit}
 use Rattle.grammars.specs.Grammar.{Grammar}
 use Rattle.grammars.specs.Grammar.Same.{Same}
-use Rattle.winnow_numbers.specs.Decimal.{IsDecimalOf}
-use Rattle.winnow_numbers.specs.Decimal.Inversion.{decimal_digits, digits_written, one_decimal}
-use Rattle.winnow_numbers.specs.Digits.{NoneFirst, value_in}
-use Rattle.winnow_numbers.specs.Digits.Inversion.{own_characters, same_characters}
-use Rattle.winnow_numbers.specs.Numeral.Grammar.{Decimal}
+use Rattle.parser_definitions.specs.Digits.{NoneFirst, own_characters, same_characters, value_in}
+use Rattle.parser_definitions.specs.NumberGrammar.{Decimal, IsDecimalOf}
+use Rattle.winnow_numbers.specs.Decimal.{decimal_digits, digits_written, one_decimal}
 
 -- the tokens do not start with a digit
 abbrev pub NoDigitFirst : List ℕ → Type 0

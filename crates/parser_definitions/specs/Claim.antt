@@ -1,9 +1,7 @@
 -- The specification of a parser by a grammar, from a state.
 use Rattle.grammars.specs.Grammar.{Grammar, Never, TakesTokens}
-use Rattle.stream_errors.specs.Form.{ErrorForm}
-use Rattle.winnow_core.specs.Exact.{FailsBy, IsExact}
-use Rattle.winnow_core.specs.Exact.Allowed.{Allowed}
-use Rattle.winnow_core.specs.Runs.{Meaning}
+use Rattle.parser_definitions.specs.Outcome.{Does}
+use Rattle.parser_definitions.specs.Projects.{Complete, Projects}
 
 -- The specification of a parser from a state.
 pub record Claim (T O : Type 0) : Type 1 where
@@ -23,15 +21,11 @@ pub record Claim (T O : Type 0) : Type 1 where
 abbrev pub CanRead : {T O : Type 0} → Type 0 → Claim T O → Type 0
 CanRead callable claim = callable × claim.premise × claim.backtracks
 
--- Runs from the state keep what is claimed.
-pub record Claimed {S T O : Type 0} (claim : Claim T O) (s : S) (meaning : Meaning S T O)
-    : Type 0 where
-  -- on complete input every call agrees with the grammar
-  pub exact : (form : ErrorForm) → claim.premise → IsExact s (meaning form) claim.grammar
-  -- on complete input no error is `Incomplete`; errors are backtracks if `backtracks` holds, and
-  -- never out of memory if `spares_memory` holds
-  pub fails : (form : ErrorForm) → claim.premise
-      → FailsBy (Allowed claim.backtracks claim.spares_memory) s (meaning form)
+-- The definition keeps what is claimed of the state.
+pub record Claimed {S T O : Type 0} (claim : Claim T O) (s : S) (does : Does S T O) : Type 0 where
+  -- on complete input every outcome agrees with the grammar
+  pub projects : (at : Complete) → claim.premise
+      → Projects claim.backtracks claim.spares_memory does at s claim.grammar
   -- what is read takes tokens
   pub takes : claim.premise → claim.consumes → TakesTokens claim.grammar
 
@@ -46,10 +40,8 @@ no_claim = record {
 }
 
 -- that is kept
-pub nothing_claimed : {S T O : Type 0} {s : S} {meaning : Meaning S T O}
-    → Claimed no_claim s meaning
+pub nothing_claimed : {S T O : Type 0} {s : S} {does : Does S T O} → Claimed no_claim s does
 nothing_claimed = record {
-  exact = λ form never. absurd never;
-  fails = λ form never. absurd never;
+  projects = λ at never. absurd never;
   takes = λ never consumes. absurd never;
 }
