@@ -1,6 +1,6 @@
 -- The bits that an iterator has still to give, each with its offset.
-use Rattle.std.specs.Prelude.{ℕ, ◌+◌, ◌-◌}
-use Rattle.std.specs.Prelude.{◌==◌, Bool, true}
+use Rattle.std.specs.Prelude.{ℕ}
+use Rattle.std.specs.Prelude.{Bool, true}
 use Rattle.std.specs.Prelude.{false}
 use Rattle.std.specs.Prelude.{List, [], ◌++◌, map}
 use Rattle.stream_bits.specs.BitList.{bits_of}

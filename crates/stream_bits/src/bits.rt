@@ -2,8 +2,7 @@
 #![tactic(auto, using(streams::specs::Ends::ends_follow))]
 
 ghost use Rattle.std.specs.Prelude.{◌≡◌, ◌<◌, ◌≤◌, ◌+◌, ◌*◌, ◌/◌, ◌%◌, ◌==◌};
-ghost use Rattle.std.specs.Prelude.{true};
-ghost use Rattle.std.specs.Prelude.{length, [], MatchOption};
+ghost use Rattle.std.specs.Prelude.{true, false, length, [], MatchOption};
 ghost use Rattle.streams.specs.Input.{IsEndOf, Takes};
 ghost use Rattle.stream_bits.specs.BitInput.{bits_follow, bits_from, bits_input, bits_left};
 ghost use Rattle.stream_bits.specs.BitReading.{IsBitPosition, bits_reading};
@@ -57,6 +56,24 @@ impl<I: ByteStream> Bits<I> {
     {
         let bytes = self.0.eof_offset();
         self.1 < 8 && (self.1 == 0 || 0 < bytes) && bytes <= MOST_BYTES
+    }
+
+    /// Whether the value is possible and `count` bits remain, of which there is at least one.
+    ///
+    /// ```
+    /// assert!(rt; Bits(b"\xAB".as_slice(), 4).has(4));
+    /// assert!(rt; !Bits(b"\xAB".as_slice(), 4).has(5));
+    /// ```
+    #[inline(always)]
+    pub fn has(&self, count: usize) -> bool
+        requires some { 0 < count }
+        ensures yes { result ≡ true → ((⟦<Bits<I> as Stream>⟧.view self.now).left.possible ≡ true)
+            × (count ≤ length (⟦<Bits<I> as Stream>⟧.view self.now).left.tokens) }
+        ensures no { result ≡ false → (⟦<Bits<I> as Stream>⟧.view self.now).left.possible ≡ true
+            → length (⟦<Bits<I> as Stream>⟧.view self.now).left.tokens < count }
+    {
+        let bytes = self.0.eof_offset();
+        self.1 < 8 && bytes <= MOST_BYTES && count <= (8 * bytes).saturating_sub(self.1)
     }
 
     /// Consumes the next `count` bits and returns them as a number, or `None` if no byte remains.

@@ -134,8 +134,20 @@ impl<O: Drop, A: Drop> Accumulate<O, A> for usize {
     }
 }
 
-/// A text to which the characters are appended. An empty one does not allocate; a longer one
-/// allocates only if the bytes of a character have no room.
+/// An empty text, with room for `capacity` bytes if that is given and not refused.
+#[inline(always)]
+fn text_with_room<A: Allocator>(alloc: A, capacity: Option<usize>) -> String<A>
+    ensures { string_bytes result ≡ [] }
+{
+    let mut text = String::new(alloc);
+    if let Some(room) = capacity {
+        let _refused = text.reserve(room).is_err();
+    }
+    text
+}
+
+/// A text to which the characters are appended. An empty one has room for `capacity` bytes, if that
+/// is given and not refused; a longer one allocates only if the bytes of a character have no room.
 ///
 /// ```
 /// let text: Result<String, EmptyError> =
@@ -154,10 +166,10 @@ impl<A: Allocator> Accumulate<char, A> for String<A> {
     ghost never_wants = { λ never. absurd never };
 
     #[inline(always)]
-    fn initial(alloc: A, _capacity: Option<usize>) -> Result<String<A>, AllocError>
+    fn initial(alloc: A, capacity: Option<usize>) -> Result<String<A>, AllocError>
         ensures { MatchResult result (λ text. string_bytes text ≡ []) (λ _. ⊥) }
     {
-        Ok(String::new(alloc))
+        Ok(text_with_room(alloc, capacity))
     }
 
     #[inline(always)]
@@ -166,8 +178,8 @@ impl<A: Allocator> Accumulate<char, A> for String<A> {
     }
 }
 
-/// A text to which the texts are appended. An empty one does not allocate; a longer one allocates
-/// only if the bytes of a text have no room.
+/// A text to which the texts are appended. An empty one has room for `capacity` bytes, if that is
+/// given and not refused; a longer one allocates only if the bytes of a text have no room.
 ///
 /// ```
 /// let text: Result<String, EmptyError> =
@@ -186,10 +198,10 @@ impl<'i, A: Allocator> Accumulate<&'i str, A> for String<A> {
     ghost never_wants = { λ never. absurd never };
 
     #[inline(always)]
-    fn initial(alloc: A, _capacity: Option<usize>) -> Result<String<A>, AllocError>
+    fn initial(alloc: A, capacity: Option<usize>) -> Result<String<A>, AllocError>
         ensures { MatchResult result (λ text. string_bytes text ≡ []) (λ _. ⊥) }
     {
-        Ok(String::new(alloc))
+        Ok(text_with_room(alloc, capacity))
     }
 
     #[inline(always)]

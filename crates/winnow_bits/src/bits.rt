@@ -13,10 +13,10 @@ pub mod impls;
 mod output;
 mod whole;
 
+pub use crate::bits::impls::{BitOffsets, Bits};
 use crate::bits::impls::{BitsParser, Bytes, Pattern, Take};
 pub use crate::bits::output::BitOutput;
 use std::marker::PhantomData;
-use stream_bits::bits::Bits;
 use stream_errors::parser_error::ParserError;
 use stream_sets::numbers::ToUsize;
 use streams::byte_stream::ByteStream;
@@ -32,7 +32,7 @@ use winnow_core::short::short;
 /// any offset.
 ///
 /// ```
-/// use winnow::binary::bits::impls::Bits;
+/// use winnow::binary::bits::Bits;
 /// use winnow::binary::bits::take;
 ///
 /// let mut input = Bits(b"\xAB\xCD".as_slice(), 4);
@@ -62,7 +62,7 @@ where
 /// Known as `literal`, `just` and `tag` elsewhere.
 ///
 /// ```
-/// use winnow::binary::bits::impls::Bits;
+/// use winnow::binary::bits::Bits;
 /// use winnow::binary::bits::pattern;
 ///
 /// let mut input = Bits(b"\xAB".as_slice(), 0);
@@ -96,7 +96,7 @@ where
 ///
 /// ```
 /// use winnow::binary::bits::bool;
-/// use winnow::binary::bits::impls::Bits;
+/// use winnow::binary::bits::Bits;
 ///
 /// let mut input = Bits(b"\x80".as_slice(), 0);
 /// assert_eq!(rt; bool(&mut input), Ok::<_, EmptyError>(true));
@@ -160,7 +160,7 @@ pub fn bits<Input, Output, BitError, ByteError, ParseNext>(
 ///
 /// ```
 /// use winnow::binary::bits::bytes;
-/// use winnow::binary::bits::impls::Bits;
+/// use winnow::binary::bits::Bits;
 ///
 /// let mut input = Bits(b"\xAB\xCD\xEF".as_slice(), 4);
 /// let mut byte = bytes::<_, u8, EmptyError, EmptyError, _>(Any);

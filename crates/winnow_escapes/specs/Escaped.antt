@@ -134,7 +134,7 @@ abbrev pub EscapedRuns : {S W V T O D P C : Type 0} → Runs S T O → Runs W T 
 EscapedRuns {S} {W} {V} {T} {O} {D} {P} {C} normal control escape into assert_kind short s i
     answer t j =
     -- there is no memory for an accumulator
-    (into.start_grows None × (answer ≡ Err memory) × (t ≡ s) × (j ≡ i))
+    (into.start_grows (Some 64) × (answer ≡ Err memory) × (t ≡ s) × (j ≡ i))
     -- the turns
-    ⊎ ((empty : C) × into.starts None empty
+    ⊎ ((empty : C) × into.starts (Some 64) empty
     × EscapesRun normal control escape into assert_kind short empty s i answer t j)

@@ -128,11 +128,11 @@ pub(crate) fn take_counted<I: ByteStream + StreamIsPartial, O: BitOutput, E: Par
     if O::WIDTH < count {
         return Err(E::assert(input, "the output holds fewer bits"));
     }
+    if input.has(count) {
+        return Ok(take_number(input, count));
+    }
     if !input.is_possible() {
         return Err(E::assert(input, "bits that cannot be read"));
     }
-    if input.eof_offset() < count {
-        return Err(short(input, Needed::new(count)));
-    }
-    Ok(take_number(input, count))
+    Err(short(input, Needed::new(count)))
 }

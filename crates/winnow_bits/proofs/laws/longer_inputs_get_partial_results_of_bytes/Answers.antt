@@ -4,4 +4,4 @@ use Rattle.winnow_bits.proofs.laws.longer_inputs_get_partial_results_of_bytes.Go
 pub returns : goal.returns
 returns g c = λ has premise stable.
     bytes_on_longer g.I.Stream.reading g.P.Parser.meaning g.met.P.Parser.leaves_ends
-    (g.met.P.Parser.covers premise) (g.met.P.Parser.lawful premise) stable has
+    g.met.P.Parser.covers (g.met.P.Parser.lawful premise) stable has

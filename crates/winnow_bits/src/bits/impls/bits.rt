@@ -3,7 +3,7 @@ ghost use Rattle.parser_definitions.specs.BitsOfBytes.{BitsOfBytesDoes, bits_of_
 ghost use Rattle.winnow_bits.specs.BitsOfBytes.{BitsOfBytesRuns};
 ghost use Rattle.winnow_bits.specs.BitsOfBytes.Laws.{bits_of_bytes_ends};
 ghost use Rattle.winnow_bits.specs.Covers.{bits_of_bytes_covered};
-ghost use Rattle.winnow_core.specs.Claim.{no_claim, nothing_claimed};
+ghost use Rattle.parser_definitions.specs.Claim.{no_claim, nothing_claimed};
 
 use crate::bits::whole::{in_bytes, whole_bytes};
 use std::marker::PhantomData;
@@ -54,7 +54,7 @@ impl<
     ghost leaves_ends = { λ form. bits_of_bytes_ends I.reading form (P.meaning form)
         (P.leaves_ends form) };
 
-    ghost covers = { λ is at. bits_of_bytes_covered I.reading (P.covers is (inside at)) };
+    ghost covers = { λ at. bits_of_bytes_covered I.reading (P.covers (inside at)) };
 
     ghost lawful = { λ is. bits_of_bytes_law I.reading (P.lawful is) };
 

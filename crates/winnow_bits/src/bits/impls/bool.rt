@@ -6,7 +6,7 @@ ghost use Rattle.winnow_bits.specs.BitBool.{BitBoolRuns};
 ghost use Rattle.winnow_bits.specs.BitBool.Laws.{bit_bool_ends};
 ghost use Rattle.winnow_bits.specs.Covers.{bit_bool_covered};
 ghost use Rattle.winnow_core.specs.Runs.{Keeps};
-ghost use Rattle.winnow_core.specs.Claim.{no_claim, nothing_claimed};
+ghost use Rattle.parser_definitions.specs.Claim.{no_claim, nothing_claimed};
 
 use crate::bits;
 use stream_bits::bits::Bits;
@@ -42,7 +42,7 @@ impl<I: ByteStream + StreamIsPartial, E: ParserError<Bits<I>>> Parser<Bits<I>, b
     ghost leaves_ends = { λ form x i answer y j r.
         bit_bool_ends (bits_reading I.reading) form i answer j r.0 };
 
-    ghost covers = { λ is at. bit_bool_covered (bits_reading I.reading) };
+    ghost covers = { λ at. bit_bool_covered (bits_reading I.reading) };
 
     ghost lawful = { λ is. bit_bool_law (bits_reading I.reading) };
 

@@ -5,7 +5,7 @@ ghost use Rattle.stream_bits.specs.BitReading.{bits_reading};
 ghost use Rattle.winnow_bits.specs.BytesOfBits.{BytesOfBitsRuns};
 ghost use Rattle.winnow_bits.specs.BytesOfBits.Laws.{bytes_of_bits_ends};
 ghost use Rattle.winnow_bits.specs.Covers.{bytes_of_bits_covered};
-ghost use Rattle.winnow_core.specs.Claim.{no_claim, nothing_claimed};
+ghost use Rattle.parser_definitions.specs.Claim.{no_claim, nothing_claimed};
 
 use crate::bits::whole::{in_bits, whole_bytes};
 use std::marker::PhantomData;
@@ -55,8 +55,8 @@ impl<
     ghost leaves_ends = { λ form. bytes_of_bits_ends I.reading I.counts_bytes form
         (P.meaning form) (P.leaves_ends form) };
 
-    ghost covers = { λ is at. bytes_of_bits_covered I.reading (P.leaves_ends at.form)
-        (P.covers is (inside at)) };
+    ghost covers = { λ at. bytes_of_bits_covered I.reading (P.leaves_ends at.form)
+        (P.covers (inside at)) };
 
     ghost lawful = { λ is. bytes_of_bits_law (bits_reading I.reading) (P.lawful is) };
 

@@ -6,7 +6,7 @@ ghost use Rattle.winnow_bits.specs.BitPattern.{BitPatternRuns};
 ghost use Rattle.winnow_bits.specs.BitPattern.Laws.{bit_pattern_ends};
 ghost use Rattle.winnow_bits.specs.Covers.{bit_pattern_covered};
 ghost use Rattle.winnow_core.specs.Runs.{Keeps};
-ghost use Rattle.winnow_core.specs.Claim.{no_claim, nothing_claimed};
+ghost use Rattle.parser_definitions.specs.Claim.{no_claim, nothing_claimed};
 
 use crate::bits::fields::take_counted;
 use crate::bits::output::BitOutput;
@@ -52,7 +52,7 @@ impl<I: ByteStream + StreamIsPartial, O: BitOutput, E: ParserError<Bits<I>>> Par
     ghost leaves_ends = { λ form s i answer m j r.
         bit_pattern_ends O.number O.WIDTH (bits_reading I.reading) form s.0 s.1 i answer j r.0 };
 
-    ghost covers = { λ is at. bit_pattern_covered (bits_reading I.reading) O.number O.WIDTH };
+    ghost covers = { λ at. bit_pattern_covered (bits_reading I.reading) O.number O.WIDTH };
 
     ghost lawful = { λ is. bit_pattern_law O.number O.WIDTH (bits_reading I.reading) };
 

@@ -6,7 +6,7 @@ ghost use Rattle.winnow_bits.specs.BitTake.{BitTakeRuns};
 ghost use Rattle.winnow_bits.specs.BitTake.Laws.{bit_take_ends};
 ghost use Rattle.winnow_bits.specs.Covers.{bit_take_covered};
 ghost use Rattle.winnow_core.specs.Runs.{Keeps};
-ghost use Rattle.winnow_core.specs.Claim.{no_claim, nothing_claimed};
+ghost use Rattle.parser_definitions.specs.Claim.{no_claim, nothing_claimed};
 
 use crate::bits::fields::take_counted;
 use crate::bits::output::BitOutput;
@@ -51,7 +51,7 @@ impl<I: ByteStream + StreamIsPartial, O: BitOutput, E: ParserError<Bits<I>>> Par
     ghost leaves_ends = { λ form n i answer m j r.
         bit_take_ends O.number O.WIDTH (bits_reading I.reading) form n i answer j r.0 };
 
-    ghost covers = { λ is at. bit_take_covered (bits_reading I.reading) O.number O.WIDTH };
+    ghost covers = { λ at. bit_take_covered (bits_reading I.reading) O.number O.WIDTH };
 
     ghost lawful = { λ is. bit_take_law O.number O.WIDTH (bits_reading I.reading) };
 

@@ -8,7 +8,7 @@ ghost use Rattle.winnow_escapes.specs.Covers.{escaped_covered};
 ghost use Rattle.winnow_escapes.specs.Escaped.{EscapedRuns, escaped_control, escaped_escape};
 ghost use Rattle.winnow_escapes.specs.Escaped.{escaped_normal, turns_kept};
 ghost use Rattle.winnow_escapes.specs.Escaped.Laws.{escaped_ends};
-ghost use Rattle.winnow_core.specs.Claim.{no_claim, nothing_claimed};
+ghost use Rattle.parser_definitions.specs.Claim.{no_claim, nothing_claimed};
 
 use crate::ascii::turns::read_turns;
 use std::marker::PhantomData;
@@ -97,9 +97,9 @@ impl<
         (assert_kind form) (incomplete_kind form None) (N.leaves_ends form)
         (K.leaves_ends plain) (X.leaves_ends form) };
 
-    ghost covers = { λ is at. escaped_covered ⟦<C as Accumulate<O, A>>⟧.accumulator
-        ⟦<C as Accumulate<P, A>>⟧.accumulator (N.covers is.0 at) (K.covers is.1 (plainly at))
-        (X.covers is.2 at) };
+    ghost covers = { λ at. escaped_covered ⟦<C as Accumulate<O, A>>⟧.accumulator
+        ⟦<C as Accumulate<P, A>>⟧.accumulator (N.covers at) (K.covers (plainly at))
+        (X.covers at) };
 
     ghost lawful = { λ is. escaped_law ⟦<C as Accumulate<O, A>>⟧.accumulator
         ⟦<C as Accumulate<P, A>>⟧.accumulator (N.lawful is.0) (K.lawful is.1) (X.lawful is.2) };
@@ -107,7 +107,7 @@ impl<
     ghost claimed = { λ _. nothing_claimed };
 
     fn parse_next(&mut self, input: &mut I) -> Result<C, E> {
-        match <C as Accumulate<O, A>>::initial(self.alloc, None) {
+        match <C as Accumulate<O, A>>::initial(self.alloc, Some(64)) {
             Ok(empty) => read_turns::<N, K, X, I, O, D, P, C, E, A>(
                 empty,
                 &mut self.normal,

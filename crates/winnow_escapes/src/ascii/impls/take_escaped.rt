@@ -9,7 +9,7 @@ ghost use Rattle.winnow_escapes.specs.TakeEscaped.{TakeEscapedRuns};
 ghost use Rattle.winnow_escapes.specs.TakeEscaped.{take_escaped_control, take_escaped_escapable};
 ghost use Rattle.winnow_escapes.specs.TakeEscaped.{take_escaped_normal};
 ghost use Rattle.winnow_escapes.specs.TakeEscaped.Laws.{take_escaped_ends};
-ghost use Rattle.winnow_core.specs.Claim.{no_claim, nothing_claimed};
+ghost use Rattle.parser_definitions.specs.Claim.{no_claim, nothing_claimed};
 
 use crate::ascii::impls::Escaped;
 use stream_errors::control::ControlError;
@@ -96,8 +96,8 @@ impl<
         (X.meaning form) (assert_kind form) (incomplete_kind form None) (N.leaves_ends form)
         (K.leaves_ends plain) (X.leaves_ends form) };
 
-    ghost covers = { λ is at. take_escaped_covered I.reading (N.covers is.0 at)
-        (K.covers is.1 (plainly at)) (X.covers is.2 at) };
+    ghost covers = { λ at. take_escaped_covered I.reading (N.covers at)
+        (K.covers (plainly at)) (X.covers at) };
 
     ghost lawful = { λ is. take_escaped_law I.reading (N.lawful is.0) (K.lawful is.1)
         (X.lawful is.2) };
