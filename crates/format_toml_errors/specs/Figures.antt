@@ -42,47 +42,11 @@ abbrev pub real_step : ℕ → Option Figure
 real_step c =
     if c == 46 then Some figures.Point else figure_if (is_e c) figures.Exponent
 
--- hex-prefix, oct-prefix, bin-prefix, and years and hours with leading zeros
-abbrev pub zero_step : ℕ → Option Figure
-zero_step c =
-    if c == 120 then Some (figures.Prefix bases.Hex) else
-    if c == 111 then Some (figures.Prefix bases.Octal) else
-    if c == 98 then Some (figures.Prefix bases.Binary) else
-    if is_digit c then Some (figures.Lead 2 (digit c)) else real_step c
-
--- The digits of an integer or a float; a year of four, or an hour of two.
-abbrev pub whole_step : Whole → ℕ → Option Figure
-whole_step whole c =
-    if is_digit c then Some (figures.Whole (adding whole c)) else
-    if c == 95 then Some (figures.WholeMark (record {
-      digits = 5;
-      negative = whole.negative;
-      value = whole.value;
-    })) else
-    if (c == 45) && (whole.digits == 4)
-    then Some (figures.Moment (moments.Month (is_leap whole.value))) else
-    if (c == 58) && ((whole.digits == 2) && nat_lt whole.value 24)
-    then Some (figures.Moment (moments.Minute false)) else real_step c
-
 abbrev pub lead_step : ℕ → ℕ → ℕ → Option Figure
 lead_step digits value c =
     if nat_lt digits 4 && is_digit c then Some (figures.Lead (digits + 1) (next_digit value c)) else
     if (digits == 2) && (c == 58) then Some (figures.Moment (moments.Minute false)) else
     figure_if ((digits == 4) && (c == 45)) (figures.Moment (moments.Month (is_leap value)))
-
--- frac = decimal-point zero-prefixable-int, exp = "e" float-exp-part
-abbrev pub float_step : Figure → ℕ → Option Figure
-float_step figures.Point c = figure_if (is_digit c) figures.Fraction
-float_step figures.Fraction c =
-    if is_digit c then Some figures.Fraction else if c == 95 then Some figures.FractionMark else
-    figure_if (is_e c) figures.Exponent
-float_step figures.FractionMark c = figure_if (is_digit c) figures.Fraction
-float_step figures.Exponent c =
-    if c == 43 || c == 45 then Some figures.Power else figure_if (is_digit c) figures.Digits
-float_step figures.Power c = figure_if (is_digit c) figures.Digits
-float_step figures.Digits c =
-    if c == 95 then Some figures.Power else figure_if (is_digit c) figures.Digits
-float_step _ c = None
 
 -- an integer below this can have another digit: 2 ^ 63 by the base
 abbrev pub limit_of : Base → ℕ
@@ -109,27 +73,50 @@ based_if base None = None
 abbrev pub base_step : Base → ℕ → ℕ → Option Figure
 base_step base value c = based_if base (based_digit base value c)
 
-abbrev pub based_step : Figure → ℕ → Option Figure
-based_step (figures.Prefix base) c = base_step base 0 c
-based_step (figures.Based base value) c =
-    if c == 95 then figure_if (nat_lt value (limit_of base)) (figures.BasedMark base value) else
-    base_step base value c
-based_step (figures.BasedMark base value) c = base_step base value c
-based_step figure c = float_step figure c
-
 abbrev pub moment_as : Option Moment → Option Figure
 moment_as (Some next) = Some (figures.Moment next)
 moment_as None = None
 
+-- hex-prefix, oct-prefix, bin-prefix, and years and hours with leading zeros; the digits of an
+-- integer or a float, a year of four, or an hour of two; frac = decimal-point zero-prefixable-int,
+-- exp = "e" float-exp-part
 abbrev pub figure_step : Figure → ℕ → Option Figure
-figure_step figures.Zero c = zero_step c
+figure_step figures.Zero c =
+    if c == 120 then Some (figures.Prefix bases.Hex) else
+    if c == 111 then Some (figures.Prefix bases.Octal) else
+    if c == 98 then Some (figures.Prefix bases.Binary) else
+    if is_digit c then Some (figures.Lead 2 (digit c)) else real_step c
 figure_step figures.SignedZero c = real_step c
-figure_step (figures.Whole whole) c = whole_step whole c
+figure_step (figures.Whole whole) c =
+    if is_digit c then Some (figures.Whole (adding whole c)) else
+    if c == 95 then Some (figures.WholeMark (record {
+      digits = 5;
+      negative = whole.negative;
+      value = whole.value;
+    })) else
+    if (c == 45) && (whole.digits == 4)
+    then Some (figures.Moment (moments.Month (is_leap whole.value))) else
+    if (c == 58) && ((whole.digits == 2) && nat_lt whole.value 24)
+    then Some (figures.Moment (moments.Minute false)) else real_step c
 figure_step (figures.WholeMark whole) c =
     figure_if (is_digit c) (figures.Whole (adding whole c))
 figure_step (figures.Lead digits value) c = lead_step digits value c
+figure_step figures.Point c = figure_if (is_digit c) figures.Fraction
+figure_step figures.Fraction c =
+    if is_digit c then Some figures.Fraction else if c == 95 then Some figures.FractionMark else
+    figure_if (is_e c) figures.Exponent
+figure_step figures.FractionMark c = figure_if (is_digit c) figures.Fraction
+figure_step figures.Exponent c =
+    if c == 43 || c == 45 then Some figures.Power else figure_if (is_digit c) figures.Digits
+figure_step figures.Power c = figure_if (is_digit c) figures.Digits
+figure_step figures.Digits c =
+    if c == 95 then Some figures.Power else figure_if (is_digit c) figures.Digits
+figure_step (figures.Prefix base) c = base_step base 0 c
+figure_step (figures.Based base value) c =
+    if c == 95 then figure_if (nat_lt value (limit_of base)) (figures.BasedMark base value) else
+    base_step base value c
+figure_step (figures.BasedMark base value) c = base_step base value c
 figure_step (figures.Moment moment) c = moment_as (moment_step moment c)
-figure_step figure c = based_step figure c
 
 abbrev pub ends_figure : Figure → Bool
 ends_figure figures.Zero = true

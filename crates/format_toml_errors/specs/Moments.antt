@@ -43,17 +43,13 @@ abbrev pub day_fits : ℕ → ℕ → ℕ → Bool
 day_fits days tens c =
     is_digit c && ((not (c == 48) || nat_lt 0 tens) && nat_le (digit c) (days - tens))
 
--- date-month = 2DIGIT ; 01-12
-abbrev pub month_step : Moment → ℕ → Option Moment
-month_step (Month leap) c = moment_if (c == 48 || c == 49) (MonthEnd leap (c == 49))
-month_step (MonthEnd leap true) c =
-    moment_if (nat_le 48 c && nat_le c 50) (DayMark (days_of leap true c))
-month_step (MonthEnd leap false) c =
-    moment_if (nat_le 49 c && nat_le c 57) (DayMark (days_of leap false c))
-month_step _ c = None
-
--- full-date, and time-delim = "T" / %x20
+-- date-month = 2DIGIT ; 01-12, full-date, and time-delim = "T" / %x20
 abbrev pub date_step : Moment → ℕ → Option Moment
+date_step (Month leap) c = moment_if (c == 48 || c == 49) (MonthEnd leap (c == 49))
+date_step (MonthEnd leap true) c =
+    moment_if (nat_le 48 c && nat_le c 50) (DayMark (days_of leap true c))
+date_step (MonthEnd leap false) c =
+    moment_if (nat_le 49 c && nat_le c 57) (DayMark (days_of leap false c))
 date_step (DayMark days) c = moment_if (c == 45) (Day days)
 date_step (Day days) c =
     moment_if ((nat_le 48 c && nat_le c 50) || (c == 51 && nat_le 30 days))
@@ -62,24 +58,20 @@ date_step (DayEnd days tens) c = moment_if (day_fits days tens c) Date
 date_step Date c = if c == 32 then Some Space else moment_if (c == 84 || c == 116) Hour
 date_step Space c = moment_if (nat_le 48 c && nat_le c 50) (HourEnd (c == 50))
 date_step Hour c = moment_if (nat_le 48 c && nat_le c 50) (HourEnd (c == 50))
-date_step moment c = month_step moment c
+date_step _ c = None
 
--- time-second = 2DIGIT ; 00-60
-abbrev pub second_step : Moment → ℕ → Option Moment
-second_step (SecondMark dated) c = moment_if (c == 58) (Second dated)
-second_step (Second dated) c = moment_if (nat_le 48 c && nat_le c 54) (SecondEnd dated (c == 54))
-second_step (SecondEnd dated true) c = moment_if (c == 48) (Time dated)
-second_step (SecondEnd dated false) c = moment_if (is_digit c) (Time dated)
-second_step _ c = None
-
--- time-hour = 2DIGIT ; 00-23, time-minute = 2DIGIT ; 00-59
+-- time-hour = 2DIGIT ; 00-23, time-minute = 2DIGIT ; 00-59, time-second = 2DIGIT ; 00-60
 abbrev pub clock_step : Moment → ℕ → Option Moment
 clock_step (HourEnd true) c = moment_if (nat_le 48 c && nat_le c 51) MinuteMark
 clock_step (HourEnd false) c = moment_if (is_digit c) MinuteMark
 clock_step MinuteMark c = moment_if (c == 58) (Minute true)
 clock_step (Minute dated) c = moment_if (nat_le 48 c && nat_le c 53) (MinuteEnd dated)
 clock_step (MinuteEnd dated) c = moment_if (is_digit c) (SecondMark dated)
-clock_step moment c = second_step moment c
+clock_step (SecondMark dated) c = moment_if (c == 58) (Second dated)
+clock_step (Second dated) c = moment_if (nat_le 48 c && nat_le c 54) (SecondEnd dated (c == 54))
+clock_step (SecondEnd dated true) c = moment_if (c == 48) (Time dated)
+clock_step (SecondEnd dated false) c = moment_if (is_digit c) (Time dated)
+clock_step _ c = None
 
 -- the first character of a time-offset = "Z" / time-numoffset, which a time has only after a date
 abbrev pub offset_start : Bool → ℕ → Option Moment
@@ -87,15 +79,7 @@ offset_start dated c =
     if not dated then None else if c == 90 || c == 122 then Some Whole else
     moment_if (c == 43 || c == 45) OffsetHour
 
--- time-secfrac = "." 1*DIGIT
-abbrev pub tail_step : Moment → ℕ → Option Moment
-tail_step (Time dated) c = if c == 46 then Some (Point dated) else offset_start dated c
-tail_step (Point dated) c = moment_if (is_digit c) (Fraction dated)
-tail_step (Fraction dated) c =
-    if is_digit c then Some (Fraction dated) else offset_start dated c
-tail_step _ c = None
-
--- time-numoffset = ( "+" / "-" ) time-hour ":" time-minute
+-- time-secfrac = "." 1*DIGIT, time-numoffset = ( "+" / "-" ) time-hour ":" time-minute
 abbrev pub offset_step : Moment → ℕ → Option Moment
 offset_step OffsetHour c = moment_if (nat_le 48 c && nat_le c 50) (OffsetHourEnd (c == 50))
 offset_step (OffsetHourEnd true) c = moment_if (nat_le 48 c && nat_le c 51) OffsetMark
@@ -103,7 +87,11 @@ offset_step (OffsetHourEnd false) c = moment_if (is_digit c) OffsetMark
 offset_step OffsetMark c = moment_if (c == 58) OffsetMinute
 offset_step OffsetMinute c = moment_if (nat_le 48 c && nat_le c 53) OffsetMinuteEnd
 offset_step OffsetMinuteEnd c = moment_if (is_digit c) Whole
-offset_step moment c = tail_step moment c
+offset_step (Time dated) c = if c == 46 then Some (Point dated) else offset_start dated c
+offset_step (Point dated) c = moment_if (is_digit c) (Fraction dated)
+offset_step (Fraction dated) c =
+    if is_digit c then Some (Fraction dated) else offset_start dated c
+offset_step _ c = None
 
 abbrev pub first_of : Option Moment → Option Moment → Option Moment
 first_of (Some next) other = Some next

@@ -77,19 +77,12 @@ abbrev pub else_line : ℕ → Step → Step
 else_line c Invalid = if c == 91 then Goes modes.Header else name_step owners.Entry c
 else_line c step = step
 
--- expression = ws [ comment ] / ws keyval ws [ comment ] / ws table ws [ comment ]
-abbrev pub line_step : ℕ → Step
-line_step c = else_line c (in_line gaps.Line c)
-
 abbrev pub comment_step : Gap → ℕ → Step
 comment_step gap c =
     if c == 10 || c == 13 then in_line gap c else
     if is_shown c then Goes (modes.Comment gap) else Invalid
 
 -- ---- keys
-
-abbrev pub name_or_space : Mode → Owner → ℕ → Step
-name_or_space mode owner c = if is_blank c then Goes mode else name_step owner c
 
 -- what ends a key of a line or an inline table, or the name of a table
 abbrev pub key_end : Owner → ℕ → Step
@@ -130,22 +123,12 @@ abbrev pub else_item : ℕ → Step → Step
 else_item c Invalid = if c == 93 then Closes else value_step c
 else_item c step = step
 
--- an element of an array or its end, perhaps after lines and comments
-abbrev pub item_step : ℕ → Step
-item_step c = else_item c (in_line gaps.Item c)
-
-abbrev pub after_item : ℕ → Step
-after_item c =
-    if c == 44 then Goes modes.Item else if c == 93 then Closes else in_line gaps.After c
-
-abbrev pub after_member : ℕ → Step
-after_member c =
-    if c == 44 then Goes (modes.Name owners.Member) else if c == 125 then Closes else Invalid
-
 abbrev pub behind_value : Option Bracket → ℕ → Step
 behind_value None c = in_line gaps.Line c
-behind_value (Some brackets.Array) c = after_item c
-behind_value (Some brackets.Table) c = after_member c
+behind_value (Some brackets.Array) c =
+    if c == 44 then Goes modes.Item else if c == 93 then Closes else in_line gaps.After c
+behind_value (Some brackets.Table) c =
+    if c == 44 then Goes (modes.Name owners.Member) else if c == 125 then Closes else Invalid
 
 abbrev pub after_step : Option Bracket → ℕ → Step
 after_step held c = if is_blank c then Goes modes.After else behind_value held c
@@ -170,9 +153,6 @@ abbrev pub in_string : Role → Escaped → Step
 in_string role escaped.Invalid = Invalid
 in_string role (escaped.More next) = Goes (modes.Escaped role next)
 in_string role escaped.Done = Goes (modes.Basic role)
-
-abbrev pub escaped_step : Role → Escape → ℕ → Step
-escaped_step role escape c = in_string role (escape_step escape c)
 
 abbrev pub string_step : Mark → ℕ → Step
 string_step marks.Basic c = basic_step roles.Value c
@@ -262,52 +242,45 @@ abbrev pub number_goes : Option Figure → Bool → Option Bracket → ℕ → S
 number_goes (Some next) ends held c = Goes (modes.Number next)
 number_goes None ends held c = if ends then after_step held c else Invalid
 
-abbrev pub number_step : Figure → Option Bracket → ℕ → Step
-number_step figure held c = number_goes (figure_step figure c) (ends_figure figure) held c
-
 -- ---- all
-
-abbrev pub scalar_step : Mode → Option Bracket → ℕ → Step
-scalar_step (modes.Quote mark) held c = quote_step mark c
-scalar_step (modes.Quotes mark) held c = quotes_step mark held c
-scalar_step (modes.Long mark quotes) held c = long_step mark quotes held c
-scalar_step (modes.LongReturn mark) held c =
-    if c == 10 then Goes (modes.Long mark 0) else Invalid
-scalar_step (modes.LongEscape escape) held c = long_escape_step escape c
-scalar_step modes.LongBlank held c = blank_or Invalid c
-scalar_step (modes.Word rest) held c = word_step rest c
-scalar_step (modes.Sign negative) held c = sign_step negative c
-scalar_step (modes.Number figure) held c = number_step figure held c
-scalar_step _ held c = Invalid
-
-abbrev pub text_step : Mode → Option Bracket → ℕ → Step
-text_step (modes.Bare owner) held c =
-    if is_bare c then Goes (modes.Bare owner) else behind_step owner c
-text_step (modes.Behind owner) held c = behind_step owner c
-text_step (modes.Basic role) held c = basic_step role c
-text_step (modes.Escaped role escape) held c = escaped_step role escape c
-text_step (modes.Literal role) held c = literal_step role c
-text_step mode held c = scalar_step mode held c
 
 abbrev pub bracket_step : Mode → ℕ → Step
 bracket_step modes.Header c =
     if c == 91 then Goes (modes.Name owners.Headers) else
-    name_or_space (modes.Name owners.Header) owners.Header c
+    if is_blank c then Goes (modes.Name owners.Header) else name_step owners.Header c
 bracket_step modes.Closing c = if c == 93 then Goes modes.After else Invalid
 bracket_step modes.FirstName c =
-    if c == 125 then Closes else name_or_space modes.FirstName owners.Member c
+    if c == 125 then Closes else
+    if is_blank c then Goes modes.FirstName else name_step owners.Member c
 bracket_step _ c = Invalid
 
--- what comes of a character, where this is expected in the bracket that was opened last
+-- The effect of a character, where `mode` is expected in the bracket `held`, which was opened last.
+-- expression = ws [ comment ] / ws keyval ws [ comment ] / ws table ws [ comment ]
 abbrev pub next_step : Mode → Option Bracket → ℕ → Step
-next_step modes.Line held c = line_step c
+next_step modes.Line held c = else_line c (in_line gaps.Line c)
 next_step (modes.Comment gap) held c = comment_step gap c
 next_step (modes.Return gap) held c = if c == 10 then Goes (back_to gap) else Invalid
 next_step modes.Header held c = bracket_step modes.Header c
 next_step modes.Closing held c = bracket_step modes.Closing c
 next_step modes.FirstName held c = bracket_step modes.FirstName c
-next_step (modes.Name owner) held c = name_or_space (modes.Name owner) owner c
+next_step (modes.Name owner) held c =
+    if is_blank c then Goes (modes.Name owner) else name_step owner c
 next_step modes.Value held c = if is_blank c then Goes modes.Value else value_step c
-next_step modes.Item held c = item_step c
+next_step modes.Item held c = else_item c (in_line gaps.Item c)
 next_step modes.After held c = after_step held c
-next_step mode held c = text_step mode held c
+next_step (modes.Bare owner) held c =
+    if is_bare c then Goes (modes.Bare owner) else behind_step owner c
+next_step (modes.Behind owner) held c = behind_step owner c
+next_step (modes.Basic role) held c = basic_step role c
+next_step (modes.Escaped role escape) held c = in_string role (escape_step escape c)
+next_step (modes.Literal role) held c = literal_step role c
+next_step (modes.Quote mark) held c = quote_step mark c
+next_step (modes.Quotes mark) held c = quotes_step mark held c
+next_step (modes.Long mark quotes) held c = long_step mark quotes held c
+next_step (modes.LongReturn mark) held c = if c == 10 then Goes (modes.Long mark 0) else Invalid
+next_step (modes.LongEscape escape) held c = long_escape_step escape c
+next_step modes.LongBlank held c = blank_or Invalid c
+next_step (modes.Word rest) held c = word_step rest c
+next_step (modes.Sign negative) held c = sign_step negative c
+next_step (modes.Number figure) held c =
+    number_goes (figure_step figure c) (ends_figure figure) held c

@@ -1,6 +1,5 @@
 //! The characters of an escape of a basic string, one by one.
-ghost use Rattle.format_toml_errors.specs.Escapes.{after_letter, after_wide, escape_step, is_hex};
-ghost use Rattle.format_toml_errors.specs.Escapes.{more_if};
+ghost use Rattle.format_toml_errors.specs.Escapes.{escape_step, is_hex, is_named, more_if};
 ghost use Rattle.std.specs.Prelude.{◌≡◌};
 
 /// The input that is expected next in an escape.
@@ -61,35 +60,11 @@ fn more_if(test: bool, escape: Escape) -> Escaped
     }
 }
 
-/// Returns the effect of the character after the backslash.
-fn after_letter(c: char) -> Escaped
-    ensures { result ≡ after_letter c }
+/// Returns whether it is an escape with the backslash before it.
+fn is_named(c: char) -> bool
+    ensures { result ≡ is_named c }
 {
-    if c == 'u' {
-        Escaped::More(Escape::Unit)
-    } else if c == 'U' {
-        Escaped::More(Escape::Eight)
-    } else if c == 'b' || c == 't' || c == 'n' || c == 'f' || c == 'r' || c == '"' || c == '\\' {
-        Escaped::Done
-    } else {
-        Escaped::Invalid
-    }
-}
-
-/// Returns the effect of a digit before the last four of eight.
-fn after_wide(escape: Escape, c: char) -> Escaped
-    ensures { result ≡ after_wide escape c }
-{
-    match escape {
-        Escape::Eight => more_if(c == '0', Escape::Seven),
-        Escape::Seven => more_if(c == '0', Escape::Six),
-        Escape::Six if c == '1' => Escaped::More(Escape::FiveHigh),
-        Escape::Six => more_if(c == '0', Escape::Five),
-        Escape::Five if c == '0' => Escaped::More(Escape::Unit),
-        Escape::Five => more_if(is_hex(c), Escape::Four),
-        Escape::FiveHigh => more_if(c == '0', Escape::Four),
-        _ => Escaped::Invalid,
-    }
+    c == 'b' || c == 't' || c == 'n' || c == 'f' || c == 'r' || c == '"' || c == '\\'
 }
 
 /// Returns the effect of a character of an escape.
@@ -97,7 +72,9 @@ pub fn escape_step(escape: Escape, c: char) -> Escaped
     ensures { result ≡ escape_step escape c }
 {
     match escape {
-        Escape::Letter => after_letter(c),
+        Escape::Letter if c == 'u' => Escaped::More(Escape::Unit),
+        Escape::Letter if c == 'U' => Escaped::More(Escape::Eight),
+        Escape::Letter if is_named(c) => Escaped::Done,
         Escape::Unit if c == 'D' || c == 'd' => Escaped::More(Escape::AfterD),
         Escape::Unit => more_if(is_hex(c), Escape::Three),
         Escape::AfterD => more_if('0' <= c && c <= '7', Escape::Two),
@@ -105,7 +82,13 @@ pub fn escape_step(escape: Escape, c: char) -> Escaped
         Escape::Three => more_if(is_hex(c), Escape::Two),
         Escape::Two => more_if(is_hex(c), Escape::One),
         Escape::One if is_hex(c) => Escaped::Done,
-        Escape::One => Escaped::Invalid,
-        wide => after_wide(wide, c),
+        Escape::Letter | Escape::One => Escaped::Invalid,
+        Escape::Eight => more_if(c == '0', Escape::Seven),
+        Escape::Seven => more_if(c == '0', Escape::Six),
+        Escape::Six if c == '1' => Escaped::More(Escape::FiveHigh),
+        Escape::Six => more_if(c == '0', Escape::Five),
+        Escape::Five if c == '0' => Escaped::More(Escape::Unit),
+        Escape::Five => more_if(is_hex(c), Escape::Four),
+        Escape::FiveHigh => more_if(c == '0', Escape::Four),
     }
 }

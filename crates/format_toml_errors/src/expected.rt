@@ -1,10 +1,8 @@
 //! The input that is expected at an offset of a TOML document, by name.
-ghost use Rattle.format_toml_errors.specs.Expected.{is_digit_of, number_at};
-ghost use Rattle.format_toml_errors.specs.Expected.{wanted, wanted_after, wanted_at};
-ghost use Rattle.format_toml_errors.specs.Expected.{wanted_behind, wanted_float, wanted_in_escape};
-ghost use Rattle.format_toml_errors.specs.Expected.{wanted_in_number, wanted_in_text};
-ghost use Rattle.format_toml_errors.specs.Expected.{wanted_in_value, wanted_moment, wanted_name};
-ghost use Rattle.std.specs.Prelude.{◌≡◌};
+ghost use Rattle.format_toml_errors.specs.Expected.{is_digit_of, wanted, wanted_at};
+ghost use Rattle.format_toml_errors.specs.declared.figures.Figure.TheVariants as figures;
+ghost use Rattle.format_toml_errors.specs.declared.modes.Mode.TheVariants as modes;
+ghost use Rattle.std.specs.Prelude.{◌≡◌, None};
 
 use crate::escapes::{Escape, is_hex};
 use crate::figures::{Base, Figure, fits};
@@ -172,7 +170,7 @@ impl Display for Expected {
 
 /// Returns what is expected after a value in this bracket.
 fn wanted_after(held: Option<Bracket>) -> Expected
-    ensures { result ≡ wanted_after held }
+    ensures { result ≡ wanted modes.After held }
 {
     match held {
         None => Expected::LineEnd,
@@ -181,43 +179,9 @@ fn wanted_after(held: Option<Bracket>) -> Expected
     }
 }
 
-/// Returns what is expected as a name of a key.
-fn wanted_name(owner: Owner) -> Expected
-    ensures { result ≡ wanted_name owner }
-{
-    match owner {
-        Owner::Entry | Owner::Member => Expected::Key,
-        Owner::Header | Owner::Headers => Expected::TableName,
-    }
-}
-
-/// Returns what is expected after a name of a key.
-fn wanted_behind(owner: Owner) -> Expected
-    ensures { result ≡ wanted_behind owner }
-{
-    match owner {
-        Owner::Entry | Owner::Member => Expected::EqualsSign,
-        Owner::Header | Owner::Headers => Expected::ClosingBracket,
-    }
-}
-
-/// Returns what is expected in an escape of a string, on one line or not.
-fn wanted_in_escape(escape: Escape, long: bool) -> Expected
-    ensures { result ≡ wanted_in_escape escape long }
-{
-    match escape {
-        Escape::Letter if long => Expected::LongEscape,
-        Escape::Letter => Expected::Escape,
-        Escape::Unit | Escape::Four | Escape::Three | Escape::Two | Escape::One => {
-            Expected::HexDigit
-        }
-        _ => Expected::ScalarDigit,
-    }
-}
-
 /// Returns what is expected in a date or a time.
-fn wanted_moment(moment: Moment, held: Option<Bracket>) -> Expected
-    ensures { result ≡ wanted_moment moment held }
+fn wanted_in_moment(moment: Moment, held: Option<Bracket>) -> Expected
+    ensures { result ≡ wanted (modes.Number (figures.Moment moment)) held }
 {
     match moment {
         Moment::Month { .. } | Moment::MonthEnd { .. } => Expected::Month,
@@ -237,11 +201,15 @@ fn wanted_moment(moment: Moment, held: Option<Bracket>) -> Expected
     }
 }
 
-/// Returns what is expected in a float, or after a number.
-fn wanted_float(figure: Figure, held: Option<Bracket>) -> Expected
-    ensures { result ≡ wanted_float figure held }
+/// Returns what is expected in a number, a date or a time, or after one.
+fn wanted_in_number(figure: Figure, held: Option<Bracket>) -> Expected
+    ensures { result ≡ wanted (modes.Number figure) held }
 {
     match figure {
+        Figure::Moment(moment) => wanted_in_moment(moment, held),
+        Figure::Prefix(base) => Expected::BaseDigit(base),
+        Figure::BasedMark(base, _) => Expected::BaseDigit(base),
+        Figure::Whole(whole) if !fits(whole) => Expected::Smaller,
         Figure::Point | Figure::FractionMark | Figure::Power | Figure::WholeMark(_) => {
             Expected::Digit
         }
@@ -252,48 +220,16 @@ fn wanted_float(figure: Figure, held: Option<Bracket>) -> Expected
     }
 }
 
-/// Returns what is expected in a number, a date or a time, or after one.
-fn wanted_in_number(figure: Figure, held: Option<Bracket>) -> Expected
-    ensures { result ≡ wanted_in_number figure held }
+/// Returns what is expected in an escape of a multi-line string.
+fn wanted_in_escape(escape: Escape) -> Expected
+    ensures { result ≡ wanted (modes.LongEscape escape) None }
 {
-    match figure {
-        Figure::Moment(moment) => wanted_moment(moment, held),
-        Figure::Prefix(base) => Expected::BaseDigit(base),
-        Figure::BasedMark(base, _) => Expected::BaseDigit(base),
-        Figure::Whole(whole) if !fits(whole) => Expected::Smaller,
-        other => wanted_float(other, held),
-    }
-}
-
-/// Returns what is expected in a value.
-fn wanted_in_value(mode: Mode, held: Option<Bracket>) -> Expected
-    ensures { result ≡ wanted_in_value mode held }
-{
-    match mode {
-        Mode::Quote(mark) => Expected::Character(mark),
-        Mode::Quotes(_) => wanted_after(held),
-        Mode::Long(mark, quotes) if quotes < 3 => Expected::LongCharacter(mark),
-        Mode::LongReturn(_) => Expected::LineFeed,
-        Mode::LongEscape(escape) => wanted_in_escape(escape, true),
-        Mode::LongBlank => Expected::EscapedLineEnd,
-        Mode::Word(letters) => Expected::Letter(letter_of(letters)),
-        Mode::Sign(_) => Expected::DigitOrWord,
-        Mode::Number(figure) => wanted_in_number(figure, held),
-        _ => wanted_after(held),
-    }
-}
-
-/// Returns what is expected in a key or a string on one line.
-fn wanted_in_text(mode: Mode, held: Option<Bracket>) -> Expected
-    ensures { result ≡ wanted_in_text mode held }
-{
-    match mode {
-        Mode::Bare(owner) => wanted_behind(owner),
-        Mode::Behind(owner) => wanted_behind(owner),
-        Mode::Basic(_) => Expected::Character(Mark::Basic),
-        Mode::Escaped(_, escape) => wanted_in_escape(escape, false),
-        Mode::Literal(_) => Expected::Character(Mark::Literal),
-        other => wanted_in_value(other, held),
+    match escape {
+        Escape::Letter => Expected::LongEscape,
+        Escape::Unit | Escape::Four | Escape::Three | Escape::Two | Escape::One => {
+            Expected::HexDigit
+        }
+        _ => Expected::ScalarDigit,
     }
 }
 
@@ -304,14 +240,28 @@ pub fn wanted(mode: Mode, held: Option<Bracket>) -> Expected
     match mode {
         Mode::Line => Expected::KeyOrTable,
         Mode::Comment(_) => Expected::CommentCharacter,
-        Mode::Return(_) => Expected::LineFeed,
-        Mode::Header => Expected::TableName,
+        Mode::Return(_) | Mode::LongReturn(_) => Expected::LineFeed,
+        Mode::Name(Owner::Entry | Owner::Member) => Expected::Key,
+        Mode::Name(_) | Mode::Header => Expected::TableName,
         Mode::Closing => Expected::SecondBracket,
         Mode::FirstName => Expected::KeyOrBrace,
-        Mode::Name(owner) => wanted_name(owner),
+        Mode::Bare(Owner::Entry | Owner::Member) => Expected::EqualsSign,
+        Mode::Behind(Owner::Entry | Owner::Member) => Expected::EqualsSign,
+        Mode::Bare(_) | Mode::Behind(_) => Expected::ClosingBracket,
         Mode::Value => Expected::Value,
         Mode::Item => Expected::ValueOrBracket,
-        other => wanted_in_text(other, held),
+        Mode::Basic(_) => Expected::Character(Mark::Basic),
+        Mode::Literal(_) => Expected::Character(Mark::Literal),
+        Mode::Quote(mark) => Expected::Character(mark),
+        Mode::Long(mark, quotes) if quotes < 3 => Expected::LongCharacter(mark),
+        Mode::Escaped(_, Escape::Letter) => Expected::Escape,
+        Mode::Escaped(_, escape) => wanted_in_escape(escape),
+        Mode::LongEscape(escape) => wanted_in_escape(escape),
+        Mode::LongBlank => Expected::EscapedLineEnd,
+        Mode::Word(letters) => Expected::Letter(letter_of(letters)),
+        Mode::Sign(_) => Expected::DigitOrWord,
+        Mode::Number(figure) => wanted_in_number(figure, held),
+        Mode::After | Mode::Quotes(_) | Mode::Long(_, _) => wanted_after(held),
     }
 }
 
@@ -326,42 +276,15 @@ fn is_digit_of(base: Base, c: char) -> bool
     }
 }
 
-/// Returns what is expected in a number, a date or a time instead of this character.
-fn number_at(figure: Figure, held: Option<Bracket>, c: char) -> Expected
-    ensures { result ≡ number_at figure held c }
-{
-    match figure {
-        Figure::Based(base, _) => {
-            if is_digit_of(base, c) {
-                Expected::Smaller
-            } else {
-                wanted_after(held)
-            }
-        }
-        Figure::BasedMark(base, _) => {
-            if is_digit_of(base, c) {
-                Expected::Smaller
-            } else {
-                Expected::BaseDigit(base)
-            }
-        }
-        other => wanted_in_number(other, held),
-    }
-}
-
 /// Returns what is expected in `mode`, in the bracket `held`, instead of this character.
 pub fn wanted_at(mode: Mode, held: Option<Bracket>, c: char) -> Expected
     ensures { result ≡ wanted_at mode held c }
 {
     match mode {
-        Mode::Line => {
-            if c == '\u{feff}' {
-                Expected::NoByteOrderMark
-            } else {
-                Expected::KeyOrTable
-            }
-        }
-        Mode::Number(figure) => number_at(figure, held, c),
+        Mode::Line if c == '\u{feff}' => Expected::NoByteOrderMark,
+        Mode::Number(Figure::Based(base, _)) if is_digit_of(base, c) => Expected::Smaller,
+        Mode::Number(Figure::BasedMark(base, _)) if is_digit_of(base, c) => Expected::Smaller,
+        Mode::Number(figure) => wanted_in_number(figure, held),
         other => wanted(other, held),
     }
 }

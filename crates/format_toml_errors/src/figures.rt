@@ -1,9 +1,8 @@
 //! The characters of a number, one by one, and of a date or a time that begins like one.
-ghost use Rattle.format_toml_errors.specs.Figures.{adding, base_step, based_digit, based_step};
-ghost use Rattle.format_toml_errors.specs.Figures.{ends_figure, figure_if, figure_step, fits};
-ghost use Rattle.format_toml_errors.specs.Figures.{float_step, is_e, lead_step, limit_of};
-ghost use Rattle.format_toml_errors.specs.Figures.{next_digit};
-ghost use Rattle.format_toml_errors.specs.Figures.{real_step, whole_step, zero_step};
+ghost use Rattle.format_toml_errors.specs.Figures.{adding, base_step, based_digit, ends_figure};
+ghost use Rattle.format_toml_errors.specs.Figures.{figure_if, figure_step, fits, is_e, lead_step};
+ghost use Rattle.format_toml_errors.specs.Figures.{limit_of, next_digit, real_step};
+ghost use Rattle.format_toml_errors.specs.declared.figures.Figure.TheVariants as figures;
 ghost use Rattle.std.specs.Prelude.{◌≡◌};
 
 use crate::escapes::is_hex;
@@ -134,7 +133,7 @@ fn real_step(c: char) -> Option<Figure>
 
 /// Returns what is expected after the character after a leading zero.
 fn zero_step(c: char) -> Option<Figure>
-    ensures { result ≡ zero_step c }
+    ensures { result ≡ figure_step figures.Zero c }
 {
     if c == 'x' {
         Some(Figure::Prefix(Base::Hex))
@@ -151,7 +150,7 @@ fn zero_step(c: char) -> Option<Figure>
 
 /// Returns what is expected after a character after decimal digits.
 fn whole_step(whole: Whole, c: char) -> Option<Figure>
-    ensures { result ≡ whole_step whole c }
+    ensures { result ≡ figure_step (figures.Whole whole) c }
 {
     if is_digit(c) {
         Some(Figure::Whole(adding(whole, c)))
@@ -190,24 +189,6 @@ fn lead_step(digits: u64, value: u64, c: char) -> Option<Figure>
     }
 }
 
-/// Returns what is expected after a character after a point.
-fn float_step(figure: Figure, c: char) -> Option<Figure>
-    ensures { result ≡ float_step figure c }
-{
-    match figure {
-        Figure::Point => figure_if(is_digit(c), Figure::Fraction),
-        Figure::Fraction if is_digit(c) => Some(Figure::Fraction),
-        Figure::Fraction if c == '_' => Some(Figure::FractionMark),
-        Figure::Fraction => figure_if(is_e(c), Figure::Exponent),
-        Figure::FractionMark => figure_if(is_digit(c), Figure::Fraction),
-        Figure::Exponent if c == '+' || c == '-' => Some(Figure::Power),
-        Figure::Exponent | Figure::Power => figure_if(is_digit(c), Figure::Digits),
-        Figure::Digits if c == '_' => Some(Figure::Power),
-        Figure::Digits => figure_if(is_digit(c), Figure::Digits),
-        _ => None,
-    }
-}
-
 /// Returns the least integer of a base that another digit makes too large.
 fn limit_of(base: Base) -> u64
     ensures { result ≡ limit_of base }
@@ -242,25 +223,7 @@ fn based_digit(base: Base, value: u64, c: char) -> Option<u64>
 fn base_step(base: Base, value: u64, c: char) -> Option<Figure>
     ensures { result ≡ base_step base value c }
 {
-    match based_digit(base, value, c) {
-        Some(next) => Some(Figure::Based(base, next)),
-        None => None,
-    }
-}
-
-/// Returns what is expected after a character of an integer of a base.
-fn based_step(figure: Figure, c: char) -> Option<Figure>
-    ensures { result ≡ based_step figure c }
-{
-    match figure {
-        Figure::Prefix(base) => base_step(base, 0, c),
-        Figure::Based(base, value) if c == '_' => {
-            figure_if(value < limit_of(base), Figure::BasedMark(base, value))
-        }
-        Figure::Based(base, value) => base_step(base, value, c),
-        Figure::BasedMark(base, value) => base_step(base, value, c),
-        other => float_step(other, c),
-    }
+    Some(Figure::Based(base, based_digit(base, value, c)?))
 }
 
 /// Returns what is expected after a character of a number, a date or a time, or `None` if it cannot
@@ -274,11 +237,20 @@ pub fn figure_step(figure: Figure, c: char) -> Option<Figure>
         Figure::Whole(whole) => whole_step(whole, c),
         Figure::WholeMark(whole) => figure_if(is_digit(c), Figure::Whole(adding(whole, c))),
         Figure::Lead(digits, value) => lead_step(digits, value, c),
-        Figure::Moment(moment) => match moment_step(moment, c) {
-            Some(next) => Some(Figure::Moment(next)),
-            None => None,
-        },
-        other => based_step(other, c),
+        Figure::Point | Figure::FractionMark => figure_if(is_digit(c), Figure::Fraction),
+        Figure::Fraction if is_digit(c) => Some(Figure::Fraction),
+        Figure::Fraction if c == '_' => Some(Figure::FractionMark),
+        Figure::Fraction => figure_if(is_e(c), Figure::Exponent),
+        Figure::Exponent if c == '+' || c == '-' => Some(Figure::Power),
+        Figure::Digits if c == '_' => Some(Figure::Power),
+        Figure::Exponent | Figure::Power | Figure::Digits => figure_if(is_digit(c), Figure::Digits),
+        Figure::Prefix(base) => base_step(base, 0, c),
+        Figure::Based(base, value) if c == '_' => {
+            figure_if(value < limit_of(base), Figure::BasedMark(base, value))
+        }
+        Figure::Based(base, value) => base_step(base, value, c),
+        Figure::BasedMark(base, value) => base_step(base, value, c),
+        Figure::Moment(moment) => Some(Figure::Moment(moment_step(moment, c)?)),
     }
 }
 

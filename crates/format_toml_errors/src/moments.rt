@@ -1,8 +1,7 @@
 //! The characters of a date or a time, one by one.
 ghost use Rattle.format_toml_errors.specs.Moments.{clock_step, date_step, day_fits, days_of, digit};
 ghost use Rattle.format_toml_errors.specs.Moments.{ends_moment, is_digit, is_leap, moment_if};
-ghost use Rattle.format_toml_errors.specs.Moments.{moment_step, month_step, offset_start};
-ghost use Rattle.format_toml_errors.specs.Moments.{offset_step, second_step, tail_step, tens_of};
+ghost use Rattle.format_toml_errors.specs.Moments.{moment_step, offset_start, offset_step, tens_of};
 ghost use Rattle.std.specs.Prelude.{◌≡◌};
 
 /// The input that is expected next in a date or a time, after the year, or the hour of a time
@@ -169,30 +168,6 @@ fn day_fits(days: u64, tens: u64, c: char) -> bool
     is_digit(c) && (c != '0' || 0 < tens) && digit(c) <= days.saturating_sub(tens)
 }
 
-/// Returns what is expected after a digit of a month.
-fn month_step(moment: Moment, c: char) -> Option<Moment>
-    ensures { result ≡ month_step moment c }
-{
-    match moment {
-        Moment::Month { leap } => moment_if(
-            c == '0' || c == '1',
-            Moment::MonthEnd {
-                leap,
-                one: c == '1',
-            },
-        ),
-        Moment::MonthEnd { leap, one: true } => moment_if(
-            '0' <= c && c <= '2',
-            Moment::DayMark(days_of(leap, true, c)),
-        ),
-        Moment::MonthEnd { leap, .. } => moment_if(
-            '1' <= c && c <= '9',
-            Moment::DayMark(days_of(leap, false, c)),
-        ),
-        _ => None,
-    }
-}
-
 /// Returns what is expected after a character of a date.
 fn date_step(moment: Moment, c: char) -> Option<Moment>
     ensures { result ≡ date_step moment c }
@@ -212,15 +187,35 @@ fn date_step(moment: Moment, c: char) -> Option<Moment>
         Moment::Space | Moment::Hour => {
             moment_if('0' <= c && c <= '2', Moment::HourEnd { two: c == '2' })
         }
-        other => month_step(other, c),
+        Moment::Month { leap } => moment_if(
+            c == '0' || c == '1',
+            Moment::MonthEnd {
+                leap,
+                one: c == '1',
+            },
+        ),
+        Moment::MonthEnd { leap, one: true } => moment_if(
+            '0' <= c && c <= '2',
+            Moment::DayMark(days_of(leap, true, c)),
+        ),
+        Moment::MonthEnd { leap, .. } => moment_if(
+            '1' <= c && c <= '9',
+            Moment::DayMark(days_of(leap, false, c)),
+        ),
+        _ => None,
     }
 }
 
-/// Returns what is expected after a character of a second.
-fn second_step(moment: Moment, c: char) -> Option<Moment>
-    ensures { result ≡ second_step moment c }
+/// Returns what is expected after a character of an hour, a minute or a second.
+fn clock_step(moment: Moment, c: char) -> Option<Moment>
+    ensures { result ≡ clock_step moment c }
 {
     match moment {
+        Moment::HourEnd { two: true } => moment_if('0' <= c && c <= '3', Moment::MinuteMark),
+        Moment::HourEnd { .. } => moment_if(is_digit(c), Moment::MinuteMark),
+        Moment::MinuteMark => moment_if(c == ':', Moment::Minute { dated: true }),
+        Moment::Minute { dated } => moment_if('0' <= c && c <= '5', Moment::MinuteEnd { dated }),
+        Moment::MinuteEnd { dated } => moment_if(is_digit(c), Moment::SecondMark { dated }),
         Moment::SecondMark { dated } => moment_if(c == ':', Moment::Second { dated }),
         Moment::Second { dated } => moment_if(
             '0' <= c && c <= '6',
@@ -232,20 +227,6 @@ fn second_step(moment: Moment, c: char) -> Option<Moment>
         Moment::SecondEnd { dated, six: true } => moment_if(c == '0', Moment::Time { dated }),
         Moment::SecondEnd { dated, .. } => moment_if(is_digit(c), Moment::Time { dated }),
         _ => None,
-    }
-}
-
-/// Returns what is expected after a character of an hour or a minute.
-fn clock_step(moment: Moment, c: char) -> Option<Moment>
-    ensures { result ≡ clock_step moment c }
-{
-    match moment {
-        Moment::HourEnd { two: true } => moment_if('0' <= c && c <= '3', Moment::MinuteMark),
-        Moment::HourEnd { .. } => moment_if(is_digit(c), Moment::MinuteMark),
-        Moment::MinuteMark => moment_if(c == ':', Moment::Minute { dated: true }),
-        Moment::Minute { dated } => moment_if('0' <= c && c <= '5', Moment::MinuteEnd { dated }),
-        Moment::MinuteEnd { dated } => moment_if(is_digit(c), Moment::SecondMark { dated }),
-        other => second_step(other, c),
     }
 }
 
@@ -263,20 +244,6 @@ fn offset_start(dated: bool, c: char) -> Option<Moment>
 }
 
 /// Returns what is expected after a character after the second.
-fn tail_step(moment: Moment, c: char) -> Option<Moment>
-    ensures { result ≡ tail_step moment c }
-{
-    match moment {
-        Moment::Time { dated } if c == '.' => Some(Moment::Point { dated }),
-        Moment::Time { dated } => offset_start(dated, c),
-        Moment::Point { dated } => moment_if(is_digit(c), Moment::Fraction { dated }),
-        Moment::Fraction { dated } if is_digit(c) => Some(Moment::Fraction { dated }),
-        Moment::Fraction { dated } => offset_start(dated, c),
-        _ => None,
-    }
-}
-
-/// Returns what is expected after a character of an offset.
 fn offset_step(moment: Moment, c: char) -> Option<Moment>
     ensures { result ≡ offset_step moment c }
 {
@@ -292,7 +259,12 @@ fn offset_step(moment: Moment, c: char) -> Option<Moment>
         Moment::OffsetMark => moment_if(c == ':', Moment::OffsetMinute),
         Moment::OffsetMinute => moment_if('0' <= c && c <= '5', Moment::OffsetMinuteEnd),
         Moment::OffsetMinuteEnd => moment_if(is_digit(c), Moment::Whole),
-        other => tail_step(other, c),
+        Moment::Time { dated } if c == '.' => Some(Moment::Point { dated }),
+        Moment::Time { dated } => offset_start(dated, c),
+        Moment::Point { dated } => moment_if(is_digit(c), Moment::Fraction { dated }),
+        Moment::Fraction { dated } if is_digit(c) => Some(Moment::Fraction { dated }),
+        Moment::Fraction { dated } => offset_start(dated, c),
+        _ => None,
     }
 }
 
@@ -314,12 +286,8 @@ pub fn moment_step(moment: Moment, c: char) -> Option<Moment>
 pub fn ends_moment(moment: Moment) -> bool
     ensures { result ≡ ends_moment moment }
 {
-    match moment {
-        Moment::Date
-        | Moment::Space
-        | Moment::Time { .. }
-        | Moment::Fraction { .. }
-        | Moment::Whole => true,
-        _ => false,
-    }
+    matches!(
+        moment,
+        Moment::Date | Moment::Space | Moment::Time { .. } | Moment::Fraction { .. } | Moment::Whole
+    )
 }

@@ -1,12 +1,10 @@
 //! The effect of each character of a document, after those before it.
-ghost use Rattle.format_toml_errors.specs.Steps.{after_item, after_member, after_step, back_to};
-ghost use Rattle.format_toml_errors.specs.Steps.{behind_step, bracket_step, comment_step, in_line};
-ghost use Rattle.format_toml_errors.specs.Steps.{is_bare, item_step, letter_of, line_step};
-ghost use Rattle.format_toml_errors.specs.Steps.{long_step, name_or_space, name_step, next_step};
-ghost use Rattle.format_toml_errors.specs.Steps.{number_step, plain_step, quotes_step, rest_of};
-ghost use Rattle.format_toml_errors.specs.Steps.{scalar_step, sign_step, text_step, value_step};
-ghost use Rattle.format_toml_errors.specs.Steps.{word_step};
-ghost use Rattle.std.specs.Prelude.{◌≡◌};
+ghost use Rattle.format_toml_errors.specs.Steps.{after_step, back_to, behind_step, comment_step};
+ghost use Rattle.format_toml_errors.specs.Steps.{in_line, is_bare, letter_of, long_step, name_step};
+ghost use Rattle.format_toml_errors.specs.Steps.{next_step, plain_step, rest_of, sign_step};
+ghost use Rattle.format_toml_errors.specs.Steps.{value_step};
+ghost use Rattle.format_toml_errors.specs.declared.modes.Mode.TheVariants as modes;
+ghost use Rattle.std.specs.Prelude.{◌≡◌, None};
 
 use crate::figures::{Figure, Whole, ends_figure, figure_step};
 use crate::modes::{Bracket, Gap, Letters, Mark, Mode, Owner, Role, Step};
@@ -75,7 +73,7 @@ fn in_line(gap: Gap, c: char) -> Step
 
 /// Returns the effect of a character where a line may begin.
 fn line_step(c: char) -> Step
-    ensures { result ≡ line_step c }
+    ensures { result ≡ next_step modes.Line None c }
 {
     match in_line(Gap::Line, c) {
         Step::Invalid if c == '[' => Step::Goes(Mode::Header),
@@ -94,17 +92,6 @@ fn comment_step(gap: Gap, c: char) -> Step
         Step::Goes(Mode::Comment(gap))
     } else {
         Step::Invalid
-    }
-}
-
-/// Returns the effect of whitespace in this mode, or of a character of a name.
-fn name_or_space(mode: Mode, owner: Owner, c: char) -> Step
-    ensures { result ≡ name_or_space mode owner c }
-{
-    if is_blank(c) {
-        Step::Goes(mode)
-    } else {
-        name_step(owner, c)
     }
 }
 
@@ -172,38 +159,12 @@ fn value_step(c: char) -> Step
 
 /// Returns the effect of a character where an element of an array or its end is expected.
 fn item_step(c: char) -> Step
-    ensures { result ≡ item_step c }
+    ensures { result ≡ next_step modes.Item None c }
 {
     match in_line(Gap::Item, c) {
         Step::Invalid if c == ']' => Step::Closes,
         Step::Invalid => value_step(c),
         step => step,
-    }
-}
-
-/// Returns the effect of a character after an element of an array.
-fn after_item(c: char) -> Step
-    ensures { result ≡ after_item c }
-{
-    if c == ',' {
-        Step::Goes(Mode::Item)
-    } else if c == ']' {
-        Step::Closes
-    } else {
-        in_line(Gap::After, c)
-    }
-}
-
-/// Returns the effect of a character after a value of an inline table.
-fn after_member(c: char) -> Step
-    ensures { result ≡ after_member c }
-{
-    if c == ',' {
-        Step::Goes(Mode::Name(Owner::Member))
-    } else if c == '}' {
-        Step::Closes
-    } else {
-        Step::Invalid
     }
 }
 
@@ -216,19 +177,12 @@ fn after_step(held: Option<Bracket>, c: char) -> Step
     }
     match held {
         None => in_line(Gap::Line, c),
-        Some(Bracket::Array) => after_item(c),
-        Some(Bracket::Table) => after_member(c),
-    }
-}
-
-/// Returns the effect of the character after two quotation marks that a value begins with.
-fn quotes_step(mark: Mark, held: Option<Bracket>, c: char) -> Step
-    ensures { result ≡ quotes_step mark held c }
-{
-    if c == mark_of(mark) {
-        Step::Goes(Mode::Long(mark, 0))
-    } else {
-        after_step(held, c)
+        Some(Bracket::Array) if c == ',' => Step::Goes(Mode::Item),
+        Some(Bracket::Array) if c == ']' => Step::Closes,
+        Some(Bracket::Array) => in_line(Gap::After, c),
+        Some(Bracket::Table) if c == ',' => Step::Goes(Mode::Name(Owner::Member)),
+        Some(Bracket::Table) if c == '}' => Step::Closes,
+        Some(Bracket::Table) => Step::Invalid,
     }
 }
 
@@ -277,17 +231,6 @@ fn rest_of(letters: Letters) -> Mode
     }
 }
 
-/// Returns the effect of a character of a word.
-fn word_step(letters: Letters, c: char) -> Step
-    ensures { result ≡ word_step letters c }
-{
-    if c == letter_of(letters) {
-        Step::Goes(rest_of(letters))
-    } else {
-        Step::Invalid
-    }
-}
-
 /// Returns the effect of the character after a sign.
 fn sign_step(negative: bool, c: char) -> Step
     ensures { result ≡ sign_step negative c }
@@ -311,61 +254,12 @@ fn sign_step(negative: bool, c: char) -> Step
 
 /// Returns the effect of a character of a number, a date or a time, or after one.
 fn number_step(figure: Figure, held: Option<Bracket>, c: char) -> Step
-    ensures { result ≡ number_step figure held c }
+    ensures { result ≡ next_step (modes.Number figure) held c }
 {
     match figure_step(figure, c) {
         Some(next) => Step::Goes(Mode::Number(next)),
         None if ends_figure(figure) => after_step(held, c),
         None => Step::Invalid,
-    }
-}
-
-/// Returns the effect of a character in a value.
-fn scalar_step(mode: Mode, held: Option<Bracket>, c: char) -> Step
-    ensures { result ≡ scalar_step mode held c }
-{
-    match mode {
-        Mode::Quote(mark) => quote_step(mark, c),
-        Mode::Quotes(mark) => quotes_step(mark, held, c),
-        Mode::Long(mark, quotes) => long_step(mark, quotes, held, c),
-        Mode::LongReturn(mark) if c == '\n' => Step::Goes(Mode::Long(mark, 0)),
-        Mode::LongReturn(_) => Step::Invalid,
-        Mode::LongEscape(escape) => long_escape_step(escape, c),
-        Mode::LongBlank => blank_or(Step::Invalid, c),
-        Mode::Word(letters) => word_step(letters, c),
-        Mode::Sign(negative) => sign_step(negative, c),
-        Mode::Number(figure) => number_step(figure, held, c),
-        _ => Step::Invalid,
-    }
-}
-
-/// Returns the effect of a character in a key or a string on one line.
-fn text_step(mode: Mode, held: Option<Bracket>, c: char) -> Step
-    ensures { result ≡ text_step mode held c }
-{
-    match mode {
-        Mode::Bare(owner) if is_bare(c) => Step::Goes(Mode::Bare(owner)),
-        Mode::Bare(owner) => behind_step(owner, c),
-        Mode::Behind(owner) => behind_step(owner, c),
-        Mode::Basic(role) => basic_step(role, c),
-        Mode::Escaped(role, escape) => escaped_step(role, escape, c),
-        Mode::Literal(role) => literal_step(role, c),
-        other => scalar_step(other, held, c),
-    }
-}
-
-/// Returns the effect of a character after the bracket of a header, or where an inline table may
-/// end.
-fn bracket_step(mode: Mode, c: char) -> Step
-    ensures { result ≡ bracket_step mode c }
-{
-    match mode {
-        Mode::Header if c == '[' => Step::Goes(Mode::Name(Owner::Headers)),
-        Mode::Header => name_or_space(Mode::Name(Owner::Header), Owner::Header, c),
-        Mode::Closing if c == ']' => Step::Goes(Mode::After),
-        Mode::FirstName if c == '}' => Step::Closes,
-        Mode::FirstName => name_or_space(Mode::FirstName, Owner::Member, c),
-        _ => Step::Invalid,
     }
 }
 
@@ -378,13 +272,33 @@ pub fn next_step(mode: Mode, held: Option<Bracket>, c: char) -> Step
         Mode::Line => line_step(c),
         Mode::Comment(gap) => comment_step(gap, c),
         Mode::Return(gap) if c == '\n' => Step::Goes(back_to(gap)),
-        Mode::Return(_) => Step::Invalid,
-        Mode::Header | Mode::Closing | Mode::FirstName => bracket_step(mode, c),
-        Mode::Name(owner) => name_or_space(mode, owner, c),
-        Mode::Value if is_blank(c) => Step::Goes(Mode::Value),
+        Mode::Header if c == '[' => Step::Goes(Mode::Name(Owner::Headers)),
+        Mode::Header if is_blank(c) => Step::Goes(Mode::Name(Owner::Header)),
+        Mode::Header => name_step(Owner::Header, c),
+        Mode::Closing if c == ']' => Step::Goes(Mode::After),
+        Mode::FirstName if c == '}' => Step::Closes,
+        Mode::FirstName | Mode::Name(_) | Mode::Value if is_blank(c) => Step::Goes(mode),
+        Mode::FirstName => name_step(Owner::Member, c),
+        Mode::Name(owner) => name_step(owner, c),
         Mode::Value => value_step(c),
         Mode::Item => item_step(c),
         Mode::After => after_step(held, c),
-        other => text_step(other, held, c),
+        Mode::Bare(owner) if is_bare(c) => Step::Goes(Mode::Bare(owner)),
+        Mode::Bare(owner) => behind_step(owner, c),
+        Mode::Behind(owner) => behind_step(owner, c),
+        Mode::Basic(role) => basic_step(role, c),
+        Mode::Escaped(role, escape) => escaped_step(role, escape, c),
+        Mode::Literal(role) => literal_step(role, c),
+        Mode::Quote(mark) => quote_step(mark, c),
+        Mode::Quotes(mark) if c == mark_of(mark) => Step::Goes(Mode::Long(mark, 0)),
+        Mode::Quotes(_) => after_step(held, c),
+        Mode::Long(mark, quotes) => long_step(mark, quotes, held, c),
+        Mode::LongReturn(mark) if c == '\n' => Step::Goes(Mode::Long(mark, 0)),
+        Mode::LongEscape(escape) => long_escape_step(escape, c),
+        Mode::LongBlank => blank_or(Step::Invalid, c),
+        Mode::Word(letters) if c == letter_of(letters) => Step::Goes(rest_of(letters)),
+        Mode::Sign(negative) => sign_step(negative, c),
+        Mode::Number(figure) => number_step(figure, held, c),
+        Mode::Return(_) | Mode::Closing | Mode::LongReturn(_) | Mode::Word(_) => Step::Invalid,
     }
 }

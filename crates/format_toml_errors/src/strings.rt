@@ -1,8 +1,9 @@
 //! The effect of each character of a string.
 ghost use Rattle.format_toml_errors.specs.Steps.{basic_step, blank_or, content_step, end_of};
-ghost use Rattle.format_toml_errors.specs.Steps.{escaped_step, is_blank, is_shown, literal_step};
-ghost use Rattle.format_toml_errors.specs.Steps.{long_escape_step, mark_of, quote_step};
-ghost use Rattle.std.specs.Prelude.{◌≡◌};
+ghost use Rattle.format_toml_errors.specs.Steps.{is_blank, is_shown, literal_step};
+ghost use Rattle.format_toml_errors.specs.Steps.{long_escape_step, mark_of, next_step, quote_step};
+ghost use Rattle.format_toml_errors.specs.declared.modes.Mode.TheVariants as modes;
+ghost use Rattle.std.specs.Prelude.{◌≡◌, None};
 
 use crate::escapes::{Escape, Escaped, escape_step};
 use crate::modes::{Mark, Mode, Role, Step};
@@ -71,7 +72,7 @@ pub fn literal_step(role: Role, c: char) -> Step
 
 /// Returns the effect of a character of an escape of a basic string.
 pub fn escaped_step(role: Role, escape: Escape, c: char) -> Step
-    ensures { result ≡ escaped_step role escape c }
+    ensures { result ≡ next_step (modes.Escaped role escape) None c }
 {
     match escape_step(escape, c) {
         Escaped::Invalid => Step::Invalid,

@@ -1,7 +1,7 @@
 //! The walk over the characters of a text.
 ghost use Rattle.format_toml_errors.specs.Expected.{wanted};
 ghost use Rattle.format_toml_errors.specs.Stop.{IsStopIn, ends_line};
-ghost use Rattle.format_toml_errors.specs.Unclosed.{continues, is_in_string, opened, start_after};
+ghost use Rattle.format_toml_errors.specs.Unclosed.{is_in_string, opened, start_after};
 ghost use Rattle.format_toml_errors.specs.Unclosed.{text_of, unclosed_in};
 ghost use Rattle.std.specs.Prelude.{◌≡◌, ◌∷◌, [], IfOk, MatchOption, true, false};
 ghost use Rattle.std.specs.Str.{chars};
@@ -67,21 +67,15 @@ fn is_in_string(mode: Mode) -> bool
     }
 }
 
-/// Returns whether the next character does not begin a string in this mode.
-fn continues(mode: Mode) -> bool
-    ensures { result ≡ continues mode }
-{
-    match mode {
-        Mode::Quotes(_) => true,
-        other => is_in_string(other),
-    }
-}
-
 /// Returns the text from the start of the last string on, if the next character is that of `here`.
 fn start_after<'i>(mode: Mode, start: &'i str, here: &'i str) -> &'i str
     ensures { chars result.now ≡ start_after mode (chars start.now) (chars here.now) }
 {
-    if continues(mode) { start } else { here }
+    match mode {
+        Mode::Quotes(_) => start,
+        other if is_in_string(other) => start,
+        _ => here,
+    }
 }
 
 /// Returns the text from the start of the innermost string, array or inline table that is not
