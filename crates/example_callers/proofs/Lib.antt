@@ -1,6 +1,7 @@
 pub mod FoldLemmas
 pub mod ItemLemmas
 pub mod ListLemmas
+pub mod LongerLemmas
 pub mod MarkLemmas
 mod MovedRuns
 pub mod PlaceLemmas

@@ -16,7 +16,7 @@ use Rattle.winnow.specs.Grammar.Outputs.{IsAlike, token_alike}
 use Rattle.winnow.specs.Grammar.Same.{Same}
 use Rattle.winnow.specs.Grammar.Till.{Till, UpTo}
 use Rattle.winnow.specs.Integer.{unsigned_value}
-use Rattle.winnow.specs.Integer.Grammar.{integer_says}
+use Rattle.winnow.specs.IntegerGrammar.{integer_says}
 use Rattle.winnow.specs.Range.{bounds_of, from_to}
 use Rattle.winnow.specs.Text.{text_reading}
 

@@ -2,6 +2,7 @@
 pub mod FirstLine
 pub mod Items
 pub mod Lexed
+pub mod Longer
 pub mod Marks
 pub mod Numerals
 pub mod Places

@@ -2,8 +2,8 @@
 use Rattle.std.specs.Prelude.{◌^◌, ℕ, ℤ, FitsSigned}
 use Rattle.std.specs.Int.{w16}
 use Rattle.winnow.specs.Grammar.{Grammar}
-use Rattle.winnow.specs.Numeral.Grammar.Inversion.{Written}
-use Rattle.winnow.specs.Numeral.Grammar.Signed.{SignedWritten}
+use Rattle.winnow.specs.Numeral.Written.{Written}
+use Rattle.winnow.specs.Numeral.Signed.{SignedWritten}
 
 -- what `{}` writes of a number below 2 ^ 16, and no digit after it, but after that of 0
 abbrev pub IsPortNumber : Grammar ℕ ℕ

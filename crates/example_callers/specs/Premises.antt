@@ -14,7 +14,7 @@ use Rattle.winnow.specs.Grammar.Lengths.{Inside, Sized, Times}
 use Rattle.winnow.specs.Grammar.Meaning.{Meaning}
 use Rattle.winnow.specs.Grammar.Till.{UpTo}
 use Rattle.winnow.specs.Integer.{unsigned_value}
-use Rattle.winnow.specs.Integer.Grammar.{Integer}
+use Rattle.winnow.specs.IntegerGrammar.{Integer}
 use Rattle.winnow.specs.Range.{from_to}
 use Rattle.winnow.specs.Text.{text_reading}
 

@@ -13,9 +13,6 @@ pub fn read_identifier<'i>(input: &mut &'i [u8]) -> Result<&'i [u8], ErrMode<Emp
     ensures { IfOk result (λ name. input.old.now ≡ name.now ++ input.new.now) }
 {
     let first = one_of((b'a'..=b'z', b'A'..=b'Z', b'_'));
-    let later = take_while(
-        Range::from(0..),
-        (b'a'..=b'z', b'A'..=b'Z', b'0'..=b'9', b'_'),
-    );
+    let later = take_while(0.., (b'a'..=b'z', b'A'..=b'Z', b'0'..=b'9', b'_'));
     (first, later).take().parse_next(input)
 }

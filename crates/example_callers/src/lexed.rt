@@ -9,7 +9,7 @@ ghost use Rattle.winnow.specs.TokenSlice.{tokens_of};
 
 use winnow::Parser;
 use winnow::error::{EmptyError, HasKind};
-use winnow::stream::{ContainsToken, Range, TokenSlice};
+use winnow::stream::{ContainsToken, TokenSlice};
 use winnow::token::{one_of, take_while};
 
 /// A token of a sum.
@@ -75,5 +75,5 @@ pub fn signed_numbers<'t>(
     ensures spared { IsSpared ⟦<EmptyError as HasKind>⟧.kind
         (counted_input (tokens_of input.old)) result }
 {
-    (one_of(Signs), take_while(Range::from(1..), Numbers)).read(input)
+    (one_of(Signs), take_while(1.., Numbers)).read(input)
 }

@@ -9,6 +9,7 @@ pub mod functions;
 pub mod identifiers;
 pub mod items;
 pub mod lexed;
+pub mod longer;
 pub mod looks;
 pub mod marks;
 pub mod numbers;

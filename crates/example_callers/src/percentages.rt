@@ -16,9 +16,7 @@ where
     I::Slice: ParseSlice<O>,
     E: ParserError<I>,
 {
-    take_while(Range::from(1..=3), '0'..='9')
-        .parse_to()
-        .parse_next(input)
+    take_while(1..=3, '0'..='9').parse_to().parse_next(input)
 }
 
 /// Reads a percentage: it is at most 100.

@@ -10,7 +10,6 @@ use std::alloc::Allocator;
 use winnow::Parser;
 use winnow::combinator::{repeat, repeat_till};
 use winnow::error::{EmptyError, HasKind};
-use winnow::stream::Range;
 use winnow::token::impls::Any;
 
 /// The byte to begin with.
@@ -43,9 +42,7 @@ pub fn greatest_byte<'i, A: Allocator + Copy>(
     ensures { Reads bytes_reading ⟦<EmptyError as HasKind>⟧.kind Greatest
         (bytes_input input.old.now) result (bytes_input input.new.now) }
 {
-    repeat(alloc, Range::from(0..), Any)
-        .fold(least, greater)
-        .read(input)
+    repeat(alloc, 0.., Any).fold(least, greater).read(input)
 }
 
 /// The code to begin with.
@@ -78,7 +75,7 @@ pub fn greatest_code<'i, A: Allocator + Copy>(
     ensures { Reads text_reading ⟦<EmptyError as HasKind>⟧.kind Greatest
         (text_input input.old.now) result (text_input input.new.now) }
 {
-    repeat(alloc, Range::from(0..), Any)
+    repeat(alloc, 0.., Any)
         .fold(least_code, greater_code)
         .read(input)
 }
@@ -100,7 +97,7 @@ pub fn bytes_up_to_mark<'i, A: Allocator + Copy>(
     ensures { Reads bytes_reading ⟦<EmptyError as HasKind>⟧.kind (UpToMark (Byte 59))
         (bytes_input input.old.now) result (bytes_input input.new.now) }
 {
-    repeat_till(alloc, Range::from(0..), Any, b';').read(input)
+    repeat_till(alloc, 0.., Any, b';').read(input)
 }
 
 /// Parses the characters up to the first semicolon, and the semicolon, by `repeat_till`. Backtracks
@@ -120,5 +117,5 @@ pub fn characters_up_to_mark<'i, A: Allocator + Copy>(
     ensures { Reads text_reading ⟦<EmptyError as HasKind>⟧.kind (UpToMark (Character 59))
         (text_input input.old.now) result (text_input input.new.now) }
 {
-    repeat_till(alloc, Range::from(0..), Any, ';').read(input)
+    repeat_till(alloc, 0.., Any, ';').read(input)
 }

@@ -2,7 +2,7 @@ use Rattle.std.specs.Int.{w16}
 use Rattle.std.specs.Prelude.{FitsSigned}
 use Rattle.std.proofs.Common.{arith}
 use Rattle.winnow.specs.Exact.Same.{reads_as}
-use Rattle.winnow.specs.Numeral.Grammar.Signed.{fits_short, same_signed}
+use Rattle.winnow.specs.Numeral.Signed.{fits_short, same_signed}
 use Rattle.example_callers.proofs.numerals.offset.Goals as goal
 
 pub returns : goal.returns

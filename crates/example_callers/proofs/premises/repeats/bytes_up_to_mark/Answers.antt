@@ -10,5 +10,4 @@ returns g c =
     (reads_by c.read.ensures.reads (rw (
       c.repeat_till.ensures.occurrences,
       c.repeat_till.ensures.terminator,
-      c.from.ensures,
     )))

@@ -6,7 +6,7 @@ use Rattle.example_callers.proofs.premises.repeats.greatest_byte.Goals as goal
 
 pub returns : goal.returns
 returns g c =
-    let range = c.fold.ensures.occurrences ∙ c.repeat.ensures.occurrences ∙ c.from.ensures in
+    let range = c.fold.ensures.occurrences ∙ c.repeat.ensures.occurrences in
     reads_as (greatest_is _ _ _ _ _ (ap bounds_of range)
     (λ r. (λ m. search rules, λ m. search rules))
     (λ r o q. (λ m. search rules, λ m. search rules))) c.read.ensures.reads
