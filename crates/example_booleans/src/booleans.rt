@@ -2,7 +2,7 @@
 //! contract.
 #![tactic(auto, using(streams::specs::Ends::ends_follow))]
 
-ghost use Rattle.winnow_core.specs.Claim.{no_claim, nothing_claimed};
+ghost use Rattle.parser_definitions.specs.Claim.{no_claim, nothing_claimed};
 ghost use Rattle.std.specs.Prelude.{⊤, ◌≡◌, ◌⊎◌, IfErr, pos};
 ghost use Rattle.streams.specs.Bytes.{bytes_input, bytes_reading};
 ghost use Rattle.streams.specs.Input.{IsEndOf};
@@ -14,7 +14,7 @@ ghost use Rattle.winnow_expression_trees.specs.Items.Premises.{gives_ends};
 ghost use Rattle.example_booleans.specs.Booleans.{ByteItem, LacksOperand, infix_at, logic_value};
 ghost use Rattle.example_booleans.specs.Booleans.{not_value, operand_at, postfix_at, prefix_at};
 ghost use Rattle.example_booleans.specs.Booleans.Laws.{byte_ends};
-ghost use Rattle.winnow_core.specs.Covers.{AnyOutcome, no_terms};
+ghost use Rattle.winnow_core.specs.Covers.{AnyOutcome, any_covered, no_terms};
 
 use std::alloc::Allocator;
 use stream_errors::empty::EmptyError;
@@ -136,7 +136,7 @@ impl<'i> Parser<&'i [u8], bool, EmptyError> for Part {
 
     ghost leaves_ends = { λ form s i a t j r. byte_ends operand_at i j a r.0 };
 
-    ghost covers = { λ never at. absurd never };
+    ghost covers = { λ at. any_covered (λ s i a t j r. byte_ends operand_at i j a r.0) };
 
     ghost lawful = { λ never. absurd never };
 
@@ -172,7 +172,7 @@ impl<'i> Parser<&'i [u8], Prefix<Not>, EmptyError> for Part {
 
     ghost leaves_ends = { λ form s i a t j r. byte_ends prefix_at i j a r.0 };
 
-    ghost covers = { λ never at. absurd never };
+    ghost covers = { λ at. any_covered (λ s i a t j r. byte_ends prefix_at i j a r.0) };
 
     ghost lawful = { λ never. absurd never };
 
@@ -208,7 +208,7 @@ impl<'i> Parser<&'i [u8], Postfix<Not>, EmptyError> for Part {
 
     ghost leaves_ends = { λ form s i a t j r. byte_ends postfix_at i j a r.0 };
 
-    ghost covers = { λ never at. absurd never };
+    ghost covers = { λ at. any_covered (λ s i a t j r. byte_ends postfix_at i j a r.0) };
 
     ghost lawful = { λ never. absurd never };
 
@@ -244,7 +244,7 @@ impl<'i> Parser<&'i [u8], Infix<Logic>, EmptyError> for Part {
 
     ghost leaves_ends = { λ form s i a t j r. byte_ends infix_at i j a r.0 };
 
-    ghost covers = { λ never at. absurd never };
+    ghost covers = { λ at. any_covered (λ s i a t j r. byte_ends infix_at i j a r.0) };
 
     ghost lawful = { λ never. absurd never };
 

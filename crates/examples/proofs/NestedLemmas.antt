@@ -10,10 +10,9 @@ use Rattle.winnow.specs.Read.{reads_former, reads_other}
 use Rattle.winnow.specs.Grammar.{Grammar, Made, NoMatch, Three}
 use Rattle.winnow.specs.Grammar.Inversion.{Byte, byte_stands}
 use Rattle.winnow.specs.Grammar.Meaning.{Meaning}
-use Rattle.winnow.specs.Numeral.Grammar.{Decimal}
+use Rattle.winnow.specs.NumberGrammar.{Decimal, IsDecimalOf}
 use Rattle.winnow.specs.Texts.{NotFirst}
-use Rattle.winnow.specs.Decimal.{IsDecimalOf}
-use Rattle.winnow.specs.Digits.Inversion.{same_characters}
+use Rattle.winnow.specs.Digits.{same_characters}
 use Rattle.examples.specs.declared.nested.Tree.{Tree}
 use Rattle.examples.specs.Nested.Trees.{AreElements, IsBranchOf, IsLeaf, IsTree, Opens}
 

@@ -11,7 +11,7 @@ ghost use Rattle.winnow.specs.Told.{IsTextOf};
 use winnow::Parser;
 use winnow::combinator::preceded;
 use winnow::error::{EmptyError, ErrMode, ParseFault, ParserError};
-use winnow::stream::{AsChar, Compare, ContainsToken, Range, StreamIsPartial};
+use winnow::stream::{AsChar, Compare, ContainsToken, StreamIsPartial};
 use winnow::token::take_while;
 
 /// Hexadecimal digits.
@@ -36,9 +36,9 @@ where
     ensures { ReadsAll E.inner_kind (ColorRead I.reading I.seen_as
         (Literally I.reading I.spells (λ s _. s))) (I.view input).left.tokens result }
 {
-    let red = take_while(Range::from(2), HexDigits);
-    let green = take_while(Range::from(2), HexDigits);
-    let blue = take_while(Range::from(2), HexDigits);
+    let red = take_while(2, HexDigits);
+    let green = take_while(2, HexDigits);
+    let blue = take_while(2, HexDigits);
     let mut color = preceded(b'#', (red, green, blue));
     Parser::<I, _, E>::read_all(&mut color, input)
 }

@@ -23,7 +23,6 @@ use winnow::Parser;
 use winnow::combinator::{alt, repeat, repeat_into_slice, terminated};
 use winnow::error::{EmptyError, ErrMode, HasKind, ParseFault, ParserError};
 use winnow::exact::Rule;
-use winnow::stream::Range;
 
 /// Parses a line, a `y` or an `n` followed by a line feed, and returns the letter.
 ///
@@ -76,7 +75,7 @@ pub fn read_lines<'i, A: Allocator + Copy>(
     ensures text { ReadsText bytes_reading ⟦<ErrMode<EmptyError> as HasKind>⟧.kind LetterLines
         (NotFirst IsLetter) (bytes_input input.old.now) result (bytes_input input.new.now) }
 {
-    repeat(alloc, Range::from(0..), Line.by(read_line)).read(input)
+    repeat(alloc, 0.., Line.by(read_line)).read(input)
 }
 
 /// Parses as many consecutive lines as match, stores their letters in the first elements of
@@ -129,5 +128,5 @@ pub fn parse_lines<'i, A: Allocator + Copy>(
         → ReadsBack ⟦<ErrMode<EmptyError> as ParserError<&'i [u8]>>⟧.inner_kind SameLetters
         letters result }
 {
-    repeat(alloc, Range::from(0..), Line.by(read_line)).read_all(input)
+    repeat(alloc, 0.., Line.by(read_line)).read_all(input)
 }

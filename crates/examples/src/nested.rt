@@ -19,7 +19,7 @@ use winnow::combinator::impls::Separated;
 use winnow::combinator::{delimited, separated};
 use winnow::error::{EmptyError, ErrMode, HasKind, ParserError};
 use winnow::exact::{By, Rule};
-use winnow::stream::{Range, Stream};
+use winnow::stream::Stream;
 
 /// A number, or trees in brackets.
 #[derive(Drop)]
@@ -74,7 +74,7 @@ where
 {
     let elements: Separated<By<R, F>, B, I, O, u8, Vec<O, A>, E, A> = separated(
         alloc,
-        Range::from(0..),
+        0..,
         rule.by(element),
         comma,
     );

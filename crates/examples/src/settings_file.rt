@@ -11,7 +11,7 @@ use std::alloc::Allocator;
 use winnow::Parser;
 use winnow::combinator::{repeat, separated_pair, terminated};
 use winnow::error::{EmptyError, ErrMode, ParseFault, ParserError};
-use winnow::stream::{Compare, ContainsToken, Range, StreamIsPartial};
+use winnow::stream::{Compare, ContainsToken, StreamIsPartial};
 use winnow::token::take_while;
 
 /// The bytes of keys.
@@ -52,10 +52,10 @@ where
     ensures { ReadsAll E.inner_kind (SettingsRead I.reading I.seen_as
         (Literally I.reading I.spells (λ s _. s))) (I.view input).left.tokens result }
 {
-    let key = take_while(Range::from(1..), KeyBytes);
-    let value = take_while(Range::from(0..), ValueBytes);
+    let key = take_while(1.., KeyBytes);
+    let value = take_while(0.., ValueBytes);
     let line = terminated(separated_pair(key, b'=', value), b'\n');
-    let mut lines = repeat(alloc, Range::from(0..), line);
+    let mut lines = repeat(alloc, 0.., line);
     Parser::<I, _, E>::read_all(&mut lines, input)
 }
 

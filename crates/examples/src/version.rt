@@ -12,9 +12,7 @@ use winnow::Parser;
 use winnow::ascii::impls::DecUint;
 use winnow::combinator::{opt, preceded, separated, terminated};
 use winnow::error::{EmptyError, ErrMode, ParseFault, ParserError};
-use winnow::stream::{
-    AsBStr, AsChar, Compare, ContainsToken, Range, SlicesAsBytes, StreamIsPartial,
-};
+use winnow::stream::{AsBStr, AsChar, Compare, ContainsToken, SlicesAsBytes, StreamIsPartial};
 use winnow::token::take_while;
 
 /// The bytes of words.
@@ -50,8 +48,8 @@ where
         terminated(DecUint, b'.'),
         DecUint,
     );
-    let word = take_while(Range::from(1..), WordBytes);
-    let words = opt(preceded(b'-', separated(alloc, Range::from(1..), word, b'.')));
+    let word = take_while(1.., WordBytes);
+    let words = opt(preceded(b'-', separated(alloc, 1.., word, b'.')));
     let mut version = (numbers, words);
     Parser::<I, _, E>::read_all(&mut version, input)
 }

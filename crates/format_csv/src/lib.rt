@@ -32,7 +32,6 @@ use stream_errors::fault::ParseFault;
 use stream_errors::has_kind::HasKind;
 use stream_errors::mode::ErrMode;
 use stream_errors::parser_error::ParserError;
-use stream_sets::range::Range;
 use winnow_core::parser::Parser;
 use winnow_grammar::rule::Rule;
 use winnow_repeat::combinator::repeat;
@@ -141,5 +140,5 @@ pub fn parse_document<'i, A: Allocator + Copy>(
         (AreRecords end) input.now result }
 {
     let record = Line(alloc, end).by(|input: &mut &[u8]| read_record(alloc, end, input));
-    repeat(alloc, Range::from(0..), record).read_all(input)
+    repeat(alloc, 0.., record).read_all(input)
 }

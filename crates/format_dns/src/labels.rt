@@ -1,7 +1,7 @@
 //! Sequences of labels.
 ghost use Rattle.format_dns.specs.Names.{IsLabel, IsString};
 ghost use Rattle.std.specs.Prelude.{◌≡◌, Some};
-ghost use Rattle.winnow_core.specs.Claim.{CanRead};
+ghost use Rattle.parser_definitions.specs.Claim.{CanRead};
 ghost use Rattle.stream_sets.specs.Range.{from_to};
 ghost use Rattle.streams.specs.Bytes.{bytes_input, bytes_reading};
 ghost use Rattle.winnow_core.specs.Exact.{Reads};
@@ -14,7 +14,6 @@ use stream_errors::has_kind::HasKind;
 use stream_errors::mode::ErrMode;
 use stream_errors::parser_error::ParserError;
 use stream_sets::numbers::ToUsize;
-use stream_sets::range::Range;
 use streams::stream::StreamIsPartial;
 use winnow_binary::binary::length_take;
 use winnow_core::parser::Parser;
@@ -42,7 +41,7 @@ where
         (Many (Sized N.number (Counted I.reading) (P.claim (P.state count)).grammar)
         (from_to 0 (Some most)))) (I.view input.old) result (I.view input.new) }
 {
-    repeat(alloc, Range::from(..=most), length_take(count)).read(input)
+    repeat(alloc, ..=most, length_take(count)).read(input)
 }
 
 /// Parses as many labels as there are, up to `most`, each after its length from 1 to 63.

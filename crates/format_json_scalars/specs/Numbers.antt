@@ -9,7 +9,6 @@ use Rattle.format_parts.specs.Words.{Char, latter, pair}
 use Rattle.format_json_scalars.specs.declared.number.LeadingDigits.{LeadingDigits}
 use Rattle.format_json_texts.specs.Number as texts
 use Rattle.format_json_texts.specs.Number.{IsLeading}
-use Rattle.winnow_core.specs.Exact.Adapters.{taken_takes}
 use Rattle.winnow_token.specs.OneOf.Laws.{token_of_takes}
 use Rattle.grammars.specs.Grammar.{Both, Class, Either, Grammar, InClass, IsUnique, Optional, Taken}
 use Rattle.grammars.specs.Grammar.{TakesTokens, TokenOf}
@@ -19,7 +18,8 @@ use Rattle.grammars.specs.Grammar.Tuples.{Four}
 use Rattle.streams.specs.Reading.{Reading}
 use Rattle.grammars.specs.Grammar.Sequences.{four_take, four_unique}
 use Rattle.grammars.specs.Grammar.Unique.{both_take, both_unique, either_takes, either_unique}
-use Rattle.grammars.specs.Grammar.Unique.{optional_unique, taken_unique, token_of_unique}
+use Rattle.grammars.specs.Grammar.Unique.{optional_unique, taken_takes, taken_unique}
+use Rattle.grammars.specs.Grammar.Unique.{token_of_unique}
 
 pub integer_unique : IsUnique texts.Integer
 integer_unique =

@@ -1,7 +1,7 @@
 //! Rules made of parts: they are specified by the grammars of the parts, for any parsers. They are
 //! out of memory only if a part is.
 ghost use Rattle.format_parts.specs.Words.{latter, pair};
-ghost use Rattle.winnow_core.specs.Claim.{CanRead};
+ghost use Rattle.parser_definitions.specs.Claim.{CanRead};
 ghost use Rattle.winnow_core.specs.Exact.{IsSpared, Reads};
 ghost use Rattle.grammars.specs.Grammar.{Both, Either};
 

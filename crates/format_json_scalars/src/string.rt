@@ -15,7 +15,6 @@ use stream_errors::empty::EmptyError;
 use stream_errors::has_kind::HasKind;
 use stream_errors::mode::ErrMode;
 use stream_errors::parser_error::ParserError;
-use stream_sets::range::Range;
 use winnow_core::parser::Parser;
 use winnow_grammar::rule::Rule;
 use winnow_token::token::take_while;
@@ -26,7 +25,7 @@ fn read_plain<'i>(input: &mut &'i str) -> Result<&'i str, ErrMode<EmptyError>>
         (text_input input.old.now) result (text_input input.new.now) }
 {
     let plain = (' '..='!', '#'..='[', ']'..='\u{10FFFF}');
-    take_while(Range::from(0..), plain).read(input)
+    take_while(0.., plain).read(input)
 }
 
 /// The name of what [`read_characters`] reads.

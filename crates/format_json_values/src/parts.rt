@@ -5,7 +5,7 @@ ghost use Rattle.format_parts.specs.Words.{former, latter};
 ghost use Rattle.format_json_values.specs.Pairs.{Pair};
 ghost use Rattle.std.specs.Fn.{CalledAtMut};
 ghost use Rattle.std.specs.Prelude.{◌≡◌, false};
-ghost use Rattle.winnow_core.specs.Claim.{CanRead};
+ghost use Rattle.parser_definitions.specs.Claim.{CanRead};
 ghost use Rattle.winnow_core.specs.Exact.{IsSpared, Reads};
 ghost use Rattle.winnow_core.specs.Exact.Whole.{ReadsAll};
 ghost use Rattle.grammars.specs.Grammar.{Both, NoMatch};

@@ -1,12 +1,21 @@
 -- Runs of items between marks: where they are out of memory, an item was read.
-use Rattle.std.specs.Prelude.{◌≡◌, false, ℕ, Option, None, Result, Ok, Err}
+use Rattle.std.specs.Prelude.{◌≡◌, ℕ, Option, None, Result, Ok, Err}
 use Rattle.std.specs.declared.vec.Vec.{Vec}
-use Rattle.std.proofs.Common.{refl, sym, subst, inl, inr, ◌∙◌}
+use Rattle.std.proofs.Common.{refl, subst, inl, inr}
 use Rattle.format_parts.specs.Marks.{ItemsRan}
 use Rattle.format_parts.specs.Words.{latter}
 use Rattle.grammars.specs.Grammar.{Both, Grammar, NoMatch}
+use Rattle.parser_definitions.specs.Folding.{gathering}
+use Rattle.parser_definitions.specs.Left.{End, Left, left_of}
+use Rattle.parser_definitions.specs.Outcome.{Does, Outcome, Setting, asks, backs, cuts, misused_by}
+use Rattle.parser_definitions.specs.Outcome.{took, wants}
+use Rattle.parser_definitions.specs.Projects.{Agreement, Complete, Projects, complete}
+use Rattle.parser_definitions.specs.Separated.{FirstElement, SeparatedDoes, first_next}
+use Rattle.parser_definitions.specs.Sequence.{DelimitedDoes, with_third3}
+use Rattle.parser_definitions.specs.Then.{ComesOf}
+use Rattle.parser_definitions.specs.Then.Steps.{takes, where_took}
+use Rattle.parser_definitions.specs.Threes.{one_of, pair_of, with_one, with_pair}
 use Rattle.stream_errors.specs.Form.{Answer, ErrorForm, answer_by, assert_kind, modal, plain}
-use Rattle.stream_errors.specs.Form.Inversion.{ok_is_err, same_kind}
 use Rattle.stream_sets.specs.Accumulator.{Accumulator, list_kept}
 use Rattle.stream_sets.specs.Range.{bounds_of}
 use Rattle.stream_sets.specs.declared.range.Range.{Range}
@@ -14,18 +23,11 @@ use Rattle.streams.specs.Input.{Input}
 use Rattle.streams.specs.Kind.{Kind, memory}
 use Rattle.streams.specs.Reading.{Reading}
 use Rattle.winnow_comb.specs.Delimited.{DelimitedRuns}
-use Rattle.winnow_core.specs.Exact.{Backtracks, IsExact, IsSpared, Reads}
-use Rattle.winnow_core.specs.Exact.Failed.{not_memory}
-use Rattle.winnow_core.specs.Runs.{Runs}
+use Rattle.winnow_core.specs.Covers.{Covers}
+use Rattle.winnow_core.specs.Exact.{IsSpared, Reads}
+use Rattle.winnow_core.specs.Runs.{Meaning, Runs}
 use Rattle.winnow_core.specs.Sequence.{SequenceRuns2}
-use Rattle.winnow_separated.specs.Separated.{ElementsRun, RangedElements}
-
--- after the first part there is no match of the second, if there is none of both
-none_after : {T O1 O2 : Type 0} (g1 : Grammar T O1) (g2 : Grammar T O2) (i a : Input T) (o1 : O1)
-    → g1 i.left.tokens o1 a.left.tokens → NoMatch (Both latter g1 g2) i.left.tokens
-    → NoMatch g2 a.left.tokens
-unfolding Both
-none_after g1 g2 i a o1 there none o rest x = none o rest (o1, o, a.left.tokens, there, x, refl)
+use Rattle.winnow_separated.specs.Separated.{RangedElements}
 
 -- a call from equal states
 pub items_ran : {S M W T O N D A : Type 0} {form : ErrorForm} {item : Runs S T O}
@@ -41,65 +43,92 @@ items_ran {S} {M} {W} {form = form} {item} {mark} {gap} {i = i} {answer} {j} u t
     (RangedElements item (SequenceRuns2 mark gap) list_kept (assert_kind form)) mark z i answer t j
     in record { after = t; ran = subst P same ran }
 
--- the error of a parser that was made wrongly is not out of memory
-pub never_asserted : (form : ErrorForm) → assert_kind form ≡ memory → ⊥
-never_asserted plain e = absurd (cc)
-never_asserted modal e = absurd (cc)
+-- a parser that was made wrongly is not out of memory
+never_misused : {L O : Type 0} (form : ErrorForm) (left : L)
+    → ◌≡◌ {A = Outcome L O} wants (misused_by form left) → ⊥
+never_misused plain left e = absurd (cc)
+never_misused modal left e = absurd (cc)
 
-module _ {S1 S2 S3 W T O1 O2 O3 D C : Type 0} {run1 : Runs S1 T O1} {run2 : Runs S2 T O2}
-    {run3 : Runs S3 T O3} {g1 : Grammar T O1} {g2 : Grammar T O2} {g : Grammar T C}
-    {s : S1 × (S2 × W × Range) × S3} (between : Runs W T D) (into : Accumulator C O2)
-    (asserted : Kind) (never : asserted ≡ memory → ⊥)
-    (starts : (n : Option ℕ) → into.start_grows n → ⊥) (c1 : IsExact s.0 run1 g1)
-    (f1 : Backtracks s.0 run1) (c2 : IsExact s.1.0 run2 g2) (f2 : Backtracks s.1.0 run2)
-    (c : IsExact s.1 (RangedElements run2 between into asserted) g) (f3 : Backtracks s.2 run3)
-  where
-    -- the items alone are out of memory only after the first
-    item_there : (a : Input T) (k : Kind) (u : S2 × W × Range) (j : Input T) → k ≡ memory
-        → a.status.cut ≡ false → RangedElements run2 between into asserted s.1 a (Err k) u j
-        → NoMatch g2 a.left.tokens → ⊥
-    item_there a k u j m is (inl (most, full, below, e, same, all), range) none =
-        never (sym (same_kind e) ∙ m)
-    item_there a k u j m is (inr (inl (bounded, grows, e, same, all)), range) none = starts _ grows
-    item_there a k u j m is (inr (inr (empty, bounded, new, ran)), range) none = first ran
-      where
-        first : ElementsRun run2 between into asserted (bounds_of s.1.2) empty (s.1.0, s.1.1) a
-            (Err k) (u.0, u.1) j → ⊥
-        first (inl (full, e, same, all)) = ok_is_err e refl
-        first (inr (inl (x, below, least, r, kept, e, back))) = ok_is_err e refl
-        first (inr (inr (inl (l, below, r, kept, few, e)))) =
-            not_memory (sym (f2.fails a l u.0 j is r) ∙ (sym (same_kind e) ∙ m))
-        first (inr (inr (inr (inl (o, below, r, kept, grows, e))))) =
-            none o j.left.tokens (c2.stands a o u.0 j is r)
-        first (inr (inr (inr (inr (o, v, n, one, below, r, took, links))))) =
-            none o n.left.tokens (c2.stands a o v n is r)
+module _ {S1 S2 S3 W T O1 O2 O3 D C : Type 0} {b1 b2 b3 m1 m2 m3 : Type 0} {does1 : Does S1 T O1}
+    {does2 : Does S2 T O2} {does3 : Does S3 T O3} {at : Complete} {g1 : Grammar T O1}
+    {g2 : Grammar T O2} {g3 : Grammar T O3} (between : Does W T D) (into : Accumulator C O2)
+    (s : S1 × (S2 × W × Range) × S3) (starts : (n : Option ℕ) → into.start_grows n → ⊥)
+    (p1 : Projects b1 m1 does1 at s.0 g1) (n1 : m1) (p2 : Projects b2 m2 does2 at s.1.0 g2)
+    (n2 : m2) (p3 : Projects b3 m3 does3 at s.2 g3) (n3 : m3) where
+  -- the items alone are out of memory only after the first
+  first_wants : (w : Left T) → NoMatch g2 w.tokens → (c : C) (x : Outcome (End S2 T) O2)
+      → Agreement b2 m2 s.1.0 g2 w.tokens x
+      → ComesOf (first_next one_of with_one pair_of with_pair (gathering into) does2 between
+      (bounds_of s.1.2) c) (complete at) s.1 w x wants → ⊥
+  first_wants w none c (took o end) (x, kept) came = none o end.1.tokens x
+  first_wants w none c (backs end) a (inl (many, e)) = absurd (cc)
+  first_wants w none c (backs end) a (inr (few, e)) = absurd (cc)
+  first_wants w none c (cuts end) a e = absurd (cc)
+  first_wants w none c (asks need end) a e = absurd (cc)
+  first_wants w none c wants not e = not n2
 
-    not_wanting : (i : Input T) (t : S1 × (S2 × W × Range) × S3) (j : Input T)
-        → i.status.cut ≡ false → NoMatch (Both latter g1 g2) i.left.tokens
-        → DelimitedRuns run1 (RangedElements run2 between into asserted) run3 s i (Err memory) t j
-        → ⊥
-    not_wanting i t j is none (inl (o1, o2, o3, a, b, r1, r2, r3, e)) = ok_is_err e refl
-    not_wanting i t j is none (inr (inl (k, r1, x, y, e))) =
-        not_memory (sym (f1.fails i k t.0 j is r1) ∙ sym (same_kind e))
-    not_wanting i t j is none (inr (inr (inl (o1, k, a, r1, r2, x, e)))) =
-        item_there a k t.1 j (sym (same_kind e)) (c1.kept i (Ok o1) t.0 a is r1).1 r2
-        (none_after g1 g2 i a o1 (c1.stands i o1 t.0 a is r1) none)
-    not_wanting i t j is none (inr (inr (inr (o1, o2, k, a, b, r1, r2, r3, e)))) =
-        let on = (c1.kept i (Ok o1) t.0 a is r1).1 in
-        let still = (c.kept a (Ok o2) t.1 b on r2).1 in
-        not_memory (sym (f3.fails b k t.2 j still r3) ∙ sym (same_kind e))
+  items_want : (w : Left T) → NoMatch g2 w.tokens
+      → SeparatedDoes into does2 between (complete at) s.1 w wants → ⊥
+  items_want w none (inl (empty, e)) = never_misused at.form (s.1, w) e
+  items_want w none (inr (fits, inr (grows, e))) = starts _ grows
+  items_want w none (inr (fits, inl (c, u, (new, same), inl (full, e)))) = absurd (cc)
+  items_want w none (inr (fits, inl (c, u, (new, same), inr (below, a)))) =
+      let (x, d, came) = subst (λ v. FirstElement one_of with_one pair_of with_pair
+      (gathering into) does2 between (bounds_of s.1.2) c (complete at) v w wants) same a in
+      first_wants w none c x (p2.reads.agrees w x d).is came
 
-    -- so a call is not out of memory where there is none
-    pub items_spared : {L E : Type 0} {reading : Reading T L} (kind : E → Kind) {h : Grammar T C}
-        (i : Input T) (result : Result C E) (t : S1 × (S2 × W × Range) × S3) (j : Input T)
-        → DelimitedRuns run1 (RangedElements run2 between into asserted) run3 s i
-        (answer_by kind result) t j → Reads reading kind h i result j
-        → NoMatch (Both latter g1 g2) i.left.tokens → IsSpared kind i result
-    items_spared kind i (Ok o) t j ran reads none is = tt
-    items_spared kind i (Err e) t j ran reads none is = elim (reads.none is) [
-      | inl m ↦
-          let P : Kind → Type 0 = λ k. DelimitedRuns run1
-          (RangedElements run2 between into asserted) run3 s i (Err k) t j in
-          absurd (not_wanting i t j is none (subst P m ran))
+  third_wants : (t : S1 × (S2 × W × Range) × S3) (w : Left T) (o : C) (x : Outcome (End S3 T) O3)
+      → does3 (complete at) s.2 w x
+      → ComesOf (where_took with_third3 (λ o3. takes with_third3 o)) (complete at) t w x wants → ⊥
+  third_wants t w o (took o3 end) d e = absurd (cc)
+  third_wants t w o (backs end) d e = absurd (cc)
+  third_wants t w o (cuts end) d e = absurd (cc)
+  third_wants t w o (asks need end) d e = absurd (cc)
+  third_wants t w o wants d e = (p3.reads.agrees w wants d).is n3
+
+  -- so these between marks are not, where there is none
+  marked_wants : (w : Left T) → NoMatch (Both latter g1 g2) w.tokens
+      → DelimitedDoes does1 (SeparatedDoes into does2 between) does3 (complete at) s w wants → ⊥
+  unfolding Both
+  marked_wants w none (took o end, d, (took o2 left, d2, (x, d3, came))) =
+      third_wants (end.0, left.0, s.2) left.1 o2 x d3 came
+  marked_wants w none (took o end, d, (wants, d2, e)) =
+      items_want end.1 (λ u rest x.
+      none u rest (o, u, end.1.tokens, (p1.reads.agrees w (took o end) d).is.0, x, refl)) d2
+  marked_wants w none (took o end, d, (backs left, d2, e)) = absurd (cc)
+  marked_wants w none (took o end, d, (cuts left, d2, e)) = absurd (cc)
+  marked_wants w none (took o end, d, (asks need left, d2, e)) = absurd (cc)
+  marked_wants w none (backs end, d, e) = absurd (cc)
+  marked_wants w none (cuts end, d, e) = absurd (cc)
+  marked_wants w none (asks need end, d, e) = absurd (cc)
+  marked_wants w none (wants, d, e) = (p1.reads.agrees w wants d).is n1
+
+-- so a call is not out of memory where there is none
+pub items_spared : {S1 S2 S3 W T L O1 O2 O3 D C E : Type 0} {b1 b2 b3 m1 m2 m3 : Type 0}
+    {does1 : Does S1 T O1} {does2 : Does S2 T O2} {does3 : Does S3 T O3} {g1 : Grammar T O1}
+    {g2 : Grammar T O2} {g3 : Grammar T O3} {h : Grammar T C} {reading : Reading T L}
+    (between : Does W T D) (into : Accumulator C O2) → ((n : Option ℕ) → into.start_grows n → ⊥)
+    → (s : S1 × (S2 × W × Range) × S3) → ((at : Complete) → Projects b1 m1 does1 at s.0 g1) → m1
+    → ((at : Complete) → Projects b2 m2 does2 at s.1.0 g2) → m2
+    → ((at : Complete) → Projects b3 m3 does3 at s.2 g3) → m3
+    → (meaning : Meaning (S1 × (S2 × W × Range) × S3) T C)
+    → ((at : Setting) → Covers at (meaning at.form)
+    (DelimitedDoes does1 (SeparatedDoes into does2 between) does3))
+    → (form : ErrorForm) (kind : E → Kind) (i : Input T) (result : Result C E)
+    (t : S1 × (S2 × W × Range) × S3) (j : Input T) → meaning form s i (answer_by kind result) t j
+    → Reads reading kind h i result j → NoMatch (Both latter g1 g2) i.left.tokens
+    → IsSpared kind i result
+items_spared between into starts s p1 n1 p2 n2 p3 n3 meaning covers form kind i (Ok o) t j ran
+    reads none is = tt
+items_spared between into starts s p1 n1 p2 n2 p3 n3 meaning covers form kind i (Err e) t j ran
+    reads none is = elim (reads.none is) [
+      | inl want ↦
+          let at : Complete = record { form = form; possible = i.left.possible } in
+          let wanted = subst (λ k. meaning form s i (Err k) t j) want ran in
+          let (did, on) = (covers (complete at)).covers s i (Err memory) t j
+          (record { more = is; possible = refl }) wanted in
+          absurd (marked_wants between into s starts (p1 at) n1 (p2 at) n2 (p3 at) n3
+          (left_of i) none
+          did)
       | inr (back, nothing) ↦ back
     ]

@@ -6,14 +6,13 @@ ghost use Rattle.std.specs.Fn.{CalledAtMut};
 ghost use Rattle.stream_errors.specs.Form.{answer_by};
 ghost use Rattle.winnow_comb.specs.Delimited.{DelimitedRuns};
 ghost use Rattle.winnow_comb.specs.Terminated.{TerminatedRuns};
-ghost use Rattle.winnow_core.specs.Claim.{CanRead};
+ghost use Rattle.parser_definitions.specs.Claim.{CanRead};
 ghost use Rattle.winnow_core.specs.Exact.{IsSpared, Reads};
 ghost use Rattle.grammars.specs.Grammar.{Both, NoMatch, Three};
 ghost use Rattle.winnow_grammar.specs.Rule.{ByRuns, CallsRead, CallsSpared};
 
 use std::alloc::Allocator;
 use stream_errors::parser_error::ParserError;
-use stream_sets::range::Range;
 use streams::stream::Stream;
 use winnow_comb::combinator::{delimited, terminated};
 use winnow_core::parser::Parser;
@@ -116,7 +115,7 @@ where
 {
     let items: Separated<P, (B, G), I, O, (M, W), Vec<O, A>, E, A> = separated(
         alloc,
-        Range::from(0..),
+        0..,
         item,
         (marks.comma, marks.gap),
     );

@@ -1,7 +1,7 @@
 //! Parsers in sequence. The contracts are in terms of the grammars of the parts, for any parsers
 //! and over any stream.
 ghost use Rattle.format_parts.specs.Words.{pair};
-ghost use Rattle.winnow_core.specs.Claim.{CanRead};
+ghost use Rattle.parser_definitions.specs.Claim.{CanRead};
 ghost use Rattle.winnow_core.specs.Exact.{IsSpared, Reads};
 ghost use Rattle.winnow_core.specs.Sequence.{SequenceRuns2, SequenceRuns4};
 ghost use Rattle.grammars.specs.Grammar.{Both};

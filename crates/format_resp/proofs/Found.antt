@@ -1,5 +1,5 @@
 -- Matches of the parsers of a token, of a line, and of tokens before a line ending: each is an
--- outcome of its definition. No outcome is a cut.
+-- outcome of its definition.
 use Rattle.std.specs.Prelude.{◌≡◌, Bool, ℕ, List, [], ◌∷◌, ◌++◌, Option}
 use Rattle.std.specs.Borrow.{Bor}
 use Rattle.std.proofs.Common.{ap, inl, inr, refl, subst, sym}
@@ -68,11 +68,15 @@ module _ {T L : Type 0} (reading : Reading T L) (spells : Bor (List ℕ) → Lis
       → Finds (CrlfDoes reading spells) at s Ending w
   unfolding Literally
   ending_found at s w = record {
-    found = λ o rest (front, slice, spelled, shown, e, same).
+    found = λ o rest (front, slice, (text, here, is), shown, e, same).
         let l = passing reading front rest w in (
           l,
           refl,
-          inl (o, l, (front, slice, spelled, shown, passes reading front rest w e, same), refl),
+          (
+            text,
+            here,
+            inl (o, l, (front, slice, is, shown, passes reading front rest w e, same), refl),
+          ),
         );
   }
 

@@ -9,9 +9,9 @@ use Rattle.std.proofs.Common.{refl, sym, ap, subst, inl, inr, ◌∙◌, arith}
 use Rattle.std.proofs.lemmas.Bool.{ne_eqb}
 use Rattle.std.proofs.lemmas.Bool.Decides.{eqb_tells}
 use Rattle.stream_sets.specs.AsChar.{IsDecDigit}
-use Rattle.winnow_numbers.specs.Decimal.Inversion.{decimal_digits}
+use Rattle.winnow_numbers.specs.Decimal.{decimal_digits}
 use Rattle.winnow_grammar.specs.InTurn.{Splits}
-use Rattle.winnow_numbers.specs.Numeral.Grammar.Signed.{fits_short}
+use Rattle.winnow_numbers.specs.Numeral.Signed.{fits_short}
 use Rattle.format_resp.proofs.LineEnds.{IsPlain, ended_splits, all_append}
 use Rattle.format_resp.specs.Numbers.{AreDigits, DigitsText, IsBigNumber, IsDecimal, IsDouble}
 use Rattle.format_resp.specs.Numbers.{IsExponent, IsTail, ShortInteger, ShortSize, SignedText}

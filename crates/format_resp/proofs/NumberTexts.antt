@@ -10,8 +10,7 @@ use Rattle.std.proofs.lemmas.Bool.{cases_lt, eq-eqb, eqb-true, ne_eqb}
 use Rattle.std.proofs.lemmas.Bool.Decides.{nat_tests}
 use Rattle.std.proofs.lemmas.Int.Digits.{digits_value_more}
 use Rattle.std.proofs.lemmas.Str.Parse.{digits_value-take-le}
-use Rattle.winnow_numbers.specs.Digits.{value_in}
-use Rattle.winnow_numbers.specs.Digits.Inversion.{value_is}
+use Rattle.parser_definitions.specs.Digits.{value_in, value_is}
 use Rattle.format_resp.specs.Numbers.{AreDigits, DigitsText, IsBigNumber, IsDecimal, IsExponent}
 use Rattle.format_resp.specs.Numbers.{IsTail, RestAfterDigits, unsigned}
 use Rattle.std.specs.Borrow.{Bor}

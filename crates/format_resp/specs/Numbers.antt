@@ -7,7 +7,7 @@ use Rattle.std.specs.Fmt.{decimal, signed_decimal}
 use Rattle.std.specs.Int.{w64}
 use Rattle.std.specs.List.{AllByRecursion}
 use Rattle.stream_sets.specs.AsChar.{IsDecDigit}
-use Rattle.winnow_numbers.specs.Digits.{value_in}
+use Rattle.parser_definitions.specs.Digits.{value_in}
 use Rattle.grammars.specs.Texts.{NotFirst}
 
 -- one digit or more

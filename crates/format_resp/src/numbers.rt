@@ -6,7 +6,7 @@ ghost use Rattle.std.specs.Prelude.{◌≡◌, ◌≤◌, ◌<◌, ◌^◌, ℕ,
 ghost use Rattle.std.specs.Prelude.{MatchBool, MatchOption};
 ghost use Rattle.stream_sets.specs.AsChar.{IsDecDigit};
 ghost use Rattle.streams.specs.Bytes.{bytes_input, bytes_reading};
-ghost use Rattle.winnow_numbers.specs.Digits.{value_in};
+ghost use Rattle.parser_definitions.specs.Digits.{value_in};
 ghost use Rattle.winnow_core.specs.Exact.{IsSpared, Reads};
 ghost use Rattle.grammars.specs.Grammar.{Class};
 ghost use Rattle.grammars.specs.Texts.{NotFirst};

@@ -3,7 +3,7 @@ ghost use Rattle.std.specs.Prelude.{◌≡◌, ◌∷◌, [], None};
 ghost use Rattle.stream_errors.specs.Form.{modal};
 ghost use Rattle.stream_sets.specs.Range.{from_to};
 ghost use Rattle.streams.specs.Stream.{AnswersSeen};
-ghost use Rattle.winnow_core.specs.Literal.Laws.{SpellsByText};
+ghost use Rattle.parser_definitions.specs.LineEnding.{SpellsByText};
 ghost use Rattle.stream_sets.specs.Once.{SetIsFunction, TokenEqInjective};
 ghost use Rattle.grammars.specs.Grammar.{Both, Counted, Longest, SpelledBy, Token};
 ghost use Rattle.stream_sets.specs.Once.{Others};
@@ -13,7 +13,6 @@ ghost use Rattle.grammars.specs.Grammar.Searches.{LiterallyBytes};
 use stream_errors::parser_error::ParserError;
 use stream_searches::compare::Compare;
 use stream_sets::as_char::AsChar;
-use stream_sets::range::Range;
 use stream_sets::sets::ContainsToken;
 use streams::stream::StreamIsPartial;
 use winnow_ascii::ascii::impls::Crlf;
@@ -69,7 +68,7 @@ fn line_up_to<
         (LiterallyBytes I.reading I.spells (13 ∷ 10 ∷ []))) (I.view input.old) result
         (I.view input.new) }
 {
-    terminated(take_till(Range::from(0..), set), Crlf).read_cut(input)
+    terminated(take_till(0.., set), Crlf).read_cut(input)
 }
 
 /// That many tokens, and a carriage return and a line feed after them.

@@ -27,7 +27,7 @@ use Rattle.stream_sets.specs.Range.{Bounds}
 use Rattle.streams.specs.Text.{text_reading}
 use Rattle.winnow_ascii.specs.Class.{class_once}
 use Rattle.winnow_token.specs.OneOf.Laws.{token_of_takes}
-use Rattle.winnow_token.specs.TakeWhile.Exact.{longest_unique}
+use Rattle.winnow_token.specs.TakeWhile.{longest_unique}
 
 -- characters of a set, as they are in the text
 pub members_unique : (set : Characters) (bounds : Bounds)

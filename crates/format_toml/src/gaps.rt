@@ -11,7 +11,6 @@ use std::alloc::Allocator;
 use stream_errors::empty::EmptyError;
 use stream_errors::has_kind::HasKind;
 use stream_errors::mode::ErrMode;
-use stream_sets::range::Range;
 use winnow_comb::combinator::{alt, preceded};
 use winnow_grammar::rule::Rule;
 use winnow_token::token::{one_of, take_while};
@@ -40,7 +39,7 @@ pub fn read_gap<'i, A: Allocator + Copy>(
     ensures { Reads text_reading ⟦<ErrMode<EmptyError> as HasKind>⟧.kind Gap
         (text_input input.old.now) result (text_input input.new.now) }
 {
-    let comment = preceded('#', take_while(Range::from(0..), Characters::Comment));
+    let comment = preceded('#', take_while(0.., Characters::Comment));
     let newline = alt(('\n', preceded('\r', '\n')));
     read_gap_of(alloc, one_of(Characters::White), comment, newline, input)
 }

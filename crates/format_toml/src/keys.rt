@@ -16,7 +16,6 @@ use std::alloc::Allocator;
 use stream_errors::empty::EmptyError;
 use stream_errors::has_kind::HasKind;
 use stream_errors::mode::ErrMode;
-use stream_sets::range::Range;
 use winnow_ascii::ascii::impls::Space0;
 use winnow_core::parser::Parser;
 use winnow_grammar::rule::Rule;
@@ -31,7 +30,7 @@ fn read_bare<'i, A: Allocator + Copy>(
     ensures { Reads text_reading ⟦<ErrMode<EmptyError> as HasKind>⟧.kind (AnyCharacters Bare 1)
         (text_input input.old.now) result (text_input input.new.now) }
 {
-    repeat(alloc, Range::from(1..), one_of(Characters::Bare)).read(input)
+    repeat(alloc, 1.., one_of(Characters::Bare)).read(input)
 }
 
 /// The name of what [`read_name`] reads.

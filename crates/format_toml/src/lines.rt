@@ -24,7 +24,6 @@ use stream_errors::fault::ParseFault;
 use stream_errors::has_kind::HasKind;
 use stream_errors::mode::ErrMode;
 use stream_errors::parser_error::ParserError;
-use stream_sets::range::Range;
 use winnow_ascii::ascii::impls::Space0;
 use winnow_comb::combinator::{alt, preceded};
 use winnow_core::parser::Parser;
@@ -176,7 +175,7 @@ pub(crate) fn read_line<'i, A: Allocator + Copy>(
         (text_input input.old.now) result (text_input input.new.now) }
 {
     let item = TableOrEntry(alloc, level).by(|input: &mut &str| read_item(alloc, level, input));
-    let comment = preceded('#', take_while(Range::from(0..), Characters::Comment));
+    let comment = preceded('#', take_while(0.., Characters::Comment));
     read_line_of(item, comment, Space0, input)
 }
 

@@ -3,14 +3,13 @@
 ghost use Rattle.format_parts.specs.Words.{latter};
 ghost use Rattle.format_toml.specs.LongGrammars.{LongOf, QuoteOf};
 ghost use Rattle.std.specs.Prelude.{⊤, None};
-ghost use Rattle.winnow_core.specs.Claim.{CanRead};
+ghost use Rattle.parser_definitions.specs.Claim.{CanRead};
 ghost use Rattle.winnow_core.specs.Exact.{Reads};
 ghost use Rattle.grammars.specs.Grammar.{Both, Either, Gathered, Many};
 ghost use Rattle.stream_sets.specs.Range.{from_to};
 
 use std::alloc::Allocator;
 use stream_errors::parser_error::ParserError;
-use stream_sets::range::Range;
 use streams::stream::Stream;
 use winnow_comb::combinator::{alt, delimited, not, opt, peek, preceded, terminated};
 use winnow_core::parser::Parser;
@@ -109,7 +108,7 @@ where
         (from_to 0 None))))))
         (I.view input.old) result (I.view input.new) }
 {
-    let blanks = repeat(alloc, Range::from(0..), blank);
+    let blanks = repeat(alloc, 0.., blank);
     preceded(backslash, preceded(white, preceded(newline, blanks))).read(input)
 }
 
@@ -143,7 +142,7 @@ where
         (I.view input.old) result (I.view input.new) }
 {
     let three = (quote, quote, quote);
-    let parts = repeat(alloc, Range::from(0..), part);
+    let parts = repeat(alloc, 0.., part);
     let body = preceded(opt(newline), terminated(parts, skips));
     delimited(three, body, three).read(input)
 }

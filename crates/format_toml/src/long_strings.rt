@@ -25,7 +25,6 @@ use std::alloc::Allocator;
 use stream_errors::empty::EmptyError;
 use stream_errors::has_kind::HasKind;
 use stream_errors::mode::ErrMode;
-use stream_sets::range::Range;
 use winnow_ascii::ascii::impls::Space0;
 use winnow_comb::combinator::impls::Empty;
 use winnow_comb::combinator::{alt, preceded};
@@ -202,7 +201,7 @@ fn read_skips<'i, A: Allocator + Copy>(
         (text_input input.old.now) result (text_input input.new.now) }
 {
     let line = EscapedLines(alloc).by(|input: &mut &str| read_escaped_line(alloc, input));
-    repeat(alloc, Range::from(0..), line).read(input)
+    repeat(alloc, 0.., line).read(input)
 }
 
 /// The name of what [`read_basic_part`] reads.

@@ -4,7 +4,7 @@ ghost use Rattle.format_toml.specs.Grammars.{Listing};
 ghost use Rattle.format_parts.specs.Words.{former, latter, pair};
 ghost use Rattle.std.specs.Fn.{CalledAtMut};
 ghost use Rattle.std.specs.Prelude.{◌≡◌, ⊤, false, None};
-ghost use Rattle.winnow_core.specs.Claim.{CanRead};
+ghost use Rattle.parser_definitions.specs.Claim.{CanRead};
 ghost use Rattle.stream_sets.specs.Range.{from_to};
 ghost use Rattle.winnow_core.specs.Exact.{Reads};
 ghost use Rattle.winnow_core.specs.Exact.Whole.{ReadsAll};
@@ -16,7 +16,6 @@ use format_parts::marks::Marks;
 use std::alloc::Allocator;
 use stream_errors::fault::ParseFault;
 use stream_errors::parser_error::ParserError;
-use stream_sets::range::Range;
 use streams::stream::{Stream, StreamIsPartial};
 use winnow_comb::combinator::{alt, delimited, opt, preceded, separated_pair, terminated};
 use winnow_core::parser::Parser;
@@ -54,13 +53,7 @@ where
         (Both pair (B.claim (B.state mark)).grammar (G.claim (G.state gap)).grammar)
         (from_to 1 None))) (I.view input.old) result (I.view input.new) }
 {
-    separated(
-        alloc,
-        Range::from(1..),
-        terminated(element, gap),
-        (mark, gap),
-    )
-    .read(input)
+    separated(alloc, 1.., terminated(element, gap), (mark, gap)).read(input)
 }
 
 /// Parses the input between two others, or nothing between them.
@@ -123,7 +116,7 @@ where
 {
     let elements: Separated<P, (B, G), I, O, (M, W), Vec<O, A>, E, A> = separated(
         alloc,
-        Range::from(1..),
+        1..,
         element,
         (marks.comma, marks.gap),
     );
@@ -230,7 +223,7 @@ where
         (I.view input.old) result (I.view input.new) }
 {
     let part = alt((white, preceded(opt(comment), newline)));
-    repeat(alloc, Range::from(0..), part).read(input)
+    repeat(alloc, 0.., part).read(input)
 }
 
 /// Reads two with a third between them.
@@ -312,7 +305,7 @@ where
         (Parted (P.claim (P.state line)).grammar (R.claim (R.state newline)).grammar
         (from_to 1 None))) (I.view input).left.tokens result }
 {
-    separated(alloc, Range::from(1..), line, newline).read_all(input)
+    separated(alloc, 1.., line, newline).read_all(input)
 }
 
 /// Reads one, and another after it or none, for all that they read.

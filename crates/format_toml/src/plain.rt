@@ -18,7 +18,6 @@ use stream_errors::empty::EmptyError;
 use stream_errors::has_kind::HasKind;
 use stream_errors::mode::ErrMode;
 use stream_errors::parser_error::ParserError;
-use stream_sets::range::Range;
 use winnow_token::token::take_while;
 
 /// Parses the longest run of characters of numbers, dates and times, at least one. A space is also
@@ -27,9 +26,9 @@ fn read_unquoted<'i>(input: &mut &'i str) -> Result<&'i str, ErrMode<EmptyError>
     ensures { Reads text_reading ⟦<ErrMode<EmptyError> as HasKind>⟧.kind Unquoteds
         (text_input input.old.now) result (text_input input.new.now) }
 {
-    let first = take_while(Range::from(1..), Characters::Unquoted);
-    let hour = take_while(Range::from(2), Characters::Digit);
-    let others = take_while(Range::from(0..), Characters::Unquoted);
+    let first = take_while(1.., Characters::Unquoted);
+    let hour = take_while(2, Characters::Digit);
+    let others = take_while(0.., Characters::Unquoted);
     read_both_taken(first, (' ', hour, ':', others), input)
 }
 

@@ -13,7 +13,6 @@ use std::alloc::Allocator;
 use stream_errors::empty::EmptyError;
 use stream_errors::has_kind::HasKind;
 use stream_errors::mode::ErrMode;
-use stream_sets::range::Range;
 use winnow_grammar::rule::Rule;
 use winnow_repeat::combinator::repeat;
 use winnow_token::token::one_of;
@@ -37,7 +36,7 @@ pub fn read_basic<'i, A: Allocator + Copy>(
     ensures { Reads text_reading ⟦<ErrMode<EmptyError> as HasKind>⟧.kind BasicString
         (text_input input.old.now) result (text_input input.new.now) }
 {
-    let characters = repeat(alloc, Range::from(0..), AnyCharacter.by(read_character));
+    let characters = repeat(alloc, 0.., AnyCharacter.by(read_character));
     read_between('"', characters, '"', input)
 }
 
@@ -49,6 +48,6 @@ pub fn read_literal<'i, A: Allocator + Copy>(
     ensures { Reads text_reading ⟦<ErrMode<EmptyError> as HasKind>⟧.kind LiteralString
         (text_input input.old.now) result (text_input input.new.now) }
 {
-    let characters = repeat(alloc, Range::from(0..), one_of(Characters::Literal));
+    let characters = repeat(alloc, 0.., one_of(Characters::Literal));
     read_between('\'', characters, '\'', input)
 }

@@ -12,7 +12,7 @@ pub use crate::ini::sections::{Section, document};
 use crate::ini::tables::{bytes_of_line, key_bytes, line_feed};
 use winnow::Parser;
 use winnow::error::{EmptyError, ParseFault};
-use winnow::stream::{ByteStream, Range};
+use winnow::stream::ByteStream;
 use winnow::token::take_while;
 
 /// Parses one line of a key, `=` and a value: one or more ASCII letters or digits, `=`, bytes other
@@ -36,10 +36,10 @@ pub fn pair(input: &[u8]) -> Result<(&[u8], &[u8]), ReadError>
     input.shows_bytes();
     let line_feed = line_feed();
     let mut line = (
-        take_while::<_, _, EmptyError>(Range::from(1..), key_bytes()),
+        take_while::<_, _, EmptyError, _>(1.., key_bytes()),
         b'=',
-        take_while(Range::from(0..), bytes_of_line(line_feed)),
-        take_while(Range::from(..=1), line_feed),
+        take_while(0.., bytes_of_line(line_feed)),
+        take_while(..=1, line_feed),
     );
     match line.parse(input) {
         Ok((key, _, value, _)) => Ok((key, value)),

@@ -8,11 +8,11 @@ use Rattle.winnow.specs.{Needed, EmptyError, ErrMode}
 use Rattle.winnow.specs.Form.{marked_kind}
 use Rattle.winnow.specs.Mode.{mode_kind}
 use Rattle.winnow.specs.Range.{from_to}
-use Rattle.winnow.specs.Numeral.Exact.{decimal_takes, decimal_unique}
+use Rattle.winnow.specs.Projects.Decimals.{decimal_takes, decimal_unique}
 use Rattle.winnow.specs.Grammar.{Either, Gathered, Grammar, IsUnique, Parted, TakesTokens, Three}
 use Rattle.winnow.specs.Grammar.Inversion.{Byte, byte_takes, byte_unique}
 use Rattle.winnow.specs.Grammar.Meaning.{Meaning, meaning_takes, meaning_unique}
-use Rattle.winnow.specs.Numeral.Grammar.{Decimal}
+use Rattle.winnow.specs.NumberGrammar.{Decimal}
 use Rattle.winnow.specs.Grammar.Sequences.{three_take, three_unique}
 use Rattle.winnow.specs.Grammar.Unique.{either_takes, either_unique, gathered_unique, parted_unique}
 use Rattle.examples.specs.declared.nested.Tree.{Tree}
@@ -58,11 +58,11 @@ Opens bytes = (rest : List ℕ) × (bytes ≡ 91 ∷ rest)
 module _ {A : Type 0} where
   pub leaf_unique : IsUnique (IsLeaf {A = A})
   leaf_unique = meaning_unique (λ n tree. tree ≡ trees.Leaf n)
-      (decimal_unique (λ b. b) (λ b. b) counted_reading (λ n. n) (2 ^ 32) (λ x y e. e))
+      (decimal_unique (λ n. n) (2 ^ 32) (λ b. b) (λ b. b) counted_reading (λ x y e. e))
 
   pub leaf_takes : TakesTokens (IsLeaf {A = A})
   leaf_takes = meaning_takes (λ n tree. tree ≡ trees.Leaf n)
-      (decimal_takes (λ b. b) (λ b. b) counted_reading (λ n. n) (2 ^ 32))
+      (decimal_takes (λ n. n) (2 ^ 32) (λ b. b) (λ b. b))
 
   elements_unique : (element : Grammar ℕ (Tree A)) → IsUnique element
       → IsUnique (Gathered (λ (list : Vec (Tree A) A) os. list.items ≡ os)

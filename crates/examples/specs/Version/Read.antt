@@ -3,7 +3,7 @@ use Rattle.std.specs.Prelude.{◌≡◌, ◌^◌, ℕ, None, Option}
 use Rattle.std.specs.declared.vec.Vec.{Vec}
 use Rattle.examples.specs.Version.Version.{InWord}
 use Rattle.winnow.specs.Grammar.{Both, Class, Gathered, Grammar, Optional, Parted, Three}
-use Rattle.winnow.specs.Numeral.Grammar.{Decimal}
+use Rattle.winnow.specs.NumberGrammar.{Decimal}
 use Rattle.winnow.specs.Range.{from_to}
 use Rattle.winnow.specs.Reading.{Reading}
 

@@ -1,12 +1,12 @@
 //! The parsers of numbers and operators.
-ghost use Rattle.winnow_core.specs.Claim.{no_claim, nothing_claimed};
+ghost use Rattle.parser_definitions.specs.Claim.{no_claim, nothing_claimed};
 ghost use Rattle.std.specs.Prelude.{⊤};
 ghost use Rattle.winnow_core.specs.Runs.{Keeps};
 ghost use Rattle.winnow_expression_trees.specs.Items.{ItemRuns};
 ghost use Rattle.format_calculator.specs.Calculator.{CharItem, NumberItem, mark_at, pair_at};
 ghost use Rattle.format_calculator.specs.Calculator.{sign_at};
 ghost use Rattle.format_calculator.specs.Calculator.Laws.{char_ends, number_ends};
-ghost use Rattle.winnow_core.specs.Covers.{AnyOutcome, no_terms};
+ghost use Rattle.winnow_core.specs.Covers.{AnyOutcome, any_covered, no_terms};
 
 use crate::calc::items::{read_mark, read_number, read_pair, read_sign};
 use crate::calc::operators::{Mark, Pair, Sign};
@@ -34,7 +34,7 @@ impl<'i> Parser<&'i str, i64, EmptyError> for Number {
 
     ghost leaves_ends = { λ form s i a t j r. number_ends i j a r.0 };
 
-    ghost covers = { λ never at. absurd never };
+    ghost covers = { λ at. any_covered (λ s i a t j r. number_ends i j a r.0) };
 
     ghost lawful = { λ never. absurd never };
 
@@ -67,7 +67,7 @@ impl<'i> Parser<&'i str, Prefix<Sign>, EmptyError> for BeforeIt {
 
     ghost leaves_ends = { λ form s i a t j r. char_ends sign_at i j a r.0 };
 
-    ghost covers = { λ never at. absurd never };
+    ghost covers = { λ at. any_covered (λ s i a t j r. char_ends sign_at i j a r.0) };
 
     ghost lawful = { λ never. absurd never };
 
@@ -100,7 +100,7 @@ impl<'i> Parser<&'i str, Postfix<Mark>, EmptyError> for BehindIt {
 
     ghost leaves_ends = { λ form s i a t j r. char_ends mark_at i j a r.0 };
 
-    ghost covers = { λ never at. absurd never };
+    ghost covers = { λ at. any_covered (λ s i a t j r. char_ends mark_at i j a r.0) };
 
     ghost lawful = { λ never. absurd never };
 
@@ -133,7 +133,7 @@ impl<'i> Parser<&'i str, Infix<Pair>, EmptyError> for BetweenThem {
 
     ghost leaves_ends = { λ form s i a t j r. char_ends pair_at i j a r.0 };
 
-    ghost covers = { λ never at. absurd never };
+    ghost covers = { λ at. any_covered (λ s i a t j r. char_ends pair_at i j a r.0) };
 
     ghost lawful = { λ never. absurd never };
 

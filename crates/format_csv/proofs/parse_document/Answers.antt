@@ -5,6 +5,5 @@ pub returns : goal.returns
 returns g c = reads_document c.args.end c.read_all.ensures.reads (rw (
   c.repeat.ensures.occurrences,
   c.repeat.ensures.parser,
-  c.from.ensures,
   c.by-record.ensures.rule,
 ))

@@ -2,6 +2,7 @@
 use Rattle.std.specs.Prelude.{◌↔◌, ℕ, List, Option, Some, None, Err}
 use Rattle.std.specs.Borrow.{Bor}
 use Rattle.std.proofs.Common.{refl, sym, subst, ◌∙◌, inl, inr}
+use Rattle.parser_definitions.specs.Digits.{value_in}
 use Rattle.format_http.specs.Bodies.Framing.{Answer, IsDeclaredLength, IsSameLength}
 use Rattle.format_http.specs.Bodies.Framing.{IsTextLength}
 use Rattle.format_http.specs.Bodies.Lengths.{HasLength}
@@ -9,7 +10,6 @@ use Rattle.format_http.specs.Bodies.Lists.{IsThe}
 use Rattle.format_http.specs.Bodies.Fields.{IsNumber}
 use Rattle.format_http.specs.Heads.Head.{Pair}
 use Rattle.format_http.specs.declared.bodies.framing.FramingError.TheVariants.{LengthIsNoNumber}
-use Rattle.winnow_numbers.specs.Digits.{value_in}
 
 -- The fields have these texts.
 abbrev pub Tell : List Pair → Option (Bor (List ℕ)) → Type 0

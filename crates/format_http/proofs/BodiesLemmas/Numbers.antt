@@ -7,8 +7,7 @@ use Rattle.std.proofs.Math.Seq.{take-length}
 use Rattle.std.proofs.lemmas.Bool.Decides.{nat_tests}
 use Rattle.std.proofs.lemmas.Int.Digits.{digits_value_more}
 use Rattle.std.proofs.lemmas.Str.Parse.{digits_value-take-le}
-use Rattle.winnow_numbers.specs.Digits.{value_in}
-use Rattle.winnow_numbers.specs.Digits.Inversion.{value_is}
+use Rattle.parser_definitions.specs.Digits.{value_in, value_is}
 
 -- a byte that is neither a digit nor a letter has the value 36
 pub most_value : (c : ℕ) → digit_value c ≤ 36

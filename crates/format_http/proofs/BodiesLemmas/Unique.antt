@@ -1,12 +1,12 @@
 -- A message has one body length.
 use Rattle.std.specs.Prelude.{◌≡◌, ℕ, List}
 use Rattle.std.proofs.Common.{sym, ap, subst, ◌∙◌, inl, inr}
+use Rattle.parser_definitions.specs.Digits.{value_in}
 use Rattle.format_http.specs.Bodies.Framing.{Answer, IsBodyLength, IsDeclaredLength}
 use Rattle.format_http.specs.Bodies.Framing.{IsNumbered, IsSameLength, Rule}
 use Rattle.format_http.specs.Bodies.Lengths.{AreOne}
 use Rattle.format_http.specs.Heads.Head.{Pair}
 use Rattle.format_http.specs.declared.bodies.framing.Message.{Message}
-use Rattle.winnow_numbers.specs.Digits.{value_in}
 
 -- two results by one rule are both by its first part, or both by its second
 one_rule : {P A B C D E : Type 0} → Rule P A B → Rule P C D → (A → C → E) → (B → D → E) → E

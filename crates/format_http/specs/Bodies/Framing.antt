@@ -1,11 +1,11 @@
 -- How long the body of a message is (RFC 9112, section 6.3), by the rules of the standard in order.
 use Rattle.std.specs.Prelude.{◌≡◌, ◌<◌, ◌≤◌, ◌⊎◌, ◌^◌, ℕ, List, Result, Ok, Err, codes}
+use Rattle.parser_definitions.specs.Digits.{value_in}
 use Rattle.format_http.specs.Bodies.Lengths.{AreOne, IsLength}
 use Rattle.format_http.specs.Bodies.Codings.{ChunkedIsFollowed, EndChunked, HaveInvalid}
 use Rattle.format_http.specs.Bodies.Fields.{HasOne, IsNumber, content_length}
 use Rattle.format_http.specs.Bodies.Fields.{transfer_encoding}
 use Rattle.format_http.specs.Heads.Head.{Pair}
-use Rattle.winnow_numbers.specs.Digits.{value_in}
 use Rattle.format_http.specs.declared.bodies.framing.BodyLength.{BodyLength}
 use Rattle.format_http.specs.declared.bodies.framing.BodyLength.TheVariants.{Chunked, Length}
 use Rattle.format_http.specs.declared.bodies.framing.BodyLength.TheVariants.{NoBody, Tunnel}

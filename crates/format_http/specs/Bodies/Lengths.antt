@@ -1,11 +1,11 @@
 -- The values of the Content-Length fields of a message (RFC 9112, section 6.3, and RFC 9110,
 -- section 8.6).
 use Rattle.std.specs.Prelude.{◌≡◌, ◌⊎◌, ℕ, List, [], ◌∷◌}
+use Rattle.parser_definitions.specs.Digits.{value_in}
 use Rattle.format_http.specs.Bodies.Lists.{HasElement, parts_of}
 use Rattle.format_http.specs.Bodies.Fields.{IsNumber, content_length}
 use Rattle.format_http.specs.Heads.Named.{IsNamed}
 use Rattle.format_http.specs.Heads.Head.{Pair}
-use Rattle.winnow_numbers.specs.Digits.{value_in}
 
 -- One of the elements of the Content-Length fields is this text. All fields of the name are one
 -- list. Empty elements count, so that those of `,4` are different: the value is 1*DIGIT, or one

@@ -4,7 +4,7 @@
 ghost use Rattle.std.specs.Char.{digit_value};
 ghost use Rattle.std.specs.Option.{SomeIff};
 ghost use Rattle.std.specs.Prelude.{◌≡◌, ◌^◌, ◌<◌, ◌≤◌};
-ghost use Rattle.winnow_numbers.specs.Digits.{value_in};
+ghost use Rattle.parser_definitions.specs.Digits.{value_in};
 
 /// Returns the value of a digit or a letter, from 0 for '0' to 35 for 'Z' and 'z'; 36 for any other
 /// byte.

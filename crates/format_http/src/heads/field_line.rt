@@ -15,7 +15,6 @@ use crate::heads::sets::{TokenBytes, ValueBytes, White};
 use stream_errors::empty::EmptyError;
 use stream_errors::has_kind::HasKind;
 use stream_errors::mode::ErrMode;
-use stream_sets::range::Range;
 use winnow_comb::combinator::{preceded, terminated};
 use winnow_core::parser::Parser;
 use winnow_token::token::take_while;
@@ -63,9 +62,8 @@ fn read_value<'i>(input: &mut &'i [u8]) -> Result<&'i [u8], ErrMode<EmptyError>>
     ensures spared { IsSpared ⟦<ErrMode<EmptyError> as HasKind>⟧.kind
         (bytes_input input.old.now) result }
 {
-    let any = Range::from(0..);
-    let white = take_while(any, White);
-    let text = take_while(any, ValueBytes);
+    let white = take_while(0.., White);
+    let text = take_while(0.., ValueBytes);
     match preceded(white, text).read(input) {
         Ok(text) => Ok(trimmed(text)),
         Err(error) => Err(error),
@@ -79,7 +77,7 @@ fn read_name<'i>(input: &mut &'i [u8]) -> Result<&'i [u8], ErrMode<EmptyError>>
     ensures spared { IsSpared ⟦<ErrMode<EmptyError> as HasKind>⟧.kind
         (bytes_input input.old.now) result }
 {
-    let name = take_while(Range::from(1..), TokenBytes);
+    let name = take_while(1.., TokenBytes);
     terminated(name, b':').read(input)
 }
 

@@ -17,7 +17,6 @@ use crate::heads::sets::{Digits, TokenBytes, Visible};
 use stream_errors::empty::EmptyError;
 use stream_errors::has_kind::HasKind;
 use stream_errors::mode::ErrMode;
-use stream_sets::range::Range;
 use winnow_comb::combinator::{delimited, separated_pair};
 use winnow_core::parser::Parser;
 use winnow_grammar::rule::Rule;
@@ -96,9 +95,8 @@ fn read_method_and_target<'i>(
     ensures spared { IsSpared ⟦<ErrMode<EmptyError> as HasKind>⟧.kind
         (bytes_input input.old.now) result }
 {
-    let some = Range::from(1..);
-    let method = take_while(some, TokenBytes);
-    let target = take_while(some, Visible);
+    let method = take_while(1.., TokenBytes);
+    let target = take_while(1.., Visible);
     separated_pair(method, b' ', target).read(input)
 }
 

@@ -17,7 +17,6 @@ use crate::heads::sets::ValueBytes;
 use stream_errors::empty::EmptyError;
 use stream_errors::has_kind::HasKind;
 use stream_errors::mode::ErrMode;
-use stream_sets::range::Range;
 use winnow_comb::combinator::{delimited, opt, preceded, separated_pair, terminated};
 use winnow_core::parser::Parser;
 use winnow_grammar::rule::Rule;
@@ -82,7 +81,7 @@ fn read_reason<'i>(input: &mut &'i [u8]) -> Result<&'i [u8], ErrMode<EmptyError>
     ensures spared { IsSpared ⟦<ErrMode<EmptyError> as HasKind>⟧.kind
         (bytes_input input.old.now) result }
 {
-    let text = take_while(Range::from(0..), ValueBytes);
+    let text = take_while(0.., ValueBytes);
     let end = b"\r\n".as_slice();
     match terminated(opt(preceded(b' ', text)), end).read(input) {
         Ok(Some(reason)) => Ok(reason),

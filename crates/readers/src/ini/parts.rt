@@ -15,7 +15,7 @@ use std::str;
 use winnow::ascii::impls::{Alphanumeric1, Multispace1, Space0};
 use winnow::combinator::{alt, delimited, opt, repeat, separated_pair, terminated};
 use winnow::error::{EmptyError, ErrMode, HasKind, InputError, ParserError};
-use winnow::stream::{ByteStream, Range, Stream};
+use winnow::stream::{ByteStream, Stream};
 use winnow::token::{take_until, take_while};
 use winnow::{Func, FuncWith, Parser};
 
@@ -59,7 +59,7 @@ pub(super) fn brackets<'i>(
         (bytes_input input.new.now) }
 {
     input.shows_bytes();
-    let mut name = delimited(b'[', take_while(Range::from(0..), names.set), b']');
+    let mut name = delimited(b'[', take_while(0.., names.set), b']');
     match name.parse_next(input) {
         Ok(name) => Ok(name),
         Err(error) => Err(error),
@@ -136,7 +136,7 @@ fn value_bytes<'i>(input: &mut &'i [u8]) -> &'i [u8]
     ensures front { IsFront IsValueByte input.old.now result.now input.new.now }
     ensures ends { IsEndOf bytes_reading (bytes_input input.new.now) (bytes_input input.old.now) }
 {
-    match take_until::<_, _, EmptyError>(Range::from(0..), (b';', b'\n')).parse_next(input) {
+    match take_until::<_, _, EmptyError, _>(0.., (b';', b'\n')).parse_next(input) {
         Ok(bytes) => bytes,
         // the last line has no end
         Err(_) => input.finish(),
@@ -148,7 +148,7 @@ fn line_bytes<'i>(input: &mut &'i [u8]) -> &'i [u8]
     ensures front { IsFront IsCommentByte input.old.now result.now input.new.now }
     ensures ends { IsEndOf bytes_reading (bytes_input input.new.now) (bytes_input input.old.now) }
 {
-    match take_until::<_, _, EmptyError>(Range::from(0..), b'\n').parse_next(input) {
+    match take_until::<_, _, EmptyError, _>(0.., b'\n').parse_next(input) {
         Ok(bytes) => bytes,
         Err(_) => input.finish(),
     }
@@ -232,10 +232,5 @@ pub(super) fn gap<'i, A: Allocator + Copy>(
         (answer_by ⟦<ErrMode<InputError<&'i [u8]>> as HasKind>⟧.kind result)
         (bytes_input input.new.now) }
 {
-    repeat(
-        alloc,
-        Range::from(0..),
-        alt((Multispace1.void(), Func(comment))),
-    )
-    .parse_next(input)
+    repeat(alloc, 0.., alt((Multispace1.void(), Func(comment)))).parse_next(input)
 }

@@ -12,7 +12,6 @@ use crate::ini::tables::NameBytes;
 use std::alloc::Allocator;
 use winnow::combinator::{preceded, repeat, terminated};
 use winnow::error::{ErrMode, HasKind, InputError, ParseFault, ParserError};
-use winnow::stream::Range;
 use winnow::{Func, FuncWith, Parser};
 
 /// A section: its name, and its pairs of a key and a value in order, as slices of the input. `A` is
@@ -43,7 +42,7 @@ fn pairs<'i, A: Allocator + Copy>(
 {
     repeat(
         alloc,
-        Range::from(0..),
+        0..,
         terminated(Func(key_value), FuncWith(alloc, gap)),
     )
     .parse_next(input)
@@ -77,7 +76,7 @@ fn sections<'i, A: Allocator + Copy>(
         (answer_by ⟦<ErrMode<InputError<&'i [u8]>> as HasKind>⟧.kind result)
         (bytes_input input.new.now) }
 {
-    repeat(with.0, Range::from(0..), FuncWith(with, one_section)).parse_next(input)
+    repeat(with.0, 0.., FuncWith(with, one_section)).parse_next(input)
 }
 
 /// A gap, and all sections.

@@ -8,11 +8,8 @@ returns g c = rw (
   c.preceded-color.ensures.parser,
   c.take_while-red.ensures.occurrences,
   c.take_while-red.ensures.set,
-  c.from.ensures,
   c.take_while-green.ensures.occurrences,
   c.take_while-green.ensures.set,
-  c.from-2.ensures,
   c.take_while-blue.ensures.occurrences,
   c.take_while-blue.ensures.set,
-  c.from-3.ensures,
 ) at c.read_all.ensures.reads

@@ -37,5 +37,4 @@ returns g c = reads_by c.read.ensures.reads (rw (
   c.separated-elements.ensures.parser,
   c.separated-elements.ensures.separator,
   c.by.ensures.rule,
-  c.from.ensures,
 ))

@@ -6,7 +6,6 @@ unfolding Longest
 returns g c = rw (
   c.repeat-lines.ensures.occurrences,
   c.repeat-lines.ensures.parser,
-  c.from-3.ensures,
   c.terminated-line.ensures.parser,
   c.terminated-line.ensures.ignored,
   c.separated_pair.ensures.first,
@@ -14,8 +13,6 @@ returns g c = rw (
   c.separated_pair.ensures.second,
   c.take_while-key.ensures.occurrences,
   c.take_while-key.ensures.set,
-  c.from.ensures,
   c.take_while-value.ensures.occurrences,
   c.take_while-value.ensures.set,
-  c.from-2.ensures,
 ) at c.read_all.ensures.reads

@@ -12,8 +12,6 @@ returns g c = rw (
   c.separated.ensures.occurrences,
   c.separated.ensures.parser,
   c.separated.ensures.separator,
-  c.from-2.ensures,
   c.take_while-word.ensures.occurrences,
   c.take_while-word.ensures.set,
-  c.from.ensures,
 ) at c.read_all.ensures.reads

@@ -5,6 +5,5 @@ pub returns : goal.returns
 returns g c = reads_by c.read.ensures.reads (rw (
   c.repeat.ensures.occurrences,
   c.repeat.ensures.parser,
-  c.from.ensures,
   c.length_take.ensures,
 ))

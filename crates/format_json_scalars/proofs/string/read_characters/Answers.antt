@@ -1,6 +1,6 @@
-use Rattle.std.proofs.Common.{refl, sym, ◌∙◌}
+use Rattle.std.proofs.Common.{◌≡◌, refl, sym, ◌∙◌}
 use Rattle.streams.specs.Input.{is_end_of_trans, is_end_of_trans3}
-use Rattle.winnow_core.specs.Exact.Failed.{not_memory}
+use Rattle.streams.specs.Kind.{backtrack, memory}
 use Rattle.winnow_grammar.specs.Read.{reads_wanting}
 use Rattle.format_json_scalars.proofs.RunsLemmas.{all_read, escape_read, fewer_left, run_ends}
 use Rattle.format_json_scalars.proofs.RunsLemmas.{run_read, run_wants}
@@ -41,5 +41,6 @@ returns-in-Err-read_escape g c = all_read _ _ _ _
     c.in-Ok-push_str.ensures.bytes)
     (is_end_of_trans c.in-Ok.ensures.ends c.runs.invariant.ends)
     (run_ends c.in-Ok.plain (c.in-Ok.ensures.stands refl))
-    (λ want. not_memory (sym (c.in-Err-read_escape.ensures.spared refl) ∙ want))
+    (λ want. let e : backtrack ≡ memory = sym (c.in-Err-read_escape.ensures.spared refl) ∙ want in
+    absurd (cc))
     c.in-Err-read_escape.ensures.reads

@@ -21,4 +21,4 @@ returns c =
     (ap (λ s. range_inclusive_end s.2) c.take_while.ensures.set ∙ c.new-3.ensures.end))
     (reads_by
     {h = Longest text_reading (λ c. c) RangesTell c.take_while.result.set (from_to 0 None)}
-    c.read.ensures.reads (rw (c.take_while.ensures.occurrences, c.from.ensures)))
+    c.read.ensures.reads (rw (c.take_while.ensures.occurrences)))

@@ -1,8 +1,5 @@
 use Rattle.stream_sets.specs.Range.{bounds_of}
 use Rattle.grammars.specs.Grammar.{Both, Literally, Longest}
-use Rattle.parser_definitions.specs.Projects.Lines.{crlf_projects}
-use Rattle.parser_definitions.specs.Projects.Sequences.{terminated_projects}
-use Rattle.parser_definitions.specs.Projects.Tokens.{take_till_projects}
 use Rattle.winnow_core.specs.InOrder.Inversion.{both_ok}
 use Rattle.winnow_token.specs.TakeWhile.Inversion as taken
 use Rattle.format_resp.proofs.Found.{line_before}
@@ -17,18 +14,10 @@ pub read_cut-requires-clause-premise : goal.read_cut-requires-clause-premise
 read_cut-requires-clause-premise g c = (
   (
     c.requires.once _,
-    rw (c.terminated.ensures.parser, c.take_till.ensures.occurrences, c.from.ensures) tt,
+    rw (c.terminated.ensures.parser, c.take_till.ensures.occurrences) tt,
   ),
   c.requires.spells,
 )
-
-pub read_cut-requires-clause-projects : goal.read_cut-requires-clause-projects
-read_cut-requires-clause-projects g c = terminated_projects
-    (take_till_projects g.I.Stream.reading g.I.Stream.seen_as g.S.ContainsToken.tells (λ x. x.1)
-    (λ x. bounds_of x.0) g.E.HasKind.form _ (c.requires.once _)
-    (rw (c.terminated.ensures.parser, c.take_till.ensures.occurrences, c.from.ensures) tt))
-    (crlf_projects g.I.Stream.reading g.I.Compare.spells g.met.I.Compare.same_units
-    c.requires.spells g.E.HasKind.form tt)
 
 pub returns : goal.returns
 unfolding Both Literally Longest
@@ -37,7 +26,6 @@ returns g c =
       c.terminated.ensures.parser,
       c.take_till.ensures.occurrences,
       c.take_till.ensures.set,
-      c.from.ensures,
     )) c.read_cut.ensures.reads c.read_cut.ensures.tells
     (λ o e.
     let (line, end, a, first, last, is) = both_ok o (rw e at c.read_cut.ensures.ran) in
@@ -51,5 +39,5 @@ returns g c =
     ))
     (line_before g.I.Stream.reading g.I.Compare.spells g.I.Stream.seen_as
     g.S.ContainsToken.tells (λ x. x.1) (λ x. bounds_of x.0) _ _ _
-    (rw (c.terminated.ensures.parser, c.take_till.ensures.occurrences, c.from.ensures) tt)
+    (rw (c.terminated.ensures.parser, c.take_till.ensures.occurrences) tt)
     c.requires.some)

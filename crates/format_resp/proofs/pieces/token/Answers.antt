@@ -1,14 +1,9 @@
 use Rattle.grammars.specs.Grammar.{Token}
-use Rattle.parser_definitions.specs.Projects.Tokens.{any_projects}
 use Rattle.winnow_token.specs.Any.Inversion.{any_ok}
 use Rattle.format_resp.proofs.Found.{token_found}
 use Rattle.format_resp.proofs.PieceResults.{must_ask}
 use Rattle.format_resp.proofs.pieces.token.Goals as goal
 use Rattle.std.proofs.Common.{refl}
-
-pub read_cut-requires-clause-projects : goal.read_cut-requires-clause-projects
-read_cut-requires-clause-projects g c =
-    any_projects g.I.Stream.seen_as g.I.Stream.reading g.E.HasKind.form tt
 
 pub returns : goal.returns
 unfolding Token

@@ -1,18 +1,9 @@
 use Rattle.grammars.specs.Grammar.{Both, Counted, Literally}
-use Rattle.parser_definitions.specs.Projects.Lines.{crlf_projects}
-use Rattle.parser_definitions.specs.Projects.Sequences.{terminated_projects}
-use Rattle.parser_definitions.specs.Projects.Tokens.{take_projects}
 use Rattle.winnow_core.specs.InOrder.Inversion.{both_ok}
 use Rattle.winnow_token.specs.Take.Inversion.{take_count_ok}
 use Rattle.format_resp.proofs.Found.{counted_ended}
 use Rattle.format_resp.proofs.PieceResults.{ending_taken, must_ask}
 use Rattle.format_resp.proofs.pieces.tokens.Goals as goal
-
-pub read_cut-requires-clause-projects : goal.read_cut-requires-clause-projects
-read_cut-requires-clause-projects g c = terminated_projects
-    (take_projects g.I.Stream.reading g.I.Stream.counts_missing (λ n. n) g.E.HasKind.form _)
-    (crlf_projects g.I.Stream.reading g.I.Compare.spells g.met.I.Compare.same_units
-    c.requires.spells g.E.HasKind.form tt)
 
 pub returns : goal.returns
 unfolding Both Counted Literally

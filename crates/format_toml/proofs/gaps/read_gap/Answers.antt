@@ -8,7 +8,6 @@ returns g c = reads_by c.read_gap_of.ensures (rw (
   c.preceded-comment.ensures.parser,
   c.take_while.ensures.occurrences,
   c.take_while.ensures.set,
-  c.from.ensures,
   c.alt-newline.ensures,
   c.preceded.ensures.ignored,
   c.preceded.ensures.parser,

@@ -8,5 +8,4 @@ returns g c = reads_by c.read_line_of.ensures (rw (
   c.preceded-comment.ensures.parser,
   c.take_while.ensures.occurrences,
   c.take_while.ensures.set,
-  c.from.ensures,
 ))

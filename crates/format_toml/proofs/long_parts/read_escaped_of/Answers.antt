@@ -11,5 +11,4 @@ returns g c = reads_by c.read.ensures.reads (rw (
   c.preceded.ensures.parser,
   c.repeat-blanks.ensures.occurrences,
   c.repeat-blanks.ensures.parser,
-  c.from.ensures,
 ))

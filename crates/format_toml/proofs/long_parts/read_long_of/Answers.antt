@@ -13,6 +13,5 @@ returns g c = reads_by c.read.ensures.reads (three_by _ (rw c.delimited.ensures.
       c.terminated.ensures.ignored,
       c.repeat-parts.ensures.occurrences,
       c.repeat-parts.ensures.parser,
-      c.from.ensures,
     ))
     (rw c.delimited.ensures.ignored2))

@@ -6,5 +6,4 @@ returns g c = reads_all_by c.read_all.ensures.reads (rw (
   c.separated.ensures.occurrences,
   c.separated.ensures.parser,
   c.separated.ensures.separator,
-  c.from.ensures,
 ))

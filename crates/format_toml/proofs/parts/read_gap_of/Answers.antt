@@ -5,7 +5,6 @@ pub returns : goal.returns
 returns g c = reads_by c.read.ensures.reads (rw (
   c.repeat.ensures.occurrences,
   c.repeat.ensures.parser,
-  c.from.ensures,
   c.alt-part.ensures,
   c.preceded.ensures.ignored,
   c.preceded.ensures.parser,

@@ -8,5 +8,4 @@ returns g c = reads_by c.read.ensures.reads (rw (
   c.separated.ensures.separator,
   c.terminated.ensures.parser,
   c.terminated.ensures.ignored,
-  c.from.ensures,
 ))

@@ -9,5 +9,4 @@ returns g c = reads_by c.read_or_none.ensures (rw (
   c.separated-elements.ensures.occurrences,
   c.separated-elements.ensures.parser,
   c.separated-elements.ensures.separator,
-  c.from.ensures,
 ))

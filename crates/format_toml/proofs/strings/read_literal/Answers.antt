@@ -5,6 +5,5 @@ pub returns : goal.returns
 returns g c = reads_by c.read_between.ensures.reads (rw (
   c.repeat-characters.ensures.occurrences,
   c.repeat-characters.ensures.parser,
-  c.from.ensures,
   c.one_of.ensures,
 ))

@@ -27,24 +27,24 @@ returns-in-Ok-clause-parts c =
     let bytes = c.shows_bytes.ensures in
     let keys = took_bytes has_byte IsKeyByte _ _ _ _ _ _ _ c.take_while.ensures.set
     c.key_bytes.ensures bytes
-    (took_by plain _ _ _ _ _ _ _ (c.take_while.ensures.occurrences ∙ c.from.ensures) r1.0) in
+    (took_by plain _ _ _ _ _ _ _ c.take_while.ensures.occurrences r1.0) in
     let mark = token_taken bytes_reading plain _ _ _ _ _ r2.0 in
     let behind_mark = behind_token _ _ _ mark (behind_take _ _ _ _ _ _ keys bytes) in
     let values = took_bytes has_byte InLine _ _ _ _ _ _ _ c.take_while-2.ensures.set
     c.bytes_of_line.ensures behind_mark
-    (took_by plain _ _ _ _ _ _ _ (c.take_while-2.ensures.occurrences ∙ c.from-2.ensures) r3.0) in
+    (took_by plain _ _ _ _ _ _ _ c.take_while-2.ensures.occurrences r3.0) in
     let feeds = took_bytes has_byte IsFeed _ _ _ _ _ _ _ c.take_while-3.ensures.set
     c.line_feed-line_feed.ensures (behind_take _ _ _ _ _ _ values behind_mark)
-    (took_by plain _ _ _ _ _ _ _ (c.take_while-3.ensures.occurrences ∙ c.from-3.ensures) r4.0) in
+    (took_by plain _ _ _ _ _ _ _ c.take_while-3.ensures.occurrences r4.0) in
     line_read _ _ _ _ _ (line_taken _ _ _ _ _ _ _ _ _ _ _ keys mark values feeds
     (told_yes IsKeyByte) (told_yes InLine) (told_yes IsFeed)) ran.2
 
 pub returns-in-Err-Invalid-clause-refused : goal.returns-in-Err-Invalid-clause-refused
 returns-in-Err-Invalid-clause-refused c =
     let bytes = c.shows_bytes.ensures in
-    let r1_range = c.take_while.ensures.occurrences ∙ c.from.ensures in
-    let r3_range = c.take_while-2.ensures.occurrences ∙ c.from-2.ensures in
-    let r4_range = c.take_while-3.ensures.occurrences ∙ c.from-3.ensures in
+    let r1_range = c.take_while.ensures.occurrences in
+    let r3_range = c.take_while-2.ensures.occurrences in
+    let r4_range = c.take_while-3.ensures.occurrences in
     let key_set = c.take_while.ensures.set in
     let refused = c.in-Err-Invalid.field-0-is in
     elim c.in-Err-Invalid.ensures.ran [

@@ -10,7 +10,6 @@ returns-clause-reads c = reads_by {h = NameRead} c.read.ensures.reads (rw (
   c.terminated.ensures.parser,
   c.terminated.ensures.ignored,
   c.take_while-name.ensures.occurrences,
-  c.from.ensures,
   run_is IsTokenByte 1 c.take_while-name.result.set,
 ))
 

@@ -11,7 +11,6 @@ returns-in-Ok-clause-reads c = ok_as (reads_by {h = ValueRead} c.in-Ok.ensures.r
   c.preceded.ensures.parser,
   c.take_while-white.ensures.occurrences,
   c.take_while-text.ensures.occurrences,
-  c.from-any.ensures,
   run_is IsWhite 0 c.take_while-white.result.set,
   run_is IsValueByte 0 c.take_while-text.result.set,
 ))) (value_there _ _ c.trimmed.ensures)
@@ -22,7 +21,6 @@ returns-in-Err-clause-reads c = err_as (reads_by {h = ValueRead} c.in-Err.ensure
   c.preceded.ensures.parser,
   c.take_while-white.ensures.occurrences,
   c.take_while-text.ensures.occurrences,
-  c.from-any.ensures,
   run_is IsWhite 0 c.take_while-white.result.set,
   run_is IsValueByte 0 c.take_while-text.result.set,
 ))) value_back

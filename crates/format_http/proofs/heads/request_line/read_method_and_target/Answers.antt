@@ -12,7 +12,6 @@ returns-clause-reads c = reads_by {h = MethodTarget} c.read.ensures.reads (rw (
   c.separated_pair.ensures.second,
   c.take_while-method.ensures.occurrences,
   c.take_while-target.ensures.occurrences,
-  c.from-some.ensures,
   run_is IsTokenByte 1 c.take_while-method.result.set,
   run_is IsVisible 1 c.take_while-target.result.set,
 ))

@@ -17,7 +17,6 @@ returns-in-Ok-Some-clause-reads c =
       c.preceded.ensures.ignored,
       c.preceded.ensures.parser,
       c.take_while-text.ensures.occurrences,
-      c.from.ensures,
       run_is IsValueByte 0 c.take_while-text.result.set,
     ))) (some_there last c.as_slice-end.ensures _)
 
@@ -32,7 +31,6 @@ returns-in-Ok-None-clause-reads c =
       c.preceded.ensures.ignored,
       c.preceded.ensures.parser,
       c.take_while-text.ensures.occurrences,
-      c.from.ensures,
       run_is IsValueByte 0 c.take_while-text.result.set,
     ))) (λ bytes rest x.
     none_there last c.as_slice-end.ensures c.as_slice.result bytes rest c.as_slice.ensures x)
@@ -47,7 +45,6 @@ returns-in-Err-clause-reads c =
       c.preceded.ensures.ignored,
       c.preceded.ensures.parser,
       c.take_while-text.ensures.occurrences,
-      c.from.ensures,
       run_is IsValueByte 0 c.take_while-text.result.set,
     ))) (reason_back last c.as_slice-end.ensures)
 

@@ -14,7 +14,7 @@ use Rattle.readers.proofs.ini.parts.brackets.Goals as goal
 pub returns-in-Ok : goal.returns-in-Ok
 returns-in-Ok c =
     let range = ap (λ p. p.occurrences) c.delimited-name.ensures.parser
-    ∙ c.take_while.ensures.occurrences ∙ c.from.ensures in
+    ∙ c.take_while.ensures.occurrences in
     let set_is = ap (λ p. p.set) c.delimited-name.ensures.parser ∙ c.take_while.ensures.set in
     let (o1, o2, o3, a, b, r1, r2, r3, same) = three_ok _ c.in-Ok.ensures.ran in
     let front_mark = token_taken bytes_reading modal _ _ _ _ _ r1.0 in
@@ -40,7 +40,7 @@ returns-in-Ok c =
 pub returns-in-Err : goal.returns-in-Err
 returns-in-Err c =
     let range = ap (λ p. p.occurrences) c.delimited-name.ensures.parser
-    ∙ c.take_while.ensures.occurrences ∙ c.from.ensures in
+    ∙ c.take_while.ensures.occurrences in
     let set_is = ap (λ p. p.set) c.delimited-name.ensures.parser ∙ c.take_while.ensures.set in
     let front_is = c.delimited-name.ensures.ignored1 in
     let end_is = c.delimited-name.ensures.ignored2 in

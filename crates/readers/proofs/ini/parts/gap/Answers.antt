@@ -15,7 +15,7 @@ use Rattle.readers.proofs.ini.parts.gap.Goals as goal
 pub returns : goal.returns
 returns g c = (
   c.parse_next.ensures.ends,
-  gap_read _ _ _ _ _ _ _ _ (c.repeat.ensures.occurrences ∙ c.from.ensures) refl
+  gap_read _ _ _ _ _ _ _ _ c.repeat.ensures.occurrences refl
       c.parse_next.ensures.ran.0 (record {
         takes = λ s i o t j whole ran. elim (or_else_ok o ran) [
           | inl (first, same) ↦

@@ -1,12 +1,11 @@
 use denote.Param.Always.{mut_total}
-use Rattle.std.proofs.Common.{◌∙◌}
 use Rattle.winnow.specs.FuncCalls.{calls_leave, calls_with_leave}
 use Rattle.readers.proofs.SectionLemmas.{pairs_repeated, reads_pair}
 use Rattle.readers.proofs.ini.sections.pairs.Goals as goal
 
 pub returns : goal.returns
 returns g c =
-    pairs_repeated _ _ _ _ _ _ _ _ (c.repeat.ensures.occurrences ∙ c.from.ensures)
+    pairs_repeated _ _ _ _ _ _ _ _ c.repeat.ensures.occurrences
     c.parse_next.ensures.ends c.parse_next.ensures.ran.0
     (reads_pair (λ f x r y h met. met) (λ s x r y t met. met))
 

@@ -1,5 +1,4 @@
 use denote.Param.Always.{mut_total}
-use Rattle.std.proofs.Common.{◌∙◌}
 use Rattle.winnow.specs.FuncCalls.{calls_with_leave, run_with_by}
 use Rattle.readers.specs.DocumentRuns.{SectionRuns}
 use Rattle.readers.specs.Sections.{section_text}
@@ -8,7 +7,7 @@ use Rattle.readers.proofs.ini.sections.sections.Goals as goal
 
 pub returns : goal.returns
 returns g c =
-    sections_repeated section_text _ _ _ _ _ _ _ _ (c.repeat.ensures.occurrences ∙ c.from.ensures)
+    sections_repeated section_text _ _ _ _ _ _ _ _ c.repeat.ensures.occurrences
     c.parse_next.ensures.ends c.parse_next.ensures.ran.0
     (λ s i answer t j ran. run_with_by (SectionRuns section_text) ran (λ s x r y t met. met))
 
