@@ -3,7 +3,7 @@ by `new`."""
 import collections
 
 Fault = collections.namedtuple("Fault", "file name behind old new")
-C, H = "c/pergidau.c", "c/pergidau.h"
+C, H, HPP = "c/pergidau.c", "c/pergidau.h", "c/pergidau.hpp"
 RUST = "rust/src/"
 
 
@@ -12,8 +12,7 @@ def of(file, *rows):
 
 
 FAULTS = [
-    *of(
-        C,
+    *of(C,
         ("a null text is read", "enum pergidau_code pergidau_calc_value", "text == NULL &&", "0 &&"),
         ("a null result is written", "enum pergidau_code pergidau_calc_value", "out == NULL", "0"),
         ("a null position is written", "enum pergidau_code pergidau_text_position", "out == NULL", "0"),
@@ -107,8 +106,7 @@ FAULTS = [
         ("an error has no message", "pergidau_chunked_error_message(", "PERGIDAU_CHUNKED_ERROR_TRAILERS_TOO_LONG", "PERGIDAU_CHUNKED_ERROR_TRAILERS_TOO_LONG + 1"),
         ("a code has the message of another", "pergidau_message(", "PERGIDAU_NULL", "PERGIDAU_NOT_AN_INTEGER + 1"),
     ),
-    *of(
-        H,
+    *of(H,
         ("the numbers of the version are swapped", "struct pergidau_head {", "uint8_t major;\n    /* The number after the point of the version, below 10. */\n    uint8_t minor;", "uint8_t minor;\n    uint8_t major;"),
         ("false and true are swapped", "enum pergidau_json_kind", "PERGIDAU_JSON_FALSE = 1,\n    /* The word true. */\n    PERGIDAU_JSON_TRUE = 2,", "PERGIDAU_JSON_FALSE = 2,\n    PERGIDAU_JSON_TRUE = 1,"),
         ("names have the number of strings", "enum pergidau_json_kind", "PERGIDAU_JSON_NAME = 7,", "PERGIDAU_JSON_NAME = 4,"),
@@ -141,13 +139,23 @@ FAULTS = [
         ("it links with every library", "PERGIDAU_NO_LINK_CHECK)", "__used__, ", ""),
         ("the version macro is wrong", "#define PERGIDAU_VERSION_MINOR", "0", "1"),
     ),
-    *of(
-        RUST + "calc.rs",
+    *of(HPP,
+        ("a complete head is read as partial (C++)", "> http_head(", "pergidau_http_head(", "pergidau_http_head_partial("),
+        ("a complete response is read as partial (C++)", "> http_response_head(", "pergidau_http_response_head(", "pergidau_http_response_head_partial("),
+        ("a complete reply is read as partial (C++)", "> resp_reply(", "pergidau_resp_reply(", "pergidau_resp_reply_partial("),
+        ("a name is read as a token (C++)", "> json_member(", "is_token, &", "!is_token, &"),
+        ("an empty slice is null", "slice(input", 'input("")', "bytes"),
+        ("a span starts at 0 (C++)", "pergidau_span span)", "span.offset, ", "0, "),
+        ("an error is success", "explicit operator bool", "== PERGIDAU_DONE", "!= PERGIDAU_INVALID"),
+        ("the last entry of a view is lost", "view(Container &&", "std::size(container)};", "std::size(container) - (std::size(container) > 0)};"),
+        ("a text ends at its first zero", "view(Container &&", "text.size()", "std::string_view(text.data()).size()"),
+        ("constant bytes are written", "constexpr bool fits", "(std::is_const_v<To> || !std::is_const_v<From>)", "true"),
+    ),
+    *of(RUST + "calc.rs",
         ("a value is lost", "exports::DONE", "Ok(out.value)", "Ok(0)"),
         ("an error has no offset", "code =>", "Some(out.error_offset)", "None"),
     ),
-    *of(
-        RUST + "pairs.rs",
+    *of(RUST + "pairs.rs",
         ("key and value are swapped", "exports::DONE", "(at(line, out.key), at(line, out.value))", "(at(line, out.value), at(line, out.key))"),
         ("the name of a section is its key", "fn next", "head.value", "head.key"),
         ("sections end at pairs", "fn next", "it.key.length == 0", "it.key.length != 0"),
@@ -157,8 +165,7 @@ FAULTS = [
         ("the error of a document is at its start", "exports::exported_pair_document", "out.error_offset", "0"),
         ("required entries and bytes are swapped", "let required", "entries: out.entries, bytes: out.text", "entries: out.text, bytes: out.entries"),
     ),
-    *of(
-        RUST + "ini.rs",
+    *of(RUST + "ini.rs",
         ("colons are equals signs", "fn flags", "Delimiters::Colon => exports::INI_DIALECT_COLON", "Delimiters::Colon => exports::INI_DIALECT_EQUALS"),
         ("both delimiters are one", "fn flags", "exports::INI_DIALECT_EQUALS | exports::INI_DIALECT_COLON", "exports::INI_DIALECT_EQUALS"),
         ("comment marks are swapped", "impl Marks", "Marks::NumberSign => number_sign", "Marks::NumberSign => semicolon"),
@@ -180,8 +187,7 @@ FAULTS = [
         ("a lookup has no error", "pub fn get", "(exports::INVALID, _) => Err(error_of(out))", "(exports::INVALID, _) => Ok(None)"),
         ("a lookup has another key", "pub fn get", "key.as_ptr(), key.len()", "section.as_ptr(), section.len()"),
     ),
-    *of(
-        RUST + "json.rs",
+    *of(RUST + "json.rs",
         ("an object has elements", "pub fn elements", "Kind::Array", "Kind::Object"),
         ("members are those of an array", "pub fn members", "Kind::Object", "Kind::Array"),
         ("each value has elements", "fn of(", "value.kind == kind", "!value.text.is_empty()"),
@@ -196,8 +202,7 @@ FAULTS = [
         ("a check always succeeds", "pub fn check", "code => Err(Error::of(code, None, NOTHING))", "_ => Ok(())"),
         ("a value is one byte too long", "pub fn longest", "bytes.split_at(length)", "bytes.split_at(bytes.len().min(length + 1))"),
     ),
-    *of(
-        RUST + "json/steps.rs",
+    *of(RUST + "json/steps.rs",
         ("a step is returned twice", "fn next", "self.left = left;", ""),
         ("the next step begins in this one", "fn next", "out.span.offset + out.span.length", "out.span.length"),
         ("a name is a value", "match out.kind", "exports::JSON_NAME => Step::Name(", "exports::JSON_NAME => Step::Value("),
@@ -206,8 +211,7 @@ FAULTS = [
         ("a step includes the bytes before it", "fn next", "&front[out.span.offset..]", "front"),
         ("steps of invalid texts are accepted", "pub fn steps", "check(text.as_bytes(), max_depth)?;", "let _ = check(text.as_bytes(), max_depth);"),
     ),
-    *of(
-        RUST + "json/scalars.rs",
+    *of(RUST + "json/scalars.rs",
         ("a number out of range is 0", "pub fn as_i64", "fits(code).then_some(out)", "Some(out)"),
         ("an integer has no sign", "pub fn as_u64", "exported_json_natural(bytes.as_ptr(), bytes.len(), &mut out)", "exported_json_integer(bytes.as_ptr(), bytes.len(), (&mut out as *mut u64).cast())"),
         ("a string is a number", "fn number", "self.kind == Kind::Number", "self.kind != Kind::Array"),
@@ -217,8 +221,7 @@ FAULTS = [
         ("the rest begins at the string", "pub fn unescape", "&bytes[out.length..]", "bytes"),
         ("a text extends to the end of the buffer", "pub fn unescape", "&buffer[..out.text]", "buffer"),
     ),
-    *of(
-        RUST + "toml.rs",
+    *of(RUST + "toml.rs",
         ("a TOML error is wrong (Rust)", "match out.error", "exports::TOML_ERROR_EQUALS_SIGN => Expected::EqualsSign", "exports::TOML_ERROR_EQUALS_SIGN => Expected::Value"),
         ("a reason of a TOML error is wrong", "match out.error", "Reason::NotAnArrayOfTables)", "Reason::NotATable)"),
         ("required nodes and bytes are swapped", "let required", "entries: out.nodes, bytes: out.text", "entries: out.text, bytes: out.nodes"),
@@ -234,8 +237,7 @@ FAULTS = [
         ("a table is an array", "pub fn is_array", "exports::TOML_ARRAY", "exports::TOML_TABLE"),
         ("nodes after the last are returned", "let out = write(source, max_depth, text, nodes)", "&nodes[..out.nodes]", "nodes"),
     ),
-    *of(
-        RUST + "http.rs",
+    *of(RUST + "http.rs",
         ("the target is the method", "pub fn target", "self.places.target", "self.places.method"),
         ("minor comes before major", "pub fn version", "(self.places.major, self.places.minor)", "(self.places.minor, self.places.major)"),
         ("names and values are swapped", "pub fn fields", "(at(bytes, it.name), at(bytes, it.value))", "(at(bytes, it.value), at(bytes, it.name))"),
@@ -251,20 +253,17 @@ FAULTS = [
         ("an error of a body is wrong", "fn of(number: u32)", "exports::CHUNKED_ERROR_DATA_END => ChunkedError::DataEnd", "exports::CHUNKED_ERROR_DATA_END => ChunkedError::Size"),
         ("a partial head is read as complete (Rust)", "pub fn head_partial", "exports::exported_http_head_partial,", "exports::exported_http_head,"),
     ),
-    *of(
-        RUST + "http/body.rs",
+    *of(RUST + "http/body.rs",
         ("a body without a length is chunked", "fn told(", "exports::HTTP_BODY_UNTIL_CLOSE) => Ok(Body::UntilClose)", "exports::HTTP_BODY_UNTIL_CLOSE) => Ok(Body::Chunked)"),
         ("a length is lost", "fn told(", "Body::Length(out.length)", "Body::Length(0)"),
         ("a reason to reject is wrong", "fn reason_of", "exports::HTTP_ERROR_LENGTHS_DIFFER => BodyError::LengthsDiffer", "exports::HTTP_ERROR_LENGTHS_DIFFER => BodyError::LengthTooLarge"),
         ("the method is ignored", "pub fn response_body", "(method.as_ptr(), method.len())", "(method.as_ptr(), 0)"),
     ),
-    *of(
-        RUST + "http.rs",
+    *of(RUST + "http.rs",
         ("the value of the first field is returned", "fn find<", "fields[index].value", "fields[0].value"),
         ("fields do not grow", "pub fn head_grown", "fields.resize(required.entries,", "fields.resize(required.entries / 2,"),
     ),
-    *of(
-        RUST + "http/response.rs",
+    *of(RUST + "http/response.rs",
         ("the reason is the rest", "pub fn reason", "at(self.bytes, self.places.reason)", "self.rest()"),
         ("there is no status code", "pub fn status", "self.places.status", "0"),
         ("minor comes before major (responses)", "pub fn version", "(self.places.major, self.places.minor)", "(self.places.minor, self.places.major)"),
@@ -276,33 +275,28 @@ FAULTS = [
         ("a complete response is read as partial (Rust)", "pub fn response_head<", "exports::exported_http_response_head,", "exports::exported_http_response_head_partial,"),
         ("a partial response is read as complete (Rust)", "pub fn response_head_partial", "exports::exported_http_response_head_partial,", "exports::exported_http_response_head,"),
     ),
-    *of(
-        RUST + "http/extent.rs",
+    *of(RUST + "http/extent.rs",
         ("a head extent keeps no state", "pub fn advance", "&mut self.state,", "&mut self.state.clone(),"),
         ("a head extent has no end", "pub fn advance", "Ok(Some(out))", "Ok(None)"),
         ("a head extent has no reason", "fn reason", "matches!(it, Error::InvalidHead { .. })", "!matches!(it, Error::InvalidHead { .. })"),
         ("a response's extent is a request's", "pub fn of_response", "is_of_response: true", "is_of_response: false"),
     ),
-    *of(
-        RUST + "http/error.rs",
+    *of(RUST + "http/error.rs",
         ("a reason of a head is wrong", "fn of(number: u32)", "exports::HTTP_HEAD_ERROR_COLON => HeadError::Colon", "exports::HTTP_HEAD_ERROR_COLON => HeadError::FieldName"),
     ),
-    *of(
-        RUST + "csv/extent.rs",
+    *of(RUST + "csv/extent.rs",
         ("a record extent keeps no state", "pub fn advance", "&mut self.state;", "&mut self.state.clone();"),
         ("a record extent has the standard dialect", "pub fn advance", "self.dialect.given()", "Dialect::standard().given()"),
         ("a record extent has no end", "pub fn advance", "Ok(Some(Size { length: out.length, required }))", "Ok(None)"),
         ("entries and bytes of a record extent are swapped", "pub fn advance", "entries: out.fields, bytes: out.text", "entries: out.text, bytes: out.fields"),
         ("the error of a record extent has no offset", "pub fn advance", "Some(out.error_offset)", "None"),
     ),
-    *of(
-        RUST + "csv/write.rs",
+    *of(RUST + "csv/write.rs",
         ("a record is written past the buffer", "pub fn write_record", "buffer.len()", "buffer.len() + 1"),
         ("a written record has the standard dialect", "pub fn write_record", "dialect.into().given()", "{ let _: Dialect = dialect.into(); Dialect::standard().given() }"),
         ("the required bytes of a record are entries", "pub fn write_record", "entries: 0, bytes: out", "entries: out, bytes: 0"),
     ),
-    *of(
-        RUST + "dns.rs",
+    *of(RUST + "dns.rs",
         ("a DNS entry is returned twice", "impl<'m> Entries", "Ok(entry) => self.end = end(entry),", "Ok(_) => (),"),
         ("DNS entries continue after an error", "impl<'m> Entries", "Err(_) => self.left = [0; 3],", "Err(_) => (),"),
         ("sections are swapped", "const SECTIONS", "Section::Authority, Section::Additional", "Section::Additional, Section::Authority"),
@@ -310,16 +304,14 @@ FAULTS = [
         ("an error of a question is ignored", "impl<'m> Iterator for Records", "Some(error) => Err(error)", "Some(_) => Record::at(bytes, end)"),
         ("the counts of two sections are swapped", "pub fn records", "left = [answer_count, authority_count,", "left = [authority_count, answer_count,"),
     ),
-    *of(
-        RUST + "dns/name.rs",
+    *of(RUST + "dns/name.rs",
         ("the end of a name is its length", "exports::DONE", "bytes }, out.end)", "bytes }, out.length)"),
         ("a name has the bytes after it", "pub fn as_bytes", "&self.bytes[..self.length]", "&self.bytes"),
         ("the case of a name matters", "pub fn eq_ignore_ascii_case", "self.as_bytes().eq_ignore_ascii_case(other.as_bytes())", "self.as_bytes() == other.as_bytes()"),
         ("a dot in a label is not escaped", "impl fmt::Display for Name", "b'.' | ", ""),
         ("the root is empty", "impl fmt::Display for Name", 'f.write_str(".")', "Ok(())"),
     ),
-    *of(
-        RUST + "dns/data.rs",
+    *of(RUST + "dns/data.rs",
         ("an address of another class is one", "match (record.record_type", "(1, 1) =>", "(1, _) =>"),
         ("data of no bytes have a type", "fn of(message", "254 | 255", "254"),
         ("a number has its lowest byte first", "fn short", ".iter()", ".iter().rev()"),
@@ -328,13 +320,11 @@ FAULTS = [
         ("priority and weight are swapped", "Data::Srv {", "weight: short(data, 2)", "weight: short(data, 0)"),
         ("an exchange begins at its preference", "Data::Mx {", "name_at(2)", "name_at(0)"),
     ),
-    *of(
-        RUST + "dns/error.rs",
+    *of(RUST + "dns/error.rs",
         ("a reason of a DNS error is wrong", "fn error_of", "exports::DNS_ERROR_NOT_PRIOR => DnsError::NotPrior", "exports::DNS_ERROR_NOT_PRIOR => DnsError::Reserved"),
         ("the offset of a DNS error is lost", "fn error_of", "offset: fault.offset", "offset: 0"),
     ),
-    *of(
-        RUST + "bytes.rs",
+    *of(RUST + "bytes.rs",
         ("the last byte of a slice is lost", "pub fn new", "bytes_length: bytes.len()", "bytes_length: bytes.len().saturating_sub(1)"),
         ("the last slice is lost", "fn given", "slices.len()", "slices.len().saturating_sub(1)"),
         ("what was appended before is overwritten", "fn append", "write(&mut out[start..])", "write(&mut out[..])"),
@@ -342,8 +332,7 @@ FAULTS = [
         ("an error appends bytes", "fn append", "unwrap_or(&0)", "unwrap_or(&1)"),
         ("a buffer does not grow twice", "fn append", "out.resize(start + required.bytes, 0);", ""),
     ),
-    *of(
-        RUST + "csv.rs",
+    *of(RUST + "csv.rs",
         ("line endings are one (Rust)", "fn given", "exports::CSV_EITHER", "exports::CSV_LF"),
         ("delimiter and quote are swapped", "fn given", "delimiter: self.delimiter, quote: self.quote", "delimiter: self.quote, quote: self.delimiter"),
         ("the rest of a record is the whole input", "exports::DONE", "&bytes[out.length..]", "bytes"),
@@ -358,8 +347,7 @@ FAULTS = [
         ("the error of a record is at its start", "code => {", "Some(out.error_offset)", "Some(0)"),
         ("the last buffer does not grow", "Err(Error::BufferTooSmall(required))", "required.bytes.max(text.len())", "text.len()"),
     ),
-    *of(
-        RUST + "resp.rs",
+    *of(RUST + "resp.rs",
         ("elements continue after an error", "Err(error) =>", "self.count = 0;", ""),
         ("each element is the first", "Ok((reply, rest))", "self.left = rest;", "let _ = rest;"),
         ("elements have a wrong size hint", "fn size_hint", "(self.count, Some(self.count))", "(0, None)"),
@@ -381,8 +369,7 @@ FAULTS = [
         ("a command is written past the buffer", "pub fn write_command", "buffer.len()", "buffer.len() + 1"),
         ("a partial reply is read as complete (Rust)", "pub fn reply_partial", "exports::exported_resp_reply_partial,", "exports::exported_resp_reply,"),
     ),
-    *of(
-        RUST + "error.rs",
+    *of(RUST + "error.rs",
         ("line and column are swapped", "Position { offset,", "line: found.line, column: found.column", "line: found.column, column: found.line"),
         ("an offset is lost", "Position { offset,", "offset,", "offset: 0,"),
         ("an incomplete input is invalid", "match code", "exports::INCOMPLETE => Error::Incomplete", "exports::INCOMPLETE => Error::Invalid(position)"),
@@ -390,14 +377,12 @@ FAULTS = [
         ("too small is out of memory", "match code", "exports::BUFFER_TOO_SMALL => Error::BufferTooSmall(required)", "exports::BUFFER_TOO_SMALL => Error::NoMemory"),
         ("a message is wrong", "Error::Incomplete =>", "incomplete input: more bytes are needed", "invalid input"),
     ),
-    *of(
-        RUST + "lib.rs",
+    *of(RUST + "lib.rs",
         ("a span starts at 0", "fn at(", "place.offset..", "0.."),
         ("proved is inverted", "pub fn is_proved", "== 1", "!= 1"),
         ("there is no version", "pub fn version", 'text.to_str().unwrap_or("")', '{ let _ = text; "" }'),
     ),
-    *of(
-        RUST + "exports.rs",
+    *of(RUST + "exports.rs",
         ("members of a span are swapped", "pub struct Span {", "pub offset: usize,\n    /// How many bytes it has.\n    pub length: usize,", "pub length: usize,\n    pub offset: usize,"),
         ("it links with every library (Rust)", "Makes programs with this crate link only", "#[used]\n", ""),
         ("the maximum depth is too small (Rust)", "pub const MAX_DEPTH", "512", "511"),
@@ -405,8 +390,7 @@ FAULTS = [
         ("the head is too short", "pub struct Head {", "pub major: u8", "pub major: u16"),
         ("the length of a record is its text", "pub struct Record {", "pub text: usize,\n    /// The length of the record in the input in bytes, including its line ending.\n    pub length: usize,", "pub length: usize,\n    pub text: usize,"),
     ),
-    *of(
-        "rust/build.rs",
+    *of("rust/build.rs",
         ("any version of an installed library is accepted", "fn installed", "!fits(&found)", "fits(&found) && false"),
         ("the named folder is ignored", "let folders", "(Ok(folder), _) => vec![folder]", "(Ok(_), _) => vec![&here]"),
         ("the message without a library is missing", "let build", 'eprintln!("    {build}");', ""),

@@ -130,6 +130,17 @@ static const struct {
     {"{1:2}", "a", false, PERGIDAU_INVALID, 0},
     {"{\"b\":", "a", false, PERGIDAU_INVALID, 0},
     {"{\"b\":[[]],\"a\":1}", "a", false, PERGIDAU_INVALID, 0},
+    /* (bytes that are not JSON, as the header describes) */
+    {"{\"a\":1", "b", false, PERGIDAU_END, 0},
+    {"{\"a\":1]", "b", false, PERGIDAU_END, 0},
+    {"{\"a\":1 \"b\":2}", "a", false, PERGIDAU_DONE, 4},
+    {"{\"a\":1 \"b\":2}", "b", false, PERGIDAU_DONE, 10},
+    {"{\"a\",1}", "a", false, PERGIDAU_DONE, 4},
+    {"{\"a\",1}", "b", false, PERGIDAU_END, 0},
+    {"{\"a\"", "a", false, PERGIDAU_DONE, 4},
+    {"{\"a\"", "b", false, PERGIDAU_INVALID, 0},
+    {"{\"a\":1,", "b", false, PERGIDAU_INVALID, 0},
+    {"{\"a\":1,,\"b\":2}", "b", false, PERGIDAU_INVALID, 0},
 };
 
 static void test_members(void)

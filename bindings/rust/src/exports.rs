@@ -2091,13 +2091,20 @@ extern "C" {
     /// for the value, or this function again for a member of the value. Each byte before the offset is
     /// scanned once, so a walk along names to a value at any depth takes time linear in the text.
     ///
+    /// If the bytes were not checked as a text, more is accepted than JSON allows. Before each name and
+    /// each value there is whitespace, at most one comma or colon, and whitespace: in `{"a":1 "b":2}`
+    /// and in `{"a",1,"b",2}` both names are found. An object ends before a closing bracket of either
+    /// kind, or with the input: in `{"a":1` there is no member `b`. Bytes after the name that is found
+    /// are not read, so there may be no value.
+    ///
     /// `DONE`: the offset is written.
     ///
-    /// `END`: no member has the name. 0 is written.
+    /// `END`: the object ends, and no member has the name. 0 is written.
     ///
     /// # Errors
     ///
-    /// `INVALID`: there is no object, or its members are not valid up to the first of the name. 0 is
+    /// `INVALID`: there is no opening brace. Or, before the first member of the name and before the
+    /// object ends, a name or a value is missing, or a value is nested deeper than `max_depth`. 0 is
     /// written.
     ///
     /// `MAX_DEPTH_TOO_LARGE`: `max_depth` is above 512. 0 is written.
