@@ -1,9 +1,9 @@
 #!/usr/bin/env python3
 """Draws a table of ratios: `bench/picture.py < docs/BENCHMARKS.md > docs/benchmarks.svg`.
 
-It reads the first table: each row has a workload and the ratio of its instructions to winnow's. Each
-row becomes a bar with its number on the right; a line marks equal numbers. The picture needs no
-colours, and adapts to light and dark mode.
+It reads the first table: each row has a workload and the ratio of its instructions to winnow's in the
+same form. Each row with a ratio becomes a bar with its number on the right; a line marks equal
+numbers. The picture needs no colours, and adapts to light and dark mode.
 """
 import html
 import sys
@@ -46,10 +46,10 @@ def drawn(found):
     one = place(1)
     yield (
         f'<svg xmlns="http://www.w3.org/2000/svg" viewBox="0 0 {LEFT + WIDE + 60} {height}" '
-        f'role="img" aria-label="Instructions of each workload compared with winnow 1.0.5">'
+        f'role="img" aria-label="Instructions compared with winnow 1.0.5 in the same form">'
     )
     yield f"<style>{STYLE}</style>"
-    yield '<text class="title" x="10" y="20">Instructions compared with winnow 1.0.5 (shorter is fewer)</text>'
+    yield '<text class="title" x="10" y="20">Instructions compared with winnow 1.0.5 in the same form</text>'
     yield f'<text x="{one}" y="38" text-anchor="middle">1: as winnow</text>'
     for at, (name, ratio) in enumerate(found):
         y, label = TOP + ROW * at, html.escape(name.replace("`", ""))

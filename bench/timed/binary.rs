@@ -2,7 +2,7 @@
 #![tactic(auto, using(winnow::specs::Rules::ends_follow))]
 
 ghost use Rattle.winnow.specs.Claim.{no_claim, nothing_claimed};
-ghost use Rattle.winnow.specs.Covers.{AnyOutcome, no_terms};
+ghost use Rattle.winnow.specs.Covers.{AnyOutcome, any_covered, no_terms};
 ghost use Rattle.std.specs.Prelude.{⊤};
 ghost use Rattle.winnow.specs.Bytes.{bytes_input, bytes_reading};
 ghost use Rattle.winnow.specs.Input.{IsEndOf};
@@ -14,14 +14,14 @@ use winnow::binary::length_take;
 use winnow::combinator::repeat;
 use winnow::error::{EmptyError, ErrMode};
 use winnow::prelude::*;
-use winnow::stream::{ByteStream, Range};
+use winnow::stream::ByteStream;
 
 /// Parses as many integers as possible.
 fn integers<'i>(
     alloc: Global,
     input: &mut &'i [u8],
 ) -> Result<Vec<u32, Global>, ErrMode<EmptyError>> {
-    repeat(alloc, Range::from(0..), BeU32).parse_next(input)
+    repeat(alloc, 0.., BeU32).parse_next(input)
 }
 
 /// Parses 4-byte big-endian integers into a list and counts them. `out` stays zero if an allocation
@@ -80,7 +80,7 @@ impl<'i> Parser<&'i [u8], Record<'i>, ErrMode<EmptyError>> for RecordReader {
 
     ghost leaves_ends = { λ _ _ _ _ _ _ ends. ends };
 
-    ghost covers = { λ never at. absurd never };
+    ghost covers = { λ at. any_covered (λ _ _ _ _ _ ends. ends) };
 
     ghost lawful = { λ never. absurd never };
 
@@ -97,7 +97,7 @@ fn records<'i>(
     alloc: Global,
     input: &mut &'i [u8],
 ) -> Result<Vec<Record<'i>, Global>, ErrMode<EmptyError>> {
-    repeat(alloc, Range::from(0..), RecordReader).parse_next(input)
+    repeat(alloc, 0.., RecordReader).parse_next(input)
 }
 
 /// Returns the sum of the kinds and of the lengths of the payloads.

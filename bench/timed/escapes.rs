@@ -2,7 +2,7 @@
 #![tactic(auto, using(winnow::specs::Rules::ends_follow))]
 
 ghost use Rattle.winnow.specs.Claim.{no_claim, nothing_claimed};
-ghost use Rattle.winnow.specs.Covers.{AnyOutcome, no_terms};
+ghost use Rattle.winnow.specs.Covers.{AnyOutcome, any_covered, no_terms};
 ghost use Rattle.std.specs.Prelude.{⊤};
 ghost use Rattle.winnow.specs.Input.{IsEndOf};
 ghost use Rattle.winnow.specs.Text.{text_input, text_reading};
@@ -31,7 +31,7 @@ fn named(character: char) -> Option<char> {
 fn unescaped<'i>(alloc: Global, input: &mut &'i str) -> Result<String, ErrMode<EmptyError>>
     ensures { IsEndOf text_reading (text_input input.new.now) (text_input input.old.now) }
 {
-    let plain = take_until(Range::from(1..), ('"', '\\'));
+    let plain = take_until(1.., ('"', '\\'));
     escaped(alloc, plain, '\\', Any.verify_map(named)).parse_next(input)
 }
 
@@ -74,7 +74,7 @@ impl<'i> Parser<&'i str, String, ErrMode<EmptyError>> for TextReader {
 
     ghost leaves_ends = { λ _ _ _ _ _ _ ends. ends };
 
-    ghost covers = { λ never at. absurd never };
+    ghost covers = { λ at. any_covered (λ _ _ _ _ _ ends. ends) };
 
     ghost lawful = { λ never. absurd never };
 
@@ -88,7 +88,7 @@ impl<'i> Parser<&'i str, String, ErrMode<EmptyError>> for TextReader {
 
 /// Parses as many strings as possible. Returns their number and their length in bytes.
 fn texts<'i>(alloc: Global, input: &mut &'i str) -> Result<(u64, u64), ErrMode<EmptyError>> {
-    repeat(alloc, Range::from(0..), TextReader { alloc })
+    repeat(alloc, 0.., TextReader { alloc })
         .fold(
             || (0u64, 0u64),
             |all: (u64, u64), text: String| {

@@ -2,7 +2,7 @@
 #![tactic(auto, using(winnow::specs::Rules::ends_follow))]
 
 ghost use Rattle.winnow.specs.Claim.{no_claim, nothing_claimed};
-ghost use Rattle.winnow.specs.Covers.{AnyOutcome, no_terms};
+ghost use Rattle.winnow.specs.Covers.{AnyOutcome, any_covered, no_terms};
 ghost use Rattle.std.specs.Prelude.{⊤};
 ghost use Rattle.winnow.specs.Text.{text_input, text_reading};
 ghost use Rattle.winnow.specs.Input.{IsEndOf};
@@ -13,7 +13,6 @@ use std::str;
 use winnow::Parser;
 use winnow::combinator::{preceded, repeat, terminated};
 use winnow::error::{ErrMode, InputError};
-use winnow::stream::Range;
 use winnow::token::{one_of, take_until};
 
 /// A row: its first field, and the others.
@@ -28,8 +27,8 @@ fn others<'i>(
 {
     repeat(
         alloc,
-        Range::from(0..),
-        preceded(',', take_until(Range::from(0..), (',', '\n'))),
+        0..,
+        preceded(',', take_until(0.., (',', '\n'))),
     )
     .parse_next(input)
 }
@@ -38,7 +37,7 @@ fn others<'i>(
 fn row<'i>(alloc: Global, input: &mut &'i str) -> Result<Row<'i>, ErrMode<InputError<&'i str>>>
     ensures { IsEndOf text_reading (text_input input.new.now) (text_input input.old.now) }
 {
-    let first = match take_until(Range::from(0..), (',', '\n')).parse_next(input) {
+    let first = match take_until(0.., (',', '\n')).parse_next(input) {
         Ok(first) => first,
         Err(error) => return Err(error),
     };
@@ -73,7 +72,7 @@ impl<'i> Parser<&'i str, Row<'i>, ErrMode<InputError<&'i str>>> for RowReader {
 
     ghost leaves_ends = { λ _ _ _ _ _ _ ends. ends };
 
-    ghost covers = { λ never at. absurd never };
+    ghost covers = { λ at. any_covered (λ _ _ _ _ _ ends. ends) };
 
     ghost lawful = { λ never. absurd never };
 
@@ -90,7 +89,7 @@ fn rows<'i>(
     alloc: Global,
     input: &mut &'i str,
 ) -> Result<Vec<Row<'i>, Global>, ErrMode<InputError<&'i str>>> {
-    repeat(alloc, Range::from(0..), RowReader { alloc }).parse_next(input)
+    repeat(alloc, 0.., RowReader { alloc }).parse_next(input)
 }
 
 /// Returns the number of rows and of their fields.
@@ -132,9 +131,9 @@ fn counted<'i>(
 ) -> Result<usize, ErrMode<InputError<&'i [u8]>>> {
     repeat(
         alloc,
-        Range::from(0..),
+        0..,
         terminated(
-            take_until(Range::from(0..), (b',', b'\n')),
+            take_until(0.., (b',', b'\n')),
             one_of((b',', b'\n')),
         ),
     )

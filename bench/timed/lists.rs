@@ -46,8 +46,8 @@ type Lists = Vec<Vec<u32, Global>, Global>;
 
 /// Lists of numbers, with line feeds between them.
 fn lists<'i>(alloc: Global, input: &mut &'i [u8]) -> Result<Lists, ErrMode<InputError<&'i [u8]>>> {
-    let list = separated(alloc, Range::from(1..), DecUint, b',');
-    separated(alloc, Range::from(0..), list, b'\n').parse_next(input)
+    let list = separated(alloc, 1.., DecUint, b',');
+    separated(alloc, 0.., list, b'\n').parse_next(input)
 }
 
 /// Returns the number of numbers in all lists.

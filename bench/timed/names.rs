@@ -5,7 +5,7 @@ use std::alloc::Global;
 use winnow::Parser;
 use winnow::combinator::{repeat, terminated};
 use winnow::error::{EmptyError, ErrMode};
-use winnow::stream::{ByteSet, Range};
+use winnow::stream::ByteSet;
 use winnow::token::take_while;
 
 /// Counts the names that are followed by a colon; the set of their bytes is a table.
@@ -16,8 +16,8 @@ fn names_by_table<'i>(
 ) -> Result<usize, ErrMode<EmptyError>> {
     repeat(
         alloc,
-        Range::from(0..),
-        terminated(take_while(Range::from(1..), set), b':'),
+        0..,
+        terminated(take_while(1.., set), b':'),
     )
     .parse_next(input)
 }
@@ -44,8 +44,8 @@ fn names_by_ranges<'i>(alloc: Global, input: &mut &'i [u8]) -> Result<usize, Err
     let set = (b'a'..=b'z', b'A'..=b'Z', b'-', b'0'..=b'9');
     repeat(
         alloc,
-        Range::from(0..),
-        terminated(take_while(Range::from(1..), set), b':'),
+        0..,
+        terminated(take_while(1.., set), b':'),
     )
     .parse_next(input)
 }

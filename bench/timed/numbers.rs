@@ -6,13 +6,13 @@ use winnow::ascii::impls::DecUint;
 use winnow::combinator::{repeat, separated, terminated};
 use winnow::error::{EmptyError, ErrMode, InputError};
 use winnow::prelude::*;
-use winnow::stream::{AsBStr, AsChar, Compare, Partial, Range, SlicesAsBytes};
+use winnow::stream::{AsBStr, AsChar, Compare, Partial, SlicesAsBytes};
 
 fn list<'i>(
     alloc: Global,
     input: &mut &'i [u8],
 ) -> Result<Vec<u32, Global>, ErrMode<InputError<&'i [u8]>>> {
-    separated(alloc, Range::from(0..), DecUint, b',').parse_next(input)
+    separated(alloc, 0.., DecUint, b',').parse_next(input)
 }
 
 /// Parses a list of numbers. `out` stays zero if an allocation fails.
@@ -35,7 +35,7 @@ fn sum<'i>(
     alloc: Global,
     input: &mut &'i [u8],
 ) -> Result<(u64, u64), ErrMode<InputError<&'i [u8]>>> {
-    repeat(alloc, Range::from(0..), terminated(DecUint, b','))
+    repeat(alloc, 0.., terminated(DecUint, b','))
         .fold(
             || (0u64, 0u64),
             |all: (u64, u64), n: u32| (all.0.wrapping_add(1), all.1.wrapping_add(n as u64)),

@@ -5,7 +5,6 @@ use std::alloc::Global;
 use winnow::Parser;
 use winnow::combinator::{repeat, terminated};
 use winnow::error::{ErrMode, InputError};
-use winnow::stream::Range;
 use winnow::token::{literal, take_until};
 
 /// Counts the parts that are followed by the literal.
@@ -16,8 +15,8 @@ fn parts<'i>(
 ) -> Result<usize, ErrMode<InputError<&'i [u8]>>> {
     repeat(
         alloc,
-        Range::from(0..),
-        terminated(take_until(Range::from(0..), mark), literal(mark)),
+        0..,
+        terminated(take_until(0.., mark), literal(mark)),
     )
     .parse_next(input)
 }

@@ -7,7 +7,6 @@ use winnow::ascii::Caseless;
 use winnow::combinator::{alt, repeat, terminated};
 use winnow::error::{EmptyError, ErrMode};
 use winnow::prelude::*;
-use winnow::stream::Range;
 use winnow::token::{literal, take_until};
 
 /// Counts consecutive words, each one of six keywords followed by a space.
@@ -20,7 +19,7 @@ fn keywords<'i>(alloc: Global, input: &mut &'i [u8]) -> Result<usize, ErrMode<Em
         literal(b"order".as_slice()),
         literal(b"limit".as_slice()),
     ));
-    repeat(alloc, Range::from(0..), terminated(keyword, b' ')).parse_next(input)
+    repeat(alloc, 0.., terminated(keyword, b' ')).parse_next(input)
 }
 
 /// Parses words from six keywords, each followed by a space.
@@ -51,7 +50,7 @@ fn keywords_of_any_case<'i>(
         literal(Caseless(b"order".as_slice())),
         literal(Caseless(b"limit".as_slice())),
     ));
-    repeat(alloc, Range::from(0..), terminated(keyword, b' ')).parse_next(input)
+    repeat(alloc, 0.., terminated(keyword, b' ')).parse_next(input)
 }
 
 /// Parses words from six keywords in upper or lower case, each followed by a space.
@@ -73,8 +72,8 @@ pub extern "C" fn timed_any_case(alloc: Global, input: &[u8], out: &mut Outcome)
 fn words<'i>(alloc: Global, input: &mut &'i str) -> Result<usize, ErrMode<EmptyError>> {
     repeat(
         alloc,
-        Range::from(0..),
-        terminated(take_until(Range::from(1..), ' '), ' '),
+        0..,
+        terminated(take_until(1.., ' '), ' '),
     )
     .parse_next(input)
 }
