@@ -30,11 +30,11 @@ MODELS = {
 NEXT = """Now change, in this order:
   {spec}: the semantics, `{kind}Runs`, a line per case
   {file}: the clauses, the documentation and the body of `{name}`
-  {does}: the definition `{kind}Does`, with its law
+  {does}: the definition `{kind}Does`, with its law, and its grammar in `specs/Projects`
   {covers}: the lemma `{name}_covered`: each run has an outcome of the definition
   {impls}: the struct `{kind}`, and its impl of `Parser`: with the model's definition, law and
-    lemma until then, and with the claim
-  {laws}: the lemmas: it leaves a suffix, and satisfies its claim (it parses by its grammar)
+    lemmas until then, and with the claim
+  {laws}: the lemma: it leaves a suffix
   {test}: its results, with expected values from another source
   {edit}, `{name}_..`: a line of the code, and a wrong replacement
   {note}: a line for the release notes
@@ -59,8 +59,9 @@ def renamed(text, of, to):
     """Returns the model's text with the new names, in code and in code spans of comments. First it
     writes placeholders, since the new names may begin with the model's."""
     kind, new, name = camel(of.name), "\0", "\1"
-    # The model's definition, its law and its lemma stay.
-    kept = [f"parser_definitions.specs.{kind}.", f"{kind}Does", f"{of.name}_law", f"{of.name}_covered"]
+    # The model's definition, its laws and its lemma stay.
+    kept = [f"parser_definitions.specs.{kind}.", f"{kind}Does"]
+    kept += [f"{of.name}_{it}" for it in ("law", "projects", "covered")]
     for place, it in enumerate(kept):
         text = text.replace(it, chr(2 + place))
     text = text.replace(f"Rattle.{of.crate.name}.specs.{kind}", f"Rattle.{to.crate.name}.specs.{new}")

@@ -2,7 +2,7 @@
 
 The model is `examples::settings_file`, the parser of docs/FIRST_PROOF.md, with its specs, proofs,
 tests and edits under other names. So the new crate is proved unchanged. The script also adds its
-lines to `crates.txt`, ARCHITECTURE, CONTRIBUTING and the lists of `scripts/`, and writes a note.
+lines to `crates.txt`, CONTRIBUTING and the lists of `scripts/`, and writes a note.
 """
 import re
 import subprocess
@@ -62,11 +62,6 @@ SECONDS = 30
 LINES = [
     (TOP / "crates.txt", "# The readers.\n", "# {What}.\n{crate}: winnow\n"),
     (
-        TOP / "docs/ARCHITECTURE.md",
-        "| [readers](../crates/readers/README.md)",
-        "| [{crate}](../crates/{crate}/README.md) | {what} |\n",
-    ),
-    (
         TOP / "scripts/registry/readers.py",
         '    ("INI", "readers", ',
         '    ("{name}: settings, a line each", "{crate}", "yes"),\n',
@@ -85,7 +80,7 @@ NEXT = """{crate} is created. Now change, in this order (docs/FIRST_PROOF.md exp
   {at}/proofs: the two answers
   edits/{crate}.txt: a wrong line for each definition
   {at}/README.md: the page of the crate, with its theorem
-  scripts/registry/readers.py, docs/ARCHITECTURE.md, crates.txt, changes/{crate}.md: the format
+  scripts/registry/readers.py, crates.txt, changes/{crate}.md: the format
   CONTRIBUTING.md: the cost of its proof
 `./x quick` reports what is missing; `rt check` in {at} proves it."""
 
@@ -153,7 +148,7 @@ def lay_reader(name):
     for path, text in files(crate):
         path.parent.mkdir(parents=True, exist_ok=True)
         path.write_text(text, encoding="utf-8")
-    words = {"name": name, "crate": crate, "what": WHAT, "What": WHAT.capitalize()}
+    words = {"name": name, "crate": crate, "What": WHAT.capitalize()}
     for path, mark, lines in LINES:
         put(path, mark.format(), lines.format(**words))
     put_cost(crate)

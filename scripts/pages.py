@@ -5,7 +5,7 @@
 
 Each crate of `crates.txt` has a page, `crates/NAME/README.md`, of at most 2,000 words: its name as
 the title, what it is, each crate that it depends on, where to begin, and its theorems. ARCHITECTURE.md
-links each page. The links of the pages, of the documents in `docs/`, `bindings/` and `edits/` and
+or READERS.md links each page. The links of the pages, of the documents in `docs/`, `bindings/` and `edits/` and
 of those at the top lead to existing files and headings. Each row of DIFFERENCES.md has a reason, and
 its test exists; each test of `tests/differences` has a row. It fails if any of this is not so.
 """
@@ -20,7 +20,7 @@ DIFFERENCES = TOP / "docs/DIFFERENCES.md"
 # The end of a row there: its reason and its test.
 ROW = re.compile(r" \| (?:proof|kit|memory|code|open) \| (?:`(\w+)` )?\|$")
 MOST_WORDS = 2000
-ARCHITECTURE = TOP / "docs/ARCHITECTURE.md"
+LISTS = [TOP / "docs/ARCHITECTURE.md", TOP / "docs/READERS.md"]
 # The text of the page of `winnow`, instead of a long list.
 ALL = "Depends on every crate of the library."
 LINK = re.compile(r"\]\(([^()\s]+)\)")
@@ -80,8 +80,8 @@ def faults_of_page(name, others):
     lacking = [] if ALL in lines else [it for it in others if f"`{it}`" not in text]
     if lacking:
         yield f"1: it does not say that the crate depends on {', '.join(lacking)}"
-    if f"](../crates/{name}/README.md)" not in read(ARCHITECTURE):
-        yield "1: docs/ARCHITECTURE.md does not link it"
+    if not any(f"](../crates/{name}/README.md)" in read(it) for it in LISTS):
+        yield "1: neither docs/ARCHITECTURE.md nor docs/READERS.md links it"
 
 
 def faults_of_differences():

@@ -61,12 +61,12 @@ def definition(n):
     for it in ("premise", "stable"):
         terms.append("      %s = %s;" % (it, nested(lambda k: "P%d.terms.%s" % (k, it), n, product)))
     terms += ["      alike = %s;" % chosen("AlikeEither", lambda k: "P%d.terms.alike" % k), "    } };", ""]
-    covers = chosen("alt_covered", lambda k: "(P%d.covers is%s at)" % (k, place(n, k)))
+    covers = chosen("alt_covered", lambda k: "(P%d.covers at)" % k)
     lawful = chosen("alt_law", lambda k: "(P%d.lawful is%s)" % (k, place(n, k)))
     return [
         "    ghost does = { %s };\n" % chosen("AltDoes", lambda k: "P%d.does" % k),
         "\n".join(terms),
-        "    ghost covers = { λ is at. %s };\n" % covers,
+        "    ghost covers = { λ at. %s };\n" % covers,
         "    ghost lawful = { λ is. %s };\n" % lawful,
     ]
 
@@ -115,12 +115,12 @@ def choice_impl(n):
 CHOICE_IMPLS = """//! Tuples as the branches of `alt`.
 //!
 //! {head}
-ghost use Rattle.winnow_comb.specs.Alt.{{OrElse}};
-ghost use Rattle.winnow_comb.specs.Alt.Claim.{{or_else_claim, or_else_claimed}};
-ghost use Rattle.winnow_comb.specs.Alt.Laws.{{or_else_ends}};
-ghost use Rattle.winnow_comb.specs.Covers.{{alt_covered}};
 ghost use Rattle.parser_definitions.specs.Alt.{{AltDoes, alt_law}};
 ghost use Rattle.parser_definitions.specs.Equal.{{AlikeEither}};
+ghost use Rattle.parser_definitions.specs.Projects.Choices.{{or_else_claim, or_else_claimed}};
+ghost use Rattle.winnow_comb.specs.Alt.Laws.{{or_else_ends}};
+ghost use Rattle.winnow_comb.specs.Alt.{{OrElse}};
+ghost use Rattle.winnow_comb.specs.Covers.{{alt_covered}};
 
 use crate::combinator::impls::alt::{{Alt, attempt}};
 use stream_errors::parser_error::ParserError;

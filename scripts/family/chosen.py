@@ -63,11 +63,12 @@ CHOSEN_STRUCT = (
 
 ghost use Rattle.std.specs.Prelude.{{◌≡◌, ⊤}};
 ghost use Rattle.parser_definitions.specs.Integer.{{IntegerDoes, integer_law}};
+ghost use Rattle.parser_definitions.specs.Projects.Integers.{{integer_claim, integer_claimed}};
+ghost use Rattle.parser_definitions.specs.Projects.Integers.{{some_bytes}};
 ghost use Rattle.winnow_binary.specs.Chosen.{{ChosenRuns}};
 ghost use Rattle.winnow_integers.specs.Covers.{{integer_covered}};
 ghost use Rattle.winnow_integers.specs.Integer.{{{value}}};
-ghost use Rattle.winnow_integers.specs.Integer.Laws.{{integer_claim, integer_claimed}};
-ghost use Rattle.winnow_integers.specs.Integer.Laws.{{integer_leaves, some_bytes}};
+ghost use Rattle.winnow_integers.specs.Integer.Laws.{{integer_leaves}};
 ghost use Rattle.winnow_integers.specs.declared.binary.endianness.Endianness.{{Endianness}};
 
 use std::marker::PhantomData;

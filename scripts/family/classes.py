@@ -97,10 +97,11 @@ CLASS_STRUCT = """//! {about}
 ghost use Rattle.std.specs.Prelude.{{⊤}};
 ghost use Rattle.stream_sets.specs.AsChar.{{{member}}};
 ghost use Rattle.parser_definitions.specs.Class.{{CharIsFunction, ClassDoes, class_law}};
+ghost use Rattle.parser_definitions.specs.Projects.Lines.{{class_claim, class_claimed{laws}}};
 ghost use Rattle.parser_definitions.specs.Spelled.{{ShowSame}};
 ghost use Rattle.winnow_core.specs.Runs.{{Keeps}};
 ghost use Rattle.winnow_ascii.specs.Class.{{ClassRuns}};
-ghost use Rattle.winnow_ascii.specs.Class.Laws.{{class_claim, class_claimed, class_leaves{laws}}};
+ghost use Rattle.winnow_ascii.specs.Class.Laws.{{class_leaves}};
 ghost use Rattle.winnow_ascii.specs.Covers.{{class_covered}};
 
 use crate::ascii::{call};
@@ -135,7 +136,7 @@ where
 
     ghost leaves_ends = {{ class_leaves {member} {least} I.Token.code I.seen_as I.reading }};
 
-    ghost covers = {{ λ _ at. class_covered {member} {least} I.Token.code I.seen_as I.reading }};
+    ghost covers = {{ λ at. class_covered {member} {least} I.Token.code I.seen_as I.reading }};
 
     ghost lawful = {{ λ is. class_law {member} {least} I.Token.code I.seen_as I.reading is }};
 

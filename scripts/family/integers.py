@@ -136,10 +136,11 @@ STRUCT = (
 //! {head}
 ghost use Rattle.std.specs.Prelude.{{◌≡◌, ⊤}};
 ghost use Rattle.parser_definitions.specs.Integer.{{IntegerDoes, integer_law}};
+ghost use Rattle.parser_definitions.specs.Projects.Integers.{{integer_claim, integer_claimed}};
+ghost use Rattle.parser_definitions.specs.Projects.Integers.{{some_bytes}};
 ghost use Rattle.winnow_integers.specs.Covers.{{integer_covered}};
 ghost use Rattle.winnow_integers.specs.Integer.{{IntegerRuns, {value}}};
-ghost use Rattle.winnow_integers.specs.Integer.Laws.{{integer_claim, integer_claimed}};
-ghost use Rattle.winnow_integers.specs.Integer.Laws.{{integer_leaves, some_bytes}};
+ghost use Rattle.winnow_integers.specs.Integer.Laws.{{integer_leaves}};
 ghost use Rattle.winnow_integers.specs.declared.binary.endianness.Endianness.TheVariants.{{{constructor}}};
 ghost use Rattle.winnow_core.specs.Runs.{{Keeps}};
 

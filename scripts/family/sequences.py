@@ -35,7 +35,7 @@ def claim(n):
 def claimed(n):
     """Returns the proof that a tuple of n satisfies its claim if its members satisfy theirs."""
     small = (name + " %s %s" % (whole(k), spaced("(P#.claimed s.@)", k)) for k, name in ((2, "both_claimed"), (3, "three_claimed")))
-    return law_of(n, *small, "claimed_by split{n} same{n} (both_claimed join{n} ({front}) (P{n}.claimed s.{at}))")
+    return law_of(n, *small, "joined_claimed join{n} split{n} join{n} refl ({front}) (P{n}.claimed s.{at})")
 
 
 def leaves_ends(n):
@@ -60,13 +60,11 @@ NOTHING_CLAIMS = {
     "claimed": record(
         "claimed",
         {
-            "exact": "λ form is. unit_exact",
-            "fails": "λ form is. backs unit_fails",
+            "projects": "λ at is. empty_projects",
             "takes": NEVER_TAKES,
         },
     ),
 }
-CHILD = "(P1.meaning form) (record { 0 = s.0 })"
 ONE_CLAIMS = {
     "claim": record(
         "claim",
@@ -76,8 +74,7 @@ ONE_CLAIMS = {
     "claimed": record(
         "claimed",
         {
-            "exact": "λ form is. tuple1_exact %s ((P1.claimed s.0).exact form is)" % CHILD,
-            "fails": "λ form is. tuple1_fails %s ((P1.claimed s.0).fails form is)" % CHILD,
+            "projects": "λ at is. one_projects ((P1.claimed s.0).projects at is)",
             "takes": "λ is some. made_of_takes OneTuple tt ((P1.claimed s.0).takes is some)",
         },
     ),
@@ -108,7 +105,7 @@ def definition(n):
     return {
         "does": "    ghost does = { %s };" % does,
         "terms": terms(conjunction(numbered("P#.terms.premise", n)), stable(n), "%s %s" % (ALIKE[n - 1], spaced("P#.terms.alike", n))),
-        "covers": "    ghost covers = { λ is at. %s %s };" % (COVERED[n - 1], spaced("(P#.covers %s at)" % given, n)),
+        "covers": "    ghost covers = { λ at. %s %s };" % (COVERED[n - 1], spaced("(P#.covers at)", n)),
         "lawful": "    ghost lawful = { λ is. %s %s };" % (LAW[n - 1], spaced("(P#.lawful %s)" % given, n)),
     }
 
@@ -166,23 +163,22 @@ use streams::stream::Stream;
 """
 IMPORTS = {
     "std.specs.Prelude": "⊤",
+    "std.proofs.Common": "refl",
     "grammars.specs.Grammar": "Made, Nothing",
     "grammars.specs.Grammar.Tuples": "join4, join5, join6",
     "grammars.specs.Grammar.Unique": "made_of_takes",
     "parser_definitions.specs.Both": "BothDo, pair_law",
     "parser_definitions.specs.Eof": "empty_law",
     "parser_definitions.specs.Equal": "AlikePairs",
+    "parser_definitions.specs.Projects.Literals": "empty_projects",
+    "parser_definitions.specs.Projects.Sequences": "OneTuple, both_claim, both_claimed, joined_claimed, one_projects, three_claim, three_claimed",
     "parser_definitions.specs.Sequence": "AlikeOne, AlikeTriples, SequenceDoes0, SequenceDoes1, SequenceDoes3, sequence1_law, sequence3_law",
-    "parser_definitions.specs.Tuples": "AlikeFive, AlikeFour, AlikeSix, SequenceDoes4, SequenceDoes5, SequenceDoes6, sequence4_law, sequence5_law, sequence6_law",
+    "parser_definitions.specs.Tuples": "AlikeFive, AlikeFour, AlikeSix, SequenceDoes4, SequenceDoes5, SequenceDoes6, sequence4_law, sequence5_law, sequence6_law, split4, split5, split6",
     "winnow_core.specs.Covers.Sequences": "both_covered, three_covered",
     "winnow_core.specs.Covers.Tuples": ", ".join("sequence%d_covered" % n for n in range(MOST + 1) if n not in (2, 3)),
     "winnow_core.specs.Ends": "same_ends",
-    "winnow_core.specs.Exact.Allowed": "backs",
-    "winnow_core.specs.Exact.Nothing": "unit_exact, unit_fails",
-    "winnow_core.specs.InOrder.Claim": "both_claim, both_claimed, claimed_by, three_claim, three_claimed",
-    "winnow_core.specs.InOrder.Exact": "OneTuple, tuple1_exact, tuple1_fails",
     "winnow_core.specs.InOrder.Laws": "both_ends, ends_by, three_ends",
-    "winnow_core.specs.Sequence": ", ".join("SequenceRuns%d" % n for n in range(MOST + 1)) + ", same4, same5, same6, split4, split5, split6",
+    "winnow_core.specs.Sequence": ", ".join("SequenceRuns%d" % n for n in range(MOST + 1)),
     "winnow_core.specs.Sequence.Small": "sequence1_ends",
 }
 NOTHING = """/// Succeeds without consuming input.
@@ -201,7 +197,7 @@ impl<I: Stream, E: ParserError<I>> Parser<I, (), E> for () {{
 
     ghost leaves_ends = {{ λ form s i answer t j r. same_ends I.reading i j r.1 }};
 
-    ghost covers = {{ λ is at. sequence0_covered }};
+    ghost covers = {{ λ at. sequence0_covered }};
 
     ghost lawful = {{ λ is. empty_law }};
 

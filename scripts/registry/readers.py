@@ -104,7 +104,7 @@ def write_readers():
             lines(crate, "specs", ".antt"),
             lines(crate, "proofs", ".antt"),
         ]
-        link = f"[{crate.replace('/', '::')}](../crates/{crate.partition('/')[0]})"
+        link = f"[{crate.replace('/', '::')}](../crates/{crate.partition('/')[0]}/README.md)"
         counted.append([what, link, is_by_grammars, *(f"{it:,}" for it in counts)])
     for what, crates, proved in BRIEF:
         links = ", ".join(f"[{it}](crates/{it}/README.md#theorems)" for it in crates)

@@ -1,7 +1,6 @@
 //! Common helpers.
 use stream_errors::input_error::InputError;
 use stream_errors::parser_error::ParserError;
-use stream_sets::range::Range;
 use streams::stream::StreamIsPartial;
 use test_support::rows::ModalAt;
 use winnow_token::token::impls::TakeWhile;
@@ -18,5 +17,5 @@ pub(crate) type Plain = InputError<Bytes>;
 pub(crate) fn letter<I: StreamIsPartial<Token = char>, E: ParserError<I>>(
     letter: char,
 ) -> TakeWhile<char, I, E> {
-    take_while(Range::from(1..=1), letter)
+    take_while(1..=1, letter)
 }

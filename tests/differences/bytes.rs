@@ -1,7 +1,7 @@
 //! Bytes and bits.
 use winnow::Func;
 use winnow::binary::bits;
-use winnow::binary::bits::impls::Bits;
+use winnow::binary::bits::Bits;
 use winnow::binary::impls::U8;
 use winnow::binary::{Endianness, length_and_then, u16};
 use winnow::error::{EmptyError, ErrMode, Needed};

@@ -15,7 +15,7 @@ type Message = ContextError<&'static str>;
 fn out_of_memory_is_a_kind(rt: HostRuntime) {
     let heap = Refusing::always_from(rt.alloc(), 0);
     let mut input = "ab";
-    let list = repeat(&heap, Range::from(1..), Any);
+    let list = repeat(&heap, 1.., Any);
     let read: Result<Option<Vec<char, &Refusing<Global>>>, Fails> = opt(list).parse_next(&mut input);
     match read {
         Err(error) => assert!(rt; ParserError::<&str>::is_memory(&error)),
@@ -34,7 +34,7 @@ fn out_of_memory_is_marked(rt: HostRuntime) {
 #[test]
 fn parse_may_be_out_of_memory(rt: HostRuntime) {
     let heap = Refusing::always_from(rt.alloc(), 0);
-    let mut list = repeat(&heap, Range::from(1..), Any);
+    let mut list = repeat(&heap, 1.., Any);
     let read: Result<Vec<char, &Refusing<Global>>, ParseFault<&str, EmptyError>> =
         Parser::<_, _, Fails>::parse(&mut list, "ab");
     match read {
@@ -115,7 +115,7 @@ fn input_errors_are_made(rt: HostRuntime) {
 #[test]
 fn assertions_are_errors(rt: HostRuntime) {
     let mut input = "ab";
-    let read: Result<(), Fails> = repeat(rt.alloc(), Range::from(0..), "").parse_next(&mut input);
+    let read: Result<(), Fails> = repeat(rt.alloc(), 0.., "").parse_next(&mut input);
     assert!(rt; matches!(read, Err(ErrMode::Cut(_))));
 }
 

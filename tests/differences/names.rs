@@ -1,8 +1,7 @@
 //! Names and parameters.
 use std::ops::RangeInclusive;
-use winnow::binary::bits::impls::Bits;
-use winnow::combinator::impls::Repeat;
-use winnow::combinator::repeat;
+use winnow::binary::bits::Bits;
+use winnow::combinator::{Repeat, repeat};
 use winnow::error::{EmptyError, ErrMode};
 use winnow::prelude::*;
 use winnow::token::impls::TakeWhile;
@@ -13,7 +12,7 @@ type Fails = ErrMode<EmptyError>;
 #[test]
 fn parsers_are_structs(rt: HostRuntime) {
     let mut word: TakeWhile<RangeInclusive<char>, &str, Fails> =
-        take_while(Range::from(1..), 'a'..='z');
+        take_while(1.., 'a'..='z');
     assert_eq!(rt; word.parse_peek("ab1").ok(), Some(("1", "ab")));
 }
 
@@ -21,15 +20,8 @@ fn parsers_are_structs(rt: HostRuntime) {
 fn allocators_come_first(rt: HostRuntime) {
     let mut input = "12a";
     let digits: Result<Vec<char>, Fails> =
-        repeat(rt.alloc(), Range::from(1..), one_of('0'..='9')).parse_next(&mut input);
+        repeat(rt.alloc(), 1.., one_of('0'..='9')).parse_next(&mut input);
     assert_eq!(rt; digits.ok().map(|it| it.len()), Some(2));
-}
-
-#[test]
-fn ranges_are_made(rt: HostRuntime) {
-    let mut input = "abcd";
-    let three: Result<&str, Fails> = take_while(Range::from(3), 'a'..='z').parse_next(&mut input);
-    assert_eq!(rt; three.ok(), Some("abc"));
 }
 
 #[test]
@@ -49,8 +41,8 @@ fn inputs_are_copied(rt: HostRuntime) {
 }
 
 #[test]
-fn structs_are_in_impls(rt: HostRuntime) {
-    let mut all: Repeat<_, &str, _, (), Fails, _> = repeat(rt.alloc(), Range::from(0..), 'a');
+fn type_arguments_are_others(rt: HostRuntime) {
+    let mut all: Repeat<_, &str, _, (), Fails, _> = repeat(rt.alloc(), 0.., 'a');
     assert_eq!(rt; all.parse_peek("aab").ok(), Some(("b", ())));
     assert_eq!(rt; Bits(b"a".as_slice(), 4).1, 4);
 }

@@ -21,7 +21,7 @@ fn branches_nest(rt: HostRuntime) {
 
 #[test]
 fn slices_are_counted_by_fold(rt: HostRuntime) {
-    let pairs = repeat(rt.alloc(), Range::from(0..), take(2_usize));
+    let pairs = repeat(rt.alloc(), 0.., take(2_usize));
     let mut lengths = pairs.fold(|| 0, |sum: usize, slice: &str| sum + slice.len());
     let read: Result<usize, Fails> = lengths.parse_next(&mut "abcde");
     assert_eq!(rt; read.ok(), Some(4));
@@ -30,7 +30,7 @@ fn slices_are_counted_by_fold(rt: HostRuntime) {
 #[test]
 fn maps_are_ordered(rt: HostRuntime) {
     let pair = (one_of('a'..='z'), DecUint);
-    let mut pairs = repeat(rt.alloc(), Range::from(1..), pair);
+    let mut pairs = repeat(rt.alloc(), 1.., pair);
     let read: Result<BTreeMap<char, u32>, Fails> = pairs.parse_next(&mut "b2a1b3");
     assert_eq!(rt; read.ok().map(|it| it.len()), Some(2));
 }

@@ -13,7 +13,7 @@ type Fails = ErrMode<EmptyError>;
 fn closures_are_wrapped(rt: HostRuntime) {
     let mut input = "12a";
     let set = Pred(|c: char| c.is_ascii_digit());
-    let read: Result<&str, Fails> = take_while(Range::from(1..), set).parse_next(&mut input);
+    let read: Result<&str, Fails> = take_while(1.., set).parse_next(&mut input);
     assert_eq!(rt; read.ok(), Some("12"));
 }
 
@@ -21,7 +21,7 @@ fn closures_are_wrapped(rt: HostRuntime) {
 fn sets_nest(rt: HostRuntime) {
     let mut input = "hg-";
     let set = ('a', 'b', 'c', 'd', 'e', ('f', 'g', 'h'));
-    let read: Result<&str, Fails> = take_while(Range::from(1..), set).parse_next(&mut input);
+    let read: Result<&str, Fails> = take_while(1.., set).parse_next(&mut input);
     assert_eq!(rt; read.ok(), Some("hg"));
 }
 
@@ -35,7 +35,7 @@ fn tokens_are_literals(rt: HostRuntime) {
 #[test]
 fn take_until_searches_once(rt: HostRuntime) {
     let mut input = "ax..x";
-    let read: Result<&str, Fails> = take_until(Range::from(2..), 'x').parse_next(&mut input);
+    let read: Result<&str, Fails> = take_until(2.., 'x').parse_next(&mut input);
     assert!(rt; matches!(read, Err(ErrMode::Backtrack(_))));
 }
 

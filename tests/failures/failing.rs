@@ -3,7 +3,6 @@ use std::process::Abort;
 use winnow::ascii::impls::{Alpha1, Digit1};
 use winnow::combinator::{alt, cut_err, repeat};
 use winnow::error::{EmptyError, ErrMode, ParseFault};
-use winnow::stream::Range;
 use winnow::Parser;
 
 /// The observed result of a call, success, backtrack or cut, with the number of remaining bytes.
@@ -85,7 +84,7 @@ fn repetitions(rt: HostRuntime) {
         (b"abc", Reads(1)),
     ];
     let item = (b'a', cut_err(b'b'));
-    check::<(), _>(&rt, repeat(rt.alloc(), Range::from(0..), item), rows);
+    check::<(), _>(&rt, repeat(rt.alloc(), 0.., item), rows);
     let rows: &[(&[u8], Seen)] = &[
         (b"", Backs(0)),
         (b"c", Backs(1)),
@@ -93,14 +92,14 @@ fn repetitions(rt: HostRuntime) {
         (b"abc", Reads(1)),
     ];
     let item = (b'a', cut_err(b'b'));
-    check::<(), _>(&rt, repeat(rt.alloc(), Range::from(1..), item), rows);
+    check::<(), _>(&rt, repeat(rt.alloc(), 1.., item), rows);
     let rows: &[(&[u8], Seen)] = &[
         (b"ab", Backs(0)),
         (b"abac", Backs(1)),
         (b"ababababx", Reads(3)),
         (b"abab", Reads(0)),
     ];
-    check::<(), _>(&rt, repeat(rt.alloc(), Range::from(2..=3), (b'a', b'b')), rows);
+    check::<(), _>(&rt, repeat(rt.alloc(), 2..=3, (b'a', b'b')), rows);
 }
 
 /// The offset of the error of a whole parse: where the remaining input starts.

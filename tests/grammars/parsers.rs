@@ -1,7 +1,7 @@
 //! Compositions as parsers: at each node the library's own combinator runs, over references to the
 //! parts.
-ghost use Rattle.winnow_core.specs.Claim.{no_claim, nothing_claimed};
-ghost use Rattle.winnow_core.specs.Covers.{AnyOutcome, no_terms};
+ghost use Rattle.parser_definitions.specs.Claim.{no_claim, nothing_claimed};
+ghost use Rattle.winnow_core.specs.Covers.{AnyOutcome, any_covered, no_terms};
 ghost use Rattle.std.specs.Prelude.{⊤};
 ghost use Rattle.streams.specs.Input.{IsEndOf};
 
@@ -37,7 +37,7 @@ impl<'i, I: Bytes<'i>> Parser<I, Shown, Modal> for Tree {
 
     ghost leaves_ends = { λ _ _ _ _ _ _ ends. ends };
 
-    ghost covers = { λ never at. absurd never };
+    ghost covers = { λ at. any_covered (λ _ _ _ _ _ ends. ends) };
 
     ghost lawful = { λ never. absurd never };
 

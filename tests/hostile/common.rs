@@ -1,6 +1,6 @@
 //! Common helpers: a child that counts its calls, and a child with a plan.
-ghost use Rattle.winnow_core.specs.Claim.{no_claim, nothing_claimed};
-ghost use Rattle.winnow_core.specs.Covers.{AnyOutcome, no_terms};
+ghost use Rattle.parser_definitions.specs.Claim.{no_claim, nothing_claimed};
+ghost use Rattle.winnow_core.specs.Covers.{AnyOutcome, any_covered, no_terms};
 ghost use Rattle.std.specs.Prelude.{⊤};
 ghost use Rattle.streams.specs.Input.{IsEndOf};
 
@@ -44,7 +44,7 @@ impl<I: Stream, O, E: ParserError<I>, P: Parser<I, O, E>> Parser<I, O, E> for Co
 
     ghost leaves_ends = { P.leaves_ends };
 
-    ghost covers = { λ never at. absurd never };
+    ghost covers = { λ at. any_covered (P.leaves_ends at.form) };
 
     ghost lawful = { λ never. absurd never };
 
@@ -117,7 +117,7 @@ impl<I: Stream, E: ParserError<I>> Parser<I, usize, E> for Planned {
 
     ghost leaves_ends = { λ _ _ _ _ _ _ ends. ends };
 
-    ghost covers = { λ never at. absurd never };
+    ghost covers = { λ at. any_covered (λ _ _ _ _ _ ends. ends) };
 
     ghost lawful = { λ never. absurd never };
 

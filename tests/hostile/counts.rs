@@ -7,7 +7,6 @@ use std::process::Abort;
 use std::test::Fail;
 use stream_errors::empty::EmptyError;
 use stream_errors::parser_error::ParserError;
-use stream_sets::range::Range;
 use streams::stream::Stream;
 use test_support::outcomes::Kind::{self, Backtrack};
 use test_support::outcomes::outcome_of;
@@ -77,7 +76,7 @@ fn repeat_of_many(rt: HostRuntime) -> Result<(), Fail> {
     let (items, none) = (runs(), runs());
     let mut parser: Repeat<_, &[u8], u8, usize, EmptyError, Global> = repeat(
         rt.alloc(),
-        Range::from(0..),
+        0..,
         counting(Any, &items),
     );
     let got = outcome_of::<&[u8], usize, EmptyError, _>(&mut parser, bytes.as_slice());
@@ -99,7 +98,7 @@ fn fold_of_many(rt: HostRuntime) -> Result<(), Fail> {
     let (items, none) = (runs(), runs());
     let parser: Repeat<_, &[u8], u8, (), EmptyError, Global> = repeat(
         rt.alloc(),
-        Range::from(1..),
+        1..,
         counting(b'a', &items),
     );
     let mut parser = parser.fold(|| 0usize, |count: usize, _: u8| count + 1);
@@ -122,7 +121,7 @@ fn repeat_till_of_many(rt: HostRuntime) -> Result<(), Fail> {
     let (items, ends) = (runs(), runs());
     let mut parser: RepeatTill<_, _, &[u8], u8, u8, usize, EmptyError, Global> = repeat_till(
         rt.alloc(),
-        Range::from(0..),
+        0..,
         counting(Any, &items),
         counting(b';', &ends),
     );
@@ -147,7 +146,7 @@ fn separated_of_many(rt: HostRuntime) -> Result<(), Fail> {
     let (items, commas) = (runs(), runs());
     let mut parser: Separated<_, _, &[u8], u8, u8, usize, EmptyError, Global> = separated(
         rt.alloc(),
-        Range::from(0..),
+        0..,
         counting(b'a', &items),
         counting(b',', &commas),
     );
@@ -170,7 +169,7 @@ fn separated_of_many_empty_elements(rt: HostRuntime) -> Result<(), Fail> {
     let (items, commas) = (runs(), runs());
     let mut parser: Separated<_, _, &[u8], Option<u8>, u8, usize, EmptyError, Global> = separated(
         rt.alloc(),
-        Range::from(1..),
+        1..,
         counting(opt(b'a'), &items),
         counting(b',', &commas),
     );

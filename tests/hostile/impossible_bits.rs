@@ -3,7 +3,6 @@ use std::process::Abort;
 use stream_bits::bits::Bits;
 use stream_errors::empty::EmptyError;
 use stream_errors::parser_error::ParserError;
-use stream_sets::range::Range;
 use streams::needed::Needed;
 use streams::partial::Partial;
 use streams::stream::Stream;
@@ -145,7 +144,7 @@ fn repetitions_at_impossible_places(rt: HostRuntime) {
         let input = whole(bytes, read);
         let mut all: Repeat<Any, Whole, bool, usize, Modal, _> = repeat(
             rt.alloc(),
-            Range::from(0..),
+            0..,
             Any,
         );
         let got = outcome_of::<_, usize, Modal, _>(&mut all, input);
@@ -158,7 +157,7 @@ fn repetitions_at_impossible_places(rt: HostRuntime) {
         );
         let mut all: Repeat<Bool, Whole, bool, usize, Modal, _> = repeat(
             rt.alloc(),
-            Range::from(0..),
+            0..,
             Bool,
         );
         let got = outcome_of::<_, usize, Modal, _>(&mut all, input);

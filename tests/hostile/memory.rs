@@ -113,7 +113,7 @@ fn separated_foldr1_without_memory(rt: HostRuntime) {
 type Listed<A> = Repeat<Any, Bytes, u8, Vec<u8, A>, AtBytes, A>;
 
 fn listed<A: Allocator + Copy>(alloc: A) -> Listed<A> {
-    repeat(alloc, Range::from(0..), Any)
+    repeat(alloc, 0.., Any)
 }
 
 /// If the first branch of `alt` runs out of memory, `alt` does too, without running the second
@@ -153,8 +153,8 @@ fn alt_behind_want_of_memory(rt: HostRuntime) {
         Refusing::always_from(rt.alloc(), 0),
         Refusing::always_from(rt.alloc(), 0),
     ];
-    let first: List<'_> = repeat(&heaps[0], Range::from(0..), Any);
-    let second: List<'_> = repeat(&heaps[1], Range::from(0..), Any);
+    let first: List<'_> = repeat(&heaps[0], 0.., Any);
+    let second: List<'_> = repeat(&heaps[1], 0.., Any);
     let mut either = alt([first, second]);
     let (answer, _) = outcome_at::<Bytes, Vec<u8, _>, EmptyError, _>(&mut either, "ab");
     same(&rt, "alt of an array", "ab", answer.err(), Some(Memory));

@@ -160,7 +160,7 @@ fn repeats_once<O: Drop, P: Parser<Bytes, O, AtBytes> + Drop>(
 ) {
     let mut all: Repeat<P, Bytes, O, usize, AtBytes, Global> = repeat(
         alloc,
-        Range::from(0..),
+        0..,
         parser,
     );
     let got = outcome_at::<Bytes, usize, AtBytes, _>(&mut all, text);

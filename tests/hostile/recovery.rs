@@ -3,7 +3,6 @@ use crate::common::counting;
 use std::alloc::Global;
 use std::cell::Cell;
 use std::test::Fail;
-use stream_sets::range::Range;
 use test_support::rows::Modal;
 use winnow_ascii::ascii::impls::Digit1;
 use winnow_core::parser::Parser;
@@ -20,7 +19,7 @@ fn retry_after_of_many(rt: HostRuntime) -> Result<(), Fail> {
     }
     text.push('1')?;
     let (tries, skips) = (Cell::new(0), Cell::new(0));
-    let skip = (take_while(Range::from(1..), ('a', 'b')), ',').void();
+    let skip = (take_while(1.., ('a', 'b')), ',').void();
     let mut parser = counting(Digit1, &tries).retry_after(counting(skip, &skips));
     match RecoverableParser::<&str, &str, Modal, Modal, Global>::recoverable_parse(
         &mut parser,

@@ -4,7 +4,6 @@ use crate::counts::times;
 use std::alloc::Global;
 use std::test::Fail;
 use stream_errors::empty::EmptyError;
-use stream_sets::range::Range;
 use test_support::outcomes::Kind::{self, Backtrack};
 use test_support::outcomes::outcome_of;
 use winnow_ascii::ascii::impls::{LineEnding, TillLineEnding};
@@ -18,7 +17,7 @@ const SIZE: usize = 1 << 20;
 
 /// Returns how many bytes precede a literal, and how many remain.
 fn before<'b>(literal: &'b [u8], bytes: &'b [u8]) -> (Result<usize, Kind>, usize) {
-    let mut parser: TakeUntil<&[u8], &[u8], EmptyError> = take_until(Range::from(0..), literal);
+    let mut parser: TakeUntil<&[u8], &[u8], EmptyError> = take_until(0.., literal);
     let (answer, rest) = outcome_of::<&[u8], &[u8], EmptyError, _>(&mut parser, bytes);
     match answer {
         Ok(slice) => (Ok(slice.len()), rest.len()),
@@ -56,10 +55,10 @@ fn take_until_long_literals(rt: HostRuntime) -> Result<(), Fail> {
 /// A repetition of takes until a member of a literal, and of a token, over all of a text.
 macro_rules! pieces {
     ($rt:expr; $literal:expr, $of:ty, $text:expr, $want:expr) => {{
-        let piece: TakeUntil<$of, &str, EmptyError> = take_until(Range::from(0..), $literal);
+        let piece: TakeUntil<$of, &str, EmptyError> = take_until(0.., $literal);
         let mut parser: Repeat<_, &str, (&str, char), usize, EmptyError, Global> = repeat(
             $rt.alloc(),
-            Range::from(0..),
+            0..,
             (piece, Any),
         );
         let (answer, rest) = outcome_of::<&str, usize, EmptyError, _>(&mut parser, $text);
@@ -95,7 +94,7 @@ fn till_line_ending_of_many_lines(rt: HostRuntime) -> Result<(), Fail> {
     let bytes = times(rt.alloc(), (b"", b"a line of text.\n", lines, b""))?;
     let mut parser: Repeat<_, &[u8], (&[u8], &[u8]), usize, EmptyError, Global> = repeat(
         rt.alloc(),
-        Range::from(0..),
+        0..,
         (TillLineEnding, LineEnding),
     );
     let (answer, rest) = outcome_of::<&[u8], usize, EmptyError, _>(&mut parser, bytes.as_slice());

@@ -57,7 +57,7 @@ fn a_second_call_that_backtracks(rt: HostRuntime) {
     });
     let mut all: Repeat<_, &str, char, Vec<char>, Modal, Global> = repeat(
         rt.alloc(),
-        Range::from(0..),
+        0..,
         all_but_second,
     );
     let (answer, rest) = outcome_at::<&str, Vec<char>, Modal, _>(&mut all, "ab");

@@ -25,7 +25,7 @@ fn settings<'i>(
 ) -> Result<Vec<(&'i str, u32)>, ParseFault<&'i str, Said>> {
     let number = cut_err(DecUint.context(alloc, "a number"));
     let setting = terminated(separated_pair(Alpha1, '=', number), cut_err('\n'));
-    let mut lines = repeat(alloc, Range::from(0..), setting.context(alloc, "a setting"));
+    let mut lines = repeat(alloc, 0.., setting.context(alloc, "a setting"));
     Parser::<_, _, ErrMode<_>>::parse(&mut lines, text)
 }
 

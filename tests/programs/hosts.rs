@@ -18,7 +18,7 @@ struct Endpoint<'i> {
 /// Parses one host.
 fn read_endpoint<'i>(input: &mut &'i str) -> Result<Endpoint<'i>, ErrMode<EmptyError>> {
     let in_host = ('a'..='z', 'A'..='Z', '0'..='9', '-', '.');
-    let host = take_while(Range::from(1..), in_host).parse_next(input)?;
+    let host = take_while(1.., in_host).parse_next(input)?;
     let port = opt(preceded(':', cut_err(DecUint))).parse_next(input)?;
     Ok(Endpoint { host, port })
 }
@@ -28,7 +28,7 @@ fn read_endpoints<'i>(
     alloc: Global,
     text: &'i str,
 ) -> Result<Vec<Endpoint<'i>>, ParseFault<&'i str, EmptyError>> {
-    let mut list = separated(alloc, Range::from(1..), Func(read_endpoint), (',', Space0));
+    let mut list = separated(alloc, 1.., Func(read_endpoint), (',', Space0));
     Parser::<_, _, ErrMode<_>>::parse(&mut list, text)
 }
 

@@ -28,7 +28,7 @@ fn read_field<'i>(
     what: &'static str,
     input: &mut &'i str,
 ) -> Result<&'i str, ErrMode<Message>> {
-    let field = terminated(take_till(Range::from(0..), (':', '\n')), ':');
+    let field = terminated(take_till(0.., (':', '\n')), ':');
     cut_err(field.context(alloc, what)).parse_next(input)
 }
 
@@ -39,7 +39,7 @@ fn read_id(alloc: Global, what: &'static str, input: &mut &str) -> Result<u32, E
 
 /// Parses a line.
 fn read_user<'i>(alloc: Global, input: &mut &'i str) -> Result<User<'i>, ErrMode<Message>> {
-    let name = terminated(take_till(Range::from(1..), (':', '\n')), ':');
+    let name = terminated(take_till(1.., (':', '\n')), ':');
     let name = cut_err(name.context(alloc, "a user name")).parse_next(input)?;
     let _password = read_field(alloc, "a password", input)?;
     let id = read_id(alloc, "a user ID", input)?;
@@ -63,7 +63,7 @@ fn read_users<'i>(
     alloc: Global,
     text: &'i str,
 ) -> Result<Vec<User<'i>>, ParseFault<&'i str, Message>> {
-    let mut users = repeat_till(alloc, Range::from(0..), FuncWith(alloc, read_user), Eof).map(|(
+    let mut users = repeat_till(alloc, 0.., FuncWith(alloc, read_user), Eof).map(|(
         users,
         _end,
     )| users);

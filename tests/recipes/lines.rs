@@ -39,7 +39,7 @@ fn lines_of_a_reader(rt: HostRuntime) -> io::Result<()> {
 fn first_stray(text: &str) -> Option<Excerpt<'_>> {
     let mut input = text;
     let passed: Result<&str, ErrMode<EmptyError>> =
-        take_while(Range::from(0..), ('0'..='9', '\n')).parse_next(&mut input);
+        take_while(0.., ('0'..='9', '\n')).parse_next(&mut input);
     let offset = passed.ok()?.len();
     if offset == text.len() {
         return None;

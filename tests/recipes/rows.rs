@@ -18,7 +18,7 @@ where
     E: ParserError<I>,
     A: Allocator + Copy,
 {
-    separated(alloc, Range::from(0..), DecUint, ',').parse_next(input)
+    separated(alloc, 0.., DecUint, ',').parse_next(input)
 }
 
 /// Reads numbers with commas between them, and one more comma or none.
@@ -41,7 +41,7 @@ where
     E: ParserError<I>,
     A: Allocator + Copy,
 {
-    repeat(alloc, Range::from(1..), preceded(Space0, DecUint))
+    repeat(alloc, 1.., preceded(Space0, DecUint))
         .fold(|| 0, |sum: u64, number: u64| sum.saturating_add(number))
         .parse_next(input)
 }

@@ -10,7 +10,7 @@ use winnow::token::take_till;
 
 /// Reads a text in quotes into a `String`, with the escapes `\"`, `\\` and `\n`.
 fn read_string(alloc: Global, input: &mut &str) -> Result<String, ErrMode<EmptyError>> {
-    let normal = take_till(Range::from(1..), ('"', '\\'));
+    let normal = take_till(1.., ('"', '\\'));
     let escape = alt(("\"".value("\""), "\\".value("\\"), "n".value("\n")));
     delimited('"', escaped(alloc, normal, '\\', escape), '"').parse_next(input)
 }

@@ -23,7 +23,7 @@ where
     I: StreamIsPartial + Compare<&'static str> + FindSlice<&'static str>,
     E: ParserError<I>,
 {
-    delimited("/*", take_until(Range::from(0..), "*/"), "*/").parse_next(input)
+    delimited("/*", take_until(0.., "*/"), "*/").parse_next(input)
 }
 
 #[test]

@@ -3,7 +3,6 @@ use crate::common::Text;
 use std::alloc::Global;
 use std::fmt::Debug;
 use std::process::Abort;
-use stream_sets::range::Range;
 use test_support::outcomes::Kind::{self, Memory};
 use test_support::refusing::{Refusing, refused_in_turn};
 use test_support::rows::Modal;
@@ -42,7 +41,7 @@ where
 #[test]
 fn recoverable_parse_refused(rt: HostRuntime) {
     let alloc = rt.alloc();
-    let to_comma = || take_till(Range::from(0..), ',').void();
+    let to_comma = || take_till(0.., ',').void();
     refused_in_turn(
         &rt,
         "what is left",
@@ -98,7 +97,7 @@ fn recoverable_parse_refused(rt: HostRuntime) {
 #[test]
 fn recoverable_parse_that_takes_no_memory(rt: HostRuntime) {
     let heap = Refusing::always_from(rt.alloc(), 0);
-    let skip = take_till(Range::from(0..), ',').void();
+    let skip = take_till(0.., ',').void();
     let got = output_of(&rt, &heap, Digit1.retry_after(skip), "12");
     assert_eq!(rt; got, (Ok(Some("12")), 0), "a parse without errors");
     assert!(rt; !heap.met(), "a parse without errors asks for no memory");

@@ -7,7 +7,6 @@ use stream_errors::mode::ErrMode;
 use stream_errors::parser_error::ParserError;
 use stream_errors::recover::Recover;
 use stream_recovery::recoverable::Recoverable;
-use stream_sets::range::Range;
 use streams::needed::Needed;
 use streams::stream::Stream;
 use test_support::failing::Failing;
@@ -109,7 +108,7 @@ fn recoverable_parse_of_an_error(rt: HostRuntime) {
 /// Each error that `retry_after` records begins where its try did.
 #[test]
 fn retry_after_records(rt: HostRuntime) {
-    let to_comma = || (take_till(Range::from(0..), ','), ',').void();
+    let to_comma = || (take_till(0.., ','), ',').void();
     let setting = || (Alpha1, '=', Digit1).void();
     let two = [("a;,b=x,c=3", ";,b=x,c=3"), ("b=x,c=3", "x,c=3")];
     let settings = setting().retry_after(to_comma());
@@ -123,7 +122,7 @@ fn retry_after_records(rt: HostRuntime) {
 #[test]
 fn retry_after_fails(rt: HostRuntime) {
     let word = || (Alpha1, Digit1).void();
-    let to_comma = || take_till(Range::from(0..), ',').void();
+    let to_comma = || take_till(0.., ',').void();
     fails(&rt, rt.alloc(), word().retry_after((';', ',').void()), "ab;1", ("ab;1", ";1"), &[]);
     fails(&rt, rt.alloc(), word().retry_after(to_comma()), "ab,1", ("ab,1", ",1"), &[]);
     let behind_comma = (to_comma(), ',').void();
@@ -134,7 +133,7 @@ fn retry_after_fails(rt: HostRuntime) {
 /// The error that ends a whole parse begins at the start of the input, whichever try failed.
 #[test]
 fn retry_after_ends_a_parse(rt: HostRuntime) {
-    let behind_comma = (take_till(Range::from(0..), ','), ',').void();
+    let behind_comma = (take_till(0.., ','), ',').void();
     let words = (Alpha1, Digit1).void().retry_after(behind_comma);
     parses(&rt, rt.alloc(), words, "a,b;", None, &[("a,b;", ",b;"), ("a,b;", ";")]);
 }
@@ -143,7 +142,7 @@ fn retry_after_ends_a_parse(rt: HostRuntime) {
 #[test]
 fn resume_after_records(rt: HostRuntime) {
     let setting = || {
-        (Alpha1, '=', Digit1).void().resume_after(take_till(Range::from(0..), ',').void())
+        (Alpha1, '=', Digit1).void().resume_after(take_till(0.., ',').void())
     };
     let two = [("k=x,l=y", "x,l=y"), ("l=y", "y")];
     let pair = (setting(), ',', setting());

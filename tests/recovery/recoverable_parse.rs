@@ -5,7 +5,6 @@ use stream_errors::context_error::ContextError;
 use stream_errors::empty::EmptyError;
 use stream_errors::parser_error::ParserError;
 use stream_recovery::recoverable::Recoverable;
-use stream_sets::range::Range;
 use streams::locating::LocatingSlice;
 use streams::needed::Needed;
 use test_support::failing::Failing;
@@ -28,7 +27,7 @@ fn recoverable_parse(rt: HostRuntime) {
 /// Errors are in the order in which they were recorded; the one that ended the parse is last.
 #[test]
 fn recoverable_parse_orders_errors(rt: HostRuntime) {
-    let to_comma = || take_till(Range::from(0..), ',').void();
+    let to_comma = || take_till(0.., ',').void();
     let cuts = || cut_err(Digit1).resume_after(to_comma());
     let pair = (cuts(), ',', Digit1.resume_after(to_comma()));
     parses(&rt, rt.alloc(), pair, "x,y", Some((None, ',', None)), &[Cut, Backtrack]);
@@ -61,7 +60,7 @@ fn recoverable_parse_without_memory(rt: HostRuntime) {
 fn recoverable_parse_elsewhere(rt: HostRuntime) {
     type Located = LocatingSlice<&'static [u8]>;
     type Bytes = Recoverable<Located, ContextError<&'static str>>;
-    let skips = take_till(Range::from(0..), b',').void();
+    let skips = take_till(0.., b',').void();
     let mut pair = (Digit1.context(rt.alloc(), "first").resume_after(skips), b',', Digit1);
     let start: Located = LocatingSlice::new(b"x,2".as_slice());
     match pair.recoverable_parse(rt.alloc(), start) {

@@ -1,6 +1,5 @@
 //! Parsers after whose errors parsing resumes.
 use crate::common::{parses, runs};
-use stream_sets::range::Range;
 use test_support::failing::{Failing, HARD};
 use test_support::outcomes::Kind::{Backtrack, Cut, Memory};
 use test_support::outcomes::outcome_of;
@@ -15,7 +14,7 @@ use winnow_token::token::take_till;
 /// There is no output, and the error is recorded once.
 #[test]
 fn resume_after(rt: HostRuntime) {
-    let to_comma = || take_till(Range::from(0..), ',').void();
+    let to_comma = || take_till(0.., ',').void();
     let pair = (Digit1.resume_after(to_comma()), ',', Digit1);
     parses(&rt, rt.alloc(), pair, "x,2", Some((None, ',', "2")), &[Backtrack]);
     let pair = (Digit1.resume_after(to_comma()), ',', Digit1);
@@ -28,7 +27,7 @@ fn resume_after(rt: HostRuntime) {
 /// A choice takes back the place, and not what was recorded.
 #[test]
 fn resume_after_in_a_choice(rt: HostRuntime) {
-    let to_comma = take_till(Range::from(0..), ',').void();
+    let to_comma = take_till(0.., ',').void();
     let first = (Digit1.resume_after(to_comma), ';').void();
     parses(&rt, rt.alloc(), alt((first, Rest.void())), "x,", Some(()), &[Backtrack]);
 }
@@ -48,7 +47,7 @@ fn resume_after_goes_back(rt: HostRuntime) {
 fn resume_after_hands_on(rt: HostRuntime) {
     for kind in HARD {
         if kind != Cut {
-            let skips = take_till(Range::from(0..), ',').void();
+            let skips = take_till(0.., ',').void();
             runs(&rt, rt.alloc(), Failing(kind).resume_after(skips), "abc", Err(kind), "bc", &[]);
         }
     }
@@ -57,7 +56,7 @@ fn resume_after_hands_on(rt: HostRuntime) {
 /// Over a stream that records no errors the parser is run, and nothing else.
 #[test]
 fn resume_after_without_recovery(rt: HostRuntime) {
-    let mut digits = Digit1.resume_after(take_till(Range::from(0..), ',').void());
+    let mut digits = Digit1.resume_after(take_till(0.., ',').void());
     let got = outcome_of::<&str, Option<&str>, Modal, _>(&mut digits, "ab,12");
     assert_eq!(rt; got, (Err(Backtrack), "ab,12"));
     let got = outcome_of::<&str, Option<&str>, Modal, _>(&mut digits, "12,");

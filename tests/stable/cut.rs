@@ -8,7 +8,6 @@ use std::test::Fail;
 use stream_searches::compare::Compare;
 use stream_sets::as_bstr::{AsBStr, SlicesAsBytes};
 use stream_sets::as_char::AsChar;
-use stream_sets::range::Range;
 use streams::locating::LocatingSlice;
 use streams::stream::Location;
 use test_support::outcomes::Kind::{self, Backtrack, Cut, Incomplete};
@@ -124,7 +123,7 @@ where
 {
     let make = || {
         let item: Terminated<DecUint, char, I, u8, char, Modal> = terminated(DecUint, ',');
-        let parser: Repeat<_, I, u8, Vec<u8>, Modal, Global> = repeat(alloc, Range::from(..), item);
+        let parser: Repeat<_, I, u8, Vec<u8>, Modal, Global> = repeat(alloc, .., item);
         parser
     };
     let wants = [(7, Ok(vec![in alloc; 1, 22]?), 5)];
@@ -133,7 +132,7 @@ where
     let make = || {
         let parser: Separated<DecUint, char, I, u8, char, Vec<u8>, Modal, Global> = separated(
             alloc,
-            Range::from(1..),
+            1..,
             DecUint,
             ',',
         );

@@ -41,13 +41,13 @@ where
     settles::<I, I::Slice, _>(rt, "digit1", Digit1);
     settles::<I, I::Token, _>(rt, "any", Any);
     settles::<I, I::Slice, _>(rt, "take(3)", take(3usize));
-    settles::<I, I::Slice, _>(rt, "take_until", take_until(Range::from(1..), ";"));
+    settles::<I, I::Slice, _>(rt, "take_until", take_until(1.., ";"));
     settles::<I, I::Slice, _>(
         rt,
         "take_while",
-        take_while(Range::from(1..=2), DecimalDigits),
+        take_while(1..=2, DecimalDigits),
     );
-    settles::<I, I::Slice, _>(rt, "take_till", take_till(Range::from(..), DecimalDigits));
+    settles::<I, I::Slice, _>(rt, "take_till", take_till(.., DecimalDigits));
     settles::<I, I::Slice, _>(rt, "till_line_ending", TillLineEnding);
     settles::<I, u8, _>(rt, "dec_uint", DecUint);
     settles::<I, i8, _>(rt, "dec_int", DecInt);
@@ -97,7 +97,7 @@ where
     I::Slice: AsBStr + PartialEq + Debug,
 {
     let any = Range::from(0..);
-    let parser: Repeat<Any, I, I::Token, (), Modal, Global> = repeat(alloc, Range::from(3), Any);
+    let parser: Repeat<Any, I, I::Token, (), Modal, Global> = repeat(alloc, 3, Any);
     settles::<I, (), _>(rt, "repeat(3)", parser);
     let parser: Repeat<(Digit1, char), I, (I::Slice, char), usize, Modal, Global> = repeat(
         alloc,
@@ -107,7 +107,7 @@ where
     settles::<I, usize, _>(rt, "repeat(0..)", parser);
     let parser: Repeat<Alpha1, I, I::Slice, usize, Modal, Global> = repeat(
         alloc,
-        Range::from(1..),
+        1..,
         Alpha1,
     );
     settles::<I, usize, _>(rt, "repeat(1..)", parser);
@@ -120,7 +120,7 @@ where
     settles::<I, Vec<I::Slice>, _>(rt, "separated(0..)", parser);
     let parser: Separated<Digit1, char, I, I::Slice, char, usize, Modal, Global> = separated(
         alloc,
-        Range::from(2..=3),
+        2..=3,
         Digit1,
         ',',
     );

@@ -7,7 +7,6 @@ use stream_searches::slice_len::SliceLen;
 use stream_sets::as_bstr::{AsBStr, SlicesAsBytes};
 use stream_sets::as_char::AsChar;
 use stream_sets::classes::DecimalDigits;
-use stream_sets::range::Range;
 use streams::locating::LocatingSlice;
 use streams::needed::Needed;
 use streams::stream::Stream;
@@ -130,7 +129,7 @@ fn separated_is_settled(rt: HostRuntime) {
     ] {
         let mut digits: Separated<_, _, Text, &str, char, Vec<&str>, Modal, _> = separated(
             rt.alloc(),
-            Range::from(0..),
+            0..,
             Digit1,
             ',',
         );
@@ -159,7 +158,7 @@ where
     I::Token: AsChar,
     I::Slice: SliceLen,
 {
-    let make: TakeWhile<DecimalDigits, I, Modal> = take_while(Range::from(1..=3), DecimalDigits);
+    let make: TakeWhile<DecimalDigits, I, Modal> = take_while(1..=3, DecimalDigits);
     let one = Incomplete(Needed::new(1));
     let rows = [("12", Err(one), "12"), ("123", Ok(3), ""), ("1234", Ok(3), "4")];
     slice_pairs::<I, _>(rt, "take_while", make, &rows);

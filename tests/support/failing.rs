@@ -1,6 +1,6 @@
 //! A parser that fails.
-ghost use Rattle.winnow_core.specs.Claim.{no_claim, nothing_claimed};
-ghost use Rattle.winnow_core.specs.Covers.{AnyOutcome, no_terms};
+ghost use Rattle.parser_definitions.specs.Claim.{no_claim, nothing_claimed};
+ghost use Rattle.winnow_core.specs.Covers.{AnyOutcome, any_covered, no_terms};
 ghost use Rattle.std.specs.Prelude.{⊤};
 ghost use Rattle.streams.specs.Input.{IsEndOf};
 
@@ -30,7 +30,7 @@ impl<I: Stream, E: ParserError<I>> Parser<I, u8, E> for Failing {
 
     ghost leaves_ends = { λ _ _ _ _ _ _ ends. ends };
 
-    ghost covers = { λ never at. absurd never };
+    ghost covers = { λ at. any_covered (λ _ _ _ _ _ ends. ends) };
 
     ghost lawful = { λ never. absurd never };
 

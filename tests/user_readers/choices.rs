@@ -82,7 +82,7 @@ where
     I::Token: AsChar,
     E: ParserError<I>,
 {
-    delimited('"', take_till(Range::from(0..), '"'), '"').parse_next(input)
+    delimited('"', take_till(0.., '"'), '"').parse_next(input)
 }
 
 /// Reads a value: a text in quotes, or a number.

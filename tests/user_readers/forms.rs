@@ -38,7 +38,7 @@ pub fn read_words<'i, A: Allocator + Copy>(
     alloc: A,
     input: &mut &'i str,
 ) -> Result<Vec<&'i str, A>, ErrMode<EmptyError>> {
-    separated(alloc, Range::from(0..), Alpha1, Space1).parse_next(input)
+    separated(alloc, 0.., Alpha1, Space1).parse_next(input)
 }
 
 /// How many lines begin the input.
@@ -46,7 +46,7 @@ pub fn count_lines<A: Allocator + Copy>(
     alloc: A,
     input: &mut &str,
 ) -> Result<usize, ErrMode<EmptyError>> {
-    repeat(alloc, Range::from(0..), terminated(Alpha1, '\n')).parse_next(input)
+    repeat(alloc, 0.., terminated(Alpha1, '\n')).parse_next(input)
 }
 
 /// Someone who can be written to.
@@ -60,8 +60,8 @@ pub struct Person<'i> {
 
 /// Reads a name and an address, as `Ada Lovelace <ada@example.org>`.
 pub fn read_person<'i>(input: &mut &'i str) -> Result<Person<'i>, ErrMode<EmptyError>> {
-    let name = take_until(Range::from(1..), " <").parse_next(input)?;
-    let mail = delimited(" <", take_till(Range::from(1..), '>'), '>').parse_next(input)?;
+    let name = take_until(1.., " <").parse_next(input)?;
+    let mail = delimited(" <", take_till(1.., '>'), '>').parse_next(input)?;
     Ok(Person { name, mail })
 }
 
@@ -76,7 +76,7 @@ pub struct Request<'i> {
 
 /// Reads the target of a request, between two spaces.
 fn read_target<'i>(input: &mut &'i [u8]) -> Result<&'i [u8], ErrMode<EmptyError>> {
-    delimited(b' ', take_till(Range::from(1..), b' '), b' ').parse_next(input)
+    delimited(b' ', take_till(1.., b' '), b' ').parse_next(input)
 }
 
 /// Reads the protocol, with the end of its line.
@@ -86,7 +86,7 @@ fn read_protocol(input: &mut &[u8]) -> Result<(), ErrMode<EmptyError>> {
 
 /// Reads the first line of a request, as `GET /index HTTP/1.1`, with the end of its line.
 pub fn read_request<'i>(input: &mut &'i [u8]) -> Result<Request<'i>, ErrMode<EmptyError>> {
-    let method = take_while(Range::from(1..), b'A'..=b'Z').parse_next(input)?;
+    let method = take_while(1.., b'A'..=b'Z').parse_next(input)?;
     let target = read_target(input)?;
     read_protocol(input)?;
     Ok(Request { method, target })

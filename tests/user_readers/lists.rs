@@ -18,7 +18,7 @@ where
     E: ParserError<I>,
     A: Allocator + Copy,
 {
-    separated(alloc, Range::from(1..), DecUint, ',').parse_next(input)
+    separated(alloc, 1.., DecUint, ',').parse_next(input)
 }
 
 /// Reads settings, a line each, over any stream of text.
@@ -31,7 +31,7 @@ where
     A: Allocator + Copy,
 {
     let setting = terminated(separated_pair(Alpha1, '=', DecUint), '\n');
-    repeat(alloc, Range::from(0..), setting).parse_next(input)
+    repeat(alloc, 0.., setting).parse_next(input)
 }
 
 /// Reads a list of numbers in brackets, over any stream of bytes or text.
@@ -43,7 +43,7 @@ where
     E: ParserError<I>,
     A: Allocator + Copy,
 {
-    let numbers = separated(alloc, Range::from(0..), DecUint, b',');
+    let numbers = separated(alloc, 0.., DecUint, b',');
     delimited(b'[', numbers, b']').parse_next(input)
 }
 
@@ -55,7 +55,7 @@ pub fn read_named_words<'i, A: Allocator + Copy>(
     let (name, _, words) = (
         Alpha1,
         ':',
-        separated(alloc, Range::from(0..), Alpha1, ','),
+        separated(alloc, 0.., Alpha1, ','),
     ).parse_next(input)?;
     Ok((name, words))
 }

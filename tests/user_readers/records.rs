@@ -26,7 +26,7 @@ pub struct Entry<'i> {
 
 /// Reads an entry of an access log, as `10.0.0.7 frank 200 2326`, with the end of its line.
 pub fn read_entry<'i>(input: &mut &'i str) -> Result<Entry<'i>, ErrMode<EmptyError>> {
-    let host = take_till(Range::from(1..), ' ').parse_next(input)?;
+    let host = take_till(1.., ' ').parse_next(input)?;
     ' '.parse_next(input)?;
     let user = read_user(input)?;
     ' '.parse_next(input)?;
@@ -61,7 +61,7 @@ where
     I::Slice: ParseSlice<O>,
     E: ParserError<I>,
 {
-    take_while(Range::from(count), '0'..='9')
+    take_while(count, '0'..='9')
         .parse_to()
         .parse_next(input)
 }
@@ -74,7 +74,7 @@ where
     I::Slice: ParseSlice<u8>,
     E: ParserError<I>,
 {
-    take_while(Range::from(2), '0'..='9')
+    take_while(2, '0'..='9')
         .parse_to()
         .verify(|number: &u8| 1 <= *number && *number <= most)
         .parse_next(input)
@@ -111,7 +111,7 @@ where
     <I::Slice as Stream>::Slice: AsBStr,
     E: ParserError<I> + ParserError<I::Slice>,
 {
-    take_while(Range::from(2), ('0'..='9', 'a'..='f', 'A'..='F'))
+    take_while(2, ('0'..='9', 'a'..='f', 'A'..='F'))
         .and_then(HexUintParser)
         .parse_next(input)
 }

@@ -5,7 +5,6 @@ use stream_errors::empty::EmptyError;
 use stream_errors::fault::ParseFault;
 use stream_errors::mode::ErrMode;
 use stream_errors::parser_error::ParserError;
-use stream_sets::range::Range;
 use stream_sets::sets::Pred;
 use streams::locating::LocatingSlice;
 use streams::needed::Needed;
@@ -86,8 +85,8 @@ where
         ("12", ["12"].as_slice(), End::Read),
         ("a", [].as_slice(), End::Invalid(0)),
     ] {
-        let digits = token::take_while::<_, I, E>(
-            Range::from(0..),
+        let digits = token::take_while::<_, I, E, _>(
+            0..,
             Pred(|c: char| c.is_ascii_digit()),
         );
         gives::<I, &str, E, _>(rt, text, digits, I::of_text(text), items, end);

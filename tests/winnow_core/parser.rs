@@ -11,7 +11,6 @@ use stream_errors::mode::ErrMode;
 use stream_errors::parser_error::ParserError;
 use stream_searches::caseless::Caseless;
 use stream_searches::compare::Compare;
-use stream_sets::range::Range;
 use stream_sets::sets::Pred;
 use streams::stream::Stream;
 use test_support::outcomes::Kind::{Backtrack, Cut};
@@ -77,7 +76,7 @@ struct User<'i> {
 /// Parses a user up to a semicolon.
 fn user<'i>(alloc: Global, input: &mut &'i str) -> Result<User<'i>, Modal> {
     let name = Alpha1.parse_next(input)?;
-    let numbers = repeat(alloc, Range::from(0..), preceded(',', Digit1)).parse_next(input)?;
+    let numbers = repeat(alloc, 0.., preceded(',', Digit1)).parse_next(input)?;
     let _end = ';'.parse_next(input)?;
     Ok(User { name, numbers })
 }
@@ -88,7 +87,7 @@ fn user<'i>(alloc: Global, input: &mut &'i str) -> Result<User<'i>, Modal> {
 fn func_with(rt: HostRuntime) {
     let alloc = rt.alloc();
     let mut input = "ann,1,22;bob;eve,3";
-    let mut parser = repeat(alloc, Range::from(0..), FuncWith(alloc, user));
+    let mut parser = repeat(alloc, 0.., FuncWith(alloc, user));
     let users: Result<Vec<User<'_>>, Modal> = parser.parse_next(&mut input);
     let Ok(users) = users else {
         panic!(rt; "no users");
@@ -107,8 +106,8 @@ fn func_with(rt: HostRuntime) {
 /// Whole parses of digits: the slice, or the offset of the error or of the rest.
 #[test]
 fn parse(rt: HostRuntime) {
-    let mut digits = token::take_while::<_, &[u8], EmptyError>(
-        Range::from(1..),
+    let mut digits = token::take_while::<_, &[u8], EmptyError, _>(
+        1..,
         Pred(|token: u8| token.is_ascii_digit()),
     );
     for (text, want) in [("12", Ok("12")), ("12a", Err(2)), ("a", Err(0))] {

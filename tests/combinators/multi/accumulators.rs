@@ -47,7 +47,7 @@ where
 {
     type Comma<E> = TakeWhile<char, &'static str, E>;
     let mut parser: Separated<P, Comma<E>, &str, O, &str, C, E, A> =
-        winnow_separated::combinator::separated(alloc, Range::from(0..), parser, letter(','));
+        winnow_separated::combinator::separated(alloc, 0.., parser, letter(','));
     let (answer, rest) = outcome_at::<&str, C, E, _>(&mut parser, text);
     (answer, rest.len())
 }

@@ -153,7 +153,7 @@ fn fold_by_its_calls(rt: HostRuntime) {
 #[test]
 fn verify_fold_by_its_calls(rt: HostRuntime) {
     let mut calls = 0u8;
-    let mut parser = repeat(rt.alloc(), Range::from(1..), Func(digit)).verify_fold(
+    let mut parser = repeat(rt.alloc(), 1.., Func(digit)).verify_fold(
         move || {
             calls += 1;
             calls
@@ -178,7 +178,7 @@ fn fold_of_nothing(rt: HostRuntime) {
 /// On partial input a missing item is `Incomplete`.
 #[test]
 fn fold_on_cut_input(rt: HostRuntime) {
-    let mut parser = repeat(rt.alloc(), Range::from(0..), Any).fold(|| 0u8, |n: u8, _: char| n);
+    let mut parser = repeat(rt.alloc(), 0.., Any).fold(|| 0u8, |n: u8, _: char| n);
     let got = outcome_of::<_, u8, Modal, _>(&mut parser, Partial::new("ab"));
     let want = (Err(Incomplete(Needed::new(1))), Partial::new(""));
     same(&rt, "fold(0..), cut", "ab", got, want);
@@ -383,7 +383,7 @@ fn try_fold_without_memory(rt: HostRuntime) {
         ("9", Err(Memory), "9"),
     ] {
         let digit = Any.verify_map(|c: char| c.to_digit(10));
-        let mut parser = repeat(rt.alloc(), Range::from(0..), digit).try_fold(
+        let mut parser = repeat(rt.alloc(), 0.., digit).try_fold(
             || 0u32,
             |all: u32, n: u32| if n > 8 { Err(TooLarge) } else { Ok(all + n) },
         );

@@ -96,7 +96,7 @@ fn repeat_of_nothing(rt: HostRuntime) {
 fn repeat_into_nothing(rt: HostRuntime) {
     let mut kept: Repeat<u8, Bytes, u8, (), Plain, Global> = winnow_repeat::combinator::repeat(
         rt.alloc(),
-        Range::from(0..),
+        0..,
         b'a',
     );
     let got = outcome_at::<Bytes, (), Plain, _>(&mut kept, "aab");
@@ -157,11 +157,11 @@ fn repeat_on_cut_input(rt: HostRuntime) {
     letters::<Partial<&str>, Modal>(&rt, rt.alloc());
     let first: Repeat<char, &str, char, (), Modal, Global> = winnow_repeat::combinator::repeat(
         rt.alloc(),
-        Range::from(0..),
+        0..,
         'a',
     );
     let like: Repeat<char, Partial<&str>, char, (), Modal, Global> =
-        winnow_repeat::combinator::repeat(rt.alloc(), Range::from(0..), 'a');
+        winnow_repeat::combinator::repeat(rt.alloc(), 0.., 'a');
     let both = (first, like);
     like_ends::<&str, Partial<&str>, (), Modal, _, _>(&rt, "repeat", "aab", both, Takes(2));
 }

@@ -251,7 +251,7 @@ fn repeat_till_plainly(rt: HostRuntime) {
         (Err(Backtrack), 1),
     );
     let mut kept: RepeatTill<u8, u8, Bytes, u8, u8, (), Plain, Global> =
-        winnow_repeat::combinator::repeat_till(alloc, Range::from(0..), b'a', b';');
+        winnow_repeat::combinator::repeat_till(alloc, 0.., b'a', b';');
     let got = outcome_at::<Bytes, ((), u8), Plain, _>(&mut kept, "aa;b");
     same(
         &rt,
@@ -346,9 +346,9 @@ fn repeat_till_on_cut_input(rt: HostRuntime) {
     letters::<&str, Modal>(&rt, rt.alloc());
     letters::<Partial<&str>, Modal>(&rt, rt.alloc());
     let first: RepeatTill<char, char, &str, char, char, (), Modal, Global> =
-        winnow_repeat::combinator::repeat_till(rt.alloc(), Range::from(0..), 'a', 'b');
+        winnow_repeat::combinator::repeat_till(rt.alloc(), 0.., 'a', 'b');
     let like: RepeatTill<char, char, Partial<&str>, char, char, (), Modal, Global> =
-        winnow_repeat::combinator::repeat_till(rt.alloc(), Range::from(0..), 'a', 'b');
+        winnow_repeat::combinator::repeat_till(rt.alloc(), 0.., 'a', 'b');
     let (name, both) = ("repeat_till", (first, like));
     like_ends::<&str, Partial<&str>, ((), char), Modal, _, _>(&rt, name, "aab", both, Takes(3));
 }

@@ -231,7 +231,7 @@ fn separated_of_options(rt: HostRuntime) {
     type Listed = Vec<Option<&'static str>>;
     let digits: Optional = combinator::opt(Digit1);
     let mut parser: Separated<Optional, char, &str, Option<&str>, char, Listed, Modal, Global> =
-        winnow_separated::combinator::separated(rt.alloc(), Range::from(0..), digits, ',');
+        winnow_separated::combinator::separated(rt.alloc(), 0.., digits, ',');
     let (answer, left) = outcome_at::<&str, Listed, Modal, _>(&mut parser, ",,");
     same_items(
         &rt,

@@ -32,9 +32,9 @@ fn one_of_byte_set(rt: HostRuntime) {
         }
     }
     let bytes = b"a-g".as_slice();
-    let got = outcome_of::<_, _, Modal, _>(&mut token::take_while(Range::from(0..), set), bytes);
+    let got = outcome_of::<_, _, Modal, _>(&mut token::take_while(0.., set), bytes);
     same(&rt, "take_while", "a-g", got, (Ok(b"a-".as_slice()), b"g".as_slice()));
-    let got = outcome_of::<_, _, Modal, _>(&mut token::take_till(Range::from(1..), set), bytes);
+    let got = outcome_of::<_, _, Modal, _>(&mut token::take_till(1.., set), bytes);
     same(&rt, "take_till", "a-g", got, (Err(Kind::Backtrack), bytes));
     let got = outcome_of::<_, _, Modal, _>(&mut token::one_of(set), bytes);
     same(&rt, "one_of", "a-g", got, (Ok(b'a'), b"-g".as_slice()));

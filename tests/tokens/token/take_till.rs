@@ -35,11 +35,11 @@ where
     ] {
         ends::<I, _, E, _>(rt, name, token::take_till(range, ';'), row);
     }
-    let any = token::take_till(Range::from(0..), ';');
+    let any = token::take_till(0.., ';');
     let as_whole = [Takes(0), Takes(1), Takes(3), Takes(3)];
     let as_cut = [lacks(1), lacks(1), lacks(1), Takes(3)];
     sweep::<I, _, E, _>(rt, "take_till(0..)", any, "aé;", &as_whole, &as_cut);
-    let some = token::take_till(Range::from(1..), ';');
+    let some = token::take_till(1.., ';');
     let as_cut = [lacks(1), BACKTRACKS, BACKTRACKS, BACKTRACKS];
     sweep::<I, _, E, _>(rt, "take_till(1..)", some, ";a;", &[BACKTRACKS; 4], &as_cut);
 }

@@ -63,7 +63,7 @@ where
         ends::<I, _, E, _>(rt, name, token::take_until(range, ";"), row);
         ends::<I, _, E, _>(rt, name, token::take_until(range, ';'), row);
     }
-    let before = token::take_until(Range::from(0..=5), (';', ','));
+    let before = token::take_until(0..=5, (';', ','));
     ends::<I, _, E, _>(
         rt,
         "take_until(0..=5)",
@@ -116,6 +116,6 @@ fn take_until_on_beginnings<I: OfText + FindSlice<&'static str>, E: ParserError<
 fn take_until(rt: HostRuntime) {
     at_text!(rt; take_until_of_text, take_until_on_beginnings);
     let rows = [("", BACKTRACKS, BACKTRACKS), ("é", BACKTRACKS, BACKTRACKS)];
-    let before = token::take_until(Range::from(0..), ';');
+    let before = token::take_until(0.., ';');
     ends_each::<Partial<&str>, _, EmptyError, _>(&rt, "take_until, plain", before, &rows);
 }

@@ -165,10 +165,10 @@ where
         ends::<I, _, E, _>(rt, name, token::take_while(range, 'é'), row);
     }
     let as_cut = [lacks(1), lacks(1), lacks(1), Takes(4)];
-    let any = token::take_while(Range::from(0..), 'é');
+    let any = token::take_while(0.., 'é');
     let as_whole = [Takes(0), Takes(2), Takes(4), Takes(4)];
     sweep::<I, _, E, _>(rt, "take_while(0..)", any, "éé;", &as_whole, &as_cut);
-    let some = token::take_while(Range::from(1..), 'é');
+    let some = token::take_while(1.., 'é');
     let as_whole = [BACKTRACKS, Takes(2), Takes(4), Takes(4)];
     sweep::<I, _, E, _>(rt, "take_while(1..)", some, "éé;", &as_whole, &as_cut);
 }
@@ -177,7 +177,7 @@ where
 fn take_while(rt: HostRuntime) {
     at_text!(rt; take_while_of_text);
     let rows = [("", Takes(0), BACKTRACKS), ("é", Takes(2), BACKTRACKS)];
-    let any = token::take_while(Range::from(0..), 'é');
+    let any = token::take_while(0.., 'é');
     ends_each::<Partial<&str>, _, EmptyError, _>(&rt, "take_while, plain", any, &rows);
     take_while_of_digits::<&[u8], ModalAt<&'static [u8]>>(&rt, Kind::Cut);
     take_while_of_digits::<Partial<&[u8]>, Modal>(&rt, Kind::Cut);
