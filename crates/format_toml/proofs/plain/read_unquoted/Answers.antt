@@ -9,7 +9,4 @@ returns g = reads_by g.read_both_taken.ensures (rw (
   g.take_while-hour.ensures.set,
   g.take_while-others.ensures.occurrences,
   g.take_while-others.ensures.set,
-  g.from.ensures,
-  g.from-2.ensures,
-  g.from-3.ensures,
 ))
