@@ -13,7 +13,7 @@ use test_support::failing::{Failing, HARD};
 use test_support::outcomes::Ending::{Fails, Takes};
 use test_support::outcomes::Kind::{self, Backtrack, Cut, Memory};
 use test_support::outcomes::{CUTS, LACKS, backtracks_behind, lacks, lacks_one_behind};
-use test_support::refusing::refused_in_turn;
+use test_support::refusing::Refusing;
 use test_support::rows::{Modal, ends, ends_each, like_ends, outcome_at, same, sweep};
 use test_support::texts::OfText;
 use winnow_ascii::ascii::impls::{Alpha1, Digit1};
@@ -85,19 +85,17 @@ fn escaped(rt: HostRuntime) {
 fn escaped_without_memory(rt: HostRuntime) {
     let text = "aaaaaaaa\\nbbbbbbbbbbbbbbbbbbbbbbbb\\\\c\\ndddddddddddddddddddddddddddddddd;";
     let want = "aaaaaaaa\nbbbbbbbbbbbbbbbbbbbbbbbb\\c\ndddddddddddddddddddddddddddddddd";
-    refused_in_turn(
-        &rt,
-        "escaped",
-        rt.alloc(),
-        |heap| {
-            let (answer, left) = unescaped(heap, text);
-            match answer {
-                Ok(all) => (Ok(all.as_str() == want), left),
-                Err(kind) => (Err(kind), left),
-            }
-        },
-        (Ok(true), 1),
-    );
+    // A refused request for room is no error: the text asks again.
+    let heap = Refusing::once(rt.alloc(), 0);
+    let (answer, left) = unescaped(&heap, text);
+    assert!(rt; matches!(answer, Ok(all) if all.as_str() == want));
+    assert_eq!(rt; left, 1);
+    // Without memory for more bytes than it has room for, it is out of memory.
+    for first in 0..2 {
+        let heap = Refusing::always_from(rt.alloc(), first);
+        let (answer, _left) = unescaped(&heap, text);
+        assert!(rt; matches!(answer, Err(Memory)));
+    }
 }
 
 /// Characters and texts go into one text; turns are counted; a list keeps what they give, in order.
