@@ -79,14 +79,14 @@ fn read<A: Allocator + Copy>(alloc: A, text: &'static str) -> (Result<usize, Kin
     }
 }
 
-/// The request for room is refused, then all requests.
+/// The first allocation fails, then every one.
 #[test]
 fn escaped_without_memory(rt: HostRuntime) {
     let text = "ab\\ncd;";
-    // A refused request for room is no error: the text asks again.
+    // If its first allocation fails, the text allocates when it grows.
     let heap = Refusing::once(rt.alloc(), 0);
     same(&rt, "escaped", text, read(&heap, text).0, Ok(5));
-    assert!(rt; heap.met(), "a text asks for room");
+    assert!(rt; heap.met(), "a text reserves room");
     let heap = Refusing::always_from(rt.alloc(), 0);
     same(&rt, "escaped", text, read(&heap, text).0, Err(Memory));
     assert!(rt; heap.met(), "a text asks for memory");

@@ -85,12 +85,12 @@ fn escaped(rt: HostRuntime) {
 fn escaped_without_memory(rt: HostRuntime) {
     let text = "aaaaaaaa\\nbbbbbbbbbbbbbbbbbbbbbbbb\\\\c\\ndddddddddddddddddddddddddddddddd;";
     let want = "aaaaaaaa\nbbbbbbbbbbbbbbbbbbbbbbbb\\c\ndddddddddddddddddddddddddddddddd";
-    // A refused request for room is no error: the text asks again.
+    // If its first allocation fails, the text allocates when it grows.
     let heap = Refusing::once(rt.alloc(), 0);
     let (answer, left) = unescaped(&heap, text);
     assert!(rt; matches!(answer, Ok(all) if all.as_str() == want));
     assert_eq!(rt; left, 1);
-    // Without memory for more bytes than it has room for, it is out of memory.
+    // If it cannot grow, it is out of memory.
     for first in 0..2 {
         let heap = Refusing::always_from(rt.alloc(), first);
         let (answer, _left) = unescaped(&heap, text);
