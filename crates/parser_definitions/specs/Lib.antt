@@ -30,6 +30,7 @@ pub mod Held
 pub mod HexUint
 pub mod Integer
 pub mod IntegerGrammar
+pub mod Inversion
 pub mod Items
 pub mod Left
 pub mod Length

@@ -2,7 +2,7 @@
 use Rattle.std.specs.Prelude.{◌≡◌, ℕ, false, List, [], Result, Ok, Err, IfErr}
 use Rattle.std.proofs.Common.{subst, sym, inl, inr, ◌∙◌}
 use Rattle.streams.specs.Equal.{same_some}
-use Rattle.streams.specs.Input.{Input, IsEndOf}
+use Rattle.streams.specs.Input.{Input}
 use Rattle.streams.specs.Kind.{Kind, backtrack, cut, incomplete, memory}
 use Rattle.streams.specs.Reading.{Reading}
 use Rattle.streams.specs.declared.needed.Needed.{Needed}
@@ -11,15 +11,14 @@ use Rattle.stream_errors.specs.Fault.{IsFaultAt}
 use Rattle.stream_errors.specs.Form.{Answer, ErrorForm, answer_by}
 use Rattle.stream_errors.specs.declared.fault.ParseFault.{ParseFault}
 use Rattle.stream_errors.specs.declared.fault.ParseFault.TheVariants.{Invalid, Incomplete}
+use Rattle.parser_definitions.specs.Does.{Ran}
 use Rattle.parser_definitions.specs.Left.{left_of}
-use Rattle.parser_definitions.specs.Outcome.{Does, Setting, outcome_of}
+use Rattle.parser_definitions.specs.Outcome.{Does, outcome_of}
 use Rattle.parser_definitions.specs.Projects.{Agreement, Complete, Projects}
-use Rattle.winnow_core.specs.Covers.{Covers}
 use Rattle.winnow_core.specs.Exact.{IsSpared, Reads, UnlessWanted, agreement_of, kept_told}
 use Rattle.winnow_core.specs.Exact.{reads_told, spared_told}
 use Rattle.winnow_core.specs.Exact.Whole.{IsWant, ReadsAll}
 use Rattle.winnow_core.specs.Parse.{ParsesWhole}
-use Rattle.winnow_core.specs.Runs.{Meaning}
 
 never_memory : {P : Type 0} → ◌≡◌ {A = Kind} backtrack memory → P
 never_memory e = absurd (cc)
@@ -70,51 +69,51 @@ module _ {I T O X : Type 0} (view : I → Input T) (units : List T → ℕ) (inn
   left_spared (Incomplete needed) at wanted = wanted
 
 -- The result of `parse` of a parser whose definition projects to a grammar.
-module _ {I S T O X : Type 0} (view : I → Input T) (units : List T → ℕ) (inner_kind : X → Kind)
-    (meaning : Meaning S T O) {does : Does S T O}
-    (covers : (at : Setting) → Covers at (meaning at.form) does) (form : ErrorForm)
+module _ {I S T L O X : Type 0} (view : I → Input T) (reading : Reading T L)
+    (inner_kind : X → Kind) {does : Does S T O} (form : ErrorForm)
     {b m : Type 0} {s : S} {g : Grammar T O}
     (projects : (at : Complete) → Projects b m does at s g) (t : S) (i : Input T) where
-  agrees : i.status.cut ≡ false → (answer : Answer O) (j : Input T) → meaning form s i answer t j
+  agrees : i.status.cut ≡ false → (answer : Answer O) (j : Input T)
+      → Ran reading does form s i answer t j
       → Agreement b m s g i.left.tokens (outcome_of answer (t, left_of j))
-  agrees is answer j ran = agreement_of meaning covers form projects i t j is answer ran
+  agrees is answer j ran = agreement_of reading form projects i t j is answer ran
 
   pub all_told : (result : Result O (ParseFault I X Needed)) → i.status.cut ≡ false
-      → ParsesWhole view units inner_kind i.left (λ answer j. meaning form s i answer t j) result
+      → ParsesWhole view reading.units inner_kind i.left
+      (λ answer j. Ran reading does form s i answer t j) result
       → ReadsAll inner_kind g i.left.tokens result
   all_told (Ok o) is (j, r, nothing) =
       let P : List T → Type 0 = λ l. g i.left.tokens o l in
       record { stands = subst P nothing (agrees is (Ok o) j r).0; none = tt; whole = tt }
   all_told (Err fault) is (inl (k, j, r, at)) =
-      failed view units inner_kind b m s t g i j k fault (agrees is (Err k) j r) at
+      failed view reading.units inner_kind b m s t g i j k fault (agrees is (Err k) j r) at
   all_told (Err fault) is (inr (o, j, r, some, at)) =
-      left_some view units inner_kind b m s t g i j
+      left_some view reading.units inner_kind b m s t g i j
       (projects (record { form = form; possible = i.left.possible })).unique o fault
       (agrees is (Ok o) j r) some at
 
   pub all_spared : m → (result : Result O (ParseFault I X Needed)) → i.status.cut ≡ false
-      → ParsesWhole view units inner_kind i.left (λ answer j. meaning form s i answer t j) result
+      → ParsesWhole view reading.units inner_kind i.left
+      (λ answer j. Ran reading does form s i answer t j) result
       → IfErr result (λ fault. IsWant inner_kind fault → ⊥)
   all_spared spares (Ok o) is told = tt
   all_spared spares (Err fault) is (inl (k, j, r, at)) =
-      spared view units inner_kind b m s t g i j spares k fault (agrees is (Err k) j r) at
+      spared view reading.units inner_kind b m s t g i j spares k fault (agrees is (Err k) j r) at
   all_spared spares (Err fault) is (inr (o, j, r, some, at)) =
-      left_spared view units inner_kind b m s t g i j fault at
+      left_spared view reading.units inner_kind b m s t g i j fault at
 
 -- The result of a call.
-module _ {S T O E : Type 0} (meaning : Meaning S T O) {does : Does S T O}
-    (covers : (at : Setting) → Covers at (meaning at.form) does) (form : ErrorForm)
+module _ {S T L O E : Type 0} (reading : Reading T L) {does : Does S T O} (form : ErrorForm)
     {b m : Type 0} {s : S} {g : Grammar T O}
     (projects : (at : Complete) → Projects b m does at s g) (kind : E → Kind)
-    {t : S} {i j : Input T} (result : Result O E)
-    (ran : meaning form s i (answer_by kind result) t j) where
+    (t : S) {i j : Input T} (result : Result O E)
+    (ran : Ran reading does form s i (answer_by kind result) t j) where
   agreed : i.status.cut ≡ false
       → Agreement b m s g i.left.tokens (outcome_of (answer_by kind result) (t, left_of j))
-  agreed is = agreement_of meaning covers form projects i t j is (answer_by kind result) ran
+  agreed is = agreement_of reading form projects i t j is (answer_by kind result) ran
 
-  pub call_reads : {L : Type 0} (reading : Reading T L) → b → IsEndOf reading j i
-      → Reads reading kind g i result j
-  call_reads reading soft ends = reads_told b m s t g kind i j reading soft result ends agreed
+  pub call_reads : b → Reads reading kind g i result j
+  call_reads soft = reads_told b m s t g kind i j reading soft result ran.0 agreed
 
   pub call_spared : b → m → IsSpared kind i result
   call_spared soft spares = spared_told b m s t g kind i j soft spares result agreed

@@ -1,12 +1,15 @@
 -- Parsers that are not stable.
 use Rattle.std.specs.Prelude.{⊤, true, [], ◌∷◌, Ok, Err}
 use Rattle.std.proofs.Common.{refl, sym, ap, inl, inr, ◌∙◌}
-use Rattle.streams.specs.Input.{Input, Takes, at_start, with_more}
+use Rattle.streams.specs.Input.{Input, Takes, at_start, is_end_of_refl, with_more}
 use Rattle.streams.specs.Kind.{backtrack}
 use Rattle.streams.specs.Reading.{Reading, units-nil}
-use Rattle.winnow_core.specs.Eof.{EofRuns}
+use Rattle.parser_definitions.specs.Does.{Ran}
+use Rattle.parser_definitions.specs.Eof.{EofDoes}
+use Rattle.parser_definitions.specs.Left.{left_of}
+use Rattle.stream_errors.specs.Form.{modal}
+use Rattle.winnow_core.specs.Covers.Leaves.{passed_of}
 use Rattle.winnow_core.specs.Longer.{EachSameOnLonger}
-use Rattle.winnow_core.specs.Runs.{Keeps}
 
 -- an empty partial input
 abbrev pub cut_end : {T : Type 0} → Input T
@@ -29,9 +32,22 @@ takes_none {T} reading slice shown = record {
 -- `eof` matches empty partial input, but not if a token follows
 pub eof_unstable : {T L : Type 0} (reading : Reading T L) (alike : L → L → Type 0) (slice : L)
     (x : T) → reading.shows slice []
-    → EachSameOnLonger (Keeps (λ (s : ⊤). EofRuns reading)) alike → ⊥
-eof_unstable reading alike slice x shown each =
-    (each tt cut_end (Ok slice) tt cut_end refl refl
-    (inl (slice, refl, takes_none reading slice shown, refl), refl)).same tt (x ∷ []) true
-    (Err backtrack) tt (with_more cut_end (x ∷ []) true)
-    (inr ((λ none. absurd (cc)), refl, refl), refl)
+    → EachSameOnLonger (Ran {S = ⊤} reading (EofDoes reading) modal) alike → ⊥
+eof_unstable {T} reading alike slice x shown each =
+    let longer : Input T = with_more cut_end (x ∷ []) true in
+    (each tt cut_end (Ok slice) tt cut_end refl refl (
+      is_end_of_refl reading cut_end,
+      refl,
+      refl,
+      inl (
+        slice,
+        left_of cut_end,
+        (refl, passed_of (takes_none reading slice shown).passed, shown),
+        refl,
+      ),
+    )).same tt (x ∷ []) true (Err backtrack) tt longer (
+      is_end_of_refl reading longer,
+      refl,
+      refl,
+      inr (λ none. absurd (cc), refl),
+    )

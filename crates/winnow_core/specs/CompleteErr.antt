@@ -1,7 +1,6 @@
 -- Errors that do not ask for more input.
-use Rattle.std.specs.Prelude.{◌≡◌}
+use Rattle.std.specs.Prelude.{◌≡◌, ◌⊎◌, Ok, Err}
 use Rattle.streams.specs.Kind.{Kind, backtrack, cut, incomplete, memory}
-use Rattle.winnow_core.specs.MakesError.{MakesError}
 use Rattle.winnow_core.specs.Runs.{Runs}
 
 -- an incomplete error backtracks, and others stay
@@ -11,11 +10,7 @@ complete_kind cut = cut
 complete_kind (incomplete need) = backtrack
 complete_kind memory = memory
 
--- what a kind becomes
-abbrev pub CompleteErrBecomes : Unit {0} → Kind → Kind → Unit {0} → Type 0
-CompleteErrBecomes g k l h = l ≡ complete_kind k
-
 -- A call of the child, with `Incomplete` turned into a backtrack.
 abbrev pub CompleteErrRuns : {S T O : Type 0} → Runs S T O → Runs S T O
-CompleteErrRuns run s i answer t j =
-    MakesError CompleteErrBecomes run (s, tt) i answer (t, tt) j
+CompleteErrRuns {O = O} run s i answer t j = ((o : O) × run s i (Ok o) t j × (answer ≡ Ok o))
+    ⊎ ((k : Kind) × run s i (Err k) t j × (answer ≡ Err (complete_kind k)))

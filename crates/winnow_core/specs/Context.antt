@@ -1,26 +1,21 @@
--- The semantics of `context`.
-use Rattle.std.specs.Prelude.{◌≡◌, ◌⊎◌, IsSome, None}
-use Rattle.streams.specs.Kind.{Kind, memory}
-use Rattle.stream_errors.specs.Form.{need_of_kind}
-use Rattle.stream_errors.specs.Given.{Keeping, KindGiven}
-use Rattle.winnow_core.specs.MakesError.{MakesError}
-use Rattle.winnow_core.specs.Runs.{Runs}
-pub mod Laws
+-- Lemmas about the kind of an error after a context is added.
+use Rattle.std.proofs.Common.{inl, inr, refl}
+use Rattle.streams.specs.Kind.{ErrorForm, Kind}
+use Rattle.stream_errors.specs.Given.{Keeping, KeepsContext}
+use Rattle.parser_definitions.specs.MapErr.{context_becomes, with_context}
 
--- The kind `l` of an error of kind `k` after a context is added, by `Keeping` of the error type.
--- The context itself is unchanged.
-abbrev pub ContextBecomes : {C : Type 0} → (C → C → Type 0) → (C → Type 0) → C × (C → Keeping)
-    → Kind → Kind → C × (C → Keeping) → Type 0
-ContextBecomes {C} IsClone ClonesAlways c k l d = (d ≡ c) × (
-    -- an incomplete error keeps none, and stays: nothing is cloned for it
-    (IsSome (need_of_kind k) × (l ≡ k))
-    -- a clone of the context is stored, or the allocation for it failed
-    ⊎ (((copy : C) × (need_of_kind k ≡ None) × IsClone c.0 copy × KindGiven (c.1 copy) k l)
-    -- memory was refused to the clone
-    ⊎ ((need_of_kind k ≡ None) × (¬ (ClonesAlways c.0)) × (l ≡ memory))))
+-- so says the type of errors
+pub is_told : (form : ErrorForm) (keeping : Keeping) (k l : Kind) → KeepsContext form keeping k l
+    → with_context keeping k l
+is_told form keeping k l (inl (is, some, same)) = inl (some, same)
+is_told form keeping k l (inr given) = inr given
 
--- The error of the child keeps a clone of the context, and its kind; or memory was refused to one
--- or the other.
-abbrev pub ContextRuns : {S C T O : Type 0} → (C → C → Type 0) → (C → Type 0) → Runs S T O
-    → Runs (S × (C × (C → Keeping))) T O
-ContextRuns IsClone ClonesAlways run = MakesError (ContextBecomes IsClone ClonesAlways) run
+-- an error to which a clone is added
+pub becomes_told : {C : Type 0} (IsClone : C → C → Type 0) (ClonesAlways : C → Type 0)
+    (context : C) (gives : C → Keeping) (copy : C) (k l : Kind) → IsClone context copy
+    → with_context (gives copy) k l
+    → context_becomes IsClone ClonesAlways (context, gives) k l (context, gives)
+becomes_told IsClone ClonesAlways context gives copy k l is (inl (some, same)) =
+    (refl, inl (some, same))
+becomes_told IsClone ClonesAlways context gives copy k l is (inr (none, given)) =
+    (refl, inr (inl (copy, none, is, given)))

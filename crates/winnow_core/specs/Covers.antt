@@ -5,19 +5,16 @@ use Rattle.streams.specs.Input.{Input, IsEndOf, back_at}
 use Rattle.streams.specs.Kind.{Kind, backtrack, cut, incomplete, memory}
 use Rattle.streams.specs.Reading.{Reading}
 use Rattle.stream_errors.specs.Form.{Answer}
+use Rattle.stream_errors.specs.Form.{ErrorForm}
 use Rattle.winnow_core.specs.Runs.{Keeps, LeaveEnds, Runs}
-use Rattle.parser_definitions.specs.Does.{Terms}
+use Rattle.parser_definitions.specs.Does.{Ran, Terms}
 use Rattle.parser_definitions.specs.Left.{End, Left, left_of}
 use Rattle.parser_definitions.specs.Outcome.{Does, Outcome, Setting, outcome_of, setting_of}
 use Rattle.parser_definitions.specs.Then.{Comes, ComesOf}
 use Rattle.parser_definitions.specs.Then.Steps.{hands_on, where_took}
-pub mod Adapters
-pub mod Errors
 pub mod Functions
 pub mod Leaves
 pub mod Outputs
-pub mod Sequences
-pub mod Tuples
 
 -- The input has the setting's flag for partial input, and whether its tokens can be read is that of
 -- the setting.
@@ -62,11 +59,42 @@ pub at_end : {T L : Type 0} {reading : Reading T L} {at : Setting} {i j : Input 
 at_end here e =
     record { more = e.cut ∙ here.more; possible = e.ends.possible ∙ here.possible }
 
--- every call has any outcome
-pub any_covered : {S T L O : Type 0} {reading : Reading T L} {at : Setting} {run : Runs S T O}
-    → LeaveEnds reading run → Covers at run AnyOutcome
-any_covered ends =
-    record { covers = λ s i answer t j here r. (tt, at_end here (ends s i answer t j r)) }
+-- ---- calls of children, and of a whole that is covered
+
+pub ran_ends : {S T L O : Type 0} (reading : Reading T L) (does : Does S T O) (form : ErrorForm)
+    → LeaveEnds reading (Ran reading does form)
+ran_ends reading does form s i answer t j ran = ran.0
+
+pub ran_covers : {S T L O : Type 0} (reading : Reading T L) (does : Does S T O) (at : Setting)
+    → Covers at (Ran reading does at.form) does
+ran_covers {S} {T} {L} {O} reading does at = record { covers = call }
+  where
+    call : Calls at (Ran reading does at.form) does
+    call s i answer t j here (ends, more, possible, did) = (
+      subst (λ z. does z s (left_of i) (outcome_of answer (t, left_of j))) (at_setting here) did,
+      record { more = more ∙ here.more; possible = possible ∙ here.possible },
+    )
+
+pub covered_ran : {S T L O : Type 0} (reading : Reading T L) {run : Runs S T O}
+    {does : Does S T O} (form : ErrorForm) (s : S) (i : Input T) (answer : Answer O) (t : S)
+    (j : Input T) → IsEndOf reading j i → Covers (setting_of form i) run does
+    → run s i answer t j → Ran reading does form s i answer t j
+covered_ran reading form s i answer t j ends covers ran = (
+  ends,
+  ends.cut,
+  ends.ends.possible,
+  (covers.covers s i answer t j (record { more = refl; possible = refl }) ran).0,
+)
+
+-- a call that leaves its state
+pub kept_ran : {S T L O : Type 0} (reading : Reading T L) (does : Does S T O) (form : ErrorForm)
+    (s : S) (i : Input T) (answer : Answer O) (t : S) (j : Input T) → IsEndOf reading j i → t ≡ s
+    → does (setting_of form i) s (left_of i) (outcome_of answer (s, left_of j))
+    → Ran reading does form s i answer t j
+kept_ran {S} reading does form s i answer t j ends kept did =
+    let P : S → Type 0 = λ z.
+    does (setting_of form i) s (left_of i) (outcome_of answer (z, left_of j)) in
+    (ends, ends.cut, ends.ends.possible, subst P (sym kept) did)
 
 -- back at the start of a call
 pub at_back : {T : Type 0} {at : Setting} {i m : Input T} → At at i → At at m

@@ -2,7 +2,6 @@
 use Rattle.std.specs.Prelude.{◌≡◌, Ok, Err}
 use Rattle.streams.specs.Kind.{memory}
 use Rattle.stream_errors.specs.Form.{Answer}
-use Rattle.winnow_core.specs.Runs.{Runs}
 pub mod Inputs
 
 -- The result is not out of memory.

@@ -1,17 +1,16 @@
 -- The contracts of calls, by the grammar of the parser.
-use Rattle.std.specs.Prelude.{◌≡◌, ◌⊎◌, false, List, Result, Ok, Err, IfOk, IfErr}
+use Rattle.std.specs.Prelude.{◌≡◌, ◌⊎◌, Bool, false, List, Result, Ok, Err, IfOk, IfErr}
 use Rattle.std.specs.Prelude.{MatchResult}
-use Rattle.std.proofs.Common.{refl, inl, inr}
+use Rattle.std.proofs.Common.{refl, subst, inl, inr}
 use Rattle.streams.specs.Input.{Input, IsEndOf}
 use Rattle.streams.specs.Kind.{Kind, backtrack, cut, incomplete, memory}
 use Rattle.streams.specs.Reading.{Reading}
 use Rattle.grammars.specs.Grammar.{Grammar, NoMatch}
 use Rattle.stream_errors.specs.Form.{Answer, ErrorForm, answer_by}
+use Rattle.parser_definitions.specs.Does.{Ran}
 use Rattle.parser_definitions.specs.Left.{Left, left_of}
-use Rattle.parser_definitions.specs.Outcome.{Does, Setting, outcome_of}
+use Rattle.parser_definitions.specs.Outcome.{Does, outcome_of}
 use Rattle.parser_definitions.specs.Projects.{Agreement, Complete, Projects}
-use Rattle.winnow_core.specs.Covers.{Covers}
-use Rattle.winnow_core.specs.Runs.{Meaning}
 pub mod Same
 pub mod Whole
 
@@ -35,20 +34,21 @@ UnlessWanted kind result P = MatchResult result (λ o. P) (λ e. (kind e ≡ mem
 
 -- ---- calls of a parser whose definition projects to a grammar
 
-module _ {S T O : Type 0} (meaning : Meaning S T O) {does : Does S T O}
-    (covers : (at : Setting) → Covers at (meaning at.form) does) (form : ErrorForm)
+module _ {S T L O : Type 0} (reading : Reading T L) {does : Does S T O} (form : ErrorForm)
     {b m : Type 0} {s : S} {g : Grammar T O}
     (projects : (at : Complete) → Projects b m does at s g) (i : Input T) (t : S) (j : Input T)
     (is : i.status.cut ≡ false) where
   -- the outcome of a call on complete input agrees with the grammar
-  pub agreement_of : (answer : Answer O) → meaning form s i answer t j
+  pub agreement_of : (answer : Answer O) → Ran reading does form s i answer t j
       → Agreement b m s g i.left.tokens (outcome_of answer (t, left_of j))
-  agreement_of answer ran =
-      let at : Complete = record { form = form; possible = i.left.possible } in
-      let setting : Setting = record { form = form; more = false; possible = i.left.possible } in
-      let did = ((covers setting).covers s i answer t j (record { more = is; possible = refl })
-      ran).0 in
-      ((projects at).reads.agrees (left_of i) (outcome_of answer (t, left_of j)) did).is
+  agreement_of answer (ends, flag, possible, did) =
+      let P : Bool → Type 0 = λ b. does (record {
+        form = form;
+        more = b;
+        possible = i.left.possible;
+      }) s (left_of i) (outcome_of answer (t, left_of j)) in
+      ((projects (record { form = form; possible = i.left.possible })).reads.agrees (left_of i)
+      (outcome_of answer (t, left_of j)) (subst P is did)).is
 
 module _ {S T O : Type 0} (b m : Type 0) (s t : S) (g : Grammar T O) (tokens : List T) (l : Left T)
   where

@@ -1,17 +1,8 @@
 -- Laws of the parsers and the adapters.
-use Rattle.std.specs.Prelude.{◌≡◌, List, ◌++◌, Ok, Err, ◌⊎◌}
+use Rattle.std.specs.Prelude.{◌≡◌, List, ◌++◌, Ok}
 use Rattle.streams.specs.Input.{Input}
-use Rattle.streams.specs.Kind.{Kind}
 use Rattle.streams.specs.Reading.{Reading}
 use Rattle.winnow_core.specs.Runs.{Runs}
-
--- Where a run fails, the child did, in the same way, and it left the input there; or the child
--- succeeded, and the input is back where it was.
-abbrev pub GoesBackOnFailure : {S W T O U : Type 0} → (W → S) → Runs S T O → Runs W T U → Type 0
-GoesBackOnFailure {S} {W} {T} {O} {U} part child run =
-    (s : W) (i : Input T) (k : Kind) (t : W) (j : Input T) → run s i (Err k) t j
-    → child (part s) i (Err k) (part t) j
-    ⊎ ((o : O) × (a : Input T) × child (part s) i (Ok o) (part t) a × (j.left ≡ i.left))
 
 -- each slice shows one list of tokens
 abbrev pub ShowsOne : {T L : Type 0} → Reading T L → (L → List T) → Type 0

@@ -3,14 +3,14 @@ use Rattle.std.specs.Prelude.{◌≡◌, ⊤, Bool, true, List, Ok, Err}
 use Rattle.std.proofs.Common.{refl, subst}
 use Rattle.streams.specs.Input.{Input, with_more}
 use Rattle.streams.specs.Kind.{Kind, backtrack, cut, incomplete, memory}
+use Rattle.streams.specs.Reading.{Reading}
 use Rattle.stream_errors.specs.Form.{Answer, ErrorForm, modal}
-use Rattle.winnow_core.specs.Runs.{Meaning, Runs}
-use Rattle.parser_definitions.specs.Does.{Lawful}
+use Rattle.winnow_core.specs.Runs.{Runs}
+use Rattle.parser_definitions.specs.Does.{Lawful, Ran, gets_of}
 use Rattle.parser_definitions.specs.Left.{End, extend, left_of}
-use Rattle.parser_definitions.specs.Outcome.{Alike, Does, Outcome, Setting, grown, longer, on_cut}
+use Rattle.parser_definitions.specs.Outcome.{Alike, Does, Outcome, longer}
 use Rattle.parser_definitions.specs.Outcome.{outcome_of}
 use Rattle.parser_definitions.specs.Outcome as outcomes
-use Rattle.winnow_core.specs.Covers.{Covers}
 
 -- The kind is neither incomplete nor memory.
 abbrev pub IsFinalKind : Kind → Type 0
@@ -56,27 +56,24 @@ final_outcome (Err cut) l final = tt
 final_outcome (Err (incomplete need)) l final = absurd final
 final_outcome (Err memory) l final = absurd final
 
--- A parser that is covered by a lawful, stable definition has this of each call.
-pub same_on_longer : {S T O : Type 0} (meaning : Meaning S T O) {stable : Type 0}
-    {alike : O → O → Type 0} {does : Does S T O}
-    → ((at : Setting) → Covers at (meaning at.form) does) → Lawful stable alike does → stable
+-- Each call of a parser whose definition is lawful and stable has this.
+pub same_on_longer : {S T L O : Type 0} (reading : Reading T L) {stable : Type 0}
+    {alike : O → O → Type 0} {does : Does S T O} → Lawful stable alike does → stable
     → {form : ErrorForm} → form ≡ modal → (s : S) (i : Input T) (answer : Answer O) (t : S)
-    (j : Input T) → i.status.cut ≡ true → i.left.possible ≡ true → meaning form s i answer t j
-    → SameOnLonger (meaning form) alike s i answer t j
-same_on_longer {S} {T} {O} meaning {stable} {alike} {does} c law is {form} has s i answer t j
+    (j : Input T) → i.status.cut ≡ true → i.left.possible ≡ true
+    → Ran reading does form s i answer t j
+    → SameOnLonger (Ran reading does form) alike s i answer t j
+same_on_longer {S} {T} {O = O} reading {alike = alike} {does} law is {form} has s i answer t j
     partial may ran =
-    let P : ErrorForm → Type 0 = λ f. meaning f s i answer t j in
     let x : Outcome (End S T) O = outcome_of answer (t, left_of j) in
-    let did = ((c on_cut).covers s i answer t j (record { more = partial; possible = may })
-    (subst P has ran)).0 in
+    let gets = gets_of reading law is has s i answer t j partial may ran in
     record {
       same = λ final more flag other u k also.
-          let Q : ErrorForm → Type 0 = λ f. meaning f s (with_more i more flag) other u k in
           let y : Outcome (End S T) O = outcome_of other (u, left_of k) in
-          let did2 = ((c (grown flag)).covers s (with_more i more flag) other u k
-          (record { more = refl; possible = may }) (subst Q has also)).0 in
+          let P : ErrorForm → Bool → Type 0 =
+          λ f p. does (record { form = f; more = flag; possible = p }) s (extend more (left_of i)) y
+          in
           subst (λ z. Alike alike z y) (longer_outcome more answer (t, left_of j))
-          (law.one (grown flag) s (extend more (left_of i)) (longer more x) y
-          (law.stays is more flag s (left_of i) x
-          (final_outcome answer (t, left_of j) final) did) did2);
+          (gets.gets (final_outcome answer (t, left_of j) final) more flag y
+          (subst (λ p. P modal p) may (subst (λ f. P f i.left.possible) has also.3)));
     }

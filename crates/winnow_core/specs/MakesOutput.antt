@@ -3,7 +3,6 @@ use Rattle.std.specs.Prelude.{◌≡◌, Ok, Err, ◌⊎◌}
 use Rattle.streams.specs.Input.{Input}
 use Rattle.streams.specs.Kind.{Kind}
 use Rattle.winnow_core.specs.Runs.{Runs}
-pub mod Laws
 
 -- A call of the child, whose output is turned into another, by the inputs before and after it.
 abbrev pub MakesOutput : {S T O U : Type 0} → (Input T → O → Input T → U → Type 0) → Runs S T O

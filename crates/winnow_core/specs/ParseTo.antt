@@ -1,17 +1,21 @@
--- An output that is read as text.
-use Rattle.std.specs.Prelude.{◌≡◌, Option, Some, None, Ok, Err, ◌⊎◌}
-use Rattle.streams.specs.Kind.{backtrack}
-use Rattle.stream_errors.specs.Form.{Answer}
-use Rattle.winnow_core.specs.Settles.{Settles}
-use Rattle.winnow_core.specs.Runs.{Runs}
+-- When outputs are read as equal values.
+use Rattle.std.specs.Prelude.{⊤, Option, Some, None}
+use Rattle.parser_definitions.specs.Equal.{AlikeOptions}
+use Rattle.parser_definitions.specs.Outputs.{OutputsMadeAlike}
 
--- Converts the output by `reads`, and backtracks if that is `None`.
-abbrev pub ParseToSettles : {O U : Type 0} → (O → Option U → Type 0) → Unit {0} → O → Answer U
-    → Unit {0} → Type 0
-ParseToSettles {O} {U} reads g o answer h =
-    ((u : U) × reads o (Some u) × (answer ≡ Ok u)) ⊎ (reads o None × (answer ≡ Err backtrack))
+-- Of equal outputs both are read as values, or neither is.
+abbrev pub ReadsAlike : {O U : Type 0} → (O → O → Type 0) → (O → Option U → Type 0) → Type 0
+ReadsAlike {O} {U} alike reads = (o p : O) (u v : Option U) → alike o p → reads o u → reads p v
+    → AlikeOptions (λ (x y : U). ⊤) u v
 
--- The output is what the child's reads as; where it reads as nothing, the run backtracks.
-abbrev pub ParseToRuns : {S T O U : Type 0} → (O → Option U → Type 0) → Runs S T O → Runs S T U
-ParseToRuns {S} {T} {O} {U} reads run s i answer t j =
-    Settles (ParseToSettles reads) run (s, tt) i answer (t, tt) j
+-- Both are read from equal outputs.
+abbrev pub AlikeRead : {O U : Type 0} → (O → O → Type 0) → (O → Option U → Type 0) → U → U → Type 0
+AlikeRead alike reads = OutputsMadeAlike alike (λ o u. reads o (Some u))
+
+module _ {O U : Type 0} (reads : O → Option U → Type 0) where
+  pub read_alike : {alike : O → O → Type 0} → ReadsAlike alike reads → (o p : O) (u v : Option U)
+      → alike o p → reads o u → reads p v → AlikeOptions (AlikeRead alike reads) u v
+  read_alike once o p (Some u) (Some v) like x y = (o, p, like, x, y)
+  read_alike once o p (Some u) None like x y = absurd (once o p (Some u) None like x y)
+  read_alike once o p None (Some v) like x y = absurd (once o p None (Some v) like x y)
+  read_alike once o p None None like x y = tt

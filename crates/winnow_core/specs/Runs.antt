@@ -22,7 +22,3 @@ LeaveEnds {S} {T} {L} {O} reading run =
 -- Runs that keep their state.
 abbrev pub Keeps : {S T O : Type 0} → (S → Input T → Answer O → Input T → Type 0) → Runs S T O
 Keeps runs s i answer t j = runs s i answer j × (t ≡ s)
-
--- Runs over values, by the states of these.
-abbrev pub By : {P S T O : Type 0} → (P → S) → Runs S T O → Runs P T O
-By state run s i answer t j = run (state s) i answer (state t) j

@@ -3,9 +3,6 @@ use Rattle.std.specs.Prelude.{◌≡◌, Result, Ok, Err, ◌⊎◌}
 use Rattle.streams.specs.Kind.{Kind, backtrack}
 use Rattle.stream_errors.specs.Form.{Answer}
 use Rattle.stream_errors.specs.Given.{Keeping, KindGiven}
-use Rattle.winnow_core.specs.Settles.{Settles}
-use Rattle.winnow_core.specs.Runs.{Runs}
-pub mod Inversion
 
 -- One call of the closure settles an output; where it fails, the error is the one that is made of
 -- the closure's: it backtracks, or is out of memory, each where the type of errors says that it
@@ -16,9 +13,3 @@ TryMapSettles {G} {O} {U} {R} step g o answer h = (h.1 ≡ g.1) × (
     ((u : U) × step g.0 o (Ok u) h.0 × (answer ≡ Ok u))
     ⊎ ((r : R) × (k : Kind) × step g.0 o (Err r) h.0 × KindGiven (g.1 r) backtrack k
     × (answer ≡ Err k)))
-
--- The output is the result of one call of the closure. If the closure fails, the error is made from
--- that of the closure.
-abbrev pub TryMapRuns : {S G T O U R : Type 0} → (G → O → Result U R → G → Type 0) → Runs S T O
-    → Runs (S × (G × (R → Keeping))) T U
-TryMapRuns step run = Settles (TryMapSettles step) run

@@ -1,92 +1,22 @@
 //! Laws of the parsers, for those that build on them.
+ghost use Rattle.parser_definitions.specs.Does.{Ran};
 ghost use Rattle.std.specs.Prelude.{List, []};
 ghost use Rattle.std.specs.Str.{chars};
 ghost use Rattle.stream_errors.specs.Form.{modal};
-ghost use Rattle.winnow_core.specs.Laws.{GoesBackOnFailure, ShowsOne};
+ghost use Rattle.winnow_core.specs.Laws.{ShowsOne};
 ghost use Rattle.winnow_core.specs.Laws.{TakesFromTheFront};
 ghost use Rattle.winnow_core.specs.Longer.{EachSameOnLonger};
 ghost use Rattle.winnow_core.specs.Runs.{LeaveEnds};
 
-use crate::combinator::impls::{AndThen, Eof, ParseTo, Take, TryMap, Verify, VerifyMap, WithTaken};
+use crate::combinator::impls::{Eof, Take, WithTaken};
 use crate::parser::Parser;
-use stream_errors::external::FromExternalError;
 use stream_errors::parser_error::ParserError;
-use stream_sets::parse_slice::ParseSlice;
 use streams::stream::{Stream, StreamIsPartial};
 use streams::token_slice::TokenSlice as Tokens;
 
 /// `parse_next` leaves a suffix of the input, whatever it returns.
 pub fn the_rest_is_a_suffix<P: Parser<I, O, E>, I: Stream, O, E: ParserError<I>>()
-    ensures { LeaveEnds I.reading (P.meaning E.form) }
-{}
-
-/// If [`verify_map`](crate::parser::Parser::verify_map) fails although its parser succeeded, the
-/// input is reset.
-pub fn verify_map_resets_the_input<
-    P: Parser<I, O, E>,
-    G: FnMut(O) -> Option<O2>,
-    I: Stream,
-    O,
-    O2,
-    E: ParserError<I>,
->()
-    ensures { GoesBackOnFailure (λ s. s.0) (P.meaning E.form)
-        (⟦<VerifyMap<P, G, I, O, O2, E> as Parser<I, O2, E>>⟧.meaning E.form) }
-{}
-
-/// If [`verify`](crate::parser::Parser::verify) fails although its parser succeeded, the input is
-/// reset.
-pub fn verify_resets_the_input<
-    P: Parser<I, O, E>,
-    G: FnMut(&O) -> bool,
-    I: Stream,
-    O: Drop,
-    E: ParserError<I>,
->()
-    ensures { GoesBackOnFailure (λ s. s.0) (P.meaning E.form)
-        (⟦<Verify<P, G, I, O, E> as Parser<I, O, E>>⟧.meaning E.form) }
-{}
-
-/// If [`try_map`](crate::parser::Parser::try_map) fails although its parser succeeded, the input is
-/// reset.
-pub fn try_map_resets_the_input<
-    P: Parser<I, O, E>,
-    G: FnMut(O) -> Result<O2, E2>,
-    I: Stream,
-    O,
-    O2,
-    E: ParserError<I> + FromExternalError<I, E2>,
-    E2,
->()
-    ensures { GoesBackOnFailure (λ s. s.0) (P.meaning E.form)
-        (⟦<TryMap<P, G, I, O, O2, E, E2> as Parser<I, O2, E>>⟧.meaning E.form) }
-{}
-
-/// If [`parse_to`](crate::parser::Parser::parse_to) fails although its parser succeeded, the input
-/// is reset.
-pub fn parse_to_resets_the_input<
-    P: Parser<I, O, E>,
-    I: Stream,
-    O: ParseSlice<O2> + Drop,
-    O2,
-    E: ParserError<I>,
->()
-    ensures { GoesBackOnFailure (λ s. s) (P.meaning E.form)
-        (⟦<ParseTo<P, I, O, O2, E> as Parser<I, O2, E>>⟧.meaning E.form) }
-{}
-
-/// If [`and_then`](crate::parser::Parser::and_then) fails although its outer parser succeeded, the
-/// input is reset.
-pub fn and_then_resets_the_input<
-    P: Parser<I, O, E>,
-    G: Parser<O, O2, E>,
-    I: Stream,
-    O: StreamIsPartial + Drop,
-    O2,
-    E: ParserError<I> + ParserError<O>,
->()
-    ensures { GoesBackOnFailure (λ s. s.0) (P.meaning E.form)
-        (⟦<AndThen<P, G, I, O, O2, E> as Parser<I, O2, E>>⟧.meaning E.form) }
+    ensures { LeaveEnds I.reading (Ran I.reading P.does E.form) }
 {}
 
 /// Over bytes, the slice that [`take`](crate::parser::Parser::take) returns, followed by the rest,
@@ -98,7 +28,8 @@ pub fn taken_bytes_and_the_rest_are_the_input<
     E: ParserError<&'a [u8]>,
 >()
     ensures { TakesFromTheFront (λ slice. slice.now)
-        (⟦<Take<P, &'a [u8], O, E> as Parser<&'a [u8], &'a [u8], E>>⟧.meaning E.form) }
+        (Ran ⟦<&'a [u8] as Stream>⟧.reading
+        ⟦<Take<P, &'a [u8], O, E> as Parser<&'a [u8], &'a [u8], E>>⟧.does E.form) }
 {}
 
 /// Over text, the slice that [`take`](crate::parser::Parser::take) returns, followed by the rest,
@@ -110,7 +41,8 @@ pub fn taken_text_and_the_rest_are_the_input<
     E: ParserError<&'a str>,
 >()
     ensures { TakesFromTheFront (λ slice. chars slice.now)
-        (⟦<Take<P, &'a str, O, E> as Parser<&'a str, &'a str, E>>⟧.meaning E.form) }
+        (Ran ⟦<&'a str as Stream>⟧.reading
+        ⟦<Take<P, &'a str, O, E> as Parser<&'a str, &'a str, E>>⟧.does E.form) }
 {}
 
 /// Over a list of tokens, the slice that [`take`](crate::parser::Parser::take) returns, followed by
@@ -123,8 +55,8 @@ pub fn taken_tokens_and_the_rest_are_the_input<
     E: ParserError<Tokens<'t, T>>,
 >()
     ensures { TakesFromTheFront (λ slice. slice.now)
-        (⟦<Take<P, Tokens<'t, T>, O, E> as Parser<Tokens<'t, T>, &'t [T], E>>⟧.meaning
-        E.form) }
+        (Ran ⟦<Tokens<'t, T> as Stream>⟧.reading
+        ⟦<Take<P, Tokens<'t, T>, O, E> as Parser<Tokens<'t, T>, &'t [T], E>>⟧.does E.form) }
 {}
 
 /// Over bytes, the slice that [`with_taken`](crate::parser::Parser::with_taken) returns with the
@@ -136,7 +68,8 @@ pub fn bytes_with_the_output_and_the_rest_are_the_input<
     E: ParserError<&'a [u8]>,
 >()
     ensures { TakesFromTheFront (λ both. both.1.now)
-        (⟦<WithTaken<P, &'a [u8], O, E> as Parser<&'a [u8], (O, &'a [u8]), E>>⟧.meaning E.form) }
+        (Ran ⟦<&'a [u8] as Stream>⟧.reading
+        ⟦<WithTaken<P, &'a [u8], O, E> as Parser<&'a [u8], (O, &'a [u8]), E>>⟧.does E.form) }
 {}
 
 /// Over text, the slice that [`with_taken`](crate::parser::Parser::with_taken) returns with the
@@ -148,7 +81,8 @@ pub fn text_with_the_output_and_the_rest_are_the_input<
     E: ParserError<&'a str>,
 >()
     ensures { TakesFromTheFront (λ both. chars both.1.now)
-        (⟦<WithTaken<P, &'a str, O, E> as Parser<&'a str, (O, &'a str), E>>⟧.meaning E.form) }
+        (Ran ⟦<&'a str as Stream>⟧.reading
+        ⟦<WithTaken<P, &'a str, O, E> as Parser<&'a str, (O, &'a str), E>>⟧.does E.form) }
 {}
 
 /// Over a list of tokens, the slice that [`with_taken`](crate::parser::Parser::with_taken) returns
@@ -161,7 +95,8 @@ pub fn tokens_with_the_output_and_the_rest_are_the_input<
     E: ParserError<Tokens<'t, T>>,
 >()
     ensures { TakesFromTheFront (λ both. both.1.now)
-        (⟦<WithTaken<P, Tokens<'t, T>, O, E> as Parser<Tokens<'t, T>, (O, &'t [T]), E>>⟧.meaning
+        (Ran ⟦<Tokens<'t, T> as Stream>⟧.reading
+        ⟦<WithTaken<P, Tokens<'t, T>, O, E> as Parser<Tokens<'t, T>, (O, &'t [T]), E>>⟧.does
         E.form) }
 {}
 
@@ -175,7 +110,7 @@ pub fn the_slice_taken_and_the_rest_are_the_input<
 >()
     ensures { (tokens_of : I.Slice → List I.Seen) → ShowsOne I.reading tokens_of
         → TakesFromTheFront tokens_of
-        (⟦<Take<P, I, O, E> as Parser<I, I::Slice, E>>⟧.meaning E.form) }
+        (Ran I.reading ⟦<Take<P, I, O, E> as Parser<I, I::Slice, E>>⟧.does E.form) }
 {}
 
 /// Over such a stream, the tokens of the slice that
@@ -189,13 +124,13 @@ pub fn the_slice_with_the_output_and_the_rest_are_the_input<
 >()
     ensures { (tokens_of : I.Slice → List I.Seen) → ShowsOne I.reading tokens_of
         → TakesFromTheFront (λ both. tokens_of both.1)
-        (⟦<WithTaken<P, I, O, E> as Parser<I, (O, I::Slice), E>>⟧.meaning E.form) }
+        (Ran I.reading ⟦<WithTaken<P, I, O, E> as Parser<I, (O, I::Slice), E>>⟧.does E.form) }
 {}
 
 /// [`Eof`](crate::combinator::impls::Eof) is not stable: it matches at the end of partial input,
 /// but not if a token follows.
 pub fn eof_is_not_stable<I: Stream, E: ParserError<I>>()
     ensures { (slice : I.Slice) (x : I.Seen) → I.reading.shows slice []
-        → EachSameOnLonger (⟦<Eof as Parser<I, I::Slice, E>>⟧.meaning modal)
+        → EachSameOnLonger (Ran I.reading ⟦<Eof as Parser<I, I::Slice, E>>⟧.does modal)
         ⟦<Eof as Parser<I, I::Slice, E>>⟧.terms.alike → ⊥ }
 {}

@@ -2,14 +2,12 @@
 #![tactic(auto, using(streams::specs::Ends::ends_follow))]
 
 ghost use Rattle.std.specs.Prelude.{⊤, ◌≡◌, true, false, IfErr};
-ghost use Rattle.stream_errors.specs.Form.{ErrorForm, answer_by, modal};
-ghost use Rattle.streams.specs.Input.{IsEndOf};
+ghost use Rattle.stream_errors.specs.Form.{answer_by, modal};
 ghost use Rattle.parser_definitions.specs.Claim.{Claim, Claimed};
-ghost use Rattle.parser_definitions.specs.Does.{Gets, Lawful, Terms};
+ghost use Rattle.parser_definitions.specs.Does.{Gets, Lawful, Ran, Terms};
 ghost use Rattle.parser_definitions.specs.Left.{left_of};
-ghost use Rattle.parser_definitions.specs.Outcome.{Does, Setting, outcome_of};
+ghost use Rattle.parser_definitions.specs.Outcome.{Does, outcome_of};
 ghost use Rattle.winnow_core.specs.ByRef.{by_ref_name, by_ref_parser};
-ghost use Rattle.winnow_core.specs.Covers.{Covers};
 ghost use Rattle.winnow_core.specs.Exact.{IsSpared, Reads, UnlessWanted};
 ghost use Rattle.winnow_core.specs.Exact.Whole.{IsWant, ReadsAll};
 ghost use Rattle.winnow_core.specs.Longer.{SameOnLonger};
@@ -17,7 +15,6 @@ ghost use Rattle.winnow_core.specs.Parse.{ParsesWhole};
 ghost use Rattle.winnow_core.specs.ParseIter.{IsReached, parse_iter_name, parse_iter_parser};
 ghost use Rattle.winnow_core.specs.ParseIter.{parse_iter_standing, reads};
 ghost use Rattle.winnow_core.specs.ParsePeek.{PeekAnswers};
-ghost use Rattle.winnow_core.specs.Runs.{LeaveEnds, Meaning};
 ghost use Rattle.winnow_core.specs.Tells.{Tells, TellsAll};
 ghost use Rattle.winnow_core.specs.Take.{take_parser};
 ghost use Rattle.winnow_core.specs.Value.{value_kept, value_parser};
@@ -62,10 +59,6 @@ pub trait Parser<I: Stream, O, E: ParserError<I>>: Sized {
     // The current state of a parser.
     ghost state: { Self → State };
 
-    // The parser's semantics: for each form of errors, a relation between a state, an input, a
-    // result, the new state and the remaining input.
-    ghost meaning: { Meaning State I.Seen O };
-
     // The parser's definition: its outcomes for a state and an input. `AnyOutcome` specifies
     // nothing.
     ghost does: { Does State I.Seen O };
@@ -84,9 +77,8 @@ pub trait Parser<I: Stream, O, E: ParserError<I>>: Sized {
     fn parse_next(&mut self, input: &mut I) -> Result<O, E>
         requires { can_parse self.old }
         ensures again { can_parse self.new }
-        ensures ran { meaning E.form (state self.old) (I.view input.old)
-            (answer_by E.kind result) (state self.new) (I.view input.new) }
-        ensures ends { IsEndOf I.reading (I.view input.new) (I.view input.old) };
+        ensures ran { Ran I.reading does E.form (state self.old) (I.view input.old)
+            (answer_by E.kind result) (state self.new) (I.view input.new) };
 
     /// Parses all of `input`, and fails if any input remains.
     ///
@@ -106,7 +98,7 @@ pub trait Parser<I: Stream, O, E: ParserError<I>>: Sized {
         requires whole { I.supports_partial ≡ false }
         ensures again { can_parse self.new }
         ensures ran { ParsesWhole I.view I.reading.units E.inner_kind (I.view input).left
-            (λ answer j. meaning E.form (state self.old) (I.view input) answer
+            (λ answer j. Ran I.reading does E.form (state self.old) (I.view input) answer
             (state self.new) j) result }
     {
         let mut input = input;
@@ -137,7 +129,7 @@ pub trait Parser<I: Stream, O, E: ParserError<I>>: Sized {
         requires callable { can_parse self.old }
         requires premise { terms.premise }
         ensures again { can_parse self.new }
-        ensures ran { meaning E.form (state self.old) (I.view input.old)
+        ensures ran { Ran I.reading does E.form (state self.old) (I.view input.old)
             (answer_by E.kind result) (state self.new) (I.view input.new) }
         ensures tells { Tells I.reading terms.alike does E.form (state self.old)
             (I.view input.old) (answer_by E.kind result) (state self.new) (I.view input.new) }
@@ -160,7 +152,7 @@ pub trait Parser<I: Stream, O, E: ParserError<I>>: Sized {
         requires whole { I.supports_partial ≡ false }
         ensures again { can_parse self.new }
         ensures ran { ParsesWhole I.view I.reading.units E.inner_kind (I.view input).left
-            (λ answer j. meaning E.form (state self.old) (I.view input) answer
+            (λ answer j. Ran I.reading does E.form (state self.old) (I.view input) answer
             (state self.new) j) result }
         ensures tells { TellsAll I.reading.units E.inner_kind terms.alike does E.form
             (state self.old) (I.view input) (state self.new) result }
@@ -189,11 +181,11 @@ pub trait Parser<I: Stream, O, E: ParserError<I>>: Sized {
         requires is_cut { (I.view input.old).status.cut ≡ true }
         requires readable { (I.view input.old).left.possible ≡ true }
         ensures again { can_parse self.new }
-        ensures ran { meaning E.form (state self.old) (I.view input.old)
+        ensures ran { Ran I.reading does E.form (state self.old) (I.view input.old)
             (answer_by E.kind result) (state self.new) (I.view input.new) }
         ensures gets { Gets terms.alike does (state self.old) (left_of (I.view input.old))
             (outcome_of (answer_by E.kind result) (state self.new, left_of (I.view input.new))) }
-        ensures same { SameOnLonger (meaning E.form) terms.alike (state self.old)
+        ensures same { SameOnLonger (Ran I.reading does E.form) terms.alike (state self.old)
             (I.view input.old) (answer_by E.kind result) (state self.new) (I.view input.new) }
     {
         self.read_outcome(input)
@@ -213,7 +205,7 @@ pub trait Parser<I: Stream, O, E: ParserError<I>>: Sized {
         requires premise { (claim (state self.old)).premise }
         requires backtracks { (claim (state self.old)).backtracks }
         ensures again { can_parse self.new }
-        ensures ran { meaning E.form (state self.old) (I.view input.old)
+        ensures ran { Ran I.reading does E.form (state self.old) (I.view input.old)
             (answer_by E.kind result) (state self.new) (I.view input.new) }
         ensures kept { (I.view input.old).status.cut ≡ false
             → UnlessWanted E.kind result (state self.new ≡ state self.old) }
@@ -242,7 +234,7 @@ pub trait Parser<I: Stream, O, E: ParserError<I>>: Sized {
         requires whole { I.supports_partial ≡ false }
         ensures again { can_parse self.new }
         ensures ran { ParsesWhole I.view I.reading.units E.inner_kind (I.view input).left
-            (λ answer j. meaning E.form (state self.old) (I.view input) answer
+            (λ answer j. Ran I.reading does E.form (state self.old) (I.view input) answer
             (state self.new) j) result }
         ensures reads { ReadsAll E.inner_kind (claim (state self.old)).grammar
             (I.view input).left.tokens result }
@@ -287,7 +279,7 @@ pub trait Parser<I: Stream, O, E: ParserError<I>>: Sized {
         requires { can_parse self.old }
         ensures again { can_parse self.new }
         ensures ran { PeekAnswers I.view E.kind
-            (λ answer j. meaning E.form (state self.old) (I.view input) answer
+            (λ answer j. Ran I.reading does E.form (state self.old) (I.view input) answer
             (state self.new) j) result }
     {
         let mut input = input;
@@ -553,12 +545,6 @@ pub trait Parser<I: Stream, O, E: ParserError<I>>: Sized {
     {
         ErrInto::new(self)
     }
-
-    // Every call leaves a suffix of its input.
-    ghost leaves_ends: { (form : ErrorForm) → LeaveEnds I.reading (meaning form) };
-
-    // Every call has an outcome of the definition.
-    ghost covers: { (at : Setting) → Covers at (meaning at.form) does };
 
     // State and input determine the outcome; if the parser is stable, a final outcome on partial
     // input is the outcome of every longer input.

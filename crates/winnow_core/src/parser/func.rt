@@ -2,9 +2,8 @@
 ghost use Rattle.std.specs.Fn.{CalledAtMut};
 ghost use Rattle.parser_definitions.specs.Func.{FuncDoes, FuncWithDoes, beside};
 ghost use Rattle.parser_definitions.specs.Claim.{no_claim, nothing_claimed};
-ghost use Rattle.winnow_core.specs.Covers.Functions.{func_covered, func_lawful, func_terms};
-ghost use Rattle.winnow_core.specs.Covers.Functions.{func_with_covered};
-ghost use Rattle.winnow_core.specs.Func.{CalledWithMut, FuncRuns, FuncWithRuns, LeavesEndsFrom};
+ghost use Rattle.winnow_core.specs.Covers.Functions.{func_lawful, func_terms};
+ghost use Rattle.winnow_core.specs.Func.{CalledWithMut, LeavesEndsFrom};
 
 use crate::parser::Parser;
 use stream_errors::parser_error::ParserError;
@@ -58,17 +57,11 @@ impl<F: FnMut(&mut I) -> Result<O, E>, I: Stream, O, E: ParserError<I>> Parser<I
 
     ghost state = { λ s. s.0 };
 
-    ghost meaning = { λ _. FuncRuns I.reading I.view E.kind (CalledAtMut F.FnMut) };
-
     ghost does = { FuncDoes I.view E.kind (CalledAtMut F.FnMut) };
 
     ghost terms = { func_terms I.view E.kind (CalledAtMut F.FnMut) };
 
     ghost claim = { λ _. no_claim };
-
-    ghost leaves_ends = { λ form s i answer t j r. r.1 };
-
-    ghost covers = { λ at. func_covered I.view E.kind I.reading (CalledAtMut F.FnMut) };
 
     ghost lawful = { λ is. func_lawful I.view E.kind is };
 
@@ -110,17 +103,11 @@ impl<A: Copy, F: FnMut(A, &mut I) -> Result<O, E>, I: Stream, O, E: ParserError<
 
     ghost state = { λ s. (s.0, s.1) };
 
-    ghost meaning = { λ _. FuncWithRuns I.reading I.view E.kind (CalledWithMut F.FnMut) };
-
     ghost does = { FuncWithDoes I.view E.kind (CalledWithMut F.FnMut) };
 
     ghost terms = { func_terms I.view E.kind (beside (CalledWithMut F.FnMut)) };
 
     ghost claim = { λ _. no_claim };
-
-    ghost leaves_ends = { λ form s i answer t j r. r.0.1 };
-
-    ghost covers = { λ at. func_with_covered I.view E.kind I.reading (CalledWithMut F.FnMut) };
 
     ghost lawful = { λ is. func_lawful I.view E.kind is };
 

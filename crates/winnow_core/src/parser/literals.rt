@@ -4,10 +4,6 @@ ghost use Rattle.std.proofs.Common.{refl};
 ghost use Rattle.parser_definitions.specs.Literal.{LiteralDoes, literal_law};
 ghost use Rattle.parser_definitions.specs.Projects.Literals.{literal_claim, literal_claimed};
 ghost use Rattle.parser_definitions.specs.Spelled.{ShowSame};
-ghost use Rattle.winnow_core.specs.Covers.Leaves.{literal_covered};
-ghost use Rattle.winnow_core.specs.Literal.{LiteralRuns};
-ghost use Rattle.winnow_core.specs.Literal.Laws.{literal_ends};
-ghost use Rattle.winnow_core.specs.Runs.{Keeps};
 
 use crate::literal::take_literal;
 use crate::parser::Parser;
@@ -25,18 +21,11 @@ impl<I: StreamIsPartial + Compare<u8>, E: ParserError<I>> Parser<I, u8, E> for u
 
     ghost state = { λ s. s };
 
-    ghost meaning = { λ form. Keeps (λ s. LiteralRuns I.reading form (I.spells s) (λ _. s)) };
-
     ghost does = { LiteralDoes I.reading I.spells (λ s _. s) };
 
     ghost terms = { record { premise = ⊤; stable = ⊤; alike = λ o p. o ≡ p } };
 
     ghost claim = { literal_claim I.reading I.spells (λ s _. s) };
-
-    ghost leaves_ends = { λ form s i answer t j r. literal_ends I.reading form (I.spells s)
-        (λ _. s) i answer j r.0 };
-
-    ghost covers = { λ at. literal_covered I.reading I.spells (λ s _. s) };
 
     ghost lawful = { λ is. literal_law I.reading I.spells (λ s _. s)
         (λ o p. o ≡ p) I.same_units (λ s v w x. refl) };
@@ -45,8 +34,10 @@ impl<I: StreamIsPartial + Compare<u8>, E: ParserError<I>> Parser<I, u8, E> for u
 
     #[inline(always)]
     fn parse_next(&mut self, input: &mut I) -> Result<u8, E> {
-        let _slice = take_literal(input, *self)?;
-        Ok(*self)
+        match take_literal(input, *self) {
+            Ok(_) => Ok(*self),
+            Err(error) => Err(error),
+        }
     }
 }
 
@@ -57,19 +48,11 @@ impl<'t, I: StreamIsPartial + Compare<&'t [u8]>, E: ParserError<I>> Parser<I, I:
 
     ghost state = { λ s. s };
 
-    ghost meaning = { λ form. Keeps
-        (λ s. LiteralRuns I.reading form (I.spells s) (λ slice. slice)) };
-
     ghost does = { LiteralDoes I.reading I.spells (λ _ slice. slice) };
 
     ghost terms = { record { premise = ⊤; stable = ⊤; alike = ShowSame I.reading } };
 
     ghost claim = { literal_claim I.reading I.spells (λ _ slice. slice) };
-
-    ghost leaves_ends = { λ form s i answer t j r. literal_ends I.reading form (I.spells s)
-        (λ slice. slice) i answer j r.0 };
-
-    ghost covers = { λ at. literal_covered I.reading I.spells (λ _ slice. slice) };
 
     ghost lawful = { λ is. literal_law I.reading I.spells (λ _ slice. slice)
         (ShowSame I.reading) I.same_units (λ s v w x. x) };
@@ -93,19 +76,11 @@ impl<'t, const N: usize, I: StreamIsPartial + Compare<&'t [u8; N]>, E: ParserErr
 
     ghost state = { λ s. s };
 
-    ghost meaning = { λ form. Keeps
-        (λ s. LiteralRuns I.reading form (I.spells s) (λ slice. slice)) };
-
     ghost does = { LiteralDoes I.reading I.spells (λ _ slice. slice) };
 
     ghost terms = { record { premise = ⊤; stable = ⊤; alike = ShowSame I.reading } };
 
     ghost claim = { literal_claim I.reading I.spells (λ _ slice. slice) };
-
-    ghost leaves_ends = { λ form s i answer t j r. literal_ends I.reading form (I.spells s)
-        (λ slice. slice) i answer j r.0 };
-
-    ghost covers = { λ at. literal_covered I.reading I.spells (λ _ slice. slice) };
 
     ghost lawful = { λ is. literal_law I.reading I.spells (λ _ slice. slice)
         (ShowSame I.reading) I.same_units (λ s v w x. x) };
@@ -128,18 +103,11 @@ impl<I: StreamIsPartial + Compare<char>, E: ParserError<I>> Parser<I, char, E> f
 
     ghost state = { λ s. s };
 
-    ghost meaning = { λ form. Keeps (λ s. LiteralRuns I.reading form (I.spells s) (λ _. s)) };
-
     ghost does = { LiteralDoes I.reading I.spells (λ s _. s) };
 
     ghost terms = { record { premise = ⊤; stable = ⊤; alike = λ o p. o ≡ p } };
 
     ghost claim = { literal_claim I.reading I.spells (λ s _. s) };
-
-    ghost leaves_ends = { λ form s i answer t j r. literal_ends I.reading form (I.spells s)
-        (λ _. s) i answer j r.0 };
-
-    ghost covers = { λ at. literal_covered I.reading I.spells (λ s _. s) };
 
     ghost lawful = { λ is. literal_law I.reading I.spells (λ s _. s)
         (λ o p. o ≡ p) I.same_units (λ s v w x. refl) };
@@ -148,8 +116,10 @@ impl<I: StreamIsPartial + Compare<char>, E: ParserError<I>> Parser<I, char, E> f
 
     #[inline(always)]
     fn parse_next(&mut self, input: &mut I) -> Result<char, E> {
-        let _slice = take_literal(input, *self)?;
-        Ok(*self)
+        match take_literal(input, *self) {
+            Ok(_) => Ok(*self),
+            Err(error) => Err(error),
+        }
     }
 }
 
@@ -160,19 +130,11 @@ impl<'t, I: StreamIsPartial + Compare<&'t str>, E: ParserError<I>> Parser<I, I::
 
     ghost state = { λ s. s };
 
-    ghost meaning = { λ form. Keeps
-        (λ s. LiteralRuns I.reading form (I.spells s) (λ slice. slice)) };
-
     ghost does = { LiteralDoes I.reading I.spells (λ _ slice. slice) };
 
     ghost terms = { record { premise = ⊤; stable = ⊤; alike = ShowSame I.reading } };
 
     ghost claim = { literal_claim I.reading I.spells (λ _ slice. slice) };
-
-    ghost leaves_ends = { λ form s i answer t j r. literal_ends I.reading form (I.spells s)
-        (λ slice. slice) i answer j r.0 };
-
-    ghost covers = { λ at. literal_covered I.reading I.spells (λ _ slice. slice) };
 
     ghost lawful = { λ is. literal_law I.reading I.spells (λ _ slice. slice)
         (ShowSame I.reading) I.same_units (λ s v w x. x) };
@@ -193,19 +155,11 @@ impl<'t, I: StreamIsPartial + Compare<Caseless<&'t [u8]>>, E: ParserError<I>> Pa
 
     ghost state = { λ s. s };
 
-    ghost meaning = { λ form. Keeps
-        (λ s. LiteralRuns I.reading form (I.spells s) (λ slice. slice)) };
-
     ghost does = { LiteralDoes I.reading I.spells (λ _ slice. slice) };
 
     ghost terms = { record { premise = ⊤; stable = ⊤; alike = ShowSame I.reading } };
 
     ghost claim = { literal_claim I.reading I.spells (λ _ slice. slice) };
-
-    ghost leaves_ends = { λ form s i answer t j r. literal_ends I.reading form (I.spells s)
-        (λ slice. slice) i answer j r.0 };
-
-    ghost covers = { λ at. literal_covered I.reading I.spells (λ _ slice. slice) };
 
     ghost lawful = { λ is. literal_law I.reading I.spells (λ _ slice. slice)
         (ShowSame I.reading) I.same_units (λ s v w x. x) };
@@ -230,19 +184,11 @@ impl<
 
     ghost state = { λ s. s };
 
-    ghost meaning = { λ form. Keeps
-        (λ s. LiteralRuns I.reading form (I.spells s) (λ slice. slice)) };
-
     ghost does = { LiteralDoes I.reading I.spells (λ _ slice. slice) };
 
     ghost terms = { record { premise = ⊤; stable = ⊤; alike = ShowSame I.reading } };
 
     ghost claim = { literal_claim I.reading I.spells (λ _ slice. slice) };
-
-    ghost leaves_ends = { λ form s i answer t j r. literal_ends I.reading form (I.spells s)
-        (λ slice. slice) i answer j r.0 };
-
-    ghost covers = { λ at. literal_covered I.reading I.spells (λ _ slice. slice) };
 
     ghost lawful = { λ is. literal_law I.reading I.spells (λ _ slice. slice)
         (ShowSame I.reading) I.same_units (λ s v w x. x) };
@@ -263,19 +209,11 @@ impl<'t, I: StreamIsPartial + Compare<Caseless<&'t str>>, E: ParserError<I>> Par
 
     ghost state = { λ s. s };
 
-    ghost meaning = { λ form. Keeps
-        (λ s. LiteralRuns I.reading form (I.spells s) (λ slice. slice)) };
-
     ghost does = { LiteralDoes I.reading I.spells (λ _ slice. slice) };
 
     ghost terms = { record { premise = ⊤; stable = ⊤; alike = ShowSame I.reading } };
 
     ghost claim = { literal_claim I.reading I.spells (λ _ slice. slice) };
-
-    ghost leaves_ends = { λ form s i answer t j r. literal_ends I.reading form (I.spells s)
-        (λ slice. slice) i answer j r.0 };
-
-    ghost covers = { λ at. literal_covered I.reading I.spells (λ _ slice. slice) };
 
     ghost lawful = { λ is. literal_law I.reading I.spells (λ _ slice. slice)
         (ShowSame I.reading) I.same_units (λ s v w x. x) };

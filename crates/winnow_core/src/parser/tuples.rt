@@ -17,14 +17,6 @@ ghost use Rattle.parser_definitions.specs.Sequence.{AlikeOne, AlikeTriples, Sequ
 ghost use Rattle.parser_definitions.specs.Sequence.{SequenceDoes1, SequenceDoes3, sequence1_law};
 ghost use Rattle.parser_definitions.specs.Sequence.{sequence3_law};
 ghost use Rattle.parser_definitions.specs.Tuples.{AlikeFour, SequenceDoes4, sequence4_law, split4};
-ghost use Rattle.winnow_core.specs.Covers.Sequences.{both_covered, three_covered};
-ghost use Rattle.winnow_core.specs.Covers.Tuples.{sequence0_covered, sequence1_covered};
-ghost use Rattle.winnow_core.specs.Covers.Tuples.{sequence4_covered};
-ghost use Rattle.winnow_core.specs.Ends.{same_ends};
-ghost use Rattle.winnow_core.specs.InOrder.Laws.{both_ends, ends_by, three_ends};
-ghost use Rattle.winnow_core.specs.Sequence.{SequenceRuns0, SequenceRuns1, SequenceRuns2};
-ghost use Rattle.winnow_core.specs.Sequence.{SequenceRuns3, SequenceRuns4};
-ghost use Rattle.winnow_core.specs.Sequence.Small.{sequence1_ends};
 
 mod long;
 
@@ -37,8 +29,6 @@ impl<I: Stream, E: ParserError<I>> Parser<I, (), E> for () {
     ghost State = { ⊤ };
 
     ghost state = { λ _. tt };
-
-    ghost meaning = { λ _. SequenceRuns0 };
 
     ghost does = { SequenceDoes0 };
 
@@ -55,10 +45,6 @@ impl<I: Stream, E: ParserError<I>> Parser<I, (), E> for () {
       consumes = ⊥;
       grammar = Nothing tt;
     } };
-
-    ghost leaves_ends = { λ form s i answer t j r. same_ends I.reading i j r.1 };
-
-    ghost covers = { λ at. sequence0_covered };
 
     ghost lawful = { λ is. empty_law };
 
@@ -80,8 +66,6 @@ impl<I: Stream, O1, E: ParserError<I>, P1: Parser<I, O1, E>> Parser<I, (O1,), E>
 
     ghost state = { λ s. record { 0 = P1.state s.0 } };
 
-    ghost meaning = { λ form. SequenceRuns1 (P1.meaning form) };
-
     ghost does = { SequenceDoes1 P1.does };
 
     ghost terms = { record {
@@ -97,10 +81,6 @@ impl<I: Stream, O1, E: ParserError<I>, P1: Parser<I, O1, E>> Parser<I, (O1,), E>
       consumes = (P1.claim s.0).consumes;
       grammar = Made OneTuple tt (P1.claim s.0).grammar;
     } };
-
-    ghost leaves_ends = { λ form. sequence1_ends (P1.leaves_ends form) };
-
-    ghost covers = { λ at. sequence1_covered (P1.covers at) };
 
     ghost lawful = { λ is. sequence1_law (P1.lawful is) };
 
@@ -127,8 +107,6 @@ impl<I: Stream, O1: Drop, O2, E: ParserError<I>, P1: Parser<I, O1, E>, P2: Parse
 
     ghost state = { λ s. (P1.state s.0, P2.state s.1) };
 
-    ghost meaning = { λ form. SequenceRuns2 (P1.meaning form) (P2.meaning form) };
-
     ghost does = { BothDo (λ o1 o2. (o1, o2)) P1.does P2.does };
 
     ghost terms = { record {
@@ -138,11 +116,6 @@ impl<I: Stream, O1: Drop, O2, E: ParserError<I>, P1: Parser<I, O1, E>, P2: Parse
     } };
 
     ghost claim = { λ s. both_claim (λ o1 o2. (o1, o2)) (P1.claim s.0) (P2.claim s.1) };
-
-    ghost leaves_ends = { λ form. both_ends I.reading (λ o1 o2. (o1, o2)) (P1.meaning form)
-        (P2.meaning form) (P1.leaves_ends form) (P2.leaves_ends form) };
-
-    ghost covers = { λ at. both_covered (λ o1 o2. (o1, o2)) (P1.covers at) (P2.covers at) };
 
     ghost lawful = { λ is. pair_law (P1.lawful is.0) (P2.lawful is.1) };
 
@@ -172,8 +145,6 @@ impl<
 
     ghost state = { λ s. (P1.state s.0, P2.state s.1, P3.state s.2) };
 
-    ghost meaning = { λ form. SequenceRuns3 (P1.meaning form) (P2.meaning form) (P3.meaning form) };
-
     ghost does = { SequenceDoes3 P1.does P2.does P3.does };
 
     ghost terms = { record {
@@ -184,13 +155,6 @@ impl<
 
     ghost claim = { λ s. three_claim (λ o1 o2 o3. (o1, o2, o3)) (P1.claim s.0) (P2.claim s.1)
         (P3.claim s.2) };
-
-    ghost leaves_ends = { λ form. three_ends I.reading (λ o1 o2 o3. (o1, o2, o3))
-        (P1.meaning form) (P2.meaning form) (P3.meaning form) (P1.leaves_ends form)
-        (P2.leaves_ends form) (P3.leaves_ends form) };
-
-    ghost covers = { λ at. three_covered (λ o1 o2 o3. (o1, o2, o3)) (P1.covers at)
-        (P2.covers at) (P3.covers at) };
 
     ghost lawful = { λ is. sequence3_law (P1.lawful is.0) (P2.lawful is.1) (P3.lawful is.2) };
 
@@ -225,9 +189,6 @@ impl<
 
     ghost state = { λ s. (P1.state s.0, P2.state s.1, P3.state s.2, P4.state s.3) };
 
-    ghost meaning = { λ form. SequenceRuns4 (P1.meaning form) (P2.meaning form)
-        (P3.meaning form) (P4.meaning form) };
-
     ghost does = { SequenceDoes4 P1.does P2.does P3.does P4.does };
 
     ghost terms = { record {
@@ -239,15 +200,6 @@ impl<
     ghost claim = { λ s. both_claim join4
         (three_claim (λ o1 o2 o3. (o1, o2, o3)) (P1.claim s.0) (P2.claim s.1) (P3.claim s.2))
         (P4.claim s.3) };
-
-    ghost leaves_ends = { λ form. ends_by split4
-        (both_ends I.reading join4 _ _
-        (three_ends I.reading (λ o1 o2 o3. (o1, o2, o3)) (P1.meaning form) (P2.meaning form)
-        (P3.meaning form) (P1.leaves_ends form) (P2.leaves_ends form)
-        (P3.leaves_ends form)) (P4.leaves_ends form)) };
-
-    ghost covers = { λ at. sequence4_covered (P1.covers at) (P2.covers at) (P3.covers at)
-        (P4.covers at) };
 
     ghost lawful = { λ is. sequence4_law (P1.lawful is.0) (P2.lawful is.1) (P3.lawful is.2)
         (P4.lawful is.3) };

@@ -2,5 +2,5 @@ use Rattle.winnow_core.specs.Take.Laws.{taken_from_the_front}
 use Rattle.winnow_core.proofs.laws.the_slice_taken_and_the_rest_are_the_input.Goals as goal
 
 pub returns : goal.returns
-returns g c tokens_of told = taken_from_the_front g.I.Stream.reading
-    (g.P.Parser.meaning g.E.HasKind.form) tokens_of told
+returns g c tokens_of told =
+    taken_from_the_front g.I.Stream.reading tokens_of told g.P.Parser.does g.E.HasKind.form

@@ -6,10 +6,8 @@ ghost use Rattle.grammars.specs.Grammar.Unique.{made_of_takes};
 ghost use Rattle.parser_definitions.specs.Projects.{projects_as};
 ghost use Rattle.parser_definitions.specs.Projects.Within.{NoneWithin, ReadsWithin};
 ghost use Rattle.parser_definitions.specs.Projects.Within.{and_then_projects};
-ghost use Rattle.parser_definitions.specs.TryMap.{AndThenDoes, and_then_law, completed};
-ghost use Rattle.winnow_core.specs.AndThen.{AndThenRuns, AndThenSettles, OneInput};
-ghost use Rattle.winnow_core.specs.Covers.Adapters.{and_then_covered};
-ghost use Rattle.winnow_core.specs.Settles.Laws.{settles_ends};
+ghost use Rattle.parser_definitions.specs.TryMap.{AndThenDoes, and_then_law};
+ghost use Rattle.winnow_core.specs.AndThen.{OneInput};
 
 use crate::parser::Parser;
 use std::marker::PhantomData;
@@ -57,8 +55,6 @@ impl<
 
     ghost state = { λ s. (F.state s.outer, G.state s.inner) };
 
-    ghost meaning = { λ form. AndThenRuns O.view (F.meaning form) (G.meaning form) };
-
     ghost does = { AndThenDoes O.view F.does G.does };
 
     ghost terms = { record {
@@ -76,13 +72,6 @@ impl<
       consumes = (F.claim s.0).consumes;
       grammar = Made (ReadsWithin O.view (G.claim s.1).grammar) tt (F.claim s.0).grammar;
     } };
-
-    ghost leaves_ends = { λ form. settles_ends I.reading
-        (AndThenSettles O.view (G.meaning form)) (F.meaning form)
-        (F.leaves_ends form) };
-
-    ghost covers = { λ at. and_then_covered O.view (F.covers at)
-        (λ i. G.covers (completed at.form i)) };
 
     ghost lawful = { λ is. and_then_law O.view is.2 (F.lawful is.0) (G.lawful is.1) };
 

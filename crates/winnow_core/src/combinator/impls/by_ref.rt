@@ -2,8 +2,6 @@
 ghost use Rattle.std.specs.Prelude.{ℕ};
 ghost use Rattle.parser_definitions.specs.ByRef.{ByRefDoes, by_ref_law};
 ghost use Rattle.parser_definitions.specs.Projects.Functions.{by_ref_projects};
-ghost use Rattle.winnow_core.specs.ByRef.{ByRefRuns};
-ghost use Rattle.winnow_core.specs.Covers.Functions.{by_ref_covered};
 
 use crate::parser::Parser;
 use std::marker::PhantomData;
@@ -31,8 +29,6 @@ impl<'p, P: Parser<I, O, E>, I: Stream, O, E: ParserError<I>> Parser<I, O, E>
 
     ghost state = { λ s. (P.state s.parser.now, s.parser.ghost_name) };
 
-    ghost meaning = { λ form. ByRefRuns (P.meaning form) };
-
     ghost does = { ByRefDoes P.does };
 
     ghost terms = { P.terms };
@@ -44,10 +40,6 @@ impl<'p, P: Parser<I, O, E>, I: Stream, O, E: ParserError<I>> Parser<I, O, E>
       consumes = (P.claim s.0).consumes;
       grammar = (P.claim s.0).grammar;
     } };
-
-    ghost leaves_ends = { λ form s i answer t j r. P.leaves_ends form s.0 i answer t.0 j r.0 };
-
-    ghost covers = { λ at. by_ref_covered (P.covers at) };
 
     ghost lawful = { λ is. by_ref_law (P.lawful is) };
 

@@ -2,9 +2,6 @@
 ghost use Rattle.std.specs.Prelude.{◌≡◌};
 ghost use Rattle.parser_definitions.specs.MapErr.{CompleteErrDoes, complete_err_law};
 ghost use Rattle.parser_definitions.specs.Projects.Errors.{complete_err_projects};
-ghost use Rattle.winnow_core.specs.CompleteErr.{CompleteErrBecomes, CompleteErrRuns};
-ghost use Rattle.winnow_core.specs.Covers.Errors.{complete_err_covered};
-ghost use Rattle.winnow_core.specs.MakesError.Laws.{makes_error_ends};
 
 use crate::parser::Parser;
 use std::marker::PhantomData;
@@ -44,8 +41,6 @@ impl<F: Parser<I, O, E>, I: Stream, O, E: ParserError<I>> Parser<I, O, E>
 
     ghost state = { λ s. F.state s.parser };
 
-    ghost meaning = { λ form. CompleteErrRuns (F.meaning form) };
-
     ghost does = { CompleteErrDoes F.does };
 
     ghost terms = { record {
@@ -61,12 +56,6 @@ impl<F: Parser<I, O, E>, I: Stream, O, E: ParserError<I>> Parser<I, O, E>
       consumes = (F.claim s).consumes;
       grammar = (F.claim s).grammar;
     } };
-
-    ghost leaves_ends = { λ form s i answer t j ran. makes_error_ends I.reading
-        CompleteErrBecomes (F.meaning form)
-        (F.leaves_ends form) _ i answer _ j ran };
-
-    ghost covers = { λ at. complete_err_covered (F.covers at) };
 
     ghost lawful = { λ is. complete_err_law (F.lawful is) };
 

@@ -4,9 +4,6 @@ ghost use Rattle.stream_errors.specs.Given.{Keeping};
 ghost use Rattle.parser_definitions.specs.MapErr.{ContextDoes, NeverRefused, context_law};
 ghost use Rattle.parser_definitions.specs.Projects.{projects_as};
 ghost use Rattle.parser_definitions.specs.Projects.Errors.{context_projects};
-ghost use Rattle.winnow_core.specs.Context.{ContextBecomes, ContextRuns};
-ghost use Rattle.winnow_core.specs.Covers.Errors.{context_covered};
-ghost use Rattle.winnow_core.specs.MakesError.Laws.{makes_error_ends};
 
 use crate::parser::Parser;
 use std::alloc::Allocator;
@@ -62,8 +59,6 @@ impl<
 
     ghost state = { λ s. (F.state s.parser, (s.context, E.context_gives)) };
 
-    ghost meaning = { λ form. ContextRuns C.is_clone C.is_infallible (F.meaning form) };
-
     ghost does = { ContextDoes C.is_clone C.is_infallible F.does };
 
     ghost terms = { F.terms };
@@ -76,12 +71,6 @@ impl<
       consumes = (F.claim s.0).consumes;
       grammar = (F.claim s.0).grammar;
     } };
-
-    ghost leaves_ends = { λ form. makes_error_ends I.reading
-        (ContextBecomes C.is_clone C.is_infallible) (F.meaning form)
-        (F.leaves_ends form) };
-
-    ghost covers = { λ at. context_covered C.is_clone C.is_infallible (F.covers at) };
 
     ghost lawful = { λ is. context_law C.is_clone C.is_infallible (F.lawful is) };
 

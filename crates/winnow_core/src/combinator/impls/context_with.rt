@@ -4,9 +4,6 @@ ghost use Rattle.std.specs.Prelude.{◌≡◌};
 ghost use Rattle.stream_errors.specs.Given.{Keeping};
 ghost use Rattle.parser_definitions.specs.MapErr.{ContextWithDoes, context_with_law};
 ghost use Rattle.parser_definitions.specs.Claim.{no_claim, nothing_claimed};
-ghost use Rattle.winnow_core.specs.ContextWith.{ContextWithBecomes, ContextWithRuns};
-ghost use Rattle.winnow_core.specs.Covers.Errors.{context_with_covered};
-ghost use Rattle.winnow_core.specs.MakesError.Laws.{makes_error_ends};
 
 use crate::parser::Parser;
 use std::alloc::Allocator;
@@ -66,19 +63,11 @@ impl<
 
     ghost state = { λ s. (P.state s.parser, (s.context, E.context_gives)) };
 
-    ghost meaning = { λ form. ContextWithRuns F.post FI.next_gives (P.meaning form) };
-
     ghost does = { ContextWithDoes F.post FI.next_gives P.does };
 
     ghost terms = { P.terms };
 
     ghost claim = { λ _. no_claim };
-
-    ghost leaves_ends = { λ form. makes_error_ends I.reading
-        (ContextWithBecomes F.post FI.next_gives) (P.meaning form)
-        (P.leaves_ends form) };
-
-    ghost covers = { λ at. context_with_covered F.post FI.next_gives (P.covers at) };
 
     ghost lawful = { λ is. context_with_law F.post FI.next_gives (P.lawful is) };
 

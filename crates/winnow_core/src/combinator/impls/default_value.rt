@@ -4,9 +4,6 @@ ghost use Rattle.grammars.specs.Grammar.{Made};
 ghost use Rattle.grammars.specs.Grammar.Unique.{made_of_takes};
 ghost use Rattle.parser_definitions.specs.Outputs.{DefaultValueDoes, default_value_law};
 ghost use Rattle.parser_definitions.specs.Projects.Outputs.{default_value_projects};
-ghost use Rattle.winnow_core.specs.Covers.Outputs.{default_value_covered};
-ghost use Rattle.winnow_core.specs.DefaultValue.{DefaultValueRuns};
-ghost use Rattle.winnow_core.specs.MakesOutput.Laws.{makes_output_ends};
 
 use crate::parser::Parser;
 use std::marker::PhantomData;
@@ -45,8 +42,6 @@ impl<F: Parser<I, O, E>, I: Stream, O: Drop, O2: Default, E: ParserError<I>> Par
 
     ghost state = { λ s. F.state s.parser };
 
-    ghost meaning = { λ form. DefaultValueRuns O2.is_default (F.meaning form) };
-
     ghost does = { DefaultValueDoes O2.is_default F.does };
 
     ghost terms = { record {
@@ -62,11 +57,6 @@ impl<F: Parser<I, O, E>, I: Stream, O: Drop, O2: Default, E: ParserError<I>> Par
       consumes = (F.claim s).consumes;
       grammar = Made (λ (_ : Unit {0}) o u. O2.is_default u) tt (F.claim s).grammar;
     } };
-
-    ghost leaves_ends = { λ form. makes_output_ends I.reading _ (F.meaning form)
-        (F.leaves_ends form) };
-
-    ghost covers = { λ at. default_value_covered (F.covers at) O2.is_default };
 
     ghost lawful = { λ is. default_value_law O2.is_default (λ u v x y. (x, y)) (F.lawful is) };
 

@@ -4,10 +4,6 @@ ghost use Rattle.grammars.specs.Grammar.{NoTokens};
 ghost use Rattle.parser_definitions.specs.Eof.{EofDoes, eof_law};
 ghost use Rattle.parser_definitions.specs.Projects.Literals.{eof_projects};
 ghost use Rattle.parser_definitions.specs.Spelled.{ShowSame};
-ghost use Rattle.winnow_core.specs.Covers.Functions.{eof_covered};
-ghost use Rattle.winnow_core.specs.Eof.{EofRuns};
-ghost use Rattle.winnow_core.specs.Eof.Laws.{eof_ends};
-ghost use Rattle.winnow_core.specs.Runs.{Keeps};
 
 use crate::combinator::eof;
 use crate::parser::Parser;
@@ -28,8 +24,6 @@ impl<I: Stream, E: ParserError<I>> Parser<I, I::Slice, E> for Eof {
 
     ghost state = { λ _. tt };
 
-    ghost meaning = { λ _. Keeps (λ _. EofRuns I.reading) };
-
     ghost does = { EofDoes I.reading };
 
     ghost terms = { record {
@@ -45,10 +39,6 @@ impl<I: Stream, E: ParserError<I>> Parser<I, I::Slice, E> for Eof {
       consumes = ⊥;
       grammar = NoTokens I.reading;
     } };
-
-    ghost leaves_ends = { λ form x i answer y j r. eof_ends I.reading i answer j r.0 };
-
-    ghost covers = { λ at. eof_covered I.reading };
 
     ghost lawful = { λ is. eof_law I.reading };
 

@@ -5,9 +5,6 @@ ghost use Rattle.parser_definitions.specs.MapErr.{ConvertsKinds, ConvertsSparing
 ghost use Rattle.parser_definitions.specs.MapErr.{SameKinds, err_into_law};
 ghost use Rattle.parser_definitions.specs.Projects.{projects_as};
 ghost use Rattle.parser_definitions.specs.Projects.Errors.{err_into_projects, formed};
-ghost use Rattle.winnow_core.specs.Covers.Errors.{err_into_covered, in_form};
-ghost use Rattle.winnow_core.specs.ErrInto.{ErrIntoBecomes, ErrIntoRuns};
-ghost use Rattle.winnow_core.specs.MakesError.Laws.{makes_error_ends};
 
 use crate::parser::Parser;
 use std::marker::PhantomData;
@@ -49,8 +46,6 @@ impl<F: Parser<I, O, E>, I: Stream, O, E: ParserError<I>, E2: ParserError<I> + F
 
     ghost state = { λ s. F.state s.parser };
 
-    ghost meaning = { λ _. ErrIntoRuns E.kind E2.kind E2.from_gives (F.meaning E.form) };
-
     ghost does = { ErrIntoDoes E.form E.kind E2.kind E2.from_gives F.does };
 
     ghost terms = { record {
@@ -67,13 +62,6 @@ impl<F: Parser<I, O, E>, I: Stream, O, E: ParserError<I>, E2: ParserError<I> + F
       consumes = (F.claim s).consumes;
       grammar = (F.claim s).grammar;
     } };
-
-    ghost leaves_ends = { λ _ s i answer t j ran. makes_error_ends I.reading
-        (ErrIntoBecomes E.kind E2.kind E2.from_gives) (F.meaning E.form)
-        (F.leaves_ends E.form) _ i answer _ j ran };
-
-    ghost covers = { λ at. err_into_covered E.form E.kind E2.kind E2.from_gives
-        (F.covers (in_form E.form at)) };
 
     ghost lawful = { λ is. err_into_law E.form E.kind E2.kind E2.from_gives is.1
         (F.lawful is.0) };

@@ -8,9 +8,7 @@ ghost use Rattle.parser_definitions.specs.Projects.{projects_as};
 ghost use Rattle.parser_definitions.specs.Projects.Functions.{flat_map_projects};
 ghost use Rattle.parser_definitions.specs.Projects.Sequences.{either_way};
 ghost use Rattle.parser_definitions.specs.Stays.{Gives, Stays};
-ghost use Rattle.winnow_core.specs.Covers.Adapters.{flat_map_covered};
-ghost use Rattle.winnow_core.specs.FlatMap.{FlatMapRuns, MakesParsers};
-ghost use Rattle.winnow_core.specs.FlatMap.Laws.{flat_map_ends};
+ghost use Rattle.winnow_core.specs.FlatMap.{MakesParsers};
 
 use crate::parser::Parser;
 use std::marker::PhantomData;
@@ -61,8 +59,6 @@ impl<
 
     ghost state = { λ s. (F.state s.parser, s.map) };
 
-    ghost meaning = { λ form. FlatMapRuns G.step H.state (F.meaning form) (H.meaning form) };
-
     ghost does = { FlatMapDoes G.step H.state F.does H.does };
 
     ghost terms = { record {
@@ -87,12 +83,6 @@ impl<
       grammar = FlatMapped (Gives G.step) s.1 (λ m. (H.claim (H.state m)).grammar)
           (F.claim s.0).grammar;
     } };
-
-    ghost leaves_ends = { λ form. flat_map_ends I.reading G.step H.state (F.meaning form)
-        (H.meaning form) (F.leaves_ends form) (H.leaves_ends form) };
-
-    ghost covers = { λ at. flat_map_covered G.step H.state (F.covers at)
-        (H.covers at) };
 
     ghost lawful = { λ is. flat_map_law G.step H.state is.2 (F.lawful is.0)
         (H.lawful is.1) };

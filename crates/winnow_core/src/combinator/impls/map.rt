@@ -6,9 +6,6 @@ ghost use Rattle.parser_definitions.specs.Equal.{MadeAlike, StepsAlike};
 ghost use Rattle.parser_definitions.specs.Map.{MapDoes, map_law};
 ghost use Rattle.parser_definitions.specs.Projects.Outputs.{map_projects};
 ghost use Rattle.parser_definitions.specs.Stays.{Gives, Stays};
-ghost use Rattle.winnow_core.specs.Covers.Adapters.{map_covered};
-ghost use Rattle.winnow_core.specs.Map.{MapRuns};
-ghost use Rattle.winnow_core.specs.Map.Laws.{map_ends};
 
 use crate::parser::Parser;
 use std::marker::PhantomData;
@@ -50,8 +47,6 @@ impl<F: Parser<I, O, E>, G: FnMut(O) -> O2, I: Stream, O, O2, E: ParserError<I>>
 
     ghost state = { λ s. (F.state s.parser, s.map) };
 
-    ghost meaning = { λ form. MapRuns (F.meaning form) G.step };
-
     ghost does = { MapDoes G.step F.does };
 
     ghost terms = { record {
@@ -67,10 +62,6 @@ impl<F: Parser<I, O, E>, G: FnMut(O) -> O2, I: Stream, O, O2, E: ParserError<I>>
       consumes = (F.claim s.0).consumes;
       grammar = Made (Gives G.step) s.1 (F.claim s.0).grammar;
     } };
-
-    ghost leaves_ends = { λ form. map_ends I.reading (F.meaning form) G.step (F.leaves_ends form) };
-
-    ghost covers = { λ at. map_covered G.step (F.covers at) };
 
     ghost lawful = { λ is. map_law G.step is.1 (F.lawful is.0) };
 

@@ -5,9 +5,6 @@ ghost use Rattle.parser_definitions.specs.MapErr.{InForm, KeepsEachKind, KeepsMe
 ghost use Rattle.parser_definitions.specs.MapErr.{MapsErrors, form_law, map_err_law};
 ghost use Rattle.parser_definitions.specs.Projects.Errors.{formed, map_err_projects};
 ghost use Rattle.parser_definitions.specs.Stays.{Stays};
-ghost use Rattle.winnow_core.specs.Covers.Errors.{in_form, map_err_covered};
-ghost use Rattle.winnow_core.specs.MakesError.Laws.{makes_error_ends};
-ghost use Rattle.winnow_core.specs.MapErr.{MapErrBecomes, MapErrRuns};
 
 use crate::parser::Parser;
 use std::marker::PhantomData;
@@ -56,8 +53,6 @@ impl<
 
     ghost state = { λ s. (F.state s.parser, s.map) };
 
-    ghost meaning = { λ _. MapErrRuns E.kind E2.kind G.step (F.meaning E.form) };
-
     ghost does = { MapErrDoes E.kind E2.kind G.step (InForm E.form F.does) };
 
     ghost terms = { record {
@@ -74,13 +69,6 @@ impl<
       consumes = (F.claim s.0).consumes;
       grammar = (F.claim s.0).grammar;
     } };
-
-    ghost leaves_ends = { λ _. makes_error_ends I.reading (MapErrBecomes E.kind E2.kind G.step)
-        (F.meaning E.form)
-        (F.leaves_ends E.form) };
-
-    ghost covers = { λ at. map_err_covered E.kind E2.kind G.step E.form
-        (F.covers (in_form E.form at)) };
 
     ghost lawful = { λ is. map_err_law E.kind E2.kind G.step is.1 is.2
         (form_law E.form (F.lawful is.0)) };

@@ -4,9 +4,6 @@ ghost use Rattle.parser_definitions.specs.MapErr.{KeepsEachKind, MapErrKeptDoes,
 ghost use Rattle.parser_definitions.specs.MapErr.{map_err_kept_law};
 ghost use Rattle.parser_definitions.specs.Projects.Errors.{map_err_kept_projects};
 ghost use Rattle.parser_definitions.specs.Stays.{Stays};
-ghost use Rattle.winnow_core.specs.Covers.Errors.{map_err_kept_covered};
-ghost use Rattle.winnow_core.specs.MakesError.Laws.{makes_error_ends};
-ghost use Rattle.winnow_core.specs.MapErrKept.{MapErrKeptBecomes, MapErrKeptRuns};
 
 use crate::parser::Parser;
 use std::marker::PhantomData;
@@ -59,8 +56,6 @@ impl<
 
     ghost state = { λ s. (F.state s.parser, s.map) };
 
-    ghost meaning = { λ form. MapErrKeptRuns E.kind E2.kind G.step (F.meaning form) };
-
     ghost does = { MapErrKeptDoes E.kind E2.kind G.step F.does };
 
     ghost terms = { record {
@@ -76,11 +71,6 @@ impl<
       consumes = (F.claim s.0).consumes;
       grammar = (F.claim s.0).grammar;
     } };
-
-    ghost leaves_ends = { λ form. makes_error_ends I.reading
-        (MapErrKeptBecomes E.kind E2.kind G.step) (F.meaning form) (F.leaves_ends form) };
-
-    ghost covers = { λ at. map_err_kept_covered E.kind E2.kind G.step (F.covers at) };
 
     ghost lawful = { λ is. map_err_kept_law E.kind E2.kind G.step is.1 (F.lawful is.0) };
 

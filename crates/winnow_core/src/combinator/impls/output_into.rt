@@ -5,9 +5,6 @@ ghost use Rattle.grammars.specs.Grammar.Unique.{made_of_takes};
 ghost use Rattle.parser_definitions.specs.Outputs.{OutputIntoDoes, OutputsMadeAlike};
 ghost use Rattle.parser_definitions.specs.Outputs.{output_into_law};
 ghost use Rattle.parser_definitions.specs.Projects.Outputs.{output_into_projects};
-ghost use Rattle.winnow_core.specs.Covers.Outputs.{output_into_covered};
-ghost use Rattle.winnow_core.specs.MakesOutput.Laws.{makes_output_ends};
-ghost use Rattle.winnow_core.specs.OutputInto.{OutputIntoRuns};
 
 use crate::parser::Parser;
 use std::marker::PhantomData;
@@ -46,8 +43,6 @@ impl<F: Parser<I, O, E>, I: Stream, O, O2: From<O>, E: ParserError<I>> Parser<I,
 
     ghost state = { λ s. F.state s.parser };
 
-    ghost meaning = { λ form. OutputIntoRuns O2.from_gives (F.meaning form) };
-
     ghost does = { OutputIntoDoes O2.from_gives F.does };
 
     ghost terms = { record {
@@ -63,11 +58,6 @@ impl<F: Parser<I, O, E>, I: Stream, O, O2: From<O>, E: ParserError<I>> Parser<I,
       consumes = (F.claim s).consumes;
       grammar = Made (λ (_ : Unit {0}) o u. O2.from_gives o u) tt (F.claim s).grammar;
     } };
-
-    ghost leaves_ends = { λ form. makes_output_ends I.reading _ (F.meaning form)
-        (F.leaves_ends form) };
-
-    ghost covers = { λ at. output_into_covered (F.covers at) O2.from_gives };
 
     ghost lawful = { λ is. output_into_law O2.from_gives (F.lawful is) };
 

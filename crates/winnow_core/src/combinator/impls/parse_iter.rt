@@ -1,4 +1,5 @@
 //! The runs of a parser over all of an input, one by one, as an iterator.
+ghost use Rattle.parser_definitions.specs.Does.{Ran};
 ghost use Rattle.std.specs.Iterator.{at_most};
 ghost use Rattle.std.specs.Prelude.{◌≡◌};
 ghost use Rattle.stream_errors.specs.Fault.{IsFaultAt};
@@ -59,7 +60,7 @@ impl<'p, P: Parser<I, O, E>, I: Stream, O: Drop, E: ParserError<I>> ParseIter<'p
         requires reached { IsReached I.reading (parse_iter_standing I.view I.seen self.old) }
         ensures again { P.can_parse (parse_iter_parser self.new) }
         ensures reached { IsReached I.reading (parse_iter_standing I.view I.seen self.new) }
-        ensures ran { ParseIterNext (P.meaning E.form) (assert_kind E.form)
+        ensures ran { ParseIterNext (Ran I.reading P.does E.form) (assert_kind E.form)
             (IsFaultAt I.view I.reading.units E.inner_kind)
             (parse_iter_state P.state I.view I.seen self.old) result
             (parse_iter_state P.state I.view I.seen self.new) }
@@ -94,7 +95,8 @@ impl<'p, P: Parser<I, O, E>, I: Stream, O: Drop, E: ParserError<I>> Iterator
     ghost can_next = { λ s. P.can_parse s.parser.now
         × IsReached I.reading (parse_iter_standing I.view I.seen s) };
 
-    ghost next_gives = { λ s item t. ParseIterNext (P.meaning E.form) (assert_kind E.form)
+    ghost next_gives = { λ s item t. ParseIterNext (Ran I.reading P.does E.form)
+        (assert_kind E.form)
         (IsFaultAt I.view I.reading.units E.inner_kind)
         (parse_iter_state P.state I.view I.seen s) item (parse_iter_state P.state I.view I.seen t)
         × P.can_parse t.parser.now

@@ -6,10 +6,8 @@ ghost use Rattle.grammars.specs.Grammar.Unique.{made_of_takes};
 ghost use Rattle.parser_definitions.specs.Projects.Settled.{ReadsNone, ReadsSome};
 ghost use Rattle.parser_definitions.specs.Projects.Settled.{parse_to_projects};
 ghost use Rattle.parser_definitions.specs.Verify.{ParseToDoes, parse_to_law};
-ghost use Rattle.winnow_core.specs.Covers.Outputs.{AlikeRead, ReadsAlike, parse_to_covered};
-ghost use Rattle.winnow_core.specs.Covers.Outputs.{read_alike};
-ghost use Rattle.winnow_core.specs.ParseTo.{ParseToSettles, ParseToRuns};
-ghost use Rattle.winnow_core.specs.Settles.Laws.{settles_ends};
+ghost use Rattle.winnow_core.specs.ParseTo.{AlikeRead, ReadsAlike};
+ghost use Rattle.winnow_core.specs.ParseTo.{read_alike};
 
 use crate::parser::Parser;
 use std::marker::PhantomData;
@@ -52,8 +50,6 @@ impl<F: Parser<I, O, E>, I: Stream, O: ParseSlice<O2> + Drop, O2, E: ParserError
 
     ghost state = { λ s. F.state s.parser };
 
-    ghost meaning = { λ form. ParseToRuns O.reads (F.meaning form) };
-
     ghost does = { ParseToDoes O.reads F.does };
 
     ghost terms = { record {
@@ -70,12 +66,6 @@ impl<F: Parser<I, O, E>, I: Stream, O: ParseSlice<O2> + Drop, O2, E: ParserError
       consumes = (F.claim s).consumes;
       grammar = Made (ReadsSome O.reads) tt (F.claim s).grammar;
     } };
-
-    ghost leaves_ends = { λ form s i answer t j ran. settles_ends I.reading
-        (ParseToSettles O.reads) (F.meaning form)
-        (F.leaves_ends form) _ i answer _ j ran };
-
-    ghost covers = { λ at. parse_to_covered O.reads (F.covers at) };
 
     ghost lawful = { λ is. parse_to_law O.reads (read_alike O.reads is.1) (F.lawful is.0) };
 

@@ -4,9 +4,6 @@ ghost use Rattle.grammars.specs.Grammar.{Made};
 ghost use Rattle.grammars.specs.Grammar.Unique.{made_of_takes};
 ghost use Rattle.parser_definitions.specs.Outputs.{SpanDoes, span_law};
 ghost use Rattle.parser_definitions.specs.Projects.Outputs.{AnyPlaces, span_projects};
-ghost use Rattle.winnow_core.specs.Covers.Outputs.{span_covered};
-ghost use Rattle.winnow_core.specs.MakesOutput.Laws.{makes_output_ends};
-ghost use Rattle.winnow_core.specs.Span.{SpanRuns, places};
 
 use crate::parser::Parser;
 use std::marker::PhantomData;
@@ -47,8 +44,6 @@ impl<F: Parser<I, O, E>, I: Location, O: Drop, E: ParserError<I>> Parser<I, Rang
 
     ghost state = { λ s. F.state s.parser };
 
-    ghost meaning = { λ form. SpanRuns (F.meaning form) };
-
     ghost does = { SpanDoes F.does };
 
     ghost terms = { record {
@@ -64,11 +59,6 @@ impl<F: Parser<I, O, E>, I: Location, O: Drop, E: ParserError<I>> Parser<I, Rang
       consumes = (F.claim s).consumes;
       grammar = Made AnyPlaces tt (F.claim s).grammar;
     } };
-
-    ghost leaves_ends = { λ form. makes_output_ends I.reading _ (F.meaning form)
-        (F.leaves_ends form) };
-
-    ghost covers = { λ at. span_covered (F.covers at) };
 
     ghost lawful = { λ is. span_law (F.lawful is) };
 

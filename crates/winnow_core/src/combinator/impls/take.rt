@@ -6,9 +6,7 @@ ghost use Rattle.grammars.specs.Grammar.Unique.{taken_takes};
 ghost use Rattle.parser_definitions.specs.Outputs.{TakeDoes, take_law};
 ghost use Rattle.parser_definitions.specs.Projects.Outputs.{take_projects};
 ghost use Rattle.parser_definitions.specs.Spelled.{ShowSame};
-ghost use Rattle.winnow_core.specs.Covers.Outputs.{take_covered};
-ghost use Rattle.winnow_core.specs.Take.{TakeRuns, take_parser};
-ghost use Rattle.winnow_core.specs.Take.Laws.{take_ends};
+ghost use Rattle.winnow_core.specs.Take.{take_parser};
 
 use crate::parser::Parser;
 use std::marker::PhantomData;
@@ -47,8 +45,6 @@ impl<F: Parser<I, O, E>, I: Stream, O: Drop, E: ParserError<I>> Parser<I, I::Sli
 
     ghost state = { λ s. F.state s.parser };
 
-    ghost meaning = { λ form. TakeRuns I.reading (F.meaning form) };
-
     ghost does = { TakeDoes I.reading F.does };
 
     ghost terms = { record {
@@ -64,10 +60,6 @@ impl<F: Parser<I, O, E>, I: Stream, O: Drop, E: ParserError<I>> Parser<I, I::Sli
       consumes = (F.claim s).consumes;
       grammar = Taken I.reading (F.claim s).grammar;
     } };
-
-    ghost leaves_ends = { λ form. take_ends I.reading (F.meaning form) (F.leaves_ends form) };
-
-    ghost covers = { λ at. take_covered (F.covers at) I.reading };
 
     ghost lawful = { λ is. take_law I.reading (F.lawful is) };
 

@@ -10,9 +10,6 @@ ghost use Rattle.parser_definitions.specs.Projects.Within.{ErrorsKept, GivesErr,
 ghost use Rattle.parser_definitions.specs.Projects.Within.{try_map_projects};
 ghost use Rattle.parser_definitions.specs.Stays.{Stays};
 ghost use Rattle.parser_definitions.specs.TryMap.{TriesAlike, TryMapDoes, try_map_law};
-ghost use Rattle.winnow_core.specs.Covers.Adapters.{try_map_covered};
-ghost use Rattle.winnow_core.specs.Settles.Laws.{settles_ends};
-ghost use Rattle.winnow_core.specs.TryMap.{TryMapSettles, TryMapRuns};
 
 use crate::parser::Parser;
 use std::marker::PhantomData;
@@ -62,8 +59,6 @@ impl<
 
     ghost state = { λ s. (F.state s.parser, (s.map, E.external_gives)) };
 
-    ghost meaning = { λ form. TryMapRuns G.step (F.meaning form) };
-
     ghost does = { TryMapDoes G.step F.does };
 
     ghost terms = { record {
@@ -80,12 +75,6 @@ impl<
       consumes = (F.claim s.0).consumes;
       grammar = Made (GivesOk G.step) s.1.0 (F.claim s.0).grammar;
     } };
-
-    ghost leaves_ends = { λ form. settles_ends I.reading
-        (TryMapSettles G.step) (F.meaning form)
-        (F.leaves_ends form) };
-
-    ghost covers = { λ at. try_map_covered G.step (F.covers at) };
 
     ghost lawful = { λ is. try_map_law F.terms.alike G.step is.1 (F.lawful is.0) };
 

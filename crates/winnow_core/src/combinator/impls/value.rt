@@ -5,9 +5,7 @@ ghost use Rattle.grammars.specs.Grammar.Unique.{made_of_takes};
 ghost use Rattle.parser_definitions.specs.Projects.{projects_as};
 ghost use Rattle.parser_definitions.specs.Projects.Settled.{value_projects};
 ghost use Rattle.parser_definitions.specs.TryMap.{ValueDoes, value_law};
-ghost use Rattle.winnow_core.specs.Covers.Adapters.{value_covered};
-ghost use Rattle.winnow_core.specs.Value.{AlikeClones, ValueRuns, value_kept, value_parser};
-ghost use Rattle.winnow_core.specs.Value.Laws.{value_ends};
+ghost use Rattle.winnow_core.specs.Value.{AlikeClones, value_kept, value_parser};
 
 use crate::parser::Parser;
 use std::marker::PhantomData;
@@ -48,8 +46,6 @@ impl<F: Parser<I, O, E>, I: Stream, O: Drop, O2: Clone, E: ParserError<I>> Parse
 
     ghost state = { λ s. (F.state s.parser, s.value) };
 
-    ghost meaning = { λ form. ValueRuns O2.is_clone O2.is_infallible (F.meaning form) };
-
     ghost does = { ValueDoes O2.is_clone O2.is_infallible F.does };
 
     ghost terms = { record {
@@ -65,11 +61,6 @@ impl<F: Parser<I, O, E>, I: Stream, O: Drop, O2: Clone, E: ParserError<I>> Parse
       consumes = (F.claim s.0).consumes;
       grammar = Made (λ v o u. O2.is_clone v u) s.1 (F.claim s.0).grammar;
     } };
-
-    ghost leaves_ends = { λ form. value_ends I.reading O2.is_clone O2.is_infallible
-        (F.meaning form) (F.leaves_ends form) };
-
-    ghost covers = { λ at. value_covered O2.is_clone O2.is_infallible (F.covers at) };
 
     ghost lawful = { λ is. value_law O2.is_clone O2.is_infallible (λ value u v x y. (value, x, y))
         (F.lawful is) };

@@ -7,9 +7,6 @@ ghost use Rattle.grammars.specs.Grammar.Unique.{made_of_takes};
 ghost use Rattle.parser_definitions.specs.Projects.Settled.{verify_projects};
 ghost use Rattle.parser_definitions.specs.Stays.{Finds, Misses, Stays};
 ghost use Rattle.parser_definitions.specs.Verify.{FindsAlike, VerifyDoes, verify_law};
-ghost use Rattle.winnow_core.specs.Covers.Adapters.{verify_covered};
-ghost use Rattle.winnow_core.specs.Settles.Laws.{settles_ends};
-ghost use Rattle.winnow_core.specs.Verify.{VerifySettles, VerifyRuns};
 
 use crate::parser::Parser;
 use std::marker::PhantomData;
@@ -54,8 +51,6 @@ impl<F: Parser<I, O, E>, G: FnMut(&O) -> bool, I: Stream, O: Drop, E: ParserErro
 
     ghost state = { λ s. (F.state s.parser, s.filter) };
 
-    ghost meaning = { λ form. VerifyRuns (CalledAt G.FnMut) (F.meaning form) };
-
     ghost does = { VerifyDoes (CalledAt G.FnMut) F.does };
 
     ghost terms = { record {
@@ -73,12 +68,6 @@ impl<F: Parser<I, O, E>, G: FnMut(&O) -> bool, I: Stream, O: Drop, E: ParserErro
       consumes = (F.claim s.0).consumes;
       grammar = Made (Finds (CalledAt G.FnMut)) s.1 (F.claim s.0).grammar;
     } };
-
-    ghost leaves_ends = { λ form. settles_ends I.reading (VerifySettles (CalledAt G.FnMut))
-        (F.meaning form)
-        (F.leaves_ends form) };
-
-    ghost covers = { λ at. verify_covered (CalledAt G.FnMut) (F.covers at) };
 
     ghost lawful = { λ is. verify_law (CalledAt G.FnMut) is.1 (F.lawful is.0) };
 

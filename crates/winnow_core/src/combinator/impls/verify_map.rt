@@ -7,9 +7,6 @@ ghost use Rattle.parser_definitions.specs.Equal.{MadeAlike};
 ghost use Rattle.parser_definitions.specs.Projects.Settled.{verify_map_projects};
 ghost use Rattle.parser_definitions.specs.Stays.{GivesNone, GivesSome, Stays};
 ghost use Rattle.parser_definitions.specs.Verify.{RejectsAlike, VerifyMapDoes, verify_map_law};
-ghost use Rattle.winnow_core.specs.Covers.Adapters.{verify_map_covered};
-ghost use Rattle.winnow_core.specs.VerifyMap.{VerifyMapRuns};
-ghost use Rattle.winnow_core.specs.VerifyMap.Laws.{verify_map_ends};
 
 use crate::parser::Parser;
 use std::marker::PhantomData;
@@ -54,8 +51,6 @@ impl<F: Parser<I, O, E>, G: FnMut(O) -> Option<O2>, I: Stream, O, O2, E: ParserE
 
     ghost state = { λ s. (F.state s.parser, s.filter) };
 
-    ghost meaning = { λ form. VerifyMapRuns (F.meaning form) G.step };
-
     ghost does = { VerifyMapDoes G.step F.does };
 
     ghost terms = { record {
@@ -72,11 +67,6 @@ impl<F: Parser<I, O, E>, G: FnMut(O) -> Option<O2>, I: Stream, O, O2, E: ParserE
       consumes = (F.claim s.0).consumes;
       grammar = Made (GivesSome G.step) s.1 (F.claim s.0).grammar;
     } };
-
-    ghost leaves_ends = { λ form. verify_map_ends I.reading (F.meaning form) G.step
-        (F.leaves_ends form) };
-
-    ghost covers = { λ at. verify_map_covered G.step (F.covers at) };
 
     ghost lawful = { λ is. verify_map_law G.step is.1 (F.lawful is.0) };
 

@@ -4,9 +4,6 @@ ghost use Rattle.grammars.specs.Grammar.{Made};
 ghost use Rattle.grammars.specs.Grammar.Unique.{made_of_takes};
 ghost use Rattle.parser_definitions.specs.Outputs.{VoidDoes, void_law};
 ghost use Rattle.parser_definitions.specs.Projects.Outputs.{void_projects};
-ghost use Rattle.winnow_core.specs.Covers.Outputs.{void_covered};
-ghost use Rattle.winnow_core.specs.Void.{VoidRuns};
-ghost use Rattle.winnow_core.specs.Void.Laws.{void_ends};
 
 use crate::parser::Parser;
 use std::marker::PhantomData;
@@ -44,8 +41,6 @@ impl<F: Parser<I, O, E>, I: Stream, O: Drop, E: ParserError<I>> Parser<I, (), E>
 
     ghost state = { λ s. F.state s.parser };
 
-    ghost meaning = { λ form. VoidRuns (F.meaning form) };
-
     ghost does = { VoidDoes F.does };
 
     ghost terms = { record {
@@ -61,10 +56,6 @@ impl<F: Parser<I, O, E>, I: Stream, O: Drop, E: ParserError<I>> Parser<I, (), E>
       consumes = (F.claim s).consumes;
       grammar = Made (λ (_ : Unit {0}) o (u : Unit {0}). ⊤) tt (F.claim s).grammar;
     } };
-
-    ghost leaves_ends = { λ form. void_ends I.reading (F.meaning form) (F.leaves_ends form) };
-
-    ghost covers = { λ at. void_covered (F.covers at) };
 
     ghost lawful = { λ is. void_law (F.lawful is) };
 

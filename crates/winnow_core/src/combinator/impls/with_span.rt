@@ -5,9 +5,6 @@ ghost use Rattle.grammars.specs.Grammar.Unique.{made_of_takes};
 ghost use Rattle.parser_definitions.specs.Equal.{AlikePairs};
 ghost use Rattle.parser_definitions.specs.Outputs.{WithSpanDoes, with_span_law};
 ghost use Rattle.parser_definitions.specs.Projects.Outputs.{WithPlaces, with_span_projects};
-ghost use Rattle.winnow_core.specs.Covers.Outputs.{with_span_covered};
-ghost use Rattle.winnow_core.specs.MakesOutput.Laws.{makes_output_ends};
-ghost use Rattle.winnow_core.specs.WithSpan.{WithSpanRuns};
 
 use crate::parser::Parser;
 use std::marker::PhantomData;
@@ -48,8 +45,6 @@ impl<F: Parser<I, O, E>, I: Location, O, E: ParserError<I>> Parser<I, (O, Range<
 
     ghost state = { λ s. F.state s.parser };
 
-    ghost meaning = { λ form. WithSpanRuns (F.meaning form) };
-
     ghost does = { WithSpanDoes F.does };
 
     ghost terms = { record {
@@ -65,11 +60,6 @@ impl<F: Parser<I, O, E>, I: Location, O, E: ParserError<I>> Parser<I, (O, Range<
       consumes = (F.claim s).consumes;
       grammar = Made WithPlaces tt (F.claim s).grammar;
     } };
-
-    ghost leaves_ends = { λ form. makes_output_ends I.reading _ (F.meaning form)
-        (F.leaves_ends form) };
-
-    ghost covers = { λ at. with_span_covered (F.covers at) };
 
     ghost lawful = { λ is. with_span_law (F.lawful is) };
 

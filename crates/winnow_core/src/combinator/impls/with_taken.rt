@@ -6,9 +6,6 @@ ghost use Rattle.parser_definitions.specs.Equal.{AlikePairs};
 ghost use Rattle.parser_definitions.specs.Outputs.{WithTakenDoes, with_taken_law};
 ghost use Rattle.parser_definitions.specs.Projects.Outputs.{with_taken_projects};
 ghost use Rattle.parser_definitions.specs.Spelled.{ShowSame};
-ghost use Rattle.winnow_core.specs.Covers.Outputs.{with_taken_covered};
-ghost use Rattle.winnow_core.specs.MakesOutput.Laws.{makes_output_ends};
-ghost use Rattle.winnow_core.specs.WithTaken.{WithTakenRuns};
 
 use crate::combinator::impls::take::slice_from;
 use crate::parser::Parser;
@@ -48,8 +45,6 @@ impl<F: Parser<I, O, E>, I: Stream, O, E: ParserError<I>> Parser<I, (O, I::Slice
 
     ghost state = { λ s. F.state s.parser };
 
-    ghost meaning = { λ form. WithTakenRuns I.reading (F.meaning form) };
-
     ghost does = { WithTakenDoes I.reading F.does };
 
     ghost terms = { record {
@@ -65,11 +60,6 @@ impl<F: Parser<I, O, E>, I: Stream, O, E: ParserError<I>> Parser<I, (O, I::Slice
       consumes = (F.claim s).consumes;
       grammar = AndTaken I.reading (F.claim s).grammar;
     } };
-
-    ghost leaves_ends = { λ form. makes_output_ends I.reading _ (F.meaning form)
-        (F.leaves_ends form) };
-
-    ghost covers = { λ at. with_taken_covered (F.covers at) I.reading };
 
     ghost lawful = { λ is. with_taken_law I.reading (F.lawful is) };
 

@@ -9,9 +9,6 @@ ghost use Rattle.parser_definitions.specs.Projects.Sequences.{three_claim, three
 ghost use Rattle.parser_definitions.specs.Tuples.{AlikeFive, AlikeSix, SequenceDoes5};
 ghost use Rattle.parser_definitions.specs.Tuples.{SequenceDoes6, sequence5_law, sequence6_law};
 ghost use Rattle.parser_definitions.specs.Tuples.{split4, split5, split6};
-ghost use Rattle.winnow_core.specs.Covers.Tuples.{sequence5_covered, sequence6_covered};
-ghost use Rattle.winnow_core.specs.InOrder.Laws.{both_ends, ends_by, three_ends};
-ghost use Rattle.winnow_core.specs.Sequence.{SequenceRuns5, SequenceRuns6};
 
 use crate::parser::Parser;
 use stream_errors::parser_error::ParserError;
@@ -38,9 +35,6 @@ impl<
 
     ghost state = { λ s. (P1.state s.0, P2.state s.1, P3.state s.2, P4.state s.3, P5.state s.4) };
 
-    ghost meaning = { λ form. SequenceRuns5 (P1.meaning form) (P2.meaning form)
-        (P3.meaning form) (P4.meaning form) (P5.meaning form) };
-
     ghost does = { SequenceDoes5 P1.does P2.does P3.does P4.does P5.does };
 
     ghost terms = { record {
@@ -54,16 +48,6 @@ impl<
     ghost claim = { λ s. both_claim join5
         (both_claim join4 (three_claim (λ o1 o2 o3. (o1, o2, o3)) (P1.claim s.0)
         (P2.claim s.1) (P3.claim s.2)) (P4.claim s.3)) (P5.claim s.4) };
-
-    ghost leaves_ends = { λ form. ends_by split5
-        (both_ends I.reading join5 _ _
-        (ends_by split4 (both_ends I.reading join4 _ _
-        (three_ends I.reading (λ o1 o2 o3. (o1, o2, o3)) (P1.meaning form)
-        (P2.meaning form) (P3.meaning form) (P1.leaves_ends form) (P2.leaves_ends form)
-        (P3.leaves_ends form)) (P4.leaves_ends form))) (P5.leaves_ends form)) };
-
-    ghost covers = { λ at. sequence5_covered (P1.covers at) (P2.covers at) (P3.covers at)
-        (P4.covers at) (P5.covers at) };
 
     ghost lawful = { λ is. sequence5_law (P1.lawful is.0) (P2.lawful is.1) (P3.lawful is.2)
         (P4.lawful is.3) (P5.lawful is.4) };
@@ -114,9 +98,6 @@ impl<
       P6.state s.5,
     ) };
 
-    ghost meaning = { λ form. SequenceRuns6 (P1.meaning form) (P2.meaning form)
-        (P3.meaning form) (P4.meaning form) (P5.meaning form) (P6.meaning form) };
-
     ghost does = { SequenceDoes6 P1.does P2.does P3.does P4.does P5.does P6.does };
 
     ghost terms = { record {
@@ -132,18 +113,6 @@ impl<
         (both_claim join5 (both_claim join4
         (three_claim (λ o1 o2 o3. (o1, o2, o3)) (P1.claim s.0) (P2.claim s.1)
         (P3.claim s.2)) (P4.claim s.3)) (P5.claim s.4)) (P6.claim s.5) };
-
-    ghost leaves_ends = { λ form. ends_by split6
-        (both_ends I.reading join6 _ _
-        (ends_by split5 (both_ends I.reading join5 _ _
-        (ends_by split4 (both_ends I.reading join4 _ _
-        (three_ends I.reading (λ o1 o2 o3. (o1, o2, o3)) (P1.meaning form)
-        (P2.meaning form) (P3.meaning form) (P1.leaves_ends form) (P2.leaves_ends form)
-        (P3.leaves_ends form)) (P4.leaves_ends form))) (P5.leaves_ends form)))
-        (P6.leaves_ends form)) };
-
-    ghost covers = { λ at. sequence6_covered (P1.covers at) (P2.covers at) (P3.covers at)
-        (P4.covers at) (P5.covers at) (P6.covers at) };
 
     ghost lawful = { λ is. sequence6_law (P1.lawful is.0) (P2.lawful is.1) (P3.lawful is.2)
         (P4.lawful is.3) (P5.lawful is.4) (P6.lawful is.5) };

@@ -10,6 +10,6 @@ returns-clause-gets g c =
 
 pub returns-clause-same : goal.returns-clause-same
 returns-clause-same g c =
-    same_on_longer g.Self.Parser.meaning g.met.Self.Parser.covers
-    (g.met.Self.Parser.lawful c.requires.premise) c.requires.stable c.requires.modal _ _ _ _ _
+    same_on_longer g.I.Stream.reading (g.met.Self.Parser.lawful c.requires.premise)
+    c.requires.stable c.requires.modal _ _ _ _ _
     c.requires.is_cut c.requires.readable c.read_outcome.ensures.ran

@@ -3,6 +3,6 @@ use Rattle.winnow_core.proofs.parser.Parser.read_outcome.Goals as goal
 
 pub returns-clause-tells : goal.returns-clause-tells
 returns-clause-tells g c =
-    tells_of g.Self.Parser.meaning g.met.Self.Parser.covers g.I.Stream.reading
+    tells_of g.I.Stream.reading
     (g.met.Self.Parser.lawful c.requires.premise) g.E.HasKind.form _ _ _ _ _
-    c.parse_next.ensures.ends c.parse_next.ensures.ran
+    c.parse_next.ensures.ran

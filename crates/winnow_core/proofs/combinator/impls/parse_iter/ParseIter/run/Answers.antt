@@ -18,11 +18,11 @@ pub at-requires : goal.at-requires
 at-requires g c =
     let on = reads_unread g.I.Stream.view g.I.Stream.seen {unread = c.args.self.now.unread}
     {u = c.in-Some.field-0} (search rules depth 1) in
-    reached_remains on c.requires.reached c.parse_next.ensures.ends
+    reached_remains on c.requires.reached c.parse_next.ensures.ran.0
 
 pub returns-then-eof_offset-left-clause-ran : goal.returns-then-eof_offset-left-clause-ran
 returns-then-eof_offset-left-clause-ran g c =
-    let same = same_units g.I.Stream.reading _ _ c.in-Ok.ensures.ends (omega arith) in
+    let same = same_units g.I.Stream.reading _ _ c.in-Ok.ensures.ran.0 (omega arith) in
     let on = reads_unread g.I.Stream.view g.I.Stream.seen {unread = c.args.self.now.unread}
     {u = c.in-Some.field-0} (search rules depth 1) in
     inr (inl (
@@ -43,7 +43,7 @@ pub at-requires-in-Err : goal.at-requires-in-Err
 at-requires-in-Err g c =
     let on = reads_unread g.I.Stream.view g.I.Stream.seen {unread = c.args.self.now.unread}
     {u = c.in-Some.field-0} (search rules depth 1) in
-    reached_remains on c.requires.reached c.parse_next.ensures.ends
+    reached_remains on c.requires.reached c.parse_next.ensures.ran.0
 
 pub returns-in-Err-clause-ran : goal.returns-in-Err-clause-ran
 returns-in-Err-clause-ran g c =
@@ -67,7 +67,7 @@ pub returns-else-eof_offset-left-clause-ran : goal.returns-else-eof_offset-left-
 returns-else-eof_offset-left-clause-ran g c =
     let on = reads_unread g.I.Stream.view g.I.Stream.seen {unread = c.args.self.now.unread}
     {u = c.in-Some.field-0} (search rules depth 1) in
-    let fewer = fewer_tokens g.I.Stream.reading _ _ c.in-Ok.ensures.ends
+    let fewer = fewer_tokens g.I.Stream.reading _ _ c.in-Ok.ensures.ran.0
     (λ e. absurd (omega (arith, e))) in
     inl (
       g.I.Stream.seen c.in-Some.field-0.start,
