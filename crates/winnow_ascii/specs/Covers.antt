@@ -1,39 +1,25 @@
 -- Classes of characters and line endings are covered.
-use Rattle.std.specs.Prelude.{◌≡◌, ◌↔◌, ℕ, IsTrue, List, [], ◌∷◌, None, Ok, Err}
+use Rattle.std.specs.Prelude.{◌≡◌, ℕ, List, [], ◌∷◌, None, Ok, Err}
 use Rattle.std.specs.Borrow.{Bor}
 use Rattle.std.proofs.Common.{refl, sym, ap, inl, inr, ◌∙◌}
 use Rattle.streams.specs.Equal.{true_is_false}
 use Rattle.streams.specs.Input.{Input, Takes}
 use Rattle.streams.specs.Kind.{Kind, backtrack, cut, incomplete, memory}
 use Rattle.streams.specs.Reading.{Reading}
-use Rattle.streams.specs.Stream.{AnswersSeen}
 use Rattle.stream_errors.specs.Form.{Answer, ErrorForm, incomplete_kind, modal, plain}
-use Rattle.stream_sets.specs.Range.{from_to}
 use Rattle.grammars.specs.Grammar.Searches.Unique.{match_before}
-use Rattle.parser_definitions.specs.Class.{ClassDoes}
 use Rattle.parser_definitions.specs.Left.{left_of}
 use Rattle.parser_definitions.specs.LineEnding.{CrlfDoes, LineEndingDoes, TextDoes, or_other}
 use Rattle.parser_definitions.specs.Outcome.{Setting, backs, lacks_by, outcome_of, setting_of}
 use Rattle.parser_definitions.specs.Then.{ComesOf}
 use Rattle.parser_definitions.specs.TillLineEnding.{IsLine, NeverIncomplete, TillLineEndingDoes}
-use Rattle.winnow_core.specs.Covers.{Calls, Covers, gave, kept_covered, left_at}
+use Rattle.winnow_core.specs.Covers.{Calls, Covers, gave, left_at}
 use Rattle.winnow_core.specs.Covers.Leaves.{literal_covered, passed_of, short}
 use Rattle.winnow_core.specs.Literal.Laws.{TextRuns}
 use Rattle.winnow_core.specs.Runs.{Keeps}
 use Rattle.winnow_core.specs.Short.{ShortKind}
-use Rattle.winnow_token.specs.Covers.{take_while_covered}
-use Rattle.winnow_ascii.specs.Class.{ClassRuns}
 use Rattle.winnow_ascii.specs.LineEnding.{LineEndingRuns}
 use Rattle.winnow_ascii.specs.TillLineEnding.{LineRuns, TillLineEndingRuns}
-use Rattle.winnow_ascii.specs.TillLineEnding.Laws.{till_line_ending_ends}
-
-module _ {S : Type 0} {at : Setting} where
-  pub class_covered : {K T L : Type 0} (class : ℕ → Type 0) (least : ℕ) (code : K → ℕ)
-      (seen : K → T) (reading : Reading T L)
-      → Covers {S = S} at (Keeps (λ s. ClassRuns class least code seen reading at.form))
-      (ClassDoes class least code seen reading)
-  class_covered class least code seen reading = take_while_covered reading
-      (λ s. AnswersSeen seen (λ k b. IsTrue b ↔ class (code k))) (λ s. from_to least None)
 
 -- ---- literals of texts
 
@@ -100,7 +86,7 @@ module _ {T L : Type 0} (reading : Reading T L) (spells : Bor (List ℕ) → Lis
       (i.left.tokens, inr (none, inl whole, refl, nothing), takes)
 
   module _ {S : Type 0} (s : S) (form : ErrorForm) where
-    till_line_ending_ran : (i : Input T) (a : Answer L) (j : Input T)
+    pub till_line_ending_ran : (i : Input T) (a : Answer L) (j : Input T)
         → TillLineEndingRuns spells sought reading form i a j
         → TillLineEndingDoes reading spells sought (setting_of form i) s (left_of i)
         (outcome_of a (s, left_of j))
@@ -186,12 +172,3 @@ module _ {T L : Type 0} (reading : Reading T L) (spells : Bor (List ℕ) → Lis
           gave (s, left_of j) e ∙ left_at s (Err k) same
               ∙ short form None i k (s, left_of i) kind,
         )
-
-  pub till_line_ending_covered : {S : Type 0} {at : Setting}
-      → Covers {S = S} at (Keeps (λ s. TillLineEndingRuns spells sought reading at.form))
-      (TillLineEndingDoes reading spells sought)
-  till_line_ending_covered {S} {at} =
-      kept_covered reading (λ (s : S). TillLineEndingRuns spells sought reading at.form)
-      (TillLineEndingDoes reading spells sought) at
-      (λ s i a j r. till_line_ending_ran s at.form i a j r)
-      (λ s i a j r. till_line_ending_ends spells sought reading at.form i a j r)

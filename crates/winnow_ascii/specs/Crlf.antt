@@ -6,7 +6,6 @@ use Rattle.streams.specs.Reading.{Reading}
 use Rattle.stream_errors.specs.Form.{ErrorForm, Answer}
 use Rattle.winnow_core.specs.Literal.{LiteralRuns}
 pub mod Inversion
-pub mod Laws
 
 -- A run of the literal "\r\n". A text stands for the lists that `spells` says.
 abbrev pub CrlfRuns : {T S : Type 0} → (Bor (List ℕ) → List T → Type 0) → Reading T S → ErrorForm

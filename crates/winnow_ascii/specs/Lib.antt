@@ -3,6 +3,4 @@ pub mod Class
 pub mod Covers
 pub mod Crlf
 pub mod LineEnding
-pub mod Newline
-pub mod Tab
 pub mod TillLineEnding

@@ -9,7 +9,6 @@ use Rattle.winnow_core.specs.Literal.{LiteralRuns}
 use Rattle.winnow_ascii.specs.Crlf.{CrlfRuns}
 pub mod Grammar
 pub mod Inversion
-pub mod Laws
 
 -- A run of the literal "\n", or, where that backtracks, of the literal "\r\n". A text stands for
 -- the lists that `spells` says.

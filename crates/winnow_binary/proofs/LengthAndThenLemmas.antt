@@ -1,12 +1,27 @@
--- Laws of `length_and_then`.
-use Rattle.std.specs.Prelude.{◌≡◌, Bool, false, List}
-use Rattle.std.proofs.Common.{ap, ◌∙◌}
+-- A child on the first tokens as a complete input.
+use Rattle.std.specs.Prelude.{◌≡◌, Bool, false, List, Err}
+use Rattle.std.proofs.Common.{refl, ap, inl, inr, ◌∙◌}
 use Rattle.streams.specs.Input.{Input, Status, Takes}
+use Rattle.streams.specs.Kind.{Kind, backtrack, cut, incomplete, memory}
 use Rattle.streams.specs.Place.{Place}
 use Rattle.streams.specs.Reading.{Reading, ShowsOneList}
 use Rattle.streams.specs.Stream.{IsUpdate, update_begins, update_tokens}
+use Rattle.stream_errors.specs.Form.{Answer, ErrorForm}
+use Rattle.parser_definitions.specs.Does.{Ran}
+use Rattle.parser_definitions.specs.Left.{End, Left, left_of}
+use Rattle.parser_definitions.specs.Length.{leaving}
+use Rattle.parser_definitions.specs.Outcome.{Does, Outcome, outcome_of, setting_of, took}
 use Rattle.winnow_core.specs.AndThen.{completed}
-use Rattle.winnow_binary.specs.LengthAndThen.{only_first}
+use Rattle.winnow_core.specs.CompleteErr.{CompleteErrRuns, complete_kind}
+use Rattle.winnow_core.specs.Covers.{gave}
+
+-- the tokens `taken` as a complete input at the same position
+abbrev pub only_first : {T : Type 0} → List T → Input T → Input T
+only_first taken i =
+    record i {
+      left = record i.left { tokens = taken };
+      status = record i.status { cut = false };
+    }
 
 -- an input that has these parts is made of them
 made_of : {T : Type 0} (now : Input T) (tokens : List T) (place : Place) (possible : Bool)
@@ -33,3 +48,26 @@ only_first_is {taken = taken} {earlier = earlier} {later = later} {now = now} on
     (record earlier.status { cut = false }) (update_tokens one takes.shown update)
     (update_begins takes update) (update.possible ∙ takes.passed.possible)
     (ap (λ (s : Status). record s { cut = false }) (update.status ∙ takes.passed.status))
+
+-- the outcome of an error inside
+inside_failed : {S T O : Type 0} (rest : Left T) (k : Kind) (s : S) (end : Left T)
+    → ◌≡◌ {A = Outcome (End S T) O} (outcome_of (Err (complete_kind k)) (s, rest))
+    (leaving rest (outcome_of (Err k) (s, end)))
+inside_failed rest backtrack s end = refl
+inside_failed rest cut s end = refl
+inside_failed rest (incomplete need) s end = refl
+inside_failed rest memory s end = refl
+
+-- the whole's outcome, from the child's
+pub inside : {S T L O : Type 0} (reading : Reading T L) (does : Does S T O) (form : ErrorForm)
+    (rest : Left T) (s : S) (i : Input T) (answer : Answer O) (t : S) (j : Input T)
+    → CompleteErrRuns (Ran reading does form) s i answer t j
+    → (x : Outcome (End S T) O) × does (setting_of form i) s (left_of i) x
+    × (outcome_of answer (t, rest) ≡ leaving rest x)
+inside reading does form rest s i answer t j (inl (o, ran, e)) =
+    (took o (t, left_of j), ran.3, gave (t, rest) e)
+inside reading does form rest s i answer t j (inr (k, ran, e)) = (
+  outcome_of (Err k) (t, left_of j),
+  ran.3,
+  gave (t, rest) e ∙ inside_failed rest k t (left_of j),
+)

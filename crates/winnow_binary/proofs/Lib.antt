@@ -1,1 +1,2 @@
 mod LengthAndThenLemmas
+mod LengthTakeLemmas

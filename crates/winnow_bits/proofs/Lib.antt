@@ -1,2 +1,1 @@
-mod BitLemmas
 mod InPartsLemmas

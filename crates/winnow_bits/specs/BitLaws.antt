@@ -1,15 +1,9 @@
 -- Laws of the parsers of bits.
-use Rattle.std.specs.Prelude.{◌≡◌, ℕ, Bool, Ok, Err}
+use Rattle.std.specs.Prelude.{ℕ, Bool, Ok}
 use Rattle.streams.specs.Input.{Input}
-use Rattle.streams.specs.Kind.{Kind}
 use Rattle.streams.specs.Reading.{Reading}
 use Rattle.stream_bits.specs.Within.{ReadsNumber}
 use Rattle.winnow_core.specs.Runs.{Runs}
-
--- After an error the input is as it was.
-abbrev pub StaysOnError : {S T O : Type 0} → Runs S T O → Type 0
-StaysOnError {S} {T} {O} run =
-    (s : S) (i : Input T) (k : Kind) (t : S) (j : Input T) → run s i (Err k) t j → j ≡ i
 
 -- The output is the number of the first `n` bits, where `n` is the state, and the rest remains.
 abbrev pub TakesFirstBits : {O L : Type 0} → (O → ℕ) → Reading Bool L → Runs ℕ Bool O → Type 0

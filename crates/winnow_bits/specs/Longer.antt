@@ -8,21 +8,16 @@ use Rattle.streams.specs.Kind.{backtrack, cut, incomplete, memory}
 use Rattle.streams.specs.Reading.{Reading}
 use Rattle.stream_bits.specs.BitInput.{WholeBytes}
 use Rattle.stream_bits.specs.BitList.{length_bits}
-use Rattle.stream_bits.specs.BitReading.{bits_reading}
 use Rattle.stream_errors.specs.Form.{Answer, ErrorForm, modal}
-use Rattle.parser_definitions.specs.BitsOfBytes.{bits_of_bytes_law, bits_stay, inside}
-use Rattle.parser_definitions.specs.BytesOfBits.{BytesOfBitsDoes, bytes_of_bits_law, bytes_stay}
-use Rattle.parser_definitions.specs.Does.{Lawful}
+use Rattle.parser_definitions.specs.BytesOfBits.{BytesOfBitsDoes, bytes_stay}
+use Rattle.parser_definitions.specs.Does.{Lawful, Ran}
 use Rattle.parser_definitions.specs.Left.{End, Left, extend, left_of}
-use Rattle.parser_definitions.specs.Outcome.{Alike, Does, Outcome, Setting, grown, longer, on_cut}
+use Rattle.parser_definitions.specs.Outcome.{Alike, Does, Outcome, grown, longer, on_cut}
 use Rattle.parser_definitions.specs.Outcome.{outcome_of}
 use Rattle.parser_definitions.specs.Outcome as outcomes
-use Rattle.winnow_core.specs.Covers.{Covers}
+use Rattle.winnow_core.specs.Covers.{ran_covers}
 use Rattle.winnow_core.specs.Longer.{IsFinal}
-use Rattle.winnow_core.specs.Runs.{LeaveEnds, Meaning, Runs}
-use Rattle.winnow_bits.specs.BitsOfBytes.{BitsOfBytesRuns}
-use Rattle.winnow_bits.specs.BytesOfBits.{BytesOfBitsRuns}
-use Rattle.winnow_bits.specs.Covers.{bits_of_bytes_covered, bytes_of_bits_covered}
+use Rattle.winnow_core.specs.Runs.{Runs}
 
 -- The bits of the remaining bytes and of the added ones can be counted.
 abbrev pub BytesCounted : List ℕ → List ℕ → Type 0
@@ -76,58 +71,36 @@ final_outcome (Err cut) l final = tt
 final_outcome (Err (incomplete need)) l final = absurd final
 final_outcome (Err memory) l final = absurd final
 
--- A parser that is covered by such a lawful definition has this of each call.
-pub same_on_longer_by : {S T O : Type 0} (allowed : List T → List T → Type 0)
-    (meaning : Meaning S T O) {stable : Type 0} {alike : O → O → Type 0} {does : Does S T O}
-    → ((at : Setting) → Covers at (meaning at.form) does) → Lawful stable alike does
-    → StaysBy allowed does → {form : ErrorForm} → form ≡ modal
-    → EachSameOnLongerBy allowed (meaning form) alike
-same_on_longer_by {S} {T} {O} allowed meaning {alike = alike} {does = does} c law stays has s i
-    answer t j partial may ran =
-    let P : ErrorForm → Type 0 = λ f. meaning f s i answer t j in
+-- A parser whose definition is lawful, and stays so, has this of each call.
+pub same_on_longer_by : {S T L O : Type 0} (reading : Reading T L)
+    (allowed : List T → List T → Type 0) {stable : Type 0} {alike : O → O → Type 0}
+    {does : Does S T O} → Lawful stable alike does → StaysBy allowed does → {form : ErrorForm}
+    → form ≡ modal → EachSameOnLongerBy allowed (Ran reading does form) alike
+same_on_longer_by {S} {T} {L} {O} reading allowed {alike = alike} {does = does} law stays {form}
+    has s i answer t j partial may ran =
     let x : Outcome (End S T) O = outcome_of answer (t, left_of j) in
-    let did = ((c on_cut).covers s i answer t j (record { more = partial; possible = may })
-    (subst P has ran)).0 in
+    let did = ((ran_covers reading does on_cut).covers s i answer t j
+    (record { more = partial; possible = may })
+    (subst (λ f. Ran reading does f s i answer t j) has ran)).0 in
     record {
       same = λ final more may_follow flag other u k also.
-          let Q : ErrorForm → Type 0 = λ f. meaning f s (with_more i more flag) other u k in
           let y : Outcome (End S T) O = outcome_of other (u, left_of k) in
-          let did2 = ((c (grown flag)).covers s (with_more i more flag) other u k
-          (record { more = refl; possible = may }) (subst Q has also)).0 in
+          let did2 = ((ran_covers reading does (grown flag)).covers s (with_more i more flag) other
+          u k (record { more = refl; possible = may })
+          (subst (λ f. Ran reading does f s (with_more i more flag) other u k) has also)).0 in
           subst (λ z. Alike alike z y) (longer_outcome more answer (t, left_of j))
           (law.one (grown flag) s (extend more (left_of i)) (longer more x) y
           (stays more flag s (left_of i) x may_follow
           (final_outcome answer (t, left_of j) final) did) did2);
     }
 
--- `bits`, around a stable parser: more bytes are added.
-pub bits_on_longer : {S L O : Type 0} (reading : Reading ℕ L) (meaning : Meaning S Bool O)
-    {stable : Type 0} {alike : O → O → Type 0} {does : Does S Bool O}
-    → ((at : Setting) → Covers at (meaning at.form) does) → Lawful stable alike does → stable
-    → {form : ErrorForm} → form ≡ modal
-    → EachSameOnLongerBy BytesCounted (BitsOfBytesRuns reading form (meaning form)) alike
-bits_on_longer reading meaning c law is =
-    same_on_longer_by BytesCounted (λ form. BitsOfBytesRuns reading form (meaning form))
-    (λ at. bits_of_bytes_covered reading (c (inside at))) (bits_of_bytes_law reading law)
-    (λ more flag s w x counted final did.
-    bits_stay reading law is more flag s w x counted final did)
-
 -- `bytes`, around a stable parser: the bits of more whole bytes are added.
-pub bytes_on_longer : {S L O : Type 0} (reading : Reading ℕ L) (meaning : Meaning S ℕ O)
-    → ((form : ErrorForm) → LeaveEnds reading (meaning form)) → {stable : Type 0}
-    {alike : O → O → Type 0} {does : Does S ℕ O}
-    → ((at : Setting) → Covers at (meaning at.form) does) → Lawful stable alike does → stable
-    → {form : ErrorForm} → form ≡ modal
-    → EachSameOnLongerBy WholeBytesCounted
-    (BytesOfBitsRuns (bits_reading reading) form (meaning form)) alike
-bytes_on_longer {S} {O = O} reading meaning ends {does = does} c law is =
-    let R = bits_reading reading in
-    same_on_longer_by WholeBytesCounted (λ form. BytesOfBitsRuns R form (meaning form))
-    (λ at. bytes_of_bits_covered reading (ends at.form) (c (inside at)))
-    (bytes_of_bits_law R law)
-    (λ more flag s w x allowed final did.
+pub whole_bytes_stay : {S L O : Type 0} (reading : Reading Bool L) {stable : Type 0}
+    {alike : O → O → Type 0} {does : Does S ℕ O} → Lawful stable alike does → stable
+    → StaysBy WholeBytesCounted (BytesOfBitsDoes reading does)
+whole_bytes_stay reading {does = does} law is more flag s w x allowed final did =
     let P : List Bool → Type 0 =
-    λ m. BytesOfBitsDoes R does (grown flag) s (extend m w) (longer m x) in
+    λ m. BytesOfBitsDoes reading does (grown flag) s (extend m w) (longer m x) in
     let bytes = allowed.known in
-    subst P (sym bytes.2) (bytes_stay R law is bytes.0 flag s w x bytes.1
-    (omega (arith, allowed.fits, ap (λ l. length l) bytes.2, length_bits bytes.0)) final did))
+    subst P (sym bytes.2) (bytes_stay reading law is bytes.0 flag s w x bytes.1
+    (omega (arith, allowed.fits, ap (λ l. length l) bytes.2, length_bits bytes.0)) final did)

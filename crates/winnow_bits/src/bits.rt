@@ -1,11 +1,11 @@
 //! Parsers of bits, as winnow's documentation has them.
 #![tactic(auto, using(streams::specs::Ends::ends_follow))]
 
+ghost use Rattle.parser_definitions.specs.BitBool.{BitBoolDoes};
+ghost use Rattle.parser_definitions.specs.Does.{Ran};
 ghost use Rattle.std.specs.Prelude.{◌≡◌};
 ghost use Rattle.stream_bits.specs.BitReading.{bits_reading};
 ghost use Rattle.stream_errors.specs.Form.{answer_by};
-ghost use Rattle.streams.specs.Input.{IsEndOf};
-ghost use Rattle.winnow_bits.specs.BitBool.{BitBoolRuns};
 ghost use Rattle.winnow_bits.specs.BitTake.{bit_take_count};
 
 mod fields;
@@ -106,11 +106,9 @@ where
 pub fn bool<Input: ByteStream + StreamIsPartial, Error: ParserError<Bits<Input>>>(
     input: &mut Bits<Input>,
 ) -> Result<bool, Error>
-    ensures ran { BitBoolRuns (bits_reading Input.reading) Error.form
-        (⟦<Bits<Input> as Stream>⟧.view input.old) (answer_by Error.kind result)
-        (⟦<Bits<Input> as Stream>⟧.view input.new) }
-    ensures ends { IsEndOf (bits_reading Input.reading) (⟦<Bits<Input> as Stream>⟧.view input.new)
-        (⟦<Bits<Input> as Stream>⟧.view input.old) }
+    ensures { Ran (bits_reading Input.reading) (BitBoolDoes (bits_reading Input.reading))
+        Error.form (tt {0}) (⟦<Bits<Input> as Stream>⟧.view input.old)
+        (answer_by Error.kind result) (tt {0}) (⟦<Bits<Input> as Stream>⟧.view input.new) }
 {
     if !input.is_possible() {
         return Err(Error::assert(input, "bits that cannot be read"));

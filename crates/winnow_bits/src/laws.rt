@@ -1,8 +1,9 @@
 //! Laws of the parsers of bits, each proved by a function that does nothing.
+ghost use Rattle.parser_definitions.specs.Does.{Ran};
 ghost use Rattle.std.specs.Prelude.{◌≡◌};
 ghost use Rattle.stream_bits.specs.BitReading.{bits_reading};
 ghost use Rattle.stream_errors.specs.Form.{modal};
-ghost use Rattle.winnow_bits.specs.BitLaws.{StaysOnError, TakesFirstBits};
+ghost use Rattle.winnow_bits.specs.BitLaws.{TakesFirstBits};
 ghost use Rattle.winnow_bits.specs.Longer.{BytesCounted, EachSameOnLongerBy, WholeBytesCounted};
 
 use crate::bits::BitOutput;
@@ -13,28 +14,6 @@ use stream_errors::parser_error::ParserError;
 use streams::byte_stream::ByteStream;
 use streams::stream::StreamIsPartial;
 use winnow_core::parser::Parser;
-
-/// After an error of [`bits`](crate::bits::bits) the input is unchanged.
-pub fn bits_resets_the_input_on_errors<
-    I: ByteStream + Copy,
-    P: Parser<Bits<I>, O, E>,
-    O: Drop,
-    E: ParserError<Bits<I>> + ErrorConvert<F>,
-    F: ParserError<I>,
->()
-    ensures { StaysOnError (⟦<BitsParser<P, I, O, E, F> as Parser<I, O, F>>⟧.meaning F.form) }
-{}
-
-/// After an error of [`bytes`](crate::bits::bytes) the input is unchanged.
-pub fn bytes_resets_the_input_on_errors<
-    I: ByteStream + Copy,
-    P: Parser<I, O, E>,
-    O,
-    E: ParserError<I> + ErrorConvert<F>,
-    F: ParserError<Bits<I>>,
->()
-    ensures { StaysOnError (⟦<Bytes<P, I, O, E, F> as Parser<Bits<I>, O, F>>⟧.meaning F.form) }
-{}
 
 /// A final result of [`bits`](crate::bits::bits) on partial input, around a stable parser, is also
 /// the result on every longer input of at most `usize::MAX / 8` bytes, whose bits can be counted,
@@ -49,7 +28,8 @@ pub fn longer_inputs_get_partial_results_of_bits<
 >()
     ensures { F.form ≡ modal → P.terms.premise → P.terms.stable
         → EachSameOnLongerBy BytesCounted
-        (⟦<BitsParser<P, I, O, E, F> as Parser<I, O, F>>⟧.meaning F.form) P.terms.alike }
+        (Ran I.reading ⟦<BitsParser<P, I, O, E, F> as Parser<I, O, F>>⟧.does F.form)
+        P.terms.alike }
 {}
 
 /// A final result of [`bytes`](crate::bits::bytes) on partial input, around a stable parser, is
@@ -65,7 +45,8 @@ pub fn longer_inputs_get_partial_results_of_bytes<
 >()
     ensures { F.form ≡ modal → P.terms.premise → P.terms.stable
         → EachSameOnLongerBy WholeBytesCounted
-        (⟦<Bytes<P, I, O, E, F> as Parser<Bits<I>, O, F>>⟧.meaning F.form) P.terms.alike }
+        (Ran (bits_reading I.reading)
+        ⟦<Bytes<P, I, O, E, F> as Parser<Bits<I>, O, F>>⟧.does F.form) P.terms.alike }
 {}
 
 /// [`take`](crate::bits::take) returns the number of the first bits, as many as requested; these
@@ -76,5 +57,5 @@ pub fn taken_bits_and_the_rest_are_the_input<
     E: ParserError<Bits<I>>,
 >()
     ensures { TakesFirstBits O.number (bits_reading I.reading)
-        (⟦<Take<I, O, E> as Parser<Bits<I>, O, E>>⟧.meaning E.form) }
+        (Ran (bits_reading I.reading) ⟦<Take<I, O, E> as Parser<Bits<I>, O, E>>⟧.does E.form) }
 {}

@@ -1,67 +1,62 @@
 -- The statements of the laws of integers.
-use Rattle.std.specs.Prelude.{◌≡◌, ℕ, List, ◌++◌, length, reverse, Ok}
+use Rattle.std.specs.Prelude.{◌≡◌, ⊤, ℕ, List, ◌++◌, length, reverse}
 use Rattle.std.proofs.Common.{refl, sym, ap, ◌∙◌, arith, inl, inr, length-append}
 use Rattle.std.proofs.lemmas.List.{length-reverse, reverse-reverse}
 use Rattle.streams.specs.ByteStream.{CountsBytes}
-use Rattle.streams.specs.Input.{Input}
 use Rattle.streams.specs.Reading.{Reading}
-use Rattle.stream_errors.specs.Form.{Answer, ErrorForm}
-use Rattle.winnow_core.specs.Runs.{Keeps}
-use Rattle.winnow_integers.specs.Integer.{IntegerRuns}
+use Rattle.parser_definitions.specs.Integer.{IntegerDoes}
+use Rattle.parser_definitions.specs.Left.{End, Left}
+use Rattle.parser_definitions.specs.Outcome.{Outcome, Setting}
 use Rattle.winnow_integers.specs.Integer.Reads.{same_fronts}
 use Rattle.winnow_integers.specs.Integer.Values.{reverse_are_bytes}
 use Rattle.winnow_integers.specs.IntegerLaws.{with_tokens, ReadsReversed}
 
-module _ {S O : Type 0} (width : ℕ) (reading : Reading ℕ S) (counts : CountsBytes reading)
-    (form : ErrorForm) where
-  turned : (v w : List ℕ → O) → ((bytes : List ℕ) → v bytes ≡ w (reverse bytes))
-      → (i k : Input ℕ) (bytes rest : List ℕ) (answer : Answer O) (j : Input ℕ)
-      → i.left.tokens ≡ bytes ++ rest → k.left.tokens ≡ reverse bytes ++ rest
-      → k.left.place ≡ i.left.place → k.left.possible ≡ i.left.possible → k.status ≡ i.status
-      → length bytes ≡ width → IntegerRuns width v reading form i answer j
-      → IntegerRuns width w reading form k answer j
-  turned v w same i k bytes rest answer j at_i at_k place possible status as_many
-      (inl (taken, many, are, passes, e)) =
-      let fronts = same_fronts bytes taken rest j.left.tokens (sym at_i ∙ passes.tokens)
+module _ {S O : Type 0} (width : ℕ) (reading : Reading ℕ S) (counts : CountsBytes reading) where
+  turned : (v u : List ℕ → O) → ((bytes : List ℕ) → v bytes ≡ u (reverse bytes))
+      → (at : Setting) (w k : Left ℕ) (bytes rest : List ℕ) (x : Outcome (End ⊤ ℕ) O)
+      → w.tokens ≡ bytes ++ rest → k.tokens ≡ reverse bytes ++ rest → k.place ≡ w.place
+      → k.recorded ≡ w.recorded → length bytes ≡ width
+      → IntegerDoes width (λ (_ : ⊤). v) reading at tt w x
+      → IntegerDoes width (λ (_ : ⊤). u) reading at tt k x
+  turned v u same at w k bytes rest x at_w at_k place recorded as_many
+      (inl (o, end, (taken, many, are, passed, is), e)) =
+      let fronts = same_fronts bytes taken rest end.tokens (sym at_w ∙ passed.tokens)
       (as_many ∙ sym many) in
       inl (
-        reverse taken,
-        length-reverse taken ∙ many,
-        reverse_are_bytes taken are,
-        record {
-          tokens = at_k ∙ ap (λ l. reverse l ++ rest) (sym fronts.0)
-              ∙ ap (λ l. reverse taken ++ l) (sym fronts.1);
-          place = passes.place
-              ∙ ap (λ p. reading.advance p (reading.units taken)) (sym place)
-              ∙ ap (λ n. reading.advance k.left.place n) (counts.units taken
-              ∙ sym (length-reverse taken) ∙ sym (counts.units (reverse taken)));
-          possible = passes.possible ∙ sym possible;
-          status = passes.status ∙ sym status;
-        },
-        e ∙ ap Ok (same taken),
+        o,
+        end,
+        (
+          reverse taken,
+          length-reverse taken ∙ many,
+          reverse_are_bytes taken are,
+          record {
+            tokens = at_k ∙ ap (λ l. reverse l ++ rest) (sym fronts.0)
+                ∙ ap (λ l. reverse taken ++ l) (sym fronts.1);
+            place = passed.place
+                ∙ ap (λ p. reading.advance p (reading.units taken)) (sym place)
+                ∙ ap (λ n. reading.advance k.place n) (counts.units taken
+                ∙ sym (length-reverse taken) ∙ sym (counts.units (reverse taken)));
+            recorded = passed.recorded ∙ sym recorded;
+          },
+          is ∙ same taken,
+        ),
+        e,
       )
-  turned v w same i k bytes rest answer j at_i at_k place possible status as_many
-      (inr (l, few, kind, e, stays)) =
+  turned v u same at w k bytes rest x at_w at_k place recorded as_many (inr (few, e)) =
       let total = length-append bytes rest in
-      absurd (omega (arith, few, as_many, ap (λ l. length l) at_i, total))
+      absurd (omega (arith, few, as_many, ap (λ l. length l) at_w, total))
 
   -- a value of the bytes in the other order is read so
   pub reads_reversed : (value : List ℕ → O)
       → ReadsReversed width
-      (Keeps (λ _. IntegerRuns width (λ bytes. value (reverse bytes)) reading form))
-      (Keeps (λ _. IntegerRuns width value reading form))
-  reads_reversed value i bytes rest answer j begins as_many = (
-    λ ran. (
-      turned (λ l. value (reverse l)) value (λ l. refl) i
-          (with_tokens (reverse bytes ++ rest) i) bytes rest answer j begins refl refl refl refl
-          as_many ran.0,
-      refl,
-    ),
-    λ ran. (
-      turned value (λ l. value (reverse l)) (λ l. ap value (sym (reverse-reverse l)))
-          (with_tokens (reverse bytes ++ rest) i) i (reverse bytes) rest answer j refl
-          (begins ∙ ap (λ l. l ++ rest) (sym (reverse-reverse bytes))) refl refl refl
-          (length-reverse bytes ∙ as_many) ran.0,
-      refl,
-    ),
-  )
+      (IntegerDoes width (λ (_ : ⊤). λ bytes. value (reverse bytes)) reading)
+      (IntegerDoes width (λ (_ : ⊤). value) reading)
+  reads_reversed value at w bytes rest x begins as_many =
+      let k = with_tokens (reverse bytes ++ rest) w in (
+        λ d. turned (λ l. value (reverse l)) value (λ l. refl) at w k bytes rest x begins refl
+            refl refl as_many d,
+        λ d. turned value (λ l. value (reverse l)) (λ l. ap value (sym (reverse-reverse l))) at k w
+            (reverse bytes) rest x refl
+            (begins ∙ ap (λ l. l ++ rest) (sym (reverse-reverse bytes))) refl refl
+            (length-reverse bytes ∙ as_many) d,
+      )

@@ -11,7 +11,6 @@ use Rattle.winnow_integers.specs.declared.binary.endianness.Endianness.{Endianne
 use Rattle.winnow_integers.specs.declared.binary.endianness.Endianness.TheVariants.{Big, Little}
 use Rattle.winnow_integers.specs.declared.binary.endianness.Endianness.TheVariants.{Native}
 use Rattle.winnow_core.specs.Short.{ShortKind}
-pub mod Inversion
 pub mod Laws
 pub mod Reads
 pub mod Std

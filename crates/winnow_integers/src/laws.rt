@@ -20,28 +20,28 @@ pub fn little_endian_is_big_endian_of_the_reversed_bytes<I, E>()
 where
     I: StreamIsPartial + ByteStream,
     E: ParserError<I>,
-    ensures unsigned_8 { ReadsReversed 1 (⟦<LeU8 as Parser<I, u8, E>>⟧.meaning E.form)
-        (⟦<BeU8 as Parser<I, u8, E>>⟧.meaning E.form) }
-    ensures unsigned_16 { ReadsReversed 2 (⟦<LeU16 as Parser<I, u16, E>>⟧.meaning E.form)
-        (⟦<BeU16 as Parser<I, u16, E>>⟧.meaning E.form) }
-    ensures unsigned_24 { ReadsReversed 3 (⟦<LeU24 as Parser<I, u32, E>>⟧.meaning E.form)
-        (⟦<BeU24 as Parser<I, u32, E>>⟧.meaning E.form) }
-    ensures unsigned_32 { ReadsReversed 4 (⟦<LeU32 as Parser<I, u32, E>>⟧.meaning E.form)
-        (⟦<BeU32 as Parser<I, u32, E>>⟧.meaning E.form) }
-    ensures unsigned_64 { ReadsReversed 8 (⟦<LeU64 as Parser<I, u64, E>>⟧.meaning E.form)
-        (⟦<BeU64 as Parser<I, u64, E>>⟧.meaning E.form) }
-    ensures unsigned_128 { ReadsReversed 16 (⟦<LeU128 as Parser<I, u128, E>>⟧.meaning E.form)
-        (⟦<BeU128 as Parser<I, u128, E>>⟧.meaning E.form) }
-    ensures signed_8 { ReadsReversed 1 (⟦<LeI8 as Parser<I, i8, E>>⟧.meaning E.form)
-        (⟦<BeI8 as Parser<I, i8, E>>⟧.meaning E.form) }
-    ensures signed_16 { ReadsReversed 2 (⟦<LeI16 as Parser<I, i16, E>>⟧.meaning E.form)
-        (⟦<BeI16 as Parser<I, i16, E>>⟧.meaning E.form) }
-    ensures signed_24 { ReadsReversed 3 (⟦<LeI24 as Parser<I, i32, E>>⟧.meaning E.form)
-        (⟦<BeI24 as Parser<I, i32, E>>⟧.meaning E.form) }
-    ensures signed_32 { ReadsReversed 4 (⟦<LeI32 as Parser<I, i32, E>>⟧.meaning E.form)
-        (⟦<BeI32 as Parser<I, i32, E>>⟧.meaning E.form) }
-    ensures signed_64 { ReadsReversed 8 (⟦<LeI64 as Parser<I, i64, E>>⟧.meaning E.form)
-        (⟦<BeI64 as Parser<I, i64, E>>⟧.meaning E.form) }
-    ensures signed_128 { ReadsReversed 16 (⟦<LeI128 as Parser<I, i128, E>>⟧.meaning E.form)
-        (⟦<BeI128 as Parser<I, i128, E>>⟧.meaning E.form) }
+    ensures unsigned_8 { ReadsReversed 1 ⟦<LeU8 as Parser<I, u8, E>>⟧.does
+        ⟦<BeU8 as Parser<I, u8, E>>⟧.does }
+    ensures unsigned_16 { ReadsReversed 2 ⟦<LeU16 as Parser<I, u16, E>>⟧.does
+        ⟦<BeU16 as Parser<I, u16, E>>⟧.does }
+    ensures unsigned_24 { ReadsReversed 3 ⟦<LeU24 as Parser<I, u32, E>>⟧.does
+        ⟦<BeU24 as Parser<I, u32, E>>⟧.does }
+    ensures unsigned_32 { ReadsReversed 4 ⟦<LeU32 as Parser<I, u32, E>>⟧.does
+        ⟦<BeU32 as Parser<I, u32, E>>⟧.does }
+    ensures unsigned_64 { ReadsReversed 8 ⟦<LeU64 as Parser<I, u64, E>>⟧.does
+        ⟦<BeU64 as Parser<I, u64, E>>⟧.does }
+    ensures unsigned_128 { ReadsReversed 16 ⟦<LeU128 as Parser<I, u128, E>>⟧.does
+        ⟦<BeU128 as Parser<I, u128, E>>⟧.does }
+    ensures signed_8 { ReadsReversed 1 ⟦<LeI8 as Parser<I, i8, E>>⟧.does
+        ⟦<BeI8 as Parser<I, i8, E>>⟧.does }
+    ensures signed_16 { ReadsReversed 2 ⟦<LeI16 as Parser<I, i16, E>>⟧.does
+        ⟦<BeI16 as Parser<I, i16, E>>⟧.does }
+    ensures signed_24 { ReadsReversed 3 ⟦<LeI24 as Parser<I, i32, E>>⟧.does
+        ⟦<BeI24 as Parser<I, i32, E>>⟧.does }
+    ensures signed_32 { ReadsReversed 4 ⟦<LeI32 as Parser<I, i32, E>>⟧.does
+        ⟦<BeI32 as Parser<I, i32, E>>⟧.does }
+    ensures signed_64 { ReadsReversed 8 ⟦<LeI64 as Parser<I, i64, E>>⟧.does
+        ⟦<BeI64 as Parser<I, i64, E>>⟧.does }
+    ensures signed_128 { ReadsReversed 16 ⟦<LeI128 as Parser<I, i128, E>>⟧.does
+        ⟦<BeI128 as Parser<I, i128, E>>⟧.does }
 {}

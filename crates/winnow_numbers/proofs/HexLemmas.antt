@@ -15,8 +15,9 @@ use Rattle.std.specs.Char.{digit_value}
 use Rattle.std.specs.List.{All, AllByRecursion}
 use Rattle.std.specs.Prelude.{IsTrue, ◌↔◌, max, ◌-◌}
 use Rattle.std.specs.Str.Parse.{AllDigits, digits_value}
-use Rattle.streams.specs.Equal.{same_rest, true_is_false}
-use Rattle.streams.specs.Input.{Input, Takes}
+use Rattle.streams.specs.Equal.{true_is_false}
+use Rattle.streams.specs.Input.{Input}
+use Rattle.streams.specs.Input.{Takes}
 use Rattle.streams.specs.Kind.{Kind, backtrack}
 use Rattle.streams.specs.Reading.{Reading, units-nil, units-zero}
 use Rattle.streams.specs.Stream.{AnswersSeen}
@@ -26,10 +27,17 @@ use Rattle.stream_sets.specs.declared.range.Range.{Range}
 use Rattle.stream_sets.specs.Range.{bounds_of, from_to}
 use Rattle.parser_definitions.specs.Digits.{AreCharacters, IsIn, NoneFirst, SomeFirst, value_in}
 use Rattle.parser_definitions.specs.Digits.{value_is}
-use Rattle.winnow_token.specs.TakeWhile.{IsEnded, TakeWhileRuns}
+use Rattle.parser_definitions.specs.Does.{Ran}
+use Rattle.parser_definitions.specs.Inversion.Outcomes.{fails_at, fails_by, lacks_at, lacks_none}
+use Rattle.parser_definitions.specs.Inversion.Outcomes.{same_took}
+use Rattle.parser_definitions.specs.Left.{Left, left_of}
+use Rattle.parser_definitions.specs.Members.{IsEnded}
+use Rattle.parser_definitions.specs.Passed.{Passed}
+use Rattle.parser_definitions.specs.TakeWhile.{TakeWhileDoes}
 use Rattle.stream_sets.specs.Longest.{IsLongest}
 use Rattle.winnow_numbers.specs.HexUint.{HexUintRuns}
 use Rattle.winnow_numbers.proofs.DecimalRuns.{spelled}
+use Rattle.winnow_numbers.proofs.LeftLemmas.{passes_from, same_input}
 use Rattle.winnow_numbers.proofs.NumeralLemmas.{numbers_of}
 
 hex_low : (c : ℕ) → IsHexDigit c → digit_value c < 16
@@ -73,22 +81,26 @@ pub hex_all : (bytes : List ℕ) (n : ℕ) → n ≡ digits_value 16 (take (leng
 hex_all bytes n e = e ∙ ap (digits_value 16) (take-length bytes) ∙ value_is 16 bytes
 
 -- a take by the range from 1 to the number of digits that a type holds
-pub hex_runs : {K T S : Type 0} (seen : K → T) (code : K → ℕ) (reading : Reading T S)
-    (form : ErrorForm) (i : Input T) (answer : Answer S) (j : Input T) (r s : Range)
-    (least most greatest nibbles : ℕ) → r ≡ s
+pub hex_runs : {K T S V : Type 0} (seen : K → T) (code : K → ℕ) (reading : Reading T S)
+    (form : ErrorForm) (v : V) (i : Input T) (answer : Answer S) (u : Range × V) (j : Input T)
+    (r s : Range) (least most greatest nibbles : ℕ) → r ≡ s
     → s ≡ record { start_inclusive = least; end_inclusive = Some most } → least ≡ 1
     → most ≡ greatest → greatest ≡ nibbles
-    → TakeWhileRuns reading form (AnswersSeen seen (λ x b. IsTrue b ↔ IsHexDigit (code x)))
-    (bounds_of r) i answer j
-    → TakeWhileRuns reading form (AnswersSeen seen (λ x b. IsTrue b ↔ IsHexDigit (code x)))
-    (from_to 1 (Some nibbles)) i answer j
-hex_runs seen code reading form i answer j r s least most greatest nibbles p q one to holds ran =
+    → Ran reading (TakeWhileDoes reading
+    (λ (x : Range × V). AnswersSeen seen (λ y b. IsTrue b ↔ IsHexDigit (code y)))
+    (λ x. bounds_of x.0)) form (r, v) i answer u j
+    → Ran reading (TakeWhileDoes reading
+    (λ (x : Range × V). AnswersSeen seen (λ y b. IsTrue b ↔ IsHexDigit (code y)))
+    (λ x. from_to 1 (Some nibbles))) form (r, v) i answer u j
+hex_runs {V = V} seen code reading form v i answer u j r s least most greatest nibbles p q one to
+    holds ran =
     let make : ℕ → ℕ → Range =
     λ x y. record { start_inclusive = x; end_inclusive = Some y } in
     let same : r ≡ make 1 nibbles =
     p ∙ q ∙ ap (λ x. make x most) one ∙ ap (λ y. make 1 y) (to ∙ holds) in
-    subst (λ (x : Range). TakeWhileRuns reading form
-    (AnswersSeen seen (λ y b. IsTrue b ↔ IsHexDigit (code y))) (bounds_of x) i answer j) same ran
+    subst (λ (z : Range). Ran reading (TakeWhileDoes reading
+    (λ (x : Range × V). AnswersSeen seen (λ y b. IsTrue b ↔ IsHexDigit (code y)))
+    (λ x. bounds_of z)) form (r, v) i answer u j) same ran
 
 -- a count of the units left tells whether any token is
 pub tells_empty : {T S : Type 0} (reading : Reading T S) (full cut : Bool) (tokens : List T)
@@ -158,20 +170,30 @@ module _ {K T S : Type 0} (seen : K → T) (code : K → ℕ) (reading : Reading
   same_length (t ∷ ts) [] chars = absurd chars
   same_length (t ∷ ts) (c ∷ cs) chars = ap suc (same_length ts cs chars.1)
 
-  pub hex_takes : (form : ErrorForm) (i : Input T) (slice : S) (j : Input T)
-      → TakeWhileRuns reading form Member (from_to 1 (Some most)) i (Ok slice) j
-      → TakesHex i slice j
-  hex_takes form i slice j (inl (greatest, is, below, e, same)) = absurd cc
-  hex_takes form i slice j (inr (inl (within, still_open, is_cut, e, same))) = absurd cc
-  hex_takes form i slice j
-      (inr (inr (inl (front, rest, taken, within, longest, ended, enough, takes, e)))) =
+  -- a take of them
+  abbrev pub DigitsRan : {X : Type 0} → ErrorForm → X → Input T → Answer S → X → Input T → Type 0
+  DigitsRan {X} form =
+      Ran reading (TakeWhileDoes reading (λ (x : X). Member) (λ x. from_to 1 (Some most))) form
+
+  pub hex_takes : {X : Type 0} (form : ErrorForm) (x : X) (i : Input T) (slice : S) (y : X)
+      (j : Input T) → DigitsRan form x i (Ok slice) y j → TakesHex i slice j
+  hex_takes form x i slice y j (end, cut, possible, inl ((greatest, is, below), e)) =
+      absurd (let bound : most ≡ greatest = cc in omega arith)
+  hex_takes form x i slice y j (end, cut, possible, inr (within, inl (may, e))) =
+      lacks_none form i.status.cut _ _ _ _ e
+  hex_takes form x i slice y j (
+    end,
+    cut,
+    possible,
+    inr (within, inr (inl (taken, rest, (front, (longest, ended), enough, shown, p), e))),
+  ) =
       let numbers = numbers_of seen code reading IsHexDigit front longest.members in
       let long = same_length front numbers.0 numbers.1 in
-      let slices : taken ≡ slice = cc in
-      let left : rest ≡ j.left.tokens =
-      same_rest front rest j.left.tokens (sym longest.splits ∙ takes.passed.tokens) in
-      let cut : i.status.cut ≡ j.status.cut = ap (λ x. x.cut) (sym takes.passed.status) in
-      let P : S → Type 0 = λ x. Takes reading front i x j in
+      let told = same_took e in
+      let rests : left_of j ≡ rest = ap (λ end. end.1) told.1 in
+      let left : rest.tokens ≡ j.left.tokens = ap (λ l. l.tokens) (sym rests) in
+      let O : S → Type 0 = λ x. reading.shows x front in
+      let P : Left T → Type 0 = λ l. Passed reading front (left_of i) l in
       let Q : List T → Type 0 = λ l. NoneFirst seen code IsHexDigit l in
       let R : Bool → Type 0 = λ b. (b ≡ false) ⊎ (length front ≡ most) in
       let U : ℕ → Type 0 = λ n. (j.status.cut ≡ false) ⊎ (n ≡ most) in
@@ -179,19 +201,22 @@ module _ {K T S : Type 0} (seen : K → T) (code : K → ℕ) (reading : Reading
       record {
         front = front;
         digits = numbers.0;
-        takes = subst P slices takes;
+        takes = record {
+          shown = subst O (sym told.0) shown;
+          passed = passes_from i j (subst P (sym rests) p) cut possible;
+        };
         chars = numbers.1;
         are = numbers.2;
         members = inside front longest.members;
         long = long;
         least = omega arith;
         few = omega (arith, most_few);
-        stops = λ few. subst Q left (stops_at front rest i.left.tokens longest (omega arith));
+        stops = λ few. subst Q left
+            (stops_at front rest.tokens i.left.tokens longest (omega arith));
         ended = λ none. subst U (sym long)
-            (subst R cut (ended_at front rest i.status.cut ended (left ∙ none)));
+            (subst R (sym cut) (ended_at front rest.tokens i.status.cut ended (left ∙ none)));
       }
-  hex_takes form i slice j
-      (inr (inr (inr (front, rest, within, longest, ended, few, e, same)))) = absurd cc
+  hex_takes form x i slice y j (end, cut, possible, inr (within, inr (inr (few, e)))) = absurd cc
 
   none_front : (front rest tokens : List T) (cut : Bool)
       → IsLongest Member (Some most) tokens front rest → length front < 1
@@ -205,28 +230,41 @@ module _ {K T S : Type 0} (seen : K → T) (code : K → ℕ) (reading : Reading
       )
   none_front (t ∷ ts) rest tokens cut longest few ended = absurd (omega arith)
 
-  pub hex_missing : {N : Type 0} (number : N → ℕ) (form : ErrorForm) (i : Input T) (k : Kind)
-      (j : Input T) → TakeWhileRuns reading form Member (from_to 1 (Some most)) i (Err k) j
+  pub hex_missing : {N X : Type 0} (number : N → ℕ) (form : ErrorForm) (x : X) (i : Input T)
+      (k : Kind) (y : X) (j : Input T) → DigitsRan form x i (Err k) y j
       → HexUintRuns number most seen code reading form i (Err k) j
-  hex_missing number form i k j (inl (greatest, is, below, e, same)) =
+  hex_missing number form x i k y j (end, cut, possible, inl ((greatest, is, below), e)) =
       absurd (let bound : most ≡ greatest = cc in omega arith)
-  hex_missing number form i k j (inr (inl (within, still_open, is_cut, e, same))) =
+  hex_missing number form x i k y j
+      (end, cut, possible, inr (within, inl ((still_open, more), e))) =
       let need : max (1 - reading.units i.left.tokens) 1 ≡ 1 = omega arith in
-      let kind : k ≡ incomplete_kind form (Some (max (1 - reading.units i.left.tokens) 1)) = cc in
+      let told = lacks_at form i.status.cut _ _ (fails_by e (fails_at {O = S} k (y, left_of j))) in
+      let kind : k ≡ incomplete_kind form (Some (max (1 - reading.units i.left.tokens) 1)) =
+      elim told.0 [ inl c ↦ c.1 | inr c ↦ true_is_false (sym more ∙ c.0) ] in
       inr (inl (
         inside i.left.tokens still_open.0,
         omega (arith, still_open.1),
-        is_cut,
+        more,
         ap (λ x. Err x) (kind ∙ ap (λ n. incomplete_kind form (Some n)) need),
-        same,
+        same_input i j (sym told.1) cut possible,
       ))
-  hex_missing number form i k j
-      (inr (inr (inl (front, rest, taken, within, longest, ended, enough, takes, e)))) = absurd cc
-  hex_missing number form i k j
-      (inr (inr (inr (front, rest, within, longest, ended, few, e, same)))) =
+  hex_missing number form x i k y j
+      (end, cut, possible, inr (within, inr (inl (taken, rest, some, e)))) =
+      absurd (fails_by e (fails_at {O = S} k (y, left_of j))).is
+  hex_missing number form x i k y j (
+    end,
+    cut,
+    possible,
+    inr (within, inr (inr ((front, rest, (longest, ended), few), e))),
+  ) =
       let none = none_front front rest i.left.tokens i.status.cut longest few ended in
-      let kind : k ≡ backtrack = cc in
-      inr (inr (inl (none.0, none.1, ap (λ x. Err x) kind, same)))
+      let told = (fails_by e (fails_at {O = S} k (y, left_of j))).is in
+      inr (inr (inl (
+        none.0,
+        none.1,
+        ap (λ x. Err x) told.0,
+        same_input i j (sym told.1) cut possible,
+      )))
 
   pub hex_over : {N : Type 0} (number : N → ℕ) (form : ErrorForm) (i : Input T) (slice : S)
       (j : Input T) (k : Kind) (m : Input T) (taken : TakesHex i slice j)

@@ -5,4 +5,5 @@ mod FirstLemmas
 mod FirstNumeral
 mod HexLemmas
 mod LaneLemmas
+mod LeftLemmas
 mod NumeralLemmas

@@ -5,18 +5,24 @@ use Rattle.std.proofs.Common.{arith}
 use Rattle.std.specs.List.{All, AllByRecursion}
 use Rattle.std.proofs.lemmas.List.Elements.{All-head, All-tail, All-weaker}
 use Rattle.std.specs.Prelude.{IsTrue, ◌↔◌, max, ◌-◌}
-use Rattle.streams.specs.Equal.{same_rest}
+use Rattle.streams.specs.Equal.{true_is_false}
 use Rattle.streams.specs.Input.{Input, IsEndOf, Passes, Remaining, Takes, back_at, passed_again}
 use Rattle.streams.specs.Kind.{Kind, backtrack}
 use Rattle.streams.specs.Reading.{Reading}
 use Rattle.streams.specs.Stream.{AnswersSeen, Cuts, IsBoundary}
-use Rattle.stream_errors.specs.Form.{ErrorForm, incomplete_kind, plain, modal}
+use Rattle.stream_errors.specs.Form.{Answer, ErrorForm, incomplete_kind, plain, modal}
 use Rattle.stream_sets.specs.AsChar.{IsDecDigit}
 use Rattle.parser_definitions.specs.Digits.{AreCharacters, IsIn, NoneFirst}
 use Rattle.parser_definitions.specs.Numeral.{IsLeadingDigit, IsSign, is_none}
-use Rattle.winnow_token.specs.TakeWhile.{IsEnded}
+use Rattle.parser_definitions.specs.Members.{IsEnded}
 use Rattle.stream_sets.specs.Longest.{IsLongest}
-use Rattle.winnow_ascii.specs.Class.{ClassRuns}
+use Rattle.parser_definitions.specs.Class.{ClassDoes}
+use Rattle.parser_definitions.specs.Does.{Ran}
+use Rattle.parser_definitions.specs.Inversion.Outcomes.{fails_at, fails_by, lacks_at, lacks_none}
+use Rattle.parser_definitions.specs.Inversion.Outcomes.{same_took}
+use Rattle.parser_definitions.specs.Left.{Left, left_of}
+use Rattle.parser_definitions.specs.Passed.{Passed}
+use Rattle.winnow_numbers.proofs.LeftLemmas.{passes_from, same_input}
 use Rattle.winnow_numbers.specs.Numeral.{DigitsRuns, LacksDigits, NoDigits, NoNumeral, NumeralRuns}
 use Rattle.winnow_numbers.specs.Numeral.{SignRuns, left_by}
 use Rattle.winnow_numbers.specs.Numeral.Inversion.{digits_front, numeral_front, passes_two}
@@ -76,27 +82,36 @@ module _ {K T S : Type 0} (seen : K → T) (code : K → ℕ) (reading : Reading
       × AreCharacters seen code front others × AllByRecursion IsDecDigit others
       × NoneFirst seen code IsDecDigit j.left.tokens × (j.left.tokens ≡ [] → j.status.cut ≡ false)
 
-  pub more_digits : (form : ErrorForm) (a : Input T) (slice : S) (j : Input T)
-      → ClassRuns IsDecDigit 0 code seen reading form a (Ok slice) j → MoreDigits a j
-  more_digits form a slice j (inl (most, is, below, e, same)) = absurd cc
-  more_digits form a slice j (inr (inl (within, still_open, is_cut, e, same))) = absurd cc
-  more_digits form a slice j
-      (inr (inr (inl (front, rest, taken, within, longest, ended, enough, takes, e)))) =
+  -- a take of any number of digits
+  abbrev pub DigitsTaken : {X : Type 0} → ErrorForm → X → Input T → Answer S → X → Input T → Type 0
+  DigitsTaken {X} form = Ran reading (ClassDoes {S = X} IsDecDigit 0 code seen reading) form
+
+  pub more_digits : {X : Type 0} (form : ErrorForm) (x : X) (a : Input T) (slice : S) (y : X)
+      (j : Input T) → DigitsTaken form x a (Ok slice) y j → MoreDigits a j
+  more_digits form x a slice y j (end, cut, possible, inl ((most, is, below), e)) = absurd cc
+  more_digits form x a slice y j (end, cut, possible, inr (within, inl (may, e))) =
+      lacks_none form a.status.cut _ _ _ _ e
+  more_digits form x a slice y j (
+    end,
+    cut,
+    possible,
+    inr (within, inr (inl (taken, rest, (front, (longest, ended), enough, shown, p), e))),
+  ) =
       let numbers = numbers_of IsDecDigit front longest.members in
-      let left : rest ≡ j.left.tokens =
-      same_rest front rest j.left.tokens (sym longest.splits ∙ takes.passed.tokens) in
-      let cut : a.status.cut ≡ j.status.cut = ap (λ x. x.cut) (sym takes.passed.status) in
-      let P : List T → Type 0 = λ l. NoneFirst seen code IsDecDigit l in (
+      let rests : left_of j ≡ rest = ap (λ end. end.1) (same_took e).1 in
+      let left : rest.tokens ≡ j.left.tokens = ap (λ l. l.tokens) (sym rests) in
+      let P : List T → Type 0 = λ l. NoneFirst seen code IsDecDigit l in
+      let Q : Left T → Type 0 = λ l. Passed reading front (left_of a) l in (
         front,
         numbers.0,
-        takes.passed,
+        passes_from a j (subst Q (sym rests) p) cut possible,
         numbers.1,
         numbers.2,
-        subst P left (none_first IsDecDigit front rest a.left.tokens longest),
-        λ none. sym cut ∙ ended_whole IsDecDigit front rest a.status.cut ended (left ∙ none),
+        subst P left (none_first IsDecDigit front rest.tokens a.left.tokens longest),
+        λ none. cut
+            ∙ ended_whole IsDecDigit front rest.tokens a.status.cut ended (left ∙ none),
       )
-  more_digits form a slice j
-      (inr (inr (inr (front, rest, within, longest, ended, few, e, same)))) = absurd cc
+  more_digits form x a slice y j (end, cut, possible, inr (within, inr (inr (few, e)))) = absurd cc
 
   -- the input is partial, and has only digits
   abbrev pub OnlyDigits : ErrorForm → Input T → Kind → Input T → Type 0
@@ -111,21 +126,25 @@ module _ {K T S : Type 0} (seen : K → T) (code : K → ℕ) (reading : Reading
       (λ t. AnswersSeen seen (λ x b. IsTrue b ↔ IsDecDigit (code x)) t true)
       (IsIn seen code IsDecDigit) (λ t told. (told.0, told.1, told.2.0 refl)) tokens all
 
-  pub only_digits : (form : ErrorForm) (a : Input T) (k : Kind) (j : Input T)
-      → ClassRuns IsDecDigit 0 code seen reading form a (Err k) j → OnlyDigits form a k j
-  only_digits form a k j (inl (most, is, below, e, same)) = absurd cc
-  only_digits form a k j (inr (inl (within, still_open, is_cut, e, same))) =
+  pub only_digits : {X : Type 0} (form : ErrorForm) (x : X) (a : Input T) (k : Kind) (y : X)
+      (j : Input T) → DigitsTaken form x a (Err k) y j → OnlyDigits form a k j
+  only_digits form x a k y j (end, cut, possible, inl ((most, is, below), e)) = absurd cc
+  only_digits form x a k y j
+      (end, cut, possible, inr (within, inl ((still_open, more), e))) =
       let need : max (0 - reading.units a.left.tokens) 1 ≡ 1 = omega arith in
-      let kind : k ≡ incomplete_kind form (Some (max (0 - reading.units a.left.tokens) 1)) = cc in (
+      let told = lacks_at form a.status.cut _ _ (fails_by e (fails_at {O = S} k (y, left_of j))) in
+      let kind : k ≡ incomplete_kind form (Some (max (0 - reading.units a.left.tokens) 1)) =
+      elim told.0 [ inl c ↦ c.1 | inr c ↦ true_is_false (sym more ∙ c.0) ] in (
         digits_of a.left.tokens still_open.0,
-        is_cut,
+        more,
         kind ∙ ap (λ n. incomplete_kind form (Some n)) need,
-        same,
+        same_input a j (sym told.1) cut possible,
       )
-  only_digits form a k j
-      (inr (inr (inl (front, rest, taken, within, longest, ended, enough, takes, e)))) = absurd cc
-  only_digits form a k j
-      (inr (inr (inr (front, rest, within, longest, ended, few, e, same)))) =
+  only_digits form x a k y j
+      (end, cut, possible, inr (within, inr (inl (taken, rest, some, e)))) =
+      absurd (fails_by e (fails_at {O = S} k (y, left_of j))).is
+  only_digits form x a k y j
+      (end, cut, possible, inr (within, inr (inr ((front, rest, (longest, ended), few), e)))) =
       absurd (omega arith)
 
   -- after a first digit more are passed,

@@ -1,4 +1,4 @@
--- Numbers are covered.
+-- The calls of the parsers of numbers have the outcomes of their definitions.
 use Rattle.std.specs.Prelude.{◌≡◌, ℕ, Bool, List, Some, Err}
 use Rattle.std.proofs.Common.{refl, sym, ap, subst, inl, inr, ◌∙◌}
 use Rattle.streams.specs.Input.{Input}
@@ -14,13 +14,10 @@ use Rattle.parser_definitions.specs.Outcome.{Setting, outcome_of}
 use Rattle.parser_definitions.specs.Outcome.{setting_of}
 use Rattle.winnow_numbers.specs.HexUint.{HexUintRuns}
 use Rattle.winnow_numbers.specs.Number.{NumberRuns}
-use Rattle.winnow_numbers.specs.Number.Laws.{number_ends}
 use Rattle.winnow_numbers.specs.Numeral.{DigitsRuns, LacksDigits, NoDigits, NoNumeral, NumeralRuns}
 use Rattle.winnow_numbers.specs.Numeral.{SignRuns, left_by}
 use Rattle.winnow_numbers.specs.Numeral.Inversion.{sign_status}
-use Rattle.winnow_core.specs.Runs.{Keeps}
-use Rattle.winnow_numbers.specs.HexUint.Laws.{hex_uint_ends}
-use Rattle.winnow_core.specs.Covers.{Covers, gave, kept_covered, left_at}
+use Rattle.winnow_core.specs.Covers.{gave, left_at}
 use Rattle.winnow_core.specs.Covers.Leaves.{passed_of, short}
 
 -- ---- decimal numbers
@@ -109,7 +106,7 @@ module _ {K T L : Type 0} (seen : K → T) (code : K → ℕ) (reading : Reading
             inl (empty, sym (flag_kept signed i sign a first) ∙ whole)
         by (inr other) = inr other
 
-    number_ran : {S N V : Type 0} (s : S) (g : Numbers N V) (i : Input T) (answer : Answer N)
+    pub number_ran : {S N V : Type 0} (s : S) (g : Numbers N V) (i : Input T) (answer : Answer N)
         (j : Input T) → NumberRuns g seen code reading form i answer j
         → NumberDoes g seen code reading (setting_of form i) s (left_of i)
         (outcome_of answer (s, left_of j))
@@ -133,7 +130,7 @@ module _ {K T L : Type 0} (seen : K → T) (code : K → ℕ) (reading : Reading
 -- ---- hexadecimal numbers
 
 module _ {S : Type 0} (s : S) (form : ErrorForm) where
-  hex_ran : {N K T L : Type 0} (number : N → ℕ) (most : ℕ) (seen : K → T) (code : K → ℕ)
+  pub hex_ran : {N K T L : Type 0} (number : N → ℕ) (most : ℕ) (seen : K → T) (code : K → ℕ)
       (reading : Reading T L) (i : Input T) (answer : Answer N) (j : Input T)
       → HexUintRuns number most seen code reading form i answer j
       → HexUintDoes number most seen code reading (setting_of form i) s (left_of i)
@@ -171,24 +168,3 @@ module _ {S : Type 0} (s : S) (form : ErrorForm) where
         inr (f, t, rest, split, are, many, is),
         gave (s, left_of j) e ∙ left_at s (Err backtrack) same,
       ))
-
-module _ {S : Type 0} {at : Setting} where
-  pub hex_uint_covered : {N K T L : Type 0} (number : N → ℕ) (most : ℕ) (seen : K → T)
-      (code : K → ℕ) (reading : Reading T L)
-      → Covers {S = S} at (Keeps (λ s. HexUintRuns number most seen code reading at.form))
-      (HexUintDoes number most seen code reading)
-  hex_uint_covered number most seen code reading =
-      kept_covered reading (λ s. HexUintRuns number most seen code reading at.form)
-      (HexUintDoes number most seen code reading) at
-      (λ s i a j r. hex_ran s at.form number most seen code reading i a j r)
-      (λ s i a j r. hex_uint_ends number most seen code reading at.form i a j r)
-
-  pub number_covered : {N V K T L : Type 0} (g : Numbers N V) (seen : K → T) (code : K → ℕ)
-      (reading : Reading T L)
-      → Covers {S = S} at (Keeps (λ s. NumberRuns g seen code reading at.form))
-      (NumberDoes g seen code reading)
-  number_covered g seen code reading =
-      kept_covered reading (λ s. NumberRuns g seen code reading at.form)
-      (NumberDoes g seen code reading) at
-      (λ s i a j r. number_ran seen code reading at.form s g i a j r)
-      (λ s i a j r. number_ends g seen code reading at.form i a j r)

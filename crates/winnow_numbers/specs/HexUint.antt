@@ -8,7 +8,6 @@ use Rattle.streams.specs.Reading.{Reading}
 use Rattle.stream_errors.specs.Form.{ErrorForm, Answer, incomplete_kind}
 use Rattle.stream_sets.specs.AsChar.{IsHexDigit}
 use Rattle.parser_definitions.specs.Digits.{AreCharacters, IsIn, NoneFirst, value_in}
-pub mod Laws
 
 -- A run of the parser of a hexadecimal number. Values of its type have the numbers `number`, and
 -- the type holds at most `most` digits.

@@ -6,7 +6,6 @@ use Rattle.streams.specs.Reading.{Reading}
 use Rattle.stream_errors.specs.Form.{ErrorForm, Answer}
 use Rattle.parser_definitions.specs.Number.{Numbers}
 use Rattle.winnow_numbers.specs.Numeral.{NumeralRuns, NoNumeral}
-pub mod Laws
 
 -- A run of the parser of such a number.
 abbrev pub NumberRuns : {N V K T S : Type 0} → Numbers N V → (K → T) → (K → ℕ) → Reading T S

@@ -10,7 +10,6 @@ use Rattle.stream_sets.specs.AsChar.{IsDecDigit}
 use Rattle.parser_definitions.specs.Digits.{AreCharacters, IsIn, NoneFirst}
 use Rattle.parser_definitions.specs.Numeral.{IsLeadingDigit, IsSign, is_none}
 pub mod Inversion
-pub mod Laws
 pub mod Signed
 pub mod Texts
 pub mod Written

@@ -12,33 +12,23 @@ use Rattle.stream_sets.specs.Longest.{IsLongest}
 use Rattle.grammars.specs.Grammar.Searches.Unique.{match_before}
 use Rattle.winnow_token.specs.Any.{AnyRuns}
 use Rattle.winnow_token.specs.OneOf.{OneOfRuns}
-use Rattle.winnow_token.specs.Take.{TakeRuns}
 use Rattle.winnow_token.specs.TakeWhile.{TakeWhileRuns}
 use Rattle.winnow_token.specs.TakeUntil.{TakeUntilRuns}
 use Rattle.winnow_token.specs.Rest.{RestRuns, RestLenRuns}
 use Rattle.parser_definitions.specs.Any.{AnyDoes}
 use Rattle.parser_definitions.specs.OneOf.{OneOfDoes}
-use Rattle.parser_definitions.specs.Take.{TakeDoes}
 use Rattle.parser_definitions.specs.TakeWhile.{TakeWhileDoes}
 use Rattle.parser_definitions.specs.TakeUntil.{TakeUntilDoes}
 use Rattle.parser_definitions.specs.Rest.{RestDoes, RestLenDoes}
 use Rattle.parser_definitions.specs.Left.{left_of}
-use Rattle.parser_definitions.specs.Outcome.{Setting, lacks, outcome_of}
+use Rattle.parser_definitions.specs.Outcome.{lacks, outcome_of}
 use Rattle.parser_definitions.specs.Outcome.{setting_of}
 use Rattle.parser_definitions.specs.Members.{missing_of}
-use Rattle.winnow_core.specs.Ends.{same_ends}
-use Rattle.winnow_core.specs.Runs.{Keeps}
-use Rattle.winnow_token.specs.Any.Laws.{any_ends}
-use Rattle.winnow_token.specs.OneOf.Laws.{one_of_ends}
-use Rattle.winnow_token.specs.Rest.Laws.{rest_ends}
-use Rattle.winnow_token.specs.Take.Laws.{take_ends}
-use Rattle.winnow_token.specs.TakeWhile.Laws.{take_while_ends}
-use Rattle.winnow_token.specs.TakeUntil.Laws.{take_until_ends}
-use Rattle.winnow_core.specs.Covers.{Covers, gave, kept_covered, left_at}
+use Rattle.winnow_core.specs.Covers.{gave, left_at}
 use Rattle.winnow_core.specs.Covers.Leaves.{passed_of, short, misuse}
 
 module _ {S : Type 0} (s : S) (form : ErrorForm) where
-  any_ran : {K T L : Type 0} (seen : K → T) (reading : Reading T L) (i : Input T)
+  pub any_ran : {K T L : Type 0} (seen : K → T) (reading : Reading T L) (i : Input T)
       (answer : Answer K) (j : Input T)
       → AnyRuns seen reading form i answer j
       → AnyDoes seen reading (setting_of form i) s (left_of i) (outcome_of answer (s, left_of j))
@@ -51,34 +41,21 @@ module _ {S : Type 0} (s : S) (form : ErrorForm) where
             ∙ short form (Some 1) i k (s, left_of i) kind,
       )
 
-  take_ran : {T L : Type 0} (reading : Reading T L) (counts : Bool) (count : S → ℕ)
-      (i : Input T) (answer : Answer L) (j : Input T)
-      → TakeRuns reading form counts (count s) i answer j
-      → TakeDoes reading counts count (setting_of form i) s (left_of i)
-      (outcome_of answer (s, left_of j))
-  take_ran reading counts count i answer j (inl (f, v, many, t, e)) =
-      inl (v, left_of j, (f, many, t.shown, passed_of t.passed), gave (s, left_of j) e)
-  take_ran reading counts count i answer j (inr (k, few, kind, e, same)) =
-      inr (
-        few,
-        gave (s, left_of j) e ∙ left_at s (Err k) same
-            ∙ short form _ i k (s, left_of i) kind,
-      )
-
-  rest_ran : {T L : Type 0} (reading : Reading T L) (i : Input T) (answer : Answer L) (j : Input T)
+  pub rest_ran : {T L : Type 0} (reading : Reading T L) (i : Input T) (answer : Answer L)
+      (j : Input T)
       → RestRuns reading i answer j
       → RestDoes reading (setting_of form i) s (left_of i) (outcome_of answer (s, left_of j))
   rest_ran reading i answer j (v, t, none, e) =
       (v, left_of j, (t.shown, passed_of t.passed, none), gave (s, left_of j) e)
 
-  rest_len_ran : {T L : Type 0} (reading : Reading T L) (i : Input T) (answer : Answer ℕ)
+  pub rest_len_ran : {T L : Type 0} (reading : Reading T L) (i : Input T) (answer : Answer ℕ)
       (j : Input T)
       → RestLenRuns reading i answer j
       → RestLenDoes reading (setting_of form i) s (left_of i) (outcome_of answer (s, left_of j))
   rest_len_ran reading i answer j (e, same) =
       (reading.units i.left.tokens, left_of j, (refl, ap left_of same), gave (s, left_of j) e)
 
-  one_of_ran : {K T L : Type 0} (seen : K → T) (reading : Reading T L)
+  pub one_of_ran : {K T L : Type 0} (seen : K → T) (reading : Reading T L)
       (tells : S → K → Bool → Type 0) (i : Input T) (answer : Answer K) (j : Input T)
       → OneOfRuns seen reading form (tells s) i answer j
       → OneOfDoes seen reading tells (setting_of form i) s (left_of i)
@@ -94,7 +71,7 @@ module _ {S : Type 0} (s : S) (form : ErrorForm) where
             ∙ short form (Some 1) i k (s, left_of i) kind,
       ))
 
-  take_while_ran : {T L : Type 0} (reading : Reading T L) (member : S → T → Bool → Type 0)
+  pub take_while_ran : {T L : Type 0} (reading : Reading T L) (member : S → T → Bool → Type 0)
       (bounds : S → Bounds) (i : Input T) (answer : Answer L) (j : Input T)
       → TakeWhileRuns reading form (member s) (bounds s) i answer j
       → TakeWhileDoes reading member bounds (setting_of form i) s (left_of i)
@@ -154,7 +131,7 @@ module _ {S : Type 0} (s : S) (form : ErrorForm) where
             )),
       )
 
-  take_until_ran : {T L : Type 0} (reading : Reading T L) (sought : S → List T → Type 0)
+  pub take_until_ran : {T L : Type 0} (reading : Reading T L) (sought : S → List T → Type 0)
       (bounds : S → Bounds) (i : Input T) (answer : Answer L) (j : Input T)
       → TakeUntilRuns reading form (sought s) (bounds s) i answer j
       → TakeUntilDoes reading sought bounds (setting_of form i) s (left_of i)
@@ -244,60 +221,3 @@ module _ {S : Type 0} (s : S) (form : ErrorForm) where
           gave (s, left_of j) e ∙ left_at s (Err backtrack) same,
         )),
       )
-
-module _ {S : Type 0} {at : Setting} where
-  pub any_covered : {K T L : Type 0} (seen : K → T) (reading : Reading T L)
-      → Covers {S = S} at (Keeps (λ s. AnyRuns seen reading at.form)) (AnyDoes seen reading)
-  any_covered seen reading = kept_covered reading (λ s. AnyRuns seen reading at.form)
-      (AnyDoes seen reading) at (λ s i a j r. any_ran s at.form seen reading i a j r)
-      (λ s i a j r. any_ends seen reading at.form i a j r)
-
-  pub one_of_covered : {K T L : Type 0} (seen : K → T) (reading : Reading T L)
-      (tells : S → K → Bool → Type 0)
-      → Covers at (Keeps (λ s. OneOfRuns seen reading at.form (tells s)))
-      (OneOfDoes seen reading tells)
-  one_of_covered seen reading tells =
-      kept_covered reading (λ s. OneOfRuns seen reading at.form (tells s))
-      (OneOfDoes seen reading tells) at
-      (λ s i a j r. one_of_ran s at.form seen reading tells i a j r)
-      (λ s i a j r. one_of_ends seen reading at.form (tells s) i a j r)
-
-  pub take_covered : {T L : Type 0} (reading : Reading T L) (counts : Bool) (count : S → ℕ)
-      → Covers at (Keeps (λ s. TakeRuns reading at.form counts (count s)))
-      (TakeDoes reading counts count)
-  take_covered reading counts count =
-      kept_covered reading (λ s. TakeRuns reading at.form counts (count s))
-      (TakeDoes reading counts count) at
-      (λ s i a j r. take_ran s at.form reading counts count i a j r)
-      (λ s i a j r. take_ends reading at.form counts (count s) i a j r)
-
-  pub rest_covered : {T L : Type 0} (reading : Reading T L)
-      → Covers {S = S} at (Keeps (λ s. RestRuns reading)) (RestDoes reading)
-  rest_covered reading = kept_covered reading (λ s. RestRuns reading) (RestDoes reading) at
-      (λ s i a j r. rest_ran s at.form reading i a j r) (λ s i a j r. rest_ends reading i a j r)
-
-  pub rest_len_covered : {T L : Type 0} (reading : Reading T L)
-      → Covers {S = S} at (Keeps (λ s. RestLenRuns reading)) (RestLenDoes reading)
-  rest_len_covered reading = kept_covered reading (λ s. RestLenRuns reading)
-      (RestLenDoes reading) at (λ s i a j r. rest_len_ran s at.form reading i a j r)
-      (λ s i a j r. same_ends reading i j r.1)
-
-  pub take_while_covered : {T L : Type 0} (reading : Reading T L)
-      (member : S → T → Bool → Type 0) (bounds : S → Bounds)
-      → Covers at (Keeps (λ s. TakeWhileRuns reading at.form (member s) (bounds s)))
-      (TakeWhileDoes reading member bounds)
-  take_while_covered reading member bounds =
-      kept_covered reading (λ s. TakeWhileRuns reading at.form (member s) (bounds s))
-      (TakeWhileDoes reading member bounds) at
-      (λ s i a j r. take_while_ran s at.form reading member bounds i a j r)
-      (λ s i a j r. take_while_ends reading at.form (member s) (bounds s) i a j r)
-
-  pub take_until_covered : {T L : Type 0} (reading : Reading T L)
-      (sought : S → List T → Type 0) (bounds : S → Bounds)
-      → Covers at (Keeps (λ s. TakeUntilRuns reading at.form (sought s) (bounds s)))
-      (TakeUntilDoes reading sought bounds)
-  take_until_covered reading sought bounds =
-      kept_covered reading (λ s. TakeUntilRuns reading at.form (sought s) (bounds s))
-      (TakeUntilDoes reading sought bounds) at
-      (λ s i a j r. take_until_ran s at.form reading sought bounds i a j r)
-      (λ s i a j r. take_until_ends reading at.form (sought s) (bounds s) i a j r)

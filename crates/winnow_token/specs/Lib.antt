@@ -2,6 +2,7 @@
 pub mod Any
 pub mod Before
 pub mod Covers
+pub mod Elsewhere
 pub mod Literal
 pub mod Members
 pub mod NoneOf

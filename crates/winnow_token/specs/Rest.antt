@@ -3,7 +3,6 @@ use Rattle.std.specs.Prelude.{◌≡◌, ℕ, [], Ok}
 use Rattle.streams.specs.Input.{Input, Takes}
 use Rattle.streams.specs.Reading.{Reading}
 use Rattle.stream_errors.specs.Form.{Answer}
-pub mod Laws
 
 -- A call that takes all remaining input, partial or complete.
 abbrev pub RestRuns : {T S : Type 0} → Reading T S → Input T → Answer S → Input T → Type 0

@@ -9,8 +9,6 @@ use Rattle.stream_errors.specs.Form.{ErrorForm, Answer, assert_kind}
 use Rattle.winnow_core.specs.Short.{ShortKind}
 use Rattle.stream_sets.specs.declared.range.Range.{Range}
 use Rattle.winnow_token.specs.declared.token.impls.take_until.TakeUntil.{TakeUntil}
-pub mod Inversion
-pub mod Laws
 
 -- how many tokens may precede the literal
 abbrev pub take_until_occurrences : {T I E : Type 0} → TakeUntil T I E → Range

@@ -11,8 +11,6 @@ use Rattle.stream_sets.specs.Range.{Bounds, IsBelow, IsWithin}
 use Rattle.stream_sets.specs.declared.range.Range.{Range}
 use Rattle.stream_errors.specs.Form.{ErrorForm, Answer, incomplete_kind, assert_kind}
 use Rattle.winnow_token.specs.declared.token.impls.take_while.TakeWhile.{TakeWhile}
-pub mod Inversion
-pub mod Laws
 
 -- how many tokens are taken
 abbrev pub take_while_occurrences : {S I E : Type 0} → TakeWhile S I E → Range

@@ -1,4 +1,5 @@
 //! Laws of parsers that are not stable, each proved by a function that does nothing.
+ghost use Rattle.parser_definitions.specs.Does.{Ran};
 ghost use Rattle.std.specs.Prelude.{[], ◌∷◌};
 ghost use Rattle.stream_errors.specs.Form.{modal};
 ghost use Rattle.winnow_core.specs.Longer.{EachSameOnLonger};
@@ -13,7 +14,7 @@ use winnow_core::parser::Parser;
 pub fn rest_is_not_stable<I: Stream, E: ParserError<I>>()
     ensures { (none one : I.Slice) (x : I.Seen) → I.reading.shows none []
         → I.reading.shows one (x ∷ [])
-        → EachSameOnLonger (⟦<Rest as Parser<I, I::Slice, E>>⟧.meaning modal)
+        → EachSameOnLonger (Ran I.reading ⟦<Rest as Parser<I, I::Slice, E>>⟧.does modal)
         ⟦<Rest as Parser<I, I::Slice, E>>⟧.terms.alike → ⊥ }
 {}
 
@@ -23,6 +24,6 @@ pub fn rest_is_not_stable<I: Stream, E: ParserError<I>>()
 pub fn complete_err_is_not_stable<I: StreamIsPartial, E: ParserError<I>>()
     ensures { I.Token
         → EachSameOnLonger
-        (⟦<CompleteErr<Any, I, I::Token, E> as Parser<I, I::Token, E>>⟧.meaning modal)
+        (Ran I.reading ⟦<CompleteErr<Any, I, I::Token, E> as Parser<I, I::Token, E>>⟧.does modal)
         ⟦<CompleteErr<Any, I, I::Token, E> as Parser<I, I::Token, E>>⟧.terms.alike → ⊥ }
 {}

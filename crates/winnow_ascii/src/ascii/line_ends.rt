@@ -1,11 +1,11 @@
 //! Parsers of line endings, and of the text before one.
-ghost use Rattle.std.specs.Prelude.{MatchResult};
+ghost use Rattle.std.specs.Prelude.{MatchResult, ⊤};
+ghost use Rattle.parser_definitions.specs.Does.{Ran};
+ghost use Rattle.parser_definitions.specs.LineEnding.{NewlineDoes, TabDoes};
 ghost use Rattle.stream_errors.specs.Form.{answer_by};
 ghost use Rattle.streams.specs.Input.{IsEndOf};
 ghost use Rattle.winnow_ascii.specs.Crlf.{CrlfRuns};
 ghost use Rattle.winnow_ascii.specs.LineEnding.{LineEndingRuns};
-ghost use Rattle.winnow_ascii.specs.Newline.{NewlineRuns};
-ghost use Rattle.winnow_ascii.specs.Tab.{TabRuns};
 ghost use Rattle.winnow_ascii.specs.TillLineEnding.{LacksLineEnd, LineRuns, TillLineEndingRuns};
 
 use stream_errors::parser_error::ParserError;
@@ -60,9 +60,8 @@ pub fn newline<Input, Error>(input: &mut Input) -> Result<char, Error>
 where
     Input: StreamIsPartial + Compare<char>,
     Error: ParserError<Input>,
-    ensures ran { NewlineRuns Input.spells Input.reading Error.form (Input.view input.old)
-        (answer_by Error.kind result) (Input.view input.new) }
-    ensures ends { IsEndOf Input.reading (Input.view input.new) (Input.view input.old) }
+    ensures ran { Ran {S = ⊤} Input.reading (NewlineDoes Input.reading Input.spells) Error.form tt
+        (Input.view input.old) (answer_by Error.kind result) tt (Input.view input.new) }
 {
     '\n'.parse_next(input)
 }
@@ -85,9 +84,8 @@ pub fn tab<Input, Error>(input: &mut Input) -> Result<char, Error>
 where
     Input: StreamIsPartial + Compare<char>,
     Error: ParserError<Input>,
-    ensures ran { TabRuns Input.spells Input.reading Error.form (Input.view input.old)
-        (answer_by Error.kind result) (Input.view input.new) }
-    ensures ends { IsEndOf Input.reading (Input.view input.new) (Input.view input.old) }
+    ensures ran { Ran {S = ⊤} Input.reading (TabDoes Input.reading Input.spells) Error.form tt
+        (Input.view input.old) (answer_by Error.kind result) tt (Input.view input.new) }
 {
     '\t'.parse_next(input)
 }

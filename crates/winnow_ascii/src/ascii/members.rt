@@ -1,10 +1,10 @@
 //! Takes of the members of a class.
-ghost use Rattle.std.specs.Prelude.{None};
+ghost use Rattle.std.specs.Prelude.{None, ⊤};
+ghost use Rattle.parser_definitions.specs.Does.{Ran};
+ghost use Rattle.parser_definitions.specs.TakeWhile.{TakeWhileDoes};
 ghost use Rattle.stream_errors.specs.Form.{answer_by};
 ghost use Rattle.stream_sets.specs.Range.{from_to};
-ghost use Rattle.streams.specs.Input.{IsEndOf};
 ghost use Rattle.streams.specs.Stream.{AnswersSeen};
-ghost use Rattle.winnow_token.specs.TakeWhile.{TakeWhileRuns};
 
 use stream_errors::parser_error::ParserError;
 use stream_sets::sets::ContainsToken;
@@ -19,10 +19,9 @@ pub(crate) fn any_of<S: ContainsToken<I::Token> + Drop, I: StreamIsPartial, E: P
     set: S,
 ) -> Result<I::Slice, E>
     requires { S.can_test set }
-    ensures ran { TakeWhileRuns I.reading E.form (AnswersSeen I.seen_as (S.tells set))
-        (from_to 0 None)
-        (I.view input.old) (answer_by E.kind result) (I.view input.new) }
-    ensures ends { IsEndOf I.reading (I.view input.new) (I.view input.old) }
+    ensures ran { Ran {S = ⊤} I.reading (TakeWhileDoes I.reading
+        (λ _. AnswersSeen I.seen_as (S.tells set)) (λ _. from_to 0 None)) E.form tt
+        (I.view input.old) (answer_by E.kind result) tt (I.view input.new) }
 {
     take_while::<_, I, E, _>(0.., set).parse_next(input)
 }
@@ -34,10 +33,9 @@ pub(crate) fn some_of<S: ContainsToken<I::Token> + Drop, I: StreamIsPartial, E: 
     set: S,
 ) -> Result<I::Slice, E>
     requires { S.can_test set }
-    ensures ran { TakeWhileRuns I.reading E.form (AnswersSeen I.seen_as (S.tells set))
-        (from_to 1 None)
-        (I.view input.old) (answer_by E.kind result) (I.view input.new) }
-    ensures ends { IsEndOf I.reading (I.view input.new) (I.view input.old) }
+    ensures ran { Ran {S = ⊤} I.reading (TakeWhileDoes I.reading
+        (λ _. AnswersSeen I.seen_as (S.tells set)) (λ _. from_to 1 None)) E.form tt
+        (I.view input.old) (answer_by E.kind result) tt (I.view input.new) }
 {
     take_while::<_, I, E, _>(1.., set).parse_next(input)
 }

@@ -1,20 +1,53 @@
 -- Lemmas for callers about one call of `take` of bits.
-use Rattle.std.specs.Prelude.{ℕ, Bool, Ok}
-use Rattle.std.proofs.Common.{refl, sym, subst, inl, inr}
-use Rattle.streams.specs.Input.{Input}
+use Rattle.std.specs.Prelude.{◌≡◌, ℕ, Bool, true, false, List, ◌++◌, Option, Some, Ok}
+use Rattle.std.proofs.Common.{ap, sym, inl, inr, ◌∙◌}
+use Rattle.streams.specs.Input.{Input, Status}
+use Rattle.streams.specs.Kind.{Kind}
 use Rattle.streams.specs.Reading.{Reading}
-use Rattle.stream_errors.specs.Form.{ErrorForm}
-use Rattle.stream_errors.specs.Form.Inversion.{ok_is_err, same_ok}
+use Rattle.stream_errors.specs.Form.{ErrorForm, modal, plain}
 use Rattle.stream_bits.specs.Within.{ReadsNumber}
-use Rattle.winnow_bits.specs.BitTake.{BitTakeRuns}
+use Rattle.parser_definitions.specs.BitTake.{BitTakeDoes}
+use Rattle.parser_definitions.specs.Does.{Ran}
+use Rattle.parser_definitions.specs.Left.{left_of}
+use Rattle.parser_definitions.specs.Outcome.{lacks_by, misused_by, took}
+
+pub took_is_misused : {L O P : Type 0} (form : ErrorForm) {o : O} {k : L} (l : L)
+    → took o k ≡ misused_by form l → P
+took_is_misused modal l e = absurd (cc)
+took_is_misused plain l e = absurd (cc)
+
+pub took_is_lacks : {L O P : Type 0} (form : ErrorForm) (more : Bool) (need : Option ℕ) {o : O}
+    {k : L} (l : L) → took o k ≡ lacks_by form more need l → P
+took_is_lacks modal true need l e = absurd (cc)
+took_is_lacks modal false need l e = absurd (cc)
+took_is_lacks plain more need l e = absurd (cc)
+
+pub same_took : {L O : Type 0} {o p : O} {k l : L} → took o k ≡ took p l → (o ≡ p) × (k ≡ l)
+same_took e = (cc, cc)
 
 -- the first bits are taken, and are the number
 pub bit_take_ok : {O L : Type 0} (number : O → ℕ) (width : ℕ) (reading : Reading Bool L)
-    (form : ErrorForm) (n : ℕ) (i : Input Bool) (o : O) (j : Input Bool)
-    → BitTakeRuns number width reading form n i (Ok o) j → ReadsNumber reading n i (number o) j
-bit_take_ok number width reading form n i o j (inl (p, fits, where_, reads, e)) =
-    let P : _ → Type 0 = λ x. ReadsNumber reading n i (number x) j in
-    subst P (sym (same_ok refl e)) reads
-bit_take_ok number width reading form n i o j (inr (inl (cannot, e, same))) = ok_is_err refl e
-bit_take_ok number width reading form n i o j
-    (inr (inr (k, fits, possible, few, kind, e, same))) = ok_is_err refl e
+    (form : ErrorForm) (n : ℕ) (i : Input Bool) (o : O) (m : ℕ) (j : Input Bool)
+    → Ran reading (BitTakeDoes number width reading) form n i (Ok o) m j
+    → ReadsNumber reading n i (number o) j
+bit_take_ok number width reading form n i o m j
+    (ends, more, can, inl (p, rest, (fits, here, bits, many, is, q), e)) =
+    let (same, ending) = same_took e in
+    let left : left_of j ≡ rest = ap (λ l. l.1) ending in
+    let make : Bool → List Kind → Status = λ c r. record { cut = c; recorded = r } in
+    record {
+      bits = bits;
+      as_many = many;
+      number = ap number same ∙ is;
+      passes = record {
+        tokens = q.tokens ∙ ap (λ l. bits ++ l.tokens) (sym left);
+        place = ap (λ l. l.place) left ∙ q.place;
+        possible = can;
+        status = ap (λ c. make c j.status.recorded) more
+            ∙ ap (make i.status.cut) (ap (λ l. l.recorded) left ∙ q.recorded);
+      };
+    }
+bit_take_ok number width reading form n i o m j (ends, more, can, inr (inl (cannot, e))) =
+    took_is_misused form (n, left_of i) e
+bit_take_ok number width reading form n i o m j (ends, more, can, inr (inr (few, e))) =
+    took_is_lacks form i.status.cut (Some n) (n, left_of i) e

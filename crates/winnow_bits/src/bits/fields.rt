@@ -1,12 +1,12 @@
 //! Helper functions of `take` and `pattern`.
 #![tactic(auto, using(streams::specs::Ends::ends_follow))]
 
+ghost use Rattle.parser_definitions.specs.BitTake.{BitTakeDoes};
+ghost use Rattle.parser_definitions.specs.Does.{Ran};
 ghost use Rattle.std.specs.Prelude.{◌≡◌, ◌<◌, ◌≤◌, ◌+◌, length, true};
 ghost use Rattle.stream_bits.specs.BitReading.{bits_reading};
 ghost use Rattle.stream_bits.specs.Within.{ReadsNumber};
 ghost use Rattle.stream_errors.specs.Form.{answer_by};
-ghost use Rattle.streams.specs.Input.{IsEndOf};
-ghost use Rattle.winnow_bits.specs.BitTake.{BitTakeRuns};
 
 use crate::bits::output::BitOutput;
 use stream_bits::bits::Bits;
@@ -110,17 +110,15 @@ fn take_number<I: ByteStream, O: BitOutput>(input: &mut Bits<I>, count: usize) -
     }
 }
 
-/// A run of a take of `count` bits.
+/// Takes `count` bits, as a number.
 #[inline(always)]
 pub(crate) fn take_counted<I: ByteStream + StreamIsPartial, O: BitOutput, E: ParserError<Bits<I>>>(
     input: &mut Bits<I>,
     count: usize,
 ) -> Result<O, E>
-    ensures ran { BitTakeRuns O.number O.WIDTH (bits_reading I.reading) E.form count
-        (⟦<Bits<I> as Stream>⟧.view input.old) (answer_by E.kind result)
+    ensures { Ran (bits_reading I.reading) (BitTakeDoes O.number O.WIDTH (bits_reading I.reading))
+        E.form count (⟦<Bits<I> as Stream>⟧.view input.old) (answer_by E.kind result) count
         (⟦<Bits<I> as Stream>⟧.view input.new) }
-    ensures ends { IsEndOf (bits_reading I.reading) (⟦<Bits<I> as Stream>⟧.view input.new)
-        (⟦<Bits<I> as Stream>⟧.view input.old) }
 {
     if count == 0 {
         return Ok(O::default());

@@ -3,13 +3,10 @@ use Rattle.std.specs.Prelude.{◌≡◌, ℕ, Bool, false, List, [], ◌∷◌, 
 use Rattle.std.proofs.Common.{refl, sym, ap, subst, ◌∙◌, inl, inr, arith, append_assoc}
 use Rattle.streams.specs.Equal.{same_first, same_others}
 use Rattle.streams.specs.Input.{Input, Passes}
-use Rattle.streams.specs.Kind.{Kind}
 use Rattle.streams.specs.Reading.{Reading, units-nil}
-use Rattle.stream_errors.specs.Form.{ErrorForm, modal, plain}
 use Rattle.parser_definitions.specs.Digits.{AreCharacters, characters_two, one_character}
 use Rattle.parser_definitions.specs.NumberGrammar.{AreDigits}
-use Rattle.winnow_numbers.specs.Numeral.{DigitsRuns, LacksDigits, NoNumeral, NumeralRuns, SignRuns}
-use Rattle.winnow_numbers.specs.Numeral.{left_by}
+use Rattle.winnow_numbers.specs.Numeral.{DigitsRuns, NumeralRuns, SignRuns}
 
 -- what is passed in two steps
 pub passes_two : {T S : Type 0} {reading : Reading T S} {xs ys : List T} {i a j : Input T}
@@ -68,26 +65,6 @@ module _ {K T S : Type 0} (seen : K → T) (code : K → ℕ) (reading : Reading
   pub sign_status : (signed : Bool) (i : Input T) (sign : List ℕ) (j : Input T)
       → SignRuns seen code reading signed i sign j → j.status ≡ i.status
   sign_status signed i sign j r = (sign_front signed i sign j r).1.status
-
-  pub numeral_status : (signed : Bool) (i : Input T) (sign digits : List ℕ) (j : Input T)
-      → NumeralRuns seen code reading signed i sign digits j → j.status ≡ i.status
-  numeral_status signed i sign digits j r = (numeral_front signed i sign digits j r).1.status
-
-  left_status : (form : ErrorForm) (i b : Input T) → b.status ≡ i.status
-      → (left_by form i b).status ≡ i.status
-  left_status plain i b same = refl
-  left_status modal i b same = same
-
-  lacks_status : (i b : Input T) → LacksDigits seen code reading i b → b.status ≡ i.status
-  lacks_status i b (inl (none, same)) = ap (λ z. z.status) same
-  lacks_status i b (inr (x, leads, p, all)) = p.status
-
-  pub none_status : (form : ErrorForm) (signed : Bool) (i : Input T) (k : Kind) (j : Input T)
-      → NoNumeral seen code reading form signed i k j → j.status ≡ i.status
-  none_status form signed i k j (sign, a, first, inl (b, lacks, cut, kind, at)) =
-      ap (λ z. z.status) at
-      ∙ left_status form i b (lacks_status a b lacks ∙ sign_status signed i sign a first)
-  none_status form signed i k j (sign, a, first, inr (none, kind, at)) = ap (λ z. z.status) at
 
   -- A numeral has digits, and a '0' that is the first of them is the only one.
   pub digits_are : (naught : Bool) (i : Input T) (digits : List ℕ) (j : Input T)

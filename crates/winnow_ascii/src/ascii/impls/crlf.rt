@@ -3,13 +3,9 @@ ghost use Rattle.std.specs.Prelude.{⊤, [], ◌∷◌};
 ghost use Rattle.grammars.specs.Grammar.{SpelledBy};
 ghost use Rattle.grammars.specs.Grammar.Searches.{LiterallyBytes};
 ghost use Rattle.grammars.specs.Grammar.Unique.{literally_takes};
-ghost use Rattle.winnow_core.specs.Runs.{Keeps};
-ghost use Rattle.winnow_ascii.specs.Crlf.{CrlfRuns};
-ghost use Rattle.winnow_ascii.specs.Crlf.Laws.{crlf_ends};
 ghost use Rattle.parser_definitions.specs.LineEnding.{CrlfDoes, SpellsByText, crlf_law};
 ghost use Rattle.parser_definitions.specs.Projects.Lines.{text_projects};
 ghost use Rattle.parser_definitions.specs.Spelled.{ShowSame};
-ghost use Rattle.winnow_ascii.specs.Covers.{text_covered};
 
 use crate::ascii::crlf;
 use stream_errors::parser_error::ParserError;
@@ -31,8 +27,6 @@ impl<I: StreamIsPartial + Compare<&'static str>, E: ParserError<I>> Parser<I, I:
 
     ghost state = { λ _. tt };
 
-    ghost meaning = { λ form. Keeps (λ _. CrlfRuns I.spells I.reading form) };
-
     ghost does = { CrlfDoes I.reading I.spells };
 
     ghost terms = { record {
@@ -48,11 +42,6 @@ impl<I: StreamIsPartial + Compare<&'static str>, E: ParserError<I>> Parser<I, I:
       consumes = SpelledBy I.spells (13 ∷ 10 ∷ []) [] → ⊥;
       grammar = LiterallyBytes I.reading I.spells (13 ∷ 10 ∷ []);
     } };
-
-    ghost leaves_ends = { λ form x i answer y j r. crlf_ends I.spells I.reading form i answer j
-        r.0 };
-
-    ghost covers = { λ at. text_covered I.reading I.spells (13 ∷ 10 ∷ []) };
 
     ghost lawful = { λ is. crlf_law I.reading I.spells I.same_units is };
 

@@ -6,10 +6,6 @@ ghost use Rattle.stream_sets.specs.AsChar.{IsHexDigit};
 ghost use Rattle.parser_definitions.specs.Class.{CharIsFunction, ClassDoes, class_law};
 ghost use Rattle.parser_definitions.specs.Projects.Lines.{class_claim, class_claimed};
 ghost use Rattle.parser_definitions.specs.Spelled.{ShowSame};
-ghost use Rattle.winnow_core.specs.Runs.{Keeps};
-ghost use Rattle.winnow_ascii.specs.Class.{ClassRuns};
-ghost use Rattle.winnow_ascii.specs.Class.Laws.{class_leaves};
-ghost use Rattle.winnow_ascii.specs.Covers.{class_covered};
 
 use crate::ascii::hex_digit0;
 use stream_errors::parser_error::ParserError;
@@ -33,9 +29,6 @@ where
 
     ghost state = { λ _. tt };
 
-    ghost meaning = { λ form. Keeps
-        (λ _. ClassRuns IsHexDigit 0 I.Token.code I.seen_as I.reading form) };
-
     ghost does = { ClassDoes IsHexDigit 0 I.Token.code I.seen_as I.reading };
 
     ghost terms = { record {
@@ -45,10 +38,6 @@ where
     } };
 
     ghost claim = { λ s. class_claim ⊥ IsHexDigit 0 I.Token.code I.seen_as I.reading };
-
-    ghost leaves_ends = { class_leaves IsHexDigit 0 I.Token.code I.seen_as I.reading };
-
-    ghost covers = { λ at. class_covered IsHexDigit 0 I.Token.code I.seen_as I.reading };
 
     ghost lawful = { λ is. class_law IsHexDigit 0 I.Token.code I.seen_as I.reading is };
 

@@ -3,14 +3,10 @@ ghost use Rattle.std.specs.Prelude.{⊤, ◌<◌, ◌∷◌, []};
 ghost use Rattle.grammars.specs.Grammar.{SpelledBy};
 ghost use Rattle.grammars.specs.Grammar.Searches.{LineEnd};
 ghost use Rattle.grammars.specs.Grammar.Unique.{either_takes, literally_takes};
-ghost use Rattle.winnow_core.specs.Runs.{Keeps};
-ghost use Rattle.winnow_ascii.specs.LineEnding.{LineEndingRuns};
-ghost use Rattle.winnow_ascii.specs.LineEnding.Laws.{line_ending_ends};
 ghost use Rattle.parser_definitions.specs.LineEnding.{LineEndingDoes, SpellsByText};
 ghost use Rattle.parser_definitions.specs.LineEnding.{line_ending_law};
 ghost use Rattle.parser_definitions.specs.Projects.Lines.{line_ending_projects};
 ghost use Rattle.parser_definitions.specs.Spelled.{ShowSame};
-ghost use Rattle.winnow_ascii.specs.Covers.{line_ending_covered};
 
 use crate::ascii::line_ending;
 use stream_errors::parser_error::ParserError;
@@ -32,8 +28,6 @@ impl<I: StreamIsPartial + Compare<&'static str>, E: ParserError<I>> Parser<I, I:
 
     ghost state = { λ _. tt };
 
-    ghost meaning = { λ form. Keeps (λ _. LineEndingRuns I.spells I.reading form) };
-
     ghost does = { LineEndingDoes I.reading I.spells };
 
     ghost terms = { record {
@@ -50,11 +44,6 @@ impl<I: StreamIsPartial + Compare<&'static str>, E: ParserError<I>> Parser<I, I:
           × (SpelledBy I.spells (13 ∷ 10 ∷ []) [] → ⊥);
       grammar = LineEnd I.reading I.spells;
     } };
-
-    ghost leaves_ends = { λ form x i answer y j r. line_ending_ends I.spells I.reading form i
-        answer j r.0 };
-
-    ghost covers = { λ at. line_ending_covered I.reading I.spells };
 
     ghost lawful = { λ is. line_ending_law I.reading I.spells I.same_units is };
 

@@ -2,12 +2,8 @@
 ghost use Rattle.std.specs.Prelude.{⊤, [], ◌≡◌};
 ghost use Rattle.grammars.specs.Grammar.{Literally};
 ghost use Rattle.grammars.specs.Grammar.Unique.{literally_takes};
-ghost use Rattle.winnow_core.specs.Runs.{Keeps};
-ghost use Rattle.winnow_ascii.specs.Newline.{NewlineRuns};
-ghost use Rattle.winnow_ascii.specs.Newline.Laws.{newline_ends};
 ghost use Rattle.parser_definitions.specs.LineEnding.{NewlineDoes, character_law};
 ghost use Rattle.parser_definitions.specs.Projects.Literals.{literal_projects};
-ghost use Rattle.winnow_core.specs.Covers.Leaves.{literal_covered};
 
 use crate::ascii::newline;
 use stream_errors::parser_error::ParserError;
@@ -28,8 +24,6 @@ impl<I: StreamIsPartial + Compare<char>, E: ParserError<I>> Parser<I, char, E> f
 
     ghost state = { λ _. tt };
 
-    ghost meaning = { λ form. Keeps (λ _. NewlineRuns I.spells I.reading form) };
-
     ghost does = { NewlineDoes I.reading I.spells };
 
     ghost terms = { record { premise = ⊤; stable = ⊤; alike = λ m n. m ≡ n } };
@@ -41,11 +35,6 @@ impl<I: StreamIsPartial + Compare<char>, E: ParserError<I>> Parser<I, char, E> f
       consumes = I.spells 10 [] → ⊥;
       grammar = Literally I.reading I.spells (λ s _. s) 10;
     } };
-
-    ghost leaves_ends = { λ form x i answer y j r. newline_ends I.spells I.reading form i answer
-        j r.0 };
-
-    ghost covers = { λ at. literal_covered I.reading (λ _. I.spells 10) (λ _ slice. 10) };
 
     ghost lawful = { λ _. character_law I.reading I.spells 10 (I.same_units 10) };
 

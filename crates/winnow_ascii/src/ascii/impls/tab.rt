@@ -2,12 +2,8 @@
 ghost use Rattle.std.specs.Prelude.{⊤, [], ◌≡◌};
 ghost use Rattle.grammars.specs.Grammar.{Literally};
 ghost use Rattle.grammars.specs.Grammar.Unique.{literally_takes};
-ghost use Rattle.winnow_core.specs.Runs.{Keeps};
-ghost use Rattle.winnow_ascii.specs.Tab.{TabRuns};
-ghost use Rattle.winnow_ascii.specs.Tab.Laws.{tab_ends};
 ghost use Rattle.parser_definitions.specs.LineEnding.{TabDoes, character_law};
 ghost use Rattle.parser_definitions.specs.Projects.Literals.{literal_projects};
-ghost use Rattle.winnow_core.specs.Covers.Leaves.{literal_covered};
 
 use crate::ascii::tab;
 use stream_errors::parser_error::ParserError;
@@ -28,8 +24,6 @@ impl<I: StreamIsPartial + Compare<char>, E: ParserError<I>> Parser<I, char, E> f
 
     ghost state = { λ _. tt };
 
-    ghost meaning = { λ form. Keeps (λ _. TabRuns I.spells I.reading form) };
-
     ghost does = { TabDoes I.reading I.spells };
 
     ghost terms = { record { premise = ⊤; stable = ⊤; alike = λ m n. m ≡ n } };
@@ -41,11 +35,6 @@ impl<I: StreamIsPartial + Compare<char>, E: ParserError<I>> Parser<I, char, E> f
       consumes = I.spells 9 [] → ⊥;
       grammar = Literally I.reading I.spells (λ s _. s) 9;
     } };
-
-    ghost leaves_ends = { λ form x i answer y j r. tab_ends I.spells I.reading form i answer j
-        r.0 };
-
-    ghost covers = { λ at. literal_covered I.reading (λ _. I.spells 9) (λ _ slice. 9) };
 
     ghost lawful = { λ _. character_law I.reading I.spells 9 (I.same_units 9) };
 

@@ -1,15 +1,11 @@
 //! The implementation of `till_line_ending`.
 ghost use Rattle.std.specs.Prelude.{⊤};
 ghost use Rattle.grammars.specs.Grammar.Searches.{Line};
-ghost use Rattle.winnow_core.specs.Runs.{Keeps};
-ghost use Rattle.winnow_ascii.specs.TillLineEnding.{TillLineEndingRuns};
-ghost use Rattle.winnow_ascii.specs.TillLineEnding.Laws.{till_line_ending_ends};
 ghost use Rattle.parser_definitions.specs.LineEnding.{SpellsByText};
 ghost use Rattle.parser_definitions.specs.Projects.Lines.{till_line_ending_projects};
 ghost use Rattle.parser_definitions.specs.TillLineEnding.{SeeksSome, SpellsOne, TillLineEndingDoes};
 ghost use Rattle.parser_definitions.specs.TillLineEnding.{till_line_ending_law};
 ghost use Rattle.parser_definitions.specs.Spelled.{ShowSame};
-ghost use Rattle.winnow_ascii.specs.Covers.{till_line_ending_covered};
 
 use crate::ascii::till_line_ending;
 use stream_errors::parser_error::ParserError;
@@ -34,8 +30,6 @@ impl<
 
     ghost state = { λ _. tt };
 
-    ghost meaning = { λ form. Keeps (λ _. TillLineEndingRuns I.spells I.sought I.reading form) };
-
     ghost does = { TillLineEndingDoes I.reading I.spells I.sought };
 
     ghost terms = { record {
@@ -51,11 +45,6 @@ impl<
       consumes = ⊥;
       grammar = Line I.reading I.spells I.sought;
     } };
-
-    ghost leaves_ends = { λ form x i answer y j r. till_line_ending_ends I.spells I.sought
-        I.reading form i answer j r.0 };
-
-    ghost covers = { λ at. till_line_ending_covered I.reading I.spells I.sought };
 
     ghost lawful = { λ is. till_line_ending_law I.reading I.spells I.sought
         (I.stays_first (13, 10)) is };

@@ -6,10 +6,7 @@ ghost use Rattle.std.specs.Prelude.{◌≡◌, ⊤};
 ghost use Rattle.parser_definitions.specs.Integer.{IntegerDoes, integer_law};
 ghost use Rattle.parser_definitions.specs.Projects.Integers.{integer_claim, integer_claimed};
 ghost use Rattle.parser_definitions.specs.Projects.Integers.{some_bytes};
-ghost use Rattle.winnow_binary.specs.Chosen.{ChosenRuns};
-ghost use Rattle.winnow_integers.specs.Covers.{integer_covered};
 ghost use Rattle.winnow_integers.specs.Integer.{signed_value};
-ghost use Rattle.winnow_integers.specs.Integer.Laws.{integer_leaves};
 ghost use Rattle.winnow_integers.specs.declared.binary.endianness.Endianness.{Endianness};
 
 use std::marker::PhantomData;
@@ -37,17 +34,11 @@ impl<I: StreamIsPartial + ByteStream, E: ParserError<I>> Parser<I, i32, E> for I
 
     ghost state = { λ s. s.endian };
 
-    ghost meaning = { λ form. ChosenRuns 3 signed_value I.reading form };
-
     ghost does = { IntegerDoes 3 signed_value I.reading };
 
     ghost terms = { record { premise = ⊤; stable = ⊤; alike = λ o p. o ≡ p } };
 
     ghost claim = { λ s. integer_claim 3 (signed_value s) };
-
-    ghost leaves_ends = { integer_leaves 3 signed_value I.reading };
-
-    ghost covers = { λ at. integer_covered 3 signed_value I.reading };
 
     ghost lawful = { λ is. integer_law 3 signed_value I.reading };
 

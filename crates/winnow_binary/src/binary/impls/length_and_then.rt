@@ -1,16 +1,13 @@
 //! The implementation of `length_and_then`.
+ghost use Rattle.parser_definitions.specs.Does.{Ran};
 ghost use Rattle.std.specs.Prelude.{⊤, true};
-ghost use Rattle.streams.specs.Input.{IsEndOf};
 ghost use Rattle.grammars.specs.Grammar.Lengths.{Inside, SaysOne, Sized, sized_inside_takes};
 ghost use Rattle.stream_errors.specs.Form.{answer_by, modal};
 ghost use Rattle.winnow_core.specs.CompleteErr.{CompleteErrRuns};
 ghost use Rattle.parser_definitions.specs.Length.{LengthAndThenDoes, OneLength};
-ghost use Rattle.parser_definitions.specs.Length.{length_and_then_law, on_their_own};
+ghost use Rattle.parser_definitions.specs.Length.{TakenDo, length_and_then_law};
 ghost use Rattle.parser_definitions.specs.Projects.{projects_as};
 ghost use Rattle.parser_definitions.specs.Projects.Length.{length_and_then_projects};
-ghost use Rattle.winnow_binary.specs.Covers.{length_and_then_covered};
-ghost use Rattle.winnow_binary.specs.LengthAndThen.{LengthAndThenRuns, TakenRuns};
-ghost use Rattle.winnow_binary.specs.LengthAndThen.Laws.{length_and_then_ends};
 
 use std::marker::PhantomData;
 use stream_errors::parser_error::ParserError;
@@ -47,9 +44,6 @@ impl<
 
     ghost state = { λ s. (P.state s.count, G.state s.parser) };
 
-    ghost meaning = { λ form. LengthAndThenRuns N.number I.reading form I.counts_missing
-        (P.meaning form) (G.meaning form) };
-
     ghost does = { LengthAndThenDoes I.reading N.number I.counts_missing P.does G.does };
 
     ghost terms = { record {
@@ -66,12 +60,6 @@ impl<
       consumes = (P.claim s.0).consumes;
       grammar = Sized N.number (Inside (G.claim s.1).grammar) (P.claim s.0).grammar;
     } };
-
-    ghost leaves_ends = { λ form. length_and_then_ends N.number I.reading form I.counts_missing
-        (P.meaning form) (G.meaning form) (P.leaves_ends form) };
-
-    ghost covers = { λ at. length_and_then_covered N.number I.reading I.counts_missing
-        (P.covers at) (G.covers (on_their_own at)) };
 
     ghost lawful = { λ is. length_and_then_law I.reading N.number I.counts_missing is.1
         (P.lawful is.0) (G.lawful is.2) };
@@ -101,10 +89,9 @@ fn parse_taken<P: Parser<I, O, E>, I: StreamIsPartial + UpdateSlice + Copy, O, E
 ) -> Result<O, E>
     requires { P.can_parse parser.old }
     ensures again { P.can_parse parser.new }
-    ensures ran { TakenRuns I.reading E.form I.counts_missing (P.meaning E.form) count
+    ensures ran { Ran I.reading (TakenDo I.reading I.counts_missing P.does count) E.form
         (P.state parser.old) (I.view input.old) (answer_by E.kind result) (P.state parser.new)
         (I.view input.new) }
-    ensures ends { IsEndOf I.reading (I.view input.new) (I.view input.old) }
 {
     match input.offset_at(count) {
         Ok(offset) => {
@@ -125,8 +112,8 @@ fn parse_complete<P: Parser<I, O, E>, I: Stream, O, E: ParserError<I>>(
 ) -> Result<O, E>
     requires { P.can_parse parser.old }
     ensures again { P.can_parse parser.new }
-    ensures ran { CompleteErrRuns (P.meaning E.form) (P.state parser.old) (I.view input.old)
-        (answer_by E.kind result) (P.state parser.new) (I.view input.new) }
+    ensures ran { CompleteErrRuns (Ran I.reading P.does E.form) (P.state parser.old)
+        (I.view input.old) (answer_by E.kind result) (P.state parser.new) (I.view input.new) }
 {
     match parser.parse_next(input) {
         Ok(output) => Ok(output),

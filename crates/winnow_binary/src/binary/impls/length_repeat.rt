@@ -1,15 +1,12 @@
 //! The implementation of `length_repeat`.
 ghost use Rattle.std.specs.Prelude.{true};
 ghost use Rattle.grammars.specs.Grammar.Lengths.{SaysOne, Sized, Times, sized_times_takes};
-ghost use Rattle.stream_errors.specs.Form.{assert_kind, modal};
+ghost use Rattle.stream_errors.specs.Form.{modal};
 ghost use Rattle.parser_definitions.specs.Folding.{Built, gathering};
 ghost use Rattle.parser_definitions.specs.Length.{OneLength};
 ghost use Rattle.parser_definitions.specs.LengthRepeat.{LengthRepeatDoes, length_repeat_law};
 ghost use Rattle.parser_definitions.specs.Projects.{projects_as};
 ghost use Rattle.parser_definitions.specs.Projects.LengthRepeat.{length_repeat_projects};
-ghost use Rattle.winnow_binary.specs.Covers.{length_repeat_covered};
-ghost use Rattle.winnow_binary.specs.LengthRepeat.{LengthRepeatRuns};
-ghost use Rattle.winnow_binary.specs.LengthRepeat.Laws.{length_repeat_ends};
 
 use std::alloc::Allocator;
 use std::marker::PhantomData;
@@ -51,9 +48,6 @@ impl<
 
     ghost state = { λ s. (P.state s.count, G.state s.parser) };
 
-    ghost meaning = { λ form. LengthRepeatRuns N.number C.accumulator (assert_kind form)
-        (P.meaning form) (G.meaning form) };
-
     ghost does = { LengthRepeatDoes N.number C.accumulator P.does G.does };
 
     ghost terms = { record {
@@ -71,13 +65,6 @@ impl<
       consumes = (P.claim s.0).consumes;
       grammar = Sized N.number (Times C.holds (G.claim s.1).grammar) (P.claim s.0).grammar;
     } };
-
-    ghost leaves_ends = { λ form. length_repeat_ends I.reading N.number C.accumulator
-        (assert_kind form) (P.meaning form) (G.meaning form) (P.leaves_ends form)
-        (G.leaves_ends form) };
-
-    ghost covers = { λ at. length_repeat_covered N.number C.accumulator (P.covers at)
-        (G.covers at) };
 
     ghost lawful = { λ is. length_repeat_law N.number C.accumulator is.1 (P.lawful is.0)
         (G.lawful is.2) };

@@ -7,9 +7,6 @@ ghost use Rattle.parser_definitions.specs.Length.{LengthTakeDoes, OneLength, len
 ghost use Rattle.parser_definitions.specs.Projects.Length.{length_take_projects};
 ghost use Rattle.parser_definitions.specs.Projects.Length.{length_take_takes};
 ghost use Rattle.parser_definitions.specs.Spelled.{ShowSame};
-ghost use Rattle.winnow_binary.specs.Covers.{length_take_covered};
-ghost use Rattle.winnow_binary.specs.LengthTake.{LengthTakeRuns};
-ghost use Rattle.winnow_binary.specs.LengthTake.Laws.{length_take_ends};
 
 use std::marker::PhantomData;
 use stream_errors::parser_error::ParserError;
@@ -42,9 +39,6 @@ impl<P: Parser<I, N, E>, I: StreamIsPartial, N: ToUsize + Drop, E: ParserError<I
 
     ghost state = { λ s. P.state s.count };
 
-    ghost meaning = { λ form. LengthTakeRuns N.number I.reading form I.counts_missing
-        (P.meaning form) };
-
     ghost does = { LengthTakeDoes N.number I.reading I.counts_missing P.does };
 
     ghost terms = { record {
@@ -60,12 +54,6 @@ impl<P: Parser<I, N, E>, I: StreamIsPartial, N: ToUsize + Drop, E: ParserError<I
       consumes = (P.claim s).consumes;
       grammar = Sized N.number (Counted I.reading) (P.claim s).grammar;
     } };
-
-    ghost leaves_ends = { λ form. length_take_ends N.number I.reading form I.counts_missing
-        (P.meaning form) (P.leaves_ends form) };
-
-    ghost covers = { λ at. length_take_covered N.number I.reading I.counts_missing
-        (P.covers at) };
 
     ghost lawful = { λ is. length_take_law N.number I.reading I.counts_missing is.1
         (P.lawful is.0) };

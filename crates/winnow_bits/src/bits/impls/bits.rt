@@ -1,8 +1,5 @@
 //! A parser of bits, run on bytes.
-ghost use Rattle.parser_definitions.specs.BitsOfBytes.{BitsOfBytesDoes, bits_of_bytes_law, inside};
-ghost use Rattle.winnow_bits.specs.BitsOfBytes.{BitsOfBytesRuns};
-ghost use Rattle.winnow_bits.specs.BitsOfBytes.Laws.{bits_of_bytes_ends};
-ghost use Rattle.winnow_bits.specs.Covers.{bits_of_bytes_covered};
+ghost use Rattle.parser_definitions.specs.BitsOfBytes.{BitsOfBytesDoes, bits_of_bytes_law};
 ghost use Rattle.parser_definitions.specs.Claim.{no_claim, nothing_claimed};
 
 use crate::bits::whole::{in_bytes, whole_bytes};
@@ -43,18 +40,11 @@ impl<
 
     ghost state = { λ s. P.state s.parser };
 
-    ghost meaning = { λ form. BitsOfBytesRuns I.reading form (P.meaning form) };
-
     ghost does = { BitsOfBytesDoes I.reading P.does };
 
     ghost terms = { record { premise = P.terms.premise; stable = ⊥; alike = P.terms.alike } };
 
     ghost claim = { λ _. no_claim };
-
-    ghost leaves_ends = { λ form. bits_of_bytes_ends I.reading form (P.meaning form)
-        (P.leaves_ends form) };
-
-    ghost covers = { λ at. bits_of_bytes_covered I.reading (P.covers (inside at)) };
 
     ghost lawful = { λ is. bits_of_bytes_law I.reading (P.lawful is) };
 

@@ -2,10 +2,6 @@
 ghost use Rattle.std.specs.Prelude.{◌≡◌, ⊤};
 ghost use Rattle.parser_definitions.specs.BitBool.{BitBoolDoes, bit_bool_law};
 ghost use Rattle.stream_bits.specs.BitReading.{bits_reading};
-ghost use Rattle.winnow_bits.specs.BitBool.{BitBoolRuns};
-ghost use Rattle.winnow_bits.specs.BitBool.Laws.{bit_bool_ends};
-ghost use Rattle.winnow_bits.specs.Covers.{bit_bool_covered};
-ghost use Rattle.winnow_core.specs.Runs.{Keeps};
 ghost use Rattle.parser_definitions.specs.Claim.{no_claim, nothing_claimed};
 
 use crate::bits;
@@ -31,18 +27,11 @@ impl<I: ByteStream + StreamIsPartial, E: ParserError<Bits<I>>> Parser<Bits<I>, b
 
     ghost state = { λ _. tt };
 
-    ghost meaning = { λ form. Keeps (λ _. BitBoolRuns (bits_reading I.reading) form) };
-
     ghost does = { BitBoolDoes (bits_reading I.reading) };
 
     ghost terms = { record { premise = ⊤; stable = ⊤; alike = λ o p. o ≡ p } };
 
     ghost claim = { λ _. no_claim };
-
-    ghost leaves_ends = { λ form x i answer y j r.
-        bit_bool_ends (bits_reading I.reading) form i answer j r.0 };
-
-    ghost covers = { λ at. bit_bool_covered (bits_reading I.reading) };
 
     ghost lawful = { λ is. bit_bool_law (bits_reading I.reading) };
 

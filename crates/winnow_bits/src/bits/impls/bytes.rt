@@ -1,10 +1,6 @@
 //! A parser of bytes, run on bits.
-ghost use Rattle.parser_definitions.specs.BitsOfBytes.{inside};
 ghost use Rattle.parser_definitions.specs.BytesOfBits.{BytesOfBitsDoes, bytes_of_bits_law};
 ghost use Rattle.stream_bits.specs.BitReading.{bits_reading};
-ghost use Rattle.winnow_bits.specs.BytesOfBits.{BytesOfBitsRuns};
-ghost use Rattle.winnow_bits.specs.BytesOfBits.Laws.{bytes_of_bits_ends};
-ghost use Rattle.winnow_bits.specs.Covers.{bytes_of_bits_covered};
 ghost use Rattle.parser_definitions.specs.Claim.{no_claim, nothing_claimed};
 
 use crate::bits::whole::{in_bits, whole_bytes};
@@ -44,19 +40,11 @@ impl<
 
     ghost state = { λ s. P.state s.parser };
 
-    ghost meaning = { λ form. BytesOfBitsRuns (bits_reading I.reading) form (P.meaning form) };
-
     ghost does = { BytesOfBitsDoes (bits_reading I.reading) P.does };
 
     ghost terms = { record { premise = P.terms.premise; stable = ⊥; alike = P.terms.alike } };
 
     ghost claim = { λ _. no_claim };
-
-    ghost leaves_ends = { λ form. bytes_of_bits_ends I.reading I.counts_bytes form
-        (P.meaning form) (P.leaves_ends form) };
-
-    ghost covers = { λ at. bytes_of_bits_covered I.reading (P.leaves_ends at.form)
-        (P.covers (inside at)) };
 
     ghost lawful = { λ is. bytes_of_bits_law (bits_reading I.reading) (P.lawful is) };
 

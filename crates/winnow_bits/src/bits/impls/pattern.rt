@@ -2,10 +2,6 @@
 ghost use Rattle.std.specs.Prelude.{◌≡◌, ⊤, ℕ};
 ghost use Rattle.parser_definitions.specs.BitTake.{BitPatternDoes, bit_pattern_law};
 ghost use Rattle.stream_bits.specs.BitReading.{bits_reading};
-ghost use Rattle.winnow_bits.specs.BitPattern.{BitPatternRuns};
-ghost use Rattle.winnow_bits.specs.BitPattern.Laws.{bit_pattern_ends};
-ghost use Rattle.winnow_bits.specs.Covers.{bit_pattern_covered};
-ghost use Rattle.winnow_core.specs.Runs.{Keeps};
 ghost use Rattle.parser_definitions.specs.Claim.{no_claim, nothing_claimed};
 
 use crate::bits::fields::take_counted;
@@ -40,19 +36,11 @@ impl<I: ByteStream + StreamIsPartial, O: BitOutput, E: ParserError<Bits<I>>> Par
 
     ghost state = { λ s. (O.number s.value, s.count) };
 
-    ghost meaning = { λ form. Keeps
-        (λ s. BitPatternRuns O.number O.WIDTH (bits_reading I.reading) form s.0 s.1) };
-
     ghost does = { BitPatternDoes O.number O.WIDTH (bits_reading I.reading) };
 
     ghost terms = { record { premise = ⊤; stable = ⊤; alike = λ o p. O.number o ≡ O.number p } };
 
     ghost claim = { λ _. no_claim };
-
-    ghost leaves_ends = { λ form s i answer m j r.
-        bit_pattern_ends O.number O.WIDTH (bits_reading I.reading) form s.0 s.1 i answer j r.0 };
-
-    ghost covers = { λ at. bit_pattern_covered (bits_reading I.reading) O.number O.WIDTH };
 
     ghost lawful = { λ is. bit_pattern_law O.number O.WIDTH (bits_reading I.reading) };
 

@@ -2,10 +2,6 @@
 ghost use Rattle.std.specs.Prelude.{◌≡◌, ⊤, ℕ};
 ghost use Rattle.parser_definitions.specs.BitTake.{BitTakeDoes, bit_take_law};
 ghost use Rattle.stream_bits.specs.BitReading.{bits_reading};
-ghost use Rattle.winnow_bits.specs.BitTake.{BitTakeRuns};
-ghost use Rattle.winnow_bits.specs.BitTake.Laws.{bit_take_ends};
-ghost use Rattle.winnow_bits.specs.Covers.{bit_take_covered};
-ghost use Rattle.winnow_core.specs.Runs.{Keeps};
 ghost use Rattle.parser_definitions.specs.Claim.{no_claim, nothing_claimed};
 
 use crate::bits::fields::take_counted;
@@ -39,19 +35,11 @@ impl<I: ByteStream + StreamIsPartial, O: BitOutput, E: ParserError<Bits<I>>> Par
 
     ghost state = { λ s. s.count };
 
-    ghost meaning = { λ form. Keeps
-        (λ n. BitTakeRuns O.number O.WIDTH (bits_reading I.reading) form n) };
-
     ghost does = { BitTakeDoes O.number O.WIDTH (bits_reading I.reading) };
 
     ghost terms = { record { premise = ⊤; stable = ⊤; alike = λ o p. O.number o ≡ O.number p } };
 
     ghost claim = { λ _. no_claim };
-
-    ghost leaves_ends = { λ form n i answer m j r.
-        bit_take_ends O.number O.WIDTH (bits_reading I.reading) form n i answer j r.0 };
-
-    ghost covers = { λ at. bit_take_covered (bits_reading I.reading) O.number O.WIDTH };
 
     ghost lawful = { λ is. bit_take_law O.number O.WIDTH (bits_reading I.reading) };
 

@@ -5,11 +5,8 @@ ghost use Rattle.std.specs.Prelude.{◌≡◌, ⊤};
 ghost use Rattle.parser_definitions.specs.Integer.{IntegerDoes, integer_law};
 ghost use Rattle.parser_definitions.specs.Projects.Integers.{integer_claim, integer_claimed};
 ghost use Rattle.parser_definitions.specs.Projects.Integers.{some_bytes};
-ghost use Rattle.winnow_integers.specs.Covers.{integer_covered};
-ghost use Rattle.winnow_integers.specs.Integer.{IntegerRuns, signed_value};
-ghost use Rattle.winnow_integers.specs.Integer.Laws.{integer_leaves};
+ghost use Rattle.winnow_integers.specs.Integer.{signed_value};
 ghost use Rattle.winnow_integers.specs.declared.binary.endianness.Endianness.TheVariants.{Big};
-ghost use Rattle.winnow_core.specs.Runs.{Keeps};
 
 use crate::binary::be_i8;
 use stream_errors::parser_error::ParserError;
@@ -31,17 +28,11 @@ impl<I: StreamIsPartial + ByteStream, E: ParserError<I>> Parser<I, i8, E> for Be
 
     ghost state = { λ _. tt };
 
-    ghost meaning = { λ form. Keeps (λ _. IntegerRuns 1 (signed_value Big) I.reading form) };
-
     ghost does = { IntegerDoes 1 (λ (_ : ⊤). signed_value Big) I.reading };
 
     ghost terms = { record { premise = ⊤; stable = ⊤; alike = λ o p. o ≡ p } };
 
     ghost claim = { λ s. integer_claim 1 (signed_value Big) };
-
-    ghost leaves_ends = { integer_leaves 1 (λ (_ : ⊤). signed_value Big) I.reading };
-
-    ghost covers = { λ at. integer_covered 1 (λ (_ : ⊤). signed_value Big) I.reading };
 
     ghost lawful = { λ is. integer_law 1 (λ (_ : ⊤). signed_value Big) I.reading };
 

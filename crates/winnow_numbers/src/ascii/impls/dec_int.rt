@@ -5,10 +5,6 @@ ghost use Rattle.parser_definitions.specs.Number.{DecIntDoes, number_law, signed
 ghost use Rattle.parser_definitions.specs.Number.{signed_numbers};
 ghost use Rattle.parser_definitions.specs.NumberGrammar.{SignedDecimal};
 ghost use Rattle.parser_definitions.specs.Projects.Decimals.{dec_int_projects, signed_takes};
-ghost use Rattle.winnow_core.specs.Runs.{Keeps};
-ghost use Rattle.winnow_numbers.specs.DecInt.{DecIntRuns};
-ghost use Rattle.winnow_numbers.specs.Number.Laws.{number_ends};
-ghost use Rattle.winnow_numbers.specs.Covers.{number_covered};
 
 use crate::ascii::{Int, dec_int};
 use stream_errors::parser_error::ParserError;
@@ -34,9 +30,6 @@ where
 
     ghost state = { λ _. tt };
 
-    ghost meaning = { λ form. Keeps
-        (λ _. DecIntRuns O.number O.fits I.seen_as I.Token.code I.reading form) };
-
     ghost does = { DecIntDoes O.number O.fits I.seen_as I.Token.code I.reading };
 
     ghost terms = { record { premise = ⊤; stable = ⊤; alike = OneNumber O.number } };
@@ -48,12 +41,6 @@ where
       consumes = ⊤;
       grammar = SignedDecimal O.number O.fits I.seen_as I.Token.code;
     } };
-
-    ghost leaves_ends = { λ form x i answer y j r. number_ends
-        (signed_numbers O.number O.fits) I.seen_as I.Token.code I.reading form i answer j r.0 };
-
-    ghost covers = { λ at. number_covered (signed_numbers O.number O.fits) I.seen_as
-        I.Token.code I.reading };
 
     ghost lawful = { λ _. number_law (signed_numbers O.number O.fits) I.seen_as I.Token.code
         I.reading I.one_code (signed_apart O.number O.fits) };

@@ -5,10 +5,6 @@ ghost use Rattle.parser_definitions.specs.Number.{DecUintDoes, number_law, unsig
 ghost use Rattle.parser_definitions.specs.Number.{unsigned_numbers};
 ghost use Rattle.parser_definitions.specs.NumberGrammar.{Decimal};
 ghost use Rattle.parser_definitions.specs.Projects.Decimals.{dec_uint_projects, decimal_takes};
-ghost use Rattle.winnow_core.specs.Runs.{Keeps};
-ghost use Rattle.winnow_numbers.specs.DecUint.{DecUintRuns};
-ghost use Rattle.winnow_numbers.specs.Number.Laws.{number_ends};
-ghost use Rattle.winnow_numbers.specs.Covers.{number_covered};
 
 use crate::ascii::{Uint, dec_uint};
 use stream_errors::parser_error::ParserError;
@@ -34,9 +30,6 @@ where
 
     ghost state = { λ _. tt };
 
-    ghost meaning = { λ form. Keeps
-        (λ _. DecUintRuns O.number O.bound I.seen_as I.Token.code I.reading form) };
-
     ghost does = { DecUintDoes O.number O.bound I.seen_as I.Token.code I.reading };
 
     ghost terms = { record { premise = ⊤; stable = ⊤; alike = OneNumber O.number } };
@@ -48,12 +41,6 @@ where
       consumes = ⊤;
       grammar = Decimal O.number O.bound I.seen_as I.Token.code;
     } };
-
-    ghost leaves_ends = { λ form x i answer y j r. number_ends
-        (unsigned_numbers O.number O.bound) I.seen_as I.Token.code I.reading form i answer j r.0 };
-
-    ghost covers = { λ at. number_covered (unsigned_numbers O.number O.bound) I.seen_as
-        I.Token.code I.reading };
 
     ghost lawful = { λ _. number_law (unsigned_numbers O.number O.bound) I.seen_as I.Token.code
         I.reading I.one_code (unsigned_apart O.number O.bound) };

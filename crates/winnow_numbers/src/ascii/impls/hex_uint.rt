@@ -4,10 +4,6 @@ ghost use Rattle.std.proofs.Common.{arith};
 ghost use Rattle.parser_definitions.specs.HexUint.{HexUintDoes, OneNumber, hex_uint_law};
 ghost use Rattle.parser_definitions.specs.NumberGrammar.{Hexadecimal};
 ghost use Rattle.parser_definitions.specs.Projects.Numbers.{hex_uint_projects, hexadecimal_takes};
-ghost use Rattle.winnow_core.specs.Runs.{Keeps};
-ghost use Rattle.winnow_numbers.specs.HexUint.{HexUintRuns};
-ghost use Rattle.winnow_numbers.specs.HexUint.Laws.{hex_uint_ends};
-ghost use Rattle.winnow_numbers.specs.Covers.{hex_uint_covered};
 
 use crate::ascii::hex_uint;
 use crate::ascii::impls::hex_uint::sealed::SealedMarker;
@@ -192,9 +188,6 @@ where
 
     ghost state = { λ _. tt };
 
-    ghost meaning = { λ form. Keeps
-        (λ _. HexUintRuns O.number O.nibbles I.seen_as I.Token.code I.reading form) };
-
     ghost does = { HexUintDoes O.number O.nibbles I.seen_as I.Token.code I.reading };
 
     ghost terms = { record { premise = ⊤; stable = ⊤; alike = OneNumber O.number } };
@@ -206,11 +199,6 @@ where
       consumes = ⊤;
       grammar = Hexadecimal O.number O.nibbles I.seen_as I.Token.code;
     } };
-
-    ghost leaves_ends = { λ form x i answer y j r. hex_uint_ends O.number O.nibbles I.seen_as
-        I.Token.code I.reading form i answer j r.0 };
-
-    ghost covers = { λ at. hex_uint_covered O.number O.nibbles I.seen_as I.Token.code I.reading };
 
     ghost lawful = { λ _. hex_uint_law O.number O.nibbles I.seen_as I.Token.code I.reading
         I.one_code };

@@ -1,13 +1,10 @@
 //! One token.
 ghost use Rattle.std.specs.Prelude.{⊤};
 ghost use Rattle.grammars.specs.Grammar.{Token};
-ghost use Rattle.winnow_core.specs.Runs.{Keeps};
-ghost use Rattle.winnow_token.specs.Any.{AnyRuns};
-ghost use Rattle.winnow_token.specs.Any.Laws.{any_ends, token_takes};
+ghost use Rattle.winnow_token.specs.Any.Laws.{token_takes};
 ghost use Rattle.parser_definitions.specs.Any.{AnyDoes, any_law};
 ghost use Rattle.parser_definitions.specs.Projects.Tokens.{any_projects};
 ghost use Rattle.parser_definitions.specs.Shown.{SeenSame};
-ghost use Rattle.winnow_token.specs.Covers.{any_covered};
 
 use crate::token::any;
 use stream_errors::parser_error::ParserError;
@@ -28,8 +25,6 @@ impl<I: StreamIsPartial, E: ParserError<I>> Parser<I, I::Token, E> for Any {
 
     ghost state = { λ _. tt };
 
-    ghost meaning = { λ form. Keeps (λ _. AnyRuns I.seen_as I.reading form) };
-
     ghost does = { AnyDoes I.seen_as I.reading };
 
     ghost terms = { record { premise = ⊤; stable = ⊤; alike = SeenSame I.seen_as } };
@@ -41,11 +36,6 @@ impl<I: StreamIsPartial, E: ParserError<I>> Parser<I, I::Token, E> for Any {
       consumes = ⊤;
       grammar = Token I.seen_as;
     } };
-
-    ghost leaves_ends = { λ form x i answer y j r. any_ends I.seen_as I.reading form i answer j
-        r.0 };
-
-    ghost covers = { λ at. any_covered I.seen_as I.reading };
 
     ghost lawful = { λ _. any_law I.seen_as I.reading };
 

@@ -1,13 +1,9 @@
 //! A literal.
 ghost use Rattle.std.specs.Prelude.{[], ⊤};
 ghost use Rattle.grammars.specs.Grammar.{Literally};
-ghost use Rattle.winnow_core.specs.Literal.{LiteralRuns};
-ghost use Rattle.winnow_core.specs.Literal.Laws.{literal_ends};
-ghost use Rattle.winnow_core.specs.Runs.{Keeps};
 ghost use Rattle.parser_definitions.specs.Literal.{LiteralDoes, literal_law};
 ghost use Rattle.parser_definitions.specs.Projects.Literals.{literal_claimed};
 ghost use Rattle.parser_definitions.specs.Spelled.{ShowSame};
-ghost use Rattle.winnow_core.specs.Covers.Leaves.{literal_covered};
 
 use std::marker::PhantomData;
 use stream_errors::parser_error::ParserError;
@@ -34,9 +30,6 @@ impl<T: Copy, I: StreamIsPartial + Compare<T>, E: ParserError<I>> Parser<I, I::S
 
     ghost state = { λ s. s.literal };
 
-    ghost meaning = { λ form. Keeps
-        (λ x. LiteralRuns I.reading form (I.spells x) (λ slice. slice)) };
-
     ghost does = { LiteralDoes I.reading I.spells (λ _ slice. slice) };
 
     ghost terms = { record { premise = ⊤; stable = ⊤; alike = ShowSame I.reading } };
@@ -48,11 +41,6 @@ impl<T: Copy, I: StreamIsPartial + Compare<T>, E: ParserError<I>> Parser<I, I::S
       consumes = I.spells s [] → ⊥;
       grammar = Literally I.reading I.spells (λ _ slice. slice) s;
     } };
-
-    ghost leaves_ends = { λ form x i answer y j r. literal_ends I.reading form (I.spells x)
-        (λ slice. slice) i answer j r.0 };
-
-    ghost covers = { λ at. literal_covered I.reading I.spells (λ _ slice. slice) };
 
     ghost lawful = { λ _. literal_law I.reading I.spells (λ _ slice. slice) (ShowSame I.reading)
         I.same_units (λ s slice other shown. shown) };

@@ -1,15 +1,12 @@
 //! One token outside a set.
-ghost use Rattle.std.specs.Prelude.{not, ⊤};
+ghost use Rattle.std.specs.Prelude.{⊤};
 ghost use Rattle.streams.specs.Stream.{AnswersSeen};
 ghost use Rattle.stream_sets.specs.Once.{Others, SetIsFunction};
 ghost use Rattle.grammars.specs.Grammar.{Token, TokenOf};
-ghost use Rattle.winnow_core.specs.Runs.{Keeps};
-ghost use Rattle.winnow_token.specs.OneOf.{OneOfRuns};
-ghost use Rattle.winnow_token.specs.OneOf.Laws.{one_of_ends, token_of_takes};
+ghost use Rattle.winnow_token.specs.OneOf.Laws.{token_of_takes};
 ghost use Rattle.parser_definitions.specs.OneOf.{NoneOfDoes, none_of_law};
 ghost use Rattle.parser_definitions.specs.Projects.Tokens.{one_of_projects};
 ghost use Rattle.parser_definitions.specs.Shown.{SeenSame};
-ghost use Rattle.winnow_token.specs.Covers.{one_of_covered};
 
 use crate::token::members::Others;
 use crate::token::one::take_member;
@@ -42,9 +39,6 @@ where
 
     ghost state = { λ s. s.set };
 
-    ghost meaning = { λ form. Keeps
-        (λ x. OneOfRuns I.seen_as I.reading form (λ k b. S.tells x k (not b))) };
-
     ghost does = { NoneOfDoes I.seen_as I.reading S.tells };
 
     ghost terms = { record {
@@ -61,11 +55,6 @@ where
       consumes = ⊤;
       grammar = TokenOf I.seen_as (Others S.tells) s;
     } };
-
-    ghost leaves_ends = { λ form x i answer y j r. one_of_ends I.seen_as I.reading form
-        (λ k b. S.tells x k (not b)) i answer j r.0 };
-
-    ghost covers = { λ at. one_of_covered I.seen_as I.reading (Others S.tells) };
 
     ghost lawful = { λ is. none_of_law I.seen_as I.reading S.tells is };
 

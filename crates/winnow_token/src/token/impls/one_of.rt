@@ -3,13 +3,10 @@ ghost use Rattle.std.specs.Prelude.{⊤};
 ghost use Rattle.streams.specs.Stream.{AnswersSeen};
 ghost use Rattle.stream_sets.specs.Once.{SetIsFunction};
 ghost use Rattle.grammars.specs.Grammar.{Token, TokenOf};
-ghost use Rattle.winnow_core.specs.Runs.{Keeps};
-ghost use Rattle.winnow_token.specs.OneOf.{OneOfRuns};
-ghost use Rattle.winnow_token.specs.OneOf.Laws.{one_of_ends, token_of_takes};
+ghost use Rattle.winnow_token.specs.OneOf.Laws.{token_of_takes};
 ghost use Rattle.parser_definitions.specs.OneOf.{OneOfDoes, one_of_law};
 ghost use Rattle.parser_definitions.specs.Projects.Tokens.{one_of_projects};
 ghost use Rattle.parser_definitions.specs.Shown.{SeenSame};
-ghost use Rattle.winnow_token.specs.Covers.{one_of_covered};
 
 use crate::token::one::take_member;
 use std::marker::PhantomData;
@@ -41,8 +38,6 @@ where
 
     ghost state = { λ s. s.set };
 
-    ghost meaning = { λ form. Keeps (λ x. OneOfRuns I.seen_as I.reading form (S.tells x)) };
-
     ghost does = { OneOfDoes I.seen_as I.reading S.tells };
 
     ghost terms = { record {
@@ -59,11 +54,6 @@ where
       consumes = ⊤;
       grammar = TokenOf I.seen_as S.tells s;
     } };
-
-    ghost leaves_ends = { λ form x i answer y j r. one_of_ends I.seen_as I.reading form
-        (S.tells x) i answer j r.0 };
-
-    ghost covers = { λ at. one_of_covered I.seen_as I.reading S.tells };
 
     ghost lawful = { λ is. one_of_law I.seen_as I.reading S.tells is };
 

@@ -1,13 +1,9 @@
 //! The implementation of `rest`.
 ghost use Rattle.std.specs.Prelude.{⊤};
 ghost use Rattle.grammars.specs.Grammar.{AllTokens};
-ghost use Rattle.winnow_core.specs.Runs.{Keeps};
-ghost use Rattle.winnow_token.specs.Rest.{RestRuns};
-ghost use Rattle.winnow_token.specs.Rest.Laws.{rest_ends};
 ghost use Rattle.parser_definitions.specs.Projects.Tokens.{rest_projects};
 ghost use Rattle.parser_definitions.specs.Rest.{RestDoes, rest_law};
 ghost use Rattle.parser_definitions.specs.Spelled.{ShowSame};
-ghost use Rattle.winnow_token.specs.Covers.{rest_covered};
 
 use crate::token::rest;
 use stream_errors::parser_error::ParserError;
@@ -28,8 +24,6 @@ impl<I: Stream, E: ParserError<I>> Parser<I, I::Slice, E> for Rest {
 
     ghost state = { λ _. tt };
 
-    ghost meaning = { λ _. Keeps (λ _. RestRuns I.reading) };
-
     ghost does = { RestDoes I.reading };
 
     ghost terms = { record { premise = ⊤; stable = ⊥; alike = ShowSame I.reading } };
@@ -41,10 +35,6 @@ impl<I: Stream, E: ParserError<I>> Parser<I, I::Slice, E> for Rest {
       consumes = ⊥;
       grammar = AllTokens I.reading;
     } };
-
-    ghost leaves_ends = { λ form x i answer y j r. rest_ends I.reading i answer j r.0 };
-
-    ghost covers = { λ at. rest_covered I.reading };
 
     ghost lawful = { λ _. rest_law I.reading };
 

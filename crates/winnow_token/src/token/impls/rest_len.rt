@@ -1,12 +1,8 @@
 //! The implementation of `rest_len`.
 ghost use Rattle.std.specs.Prelude.{⊤, ◌≡◌};
 ghost use Rattle.grammars.specs.Grammar.{UnitsLeft};
-ghost use Rattle.winnow_core.specs.Ends.{same_ends};
-ghost use Rattle.winnow_core.specs.Runs.{Keeps};
-ghost use Rattle.winnow_token.specs.Rest.{RestLenRuns};
 ghost use Rattle.parser_definitions.specs.Projects.Tokens.{rest_len_projects};
 ghost use Rattle.parser_definitions.specs.Rest.{RestLenDoes, rest_len_law};
-ghost use Rattle.winnow_token.specs.Covers.{rest_len_covered};
 
 use crate::token::rest_len;
 use stream_errors::parser_error::ParserError;
@@ -27,8 +23,6 @@ impl<I: Stream, E: ParserError<I>> Parser<I, usize, E> for RestLen {
 
     ghost state = { λ _. tt };
 
-    ghost meaning = { λ _. Keeps (λ _. RestLenRuns I.reading) };
-
     ghost does = { RestLenDoes I.reading };
 
     ghost terms = { record { premise = ⊤; stable = ⊥; alike = λ m n. m ≡ n } };
@@ -40,10 +34,6 @@ impl<I: Stream, E: ParserError<I>> Parser<I, usize, E> for RestLen {
       consumes = ⊥;
       grammar = UnitsLeft I.reading;
     } };
-
-    ghost leaves_ends = { λ form x i answer y j r. same_ends I.reading i j r.0.1 };
-
-    ghost covers = { λ at. rest_len_covered I.reading };
 
     ghost lawful = { λ _. rest_len_law I.reading };
 

@@ -1,13 +1,10 @@
 //! That many tokens.
 ghost use Rattle.std.specs.Prelude.{ℕ, ◌<◌, ⊤};
 ghost use Rattle.grammars.specs.Grammar.{Counted};
-ghost use Rattle.winnow_core.specs.Runs.{Keeps};
-ghost use Rattle.winnow_token.specs.Take.{TakeRuns};
-ghost use Rattle.winnow_token.specs.Take.Laws.{counted_takes, take_ends};
+ghost use Rattle.winnow_token.specs.Take.Laws.{counted_takes};
 ghost use Rattle.parser_definitions.specs.Projects.Tokens.{take_projects};
 ghost use Rattle.parser_definitions.specs.Take.{TakeDoes, take_law};
 ghost use Rattle.parser_definitions.specs.Spelled.{ShowSame};
-ghost use Rattle.winnow_token.specs.Covers.{take_covered};
 
 use std::marker::PhantomData;
 use stream_errors::parser_error::ParserError;
@@ -32,8 +29,6 @@ impl<I: StreamIsPartial, E: ParserError<I>> Parser<I, I::Slice, E> for Take<I, E
 
     ghost state = { λ s. s.count };
 
-    ghost meaning = { λ form. Keeps (λ x. TakeRuns I.reading form I.counts_missing x) };
-
     ghost does = { TakeDoes I.reading I.counts_missing (λ (n : ℕ). n) };
 
     ghost terms = { record { premise = ⊤; stable = ⊤; alike = ShowSame I.reading } };
@@ -45,11 +40,6 @@ impl<I: StreamIsPartial, E: ParserError<I>> Parser<I, I::Slice, E> for Take<I, E
       consumes = 0 < s;
       grammar = Counted I.reading s;
     } };
-
-    ghost leaves_ends = { λ form x i answer y j r. take_ends I.reading form I.counts_missing x i
-        answer j r.0 };
-
-    ghost covers = { λ at. take_covered I.reading I.counts_missing (λ n. n) };
 
     ghost lawful = { λ _. take_law I.reading I.counts_missing (λ n. n) };
 

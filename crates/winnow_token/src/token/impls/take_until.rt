@@ -4,13 +4,9 @@ ghost use Rattle.stream_sets.specs.Range.{bounds_of, IsWithin};
 ghost use Rattle.stream_sets.specs.declared.range.Range.{Range};
 ghost use Rattle.grammars.specs.Grammar.Searches.{Before};
 ghost use Rattle.grammars.specs.Grammar.Searches.Unique.{before_takes};
-ghost use Rattle.winnow_core.specs.Runs.{Keeps};
-ghost use Rattle.winnow_token.specs.TakeUntil.{TakeUntilRuns};
-ghost use Rattle.winnow_token.specs.TakeUntil.Laws.{take_until_ends};
 ghost use Rattle.parser_definitions.specs.Projects.Tokens.{take_until_projects};
 ghost use Rattle.parser_definitions.specs.TakeUntil.{TakeUntilDoes, take_until_law};
 ghost use Rattle.parser_definitions.specs.Spelled.{ShowSame};
-ghost use Rattle.winnow_token.specs.Covers.{take_until_covered};
 
 use crate::token::until::take_before;
 use std::marker::PhantomData;
@@ -39,9 +35,6 @@ impl<T: Copy, I: StreamIsPartial + FindSlice<T>, E: ParserError<I>> Parser<I, I:
 
     ghost state = { λ s. (s.occurrences, s.literal) };
 
-    ghost meaning = { λ form. Keeps
-        (λ x. TakeUntilRuns I.reading form (I.sought x.1) (bounds_of x.0)) };
-
     ghost does = { TakeUntilDoes I.reading (λ x. I.sought x.1) (λ x. bounds_of x.0) };
 
     ghost terms = { record { premise = ⊤; stable = ⊤; alike = ShowSame I.reading } };
@@ -53,13 +46,6 @@ impl<T: Copy, I: StreamIsPartial + FindSlice<T>, E: ParserError<I>> Parser<I, I:
       consumes = 0 < (bounds_of s.0).least;
       grammar = Before I.reading (I.sought s.1) (bounds_of s.0);
     } };
-
-    ghost leaves_ends = { λ form x i answer y j r. take_until_ends I.reading form (I.sought x.1)
-        (bounds_of x.0) i answer j
-        r.0 };
-
-    ghost covers = { λ at. take_until_covered I.reading (λ x. I.sought x.1)
-        (λ x. bounds_of x.0) };
 
     ghost lawful = { λ _. take_until_law I.reading (λ x. I.sought x.1) (λ x. bounds_of x.0)
         (λ x. I.stays_first x.1) };

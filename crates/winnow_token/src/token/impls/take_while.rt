@@ -5,13 +5,9 @@ ghost use Rattle.stream_sets.specs.Once.{SetIsFunction};
 ghost use Rattle.stream_sets.specs.Range.{bounds_of, IsWithin};
 ghost use Rattle.stream_sets.specs.declared.range.Range.{Range};
 ghost use Rattle.grammars.specs.Grammar.{Longest};
-ghost use Rattle.winnow_core.specs.Runs.{Keeps};
-ghost use Rattle.winnow_token.specs.TakeWhile.{TakeWhileRuns};
-ghost use Rattle.winnow_token.specs.TakeWhile.Laws.{take_while_ends};
 ghost use Rattle.parser_definitions.specs.Projects.Tokens.{longest_takes, take_while_projects};
 ghost use Rattle.parser_definitions.specs.TakeWhile.{TakeWhileDoes, take_while_law};
 ghost use Rattle.parser_definitions.specs.Spelled.{ShowSame};
-ghost use Rattle.winnow_token.specs.Covers.{take_while_covered};
 
 use crate::token::members::take_members;
 use std::marker::PhantomData;
@@ -42,10 +38,6 @@ impl<S: ContainsToken<I::Token>, I: StreamIsPartial, E: ParserError<I>> Parser<I
 
     ghost state = { λ s. (s.occurrences, s.set) };
 
-    ghost meaning = { λ form. Keeps
-        (λ x. TakeWhileRuns I.reading form (AnswersSeen I.seen_as (S.tells x.1))
-        (bounds_of x.0)) };
-
     ghost does = { TakeWhileDoes I.reading (λ x. AnswersSeen I.seen_as (S.tells x.1))
         (λ x. bounds_of x.0) };
 
@@ -64,12 +56,6 @@ impl<S: ContainsToken<I::Token>, I: StreamIsPartial, E: ParserError<I>> Parser<I
       consumes = 0 < (bounds_of s.0).least;
       grammar = Longest I.reading I.seen_as S.tells s.1 (bounds_of s.0);
     } };
-
-    ghost leaves_ends = { λ form x i answer y j r. take_while_ends I.reading form
-        (AnswersSeen I.seen_as (S.tells x.1)) (bounds_of x.0) i answer j r.0 };
-
-    ghost covers = { λ at. take_while_covered I.reading
-        (λ x. AnswersSeen I.seen_as (S.tells x.1)) (λ x. bounds_of x.0) };
 
     ghost lawful = { λ is. take_while_law I.reading (λ x. AnswersSeen I.seen_as (S.tells x.1))
         (λ x. bounds_of x.0) (λ x. is x.1) };

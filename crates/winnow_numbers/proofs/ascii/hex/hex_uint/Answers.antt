@@ -1,4 +1,4 @@
-use Rattle.std.proofs.Common.{ap, eq-eqb, length, refl, sym, ◌∙◌}
+use Rattle.std.proofs.Common.{Ok, Err, ap, eq-eqb, length, refl, sym, ◌∙◌}
 use Rattle.std.proofs.lemmas.Bool.{eqb-true}
 use Rattle.streams.specs.Input.{back_at}
 use Rattle.stream_errors.specs.Form.{incomplete_kind}
@@ -12,12 +12,13 @@ pub returns-then-overflows-clause-ran : goal.returns-then-overflows-clause-ran
 returns-then-overflows-clause-ran g c =
     let taken = hex_takes g.Input.Stream.seen_as g.Input.Token.AsChar.code g.Input.Stream.reading
     g.Output.HexUint.nibbles g.met.Output.HexUint.holds_some
-    g.Error.HasKind.form _ c.in-Ok.slice _
+    g.Error.HasKind.form _ _ c.in-Ok.slice _ _
     (hex_runs g.Input.Stream.seen_as g.Input.Token.AsChar.code g.Input.Stream.reading
-    g.Error.HasKind.form _ _ _ _ _ _ _ _ _ c.take_while-digits.ensures.occurrences
+    g.Error.HasKind.form _ _ (Ok c.in-Ok.slice) _ _ _ _ _ _ _ _
+    c.take_while-digits.ensures.occurrences
     refl c.new.ensures.start
     c.new.ensures.end c.max_nibbles-most.ensures
-    c.in-Ok.ensures.ran.0) in
+    c.in-Ok.ensures.ran) in
     let bytes = c.as_bstr-bytes.ensures
     ∙ hex_bytes g.Input.Stream.seen_as g.Input.Token.AsChar.code g.Input.Stream.reading
     g.Output.HexUint.nibbles g.met.Output.HexUint.holds_some
@@ -40,12 +41,13 @@ pub returns-then-may_overflow-clause-ran : goal.returns-then-may_overflow-clause
 returns-then-may_overflow-clause-ran g c =
     let taken = hex_takes g.Input.Stream.seen_as g.Input.Token.AsChar.code g.Input.Stream.reading
     g.Output.HexUint.nibbles g.met.Output.HexUint.holds_some
-    g.Error.HasKind.form _ c.in-Ok.slice _
+    g.Error.HasKind.form _ _ c.in-Ok.slice _ _
     (hex_runs g.Input.Stream.seen_as g.Input.Token.AsChar.code g.Input.Stream.reading
-    g.Error.HasKind.form _ _ _ _ _ _ _ _ _ c.take_while-digits.ensures.occurrences
+    g.Error.HasKind.form _ _ (Ok c.in-Ok.slice) _ _ _ _ _ _ _ _
+    c.take_while-digits.ensures.occurrences
     refl c.new.ensures.start
     c.new.ensures.end c.max_nibbles-most.ensures
-    c.in-Ok.ensures.ran.0) in
+    c.in-Ok.ensures.ran) in
     let bytes = c.as_bstr-bytes.ensures
     ∙ hex_bytes g.Input.Stream.seen_as g.Input.Token.AsChar.code g.Input.Stream.reading
     g.Output.HexUint.nibbles g.met.Output.HexUint.holds_some
@@ -73,12 +75,13 @@ pub number_of-requires-clause-digits : goal.number_of-requires-clause-digits
 number_of-requires-clause-digits g c =
     let taken = hex_takes g.Input.Stream.seen_as g.Input.Token.AsChar.code g.Input.Stream.reading
     g.Output.HexUint.nibbles g.met.Output.HexUint.holds_some
-    g.Error.HasKind.form _ c.in-Ok.slice _
+    g.Error.HasKind.form _ _ c.in-Ok.slice _ _
     (hex_runs g.Input.Stream.seen_as g.Input.Token.AsChar.code g.Input.Stream.reading
-    g.Error.HasKind.form _ _ _ _ _ _ _ _ _ c.take_while-digits.ensures.occurrences
+    g.Error.HasKind.form _ _ (Ok c.in-Ok.slice) _ _ _ _ _ _ _ _
+    c.take_while-digits.ensures.occurrences
     refl c.new.ensures.start
     c.new.ensures.end c.max_nibbles-most.ensures
-    c.in-Ok.ensures.ran.0) in
+    c.in-Ok.ensures.ran) in
     let bytes = c.as_bstr-bytes.ensures
     ∙ hex_bytes g.Input.Stream.seen_as g.Input.Token.AsChar.code g.Input.Stream.reading
     g.Output.HexUint.nibbles g.met.Output.HexUint.holds_some
@@ -93,12 +96,13 @@ pub number_of-requires-clause-few : goal.number_of-requires-clause-few
 number_of-requires-clause-few g c =
     let taken = hex_takes g.Input.Stream.seen_as g.Input.Token.AsChar.code g.Input.Stream.reading
     g.Output.HexUint.nibbles g.met.Output.HexUint.holds_some
-    g.Error.HasKind.form _ c.in-Ok.slice _
+    g.Error.HasKind.form _ _ c.in-Ok.slice _ _
     (hex_runs g.Input.Stream.seen_as g.Input.Token.AsChar.code g.Input.Stream.reading
-    g.Error.HasKind.form _ _ _ _ _ _ _ _ _ c.take_while-digits.ensures.occurrences
+    g.Error.HasKind.form _ _ (Ok c.in-Ok.slice) _ _ _ _ _ _ _ _
+    c.take_while-digits.ensures.occurrences
     refl c.new.ensures.start
     c.new.ensures.end c.max_nibbles-most.ensures
-    c.in-Ok.ensures.ran.0) in
+    c.in-Ok.ensures.ran) in
     let bytes = c.as_bstr-bytes.ensures
     ∙ hex_bytes g.Input.Stream.seen_as g.Input.Token.AsChar.code g.Input.Stream.reading
     g.Output.HexUint.nibbles g.met.Output.HexUint.holds_some
@@ -113,12 +117,13 @@ pub returns-in-Ok-clause-ran : goal.returns-in-Ok-clause-ran
 returns-in-Ok-clause-ran g c =
     let taken = hex_takes g.Input.Stream.seen_as g.Input.Token.AsChar.code g.Input.Stream.reading
     g.Output.HexUint.nibbles g.met.Output.HexUint.holds_some
-    g.Error.HasKind.form _ c.in-Ok.slice _
+    g.Error.HasKind.form _ _ c.in-Ok.slice _ _
     (hex_runs g.Input.Stream.seen_as g.Input.Token.AsChar.code g.Input.Stream.reading
-    g.Error.HasKind.form _ _ _ _ _ _ _ _ _ c.take_while-digits.ensures.occurrences
+    g.Error.HasKind.form _ _ (Ok c.in-Ok.slice) _ _ _ _ _ _ _ _
+    c.take_while-digits.ensures.occurrences
     refl c.new.ensures.start
     c.new.ensures.end c.max_nibbles-most.ensures
-    c.in-Ok.ensures.ran.0) in
+    c.in-Ok.ensures.ran) in
     let bytes = c.as_bstr-bytes.ensures
     ∙ hex_bytes g.Input.Stream.seen_as g.Input.Token.AsChar.code g.Input.Stream.reading
     g.Output.HexUint.nibbles g.met.Output.HexUint.holds_some
@@ -141,9 +146,10 @@ pub returns-clause-ran : goal.returns-clause-ran
 returns-clause-ran g c =
     hex_missing g.Input.Stream.seen_as g.Input.Token.AsChar.code g.Input.Stream.reading
     g.Output.HexUint.nibbles g.met.Output.HexUint.holds_some
-    g.Output.HexUint.number g.Error.HasKind.form _ _ _
+    g.Output.HexUint.number g.Error.HasKind.form _ _ _ _ _
     (hex_runs g.Input.Stream.seen_as g.Input.Token.AsChar.code g.Input.Stream.reading
-    g.Error.HasKind.form _ _ _ _ _ _ _ _ _ c.take_while-digits.ensures.occurrences
+    g.Error.HasKind.form _ _ (Err (g.Error.HasKind.kind c.in-Err.error)) _ _ _ _ _ _ _ _
+    c.take_while-digits.ensures.occurrences
     refl c.new.ensures.start
     c.new.ensures.end c.max_nibbles-most.ensures
-    c.in-Err.ensures.ran.0)
+    c.in-Err.ensures.ran)

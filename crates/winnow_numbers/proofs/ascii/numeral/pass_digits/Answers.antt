@@ -9,7 +9,7 @@ returns-in-1-to-9-clause-ran g c =
     (omega (arith, c.as_char.ensures, c.in-1-to-9), omega (arith, c.as_char.ensures, c.in-1-to-9))
     c.in-Some.ensures.passes
     (only_digits g.I.Stream.seen_as g.I.Token.AsChar.code g.I.Stream.reading g.E.HasKind.form
-    _ _ _ c.in-Err.ensures.ran)
+    _ _ _ _ _ c.in-Err.ensures.ran)
 
 pub returns-in-0-clause-ran : goal.returns-in-0-clause-ran
 returns-in-0-clause-ran g c = (
@@ -30,4 +30,4 @@ returns-in-Ok-clause-ran g c =
     (omega (arith, c.as_char.ensures, c.in-1-to-9), omega (arith, c.as_char.ensures, c.in-1-to-9))
     c.in-Some.ensures.passes
     (more_digits g.I.Stream.seen_as g.I.Token.AsChar.code g.I.Stream.reading g.E.HasKind.form
-    _ _ _ c.in-Ok.ensures.ran)
+    _ _ _ _ _ c.in-Ok.ensures.ran)
