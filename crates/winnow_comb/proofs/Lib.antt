@@ -1,3 +1,2 @@
+pub mod AltLemmas
 pub mod ChoiceLemmas
-pub mod ChoiceLaws
-mod ItemChoiceLaw

@@ -1,7 +1,7 @@
 //! Combinators for choices, options and sequences.
 //!
-//! Each one is proved to satisfy the definition of its name in `specs/`, which relates the calls of
-//! the combinator to the calls of its children.
+//! Each one is proved to do what its definition in `parser_definitions` says, which is made of the
+//! definitions of its children.
 #![tactic(auto)]
 
 pub mod combinator;

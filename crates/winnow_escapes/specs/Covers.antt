@@ -5,16 +5,13 @@ use Rattle.std.specs.Prelude.{Some, None, Ok, Err}
 use Rattle.std.proofs.Common.{refl, sym, subst, ap, ◌∙◌, inl, inr, arith}
 use Rattle.streams.specs.Input.{Input, back_at}
 use Rattle.streams.specs.Kind.{Kind, backtrack, cut, incomplete, memory}
-use Rattle.streams.specs.Reading.{Reading}
 use Rattle.stream_errors.specs.Form.{Answer, ErrorForm, assert_kind, incomplete_kind, modal, plain}
-use Rattle.stream_sets.specs.Accumulator.{Accumulator, nothing_kept}
+use Rattle.stream_sets.specs.Accumulator.{Accumulator}
 use Rattle.winnow_core.specs.Chain.{IsItem}
 use Rattle.winnow_core.specs.Covers.{At, Calls, Covers, at_back, at_same, failed, gave}
-use Rattle.winnow_core.specs.Covers.Outputs.{take_covered}
 use Rattle.winnow_core.specs.Runs.{Runs}
 use Rattle.winnow_escapes.specs.Escaped.{EscapeTurnRuns, EscapedRuns, EscapesEnd, NoTurnRuns}
 use Rattle.winnow_escapes.specs.Escaped.{turns_kept}
-use Rattle.winnow_escapes.specs.TakeEscaped.{TakeEscapedRuns}
 use Rattle.winnow_escapes.specs.declared.ascii.turns.Turn.{Turn}
 use Rattle.winnow_escapes.specs.declared.ascii.turns.Turn.TheVariants.{Normal, Escape}
 use Rattle.parser_definitions.specs.Escaped.{EscapeTurn, EscapedDoes, TextTurn}
@@ -26,7 +23,6 @@ use Rattle.parser_definitions.specs.Loop.{LoopDoes, again, last, last_comes, las
 use Rattle.parser_definitions.specs.Loop.{returns}
 use Rattle.parser_definitions.specs.Outcome.{Does, Outcome, Setting, backs, lacks, lacks_by}
 use Rattle.parser_definitions.specs.Outcome.{misused, misused_by, outcome_of, took, wants}
-use Rattle.parser_definitions.specs.TakeEscaped.{TakeEscapedDoes}
 use Rattle.parser_definitions.specs.Then.{ComesOf}
 use Rattle.parser_definitions.specs.Then.Steps.{instead, takes}
 use Rattle.parser_definitions.specs.Threes.{with_one, with_three, with_two}
@@ -320,12 +316,3 @@ module _ {S W V T O D P C : Type 0} {at : Setting} {normal : Runs S T O} {contro
   pub escaped_covered : Covers at (EscapedRuns normal control escape Into (assert_kind at.form)
       (incomplete_kind at.form None)) (EscapedDoes texts escapes text mark rest)
   escaped_covered = record { covers = escaped_calls }
-
-pub take_escaped_covered : {S W V T L O D P : Type 0} {at : Setting} {normal : Runs S T O}
-    {control : Runs W T D} {escape : Runs V T P} {text : Does S T O} {mark : Does W T D}
-    {rest : Does V T P} (reading : Reading T L) → Covers at normal text
-    → Covers (plainly at) control mark → Covers at escape rest
-    → Covers at (TakeEscapedRuns reading normal control escape (assert_kind at.form)
-    (incomplete_kind at.form None)) (TakeEscapedDoes reading text mark rest)
-take_escaped_covered reading h1 h2 h3 =
-    take_covered (escaped_covered nothing_kept nothing_kept h1 h2 h3) reading

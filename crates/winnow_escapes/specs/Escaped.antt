@@ -11,7 +11,6 @@ use Rattle.winnow_repeat.specs.Chain.{Chain}
 use Rattle.winnow_escapes.specs.declared.ascii.impls.escaped.Escaped.{Escaped}
 use Rattle.winnow_escapes.specs.declared.ascii.turns.Turn.{Turn}
 use Rattle.winnow_escapes.specs.declared.ascii.turns.Turn.TheVariants.{Normal, Escape}
-pub mod Laws
 
 -- the parser of literal text
 abbrev pub escaped_normal : {N K X I O D P C E A : Type 0} → Escaped N K X I O D P C E A → N

@@ -1,4 +1,5 @@
 //! Laws of text with escapes, each proved by a function that does nothing.
+ghost use Rattle.parser_definitions.specs.Does.{Ran};
 ghost use Rattle.std.specs.Prelude.{List};
 ghost use Rattle.std.specs.Str.{chars};
 ghost use Rattle.parser_definitions.specs.Escaped.{Settled};
@@ -10,7 +11,7 @@ use stream_errors::control::ControlError;
 use stream_errors::parser_error::ParserError;
 use stream_searches::compare::Compare;
 use stream_sets::sets::ContainsToken;
-use streams::stream::StreamIsPartial;
+use streams::stream::{Stream, StreamIsPartial};
 use winnow_core::parser::Parser;
 use winnow_token::token::impls::{Any, NoneOf, OneOf};
 
@@ -27,7 +28,8 @@ pub fn escaped_bytes_and_the_rest_are_the_input<
     E: ParserError<&'a [u8]>,
 >()
     ensures { TakesFromTheFront (λ slice. slice.now)
-        (⟦<TakeEscaped<N, K, X, &'a [u8], O, D, P, E> as Parser<&'a [u8], &'a [u8], E>>⟧.meaning
+        (Ran ⟦<&'a [u8] as Stream>⟧.reading
+        ⟦<TakeEscaped<N, K, X, &'a [u8], O, D, P, E> as Parser<&'a [u8], &'a [u8], E>>⟧.does
         E.form) }
 {}
 
@@ -44,7 +46,8 @@ pub fn escaped_text_and_the_rest_are_the_input<
     E: ParserError<&'a str>,
 >()
     ensures { TakesFromTheFront (λ slice. chars slice.now)
-        (⟦<TakeEscaped<N, K, X, &'a str, O, D, P, E> as Parser<&'a str, &'a str, E>>⟧.meaning
+        (Ran ⟦<&'a str as Stream>⟧.reading
+        ⟦<TakeEscaped<N, K, X, &'a str, O, D, P, E> as Parser<&'a str, &'a str, E>>⟧.does
         E.form) }
 {}
 
@@ -63,7 +66,8 @@ pub fn the_escaped_slice_and_the_rest_are_the_input<
 >()
     ensures { (tokens_of : I.Slice → List I.Seen) → ShowsOne I.reading tokens_of
         → TakesFromTheFront tokens_of
-        (⟦<TakeEscaped<N, K, X, I, O, D, P, E> as Parser<I, I::Slice, E>>⟧.meaning E.form) }
+        (Ran I.reading ⟦<TakeEscaped<N, K, X, I, O, D, P, E> as Parser<I, I::Slice, E>>⟧.does
+        E.form) }
 {}
 
 /// States that the first token determines the outcome of a control that is one token:

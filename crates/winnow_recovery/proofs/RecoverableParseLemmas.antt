@@ -20,6 +20,12 @@ needs_none cut none = refl
 needs_none (incomplete need) none = let no : false ≡ true = none refl in absurd (cc)
 needs_none memory none = refl
 
+pub needs_some : (k : Kind) → IsSome (need_of_kind k) → backtrack ≡ complete_kind k
+needs_some backtrack e = absurd (cc)
+needs_some cut e = absurd (cc)
+needs_some (incomplete need) e = refl
+needs_some memory e = absurd (cc)
+
 -- memory stays, and nothing else becomes it
 stays_memory : (k l : Kind) → l ≡ complete_kind k → k ≡ memory → l ≡ memory
 stays_memory k l is e = is ∙ ap complete_kind e

@@ -6,7 +6,6 @@ use Rattle.streams.specs.Kind.{Kind, memory}
 use Rattle.stream_errors.specs.Join.{IsOrMemory}
 use Rattle.stream_errors.specs.Recover.{with_recorded}
 use Rattle.winnow_core.specs.Runs.{Runs}
-pub mod Laws
 
 -- whether the stream records errors, and whether an error may be out of memory after a failed
 -- recovery

@@ -6,7 +6,6 @@ use Rattle.winnow_core.specs.Runs.{Runs}
 use Rattle.parser_definitions.specs.Recover.{CanRecover, Recovery}
 use Rattle.winnow_recovery.specs.Recovery.{IsNotRecovered, IsRecovered}
 use Rattle.winnow_recovery.specs.declared.combinator.impls.resume_after.ResumeAfter.{ResumeAfter}
-pub mod Laws
 
 -- the parser that is run
 abbrev pub resume_after_parser : {P R I O E : Type 0} → ResumeAfter P R I O E → P

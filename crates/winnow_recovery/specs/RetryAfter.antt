@@ -7,7 +7,6 @@ use Rattle.winnow_core.specs.Runs.{Runs}
 use Rattle.parser_definitions.specs.Recover.{CanRecover, Recovery}
 use Rattle.winnow_recovery.specs.Recovery.{IsNotRecovered, IsRecovered}
 use Rattle.winnow_recovery.specs.declared.combinator.impls.retry_after.RetryAfter.{RetryAfter}
-pub mod Laws
 
 -- the parser that is tried
 abbrev pub retry_after_parser : {P R I O E : Type 0} → RetryAfter P R I O E → P

@@ -1,6 +1,7 @@
 //! The common part of both adapters.
 #![tactic(auto, using(streams::specs::Ends::ends_follow))]
 
+ghost use Rattle.parser_definitions.specs.Does.{Ran};
 ghost use Rattle.std.specs.Prelude.{◌≡◌, MatchBool, MatchResult, true};
 ghost use Rattle.streams.specs.Input.{IsEndOf};
 ghost use Rattle.parser_definitions.specs.Recover.{CanRecover};
@@ -40,9 +41,10 @@ pub(crate) fn recover_from<
     requires records { I.supports_recovery ≡ true }
     ensures again { R.can_parse recover.new }
     ensures ran { MatchResult result
-        (λ _. IsRecovered must_consume (R.meaning E.form) (E.kind error) (R.state recover.old)
+        (λ _. IsRecovered must_consume (Ran I.reading R.does E.form) (E.kind error)
+        (R.state recover.old)
         (I.view input.old) (R.state recover.new) (I.view input.new))
-        (λ refused. IsNotRecovered must_consume E.recoverable_grows (R.meaning E.form)
+        (λ refused. IsNotRecovered must_consume E.recoverable_grows (Ran I.reading R.does E.form)
         (E.kind error) (R.state recover.old) (I.view input.old) (E.kind refused)
         (R.state recover.new) (I.view input.new)) }
     ensures ends { IsEndOf I.reading (I.view input.new) (I.view input.old) }

@@ -1,4 +1,5 @@
 //! Laws of recovery, each proved by a function that does nothing.
+ghost use Rattle.parser_definitions.specs.Does.{Ran};
 ghost use Rattle.winnow_core.specs.Runs.{LeaveEnds};
 ghost use Rattle.winnow_recovery.specs.RecoveryLaws.{NoErrorIsAWholeParse};
 
@@ -21,7 +22,7 @@ pub fn no_errors_mean_success<
     E: ParserError<Recoverable<I, R, A>>,
     A: Allocator,
 >()
-    ensures { NoErrorIsAWholeParse A I.view R.kind (P.meaning E.form) }
+    ensures { NoErrorIsAWholeParse A I.view R.kind (Ran I.reading P.does E.form) }
 {}
 
 /// States that [`retry_after`](crate::parser::RecoveringParser::retry_after) leaves a suffix of the
@@ -34,7 +35,7 @@ pub fn retry_after_leaves_a_suffix<
     E: ParserError<I> + FromRecoverableError<I, E>,
 >()
     ensures { LeaveEnds I.reading
-        (⟦<RetryAfter<P, R, I, O, E> as Parser<I, O, E>>⟧.meaning E.form) }
+        (Ran I.reading ⟦<RetryAfter<P, R, I, O, E> as Parser<I, O, E>>⟧.does E.form) }
 {}
 
 /// States that [`resume_after`](crate::parser::RecoveringParser::resume_after) leaves a suffix of
@@ -47,5 +48,5 @@ pub fn resume_after_leaves_a_suffix<
     E: ParserError<I> + FromRecoverableError<I, E>,
 >()
     ensures { LeaveEnds I.reading
-        (⟦<ResumeAfter<P, R, I, O, E> as Parser<I, Option<O>, E>>⟧.meaning E.form) }
+        (Ran I.reading ⟦<ResumeAfter<P, R, I, O, E> as Parser<I, Option<O>, E>>⟧.does E.form) }
 {}

@@ -1,8 +1,8 @@
 //! Parsers that recover from errors: the adapters `retry_after` and `resume_after`, and
 //! `recoverable_parse`, which returns all errors that were recorded.
 //!
-//! Each adapter is proved to be its definition, which is in `specs/` under its name: a list of
-//! tries and the way in which they ended.
+//! Each adapter is proved to do what its definition says: `Retry` and `Resume` of
+//! `parser_definitions`.
 #![tactic(auto)]
 
 pub mod combinator;

@@ -1,6 +1,7 @@
 //! Parsers that recover from errors, and whole parses with them.
 #![tactic(auto, using(streams::specs::Ends::ends_follow))]
 
+ghost use Rattle.parser_definitions.specs.Does.{Ran};
 ghost use Rattle.std.specs.Prelude.{◌≡◌, MatchResult, false};
 ghost use Rattle.streams.specs.Input.{back_at};
 ghost use Rattle.streams.specs.Kind.{memory};
@@ -124,7 +125,7 @@ pub trait RecoverableParser<
         requires whole { I.supports_partial ≡ false }
         ensures again { Self.can_parse self.new }
         ensures ran { RecoverableParses I.view R.kind (I.view input)
-            (λ answer j. Self.meaning E.form (Self.state self.old) (I.view input) answer
+            (λ answer j. Ran I.reading Self.does E.form (Self.state self.old) (I.view input) answer
             (Self.state self.new) j) result }
     {
         let start = input.checkpoint();

@@ -1,8 +1,7 @@
 -- Invariants of the loop that repeats items.
-use Rattle.std.proofs.Common.{◌≡◌, ◌≤◌, ◌<◌, ◌+◌, ◌-◌, ℕ, List, [], ◌∷◌, ◌++◌}
+use Rattle.std.proofs.Common.{◌≡◌, ◌≤◌, ◌<◌, ℕ, List, [], ◌∷◌, ◌++◌}
 use Rattle.std.proofs.Common.{length, Option}
-use Rattle.std.proofs.Common.{Some, None, Ok, refl, ap, subst, inr, arith}
-use Rattle.std.specs.List.{FoldsTo}
+use Rattle.std.proofs.Common.{Some, None, Ok, refl, subst, inr, arith}
 use Rattle.std.proofs.lemmas.Fn.{FoldsTo-push}
 use Rattle.streams.specs.Input.{Input}
 use Rattle.streams.specs.Reading.{Reading}
@@ -78,11 +77,3 @@ length-units reading (x ∷ xs) =
       reading.units_add (x ∷ []) xs,
       reading.units_positive x [],
     )
-
--- each item of a chain drops a token
-pub chain-length : {S T O : Type 0} (run : Runs S T O) (outputs : List O) (s : S) (i : Input T)
-    (t : S) (j : Input T) → FoldsTo (λ p o q. IsItem run p o q) (s, i) outputs (t, j)
-    → length outputs + length j.left.tokens ≤ length i.left.tokens
-chain-length run [] s i t j e = omega (arith, ap (λ p. length p.1.left.tokens) e)
-chain-length run (o ∷ os) s i t j (p, item, rest) =
-    omega (arith, item.1, chain-length run os p.0 p.1 t j rest)

@@ -7,7 +7,6 @@ use Rattle.winnow_core.specs.Runs.{Runs}
 use Rattle.winnow_repeat.specs.Chain.{Successes}
 use Rattle.winnow_repeat.specs.declared.combinator.impls.fill.Fill.{Fill}
 pub use Rattle.parser_definitions.specs.Fill.{Buffer}
-pub mod Laws
 
 -- the buffer
 abbrev pub fill_buffer : {P I O E : Type 0} → Fill P I O E → Buffer O
@@ -30,8 +29,3 @@ FillsElements {S} {T} {O} run old s i answer new t j =
     (outputs : List O) × (before : List O) × (rest : List O) × (u : S) × (m : Input T)
     × Successes run s i outputs u m × (length before ≡ length outputs)
     × (old ≡ before ++ rest) × (new ≡ outputs ++ rest) × FillEnds run rest u m answer t j
-
--- A run that fills a buffer, which is a part of the parser.
-abbrev pub FillRuns : {S T O : Type 0} → Runs S T O → Runs (S × Buffer O) T ⊤
-FillRuns run s i answer t j =
-    FillsElements run s.1.elements s.0 i answer t.1.elements t.0 j × (t.1.name ≡ s.1.name)

@@ -4,13 +4,11 @@ use Rattle.streams.specs.Input.{Input, back_at}
 use Rattle.streams.specs.Kind.{Kind}
 use Rattle.stream_errors.specs.Form.{Answer}
 use Rattle.stream_sets.specs.Accumulator.{nothing_kept}
-use Rattle.stream_sets.specs.Range.{Bounds, IsBelow, IsWithin, bounds_of, from_to}
-use Rattle.stream_sets.specs.declared.range.Range.{Range}
+use Rattle.stream_sets.specs.Range.{Bounds, IsBelow, IsWithin, from_to}
 use Rattle.winnow_core.specs.Runs.{Runs}
 use Rattle.winnow_repeat.specs.Chain.{Chain}
 use Rattle.winnow_repeat.specs.Repeat.{ItemsRun}
 use Rattle.winnow_repeat.specs.declared.combinator.impls.fold.RepeatFold.{RepeatFold}
-pub mod Laws
 
 -- the closure that folds an output into the value
 abbrev pub fold_closure : {P G H I O R E : Type 0} → RepeatFold P G H I O R E → H
@@ -90,19 +88,3 @@ FoldRuns starts folds run assert_kind bounds s i answer t j =
 abbrev pub FoldTakes : {Q R O : Type 0} → (Q → R → O → R → Q → Type 0) → Q → R → O → Answer R → Q
     → Type 0
 FoldTakes {Q} {R} step q value o answer p = (more : R) × step q value o more p × (answer ≡ Ok more)
-
--- A fold as often as a range says, which stays as it is.
-abbrev pub RangedFolds : {S G Q R T O : Type 0} → (G → R → G → Type 0)
-    → (Q → R → O → R → Q → Type 0) → Runs S T O → Kind → Runs (S × (Range × (G × Q))) T R
-RangedFolds starts step run assert_kind s i answer t j =
-    FoldRuns starts (FoldTakes step) run assert_kind (bounds_of s.1.0) (s.0, s.1.1) i answer
-    (t.0, t.1.1) j
-    × (t.1.0 ≡ s.1.0)
-
--- The same where the value to begin with is made first in each form, and an output may be refused.
-abbrev pub RangedFoldMany : {S G Q R T O : Type 0} → (G → R → G → Type 0)
-    → (Q → R → O → Answer R → Q → Type 0) → Runs S T O → Kind → Runs (S × (Range × (G × Q))) T R
-RangedFoldMany starts folds run assert_kind s i answer t j =
-    FoldManyRuns starts folds run assert_kind (bounds_of s.1.0) (s.0, s.1.1) i answer
-    (t.0, t.1.1) j
-    × (t.1.0 ≡ s.1.0)

@@ -5,13 +5,11 @@ use Rattle.streams.specs.Kind.{Kind, backtrack, memory}
 use Rattle.stream_errors.specs.Form.{Answer}
 use Rattle.winnow_core.specs.Runs.{Runs}
 use Rattle.stream_sets.specs.declared.range.Range.{Range}
-use Rattle.stream_sets.specs.Range.{Bounds, IsBelow, IsWithin, bounds_of, from_to}
+use Rattle.stream_sets.specs.Range.{Bounds, IsBelow, IsWithin, from_to}
 use Rattle.winnow_repeat.specs.Chain.{Chain}
 use Rattle.stream_sets.specs.Accumulator.Holds.{Accumulates}
 use Rattle.stream_sets.specs.Accumulator.{Accumulator}
 use Rattle.winnow_repeat.specs.declared.combinator.impls.repeat.Repeat.{Repeat}
-pub mod Inversion
-pub mod Laws
 
 -- how often the parser is run
 abbrev pub repeat_occurrences : {P I O C E A : Type 0} → Repeat P I O C E A → Range
@@ -100,10 +98,3 @@ RepeatRuns {S} {T} {O} {C} run into assert_kind bounds s i answer t j =
     × RepeatOneRuns run into assert_kind s i answer t j)
     ⊎ (((bounds.least ≡ 1) × (bounds.greatest ≡ None) → ⊥)
     × RepeatManyRuns run into assert_kind bounds s i answer t j)
-
--- A repetition as often as a range says, which stays as it is.
-abbrev pub RangedRuns : {S T O C : Type 0} → Runs S T O → Accumulator C O → Kind
-    → Runs (S × Range) T C
-RangedRuns run into assert_kind s i answer t j =
-    RepeatRuns run into assert_kind (bounds_of s.1) s.0 i answer t.0 j
-    × (t.1 ≡ s.1)

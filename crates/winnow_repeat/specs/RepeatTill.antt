@@ -5,13 +5,11 @@ use Rattle.streams.specs.Input.{Input, back_at}
 use Rattle.streams.specs.Kind.{Kind, backtrack, memory}
 use Rattle.stream_errors.specs.Form.{Answer}
 use Rattle.stream_sets.specs.Accumulator.{Accumulator}
-use Rattle.stream_sets.specs.Range.{Bounds, IsBelow, IsWithin, bounds_of}
-use Rattle.stream_sets.specs.declared.range.Range.{Range}
+use Rattle.stream_sets.specs.Range.{Bounds, IsBelow, IsWithin}
 use Rattle.winnow_core.specs.Runs.{Runs}
 use Rattle.stream_sets.specs.Accumulator.Holds.{Accumulates}
 use Rattle.winnow_repeat.specs.Chain.{Chain, Successes}
 use Rattle.winnow_repeat.specs.Repeat.{capacity_of}
-pub mod Laws
 
 -- how many items there is room for after the least, if there is a greatest number
 abbrev pub room_behind : ℕ → Option ℕ → Option ℕ
@@ -91,10 +89,3 @@ RepeatTillRuns {S} {W} {T} {O} {D} {C} run till into assert_kind bounds s i answ
     × LeastItemsRun run into bounds.least empty s.0 i (Ok first) v n
     × TurnsRun run till into assert_kind (room_behind bounds.least bounds.greatest) first
     (v, s.1) n answer t j)))
-
--- As many as a range says, which stays as it is.
-abbrev pub RangedTillRuns : {S W T O D C : Type 0} → Runs S T O → Runs W T D → Accumulator C O
-    → Kind → Runs (S × W × Range) T (C × D)
-RangedTillRuns run till into assert_kind s i answer t j =
-    RepeatTillRuns run till into assert_kind (bounds_of s.2) (s.0, s.1) i answer (t.0, t.1) j
-    × (t.2 ≡ s.2)

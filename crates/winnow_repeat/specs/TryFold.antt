@@ -1,12 +1,8 @@
 -- Repetition whose outputs are folded into a value by a closure that may fail.
 use Rattle.std.specs.Prelude.{Result}
-use Rattle.streams.specs.Kind.{Kind}
 use Rattle.stream_errors.specs.Form.{Answer}
 use Rattle.stream_errors.specs.Given.{Keeping}
-use Rattle.stream_sets.specs.declared.range.Range.{Range}
-use Rattle.winnow_core.specs.Runs.{Runs}
 use Rattle.winnow_core.specs.TryMap.{TryMapSettles}
-use Rattle.winnow_repeat.specs.Fold.{RangedFoldMany}
 use Rattle.winnow_repeat.specs.declared.combinator.impls.try_fold.RepeatTryFold.{RepeatTryFold}
 
 -- the closure that folds an output into the value, or fails
@@ -20,10 +16,3 @@ abbrev pub TryFoldTakes : {Q R O X : Type 0} → (Q → R → O → Result R X �
     → Q × (X → Keeping) → R → O → Answer R → Q × (X → Keeping) → Type 0
 TryFoldTakes {Q} {R} {O} {X} step q value o answer p =
     TryMapSettles {O = R × O} (λ c x r d. step c x.0 x.1 r d) q (value, o) answer p
-
--- A fold as often as a range says. The value to begin with is made first, in each form.
-abbrev pub TryFoldRuns : {S G Q R T O X : Type 0} → (G → R → G → Type 0)
-    → (Q → R → O → Result R X → Q → Type 0) → Runs S T O → Kind
-    → Runs (S × (Range × (G × (Q × (X → Keeping))))) T R
-TryFoldRuns starts step run assert_kind =
-    RangedFoldMany starts (TryFoldTakes step) run assert_kind

@@ -1,10 +1,7 @@
 -- Repetition whose outputs are folded into a value, where each may be refused.
 use Rattle.std.specs.Prelude.{◌≡◌, Option, Some, None, Ok, Err, ◌⊎◌}
-use Rattle.streams.specs.Kind.{Kind, backtrack}
+use Rattle.streams.specs.Kind.{backtrack}
 use Rattle.stream_errors.specs.Form.{Answer}
-use Rattle.stream_sets.specs.declared.range.Range.{Range}
-use Rattle.winnow_core.specs.Runs.{Runs}
-use Rattle.winnow_repeat.specs.Fold.{RangedFoldMany}
 use Rattle.winnow_repeat.specs.declared.combinator.impls.verify_fold.RepeatVerifyFold.{
   RepeatVerifyFold,
 }
@@ -19,9 +16,3 @@ abbrev pub VerifyFoldTakes : {Q R O : Type 0} → (Q → R → O → Option R �
 VerifyFoldTakes {Q} {R} step q value o answer p =
     ((more : R) × step q value o (Some more) p × (answer ≡ Ok more))
     ⊎ (step q value o None p × (answer ≡ Err backtrack))
-
--- A fold as often as a range says. The value to begin with is made first, in each form.
-abbrev pub VerifyFoldRuns : {S G Q R T O : Type 0} → (G → R → G → Type 0)
-    → (Q → R → O → Option R → Q → Type 0) → Runs S T O → Kind → Runs (S × (Range × (G × Q))) T R
-VerifyFoldRuns starts step run assert_kind =
-    RangedFoldMany starts (VerifyFoldTakes step) run assert_kind

@@ -1,5 +1,4 @@
 //! Laws of repetition, each proved by a function that does nothing.
-ghost use Rattle.stream_errors.specs.Form.{assert_kind};
 ghost use Rattle.winnow_repeat.specs.RepeatLaws.{RunsAtMostOnceAUnit};
 
 use crate::combinator::impls::Repeat;
@@ -20,7 +19,6 @@ pub fn repeat_runs_at_most_once_a_unit<
     E: ParserError<I>,
     A: Allocator + Copy,
 >()
-    ensures { RunsAtMostOnceAUnit I.reading.units (P.meaning E.form) C.accumulator
-        (assert_kind E.form)
-        (⟦<Repeat<P, I, O, C, E, A> as Parser<I, C, E>>⟧.meaning E.form) }
+    ensures { RunsAtMostOnceAUnit I.reading.units P.does C.accumulator
+        ⟦<Repeat<P, I, O, C, E, A> as Parser<I, C, E>>⟧.does }
 {}

@@ -1,5 +1,5 @@
 mod FoldLaw
-mod FoldsLemmas
-mod SeparatedInversion
+mod FoldTurns
 mod SeparatedLaw
 mod SeparatedLemmas
+mod TurnsInversion

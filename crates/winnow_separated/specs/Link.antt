@@ -4,7 +4,6 @@ use Rattle.streams.specs.Input.{Input}
 use Rattle.streams.specs.Kind.{Kind}
 use Rattle.stream_errors.specs.Form.{Answer}
 use Rattle.winnow_core.specs.Runs.{Runs}
-pub mod Laws
 
 -- A link fails: its separator does, or that consumes, and the element after it fails.
 abbrev pub LinkFails : {S W T O D : Type 0} → Runs S T O → Runs W T D → S × W → Input T → Kind

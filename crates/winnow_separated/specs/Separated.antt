@@ -13,8 +13,6 @@ use Rattle.winnow_repeat.specs.Repeat.{ItemsRun, capacity_of}
 pub use Rattle.winnow_separated.specs.Link.{LinkRuns}
 use Rattle.winnow_separated.specs.Link.{SeparatesNothing}
 use Rattle.winnow_separated.specs.declared.combinator.impls.separated.Separated.{Separated}
-pub mod Inversion
-pub mod Laws
 
 -- how many elements are read
 abbrev pub separated_occurrences : {P S I O D C E A : Type 0} → Separated P S I O D C E A → Range

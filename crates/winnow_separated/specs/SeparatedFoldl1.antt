@@ -9,7 +9,6 @@ use Rattle.winnow_separated.specs.Link.{PairLinkRuns, SeparatesNothing}
 use Rattle.winnow_separated.specs.declared.combinator.impls.separated_foldl1.SeparatedFoldl1.{
   SeparatedFoldl1,
 }
-pub mod Laws
 
 -- the parser of the elements
 abbrev pub foldl1_parser : {P S H I O D E : Type 0} → SeparatedFoldl1 P S H I O D E → P
@@ -50,13 +49,3 @@ JoinedLinksRun {S} {W} {Q} {T} {O} {D} step run separator assert_kind first s i 
     × Chain (PairLinkRuns run separator) (s.0, s.1) i links u m
     × FoldsLeft step s.2 first links value t.2
     × LinksEnd run separator assert_kind value u m answer (t.0, t.1) j
-
--- The first element, into which links are folded.
-abbrev pub SeparatedFoldl1Runs : {S W Q T O D : Type 0} → (Q → O → D → O → O → Q → Type 0)
-    → Runs S T O → Runs W T D → Kind → Runs (S × W × Q) T O
-SeparatedFoldl1Runs {S} {W} {Q} {T} {O} {D} step run separator assert_kind s i answer t j =
-    -- the first element fails
-    ((k : Kind) × run s.0 i (Err k) t.0 j × (t.1 ≡ s.1) × (t.2 ≡ s.2) × (answer ≡ Err k))
-    -- links follow it
-    ⊎ ((first : O) × (v : S) × (n : Input T) × run s.0 i (Ok first) v n
-    × JoinedLinksRun step run separator assert_kind first (v, s.1, s.2) n answer t j)

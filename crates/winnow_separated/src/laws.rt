@@ -23,16 +23,16 @@ pub fn separated_leaves_a_separator_without_an_element<
     E: ParserError<I>,
     A: Allocator + Copy,
 >()
-    ensures { LeavesTheSeparator (P.meaning E.form) (S.meaning E.form) C.accumulator
-        (⟦<Separated<P, S, I, O, D, C, E, A> as Parser<I, C, E>>⟧.meaning E.form) }
+    ensures { LeavesTheSeparator P.does S.does C.accumulator
+        ⟦<Separated<P, S, I, O, D, C, E, A> as Parser<I, C, E>>⟧.does }
 {}
 
-/// If each separator consumes input, and state and input determine how elements and separators end,
-/// then [`separated_foldl1`](crate::combinator::separated_foldl1) and
+/// If state and input determine how elements and separators end, then
+/// [`separated_foldl1`](crate::combinator::separated_foldl1) and
 /// [`separated_foldr1`](crate::combinator::separated_foldr1) fold the same elements. From one state
 /// and input, if both succeed, these are the outputs of one list of calls, and both leave the same
-/// rest. Both conditions are only on the states that this element and this separator reach
-/// (`of_runs`). Parsers whose definitions are lawful meet the second one (`of_outcomes`).
+/// rest. The condition is only on the states that this element and this separator reach
+/// (`of_runs`). Parsers whose definitions are lawful meet it (`of_outcomes`).
 pub fn separated_folds_agree<
     P: Parser<I, O, E>,
     S: Parser<I, D, E>,
@@ -43,11 +43,10 @@ pub fn separated_folds_agree<
     E: ParserError<I>,
     A: Allocator + Copy,
 >()
-    ensures of_runs { FoldTheSame H.step (P.meaning E.form) (S.meaning E.form)
-        (⟦<SeparatedFoldl1<P, S, H, I, O, D, E> as Parser<I, O, E>>⟧.meaning E.form)
-        (⟦<SeparatedFoldr1<P, S, H, I, O, D, E, A> as Parser<I, O, E>>⟧.meaning E.form) }
-    ensures of_outcomes { FoldTheSameIf P.terms.premise S.terms.premise
-        H.step (P.meaning E.form) (S.meaning E.form)
-        (⟦<SeparatedFoldl1<P, S, H, I, O, D, E> as Parser<I, O, E>>⟧.meaning E.form)
-        (⟦<SeparatedFoldr1<P, S, H, I, O, D, E, A> as Parser<I, O, E>>⟧.meaning E.form) }
+    ensures of_runs { FoldTheSame H.step P.does S.does
+        ⟦<SeparatedFoldl1<P, S, H, I, O, D, E> as Parser<I, O, E>>⟧.does
+        ⟦<SeparatedFoldr1<P, S, H, I, O, D, E, A> as Parser<I, O, E>>⟧.does }
+    ensures of_outcomes { FoldTheSameIf P.terms.premise S.terms.premise H.step P.does S.does
+        ⟦<SeparatedFoldl1<P, S, H, I, O, D, E> as Parser<I, O, E>>⟧.does
+        ⟦<SeparatedFoldr1<P, S, H, I, O, D, E, A> as Parser<I, O, E>>⟧.does }
 {}

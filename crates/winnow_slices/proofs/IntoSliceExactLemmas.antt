@@ -6,18 +6,18 @@ use Rattle.std.proofs.lemmas.List.{append-nil, length_push}
 use Rattle.streams.specs.Equal.{none_is_some}
 use Rattle.streams.specs.Input.{Input}
 use Rattle.streams.specs.Kind.{Kind, backtrack, cut, incomplete, memory}
+use Rattle.streams.specs.Reading.{Reading}
 use Rattle.stream_errors.specs.Form.{Answer, ErrorForm, answer_by}
 use Rattle.grammars.specs.Grammar.{Each, Grammar, IsUnique, Many, TakesTokens}
 use Rattle.grammars.specs.Grammar.Unique.{no_more}
 use Rattle.parser_definitions.specs.Claim.{Claim, Claimed}
+use Rattle.parser_definitions.specs.Does.{Ran}
 use Rattle.parser_definitions.specs.Left.{left_of}
-use Rattle.parser_definitions.specs.Outcome.{Does, Setting, outcome_of}
+use Rattle.parser_definitions.specs.Outcome.{Does, outcome_of}
 use Rattle.parser_definitions.specs.Projects.{Agreement, Complete, Projects}
 use Rattle.winnow_core.specs.Chain.{IsItem}
-use Rattle.winnow_core.specs.Covers.{Covers}
 use Rattle.winnow_core.specs.Elements.{length-zero}
 use Rattle.winnow_core.specs.Exact.{UnlessWanted, agreement_of}
-use Rattle.winnow_core.specs.Runs.{Meaning}
 use Rattle.winnow_slices.specs.IntoSlice.{IntoSlice, IntoSliceEnds, Overwrites}
 use Rattle.winnow_slices.specs.IntoSlice.Exact.{AllMatches, HasMore, ReadsIntoSlice}
 
@@ -56,33 +56,32 @@ all_written {os = os} w full =
 
 -- ---- calls of the parser
 
-module _ {S T O : Type 0} (meaning : Meaning S T O) {does : Does S T O}
-    (covers : (at : Setting) → Covers at (meaning at.form) does) (form : ErrorForm) {b m : Type 0}
-    {s : S} {g : Grammar T O} (projects : (at : Complete) → Projects b m does at s g) where
+module _ {S T L O : Type 0} (reading : Reading T L) {does : Does S T O} (form : ErrorForm)
+    {b m : Type 0} {s : S} {g : Grammar T O}
+    (projects : (at : Complete) → Projects b m does at s g) where
   abbrev Agreed : Input T → Answer O → S → Input T → Type 0
   Agreed i answer t j = Agreement b m s g i.left.tokens (outcome_of answer (t, left_of j))
 
   called : (i : Input T) (answer : Answer O) (t : S) (j : Input T) → i.status.cut ≡ false
-      → meaning form s i answer t j → Agreed i answer t j
-  called i answer t j whole ran = agreement_of meaning covers form projects i t j whole answer ran
+      → Ran reading does form s i answer t j → Agreed i answer t j
+  called i answer t j whole ran = agreement_of reading form projects i t j whole answer ran
 
   -- the input is complete after it
   still : (i : Input T) (answer : Answer O) (t : S) (j : Input T) → i.status.cut ≡ false
-      → meaning form s i answer t j → j.status.cut ≡ false
-  still i answer t j whole ran =
-      let at : Setting = record { form = form; more = false; possible = i.left.possible } in
-      ((covers at).covers s i answer t j (record { more = whole; possible = refl }) ran).1.more
+      → Ran reading does form s i answer t j → j.status.cut ≡ false
+  still i answer t j whole ran = ran.1 ∙ whole
 
   -- consecutive items match, and do not change the state
   chain_agrees : (os : List O) (i : Input T) (u : S) (n : Input T) → i.status.cut ≡ false
-      → FoldsTo (λ p o q. IsItem (meaning form) p o q) (s, i) os (u, n)
+      → FoldsTo (λ p o q. IsItem (Ran reading does form) p o q) (s, i) os (u, n)
       → (u ≡ s) × (n.status.cut ≡ false) × Each g i.left.tokens os n.left.tokens
   chain_agrees [] i u n whole e =
       let P : S × Input T → Type 0 =
       λ p. (p.0 ≡ s) × (p.1.status.cut ≡ false) × (p.1.left.tokens ≡ i.left.tokens) in
       subst P e (refl, whole, refl)
   chain_agrees (o ∷ os) i u n whole (p, item, rest) =
-      let P : S → Type 0 = λ x. FoldsTo (λ a b q. IsItem (meaning form) a b q) (x, p.1) os (u, n) in
+      let P : S → Type 0 =
+      λ x. FoldsTo (λ a b q. IsItem (Ran reading does form) a b q) (x, p.1) os (u, n) in
       let (is_match, same) = called i (Ok o) p.0 p.1 whole item.0 in
       let (last, ends, each) = chain_agrees os p.1 u n (still i (Ok o) p.0 p.1 whole item.0)
       (subst P same rest) in
@@ -104,7 +103,7 @@ module _ {S T O : Type 0} (meaning : Meaning S T O) {does : Does S T O}
     wanted memory t j other not = (refl, not)
 
     ends_read : (answer : Answer ℕ) (t : S) (j : Input T)
-        → IntoSliceEnds (meaning form) too_many asserted (length old) os s n answer t j
+        → IntoSliceEnds (Ran reading does form) too_many asserted (length old) os s n answer t j
         → Read t j answer
     unfolding Many
     ends_read answer t j (inl (x, r, e, same)) =
@@ -154,25 +153,25 @@ unless_by P kind (Ok o) is = is
 unless_by P kind (Err e) is = is
 
 -- the clause of a call
-pub into_slice_reads : {S T O E : Type 0} (meaning : Meaning S T O) {does : Does S T O}
-    → ((at : Setting) → Covers at (meaning at.form) does) → {claim : Claim T O} {s : S}
+pub into_slice_reads : {S T L O E : Type 0} (reading : Reading T L) {does : Does S T O}
+    → {claim : Claim T O} {s : S}
     → Claimed claim s does → claim.premise → claim.backtracks → claim.consumes
     → (too_many : ℕ → Kind → Type 0) (asserted : Kind) (form : ErrorForm) (kind : E → Kind)
     (old : List O) (i : Input T) (result : Result ℕ E) (new : List O) (t : S) (j : Input T)
     → i.status.cut ≡ false
-    → IntoSlice (meaning form) too_many asserted old s i (answer_by kind result) new t j
+    → IntoSlice (Ran reading does form) too_many asserted old s i (answer_by kind result) new t j
     → UnlessWanted kind result (t ≡ s)
     × ReadsIntoSlice claim.grammar claim.spares_memory too_many old i.left.tokens
     (answer_by kind result) new j.left.tokens
-into_slice_reads {S} meaning {does} covers {claim} {s} claimed is backs consumes too_many asserted
+into_slice_reads {S} reading {does} {claim} {s} claimed is backs consumes too_many asserted
     form kind old i result new t j whole (os, u, n, chain, written, ends) =
     let projects : (at : Complete)
     → Projects claim.backtracks claim.spares_memory does at s claim.grammar =
     λ at. claimed.projects at is in
-    let (same, complete, each) = chain_agrees meaning covers form projects os i u n whole
+    let (same, complete, each) = chain_agrees reading form projects os i u n whole
     chain.runs in
-    let P : S → Type 0 = λ x. IntoSliceEnds (meaning form) too_many asserted (length old) os x n
-    (answer_by kind result) t j in
-    let (kept, reads) = ends_read meaning covers form projects backs (claimed.takes is consumes)
+    let P : S → Type 0 = λ x. IntoSliceEnds (Ran reading does form) too_many asserted (length old)
+    os x n (answer_by kind result) t j in
+    let (kept, reads) = ends_read reading form projects backs (claimed.takes is consumes)
     too_many asserted written i n complete each (answer_by kind result) t j (subst P same ends) in
     (unless_by (t ≡ s) kind result kept, reads)

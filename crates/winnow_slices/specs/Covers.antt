@@ -7,14 +7,15 @@ use Rattle.streams.specs.Kind.{Kind, backtrack, cut, incomplete, memory}
 use Rattle.streams.specs.Reading.{Reading}
 use Rattle.stream_errors.specs.Form.{Answer, ErrorForm, assert_kind}
 use Rattle.winnow_core.specs.Chain.{IsItem}
-use Rattle.winnow_core.specs.Covers.{At, Calls, Covers, at_back, at_same, failed, gave}
-use Rattle.winnow_core.specs.Runs.{Meaning, Runs}
+use Rattle.winnow_core.specs.Covers.{At, Calls, Covers, at_back, at_same, covered_ran, failed, gave}
+use Rattle.winnow_core.specs.Covers.{ran_covers}
+use Rattle.winnow_core.specs.Runs.{Runs}
 use Rattle.winnow_core.specs.Tells.{Tells}
 use Rattle.winnow_repeat.specs.Covers.{item_consumes, item_fails, item_stays, misuse, same_end}
 use Rattle.winnow_repeat.specs.Covers.Fill.{overwriting}
 use Rattle.winnow_slices.specs.IntoSlice.{IntoSlice, IntoSliceEnds, Overwrites}
 use Rattle.parser_definitions.specs.Consumes.{Item}
-use Rattle.parser_definitions.specs.Does.{Lawful}
+use Rattle.parser_definitions.specs.Does.{Lawful, Ran}
 use Rattle.parser_definitions.specs.Fill.{IntoSliceDoes, SliceTurn, into_slice_law, overwrite}
 use Rattle.parser_definitions.specs.Fill.{stores_item}
 use Rattle.parser_definitions.specs.Left.{Left, back, left_of}
@@ -152,25 +153,25 @@ module _ {S T O : Type 0} {at : Setting} {run : Runs S T O} {does : Does S T O}
       (s.0, i) (u, m) here went.runs refl (omega arith) over.as_many over.was over.is
       (λ there. ends outputs s.1 t.1 over u m a t.0 j ended there)
 
-  pub into_slice_covered : Covers at (SliceRuns run too_many (assert_kind at.form))
+  into_slice_covered : Covers at (SliceRuns run too_many (assert_kind at.form))
       (IntoSliceDoes too_many does)
   into_slice_covered = record { covers = slice_calls }
 
 -- So the function tells the outcome by the definition, where equal outputs of the child are one.
-pub into_slice_tells : {S T L O : Type 0} (meaning : Meaning S T O) {does : Does S T O}
-    {stable : Type 0} {alike : O → O → Type 0} → ((at : Setting) → Covers at (meaning at.form) does)
-    → Lawful stable alike does → ((o p : O) → alike o p → o ≡ p) → (too_many : ℕ → Kind → Type 0)
+pub into_slice_tells : {S T L O : Type 0} (reading : Reading T L) {does : Does S T O}
+    {stable : Type 0} {alike : O → O → Type 0} → Lawful stable alike does
+    → ((o p : O) → alike o p → o ≡ p) → (too_many : ℕ → Kind → Type 0)
     → ((n : ℕ) (k : Kind) → too_many n k → (k ≡ backtrack) ⊎ (k ≡ memory)) → (form : ErrorForm)
-    → (reading : Reading T L) (s : S × List O) (i : Input T) (answer : Answer ℕ) (t : S × List O)
-    (j : Input T) → IsEndOf reading j i
-    → SliceRuns (meaning form) too_many (assert_kind form) s i answer t j
+    → (s : S × List O) (i : Input T) (answer : Answer ℕ) (t : S × List O) (j : Input T)
+    → IsEndOf reading j i
+    → SliceRuns (Ran reading does form) too_many (assert_kind form) s i answer t j
     → Tells reading (λ n m. n ≡ m) (IntoSliceDoes too_many does) form s i answer t j
-into_slice_tells meaning covers law equal too_many by_kind form reading s i answer t j left ran =
+into_slice_tells reading {does} law equal too_many by_kind form s i answer t j ends ran =
     let at = setting_of form i in
-    let did = ((into_slice_covered too_many by_kind (covers at)).covers s i answer t j
-    (record { more = refl; possible = refl }) ran).0 in
+    let told = covered_ran reading form s i answer t j ends
+    (into_slice_covered too_many by_kind (ran_covers reading does at)) ran in
     record {
-      ran = (left, left.cut, left.ends.possible, did);
+      ran = told;
       only = λ y also. (into_slice_law law equal too_many).one at s (left_of i)
-          (outcome_of answer (t, left_of j)) y did also;
+          (outcome_of answer (t, left_of j)) y told.3 also;
     }

@@ -1,6 +1,7 @@
 //! Combinators, as in winnow's documentation: repetition into a slice.
 #![tactic(auto, using(streams::specs::Ends::ends_follow))]
 
+ghost use Rattle.parser_definitions.specs.Does.{Ran};
 ghost use Rattle.std.specs.Prelude.{◌≡◌, false};
 ghost use Rattle.stream_errors.specs.Form.{answer_by, assert_kind};
 ghost use Rattle.streams.specs.Input.{IsEndOf};
@@ -54,9 +55,9 @@ where
     E: ParserError<I> + FromExternalError<I, TooMany>,
     requires { P.can_parse parser.old }
     ensures again { P.can_parse parser.new }
-    ensures ran { IntoSlice (P.meaning E.form) (TooManyKind E.external_gives) (assert_kind E.form)
-        slice.old (P.state parser.old) (I.view input.old) (answer_by E.kind result) slice.new
-        (P.state parser.new) (I.view input.new) }
+    ensures ran { IntoSlice (Ran I.reading P.does E.form) (TooManyKind E.external_gives)
+        (assert_kind E.form) slice.old (P.state parser.old) (I.view input.old)
+        (answer_by E.kind result) slice.new (P.state parser.new) (I.view input.new) }
     ensures ends { IsEndOf I.reading (I.view input.new) (I.view input.old) }
     ensures tells { P.terms.premise → ((o p : O) → P.terms.alike o p → o ≡ p)
         → Tells I.reading (λ n m. n ≡ m)
@@ -84,9 +85,9 @@ where
     E: ParserError<I> + FromExternalError<I, TooMany>,
     requires { P.can_parse parser.old }
     ensures again { P.can_parse parser.new }
-    ensures ran { IntoSlice (P.meaning E.form) (TooManyKind E.external_gives) (assert_kind E.form)
-        slice.old (P.state parser.old) (I.view input.old) (answer_by E.kind result) slice.new
-        (P.state parser.new) (I.view input.new) }
+    ensures ran { IntoSlice (Ran I.reading P.does E.form) (TooManyKind E.external_gives)
+        (assert_kind E.form) slice.old (P.state parser.old) (I.view input.old)
+        (answer_by E.kind result) slice.new (P.state parser.new) (I.view input.new) }
     ensures ends { IsEndOf I.reading (I.view input.new) (I.view input.old) }
 {
     let mut count = 0;

@@ -1,4 +1,5 @@
 //! Turns of literal text and of escapes, into an accumulator.
+ghost use Rattle.parser_definitions.specs.Does.{Ran};
 ghost use Rattle.std.specs.Prelude.{◌≡◌, [], MatchResult, None};
 ghost use Rattle.stream_errors.specs.Form.{answer_by, assert_kind, incomplete_kind, plain};
 ghost use Rattle.streams.specs.Input.{IsEndOf};
@@ -37,7 +38,8 @@ pub(crate) fn try_turn<
     requires control { K.can_parse control.old }
     requires escape { X.can_parse escape.old }
     ensures again { N.can_parse normal.new × K.can_parse control.new × X.can_parse escape.new }
-    ensures ran { TriedRuns (N.meaning E.form) (K.meaning plain) (X.meaning E.form)
+    ensures ran { TriedRuns (Ran I.reading N.does E.form) (Ran I.reading K.does plain)
+        (Ran I.reading X.does E.form)
         (N.state normal.old, K.state control.old, X.state escape.old) (I.view input.old)
         (answer_by E.kind result)
         (N.state normal.new, K.state control.new, X.state escape.new) (I.view input.new) }
@@ -98,7 +100,8 @@ pub(crate) fn read_turns<
     requires control { K.can_parse control.old }
     requires escape { X.can_parse escape.old }
     ensures again { N.can_parse normal.new × K.can_parse control.new × X.can_parse escape.new }
-    ensures ran { EscapesRun (N.meaning E.form) (K.meaning plain) (X.meaning E.form)
+    ensures ran { EscapesRun (Ran I.reading N.does E.form) (Ran I.reading K.does plain)
+        (Ran I.reading X.does E.form)
         (turns_kept ⟦<C as Accumulate<O, A>>⟧.accumulator ⟦<C as Accumulate<P, A>>⟧.accumulator)
         (assert_kind E.form) (incomplete_kind E.form None) before
         (N.state normal.old, K.state control.old, X.state escape.old) (I.view input.old)

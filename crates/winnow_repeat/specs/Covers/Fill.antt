@@ -3,18 +3,20 @@ use Rattle.std.specs.List.{FoldsTo}
 use Rattle.std.specs.Prelude.{◌≡◌, ◌<◌, ◌+◌, ⊤, ℕ, List, [], ◌∷◌, ◌++◌, length, Ok, Err}
 use Rattle.std.proofs.Common.{refl, sym, subst, ap, ◌∙◌, inl, inr, arith, append_assoc}
 use Rattle.std.proofs.Common.{length-append}
-use Rattle.streams.specs.Input.{Input}
-use Rattle.stream_errors.specs.Form.{Answer}
-use Rattle.winnow_core.specs.Covers.{At, Calls, Covers, at_same, failed, gave}
+use Rattle.streams.specs.Input.{Input, IsEndOf}
+use Rattle.streams.specs.Reading.{Reading}
+use Rattle.stream_errors.specs.Form.{Answer, ErrorForm}
+use Rattle.winnow_core.specs.Covers.{At, Covers, at_same, failed, gave, ran_covers}
 use Rattle.winnow_core.specs.Runs.{Runs}
 use Rattle.winnow_repeat.specs.Chain.{IsSuccess}
 use Rattle.winnow_repeat.specs.Covers.{same_end}
-use Rattle.winnow_repeat.specs.Fill.{FillEnds, FillRuns, FillsElements}
+use Rattle.winnow_repeat.specs.Fill.{FillEnds, FillsElements}
+use Rattle.parser_definitions.specs.Does.{Ran}
 use Rattle.parser_definitions.specs.Fill.{Buffer, FillDoes, FillTurn, fills, overwrite}
 use Rattle.parser_definitions.specs.Left.{left_of}
 use Rattle.parser_definitions.specs.Loop.{LoopDoes, Turn, again, continues, last, last_comes}
 use Rattle.parser_definitions.specs.Loop.{last_turn, returns}
-use Rattle.parser_definitions.specs.Outcome.{Does, Outcome, Setting, outcome_of, took}
+use Rattle.parser_definitions.specs.Outcome.{Does, Outcome, Setting, outcome_of, setting_of, took}
 use Rattle.parser_definitions.specs.Left.{End}
 use Rattle.parser_definitions.specs.Then.{Then}
 use Rattle.parser_definitions.specs.Then.Steps.{instead, same, with_first}
@@ -145,12 +147,17 @@ module _ {S T O : Type 0} {at : Setting} {run : Runs S T O} {does : Does S T O}
         (s, i) (u, m) here went.runs refl (omega arith) many was will
         (λ there. ends outputs rest new will u m a t j ended there)
 
-  fill_calls : Calls at (FillRuns run) (FillDoes does)
-  fill_calls s i a t j here (ran, kept) =
-      let l = elements s.1.name s.1.elements s.0 i a t.1.elements t.0 j here ran in
-      let P : ℕ → Type 0 = λ n. FillDoes does at s (left_of i)
-      (outcome_of a ((t.0, record { elements = t.1.elements; name = n }), left_of j)) in
-      (subst P (sym kept) l.0, l.1)
-
-  pub fill_covered : Covers at (FillRuns run) (FillDoes does)
-  fill_covered = record { covers = fill_calls }
+-- a call that fills a buffer
+pub fill_ran : {S T L O : Type 0} (reading : Reading T L) (does : Does S T O) (form : ErrorForm)
+    (name : ℕ) (old : List O) (s : S) (i : Input T) (a : Answer ⊤) (new : List O) (t : S)
+    (j : Input T) → IsEndOf reading j i
+    → FillsElements (Ran reading does form) old s i a new t j
+    → Ran reading (FillDoes does) form (s, record { elements = old; name = name }) i a
+    (t, record { elements = new; name = name }) j
+fill_ran reading does form name old s i a new t j ends ran = (
+  ends,
+  ends.cut,
+  ends.ends.possible,
+  (elements (ran_covers reading does (setting_of form i)) name old s i a new t j
+      (record { more = refl; possible = refl }) ran).0,
+)

@@ -3,34 +3,36 @@ use Rattle.std.specs.List.{FoldsTo}
 use Rattle.std.specs.Prelude.{◌≡◌, ◌⊎◌, ◌<◌, ⊤, ℕ, List, [], ◌∷◌, length, Option, Some, None}
 use Rattle.std.specs.Prelude.{Result, Ok, Err}
 use Rattle.std.proofs.Common.{refl, sym, subst, ap, ◌∙◌, inl, inr, arith}
-use Rattle.streams.specs.Input.{Input}
+use Rattle.streams.specs.Input.{Input, IsEndOf}
 use Rattle.streams.specs.Kind.{Kind, backtrack, memory}
-use Rattle.stream_errors.specs.Form.{Answer, assert_kind}
+use Rattle.streams.specs.Reading.{Reading}
+use Rattle.stream_errors.specs.Form.{Answer, ErrorForm, assert_kind}
 use Rattle.stream_errors.specs.Form.Inversion.{at_kind, at_output, ok_is_err, same_kind}
 use Rattle.stream_errors.specs.Given.{Keeping}
 use Rattle.stream_sets.specs.Accumulator.{nothing_kept}
 use Rattle.stream_sets.specs.Range.{Bounds, bounds_of, from_to}
 use Rattle.stream_sets.specs.declared.range.Range.{Range}
 use Rattle.winnow_core.specs.Chain.{IsItem}
-use Rattle.winnow_core.specs.Covers.{At, Calls, Covers, at_back, at_same, failed}
+use Rattle.winnow_core.specs.Covers.{At, Covers, at_back, at_same, failed, ran_covers}
 use Rattle.winnow_core.specs.Runs.{Runs}
 use Rattle.winnow_repeat.specs.Covers.{AddsItem, LastTurn, ends_enough, ends_failed, ends_full}
 use Rattle.winnow_repeat.specs.Covers.{ends_rejected, ends_stuck, ends_wanting, item_consumes}
 use Rattle.winnow_repeat.specs.Covers.{item_fails, item_stays, items_do, misused_bounds, same_end}
 use Rattle.winnow_repeat.specs.Fold.{FoldItemsRun, FoldManyRuns, FoldOneRuns, FoldTakes, FoldedRuns}
-use Rattle.winnow_repeat.specs.Fold.{FoldRuns, RangedFoldMany, RangedFolds}
+use Rattle.winnow_repeat.specs.Fold.{FoldRuns}
 use Rattle.winnow_repeat.specs.Repeat.{ItemsRun, RepeatEnds}
-use Rattle.winnow_repeat.specs.TryFold.{TryFoldRuns, TryFoldTakes}
-use Rattle.winnow_repeat.specs.VerifyFold.{VerifyFoldRuns, VerifyFoldTakes}
+use Rattle.winnow_repeat.specs.TryFold.{TryFoldTakes}
+use Rattle.winnow_repeat.specs.VerifyFold.{VerifyFoldTakes}
 use Rattle.parser_definitions.specs.Bounded.{capacity_of}
 use Rattle.parser_definitions.specs.Closures.{folding, folding_in, trying, verifying}
 use Rattle.parser_definitions.specs.Consumes.{Item}
-use Rattle.parser_definitions.specs.Fold.{FoldDoes, FoldManyDo, TryFoldDoes, VerifyFoldDoes}
+use Rattle.parser_definitions.specs.Does.{Ran}
+use Rattle.parser_definitions.specs.Fold.{FoldDoes, FoldManyDo}
 use Rattle.parser_definitions.specs.Fold.{closures, with_closures}
 use Rattle.parser_definitions.specs.Folding.{Folding}
 use Rattle.parser_definitions.specs.Items.{Items}
 use Rattle.parser_definitions.specs.Left.{Left, left_of}
-use Rattle.parser_definitions.specs.Outcome.{Does, Setting, outcome_of, took}
+use Rattle.parser_definitions.specs.Outcome.{Does, Setting, outcome_of, setting_of, took}
 use Rattle.parser_definitions.specs.Repeat.{AfterFirst, Many, OneOrMore}
 use Rattle.parser_definitions.specs.Then.Steps.{and_then, first, with_first}
 
@@ -275,58 +277,59 @@ module _ {S G H R T O : Type 0} {starts : G → R → G → Type 0}
         l.1,
       )
 
-module _ {S G H R T O : Type 0} {starts : G → R → G → Type 0}
+-- a call of a fold whose initial value is made first
+pub fold_many_ran : {S G H R T L O : Type 0} {starts : G → R → G → Type 0}
     {folds : H → R → O → Answer R → H → Type 0} {f : Folding (G × H) R O}
-    (p : AsFolding starts folds f) {at : Setting} {run : Runs S T O} {does : Does S T O}
-    (child : Covers at run does) where
-  many_calls : Calls at (RangedFoldMany starts folds run (assert_kind at.form)) (FoldManyDo f does)
-  many_calls s i a t j here (ran, kept) =
-      let l = many p child s.1.0 (bounds_of s.1.0) (s.0, s.1.1) i a (t.0, t.1.1) j here ran in
-      let P : Range → Type 0 = λ z. FoldManyDo f does at s (left_of i)
-      (outcome_of a ((t.0, (z, t.1.1)), left_of j)) in
-      (subst P (sym kept) l.0, l.1)
-
-  fold_many_covered : Covers at (RangedFoldMany starts folds run (assert_kind at.form))
-      (FoldManyDo f does)
-  fold_many_covered = record { covers = many_calls }
+    (p : AsFolding starts folds f) (reading : Reading T L) (does : Does S T O) (form : ErrorForm)
+    (range : Range) (s : S × (G × H)) (i : Input T) (a : Answer R) (t : S × (G × H)) (j : Input T)
+    → IsEndOf reading j i
+    → FoldManyRuns starts folds (Ran reading does form) (assert_kind form) (bounds_of range) s i a t
+    j
+    → Ran reading (FoldManyDo f does) form (s.0, (range, s.1)) i a (t.0, (range, t.1)) j
+fold_many_ran p reading does form range s i a t j ends ran = (
+  ends,
+  ends.cut,
+  ends.ends.possible,
+  (many p (ran_covers reading does (setting_of form i)) range (bounds_of range) s i a t j
+      (record { more = refl; possible = refl }) ran).0,
+)
 
 -- ---- the parsers
 
-module _ {S G H R T O : Type 0} (starts : G → R → G → Type 0) (step : H → R → O → R → H → Type 0)
-    {at : Setting} {run : Runs S T O} {does : Does S T O} (child : Covers at run does) where
-  as_folding : AsFolding starts (FoldTakes step) (folding starts step)
-  as_folding = record {
-    made = λ n g k h r x. (x, refl);
-    taken = λ g h k r d o (more, x, e). (at_output (λ z. step h r o z k) e x, refl);
-    refused = λ g h k r o l (more, x, e). ok_is_err e refl;
-  }
+as_folding : {G H R O : Type 0} (starts : G → R → G → Type 0)
+    (step : H → R → O → R → H → Type 0) → AsFolding starts (FoldTakes step) (folding starts step)
+as_folding starts step = record {
+  made = λ n g k h r x. (x, refl);
+  taken = λ g h k r d o (more, x, e). (at_output (λ z. step h r o z k) e x, refl);
+  refused = λ g h k r o l (more, x, e). ok_is_err e refl;
+}
 
-  fold_calls : Calls at (RangedFolds starts step run (assert_kind at.form))
-      (FoldDoes starts step does)
-  fold_calls s i a t j here (ran, kept) =
-      let l = repeated ran in
-      let P : Range → Type 0 = λ z. FoldDoes starts step does at s (left_of i)
-      (outcome_of a ((t.0, (z, t.1.1)), left_of j)) in
-      (subst P (sym kept) l.0, l.1)
-    where
-      repeated : FoldRuns starts (FoldTakes step) run (assert_kind at.form) (bounds_of s.1.0)
-          (s.0, s.1.1) i a (t.0, t.1.1) j
-          → FoldDoes starts step does at s (left_of i)
-          (outcome_of a ((t.0, (s.1.0, t.1.1)), left_of j))
-          × At at j
-      repeated (inl (least, none, x)) =
-          let l = one as_folding child s.1.0 (s.0, s.1.1) i a (t.0, t.1.1) j here x in
-          (inl ((least, none), l.0), l.1)
-      repeated (inr (not, x)) =
-          let l =
-          many as_folding child s.1.0 (bounds_of s.1.0) (s.0, s.1.1) i a (t.0, t.1.1) j here x in
-          (inr (not, l.0), l.1)
+-- a call of a fold
+pub fold_ran : {S G H R T L O : Type 0} (starts : G → R → G → Type 0)
+    (step : H → R → O → R → H → Type 0) (reading : Reading T L) (does : Does S T O)
+    (form : ErrorForm) (range : Range) (s : S × (G × H)) (i : Input T) (a : Answer R)
+    (t : S × (G × H)) (j : Input T) → IsEndOf reading j i
+    → FoldRuns starts (FoldTakes step) (Ran reading does form) (assert_kind form) (bounds_of range)
+    s i a t j
+    → Ran reading (FoldDoes starts step does) form (s.0, (range, s.1)) i a (t.0, (range, t.1)) j
+fold_ran starts step reading does form range s i a t j ends (inl (least, none, ran)) = (
+  ends,
+  ends.cut,
+  ends.ends.possible,
+  inl (
+    (least, none),
+    (one (as_folding starts step) (ran_covers reading does (setting_of form i))
+        range s i a t j (record { more = refl; possible = refl }) ran).0,
+  ),
+)
+fold_ran starts step reading does form range s i a t j ends (inr (not, ran)) = (
+  ends,
+  ends.cut,
+  ends.ends.possible,
+  inr (not, (fold_many_ran (as_folding starts step) reading does form range s i a t j ends ran).3),
+)
 
-  pub fold_covered : Covers at (RangedFolds starts step run (assert_kind at.form))
-      (FoldDoes starts step does)
-  fold_covered = record { covers = fold_calls }
-
-as_verifying : {G H R O : Type 0} (starts : G → R → G → Type 0)
+pub as_verifying : {G H R O : Type 0} (starts : G → R → G → Type 0)
     (step : H → R → O → Option R → H → Type 0)
     → AsFolding starts (VerifyFoldTakes step) (verifying starts step)
 as_verifying {G} {H} {R} {O} starts step = record {
@@ -346,14 +349,7 @@ as_verifying {G} {H} {R} {O} starts step = record {
     refused g h k r o l (inl (more, x, e)) = ok_is_err e refl
     refused g h k r o l (inr (x, e)) = inl (same_kind e, (x, refl))
 
-pub verify_fold_covered : {S G H R T O : Type 0} {at : Setting} {run : Runs S T O}
-    {does : Does S T O} (starts : G → R → G → Type 0) (step : H → R → O → Option R → H → Type 0)
-    → Covers at run does
-    → Covers at (VerifyFoldRuns starts step run (assert_kind at.form))
-    (VerifyFoldDoes starts step does)
-verify_fold_covered starts step child = fold_many_covered (as_verifying starts step) child
-
-as_trying : {G H R O X : Type 0} (starts : G → R → G → Type 0)
+pub as_trying : {G H R O X : Type 0} (starts : G → R → G → Type 0)
     (step : H → R → O → Result R X → H → Type 0)
     → AsFolding starts (TryFoldTakes step) (trying starts step)
 as_trying {G} {H} {R} {O} {X} starts step = record {
@@ -377,9 +373,3 @@ as_trying {G} {H} {R} {O} {X} starts step = record {
         inl (same_kind e ∙ is, ((y, x, stored, kept), refl))
     refused g h k r o l (kept, inr (y, m, x, inr (want, is), e)) =
         inr (same_kind e ∙ is, (y, k.0, x, want))
-
-pub try_fold_covered : {S G H R T O X : Type 0} {at : Setting} {run : Runs S T O}
-    {does : Does S T O} (starts : G → R → G → Type 0)
-    (step : H → R → O → Result R X → H → Type 0) → Covers at run does
-    → Covers at (TryFoldRuns starts step run (assert_kind at.form)) (TryFoldDoes starts step does)
-try_fold_covered starts step child = fold_many_covered (as_trying starts step) child

@@ -2,26 +2,28 @@
 use Rattle.std.specs.List.{FoldsTo}
 use Rattle.std.specs.Prelude.{◌≡◌, ℕ, List, [], ◌∷◌, length, Option, None, Ok, Err}
 use Rattle.std.proofs.Common.{refl, sym, subst, ap, ◌∙◌, inl, inr}
-use Rattle.streams.specs.Input.{Input}
+use Rattle.streams.specs.Input.{Input, IsEndOf}
 use Rattle.streams.specs.Kind.{backtrack}
-use Rattle.stream_errors.specs.Form.{Answer, assert_kind}
+use Rattle.streams.specs.Reading.{Reading}
+use Rattle.stream_errors.specs.Form.{Answer, ErrorForm, assert_kind}
 use Rattle.stream_sets.specs.Accumulator.{Accumulator}
 use Rattle.stream_sets.specs.Range.{Bounds, bounds_of, from_to}
 use Rattle.stream_sets.specs.declared.range.Range.{Range}
 use Rattle.winnow_core.specs.Chain.{IsItem}
-use Rattle.winnow_core.specs.Covers.{At, Calls, Covers, at_back, at_same, failed, gave, pair_is}
+use Rattle.winnow_core.specs.Covers.{At, Covers, at_back, at_same, failed, gave, ran_covers}
 use Rattle.winnow_core.specs.Runs.{Runs}
 use Rattle.winnow_repeat.specs.Covers.{AddsItem, LastTurn, ends_enough, ends_failed, ends_full}
 use Rattle.winnow_repeat.specs.Covers.{ends_stuck, ends_wanting, item_consumes, item_fails}
 use Rattle.winnow_repeat.specs.Covers.{item_stays, items_do, misused_bounds, same_capacity}
 use Rattle.winnow_repeat.specs.Covers.{same_end}
-use Rattle.winnow_repeat.specs.Repeat.{ItemsRun, RangedRuns, RepeatEnds, RepeatManyRuns}
+use Rattle.winnow_repeat.specs.Repeat.{ItemsRun, RepeatEnds, RepeatManyRuns}
 use Rattle.winnow_repeat.specs.Repeat.{RepeatOneRuns, RepeatRuns}
 use Rattle.parser_definitions.specs.Consumes.{Item}
+use Rattle.parser_definitions.specs.Does.{Ran}
 use Rattle.parser_definitions.specs.Folding.{Folding, gathering}
 use Rattle.parser_definitions.specs.Items.{Items}
 use Rattle.parser_definitions.specs.Left.{Left, left_of}
-use Rattle.parser_definitions.specs.Outcome.{Does, Setting, outcome_of, took}
+use Rattle.parser_definitions.specs.Outcome.{Does, Setting, outcome_of, setting_of, took}
 use Rattle.parser_definitions.specs.Repeat.{AfterFirst, Many, OneOrMore, RepeatDoes, Repeated}
 use Rattle.parser_definitions.specs.Then.Steps.{and_then, first, second, with_first, with_second}
 
@@ -220,7 +222,7 @@ module _ {S Q T O C : Type 0} {get : Q → S} {put : Q → S → Q} {whole : S �
         d.1,
       )
 
-  pub repeated : (bounds : Bounds) (s : S) (i : Input T) (a : Answer C) (t : S) (j : Input T)
+  repeated : (bounds : Bounds) (s : S) (i : Input T) (a : Answer C) (t : S) (j : Input T)
       → At at i → RepeatRuns run into (assert_kind at.form) bounds s i a t j
       → Repeated get put Into does bounds at (whole s) (left_of i)
       (outcome_of a (whole t, left_of j))
@@ -238,14 +240,16 @@ firsts r = record { got = λ s. refl; kept = λ s v. refl }
 pub seconds : {S R : Type 0} (r : R) → Wholes second with_second (λ (s : S). (r, s))
 seconds r = record { got = λ s. refl; kept = λ s v. refl }
 
-module _ {S T O C : Type 0} {at : Setting} {run : Runs S T O} {does : Does S T O}
-    (into : Accumulator C O) (child : Covers at run does) where
-  repeat_calls : Calls at (RangedRuns run into (assert_kind at.form)) (RepeatDoes into does)
-  repeat_calls s i a t j here (ran, kept) =
-      let l = repeated (firsts s.1) into child (bounds_of s.1) s.0 i a t.0 j here ran in
-      let P : S × Range → Type 0 = λ z. RepeatDoes into does at s (left_of i)
-      (outcome_of a (z, left_of j)) in
-      (subst P (sym (pair_is t s.1 kept)) l.0, l.1)
-
-  pub repeat_covered : Covers at (RangedRuns run into (assert_kind at.form)) (RepeatDoes into does)
-  repeat_covered = record { covers = repeat_calls }
+-- a call of a repetition as often as a range says
+pub repeat_ran : {S T L O C : Type 0} (reading : Reading T L) (into : Accumulator C O)
+    (does : Does S T O) (form : ErrorForm) (range : Range) (s : S) (i : Input T) (a : Answer C)
+    (t : S) (j : Input T) → IsEndOf reading j i
+    → RepeatRuns (Ran reading does form) into (assert_kind form) (bounds_of range) s i a t j
+    → Ran reading (RepeatDoes into does) form (s, range) i a (t, range) j
+repeat_ran reading into does form range s i a t j ends ran = (
+  ends,
+  ends.cut,
+  ends.ends.possible,
+  (repeated (firsts range) into (ran_covers reading does (setting_of form i)) (bounds_of range) s i
+      a t j (record { more = refl; possible = refl }) ran).0,
+)

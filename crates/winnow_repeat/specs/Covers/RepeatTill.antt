@@ -3,29 +3,32 @@ use Rattle.std.specs.List.{FoldsTo}
 use Rattle.std.specs.Prelude.{◌≡◌, ◌⊎◌, ◌<◌, ◌+◌, ℕ, List, [], ◌∷◌, length, Option, Some, None}
 use Rattle.std.specs.Prelude.{Ok, Err}
 use Rattle.std.proofs.Common.{refl, sym, subst, ap, ◌∙◌, inl, inr, arith}
-use Rattle.streams.specs.Input.{Input, back_at}
+use Rattle.streams.specs.Input.{Input, IsEndOf, back_at}
 use Rattle.streams.specs.Kind.{Kind, backtrack, cut, incomplete, memory}
-use Rattle.stream_errors.specs.Form.{Answer, assert_kind}
+use Rattle.streams.specs.Reading.{Reading}
+use Rattle.stream_errors.specs.Form.{Answer, ErrorForm, assert_kind}
 use Rattle.stream_sets.specs.Accumulator.{Accumulator}
 use Rattle.stream_sets.specs.Range.{Bounds, IsBelow, IsWithin, bounds_of, from_to}
 use Rattle.stream_sets.specs.declared.range.Range.{Range}
 use Rattle.winnow_core.specs.Chain.{IsItem}
-use Rattle.winnow_core.specs.Covers.{At, Calls, Covers, at_back, at_same, failed, gave}
+use Rattle.winnow_core.specs.Covers.{At, Covers, at_back, at_same, failed, gave, ran_covers}
 use Rattle.winnow_core.specs.Runs.{Runs}
 use Rattle.winnow_repeat.specs.Chain.{IsSuccess}
 use Rattle.winnow_repeat.specs.Covers.{AddsItem, LastTurn, ends_failed, ends_full, ends_wanting}
 use Rattle.winnow_repeat.specs.Covers.{item_consumes, item_fails, item_stays, items_do, misuse}
 use Rattle.winnow_repeat.specs.Covers.{misused_bounds, same_capacity, same_end}
 use Rattle.winnow_repeat.specs.RepeatTill as lib
-use Rattle.winnow_repeat.specs.RepeatTill.{LeastItemsRun, RangedTillRuns, RepeatTillRuns, TurnRuns}
+use Rattle.winnow_repeat.specs.RepeatTill.{LeastItemsRun, RepeatTillRuns, TurnRuns}
 use Rattle.winnow_repeat.specs.RepeatTill.{TurnsEnd, TurnsRun}
 use Rattle.parser_definitions.specs.Consumes.{Item}
+use Rattle.parser_definitions.specs.Does.{Ran}
 use Rattle.parser_definitions.specs.Folding.{Folding, gathering}
 use Rattle.parser_definitions.specs.Items.{Items, item_comes}
 use Rattle.parser_definitions.specs.Left.{Left, left_of}
 use Rattle.parser_definitions.specs.Loop.{Loop, LoopDoes, Turn, again, last, last_comes, last_turn}
 use Rattle.parser_definitions.specs.Loop.{returns}
-use Rattle.parser_definitions.specs.Outcome.{Does, Outcome, Setting, backs, outcome_of, took, wants}
+use Rattle.parser_definitions.specs.Outcome.{Does, Outcome, Setting, backs, outcome_of}
+use Rattle.parser_definitions.specs.Outcome.{setting_of, took, wants}
 use Rattle.parser_definitions.specs.RepeatTill.{Every, RepeatTillDoes, TillTurn}
 use Rattle.parser_definitions.specs.RepeatTill.{if_room, room_behind}
 use Rattle.parser_definitions.specs.Then.{ComesOf, Next, Then}
@@ -374,17 +377,18 @@ module _ {S W T O D C : Type 0} {at : Setting} {run : Runs S T O} {till : Runs W
         more.1,
       )
 
-module _ {S W T O D C : Type 0} {at : Setting} {run : Runs S T O} {till : Runs W T D}
-    {does : Does S T O} {stop : Does W T D} (into : Accumulator C O) (child : Covers at run does)
-    (terminator : Covers at till stop) where
-  till_calls : Calls at (RangedTillRuns run till into (assert_kind at.form))
-      (RepeatTillDoes into does stop)
-  till_calls s i a t j here (ran, kept) =
-      let l = within_range into child terminator s.2 (s.0, s.1) i a (t.0, t.1) j here ran in
-      let P : Range → Type 0 = λ z. RepeatTillDoes into does stop at s (left_of i)
-      (outcome_of a ((t.0, t.1, z), left_of j)) in
-      (subst P (sym kept) l.0, l.1)
-
-  pub repeat_till_covered : Covers at (RangedTillRuns run till into (assert_kind at.form))
-      (RepeatTillDoes into does stop)
-  repeat_till_covered = record { covers = till_calls }
+-- a call of a repetition up to a terminator
+pub repeat_till_ran : {S W T L O D C : Type 0} (reading : Reading T L) (into : Accumulator C O)
+    (does : Does S T O) (stop : Does W T D) (form : ErrorForm) (range : Range) (s : S × W)
+    (i : Input T) (a : Answer (C × D)) (t : S × W) (j : Input T) → IsEndOf reading j i
+    → RepeatTillRuns (Ran reading does form) (Ran reading stop form) into (assert_kind form)
+    (bounds_of range) s i a t j
+    → Ran reading (RepeatTillDoes into does stop) form (s.0, s.1, range) i a (t.0, t.1, range) j
+repeat_till_ran reading into does stop form range s i a t j ends ran = (
+  ends,
+  ends.cut,
+  ends.ends.possible,
+  (within_range into (ran_covers reading does (setting_of form i))
+      (ran_covers reading stop (setting_of form i)) range s i a t j
+      (record { more = refl; possible = refl }) ran).0,
+)

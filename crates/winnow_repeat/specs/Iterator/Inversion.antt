@@ -5,11 +5,11 @@ use Rattle.std.proofs.Common.{sym, subst, inl, inr}
 use Rattle.std.proofs.lemmas.Fn.{FoldsTo-push}
 use Rattle.streams.specs.Input.{Input, back_at}
 use Rattle.streams.specs.Kind.{Kind, backtrack}
+use Rattle.winnow_core.specs.Chain.{Items}
 use Rattle.winnow_core.specs.Runs.{Runs}
 use Rattle.winnow_repeat.specs.Chain.{IsItem}
 use Rattle.winnow_repeat.specs.Iterator.{IteratorNext, IteratorState, IteratorStops, IteratorStatus}
 use Rattle.winnow_repeat.specs.Iterator.{done, finish_answer, running, stopped}
-use Rattle.winnow_repeat.specs.Repeat.Inversion.{Items}
 
 -- an item: the iterator is running before and after the call, and its parser succeeded and consumed
 -- input

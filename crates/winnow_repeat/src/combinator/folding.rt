@@ -1,4 +1,5 @@
 //! How repetition folds its outputs into a value.
+ghost use Rattle.parser_definitions.specs.Does.{Ran};
 ghost use Rattle.std.specs.Prelude.{MatchResult, Ok, Err};
 ghost use Rattle.stream_errors.specs.Form.{Answer, answer_by, assert_kind};
 ghost use Rattle.stream_sets.specs.Range.{IsWithin, bounds_of, from_to};
@@ -61,7 +62,7 @@ pub(crate) fn fold_range<
     requires init { G.IsAlwaysCallable init.old }
     requires op { F.can_fold op.old }
     ensures again { P.can_parse parser.new × G.IsAlwaysCallable init.new × F.can_fold op.new }
-    ensures ran { FoldManyRuns G.step F.folds (P.meaning E.form) (assert_kind E.form)
+    ensures ran { FoldManyRuns G.step F.folds (Ran I.reading P.does E.form) (assert_kind E.form)
         (bounds_of occurrences) (P.state parser.old, (init.old, F.state op.old))
         (I.view input.old) (answer_by E.kind result)
         (P.state parser.new, (init.new, F.state op.new)) (I.view input.new) }
@@ -95,7 +96,7 @@ fn fold_many<
     requires init { G.IsAlwaysCallable init.old }
     requires op { F.can_fold op.old }
     ensures again { P.can_parse parser.new × G.IsAlwaysCallable init.new × F.can_fold op.new }
-    ensures ran { FoldManyRuns G.step F.folds (P.meaning E.form) (assert_kind E.form)
+    ensures ran { FoldManyRuns G.step F.folds (Ran I.reading P.does E.form) (assert_kind E.form)
         (from_to least greatest) (P.state parser.old, (init.old, F.state op.old))
         (I.view input.old) (answer_by E.kind result)
         (P.state parser.new, (init.new, F.state op.new)) (I.view input.new) }
@@ -129,7 +130,7 @@ pub fn fold_items<
     requires op { F.can_fold op.old }
     requires range { IsWithin room missing }
     ensures again { P.can_parse parser.new × F.can_fold op.new }
-    ensures ran { FoldItemsRun F.folds (P.meaning E.form) (assert_kind E.form)
+    ensures ran { FoldItemsRun F.folds (Ran I.reading P.does E.form) (assert_kind E.form)
         (from_to missing room) (P.state parser.old, (F.state op.old, value)) (I.view input.old)
         (answer_by E.kind result) (P.state parser.new, F.state op.new) (I.view input.new) }
     ensures ends { IsEndOf I.reading (I.view input.new) (I.view input.old) }

@@ -1,4 +1,5 @@
 //! Items into an accumulator, as all repetitions read them.
+ghost use Rattle.parser_definitions.specs.Does.{Ran};
 ghost use Rattle.std.specs.Prelude.{◌<◌, ◌≡◌, MatchBool, Some, ℕ};
 ghost use Rattle.stream_errors.specs.Form.{answer_by, assert_kind};
 ghost use Rattle.stream_sets.specs.Range.{IsWithin, from_to};
@@ -33,7 +34,7 @@ pub fn repeat_many<
 >(alloc: A, least: usize, greatest: Option<usize>, parser: &mut P, input: &mut I) -> Result<C, E>
     requires { P.can_parse parser.old }
     ensures again { P.can_parse parser.new }
-    ensures ran { RepeatManyRuns (P.meaning E.form) C.accumulator (assert_kind E.form)
+    ensures ran { RepeatManyRuns (Ran I.reading P.does E.form) C.accumulator (assert_kind E.form)
         (from_to least greatest) (P.state parser.old) (I.view input.old)
         (answer_by E.kind result)
         (P.state parser.new) (I.view input.new) }
@@ -60,7 +61,7 @@ pub fn repeat_items<
     requires parser { P.can_parse parser.old }
     requires range { IsWithin room missing }
     ensures again { P.can_parse parser.new }
-    ensures ran { ItemsRun (P.meaning E.form) C.accumulator (assert_kind E.form)
+    ensures ran { ItemsRun (Ran I.reading P.does E.form) C.accumulator (assert_kind E.form)
         (from_to missing room)
         all (P.state parser.old) (I.view input.old) (answer_by E.kind result)
         (P.state parser.new) (I.view input.new) }

@@ -1,40 +1,39 @@
--- Elements with separators between them that are folded: they are covered, if both are.
+-- Elements with separators between them that are folded.
 use Rattle.std.specs.List.{FoldsTo}
-use Rattle.std.specs.Prelude.{◌≤◌, ◌+◌, ℕ, List, [], ◌∷◌, Option, None, Ok, Err}
+use Rattle.std.specs.Prelude.{◌≡◌, ◌≤◌, ◌+◌, ℕ, List, [], ◌∷◌, Option, None, Ok, Err}
 use Rattle.std.specs.declared.vec.Vec.{Vec}
-use Rattle.std.proofs.Common.{refl, sym, subst, ap, ◌∙◌, inl, inr, arith}
-use Rattle.streams.specs.Input.{Input}
-use Rattle.streams.specs.Kind.{backtrack}
-use Rattle.stream_errors.specs.Form.{Answer, assert_kind}
+use Rattle.std.proofs.Common.{refl, sym, subst, ◌∙◌, inl, inr, arith}
+use Rattle.streams.specs.Input.{Input, IsEndOf, is_end_of_trans}
+use Rattle.streams.specs.Kind.{Kind, backtrack}
+use Rattle.streams.specs.Reading.{Reading}
+use Rattle.stream_errors.specs.Form.{Answer, ErrorForm, assert_kind}
 use Rattle.stream_sets.specs.Accumulator.{list_kept}
 use Rattle.stream_sets.specs.Range.{from_to}
 use Rattle.winnow_core.specs.Chain.{IsItem}
-use Rattle.winnow_core.specs.Covers.Sequences.{both_covered}
 use Rattle.winnow_core.specs.Runs.{Runs}
-use Rattle.winnow_core.specs.Sequence.{SequenceRuns2}
 use Rattle.winnow_repeat.specs.Repeat.{RepeatManyRuns}
 use Rattle.winnow_separated.specs.Link.{PairLinkRuns}
-use Rattle.winnow_separated.specs.SeparatedFoldl1.{FoldsLeft, LinksEnd, SeparatedFoldl1Runs}
-use Rattle.winnow_separated.specs.SeparatedFoldr1 as right
-use Rattle.winnow_separated.specs.SeparatedFoldr1.{SeparatedFoldr1Runs}
+use Rattle.winnow_separated.specs.SeparatedFoldl1.{FoldsLeft, JoinedLinksRun, LinksEnd}
 use Rattle.winnow_separated.specs.Covers.Gathered.{item_covered, items_did, link_did}
 use Rattle.winnow_separated.specs.Covers.Gathered.{link_failed, link_missing}
 use Rattle.winnow_separated.specs.Covers.Turns.{fails, goes_on, nothing, stops}
+use Rattle.parser_definitions.specs.Both.{BothDo}
 use Rattle.parser_definitions.specs.Closures.{folding_in}
+use Rattle.parser_definitions.specs.Does.{Ran}
 use Rattle.parser_definitions.specs.Folding.{Folding}
 use Rattle.parser_definitions.specs.Items.{ItemsTurn}
 use Rattle.parser_definitions.specs.Left.{left_of}
 use Rattle.parser_definitions.specs.Link.{Link}
 use Rattle.parser_definitions.specs.Loop.{LoopDoes, last}
-use Rattle.parser_definitions.specs.Outcome.{Does, Setting, outcome_of}
-use Rattle.parser_definitions.specs.Outcome.{took}
+use Rattle.parser_definitions.specs.Outcome.{Does, Setting, outcome_of, setting_of, took}
 use Rattle.parser_definitions.specs.SeparatedFold.{FoldsRight, JoinsLinks, PairsDo}
-use Rattle.parser_definitions.specs.SeparatedFold.{SeparatedFoldl1Does, SeparatedFoldr1Does}
-use Rattle.parser_definitions.specs.SeparatedFold.{folds_links, joining}
-use Rattle.parser_definitions.specs.Then.Steps.{and_then, instead, same, then_next, where_took}
-use Rattle.parser_definitions.specs.Threes.{pair_of, three_of, turned_of, with_one}
+use Rattle.parser_definitions.specs.SeparatedFold.{SeparatedFoldr1Does, folds_links, joining}
+use Rattle.parser_definitions.specs.Then.{Then}
+use Rattle.parser_definitions.specs.Then.Steps.{and_then, instead, same, where_took}
+use Rattle.parser_definitions.specs.Threes.{one_of, pair_of, three_of, turned_of, with_one}
 use Rattle.parser_definitions.specs.Threes.{with_pair, with_three, with_turned}
-use Rattle.winnow_core.specs.Covers.{At, Calls, Covers, at_back, at_same, failed, gave}
+use Rattle.winnow_core.specs.Covers.{At, Covers, at_back, at_same, at_setting, failed}
+use Rattle.winnow_core.specs.Covers.{ran_covers}
 
 -- ---- folded to the left
 
@@ -100,113 +99,102 @@ module _ {S W H T O D : Type 0} {at : Setting} {run : Runs S T O} {separator : R
         rest.1,
       )
 
-  separated_foldl1_calls : Calls at (SeparatedFoldl1Runs step run separator (assert_kind at.form))
-      (SeparatedFoldl1Does step does between)
-  separated_foldl1_calls s i a t j here (inl (k, r, kept, stays, e)) =
-      let d = child.covers s.0 i (Err k) t.0 j here r in
-      let Y : W → S × W × H = λ y. (t.0, y, t.2) in
-      let Z : H → S × W × H = λ z. (t.0, s.1, z) in (
-        (
-          outcome_of (Err k) (t.0, left_of j),
-          d.0,
-          failed with_one (λ o. and_then with_one (JoinsLinks step does between o)) at s
-              (left_of i) k (left_of j) t.0 t a e (ap Y kept ∙ ap Z stays),
-        ),
-        d.1,
-      )
-  separated_foldl1_calls s i a t j here
-      (inr (first, v, n, r, (links, u, m, value, chain, made, end))) =
-      let d = child.covers s.0 i (Ok first) v n here r in
-      let l = joins links 0 first value s.2 t.2 (v, s.1) u n m a (t.0, t.1) j d.1 chain.runs made
-      end in ((took first (v, left_of n), d.0, l.0), l.1)
+  pub joins_covered : (first : O)
+      → Covers at (JoinedLinksRun step run separator (assert_kind at.form) first)
+      (JoinsLinks step does between first)
+  joins_covered first = record {
+    covers = λ s i a t j here (links, u, m, value, chain, made, end).
+        joins links 0 first value s.2 t.2 (s.0, s.1) u i m a (t.0, t.1) j here chain.runs made end;
+  }
 
-  pub separated_foldl1_covered : Covers at
-      (SeparatedFoldl1Runs step run separator (assert_kind at.form))
-      (SeparatedFoldl1Does step does between)
-  separated_foldl1_covered = record { covers = separated_foldl1_calls }
+-- ---- the first element, and what follows it
+
+pub first_ran : {S W H T L O : Type 0} (reading : Reading T L) (does : Does S T O)
+    (rest : O → Does (S × W × H) T O) (form : ErrorForm) (s t : S × W × H) (i m j : Input T)
+    (first : O) (v : S) (a : Answer O) → Ran reading does form s.0 i (Ok first) v m
+    → Ran reading (rest first) form (v, s.1, s.2) m a t j
+    → Ran reading (Then one_of does (where_took with_one (λ o. and_then with_one (rest o)))) form s
+    i a t j
+first_ran {T = T} reading does rest form s t i m j first v a ran others = (
+  is_end_of_trans others.0 ran.0,
+  others.1 ∙ ran.1,
+  others.2 ∙ ran.2,
+  (
+    took first (v, left_of m),
+    ran.3,
+    subst (λ z. rest first z (v, s.1, s.2) (left_of m) (outcome_of a (t, left_of j)))
+        (at_setting {T = T} {at = setting_of form i} {i = m}
+        (record { more = ran.1; possible = ran.2 })) others.3,
+  ),
+)
 
 -- ---- folded to the right
 
-same_fold : {H O D : Type 0} (step : H → O → D → O → O → H → Type 0) (h : H) (o : O)
-    (links : List (D × O)) (v : O) (k : H) → right.FoldsRight step h o links v k
-    → FoldsRight step h o links v k
-same_fold step h o [] v k made = made
-same_fold step h o (link ∷ links) v k (value, c, made, did) =
-    (value, c, same_fold step h link.1 links value c made, did)
-
-module _ {S W H T O D : Type 0} (A : Type 0) {at : Setting} {run : Runs S T O}
-    {separator : Runs W T D} {does : Does S T O} {between : Does W T D}
-    (step : H → O → D → O → O → H → Type 0) (child : Covers at run does)
-    (mark : Covers at separator between) where
-  pairs : (s : S × W) (h : H) (i : Input T) (a : Answer (Vec (D × O) A)) (t : S × W) (j : Input T)
-      → At at i
-      → RepeatManyRuns (SequenceRuns2 separator run) (list_kept {A = A}) (assert_kind at.form)
+module _ {S W H T L O D : Type 0} (A : Type 0) (reading : Reading T L) (does : Does S T O)
+    (between : Does W T D) where
+  pairs_covered : (at : Setting) (h : H) (s : S × W) (i : Input T) (a : Answer (Vec (D × O) A))
+      (t : S × W) (j : Input T) → At at i
+      → RepeatManyRuns (Ran reading (BothDo (λ d o. (d, o)) between does) at.form)
+      (list_kept {A = A}) (assert_kind at.form)
       (from_to 0 None) (s.1, s.0) i a (t.1, t.0) j
       → PairsDo A does between at (s.0, s.1, h) (left_of i)
-      (outcome_of a ((t.0, t.1, h), left_of j)) × At at j
-  pairs s h i a t j here (inl (most, full, less, e, kept, is)) = absurd (cc)
-  pairs s h i a t j here (inr (inl (within, more, e, kept, is))) = absurd more
-  pairs s h i a t j here (inr (inr (empty, within, starts, ran))) =
+      (outcome_of a ((t.0, t.1, h), left_of j))
+  pairs_covered at h s i a t j here (inl (most, full, less, e, kept, is)) = absurd (cc)
+  pairs_covered at h s i a t j here (inr (inl (within, more, e, kept, is))) = absurd more
+  pairs_covered at h s i a t j here (inr (inr (empty, within, starts, ran))) =
       let place : W × S → S × W × H = λ p. (p.1, p.0, h) in
       let l = items_did turned_of with_turned place (λ p. refl) (λ u t. refl) list_kept
-      (from_to 0 None) (item_covered (both_covered (λ d o. (d, o)) mark child)) empty (s.1, s.0) i
-      a (t.1, t.0) j here ran in
-      (inr (tt, inl (empty, (s.0, s.1, h), (starts, refl), l.0)), l.1)
+      (from_to 0 None) (item_covered (ran_covers reading (BothDo (λ d o. (d, o)) between does) at))
+      empty (s.1, s.0) i a (t.1, t.0) j here ran in
+      inr (tt, inl (empty, (s.0, s.1, h), (starts, refl), l.0))
 
-  separated_foldr1_calls : Calls at
-      (SeparatedFoldr1Runs A step run separator (assert_kind at.form))
-      (SeparatedFoldr1Does A step does between)
-  separated_foldr1_calls s i a t j here (inl (k, r, kept, stays, e)) =
-      let d = child.covers s.0 i (Err k) t.0 j here r in
-      let Y : W → S × W × H = λ y. (t.0, y, t.2) in
-      let Z : H → S × W × H = λ z. (t.0, s.1, z) in (
-        (
-          outcome_of (Err k) (t.0, left_of j),
-          d.0,
-          failed with_one (λ o. then_next with_one same (PairsDo A does between)
-              (where_took instead (λ links. folds_links step o links))) at s (left_of i) k
-              (left_of j) t.0 t a e (ap Y kept ∙ ap Z stays),
-        ),
-        d.1,
-      )
-  separated_foldr1_calls s i a t j here (inr (inl (first, v, n, k, r, ran, kept, e))) =
-      let d = child.covers s.0 i (Ok first) v n here r in
-      let l = pairs (v, s.1) s.2 n (Err k) (t.0, t.1) j d.1 ran in
-      let Z : H → S × W × H = λ z. (t.0, t.1, z) in (
-        (
-          took first (v, left_of n),
-          d.0,
-          (
-            outcome_of (Err k) ((t.0, t.1, s.2), left_of j),
-            l.0,
-            failed instead (λ links. folds_links step first links) at (v, s.1, s.2) (left_of n) k
-                (left_of j) (t.0, t.1, s.2) t a e (ap Z kept),
-          ),
-        ),
-        l.1,
-      )
-  separated_foldr1_calls s i a t j here
-      (inr (inr (first, v, n, links, value, r, ran, made, e))) =
-      let d = child.covers s.0 i (Ok first) v n here r in
-      let l = pairs (v, s.1) s.2 n (Ok links) (t.0, t.1) j d.1 ran in (
-        (
-          took first (v, left_of n),
-          d.0,
+  pub pairs_ran : (form : ErrorForm) (h : H) (s : S × W) (i : Input T)
+      (a : Answer (Vec (D × O) A)) (t : S × W) (j : Input T) → IsEndOf reading j i
+      → RepeatManyRuns (Ran reading (BothDo (λ d o. (d, o)) between does) form) (list_kept {A = A})
+      (assert_kind form)
+      (from_to 0 None) (s.1, s.0) i a (t.1, t.0) j
+      → Ran reading (PairsDo A does between) form (s.0, s.1, h) i a (t.0, t.1, h) j
+  pairs_ran form h s i a t j ends ran = (
+    ends,
+    ends.cut,
+    ends.ends.possible,
+    pairs_covered (setting_of form i) h s i a t j (record { more = refl; possible = refl }) ran,
+  )
+
+  module _ (step : H → O → D → O → O → H → Type 0) (form : ErrorForm) (s t : S × W × H)
+      (i m j : Input T) (first : O) (v : S) (ran : Ran reading does form s.0 i (Ok first) v m) where
+    abbrev Folded : O → Does (S × W × H) T O
+    Folded o = Then same (PairsDo A does between)
+        (where_took instead (λ links. folds_links step o links))
+
+    pub foldr1_ran : (links : Vec (D × O) A) (value : O)
+        → Ran reading (PairsDo A does between) form (v, s.1, s.2) m (Ok links) (t.0, t.1, s.2) j
+        → FoldsRight step s.2 first links.items value t.2
+        → Ran reading (SeparatedFoldr1Does A step does between) form s i (Ok value) t j
+    foldr1_ran links value pairs folded =
+        first_ran reading does Folded form s t i m j first v (Ok value) ran (
+          pairs.0,
+          pairs.1,
+          pairs.2,
           (
             took links ((t.0, t.1, s.2), left_of j),
-            l.0,
-            (
-              value,
-              t.2,
-              same_fold step s.2 first links.items value t.2 made,
-              gave (t, left_of j) e,
-            ),
+            pairs.3,
+            (value, t.2, folded, refl),
           ),
-        ),
-        l.1,
-      )
+        )
 
-  pub separated_foldr1_covered : Covers at
-      (SeparatedFoldr1Runs A step run separator (assert_kind at.form))
-      (SeparatedFoldr1Does A step does between)
-  separated_foldr1_covered = record { covers = separated_foldr1_calls }
+    pub foldr1_fails : (k : Kind) (a : Answer O)
+        → Ran reading (PairsDo A does between) form (v, s.1, s.2) m (Err k) t j → a ≡ Err k
+        → Ran reading (SeparatedFoldr1Does A step does between) form s i a t j
+    foldr1_fails k a pairs e =
+        first_ran reading does Folded form s t i m j first v a ran (
+          pairs.0,
+          pairs.1,
+          pairs.2,
+          (
+            outcome_of (Err k) (t, left_of j),
+            pairs.3,
+            failed instead (λ links. folds_links step first links) (setting_of form m)
+                (v, s.1, s.2) (left_of m) k (left_of j) t t a e refl,
+          ),
+        )

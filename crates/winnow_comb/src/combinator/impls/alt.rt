@@ -1,13 +1,11 @@
 //! Choices: their branches, and their parser.
 ghost use Rattle.std.specs.Prelude.{⊤, ◌≡◌};
-ghost use Rattle.stream_errors.specs.Form.{ErrorForm, answer_by};
+ghost use Rattle.stream_errors.specs.Form.{answer_by};
 ghost use Rattle.streams.specs.Input.{IsEndOf};
-ghost use Rattle.parser_definitions.specs.Does.{Lawful, Terms};
-ghost use Rattle.parser_definitions.specs.Outcome.{Does, Setting};
+ghost use Rattle.parser_definitions.specs.Does.{Ran, Lawful, Terms};
+ghost use Rattle.parser_definitions.specs.Outcome.{Does};
 ghost use Rattle.winnow_comb.specs.Attempt.{AttemptRuns};
 ghost use Rattle.parser_definitions.specs.Claim.{Claim, Claimed};
-ghost use Rattle.winnow_core.specs.Covers.{Covers};
-ghost use Rattle.winnow_core.specs.Runs.{LeaveEnds, Meaning};
 
 mod slices;
 mod tuples;
@@ -35,9 +33,6 @@ pub trait Alt<I: Stream, O, E: ParserError<I>> {
     // The state that they are in.
     ghost state: { Self → State };
 
-    // The semantics of the choice, by the form of errors.
-    ghost meaning: { Meaning State I.Seen O };
-
     // The definition of the choice.
     ghost does: { Does State I.Seen O };
 
@@ -52,15 +47,8 @@ pub trait Alt<I: Stream, O, E: ParserError<I>> {
     fn choice(&mut self, input: &mut I) -> Result<O, E>
         requires { can_choose self.old }
         ensures again { can_choose self.new }
-        ensures ran { meaning E.form (state self.old) (I.view input.old)
-            (answer_by E.kind result) (state self.new) (I.view input.new) }
-        ensures ends { IsEndOf I.reading (I.view input.new) (I.view input.old) };
-
-    // Every call leaves a suffix of its input.
-    ghost leaves_ends: { (form : ErrorForm) → LeaveEnds I.reading (meaning form) };
-
-    // Every call has an outcome of the definition.
-    ghost covers: { (at : Setting) → Covers at (meaning at.form) does };
+        ensures ran { Ran I.reading does E.form (state self.old) (I.view input.old)
+            (answer_by E.kind result) (state self.new) (I.view input.new) };
 
     // The laws of the definition.
     ghost lawful: { terms.premise → Lawful terms.stable terms.alike does };
@@ -88,17 +76,11 @@ impl<A: Alt<I, O, E>, I: Stream, O, E: ParserError<I>> Parser<I, O, E> for AltPa
 
     ghost state = { λ s. A.state s.alternatives };
 
-    ghost meaning = { A.meaning };
-
     ghost does = { A.does };
 
     ghost terms = { A.terms };
 
     ghost claim = { A.claim };
-
-    ghost leaves_ends = { A.leaves_ends };
-
-    ghost covers = { A.covers };
 
     ghost lawful = { A.lawful };
 
@@ -121,7 +103,8 @@ pub(crate) fn attempt<I: Stream, O, E: ParserError<I>, P: Parser<I, O, E>>(
     requires callable { P.can_parse branch.old }
     requires starts { I.seen start.now ≡ (I.view input.old).left }
     ensures again { P.can_parse branch.new }
-    ensures ran { AttemptRuns E.kind (P.meaning E.form) (I.seen start.now) (P.state branch.old)
+    ensures ran { AttemptRuns E.kind (Ran I.reading P.does E.form) (I.seen start.now)
+        (P.state branch.old)
         (I.view input.old) result (P.state branch.new) (I.view input.new) }
     ensures ends { IsEndOf I.reading (I.view input.new) (I.view input.old) }
 {

@@ -1,9 +1,6 @@
 //! A child whose errors backtrack.
-ghost use Rattle.winnow_comb.specs.BacktrackErr.{BacktrackErrRuns};
-ghost use Rattle.winnow_comb.specs.BacktrackErr.Laws.{backtrack_err_ends};
 ghost use Rattle.parser_definitions.specs.Claim.{no_claim, nothing_claimed};
 ghost use Rattle.parser_definitions.specs.Peek.{BacktrackErrDoes, backtrack_err_law};
-ghost use Rattle.winnow_comb.specs.Covers.{backtrack_err_covered};
 
 use std::marker::PhantomData;
 use stream_errors::modal::ModalError;
@@ -31,8 +28,6 @@ impl<P: Parser<I, O, E>, I: Stream, O, E: ParserError<I> + ModalError> Parser<I,
 
     ghost state = { λ s. P.state s.parser };
 
-    ghost meaning = { λ form. BacktrackErrRuns (P.meaning form) };
-
     ghost does = { BacktrackErrDoes P.does };
 
     ghost terms = { record {
@@ -42,11 +37,6 @@ impl<P: Parser<I, O, E>, I: Stream, O, E: ParserError<I> + ModalError> Parser<I,
     } };
 
     ghost claim = { λ _. no_claim };
-
-    ghost leaves_ends = { λ form. backtrack_err_ends I.reading (P.meaning form)
-        (P.leaves_ends form) };
-
-    ghost covers = { λ at. backtrack_err_covered (P.covers at) };
 
     ghost lawful = { λ is. backtrack_err_law (P.lawful is) };
 

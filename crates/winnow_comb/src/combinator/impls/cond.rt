@@ -4,9 +4,6 @@ ghost use Rattle.parser_definitions.specs.Equal.{AlikeOptions};
 ghost use Rattle.parser_definitions.specs.Peek.{CondDoes, cond_law};
 ghost use Rattle.parser_definitions.specs.Projects.Choices.{cond_projects};
 ghost use Rattle.std.specs.Prelude.{Bool};
-ghost use Rattle.winnow_comb.specs.Cond.Laws.{cond_ends};
-ghost use Rattle.winnow_comb.specs.Cond.{CondRuns};
-ghost use Rattle.winnow_comb.specs.Covers.{cond_covered};
 
 use std::marker::PhantomData;
 use stream_errors::parser_error::ParserError;
@@ -34,8 +31,6 @@ impl<P: Parser<I, O, E>, I: Stream, O, E: ParserError<I>> Parser<I, Option<O>, E
 
     ghost state = { λ s. (P.state s.parser, s.condition) };
 
-    ghost meaning = { λ form. CondRuns (P.meaning form) };
-
     ghost does = { CondDoes P.does };
 
     ghost terms = { record {
@@ -51,10 +46,6 @@ impl<P: Parser<I, O, E>, I: Stream, O, E: ParserError<I>> Parser<I, Option<O>, E
       consumes = ⊥;
       grammar = When s.1 (P.claim s.0).grammar;
     } };
-
-    ghost leaves_ends = { λ form. cond_ends I.reading (P.meaning form) (P.leaves_ends form) };
-
-    ghost covers = { λ at. cond_covered (P.covers at) };
 
     ghost lawful = { λ is. cond_law (P.lawful is) };
 

@@ -1,9 +1,6 @@
 //! A child whose errors cut.
 ghost use Rattle.parser_definitions.specs.Peek.{CutErrDoes, cut_err_law};
 ghost use Rattle.parser_definitions.specs.Projects.Choices.{cut_err_projects};
-ghost use Rattle.winnow_comb.specs.Covers.{cut_err_covered};
-ghost use Rattle.winnow_comb.specs.CutErr.Laws.{cut_err_ends};
-ghost use Rattle.winnow_comb.specs.CutErr.{CutErrRuns};
 
 use std::marker::PhantomData;
 use stream_errors::modal::ModalError;
@@ -31,8 +28,6 @@ impl<P: Parser<I, O, E>, I: Stream, O, E: ParserError<I> + ModalError> Parser<I,
 
     ghost state = { λ s. P.state s.parser };
 
-    ghost meaning = { λ form. CutErrRuns (P.meaning form) };
-
     ghost does = { CutErrDoes P.does };
 
     ghost terms = { record {
@@ -48,10 +43,6 @@ impl<P: Parser<I, O, E>, I: Stream, O, E: ParserError<I> + ModalError> Parser<I,
       consumes = (P.claim s).consumes;
       grammar = (P.claim s).grammar;
     } };
-
-    ghost leaves_ends = { λ form. cut_err_ends I.reading (P.meaning form) (P.leaves_ends form) };
-
-    ghost covers = { λ at. cut_err_covered (P.covers at) };
 
     ghost lawful = { λ is. cut_err_law (P.lawful is) };
 

@@ -1,9 +1,6 @@
 //! A child between two whose outputs are let go.
 ghost use Rattle.parser_definitions.specs.Projects.Sequences.{three_claim, three_claimed};
-ghost use Rattle.winnow_core.specs.InOrder.Laws.{three_ends};
-ghost use Rattle.winnow_comb.specs.Delimited.{DelimitedRuns};
 ghost use Rattle.parser_definitions.specs.Sequence.{DelimitedDoes, delimited_law};
-ghost use Rattle.winnow_core.specs.Covers.Sequences.{three_covered};
 
 use std::marker::PhantomData;
 use stream_errors::parser_error::ParserError;
@@ -41,8 +38,6 @@ impl<
 
     ghost state = { λ s. (P1.state s.ignored1, P2.state s.parser, P3.state s.ignored2) };
 
-    ghost meaning = { λ form. DelimitedRuns (P1.meaning form) (P2.meaning form) (P3.meaning form) };
-
     ghost does = { DelimitedDoes P1.does P2.does P3.does };
 
     ghost terms = { record {
@@ -53,13 +48,6 @@ impl<
 
     ghost claim = { λ s. three_claim (λ o1 o2 o3. o2) (P1.claim s.0) (P2.claim s.1)
         (P3.claim s.2) };
-
-    ghost leaves_ends = { λ form. three_ends I.reading (λ o1 o2 o3. o2) (P1.meaning form)
-        (P2.meaning form) (P3.meaning form) (P1.leaves_ends form) (P2.leaves_ends form)
-        (P3.leaves_ends form) };
-
-    ghost covers = { λ at. three_covered (λ o1 o2 o3. o2) (P1.covers at)
-        (P2.covers at) (P3.covers at) };
 
     ghost lawful = { λ is. delimited_law (P1.lawful is.0) (P2.lawful is.1) (P3.lawful is.2) };
 

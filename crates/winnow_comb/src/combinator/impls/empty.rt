@@ -1,12 +1,8 @@
 //! The implementation of `empty`.
 ghost use Rattle.std.specs.Prelude.{⊤, ◌<◌};
 ghost use Rattle.grammars.specs.Grammar.{Nothing};
-ghost use Rattle.winnow_core.specs.Ends.{same_ends};
-ghost use Rattle.winnow_core.specs.Runs.{Keeps};
-ghost use Rattle.winnow_comb.specs.Empty.{EmptyRuns};
 ghost use Rattle.parser_definitions.specs.Eof.{EmptyDoes, empty_law};
 ghost use Rattle.parser_definitions.specs.Projects.Literals.{empty_projects};
-ghost use Rattle.winnow_comb.specs.Covers.Leaves.{empty_covered};
 
 use crate::combinator::basic::empty;
 use stream_errors::parser_error::ParserError;
@@ -27,8 +23,6 @@ impl<I: Stream, E: ParserError<I>> Parser<I, (), E> for Empty {
 
     ghost state = { λ _. tt };
 
-    ghost meaning = { λ _. Keeps (λ _. EmptyRuns) };
-
     ghost does = { EmptyDoes };
 
     ghost terms = { record {
@@ -44,10 +38,6 @@ impl<I: Stream, E: ParserError<I>> Parser<I, (), E> for Empty {
       consumes = ⊥;
       grammar = Nothing tt;
     } };
-
-    ghost leaves_ends = { λ form x i answer y j r. same_ends I.reading i j r.0.1 };
-
-    ghost covers = { λ at. empty_covered };
 
     ghost lawful = { λ is. empty_law };
 

@@ -1,12 +1,8 @@
 //! The parser that fails.
 ghost use Rattle.std.specs.Prelude.{⊤, ◌≡◌};
 ghost use Rattle.grammars.specs.Grammar.{Never};
-ghost use Rattle.winnow_core.specs.Ends.{same_ends};
-ghost use Rattle.winnow_core.specs.Runs.{Keeps};
-ghost use Rattle.winnow_comb.specs.Fail.{FailRuns};
 ghost use Rattle.parser_definitions.specs.Eof.{FailDoes, fail_law};
 ghost use Rattle.parser_definitions.specs.Projects.Literals.{fail_projects, never_takes};
-ghost use Rattle.winnow_comb.specs.Covers.Leaves.{fail_covered};
 
 use crate::combinator::basic::fail;
 use stream_errors::parser_error::ParserError;
@@ -27,8 +23,6 @@ impl<I: Stream, O, E: ParserError<I>> Parser<I, O, E> for Fail {
 
     ghost state = { λ _. tt };
 
-    ghost meaning = { λ _. Keeps (λ _. FailRuns) };
-
     ghost does = { FailDoes };
 
     ghost terms = { record {
@@ -44,10 +38,6 @@ impl<I: Stream, O, E: ParserError<I>> Parser<I, O, E> for Fail {
       consumes = ⊤;
       grammar = Never;
     } };
-
-    ghost leaves_ends = { λ form x i answer y j r. same_ends I.reading i j r.0.1 };
-
-    ghost covers = { λ at. fail_covered };
 
     ghost lawful = { λ is. fail_law };
 

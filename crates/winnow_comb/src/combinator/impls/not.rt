@@ -3,9 +3,6 @@ ghost use Rattle.grammars.specs.Grammar.{NotAhead};
 ghost use Rattle.parser_definitions.specs.Peek.{NotDoes, not_law};
 ghost use Rattle.parser_definitions.specs.Projects.Choices.{not_projects};
 ghost use Rattle.std.specs.Prelude.{⊤};
-ghost use Rattle.winnow_comb.specs.Covers.{not_covered};
-ghost use Rattle.winnow_comb.specs.Not.Laws.{not_ends};
-ghost use Rattle.winnow_comb.specs.Not.{NotRuns};
 
 use std::marker::PhantomData;
 use stream_errors::parser_error::ParserError;
@@ -32,8 +29,6 @@ impl<P: Parser<I, O, E>, I: Stream, O: Drop, E: ParserError<I>> Parser<I, (), E>
 
     ghost state = { λ s. P.state s.parser };
 
-    ghost meaning = { λ form. NotRuns (P.meaning form) };
-
     ghost does = { NotDoes P.does };
 
     ghost terms = { record {
@@ -49,10 +44,6 @@ impl<P: Parser<I, O, E>, I: Stream, O: Drop, E: ParserError<I>> Parser<I, (), E>
       consumes = ⊥;
       grammar = NotAhead (P.claim s).grammar;
     } };
-
-    ghost leaves_ends = { λ form. not_ends I.reading (P.meaning form) (P.leaves_ends form) };
-
-    ghost covers = { λ at. not_covered (P.covers at) };
 
     ghost lawful = { λ is. not_law (P.lawful is) };
 

@@ -4,9 +4,6 @@ ghost use Rattle.parser_definitions.specs.Equal.{AlikeOptions};
 ghost use Rattle.parser_definitions.specs.Opt.{OptDoes, opt_law};
 ghost use Rattle.parser_definitions.specs.Projects.Choices.{opt_projects};
 ghost use Rattle.std.specs.Prelude.{⊤};
-ghost use Rattle.winnow_comb.specs.Covers.{opt_covered};
-ghost use Rattle.winnow_comb.specs.Opt.Laws.{opt_ends};
-ghost use Rattle.winnow_comb.specs.Opt.{OptRuns};
 
 use std::marker::PhantomData;
 use stream_errors::parser_error::ParserError;
@@ -33,8 +30,6 @@ impl<P: Parser<I, O, E>, I: Stream, O, E: ParserError<I>> Parser<I, Option<O>, E
 
     ghost state = { λ s. P.state s.parser };
 
-    ghost meaning = { λ form. OptRuns (P.meaning form) };
-
     ghost does = { OptDoes P.does };
 
     ghost terms = { record {
@@ -50,10 +45,6 @@ impl<P: Parser<I, O, E>, I: Stream, O, E: ParserError<I>> Parser<I, Option<O>, E
       consumes = ⊥;
       grammar = Optional (P.claim s).grammar;
     } };
-
-    ghost leaves_ends = { λ form. opt_ends I.reading (P.meaning form) (P.leaves_ends form) };
-
-    ghost covers = { λ at. opt_covered (P.covers at) };
 
     ghost lawful = { λ is. opt_law (P.lawful is) };
 

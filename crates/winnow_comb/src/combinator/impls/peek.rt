@@ -2,9 +2,6 @@
 ghost use Rattle.grammars.specs.Grammar.{Ahead};
 ghost use Rattle.parser_definitions.specs.Peek.{PeekDoes, peek_law};
 ghost use Rattle.parser_definitions.specs.Projects.Choices.{peek_projects};
-ghost use Rattle.winnow_comb.specs.Covers.{peek_covered};
-ghost use Rattle.winnow_comb.specs.Peek.Laws.{peek_ends};
-ghost use Rattle.winnow_comb.specs.Peek.{PeekRuns};
 
 use std::marker::PhantomData;
 use stream_errors::parser_error::ParserError;
@@ -30,8 +27,6 @@ impl<P: Parser<I, O, E>, I: Stream, O, E: ParserError<I>> Parser<I, O, E> for Pe
 
     ghost state = { λ s. P.state s.parser };
 
-    ghost meaning = { λ form. PeekRuns (P.meaning form) };
-
     ghost does = { PeekDoes P.does };
 
     ghost terms = { record {
@@ -47,10 +42,6 @@ impl<P: Parser<I, O, E>, I: Stream, O, E: ParserError<I>> Parser<I, O, E> for Pe
       consumes = ⊥;
       grammar = Ahead (P.claim s).grammar;
     } };
-
-    ghost leaves_ends = { λ form. peek_ends I.reading (P.meaning form) (P.leaves_ends form) };
-
-    ghost covers = { λ at. peek_covered (P.covers at) };
 
     ghost lawful = { λ is. peek_law (P.lawful is) };
 

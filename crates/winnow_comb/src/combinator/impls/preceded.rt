@@ -1,9 +1,6 @@
 //! A child after one whose output is let go.
 ghost use Rattle.parser_definitions.specs.Projects.Sequences.{both_claim, both_claimed};
-ghost use Rattle.winnow_core.specs.InOrder.Laws.{both_ends};
-ghost use Rattle.winnow_comb.specs.Preceded.{PrecededRuns};
 ghost use Rattle.parser_definitions.specs.Sequence.{PrecededDoes, preceded_law};
-ghost use Rattle.winnow_core.specs.Covers.Sequences.{both_covered};
 
 use std::marker::PhantomData;
 use stream_errors::parser_error::ParserError;
@@ -34,8 +31,6 @@ impl<P1: Parser<I, O1, E>, P2: Parser<I, O2, E>, I: Stream, O1: Drop, O2, E: Par
 
     ghost state = { λ s. (P1.state s.ignored, P2.state s.parser) };
 
-    ghost meaning = { λ form. PrecededRuns (P1.meaning form) (P2.meaning form) };
-
     ghost does = { PrecededDoes P1.does P2.does };
 
     ghost terms = { record {
@@ -45,11 +40,6 @@ impl<P1: Parser<I, O1, E>, P2: Parser<I, O2, E>, I: Stream, O1: Drop, O2, E: Par
     } };
 
     ghost claim = { λ s. both_claim (λ o1 o2. o2) (P1.claim s.0) (P2.claim s.1) };
-
-    ghost leaves_ends = { λ form. both_ends I.reading (λ o1 o2. o2) (P1.meaning form)
-        (P2.meaning form) (P1.leaves_ends form) (P2.leaves_ends form) };
-
-    ghost covers = { λ at. both_covered (λ o1 o2. o2) (P1.covers at) (P2.covers at) };
 
     ghost lawful = { λ is. preceded_law (P1.lawful is.0) (P2.lawful is.1) };
 

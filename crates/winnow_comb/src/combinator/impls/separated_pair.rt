@@ -1,10 +1,7 @@
 //! Two children with one between them whose output is let go.
 ghost use Rattle.parser_definitions.specs.Projects.Sequences.{three_claim, three_claimed};
-ghost use Rattle.winnow_core.specs.InOrder.Laws.{three_ends};
-ghost use Rattle.winnow_comb.specs.SeparatedPair.{SeparatedPairRuns};
 ghost use Rattle.parser_definitions.specs.Equal.{AlikePairs};
 ghost use Rattle.parser_definitions.specs.Sequence.{SeparatedPairDoes, separated_pair_law};
-ghost use Rattle.winnow_core.specs.Covers.Sequences.{three_covered};
 
 use std::marker::PhantomData;
 use stream_errors::parser_error::ParserError;
@@ -42,9 +39,6 @@ impl<
 
     ghost state = { λ s. (P1.state s.first, P2.state s.separator, P3.state s.second) };
 
-    ghost meaning = { λ form. SeparatedPairRuns (P1.meaning form) (P2.meaning form)
-        (P3.meaning form) };
-
     ghost does = { SeparatedPairDoes P1.does P2.does P3.does };
 
     ghost terms = { record {
@@ -55,13 +49,6 @@ impl<
 
     ghost claim = { λ s. three_claim (λ o1 o2 o3. (o1, o3)) (P1.claim s.0) (P2.claim s.1)
         (P3.claim s.2) };
-
-    ghost leaves_ends = { λ form. three_ends I.reading (λ o1 o2 o3. (o1, o3)) (P1.meaning form)
-        (P2.meaning form) (P3.meaning form) (P1.leaves_ends form) (P2.leaves_ends form)
-        (P3.leaves_ends form) };
-
-    ghost covers = { λ at. three_covered (λ o1 o2 o3. (o1, o3)) (P1.covers at)
-        (P2.covers at) (P3.covers at) };
 
     ghost lawful = { λ is. separated_pair_law (P1.lawful is.0) (P2.lawful is.1)
         (P3.lawful is.2) };

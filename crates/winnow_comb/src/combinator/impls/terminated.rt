@@ -1,9 +1,6 @@
 //! A child before one whose output is let go.
 ghost use Rattle.parser_definitions.specs.Projects.Sequences.{both_claim, both_claimed};
-ghost use Rattle.winnow_core.specs.InOrder.Laws.{both_ends};
-ghost use Rattle.winnow_comb.specs.Terminated.{TerminatedRuns};
 ghost use Rattle.parser_definitions.specs.Sequence.{TerminatedDoes, terminated_law};
-ghost use Rattle.winnow_core.specs.Covers.Sequences.{both_covered};
 
 use std::marker::PhantomData;
 use stream_errors::parser_error::ParserError;
@@ -37,8 +34,6 @@ impl<
 
     ghost state = { λ s. (P1.state s.parser, P2.state s.ignored) };
 
-    ghost meaning = { λ form. TerminatedRuns (P1.meaning form) (P2.meaning form) };
-
     ghost does = { TerminatedDoes P1.does P2.does };
 
     ghost terms = { record {
@@ -48,11 +43,6 @@ impl<
     } };
 
     ghost claim = { λ s. both_claim (λ o1 o2. o1) (P1.claim s.0) (P2.claim s.1) };
-
-    ghost leaves_ends = { λ form. both_ends I.reading (λ o1 o2. o1) (P1.meaning form)
-        (P2.meaning form) (P1.leaves_ends form) (P2.leaves_ends form) };
-
-    ghost covers = { λ at. both_covered (λ o1 o2. o1) (P1.covers at) (P2.covers at) };
 
     ghost lawful = { λ is. terminated_law (P1.lawful is.0) (P2.lawful is.1) };
 

@@ -1,13 +1,10 @@
 //! Text with escapes, and its unescaped value.
-ghost use Rattle.std.specs.Prelude.{◌≡◌, None};
-ghost use Rattle.stream_errors.specs.Form.{assert_kind, incomplete_kind, plain};
+ghost use Rattle.std.specs.Prelude.{◌≡◌};
 ghost use Rattle.parser_definitions.specs.Escaped.{AlikeSides, EscapedDoes, Settled, either_kept};
-ghost use Rattle.parser_definitions.specs.Escaped.{escaped_law, plainly};
+ghost use Rattle.parser_definitions.specs.Escaped.{escaped_law};
 ghost use Rattle.parser_definitions.specs.Folding.{Built, gathering};
-ghost use Rattle.winnow_escapes.specs.Covers.{escaped_covered};
-ghost use Rattle.winnow_escapes.specs.Escaped.{EscapedRuns, escaped_control, escaped_escape};
-ghost use Rattle.winnow_escapes.specs.Escaped.{escaped_normal, turns_kept};
-ghost use Rattle.winnow_escapes.specs.Escaped.Laws.{escaped_ends};
+ghost use Rattle.winnow_escapes.specs.Escaped.{escaped_control, escaped_escape};
+ghost use Rattle.winnow_escapes.specs.Escaped.{escaped_normal};
 ghost use Rattle.parser_definitions.specs.Claim.{no_claim, nothing_claimed};
 
 use crate::ascii::turns::read_turns;
@@ -74,10 +71,6 @@ impl<
 
     ghost state = { λ s. (N.state s.normal, K.state s.control, X.state s.escape) };
 
-    ghost meaning = { λ form. EscapedRuns (N.meaning form) (K.meaning plain) (X.meaning form)
-        (turns_kept ⟦<C as Accumulate<O, A>>⟧.accumulator ⟦<C as Accumulate<P, A>>⟧.accumulator)
-        (assert_kind form) (incomplete_kind form None) };
-
     ghost does = { EscapedDoes ⟦<C as Accumulate<O, A>>⟧.accumulator
         ⟦<C as Accumulate<P, A>>⟧.accumulator N.does K.does X.does };
 
@@ -90,16 +83,6 @@ impl<
     } };
 
     ghost claim = { λ _. no_claim };
-
-    ghost leaves_ends = { λ form. escaped_ends I.reading (N.meaning form) (K.meaning plain)
-        (X.meaning form)
-        (turns_kept ⟦<C as Accumulate<O, A>>⟧.accumulator ⟦<C as Accumulate<P, A>>⟧.accumulator)
-        (assert_kind form) (incomplete_kind form None) (N.leaves_ends form)
-        (K.leaves_ends plain) (X.leaves_ends form) };
-
-    ghost covers = { λ at. escaped_covered ⟦<C as Accumulate<O, A>>⟧.accumulator
-        ⟦<C as Accumulate<P, A>>⟧.accumulator (N.covers at) (K.covers (plainly at))
-        (X.covers at) };
 
     ghost lawful = { λ is. escaped_law ⟦<C as Accumulate<O, A>>⟧.accumulator
         ⟦<C as Accumulate<P, A>>⟧.accumulator (N.lawful is.0) (K.lawful is.1) (X.lawful is.2) };

@@ -1,14 +1,10 @@
 //! Text with escapes, as it stands.
-ghost use Rattle.std.specs.Prelude.{◌≡◌, None};
-ghost use Rattle.stream_errors.specs.Form.{assert_kind, incomplete_kind, plain};
-ghost use Rattle.parser_definitions.specs.Escaped.{Settled, plainly};
+ghost use Rattle.std.specs.Prelude.{◌≡◌};
+ghost use Rattle.parser_definitions.specs.Escaped.{Settled};
 ghost use Rattle.parser_definitions.specs.Spelled.{ShowSame};
 ghost use Rattle.parser_definitions.specs.TakeEscaped.{TakeEscapedDoes, take_escaped_law};
-ghost use Rattle.winnow_escapes.specs.Covers.{take_escaped_covered};
-ghost use Rattle.winnow_escapes.specs.TakeEscaped.{TakeEscapedRuns};
 ghost use Rattle.winnow_escapes.specs.TakeEscaped.{take_escaped_control, take_escaped_escapable};
 ghost use Rattle.winnow_escapes.specs.TakeEscaped.{take_escaped_normal};
-ghost use Rattle.winnow_escapes.specs.TakeEscaped.Laws.{take_escaped_ends};
 ghost use Rattle.parser_definitions.specs.Claim.{no_claim, nothing_claimed};
 
 use crate::ascii::impls::Escaped;
@@ -79,9 +75,6 @@ impl<
       X.state (take_escaped_escapable s),
     ) };
 
-    ghost meaning = { λ form. TakeEscapedRuns I.reading (N.meaning form) (K.meaning plain)
-        (X.meaning form) (assert_kind form) (incomplete_kind form None) };
-
     ghost does = { TakeEscapedDoes I.reading N.does K.does X.does };
 
     ghost terms = { record {
@@ -91,13 +84,6 @@ impl<
     } };
 
     ghost claim = { λ _. no_claim };
-
-    ghost leaves_ends = { λ form. take_escaped_ends I.reading (N.meaning form) (K.meaning plain)
-        (X.meaning form) (assert_kind form) (incomplete_kind form None) (N.leaves_ends form)
-        (K.leaves_ends plain) (X.leaves_ends form) };
-
-    ghost covers = { λ at. take_escaped_covered I.reading (N.covers at)
-        (K.covers (plainly at)) (X.covers at) };
 
     ghost lawful = { λ is. take_escaped_law I.reading (N.lawful is.0) (K.lawful is.1)
         (X.lawful is.2) };

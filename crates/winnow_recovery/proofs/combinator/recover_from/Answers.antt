@@ -5,7 +5,7 @@ use Rattle.winnow_recovery.proofs.combinator.recover_from.Goals as goal
 
 pub returns-then-eof_offset-left-clause-ran : goal.returns-then-eof_offset-left-clause-ran
 returns-then-eof_offset-left-clause-ran g c =
-    let same = same_units g.I.Stream.reading _ _ c.in-Ok.ensures.ends (omega arith) in (
+    let same = same_units g.I.Stream.reading _ _ c.in-Ok.ensures.ran.0 (omega arith) in (
       g.I.Stream.view c.parse_next.new.input,
       c.reset.ensures
           ∙ ap (λ r. back_at r (g.I.Stream.view c.parse_next.new.input))

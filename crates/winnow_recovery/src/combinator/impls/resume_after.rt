@@ -5,16 +5,14 @@ ghost use Rattle.std.specs.Prelude.{◌≡◌, true};
 ghost use Rattle.stream_errors.specs.Form.{answer_by};
 ghost use Rattle.streams.specs.Input.{IsEndOf};
 ghost use Rattle.winnow_recovery.specs.Recovery.{recovery_of};
-ghost use Rattle.winnow_recovery.specs.ResumeAfter.Laws.{resume_after_ends};
-ghost use Rattle.winnow_recovery.specs.ResumeAfter.{ResumeAfterRuns, ResumeRuns};
+ghost use Rattle.winnow_recovery.specs.ResumeAfter.{ResumeRuns};
 ghost use Rattle.winnow_recovery.specs.ResumeAfter.{resume_after_parser, resume_after_recover};
 ghost use Rattle.parser_definitions.specs.Claim.{no_claim, nothing_claimed};
 ghost use Rattle.std.proofs.Common.{refl};
-ghost use Rattle.parser_definitions.specs.Does.{wider_law};
+ghost use Rattle.parser_definitions.specs.Does.{Ran, wider_law};
 ghost use Rattle.parser_definitions.specs.Equal.{AlikeOptions};
 ghost use Rattle.parser_definitions.specs.Recover.{NeverAsks, Recovery};
 ghost use Rattle.parser_definitions.specs.Resume.{ResumeAfterDoes, resume_after_law};
-ghost use Rattle.winnow_recovery.specs.Covers.{resume_after_covered};
 
 use crate::combinator::{can_recover, recover_from};
 use std::marker::PhantomData;
@@ -83,8 +81,6 @@ impl<
       recovery_of I.supports_recovery E.recoverable_grows,
     ) };
 
-    ghost meaning = { λ form. ResumeAfterRuns (P.meaning form) (R.meaning form) };
-
     ghost does = { ResumeAfterDoes P.does R.does };
 
     ghost terms = { record {
@@ -94,11 +90,6 @@ impl<
     } };
 
     ghost claim = { λ _. no_claim };
-
-    ghost leaves_ends = { λ form. resume_after_ends I.reading (P.meaning form) (R.meaning form)
-        (P.leaves_ends form) (R.leaves_ends form) };
-
-    ghost covers = { λ at. resume_after_covered (P.covers at) (R.covers at) };
 
     ghost lawful = { λ is. resume_after_law (P.lawful is.0)
         (wider_law (λ o p like. refl) (R.lawful is.1)) };
@@ -130,7 +121,8 @@ fn resume<
     requires recover { R.can_parse recover.old }
     requires records { I.supports_recovery ≡ true }
     ensures again { P.can_parse parser.new × R.can_parse recover.new }
-    ensures ran { ResumeRuns E.recoverable_grows (P.meaning E.form) (R.meaning E.form)
+    ensures ran { ResumeRuns E.recoverable_grows (Ran I.reading P.does E.form)
+        (Ran I.reading R.does E.form)
         (P.state parser.old, R.state recover.old) (I.view input.old)
         (answer_by E.kind result) (P.state parser.new, R.state recover.new) (I.view input.new) }
     ensures ends { IsEndOf I.reading (I.view input.new) (I.view input.old) }

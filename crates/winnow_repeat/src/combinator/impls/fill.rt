@@ -1,12 +1,11 @@
 //! A buffer that is filled.
+ghost use Rattle.parser_definitions.specs.Does.{Ran};
 ghost use Rattle.stream_errors.specs.Form.{answer_by};
 ghost use Rattle.streams.specs.Input.{IsEndOf};
-ghost use Rattle.winnow_repeat.specs.Fill.{FillRuns, FillsElements, fill_buffer};
-ghost use Rattle.winnow_repeat.specs.Fill.Laws.{fill_ends};
+ghost use Rattle.winnow_repeat.specs.Fill.{FillsElements, fill_buffer};
 ghost use Rattle.parser_definitions.specs.Claim.{no_claim, nothing_claimed};
 ghost use Rattle.std.specs.Prelude.{◌≡◌};
 ghost use Rattle.parser_definitions.specs.Fill.{Buffer, FillDoes, fill_law};
-ghost use Rattle.winnow_repeat.specs.Covers.Fill.{fill_covered};
 
 use std::marker::PhantomData;
 use stream_errors::parser_error::ParserError;
@@ -35,8 +34,6 @@ impl<'b, P: Parser<I, O, E>, I: Stream, O: Drop, E: ParserError<I>> Parser<I, ()
 
     ghost state = { λ s. (P.state s.parser, fill_buffer s) };
 
-    ghost meaning = { λ form. FillRuns (P.meaning form) };
-
     ghost does = { FillDoes P.does };
 
     ghost terms = { record {
@@ -46,10 +43,6 @@ impl<'b, P: Parser<I, O, E>, I: Stream, O: Drop, E: ParserError<I>> Parser<I, ()
     } };
 
     ghost claim = { λ _. no_claim };
-
-    ghost leaves_ends = { λ form. fill_ends I.reading (P.meaning form) (P.leaves_ends form) };
-
-    ghost covers = { λ at. fill_covered (P.covers at) };
 
     ghost lawful = { λ is. fill_law (P.lawful is.0) is.1 };
 
@@ -68,7 +61,7 @@ fn fill_each<P: Parser<I, O, E>, I: Stream, O: Drop, E: ParserError<I>>(
 ) -> Result<(), E>
     requires { P.can_parse parser.old }
     ensures again { P.can_parse parser.new }
-    ensures ran { FillsElements (P.meaning E.form) buffer.old (P.state parser.old)
+    ensures ran { FillsElements (Ran I.reading P.does E.form) buffer.old (P.state parser.old)
         (I.view input.old) (answer_by E.kind result) buffer.new (P.state parser.new)
         (I.view input.new) }
     ensures ends { IsEndOf I.reading (I.view input.new) (I.view input.old) }

@@ -1,4 +1,5 @@
 //! Repetition whose outputs a closure folds into a value.
+ghost use Rattle.parser_definitions.specs.Does.{Ran};
 ghost use Rattle.std.specs.Prelude.{◌≡◌, ⊤, ◌<◌, true};
 ghost use Rattle.streams.specs.Input.{IsEndOf};
 ghost use Rattle.streams.specs.Kind.{backtrack};
@@ -7,13 +8,11 @@ ghost use Rattle.stream_sets.specs.declared.range.Range.{Range};
 ghost use Rattle.grammars.specs.Grammar.Folded.{FoldOf, Folded, StaysFolding, StaysMaking};
 ghost use Rattle.grammars.specs.Grammar.Unique.{repeated_take};
 ghost use Rattle.stream_errors.specs.Form.{answer_by, assert_kind, modal};
-ghost use Rattle.winnow_repeat.specs.Fold.{FoldOneRuns, FoldTakes, RangedFolds, fold_closure};
-ghost use Rattle.winnow_repeat.specs.Fold.Laws.{ranged_folds_end};
+ghost use Rattle.winnow_repeat.specs.Fold.{FoldOneRuns, FoldTakes, fold_closure};
 ghost use Rattle.parser_definitions.specs.Closures.{folding};
 ghost use Rattle.parser_definitions.specs.Fold.{FoldDoes, FoldsAlike, MakesOne, fold_law};
 ghost use Rattle.parser_definitions.specs.Folding.{Built};
 ghost use Rattle.parser_definitions.specs.Projects.Gathers.{fold_projects};
-ghost use Rattle.winnow_repeat.specs.Covers.Fold.{fold_covered};
 
 use crate::combinator::folding::{Folding, fold_items, fold_range};
 use std::marker::PhantomData;
@@ -107,8 +106,6 @@ impl<
 
     ghost state = { λ s. (P.state s.parser, (s.occurrences, (s.init, s.op.closure))) };
 
-    ghost meaning = { λ form. RangedFolds G.step H.step (P.meaning form) (assert_kind form) };
-
     ghost does = { FoldDoes G.step H.step P.does };
 
     ghost terms = { record {
@@ -128,11 +125,6 @@ impl<
       consumes = 0 < (bounds_of s.1.0).least;
       grammar = Folded G.step s.1.1.0 H.step s.1.1.1 s.1.0 (P.claim s.0).grammar;
     } };
-
-    ghost leaves_ends = { λ form. ranged_folds_end I.reading G.step H.step (P.meaning form)
-        (assert_kind form) (P.leaves_ends form) };
-
-    ghost covers = { λ at. fold_covered G.step H.step (P.covers at) };
 
     ghost lawful = { λ is. fold_law G.step H.step is.1 is.2 (P.lawful is.0) };
 
@@ -176,8 +168,8 @@ fn fold_one<
     requires op { H.IsAlwaysCallable op.old.closure }
     ensures again { P.can_parse parser.new × G.IsAlwaysCallable init.new
         × H.IsAlwaysCallable op.new.closure }
-    ensures ran { FoldOneRuns G.step (FoldTakes H.step) (P.meaning E.form) (assert_kind E.form)
-        (P.state parser.old, (init.old, op.old.closure)) (I.view input.old)
+    ensures ran { FoldOneRuns G.step (FoldTakes H.step) (Ran I.reading P.does E.form)
+        (assert_kind E.form) (P.state parser.old, (init.old, op.old.closure)) (I.view input.old)
         (answer_by E.kind result) (P.state parser.new, (init.new, op.new.closure))
         (I.view input.new) }
     ensures ends { IsEndOf I.reading (I.view input.new) (I.view input.old) }

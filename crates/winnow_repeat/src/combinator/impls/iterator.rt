@@ -1,4 +1,5 @@
 //! The runs of a parser, one by one, as an iterator.
+ghost use Rattle.parser_definitions.specs.Does.{Ran};
 ghost use Rattle.std.specs.Iterator.{at_most};
 ghost use Rattle.std.specs.Prelude.{◌≡◌, length};
 ghost use Rattle.stream_errors.specs.Form.{answer_by, assert_kind};
@@ -43,7 +44,7 @@ impl<'i, P: Parser<I, O, E>, I: Stream, O: Drop, E: ParserError<I>> ParserIterat
     fn run(&mut self) -> Option<O>
         requires { P.can_parse (iterator_parser self.old) }
         ensures again { P.can_parse (iterator_parser self.new) }
-        ensures ran { IteratorNext (P.meaning E.form) (assert_kind E.form)
+        ensures ran { IteratorNext (Ran I.reading P.does E.form) (assert_kind E.form)
             (iterator_state P.state I.view E.kind self.old) result
             (iterator_state P.state I.view E.kind self.new) }
         ensures ends { IsEndOf I.reading (I.view (iterator_input self.new))
@@ -113,7 +114,7 @@ impl<'i, P: Parser<I, O, E> + Drop, I: Stream, O: Drop, E: ParserError<I>> Itera
 
     ghost can_next = { λ s. P.can_parse s.parser };
 
-    ghost next_gives = { λ s item t. IteratorNext (P.meaning E.form) (assert_kind E.form)
+    ghost next_gives = { λ s item t. IteratorNext (Ran I.reading P.does E.form) (assert_kind E.form)
         (iterator_state P.state I.view E.kind s) item (iterator_state P.state I.view E.kind t)
         × P.can_parse t.parser
         × IsEndOf I.reading (I.view t.input.now) (I.view s.input.now)

@@ -1,4 +1,5 @@
 //! Repetition.
+ghost use Rattle.parser_definitions.specs.Does.{Ran};
 ghost use Rattle.std.specs.Prelude.{◌≡◌, ◌<◌, ⊤, true};
 ghost use Rattle.streams.specs.Input.{IsEndOf};
 ghost use Rattle.stream_sets.specs.Range.{IsWithin, bounds_of};
@@ -7,16 +8,14 @@ ghost use Rattle.grammars.specs.Grammar.{Repeated};
 ghost use Rattle.grammars.specs.Grammar.Unique.{repeated_take};
 ghost use Rattle.stream_errors.specs.Form.{answer_by, assert_kind, modal};
 ghost use Rattle.winnow_repeat.specs.Fold.{fold_closure};
-ghost use Rattle.winnow_repeat.specs.Repeat.{RangedRuns, RepeatOneRuns, repeat_occurrences};
+ghost use Rattle.winnow_repeat.specs.Repeat.{RepeatOneRuns, repeat_occurrences};
 ghost use Rattle.winnow_repeat.specs.Repeat.{repeat_parser};
-ghost use Rattle.winnow_repeat.specs.Repeat.Laws.{ranged_ends};
 ghost use Rattle.winnow_repeat.specs.TryFold.{try_fold_closure};
 ghost use Rattle.winnow_repeat.specs.VerifyFold.{verify_fold_closure};
 ghost use Rattle.parser_definitions.specs.Folding.{Built, gathering};
 ghost use Rattle.parser_definitions.specs.Projects.{projects_as};
 ghost use Rattle.parser_definitions.specs.Projects.Gathers.{repeat_projects};
 ghost use Rattle.parser_definitions.specs.Repeat.{RepeatDoes, repeat_law};
-ghost use Rattle.winnow_repeat.specs.Covers.Repeat.{repeat_covered};
 
 use crate::combinator::impls::{RepeatFold, RepeatTryFold, RepeatVerifyFold};
 use crate::combinator::items::{repeat_items, repeat_many};
@@ -137,8 +136,6 @@ impl<
 
     ghost state = { λ s. (P.state s.parser, s.occurrences) };
 
-    ghost meaning = { λ form. RangedRuns (P.meaning form) C.accumulator (assert_kind form) };
-
     ghost does = { RepeatDoes C.accumulator P.does };
 
     ghost terms = { record {
@@ -155,11 +152,6 @@ impl<
       consumes = 0 < (bounds_of s.1).least;
       grammar = Repeated C.holds s.1 (P.claim s.0).grammar;
     } };
-
-    ghost leaves_ends = { λ form. ranged_ends I.reading (P.meaning form) C.accumulator
-        (assert_kind form) (P.leaves_ends form) };
-
-    ghost covers = { λ at. repeat_covered C.accumulator (P.covers at) };
 
     ghost lawful = { λ is. repeat_law C.accumulator (P.lawful is) };
 
@@ -198,7 +190,7 @@ fn repeat_one<
 >(alloc: A, parser: &mut P, input: &mut I) -> Result<C, E>
     requires { P.can_parse parser.old }
     ensures again { P.can_parse parser.new }
-    ensures ran { RepeatOneRuns (P.meaning E.form) C.accumulator (assert_kind E.form)
+    ensures ran { RepeatOneRuns (Ran I.reading P.does E.form) C.accumulator (assert_kind E.form)
         (P.state parser.old) (I.view input.old) (answer_by E.kind result) (P.state parser.new)
         (I.view input.new) }
     ensures ends { IsEndOf I.reading (I.view input.new) (I.view input.old) }

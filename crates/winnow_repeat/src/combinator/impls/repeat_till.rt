@@ -1,18 +1,17 @@
 //! Repetition until a terminator.
+ghost use Rattle.parser_definitions.specs.Does.{Ran};
 ghost use Rattle.std.specs.Prelude.{◌<◌, ⊤, true};
 ghost use Rattle.streams.specs.Input.{IsEndOf};
 ghost use Rattle.stream_sets.specs.Range.{IsWithin, bounds_of};
 ghost use Rattle.stream_sets.specs.declared.range.Range.{Range};
 ghost use Rattle.grammars.specs.Grammar.Till.{Till, till_takes};
 ghost use Rattle.stream_errors.specs.Form.{answer_by, assert_kind, modal};
-ghost use Rattle.winnow_repeat.specs.RepeatTill.{LeastItemsRun, RangedTillRuns, TurnsRun};
-ghost use Rattle.winnow_repeat.specs.RepeatTill.Laws.{repeat_till_ends};
+ghost use Rattle.winnow_repeat.specs.RepeatTill.{LeastItemsRun, TurnsRun};
 ghost use Rattle.parser_definitions.specs.Equal.{AlikePairs};
 ghost use Rattle.parser_definitions.specs.Folding.{Built, gathering};
 ghost use Rattle.parser_definitions.specs.Projects.{projects_as};
 ghost use Rattle.parser_definitions.specs.Projects.Tills.{repeat_till_projects};
 ghost use Rattle.parser_definitions.specs.RepeatTill.{RepeatTillDoes, repeat_till_law};
-ghost use Rattle.winnow_repeat.specs.Covers.RepeatTill.{repeat_till_covered};
 
 use crate::combinator::items::is_descending;
 use std::alloc::Allocator;
@@ -54,9 +53,6 @@ impl<
 
     ghost state = { λ s. (P.state s.parser, G.state s.terminator, s.occurrences) };
 
-    ghost meaning = { λ form. RangedTillRuns (P.meaning form) (G.meaning form) C.accumulator
-        (assert_kind form) };
-
     ghost does = { RepeatTillDoes C.accumulator P.does G.does };
 
     ghost terms = { record {
@@ -77,12 +73,6 @@ impl<
       consumes = (G.claim s.1).consumes;
       grammar = Till C.holds s.2 (P.claim s.0).grammar (G.claim s.1).grammar;
     } };
-
-    ghost leaves_ends = { λ form. repeat_till_ends I.reading (P.meaning form) (G.meaning form)
-        C.accumulator (assert_kind form) (P.leaves_ends form) (G.leaves_ends form) };
-
-    ghost covers = { λ at. repeat_till_covered C.accumulator (P.covers at)
-        (G.covers at) };
 
     ghost lawful = { λ is. repeat_till_law C.accumulator (P.lawful is.0) (G.lawful is.1) };
 
@@ -125,7 +115,7 @@ fn least_items<
 >(empty: C, least: usize, parser: &mut P, input: &mut I) -> Result<C, E>
     requires { P.can_parse parser.old }
     ensures again { P.can_parse parser.new }
-    ensures ran { LeastItemsRun (P.meaning E.form) C.accumulator least empty
+    ensures ran { LeastItemsRun (Ran I.reading P.does E.form) C.accumulator least empty
         (P.state parser.old) (I.view input.old) (answer_by E.kind result)
         (P.state parser.new) (I.view input.new) }
     ensures ends { IsEndOf I.reading (I.view input.new) (I.view input.old) }
@@ -163,7 +153,7 @@ fn turns<
     requires parser { P.can_parse parser.old }
     requires terminator { G.can_parse terminator.old }
     ensures again { P.can_parse parser.new × G.can_parse terminator.new }
-    ensures ran { TurnsRun (P.meaning E.form) (G.meaning E.form) C.accumulator
+    ensures ran { TurnsRun (Ran I.reading P.does E.form) (Ran I.reading G.does E.form) C.accumulator
         (assert_kind E.form) room before (P.state parser.old, G.state terminator.old)
         (I.view input.old) (answer_by E.kind result)
         (P.state parser.new, G.state terminator.new) (I.view input.new) }

@@ -1,17 +1,14 @@
 //! Repetition whose outputs are folded into a value by a closure that may fail.
 ghost use Rattle.std.specs.Prelude.{◌≡◌};
-ghost use Rattle.stream_errors.specs.Form.{assert_kind};
 ghost use Rattle.stream_errors.specs.Given.{Keeping, KindGiven};
 ghost use Rattle.stream_sets.specs.declared.range.Range.{Range};
 ghost use Rattle.streams.specs.Kind.{backtrack};
-ghost use Rattle.winnow_repeat.specs.Fold.Laws.{ranged_fold_many_ends};
-ghost use Rattle.winnow_repeat.specs.TryFold.{TryFoldRuns, TryFoldTakes, try_fold_closure};
+ghost use Rattle.winnow_repeat.specs.TryFold.{TryFoldTakes, try_fold_closure};
 ghost use Rattle.parser_definitions.specs.Claim.{no_claim, nothing_claimed};
 ghost use Rattle.parser_definitions.specs.Closures.{trying};
 ghost use Rattle.parser_definitions.specs.Fold.{BothOrFail, FoldsAlike, MakesOne, TryFoldDoes};
 ghost use Rattle.parser_definitions.specs.Fold.{try_fold_law};
 ghost use Rattle.parser_definitions.specs.Folding.{Built};
-ghost use Rattle.winnow_repeat.specs.Covers.Fold.{try_fold_covered};
 
 use crate::combinator::folding::{Folding, fold_range};
 use std::marker::PhantomData;
@@ -122,8 +119,6 @@ impl<
     ghost state = { λ s.
         (P.state s.parser, (s.occurrences, (s.init, (s.op.closure, E.external_gives)))) };
 
-    ghost meaning = { λ form. TryFoldRuns G.step H.step (P.meaning form) (assert_kind form) };
-
     ghost does = { TryFoldDoes G.step H.step P.does };
 
     ghost terms = { record {
@@ -135,11 +130,6 @@ impl<
     } };
 
     ghost claim = { λ _. no_claim };
-
-    ghost leaves_ends = { λ form. ranged_fold_many_ends I.reading G.step
-        (TryFoldTakes H.step) (P.meaning form) (assert_kind form) (P.leaves_ends form) };
-
-    ghost covers = { λ at. try_fold_covered G.step H.step (P.covers at) };
 
     ghost lawful = { λ is. try_fold_law G.step H.step is.1 is.2 (P.lawful is.0) };
 

@@ -1,17 +1,14 @@
 //! The implementation of `verify_fold`.
 ghost use Rattle.std.specs.Prelude.{◌≡◌};
-ghost use Rattle.stream_errors.specs.Form.{assert_kind};
 ghost use Rattle.stream_sets.specs.declared.range.Range.{Range};
 ghost use Rattle.streams.specs.Kind.{backtrack};
-ghost use Rattle.winnow_repeat.specs.Fold.Laws.{ranged_fold_many_ends};
-ghost use Rattle.winnow_repeat.specs.VerifyFold.{VerifyFoldRuns, VerifyFoldTakes};
+ghost use Rattle.winnow_repeat.specs.VerifyFold.{VerifyFoldTakes};
 ghost use Rattle.winnow_repeat.specs.VerifyFold.{verify_fold_closure};
 ghost use Rattle.parser_definitions.specs.Claim.{no_claim, nothing_claimed};
 ghost use Rattle.parser_definitions.specs.Closures.{verifying};
 ghost use Rattle.parser_definitions.specs.Fold.{BothOrNone, FoldsAlike, MakesOne, VerifyFoldDoes};
 ghost use Rattle.parser_definitions.specs.Fold.{verify_fold_law};
 ghost use Rattle.parser_definitions.specs.Folding.{Built};
-ghost use Rattle.winnow_repeat.specs.Covers.Fold.{verify_fold_covered};
 
 use crate::combinator::folding::{Folding, fold_range};
 use std::marker::PhantomData;
@@ -109,8 +106,6 @@ impl<
 
     ghost state = { λ s. (P.state s.parser, (s.occurrences, (s.init, s.op.closure))) };
 
-    ghost meaning = { λ form. VerifyFoldRuns G.step H.step (P.meaning form) (assert_kind form) };
-
     ghost does = { VerifyFoldDoes G.step H.step P.does };
 
     ghost terms = { record {
@@ -122,11 +117,6 @@ impl<
     } };
 
     ghost claim = { λ _. no_claim };
-
-    ghost leaves_ends = { λ form. ranged_fold_many_ends I.reading G.step
-        (VerifyFoldTakes H.step) (P.meaning form) (assert_kind form) (P.leaves_ends form) };
-
-    ghost covers = { λ at. verify_fold_covered G.step H.step (P.covers at) };
 
     ghost lawful = { λ is. verify_fold_law G.step H.step is.1 is.2 (P.lawful is.0) };
 

@@ -3,6 +3,4 @@ use Rattle.winnow_separated.proofs.laws.separated_leaves_a_separator_without_an_
 
 pub returns : goal.returns
 returns g c =
-    let form = g.E.HasKind.form in
-    leaves_the_separator (g.P.Parser.meaning form) (g.S.Parser.meaning form)
-    g.C.Accumulate.accumulator _
+    leaves_the_separator g.P.Parser.does g.S.Parser.does g.C.Accumulate.accumulator

@@ -1,4 +1,5 @@
 //! A separator and the element after it.
+ghost use Rattle.parser_definitions.specs.Does.{Ran};
 ghost use Rattle.stream_errors.specs.Form.{answer_by};
 ghost use Rattle.streams.specs.Input.{IsEndOf};
 ghost use Rattle.winnow_separated.specs.Link.{LinkTried};
@@ -28,7 +29,7 @@ impl<P, S> Link<P, S> {
         requires parser { P.can_parse self.old.parser }
         requires separator { S.can_parse self.old.separator }
         ensures again { P.can_parse self.new.parser × S.can_parse self.new.separator }
-        ensures ran { LinkTried (P.meaning E.form) (S.meaning E.form)
+        ensures ran { LinkTried (Ran I.reading P.does E.form) (Ran I.reading S.does E.form)
             (P.state self.old.parser, S.state self.old.separator) (I.view input.old)
             (answer_by E.kind result) (P.state self.new.parser, S.state self.new.separator)
             (I.view input.new) }

@@ -1,18 +1,17 @@
 //! Elements with separators between them.
+ghost use Rattle.parser_definitions.specs.Does.{Ran};
 ghost use Rattle.std.specs.Prelude.{◌<◌, ⊤, true};
 ghost use Rattle.streams.specs.Input.{IsEndOf};
 ghost use Rattle.stream_sets.specs.Range.{IsWithin, from_to, bounds_of};
 ghost use Rattle.stream_sets.specs.declared.range.Range.{Range};
 ghost use Rattle.grammars.specs.Grammar.{SeparatedBy};
 ghost use Rattle.stream_errors.specs.Form.{answer_by, assert_kind, modal};
-ghost use Rattle.winnow_separated.specs.Separated.{ElementsRun, LinksRun, RangedElements};
+ghost use Rattle.winnow_separated.specs.Separated.{ElementsRun, LinksRun};
 ghost use Rattle.winnow_separated.specs.Separated.{SeparatedRuns};
-ghost use Rattle.winnow_separated.specs.Separated.Laws.{separated_ends};
 ghost use Rattle.parser_definitions.specs.Folding.{Built, gathering};
 ghost use Rattle.parser_definitions.specs.Projects.{Complete};
 ghost use Rattle.parser_definitions.specs.Projects.Separates.{separated_projects, separated_takes};
 ghost use Rattle.parser_definitions.specs.Separated.{SeparatedDoes, separated_law};
-ghost use Rattle.winnow_separated.specs.Covers.{separated_covered};
 
 use crate::combinator::impls::link::Link;
 use std::alloc::Allocator;
@@ -54,9 +53,6 @@ impl<
 
     ghost state = { λ s. (P.state s.link.parser, S.state s.link.separator, s.occurrences) };
 
-    ghost meaning = { λ form. RangedElements (P.meaning form) (S.meaning form) C.accumulator
-        (assert_kind form) };
-
     ghost does = { SeparatedDoes C.accumulator P.does S.does };
 
     ghost terms = { record {
@@ -75,12 +71,6 @@ impl<
       consumes = (P.claim s.0).consumes × (0 < (bounds_of s.2).least);
       grammar = SeparatedBy C.holds s.2 (P.claim s.0).grammar (S.claim s.1).grammar;
     } };
-
-    ghost leaves_ends = { λ form. separated_ends I.reading (P.meaning form) (S.meaning form)
-        C.accumulator (assert_kind form) (P.leaves_ends form) (S.leaves_ends form) };
-
-    ghost covers = { λ at. separated_covered I.reading C.accumulator (P.leaves_ends at.form)
-        (P.covers at) (S.covers at) };
 
     ghost lawful = { λ is. separated_law C.accumulator (P.lawful is.0) (S.lawful is.1) };
 
@@ -122,8 +112,8 @@ fn separated_many<
     requires parser { P.can_parse link.old.parser }
     requires separator { S.can_parse link.old.separator }
     ensures again { P.can_parse link.new.parser × S.can_parse link.new.separator }
-    ensures ran { SeparatedRuns (P.meaning E.form) (S.meaning E.form) C.accumulator
-        (assert_kind E.form) (from_to least greatest)
+    ensures ran { SeparatedRuns (Ran I.reading P.does E.form) (Ran I.reading S.does E.form)
+        C.accumulator (assert_kind E.form) (from_to least greatest)
         (P.state link.old.parser, S.state link.old.separator) (I.view input.old)
         (answer_by E.kind result) (P.state link.new.parser, S.state link.new.separator)
         (I.view input.new) }
@@ -160,8 +150,8 @@ fn separated_elements<
     requires separator { S.can_parse link.old.separator }
     requires range { IsWithin greatest least }
     ensures again { P.can_parse link.new.parser × S.can_parse link.new.separator }
-    ensures ran { ElementsRun (P.meaning E.form) (S.meaning E.form) C.accumulator
-        (assert_kind E.form) (from_to least greatest) all
+    ensures ran { ElementsRun (Ran I.reading P.does E.form) (Ran I.reading S.does E.form)
+        C.accumulator (assert_kind E.form) (from_to least greatest) all
         (P.state link.old.parser, S.state link.old.separator) (I.view input.old)
         (answer_by E.kind result) (P.state link.new.parser, S.state link.new.separator)
         (I.view input.new) }
@@ -206,8 +196,8 @@ fn separated_links<
     requires parser { P.can_parse link.old.parser }
     requires separator { S.can_parse link.old.separator }
     ensures again { P.can_parse link.new.parser × S.can_parse link.new.separator }
-    ensures ran { LinksRun (P.meaning E.form) (S.meaning E.form) C.accumulator
-        (assert_kind E.form) (from_to missing room) all
+    ensures ran { LinksRun (Ran I.reading P.does E.form) (Ran I.reading S.does E.form)
+        C.accumulator (assert_kind E.form) (from_to missing room) all
         (P.state link.old.parser, S.state link.old.separator) (I.view input.old)
         (answer_by E.kind result) (P.state link.new.parser, S.state link.new.separator)
         (I.view input.new) }

@@ -1,16 +1,15 @@
 //! Elements with separators between them, folded to the left.
+ghost use Rattle.parser_definitions.specs.Does.{Ran};
 ghost use Rattle.std.specs.Prelude.{◌≡◌};
 ghost use Rattle.stream_errors.specs.Form.{answer_by, assert_kind};
 ghost use Rattle.streams.specs.Input.{IsEndOf};
-ghost use Rattle.winnow_separated.specs.SeparatedFoldl1.{JoinedLinksRun, SeparatedFoldl1Runs};
+ghost use Rattle.winnow_separated.specs.SeparatedFoldl1.{JoinedLinksRun};
 ghost use Rattle.winnow_separated.specs.SeparatedFoldl1.{foldl1_parser};
 ghost use Rattle.winnow_separated.specs.SeparatedFoldl1.{foldl1_separator};
-ghost use Rattle.winnow_separated.specs.SeparatedFoldl1.Laws.{foldl1_ends};
 ghost use Rattle.parser_definitions.specs.Claim.{no_claim, nothing_claimed};
 ghost use Rattle.parser_definitions.specs.SeparatedFold.{AlikeLeft, JoinsAlike};
 ghost use Rattle.parser_definitions.specs.SeparatedFold.{SeparatedFoldl1Does};
 ghost use Rattle.parser_definitions.specs.SeparatedFold.{separated_foldl1_law};
-ghost use Rattle.winnow_separated.specs.Covers.Folds.{separated_foldl1_covered};
 
 use crate::combinator::impls::link::Link;
 use std::marker::PhantomData;
@@ -63,9 +62,6 @@ impl<
 
     ghost state = { λ s. (P.state s.link.parser, S.state s.link.separator, s.op) };
 
-    ghost meaning = { λ form. SeparatedFoldl1Runs H.step (P.meaning form) (S.meaning form)
-        (assert_kind form) };
-
     ghost does = { SeparatedFoldl1Does H.step P.does S.does };
 
     ghost terms = { record {
@@ -77,12 +73,6 @@ impl<
     } };
 
     ghost claim = { λ _. no_claim };
-
-    ghost leaves_ends = { λ form. foldl1_ends I.reading H.step (P.meaning form) (S.meaning form)
-        (assert_kind form) (P.leaves_ends form) (S.leaves_ends form) };
-
-    ghost covers = { λ at. separated_foldl1_covered H.step (P.covers at)
-        (S.covers at) };
 
     ghost lawful = { λ is. separated_foldl1_law H.step is.2 (P.lawful is.0) (S.lawful is.1) };
 
@@ -109,7 +99,7 @@ fn join_left<
     requires op { H.IsAlwaysCallable op.old }
     ensures again { P.can_parse link.new.parser × S.can_parse link.new.separator
         × H.IsAlwaysCallable op.new }
-    ensures ran { JoinedLinksRun H.step (P.meaning E.form) (S.meaning E.form)
+    ensures ran { JoinedLinksRun H.step (Ran I.reading P.does E.form) (Ran I.reading S.does E.form)
         (assert_kind E.form) first
         (P.state link.old.parser, S.state link.old.separator, op.old) (I.view input.old)
         (answer_by E.kind result)

@@ -1,15 +1,12 @@
 //! Elements with separators between them, folded to the right.
 ghost use Rattle.std.specs.Prelude.{◌≡◌};
-ghost use Rattle.stream_errors.specs.Form.{assert_kind};
-ghost use Rattle.winnow_separated.specs.SeparatedFoldr1.{FoldsRight, SeparatedFoldr1Runs};
+ghost use Rattle.winnow_separated.specs.SeparatedFoldr1.{FoldsRight};
 ghost use Rattle.winnow_separated.specs.SeparatedFoldr1.{foldr1_parser};
 ghost use Rattle.winnow_separated.specs.SeparatedFoldr1.{foldr1_separator};
-ghost use Rattle.winnow_separated.specs.SeparatedFoldr1.Laws.{foldr1_ends};
 ghost use Rattle.parser_definitions.specs.Claim.{no_claim, nothing_claimed};
 ghost use Rattle.parser_definitions.specs.SeparatedFold.{AlikeRight, JoinsAlike};
 ghost use Rattle.parser_definitions.specs.SeparatedFold.{SeparatedFoldr1Does};
 ghost use Rattle.parser_definitions.specs.SeparatedFold.{separated_foldr1_law};
-ghost use Rattle.winnow_separated.specs.Covers.Folds.{separated_foldr1_covered};
 
 use std::alloc::Allocator;
 use std::marker::PhantomData;
@@ -72,9 +69,6 @@ impl<
 
     ghost state = { λ s. (P.state s.pair.1, S.state s.pair.0, s.op) };
 
-    ghost meaning = { λ form. SeparatedFoldr1Runs A H.step (P.meaning form)
-        (S.meaning form) (assert_kind form) };
-
     ghost does = { SeparatedFoldr1Does A H.step P.does S.does };
 
     ghost terms = { record {
@@ -86,12 +80,6 @@ impl<
     } };
 
     ghost claim = { λ _. no_claim };
-
-    ghost leaves_ends = { λ form. foldr1_ends A I.reading H.step (P.meaning form) (S.meaning form)
-        (assert_kind form) (P.leaves_ends form) (S.leaves_ends form) };
-
-    ghost covers = { λ at. separated_foldr1_covered A H.step (P.covers at)
-        (S.covers at) };
 
     ghost lawful = { λ is. separated_foldr1_law A H.step is.2 (P.lawful is.0) (S.lawful is.1) };
 

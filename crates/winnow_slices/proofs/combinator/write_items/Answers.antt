@@ -15,7 +15,7 @@ items-init g c = record {
 pub returns-then-eof_offset-left-clause-ran : goal.returns-then-eof_offset-left-clause-ran
 returns-then-eof_offset-left-clause-ran g c =
     let p = c.items.invariant.stored in
-    let same = same_units g.I.Stream.reading _ _ c.in-Ok.ensures.ends (omega arith) in (
+    let same = same_units g.I.Stream.reading _ _ c.in-Ok.ensures.ran.0 (omega arith) in (
       p.outputs,
       _,
       _,
@@ -29,7 +29,7 @@ returns-then-count-slice-clause-ran g c =
     let p = c.items.invariant.stored in
     let kind = g.E.HasKind.kind c.from_external_error.result in
     let full : c.items.count ≡ length c.args.slice.now = omega (arith, as_long p.written) in
-    let fewer = fewer_tokens g.I.Stream.reading _ _ c.in-Ok.ensures.ends
+    let fewer = fewer_tokens g.I.Stream.reading _ _ c.in-Ok.ensures.ran.0
     (λ e. absurd (omega (arith, e))) in (
       p.outputs,
       _,
@@ -55,11 +55,11 @@ returns-then-count-slice-clause-ran g c =
 pub items-preserved : goal.items-preserved
 items-preserved g c =
     let p = c.items.invariant.stored in
-    let fewer = fewer_tokens g.I.Stream.reading _ _ c.in-Ok.ensures.ends
+    let fewer = fewer_tokens g.I.Stream.reading _ _ c.in-Ok.ensures.ran.0
     (λ e. absurd (omega (arith, e))) in record {
       stored = stored_more _ _ _ _ _ _ _ _ p c.in-Ok.output _ _
           (omega (arith, p.counted, within_slice p.written, as_long p.written))
           c.in-Ok.ensures.ran fewer;
       callable = c.in-Ok.ensures.again;
-      ends = is_end_of_trans c.in-Ok.ensures.ends c.items.invariant.ends;
+      ends = is_end_of_trans c.in-Ok.ensures.ran.0 c.items.invariant.ends;
     }

@@ -1,4 +1,5 @@
 //! Arrays and slices as branches.
+ghost use Rattle.parser_definitions.specs.Does.{Ran};
 ghost use Rattle.grammars.specs.Grammar.FirstOf.{FirstOf};
 ghost use Rattle.parser_definitions.specs.AltMany.{ChoiceDoes, choice_law};
 ghost use Rattle.parser_definitions.specs.ByRef.{ByRefDoes, by_ref_law};
@@ -6,14 +7,7 @@ ghost use Rattle.parser_definitions.specs.Projects.Functions.{by_ref_projects};
 ghost use Rattle.parser_definitions.specs.Projects.Items.{choice_claimed};
 ghost use Rattle.std.specs.List.{All};
 ghost use Rattle.std.specs.Prelude.{◌≡◌, List, map, ℕ, []};
-ghost use Rattle.stream_errors.specs.Form.{answer_by, assert_kind};
-ghost use Rattle.streams.specs.Input.{IsEndOf};
-ghost use Rattle.winnow_comb.specs.Alt.Slice.Laws.{alt_slice_ends};
-ghost use Rattle.winnow_comb.specs.Alt.Slice.{AltSliceRuns};
-ghost use Rattle.winnow_comb.specs.Covers.{choice_covered};
-ghost use Rattle.winnow_core.specs.ByRef.Laws.{by_ref_ends};
-ghost use Rattle.winnow_core.specs.ByRef.{ByRefRuns};
-ghost use Rattle.winnow_core.specs.Covers.Functions.{by_ref_covered};
+ghost use Rattle.stream_errors.specs.Form.{answer_by};
 
 use crate::combinator::impls::alt::{Alt, attempt};
 use stream_errors::parser_error::ParserError;
@@ -27,8 +21,6 @@ impl<const N: usize, I: Stream, O, E: ParserError<I>, P: Parser<I, O, E>> Alt<I,
 
     ghost state = { λ s. map P.state s };
 
-    ghost meaning = { λ form. AltSliceRuns (P.meaning form) (assert_kind form) };
-
     ghost does = { ChoiceDoes P.does };
 
     ghost terms = { P.terms };
@@ -40,11 +32,6 @@ impl<const N: usize, I: Stream, O, E: ParserError<I>, P: Parser<I, O, E>> Alt<I,
       consumes = All (λ x. (P.claim x).consumes) s;
       grammar = FirstOf (λ x. (P.claim x).grammar) s;
     } };
-
-    ghost leaves_ends = { λ form. alt_slice_ends I.reading (P.meaning form) (assert_kind form)
-        (P.leaves_ends form) };
-
-    ghost covers = { λ at. choice_covered (P.covers at) };
 
     ghost lawful = { λ is. choice_law (P.lawful is) };
 
@@ -63,8 +50,6 @@ impl<'a, I: Stream, O, E: ParserError<I>, P: Parser<I, O, E>> Alt<I, O, E> for &
 
     ghost state = { λ s. (map P.state s.now, s.ghost_name) };
 
-    ghost meaning = { λ form. ByRefRuns (AltSliceRuns (P.meaning form) (assert_kind form)) };
-
     ghost does = { ByRefDoes (ChoiceDoes P.does) };
 
     ghost terms = { P.terms };
@@ -76,12 +61,6 @@ impl<'a, I: Stream, O, E: ParserError<I>, P: Parser<I, O, E>> Alt<I, O, E> for &
       consumes = All (λ x. (P.claim x).consumes) s.0;
       grammar = FirstOf (λ x. (P.claim x).grammar) s.0;
     } };
-
-    ghost leaves_ends = { λ form. by_ref_ends I.reading
-        (AltSliceRuns (P.meaning form) (assert_kind form))
-        (alt_slice_ends I.reading (P.meaning form) (assert_kind form) (P.leaves_ends form)) };
-
-    ghost covers = { λ at. by_ref_covered (choice_covered (P.covers at)) };
 
     ghost lawful = { λ is. by_ref_law (choice_law (P.lawful is)) };
 
@@ -104,10 +83,9 @@ fn choose<I: Stream, O, E: ParserError<I>, P: Parser<I, O, E>>(
 ) -> Result<O, E>
     requires { All P.can_parse branches.old }
     ensures again { All P.can_parse branches.new }
-    ensures ran { AltSliceRuns (P.meaning E.form) (assert_kind E.form)
-        (map P.state branches.old) (I.view input.old) (answer_by E.kind result)
-        (map P.state branches.new) (I.view input.new) }
-    ensures ends { IsEndOf I.reading (I.view input.new) (I.view input.old) }
+    ensures ran { Ran I.reading (ChoiceDoes P.does) E.form (map P.state branches.old)
+        (I.view input.old) (answer_by E.kind result) (map P.state branches.new)
+        (I.view input.new) }
 {
     if branches.is_empty() {
         return Err(E::assert(input, "a choice needs at least one branch"));

@@ -4,9 +4,6 @@
 ghost use Rattle.parser_definitions.specs.Alt.{AltDoes, alt_law};
 ghost use Rattle.parser_definitions.specs.Equal.{AlikeEither};
 ghost use Rattle.parser_definitions.specs.Projects.Choices.{or_else_claim, or_else_claimed};
-ghost use Rattle.winnow_comb.specs.Alt.Laws.{or_else_ends};
-ghost use Rattle.winnow_comb.specs.Alt.{OrElse};
-ghost use Rattle.winnow_comb.specs.Covers.{alt_covered};
 
 use crate::combinator::impls::alt::{Alt, attempt};
 use stream_errors::parser_error::ParserError;
@@ -20,17 +17,11 @@ impl<I: Stream, O, E: ParserError<I>, P1: Parser<I, O, E>> Alt<I, O, E> for (P1,
 
     ghost state = { λ s. P1.state s.0 };
 
-    ghost meaning = { P1.meaning };
-
     ghost does = { P1.does };
 
     ghost terms = { P1.terms };
 
     ghost claim = { P1.claim };
-
-    ghost leaves_ends = { P1.leaves_ends };
-
-    ghost covers = { P1.covers };
 
     ghost lawful = { P1.lawful };
 
@@ -50,8 +41,6 @@ impl<I: Stream, O, E: ParserError<I>, P1: Parser<I, O, E>, P2: Parser<I, O, E>> 
 
     ghost state = { λ s. (P1.state s.0, P2.state s.1) };
 
-    ghost meaning = { λ form. OrElse (P1.meaning form) (P2.meaning form) };
-
     ghost does = { AltDoes P1.does P2.does };
 
     ghost terms = { record {
@@ -61,11 +50,6 @@ impl<I: Stream, O, E: ParserError<I>, P1: Parser<I, O, E>, P2: Parser<I, O, E>> 
     } };
 
     ghost claim = { λ s. or_else_claim (P1.claim s.0) (P2.claim s.1) };
-
-    ghost leaves_ends = { λ form. or_else_ends I.reading (P1.meaning form) (P2.meaning form)
-        (P1.leaves_ends form) (P2.leaves_ends form) };
-
-    ghost covers = { λ at. alt_covered (P1.covers at) (P2.covers at) };
 
     ghost lawful = { λ is. alt_law (P1.lawful is.0) (P2.lawful is.1) };
 
@@ -95,9 +79,6 @@ impl<
 
     ghost state = { λ s. (P1.state s.0, (P2.state s.1, P3.state s.2)) };
 
-    ghost meaning = { λ form. OrElse (P1.meaning form)
-        (OrElse (P2.meaning form) (P3.meaning form)) };
-
     ghost does = { AltDoes P1.does (AltDoes P2.does P3.does) };
 
     ghost terms = { record {
@@ -108,13 +89,6 @@ impl<
 
     ghost claim = { λ s. or_else_claim (P1.claim s.0)
         (or_else_claim (P2.claim s.1.0) (P3.claim s.1.1)) };
-
-    ghost leaves_ends = { λ form. or_else_ends I.reading (P1.meaning form)
-        (OrElse (P2.meaning form) (P3.meaning form)) (P1.leaves_ends form)
-        (or_else_ends I.reading (P2.meaning form) (P3.meaning form) (P2.leaves_ends form)
-        (P3.leaves_ends form)) };
-
-    ghost covers = { λ at. alt_covered (P1.covers at) (alt_covered (P2.covers at) (P3.covers at)) };
 
     ghost lawful = { λ is. alt_law (P1.lawful is.0)
         (alt_law (P2.lawful is.1.0) (P3.lawful is.1.1)) };
@@ -151,9 +125,6 @@ impl<
 
     ghost state = { λ s. (P1.state s.0, (P2.state s.1, (P3.state s.2, P4.state s.3))) };
 
-    ghost meaning = { λ form. OrElse (P1.meaning form)
-        (OrElse (P2.meaning form) (OrElse (P3.meaning form) (P4.meaning form))) };
-
     ghost does = { AltDoes P1.does (AltDoes P2.does (AltDoes P3.does P4.does)) };
 
     ghost terms = { record {
@@ -166,17 +137,6 @@ impl<
     ghost claim = { λ s. or_else_claim (P1.claim s.0)
         (or_else_claim (P2.claim s.1.0)
         (or_else_claim (P3.claim s.1.1.0) (P4.claim s.1.1.1))) };
-
-    ghost leaves_ends = { λ form. or_else_ends I.reading (P1.meaning form)
-        (OrElse (P2.meaning form) (OrElse (P3.meaning form) (P4.meaning form)))
-        (P1.leaves_ends form)
-        (or_else_ends I.reading (P2.meaning form) (OrElse (P3.meaning form) (P4.meaning form))
-        (P2.leaves_ends form)
-        (or_else_ends I.reading (P3.meaning form) (P4.meaning form) (P3.leaves_ends form)
-        (P4.leaves_ends form))) };
-
-    ghost covers = { λ at. alt_covered (P1.covers at)
-        (alt_covered (P2.covers at) (alt_covered (P3.covers at) (P4.covers at))) };
 
     ghost lawful = { λ is. alt_law (P1.lawful is.0)
         (alt_law (P2.lawful is.1.0) (alt_law (P3.lawful is.1.1.0) (P4.lawful is.1.1.1))) };
@@ -219,10 +179,6 @@ impl<
     ghost state = { λ s.
         (P1.state s.0, (P2.state s.1, (P3.state s.2, (P4.state s.3, P5.state s.4)))) };
 
-    ghost meaning = { λ form. OrElse (P1.meaning form)
-        (OrElse (P2.meaning form)
-        (OrElse (P3.meaning form) (OrElse (P4.meaning form) (P5.meaning form)))) };
-
     ghost does = { AltDoes P1.does (AltDoes P2.does (AltDoes P3.does (AltDoes P4.does P5.does))) };
 
     ghost terms = { record {
@@ -239,22 +195,6 @@ impl<
         (or_else_claim (P2.claim s.1.0)
         (or_else_claim (P3.claim s.1.1.0)
         (or_else_claim (P4.claim s.1.1.1.0) (P5.claim s.1.1.1.1)))) };
-
-    ghost leaves_ends = { λ form. or_else_ends I.reading (P1.meaning form)
-        (OrElse (P2.meaning form)
-        (OrElse (P3.meaning form) (OrElse (P4.meaning form) (P5.meaning form))))
-        (P1.leaves_ends form)
-        (or_else_ends I.reading (P2.meaning form)
-        (OrElse (P3.meaning form) (OrElse (P4.meaning form) (P5.meaning form)))
-        (P2.leaves_ends form)
-        (or_else_ends I.reading (P3.meaning form)
-        (OrElse (P4.meaning form) (P5.meaning form)) (P3.leaves_ends form)
-        (or_else_ends I.reading (P4.meaning form) (P5.meaning form) (P4.leaves_ends form)
-        (P5.leaves_ends form)))) };
-
-    ghost covers = { λ at. alt_covered (P1.covers at)
-        (alt_covered (P2.covers at)
-        (alt_covered (P3.covers at) (alt_covered (P4.covers at) (P5.covers at)))) };
 
     ghost lawful = { λ is. alt_law (P1.lawful is.0)
         (alt_law (P2.lawful is.1.0)
@@ -309,11 +249,6 @@ impl<
       ),
     ) };
 
-    ghost meaning = { λ form. OrElse (P1.meaning form)
-        (OrElse (P2.meaning form)
-        (OrElse (P3.meaning form)
-        (OrElse (P4.meaning form) (OrElse (P5.meaning form) (P6.meaning form))))) };
-
     ghost does = { AltDoes P1.does
         (AltDoes P2.does (AltDoes P3.does (AltDoes P4.does (AltDoes P5.does P6.does)))) };
 
@@ -335,28 +270,6 @@ impl<
         (or_else_claim (P3.claim s.1.1.0)
         (or_else_claim (P4.claim s.1.1.1.0)
         (or_else_claim (P5.claim s.1.1.1.1.0) (P6.claim s.1.1.1.1.1))))) };
-
-    ghost leaves_ends = { λ form. or_else_ends I.reading (P1.meaning form)
-        (OrElse (P2.meaning form)
-        (OrElse (P3.meaning form)
-        (OrElse (P4.meaning form) (OrElse (P5.meaning form) (P6.meaning form)))))
-        (P1.leaves_ends form)
-        (or_else_ends I.reading (P2.meaning form)
-        (OrElse (P3.meaning form)
-        (OrElse (P4.meaning form) (OrElse (P5.meaning form) (P6.meaning form))))
-        (P2.leaves_ends form)
-        (or_else_ends I.reading (P3.meaning form)
-        (OrElse (P4.meaning form) (OrElse (P5.meaning form) (P6.meaning form)))
-        (P3.leaves_ends form)
-        (or_else_ends I.reading (P4.meaning form)
-        (OrElse (P5.meaning form) (P6.meaning form)) (P4.leaves_ends form)
-        (or_else_ends I.reading (P5.meaning form) (P6.meaning form)
-        (P5.leaves_ends form) (P6.leaves_ends form))))) };
-
-    ghost covers = { λ at. alt_covered (P1.covers at)
-        (alt_covered (P2.covers at)
-        (alt_covered (P3.covers at)
-        (alt_covered (P4.covers at) (alt_covered (P5.covers at) (P6.covers at))))) };
 
     ghost lawful = { λ is. alt_law (P1.lawful is.0)
         (alt_law (P2.lawful is.1.0)

@@ -1,3 +1,4 @@
+use Rattle.parser_definitions.specs.Does.{Ran}
 use Rattle.std.proofs.Common.{rules, arith, ap, inl, inr, refl, sym, Err, [], ◌∷◌, ◌++◌, ◌∙◌}
 use Rattle.streams.specs.Input.{is_end_of_refl, is_end_of_trans}
 use Rattle.stream_errors.specs.Form.{plain}
@@ -74,8 +75,10 @@ returns-in_err-turn-clause-ran g c =
     let inv = c.turns.invariant in
     let k = g.E.HasKind.kind c.in_err-turn.field-0.0 in
     let failed =
-    tried_err (g.N.Parser.meaning g.E.HasKind.form) (g.K.Parser.meaning plain)
-    (g.X.Parser.meaning g.E.HasKind.form) _ _ _ _ k c.in_err-turn.ensures.ran in (
+    tried_err (Ran g.I.Stream.reading g.N.Parser.does g.E.HasKind.form)
+    (Ran g.I.Stream.reading g.K.Parser.does plain)
+    (Ran g.I.Stream.reading g.X.Parser.does g.E.HasKind.form) _ _ _ _ k
+    c.in_err-turn.ensures.ran in (
       inv.0,
       _,
       _,
@@ -89,8 +92,10 @@ pub returns-then-eof_offset-left-clause-ran : goal.returns-then-eof_offset-left-
 returns-then-eof_offset-left-clause-ran g c =
     let inv = c.turns.invariant in
     let turn =
-    tried_some (g.N.Parser.meaning g.E.HasKind.form) (g.K.Parser.meaning plain)
-    (g.X.Parser.meaning g.E.HasKind.form) _ _ _ _ _ c.in-Some.turn c.in_ok-turn.ensures.ran
+    tried_some (Ran g.I.Stream.reading g.N.Parser.does g.E.HasKind.form)
+    (Ran g.I.Stream.reading g.K.Parser.does plain)
+    (Ran g.I.Stream.reading g.X.Parser.does g.E.HasKind.form) _ _ _ _ _ c.in-Some.turn
+    c.in_ok-turn.ensures.ran
     c.in-Some.is in
     let same = same_units g.I.Stream.reading _ _ c.in_ok-turn.ensures.ends (omega arith) in (
       inv.0,
@@ -106,8 +111,10 @@ pub turns-preserved : goal.turns-preserved
 turns-preserved g c =
     let inv = c.turns.invariant in
     let turn =
-    tried_some (g.N.Parser.meaning g.E.HasKind.form) (g.K.Parser.meaning plain)
-    (g.X.Parser.meaning g.E.HasKind.form) _ _ _ _ _ c.in-Some.turn c.in_ok-turn.ensures.ran
+    tried_some (Ran g.I.Stream.reading g.N.Parser.does g.E.HasKind.form)
+    (Ran g.I.Stream.reading g.K.Parser.does plain)
+    (Ran g.I.Stream.reading g.X.Parser.does g.E.HasKind.form) _ _ _ _ _ c.in-Some.turn
+    c.in_ok-turn.ensures.ran
     c.in-Some.is in
     let ended = c.in_ok-turn.ensures.ends in
     let fewer = fewer_tokens g.I.Stream.reading _ _ ended (λ e. absurd (omega (arith, e))) in (
@@ -124,8 +131,10 @@ pub returns-in-Err-clause-ran : goal.returns-in-Err-clause-ran
 returns-in-Err-clause-ran g c =
     let inv = c.turns.invariant in
     let turn =
-    tried_some (g.N.Parser.meaning g.E.HasKind.form) (g.K.Parser.meaning plain)
-    (g.X.Parser.meaning g.E.HasKind.form) _ _ _ _ _ c.in-Some.turn c.in_ok-turn.ensures.ran
+    tried_some (Ran g.I.Stream.reading g.N.Parser.does g.E.HasKind.form)
+    (Ran g.I.Stream.reading g.K.Parser.does plain)
+    (Ran g.I.Stream.reading g.X.Parser.does g.E.HasKind.form) _ _ _ _ _ c.in-Some.turn
+    c.in_ok-turn.ensures.ran
     c.in-Some.is in
     let ended = c.in_ok-turn.ensures.ends in
     let fewer = fewer_tokens g.I.Stream.reading _ _ ended (λ e. absurd (omega (arith, e))) in (
@@ -148,6 +157,8 @@ pub returns-in-None-clause-ran : goal.returns-in-None-clause-ran
 returns-in-None-clause-ran g c =
     let inv = c.turns.invariant in
     let none =
-    tried_none (g.N.Parser.meaning g.E.HasKind.form) (g.K.Parser.meaning plain)
-    (g.X.Parser.meaning g.E.HasKind.form) _ _ _ _ _ c.in_ok-turn.ensures.ran c.in-None.is in
+    tried_none (Ran g.I.Stream.reading g.N.Parser.does g.E.HasKind.form)
+    (Ran g.I.Stream.reading g.K.Parser.does plain)
+    (Ran g.I.Stream.reading g.X.Parser.does g.E.HasKind.form) _ _ _ _ _ c.in_ok-turn.ensures.ran
+    c.in-None.is in
     (inv.0, _, _, _, inv.1, inv.2, inr (inr (inl (none, refl))))

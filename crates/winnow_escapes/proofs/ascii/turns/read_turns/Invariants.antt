@@ -1,3 +1,4 @@
+use Rattle.parser_definitions.specs.Does.{Ran}
 use Rattle.std.proofs.Common.{List}
 use Rattle.streams.specs.Input.{IsEndOf}
 use Rattle.stream_errors.specs.Form.{plain}
@@ -9,8 +10,9 @@ use Rattle.winnow_escapes.proofs.ascii.turns.read_turns.Given as goal
 abbrev pub invariant-turns : goal.invariant-turns
 invariant-turns g l =
     (turns : List _)
-    × Chain (EscapeTurnRuns (g.N.Parser.meaning g.E.HasKind.form) (g.K.Parser.meaning plain)
-    (g.X.Parser.meaning g.E.HasKind.form))
+    × Chain (EscapeTurnRuns (Ran g.I.Stream.reading g.N.Parser.does g.E.HasKind.form)
+    (Ran g.I.Stream.reading g.K.Parser.does plain)
+    (Ran g.I.Stream.reading g.X.Parser.does g.E.HasKind.form))
     (g.N.Parser.state l.fn.normal, g.K.Parser.state l.fn.control, g.X.Parser.state l.fn.escape)
     (g.I.Stream.view l.fn.input) turns
     (g.N.Parser.state l.normal, g.K.Parser.state l.control, g.X.Parser.state l.escape)

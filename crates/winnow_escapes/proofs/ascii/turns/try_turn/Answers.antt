@@ -1,3 +1,4 @@
+use Rattle.parser_definitions.specs.Does.{Ran}
 use Rattle.std.proofs.Common.{rules, inl, inr, refl, Ok, Err}
 use Rattle.streams.specs.Kind.{memory}
 use Rattle.stream_errors.specs.Form.{plain}
@@ -12,7 +13,8 @@ pub returns-in_err-output-in-Ok-parse_next-clause-ran :
     goal.returns-in_err-output-in-Ok-parse_next-clause-ran
 returns-in_err-output-in-Ok-parse_next-clause-ran g c =
     let both =
-    from_there (g.N.Parser.meaning g.E.HasKind.form) (g.K.Parser.meaning plain) _ _ _ _ _ _
+    from_there (Ran g.I.Stream.reading g.N.Parser.does g.E.HasKind.form)
+    (Ran g.I.Stream.reading g.K.Parser.does plain) _ _ _ _ _ _
     (g.E.HasKind.kind c.in-Err.error) (Ok c.in-Ok-parse_next._control) _ _ _ c.in-Err.ensures.ran
     (search rules depth 1) c.reset.ensures c.checkpoint-start.ensures
     c.in-Ok-parse_next.ensures.ran in
@@ -37,7 +39,8 @@ returns-in_err-output-in-Ok-parse_next-clause-ran g c =
 pub returns-in-Ok-parse_next-clause-ran : goal.returns-in-Ok-parse_next-clause-ran
 returns-in-Ok-parse_next-clause-ran g c =
     let both =
-    from_there (g.N.Parser.meaning g.E.HasKind.form) (g.K.Parser.meaning plain) _ _ _ _ _ _
+    from_there (Ran g.I.Stream.reading g.N.Parser.does g.E.HasKind.form)
+    (Ran g.I.Stream.reading g.K.Parser.does plain) _ _ _ _ _ _
     (g.E.HasKind.kind c.in-Err.error) (Ok c.in-Ok-parse_next._control) _ _ _ c.in-Err.ensures.ran
     (search rules depth 1) c.reset.ensures c.checkpoint-start.ensures
     c.in-Ok-parse_next.ensures.ran in
@@ -62,10 +65,12 @@ returns-in-Ok-parse_next-clause-ran g c =
 pub returns-clause-ran : goal.returns-clause-ran
 returns-clause-ran g c =
     let both =
-    from_there (g.N.Parser.meaning g.E.HasKind.form) (g.K.Parser.meaning plain) _ _ _ _ _ _
-    (g.E.HasKind.kind c.in-Err.error) (Err memory) _ _ _ c.in-Err.ensures.ran
+    from_there (Ran g.I.Stream.reading g.N.Parser.does g.E.HasKind.form)
+    (Ran g.I.Stream.reading g.K.Parser.does plain) _ _ _ _ _ _
+    (g.E.HasKind.kind c.in-Err.error) (Err memory) _
+    (g.K.Parser.state c.parse_next-2.new.self) _ c.in-Err.ensures.ran
     (search rules depth 1) c.reset.ensures c.checkpoint-start.ensures
-    (search rules depth 1) in
+    (rw c.in-Err-NoMemory.field-0-is at c.in-Err-NoMemory.ensures.ran) in
     inr (inl (
       memory,
       (c.requires.left, inr (inr (inr (inr (_, both.0, both.1, refl, refl))))),

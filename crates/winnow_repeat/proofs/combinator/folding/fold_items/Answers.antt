@@ -1,3 +1,4 @@
+use Rattle.parser_definitions.specs.Does.{Ran}
 use Rattle.winnow_core.specs.Ends.{fewer_tokens, same_units, units_fall}
 use Rattle.winnow_repeat.specs.Room.{no_room, room_behind_more, room_behind_none, some_room}
 use Rattle.std.proofs.Common.{rules, arith, length, ◌<◌, ◌≡◌, []}
@@ -26,24 +27,27 @@ items-init g c = (
 pub returns-then-eq-clause-ran : goal.returns-then-eq-clause-ran
 returns-then-eq-clause-ran g c =
     let inv = c.items.invariant in
-    fold_full g.F.Folding.folds (g.P.Parser.meaning g.E.HasKind.form) _ _ _ _ _ _ _ _ _ inv.1
+    fold_full g.F.Folding.folds (Ran g.I.Stream.reading g.P.Parser.does g.E.HasKind.form)
+    _ _ _ _ _ _ _ _ _ inv.1
     (no_room _ _ _ _ _ inv.2 (search rules depth 1))
 
 pub returns-then-eof_offset-left-clause-ran : goal.returns-then-eof_offset-left-clause-ran
 returns-then-eof_offset-left-clause-ran g c =
     let inv = c.items.invariant in
     let below = some_room _ _ _ _ _ inv.2 (λ e. search rules depth 1) in
-    let same = same_units g.I.Stream.reading _ _ c.in-Ok.ensures.ends (omega arith) in
-    fold_stuck g.F.Folding.folds (g.P.Parser.meaning g.E.HasKind.form) _ _ _ _ _ _ _ _ _ inv.1
+    let same = same_units g.I.Stream.reading _ _ c.in-Ok.ensures.ran.0 (omega arith) in
+    fold_stuck g.F.Folding.folds (Ran g.I.Stream.reading g.P.Parser.does g.E.HasKind.form)
+    _ _ _ _ _ _ _ _ _ inv.1
     c.in-Ok.output _ _ _ below c.in-Ok.ensures.ran same c.assert.ensures
 
 pub returns-in-Err-fold-clause-ran : goal.returns-in-Err-fold-clause-ran
 returns-in-Err-fold-clause-ran g c =
     let inv = c.items.invariant in
     let below = some_room _ _ _ _ _ inv.2 (λ e. search rules depth 1) in
-    let fewer = fewer_tokens g.I.Stream.reading _ _ c.in-Ok.ensures.ends
+    let fewer = fewer_tokens g.I.Stream.reading _ _ c.in-Ok.ensures.ran.0
     (λ e. absurd (omega (arith, e))) in
-    fold_refused g.F.Folding.folds (g.P.Parser.meaning g.E.HasKind.form) _ _ _ _ _ _ _ _ _ inv.1
+    fold_refused g.F.Folding.folds (Ran g.I.Stream.reading g.P.Parser.does g.E.HasKind.form)
+    _ _ _ _ _ _ _ _ _ inv.1
     c.in-Ok.output _ _ _ (g.I.Stream.view c.parse_next.new.input) _ below
     c.in-Ok.ensures.ran fewer (c.in-Err-fold.ensures.folded _ c.error.ensures)
     (search rules depth 1)
@@ -52,7 +56,8 @@ pub returns-then-is_backtrack-clause-ran : goal.returns-then-is_backtrack-clause
 returns-then-is_backtrack-clause-ran g c =
     let inv = c.items.invariant in
     let below = some_room _ _ _ _ _ inv.2 (λ e. search rules depth 1) in
-    fold_ended g.F.Folding.folds (g.P.Parser.meaning g.E.HasKind.form) _ _ _ _ _ _ _ _ _ inv.1 _
+    fold_ended g.F.Folding.folds (Ran g.I.Stream.reading g.P.Parser.does g.E.HasKind.form)
+    _ _ _ _ _ _ _ _ _ inv.1 _
     (g.I.Stream.view c.parse_next.new.input) _ below (omega (arith, inv.2.still_missing))
     (search rules depth 1)
     (search rules depth 1)
@@ -61,7 +66,8 @@ pub returns-in-Err-clause-ran : goal.returns-in-Err-clause-ran
 returns-in-Err-clause-ran g c =
     let inv = c.items.invariant in
     let below = some_room _ _ _ _ _ inv.2 (λ e. search rules depth 1) in
-    fold_failed g.F.Folding.folds (g.P.Parser.meaning g.E.HasKind.form) _ _ _ _ _ _ _ _ _ inv.1
+    fold_failed g.F.Folding.folds (Ran g.I.Stream.reading g.P.Parser.does g.E.HasKind.form)
+    _ _ _ _ _ _ _ _ _ inv.1
     _ _ _ below (λ e. few e) c.in-Err.ensures.ran
   where
     few : g.E.HasKind.kind c.in-Err.error ≡ backtrack → length c.items.invariant.0 < c.args.missing
@@ -72,21 +78,21 @@ returns-in-Err-clause-ran g c =
 
 pub items-smaller : goal.items-smaller
 items-smaller g c =
-    units_fall g.I.Stream.reading _ _ c.in-Ok.ensures.ends (λ e. absurd (omega (arith, e)))
+    units_fall g.I.Stream.reading _ _ c.in-Ok.ensures.ran.0 (λ e. absurd (omega (arith, e)))
 
 pub items-preserved : goal.items-preserved
 items-preserved g c =
     let inv = c.items.invariant in
-    let fewer = fewer_tokens g.I.Stream.reading _ _ c.in-Ok.ensures.ends
+    let fewer = fewer_tokens g.I.Stream.reading _ _ c.in-Ok.ensures.ran.0
     (λ e. absurd (omega (arith, e))) in (
       inv.0 ++ (c.in-Ok.output ∷ []),
-      folded_more g.F.Folding.folds (g.P.Parser.meaning g.E.HasKind.form) _ _ _ _ _ _ _ inv.1 _
-          _ _ _ _ c.in-Ok.ensures.ran fewer
+      folded_more g.F.Folding.folds (Ran g.I.Stream.reading g.P.Parser.does g.E.HasKind.form)
+          _ _ _ _ _ _ _ inv.1 _ _ _ _ _ c.in-Ok.ensures.ran fewer
           c.in-Ok-fold.ensures.folded,
       room_behind_more _ _ _ _ _ _ _ _ inv.2 (λ e. search rules depth 1)
           c.saturating_sub-missing.ensures
           (search rules depth 1) (length-append inv.0 (c.in-Ok.output ∷ [])),
-      is_end_of_trans c.in-Ok.ensures.ends inv.3,
+      is_end_of_trans c.in-Ok.ensures.ran.0 inv.3,
       c.in-Ok.ensures.again,
       c.in-Ok-fold.ensures.again,
     )

@@ -1,3 +1,4 @@
+use Rattle.parser_definitions.specs.Does.{Ran}
 use Rattle.winnow_repeat.specs.Room.{RoomAfter}
 use Rattle.std.proofs.Common.{List, length}
 use Rattle.streams.specs.Input.{IsEndOf}
@@ -8,7 +9,7 @@ use Rattle.winnow_repeat.proofs.combinator.folding.fold_items.Given as goal
 abbrev pub invariant-items : goal.invariant-items
 invariant-items g l =
     (outputs : List _)
-    × Chain (FoldedRuns g.F.Folding.folds (g.P.Parser.meaning g.E.HasKind.form))
+    × Chain (FoldedRuns g.F.Folding.folds (Ran g.I.Stream.reading g.P.Parser.does g.E.HasKind.form))
     (g.P.Parser.state l.fn.parser, (g.F.Folding.state l.fn.op, l.fn.value))
     (g.I.Stream.view l.fn.input) outputs
     (g.P.Parser.state l.parser, (g.F.Folding.state l.op, l.value))

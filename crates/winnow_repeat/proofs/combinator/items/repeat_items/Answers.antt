@@ -20,7 +20,7 @@ pub returns-then-eof_offset-left-clause-ran : goal.returns-then-eof_offset-left-
 returns-then-eof_offset-left-clause-ran g c =
     let inv = c.items.invariant in
     let below = some_room _ _ _ _ _ inv.3 (λ e. search rules depth 1) in
-    let same = same_units g.I.Stream.reading _ _ c.in-Ok.ensures.ends (omega arith) in (
+    let same = same_units g.I.Stream.reading _ _ c.in-Ok.ensures.ran.0 (omega arith) in (
       inv.0,
       _,
       _,
@@ -32,7 +32,7 @@ returns-then-eof_offset-left-clause-ran g c =
 pub items-preserved : goal.items-preserved
 items-preserved g c =
     let inv = c.items.invariant in
-    let fewer = fewer_tokens g.I.Stream.reading _ _ c.in-Ok.ensures.ends
+    let fewer = fewer_tokens g.I.Stream.reading _ _ c.in-Ok.ensures.ran.0
     (λ e. absurd (omega (arith, e))) in (
       inv.0 ++ (c.in-Ok.output ∷ []),
       chain_more inv.1 c.in-Ok.ensures.ran fewer,
@@ -40,7 +40,7 @@ items-preserved g c =
       room_behind_more _ _ _ _ _ _ _ _ inv.3 (λ e. search rules depth 1)
           c.saturating_sub-missing.ensures
           (search rules depth 1) (length-append inv.0 (c.in-Ok.output ∷ [])),
-      is_end_of_trans c.in-Ok.ensures.ends inv.4,
+      is_end_of_trans c.in-Ok.ensures.ran.0 inv.4,
       c.in-Ok.ensures.again,
     )
 

@@ -1,3 +1,4 @@
+use Rattle.parser_definitions.specs.Does.{Ran}
 use Rattle.winnow_repeat.specs.Room.{RoomAfter}
 use Rattle.std.proofs.Common.{List, length}
 use Rattle.streams.specs.Input.{IsEndOf}
@@ -8,7 +9,7 @@ use Rattle.winnow_repeat.proofs.combinator.items.repeat_items.Given as goal
 abbrev pub invariant-items : goal.invariant-items
 invariant-items g l =
     (outputs : List _)
-    × Chain (g.P.Parser.meaning g.E.HasKind.form) (g.P.Parser.state l.fn.parser)
+    × Chain (Ran g.I.Stream.reading g.P.Parser.does g.E.HasKind.form) (g.P.Parser.state l.fn.parser)
     (g.I.Stream.view l.fn.input) outputs (g.P.Parser.state l.parser)
     (g.I.Stream.view l.input)
     × Accumulates g.C.Accumulate.accumulator.takes l.fn.all outputs l.all

@@ -1,13 +1,15 @@
 use Rattle.std.proofs.Common.{List}
 use Rattle.streams.specs.Input.{IsEndOf}
 use Rattle.streams.specs.Kind.{Kind}
+use Rattle.parser_definitions.specs.Does.{Ran}
 use Rattle.winnow_recovery.proofs.RetryLemmas.{Tries}
 use Rattle.winnow_recovery.proofs.combinator.impls.retry_after.retry.Given as goal
 
 abbrev pub invariant-tries : goal.invariant-tries
 invariant-tries g l =
     (kinds : List Kind)
-    × Tries (g.P.Parser.meaning g.E.HasKind.form) (g.R.Parser.meaning g.E.HasKind.form)
+    × Tries (Ran g.I.Stream.reading g.P.Parser.does g.E.HasKind.form)
+    (Ran g.I.Stream.reading g.R.Parser.does g.E.HasKind.form)
     (g.P.Parser.state l.fn.parser, g.R.Parser.state l.fn.recover) (g.I.Stream.view l.fn.input)
     kinds (g.P.Parser.state l.parser, g.R.Parser.state l.recover) (g.I.Stream.view l.input)
     × IsEndOf g.I.Stream.reading (g.I.Stream.view l.input) (g.I.Stream.view l.fn.input)

@@ -26,6 +26,6 @@ items-preserved g c =
         c.items-test.true,
         length-append inv.0 (c.in_ok-output.output ∷ []),
       ),
-      is_end_of_trans c.in_ok-output.ensures.ends inv.4,
+      is_end_of_trans c.in_ok-output.ensures.ran.0 inv.4,
       c.in_ok-output.ensures.again,
     )

@@ -1,3 +1,4 @@
+use Rattle.parser_definitions.specs.Does.{Ran}
 use Rattle.winnow_core.specs.Ends.{fewer_tokens, same_units}
 use Rattle.winnow_repeat.specs.Room.{no_room, room_behind_more, room_behind_none, some_room}
 use Rattle.std.proofs.Common.{rules, arith, inl, inr, refl, Ok, Err, [], ◌∷◌, ◌++◌, length-append}
@@ -72,8 +73,10 @@ returns-in_err-output-clause-ran g c =
       inr (inr (inl (
         _,
         below,
-        turn (g.P.Parser.meaning g.E.HasKind.form) (g.G.Parser.meaning g.E.HasKind.form) _ _ _ _
-            _ _ _ (Err (g.E.HasKind.kind c.in_err-output.field-0.0)) _ _ _ c.in-Err.ensures.ran
+        turn (Ran g.I.Stream.reading g.P.Parser.does g.E.HasKind.form)
+            (Ran g.I.Stream.reading g.G.Parser.does g.E.HasKind.form)
+            _ _ _ _ _ _ _ (Err (g.E.HasKind.kind c.in_err-output.field-0.0)) _ _ _
+            c.in-Err.ensures.ran
             (search rules depth 1) c.reset.ensures c.checkpoint-start.ensures
             c.in_err-output.ensures.ran,
         search rules depth 1,
@@ -84,8 +87,8 @@ pub returns-then-eof_offset-left-clause-ran : goal.returns-then-eof_offset-left-
 returns-then-eof_offset-left-clause-ran g c =
     let inv = c.turns.invariant in
     let below = some_room _ _ _ _ _ inv.3 (λ e. search rules depth 1) in
-    let ended = turn_end g.I.Stream.reading _ _ _ _ _ c.in-Err.ensures.ends c.reset.ensures
-    c.checkpoint-start.ensures c.in_ok-output.ensures.ends in
+    let ended = turn_end g.I.Stream.reading _ _ _ _ _ c.in-Err.ensures.ran.0 c.reset.ensures
+    c.checkpoint-start.ensures c.in_ok-output.ensures.ran.0 in
     let same = same_units g.I.Stream.reading _ _ ended (omega arith) in (
       inv.0,
       _,
@@ -96,8 +99,10 @@ returns-then-eof_offset-left-clause-ran g c =
       inr (inr (inr (inl (
         c.in_ok-output.output,
         below,
-        turn (g.P.Parser.meaning g.E.HasKind.form) (g.G.Parser.meaning g.E.HasKind.form) _ _ _ _
-            _ _ _ (Ok c.in_ok-output.output) _ _ _ c.in-Err.ensures.ran (search rules depth 1)
+        turn (Ran g.I.Stream.reading g.P.Parser.does g.E.HasKind.form)
+            (Ran g.I.Stream.reading g.G.Parser.does g.E.HasKind.form)
+            _ _ _ _ _ _ _ (Ok c.in_ok-output.output) _ _ _
+            c.in-Err.ensures.ran (search rules depth 1)
             c.reset.ensures c.checkpoint-start.ensures c.in_ok-output.ensures.ran,
         same,
         search rules depth 1,
@@ -108,8 +113,8 @@ pub returns-in-Err-accumulate-clause-ran : goal.returns-in-Err-accumulate-clause
 returns-in-Err-accumulate-clause-ran g c =
     let inv = c.turns.invariant in
     let below = some_room _ _ _ _ _ inv.3 (λ e. search rules depth 1) in
-    let ended = turn_end g.I.Stream.reading _ _ _ _ _ c.in-Err.ensures.ends c.reset.ensures
-    c.checkpoint-start.ensures c.in_ok-output.ensures.ends in
+    let ended = turn_end g.I.Stream.reading _ _ _ _ _ c.in-Err.ensures.ran.0 c.reset.ensures
+    c.checkpoint-start.ensures c.in_ok-output.ensures.ran.0 in
     let fewer = fewer_tokens g.I.Stream.reading _ _ ended (λ e. absurd (omega (arith, e))) in (
       inv.0,
       _,
@@ -120,8 +125,10 @@ returns-in-Err-accumulate-clause-ran g c =
       inr (inr (inr (inr (
         c.in_ok-output.output,
         below,
-        turn (g.P.Parser.meaning g.E.HasKind.form) (g.G.Parser.meaning g.E.HasKind.form) _ _ _ _
-            _ _ _ (Ok c.in_ok-output.output) _ _ _ c.in-Err.ensures.ran (search rules depth 1)
+        turn (Ran g.I.Stream.reading g.P.Parser.does g.E.HasKind.form)
+            (Ran g.I.Stream.reading g.G.Parser.does g.E.HasKind.form)
+            _ _ _ _ _ _ _ (Ok c.in_ok-output.output) _ _ _
+            c.in-Err.ensures.ran (search rules depth 1)
             c.reset.ensures c.checkpoint-start.ensures c.in_ok-output.ensures.ran,
         fewer,
         search rules depth 1,
@@ -132,13 +139,15 @@ returns-in-Err-accumulate-clause-ran g c =
 pub turns-preserved : goal.turns-preserved
 turns-preserved g c =
     let inv = c.turns.invariant in
-    let ended = turn_end g.I.Stream.reading _ _ _ _ _ c.in-Err.ensures.ends c.reset.ensures
-    c.checkpoint-start.ensures c.in_ok-output.ensures.ends in
+    let ended = turn_end g.I.Stream.reading _ _ _ _ _ c.in-Err.ensures.ran.0 c.reset.ensures
+    c.checkpoint-start.ensures c.in_ok-output.ensures.ran.0 in
     let fewer = fewer_tokens g.I.Stream.reading _ _ ended (λ e. absurd (omega (arith, e))) in (
       inv.0 ++ (c.in_ok-output.output ∷ []),
       chain_more inv.1
-          (turn (g.P.Parser.meaning g.E.HasKind.form) (g.G.Parser.meaning g.E.HasKind.form) _ _ _ _
-          _ _ _ (Ok c.in_ok-output.output) _ _ _ c.in-Err.ensures.ran (search rules depth 1)
+          (turn (Ran g.I.Stream.reading g.P.Parser.does g.E.HasKind.form)
+          (Ran g.I.Stream.reading g.G.Parser.does g.E.HasKind.form)
+          _ _ _ _ _ _ _ (Ok c.in_ok-output.output) _ _ _
+          c.in-Err.ensures.ran (search rules depth 1)
           c.reset.ensures c.checkpoint-start.ensures c.in_ok-output.ensures.ran)
           fewer,
       accumulates_more inv.2 (search rules depth 1),

@@ -1,3 +1,4 @@
+use Rattle.parser_definitions.specs.Does.{Ran}
 use Rattle.winnow_repeat.specs.Room.{RoomAfter}
 use Rattle.std.proofs.Common.{List, length}
 use Rattle.streams.specs.Input.{IsEndOf}
@@ -9,8 +10,8 @@ use Rattle.winnow_repeat.proofs.combinator.impls.repeat_till.turns.Given as goal
 abbrev pub invariant-turns : goal.invariant-turns
 invariant-turns g l =
     (outputs : List _)
-    × Chain (TurnRuns (g.P.Parser.meaning g.E.HasKind.form)
-    (g.G.Parser.meaning g.E.HasKind.form))
+    × Chain (TurnRuns (Ran g.I.Stream.reading g.P.Parser.does g.E.HasKind.form)
+    (Ran g.I.Stream.reading g.G.Parser.does g.E.HasKind.form))
     (g.P.Parser.state l.fn.parser, g.G.Parser.state l.fn.terminator)
     (g.I.Stream.view l.fn.input) outputs
     (g.P.Parser.state l.parser, g.G.Parser.state l.terminator) (g.I.Stream.view l.input)

@@ -1,3 +1,4 @@
+use Rattle.parser_definitions.specs.Does.{Ran}
 use Rattle.winnow_repeat.specs.Room.{room_behind_none, some_room}
 use Rattle.std.proofs.Common.{rules, Option, ℕ, inr}
 use Rattle.stream_errors.specs.Form.{answer_by, assert_kind}
@@ -10,7 +11,8 @@ pub returns-in-Ok-accumulate-clause-ran : goal.returns-in-Ok-accumulate-clause-r
 returns-in-Ok-accumulate-clause-ran g c =
     let form = g.E.HasKind.form in
     let links : ℕ → Option ℕ → Type 0 =
-    λ missing room. LinksRun (g.P.Parser.meaning form) (g.S.Parser.meaning form)
+    λ missing room. LinksRun (Ran g.I.Stream.reading g.P.Parser.does form)
+    (Ran g.I.Stream.reading g.S.Parser.does form)
     g.C.Accumulate.accumulator (assert_kind form) (from_to missing room) c.accumulate.new.self
     (g.P.Parser.state c.parse_next.new.self, g.S.Parser.state c.args.link.now.separator)
     (g.I.Stream.view c.parse_next.new.input) (answer_by g.E.HasKind.kind c.separated_links.result) (

@@ -1,3 +1,4 @@
+use Rattle.parser_definitions.specs.Does.{Ran}
 use Rattle.std.proofs.Common.{rules, refl, arith, inl, inr, subst, length, [], ◌∷◌, ◌++◌, ◌≡◌, ◌<◌}
 use Rattle.std.proofs.Common.{length-append}
 use Rattle.std.proofs.lemmas.Fn.{FoldsTo-push}
@@ -34,7 +35,8 @@ pub returns-in-Err-accumulate-clause-ran : goal.returns-in-Err-accumulate-clause
 returns-in-Err-accumulate-clause-ran g c =
     let inv = c.links.invariant in
     let form = g.E.HasKind.form in
-    let told = tried_link (g.P.Parser.meaning form) (g.S.Parser.meaning form)
+    let told = tried_link (Ran g.I.Stream.reading g.P.Parser.does form)
+    (Ran g.I.Stream.reading g.S.Parser.does form)
     (g.P.Parser.state c.links.link.parser, g.S.Parser.state c.links.link.separator)
     (g.I.Stream.view c.links.input) c.in-Ok-Some.field-0
     (g.P.Parser.state c.run.new.self.parser, g.S.Parser.state c.run.new.self.separator)
@@ -62,7 +64,8 @@ pub returns-in-Ok-None-clause-ran : goal.returns-in-Ok-None-clause-ran
 returns-in-Ok-None-clause-ran g c =
     let inv = c.links.invariant in
     let form = g.E.HasKind.form in
-    let told = tried_none (g.P.Parser.meaning form) (g.S.Parser.meaning form)
+    let told = tried_none (Ran g.I.Stream.reading g.P.Parser.does form)
+    (Ran g.I.Stream.reading g.S.Parser.does form)
     (g.P.Parser.state c.links.link.parser, g.S.Parser.state c.links.link.separator)
     (g.I.Stream.view c.links.input) c.in-Ok-None.field-0
     (g.P.Parser.state c.run.new.self.parser, g.S.Parser.state c.run.new.self.separator)
@@ -87,7 +90,8 @@ returns-then-is_backtrack-clause-ran g c =
     let below = some_room _ _ _ _ _ inv.3 (λ e. search rules depth 1) in
     let is : g.E.HasKind.kind c.in-Err.error ≡ backtrack = search rules depth 1 in
     let Fails : Kind → Type 0 =
-    λ k. LinkFails (g.P.Parser.meaning form) (g.S.Parser.meaning form)
+    λ k. LinkFails (Ran g.I.Stream.reading g.P.Parser.does form)
+    (Ran g.I.Stream.reading g.S.Parser.does form)
     (g.P.Parser.state c.links.link.parser, g.S.Parser.state c.links.link.separator)
     (g.I.Stream.view c.links.input) k
     (g.P.Parser.state c.run.new.self.parser, g.S.Parser.state c.run.new.self.separator)
@@ -131,13 +135,15 @@ pub links-preserved : goal.links-preserved
 links-preserved g c =
     let inv = c.links.invariant in
     let form = g.E.HasKind.form in
-    let told = tried_link (g.P.Parser.meaning form) (g.S.Parser.meaning form)
+    let told = tried_link (Ran g.I.Stream.reading g.P.Parser.does form)
+    (Ran g.I.Stream.reading g.S.Parser.does form)
     (g.P.Parser.state c.links.link.parser, g.S.Parser.state c.links.link.separator)
     (g.I.Stream.view c.links.input) c.in-Ok-Some.field-0
     (g.P.Parser.state c.run.new.self.parser, g.S.Parser.state c.run.new.self.separator)
     (g.I.Stream.view c.run.new.input) (c.in-Ok-Some._separator, c.in-Ok-Some.output)
     c.in-Ok-Some.field-0-is c.in-Ok-Some.ensures.ran in
-    let link = LinkRuns (g.P.Parser.meaning form) (g.S.Parser.meaning form) in (
+    let link = LinkRuns (Ran g.I.Stream.reading g.P.Parser.does form)
+    (Ran g.I.Stream.reading g.S.Parser.does form) in (
       inv.0 ++ (c.in-Ok-Some.output ∷ []),
       record {
         runs = FoldsTo-push (λ p o q. IsItem link p o q) _ inv.0 _ c.in-Ok-Some.output _ inv.1.runs

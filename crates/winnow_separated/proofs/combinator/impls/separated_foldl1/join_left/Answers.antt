@@ -1,3 +1,4 @@
+use Rattle.parser_definitions.specs.Does.{Ran}
 use Rattle.std.proofs.Common.{of_calls, rules, refl, inl, inr, subst, [], ◌∷◌, ◌++◌, ◌≡◌}
 use Rattle.std.proofs.lemmas.Fn.{FoldsTo-push}
 use Rattle.streams.specs.Input.{is_end_of_refl, is_end_of_trans}
@@ -22,7 +23,8 @@ pub returns-in-Ok-None-clause-ran : goal.returns-in-Ok-None-clause-ran
 returns-in-Ok-None-clause-ran g c =
     let inv = c.links.invariant in
     let form = g.E.HasKind.form in
-    let told = tried_none (g.P.Parser.meaning form) (g.S.Parser.meaning form)
+    let told = tried_none (Ran g.I.Stream.reading g.P.Parser.does form)
+    (Ran g.I.Stream.reading g.S.Parser.does form)
     (g.P.Parser.state c.links.link.parser, g.S.Parser.state c.links.link.separator)
     (g.I.Stream.view c.links.input) c.in-Ok-None.field-0
     (g.P.Parser.state c.run.new.self.parser, g.S.Parser.state c.run.new.self.separator)
@@ -42,7 +44,8 @@ returns-then-is_backtrack-clause-ran g c =
     let form = g.E.HasKind.form in
     let is : g.E.HasKind.kind c.in-Err.error ≡ backtrack = search rules depth 1 in
     let Fails : Kind → Type 0 =
-    λ k. LinkFails (g.P.Parser.meaning form) (g.S.Parser.meaning form)
+    λ k. LinkFails (Ran g.I.Stream.reading g.P.Parser.does form)
+    (Ran g.I.Stream.reading g.S.Parser.does form)
     (g.P.Parser.state c.links.link.parser, g.S.Parser.state c.links.link.separator)
     (g.I.Stream.view c.links.input) k
     (g.P.Parser.state c.run.new.self.parser, g.S.Parser.state c.run.new.self.separator)
@@ -78,12 +81,14 @@ links-preserved g c =
     let inv = c.links.invariant in
     let read : g.row.D.Denot × g.row.O.Denot = (c.in-Ok-Some.separator, c.in-Ok-Some.element) in
     let form = g.E.HasKind.form in
-    let told = tried_pair (g.P.Parser.meaning form) (g.S.Parser.meaning form)
+    let told = tried_pair (Ran g.I.Stream.reading g.P.Parser.does form)
+    (Ran g.I.Stream.reading g.S.Parser.does form)
     (g.P.Parser.state c.links.link.parser, g.S.Parser.state c.links.link.separator)
     (g.I.Stream.view c.links.input) c.in-Ok-Some.field-0
     (g.P.Parser.state c.run.new.self.parser, g.S.Parser.state c.run.new.self.separator)
     (g.I.Stream.view c.run.new.input) read c.in-Ok-Some.field-0-is c.in-Ok-Some.ensures.ran in
-    let link = PairLinkRuns (g.P.Parser.meaning form) (g.S.Parser.meaning form) in (
+    let link = PairLinkRuns (Ran g.I.Stream.reading g.P.Parser.does form)
+    (Ran g.I.Stream.reading g.S.Parser.does form) in (
       inv.0 ++ (read ∷ []),
       record {
         runs = FoldsTo-push (λ p o q. IsItem link p o q) _ inv.0 _ read _ inv.1.runs told;

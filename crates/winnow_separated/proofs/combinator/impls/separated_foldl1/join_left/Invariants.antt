@@ -1,3 +1,4 @@
+use Rattle.parser_definitions.specs.Does.{Ran}
 use Rattle.std.proofs.Common.{List, length}
 use Rattle.streams.specs.Input.{IsEndOf}
 use Rattle.winnow_repeat.specs.Chain.{Chain}
@@ -8,8 +9,8 @@ use Rattle.winnow_separated.proofs.combinator.impls.separated_foldl1.join_left.G
 abbrev pub invariant-links : goal.invariant-links
 invariant-links g l =
     (links : List _)
-    × Chain (PairLinkRuns (g.P.Parser.meaning g.E.HasKind.form)
-    (g.S.Parser.meaning g.E.HasKind.form))
+    × Chain (PairLinkRuns (Ran g.I.Stream.reading g.P.Parser.does g.E.HasKind.form)
+    (Ran g.I.Stream.reading g.S.Parser.does g.E.HasKind.form))
     (g.P.Parser.state l.fn.link.parser, g.S.Parser.state l.fn.link.separator)
     (g.I.Stream.view l.fn.input) links
     (g.P.Parser.state l.link.parser, g.S.Parser.state l.link.separator)

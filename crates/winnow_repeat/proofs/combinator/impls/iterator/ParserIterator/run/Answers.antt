@@ -4,7 +4,7 @@ use Rattle.winnow_repeat.proofs.combinator.impls.iterator.ParserIterator.run.Goa
 
 pub returns-then-eof_offset-left-clause-ran : goal.returns-then-eof_offset-left-clause-ran
 returns-then-eof_offset-left-clause-ran g c =
-    let same = same_units g.I.Stream.reading _ _ c.in-Ok.ensures.ends (omega arith) in
+    let same = same_units g.I.Stream.reading _ _ c.in-Ok.ensures.ran.0 (omega arith) in
     inr (inl (
       search rules depth 1,
       inr (inr (c.in-Ok.output, c.in-Ok.ensures.ran, same, search rules depth 1)),

@@ -4,5 +4,5 @@ use Rattle.winnow_separated.proofs.combinator.impls.link.Link.run.Goals as goal
 
 pub returns-then-eof_offset-left-clause-ran : goal.returns-then-eof_offset-left-clause-ran
 returns-then-eof_offset-left-clause-ran g c =
-    let same = same_units g.I.Stream.reading _ _ c.in_ok-separator.ensures.ends (omega arith) in
+    let same = same_units g.I.Stream.reading _ _ c.in_ok-separator.ensures.ran.0 (omega arith) in
     (c.in_ok-separator.separator, c.in_ok-separator.ensures.ran, same, refl)
