@@ -34,7 +34,6 @@ pub use Rattle.winnow_core.specs.Laws as ParserLaws
 pub use Rattle.winnow_token.specs.Literal as LiteralParser
 pub use Rattle.winnow_bits.specs.Longer as LongerBits
 pub use Rattle.winnow_expression.specs.Grammar as OperatorGrammar
-pub use Rattle.winnow_laws.specs.Laws as MeaningLaws
 pub use Rattle.winnow_expression_trees.specs.Reading as ReadingOfParts
 pub use Rattle.winnow_expression_trees.specs.Value as ValueOfTree
 -- Modules that only proofs of these crates cite:
@@ -109,7 +108,7 @@ pub use Rattle.stream_recovery.specs.Recorded
 pub use Rattle.parser_definitions.specs.Alt as AltDefinition
 pub use Rattle.parser_definitions.specs.AltMany
 pub use Rattle.parser_definitions.specs.Any as AnyDefinition
-pub use Rattle.parser_definitions.specs.BitBool as BitBoolDefinition
+pub use Rattle.parser_definitions.specs.BitBool
 pub use Rattle.parser_definitions.specs.BitTake as BitTakeDefinition
 pub use Rattle.parser_definitions.specs.BitsOfBytes as BitsOfBytesDefinition
 pub use Rattle.parser_definitions.specs.Both
@@ -137,16 +136,17 @@ pub use Rattle.parser_definitions.specs.Held
 pub use Rattle.parser_definitions.specs.HexUint as HexUintDefinition
 pub use Rattle.parser_definitions.specs.Integer as IntegerDefinition
 pub use Rattle.parser_definitions.specs.IntegerGrammar
+pub use Rattle.parser_definitions.specs.Inversion
 pub use Rattle.parser_definitions.specs.Items as ItemsDefinition
 pub use Rattle.parser_definitions.specs.Left
-pub use Rattle.parser_definitions.specs.Length as LengthDefinition
-pub use Rattle.parser_definitions.specs.LengthRepeat as LengthRepeatDefinition
+pub use Rattle.parser_definitions.specs.Length
+pub use Rattle.parser_definitions.specs.LengthRepeat
 pub use Rattle.parser_definitions.specs.LineEnding as LineEndingDefinition
 pub use Rattle.parser_definitions.specs.Link as LinkDefinition
 pub use Rattle.parser_definitions.specs.Literal as LiteralDefinition
 pub use Rattle.parser_definitions.specs.Loop
-pub use Rattle.parser_definitions.specs.Map as MapDefinition
-pub use Rattle.parser_definitions.specs.MapErr as MapErrDefinition
+pub use Rattle.parser_definitions.specs.Map
+pub use Rattle.parser_definitions.specs.MapErr
 pub use Rattle.parser_definitions.specs.Members as MembersDefinition
 pub use Rattle.parser_definitions.specs.Moved
 pub use Rattle.parser_definitions.specs.Number as NumberDefinition
@@ -154,11 +154,11 @@ pub use Rattle.parser_definitions.specs.NumberGrammar
 pub use Rattle.parser_definitions.specs.Numeral as NumeralDefinition
 pub use Rattle.parser_definitions.specs.OneOf as OneOfDefinition
 pub use Rattle.parser_definitions.specs.Operators as OperatorsDefinition
-pub use Rattle.parser_definitions.specs.Opt as OptDefinition
+pub use Rattle.parser_definitions.specs.Opt
 pub use Rattle.parser_definitions.specs.Outcome
 pub use Rattle.parser_definitions.specs.Outputs
 pub use Rattle.parser_definitions.specs.Passed
-pub use Rattle.parser_definitions.specs.Peek as PeekDefinition
+pub use Rattle.parser_definitions.specs.Peek
 pub use Rattle.parser_definitions.specs.Places as PlacesDefinition
 pub use Rattle.parser_definitions.specs.Projects
 pub use Rattle.parser_definitions.specs.Recover as RecoverDefinition
@@ -169,8 +169,8 @@ pub use Rattle.parser_definitions.specs.Resume
 pub use Rattle.parser_definitions.specs.Retry
 pub use Rattle.parser_definitions.specs.Separated as SeparatedDefinition
 pub use Rattle.parser_definitions.specs.SeparatedFold
-pub use Rattle.parser_definitions.specs.Sequence as SequenceDefinition
-pub use Rattle.parser_definitions.specs.Settles as SettlesDefinition
+pub use Rattle.parser_definitions.specs.Sequence
+pub use Rattle.parser_definitions.specs.Settles
 pub use Rattle.parser_definitions.specs.Shown
 pub use Rattle.parser_definitions.specs.Spelled
 pub use Rattle.parser_definitions.specs.Stays
@@ -184,51 +184,37 @@ pub use Rattle.parser_definitions.specs.TillLineEnding as TillLineEndingDefiniti
 pub use Rattle.parser_definitions.specs.TryMap as TryMapDefinition
 pub use Rattle.parser_definitions.specs.Tuples
 pub use Rattle.parser_definitions.specs.Unreadable
-pub use Rattle.parser_definitions.specs.Verify as VerifyDefinition
+pub use Rattle.parser_definitions.specs.Verify
 -- The core of the parsers: the trait `Parser` with its adapters, parsers by value, and sequences.
 pub use Rattle.winnow_core.specs.AndThen
 pub use Rattle.winnow_core.specs.ByRef
+pub use Rattle.winnow_core.specs.Called
 pub use Rattle.winnow_core.specs.CompleteErr
 pub use Rattle.winnow_core.specs.Context
-pub use Rattle.winnow_core.specs.ContextWith
+pub use Rattle.winnow_core.specs.Covers
 pub use Rattle.winnow_core.specs.Decided
-pub use Rattle.winnow_core.specs.DefaultValue
 pub use Rattle.winnow_core.specs.Eof
-pub use Rattle.winnow_core.specs.ErrInto
 pub use Rattle.winnow_core.specs.Exact
 pub use Rattle.winnow_core.specs.FlatMap
 pub use Rattle.winnow_core.specs.Func
-pub use Rattle.winnow_core.specs.InOrder
 pub use Rattle.winnow_core.specs.Literal
 pub use Rattle.winnow_core.specs.Longer
-pub use Rattle.winnow_core.specs.MakesError
 pub use Rattle.winnow_core.specs.MakesOutput
-pub use Rattle.winnow_core.specs.Map
-pub use Rattle.winnow_core.specs.MapErr
-pub use Rattle.winnow_core.specs.MapErrKept
-pub use Rattle.winnow_core.specs.OutputInto
 pub use Rattle.winnow_core.specs.Parse
 pub use Rattle.winnow_core.specs.ParseIter
 pub use Rattle.winnow_core.specs.ParsePeek
 pub use Rattle.winnow_core.specs.ParseTo
-pub use Rattle.winnow_core.specs.Reads
 pub use Rattle.winnow_core.specs.Runs
-pub use Rattle.winnow_core.specs.Sequence
-pub use Rattle.winnow_core.specs.Settles
 pub use Rattle.winnow_core.specs.Short
 pub use Rattle.winnow_core.specs.Span
 pub use Rattle.winnow_core.specs.States
 pub use Rattle.winnow_core.specs.Tells
 pub use Rattle.winnow_core.specs.TryMap
 pub use Rattle.winnow_core.specs.Value
-pub use Rattle.winnow_core.specs.Verify
-pub use Rattle.winnow_core.specs.VerifyMap
-pub use Rattle.winnow_core.specs.Void
-pub use Rattle.winnow_core.specs.WithSpan
-pub use Rattle.winnow_core.specs.WithTaken
 -- The parsers of tokens.
 pub use Rattle.winnow_token.specs.Any
 pub use Rattle.winnow_token.specs.Before
+pub use Rattle.winnow_token.specs.Elsewhere
 pub use Rattle.winnow_token.specs.Members
 pub use Rattle.winnow_token.specs.NoneOf
 pub use Rattle.winnow_token.specs.OneOf
@@ -241,8 +227,6 @@ pub use Rattle.winnow_token.specs.TakeWhile
 pub use Rattle.winnow_ascii.specs.Class
 pub use Rattle.winnow_ascii.specs.Crlf
 pub use Rattle.winnow_ascii.specs.LineEnding
-pub use Rattle.winnow_ascii.specs.Newline
-pub use Rattle.winnow_ascii.specs.Tab
 pub use Rattle.winnow_ascii.specs.TillLineEnding
 -- The parsers of numbers as text, as ASCII digits.
 pub use Rattle.winnow_numbers.specs.DecInt
@@ -255,19 +239,9 @@ pub use Rattle.winnow_numbers.specs.Numeral
 -- Combinators for choices, options and sequences.
 pub use Rattle.winnow_comb.specs.Alt
 pub use Rattle.winnow_comb.specs.Attempt
-pub use Rattle.winnow_comb.specs.BacktrackErr
-pub use Rattle.winnow_comb.specs.ChoiceLaws
-pub use Rattle.winnow_comb.specs.Cond
-pub use Rattle.winnow_comb.specs.CutErr
-pub use Rattle.winnow_comb.specs.Delimited
 pub use Rattle.winnow_comb.specs.Empty
 pub use Rattle.winnow_comb.specs.Fail
 pub use Rattle.winnow_comb.specs.Laws
-pub use Rattle.winnow_comb.specs.Not
-pub use Rattle.winnow_comb.specs.Opt
-pub use Rattle.winnow_comb.specs.Peek
-pub use Rattle.winnow_comb.specs.Preceded
-pub use Rattle.winnow_comb.specs.SeparatedPair
 pub use Rattle.winnow_comb.specs.Terminated
 -- Repetition of a parser: into an accumulator or a value, until another parser succeeds, as an
 -- iterator, or into a buffer.
@@ -293,16 +267,8 @@ pub use Rattle.winnow_separated.specs.SeparatedLaws
 -- The parsers of integers as bytes.
 pub use Rattle.winnow_integers.specs.Integer
 pub use Rattle.winnow_integers.specs.IntegerLaws
--- The parsers of binary data: integers whose order of bytes is chosen, and data after its length.
-pub use Rattle.winnow_binary.specs.Chosen
-pub use Rattle.winnow_binary.specs.Length
-pub use Rattle.winnow_binary.specs.LengthAndThen
-pub use Rattle.winnow_binary.specs.LengthRepeat
-pub use Rattle.winnow_binary.specs.LengthTake
 -- The parsers of bits, and of bytes as bits and back.
-pub use Rattle.winnow_bits.specs.BitBool
 pub use Rattle.winnow_bits.specs.BitLaws
-pub use Rattle.winnow_bits.specs.BitPattern
 pub use Rattle.winnow_bits.specs.BitTake
 pub use Rattle.winnow_bits.specs.BitsOfBytes
 pub use Rattle.winnow_bits.specs.BytesOfBits
@@ -312,6 +278,7 @@ pub use Rattle.winnow_bits.specs.Needs
 -- the powers of the operators.
 pub use Rattle.winnow_expression.specs.Calls
 pub use Rattle.winnow_expression.specs.Definition
+pub use Rattle.winnow_expression.specs.Did
 pub use Rattle.winnow_expression.specs.Expression
 pub use Rattle.winnow_expression.specs.Folds
 pub use Rattle.winnow_expression.specs.Machine
@@ -340,9 +307,6 @@ pub use Rattle.winnow_recovery.specs.RetryAfter
 pub use Rattle.winnow_escapes.specs.Controls
 pub use Rattle.winnow_escapes.specs.Escaped
 pub use Rattle.winnow_escapes.specs.TakeEscaped
--- The semantics of parsers: the law of each call, and the semantics of compositions.
-pub use Rattle.winnow_laws.specs.Compositions
-pub use Rattle.winnow_laws.specs.Memory
 -- The basis of parsers that are specified by grammars: functions as parsers, incremental input, and
 -- results of successive calls.
 pub use Rattle.winnow_grammar.specs.Back

@@ -1,7 +1,6 @@
 pub mod EndLemmas
 pub mod LeadsLemmas
 pub mod Loop
-pub mod PlacesLemmas
 pub mod RankLemmas
 pub mod StandsLemmas
 pub mod StepLemmas

@@ -1,4 +1,4 @@
--- Operators, and expressions of covered parts, are covered.
+-- Expressions of covered parts are covered.
 pub mod Parts
 pub mod Steps
 pub mod Trees

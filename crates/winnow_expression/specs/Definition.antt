@@ -1,5 +1,5 @@
 -- The operators of an expression, as its definition has them.
-use Rattle.std.specs.Prelude.{◌≡◌, ◌⊎◌, ℕ, List, Option, Some, None}
+use Rattle.std.specs.Prelude.{◌≡◌, ◌⊎◌, ℕ, ℤ, List, Option, Some, None}
 use Rattle.std.proofs.Common.{inl, inr}
 use Rattle.streams.specs.Input.{Input}
 use Rattle.stream_errors.specs.Form.{Answer}
@@ -7,6 +7,7 @@ use Rattle.parser_definitions.specs.Expression as tree
 use Rattle.parser_definitions.specs.Left.{Left, left_of}
 use Rattle.parser_definitions.specs.Outcome.{Does, Outcome, Setting, asks, backs, cuts, outcome_of}
 use Rattle.parser_definitions.specs.Outcome.{took, wants}
+use Rattle.parser_definitions.specs.Then.Steps.{In}
 use Rattle.winnow_core.specs.Covers.{At}
 use Rattle.winnow_expression.specs.Folds.{DoesBinary, DoesUnary}
 use Rattle.winnow_expression.specs.Operators.{fold_of, left_power, neither_power, right_power}
@@ -73,3 +74,10 @@ made_as to wants = wants
 -- The definition of a parser whose outputs, written in another way, are those of `does`.
 abbrev pub OutputAs : {S T O U : Type 0} → (O → U) → Does S T U → Does S T O
 OutputAs to does at s w y = does at s w (made_as to y)
+
+-- An expression of two parts; its level is a part of the state.
+abbrev pub LeveledDo : {S W T V X Y Z : Type 0} → tree.Operators T V X Y Z → Does S T (V ⊎ X)
+    → Does W T (Option (Y ⊎ Z)) → Does (S × W × ℤ) T V
+LeveledDo g one two at q w y =
+    tree.TreesDo g (In (λ q. q.0) (λ q u. (u, q.1, q.2)) one)
+    (In (λ q. q.1) (λ q u. (q.0, u, q.2)) two) q.2 at q w y

@@ -10,7 +10,6 @@ use Rattle.winnow_expression.specs.Grammar.{ResumeEnds, ResumeGoes, TurnEnds}
 use Rattle.winnow_expression.specs.Units.{units_left}
 use Rattle.winnow_expression.specs.declared.combinator.impls.expression.Expression.{Expression}
 use Rattle.winnow_expression.specs.declared.combinator.places.First.TheVariants.{Operand}
-pub mod Laws
 
 -- the parts: the parsers of operands and operators, and the least power
 abbrev pub operand_of : {I O P Pre Post Pix F G H E A : Type 0}

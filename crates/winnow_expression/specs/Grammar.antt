@@ -75,7 +75,7 @@ CallEnds {V = V} {F = F} H units first refusal call s i kind t j =
     first s i (Err kind) t j
     -- the prefix consumes nothing
     ⊎ (((power : ℤ) × (fold : F) × first s i (Ok (prefix_read power fold)) t j
-    × (units_left units j ≡ units_left units i) × (kind ≡ refusal))
+    × (units_left units j < units_left units i → ⊥) × (kind ≡ refusal))
     -- there is no memory for it
     ⊎ ((x : Open V F H) × (power : ℤ) × Prefixes units first call s i x power t j
     × (kind ≡ memory)))

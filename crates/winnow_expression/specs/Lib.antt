@@ -2,6 +2,7 @@
 pub mod Calls
 pub mod Covers
 pub mod Definition
+pub mod Did
 pub mod Expression
 pub mod Folds
 pub mod Grammar

@@ -1,14 +1,10 @@
 -- Operators: their powers and their folds, and operators as parsers of themselves.
-use Rattle.std.specs.Prelude.{◌≡◌, ℤ, pos, ◌+ℤ◌, Option, Some, None, Ok, Err, ◌⊎◌}
-use Rattle.streams.specs.Input.{Input}
-use Rattle.streams.specs.Kind.{memory}
-use Rattle.stream_errors.specs.Form.{Answer}
+use Rattle.std.specs.Prelude.{◌≡◌, ℤ, pos, ◌+ℤ◌, Option, Some, None}
 use Rattle.winnow_expression.specs.declared.combinator.operators.Infix.{Infix}
 use Rattle.winnow_expression.specs.declared.combinator.operators.Infix.TheVariants.{Left, Right}
 use Rattle.winnow_expression.specs.declared.combinator.operators.Infix.TheVariants.{Neither}
 use Rattle.winnow_expression.specs.declared.combinator.operators.Postfix.{Postfix}
 use Rattle.winnow_expression.specs.declared.combinator.operators.Prefix.{Prefix}
-pub mod Laws
 
 -- how strong an infix binds its left operand
 abbrev pub left_power : {F : Type 0} → Infix F → ℤ
@@ -49,11 +45,3 @@ IsPostfixClone IsClone p q = (q.0 ≡ p.0) × IsClone p.1 q.1
 -- the same side and power, and a clone of the fold
 abbrev pub IsInfixClone : {F : Type 0} → (F → F → Type 0) → Infix F → Infix F → Type 0
 IsInfixClone IsClone o q = (q ≡ with_fold o (fold_of q)) × IsClone (fold_of o) (fold_of q)
-
--- A call of an operator as a parser: it consumes nothing, and returns a clone of itself, or out of
--- memory if cloning fails to allocate.
-abbrev pub OperatorRuns : {T O : Type 0} → (O → O → Type 0) → (O → Type 0) → O → Input T
-    → Answer O → Input T → Type 0
-OperatorRuns {T} {O} IsClone ClonesAlways s i answer j =
-    ((o : O) × IsClone s o × (answer ≡ Ok o) × (j ≡ i))
-    ⊎ ((¬ (ClonesAlways s)) × (answer ≡ Err memory) × (j ≡ i))

@@ -1,9 +1,12 @@
 -- The expression that four parts and their folds make.
 use Rattle.std.specs.Prelude.{ℕ, List}
-use Rattle.stream_errors.specs.Form.{Answer}
+use Rattle.parser_definitions.specs.Outcome.{Does}
+use Rattle.stream_errors.specs.Form.{Answer, ErrorForm, assert_kind}
 use Rattle.streams.specs.Input.{Input}
 use Rattle.streams.specs.Kind.{Kind}
 use Rattle.winnow_core.specs.Runs.{Runs}
+use Rattle.winnow_expression.specs.Did.{Did}
+use Rattle.winnow_expression.specs.Folds.{DoesBinary, DoesUnary}
 use Rattle.winnow_expression.specs.Grammar.{Grammar, folding, grammar}
 use Rattle.winnow_expression.specs.Places.{FirstRuns, NextRuns}
 use Rattle.winnow_expression.specs.declared.combinator.operators.Infix.{Infix}
@@ -22,3 +25,11 @@ abbrev pub parts_grammar : {S1 S2 S3 S4 T V F G H : Type 0} → (List T → ℕ)
 parts_grammar units refusal operand prefix postfix infix_ before behind between =
     grammar (FirstRuns operand prefix) (NextRuns units postfix infix_) behind
     (folding before between units refusal)
+
+-- ... where the parts are called as their definitions say, with errors of a form.
+abbrev pub did_grammar : {S1 S2 S3 S4 T V F G H : Type 0} → (List T → ℕ) → ErrorForm → Does S1 T V
+    → Does S2 T (Prefix F) → Does S3 T (Postfix G) → Does S4 T (Infix H) → DoesUnary F T V
+    → DoesUnary G T V → DoesBinary H T V → Grammar (S1 × S2) (S3 × S4) T V F G H
+did_grammar units form d1 d2 d3 d4 before behind between =
+    parts_grammar units (assert_kind form) (Did d1 form) (Did d2 form) (Did d3 form) (Did d4 form)
+    (before form) (behind form) (between form)

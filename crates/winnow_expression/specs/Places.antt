@@ -18,7 +18,6 @@ use Rattle.winnow_expression.specs.declared.combinator.places.Next.TheVariants.{
   Postfix as postfix_read,
 }
 use Rattle.winnow_expression.specs.declared.combinator.places.Next.TheVariants.{Infix as infix_read}
-pub mod Laws
 
 -- An operand, and where that backtracks, back at its beginning, a prefix.
 abbrev pub FirstRuns : {S W T V F : Type 0} → Runs S T V → Runs W T (Prefix F)

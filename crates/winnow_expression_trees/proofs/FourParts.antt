@@ -1,21 +1,18 @@
 -- The premises on the four parts are those on what is read.
-use Rattle.std.specs.Prelude.{◌≡◌, ◌<◌, ◌⊎◌, ℕ, ℤ, List, Some, Ok, Err}
+use Rattle.std.specs.Prelude.{◌≡◌, ◌≤◌, ◌<◌, ◌⊎◌, ℕ, ℤ, List, Some, Ok, Err}
 use Rattle.std.proofs.Common.{refl, sym, ◌∙◌, ap, subst, inl, inr, arith}
 use Rattle.stream_errors.specs.Form.{Answer}
 use Rattle.stream_errors.specs.Form.Inversion.{ok_is_err}
-use Rattle.streams.specs.Input.{Input, IsEndOf, back_at, same_parts}
+use Rattle.streams.specs.Input.{Input, back_at}
 use Rattle.streams.specs.Kind.{Kind, backtrack, memory}
-use Rattle.streams.specs.Reading.{Reading}
 use Rattle.winnow_core.specs.Decided.{EqualResults}
 use Rattle.winnow_core.specs.Decided.Inputs.{both_err, both_ok}
-use Rattle.winnow_core.specs.Ends.{same_units}
-use Rattle.winnow_core.specs.Runs.{LeaveEnds, Runs}
+use Rattle.winnow_core.specs.Runs.{Runs}
 use Rattle.winnow_expression.specs.Grammar.{Grammar, folding}
 use Rattle.winnow_expression.specs.Operators.{neither_power}
 use Rattle.winnow_expression.specs.Parts.{parts_grammar}
 use Rattle.winnow_expression.specs.Places.{FirstRuns, NextRuns, SomeRuns}
-use Rattle.winnow_expression.specs.Places.Laws.{first_ends, next_ends}
-use Rattle.winnow_expression.specs.Units.{ends_less, units_left}
+use Rattle.winnow_expression.specs.Units.{units_left}
 use Rattle.winnow_expression.specs.declared.combinator.operators.Infix.{Infix}
 use Rattle.winnow_expression.specs.declared.combinator.operators.Postfix.{Postfix}
 use Rattle.winnow_expression.specs.declared.combinator.operators.Prefix.{Prefix}
@@ -202,20 +199,6 @@ pair_same {A} {B} p q e f =
 back_is : {T : Type 0} (i m : Input T) → m.status ≡ i.status → back_at i.left m ≡ i
 back_is i m e = ap (λ c. record i { status = c }) e
 
-at_rest : {T L : Type 0} (reading : Reading T L) (i j : Input T) → IsEndOf reading j i
-    → j.status ≡ i.status → units_left reading.units j ≡ units_left reading.units i → j ≡ i
-at_rest reading i j p status same =
-    let none : reading.units p.ends.dropped ≡ 0 =
-    omega (
-      arith,
-      same,
-      ap reading.units p.ends.tokens,
-      reading.units_add p.ends.dropped j.left.tokens,
-    ) in
-    same_parts j i (same_units reading j i p same)
-    (p.ends.place ∙ ap (λ n. reading.advance i.left.place n) none
-    ∙ reading.advance_none i.left.place) p.ends.possible status
-
 module _ {S1 S2 S3 S4 T V F G H : Type 0} (units : List T → ℕ) (refusal : Kind)
     (operand : Runs S1 T V) (prefix : Runs S2 T (Prefix F)) (postfix : Runs S3 T (Postfix G))
     (infix_ : Runs S4 T (Infix H)) (before : F → Input T → V → Answer V → Input T → Type 0)
@@ -237,18 +220,17 @@ module _ {S1 S2 S3 S4 T V F G H : Type 0} (units : List T → ℕ) (refusal : Ki
         (Ok y) s.1 s.1 r q tt tt;
   }
 
-module _ {S1 S2 S3 S4 T L V F G H : Type 0} (reading : Reading T L) (refusal : Kind)
+module _ {S1 S2 S3 S4 T V F G H : Type 0} (units : List T → ℕ) (refusal : Kind)
     (operand : Runs S1 T V) (prefix : Runs S2 T (Prefix F)) (postfix : Runs S3 T (Postfix G))
     (infix_ : Runs S4 T (Infix H)) (before : F → Input T → V → Answer V → Input T → Type 0)
     (behind : G → Input T → V → Answer V → Input T → Type 0)
     (between : H → Input T → V → V → Answer V → Input T → Type 0) (alike : V → V → Type 0)
-    (eo : LeaveEnds reading operand) (ep : LeaveEnds reading prefix)
-    (eq : LeaveEnds reading postfix) (ei : LeaveEnds reading infix_) (s1 : S1) (s2 : S2)
+    (s1 : S1) (s2 : S2)
     (s3 : S3) (s4 : S4)
     (pr : Premises alike operand prefix postfix infix_ behind
-    (folding before between reading.units refusal) s1 s2 s3 s4) where
+    (folding before between units refusal) s1 s2 s3 s4) where
   abbrev parts : Grammar (S1 × S2) (S3 × S4) T V F G H
-  parts = whole reading.units refusal operand prefix postfix infix_ before behind between
+  parts = whole units refusal operand prefix postfix infix_ before behind between
 
   abbrev states : (S1 × S2) × (S3 × S4)
   states = ((s1, s2), (s3, s4))
@@ -271,7 +253,7 @@ module _ {S1 S2 S3 S4 T L V F G H : Type 0} (reading : Reading T L) (refusal : K
       (pair_same t (s1, s2) k.0 l.0, l.1 ∙ k.1)
 
   keeps_next : (i j : Input T) (a : Answer (Next G H)) (t : S3 × S4)
-      → NextRuns reading.units postfix infix_ (s3, s4) i a t j → NotMemory a
+      → NextRuns units postfix infix_ (s3, s4) i a t j → NotMemory a
       → (t ≡ (s3, s4)) × (j.status ≡ i.status)
   keeps_next i j a t (inl (none, e, kept, place)) other = (kept, ap (λ z. z.status) place)
   keeps_next i j a t (inr (some, inl (p, r, kept, e))) other =
@@ -303,8 +285,38 @@ module _ {S1 S2 S3 S4 T L V F G H : Type 0} (reading : Reading T L) (refusal : K
       let l = pr.infixes.keeps (back_at i.left m) n (Err backtrack) s4 q not_back in
       place ∙ back_is i n (l.1 ∙ k.1)
 
+  first_falls : (i j : Input T) (x : First V F)
+      → FirstRuns operand prefix (s1, s2) i (Ok x) (s1, s2) j
+      → (units_left units j ≤ units_left units i)
+      × (units_left units j ≡ units_left units i → j ≡ i)
+  first_falls i j x (inl (v, r, kept, e)) = pr.operands_fall i j v s1 r
+  first_falls i j x (inr (inl (k, r, unlike, kept, e))) = ok_is_err refl e
+  first_falls i j x (inr (inr (inl (m, p, r, q, e)))) =
+      let k = pr.operands.keeps i m (Err backtrack) s1 r not_back in
+      let (less, same) = pr.prefixes_fall (back_at i.left m) j p s2 q in
+      (less, λ e. same e ∙ back_is i m k.1)
+  first_falls i j x (inr (inr (inr (m, k, r, q, e)))) = ok_is_err refl e
+
+  next_falls : (i j : Input T) (x : Next G H) → NextStep parts states i x j
+      → (units_left units j ≤ units_left units i)
+      × (units_left units j ≡ units_left units i → j ≡ i)
+  next_falls i j x (inl (none, e, kept, place)) =
+      (omega (arith, ap (units_left units) place), λ _. place)
+  next_falls i j x (inr (some, inl (p, r, kept, e))) = pr.postfixes_fall i j p s3 r
+  next_falls i j x (inr (some, inr (inl (k, r, unlike, kept, e)))) = ok_is_err refl e
+  next_falls i j x (inr (some, inr (inr (m, r, inl (o, q, e))))) =
+      let k = pr.postfixes.keeps i m (Err backtrack) s3 r not_back in
+      let (less, same) = pr.infixes_fall (back_at i.left m) j o s4 q in
+      (less, λ e. same e ∙ back_is i m k.1)
+  next_falls i j x (inr (some, inr (inr (m, r, inr (inl (k, q, unlike, e)))))) = ok_is_err refl e
+  next_falls i j x (inr (some, inr (inr (m, r, inr (inr (n, q, place, e)))))) =
+      let k = pr.postfixes.keeps i m (Err backtrack) s3 r not_back in
+      let l = pr.infixes.keeps (back_at i.left m) n (Err backtrack) s4 q not_back in
+      let at = place ∙ back_is i n (l.1 ∙ k.1) in
+      (omega (arith, ap (units_left units) at), λ _. at)
+
   neither_moves : (i j : Input T) (o : Infix H) (p : ℤ) → NextStep parts states i (infix_read o) j
-      → neither_power o ≡ Some p → units_left reading.units j < units_left reading.units i
+      → neither_power o ≡ Some p → units_left units j < units_left units i
   neither_moves i j o p (inl (none, e, kept, place)) is = absurd (cc)
   neither_moves i j o p (inr (some, inl (x, r, kept, e))) is = absurd (cc)
   neither_moves i j o p (inr (some, inr (inl (k, r, unlike, kept, e)))) is = ok_is_err refl e
@@ -324,16 +336,15 @@ module _ {S1 S2 S3 S4 T L V F G H : Type 0} (reading : Reading T L) (refusal : K
         pr.operands.decided pr.prefixes.decided;
     next_keeps = λ i j a t r n. (keeps_next i j a t r n).0;
     next_decided = next_decided (FoldAlike alike behind) (FoldsAlike alike between) postfix infix_
-        s3 s4 pr.postfixes.decided pr.infixes.decided reading.units;
+        s3 s4 pr.postfixes.decided pr.infixes.decided units;
     nothing = nothing_stays;
     back = λ i j x r. back_is i j (keeps_next i j (Ok x) (s3, s4) r tt).1;
+    prefix_falls = λ i j p f r. (first_falls i j (prefix_read p f) r).0;
     moves = record {
-      firsts_fall = λ i j x r. ends_less reading j i (left_first i j x r);
-      nexts_fall = λ i j x r. ends_less reading j i (left_next i j x r);
-      firsts_stay = λ i j x r e. at_rest reading i j (left_first i j x r)
-          (keeps_first i j (Ok x) (s1, s2) (first_run parts states i j x r) tt).1 e;
-      nexts_stay = λ i j x r e. at_rest reading i j (left_next i j x r)
-          (keeps_next i j (Ok x) (s3, s4) r tt).1 e;
+      firsts_fall = λ i j x r. (first_falls i j x (first_run parts states i j x r)).0;
+      nexts_fall = λ i j x r. (next_falls i j x r).0;
+      firsts_stay = λ i j x r. (first_falls i j x (first_run parts states i j x r)).1;
+      nexts_stay = λ i j x r. (next_falls i j x r).1;
       prefix_moves = λ i j p f r. r.1;
       neither_moves = neither_moves;
     };
@@ -341,13 +352,3 @@ module _ {S1 S2 S3 S4 T L V F G H : Type 0} (reading : Reading T L) (refusal : K
     behinds = λ f h e. e;
     betweens = λ f h e. e;
   }
-    where
-      left_first : (i j : Input T) (x : First V F) → FirstStep parts states i x j
-          → IsEndOf reading j i
-      left_first i j x r =
-          first_ends reading operand prefix eo ep (s1, s2) i (Ok x) (s1, s2) j
-          (first_run parts states i j x r)
-
-      left_next : (i j : Input T) (x : Next G H) → NextStep parts states i x j
-          → IsEndOf reading j i
-      left_next i j x r = next_ends reading postfix infix_ eq ei (s3, s4) i (Ok x) (s3, s4) j r

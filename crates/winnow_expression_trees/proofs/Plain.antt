@@ -1,7 +1,8 @@
 -- Parts that are functions of the input only.
-use Rattle.std.specs.Prelude.{◌≡◌, ℤ, Ok, Err}
-use Rattle.std.proofs.Common.{ap, subst, arith}
+use Rattle.std.specs.Prelude.{◌≡◌, ◌≤◌, ◌<◌, ℤ, Ok, Err}
+use Rattle.std.proofs.Common.{ap, subst, arith, refl}
 use Rattle.stream_errors.specs.Form.{Answer}
+use Rattle.stream_errors.specs.Form.Inversion.{ok_is_err}
 use Rattle.streams.specs.Input.{Input, back_at}
 use Rattle.streams.specs.Kind.{Kind, memory}
 use Rattle.winnow_core.specs.Decided.{EqualResults}
@@ -38,10 +39,16 @@ pub record Plain {S W T V F G H : Type 0} (g : Grammar S W T V F G H) (alike : V
       → EqualResults (AlikeNext ag ah) a b × (j ≡ k)
   pub nothing : (i j : Input T) → NextStep g s i Nothing j → j ≡ i
   pub back : (i j : Input T) (x : Next G H) → NextStep g s i x j → back_at i.left j ≡ i
+  pub prefix_falls : (i j : Input T) (p : ℤ) (f : F) → g.first s.0 i (Ok (prefix_read p f)) s.0 j
+      → units_left g.folding.units j ≤ units_left g.folding.units i
   pub moves : Moves (units_left g.folding.units) (FirstStep g s) (NextStep g s)
   pub befores : (f h : F) → af f h → FoldAlike alike g.folding.before f h
   pub behinds : (f h : G) → ag f h → FoldAlike alike g.behind f h
   pub betweens : (f h : H) → ah f h → FoldsAlike alike g.folding.between f h
+
+pub not_memory : {O : Type 0} (a : Answer O) → NotMemory a → a ≡ Err memory → ⊥
+not_memory (Ok v) other e = ok_is_err refl e
+not_memory (Err k) other e = other (cc)
 
 pub first_run : {S W T V F G H : Type 0} (g : Grammar S W T V F G H) (s : S × W) (i j : Input T)
     (x : First V F) → FirstStep g s i x j → g.first s.0 i (Ok x) s.0 j
@@ -80,6 +87,13 @@ module _ {S W T V F G H : Type 0} {g : Grammar S W T V F G H} {alike : V → V �
       → (a ≡ memory → ⊥) → NextStep g s i x k → ⊥
   no_next t i j k a x run other step =
       (pr.next_decided i j k (Err a) (Ok x) t s.1 run step other tt).0
+
+  -- a prefix that consumes nothing leaves as many units
+  pub still_prefix : (i j : Input T) (p : ℤ) (f : F)
+      → g.first s.0 i (Ok (prefix_read p f)) s.0 j
+      → (units_left g.folding.units j < units_left g.folding.units i → ⊥)
+      → units_left g.folding.units j ≡ units_left g.folding.units i
+  still_prefix i j p f run still = omega (arith, pr.prefix_falls i j p f run, still)
 
   -- nor where a prefix consumes nothing
   pub no_prefix : (i j k : Input T) (p : ℤ) (f : F) (x : First V F)

@@ -1,101 +1,82 @@
--- Parts of an expression that one state and one input decide are as the laws of trees ask.
-use Rattle.std.specs.Prelude.{◌≡◌, ℕ, Bool, List, [], ◌∷◌, length, Ok, Err}
-use Rattle.std.proofs.Common.{refl, sym, ap, ◌∙◌, inl, inr, arith}
-use Rattle.parser_definitions.specs.Does.{Lawful}
-use Rattle.parser_definitions.specs.Left.{left_of}
-use Rattle.parser_definitions.specs.Outcome.{Alike, Does, Setting, outcome_of, setting_of}
-use Rattle.streams.specs.Input.{Input, Status, same_parts}
-use Rattle.streams.specs.Kind.{Kind, backtrack, cut, incomplete, memory}
+-- Which parts of an expression consume.
+use Rattle.std.specs.Prelude.{◌≡◌, ◌<◌, ℕ, List, [], ◌∷◌, ◌++◌, length}
+use Rattle.std.specs.Borrow.{Bor}
+use Rattle.std.proofs.Common.{refl, ap, ◌∙◌, subst, inl, inr, arith}
+use Rattle.parser_definitions.specs.Alt.{AltDoes}
+use Rattle.parser_definitions.specs.Left.{back, left_of}
+use Rattle.parser_definitions.specs.Literal.{LiteralDoes}
+use Rattle.parser_definitions.specs.Outcome.{Does, asks, backs, cuts, setting_of, took}
+use Rattle.parser_definitions.specs.Outcome.{wants}
+use Rattle.parser_definitions.specs.Moved.{moved}
+use Rattle.parser_definitions.specs.TryMap.{ValueDoes}
+use Rattle.stream_errors.specs.Form.{ErrorForm}
 use Rattle.streams.specs.Bytes.{bytes_reading}
-use Rattle.stream_errors.specs.Form.{Answer, ErrorForm}
-use Rattle.stream_errors.specs.Form.Inversion.{ok_is_err}
-use Rattle.winnow_comb.specs.Alt.{OrElse}
-use Rattle.winnow_core.specs.Literal.{LiteralRuns}
-use Rattle.winnow_core.specs.Literal.Inversion.{token_taken}
-use Rattle.winnow_core.specs.Runs.{Keeps, Meaning, Runs}
-use Rattle.winnow_core.specs.Value.{ValueRuns}
-use Rattle.winnow_core.specs.Covers.{At, Covers}
-use Rattle.winnow_core.specs.Decided.{EqualResults}
-use Rattle.winnow_expression_trees.specs.Premises.{IsStateless, NotMemory}
-use Rattle.winnow_expression_trees.specs.Premises.Decided.{Moves, Stays}
-
--- the results of equal outcomes, neither of which is out of memory
-answers : {L O : Type 0} (alike : O → O → Type 0) (a b : Answer O) (rest end : L) → NotMemory a
-    → NotMemory b → Alike alike (outcome_of a rest) (outcome_of b end)
-    → EqualResults alike a b × (rest ≡ end)
-answers alike (Ok o) (Ok p) rest end na nb is = is
-answers alike (Ok o) (Err backtrack) rest end na nb is = absurd is
-answers alike (Ok o) (Err cut) rest end na nb is = absurd is
-answers alike (Ok o) (Err (incomplete need)) rest end na nb is = absurd is
-answers alike a (Err memory) rest end na nb is = absurd (nb refl)
-answers alike (Err memory) b rest end na nb is = absurd (na refl)
-answers alike (Err backtrack) (Ok p) rest end na nb is = absurd is
-answers alike (Err backtrack) (Err backtrack) rest end na nb is = (refl, is)
-answers alike (Err backtrack) (Err cut) rest end na nb is = absurd is
-answers alike (Err backtrack) (Err (incomplete need)) rest end na nb is = absurd is
-answers alike (Err cut) (Ok p) rest end na nb is = absurd is
-answers alike (Err cut) (Err backtrack) rest end na nb is = absurd is
-answers alike (Err cut) (Err cut) rest end na nb is = (refl, is)
-answers alike (Err cut) (Err (incomplete need)) rest end na nb is = absurd is
-answers alike (Err (incomplete need)) (Ok p) rest end na nb is = absurd is
-answers alike (Err (incomplete need)) (Err backtrack) rest end na nb is = absurd is
-answers alike (Err (incomplete need)) (Err cut) rest end na nb is = absurd is
-answers alike (Err (incomplete need)) (Err (incomplete other)) rest end na nb is =
-    (ap (λ n. incomplete n) is.0, is.1)
-
--- inputs in one setting with the same remaining input are the same
-same_input : {T : Type 0} {at : Setting} {j k : Input T} → At at j → At at k
-    → left_of j ≡ left_of k → j ≡ k
-same_input {j = j} {k = k} here there same =
-    let make : Bool → List Kind → Status = λ c r. record { cut = c; recorded = r } in
-    same_parts j k (ap (λ l. l.tokens) same) (ap (λ l. l.place) same)
-    (here.possible ∙ sym there.possible)
-    (ap (λ c. make c j.status.recorded) (here.more ∙ sym there.more)
-    ∙ ap (λ r. make k.status.cut r) (ap (λ l. l.recorded) same))
-
--- a parser that a lawful definition covers, in a state that its calls keep
-pub covered_stateless : {S T O : Type 0} (meaning : Meaning S T O) {does : Does S T O}
-    {stable : Type 0} {alike : O → O → Type 0}
-    → ((at : Setting) → Covers at (meaning at.form) does) → Lawful stable alike does
-    → (form : ErrorForm) (s : S) → Stays (meaning form) s → IsStateless alike (meaning form) s
-covered_stateless meaning {alike = alike} covers law form s stays = record {
-  keeps = stays;
-  decided = λ i j k a b t u r q na nb.
-      let at = setting_of form i in
-      let c = (covers at).covers s i a t j (record { more = refl; possible = refl }) r in
-      let d = (covers at).covers s i b u k (record { more = refl; possible = refl }) q in
-      let both = answers alike a b (t, left_of j) (u, left_of k) na nb
-      (law.one at s (left_of i) (outcome_of a (t, left_of j)) (outcome_of b (u, left_of k)) c.0
-      d.0) in
-      (both.0, same_input c.1 d.1 (ap (λ e. e.1) both.1));
-}
-
--- ---- operators that consume
+use Rattle.winnow_expression.specs.Did.{Did, here}
+use Rattle.winnow_expression_trees.specs.Premises.Decided.{Moves, lacks_none, rest_is}
 
 -- a byte does
-pub byte_moves : (form : ErrorForm) (b : ℕ)
-    → Moves bytes_reading.units
-    (Keeps (λ x. LiteralRuns bytes_reading form (λ xs. xs ≡ x ∷ []) (λ _. x)))
-    b
-byte_moves form b i j o t (ran, kept) =
-    omega (
-      arith,
-      ap (λ l. length l) (token_taken bytes_reading form b (λ _. b) i o j ran).splits,
-    )
+pub byte_moves : (spells : ℕ → List ℕ → Type 0)
+    → ((b : ℕ) (xs : List ℕ) → spells b xs → xs ≡ b ∷ []) → (output : ℕ → Bor (List ℕ) → ℕ)
+    → (form : ErrorForm) (b : ℕ)
+    → Moves bytes_reading.units (Did (LiteralDoes bytes_reading spells output) form) b
+byte_moves spells one output form b i j o t
+    (more, possible, inl (p, rest, (front, slice, is, shown, passed, e), ends)) =
+    let splits : i.left.tokens ≡ b ∷ j.left.tokens =
+    passed.tokens ∙ ap (λ f. f ++ rest.tokens) (one b front is)
+    ∙ ap (λ l. b ∷ l.tokens) (rest_is ends) in
+    omega (arith, ap (λ l. length l) splits)
+byte_moves spells one output form b i j o t (more, possible, inr (inl (short, ends))) =
+    lacks_none form i.status.cut _ _ _ ends
+byte_moves spells one output form b i j o t (more, possible, inr (inr (other, ends))) =
+    absurd (cc)
 
 pub value_moves : {S T O U : Type 0} (units : List T → ℕ) (is_clone : U → U → Type 0)
-    (clones : U → Type 0) (run : Runs S T O) (s : S) (x : U) → Moves units run s
-    → Moves units (ValueRuns is_clone clones run) (s, x)
-value_moves units is_clone clones run s x moves i j o t (inl (p, u, ran, same, clone, e)) =
-    moves i j p t.0 ran
-value_moves units is_clone clones run s x moves i j o t (inr (inl (p, ran, same, refused, e))) =
-    ok_is_err refl e
-value_moves units is_clone clones run s x moves i j o t (inr (inr (k, ran, same, e))) =
-    ok_is_err refl e
+    (always : U → Type 0) (does : Does S T O) (form : ErrorForm) (s : S) (x : U)
+    → Moves units (Did does form) s → Moves units (Did (ValueDoes is_clone always does) form) (s, x)
+value_moves {T = T} units is_clone always does form s x moves i j o t
+    (more, possible, (took p e, d, (z, inl (u, c, e1), is))) =
+    let same = rest_is
+    (is ∙ ap (λ z. moved (λ g. ((e.0, g), e.1)) (λ g. ((e.0, g), back (left_of i) e.1)) z) e1) in
+    subst (λ l. units l.tokens < units i.left.tokens) same
+    (moves i (here (setting_of form i) e.1) p e.0 (refl, refl, d))
+value_moves units is_clone always does form s x moves i j o t
+    (more, possible, (took p e, d, (z, inr (refused, e1), is))) =
+    never
+    (is ∙ ap (λ z. moved (λ g. ((e.0, g), e.1)) (λ g. ((e.0, g), back (left_of i) e.1)) z) e1)
+  where
+    never : {L O X : Type 0} {o : O} {e : L} → took o e ≡ wants → X
+    never is = absurd (cc)
+value_moves units is_clone always does form s x moves i j o t (more, possible, (backs e, d, is)) =
+    absurd (cc)
+value_moves units is_clone always does form s x moves i j o t (more, possible, (cuts e, d, is)) =
+    absurd (cc)
+value_moves units is_clone always does form s x moves i j o t
+    (more, possible, (asks need e, d, is)) = absurd (cc)
+value_moves units is_clone always does form s x moves i j o t (more, possible, (wants, d, is)) =
+    absurd (cc)
 
 -- a choice of two that consume does
-pub choice_moves : {S1 S2 T O : Type 0} (units : List T → ℕ) (run1 : Runs S1 T O)
-    (run2 : Runs S2 T O) (s1 : S1) (s2 : S2) → Moves units run1 s1 → Moves units run2 s2
-    → Moves units (OrElse run1 run2) (s1, s2)
-choice_moves units run1 run2 s1 s2 one two i j o t (inl (ran, other, same)) = one i j o t.0 ran
-choice_moves units run1 run2 s1 s2 one two i j o t (inr (a, failed, ran)) = two _ j o t.1 ran
+pub choice_moves : {S1 S2 T O : Type 0} (units : List T → ℕ) (one : Does S1 T O)
+    (two : Does S2 T O) (form : ErrorForm) (s1 : S1) (s2 : S2) → Moves units (Did one form) s1
+    → Moves units (Did two form) s2 → Moves units (Did (AltDoes one two) form) (s1, s2)
+choice_moves {T = T} units one two form s1 s2 h1 h2 i j o t
+    (more, possible, (took p e, d, is)) =
+    subst (λ l. units l.tokens < units i.left.tokens) (rest_is is)
+    (h1 i (here (setting_of form i) e.1) p e.0 (refl, refl, d))
+choice_moves {T = T} units one two form s1 s2 h1 h2 i j o t
+    (more, possible, (backs e, d, (took p f, c, is))) =
+    subst (λ l. units l.tokens < units i.left.tokens) (rest_is is)
+    (h2 (here (setting_of form i) (back (left_of i) e.1)) (here (setting_of form i) f.1) p f.0
+    (refl, refl, c))
+choice_moves units one two form s1 s2 h1 h2 i j o t
+    (more, possible, (backs e, d, (backs f, c, is))) = absurd (cc)
+choice_moves units one two form s1 s2 h1 h2 i j o t
+    (more, possible, (backs e, d, (cuts f, c, is))) = absurd (cc)
+choice_moves units one two form s1 s2 h1 h2 i j o t
+    (more, possible, (backs e, d, (asks need f, c, is))) = absurd (cc)
+choice_moves units one two form s1 s2 h1 h2 i j o t
+    (more, possible, (backs e, d, (wants, c, is))) = absurd (cc)
+choice_moves units one two form s1 s2 h1 h2 i j o t (more, possible, (cuts e, d, is)) = absurd (cc)
+choice_moves units one two form s1 s2 h1 h2 i j o t (more, possible, (asks need e, d, is)) =
+    absurd (cc)
+choice_moves units one two form s1 s2 h1 h2 i j o t (more, possible, (wants, d, is)) = absurd (cc)

@@ -1,19 +1,33 @@
 -- Parts made of stateless parts are stateless.
-use Rattle.std.specs.Prelude.{◌≡◌, ℕ, Ok, Err}
+use Rattle.std.specs.Prelude.{◌≡◌, ◌⊎◌, ℕ, Ok, Err}
 use Rattle.std.specs.declared.ops.Range.{Range}
-use Rattle.std.proofs.Common.{sym, subst, inl, inr, ◌∙◌}
+use Rattle.std.proofs.Common.{refl, sym, subst, inl, inr, ◌∙◌}
 use Rattle.streams.specs.Input.{Input}
-use Rattle.stream_errors.specs.Form.{Answer}
+use Rattle.streams.specs.Kind.{Kind, backtrack, cut, incomplete, memory}
+use Rattle.stream_errors.specs.Form.{Answer, ErrorForm}
 use Rattle.winnow_core.specs.Decided.{EqualResults}
 use Rattle.winnow_core.specs.Decided.Inputs.{both_err, both_ok}
-use Rattle.winnow_core.specs.MakesOutput.{MakesOutput}
 use Rattle.winnow_core.specs.Runs.{Runs}
-use Rattle.winnow_core.specs.Span.{SpanRuns, places}
-use Rattle.winnow_core.specs.WithSpan.{WithSpanRuns}
+use Rattle.parser_definitions.specs.Left.{End, left_of}
+use Rattle.parser_definitions.specs.Outcome.{Does, Outcome, Setting, asks, backs, cuts, outcome_of}
+use Rattle.parser_definitions.specs.Outcome.{setting_of, took, wants}
+use Rattle.parser_definitions.specs.Outputs.{Makes, OutputDoes, SpanDoes, WithSpanDoes, made}
+use Rattle.parser_definitions.specs.Outputs.{span_of}
+use Rattle.parser_definitions.specs.Then.{ComesOf}
+use Rattle.parser_definitions.specs.Then.Steps.{instead, where_took}
+use Rattle.winnow_expression.specs.Did.{Came, Did, came_by, came_run}
 use Rattle.winnow_expression_trees.specs.Premises.{IsStateless, NotMemory}
-use Rattle.winnow_expression_trees.specs.Premises.Laws.{AlikeWithSpan}
+use Rattle.winnow_expression_trees.specs.Premises.Laws.{AlikeWithSpan, stateless_within}
+use Rattle.winnow_expression_trees.proofs.Plain.{not_memory}
 
 -- ---- outputs made of another, and of where that was read
+
+-- A call of a part, whose output is turned into another, by the inputs before and after it.
+abbrev MakesOutput : {S T O U : Type 0} → (Input T → O → Input T → U → Type 0) → Runs S T O
+    → Runs S T U
+MakesOutput {O = O} {U} makes run s i answer t j =
+    ((o : O) × (u : U) × run s i (Ok o) t j × makes i o j u × (answer ≡ Ok u))
+    ⊎ ((k : Kind) × run s i (Err k) t j × (answer ≡ Err k))
 
 module _ {S T O U : Type 0} {run : Runs S T O} {s : S} {alike : O → O → Type 0}
     {also : U → U → Type 0} (makes : Input T → O → Input T → U → Type 0)
@@ -45,17 +59,54 @@ module _ {S T O U : Type 0} {run : Runs S T O} {s : S} {alike : O → O → Type
           (subst (λ z. NotMemory z) e n) (subst (λ z. NotMemory z) f m) in
           (both_err also e f like, place)
 
-module _ {S T O : Type 0} {run : Runs S T O} {s : S} {alike : O → O → Type 0} where
-  pub span_stateless : IsStateless alike run s → IsStateless (λ u v. u ≡ v) (SpanRuns run) s
-  span_stateless c = output_stateless (λ i (o : O) j span. span ≡ places i j)
-      (λ i j o p u v like x y. x ∙ sym y) c
+-- a call with such an outcome
+output_ran : {S T O U : Type 0} (makes : Makes T O U) (does : Does S T O) (form : ErrorForm)
+    (s : S) (i : Input T) (a : Answer U) (t : S) (j : Input T)
+    → Did (OutputDoes makes does) form s i a t j → NotMemory a
+    → MakesOutput (λ i o j u. makes (left_of i) o (left_of j) u) (Did does form) s i a t j
+output_ran {S} {T} {O} {U} makes does form s i a t j (more, possible, (x, d, is)) other =
+    let (u, k, run, same) = came_run at Made a t j more possible (by x d is) in
+    let (e, f) = same (not_memory a other) in
+    subst (λ z. Made a z j) e (subst (λ n. Made a u n) f run)
+  where
+    at : Setting
+    at = setting_of form i
 
-  pub with_span_stateless : IsStateless alike run s
-      → IsStateless (AlikeWithSpan alike) (WithSpanRuns run) s
+    Made : Answer U → S → Input T → Type 0
+    Made a t j =
+        MakesOutput (λ i o j u. makes (left_of i) o (left_of j) u) (Did does form) s i a t j
+
+    by : (x : Outcome (End S T) O) → does at s (left_of i) x
+        → ComesOf {Q = S} (where_took instead (made makes)) at s (left_of i) x
+        (outcome_of a (t, left_of j)) → Came at Made (outcome_of a (t, left_of j))
+    by (took o e) d (u, m, is) =
+        came_by at Made (Ok u) e is (inl (o, u, (refl, refl, d), m, refl))
+    by (backs e) d is = came_by at Made (Err backtrack) e is
+        (inr (backtrack, (refl, refl, d), refl))
+    by (cuts e) d is = came_by at Made (Err cut) e is (inr (cut, (refl, refl, d), refl))
+    by (asks need e) d is = came_by at Made (Err (incomplete need)) e is
+        (inr (incomplete need, (refl, refl, d), refl))
+    by wants d is = came_by at Made (Err memory) (s, left_of i) is
+        (inr (memory, (refl, refl, d), refl))
+
+module _ {S T O : Type 0} (does : Does S T O) (form : ErrorForm) (s : S)
+    (alike : O → O → Type 0) where
+  pub span_stateless : IsStateless alike (Did does form) s
+      → IsStateless (λ u v. u ≡ v) (Did (SpanDoes does) form) s
+  span_stateless c =
+      stateless_within (output_ran (λ w o end u. u ≡ span_of w end) does form s)
+      (output_stateless (λ i (o : O) j span. span ≡ span_of (left_of i) (left_of j))
+      (λ i j o p u v like x y. x ∙ sym y) c)
+
+  pub with_span_stateless : IsStateless alike (Did does form) s
+      → IsStateless (AlikeWithSpan alike) (Did (WithSpanDoes does) form) s
   with_span_stateless c =
-      output_stateless
-      (λ i (o : O) j (both : O × Range ℕ). (both.0 ≡ o) × (both.1 ≡ places i j))
+      stateless_within
+      (output_ran (λ w o end u. (u.0 ≡ o) × (u.1 ≡ span_of w end)) does form s)
+      (output_stateless
+      (λ i (o : O) j (both : O × Range ℕ). (both.0 ≡ o) ×
+      (both.1 ≡ span_of (left_of i) (left_of j)))
       (λ i j o p u v like x y.
       let P : O → Type 0 = λ z. alike z v.0 in
       let Q : O → Type 0 = λ z. alike o z in
-      (subst P (sym x.0) (subst Q (sym y.0) like), x.1 ∙ sym y.1)) c
+      (subst P (sym x.0) (subst Q (sym y.0) like), x.1 ∙ sym y.1)) c)

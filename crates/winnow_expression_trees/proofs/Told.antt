@@ -36,7 +36,7 @@ use Rattle.winnow_expression_trees.proofs.Left.{value_alike}
 use Rattle.winnow_expression_trees.proofs.Opened.{Opened, opened_infix, opened_prefix}
 use Rattle.winnow_expression_trees.proofs.Over.{no_postfix_still, no_turn_begun, over_falls}
 use Rattle.winnow_expression_trees.proofs.Plain.{Plain, decided, no_first, no_next, no_prefix}
-use Rattle.winnow_expression_trees.proofs.Plain.{own_first, own_next}
+use Rattle.winnow_expression_trees.proofs.Plain.{own_first, own_next, still_prefix}
 
 some_is : {p q : ℤ} → ◌≡◌ {A = Option ℤ} (Some p) (Some q) → p ≡ q
 some_is e = cc
@@ -204,13 +204,13 @@ module _ {S W T V F G H : Type 0} {g : Grammar S W T V F G H} {alike : V → V �
     call_told _ _ _ _ _ _ (call_ends call s t i j kind a
         (inr (inl (power, fold, run, still, is))) kept e) es none began begins =
         let own = own_first pr s.0 t.0 i j (prefix_read power fold) es.0 run in
+        let at = still_prefix pr i j power fold own.1 still in
         failed pr level start call.least i a kind t j e
         (λ other. inl (
-          inr (inl
-              (i, j, power, fold, comes_begins pr level start call.least i begins, own.1, still)),
+          inr (inl (i, j, power, fold, comes_begins pr level start call.least i begins, own.1, at)),
           λ u n b reads.
               let (y, k, step, more) = reads_as first next call.least i u n b reads in
-              no_prefix pr i j k power fold y own.1 still step,
+              no_prefix pr i j k power fold y own.1 at step,
         ))
     call_told _ _ _ _ _ _ (call_ends call s t i j kind a (inr (inr (x, power, read, is))) kept e)
         es none began begins =

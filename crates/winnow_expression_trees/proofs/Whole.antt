@@ -4,7 +4,7 @@ use Rattle.std.proofs.Common.{refl, subst, inl, inr}
 use Rattle.stream_errors.specs.Form.{Answer}
 use Rattle.stream_errors.specs.Form.Inversion.{ok_is_err, same_kind, same_output}
 use Rattle.streams.specs.Input.{Input}
-use Rattle.streams.specs.Kind.{Kind, memory}
+use Rattle.streams.specs.Kind.{Kind, backtrack, cut, incomplete, memory}
 use Rattle.winnow_expression.specs.Units.{units_left}
 use Rattle.winnow_expression.specs.Calls.{call_at}
 use Rattle.winnow_expression.specs.Expression.{ExpressionRuns}
@@ -95,6 +95,38 @@ expression_exact {g = g} {alike} {s0} pr level i (Err k) t j runs = record {
       (refuses pr level i k j (fails pr level i k t j runs other) u n b keeps);
 }
 
+-- Nothing is said of the state and the rest where memory runs out.
+pub one_tree_at : {S W T V F G H : Type 0} {g : Grammar S W T V F G H} {alike : V → V → Type 0}
+    {s : S × W} {level : ℤ} {i : Input T} (answer : Answer V) (t u : S × W × ℤ) (j k : Input T)
+    → ((answer ≡ Err memory → ⊥) → (u ≡ t) × (k ≡ j))
+    → IsTheOneTree g alike s level i answer (u.0, u.1) k
+    → IsTheOneTree g alike s level i answer (t.0, t.1) j
+one_tree_at {S} {W} {T} {V} {F} {G} {H} {g} {alike} {s} {level} {i} answer t u j k same = by answer
+    same
+  where
+    moved : (a : Answer V) → (u ≡ t) × (k ≡ j) → IsTheOneTree g alike s level i a (u.0, u.1) k
+        → IsTheOneTree g alike s level i a (t.0, t.1) j
+    moved a (e, f) tree =
+        let P : S × W × ℤ → Input T → Type 0 = λ z n.
+        IsTheOneTree g alike s level i a (z.0, z.1) n in
+        subst (λ z. P z j) e (subst (λ n. P u n) f tree)
+
+    by : (a : Answer V) → ((a ≡ Err memory → ⊥) → (u ≡ t) × (k ≡ j))
+        → IsTheOneTree g alike s level i a (u.0, u.1) k
+        → IsTheOneTree g alike s level i a (t.0, t.1) j
+    by (Ok v) same tree = moved (Ok v) (same (λ e. ok_is_err refl e)) tree
+    by (Err backtrack) same tree = moved (Err backtrack) (same (λ e. cc)) tree
+    by (Err cut) same tree = moved (Err cut) (same (λ e. cc)) tree
+    by (Err (incomplete need)) same tree = moved (Err (incomplete need)) (same (λ e. cc)) tree
+    by (Err memory) same tree = record {
+      one = tree.one;
+      finds = λ v e. ok_is_err e refl;
+      agrees = λ r n all x keeps value other. absurd (other refl);
+      keeps = λ v e. ok_is_err e refl;
+      fails = λ l e other. absurd (other refl);
+      refuses = λ l e other. absurd (other refl);
+    }
+
 -- If no fold of an operator that is read fails, and every such operator consumes input, a failure
 -- has the kind and the rest of the result that ended the reading.
 pub expression_fails : {S W T V F G H : Type 0} {g : Grammar S W T V F G H}
@@ -126,6 +158,7 @@ module _ {S W T V F G H : Type 0} {g : Grammar S W T V F G H} {alike : V → V �
     next_decided = pr.next_decided;
     nothing = pr.nothing;
     back = pr.back;
+    prefix_falls = pr.prefix_falls;
     moves = pr.moves;
     befores = λ f h e. record {
       same = λ v w i j k n a b like x y na nb.

@@ -4,6 +4,7 @@ use Rattle.std.specs.Prelude.{◌≡◌, ◌<◌, ◌⊎◌, ℕ, ℤ, Bool, Lis
 use Rattle.streams.specs.Input.{Input}
 use Rattle.streams.specs.Kind.{backtrack}
 use Rattle.stream_errors.specs.Form.{Answer}
+use Rattle.parser_definitions.specs.Outcome.{Does, backs, took}
 use Rattle.winnow_expression.specs.Operators.{fold_of}
 use Rattle.winnow_expression.specs.declared.combinator.operators.Infix.{Infix}
 use Rattle.winnow_expression.specs.declared.combinator.operators.Postfix.{Postfix}
@@ -45,6 +46,13 @@ ItemRuns {T} {O} item i answer j =
     ((o : O) × (rest : List T) × item i.left.tokens o rest × (answer ≡ Ok o)
     × (j ≡ left_at i rest))
     ⊎ (NoItem item i.left.tokens × (answer ≡ Err backtrack) × (j ≡ i))
+
+-- The definition of such a part, which keeps its state.
+abbrev pub ItemDoes : {S T O : Type 0} → Items T O → Does S T O
+ItemDoes {T = T} {O} item at s w y =
+    ((o : O) × (rest : List T) × item w.tokens o rest
+    × (y ≡ took o (s, record w { tokens = rest })))
+    ⊎ (NoItem item w.tokens × (y ≡ backs (s, w)))
 
 -- At most one item begins at an offset, and it has some units.
 pub record AreItems {T O : Type 0} (units : List T → ℕ) (item : Items T O) : Type 0 where

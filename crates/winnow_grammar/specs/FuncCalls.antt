@@ -1,13 +1,13 @@
--- Calls of functions as parsers: their runs, by the contract of the function.
+-- Calls of functions as parsers, by the contract of the function.
 use Rattle.std.specs.Prelude.{◌≡◌, Result}
 use Rattle.std.specs.Borrow.{MutBor}
 use Rattle.std.specs.Fn.{Called, CalledAtMut, Mut}
-use Rattle.std.proofs.Common.{ap, subst, ◌∙◌}
+use Rattle.std.proofs.Common.{subst}
 use Rattle.streams.specs.Input.{Input, IsEndOf}
 use Rattle.streams.specs.Kind.{Kind}
 use Rattle.streams.specs.Reading.{Reading}
 use Rattle.stream_errors.specs.Form.{Answer, answer_by}
-use Rattle.winnow_core.specs.Func.{CalledWithMut, FuncRuns, FuncWithRuns, LeavesEndsFrom}
+use Rattle.winnow_core.specs.Func.{CalledWithMut, LeavesEndsFrom}
 
 -- A call of the function of the pair `s` at its argument and a `&mut` to `x` may return `r`, and
 -- leave the function of `t` and `y`. `t` has the same argument.
@@ -40,18 +40,16 @@ calls_leave {reading = reading} view f told calls h led x r k y call =
     (subst (λ m. IsEndOf reading (view call.left.now) (view m)) call.shows
     (told h call.shown r call.left k call.called.met))
 
--- `P` holds for a run if it holds for each call.
-pub run_by : {F I T S O E : Type 0} {reading : Reading T S} {view : I → Input T}
-    {kind : E → Kind} {g : Mut F (MutBor I × Unit {0}) (Result O E × (MutBor I × Unit {0}))}
-    (P : Input T → Answer O → Input T → Type 0) {f : F} {i : Input T} {answer : Answer O} {h : F}
-    {j : Input T} → FuncRuns reading view kind (CalledAtMut g) f i answer h j
-    → CallsBy view kind g P → P i answer j
-run_by {view = view} {kind = kind} P {f} {i} {answer} {h} {j}
-    ((x, r, y, call, seen, is, left), ends) told =
-    subst (λ m. P i answer m) (ap view call.leaves ∙ left)
-    (subst (λ a. P i a (view call.left.now)) is
-    (subst (λ m. P m (answer_by kind r) (view call.left.now)) (ap view call.shows ∙ seen)
-    (told f call.shown r call.left h call.called.met)))
+-- `P` holds for a call if it holds for each.
+pub called_by : {F I T O E : Type 0} (view : I → Input T) {kind : E → Kind}
+    {g : Mut F (MutBor I × Unit {0}) (Result O E × (MutBor I × Unit {0}))}
+    (P : Input T → Answer O → Input T → Type 0) → CallsBy view kind g P → {f : F} (x : I)
+    (r : Result O E) (h : F) (z : I) → CalledAtMut g f x r h z
+    → P (view x) (answer_by kind r) (view z)
+called_by view {kind = kind} P told {f} x r h z call =
+    subst (λ m. P (view x) (answer_by kind r) (view m)) call.leaves
+    (subst (λ m. P (view m) (answer_by kind r) (view call.left.now)) call.shows
+    (told f call.shown r call.left h call.called.met))
 
 -- ---- functions with an argument
 
@@ -76,16 +74,13 @@ calls_with_leave {reading = reading} view s told calls h led x r k y call =
     (subst (λ m. IsEndOf reading (view call.left.now) (view m)) call.shows
     (told (s.0, h) call.shown r call.left (s.0, k) call.called.met))
 
--- `P` holds for a run if it holds for each call.
-pub run_with_by : {A F I T S O E : Type 0} {reading : Reading T S} {view : I → Input T}
-    {kind : E → Kind}
+-- `P` holds for a call if it holds for each.
+pub called_with_by : {A F I T O E : Type 0} (view : I → Input T) {kind : E → Kind}
     {g : Mut F (A × (MutBor I × Unit {0})) (Result O E × (MutBor I × Unit {0}))}
-    (P : Input T → Answer O → Input T → Type 0) {s t : A × F} {i : Input T} {answer : Answer O}
-    {j : Input T} → FuncWithRuns reading view kind (CalledWithMut g) s i answer t j
-    → CallsWithBy view kind g P → P i answer j
-run_with_by {view = view} {kind = kind} P {s} {t} {i} {answer} {j}
-    (((x, r, y, call, seen, is, left), ends), kept) told =
-    subst (λ m. P i answer m) (ap view call.leaves ∙ left)
-    (subst (λ a. P i a (view call.left.now)) is
-    (subst (λ m. P m (answer_by kind r) (view call.left.now)) (ap view call.shows ∙ seen)
-    (told s call.shown r call.left t call.called.met)))
+    (P : Input T → Answer O → Input T → Type 0) → CallsWithBy view kind g P → {s : A × F} (x : I)
+    (r : Result O E) (t : A × F) (z : I) → CalledWithMut g s.0 s.1 x r t.1 z × (t.0 ≡ s.0)
+    → P (view x) (answer_by kind r) (view z)
+called_with_by view {kind = kind} P told {s} x r t z (call, kept) =
+    subst (λ m. P (view x) (answer_by kind r) (view m)) call.leaves
+    (subst (λ m. P (view m) (answer_by kind r) (view call.left.now)) call.shows
+    (told s call.shown r call.left t call.called.met))

@@ -4,13 +4,12 @@ use Rattle.std.proofs.Common.{sym, ap, subst, inl, inr, ◌∙◌}
 use Rattle.streams.specs.Input.{Input}
 use Rattle.streams.specs.Kind.{Kind, backtrack, cut, incomplete, memory}
 use Rattle.streams.specs.Reading.{Reading}
-use Rattle.stream_errors.specs.Form.{Answer, answer_by}
+use Rattle.stream_errors.specs.Form.{answer_by}
 use Rattle.grammars.specs.Grammar.{Grammar, IsUnique, NoMatch}
 use Rattle.parser_definitions.specs.Func.{ByDoes, call_outcome}
 use Rattle.parser_definitions.specs.Left.{Left, left_of}
 use Rattle.parser_definitions.specs.Outcome.{outcome_of}
 use Rattle.parser_definitions.specs.Projects.{Agreement, Complete, Projects, agrees_by}
-use Rattle.winnow_core.specs.Func.{FuncRuns}
 use Rattle.winnow_core.specs.Exact.{IsSpared, Reads}
 use Rattle.winnow_core.specs.States.{pair_is}
 use Rattle.winnow_grammar.specs.declared.rule.By.{By}
@@ -45,13 +44,6 @@ pub read_again : {F I T L O E : Type 0} (reading : Reading T L) (view : I → In
     → CallsRead reading view kind called grammar g
 read_again reading view kind called grammar f x r g y reads call =
     subst (CallsRead reading view kind called grammar) (sym (reads.kept x r g y call)) reads
-
--- A run is one call of the function, from and to the streams that are seen as these inputs.
-abbrev pub ByRuns : {N F I T S O E : Type 0} → Reading T S → (I → Input T) → (E → Kind)
-    → (F → I → Result O E → F → I → Type 0) → N × F → Input T → Answer O → N × F → Input T
-    → Type 0
-ByRuns reading view kind called s i answer t j =
-    FuncRuns reading view kind called s.1 i answer t.1 j × (t.0 ≡ s.0)
 
 -- ---- calls on complete input
 

@@ -5,11 +5,9 @@ use Rattle.std.proofs.Common.{sym, ap, subst, ◌∙◌}
 use Rattle.streams.specs.Input.{Input, IsEndOf}
 use Rattle.streams.specs.Kind.{Kind}
 use Rattle.streams.specs.Reading.{Reading}
-use Rattle.stream_errors.specs.Form.{Answer, ErrorForm, answer_by}
+use Rattle.stream_errors.specs.Form.{ErrorForm, answer_by}
 use Rattle.parser_definitions.specs.Left.{left_of}
-use Rattle.parser_definitions.specs.Outcome.{Does, Setting, outcome_of, setting_of}
-use Rattle.winnow_core.specs.Covers.{Covers, kept_covered}
-use Rattle.winnow_core.specs.Runs.{Keeps, Meaning}
+use Rattle.parser_definitions.specs.Outcome.{Does, outcome_of, setting_of}
 use Rattle.winnow_grammar.specs.declared.by_pieces.ByPieces.{ByPieces}
 
 -- the name of what is read
@@ -31,21 +29,6 @@ pub record CallsTell {N F I T L O E : Type 0} (reading : Reading T L) (view : I 
   pub tells : (x : I) (r : Result O E) (g : F) (y : I) → called f x r g y
       → does (setting_of form (view x)) n (left_of (view x))
       (outcome_of (answer_by kind r) (n, left_of (view y)))
-
--- A call from a rule. It leaves a suffix of its input, and has an outcome of the definition.
-pub record RunsInPieces {N T L O : Type 0} (reading : Reading T L) (does : Does N T O)
-    (form : ErrorForm) (n : N) (i : Input T) (answer : Answer O) (j : Input T) : Type 0 where
-  pub ends : IsEndOf reading j i
-  pub outcome : does (setting_of form i) n (left_of i) (outcome_of answer (n, left_of j))
-
--- The rule stays.
-abbrev pub PiecesRuns : {N T L O : Type 0} → Reading T L → Does N T O → Meaning N T O
-PiecesRuns reading does form = Keeps (RunsInPieces reading does form)
-
-pub pieces_covered : {N T L O : Type 0} (reading : Reading T L) (does : Does N T O) (at : Setting)
-    → Covers at (PiecesRuns reading does at.form) does
-pieces_covered reading does at = kept_covered reading (RunsInPieces reading does at.form) does at
-    (λ n i answer j r. r.outcome) (λ n i answer j r. r.ends)
 
 -- ---- a parser that is a rule and its function
 

@@ -4,7 +4,7 @@ ghost use Rattle.parser_definitions.specs.Outcome.{Does};
 ghost use Rattle.parser_definitions.specs.Projects.{Complete, Reads};
 ghost use Rattle.std.specs.Fn.{CalledAtMut};
 ghost use Rattle.std.specs.Prelude.{◌≡◌, ⊤};
-ghost use Rattle.winnow_grammar.specs.RulePieces.{CallsTell, PiecesRuns, pieces_covered};
+ghost use Rattle.winnow_grammar.specs.RulePieces.{CallsTell};
 
 use crate::rule::Rule;
 use stream_errors::parser_error::ParserError;
@@ -49,7 +49,7 @@ impl<N, F> ByPieces<N, F> {
     }
 }
 
-// Its runs are those that the rule allows, and not the calls of the function: no contract says that
+// Its definition is that of the rule, and not the calls of the function: no contract says that
 // a longer input could be handed to it, and the rule's definition is about each.
 impl<
     N: RuleInPieces<I, O>,
@@ -65,8 +65,6 @@ impl<
 
     ghost state = { λ s. s.rule };
 
-    ghost meaning = { PiecesRuns I.reading N.does };
-
     ghost does = { N.does };
 
     ghost terms = { record { premise = ⊤; stable = ⊤; alike = N.alike } };
@@ -78,10 +76,6 @@ impl<
       consumes = N.consumes s;
       grammar = N.grammar s;
     } };
-
-    ghost leaves_ends = { λ form s i answer t j r. r.0.ends };
-
-    ghost covers = { pieces_covered I.reading N.does };
 
     ghost lawful = { λ is. N.lawful };
 

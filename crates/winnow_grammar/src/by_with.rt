@@ -1,9 +1,9 @@
 //! Rules by functions with an argument.
 ghost use Rattle.std.specs.Prelude.{◌≡◌, ⊤};
 ghost use Rattle.parser_definitions.specs.Func.{ByDoes, beside};
-ghost use Rattle.winnow_core.specs.Covers.Functions.{func_lawful, func_terms, func_with_covered};
+ghost use Rattle.winnow_core.specs.Covers.Functions.{func_lawful, func_terms};
 ghost use Rattle.winnow_grammar.specs.FuncCalls.{CalledAtPair};
-ghost use Rattle.winnow_grammar.specs.Rule.{ByRuns, CallsRead, CallsSpared, by_projects};
+ghost use Rattle.winnow_grammar.specs.Rule.{CallsRead, CallsSpared, by_projects};
 
 use crate::rule::Rule;
 use stream_errors::parser_error::ParserError;
@@ -48,8 +48,6 @@ impl<
 
     ghost state = { λ s. (s.rule, (s.argument, s.run)) };
 
-    ghost meaning = { λ _. ByRuns I.reading I.view E.kind (CalledAtPair F.FnMut) };
-
     ghost does = { ByDoes I.view E.kind (CalledAtPair F.FnMut) };
 
     ghost terms = { func_terms I.view E.kind (beside (λ (n : N). CalledAtPair F.FnMut)) };
@@ -61,11 +59,6 @@ impl<
       consumes = N.consumes s.0;
       grammar = N.grammar s.0;
     } };
-
-    ghost leaves_ends = { λ form s i answer t j r. r.0.1 };
-
-    ghost covers = { λ at. func_with_covered I.view E.kind I.reading
-        (λ (n : N). CalledAtPair F.FnMut) };
 
     ghost lawful = { λ is. func_lawful I.view E.kind is };
 

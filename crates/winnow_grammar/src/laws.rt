@@ -1,4 +1,5 @@
 //! Laws of stable parsers.
+ghost use Rattle.parser_definitions.specs.Does.{Ran};
 ghost use Rattle.std.specs.Prelude.{◌≡◌};
 ghost use Rattle.stream_errors.specs.Form.{modal};
 ghost use Rattle.winnow_core.specs.Longer.{EachSameOnLonger};
@@ -13,5 +14,5 @@ use winnow_core::parser::Parser;
 /// the input is divided into chunks.
 pub fn longer_inputs_get_partial_results<P: Parser<I, O, E>, I: Stream, O, E: ParserError<I>>()
     ensures { E.form ≡ modal → P.terms.premise → P.terms.stable
-        → EachSameOnLonger (P.meaning E.form) P.terms.alike }
+        → EachSameOnLonger (Ran I.reading P.does E.form) P.terms.alike }
 {}

@@ -1,4 +1,5 @@
 //! The trait of parsers of incremental input that are specified by a grammar.
+ghost use Rattle.parser_definitions.specs.Does.{Ran};
 ghost use Rattle.std.specs.Prelude.{◌≡◌};
 ghost use Rattle.stream_errors.specs.Form.{answer_by, modal};
 ghost use Rattle.winnow_core.specs.Tells.{Tells};
@@ -44,7 +45,7 @@ pub trait ReadsPieces<I: Stream, O, E: ParserError<I>>: Parser<I, O, E> {
         requires stable { Self.terms.stable }
         requires modal { E.form ≡ modal }
         ensures again { Self.can_parse self.new }
-        ensures ran { Self.meaning E.form (Self.state self.old) (I.view input.old)
+        ensures ran { Ran I.reading Self.does E.form (Self.state self.old) (I.view input.old)
             (answer_by E.kind result) (Self.state self.new) (I.view input.new) }
         ensures reads { ReadsOrAsks I.reading I.following E.kind
             (Self.claim (Self.state self.old)).grammar (I.view input.old) result

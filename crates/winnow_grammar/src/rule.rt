@@ -3,11 +3,11 @@ ghost use Rattle.std.specs.Fn.{CalledAtMut};
 ghost use Rattle.std.specs.Prelude.{◌≡◌, ⊤};
 ghost use Rattle.grammars.specs.Grammar.{Grammar, IsUnique, TakesTokens};
 ghost use Rattle.winnow_grammar.specs.Rule.{by_rule, by_run};
-ghost use Rattle.winnow_grammar.specs.Rule.{ByRuns, CallsRead, CallsSpared, by_projects};
+ghost use Rattle.winnow_grammar.specs.Rule.{CallsRead, CallsSpared, by_projects};
 ghost use Rattle.winnow_grammar.specs.RulePieces.{pieces_rule, pieces_run};
 ghost use Rattle.winnow_grammar.specs.RuleWith.{with_argument, with_rule, with_run};
 ghost use Rattle.parser_definitions.specs.Func.{ByDoes, beside};
-ghost use Rattle.winnow_core.specs.Covers.Functions.{func_lawful, func_terms, func_with_covered};
+ghost use Rattle.winnow_core.specs.Covers.Functions.{func_lawful, func_terms};
 
 use crate::by_pieces::ByPieces;
 use crate::by_with::ByWith;
@@ -86,8 +86,6 @@ impl<N: Rule<I, O>, F: FnMut(&mut I) -> Result<O, E>, I: Stream, O, E: ParserErr
 
     ghost state = { λ s. (s.rule, s.run) };
 
-    ghost meaning = { λ _. ByRuns I.reading I.view E.kind (CalledAtMut F.FnMut) };
-
     ghost does = { ByDoes I.view E.kind (CalledAtMut F.FnMut) };
 
     ghost terms = { func_terms I.view E.kind (beside (λ (n : N). CalledAtMut F.FnMut)) };
@@ -99,11 +97,6 @@ impl<N: Rule<I, O>, F: FnMut(&mut I) -> Result<O, E>, I: Stream, O, E: ParserErr
       consumes = N.consumes s.0;
       grammar = N.grammar s.0;
     } };
-
-    ghost leaves_ends = { λ form s i answer t j r. r.0.1 };
-
-    ghost covers = { λ at. func_with_covered I.view E.kind I.reading
-        (λ (n : N). CalledAtMut F.FnMut) };
 
     ghost lawful = { λ is. func_lawful I.view E.kind is };
 

@@ -1,4 +1,5 @@
 //! The trait of parsers that are specified by a grammar and return spans.
+ghost use Rattle.parser_definitions.specs.Does.{Ran};
 ghost use Rattle.std.specs.Prelude.{◌≡◌, false};
 ghost use Rattle.stream_errors.specs.Form.{answer_by};
 ghost use Rattle.winnow_core.specs.Exact.{IsSpared, Reads, UnlessWanted};
@@ -34,7 +35,7 @@ pub trait ReadsSpanned<I: Location, O, E: ParserError<I>>: Parser<I, O, E> {
         requires premise { (Self.claim (Self.state self.old)).premise }
         requires backtracks { (Self.claim (Self.state self.old)).backtracks }
         ensures again { Self.can_parse self.new }
-        ensures ran { Self.meaning E.form (Self.state self.old) (I.view input.old)
+        ensures ran { Ran I.reading Self.does E.form (Self.state self.old) (I.view input.old)
             (answer_by E.kind (output_alone result)) (Self.state self.new) (I.view input.new) }
         ensures kept { (I.view input.old).status.cut ≡ false
             → UnlessWanted E.kind result (Self.state self.new ≡ Self.state self.old) }

@@ -1,7 +1,6 @@
-//! The semantics of parsers: the law of each call, and the semantics of compositions.
+//! The semantics of parsers: the law of each call.
 //!
-//! The definitions are in the `specs/` of the crates that this one depends on, one for each parser.
-//! This crate shows how they combine.
+//! The definitions are in `parser_definitions`, one for each parser.
 #![tactic(auto)]
 
 pub mod laws;

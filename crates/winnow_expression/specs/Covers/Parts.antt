@@ -1,50 +1,27 @@
--- Operators, and the parts of an expression, are covered.
+-- The parts of an expression are covered.
 use Rattle.std.specs.Prelude.{◌≡◌, ◌⊎◌, List, ℕ, Option, None, Ok, Err}
 use Rattle.std.proofs.Common.{refl, sym, subst, ap, ◌∙◌, inl, inr}
 use Rattle.streams.specs.Input.{Input, back_at}
 use Rattle.streams.specs.Kind.{Kind, backtrack, cut, incomplete, memory}
-use Rattle.streams.specs.Reading.{Reading}
 use Rattle.stream_errors.specs.Form.{Answer}
 use Rattle.parser_definitions.specs.Does.{Lawful}
 use Rattle.parser_definitions.specs.Left.{End, back, extend, left_of}
-use Rattle.parser_definitions.specs.Operators.{OperatorDoes}
 use Rattle.parser_definitions.specs.Outcome.{Alike, Does, IsFinal, Outcome, Setting, asks, backs}
-use Rattle.parser_definitions.specs.Outcome.{cuts, grown, longer, outcome_of, setting_of, took}
+use Rattle.parser_definitions.specs.Outcome.{cuts, grown, longer, outcome_of, took}
 use Rattle.parser_definitions.specs.Outcome.{wants}
 use Rattle.parser_definitions.specs.Places.{FirstDoes, NextDoes, or_infix, or_nothing, or_prefix}
 use Rattle.parser_definitions.specs.Then.{ComesOf}
 use Rattle.parser_definitions.specs.Then.Steps.{takes, with_first, with_second}
-use Rattle.winnow_core.specs.Covers.{At, Covers, at_back, at_same, failed, gave, kept_covered}
+use Rattle.winnow_core.specs.Covers.{At, Covers, at_back, at_same, failed, gave}
 use Rattle.winnow_core.specs.Covers.{left_at, pair_is}
-use Rattle.winnow_core.specs.Runs.{Keeps, Runs}
+use Rattle.winnow_core.specs.Runs.{Runs}
 use Rattle.winnow_expression.specs.Definition.{OutputAs, first_side, made_as, next_side}
-use Rattle.winnow_expression.specs.Operators.{OperatorRuns}
-use Rattle.winnow_expression.specs.Operators.Laws.{operator_ends}
 use Rattle.winnow_expression.specs.Places.{FirstRuns, NextRuns}
 use Rattle.winnow_expression.specs.declared.combinator.operators.Infix.{Infix}
 use Rattle.winnow_expression.specs.declared.combinator.operators.Postfix.{Postfix}
 use Rattle.winnow_expression.specs.declared.combinator.operators.Prefix.{Prefix}
 use Rattle.winnow_expression.specs.declared.combinator.places.First.{First}
 use Rattle.winnow_expression.specs.declared.combinator.places.Next.{Next}
-
--- ---- operators as parsers
-
-operator_did : {T O : Type 0} (at : Setting) (IsClone : O → O → Type 0) (ClonesAlways : O → Type 0)
-    (s : O) (i : Input T) (a : Answer O) (j : Input T) → OperatorRuns IsClone ClonesAlways s i a j
-    → OperatorDoes IsClone ClonesAlways (setting_of at.form i) s (left_of i)
-    (outcome_of a (s, left_of j))
-operator_did at IsClone ClonesAlways s i a j (inl (o, is, e, same)) =
-    inl (o, is, gave (s, left_of j) e ∙ left_at s (Ok o) same)
-operator_did at IsClone ClonesAlways s i a j (inr (refused, e, same)) =
-    inr (refused, gave (s, left_of j) e)
-
-pub operator_covered : {T L O : Type 0} (reading : Reading T L) (IsClone : O → O → Type 0)
-    (ClonesAlways : O → Type 0) (at : Setting)
-    → Covers {T = T} at (Keeps (OperatorRuns IsClone ClonesAlways))
-    (OperatorDoes IsClone ClonesAlways)
-operator_covered reading IsClone ClonesAlways at =
-    kept_covered reading (OperatorRuns IsClone ClonesAlways) (OperatorDoes IsClone ClonesAlways) at
-    (operator_did at IsClone ClonesAlways) (operator_ends reading IsClone ClonesAlways)
 
 -- ---- outputs that are written in another way
 

@@ -1,6 +1,6 @@
 -- The steps of a call are covered.
 use Rattle.std.specs.Prelude.{◌≡◌, ◌⊎◌, ℕ, ℤ, Bool, true, false, List, Option, Some, None, Ok, Err}
-use Rattle.std.proofs.Common.{refl, sym, subst, ap, ◌∙◌, inl, inr, arith}
+use Rattle.std.proofs.Common.{refl, sym, subst, ap, ◌∙◌, inl, inr}
 use Rattle.streams.specs.Input.{Input}
 use Rattle.streams.specs.Kind.{Kind, backtrack, cut, incomplete, memory}
 use Rattle.stream_errors.specs.Form.{Answer, ErrorForm, assert_kind, modal, plain}
@@ -189,7 +189,7 @@ module _ {S W T V F G H : Type 0} {at : Setting} {units : List T → ℕ} {befor
           took (inr (power, fold)) (full t, left_of j),
           d.0,
           inr (
-            (λ less. absurd (omega (arith, less, still))),
+            still,
             gave (full t, left_of j) (e ∙ ap Err f) ∙ misuse at (full t, left_of j),
           ),
         ),

@@ -5,7 +5,8 @@ use Rattle.streams.specs.Input.{Input, IsEndOf}
 use Rattle.streams.specs.Kind.{Kind, backtrack, cut, incomplete, memory}
 use Rattle.streams.specs.Reading.{Reading}
 use Rattle.stream_errors.specs.Form.{Answer, ErrorForm, assert_kind}
-use Rattle.parser_definitions.specs.Expression.{Call, ExpressionDoes, FoldsOpen, JoinDoes, JoinEnds}
+use Rattle.parser_definitions.specs.Does.{Ran}
+use Rattle.parser_definitions.specs.Expression.{Call, FoldsOpen, JoinDoes, JoinEnds}
 use Rattle.parser_definitions.specs.Expression.{Open, Operators, TailDoes, TreeDoes, all_end}
 use Rattle.parser_definitions.specs.Expression.{checked, join_ends, join_goes}
 use Rattle.parser_definitions.specs.Expression.{opened, tail_ends, tail_infix}
@@ -13,26 +14,23 @@ use Rattle.parser_definitions.specs.Expression.{tail_postfix, tree_ends, tree_op
 use Rattle.parser_definitions.specs.Expression.{TreesDo, tree_value}
 use Rattle.parser_definitions.specs.Left.{End, left_of}
 use Rattle.parser_definitions.specs.Outcome.{Does, Outcome, Setting}
-use Rattle.parser_definitions.specs.Outcome.{outcome_of, took}
+use Rattle.parser_definitions.specs.Outcome.{outcome_of, setting_of, took}
 use Rattle.parser_definitions.specs.Then.{ComesOf}
 use Rattle.parser_definitions.specs.Then.Steps.{same}
-use Rattle.winnow_core.specs.Covers.{At, Covers, at_end, at_same, gave}
+use Rattle.winnow_core.specs.Covers.{At, Covers, at_end, at_same, covered_ran, gave, ran_covers}
 use Rattle.winnow_core.specs.Runs.{Runs}
-use Rattle.winnow_expression.specs.Covers.Parts.{first_covered, next_covered}
 use Rattle.winnow_expression.specs.Covers.Steps as step
 use Rattle.winnow_expression.specs.Covers.Steps.{PartsCovered, call_as, checked_error, first_did}
 use Rattle.winnow_expression.specs.Covers.Steps.{misuse, next_did, tail_ended, tree_ended}
-use Rattle.winnow_expression.specs.Parts.{parts_grammar}
-use Rattle.winnow_expression.specs.Places.{FirstRuns, NextRuns}
-use Rattle.parser_definitions.specs.Places.{FirstDoes, NextDoes}
 use Rattle.winnow_expression.specs.Calls as lib
+use Rattle.winnow_expression.specs.Definition.{LeveledDo, OutputAs, first_side, next_side}
 use Rattle.winnow_expression.specs.Definition.{operators}
 use Rattle.winnow_expression.specs.Expression.{ExpressionRuns, JoinedRuns, LeveledRuns, TailRuns}
 use Rattle.winnow_expression.specs.Expression.{TreeRuns, call_ends, call_operand, call_prefix}
 use Rattle.winnow_expression.specs.Expression.{resume_ends, resume_goes, turn_ends, turn_infix}
 use Rattle.winnow_expression.specs.Expression.{turn_postfix}
 use Rattle.winnow_expression.specs.Folds.{DoesBinary, DoesUnary}
-use Rattle.winnow_expression.specs.Grammar.{Closes, Folding, Grammar, ResumeEnds}
+use Rattle.winnow_expression.specs.Grammar.{Closes, Folding, Grammar, ResumeEnds, folding, grammar}
 use Rattle.winnow_expression.specs.Operators.{fold_of}
 use Rattle.winnow_expression.specs.declared.combinator.calls.Operator.{Operator}
 use Rattle.winnow_expression.specs.declared.combinator.calls.Operator.TheVariants.{
@@ -57,14 +55,14 @@ use Rattle.winnow_expression.specs.declared.combinator.places.Next.TheVariants.{
 
 -- ---- open operators, as the machine has them
 
-abbrev operator_kept : {V F H : Type 0} → Prefix F ⊎ (V × Infix H) → Operator V F H
+abbrev pub operator_kept : {V F H : Type 0} → Prefix F ⊎ (V × Infix H) → Operator V F H
 operator_kept (inl p) = prefix_open p.1
 operator_kept (inr o) = infix_open o.0 (fold_of o.1)
 
-abbrev call_kept : Call → lib.Call
+abbrev pub call_kept : Call → lib.Call
 call_kept c = record { least = c.least; began = c.began; turn = c.turn; neither = c.neither }
 
-abbrev kept : {V F H : Type 0} → Open V (Prefix F) (Infix H) → lib.Open V F H
+abbrev pub kept : {V F H : Type 0} → Open V (Prefix F) (Infix H) → lib.Open V F H
 kept x = record { operator = operator_kept x.operator; call = call_kept x.call }
 
 -- ---- trees
@@ -265,29 +263,26 @@ module _ {S W T V F G H : Type 0} {at : Setting} {units : List T → ℕ} {befor
       by (incomplete need) = refl
       by memory = refl
 
-pub expression_covered : {S1 S2 S3 S4 T V L F G H : Type 0} {at : Setting} (reading : Reading T L)
+-- so is an expression of the level in its state
+pub trees_covered : {S W T L V F G H : Type 0} {at : Setting} (reading : Reading T L)
     (before : DoesUnary F T V) (behind : DoesUnary G T V) (between : DoesBinary H T V)
-    {operand : Runs S1 T V} {prefix : Runs S2 T (Prefix F)} {postfix : Runs S3 T (Postfix G)}
-    {infix_ : Runs S4 T (Infix H)} {d1 : Does S1 T V} {d2 : Does S2 T (Prefix F)}
-    {d3 : Does S3 T (Postfix G)} {d4 : Does S4 T (Infix H)}
+    {first : Runs S T (First V F)} {next : Runs W T (Next G H)} (one : Does S T (V ⊎ Prefix F))
+    (two : Does W T (Option (Postfix G ⊎ Infix H)))
     → ((form : ErrorForm) (f : F) (i : Input T) (v : V) (a : Answer V) (j : Input T)
     → before form f i v a j → IsEndOf reading j i)
     → ((form : ErrorForm) (f : G) (i : Input T) (v : V) (a : Answer V) (j : Input T)
     → behind form f i v a j → IsEndOf reading j i)
     → ((form : ErrorForm) (f : H) (i : Input T) (l r : V) (a : Answer V) (j : Input T)
     → between form f i l r a j → IsEndOf reading j i)
-    → Covers at operand d1 → Covers at prefix d2 → Covers at postfix d3 → Covers at infix_ d4
-    → Covers at (LeveledRuns (parts_grammar reading.units (assert_kind at.form) operand prefix
-    postfix infix_ (before at.form) (behind at.form) (between at.form)))
-    (ExpressionDoes (operators reading.units before behind between) d1 d2 d3 d4)
-expression_covered {S1} {S2} {S3} {S4} {T} {at = at} reading before behind between {operand}
-    {prefix} {postfix} {infix_} {d1} {d2} {d3} {d4} ends1 ends2 ends3 h1 h2 h3 h4 =
-    let Q : Type 0 = (S1 × S2) × (S3 × S4) × ℤ in
-    let p : PartsCovered at reading.units before behind between (FirstRuns operand prefix)
-    (NextRuns reading.units postfix infix_) (FirstDoes d1 d2) (NextDoes reading.units d3 d4) =
-    record {
-      reads_first = first_covered h1 h2;
-      reads_next = next_covered reading.units h3 h4;
+    → Covers at first (OutputAs first_side one) → Covers at next (OutputAs next_side two)
+    → Covers at (LeveledRuns (grammar first next (behind at.form) (folding (before at.form)
+    (between at.form) reading.units (assert_kind at.form))))
+    (LeveledDo (operators reading.units before behind between) one two)
+trees_covered {T = T} {at = at} reading before behind between {first} {next} one two ends1
+    ends2 ends3 h1 h2 =
+    let p : PartsCovered at reading.units before behind between first next one two = record {
+      reads_first = h1;
+      reads_next = h2;
       keeps_before = λ f i v a j r here.
           at_end {reading = reading} here (ends1 at.form f i v a j r);
       keeps_behind = λ f i v a j r here.
@@ -298,7 +293,35 @@ expression_covered {S1} {S2} {S3} {S4} {T} {at = at} reading before behind betwe
     record {
       covers = λ s i a t j here (r, same).
           let d = expression_did p s.2 (s.0, s.1) i a (t.0, t.1) j here r in
-          let P : ℤ → Type 0 = λ n. ExpressionDoes (operators reading.units before behind between)
-          d1 d2 d3 d4 at s (left_of i) (outcome_of a ((t.0, t.1, n), left_of j)) in
+          let P : ℤ → Type 0 = λ n. LeveledDo (operators reading.units before behind between) one
+          two at s (left_of i) (outcome_of a ((t.0, t.1, n), left_of j)) in
           (subst P (sym same) d.0, d.1);
     }
+
+-- a call of the machine over parts with definitions
+pub trees_ran : {S W T V L F G H : Type 0} (reading : Reading T L) (form : ErrorForm)
+    (before : DoesUnary F T V) (behind : DoesUnary G T V) (between : DoesBinary H T V)
+    (one : Does S T (V ⊎ Prefix F)) (two : Does W T (Option (Postfix G ⊎ Infix H)))
+    → ((form : ErrorForm) (f : F) (i : Input T) (v : V) (a : Answer V) (j : Input T)
+    → before form f i v a j → IsEndOf reading j i)
+    → ((form : ErrorForm) (f : G) (i : Input T) (v : V) (a : Answer V) (j : Input T)
+    → behind form f i v a j → IsEndOf reading j i)
+    → ((form : ErrorForm) (f : H) (i : Input T) (l r : V) (a : Answer V) (j : Input T)
+    → between form f i l r a j → IsEndOf reading j i)
+    → (level given : ℤ) (s : S × W) (i : Input T) (a : Answer V) (t : S × W) (j : Input T)
+    → IsEndOf reading j i
+    → ExpressionRuns (grammar (Ran reading (OutputAs first_side one) form)
+    (Ran reading (OutputAs next_side two) form) (behind form) (folding (before form) (between form)
+    reading.units (assert_kind form))) given s i a t j → given ≡ level
+    → Ran reading (LeveledDo (operators reading.units before behind between) one two) form
+    (s.0, s.1, level) i a (t.0, t.1, level) j
+trees_ran reading form before behind between one two ends1 ends2 ends3 level given s i a t j ends
+    run same =
+    let at = setting_of form i in
+    let P : ℤ → Type 0 = λ l.
+    Ran reading (LeveledDo (operators reading.units before behind between) one two) form
+    (s.0, s.1, l) i a (t.0, t.1, l) j in
+    subst P same (covered_ran reading form (s.0, s.1, given) i a (t.0, t.1, given) j ends
+    (trees_covered reading before behind between one two ends1 ends2 ends3
+    (ran_covers reading (OutputAs first_side one) at)
+    (ran_covers reading (OutputAs next_side two) at)) (run, refl))

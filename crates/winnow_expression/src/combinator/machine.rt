@@ -1,4 +1,5 @@
 //! The machine: one loop over the open operators.
+ghost use Rattle.parser_definitions.specs.Does.{Ran};
 ghost use Rattle.std.specs.Prelude.{reverse};
 ghost use Rattle.stream_errors.specs.Form.{answer_by, assert_kind};
 ghost use Rattle.streams.specs.Input.{IsEndOf};
@@ -67,7 +68,7 @@ pub fn operand_step<
 >(first: &mut P, calls: &mut Calls<O, F, H, A>, input: &mut I) -> Result<Option<O>, E>
     requires { P.can_parse first.old }
     ensures again { P.can_parse first.new }
-    ensures ran { OperandStep I.reading.units (P.meaning E.form) (assert_kind E.form)
+    ensures ran { OperandStep I.reading.units (Ran I.reading P.does E.form) (assert_kind E.form)
         (calls_of calls.old) (P.state first.old) (I.view input.old)
         (answer_by E.kind result) (calls_of calls.new) (P.state first.new) (I.view input.new) }
     ensures ends { IsEndOf I.reading (I.view input.new) (I.view input.old) }
@@ -105,7 +106,7 @@ pub fn turn_step<
 >(next: &mut Q, calls: &mut Calls<O, F, H, A>, left: O, input: &mut I) -> Result<Turn<O>, E>
     requires { Q.can_parse next.old }
     ensures again { Q.can_parse next.new }
-    ensures ran { TurnStep I.reading.units (Q.meaning E.form) (G.folds E.form)
+    ensures ran { TurnStep I.reading.units (Ran I.reading Q.does E.form) (G.folds E.form)
         (assert_kind E.form) (calls_of calls.old) left (Q.state next.old) (I.view input.old)
         (answer_by E.kind result) (calls_of calls.new) (Q.state next.new) (I.view input.new) }
     ensures ends { IsEndOf I.reading (I.view input.new) (I.view input.old) }
@@ -223,7 +224,7 @@ pub fn expression_from<
     requires next { Q.can_parse next.old }
     ensures again { P.can_parse first.new × Q.can_parse next.new }
     ensures ran { ExpressionRuns
-        (grammar (P.meaning E.form) (Q.meaning E.form) (G.folds E.form)
+        (grammar (Ran I.reading P.does E.form) (Ran I.reading Q.does E.form) (G.folds E.form)
         (folding (F.folds E.form) (H.folds E.form) I.reading.units (assert_kind E.form)))
         level
         (P.state first.old, Q.state next.old) (I.view input.old) (answer_by E.kind result)

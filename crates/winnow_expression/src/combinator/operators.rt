@@ -1,13 +1,10 @@
 //! Operators, as their parsers answer them.
 ghost use Rattle.parser_definitions.specs.Operators.{ClonesOfOne, OperatorDoes, operator_law};
 ghost use Rattle.std.specs.Prelude.{◌≡◌, ◌+ℤ◌, ⊤, pos, MatchOption};
-ghost use Rattle.winnow_core.specs.Runs.{Keeps};
 ghost use Rattle.winnow_expression.specs.Calls.{asked};
-ghost use Rattle.winnow_expression.specs.Covers.Parts.{operator_covered};
 ghost use Rattle.winnow_expression.specs.Operators.{IsInfixClone, IsPostfixClone, IsPrefixClone};
-ghost use Rattle.winnow_expression.specs.Operators.{OperatorRuns, fold_of, left_power};
+ghost use Rattle.winnow_expression.specs.Operators.{fold_of, left_power};
 ghost use Rattle.winnow_expression.specs.Operators.{neither_power, right_power};
-ghost use Rattle.winnow_expression.specs.Operators.Laws.{operator_ends};
 ghost use Rattle.parser_definitions.specs.Claim.{no_claim, nothing_claimed};
 
 use stream_errors::parser_error::ParserError;
@@ -121,9 +118,6 @@ impl<I: Stream, F: Clone, E: ParserError<I>> Parser<I, Prefix<F>, E> for Prefix<
 
     ghost state = { λ s. s };
 
-    ghost meaning = { λ _. Keeps
-        (OperatorRuns (IsPrefixClone F.is_clone) (λ s. F.is_infallible s.1)) };
-
     ghost does = { OperatorDoes (IsPrefixClone F.is_clone) (λ s. F.is_infallible s.1) };
 
     ghost terms = { record {
@@ -133,13 +127,6 @@ impl<I: Stream, F: Clone, E: ParserError<I>> Parser<I, Prefix<F>, E> for Prefix<
     } };
 
     ghost claim = { λ _. no_claim };
-
-    ghost leaves_ends = { λ form s i answer t j r. operator_ends I.reading
-        (IsPrefixClone F.is_clone)
-        (λ s. F.is_infallible s.1) s i answer j r.0 };
-
-    ghost covers = { λ at. operator_covered I.reading (IsPrefixClone F.is_clone)
-        (λ s. F.is_infallible s.1) at };
 
     ghost lawful = { λ is. operator_law (IsPrefixClone F.is_clone) (λ s. F.is_infallible s.1) };
 
@@ -159,9 +146,6 @@ impl<I: Stream, F: Clone, E: ParserError<I>> Parser<I, Postfix<F>, E> for Postfi
 
     ghost state = { λ s. s };
 
-    ghost meaning = { λ _. Keeps
-        (OperatorRuns (IsPostfixClone F.is_clone) (λ s. F.is_infallible s.1)) };
-
     ghost does = { OperatorDoes (IsPostfixClone F.is_clone) (λ s. F.is_infallible s.1) };
 
     ghost terms = { record {
@@ -171,13 +155,6 @@ impl<I: Stream, F: Clone, E: ParserError<I>> Parser<I, Postfix<F>, E> for Postfi
     } };
 
     ghost claim = { λ _. no_claim };
-
-    ghost leaves_ends = { λ form s i answer t j r. operator_ends I.reading
-        (IsPostfixClone F.is_clone)
-        (λ s. F.is_infallible s.1) s i answer j r.0 };
-
-    ghost covers = { λ at. operator_covered I.reading (IsPostfixClone F.is_clone)
-        (λ s. F.is_infallible s.1) at };
 
     ghost lawful = { λ is. operator_law (IsPostfixClone F.is_clone) (λ s. F.is_infallible s.1) };
 
@@ -197,9 +174,6 @@ impl<I: Stream, F: Clone, E: ParserError<I>> Parser<I, Infix<F>, E> for Infix<F>
 
     ghost state = { λ s. s };
 
-    ghost meaning = { λ _. Keeps
-        (OperatorRuns (IsInfixClone F.is_clone) (λ s. F.is_infallible (fold_of s))) };
-
     ghost does = { OperatorDoes (IsInfixClone F.is_clone) (λ s. F.is_infallible (fold_of s)) };
 
     ghost terms = { record {
@@ -209,12 +183,6 @@ impl<I: Stream, F: Clone, E: ParserError<I>> Parser<I, Infix<F>, E> for Infix<F>
     } };
 
     ghost claim = { λ _. no_claim };
-
-    ghost leaves_ends = { λ form s i answer t j r. operator_ends I.reading (IsInfixClone F.is_clone)
-        (λ s. F.is_infallible (fold_of s)) s i answer j r.0 };
-
-    ghost covers = { λ at. operator_covered I.reading (IsInfixClone F.is_clone)
-        (λ s. F.is_infallible (fold_of s)) at };
 
     ghost lawful = { λ is. operator_law (IsInfixClone F.is_clone)
         (λ s. F.is_infallible (fold_of s)) };

@@ -2,10 +2,8 @@
 ghost use Rattle.parser_definitions.specs.Equal.{AlikeOptions};
 ghost use Rattle.parser_definitions.specs.Escaped.{AlikeSides};
 ghost use Rattle.parser_definitions.specs.Places.{FirstDoes, NextDoes, first_law, next_law};
-ghost use Rattle.winnow_expression.specs.Covers.Parts.{as_law, first_covered, next_covered};
+ghost use Rattle.winnow_expression.specs.Covers.Parts.{as_law};
 ghost use Rattle.winnow_expression.specs.Definition.{OutputAs, first_side, next_side};
-ghost use Rattle.winnow_expression.specs.Places.{FirstRuns, NextRuns};
-ghost use Rattle.winnow_expression.specs.Places.Laws.{first_ends, next_ends};
 ghost use Rattle.parser_definitions.specs.Claim.{no_claim, nothing_claimed};
 
 use crate::combinator::operators::{Infix, Postfix, Prefix};
@@ -53,8 +51,6 @@ impl<I: Stream, O, E: ParserError<I>, F, P: Parser<I, O, E>, R: Parser<I, Prefix
 
     ghost state = { λ s. (P.state s.operand, R.state s.prefix) };
 
-    ghost meaning = { λ form. FirstRuns (P.meaning form) (R.meaning form) };
-
     ghost does = { OutputAs first_side (FirstDoes P.does R.does) };
 
     ghost terms = { record {
@@ -64,11 +60,6 @@ impl<I: Stream, O, E: ParserError<I>, F, P: Parser<I, O, E>, R: Parser<I, Prefix
     } };
 
     ghost claim = { λ _. no_claim };
-
-    ghost leaves_ends = { λ form. first_ends I.reading (P.meaning form) (R.meaning form)
-        (P.leaves_ends form) (R.leaves_ends form) };
-
-    ghost covers = { λ at. first_covered (P.covers at) (R.covers at) };
 
     ghost lawful = { λ is. as_law first_side (AlikeSides P.terms.alike R.terms.alike)
         (first_law (P.lawful is.0) (R.lawful is.1)) };
@@ -106,8 +97,6 @@ impl<
 
     ghost state = { λ s. (P.state s.postfix, R.state s.«infix») };
 
-    ghost meaning = { λ form. NextRuns I.reading.units (P.meaning form) (R.meaning form) };
-
     ghost does = { OutputAs next_side (NextDoes I.reading.units P.does R.does) };
 
     ghost terms = { record {
@@ -118,12 +107,6 @@ impl<
     } };
 
     ghost claim = { λ _. no_claim };
-
-    ghost leaves_ends = { λ form. next_ends I.reading (P.meaning form) (R.meaning form)
-        (P.leaves_ends form) (R.leaves_ends form) };
-
-    ghost covers = { λ at. next_covered I.reading.units (P.covers at)
-        (R.covers at) };
 
     ghost lawful = { λ is. as_law next_side
         (AlikeOptions (AlikeSides P.terms.alike R.terms.alike))

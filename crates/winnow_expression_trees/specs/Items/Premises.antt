@@ -1,29 +1,77 @@
 -- Parts that read items, and folds that give values, are as the premises ask; and they leave ends.
-use Rattle.std.specs.Prelude.{◌≡◌, ℕ, List, ◌++◌}
+use Rattle.std.specs.Prelude.{◌≡◌, ◌<◌, ℕ, List, ◌++◌, Ok, Err}
 use Rattle.std.proofs.Common.{refl, sym, ◌∙◌, ap, subst, inl, inr}
 use Rattle.streams.specs.Input.{Input, IsEndOf}
 use Rattle.streams.specs.Place.{Place}
 use Rattle.streams.specs.Reading.{Reading}
-use Rattle.stream_errors.specs.Form.{Answer}
+use Rattle.streams.specs.Kind.{backtrack, cut, incomplete, memory}
+use Rattle.stream_errors.specs.Form.{Answer, ErrorForm}
+use Rattle.stream_errors.specs.Form.Inversion.{ok_is_err}
 use Rattle.winnow_core.specs.Decided.{EqualResults}
 use Rattle.winnow_core.specs.Decided.Inputs.{both_err, both_ok}
 use Rattle.winnow_core.specs.Ends.{same_ends}
-use Rattle.winnow_core.specs.Runs.{Keeps as KeepsState}
-use Rattle.winnow_expression_trees.specs.Items.{AreItems, Gives, GivesOne, ItemRuns}
+use Rattle.parser_definitions.specs.Left.{left_of}
+use Rattle.parser_definitions.specs.Outcome.{Outcome, Setting, backs, outcome_of, setting_of, took}
+use Rattle.winnow_expression.specs.Did.{Did, here, is_here}
+use Rattle.winnow_expression.specs.Units.{units_left}
+use Rattle.winnow_expression_trees.specs.Items.{AreItems, Gives, GivesOne, ItemDoes, ItemRuns}
 use Rattle.winnow_expression_trees.specs.Items.{Items}
 use Rattle.winnow_expression_trees.specs.Items.{left_at}
 use Rattle.winnow_expression_trees.specs.Premises.{FoldAlike, FoldsAlike}
 use Rattle.winnow_expression_trees.specs.Premises.{IsStateless}
+use Rattle.winnow_expression_trees.specs.Premises.Decided.{Moves}
 
 -- ---- the premises
 
+same_end : {L O : Type 0} {o p : O} {e f : L} → took o e ≡ took p f → (o ≡ p) × (e ≡ f)
+same_end e = (cc, cc)
+
+same_back : {L O : Type 0} {e f : L} → ◌≡◌ {A = Outcome L O} (backs e) (backs f) → e ≡ f
+same_back e = cc
+
+-- a call of a part that reads items
+pub item_run : {S T O : Type 0} (item : Items T O) (form : ErrorForm) (s : S) (i : Input T)
+    (a : Answer O) (t : S) (j : Input T) → Did (ItemDoes item) form s i a t j
+    → ItemRuns item i a j × (t ≡ s)
+item_run {S} {T} {O} item form s i a t j (more, possible, did) = by a did
+  where
+    at : Setting
+    at = setting_of form i
+
+    by : (a : Answer O) → ItemDoes item at s (left_of i) (outcome_of a (t, left_of j))
+        → ItemRuns item i a j × (t ≡ s)
+    by (Ok o) (inl (p, rest, is, e)) =
+        let (same, end) = same_end e in (
+          inl (
+            p,
+            rest,
+            is,
+            ap (λ z. Ok z) same,
+            is_here at more possible ∙ ap (λ z. here at z.1) end,
+          ),
+          ap (λ z. z.0) end,
+        )
+    by (Err backtrack) (inr (none, e)) =
+        let end = same_back e in
+        (inr (none, refl, is_here at more possible ∙ ap (λ z. here at z.1) end), ap (λ z. z.0) end)
+    by (Ok o) (inr (none, e)) = absurd (cc)
+    by (Err backtrack) (inl (p, rest, is, e)) = absurd (cc)
+    by (Err cut) (inl (p, rest, is, e)) = absurd (cc)
+    by (Err cut) (inr (none, e)) = absurd (cc)
+    by (Err (incomplete need)) (inl (p, rest, is, e)) = absurd (cc)
+    by (Err (incomplete need)) (inr (none, e)) = absurd (cc)
+    by (Err memory) (inl (p, rest, is, e)) = absurd (cc)
+    by (Err memory) (inr (none, e)) = absurd (cc)
+
 -- a part that reads items is stateless, as far as an item is like itself
 pub items_stateless : {S T O : Type 0} (units : List T → ℕ) (alike : O → O → Type 0)
-    (item : Items T O) (s : S) → AreItems units item → ((o : O) → alike o o)
-    → IsStateless alike (KeepsState (λ (_ : S). ItemRuns item)) s
-items_stateless {S} {T} {O} units alike item s are self = record {
-  keeps = λ i j a t r n. (r.1, status i j a r.0);
-  decided = λ i j k a b t u r q na nb. decide i j k a b r.0 q.0;
+    (item : Items T O) (form : ErrorForm) (s : S) → AreItems units item → ((o : O) → alike o o)
+    → IsStateless alike (Did (ItemDoes item) form) s
+items_stateless {S} {T} {O} units alike item form s are self = record {
+  keeps = λ i j a t r n.
+      let (run, kept) = item_run item form s i a t j r in (kept, status i j a run);
+  decided = λ i j k a b t u r q na nb. decide i j k a b (item_run item form s i a t j r).0
+      (item_run item form s i b u k q).0;
 }
   where
     status : (i j : Input T) (a : Answer O) → ItemRuns item i a j → j.status ≡ i.status
@@ -42,6 +90,18 @@ items_stateless {S} {T} {O} units alike item s are self = record {
         absurd (none p more was)
     decide i j k a b (inr (none, e, place)) (inr (none2, f, other)) =
         (both_err alike e f refl, place ∙ sym other)
+
+-- and each item consumes
+pub items_move : {S T O : Type 0} (units : List T → ℕ) (item : Items T O) (form : ErrorForm)
+    (s : S) → AreItems units item → Moves units (Did (ItemDoes item) form) s
+items_move {S} {T} {O} units item form s are i j o t r =
+    by (item_run item form s i (Ok o) t j r).0
+  where
+    by : ItemRuns item i (Ok o) j → units_left units j < units_left units i
+    by (inl (q, rest, is, e, place)) =
+        subst (λ z. units_left units z < units_left units i) (sym place)
+        (are.some i.left.tokens q rest is)
+    by (inr (none, e, place)) = ok_is_err refl e
 
 gives_same : {T V : Type 0} (given : V → Type 0) → GivesOne given → (i j k n : Input T)
     (a b : Answer V) → Gives given i a j → Gives given k b n → EqualResults (λ v w. v ≡ w) a b

@@ -1,40 +1,81 @@
 -- Parts made of stateless parts are stateless.
-use Rattle.std.specs.Prelude.{◌≡◌, ℕ}
+use Rattle.std.specs.Prelude.{◌≡◌, ⊤, ℕ, List, Ok, Err}
 use Rattle.std.specs.declared.ops.Range.{Range}
 use Rattle.std.proofs.Common.{refl, sym, ap, ◌∙◌}
 use Rattle.streams.specs.Input.{Input}
-use Rattle.stream_errors.specs.Form.{Answer}
-use Rattle.winnow_comb.specs.Fail.{FailRuns}
+use Rattle.streams.specs.Kind.{backtrack, cut, incomplete, memory}
+use Rattle.stream_errors.specs.Form.{Answer, ErrorForm}
+use Rattle.parser_definitions.specs.Cases.{fails_law}
+use Rattle.parser_definitions.specs.Does.{Lawful}
+use Rattle.parser_definitions.specs.Eof.{FailDoes}
+use Rattle.parser_definitions.specs.Left.{left_of}
+use Rattle.parser_definitions.specs.Outcome.{Alike, Does, outcome_of, setting_of}
 use Rattle.winnow_core.specs.Decided.{EqualResults}
-use Rattle.winnow_core.specs.Decided.Inputs.{both_err}
-use Rattle.winnow_core.specs.Runs.{Keeps}
+use Rattle.winnow_core.specs.Runs.{Runs}
+use Rattle.winnow_expression.specs.Did.{Did, here, is_here}
+use Rattle.winnow_expression_trees.specs.Premises.Decided.{Moves, Stays, did_stays, leaves_by}
 use Rattle.winnow_expression_trees.specs.Premises.{IsStateless, NotMemory}
 
--- A call of a parser whose state does not matter. Unless memory runs out, it changes only the
--- position, and the input determines its result and the rest.
-pub record IsPlain {T O : Type 0} (alike : O → O → Type 0)
-    (run : Input T → Answer O → Input T → Type 0) : Type 0 where
-  pub status : (i j : Input T) (a : Answer O) → run i a j → NotMemory a → j.status ≡ i.status
-  pub decided : (i j k : Input T) (a b : Answer O) → run i a j → run i b k → NotMemory a
-      → NotMemory b → EqualResults alike a b × (j ≡ k)
+-- the results of equal outcomes, neither of which is out of memory
+answers : {L O : Type 0} (alike : O → O → Type 0) (a b : Answer O) (rest end : L) → NotMemory a
+    → NotMemory b → Alike alike (outcome_of a rest) (outcome_of b end)
+    → EqualResults alike a b × (rest ≡ end)
+answers alike (Ok o) (Ok p) rest end na nb is = is
+answers alike (Ok o) (Err backtrack) rest end na nb is = absurd is
+answers alike (Ok o) (Err cut) rest end na nb is = absurd is
+answers alike (Ok o) (Err (incomplete need)) rest end na nb is = absurd is
+answers alike a (Err memory) rest end na nb is = absurd (nb refl)
+answers alike (Err memory) b rest end na nb is = absurd (na refl)
+answers alike (Err backtrack) (Ok p) rest end na nb is = absurd is
+answers alike (Err backtrack) (Err backtrack) rest end na nb is = (refl, is)
+answers alike (Err backtrack) (Err cut) rest end na nb is = absurd is
+answers alike (Err backtrack) (Err (incomplete need)) rest end na nb is = absurd is
+answers alike (Err cut) (Ok p) rest end na nb is = absurd is
+answers alike (Err cut) (Err backtrack) rest end na nb is = absurd is
+answers alike (Err cut) (Err cut) rest end na nb is = (refl, is)
+answers alike (Err cut) (Err (incomplete need)) rest end na nb is = absurd is
+answers alike (Err (incomplete need)) (Ok p) rest end na nb is = absurd is
+answers alike (Err (incomplete need)) (Err backtrack) rest end na nb is = absurd is
+answers alike (Err (incomplete need)) (Err cut) rest end na nb is = absurd is
+answers alike (Err (incomplete need)) (Err (incomplete other)) rest end na nb is =
+    (ap (λ n. incomplete n) is.0, is.1)
 
--- a parser that keeps its value, as far as that decides its runs
-pub keeps_stateless : {S T O : Type 0} (alike : O → O → Type 0)
-    (runs : S → Input T → Answer O → Input T → Type 0) (s : S) → IsPlain alike (runs s)
-    → IsStateless alike (Keeps runs) s
-keeps_stateless alike runs s p = record {
-  keeps = λ i j a t r n. (r.1, p.status i j a r.0 n);
-  decided = λ i j k a b t u r q na nb. p.decided i j k a b r.0 q.0 na nb;
+-- a part whose calls are among stateless ones, unless memory runs out
+pub stateless_within : {S T O : Type 0} {alike : O → O → Type 0} {run other : Runs S T O} {s : S}
+    → ((i : Input T) (a : Answer O) (t : S) (j : Input T) → run s i a t j → NotMemory a
+    → other s i a t j) → IsStateless alike other s → IsStateless alike run s
+stateless_within within c = record {
+  keeps = λ i j a t r n. c.keeps i j a t (within i a t j r n) n;
+  decided = λ i j k a b t u r q na nb.
+      c.decided i j k a b t u (within i a t j r na) (within i b u k q nb) na nb;
+}
+
+-- a part that the law of its definition makes deterministic, in a state that its calls keep
+pub law_stateless : {S T O : Type 0} {does : Does S T O} {stable : Type 0}
+    {alike : O → O → Type 0} → Lawful stable alike does → (form : ErrorForm) (s : S)
+    → Stays (Did does form) s → IsStateless alike (Did does form) s
+law_stateless {alike = alike} law form s stays = record {
+  keeps = stays;
+  decided = λ i j k a b t u r q na nb.
+      let at = setting_of form i in
+      let both = answers alike a b (t, left_of j) (u, left_of k) na nb
+      (law.one at s (left_of i) (outcome_of a (t, left_of j)) (outcome_of b (u, left_of k)) r.2
+      q.2) in (
+        both.0,
+        is_here at r.0 r.1 ∙ ap (λ e. here at e.1) both.1 ∙ sym (is_here at q.0 q.1),
+      );
 }
 
 -- the parser that fails, as where no operator was set
-pub fail_plain : {T O : Type 0} (alike : O → O → Type 0)
-    → IsPlain alike (λ (i : Input T) (a : Answer O) j. FailRuns i a j)
-fail_plain alike = record {
-  status = λ i j a r n. ap (λ x. x.status) r.1;
-  decided = λ i j k a b r q na nb.
-      (both_err alike r.0 q.0 refl, r.1 ∙ sym q.1);
-}
+pub fail_stateless : {S T O : Type 0} (alike : O → O → Type 0) (form : ErrorForm) (s : S)
+    → IsStateless {T = T} alike (Did FailDoes form) s
+fail_stateless alike form s =
+    law_stateless (fails_law {stable = ⊤} {alike = alike} (λ s at w. ⊤) (λ is more flag s w a. tt))
+    form s (did_stays FailDoes form s (λ at w y (is, e). leaves_by s w.recorded e (refl, refl)))
+
+pub fail_moves : {S T O : Type 0} (units : List T → ℕ) (form : ErrorForm) (s : S)
+    → Moves {O = O} units (Did FailDoes form) s
+fail_moves units form s i j o t (more, possible, (is, e)) = absurd (cc)
 
 -- ---- outputs made of another, and of where that was read
 

@@ -1,16 +1,11 @@
 //! Operator expressions.
 ghost use Rattle.std.specs.Prelude.{◌≡◌, ℤ, pos};
-ghost use Rattle.stream_errors.specs.Form.{assert_kind};
 ghost use Rattle.parser_definitions.specs.Expression.{ExpressionDoes};
 ghost use Rattle.parser_definitions.specs.Expression.Laws.{OperatorsWhole, expression_law};
 ghost use Rattle.parser_definitions.specs.Expression.One.{OperatorsOne};
-ghost use Rattle.winnow_expression.specs.Covers.Trees.{expression_covered};
 ghost use Rattle.winnow_expression.specs.Definition.{operators};
-ghost use Rattle.winnow_expression.specs.Expression.{LeveledRuns, infix_of, level_of, operand_of};
+ghost use Rattle.winnow_expression.specs.Expression.{infix_of, level_of, operand_of};
 ghost use Rattle.winnow_expression.specs.Expression.{postfix_of, prefix_of};
-ghost use Rattle.winnow_expression.specs.Expression.Laws.{leveled_leaves};
-ghost use Rattle.winnow_expression.specs.Parts.{parts_grammar};
-ghost use Rattle.winnow_expression.specs.Places.Laws.{first_ends, next_ends};
 ghost use Rattle.parser_definitions.specs.Claim.{no_claim, nothing_claimed};
 
 use crate::combinator::folds::{FoldBinary, FoldUnary};
@@ -215,10 +210,6 @@ impl<
       s.level,
     ) };
 
-    ghost meaning = { λ form. LeveledRuns (parts_grammar I.reading.units (assert_kind form)
-        (P.meaning form) (Pre.meaning form) (Post.meaning form) (Pix.meaning form) (F.folds form)
-        (G.folds form) (H.folds form)) };
-
     ghost does = { ExpressionDoes (operators I.reading.units F.folds G.folds H.folds) P.does
         Pre.does Post.does Pix.does };
 
@@ -234,22 +225,6 @@ impl<
     } };
 
     ghost claim = { λ _. no_claim };
-
-    ghost leaves_ends = { λ form. leveled_leaves I.reading (parts_grammar I.reading.units
-        (assert_kind form) (P.meaning form) (Pre.meaning form) (Post.meaning form)
-        (Pix.meaning form) (F.folds form) (G.folds form) (H.folds form)) (record {
-          first = first_ends I.reading (P.meaning form) (Pre.meaning form) (P.leaves_ends form)
-              (Pre.leaves_ends form);
-          next = next_ends I.reading (Post.meaning form) (Pix.meaning form)
-              (Post.leaves_ends form) (Pix.leaves_ends form);
-          behind = G.leaves_ends form;
-          before = F.leaves_ends form;
-          between = H.leaves_ends form;
-        }) };
-
-    ghost covers = { λ at. expression_covered I.reading F.folds G.folds H.folds F.leaves_ends
-        G.leaves_ends H.leaves_ends (P.covers at) (Pre.covers at)
-        (Post.covers at) (Pix.covers at) };
 
     ghost lawful = { λ is. expression_law (operators I.reading.units F.folds G.folds H.folds) is.1
         is.2 (P.lawful is.0.0) (Pre.lawful is.0.1) (Post.lawful is.0.2) (Pix.lawful is.0.3) };

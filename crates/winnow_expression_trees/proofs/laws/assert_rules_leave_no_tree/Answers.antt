@@ -1,7 +1,10 @@
 use Rattle.std.proofs.Common.{Err}
 use Rattle.stream_errors.specs.Form.{assert_kind}
-use Rattle.winnow_expression.specs.Parts.{parts_grammar}
+use Rattle.winnow_expression.specs.Did.{Did}
+use Rattle.winnow_expression.specs.Did.Trees.{expression_came, expression_did}
+use Rattle.winnow_expression.specs.Parts.{did_grammar}
 use Rattle.winnow_expression_trees.proofs.FourParts.{plain_parts}
+use Rattle.winnow_expression_trees.proofs.Plain.{not_memory}
 use Rattle.winnow_expression_trees.proofs.Whole.{failure_ended, failure_excludes}
 use Rattle.winnow_expression_trees.proofs.Within.{accepting_runs, asserting_accepts, failure_told}
 use Rattle.winnow_expression_trees.proofs.Within.{leveled_accepts}
@@ -10,16 +13,13 @@ use Rattle.winnow_expression_trees.proofs.laws.assert_rules_leave_no_tree.Goals 
 pub returns : goal.returns
 returns g c =
     let form = g.E.HasKind.form in
-    let whole = parts_grammar g.I.Stream.reading.units (assert_kind form)
-    (g.P.Parser.meaning form) (g.Pre.Parser.meaning form) (g.Post.Parser.meaning form)
-    (g.Pix.Parser.meaning form) (g.F.FoldUnary.folds form) (g.G.FoldUnary.folds form)
-    (g.H.FoldBinary.folds form) in
-    let plain = plain_parts g.I.Stream.reading (assert_kind form) (g.P.Parser.meaning form)
-    (g.Pre.Parser.meaning form) (g.Post.Parser.meaning form) (g.Pix.Parser.meaning form)
+    let reading = g.I.Stream.reading in
+    let whole = did_grammar reading.units form g.P.Parser.does g.Pre.Parser.does g.Post.Parser.does
+    g.Pix.Parser.does g.F.FoldUnary.folds g.G.FoldUnary.folds g.H.FoldBinary.folds in
+    let plain = plain_parts reading.units (assert_kind form) (Did g.P.Parser.does form)
+    (Did g.Pre.Parser.does form) (Did g.Post.Parser.does form) (Did g.Pix.Parser.does form)
     (g.F.FoldUnary.folds form) (g.G.FoldUnary.folds form) (g.H.FoldBinary.folds form)
-    g.A.Likeness.alike (g.met.P.Parser.leaves_ends form)
-    (g.met.Pre.Parser.leaves_ends form) (g.met.Post.Parser.leaves_ends form)
-    (g.met.Pix.Parser.leaves_ends form) in
+    g.A.Likeness.alike in
     record {
       asserts = λ s pr i k t j runs.
           failure_excludes (plain s.0.0 s.0.1 s.1.0 s.1.1 pr) s.2 i k (t.0, t.1) j
@@ -30,6 +30,21 @@ returns g c =
           (t.0, t.1) j runs.0;
       kind = failure_told whole;
       within = asserting_accepts whole;
-      run = accepting_runs whole;
-      either = leveled_accepts whole;
+      run = λ s i answer t j runs.
+          expression_did reading form g.F.FoldUnary.folds g.G.FoldUnary.folds
+          g.H.FoldBinary.folds g.P.Parser.does g.Pre.Parser.does g.Post.Parser.does
+          g.Pix.Parser.does g.met.F.FoldUnary.leaves_ends g.met.G.FoldUnary.leaves_ends
+          g.met.H.FoldBinary.leaves_ends s i answer t j (accepting_runs whole s i answer t j runs);
+      either = λ s i answer t j ran.
+          let (u, k, runs, same) = expression_came reading form g.F.FoldUnary.folds
+          g.G.FoldUnary.folds g.H.FoldBinary.folds g.P.Parser.does g.Pre.Parser.does
+          g.Post.Parser.does g.Pix.Parser.does g.met.F.FoldUnary.leaves_ends
+          g.met.G.FoldUnary.leaves_ends g.met.H.FoldBinary.leaves_ends s i answer t j
+          (ran.1, ran.2, ran.3) in (
+            u,
+            k,
+            leveled_accepts whole s i answer u k runs,
+            λ other. same
+                (not_memory answer other),
+          );
     }

@@ -1,25 +1,33 @@
 use Rattle.std.proofs.Common.{Err}
 use Rattle.stream_errors.specs.Form.{assert_kind}
+use Rattle.winnow_expression.specs.Did.{Did}
+use Rattle.winnow_expression.specs.Did.Trees.{expression_came}
 use Rattle.winnow_expression_trees.proofs.EndsOnce.{ends_once}
 use Rattle.winnow_expression_trees.proofs.FourParts.{plain_parts}
-use Rattle.winnow_expression_trees.proofs.Whole.{expression_exact, expression_fails}
+use Rattle.winnow_expression_trees.proofs.Whole.{expression_exact, expression_fails, one_tree_at}
 use Rattle.winnow_expression_trees.proofs.laws.expression_is_unambiguous.Goals as goal
 
 pub returns : goal.returns
 returns g c =
     let form = g.E.HasKind.form in
-    let plain = plain_parts g.I.Stream.reading (assert_kind form) (g.P.Parser.meaning form)
-    (g.Pre.Parser.meaning form) (g.Post.Parser.meaning form) (g.Pix.Parser.meaning form)
+    let reading = g.I.Stream.reading in
+    let plain = plain_parts reading.units (assert_kind form) (Did g.P.Parser.does form)
+    (Did g.Pre.Parser.does form) (Did g.Post.Parser.does form) (Did g.Pix.Parser.does form)
     (g.F.FoldUnary.folds form) (g.G.FoldUnary.folds form) (g.H.FoldBinary.folds form)
-    g.A.Likeness.alike (g.met.P.Parser.leaves_ends form)
-    (g.met.Pre.Parser.leaves_ends form) (g.met.Post.Parser.leaves_ends form)
-    (g.met.Pix.Parser.leaves_ends form) in
+    g.A.Likeness.alike in
+    let came = expression_came reading form g.F.FoldUnary.folds g.G.FoldUnary.folds
+    g.H.FoldBinary.folds g.P.Parser.does g.Pre.Parser.does g.Post.Parser.does g.Pix.Parser.does
+    g.met.F.FoldUnary.leaves_ends g.met.G.FoldUnary.leaves_ends
+    g.met.H.FoldBinary.leaves_ends in
     record {
-      exact = λ s pr i answer t j runs.
-          expression_exact (plain s.0.0 s.0.1 s.1.0 s.1.1 pr) s.2 i answer (t.0, t.1) j runs.0;
-      fails = λ s pr i k t j runs.
-          expression_fails k
-          (expression_exact (plain s.0.0 s.0.1 s.1.0 s.1.1 pr) s.2 i (Err k) (t.0, t.1) j
-          runs.0);
+      exact = λ s pr i answer t j ran.
+          let (u, k, runs, same) = came s i answer t j (ran.1, ran.2, ran.3) in
+          one_tree_at answer t u j k same
+          (expression_exact (plain s.0.0 s.0.1 s.1.0 s.1.1 pr) s.2 i answer (u.0, u.1) k runs.0);
+      fails = λ s pr i k t j ran other.
+          let (u, n, runs, same) = came s i (Err k) t j (ran.1, ran.2, ran.3) in
+          expression_fails k (one_tree_at (Err k) t u j n same
+          (expression_exact (plain s.0.0 s.0.1 s.1.0 s.1.1 pr) s.2 i (Err k) (u.0, u.1) n runs.0))
+          other;
       ended = λ s pr. ends_once (plain s.0.0 s.0.1 s.1.0 s.1.1 pr);
     }

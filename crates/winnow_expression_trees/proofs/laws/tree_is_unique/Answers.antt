@@ -1,4 +1,5 @@
 use Rattle.stream_errors.specs.Form.{assert_kind}
+use Rattle.winnow_expression.specs.Did.{Did}
 use Rattle.winnow_expression_trees.proofs.FourParts.{decided_parts}
 use Rattle.winnow_expression_trees.specs.OneTree.Unique.{one_tree}
 use Rattle.winnow_expression_trees.proofs.laws.tree_is_unique.Goals as goal
@@ -9,8 +10,8 @@ returns g c =
     record {
       one = λ s po pp pq pi level i r u m n b c one other.
           one_tree (decided_parts g.I.Stream.reading.units (assert_kind form)
-          (g.P.Parser.meaning form) (g.Pre.Parser.meaning form) (g.Post.Parser.meaning form)
-          (g.Pix.Parser.meaning form) (g.F.FoldUnary.folds form) (g.G.FoldUnary.folds form)
+          (Did g.P.Parser.does form) (Did g.Pre.Parser.does form) (Did g.Post.Parser.does form)
+          (Did g.Pix.Parser.does form) (g.F.FoldUnary.folds form) (g.G.FoldUnary.folds form)
           (g.H.FoldBinary.folds form) g.A.Likeness.alike g.B.Likeness.alike g.C.Likeness.alike
           g.D.Likeness.alike s po pp pq pi) level i r u m n b c one.0 one.1 other.0 other.1;
     }

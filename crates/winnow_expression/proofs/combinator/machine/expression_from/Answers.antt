@@ -1,3 +1,4 @@
+use Rattle.parser_definitions.specs.Does.{Ran}
 use Rattle.std.proofs.Common.{rules, refl, Some, None}
 use Rattle.winnow_expression.specs.Calls.{call_of, calls_of, open_of, opens_of}
 use Rattle.winnow_expression.specs.Grammar.{folding, grammar}
@@ -14,11 +15,11 @@ use Rattle.winnow_expression.proofs.combinator.machine.expression_from.Goals as 
 
 pub returns-in_err-left-in-None-clause-ran : goal.returns-in_err-left-in-None-clause-ran
 returns-in_err-left-in-None-clause-ran g c =
-    let whole = grammar (g.P.Parser.meaning g.E.HasKind.form)
-    (g.Q.Parser.meaning g.E.HasKind.form) (g.G.FoldUnary.folds g.E.HasKind.form)
-    (folding (g.F.FoldUnary.folds g.E.HasKind.form)
-    (g.H.FoldBinary.folds g.E.HasKind.form) g.I.Stream.reading.units
-    (assert_kind g.E.HasKind.form)) in
+    let form = g.E.HasKind.form in
+    let whole = grammar (Ran g.I.Stream.reading g.P.Parser.does form)
+    (Ran g.I.Stream.reading g.Q.Parser.does form) (g.G.FoldUnary.folds form)
+    (folding (g.F.FoldUnary.folds form) (g.H.FoldBinary.folds form) g.I.Stream.reading.units
+    (assert_kind form)) in
     let start : g.P.Parser.State × g.Q.Parser.State =
     (g.P.Parser.state c.args.first.now, g.Q.Parser.state c.args.next.now) in
     operand_ends whole c.args.level _ start (g.I.Stream.view c.args.input.now)
@@ -35,11 +36,11 @@ returns-in_err-left-in-None-clause-ends g c =
 
 pub places-smaller-in-None : goal.places-smaller-in-None
 places-smaller-in-None g c =
-    let whole = grammar (g.P.Parser.meaning g.E.HasKind.form)
-    (g.Q.Parser.meaning g.E.HasKind.form) (g.G.FoldUnary.folds g.E.HasKind.form)
-    (folding (g.F.FoldUnary.folds g.E.HasKind.form)
-    (g.H.FoldBinary.folds g.E.HasKind.form) g.I.Stream.reading.units
-    (assert_kind g.E.HasKind.form)) in
+    let form = g.E.HasKind.form in
+    let whole = grammar (Ran g.I.Stream.reading g.P.Parser.does form)
+    (Ran g.I.Stream.reading g.Q.Parser.does form) (g.G.FoldUnary.folds form)
+    (folding (g.F.FoldUnary.folds form) (g.H.FoldBinary.folds form) g.I.Stream.reading.units
+    (assert_kind form)) in
     let start : g.P.Parser.State × g.Q.Parser.State =
     (g.P.Parser.state c.args.first.now, g.Q.Parser.state c.args.next.now) in
     (operand_kept whole _ start (g.I.Stream.view c.args.input.now) (calls_of c.places.calls)
@@ -52,11 +53,11 @@ places-smaller-in-None g c =
 
 pub places-preserved-in-None : goal.places-preserved-in-None
 places-preserved-in-None g c =
-    let whole = grammar (g.P.Parser.meaning g.E.HasKind.form)
-    (g.Q.Parser.meaning g.E.HasKind.form) (g.G.FoldUnary.folds g.E.HasKind.form)
-    (folding (g.F.FoldUnary.folds g.E.HasKind.form)
-    (g.H.FoldBinary.folds g.E.HasKind.form) g.I.Stream.reading.units
-    (assert_kind g.E.HasKind.form)) in
+    let form = g.E.HasKind.form in
+    let whole = grammar (Ran g.I.Stream.reading g.P.Parser.does form)
+    (Ran g.I.Stream.reading g.Q.Parser.does form) (g.G.FoldUnary.folds form)
+    (folding (g.F.FoldUnary.folds form) (g.H.FoldBinary.folds form) g.I.Stream.reading.units
+    (assert_kind form)) in
     let start : g.P.Parser.State × g.Q.Parser.State =
     (g.P.Parser.state c.args.first.now, g.Q.Parser.state c.args.next.now) in (
       (operand_kept whole _ start (g.I.Stream.view c.args.input.now) (calls_of c.places.calls)
@@ -73,11 +74,11 @@ places-preserved-in-None g c =
 
 pub returns-in_err-value-in-Some-clause-ran : goal.returns-in_err-value-in-Some-clause-ran
 returns-in_err-value-in-Some-clause-ran g c =
-    let whole = grammar (g.P.Parser.meaning g.E.HasKind.form)
-    (g.Q.Parser.meaning g.E.HasKind.form) (g.G.FoldUnary.folds g.E.HasKind.form)
-    (folding (g.F.FoldUnary.folds g.E.HasKind.form)
-    (g.H.FoldBinary.folds g.E.HasKind.form) g.I.Stream.reading.units
-    (assert_kind g.E.HasKind.form)) in
+    let form = g.E.HasKind.form in
+    let whole = grammar (Ran g.I.Stream.reading g.P.Parser.does form)
+    (Ran g.I.Stream.reading g.Q.Parser.does form) (g.G.FoldUnary.folds form)
+    (folding (g.F.FoldUnary.folds form) (g.H.FoldBinary.folds form) g.I.Stream.reading.units
+    (assert_kind form)) in
     let start : g.P.Parser.State × g.Q.Parser.State =
     (g.P.Parser.state c.args.first.now, g.Q.Parser.state c.args.next.now) in
     turn_ends_whole whole c.args.level _ start (g.I.Stream.view c.args.input.now)
@@ -98,11 +99,11 @@ returns-in_err-value-in-Some-clause-ends g c =
 
 pub places-smaller-in-Goes : goal.places-smaller-in-Goes
 places-smaller-in-Goes g c =
-    let whole = grammar (g.P.Parser.meaning g.E.HasKind.form)
-    (g.Q.Parser.meaning g.E.HasKind.form) (g.G.FoldUnary.folds g.E.HasKind.form)
-    (folding (g.F.FoldUnary.folds g.E.HasKind.form)
-    (g.H.FoldBinary.folds g.E.HasKind.form) g.I.Stream.reading.units
-    (assert_kind g.E.HasKind.form)) in
+    let form = g.E.HasKind.form in
+    let whole = grammar (Ran g.I.Stream.reading g.P.Parser.does form)
+    (Ran g.I.Stream.reading g.Q.Parser.does form) (g.G.FoldUnary.folds form)
+    (folding (g.F.FoldUnary.folds form) (g.H.FoldBinary.folds form) g.I.Stream.reading.units
+    (assert_kind form)) in
     let start : g.P.Parser.State × g.Q.Parser.State =
     (g.P.Parser.state c.args.first.now, g.Q.Parser.state c.args.next.now) in
     falls_at _ _ (call_of c.places.calls.present) (call_of c.turn_step.new.calls.present) _ _
@@ -116,8 +117,8 @@ places-smaller-in-Goes g c =
     c.places.left c.in-Some.value
     (g.P.Parser.state c.places.first, g.Q.Parser.state c.places.next)
     (g.I.Stream.view c.places.input) c.places.invariant.0 c.in-Some.is)
-    (step_at g.I.Stream.reading.units (g.Q.Parser.meaning g.E.HasKind.form)
-    (g.G.FoldUnary.folds g.E.HasKind.form) (assert_kind g.E.HasKind.form)
+    (step_at g.I.Stream.reading.units (Ran g.I.Stream.reading g.Q.Parser.does form)
+    (g.G.FoldUnary.folds form) (assert_kind form)
     (calls_of c.places.calls) (calls_of c.turn_step.new.calls) c.in-Some.value
     (g.Q.Parser.state c.places.next) (g.Q.Parser.state c.turn_step.new.next)
     (g.I.Stream.view c.places.input) (g.I.Stream.view c.turn_step.new.input) _ _
@@ -126,11 +127,11 @@ places-smaller-in-Goes g c =
 
 pub places-preserved-in-Goes : goal.places-preserved-in-Goes
 places-preserved-in-Goes g c =
-    let whole = grammar (g.P.Parser.meaning g.E.HasKind.form)
-    (g.Q.Parser.meaning g.E.HasKind.form) (g.G.FoldUnary.folds g.E.HasKind.form)
-    (folding (g.F.FoldUnary.folds g.E.HasKind.form)
-    (g.H.FoldBinary.folds g.E.HasKind.form) g.I.Stream.reading.units
-    (assert_kind g.E.HasKind.form)) in
+    let form = g.E.HasKind.form in
+    let whole = grammar (Ran g.I.Stream.reading g.P.Parser.does form)
+    (Ran g.I.Stream.reading g.Q.Parser.does form) (g.G.FoldUnary.folds form)
+    (folding (g.F.FoldUnary.folds form) (g.H.FoldBinary.folds form) g.I.Stream.reading.units
+    (assert_kind form)) in
     let start : g.P.Parser.State × g.Q.Parser.State =
     (g.P.Parser.state c.args.first.now, g.Q.Parser.state c.args.next.now) in (
       (postfix_kept whole _ start (g.I.Stream.view c.args.input.now) (calls_of c.places.calls)
@@ -142,8 +143,8 @@ places-preserved-in-Goes g c =
           c.places.left c.in-Some.value
           (g.P.Parser.state c.places.first, g.Q.Parser.state c.places.next)
           (g.I.Stream.view c.places.input) c.places.invariant.0 c.in-Some.is)
-          (step_at g.I.Stream.reading.units (g.Q.Parser.meaning g.E.HasKind.form)
-          (g.G.FoldUnary.folds g.E.HasKind.form) (assert_kind g.E.HasKind.form)
+          (step_at g.I.Stream.reading.units (Ran g.I.Stream.reading g.Q.Parser.does form)
+          (g.G.FoldUnary.folds form) (assert_kind form)
           (calls_of c.places.calls) (calls_of c.turn_step.new.calls) c.in-Some.value
           (g.Q.Parser.state c.places.next) (g.Q.Parser.state c.turn_step.new.next)
           (g.I.Stream.view c.places.input) (g.I.Stream.view c.turn_step.new.input) _ _
@@ -156,11 +157,11 @@ places-preserved-in-Goes g c =
 
 pub places-smaller-in-Interrupted : goal.places-smaller-in-Interrupted
 places-smaller-in-Interrupted g c =
-    let whole = grammar (g.P.Parser.meaning g.E.HasKind.form)
-    (g.Q.Parser.meaning g.E.HasKind.form) (g.G.FoldUnary.folds g.E.HasKind.form)
-    (folding (g.F.FoldUnary.folds g.E.HasKind.form)
-    (g.H.FoldBinary.folds g.E.HasKind.form) g.I.Stream.reading.units
-    (assert_kind g.E.HasKind.form)) in
+    let form = g.E.HasKind.form in
+    let whole = grammar (Ran g.I.Stream.reading g.P.Parser.does form)
+    (Ran g.I.Stream.reading g.Q.Parser.does form) (g.G.FoldUnary.folds form)
+    (folding (g.F.FoldUnary.folds form) (g.H.FoldBinary.folds form) g.I.Stream.reading.units
+    (assert_kind form)) in
     let start : g.P.Parser.State × g.Q.Parser.State =
     (g.P.Parser.state c.args.first.now, g.Q.Parser.state c.args.next.now) in
     falls_at _ _ (call_of c.places.calls.present) (call_of c.turn_step.new.calls.present) _ _
@@ -175,8 +176,8 @@ places-smaller-in-Interrupted g c =
     c.places.left c.in-Some.value
     (g.P.Parser.state c.places.first, g.Q.Parser.state c.places.next)
     (g.I.Stream.view c.places.input) c.places.invariant.0 c.in-Some.is)
-    (step_at g.I.Stream.reading.units (g.Q.Parser.meaning g.E.HasKind.form)
-    (g.G.FoldUnary.folds g.E.HasKind.form) (assert_kind g.E.HasKind.form)
+    (step_at g.I.Stream.reading.units (Ran g.I.Stream.reading g.Q.Parser.does form)
+    (g.G.FoldUnary.folds form) (assert_kind form)
     (calls_of c.places.calls) (calls_of c.turn_step.new.calls) c.in-Some.value
     (g.Q.Parser.state c.places.next) (g.Q.Parser.state c.turn_step.new.next)
     (g.I.Stream.view c.places.input) (g.I.Stream.view c.turn_step.new.input) _ _
@@ -185,11 +186,11 @@ places-smaller-in-Interrupted g c =
 
 pub places-preserved-in-Interrupted : goal.places-preserved-in-Interrupted
 places-preserved-in-Interrupted g c =
-    let whole = grammar (g.P.Parser.meaning g.E.HasKind.form)
-    (g.Q.Parser.meaning g.E.HasKind.form) (g.G.FoldUnary.folds g.E.HasKind.form)
-    (folding (g.F.FoldUnary.folds g.E.HasKind.form)
-    (g.H.FoldBinary.folds g.E.HasKind.form) g.I.Stream.reading.units
-    (assert_kind g.E.HasKind.form)) in
+    let form = g.E.HasKind.form in
+    let whole = grammar (Ran g.I.Stream.reading g.P.Parser.does form)
+    (Ran g.I.Stream.reading g.Q.Parser.does form) (g.G.FoldUnary.folds form)
+    (folding (g.F.FoldUnary.folds form) (g.H.FoldBinary.folds form) g.I.Stream.reading.units
+    (assert_kind form)) in
     let start : g.P.Parser.State × g.Q.Parser.State =
     (g.P.Parser.state c.args.first.now, g.Q.Parser.state c.args.next.now) in (
       (infix_kept whole _ start (g.I.Stream.view c.args.input.now) (calls_of c.places.calls)
@@ -201,8 +202,8 @@ places-preserved-in-Interrupted g c =
           c.places.left c.in-Some.value
           (g.P.Parser.state c.places.first, g.Q.Parser.state c.places.next)
           (g.I.Stream.view c.places.input) c.places.invariant.0 c.in-Some.is)
-          (step_at g.I.Stream.reading.units (g.Q.Parser.meaning g.E.HasKind.form)
-          (g.G.FoldUnary.folds g.E.HasKind.form) (assert_kind g.E.HasKind.form)
+          (step_at g.I.Stream.reading.units (Ran g.I.Stream.reading g.Q.Parser.does form)
+          (g.G.FoldUnary.folds form) (assert_kind form)
           (calls_of c.places.calls) (calls_of c.turn_step.new.calls) c.in-Some.value
           (g.Q.Parser.state c.places.next) (g.Q.Parser.state c.turn_step.new.next)
           (g.I.Stream.view c.places.input) (g.I.Stream.view c.turn_step.new.input) _ _
@@ -215,11 +216,11 @@ places-preserved-in-Interrupted g c =
 
 pub returns-in_err-close-in-Some-pop-clause-ran : goal.returns-in_err-close-in-Some-pop-clause-ran
 returns-in_err-close-in-Some-pop-clause-ran g c =
-    let whole = grammar (g.P.Parser.meaning g.E.HasKind.form)
-    (g.Q.Parser.meaning g.E.HasKind.form) (g.G.FoldUnary.folds g.E.HasKind.form)
-    (folding (g.F.FoldUnary.folds g.E.HasKind.form)
-    (g.H.FoldBinary.folds g.E.HasKind.form) g.I.Stream.reading.units
-    (assert_kind g.E.HasKind.form)) in
+    let form = g.E.HasKind.form in
+    let whole = grammar (Ran g.I.Stream.reading g.P.Parser.does form)
+    (Ran g.I.Stream.reading g.Q.Parser.does form) (g.G.FoldUnary.folds form)
+    (folding (g.F.FoldUnary.folds form) (g.H.FoldBinary.folds form) g.I.Stream.reading.units
+    (assert_kind form)) in
     let start : g.P.Parser.State × g.Q.Parser.State =
     (g.P.Parser.state c.args.first.now, g.Q.Parser.state c.args.next.now) in
     close_ends whole c.args.level _ start (g.I.Stream.view c.args.input.now)
@@ -237,8 +238,8 @@ returns-in_err-close-in-Some-pop-clause-ran g c =
     c.places.left c.in-Some.value
     (g.P.Parser.state c.places.first, g.Q.Parser.state c.places.next)
     (g.I.Stream.view c.places.input) c.places.invariant.0 c.in-Some.is)
-    (step_at g.I.Stream.reading.units (g.Q.Parser.meaning g.E.HasKind.form)
-    (g.G.FoldUnary.folds g.E.HasKind.form) (assert_kind g.E.HasKind.form) (calls_of c.places.calls)
+    (step_at g.I.Stream.reading.units (Ran g.I.Stream.reading g.Q.Parser.does form)
+    (g.G.FoldUnary.folds form) (assert_kind form) (calls_of c.places.calls)
     (calls_of c.turn_step.new.calls) c.in-Some.value (g.Q.Parser.state c.places.next)
     (g.Q.Parser.state c.turn_step.new.next) (g.I.Stream.view c.places.input)
     (g.I.Stream.view c.turn_step.new.input) _ _ c.in-Ends.is
@@ -251,11 +252,11 @@ returns-in_err-close-in-Some-pop-clause-ends g c =
 
 pub places-smaller : goal.places-smaller
 places-smaller g c =
-    let whole = grammar (g.P.Parser.meaning g.E.HasKind.form)
-    (g.Q.Parser.meaning g.E.HasKind.form) (g.G.FoldUnary.folds g.E.HasKind.form)
-    (folding (g.F.FoldUnary.folds g.E.HasKind.form)
-    (g.H.FoldBinary.folds g.E.HasKind.form) g.I.Stream.reading.units
-    (assert_kind g.E.HasKind.form)) in
+    let form = g.E.HasKind.form in
+    let whole = grammar (Ran g.I.Stream.reading g.P.Parser.does form)
+    (Ran g.I.Stream.reading g.Q.Parser.does form) (g.G.FoldUnary.folds form)
+    (folding (g.F.FoldUnary.folds form) (g.H.FoldBinary.folds form) g.I.Stream.reading.units
+    (assert_kind form)) in
     let start : g.P.Parser.State × g.Q.Parser.State =
     (g.P.Parser.state c.args.first.now, g.Q.Parser.state c.args.next.now) in
     falls_at _ _ (call_of c.places.calls.present) (call_of c.in-Some-pop.above.call) _ _
@@ -274,8 +275,8 @@ places-smaller g c =
     c.places.left c.in-Some.value
     (g.P.Parser.state c.places.first, g.Q.Parser.state c.places.next)
     (g.I.Stream.view c.places.input) c.places.invariant.0 c.in-Some.is)
-    (step_at g.I.Stream.reading.units (g.Q.Parser.meaning g.E.HasKind.form)
-    (g.G.FoldUnary.folds g.E.HasKind.form) (assert_kind g.E.HasKind.form)
+    (step_at g.I.Stream.reading.units (Ran g.I.Stream.reading g.Q.Parser.does form)
+    (g.G.FoldUnary.folds form) (assert_kind form)
     (calls_of c.places.calls) (calls_of c.turn_step.new.calls) c.in-Some.value
     (g.Q.Parser.state c.places.next) (g.Q.Parser.state c.turn_step.new.next)
     (g.I.Stream.view c.places.input) (g.I.Stream.view c.turn_step.new.input) _ _
@@ -286,11 +287,11 @@ places-smaller g c =
 
 pub places-preserved : goal.places-preserved
 places-preserved g c =
-    let whole = grammar (g.P.Parser.meaning g.E.HasKind.form)
-    (g.Q.Parser.meaning g.E.HasKind.form) (g.G.FoldUnary.folds g.E.HasKind.form)
-    (folding (g.F.FoldUnary.folds g.E.HasKind.form)
-    (g.H.FoldBinary.folds g.E.HasKind.form) g.I.Stream.reading.units
-    (assert_kind g.E.HasKind.form)) in
+    let form = g.E.HasKind.form in
+    let whole = grammar (Ran g.I.Stream.reading g.P.Parser.does form)
+    (Ran g.I.Stream.reading g.Q.Parser.does form) (g.G.FoldUnary.folds form)
+    (folding (g.F.FoldUnary.folds form) (g.H.FoldBinary.folds form) g.I.Stream.reading.units
+    (assert_kind form)) in
     let start : g.P.Parser.State × g.Q.Parser.State =
     (g.P.Parser.state c.args.first.now, g.Q.Parser.state c.args.next.now) in (
       (close_kept whole _ start (g.I.Stream.view c.args.input.now) (calls_of c.places.calls)
@@ -307,8 +308,8 @@ places-preserved g c =
           c.places.left c.in-Some.value
           (g.P.Parser.state c.places.first, g.Q.Parser.state c.places.next)
           (g.I.Stream.view c.places.input) c.places.invariant.0 c.in-Some.is)
-          (step_at g.I.Stream.reading.units (g.Q.Parser.meaning g.E.HasKind.form)
-          (g.G.FoldUnary.folds g.E.HasKind.form) (assert_kind g.E.HasKind.form)
+          (step_at g.I.Stream.reading.units (Ran g.I.Stream.reading g.Q.Parser.does form)
+          (g.G.FoldUnary.folds form) (assert_kind form)
           (calls_of c.places.calls) (calls_of c.turn_step.new.calls) c.in-Some.value
           (g.Q.Parser.state c.places.next) (g.Q.Parser.state c.turn_step.new.next)
           (g.I.Stream.view c.places.input) (g.I.Stream.view c.turn_step.new.input) _ _
@@ -323,11 +324,11 @@ places-preserved g c =
 
 pub returns-in-None-pop-clause-ran : goal.returns-in-None-pop-clause-ran
 returns-in-None-pop-clause-ran g c =
-    let whole = grammar (g.P.Parser.meaning g.E.HasKind.form)
-    (g.Q.Parser.meaning g.E.HasKind.form) (g.G.FoldUnary.folds g.E.HasKind.form)
-    (folding (g.F.FoldUnary.folds g.E.HasKind.form)
-    (g.H.FoldBinary.folds g.E.HasKind.form) g.I.Stream.reading.units
-    (assert_kind g.E.HasKind.form)) in
+    let form = g.E.HasKind.form in
+    let whole = grammar (Ran g.I.Stream.reading g.P.Parser.does form)
+    (Ran g.I.Stream.reading g.Q.Parser.does form) (g.G.FoldUnary.folds form)
+    (folding (g.F.FoldUnary.folds form) (g.H.FoldBinary.folds form) g.I.Stream.reading.units
+    (assert_kind form)) in
     let start : g.P.Parser.State × g.Q.Parser.State =
     (g.P.Parser.state c.args.first.now, g.Q.Parser.state c.args.next.now) in
     call_ends_whole whole c.args.level _ start (g.I.Stream.view c.args.input.now)
@@ -339,8 +340,8 @@ returns-in-None-pop-clause-ran g c =
     c.places.left c.in-Some.value
     (g.P.Parser.state c.places.first, g.Q.Parser.state c.places.next)
     (g.I.Stream.view c.places.input) c.places.invariant.0 c.in-Some.is)
-    (step_at g.I.Stream.reading.units (g.Q.Parser.meaning g.E.HasKind.form)
-    (g.G.FoldUnary.folds g.E.HasKind.form) (assert_kind g.E.HasKind.form) (calls_of c.places.calls)
+    (step_at g.I.Stream.reading.units (Ran g.I.Stream.reading g.Q.Parser.does form)
+    (g.G.FoldUnary.folds form) (assert_kind form) (calls_of c.places.calls)
     (calls_of c.turn_step.new.calls) c.in-Some.value (g.Q.Parser.state c.places.next)
     (g.Q.Parser.state c.turn_step.new.next) (g.I.Stream.view c.places.input)
     (g.I.Stream.view c.turn_step.new.input) _ _ c.in-Ends.is
@@ -352,11 +353,11 @@ returns-in-None-pop-clause-ends g c =
 
 pub returns-in-EndsAll-clause-ran : goal.returns-in-EndsAll-clause-ran
 returns-in-EndsAll-clause-ran g c =
-    let whole = grammar (g.P.Parser.meaning g.E.HasKind.form)
-    (g.Q.Parser.meaning g.E.HasKind.form) (g.G.FoldUnary.folds g.E.HasKind.form)
-    (folding (g.F.FoldUnary.folds g.E.HasKind.form)
-    (g.H.FoldBinary.folds g.E.HasKind.form) g.I.Stream.reading.units
-    (assert_kind g.E.HasKind.form)) in
+    let form = g.E.HasKind.form in
+    let whole = grammar (Ran g.I.Stream.reading g.P.Parser.does form)
+    (Ran g.I.Stream.reading g.Q.Parser.does form) (g.G.FoldUnary.folds form)
+    (folding (g.F.FoldUnary.folds form) (g.H.FoldBinary.folds form) g.I.Stream.reading.units
+    (assert_kind form)) in
     let start : g.P.Parser.State × g.Q.Parser.State =
     (g.P.Parser.state c.args.first.now, g.Q.Parser.state c.args.next.now) in
     all_ends_whole whole c.args.level _ start (g.I.Stream.view c.args.input.now)
@@ -369,8 +370,8 @@ returns-in-EndsAll-clause-ran g c =
     c.places.left c.in-Some.value
     (g.P.Parser.state c.places.first, g.Q.Parser.state c.places.next)
     (g.I.Stream.view c.places.input) c.places.invariant.0 c.in-Some.is)
-    (step_at g.I.Stream.reading.units (g.Q.Parser.meaning g.E.HasKind.form)
-    (g.G.FoldUnary.folds g.E.HasKind.form) (assert_kind g.E.HasKind.form) (calls_of c.places.calls)
+    (step_at g.I.Stream.reading.units (Ran g.I.Stream.reading g.Q.Parser.does form)
+    (g.G.FoldUnary.folds form) (assert_kind form) (calls_of c.places.calls)
     (calls_of c.turn_step.new.calls) c.in-Some.value (g.Q.Parser.state c.places.next)
     (g.Q.Parser.state c.turn_step.new.next) (g.I.Stream.view c.places.input)
     (g.I.Stream.view c.turn_step.new.input) _ _ c.in-EndsAll.is
@@ -382,10 +383,11 @@ returns-in-EndsAll-clause-ends g c =
 
 pub places-init : goal.places-init
 places-init g c =
-    let whole = grammar (g.P.Parser.meaning g.E.HasKind.form) (g.Q.Parser.meaning g.E.HasKind.form)
-    (g.G.FoldUnary.folds g.E.HasKind.form) (folding (g.F.FoldUnary.folds g.E.HasKind.form)
-    (g.H.FoldBinary.folds g.E.HasKind.form) g.I.Stream.reading.units
-    (assert_kind g.E.HasKind.form)) in
+    let form = g.E.HasKind.form in
+    let whole = grammar (Ran g.I.Stream.reading g.P.Parser.does form)
+    (Ran g.I.Stream.reading g.Q.Parser.does form) (g.G.FoldUnary.folds form)
+    (folding (g.F.FoldUnary.folds form) (g.H.FoldBinary.folds form) g.I.Stream.reading.units
+    (assert_kind form)) in
     let start : g.P.Parser.State × g.Q.Parser.State =
     (g.P.Parser.state c.args.first.now, g.Q.Parser.state c.args.next.now) in (
       stands_start whole _ _ _ start (g.I.Stream.view c.args.input.now)

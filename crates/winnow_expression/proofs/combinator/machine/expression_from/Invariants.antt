@@ -1,3 +1,4 @@
+use Rattle.parser_definitions.specs.Does.{Ran}
 use Rattle.std.proofs.Common.{reverse}
 use Rattle.winnow_expression.specs.Grammar.{folding, grammar}
 use Rattle.streams.specs.Input.{IsEndOf}
@@ -9,7 +10,8 @@ use Rattle.winnow_expression.proofs.combinator.machine.expression_from.Given as 
 
 abbrev pub invariant-places : goal.invariant-places
 invariant-places g l =
-    Invariant (grammar (g.P.Parser.meaning g.E.HasKind.form) (g.Q.Parser.meaning g.E.HasKind.form)
+    Invariant (grammar (Ran g.I.Stream.reading g.P.Parser.does g.E.HasKind.form)
+    (Ran g.I.Stream.reading g.Q.Parser.does g.E.HasKind.form)
     (g.G.FoldUnary.folds g.E.HasKind.form)
     (folding (g.F.FoldUnary.folds g.E.HasKind.form)
     (g.H.FoldBinary.folds g.E.HasKind.form) g.I.Stream.reading.units

@@ -11,7 +11,7 @@ returns-in-Ok-clause-ran g c =
       (
         c.in-Prefix.fold,
         search rules depth 1,
-        ends_fewer g.I.Stream.reading _ _ c.in_ok-value.ensures.ends (omega arith),
+        ends_fewer g.I.Stream.reading _ _ c.in_ok-value.ensures.ran.0 (omega arith),
         refl,
       ),
       search rules depth 1,
@@ -28,7 +28,7 @@ returns-in-Err-clause-ran g c =
         (
           c.in-Prefix.fold,
           search rules depth 1,
-          ends_fewer g.I.Stream.reading _ _ c.in_ok-value.ensures.ends (omega arith),
+          ends_fewer g.I.Stream.reading _ _ c.in_ok-value.ensures.ran.0 (omega arith),
           refl,
         ),
         refl,

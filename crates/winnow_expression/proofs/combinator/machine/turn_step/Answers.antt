@@ -1,3 +1,4 @@
+use Rattle.parser_definitions.specs.Does.{Ran}
 use Rattle.stream_errors.specs.Form.{assert_kind}
 use Rattle.std.proofs.Common.{rules, refl}
 use Rattle.winnow_expression.specs.Calls.{calls_of}
@@ -6,7 +7,7 @@ use Rattle.winnow_expression.proofs.combinator.machine.turn_step.Goals as goal
 
 pub returns-in_err-parse_next-clause-ran : goal.returns-in_err-parse_next-clause-ran
 returns-in_err-parse_next-clause-ran g c =
-    fails_step g.I.Stream.reading.units (g.Q.Parser.meaning g.E.HasKind.form)
+    fails_step g.I.Stream.reading.units (Ran g.I.Stream.reading g.Q.Parser.does g.E.HasKind.form)
     (g.G.FoldUnary.folds g.E.HasKind.form) (assert_kind g.E.HasKind.form)
     (calls_of c.args.calls.now)
     c.args.left _ _ _ _ _ (g.E.HasKind.kind c.in_err-parse_next.field-0.0)
@@ -14,14 +15,14 @@ returns-in_err-parse_next-clause-ran g c =
 
 pub returns-in-Nothing-clause-ran : goal.returns-in-Nothing-clause-ran
 returns-in-Nothing-clause-ran g c =
-    nothing_step g.I.Stream.reading.units (g.Q.Parser.meaning g.E.HasKind.form)
+    nothing_step g.I.Stream.reading.units (Ran g.I.Stream.reading g.Q.Parser.does g.E.HasKind.form)
     (g.G.FoldUnary.folds g.E.HasKind.form) (assert_kind g.E.HasKind.form)
     (calls_of c.args.calls.now)
     c.args.left _ _ _ _ _ (search rules depth 1) refl
 
 pub returns-in-Postfix-clause-ran : goal.returns-in-Postfix-clause-ran
 returns-in-Postfix-clause-ran g c =
-    postfix_step g.I.Stream.reading.units (g.Q.Parser.meaning g.E.HasKind.form)
+    postfix_step g.I.Stream.reading.units (Ran g.I.Stream.reading g.Q.Parser.does g.E.HasKind.form)
     (g.G.FoldUnary.folds g.E.HasKind.form) (assert_kind g.E.HasKind.form)
     (calls_of c.args.calls.now)
     c.in-Postfix.power _ _ c.in-Postfix.fold _ _ c.args.left
@@ -33,7 +34,7 @@ returns-in-Postfix-clause-ran g c =
 
 pub returns-clause-ran : goal.returns-clause-ran
 returns-clause-ran g c =
-    infix_step g.I.Stream.reading.units (g.Q.Parser.meaning g.E.HasKind.form)
+    infix_step g.I.Stream.reading.units (Ran g.I.Stream.reading g.Q.Parser.does g.E.HasKind.form)
     (g.G.FoldUnary.folds g.E.HasKind.form) (assert_kind g.E.HasKind.form)
     (calls_of c.args.calls.now)
     _ c.in-Infix.operator _ _ c.args.left

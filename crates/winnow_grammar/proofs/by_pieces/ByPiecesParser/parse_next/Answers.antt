@@ -8,6 +8,3 @@ returns-clause-again g c =
 
 pub returns-clause-ran : goal.returns-clause-ran
 returns-clause-ran g c = pieces_ran c.run.ensures c.requires.1
-
-pub returns-clause-ends : goal.returns-clause-ends
-returns-clause-ends g c = (pieces_ran c.run.ensures c.requires.1).0.ends

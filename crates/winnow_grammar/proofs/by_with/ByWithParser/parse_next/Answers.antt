@@ -1,6 +1,7 @@
 use denote.Param.Always.{mut_next}
 use Rattle.std.proofs.Common.{refl}
 use Rattle.winnow_grammar.specs.Rule.{read_again}
+use Rattle.winnow_grammar.proofs.CallLemmas.{called_ran}
 use Rattle.winnow_grammar.proofs.by_with.ByWithParser.parse_next.Goals as goal
 
 pub returns-clause-again : goal.returns-clause-again
@@ -18,40 +19,8 @@ returns-clause-again g c = (
 )
 
 pub returns-clause-ran : goal.returns-clause-ran
-returns-clause-ran g c = (
-  (
-    (
-      _,
-      _,
-      _,
-      record {
-        shown = _;
-        shows = refl;
-        left = _;
-        called = c.run.ensures;
-        kept = refl;
-        leaves = refl;
-      },
-      refl,
-      refl,
-      refl,
-    ),
-    (c.requires.1.reads _ _ _ _
-        (record {
-          shown = _;
-          shows = refl;
-          left = _;
-          called = c.run.ensures;
-          kept = refl;
-          leaves = refl;
-        })).ends,
-  ),
-  refl,
-)
-
-pub returns-clause-ends : goal.returns-clause-ends
-returns-clause-ends g c =
-    (c.requires.1.reads _ _ _ _
+returns-clause-ran g c =
+    called_ran c.requires.1 c.args.self.now.rule g.E.HasKind.form _ _ _ _
     (record {
       shown = _;
       shows = refl;
@@ -59,4 +28,4 @@ returns-clause-ends g c =
       called = c.run.ensures;
       kept = refl;
       leaves = refl;
-    })).ends
+    })

@@ -4,7 +4,6 @@ use Rattle.winnow_grammar.proofs.pieces.ReadsPieces.read_cut.Goals as goal
 pub returns-clause-reads : goal.returns-clause-reads
 returns-clause-reads g c =
     let claimed = g.met.Self.Parser.claimed (g.Self.Parser.state c.args.self.now) in
-    told_or_asked g.I.Stream.reading g.E.HasKind.kind g.Self.Parser.meaning
-    g.met.Self.Parser.covers (g.met.Self.Parser.lawful c.requires.lawful) c.requires.stable
-    (λ at. claimed.projects at c.requires.premise) c.requires.backtracks c.requires.modal _
-    c.read_outcome.result _ _ c.read_outcome.ensures.tells.ran.0 c.read_outcome.ensures.ran
+    told_or_asked g.I.Stream.reading g.E.HasKind.kind (g.met.Self.Parser.lawful c.requires.lawful)
+    c.requires.stable (λ at. claimed.projects at c.requires.premise) c.requires.backtracks
+    c.requires.modal _ c.read_outcome.result _ _ c.read_outcome.ensures.ran

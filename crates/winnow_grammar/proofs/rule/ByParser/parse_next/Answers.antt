@@ -1,4 +1,5 @@
-use Rattle.winnow_grammar.proofs.CallLemmas.{call_again, call_ends, call_ran, reads_again}
+use Rattle.std.proofs.Common.{refl}
+use Rattle.winnow_grammar.proofs.CallLemmas.{call_again, called_ran, reads_again}
 use Rattle.winnow_grammar.proofs.rule.ByParser.parse_next.Goals as goal
 
 pub returns-clause-again : goal.returns-clause-again
@@ -6,7 +7,6 @@ returns-clause-again g c =
     (search (call_again, c.requires.0), search (reads_again, c.requires.1))
 
 pub returns-clause-ran : goal.returns-clause-ran
-returns-clause-ran g c = search (call_ran, c.requires.1)
-
-pub returns-clause-ends : goal.returns-clause-ends
-returns-clause-ends g c = search (call_ends, c.requires.1)
+returns-clause-ran g c =
+    called_ran c.requires.1 c.args.self.now.rule g.E.HasKind.form _ _ _ _
+    (record { shown = _; shows = refl; left = _; called = c.run.ensures; leaves = refl })

@@ -1,4 +1,0 @@
-use Rattle.winnow_laws.proofs.laws.compositions.separated_sequences_match_their_derivation.Goals as goal
-
-pub returns : goal.returns
-returns g c = λ s i answer t j. (λ r. r, λ r. r)
