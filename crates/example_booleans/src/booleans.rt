@@ -8,13 +8,11 @@ ghost use Rattle.streams.specs.Bytes.{bytes_input, bytes_reading};
 ghost use Rattle.streams.specs.Input.{IsEndOf};
 ghost use Rattle.streams.specs.Kind.{backtrack, memory};
 ghost use Rattle.stream_errors.specs.Form.{answer_by};
-ghost use Rattle.winnow_core.specs.Runs.{Keeps};
-ghost use Rattle.winnow_expression_trees.specs.Items.{Gives, ItemRuns, ReadsItems};
+ghost use Rattle.winnow_expression_trees.specs.Items.{Gives, ItemDoes, ReadsItems};
 ghost use Rattle.winnow_expression_trees.specs.Items.Premises.{gives_ends};
 ghost use Rattle.example_booleans.specs.Booleans.{ByteItem, LacksOperand, infix_at, logic_value};
 ghost use Rattle.example_booleans.specs.Booleans.{not_value, operand_at, postfix_at, prefix_at};
-ghost use Rattle.example_booleans.specs.Booleans.Laws.{byte_ends};
-ghost use Rattle.winnow_core.specs.Covers.{AnyOutcome, any_covered, no_terms};
+ghost use Rattle.winnow_core.specs.Covers.{no_terms};
 
 use std::alloc::Allocator;
 use stream_errors::empty::EmptyError;
@@ -60,8 +58,7 @@ impl<I: Stream, E: ParserError<I>> FoldUnary<I, bool, E> for Not {
 impl<I: Stream, E: ParserError<I>> FoldBinary<I, bool, E> for Logic {
     ghost folds = { λ form f i v w a j. Gives (logic_value f v w) i a j };
 
-    ghost leaves_ends = { λ form f i v w a j r. gives_ends I.reading (logic_value f v w)
-        i j a r };
+    ghost leaves_ends = { λ form f i v w a j r. gives_ends I.reading (logic_value f v w) i j a r };
 
     fn apply(&self, input: &mut I, left: bool, right: bool) -> Result<bool, E> {
         match self {
@@ -126,17 +123,11 @@ impl<'i> Parser<&'i [u8], bool, EmptyError> for Part {
 
     ghost state = { λ _. tt };
 
-    ghost meaning = { λ _. Keeps (λ _. ItemRuns (ByteItem operand_at)) };
-
-    ghost does = { AnyOutcome };
+    ghost does = { ItemDoes (ByteItem operand_at) };
 
     ghost terms = { no_terms };
 
     ghost claim = { λ _. no_claim };
-
-    ghost leaves_ends = { λ form s i a t j r. byte_ends operand_at i j a r.0 };
-
-    ghost covers = { λ at. any_covered (λ s i a t j r. byte_ends operand_at i j a r.0) };
 
     ghost lawful = { λ never. absurd never };
 
@@ -162,17 +153,11 @@ impl<'i> Parser<&'i [u8], Prefix<Not>, EmptyError> for Part {
 
     ghost state = { λ _. tt };
 
-    ghost meaning = { λ _. Keeps (λ _. ItemRuns (ByteItem prefix_at)) };
-
-    ghost does = { AnyOutcome };
+    ghost does = { ItemDoes (ByteItem prefix_at) };
 
     ghost terms = { no_terms };
 
     ghost claim = { λ _. no_claim };
-
-    ghost leaves_ends = { λ form s i a t j r. byte_ends prefix_at i j a r.0 };
-
-    ghost covers = { λ at. any_covered (λ s i a t j r. byte_ends prefix_at i j a r.0) };
 
     ghost lawful = { λ never. absurd never };
 
@@ -198,17 +183,11 @@ impl<'i> Parser<&'i [u8], Postfix<Not>, EmptyError> for Part {
 
     ghost state = { λ _. tt };
 
-    ghost meaning = { λ _. Keeps (λ _. ItemRuns (ByteItem postfix_at)) };
-
-    ghost does = { AnyOutcome };
+    ghost does = { ItemDoes (ByteItem postfix_at) };
 
     ghost terms = { no_terms };
 
     ghost claim = { λ _. no_claim };
-
-    ghost leaves_ends = { λ form s i a t j r. byte_ends postfix_at i j a r.0 };
-
-    ghost covers = { λ at. any_covered (λ s i a t j r. byte_ends postfix_at i j a r.0) };
 
     ghost lawful = { λ never. absurd never };
 
@@ -234,17 +213,11 @@ impl<'i> Parser<&'i [u8], Infix<Logic>, EmptyError> for Part {
 
     ghost state = { λ _. tt };
 
-    ghost meaning = { λ _. Keeps (λ _. ItemRuns (ByteItem infix_at)) };
-
-    ghost does = { AnyOutcome };
+    ghost does = { ItemDoes (ByteItem infix_at) };
 
     ghost terms = { no_terms };
 
     ghost claim = { λ _. no_claim };
-
-    ghost leaves_ends = { λ form s i a t j r. byte_ends infix_at i j a r.0 };
-
-    ghost covers = { λ at. any_covered (λ s i a t j r. byte_ends infix_at i j a r.0) };
 
     ghost lawful = { λ never. absurd never };
 

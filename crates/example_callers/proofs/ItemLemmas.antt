@@ -5,9 +5,8 @@ use Rattle.winnow.specs.Iterator.{IteratorState, IteratorStops, done, finish_ans
 use Rattle.winnow.specs.Iterator.{stopped}
 use Rattle.winnow.specs.Iterator.Inversion.{finish_failed, finish_succeeded}
 use Rattle.winnow.specs.Kind.{Kind, backtrack}
-use Rattle.winnow.specs.Repeat.Inversion.{Items}
 use Rattle.winnow.specs.Runs.{Runs}
-use Rattle.example_callers.specs.Items.{EndsAfterChain, FailsAfterChain}
+use Rattle.example_callers.specs.Items.{EndsAfterChain, FailsAfterChain, Items}
 
 -- no error at last: it backtracked
 pub ends_told : {S T O : Type 0} (run : Runs S T O) (assert_kind : Kind) (u v : IteratorState S T)

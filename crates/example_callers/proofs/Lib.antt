@@ -1,3 +1,4 @@
+pub mod ChoiceLemmas
 pub mod FoldLemmas
 pub mod ItemLemmas
 pub mod ListLemmas

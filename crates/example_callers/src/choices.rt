@@ -1,12 +1,13 @@
-//! Examples of choices: the state of borrowed branches after a choice, and the grammar of one.
+//! Examples of choices: among borrowed branches, and by a grammar.
 #![tactic(auto)]
 
-ghost use Rattle.std.specs.Prelude.{◌≡◌, [], map};
+ghost use Rattle.winnow.specs.Does.{Ran};
+ghost use Rattle.std.specs.Prelude.{◌≡◌, List, [], map};
 ghost use Rattle.std.specs.List.{All};
 ghost use Rattle.example_callers.specs.Words.{Sign};
 ghost use Rattle.winnow.specs.Bytes.{bytes_input, bytes_reading};
-ghost use Rattle.winnow.specs.Form.{answer_by, assert_kind};
-ghost use Rattle.winnow.specs.Alt.Slice.{AltSliceRuns};
+ghost use Rattle.winnow.specs.Form.{answer_by};
+ghost use Rattle.winnow.specs.AltMany.{ChoiceDoes};
 ghost use Rattle.winnow.specs.Exact.{Reads};
 ghost use Rattle.winnow.specs.Grammar.FirstOf.{FirstOf};
 
@@ -15,14 +16,15 @@ use winnow::combinator::alt;
 use winnow::error::{EmptyError, HasKind, ParserError};
 use winnow::stream::Stream;
 
-/// Chooses among branches that stay with their owner, who learns the new state of each.
+/// Chooses among branches that stay with their owner. The outcome is that of a choice among their
+/// states.
 pub fn choose_among<P: Parser<I, O, E>, I: Stream, O, E: ParserError<I>>(
     branches: &mut [P],
     input: &mut I,
 ) -> Result<O, E>
     requires { All P.can_parse branches.old }
-    ensures { AltSliceRuns (P.meaning E.form) (assert_kind E.form) (map P.state branches.old)
-        (I.view input.old) (answer_by E.kind result) (map P.state branches.new)
+    ensures { (t : List P.State) × Ran I.reading (ChoiceDoes P.does) E.form
+        (map P.state branches.old) (I.view input.old) (answer_by E.kind result) t
         (I.view input.new) }
 {
     alt(&mut *branches).parse_next(input)

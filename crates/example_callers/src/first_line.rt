@@ -1,6 +1,7 @@
 //! A first line in use: what its parsers read, in words of bytes.
 #![tactic(auto)]
 
+ghost use Rattle.winnow.specs.Does.{Ran};
 ghost use Rattle.std.specs.Prelude.{◌≡◌, true};
 ghost use Rattle.example_callers.specs.FirstLine.{IsFirstLine};
 ghost use Rattle.winnow.specs.Bytes.{bytes_input, bytes_reading};
@@ -55,7 +56,8 @@ type Error = ErrMode<EmptyError>;
 pub fn first_line_partial<'i>(input: &mut Partial<&'i str>) -> Result<&'i str, ErrMode<EmptyError>>
     requires is_partial { (⟦<Text as Stream>⟧.view input.old).status.cut ≡ true }
     ensures same { SameOnLonger
-        (⟦<TillLineEnding as Parser<Text, &'static str, Error>>⟧.meaning modal)
+        (Ran ⟦<Text as Stream>⟧.reading
+        ⟦<TillLineEnding as Parser<Text, &'static str, Error>>⟧.does modal)
         (λ line other. line.now ≡ other.now) tt (⟦<Text as Stream>⟧.view input.old)
         (answer_by ⟦<Error as HasKind>⟧.kind result) tt (⟦<Text as Stream>⟧.view input.new) }
 {

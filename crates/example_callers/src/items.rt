@@ -1,13 +1,13 @@
 //! Iterators in use: what is known of the items of a loop, and of the input after it.
 #![tactic(auto)]
 
+ghost use Rattle.winnow.specs.Does.{Ran};
 ghost use Rattle.std.specs.Prelude.{◌≡◌, false, List, [], IfErr, IfOk};
 ghost use Rattle.winnow.specs.Form.{assert_kind};
 ghost use Rattle.winnow.specs.Input.{Input, IsEndOf};
 ghost use Rattle.winnow.specs.Fault.{IsFaultAt};
 ghost use Rattle.winnow.specs.ParseIter.Inversion.{IsErrorAfterItems};
-ghost use Rattle.winnow.specs.Repeat.Inversion.{Items};
-ghost use Rattle.example_callers.specs.Items.{EndsAfterChain, FailsAfterChain, IsLastOf};
+ghost use Rattle.example_callers.specs.Items.{EndsAfterChain, FailsAfterChain, IsLastOf, Items};
 
 use winnow::Parser;
 use winnow::combinator::impls::ParseIter;
@@ -24,11 +24,11 @@ pub fn last_item<P: Parser<I, O, E> + Drop, I: Stream, O: Drop, E: ParserError<I
 ) -> Result<Option<O>, E>
     requires { P.can_parse parser }
     ensures last { IfOk result (λ last. (outputs : List O)
-        × EndsAfterChain (P.meaning E.form) (P.state parser) (I.view input.old) outputs
+        × EndsAfterChain (Ran I.reading P.does E.form) (P.state parser) (I.view input.old) outputs
         (I.view input.new)
         × IsLastOf outputs last) }
     ensures fails { IfErr result (λ error. (outputs : List O)
-        × FailsAfterChain (P.meaning E.form) (assert_kind E.form) (P.state parser)
+        × FailsAfterChain (Ran I.reading P.does E.form) (assert_kind E.form) (P.state parser)
         (I.view input.old) outputs (E.kind error) (I.view input.new)) }
     ensures ends { IsEndOf I.reading (I.view input.new) (I.view input.old) }
 {
@@ -52,10 +52,10 @@ pub fn last_of_all<P: Parser<I, O, E>, I: StreamIsPartial, O: Drop, E: ParserErr
     requires callable { P.can_parse parser.old }
     requires whole { I.supports_partial ≡ false }
     ensures last { IfOk result (λ last. (outputs : List O) × (u : P.State) × (m : Input I.Seen)
-        × Items (P.meaning E.form) (P.state parser.old) (I.view input) outputs u m
+        × Items (Ran I.reading P.does E.form) (P.state parser.old) (I.view input) outputs u m
         × (m.left.tokens ≡ []) × IsLastOf outputs last) }
     ensures refused { IfErr result (λ fault. (outputs : List O)
-        × IsErrorAfterItems (P.meaning E.form) (assert_kind E.form)
+        × IsErrorAfterItems (Ran I.reading P.does E.form) (assert_kind E.form)
         (IsFaultAt I.view I.reading.units E.inner_kind) (P.state parser.old) (I.view input)
         outputs fault) }
 {

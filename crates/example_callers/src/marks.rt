@@ -1,4 +1,5 @@
 //! A byte, with which a closure that may change is called, and another byte.
+ghost use Rattle.winnow.specs.Does.{Ran};
 ghost use Rattle.std.specs.Prelude.{◌≡◌, true};
 ghost use Rattle.example_callers.specs.Marks.{CountsOne, ReadsMarks, StepsOnce};
 ghost use Rattle.winnow.specs.Form.{answer_by, modal};
@@ -38,7 +39,8 @@ pub fn read_marks<G: FnMut(u8) -> u64>(
         (⟦<Marks<G> as Parser<Bytes, (u64, u8), Error>>⟧.state parser.new).0.1
         (⟦<Bytes as Stream>⟧.view input.new).left.tokens }
     ensures same { SameOnLonger
-        (⟦<Marks<G> as Parser<Bytes, (u64, u8), Error>>⟧.meaning modal) (λ o p. o ≡ p)
+        (Ran ⟦<Bytes as Stream>⟧.reading
+        ⟦<Marks<G> as Parser<Bytes, (u64, u8), Error>>⟧.does modal) (λ o p. o ≡ p)
         (⟦<Marks<G> as Parser<Bytes, (u64, u8), Error>>⟧.state parser.old)
         (⟦<Bytes as Stream>⟧.view input.old) (answer_by ⟦<Error as HasKind>⟧.kind result)
         (⟦<Marks<G> as Parser<Bytes, (u64, u8), Error>>⟧.state parser.new)

@@ -1,6 +1,7 @@
 //! Numbers in use: a concrete parser on a complete partial stream.
 #![tactic(auto)]
 
+ghost use Rattle.winnow.specs.Does.{Ran};
 ghost use Rattle.winnow.specs.Form.{answer_by};
 
 use std::alloc::Allocator;
@@ -33,7 +34,7 @@ where
     F: ParserError<Partial<I>>,
     A: Allocator + Copy,
     ensures { (t : ⟦<Numbers<I, E, A> as Parser<I, (), E>>⟧.State)
-        × ⟦<Numbers<I, E, A> as Parser<I, (), E>>⟧.meaning F.form
+        × Ran I.reading ⟦<Numbers<I, E, A> as Parser<I, (), E>>⟧.does F.form
         (⟦<Numbers<Partial<I>, F, A> as Parser<Partial<I>, (), F>>⟧.state numbers.old)
         (⟦<Partial<I> as Stream>⟧.view input.old) (answer_by F.kind result)
         t (⟦<Partial<I> as Stream>⟧.view input.new) }

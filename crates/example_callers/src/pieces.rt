@@ -1,6 +1,7 @@
 //! Parsers of partial input. Each returns `Incomplete`, is out of memory, or has a result that
 //! every longer input has too, from the same state: an equal output (`alike` of the parser), or an
 //! error of the same kind.
+ghost use Rattle.winnow.specs.Does.{Ran};
 ghost use Rattle.std.specs.Prelude.{◌≡◌, true, ℕ, ⊤};
 ghost use Rattle.winnow.specs.Form.{answer_by, modal};
 ghost use Rattle.winnow.specs.Longer.{EachSameOnLonger, SameOnLonger};
@@ -29,7 +30,7 @@ where
     requires is_cut { (I.view input.old).status.cut ≡ true }
     requires readable { (I.view input.old).left.possible ≡ true }
     ensures same { (t : ⊤ × ℕ × ⊤ × ⊤) × SameOnLonger
-        (⟦<Field as Parser<I, (u8, u8, I::Slice, I::Slice), E>>⟧.meaning E.form)
+        (Ran I.reading ⟦<Field as Parser<I, (u8, u8, I::Slice, I::Slice), E>>⟧.does E.form)
         ⟦<Field as Parser<I, (u8, u8, I::Slice, I::Slice), E>>⟧.terms.alike (tt, 58, tt, tt)
         (I.view input.old) (answer_by E.kind result) t (I.view input.new) }
 {
@@ -51,7 +52,8 @@ where
     ensures { E.form ≡ modal
         → ⟦<Numbers<I, E, A> as Parser<I, Vec<u8, A>, E>>⟧.terms.premise
         → ⟦<Numbers<I, E, A> as Parser<I, Vec<u8, A>, E>>⟧.terms.stable
-        → EachSameOnLonger (⟦<Numbers<I, E, A> as Parser<I, Vec<u8, A>, E>>⟧.meaning E.form)
+        → EachSameOnLonger
+        (Ran I.reading ⟦<Numbers<I, E, A> as Parser<I, Vec<u8, A>, E>>⟧.does E.form)
         ⟦<Numbers<I, E, A> as Parser<I, Vec<u8, A>, E>>⟧.terms.alike }
 {
     longer_inputs_get_partial_results::<Numbers<I, E, A>, I, Vec<u8, A>, E>();
@@ -74,7 +76,7 @@ pub fn bracketed<
     requires is_cut { (I.view input.old).status.cut ≡ true }
     requires readable { (I.view input.old).left.possible ≡ true }
     ensures same { (t : ℕ × P.State × ℕ × ⊤) × SameOnLonger
-        (⟦<Bracketed<P> as Parser<I, (u8, O, u8, I::Slice), E>>⟧.meaning E.form)
+        (Ran I.reading ⟦<Bracketed<P> as Parser<I, (u8, O, u8, I::Slice), E>>⟧.does E.form)
         ⟦<Bracketed<P> as Parser<I, (u8, O, u8, I::Slice), E>>⟧.terms.alike
         (91, P.state inner, 93, tt) (I.view input.old) (answer_by E.kind result) t
         (I.view input.new) }
@@ -88,7 +90,7 @@ pub fn token_kept<I: StreamIsPartial, E: ParserError<I>>(input: &mut I) -> Resul
     requires modal { E.form ≡ modal }
     requires is_cut { (I.view input.old).status.cut ≡ true }
     requires readable { (I.view input.old).left.possible ≡ true }
-    ensures same { SameOnLonger (⟦<Any as Parser<I, I::Token, E>>⟧.meaning E.form)
+    ensures same { SameOnLonger (Ran I.reading ⟦<Any as Parser<I, I::Token, E>>⟧.does E.form)
         ⟦<Any as Parser<I, I::Token, E>>⟧.terms.alike tt (I.view input.old)
         (answer_by E.kind result) tt (I.view input.new) }
 {

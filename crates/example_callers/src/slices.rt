@@ -2,6 +2,7 @@
 //! followed by the rest is the input.
 #![tactic(auto)]
 
+ghost use Rattle.winnow.specs.Does.{Ran};
 ghost use Rattle.std.specs.Prelude.{⊤, ◌≡◌, ◌++◌, ℕ, IfOk};
 ghost use Rattle.std.specs.Str.{chars};
 ghost use Rattle.winnow.specs.Form.{answer_by, modal};
@@ -49,8 +50,9 @@ type EscapedLetters = TakeEscaped<Alpha1, u8, Any, Bytes, Slice, u8, u8, Error>;
 /// assert_eq!(rt; bytes_of_time(&mut input), Ok(b"12:30".as_slice()));
 /// ```
 pub fn bytes_of_time<'i>(input: &mut Partial<&'i [u8]>) -> Result<&'i [u8], ErrMode<EmptyError>>
-    ensures ran { (t : ⊤ × ℕ × ⊤) × ⟦<TimeSlice as Parser<Bytes, Slice, Error>>⟧.meaning
-        modal (tt, 58, tt) (⟦<Bytes as Stream>⟧.view input.old)
+    ensures ran { (t : ⊤ × ℕ × ⊤) × Ran ⟦<Bytes as Stream>⟧.reading
+        ⟦<TimeSlice as Parser<Bytes, Slice, Error>>⟧.does modal (tt, 58, tt)
+        (⟦<Bytes as Stream>⟧.view input.old)
         (answer_by ⟦<Error as HasKind>⟧.kind result) t (⟦<Bytes as Stream>⟧.view input.new) }
     ensures splits { IfOk result (λ time. (⟦<Bytes as Stream>⟧.view input.old).left.tokens
         ≡ time.now ++ (⟦<Bytes as Stream>⟧.view input.new).left.tokens) }
@@ -76,7 +78,8 @@ pub fn bytes_of_time<'i>(input: &mut Partial<&'i [u8]>) -> Result<&'i [u8], ErrM
 pub fn number_and_text<'i>(
     input: &mut Partial<&'i str>,
 ) -> Result<(u32, &'i str), ErrMode<EmptyError>>
-    ensures ran { ⟦<NumberAndText as Parser<Text, (u32, &'static str), Error>>⟧.meaning modal tt
+    ensures ran { Ran ⟦<Text as Stream>⟧.reading
+        ⟦<NumberAndText as Parser<Text, (u32, &'static str), Error>>⟧.does modal tt
         (⟦<Text as Stream>⟧.view input.old) (answer_by ⟦<Error as HasKind>⟧.kind result) tt
         (⟦<Text as Stream>⟧.view input.new) }
     ensures splits { IfOk result (λ both. (⟦<Text as Stream>⟧.view input.old).left.tokens
@@ -101,8 +104,10 @@ pub fn number_and_text<'i>(
 /// assert_eq!(rt; escaped_letters(&mut input), Ok(b"a\\;b".as_slice()));
 /// ```
 pub fn escaped_letters<'i>(input: &mut Partial<&'i [u8]>) -> Result<&'i [u8], ErrMode<EmptyError>>
-    ensures ran { (t : ⊤ × ℕ × ⊤) × ⟦<EscapedLetters as Parser<Bytes, Slice, Error>>⟧.meaning
-        modal (tt, 92, tt) (⟦<Bytes as Stream>⟧.view input.old)
+    ensures ran { (t : ⊤ × ℕ × ⊤)
+        × Ran ⟦<Bytes as Stream>⟧.reading
+        ⟦<EscapedLetters as Parser<Bytes, Slice, Error>>⟧.does modal (tt, 92, tt)
+        (⟦<Bytes as Stream>⟧.view input.old)
         (answer_by ⟦<Error as HasKind>⟧.kind result) t (⟦<Bytes as Stream>⟧.view input.new) }
     ensures splits { IfOk result (λ letters. (⟦<Bytes as Stream>⟧.view input.old).left.tokens
         ≡ letters.now ++ (⟦<Bytes as Stream>⟧.view input.new).left.tokens) }

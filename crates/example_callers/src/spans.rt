@@ -1,4 +1,5 @@
 //! A token, with which a closure is called, and its span.
+ghost use Rattle.winnow.specs.Does.{Ran};
 ghost use Rattle.std.specs.Prelude.{◌≡◌, true};
 ghost use Rattle.winnow.specs.EqualDefinition.{AlikePairs, MadeAlike, StepsAlike};
 ghost use Rattle.winnow.specs.Form.{answer_by, modal};
@@ -34,7 +35,7 @@ pub fn read_spanned<G: FnMut(I::Token) -> O, I: Location + StreamIsPartial, O, E
     requires is_partial { (I.view input.old).status.cut ≡ true }
     requires readable { (I.view input.old).left.possible ≡ true }
     ensures same { SameOnLonger
-        (⟦<Spanned<G, I, I::Token, O, E> as Parser<I, Placed<O>, E>>⟧.meaning E.form)
+        (Ran I.reading ⟦<Spanned<G, I, I::Token, O, E> as Parser<I, Placed<O>, E>>⟧.does E.form)
         (AlikePairs (MadeAlike (SeenSame I.seen_as) G.step) (λ u v. u ≡ v))
         (⟦<Spanned<G, I, I::Token, O, E> as Parser<I, Placed<O>, E>>⟧.state parser.old)
         (I.view input.old) (answer_by E.kind result)

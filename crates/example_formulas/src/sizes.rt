@@ -5,14 +5,14 @@ ghost use Rattle.std.specs.Prelude.{◌≡◌, MatchOption, pos, ℕ};
 ghost use Rattle.winnow.specs.Form.{answer_by, plain};
 ghost use Rattle.winnow.specs.Bytes.{bytes_input, bytes_reading};
 ghost use Rattle.winnow.specs.Input.{IsEndOf};
-ghost use Rattle.winnow.specs.Kind.{backtrack};
 ghost use Rattle.example_formulas.specs.Sizes.{HasOneTree, SizeStates, marks_of, sign_marks};
 ghost use Rattle.example_formulas.specs.Sizes.{sign_value, size_states, unit_marks, unit_value};
-ghost use Rattle.winnow.specs.Parts.{parts_grammar};
+ghost use Rattle.winnow.specs.Did.{Did};
+ghost use Rattle.winnow.specs.Parts.{did_grammar};
 ghost use Rattle.winnow.specs.Items.{Gives};
 ghost use Rattle.winnow.specs.Items.Premises.{gives_ends};
 ghost use Rattle.winnow.specs.OneTree.{IsTheOneTree};
-ghost use Rattle.winnow.specs.Premises.Decided.{Stays};
+ghost use Rattle.winnow.specs.Premises.Decided.{Moves, Stays};
 
 use std::alloc::Allocator;
 use winnow::Parser;
@@ -122,13 +122,20 @@ fn sign_clones_are_equal()
 
 /// States that a call of the parser of a number keeps its state and the input's status.
 fn a_number_stays<O: Uint>()
-    ensures { Stays (⟦<DecUint as Parser<Bytes, O, EmptyError>>⟧.meaning plain) tt }
+    ensures { Stays (Did ⟦<DecUint as Parser<Bytes, O, EmptyError>>⟧.does plain) tt }
 {}
 
-/// States that so does a call of two marks, unless it is out of memory.
+/// States that a number consumes input if it is returned.
+fn a_number_consumes<O: Uint>()
+    ensures { Moves bytes_reading.units (Did ⟦<DecUint as Parser<Bytes, O, EmptyError>>⟧.does
+        plain) tt }
+{}
+
+/// States that a call of two marks keeps its state and the input's status, unless it is out of
+/// memory.
 fn marks_stay<O: Clone>()
     ensures { (x : ℕ) (y : ℕ) (u : O) (v : O)
-        → Stays (⟦<Marks<Bytes, O> as Parser<Bytes, O, EmptyError>>⟧.meaning plain)
+        → Stays (Did ⟦<Marks<Bytes, O> as Parser<Bytes, O, EmptyError>>⟧.does plain)
         ((x, u), (y, v)) }
 {}
 
@@ -166,15 +173,14 @@ fn signs<'i>() -> Marks<&'i [u8], Infix<Sign>>
 /// assert_eq!(rt; input, b";".as_slice());
 /// ```
 pub fn read_size<'i, A: Allocator + Copy>(alloc: A, input: &mut &'i [u8]) -> Result<u32, EmptyError>
-    ensures reads { (t : SizeStates) × IsTheOneTree (parts_grammar bytes_reading.units backtrack
-        (⟦<DecUint as Parser<Bytes, u32, EmptyError>>⟧.meaning plain)
-        (⟦<Fail as Parser<Bytes, Prefix<NoFold>, EmptyError>>⟧.meaning plain)
-        (⟦<Marks<Bytes, Postfix<Scale>> as Parser<Bytes, Postfix<Scale>, EmptyError>>⟧.meaning
-        plain)
-        (⟦<Marks<Bytes, Infix<Sign>> as Parser<Bytes, Infix<Sign>, EmptyError>>⟧.meaning plain)
-        (⟦<NoFold as FoldUnary<Bytes, u32, EmptyError>>⟧.folds plain)
-        (⟦<Scale as FoldUnary<Bytes, u32, EmptyError>>⟧.folds plain)
-        (⟦<Sign as FoldBinary<Bytes, u32, EmptyError>>⟧.folds plain)) (λ v w. v ≡ w) size_states
+    ensures reads { (t : SizeStates) × IsTheOneTree (did_grammar bytes_reading.units plain
+        ⟦<DecUint as Parser<Bytes, u32, EmptyError>>⟧.does
+        ⟦<Fail as Parser<Bytes, Prefix<NoFold>, EmptyError>>⟧.does
+        ⟦<Marks<Bytes, Postfix<Scale>> as Parser<Bytes, Postfix<Scale>, EmptyError>>⟧.does
+        ⟦<Marks<Bytes, Infix<Sign>> as Parser<Bytes, Infix<Sign>, EmptyError>>⟧.does
+        ⟦<NoFold as FoldUnary<Bytes, u32, EmptyError>>⟧.folds
+        ⟦<Scale as FoldUnary<Bytes, u32, EmptyError>>⟧.folds
+        ⟦<Sign as FoldBinary<Bytes, u32, EmptyError>>⟧.folds) (λ v w. v ≡ w) size_states
         (pos 0) (bytes_input input.old.now) (answer_by ⟦<EmptyError as HasKind>⟧.kind result) t
         (bytes_input input.new.now) }
     ensures ends { IsEndOf bytes_reading (bytes_input input.new.now) (bytes_input input.old.now) }
@@ -182,6 +188,7 @@ pub fn read_size<'i, A: Allocator + Copy>(alloc: A, input: &mut &'i [u8]) -> Res
     unit_clones_are_equal();
     sign_clones_are_equal();
     a_number_stays::<u32>();
+    a_number_consumes::<u32>();
     marks_stay::<Postfix<Scale>>();
     marks_stay::<Infix<Sign>>();
     deterministic_parts_are_stateless::<DecUint, &'i [u8], u32, EmptyError>();
@@ -206,6 +213,14 @@ pub fn read_size<'i, A: Allocator + Copy>(alloc: A, input: &mut &'i [u8]) -> Res
         Mark<&'i [u8], Infix<Sign>>,
         EmptyError,
     >();
+    a_value_consumes::<&'i [u8], u8, Postfix<Scale>, u8, EmptyError>();
+    a_choice_consumes::<
+        &'i [u8],
+        Postfix<Scale>,
+        Mark<&'i [u8], Postfix<Scale>>,
+        Mark<&'i [u8], Postfix<Scale>>,
+        EmptyError,
+    >();
     expression_is_unambiguous::<
         &'i [u8],
         u32,
@@ -227,15 +242,14 @@ pub fn read_size<'i, A: Allocator + Copy>(alloc: A, input: &mut &'i [u8]) -> Res
 /// start of the input respects precedence at a given least power, and it ends at one position.
 /// This holds also if the value does not fit in 32 bits.
 pub fn a_size_has_one_tree()
-    ensures one { HasOneTree (parts_grammar bytes_reading.units backtrack
-        (⟦<DecUint as Parser<Bytes, u32, EmptyError>>⟧.meaning plain)
-        (⟦<Fail as Parser<Bytes, Prefix<NoFold>, EmptyError>>⟧.meaning plain)
-        (⟦<Marks<Bytes, Postfix<Scale>> as Parser<Bytes, Postfix<Scale>, EmptyError>>⟧.meaning
-        plain)
-        (⟦<Marks<Bytes, Infix<Sign>> as Parser<Bytes, Infix<Sign>, EmptyError>>⟧.meaning plain)
-        (⟦<NoFold as FoldUnary<Bytes, u32, EmptyError>>⟧.folds plain)
-        (⟦<Scale as FoldUnary<Bytes, u32, EmptyError>>⟧.folds plain)
-        (⟦<Sign as FoldBinary<Bytes, u32, EmptyError>>⟧.folds plain)) size_states }
+    ensures one { HasOneTree (did_grammar bytes_reading.units plain
+        ⟦<DecUint as Parser<Bytes, u32, EmptyError>>⟧.does
+        ⟦<Fail as Parser<Bytes, Prefix<NoFold>, EmptyError>>⟧.does
+        ⟦<Marks<Bytes, Postfix<Scale>> as Parser<Bytes, Postfix<Scale>, EmptyError>>⟧.does
+        ⟦<Marks<Bytes, Infix<Sign>> as Parser<Bytes, Infix<Sign>, EmptyError>>⟧.does
+        ⟦<NoFold as FoldUnary<Bytes, u32, EmptyError>>⟧.folds
+        ⟦<Scale as FoldUnary<Bytes, u32, EmptyError>>⟧.folds
+        ⟦<Sign as FoldBinary<Bytes, u32, EmptyError>>⟧.folds) size_states }
 {
     unit_clones_are_equal();
     sign_clones_are_equal();

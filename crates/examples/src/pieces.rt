@@ -2,6 +2,7 @@
 //!
 //! A result is also that of every longer input, unless it is `Incomplete` or out of memory. So it
 //! does not matter where the input is split. Each reader is composed of parsers of the library.
+ghost use Rattle.winnow.specs.Does.{Ran};
 ghost use Rattle.std.specs.Prelude.{◌≡◌, ⊤, true, ℕ};
 ghost use Rattle.winnow.specs.Form.{answer_by, modal};
 ghost use Rattle.winnow.specs.Longer.{SameOnLonger};
@@ -37,7 +38,8 @@ pub fn read_setting<'i>(
 ) -> Result<(&'i [u8], u8, &'i [u8]), ErrMode<EmptyError>>
     requires is_cut { (⟦<Bytes as Stream>⟧.view input.old).status.cut ≡ true }
     ensures same { (t : ⊤ × ℕ × ⊤) × SameOnLonger
-        (⟦<(Alpha1, u8, Digit1) as Parser<Bytes, Setting, Error>>⟧.meaning modal) SameSettings
+        (Ran ⟦<Bytes as Stream>⟧.reading
+        ⟦<(Alpha1, u8, Digit1) as Parser<Bytes, Setting, Error>>⟧.does modal) SameSettings
         (tt, 61, tt) (⟦<Bytes as Stream>⟧.view input.old)
         (answer_by ⟦<Error as HasKind>⟧.kind result) t (⟦<Bytes as Stream>⟧.view input.new) }
 {

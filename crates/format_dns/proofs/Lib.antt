@@ -1,4 +1,5 @@
 pub mod BitRuns
+pub mod ByteRuns
 pub mod DataLaws
 pub mod FieldLaws
 pub mod HeaderRuns

@@ -52,7 +52,8 @@ pub fn deeper(layout: Layout) -> Result<Layout, WriteError>
 
 /// Appends the whitespace before an element or a member.
 pub fn put_line<B: Allocator>(layout: Layout, into: &mut String<B>) -> Result<(), AllocError>
-    ensures written { OnOk result (string_bytes into.new ≡ string_bytes into.old ++ line_of layout) }
+    ensures written { OnOk result
+        (string_bytes into.new ≡ string_bytes into.old ++ line_of layout) }
     ensures kept { Keeps (string_bytes into.old) (string_bytes into.new) }
 {
     match layout {

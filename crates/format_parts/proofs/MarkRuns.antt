@@ -1,46 +1,45 @@
 -- Runs of items between marks: where they are out of memory, an item was read.
-use Rattle.std.specs.Prelude.{◌≡◌, ℕ, Option, None, Result, Ok, Err}
+use Rattle.std.specs.Prelude.{◌≡◌, ℕ, Bool, false, Option, None, Result, Ok, Err}
 use Rattle.std.specs.declared.vec.Vec.{Vec}
 use Rattle.std.proofs.Common.{refl, subst, inl, inr}
 use Rattle.format_parts.specs.Marks.{ItemsRan}
-use Rattle.format_parts.specs.Words.{latter}
+use Rattle.format_parts.specs.Words.{latter, pair}
 use Rattle.grammars.specs.Grammar.{Both, Grammar, NoMatch}
 use Rattle.parser_definitions.specs.Folding.{gathering}
 use Rattle.parser_definitions.specs.Left.{End, Left, left_of}
-use Rattle.parser_definitions.specs.Outcome.{Does, Outcome, Setting, asks, backs, cuts, misused_by}
-use Rattle.parser_definitions.specs.Outcome.{took, wants}
+use Rattle.parser_definitions.specs.Outcome.{Does, Outcome, asks, backs, cuts, misused_by}
+use Rattle.parser_definitions.specs.Outcome.{outcome_of, took, wants}
 use Rattle.parser_definitions.specs.Projects.{Agreement, Complete, Projects, complete}
 use Rattle.parser_definitions.specs.Separated.{FirstElement, SeparatedDoes, first_next}
 use Rattle.parser_definitions.specs.Sequence.{DelimitedDoes, with_third3}
 use Rattle.parser_definitions.specs.Then.{ComesOf}
 use Rattle.parser_definitions.specs.Then.Steps.{takes, where_took}
 use Rattle.parser_definitions.specs.Threes.{one_of, pair_of, with_one, with_pair}
-use Rattle.stream_errors.specs.Form.{Answer, ErrorForm, answer_by, assert_kind, modal, plain}
+use Rattle.stream_errors.specs.Form.{Answer, ErrorForm, answer_by, modal, plain}
 use Rattle.stream_sets.specs.Accumulator.{Accumulator, list_kept}
 use Rattle.stream_sets.specs.Range.{bounds_of}
 use Rattle.stream_sets.specs.declared.range.Range.{Range}
 use Rattle.streams.specs.Input.{Input}
-use Rattle.streams.specs.Kind.{Kind, memory}
+use Rattle.streams.specs.Kind.{Kind}
 use Rattle.streams.specs.Reading.{Reading}
-use Rattle.winnow_comb.specs.Delimited.{DelimitedRuns}
-use Rattle.winnow_core.specs.Covers.{Covers}
 use Rattle.winnow_core.specs.Exact.{IsSpared, Reads}
-use Rattle.winnow_core.specs.Runs.{Meaning, Runs}
-use Rattle.winnow_core.specs.Sequence.{SequenceRuns2}
-use Rattle.winnow_separated.specs.Separated.{RangedElements}
+use Rattle.parser_definitions.specs.Both.{BothDo}
+use Rattle.parser_definitions.specs.Does.{Ran}
 
 -- a call from equal states
-pub items_ran : {S M W T O N D A : Type 0} {form : ErrorForm} {item : Runs S T O}
-    {mark : Runs M T N} {gap : Runs W T D} {s : S × M × M × M × W} {i : Input T}
-    {answer : Answer (Vec O A)} {j : Input T} (u t : (M × W) × (S × (M × W) × Range) × M)
-    → DelimitedRuns (SequenceRuns2 mark gap)
-    (RangedElements item (SequenceRuns2 mark gap) list_kept (assert_kind form)) mark u i answer t j
+pub items_ran : {S M W T L O N D A : Type 0} {reading : Reading T L} {form : ErrorForm}
+    {item : Does S T O} {mark : Does M T N} {gap : Does W T D} {s : S × M × M × M × W}
+    {i : Input T} {answer : Answer (Vec O A)} {j : Input T}
+    (u t : (M × W) × (S × (M × W) × Range) × M)
+    → Ran reading (DelimitedDoes (BothDo pair mark gap)
+    (SeparatedDoes list_kept item (BothDo pair mark gap)) mark) form u i answer t j
     → u ≡ ((s.1, s.4), (s.0, (s.2, s.4), record { start_inclusive = 0; end_inclusive = None }), s.3)
-    → ItemsRan form item mark gap s i answer j
-items_ran {S} {M} {W} {form = form} {item} {mark} {gap} {i = i} {answer} {j} u t ran same =
-    let P : (M × W) × (S × (M × W) × Range) × M → Type 0 = λ z. DelimitedRuns
-    (SequenceRuns2 mark gap)
-    (RangedElements item (SequenceRuns2 mark gap) list_kept (assert_kind form)) mark z i answer t j
+    → ItemsRan reading form item mark gap s i answer j
+items_ran {S} {M} {W} {reading = reading} {form} {item} {mark} {gap} {i = i} {answer} {j} u t ran
+    same =
+    let P : (M × W) × (S × (M × W) × Range) × M → Type 0 = λ z. Ran reading
+    (DelimitedDoes (BothDo pair mark gap) (SeparatedDoes list_kept item (BothDo pair mark gap))
+    mark) form z i answer t j
     in record { after = t; ran = subst P same ran }
 
 -- a parser that was made wrongly is not out of memory
@@ -111,24 +110,23 @@ pub items_spared : {S1 S2 S3 W T L O1 O2 O3 D C E : Type 0} {b1 b2 b3 m1 m2 m3 :
     → (s : S1 × (S2 × W × Range) × S3) → ((at : Complete) → Projects b1 m1 does1 at s.0 g1) → m1
     → ((at : Complete) → Projects b2 m2 does2 at s.1.0 g2) → m2
     → ((at : Complete) → Projects b3 m3 does3 at s.2 g3) → m3
-    → (meaning : Meaning (S1 × (S2 × W × Range) × S3) T C)
-    → ((at : Setting) → Covers at (meaning at.form)
-    (DelimitedDoes does1 (SeparatedDoes into does2 between) does3))
     → (form : ErrorForm) (kind : E → Kind) (i : Input T) (result : Result C E)
-    (t : S1 × (S2 × W × Range) × S3) (j : Input T) → meaning form s i (answer_by kind result) t j
+    (t : S1 × (S2 × W × Range) × S3) (j : Input T)
+    → Ran reading (DelimitedDoes does1 (SeparatedDoes into does2 between) does3) form s i
+    (answer_by kind result) t j
     → Reads reading kind h i result j → NoMatch (Both latter g1 g2) i.left.tokens
     → IsSpared kind i result
-items_spared between into starts s p1 n1 p2 n2 p3 n3 meaning covers form kind i (Ok o) t j ran
-    reads none is = tt
-items_spared between into starts s p1 n1 p2 n2 p3 n3 meaning covers form kind i (Err e) t j ran
-    reads none is = elim (reads.none is) [
+items_spared between into starts s p1 n1 p2 n2 p3 n3 form kind i (Ok o) t j ran reads none is = tt
+items_spared {does1 = does1} {does2} {does3} between into starts s p1 n1 p2 n2 p3 n3 form kind i
+    (Err e) t j ran reads none is = elim (reads.none is) [
       | inl want ↦
+          let does = DelimitedDoes does1 (SeparatedDoes into does2 between) does3 in
           let at : Complete = record { form = form; possible = i.left.possible } in
-          let wanted = subst (λ k. meaning form s i (Err k) t j) want ran in
-          let (did, on) = (covers (complete at)).covers s i (Err memory) t j
-          (record { more = is; possible = refl }) wanted in
+          let P : Bool → Kind → Type 0 = λ b k.
+          does (record { form = form; more = b; possible = i.left.possible }) s (left_of i)
+          (outcome_of (Err k) (t, left_of j)) in
           absurd (marked_wants between into s starts (p1 at) n1 (p2 at) n2 (p3 at) n3
           (left_of i) none
-          did)
+          (subst (P false) want (subst (λ b. P b (kind e)) is ran.3)))
       | inr (back, nothing) ↦ back
     ]

@@ -2,14 +2,16 @@
 use Rattle.std.specs.Prelude.{◌≡◌, List, None, Result}
 use Rattle.std.specs.declared.vec.Vec.{Vec}
 use Rattle.format_parts.specs.Words.{latter, pair}
-use Rattle.stream_errors.specs.Form.{Answer, ErrorForm, assert_kind}
+use Rattle.stream_errors.specs.Form.{Answer, ErrorForm}
 use Rattle.stream_sets.specs.Accumulator.{list_kept}
 use Rattle.stream_sets.specs.declared.range.Range.{Range}
 use Rattle.streams.specs.Input.{Input}
-use Rattle.winnow_comb.specs.Delimited.{DelimitedRuns}
-use Rattle.winnow_core.specs.Runs.{Runs}
-use Rattle.winnow_core.specs.Sequence.{SequenceRuns2}
-use Rattle.winnow_separated.specs.Separated.{RangedElements}
+use Rattle.streams.specs.Reading.{Reading}
+use Rattle.parser_definitions.specs.Both.{BothDo}
+use Rattle.parser_definitions.specs.Does.{Ran}
+use Rattle.parser_definitions.specs.Outcome.{Does}
+use Rattle.parser_definitions.specs.Separated.{SeparatedDoes}
+use Rattle.parser_definitions.specs.Sequence.{DelimitedDoes}
 use Rattle.streams.specs.declared.needed.Needed.{Needed}
 use Rattle.stream_errors.specs.declared.fault.ParseFault.{ParseFault}
 use Rattle.winnow_core.specs.Exact.Whole.{ReadsAll}
@@ -30,13 +32,13 @@ module _ {T M W A : Type 0} where
 -- A call of these parts in sequence: the first mark and whitespace, items with a mark and
 -- whitespace between each two, and the last mark. It starts in the states of the item, the three
 -- marks and whitespace.
-pub record ItemsRan {S M W T O N D A : Type 0} (form : ErrorForm) (item : Runs S T O)
-    (mark : Runs M T N) (gap : Runs W T D) (s : S × M × M × M × W) (i : Input T)
-    (answer : Answer (Vec O A)) (j : Input T) : Type 0 where
+pub record ItemsRan {S M W T L O N D A : Type 0} (reading : Reading T L) (form : ErrorForm)
+    (item : Does S T O) (mark : Does M T N) (gap : Does W T D) (s : S × M × M × M × W)
+    (i : Input T) (answer : Answer (Vec O A)) (j : Input T) : Type 0 where
   -- the states of the parts after the call
   pub after : (M × W) × (S × (M × W) × Range) × M
-  pub ran : DelimitedRuns (SequenceRuns2 mark gap)
-      (RangedElements item (SequenceRuns2 mark gap) list_kept (assert_kind form)) mark
+  pub ran : Ran reading (DelimitedDoes (BothDo pair mark gap)
+      (SeparatedDoes list_kept item (BothDo pair mark gap)) mark) form
       ((s.1, s.4), (s.0, (s.2, s.4), record { start_inclusive = 0; end_inclusive = None }), s.3) i
       answer after j
 

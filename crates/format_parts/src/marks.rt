@@ -4,12 +4,13 @@ ghost use Rattle.format_parts.specs.Marks.{FirstItem, Items, ItemsRan};
 ghost use Rattle.format_parts.specs.Words.{former};
 ghost use Rattle.std.specs.Fn.{CalledAtMut};
 ghost use Rattle.stream_errors.specs.Form.{answer_by};
-ghost use Rattle.winnow_comb.specs.Delimited.{DelimitedRuns};
-ghost use Rattle.winnow_comb.specs.Terminated.{TerminatedRuns};
 ghost use Rattle.parser_definitions.specs.Claim.{CanRead};
+ghost use Rattle.parser_definitions.specs.Does.{Ran};
+ghost use Rattle.parser_definitions.specs.Func.{ByDoes};
+ghost use Rattle.parser_definitions.specs.Sequence.{DelimitedDoes, TerminatedDoes};
 ghost use Rattle.winnow_core.specs.Exact.{IsSpared, Reads};
 ghost use Rattle.grammars.specs.Grammar.{Both, NoMatch, Three};
-ghost use Rattle.winnow_grammar.specs.Rule.{ByRuns, CallsRead, CallsSpared};
+ghost use Rattle.winnow_grammar.specs.Rule.{CallsRead, CallsSpared};
 
 use std::alloc::Allocator;
 use stream_errors::parser_error::ParserError;
@@ -41,7 +42,7 @@ where
     requires second { CanRead (Q.can_parse second) (Q.claim (Q.state second)) }
     requires third { CanRead (R.can_parse third) (R.claim (R.state third)) }
     ensures ran { (t : P.State × Q.State × R.State)
-        × DelimitedRuns (P.meaning E.form) (Q.meaning E.form) (R.meaning E.form)
+        × Ran I.reading (DelimitedDoes P.does Q.does R.does) E.form
         (P.state first, Q.state second, R.state third) (I.view input.old)
         (answer_by E.kind result) t (I.view input.new) }
     ensures reads { Reads I.reading E.kind
@@ -93,7 +94,7 @@ where
         × (B.claim (B.state marks.comma)).consumes }
     requires closing { CanRead (B.can_parse marks.closing) (B.claim (B.state marks.closing)) }
     requires gap { CanRead (G.can_parse marks.gap) (G.claim (G.state marks.gap)) }
-    ensures ran { ItemsRan E.form (P.meaning E.form) (B.meaning E.form) (G.meaning E.form) (
+    ensures ran { ItemsRan I.reading E.form P.does B.does G.does (
       P.state item,
       B.state marks.opening,
       B.state marks.comma,
@@ -150,9 +151,8 @@ where
         × (B.claim (B.state marks.comma)).consumes }
     requires closing { CanRead (B.can_parse marks.closing) (B.claim (B.state marks.closing)) }
     requires gap { CanRead (G.can_parse marks.gap) (G.claim (G.state marks.gap)) }
-    ensures ran { ItemsRan E.form
-        (TerminatedRuns (ByRuns I.reading I.view E.kind (CalledAtMut F.FnMut)) (G.meaning E.form))
-        (B.meaning E.form) (G.meaning E.form) (
+    ensures ran { ItemsRan I.reading E.form
+        (TerminatedDoes (ByDoes I.view E.kind (CalledAtMut F.FnMut)) G.does) B.does G.does (
           ((rule, value), G.state marks.gap),
           B.state marks.opening,
           B.state marks.comma,

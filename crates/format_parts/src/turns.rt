@@ -1,9 +1,11 @@
 //! Parsers in sequence. The contracts are in terms of the grammars of the parts, for any parsers
 //! and over any stream.
 ghost use Rattle.format_parts.specs.Words.{pair};
+ghost use Rattle.parser_definitions.specs.Both.{BothDo};
 ghost use Rattle.parser_definitions.specs.Claim.{CanRead};
+ghost use Rattle.parser_definitions.specs.Does.{Ran};
+ghost use Rattle.parser_definitions.specs.Tuples.{SequenceDoes4};
 ghost use Rattle.winnow_core.specs.Exact.{IsSpared, Reads};
-ghost use Rattle.winnow_core.specs.Sequence.{SequenceRuns2, SequenceRuns4};
 ghost use Rattle.grammars.specs.Grammar.{Both};
 ghost use Rattle.grammars.specs.Grammar.Tuples.{Four};
 ghost use Rattle.stream_errors.specs.Form.{answer_by};
@@ -23,7 +25,7 @@ where
     Q: Parser<I, O2, E> + Drop,
     requires first { CanRead (P.can_parse first) (P.claim (P.state first)) }
     requires second { CanRead (Q.can_parse second) (Q.claim (Q.state second)) }
-    ensures ran { (t : P.State × Q.State) × SequenceRuns2 (P.meaning E.form) (Q.meaning E.form)
+    ensures ran { (t : P.State × Q.State) × Ran I.reading (BothDo pair P.does Q.does) E.form
         (P.state first, Q.state second) (I.view input.old) (answer_by E.kind result) t
         (I.view input.new) }
     ensures reads { Reads I.reading E.kind
@@ -59,7 +61,7 @@ where
     requires third { CanRead (R.can_parse third) (R.claim (R.state third)) }
     requires fourth { CanRead (S.can_parse fourth) (S.claim (S.state fourth)) }
     ensures ran { (t : P.State × Q.State × R.State × S.State)
-        × SequenceRuns4 (P.meaning E.form) (Q.meaning E.form) (R.meaning E.form) (S.meaning E.form)
+        × Ran I.reading (SequenceDoes4 P.does Q.does R.does S.does) E.form
         (P.state first, Q.state second, R.state third, S.state fourth) (I.view input.old)
         (answer_by E.kind result) t (I.view input.new) }
     ensures reads { Reads I.reading E.kind

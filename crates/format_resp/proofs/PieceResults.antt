@@ -1,5 +1,5 @@
 -- Results of the parsers of a token, of a line, and of tokens before a line ending.
-use Rattle.std.specs.Prelude.{◌≡◌, ◌⊎◌, ℕ, List, [], ◌∷◌, Result, Ok, Err}
+use Rattle.std.specs.Prelude.{◌≡◌, ◌⊎◌, ℕ, Bool, List, [], ◌∷◌, Result, Ok, Err}
 use Rattle.std.specs.Borrow.{Bor}
 use Rattle.std.proofs.Common.{inl, inr, refl}
 use Rattle.stream_errors.specs.Form.{ErrorForm, answer_by}
@@ -7,12 +7,18 @@ use Rattle.streams.specs.Following.{Following}
 use Rattle.streams.specs.Kind.{Kind, backtrack, cut, incomplete, memory}
 use Rattle.streams.specs.Input.{Input}
 use Rattle.streams.specs.Reading.{Reading}
-use Rattle.grammars.specs.Grammar.{Grammar, Literally, NoMatch}
+use Rattle.stream_sets.specs.Once.{Others}
+use Rattle.stream_sets.specs.Range.{Bounds}
+use Rattle.grammars.specs.Grammar.{Both, Grammar, Literally, Longest, NoMatch}
 use Rattle.grammars.specs.Grammar.Searches.{LiterallyBytes}
-use Rattle.parser_definitions.specs.Left.{left_of}
-use Rattle.parser_definitions.specs.Outcome.{Does, setting_of, took}
-use Rattle.winnow_ascii.specs.Crlf.{CrlfRuns}
-use Rattle.winnow_core.specs.Literal.Inversion.{literal_taken}
+use Rattle.parser_definitions.specs.Inversion.Outcomes.{lacks_none, misused_none}
+use Rattle.parser_definitions.specs.Inversion.Sequences.{both_ok}
+use Rattle.parser_definitions.specs.Inversion.Tokens.{literal_taken, takes_ok}
+use Rattle.parser_definitions.specs.Left.{End, Left, left_of}
+use Rattle.parser_definitions.specs.LineEnding.{CrlfDoes}
+use Rattle.parser_definitions.specs.Outcome.{Does, Setting, setting_of, took}
+use Rattle.parser_definitions.specs.Sequence.{TerminatedDoes}
+use Rattle.parser_definitions.specs.TakeWhile.{TakeTillDoes}
 use Rattle.winnow_core.specs.Tells.{Tells}
 use Rattle.winnow_grammar.specs.Cut.{ReadsOrAsks}
 use Rattle.format_resp.proofs.Found.{Finds}
@@ -49,16 +55,36 @@ must_ask {kind = kind} {grammar = grammar} {result = Err e} is reads told matche
 -- ---- line endings
 
 module _ {T L : Type 0} (reading : Reading T L) (spells : Bor (List ℕ) → List T → Type 0) where
-  pub ending_taken : (form : ErrorForm) (i : Input T) (o : L) (j : Input T)
-      → CrlfRuns spells reading form i (Ok o) j
-      → LiterallyBytes reading spells (13 ∷ 10 ∷ []) i.left.tokens o j.left.tokens
+  pub ending_taken : {S : Type 0} (at : Setting) {s : S} {w : Left T} {o : L} {e : End S T}
+      → CrlfDoes reading spells at s w (took o e)
+      → LiterallyBytes reading spells (13 ∷ 10 ∷ []) w.tokens o e.1.tokens
   unfolding Literally
-  ending_taken form i o j (text, is, ran) =
-      let taken = literal_taken reading form (spells text) (λ slice. slice) i o j ran in (
-        taken.tokens,
-        taken.slice,
-        (text, is, taken.spells),
-        taken.takes.shown,
-        taken.takes.passed.tokens,
-        taken.answers,
-      )
+  ending_taken at (text, is, did) =
+      let (front, slice, spelled, shown, passed, made) = literal_taken at did in
+      (front, slice, (text, is, spelled), shown, passed.tokens, made)
+
+  -- a line: the tokens before a member of the set, and a line ending
+  module _ {X S K : Type 0} (seen : K → T) (tells : S → K → Bool → Type 0) (set : X → S)
+      (bounds : X → Bounds) where
+    before_taken : (at : Setting) {s : X} {w : Left T} {slice : L} {e : End X T}
+        → TakeTillDoes seen reading (λ x. tells (set x)) bounds at s w (took slice e)
+        → Longest reading seen (Others tells) (set s) (bounds s) w.tokens slice e.1.tokens
+    unfolding Longest
+    before_taken at {slice = slice} (inl (bad, is)) = misused_none at.form _ _ slice is
+    before_taken at {slice = slice} (inr (within, inl (open_too, is))) =
+        lacks_none at.form at.more _ _ _ slice is
+    before_taken at (inr (within, inr (inl told))) =
+        let (taken, (longest, over), enough, shown, passed) = takes_ok told in
+        (taken, longest, enough, shown)
+    before_taken at (inr (within, inr (inr (few, is)))) = absurd (cc)
+
+    pub line_taken : {W : Type 0} (at : Setting) {s : X × W} {w : Left T} {o : L}
+        {e : End (X × W) T}
+        → TerminatedDoes (TakeTillDoes seen reading (λ x. tells (set x)) bounds)
+        (CrlfDoes reading spells) at s w (took o e)
+        → Both (λ o1 o2. o1) (Longest reading seen (Others tells) (set s.0) (bounds s.0))
+        (LiterallyBytes reading spells (13 ∷ 10 ∷ [])) w.tokens o e.1.tokens
+    unfolding Both
+    line_taken at did =
+        let (line, end, a, t, first, last, is) = both_ok did in
+        (line, end, a.1.tokens, before_taken at first, ending_taken at last, is)

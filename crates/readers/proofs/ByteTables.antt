@@ -7,13 +7,11 @@ use Rattle.std.proofs.lemmas.Bool.{cases_eq}
 use Rattle.std.proofs.lemmas.List.Elements.{All-cons, All-head, All-nil, All-rest, All-same}
 use Rattle.std.proofs.lemmas.List.Elements.{All-tail}
 use Rattle.winnow.specs.Equal.{true_is_false}
-use Rattle.winnow.specs.Input.{Input}
+use Rattle.winnow.specs.Left.{Left}
 use Rattle.winnow.specs.Kind.{Kind}
-use Rattle.winnow.specs.Literal.Inversion.{TokenTaken}
 use Rattle.winnow.specs.Stream.{AnswersSeen}
 use Rattle.winnow.specs.Longest.{IsLongest}
-use Rattle.winnow.specs.TakeWhile.{IsEnded}
-use Rattle.winnow.specs.TakeWhile.Inversion.{TooFew, Took}
+use Rattle.winnow.specs.Inversion.Takes.{TooFew, Took}
 use Rattle.readers.specs.DocumentRuns.{IsFront}
 use Rattle.readers.specs.Tables.{HasExactly, TellsByte}
 use Rattle.readers.proofs.PartRuns.{took_front}
@@ -50,17 +48,16 @@ behind_front [] rest bytes = bytes
 behind_front (x ∷ xs) rest bytes =
     behind_front xs rest (All-tail (λ b. b < 256) x (xs ++ rest) bytes)
 
-pub behind_take : (member : ℕ → Bool → Type 0) (least : ℕ) (greatest : Option ℕ) (i : Input ℕ)
-    (taken : List ℕ) (j : Input ℕ) → Took member least greatest i taken j
-    → AreBytes i.left.tokens → AreBytes j.left.tokens
-behind_take member least greatest i taken j took bytes =
-    behind_front taken j.left.tokens
-    (All-same (λ b. b < 256) (taken ++ j.left.tokens) i.left.tokens (sym took.longest.splits) bytes)
+pub behind_take : {member : ℕ → Bool → Type 0} {least : ℕ} {greatest : Option ℕ} {w : Left ℕ}
+    {taken : List ℕ} {rest : Left ℕ} → Took member least greatest w taken rest
+    → AreBytes w.tokens → AreBytes rest.tokens
+behind_take {w = w} {taken} {rest} took bytes =
+    behind_front taken rest.tokens
+    (All-same (λ b. b < 256) (taken ++ rest.tokens) w.tokens (sym took.longest.splits) bytes)
 
-pub behind_token : (x : ℕ) (i j : Input ℕ) → TokenTaken x i j → AreBytes i.left.tokens
-    → AreBytes j.left.tokens
-behind_token x i j taken bytes =
-    All-rest (λ b. b < 256) x j.left.tokens i.left.tokens taken.splits bytes
+pub behind_token : (x : ℕ) {tokens rest : List ℕ} → tokens ≡ x ∷ rest → AreBytes tokens
+    → AreBytes rest
+behind_token x {tokens} {rest} e bytes = All-rest (λ b. b < 256) x rest tokens e bytes
 
 all_told : (P Q : ℕ → Type 0) → ((b : ℕ) → b < 256 → P b → Q b) → (xs rest : List ℕ)
     → AreBytes (xs ++ rest) → All P xs → All Q xs
@@ -91,55 +88,38 @@ longest_told M N is greatest tokens front rest bytes longest =
       ];
     }
 
-ended_told : (M N : ℕ → Bool → Type 0)
-    → ((b : ℕ) (answer : Bool) → b < 256 → M b answer → N b answer)
-    → (greatest : Option ℕ) (front rest : List ℕ) → AreBytes rest
-    → IsEnded M greatest front rest → IsEnded N greatest front rest
-ended_told M N is greatest front rest bytes (inl (x, more, e, stranger)) =
-    inl (x, more, e, is x false (first_byte rest bytes x more e) stranger)
-ended_told M N is greatest front rest bytes (inr full) = inr full
-
-pub took_bytes : {S : Type 0} (has : S → ℕ → Bool) (P : ℕ → Type 0) (set made : S) (least : ℕ)
-    (greatest : Option ℕ) (i : Input ℕ) (taken : List ℕ) (j : Input ℕ) → set ≡ made
-    → HasExactly P (has made) → AreBytes i.left.tokens
-    → Took (AskedOf has set) least greatest i taken j
-    → Took (TellsByte P) least greatest i taken j
-took_bytes has P set made least greatest i taken j same exact bytes took =
-    let is = table_tells has P set made same exact in
+pub took_bytes : {S : Type 0} (has : S → ℕ → Bool) (P : ℕ → Type 0) {set made : S} {least : ℕ}
+    {greatest : Option ℕ} {w : Left ℕ} {taken : List ℕ} {rest : Left ℕ} → set ≡ made
+    → HasExactly P (has made) → AreBytes w.tokens
+    → Took (AskedOf has set) least greatest w taken rest
+    → Took (TellsByte P) least greatest w taken rest
+took_bytes has P {set} {made} {greatest = greatest} {w} {taken} {rest} same exact bytes took =
     record {
-      longest = longest_told (AskedOf has set) (TellsByte P) is greatest i.left.tokens taken
-          j.left.tokens bytes took.longest;
-      ended = elim took.ended [
-        | inl e ↦ inl (ended_told (AskedOf has set) (TellsByte P) is greatest taken j.left.tokens
-            (behind_take (AskedOf has set) least greatest i taken j took bytes) e)
-        | inr whole ↦ inr whole
-      ];
+      longest = longest_told (AskedOf has set) (TellsByte P)
+          (table_tells has P set made same exact) greatest w.tokens taken rest.tokens bytes
+          took.longest;
       enough = took.enough;
-      whole = took.whole;
     }
 
-pub few_bytes : {S : Type 0} (has : S → ℕ → Bool) (P : ℕ → Type 0) (set made : S) (least : ℕ)
-    (greatest : Option ℕ) (i : Input ℕ) (k : Kind) (j : Input ℕ) → set ≡ made
-    → HasExactly P (has made) → AreBytes i.left.tokens
-    → TooFew (AskedOf has set) least greatest i k j → TooFew (TellsByte P) least greatest i k j
-few_bytes has P set made least greatest i k j same exact bytes few =
-    let is = table_tells has P set made same exact in
-    record {
-      stays = few.stays;
-      kind = few.kind;
-      front = few.front;
-      rest = few.rest;
-      longest = longest_told (AskedOf has set) (TellsByte P) is greatest i.left.tokens few.front
-          few.rest bytes few.longest;
-      few = few.few;
-    }
+pub few_bytes : {S : Type 0} (has : S → ℕ → Bool) (P : ℕ → Type 0) {set made : S} {least : ℕ}
+    {greatest : Option ℕ} {w : Left ℕ} {k : Kind} {left : Left ℕ} → set ≡ made
+    → HasExactly P (has made) → AreBytes w.tokens
+    → TooFew (AskedOf has set) least greatest w k left
+    → TooFew (TellsByte P) least greatest w k left
+few_bytes has P {set} {made} {greatest = greatest} {w} same exact bytes few = record {
+  stays = few.stays;
+  kind = few.kind;
+  front = few.front;
+  rest = few.rest;
+  longest = longest_told (AskedOf has set) (TellsByte P) (table_tells has P set made same exact)
+      greatest w.tokens few.front few.rest bytes few.longest;
+  few = few.few;
+}
 
 -- with no greatest number it takes the longest front
-pub table_front : {S : Type 0} (has : S → ℕ → Bool) (P : ℕ → Type 0) (set made : S) (least : ℕ)
-    (i : Input ℕ) (taken : List ℕ) (j : Input ℕ) → set ≡ made → HasExactly P (has made)
-    → AreBytes i.left.tokens → Took (AskedOf has set) least None i taken j
-    → IsFront P i.left.tokens taken j.left.tokens
-table_front has P set made least i taken j same exact bytes took =
-    took_front P (TellsByte P) least i taken j
-    (took_bytes has P set made least None i taken j same exact bytes took)
-    (told_yes P) (told_no P)
+pub table_front : {S : Type 0} (has : S → ℕ → Bool) (P : ℕ → Type 0) {set made : S} {least : ℕ}
+    {w : Left ℕ} {taken : List ℕ} {rest : Left ℕ} → set ≡ made → HasExactly P (has made)
+    → AreBytes w.tokens → Took (AskedOf has set) least None w taken rest
+    → IsFront P w.tokens taken rest.tokens
+table_front has P same exact bytes took =
+    took_front P (took_bytes has P same exact bytes took) (told_yes P) (told_no P)

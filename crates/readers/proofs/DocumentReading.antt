@@ -1,10 +1,8 @@
 -- Lemmas about consecutive sections, and about a document.
 use Rattle.std.proofs.Common.{◌≡◌, ◌≤◌, ◌+◌, ◌∙◌, ◌⊎◌, ℕ, List, [], ◌∷◌, ◌++◌, length}
 use Rattle.std.proofs.Common.{None, Ok, Err, refl, sym, ap, subst, arith, inl, inr}
-use Rattle.std.specs.Prelude.{map, Result}
-use Rattle.std.specs.Borrow.{MutBor}
-use Rattle.std.specs.Fn.{Mut}
-use Rattle.std.specs.List.{AllByRecursion}
+use Rattle.std.specs.Prelude.{map}
+use Rattle.std.specs.List.{AllByRecursion, FoldsTo}
 use Rattle.std.specs.declared.vec.Vec.{Vec}
 use Rattle.winnow.specs.Bytes.{bytes_input, bytes_reading}
 use Rattle.winnow.specs.Input.{Input, IsEndOf}
@@ -14,49 +12,29 @@ use Rattle.winnow.specs.Form.Inversion.{at_output, ok_is_err, same_kind}
 use Rattle.winnow.specs.Accumulator.{list_kept}
 use Rattle.winnow.specs.Range.{bounds_of}
 use Rattle.winnow.specs.{Range}
-use Rattle.winnow.specs.Reading.{Reading}
-use Rattle.winnow.specs.Runs.{Runs}
-use Rattle.winnow.specs.InOrder.Inversion.{both_err}
-use Rattle.winnow.specs.Preceded.{PrecededRuns}
-use Rattle.winnow.specs.Preceded.Inversion.{preceded_ok}
-use Rattle.winnow.specs.Repeat.{RepeatRuns}
-use Rattle.winnow.specs.Repeat.Inversion.{Items, repeat_any_err, repeat_any_ok, repeated_by}
-use Rattle.winnow.specs.Repeat.Inversion.{repeated_list}
-use Rattle.winnow.specs.Func.{CalledWithMut, FuncWithRuns}
+use Rattle.winnow.specs.Func.{CalledWithMut}
+use Rattle.winnow.specs.FuncCalls.{CallsWithBy}
+use Rattle.winnow.specs.FuncDefinition.{FuncWithDoes}
+use Rattle.winnow.specs.Inversion.Outcomes.{Failing, fails_at}
+use Rattle.winnow.specs.Inversion.Repeats.{RepeatCases, repeat_any_err, repeat_any_ok}
+use Rattle.winnow.specs.Inversion.Repeats.{repeated_list}
+use Rattle.winnow.specs.Inversion.Sequences.{both_err, preceded_ok}
+use Rattle.winnow.specs.Inversion.Turns.{Calls, IsItem}
+use Rattle.winnow.specs.Left.{End, Left, left_of}
+use Rattle.winnow.specs.Outcome.{backs, outcome_of, took}
+use Rattle.winnow.specs.Sequence.{PrecededDoes}
 use Rattle.readers.specs.Document.{SectionText, PairBytes, Part, white, comment, section, pair}
 use Rattle.readers.specs.Document.{StartsWithPart, BeginsWith, BeginsDocument, IsRefusedDocument}
 use Rattle.readers.specs.Document.{NoPairBegins, NoSectionBegins, SectionBegins, ReachesSection}
 use Rattle.readers.specs.Document.{pairs_of, sections_of, HasSections, NoPairBeforeSections}
 use Rattle.readers.specs.DocumentRuns.{IsGapPart, NoGapBegins, HasNoSection, BeginsAtSection}
 use Rattle.readers.specs.DocumentRuns.{GapRuns, SectionRuns, SectionsRuns, DocumentRuns}
-use Rattle.winnow.specs.FuncCalls.{CallsWithBy, run_with_by}
+use Rattle.readers.proofs.Calls.{FunctionWith, err_with_by, ok_with_by, over_bytes, seen, whole}
 use Rattle.readers.proofs.PairLemmas.{not_none}
 use Rattle.readers.proofs.PartRuns.{part_shortens}
 use Rattle.readers.proofs.DocumentLemmas.{only_part}
 use Rattle.readers.proofs.SectionLemmas.{begins_append, begins_length, gap_no_sections, gap_before}
-
--- the pairs of a section end where the next section begins
-no_pairs_at : (qs : List Part) → BeginsAtSection qs → pairs_of qs ≡ []
-no_pairs_at [] at = refl
-no_pairs_at (white bytes ∷ qs) at = absurd at
-no_pairs_at (comment text ∷ qs) at = absurd at
-no_pairs_at (section name ∷ qs) at = refl
-no_pairs_at (pair p ∷ qs) at = absurd at
-
-pairs_upto : (ps qs : List Part) → BeginsAtSection qs → pairs_of (ps ++ qs) ≡ pairs_of ps
-pairs_upto [] qs at = no_pairs_at qs at
-pairs_upto (white bytes ∷ ps) qs at = pairs_upto ps qs at
-pairs_upto (comment text ∷ ps) qs at = pairs_upto ps qs at
-pairs_upto (section name ∷ ps) qs at = refl
-pairs_upto (pair p ∷ ps) qs at = ap (λ l. (p.key, p.value) ∷ l) (pairs_upto ps qs at)
-
--- and parts with no section add none
-sections_behind : (ps qs : List Part) → HasNoSection ps → sections_of (ps ++ qs) ≡ sections_of qs
-sections_behind [] qs h = refl
-sections_behind (white bytes ∷ ps) qs h = sections_behind ps qs h
-sections_behind (comment text ∷ ps) qs h = sections_behind ps qs h
-sections_behind (section name ∷ ps) qs h = absurd h
-sections_behind (pair p ∷ ps) qs h = sections_behind ps qs h
+use Rattle.readers.proofs.SectionLemmas.{pairs_upto, sections_behind}
 
 -- where sections follow, no pair follows but one that belongs to them
 no_pair_behind : (ps : List Part) (a b : List ℕ) → NoPairBegins a → BeginsWith ps a b
@@ -99,40 +77,6 @@ section_fails told i k j
 section_fails told i k j (ends, inr (inl (none, is))) = inl (none, same_kind is)
 section_fails told i k j (ends, inr (inr (some, is))) = inr (some, same_kind is)
 
--- the parts of some sections
-sections_read : {S X : Type 0} (told : X → SectionText) (run : Runs S ℕ X)
-    → ((s : S) (i : Input ℕ) (answer : Answer X) (t : S) (j : Input ℕ) → run s i answer t j
-    → SectionRuns told i answer j)
-    → (outputs : List X) (s : S) (i : Input ℕ) (u : S) (m : Input ℕ)
-    → Items run s i outputs u m
-    → (parts : List Part) × BeginsWith parts i.left.tokens m.left.tokens × BeginsAtSection parts
-    × (map told outputs ≡ sections_of parts)
-    × (NoGapBegins i.left.tokens → NoGapBegins m.left.tokens)
-    × ((parts ≡ [] → ⊥) → NoPairBegins m.left.tokens)
-sections_read told run reads [] s i u m e =
-    let P : List ℕ → Type 0 = λ l. NoGapBegins l in (
-      [],
-      ap (λ p. p.1.left.tokens) e,
-      tt,
-      refl,
-      (λ none. subst P (ap (λ p. p.1.left.tokens) e) none),
-      λ some. absurd (some refl),
-    )
-sections_read told run reads (o ∷ os) s i u m (q, item, rest) =
-    let (parts, with, at, texts, last, last_pair) =
-    sections_read told run reads os q.0 q.1 u m rest in
-    let (name, ps, begins, no_section, no_gap, no_pair, text) =
-    section_told told i o q.1 (reads s i (Ok o) q.0 q.1 item.0) in (
-      section name ∷ (ps ++ parts),
-      begins_append (section name ∷ ps) parts i.left.tokens q.1.left.tokens m.left.tokens
-          begins with,
-      tt,
-      same_item text (sym (pairs_upto ps parts at))
-          (texts ∙ sym (sections_behind ps parts no_section)),
-      (λ none. last no_gap),
-      λ some. no_pair_behind parts q.1.left.tokens m.left.tokens no_pair with last_pair,
-    )
-
 first_section : (ps : List Part) (a b : List ℕ) → BeginsWith ps a b → BeginsAtSection ps
     → SectionBegins b → SectionBegins a
 first_section [] a b e at some =
@@ -142,60 +86,101 @@ first_section (comment text ∷ ps) a b with at some = absurd at
 first_section (section name ∷ ps) a b (behind, begins, more) at some = (name, behind, begins)
 first_section (pair p ∷ ps) a b with at some = absurd at
 
--- a repetition of sections
-pub sections_repeated : {S X A : Type 0} (told : X → SectionText) (run : Runs S ℕ X)
-    (assert_kind : Kind) (range : Range) (s : S) (i : Input ℕ) (answer : Answer (Vec X A))
-    (t : S) (j : Input ℕ) → range ≡ record { start_inclusive = 0; end_inclusive = None }
-    → IsEndOf bytes_reading j i
-    → RepeatRuns run list_kept assert_kind (bounds_of range) s i answer t j
-    → ((s : S) (i : Input ℕ) (answer : Answer X) (t : S) (j : Input ℕ) → run s i answer t j
-    → SectionRuns told i answer j)
-    → SectionsRuns (λ all. map told all.items) i answer j
-sections_repeated told run assert_kind range s i (Ok all) t j e ends ran reads =
-    let done =
-    repeat_any_ok run list_kept assert_kind s i all t j
-    (repeated_by run list_kept assert_kind range 0 None s i (Ok all) t j e ran) in
-    let (parts, with, at, texts, last, last_pair) =
-    sections_read told run reads done.outputs s i done.state done.input done.chain in
-    let P : List ℕ → Type 0 =
-    λ l. BeginsWith parts i.left.tokens l × NoSectionBegins l
-    × (NoGapBegins i.left.tokens → NoGapBegins l) × ((parts ≡ [] → ⊥) → NoPairBegins l) in
-    elim (section_fails told done.input backtrack done.last
-    (reads done.state done.input (Err backtrack) t done.last done.ended)) [
-      | inl none ↦
-          let there =
-          subst P (sym (ap (λ y. y.left.tokens) done.back)) (with, none.0, last, last_pair) in
-          let items = ap (λ l. map told l) (repeated_list run s i all t j done) ∙ texts in
-          (ends, inl (all, parts, there.0, at, items, there.1, there.2, there.3, refl))
-      | inr some ↦ absurd (cc some.1)
-    ]
-sections_repeated told run assert_kind range s i (Err k) t j e ends ran reads =
-    let done =
-    repeat_any_err run list_kept assert_kind s i k t j (λ x. x)
-    (repeated_by run list_kept assert_kind range 0 None s i (Err k) t j e ran) in
-    let (parts, with, at, texts, last, last_pair) =
-    sections_read told run reads done.outputs s i done.state done.input done.chain in
-    let first = first_section parts i.left.tokens done.input.left.tokens with at in (
-      ends,
-      inr (elim done.failure [
-        | inl (fails, other) ↦
-            elim (section_fails told done.input k j (reads done.state done.input (Err k) t j fails))
-            [ inl none ↦ absurd (other none.1) | inr some ↦ (first some.0, ap Err some.1) ]
-        | inr (inl (o, ran_on, same, is)) ↦
-            let (name, ps, (behind, begins, more), no_section, no_gap, no_pair, text) =
-            section_told told done.input o j (reads done.state done.input (Ok o) t j ran_on) in
-            absurd (omega (
-              arith,
-              part_shortens (section name) done.input.left.tokens behind begins,
-              begins_length ps behind j.left.tokens more,
-              ap (λ l. length l) same,
-            ))
-        | inr (inr (o, some, ran_on, grows, is)) ↦
-            let (name, ps, (behind, begins, more), no_section, no_gap, no_pair, text) =
-            section_told told done.input o j (reads done.state done.input (Ok o) t j ran_on) in
-            (first (name, behind, begins), ap Err is)
-      ]),
-    )
+-- Each call of an item is one of the reader of a section.
+pub record ReadsSection {S Q X : Type 0} (told : X → SectionText) (Child : Calls S Q ℕ X)
+    : Type 0 where
+  pub takes : (q : Q) (w : Left ℕ) (o : X) (a : End S ℕ) → Child over_bytes q w (took o a)
+      → SectionRuns told (whole w) (Ok o) (whole a.1)
+  pub fails : (q : Q) (w : Left ℕ) (k : Kind) (left : Left ℕ)
+      → Failing (Child over_bytes q w) k left → (j : Input ℕ) × SectionRuns told (whole w) (Err k) j
+
+pub reads_section : {A B F E X : Type 0} {kind : E → Kind} {g : FunctionWith A F E X}
+    (told : X → SectionText) → CallsWithBy seen kind g (SectionRuns told)
+    → ReadsSection {Q = (A × F) × B} told
+    (λ at q w. FuncWithDoes seen kind (CalledWithMut g) at q.0 w)
+reads_section told each = record {
+  takes = λ q w o a did. ok_with_by (SectionRuns told) (λ i x j met. met.0) each did;
+  fails = λ q w k left failed. err_with_by (SectionRuns told) (λ i x j met. met.0) each failed;
+}
+
+module _ {S Q X : Type 0} {told : X → SectionText} {Child : Calls S Q ℕ X}
+    (reads : ReadsSection told Child) (put : Q → S → Q) where
+  -- the parts of some sections
+  sections_read : (outputs : List X) (p e : End Q ℕ)
+      → FoldsTo (IsItem Child put over_bytes) p outputs e
+      → (parts : List Part) × BeginsWith parts p.1.tokens e.1.tokens × BeginsAtSection parts
+      × (map told outputs ≡ sections_of parts)
+      × (NoGapBegins p.1.tokens → NoGapBegins e.1.tokens)
+      × ((parts ≡ [] → ⊥) → NoPairBegins e.1.tokens)
+  sections_read [] p e same =
+      let is = ap (λ l. l.1.tokens) same in (
+        [],
+        is,
+        tt,
+        refl,
+        (λ none. subst (λ l. NoGapBegins l) is none),
+        λ some. absurd (some refl),
+      )
+  sections_read (o ∷ os) p e (a, (s, item, kept, less), rest) =
+      let (parts, with, at, texts, last, last_pair) = sections_read os a e rest in
+      let (name, ps, begins, no_section, no_gap, no_pair, text) =
+      section_told told _ o _ (reads.takes p.0 p.1 o (s, a.1) item) in (
+        section name ∷ (ps ++ parts),
+        begins_append (section name ∷ ps) parts p.1.tokens a.1.tokens e.1.tokens begins with,
+        tt,
+        same_item text (sym (pairs_upto ps parts at))
+            (texts ∙ sym (sections_behind ps parts no_section)),
+        (λ none. last no_gap),
+        λ some. no_pair_behind parts a.1.tokens e.1.tokens no_pair with last_pair,
+      )
+
+  -- a repetition of sections
+  pub sections_repeated : {A First : Type 0} {range : Range} {q : Q} (t : Q) (i j : Input ℕ)
+      (answer : Answer (Vec X A)) → range ≡ record { start_inclusive = 0; end_inclusive = None }
+      → IsEndOf bytes_reading j i
+      → RepeatCases list_kept First Child put (bounds_of range) over_bytes q (left_of i)
+      (outcome_of answer (t, left_of j))
+      → SectionsRuns (λ all. map told all.items) i answer j
+  sections_repeated {q = q} t i j (Ok all) range ends did =
+      let done = repeat_any_ok list_kept over_bytes range did in
+      let (parts, with, at, texts, last, last_pair) =
+      sections_read done.outputs (q, left_of i) done.there done.chain in
+      let P : List ℕ → Type 0 =
+      λ l. BeginsWith parts i.left.tokens l × NoSectionBegins l
+      × (NoGapBegins i.left.tokens → NoGapBegins l) × ((parts ≡ [] → ⊥) → NoPairBegins l) in
+      elim (section_fails told _ backtrack _
+      (reads.fails done.there.0 done.there.1 backtrack done.stop.1
+      (backs done.stop, done.ended, record { is = (refl, refl) })).1) [
+        | inl none ↦
+            let there = subst P (sym (ap (λ l. l.tokens) done.is_back))
+            (with, none.0, last, last_pair) in
+            let items = ap (λ l. map told l) (repeated_list done) ∙ texts in
+            (ends, inl (all, parts, there.0, at, items, there.1, there.2, there.3, refl))
+        | inr some ↦ absurd (cc some.1)
+      ]
+  sections_repeated {q = q} t i j (Err k) range ends did =
+      let done =
+      repeat_any_err list_kept over_bytes range (λ x. x) did (fails_at k (t, left_of j)) in
+      let (parts, with, at, texts, last, last_pair) =
+      sections_read done.outputs (q, left_of i) done.there done.chain in
+      let first = first_section parts i.left.tokens done.there.1.tokens with at in (
+        ends,
+        inr (elim done.failure [
+          | inl (failed, other) ↦ elim (section_fails told _ k _
+              (reads.fails done.there.0 done.there.1 k (left_of j) failed).1)
+              [ inl none ↦ absurd (other none.1) | inr some ↦ (first some.0, ap Err some.1) ]
+          | inr (inl (o, a, did, none, is)) ↦
+              let (name, ps, (behind, begins, more), no_section, no_gap, no_pair, text) =
+              section_told told _ o _ (reads.takes done.there.0 done.there.1 o a did) in
+              let shorter = part_shortens (section name) done.there.1.tokens behind begins in
+              let rest = begins_length ps behind a.1.tokens more in
+              absurd (none (omega (arith, shorter, rest)))
+          | inr (inr (o, some, a, did, grows, is)) ↦
+              let (name, ps, (behind, begins, more), no_section, no_gap, no_pair, text) =
+              section_told told _ o _ (reads.takes done.there.0 done.there.1 o a did) in
+              (first (name, behind, begins), ap Err is)
+        ]),
+      )
 
 -- ---- a document
 
@@ -245,47 +230,51 @@ reaches_behind gap input rest all with (name, behind, begins) =
       omega (arith, ap (λ l. length l) (gap_no_sections gap one all)),
     )
 
-pub document_read : {A B F1 F2 I E S C : Type 0} {reading : Reading ℕ S} {view : I → Input ℕ}
-    {kind : E → Kind}
-    {g1 : Mut F1 (A × (MutBor I × Unit {0})) (Result (Unit {0}) E × (MutBor I × Unit {0}))}
-    {g2 : Mut F2 (B × (MutBor I × Unit {0})) (Result C E × (MutBor I × Unit {0}))}
-    {s1 t1 : A × F1} {s2 t2 : B × F2} (told : C → List SectionText) (i : Input ℕ)
-    (answer : Answer C) (j : Input ℕ) → IsEndOf bytes_reading j i
-    → PrecededRuns (FuncWithRuns reading view kind (CalledWithMut g1))
-    (FuncWithRuns reading view kind (CalledWithMut g2)) (s1, s2) i answer (t1, t2) j
-    → CallsWithBy view kind g1 GapRuns → CallsWithBy view kind g2 (SectionsRuns told)
-    → DocumentRuns told i answer j
-document_read told i (Ok o) j ends ran by_gap by_sections =
-    let (u, a, r1, r2) = preceded_ok o ran in
-    let (gap, all_gap, with_gap, no_gap, gis) = (run_with_by GapRuns r1 by_gap).1 in
-    elim (run_with_by (SectionsRuns told) r2 by_sections).1 [
-      | inl (all, parts, with, at, texts, no_section, last, last_pair, is) ↦ (
-        ends,
-        inl (
-          o,
-          gap ++ parts,
-          (
-            begins_append gap parts i.left.tokens a.left.tokens j.left.tokens with_gap with,
-            gap_before gap parts all_gap (before_sections parts at),
+module _ {A B F1 F2 E C : Type 0} {kind : E → Kind} {g1 : FunctionWith A F1 E (Unit {0})}
+    {g2 : FunctionWith B F2 E C} (told : C → List SectionText)
+    (by_gap : CallsWithBy seen kind g1 GapRuns)
+    (by_sections : CallsWithBy seen kind g2 (SectionsRuns told)) {s1 : A × F1} {s2 : B × F2} where
+  pub document_read : (t : (A × F1) × (B × F2)) (i j : Input ℕ) (answer : Answer C)
+      → IsEndOf bytes_reading j i
+      → PrecededDoes (FuncWithDoes seen kind (CalledWithMut g1))
+      (FuncWithDoes seen kind (CalledWithMut g2)) over_bytes (s1, s2) (left_of i)
+      (outcome_of answer (t, left_of j))
+      → DocumentRuns told i answer j
+  document_read t i j (Ok o) ends did =
+      let (u, a, s, r1, r2) = preceded_ok did in
+      let (gap, all_gap, with_gap, no_gap, gis) =
+      (ok_with_by GapRuns (λ i x j met. met.0) by_gap r1).1 in
+      elim (ok_with_by (SectionsRuns told) (λ i x j met. met.0) by_sections r2).1 [
+        | inl (all, parts, with, at, texts, no_section, last, last_pair, is) ↦ (
+          ends,
+          inl (
+            o,
+            gap ++ parts,
+            (
+              begins_append gap parts i.left.tokens a.1.tokens j.left.tokens with_gap with,
+              gap_before gap parts all_gap (before_sections parts at),
+            ),
+            at_output (λ c. told c ≡ sections_of (gap ++ parts)) is
+                (texts ∙ sym (gap_no_sections gap parts all_gap)),
+            no_part_behind gap parts j.left.tokens all_gap (last no_gap) no_section last_pair,
+            refl,
           ),
-          at_output (λ c. told c ≡ sections_of (gap ++ parts)) is
-              (texts ∙ sym (gap_no_sections gap parts all_gap)),
-          no_part_behind gap parts j.left.tokens all_gap (last no_gap) no_section last_pair,
-          refl,
-        ),
-      )
-      | inr (some, is) ↦ ok_is_err refl is
-    ]
-document_read told i (Err k) j ends ran by_gap by_sections = elim (both_err k ran) [
-  | inl (r1, same) ↦ ok_is_err (run_with_by GapRuns r1 by_gap).1.4 refl
-  | inr (u, a, r1, r2) ↦
-      let (gap, all_gap, with_gap, no_gap, gis) = (run_with_by GapRuns r1 by_gap).1 in
-      elim (run_with_by (SectionsRuns told) r2 by_sections).1 [
-        | inl (all, parts, with, at, texts, no_section, last, last_pair, is) ↦ ok_is_err is refl
-        | inr (some, is) ↦
-            (ends, inr (reaches_behind gap i.left.tokens a.left.tokens all_gap with_gap some, is))
+        )
+        | inr (some, is) ↦ ok_is_err refl is
       ]
-]
+  document_read t i j (Err k) ends did = elim (both_err (_, did, fails_at k (t, left_of j))) [
+    | inl r1 ↦ ok_is_err (err_with_by GapRuns (λ i x j met. met.0) by_gap r1).1.1.4 refl
+    | inr (u, a, r1, r2) ↦
+        let (gap, all_gap, with_gap, no_gap, gis) =
+        (ok_with_by GapRuns (λ i x j met. met.0) by_gap r1).1 in
+        elim (err_with_by (SectionsRuns told) (λ i x j met. met.0) by_sections r2).1.1 [
+          | inl (all, parts, with, at, texts, no_section, last, last_pair, is) ↦ ok_is_err is refl
+          | inr (some, is) ↦ (
+            ends,
+            inr (reaches_behind gap i.left.tokens a.1.tokens all_gap with_gap some, is),
+          )
+        ]
+  ]
 
 -- No parts reach further than those after which no part follows.
 longest_of_all : (ps qs : List Part) (input rest left : List ℕ) → BeginsWith ps input rest

@@ -1,24 +1,15 @@
 -- Lemmas about the calls of a key, the mark, a value and a comment.
-use Rattle.std.proofs.Common.{◌≡◌, ◌<◌, ◌∙◌, ◌⊎◌, ℕ, List, [], ◌∷◌, ◌++◌, length, Option, Some}
+use Rattle.std.proofs.Common.{◌≡◌, ◌<◌, ◌∙◌, ℕ, List, [], ◌∷◌, ◌++◌, length, Option, Some}
 use Rattle.std.proofs.Common.{None, Ok, Err, refl, sym, ap, subst, arith, inl, inr, lit<}
-use Rattle.std.specs.Borrow.{Bor, MutBor}
-use Rattle.std.specs.Fn.{CalledAtMut, Mut}
+use Rattle.std.specs.Borrow.{Bor}
+use Rattle.std.specs.Fn.{CalledAtMut}
 use Rattle.std.specs.List.{All}
-use Rattle.std.specs.Prelude.{MatchOption, Result}
 use Rattle.std.specs.Str.{IsUtf8}
 use Rattle.std.proofs.lemmas.Bool.{cases_eq}
 use Rattle.std.proofs.lemmas.List.Elements.{All-cons, All-head, All-nil, All-tail}
-use Rattle.winnow.specs.Input.{Input, back_at}
+use Rattle.winnow.specs.Input.{Input}
 use Rattle.winnow.specs.Kind.{Kind, backtrack}
-use Rattle.winnow.specs.Form.{Answer}
 use Rattle.winnow.specs.Form.Inversion.{at_output, ok_is_err, same_kind}
-use Rattle.winnow.specs.InOrder.Inversion.{three_err}
-use Rattle.winnow.specs.Opt.{OptRuns}
-use Rattle.winnow.specs.Opt.Inversion.{opt_err, opt_ok}
-use Rattle.winnow.specs.Func.{FuncRuns}
-use Rattle.winnow.specs.Reading.{Reading}
-use Rattle.winnow.specs.SeparatedPair.{SeparatedPairRuns}
-use Rattle.winnow.specs.SeparatedPair.Inversion.{separated_pair_ok}
 use Rattle.readers.specs.Pair.{IsKeyByte}
 use Rattle.readers.specs.Document.{IsBlank, IsValueByte, NotFirst, EndsLine, PairBytes, pair}
 use Rattle.readers.specs.Document.{IsRemark, StartsWithPart, NoPairBegins}
@@ -26,7 +17,16 @@ use Rattle.readers.specs.DocumentRuns.{IsFront, IsWithoutTrailing, KeyRuns, Mark
 use Rattle.readers.specs.DocumentRuns.{CommentRuns}
 use Rattle.readers.proofs.DocumentLemmas.{IsLaid, laid_of_pair, one_layout, pair_flat, after_key}
 use Rattle.readers.proofs.DocumentLemmas.{key_ends, not_blank}
-use Rattle.winnow.specs.FuncCalls.{CallsBy, run_by}
+use Rattle.winnow.specs.FuncCalls.{CallsBy}
+use Rattle.winnow.specs.FuncDefinition.{FuncDoes}
+use Rattle.winnow.specs.Inversion.Choices.{opt_err, opt_ok}
+use Rattle.winnow.specs.Inversion.Outcomes.{Failing}
+use Rattle.winnow.specs.Inversion.Sequences.{separated_pair_ok, three_err}
+use Rattle.winnow.specs.Left.{End, Left}
+use Rattle.winnow.specs.Opt.{OptDoes}
+use Rattle.winnow.specs.Outcome.{Outcome, backs, took}
+use Rattle.winnow.specs.Sequence.{SeparatedPairDoes}
+use Rattle.readers.proofs.Calls.{Function, err_by, ok_by, over_bytes, seen}
 
 -- no pair begins where no key does
 no_key_first : (tokens : List ℕ) → NotFirst IsKeyByte tokens → NoPairBegins tokens
@@ -126,68 +126,65 @@ value_err i k j (ends, (body, rest, values, inl (o, there, trail, text, is))) = 
 value_err i k j (ends, (body, rest, values, inr (refuses, is))) =
     (body, rest, values, refuses, same_kind is)
 
--- `FrontRead i answer j`: the combined result of the calls of a key, the mark and a value.
-abbrev pub FrontRead : Input ℕ → Answer (Bor (List ℕ) × Bor (List ℕ)) → Input ℕ → Type 0
-FrontRead i answer j =
-    -- a pair's key, mark and value
-    ((key : Bor (List ℕ)) × (value : Bor (List ℕ)) × (before : List ℕ) × (lead : List ℕ)
-    × (body : List ℕ) × IsLaid i.left.tokens key.now before lead body j.left.tokens
-    × (0 < length key.now) × IsWithoutTrailing body value.now × IsUtf8 value.now
-    × (answer ≡ Ok (key, value)))
-    -- no pair begins there
-    ⊎ (NoPairBegins i.left.tokens × (answer ≡ Err backtrack))
+-- the calls of a key, the mark and a value
+abbrev Front : {F1 F2 F3 E : Type 0} → (E → Kind) → Function F1 E (Bor (List ℕ))
+    → Function F2 E (Unit {0}) → Function F3 E (Bor (List ℕ)) → F1 → F2 → F3 → Left ℕ
+    → Outcome (End (F1 × F2 × F3) ℕ) (Bor (List ℕ) × Bor (List ℕ)) → Type 0
+Front kind g1 g2 g3 s1 s2 s3 w =
+    SeparatedPairDoes (FuncDoes seen kind (CalledAtMut g1)) (FuncDoes seen kind (CalledAtMut g2))
+    (FuncDoes seen kind (CalledAtMut g3)) over_bytes (s1, s2, s3) w
 
-pub front_read : {F1 F2 F3 I E S : Type 0} {reading : Reading ℕ S} {view : I → Input ℕ}
-    {kind : E → Kind}
-    {g1 : Mut F1 (MutBor I × Unit {0}) (Result (Bor (List ℕ)) E × (MutBor I × Unit {0}))}
-    {g2 : Mut F2 (MutBor I × Unit {0}) (Result (Unit {0}) E × (MutBor I × Unit {0}))}
-    {g3 : Mut F3 (MutBor I × Unit {0}) (Result (Bor (List ℕ)) E × (MutBor I × Unit {0}))}
-    {s1 t1 : F1} {s2 t2 : F2} {s3 t3 : F3} (i : Input ℕ)
-    (answer : Answer (Bor (List ℕ) × Bor (List ℕ))) (j : Input ℕ)
-    → SeparatedPairRuns (FuncRuns reading view kind (CalledAtMut g1))
-    (FuncRuns reading view kind (CalledAtMut g2)) (FuncRuns reading view kind (CalledAtMut g3))
-    (s1, s2, s3) i answer (t1, t2, t3) j
-    → CallsBy view kind g1 KeyRuns → CallsBy view kind g2 MarkRuns
-    → CallsBy view kind g3 ValueRuns → FrontRead i answer j
-front_read i (Ok o) j ran by_key by_mark by_value =
-    let (between, a, b, r1, r2, r3) = separated_pair_ok o ran in
-    let (some, keys) = key_ok i o.0 a (run_by KeyRuns r1 by_key) in
-    let (before, lead, rest, blanks, leads) = mark_ok a between b (run_by MarkRuns r2 by_mark) in
-    let (body, values, trail, text) = value_ok b o.1 j (run_by ValueRuns r3 by_value) in
-    inl (
-      o.0,
-      o.1,
-      before,
-      lead,
-      body,
-      laid_by i.left.tokens o.0.now a.left.tokens before rest lead b.left.tokens body
-          j.left.tokens keys blanks leads values,
-      some,
-      trail,
-      text,
-      refl,
-    )
-front_read i (Err k) j ran by_key by_mark by_value = elim (three_err k ran) [
-  | inl (r1, s2, s3) ↦
-      let (none, is) = key_err i k j (run_by KeyRuns r1 by_key) in
-      inr (no_key_first i.left.tokens none, ap Err is)
-  | inr (inl (key, a, r1, r2, s3)) ↦
-      let (before, rest, blanks, none, is) = mark_err a k j (run_by MarkRuns r2 by_mark) in
-      inr (
-        no_mark_behind i.left.tokens key.now a.left.tokens before rest
-            (key_ok i key a (run_by KeyRuns r1 by_key)).1 blanks none,
-        ap Err is,
+module _ {F1 F2 F3 E : Type 0} {kind : E → Kind} {g1 : Function F1 E (Bor (List ℕ))}
+    {g2 : Function F2 E (Unit {0})} {g3 : Function F3 E (Bor (List ℕ))} {s1 : F1} {s2 : F2}
+    {s3 : F3} {w : Left ℕ} (by_key : CallsBy seen kind g1 KeyRuns)
+    (by_mark : CallsBy seen kind g2 MarkRuns) (by_value : CallsBy seen kind g3 ValueRuns) where
+  -- a pair's key, mark and value
+  pub front_ok : {o : Bor (List ℕ) × Bor (List ℕ)} {e : End (F1 × F2 × F3) ℕ}
+      → Front kind g1 g2 g3 s1 s2 s3 w (took o e)
+      → (before : List ℕ) × (lead : List ℕ) × (body : List ℕ)
+      × IsLaid w.tokens o.0.now before lead body e.1.tokens × (0 < length o.0.now)
+      × IsWithoutTrailing body o.1.now × IsUtf8 o.1.now
+  front_ok {o} {e} did =
+      let (between, a, b, s, r1, r2, r3) = separated_pair_ok did in
+      let (some, keys) = key_ok _ o.0 _ (ok_by KeyRuns (λ i x j met. met.0) by_key r1) in
+      let (before, lead, rest, blanks, leads) =
+      mark_ok _ between _ (ok_by MarkRuns (λ i x j met. met.0) by_mark r2) in
+      let (body, values, trail, text) =
+      value_ok _ o.1 _ (ok_by ValueRuns (λ i x j met. met.0) by_value r3) in (
+        before,
+        lead,
+        body,
+        laid_by w.tokens o.0.now a.1.tokens before rest lead b.1.tokens body e.1.tokens keys blanks
+            leads values,
+        some,
+        trail,
+        text,
       )
-  | inr (inr (key, between, a, b, r1, r2, r3)) ↦
-      let (before, lead, rest, blanks, leads) = mark_ok a between b (run_by MarkRuns r2 by_mark) in
-      let (body, behind, values, refuses, is) = value_err b k j (run_by ValueRuns r3 by_value) in
-      inr (
-        no_value_text i.left.tokens key.now before lead body behind
-            (laid_by i.left.tokens key.now a.left.tokens before rest lead b.left.tokens body
-            behind (key_ok i key a (run_by KeyRuns r1 by_key)).1 blanks leads values) refuses,
-        ap Err is,
-      )
-]
+
+  -- no pair begins there
+  pub front_err : {k : Kind} {left : Left ℕ} → Failing (Front kind g1 g2 g3 s1 s2 s3 w) k left
+      → NoPairBegins w.tokens × (k ≡ backtrack)
+  front_err {k} failed = elim (three_err failed) [
+    | inl r1 ↦
+        let (none, is) = key_err _ k _ (err_by KeyRuns (λ i x j met. met.0) by_key r1).1 in
+        (no_key_first w.tokens none, is)
+    | inr (inl (key, a, r1, r2)) ↦
+        let keys = key_ok _ key _ (ok_by KeyRuns (λ i x j met. met.0) by_key r1) in
+        let (before, rest, blanks, none, is) =
+        mark_err _ k _ (err_by MarkRuns (λ i x j met. met.0) by_mark r2).1 in
+        (no_mark_behind w.tokens key.now a.1.tokens before rest keys.1 blanks none, is)
+    | inr (inr (key, between, a, b, r1, r2, r3)) ↦
+        let keys = key_ok _ key _ (ok_by KeyRuns (λ i x j met. met.0) by_key r1) in
+        let (before, lead, rest, blanks, leads) =
+        mark_ok _ between _ (ok_by MarkRuns (λ i x j met. met.0) by_mark r2) in
+        let (body, behind, values, refuses, is) =
+        value_err _ k _ (err_by ValueRuns (λ i x j met. met.0) by_value r3).1 in (
+          no_value_text w.tokens key.now before lead body behind
+              (laid_by w.tokens key.now a.1.tokens before rest lead b.1.tokens body behind keys.1
+              blanks leads values) refuses,
+          is,
+        )
+  ]
 
 -- a comment, or none, and then the end of the line
 remark_ends : (tokens : List ℕ) → NotFirst IsValueByte tokens → NotFirst (λ b. b ≡ 59) tokens
@@ -196,51 +193,39 @@ remark_ends [] stops none = tt
 remark_ends (b ∷ more) stops none =
     elim (cases_eq b 10) [ inl e ↦ e | inr n ↦ absurd (stops (none, n)) ]
 
-pub remark_read : {F I E S : Type 0} {reading : Reading ℕ S} {view : I → Input ℕ}
-    {kind : E → Kind}
-    {g : Mut F (MutBor I × Unit {0}) (Result (Unit {0}) E × (MutBor I × Unit {0}))} {s t : F}
-    (i : Input ℕ) (o : Option (Unit {0})) (j : Input ℕ) → NotFirst IsValueByte i.left.tokens
-    → OptRuns (FuncRuns reading view kind (CalledAtMut g)) s i (Ok o) t j
-    → CallsBy view kind g CommentRuns
-    → (remark : List ℕ) × IsRemark remark × (i.left.tokens ≡ remark ++ j.left.tokens)
-    × EndsLine j.left.tokens
-remark_read {reading = reading} {view = view} {kind = kind} {g = g} {s = s} {t = t} i o j stops
-    ran by_comment = by_output o (opt_ok o ran)
-  where
-    by_output : (o : Option (Unit {0}))
-        → MatchOption o
-        ((m : Input ℕ) × FuncRuns reading view kind (CalledAtMut g) s i (Err backtrack) t m
-        × (j ≡ back_at i.left m))
-        (λ x. FuncRuns reading view kind (CalledAtMut g) s i (Ok x) t j)
-        → (remark : List ℕ) × IsRemark remark × (i.left.tokens ≡ remark ++ j.left.tokens)
-        × EndsLine j.left.tokens
-    by_output (Some x) child = elim (run_by CommentRuns child by_comment).1 [
-      | inl (text, begins, is) ↦
-          (59 ∷ text, inr (text, refl, begins.1.0), begins.0, begins.1.1)
-      | inr (none, is) ↦ ok_is_err refl is
-    ]
-    by_output None (m, child, back) = elim (run_by CommentRuns child by_comment).1 [
-      | inl (text, begins, is) ↦ ok_is_err is refl
-      | inr (none, is) ↦
-          let P : List ℕ → Type 0 = λ l. (i.left.tokens ≡ l) × EndsLine l in
-          let there = subst P (sym (ap (λ x. x.left.tokens) back))
-          (refl, remark_ends i.left.tokens stops none) in
-          ([], inl refl, there.0, there.1)
-    ]
+module _ {F E : Type 0} {kind : E → Kind}
+    {g : Function F E (Unit {0})} {f : F} {w : Left ℕ}
+    (by_comment : CallsBy seen kind g CommentRuns) where
+  not_marked : {k : Kind} {left : Left ℕ}
+      → Failing (FuncDoes seen kind (CalledAtMut g) over_bytes f w) k left
+      → NotFirst (λ b. b ≡ 59) w.tokens × (k ≡ backtrack)
+  not_marked failed = elim (err_by CommentRuns (λ i x j met. met.0) by_comment failed).1.1 [
+    | inl (text, begins, is) ↦ ok_is_err is refl
+    | inr (none, is) ↦ (none, same_kind is)
+  ]
 
--- it never fails
-pub remark_never_fails : {P F I E S : Type 0} {reading : Reading ℕ S} {view : I → Input ℕ}
-    {kind : E → Kind}
-    {g : Mut F (MutBor I × Unit {0}) (Result (Unit {0}) E × (MutBor I × Unit {0}))} {s t : F}
-    (i : Input ℕ) (k : Kind) (j : Input ℕ)
-    → OptRuns (FuncRuns reading view kind (CalledAtMut g)) s i (Err k) t j
-    → CallsBy view kind g CommentRuns → P
-remark_never_fails i k j ran by_comment =
-    let (failed, other) = opt_err k ran in
-    elim (run_by CommentRuns failed by_comment).1 [
-      | inl (text, begins, is) ↦ ok_is_err is refl
-      | inr (none, is) ↦ absurd (other (same_kind is))
-    ]
+  pub remark_read : (o : Option (Unit {0})) {e : End F ℕ} → NotFirst IsValueByte w.tokens
+      → OptDoes (FuncDoes seen kind (CalledAtMut g)) over_bytes f w (took o e)
+      → (remark : List ℕ) × IsRemark remark × (w.tokens ≡ remark ++ e.1.tokens)
+      × EndsLine e.1.tokens
+  remark_read (Some x) stops did =
+      elim (ok_by CommentRuns (λ i x j met. met.0) by_comment (opt_ok (Some x) did)).1 [
+        | inl (text, begins, is) ↦
+            (59 ∷ text, inr (text, refl, begins.1.0), begins.0, begins.1.1)
+        | inr (none, is) ↦ ok_is_err refl is
+      ]
+  remark_read None stops did =
+      let (a, child, back) = opt_ok None did in
+      let none = not_marked (backs a, child, record { is = (refl, refl) }) in
+      let there = subst (λ l. (w.tokens ≡ l) × EndsLine l) (sym (ap (λ l. l.tokens) back))
+      (refl, remark_ends w.tokens stops none.0) in
+      ([], inl refl, there.0, there.1)
+
+  -- it never fails
+  pub remark_never_fails : {P : Type 0} {k : Kind} {left : Left ℕ}
+      → Failing (OptDoes (FuncDoes seen kind (CalledAtMut g)) over_bytes f w) k left → P
+  remark_never_fails failed =
+      let (child, other) = opt_err failed in absurd (other (not_marked child).1)
 
 -- A pair was read.
 pub pair_read : (tokens key before lead body a value remark behind : List ℕ)

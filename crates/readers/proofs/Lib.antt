@@ -1,10 +1,12 @@
 pub mod ByteTables
 pub mod Bytes
+pub mod Calls
 pub mod DocumentLemmas
 pub mod DocumentReading
 pub mod Formulas
 pub mod GapLemmas
 pub mod KeyValueLemmas
+pub mod MarkLemmas
 pub mod Owed
 pub mod PairLemmas
 pub mod PairRuns

@@ -5,13 +5,11 @@ use Rattle.std.proofs.Common.{◌++◌, length, None, Some, refl, ap, subst, ari
 use Rattle.std.proofs.Common.{length-append}
 use Rattle.std.specs.List.{All}
 use Rattle.std.proofs.lemmas.List.{append-nil}
-use Rattle.winnow.specs.Input.{Input}
-use Rattle.winnow.specs.Bytes.{bytes_input}
 use Rattle.winnow.specs.Equal.{same_some}
 use Rattle.winnow.specs.Kind.{Kind}
-use Rattle.winnow.specs.Literal.Inversion.{TokenMissing, TokenTaken}
 use Rattle.winnow.specs.Longest.{IsLongest}
-use Rattle.winnow.specs.TakeWhile.Inversion.{TooFew, Took, none_first, took_all, took_stops}
+use Rattle.winnow.specs.Inversion.Takes.{TooFew, Took, none_first, took_all, took_stops}
+use Rattle.winnow.specs.Left.{Left}
 use Rattle.readers.specs.Pair.{IsKeyByte, IsPairLine, IsRefusedPair}
 use Rattle.readers.proofs.PairLemmas.{refused_after_key, refused_after_line}
 
@@ -34,20 +32,20 @@ feed_end feed_set c left (y ∷ []) is_feed feeds =
 feed_end feed_set c left (y ∷ (z ∷ xs)) is_feed feeds =
     let within = feeds.within in absurd (omega (arith, within))
 
-pub line_taken : (key_set value_set feed_set : ℕ → Bool → Type 0) (input k v x : List ℕ)
-    (a b c j : Input ℕ) → Took key_set 1 None (bytes_input input) k a → TokenTaken 61 a b
+pub line_taken : {key_set value_set feed_set : ℕ → Bool → Type 0} {k v x : List ℕ}
+    {w a b c j : Left ℕ} → Took key_set 1 None w k a → a.tokens ≡ 61 ∷ b.tokens
     → Took value_set 0 None b v c → Took feed_set 0 (Some 1) c x j
     → ((b : ℕ) → key_set b true → IsKeyByte b) → ((b : ℕ) → value_set b true → b ≢ 10)
-    → ((b : ℕ) → feed_set b true → b ≡ 10) → LineTaken input k v x j.left.tokens
-line_taken key_set value_set feed_set input k v x a b c j keys mark values feeds is_key is_value
+    → ((b : ℕ) → feed_set b true → b ≡ 10) → LineTaken w.tokens k v x j.tokens
+line_taken {feed_set = feed_set} {k} {v} {x} {c = c} {j} keys mark values feeds is_key is_value
     is_feed = record {
       some = keys.enough;
-      keys = took_all IsKeyByte key_set 1 None (bytes_input input) k a is_key keys;
-      values = took_all (λ y. y ≢ 10) value_set 0 None b v c is_value values;
-      feed = feed_end feed_set c.left.tokens j.left.tokens x is_feed feeds.longest;
+      keys = took_all IsKeyByte is_key keys;
+      values = took_all (λ y. y ≢ 10) is_value values;
+      feed = feed_end feed_set c.tokens j.tokens x is_feed feeds.longest;
       splits = keys.longest.splits
           ∙ ap (λ l. k ++ l)
-          (mark.splits ∙ ap (λ l. 61 ∷ l)
+          (mark ∙ ap (λ l. 61 ∷ l)
           (values.longest.splits ∙ ap (λ l. v ++ l) feeds.longest.splits));
     }
 
@@ -64,15 +62,15 @@ line_read input k v x left line nothing = (
       ∙ ap (λ l. k ++ (61 ∷ (v ++ l))) (ap (λ l. x ++ l) nothing ∙ append-nil x),
 )
 
-pub line_stops : (value_set feed_set : ℕ → Bool → Type 0) (v x : List ℕ) (b c j : Input ℕ)
+pub line_stops : {value_set feed_set : ℕ → Bool → Type 0} {v x : List ℕ} {b c j : Left ℕ}
     → Took value_set 0 None b v c → Took feed_set 0 (Some 1) c x j
     → ((b : ℕ) → value_set b false → b ≡ 10) → ((b : ℕ) → feed_set b false → b ≢ 10)
-    → (y : ℕ) (more : List ℕ) → j.left.tokens ≡ y ∷ more → x ≡ [] → ⊥
-line_stops value_set feed_set v x b c j values feeds not_value not_feed y more e none =
+    → (y : ℕ) (more : List ℕ) → j.tokens ≡ y ∷ more → x ≡ [] → ⊥
+line_stops {j = j} values feeds not_value not_feed y more e none =
     elim (feeds.longest.stops y more e) [
       | inl stranger ↦ not_feed y stranger
-          (took_stops (λ z. z ≡ 10) value_set 0 b v c not_value values y more
-          (feeds.longest.splits ∙ ap (λ l. l ++ j.left.tokens) none ∙ e))
+          (took_stops (λ z. z ≡ 10) not_value values y more
+          (feeds.longest.splits ∙ ap (λ l. l ++ j.tokens) none ∙ e))
       | inr full ↦ absurd (omega (arith, same_some full, ap (λ l. length l) none))
     ]
 
@@ -101,36 +99,33 @@ line_left input k v x (y ∷ more) n line stops something at = by_feed line.feed
         let P : ℕ → Type 0 = λ m. IsRefusedPair input m in
         subst P n_is (refused_after_line input k v more y split line.some line.keys line.values)
 
-pub no_key : (key_set : ℕ → Bool → Type 0) (input : List ℕ) (k : Kind) (j : Input ℕ) (n : ℕ)
-    → TooFew key_set 1 None (bytes_input input) k j → n + length j.left.tokens ≡ length input
-    → ((b : ℕ) → key_set b false → IsKeyByte b → ⊥) → IsRefusedPair input n
-no_key key_set input k j n few at not_key =
-    let zero_at : 0 ≡ n = omega (arith, at, ap (λ i. length i.left.tokens) few.stays) in
-    let P : ℕ → Type 0 = λ m. IsRefusedPair input m in
-    subst P zero_at (refused_after_key input [] input refl (λ k d h. absurd (omega arith))
-    (λ y more e. (
-      none_first (λ b. IsKeyByte b → ⊥) key_set (bytes_input input) k j not_key few y more e,
-      inl refl,
-    )))
+pub no_key : {key_set : ℕ → Bool → Type 0} {w left : Left ℕ} {k : Kind} {n : ℕ}
+    → TooFew key_set 1 None w k left → n + length left.tokens ≡ length w.tokens
+    → ((b : ℕ) → key_set b false → IsKeyByte b → ⊥) → IsRefusedPair w.tokens n
+no_key {w = w} {n = n} few at not_key =
+    let zero_at : 0 ≡ n = omega (arith, at, ap (λ l. length l.tokens) few.stays) in
+    let P : ℕ → Type 0 = λ m. IsRefusedPair w.tokens m in
+    subst P zero_at (refused_after_key w.tokens [] w.tokens refl (λ k d h. absurd (omega arith))
+    (λ y more e. (none_first (λ b. IsKeyByte b → ⊥) not_key few y more e, inl refl)))
 
 -- no mark follows the key
-pub no_mark : (key_set : ℕ → Bool → Type 0) (input k : List ℕ) (kind : Kind) (a j : Input ℕ)
-    (n : ℕ) → Took key_set 1 None (bytes_input input) k a → TokenMissing 61 a kind j
-    → n + length j.left.tokens ≡ length input → ((b : ℕ) → key_set b true → IsKeyByte b)
-    → ((b : ℕ) → key_set b false → IsKeyByte b → ⊥) → IsRefusedPair input n
-no_mark key_set input k kind a j n keys missing at is_key not_key =
+pub no_mark : {key_set : ℕ → Bool → Type 0} {k : List ℕ} {w a left : Left ℕ} {n : ℕ}
+    → Took key_set 1 None w k a → ((rest : List ℕ) → a.tokens ≡ 61 ∷ rest → ⊥) → left ≡ a
+    → n + length left.tokens ≡ length w.tokens → ((b : ℕ) → key_set b true → IsKeyByte b)
+    → ((b : ℕ) → key_set b false → IsKeyByte b → ⊥) → IsRefusedPair w.tokens n
+no_mark {k = k} {w} {a} {n = n} keys missing stays at is_key not_key =
     let n_is : length k ≡ n =
     omega (
       arith,
       at,
-      ap (λ i. length i.left.tokens) missing.stays,
+      ap (λ l. length l.tokens) stays,
       ap (λ l. length l) keys.longest.splits,
-      length-append k a.left.tokens,
+      length-append k a.tokens,
     ) in
-    let P : ℕ → Type 0 = λ m. IsRefusedPair input m in
-    subst P n_is (refused_after_key input k a.left.tokens keys.longest.splits
-    (took_all IsKeyByte key_set 1 None (bytes_input input) k a is_key keys)
+    let P : ℕ → Type 0 = λ m. IsRefusedPair w.tokens m in
+    subst P n_is (refused_after_key w.tokens k a.tokens keys.longest.splits
+    (took_all IsKeyByte is_key keys)
     (λ y more e. (
-      took_stops (λ b. IsKeyByte b → ⊥) key_set 1 (bytes_input input) k a not_key keys y more e,
-      inr (λ is_mark. missing.other more (e ∙ ap (λ z. z ∷ more) is_mark)),
+      took_stops (λ b. IsKeyByte b → ⊥) not_key keys y more e,
+      inr (λ is_mark. missing more (e ∙ ap (λ z. z ∷ more) is_mark)),
     )))

@@ -15,9 +15,12 @@ use Rattle.winnow.specs.Bytes.{bytes_reading}
 use Rattle.winnow.specs.Input.{Input, Takes}
 use Rattle.winnow.specs.Kind.{Kind}
 use Rattle.winnow.specs.AsChar.{IsAlphanum}
-use Rattle.winnow.specs.TakeWhile.Inversion.{TooFew, Took, none_first, took_all, took_stops}
-use Rattle.winnow.specs.TakeUntil.Inversion.{NothingBefore, TookBefore, before_all, nothing_stands}
-use Rattle.winnow.specs.TakeUntil.Inversion.{there_all}
+use Rattle.winnow.specs.Left.{Left}
+use Rattle.winnow.specs.Grammar.Searches.{IsBefore}
+use Rattle.winnow.specs.TakeUntilDefinition.{OccursNowhere}
+use Rattle.winnow.specs.Inversion.Searches.{before_all, there_all}
+use Rattle.winnow.specs.Inversion.Takes.{TooFew, Took, none_first, tells_of, took_all, took_stops}
+use Rattle.winnow.specs.Stream.{AnswersSeen}
 use Rattle.readers.specs.Pair.{IsKeyByte}
 use Rattle.readers.specs.Document.{IsWhite, IsCommentByte, IsNameByte, IsValueByte, NotFirst}
 use Rattle.readers.specs.Document.{EndsLine, Part}
@@ -38,50 +41,48 @@ other_first b tokens other =
     not_first (λ x. x ≡ b) tokens (λ x more e is. other more (e ∙ ap (λ y. y ∷ more) is))
 
 -- a take with no greatest number takes the longest front
-pub took_front : (P : ℕ → Type 0) (member : ℕ → Bool → Type 0) (least : ℕ) (i : Input ℕ)
-    (taken : List ℕ) (j : Input ℕ) → Took member least None i taken j
+pub took_front : (P : ℕ → Type 0) {member : ℕ → Bool → Type 0} {least : ℕ} {w : Left ℕ}
+    {taken : List ℕ} {rest : Left ℕ} → Took member least None w taken rest
     → ((b : ℕ) → member b true → P b) → ((b : ℕ) → member b false → P b → ⊥)
-    → IsFront P i.left.tokens taken j.left.tokens
-took_front P member least i taken j all is other = (
+    → IsFront P w.tokens taken rest.tokens
+took_front P {rest = rest} all is other = (
   all.longest.splits,
-  took_all P member least None i taken j is all,
-  not_first P j.left.tokens (took_stops (λ b. P b → ⊥) member least i taken j other all),
+  took_all P is all,
+  not_first P rest.tokens (took_stops (λ b. P b → ⊥) other all),
 )
 
-pub no_front : (P : ℕ → Type 0) (member : ℕ → Bool → Type 0) (i : Input ℕ) (k : Kind)
-    (j : Input ℕ) → TooFew member 1 None i k j → ((b : ℕ) → member b false → P b → ⊥)
-    → NotFirst P i.left.tokens
-no_front P member i k j none other =
-    not_first P i.left.tokens (none_first (λ b. P b → ⊥) member i k j other none)
+pub no_front : (P : ℕ → Type 0) {member : ℕ → Bool → Type 0} {w : Left ℕ} {k : Kind}
+    {left : Left ℕ} → TooFew member 1 None w k left → ((b : ℕ) → member b false → P b → ⊥)
+    → NotFirst P w.tokens
+no_front P {w = w} none other = not_first P w.tokens (none_first (λ b. P b → ⊥) other none)
 
 -- a take up to the first byte that is not of P takes the longest front
-pub front_before : (P : ℕ → Type 0) (sought : List ℕ → Type 0) (i : Input ℕ)
-    (slice : Bor (List ℕ)) (j : Input ℕ) → ((b : ℕ) → (sought (b ∷ []) → ⊥) → P b)
+pub front_before : (P : ℕ → Type 0) {sought : List ℕ → Type 0} {tokens taken front rest : List ℕ}
+    → IsBefore sought tokens taken rest → front ≡ taken
+    → ((b : ℕ) → (sought (b ∷ []) → ⊥) → P b)
     → ((xs : List ℕ) → sought xs → (b : ℕ) × (xs ≡ b ∷ []) × (P b → ⊥))
-    → TookBefore bytes_reading sought 0 i slice j
-    → IsFront P i.left.tokens slice.now j.left.tokens
-front_before P sought i slice j is marks told =
-    let (b, e, other) = marks told.found told.is in
-    let all = before_all bytes_reading sought P told.taken j.left.tokens is told.first in
-    let first : (x : ℕ) (more : List ℕ) → j.left.tokens ≡ x ∷ more → P x → ⊥ =
-    λ x more e' p. other
-    (subst P (same_first (sym e' ∙ told.left ∙ ap (λ l. l ++ told.rest) e)) p) in
-    let F : List ℕ → Type 0 = λ l. IsFront P i.left.tokens l j.left.tokens in
-    subst F (sym told.takes.shown)
-    (told.takes.passed.tokens, all, not_first P j.left.tokens first)
+    → IsFront P tokens front rest
+front_before P {sought} {tokens} {rest = rest} before shown is marks =
+    let (found, more, there, left) = before.stands in
+    let (b, e, other) = marks found there in
+    let first : (x : ℕ) (xs : List ℕ) → rest ≡ x ∷ xs → P x → ⊥ =
+    λ x xs e' p. other
+    (subst P (same_first (sym e' ∙ left ∙ ap (λ l. l ++ more) e)) p) in
+    subst (λ l. IsFront P tokens l rest) (sym shown)
+    (before.splits, before_all sought P is before, not_first P rest first)
 
-pub front_of_all : (P : ℕ → Type 0) (sought : List ℕ → Type 0) (i : Input ℕ) (k : Kind)
-    (a : Input ℕ) (slice : Bor (List ℕ)) (j : Input ℕ) → ((b : ℕ) → (sought (b ∷ []) → ⊥) → P b)
-    → NothingBefore bytes_reading sought 0 i k a → Takes bytes_reading a.left.tokens a slice j
-    → j.left.tokens ≡ [] → IsFront P i.left.tokens slice.now j.left.tokens
-front_of_all P sought i k a slice j is none takes nothing =
-    let all =
-    there_all sought P i.left.tokens is (nothing_stands bytes_reading sought i k a none) in
-    let F : List ℕ → Type 0 = λ l. IsFront P i.left.tokens l j.left.tokens in
+pub front_of_all : (P : ℕ → Type 0) (sought : List ℕ → Type 0) (tokens : List ℕ) {a j : Input ℕ}
+    {slice : Bor (List ℕ)} → OccursNowhere sought tokens → a.left.tokens ≡ tokens
+    → Takes bytes_reading a.left.tokens a slice j → j.left.tokens ≡ []
+    → ((b : ℕ) → (sought (b ∷ []) → ⊥) → P b) → IsFront P tokens slice.now j.left.tokens
+front_of_all P sought tokens {j = j} nowhere same takes nothing is =
+    let F : List ℕ → Type 0 = λ l. IsFront P tokens l j.left.tokens in
     let N : List ℕ → Type 0 = λ l. NotFirst P l in
-    let A : Input ℕ → Type 0 = λ x. Takes bytes_reading x.left.tokens x slice j in
-    let all_taken = subst A none.stays takes in
-    subst F (sym all_taken.shown) (all_taken.passed.tokens, all, subst N (sym nothing) tt)
+    subst F (sym (takes.shown ∙ same)) (
+      sym same ∙ takes.passed.tokens ∙ ap (λ l. l ++ j.left.tokens) same,
+      there_all sought P tokens is nowhere,
+      subst N (sym nothing) tt,
+    )
 
 -- the marks that end a value, and the line feed that ends a comment
 pub is_value : (t : ℕ × ℕ) → t ≡ (59, 10) → (b : ℕ)
@@ -179,14 +180,16 @@ part_shortens part input behind begins =
       length-append (bytes_of part) behind,
     )
 
-no_truth : IsTrue false → ⊥
-no_truth h = cc
+-- the longest front of a class, and none
+pub class_front : (P : ℕ → Type 0) {least : ℕ} {w : Left ℕ} {taken : List ℕ} {rest : Left ℕ}
+    → Took (AnswersSeen (λ b. b) (λ b answer. IsTrue answer ↔ P b)) least None w taken rest
+    → IsFront P w.tokens taken rest.tokens
+class_front P took = took_front P took (tells_of P).yes (tells_of P).no
 
-pub class_says : (P : ℕ → Type 0) (x y : ℕ) → y ≡ x → (IsTrue true ↔ P y) → P x
-class_says P x y e told = subst P e (told.0 refl)
-
-pub class_denies : (P : ℕ → Type 0) (x y : ℕ) → y ≡ x → (IsTrue false ↔ P y) → P x → ⊥
-class_denies P x y e told h = no_truth (told.1 (subst P (sym e) h))
+pub class_none : (P : ℕ → Type 0) {w : Left ℕ} {k : Kind} {left : Left ℕ}
+    → TooFew (AnswersSeen (λ b. b) (λ b answer. IsTrue answer ↔ P b)) 1 None w k left
+    → NotFirst P w.tokens
+class_none P none = no_front P none (tells_of P).no
 
 -- a letter or digit, in either order of the cases
 pub key_of_class : (b : ℕ) → IsAlphanum b → IsKeyByte b

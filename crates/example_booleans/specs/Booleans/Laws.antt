@@ -1,23 +1,12 @@
 -- Properties of bytes that are items.
 use Rattle.std.specs.Prelude.{◌≡◌, ℕ, pos, [], ◌∷◌, length, Option, Some}
-use Rattle.std.proofs.Common.{refl, sym, ◌∙◌, ap, subst, arith}
-use Rattle.streams.specs.Bytes.{bytes_reading}
+use Rattle.std.proofs.Common.{sym, ◌∙◌, ap, subst, arith}
 use Rattle.streams.specs.Equal.{same_first, same_others}
-use Rattle.streams.specs.Input.{Input, IsEndOf}
-use Rattle.stream_errors.specs.Form.{Answer}
-use Rattle.winnow_expression_trees.specs.Items.{AreItems, ItemRuns}
-use Rattle.winnow_expression_trees.specs.Items.Premises.{item_ends}
+use Rattle.winnow_expression_trees.specs.Items.{AreItems}
 use Rattle.grammars.specs.Grammar.{IsUnique, TakesTokens}
 use Rattle.winnow_expression_trees.specs.Items.Grammar.{IsFront, tree_takes, tree_unique}
 use Rattle.example_booleans.specs.Booleans.{ByteItem, IsFormula, infix_at, logic_value, not_value}
 use Rattle.example_booleans.specs.Booleans.{operand_at, postfix_at, prefix_at}
-
--- every call leaves a suffix
-pub byte_ends : {O : Type 0} (meant : ℕ → Option O) (i j : Input ℕ) (a : Answer O)
-    → ItemRuns (ByteItem meant) i a j → IsEndOf bytes_reading j i
-byte_ends meant i j a r =
-    item_ends bytes_reading (ByteItem meant) (λ p n. refl)
-    (λ tokens rest o is. (is.0 ∷ [], is.1)) i j a r
 
 same_some : {O : Type 0} {x : Option O} {o p : O} → x ≡ Some o → x ≡ Some p → o ≡ p
 same_some e f = cc

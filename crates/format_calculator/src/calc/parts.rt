@@ -1,12 +1,10 @@
 //! The parsers of numbers and operators.
 ghost use Rattle.parser_definitions.specs.Claim.{no_claim, nothing_claimed};
 ghost use Rattle.std.specs.Prelude.{⊤};
-ghost use Rattle.winnow_core.specs.Runs.{Keeps};
-ghost use Rattle.winnow_expression_trees.specs.Items.{ItemRuns};
+ghost use Rattle.winnow_expression_trees.specs.Items.{ItemDoes};
 ghost use Rattle.format_calculator.specs.Calculator.{CharItem, NumberItem, mark_at, pair_at};
 ghost use Rattle.format_calculator.specs.Calculator.{sign_at};
-ghost use Rattle.format_calculator.specs.Calculator.Laws.{char_ends, number_ends};
-ghost use Rattle.winnow_core.specs.Covers.{AnyOutcome, any_covered, no_terms};
+ghost use Rattle.winnow_core.specs.Covers.{no_terms};
 
 use crate::calc::items::{read_mark, read_number, read_pair, read_sign};
 use crate::calc::operators::{Mark, Pair, Sign};
@@ -24,17 +22,11 @@ impl<'i> Parser<&'i str, i64, EmptyError> for Number {
 
     ghost state = { λ _. tt };
 
-    ghost meaning = { λ _. Keeps (λ _. ItemRuns NumberItem) };
-
-    ghost does = { AnyOutcome };
+    ghost does = { ItemDoes NumberItem };
 
     ghost terms = { no_terms };
 
     ghost claim = { λ _. no_claim };
-
-    ghost leaves_ends = { λ form s i a t j r. number_ends i j a r.0 };
-
-    ghost covers = { λ at. any_covered (λ s i a t j r. number_ends i j a r.0) };
 
     ghost lawful = { λ never. absurd never };
 
@@ -57,17 +49,11 @@ impl<'i> Parser<&'i str, Prefix<Sign>, EmptyError> for BeforeIt {
 
     ghost state = { λ _. tt };
 
-    ghost meaning = { λ _. Keeps (λ _. ItemRuns (CharItem sign_at)) };
-
-    ghost does = { AnyOutcome };
+    ghost does = { ItemDoes (CharItem sign_at) };
 
     ghost terms = { no_terms };
 
     ghost claim = { λ _. no_claim };
-
-    ghost leaves_ends = { λ form s i a t j r. char_ends sign_at i j a r.0 };
-
-    ghost covers = { λ at. any_covered (λ s i a t j r. char_ends sign_at i j a r.0) };
 
     ghost lawful = { λ never. absurd never };
 
@@ -90,17 +76,11 @@ impl<'i> Parser<&'i str, Postfix<Mark>, EmptyError> for BehindIt {
 
     ghost state = { λ _. tt };
 
-    ghost meaning = { λ _. Keeps (λ _. ItemRuns (CharItem mark_at)) };
-
-    ghost does = { AnyOutcome };
+    ghost does = { ItemDoes (CharItem mark_at) };
 
     ghost terms = { no_terms };
 
     ghost claim = { λ _. no_claim };
-
-    ghost leaves_ends = { λ form s i a t j r. char_ends mark_at i j a r.0 };
-
-    ghost covers = { λ at. any_covered (λ s i a t j r. char_ends mark_at i j a r.0) };
 
     ghost lawful = { λ never. absurd never };
 
@@ -123,17 +103,11 @@ impl<'i> Parser<&'i str, Infix<Pair>, EmptyError> for BetweenThem {
 
     ghost state = { λ _. tt };
 
-    ghost meaning = { λ _. Keeps (λ _. ItemRuns (CharItem pair_at)) };
-
-    ghost does = { AnyOutcome };
+    ghost does = { ItemDoes (CharItem pair_at) };
 
     ghost terms = { no_terms };
 
     ghost claim = { λ _. no_claim };
-
-    ghost leaves_ends = { λ form s i a t j r. char_ends pair_at i j a r.0 };
-
-    ghost covers = { λ at. any_covered (λ s i a t j r. char_ends pair_at i j a r.0) };
 
     ghost lawful = { λ never. absurd never };
 

@@ -4,16 +4,16 @@ use Rattle.std.specs.Borrow.{Bor}
 use Rattle.winnow.specs.Bytes.{bytes_reading}
 use Rattle.winnow.specs.Form.{modal}
 use Rattle.winnow.specs.Input.{Input}
-use Rattle.winnow.specs.Literal.{LiteralRuns}
-use Rattle.winnow.specs.Opt.{OptRuns}
-use Rattle.winnow.specs.Runs.{Keeps}
+use Rattle.winnow.specs.Does.{Ran}
+use Rattle.winnow.specs.LiteralDefinition.{LiteralDoes}
+use Rattle.winnow.specs.Opt.{OptDoes}
 use Rattle.example_callers.proofs.MovedRuns.{moved}
 use Rattle.example_callers.proofs.complete_streams.sign_of_complete.Goals as goal
 
 pub returns : goal.returns
 returns c =
-    moved (OptRuns (Keeps (λ (s : ℕ). LiteralRuns bytes_reading modal (λ xs. xs ≡ s ∷ [])
-    (λ (_ : Bor (List ℕ)). s)))) _ _ _ _ _ _ _ c.opt.ensures
+    moved (Ran bytes_reading (OptDoes (LiteralDoes bytes_reading (λ (s : ℕ) xs. xs ≡ s ∷ [])
+    (λ s (_ : Bor (List ℕ)). s))) modal) _ _ _ _ _ _ _ c.opt.ensures
     (c.complete-state.ensures.complete
     ∙ ap {A = Input ℕ} (λ i. record i { status = record i.status { cut = false } })
     c.new-input.ensures)

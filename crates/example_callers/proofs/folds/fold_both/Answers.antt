@@ -9,8 +9,8 @@ parse_next-to_right-requires g c = (tt, tt, rw c.separated_foldr1.ensures.op c.r
 
 pub returns-in-Ok-Ok : goal.returns-in-Ok-Ok
 returns-in-Ok-Ok g c =
-    folds_both _ _ _ c.separated_folds_agree.ensures.of_outcomes _ _ _ _ _ _ _ _ _ _ _
+    folds_both _ _ _ c.separated_folds_agree.ensures.of_outcomes _ _ _ _ _ _ _ _ _ _ _ _
     c.separated_foldl1.ensures.separator c.separated_foldl1.ensures.op
     c.separated_foldr1.ensures.separator c.separated_foldr1.ensures.op
-    (rw c.in-Ok-Ok.is-0 at c.parse_next-to_left.ensures.ran)
-    (rw c.in-Ok-Ok.is-1 at c.parse_next-to_right.ensures.ran)
+    (rw c.in-Ok-Ok.is-0 at c.parse_next-to_left.ensures.ran).3
+    (rw c.in-Ok-Ok.is-1 at c.parse_next-to_right.ensures.ran).3

@@ -1,4 +1,5 @@
 use Rattle.std.proofs.Common.{rules, ◌∙◌, [], ◌∷◌, ◌++◌, ap, refl, sym}
+use Rattle.winnow.specs.Does.{Ran}
 use Rattle.winnow.specs.Input.{is_end_of_refl, is_end_of_trans}
 use Rattle.winnow.specs.Form.{answer_by, assert_kind}
 use Rattle.winnow.specs.Iterator.{iterator_state}
@@ -23,13 +24,14 @@ loop-item-preserved g c =
     record {
       items = (
         inv.items.0 ++ c.in-Some.item ∷ [],
-        iterator_more (g.P.Parser.meaning g.E.HasKind.form) (assert_kind g.E.HasKind.form)
+        iterator_more (Ran g.I.Stream.reading g.P.Parser.does g.E.HasKind.form)
+            (assert_kind g.E.HasKind.form)
             (g.P.Parser.state c.args.parser) (g.I.Stream.view c.args.input.now) inv.items.0
             (iterator_state g.P.Parser.state g.I.Stream.view g.E.HasKind.kind c.loop-item.items)
             c.in-Some.item _ inv.items.1 step.0,
         (inv.items.0, refl),
       );
-      goes_on = (iterator_item (g.P.Parser.meaning g.E.HasKind.form)
+      goes_on = (iterator_item (Ran g.I.Stream.reading g.P.Parser.does g.E.HasKind.form)
           (assert_kind g.E.HasKind.form) _ _ _
           step.0).1;
       ends = is_end_of_trans step.2 inv.ends;
@@ -55,7 +57,7 @@ returns-in-Err-clause-ends g c =
 pub returns-in-Ok-clause-last : goal.returns-in-Ok-clause-last
 returns-in-Ok-clause-last g c =
     let inv = c.loop-item.invariant in
-    let run = g.P.Parser.meaning g.E.HasKind.form in
+    let run = Ran g.I.Stream.reading g.P.Parser.does g.E.HasKind.form in
     let kind = assert_kind g.E.HasKind.form in
     let state = iterator_state g.P.Parser.state g.I.Stream.view g.E.HasKind.kind c.loop-item.items
     in
@@ -70,7 +72,7 @@ returns-in-Ok-clause-last g c =
 pub returns-in-Err-clause-fails : goal.returns-in-Err-clause-fails
 returns-in-Err-clause-fails g c =
     let inv = c.loop-item.invariant in
-    let run = g.P.Parser.meaning g.E.HasKind.form in
+    let run = Ran g.I.Stream.reading g.P.Parser.does g.E.HasKind.form in
     let kind = assert_kind g.E.HasKind.form in
     let state = iterator_state g.P.Parser.state g.I.Stream.view g.E.HasKind.kind c.loop-item.items
     in

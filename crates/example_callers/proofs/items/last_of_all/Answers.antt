@@ -1,4 +1,5 @@
 use Rattle.std.proofs.Common.{[], ◌∷◌, ◌++◌, refl}
+use Rattle.winnow.specs.Does.{Ran}
 use Rattle.winnow.specs.Form.{assert_kind}
 use Rattle.winnow.specs.Fault.{IsFaultAt}
 use Rattle.winnow.specs.ParseIter.{parse_iter_state}
@@ -12,7 +13,8 @@ loop-item-preserved g c =
     record {
       items = (
         inv.items.0 ++ c.in-Ok.output ∷ [],
-        parse_iter_more (g.P.Parser.meaning g.E.HasKind.form) (assert_kind g.E.HasKind.form)
+        parse_iter_more (Ran g.I.Stream.reading g.P.Parser.does g.E.HasKind.form)
+            (assert_kind g.E.HasKind.form)
             (IsFaultAt g.I.Stream.view g.I.Stream.reading.units g.E.ParserError.inner_kind)
             (g.P.Parser.state c.args.parser.now) (g.I.Stream.view c.args.input) inv.items.0
             (parse_iter_state g.P.Parser.state g.I.Stream.view g.I.Stream.seen c.loop-item.items)
@@ -27,7 +29,8 @@ pub returns-in-Err-clause-refused : goal.returns-in-Err-clause-refused
 returns-in-Err-clause-refused g c =
     let inv = c.loop-item.invariant in (
       inv.items.0,
-      parse_iter_refused (g.P.Parser.meaning g.E.HasKind.form) (assert_kind g.E.HasKind.form)
+      parse_iter_refused (Ran g.I.Stream.reading g.P.Parser.does g.E.HasKind.form)
+          (assert_kind g.E.HasKind.form)
           (IsFaultAt g.I.Stream.view g.I.Stream.reading.units g.E.ParserError.inner_kind)
           (g.P.Parser.state c.args.parser.now) (g.I.Stream.view c.args.input) inv.items.0
           (parse_iter_state g.P.Parser.state g.I.Stream.view g.I.Stream.seen c.loop-item.items)
@@ -37,7 +40,8 @@ returns-in-Err-clause-refused g c =
 pub returns-clause-last : goal.returns-clause-last
 returns-clause-last g c =
     let inv = c.loop-item.invariant in
-    let all = parse_iter_all (g.P.Parser.meaning g.E.HasKind.form) (assert_kind g.E.HasKind.form)
+    let all = parse_iter_all (Ran g.I.Stream.reading g.P.Parser.does g.E.HasKind.form)
+    (assert_kind g.E.HasKind.form)
     (IsFaultAt g.I.Stream.view g.I.Stream.reading.units g.E.ParserError.inner_kind)
     (g.P.Parser.state c.args.parser.now) (g.I.Stream.view c.args.input) inv.items.0
     (parse_iter_state g.P.Parser.state g.I.Stream.view g.I.Stream.seen c.loop-item.items)

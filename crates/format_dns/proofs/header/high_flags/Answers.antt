@@ -28,7 +28,7 @@ returns-in-Err-clause-fails g c =
     (ap (λ p. bit_take_count p.1) c.bits.ensures ∙ c.high.ensures.opcode) c.in-Err.ensures.ran
 
 pub returns-in-Ok-clause-ends : goal.returns-in-Ok-clause-ends
-returns-in-Ok-clause-ends g c = c.in-Ok.ensures.ends
+returns-in-Ok-clause-ends g c = c.in-Ok.ensures.ran.0
 
 pub returns-in-Err-clause-ends : goal.returns-in-Err-clause-ends
-returns-in-Err-clause-ends g c = c.in-Err.ensures.ends
+returns-in-Err-clause-ends g c = c.in-Err.ensures.ran.0

@@ -33,7 +33,7 @@ returns-in-Err-clause-fails g c =
     c.in-Err.ensures.ran
 
 pub returns-in-Ok-clause-ends : goal.returns-in-Ok-clause-ends
-returns-in-Ok-clause-ends g c = c.in-Ok.ensures.ends
+returns-in-Ok-clause-ends g c = c.in-Ok.ensures.ran.0
 
 pub returns-in-Err-clause-ends : goal.returns-in-Err-clause-ends
-returns-in-Err-clause-ends g c = c.in-Err.ensures.ends
+returns-in-Err-clause-ends g c = c.in-Err.ensures.ran.0

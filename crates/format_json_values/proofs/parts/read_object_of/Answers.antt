@@ -1,4 +1,4 @@
-use Rattle.std.proofs.Common.{ap, rules, ◌∙◌}
+use Rattle.std.proofs.Common.{ap, refl, rules, ◌∙◌}
 use Rattle.winnow_comb.specs.Terminated.{terminated_parser}
 use Rattle.winnow_grammar.specs.Rule.{reads_as_rule, run_as}
 use Rattle.format_parts.specs.Marks.{three_by}
@@ -39,7 +39,7 @@ read_items-requires-clause-item g c =
 
 pub returns-clause-reads : goal.returns-clause-reads
 returns-clause-reads g c = items_by _ _ _ _ c.read_items.ensures.reads
-    (three_by _ (search rules) (search rules) (search rules))
+    (three_by _ (search rules) (rw c.separated_pair-member.ensures.separator refl) (search rules))
 
 pub returns-clause-spared : goal.returns-clause-spared
 returns-clause-spared g c name value colon opening closing gap none =
@@ -52,4 +52,4 @@ returns-clause-spared g c name value colon opening closing gap none =
         search rules,
       ),
     ) opening closing gap
-    (first_by _ _ _ (three_by _ (search rules) (search rules) (search rules)) none)
+    (first_by _ _ _ (three_by _ (search rules) (rw member.separator refl) (search rules)) none)

@@ -2,29 +2,34 @@ use Rattle.std.specs.Prelude.{None}
 use Rattle.format_parts.proofs.MarkRuns.{items_ran, items_spared}
 use Rattle.format_parts.specs.Words.{pair}
 use Rattle.parser_definitions.specs.Both.{BothDo}
-use Rattle.parser_definitions.specs.Outcome.{Setting}
 use Rattle.parser_definitions.specs.Projects.{Complete}
 use Rattle.parser_definitions.specs.Projects.Sequences.{both_claimed}
-use Rattle.stream_errors.specs.Form.{ErrorForm, assert_kind}
 use Rattle.stream_sets.specs.Accumulator.{list_kept}
 use Rattle.stream_sets.specs.declared.range.Range.{Range}
-use Rattle.winnow_comb.specs.Delimited.{DelimitedRuns}
-use Rattle.winnow_core.specs.Covers.Sequences.{both_covered, three_covered}
-use Rattle.winnow_core.specs.InOrder.{BothRuns}
 use Rattle.winnow_grammar.specs.Read.{reads_by}
-use Rattle.winnow_separated.specs.Covers.{separated_covered}
-use Rattle.winnow_separated.specs.Separated.{RangedElements}
 use Rattle.format_parts.proofs.marks.read_items.Goals as goal
 
 pub returns-clause-ran : goal.returns-clause-ran
-returns-clause-ran g c = items_ran _ _ c.read.ensures.ran (rw (
-  c.delimited.ensures.ignored1,
-  c.delimited.ensures.parser,
-  c.delimited.ensures.ignored2,
-  c.separated-items.ensures.occurrences,
-  c.separated-items.ensures.parser,
-  c.separated-items.ensures.separator,
-))
+returns-clause-ran g c =
+    let parts = c.delimited.result in
+    let mark = g.B.Parser.state in
+    let gap = g.G.Parser.state in
+    items_ran (
+      (mark parts.ignored1.0, gap parts.ignored1.1),
+      (
+        g.P.Parser.state parts.parser.link.parser,
+        (mark parts.parser.link.separator.0, gap parts.parser.link.separator.1),
+        parts.parser.occurrences,
+      ),
+      mark parts.ignored2,
+    ) _ c.read.ensures.ran (rw (
+      c.delimited.ensures.ignored1,
+      c.delimited.ensures.parser,
+      c.delimited.ensures.ignored2,
+      c.separated-items.ensures.occurrences,
+      c.separated-items.ensures.parser,
+      c.separated-items.ensures.separator,
+    ))
 
 pub returns-clause-reads : goal.returns-clause-reads
 returns-clause-reads g c = reads_by c.read.ensures.reads (rw (
@@ -48,8 +53,6 @@ returns-clause-spared g c item opening closing gap none =
     let of_item = g.met.P.Parser.claimed (g.P.Parser.state c.args.item) in
     let last = claimed (g.B.Parser.state c.args.marks.closing) in
     let range : Range = record { start_inclusive = 0; end_inclusive = None } in
-    let marked = λ (form : ErrorForm).
-    BothRuns pair (g.B.Parser.meaning form) (g.G.Parser.meaning form) in
     items_spared (BothDo pair g.B.Parser.does g.G.Parser.does) list_kept (λ n never. never) (
       (g.B.Parser.state c.args.marks.opening, g.G.Parser.state c.args.marks.gap),
       (
@@ -60,11 +63,5 @@ returns-clause-spared g c item opening closing gap none =
       g.B.Parser.state c.args.marks.closing,
     ) (λ (at : Complete). first.projects at (opening_premise, gap_premise)) (opening, gap)
     (λ at. of_item.projects at item_premise) item (λ at. last.projects at closing_premise) closing
-    (λ form. DelimitedRuns (marked form) (RangedElements (g.P.Parser.meaning form) (marked form)
-    list_kept (assert_kind form)) (g.B.Parser.meaning form))
-    (λ (at : Setting).
-    let marks = both_covered pair (g.met.B.Parser.covers at) (g.met.G.Parser.covers at) in
-    three_covered (λ _ o _. o) marks (separated_covered g.I.Stream.reading list_kept
-    (g.met.P.Parser.leaves_ends at.form) (g.met.P.Parser.covers at) marks)
-    (g.met.B.Parser.covers at)) g.E.HasKind.form g.E.HasKind.kind _ c.read.result _ _
-    (returns-clause-ran g c).ran (returns-clause-reads g c) none
+    g.E.HasKind.form g.E.HasKind.kind _ c.read.result _ _ (returns-clause-ran g c).ran
+    (returns-clause-reads g c) none

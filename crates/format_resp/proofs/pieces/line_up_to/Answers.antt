@@ -1,9 +1,7 @@
 use Rattle.stream_sets.specs.Range.{bounds_of}
-use Rattle.grammars.specs.Grammar.{Both, Literally, Longest}
-use Rattle.winnow_core.specs.InOrder.Inversion.{both_ok}
-use Rattle.winnow_token.specs.TakeWhile.Inversion as taken
+use Rattle.parser_definitions.specs.Outcome.{setting_of}
 use Rattle.format_resp.proofs.Found.{line_before}
-use Rattle.format_resp.proofs.PieceResults.{ending_taken, must_ask}
+use Rattle.format_resp.proofs.PieceResults.{line_taken, must_ask}
 use Rattle.format_resp.proofs.pieces.line_up_to.Goals as goal
 
 pub read_cut-requires-clause-callable : goal.read_cut-requires-clause-callable
@@ -20,23 +18,16 @@ read_cut-requires-clause-premise g c = (
 )
 
 pub returns : goal.returns
-unfolding Both Literally Longest
 returns g c =
     must_ask (rw (
       c.terminated.ensures.parser,
       c.take_till.ensures.occurrences,
       c.take_till.ensures.set,
     )) c.read_cut.ensures.reads c.read_cut.ensures.tells
-    (λ o e.
-    let (line, end, a, first, last, is) = both_ok o (rw e at c.read_cut.ensures.ran) in
-    let (front, takes, it) = taken.took _ _ _ _ _ _ line a first.0 in (
-      line,
-      end,
-      a.left.tokens,
-      (front, it.longest, it.enough, takes.shown),
-      ending_taken _ _ _ a end _ last.0,
-      is,
-    ))
+    (λ o e. line_taken g.I.Stream.reading g.I.Compare.spells g.I.Stream.seen_as
+    g.S.ContainsToken.tells (λ x. x.1) (λ x. bounds_of x.0)
+    (setting_of g.E.HasKind.form (g.I.Stream.view c.args.input.now))
+    (rw e at c.read_cut.ensures.ran).3)
     (line_before g.I.Stream.reading g.I.Compare.spells g.I.Stream.seen_as
     g.S.ContainsToken.tells (λ x. x.1) (λ x. bounds_of x.0) _ _ _
     (rw (c.terminated.ensures.parser, c.take_till.ensures.occurrences) tt)

@@ -1,21 +1,25 @@
-use Rattle.std.proofs.Common.{None, arith, refl}
-use Rattle.winnow.specs.Bytes.{bytes_reading}
+use Rattle.std.proofs.Common.{ap, refl}
 use Rattle.winnow.specs.Form.{plain}
-use Rattle.winnow.specs.TakeUntil.Inversion.{nothing_before_by, took_before_by}
+use Rattle.winnow.specs.Inversion.Outcomes.{fails_at}
+use Rattle.winnow.specs.Inversion.Searches.{nothing_before, took_before}
 use Rattle.readers.specs.Document.{IsCommentByte}
+use Rattle.readers.proofs.Calls.{bytes_in}
 use Rattle.readers.proofs.PartRuns.{ends_comment, front_before, front_of_all, is_comment}
 use Rattle.readers.proofs.ini.parts.line_bytes.Goals as goal
 
 pub returns-in-Ok-clause-front : goal.returns-in-Ok-clause-front
 returns-in-Ok-clause-front c =
     let mark = c.take_until.ensures.literal in
-    front_before IsCommentByte _ _ _ _ (is_comment _ mark) (ends_comment _ mark)
-    (took_before_by bytes_reading plain _ _ 0 None _ _ _
-    c.take_until.ensures.occurrences c.in-Ok.ensures.ran.0)
+    let (taken, before, shown, passed) = took_before (bytes_in plain) c.in-Ok.ensures.ran.3 in
+    front_before IsCommentByte before shown (is_comment _ mark) (ends_comment _ mark)
 
 pub returns-in-Err-clause-front : goal.returns-in-Err-clause-front
 returns-in-Err-clause-front c =
-    front_of_all IsCommentByte _ _ _ _ _ _ (is_comment _ c.take_until.ensures.literal)
-    (nothing_before_by bytes_reading plain _ _ 0 _ _ _
-    c.take_until.ensures.occurrences (omega arith) refl c.in-Err.ensures.ran.0)
-    c.finish.ensures.takes c.finish.ensures.nothing
+    let (kind, kept, nowhere) =
+    nothing_before (bytes_in plain) c.take_until.ensures.occurrences refl
+    (_, c.in-Err.ensures.ran.3, fails_at _ _) in
+    front_of_all IsCommentByte _ _ nowhere (ap (λ l. l.tokens) kept) c.finish.ensures.takes
+    c.finish.ensures.nothing (is_comment _ c.take_until.ensures.literal)
+
+pub returns-in-Ok-clause-ends : goal.returns-in-Ok-clause-ends
+returns-in-Ok-clause-ends c = c.in-Ok.ensures.ran.0

@@ -3,7 +3,10 @@ use Rattle.std.proofs.Common.{◌≡◌, ◌+◌, ◌∙◌, Bool, Some, true, f
 use Rattle.std.proofs.Common.{inl, inr}
 use Rattle.std.specs.Prelude.{map}
 use Rattle.winnow.specs.Equal.{same_some, true_is_false}
-use Rattle.winnow.specs.FuncCalls.{calls_with_leave, run_with_by}
+use Rattle.winnow.specs.FuncCalls.{calls_with_leave}
+use Rattle.winnow.specs.Inversion.Outcomes.{fails_at}
+use Rattle.winnow.specs.Left.{left_of}
+use Rattle.readers.proofs.Calls.{err_with_by, ok_with_by}
 use Rattle.readers.specs.DocumentRuns.{DocumentRuns}
 use Rattle.readers.specs.Sections.{section_text}
 use Rattle.readers.proofs.DocumentReading.{whole_document, refused_document, document_fails}
@@ -32,17 +35,18 @@ parse-requires-clause-callable g c =
 pub returns-in-Ok : goal.returns-in-Ok
 returns-in-Ok g c =
     let (j, ran, nothing) = c.in-Ok.ensures.ran in
-    let run = run_with_by (DocumentRuns (λ all. map section_text all.items)) ran
-    (λ s x r y t met. met) in
-    whole_document (λ all. map section_text all.items) _ _ j run nothing
+    let run = ok_with_by (DocumentRuns (λ all. map section_text all.items)) (λ i x j met. met.0)
+    (λ s x r y t met. met) ran.3 in
+    whole_document (λ all. map section_text all.items) _ _ _ run nothing
 
 pub unreachable-requires : goal.unreachable-requires
 unreachable-requires g c =
     let wants = c.in-Err-Incomplete.field-0-is in
     elim c.in-Err-Incomplete.ensures.ran [
       | inl (k, j, ran, fault) ↦
-          let run = run_with_by (DocumentRuns (λ all. map section_text all.items)) ran
-          (λ s x r y t met. met) in
+          let (l, run) = err_with_by (DocumentRuns (λ all. map section_text all.items))
+          (λ i x j met. met.0) (λ s x r y t met. met)
+          (_, ran.3, fails_at k (_, left_of j)) in
           let is = (document_fails (λ all. map section_text all.items) _ _ _ run).1 in
           absurd (cc (sym is ∙ (rw wants at fault)))
       | inr (o, j, ran, something, fault) ↦ absurd (cc (rw wants at fault))
@@ -53,8 +57,9 @@ returns-then-is_memory g c =
     let refused = c.in-Err-Invalid.field-0-is in
     elim c.in-Err-Invalid.ensures.ran [
       | inl (k, j, ran, fault) ↦
-          let run = run_with_by (DocumentRuns (λ all. map section_text all.items)) ran
-          (λ s x r y t met. met) in
+          let (l, run) = err_with_by (DocumentRuns (λ all. map section_text all.items))
+          (λ i x j met. met.0) (λ s x r y t met. met)
+          (_, ran.3, fails_at k (_, left_of j)) in
           (document_fails (λ all. map section_text all.items) _ _ _ run).0
       | inr (o, j, ran, something, fault) ↦
           let told = (rw refused at fault).1 in
@@ -69,8 +74,9 @@ returns-else-is_memory g c =
     elim c.in-Err-Invalid.ensures.ran [
       | inl (k, j, ran, fault) ↦
           let told = (rw refused at fault).1 in
-          let run = run_with_by (DocumentRuns (λ all. map section_text all.items)) ran
-          (λ s x r y t met. met) in
+          let (l, run) = err_with_by (DocumentRuns (λ all. map section_text all.items))
+          (λ i x j met. met.0) (λ s x r y t met. met)
+          (_, ran.3, fails_at k (_, left_of j)) in
           let is = inner_memory k _
           (document_fails (λ all. map section_text all.items) _ _ _ run).1 told in
           absurd (true_is_false
@@ -79,7 +85,7 @@ returns-else-is_memory g c =
           ∙ c.if-is_memory.false))
       | inr (o, j, ran, something, fault) ↦
           let at = ap (λ m. m + length j.left.tokens) c.offset.ensures ∙ (rw refused at fault).0 in
-          let run = run_with_by (DocumentRuns (λ all. map section_text all.items)) ran
-          (λ s x r y t met. met) in
-          refused_document (λ all. map section_text all.items) _ o j _ run something at
+          let run = ok_with_by (DocumentRuns (λ all. map section_text all.items))
+          (λ i x j met. met.0) (λ s x r y t met. met) ran.3 in
+          refused_document (λ all. map section_text all.items) _ o _ _ run something at
     ]

@@ -7,8 +7,8 @@ use Rattle.readers.proofs.ini.sections.gap_and_sections.Goals as goal
 
 pub returns : goal.returns
 returns g c =
-    document_read (λ all. map section_text all.items) _ _ _ c.parse_next.ensures.ends
-    c.parse_next.ensures.ran (λ s x r y t met. met) (λ s x r y t met. met)
+    document_read (λ all. map section_text all.items) (λ s x r y t met. met)
+    (λ s x r y t met. met) _ _ _ _ c.parse_next.ensures.ran.0 c.parse_next.ensures.ran.3
 
 pub parse_next-requires : goal.parse_next-requires
 parse_next-requires g c = (

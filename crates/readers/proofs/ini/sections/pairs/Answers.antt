@@ -5,9 +5,8 @@ use Rattle.readers.proofs.ini.sections.pairs.Goals as goal
 
 pub returns : goal.returns
 returns g c =
-    pairs_repeated _ _ _ _ _ _ _ _ c.repeat.ensures.occurrences
-    c.parse_next.ensures.ends c.parse_next.ensures.ran.0
-    (reads_pair (λ f x r y h met. met) (λ s x r y t met. met))
+    pairs_repeated (reads_pair (λ f x r y h met. met) (λ s x r y t met. met)) _ _ _ _ _
+    c.repeat.ensures.occurrences c.parse_next.ensures.ran.0 c.parse_next.ensures.ran.3
 
 pub parse_next-requires : goal.parse_next-requires
 parse_next-requires g c = (
