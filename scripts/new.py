@@ -28,13 +28,10 @@ MODELS = {
     "combinator": ("opt", CRATES / "winnow_comb/src/combinator/basic.rt"),
 }
 NEXT = """Now change, in this order:
-  {spec}: the semantics, `{kind}Runs`, a line per case
+  {does}: the definition `{kind}Does`, a line per case, with its law, and its grammar in
+    `specs/Projects`; until then the parser has those of the model
   {file}: the clauses, the documentation and the body of `{name}`
-  {does}: the definition `{kind}Does`, with its law, and its grammar in `specs/Projects`
-  {covers}: the lemma `{name}_covered`: each run has an outcome of the definition
-  {impls}: the struct `{kind}`, and its impl of `Parser`: with the model's definition, law and
-    lemmas until then, and with the claim
-  {laws}: the lemma: it leaves a suffix
+  {impls}: the struct `{kind}`, and its impl of `Parser`, with the claim
   {test}: its results, with expected values from another source
   {edit}, `{name}_..`: a line of the code, and a wrong replacement
   {note}: a line for the release notes
@@ -52,24 +49,20 @@ class Place:
         path = file.relative_to(self.crate / "src").with_suffix("")
         self.module, self.path = path.parts[0], path.parts
         self.impls = self.crate / "src" / self.module / "impls" / f"{name}.rt"
-        self.spec = self.crate / "specs" / f"{camel(name)}.antt"
 
 
 def renamed(text, of, to):
     """Returns the model's text with the new names, in code and in code spans of comments. First it
     writes placeholders, since the new names may begin with the model's."""
     kind, new, name = camel(of.name), "\0", "\1"
-    # The model's definition, its laws and its lemma stay.
-    kept = [f"parser_definitions.specs.{kind}.", f"{kind}Does"]
-    kept += [f"{of.name}_{it}" for it in ("law", "projects", "covered")]
+    # The model's definition and its laws stay.
+    kept = [f"specs.{kind}.", f"{kind}Does", f"{kind}Runs", f"{of.name}_ran", f"{of.name}_law"]
+    kept += [f"{of.name}_projects"]
     for place, it in enumerate(kept):
         text = text.replace(it, chr(2 + place))
-    text = text.replace(f"Rattle.{of.crate.name}.specs.{kind}", f"Rattle.{to.crate.name}.specs.{new}")
     text = text.replace(f"specs.declared.{of.module}.impls.{of.name}.", f"specs.declared.{to.module}.impls.{name}.")
     text = text.replace(f"Rattle.{of.crate.name}.specs.declared", f"Rattle.{to.crate.name}.specs.declared")
     text = re.sub(rf"\bcrate::{of.module}::", f"crate::{to.module}::", text)
-    # The model's inversion lemmas are not copied.
-    text = text.replace("pub mod Inversion\n", "")
     lines, is_code = [], False
     for line in text.split("\n"):
         is_comment = line.lstrip().startswith(("//", "--"))
@@ -130,16 +123,12 @@ def with_function(of, to):
 def copies(of, to):
     """Returns pairs of the model's files and the new parser's files."""
     yield of.impls, to.impls
-    yield of.spec, to.spec
-    folder = of.spec.with_suffix("")
-    for file in sorted(folder.rglob("*.antt")):
-        if file.stem != "Inversion":
-            yield file, to.spec.with_suffix("") / file.relative_to(folder)
     for file in sorted((of.crate / "proofs").joinpath(*of.path, of.name).glob("*.antt")):
         yield file, (to.crate / "proofs").joinpath(*to.path, to.name) / file.name
     folder = of.crate / "proofs" / of.module / "impls" / of.name
     for file in sorted(folder.rglob("*.antt")):
-        yield file, to.crate / "proofs" / to.module / "impls" / to.name / file.relative_to(folder)
+        path = str(file.relative_to(folder)).replace(camel(of.name), camel(to.name))
+        yield file, to.crate / "proofs" / to.module / "impls" / to.name / path
 
 
 def name_in_module(to):
@@ -184,11 +173,9 @@ def main(words):
         path.write_text(text, encoding="utf-8")
     for crate in sorted({to.crate, *written()}):
         subprocess.run(["rt", "fmt"], cwd=crate, check=False, stdout=subprocess.DEVNULL)
-    shown = {"file": to.file, "impls": to.impls, "spec": to.spec}
+    shown = {"file": to.file, "impls": to.impls}
     shown |= dict(zip(("test", "edit", "note"), more))
-    shown["laws"] = to.spec.with_suffix("") / "Laws.antt"
-    shown["does"] = CRATES / "parser_definitions/specs" / to.spec.name
-    shown["covers"] = to.crate / "specs/Covers.antt"
+    shown["does"] = CRATES / "parser_definitions/specs" / f"{camel(to.name)}.antt"
     shown = {key: path.relative_to(TOP) for key, path in shown.items()}
     print(NEXT.format(**shown, name=to.name, kind=camel(to.name)))
 

@@ -48,5 +48,5 @@ def fault_of_name(of, to, body):
         if there.is_file():
             return f"{there.relative_to(TOP)} already exists"
     for other in {name, camel(name)} & taken(of, to, body):
-        return f"{other} already has another meaning in {to.file.relative_to(TOP)} or its struct's file"
+        return f"{other} already names something else in {to.file.relative_to(TOP)} or its struct's file"
     return ""

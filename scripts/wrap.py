@@ -132,7 +132,7 @@ def example(line):
 def is_fixed(line):
     """Returns whether a line cannot be broken: it names or imports from a module of the checker, is
     a link in a comment, or is a parser as a type."""
-    return bool(re.fullmatch(r"(pub |ghost )*use [^{}]*\{?| *//[/!] \S+| *⟦<[^⟧]* as [^⟧]*(⟧\.meaning \})?", line))
+    return bool(re.fullmatch(r"(pub |ghost )*use [^{}]*\{?| *//[/!] \S+| *⟦<[^⟧]* as [^⟧]*(⟧\.does \})?", line))
 
 
 def wrapped_line(line, is_antt, is_fenced, is_inside):

@@ -2,7 +2,7 @@
 #![tactic(auto, using(winnow::specs::Rules::ends_follow))]
 
 ghost use Rattle.winnow.specs.Claim.{no_claim, nothing_claimed};
-ghost use Rattle.winnow.specs.Covers.{AnyOutcome, any_covered, no_terms};
+ghost use Rattle.winnow.specs.Covers.{AnyOutcome, no_terms};
 ghost use Rattle.std.specs.Prelude.{⊤};
 ghost use Rattle.winnow.specs.Input.{IsEndOf};
 ghost use Rattle.winnow.specs.Text.{text_input, text_reading};
@@ -64,17 +64,11 @@ impl<'i> Parser<&'i str, String, ErrMode<EmptyError>> for TextReader {
 
     ghost state = { λ _. tt };
 
-    ghost meaning = { λ _ _ i _ _ j. IsEndOf text_reading j i };
-
     ghost does = { AnyOutcome };
 
     ghost terms = { no_terms };
 
     ghost claim = { λ _. no_claim };
-
-    ghost leaves_ends = { λ _ _ _ _ _ _ ends. ends };
-
-    ghost covers = { λ at. any_covered (λ _ _ _ _ _ ends. ends) };
 
     ghost lawful = { λ never. absurd never };
 

@@ -2,7 +2,7 @@
 #![tactic(auto, using(winnow::specs::Rules::ends_follow))]
 
 ghost use Rattle.winnow.specs.Claim.{no_claim, nothing_claimed};
-ghost use Rattle.winnow.specs.Covers.{AnyOutcome, any_covered, no_terms};
+ghost use Rattle.winnow.specs.Covers.{AnyOutcome, no_terms};
 ghost use Rattle.std.specs.Prelude.{⊤};
 ghost use Rattle.winnow.specs.Bytes.{bytes_input, bytes_reading};
 ghost use Rattle.winnow.specs.Input.{IsEndOf};
@@ -67,17 +67,11 @@ impl<'i> Parser<&'i [u8], u64, EmptyError> for Digit {
 
     ghost state = { λ _. tt };
 
-    ghost meaning = { λ _ _ i _ _ j. IsEndOf bytes_reading j i };
-
     ghost does = { AnyOutcome };
 
     ghost terms = { no_terms };
 
     ghost claim = { λ _. no_claim };
-
-    ghost leaves_ends = { λ _ _ _ _ _ _ ends. ends };
-
-    ghost covers = { λ at. any_covered (λ _ _ _ _ _ ends. ends) };
 
     ghost lawful = { λ never. absurd never };
 
@@ -110,17 +104,11 @@ impl<'i> Parser<&'i [u8], Infix<Operator>, EmptyError> for Between {
 
     ghost state = { λ _. tt };
 
-    ghost meaning = { λ _ _ i _ _ j. IsEndOf bytes_reading j i };
-
     ghost does = { AnyOutcome };
 
     ghost terms = { no_terms };
 
     ghost claim = { λ _. no_claim };
-
-    ghost leaves_ends = { λ _ _ _ _ _ _ ends. ends };
-
-    ghost covers = { λ at. any_covered (λ _ _ _ _ _ ends. ends) };
 
     ghost lawful = { λ never. absurd never };
 

@@ -65,10 +65,7 @@ ghost use Rattle.std.specs.Prelude.{{◌≡◌, ⊤}};
 ghost use Rattle.parser_definitions.specs.Integer.{{IntegerDoes, integer_law}};
 ghost use Rattle.parser_definitions.specs.Projects.Integers.{{integer_claim, integer_claimed}};
 ghost use Rattle.parser_definitions.specs.Projects.Integers.{{some_bytes}};
-ghost use Rattle.winnow_binary.specs.Chosen.{{ChosenRuns}};
-ghost use Rattle.winnow_integers.specs.Covers.{{integer_covered}};
 ghost use Rattle.winnow_integers.specs.Integer.{{{value}}};
-ghost use Rattle.winnow_integers.specs.Integer.Laws.{{integer_leaves}};
 ghost use Rattle.winnow_integers.specs.declared.binary.endianness.Endianness.{{Endianness}};
 
 use std::marker::PhantomData;
@@ -94,17 +91,11 @@ impl<I: StreamIsPartial + ByteStream, E: ParserError<I>> Parser<I, {type}, E> fo
 
     ghost state = {{ λ s. s.endian }};
 
-    ghost meaning = {{ λ form. ChosenRuns {width} {value} I.reading form }};
-
 {does}
 
 {terms}
 
 {claim}
-
-{ends}
-
-{covers}
 
 {lawful}
 
@@ -121,29 +112,11 @@ impl<I: StreamIsPartial + ByteStream, E: ParserError<I>> Parser<I, {type}, E> fo
 """
 )
 
-CHOSEN_SPECS = """-- Integers whose byte order is an argument.
--- {head}
-use Rattle.std.specs.Prelude.{{ℕ, List}}
-use Rattle.streams.specs.Reading.{{Reading}}
-use Rattle.stream_errors.specs.Form.{{ErrorForm}}
-use Rattle.winnow_core.specs.Runs.{{Keeps, Runs}}
-use Rattle.winnow_integers.specs.Integer.{{IntegerRuns}}
-use Rattle.winnow_integers.specs.declared.binary.endianness.Endianness.{{Endianness}}
-
--- The calls of a parser of a `width`-byte integer with the value `value order bytes`; the order stays.
-abbrev pub ChosenRuns : {{S O : Type 0}} → ℕ → (Endianness → List ℕ → O) → Reading ℕ S → ErrorForm
-    → Runs Endianness ℕ O
-ChosenRuns width value reading form =
-    Keeps (λ order. IntegerRuns width (value order) reading form)
-"""
-
-
 def write_chosen():
     rows = chosen()
     functions = "\n\n".join(chosen_function(name, one) for name, one in rows.items())
     kinds = [camel(name) for name in rows]
     write(CHOSEN + "src/binary/chosen.rt", CHOSEN_FUNCTIONS, family=functions, structs=", ".join(kinds))
-    write(CHOSEN + "specs/Chosen.antt", CHOSEN_SPECS)
     for name, one in rows.items():
         row, number = one.sample()
         kind = camel(name)

@@ -54,8 +54,10 @@ def class_function(name, members, one, chars, is_member, front, rest, least):
             "    Input: StreamIsPartial,",
             "    Input::Token: AsChar,",
             "    Error: ParserError<Input>,",
-            "    ensures ran { ClassRuns %s %d Input.Token.code Input.seen_as Input.reading Error.form (Input.view input.old) (answer_by Error.kind result) (Input.view input.new) }" % (is_member, least),
-            "    ensures ends { IsEndOf Input.reading (Input.view input.new) (Input.view input.old) }",
+            "    ensures ran { Ran {S = ⊤} Input.reading",
+            "        (ClassDoes %s %d Input.Token.code Input.seen_as Input.reading) Error.form tt"
+            % (is_member, least),
+            "        (Input.view input.old) (answer_by Error.kind result) tt (Input.view input.new) }",
             "{",
             "    %s(input, %s)" % ("some_of" if least else "any_of", chars),
             "}",
@@ -66,10 +68,11 @@ def class_function(name, members, one, chars, is_member, front, rest, least):
 CLASS_FUNCTIONS = """//! Parsers of ASCII character classes.
 //!
 //! {head}
+ghost use Rattle.std.specs.Prelude.{{⊤}};
 ghost use Rattle.stream_errors.specs.Form.{{answer_by}};
 ghost use Rattle.stream_sets.specs.AsChar.{{{members}}};
-ghost use Rattle.streams.specs.Input.{{IsEndOf}};
-ghost use Rattle.winnow_ascii.specs.Class.{{ClassRuns}};
+ghost use Rattle.parser_definitions.specs.Class.{{ClassDoes}};
+ghost use Rattle.parser_definitions.specs.Does.{{Ran}};
 
 use crate::ascii::members::{{any_of, some_of}};
 use stream_errors::parser_error::ParserError;
@@ -99,10 +102,6 @@ ghost use Rattle.stream_sets.specs.AsChar.{{{member}}};
 ghost use Rattle.parser_definitions.specs.Class.{{CharIsFunction, ClassDoes, class_law}};
 ghost use Rattle.parser_definitions.specs.Projects.Lines.{{class_claim, class_claimed{laws}}};
 ghost use Rattle.parser_definitions.specs.Spelled.{{ShowSame}};
-ghost use Rattle.winnow_core.specs.Runs.{{Keeps}};
-ghost use Rattle.winnow_ascii.specs.Class.{{ClassRuns}};
-ghost use Rattle.winnow_ascii.specs.Class.Laws.{{class_leaves}};
-ghost use Rattle.winnow_ascii.specs.Covers.{{class_covered}};
 
 use crate::ascii::{call};
 use stream_errors::parser_error::ParserError;
@@ -126,17 +125,11 @@ where
 
     ghost state = {{ λ _. tt }};
 
-    ghost meaning = {{ λ form. Keeps (λ _. ClassRuns {member} {least} I.Token.code I.seen_as I.reading form) }};
-
     ghost does = {{ ClassDoes {member} {least} I.Token.code I.seen_as I.reading }};
 
     ghost terms = {{ record {{ premise = CharIsFunction I.seen_as I.Token.code; stable = ⊤; alike = ShowSame I.reading }} }};
 
 {claim}
-
-    ghost leaves_ends = {{ class_leaves {member} {least} I.Token.code I.seen_as I.reading }};
-
-    ghost covers = {{ λ at. class_covered {member} {least} I.Token.code I.seen_as I.reading }};
 
     ghost lawful = {{ λ is. class_law {member} {least} I.Token.code I.seen_as I.reading is }};
 

@@ -11,8 +11,6 @@ def integer_claims(one, order, by, state):
         "does": "    ghost does = { IntegerDoes %s };" % laws,
         "terms": "    ghost terms = { record { premise = ⊤; stable = ⊤; alike = λ o p. o ≡ p } };",
         "claim": "    ghost claim = { λ s. integer_claim %s };" % value,
-        "ends": "    ghost leaves_ends = { integer_leaves %s };" % laws,
-        "covers": "    ghost covers = { λ at. integer_covered %s };" % laws,
         "lawful": "    ghost lawful = { λ is. integer_law %s };" % laws,
         "claimed": "    ghost claimed = { λ s. %s };" % claimed,
     }

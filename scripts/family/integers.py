@@ -138,11 +138,8 @@ ghost use Rattle.std.specs.Prelude.{{◌≡◌, ⊤}};
 ghost use Rattle.parser_definitions.specs.Integer.{{IntegerDoes, integer_law}};
 ghost use Rattle.parser_definitions.specs.Projects.Integers.{{integer_claim, integer_claimed}};
 ghost use Rattle.parser_definitions.specs.Projects.Integers.{{some_bytes}};
-ghost use Rattle.winnow_integers.specs.Covers.{{integer_covered}};
-ghost use Rattle.winnow_integers.specs.Integer.{{IntegerRuns, {value}}};
-ghost use Rattle.winnow_integers.specs.Integer.Laws.{{integer_leaves}};
+ghost use Rattle.winnow_integers.specs.Integer.{{{value}}};
 ghost use Rattle.winnow_integers.specs.declared.binary.endianness.Endianness.TheVariants.{{{constructor}}};
-ghost use Rattle.winnow_core.specs.Runs.{{Keeps}};
 
 use crate::binary::{name};
 """
@@ -162,17 +159,11 @@ impl<I: StreamIsPartial + ByteStream, E: ParserError<I>> Parser<I, {type}, E> fo
 
     ghost state = {{ λ _. tt }};
 
-    ghost meaning = {{ λ form. Keeps (λ _. IntegerRuns {width} ({value} {constructor}) I.reading form) }};
-
 {does}
 
 {terms}
 
 {claim}
-
-{ends}
-
-{covers}
 
 {lawful}
 
@@ -214,8 +205,8 @@ where
 def law_clause(one):
     """Returns the law's clause for an integer in both byte orders."""
     name = "%s%d" % (one.sign, one.bits)
-    meanings = ["(⟦<%s%s as Parser<I, %s, E>>⟧.meaning E.form)" % (order, name.capitalize(), one.type) for order in ("Le", "Be")]
-    return "    ensures %s%d { ReadsReversed %d %s }" % ("signed_" if one.sign == "i" else "unsigned_", one.bits, one.width, " ".join(meanings))
+    does = ["⟦<%s%s as Parser<I, %s, E>>⟧.does" % (order, name.capitalize(), one.type) for order in ("Le", "Be")]
+    return "    ensures %s%d { ReadsReversed %d %s }" % ("signed_" if one.sign == "i" else "unsigned_", one.bits, one.width, "\n        ".join(does))
 
 
 LAW_ANSWERS = """-- {head}
@@ -226,7 +217,7 @@ use Rattle.winnow_integers.proofs.laws.{law}.Goals as goal
 {answers}
 """
 LAW_ANSWER = """pub {0} : goal.{0}
-{0} g c = reads_reversed {1} g.I.Stream.reading g.met.I.ByteStream.counts_bytes g.E.HasKind.form {2}"""
+{0} g c = reads_reversed {1} g.I.Stream.reading g.met.I.ByteStream.counts_bytes {2}"""
 
 
 def law_answer(one):
@@ -244,22 +235,6 @@ def write_laws():
     write(FIXED + "proofs/laws/%s/Answers.antt" % law, LAW_ANSWERS, law=law, answers=answers)
 
 
-# A search that gives up soon if the clause is false.
-STRUCT_ANSWERS = """-- {head}
-use Rattle.std.proofs.Common.{{rules}}
-use Rattle.winnow_integers.proofs.binary.impls.{at}.Goals as goal
-
-pub returns-clause-ran : goal.returns-clause-ran
-returns-clause-ran g c = search rules depth 1
-"""
-
-
-def struct_path(name, one):
-    """Returns the path of the proofs of a struct's `parse_next`."""
-    kind = "" if camel(name) == camel(one.type) else camel(one.type)
-    return [name, camel(name) + "Parser" + kind, "parse_next"]
-
-
 def write_fixed():
     rows = fixed()
     for order, file in FILES.items():
@@ -274,9 +249,6 @@ def write_fixed():
         parts |= fixed_claims(one) | vars(one)
         text = about(one)[0].upper() + about(one)[1:] + "."
         write(FIXED + "src/binary/impls/%s.rt" % name, STRUCT, about=text, name=name, row=row, number=number, **parts)
-        path = struct_path(name, one)
-        answers = FIXED + "proofs/binary/impls/%s/Answers.antt" % "/".join(path)
-        write(answers, STRUCT_ANSWERS, at=".".join(path))
         if one.bits not in (8, 24):
             lemma = LEMMAS[one.sign] % one.order
             value = VALUES[one.sign].format(lemma=lemma, order=one.order, bits=one.bits)

@@ -38,13 +38,6 @@ def claimed(n):
     return law_of(n, *small, "joined_claimed join{n} split{n} join{n} refl ({front}) (P{n}.claimed s.{at})")
 
 
-def leaves_ends(n):
-    """Returns the law that a tuple of n leaves a suffix of its input if its members do."""
-    parts = [spaced("(P#.meaning form)", k) + " " + spaced("(P#.leaves_ends form)", k) for k in (2, 3)]
-    small = ("%s_ends I.reading %s %s" % (name, whole(k), parts[k - 2]) for k, name in ((2, "both"), (3, "three")))
-    return law_of(n, *small, "ends_by split{n} (both_ends I.reading join{n} _ _ ({front}) (P{n}.leaves_ends form))")
-
-
 # The claims of tuples of no members and of one.
 NOTHING_CLAIMS = {
     "claim": record(
@@ -81,9 +74,8 @@ ONE_CLAIMS = {
 }
 
 
-# For one to six members: the equality of outputs, the lemma that calls are covered, and the law.
+# For one to six members: the equality of outputs, and the law.
 ALIKE = ["AlikeOne", "AlikePairs", "AlikeTriples", "AlikeFour", "AlikeFive", "AlikeSix"]
-COVERED = ["sequence1_covered", "both_covered %s" % whole(2), "three_covered %s" % whole(3)] + ["sequence%d_covered" % n for n in (4, 5, 6)]
 LAW = ["sequence1_law", "pair_law"] + ["sequence%d_law" % n for n in (3, 4, 5, 6)]
 
 
@@ -105,21 +97,19 @@ def definition(n):
     return {
         "does": "    ghost does = { %s };" % does,
         "terms": terms(conjunction(numbered("P#.terms.premise", n)), stable(n), "%s %s" % (ALIKE[n - 1], spaced("P#.terms.alike", n))),
-        "covers": "    ghost covers = { λ at. %s %s };" % (COVERED[n - 1], spaced("(P#.covers at)", n)),
         "lawful": "    ghost lawful = { λ is. %s %s };" % (LAW[n - 1], spaced("(P#.lawful %s)" % given, n)),
     }
 
 
 def laws(n):
-    """Returns the ghost members of a tuple of n parsers that its meaning determines."""
-    ends = "sequence1_ends (P1.leaves_ends form)" if n == 1 else leaves_ends(n)
-    texts = {"leaves_ends": "    ghost leaves_ends = { λ form. %s };" % ends}
+    """Returns the ghost members of a tuple of n parsers beside its state."""
+    texts = {}
     if n == 1:
         texts |= ONE_CLAIMS
     else:
         texts |= {it: "    ghost %s = { λ s. %s };" % (it, text) for it, text in (("claim", claim(n)), ("claimed", claimed(n)))}
     texts |= definition(n)
-    return [texts[it] for it in ("does", "terms", "claim", "leaves_ends", "covers", "lawful", "claimed")]
+    return [texts[it] for it in ("does", "terms", "claim", "lawful", "claimed")]
 
 
 def output_name(n, k):
@@ -139,8 +129,6 @@ def sequence_impl(n):
         "    ghost State = { %s };" % tuple_type(numbered("P#.State", n)),
         "",
         "    ghost state = { λ s. %s };" % tuple_value(numbered("P#.state s.@", n)),
-        "",
-        "    ghost meaning = { λ form. SequenceRuns%d %s };" % (n, spaced("(P#.meaning form)", n)),
         "",
         *("%s\n" % member for member in laws(n)),
         "    #[inline(always)]",
@@ -174,12 +162,6 @@ IMPORTS = {
     "parser_definitions.specs.Projects.Sequences": "OneTuple, both_claim, both_claimed, joined_claimed, one_projects, three_claim, three_claimed",
     "parser_definitions.specs.Sequence": "AlikeOne, AlikeTriples, SequenceDoes0, SequenceDoes1, SequenceDoes3, sequence1_law, sequence3_law",
     "parser_definitions.specs.Tuples": "AlikeFive, AlikeFour, AlikeSix, SequenceDoes4, SequenceDoes5, SequenceDoes6, sequence4_law, sequence5_law, sequence6_law, split4, split5, split6",
-    "winnow_core.specs.Covers.Sequences": "both_covered, three_covered",
-    "winnow_core.specs.Covers.Tuples": ", ".join("sequence%d_covered" % n for n in range(MOST + 1) if n not in (2, 3)),
-    "winnow_core.specs.Ends": "same_ends",
-    "winnow_core.specs.InOrder.Laws": "both_ends, ends_by, three_ends",
-    "winnow_core.specs.Sequence": ", ".join("SequenceRuns%d" % n for n in range(MOST + 1)),
-    "winnow_core.specs.Sequence.Small": "sequence1_ends",
 }
 NOTHING = """/// Succeeds without consuming input.
 impl<I: Stream, E: ParserError<I>> Parser<I, (), E> for () {{
@@ -187,17 +169,11 @@ impl<I: Stream, E: ParserError<I>> Parser<I, (), E> for () {{
 
     ghost state = {{ λ _. tt }};
 
-    ghost meaning = {{ λ _. SequenceRuns0 }};
-
     ghost does = {{ SequenceDoes0 }};
 
 {nothing_terms}
 
 {nothing_claim}
-
-    ghost leaves_ends = {{ λ form s i answer t j r. same_ends I.reading i j r.1 }};
-
-    ghost covers = {{ λ at. sequence0_covered }};
 
     ghost lawful = {{ λ is. empty_law }};
 
@@ -222,67 +198,82 @@ def imports(body):
     return "\n".join(lines).replace("{", "{{").replace("}", "}}").replace("{{{{", "{{").replace("}}}}", "}}")
 
 
-def injected(case, cases, term):
-    """Returns the term as one of `cases` nested cases."""
-    term = "inl (%s)" % term if case < cases - 1 else term
-    for _ in range(case):
-        term = "inr (%s)" % term
-    return term
-
-
 def called(n, k, way):
     """Returns that the k-th of n members was called; `way` is `ok` or `err`."""
     return "c.in_%s-%s.ensures.ran" % (way, output_name(n, k))
 
 
-def run_of(n, total, failing, answer):
-    """Returns the run of the first n of the members; one of them may fail. `answer` proves its answer."""
-    kind = "g.E.HasKind.kind c.in_err-%s.field-0.0" % output_name(total, failing) if n == total else "_"
-    if n < 4:
-        ran = failing or n
-        parts = ["_"] * (ran - 1) + [kind if failing else "_"] + ["_"] * (ran - 1)
-        parts += [called(total, k, "err" if k == failing else "ok") for k in upto(ran)]
-        return injected(failing, n + 1, ", ".join(parts + ["refl"] * (n - ran) + [answer]))
-    front = run_of(n - 1, total, failing % n, "refl")
-    if failing and failing < n:
-        return "inr (inl (%s, %s, refl, %s))" % (kind, front, answer)
-    last = called(total, n, "err" if failing else "ok")
+def does_of(n):
+    """Returns the definition of a tuple of the first n members, of three or more."""
+    return "(SequenceDoes%d %s)" % (n, " ".join(member_does(k) for k in upto(n)))
+
+
+def member_does(k):
+    return "g.P%d.Parser.does" % k
+
+
+def kind_of(total, failing):
+    return "(g.E.HasKind.kind c.in_err-%s.field-0.0)" % output_name(total, failing)
+
+
+def answer_of(n, total, failing):
+    """Returns the result of the first n members; one of them may fail."""
     if failing:
-        return "inr (inr (_, %s, _, %s, %s, %s))" % (kind, front, last, answer)
-    return "inl (_, _, _, %s, %s, %s)" % (front, last, answer)
+        return "(Err %s)" % kind_of(total, failing)
+    outputs = [output_name(total, k) for k in upto(n)]
+    return "(Ok (%s))" % ", ".join("c.in_ok-%s.%s" % (name, name) for name in outputs)
+
+
+def ran_of(n, total, failing):
+    """Returns that a tuple of the first n members, three or more, ran; one of them may fail."""
+    kind = kind_of(total, failing) if failing else ""
+    if n == 3:
+        head = "g.I.Stream.reading (λ o1 o2 o3. (o1, o2, o3)) %s g.E.HasKind.form _ _ _ _" % " ".join(member_does(k) for k in upto(3))
+        before = " ".join("_ _ " + called(total, k, "ok") for k in range(1, failing or 3))
+        last = called(total, failing or 3, "err" if failing else "ok")
+        lemma = ("three_succeed", "first_of_three_fails", "second_of_three_fails", "third_of_three_fails")[failing]
+        kept = " refl" * (3 - failing) if failing else ""
+        return "%s %s %s %s %s%s" % (lemma, head, before, kind or "_", last, kept)
+    front = "(%s)" % ran_of(n - 1, total, failing if failing < n else 0)
+    parts = "%s %s g.E.HasKind.form" % (does_of(n - 1), member_does(n))
+    head = "g.I.Stream.reading join%d %s _ _ _ _" % (n, parts)
+    if failing and failing < n:
+        ran = "first_fails %s %s %s refl" % (head, kind, front)
+    elif failing:
+        ran = "second_fails %s _ _ %s %s %s" % (head, front, kind, called(total, n, "err"))
+    else:
+        ran = "both_succeed %s _ _ %s _ %s" % (head, front, called(total, n, "ok"))
+    answer = answer_of(n, total, failing)
+    # `?` converts the error, to itself.
+    residual = "from_residual" + ("-in_err-" + output_name(total, failing) if failing > 1 else "")
+    end = "(answer_by g.E.HasKind.kind c.%s.result)" % residual if failing and n == total else answer
+    is_it = "(search rules depth 1)" if failing and n == total else "refl"
+    return "joined_ran g.I.Stream.reading split{0} join{0} join{0} {1} _ _ _ {2} {3} _ refl {4} ({5})".format(
+        n, parts, answer, end, is_it, ran
+    )
 
 
 def sequence_ran(n, failing):
     """Returns the proof of the clause `ran` at a return of n children."""
     goal = "returns-in_err-%s-clause-ran" % output_name(n, failing) if failing else "returns-clause-ran"
-    answer = "search rules depth 1" if failing else "refl"
-    return "pub {0} : goal.{0}\n{0} g c = {1}".format(goal, run_of(n, n, failing, answer))
-
-
-def sequence_ends(n, failing):
-    """Returns the proof of the clause `ends` at a return of n children."""
-    ran = failing or n
-    last = "c.in_%s-%s.ensures.ends" % ("err" if failing else "ok", output_name(n, ran))
-    steps = [last] + ["c.in_ok-%s.ensures.ends" % output_name(n, k) for k in range(ran - 1, 0, -1)]
-    goal = "returns-in_err-%s-clause-ends" % output_name(n, failing) if failing else "returns-clause-ends"
-    chain = [trans(ran)] if ran > 1 else []
-    return "pub {0} : goal.{0}\n{0} g c = {1}".format(goal, " ".join(chain + steps))
-
-
-def trans(steps):
-    """Returns the lemma that the relation to a suffix is transitive over `steps` steps."""
-    return "is_end_of_trans%s" % (steps if steps > 2 else "")
+    return "pub {0} : goal.{0}\n{0} g c = {1}".format(goal, ran_of(n, n, failing))
 
 
 def sequence_answers(n):
     """Returns the proofs of all clauses of n children, at each failure and at the success."""
-    returns = [*upto(n), 0]
-    return [sequence_ran(n, k) for k in returns] + [sequence_ends(n, k) for k in returns]
+    return [sequence_ran(n, k) for k in [*upto(n), 0]]
 
 
 SEQUENCE_ANSWERS = """-- {head}
-use Rattle.std.proofs.Common.{{rules, refl, inl, inr}}
-{ends}use Rattle.winnow_core.proofs.parser.tuples.{long}Tuple{n}Parser.parse_next.Goals as goal
+use Rattle.std.proofs.Common.{{rules, Ok, Err, refl}}
+use Rattle.grammars.specs.Grammar.Tuples.{{{joins}}}
+use Rattle.stream_errors.specs.Form.{{answer_by}}
+use Rattle.parser_definitions.specs.Sequence.{{SequenceDoes3}}
+use Rattle.parser_definitions.specs.Tuples.{{{parts}}}
+use Rattle.winnow_core.specs.Called.{{both_succeed, first_fails, first_of_three_fails, joined_ran}}
+use Rattle.winnow_core.specs.Called.{{second_fails, second_of_three_fails, third_of_three_fails}}
+use Rattle.winnow_core.specs.Called.{{three_succeed}}
+use Rattle.winnow_core.proofs.parser.tuples.{long}Tuple{n}Parser.parse_next.Goals as goal
 
 {answers}
 """
@@ -304,9 +295,10 @@ def write_sequences():
     write_blocks(core + "src/parser/tuples.rt", "", "\nmod long;\n", "\n".join(short))
     long = [sequence_impl(n) + "\n" for n in range(LONG, MOST + 1)]
     write_blocks(core + "src/parser/tuples/long.rt", "of five and six ", "", "\n".join(long))
-    for n in upto(MOST):
-        chains = ", ".join(trans(k) for k in range(2, n + 1))
-        ends = "use Rattle.streams.specs.Input.{%s}\n" % chains if chains else ""
+    # The prover finds those of fewer members.
+    for n in range(4, MOST + 1):
+        joins = ", ".join("join%d" % k for k in range(4, n + 1))
+        parts = ", ".join(["SequenceDoes%d" % k for k in range(4, n)] + ["split%d" % k for k in range(4, n + 1)])
         folder = core + "proofs/parser/tuples/" + ("long/" if n >= LONG else "")
         path = folder + "Tuple%dParser/parse_next/Answers.antt" % n
-        write(path, SEQUENCE_ANSWERS, n=n, long="long." if n >= LONG else "", ends=ends, answers="\n\n".join(sequence_answers(n)))
+        write(path, SEQUENCE_ANSWERS, n=n, long="long." if n >= LONG else "", joins=joins, parts=parts, answers="\n\n".join(sequence_answers(n)))

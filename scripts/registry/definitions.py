@@ -7,9 +7,9 @@ from citing.sources import Source
 from registry.common import CRATES, TOP, below_winnow, read, write
 
 PAGE = TOP / "docs/GUARANTEES.md"
-# The row of the `meaning` of each parser of the library.
+# The row of the definition of each parser of the library.
 ALL = "the definitions of all parsers, which it refers to"
-MEANING = re.compile(r"ghost meaning = \{(.*?)\};", re.DOTALL)
+DOES = re.compile(r"ghost does = \{(.*?)\};", re.DOTALL)
 # The functions by the first cells of their rows, each with its file.
 FUNCTIONS = {
     "`calls_match_their_derivations`": "winnow_laws/src/laws.rt",
@@ -44,11 +44,11 @@ def contract(path, name):
     return rest[: re.search(rf"(?m)^{found[1]}\{{", rest).start()]
 
 
-def meanings():
-    """Yields the `meaning` of each parser of the library, with its file."""
+def all_definitions():
+    """Yields the definition of each parser of the library, with its file."""
     for crate in below_winnow():
         for path in sorted((CRATES / crate / "src").rglob("*.rt")):
-            yield from ((path, text) for text in MEANING.findall(read(path)))
+            yield from ((path, text) for text in DOES.findall(read(path)))
 
 
 def definitions(clauses, known, homes):
@@ -74,7 +74,7 @@ def write_definitions():
     and without Rattle's own library."""
     known, text = modules(), read(PAGE)
     homes = {item: module for module in known.values() for item in module.items}
-    rows = {ALL: meanings()}
+    rows = {ALL: all_definitions()}
     for cell, path in FUNCTIONS.items():
         name = re.search(r"`(?:\w+::)*(\w+)`[^`]*$", cell)[1]
         rows[cell] = [(CRATES / path, contract(CRATES / path, name))]

@@ -10,8 +10,8 @@ FACADE = CRATES / "winnow"
 TYPES = {"bool", "i8", "u8"}
 # The crate whose modules are exported as `NameDefinition` where a crate above has a module `Name`.
 DEFINITIONS = "parser_definitions"
-# The module of lemmas that each crate has: calls of its parsers have outcomes of their definitions.
-LEMMAS = "Covers"
+# The module of lemmas about a crate's own parsers; that of the core is also for parsers of callers.
+LEMMAS, CORE = "Covers", "winnow_core"
 # The modules whose items are in other modules, with their paths.
 PLACES = {"error": ("stream_errors", "*"), "laws": ("", "laws/**/*")}
 
@@ -65,7 +65,7 @@ def title(crate):
 def specs_of(crate):
     """The modules of a crate's specs."""
     names = {it.stem for it in (CRATES / crate / "specs").glob("*.antt")}
-    return sorted(names - {"Lib", LEMMAS})
+    return sorted(names - {"Lib", LEMMAS if crate != CORE else ""})
 
 
 def write_specs():

@@ -58,15 +58,22 @@ def output(path):
 
 
 def definition(crate, path):
-    """The file with the definition of a parser: the one of its name, otherwise the first one whose
-    runs the file of its struct imports."""
-    own = CRATES / crate / "specs" / f"{camel(path.stem)}.antt"
+    """The file with the definition of a parser: the one of its name, otherwise the one that the
+    file of its struct imports, otherwise that of an iterator."""
+    specs = CRATES / "parser_definitions/specs"
+    own = specs / f"{camel(path.stem)}.antt"
     if own.is_file():
         return own
-    uses = re.findall(r"^ghost use Rattle\.(\w+)\.specs\.([\w.]+)\.\{([^}]*)\}", read(path), re.MULTILINE)
-    for at, module, names in uses:
-        if re.search(r"\b\w+Runs\b", names) and at == crate:
-            return CRATES / at / "specs" / (module.replace(".", "/") + ".antt")
+    text = read(path)
+    uses = re.findall(r"^ghost use Rattle\.parser_definitions\.specs\.([\w.]+)\.\{([^}]*)\}", text, re.MULTILINE)
+    does = re.search(r"ghost does = \{(.*?)\};", text, re.DOTALL)
+    cited = set(re.findall(r"\w+", does[1])) if does else set()
+    for module, names in uses:
+        if cited & set(re.findall(r"\w+", names)):
+            return specs / (module.replace(".", "/") + ".antt")
+    iterator = CRATES / crate / "specs" / f"{camel(path.stem)}.antt"
+    if iterator.is_file():
+        return iterator
     raise SystemExit(f"{path}: no definition is found")
 
 

@@ -77,14 +77,21 @@ fn read_value_asks_not_in_vain_of_scalars(rt: HostRuntime) {
     each_text(&rt, rt.alloc(), 0, b"".as_slice(), LONGEST);
 }
 
+/// Checks the texts that start with a bracket.
+fn each_nested(rt: &impl Abort, alloc: Global, level: usize) {
+    for open in [b"[".as_slice(), b"{".as_slice()] {
+        each_text(rt, alloc, level, open, LONGEST - 1);
+    }
+}
+
 #[test]
 fn read_value_asks_not_in_vain_of_one_level(rt: HostRuntime) {
-    each_text(&rt, rt.alloc(), 1, b"".as_slice(), LONGEST);
+    each_nested(&rt, rt.alloc(), 1);
 }
 
 #[test]
 fn read_value_asks_not_in_vain_of_two_levels(rt: HostRuntime) {
-    each_text(&rt, rt.alloc(), 2, b"".as_slice(), LONGEST);
+    each_nested(&rt, rt.alloc(), 2);
 }
 
 /// Bytes in a string whose escape or character is cut.

@@ -1,9 +1,8 @@
 //! Compositions as parsers: at each node the library's own combinator runs, over references to the
 //! parts.
 ghost use Rattle.parser_definitions.specs.Claim.{no_claim, nothing_claimed};
-ghost use Rattle.winnow_core.specs.Covers.{AnyOutcome, any_covered, no_terms};
+ghost use Rattle.winnow_core.specs.Covers.{AnyOutcome, no_terms};
 ghost use Rattle.std.specs.Prelude.{⊤};
-ghost use Rattle.streams.specs.Input.{IsEndOf};
 
 use crate::closures::{LENGTHS, decided, folded, is_accepted, made, made_if_accepted, said};
 use crate::leaves::{Bytes, range_of, run_leaf};
@@ -27,17 +26,11 @@ impl<'i, I: Bytes<'i>> Parser<I, Shown, Modal> for Tree {
 
     ghost state = { λ _. tt };
 
-    ghost meaning = { λ _ _ i _ _ j. IsEndOf I.reading j i };
-
     ghost does = { AnyOutcome };
 
     ghost terms = { no_terms };
 
     ghost claim = { λ _. no_claim };
-
-    ghost leaves_ends = { λ _ _ _ _ _ _ ends. ends };
-
-    ghost covers = { λ at. any_covered (λ _ _ _ _ _ ends. ends) };
 
     ghost lawful = { λ never. absurd never };
 

@@ -1,8 +1,7 @@
 //! Common helpers: a child that counts its calls, and a child with a plan.
 ghost use Rattle.parser_definitions.specs.Claim.{no_claim, nothing_claimed};
-ghost use Rattle.winnow_core.specs.Covers.{AnyOutcome, any_covered, no_terms};
+ghost use Rattle.winnow_core.specs.Covers.{AnyOutcome, no_terms};
 ghost use Rattle.std.specs.Prelude.{⊤};
-ghost use Rattle.streams.specs.Input.{IsEndOf};
 
 use std::cell::Cell;
 use stream_errors::input_error::InputError;
@@ -34,17 +33,11 @@ impl<I: Stream, O, E: ParserError<I>, P: Parser<I, O, E>> Parser<I, O, E> for Co
 
     ghost state = { λ s. P.state s.parser };
 
-    ghost meaning = { P.meaning };
-
     ghost does = { AnyOutcome };
 
     ghost terms = { no_terms };
 
     ghost claim = { λ _. no_claim };
-
-    ghost leaves_ends = { P.leaves_ends };
-
-    ghost covers = { λ at. any_covered (P.leaves_ends at.form) };
 
     ghost lawful = { λ never. absurd never };
 
@@ -107,17 +100,11 @@ impl<I: Stream, E: ParserError<I>> Parser<I, usize, E> for Planned {
 
     ghost state = { λ _. tt };
 
-    ghost meaning = { λ _ _ i _ _ j. IsEndOf I.reading j i };
-
     ghost does = { AnyOutcome };
 
     ghost terms = { no_terms };
 
     ghost claim = { λ _. no_claim };
-
-    ghost leaves_ends = { λ _ _ _ _ _ _ ends. ends };
-
-    ghost covers = { λ at. any_covered (λ _ _ _ _ _ ends. ends) };
 
     ghost lawful = { λ never. absurd never };
 

@@ -1,8 +1,7 @@
 //! A parser that fails.
 ghost use Rattle.parser_definitions.specs.Claim.{no_claim, nothing_claimed};
-ghost use Rattle.winnow_core.specs.Covers.{AnyOutcome, any_covered, no_terms};
+ghost use Rattle.winnow_core.specs.Covers.{AnyOutcome, no_terms};
 ghost use Rattle.std.specs.Prelude.{⊤};
-ghost use Rattle.streams.specs.Input.{IsEndOf};
 
 use crate::outcomes::Kind;
 use stream_errors::parser_error::ParserError;
@@ -20,17 +19,11 @@ impl<I: Stream, E: ParserError<I>> Parser<I, u8, E> for Failing {
 
     ghost state = { λ _. tt };
 
-    ghost meaning = { λ _ _ i _ _ j. IsEndOf I.reading j i };
-
     ghost does = { AnyOutcome };
 
     ghost terms = { no_terms };
 
     ghost claim = { λ _. no_claim };
-
-    ghost leaves_ends = { λ _ _ _ _ _ _ ends. ends };
-
-    ghost covers = { λ at. any_covered (λ _ _ _ _ _ ends. ends) };
 
     ghost lawful = { λ never. absurd never };
 
