@@ -11,7 +11,8 @@ ghost use Rattle.exported.specs.Ini.{TellsLookup, dialect_of, fault_number};
 ghost use Rattle.exported.specs.declared.ini.IniEntry.{IniEntry};
 ghost use Rattle.exported.specs.declared.ini.IniState.{IniState};
 
-use crate::ini::{IniEntry, IniState, dialect_of, state_of, told_of};
+use crate::ini::dialect::dialect_of;
+use crate::ini::{IniEntry, IniState, state_of, told_of};
 use format_ini::lookup::find_pair;
 
 /// Finds the first pair with a key in the sections of a name, in an INI file of any dialect.
